@@ -1,0 +1,10 @@
+pub mod Numbers
+pub mod Scripts
+pub mod Numerals
+pub mod Words
+pub mod Outcome
+pub mod Ends
+pub mod Shown
+pub mod Headline
+pub mod Quantities
+pub mod Run

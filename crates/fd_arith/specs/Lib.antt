@@ -1,0 +1,11 @@
+pub mod Limits
+pub mod Interval
+pub mod Fix
+pub mod Wide
+pub mod Laws
+pub mod Capping
+pub mod Enclosing
+pub mod Products
+pub mod Quotients
+pub mod Roots
+pub mod Nearest

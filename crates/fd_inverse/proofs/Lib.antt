@@ -1,0 +1,10 @@
+pub mod EachBelow
+pub mod Quotients
+pub mod Clear
+pub mod Columns
+pub mod Augmented
+pub mod Runs
+pub mod Starts
+pub mod Ends
+pub mod Inverses
+pub mod Worked

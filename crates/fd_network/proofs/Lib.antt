@@ -1,0 +1,5 @@
+pub mod CircuitRows
+pub mod Chains
+pub mod Sizes
+pub mod FirstRows
+pub mod FirstState

@@ -1,0 +1,3 @@
+pub mod OnePhase
+pub mod Circuit
+pub mod First

@@ -1,0 +1,61 @@
+-- Contributions: one number at one place of row and column, and what they add up to at a state.
+use Rattle.std.specs.Prelude.{ℕ, ◌<◌, ◌^◌, ◌-◌, ◌<ℤ◌, ◌≤ℤ◌, zero, suc, ◌+◌, ◌*◌, ℤ, pos, neg_ℤ, ◌*ℤ◌, nat_abs, cond, eqb, List, [], ◌∷◌, ◌++◌}
+use Rattle.std.specs.Ordering.{int_eq}
+use Rattle.fd_exact.specs.Fractions.{Fraction, fraction, nothing}
+use Rattle.fd_exact.specs.States.{State, part}
+use Rattle.fd_exact.specs.Sums.{sum_of}
+use Rattle.fd_exact.specs.Rounding.{near_div}
+use Rattle.fd_arith.specs.declared.terms.Term.{Term}
+use Rattle.fd_arith.specs.declared.terms.NodeAt.{NodeAt}
+use Rattle.fd_arith.specs.declared.terms.NodeAt.TheVariants.{Ground, Node}
+
+-- what a contribution is at a state: num x / den
+abbrev pub value_of : Term → State → Fraction
+value_of t x = fraction (t.num *ℤ part x.parts t.col) (nat_abs t.den * x.over)
+
+-- what it gives to a row
+abbrev pub given : ℕ → Term → State → Fraction
+given l t x = cond (eqb t.row l) (value_of t x) nothing
+
+-- the sum of a row's contributions
+abbrev pub row_sum : ℕ → List Term → State → Fraction
+row_sum l ts x = sum_of (λ t. given l t x) ts
+
+-- ---- the contributions of complex numbers
+
+-- a number that is 0 is no contribution
+abbrev pub one : ℕ → ℕ → ℤ → ℤ → List Term
+one row col num den = cond (int_eq num (pos 0)) [] (record { row = row; col = col; num = num; den = den } ∷ [])
+
+-- (re + j im) / den at a complex row and column: four real ones, and none at ground
+abbrev pub stamp : NodeAt → NodeAt → ℤ → ℤ → ℤ → List Term
+stamp (Node r) (Node c) re im den =
+    one (2 * r) (2 * c) re den ++ (one (2 * r) (2 * c + 1) (neg_ℤ im) den
+    ++ (one (2 * r + 1) (2 * c) im den ++ one (2 * r + 1) (2 * c + 1) re den))
+stamp (Node r) Ground re im den = []
+stamp Ground c re im den = []
+
+-- f 0 ++ .. ++ f (n - 1)
+abbrev pub each : {A : Type 0} → (ℕ → List A) → ℕ → List A
+each f zero = []
+each f (suc n) = each f n ++ f n
+
+-- ---- their conditions and their range
+
+-- the number of a place leaves room for its two parts
+abbrev pub IsSmall : NodeAt → Type 0
+IsSmall Ground = Unit {0}
+IsSmall (Node r) = r < 2 ^ 31 - 1
+
+-- the condition on the denominator
+pub record IsDivided (t : Term) : Type 0 where
+  pub positive : pos 0 <ℤ t.den
+  pub most : t.den ≤ℤ pos (10 ^ 32)
+
+-- a number of units of 2^-40 is at most 2^54 in size
+abbrev pub AreSmall : ℤ → Type 0
+AreSmall units = (neg_ℤ (pos (2 ^ 54)) ≤ℤ units) × (units ≤ℤ pos (2 ^ 54))
+
+-- a contribution, nearest to a whole number of 2^-40, is at most 2^54 in size
+abbrev pub IsWithin : Term → Type 0
+IsWithin t = AreSmall (near_div (t.num *ℤ pos (2 ^ 40)) (nat_abs t.den))

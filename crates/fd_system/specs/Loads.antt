@@ -1,0 +1,116 @@
+-- A part load at a terminal: the current that it draws, the row of its magnitude, and the contributions of constant impedance.
+use Rattle.std.specs.Prelude.{ℕ, ◌+◌, ◌*◌, ◌^◌, ◌<◌, ◌≤◌, min, max, ℤ, pos, negsuc, neg_ℤ, ◌+ℤ◌, ◌-ℤ◌, ◌*ℤ◌, nat_abs, cond, eqb, List, [], ◌∷◌, ◌++◌, Option, Some, None}
+use Rattle.fd_exact.specs.Fractions.{Fraction, fraction}
+use Rattle.fd_exact.specs.States.{State, part}
+use Rattle.fd_arith.specs.declared.terms.Term.{Term}
+use Rattle.fd_arith.specs.declared.terms.NodeAt.{NodeAt}
+use Rattle.fd_arith.specs.declared.terms.NodeAt.TheVariants.{Ground, Node}
+use Rattle.fd_system.specs.declared.loads.LoadPhase.{LoadPhase}
+use Rattle.fd_system.specs.declared.loads.LoadAt.{LoadAt}
+use Rattle.fd_system.specs.Complex.{Complex, negative}
+use Rattle.fd_system.specs.Contributions.{stamp}
+use Rattle.fd_system.specs.Equations.{Part, both, alone}
+
+-- the parts of a place's voltage, over the state's denominator
+abbrev pub re_of : State → NodeAt → ℤ
+re_of x Ground = pos 0
+re_of x (Node k) = part x.parts (2 * k)
+
+abbrev pub im_of : State → NodeAt → ℤ
+im_of x Ground = pos 0
+im_of x (Node k) = part x.parts (2 * k + 1)
+
+abbrev pub magnitude_of : State → Option ℕ → ℤ
+magnitude_of x None = pos 0
+magnitude_of x (Some l) = part x.parts l
+
+-- ---- (a p + b q) / D at the terminal voltage (p + j q) / d and the magnitude m / d, by the model
+
+-- u brought into lo to hi
+abbrev pub clamp : ℕ → ℕ → ℕ → ℕ
+clamp u lo hi = min (max u lo) hi
+
+abbrev pub square_of : ℤ → ℤ → ℕ
+square_of p q = nat_abs p * nat_abs p + nat_abs q * nat_abs q
+
+-- z, or 0 where it is negative
+abbrev pub non_negative : ℤ → ℕ
+non_negative (pos n) = n
+non_negative (negsuc n) = 0
+
+-- model 1: D is the square of the voltage, clamped between the squares lo and hi of the limits
+abbrev pub constant_power : ℤ → ℤ → ℕ → ℕ → ℤ → ℤ → ℕ → Fraction
+constant_power a b lo hi p q d =
+    fraction ((a *ℤ p +ℤ b *ℤ q) *ℤ pos d) (clamp (square_of p q) (lo * (d * d)) (hi * (d * d)))
+
+-- model 2: D is the square of the nominal voltage
+abbrev pub constant_impedance : ℤ → ℤ → ℕ → ℤ → ℤ → ℕ → Fraction
+constant_impedance a b vn p q d = fraction (a *ℤ p +ℤ b *ℤ q) (vn * vn * d)
+
+-- model 5: D is the nominal voltage times the magnitude, clamped between the limits lo and hi
+abbrev pub constant_current : ℤ → ℤ → ℕ → ℕ → ℕ → ℤ → ℤ → ℤ → ℕ → Fraction
+constant_current a b vn lo hi p q m d =
+    fraction (a *ℤ p +ℤ b *ℤ q) (vn * clamp (non_negative m) (lo * d) (hi * d))
+
+abbrev pub drawn : LoadPhase → ℤ → ℤ → ℤ → ℤ → ℤ → ℕ → Fraction
+drawn w a b p q m d =
+    let vn = nat_abs w.vn in
+    let lo = nat_abs w.vlo in
+    let hi = nat_abs w.vhi in
+    cond (eqb w.model 1) (constant_power a b (lo * lo) (hi * hi) p q d)
+    (cond (eqb w.model 2) (constant_impedance a b vn p q d)
+    (constant_current a b vn lo hi p q m d))
+
+-- ((P p + Q q) + j (P q - Q p)) 10^9 / D microamperes
+abbrev pub load_current : LoadAt → State → Complex
+load_current u x =
+    let w = u.load in
+    let p = re_of x u.first -ℤ re_of x u.second in
+    let q = im_of x u.first -ℤ im_of x u.second in
+    let m = magnitude_of x u.magnitude in
+    let a = pos (10 ^ 9) *ℤ w.p in
+    let b = pos (10 ^ 9) *ℤ w.q in
+    record { re = drawn w a b p q m x.over; im = drawn w (neg_ℤ b) a p q m x.over }
+
+-- ---- what it adds to the rows
+
+-- (m^2 - u) / Vn at (p + j q) / d and m / d, u the square of the voltage
+abbrev pub magnitude_row : ℕ → ℤ → ℤ → ℤ → ℕ → Fraction
+magnitude_row vn p q m d = fraction (m *ℤ m -ℤ p *ℤ p -ℤ q *ℤ q) (vn * (d * d))
+
+abbrev pub magnitude_parts : LoadAt → State → Option ℕ → List Part
+magnitude_parts u x None = []
+magnitude_parts u x (Some l) =
+    alone l (magnitude_row (nat_abs u.load.vn) (re_of x u.first -ℤ re_of x u.second) (im_of x u.first -ℤ im_of x u.second) (part x.parts l) x.over) ∷ []
+
+-- it draws its current at its first place, and gives it back at its second
+abbrev pub load_parts : LoadAt → State → List Part
+load_parts u x = both u.first (load_current u x) ∷ both u.second (negative (load_current u x)) ∷ magnitude_parts u x u.magnitude
+
+abbrev pub IsPlain : Option ℕ → Type 0
+IsPlain None = Unit {0}
+IsPlain (Some l) = ⊥
+
+-- voltages are positive, the limits are in order, and a constant impedance has no magnitude
+pub record IsLoad (u : LoadAt) : Type 0 where
+  pub vn : 0 < nat_abs u.load.vn
+  pub low : 0 < nat_abs u.load.vlo
+  pub order : nat_abs u.load.vlo ≤ nat_abs u.load.vhi
+  pub plain : cond (eqb u.load.model 2) (IsPlain u.magnitude) (Unit {0})
+
+-- ---- in the system: contributions in model 2, and what isn't linear in models 1 and 5
+
+-- (P - j Q) 10^9 / Vn^2 at the terminal
+abbrev pub impedance_list : LoadAt → List Term
+impedance_list u =
+    let a = pos (10 ^ 9) *ℤ u.load.p in
+    let b = pos (10 ^ 9) *ℤ u.load.q in
+    let d = u.load.vn *ℤ u.load.vn in
+    (stamp u.first u.first a (neg_ℤ b) d ++ stamp u.first u.second (neg_ℤ a) (neg_ℤ (neg_ℤ b)) d)
+    ++ (stamp u.second u.first (neg_ℤ a) (neg_ℤ (neg_ℤ b)) d ++ stamp u.second u.second a (neg_ℤ b) d)
+
+abbrev pub linear_list : LoadAt → List Term
+linear_list u = cond (eqb u.load.model 2) (impedance_list u) []
+
+abbrev pub nonlinear_parts : LoadAt → State → List Part
+nonlinear_parts u x = cond (eqb u.load.model 2) [] (load_parts u x)

@@ -1,0 +1,17 @@
+// The laws of systems.
+ghost use Rattle.fd_system.specs.Laws.{LoadLaw, ResidualLaw, StampLaw};
+
+/// The contributions of a complex number add up to its product with the unknown of its column.
+pub fn stamp_law()
+    ensures { StampLaw }
+{}
+
+/// Part loads have the same rows as contributions and parts of the system as in their equations.
+pub fn load_law()
+    ensures { LoadLaw }
+{}
+
+/// The interval residual of a row holds its residual.
+pub fn residual_law()
+    ensures { ResidualLaw }
+{}
