@@ -1,0 +1,143 @@
+// A circuit, changed in place by commands.
+ghost use Rattle.std.specs.Prelude.{◌≡◌, ◌<◌, ◌≤◌, ◌^◌, ◌-◌, length};
+ghost use Rattle.dss_profile.specs.Options.{with_options};
+ghost use Rattle.dss_ready.specs.Ready.{own_blame, IsAnswer};
+ghost use Rattle.dss_circuit.specs.Answers.{Becomes};
+ghost use Rattle.dss_circuit.specs.Circuit.{empty_circuit, has_circuit, applied};
+
+use crate::elements::{Elements, edit_element, make_element};
+use crate::keys::{check_circuit, key_to_edit, key_to_make};
+use dss_lexer::Pair;
+use dss_profile::{Command, Element, ElementName, ModelFault, Options, Verb};
+use dss_ready::{Mention, ReadyFault, ready};
+use indexmap::IndexMap;
+use std::alloc::Global;
+use std::marker::Model;
+
+/// A circuit as the commands so far have made it: its elements by name in order of definition, its options, and how
+/// many Solves were applied. It has at most 2^17 elements.
+#[derive(Drop)]
+pub struct Circuit {
+    elements: Elements,
+    options: Options,
+    solves: u32,
+}
+
+impl Model for Circuit {
+    ghost use Rattle.std.specs.Prelude.{◌≤◌, ◌^◌, length};
+    ghost use Rattle.dss_circuit.specs.Circuit.{CircuitView};
+
+    ghost Value = { CircuitView };
+
+    ghost view = { λ c. record { elements = c.elements.entries; options = c.options; solves = c.solves } };
+
+    ghost invariant = { λ c. length c.elements.entries ≤ 2 ^ 17 };
+}
+
+// Whether New Circuit was done since the start or the last Clear.
+fn is_begun(elements: &Elements) -> bool
+    ensures { result ≡ has_circuit elements.now.entries }
+{
+    !elements.is_empty()
+}
+
+// The options with these pairs. After an `Err` the options are as before.
+fn set_options(alloc: Global, options: &mut Options, pairs: &[Pair]) -> Result<(), ModelFault>
+    ensures { Becomes options.old options.new result (with_options pairs.now options.old) }
+{
+    let mut draft = options.copied()?;
+    draft.set_pairs(alloc, pairs)?;
+    *options = draft;
+    Ok(())
+}
+
+impl Circuit {
+    /// No circuit yet, and the options as they are when nothing is set. It takes no memory.
+    pub fn empty(alloc: Global) -> Self
+        ensures { result ≡ empty_circuit }
+    {
+        Circuit {
+            elements: IndexMap::new(alloc),
+            options: Options::start(alloc),
+            solves: 0,
+        }
+    }
+
+    /// Does one command: it is one step of the fold. After a refusal the circuit is as before, and the refusal is the
+    /// first in this order: the class and the name are written as such, the class, the circuit, the element, then the
+    /// pairs from left to right. A Solve sets its pairs as options and is counted, and does no more.
+    pub fn apply(&mut self, alloc: Global, command: &Command) -> Result<(), ModelFault>
+        requires solves { self.old.solves < 2 ^ 32 - 1 }
+        requires room { length self.old.elements < 2 ^ 17 }
+        ensures { Becomes self.old self.new result (applied ⟦<ElementName as PartialEq>⟧.eq command.now self.old) }
+    {
+        match &command.verb {
+            Verb::New { class, name, pairs } => {
+                let key = key_to_make(alloc, class, name, is_begun(&self.elements))?;
+                make_element(
+                    alloc,
+                    self.solves,
+                    &mut self.elements,
+                    &command.place,
+                    key,
+                    pairs.as_slice(),
+                )
+            }
+            Verb::Edit { class, name, pairs } => {
+                let key = key_to_edit(alloc, class, name, is_begun(&self.elements))?;
+                edit_element(
+                    alloc,
+                    self.solves,
+                    &mut self.elements,
+                    key,
+                    pairs.as_slice(),
+                )
+            }
+            Verb::Set { pairs } => set_options(alloc, &mut self.options, pairs.as_slice()),
+            Verb::Solve { pairs } => {
+                check_circuit(is_begun(&self.elements))?;
+                set_options(alloc, &mut self.options, pairs.as_slice())?;
+                self.solves += 1;
+                Ok(())
+            }
+            Verb::Clear => {
+                self.elements = IndexMap::new(alloc);
+                self.options = Options::start(alloc);
+                Ok(())
+            }
+            Verb::Bases => check_circuit(is_begun(&self.elements)),
+        }
+    }
+
+    /// The tests that a Solve makes, which look at the values of the script: the first element that is to blame, at the
+    /// place of its New, and why. Elements are looked at in order of definition, each for a value out of range, a wrong
+    /// count, something unsupported, a second control of the same device and a missing impedance; then comes the first
+    /// that passes a limit on the unknowns, and then the first with a node that no source feeds.
+    pub fn ready(&self, alloc: Global) -> Result<(), ReadyFault>
+        ensures { IsAnswer (own_blame ⟦<ElementName as PartialEq>⟧.eq ⟦<Mention as PartialEq>⟧.eq self.now.options.defaultbasefrequency self.now.elements) self.now.elements result }
+    {
+        ready(alloc, &self.elements, self.options.defaultbasefrequency)
+    }
+
+    /// The settings that Set and Solve gave.
+    pub fn options(&self) -> &Options
+        ensures { result.now ≡ self.now.options }
+    {
+        &self.options
+    }
+
+    /// The elements by name, in order of definition.
+    pub fn elements(&self) -> &IndexMap<ElementName, Element>
+        ensures entries { result.now.entries ≡ self.now.elements }
+        ensures few { length self.now.elements ≤ 2 ^ 17 }
+    {
+        &self.elements
+    }
+
+    /// How many Solves were applied so far. Clear doesn't change it.
+    pub fn solves(&self) -> u32
+        ensures { result ≡ self.now.solves }
+    {
+        self.solves
+    }
+}

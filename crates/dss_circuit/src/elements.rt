@@ -1,0 +1,110 @@
+// Elements by name, in order of definition.
+ghost use Rattle.std.specs.Prelude.{◌≡◌, ◌≤◌, ◌+◌, length, IfOk, option_copied};
+ghost use Rattle.dss_values.specs.Answers.{Gives, Makes};
+ghost use Rattle.dss_circuit.specs.Answers.{Becomes};
+ghost use Rattle.dss_circuit.specs.Circuit.{referred, with_pairs, put, make, edit};
+
+use dss_lexer::Pair;
+use dss_profile::{Class, Element, ElementName, ModelFault, Place, referred_element};
+use indexmap::IndexMap;
+use std::alloc::{AllocError, Global};
+
+pub type Elements = IndexMap<ElementName, Element>;
+
+// The same place.
+fn copied_place(place: &Place) -> Result<Place, AllocError>
+    ensures { IfOk result (λ copy. copy ≡ place.now) }
+{
+    place.clone()
+}
+
+// The element that a pair names, where it is there.
+fn find_referred<'a>(
+    alloc: Global,
+    elements: &'a Elements,
+    class: Class,
+    pair: &Pair,
+) -> Result<Option<&'a Element>, ModelFault>
+    ensures { Gives (λ found. option_copied found) result (referred ⟦<ElementName as PartialEq>⟧.eq elements.now.entries class pair.now) }
+{
+    match referred_element(alloc, class, pair)? {
+        Some(name) => Ok(elements.get(&name)),
+        None => Ok(None),
+    }
+}
+
+// Sets the pairs from left to right. After an `Err` the draft is thrown away.
+fn set_pairs(
+    alloc: Global,
+    solves: u32,
+    elements: &Elements,
+    class: Class,
+    draft: &mut Element,
+    pairs: &[Pair],
+) -> Result<(), ModelFault>
+    ensures { Makes draft.new result (with_pairs ⟦<ElementName as PartialEq>⟧.eq solves elements.now.entries class pairs.now draft.old) }
+{
+    for pair in pairs {
+        let found = find_referred(alloc, elements, class, pair)?;
+        draft.set_pair(alloc, pair, solves, found)?;
+    }
+    Ok(())
+}
+
+// An element with these pairs takes the place of the one of its name, or stands last.
+#[tactic(auto, unfolding(crate::specs::Circuit::put))]
+fn put_element(
+    alloc: Global,
+    solves: u32,
+    elements: &mut Elements,
+    name: ElementName,
+    element: Element,
+    pairs: &[Pair],
+) -> Result<(), ModelFault>
+    ensures put { Becomes elements.old.entries elements.new.entries result (put ⟦<ElementName as PartialEq>⟧.eq solves name element pairs.now elements.old.entries) }
+    ensures few { length elements.new.entries ≤ length elements.old.entries + 1 }
+{
+    let mut draft = element;
+    set_pairs(alloc, solves, elements, name.class, &mut draft, pairs)?;
+    elements.insert(name, draft)?;
+    Ok(())
+}
+
+/// A new element with its defaults and these pairs.
+#[tactic(auto, unfolding(crate::specs::Circuit::make))]
+pub fn make_element(
+    alloc: Global,
+    solves: u32,
+    elements: &mut Elements,
+    place: &Place,
+    name: ElementName,
+    pairs: &[Pair],
+) -> Result<(), ModelFault>
+    ensures made { Becomes elements.old.entries elements.new.entries result (make ⟦<ElementName as PartialEq>⟧.eq solves place.now name pairs.now elements.old.entries) }
+    ensures few { length elements.new.entries ≤ length elements.old.entries + 1 }
+{
+    if elements.contains_key(&name) {
+        return Err(ModelFault::Duplicate);
+    }
+    let element = Element::fresh(alloc, name.class, copied_place(place)?, solves)?;
+    put_element(alloc, solves, elements, name, element, pairs)
+}
+
+/// Sets these pairs of an element that is there.
+#[tactic(auto, unfolding(crate::specs::Circuit::edit))]
+pub fn edit_element(
+    alloc: Global,
+    solves: u32,
+    elements: &mut Elements,
+    name: ElementName,
+    pairs: &[Pair],
+) -> Result<(), ModelFault>
+    ensures edited { Becomes elements.old.entries elements.new.entries result (edit ⟦<ElementName as PartialEq>⟧.eq solves name pairs.now elements.old.entries) }
+    ensures few { length elements.new.entries ≤ length elements.old.entries + 1 }
+{
+    let draft = match elements.get(&name) {
+        Some(element) => element.copied()?,
+        None => return Err(ModelFault::UnknownName),
+    };
+    put_element(alloc, solves, elements, name, draft, pairs)
+}

@@ -1,0 +1,64 @@
+-- What a caller needs to know of a layout.
+use Rattle.std.proofs.Common.{◌≡◌, ℕ, zero, suc, ◌+◌, ◌<◌, Bool, true, false, if◌then◌else◌, [], ◌∷◌, ◌++◌, length, take, slice_get, slice_index, sum_by, Contains, Option, Some, None, Ok, Err, refl, sym, ap, ◌∙◌, append_assoc, add-zero, arith}
+use Rattle.std.proofs.lemmas.List.{append-nil}
+use Rattle.std.proofs.lemmas.List.Sums.{sum_by-cons}
+use Rattle.dss_profile.specs.declared.element.Element.{Element}
+use Rattle.dss_profile.specs.declared.names.ElementName.{ElementName}
+use Rattle.dss_layout.specs.declared.nodes.NodeName.{NodeName}
+use Rattle.dss_layout.specs.declared.limits.LayoutFault.TheVariants.{TooMany}
+use Rattle.dss_layout.specs.Nodes.{number_in}
+use Rattle.dss_layout.specs.Terminals.{mentions}
+use Rattle.dss_layout.specs.Layout.{Elements, LayoutView, layout_of, nodes_of, laid_out, laid_out_unless, first_too_many, first_past, passes_limit, sums_before}
+use Rattle.dss_layout.proofs.Membership.{in_from_contains, in_from_get}
+use Rattle.dss_layout.proofs.Noted.{found}
+
+by_first : (o : Option ℕ) (es : Elements) (v : LayoutView) → laid_out_unless o es ≡ Ok v → (v ≡ layout_of es) × (o ≡ None)
+by_first None es v h = (let e : layout_of es ≡ v = cc in sym e, refl)
+by_first (Some k) es v h = cc
+
+-- the layout that is made is that of the elements
+pub layout_from_laid_out : (es : Elements) (v : LayoutView) → laid_out es ≡ Ok v → v ≡ layout_of es
+layout_from_laid_out es v h = (by_first (first_too_many es) es v h).0
+
+-- and then there is no first element that passes a limit
+pub none_from_laid_out : (es : Elements) (v : LayoutView) → laid_out es ≡ Ok v → first_too_many es ≡ None
+none_from_laid_out es v h = (by_first (first_too_many es) es v h).1
+
+by_fault : (o : Option ℕ) (es : Elements) (k : ℕ) → laid_out_unless o es ≡ Err (TooMany k) → o ≡ Some k
+by_fault None es k h = cc
+by_fault (Some j) es k h = cc
+
+-- the element that is named is the first that passes a limit
+pub first_from_laid_out : (es : Elements) (k : ℕ) → laid_out es ≡ Err (TooMany k) → first_too_many es ≡ Some k
+first_from_laid_out es k h = by_fault (first_too_many es) es k h
+
+none_past : (before rest : Elements) → first_past before rest ≡ None → passes_limit (layout_of before) ≡ false → passes_limit (layout_of (before ++ rest)) ≡ false
+none_past before [] h low = ap (λ l. passes_limit (layout_of l)) (append-nil before) ∙ low
+none_past before (e ∷ rest) h low = by (passes_limit (layout_of (before ++ e ∷ []))) refl h (none_past (before ++ e ∷ []) rest)
+  where
+    by : (b : Bool) → passes_limit (layout_of (before ++ e ∷ [])) ≡ b → (if b then Some (length before) else first_past (before ++ e ∷ []) rest) ≡ None
+        → (first_past (before ++ e ∷ []) rest ≡ None → passes_limit (layout_of (before ++ e ∷ [])) ≡ false → passes_limit (layout_of ((before ++ e ∷ []) ++ rest)) ≡ false) → passes_limit (layout_of (before ++ e ∷ rest)) ≡ false
+    by true t g later = cc
+    by false t g later = ap (λ l. passes_limit (layout_of l)) (sym (append_assoc before (e ∷ []) rest)) ∙ later g t
+
+-- a layout passes no limit
+pub within_limits : (es : Elements) (v : LayoutView) → laid_out es ≡ Ok v → passes_limit v ≡ false
+within_limits es v h = ap passes_limit (layout_from_laid_out es v h) ∙ none_past [] es (none_from_laid_out es v h) refl
+
+-- a layout has a place for each element
+pub length-sums_before : (f : Element → ℕ) (s : ℕ) (es : Elements) → length (sums_before f s es) ≡ length es
+length-sums_before f s [] = refl
+length-sums_before f s (e ∷ es) = ap suc (length-sums_before f (s + f e.1) es)
+
+-- what stands there is the sum over the elements before it
+pub slice_index-sums_before : (f : Element → ℕ) (s : ℕ) (es : Elements) (i : ℕ) → i < length es → slice_index (sums_before f s es) i ≡ s + sum_by (λ e. f e.1) (take i es)
+slice_index-sums_before f s [] i h = absurd (omega arith)
+slice_index-sums_before f s (e ∷ es) zero h = sym (add-zero s)
+slice_index-sums_before f s (e ∷ es) (suc i) h =
+    let rest = slice_index-sums_before f (s + f e.1) es i (omega arith) in
+    let all = sum_by-cons (λ (x : ElementName × Element). f x.1) e (take i es) in
+    omega (arith, rest, all)
+
+-- a node that an element mentions has its number
+pub mentioned_at : (es : Elements) (i : ℕ) (e : ElementName × Element) (m : NodeName) → slice_get es i ≡ Some e → Contains (mentions e.1) m → slice_get (nodes_of es) (number_in (nodes_of es) m) ≡ Some m
+mentioned_at es i e m h c = found es e m (in_from_get es i e h) (in_from_contains (mentions e.1) m c)

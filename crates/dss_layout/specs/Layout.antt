@@ -1,0 +1,125 @@
+-- The order of the unknowns: nodes in order of first mention, then branch phases, then magnitudes of constant-current loads.
+use Rattle.std.specs.Prelude.{◌≡◌, ℕ, ◌+◌, ◌*◌, ◌==◌, nat_lt, Bool, ◌||◌, List, [], ◌∷◌, ◌++◌, length, map, Option, Some, None, Result, Ok, Err, if◌then◌else◌, slice_index}
+use Rattle.std.specs.List.{flat_map, range_with_len}
+use Rattle.dss_profile.specs.declared.element.Element.{Element}
+use Rattle.dss_profile.specs.declared.element.Element.TheVariants as the
+use Rattle.dss_profile.specs.declared.names.ElementName.{ElementName}
+use Rattle.dss_layout.specs.declared.nodes.NodeName.{NodeName}
+use Rattle.dss_layout.specs.declared.nodes.PhaseName.{PhaseName}
+use Rattle.fd_arith.specs.declared.terms.Ends.{Ends}
+use Rattle.dss_layout.specs.declared.limits.LayoutFault.{LayoutFault}
+use Rattle.dss_layout.specs.declared.limits.LayoutFault.TheVariants.{TooMany, NoMemory}
+use Rattle.dss_layout.specs.declared.limits.TheConstants.{MOST_COMPLEX, MOST_MAGNITUDES}
+use Rattle.dss_layout.specs.Nodes.{new_nodes, node_at}
+use Rattle.dss_layout.specs.Terminals.{mentions, terminals_of}
+
+-- elements in order of definition, by name
+abbrev pub Elements : Type 0
+Elements = List (ElementName × Element)
+
+-- the phases of which each has a branch current
+abbrev pub branch_phases : Element → ℕ
+branch_phases (the.Vsource v) = v.phases
+branch_phases (the.Line l) = l.phases
+branch_phases (the.Transformer t) = t.phases
+branch_phases other = 0
+
+-- the phases of which each has a voltage magnitude of its own: those of a load of constant current
+abbrev pub magnitude_phases : Element → ℕ
+magnitude_phases (the.Load l) = if l.model == 5 then l.phases else 0
+magnitude_phases other = 0
+
+-- all nodes, in order of first mention
+abbrev pub nodes_of : Elements → List NodeName
+nodes_of elements = new_nodes [] (flat_map (λ e. mentions e.1) elements)
+
+-- the phases of an element, from 1
+abbrev pub phase_names : ElementName → ℕ → List PhaseName
+phase_names name phases = map (λ k. record { element = name; phase = k }) (range_with_len 1 phases)
+
+-- for each element, the sum of f over those before it
+abbrev pub sums_before : (Element → ℕ) → ℕ → Elements → List ℕ
+sums_before f sum [] = []
+sums_before f sum (e ∷ rest) = sum ∷ sums_before f (sum + f e.1) rest
+
+pub record LayoutView : Type 0 where
+  -- the nodes, in order of first mention
+  pub nodes : List NodeName
+  -- the branch phases, in order
+  pub branches : List PhaseName
+  -- the phases with a magnitude, in order
+  pub magnitudes : List PhaseName
+  -- for each element, the number of branch phases before its own
+  pub branches_before : List ℕ
+  -- for each element, the number of magnitudes before its own
+  pub magnitudes_before : List ℕ
+
+abbrev pub layout_of : Elements → LayoutView
+layout_of elements = record {
+  nodes = nodes_of elements;
+  branches = flat_map (λ e. phase_names e.0 (branch_phases e.1)) elements;
+  magnitudes = flat_map (λ e. phase_names e.0 (magnitude_phases e.1)) elements;
+  branches_before = sums_before branch_phases 0 elements;
+  magnitudes_before = sums_before magnitude_phases 0 elements;
+}
+
+-- the layout with one more element
+abbrev pub added : LayoutView → ElementName → Element → LayoutView
+added layout name element = record {
+  nodes = layout.nodes ++ new_nodes layout.nodes (mentions element);
+  branches = layout.branches ++ phase_names name (branch_phases element);
+  magnitudes = layout.magnitudes ++ phase_names name (magnitude_phases element);
+  branches_before = layout.branches_before ++ length layout.branches ∷ [];
+  magnitudes_before = layout.magnitudes_before ++ length layout.magnitudes ∷ [];
+}
+
+-- the number of complex unknowns: nodes and branch phases
+abbrev pub complex_count : LayoutView → ℕ
+complex_count layout = length layout.nodes + length layout.branches
+
+-- there are more than 240 nodes and branch phases, or more than 48 magnitudes
+abbrev pub passes_limit : LayoutView → Bool
+passes_limit layout = nat_lt MOST_COMPLEX (complex_count layout) || nat_lt MOST_MAGNITUDES (length layout.magnitudes)
+
+-- the first of the rest with which, those before included, a limit is passed
+abbrev pub first_past : Elements → Elements → Option ℕ
+first_past before [] = None
+first_past before (e ∷ rest) = if passes_limit (layout_of (before ++ e ∷ [])) then Some (length before) else first_past (before ++ e ∷ []) rest
+
+-- the place in order of the first element with which a limit is passed
+abbrev pub first_too_many : Elements → Option ℕ
+first_too_many elements = first_past [] elements
+
+abbrev pub laid_out_unless : Option ℕ → Elements → Result LayoutView LayoutFault
+laid_out_unless None elements = Ok (layout_of elements)
+laid_out_unless (Some k) elements = Err (TooMany k)
+
+-- the layout, or the first element that passes a limit
+abbrev pub laid_out : Elements → Result LayoutView LayoutFault
+laid_out elements = laid_out_unless (first_too_many elements) elements
+
+-- an answer is what is said, unless memory ran out
+abbrev pub LaysOut : Result LayoutView LayoutFault → Result LayoutView LayoutFault → Type 0
+LaysOut (Ok layout) said = said ≡ Ok layout
+LaysOut (Err (TooMany k)) said = said ≡ Err (TooMany k)
+LaysOut (Err NoMemory) said = Unit {0}
+
+-- the number of real unknowns
+abbrev pub size_of : LayoutView → ℕ
+size_of layout = 2 * complex_count layout + length layout.magnitudes
+
+-- the complex unknown of the first branch phase of the element at this place in order; 0 for an element without
+abbrev pub first_branch : LayoutView → ℕ → Element → ℕ
+first_branch layout place element = if branch_phases element == 0 then 0 else length layout.nodes + slice_index layout.branches_before place
+
+-- the place of the first magnitude of the element at this place in order
+abbrev pub first_magnitude : LayoutView → ℕ → ℕ
+first_magnitude layout place = 2 * complex_count layout + slice_index layout.magnitudes_before place
+
+-- the nodes of an element's phases at its buses, and its first branch
+abbrev pub ends_of : LayoutView → ℕ → Element → Ends
+ends_of layout place element = record {
+  first = map (node_at layout.nodes) (terminals_of element).first;
+  second = map (node_at layout.nodes) (terminals_of element).second;
+  branch = first_branch layout place element;
+}

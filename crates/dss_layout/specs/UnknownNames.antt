@@ -1,0 +1,45 @@
+-- The names of the unknowns: `671.1 re`, `line.650632 2 im`, `load.692 1 mag`.
+use Rattle.std.specs.Prelude.{ℕ, ◌-◌, ◌*◌, ◌/◌, ◌%◌, ◌==◌, nat_lt, List, ◌∷◌, ◌++◌, length, codes, slice_get, Option, if◌then◌else◌}
+use Rattle.std.specs.Option.{option_map}
+use Rattle.std.specs.Str.{chars}
+use Rattle.std.specs.Fmt.{decimal}
+use Rattle.dss_profile.specs.declared.names.Class.{Class}
+use Rattle.dss_profile.specs.declared.names.Class.TheVariants as class
+use Rattle.dss_layout.specs.declared.nodes.NodeName.{NodeName}
+use Rattle.dss_layout.specs.declared.nodes.PhaseName.{PhaseName}
+use Rattle.dss_layout.specs.Layout.{LayoutView, complex_count}
+
+-- a class, as it is written in lower case
+abbrev pub class_word : Class → List ℕ
+class_word class.Vsource = codes "vsource"
+class_word class.Linecode = codes "linecode"
+class_word class.Line = codes "line"
+class_word class.Transformer = codes "transformer"
+class_word class.Capacitor = codes "capacitor"
+class_word class.Load = codes "load"
+class_word class.RegControl = codes "regcontrol"
+class_word class.CapControl = codes "capcontrol"
+class_word class.Loadshape = codes "loadshape"
+
+-- bus and number, parted by a dot
+abbrev pub node_text : NodeName → List ℕ
+node_text node = node.bus ++ 46 ∷ decimal node.number
+
+-- class and name, parted by a dot, and the phase after a blank
+abbrev pub phase_text : PhaseName → List ℕ
+phase_text phase = chars (class_word phase.element.class) ++ 46 ∷ (phase.element.name ++ 32 ∷ decimal phase.phase)
+
+-- the real part of a complex unknown has an even place, and the imaginary part the odd one after it
+abbrev pub part_word : ℕ → List ℕ
+part_word place = if place % 2 == 0 then codes " re" else codes " im"
+
+-- the name of a complex unknown: a node or a branch phase
+abbrev pub complex_name : LayoutView → ℕ → Option (List ℕ)
+complex_name layout k = if nat_lt k (length layout.nodes) then option_map node_text (slice_get layout.nodes k) else option_map phase_text (slice_get layout.branches (k - length layout.nodes))
+
+-- the name of the real unknown at a place
+abbrev pub unknown_name : LayoutView → ℕ → Option (List ℕ)
+unknown_name layout place =
+    if nat_lt place (2 * complex_count layout)
+    then option_map (λ t. t ++ chars (part_word place)) (complex_name layout (place / 2))
+    else option_map (λ p. phase_text p ++ chars (codes " mag")) (slice_get layout.magnitudes (place - 2 * complex_count layout))

@@ -1,0 +1,34 @@
+//! The layout of a circuit: at which nodes each element joins its buses, how the unknowns are numbered, and which nodes
+//! a source feeds.
+//!
+//! A test of terminals answers exactly the fault of an element's buses. The layout is exactly that of the elements in
+//! order of definition, or names exactly the first element with which a limit is passed. The first element that mentions
+//! a node that no source feeds is found exactly where there is one.
+//!
+//! - `numbers`: the node numbers of one bus, with their defaults
+//! - `nodes`: names of nodes and of phases
+//! - `terminals`: the nodes of an element at its buses
+//! - `limits`: the limits on the unknowns
+//! - `unknowns`: the unknowns while elements are added one by one
+//! - `layout`: the unknowns of a circuit, by number
+//! - `names`: the names of the unknowns
+//! - `feeding`: the first element that isn't fed
+#![tactic(auto)]
+
+mod feeding;
+mod layout;
+mod limits;
+mod names;
+mod nodes;
+mod numbers;
+mod terminals;
+#[cfg(test)]
+mod tests;
+mod unknowns;
+
+pub use feeding::first_isolated;
+pub use layout::Layout;
+pub use limits::LayoutFault;
+pub use nodes::{NodeName, NodeNames, PhaseName};
+pub use numbers::TerminalFault;
+pub use terminals::{Terminals, check_terminals, terminal_nodes};

@@ -1,0 +1,7 @@
+pub mod Values
+pub mod Nearest
+pub mod Each
+pub mod Stacks
+pub mod Words
+pub mod SameText
+pub mod AsciiNumbers

@@ -1,0 +1,6 @@
+pub mod Answers
+pub mod Texts
+pub mod Number
+pub mod Line
+pub mod Arrays
+pub mod Postfix

@@ -1,0 +1,32 @@
+//! The words of an OpenDSS script: one line cut into words and pairs, and the numbers, expressions,
+//! arrays and matrices that its values hold.
+//!
+//! Each call is one total function of its text, and answers each fault exactly where that function does.
+//! Want of memory is the only free answer.
+//!
+//! - `text`: `Text`, which contracts see as its characters
+//! - `fault`: `LexFault`, why a text isn't read
+//! - `pair`: `Pair` and `PairList`
+//! - `cutting`: `pairs`, a line's words and pairs
+//! - `numbers`: `number`, in units of 10^-9
+//! - `arrays`: `cells` and `matrix`, words and rows of numbers
+//! - `expressions`: `postfix`, the value of a postfix expression
+#![tactic(auto)]
+
+mod arrays;
+mod cutting;
+mod expressions;
+mod fault;
+mod numbers;
+mod pair;
+#[cfg(test)]
+mod tests;
+mod text;
+
+pub use arrays::{Row, cells, matrix};
+pub use cutting::pairs;
+pub use expressions::postfix;
+pub use fault::LexFault;
+pub use numbers::number;
+pub use pair::{Pair, PairList};
+pub use text::Text;

@@ -1,0 +1,12 @@
+pub mod Names
+pub mod Vsource
+pub mod Linecode
+pub mod Line
+pub mod Transformer
+pub mod Capacitor
+pub mod Load
+pub mod RegControl
+pub mod CapControl
+pub mod Loadshape
+pub mod Element
+pub mod Options

@@ -1,0 +1,138 @@
+-- The properties of a Line: the form, range and default of each, and the field that it sets.
+use Rattle.std.specs.Prelude.{ℕ, List, [], ◌∷◌, Bool, true, false, codes, pos, Option, Some, None, Result, Ok}
+use Rattle.dss_lexer.specs.declared.pair.Pair.{Pair}
+use Rattle.dss_values.specs.declared.fault.ModelFault.{ModelFault}
+use Rattle.dss_profile.specs.declared.command.Place.{Place}
+use Rattle.dss_profile.specs.declared.line.Line.{Line}
+use Rattle.dss_profile.specs.declared.line.LineProperty.{LineProperty}
+use Rattle.dss_profile.specs.declared.line.LineProperty.TheVariants as the
+use Rattle.dss_profile.specs.declared.linecode.DataProperty.{DataProperty}
+use Rattle.dss_profile.specs.declared.linecode.DataProperty.TheVariants as data_property
+use Rattle.dss_profile.specs.declared.linecode.Linecode.{Linecode}
+use Rattle.dss_values.specs.declared.words.DataForm.{DataForm}
+use Rattle.dss_values.specs.declared.words.DataForm.TheVariants as data_form
+use Rattle.dss_values.specs.declared.words.Units.TheVariants as unit
+use Rattle.dss_values.specs.Answers.{◌>>=◌, or_fault}
+use Rattle.dss_values.specs.declared.fault.ModelFault.TheVariants as fault
+use Rattle.dss_values.specs.Forms.{ones, number_in, number_between, whole_between, choice_in, name_in, bus_in}
+use Rattle.dss_profile.specs.Linecode.{impedance_matrix_in, capacitance_matrix_in}
+use Rattle.dss_values.specs.Words.{units, truths}
+
+abbrev pub line_properties : List (List ℕ × LineProperty)
+line_properties =
+    (codes "bus1", the.Bus1)
+    ∷ (codes "bus2", the.Bus2)
+    ∷ (codes "phases", the.Phases)
+    ∷ (codes "linecode", the.Linecode)
+    ∷ (codes "length", the.Length)
+    ∷ (codes "units", the.Units)
+    ∷ (codes "rmatrix", the.Data data_property.Rmatrix)
+    ∷ (codes "xmatrix", the.Data data_property.Xmatrix)
+    ∷ (codes "cmatrix", the.Data data_property.Cmatrix)
+    ∷ (codes "r1", the.Data data_property.R1)
+    ∷ (codes "x1", the.Data data_property.X1)
+    ∷ (codes "r0", the.Data data_property.R0)
+    ∷ (codes "x0", the.Data data_property.X0)
+    ∷ (codes "c1", the.Data data_property.C1)
+    ∷ (codes "c0", the.Data data_property.C0)
+    ∷ (codes "switch", the.Switch)
+    ∷ (codes "basefreq", the.Basefreq)
+    ∷ (codes "normamps", the.Ignored)
+    ∷ (codes "emergamps", the.Ignored)
+    ∷ (codes "faultrate", the.Ignored)
+    ∷ (codes "pctperm", the.Ignored)
+    ∷ (codes "repair", the.Ignored)
+    ∷ []
+
+abbrev pub fresh_line : Place → Line
+fresh_line place = record {
+  place = place;
+  bus1 = None;
+  bus2 = None;
+  phases = 3;
+  linecode = None;
+  length = ones 1;
+  units = unit.None;
+  rmatrix = None;
+  xmatrix = None;
+  cmatrix = None;
+  r1 = None;
+  x1 = None;
+  r0 = None;
+  x0 = None;
+  c1 = None;
+  c0 = None;
+  switch = false;
+  basefreq = None;
+  form = None;
+  charge_form = None;
+  code_units = unit.None;
+}
+
+-- the data of a line code as they are now, with its phases and its unit; the line's own length and unit stay
+abbrev pub with_code : List ℕ → Linecode → Line → Line
+with_code name code line = record line {
+  linecode = Some name;
+  phases = code.nphases;
+  rmatrix = code.rmatrix;
+  xmatrix = code.xmatrix;
+  cmatrix = code.cmatrix;
+  r1 = code.r1;
+  x1 = code.x1;
+  r0 = code.r0;
+  x0 = code.x0;
+  c1 = code.c1;
+  c0 = code.c0;
+  form = code.form;
+  charge_form = code.charge_form;
+  code_units = code.units;
+}
+
+-- `code` is the line code that the pair names, where there is one
+abbrev pub with_code_in : Option Linecode → Pair → Line → Result Line ModelFault
+with_code_in code pair line = name_in pair >>= λ name. or_fault fault.UnknownName code >>= λ c. Ok (with_code name c line)
+
+-- a switch is a short line with an impedance and a charging of its own
+abbrev pub switched : Bool → Line → Line
+switched false line = record line { switch = false }
+switched true line = record line {
+  switch = true;
+  r1 = Some (ones 1);
+  x1 = Some (ones 1);
+  r0 = Some (ones 1);
+  x0 = Some (ones 1);
+  c1 = Some (pos 1_100_000_000);
+  c0 = Some (ones 1);
+  length = pos 1_000_000;
+  units = unit.None;
+  form = Some data_form.Sequence;
+  charge_form = Some data_form.Sequence;
+  code_units = unit.None;
+}
+
+-- the impedance is the line's own, in this form; it has no unit
+abbrev pub with_own : DataForm → Line → Line
+with_own form line = record line { form = Some form; code_units = unit.None }
+
+abbrev pub with_line_data : DataProperty → Pair → Line → Result Line ModelFault
+with_line_data data_property.Rmatrix pair line = impedance_matrix_in pair >>= λ m. Ok (with_own data_form.Matrix (record line { rmatrix = Some m }))
+with_line_data data_property.Xmatrix pair line = impedance_matrix_in pair >>= λ m. Ok (with_own data_form.Matrix (record line { xmatrix = Some m }))
+with_line_data data_property.Cmatrix pair line = capacitance_matrix_in pair >>= λ m. Ok (record line { cmatrix = Some m; charge_form = Some data_form.Matrix })
+with_line_data data_property.R1 pair line = number_between (pos 0) (ones 10_000) pair >>= λ n. Ok (with_own data_form.Sequence (record line { r1 = Some n }))
+with_line_data data_property.X1 pair line = number_between (pos 0) (ones 10_000) pair >>= λ n. Ok (with_own data_form.Sequence (record line { x1 = Some n }))
+with_line_data data_property.R0 pair line = number_between (pos 0) (ones 10_000) pair >>= λ n. Ok (with_own data_form.Sequence (record line { r0 = Some n }))
+with_line_data data_property.X0 pair line = number_between (pos 0) (ones 10_000) pair >>= λ n. Ok (with_own data_form.Sequence (record line { x0 = Some n }))
+with_line_data data_property.C1 pair line = number_between (pos 0) (ones 1_000_000) pair >>= λ n. Ok (record line { c1 = Some n; charge_form = Some data_form.Sequence })
+with_line_data data_property.C0 pair line = number_between (pos 0) (ones 1_000_000) pair >>= λ n. Ok (record line { c0 = Some n; charge_form = Some data_form.Sequence })
+
+abbrev pub with_line : Option Linecode → LineProperty → Pair → Line → Result Line ModelFault
+with_line code the.Bus1 pair line = bus_in pair >>= λ b. Ok (record line { bus1 = Some b })
+with_line code the.Bus2 pair line = bus_in pair >>= λ b. Ok (record line { bus2 = Some b })
+with_line code the.Phases pair line = whole_between 1 3 pair >>= λ n. Ok (record line { phases = n })
+with_line code the.Linecode pair line = with_code_in code pair line
+with_line code the.Length pair line = number_between (pos 0) (ones 1_000_000) pair >>= λ n. Ok (record line { length = n })
+with_line code the.Units pair line = choice_in fault.BadValue units pair >>= λ u. Ok (record line { units = u })
+with_line code (the.Data property) pair line = with_line_data property pair line
+with_line code the.Switch pair line = choice_in fault.BadValue truths pair >>= λ on. Ok (switched on line)
+with_line code the.Basefreq pair line = number_in pair >>= λ n. Ok (record line { basefreq = Some n })
+with_line code the.Ignored pair line = Ok line

@@ -1,0 +1,54 @@
+//! The script profile: the commands of a script, and one table of the classes and options that they set.
+//!
+//! For each class the table has its properties with their names, and for each property its form, its default, its
+//! range, its rounding and its refusals. A property sets one field of the class's struct, and `set` is proved to do
+//! exactly what the table's line says.
+//!
+//! Numbers of scripts are whole 10^-9 of their unit, taps are whole 10^-5, times are whole milliseconds.
+//!
+//! - `command`: places, verbs and commands
+//! - `fault`: the causes for which a command is refused
+//! - `names`: classes, names of elements, and words by name
+//! - `lists`: small list types over `Vec`
+//! - `bus`: a bus with its node numbers
+//! - `words`: the values that are words
+//! - a module for each class, and `element` for all of them
+//! - `options`: the settings of a circuit
+#![tactic(auto)]
+
+mod capacitor;
+mod capcontrol;
+mod command;
+mod element;
+mod line;
+mod linecode;
+mod load;
+mod loadshape;
+mod names;
+mod options;
+mod regcontrol;
+mod transformer;
+mod vsource;
+
+pub use capacitor::{Capacitor, CapacitorProperty, capacitor_property};
+pub use capcontrol::{CapControl, CapControlProperty, capcontrol_property};
+pub use command::{Blame, Command, Place, Verb};
+pub use dss_values::{
+    BankState, Bus, Connection, ControlMode, ControlQuantity, DataForm, LeadLag, Mode, ModelFault,
+    Nodes, Numbers, ReactiveRule, SourceForm, StepSize, Units, find_named, is_legal_name,
+};
+pub use element::{Element, referred_element};
+pub use line::{Line, LineProperty, line_property};
+pub use linecode::{DataProperty, Linecode, LinecodeProperty, linecode_property};
+pub use load::{Load, LoadProperty, load_property};
+pub use loadshape::{Loadshape, LoadshapeProperty, Multipliers, loadshape_property};
+pub use names::{Class, ElementName, class_named};
+pub use options::{OptionName, Options, option_named};
+pub use regcontrol::{RegControl, RegControlProperty, regcontrol_property};
+pub use transformer::{
+    BothProperty, Transformer, TransformerProperty, Winding, WindingProperty, transformer_property,
+};
+pub use vsource::{Vsource, VsourceProperty, vsource_property};
+
+#[cfg(test)]
+mod tests;

@@ -1,0 +1,148 @@
+// Shapes of loads over a day.
+ghost use Rattle.std.specs.Prelude.{◌≡◌, codes, drop, nat_eq, IfOk};
+ghost use Rattle.dss_values.specs.Answers.{Makes};
+ghost use Rattle.dss_values.specs.Names.{named};
+ghost use Rattle.dss_profile.specs.Loadshape.{loadshape_properties, fresh_loadshape, multipliers_in, with_loadshape};
+ghost use Rattle.std.specs.List.{starts_with};
+ghost use Rattle.dss_values.specs.Answers.{Gives};
+
+use crate::Place;
+use dss_lexer::{Pair, Text};
+use dss_values::{
+    ModelFault, Numbers, ONE, find_named, numbers_within, supported_of, whole_within,
+};
+use std::alloc::{AllocError, Global};
+
+/// Factors, one for each hour.
+#[derive(Drop)]
+pub enum Multipliers {
+    /// The factors themselves, in whole 10^-9.
+    Numbers(Numbers),
+    /// The name of the file that holds them, as it is written.
+    File(Text),
+}
+
+/// Factors by which a load's power is multiplied, hour by hour.
+#[derive(Drop)]
+pub struct Loadshape {
+    /// Where its New stands.
+    pub place: Place,
+    /// How many of the factors are used, 0 to 8760.
+    pub npts: u32,
+    /// The hours from one factor to the next, 1.
+    pub interval: u32,
+    pub mult: Multipliers,
+}
+
+/// A property of a Loadshape.
+#[derive(Clone, Copy, Debug, PartialEq, Eq)]
+pub enum LoadshapeProperty {
+    Npts,
+    Interval,
+    Mult,
+}
+
+const LOADSHAPE_PROPERTIES: [(&str, LoadshapeProperty); 3] = [
+    ("npts", LoadshapeProperty::Npts),
+    ("interval", LoadshapeProperty::Interval),
+    ("mult", LoadshapeProperty::Mult),
+];
+
+/// The property of a name in lower case.
+pub fn loadshape_property(name: &str) -> Option<LoadshapeProperty>
+    ensures { result ≡ named loadshape_properties name.now }
+{
+    find_named(&LOADSHAPE_PROPERTIES, name)
+}
+
+// Whether a value in lower case begins with `file=`.
+fn is_file(value: &str) -> bool
+    ensures { result ≡ starts_with nat_eq value.now (codes "file=") }
+{
+    value.starts_with("file=")
+}
+
+// What comes after the first five characters.
+fn after_five(characters: &[char]) -> &[char]
+    ensures { result.now ≡ drop 5 characters.now }
+{
+    match characters {
+        [_, _, _, _, _, rest @ ..] => rest,
+        _ => &[],
+    }
+}
+
+// The name of a file behind `file=`.
+fn file_name(alloc: Global, value: &Text) -> Result<Text, AllocError>
+    ensures { IfOk result (λ text. text ≡ drop 5 value.now) }
+{
+    let characters = value.characters(alloc)?;
+    Text::of(alloc, after_five(&characters))
+}
+
+// The factors of a pair, or the file that holds them.
+#[tactic(auto, unfolding(crate::specs::Loadshape::multipliers_in))]
+fn factors(alloc: Global, pair: &Pair) -> Result<Multipliers, ModelFault>
+    ensures { Gives (λ m. m) result (multipliers_in pair.now) }
+{
+    let lowered = pair.value.lowered(alloc)?;
+    if is_file(lowered.as_str()) {
+        Ok(Multipliers::File(file_name(alloc, &pair.value)?))
+    } else {
+        Ok(Multipliers::Numbers(numbers_within(alloc, pair, 0, 1000 * ONE)?))
+    }
+}
+
+impl Multipliers {
+    fn copied(&self) -> Result<Multipliers, AllocError>
+        ensures { IfOk result (λ copy. copy ≡ self.now) }
+    {
+        match self {
+            Multipliers::Numbers(numbers) => Ok(Multipliers::Numbers(numbers.copied()?)),
+            Multipliers::File(name) => Ok(Multipliers::File(name.clone()?)),
+        }
+    }
+}
+
+impl Loadshape {
+    /// A shape with its defaults: no factors, of which none is used.
+    pub fn fresh(alloc: Global, place: Place) -> Self
+        ensures { result ≡ fresh_loadshape place }
+    {
+        Loadshape {
+            place,
+            npts: 0,
+            interval: 1,
+            mult: Multipliers::Numbers(Numbers::new(Vec::new(alloc))),
+        }
+    }
+
+    /// Sets one property. After an `Err` the draft is to be thrown away.
+    pub fn set(
+        &mut self,
+        alloc: Global,
+        property: LoadshapeProperty,
+        pair: &Pair,
+    ) -> Result<(), ModelFault>
+        ensures { Makes self.new result (with_loadshape property pair.now self.old) }
+    {
+        match property {
+            LoadshapeProperty::Npts => self.npts = whole_within(alloc, pair, 0, 8760)?,
+            LoadshapeProperty::Interval => self.interval = supported_of(alloc, pair, &[1])?,
+            LoadshapeProperty::Mult => self.mult = factors(alloc, pair)?,
+        }
+        Ok(())
+    }
+
+    /// The same shape.
+    pub fn copied(&self) -> Result<Loadshape, AllocError>
+        ensures { IfOk result (λ copy. copy ≡ self.now) }
+    {
+        Ok(Loadshape {
+            place: self.place.clone()?,
+            npts: self.npts,
+            interval: self.interval,
+            mult: self.mult.copied()?,
+        })
+    }
+}

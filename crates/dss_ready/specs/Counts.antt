@@ -1,0 +1,69 @@
+-- The counts that are tested at Solve.
+use Rattle.std.specs.Prelude.{ℕ, ℤ, ◌*◌, ◌==◌, nat_lt, length, Bool, true, false, not, ◌&&◌, ◌||◌, List, Option, Some, None, is_none, Result, Err}
+use Rattle.dss_values.specs.declared.words.DataForm.{DataForm}
+use Rattle.dss_values.specs.declared.words.DataForm.TheVariants as form
+use Rattle.dss_profile.specs.declared.line.Line.{Line}
+use Rattle.dss_profile.specs.declared.loadshape.Loadshape.{Loadshape}
+use Rattle.dss_profile.specs.declared.loadshape.Multipliers.{Multipliers}
+use Rattle.dss_profile.specs.declared.loadshape.Multipliers.TheVariants as multipliers
+use Rattle.dss_profile.specs.declared.regcontrol.RegControl.{RegControl}
+use Rattle.dss_profile.specs.declared.capcontrol.CapControl.{CapControl}
+use Rattle.dss_profile.specs.declared.element.Element.{Element}
+use Rattle.dss_profile.specs.declared.element.Element.TheVariants as the
+use Rattle.dss_profile.specs.declared.names.Class.TheVariants as class
+use Rattle.dss_profile.specs.declared.names.ElementName.{ElementName}
+use Rattle.dss_layout.specs.declared.numbers.TerminalFault.{TerminalFault}
+use Rattle.dss_layout.specs.declared.numbers.TerminalFault.TheVariants as terminal
+use Rattle.dss_ready.specs.declared.mention.Mention.{Mention}
+use Rattle.dss_ready.specs.declared.mention.Mention.TheVariants as mention
+use Rattle.dss_ready.specs.Mentions.{Elements}
+use Rattle.dss_ready.specs.Lookups.{element_given}
+
+-- a matrix that is given has a row and a column for each phase
+abbrev pub is_size_wrong : ℕ → Option (List ℤ) → Bool
+is_size_wrong phases None = false
+is_size_wrong phases (Some numbers) = not (length numbers == phases * phases)
+
+abbrev pub is_matrix : Option DataForm → Bool
+is_matrix (Some form.Matrix) = true
+is_matrix other = false
+
+-- only the matrices of the form that holds are tested
+abbrev pub are_matrices_wrong : Line → Bool
+are_matrices_wrong line =
+    (is_matrix line.form && (is_size_wrong line.phases line.rmatrix || is_size_wrong line.phases line.xmatrix))
+    || (is_matrix line.charge_form && is_size_wrong line.phases line.cmatrix)
+
+-- how many values a shape has
+abbrev pub value_count : Multipliers → ℕ
+value_count (multipliers.Numbers numbers) = length numbers
+value_count (multipliers.File name) = 0
+
+-- a shape of no hours, or with fewer values than hours
+abbrev pub is_shape_short : Loadshape → Bool
+is_shape_short shape = (shape.npts == 0) || nat_lt (value_count shape.mult) shape.npts
+
+-- whether a bus isn't given, or has too few or too many nodes
+abbrev pub is_count_fault : Result Unit TerminalFault → Bool
+is_count_fault (Err terminal.WrongCount) = true
+is_count_fault other = false
+
+module _ (same : ElementName → ElementName → Bool) (elements : Elements) where
+  -- a RegControl needs its Transformer
+  abbrev pub lacks_transformer : RegControl → Bool
+  lacks_transformer control = is_none (element_given same elements class.Transformer control.transformer)
+
+  -- a CapControl needs its Line and its Capacitor
+  abbrev pub lacks_line_or_bank : CapControl → Bool
+  lacks_line_or_bank control =
+      is_none (element_given same elements class.Line control.element) || is_none (element_given same elements class.Capacitor control.capacitor)
+
+-- `named` says which parts of elements are named by others
+module _ (same : ElementName → ElementName → Bool) (named : Mention → Bool) (elements : Elements) where
+  -- besides its buses, whether the element has something in the wrong number; a Loadshape only where a Load names it
+  abbrev pub is_part_wrong : ElementName → Element → Bool
+  is_part_wrong name (the.Line line) = are_matrices_wrong line
+  is_part_wrong name (the.RegControl control) = lacks_transformer same elements control
+  is_part_wrong name (the.CapControl control) = lacks_line_or_bank same elements control
+  is_part_wrong name (the.Loadshape shape) = is_shape_short shape && named (mention.Shape name.name)
+  is_part_wrong name other = false

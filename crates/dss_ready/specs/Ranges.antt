@@ -1,0 +1,75 @@
+-- The values that are tested against one another at Solve.
+use Rattle.std.specs.Prelude.{ℕ, ℤ, pos, ◌+◌, nat_lt, int_lt, int_le, Bool, false, not, ◌&&◌, ◌||◌, List, Option, Some, None}
+use Rattle.dss_values.specs.declared.words.ControlQuantity.{ControlQuantity}
+use Rattle.dss_values.specs.declared.words.ControlQuantity.TheVariants as quantity
+use Rattle.dss_values.specs.declared.words.SourceForm.{SourceForm}
+use Rattle.dss_values.specs.declared.words.SourceForm.TheVariants as form
+use Rattle.dss_profile.specs.declared.vsource.Vsource.{Vsource}
+use Rattle.dss_profile.specs.declared.transformer.Winding.{Winding}
+use Rattle.dss_profile.specs.declared.transformer.Transformer.{Transformer}
+use Rattle.dss_profile.specs.declared.regcontrol.RegControl.{RegControl}
+use Rattle.dss_profile.specs.declared.capcontrol.CapControl.{CapControl}
+use Rattle.dss_profile.specs.declared.element.Element.{Element}
+use Rattle.dss_profile.specs.declared.element.Element.TheVariants as the
+use Rattle.dss_profile.specs.declared.names.Class.TheVariants as class
+use Rattle.dss_profile.specs.declared.names.ElementName.{ElementName}
+use Rattle.dss_ready.specs.declared.mention.Mention.{Mention}
+use Rattle.dss_ready.specs.declared.mention.Mention.TheVariants as mention
+use Rattle.dss_ready.specs.Mentions.{Elements}
+use Rattle.dss_ready.specs.Lookups.{element_given, phases_given}
+use Rattle.dss_ready.specs.Sources.{is_above_limit}
+
+-- a source that isn't given in ohms has at most 10^4 ohm for three phases and for one
+abbrev pub is_source_outside_by : SourceForm → Vsource → Bool
+is_source_outside_by form.ShortCircuit source = is_above_limit source.basekv source.mvasc3 || is_above_limit source.basekv source.mvasc1
+is_source_outside_by form.Ohms source = false
+
+abbrev pub is_source_outside : Vsource → Bool
+is_source_outside source = is_source_outside_by source.form source
+
+-- a step of the tap, (maxtap - mintap) over numtaps, is at least 10^-5
+abbrev pub is_step_outside : Winding → Bool
+is_step_outside winding = nat_lt winding.maxtap (winding.mintap + winding.numtaps)
+
+-- a tap is from mintap to maxtap
+abbrev pub is_tap_outside : Winding → Bool
+is_tap_outside winding = nat_lt winding.tap winding.mintap || nat_lt winding.maxtap winding.tap
+
+-- a control measures one of the phases, where it is known how many there are
+abbrev pub is_phase_outside : ℤ → Option ℕ → Bool
+is_phase_outside phase None = false
+is_phase_outside phase (Some phases) = not (int_le (pos 1) phase && int_le phase (pos phases))
+
+-- by voltage a bank closes below the value at which it opens, and by current or kvar above it
+abbrev pub are_settings_outside : ControlQuantity → ℤ → ℤ → Bool
+are_settings_outside quantity.Voltage on off = not (int_lt on off)
+are_settings_outside quantity.Current on off = not (int_lt off on)
+are_settings_outside quantity.Kvar on off = not (int_lt off on)
+
+-- `named` says which parts of elements are named by others
+module _ (named : Mention → Bool) where
+  -- only the tap of a winding that a RegControl controls has a range
+  abbrev pub is_winding_outside : List ℕ → ℕ → Winding → Bool
+  is_winding_outside name number winding = is_step_outside winding || (is_tap_outside winding && named (mention.Winding name number))
+
+  abbrev pub is_transformer_outside : List ℕ → Transformer → Bool
+  is_transformer_outside name transformer = is_winding_outside name 1 transformer.first || is_winding_outside name 2 transformer.second
+
+module _ (same : ElementName → ElementName → Bool) (elements : Elements) where
+  abbrev pub is_regcontrol_outside : RegControl → Bool
+  is_regcontrol_outside control = is_phase_outside control.ptphase (phases_given (element_given same elements class.Transformer control.transformer))
+
+  abbrev pub is_capcontrol_outside : CapControl → Bool
+  is_capcontrol_outside control =
+      are_settings_outside control.kind control.onsetting control.offsetting
+      || (is_phase_outside control.ptphase (phases_given (element_given same elements class.Line control.element))
+      || is_phase_outside control.ctphase (phases_given (element_given same elements class.Line control.element)))
+
+module _ (same : ElementName → ElementName → Bool) (named : Mention → Bool) (elements : Elements) where
+  -- whether a value of the element is out of range
+  abbrev pub is_outside_by : ElementName → Element → Bool
+  is_outside_by name (the.Vsource source) = is_source_outside source
+  is_outside_by name (the.Transformer transformer) = is_transformer_outside named name.name transformer
+  is_outside_by name (the.RegControl control) = is_regcontrol_outside same elements control
+  is_outside_by name (the.CapControl control) = is_capcontrol_outside same elements control
+  is_outside_by name other = false

@@ -1,0 +1,59 @@
+-- The first element that is to blame, in order of definition.
+use Rattle.std.specs.Prelude.{◌≡◌, ℕ, Bool, false, ◌&&◌, ◌||◌, [], ◌∷◌, ◌++◌, Option, Some, None, Result, Ok, Err, if◌then◌else◌}
+use Rattle.std.specs.Option.{option_map_or}
+use Rattle.dss_profile.specs.declared.command.Place.{Place}
+use Rattle.dss_values.specs.declared.fault.ModelFault.{ModelFault}
+use Rattle.dss_values.specs.declared.fault.ModelFault.TheVariants as fault
+use Rattle.dss_profile.specs.declared.command.Blame.{Blame}
+use Rattle.dss_profile.specs.declared.element.Element.{Element}
+use Rattle.dss_profile.specs.declared.names.ElementName.{ElementName}
+use Rattle.dss_ready.specs.declared.fault.ReadyFault.{ReadyFault}
+use Rattle.dss_ready.specs.declared.fault.ReadyFault.TheVariants as ready_fault
+use Rattle.dss_ready.specs.declared.mention.Mention.{Mention}
+use Rattle.dss_profile.specs.Element.{place_of}
+use Rattle.dss_layout.specs.Terminals.{terminal_numbers, tested}
+use Rattle.dss_ready.specs.Mentions.{Elements, mention_of, is_mentioned}
+use Rattle.dss_ready.specs.Ranges.{is_outside_by}
+use Rattle.dss_ready.specs.Counts.{is_count_fault, is_part_wrong}
+use Rattle.dss_ready.specs.Support.{is_support_fault, are_powers_unequal, differs_from, frequency_of, is_control, lacks_impedance}
+
+-- a refusal is the one that is said, unless memory ran out
+abbrev pub Answers : Result Unit ReadyFault → Result Unit Blame → Type 0
+Answers (Ok done) said = said ≡ Ok tt
+Answers (Err (ready_fault.Blame blame)) said = said ≡ Err blame
+Answers (Err ready_fault.NoMemory) said = Unit {0}
+
+-- a cause is blamed on its element, and without one the rest is looked at
+abbrev pub blamed_or : Option ModelFault → Place → Result Unit Blame → Result Unit Blame
+blamed_or None place rest = rest
+blamed_or (Some cause) place rest = Err (record { place = place; cause = cause })
+
+-- the first of the causes that applies
+abbrev pub first_cause : Bool → Bool → Bool → Bool → Bool → Option ModelFault
+first_cause outside count unsupported second impedance =
+    if outside then Some fault.OutOfRange
+    else (if count then Some fault.WrongCount
+    else (if unsupported then Some fault.Unsupported
+    else (if second then Some fault.Duplicate
+    else (if impedance then Some fault.NoImpedance
+    else None))))
+
+module _ (same : ElementName → ElementName → Bool) (named : Mention → Bool) (hertz : ℕ) (elements : Elements) where
+  -- why an element is to blame; `again` says whether an element before it names the same
+  abbrev pub cause_by : Bool → ElementName → Element → Option ModelFault
+  cause_by again name element = first_cause
+      (is_outside_by same named elements name element)
+      (is_count_fault (tested (terminal_numbers element)) || is_part_wrong same named elements name element)
+      (is_support_fault (tested (terminal_numbers element)) || (are_powers_unequal element || differs_from hertz (frequency_of element)))
+      (is_control element && again)
+      (lacks_impedance element)
+
+module _ (same : ElementName → ElementName → Bool) (same_mention : Mention → Mention → Bool) (named : Mention → Bool) (hertz : ℕ) (elements : Elements) where
+  -- why an element is to blame, where these stand before it
+  abbrev pub cause_of : Elements → ElementName × Element → Option ModelFault
+  cause_of before entry = cause_by same named hertz elements (option_map_or (is_mentioned same_mention before) (mention_of entry.1) false) entry.0 entry.1
+
+  -- the first that is to blame among those that follow
+  abbrev pub first_blame : Elements → Elements → Result Unit Blame
+  first_blame before [] = Ok tt
+  first_blame before (entry ∷ rest) = blamed_or (cause_of before entry) (place_of entry.1) (first_blame (before ++ entry ∷ []) rest)

@@ -1,0 +1,27 @@
+//! The tests that a Solve makes of a circuit's elements before anything is solved.
+//!
+//! `ready` looks at the elements in order of definition, and names the first that is to blame with the first cause
+//! that applies to it: a value out of range, a wrong count, something unsupported, a duplicate, no impedance. Then come
+//! the first element that passes a limit on the unknowns, and the first with a node that no source feeds.
+//!
+//! - `fault`: the answer of the tests
+//! - `mention`: what elements name of one another
+//! - `lookup`: elements by name
+//! - `range`, `count`, `support`: the tests of one element by their causes
+//! - `walk`: the first element to blame
+//! - `answer`: all tests
+#![tactic(auto)]
+
+mod answer;
+mod count;
+mod fault;
+mod lookup;
+mod mention;
+mod range;
+mod support;
+mod walk;
+
+pub use answer::ready;
+pub use fault::ReadyFault;
+pub use mention::Mention;
+pub use range::is_above_source_limit;

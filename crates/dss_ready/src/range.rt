@@ -1,0 +1,145 @@
+// Values that are tested against one another.
+ghost use Rattle.std.specs.Prelude.{◌≡◌, IfOk};
+ghost use Rattle.std.specs.HashSet.{contains};
+ghost use Rattle.dss_ready.specs.Ranges.{is_source_outside, is_step_outside, is_tap_outside, is_phase_outside, are_settings_outside, is_winding_outside, is_transformer_outside, is_regcontrol_outside, is_capcontrol_outside, is_outside_by};
+ghost use Rattle.dss_ready.specs.Sources.{is_above_limit};
+
+use crate::lookup::{Elements, find_given, phases_to_measure};
+use crate::mention::{Mention, Mentions, is_winding_named};
+use dss_lexer::Text;
+use dss_profile::{
+    CapControl, Class, ControlQuantity, Element, ElementName, RegControl, SourceForm, Transformer,
+    Vsource, Winding,
+};
+use std::alloc::AllocError;
+
+/// The limit of the impedance of a source, in 10^-9 ohm.
+const LIMIT: u128 = 10_000_000_000_000;
+
+/// Whether a source with this nominal voltage, in 10^-9 kV, and this short-circuit power, in 10^-9 MVA, has more than
+/// 10^4 ohm.
+pub fn is_above_source_limit(basekv: i128, mva: i128) -> bool
+    ensures { result ≡ is_above_limit basekv mva }
+{
+    let volts = basekv.unsigned_abs();
+    let power = mva.unsigned_abs();
+    if power == 0 {
+        return false;
+    }
+    let (low, high) = volts.carrying_mul(volts, 0);
+    let (least_low, least_high) = (LIMIT + 1).carrying_mul(power, 0);
+    high > least_high || (high == least_high && low >= least_low)
+}
+
+fn is_source_range_fault(source: &Vsource) -> bool
+    ensures { result ≡ is_source_outside source.now }
+{
+    match source.form {
+        SourceForm::ShortCircuit => {
+            is_above_source_limit(source.basekv, source.mvasc3)
+                || is_above_source_limit(source.basekv, source.mvasc1)
+        }
+        SourceForm::Ohms => false,
+    }
+}
+
+fn is_step_small(winding: &Winding) -> bool
+    ensures { result ≡ is_step_outside winding.now }
+{
+    u64::from(winding.maxtap) < u64::from(winding.mintap) + u64::from(winding.numtaps)
+}
+
+fn is_tap_beyond(winding: &Winding) -> bool
+    ensures { result ≡ is_tap_outside winding.now }
+{
+    winding.tap < winding.mintap || winding.maxtap < winding.tap
+}
+
+fn is_phase_beyond(phase: i32, phases: Option<u32>) -> bool
+    ensures { result ≡ is_phase_outside phase phases }
+{
+    match phases {
+        Some(phases) => !(1 <= phase && i64::from(phase) <= i64::from(phases)),
+        None => false,
+    }
+}
+
+fn are_settings_crossed(kind: ControlQuantity, on: i128, off: i128) -> bool
+    ensures { result ≡ are_settings_outside kind on off }
+{
+    match kind {
+        ControlQuantity::Voltage => !(on < off),
+        ControlQuantity::Current => !(off < on),
+        ControlQuantity::Kvar => !(off < on),
+    }
+}
+
+fn is_winding_range_fault(
+    mentions: &Mentions,
+    name: &Text,
+    number: u32,
+    winding: &Winding,
+) -> Result<bool, AllocError>
+    ensures { IfOk result (λ outside. outside ≡ is_winding_outside (contains ⟦<Mention as PartialEq>⟧.eq mentions.now) name.now number winding.now) }
+{
+    if is_step_small(winding) {
+        return Ok(true);
+    }
+    if !is_tap_beyond(winding) {
+        return Ok(false);
+    }
+    is_winding_named(mentions, name, number)
+}
+
+fn is_transformer_range_fault(
+    mentions: &Mentions,
+    name: &Text,
+    transformer: &Transformer,
+) -> Result<bool, AllocError>
+    ensures { IfOk result (λ outside. outside ≡ is_transformer_outside (contains ⟦<Mention as PartialEq>⟧.eq mentions.now) name.now transformer.now) }
+{
+    if is_winding_range_fault(mentions, name, 1, &transformer.first)? {
+        return Ok(true);
+    }
+    is_winding_range_fault(mentions, name, 2, &transformer.second)
+}
+
+fn is_regcontrol_range_fault(elements: &Elements, control: &RegControl) -> Result<bool, AllocError>
+    ensures { IfOk result (λ outside. outside ≡ is_regcontrol_outside ⟦<ElementName as PartialEq>⟧.eq elements.now.entries control.now) }
+{
+    let found = find_given(elements, Class::Transformer, &control.transformer)?;
+    Ok(is_phase_beyond(control.ptphase, phases_to_measure(found)))
+}
+
+fn is_capcontrol_range_fault(elements: &Elements, control: &CapControl) -> Result<bool, AllocError>
+    ensures { IfOk result (λ outside. outside ≡ is_capcontrol_outside ⟦<ElementName as PartialEq>⟧.eq elements.now.entries control.now) }
+{
+    let found = find_given(elements, Class::Line, &control.element)?;
+    let phases = phases_to_measure(found);
+    let crossed = are_settings_crossed(control.kind, control.onsetting, control.offsetting);
+    Ok(
+        crossed
+            || is_phase_beyond(control.ptphase, phases)
+            || is_phase_beyond(control.ctphase, phases),
+    )
+}
+
+/// Whether a value of the element is out of range.
+pub fn is_range_fault(
+    elements: &Elements,
+    mentions: &Mentions,
+    name: &ElementName,
+    element: &Element,
+) -> Result<bool, AllocError>
+    ensures { IfOk result (λ outside. outside ≡ is_outside_by ⟦<ElementName as PartialEq>⟧.eq (contains ⟦<Mention as PartialEq>⟧.eq mentions.now) elements.now.entries name.now element.now) }
+{
+    match element {
+        Element::Vsource(source) => Ok(is_source_range_fault(source)),
+        Element::Transformer(transformer) => {
+            is_transformer_range_fault(mentions, &name.name, transformer)
+        }
+        Element::RegControl(control) => is_regcontrol_range_fault(elements, control),
+        Element::CapControl(control) => is_capcontrol_range_fault(elements, control),
+        _ => Ok(false),
+    }
+}

@@ -1,0 +1,8 @@
+pub mod Elements
+pub mod Lines
+pub mod Paths
+pub mod Steps
+pub mod Entering
+pub mod Rooms
+pub mod Prices
+pub mod Few

@@ -1,0 +1,6 @@
+pub mod Readings
+pub mod Lines
+pub mod Meaning
+pub mod Script
+pub mod Sessions
+pub mod Bounds

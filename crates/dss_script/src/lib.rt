@@ -1,0 +1,27 @@
+//! The commands of a script, one at a time, with the places where they stand.
+//!
+//! What a script says is one function of the files that the library holds: its commands in order, the names that it
+//! asks for, absent ones among them, and then the end of MASTER or one cause with its place. A call of `next` gives
+//! exactly what comes next there. Want of memory is free, and a failed read comes only where the library's count of
+//! faults rose.
+//!
+//! - `bounds`: how many commands a session gives, as a law
+//! - `fault`: the causes for which a script is refused, and why a session gives no command
+//! - `meaning`: what the words and pairs of a line ask for
+//! - `path`: names of files, joined to MASTER's folder
+//! - `reading`: a file that is being read, line by line
+//! - `session`: `Session`, which reads on from file to file
+#![tactic(auto)]
+
+mod bounds;
+mod fault;
+mod meaning;
+mod path;
+mod reading;
+mod session;
+#[cfg(test)]
+mod tests;
+
+pub use bounds::commands_are_few;
+pub use fault::{ScriptCause, SessionFault};
+pub use session::Session;

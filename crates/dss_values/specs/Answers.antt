@@ -1,0 +1,35 @@
+-- What a call answers, and what a definition says.
+use Rattle.std.specs.Prelude.{◌≡◌, List, [], ◌∷◌, Result, Ok, Err, Option, Some, None}
+use Rattle.dss_values.specs.declared.fault.ModelFault.{ModelFault}
+use Rattle.dss_values.specs.declared.fault.ModelFault.TheVariants as fault
+
+-- a step, and what comes after it unless it is refused
+infixl 10 ◌>>=◌
+abbrev pub ◌>>=◌ : {A B : Type 0} → Result A ModelFault → (A → Result B ModelFault) → Result B ModelFault
+(Ok x) >>= f = f x
+(Err e) >>= f = Err e
+
+-- there is one, or this is the fault
+abbrev pub or_fault : {A : Type 0} → ModelFault → Option A → Result A ModelFault
+or_fault e None = Err e
+or_fault e (Some x) = Ok x
+
+-- what f makes of each element, or the first fault
+abbrev pub each : {A B : Type 0} → (A → Result B ModelFault) → List A → Result (List B) ModelFault
+each f [] = Ok []
+each f (x ∷ xs) = f x >>= λ y. each f xs >>= λ ys. Ok (y ∷ ys)
+
+-- a fault is the one that is said, unless memory ran out
+abbrev pub Fails : {Y : Type 0} → ModelFault → Result Y ModelFault → Type 0
+Fails fault.NoMemory said = Unit {0}
+Fails e said = said ≡ Err e
+
+-- an answer, seen by view, is what is said
+abbrev pub Gives : {X Y : Type 0} → (X → Y) → Result X ModelFault → Result Y ModelFault → Type 0
+Gives view (Ok x) said = said ≡ Ok (view x)
+Gives view (Err e) said = Fails e said
+
+-- a draft has become what is said
+abbrev pub Makes : {X : Type 0} → X → Result Unit ModelFault → Result X ModelFault → Type 0
+Makes new (Ok done) said = said ≡ Ok new
+Makes new (Err e) said = Fails e said

@@ -1,0 +1,87 @@
+// Why a command is refused.
+use dss_lexer::LexFault;
+use std::alloc::{AllocError, AllocFailed};
+
+/// The cause for which a command is refused.
+#[derive(Clone, Copy, Debug, PartialEq, Eq)]
+pub enum ModelFault {
+    /// There is no such class.
+    UnknownClass,
+    /// The class, or the options, have no such property.
+    UnknownProperty,
+    /// There is no element of that name.
+    UnknownName,
+    /// There is an element of that name, or a second control of one device.
+    Duplicate,
+    /// The value isn't of the property's form.
+    BadValue,
+    /// The number is outside the property's range.
+    OutOfRange,
+    /// An array, a matrix or a bus has another number of parts than needed.
+    WrongCount,
+    /// A value that OpenDSS has and this profile doesn't.
+    Unsupported,
+    /// There is no circuit yet.
+    NoCircuit,
+    /// No source feeds the node.
+    IsolatedNode,
+    /// A line has no impedance.
+    NoImpedance,
+    /// A limit on the unknowns is passed.
+    TooMany,
+    /// A coefficient of the equations is too large.
+    Range,
+    /// The text isn't a number.
+    BadNumber,
+    /// The number is 10^9 or above in size.
+    NumberTooLarge,
+    /// The text isn't a postfix expression.
+    BadPostfix,
+    /// A postfix expression divides by zero.
+    DivideByZero,
+    /// Want of memory.
+    NoMemory,
+}
+
+impl From<LexFault> for ModelFault {
+    ghost use Rattle.std.specs.Prelude.{◌≡◌};
+    ghost use Rattle.dss_values.specs.Causes.{cause_of};
+
+    ghost from_gives = { λ fault cause. cause ≡ cause_of fault };
+
+    fn from(fault: LexFault) -> Self {
+        match fault {
+            LexFault::BadNumber => ModelFault::BadNumber,
+            LexFault::NumberTooLarge => ModelFault::NumberTooLarge,
+            LexFault::BadPostfix => ModelFault::BadPostfix,
+            LexFault::DivideByZero => ModelFault::DivideByZero,
+            LexFault::NoMemory => ModelFault::NoMemory,
+            // Faults of lines, which no value has.
+            LexFault::UnclosedGroup | LexFault::LineTooLong | LexFault::NotText => {
+                ModelFault::BadValue
+            }
+        }
+    }
+}
+
+impl From<AllocError> for ModelFault {
+    ghost use Rattle.std.specs.Prelude.{◌≡◌};
+    ghost use Rattle.dss_values.specs.declared.fault.ModelFault.TheVariants.{NoMemory};
+
+    ghost from_gives = { λ _ e. e ≡ NoMemory };
+
+    fn from(_: AllocError) -> Self {
+        ModelFault::NoMemory
+    }
+}
+
+impl<T: Drop> From<AllocFailed<T>> for ModelFault {
+    ghost use Rattle.std.specs.Prelude.{◌≡◌};
+    ghost use Rattle.dss_values.specs.declared.fault.ModelFault.TheVariants.{NoMemory};
+
+    ghost from_gives = { λ _ e. e ≡ NoMemory };
+
+    fn from(_: AllocFailed<T>) -> Self {
+        ModelFault::NoMemory
+    }
+}

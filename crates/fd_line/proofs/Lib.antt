@@ -1,0 +1,5 @@
+pub mod Series
+pub mod Line
+pub mod Steps
+pub mod Bounds
+pub mod Quotients

@@ -1,0 +1,59 @@
+-- The contributions of a line add up to its equations, and have denominators in range.
+use Rattle.std.proofs.Common.{ℕ, ◌*◌, ◌<◌, ◌^◌, ℤ, pos, negsuc, List, lit<}
+use Rattle.std.specs.List.{All}
+use Rattle.std.proofs.lemmas.List.Elements.{All-append}
+use Rattle.fd_exact.specs.Fractions.{Same}
+use Rattle.fd_exact.specs.States.{State}
+use Rattle.fd_arith.specs.declared.terms.NodeAt.{NodeAt}
+use Rattle.fd_arith.specs.declared.terms.Ends.{Ends}
+use Rattle.fd_system.specs.Complex.{◌⊟◌, ◌⊠◌}
+use Rattle.fd_system.specs.Contributions.{row_sum, stamp, each, IsDivided}
+use Rattle.fd_system.specs.Equations.{unknown, side, equation, AddsUp}
+use Rattle.fd_system.proofs.Divided.{stamp_divided, each_divided}
+use Rattle.fd_system.proofs.StampRows.{stamp_row, same_place, same_place_each, each_row, row-append, plain_stamp, minus_stamp, single}
+use Rattle.fd_line.specs.declared.data.LineData.{LineData}
+use Rattle.fd_line.specs.Series.{branch_of, drop_list, drop_of, node_of}
+use Rattle.fd_line.specs.Totals.{reactance_of, resistance_of}
+use Rattle.fd_line.specs.Line.{branch_row, charge_at, charge_of, end_row, half_charge, line_list, line_parts, line_phase, phase_list, susceptance_of}
+use Rattle.fd_line.proofs.Series.{drops_add, drops_divided}
+
+module _ (l : LineData) (at : Ends) (x : State) (o : 0 < x.over) (k row : ℕ) where
+  branch_adds : Same (row_sum row (branch_row l at k) x) (side row (branch_of at.branch k)
+      (unknown x (node_of at.first k) ⊟ unknown x (node_of at.second k) ⊟ drop_of (resistance_of l) (reactance_of l) at.branch l.phases x k))
+  branch_adds =
+      let r = branch_of at.branch k in
+      same_place _ _ x row r _ _
+      (same_place _ _ x row r _ _ (plain_stamp r (node_of at.first k) x row o) (minus_stamp r (node_of at.second k) x row o))
+      (drops_add (resistance_of l) (reactance_of l) at.branch l.phases k x row o)
+
+  charge_adds : (ns : List NodeAt) → Same (row_sum row (each (charge_at l ns k) l.phases) x) (side row (node_of ns k) (charge_of l ns x k))
+  charge_adds ns = same_place_each (charge_at l ns k) x row (node_of ns k) (λ m. half_charge l k m ⊠ unknown x (node_of ns m)) l.phases
+      (λ m p. stamp_row (node_of ns k) (node_of ns m) (pos 0) (susceptance_of l k m) (pos (2 * 10 ^ 27)) x row (lit< tt) o)
+
+  phase_adds : Same (row_sum row (phase_list l at k) x) (equation row (line_phase l at x k))
+  phase_adds =
+      row-append _ _ x row _ _ branch_adds
+      (row-append _ _ x row _ _ (same_place _ _ x row (node_of at.first k) _ _ (plain_stamp (node_of at.first k) (branch_of at.branch k) x row o) (charge_adds at.first))
+      (single _ _ (same_place _ _ x row (node_of at.second k) _ _ (minus_stamp (node_of at.second k) (branch_of at.branch k) x row o) (charge_adds at.second))))
+
+pub line_adds_up : (l : LineData) (at : Ends) → AddsUp (line_list l at) (line_parts l at)
+line_adds_up l at x o row = each_row (phase_list l at) x row (line_phase l at x) l.phases (λ k p. phase_adds l at x o k row)
+
+-- ---- the denominators
+
+phase_divided : (l : LineData) (at : Ends) (k : ℕ) → All IsDivided (phase_list l at k)
+phase_divided l at k = All-append IsDivided (branch_row l at k) _
+    (All-append IsDivided _ (drop_list (resistance_of l) (reactance_of l) at.branch l.phases k)
+    (All-append IsDivided _ _ (whole (branch_of at.branch k) (node_of at.first k) (pos 1)) (whole (branch_of at.branch k) (node_of at.second k) (negsuc 0)))
+    (drops_divided (resistance_of l) (reactance_of l) at.branch l.phases k))
+    (All-append IsDivided (end_row l at.branch at.first (pos 1) k) _ (end_divided at.first (pos 1)) (end_divided at.second (negsuc 0)))
+  where
+    whole : (r c : NodeAt) (a : ℤ) → All IsDivided (stamp r c a (pos 0) (pos 1))
+    whole r c a = stamp_divided (pos 1) (record { lt = tt }) (record { le = tt }) r c a (pos 0)
+
+    end_divided : (ns : List NodeAt) (sign : ℤ) → All IsDivided (end_row l at.branch ns sign k)
+    end_divided ns sign = All-append IsDivided (stamp (node_of ns k) (branch_of at.branch k) sign (pos 0) (pos 1)) (each (charge_at l ns k) l.phases) (whole (node_of ns k) (branch_of at.branch k) sign)
+        (each_divided (charge_at l ns k) l.phases (λ m. stamp_divided (pos (2 * 10 ^ 27)) (record { lt = tt }) (record { le = tt }) (node_of ns k) (node_of ns m) (pos 0) (susceptance_of l k m)))
+
+pub line_divided : (l : LineData) (at : Ends) → All IsDivided (line_list l at)
+line_divided l at = each_divided (phase_list l at) l.phases (phase_divided l at)

@@ -1,0 +1,7 @@
+use Rattle.std.proofs.Common.{◌≡◌, ◌++◌}
+use Rattle.fd_system.specs.Contributions.{each}
+use Rattle.fd_line.specs.Line.{charge_at}
+use Rattle.fd_line.proofs.terms.add_charges.Given as goal
+
+abbrev pub invariant-loop-m : goal.invariant-loop-m
+invariant-loop-m l = l.terms.items ≡ l.fn.terms.items ++ each (charge_at l.line l.nodes l.k) l.m

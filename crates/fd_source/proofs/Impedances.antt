@@ -1,0 +1,50 @@
+-- The impedances of a source from its parts.
+use Rattle.std.proofs.Common.{◌≡◌, ℕ, ◌*◌, ◌≤◌, ◌^◌, ℤ, pos, ap, arith, subst, sym, ◌∙◌}
+use Rattle.std.specs.Int.{w128, cast_signed}
+use Rattle.std.proofs.lemmas.Int.{ints}
+use Rattle.fd_source.specs.declared.data.Ohms.{Ohms}
+use Rattle.fd_source.specs.declared.data.ShortCircuit.{ShortCircuit}
+use Rattle.fd_source.specs.Powers.{AreOhms, AreWithin, KeepsSize, IsGreatest, one_phase_size, ratio_of, reactance_by, three_phase_size}
+
+-- a natural in the code's signed type
+pub shown : (n : ℕ) → n ≤ 10 ^ 14 → cast_signed w128 n ≡ pos n
+shown n h = omega (arith, ints)
+
+abbrev of_parts : ℕ → ℕ → ℕ → ℕ → Ohms
+of_parts a b d e = record { r1 = pos a; x1 = pos b; r0 = pos d; x0 = pos e }
+
+pub are_ohms : (s : ShortCircuit) (three one : ℕ) (x y : ℤ) (a b d e : ℕ) → three ≡ three_phase_size s → one ≡ one_phase_size s → x ≡ s.x1r1 → y ≡ s.x0r0
+    → IsGreatest (KeepsSize 0 0 (ratio_of x) three) a → b ≡ reactance_by (ratio_of x) a
+    → IsGreatest (KeepsSize (2 * a) (2 * b) (ratio_of y) (3 * one)) d → e ≡ reactance_by (ratio_of y) d
+    → AreOhms s (of_parts a b d e)
+are_ohms s three one x y a b d e ht ho hx hy g1 e1 g0 e0 =
+    let h1 = subst (λ z. IsGreatest (KeepsSize 0 0 (ratio_of z) three) a) hx g1 in
+    let h0 = subst (λ z. IsGreatest (KeepsSize (2 * a) (2 * b) (ratio_of z) (3 * one)) d) hy g0 in
+    record {
+      r1_sign = omega (arith, ints);
+      r1 = subst (λ t. IsGreatest (KeepsSize 0 0 (ratio_of s.x1r1) t) a) ht h1;
+      x1 = ap pos (e1 ∙ ap (λ z. reactance_by (ratio_of z) a) hx);
+      r0_sign = omega (arith, ints);
+      r0 = subst (λ t. IsGreatest (KeepsSize (2 * a) (2 * b) (ratio_of s.x0r0) (3 * t)) d) ho h0;
+      x0 = ap pos (e0 ∙ ap (λ z. reactance_by (ratio_of z) d) hy);
+    }
+
+pub are_within : (a b d e : ℕ) → a ≤ 3 * 10 ^ 13 → b ≤ 3 * 10 ^ 13 → d ≤ 3 * 10 ^ 13 → e ≤ 3 * 10 ^ 13 → AreWithin (of_parts a b d e)
+are_within a b d e ha hb hd he = record {
+  r1 = (omega (arith, ints), omega (arith, ints));
+  x1 = (omega (arith, ints), omega (arith, ints));
+  r0 = (omega (arith, ints), omega (arith, ints));
+  x0 = (omega (arith, ints), omega (arith, ints));
+}
+
+-- the same in the code's signed type
+pub shown_parts : (P : Ohms → Type 0) (a b d e : ℕ) → a ≤ 10 ^ 14 → b ≤ 10 ^ 14 → d ≤ 10 ^ 14 → e ≤ 10 ^ 14 → P (of_parts a b d e)
+    → P (record { r1 = cast_signed w128 a; x1 = cast_signed w128 b; r0 = cast_signed w128 d; x0 = cast_signed w128 e })
+shown_parts P a b d e ha hb hd he p =
+    let pa = shown a ha in
+    let pb = shown b hb in
+    let pd = shown d hd in
+    let pe = shown e he in
+    let same : of_parts a b d e ≡ record { r1 = cast_signed w128 a; x1 = cast_signed w128 b; r0 = cast_signed w128 d; x0 = cast_signed w128 e }
+    = λ i. record { r1 = sym pa i; x1 = sym pb i; r0 = sym pd i; x0 = sym pe i } in
+    subst P same p

@@ -1,0 +1,3 @@
+pub mod Squares
+pub mod Rows
+pub mod Impedances

@@ -1,0 +1,73 @@
+// The phase voltages of a source.
+ghost use Rattle.std.specs.Prelude.{◌≡◌, ℕ, ◌+◌, ◌*◌, ◌<◌, ◌≤◌, ◌^◌, ℤ, pos, ◌*ℤ◌, nat_abs};
+ghost use Rattle.fd_exact.specs.Rounding.{near_div};
+ghost use Rattle.fd_source.specs.Phasors.{cosine as cosine_at, steps_of, volts_im, volts_re};
+ghost use Rattle.fd_line.specs.Totals.{UpTo};
+ghost use Rattle.fd_source.specs.Equations.{IsSource};
+
+use crate::data::SourceData;
+
+// a cosine of 1, of the half of root three and of one half, in 10^-15
+const ONE: i128 = 1_000_000_000_000_000;
+
+const HALF_ROOT_THREE: i128 = 866_025_403_784_439;
+
+const HALF: i128 = 500_000_000_000_000;
+
+/// The real and the imaginary part of the voltage of phase k, each to the nearest microvolt.
+pub fn phase_voltage(source: &SourceData, k: u32) -> (i128, i128)
+    requires source { IsSource source.now }
+    requires k_in { k < source.now.phases }
+    ensures re { result.0 ≡ volts_re source.now k }
+    ensures im { result.1 ≡ volts_im source.now k }
+{
+    let steps = steps(source, k);
+    (
+        component(source.volts, steps),
+        component(source.volts, steps + 9),
+    )
+}
+
+// The angle of phase k in steps of 30 degrees, two turns ahead.
+fn steps(source: &SourceData, k: u32) -> u32
+    requires source { IsSource source.now }
+    requires k_in { k < source.now.phases }
+    ensures value { result ≡ steps_of source.now k }
+    ensures most { result ≤ 36 }
+{
+    (source.angle + 720 - 120 * k as i32) as u32 / 30
+}
+
+// The volts times the cosine of this many steps, to the nearest microvolt.
+fn component(volts: i128, steps: u32) -> i128
+    requires volts { UpTo (2 * 10 ^ 12) volts }
+    ensures { result ≡ near_div (volts *ℤ cosine_at steps) (10 ^ 15) }
+{
+    nearest(volts * cosine(steps))
+}
+
+// The cosine of this many steps of 30 degrees, in 10^-15.
+fn cosine(steps: u32) -> i128
+    ensures value { result ≡ cosine_at steps }
+    ensures most { nat_abs result ≤ 10 ^ 15 }
+{
+    match steps % 12 {
+        0 => ONE,
+        1 | 11 => HALF_ROOT_THREE,
+        2 | 10 => HALF,
+        4 | 8 => -HALF,
+        5 | 7 => -HALF_ROOT_THREE,
+        6 => -ONE,
+        _ => 0,
+    }
+}
+
+// A number in 10^-15, to the nearest whole number, ties away from zero.
+fn nearest(n: i128) -> i128
+    requires { nat_abs n ≤ 2 ^ 100 }
+    ensures { result ≡ near_div n (10 ^ 15) }
+{
+    let one = ONE as u128;
+    let size = (2 * n.unsigned_abs() + one) / (2 * one);
+    if n < 0 { -(size as i128) } else { size as i128 }
+}
