@@ -22,8 +22,6 @@ mod names;
 mod nodes;
 mod numbers;
 mod terminals;
-#[cfg(test)]
-mod tests;
 mod unknowns;
 
 pub use feeding::first_isolated;

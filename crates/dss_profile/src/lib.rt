@@ -49,6 +49,3 @@ pub use transformer::{
     BothProperty, Transformer, TransformerProperty, Winding, WindingProperty, transformer_property,
 };
 pub use vsource::{Vsource, VsourceProperty, vsource_property};
-
-#[cfg(test)]
-mod tests;

@@ -1,2 +1,2 @@
-pub mod Solutions
-pub mod Ends
+mod Streams
+mod Solutions
