@@ -1,2 +1,2 @@
-mod Streams
-mod Solutions
+pub mod Solutions
+pub mod Ends
