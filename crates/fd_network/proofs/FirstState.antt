@@ -200,19 +200,22 @@ module _ (f : First) (good : IsFirst f) where
       let b = e_most in
       subst (λ t. t ≤ 2 * 10 ^ 21) (sym (unsigned_abs-mul z (current_im f))) (omega arith)
 
-  -- v - Z i, nearest, is at most 5 10^9 further than v
-  dropped_size : (v d : ℤ) (n : ℕ) → unsigned_abs v ≤ n → unsigned_abs d ≤ 4 * 10 ^ 21 → unsigned_abs (near_div (v *ℤ pos (10 ^ 12) -ℤ d) (10 ^ 12)) ≤ n + 5 * 10 ^ 9
+  -- v - Z i, the product nearest, is at most 5 10^9 further than v
+  dropped_size : (v d : ℤ) (n : ℕ) → unsigned_abs v ≤ n → unsigned_abs d ≤ 4 * 10 ^ 21 → unsigned_abs (v -ℤ near_div d (10 ^ 12)) ≤ n + 5 * 10 ^ 9
   dropped_size v d n h k =
-      let s = near_size (v *ℤ pos (10 ^ 12) -ℤ d) (10 ^ 12) (lit< tt) in
-      let t : unsigned_abs (v *ℤ pos (10 ^ 12) -ℤ d) ≤ n * 10 ^ 12 + 4 * 10 ^ 21 = omega (arith, ints) in
-      omega arith
+      let s = near_size d (10 ^ 12) (lit< tt) in
+      let t : unsigned_abs (near_div d (10 ^ 12)) ≤ 5 * 10 ^ 9 = omega arith in
+      difference_size v (near_div d (10 ^ 12)) t h
+    where
+      difference_size : (v w : ℤ) → unsigned_abs w ≤ 5 * 10 ^ 9 → unsigned_abs v ≤ n → unsigned_abs (v -ℤ w) ≤ n + 5 * 10 ^ 9
+      difference_size v w h k = omega (arith, ints)
 
   both_dropped : (v w r x : ℤ) (n : ℕ) → IsOhms r → IsOhms x → r ≤ℤ loop_r f → x ≤ℤ loop_x f → unsigned_abs v ≤ n → unsigned_abs w ≤ n
       → (unsigned_abs (dropped_re v r x (current_re f) (current_im f)) ≤ n + 5 * 10 ^ 9) × (unsigned_abs (dropped_im w r x (current_re f) (current_im f)) ≤ n + 5 * 10 ^ 9)
   both_dropped v w r x n hr hx pr px hv hw =
       let one = drop_size r x (current_re f) (current_im f) (2 * 10 ^ 21) (re_product r hr (inl pr)) (im_product x hx (inr px)) in
       let two = drop_size r x (current_im f) (current_re f) (2 * 10 ^ 21) (im_product r hr (inl pr)) (re_product x hx (inr px)) in
-      (dropped_size v _ n hv (one.0), dropped_size w _ n hw (two.1))
+      (dropped_size v (r *ℤ current_re f -ℤ x *ℤ current_im f) n hv one.0, dropped_size w (r *ℤ current_im f +ℤ x *ℤ current_re f) n hw two.1)
 
   source_sizes : (unsigned_abs (source_re f) ≤ 6 * 10 ^ 9) × (unsigned_abs (source_im f) ≤ 6 * 10 ^ 9)
   source_sizes =

@@ -100,12 +100,12 @@ current_re f = near_div (f.e *ℤ pos (10 ^ 12) *ℤ loop_r f) (loop_square f)
 abbrev pub current_im : First → ℤ
 current_im f = near_div (neg_ℤ (f.e *ℤ pos (10 ^ 12) *ℤ loop_x f)) (loop_square f)
 
--- v - Z i, each part nearest once to a microvolt
+-- v - Z i, each part of Z i nearest once to a microvolt
 abbrev pub dropped_re : ℤ → ℤ → ℤ → ℤ → ℤ → ℤ
-dropped_re v r x ire iim = near_div (v *ℤ pos (10 ^ 12) -ℤ (r *ℤ ire -ℤ x *ℤ iim)) (10 ^ 12)
+dropped_re v r x ire iim = v -ℤ near_div (r *ℤ ire -ℤ x *ℤ iim) (10 ^ 12)
 
 abbrev pub dropped_im : ℤ → ℤ → ℤ → ℤ → ℤ → ℤ
-dropped_im v r x ire iim = near_div (v *ℤ pos (10 ^ 12) -ℤ (r *ℤ iim +ℤ x *ℤ ire)) (10 ^ 12)
+dropped_im v r x ire iim = v -ℤ near_div (r *ℤ iim +ℤ x *ℤ ire) (10 ^ 12)
 
 -- the voltage of sourcebus.1 behind the source's impedance, and that of b.1 behind the line's
 abbrev pub source_re : First → ℤ

@@ -22,7 +22,7 @@ pub struct First {
 
 /// The state of the circuit, in micro-units: the real and the imaginary part of the voltages of sourcebus.1 and b.1, then of the
 /// currents of the source and of the line. The current is the source's voltage over the sum of the impedances, the load's being
-/// Vn^2 / P rounded down to 10^-12 ohm; each part is rounded to the nearest once.
+/// Vn^2 / P rounded down to 10^-12 ohm; each part of a current, and of a voltage over an impedance, is rounded to the nearest once.
 ///
 /// The voltages are from 0.1 to 1 kilovolt, resistances and reactances from 0 to 100 ohm, the power from 10 to 100 kilowatt.
 pub fn first_state(first: &First) -> [i128; 8]
@@ -158,7 +158,7 @@ fn negative(z: i128) -> i128
     -z
 }
 
-// v - Z i, each part nearest once: v in microvolts, Z in 10^-12 ohm, i in microamperes.
+// v - Z i, each part of Z i nearest once: v in microvolts, Z in 10^-12 ohm, i in microamperes.
 fn dropped(v_re: i128, v_im: i128, r: i128, x: i128, re: i128, im: i128) -> (i128, i128)
     requires v_re { IsPart v_re }
     requires v_im { IsPart v_im }
@@ -192,13 +192,22 @@ fn sum(a: i128, b: i128) -> i128
     a + b
 }
 
-// A voltage in microvolts less one in 10^-18 volt, to the nearest microvolt.
+// A voltage in microvolts less one in 10^-18 volt, that one to the nearest microvolt.
 fn behind(volts: i128, drop: i128) -> i128
     requires volts { IsPart volts }
     requires drop { IsDrop drop }
-    ensures { result ≡ near_div (volts *ℤ pos (10 ^ 12) -ℤ drop) (10 ^ 12) }
+    ensures { result ≡ volts -ℤ near_div drop (10 ^ 12) }
 {
-    nearest(volts * PER_OHM - drop, PER_OHM)
+    volts - whole_drop(drop)
+}
+
+// A voltage in 10^-18 volt to the nearest microvolt.
+fn whole_drop(drop: i128) -> i128
+    requires { IsDrop drop }
+    ensures value { result ≡ near_div drop (10 ^ 12) }
+    ensures within { IsDrop result }
+{
+    nearest(drop, PER_OHM)
 }
 
 // An impedance times a current.

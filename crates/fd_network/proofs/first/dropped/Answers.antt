@@ -1,4 +1,4 @@
-use Rattle.std.proofs.Common.{◌≡◌, ◌∙◌, ◌-ℤ◌, ◌+ℤ◌, ◌*ℤ◌, ◌^◌, pos, FitsSigned, rules}
+use Rattle.std.proofs.Common.{◌≡◌, ◌∙◌, ◌-ℤ◌, ◌+ℤ◌, ◌*ℤ◌, ◌^◌, FitsSigned, rules}
 use Rattle.std.specs.Int.{w128}
 use Rattle.std.proofs.lemmas.Int.{to_z-of_z}
 use Rattle.fd_exact.specs.Rounding.{near_div}
@@ -21,7 +21,7 @@ returns-clause-re c =
     let tb = to_z-of_z w128 c.times-2.result fb ∙ b in
     let d : c.difference-z_re.result ≡ c.args.r *ℤ c.args.re -ℤ c.args.x *ℤ c.args.im = c.difference-z_re.ensures.value ∙ (λ i. ta i -ℤ tb i) in
     let td = to_z-of_z w128 c.difference-z_re.result fd ∙ d in
-    to_z-of_z w128 c.behind.result f ∙ c.behind.ensures ∙ (λ i. near_div (v i *ℤ pos (10 ^ 12) -ℤ td i) (10 ^ 12))
+    to_z-of_z w128 c.behind.result f ∙ c.behind.ensures ∙ (λ i. v i -ℤ near_div (td i) (10 ^ 12))
 
 pub returns-clause-im : goal.returns-clause-im
 returns-clause-im c =
@@ -40,4 +40,4 @@ returns-clause-im c =
     let tb = to_z-of_z w128 c.times-4.result fb ∙ b in
     let d : c.sum-z_im.result ≡ c.args.r *ℤ c.args.im +ℤ c.args.x *ℤ c.args.re = c.sum-z_im.ensures.value ∙ (λ i. ta i +ℤ tb i) in
     let td = to_z-of_z w128 c.sum-z_im.result fd ∙ d in
-    to_z-of_z w128 c.behind-2.result f ∙ c.behind-2.ensures ∙ (λ i. near_div (v i *ℤ pos (10 ^ 12) -ℤ td i) (10 ^ 12))
+    to_z-of_z w128 c.behind-2.result f ∙ c.behind-2.ensures ∙ (λ i. v i -ℤ near_div (td i) (10 ^ 12))
