@@ -11,7 +11,7 @@ use Rattle.dss_script.specs.declared.fault.SessionFault.{SessionFault}
 use Rattle.dss_script.specs.declared.fault.SessionFault.TheVariants as fault
 use Rattle.dss_script.specs.declared.session.Turn.{Turn}
 use Rattle.dss_script.specs.Script.{Script, asks, names_first, after_names}
-use Rattle.dss_script.specs.Sessions.{State, remaining_with, Steps, Enters, Tells, Asks, Grows, GrowsUpTo, Reached, EnterAsks, IsNotEnded, IsReadOf, ReadsLast, GrowsSome, GrowsLast, found_bytes}
+use Rattle.dss_script.specs.Sessions.{State, remaining_with, Steps, Enters, Tells, Asks, Grows, GrowsUpTo, FailsAt, Reached, EnterAsks, IsNotEnded, IsRead, IsReadOf, ReadsLast, GrowsSome, GrowsLast, found_bytes}
 
 held_is : (there : Option (List ℕ)) (what : Found) → IsHeld there what → found_bytes what ≡ there
 held_is there (found.Bytes bs) h = sym h
@@ -95,6 +95,18 @@ reached_upto_read from now next old mid new name r e g = record {
   grown = grows_more old mid new r.names g.front r.grown g.grown;
 }
 
+-- the read of a name that fails is that of the next name
+pub reached_failing : (from now next : Script) (old mid new : Option (List (List ℕ))) (name failed : List ℕ) → Reached from now old mid → now ≡ asks name next → Grows mid new (name ∷ []) → failed ≡ name
+    → FailsAt old new (names_first from) failed
+reached_failing from now next old mid new name failed r e g is =
+    let P : List ℕ → Type 0 = λ m. FailsAt old new (names_first from) m in
+    subst P (sym is) (record {
+      front = r.names;
+      rest = names_first next;
+      parts = r.first ∙ ap (λ s. r.names ++ names_first s) e;
+      grown = grows_more old mid new r.names (name ∷ []) r.grown g;
+    })
+
 -- what a step comes to is what the call gives
 pub fails_here : (files : Files) (from now : Script) (s new : State) (old asked : Option (List (List ℕ))) (e : SessionFault) → Reached from now old asked → Steps files now s (Err e) → Tells files (after_names from) new (Err e)
 fails_here files from now s new old asked (fault.Script place c) r h = reached_said from now _ old asked r h
@@ -103,11 +115,11 @@ fails_here files from now s new old asked fault.Ended r h = tt
 fails_here files from now s new old asked fault.NoMemory r h = tt
 
 pub asks_here : (files : Files) (from now : Script) (s : State) (old asked : Option (List (List ℕ))) (e : SessionFault) → Reached from now old asked → Steps files now s (Err e) → IsNotEnded {X = Turn} (Err e)
-    → Asks {X = Option Command} old asked (names_first from) (Err e)
-asks_here files from now s old asked (fault.Script place c) r h n = reached_all from now _ old asked r h refl
-asks_here files from now s old asked (fault.Read name) r h n = reached_upto from now old asked r
-asks_here files from now s old asked fault.Ended r h n = absurd n
-asks_here files from now s old asked fault.NoMemory r h n = reached_upto from now old asked r
+    → (IsRead {X = Turn} (Err e) → ⊥) → Asks {X = Option Command} old asked (names_first from) (Err e)
+asks_here files from now s old asked (fault.Script place c) r h n no_read = reached_all from now _ old asked r h refl
+asks_here files from now s old asked (fault.Read name) r h n no_read = absurd (no_read tt)
+asks_here files from now s old asked fault.Ended r h n no_read = absurd n
+asks_here files from now s old asked fault.NoMemory r h n no_read = reached_upto from now old asked r
 
 -- so is a file that can't be entered
 pub fails_entering : (files : Files) (from now said : Script) (s new : State) (old asked : Option (List (List ℕ))) (name : List ℕ) (e : SessionFault) → Reached from now old asked → now ≡ asks name said
@@ -118,18 +130,29 @@ fails_entering files from now said s new old asked name fault.Ended r e h = tt
 fails_entering files from now said s new old asked name fault.NoMemory r e h = tt
 
 pub asks_entering : (files : Files) (from now said : Script) (s : State) (old mid new : Option (List (List ℕ))) (name : List ℕ) (e : SessionFault) → Reached from now old mid → now ≡ asks name said
-    → Enters files said s (Err e) → EnterAsks mid new name (Err e) → IsNotEnded {X = Unit} (Err e) → Asks {X = Option Command} old new (names_first from) (Err e)
-asks_entering files from now said s old mid new name (fault.Script place c) r e h g n =
+    → Enters files said s (Err e) → EnterAsks mid new name (Err e) → IsNotEnded {X = Unit} (Err e) → IsReadOf {X = Unit} name (Err e) → Asks {X = Option Command} old new (names_first from) (Err e)
+asks_entering files from now said s old mid new name (fault.Script place c) r e h g n is =
     let further = reached_read from now said old mid new name r e g in reached_all from said _ old new further h refl
-asks_entering files from now said s old mid new name (fault.Read m) r e h g n = reached_upto from said old new (reached_read from now said old mid new name r e g)
-asks_entering files from now said s old mid new name fault.Ended r e h g n = absurd n
-asks_entering files from now said s old mid new name fault.NoMemory r e h g n = reached_upto_read from now said old mid new name r e g
+asks_entering files from now said s old mid new name (fault.Read m) r e h g n is = reached_failing from now said old mid new name m r e g is
+asks_entering files from now said s old mid new name fault.Ended r e h g n is = absurd n
+asks_entering files from now said s old mid new name fault.NoMemory r e h g n is = reached_upto_read from now said old mid new name r e g
 
 pub some_more : (old mid new : Option (List (List ℕ))) (name : List ℕ) → GrowsSome old mid → Grows mid new (name ∷ []) → GrowsSome old new
 some_more old mid new name g h = record {
   names = g.names ++ bytes name ∷ [];
   grown = same_becomes old new (λ ns. (ns ++ g.names) ++ bytes name ∷ []) (λ ns. ns ++ (g.names ++ bytes name ∷ [])) (λ ns. append_assoc ns g.names (bytes name ∷ []))
       (becomes old mid new (λ ns. ns ++ g.names) (λ ns. ns ++ bytes name ∷ []) g.grown h);
+}
+
+-- also where the file can't be entered
+pub some_entering : (old mid new : Option (List (List ℕ))) (name : List ℕ) (e : SessionFault) → GrowsSome old mid → EnterAsks mid new name (Err e) → GrowsSome old new
+some_entering old mid new name (fault.Script p c) g h = some_more old mid new name g h
+some_entering old mid new name (fault.Read n) g h = some_more old mid new name g h
+some_entering old mid new name fault.Ended g h = some_more old mid new name g h
+some_entering old mid new name fault.NoMemory g h = record {
+  names = g.names ++ map bytes h.front;
+  grown = same_becomes old new (λ ns. (ns ++ g.names) ++ map bytes h.front) (λ ns. ns ++ (g.names ++ map bytes h.front)) (λ ns. append_assoc ns g.names (map bytes h.front))
+      (becomes old mid new (λ ns. ns ++ g.names) (λ ns. ns ++ map bytes h.front) g.grown h.grown);
 }
 
 pub last_here : (old mid new : Option (List (List ℕ))) (name : List ℕ) (e : SessionFault) → GrowsSome old mid → EnterAsks mid new name (Err e) → IsReadOf {X = Unit} name (Err e) → ReadsLast {X = Option Command} old new (Err e)

@@ -1,5 +1,5 @@
 -- Commands that take their room are few.
-use Rattle.std.proofs.Common.{◌≡◌, ℕ, ◌+◌, ◌*◌, ◌<◌, ◌≤◌, List, [], ◌∷◌, length, Bool, true, false, refl, arith, nat_lt, if◌then◌else◌}
+use Rattle.std.proofs.Common.{◌≡◌, ℕ, ◌+◌, ◌*◌, ◌<◌, ◌≤◌, List, [], ◌∷◌, length, Bool, true, false, refl, arith, nat_lt, max, if◌then◌else◌}
 use Rattle.std.proofs.lemmas.Bool.{ltb-true}
 use Rattle.dss_profile.specs.declared.command.Verb.{Verb}
 use Rattle.dss_profile.specs.declared.command.Verb.TheVariants as verb
@@ -25,17 +25,17 @@ each_two (verb.Solve pairs ∷ vs) = omega (arith, each_two vs)
 each_two (verb.Clear ∷ vs) = omega (arith, each_two vs)
 each_two (verb.Bases ∷ vs) = omega (arith, each_two vs)
 
-long_class : (n : ℕ) → 10 * (if nat_lt 3 n then 1 else 0) ≤ 6 + n
-long_class n = cases (nat_lt 3 n) refl
+long_class : (n m : ℕ) → 11 * (if nat_lt 3 n then 1 else 0) ≤ 6 + (n + max m 1)
+long_class n m = cases (nat_lt 3 n) refl
   where
-    cases : (b : Bool) → nat_lt 3 n ≡ b → 10 * (if b then 1 else 0) ≤ 6 + n
+    cases : (b : Bool) → nat_lt 3 n ≡ b → 11 * (if b then 1 else 0) ≤ 6 + (n + max m 1)
     cases true h = let long : 3 < n = ltb-true _ _ h in omega arith
     cases false h = omega arith
 
-each_new : (vs : List Verb) → 10 * news vs ≤ total vs
+each_new : (vs : List Verb) → 11 * news vs ≤ total vs
 unfolding total
 each_new [] = omega arith
-each_new (verb.New class name pairs ∷ vs) = omega (arith, each_new vs, long_class (length class))
+each_new (verb.New class name pairs ∷ vs) = omega (arith, each_new vs, long_class (length class) (length name))
 each_new (verb.Edit class name pairs ∷ vs) = omega (arith, each_new vs)
 each_new (verb.Set pairs ∷ vs) = omega (arith, each_new vs)
 each_new (verb.Solve pairs ∷ vs) = omega (arith, each_new vs)

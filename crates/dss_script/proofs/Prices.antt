@@ -50,7 +50,7 @@ named_length (row ∷ rows) v h = cases (named_length rows v (both (fits row) (l
 -- how long an element is written
 size_of : Option Target → ℕ
 size_of None = 0
-size_of (Some t) = length t.class + length t.name + 1
+size_of (Some t) = length t.class + max (length t.name) 1 + 1
 
 has_name : (b : Bool) (name : List ℕ) → (b || not (is_name name)) ≡ false → is_name name ≡ true
 has_name b name h = cases b (is_name name) h

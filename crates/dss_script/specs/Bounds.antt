@@ -22,7 +22,7 @@ solves (v ∷ vs) = solves vs
 
 pub record AreFew (vs : List Verb) : Type 0 where
   pub commands : length vs ≤ 1_048_576
-  pub elements : news vs < 2 ^ 17
+  pub elements : news vs < 95_326
   pub solutions : solves vs < 2 ^ 18
 
 abbrev pub CommandsAreFew : Type 0

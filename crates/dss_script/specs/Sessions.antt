@@ -119,9 +119,9 @@ room state = waits state.waiting + (files_room state.files + (1_048_576 - state.
 abbrev pub left : State → ℕ
 left state = 2 * room state + length state.files
 
--- the least room that a command's line takes: its words, and a separator or a line feed behind each
+-- the least room that a command's line takes: its words, and a separator or a line feed behind each; a name has a letter at least
 abbrev pub cost : Verb → ℕ
-cost (verb.New class name pairs) = 6 + (length class + length name)
+cost (verb.New class name pairs) = 6 + (length class + max (length name) 1)
 cost (verb.Solve pairs) = 6
 cost v = 2
 
@@ -209,9 +209,17 @@ pub record GrowsLast (old new : Option (List (List ℕ))) (name : List ℕ) : Ty
   pub front : List (List ℕ)
   pub grown : Becomes old new (λ ns. ns ++ front ++ bytes name ∷ [])
 
--- a call asks for these names, and for the first of them where a read fails or memory runs out
+-- the names that were asked grow by the first of these up to and with this one, whose read failed
+pub record FailsAt (old new : Option (List (List ℕ))) (names : List (List ℕ)) (name : List ℕ) : Type 0 where
+  pub front : List (List ℕ)
+  pub rest : List (List ℕ)
+  pub parts : names ≡ front ++ name ∷ rest
+  pub grown : Grows old new (front ++ name ∷ [])
+
+-- a call asks for these names; where a read fails, for the first of them up to the name that failed, and for the first of
+-- them where memory runs out
 abbrev pub Asks : {X : Type 0} → Option (List (List ℕ)) → Option (List (List ℕ)) → List (List ℕ) → Result X SessionFault → Type 0
-Asks old new names (Err (fault.Read name)) = GrowsUpTo old new names
+Asks old new names (Err (fault.Read name)) = FailsAt old new names name
 Asks old new names (Err fault.NoMemory) = GrowsUpTo old new names
 Asks old new names (Err fault.Ended) = new ≡ old
 Asks old new names r = Grows old new names
@@ -249,6 +257,7 @@ pub record Reached (from now : Script) (old new : Option (List (List ℕ))) : Ty
   pub said : after_names from ≡ after_names now
   pub grown : Grows old new names
 
+-- the names that were asked grow
 pub record GrowsSome (old new : Option (List (List ℕ))) : Type 0 where
   pub names : List (List ℕ)
   pub grown : Becomes old new (λ ns. ns ++ names)

@@ -4,7 +4,7 @@ ghost use Rattle.std.specs.Str.{chars};
 ghost use Rattle.fd_outside.specs.Files.{Files, held};
 ghost use Rattle.dss_values.specs.Names.{bytes};
 ghost use Rattle.dss_script.specs.Script.{script_of, names_first, after_names};
-ghost use Rattle.dss_script.specs.Sessions.{start, remaining, remaining_by, remaining_with, Steps, Enters, Tells, Spends, found_bytes, room, left, IsRead, pays, closes, price, taken_says, opened, EnterAsks, ReadHasCause, Asks, ReadsLast, Pays, IsNotEnded, IsReadOf};
+ghost use Rattle.dss_script.specs.Sessions.{start, remaining, remaining_by, remaining_with, Steps, Enters, Tells, Spends, found_bytes, room, left, IsRead, pays, closes, price, taken_says, opened, EnterAsks, ReadHasCause, Asks, GrowsSome, ReadsLast, Pays, IsNotEnded, IsReadOf};
 ghost use Rattle.dss_script.specs.declared.meaning.Meaning.TheVariants.{Reads};
 
 use crate::meaning::{Meaning, Target, meaning_for, target_then};
@@ -73,7 +73,8 @@ impl Session {
     /// The next command, with its place. At the end of MASTER there is none, nor at any later call.
     ///
     /// Errors: `Script` exactly where the script is refused there, `Read` where the library's count of faults rose in
-    /// this call, with the name asked last, `Ended` exactly where an earlier call gave a fault, `NoMemory`.
+    /// this call, with the name asked last, which is the next of those that the script asks for, `Ended` exactly where
+    /// an earlier call gave a fault, `NoMemory`.
     pub fn next<L: Library>(
         &mut self,
         alloc: Global,
@@ -81,8 +82,10 @@ impl Session {
     ) -> Result<Option<Command>, SessionFault>
         // Where the library tells what it holds, the next command or the end is the one that the script says.
         ensures told { (files : Files) → L.holds lib.old ≡ Some files → Tells files (after_names (remaining files self.old)) self.new result }
-        // And the names that are asked are those that the script asks for before it.
+        // And the names that are asked are those that the script asks for before it, up to the one whose read failed.
         ensures asked { (files : Files) → L.holds lib.old ≡ Some files → Asks (L.asked lib.old) (L.asked lib.new) (names_first (remaining files self.old)) result }
+        // Whatever it tells of what it holds, names are only added, and a failed read's is the last.
+        ensures grows { GrowsSome (L.asked lib.old) (L.asked lib.new) }
         ensures last { ReadsLast (L.asked lib.old) (L.asked lib.new) result }
         ensures holds { L.holds lib.new ≡ L.holds lib.old }
         ensures cause { ReadHasCause (L.faults lib.old) (L.faults lib.new) result }
@@ -108,6 +111,7 @@ impl Session {
     ) -> Result<Option<Command>, SessionFault>
         ensures told { (files : Files) → L.holds lib.old ≡ Some files → Tells files (after_names (remaining files self.old)) self.new result }
         ensures asked { (files : Files) → L.holds lib.old ≡ Some files → Asks (L.asked lib.old) (L.asked lib.new) (names_first (remaining files self.old)) result }
+        ensures grows { GrowsSome (L.asked lib.old) (L.asked lib.new) }
         ensures last { ReadsLast (L.asked lib.old) (L.asked lib.new) result }
         ensures holds { L.holds lib.new ≡ L.holds lib.old }
         ensures cause { ReadHasCause (L.faults lib.old) (L.faults lib.new) result }

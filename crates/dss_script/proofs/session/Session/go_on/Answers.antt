@@ -2,7 +2,7 @@ use Rattle.std.proofs.Common.{◌∙◌, ap, refl, arith, Option}
 use Rattle.dss_profile.specs.declared.command.Command.{Command}
 use Rattle.dss_script.specs.declared.session.Turn.{Turn}
 use Rattle.dss_script.specs.Script.{asks}
-use Rattle.dss_script.proofs.Entering.{reached_same, reached_read, reached_all, reached_said, fails_here, asks_here, fails_entering, asks_entering, some_more, last_here, not_ended}
+use Rattle.dss_script.proofs.Entering.{reached_same, reached_read, reached_all, reached_said, fails_here, asks_here, fails_entering, asks_entering, some_more, some_entering, last_here, not_ended}
 use Rattle.dss_script.proofs.session.Session.go_on.Goals as goal
 
 pub returns-in-Ok-Gives-clause-told : goal.returns-in-Ok-Gives-clause-told
@@ -49,7 +49,10 @@ returns-in-Err-enter-clause-asked g c =
     λ files told.
     asks_entering files _ _ _ c.enter.new.self _ _ _ c.in-Ok-Reads.name c.in-Err-enter.e (c.loop-command.invariant.reached files told)
     (rw c.in-Ok-Reads.field-0-is at (c.in-Ok-Reads.ensures.steps files)) (c.in-Err-enter.ensures.told files (c.loop-command.invariant.holds ∙ told))
-    c.in-Err-enter.ensures.asked c.in-Err-enter.ensures.goes
+    c.in-Err-enter.ensures.asked c.in-Err-enter.ensures.goes c.in-Err-enter.ensures.named
+
+pub returns-in-Err-enter-clause-grows : goal.returns-in-Err-enter-clause-grows
+returns-in-Err-enter-clause-grows g c = some_entering _ _ _ c.in-Ok-Reads.name c.in-Err-enter.e c.loop-command.invariant.some c.in-Err-enter.ensures.asked
 
 pub returns-in-Err-enter-clause-last : goal.returns-in-Err-enter-clause-last
 returns-in-Err-enter-clause-last g c = last_here _ _ _ c.in-Ok-Reads.name c.in-Err-enter.e c.loop-command.invariant.some c.in-Err-enter.ensures.asked c.in-Err-enter.ensures.named
@@ -75,7 +78,7 @@ returns-in-Err-clause-told g c =
 
 pub returns-in-Err-clause-asked : goal.returns-in-Err-clause-asked
 returns-in-Err-clause-asked g c =
-    λ files told. asks_here files _ _ c.step.new.self _ _ c.in-Err.e (c.loop-command.invariant.reached files told) (c.in-Err.ensures.steps files) c.in-Err.ensures.goes
+    λ files told. asks_here files _ _ c.step.new.self _ _ c.in-Err.e (c.loop-command.invariant.reached files told) (c.in-Err.ensures.steps files) c.in-Err.ensures.goes c.in-Err.ensures.reads_nothing
 
 pub returns-in-Err-clause-goes : goal.returns-in-Err-clause-goes
 returns-in-Err-clause-goes g c = not_ended Turn (Option Command) c.in-Err.e c.in-Err.ensures.goes
