@@ -4,6 +4,8 @@ ghost use Rattle.dss_profile.specs.Options.{with_options};
 ghost use Rattle.dss_ready.specs.Ready.{own_blame, IsAnswer};
 ghost use Rattle.dss_circuit.specs.Answers.{Becomes};
 ghost use Rattle.dss_circuit.specs.Circuit.{empty_circuit, has_circuit, applied};
+ghost use Rattle.dss_profile.specs.InRange.{OptionsInRange};
+ghost use Rattle.dss_circuit.specs.InRange.{AllInRange};
 
 use crate::elements::{Elements, edit_element, make_element};
 use crate::keys::{check_circuit, key_to_edit, key_to_make};
@@ -15,7 +17,7 @@ use std::alloc::Global;
 use std::marker::Model;
 
 /// A circuit as the commands so far have made it: its elements by name in order of definition, its options, and how
-/// many Solves were applied. It has at most 2^17 elements.
+/// many Solves were applied. It has at most 2^17 elements, and each value of an element or an option is in its range.
 #[derive(Drop)]
 pub struct Circuit {
     elements: Elements,
@@ -24,14 +26,14 @@ pub struct Circuit {
 }
 
 impl Model for Circuit {
-    ghost use Rattle.std.specs.Prelude.{◌≤◌, ◌^◌, length};
     ghost use Rattle.dss_circuit.specs.Circuit.{CircuitView};
+    ghost use Rattle.dss_circuit.specs.InRange.{IsWithinLimits};
 
     ghost Value = { CircuitView };
 
     ghost view = { λ c. record { elements = c.elements.entries; options = c.options; solves = c.solves } };
 
-    ghost invariant = { λ c. length c.elements.entries ≤ 2 ^ 17 };
+    ghost invariant = { λ c. IsWithinLimits c.elements.entries c.options };
 }
 
 // Whether New Circuit was done since the start or the last Clear.
@@ -43,7 +45,9 @@ fn is_begun(elements: &Elements) -> bool
 
 // The options with these pairs. After an `Err` the options are as before.
 fn set_options(alloc: Global, options: &mut Options, pairs: &[Pair]) -> Result<(), ModelFault>
-    ensures { Becomes options.old options.new result (with_options pairs.now options.old) }
+    requires in_range { OptionsInRange options.old }
+    ensures set { Becomes options.old options.new result (with_options pairs.now options.old) }
+    ensures in_range { OptionsInRange options.new }
 {
     let mut draft = options.copied()?;
     draft.set_pairs(alloc, pairs)?;
@@ -119,17 +123,19 @@ impl Circuit {
         ready(alloc, &self.elements, self.options.defaultbasefrequency)
     }
 
-    /// The settings that Set and Solve gave.
+    /// The settings that Set and Solve gave. Their values are in range.
     pub fn options(&self) -> &Options
-        ensures { result.now ≡ self.now.options }
+        ensures value { result.now ≡ self.now.options }
+        ensures in_range { OptionsInRange self.now.options }
     {
         &self.options
     }
 
-    /// The elements by name, in order of definition.
+    /// The elements by name, in order of definition. The values of each are in range.
     pub fn elements(&self) -> &IndexMap<ElementName, Element>
         ensures entries { result.now.entries ≡ self.now.elements }
         ensures few { length self.now.elements ≤ 2 ^ 17 }
+        ensures in_range { AllInRange self.now.elements }
     {
         &self.elements
     }

@@ -1,8 +1,10 @@
 // Elements by name, in order of definition.
-ghost use Rattle.std.specs.Prelude.{◌≡◌, ◌≤◌, ◌+◌, length, IfOk, option_copied};
+ghost use Rattle.std.specs.Prelude.{◌≡◌, ◌≤◌, ◌+◌, length, IfOk, IfSome, OnOk, option_copied};
 ghost use Rattle.dss_values.specs.Answers.{Gives, Makes};
 ghost use Rattle.dss_circuit.specs.Answers.{Becomes};
 ghost use Rattle.dss_circuit.specs.Circuit.{referred, with_pairs, put, make, edit};
+ghost use Rattle.dss_profile.specs.InRange.{ElementInRange};
+ghost use Rattle.dss_circuit.specs.InRange.{AllInRange};
 
 use dss_lexer::Pair;
 use dss_profile::{Class, Element, ElementName, ModelFault, Place, referred_element};
@@ -25,7 +27,9 @@ fn find_referred<'a>(
     class: Class,
     pair: &Pair,
 ) -> Result<Option<&'a Element>, ModelFault>
-    ensures { Gives (λ found. option_copied found) result (referred ⟦<ElementName as PartialEq>⟧.eq elements.now.entries class pair.now) }
+    requires in_range { AllInRange elements.now.entries }
+    ensures found { Gives (λ found. option_copied found) result (referred ⟦<ElementName as PartialEq>⟧.eq elements.now.entries class pair.now) }
+    ensures in_range { IfOk result (λ found. IfSome (option_copied found) ElementInRange) }
 {
     match referred_element(alloc, class, pair)? {
         Some(name) => Ok(elements.get(&name)),
@@ -42,7 +46,10 @@ fn set_pairs(
     draft: &mut Element,
     pairs: &[Pair],
 ) -> Result<(), ModelFault>
-    ensures { Makes draft.new result (with_pairs ⟦<ElementName as PartialEq>⟧.eq solves elements.now.entries class pairs.now draft.old) }
+    requires in_range { AllInRange elements.now.entries }
+    requires draft_in_range { ElementInRange draft.old }
+    ensures set { Makes draft.new result (with_pairs ⟦<ElementName as PartialEq>⟧.eq solves elements.now.entries class pairs.now draft.old) }
+    ensures in_range { OnOk result (ElementInRange draft.new) }
 {
     for pair in pairs {
         let found = find_referred(alloc, elements, class, pair)?;
@@ -61,8 +68,11 @@ fn put_element(
     element: Element,
     pairs: &[Pair],
 ) -> Result<(), ModelFault>
+    requires in_range { AllInRange elements.old.entries }
+    requires element_in_range { ElementInRange element }
     ensures put { Becomes elements.old.entries elements.new.entries result (put ⟦<ElementName as PartialEq>⟧.eq solves name element pairs.now elements.old.entries) }
     ensures few { length elements.new.entries ≤ length elements.old.entries + 1 }
+    ensures in_range { AllInRange elements.new.entries }
 {
     let mut draft = element;
     set_pairs(alloc, solves, elements, name.class, &mut draft, pairs)?;
@@ -80,8 +90,10 @@ pub fn make_element(
     name: ElementName,
     pairs: &[Pair],
 ) -> Result<(), ModelFault>
+    requires in_range { AllInRange elements.old.entries }
     ensures made { Becomes elements.old.entries elements.new.entries result (make ⟦<ElementName as PartialEq>⟧.eq solves place.now name pairs.now elements.old.entries) }
     ensures few { length elements.new.entries ≤ length elements.old.entries + 1 }
+    ensures in_range { AllInRange elements.new.entries }
 {
     if elements.contains_key(&name) {
         return Err(ModelFault::Duplicate);
@@ -99,8 +111,10 @@ pub fn edit_element(
     name: ElementName,
     pairs: &[Pair],
 ) -> Result<(), ModelFault>
+    requires in_range { AllInRange elements.old.entries }
     ensures edited { Becomes elements.old.entries elements.new.entries result (edit ⟦<ElementName as PartialEq>⟧.eq solves name pairs.now elements.old.entries) }
     ensures few { length elements.new.entries ≤ length elements.old.entries + 1 }
+    ensures in_range { AllInRange elements.new.entries }
 {
     let draft = match elements.get(&name) {
         Some(element) => element.copied()?,

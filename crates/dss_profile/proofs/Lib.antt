@@ -1,0 +1,3 @@
+pub mod FormRanges
+pub mod ClassRanges
+pub mod ElementRanges

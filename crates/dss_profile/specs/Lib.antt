@@ -10,3 +10,5 @@ pub mod CapControl
 pub mod Loadshape
 pub mod Element
 pub mod Options
+pub mod Ranges
+pub mod InRange

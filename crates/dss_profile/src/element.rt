@@ -1,9 +1,10 @@
 // Elements of all classes.
-ghost use Rattle.std.specs.Prelude.{◌≡◌, IfOk, option_map, is_some};
+ghost use Rattle.std.specs.Prelude.{◌≡◌, IfOk, IfSome, OnOk, option_map, is_some};
 ghost use Rattle.std.specs.Option.{option_copied};
 ghost use Rattle.dss_values.specs.Answers.{Gives, Makes};
 ghost use Rattle.dss_values.specs.Names.{named};
 ghost use Rattle.dss_profile.specs.Element.{class_of, place_of, fresh, code_found, with_named, with_pair, references, named_in, reference_to, reference};
+ghost use Rattle.dss_profile.specs.InRange.{ElementInRange};
 
 use crate::capacitor::capacitor_property;
 use crate::capcontrol::capcontrol_property;
@@ -107,14 +108,16 @@ fn code_in(found: Option<&Element>) -> Option<&Linecode>
 }
 
 impl Element {
-    /// An element of a class with its defaults, `solves` being the number of Solves that were applied so far.
+    /// An element of a class with its defaults, `solves` being the number of Solves that were applied so far. Its values
+    /// are in range.
     pub fn fresh(
         alloc: Global,
         class: Class,
         place: Place,
         solves: u32,
     ) -> Result<Element, AllocError>
-        ensures { IfOk result (λ element. element ≡ fresh solves class place) }
+        ensures value { IfOk result (λ element. element ≡ fresh solves class place) }
+        ensures in_range { IfOk result ElementInRange }
     {
         match class {
             Class::Vsource => Ok(Element::Vsource(Vsource::fresh(alloc, place)?)),
@@ -220,7 +223,8 @@ impl Element {
     ///
     /// `solves` is the number of Solves that were applied so far, and `found` is the element that `referred_element`
     /// names for this pair, where it is there. Errors: each cause for which the pair is refused, the first in the order
-    /// of the forms of values; Unsupported for a word without a name, UnknownProperty, and NoMemory.
+    /// of the forms of values; Unsupported for a word without a name, UnknownProperty, and NoMemory. The values stay in
+    /// range.
     #[tactic(auto, unfolding(crate::specs::Element::with_pair))]
     pub fn set_pair(
         &mut self,
@@ -229,7 +233,8 @@ impl Element {
         solves: u32,
         found: Option<&Element>,
     ) -> Result<(), ModelFault>
-        ensures { Makes self.new result (with_pair solves (option_copied found.entry) pair.now self.old) }
+        ensures value { Makes self.new result (with_pair solves (option_copied found.entry) pair.now self.old) }
+        ensures in_range { IfSome (option_copied found.entry) ElementInRange → ElementInRange self.old → OnOk result (ElementInRange self.new) }
     {
         if pair.name.is_empty() {
             return Err(ModelFault::Unsupported);

@@ -1,8 +1,9 @@
 // The settings of a circuit.
-ghost use Rattle.std.specs.Prelude.{◌≡◌, IfOk};
+ghost use Rattle.std.specs.Prelude.{◌≡◌, IfOk, OnOk};
 ghost use Rattle.dss_values.specs.Answers.{Makes};
 ghost use Rattle.dss_values.specs.Names.{named};
 ghost use Rattle.dss_profile.specs.Options.{option_names, default_options, in_mode, with_option, with_named_option, with_options};
+ghost use Rattle.dss_profile.specs.InRange.{OptionsInRange};
 
 use dss_lexer::Pair;
 use dss_values::{
@@ -65,9 +66,10 @@ pub fn option_named(name: &str) -> Option<OptionName>
 }
 
 impl Options {
-    /// The options as they are before any is set.
+    /// The options as they are before any is set. Their values are in range.
     pub fn start(alloc: Global) -> Self
-        ensures { result ≡ default_options }
+        ensures value { result ≡ default_options }
+        ensures in_range { OptionsInRange result }
     {
         Options {
             mode: Mode::Snapshot,
@@ -126,9 +128,10 @@ impl Options {
         self.set(alloc, option, pair)
     }
 
-    /// Sets the pairs from left to right. After an `Err` the draft is to be thrown away.
+    /// Sets the pairs from left to right. After an `Err` the draft is to be thrown away. The values stay in range.
     pub fn set_pairs(&mut self, alloc: Global, pairs: &[Pair]) -> Result<(), ModelFault>
-        ensures { Makes self.new result (with_options pairs.now self.old) }
+        ensures value { Makes self.new result (with_options pairs.now self.old) }
+        ensures in_range { OptionsInRange self.old → OnOk result (OptionsInRange self.new) }
     {
         for pair in pairs {
             self.set_named(alloc, pair)?;
