@@ -1,2 +1,7 @@
-pub mod Solutions
-pub mod Ends
+mod Streams
+mod Solutions
+mod Unique
+pub mod Exists
+pub mod Statuses
+mod FailedReads
+mod Weights

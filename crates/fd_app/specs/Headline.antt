@@ -1,33 +1,26 @@
 -- What a printed solution is.
-use Rattle.std.specs.Prelude.{◌≡◌, ◌≢◌, ℕ, ℤ, List, [], ◌∷◌, Option, Some, None}
+use Rattle.std.specs.Prelude.{ℤ, List, [], ◌∷◌}
 use Rattle.fd_network.specs.declared.first.First.{First}
-use Rattle.fd_network.specs.First.{AreMismatches, MeetsFirst, first_state_of}
-use Rattle.fd_app.specs.Outcome.{Entry, Solution, Fault}
+use Rattle.fd_network.specs.First.{AreMismatches, IsFirst, MeetsFirst}
+use Rattle.fd_app.specs.Outcome.{Entry, Solution, Fault, state_of, mismatches_of}
 
--- The state meets each of the feeder's eight equations within that equation's mismatch: the current laws of sourcebus.1 and b.1 and
--- the voltage equations of source and line, each in its real and its imaginary part.
+-- The state meets each of the feeder's eight equations within that equation's mismatch: the current laws of the source's node and
+-- of the load's node and the voltage equations of source and line, each in its real and its imaginary part.
 abbrev pub MeetsEquations : First → List ℤ → List ℤ → Type 0
 MeetsEquations first state mismatches = MeetsFirst first state mismatches
 
--- The state is the stated one of the scripted feeder, each mismatch is the greater size of the ends of its row's residual in
--- intervals, and the state meets the feeder's equations within them.
-pub record IsSolution (scripted : Option First) (state mismatches : List ℤ) : Type 0 where
-  pub first : First
-  pub is_scripted : scripted ≡ Some first
-  pub stated : state ≡ first_state_of first
-  pub due : AreMismatches first state mismatches
-  pub meets : MeetsEquations first state mismatches
+-- The numbers of the feeder are in range, each printed mismatch is the greater size of the ends of its row's residual in intervals, and
+-- the printed state meets the feeder's equations within them.
+pub record IsSolution (first : First) : Type 0 where
+  pub in_range : IsFirst first
+  pub due : AreMismatches first (state_of first) (mismatches_of first)
+  pub meets : MeetsEquations first (state_of first) (mismatches_of first)
 
--- an entry that is a solution is one of the scripted feeder
-abbrev pub IsSolved : Option First → Entry → Type 0
-IsSolved scripted (Solution state mismatches) = IsSolution scripted state mismatches
-IsSolved scripted (Fault fields) = Unit {0}
+-- an entry that is a solution is one
+abbrev pub IsSolved : Entry → Type 0
+IsSolved (Solution number shape) = IsSolution shape.first
+IsSolved (Fault fields) = Unit {0}
 
-abbrev pub AllSolved : Option First → List Entry → Type 0
-AllSolved scripted [] = Unit {0}
-AllSolved scripted (entry ∷ entries) = IsSolved scripted entry × AllSolved scripted entries
-
--- a sink that tells what it has taken has taken something
-abbrev pub TakesSome : Option (List ℕ) → Option (List ℕ) → Type 0
-TakesSome (Some before) now = now ≢ Some before
-TakesSome None now = ⊥
+abbrev pub AllSolved : List Entry → Type 0
+AllSolved [] = Unit {0}
+AllSolved (entry ∷ entries) = IsSolved entry × AllSolved entries

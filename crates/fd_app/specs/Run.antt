@@ -1,25 +1,35 @@
 -- A run of the top call over the files that its library holds.
-use Rattle.std.specs.Prelude.{ℕ, List, Option, Some, None}
-use Rattle.fd_outside.specs.Files.{Files, held}
-use Rattle.fd_network.specs.declared.first.First.{First}
-use Rattle.fd_app.specs.Scripts.{held_feeder}
-use Rattle.fd_app.specs.Words.{Form, Solve, form_of}
-use Rattle.fd_app.specs.Outcome.{Outcome, outcome_of}
-use Rattle.fd_app.specs.Ends.{HasReadCause, Prints}
-use Rattle.fd_app.specs.Headline.{AllSolved, TakesSome}
+use Rattle.std.specs.Prelude.{ℕ, Bool, List, Option, None}
+use Rattle.fd_outside.specs.Files.{Files}
+use Rattle.dss_profile.specs.declared.names.ElementName.{ElementName}
+use Rattle.dss_ready.specs.declared.mention.Mention.{Mention}
+use Rattle.fd_app.specs.Outcome.{Outcome, EndsWith, HasEnd, IsOnce, IsOutcomeOf}
+use Rattle.fd_app.specs.declared.ending.Ending.{Ending}
+use Rattle.fd_app.specs.Ends.{Asks, HasReadCause, Prints}
+use Rattle.fd_app.specs.Headline.{AllSolved}
 
--- the feeder of the script that the words name
-abbrev pub scripted : Files → Option Form → Option First
-scripted files None = None
-scripted files (Some (Solve file)) = held_feeder (held files file)
-
--- This outcome is printed, whole or cut short, and where anything is printed each solution of it is one of the scripted feeder.
-pub record Reports {S : Type 0} (taken : S → Option (List ℕ)) (calls : S → Option ℕ) (old new : S) (status : ℕ) (feeder : Option First) (outcome : Outcome) : Type 0 where
-  pub prints : Prints taken calls old new status outcome
-  pub solutions : TakesSome (taken old) (taken new) → AllSolved feeder outcome.entries
-
--- What is reported is the outcome of the words over these files. A read fails only where the count of the library's faults rose.
-pub record IsRun {S : Type 0} (taken : S → Option (List ℕ)) (calls : S → Option ℕ) (old new : S) (faults_before faults_now status : ℕ) (files : Files) (words : List (List ℕ)) : Type 0 where
+-- What is printed is an outcome of the words over these files, whole or cut short; the names asked are the outcome's, and each of its
+-- solutions is one. A read fails only where the count of the library's faults rose.
+pub record Runs {L S : Type 0} (faults : L → ℕ) (asked : L → Option (List (List ℕ))) (lib_old lib_new : L)
+    (taken : S → Option (List ℕ)) (calls : S → Option ℕ) (old new : S) (status : ℕ) (is_outcome : Option ℕ → Outcome → Type 0) : Type 0 where
   pub fails : Option ℕ
-  pub cause : HasReadCause faults_before faults_now fails
-  pub reports : Reports taken calls old new status (scripted files (form_of words)) (outcome_of files words fails)
+  pub cause : HasReadCause (faults lib_old) (faults lib_new) fails
+  pub outcome : Outcome
+  pub right : is_outcome fails outcome
+  pub prints : Prints taken calls old new status outcome
+  pub asks : Asks (asked lib_old) (asked lib_new) outcome.names
+  pub solutions : AllSolved outcome.entries
+
+-- the outcome of the words in which no read fails ends so; there is no second one that is followed to its end
+abbrev pub Due : (ElementName → ElementName → Bool) → (Mention → Mention → Bool) → Files → List (List ℕ) → Ending → Type 0
+Due same same_mention files words how = EndsWith (λ outcome. IsOutcomeOf same same_mention files words None outcome) how
+
+-- words have one outcome at most that is followed to its end, over these files and with this read failing
+abbrev pub OutcomesAreUnique : Type 0
+OutcomesAreUnique =
+    (same : ElementName → ElementName → Bool) (same_mention : Mention → Mention → Bool) (files : Files) (words : List (List ℕ)) (fails : Option ℕ) → IsOnce (IsOutcomeOf same same_mention files words fails)
+
+-- words have an outcome that is followed to its end, over these files and with this read failing
+abbrev pub OutcomesExist : Type 0
+OutcomesExist =
+    (same : ElementName → ElementName → Bool) (same_mention : Mention → Mention → Bool) (files : Files) (words : List (List ℕ)) (fails : Option ℕ) → HasEnd (IsOutcomeOf same same_mention files words fails)

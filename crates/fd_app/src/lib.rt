@@ -1,25 +1,33 @@
 //! The top call: the words of a command line and a library of files in, records and an exit status out.
 //!
-//! `run` promises that what it prints is the outcome of the words over the files that its library holds, or a front of it where memory
-//! runs out or a write fails; that each printed state meets the equations of the scripted feeder within the printed mismatches; and
-//! when each exit status comes.
+//! `run` promises that what it prints is an outcome of the words over the files that its library holds, failing reads included, or a
+//! front of one where memory runs out or a write fails; that the files it asks for are those of the outcome, in order; that each printed
+//! state meets the equations of its circuit within the printed mismatches; and when each exit status comes. An outcome is a relation by
+//! cases on what a script says. Words have exactly one that is followed to its end: one at most by `outcomes_are_unique`, and one by
+//! `outcomes_exist`.
 //!
 //! - `words`: the forms of the command line
-//! - `script`: the form of a script that is solved
-//! - `number`: numbers in scripts and in records
 //! - `ending`: how an outcome ends, and its exit status
-//! - `report`: the records of each outcome
+//! - `faults`: the texts of causes
+//! - `number`: numbers in records
+//! - `shape`: the circuits that are solved
+//! - `records`: the records of solutions and faults
+//! - `print`: records handed to the sink
+//! - `step`: what one command comes to
 //! - `top`: the call itself
 #![tactic(auto)]
 
 mod ending;
+mod faults;
 mod number;
-mod report;
-mod script;
+mod print;
+mod records;
+mod shape;
+mod step;
 mod top;
 mod words;
 
-pub use top::run;
+pub use top::{outcomes_are_unique, outcomes_exist, run};
 
 #[cfg(test)]
 mod tests;

@@ -1,102 +1,164 @@
 // The top call.
-ghost use Rattle.std.specs.Prelude.{◌≡◌, ◌≤◌, ◌⊎◌, ◌∷◌, ◌++◌, [], None, Some, IfOk, OnErr, OnOk, Option, map, string_bytes, ℕ, List};
-ghost use Rattle.fd_outside.specs.Causes.{Becomes, Rose};
-ghost use Rattle.fd_outside.specs.Emitted.{Takes};
-ghost use Rattle.fd_outside.specs.Files.{Files, held};
-ghost use Rattle.fd_network.specs.declared.first.First.{First};
-ghost use Rattle.fd_app.specs.Ends.{AnswersAt, Asks, CutsShort, HasReadCause, Prints, want_of_memory};
-ghost use Rattle.fd_app.specs.Outcome.{Outcome, code_of, names_of, outcome_of, read_fault, script_outcome, solve_outcome, texts_of, usage};
-ghost use Rattle.fd_app.specs.Run.{IsRun, Reports, scripted};
-ghost use Rattle.fd_app.specs.Scripts.{held_feeder};
-ghost use Rattle.fd_app.specs.Shown.{Shows};
-ghost use Rattle.fd_app.specs.Words.{Solve, form_of};
+ghost use Rattle.std.specs.Prelude.{◌≡◌, ◌≤◌, ◌⊎◌, [], None, Some, Option, map, string_bytes, ℕ, true, false, OnOk, Err, Result};
+ghost use Rattle.std.specs.Str.{chars};
+ghost use Rattle.fd_outside.specs.Causes.{Rose};
+ghost use Rattle.fd_outside.specs.Files.{Files};
+ghost use Rattle.dss_circuit.specs.Circuit.{empty_circuit};
+ghost use Rattle.dss_script.specs.Script.{Script, script_of};
+ghost use Rattle.dss_script.specs.Sessions.{GrowsSome, IsRead, remaining, room};
+ghost use Rattle.fd_app.specs.Ends.{AnswersAt, Asks, EndsAtRead, Prints};
+ghost use Rattle.fd_app.specs.Outcome.{IsOutcome, IsOutcomeOf, usage};
+ghost use Rattle.fd_app.specs.Run.{Due, OutcomesAreUnique, OutcomesExist, Runs};
+ghost use Rattle.fd_app.specs.Stream.{PrintsFault};
+ghost use Rattle.fd_app.specs.Words.{form_of};
 
-use crate::ending::{Ending, code};
-use crate::report::{Report, read_fault, script_report, usage};
+use crate::ending::Ending;
+use crate::faults::script_cause;
+use crate::print::{WANT_OF_MEMORY, print};
+use crate::records::{read_fault, script_fault, usage};
+use crate::step::take_command;
 use crate::words::solved_file;
-use fd_outside::{LibFault, Library, Sink, SinkFault, emit};
-use std::alloc::{AllocError, Global};
+use dss_circuit::{Circuit, ElementName};
+use dss_ready::Mention;
+use dss_script::{Session, SessionFault};
+use fd_outside::{Library, Sink};
+use std::alloc::Global;
 
-const WANT_OF_MEMORY: u8 = 1;
-
-const WRITE_FAULT: u8 = 5;
-
-// Prints a report, if there was memory for it.
-fn print<S: Sink>(alloc: Global, report: Result<Report, AllocError>, out: &mut S) -> u8
-    ensures prints { (outcome : Outcome) → IfOk report (Shows outcome) → Prints S.taken S.calls out.old out.new result outcome }
-    ensures ending { IfOk report (λ r. (result ≡ code_of r.ending) ⊎ CutsShort result) }
-    ensures whole { (outcome : Outcome) → IfOk report (Shows outcome) → result ≡ 4 → Takes S.taken S.calls out.old out.new (texts_of outcome) }
-    ensures memory { OnErr report (result ≡ want_of_memory) }
-    ensures nothing { OnErr report (S.taken out.new ≡ S.taken out.old) }
-    ensures write { result ≡ 5 → Rose (S.faults out.old) (S.faults out.new) }
-{
-    let Ok(report) = report else {
-        return WANT_OF_MEMORY;
-    };
-    match emit(alloc, report.records.as_slice(), out) {
-        Ok(()) => code(report.ending),
-        Err(SinkFault::Failed) => WRITE_FAULT,
-        Err(SinkFault::NoMemory) => WANT_OF_MEMORY,
-    }
-}
-
-// Reads the file, and prints what it makes.
-fn solve<L: Library, S: Sink>(alloc: Global, file: &str, lib: &mut L, out: &mut S) -> u8
-    ensures told { (files : Files) → L.holds lib.old ≡ Some files → (fails : Option ℕ)
-        × HasReadCause (L.faults lib.old) (L.faults lib.new) fails
-        × Reports S.taken S.calls out.old out.new result (held_feeder (held files file.now)) (solve_outcome file.now (held files file.now) fails) }
-    ensures asked { Asks (L.asked lib.old) (L.asked lib.new) (file.now ∷ []) }
-    ensures read { result ≡ 4 → Rose (L.faults lib.old) (L.faults lib.new) }
-    ensures last { result ≡ 4 → Becomes (L.asked lib.old) (L.asked lib.new) (λ before. before ++ file.now ∷ []) }
-    ensures shown { result ≡ 4 → Takes S.taken S.calls out.old out.new (texts_of (read_fault file.now)) }
+// Prints why the script gives no command.
+fn print_fault<S: Sink>(alloc: Global, fault: &SessionFault, out: &mut S) -> u8
+    ensures prints { PrintsFault S.taken S.calls out.old out.new result fault.now }
+    ensures read { result ≡ 4 → IsRead {X = Unit} (Err fault.now) }
     ensures write { result ≡ 5 → Rose (S.faults out.old) (S.faults out.new) }
     ensures usage { result ≡ 2 → ⊥ }
 {
-    match lib.read(alloc, file) {
-        Ok(found) => print(alloc, script_report(alloc, file, &found), out),
-        Err(LibFault::Failed) => print(alloc, read_fault(alloc, file), out),
-        Err(LibFault::NoMemory) => WANT_OF_MEMORY,
+    match fault {
+        SessionFault::Script { place, cause } => print(
+            alloc,
+            script_fault(alloc, place, script_cause(*cause)),
+            Ending::ScriptFault,
+            out,
+        ),
+        SessionFault::Read { name } => print(
+            alloc,
+            read_fault(alloc, name),
+            Ending::ReadFault,
+            out,
+        ),
+        SessionFault::Ended | SessionFault::NoMemory => WANT_OF_MEMORY,
+    }
+}
+
+fn end_at_fault<S: Sink>(alloc: Global, fault: SessionFault, out: &mut S) -> u8
+    ensures prints { PrintsFault S.taken S.calls out.old out.new result fault }
+    ensures read { result ≡ 4 → IsRead {X = Unit} (Err fault) }
+    ensures write { result ≡ 5 → Rose (S.faults out.old) (S.faults out.new) }
+    ensures usage { result ≡ 2 → ⊥ }
+{
+    print_fault(alloc, &fault, out)
+}
+
+// Does the commands of a script in order, and prints each before the next is read.
+fn run_script<L: Library, S: Sink>(
+    alloc: Global,
+    session: &mut Session,
+    lib: &mut L,
+    out: &mut S,
+) -> u8
+    requires room { room session.old ≤ 1_048_578 }
+    ensures run { (files : Files) → L.holds lib.old ≡ Some files →
+        Runs L.faults L.asked lib.old lib.new S.taken S.calls out.old out.new result
+        (λ fails outcome. IsOutcome ⟦<ElementName as PartialEq>⟧.eq ⟦<Mention as PartialEq>⟧.eq (remaining files session.old) fails empty_circuit outcome) }
+    ensures read { result ≡ 4 → Rose (L.faults lib.old) (L.faults lib.new) }
+    ensures asks { GrowsSome (L.asked lib.old) (L.asked lib.new) }
+    ensures last { result ≡ 4 → EndsAtRead L.asked lib.old lib.new S.taken S.calls out.old out.new }
+    ensures write { result ≡ 5 → Rose (S.faults out.old) (S.faults out.new) }
+    ensures usage { result ≡ 2 → ⊥ }
+{
+    let mut circuit = Circuit::empty(alloc);
+    loop {
+        match session.next(alloc, lib) {
+            Ok(Some(command)) => {
+                if let Some(status) = take_command(alloc, &mut circuit, command, out) {
+                    return status;
+                }
+            }
+            Ok(None) => return 0,
+            Err(fault) => return end_at_fault(alloc, fault, out),
+        }
+    }
+}
+
+// Reads the script of this name, and does its commands.
+fn solve<L: Library, S: Sink>(alloc: Global, file: &str, lib: &mut L, out: &mut S) -> u8
+    ensures run { (files : Files) → L.holds lib.old ≡ Some files →
+        Runs L.faults L.asked lib.old lib.new S.taken S.calls out.old out.new result
+        (λ fails outcome. IsOutcome ⟦<ElementName as PartialEq>⟧.eq ⟦<Mention as PartialEq>⟧.eq (script_of files (chars file.now)) fails empty_circuit outcome) }
+    ensures read { result ≡ 4 → Rose (L.faults lib.old) (L.faults lib.new) }
+    ensures asks { GrowsSome (L.asked lib.old) (L.asked lib.new) }
+    ensures last { result ≡ 4 → EndsAtRead L.asked lib.old lib.new S.taken S.calls out.old out.new }
+    ensures write { result ≡ 5 → Rose (S.faults out.old) (S.faults out.new) }
+    ensures usage { result ≡ 2 → ⊥ }
+{
+    match Session::open(alloc, file) {
+        Ok(mut session) => run_script(alloc, &mut session, lib, out),
+        Err(_) => WANT_OF_MEMORY,
     }
 }
 
 /// Does what the words say, and answers the exit status: 0 where it is done, 1 for want of memory, 2 where the words are no form of
 /// the command line, 3 where the script is refused, 4 where a read failed and 5 where a write failed.
 ///
-/// The words are those after the program's name. `solve FILE` reads the script and prints its solution. Each record is handed to the
-/// sink by one write.
+/// The words are those after the program's name. `solve FILE` does the commands of the script of that name, and prints a solution at
+/// each Solve before the next command is read. Each record is handed to the sink by one write. A refusal is printed with its file, its
+/// line and its cause, a failed read with the file's name.
 pub fn run<L: Library, S: Sink>(alloc: Global, words: &[String], lib: &mut L, out: &mut S) -> u8
-    // What is printed is the outcome of the words over the files held, whole or cut short by want of memory or a failed write, and
-    // each printed state meets the scripted feeder's equations within the printed mismatches.
+    // What is printed is an outcome of the words over the files held, whole or cut short by want of memory or a failed write; a read
+    // fails in it only where the count of faults rose; the names asked are those of the outcome, in order; and each of its states meets
+    // its circuit's equations within the printed mismatches.
     ensures run { (files : Files) → L.holds lib.old ≡ Some files →
-        IsRun S.taken S.calls out.old out.new (L.faults lib.old) (L.faults lib.new) result files (map string_bytes words.now) }
-    ensures asks { Asks (L.asked lib.old) (L.asked lib.new) (names_of (form_of (map string_bytes words.now))) }
+        Runs L.faults L.asked lib.old lib.new S.taken S.calls out.old out.new result
+        (λ fails outcome. IsOutcomeOf ⟦<ElementName as PartialEq>⟧.eq ⟦<Mention as PartialEq>⟧.eq files (map string_bytes words.now) fails outcome) }
 
-    // Usage comes exactly where the words are no form.
+    // Whatever the library tells of what it holds, names are only added to those asked.
+    ensures asks { GrowsSome (L.asked lib.old) (L.asked lib.new) }
+
+    // Usage comes exactly where the words are no form, and then no file is asked for.
     ensures usage { result ≡ 2 → form_of (map string_bytes words.now) ≡ None }
     ensures no_form { form_of (map string_bytes words.now) ≡ None → Prints S.taken S.calls out.old out.new result usage }
+    ensures asks_nothing { form_of (map string_bytes words.now) ≡ None → Asks (L.asked lib.old) (L.asked lib.new) [] }
 
-    // A script error comes exactly where the outcome ends with one.
+    // A script error comes exactly where one is due, unless the outcome is cut short or a read fails.
     ensures script { result ≡ 3 → (files : Files) → L.holds lib.old ≡ Some files →
-        (outcome_of files (map string_bytes words.now) None).ending ≡ Ending.ScriptFault }
+        Due ⟦<ElementName as PartialEq>⟧.eq ⟦<Mention as PartialEq>⟧.eq files (map string_bytes words.now) Ending.ScriptFault }
     ensures is_script { (files : Files) → L.holds lib.old ≡ Some files →
-        (outcome_of files (map string_bytes words.now) None).ending ≡ Ending.ScriptFault → AnswersAt 3 result }
+        Due ⟦<ElementName as PartialEq>⟧.eq ⟦<Mention as PartialEq>⟧.eq files (map string_bytes words.now) Ending.ScriptFault → AnswersAt 3 result }
 
-    // A fault is answered only where its count rose, and the name printed is the one asked last.
+    // A fault is answered only where its count rose. Where a read failed, its record is the last, and names the file asked last.
     ensures read { result ≡ 4 → Rose (L.faults lib.old) (L.faults lib.new) }
-    ensures last { result ≡ 4 → Becomes (L.asked lib.old) (L.asked lib.new)
-        (λ before. before ++ names_of (form_of (map string_bytes words.now))) }
-    ensures shown { (file : List ℕ) → form_of (map string_bytes words.now) ≡ Some (Solve file) → result ≡ 4 →
-        Takes S.taken S.calls out.old out.new (texts_of (read_fault file)) }
+    ensures last { result ≡ 4 → EndsAtRead L.asked lib.old lib.new S.taken S.calls out.old out.new }
     ensures write { result ≡ 5 → Rose (S.faults out.old) (S.faults out.new) }
 
-    // A script of the form is solved where no count rises.
-    ensures complete { (files : Files) (first : First) → L.holds lib.old ≡ Some files →
-        scripted files (form_of (map string_bytes words.now)) ≡ Some first →
+    // What is due to be done is done where no count rises, but for want of memory.
+    ensures complete { (files : Files) → L.holds lib.old ≡ Some files →
+        Due ⟦<ElementName as PartialEq>⟧.eq ⟦<Mention as PartialEq>⟧.eq files (map string_bytes words.now) Ending.Done →
         (Rose (L.faults lib.old) (L.faults lib.new) → ⊥) → (Rose (S.faults out.old) (S.faults out.new) → ⊥) →
         (result ≡ 0) ⊎ (result ≡ 1) }
 {
     match solved_file(words) {
-        None => print(alloc, usage(alloc), out),
+        None => print(alloc, usage(alloc), Ending::Usage, out),
         Some(file) => solve(alloc, file, lib, out),
     }
 }
+
+/// A law: words have one outcome at most that is followed to its end, for the same files and the same failing read. Does nothing.
+#[tactic(auto, using(crate::proofs::Statuses::unique))]
+pub fn outcomes_are_unique()
+    ensures { OutcomesAreUnique }
+{}
+
+/// A law: words have an outcome that is followed to its end, whatever files there are and whichever read fails, if one does. By
+/// `outcomes_are_unique` it is the only one. Does nothing.
+#[tactic(auto, using(crate::proofs::Exists::exist))]
+pub fn outcomes_exist()
+    ensures { OutcomesExist }
+{}

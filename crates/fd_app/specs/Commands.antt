@@ -1,0 +1,97 @@
+-- What a command comes to.
+use Rattle.std.specs.Prelude.{◌≡◌, ℕ, ◌&&◌, Bool, true, false, nat_eq, List, codes, Result, Ok, Err, if◌then◌else◌}
+use Rattle.std.specs.List.{list_any, starts_with}
+use Rattle.std.specs.Cmp.Lexicographic.{pointwise}
+use Rattle.dss_lexer.specs.declared.pair.Pair.{Pair}
+use Rattle.dss_values.specs.declared.fault.ModelFault.{ModelFault}
+use Rattle.dss_values.specs.declared.words.Mode.{Mode}
+use Rattle.dss_values.specs.declared.words.Mode.TheVariants as mode
+use Rattle.dss_values.specs.Names.{bytes, lower}
+use Rattle.dss_profile.specs.declared.command.Blame.{Blame}
+use Rattle.dss_profile.specs.declared.command.Command.{Command}
+use Rattle.dss_profile.specs.declared.command.Place.{Place}
+use Rattle.dss_profile.specs.declared.command.Verb.{Verb}
+use Rattle.dss_profile.specs.declared.command.Verb.TheVariants as verb
+use Rattle.dss_profile.specs.declared.names.ElementName.{ElementName}
+use Rattle.dss_ready.specs.declared.mention.Mention.{Mention}
+use Rattle.dss_ready.specs.Ready.{IsReady, IsToBlame, own_blame}
+use Rattle.dss_circuit.specs.Circuit.{CircuitView, applied}
+use Rattle.fd_app.specs.Causes.{model_cause, not_built}
+use Rattle.fd_app.specs.Shape.{Elements, shape_of}
+use Rattle.fd_app.specs.declared.shape.Shape.{Shape}
+
+-- a change of the circuit, a solution, or a refusal at a place for a cause
+pub data Step : Type 0 where
+  changes : CircuitView → Step
+  solves : Shape → CircuitView → Step
+  refuses : Place → List ℕ → Step
+
+-- ---- what is refused before it is applied: a load shape that is to be read from a file
+
+abbrev pub is_loadshape : List ℕ → Bool
+is_loadshape class = pointwise nat_eq (bytes (lower class)) (codes "loadshape")
+
+-- `mult=file=NAME`
+abbrev pub names_file : Pair → Bool
+names_file p = pointwise nat_eq (bytes (lower p.name)) (codes "mult") && starts_with nat_eq (bytes (lower p.value)) (codes "file=")
+
+abbrev pub reads_shape : Verb → Bool
+reads_shape (verb.New class name pairs) = is_loadshape class && list_any names_file pairs
+reads_shape (verb.Edit class name pairs) = is_loadshape class && list_any names_file pairs
+reads_shape other = false
+
+-- ---- what is refused once it is applied
+
+abbrev pub is_daily : Mode → Bool
+is_daily mode.Daily = true
+is_daily mode.Snapshot = false
+
+-- what is left to do of a command that the circuit accepted
+pub data Applied : Type 0 where
+  nothing_left : CircuitView → Applied
+  solve_left : CircuitView → Applied
+  refused_at : Place → List ℕ → Applied
+
+-- a Solve whose options the circuit has taken
+abbrev pub solve_by : Place → CircuitView → Applied
+solve_by place circuit = if is_daily circuit.options.mode then refused_at place not_built else solve_left circuit
+
+abbrev pub left_of : Place → Verb → Result CircuitView ModelFault → Applied
+left_of place v (Err cause) = refused_at place (model_cause cause)
+left_of place verb.Bases (Ok circuit) = refused_at place not_built
+left_of place (verb.Solve pairs) (Ok circuit) = solve_by place circuit
+left_of place v (Ok circuit) = nothing_left circuit
+
+abbrev pub tried : (ElementName → ElementName → Bool) → Command → CircuitView → Applied
+tried same command circuit = if reads_shape command.verb then refused_at command.place not_built else left_of command.place command.verb (applied same command circuit)
+
+-- ---- Solve
+
+-- an answer of the tests of Solve is right
+abbrev pub IsTested : Result Unit Blame → Elements → Result Unit Blame → Type 0
+IsTested own elements (Ok done) = IsReady own elements
+IsTested own elements (Err blame) = IsToBlame own elements blame
+
+abbrev pub by_shape : CircuitView → Result Shape Place → Step
+by_shape circuit (Ok shape) = solves shape circuit
+by_shape circuit (Err place) = refuses place not_built
+
+-- a circuit that passes the tests is solved where it is one source, one line and one load
+abbrev pub by_tests : Place → CircuitView → Result Unit Blame → Step
+by_tests place circuit (Err blame) = refuses blame.place (model_cause blame.cause)
+by_tests place circuit (Ok done) = by_shape circuit (shape_of place circuit.elements)
+
+module _ (same : ElementName → ElementName → Bool) (same_mention : Mention → Mention → Bool) where
+  pub record IsSolve (place : Place) (circuit : CircuitView) (step : Step) : Type 0 where
+    pub answer : Result Unit Blame
+    pub right : IsTested (own_blame same same_mention circuit.options.defaultbasefrequency circuit.elements) circuit.elements answer
+    pub step_is : step ≡ by_tests place circuit answer
+
+  abbrev pub IsStepOf : Place → Applied → Step → Type 0
+  IsStepOf place (nothing_left circuit) step = step ≡ changes circuit
+  IsStepOf place (refused_at at cause) step = step ≡ refuses at cause
+  IsStepOf place (solve_left circuit) step = IsSolve place circuit step
+
+  -- what a command comes to, for a circuit
+  abbrev pub IsStep : Command → CircuitView → Step → Type 0
+  IsStep command circuit step = IsStepOf command.place (tried same command circuit) step
