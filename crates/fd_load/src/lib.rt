@@ -1,0 +1,22 @@
+// The current that a load phase draws, and the slopes of its rows, rounded to whole numbers of 2^-40.
+//
+// It promises that each part of the current is the quotient of its numerator by the denominator of its model, in either
+// arithmetic: so it is nearest in `Fix`, and encloses the exact current of the system's part load in `Interval`. The
+// rounded slopes are those of `specs/Slopes.antt`, number for number, and at most of the stated sizes.
+//
+// Modules: `power` has the numerators and denominators, `currents` the current and the row of the magnitude, `rounding` the
+// quotients to the nearest, `slopes` the slopes, `laws` says that the current and that row are the system's.
+#![tactic(auto)]
+
+mod currents;
+mod laws;
+mod power;
+mod rounding;
+mod slopes;
+
+pub use currents::{current, magnitude_row};
+pub use laws::{current_law, magnitude_law};
+pub use slopes::{SlopeRow, Slopes, rounded_slopes};
+
+#[cfg(test)]
+mod tests;
