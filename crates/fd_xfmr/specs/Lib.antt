@@ -1,0 +1,3 @@
+pub mod Windings
+pub mod Leakage
+pub mod Transformer
