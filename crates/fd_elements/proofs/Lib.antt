@@ -1,0 +1,5 @@
+pub mod Quotients
+pub mod Given
+pub mod Reactive
+pub mod Answers
+pub mod Products

@@ -1,0 +1,10 @@
+use Rattle.std.proofs.Common.{◌*◌, ◌^◌, arith}
+use Rattle.std.proofs.lemmas.Int.{ints}
+use Rattle.fd_elements.proofs.volts.part_over_root_three.Goals as goal
+
+pub returns-clause-most : goal.returns-clause-most
+returns-clause-most c =
+    let within = c.product.ensures.most in
+    let most = c.nearest.ensures.most (2 * 10 ^ 12) (omega (arith, ints, within.0, within.1)) in
+    let sign = c.nearest.ensures.sign (omega (arith, ints, within.0, within.1)) in
+    (omega (arith, ints, sign, most), omega (arith, ints, sign, most))

@@ -1,0 +1,6 @@
+pub mod Volts
+pub mod Lines
+pub mod Sources
+pub mod Powers
+pub mod Loads
+pub mod Laws

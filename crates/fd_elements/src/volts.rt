@@ -1,0 +1,52 @@
+// Voltages of phases, in whole microvolts.
+ghost use Rattle.std.specs.Prelude.{◌≡◌, ℕ, ◌*◌, ◌^◌, ℤ, pos, ◌*ℤ◌, ◌≤ℤ◌};
+ghost use Rattle.fd_line.specs.Totals.{UpTo};
+ghost use Rattle.fd_elements.specs.Volts.{over_root_three as volts_over_root_three, part_of as volts_part, part_over_root_three as volts_part_over_root_three};
+
+use crate::rounding::nearest;
+
+// root three, in 10^-15
+const ROOT_THREE: u128 = 1_732_050_807_568_877;
+
+/// A voltage between phases as that of a phase.
+pub fn over_root_three(volts: i128) -> i128
+    requires least { pos (10 ^ 7) ≤ℤ volts }
+    requires most { volts ≤ℤ pos (10 ^ 12) }
+    ensures value { result ≡ volts_over_root_three volts }
+    ensures least { pos (5 * 10 ^ 6) ≤ℤ result }
+    ensures most { result ≤ℤ pos (10 ^ 12) }
+{
+    nearest(volts * 1_000_000_000_000_000, ROOT_THREE)
+}
+
+/// A part, in 10^-9, of a voltage.
+pub fn part_of(part: i128, volts: i128) -> i128
+    requires part { UpTo (2 * 10 ^ 9) part }
+    requires volts { UpTo (10 ^ 12) volts }
+    ensures value { result ≡ volts_part part volts }
+    ensures sign { pos 0 ≤ℤ result }
+    ensures most { (q : ℕ) → (part *ℤ volts) ≤ℤ pos (q * 10 ^ 9) → result ≤ℤ pos q }
+    ensures least { (q : ℕ) → pos (q * 10 ^ 9) ≤ℤ (part *ℤ volts) → pos q ≤ℤ result }
+{
+    nearest(part * volts, 1_000_000_000)
+}
+
+/// A part, in 10^-9, of a voltage between phases, as that of a phase.
+pub fn part_over_root_three(part: i128, volts: i128) -> i128
+    requires part { UpTo (2 * 10 ^ 9) part }
+    requires volts { UpTo (10 ^ 12) volts }
+    ensures value { result ≡ volts_part_over_root_three part volts }
+    ensures most { UpTo (2 * 10 ^ 12) result }
+{
+    nearest(product(part, volts) * 1_000_000, ROOT_THREE)
+}
+
+// A part times a voltage.
+fn product(part: i128, volts: i128) -> i128
+    requires part { UpTo (2 * 10 ^ 9) part }
+    requires volts { UpTo (10 ^ 12) volts }
+    ensures value { result ≡ part *ℤ volts }
+    ensures most { UpTo (2 * 10 ^ 9 * 10 ^ 12) result }
+{
+    part * volts
+}
