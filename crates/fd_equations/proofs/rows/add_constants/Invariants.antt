@@ -1,0 +1,7 @@
+use Rattle.std.proofs.Common.{◌≡◌, take}
+use Rattle.std.specs.List.{fold}
+use Rattle.fd_system.specs.Residual.{constant_added}
+use Rattle.fd_equations.proofs.rows.add_constants.Given as goal
+
+abbrev pub invariant-loop-constant : goal.invariant-loop-constant
+invariant-loop-constant l = l.rows ≡ fold constant_added l.initial.rows (take l.constant-index l.constants)

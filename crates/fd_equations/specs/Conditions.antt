@@ -1,0 +1,55 @@
+-- What a network asks of its parts, and its calls of a point.
+use Rattle.std.specs.Prelude.{◌≡◌, ℕ, ◌+◌, ◌*◌, ◌^◌, ◌<◌, ◌≤◌, ℤ, pos, neg_ℤ, ◌≤ℤ◌, nat_abs, List, length}
+use Rattle.fd_exact.specs.States.{part}
+use Rattle.std.specs.List.{All}
+use Rattle.fd_arith.specs.declared.terms.Term.{Term}
+use Rattle.fd_system.specs.declared.constants.Constant.{Constant}
+use Rattle.fd_system.specs.declared.loads.LoadAt.{LoadAt}
+use Rattle.fd_system.specs.Contributions.{AreSmall, IsWithin}
+use Rattle.fd_system.specs.Residual.{IsTerm}
+use Rattle.fd_equations.specs.Coefficients.{linear_entry}
+use Rattle.fd_equations.specs.Views.{NetworkView}
+
+-- a contribution to a network of this size: its place is inside, and it is at most 2^54 in units of 2^-40
+pub record IsLinear (size : ℕ) (t : Term) : Type 0 where
+  pub term : IsTerm size t
+  pub within : IsWithin t
+
+-- contributions to a network of this size, fewer than 2^24
+pub record AreLinear (size : ℕ) (ts : List Term) : Type 0 where
+  pub each : All (IsLinear size) ts
+  pub few : length ts < 2 ^ 24
+
+-- a constant of a network of this size is at most 2^60 in size
+pub record IsKnown (size : ℕ) (c : Constant) : Type 0 where
+  pub row : c.row < size
+  pub least : neg_ℤ (pos (2 ^ 60)) ≤ℤ c.value
+  pub most : c.value ≤ℤ pos (2 ^ 60)
+
+-- a load of constant impedance, which stands in the contributions
+abbrev pub IsImpedance : LoadAt → Type 0
+IsImpedance u = u.load.model ≡ 2
+
+-- the condition on a network
+pub record IsNetwork (v : NetworkView) : Type 0 where
+  pub small : v.size ≤ 2 ^ 11
+  pub terms : AreLinear v.size v.share.terms
+  -- the sum at each place is at most 2^54 in units of 2^-40
+  pub entries : (row col : ℕ) → AreSmall (linear_entry v.share.terms row col)
+  pub constants : All (IsKnown v.size) v.share.constants
+  pub few_constants : length v.share.constants < 2 ^ 24
+  pub loads : All IsImpedance v.share.loads
+  pub draw : 16 * v.draw + 10 ^ 6 ≤ 2 ^ 65
+
+-- a part of a point is at most 2^40 in size
+abbrev pub IsPart : ℤ → Type 0
+IsPart z = (neg_ℤ (pos (2 ^ 40)) ≤ℤ z) × (z ≤ℤ pos (2 ^ 40))
+
+-- a point of a network: a part for each unknown
+pub record IsPoint (v : NetworkView) (x : List ℤ) : Type 0 where
+  pub long : length x ≡ v.size
+  pub parts : All IsPart x
+
+-- sums of constants: each is at most 2^84 in size
+abbrev pub AreKnown : List ℤ → Type 0
+AreKnown rows = (row : ℕ) → nat_abs (part rows row) ≤ 2 ^ 84

@@ -1,0 +1,39 @@
+-- What contracts see of a network, and where its unknowns stand.
+use Rattle.std.specs.Prelude.{ℕ, ◌+◌, ◌*◌, nat_lt, if◌then◌else◌, List}
+use Rattle.fd_arith.specs.declared.terms.Term.{Term}
+use Rattle.fd_system.specs.declared.constants.Constant.{Constant}
+use Rattle.fd_system.specs.declared.loads.LoadAt.{LoadAt}
+use Rattle.fd_system.specs.System.{Share}
+use Rattle.fd_equations.specs.declared.layout.Layout.{Layout}
+use Rattle.fd_equations.specs.declared.layout.PlaceKind.{PlaceKind}
+use Rattle.fd_equations.specs.declared.layout.PlaceKind.TheVariants.{Node, Branch, Magnitude}
+
+-- `size` real unknowns: two parts for each of the complex ones, of which the first are nodes and the others branches, then the
+-- magnitudes. `draw` is what load and capacitor phases draw at nominal voltage, in whole microamperes
+pub record NetworkView : Type 0 where
+  pub size : ℕ
+  pub complexes : ℕ
+  pub nodes : ℕ
+  pub share : Share
+  pub draw : ℕ
+
+-- the share of these lists
+abbrev pub share_with : List Constant → List Term → List LoadAt → Share
+share_with cs ts us = record { constants = cs; terms = ts; loads = us }
+
+-- the network of a layout
+abbrev pub network_of : Layout → Share → ℕ → NetworkView
+network_of l s d = record {
+  size = 2 * (l.nodes + l.branches) + l.magnitudes;
+  complexes = l.nodes + l.branches;
+  nodes = l.nodes;
+  share = s;
+  draw = d;
+}
+
+-- what the unknown at a place is, where branches begin at one place and magnitudes at another
+abbrev pub kind_in : ℕ → ℕ → ℕ → PlaceKind
+kind_in branches magnitudes place = (if nat_lt place branches then Node else if nat_lt place magnitudes then Branch else Magnitude)
+
+abbrev pub kind_of : NetworkView → ℕ → PlaceKind
+kind_of v place = kind_in (2 * v.nodes) (2 * v.complexes) place

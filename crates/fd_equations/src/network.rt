@@ -1,0 +1,188 @@
+// A network's rows.
+ghost use Rattle.std.specs.Prelude.{◌≡◌, ℕ, ◌+◌, ◌*◌, ◌<◌, ◌≤◌, ◌^◌, ℤ, pos, neg_ℤ, nat_abs, ◌≤ℤ◌, IfOk, List, length, get_or, None, All};
+ghost use Rattle.fd_exact.specs.States.{part};
+ghost use Rattle.fd_arith.specs.Interval.{Holds};
+ghost use Rattle.fd_mat.specs.Rows.{EntriesWithin};
+ghost use Rattle.fd_system.specs.Contributions.{AreSmall};
+ghost use Rattle.fd_system.specs.System.{residual_of};
+ghost use Rattle.fd_system.specs.Residual.{whole_state};
+ghost use Rattle.fd_equations.specs.Coefficients.{count_at, linear_entry, row_count};
+ghost use Rattle.fd_equations.specs.Conditions.{IsImpedance, IsKnown, IsPoint};
+ghost use Rattle.fd_equations.specs.Enclosure.{EndsWithin, interval_residual_of};
+ghost use Rattle.fd_equations.specs.Rounded.{constants_of, jacobian_of, rounded_residual_of, start_matrix_of};
+ghost use Rattle.fd_equations.specs.Views.{kind_of, network_of, share_with};
+ghost use Rattle.fd_equations.specs.Weights.{weights_of};
+
+use crate::constants::constant_sums;
+use crate::rows::linear_rows;
+use crate::weights::weights;
+use crate::{Coefficients, Layout, PlaceKind};
+use fd_arith::{Interval, Micro, Term};
+use fd_mat::Dense;
+use fd_system::{Constant, LoadAt};
+use std::alloc::{AllocError, Global};
+use std::marker::Model;
+
+/// The rows of a network. Unknowns and rows stand in the same order: the nodes, the branches, then the magnitudes, as `Layout` says.
+/// Rows of nodes and of branches are in whole microamperes and microvolts, and so are voltages and currents.
+#[derive(Drop)]
+pub struct Network {
+    layout: Layout,
+    coefficients: Coefficients,
+    constants: Vec<Constant>,
+    loads: Vec<LoadAt>,
+    draw: u128,
+}
+
+impl Model for Network {
+    ghost use Rattle.std.specs.Prelude.{◌≡◌};
+    ghost use Rattle.fd_equations.specs.Conditions.{IsNetwork};
+    ghost use Rattle.fd_equations.specs.Views.{NetworkView, network_of, share_with};
+
+    ghost Value = { NetworkView };
+
+    ghost view = { λ n. network_of n.layout (share_with n.constants.items n.coefficients.terms n.loads.items) n.draw };
+
+    ghost invariant = { λ n. IsNetwork (network_of n.layout (share_with n.constants.items n.coefficients.terms n.loads.items) n.draw) × (n.coefficients.size ≡ (network_of n.layout (share_with n.constants.items n.coefficients.terms n.loads.items) n.draw).size) };
+}
+
+impl Network {
+    /// The network of these rows. `coefficients` has the contributions, in which loads of constant impedance stand;
+    /// `draw` is the sum of (abs P + abs Q) 10^9 / Vn over load phases and of Q 10^9 / V over closed capacitor phases, each rounded
+    /// up, in whole microamperes. Takes no memory.
+    pub fn new(
+        layout: Layout,
+        coefficients: Coefficients,
+        constants: Vec<Constant>,
+        loads: Vec<LoadAt>,
+        draw: u128,
+    ) -> Network
+        requires small { 2 * (layout.nodes + layout.branches) + layout.magnitudes ≤ 2 ^ 11 }
+        requires size { coefficients.size ≡ 2 * (layout.nodes + layout.branches) + layout.magnitudes }
+        requires entries { (row col : ℕ) → AreSmall (linear_entry coefficients.terms row col) }
+        requires constants { All (IsKnown coefficients.size) constants.items }
+        requires few_constants { length constants.items < 2 ^ 24 }
+        requires loads { All IsImpedance loads.items }
+        requires draw { 16 * draw + 10 ^ 6 ≤ 2 ^ 65 }
+        ensures { result ≡ network_of layout (share_with constants.items coefficients.terms loads.items) draw }
+    {
+        Network {
+            layout,
+            coefficients,
+            constants,
+            loads,
+            draw,
+        }
+    }
+
+    /// How many real unknowns there are, and how many rows.
+    pub fn size(&self) -> u32
+        ensures size { result ≡ self.now.size }
+        ensures small { result ≤ 2 ^ 11 }
+    {
+        self.coefficients.size()
+    }
+
+    /// What the unknown at a place is.
+    pub fn kind(&self, place: u32) -> PlaceKind
+        requires { place < self.now.size }
+        ensures { result ≡ kind_of self.now place }
+    {
+        self.layout.kind(place)
+    }
+
+    /// How many contributions of the Jacobian stand in a row and a column.
+    pub fn count(&self, row: u32, col: u32) -> u32
+        ensures { result ≡ count_at self.now.share.terms row col }
+    {
+        self.coefficients.count(row, col)
+    }
+
+    /// The contributions in order.
+    pub fn terms(&self) -> &[Term]
+        ensures { result.now ≡ self.now.share.terms }
+    {
+        self.coefficients.terms()
+    }
+
+    /// The part loads in order.
+    pub fn loads(&self) -> &[LoadAt]
+        ensures { result.now ≡ self.now.share.loads }
+    {
+        self.loads.as_slice()
+    }
+
+    /// The residual of each row at the point x, in intervals of whole micro-units. Each holds the exact residual, and its ends are at
+    /// most the residual's size and two more for each contribution to the row; none is ALL.
+    ///
+    /// # Errors
+    /// `AllocError` where the memory for the rows is refused.
+    pub fn residual(&self, alloc: Global, x: &[i128]) -> Result<Vec<Interval<Micro>>, AllocError>
+        requires { IsPoint self.now x.now }
+        ensures rows { IfOk result (λ rows. rows.items ≡ interval_residual_of self.now x.now) }
+        ensures holds { IfOk result (λ rows. (l : ℕ) → l < self.now.size → Holds (get_or rows.items l None) (residual_of self.now.share (whole_state x.now) l)) }
+        ensures near { IfOk result (λ rows. (l : ℕ) → l < self.now.size → EndsWithin (get_or rows.items l None) (residual_of self.now.share (whole_state x.now) l) (2 * row_count self.now.share.terms l)) }
+    {
+        linear_rows(alloc, &self.constants, self.coefficients.terms(), x)
+    }
+
+    /// The sum of the constants of each row, in whole micro-units.
+    ///
+    /// # Errors
+    /// `AllocError` where the memory for the rows is refused.
+    pub fn constants(&self, alloc: Global) -> Result<Vec<i128>, AllocError>
+        ensures sums { IfOk result (λ rows. rows.items ≡ constants_of self.now) }
+        ensures small { IfOk result (λ rows. (l : ℕ) → nat_abs (part rows.items l) ≤ 2 ^ 84) }
+    {
+        constant_sums(alloc, self.size(), &self.constants)
+    }
+
+    /// The rounded residual of each row at the point x, in whole micro-units.
+    ///
+    /// # Errors
+    /// `AllocError` where the memory for the rows is refused.
+    pub fn rounded_residual(&self, alloc: Global, x: &[i128]) -> Result<Vec<i128>, AllocError>
+        requires { IsPoint self.now x.now }
+        ensures rows { IfOk result (λ rows. rows.items ≡ rounded_residual_of self.now x.now) }
+        ensures small { IfOk result (λ rows. (l : ℕ) → nat_abs (part rows.items l) ≤ 2 ^ 85) }
+    {
+        let mut rows = self.constants(alloc)?;
+        self.coefficients.add_products(&mut rows, x);
+        Ok(rows)
+    }
+
+    /// The matrix of which the first inverse is made, in units of 2^-40.
+    ///
+    /// # Errors
+    /// `AllocError` where the memory for the entries is refused.
+    pub fn start_matrix(&self, alloc: Global) -> Result<Dense, AllocError>
+        ensures entries { IfOk result (λ d. d ≡ start_matrix_of self.now) }
+        ensures small { IfOk result (λ d. EntriesWithin d (2 ^ 54)) }
+    {
+        self.coefficients.to_dense(alloc)
+    }
+
+    /// The rounded Jacobian at the point x, in units of 2^-40.
+    ///
+    /// # Errors
+    /// `AllocError` where the memory for the entries is refused.
+    pub fn rounded_jacobian(&self, alloc: Global, x: &[i128]) -> Result<Dense, AllocError>
+        requires { IsPoint self.now x.now }
+        ensures entries { IfOk result (λ d. d ≡ jacobian_of self.now x.now) }
+        ensures small { IfOk result (λ d. EntriesWithin d (2 ^ 54)) }
+    {
+        self.coefficients.to_dense(alloc)
+    }
+
+    /// The weight of each unknown at the point x, in whole micro-units: from 10^6 to 2^66.
+    ///
+    /// # Errors
+    /// `AllocError` where the memory for the weights is refused.
+    pub fn weights(&self, alloc: Global, x: &[i128]) -> Result<Vec<i128>, AllocError>
+        requires { IsPoint self.now x.now }
+        ensures weights { IfOk result (λ w. w.items ≡ weights_of self.now x.now) }
+        ensures range { IfOk result (λ w. (l : ℕ) → l < self.now.size → (pos (10 ^ 6) ≤ℤ part w.items l) × (part w.items l ≤ℤ pos (2 ^ 66))) }
+    {
+        weights(alloc, &self.layout, self.draw, x)
+    }
+}
