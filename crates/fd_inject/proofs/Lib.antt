@@ -1,0 +1,5 @@
+pub mod Search
+pub mod Sizes
+pub mod Limited
+pub mod Products
+pub mod Iterates

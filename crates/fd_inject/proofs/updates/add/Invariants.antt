@@ -1,0 +1,9 @@
+use Rattle.std.proofs.Common.{◌≡◌, ℕ, ◌<◌, ◌≤◌, ◌+ℤ◌}
+use Rattle.fd_exact.specs.States.{part}
+use Rattle.fd_inject.proofs.updates.add.Given as goal
+
+abbrev pub invariant-loop-k : goal.invariant-loop-k
+invariant-loop-k l = record {
+  done : (i : ℕ) → i < l.k → part l.x i ≡ (part l.initial.x i +ℤ part l.update i);
+  left : (i : ℕ) → l.k ≤ i → part l.x i ≡ part l.initial.x i;
+}

@@ -1,0 +1,5 @@
+pub mod Search
+pub mod Faults
+pub mod Ranges
+pub mod Updates
+pub mod Procedure

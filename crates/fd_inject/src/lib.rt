@@ -1,0 +1,24 @@
+// The procedure that finds a state of a network.
+//
+// `solve` gives the point of a network, or names the first fault: a matrix without an inverse, an iterate or a residual out of range,
+// or unknowns that still move after the steps that are allowed. The procedure is a definition, a fold over numbered steps, and `solve`
+// answers what it says, and nothing else but want of memory. No certificate rests on how a point was found.
+//
+// Modules: `limits`, how long and how far to iterate; `fault`, why there is no point; `ranges`, lists past a limit and matrices with
+// their inverse; `updates`, what an inverse gives for a residual; `steps`, one step and the end test; `procedure`, the start, the
+// steps in order, the second inverse and `solve`.
+#![tactic(auto)]
+
+mod fault;
+mod limits;
+mod procedure;
+mod ranges;
+mod steps;
+#[cfg(test)]
+mod tests;
+mod updates;
+
+pub use fault::SolveFault;
+pub use fd_inverse::Stop;
+pub use limits::Limits;
+pub use procedure::solve;
