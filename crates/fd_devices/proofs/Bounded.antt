@@ -1,0 +1,230 @@
+-- What a device adds is bounded: its contributions stand among the unknowns and are few, its constants are small, and so is what it draws.
+use Rattle.std.proofs.Common.{◌≡◌, ◌∙◌, ℕ, zero, suc, ◌+◌, ◌*◌, ◌%◌, ◌<◌, ◌≤◌, ◌^◌, inl, inr, ℤ, pos, negsuc, neg_ℤ, ◌*ℤ◌, ◌<ℤ◌, ◌≤ℤ◌, nat_abs, Bool, true, false, ◌&&◌, leb, cond, eqb, List, [], ◌∷◌, ◌++◌, length, length-append, get_or, arith, ap, sym, refl, subst, lit<, lit≤, ⊎_elim}
+use Rattle.std.specs.List.{All, flat_map}
+use Rattle.std.proofs.Math.Nat.{mul-le-mul, mul-le-mul_right}
+use Rattle.std.proofs.lemmas.Int.{ints, unsigned_abs-mul}
+use Rattle.std.proofs.lemmas.Bool.{cases_lt, eq-eqb, and_parts, leb-true}
+use Rattle.std.proofs.lemmas.List.Elements.{All-nil, All-cons, All-append, All-head, All-tail}
+use Rattle.fd_exact.specs.Rounding.{near_div}
+use Rattle.fd_exact.specs.Quotients.{ceil_nat_least}
+use Rattle.fd_exact.specs.Sums.{list_n}
+use Rattle.fd_arith.specs.declared.terms.Term.{Term}
+use Rattle.fd_arith.specs.declared.terms.Ends.{Ends}
+use Rattle.fd_system.specs.declared.loads.LoadAt.{LoadAt}
+use Rattle.fd_system.specs.Contributions.{IsDivided, IsWithin, each, stamp}
+use Rattle.fd_system.specs.Loads.{IsLoad, IsPlain, impedance_list, linear_list}
+use Rattle.fd_system.proofs.Divided.{stamp_divided}
+use Rattle.fd_line.specs.declared.data.LineData.{LineData}
+use Rattle.fd_line.specs.Totals.{IsLine, UpTo}
+use Rattle.fd_line.specs.Line.{line_list}
+use Rattle.fd_line.proofs.Line.{line_divided}
+use Rattle.fd_source.specs.declared.data.SourceData.{SourceData}
+use Rattle.fd_source.specs.Equations.{IsSource, constants_from, phase_constants, source_constants, source_list}
+use Rattle.fd_source.specs.Phasors.{cosine, cosines, steps_of, volts_im, volts_re}
+use Rattle.fd_source.proofs.Rows.{source_divided}
+use Rattle.fd_elements.proofs.Quotients.{near_most}
+use Rattle.fd_elements.specs.Loads.{IsPast, power_sum}
+use Rattle.fd_equations.specs.Conditions.{IsImpedance, IsKnown}
+use Rattle.fd_devices.specs.Devices.{source, line, loads, other, draw_of}
+use Rattle.fd_devices.specs.Building.{AreContributions, Fits, IsSettled, IsUsable}
+use Rattle.fd_devices.specs.Sound.{HasBranches, IsSideOf}
+use Rattle.fd_devices.proofs.Counting.{AreInside, StandsBelow, line_inside, loads_inside, more_room, none_inside, source_inside}
+
+contributions : (n b : ℕ) (ts : List Term) → AreInside n b ts → All IsDivided ts → All IsWithin ts → AreContributions n b ts
+contributions n b ts h d w = record { inside = h.inside; divided = d; within = w; few = h.few }
+
+-- ---- lines
+
+pub line_settled : (n : ℕ) (l : LineData) (at : Ends) → IsLine l → IsSideOf n l.phases at.first → IsSideOf n l.phases at.second → HasBranches n l.phases at → All IsWithin (line_list l at) → IsSettled n l.phases (line l at)
+line_settled n l at g first second branches w = record {
+  fits = record { terms = w; loads = All-nil (λ u. ¬ (IsPast u.load)) };
+  good = tt;
+  bounded = record {
+    terms = contributions n (64 * (1 + l.phases)) (line_list l at) (more_room n (l.phases * 64) (64 * (1 + l.phases)) (line_list l at) (omega arith) (line_inside n l at first.below second.below branches.below g.few)) (line_divided l at) w;
+    constants = All-nil (IsKnown (2 * n));
+    few_constants = omega arith;
+    loads = All-nil IsImpedance;
+    draw = omega arith;
+  };
+}
+
+-- ---- sources
+
+near_small : (z : ℤ) (d q : ℕ) → 0 < d → nat_abs z ≤ q * d → nat_abs (near_div z d) ≤ q
+near_small (pos a) d q h k = near_most a d q h k
+near_small (negsuc a) d q h k = let m = near_most (suc a) d q h k in omega (arith, ints)
+
+abbrev IsUnit : ℤ → Type 0
+IsUnit z = nat_abs z ≤ 10 ^ 15
+
+are_units : List ℤ → Bool
+are_units [] = true
+are_units (z ∷ zs) = leb (nat_abs z) (10 ^ 15) && are_units zs
+
+units_from : (zs : List ℤ) → are_units zs ≡ true → All IsUnit zs
+unfolding are_units
+units_from [] h = All-nil IsUnit
+units_from (z ∷ zs) h =
+    let both = and_parts (leb (nat_abs z) (10 ^ 15)) (are_units zs) h in
+    All-cons IsUnit z zs (leb-true (nat_abs z) (10 ^ 15) both.0) (units_from zs both.1)
+
+all_units : All IsUnit cosines
+unfolding are_units
+all_units = units_from cosines refl
+
+found_unit : (zs : List ℤ) (k : ℕ) → All IsUnit zs → IsUnit (get_or zs k (pos 0))
+found_unit [] k h = lit≤ tt
+found_unit (z ∷ zs) zero h = All-head IsUnit z zs h
+found_unit (z ∷ zs) (suc k) h = found_unit zs k (All-tail IsUnit z zs h)
+
+volts_small : (v : ℤ) (k : ℕ) → UpTo (2 * 10 ^ 12) v → nat_abs (near_div (v *ℤ cosine k) (10 ^ 15)) ≤ 2 * 10 ^ 12
+volts_small v k h =
+    let c = found_unit cosines (k % 12) all_units in
+    let size : nat_abs v ≤ 2 * 10 ^ 12 = omega (arith, ints, h.0, h.1) in
+    let m : nat_abs v * nat_abs (cosine k) ≤ 2 * 10 ^ 12 * 10 ^ 15 = mul-le-mul size c in
+    near_small (v *ℤ cosine k) (10 ^ 15) (2 * 10 ^ 12) (lit< tt) (subst (λ a. a ≤ 2 * 10 ^ 12 * 10 ^ 15) (sym (unsigned_abs-mul v (cosine k))) m)
+
+abbrev IsSmallVoltage : ℤ → Type 0
+IsSmallVoltage z = nat_abs z ≤ 2 * 10 ^ 12
+
+constants_small : (s : SourceData) → UpTo (2 * 10 ^ 12) s.volts → (n : ℕ) → All IsSmallVoltage (each (phase_constants s) n)
+constants_small s h zero = All-nil IsSmallVoltage
+constants_small s h (suc n) = All-append IsSmallVoltage (each (phase_constants s) n) (phase_constants s n) (constants_small s h n)
+    (All-cons IsSmallVoltage (volts_re s n) (volts_im s n ∷ []) (volts_small s.volts (steps_of s n) h) (All-cons IsSmallVoltage (volts_im s n) [] (volts_small s.volts (steps_of s n + 9) h) (All-nil IsSmallVoltage)))
+
+constants_length : (s : SourceData) (n : ℕ) → length (each (phase_constants s) n) ≡ 2 * n
+constants_length s zero = refl
+constants_length s (suc n) = length-append (each (phase_constants s) n) (phase_constants s n) ∙ omega (arith, constants_length s n)
+
+from_length : (row : ℕ) (vs : List ℤ) → length (constants_from row vs) ≡ length vs
+from_length row [] = refl
+from_length row (v ∷ vs) = ap suc (from_length (row + 1) vs)
+
+known_from : (m row : ℕ) (vs : List ℤ) → row + length vs ≤ m → All IsSmallVoltage vs → All (IsKnown m) (constants_from row vs)
+known_from m row [] h k = All-nil (IsKnown m)
+known_from m row (v ∷ vs) h k =
+    let size = All-head IsSmallVoltage v vs k in
+    All-cons (IsKnown m) _ (constants_from (row + 1) vs) (record { row = omega arith; least = omega (arith, ints, size); most = omega (arith, ints, size) })
+    (known_from m (row + 1) vs (omega arith) (All-tail IsSmallVoltage v vs k))
+
+pub source_settled : (n : ℕ) (s : SourceData) (at : Ends) → IsSource s → IsSideOf n s.phases at.first → HasBranches n s.phases at → All IsWithin (source_list s at) → IsSettled n s.phases (source s at)
+source_settled n s at g first branches w =
+    let count = constants_length s s.phases in
+    let rows = from_length (2 * at.branch) (source_constants s) in
+    let below = branches.below in
+    let few = g.few in
+    record {
+      fits = record { terms = w; loads = All-nil (λ u. ¬ (IsPast u.load)) };
+      good = tt;
+      bounded = record {
+        terms = contributions n (64 * (1 + s.phases)) (source_list s at) (more_room n (s.phases * 64) (64 * (1 + s.phases)) (source_list s at) (omega arith) (source_inside n s at first.below branches.below g.few)) (source_divided s at) w;
+        constants = known_from (2 * n) (2 * at.branch) (source_constants s) (omega arith) (constants_small s g.volts s.phases);
+        few_constants = omega arith;
+        loads = All-nil IsImpedance;
+        draw = omega arith;
+      };
+    }
+
+-- ---- loads
+
+pub is_load : (u : LoadAt) → IsUsable u → IsLoad u
+is_load u h =
+    let v = h.voltages in
+    record {
+      vn = omega (arith, ints, v.nominal_least);
+      low = omega (arith, ints, v.low_least);
+      order = omega (arith, ints, v.low_least, v.low_most, v.high_least);
+      plain = subst (λ (b : Bool). cond b (IsPlain u.magnitude) (Unit {0})) (sym (eq-eqb u.load.model 2 h.model)) (subst IsPlain (sym h.plain) tt);
+    }
+
+-- what a part load within its limit draws
+draw_small : (u : LoadAt) → IsUsable u → ¬ (IsPast u.load) → draw_of u ≤ 640000000000
+draw_small u h n =
+    let v = h.voltages in
+    let g = power_sum u.load in
+    let vn = nat_abs u.load.vn in
+    let lo = nat_abs u.load.vlo in
+    let least : 5 * 10 ^ 6 ≤ vn = omega (arith, ints, v.nominal_least) in
+    let order : lo ≤ vn = omega (arith, ints, v.low_least, v.low_most) in
+    let power : g ≤ 10 ^ 11 = ⊎_elim (λ p. absurd (n (inl p))) (λ q. q) (cases_lt (10 ^ 11) g) in
+    let siemens : g * 10 ^ 9 ≤ 2 ^ 12 * (lo * lo) = ⊎_elim (λ p. absurd (n (inr p))) (λ q. q) (cases_lt (2 ^ 12 * (lo * lo)) (g * 10 ^ 9)) in
+    let squares : lo * lo ≤ vn * vn = mul-le-mul order order in
+    let low : vn ≤ 156250000 → g * 10 ^ 9 ≤ 640000000000 * vn = λ k. let m : vn * vn ≤ 156250000 * vn = mul-le-mul_right vn k in omega arith in
+    let high : 156250000 < vn → g * 10 ^ 9 ≤ 640000000000 * vn = λ k. omega arith in
+    ceil_nat_least (g * 10 ^ 9) vn 640000000000 (omega arith) (⊎_elim high low (cases_lt 156250000 vn))
+
+draws_small : (us : List LoadAt) → All IsUsable us → All (λ u. ¬ (IsPast u.load)) us → list_n draw_of us ≤ 640000000000 * length us
+draws_small [] h n = omega arith
+draws_small (u ∷ us) h n =
+    let one = draw_small u (All-head IsUsable u us h) (All-head (λ w. ¬ (IsPast w.load)) u us n) in
+    let rest = draws_small us (All-tail IsUsable u us h) (All-tail (λ w. ¬ (IsPast w.load)) u us n) in
+    omega arith
+
+all_loads : (us : List LoadAt) → All IsUsable us → All IsLoad us
+all_loads [] h = All-nil IsLoad
+all_loads (u ∷ us) h = All-cons IsLoad u us (is_load u (All-head IsUsable u us h)) (all_loads us (All-tail IsUsable u us h))
+
+all_impedance : (us : List LoadAt) → All IsUsable us → All IsImpedance us
+all_impedance [] h = All-nil IsImpedance
+all_impedance (u ∷ us) h = All-cons IsImpedance u us (All-head IsUsable u us h).model (all_impedance us (All-tail IsUsable u us h))
+
+-- the square of a nominal voltage
+square_between : (z : ℤ) → pos (5 * 10 ^ 6) ≤ℤ z → z ≤ℤ pos (10 ^ 12) → (pos 0 <ℤ (z *ℤ z)) × ((z *ℤ z) ≤ℤ pos (10 ^ 32))
+square_between (pos m) h k =
+    let least : 1 ≤ m = omega (arith, ints, h) in
+    let most : m ≤ 10 ^ 12 = omega (arith, ints, k) in
+    let low : 1 * 1 ≤ m * m = mul-le-mul least least in
+    let high : m * m ≤ 10 ^ 12 * 10 ^ 12 = mul-le-mul most most in
+    (omega (arith, ints, low), omega (arith, ints, high))
+square_between (negsuc m) h k = absurd (omega (arith, ints, h))
+
+pub impedance_divided : (u : LoadAt) → IsUsable u → All IsDivided (impedance_list u)
+impedance_divided u h =
+    let a = pos (10 ^ 9) *ℤ u.load.p in
+    let b = pos (10 ^ 9) *ℤ u.load.q in
+    let d = u.load.vn *ℤ u.load.vn in
+    let v = h.voltages in
+    let between = square_between u.load.vn v.nominal_least v.nominal_most in
+    stamps a b d between.0 between.1
+  where
+    stamps : (a b d : ℤ) → pos 0 <ℤ d → d ≤ℤ pos (10 ^ 32) → All IsDivided ((stamp u.first u.first a (neg_ℤ b) d ++ stamp u.first u.second (neg_ℤ a) (neg_ℤ (neg_ℤ b)) d) ++ (stamp u.second u.first (neg_ℤ a) (neg_ℤ (neg_ℤ b)) d ++ stamp u.second u.second a (neg_ℤ b) d))
+    stamps a b d p m =
+        All-append IsDivided (stamp u.first u.first a (neg_ℤ b) d ++ stamp u.first u.second (neg_ℤ a) (neg_ℤ (neg_ℤ b)) d) _
+        (All-append IsDivided (stamp u.first u.first a (neg_ℤ b) d) _ (stamp_divided d p m u.first u.first a (neg_ℤ b)) (stamp_divided d p m u.first u.second (neg_ℤ a) (neg_ℤ (neg_ℤ b))))
+        (All-append IsDivided (stamp u.second u.first (neg_ℤ a) (neg_ℤ (neg_ℤ b)) d) _ (stamp_divided d p m u.second u.first (neg_ℤ a) (neg_ℤ (neg_ℤ b))) (stamp_divided d p m u.second u.second a (neg_ℤ b)))
+
+linear_divided : (u : LoadAt) → IsUsable u → (b : Bool) → All IsDivided (cond b (impedance_list u) [])
+linear_divided u h true = impedance_divided u h
+linear_divided u h false = All-nil IsDivided
+
+pub loads_divided : (us : List LoadAt) → All IsUsable us → All IsDivided (flat_map linear_list us)
+loads_divided [] h = All-nil IsDivided
+loads_divided (u ∷ us) h = All-append IsDivided (linear_list u) (flat_map linear_list us) (linear_divided u (All-head IsUsable u us h) (eqb u.load.model 2)) (loads_divided us (All-tail IsUsable u us h))
+
+pub loads_settled : (n : ℕ) (us : List LoadAt) → All IsUsable us → length us ≤ 3 → All (StandsBelow n) us → Fits (loads us) → IsSettled n 0 (loads us)
+loads_settled n us h few below f =
+    let draws = draws_small us h f.loads in
+    record {
+      fits = f;
+      good = all_loads us h;
+      bounded = record {
+        terms = contributions n 64 (flat_map linear_list us) (more_room n (length us * 16) 64 (flat_map linear_list us) (omega arith) (loads_inside n us below)) (loads_divided us h) f.terms;
+        constants = All-nil (IsKnown (2 * n));
+        few_constants = omega arith;
+        loads = all_impedance us h;
+        draw = omega arith;
+      };
+    }
+
+pub other_settled : (n : ℕ) → IsSettled n 0 other
+other_settled n = record {
+  fits = record { terms = All-nil IsWithin; loads = All-nil (λ u. ¬ (IsPast u.load)) };
+  good = tt;
+  bounded = record {
+    terms = contributions n 64 [] (more_room n 0 64 [] (omega arith) (none_inside n)) (All-nil IsDivided) (All-nil IsWithin);
+    constants = All-nil (IsKnown (2 * n));
+    few_constants = omega arith;
+    loads = All-nil IsImpedance;
+    draw = omega arith;
+  };
+}

@@ -1,0 +1,35 @@
+-- The share of each device has the rows of its equations, and so has the system of all.
+use Rattle.std.proofs.Common.{ℕ, ◌<◌, ℤ, List, [], ◌∷◌}
+use Rattle.std.specs.List.{All}
+use Rattle.std.proofs.lemmas.List.Elements.{All-nil, All-cons, All-head, All-tail}
+use Rattle.fd_exact.specs.FractionLaws.{Same-sym}
+use Rattle.fd_exact.specs.States.{State}
+use Rattle.fd_system.specs.Equations.{Part, equation}
+use Rattle.fd_system.specs.System.{Share, residual_of, Represents}
+use Rattle.fd_system.proofs.Shares.{term_share, no_parts, Represents-joined, Meets-Same}
+use Rattle.fd_system.proofs.LoadRows.{loads_represent}
+use Rattle.fd_line.specs.Line.{line_list, line_parts}
+use Rattle.fd_line.proofs.Line.{line_adds_up}
+use Rattle.fd_source.proofs.Rows.{source_represents}
+use Rattle.fd_devices.specs.Devices.{Device, source, line, loads, other, device_parts, device_share, IsGood, parts_of_all, share_of_all, AgreesWith, DeviceLaw}
+
+device_represents : (d : Device) → IsGood d → Represents (device_share d) (device_parts d)
+device_represents (source s at) g = source_represents s at
+device_represents (line l at) g = term_share (line_list l at) (line_parts l at) (line_adds_up l at)
+device_represents (loads us) g = loads_represent us g
+device_represents other g = λ x o l. no_parts
+
+all_represent : (ds : List Device) → All IsGood ds → All (λ d. Represents (device_share d) (device_parts d)) ds
+all_represent [] h = All-nil (λ d. Represents (device_share d) (device_parts d))
+all_represent (d ∷ ds) h = All-cons (λ e. Represents (device_share e) (device_parts e)) d ds (device_represents d (All-head IsGood d ds h)) (all_represent ds (All-tail IsGood d ds h))
+
+-- what represents meets the same numbers
+agreeing : (s : Share) (ps : State → List Part) → Represents s ps → AgreesWith s ps
+agreeing s ps r = record {
+  same = r;
+  up = λ e n x o. Meets-Same (residual_of s) (λ y l. equation l (ps y)) e n x (λ l. r x o l);
+  down = λ e n x o. Meets-Same (λ y l. equation l (ps y)) (residual_of s) e n x (λ l. Same-sym (r x o l));
+}
+
+pub devices_agree : DeviceLaw
+devices_agree ds h = agreeing (share_of_all ds) (parts_of_all ds) (Represents-joined device_share device_parts ds (all_represent ds h))

@@ -1,0 +1,10 @@
+use Rattle.std.proofs.Common.{◌≡◌, ◌*◌, ◌≤◌, ◌^◌, take}
+use Rattle.fd_exact.specs.Sums.{list_n}
+use Rattle.fd_devices.specs.Devices.{draw_of}
+use Rattle.fd_devices.proofs.phase_loads.total_draw.Given as goal
+
+abbrev pub invariant-loop-phase : goal.invariant-loop-phase
+invariant-loop-phase l = record {
+  value : l.total ≡ list_n draw_of (take l.phase-index l.phases);
+  most : l.total ≤ 2 ^ 100 * l.phase-index;
+}

@@ -1,0 +1,10 @@
+use Rattle.std.proofs.Common.{◌≡◌, ◌∙◌, Err, sym, subst, rules}
+use Rattle.std.specs.List.{All}
+use Rattle.fd_arith.specs.declared.terms.TermFault.TheVariants as fault
+use Rattle.fd_system.specs.Contributions.{IsWithin}
+use Rattle.fd_devices.proofs.Bounded.{line_settled}
+use Rattle.fd_devices.proofs.pieces.line_at.Goals as goal
+
+pub returns-clause-settled : goal.returns-clause-settled
+returns-clause-settled c = λ n first second branches.
+    line_settled n c.args.line.now c.args.at.now c.requires.line first second branches (subst (All IsWithin) c.in_ok-line_terms.ensures.list c.in_ok-line_terms.ensures.within)

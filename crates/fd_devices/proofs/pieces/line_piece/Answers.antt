@@ -1,0 +1,10 @@
+use Rattle.std.proofs.Common.{ℕ, subst}
+use Rattle.std.specs.Prelude.{IfOk}
+use Rattle.fd_devices.specs.Devices.{line}
+use Rattle.fd_devices.specs.Building.{IsSettled}
+use Rattle.fd_devices.specs.Sound.{HasBranches, IsSideOf}
+use Rattle.fd_devices.proofs.pieces.line_piece.Goals as goal
+
+pub returns-clause-settled : goal.returns-clause-settled
+returns-clause-settled c =
+    subst (λ d. IfOk c.line_at.result (λ p. (n : ℕ) → IsSideOf n d.phases c.args.at.now.first → IsSideOf n d.phases c.args.at.now.second → HasBranches n d.phases c.args.at.now → IsSettled n d.phases (line d c.args.at.now))) c.in_ok-data.ensures.value c.line_at.ensures.settled

@@ -1,0 +1,14 @@
+use Rattle.std.proofs.Common.{List, subst}
+use Rattle.std.specs.List.{All}
+use Rattle.std.proofs.lemmas.Result.{IfOk-weaker}
+use Rattle.fd_system.specs.declared.loads.LoadAt.{LoadAt}
+use Rattle.fd_devices.specs.Devices.{loads}
+use Rattle.fd_devices.specs.Building.{Fits, IsUsable}
+use Rattle.fd_devices.proofs.Settling.{phases_settled}
+use Rattle.fd_devices.proofs.pieces.load_piece.Goals as goal
+
+pub returns-clause-settled : goal.returns-clause-settled
+returns-clause-settled c =
+    let is = c.in_ok-phases.ensures.phases in
+    let usable = subst (All IsUsable) is c.in_ok-phases.ensures.usable in
+    IfOk-weaker c.phases_at.result _ _ (λ p fits. phases_settled c.args.load.now c.args.nodes.now c.args.magnitude c.args.powers.now c.requires.range.phases usable (subst (λ (us : List LoadAt). Fits (loads us)) is fits)) c.phases_at.ensures.fits

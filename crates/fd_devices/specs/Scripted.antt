@@ -1,0 +1,86 @@
+-- The devices of a scripted circuit, and its network.
+use Rattle.std.specs.Prelude.{ℕ, ◌+◌, ◌%◌, ◌==◌, pos, List, [], ◌∷◌, length, get_or, Option, Some, None, if◌then◌else◌}
+use Rattle.fd_exact.specs.States.{State}
+use Rattle.fd_arith.specs.declared.terms.NodeAt.{NodeAt}
+use Rattle.fd_arith.specs.declared.terms.NodeAt.TheVariants.{Ground}
+use Rattle.fd_system.specs.declared.loads.LoadAt.{LoadAt}
+use Rattle.fd_system.specs.Equations.{Part}
+use Rattle.fd_line.specs.Series.{node_of}
+use Rattle.dss_values.specs.declared.words.Connection.{Connection}
+use Rattle.dss_values.specs.declared.words.Connection.TheVariants.{Wye, Delta}
+use Rattle.dss_profile.specs.declared.element.Element.{Element}
+use Rattle.dss_profile.specs.declared.element.Element.TheVariants as the
+use Rattle.dss_profile.specs.declared.load.Load.{Load}
+use Rattle.dss_layout.specs.Layout.{Elements, LayoutView, ends_of, first_magnitude, layout_of}
+use Rattle.dss_circuit.specs.Circuit.{CircuitView}
+use Rattle.fd_elements.specs.declared.powers.LoadPower.{LoadPower}
+use Rattle.fd_elements.specs.Lines.{line_data_of}
+use Rattle.fd_elements.specs.Loads.{load_phase_of}
+use Rattle.fd_equations.specs.declared.layout.Layout.{Layout}
+use Rattle.fd_equations.specs.Rounded.{list_of}
+use Rattle.fd_equations.specs.Views.{NetworkView, network_of}
+use Rattle.fd_devices.specs.Devices.{Device, source, line, loads, other, draw_of_all, parts_of_all, share_of_all}
+use Rattle.fd_devices.specs.Settings.{Settings, own, after}
+use Rattle.fd_devices.specs.Sources.{source_data_of}
+
+-- ---- loads
+
+-- the node at which phase k of a load gives its current back. One phase has two nodes; of three phases, wye joins each to ground and
+-- delta to the next one
+abbrev pub second_node : Connection → ℕ → List NodeAt → ℕ → NodeAt
+second_node Wye phases ns k = if phases == 1 then node_of ns 1 else Ground
+second_node Delta phases ns k = node_of ns ((k + 1) % 3)
+
+-- the place of the magnitude of phase k, which a load of constant current has; the first one's place is given
+abbrev pub magnitude_place : ℕ → ℕ → ℕ → Option ℕ
+magnitude_place model first k = if model == 5 then Some (first + k) else None
+
+abbrev pub power_at : List LoadPower → ℕ → LoadPower
+power_at powers k = get_or powers k (record { p = pos 0; q = pos 0 })
+
+-- phase k of a load at these nodes, with the powers of its phases
+abbrev pub load_at : Load → List NodeAt → ℕ → List LoadPower → ℕ → LoadAt
+load_at load ns magnitude powers k = record {
+  load = load_phase_of load (power_at powers k);
+  first = node_of ns k;
+  second = second_node load.conn load.phases ns k;
+  magnitude = magnitude_place load.model magnitude k;
+}
+
+abbrev pub phases_of : Load → List NodeAt → ℕ → List LoadPower → List LoadAt
+phases_of load ns magnitude powers = list_of load.phases (load_at load ns magnitude powers)
+
+-- ---- devices
+
+-- the device of an element that stands at a place in order, at the circuit's frequency in hertz and with its own settings
+abbrev pub device_of : LayoutView → ℕ → ℕ → Element → Settings → Device
+device_of layout hertz place (the.Vsource v) s = source (source_data_of v) (ends_of layout place (the.Vsource v))
+device_of layout hertz place (the.Line l) s = line (line_data_of l hertz) (ends_of layout place (the.Line l))
+device_of layout hertz place (the.Load l) s = loads (phases_of l (ends_of layout place (the.Load l)).first (first_magnitude layout place) s.powers)
+device_of layout hertz place e s = other
+
+-- the devices of elements of which the first stands at a place in order, with the settings of these elements
+abbrev pub devices_from : LayoutView → ℕ → ℕ → Elements → Settings → List Device
+devices_from layout hertz place [] s = []
+devices_from layout hertz place (e ∷ rest) s = device_of layout hertz place e.1 (own e.1 s) ∷ devices_from layout hertz (place + 1) rest (after e.1 s)
+
+-- ---- the circuit
+
+abbrev pub devices_of : CircuitView → Settings → List Device
+devices_of c s = devices_from (layout_of c.elements) c.options.defaultbasefrequency 0 c.elements s
+
+-- its complex equations
+abbrev pub circuit_parts : CircuitView → Settings → State → List Part
+circuit_parts c s x = parts_of_all (devices_of c s) x
+
+-- where the unknowns of a layout stand
+abbrev pub layout_counts : LayoutView → Layout
+layout_counts l = record { nodes = length l.nodes; branches = length l.branches; magnitudes = length l.magnitudes }
+
+-- the network of devices in a layout: their constants, contributions and part loads in order
+abbrev pub devices_network : LayoutView → List Device → NetworkView
+devices_network layout ds = network_of (layout_counts layout) (share_of_all ds) (draw_of_all ds)
+
+-- its network
+abbrev pub circuit_network : CircuitView → Settings → NetworkView
+circuit_network c s = devices_network (layout_of c.elements) (devices_of c s)

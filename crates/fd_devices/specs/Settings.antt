@@ -1,0 +1,58 @@
+-- What is set of a circuit beside its script: taps, states of banks and powers of loads, each in order of definition.
+use Rattle.std.specs.Prelude.{◌≡◌, ℕ, Bool, List, [], ◌∷◌, length, take, drop}
+use Rattle.fd_exact.specs.Sums.{list_n}
+use Rattle.fd_arith.specs.declared.terms.TapPair.{TapPair}
+use Rattle.fd_elements.specs.declared.powers.LoadPower.{LoadPower}
+use Rattle.dss_profile.specs.declared.element.Element.{Element}
+use Rattle.dss_profile.specs.declared.element.Element.TheVariants as the
+use Rattle.dss_layout.specs.Layout.{Elements}
+use Rattle.fd_devices.specs.declared.settings.Positions.{Positions}
+use Rattle.fd_devices.specs.declared.settings.Powers.{Powers}
+
+-- a pair of taps for each Transformer, whether it is closed for each Capacitor, a power for each phase of each Load
+pub record Settings : Type 0 where
+  pub taps : List TapPair
+  pub closed : List Bool
+  pub powers : List LoadPower
+
+abbrev pub settings_of : Positions → Powers → Settings
+settings_of at powers = record { taps = at.taps; closed = at.closed; powers = powers.loads }
+
+-- powers alone, where nothing else is looked at
+abbrev pub with_powers : List LoadPower → Settings
+with_powers powers = record { taps = []; closed = []; powers = powers }
+
+-- ---- how many of each kind an element has
+
+abbrev pub tap_count : Element → ℕ
+tap_count (the.Transformer t) = 1
+tap_count e = 0
+
+abbrev pub bank_count : Element → ℕ
+bank_count (the.Capacitor c) = 1
+bank_count e = 0
+
+abbrev pub power_count : Element → ℕ
+power_count (the.Load l) = l.phases
+power_count e = 0
+
+-- there are as many of each kind as the elements have
+pub record AreSettings (elements : Elements) (s : Settings) : Type 0 where
+  pub taps : length s.taps ≡ list_n (λ e. tap_count e.1) elements
+  pub closed : length s.closed ≡ list_n (λ e. bank_count e.1) elements
+  pub powers : length s.powers ≡ list_n (λ e. power_count e.1) elements
+
+-- ---- those of the elements in turn
+
+-- those of the first element
+abbrev pub own : Element → Settings → Settings
+own e s = record { taps = take (tap_count e) s.taps; closed = take (bank_count e) s.closed; powers = take (power_count e) s.powers }
+
+-- those of the elements after it
+abbrev pub after : Element → Settings → Settings
+after e s = record { taps = drop (tap_count e) s.taps; closed = drop (bank_count e) s.closed; powers = drop (power_count e) s.powers }
+
+-- those of the elements after all of these
+abbrev pub after_all : Elements → Settings → Settings
+after_all [] s = s
+after_all (e ∷ es) s = after_all es (after e.1 s)

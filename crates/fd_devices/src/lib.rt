@@ -1,0 +1,20 @@
+// The devices of a scripted circuit: its elements with the data of their equations, at their nodes and branches.
+//
+// It promises that a device adds to the rows exactly the constants, contributions and part loads that `specs/Devices.antt` states, by
+// the element's values in the script, and that all devices' system has the rows of their complex equations at every state
+// (`device_law`). Range is the answer exactly where a contribution of the device is past 2^54 units of 2^-40 or a part load past its limit.
+//
+// Modules: `devices` is the law, `phase_loads` has the part loads of a load's phases, `pieces` what each element adds, `settings` the positions
+// of taps and banks and the powers of loads with which a circuit is taken, `fault` why there is no network.
+#![tactic(auto)]
+
+mod devices;
+mod fault;
+mod phase_loads;
+mod pieces;
+mod settings;
+
+pub use devices::device_law;
+pub use fault::BuildFault;
+pub use pieces::{Piece, line_piece, load_piece, piece_of, source_piece};
+pub use settings::{BankStates, LoadPowers, Positions, Powers, Taps};

@@ -1,0 +1,210 @@
+// The part loads of a load's phases, their contributions and what they draw.
+ghost use Rattle.std.specs.Prelude.{◌≡◌, ℕ, ◌+◌, ◌*◌, ◌<◌, ◌≤◌, ◌++◌, ◌^◌, ◌↔◌, [], ◌∷◌, pos, neg_ℤ, ◌*ℤ◌, nat_abs, IfOk, OnOk, IsTrue, All, length};
+ghost use Rattle.std.specs.List.{flat_map};
+ghost use Rattle.fd_exact.specs.Sums.{list_n};
+ghost use Rattle.dss_profile.specs.Ranges.{IsOneOf};
+ghost use Rattle.dss_profile.specs.InRange.{LoadInRange};
+ghost use Rattle.fd_system.specs.Contributions.{IsDivided, IsSmall, stamp};
+ghost use Rattle.fd_system.specs.Loads.{impedance_list, linear_list};
+ghost use Rattle.fd_line.specs.Series.{IsSide};
+ghost use Rattle.fd_elements.specs.Loads.{IsPast};
+ghost use Rattle.fd_devices.specs.Devices.{draw_of as phase_draw};
+ghost use Rattle.fd_devices.specs.Scripted.{load_at, magnitude_place as place_of_magnitude, phases_of, second_node as second_node_of};
+ghost use Rattle.fd_devices.specs.Building.{IsModest, IsUsable};
+ghost use Rattle.fd_devices.specs.Sound.{terminal_nodes};
+
+use dss_profile::{Connection, Load};
+use fd_arith::{NodeAt, Term};
+use fd_elements::{LoadPower, is_load_past, load_phase};
+use fd_system::{LoadAt, add_stamp};
+use std::alloc::{AllocError, Global};
+
+// powers are in 10^-3 VA and voltages in microvolts, so a power over a voltage is in 10^9 microamperes
+const PER_UNIT: i128 = 1_000_000_000;
+
+/// The part loads of a load's phases at these nodes, with the powers of its phases.
+pub fn load_phases(
+    alloc: Global,
+    load: &Load,
+    nodes: &[NodeAt],
+    magnitude: u32,
+    powers: &[LoadPower],
+) -> Result<Vec<LoadAt>, AllocError>
+    requires range { LoadInRange load.now }
+    requires impedance { load.now.model ≡ 2 }
+    requires nodes { IsSide (terminal_nodes load.now.phases) nodes.now }
+    requires magnitude { magnitude < 2 ^ 31 }
+    requires powers { length powers.now ≡ load.now.phases }
+    requires modest { All IsModest powers.now }
+    ensures phases { IfOk result (λ us. us.items ≡ phases_of load.now nodes.now magnitude powers.now) }
+    ensures usable { IfOk result (λ us. All IsUsable us.items) }
+{
+    let mut phases = Vec::with_capacity(alloc, load.phases as usize)?;
+    for k in 0..load.phases {
+        phases.push(phase_at(load, nodes, magnitude, powers, k))?;
+    }
+    Ok(phases)
+}
+
+// Phase k of a load.
+fn phase_at(load: &Load, nodes: &[NodeAt], magnitude: u32, powers: &[LoadPower], k: u32) -> LoadAt
+    requires range { LoadInRange load.now }
+    requires impedance { load.now.model ≡ 2 }
+    requires nodes { IsSide (terminal_nodes load.now.phases) nodes.now }
+    requires magnitude { magnitude < 2 ^ 31 }
+    requires powers { length powers.now ≡ load.now.phases }
+    requires modest { All IsModest powers.now }
+    requires k_in { k < load.now.phases }
+    ensures value { result ≡ load_at load.now nodes.now magnitude powers.now k }
+    ensures usable { IsUsable result }
+{
+    LoadAt {
+        load: load_phase(load, &powers[k as usize]),
+        first: nodes[k as usize],
+        second: second_node(load.conn, load.phases, nodes, k),
+        magnitude: magnitude_place(load.model, magnitude, k),
+    }
+}
+
+// The node at which phase k gives its current back.
+fn second_node(connection: Connection, phases: u32, nodes: &[NodeAt], k: u32) -> NodeAt
+    requires phases { IsOneOf (1 ∷ 3 ∷ []) phases }
+    requires nodes { IsSide (terminal_nodes phases) nodes.now }
+    requires k_in { k < phases }
+    ensures value { result ≡ second_node_of connection phases nodes.now k }
+    ensures small { IsSmall result }
+{
+    match connection {
+        Connection::Wye => {
+            if phases == 1 {
+                nodes[1]
+            } else {
+                NodeAt::Ground
+            }
+        }
+        Connection::Delta => nodes[((k + 1) % 3) as usize],
+    }
+}
+
+// The place of the magnitude of phase k, which a load of constant current has.
+fn magnitude_place(model: u32, first: u32, k: u32) -> Option<u32>
+    requires { first + k < 2 ^ 32 }
+    ensures { result ≡ place_of_magnitude model first k }
+{
+    if model == 5 { Some(first + k) } else { None }
+}
+
+/// Whether no phase is past its limit.
+pub fn are_in_limits(phases: &[LoadAt]) -> bool
+    requires { All IsUsable phases.now }
+    ensures { IsTrue result ↔ All (λ u. ¬ (IsPast u.load)) phases.now }
+{
+    phases.iter().all(|phase| is_in_limit(phase))
+}
+
+fn is_in_limit(phase: &LoadAt) -> bool
+    requires { IsUsable phase.now }
+    ensures { IsTrue result ↔ ¬ (IsPast phase.now.load) }
+{
+    !is_load_past(&phase.load)
+}
+
+/// The contributions of phases of constant impedance.
+pub fn impedance_terms(alloc: Global, phases: &[LoadAt]) -> Result<Vec<Term>, AllocError>
+    requires { All IsUsable phases.now }
+    ensures terms { IfOk result (λ ts. ts.items ≡ flat_map linear_list phases.now) }
+    ensures divided { IfOk result (λ ts. All IsDivided ts.items) }
+{
+    let mut terms = Vec::new(alloc);
+    for phase in phases {
+        add_impedance(&mut terms, phase)?;
+    }
+    Ok(terms)
+}
+
+// The contributions of one phase: (P - j Q) / Vn^2 between its two nodes.
+fn add_impedance(terms: &mut Vec<Term>, phase: &LoadAt) -> Result<(), AllocError>
+    requires { IsUsable phase.now }
+    ensures { OnOk result (terms.new.items ≡ terms.old.items ++ impedance_list phase.now) }
+{
+    add_between(
+        terms,
+        phase.first,
+        phase.second,
+        scaled(phase.load.p),
+        opposite(scaled(phase.load.q)),
+        square(phase.load.vn),
+    )
+}
+
+// A power in 10^-9 microamperes at a microvolt.
+fn scaled(power: i128) -> i128
+    requires { nat_abs power ≤ 10 ^ 17 }
+    ensures value { result ≡ pos (10 ^ 9) *ℤ power }
+    ensures most { nat_abs result ≤ 10 ^ 26 }
+{
+    PER_UNIT * power
+}
+
+fn opposite(z: i128) -> i128
+    requires { nat_abs z ≤ 10 ^ 26 }
+    ensures value { result ≡ neg_ℤ z }
+    ensures most { nat_abs result ≤ 10 ^ 26 }
+{
+    -z
+}
+
+// The square of a voltage.
+fn square(volts: i128) -> i128
+    requires { nat_abs volts ≤ 10 ^ 12 }
+    ensures value { result ≡ volts *ℤ volts }
+    ensures most { nat_abs result ≤ 10 ^ 24 }
+{
+    volts * volts
+}
+
+// The contributions of the admittance (re + j im) / den between two nodes.
+fn add_between(
+    terms: &mut Vec<Term>,
+    first: NodeAt,
+    second: NodeAt,
+    re: i128,
+    im: i128,
+    den: i128,
+) -> Result<(), AllocError>
+    requires first_small { IsSmall first }
+    requires second_small { IsSmall second }
+    requires re_fits { nat_abs re ≤ 2 ^ 126 }
+    requires im_fits { nat_abs im ≤ 2 ^ 126 }
+    ensures { OnOk result (terms.new.items ≡ terms.old.items ++ ((stamp first first re im den ++ stamp first second (neg_ℤ re) (neg_ℤ im) den) ++ (stamp second first (neg_ℤ re) (neg_ℤ im) den ++ stamp second second re im den))) }
+{
+    add_stamp(terms, first, first, re, im, den)?;
+    add_stamp(terms, first, second, -re, -im, den)?;
+    add_stamp(terms, second, first, -re, -im, den)?;
+    add_stamp(terms, second, second, re, im, den)?;
+    Ok(())
+}
+
+/// What the phases draw at nominal voltage, in whole microamperes.
+pub fn total_draw(phases: &[LoadAt]) -> u128
+    requires usable { All IsUsable phases.now }
+    requires few { length phases.now ≤ 3 }
+    ensures { result ≡ list_n phase_draw phases.now }
+{
+    let mut total = 0;
+    for phase in phases {
+        total += draw_of(phase);
+    }
+    total
+}
+
+// What a phase draws, rounded up.
+fn draw_of(phase: &LoadAt) -> u128
+    requires { IsUsable phase.now }
+    ensures value { result ≡ phase_draw phase.now }
+    ensures most { result ≤ 2 ^ 100 }
+{
+    let power = phase.load.p.unsigned_abs() + phase.load.q.unsigned_abs();
+    let voltage = phase.load.vn.unsigned_abs();
+    (power * PER_UNIT as u128 + (voltage - 1)) / voltage
+}

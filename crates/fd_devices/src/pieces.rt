@@ -1,0 +1,234 @@
+// What each device adds to a network.
+ghost use Rattle.std.specs.Prelude.{◌≡◌, ℕ, ◌+◌, ◌*◌, ◌<◌, ◌≤◌, ◌^◌, false, [], ◌∷◌, IfOk, IsSome, OnOk, All, length};
+ghost use Rattle.dss_profile.specs.Ranges.{IsOneOf};
+ghost use Rattle.dss_profile.specs.InRange.{ElementInRange, LineInRange, LoadInRange, VsourceInRange};
+ghost use Rattle.dss_layout.specs.Layout.{branch_phases, complex_count, ends_of, first_magnitude};
+ghost use Rattle.dss_ready.specs.Counts.{are_matrices_wrong};
+ghost use Rattle.dss_ready.specs.Ranges.{is_source_outside};
+ghost use Rattle.fd_line.specs.Line.{IsBetween};
+ghost use Rattle.fd_line.specs.Series.{IsSide};
+ghost use Rattle.fd_line.specs.Totals.{IsLine};
+ghost use Rattle.fd_source.specs.Equations.{IsPlaced, IsSource, constants_from};
+ghost use Rattle.fd_elements.specs.Lines.{line_data_of};
+ghost use Rattle.fd_devices.specs.Devices.{added_by, added_by_all, added_of, beside, line as line_device, loads as load_device, source as source_device};
+ghost use Rattle.fd_devices.specs.Sources.{source_data_of};
+ghost use Rattle.fd_devices.specs.Settings.{power_count, with_powers};
+ghost use Rattle.fd_devices.specs.Scripted.{device_of, phases_of};
+ghost use Rattle.fd_devices.specs.Building.{Fits, IsCovered, IsModest, IsSettled, IsUsable};
+ghost use Rattle.fd_devices.specs.Sound.{HasBranches, IsSideOf, IsSited, IsSound, terminal_nodes};
+
+use crate::phase_loads::{are_in_limits, impedance_terms, load_phases, total_draw};
+use dss_layout::Layout;
+use dss_profile::{Element, Line, Load, Vsource};
+use fd_arith::{Ends, NodeAt, Term, TermFault};
+use fd_elements::{LoadPower, line_data, source_data};
+use fd_line::{LineData, line_terms};
+use fd_source::{SourceData, SourceTerms, source_terms};
+use fd_system::{Constant, LoadAt, all_within};
+use std::alloc::{AllocError, Global};
+
+/// The constants, contributions and part loads of devices, in order, and what they draw at nominal voltage in whole microamperes.
+#[derive(Drop)]
+pub struct Piece {
+    pub constants: Vec<Constant>,
+    pub terms: Vec<Term>,
+    pub loads: Vec<LoadAt>,
+    pub draw: u128,
+}
+
+impl Piece {
+    /// What no device adds.
+    pub fn empty(alloc: Global) -> Self
+        ensures { added_of result ≡ added_by_all [] }
+    {
+        Piece {
+            constants: Vec::new(alloc),
+            terms: Vec::new(alloc),
+            loads: Vec::new(alloc),
+            draw: 0,
+        }
+    }
+
+    /// Adds what further devices add.
+    ///
+    /// # Errors
+    /// `AllocError` where the memory is refused.
+    pub fn append(&mut self, more: &Piece) -> Result<(), AllocError>
+        requires { self.old.draw + more.now.draw < 2 ^ 128 }
+        ensures { OnOk result (added_of self.new ≡ beside (added_of self.old) (added_of more.now)) }
+    {
+        self.constants.extend_from_slice(&more.constants)?;
+        self.terms.extend_from_slice(&more.terms)?;
+        self.loads.extend_from_slice(&more.loads)?;
+        self.draw += more.draw;
+        Ok(())
+    }
+}
+
+/// What a source adds at its nodes. Range exactly where a contribution is past 2^54 in units of 2^-40.
+pub fn source_piece(alloc: Global, source: &Vsource, at: &Ends) -> Result<Piece, TermFault>
+    requires range { VsourceInRange source.now }
+    requires sound { is_source_outside source.now ≡ false }
+    requires at { IsPlaced source.now.phases at.now }
+    ensures added { IfOk result (λ p. added_of p ≡ added_by (source_device (source_data_of source.now) at.now)) }
+    ensures settled { IfOk result (λ p. (n : ℕ) → IsSideOf n source.now.phases at.now.first → HasBranches n source.now.phases at.now → IsSettled n source.now.phases (source_device (source_data_of source.now) at.now)) }
+    ensures range { result ≡ Err TermFault.Range → ¬ (Fits (source_device (source_data_of source.now) at.now)) }
+{
+    let data = source_data(source)?;
+    source_at(alloc, &data, at)
+}
+
+fn source_at(alloc: Global, source: &SourceData, at: &Ends) -> Result<Piece, TermFault>
+    requires source { IsSource source.now }
+    requires at { IsPlaced source.now.phases at.now }
+    ensures added { IfOk result (λ p. added_of p ≡ added_by (source_device source.now at.now)) }
+    ensures settled { IfOk result (λ p. (n : ℕ) → IsSideOf n source.now.phases at.now.first → HasBranches n source.now.phases at.now → IsSettled n source.now.phases (source_device source.now at.now)) }
+    ensures range { result ≡ Err TermFault.Range → ¬ (Fits (source_device source.now at.now)) }
+{
+    let SourceTerms { terms, constants } = source_terms(alloc, source, at)?;
+    Ok(Piece {
+        constants: rows_from(alloc, 2 * at.branch, &constants)?,
+        terms,
+        loads: Vec::new(alloc),
+        draw: 0,
+    })
+}
+
+// Constants of rows that follow one another.
+fn rows_from(alloc: Global, first: u32, values: &[i128]) -> Result<Vec<Constant>, AllocError>
+    requires { first + length values.now < 2 ^ 32 }
+    ensures { IfOk result (λ rows. rows.items ≡ constants_from first values.now) }
+{
+    let mut rows = Vec::with_capacity(alloc, values.len())?;
+    for k in 0..values.len() {
+        rows.push(Constant {
+            row: first + k as u32,
+            value: values[k],
+        })?;
+    }
+    Ok(rows)
+}
+
+/// What a line adds between its ends, at a frequency in hertz. Range exactly where a contribution is past 2^54 in units of 2^-40.
+pub fn line_piece(alloc: Global, line: &Line, hertz: u32, at: &Ends) -> Result<Piece, TermFault>
+    requires range { LineInRange line.now }
+    requires impedance { IsSome line.now.form }
+    requires matrices { are_matrices_wrong line.now ≡ false }
+    requires frequency { IsOneOf (50 ∷ 60 ∷ []) hertz }
+    requires at { IsBetween line.now.phases at.now }
+    ensures added { IfOk result (λ p. added_of p ≡ added_by (line_device (line_data_of line.now hertz) at.now)) }
+    ensures settled { IfOk result (λ p. (n : ℕ) → IsSideOf n line.now.phases at.now.first → IsSideOf n line.now.phases at.now.second → HasBranches n line.now.phases at.now → IsSettled n line.now.phases (line_device (line_data_of line.now hertz) at.now)) }
+    ensures range { result ≡ Err TermFault.Range → ¬ (Fits (line_device (line_data_of line.now hertz) at.now)) }
+{
+    let data = line_data(alloc, line, hertz)?;
+    line_at(alloc, &data, at)
+}
+
+fn line_at(alloc: Global, line: &LineData, at: &Ends) -> Result<Piece, TermFault>
+    requires line { IsLine line.now }
+    requires at { IsBetween line.now.phases at.now }
+    ensures added { IfOk result (λ p. added_of p ≡ added_by (line_device line.now at.now)) }
+    ensures settled { IfOk result (λ p. (n : ℕ) → IsSideOf n line.now.phases at.now.first → IsSideOf n line.now.phases at.now.second → HasBranches n line.now.phases at.now → IsSettled n line.now.phases (line_device line.now at.now)) }
+    ensures range { result ≡ Err TermFault.Range → ¬ (Fits (line_device line.now at.now)) }
+{
+    Ok(Piece {
+        constants: Vec::new(alloc),
+        terms: line_terms(alloc, line, at)?,
+        loads: Vec::new(alloc),
+        draw: 0,
+    })
+}
+
+/// What a load of constant impedance adds at its nodes, with the powers of its phases; its first magnitude would stand at the place
+/// `magnitude`. Range exactly where a contribution is past 2^54 in units of 2^-40, or a phase is past its limit.
+pub fn load_piece(
+    alloc: Global,
+    load: &Load,
+    nodes: &[NodeAt],
+    magnitude: u32,
+    powers: &[LoadPower],
+) -> Result<Piece, TermFault>
+    requires range { LoadInRange load.now }
+    requires impedance { load.now.model ≡ 2 }
+    requires nodes { IsSide (terminal_nodes load.now.phases) nodes.now }
+    requires magnitude { magnitude < 2 ^ 31 }
+    requires powers { length powers.now ≡ load.now.phases }
+    requires modest { All IsModest powers.now }
+    ensures added { IfOk result (λ p. added_of p ≡ added_by (load_device (phases_of load.now nodes.now magnitude powers.now))) }
+    ensures settled { IfOk result (λ p. (n : ℕ) → IsSideOf n (terminal_nodes load.now.phases) nodes.now → IsSettled n 0 (load_device (phases_of load.now nodes.now magnitude powers.now))) }
+    ensures range { result ≡ Err TermFault.Range → ¬ (Fits (load_device (phases_of load.now nodes.now magnitude powers.now))) }
+{
+    let phases = load_phases(alloc, load, nodes, magnitude, powers)?;
+    phases_at(alloc, phases)
+}
+
+fn phases_at(alloc: Global, phases: Vec<LoadAt>) -> Result<Piece, TermFault>
+    requires usable { All IsUsable phases.items }
+    requires few { length phases.items ≤ 3 }
+    ensures added { IfOk result (λ p. added_of p ≡ added_by (load_device phases.items)) }
+    ensures fits { IfOk result (λ p. Fits (load_device phases.items)) }
+    ensures range { result ≡ Err TermFault.Range → ¬ (Fits (load_device phases.items)) }
+{
+    if !are_in_limits(&phases) {
+        return Err(TermFault::Range);
+    }
+    let terms = impedance_terms(alloc, &phases)?;
+    if !all_within(&terms) {
+        return Err(TermFault::Range);
+    }
+    let draw = total_draw(&phases);
+    Ok(Piece {
+        constants: Vec::new(alloc),
+        terms,
+        loads: phases,
+        draw,
+    })
+}
+
+/// What an element adds that stands at a place in order, at the circuit's frequency in hertz and with the powers of its own phases.
+/// Range exactly where its device has a contribution past 2^54 in units of 2^-40, or a phase past its limit.
+pub fn piece_of(
+    alloc: Global,
+    layout: &Layout,
+    hertz: u32,
+    place: usize,
+    element: &Element,
+    powers: &[LoadPower],
+) -> Result<Piece, TermFault>
+    requires place { place < length layout.now.branches_before }
+    requires magnitudes { place < length layout.now.magnitudes_before }
+    requires few { complex_count layout.now ≤ 240 }
+    requires magnitude { first_magnitude layout.now place < 2 ^ 31 }
+    requires frequency { IsOneOf (50 ∷ 60 ∷ []) hertz }
+    requires range { ElementInRange element.now }
+    requires sound { IsSound element.now }
+    requires covered { IsCovered element.now }
+    requires sited { IsSited (complex_count layout.now) (ends_of layout.now place element.now) element.now }
+    requires powers { length powers.now ≡ power_count element.now }
+    requires modest { All IsModest powers.now }
+    ensures added { IfOk result (λ p. added_of p ≡ added_by (device_of layout.now hertz place element.now (with_powers powers.now))) }
+    ensures settled { IfOk result (λ p. IsSettled (complex_count layout.now) (branch_phases element.now) (device_of layout.now hertz place element.now (with_powers powers.now))) }
+    ensures range { result ≡ Err TermFault.Range → ¬ (Fits (device_of layout.now hertz place element.now (with_powers powers.now))) }
+{
+    match element {
+        Element::Vsource(source) => {
+            let at = layout.ends(alloc, place, element)?;
+            source_piece(alloc, source, &at)
+        }
+        Element::Line(line) => {
+            let at = layout.ends(alloc, place, element)?;
+            line_piece(alloc, line, hertz, &at)
+        }
+        Element::Load(load) => {
+            let at = layout.ends(alloc, place, element)?;
+            load_piece(
+                alloc,
+                load,
+                at.first.as_slice(),
+                layout.first_magnitude(place),
+                powers,
+            )
+        }
+        _ => Ok(Piece::empty(alloc)),
+    }
+}
