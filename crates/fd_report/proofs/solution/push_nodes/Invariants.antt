@@ -1,0 +1,12 @@
+use Rattle.std.proofs.Common.{◌≡◌, ◌++◌, drop, map}
+use Rattle.std.specs.List.{enumerate_from}
+use Rattle.fd_outside.specs.Emitted.{pieces_of}
+use Rattle.fd_report.specs.Lines.{lines_of}
+use Rattle.fd_report.specs.Records.{node_fields, node_records}
+use Rattle.fd_report.proofs.solution.push_nodes.Given as goal
+
+-- the records so far and those of the nodes that are left
+abbrev pub invariant-loop-k : goal.invariant-loop-k
+invariant-loop-k l =
+    pieces_of l.records.items ++ lines_of (map (λ p. node_fields l.x l.mismatch p.0 p.1) (enumerate_from l.k (drop l.k l.nodes)))
+    ≡ pieces_of l.fn.records.items ++ lines_of (node_records l.x l.mismatch l.nodes)

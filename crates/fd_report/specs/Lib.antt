@@ -1,0 +1,6 @@
+pub mod Numbers
+pub mod Lines
+pub mod Names
+pub mod Records
+pub mod Faults
+pub mod Texts

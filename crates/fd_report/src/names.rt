@@ -1,0 +1,59 @@
+// The names of nodes, elements and unknowns, as records have them.
+ghost use Rattle.std.specs.Prelude.{◌≡◌, ◌<◌, IfOk};
+ghost use Rattle.dss_values.specs.Names.{bytes};
+ghost use Rattle.dss_layout.specs.Layout.{size_of};
+ghost use Rattle.dss_layout.specs.UnknownNames.{class_word};
+ghost use Rattle.fd_report.specs.Names.{element_field, node_field, unknown_field};
+
+use dss_layout::{Layout, NodeName};
+use dss_lexer::Text;
+use dss_profile::{Class, ElementName};
+use std::alloc::{AllocError, Global};
+
+/// `BUS.NUMBER`
+pub(crate) fn node_field(alloc: Global, node: &NodeName) -> Result<Vec<u8>, AllocError>
+    ensures { IfOk result (λ v. v.items ≡ node_field node.now) }
+{
+    let number = u32::from(node.number).to_string(alloc)?;
+    let mut text = Vec::new(alloc);
+    text.extend_from_slice(node.bus.as_str().as_bytes())?;
+    text.push(b'.')?;
+    text.extend_from_slice(number.as_bytes())?;
+    Ok(text)
+}
+
+fn class_word(class: Class) -> &'static [u8]
+    ensures { result.now ≡ class_word class }
+{
+    match class {
+        Class::Vsource => b"vsource",
+        Class::Linecode => b"linecode",
+        Class::Line => b"line",
+        Class::Transformer => b"transformer",
+        Class::Capacitor => b"capacitor",
+        Class::Load => b"load",
+        Class::RegControl => b"regcontrol",
+        Class::CapControl => b"capcontrol",
+        Class::Loadshape => b"loadshape",
+    }
+}
+
+/// `CLASS.NAME`
+pub(crate) fn element_field(alloc: Global, element: &ElementName) -> Result<Vec<u8>, AllocError>
+    ensures { IfOk result (λ v. v.items ≡ element_field element.now) }
+{
+    let mut text = Vec::new(alloc);
+    text.extend_from_slice(class_word(element.class))?;
+    text.push(b'.')?;
+    text.extend_from_slice(element.name.as_str().as_bytes())?;
+    Ok(text)
+}
+
+/// The name of the real unknown at this place, as `b.1 re`.
+#[tactic(auto, unfolding(crate::specs::Names::unknown_field))]
+pub(crate) fn unknown_text(alloc: Global, layout: &Layout, place: u32) -> Result<Text, AllocError>
+    requires { place < size_of layout.now }
+    ensures { IfOk result (λ name. bytes name ≡ unknown_field layout.now place) }
+{
+    layout.unknown_name(alloc, place as usize)
+}
