@@ -1,0 +1,2 @@
+pub mod Capacitor
+pub mod Bounds
