@@ -1,12 +1,15 @@
 -- What a network asks of its parts, and its calls of a point.
-use Rattle.std.specs.Prelude.{◌≡◌, ℕ, ◌+◌, ◌*◌, ◌^◌, ◌<◌, ◌≤◌, ℤ, pos, neg_ℤ, ◌≤ℤ◌, nat_abs, List, length}
+use Rattle.std.specs.Prelude.{◌≡◌, ℕ, ◌+◌, ◌*◌, ◌^◌, ◌<◌, ◌≤◌, ℤ, pos, neg_ℤ, ◌≤ℤ◌, nat_abs, List, length, ◌⊎◌, Option, Some, None}
 use Rattle.fd_exact.specs.States.{part}
 use Rattle.std.specs.List.{All}
 use Rattle.fd_arith.specs.declared.terms.Term.{Term}
+use Rattle.fd_arith.specs.declared.terms.NodeAt.{NodeAt}
+use Rattle.fd_arith.specs.declared.terms.NodeAt.TheVariants.{Ground, Node}
 use Rattle.fd_system.specs.declared.constants.Constant.{Constant}
 use Rattle.fd_system.specs.declared.loads.LoadAt.{LoadAt}
 use Rattle.fd_system.specs.Contributions.{AreSmall, IsWithin}
 use Rattle.fd_system.specs.Residual.{IsTerm}
+use Rattle.fd_load.specs.Current.{IsLoadPhase}
 use Rattle.fd_equations.specs.Coefficients.{linear_entry}
 use Rattle.fd_equations.specs.Views.{NetworkView}
 
@@ -29,6 +32,24 @@ pub record IsKnown (size : ℕ) (c : Constant) : Type 0 where
 -- a load of constant impedance, which stands in the contributions
 abbrev pub IsImpedance : LoadAt → Type 0
 IsImpedance u = u.load.model ≡ 2
+
+-- a node is ground or among the first n complex unknowns
+abbrev pub IsAmong : ℕ → NodeAt → Type 0
+IsAmong n Ground = Unit {0}
+IsAmong n (Node k) = k < n
+
+-- a load of constant current has its magnitude behind the first n complex unknowns, and no other load has one
+abbrev pub HasMagnitude : ℕ → ℕ → ℕ → Option ℕ → Type 0
+HasMagnitude n size model None = (model ≡ 1) ⊎ (model ≡ 2)
+HasMagnitude n size model (Some place) = (model ≡ 5) × ((2 * n ≤ place) × (place < size))
+
+-- a part load of a network with n complex unknowns: of constant power (1), impedance (2) or current (5), within the ranges of the profile,
+-- at nodes among the unknowns
+pub record IsServed (n size : ℕ) (u : LoadAt) : Type 0 where
+  pub phase : IsLoadPhase u.load
+  pub first : IsAmong n u.first
+  pub second : IsAmong n u.second
+  pub magnitude : HasMagnitude n size u.load.model u.magnitude
 
 -- the condition on a network
 pub record IsNetwork (v : NetworkView) : Type 0 where

@@ -3,3 +3,4 @@ pub mod Sizes
 pub mod Limited
 pub mod Products
 pub mod Iterates
+pub mod Inside

@@ -4,7 +4,7 @@ ghost use Rattle.std.specs.List.{fold};
 ghost use Rattle.fd_mat.specs.Rows.{EntriesWithin};
 ghost use Rattle.fd_equations.specs.Conditions.{IsPoint};
 ghost use Rattle.fd_equations.specs.Rounded.{jacobian_of, start_matrix_of};
-ghost use Rattle.fd_inject.specs.Faults.{UnlessMemory};
+ghost use Rattle.fd_inject.specs.Faults.{IsInside, UnlessMemory};
 ghost use Rattle.fd_inject.specs.Procedure.{IsLimits, last_from, last_of, polished, solution_of, start_of, with_nominal};
 ghost use Rattle.fd_inject.specs.Ranges.{SizesWithin, inverse_at};
 
@@ -159,11 +159,13 @@ fn polish(
 /// The first fault in the order of the steps. `NoInverse`: the start matrix, or the rounded Jacobian of the last iterate, has no
 /// inverse, or has an entry past 2^62 in size in the column (`Range`). `OutOfRange`: a part of an iterate is past 2^40 in size, or one
 /// of its residual past 2^58 when it is needed; for the start also a row's constants. `NotConverged`: after `max_iterations` steps a
-/// part of a node or a magnitude still moves by more. `NoMemory` where memory is refused.
+/// part of a node or a magnitude still moves by more. `NoMemory` where memory is refused. Each column and each place that is named is one
+/// of the network's.
 pub fn solve(alloc: Global, net: &Network, limits: &Limits) -> Result<Point, SolveFault>
     requires { IsLimits limits.now }
     ensures point { IfOk result (λ p. solution_of net.now limits.now ≡ Ok (p.x.items, p.inverse)) }
     ensures fault { IfErr result (λ f. UnlessMemory f (solution_of net.now limits.now ≡ Err f)) }
+    ensures within { IfErr result (λ f. IsInside net.now.size f) }
     ensures parts { IfOk result (λ p. IsPoint net.now p.x.items) }
     ensures size { IfOk result (λ p. length p.inverse ≡ net.now.size) }
     ensures entries { IfOk result (λ p. EntriesWithin p.inverse (2 ^ 56)) }
