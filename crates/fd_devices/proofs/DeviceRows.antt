@@ -1,5 +1,5 @@
 -- The share of each device has the rows of its equations, and so has the system of all.
-use Rattle.std.proofs.Common.{ℕ, ◌<◌, ℤ, List, [], ◌∷◌}
+use Rattle.std.proofs.Common.{List, [], ◌∷◌}
 use Rattle.std.specs.List.{All}
 use Rattle.std.proofs.lemmas.List.Elements.{All-nil, All-cons, All-head, All-tail}
 use Rattle.fd_exact.specs.FractionLaws.{Same-sym}

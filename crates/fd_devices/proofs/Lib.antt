@@ -5,3 +5,6 @@ pub mod Bounded
 pub mod Collecting
 pub mod Steps
 pub mod Settling
+pub mod Greatest
+pub mod PowerOf
+pub mod SnapshotCounts

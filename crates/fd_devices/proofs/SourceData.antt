@@ -1,6 +1,6 @@
 -- The data of a source by function are those that its relation allows.
-use Rattle.std.proofs.Common.{◌≡◌, ◌∙◌, ℕ, zero, suc, ◌+◌, ◌*◌, ◌<◌, ◌≤◌, ◌^◌, ◌⊎◌, inl, inr, Bool, true, false, leb, if◌then◌else◌, pos, ◌≤ℤ◌, arith, ap, sym, refl}
-use Rattle.std.proofs.lemmas.Bool.{cases_lt, leb-true, le-leb}
+use Rattle.std.proofs.Common.{◌≡◌, ℕ, ◌*◌, ◌⊎◌, inl, inr, true, pos, ◌≤ℤ◌, arith, refl}
+use Rattle.std.proofs.lemmas.Bool.{leb-true, le-leb}
 use Rattle.std.proofs.lemmas.Int.{ints}
 use Rattle.dss_values.specs.declared.words.SourceForm.{SourceForm}
 use Rattle.dss_values.specs.declared.words.SourceForm.TheVariants as source_form
@@ -11,30 +11,8 @@ use Rattle.fd_source.specs.Powers.{AreOhms, IsGreatest, KeepsSize, one_phase_siz
 use Rattle.fd_source.proofs.Squares.{keeps_within}
 use Rattle.fd_elements.specs.Sources.{AreSourceOhms, IsSourceData, short_circuit_of}
 use Rattle.fd_elements.proofs.Answers.{same_source}
-use Rattle.fd_devices.specs.Sources.{greatest, greatest_resistance, keeps_size, ohms_of, positive_reactance, positive_resistance, source_data_of, source_ohms_of, zero_resistance}
-
--- ---- the greatest number for which a test holds
-
-greatest_most : (holds : ℕ → Bool) (n m : ℕ) → holds m ≡ true → m ≤ n → m ≤ greatest holds n
-unfolding greatest
-greatest_most holds zero m t h = h
-greatest_most holds (suc n) m t h = by (holds (suc n)) refl (greatest_most holds n m t)
-  where
-    smaller : (m ≡ suc n → ⊥) → m ≤ n
-    smaller k = omega arith
-
-    by : (b : Bool) → holds (suc n) ≡ b → (m ≤ n → m ≤ greatest holds n) → m ≤ (if b then suc n else greatest holds n)
-    by true e below = h
-    by false e below = below (smaller (λ s. let f : true ≡ false = sym t ∙ ap holds s ∙ e in cc))
-
-greatest_holds : (holds : ℕ → Bool) (n : ℕ) → (holds (greatest holds n) ≡ true) ⊎ (greatest holds n ≡ 0)
-unfolding greatest
-greatest_holds holds zero = inr refl
-greatest_holds holds (suc n) = by (holds (suc n)) refl (greatest_holds holds n)
-  where
-    by : (b : Bool) → holds (suc n) ≡ b → (holds (greatest holds n) ≡ true) ⊎ (greatest holds n ≡ 0) → (holds (if b then suc n else greatest holds n) ≡ true) ⊎ ((if b then suc n else greatest holds n) ≡ 0)
-    by true e below = inl e
-    by false e below = below
+use Rattle.fd_devices.specs.Sources.{greatest_resistance, keeps_size, ohms_of, positive_reactance, positive_resistance, source_data_of, source_ohms_of, zero_resistance}
+use Rattle.fd_devices.proofs.Greatest.{greatest_holds, greatest_most}
 
 -- ---- resistances
 

@@ -1,5 +1,5 @@
 -- When a circuit's network is in range, which element is to blame where it is not, and what a circuit must be.
-use Rattle.std.specs.Prelude.{◌≡◌, ℕ, ◌+◌, ◌*◌, ◌<◌, ◌≤◌, ◌^◌, nat_abs, List, [], ◌∷◌, length, take, Option, Some, None, slice_get, All}
+use Rattle.std.specs.Prelude.{◌≡◌, ℕ, ◌+◌, ◌*◌, ◌<◌, ◌≤◌, ◌^◌, nat_abs, List, [], ◌∷◌, length, take, Some, None, slice_get, All}
 use Rattle.dss_values.specs.declared.fault.ModelFault.TheVariants as fault
 use Rattle.dss_profile.specs.declared.command.Blame.{Blame}
 use Rattle.dss_profile.specs.declared.element.Element.{Element}

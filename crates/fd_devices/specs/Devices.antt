@@ -2,7 +2,6 @@
 -- system, and that the two have the same rows.
 use Rattle.std.specs.Prelude.{ℕ, ◌+◌, ◌*◌, ◌^◌, ◌<◌, ℤ, nat_abs, List, [], ◌++◌, map, All}
 use Rattle.std.specs.List.{flat_map}
-use Rattle.fd_exact.specs.Fractions.{Same}
 use Rattle.fd_exact.specs.Rounding.{ceil_nat}
 use Rattle.fd_exact.specs.States.{State}
 use Rattle.fd_exact.specs.Sums.{list_n}

@@ -4,3 +4,4 @@ pub mod Settings
 pub mod Scripted
 pub mod Sound
 pub mod Building
+pub mod Snapshot

@@ -5,7 +5,8 @@
 // (`device_law`). Range is the answer exactly where a contribution of the device is past 2^54 units of 2^-40 or a part load past its limit.
 //
 // Modules: `devices` is the law, `phase_loads` has the part loads of a load's phases, `pieces` what each element adds, `settings` the positions
-// of taps and banks and the powers of loads with which a circuit is taken, `fault` why there is no network.
+// of taps and banks and the powers of loads with which a circuit is taken, `snapshot` those that the script gives,
+// `fault` why there is no network.
 #![tactic(auto)]
 
 mod devices;
@@ -13,8 +14,13 @@ mod fault;
 mod phase_loads;
 mod pieces;
 mod settings;
+mod snapshot;
 
 pub use devices::device_law;
 pub use fault::BuildFault;
 pub use pieces::{Piece, line_piece, load_piece, piece_of, source_piece};
 pub use settings::{BankStates, LoadPowers, Positions, Powers, Taps};
+pub use snapshot::{powers_at, snapshot_law};
+
+#[cfg(test)]
+mod tests;

@@ -1,6 +1,5 @@
-use Rattle.std.proofs.Common.{◌≡◌, ◌∙◌, Err, sym, subst, rules}
+use Rattle.std.proofs.Common.{subst}
 use Rattle.std.specs.List.{All}
-use Rattle.fd_arith.specs.declared.terms.TermFault.TheVariants as fault
 use Rattle.fd_system.specs.Contributions.{IsWithin}
 use Rattle.fd_devices.proofs.Bounded.{line_settled}
 use Rattle.fd_devices.proofs.pieces.line_at.Goals as goal

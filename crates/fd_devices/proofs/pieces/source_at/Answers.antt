@@ -1,4 +1,4 @@
-use Rattle.std.proofs.Common.{◌≡◌, ◌∙◌, ◌*◌, Err, ap, sym, subst, rules}
+use Rattle.std.proofs.Common.{◌≡◌, ◌∙◌, ◌*◌, Err, ap, subst, rules}
 use Rattle.std.specs.List.{All}
 use Rattle.fd_arith.specs.declared.terms.TermFault.TheVariants as fault
 use Rattle.fd_system.specs.Contributions.{IsWithin}

@@ -1,0 +1,74 @@
+-- The settings that a script gives: the taps and states of its elements, and the powers of its loads.
+use Rattle.std.specs.Prelude.{ℕ, ◌*◌, ◌-◌, ◌^◌, nat_le, ℤ, pos, nat_abs, Bool, true, false, List, [], ◌∷◌, replicate, All}
+use Rattle.std.specs.List.{flat_map}
+use Rattle.std.specs.Option.{unwrap_or}
+use Rattle.fd_exact.specs.Rounding.{signed, differ}
+use Rattle.fd_arith.specs.declared.terms.TapPair.{TapPair}
+use Rattle.dss_values.specs.Forms.{ones}
+use Rattle.dss_values.specs.declared.words.BankState.{BankState}
+use Rattle.dss_values.specs.declared.words.BankState.TheVariants as bank_state
+use Rattle.dss_values.specs.declared.words.ReactiveRule.{ReactiveRule}
+use Rattle.dss_values.specs.declared.words.ReactiveRule.TheVariants as rule
+use Rattle.dss_profile.specs.declared.load.Load.{Load}
+use Rattle.dss_profile.specs.declared.element.Element.{Element}
+use Rattle.dss_profile.specs.declared.element.Element.TheVariants as the
+use Rattle.dss_profile.specs.InRange.{ElementInRange}
+use Rattle.dss_layout.specs.Layout.{Elements}
+use Rattle.fd_xfmr.specs.Leakage.{AreTaps}
+use Rattle.fd_elements.specs.declared.powers.LoadPower.{LoadPower}
+use Rattle.fd_elements.specs.Powers.{phase_power, square}
+use Rattle.fd_devices.specs.Settings.{AreSettings, Settings}
+use Rattle.fd_devices.specs.Sources.{greatest}
+
+-- ---- positions
+
+abbrev pub taps_of : Element → List TapPair
+taps_of (the.Transformer t) = record { first = t.first.tap; second = t.second.tap } ∷ []
+taps_of e = []
+
+abbrev pub is_closed : BankState → Bool
+is_closed bank_state.Open = false
+is_closed bank_state.Closed = true
+
+abbrev pub closed_of : Element → List Bool
+closed_of (the.Capacitor c) = is_closed c.states ∷ []
+closed_of e = []
+
+-- ---- powers
+
+-- the size of Q by P and the power factor: the greatest number whose square times pf^2 is at most P^2 (1 - pf^2)
+abbrev pub reactive_size : ℤ → ℤ → ℕ
+reactive_size p pf = greatest (λ q. nat_le (q * q * square pf) (square p * (10 ^ 18 - square pf))) (10 ^ 9 * nat_abs p)
+
+abbrev pub reactive_by : ReactiveRule → Load → ℤ → ℤ → ℤ
+reactive_by rule.PowerFactor load point p = signed (differ p load.pf) (reactive_size p load.pf)
+reactive_by rule.Kvar load point p = phase_power (unwrap_or load.kvar (pos 0)) point load.phases
+
+-- the power of one phase of a load at a point of its shape, in 10^-9
+abbrev pub power_of : Load → ℤ → LoadPower
+power_of load point = record {
+  p = phase_power load.kw point load.phases;
+  q = reactive_by load.reactive load point (phase_power load.kw point load.phases);
+}
+
+-- the powers of an element's phases in a snapshot, in which the point of each shape is 1
+abbrev pub powers_of : Element → List LoadPower
+powers_of (the.Load l) = replicate l.phases (power_of l (ones 1))
+powers_of e = []
+
+-- ---- all settings
+
+abbrev pub snapshot_of : Elements → Settings
+snapshot_of elements = record {
+  taps = flat_map (λ e. taps_of e.1) elements;
+  closed = flat_map (λ e. closed_of e.1) elements;
+  powers = flat_map (λ e. powers_of e.1) elements;
+}
+
+-- there are as many of each kind as the elements have, and where the elements are in range so are their taps
+pub record AreOfScript (elements : Elements) : Type 0 where
+  pub counts : AreSettings elements (snapshot_of elements)
+  pub taps : All (λ e. ElementInRange e.1) elements → All AreTaps (snapshot_of elements).taps
+
+abbrev pub SnapshotLaw : Type 0
+SnapshotLaw = (elements : Elements) → AreOfScript elements
