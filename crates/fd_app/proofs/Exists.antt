@@ -10,7 +10,6 @@ use Rattle.dss_values.specs.Names.{bytes}
 use Rattle.dss_values.specs.declared.fault.ModelFault.{ModelFault}
 use Rattle.dss_values.specs.declared.fault.ModelFault.TheVariants as fault
 use Rattle.dss_profile.specs.declared.command.Blame.{Blame}
-use Rattle.dss_profile.specs.declared.command.Place.{Place}
 use Rattle.dss_profile.specs.declared.element.Element.{Element}
 use Rattle.dss_profile.specs.declared.names.ElementName.{ElementName}
 use Rattle.dss_layout.specs.Feeding.{IsFed, FirstIsolated}
@@ -24,8 +23,9 @@ use Rattle.dss_ready.proofs.Limits.{too_many_within}
 use Rattle.dss_circuit.specs.Circuit.{CircuitView, empty_circuit}
 use Rattle.dss_script.specs.Script.{Script, finished, refused, asks, gives, script_of}
 use Rattle.fd_app.specs.Causes.{script_cause}
-use Rattle.fd_app.specs.Commands.{Step, Applied, nothing_left, solve_left, refused_at, changes, solves, refuses, IsStepOf, IsTested, by_tests, tried}
-use Rattle.fd_app.specs.Outcome.{Outcome, Entry, Solution, HasEnd, IsOutcome, IsFormOutcome, Follows, AfterStep, AfterCommand, OrStopped, before, done, read_fault, script_fault, usage}
+use Rattle.fd_app.specs.Commands.{Applied, nothing_left, solve_left, refused_at, IsStepOf, IsTested, by_tests, tried}
+use Rattle.fd_app.specs.Steps.{Step, changes, solves, ends, refuses}
+use Rattle.fd_app.specs.Outcome.{Outcome, Entry, Solution, HasEnd, IsOutcome, IsFormOutcome, Follows, AfterStep, AfterCommand, OrStopped, before, done, fault as ending_fault, read_fault, script_fault, usage}
 use Rattle.fd_app.specs.Run.{OutcomesExist}
 use Rattle.fd_app.specs.Words.{Form, Solve, form_of}
 use Rattle.fd_app.specs.declared.ending.Ending.TheVariants as ending
@@ -112,8 +112,8 @@ followed_by rest entries names h = record {
 
 after_step : (step : Step) (rest : CircuitView → Outcome → Type 0) → ((circuit : CircuitView) → HasEnd (rest circuit)) → HasEnd (AfterStep step rest)
 after_step (changes circuit) rest go = go circuit
-after_step (refuses place cause) rest go = record { outcome = script_fault place cause; right = refl; how = ending.ScriptFault; ends = refl }
-after_step (solves shape circuit) rest go = followed_by (rest circuit) (Solution circuit.solves shape ∷ []) [] (go circuit)
+after_step (ends how text) rest go = record { outcome = ending_fault how text; right = refl; how = how; ends = refl }
+after_step (solves circuit x e) rest go = followed_by (rest circuit) (Solution circuit.solves circuit x e ∷ []) [] (go circuit)
 
 record HasStep (is_step : Step → Type 0) : Type 0 where
   step : Step
@@ -125,12 +125,12 @@ after_command is_step rest s go =
     record { outcome = h.outcome; right = record { step = s.step; right = s.right; goes_on = h.right }; how = h.how; ends = h.ends }
 
 module _ (same : ElementName → ElementName → Bool) (same_mention : Mention → Mention → Bool) where
-  step_of : (place : Place) (left : Applied) → HasStep (IsStepOf same same_mention place left)
-  step_of place (nothing_left circuit) = record { step = changes circuit; right = refl }
-  step_of place (refused_at at cause) = record { step = refuses at cause; right = refl }
-  step_of place (solve_left circuit) =
+  step_of : (left : Applied) → HasStep (IsStepOf same same_mention left)
+  step_of (nothing_left circuit) = record { step = changes circuit; right = refl }
+  step_of (refused_at place cause) = record { step = refuses place cause; right = refl }
+  step_of (solve_left circuit) =
       let tests = answer_of_tests circuit.elements (own_blame same same_mention circuit.options.defaultbasefrequency circuit.elements) in
-      record { step = by_tests place circuit tests.answer; right = record { answer = tests.answer; right = tests.right; step_is = refl } }
+      record { step = by_tests circuit tests.answer; right = record { answer = tests.answer; right = tests.right; step_is = refl } }
 
   script_ends : (script : Script) (fails : Option ℕ) (circuit : CircuitView) → HasEnd (IsOutcome same same_mention script fails circuit)
   script_ends finished fails circuit = record { outcome = done; right = inr refl; how = ending.Done; ends = refl }
@@ -141,7 +141,7 @@ module _ (same : ElementName → ElementName → Bool) (same_mention : Mention �
   script_ends (asks name script) None circuit =
       or_stopped (Follows (IsOutcome same same_mention script None circuit) [] (bytes name ∷ [])) (followed_by (IsOutcome same same_mention script None circuit) [] (bytes name ∷ []) (script_ends script None circuit))
   script_ends (gives command script) fails circuit =
-      or_stopped _ (after_command _ (λ c o. IsOutcome same same_mention script fails c o) (step_of command.place (tried same command circuit)) (λ c. script_ends script fails c))
+      or_stopped _ (after_command _ (λ c o. IsOutcome same same_mention script fails c o) (step_of (tried same command circuit)) (λ c. script_ends script fails c))
 
   form_ends : (files : Files) (form : Option Form) (fails : Option ℕ) → HasEnd (IsFormOutcome same same_mention files form fails)
   form_ends files None fails = record { outcome = usage; right = refl; how = ending.Usage; ends = refl }

@@ -1,15 +1,15 @@
 -- What stands printed and what was asked, whatever a library tells of what it holds.
-use Rattle.std.proofs.Common.{◌≡◌, ◌∙◌, ◌++◌, ◌⊎◌, ℕ, List, [], ◌∷◌, Option, Some, Err, refl, sym, ap, subst, inl, inr}
+use Rattle.std.proofs.Common.{◌≡◌, ◌∙◌, ◌++◌, ℕ, List, [], ◌∷◌, Option, Some, Err, refl, sym, ap, subst, inl, inr}
 use Rattle.std.proofs.lemmas.List.{append_assoc}
 use Rattle.fd_outside.specs.Emitted.{Takes}
 use Rattle.fd_outside.proofs.Fronts.{becomes_then, takes_none, takes_then}
 use Rattle.dss_values.specs.Names.{bytes}
 use Rattle.dss_profile.specs.declared.command.Command.{Command}
-use Rattle.dss_script.specs.Sessions.{GrowsLast, GrowsSome, ReadsLast}
+use Rattle.dss_script.specs.Sessions.{GrowsSome, ReadsLast}
 use Rattle.dss_script.specs.declared.fault.SessionFault.{SessionFault}
 use Rattle.dss_script.specs.declared.fault.SessionFault.TheVariants as fault
 use Rattle.fd_app.specs.Causes.{script_cause}
-use Rattle.fd_app.specs.Outcome.{Entry, Outcome, code_of, read_fault, script_fault, texts_of}
+use Rattle.fd_app.specs.Outcome.{Entry, Outcome, read_fault, script_fault, texts_of}
 use Rattle.fd_app.specs.Ends.{CutsShort, EndsAtRead, Prints}
 use Rattle.fd_app.specs.Stream.{PrintsFault}
 use Rattle.fd_app.specs.declared.ending.Ending.TheVariants as ending

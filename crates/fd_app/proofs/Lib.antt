@@ -1,5 +1,5 @@
 mod Streams
-mod Solutions
+mod SnapshotNetworks
 mod Unique
 pub mod Exists
 pub mod Statuses

@@ -1,11 +1,11 @@
 -- Exit statuses, by the outcome of the words.
-use Rattle.std.proofs.Common.{◌≡◌, ◌∙◌, ◌⊎◌, ℕ, Bool, List, Option, Some, None, refl, sym, ap, inl, inr}
-use Rattle.fd_outside.specs.Causes.{Rose}
+use Rattle.std.proofs.Common.{◌≡◌, ◌∙◌, ◌⊎◌, ℕ, Bool, List, Option, Some, None, refl, sym, ap, subst, inl, inr, if◌then◌else◌, ◌==◌}
 use Rattle.fd_outside.specs.Files.{Files}
 use Rattle.dss_profile.specs.declared.names.ElementName.{ElementName}
 use Rattle.dss_ready.specs.declared.mention.Mention.{Mention}
-use Rattle.fd_app.specs.Outcome.{Outcome, IsOutcomeOf, code_of}
-use Rattle.fd_app.specs.Ends.{AnswersAt, CutsShort, HasReadCause, IsStatus, Prints}
+use Rattle.fd_app.specs.Outcome.{IsOutcomeOf, code_of}
+use Rattle.fd_app.specs.Answered.{IsOfCommand}
+use Rattle.fd_app.specs.Ends.{AnswersAt, CutsShort, IsStatus}
 use Rattle.fd_app.specs.Run.{Due, OutcomesAreUnique, Runs}
 use Rattle.fd_app.specs.declared.ending.Ending.{Ending}
 use Rattle.fd_app.specs.declared.ending.Ending.TheVariants as ending
@@ -29,38 +29,71 @@ is_read_fault ending.Done = inr (λ same. cc same)
 is_read_fault ending.Usage = inr (λ same. cc same)
 is_read_fault ending.ScriptFault = inr (λ same. cc same)
 is_read_fault ending.ReadFault = inl refl
+is_read_fault ending.NoInverse = inr (λ same. cc same)
+is_read_fault ending.OutOfRange = inr (λ same. cc same)
+is_read_fault ending.NotConverged = inr (λ same. cc same)
+is_read_fault ending.Loose = inr (λ same. cc same)
 
-script_fault_at_3 : (e : Ending) → 3 ≡ code_of e → e ≡ ending.ScriptFault
-script_fault_at_3 ending.Done same = cc same
-script_fault_at_3 ending.Usage same = cc same
-script_fault_at_3 ending.ScriptFault same = refl
-script_fault_at_3 ending.ReadFault same = cc same
+-- ---- no two endings have one status, and none has a status that cuts an outcome short
 
-not_cut : CutsShort 3 → ⊥
-not_cut cut = elim cut [ inl memory ↦ cc memory | inr write ↦ cc write ]
+-- the ending of a status
+abbrev ending_at : ℕ → Ending
+ending_at status =
+    if status == 0 then ending.Done
+    else if status == 2 then ending.Usage
+    else if status == 3 then ending.ScriptFault
+    else if status == 4 then ending.ReadFault
+    else if status == 6 then ending.NoInverse
+    else if status == 7 then ending.OutOfRange
+    else if status == 8 then ending.NotConverged
+    else ending.Loose
 
-not_read : (e : Ending) → e ≡ ending.ScriptFault → e ≡ ending.ReadFault → ⊥
-not_read e script read = let f : ending.ScriptFault ≡ ending.ReadFault = sym script ∙ read in cc f
+ending_of_code : (e : Ending) → ending_at (code_of e) ≡ e
+ending_of_code ending.Done = refl
+ending_of_code ending.Usage = refl
+ending_of_code ending.ScriptFault = refl
+ending_of_code ending.ReadFault = refl
+ending_of_code ending.NoInverse = refl
+ending_of_code ending.OutOfRange = refl
+ending_of_code ending.NotConverged = refl
+ending_of_code ending.Loose = refl
+
+same_ending : (a b : Ending) → code_of a ≡ code_of b → a ≡ b
+same_ending a b same = sym (ending_of_code a) ∙ ap ending_at same ∙ ending_of_code b
+
+never_cut : (status : ℕ) → (status ≡ 1 → ⊥) → (status ≡ 5 → ⊥) → CutsShort status → ⊥
+never_cut status not_memory not_write cut = elim cut [ inl memory ↦ not_memory memory | inr write ↦ not_write write ]
+
+not_cut : (e : Ending) → CutsShort (code_of e) → ⊥
+not_cut ending.Done cut = never_cut 0 (λ is. cc is) (λ is. cc is) cut
+not_cut ending.Usage cut = never_cut 2 (λ is. cc is) (λ is. cc is) cut
+not_cut ending.ScriptFault cut = never_cut 3 (λ is. cc is) (λ is. cc is) cut
+not_cut ending.ReadFault cut = never_cut 4 (λ is. cc is) (λ is. cc is) cut
+not_cut ending.NoInverse cut = never_cut 6 (λ is. cc is) (λ is. cc is) cut
+not_cut ending.OutOfRange cut = never_cut 7 (λ is. cc is) (λ is. cc is) cut
+not_cut ending.NotConverged cut = never_cut 8 (λ is. cc is) (λ is. cc is) cut
+not_cut ending.Loose cut = never_cut 9 (λ is. cc is) (λ is. cc is) cut
 
 module _ {L S : Type 0} (same : ElementName → ElementName → Bool) (same_mention : Mention → Mention → Bool) (faults : L → ℕ) (asked : L → Option (List (List ℕ))) (lib_old lib_new : L)
     (taken : S → Option (List ℕ)) (calls : S → Option ℕ) (old new : S) (files : Files) (words : List (List ℕ)) where
-  -- a run whose status is that of its outcome, which ends with a script error
-  refused_run : (status : ℕ) (r : Runs faults asked lib_old lib_new taken calls old new status (λ f o. IsOutcomeOf same same_mention files words f o)) → status ≡ 3 → IsStatus status r.outcome.ending
-      → Due same same_mention files words ending.ScriptFault
-  refused_run status r is h =
+  -- a run whose status is that of its outcome
+  whole_run : (status : ℕ) (how : Ending) (r : Runs faults asked lib_old lib_new taken calls old new status (λ f o. IsOutcomeOf same same_mention files words f o)) → (how ≡ ending.ReadFault → ⊥) → status ≡ code_of how
+      → IsStatus status r.outcome.ending → Due same same_mention files words how
+  whole_run status how r other is h =
       let by = has_ending status r.outcome.ending h in
-      let script = script_fault_at_3 by.which (sym is ∙ by.code) in
+      let which : by.which ≡ how = same_ending by.which how (sym by.code ∙ is) in
       record {
         outcome = r.outcome;
-        right = words_unread same same_mention files words r.fails r.outcome by.which (not_read by.which script) by.is r.right;
-        ends = by.is ∙ ap Some script;
+        right = words_unread same same_mention files words r.fails r.outcome by.which (λ read. other (sym which ∙ read)) by.is r.right;
+        ends = by.is ∙ ap Some which;
       }
 
-  -- status 3 is answered only where the outcome ends with a script error
-  pub script_only : (status : ℕ) → Runs faults asked lib_old lib_new taken calls old new status (λ f o. IsOutcomeOf same same_mention files words f o) → status ≡ 3 → Due same same_mention files words ending.ScriptFault
-  script_only status r is = elim r.prints [
-    | inl whole ↦ refused_run status r is whole.0
-    | inr cut ↦ absurd (not_cut (rw is at cut.0))
+  -- the status of an ending, but for a failed read, is answered only where the outcome ends so
+  pub due_only : (status : ℕ) (how : Ending) → Runs faults asked lib_old lib_new taken calls old new status (λ f o. IsOutcomeOf same same_mention files words f o) → (how ≡ ending.ReadFault → ⊥) → status ≡ code_of how
+      → Due same same_mention files words how
+  due_only status how r other is = elim r.prints [
+    | inl whole ↦ whole_run status how r other is whole.0
+    | inr cut ↦ absurd (not_cut how (subst CutsShort is cut.0))
   ]
 
   -- the status that is due, where no read failed
@@ -88,6 +121,19 @@ module _ {L S : Type 0} (same : ElementName → ElementName → Bool) (same_ment
     | inl whole ↦ elim (whole_status status how r due whole.0) [ inl is ↦ inl is | inr read ↦ inr (inr read) ]
     | inr cut ↦ inr (inl cut.0)
   ]
+
+-- a command's fault ends a run with the status of no other ending
+pub never_at : (e : Ending) (status : ℕ) → (status ≡ code_of e) ⊎ CutsShort status → (other : Ending) → (e ≡ other → ⊥) → status ≡ code_of other → ⊥
+never_at e status ends other differs is = elim ends [
+  | inl of_e ↦ differs (same_ending e other (sym of_e ∙ is))
+  | inr cut ↦ not_cut other (subst CutsShort is cut)
+]
+
+pub not_usage : (e : Ending) → IsOfCommand e → e ≡ ending.Usage → ⊥
+not_usage e of is = let h : IsOfCommand ending.Usage = subst IsOfCommand is of in h
+
+pub not_read_fault : (e : Ending) → IsOfCommand e → e ≡ ending.ReadFault → ⊥
+not_read_fault e of is = let h : IsOfCommand ending.ReadFault = subst IsOfCommand is of in h
 
 -- where neither count rises, what is done answers 0, or 1 for want of memory
 pub complete_status : (status : ℕ) (read write : Type 0) → (status ≡ 4 → read) → (read → ⊥) → (status ≡ 5 → write) → (write → ⊥) → AnswersAt 0 status → (status ≡ 0) ⊎ (status ≡ 1)

@@ -1,8 +1,7 @@
 -- Laws of outcomes that are printed bit by bit.
-use Rattle.std.proofs.Common.{◌≡◌, ◌+◌, ◌≤◌, ◌∙◌, ◌++◌, ◌⊎◌, ℕ, zero, suc, Bool, List, [], ◌∷◌, Option, Some, None, refl, sym, ap, subst, inl, inr, arith, map, length, Result, Ok, Err, IfOk, IfNone, IfSome}
-use Rattle.std.specs.List.{flat_map}
+use Rattle.std.proofs.Common.{◌≡◌, ℤ, ◌+◌, ◌∙◌, ◌++◌, ℕ, zero, suc, Bool, List, [], ◌∷◌, Option, Some, None, refl, sym, ap, subst, inl, inr, arith, map, length, Result, Ok, Err, IfOk, IfNone, IfSome}
 use Rattle.std.proofs.lemmas.List.{map-append, append_assoc, append-nil}
-use Rattle.fd_outside.specs.Causes.{Becomes, Rose}
+use Rattle.fd_outside.specs.Causes.{Rose}
 use Rattle.fd_outside.specs.Emitted.{Takes, TakesFront}
 use Rattle.fd_outside.proofs.Fronts.{becomes_then, becomes_same, front_nothing, front_then, takes_none, takes_then}
 use Rattle.dss_values.specs.Names.{bytes}
@@ -10,12 +9,12 @@ use Rattle.dss_profile.specs.declared.command.Command.{Command}
 use Rattle.dss_profile.specs.declared.names.ElementName.{ElementName}
 use Rattle.dss_ready.specs.declared.mention.Mention.{Mention}
 use Rattle.dss_circuit.specs.Circuit.{CircuitView, empty_circuit}
-use Rattle.dss_script.specs.Script.{Script, finished, refused, asks, gives, names_first, after_names, script_of}
-use Rattle.dss_profile.specs.declared.command.Place.{Place}
-use Rattle.fd_app.specs.Commands.{IsStep, changes, solves, refuses}
-use Rattle.fd_app.specs.declared.shape.Shape.{Shape}
-use Rattle.fd_app.specs.Outcome.{Entry, Outcome, IsOutcome, Follows, before, stopped, done, read_fault, script_fault, Solution, texts_of, records_of, line_of}
-use Rattle.fd_app.specs.Ends.{Asks, CutsShort, HasReadCause, IsStatus, Prints}
+use Rattle.dss_script.specs.Script.{Script, finished, refused, asks, gives, names_first, after_names}
+use Rattle.fd_app.specs.Commands.{IsStep}
+use Rattle.fd_app.specs.Steps.{changes, solves, ends}
+use Rattle.fd_app.specs.declared.ending.Ending.{Ending}
+use Rattle.fd_app.specs.Outcome.{Entry, Outcome, IsOutcome, before, stopped, done, read_fault, script_fault, fault as ending_fault, Solution, texts_of, lines_in}
+use Rattle.fd_app.specs.Ends.{Asks, CutsShort, HasReadCause, Prints}
 use Rattle.fd_app.specs.Headline.{AllSolved}
 use Rattle.fd_app.specs.Run.{Runs}
 use Rattle.fd_app.specs.Stream.{GoesOn, EndsAt, PrintsFault}
@@ -43,12 +42,9 @@ before_before p q m n o =
     ap (λ l. record { entries = l; names = m ++ (n ++ o.names); ending = o.ending }) (sym (append_assoc p q o.entries))
     ∙ ap (λ l. record { entries = (p ++ q) ++ o.entries; names = l; ending = o.ending }) (sym (append_assoc m n o.names))
 
-flat_map-append : (p q : List Entry) → flat_map records_of (p ++ q) ≡ flat_map records_of p ++ flat_map records_of q
-flat_map-append [] q = refl
-flat_map-append (e ∷ p) q = ap (λ l. records_of e ++ l) (flat_map-append p q) ∙ sym (append_assoc (records_of e) (flat_map records_of p) (flat_map records_of q))
-
 pub texts_append : (p q : List Entry) → texts_of (p ++ q) ≡ texts_of p ++ texts_of q
-texts_append p q = ap (map line_of) (flat_map-append p q) ∙ map-append line_of (flat_map records_of p) (flat_map records_of q)
+texts_append [] q = refl
+texts_append (e ∷ p) q = ap (λ l. lines_in e ++ l) (texts_append p q) ∙ sym (append_assoc (lines_in e) (texts_of p) (texts_of q))
 
 pub solved_append : (p q : List Entry) → AllSolved p → AllSolved q → AllSolved (p ++ q)
 solved_append [] q first second = second
@@ -146,30 +142,30 @@ module _ {S : Type 0} (same : ElementName → ElementName → Bool) (same_mentio
     solved = tt;
   }
 
-  pub goes_solved : (old new : S) (shape : Shape) → IsStep same same_mention command circuit (solves shape now) → Takes taken calls old new (texts_of (Solution now.solves shape ∷ [])) → AllSolved (Solution now.solves shape ∷ [])
+  pub goes_solved : (old new : S) (x e : List ℤ) → IsStep same same_mention command circuit (solves now x e) → Takes taken calls old new (texts_of (Solution now.solves now x e ∷ [])) → AllSolved (Solution now.solves now x e ∷ [])
       → GoesOn taken calls old new command (λ s f x. IsOutcome same same_mention s f circuit x) (λ s f x. IsOutcome same same_mention s f now x)
-  goes_solved old new shape is takes solved = record {
-    printed = Solution now.solves shape ∷ [];
-    law = λ script fails o h. inr (record { step = solves shape now; right = is; goes_on = record { next = o; goes_on = h; outcome_is = refl } });
+  goes_solved old new x e is takes solved = record {
+    printed = Solution now.solves now x e ∷ [];
+    law = λ script fails o h. inr (record { step = solves now x e; right = is; goes_on = record { next = o; goes_on = h; outcome_is = refl } });
     takes = takes;
     solved = solved;
   }
 
-  pub ends_solved : (old new : S) (status : ℕ) (shape : Shape) → IsStep same same_mention command circuit (solves shape now) → CutsShort status → TakesFront taken calls old new (texts_of (Solution now.solves shape ∷ []))
-      → AllSolved (Solution now.solves shape ∷ []) → EndsAt taken calls old new status command (λ s f x. IsOutcome same same_mention s f circuit x)
-  ends_solved old new status shape is cuts front solved = record {
-    outcome = before (Solution now.solves shape ∷ []) [] stopped;
-    right = λ script fails. inr (record { step = solves shape now; right = is; goes_on = record { next = stopped; goes_on = stopped_is same same_mention script fails now; outcome_is = refl } });
+  pub ends_solved : (old new : S) (status : ℕ) (x e : List ℤ) → IsStep same same_mention command circuit (solves now x e) → CutsShort status → TakesFront taken calls old new (texts_of (Solution now.solves now x e ∷ []))
+      → AllSolved (Solution now.solves now x e ∷ []) → EndsAt taken calls old new status command (λ s f x. IsOutcome same same_mention s f circuit x)
+  ends_solved old new status x e is cuts front solved = record {
+    outcome = before (Solution now.solves now x e ∷ []) [] stopped;
+    right = λ script fails. inr (record { step = solves now x e; right = is; goes_on = record { next = stopped; goes_on = stopped_is same same_mention script fails now; outcome_is = refl } });
     no_names = refl;
     prints = inr (cuts, front);
     solved = solved;
   }
 
-  pub ends_refused : (old new : S) (status : ℕ) (place : Place) (cause : List ℕ) → IsStep same same_mention command circuit (refuses place cause) → Prints taken calls old new status (script_fault place cause)
+  pub ends_at_fault : (old new : S) (status : ℕ) (how : Ending) (text : List ℕ) → IsStep same same_mention command circuit (ends how text) → Prints taken calls old new status (ending_fault how text)
       → EndsAt taken calls old new status command (λ s f x. IsOutcome same same_mention s f circuit x)
-  ends_refused old new status place cause is prints = record {
-    outcome = script_fault place cause;
-    right = λ script fails. inr (record { step = refuses place cause; right = is; goes_on = refl });
+  ends_at_fault old new status how text is prints = record {
+    outcome = ending_fault how text;
+    right = λ script fails. inr (record { step = ends how text; right = is; goes_on = refl });
     no_names = refl;
     prints = prints;
     solved = (tt, tt);

@@ -8,8 +8,6 @@ use Rattle.std.proofs.lemmas.List.Elements.{All-contains}
 use Rattle.dss_values.specs.Names.{bytes}
 use Rattle.dss_values.specs.declared.fault.ModelFault.TheVariants as fault
 use Rattle.dss_profile.specs.declared.command.Blame.{Blame}
-use Rattle.dss_profile.specs.declared.command.Command.{Command}
-use Rattle.dss_profile.specs.declared.command.Place.{Place}
 use Rattle.dss_profile.specs.declared.element.Element.{Element}
 use Rattle.dss_profile.specs.declared.names.ElementName.{ElementName}
 use Rattle.dss_layout.specs.Feeding.{Fed, IsFed, IsIsolated, IsFirstIsolated, FirstIsolated}
@@ -21,8 +19,9 @@ use Rattle.std.specs.Str.{chars}
 use Rattle.fd_outside.specs.Files.{Files}
 use Rattle.dss_circuit.specs.Circuit.{CircuitView, empty_circuit}
 use Rattle.dss_script.specs.Script.{Script, finished, refused, asks, gives, script_of}
-use Rattle.fd_app.specs.Commands.{Step, Applied, nothing_left, solve_left, refused_at, changes, solves, refuses, IsStepOf, IsSolve, IsTested, by_tests, tried}
-use Rattle.fd_app.specs.Outcome.{Outcome, Entry, Solution, IsOnce, IsOutcome, IsOutcomeOf, IsFormOutcome, Follows, AfterStep, AfterCommand, OrStopped, before, stopped, read_fault, usage}
+use Rattle.fd_app.specs.Commands.{Applied, nothing_left, solve_left, refused_at, IsStepOf, IsSolve, IsTested, by_tests, tried}
+use Rattle.fd_app.specs.Steps.{Step, changes, solves, ends}
+use Rattle.fd_app.specs.Outcome.{Outcome, Entry, Solution, IsOnce, IsOutcome, IsOutcomeOf, IsFormOutcome, Follows, AfterStep, AfterCommand, OrStopped, before, read_fault}
 use Rattle.fd_app.specs.Words.{Form, Solve, form_of}
 use Rattle.fd_app.specs.declared.ending.Ending.{Ending}
 use Rattle.fd_app.specs.declared.ending.Ending.TheVariants as ending
@@ -93,101 +92,101 @@ module _ (own : Result Unit Blame) (elements : Elements) where
 
 -- an outcome that is followed to its end isn't stopped
 followed : {G : Type 0} (o : Outcome) (e : Ending) → OrStopped o G → o.ending ≡ Some e → G
-followed o e h ends = elim h [
-  | inl is ↦ (let f : None ≡ Some e = sym (ap (λ x. x.ending) is) ∙ ends in cc f)
+followed o e h ended = elim h [
+  | inl is ↦ (let f : None ≡ Some e = sym (ap (λ x. x.ending) is) ∙ ended in cc f)
   | inr goes ↦ goes
 ]
 
 exactly : (o a b : Outcome) (e f : Ending) → OrStopped a (a ≡ o) → OrStopped b (b ≡ o) → a.ending ≡ Some e → b.ending ≡ Some f → a ≡ b
-exactly o a b e f h k ends also = followed a e h ends ∙ sym (followed b f k also)
+exactly o a b e f h k ended also = followed a e h ended ∙ sym (followed b f k also)
 
 next_ends : (entries : List Entry) (names : List (List ℕ)) (o next : Outcome) (e : Ending) → o ≡ before entries names next → o.ending ≡ Some e → next.ending ≡ Some e
-next_ends entries names o next e is ends = sym (ap (λ x. x.ending) is) ∙ ends
+next_ends entries names o next e is ended = sym (ap (λ x. x.ending) is) ∙ ended
 
 follows_once : (rest : Outcome → Type 0) (entries : List Entry) (names : List (List ℕ)) → IsOnce rest → IsOnce (Follows rest entries names)
-follows_once rest entries names once a b e f h k ends also =
+follows_once rest entries names once a b e f h k ended also =
     let nexts : h.next ≡ k.next =
-    once h.next k.next e f h.goes_on k.goes_on (next_ends entries names a h.next e h.outcome_is ends) (next_ends entries names b k.next f k.outcome_is also) in
+    once h.next k.next e f h.goes_on k.goes_on (next_ends entries names a h.next e h.outcome_is ended) (next_ends entries names b k.next f k.outcome_is also) in
     h.outcome_is ∙ ap (before entries names) nexts ∙ sym k.outcome_is
 
 after_step_once : (step : Step) (rest : CircuitView → Outcome → Type 0) → ((circuit : CircuitView) → IsOnce (rest circuit)) → IsOnce (AfterStep step rest)
-after_step_once (changes circuit) rest once a b e f h k ends also = once circuit a b e f h k ends also
-after_step_once (refuses place cause) rest once a b e f h k ends also = h ∙ sym k
-after_step_once (solves shape circuit) rest once a b e f h k ends also = follows_once (rest circuit) (Solution circuit.solves shape ∷ []) [] (once circuit) a b e f h k ends also
+after_step_once (changes circuit) rest once a b e f h k ended also = once circuit a b e f h k ended also
+after_step_once (ends how text) rest once a b e f h k ended also = h ∙ sym k
+after_step_once (solves circuit x m) rest once a b e f h k ended also = follows_once (rest circuit) (Solution circuit.solves circuit x m ∷ []) [] (once circuit) a b e f h k ended also
 
 after_command_once : (is_step : Step → Type 0) (rest : CircuitView → Outcome → Type 0) → ((s t : Step) → is_step s → is_step t → s ≡ t) → ((circuit : CircuitView) → IsOnce (rest circuit)) → IsOnce (AfterCommand is_step rest)
-after_command_once is_step rest one once a b e f h k ends also =
+after_command_once is_step rest one once a b e f h k ended also =
     let same : k.step ≡ h.step = one k.step h.step k.right h.right in
     let P : Step → Type 0 = λ s. AfterStep s rest b in
-    after_step_once h.step rest once a b e f h.goes_on (subst P same k.goes_on) ends also
+    after_step_once h.step rest once a b e f h.goes_on (subst P same k.goes_on) ended also
 
--- an outcome that ends otherwise than by a failed read is one in which no read fails
+-- an outcome that ended otherwise than by a failed read is one in which no read fails
 after_step_weaker : (step : Step) (p q : CircuitView → Outcome → Type 0) (o : Outcome) (e : Ending) → ((circuit : CircuitView) (x : Outcome) → x.ending ≡ Some e → p circuit x → q circuit x) → o.ending ≡ Some e → AfterStep step p o → AfterStep step q o
-after_step_weaker (changes circuit) p q o e weaker ends h = weaker circuit o ends h
-after_step_weaker (refuses place cause) p q o e weaker ends h = h
-after_step_weaker (solves shape circuit) p q o e weaker ends h = record {
+after_step_weaker (changes circuit) p q o e weaker ended h = weaker circuit o ended h
+after_step_weaker (ends how text) p q o e weaker ended h = h
+after_step_weaker (solves circuit x m) p q o e weaker ended h = record {
   next = h.next;
-  goes_on = weaker circuit h.next (next_ends (Solution circuit.solves shape ∷ []) [] o h.next e h.outcome_is ends) h.goes_on;
+  goes_on = weaker circuit h.next (next_ends (Solution circuit.solves circuit x m ∷ []) [] o h.next e h.outcome_is ended) h.goes_on;
   outcome_is = h.outcome_is;
 }
 
 module _ (same : ElementName → ElementName → Bool) (same_mention : Mention → Mention → Bool) where
-  solve_once : (place : Place) (circuit : CircuitView) (s t : Step) → IsSolve same same_mention place circuit s → IsSolve same same_mention place circuit t → s ≡ t
-  solve_once place circuit s t h k = h.step_is ∙ ap (by_tests place circuit) (test_once _ circuit.elements h.answer k.answer h.right k.right) ∙ sym k.step_is
+  solve_once : (circuit : CircuitView) (s t : Step) → IsSolve same same_mention circuit s → IsSolve same same_mention circuit t → s ≡ t
+  solve_once circuit s t h k = h.step_is ∙ ap (by_tests circuit) (test_once _ circuit.elements h.answer k.answer h.right k.right) ∙ sym k.step_is
 
-  step_once : (place : Place) (left : Applied) (s t : Step) → IsStepOf same same_mention place left s → IsStepOf same same_mention place left t → s ≡ t
-  step_once place (nothing_left circuit) s t h k = h ∙ sym k
-  step_once place (refused_at at cause) s t h k = h ∙ sym k
-  step_once place (solve_left circuit) s t h k = solve_once place circuit s t h k
+  step_once : (left : Applied) (s t : Step) → IsStepOf same same_mention left s → IsStepOf same same_mention left t → s ≡ t
+  step_once (nothing_left circuit) s t h k = h ∙ sym k
+  step_once (refused_at at cause) s t h k = h ∙ sym k
+  step_once (solve_left circuit) s t h k = solve_once circuit s t h k
 
   pub outcome_once : (script : Script) (fails : Option ℕ) (circuit : CircuitView) → IsOnce (IsOutcome same same_mention script fails circuit)
-  outcome_once finished fails circuit a b e f h k ends also = exactly _ a b e f h k ends also
-  outcome_once (refused place cause) fails circuit a b e f h k ends also = exactly _ a b e f h k ends also
-  outcome_once (asks name script) (Some zero) circuit a b e f h k ends also = exactly _ a b e f h k ends also
-  outcome_once (asks name script) (Some (suc n)) circuit a b e f h k ends also =
-      follows_once (IsOutcome same same_mention script (Some n) circuit) [] (bytes name ∷ []) (outcome_once script (Some n) circuit) a b e f (followed a e h ends) (followed b f k also) ends also
-  outcome_once (asks name script) None circuit a b e f h k ends also =
-      follows_once (IsOutcome same same_mention script None circuit) [] (bytes name ∷ []) (outcome_once script None circuit) a b e f (followed a e h ends) (followed b f k also) ends also
-  outcome_once (gives command script) fails circuit a b e f h k ends also =
-      after_command_once _ (λ c o. IsOutcome same same_mention script fails c o) (step_once command.place (tried same command circuit)) (λ c. outcome_once script fails c) a b e f (followed a e h ends) (followed b f k also) ends also
+  outcome_once finished fails circuit a b e f h k ended also = exactly _ a b e f h k ended also
+  outcome_once (refused place cause) fails circuit a b e f h k ended also = exactly _ a b e f h k ended also
+  outcome_once (asks name script) (Some zero) circuit a b e f h k ended also = exactly _ a b e f h k ended also
+  outcome_once (asks name script) (Some (suc n)) circuit a b e f h k ended also =
+      follows_once (IsOutcome same same_mention script (Some n) circuit) [] (bytes name ∷ []) (outcome_once script (Some n) circuit) a b e f (followed a e h ended) (followed b f k also) ended also
+  outcome_once (asks name script) None circuit a b e f h k ended also =
+      follows_once (IsOutcome same same_mention script None circuit) [] (bytes name ∷ []) (outcome_once script None circuit) a b e f (followed a e h ended) (followed b f k also) ended also
+  outcome_once (gives command script) fails circuit a b e f h k ended also =
+      after_command_once _ (λ c o. IsOutcome same same_mention script fails c o) (step_once (tried same command circuit)) (λ c. outcome_once script fails c) a b e f (followed a e h ended) (followed b f k also) ended also
 
   pub outcome_unread : (script : Script) (n : ℕ) (circuit : CircuitView) (o : Outcome) (e : Ending) → (e ≡ ending.ReadFault → ⊥) → o.ending ≡ Some e → IsOutcome same same_mention script (Some n) circuit o
       → IsOutcome same same_mention script None circuit o
-  outcome_unread finished n circuit o e other ends h = h
-  outcome_unread (refused place cause) n circuit o e other ends h = h
-  outcome_unread (asks name script) zero circuit o e other ends h =
-      let is : o ≡ before [] (bytes name ∷ []) (read_fault name) = followed o e h ends in
-      let f : Some e ≡ Some ending.ReadFault = sym ends ∙ ap (λ x. x.ending) is in
+  outcome_unread finished n circuit o e other ended h = h
+  outcome_unread (refused place cause) n circuit o e other ended h = h
+  outcome_unread (asks name script) zero circuit o e other ended h =
+      let is : o ≡ before [] (bytes name ∷ []) (read_fault name) = followed o e h ended in
+      let f : Some e ≡ Some ending.ReadFault = sym ended ∙ ap (λ x. x.ending) is in
       absurd (other (cc f))
-  outcome_unread (asks name script) (suc n) circuit o e other ends h =
-      let goes = followed o e h ends in
+  outcome_unread (asks name script) (suc n) circuit o e other ended h =
+      let goes = followed o e h ended in
       inr (record {
         next = goes.next;
-        goes_on = outcome_unread script n circuit goes.next e other (next_ends [] (bytes name ∷ []) o goes.next e goes.outcome_is ends) goes.goes_on;
+        goes_on = outcome_unread script n circuit goes.next e other (next_ends [] (bytes name ∷ []) o goes.next e goes.outcome_is ended) goes.goes_on;
         outcome_is = goes.outcome_is;
       })
-  outcome_unread (gives command script) n circuit o e other ends h =
-      let goes = followed o e h ends in
+  outcome_unread (gives command script) n circuit o e other ended h =
+      let goes = followed o e h ended in
       inr (record {
         step = goes.step;
         right = goes.right;
         goes_on = after_step_weaker goes.step (λ c x. IsOutcome same same_mention script (Some n) c x) (λ c x. IsOutcome same same_mention script None c x) o e
-            (λ c x x_ends is. outcome_unread script n c x e other x_ends is) ends goes.goes_on;
+            (λ c x x_ends is. outcome_unread script n c x e other x_ends is) ended goes.goes_on;
       })
 
   form_once : (files : Files) (form : Option Form) (fails : Option ℕ) → IsOnce (IsFormOutcome same same_mention files form fails)
-  form_once files None fails a b e f h k ends also = h ∙ sym k
-  form_once files (Some (Solve file)) fails a b e f h k ends also = outcome_once (script_of files (chars file)) fails empty_circuit a b e f h k ends also
+  form_once files None fails a b e f h k ended also = h ∙ sym k
+  form_once files (Some (Solve file)) fails a b e f h k ended also = outcome_once (script_of files (chars file)) fails empty_circuit a b e f h k ended also
 
   pub words_once : (files : Files) (words : List (List ℕ)) (fails : Option ℕ) → IsOnce (IsOutcomeOf same same_mention files words fails)
-  words_once files words fails a b e f h k ends also = form_once files (form_of words) fails a b e f h k ends also
+  words_once files words fails a b e f h k ended also = form_once files (form_of words) fails a b e f h k ended also
 
   form_unread : (files : Files) (form : Option Form) (n : ℕ) (o : Outcome) (e : Ending) → (e ≡ ending.ReadFault → ⊥) → o.ending ≡ Some e → IsFormOutcome same same_mention files form (Some n) o
       → IsFormOutcome same same_mention files form None o
-  form_unread files None n o e other ends h = h
-  form_unread files (Some (Solve file)) n o e other ends h = outcome_unread (script_of files (chars file)) n empty_circuit o e other ends h
+  form_unread files None n o e other ended h = h
+  form_unread files (Some (Solve file)) n o e other ended h = outcome_unread (script_of files (chars file)) n empty_circuit o e other ended h
 
   pub words_unread : (files : Files) (words : List (List ℕ)) (fails : Option ℕ) (o : Outcome) (e : Ending) → (e ≡ ending.ReadFault → ⊥) → o.ending ≡ Some e → IsOutcomeOf same same_mention files words fails o
       → IsOutcomeOf same same_mention files words None o
-  words_unread files words None o e other ends h = h
-  words_unread files words (Some n) o e other ends h = form_unread files (form_of words) n o e other ends h
+  words_unread files words None o e other ended h = h
+  words_unread files words (Some n) o e other ended h = form_unread files (form_of words) n o e other ended h

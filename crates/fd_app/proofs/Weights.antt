@@ -1,5 +1,5 @@
 -- A command adds no more elements and Solves than its room in the script pays for.
-use Rattle.std.proofs.Common.{◌≡◌, ◌∙◌, ◌+◌, ◌*◌, ◌≤◌, ◌&&◌, ℕ, suc, Bool, true, false, List, [], ◌∷◌, length, max, map, Option, Some, None, Result, Ok, Err, refl, sym, ap, subst, arith, cond, inl, inr, ◌⊎◌, nat_eq, nat_le, if◌then◌else◌}
+use Rattle.std.proofs.Common.{◌≡◌, ◌∙◌, ◌+◌, ◌≤◌, ◌&&◌, ℕ, ℤ, Bool, true, false, List, [], ◌∷◌, length, Option, Some, None, Result, Ok, Err, refl, sym, ap, subst, arith, cond, inl, inr, ◌⊎◌, nat_eq, nat_le, if◌then◌else◌}
 use Rattle.std.specs.Prelude.{codes}
 use Rattle.std.specs.Char.{to_ascii_lowercase}
 use Rattle.std.specs.Cmp.Lexicographic.{pointwise}
@@ -30,9 +30,15 @@ use Rattle.dss_ready.specs.declared.mention.Mention.{Mention}
 use Rattle.dss_script.specs.Sessions.{cost}
 use Rattle.dss_profile.specs.declared.command.Blame.{Blame}
 use Rattle.fd_app.specs.Causes.{model_cause, not_built}
-use Rattle.fd_app.specs.Shape.{shape_of}
-use Rattle.fd_app.specs.declared.shape.Shape.{Shape}
-use Rattle.fd_app.specs.Commands.{Applied, Step, IsStep, IsStepOf, by_shape, by_tests, changes, is_daily, left_of, nothing_left, reads_shape, refused_at, refuses, solve_by, solve_left, solves, tried}
+use Rattle.fd_app.specs.Built.{unbuilt_place}
+use Rattle.fd_app.specs.Commands.{Applied, IsStep, IsStepOf, by_tests, is_daily, left_of, nothing_left, reads_shape, refused_at, solve_by, solve_left, tried}
+use Rattle.fd_app.specs.Solving.{by_built, by_point, by_range, greatest_mismatch, limits_of, mismatches_of, snapshot_blame, snapshot_network, solution_step, unless_loose, unsolved}
+use Rattle.fd_app.specs.Steps.{Step, changes, ends, solves}
+use Rattle.fd_equations.specs.Views.{NetworkView}
+use Rattle.fd_inject.specs.Procedure.{solution_of}
+use Rattle.fd_inject.specs.Ranges.{first_past}
+use Rattle.fd_inject.specs.declared.fault.SolveFault.{SolveFault}
+use Rattle.fd_inject.specs.declared.fault.SolveFault.TheVariants as procedure
 use Rattle.fd_app.specs.Weights.{TakesRoom, weight}
 
 -- ---- a class of the profile has four letters or more
@@ -228,30 +234,52 @@ left_reaches place verb.Clear (Ok circuit) now h = ap Ok (nothing_reaches circui
 -- the circuit that stands behind a step after which the run goes on
 abbrev Leaves : Step → CircuitView → Type 0
 Leaves (changes circuit) now = circuit ≡ now
-Leaves (solves shape circuit) now = circuit ≡ now
-Leaves (refuses place cause) now = ⊥
+Leaves (solves circuit x e) now = circuit ≡ now
+Leaves (ends how text) now = ⊥
 
-shape_leaves : (circuit now : CircuitView) (r : Result Shape Place) → Leaves (by_shape circuit r) now → circuit ≡ now
-shape_leaves circuit now (Ok shape) h = h
-shape_leaves circuit now (Err place) h = absurd h
+loose_leaves : (circuit now : CircuitView) (x e : List ℤ) (row : Option ℕ) → Leaves (unless_loose circuit x e row) now → circuit ≡ now
+loose_leaves circuit now x e None h = h
+loose_leaves circuit now x e (Some row) h = absurd h
 
-tests_leave : (place : Place) (circuit now : CircuitView) (r : Result Unit Blame) → Leaves (by_tests place circuit r) now → circuit ≡ now
-tests_leave place circuit now (Ok done) h = shape_leaves circuit now (shape_of place circuit.elements) h
-tests_leave place circuit now (Err blame) h = absurd h
+fault_leaves : (circuit now : CircuitView) (f : SolveFault) → Leaves (unsolved circuit f) now → circuit ≡ now
+fault_leaves circuit now (procedure.NoInverse column cause) h = absurd h
+fault_leaves circuit now (procedure.OutOfRange place step) h = absurd h
+fault_leaves circuit now (procedure.NotConverged place steps update) h = absurd h
+fault_leaves circuit now procedure.NoMemory h = h
+
+point_leaves : (circuit now : CircuitView) (v : NetworkView) (r : Result (List ℤ × List (List ℤ)) SolveFault) → Leaves (by_point circuit v r) now → circuit ≡ now
+point_leaves circuit now v (Ok p) h = loose_leaves circuit now p.0 (mismatches_of v p.0) (first_past greatest_mismatch (mismatches_of v p.0)) h
+point_leaves circuit now v (Err f) h = fault_leaves circuit now f h
+
+range_leaves : (circuit now : CircuitView) (blame : Option Blame) → Leaves (by_range circuit blame) now → circuit ≡ now
+range_leaves circuit now None h = point_leaves circuit now (snapshot_network circuit) (solution_of (snapshot_network circuit) (limits_of circuit.options)) h
+range_leaves circuit now (Some blame) h = absurd h
+
+built_leaves : (circuit now : CircuitView) (place : Option Place) → Leaves (by_built circuit place) now → circuit ≡ now
+built_leaves circuit now None h = range_leaves circuit now (snapshot_blame circuit) h
+built_leaves circuit now (Some place) h = absurd h
+
+solution_leaves : (circuit now : CircuitView) → Leaves (solution_step circuit) now → circuit ≡ now
+unfolding solution_step
+solution_leaves circuit now h = built_leaves circuit now (unbuilt_place circuit.elements) h
+
+tests_leave : (circuit now : CircuitView) (r : Result Unit Blame) → Leaves (by_tests circuit r) now → circuit ≡ now
+tests_leave circuit now (Ok done) h = solution_leaves circuit now h
+tests_leave circuit now (Err blame) h = absurd h
 
 module _ (same : ElementName → ElementName → Bool) (same_mention : Mention → Mention → Bool) where
-  step_reaches : (place : Place) (left : Applied) (step : Step) (now : CircuitView) → IsStepOf same same_mention place left step → Leaves step now → Reaches left now
-  step_reaches place (nothing_left circuit) step now is leaves =
+  step_reaches : (left : Applied) (step : Step) (now : CircuitView) → IsStepOf same same_mention left step → Leaves step now → Reaches left now
+  step_reaches (nothing_left circuit) step now is leaves =
       let P : Step → Type 0 = λ s. Leaves s now in
       let e : circuit ≡ now = subst P is leaves in
       inl (ap nothing_left e)
-  step_reaches place (refused_at at cause) step now is leaves = let P : Step → Type 0 = λ s. Leaves s now in absurd (subst P is leaves)
-  step_reaches place (solve_left circuit) step now is leaves =
+  step_reaches (refused_at at cause) step now is leaves = let P : Step → Type 0 = λ s. Leaves s now in absurd (subst P is leaves)
+  step_reaches (solve_left circuit) step now is leaves =
       let P : Step → Type 0 = λ s. Leaves s now in
-      inr (ap solve_left (tests_leave place circuit now is.answer (subst P is.step_is leaves)))
+      inr (ap solve_left (tests_leave circuit now is.answer (subst P is.step_is leaves)))
 
   command_takes : (command : Command) (circuit now : CircuitView) (step : Step) → IsStep same same_mention command circuit step → Leaves step now → TakesRoom command circuit now
-  command_takes command circuit now step is leaves = cases (reads_shape command.verb) (step_reaches command.place (tried same command circuit) step now is leaves)
+  command_takes command circuit now step is leaves = cases (reads_shape command.verb) (step_reaches (tried same command circuit) step now is leaves)
     where
       cases : (b : Bool) → Reaches (if b then refused_at command.place not_built else left_of command.place command.verb (applied same command circuit)) now → TakesRoom command circuit now
       cases true h = absurd (refused_reaches command.place not_built now h)
@@ -260,5 +288,5 @@ module _ (same : ElementName → ElementName → Bool) (same_mention : Mention �
   pub change_takes : (command : Command) (circuit now : CircuitView) → IsStep same same_mention command circuit (changes now) → TakesRoom command circuit now
   change_takes command circuit now is = command_takes command circuit now (changes now) is refl
 
-  pub solve_takes : (command : Command) (circuit now : CircuitView) (shape : Shape) → IsStep same same_mention command circuit (solves shape now) → TakesRoom command circuit now
-  solve_takes command circuit now shape is = command_takes command circuit now (solves shape now) is refl
+  pub solve_takes : (command : Command) (circuit now : CircuitView) (x e : List ℤ) → IsStep same same_mention command circuit (solves now x e) → TakesRoom command circuit now
+  solve_takes command circuit now x e is = command_takes command circuit now (solves now x e) is refl

@@ -13,18 +13,13 @@ use Rattle.dss_profile.specs.declared.command.Place.{Place}
 use Rattle.dss_profile.specs.declared.command.Verb.{Verb}
 use Rattle.dss_profile.specs.declared.command.Verb.TheVariants as verb
 use Rattle.dss_profile.specs.declared.names.ElementName.{ElementName}
+use Rattle.dss_layout.specs.Layout.{Elements}
 use Rattle.dss_ready.specs.declared.mention.Mention.{Mention}
 use Rattle.dss_ready.specs.Ready.{IsReady, IsToBlame, own_blame}
 use Rattle.dss_circuit.specs.Circuit.{CircuitView, applied}
 use Rattle.fd_app.specs.Causes.{model_cause, not_built}
-use Rattle.fd_app.specs.Shape.{Elements, shape_of}
-use Rattle.fd_app.specs.declared.shape.Shape.{Shape}
-
--- a change of the circuit, a solution, or a refusal at a place for a cause
-pub data Step : Type 0 where
-  changes : CircuitView → Step
-  solves : Shape → CircuitView → Step
-  refuses : Place → List ℕ → Step
+use Rattle.fd_app.specs.Solving.{solution_step}
+use Rattle.fd_app.specs.Steps.{Step, changes, refuses}
 
 -- ---- what is refused before it is applied: a load shape that is to be read from a file
 
@@ -72,26 +67,22 @@ abbrev pub IsTested : Result Unit Blame → Elements → Result Unit Blame → T
 IsTested own elements (Ok done) = IsReady own elements
 IsTested own elements (Err blame) = IsToBlame own elements blame
 
-abbrev pub by_shape : CircuitView → Result Shape Place → Step
-by_shape circuit (Ok shape) = solves shape circuit
-by_shape circuit (Err place) = refuses place not_built
-
--- a circuit that passes the tests is solved where it is one source, one line and one load
-abbrev pub by_tests : Place → CircuitView → Result Unit Blame → Step
-by_tests place circuit (Err blame) = refuses blame.place (model_cause blame.cause)
-by_tests place circuit (Ok done) = by_shape circuit (shape_of place circuit.elements)
+-- what the tests answer, and what a circuit that passes them comes to
+abbrev pub by_tests : CircuitView → Result Unit Blame → Step
+by_tests circuit (Err blame) = refuses blame.place (model_cause blame.cause)
+by_tests circuit (Ok done) = solution_step circuit
 
 module _ (same : ElementName → ElementName → Bool) (same_mention : Mention → Mention → Bool) where
-  pub record IsSolve (place : Place) (circuit : CircuitView) (step : Step) : Type 0 where
+  pub record IsSolve (circuit : CircuitView) (step : Step) : Type 0 where
     pub answer : Result Unit Blame
     pub right : IsTested (own_blame same same_mention circuit.options.defaultbasefrequency circuit.elements) circuit.elements answer
-    pub step_is : step ≡ by_tests place circuit answer
+    pub step_is : step ≡ by_tests circuit answer
 
-  abbrev pub IsStepOf : Place → Applied → Step → Type 0
-  IsStepOf place (nothing_left circuit) step = step ≡ changes circuit
-  IsStepOf place (refused_at at cause) step = step ≡ refuses at cause
-  IsStepOf place (solve_left circuit) step = IsSolve place circuit step
+  abbrev pub IsStepOf : Applied → Step → Type 0
+  IsStepOf (nothing_left circuit) step = step ≡ changes circuit
+  IsStepOf (refused_at place cause) step = step ≡ refuses place cause
+  IsStepOf (solve_left circuit) step = IsSolve circuit step
 
   -- what a command comes to, for a circuit
   abbrev pub IsStep : Command → CircuitView → Step → Type 0
-  IsStep command circuit step = IsStepOf command.place (tried same command circuit) step
+  IsStep command circuit step = IsStepOf (tried same command circuit) step

@@ -1,25 +1,35 @@
 -- What a printed solution is.
-use Rattle.std.specs.Prelude.{ℤ, List, [], ◌∷◌}
-use Rattle.fd_network.specs.declared.first.First.{First}
-use Rattle.fd_network.specs.First.{AreMismatches, IsFirst, MeetsFirst}
-use Rattle.fd_app.specs.Outcome.{Entry, Solution, Fault, state_of, mismatches_of}
+use Rattle.std.specs.Prelude.{◌≡◌, ℤ, List, [], ◌∷◌, Ok}
+use Rattle.dss_layout.specs.Layout.{layout_of, size_of}
+use Rattle.dss_circuit.specs.Circuit.{CircuitView}
+use Rattle.fd_system.specs.Equations.{equation}
+use Rattle.fd_system.specs.Meets.{Meets}
+use Rattle.fd_system.specs.Residual.{whole_state}
+use Rattle.fd_devices.specs.Scripted.{circuit_parts}
+use Rattle.fd_devices.specs.Snapshot.{snapshot_of}
+use Rattle.fd_inject.specs.Procedure.{solution_of}
+use Rattle.fd_inject.specs.Ranges.{SizesWithin}
+use Rattle.fd_app.specs.Outcome.{Entry, Solution, Fault}
+use Rattle.fd_app.specs.Solving.{greatest_mismatch, limits_of, mismatches_of, snapshot_network}
 
--- The state meets each of the feeder's eight equations within that equation's mismatch: the current laws of the source's node and
--- of the load's node and the voltage equations of source and line, each in its real and its imaginary part.
-abbrev pub MeetsEquations : First → List ℤ → List ℤ → Type 0
-MeetsEquations first state mismatches = MeetsFirst first state mismatches
+-- the procedure reaches this state, with some inverse
+pub record IsReached (circuit : CircuitView) (x : List ℤ) : Type 0 where
+  pub inverse : List (List ℤ)
+  pub reached : solution_of (snapshot_network circuit) (limits_of circuit.options) ≡ Ok (x, inverse)
 
--- The numbers of the feeder are in range, each printed mismatch is the greater size of the ends of its row's residual in intervals, and
--- the printed state meets the feeder's equations within them.
-pub record IsSolution (first : First) : Type 0 where
-  pub in_range : IsFirst first
-  pub due : AreMismatches first (state_of first) (mismatches_of first)
-  pub meets : MeetsEquations first (state_of first) (mismatches_of first)
+-- The state is the one that the procedure reaches. The mismatch of each row is the greater size of the ends of its residual in intervals,
+-- and at most the greatest of a solution. The state meets the complex equations of the scripted circuit within them: Kirchhoff's current law at
+-- each node and the voltage equation of each branch, in their real and their imaginary parts.
+pub record IsSolution (circuit : CircuitView) (x e : List ℤ) : Type 0 where
+  pub state : IsReached circuit x
+  pub due : e ≡ mismatches_of (snapshot_network circuit) x
+  pub small : SizesWithin greatest_mismatch e
+  pub meets : Meets (λ y l. equation l (circuit_parts circuit (snapshot_of circuit.elements) y)) e (size_of (layout_of circuit.elements)) (whole_state x)
 
 -- an entry that is a solution is one
 abbrev pub IsSolved : Entry → Type 0
-IsSolved (Solution number shape) = IsSolution shape.first
-IsSolved (Fault fields) = Unit {0}
+IsSolved (Solution number circuit x e) = IsSolution circuit x e
+IsSolved (Fault text) = Unit {0}
 
 abbrev pub AllSolved : List Entry → Type 0
 AllSolved [] = Unit {0}

@@ -1,40 +1,30 @@
 -- What a command line prints and how it ends, by the files that are held.
-use Rattle.std.specs.Prelude.{◌≡◌, ◌⊎◌, ℕ, zero, suc, ◌+◌, ℤ, pos, Bool, List, [], ◌∷◌, ◌++◌, get_or, Option, Some, None, codes, map}
+use Rattle.std.specs.Prelude.{◌≡◌, ◌⊎◌, ℕ, zero, suc, ℤ, Bool, List, [], ◌∷◌, ◌++◌, Option, Some, None}
 use Rattle.std.specs.List.{flat_map}
-use Rattle.std.specs.Fmt.{decimal}
 use Rattle.std.specs.Str.{chars}
-use Rattle.csv.specs.Writing.{row_text, default_writer}
 use Rattle.fd_outside.specs.Files.{Files}
-use Rattle.fd_network.specs.declared.first.First.{First}
-use Rattle.fd_network.specs.First.{first_state_of, first_mismatch_of}
 use Rattle.dss_values.specs.Names.{bytes}
 use Rattle.dss_profile.specs.declared.command.Place.{Place}
 use Rattle.dss_profile.specs.declared.names.ElementName.{ElementName}
-use Rattle.dss_layout.specs.declared.nodes.NodeName.{NodeName}
+use Rattle.dss_layout.specs.Layout.{layout_of}
 use Rattle.dss_ready.specs.declared.mention.Mention.{Mention}
 use Rattle.dss_circuit.specs.Circuit.{CircuitView, empty_circuit}
 use Rattle.dss_script.specs.Script.{Script, finished, refused, asks, gives, script_of}
-use Rattle.fd_app.specs.Numbers.{micro_text}
+use Rattle.fd_report.specs.Lines.{lines_of}
+use Rattle.fd_report.specs.Records.{report_of}
 use Rattle.fd_app.specs.Causes.{script_cause}
-use Rattle.fd_app.specs.Commands.{Step, changes, solves, refuses, IsStep}
+use Rattle.fd_app.specs.Commands.{IsStep}
+use Rattle.fd_app.specs.Steps.{Step, changes, solves, ends, read_text, script_text, usage_text}
 use Rattle.fd_app.specs.Words.{Form, Solve, form_of}
-use Rattle.fd_app.specs.declared.shape.Shape.{Shape}
 use Rattle.fd_app.specs.declared.ending.Ending.{Ending}
 use Rattle.fd_app.specs.declared.ending.Ending.TheVariants as ending
 
--- the names of a solved circuit's two nodes and two branches
-pub record Labels : Type 0 where
-  pub source_node : List ℕ
-  pub load_node : List ℕ
-  pub source : List ℕ
-  pub line : List ℕ
-
 -- what is printed at a time
 pub data Entry : Type 0 where
-  -- the solution of a circuit, by its number and the circuit's shape
-  Solution : ℕ → Shape → Entry
-  -- a fault by all the fields of its record
-  Fault : List (List ℕ) → Entry
+  -- a solution by its number and its circuit: the state and the mismatch of each row, by place, in whole microvolts and microamperes
+  Solution : ℕ → CircuitView → List ℤ → List ℤ → Entry
+  -- a fault by the text of its record
+  Fault : List ℕ → Entry
 
 -- what is printed, in order, the names of files that are asked for, in order, and how it ends, if it is followed to its end
 pub record Outcome : Type 0 where
@@ -42,58 +32,16 @@ pub record Outcome : Type 0 where
   pub names : List (List ℕ)
   pub ending : Option Ending
 
--- ---- solutions
-
--- the state that is printed for a feeder, and its mismatches, in micro-units: two parts for the source's node, for the load's node, for
--- the source and for the line
-unfoldable pub state_of : First → List ℤ
-state_of first = first_state_of first
-
-unfoldable pub mismatches_of : First → List ℤ
-mismatches_of first = first_mismatch_of first (first_state_of first)
-
--- `BUS.NODE`
-abbrev pub node_text : NodeName → List ℕ
-node_text node = bytes node.bus ++ 46 ∷ decimal node.number
-
-abbrev pub labels_of : Shape → Labels
-labels_of shape = record {
-  source_node = node_text shape.source_node;
-  load_node = node_text shape.load_node;
-  source = codes "vsource." ++ bytes shape.source.name;
-  line = codes "line." ++ bytes shape.line.name;
-}
-
 -- ---- records
 
--- the parts of a node or branch that stand at this place and the next, and the mismatches of these rows
-abbrev pub quantity_fields : List ℤ → List ℤ → ℕ → List (List ℕ)
-quantity_fields x e place =
-    micro_text (get_or x place (pos 0)) ∷ micro_text (get_or x (place + 1) (pos 0))
-    ∷ micro_text (get_or e place (pos 0)) ∷ micro_text (get_or e (place + 1) (pos 0)) ∷ []
-
--- the fields of each record of a solution
-abbrev pub solution_records : ℕ → Labels → List ℤ → List ℤ → List (List (List ℕ))
-solution_records number names x e =
-    (codes "solution" ∷ decimal number ∷ codes "0" ∷ codes "0" ∷ [])
-    ∷ (codes "node" ∷ names.source_node ∷ quantity_fields x e 0)
-    ∷ (codes "node" ∷ names.load_node ∷ quantity_fields x e 2)
-    ∷ (codes "branch" ∷ names.source ∷ codes "1" ∷ quantity_fields x e 4)
-    ∷ (codes "branch" ∷ names.line ∷ codes "1" ∷ quantity_fields x e 6)
-    ∷ []
-
--- the fields of each record of an entry
-abbrev pub records_of : Entry → List (List (List ℕ))
-records_of (Solution number shape) = solution_records number (labels_of shape) (state_of shape.first) (mismatches_of shape.first)
-records_of (Fault fields) = fields ∷ []
-
--- a record as csv writes it
-unfoldable pub line_of : List (List ℕ) → List ℕ
-line_of fields = row_text default_writer fields
+-- the text of each record of an entry. A solution of a snapshot has hour 0 and round 0
+abbrev pub lines_in : Entry → List (List ℕ)
+lines_in (Solution number circuit x e) = lines_of (report_of (layout_of circuit.elements) number 0 0 x e)
+lines_in (Fault text) = text ∷ []
 
 -- the text of each record of these entries
 abbrev pub texts_of : List Entry → List (List ℕ)
-texts_of entries = map line_of (flat_map records_of entries)
+texts_of entries = flat_map lines_in entries
 
 -- ---- endings
 
@@ -103,22 +51,23 @@ code_of ending.Done = 0
 code_of ending.Usage = 2
 code_of ending.ScriptFault = 3
 code_of ending.ReadFault = 4
+code_of ending.NoInverse = 6
+code_of ending.OutOfRange = 7
+code_of ending.NotConverged = 8
+code_of ending.Loose = 9
 
 -- a fault ends a run
-abbrev pub fault : Ending → List (List ℕ) → Outcome
-fault how fields = record { entries = Fault (codes "fault" ∷ fields) ∷ []; names = []; ending = Some how }
+abbrev pub fault : Ending → List ℕ → Outcome
+fault how text = record { entries = Fault text ∷ []; names = []; ending = Some how }
 
 abbrev pub usage : Outcome
-usage = fault ending.Usage (codes "usage" ∷ [])
-
-abbrev pub script_fields : Place → List ℕ → List (List ℕ)
-script_fields place cause = codes "script" ∷ bytes place.file ∷ decimal place.line ∷ cause ∷ []
+usage = fault ending.Usage usage_text
 
 abbrev pub script_fault : Place → List ℕ → Outcome
-script_fault place cause = fault ending.ScriptFault (script_fields place cause)
+script_fault place cause = fault ending.ScriptFault (script_text place cause)
 
 abbrev pub read_fault : List ℕ → Outcome
-read_fault name = fault ending.ReadFault (codes "read" ∷ bytes name ∷ [])
+read_fault name = fault ending.ReadFault (read_text name)
 
 abbrev pub done : Outcome
 done = record { entries = []; names = []; ending = Some ending.Done }
@@ -146,8 +95,8 @@ pub record Follows (rest : Outcome → Type 0) (entries : List Entry) (names : L
 -- what follows a command. A solution is numbered by the Solves so far
 abbrev pub AfterStep : Step → (CircuitView → Outcome → Type 0) → Outcome → Type 0
 AfterStep (changes circuit) rest outcome = rest circuit outcome
-AfterStep (refuses place cause) rest outcome = outcome ≡ script_fault place cause
-AfterStep (solves shape circuit) rest outcome = Follows (rest circuit) (Solution circuit.solves shape ∷ []) [] outcome
+AfterStep (solves circuit x e) rest outcome = Follows (rest circuit) (Solution circuit.solves circuit x e ∷ []) [] outcome
+AfterStep (ends how text) rest outcome = outcome ≡ fault how text
 
 pub record AfterCommand (is_step : Step → Type 0) (rest : CircuitView → Outcome → Type 0) (outcome : Outcome) : Type 0 where
   pub step : Step

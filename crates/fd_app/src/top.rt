@@ -1,5 +1,5 @@
 // The top call.
-ghost use Rattle.std.specs.Prelude.{◌≡◌, ◌≤◌, ◌⊎◌, [], None, Some, Option, map, string_bytes, ℕ, true, false, OnOk, Err, Result};
+ghost use Rattle.std.specs.Prelude.{◌≡◌, ◌≢◌, ◌≤◌, ◌⊎◌, [], None, Some, Option, map, string_bytes, ℕ, true, false, OnOk, Err, Result};
 ghost use Rattle.std.specs.Str.{chars};
 ghost use Rattle.fd_outside.specs.Causes.{Rose};
 ghost use Rattle.fd_outside.specs.Files.{Files};
@@ -7,7 +7,7 @@ ghost use Rattle.dss_circuit.specs.Circuit.{empty_circuit};
 ghost use Rattle.dss_script.specs.Script.{Script, script_of};
 ghost use Rattle.dss_script.specs.Sessions.{GrowsSome, IsRead, remaining, room};
 ghost use Rattle.fd_app.specs.Ends.{AnswersAt, Asks, EndsAtRead, Prints};
-ghost use Rattle.fd_app.specs.Outcome.{IsOutcome, IsOutcomeOf, usage};
+ghost use Rattle.fd_app.specs.Outcome.{IsOutcome, IsOutcomeOf, code_of, usage};
 ghost use Rattle.fd_app.specs.Run.{Due, OutcomesAreUnique, OutcomesExist, Runs};
 ghost use Rattle.fd_app.specs.Stream.{PrintsFault};
 ghost use Rattle.fd_app.specs.Words.{form_of};
@@ -105,16 +105,28 @@ fn solve<L: Library, S: Sink>(alloc: Global, file: &str, lib: &mut L, out: &mut 
     }
 }
 
-/// Does what the words say, and answers the exit status: 0 where it is done, 1 for want of memory, 2 where the words are no form of
-/// the command line, 3 where the script is refused, 4 where a read failed and 5 where a write failed.
+/// Does what the words say, and answers the exit status:
+///
+/// | Status | Comes where |
+/// |---|---|
+/// | 0 | the script was done to its end |
+/// | 1 | memory ran out |
+/// | 2 | the words are no form of the command line |
+/// | 3 | the script is refused |
+/// | 4 | a read failed |
+/// | 5 | a write failed |
+/// | 6 | a matrix of the procedure has no inverse |
+/// | 7 | an iterate of the procedure or its residual is out of range |
+/// | 8 | an unknown still moves after the steps that the options allow |
+/// | 9 | a mismatch of the state that the procedure reaches is above 1,000 microvolts or microamperes |
 ///
 /// The words are those after the program's name. `solve FILE` does the commands of the script of that name, and prints a solution at
 /// each Solve before the next command is read. Each record is handed to the sink by one write. A refusal is printed with its file, its
-/// line and its cause, a failed read with the file's name.
+/// line and its cause, a failed read with the file's name, and a fault of the procedure or a mismatch with the unknown or row that it is first found at.
 pub fn run<L: Library, S: Sink>(alloc: Global, words: &[String], lib: &mut L, out: &mut S) -> u8
     // What is printed is an outcome of the words over the files held, whole or cut short by want of memory or a failed write; a read
-    // fails in it only where the count of faults rose; the names asked are those of the outcome, in order; and each of its states meets
-    // its circuit's equations within the printed mismatches.
+    // fails in it only where the count of faults rose; the names asked are those of the outcome, in order; and each of its states is
+    // the one that the procedure reaches, and meets its circuit's equations within the printed mismatches, which are at most 1,000.
     ensures run { (files : Files) → L.holds lib.old ≡ Some files →
         Runs L.faults L.asked lib.old lib.new S.taken S.calls out.old out.new result
         (λ fails outcome. IsOutcomeOf ⟦<ElementName as PartialEq>⟧.eq ⟦<Mention as PartialEq>⟧.eq files (map string_bytes words.now) fails outcome) }
@@ -127,11 +139,12 @@ pub fn run<L: Library, S: Sink>(alloc: Global, words: &[String], lib: &mut L, ou
     ensures no_form { form_of (map string_bytes words.now) ≡ None → Prints S.taken S.calls out.old out.new result usage }
     ensures asks_nothing { form_of (map string_bytes words.now) ≡ None → Asks (L.asked lib.old) (L.asked lib.new) [] }
 
-    // A script error comes exactly where one is due, unless the outcome is cut short or a read fails.
-    ensures script { result ≡ 3 → (files : Files) → L.holds lib.old ≡ Some files →
-        Due ⟦<ElementName as PartialEq>⟧.eq ⟦<Mention as PartialEq>⟧.eq files (map string_bytes words.now) Ending.ScriptFault }
-    ensures is_script { (files : Files) → L.holds lib.old ≡ Some files →
-        Due ⟦<ElementName as PartialEq>⟧.eq ⟦<Mention as PartialEq>⟧.eq files (map string_bytes words.now) Ending.ScriptFault → AnswersAt 3 result }
+    // The status of an ending, but for a failed read, comes exactly where the outcome in which no read fails ends so, unless that outcome is
+    // cut short or a read fails.
+    ensures due { (how : Ending) → how ≢ Ending.ReadFault → result ≡ code_of how → (files : Files) → L.holds lib.old ≡ Some files →
+        Due ⟦<ElementName as PartialEq>⟧.eq ⟦<Mention as PartialEq>⟧.eq files (map string_bytes words.now) how }
+    ensures is_due { (how : Ending) → (files : Files) → L.holds lib.old ≡ Some files →
+        Due ⟦<ElementName as PartialEq>⟧.eq ⟦<Mention as PartialEq>⟧.eq files (map string_bytes words.now) how → AnswersAt (code_of how) result }
 
     // A fault is answered only where its count rose. Where a read failed, its record is the last, and names the file asked last.
     ensures read { result ≡ 4 → Rose (L.faults lib.old) (L.faults lib.new) }

@@ -1,5 +1,10 @@
-pub mod CircuitRows
-pub mod Chains
-pub mod Sizes
-pub mod FirstRows
-pub mod FirstState
+pub mod Assembling
+pub mod Building
+pub mod Faulty
+pub mod Sums
+pub mod Taking
+pub mod ReadyTests
+pub mod ReadyNodes
+pub mod ReadySides
+pub mod ReadyPlaces
+pub mod Ready

@@ -1,3 +1,3 @@
-pub mod OnePhase
-pub mod Circuit
-pub mod First
+pub mod Collecting
+pub mod Faults
+pub mod Places

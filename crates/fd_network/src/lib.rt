@@ -1,23 +1,20 @@
-// The network of a circuit: its equations, its system, and the residual of a state.
+// The network of a scripted circuit.
 //
-// It promises that the system of a list of elements has the rows of their complex equations at every state (`circuit_law`), that
-// `first_state` is the stated state of a circuit of one source, one line and one load, and that `first_mismatch` gives the
-// mismatches that a state of that circuit meets.
+// `build` gives exactly the network of a circuit that passed the tests of Solve, at given positions of taps and banks and given powers
+// of load phases: its rows are those of the elements' complex equations at every state. Range is the answer exactly where a number of the
+// linear rows, or the sum of those at one place, is past 2^54 in units of 2^-40, or a load is past its limit, and it names the
+// first element to blame. `update` leaves what `build` gives, and after a refusal what was there.
 //
-// Modules: `phases` has a source and a line of one phase, `elements` adds them to the interval residual, `circuit` is the law,
-// `first` has the circuit of three elements and its state, `mismatches` its mismatches.
+// Modules: `network` has the two calls, `assembly` makes a network of what the elements add, `pieces` collects that and names the element out
+// of range by its place, `settings` are the positions and powers of elements in turn, `fault` why elements have no rows, `blame` the
+// element to blame.
 #![tactic(auto)]
 
-mod circuit;
-mod elements;
-mod first;
-mod mismatches;
-mod phases;
+mod assembly;
+mod blame;
+mod fault;
+mod network;
+mod pieces;
+mod settings;
 
-pub use circuit::circuit_law;
-pub use first::{First, first_state};
-pub use mismatches::first_mismatch;
-pub use phases::{LinePhase, SourcePhase};
-
-#[cfg(test)]
-mod tests;
+pub use network::{build, update};

@@ -3,15 +3,9 @@ use Rattle.fd_app.proofs.Streams.{if_ok_weaker}
 use Rattle.fd_app.proofs.step.test_and_solve.Goals as goal
 
 pub returns-in-Ok : goal.returns-in-Ok
-returns-in-Ok c = if_ok_weaker c.find_shape.result _ _ (λ a h. (record { answer = Ok tt; right = c.in-Ok.ensures; step_is = h.0 }, h.1)) c.find_shape.ensures
+returns-in-Ok c = if_ok_weaker c.answer.result _ _ (λ a h. (record { answer = Ok tt; right = c.in-Ok.ensures; step_is = h.0 }, h.1)) c.answer.ensures
 
 pub returns-in-Err-Blame : goal.returns-in-Err-Blame
 returns-in-Err-Blame c =
-    let told = rw c.in-Err-Blame.field-0-is at c.blamed.ensures.refused in (
-      record {
-        answer = Err c.in-Err-Blame.blame;
-        right = rw c.in-Err-Blame.field-0-is at c.in-Err-Blame.ensures;
-        step_is = told c.args.circuit.now;
-      },
-      c.blamed.ensures.first,
-    )
+    let right = rw c.in-Err-Blame.field-0-is at c.in-Err-Blame.ensures in
+    if_ok_weaker c.blamed.result _ _ (λ a h. (record { answer = Err c.in-Err-Blame.blame; right = right; step_is = (h c.args.circuit.now).0 }, (h c.args.circuit.now).1)) c.blamed.ensures

@@ -1,9 +1,10 @@
 use Rattle.std.proofs.Common.{◌≡◌, ◌∙◌, ◌⊎◌, ℕ, None, Some, inl, inr, refl, sym, ap, map, string_bytes}
 use Rattle.std.specs.Option.{option_map}
 use Rattle.fd_app.specs.Outcome.{usage}
+use Rattle.fd_app.specs.Steps.{usage_text}
 use Rattle.fd_app.specs.Words.{Solve, form_of}
 use Rattle.fd_app.proofs.FailedReads.{grows_none}
-use Rattle.fd_app.proofs.Statuses.{answers_due, complete_status, script_only}
+use Rattle.fd_app.proofs.Statuses.{answers_due, complete_status, due_only}
 use Rattle.fd_app.proofs.Streams.{asks_none}
 use Rattle.fd_app.specs.Ends.{CutsShort}
 use Rattle.fd_app.specs.declared.ending.Ending.TheVariants as ending
@@ -26,13 +27,13 @@ returns-in-None-clause-run g c files told =
       cause = inl refl;
       outcome = usage;
       right = rw form refl;
-      prints = c.print.ensures.prints usage c.usage.ensures refl;
+      prints = c.print.ensures.prints usage_text c.usage.ensures;
       asks = asks_none (g.L.Library.asked c.args.lib.now);
       solutions = (tt, tt);
     }
 
 pub returns-in-None-clause-no_form : goal.returns-in-None-clause-no_form
-returns-in-None-clause-no_form g c none = c.print.ensures.prints usage c.usage.ensures refl
+returns-in-None-clause-no_form g c none = c.print.ensures.prints usage_text c.usage.ensures
 
 pub returns-in-Some-clause-run : goal.returns-in-Some-clause-run
 returns-in-Some-clause-run g c files told =
@@ -45,14 +46,14 @@ returns-in-None-clause-asks g c = grows_none (g.L.Library.asked c.args.lib.now)
 pub returns-in-None-clause-asks_nothing : goal.returns-in-None-clause-asks_nothing
 returns-in-None-clause-asks_nothing g c none = asks_none (g.L.Library.asked c.args.lib.now)
 
-pub returns-in-None-clause-script : goal.returns-in-None-clause-script
-returns-in-None-clause-script g c is files told =
-    script_only _ _ g.L.Library.faults g.L.Library.asked c.args.lib.now c.args.lib.now g.S.Sink.taken g.S.Sink.calls c.args.out.now c.print.new.out files (map string_bytes c.args.words.now) c.print.result
-    (returns-in-None-clause-run g c files told) is
+pub returns-in-None-clause-due : goal.returns-in-None-clause-due
+returns-in-None-clause-due g c how other is files told =
+    due_only _ _ g.L.Library.faults g.L.Library.asked c.args.lib.now c.args.lib.now g.S.Sink.taken g.S.Sink.calls c.args.out.now c.print.new.out files (map string_bytes c.args.words.now) c.print.result how
+    (returns-in-None-clause-run g c files told) other is
 
-pub returns-in-None-clause-is_script : goal.returns-in-None-clause-is_script
-returns-in-None-clause-is_script g c files told due =
-    answers_due _ _ g.L.Library.faults g.L.Library.asked c.args.lib.now c.args.lib.now g.S.Sink.taken g.S.Sink.calls c.args.out.now c.print.new.out files (map string_bytes c.args.words.now) c.print.result ending.ScriptFault
+pub returns-in-None-clause-is_due : goal.returns-in-None-clause-is_due
+returns-in-None-clause-is_due g c how files told due =
+    answers_due _ _ g.L.Library.faults g.L.Library.asked c.args.lib.now c.args.lib.now g.S.Sink.taken g.S.Sink.calls c.args.out.now c.print.new.out files (map string_bytes c.args.words.now) c.print.result how
     (returns-in-None-clause-run g c files told) due
 
 pub returns-in-None-clause-complete : goal.returns-in-None-clause-complete
@@ -61,14 +62,14 @@ returns-in-None-clause-complete g c files told due no_read no_write =
     (returns-in-None-clause-run g c files told) due in
     complete_status c.print.result _ _ (λ is. never_read c.print.result c.print.ensures.ending is) (λ none. none) c.print.ensures.write no_write answers
 
-pub returns-in-Some-clause-script : goal.returns-in-Some-clause-script
-returns-in-Some-clause-script g c is files told =
-    script_only _ _ g.L.Library.faults g.L.Library.asked c.args.lib.now c.solve.new.lib g.S.Sink.taken g.S.Sink.calls c.args.out.now c.solve.new.out files (map string_bytes c.args.words.now) c.solve.result
-    (returns-in-Some-clause-run g c files told) is
+pub returns-in-Some-clause-due : goal.returns-in-Some-clause-due
+returns-in-Some-clause-due g c how other is files told =
+    due_only _ _ g.L.Library.faults g.L.Library.asked c.args.lib.now c.solve.new.lib g.S.Sink.taken g.S.Sink.calls c.args.out.now c.solve.new.out files (map string_bytes c.args.words.now) c.solve.result how
+    (returns-in-Some-clause-run g c files told) other is
 
-pub returns-in-Some-clause-is_script : goal.returns-in-Some-clause-is_script
-returns-in-Some-clause-is_script g c files told due =
-    answers_due _ _ g.L.Library.faults g.L.Library.asked c.args.lib.now c.solve.new.lib g.S.Sink.taken g.S.Sink.calls c.args.out.now c.solve.new.out files (map string_bytes c.args.words.now) c.solve.result ending.ScriptFault
+pub returns-in-Some-clause-is_due : goal.returns-in-Some-clause-is_due
+returns-in-Some-clause-is_due g c how files told due =
+    answers_due _ _ g.L.Library.faults g.L.Library.asked c.args.lib.now c.solve.new.lib g.S.Sink.taken g.S.Sink.calls c.args.out.now c.solve.new.out files (map string_bytes c.args.words.now) c.solve.result how
     (returns-in-Some-clause-run g c files told) due
 
 pub returns-in-Some-clause-complete : goal.returns-in-Some-clause-complete

@@ -1,7 +1,6 @@
-use Rattle.std.proofs.Common.{◌≡◌, ◌∙◌, refl, sym, subst, arith}
+use Rattle.std.proofs.Common.{◌∙◌, refl, subst, arith}
 use Rattle.dss_script.specs.Script.{Script}
 use Rattle.dss_script.specs.Sessions.{remaining}
-use Rattle.dss_circuit.specs.Circuit.{empty_circuit}
 use Rattle.dss_profile.specs.contracts.names.ElementNamePartialEq.TheImpl as element_name
 use Rattle.dss_ready.specs.contracts.mention.MentionPartialEq.TheImpl as mention
 use Rattle.fd_app.proofs.FailedReads.{ends_at_read, grows_then, nothing_shown, shown_more}

@@ -1,0 +1,29 @@
+use Rattle.std.proofs.Common.{◌∙◌, ap, subst, sym}
+use Rattle.dss_layout.specs.Layout.{size_of}
+use Rattle.fd_inject.specs.Faults.{IsInside}
+use Rattle.fd_inject.specs.Procedure.{solution_of}
+use Rattle.fd_inject.proofs.Limited.{unless_more}
+use Rattle.fd_app.specs.Solving.{limits_of, snapshot_network}
+use Rattle.fd_app.proofs.SnapshotNetworks.{network_size}
+use Rattle.fd_app.proofs.solving.solve_network.Goals as goal
+
+pub judge-requires-clause-reached : goal.judge-requires-clause-reached
+judge-requires-clause-reached c =
+    let limits = c.limits_of-limits.ensures.limits ∙ ap limits_of c.options.ensures.value in
+    record {
+      inverse = c.in-Ok.point.inverse;
+      reached = ap (λ v. solution_of v (limits_of c.args.circuit.now.options)) (sym c.requires.network) ∙ ap (solution_of c.args.net.now) (sym limits) ∙ c.in-Ok.ensures.point;
+    }
+
+pub unsolved-requires : goal.unsolved-requires
+unsolved-requires c =
+    let size = network_size c.args.circuit.now c.args.net.now c.requires.network ∙ sym (ap size_of c.in_ok-layout-in-Err.ensures) in
+    subst (λ n. IsInside n c.in-Err.fault) size c.in-Err.ensures.within
+
+pub returns-in_ok-layout-in-Err : goal.returns-in_ok-layout-in-Err
+returns-in_ok-layout-in-Err c =
+    let circuit = c.args.circuit.now in
+    let limits = c.limits_of-limits.ensures.limits ∙ ap limits_of c.options.ensures.value in
+    let said = ap (λ v. solution_of v (limits_of circuit.options)) (sym c.requires.network) ∙ ap (solution_of c.args.net.now) (sym limits) in
+    c.unsolved.ensures circuit (snapshot_network circuit) (solution_of (snapshot_network circuit) (limits_of circuit.options)) c.in_ok-layout-in-Err.ensures
+    (unless_more c.in-Err.fault (λ is. said ∙ is) c.in-Err.ensures.fault)

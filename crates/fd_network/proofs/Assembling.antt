@@ -1,0 +1,61 @@
+-- What elements add is what a network asks for.
+use Rattle.std.proofs.Common.{◌≡◌, ◌∙◌, ℕ, ◌*◌, ◌<◌, ◌≤◌, ◌^◌, List, [], ◌∷◌, None, arith, ap}
+use Rattle.std.specs.List.{All}
+use Rattle.std.specs.Option.{option_or}
+use Rattle.std.proofs.lemmas.List.Elements.{All-nil, All-cons, All-head, All-tail}
+use Rattle.fd_arith.specs.declared.terms.Term.{Term}
+use Rattle.fd_system.specs.declared.constants.Constant.{Constant}
+use Rattle.fd_system.specs.Contributions.{IsDivided, IsWithin}
+use Rattle.fd_equations.specs.Conditions.{AreLinear, IsKnown, IsLinear}
+use Rattle.fd_devices.specs.Building.{AreContributions, AreInRange, Fits, HasSmallSums, IsInside}
+use Rattle.fd_devices.specs.Devices.{Device, share_of_all}
+use Rattle.fd_network.specs.declared.fault.PlaceFault.{PlaceFault}
+use Rattle.fd_network.specs.declared.fault.PlaceFault.TheVariants as place_fault
+use Rattle.fd_network.specs.Collecting.{NamesPlace}
+use Rattle.fd_network.specs.Faults.{first_out_of_range, first_without, fits, has_small_sums}
+use Rattle.fd_network.proofs.Faulty.{fits_decides, none_without, sums_decide}
+use Rattle.fd_network.proofs.Sums.{small_at_devices}
+
+-- ---- rows
+
+module _ (n size : ℕ) (room : 2 * n ≤ size) where
+  all_linear : (ts : List Term) → All (IsInside n) ts → All IsDivided ts → All IsWithin ts → All (IsLinear size) ts
+  all_linear [] inside divided within = All-nil (IsLinear size)
+  all_linear (t ∷ ts) inside divided within =
+      let i = All-head (IsInside n) t ts inside in
+      let d = All-head IsDivided t ts divided in
+      let row = i.row in
+      let col = i.col in
+      All-cons (IsLinear size) t ts (record { term = record { row = omega arith; col = omega arith; positive = d.positive; most = d.most }; within = All-head IsWithin t ts within })
+      (all_linear ts (All-tail (IsInside n) t ts inside) (All-tail IsDivided t ts divided) (All-tail IsWithin t ts within))
+
+  pub are_linear : (b : ℕ) (ts : List Term) → b < 2 ^ 24 → AreContributions n b ts → AreLinear size ts
+  are_linear b ts few h = record { each = all_linear ts h.inside h.divided h.within; few = omega (arith, h.few) }
+
+  pub all_known : (cs : List Constant) → All (IsKnown (2 * n)) cs → All (IsKnown size) cs
+  all_known [] h = All-nil (IsKnown size)
+  all_known (c ∷ cs) h =
+      let k = All-head (IsKnown (2 * n)) c cs h in
+      let row = k.row in
+      All-cons (IsKnown size) c cs (record { row = omega arith; least = k.least; most = k.most }) (all_known cs (All-tail (IsKnown (2 * n)) c cs h))
+
+-- ---- faults
+
+-- a device out of range by itself comes first
+pub own_fault : (ds : List Device) (f : PlaceFault) → NamesPlace (first_without fits ds) f → NamesPlace (first_out_of_range ds) f
+own_fault ds (place_fault.OutOfRange k) h = ap (λ o. option_or o (first_without (has_small_sums (share_of_all ds).terms) ds)) h
+own_fault ds place_fault.NoMemory h = tt
+
+fit_then_sums : (ds : List Device) → All Fits ds → first_out_of_range ds ≡ first_without (has_small_sums (share_of_all ds).terms) ds
+fit_then_sums ds h = ap (λ o. option_or o (first_without (has_small_sums (share_of_all ds).terms) ds)) (none_without fits Fits fits_decides ds h)
+
+-- where each fits, the first with a large sum is the first out of range
+pub sum_fault : (ds : List Device) (f : PlaceFault) → All Fits ds → NamesPlace (first_without (has_small_sums (share_of_all ds).terms) ds) f → NamesPlace (first_out_of_range ds) f
+sum_fault ds (place_fault.OutOfRange k) fit h = fit_then_sums ds fit ∙ h
+sum_fault ds place_fault.NoMemory fit h = tt
+
+-- no device in range is out of range
+pub no_fault : (ds : List Device) → AreInRange ds → first_out_of_range ds ≡ None
+no_fault ds h =
+    fit_then_sums ds h.each
+    ∙ none_without (has_small_sums (share_of_all ds).terms) (HasSmallSums (share_of_all ds).terms) (sums_decide (share_of_all ds).terms) ds (small_at_devices (share_of_all ds).terms ds h.sums)

@@ -1,0 +1,97 @@
+-- The tests of devices decide what is said of them, and the first device that fails one.
+use Rattle.std.proofs.Common.{◌≡◌, ◌∙◌, ℕ, zero, suc, ◌*◌, ◌<◌, ◌^◌, ℤ, nat_abs, Bool, true, false, not, cond, List, [], ◌∷◌, length, take, drop, Option, Some, None, Decides, arith, ap, sym, refl, subst}
+use Rattle.std.specs.List.{All, list_all}
+use Rattle.std.specs.Option.{option_map}
+use Rattle.std.proofs.lemmas.Int.{ints}
+use Rattle.std.proofs.lemmas.Bool.{leb-true, le-leb}
+use Rattle.std.proofs.lemmas.Bool.Decides.{Decides-and, Decides-by_and, Decides-like, Decides-ltb, Decides-not, Decides-or}
+use Rattle.std.proofs.lemmas.List.Elements.{All-drop, All-head, All-tail}
+use Rattle.fd_arith.specs.declared.terms.Term.{Term}
+use Rattle.fd_system.specs.declared.loads.LoadAt.{LoadAt}
+use Rattle.fd_system.specs.declared.loads.LoadPhase.{LoadPhase}
+use Rattle.fd_system.specs.Contributions.{AreSmall, IsWithin}
+use Rattle.fd_elements.specs.Loads.{IsPast, power_sum}
+use Rattle.fd_equations.specs.Coefficients.{linear_entry, units_of}
+use Rattle.fd_devices.specs.Building.{Fits, HasSmallSums}
+use Rattle.fd_devices.specs.Devices.{Device, device_share}
+use Rattle.fd_network.specs.declared.fault.PlaceFault.{PlaceFault}
+use Rattle.fd_network.specs.declared.fault.PlaceFault.TheVariants as place_fault
+use Rattle.fd_network.specs.Collecting.{IsMisfit, NamesPlace}
+use Rattle.fd_network.specs.Faults.{first_without, fits, has_small_sums, is_past, is_small}
+
+-- ---- one device
+
+small_decides : (z : ℤ) → Decides (is_small z) (AreSmall z)
+small_decides z = (
+  λ h. let size = leb-true (nat_abs z) (2 ^ 54) h in (omega (arith, ints, size), omega (arith, ints, size)),
+  λ h. le-leb (nat_abs z) (2 ^ 54) (omega (arith, ints, h.0, h.1)),
+)
+
+past_decides : (w : LoadPhase) → Decides (is_past w) (IsPast w)
+past_decides w = Decides-or _ _ (Decides-ltb (10 ^ 11) (power_sum w)) (Decides-ltb _ (power_sum w * 10 ^ 9))
+
+pub fits_decides : (d : Device) → Decides (fits d) (Fits d)
+fits_decides d =
+    let terms = Decides-by_and (λ (t : Term). is_small (units_of t)) IsWithin (list_all (λ (t : Term). is_small (units_of t))) (λ t. small_decides (units_of t)) refl (λ _ _. refl) (device_share d).terms in
+    let loads = Decides-by_and (λ (u : LoadAt). not (is_past u.load)) (λ (u : LoadAt). ¬ (IsPast u.load)) (list_all (λ (u : LoadAt). not (is_past u.load))) (λ u. Decides-not (is_past u.load) (past_decides u.load)) refl (λ _ _. refl) (device_share d).loads in
+    Decides-like (fits d) (λ p. record { terms = p.0; loads = p.1 }) (λ f. (f.terms, f.loads)) (Decides-and _ _ terms loads)
+
+pub sums_decide : (all : List Term) (d : Device) → Decides (has_small_sums all d) (HasSmallSums all d)
+sums_decide all d =
+    Decides-by_and (λ (t : Term). is_small (linear_entry all t.row t.col)) (λ (t : Term). AreSmall (linear_entry all t.row t.col)) (list_all (λ (t : Term). is_small (linear_entry all t.row t.col)))
+    (λ t. small_decides (linear_entry all t.row t.col)) refl (λ _ _. refl) (device_share d).terms
+
+-- ---- the first device
+
+module _ (holds : Device → Bool) (Holds : Device → Type 0) (decides : (d : Device) → Decides (holds d) (Holds d)) where
+  -- there is none where it holds of each
+  pub none_without : (ds : List Device) → All Holds ds → first_without holds ds ≡ None
+  none_without [] h = refl
+  none_without (d ∷ ds) h =
+      ap (λ b. cond b (option_map suc (first_without holds ds)) (Some zero)) ((decides d).1 (All-head Holds d ds h))
+      ∙ ap (option_map suc) (none_without ds (All-tail Holds d ds h))
+
+  fails : (b : Bool) (P : Type 0) → Decides b P → ¬ P → b ≡ false
+  fails true P h n = absurd (n (h.0 refl))
+  fails false P h n = refl
+
+  -- it is the one after those of which it holds
+  pub first_at : (ds : List Device) (place : ℕ) (d : Device) (rest : List Device) → All Holds (take place ds) → drop place ds ≡ d ∷ rest → ¬ (Holds d) → first_without holds ds ≡ Some place
+  first_at [] zero d rest h e n = cc
+  first_at [] (suc place) d rest h e n = cc
+  first_at (c ∷ ds) zero d rest h e n =
+      let k : c ≡ d = cc in
+      ap (λ x. cond (holds x) (option_map suc (first_without holds ds)) (Some zero)) k
+      ∙ ap (λ b. cond b (option_map suc (first_without holds ds)) (Some zero)) (fails (holds d) (Holds d) (decides d) n)
+  first_at (c ∷ ds) (suc place) d rest h e n =
+      ap (λ b. cond b (option_map suc (first_without holds ds)) (Some zero)) ((decides c).1 (All-head Holds c (take place ds) h))
+      ∙ ap (option_map suc) (first_at ds place d rest (All-tail Holds c (take place ds) h) e n)
+
+-- it is one of the devices
+pub first_within : (holds : Device → Bool) (ds : List Device) (place : ℕ) → first_without holds ds ≡ Some place → place < length ds
+first_within holds [] place h = let no : ⊥ = cc in absurd no
+first_within holds (d ∷ ds) place h = by (holds d) (first_without holds ds) h (first_within holds ds)
+  where
+    by : (b : Bool) (o : Option ℕ) → cond b (option_map suc o) (Some zero) ≡ Some place → ((k : ℕ) → o ≡ Some k → k < length ds) → place < length (d ∷ ds)
+    by true None e rest = let no : ⊥ = cc in absurd no
+    by true (Some k) e rest =
+        let is : suc k ≡ place = cc in
+        let low = rest k refl in
+        omega arith
+    by false o e rest = let is : zero ≡ place = cc in omega arith
+
+-- ---- faults of places
+
+-- the device at a place, after which others come
+pub holds_next : (P : Device → Type 0) (ds : List Device) (place : ℕ) (d : Device) (rest : List Device) → All P ds → drop place ds ≡ d ∷ rest → P d
+holds_next P ds place d rest h e = All-head P d rest (subst (All P) e (All-drop P place ds h))
+
+-- a device that doesn't fit, after those that do
+pub misfit_first : (ds : List Device) (place : ℕ) (d : Device) (rest : List Device) (f : PlaceFault) → All Fits (take place ds) → drop place ds ≡ d ∷ rest → IsMisfit place d f → NamesPlace (first_without fits ds) f
+misfit_first ds place d rest (place_fault.OutOfRange k) h e m = first_at fits Fits fits_decides ds place d rest h e m.1 ∙ ap Some (sym m.0)
+misfit_first ds place d rest place_fault.NoMemory h e m = tt
+
+-- where each device fits there is none
+pub no_misfit : (said : Option ℕ) (ds : List Device) (place : ℕ) (d : Device) (rest : List Device) (f : PlaceFault) → All Fits ds → drop place ds ≡ d ∷ rest → IsMisfit place d f → NamesPlace said f
+no_misfit said ds place d rest (place_fault.OutOfRange k) h e m = absurd (m.1 (holds_next Fits ds place d rest h e))
+no_misfit said ds place d rest place_fault.NoMemory h e m = tt

@@ -1,0 +1,134 @@
+-- The elements of a circuit that passed the tests of Solve are ready to be taken into a network.
+use Rattle.std.proofs.Common.{◌≡◌, ℕ, suc, ◌+◌, ◌<◌, ◌≤◌, ◌^◌, nat_lt, Bool, true, false, [], ◌∷◌, ◌++◌, length, slice_index, slice_index_or, All, Some, None, refl, sym, ap, subst, ◌∙◌, append_assoc, add-zero, zero-add, if◌then◌else◌, arith}
+use Rattle.std.proofs.lemmas.Bool.{or_parts, ltb-false}
+use Rattle.std.proofs.lemmas.List.{append-nil}
+use Rattle.std.proofs.lemmas.List.Elements.{All-weaker}
+use Rattle.fd_exact.specs.Sums.{list_n}
+use Rattle.dss_profile.specs.InRange.{ElementInRange}
+use Rattle.dss_profile.specs.declared.element.Element.{Element}
+use Rattle.dss_profile.specs.declared.names.ElementName.{ElementName}
+use Rattle.dss_layout.specs.declared.limits.TheConstants.{MOST_COMPLEX, MOST_MAGNITUDES}
+use Rattle.dss_layout.specs.Layout.{Elements, LayoutView, branch_phases, complex_count, ends_of, first_magnitude, first_past, first_too_many, layout_of, magnitude_phases, passes_limit}
+use Rattle.dss_ready.specs.declared.mention.Mention.{Mention}
+use Rattle.dss_ready.specs.Mentions.{is_mentioned}
+use Rattle.dss_ready.specs.Ready.{IsReady, own_blame}
+use Rattle.fd_devices.specs.Building.{IsCovered}
+use Rattle.fd_devices.specs.Sound.{IsSound}
+use Rattle.fd_network.specs.Places.{AreReadyFrom, IsReadyAt}
+use Rattle.fd_network.proofs.ReadyNodes.{mentions_among}
+use Rattle.fd_network.proofs.ReadyPlaces.{StandsAmong, length-phases, length-sums_before, sited, stands_among, sum_with_own, sum_within}
+use Rattle.fd_network.proofs.ReadySides.{side_counts}
+use Rattle.fd_network.proofs.ReadyTests.{Passes, all_pass, sound_from}
+
+-- ---- limits
+
+none_past : (before rest : Elements) → first_past before rest ≡ None → passes_limit (layout_of before) ≡ false
+    → passes_limit (layout_of (before ++ rest)) ≡ false
+none_past before [] h low = ap (λ l. passes_limit (layout_of l)) (append-nil before) ∙ low
+none_past before (e ∷ rest) h low = by (passes_limit (layout_of (before ++ e ∷ []))) refl h (none_past (before ++ e ∷ []) rest)
+  where
+    by : (b : Bool) → passes_limit (layout_of (before ++ e ∷ [])) ≡ b → (if b then Some (length before) else first_past (before ++ e ∷ []) rest) ≡ None
+        → (first_past (before ++ e ∷ []) rest ≡ None → passes_limit (layout_of (before ++ e ∷ [])) ≡ false
+        → passes_limit (layout_of ((before ++ e ∷ []) ++ rest)) ≡ false)
+        → passes_limit (layout_of (before ++ e ∷ rest)) ≡ false
+    by true t g later = cc
+    by false t g later = ap (λ l. passes_limit (layout_of l)) (sym (append_assoc before (e ∷ []) rest)) ∙ later g t
+
+-- the layout passes no limit
+pub within_limits : (elements : Elements) → first_too_many elements ≡ None → passes_limit (layout_of elements) ≡ false
+within_limits elements h = none_past [] elements h refl
+
+-- at most 240 complex unknowns
+pub few_complex : (elements : Elements) → first_too_many elements ≡ None → complex_count (layout_of elements) ≤ 240
+few_complex elements h =
+    let layout = layout_of elements in
+    let parts = or_parts (nat_lt MOST_COMPLEX (complex_count layout)) (nat_lt MOST_MAGNITUDES (length layout.magnitudes)) (within_limits elements h) in
+    ltb-false MOST_COMPLEX (complex_count layout) parts.0
+
+-- at most 48 magnitudes
+pub few_magnitudes : (elements : Elements) → first_too_many elements ≡ None → length (layout_of elements).magnitudes ≤ 48
+few_magnitudes elements h =
+    let layout = layout_of elements in
+    let parts = or_parts (nat_lt MOST_COMPLEX (complex_count layout)) (nat_lt MOST_MAGNITUDES (length layout.magnitudes)) (within_limits elements h) in
+    ltb-false MOST_MAGNITUDES (length layout.magnitudes) parts.1
+
+-- at most 240 branch phases
+pub few_branches : (elements : Elements) → first_too_many elements ≡ None → list_n (λ e. branch_phases e.1) elements ≤ 240
+few_branches elements h =
+    let few = few_complex elements h in
+    let count = length-phases branch_phases elements in
+    omega arith
+
+-- ---- places
+
+-- the layout has the number of branch phases before each element
+pub branches_within : (elements : Elements) (place : ℕ) → place < length elements → place < length (layout_of elements).branches_before
+branches_within elements place h = subst (λ n. place < n) (sym (length-sums_before branch_phases 0 elements)) h
+
+-- and the number of magnitudes before each element
+pub magnitudes_within : (elements : Elements) (place : ℕ) → place < length elements → place < length (layout_of elements).magnitudes_before
+magnitudes_within elements place h = subst (λ n. place < n) (sym (length-sums_before magnitude_phases 0 elements)) h
+
+-- the first magnitude of an element is in range
+pub small_first_magnitude : (elements : Elements) (place : ℕ) → first_too_many elements ≡ None → place < length elements
+    → first_magnitude (layout_of elements) place < 2 ^ 31
+small_first_magnitude elements place h within =
+    let sum = sum_within magnitude_phases 0 elements place within in
+    let few = few_complex elements h in
+    let some = few_magnitudes elements h in
+    omega arith
+
+-- ---- elements
+
+-- the elements of which each is ready at its place
+ready_from : (layout : LayoutView) (place : ℕ) (es : Elements)
+    → ((k : ℕ) (d : ElementName × Element) → k < length es → IsReadyAt layout (place + k) (slice_index_or es k d).1) → AreReadyFrom layout place es
+ready_from layout place [] h = tt
+ready_from layout place (e ∷ es) h = (
+  subst (λ n. IsReadyAt layout n e.1) (add-zero place) (h 0 e (omega arith)),
+  ready_from layout (place + 1) es (λ k d lt. later k d (h (suc k) d (omega arith))),
+)
+  where
+    later : (k : ℕ) (d : ElementName × Element) → IsReadyAt layout (place + suc k) (slice_index_or es k d).1
+        → IsReadyAt layout (place + 1 + k) (slice_index_or es k d).1
+    later k d r = let same : place + suc k ≡ place + 1 + k = omega arith in subst (λ n. IsReadyAt layout n (slice_index_or es k d).1) same r
+
+-- where the nodes and branches of the element at a place stand
+pub stands_at : (elements : Elements) (place : ℕ) (d : ElementName × Element) → place < length elements → ElementInRange (slice_index_or elements place d).1
+    → IsSound (slice_index_or elements place d).1
+    → (let e = (slice_index_or elements place d).1 in StandsAmong (complex_count (layout_of elements)) (ends_of (layout_of elements) place e) e)
+stands_at elements place d within in_range sound =
+    let layout = layout_of elements in
+    let e = (slice_index_or elements place d).1 in
+    let sum = sum_with_own branch_phases 0 elements place d within in
+    let room : slice_index layout.branches_before place + branch_phases e ≤ length layout.branches = omega arith in
+    stands_among layout place e (side_counts e in_range sound.terminals) (mentions_among elements place d within) room
+
+module _ (same : ElementName → ElementName → Bool) (same_mention : Mention → Mention → Bool) (hertz : ℕ) (elements : Elements) where
+  -- every element is sound
+  pub all_sound : IsReady (own_blame same same_mention hertz elements) elements → All (λ e. IsSound e.1) elements
+  all_sound h =
+      let named = is_mentioned same_mention elements in
+      All-weaker (Passes same named hertz elements) (λ e. IsSound e.1) (sound_from same named hertz elements) elements
+      (all_pass same same_mention named hertz elements [] elements h.no_own)
+
+  -- the element at a place is ready to be taken
+  pub ready_at : IsReady (own_blame same same_mention hertz elements) elements → All (λ e. ElementInRange e.1) elements → All (λ e. IsCovered e.1) elements
+      → (place : ℕ) (d : ElementName × Element) → place < length elements → IsReadyAt (layout_of elements) place (slice_index_or elements place d).1
+  ready_at h in_range covered place d within =
+      let e = (slice_index_or elements place d).1 in
+      let range : ElementInRange e = in_range place d within in
+      let sound : IsSound e = all_sound h place d within in
+      record {
+        in_range = range;
+        sound = sound;
+        covered = covered place d within;
+        sited = sited (complex_count (layout_of elements)) (ends_of (layout_of elements) place e) e range (stands_at elements place d within range sound);
+      }
+
+  -- all are
+  pub ready : IsReady (own_blame same same_mention hertz elements) elements → All (λ e. ElementInRange e.1) elements → All (λ e. IsCovered e.1) elements
+      → AreReadyFrom (layout_of elements) 0 elements
+  ready h in_range covered =
+      ready_from (layout_of elements) 0 elements
+      (λ k d lt. subst (λ n. IsReadyAt (layout_of elements) n (slice_index_or elements k d).1) (sym (zero-add k)) (ready_at h in_range covered k d lt))

@@ -1,0 +1,101 @@
+-- Where the nodes and the branches of an element stand among the unknowns of the layout.
+use Rattle.std.proofs.Common.{◌≡◌, ℕ, zero, suc, ◌+◌, ◌<◌, ◌≤◌, ◌==◌, Bool, true, false, inl, inr, if◌then◌else◌, [], ◌∷◌, length, slice_index, slice_index_or, All, refl, ap, ◌∙◌, length-append, arith}
+use Rattle.std.specs.List.{flat_map}
+use Rattle.std.proofs.lemmas.List.{length-map}
+use Rattle.std.proofs.lemmas.List.FromFn.{length-map-range_with_len}
+use Rattle.fd_exact.specs.Sums.{list_n}
+use Rattle.fd_arith.specs.declared.terms.Ends.{Ends}
+use Rattle.dss_profile.specs.Ranges.{IsOneOf}
+use Rattle.dss_profile.specs.InRange.{ElementInRange}
+use Rattle.dss_profile.specs.declared.element.Element.{Element}
+use Rattle.dss_profile.specs.declared.element.Element.TheVariants as the
+use Rattle.dss_profile.specs.declared.names.ElementName.{ElementName}
+use Rattle.dss_layout.specs.Nodes.{node_at}
+use Rattle.dss_layout.specs.Terminals.{mentions, terminals_of}
+use Rattle.dss_layout.specs.Layout.{Elements, LayoutView, branch_phases, complex_count, ends_of, phase_names, sums_before}
+use Rattle.fd_devices.specs.Sound.{HasBranches, IsSideOf, IsSited}
+use Rattle.fd_network.proofs.ReadyNodes.{IsAmong, sides_below}
+use Rattle.fd_network.proofs.ReadySides.{HasCounts, first_count, second_count}
+
+-- ---- sums
+
+pub length-sums_before : (f : Element → ℕ) (s : ℕ) (es : Elements) → length (sums_before f s es) ≡ length es
+length-sums_before f s [] = refl
+length-sums_before f s (e ∷ es) = ap suc (length-sums_before f (s + f e.1) es)
+
+length-phase_names : (name : ElementName) (n : ℕ) → length (phase_names name n) ≡ n
+length-phase_names name n = length-map-range_with_len _ 1 n
+
+-- the phases of an element, after those before it, are among all
+pub sum_with_own : (f : Element → ℕ) (s : ℕ) (es : Elements) (k : ℕ) (d : ElementName × Element) → k < length es
+    → slice_index (sums_before f s es) k + f (slice_index_or es k d).1 ≤ s + length (flat_map (λ e. phase_names e.0 (f e.1)) es)
+sum_with_own f s [] k d h = absurd (omega arith)
+sum_with_own f s (e ∷ es) zero d h =
+    let joined = length-append (phase_names e.0 (f e.1)) (flat_map (λ (x : ElementName × Element). phase_names x.0 (f x.1)) es) in
+    let count = length-phase_names e.0 (f e.1) in
+    omega arith
+sum_with_own f s (e ∷ es) (suc k) d h =
+    let joined = length-append (phase_names e.0 (f e.1)) (flat_map (λ (x : ElementName × Element). phase_names x.0 (f x.1)) es) in
+    let count = length-phase_names e.0 (f e.1) in
+    let rest = sum_with_own f (s + f e.1) es k d (omega arith) in
+    omega arith
+
+-- and so are those before it
+pub sum_within : (f : Element → ℕ) (s : ℕ) (es : Elements) (k : ℕ) → k < length es
+    → slice_index (sums_before f s es) k ≤ s + length (flat_map (λ e. phase_names e.0 (f e.1)) es)
+sum_within f s [] k h = absurd (omega arith)
+sum_within f s (e ∷ es) k h = let own = sum_with_own f s (e ∷ es) k e h in omega arith
+
+-- how many phases all elements have
+pub length-phases : (f : Element → ℕ) (es : Elements) → length (flat_map (λ e. phase_names e.0 (f e.1)) es) ≡ list_n (λ e. f e.1) es
+length-phases f [] = refl
+length-phases f (e ∷ es) =
+    let joined = length-append (phase_names e.0 (f e.1)) (flat_map (λ (x : ElementName × Element). phase_names x.0 (f x.1)) es) in
+    let count = length-phase_names e.0 (f e.1) in
+    let rest = length-phases f es in
+    omega arith
+
+-- ---- an element
+
+-- its sides have a node for each terminal, and its nodes and branches are among the first n complex unknowns
+pub record StandsAmong (n : ℕ) (at : Ends) (e : Element) : Type 0 where
+  pub first : IsSideOf n (first_count e) at.first
+  pub second : IsSideOf n (second_count e) at.second
+  pub branches : at.branch + branch_phases e ≤ n
+
+module _ (layout : LayoutView) (place : ℕ) (e : Element) where
+  branches_below : (b : Bool) → slice_index layout.branches_before place + branch_phases e ≤ length layout.branches
+      → (if b then 0 else length layout.nodes + slice_index layout.branches_before place) + branch_phases e ≤ complex_count layout
+  branches_below true h = omega arith
+  branches_below false h = omega arith
+
+  pub stands_among : HasCounts (first_count e) (second_count e) (terminals_of e) → All (IsAmong layout.nodes) (mentions e)
+      → slice_index layout.branches_before place + branch_phases e ≤ length layout.branches
+      → StandsAmong (complex_count layout) (ends_of layout place e) e
+  stands_among counts among room =
+      let below = sides_below layout.nodes (complex_count layout) (omega arith) (terminals_of e) among in
+      record {
+        first = record { count = length-map (terminals_of e).first (node_at layout.nodes) ∙ counts.at_first; below = below.0 };
+        second = record { count = length-map (terminals_of e).second (node_at layout.nodes) ∙ counts.at_second; below = below.1 };
+        branches = branches_below (branch_phases e == 0) room;
+      }
+
+-- an element of one phase or of three has some
+pub some_phases : (phases : ℕ) → IsOneOf (1 ∷ 3 ∷ []) phases → 1 ≤ phases
+some_phases phases (inl h) = omega arith
+some_phases phases (inr h) = omega arith
+
+-- the branches of an element with phases
+pub has_branches : (n : ℕ) (at : Ends) (e : Element) → 1 ≤ branch_phases e → StandsAmong n at e → HasBranches n (branch_phases e) at
+has_branches n at e some p = record { some = some; below = p.branches }
+
+pub sited : (n : ℕ) (at : Ends) (e : Element) → ElementInRange e → StandsAmong n at e → IsSited n at e
+sited n at (the.Vsource v) r p = (p.first, has_branches n at (the.Vsource v) (some_phases v.phases r.phases) p)
+sited n at (the.Line l) r p = (p.first, p.second, has_branches n at (the.Line l) r.phases.least p)
+sited n at (the.Load l) r p = p.first
+sited n at (the.Linecode c) r p = tt
+sited n at (the.Transformer t) r p = tt
+sited n at (the.Capacitor c) r p = tt
+sited n at (the.RegControl c) r p = tt
+sited n at (the.CapControl c) r p = tt
+sited n at (the.Loadshape s) r p = tt

@@ -1,0 +1,102 @@
+-- Elements taken one after another, each with its own settings.
+use Rattle.std.proofs.Common.{◌≡◌, ◌∙◌, ℕ, zero, suc, ◌+◌, ◌≤◌, List, [], ◌∷◌, ◌++◌, length, length-drop, take, drop, slice_get, Some, add-zero, arith, ap, refl, sym, subst}
+use Rattle.std.proofs.lemmas.List.Elements.{All-drop}
+use Rattle.dss_profile.specs.declared.element.Element.{Element}
+use Rattle.dss_profile.specs.declared.element.Element.TheVariants as the
+use Rattle.dss_profile.specs.declared.names.ElementName.{ElementName}
+use Rattle.dss_layout.specs.Layout.{Elements, LayoutView}
+use Rattle.fd_devices.specs.Building.{IsModest}
+use Rattle.fd_devices.specs.Devices.{Device}
+use Rattle.fd_devices.specs.Scripted.{device_of, devices_from}
+use Rattle.fd_devices.specs.Settings.{Settings, after, bank_count, own, power_count, tap_count, with_powers}
+use Rattle.fd_network.specs.Collecting.{AreTakenFrom, HasPlace, IsTakenAt}
+
+-- ---- the first of the rest
+
+-- as many are there as one element and the others have
+counted : {A : Type 0} (xs : List A) (own others : ℕ) → length xs ≡ own + others → (own ≤ length xs) × (length (drop own xs) ≡ others)
+counted xs own others h = let left = length-drop own xs in (omega arith, omega arith)
+
+pub first_taken : (layout : LayoutView) (hertz place : ℕ) (e : ElementName × Element) (es : Elements) (s : Settings) → AreTakenFrom layout hertz place (e ∷ es) s → IsTakenAt layout hertz place e.1 s
+first_taken layout hertz place e es s h = record {
+  frequency = h.frequency;
+  known = subst (HasPlace layout) (add-zero place) (h.places 0 (omega arith));
+  ready = h.ready.0;
+  own = record {
+    taps = (counted s.taps (tap_count e.1) _ h.settings.taps).0;
+    closed = (counted s.closed (bank_count e.1) _ h.settings.closed).0;
+    powers = (counted s.powers (power_count e.1) _ h.settings.powers).0;
+  };
+  modest = h.modest;
+}
+
+pub rest_taken : (layout : LayoutView) (hertz place : ℕ) (e : ElementName × Element) (es : Elements) (s : Settings) → AreTakenFrom layout hertz place (e ∷ es) s → AreTakenFrom layout hertz (place + 1) es (after e.1 s)
+rest_taken layout hertz place e es s h = record {
+  frequency = h.frequency;
+  places = λ k low. let at : place + suc k ≡ place + 1 + k = omega arith in subst (HasPlace layout) at (h.places (suc k) (omega arith));
+  ready = h.ready.1;
+  settings = record {
+    taps = (counted s.taps (tap_count e.1) _ h.settings.taps).1;
+    closed = (counted s.closed (bank_count e.1) _ h.settings.closed).1;
+    powers = (counted s.powers (power_count e.1) _ h.settings.powers).1;
+  };
+  modest = All-drop IsModest (power_count e.1) s.powers h.modest;
+}
+
+-- ---- a walk over all
+
+-- the elements from a place on are taken with the settings that are left, and their devices are the rest of all devices
+pub record IsAt (layout : LayoutView) (hertz : ℕ) (es : Elements) (ds : List Device) (place : ℕ) (left : Settings) : Type 0 where
+  pub taken : AreTakenFrom layout hertz place (drop place es) left
+  pub rest : devices_from layout hertz place (drop place es) left ≡ drop place ds
+
+-- the next of a list
+pub drop_next : {A : Type 0} (xs : List A) (k : ℕ) (x : A) → slice_get xs k ≡ Some x → drop k xs ≡ x ∷ drop (k + 1) xs
+drop_next [] k x h = cc
+drop_next (y ∷ ys) zero x h = cc
+drop_next (y ∷ ys) (suc k) x h = drop_next ys k x h ∙ ap (λ n. x ∷ drop n (y ∷ ys)) (let e : suc (k + 1) ≡ suc k + 1 = omega arith in e)
+
+-- a list, of which the rest is known
+pub drop_more : {A : Type 0} (xs : List A) (k : ℕ) (x : A) (rest : List A) → drop k xs ≡ x ∷ rest → rest ≡ drop (k + 1) xs
+drop_more [] zero x rest h = cc
+drop_more [] (suc k) x rest h = cc
+drop_more (y ∷ ys) zero x rest h = cc
+drop_more (y ∷ ys) (suc k) x rest h = drop_more ys k x rest h ∙ ap (λ n. drop n (y ∷ ys)) (let e : suc (k + 1) ≡ suc k + 1 = omega arith in e)
+
+pub take_more : {A : Type 0} (xs : List A) (k : ℕ) (x : A) (rest : List A) → drop k xs ≡ x ∷ rest → take (k + 1) xs ≡ take k xs ++ x ∷ []
+take_more [] zero x rest h = cc
+take_more [] (suc k) x rest h = cc
+take_more (y ∷ ys) zero x rest h = cc
+take_more (y ∷ ys) (suc k) x rest h = ap (λ n. take n (y ∷ ys)) (let e : suc k + 1 ≡ suc (k + 1) = omega arith in e) ∙ ap (λ zs. y ∷ zs) (take_more ys k x rest h)
+
+module _ (layout : LayoutView) (hertz : ℕ) (es : Elements) (ds : List Device) (place : ℕ) (left : Settings) (e : ElementName × Element) (here : slice_get es place ≡ Some e) (at : IsAt layout hertz es ds place left) where
+  taken_here : AreTakenFrom layout hertz place (e ∷ drop (place + 1) es) left
+  taken_here = subst (λ r. AreTakenFrom layout hertz place r left) (drop_next es place e here) at.taken
+
+  -- the element at the place is taken
+  pub taken_at : IsTakenAt layout hertz place e.1 left
+  taken_at = first_taken layout hertz place e (drop (place + 1) es) left taken_here
+
+  -- its device is the next
+  pub device_next : drop place ds ≡ device_of layout hertz place e.1 (own e.1 left) ∷ devices_from layout hertz (place + 1) (drop (place + 1) es) (after e.1 left)
+  device_next = sym at.rest ∙ ap (λ r. devices_from layout hertz place r left) (drop_next es place e here)
+
+  -- and the walk goes on
+  pub next_at : IsAt layout hertz es ds (place + 1) (after e.1 left)
+  next_at = record {
+    taken = rest_taken layout hertz place e (drop (place + 1) es) left taken_here;
+    rest = drop_more ds place (device_of layout hertz place e.1 (own e.1 left)) _ device_next;
+  }
+
+-- a walk begins
+pub begun_at : (layout : LayoutView) (hertz : ℕ) (es : Elements) (s left : Settings) → left ≡ s → AreTakenFrom layout hertz 0 es s → IsAt layout hertz es (devices_from layout hertz 0 es s) 0 left
+begun_at layout hertz es s left e h = subst (IsAt layout hertz es (devices_from layout hertz 0 es s) 0) (sym e) (record { taken = h; rest = λ i. devices_from layout hertz 0 es s })
+
+-- ---- one device
+
+-- of the settings only the powers are looked at
+pub device_by_powers : (layout : LayoutView) (hertz place : ℕ) (e : Element) (s : Settings) → device_of layout hertz place e (with_powers s.powers) ≡ device_of layout hertz place e s
+device_by_powers layout hertz place (the.Vsource v) s = refl
+device_by_powers layout hertz place (the.Line l) s = refl
+device_by_powers layout hertz place (the.Load l) s = refl
+device_by_powers layout hertz place e s = refl

@@ -1,0 +1,92 @@
+use Rattle.std.proofs.Common.{◌≡◌, ◌∙◌, ◌+◌, ◌≤◌, Bool, true, false, [], ◌∷◌, length, take, slice_get, arith, ap, sym, subst}
+use Rattle.std.specs.List.{All}
+use Rattle.std.specs.Option.{option_map}
+use Rattle.std.specs.Map.Iter.{deref_pair}
+use Rattle.std.proofs.lemmas.List.{take_all}
+use Rattle.std.proofs.lemmas.List.Elements.{All-append, All-cons, All-nil}
+use Rattle.std.proofs.lemmas.Result.{err_from_is_err_and}
+use Rattle.fd_devices.specs.Building.{HasSmallSums}
+use Rattle.fd_devices.specs.Devices.{Added}
+use Rattle.fd_devices.specs.Scripted.{device_of, devices_from}
+use Rattle.fd_devices.specs.Settings.{own}
+use Rattle.fd_devices.proofs.Collecting.{devices_length}
+use Rattle.fd_network.specs.Collecting.{settings_in}
+use Rattle.fd_network.specs.Faults.{first_without, has_small_sums}
+use Rattle.fd_network.proofs.Faulty.{first_at, no_misfit, sums_decide}
+use Rattle.fd_network.proofs.Sums.{IsSmallAt}
+use Rattle.fd_network.proofs.Taking.{IsAt, device_next, next_at, taken_at, take_more}
+use Rattle.fd_network.proofs.pieces.check_sums.Goals as goal
+
+not_both : (b : Bool) → b ≡ false → b ≡ true → ⊥
+not_both b f t = cc
+
+pub piece_at-requires : goal.piece_at-requires
+piece_at-requires c =
+    let es = c.args.elements.now.entries in
+    let ds = devices_from c.args.layout.now c.args.hertz 0 es (settings_in c.args.settings.now) in
+    let here = ap (λ es. slice_get es c.loop-place.place) (sym c.as_slice-entries.ensures.entries) ∙ sym c.get_index.ensures.entry ∙ ap (option_map deref_pair) c.unwrap.ensures in
+    taken_at c.args.layout.now c.args.hertz es ds c.loop-place.place (settings_in c.loop-place.left) (deref_pair c.unwrap.result) here c.loop-place.invariant.at
+
+pub returns-in_err-piece-clause-fault : goal.returns-in_err-piece-clause-fault
+returns-in_err-piece-clause-fault c =
+    let es = c.args.elements.now.entries in
+    let ds = devices_from c.args.layout.now c.args.hertz 0 es (settings_in c.args.settings.now) in
+    let here = ap (λ es. slice_get es c.loop-place.place) (sym c.as_slice-entries.ensures.entries) ∙ sym c.get_index.ensures.entry ∙ ap (option_map deref_pair) c.unwrap.ensures in
+    let next = device_next c.args.layout.now c.args.hertz es ds c.loop-place.place (settings_in c.loop-place.left) (deref_pair c.unwrap.result) here c.loop-place.invariant.at in
+    let p = err_from_is_err_and c.from_residual.result c.from_residual.ensures.1 in
+    rw (p.1, p.2) (no_misfit (first_without (has_small_sums c.args.coefficients.now.terms) ds) ds c.loop-place.place _ _ c.in_err-piece.field-0.0 c.requires.fits next c.in_err-piece.ensures.fault)
+
+pub returns-then-not-have_small_sums-clause-fault : goal.returns-then-not-have_small_sums-clause-fault
+returns-then-not-have_small_sums-clause-fault c =
+    let es = c.args.elements.now.entries in
+    let layout = c.args.layout.now in
+    let place = c.loop-place.place in
+    let left = settings_in c.loop-place.left in
+    let e = deref_pair c.unwrap.result in
+    let ds = devices_from layout c.args.hertz 0 es (settings_in c.args.settings.now) in
+    let all = c.args.coefficients.now.terms in
+    let here = ap (λ es. slice_get es c.loop-place.place) (sym c.as_slice-entries.ensures.entries) ∙ sym c.get_index.ensures.entry ∙ ap (option_map deref_pair) c.unwrap.ensures in
+    let next = device_next layout c.args.hertz es ds place left e here c.loop-place.invariant.at in
+    let terms = c.deref.ensures.value ∙ ap (λ (a : Added). a.share.terms) c.in_ok-piece.ensures.added in
+    first_at (has_small_sums all) (HasSmallSums all) (sums_decide all) ds place _ _ c.loop-place.invariant.small next
+    (λ h. not_both c.have_small_sums.result c.if-not-have_small_sums.true (c.have_small_sums.ensures.1 (subst (All (IsSmallAt all)) (sym terms) h)))
+
+pub after-left-requires : goal.after-left-requires
+after-left-requires c =
+    let es = c.args.elements.now.entries in
+    let ds = devices_from c.args.layout.now c.args.hertz 0 es (settings_in c.args.settings.now) in
+    let here = ap (λ es. slice_get es c.loop-place.place) (sym c.as_slice-entries.ensures.entries) ∙ sym c.get_index.ensures.entry ∙ ap (option_map deref_pair) c.unwrap.ensures in
+    let taken = taken_at c.args.layout.now c.args.hertz es ds c.loop-place.place (settings_in c.loop-place.left) (deref_pair c.unwrap.result) here c.loop-place.invariant.at in
+    taken.own
+
+pub loop-place-preserved : goal.loop-place-preserved
+loop-place-preserved c =
+    let es = c.args.elements.now.entries in
+    let layout = c.args.layout.now in
+    let hertz = c.args.hertz in
+    let place = c.loop-place.place in
+    let left = settings_in c.loop-place.left in
+    let e = deref_pair c.unwrap.result in
+    let ds = devices_from layout hertz 0 es (settings_in c.args.settings.now) in
+    let d = device_of layout hertz place e.1 (own e.1 left) in
+    let here = ap (λ es. slice_get es c.loop-place.place) (sym c.as_slice-entries.ensures.entries) ∙ sym c.get_index.ensures.entry ∙ ap (option_map deref_pair) c.unwrap.ensures in
+    let next = device_next layout hertz es ds place left e here c.loop-place.invariant.at in
+    let all = c.args.coefficients.now.terms in
+    let P = HasSmallSums all in
+    let terms = c.deref.ensures.value ∙ ap (λ (a : Added). a.share.terms) c.in_ok-piece.ensures.added in
+    let here_small = subst (All (IsSmallAt all)) terms (c.have_small_sums.ensures.0 c.if-not-have_small_sums.false) in
+    record {
+      at = subst (IsAt layout hertz es ds (place + 1)) (sym c.after-left.ensures) (next_at layout hertz es ds place left e here c.loop-place.invariant.at);
+      small = subst (All P) (sym (take_more ds place d _ next)) (All-append P (take place ds) (d ∷ []) c.loop-place.invariant.small (All-cons P d [] here_small (All-nil P)));
+    }
+
+pub returns-clause-small : goal.returns-clause-small
+returns-clause-small c =
+    let es = c.args.elements.now.entries in
+    let layout = c.args.layout.now in
+    let place = c.loop-place.place in
+    let ds = devices_from layout c.args.hertz 0 es (settings_in c.args.settings.now) in
+    let count = ap length c.as_slice-entries.ensures.entries in
+    let all : length es ≤ place = omega (arith, count, c.len-place-end.ensures, c.loop-place-test.false) in
+    let devices : length ds ≤ place = omega (arith, all, devices_length layout c.args.hertz 0 es (settings_in c.args.settings.now)) in
+    subst (All (HasSmallSums c.args.coefficients.now.terms)) (take_all place ds devices) c.loop-place.invariant.small

@@ -1,0 +1,49 @@
+-- Which element is to blame where a circuit's network is out of range.
+use Rattle.std.specs.Prelude.{◌≡◌, ℕ, ◌*◌, ◌^◌, ℤ, nat_abs, nat_le, nat_lt, Bool, not, ◌&&◌, ◌||◌, List, [], ◌∷◌, zero, suc, Option, Some, None, option_map, if◌then◌else◌}
+use Rattle.std.specs.List.{list_all}
+use Rattle.std.specs.Option.{option_and_then, option_or}
+use Rattle.dss_values.specs.declared.fault.ModelFault.TheVariants as fault
+use Rattle.dss_profile.specs.declared.command.Blame.{Blame}
+use Rattle.dss_layout.specs.Layout.{Elements}
+use Rattle.dss_ready.specs.Ready.{blame_at}
+use Rattle.fd_arith.specs.declared.terms.Term.{Term}
+use Rattle.fd_system.specs.declared.loads.LoadPhase.{LoadPhase}
+use Rattle.fd_elements.specs.Loads.{power_sum}
+use Rattle.fd_equations.specs.Coefficients.{linear_entry, units_of}
+use Rattle.fd_devices.specs.declared.fault.BuildFault.{BuildFault}
+use Rattle.fd_devices.specs.declared.fault.BuildFault.TheVariants as build_fault
+use Rattle.fd_devices.specs.Devices.{Device, device_share, share_of_all}
+
+-- at most 2^54 in size
+abbrev pub is_small : ℤ → Bool
+is_small units = nat_le (nat_abs units) (2 ^ 54)
+
+-- a load phase is past its limit: more than 100 megavolt-ampere, or more than 2^12 siemens at the lower limit of its voltage
+abbrev pub is_past : LoadPhase → Bool
+is_past w = nat_lt (10 ^ 11) (power_sum w) || nat_lt (2 ^ 12 * (nat_abs w.vlo * nat_abs w.vlo)) (power_sum w * 10 ^ 9)
+
+-- no contribution of a device is past 2^54 in units of 2^-40, and none of its load phases is past its limit
+abbrev pub fits : Device → Bool
+fits d = list_all (λ t. is_small (units_of t)) (device_share d).terms && list_all (λ u. not (is_past u.load)) (device_share d).loads
+
+-- at each place where a device has a contribution, the sum of all contributions is at most 2^54 in units of 2^-40
+abbrev pub has_small_sums : List Term → Device → Bool
+has_small_sums all d = list_all (λ t. is_small (linear_entry all t.row t.col)) (device_share d).terms
+
+-- the place in order of the first device of which it doesn't hold
+abbrev pub first_without : (Device → Bool) → List Device → Option ℕ
+first_without holds [] = None
+first_without holds (d ∷ ds) = if holds d then option_map suc (first_without holds ds) else Some zero
+
+-- the first device that doesn't fit; where each fits, the first with a contribution at a place with a large sum
+abbrev pub first_out_of_range : List Device → Option ℕ
+first_out_of_range ds = option_or (first_without fits ds) (first_without (has_small_sums (share_of_all ds).terms) ds)
+
+-- the element to blame, where there is one: that of the first device out of range
+abbrev pub range_blame : Elements → List Device → Option Blame
+range_blame elements ds = option_and_then (blame_at fault.Range elements) (first_out_of_range ds)
+
+-- a fault is the one that is due; want of memory is free
+abbrev pub IsFaultOf : Option Blame → BuildFault → Type 0
+IsFaultOf said (build_fault.Range blame) = said ≡ Some blame
+IsFaultOf said build_fault.NoMemory = Unit {0}

@@ -1,0 +1,19 @@
+-- An element of a circuit that passed the tests of Solve, at its place in order.
+use Rattle.std.specs.Prelude.{ℕ, ◌+◌, [], ◌∷◌}
+use Rattle.dss_profile.specs.declared.element.Element.{Element}
+use Rattle.dss_profile.specs.InRange.{ElementInRange}
+use Rattle.dss_layout.specs.Layout.{Elements, LayoutView, complex_count, ends_of}
+use Rattle.fd_devices.specs.Building.{IsCovered}
+use Rattle.fd_devices.specs.Sound.{IsSited, IsSound}
+
+-- its values are in range and sound, and its nodes and branches are among the unknowns of the layout
+pub record IsReadyAt (layout : LayoutView) (place : ℕ) (e : Element) : Type 0 where
+  pub in_range : ElementInRange e
+  pub sound : IsSound e
+  pub covered : IsCovered e
+  pub sited : IsSited (complex_count layout) (ends_of layout place e) e
+
+-- the same of elements of which the first stands at a place in order
+abbrev pub AreReadyFrom : LayoutView → ℕ → Elements → Type 0
+AreReadyFrom layout place [] = Unit {0}
+AreReadyFrom layout place (e ∷ es) = IsReadyAt layout place e.1 × AreReadyFrom layout (place + 1) es

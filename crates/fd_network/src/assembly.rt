@@ -1,0 +1,88 @@
+// A network, made of what its elements add.
+ghost use Rattle.std.specs.Prelude.{◌≡◌, ◌≤◌, ◌^◌, All, IfErr, IfOk, None, OnOk, length};
+ghost use Rattle.fd_exact.specs.Sums.{list_n};
+ghost use Rattle.dss_layout.specs.Layout.{branch_phases, complex_count};
+ghost use Rattle.fd_devices.specs.Building.{AreInRange, Fits};
+ghost use Rattle.fd_devices.specs.Devices.{AgreesWith, parts_of_all, share_of_all};
+ghost use Rattle.fd_devices.specs.Scripted.{devices_from, devices_network, layout_counts};
+ghost use Rattle.fd_network.specs.Collecting.{AreTakenFrom, NamesPlace, settings_in};
+ghost use Rattle.fd_network.specs.Faults.{first_out_of_range, first_without, has_small_sums};
+
+use crate::fault::PlaceFault;
+use crate::pieces::{check_sums, collect};
+use crate::settings::SettingsLeft;
+use dss_layout::Layout;
+use dss_profile::{Element, ElementName};
+use fd_devices::{Piece, device_law};
+use fd_equations::{Coefficients, Layout as Counts, Network};
+use indexmap::IndexMap;
+use std::alloc::Global;
+
+/// The network of elements in a layout, at the circuit's frequency in hertz and with these settings.
+///
+/// # Errors
+/// `OutOfRange` with the place of the first element that is out of range by itself, or where there is none of the first with a
+/// contribution at a place where the sum is past 2^54 in units of 2^-40. `NoMemory` where memory is refused.
+pub fn assemble(
+    alloc: Global,
+    layout: &Layout,
+    hertz: u32,
+    elements: &IndexMap<ElementName, Element>,
+    settings: &SettingsLeft,
+) -> Result<Network, PlaceFault>
+    requires taken { AreTakenFrom layout.now hertz 0 elements.now.entries (settings_in settings.now) }
+    requires few { length elements.now.entries ≤ 2 ^ 17 }
+    requires few_branches { list_n (λ e. branch_phases e.1) elements.now.entries ≤ 240 }
+    requires few_complexes { complex_count layout.now ≤ 240 }
+    requires few_magnitudes { length layout.now.magnitudes ≤ 48 }
+    ensures network { IfOk result (λ n. n ≡ devices_network layout.now (devices_from layout.now hertz 0 elements.now.entries (settings_in settings.now))) }
+    ensures agrees { IfOk result (λ n. AgreesWith n.share (parts_of_all (devices_from layout.now hertz 0 elements.now.entries (settings_in settings.now)))) }
+    ensures in_range { IfOk result (λ n. AreInRange (devices_from layout.now hertz 0 elements.now.entries (settings_in settings.now))) }
+    ensures no_fault { IfOk result (λ n. first_out_of_range (devices_from layout.now hertz 0 elements.now.entries (settings_in settings.now)) ≡ None) }
+    ensures fault { IfErr result (NamesPlace (first_out_of_range (devices_from layout.now hertz 0 elements.now.entries (settings_in settings.now)))) }
+{
+    let Piece {
+        constants,
+        terms,
+        loads,
+        draw,
+    } = collect(alloc, layout, hertz, elements, settings)?;
+    let coefficients = Coefficients::of(alloc, layout.size(), terms)?;
+    check_entries(alloc, layout, hertz, elements, settings, &coefficients)?;
+    device_law();
+    Ok(Network::new(counts(layout), coefficients, constants, loads, draw))
+}
+
+// Whether each entry is small. The elements are walked again only where one isn't, to name the first that has a part in it.
+fn check_entries(
+    alloc: Global,
+    layout: &Layout,
+    hertz: u32,
+    elements: &IndexMap<ElementName, Element>,
+    settings: &SettingsLeft,
+    coefficients: &Coefficients,
+) -> Result<(), PlaceFault>
+    requires taken { AreTakenFrom layout.now hertz 0 elements.now.entries (settings_in settings.now) }
+    requires fits { All Fits (devices_from layout.now hertz 0 elements.now.entries (settings_in settings.now)) }
+    requires terms { coefficients.now.terms ≡ (share_of_all (devices_from layout.now hertz 0 elements.now.entries (settings_in settings.now))).terms }
+    ensures small { OnOk result (AreInRange (devices_from layout.now hertz 0 elements.now.entries (settings_in settings.now))) }
+    ensures fault { IfErr result (NamesPlace (first_without (has_small_sums coefficients.now.terms) (devices_from layout.now hertz 0 elements.now.entries (settings_in settings.now)))) }
+{
+    if coefficients.are_within() {
+        return Ok(());
+    }
+    check_sums(alloc, layout, hertz, elements, settings, coefficients)
+}
+
+// How many nodes, branches and magnitudes a layout has.
+fn counts(layout: &Layout) -> Counts
+    requires few_complexes { complex_count layout.now ≤ 240 }
+    requires few_magnitudes { length layout.now.magnitudes ≤ 48 }
+    ensures { result ≡ layout_counts layout.now }
+{
+    Counts {
+        nodes: layout.nodes().len() as u32,
+        branches: layout.branches().len() as u32,
+        magnitudes: layout.magnitudes().len() as u32,
+    }
+}
