@@ -1,114 +1,37 @@
 -- The network of a circuit with the settings of its script, and the mismatches of its state.
-use Rattle.std.proofs.Common.{◌≡◌, ◌∙◌, ◌<◌, ◌*◌, ℕ, ℤ, pos, nat_abs, Bool, true, false, List, [], ◌∷◌, length, length-append, map, get_or, Some, None, refl, sym, ap, subst, arith, if◌then◌else◌}
-use Rattle.std.specs.List.{All, flat_map, range_with_len}
+use Rattle.std.proofs.Common.{◌≡◌, ◌∙◌, ◌<◌, ◌*◌, ℕ, ℤ, pos, nat_abs, List, length, map, get_or, Some, None, refl, sym, ap, subst, arith}
+use Rattle.std.specs.List.{flat_map, range_with_len}
 use Rattle.std.specs.Option.{unwrap_or}
-use Rattle.std.proofs.lemmas.List.{length-replicate}
-use Rattle.std.proofs.lemmas.List.Elements.{All-nil, All-cons}
 use Rattle.std.proofs.lemmas.Simd.{map-map}
 use Rattle.std.proofs.lemmas.List.FromFn.{get_or-map-range_with_len, length-map-range_with_len}
 use Rattle.fd_exact.specs.Fractions.{Fraction, SizeWithin}
 use Rattle.fd_exact.specs.States.{part}
-use Rattle.fd_exact.specs.Sums.{list_n}
 use Rattle.fd_arith.specs.Interval.{Bounds, Holds}
 use Rattle.fd_system.specs.Equations.{equation}
 use Rattle.fd_system.specs.Meets.{Meets}
 use Rattle.fd_system.specs.Residual.{greater_size, residual_interval, whole_state}
 use Rattle.fd_system.specs.System.{residual_of}
 use Rattle.fd_system.proofs.Intervals.{greater_size_held}
-use Rattle.fd_equations.specs.Coefficients.{row_count}
-use Rattle.fd_equations.specs.Enclosure.{EndsWithin, interval_residual_of}
+use Rattle.fd_equations.specs.Enclosure.{EndsWithin, interval_residual_of, summand_count}
 use Rattle.fd_equations.specs.Views.{NetworkView}
 use Rattle.dss_profile.specs.declared.command.Place.{Place}
-use Rattle.dss_profile.specs.declared.element.Element.{Element}
-use Rattle.dss_profile.specs.declared.element.Element.TheVariants as the
-use Rattle.dss_profile.specs.Element.{place_of}
 use Rattle.dss_layout.specs.Layout.{Elements, layout_of, size_of}
 use Rattle.dss_circuit.specs.Circuit.{CircuitView}
-use Rattle.fd_devices.specs.Building.{IsCovered}
 use Rattle.fd_devices.specs.Devices.{AgreesWith}
 use Rattle.fd_devices.specs.Scripted.{circuit_network, circuit_parts, devices_of}
-use Rattle.fd_devices.specs.Settings.{AreSettings, Settings, bank_count, power_count, settings_of, tap_count}
+use Rattle.fd_devices.specs.Settings.{Settings, settings_of}
 use Rattle.fd_devices.specs.declared.settings.Positions.{Positions}
 use Rattle.fd_devices.specs.declared.settings.Powers.{Powers}
 use Rattle.fd_devices.specs.Snapshot.{closed_of, powers_of, snapshot_of, taps_of}
 use Rattle.fd_network.specs.Faults.{range_blame}
-use Rattle.fd_app.specs.Built.{is_built, unbuilt_place}
+use Rattle.fd_app.specs.Built.{unbuilt_place}
 use Rattle.fd_inject.specs.Ranges.{SizesWithin, first_past}
 use Rattle.fd_app.specs.Causes.{not_built}
 use Rattle.fd_app.specs.Headline.{IsReached, IsSolution}
 use Rattle.fd_app.specs.Steps.{refuses, solves}
 use Rattle.fd_app.specs.Solving.{by_built, by_range, greatest_mismatch, judged, mismatch_at, mismatches_of, snapshot_blame, snapshot_network, solution_step, unless_loose}
 
--- ---- elements
-
-built_covered : (e : Element) → is_built e ≡ true → IsCovered e
-built_covered (the.Vsource v) h = tt
-built_covered (the.Linecode c) h = tt
-built_covered (the.Line l) h = tt
-built_covered (the.Transformer t) h = cc h
-built_covered (the.Capacitor c) h = cc h
-built_covered (the.Load l) h = grind arith
-built_covered (the.RegControl r) h = tt
-built_covered (the.CapControl c) h = tt
-built_covered (the.Loadshape s) h = tt
-
--- where no element is unbuilt, all are such as the network takes
-pub all_covered : (elements : Elements) → unbuilt_place elements ≡ None → All (λ e. IsCovered e.1) elements
-all_covered [] h = All-nil (λ e. IsCovered e.1)
-all_covered (e ∷ rest) h = cases (all_covered rest) (is_built e.1) refl h
-  where
-    cases : (unbuilt_place rest ≡ None → All (λ e. IsCovered e.1) rest) → (b : Bool) → is_built e.1 ≡ b → (if b then unbuilt_place rest else Some (place_of e.1)) ≡ None → All (λ e. IsCovered e.1) (e ∷ rest)
-    cases more true is h = All-cons (λ e. IsCovered e.1) e rest (built_covered e.1 is) (more h)
-    cases more false is h = cc h
-
 -- ---- the settings of a script
-
-one_tap : (e : Element) → length (taps_of e) ≡ tap_count e
-one_tap (the.Vsource v) = refl
-one_tap (the.Linecode c) = refl
-one_tap (the.Line l) = refl
-one_tap (the.Transformer t) = refl
-one_tap (the.Capacitor c) = refl
-one_tap (the.Load l) = refl
-one_tap (the.RegControl r) = refl
-one_tap (the.CapControl c) = refl
-one_tap (the.Loadshape s) = refl
-
-one_bank : (e : Element) → length (closed_of e) ≡ bank_count e
-one_bank (the.Vsource v) = refl
-one_bank (the.Linecode c) = refl
-one_bank (the.Line l) = refl
-one_bank (the.Transformer t) = refl
-one_bank (the.Capacitor c) = refl
-one_bank (the.Load l) = refl
-one_bank (the.RegControl r) = refl
-one_bank (the.CapControl c) = refl
-one_bank (the.Loadshape s) = refl
-
-one_power : (e : Element) → length (powers_of e) ≡ power_count e
-one_power (the.Vsource v) = refl
-one_power (the.Linecode c) = refl
-one_power (the.Line l) = refl
-one_power (the.Transformer t) = refl
-one_power (the.Capacitor c) = refl
-one_power (the.Load l) = length-replicate l.phases _
-one_power (the.RegControl r) = refl
-one_power (the.CapControl c) = refl
-one_power (the.Loadshape s) = refl
-
-count_all : {X : Type 0} (f : Element → List X) (n : Element → ℕ) → ((e : Element) → length (f e) ≡ n e) → (elements : Elements) → length (flat_map (λ e. f e.1) elements) ≡ list_n (λ e. n e.1) elements
-count_all f n each [] = refl
-count_all f n each (e ∷ rest) =
-    let one = each e.1 in
-    let more = count_all f n each rest in
-    omega (arith, length-append (f e.1) (flat_map (λ x. f x.1) rest), one, more)
-
-pub snapshot_settings : (elements : Elements) → AreSettings elements (snapshot_of elements)
-snapshot_settings elements = record {
-  taps = count_all taps_of tap_count one_tap elements;
-  closed = count_all closed_of bank_count one_bank elements;
-  powers = count_all powers_of power_count one_power elements;
-}
 
 pub same_settings : (at : Positions) (powers : Powers) (elements : Elements) → at.taps ≡ flat_map (λ e. taps_of e.1) elements → at.closed ≡ flat_map (λ e. closed_of e.1) elements → powers.loads ≡ flat_map (λ e. powers_of e.1) elements
     → settings_of at powers ≡ snapshot_of elements
@@ -137,15 +60,15 @@ row_within None f n h near = absurd near
 row_within (Some e) f n h near = greater_size_held (Some e) _ refl f h
 
 pub meets_rows : (v : NetworkView) (x : List ℤ) → ((l : ℕ) → l < v.size → Holds (get_or (interval_residual_of v x) l None) (residual_of v.share (whole_state x) l))
-    → ((l : ℕ) → l < v.size → EndsWithin (get_or (interval_residual_of v x) l None) (residual_of v.share (whole_state x) l) (2 * row_count v.share.terms l)) → Meets (residual_of v.share) (mismatches_of v x) v.size (whole_state x)
+    → ((l : ℕ) → l < v.size → EndsWithin (get_or (interval_residual_of v x) l None) (residual_of v.share (whole_state x) l) (2 * summand_count v.share l)) → Meets (residual_of v.share) (mismatches_of v x) v.size (whole_state x)
 unfolding mismatches_of
 meets_rows v x holds near l h =
     let row : get_or (interval_residual_of v x) l None ≡ residual_interval v.share x l = get_or-map-range_with_len (residual_interval v.share x) 0 v.size l l None h (omega arith) in
     let e : part (mismatches_of v x) l ≡ mismatch_at v x l = get_or-map-range_with_len (mismatch_at v x) 0 v.size l l (pos 0) h (omega arith) in
     let f = residual_of v.share (whole_state x) l in
     let P : Bounds → Type 0 = λ r. Holds r f in
-    let Q : Bounds → Type 0 = λ r. EndsWithin r f (2 * row_count v.share.terms l) in
-    let within = row_within (residual_interval v.share x l) f (2 * row_count v.share.terms l) (subst P row (holds l h)) (subst Q row (near l h)) in
+    let Q : Bounds → Type 0 = λ r. EndsWithin r f (2 * summand_count v.share l) in
+    let within = row_within (residual_interval v.share x l) f (2 * summand_count v.share l) (subst P row (holds l h)) (subst Q row (near l h)) in
     let S : ℤ → Type 0 = λ m. SizeWithin f (nat_abs m) in
     subst S (sym e) within
 

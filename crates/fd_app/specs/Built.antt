@@ -1,18 +1,15 @@
 -- Which elements are solved.
-use Rattle.std.specs.Prelude.{◌==◌, Bool, true, false, [], ◌∷◌, Option, Some, None, if◌then◌else◌}
+use Rattle.std.specs.Prelude.{Bool, true, false, [], ◌∷◌, Option, Some, None, if◌then◌else◌}
 use Rattle.dss_profile.specs.declared.command.Place.{Place}
 use Rattle.dss_profile.specs.declared.element.Element.{Element}
 use Rattle.dss_profile.specs.declared.element.Element.TheVariants as the
 use Rattle.dss_profile.specs.Element.{place_of}
 use Rattle.dss_layout.specs.Layout.{Elements}
 
--- sources, lines, loads of constant impedance, and what holds data alone
+-- every element but the controls of taps and of banks
 abbrev pub is_built : Element → Bool
-is_built (the.Transformer t) = false
-is_built (the.Capacitor c) = false
 is_built (the.RegControl r) = false
 is_built (the.CapControl c) = false
-is_built (the.Load l) = l.model == 2
 is_built other = true
 
 -- the place of the first element, in order, that isn't solved yet

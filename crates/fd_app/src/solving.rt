@@ -1,7 +1,6 @@
 // What a Solve of a circuit that passed the tests comes to.
-ghost use Rattle.std.specs.Prelude.{◌≡◌, ◌<◌, ◌≤◌, ◌^◌, ℕ, ℤ, pos, List, length, Option, Some, None, Result, Err, IfErr, IfNone, IfOk, IfSome, All, map};
+ghost use Rattle.std.specs.Prelude.{◌≡◌, ◌<◌, ℤ, pos, List, length, map, None, Result, Err, IfErr, IfNone, IfOk, IfSome};
 ghost use Rattle.std.specs.Option.{option_map, unwrap_or};
-ghost use Rattle.fd_exact.specs.States.{part};
 ghost use Rattle.dss_profile.specs.InRange.{OptionsInRange};
 ghost use Rattle.dss_layout.specs.Layout.{first_too_many, layout_of, size_of};
 ghost use Rattle.dss_circuit.specs.Circuit.{CircuitView};
@@ -22,7 +21,7 @@ ghost use Rattle.fd_inject.specs.declared.fault.SolveFault.{SolveFault};
 ghost use Rattle.fd_app.specs.Answered.{IsSound, answered};
 ghost use Rattle.fd_app.specs.Built.{is_built, unbuilt_place};
 ghost use Rattle.fd_app.specs.Headline.{IsReached};
-ghost use Rattle.fd_app.specs.Solving.{by_network, by_point, by_range, greatest_mismatch, judged, limits_of, mismatches_of, snapshot_blame, snapshot_network, solution_step, unless_loose};
+ghost use Rattle.fd_app.specs.Solving.{by_network, by_point, by_range, greatest_mismatch, judged, limits_of, mismatches_of, snapshot_blame, snapshot_network, solution_step};
 
 use crate::answer::{Answer, SolvedState, ended, refused};
 use crate::ending::Ending;
@@ -32,8 +31,8 @@ use dss_layout::Layout;
 use dss_profile::Options;
 use dss_ready::Mention;
 use fd_arith::{Interval, Micro};
-use fd_devices::{BuildFault, Positions, powers_at};
-use fd_equations::{Network, Point};
+use fd_devices::{BuildFault, Positions, powers_at, snapshot_law};
+use fd_equations::Network;
 use fd_inject::{Limits, SolveFault, solve};
 use fd_network::build;
 use fd_report::{loose, no_inverse, not_converged, out_of_range};
@@ -48,14 +47,14 @@ fn is_built(element: &Element) -> bool
     ensures { result ≡ is_built element.now }
 {
     match element {
-        Element::Transformer(_)
+        Element::RegControl(_) | Element::CapControl(_) => false,
+        Element::Vsource(_)
+        | Element::Linecode(_)
+        | Element::Line(_)
+        | Element::Transformer(_)
         | Element::Capacitor(_)
-        | Element::RegControl(_)
-        | Element::CapControl(_) => false,
-        Element::Load(load) => load.model == 2,
-        Element::Vsource(_) | Element::Linecode(_) | Element::Line(_) | Element::Loadshape(_) => {
-            true
-        }
+        | Element::Load(_)
+        | Element::Loadshape(_) => true,
     }
 }
 
@@ -97,7 +96,6 @@ fn limits_of(options: &Options) -> Limits
 // The network of a circuit with the taps, states and powers of its script.
 fn network_of(alloc: Global, circuit: &Circuit) -> Result<Network, BuildFault>
     requires ready { IsReady (own_blame ⟦<ElementName as PartialEq>⟧.eq ⟦<Mention as PartialEq>⟧.eq circuit.now.options.defaultbasefrequency circuit.now.elements) circuit.now.elements }
-    requires built { unbuilt_place circuit.now.elements ≡ None }
     ensures network { IfOk result (λ net. net ≡ snapshot_network circuit.now) }
     ensures agrees { IfOk result (λ net. AgreesWith net.share (circuit_parts circuit.now (snapshot_of circuit.now.elements))) }
     ensures no_blame { IfOk result (λ net. snapshot_blame circuit.now ≡ None) }
@@ -105,6 +103,8 @@ fn network_of(alloc: Global, circuit: &Circuit) -> Result<Network, BuildFault>
 {
     let positions = Positions::of(alloc, circuit)?;
     let powers = powers_at(alloc, circuit, 0)?;
+    snapshot_law();
+    let _in_range = circuit.elements();
     build(alloc, circuit, &positions, &powers)
 }
 
@@ -227,7 +227,6 @@ fn solve_network(alloc: Global, circuit: &Circuit, net: &Network) -> Result<Answ
 // What a circuit whose elements are all solved comes to.
 fn solve_built(alloc: Global, circuit: &Circuit) -> Result<Answer, AllocError>
     requires ready { IsReady (own_blame ⟦<ElementName as PartialEq>⟧.eq ⟦<Mention as PartialEq>⟧.eq circuit.now.options.defaultbasefrequency circuit.now.elements) circuit.now.elements }
-    requires built { unbuilt_place circuit.now.elements ≡ None }
     ensures { IfOk result (λ answer. (answered answer circuit.now ≡ by_range circuit.now (snapshot_blame circuit.now)) × IsSound answer circuit.now) }
 {
     match network_of(alloc, circuit) {

@@ -122,7 +122,8 @@ fn solve<L: Library, S: Sink>(alloc: Global, file: &str, lib: &mut L, out: &mut 
 ///
 /// The words are those after the program's name. `solve FILE` does the commands of the script of that name, and prints a solution at
 /// each Solve before the next command is read. Each record is handed to the sink by one write. A refusal is printed with its file, its
-/// line and its cause, a failed read with the file's name, and a fault of the procedure or a mismatch with the unknown or row that it is first found at.
+/// line and its cause, a failed read with the file's name, a fault of the procedure with the first unknown that it is found at, and a
+/// mismatch with its row.
 pub fn run<L: Library, S: Sink>(alloc: Global, words: &[String], lib: &mut L, out: &mut S) -> u8
     // What is printed is an outcome of the words over the files held, whole or cut short by want of memory or a failed write; a read
     // fails in it only where the count of faults rose; the names asked are those of the outcome, in order; and each of its states is

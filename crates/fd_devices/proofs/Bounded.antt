@@ -1,16 +1,17 @@
 -- What a device adds is bounded: its contributions stand among the unknowns and are few, its constants are small, and so is what it draws.
-use Rattle.std.proofs.Common.{◌≡◌, ◌∙◌, ℕ, zero, suc, ◌+◌, ◌*◌, ◌%◌, ◌<◌, ◌≤◌, ◌^◌, inl, inr, ℤ, pos, negsuc, neg_ℤ, ◌*ℤ◌, ◌<ℤ◌, ◌≤ℤ◌, nat_abs, Bool, true, false, ◌&&◌, leb, cond, eqb, List, [], ◌∷◌, ◌++◌, length, length-append, get_or, arith, ap, sym, refl, subst, lit<, lit≤, ⊎_elim}
+use Rattle.std.proofs.Common.{◌≡◌, ◌∙◌, ℕ, zero, suc, ◌+◌, ◌*◌, ◌%◌, ◌<◌, ◌≤◌, ◌^◌, inl, inr, ℤ, pos, negsuc, neg_ℤ, ◌*ℤ◌, ◌<ℤ◌, ◌≤ℤ◌, nat_abs, Bool, true, false, ◌&&◌, leb, cond, eqb, List, [], ◌∷◌, ◌++◌, length, length-append, get_or, Option, Some, None, arith, ap, sym, refl, subst, lit<, lit≤, ⊎_elim}
 use Rattle.std.specs.List.{All, flat_map}
 use Rattle.std.proofs.Math.Nat.{mul-le-mul, mul-le-mul_right}
 use Rattle.std.proofs.lemmas.Int.{ints, unsigned_abs-mul}
-use Rattle.std.proofs.lemmas.Bool.{cases_lt, eq-eqb, and_parts, leb-true}
-use Rattle.std.proofs.lemmas.List.Elements.{All-nil, All-cons, All-append, All-head, All-tail}
+use Rattle.std.proofs.lemmas.Bool.{cases_lt, and_parts, leb-true}
+use Rattle.std.proofs.lemmas.List.Elements.{All-nil, All-cons, All-append, All-head, All-tail, All-weaker}
 use Rattle.fd_exact.specs.Rounding.{near_div}
 use Rattle.fd_exact.specs.Quotients.{ceil_nat_least}
 use Rattle.fd_exact.specs.Sums.{list_n}
 use Rattle.fd_arith.specs.declared.terms.Term.{Term}
 use Rattle.fd_arith.specs.declared.terms.Ends.{Ends}
 use Rattle.fd_system.specs.declared.loads.LoadAt.{LoadAt}
+use Rattle.fd_system.specs.declared.loads.LoadPhase.{LoadPhase}
 use Rattle.fd_system.specs.Contributions.{IsDivided, IsWithin, each, stamp}
 use Rattle.fd_system.specs.Loads.{IsLoad, IsPlain, impedance_list, linear_list}
 use Rattle.fd_system.proofs.Divided.{stamp_divided}
@@ -23,27 +24,28 @@ use Rattle.fd_source.specs.Equations.{IsSource, constants_from, phase_constants,
 use Rattle.fd_source.specs.Phasors.{cosine, cosines, steps_of, volts_im, volts_re}
 use Rattle.fd_source.proofs.Rows.{source_divided}
 use Rattle.fd_elements.proofs.Quotients.{near_most}
-use Rattle.fd_elements.specs.Loads.{IsPast, power_sum}
-use Rattle.fd_equations.specs.Conditions.{IsImpedance, IsKnown}
+use Rattle.fd_load.specs.Current.{IsLoadPhase}
+use Rattle.fd_elements.specs.Loads.{AreVoltages, IsPast, power_sum}
+use Rattle.fd_equations.specs.Conditions.{HasMagnitude, IsKnown, IsServed}
 use Rattle.fd_devices.specs.Devices.{source, line, loads, other, draw_of}
 use Rattle.fd_devices.specs.Building.{AreContributions, Fits, IsSettled, IsUsable}
 use Rattle.fd_devices.specs.Sound.{HasBranches, IsSideOf}
 use Rattle.fd_devices.proofs.Counting.{AreInside, StandsBelow, line_inside, loads_inside, more_room, none_inside, source_inside}
 
-contributions : (n b : ℕ) (ts : List Term) → AreInside n b ts → All IsDivided ts → All IsWithin ts → AreContributions n b ts
+pub contributions : (n b : ℕ) (ts : List Term) → AreInside n b ts → All IsDivided ts → All IsWithin ts → AreContributions n b ts
 contributions n b ts h d w = record { inside = h.inside; divided = d; within = w; few = h.few }
 
 -- ---- lines
 
-pub line_settled : (n : ℕ) (l : LineData) (at : Ends) → IsLine l → IsSideOf n l.phases at.first → IsSideOf n l.phases at.second → HasBranches n l.phases at → All IsWithin (line_list l at) → IsSettled n l.phases (line l at)
-line_settled n l at g first second branches w = record {
+pub line_settled : (n size : ℕ) (l : LineData) (at : Ends) → IsLine l → IsSideOf n l.phases at.first → IsSideOf n l.phases at.second → HasBranches n l.phases at → All IsWithin (line_list l at) → IsSettled n size l.phases (line l at)
+line_settled n size l at g first second branches w = record {
   fits = record { terms = w; loads = All-nil (λ u. ¬ (IsPast u.load)) };
   good = tt;
   bounded = record {
     terms = contributions n (64 * (1 + l.phases)) (line_list l at) (more_room n (l.phases * 64) (64 * (1 + l.phases)) (line_list l at) (omega arith) (line_inside n l at first.below second.below branches.below g.few)) (line_divided l at) w;
     constants = All-nil (IsKnown (2 * n));
     few_constants = omega arith;
-    loads = All-nil IsImpedance;
+    loads = All-nil (IsServed n size);
     draw = omega arith;
   };
 }
@@ -107,8 +109,8 @@ known_from m row (v ∷ vs) h k =
     All-cons (IsKnown m) _ (constants_from (row + 1) vs) (record { row = omega arith; least = omega (arith, ints, size); most = omega (arith, ints, size) })
     (known_from m (row + 1) vs (omega arith) (All-tail IsSmallVoltage v vs k))
 
-pub source_settled : (n : ℕ) (s : SourceData) (at : Ends) → IsSource s → IsSideOf n s.phases at.first → HasBranches n s.phases at → All IsWithin (source_list s at) → IsSettled n s.phases (source s at)
-source_settled n s at g first branches w =
+pub source_settled : (n size : ℕ) (s : SourceData) (at : Ends) → IsSource s → IsSideOf n s.phases at.first → HasBranches n s.phases at → All IsWithin (source_list s at) → IsSettled n size s.phases (source s at)
+source_settled n size s at g first branches w =
     let count = constants_length s s.phases in
     let rows = from_length (2 * at.branch) (source_constants s) in
     let below = branches.below in
@@ -120,22 +122,49 @@ source_settled n s at g first branches w =
         terms = contributions n (64 * (1 + s.phases)) (source_list s at) (more_room n (s.phases * 64) (64 * (1 + s.phases)) (source_list s at) (omega arith) (source_inside n s at first.below branches.below g.few)) (source_divided s at) w;
         constants = known_from (2 * n) (2 * at.branch) (source_constants s) (omega arith) (constants_small s g.volts s.phases);
         few_constants = omega arith;
-        loads = All-nil IsImpedance;
+        loads = All-nil (IsServed n size);
         draw = omega arith;
       };
     }
 
 -- ---- loads
 
-pub is_load : (u : LoadAt) → IsUsable u → IsLoad u
-is_load u h =
+plain_of : (n size model : ℕ) (place : Option ℕ) → HasMagnitude n size model place → cond (eqb model 2) (IsPlain place) (Unit {0})
+plain_of n size model None h = by (eqb model 2)
+  where
+    by : (b : Bool) → cond b (Unit {0}) (Unit {0})
+    by true = tt
+    by false = tt
+plain_of n size model (Some l) h = subst (λ m. cond (eqb m 2) (IsPlain (Some l)) (Unit {0})) (sym h.0) tt
+
+is_load : (n size : ℕ) (u : LoadAt) → IsUsable u → HasMagnitude n size u.load.model u.magnitude → IsLoad u
+is_load n size u h m =
     let v = h.voltages in
     record {
       vn = omega (arith, ints, v.nominal_least);
       low = omega (arith, ints, v.low_least);
       order = omega (arith, ints, v.low_least, v.low_most, v.high_least);
-      plain = subst (λ (b : Bool). cond b (IsPlain u.magnitude) (Unit {0})) (sym (eq-eqb u.load.model 2 h.model)) (subst IsPlain (sym h.plain) tt);
+      plain = plain_of n size u.load.model u.magnitude m;
     }
+
+-- a part load within its limit
+power_most : (w : LoadPhase) → ¬ (IsPast w) → power_sum w ≤ 10 ^ 11
+power_most w n = ⊎_elim (λ p. absurd (n (inl p))) (λ q. q) (cases_lt (10 ^ 11) (power_sum w))
+
+siemens_most : (w : LoadPhase) → ¬ (IsPast w) → power_sum w * 10 ^ 9 ≤ 2 ^ 12 * (nat_abs w.vlo * nat_abs w.vlo)
+siemens_most w n = ⊎_elim (λ p. absurd (n (inr p))) (λ q. q) (cases_lt (2 ^ 12 * (nat_abs w.vlo * nat_abs w.vlo)) (power_sum w * 10 ^ 9))
+
+is_load_phase : (w : LoadPhase) → AreVoltages w → ¬ (IsPast w) → IsLoadPhase w
+is_load_phase w v n = record {
+  nominal_least = v.nominal_least;
+  nominal_most = v.nominal_most;
+  low_least = v.low_least;
+  low_most = v.low_most;
+  high_least = v.high_least;
+  high_most = v.high_most;
+  power = power_most w n;
+  admittance = siemens_most w n;
+}
 
 -- what a part load within its limit draws
 draw_small : (u : LoadAt) → IsUsable u → ¬ (IsPast u.load) → draw_of u ≤ 640000000000
@@ -146,8 +175,8 @@ draw_small u h n =
     let lo = nat_abs u.load.vlo in
     let least : 5 * 10 ^ 6 ≤ vn = omega (arith, ints, v.nominal_least) in
     let order : lo ≤ vn = omega (arith, ints, v.low_least, v.low_most) in
-    let power : g ≤ 10 ^ 11 = ⊎_elim (λ p. absurd (n (inl p))) (λ q. q) (cases_lt (10 ^ 11) g) in
-    let siemens : g * 10 ^ 9 ≤ 2 ^ 12 * (lo * lo) = ⊎_elim (λ p. absurd (n (inr p))) (λ q. q) (cases_lt (2 ^ 12 * (lo * lo)) (g * 10 ^ 9)) in
+    let power : g ≤ 10 ^ 11 = power_most u.load n in
+    let siemens : g * 10 ^ 9 ≤ 2 ^ 12 * (lo * lo) = siemens_most u.load n in
     let squares : lo * lo ≤ vn * vn = mul-le-mul order order in
     let low : vn ≤ 156250000 → g * 10 ^ 9 ≤ 640000000000 * vn = λ k. let m : vn * vn ≤ 156250000 * vn = mul-le-mul_right vn k in omega arith in
     let high : 156250000 < vn → g * 10 ^ 9 ≤ 640000000000 * vn = λ k. omega arith in
@@ -160,13 +189,27 @@ draws_small (u ∷ us) h n =
     let rest = draws_small us (All-tail IsUsable u us h) (All-tail (λ w. ¬ (IsPast w.load)) u us n) in
     omega arith
 
-all_loads : (us : List LoadAt) → All IsUsable us → All IsLoad us
-all_loads [] h = All-nil IsLoad
-all_loads (u ∷ us) h = All-cons IsLoad u us (is_load u (All-head IsUsable u us h)) (all_loads us (All-tail IsUsable u us h))
+module _ (n size : ℕ) where
+  -- both nodes of a part load and its magnitude
+  pub record StandsInside (u : LoadAt) : Type 0 where
+    pub nodes : StandsBelow n u
+    pub magnitude : HasMagnitude n size u.load.model u.magnitude
 
-all_impedance : (us : List LoadAt) → All IsUsable us → All IsImpedance us
-all_impedance [] h = All-nil IsImpedance
-all_impedance (u ∷ us) h = All-cons IsImpedance u us (All-head IsUsable u us h).model (all_impedance us (All-tail IsUsable u us h))
+  all_loads : (us : List LoadAt) → All IsUsable us → All StandsInside us → All IsLoad us
+  all_loads [] h m = All-nil IsLoad
+  all_loads (u ∷ us) h m = All-cons IsLoad u us (is_load n size u (All-head IsUsable u us h) (All-head StandsInside u us m).magnitude) (all_loads us (All-tail IsUsable u us h) (All-tail StandsInside u us m))
+
+  is_served : (u : LoadAt) → IsUsable u → ¬ (IsPast u.load) → StandsInside u → IsServed n size u
+  is_served u h p m = record { phase = is_load_phase u.load h.voltages p; first = m.nodes.first; second = m.nodes.second; magnitude = m.magnitude }
+
+  all_served : (us : List LoadAt) → All IsUsable us → All (λ u. ¬ (IsPast u.load)) us → All StandsInside us → All (IsServed n size) us
+  all_served [] h p m = All-nil (IsServed n size)
+  all_served (u ∷ us) h p m = All-cons (IsServed n size) u us
+      (is_served u (All-head IsUsable u us h) (All-head (λ w. ¬ (IsPast w.load)) u us p) (All-head StandsInside u us m))
+      (all_served us (All-tail IsUsable u us h) (All-tail (λ w. ¬ (IsPast w.load)) u us p) (All-tail StandsInside u us m))
+
+  all_below : (us : List LoadAt) → All StandsInside us → All (StandsBelow n) us
+  all_below us m = All-weaker StandsInside (StandsBelow n) (λ u i. i.nodes) us m
 
 -- the square of a nominal voltage
 square_between : (z : ℤ) → pos (5 * 10 ^ 6) ≤ℤ z → z ≤ℤ pos (10 ^ 12) → (pos 0 <ℤ (z *ℤ z)) × ((z *ℤ z) ≤ℤ pos (10 ^ 32))
@@ -201,30 +244,30 @@ pub loads_divided : (us : List LoadAt) → All IsUsable us → All IsDivided (fl
 loads_divided [] h = All-nil IsDivided
 loads_divided (u ∷ us) h = All-append IsDivided (linear_list u) (flat_map linear_list us) (linear_divided u (All-head IsUsable u us h) (eqb u.load.model 2)) (loads_divided us (All-tail IsUsable u us h))
 
-pub loads_settled : (n : ℕ) (us : List LoadAt) → All IsUsable us → length us ≤ 3 → All (StandsBelow n) us → Fits (loads us) → IsSettled n 0 (loads us)
-loads_settled n us h few below f =
+pub loads_settled : (n size : ℕ) (us : List LoadAt) → All IsUsable us → length us ≤ 3 → All (StandsInside n size) us → Fits (loads us) → IsSettled n size 0 (loads us)
+loads_settled n size us h few inside f =
     let draws = draws_small us h f.loads in
     record {
       fits = f;
-      good = all_loads us h;
+      good = all_loads n size us h inside;
       bounded = record {
-        terms = contributions n 64 (flat_map linear_list us) (more_room n (length us * 16) 64 (flat_map linear_list us) (omega arith) (loads_inside n us below)) (loads_divided us h) f.terms;
+        terms = contributions n 64 (flat_map linear_list us) (more_room n (length us * 16) 64 (flat_map linear_list us) (omega arith) (loads_inside n us (all_below n size us inside))) (loads_divided us h) f.terms;
         constants = All-nil (IsKnown (2 * n));
         few_constants = omega arith;
-        loads = all_impedance us h;
+        loads = all_served n size us h f.loads inside;
         draw = omega arith;
       };
     }
 
-pub other_settled : (n : ℕ) → IsSettled n 0 other
-other_settled n = record {
+pub other_settled : (n size : ℕ) → IsSettled n size 0 other
+other_settled n size = record {
   fits = record { terms = All-nil IsWithin; loads = All-nil (λ u. ¬ (IsPast u.load)) };
   good = tt;
   bounded = record {
     terms = contributions n 64 [] (more_room n 0 64 [] (omega arith) (none_inside n)) (All-nil IsDivided) (All-nil IsWithin);
     constants = All-nil (IsKnown (2 * n));
     few_constants = omega arith;
-    loads = All-nil IsImpedance;
+    loads = All-nil (IsServed n size);
     draw = omega arith;
   };
 }

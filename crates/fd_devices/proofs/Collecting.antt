@@ -1,58 +1,29 @@
 -- Devices one after another: what they add, and that it stays bounded.
-use Rattle.std.proofs.Common.{◌≡◌, ◌∙◌, ℕ, zero, suc, ◌+◌, ◌*◌, List, [], ◌∷◌, ◌++◌, length, length-append, map, take, drop, slice_get, Some, arith, ap, sym, refl, subst, add-zero}
+use Rattle.std.proofs.Common.{◌≡◌, ◌∙◌, ℕ, suc, ◌+◌, ◌*◌, List, [], ◌∷◌, ◌++◌, length, length-append, map, arith, ap, sym, refl, subst}
 use Rattle.std.specs.List.{flat_map}
 use Rattle.std.proofs.lemmas.Grind.{flat_map-append}
 use Rattle.std.proofs.lemmas.List.{append-nil}
 use Rattle.std.proofs.lemmas.List.Elements.{All-nil, All-cons, All-append}
 use Rattle.fd_exact.specs.Sums.{list_n}
+use Rattle.fd_exact.specs.SumLaws.{list_n-append}
 use Rattle.fd_system.specs.Contributions.{IsDivided, IsWithin}
 use Rattle.fd_system.specs.System.{Share}
-use Rattle.fd_equations.specs.Conditions.{IsImpedance, IsKnown}
+use Rattle.fd_equations.specs.Conditions.{IsKnown, IsServed}
 use Rattle.dss_profile.specs.declared.element.Element.{Element}
 use Rattle.dss_profile.specs.declared.names.ElementName.{ElementName}
 use Rattle.dss_layout.specs.Layout.{Elements, LayoutView, branch_phases}
 use Rattle.fd_devices.specs.Devices.{Added, Device, IsGood, added_by, added_by_all, beside, device_draw, device_share}
-use Rattle.fd_devices.specs.Settings.{Settings, after, after_all, own, power_count}
-use Rattle.fd_devices.specs.Scripted.{device_of, devices_from}
+use Rattle.fd_devices.specs.Settings.{Settings, after}
+use Rattle.fd_devices.specs.Scripted.{devices_from}
 use Rattle.fd_devices.specs.Building.{AreCollected, Fits, IsBounded, IsInside, IsSettled}
 
 -- ---- devices in order
-
--- the device of the element at a place, with the settings that those before it left
-pub device_at : (layout : LayoutView) (hertz place : ℕ) (es : Elements) (s : Settings) (i : ℕ) (e : ElementName × Element) → slice_get es i ≡ Some e
-    → slice_get (devices_from layout hertz place es s) i ≡ Some (device_of layout hertz (place + i) e.1 (own e.1 (after_all (take i es) s)))
-device_at layout hertz place [] s i e h = cc
-device_at layout hertz place (d ∷ es) s zero e h =
-    let k : d ≡ e = cc in
-    let p = add-zero place in
-    λ i. Some (device_of layout hertz (sym p i) (k i).1 (own (k i).1 s))
-device_at layout hertz place (d ∷ es) s (suc i) e h =
-    let p : place + 1 + i ≡ place + suc i = omega arith in
-    device_at layout hertz (place + 1) es (after d.1 s) i e h ∙ ap (λ n. Some (device_of layout hertz n e.1 (own e.1 (after_all (take i es) (after d.1 s))))) p
 
 pub devices_length : (layout : LayoutView) (hertz place : ℕ) (es : Elements) (s : Settings) → length (devices_from layout hertz place es s) ≡ length es
 devices_length layout hertz place [] s = refl
 devices_length layout hertz place (e ∷ es) s = ap suc (devices_length layout hertz (place + 1) es (after e.1 s))
 
-drop_none : {X : Type 0} (n : ℕ) → drop {A = X} n [] ≡ []
-drop_none zero = refl
-drop_none (suc n) = refl
-
-pub drop_drop : {X : Type 0} (a b : ℕ) (xs : List X) → drop b (drop a xs) ≡ drop (a + b) xs
-drop_drop zero b xs = let e : b ≡ 0 + b = omega arith in ap (λ n. drop n xs) e
-drop_drop (suc a) b [] = drop_none b ∙ sym (drop_none (suc a + b))
-drop_drop (suc a) b (x ∷ xs) = let e : suc (a + b) ≡ suc a + b = omega arith in drop_drop a b xs ∙ ap (λ n. drop n (x ∷ xs)) e
-
--- the powers that are left
-pub powers_left : (es : Elements) (s : Settings) → (after_all es s).powers ≡ drop (list_n (λ (e : ElementName × Element). power_count e.1) es) s.powers
-powers_left [] s = refl
-powers_left (e ∷ es) s = powers_left es (after e.1 s) ∙ drop_drop (power_count e.1) (list_n (λ (d : ElementName × Element). power_count d.1) es) s.powers
-
 -- ---- sums over lists
-
-pub list_n-append : {A : Type 0} (f : A → ℕ) (xs ys : List A) → list_n f (xs ++ ys) ≡ list_n f xs + list_n f ys
-list_n-append f [] ys = let e : list_n f ys ≡ 0 + list_n f ys = omega arith in e
-list_n-append f (x ∷ xs) ys = let rest = list_n-append f xs ys in omega arith
 
 pub list_n-more : {A : Type 0} (f : A → ℕ) (xs : List A) (x : A) → list_n f (xs ++ x ∷ []) ≡ list_n f xs + f x
 list_n-more f xs x = let all = list_n-append f xs (x ∷ []) in omega arith
@@ -77,8 +48,8 @@ added_more ds d =
     let w = list_n-more device_draw ds d in
     λ i. record { share = record { constants = c i; terms = t i; loads = l i }; draw = w i }
 
-bounded_more : (n m k b c : ℕ) (a p : Added) → IsBounded n m b a → IsBounded n k c p → IsBounded n (m + k) (b + c) (beside a p)
-bounded_more n m k b c a p h g =
+bounded_more : (n size m k b c : ℕ) (a p : Added) → IsBounded n size m b a → IsBounded n size k c p → IsBounded n size (m + k) (b + c) (beside a p)
+bounded_more n size m k b c a p h g =
     let terms = length-append a.share.terms p.share.terms in
     let constants = length-append a.share.constants p.share.constants in
     let few = h.terms.few in
@@ -96,37 +67,23 @@ bounded_more n m k b c a p h g =
       };
       constants = All-append (IsKnown (2 * n)) a.share.constants p.share.constants h.constants g.constants;
       few_constants = omega arith;
-      loads = All-append IsImpedance a.share.loads p.share.loads h.loads g.loads;
+      loads = All-append (IsServed n size) a.share.loads p.share.loads h.loads g.loads;
       draw = omega arith;
     }
 
-pub collected_none : (n : ℕ) (a : Added) → a ≡ added_by_all [] → AreCollected n [] [] a
-collected_none n a e = subst (AreCollected n [] []) (sym e) (record {
-  added = refl;
-  fits = All-nil Fits;
-  good = All-nil IsGood;
-  bounded = record {
-    terms = record { inside = All-nil (IsInside n); divided = All-nil IsDivided; within = All-nil IsWithin; few = omega arith };
-    constants = All-nil (IsKnown (2 * n));
-    few_constants = omega arith;
-    loads = All-nil IsImpedance;
-    draw = omega arith;
-  };
-})
-
 -- one element and its device more
-pub collected_more : (n : ℕ) (es : Elements) (e : ElementName × Element) (ds : List Device) (d : Device) (a p b : Added)
-    → AreCollected n es ds a → IsSettled n (branch_phases e.1) d → p ≡ added_by d → b ≡ beside a p → AreCollected n (es ++ e ∷ []) (ds ++ d ∷ []) b
-collected_more n es e ds d a p b h s pe be =
+pub collected_more : (n size : ℕ) (es : Elements) (e : ElementName × Element) (ds : List Device) (d : Device) (a p b : Added)
+    → AreCollected n size es ds a → IsSettled n size (branch_phases e.1) d → p ≡ added_by d → b ≡ beside a p → AreCollected n size (es ++ e ∷ []) (ds ++ d ∷ []) b
+collected_more n size es e ds d a p b h s pe be =
     let more : b ≡ beside a (added_by d) = be ∙ ap (beside a) pe in
     let count : length (es ++ e ∷ []) ≡ length es + 1 = length-append es (e ∷ []) in
     let branches = list_n-more (λ (x : ElementName × Element). branch_phases x.1) es e in
-    let bounded = bounded_more n (length es) 1 (list_n (λ (x : ElementName × Element). branch_phases x.1) es) (branch_phases e.1) a (added_by d) h.bounded s.bounded in
+    let bounded = bounded_more n size (length es) 1 (list_n (λ (x : ElementName × Element). branch_phases x.1) es) (branch_phases e.1) a (added_by d) h.bounded s.bounded in
     record {
       added = more ∙ ap (λ x. beside x (added_by d)) h.added ∙ sym (added_more ds d);
       fits = All-append Fits ds (d ∷ []) h.fits (All-cons Fits d [] s.fits (All-nil Fits));
       good = All-append IsGood ds (d ∷ []) h.good (All-cons IsGood d [] s.good (All-nil IsGood));
-      bounded = subst (IsBounded n (length (es ++ e ∷ [])) (list_n (λ (x : ElementName × Element). branch_phases x.1) (es ++ e ∷ []))) (sym more)
-          (subst (λ m. IsBounded n m (list_n (λ (x : ElementName × Element). branch_phases x.1) (es ++ e ∷ [])) (beside a (added_by d))) (sym count)
-          (subst (λ m. IsBounded n (length es + 1) m (beside a (added_by d))) (sym branches) bounded));
+      bounded = subst (IsBounded n size (length (es ++ e ∷ [])) (list_n (λ (x : ElementName × Element). branch_phases x.1) (es ++ e ∷ []))) (sym more)
+          (subst (λ m. IsBounded n size m (list_n (λ (x : ElementName × Element). branch_phases x.1) (es ++ e ∷ [])) (beside a (added_by d))) (sym count)
+          (subst (λ m. IsBounded n size (length es + 1) m (beside a (added_by d))) (sym branches) bounded));
     }

@@ -11,11 +11,19 @@ use Rattle.fd_system.proofs.LoadRows.{loads_represent}
 use Rattle.fd_line.specs.Line.{line_list, line_parts}
 use Rattle.fd_line.proofs.Line.{line_adds_up}
 use Rattle.fd_source.proofs.Rows.{source_represents}
-use Rattle.fd_devices.specs.Devices.{Device, source, line, loads, other, device_parts, device_share, IsGood, parts_of_all, share_of_all, AgreesWith, DeviceLaw}
+use Rattle.fd_xfmr.specs.Leakage.{coefficients_of}
+use Rattle.fd_xfmr.specs.Transformer.{xfmr_list, xfmr_parts}
+use Rattle.fd_xfmr.proofs.Transformer.{xfmr_adds_up}
+use Rattle.fd_cap.specs.Capacitor.{cap_list, cap_parts}
+use Rattle.fd_cap.proofs.Capacitor.{cap_adds_up}
+use Rattle.fd_devices.specs.Devices.{Device, source, line, transformer, capacitor, loads, other, device_parts, device_share, IsGood, parts_of_all, share_of_all, AgreesWith, DeviceLaw}
+use Rattle.fd_devices.proofs.Transformers.{are_within}
 
 device_represents : (d : Device) → IsGood d → Represents (device_share d) (device_parts d)
 device_represents (source s at) g = source_represents s at
 device_represents (line l at) g = term_share (line_list l at) (line_parts l at) (line_adds_up l at)
+device_represents (transformer d t at) g = term_share (xfmr_list d t at) (xfmr_parts d t at) (xfmr_adds_up (coefficients_of d t) d at (are_within d t g.0 g.1))
+device_represents (capacitor d closed at) g = term_share (cap_list d closed at) (cap_parts d closed at) (cap_adds_up d closed at g)
 device_represents (loads us) g = loads_represent us g
 device_represents other g = λ x o l. no_parts
 

@@ -1,10 +1,12 @@
 pub mod DeviceRows
+pub mod Greatest
 pub mod SourceData
+pub mod PowerOf
+pub mod SnapshotCounts
 pub mod Counting
 pub mod Bounded
+pub mod Transformers
+pub mod Capacitors
 pub mod Collecting
 pub mod Steps
 pub mod Settling
-pub mod Greatest
-pub mod PowerOf
-pub mod SnapshotCounts

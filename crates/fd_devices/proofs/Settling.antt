@@ -1,40 +1,46 @@
 -- The devices of a load and of an element at its place are settled.
-use Rattle.std.proofs.Common.{◌≡◌, ◌∙◌, ℕ, zero, suc, ◌+◌, ◌%◌, ◌≤◌, ◌==◌, inl, inr, Bool, true, false, if◌then◌else◌, List, [], ◌∷◌, ◌++◌, add-one, arith, ap, sym, subst}
+use Rattle.std.proofs.Common.{◌≡◌, ◌∙◌, ℕ, zero, suc, ◌+◌, ◌*◌, ◌%◌, ◌<◌, ◌≤◌, ◌==◌, inl, inr, Bool, true, false, if◌then◌else◌, List, [], ◌∷◌, ◌++◌, add-one, arith, ap, refl, sym, subst}
 use Rattle.std.specs.List.{All}
 use Rattle.std.proofs.lemmas.List.Elements.{All-nil, All-cons, All-append}
 use Rattle.fd_arith.specs.declared.terms.NodeAt.{NodeAt}
 use Rattle.fd_arith.specs.declared.terms.NodeAt.TheVariants.{Ground}
 use Rattle.fd_arith.specs.declared.terms.Ends.{Ends}
+use Rattle.fd_arith.specs.declared.terms.TapPair.{TapPair}
 use Rattle.fd_line.specs.Series.{node_of}
 use Rattle.fd_elements.specs.declared.powers.LoadPower.{LoadPower}
 use Rattle.fd_elements.specs.Lines.{line_data_of}
+use Rattle.fd_equations.specs.Conditions.{HasMagnitude}
 use Rattle.fd_equations.specs.Rounded.{list_of}
 use Rattle.fd_equations.proofs.Lists.{length-list_of, list_of-more}
 use Rattle.dss_values.specs.declared.words.Connection.{Connection}
 use Rattle.dss_values.specs.declared.words.Connection.TheVariants.{Wye, Delta}
 use Rattle.dss_profile.specs.Ranges.{IsOneOf}
+use Rattle.dss_profile.specs.InRange.{LoadInRange}
 use Rattle.dss_profile.specs.declared.element.Element.{Element}
 use Rattle.dss_profile.specs.declared.element.Element.TheVariants as the
 use Rattle.dss_profile.specs.declared.vsource.Vsource.{Vsource}
 use Rattle.dss_profile.specs.declared.line.Line.{Line}
+use Rattle.dss_profile.specs.declared.transformer.Transformer.{Transformer}
+use Rattle.dss_profile.specs.declared.capacitor.Capacitor.{Capacitor}
 use Rattle.dss_profile.specs.declared.load.Load.{Load}
-use Rattle.dss_layout.specs.Layout.{LayoutView, branch_phases, complex_count, ends_of, first_magnitude}
-use Rattle.fd_devices.specs.Devices.{source, line, loads}
+use Rattle.dss_layout.specs.Layout.{LayoutView, branch_phases, complex_count, ends_of, first_magnitude, size_of}
+use Rattle.fd_devices.specs.Data.{cap_data_of, xfmr_data_of}
+use Rattle.fd_devices.specs.Devices.{source, line, transformer, capacitor, loads}
 use Rattle.fd_devices.specs.Settings.{Settings}
 use Rattle.fd_devices.specs.Sources.{source_data_of}
-use Rattle.fd_devices.specs.Scripted.{device_of, load_at, phases_of, second_node}
-use Rattle.fd_devices.specs.Sound.{HasBranches, IsBelow, IsSideOf, IsSited, terminal_nodes}
+use Rattle.fd_devices.specs.Scripted.{device_of, first_state, first_taps, load_at, magnitude_place, phases_of, second_node}
+use Rattle.fd_devices.specs.Sound.{HasBranches, HasMagnitudes, IsBelow, IsSideOf, IsSited, terminal_nodes}
 use Rattle.fd_devices.specs.Building.{Fits, IsSettled, IsUsable}
-use Rattle.fd_devices.proofs.Counting.{StandsBelow, node_below}
-use Rattle.fd_devices.proofs.Bounded.{loads_settled}
+use Rattle.fd_devices.proofs.Counting.{node_below}
+use Rattle.fd_devices.proofs.Bounded.{StandsInside, loads_settled, other_settled}
 
 -- ---- loads
 
-all_listed : {X : Type 0} (P : X → Type 0) (n : ℕ) (f : ℕ → X) → ((k : ℕ) → P (f k)) → All P (list_of n f)
+all_listed : {X : Type 0} (P : X → Type 0) (n : ℕ) (f : ℕ → X) → ((k : ℕ) → k < n → P (f k)) → All P (list_of n f)
 all_listed P zero f h = All-nil P
 all_listed P (suc n) f h =
     let more : list_of (suc n) f ≡ list_of n f ++ f n ∷ [] = ap (λ m. list_of m f) (sym (add-one n)) ∙ list_of-more n f in
-    subst (All P) (sym more) (All-append P (list_of n f) (f n ∷ []) (all_listed P n f h) (All-cons P (f n) [] (h n) (All-nil P)))
+    subst (All P) (sym more) (All-append P (list_of n f) (f n ∷ []) (all_listed P n f (λ k p. h k (omega arith))) (All-cons P (f n) [] (h n (omega arith)) (All-nil P)))
 
 second_below : (n : ℕ) (c : Connection) (phases : ℕ) (ns : List NodeAt) (k : ℕ) → All (IsBelow n) ns → IsBelow n (second_node c phases ns k)
 second_below n Wye phases ns k h = by (phases == 1)
@@ -48,40 +54,97 @@ few_phases : (phases : ℕ) → IsOneOf (1 ∷ 3 ∷ []) phases → phases ≤ 3
 few_phases phases (inl h) = omega arith
 few_phases phases (inr h) = omega arith
 
-pub phases_settled : (load : Load) (ns : List NodeAt) (magnitude : ℕ) (powers : List LoadPower) → IsOneOf (1 ∷ 3 ∷ []) load.phases → All IsUsable (phases_of load ns magnitude powers) → Fits (loads (phases_of load ns magnitude powers))
-    → (n : ℕ) → IsSideOf n (terminal_nodes load.phases) ns → IsSettled n 0 (loads (phases_of load ns magnitude powers))
-phases_settled load ns magnitude powers one usable fits n side =
+-- the magnitude of phase k
+magnitude_inside : (n size phases first k model : ℕ) → IsOneOf (1 ∷ 2 ∷ 5 ∷ []) model → (model ≡ 5 → HasMagnitudes n size phases first) → k < phases → HasMagnitude n size model (magnitude_place model first k)
+magnitude_inside n size phases first k model (inl e) h p = subst (λ m. HasMagnitude n size m (magnitude_place m first k)) (sym e) (inl refl)
+magnitude_inside n size phases first k model (inr (inl e)) h p = subst (λ m. HasMagnitude n size m (magnitude_place m first k)) (sym e) (inr refl)
+magnitude_inside n size phases first k model (inr (inr e)) h p =
+    let m = h e in
+    let behind = m.behind in
+    let below = m.below in
+    let least : 2 * n ≤ first + k = omega arith in
+    let most : first + k < size = omega arith in
+    subst (λ j. HasMagnitude n size j (magnitude_place j first k)) (sym e) (refl, (least, most))
+
+pub phases_settled : (load : Load) (ns : List NodeAt) (magnitude : ℕ) (powers : List LoadPower) → LoadInRange load → All IsUsable (phases_of load ns magnitude powers) → Fits (loads (phases_of load ns magnitude powers))
+    → (n size : ℕ) → IsSideOf n (terminal_nodes load.phases) ns → (load.model ≡ 5 → HasMagnitudes n size load.phases magnitude) → IsSettled n size 0 (loads (phases_of load ns magnitude powers))
+phases_settled load ns magnitude powers range usable fits n size side places =
     let count = length-list_of load.phases (load_at load ns magnitude powers) in
-    let few = few_phases load.phases one in
-    loads_settled n (phases_of load ns magnitude powers) usable (omega arith)
-    (all_listed (StandsBelow n) load.phases (load_at load ns magnitude powers) (λ k. record { first = node_below n ns k side.below; second = second_below n load.conn load.phases ns k side.below })) fits
+    let few = few_phases load.phases range.phases in
+    loads_settled n size (phases_of load ns magnitude powers) usable (omega arith)
+    (all_listed (StandsInside n size) load.phases (load_at load ns magnitude powers)
+    (λ k p. record {
+      nodes = record { first = node_below n ns k side.below; second = second_below n load.conn load.phases ns k side.below };
+      magnitude = magnitude_inside n size load.phases magnitude k load.model range.model places p;
+    })) fits
 
 -- ---- elements at their places
 
-module _ (layout : LayoutView) (hertz place : ℕ) (e : Element) (s : Settings) (at : Ends) (here : at ≡ ends_of layout place e) (sited : IsSited (complex_count layout) (ends_of layout place e) e) where
+module _ (layout : LayoutView) (hertz place : ℕ) (e : Element) (s : Settings) (at : Ends) (here : at ≡ ends_of layout place e) (sited : IsSited (complex_count layout) (size_of layout) (first_magnitude layout place) (ends_of layout place e) e) where
   abbrev Settled : Element → Type 0
-  Settled x = IsSettled (complex_count layout) (branch_phases x) (device_of layout hertz place x s)
+  Settled x = IsSettled (complex_count layout) (size_of layout) (branch_phases x) (device_of layout hertz place x s)
 
-  stands : IsSited (complex_count layout) at e
-  stands = subst (λ (t : Ends). IsSited (complex_count layout) t e) (sym here) sited
+  abbrev Stands : Ends → Element → Type 0
+  Stands t x = IsSited (complex_count layout) (size_of layout) (first_magnitude layout place) t x
 
-  pub source_here : (v : Vsource) → e ≡ the.Vsource v → ((n : ℕ) → IsSideOf n v.phases at.first → HasBranches n v.phases at → IsSettled n v.phases (source (source_data_of v) at)) → Settled e
+  stands : Stands at e
+  stands = subst (λ (t : Ends). Stands t e) (sym here) sited
+
+  pub source_here : (v : Vsource) → e ≡ the.Vsource v → ((n size : ℕ) → IsSideOf n v.phases at.first → HasBranches n v.phases at → IsSettled n size v.phases (source (source_data_of v) at)) → Settled e
   source_here v is h =
-      let side = subst (λ (x : Element). IsSited (complex_count layout) at x) is stands in
+      let side = subst (λ (x : Element). Stands at x) is stands in
       let a = subst (λ (x : Element). at ≡ ends_of layout place x) is here in
-      subst Settled (sym is) (subst (λ (t : Ends). IsSettled (complex_count layout) v.phases (source (source_data_of v) t)) a (h (complex_count layout) side.0 side.1))
+      subst Settled (sym is) (subst (λ (t : Ends). IsSettled (complex_count layout) (size_of layout) v.phases (source (source_data_of v) t)) a (h (complex_count layout) (size_of layout) side.0 side.1))
 
-  pub line_here : (l : Line) → e ≡ the.Line l → ((n : ℕ) → IsSideOf n l.phases at.first → IsSideOf n l.phases at.second → HasBranches n l.phases at → IsSettled n l.phases (line (line_data_of l hertz) at)) → Settled e
+  pub line_here : (l : Line) → e ≡ the.Line l → ((n size : ℕ) → IsSideOf n l.phases at.first → IsSideOf n l.phases at.second → HasBranches n l.phases at → IsSettled n size l.phases (line (line_data_of l hertz) at)) → Settled e
   line_here l is h =
-      let side = subst (λ (x : Element). IsSited (complex_count layout) at x) is stands in
+      let side = subst (λ (x : Element). Stands at x) is stands in
       let a = subst (λ (x : Element). at ≡ ends_of layout place x) is here in
-      subst Settled (sym is) (subst (λ (t : Ends). IsSettled (complex_count layout) l.phases (line (line_data_of l hertz) t)) a (h (complex_count layout) side.0 side.1 side.2))
+      subst Settled (sym is) (subst (λ (t : Ends). IsSettled (complex_count layout) (size_of layout) l.phases (line (line_data_of l hertz) t)) a (h (complex_count layout) (size_of layout) side.0 side.1 side.2))
 
-  pub load_here : (l : Load) (nodes : List NodeAt) (magnitude : ℕ) → e ≡ the.Load l → nodes ≡ at.first → magnitude ≡ first_magnitude layout place → ((n : ℕ) → IsSideOf n (terminal_nodes l.phases) nodes → IsSettled n 0 (loads (phases_of l nodes magnitude s.powers))) → Settled e
-  load_here l nodes magnitude is ns m h =
-      let side = subst (λ (x : Element). IsSited (complex_count layout) at x) is stands in
+  pub transformer_here : (t : Transformer) (taps : TapPair) → e ≡ the.Transformer t → taps ≡ first_taps s.taps
+      → ((n size : ℕ) → IsSideOf n (terminal_nodes t.phases) at.first → IsSideOf n (terminal_nodes t.phases) at.second → HasBranches n t.phases at → IsSettled n size t.phases (transformer (xfmr_data_of t) taps at)) → Settled e
+  transformer_here t taps is own h =
+      let side = subst (λ (x : Element). Stands at x) is stands in
+      let a = subst (λ (x : Element). at ≡ ends_of layout place x) is here in
+      subst Settled (sym is) (subst (λ (u : TapPair). IsSettled (complex_count layout) (size_of layout) t.phases (transformer (xfmr_data_of t) u (ends_of layout place (the.Transformer t)))) own
+      (subst (λ (u : Ends). IsSettled (complex_count layout) (size_of layout) t.phases (transformer (xfmr_data_of t) taps u)) a (h (complex_count layout) (size_of layout) side.0 side.1 side.2)))
+
+  pub capacitor_here : (k : Capacitor) (closed : Bool) → e ≡ the.Capacitor k → closed ≡ first_state s.closed
+      → ((n size : ℕ) → IsSideOf n (terminal_nodes k.phases) at.first → IsSettled n size 0 (capacitor (cap_data_of k) closed at)) → Settled e
+  capacitor_here k closed is own h =
+      let side = subst (λ (x : Element). Stands at x) is stands in
+      let a = subst (λ (x : Element). at ≡ ends_of layout place x) is here in
+      subst Settled (sym is) (subst (λ b. IsSettled (complex_count layout) (size_of layout) 0 (capacitor (cap_data_of k) b (ends_of layout place (the.Capacitor k)))) own
+      (subst (λ (u : Ends). IsSettled (complex_count layout) (size_of layout) 0 (capacitor (cap_data_of k) closed u)) a (h (complex_count layout) (size_of layout) side)))
+
+  -- the device of a load
+  pub load_is : (l : Load) (nodes : List NodeAt) (magnitude : ℕ) → e ≡ the.Load l → nodes ≡ at.first → magnitude ≡ first_magnitude layout place → loads (phases_of l nodes magnitude s.powers) ≡ device_of layout hertz place e s
+  load_is l nodes magnitude is ns m =
       let a = subst (λ (x : Element). at ≡ ends_of layout place x) is here in
       let nodes_are = ns ∙ ap (λ (t : Ends). t.first) a in
-      let settled = h (complex_count layout) (subst (IsSideOf (complex_count layout) (terminal_nodes l.phases)) (sym ns) side) in
-      subst Settled (sym is) (subst (λ k. IsSettled (complex_count layout) 0 (loads (phases_of l (ends_of layout place (the.Load l)).first k s.powers))) m
-      (subst (λ us. IsSettled (complex_count layout) 0 (loads (phases_of l us magnitude s.powers))) nodes_are settled))
+      (λ i. loads (phases_of l (nodes_are i) (m i) s.powers)) ∙ ap (λ (x : Element). device_of layout hertz place x s) (sym is)
+
+  pub load_here : (l : Load) (nodes : List NodeAt) (magnitude : ℕ) → e ≡ the.Load l → nodes ≡ at.first → magnitude ≡ first_magnitude layout place
+      → ((n size : ℕ) → IsSideOf n (terminal_nodes l.phases) nodes → (l.model ≡ 5 → HasMagnitudes n size l.phases magnitude) → IsSettled n size 0 (loads (phases_of l nodes magnitude s.powers))) → Settled e
+  load_here l nodes magnitude is ns m h =
+      let side = subst (λ (x : Element). Stands at x) is stands in
+      let a = subst (λ (x : Element). at ≡ ends_of layout place x) is here in
+      let nodes_are = ns ∙ ap (λ (t : Ends). t.first) a in
+      let places : l.model ≡ 5 → HasMagnitudes (complex_count layout) (size_of layout) l.phases magnitude = λ five. subst (HasMagnitudes (complex_count layout) (size_of layout) l.phases) (sym m) (side.1 five) in
+      let settled = h (complex_count layout) (size_of layout) (subst (IsSideOf (complex_count layout) (terminal_nodes l.phases)) (sym ns) side.0) places in
+      subst Settled (sym is) (subst (λ k. IsSettled (complex_count layout) (size_of layout) 0 (loads (phases_of l (ends_of layout place (the.Load l)).first k s.powers))) m
+      (subst (λ us. IsSettled (complex_count layout) (size_of layout) 0 (loads (phases_of l us magnitude s.powers))) nodes_are settled))
+
+-- an element that takes no part in the equations
+pub other_here : (layout : LayoutView) (hertz place : ℕ) (s : Settings) (e : Element) → ((v : Vsource) → ¬ (e ≡ the.Vsource v)) → ((l : Line) → ¬ (e ≡ the.Line l)) → ((t : Transformer) → ¬ (e ≡ the.Transformer t))
+    → ((k : Capacitor) → ¬ (e ≡ the.Capacitor k)) → ((l : Load) → ¬ (e ≡ the.Load l)) → IsSettled (complex_count layout) (size_of layout) (branch_phases e) (device_of layout hertz place e s)
+other_here layout hertz place s (the.Vsource v) a b c d f = absurd (a v refl)
+other_here layout hertz place s (the.Linecode k) a b c d f = other_settled (complex_count layout) (size_of layout)
+other_here layout hertz place s (the.Line l) a b c d f = absurd (b l refl)
+other_here layout hertz place s (the.Transformer t) a b c d f = absurd (c t refl)
+other_here layout hertz place s (the.Capacitor k) a b c d f = absurd (d k refl)
+other_here layout hertz place s (the.Load l) a b c d f = absurd (f l refl)
+other_here layout hertz place s (the.RegControl k) a b c d f = other_settled (complex_count layout) (size_of layout)
+other_here layout hertz place s (the.CapControl k) a b c d f = other_settled (complex_count layout) (size_of layout)
+other_here layout hertz place s (the.Loadshape k) a b c d f = other_settled (complex_count layout) (size_of layout)

@@ -1,18 +1,14 @@
 -- One step of a walk over a list.
-use Rattle.std.proofs.Common.{◌≡◌, ◌∙◌, ℕ, ◌+◌, ◌<◌, ℤ, List, [], ◌∷◌, ◌++◌, length, take, drop, get_or, slice_get, Some, cond, append_assoc, add-one, arith, ap, sym, subst}
+use Rattle.std.proofs.Common.{◌≡◌, ◌∙◌, ℕ, ◌+◌, ◌<◌, ℤ, List, [], ◌∷◌, ◌++◌, length, take, drop, get_or, slice_get, Some, append_assoc, add-one, arith, ap, sym, subst}
 use Rattle.std.specs.List.{All, flat_map}
 use Rattle.std.proofs.Math.Seq.{take-suc, drop-cons}
 use Rattle.std.proofs.lemmas.Grind.{flat_map-append}
 use Rattle.std.proofs.lemmas.List.{append-nil}
 use Rattle.std.proofs.lemmas.Option.{slice_get_within, get_or_from_slice_get}
-use Rattle.std.proofs.lemmas.Bool.{eq-eqb}
 use Rattle.dss_layout.proofs.Placing.{take-more}
 use Rattle.fd_exact.specs.Sums.{list_n}
-use Rattle.fd_system.specs.declared.loads.LoadAt.{LoadAt}
 use Rattle.fd_system.specs.declared.constants.Constant.{Constant}
-use Rattle.fd_system.specs.Loads.{impedance_list, linear_list}
 use Rattle.fd_source.specs.Equations.{constants_from}
-use Rattle.fd_devices.specs.Building.{IsUsable}
 use Rattle.fd_devices.proofs.Collecting.{list_n-more}
 
 -- one element more
@@ -34,10 +30,6 @@ flat_map_at f xs k x h =
 -- what holds of all holds of the element that stands at a place
 pub all_at : {A : Type 0} (P : A → Type 0) (xs : List A) (k : ℕ) (x : A) → All P xs → slice_get xs k ≡ Some x → P x
 all_at P xs k x h e = subst P (get_or_from_slice_get xs k x x e) (h k x (slice_get_within xs k x e))
-
--- a part load of constant impedance stands in the contributions
-pub linear_is : (u : LoadAt) → IsUsable u → linear_list u ≡ impedance_list u
-linear_is u h = ap (λ b. cond b (impedance_list u) []) (eq-eqb u.load.model 2 h.model)
 
 -- one constant more
 pub constant_next : (row : ℕ) (vs : List ℤ) (k : ℕ) (d : ℤ) (made : List Constant) → k < length vs

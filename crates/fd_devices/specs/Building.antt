@@ -1,13 +1,6 @@
--- When a circuit's network is in range, which element is to blame where it is not, and what a circuit must be.
-use Rattle.std.specs.Prelude.{◌≡◌, ℕ, ◌+◌, ◌*◌, ◌<◌, ◌≤◌, ◌^◌, nat_abs, List, [], ◌∷◌, length, take, Some, None, slice_get, All}
-use Rattle.dss_values.specs.declared.fault.ModelFault.TheVariants as fault
-use Rattle.dss_profile.specs.declared.command.Blame.{Blame}
-use Rattle.dss_profile.specs.declared.element.Element.{Element}
-use Rattle.dss_profile.specs.declared.element.Element.TheVariants as the
-use Rattle.dss_layout.specs.Layout.{Elements, LayoutView, branch_phases, first_too_many, layout_of}
-use Rattle.dss_profile.specs.Ranges.{IsOneOf}
-use Rattle.dss_ready.specs.Ready.{blame_at}
-use Rattle.dss_profile.specs.InRange.{ElementInRange}
+-- When a circuit's network is in range, what its elements must be, and what their devices add.
+use Rattle.std.specs.Prelude.{◌≡◌, ℕ, ◌+◌, ◌*◌, ◌<◌, ◌≤◌, ◌^◌, nat_abs, List, length, All}
+use Rattle.dss_layout.specs.Layout.{Elements, branch_phases}
 use Rattle.fd_exact.specs.Sums.{list_n}
 use Rattle.fd_arith.specs.declared.terms.Term.{Term}
 use Rattle.fd_system.specs.declared.loads.LoadAt.{LoadAt}
@@ -15,12 +8,7 @@ use Rattle.fd_system.specs.Contributions.{AreSmall, IsDivided, IsSmall, IsWithin
 use Rattle.fd_elements.specs.declared.powers.LoadPower.{LoadPower}
 use Rattle.fd_elements.specs.Loads.{AreVoltages, IsPast}
 use Rattle.fd_equations.specs.Coefficients.{linear_entry}
-use Rattle.fd_equations.specs.Conditions.{IsImpedance, IsKnown}
-use Rattle.fd_devices.specs.declared.fault.BuildFault.{BuildFault}
-use Rattle.fd_devices.specs.declared.fault.BuildFault.TheVariants as build_fault
-use Rattle.fd_devices.specs.Settings.{power_count, with_powers}
-use Rattle.fd_devices.specs.Scripted.{devices_from}
-use Rattle.fd_devices.specs.Sound.{IsSound}
+use Rattle.fd_equations.specs.Conditions.{IsKnown, IsServed}
 use Rattle.fd_devices.specs.Devices.{Added, Device, IsGood, added_by, added_by_all, device_share, share_of_all}
 
 -- ---- one device
@@ -41,41 +29,15 @@ pub record AreInRange (ds : List Device) : Type 0 where
   pub each : All Fits ds
   pub sums : (row col : ℕ) → AreSmall (linear_entry (share_of_all ds).terms row col)
 
--- the device at this place in order is the first of which something doesn't hold
-pub record IsFirstWithout (Holds : Device → Type 0) (ds : List Device) (place : ℕ) : Type 0 where
-  pub device : Device
-  pub at_place : slice_get ds place ≡ Some device
-  pub fails : ¬ (Holds device)
-  pub before : All Holds (take place ds)
-
--- the first element whose device doesn't fit is to blame; where each fits, the first with a contribution at a place with a large sum
-pub data IsToBlame (elements : Elements) (ds : List Device) : Blame → Type 0 where
-  for_own : (blame : Blame) (place : ℕ) → IsFirstWithout Fits ds place → blame_at fault.Range elements place ≡ Some blame → IsToBlame elements ds blame
-  for_sum : (blame : Blame) (place : ℕ) → All Fits ds → IsFirstWithout (HasSmallSums (share_of_all ds).terms) ds place → blame_at fault.Range elements place ≡ Some blame → IsToBlame elements ds blame
-
--- why there is no network; want of memory is free
-abbrev pub IsFault : Elements → List Device → BuildFault → Type 0
-IsFault elements ds (build_fault.Range blame) = IsToBlame elements ds blame
-IsFault elements ds build_fault.NoMemory = Unit {0}
-
 -- ---- conditions
-
--- sources, lines and loads of constant impedance take part in the equations, and transformers and capacitors are not among the elements
-abbrev pub IsCovered : Element → Type 0
-IsCovered (the.Load l) = l.model ≡ 2
-IsCovered (the.Transformer t) = ⊥
-IsCovered (the.Capacitor c) = ⊥
-IsCovered e = Unit {0}
 
 -- a power is at most 10^17 in size
 pub record IsModest (power : LoadPower) : Type 0 where
   pub p : nat_abs power.p ≤ 10 ^ 17
   pub q : nat_abs power.q ≤ 10 ^ 17
 
--- a part load of constant impedance with voltages in their ranges and a power of at most 10^17 in size
+-- a part load with voltages in their ranges and a power of at most 10^17 in size
 pub record IsUsable (u : LoadAt) : Type 0 where
-  pub model : u.load.model ≡ 2
-  pub plain : u.magnitude ≡ None
   pub voltages : AreVoltages u.load
   pub p : nat_abs u.load.p ≤ 10 ^ 17
   pub q : nat_abs u.load.q ≤ 10 ^ 17
@@ -96,39 +58,23 @@ pub record AreContributions (n b : ℕ) (ts : List Term) : Type 0 where
   pub within : All IsWithin ts
   pub few : length ts ≤ b
 
--- what m elements with b branches add, of n complex unknowns
-pub record IsBounded (n m b : ℕ) (a : Added) : Type 0 where
+-- what m elements with b branches add, of n complex unknowns and `size` real ones; each element draws at most 17.5 megaampere
+pub record IsBounded (n size m b : ℕ) (a : Added) : Type 0 where
   pub terms : AreContributions n (64 * (m + b)) a.share.terms
   pub constants : All (IsKnown (2 * n)) a.share.constants
   pub few_constants : length a.share.constants ≤ 6 * m
-  pub loads : All IsImpedance a.share.loads
-  pub draw : a.draw ≤ 2 ^ 41 * m
+  pub loads : All (IsServed n size) a.share.loads
+  pub draw : a.draw ≤ 17_500_000_000_000 * m
 
--- a device with good data that fits
-pub record IsSettled (n b : ℕ) (d : Device) : Type 0 where
+-- a device with good data that fits, with b branches, of n complex unknowns and `size` real ones
+pub record IsSettled (n size b : ℕ) (d : Device) : Type 0 where
   pub fits : Fits d
   pub good : IsGood d
-  pub bounded : IsBounded n 1 b (added_by d)
+  pub bounded : IsBounded n size 1 b (added_by d)
 
--- what the devices of these elements add, of n complex unknowns
-pub record AreCollected (n : ℕ) (elements : Elements) (ds : List Device) (a : Added) : Type 0 where
+-- what the devices of these elements add, of n complex unknowns and `size` real ones
+pub record AreCollected (n size : ℕ) (elements : Elements) (ds : List Device) (a : Added) : Type 0 where
   pub added : a ≡ added_by_all ds
   pub fits : All Fits ds
   pub good : All IsGood ds
-  pub bounded : IsBounded n (length elements) (list_n (λ e. branch_phases e.1) elements) a
-
--- elements whose network can be built in a layout at a frequency in hertz, with these powers of their load phases
-pub record IsBuildable (layout : LayoutView) (hertz : ℕ) (elements : Elements) (powers : List LoadPower) : Type 0 where
-  pub layout_is : layout ≡ layout_of elements
-  pub not_many : first_too_many elements ≡ None
-  pub frequency : IsOneOf (50 ∷ 60 ∷ []) hertz
-  pub few : length elements ≤ 2 ^ 17
-  pub in_range : All (λ e. ElementInRange e.1) elements
-  pub sound : All (λ e. IsSound e.1) elements
-  pub covered : All (λ e. IsCovered e.1) elements
-  pub count : length powers ≡ list_n (λ e. power_count e.1) elements
-  pub modest : All IsModest powers
-
--- the devices of these elements
-abbrev pub devices_with : LayoutView → ℕ → Elements → List LoadPower → List Device
-devices_with layout hertz elements powers = devices_from layout hertz 0 elements (with_powers powers)
+  pub bounded : IsBounded n size (length elements) (list_n (λ e. branch_phases e.1) elements) a

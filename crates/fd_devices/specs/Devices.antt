@@ -1,11 +1,12 @@
 -- Devices: elements of a circuit with the data of their equations, at their nodes and branches. Their complex equations, their
 -- system, and that the two have the same rows.
-use Rattle.std.specs.Prelude.{ℕ, ◌+◌, ◌*◌, ◌^◌, ◌<◌, ℤ, nat_abs, List, [], ◌++◌, map, All}
+use Rattle.std.specs.Prelude.{ℕ, ◌+◌, ◌*◌, ◌^◌, ◌<◌, ℤ, nat_abs, Bool, List, [], ◌++◌, map, All}
 use Rattle.std.specs.List.{flat_map}
 use Rattle.fd_exact.specs.Rounding.{ceil_nat}
 use Rattle.fd_exact.specs.States.{State}
 use Rattle.fd_exact.specs.Sums.{list_n}
 use Rattle.fd_arith.specs.declared.terms.Ends.{Ends}
+use Rattle.fd_arith.specs.declared.terms.TapPair.{TapPair}
 use Rattle.fd_system.specs.declared.loads.LoadAt.{LoadAt}
 use Rattle.fd_system.specs.Equations.{Part, equation}
 use Rattle.fd_system.specs.Loads.{load_parts, IsLoad}
@@ -15,13 +16,20 @@ use Rattle.fd_line.specs.declared.data.LineData.{LineData}
 use Rattle.fd_line.specs.Line.{line_list, line_parts}
 use Rattle.fd_source.specs.declared.data.SourceData.{SourceData}
 use Rattle.fd_source.specs.Equations.{share_of, source_constants, source_list, source_parts}
+use Rattle.fd_xfmr.specs.declared.data.XfmrData.{XfmrData}
+use Rattle.fd_xfmr.specs.Leakage.{AreTaps, IsXfmr}
+use Rattle.fd_xfmr.specs.Transformer.{xfmr_list, xfmr_parts}
+use Rattle.fd_cap.specs.declared.data.CapData.{CapData}
+use Rattle.fd_cap.specs.Capacitor.{IsCap, cap_draw_of, cap_list, cap_parts}
 use Rattle.fd_equations.specs.Views.{share_with}
 use Rattle.fd_devices.specs.declared.pieces.Piece.{Piece}
 
--- a load is the part loads of its phases; `other` takes no part in the equations
+-- a transformer stands at its taps, a capacitor bank is closed or not, and a load is the part loads of its phases; `other` takes no part in the equations
 pub data Device : Type 0 where
   source : SourceData → Ends → Device
   line : LineData → Ends → Device
+  transformer : XfmrData → TapPair → Ends → Device
+  capacitor : CapData → Bool → Ends → Device
   loads : List LoadAt → Device
   other : Device
 
@@ -29,6 +37,8 @@ pub data Device : Type 0 where
 abbrev pub device_parts : Device → State → List Part
 device_parts (source s at) x = source_parts s at x
 device_parts (line l at) x = line_parts l at x
+device_parts (transformer t taps at) x = xfmr_parts t taps at x
+device_parts (capacitor c closed at) x = cap_parts c closed at x
 device_parts (loads us) x = flat_map (λ u. load_parts u x) us
 device_parts other x = []
 
@@ -36,6 +46,8 @@ device_parts other x = []
 abbrev pub device_share : Device → Share
 device_share (source s at) = share_of at (source_constants s) (source_list s at)
 device_share (line l at) = share_with [] (line_list l at) []
+device_share (transformer t taps at) = share_with [] (xfmr_list t taps at) []
+device_share (capacitor c closed at) = share_with [] (cap_list c closed at) []
 device_share (loads us) = loads_share us
 device_share other = share_with [] [] []
 
@@ -48,6 +60,8 @@ abbrev pub device_draw : Device → ℕ
 device_draw (loads us) = list_n draw_of us
 device_draw (source s at) = 0
 device_draw (line l at) = 0
+device_draw (transformer t taps at) = 0
+device_draw (capacitor c closed at) = cap_draw_of c closed
 device_draw other = 0
 
 -- the condition on a device's data
@@ -55,6 +69,8 @@ abbrev pub IsGood : Device → Type 0
 IsGood (loads us) = All IsLoad us
 IsGood (source s at) = Unit {0}
 IsGood (line l at) = Unit {0}
+IsGood (transformer t taps at) = IsXfmr t × AreTaps taps
+IsGood (capacitor c closed at) = IsCap c
 IsGood other = Unit {0}
 
 -- ---- all devices, in order

@@ -1,5 +1,6 @@
 pub mod Devices
 pub mod Sources
+pub mod Data
 pub mod Settings
 pub mod Scripted
 pub mod Sound

@@ -1,8 +1,9 @@
 -- The devices of a scripted circuit, and its network.
-use Rattle.std.specs.Prelude.{ℕ, ◌+◌, ◌%◌, ◌==◌, pos, List, [], ◌∷◌, length, get_or, Option, Some, None, if◌then◌else◌}
+use Rattle.std.specs.Prelude.{ℕ, ◌+◌, ◌%◌, ◌==◌, pos, Bool, false, List, [], ◌∷◌, length, get_or, Option, Some, None, if◌then◌else◌}
 use Rattle.fd_exact.specs.States.{State}
 use Rattle.fd_arith.specs.declared.terms.NodeAt.{NodeAt}
 use Rattle.fd_arith.specs.declared.terms.NodeAt.TheVariants.{Ground}
+use Rattle.fd_arith.specs.declared.terms.TapPair.{TapPair}
 use Rattle.fd_system.specs.declared.loads.LoadAt.{LoadAt}
 use Rattle.fd_system.specs.Equations.{Part}
 use Rattle.fd_line.specs.Series.{node_of}
@@ -19,7 +20,8 @@ use Rattle.fd_elements.specs.Loads.{load_phase_of}
 use Rattle.fd_equations.specs.declared.layout.Layout.{Layout}
 use Rattle.fd_equations.specs.Rounded.{list_of}
 use Rattle.fd_equations.specs.Views.{NetworkView, network_of}
-use Rattle.fd_devices.specs.Devices.{Device, source, line, loads, other, draw_of_all, parts_of_all, share_of_all}
+use Rattle.fd_devices.specs.Data.{cap_data_of, xfmr_data_of}
+use Rattle.fd_devices.specs.Devices.{Device, source, line, transformer, capacitor, loads, other, draw_of_all, parts_of_all, share_of_all}
 use Rattle.fd_devices.specs.Settings.{Settings, own, after}
 use Rattle.fd_devices.specs.Sources.{source_data_of}
 
@@ -52,10 +54,19 @@ phases_of load ns magnitude powers = list_of load.phases (load_at load ns magnit
 
 -- ---- devices
 
+-- the taps of a transformer and the state of a bank among the settings of its element
+abbrev pub first_taps : List TapPair → TapPair
+first_taps taps = get_or taps 0 (record { first = 0; second = 0 })
+
+abbrev pub first_state : List Bool → Bool
+first_state closed = get_or closed 0 false
+
 -- the device of an element that stands at a place in order, at the circuit's frequency in hertz and with its own settings
 abbrev pub device_of : LayoutView → ℕ → ℕ → Element → Settings → Device
 device_of layout hertz place (the.Vsource v) s = source (source_data_of v) (ends_of layout place (the.Vsource v))
 device_of layout hertz place (the.Line l) s = line (line_data_of l hertz) (ends_of layout place (the.Line l))
+device_of layout hertz place (the.Transformer t) s = transformer (xfmr_data_of t) (first_taps s.taps) (ends_of layout place (the.Transformer t))
+device_of layout hertz place (the.Capacitor c) s = capacitor (cap_data_of c) (first_state s.closed) (ends_of layout place (the.Capacitor c))
 device_of layout hertz place (the.Load l) s = loads (phases_of l (ends_of layout place (the.Load l)).first (first_magnitude layout place) s.powers)
 device_of layout hertz place e s = other
 

@@ -1,11 +1,13 @@
 -- What is set of a circuit beside its script: taps, states of banks and powers of loads, each in order of definition.
-use Rattle.std.specs.Prelude.{◌≡◌, ℕ, Bool, List, [], ◌∷◌, length, take, drop}
+use Rattle.std.specs.Prelude.{◌≡◌, ℕ, Bool, List, [], ◌∷◌, length, take, drop, All}
 use Rattle.fd_exact.specs.Sums.{list_n}
 use Rattle.fd_arith.specs.declared.terms.TapPair.{TapPair}
 use Rattle.fd_elements.specs.declared.powers.LoadPower.{LoadPower}
 use Rattle.dss_profile.specs.declared.element.Element.{Element}
 use Rattle.dss_profile.specs.declared.element.Element.TheVariants as the
 use Rattle.dss_layout.specs.Layout.{Elements}
+use Rattle.fd_xfmr.specs.Leakage.{AreTaps}
+use Rattle.fd_devices.specs.declared.settings.OwnSettings.{OwnSettings}
 use Rattle.fd_devices.specs.declared.settings.Positions.{Positions}
 use Rattle.fd_devices.specs.declared.settings.Powers.{Powers}
 
@@ -18,9 +20,9 @@ pub record Settings : Type 0 where
 abbrev pub settings_of : Positions → Powers → Settings
 settings_of at powers = record { taps = at.taps; closed = at.closed; powers = powers.loads }
 
--- powers alone, where nothing else is looked at
-abbrev pub with_powers : List LoadPower → Settings
-with_powers powers = record { taps = []; closed = []; powers = powers }
+-- those of one element
+abbrev pub settings_in : OwnSettings → Settings
+settings_in s = record { taps = s.taps.now; closed = s.closed.now; powers = s.powers.now }
 
 -- ---- how many of each kind an element has
 
@@ -42,6 +44,13 @@ pub record AreSettings (elements : Elements) (s : Settings) : Type 0 where
   pub closed : length s.closed ≡ list_n (λ e. bank_count e.1) elements
   pub powers : length s.powers ≡ list_n (λ e. power_count e.1) elements
 
+-- as many of each kind as one element has, its taps in range
+pub record AreOwn (e : Element) (s : Settings) : Type 0 where
+  pub taps : length s.taps ≡ tap_count e
+  pub closed : length s.closed ≡ bank_count e
+  pub powers : length s.powers ≡ power_count e
+  pub within : All AreTaps s.taps
+
 -- ---- those of the elements in turn
 
 -- those of the first element
@@ -51,8 +60,3 @@ own e s = record { taps = take (tap_count e) s.taps; closed = take (bank_count e
 -- those of the elements after it
 abbrev pub after : Element → Settings → Settings
 after e s = record { taps = drop (tap_count e) s.taps; closed = drop (bank_count e) s.closed; powers = drop (power_count e) s.powers }
-
--- those of the elements after all of these
-abbrev pub after_all : Elements → Settings → Settings
-after_all [] s = s
-after_all (e ∷ es) s = after_all es (after e.1 s)

@@ -1,13 +1,13 @@
 -- What the tests of Solve say of an element that takes part in the equations, and where it stands.
-use Rattle.std.specs.Prelude.{◌≡◌, ℕ, ◌+◌, ◌≤◌, ◌<◌, ◌==◌, false, Ok, IsSome, List, length, All, if◌then◌else◌}
+use Rattle.std.specs.Prelude.{◌≡◌, ℕ, ◌+◌, ◌*◌, ◌≤◌, ◌==◌, false, Ok, IsSome, List, length, All, if◌then◌else◌}
 use Rattle.fd_arith.specs.declared.terms.NodeAt.{NodeAt}
-use Rattle.fd_arith.specs.declared.terms.NodeAt.TheVariants.{Ground, Node}
 use Rattle.fd_arith.specs.declared.terms.Ends.{Ends}
 use Rattle.dss_profile.specs.declared.element.Element.{Element}
 use Rattle.dss_profile.specs.declared.element.Element.TheVariants as the
 use Rattle.dss_layout.specs.Terminals.{terminal_numbers, tested}
 use Rattle.dss_ready.specs.Counts.{are_matrices_wrong}
 use Rattle.dss_ready.specs.Ranges.{is_source_outside}
+use Rattle.fd_equations.specs.Conditions.{IsAmong}
 
 -- ---- values
 
@@ -23,10 +23,9 @@ pub record IsSound (e : Element) : Type 0 where
 
 -- ---- places
 
--- a node is among the first n complex unknowns
+-- a node is ground or among the first n complex unknowns
 abbrev pub IsBelow : ℕ → NodeAt → Type 0
-IsBelow n Ground = Unit {0}
-IsBelow n (Node r) = r < n
+IsBelow n node = IsAmong n node
 
 -- a side of an element has a node for each of its m terminals, among the first n complex unknowns
 pub record IsSideOf (n m : ℕ) (nodes : List NodeAt) : Type 0 where
@@ -38,13 +37,21 @@ pub record HasBranches (n m : ℕ) (at : Ends) : Type 0 where
   pub some : 1 ≤ m
   pub below : at.branch + m ≤ n
 
--- a load of one phase has two nodes
+-- the magnitudes of m phases, of which the first's place is given, stand behind the first n complex unknowns, among `size` real ones
+pub record HasMagnitudes (n size m first : ℕ) : Type 0 where
+  pub behind : 2 * n ≤ first
+  pub below : first + m ≤ size
+
+-- a winding, a bank or a load of one phase has two nodes
 abbrev pub terminal_nodes : ℕ → ℕ
 terminal_nodes phases = if phases == 1 then 2 else phases
 
--- where an element stands among the first n complex unknowns
-abbrev pub IsSited : ℕ → Ends → Element → Type 0
-IsSited n at (the.Vsource v) = IsSideOf n v.phases at.first × HasBranches n v.phases at
-IsSited n at (the.Line l) = IsSideOf n l.phases at.first × IsSideOf n l.phases at.second × HasBranches n l.phases at
-IsSited n at (the.Load l) = IsSideOf n (terminal_nodes l.phases) at.first
-IsSited n at e = Unit {0}
+-- where an element stands among n complex unknowns and `size` real ones, with the place of its first magnitude, which loads of constant
+-- current have
+abbrev pub IsSited : ℕ → ℕ → ℕ → Ends → Element → Type 0
+IsSited n size magnitude at (the.Vsource v) = IsSideOf n v.phases at.first × HasBranches n v.phases at
+IsSited n size magnitude at (the.Line l) = IsSideOf n l.phases at.first × IsSideOf n l.phases at.second × HasBranches n l.phases at
+IsSited n size magnitude at (the.Transformer t) = IsSideOf n (terminal_nodes t.phases) at.first × IsSideOf n (terminal_nodes t.phases) at.second × HasBranches n t.phases at
+IsSited n size magnitude at (the.Capacitor c) = IsSideOf n (terminal_nodes c.phases) at.first
+IsSited n size magnitude at (the.Load l) = IsSideOf n (terminal_nodes l.phases) at.first × (l.model ≡ 5 → HasMagnitudes n size l.phases magnitude)
+IsSited n size magnitude at e = Unit {0}

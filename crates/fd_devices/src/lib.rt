@@ -3,12 +3,14 @@
 // It promises that a device adds to the rows exactly the constants, contributions and part loads that `specs/Devices.antt` states, by
 // the element's values in the script, and that all devices' system has the rows of their complex equations at every state
 // (`device_law`). Range is the answer exactly where a contribution of the device is past 2^54 units of 2^-40 or a part load past its limit.
+// The settings of a script are exactly its taps, states and powers, as many as its elements have (`snapshot_law`).
 //
-// Modules: `devices` is the law, `phase_loads` has the part loads of a load's phases, `pieces` what each element adds, `settings` the positions
-// of taps and banks and the powers of loads with which a circuit is taken, `snapshot` those that the script gives,
-// `fault` why there is no network.
+// Modules: `data` has the data of transformers and capacitor banks, `devices` is the law, `phase_loads` has the part loads of a load's
+// phases, `pieces` what each element adds, `settings` the positions of taps and banks and the powers of loads with which a circuit is
+// taken, `snapshot` those that the script gives, `fault` why there is no network.
 #![tactic(auto)]
 
+mod data;
 mod devices;
 mod fault;
 mod phase_loads;
@@ -16,10 +18,13 @@ mod pieces;
 mod settings;
 mod snapshot;
 
+pub use data::{cap_data, xfmr_data};
 pub use devices::device_law;
 pub use fault::BuildFault;
-pub use pieces::{Piece, line_piece, load_piece, piece_of, source_piece};
-pub use settings::{BankStates, LoadPowers, Positions, Powers, Taps};
+pub use pieces::{
+    Piece, capacitor_piece, line_piece, load_piece, piece_of, source_piece, transformer_piece,
+};
+pub use settings::{BankStates, LoadPowers, OwnSettings, Positions, Powers, Taps};
 pub use snapshot::{powers_at, snapshot_law};
 
 #[cfg(test)]

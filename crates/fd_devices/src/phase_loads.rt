@@ -31,7 +31,6 @@ pub fn load_phases(
     powers: &[LoadPower],
 ) -> Result<Vec<LoadAt>, AllocError>
     requires range { LoadInRange load.now }
-    requires impedance { load.now.model ≡ 2 }
     requires nodes { IsSide (terminal_nodes load.now.phases) nodes.now }
     requires magnitude { magnitude < 2 ^ 31 }
     requires powers { length powers.now ≡ load.now.phases }
@@ -49,7 +48,6 @@ pub fn load_phases(
 // Phase k of a load.
 fn phase_at(load: &Load, nodes: &[NodeAt], magnitude: u32, powers: &[LoadPower], k: u32) -> LoadAt
     requires range { LoadInRange load.now }
-    requires impedance { load.now.model ≡ 2 }
     requires nodes { IsSide (terminal_nodes load.now.phases) nodes.now }
     requires magnitude { magnitude < 2 ^ 31 }
     requires powers { length powers.now ≡ load.now.phases }
@@ -109,20 +107,31 @@ fn is_in_limit(phase: &LoadAt) -> bool
     !is_load_past(&phase.load)
 }
 
-/// The contributions of phases of constant impedance.
-pub fn impedance_terms(alloc: Global, phases: &[LoadAt]) -> Result<Vec<Term>, AllocError>
+/// The contributions of phases of constant impedance; phases of constant power or current have none.
+pub fn linear_terms(alloc: Global, phases: &[LoadAt]) -> Result<Vec<Term>, AllocError>
     requires { All IsUsable phases.now }
     ensures terms { IfOk result (λ ts. ts.items ≡ flat_map linear_list phases.now) }
     ensures divided { IfOk result (λ ts. All IsDivided ts.items) }
 {
     let mut terms = Vec::new(alloc);
     for phase in phases {
-        add_impedance(&mut terms, phase)?;
+        add_linear(&mut terms, phase)?;
     }
     Ok(terms)
 }
 
-// The contributions of one phase: (P - j Q) / Vn^2 between its two nodes.
+// The contributions of one phase.
+fn add_linear(terms: &mut Vec<Term>, phase: &LoadAt) -> Result<(), AllocError>
+    requires { IsUsable phase.now }
+    ensures { OnOk result (terms.new.items ≡ terms.old.items ++ linear_list phase.now) }
+{
+    if phase.load.model == 2 {
+        add_impedance(terms, phase)?;
+    }
+    Ok(())
+}
+
+// The contributions of one phase of constant impedance: (P - j Q) / Vn^2 between its two nodes.
 fn add_impedance(terms: &mut Vec<Term>, phase: &LoadAt) -> Result<(), AllocError>
     requires { IsUsable phase.now }
     ensures { OnOk result (terms.new.items ≡ terms.old.items ++ impedance_list phase.now) }

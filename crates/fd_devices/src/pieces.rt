@@ -1,30 +1,39 @@
 // What each device adds to a network.
 ghost use Rattle.std.specs.Prelude.{◌≡◌, ℕ, ◌+◌, ◌*◌, ◌<◌, ◌≤◌, ◌^◌, false, [], ◌∷◌, IfOk, IsSome, OnOk, All, length};
 ghost use Rattle.dss_profile.specs.Ranges.{IsOneOf};
-ghost use Rattle.dss_profile.specs.InRange.{ElementInRange, LineInRange, LoadInRange, VsourceInRange};
-ghost use Rattle.dss_layout.specs.Layout.{branch_phases, complex_count, ends_of, first_magnitude};
+ghost use Rattle.dss_profile.specs.InRange.{CapacitorInRange, ElementInRange, LineInRange, LoadInRange, TransformerInRange, VsourceInRange};
+ghost use Rattle.dss_layout.specs.Layout.{branch_phases, complex_count, ends_of, first_magnitude, size_of};
 ghost use Rattle.dss_ready.specs.Counts.{are_matrices_wrong};
 ghost use Rattle.dss_ready.specs.Ranges.{is_source_outside};
 ghost use Rattle.fd_line.specs.Line.{IsBetween};
 ghost use Rattle.fd_line.specs.Series.{IsSide};
 ghost use Rattle.fd_line.specs.Totals.{IsLine};
 ghost use Rattle.fd_source.specs.Equations.{IsPlaced, IsSource, constants_from};
+ghost use Rattle.fd_xfmr.specs.Leakage.{AreTaps, IsXfmr};
+ghost use Rattle.fd_xfmr.specs.Transformer.{IsBetween as IsXfmrBetween};
+ghost use Rattle.fd_xfmr.specs.Windings.{node_count};
+ghost use Rattle.fd_cap.specs.Capacitor.{IsCap};
 ghost use Rattle.fd_elements.specs.Lines.{line_data_of};
-ghost use Rattle.fd_devices.specs.Devices.{added_by, added_by_all, added_of, beside, line as line_device, loads as load_device, source as source_device};
+ghost use Rattle.fd_devices.specs.Devices.{added_by, added_by_all, added_of, beside, capacitor as capacitor_device, line as line_device, loads as load_device, source as source_device, transformer as transformer_device};
+ghost use Rattle.fd_devices.specs.Data.{cap_data_of, xfmr_data_of};
 ghost use Rattle.fd_devices.specs.Sources.{source_data_of};
-ghost use Rattle.fd_devices.specs.Settings.{power_count, with_powers};
+ghost use Rattle.fd_devices.specs.Settings.{AreOwn, settings_in};
 ghost use Rattle.fd_devices.specs.Scripted.{device_of, phases_of};
-ghost use Rattle.fd_devices.specs.Building.{Fits, IsCovered, IsModest, IsSettled, IsUsable};
-ghost use Rattle.fd_devices.specs.Sound.{HasBranches, IsSideOf, IsSited, IsSound, terminal_nodes};
+ghost use Rattle.fd_devices.specs.Building.{Fits, IsModest, IsSettled, IsUsable};
+ghost use Rattle.fd_devices.specs.Sound.{HasBranches, HasMagnitudes, IsSideOf, IsSited, IsSound, terminal_nodes};
 
-use crate::phase_loads::{are_in_limits, impedance_terms, load_phases, total_draw};
+use crate::data::{cap_data, xfmr_data};
+use crate::phase_loads::{are_in_limits, linear_terms, load_phases, total_draw};
+use crate::settings::OwnSettings;
 use dss_layout::Layout;
-use dss_profile::{Element, Line, Load, Vsource};
-use fd_arith::{Ends, NodeAt, Term, TermFault};
+use dss_profile::{Capacitor, Element, Line, Load, Transformer, Vsource};
+use fd_arith::{Ends, NodeAt, TapPair, Term, TermFault};
+use fd_cap::{CapData, cap_draw, cap_terms};
 use fd_elements::{LoadPower, line_data, source_data};
 use fd_line::{LineData, line_terms};
 use fd_source::{SourceData, SourceTerms, source_terms};
 use fd_system::{Constant, LoadAt, all_within};
+use fd_xfmr::{XfmrData, xfmr_terms};
 use std::alloc::{AllocError, Global};
 
 /// The constants, contributions and part loads of devices, in order, and what they draw at nominal voltage in whole microamperes.
@@ -71,7 +80,7 @@ pub fn source_piece(alloc: Global, source: &Vsource, at: &Ends) -> Result<Piece,
     requires sound { is_source_outside source.now ≡ false }
     requires at { IsPlaced source.now.phases at.now }
     ensures added { IfOk result (λ p. added_of p ≡ added_by (source_device (source_data_of source.now) at.now)) }
-    ensures settled { IfOk result (λ p. (n : ℕ) → IsSideOf n source.now.phases at.now.first → HasBranches n source.now.phases at.now → IsSettled n source.now.phases (source_device (source_data_of source.now) at.now)) }
+    ensures settled { IfOk result (λ p. (n size : ℕ) → IsSideOf n source.now.phases at.now.first → HasBranches n source.now.phases at.now → IsSettled n size source.now.phases (source_device (source_data_of source.now) at.now)) }
     ensures range { result ≡ Err TermFault.Range → ¬ (Fits (source_device (source_data_of source.now) at.now)) }
 {
     let data = source_data(source)?;
@@ -82,7 +91,7 @@ fn source_at(alloc: Global, source: &SourceData, at: &Ends) -> Result<Piece, Ter
     requires source { IsSource source.now }
     requires at { IsPlaced source.now.phases at.now }
     ensures added { IfOk result (λ p. added_of p ≡ added_by (source_device source.now at.now)) }
-    ensures settled { IfOk result (λ p. (n : ℕ) → IsSideOf n source.now.phases at.now.first → HasBranches n source.now.phases at.now → IsSettled n source.now.phases (source_device source.now at.now)) }
+    ensures settled { IfOk result (λ p. (n size : ℕ) → IsSideOf n source.now.phases at.now.first → HasBranches n source.now.phases at.now → IsSettled n size source.now.phases (source_device source.now at.now)) }
     ensures range { result ≡ Err TermFault.Range → ¬ (Fits (source_device source.now at.now)) }
 {
     let SourceTerms { terms, constants } = source_terms(alloc, source, at)?;
@@ -117,7 +126,7 @@ pub fn line_piece(alloc: Global, line: &Line, hertz: u32, at: &Ends) -> Result<P
     requires frequency { IsOneOf (50 ∷ 60 ∷ []) hertz }
     requires at { IsBetween line.now.phases at.now }
     ensures added { IfOk result (λ p. added_of p ≡ added_by (line_device (line_data_of line.now hertz) at.now)) }
-    ensures settled { IfOk result (λ p. (n : ℕ) → IsSideOf n line.now.phases at.now.first → IsSideOf n line.now.phases at.now.second → HasBranches n line.now.phases at.now → IsSettled n line.now.phases (line_device (line_data_of line.now hertz) at.now)) }
+    ensures settled { IfOk result (λ p. (n size : ℕ) → IsSideOf n line.now.phases at.now.first → IsSideOf n line.now.phases at.now.second → HasBranches n line.now.phases at.now → IsSettled n size line.now.phases (line_device (line_data_of line.now hertz) at.now)) }
     ensures range { result ≡ Err TermFault.Range → ¬ (Fits (line_device (line_data_of line.now hertz) at.now)) }
 {
     let data = line_data(alloc, line, hertz)?;
@@ -128,7 +137,7 @@ fn line_at(alloc: Global, line: &LineData, at: &Ends) -> Result<Piece, TermFault
     requires line { IsLine line.now }
     requires at { IsBetween line.now.phases at.now }
     ensures added { IfOk result (λ p. added_of p ≡ added_by (line_device line.now at.now)) }
-    ensures settled { IfOk result (λ p. (n : ℕ) → IsSideOf n line.now.phases at.now.first → IsSideOf n line.now.phases at.now.second → HasBranches n line.now.phases at.now → IsSettled n line.now.phases (line_device line.now at.now)) }
+    ensures settled { IfOk result (λ p. (n size : ℕ) → IsSideOf n line.now.phases at.now.first → IsSideOf n line.now.phases at.now.second → HasBranches n line.now.phases at.now → IsSettled n size line.now.phases (line_device line.now at.now)) }
     ensures range { result ≡ Err TermFault.Range → ¬ (Fits (line_device line.now at.now)) }
 {
     Ok(Piece {
@@ -139,7 +148,76 @@ fn line_at(alloc: Global, line: &LineData, at: &Ends) -> Result<Piece, TermFault
     })
 }
 
-/// What a load of constant impedance adds at its nodes, with the powers of its phases; its first magnitude would stand at the place
+/// What a transformer adds between its ends at these taps. Range exactly where a contribution is past 2^54 in units of 2^-40.
+pub fn transformer_piece(
+    alloc: Global,
+    xfmr: &Transformer,
+    taps: TapPair,
+    at: &Ends,
+) -> Result<Piece, TermFault>
+    requires range { TransformerInRange xfmr.now }
+    requires taps { AreTaps taps }
+    requires at { IsXfmrBetween xfmr.now.phases at.now }
+    ensures added { IfOk result (λ p. added_of p ≡ added_by (transformer_device (xfmr_data_of xfmr.now) taps at.now)) }
+    ensures settled { IfOk result (λ p. (n size : ℕ) → IsSideOf n (terminal_nodes xfmr.now.phases) at.now.first → IsSideOf n (terminal_nodes xfmr.now.phases) at.now.second → HasBranches n xfmr.now.phases at.now → IsSettled n size xfmr.now.phases (transformer_device (xfmr_data_of xfmr.now) taps at.now)) }
+    ensures range { result ≡ Err TermFault.Range → ¬ (Fits (transformer_device (xfmr_data_of xfmr.now) taps at.now)) }
+{
+    transformer_at(alloc, &xfmr_data(xfmr), taps, at)
+}
+
+fn transformer_at(
+    alloc: Global,
+    xfmr: &XfmrData,
+    taps: TapPair,
+    at: &Ends,
+) -> Result<Piece, TermFault>
+    requires xfmr { IsXfmr xfmr.now }
+    requires taps { AreTaps taps }
+    requires at { IsXfmrBetween xfmr.now.phases at.now }
+    ensures added { IfOk result (λ p. added_of p ≡ added_by (transformer_device xfmr.now taps at.now)) }
+    ensures settled { IfOk result (λ p. (n size : ℕ) → IsSideOf n (terminal_nodes xfmr.now.phases) at.now.first → IsSideOf n (terminal_nodes xfmr.now.phases) at.now.second → HasBranches n xfmr.now.phases at.now → IsSettled n size xfmr.now.phases (transformer_device xfmr.now taps at.now)) }
+    ensures range { result ≡ Err TermFault.Range → ¬ (Fits (transformer_device xfmr.now taps at.now)) }
+{
+    Ok(Piece {
+        constants: Vec::new(alloc),
+        terms: xfmr_terms(alloc, xfmr, taps, at)?,
+        loads: Vec::new(alloc),
+        draw: 0,
+    })
+}
+
+/// What a capacitor bank adds at its nodes, closed or open. Range exactly where a contribution is past 2^54 in units of 2^-40.
+pub fn capacitor_piece(
+    alloc: Global,
+    bank: &Capacitor,
+    closed: bool,
+    at: &Ends,
+) -> Result<Piece, TermFault>
+    requires range { CapacitorInRange bank.now }
+    requires at { IsSide (node_count bank.now.phases) at.now.first }
+    ensures added { IfOk result (λ p. added_of p ≡ added_by (capacitor_device (cap_data_of bank.now) closed at.now)) }
+    ensures settled { IfOk result (λ p. (n size : ℕ) → IsSideOf n (terminal_nodes bank.now.phases) at.now.first → IsSettled n size 0 (capacitor_device (cap_data_of bank.now) closed at.now)) }
+    ensures range { result ≡ Err TermFault.Range → ¬ (Fits (capacitor_device (cap_data_of bank.now) closed at.now)) }
+{
+    capacitor_at(alloc, &cap_data(bank), closed, at)
+}
+
+fn capacitor_at(alloc: Global, bank: &CapData, closed: bool, at: &Ends) -> Result<Piece, TermFault>
+    requires bank { IsCap bank.now }
+    requires at { IsSide (node_count bank.now.phases) at.now.first }
+    ensures added { IfOk result (λ p. added_of p ≡ added_by (capacitor_device bank.now closed at.now)) }
+    ensures settled { IfOk result (λ p. (n size : ℕ) → IsSideOf n (terminal_nodes bank.now.phases) at.now.first → IsSettled n size 0 (capacitor_device bank.now closed at.now)) }
+    ensures range { result ≡ Err TermFault.Range → ¬ (Fits (capacitor_device bank.now closed at.now)) }
+{
+    Ok(Piece {
+        constants: Vec::new(alloc),
+        terms: cap_terms(alloc, bank, closed, at)?,
+        loads: Vec::new(alloc),
+        draw: cap_draw(bank, closed),
+    })
+}
+
+/// What a load adds at its nodes, with the powers of its phases; the first magnitude of a load of constant current stands at the place
 /// `magnitude`. Range exactly where a contribution is past 2^54 in units of 2^-40, or a phase is past its limit.
 pub fn load_piece(
     alloc: Global,
@@ -149,13 +227,12 @@ pub fn load_piece(
     powers: &[LoadPower],
 ) -> Result<Piece, TermFault>
     requires range { LoadInRange load.now }
-    requires impedance { load.now.model ≡ 2 }
     requires nodes { IsSide (terminal_nodes load.now.phases) nodes.now }
     requires magnitude { magnitude < 2 ^ 31 }
     requires powers { length powers.now ≡ load.now.phases }
     requires modest { All IsModest powers.now }
     ensures added { IfOk result (λ p. added_of p ≡ added_by (load_device (phases_of load.now nodes.now magnitude powers.now))) }
-    ensures settled { IfOk result (λ p. (n : ℕ) → IsSideOf n (terminal_nodes load.now.phases) nodes.now → IsSettled n 0 (load_device (phases_of load.now nodes.now magnitude powers.now))) }
+    ensures settled { IfOk result (λ p. (n size : ℕ) → IsSideOf n (terminal_nodes load.now.phases) nodes.now → (load.now.model ≡ 5 → HasMagnitudes n size load.now.phases magnitude) → IsSettled n size 0 (load_device (phases_of load.now nodes.now magnitude powers.now))) }
     ensures range { result ≡ Err TermFault.Range → ¬ (Fits (load_device (phases_of load.now nodes.now magnitude powers.now))) }
 {
     let phases = load_phases(alloc, load, nodes, magnitude, powers)?;
@@ -172,7 +249,7 @@ fn phases_at(alloc: Global, phases: Vec<LoadAt>) -> Result<Piece, TermFault>
     if !are_in_limits(&phases) {
         return Err(TermFault::Range);
     }
-    let terms = impedance_terms(alloc, &phases)?;
+    let terms = linear_terms(alloc, &phases)?;
     if !all_within(&terms) {
         return Err(TermFault::Range);
     }
@@ -185,7 +262,7 @@ fn phases_at(alloc: Global, phases: Vec<LoadAt>) -> Result<Piece, TermFault>
     })
 }
 
-/// What an element adds that stands at a place in order, at the circuit's frequency in hertz and with the powers of its own phases.
+/// What an element adds that stands at a place in order, at the circuit's frequency in hertz and with its own settings.
 /// Range exactly where its device has a contribution past 2^54 in units of 2^-40, or a phase past its limit.
 pub fn piece_of(
     alloc: Global,
@@ -193,7 +270,7 @@ pub fn piece_of(
     hertz: u32,
     place: usize,
     element: &Element,
-    powers: &[LoadPower],
+    own: &OwnSettings,
 ) -> Result<Piece, TermFault>
     requires place { place < length layout.now.branches_before }
     requires magnitudes { place < length layout.now.magnitudes_before }
@@ -202,13 +279,12 @@ pub fn piece_of(
     requires frequency { IsOneOf (50 ∷ 60 ∷ []) hertz }
     requires range { ElementInRange element.now }
     requires sound { IsSound element.now }
-    requires covered { IsCovered element.now }
-    requires sited { IsSited (complex_count layout.now) (ends_of layout.now place element.now) element.now }
-    requires powers { length powers.now ≡ power_count element.now }
-    requires modest { All IsModest powers.now }
-    ensures added { IfOk result (λ p. added_of p ≡ added_by (device_of layout.now hertz place element.now (with_powers powers.now))) }
-    ensures settled { IfOk result (λ p. IsSettled (complex_count layout.now) (branch_phases element.now) (device_of layout.now hertz place element.now (with_powers powers.now))) }
-    ensures range { result ≡ Err TermFault.Range → ¬ (Fits (device_of layout.now hertz place element.now (with_powers powers.now))) }
+    requires sited { IsSited (complex_count layout.now) (size_of layout.now) (first_magnitude layout.now place) (ends_of layout.now place element.now) element.now }
+    requires own { AreOwn element.now (settings_in own.now) }
+    requires modest { All IsModest own.now.powers.now }
+    ensures added { IfOk result (λ p. added_of p ≡ added_by (device_of layout.now hertz place element.now (settings_in own.now))) }
+    ensures settled { IfOk result (λ p. IsSettled (complex_count layout.now) (size_of layout.now) (branch_phases element.now) (device_of layout.now hertz place element.now (settings_in own.now))) }
+    ensures range { result ≡ Err TermFault.Range → ¬ (Fits (device_of layout.now hertz place element.now (settings_in own.now))) }
 {
     match element {
         Element::Vsource(source) => {
@@ -219,6 +295,14 @@ pub fn piece_of(
             let at = layout.ends(alloc, place, element)?;
             line_piece(alloc, line, hertz, &at)
         }
+        Element::Transformer(xfmr) => {
+            let at = layout.ends(alloc, place, element)?;
+            transformer_piece(alloc, xfmr, own.taps[0], &at)
+        }
+        Element::Capacitor(bank) => {
+            let at = layout.ends(alloc, place, element)?;
+            capacitor_piece(alloc, bank, own.closed[0], &at)
+        }
         Element::Load(load) => {
             let at = layout.ends(alloc, place, element)?;
             load_piece(
@@ -226,7 +310,7 @@ pub fn piece_of(
                 load,
                 at.first.as_slice(),
                 layout.first_magnitude(place),
-                powers,
+                own.powers,
             )
         }
         _ => Ok(Piece::empty(alloc)),

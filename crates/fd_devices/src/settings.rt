@@ -130,3 +130,11 @@ pub struct Positions {
 pub struct Powers {
     pub loads: LoadPowers,
 }
+
+/// The settings of one element: the taps of a Transformer, whether a Capacitor is closed, a power for each phase of a Load.
+#[derive(Clone, Copy)]
+pub struct OwnSettings<'a> {
+    pub taps: &'a [TapPair],
+    pub closed: &'a [bool],
+    pub powers: &'a [LoadPower],
+}

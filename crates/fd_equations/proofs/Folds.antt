@@ -1,5 +1,5 @@
 -- Sums over a list so far: of constants in whole numbers, and of constants and contributions in intervals.
-use Rattle.std.proofs.Common.{◌≡◌, ◌∙◌, ℕ, ◌+◌, ◌*◌, ◌<◌, ◌≤◌, ◌^◌, ℤ, pos, neg_ℤ, ◌+ℤ◌, ◌≤ℤ◌, nat_abs, Bool, true, false, cond, eqb, List, [], ◌∷◌, ◌++◌, length, take, get_or, set, None, arith, ap, sym, refl, subst, inl, inr}
+use Rattle.std.proofs.Common.{◌≡◌, ◌∙◌, ℕ, ◌+◌, ◌*◌, ◌<◌, ◌≤◌, ◌^◌, ℤ, pos, neg_ℤ, ◌+ℤ◌, ◌≤ℤ◌, nat_abs, Bool, true, false, cond, eqb, List, [], ◌∷◌, length, take, get_or, None, arith, ap, sym, refl, subst, inl, inr}
 use Rattle.std.specs.List.{fold, All}
 use Rattle.std.proofs.lemmas.Int.{ints}
 use Rattle.std.proofs.lemmas.Bool.{cases_eq, eq-eqb, ne_eqb}
@@ -7,28 +7,20 @@ use Rattle.std.proofs.lemmas.List.{take_more, get_or-set_same, get_or-set_other,
 use Rattle.std.proofs.lemmas.List.Elements.{All-get_or}
 use Rattle.std.proofs.lemmas.List.Sums.{fold-append}
 use Rattle.fd_exact.specs.States.{part}
-use Rattle.fd_exact.specs.Sums.{list_z}
-use Rattle.fd_exact.specs.SumLaws.{list_z-append}
-use Rattle.fd_arith.specs.Interval.{Bounds, capped}
+use Rattle.fd_arith.specs.Interval.{capped}
 use Rattle.fd_arith.specs.declared.terms.Term.{Term}
 use Rattle.fd_system.specs.declared.constants.Constant.{Constant}
 use Rattle.fd_system.specs.Residual.{constant_added as interval_added, term_added, linear_interval, with_constant, with_term}
 use Rattle.fd_system.proofs.Intervals.{length-constants, length-terms, row-constants, row-terms}
 use Rattle.fd_equations.specs.Conditions.{IsKnown}
 use Rattle.fd_equations.specs.Rounded.{list_of, constant_sum, constant_added}
-use Rattle.fd_equations.proofs.Lists.{length-list_of, get_or-list_of, list_of-ext}
+use Rattle.fd_equations.proofs.Lists.{list_z_more, length-list_of, get_or-list_of, list_of-ext}
 
 -- a fold over one element more
 pub fold_more : {A B : Type 0} (f : B → A → B) (z : B) (xs : List A) (k : ℕ) (d : A) → k < length xs → fold f z (take (k + 1) xs) ≡ f (fold f z (take k xs)) (get_or xs k d)
 fold_more f z xs k d h = ap (fold f z) (take_more xs k d h) ∙ fold-append f z (take k xs) (get_or xs k d ∷ [])
 
 -- ---- constants in whole numbers
-
-pub sum_more : (cs : List Constant) (k row : ℕ) (d : Constant) → k < length cs → constant_sum (take (k + 1) cs) row ≡ (constant_sum (take k cs) row +ℤ cond (eqb (get_or cs k d).row row) (get_or cs k d).value (pos 0))
-sum_more cs k row d h = ap (λ ts. constant_sum ts row) (take_more cs k d h) ∙ list_z-append (λ c. cond (eqb c.row row) c.value (pos 0)) (take k cs) (get_or cs k d ∷ []) ∙ last (constant_sum (take k cs) row) (cond (eqb (get_or cs k d).row row) (get_or cs k d).value (pos 0))
-  where
-    last : (a b : ℤ) → (a +ℤ (b +ℤ pos 0)) ≡ (a +ℤ b)
-    last a b = omega (arith, ints)
 
 pub part_added : (rows : List ℤ) (c : Constant) (row : ℕ) → c.row < length rows → part (constant_added rows c) row ≡ (part rows row +ℤ cond (eqb c.row row) c.value (pos 0))
 part_added rows c row h = elim (cases_eq c.row row) [
@@ -60,7 +52,7 @@ sums_more rows cs size k d l known h =
     record {
       long = length-set rows c.row (part rows c.row +ℤ c.value) ∙ h.long;
       small = λ row. subst (λ z. nat_abs z ≤ (k + 1) * 2 ^ 60) (sym (part_added rows c row inside)) (subst (λ m. nat_abs (part rows row +ℤ cond (eqb c.row row) c.value (pos 0)) ≤ m) (next k) (added_size (part rows row) c.value (eqb c.row row) (k * 2 ^ 60) (h.small row) (value_size c.value is.least is.most)));
-      sums = λ row m. part_added rows c row inside ∙ ap (λ z. z +ℤ cond (eqb c.row row) c.value (pos 0)) (h.sums row m) ∙ sym (sum_more cs k row d l);
+      sums = λ row m. part_added rows c row inside ∙ ap (λ z. z +ℤ cond (eqb c.row row) c.value (pos 0)) (h.sums row m) ∙ sym (list_z_more (λ c. cond (eqb c.row row) c.value (pos 0)) cs k d l);
     }
   where
     next : (k : ℕ) → k * 2 ^ 60 + 2 ^ 60 ≡ (k + 1) * 2 ^ 60

@@ -4,3 +4,9 @@ pub mod Widths
 pub mod Folds
 pub mod Sizes
 pub mod Networks
+pub mod AtTerminals
+pub mod DrawnSizes
+pub mod CellSteps
+pub mod LoadSums
+pub mod MapCounts
+pub mod DrawnIntervals

@@ -1,9 +1,12 @@
--- Lists of a function's values.
-use Rattle.std.proofs.Common.{◌≡◌, ◌∙◌, ℕ, ◌+◌, ◌<◌, ◌≤◌, ℤ, pos, nat_abs, List, [], ◌∷◌, ◌++◌, length, take, drop, replicate, get_or, arith, ap, sym, refl, subst, zero-add, inl, inr}
+-- Lists of a function's values, and sums over the first elements of a list.
+use Rattle.std.proofs.Common.{◌≡◌, ◌∙◌, ℕ, ◌+◌, ◌<◌, ◌≤◌, ℤ, pos, ◌+ℤ◌, nat_abs, List, [], ◌∷◌, ◌++◌, length, take, drop, replicate, get_or, arith, ap, sym, subst, zero-add, inl, inr}
 use Rattle.std.proofs.Math.Seq.{take-append_seam}
 use Rattle.std.proofs.lemmas.Bool.{cases_lt}
 use Rattle.fd_exact.specs.States.{part}
-use Rattle.std.proofs.lemmas.List.{ext_get_or, get_or-replicate, length-replicate, get_or_past}
+use Rattle.fd_exact.specs.Sums.{list_z, list_n}
+use Rattle.fd_exact.specs.SumLaws.{list_z-append, list_n-append}
+use Rattle.std.proofs.lemmas.Int.{ints}
+use Rattle.std.proofs.lemmas.List.{take_more, ext_get_or, get_or-replicate, length-replicate, get_or_past}
 use Rattle.std.proofs.lemmas.List.FromFn.{length-map-range_with_len, get_or-map-range_with_len, map-range_with_len_more}
 use Rattle.fd_equations.specs.Rounded.{list_of}
 
@@ -36,3 +39,17 @@ part-list_of-small n f b h i = elim (cases_lt i n) [
   | inl l ↦ subst (λ z. nat_abs z ≤ b) (sym (get_or-list_of n f i (pos 0) l)) (h i l)
   | inr ge ↦ subst (λ z. nat_abs z ≤ b) (sym (get_or_past (list_of n f) i (pos 0) (subst (λ k. k ≤ i) (sym (length-list_of n f)) ge))) (omega arith)
 ]
+
+-- ---- sums over a list so far
+
+pub list_z_more : {A : Type 0} (f : A → ℤ) (xs : List A) (k : ℕ) (d : A) → k < length xs → list_z f (take (k + 1) xs) ≡ (list_z f (take k xs) +ℤ f (get_or xs k d))
+list_z_more f xs k d h = ap (list_z f) (take_more xs k d h) ∙ list_z-append f (take k xs) (get_or xs k d ∷ []) ∙ last (list_z f (take k xs)) (f (get_or xs k d))
+  where
+    last : (a b : ℤ) → (a +ℤ (b +ℤ pos 0)) ≡ (a +ℤ b)
+    last a b = omega (arith, ints)
+
+pub list_n_more : {A : Type 0} (f : A → ℕ) (xs : List A) (k : ℕ) (d : A) → k < length xs → list_n f (take (k + 1) xs) ≡ list_n f (take k xs) + f (get_or xs k d)
+list_n_more f xs k d h = ap (list_n f) (take_more xs k d h) ∙ list_n-append f (take k xs) (get_or xs k d ∷ []) ∙ last (list_n f (take k xs)) (f (get_or xs k d))
+  where
+    last : (a b : ℕ) → a + (b + 0) ≡ a + b
+    last a b = omega arith

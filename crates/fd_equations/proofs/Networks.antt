@@ -1,70 +1,80 @@
 -- A network's rows: the residual in intervals, the rounded one, the matrices and the weights.
-use Rattle.std.proofs.Common.{◌≡◌, ◌∙◌, ℕ, suc, ◌+◌, ◌*◌, ◌/◌, ◌<◌, ◌≤◌, ◌^◌, max, ℤ, pos, neg_ℤ, ◌+ℤ◌, ◌-ℤ◌, ◌*ℤ◌, ◌≤ℤ◌, nat_abs, Bool, true, false, cond, eqb, List, [], ◌∷◌, ◌++◌, length, get_or, None, arith, ap, sym, refl, subst, lit≤, inl, inr}
+use Rattle.std.proofs.Common.{◌≡◌, ◌∙◌, ℕ, suc, ◌+◌, ◌*◌, ◌/◌, ◌<◌, ◌≤◌, ◌^◌, max, ℤ, pos, neg_ℤ, ◌+ℤ◌, ◌*ℤ◌, ◌≤ℤ◌, nat_abs, Bool, true, false, cond, eqb, List, [], ◌∷◌, length, get_or, None, arith, ap, sym, subst, lit≤, inl, inr}
 use Rattle.std.specs.List.{fold, All}
 use Rattle.std.proofs.Math.Nat.{mul-le-mul_right}
 use Rattle.std.proofs.lemmas.Int.{ints}
-use Rattle.std.proofs.lemmas.Bool.{cases_lt, eq-eqb}
+use Rattle.std.proofs.lemmas.Bool.{cases_lt}
 use Rattle.std.proofs.lemmas.List.{get_or_past}
-use Rattle.std.proofs.lemmas.List.Elements.{All-head, All-tail, All-nil, All-weaker, All-get_or}
-use Rattle.fd_exact.specs.Rounding.{near_div}
-use Rattle.fd_exact.specs.States.{State, part, entry, table}
-use Rattle.fd_exact.specs.Sums.{sum_z, sum_n, list_z}
+use Rattle.std.proofs.lemmas.List.Elements.{All-head, All-tail, All-weaker, All-get_or}
+use Rattle.fd_exact.specs.States.{cell, part}
+use Rattle.fd_exact.specs.Sums.{sum_z}
 use Rattle.fd_exact.specs.SumLaws.{abs_sum, sum_n-bound}
 use Rattle.fd_exact.specs.Tables.{length-table, entry-table}
-use Rattle.fd_mat.specs.Rows.{EntriesWithin}
+use Rattle.fd_mat.specs.Rows.{EntriesWithin, square}
 use Rattle.fd_arith.specs.Interval.{Bounds, Holds}
 use Rattle.fd_arith.specs.declared.terms.Term.{Term}
 use Rattle.fd_system.specs.declared.constants.Constant.{Constant}
-use Rattle.fd_system.specs.declared.loads.LoadAt.{LoadAt}
 use Rattle.fd_system.specs.Contributions.{AreSmall}
-use Rattle.fd_system.specs.Equations.{Part, seen}
-use Rattle.fd_system.specs.System.{Share, nonlinear_of, residual_of}
-use Rattle.fd_system.specs.Residual.{HasDen, HasParts, IsConstant, IsTerm, linear_interval, residual_interval, whole_state, with_part}
+use Rattle.fd_system.specs.System.{nonlinear_of, residual_of}
+use Rattle.fd_system.specs.Residual.{HasDen, IsConstant, IsTerm, linear_interval, residual_interval, whole_state, with_part}
 use Rattle.fd_system.proofs.Intervals.{residual_holds}
-use Rattle.fd_equations.specs.Coefficients.{linear_entry, row_count}
-use Rattle.fd_equations.specs.Conditions.{AreKnown, AreLinear, IsImpedance, IsKnown, IsLinear, IsNetwork, IsPart, IsPoint}
-use Rattle.fd_equations.specs.Enclosure.{EndsWithin, interval_residual_of}
-use Rattle.fd_equations.specs.Rounded.{constant_sum, constants_of, entry_product, list_of, products_added, rounded_residual_of, rounded_row}
+use Rattle.fd_equations.specs.Cells.{CellsGrown, CellsWithin}
+use Rattle.fd_equations.specs.Coefficients.{count_at, linear_entry, row_count}
+use Rattle.fd_equations.specs.Conditions.{AreKnown, IsKnown, IsLinear, IsNetwork, IsPart, IsPoint}
+use Rattle.fd_equations.specs.Enclosure.{EndsWithin, interval_residual_of, summand_count}
+use Rattle.fd_equations.specs.PartLoads.{current_counts, loads_row, slope_counts}
+use Rattle.fd_equations.specs.Rounded.{constant_sum, constants_of, entry_product, linear_residual_of, list_of, products_added, rounded_residual_of, rounded_row}
 use Rattle.fd_equations.specs.declared.layout.PlaceKind.{PlaceKind}
 use Rattle.fd_equations.specs.declared.layout.PlaceKind.TheVariants.{Node, Branch, Magnitude}
 use Rattle.fd_equations.specs.Views.{NetworkView, kind_of}
 use Rattle.fd_equations.specs.Weights.{weight_at, weight_by, weights_of}
+use Rattle.fd_equations.specs.Terminals.{IsConnected}
+use Rattle.fd_equations.proofs.AtTerminals.{all_connected}
+use Rattle.fd_equations.proofs.DrawnIntervals.{loads_positive, narrow_loads}
+use Rattle.fd_equations.proofs.LoadSums.{rows_small}
+use Rattle.fd_equations.proofs.MapCounts.{slopes_few}
+use Rattle.fd_equations.proofs.Places.{count_size}
 use Rattle.fd_equations.proofs.Lists.{get_or-list_of, length-list_of, list_of-ext, part-list_of-small}
 use Rattle.fd_equations.proofs.Sizes.{near_size, part_size, product_size, small_size}
-use Rattle.fd_equations.proofs.Widths.{ends_within, narrow_row}
+use Rattle.fd_equations.proofs.Widths.{Narrow, ends_within, narrow_row, wider}
 
 -- ---- the residual in intervals
-
-pub nonlinear_none : (us : List LoadAt) (x : State) → All IsImpedance us → nonlinear_of us x ≡ []
-nonlinear_none [] x h = refl
-nonlinear_none (u ∷ us) x h = rw (eq-eqb u.load.model 2 (All-head IsImpedance u us h)) (nonlinear_none us x (All-tail IsImpedance u us h))
 
 den_positive : (size : ℕ) (t : Term) → IsLinear size t → HasDen t
 den_positive size t h = let p = h.term.positive in omega (arith, ints)
 
 module _ (v : NetworkView) (x : List ℤ) (n : IsNetwork v) (p : IsPoint v x) where
-  no_parts : nonlinear_of v.share.loads (whole_state x) ≡ []
-  no_parts = nonlinear_none v.share.loads (whole_state x) n.loads
+  pub loads_inside : All (IsConnected (length x)) v.share.loads
+  loads_inside = subst (λ k. All (IsConnected k) v.share.loads) (sym p.long) (all_connected v.complexes v.size v.share.loads n.complexes n.small n.loads)
 
-  row_linear : (l : ℕ) → linear_interval v.share.constants v.share.terms x l ≡ residual_interval v.share x l
-  row_linear l = ap (λ ps. fold (with_part l) (linear_interval v.share.constants v.share.terms x l) ps) (sym no_parts)
-
-  pub rows_linear : list_of v.size (linear_interval v.share.constants v.share.terms x) ≡ interval_residual_of v x
-  rows_linear = λ i. list_of v.size (λ l. row_linear l i)
+  -- the linear rows, with what the part loads add
+  pub rows_done : (linear rows : List Bounds) → linear ≡ list_of v.size (linear_interval v.share.constants v.share.terms x) → length rows ≡ length linear
+      → ((l : ℕ) → l < length linear → get_or rows l None ≡ fold (with_part l) (get_or linear l None) (nonlinear_of v.share.loads (whole_state x))) → rows ≡ interval_residual_of v x
+  rows_done linear rows e long grown =
+      let size = ap length e ∙ length-list_of v.size (linear_interval v.share.constants v.share.terms x) in
+      list_of-ext rows v.size (residual_interval v.share x) None (long ∙ size) (λ l h.
+      grown l (subst (λ k. l < k) (sym size) h)
+      ∙ ap (λ a. fold (with_part l) a (nonlinear_of v.share.loads (whole_state x))) (ap (λ rs. get_or rs l None) e ∙ get_or-list_of v.size (linear_interval v.share.constants v.share.terms x) l None h))
 
   pub row_holds : (rows : List Bounds) → rows ≡ interval_residual_of v x → (l : ℕ) → l < v.size → Holds (get_or rows l None) (residual_of v.share (whole_state x) l)
   row_holds rows e l h =
       let dens = All-weaker (IsLinear v.size) HasDen (den_positive v.size) v.share.terms n.terms.each in
-      let parts : HasParts l (nonlinear_of v.share.loads (whole_state x)) = subst (HasParts l) (sym no_parts) (All-nil (λ q. 0 < (seen l q).over)) in
+      let parts = loads_positive l v.share.loads x loads_inside in
       let is = ap (λ rs. get_or rs l None) e ∙ get_or-list_of v.size (residual_interval v.share x) l None h in
       subst (λ a. Holds a (residual_of v.share (whole_state x) l)) (sym is) (residual_holds v.share x l dens parts)
 
-  pub row_near : (rows : List Bounds) → rows ≡ interval_residual_of v x → (l : ℕ) → l < v.size → EndsWithin (get_or rows l None) (residual_of v.share (whole_state x) l) (2 * row_count v.share.terms l)
+  row_narrow : (l : ℕ) → Narrow (residual_interval v.share x l) (2 * summand_count v.share l) (2 ^ 100)
+  row_narrow l =
+      let linear = narrow_row v.size l x v.share.constants v.share.terms p.long p.parts n.constants n.few_constants n.terms.each n.terms.few in
+      let few = n.few_loads in
+      let all = narrow_loads l (linear_interval v.share.constants v.share.terms x l) v.share.loads x (2 * row_count v.share.terms l) (2 ^ 85) p.parts loads_inside (omega arith) linear in
+      wider (residual_interval v.share x l) (2 * row_count v.share.terms l + current_counts v.share.loads l) (2 * (row_count v.share.terms l + current_counts v.share.loads l)) (2 ^ 85 + length v.share.loads * (3 * 2 ^ 63)) (2 ^ 100) (omega arith) (omega arith) all
+
+  pub row_near : (rows : List Bounds) → rows ≡ interval_residual_of v x → (l : ℕ) → l < v.size → EndsWithin (get_or rows l None) (residual_of v.share (whole_state x) l) (2 * summand_count v.share l)
   row_near rows e l h =
-      let narrow = narrow_row v.size l x v.share.constants v.share.terms p.long p.parts n.constants n.few_constants n.terms.each n.terms.few in
-      let is = ap (λ rs. get_or rs l None) e ∙ get_or-list_of v.size (residual_interval v.share x) l None h ∙ sym (row_linear l) in
+      let is = ap (λ rs. get_or rs l None) e ∙ get_or-list_of v.size (residual_interval v.share x) l None h in
       let holds = subst (λ a. Holds a (residual_of v.share (whole_state x) l)) is (row_holds rows e l h) in
-      subst (λ a. EndsWithin a (residual_of v.share (whole_state x) l) (2 * row_count v.share.terms l)) (sym is) (ends_within (linear_interval v.share.constants v.share.terms x l) (2 * row_count v.share.terms l) (2 ^ 85) (residual_of v.share (whole_state x) l) narrow holds)
+      subst (λ a. EndsWithin a (residual_of v.share (whole_state x) l) (2 * summand_count v.share l)) (sym is) (ends_within (residual_interval v.share x l) (2 * summand_count v.share l) (2 ^ 100) (residual_of v.share (whole_state x) l) (row_narrow l) holds)
 
   pub constants_inside : All (IsConstant (length x)) v.share.constants
   constants_inside = All-weaker (IsKnown v.size) (IsConstant (length x)) (λ c h. subst (λ k. c.row < k) (sym p.long) h.row) v.share.constants n.constants
@@ -98,13 +108,17 @@ row_size at x row n few long parts small =
     let c : n * 2 ^ 54 ≤ 2 ^ 11 * 2 ^ 54 = mul-le-mul_right (2 ^ 54) few in
     omega arith
 
-pub rounded_is : (v : NetworkView) (x rows : List ℤ) → rows ≡ constants_of v → products_added v.size (linear_entry v.share.terms) rows x ≡ rounded_residual_of v x
-rounded_is v x rows e = list_of-ext (products_added v.size (linear_entry v.share.terms) rows x) v.size (rounded_row v x) (pos 0) (length-list_of v.size _) (λ i l.
+-- a row of the rounded residual without the part loads
+abbrev linear_row : NetworkView → List ℤ → ℕ → ℤ
+linear_row v x row = constant_sum v.share.constants row +ℤ sum_z (entry_product (linear_entry v.share.terms) x row) v.size
+
+pub linear_is : (v : NetworkView) (x rows : List ℤ) → rows ≡ constants_of v → products_added v.size (linear_entry v.share.terms) rows x ≡ linear_residual_of v x
+linear_is v x rows e = list_of-ext (products_added v.size (linear_entry v.share.terms) rows x) v.size (linear_row v x) (pos 0) (length-list_of v.size _) (λ i l.
     get_or-list_of v.size (λ row. part rows row +ℤ sum_z (entry_product (linear_entry v.share.terms) x row) v.size) i (pos 0) l
     ∙ ap (λ z. z +ℤ sum_z (entry_product (linear_entry v.share.terms) x i) v.size) (ap (λ rs. part rs i) e ∙ get_or-list_of v.size (constant_sum v.share.constants) i (pos 0) l))
 
-pub rounded_small : (v : NetworkView) (x rows : List ℤ) → IsNetwork v → IsPoint v x → rows ≡ rounded_residual_of v x → (l : ℕ) → nat_abs (part rows l) ≤ 2 ^ 85
-rounded_small v x rows n p e = λ row. subst (λ rs. nat_abs (part rs row) ≤ 2 ^ 85) (sym e) (part-list_of-small v.size (rounded_row v x) (2 ^ 85) (λ i l.
+pub linear_small : (v : NetworkView) (x rows : List ℤ) → IsNetwork v → IsPoint v x → rows ≡ linear_residual_of v x → (l : ℕ) → nat_abs (part rows l) ≤ 2 ^ 85
+linear_small v x rows n p e = λ row. subst (λ rs. nat_abs (part rs row) ≤ 2 ^ 85) (sym e) (part-list_of-small v.size (linear_row v x) (2 ^ 85) (λ i l.
     let s = sum_size v.size v.share.constants i n.constants in
     let few = n.few_constants in
     let r = row_size (linear_entry v.share.terms) x i v.size n.small p.long p.parts n.entries in
@@ -113,12 +127,49 @@ rounded_small v x rows n p e = λ row. subst (λ rs. nat_abs (part rs row) ≤ 2
     both_small : (a b : ℤ) (k : ℕ) → nat_abs a ≤ k * 2 ^ 60 → k < 2 ^ 24 → nat_abs b ≤ 2 ^ 65 → nat_abs (a +ℤ b) ≤ 2 ^ 85
     both_small a b k h few j = omega (arith, ints)
 
+-- the rounded residual: the linear rows, with what the part loads add
+module _ (v : NetworkView) (x linear rows : List ℤ) (e : linear ≡ linear_residual_of v x) (grown : (l : ℕ) → part rows l ≡ part linear l +ℤ loads_row v.share.loads x l) where
+  pub rounded_is : length rows ≡ length linear → rows ≡ rounded_residual_of v x
+  rounded_is long = list_of-ext rows v.size (rounded_row v x) (pos 0) (long ∙ ap length e ∙ length-list_of v.size (linear_row v x)) (λ l h.
+      grown l ∙ ap (λ z. z +ℤ loads_row v.share.loads x l) (ap (λ rs. part rs l) e ∙ get_or-list_of v.size (linear_row v x) l (pos 0) h))
+
+  pub rounded_small : IsNetwork v → IsPoint v x → ((l : ℕ) → nat_abs (part linear l) ≤ 2 ^ 85) → (l : ℕ) → nat_abs (part rows l) ≤ 2 ^ 86
+  rounded_small n p small l =
+      let few = n.few_loads in
+      let all = rows_small x l v.share.loads p.parts (loads_inside v x n p) in
+      rw (grown l) (sum (part linear l) (loads_row v.share.loads x l) (small l) (omega arith))
+    where
+      sum : (a b : ℤ) → nat_abs a ≤ 2 ^ 85 → nat_abs b ≤ 2 ^ 85 → nat_abs (a +ℤ b) ≤ 2 ^ 86
+      sum a b h k = omega (arith, ints)
+
 -- ---- matrices
 
-pub matrix_small : (n : ℕ) (at : ℕ → ℕ → ℤ) (d : List (List ℤ)) → d ≡ table n n at → ((row col : ℕ) → AreSmall (at row col)) → EntriesWithin d (2 ^ 54)
-matrix_small n at d e h = subst (λ m. EntriesWithin m (2 ^ 54)) (sym e) (λ row col l m.
-    let long = length-table n n at in
-    subst (λ z. nat_abs z ≤ 2 ^ 54) (sym (entry-table n n at row col (subst (λ k. row < k) long l) (subst (λ k. col < k) long m))) (small_size (at row col) (h row col)))
+-- the entries of a coefficient matrix have room for the slopes of part loads
+pub cells_within : (n : ℕ) (cells : List ℤ) (at : ℕ → ℕ → ℤ) → ((row col : ℕ) → row < n → col < n → cell cells n row col ≡ at row col) → ((row col : ℕ) → AreSmall (at row col)) → CellsWithin n cells (2 ^ 54)
+cells_within n cells at is small row col h l = rw (is row col h l) (small_size (at row col) (small row col))
+
+-- cells with the entries of a coefficient matrix, to which numbers were added
+pub grown_is : (n size k : ℕ) (old cells new : List ℤ) (at more to plus : ℕ → ℕ → ℤ) → size ≡ n → k ≡ n → cells ≡ old
+    → ((i j : ℕ) → i < size → j < size → cell old size i j ≡ at i j) → CellsGrown k cells new more
+    → ((i j : ℕ) → at i j ≡ to i j) → ((i j : ℕ) → more i j ≡ plus i j) → (i j : ℕ) → i < n → j < n → cell new n i j ≡ to i j +ℤ plus i j
+grown_is n size k old cells new at more to plus s e c is g a m i j h l =
+    ap (λ q. cell new q i j) (sym e) ∙ g i j (subst (λ q. i < q) (sym e) h) (subst (λ q. j < q) (sym e) l)
+    ∙ (λ t. cell (c t) ((e ∙ sym s) t) i j +ℤ m i j t)
+    ∙ ap (λ z. z +ℤ plus i j) (is i j (subst (λ q. i < q) (sym s) h) (subst (λ q. j < q) (sym s) l) ∙ a i j)
+
+pub matrix_small : (n : ℕ) (d : List (List ℤ)) (cells : List ℤ) (b : ℕ) → d ≡ square n cells → CellsWithin n cells b → EntriesWithin d b
+matrix_small n d cells b e within = subst (λ m. EntriesWithin m b) (sym e) (λ row col l m.
+    let long = length-table n n (cell cells n) in
+    let h = subst (λ k. row < k) long l in
+    let k = subst (λ k. col < k) long m in
+    rw (entry-table n n (cell cells n) row col h k) (within row col h k))
+
+-- how many summands of the Jacobian stand at a place
+pub counts_small : (v : NetworkView) (row col : ℕ) → IsNetwork v → count_at v.share.terms row col + slope_counts v.share.loads row col ≤ 2 ^ 26
+counts_small v row col n =
+    let few = n.terms.few in
+    let loads = n.few_loads in
+    omega (arith, count_size v.share.terms row col, slopes_few v.share.loads row col)
 
 -- ---- weights
 

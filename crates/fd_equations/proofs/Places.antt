@@ -11,20 +11,20 @@ use Rattle.std.specs.BTreeMap.{BTreeMap, IsEmpty, IsOrdered, get, is_at}
 use Rattle.std.proofs.lemmas.Int.{ints}
 use Rattle.std.proofs.lemmas.Bool.{cases_eq, cases_lt, eq-eqb, ne_eqb, true≢false, false≢true}
 use Rattle.std.proofs.lemmas.Nat.{same_from_place}
-use Rattle.std.proofs.lemmas.List.{get_or-set_same, get_or-set_other, length-set, take_more, length-take}
+use Rattle.std.proofs.lemmas.List.{get_or-set_same, get_or-set_other, length-set, length-take}
 use Rattle.std.proofs.lemmas.List.Elements.{All-cons, All-head, All-nil, All-tail, All-take, All-weaker}
 use Rattle.fd_exact.specs.Rounding.{near_div}
 use Rattle.fd_exact.specs.States.{part, cell}
 use Rattle.fd_exact.specs.Sums.{sum_z, list_z}
 use Rattle.fd_system.specs.Contributions.{AreSmall}
-use Rattle.fd_exact.specs.SumLaws.{sum_z-same, sum_z-zero, sum_z-add, list_z-append, list_n-append}
+use Rattle.fd_exact.specs.SumLaws.{sum_z-same, sum_z-zero, sum_z-add}
 use Rattle.fd_exact.specs.Tables.{room}
 use Rattle.fd_arith.specs.declared.terms.Term.{Term}
 use Rattle.fd_equations.specs.declared.coefficients.Coefficient.{Coefficient}
 use Rattle.fd_equations.specs.Coefficients.{count_at, linear_entry, stands_at, units_of}
 use Rattle.fd_equations.specs.Conditions.{AreKnown, AreLinear, IsLinear}
 use Rattle.fd_equations.specs.Rounded.{entry_product, products_added}
-use Rattle.fd_equations.proofs.Lists.{list_of-ext}
+use Rattle.fd_equations.proofs.Lists.{list_n_more, list_z_more, list_of-ext}
 use Rattle.fd_equations.specs.Places.{AreInside, HasRoom, IsAdded, Shows, count_in, found, place_cmp, units_at, units_in, with_contribution}
 
 -- ---- when a place is looked up
@@ -82,18 +82,6 @@ module _ (m n : BTreeMap (ℕ × ℕ) Coefficient) (t : Term) (added : IsAdded m
       by_test true e k = let f = same_here (t.row, t.col) row col e in (subst (λ p. p.0 < size) f r, subst (λ p. p.1 < size) f c)
       by_test false e k = before k
 
-entry_more : (ts : List Term) (k row col : ℕ) (d : Term) → k < length ts → linear_entry (take (k + 1) ts) row col ≡ (linear_entry (take k ts) row col +ℤ cond (stands_at row col (get_or ts k d)) (units_of (get_or ts k d)) (pos 0))
-entry_more ts k row col d h = ap (λ us. linear_entry us row col) (take_more ts k d h) ∙ list_z-append (λ t. cond (stands_at row col t) (units_of t) (pos 0)) (take k ts) (get_or ts k d ∷ []) ∙ last (linear_entry (take k ts) row col) (cond (stands_at row col (get_or ts k d)) (units_of (get_or ts k d)) (pos 0))
-  where
-    last : (a b : ℤ) → (a +ℤ (b +ℤ pos 0)) ≡ (a +ℤ b)
-    last a b = omega (arith, ints)
-
-count_more : (ts : List Term) (k row col : ℕ) (d : Term) → k < length ts → count_at (take (k + 1) ts) row col ≡ count_at (take k ts) row col + cond (stands_at row col (get_or ts k d)) 1 0
-count_more ts k row col d h = ap (λ us. count_at us row col) (take_more ts k d h) ∙ list_n-append (λ t. cond (stands_at row col t) 1 0) (take k ts) (get_or ts k d ∷ []) ∙ last (count_at (take k ts) row col) (cond (stands_at row col (get_or ts k d)) 1 0)
-  where
-    last : (a b : ℕ) → a + (b + 0) ≡ a + b
-    last a b = omega arith
-
 pub shows_none : (size : ℕ) (m : BTreeMap (ℕ × ℕ) Coefficient) (ts : List Term) → IsEmpty m → Shows size m (take 0 ts)
 shows_none size m ts e = record {
   units = λ row col. ap (λ es. units_at (lookup (is_at (place_cmp (row, col))) es)) e;
@@ -105,8 +93,8 @@ pub shows_more : (size : ℕ) (m n : BTreeMap (ℕ × ℕ) Coefficient) (ts : Li
 shows_more size m n ts k d l is added h =
     let t = get_or ts k d in
     record {
-      units = λ row col. units_after m n t added row col ∙ ap (λ z. z +ℤ cond (stands_at row col t) (units_of t) (pos 0)) (h.units row col) ∙ sym (entry_more ts k row col d l);
-      counts = λ row col. count_after m n t added row col ∙ ap (λ z. z + cond (stands_at row col t) 1 0) (h.counts row col) ∙ sym (count_more ts k row col d l);
+      units = λ row col. units_after m n t added row col ∙ ap (λ z. z +ℤ cond (stands_at row col t) (units_of t) (pos 0)) (h.units row col) ∙ sym (list_z_more (λ t. cond (stands_at row col t) (units_of t) (pos 0)) ts k d l);
+      counts = λ row col. count_after m n t added row col ∙ ap (λ z. z + cond (stands_at row col t) 1 0) (h.counts row col) ∙ sym (list_n_more (λ t. cond (stands_at row col t) 1 0) ts k d l);
       inside = λ row col. inside_after m n t added row col size is.term.row is.term.col (h.inside row col);
     }
 
@@ -120,7 +108,7 @@ entry_size size (t ∷ ts) row col h = by_test (stands_at row col t) (entry_size
     by_test true e w = omega (arith, ints, w.0, w.1)
     by_test false e w = omega (arith, ints)
 
-count_size : (ts : List Term) (row col : ℕ) → count_at ts row col ≤ length ts
+pub count_size : (ts : List Term) (row col : ℕ) → count_at ts row col ≤ length ts
 count_size [] row col = lit≤ tt
 count_size (t ∷ ts) row col = by_test (stands_at row col t) (count_size ts row col)
   where

@@ -1,5 +1,5 @@
 -- Sizes of parts, of entries and of their products.
-use Rattle.std.proofs.Common.{◌≡◌, ℕ, ◌*◌, ◌≤◌, ◌^◌, ℤ, pos, neg_ℤ, ◌+ℤ◌, ◌*ℤ◌, ◌≤ℤ◌, nat_abs, to_z, of_z, arith, lit<}
+use Rattle.std.proofs.Common.{◌≡◌, ℕ, ◌≤◌, ◌^◌, ℤ, pos, neg_ℤ, ◌+ℤ◌, ◌-ℤ◌, ◌*ℤ◌, nat_abs, to_z, of_z, ◌∙◌, arith, lit<}
 use Rattle.std.specs.Int.{w128}
 use Rattle.std.proofs.Math.Nat.{mul-le-mul}
 use Rattle.std.proofs.lemmas.Int.{ints, unsigned_abs-mul, to_z-of_z, fits_signed_from_abs}
@@ -21,7 +21,7 @@ pub product_size : (u z : ℤ) → nat_abs u ≤ 2 ^ 54 → nat_abs z ≤ 2 ^ 40
 product_size u z h k = let e = unsigned_abs-mul u z in let b = mul-le-mul h k in omega arith
 
 -- a number that is not large is what an i128 keeps of it
-pub kept_by : (z : ℤ) → nat_abs z ≤ 2 ^ 122 → to_z w128 (of_z w128 z) ≡ z
+pub kept_by : (z : ℤ) → nat_abs z ≤ 2 ^ 126 → to_z w128 (of_z w128 z) ≡ z
 kept_by z h = to_z-of_z w128 z (fits_signed_from_abs w128 z (omega arith))
 
 pub kept_sum : (a b : ℤ) → nat_abs a ≤ 2 ^ 120 → nat_abs b ≤ 2 ^ 54 → to_z w128 (of_z w128 (to_z w128 (of_z w128 a) +ℤ to_z w128 (of_z w128 b))) ≡ (a +ℤ b)
@@ -29,3 +29,9 @@ kept_sum a b h k = rw (kept_by a (omega arith), kept_by b (omega arith)) (kept_b
 
 pub natural_kept : (n : ℕ) → n ≤ 2 ^ 66 → to_z w128 n ≡ pos n
 natural_kept n h = omega (arith, ints)
+
+pub negated_kept : (a : ℤ) → nat_abs a ≤ 2 ^ 120 → to_z w128 (of_z w128 (pos 0 -ℤ to_z w128 (of_z w128 a))) ≡ neg_ℤ a
+negated_kept a h = rw (kept_by a (omega arith)) (kept_by (pos 0 -ℤ a) (omega (arith, ints)) ∙ less a)
+  where
+    less : (a : ℤ) → (pos 0 -ℤ a) ≡ neg_ℤ a
+    less a = omega (arith, ints)

@@ -1,18 +1,17 @@
 -- The residual in intervals: how far its ends are apart, and how large they are.
-use Rattle.std.proofs.Common.{◌≡◌, ◌∙◌, ℕ, zero, suc, ◌+◌, ◌*◌, ◌<◌, ◌≤◌, ◌^◌, ℤ, pos, neg_ℤ, ◌+ℤ◌, ◌-ℤ◌, ◌*ℤ◌, ◌≤ℤ◌, ◌<ℤ◌, nat_abs, Bool, true, false, cond, eqb, List, [], ◌∷◌, length, get_or, Some, None, arith, ap, sym, refl, subst, ◌⊎◌, ⊎_elim, lit<, lit≤}
+use Rattle.std.proofs.Common.{◌≡◌, ◌∙◌, ℕ, suc, ◌+◌, ◌*◌, ◌<◌, ◌≤◌, ◌^◌, ℤ, pos, ◌+ℤ◌, ◌-ℤ◌, ◌*ℤ◌, ◌≤ℤ◌, ◌<ℤ◌, nat_abs, Bool, true, false, cond, eqb, List, [], ◌∷◌, length, Some, arith, sym, subst, ◌⊎◌, ⊎_elim, lit<, lit≤}
 use Rattle.std.specs.Int.{int_min, int_max}
 use Rattle.std.specs.List.{fold, All}
 use Rattle.std.proofs.lemmas.Int.{ints, clamps, unsigned_abs-mul}
 use Rattle.std.proofs.lemmas.List.Elements.{All-head, All-tail, All-get_or}
 use Rattle.std.proofs.Math.Nat.{mul-le-mul}
-use Rattle.fd_exact.specs.Rounding.{floor_div, ceil_div, near_div, IsNearest}
+use Rattle.fd_exact.specs.Rounding.{floor_div, ceil_div, near_div}
 use Rattle.fd_exact.specs.Fractions.{Fraction}
 use Rattle.fd_exact.specs.Integers.{next-mul, last-mul, mul-add, add-mul}
 use Rattle.fd_exact.specs.Nearest.{near_nearest}
 use Rattle.fd_exact.specs.Order.{lt_of_scale, scale}
 use Rattle.fd_exact.specs.Quotients.{floor-low, floor-high, ceil-high, ceil-low, floor-ceil}
 use Rattle.fd_exact.specs.States.{part}
-use Rattle.fd_exact.specs.Sums.{list_n}
 use Rattle.fd_arith.specs.Limits.{Fits}
 use Rattle.fd_arith.specs.Interval.{Bounds, Holds, capped, outward, least, greatest, product, sum}
 use Rattle.fd_arith.specs.Capping.{capped-within}
@@ -87,8 +86,8 @@ module _ (z : ℤ) (d : ℕ) (p : 0 < d) where
       let less : (ceil_div z d -ℤ pos 1) <ℤ (floor_div z d +ℤ pos 1) = lt_of_scale (ceil_div z d -ℤ pos 1) (floor_div z d +ℤ pos 1) d (omega (arith, ints, ceil-low z d p, floor-high z d p)) in
       omega (arith, ints)
 
-  pub narrow_outward : nat_abs (near_div z d) ≤ 2 ^ 54 → Narrow (outward z d) 1 (2 ^ 54 + 1)
-  narrow_outward h = narrow_ends (floor_div z d) (ceil_div z d) 1 (2 ^ 54 + 1) (lit≤ tt) (floor-ceil z d p) ends_near
+  pub narrow_outward : (b : ℕ) → b ≤ 2 ^ 100 → nat_abs (near_div z d) ≤ b → Narrow (outward z d) 1 (b + 1)
+  narrow_outward b few h = narrow_ends (floor_div z d) (ceil_div z d) 1 (b + 1) (omega arith) (floor-ceil z d p) ends_near
       (omega (arith, ints, h, floor_near, floor-ceil z d p, ceil_near)) (omega (arith, ints, h, floor_near, floor-ceil z d p, ceil_near))
 
 -- v times two numbers that are at most one apart
@@ -145,7 +144,7 @@ narrow_term size t x h k =
     let s = part_size v k in
     let within = h.within in
     let positive = h.term.positive in
-    let f = narrow_outward (t.num *ℤ pos (2 ^ 40)) (nat_abs t.den) (omega (arith, ints)) (omega (arith, ints, within.0, within.1)) in
+    let f = narrow_outward (t.num *ℤ pos (2 ^ 40)) (nat_abs t.den) (omega (arith, ints)) (2 ^ 54) (lit≤ tt) (omega (arith, ints, within.0, within.1)) in
     let point = capped-within v v (fits_of v (omega arith)) (fits_of v (omega arith)) in
     narrow_as (product (Some (part x t.col, part x t.col)) (Some (f.low, f.high))) (term_interval t x) 2 (2 ^ 55) (λ i. product (point i) (f.ends i)) (narrow_product v f.low f.high s f.order f.apart f.low_small f.high_small)
 

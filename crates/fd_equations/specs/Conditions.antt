@@ -29,10 +29,6 @@ pub record IsKnown (size : ℕ) (c : Constant) : Type 0 where
   pub least : neg_ℤ (pos (2 ^ 60)) ≤ℤ c.value
   pub most : c.value ≤ℤ pos (2 ^ 60)
 
--- a load of constant impedance, which stands in the contributions
-abbrev pub IsImpedance : LoadAt → Type 0
-IsImpedance u = u.load.model ≡ 2
-
 -- a node is ground or among the first n complex unknowns
 abbrev pub IsAmong : ℕ → NodeAt → Type 0
 IsAmong n Ground = Unit {0}
@@ -54,12 +50,14 @@ pub record IsServed (n size : ℕ) (u : LoadAt) : Type 0 where
 -- the condition on a network
 pub record IsNetwork (v : NetworkView) : Type 0 where
   pub small : v.size ≤ 2 ^ 11
+  pub complexes : 2 * v.complexes ≤ v.size
   pub terms : AreLinear v.size v.share.terms
   -- the sum at each place is at most 2^54 in units of 2^-40
   pub entries : (row col : ℕ) → AreSmall (linear_entry v.share.terms row col)
   pub constants : All (IsKnown v.size) v.share.constants
   pub few_constants : length v.share.constants < 2 ^ 24
-  pub loads : All IsImpedance v.share.loads
+  pub loads : All (IsServed v.complexes v.size) v.share.loads
+  pub few_loads : length v.share.loads < 2 ^ 20
   pub draw : 16 * v.draw + 10 ^ 6 ≤ 2 ^ 65
 
 -- a part of a point is at most 2^40 in size

@@ -2,6 +2,10 @@ pub mod Coefficients
 pub mod Places
 pub mod Views
 pub mod Rounded
+pub mod Terminals
+pub mod PartLoads
+pub mod Cells
+pub mod Counts
 pub mod Weights
 pub mod Enclosure
 pub mod Conditions

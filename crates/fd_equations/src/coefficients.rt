@@ -129,10 +129,22 @@ impl Coefficients {
     pub fn to_dense(&self, alloc: Global) -> Result<Dense, AllocError>
         ensures { IfOk result (λ d. d ≡ table self.now.size self.now.size (linear_entry self.now.terms)) }
     {
+        let cells = self.to_cells(alloc)?;
+        Ok(Dense::from_cells(self.size, cells))
+    }
+
+    /// All entries, row by row, in units of 2^-40.
+    ///
+    /// # Errors
+    /// `AllocError` where the memory for the entries is refused.
+    pub fn to_cells(&self, alloc: Global) -> Result<Vec<i128>, AllocError>
+        ensures long { IfOk result (λ c. length c.items ≡ self.now.size * self.now.size) }
+        ensures entries { IfOk result (λ c. (row col : ℕ) → row < self.now.size → col < self.now.size → cell c.items self.now.size row col ≡ linear_entry self.now.terms row col) }
+    {
         let size = self.size as usize;
         let mut cells = vec![in alloc; 0; size * size]?;
         write(&self.places, self.size, &mut cells);
-        Ok(Dense::from_cells(self.size, cells))
+        Ok(cells)
     }
 }
 

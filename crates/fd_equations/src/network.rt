@@ -6,14 +6,18 @@ ghost use Rattle.fd_mat.specs.Rows.{EntriesWithin};
 ghost use Rattle.fd_system.specs.Contributions.{AreSmall};
 ghost use Rattle.fd_system.specs.System.{residual_of};
 ghost use Rattle.fd_system.specs.Residual.{whole_state};
-ghost use Rattle.fd_equations.specs.Coefficients.{count_at, linear_entry, row_count};
-ghost use Rattle.fd_equations.specs.Conditions.{IsImpedance, IsKnown, IsPoint};
-ghost use Rattle.fd_equations.specs.Enclosure.{EndsWithin, interval_residual_of};
-ghost use Rattle.fd_equations.specs.Rounded.{constants_of, jacobian_of, rounded_residual_of, start_matrix_of};
+ghost use Rattle.fd_equations.specs.Coefficients.{linear_entry};
+ghost use Rattle.fd_equations.specs.Conditions.{IsKnown, IsPoint, IsServed};
+ghost use Rattle.fd_equations.specs.Enclosure.{EndsWithin, interval_residual_of, summand_count};
+ghost use Rattle.fd_equations.specs.Rounded.{constants_of, jacobian_count, jacobian_of, linear_residual_of, rounded_residual_of, start_matrix_of};
 ghost use Rattle.fd_equations.specs.Views.{kind_of, network_of, share_with};
 ghost use Rattle.fd_equations.specs.Weights.{weights_of};
 
 use crate::constants::constant_sums;
+use crate::load_counts::{count_in, slope_counts};
+use crate::load_intervals::add_load_intervals;
+use crate::load_rows::add_loads;
+use crate::load_slopes::{add_slopes, add_start_slopes};
 use crate::rows::linear_rows;
 use crate::weights::weights;
 use crate::{Coefficients, Layout, PlaceKind};
@@ -21,6 +25,7 @@ use fd_arith::{Interval, Micro, Term};
 use fd_mat::Dense;
 use fd_system::{Constant, LoadAt};
 use std::alloc::{AllocError, Global};
+use std::collections::BTreeMap;
 use std::marker::Model;
 
 /// The rows of a network. Unknowns and rows stand in the same order: the nodes, the branches, then the magnitudes, as `Layout` says.
@@ -31,48 +36,57 @@ pub struct Network {
     coefficients: Coefficients,
     constants: Vec<Constant>,
     loads: Vec<LoadAt>,
+    slopes: BTreeMap<(u32, u32), u32>,
     draw: u128,
 }
 
 impl Model for Network {
     ghost use Rattle.std.specs.Prelude.{◌≡◌};
     ghost use Rattle.fd_equations.specs.Conditions.{IsNetwork};
+    ghost use Rattle.fd_equations.specs.Counts.{HasCounts};
     ghost use Rattle.fd_equations.specs.Views.{NetworkView, network_of, share_with};
 
     ghost Value = { NetworkView };
 
     ghost view = { λ n. network_of n.layout (share_with n.constants.items n.coefficients.terms n.loads.items) n.draw };
 
-    ghost invariant = { λ n. IsNetwork (network_of n.layout (share_with n.constants.items n.coefficients.terms n.loads.items) n.draw) × (n.coefficients.size ≡ (network_of n.layout (share_with n.constants.items n.coefficients.terms n.loads.items) n.draw).size) };
+    ghost invariant = { λ n. IsNetwork (network_of n.layout (share_with n.constants.items n.coefficients.terms n.loads.items) n.draw) × ((n.coefficients.size ≡ (network_of n.layout (share_with n.constants.items n.coefficients.terms n.loads.items) n.draw).size) × HasCounts n.slopes n.loads.items) };
 }
 
 impl Network {
     /// The network of these rows. `coefficients` has the contributions, in which loads of constant impedance stand;
     /// `draw` is the sum of (abs P + abs Q) 10^9 / Vn over load phases and of Q 10^9 / V over closed capacitor phases, each rounded
-    /// up, in whole microamperes. Takes no memory.
+    /// up, in whole microamperes.
+    ///
+    /// # Errors
+    /// `AllocError` where the memory for the places of the part loads' slopes is refused.
     pub fn new(
+        alloc: Global,
         layout: Layout,
         coefficients: Coefficients,
         constants: Vec<Constant>,
         loads: Vec<LoadAt>,
         draw: u128,
-    ) -> Network
+    ) -> Result<Network, AllocError>
         requires small { 2 * (layout.nodes + layout.branches) + layout.magnitudes ≤ 2 ^ 11 }
         requires size { coefficients.size ≡ 2 * (layout.nodes + layout.branches) + layout.magnitudes }
         requires entries { (row col : ℕ) → AreSmall (linear_entry coefficients.terms row col) }
         requires constants { All (IsKnown coefficients.size) constants.items }
         requires few_constants { length constants.items < 2 ^ 24 }
-        requires loads { All IsImpedance loads.items }
+        requires loads { All (IsServed (layout.nodes + layout.branches) coefficients.size) loads.items }
+        requires few_loads { length loads.items < 2 ^ 20 }
         requires draw { 16 * draw + 10 ^ 6 ≤ 2 ^ 65 }
-        ensures { result ≡ network_of layout (share_with constants.items coefficients.terms loads.items) draw }
+        ensures { IfOk result (λ n. n ≡ network_of layout (share_with constants.items coefficients.terms loads.items) draw) }
     {
-        Network {
+        let slopes = slope_counts(alloc, &loads)?;
+        Ok(Network {
             layout,
             coefficients,
             constants,
             loads,
+            slopes,
             draw,
-        }
+        })
     }
 
     /// How many real unknowns there are, and how many rows.
@@ -91,11 +105,12 @@ impl Network {
         self.layout.kind(place)
     }
 
-    /// How many contributions of the Jacobian stand in a row and a column.
+    /// How many summands of the Jacobian stand in a row and a column: contributions, and slopes of part loads of constant power and of
+    /// constant current, also those that are 0.
     pub fn count(&self, row: u32, col: u32) -> u32
-        ensures { result ≡ count_at self.now.share.terms row col }
+        ensures { result ≡ jacobian_count self.now row col }
     {
-        self.coefficients.count(row, col)
+        self.coefficients.count(row, col) + count_in(&self.slopes, row, col)
     }
 
     /// The contributions in order.
@@ -113,7 +128,7 @@ impl Network {
     }
 
     /// The residual of each row at the point x, in intervals of whole micro-units. Each holds the exact residual, and its ends are at
-    /// most the residual's size and two more for each contribution to the row; none is ALL.
+    /// most the residual's size and two more for each contribution to the row and each load current and magnitude row in it; none is ALL.
     ///
     /// # Errors
     /// `AllocError` where the memory for the rows is refused.
@@ -121,9 +136,11 @@ impl Network {
         requires { IsPoint self.now x.now }
         ensures rows { IfOk result (λ rows. rows.items ≡ interval_residual_of self.now x.now) }
         ensures holds { IfOk result (λ rows. (l : ℕ) → l < self.now.size → Holds (get_or rows.items l None) (residual_of self.now.share (whole_state x.now) l)) }
-        ensures near { IfOk result (λ rows. (l : ℕ) → l < self.now.size → EndsWithin (get_or rows.items l None) (residual_of self.now.share (whole_state x.now) l) (2 * row_count self.now.share.terms l)) }
+        ensures near { IfOk result (λ rows. (l : ℕ) → l < self.now.size → EndsWithin (get_or rows.items l None) (residual_of self.now.share (whole_state x.now) l) (2 * summand_count self.now.share l)) }
     {
-        linear_rows(alloc, &self.constants, self.coefficients.terms(), x)
+        let mut rows = linear_rows(alloc, &self.constants, self.coefficients.terms(), x)?;
+        add_load_intervals(&mut rows, &self.loads, x);
+        Ok(rows)
     }
 
     /// The sum of the constants of each row, in whole micro-units.
@@ -144,6 +161,17 @@ impl Network {
     pub fn rounded_residual(&self, alloc: Global, x: &[i128]) -> Result<Vec<i128>, AllocError>
         requires { IsPoint self.now x.now }
         ensures rows { IfOk result (λ rows. rows.items ≡ rounded_residual_of self.now x.now) }
+        ensures small { IfOk result (λ rows. (l : ℕ) → nat_abs (part rows.items l) ≤ 2 ^ 86) }
+    {
+        let mut rows = self.linear_residual(alloc, x)?;
+        add_loads(&mut rows, &self.loads, x);
+        Ok(rows)
+    }
+
+    // The rounded residual of the constants and the contributions.
+    fn linear_residual(&self, alloc: Global, x: &[i128]) -> Result<Vec<i128>, AllocError>
+        requires { IsPoint self.now x.now }
+        ensures rows { IfOk result (λ rows. rows.items ≡ linear_residual_of self.now x.now) }
         ensures small { IfOk result (λ rows. (l : ℕ) → nat_abs (part rows.items l) ≤ 2 ^ 85) }
     {
         let mut rows = self.constants(alloc)?;
@@ -157,9 +185,11 @@ impl Network {
     /// `AllocError` where the memory for the entries is refused.
     pub fn start_matrix(&self, alloc: Global) -> Result<Dense, AllocError>
         ensures entries { IfOk result (λ d. d ≡ start_matrix_of self.now) }
-        ensures small { IfOk result (λ d. EntriesWithin d (2 ^ 54)) }
+        ensures small { IfOk result (λ d. EntriesWithin d (2 ^ 100)) }
     {
-        self.coefficients.to_dense(alloc)
+        let mut cells = self.coefficients.to_cells(alloc)?;
+        add_start_slopes(&mut cells, self.size() as usize, &self.loads);
+        Ok(Dense::from_cells(self.size(), cells))
     }
 
     /// The rounded Jacobian at the point x, in units of 2^-40.
@@ -169,9 +199,11 @@ impl Network {
     pub fn rounded_jacobian(&self, alloc: Global, x: &[i128]) -> Result<Dense, AllocError>
         requires { IsPoint self.now x.now }
         ensures entries { IfOk result (λ d. d ≡ jacobian_of self.now x.now) }
-        ensures small { IfOk result (λ d. EntriesWithin d (2 ^ 54)) }
+        ensures small { IfOk result (λ d. EntriesWithin d (2 ^ 100)) }
     {
-        self.coefficients.to_dense(alloc)
+        let mut cells = self.coefficients.to_cells(alloc)?;
+        add_slopes(&mut cells, &self.loads, x);
+        Ok(Dense::from_cells(self.size(), cells))
     }
 
     /// The weight of each unknown at the point x, in whole micro-units: from 10^6 to 2^66.

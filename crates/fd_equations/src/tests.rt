@@ -1,8 +1,10 @@
 ghost use Rattle.std.specs.Prelude.{◌≡◌, IfOk};
+ghost use Rattle.fd_equations.specs.Conditions.{IsServed};
 
 use crate::{Coefficients, Layout, Network, PlaceKind};
-use fd_arith::Term;
-use fd_system::Constant;
+use fd_arith::{NodeAt, Term};
+use fd_mat::Dense;
+use fd_system::{Constant, LoadAt, LoadPhase};
 use std::alloc::{AllocError, Global};
 use std::process::Abort;
 use std::test::Fail;
@@ -47,7 +49,15 @@ fn sample_network(alloc: Global, rt: &impl Abort) -> Result<Network, AllocError>
         branches: 0,
         magnitudes: 0,
     };
-    Ok(Network::new(layout, coefficients, constants, Vec::new(alloc), 2_000_000))
+    let network = Network::new(
+        alloc,
+        layout,
+        coefficients,
+        constants,
+        Vec::new(alloc),
+        2_000_000,
+    )?;
+    Ok(network)
 }
 
 // The ends of the residual of the first row at 30 and -0.000041 volt.
@@ -119,5 +129,203 @@ fn rows(rt: HostRuntime) -> Result<(), Fail> {
     assert_eq!(rt; constants.as_slice(), [700, 0].as_slice());
     assert_eq!(rt; rounded.as_slice(), [20_000_712, 0].as_slice());
     assert_eq!(rt; weights.as_slice(), [30_000_041, 30_000_041].as_slice());
+    Ok(())
+}
+
+// 50 kilowatt and 20 kilovar of constant power at 240 volt, from the first node to ground.
+fn constant_power() -> LoadAt
+    ensures { IsServed 2 5 result }
+{
+    LoadAt {
+        load: LoadPhase {
+            model: 1,
+            p: 50_000_000,
+            q: 20_000_000,
+            vn: 240_000_000,
+            vlo: 228_000_000,
+            vhi: 252_000_000,
+        },
+        first: NodeAt::Node(0),
+        second: NodeAt::Ground,
+        magnitude: None,
+    }
+}
+
+// 30 kilowatt and -12 kilovar of constant current at 415.692194 volt, between the nodes.
+fn constant_current() -> LoadAt
+    ensures { IsServed 2 5 result }
+{
+    LoadAt {
+        load: LoadPhase {
+            model: 5,
+            p: 30_000_000,
+            q: -12_000_000,
+            vn: 415_692_194,
+            vlo: 394_907_584,
+            vhi: 436_476_804,
+        },
+        first: NodeAt::Node(0),
+        second: NodeAt::Node(1),
+        magnitude: Some(4),
+    }
+}
+
+// A network of both loads.
+fn load_network(alloc: Global, rt: &impl Abort) -> Result<Network, AllocError>
+    ensures { IfOk result (λ n. n.size ≡ 5) }
+{
+    let coefficients = Coefficients::of(alloc, 5, Vec::new(alloc))?;
+    assert!(rt; coefficients.are_within());
+    let loads = vec![in alloc; constant_power(), constant_current()]?;
+    let layout = Layout {
+        nodes: 2,
+        branches: 0,
+        magnitudes: 1,
+    };
+    let network = Network::new(
+        alloc,
+        layout,
+        coefficients,
+        Vec::new(alloc),
+        loads,
+        400_000_000,
+    )?;
+    Ok(network)
+}
+
+// Both loads within their limits, and below them.
+const AT: [i128; 5] = [
+    241_000_000,
+    -13_500_000,
+    -120_000_000,
+    207_000_000,
+    415_000_000,
+];
+
+const LOW: [i128; 5] = [200_000_000, 0, 0, 0, 300_000_000];
+
+fn entry(matrix: &Dense, row: u32, col: u32) -> i128 {
+    if row < matrix.size() && col < matrix.size() {
+        matrix.get(row, col)
+    } else {
+        0
+    }
+}
+
+fn load_rows(alloc: Global, rt: &impl Abort) -> Result<[Vec<i128>; 2], AllocError> {
+    let network = load_network(alloc, rt)?;
+    Ok([
+        network.rounded_residual(alloc, &AT)?,
+        network.rounded_residual(alloc, &LOW)?,
+    ])
+}
+
+fn load_ends(alloc: Global, rt: &impl Abort) -> Result<Vec<Option<(i128, i128)>>, AllocError> {
+    let network = load_network(alloc, rt)?;
+    let residual = network.residual(alloc, &AT)?;
+    let mut ends = Vec::new(alloc);
+    for row in &residual {
+        ends.push(row.ends())?;
+    }
+    Ok(ends)
+}
+
+// Entries of the Jacobian within the limits.
+fn jacobian_at(alloc: Global, rt: &impl Abort) -> Result<[i128; 6], AllocError> {
+    let network = load_network(alloc, rt)?;
+    let matrix = network.rounded_jacobian(alloc, &AT)?;
+    Ok([
+        entry(&matrix, 0, 0),
+        entry(&matrix, 0, 1),
+        entry(&matrix, 2, 0),
+        entry(&matrix, 3, 4),
+        entry(&matrix, 4, 1),
+        entry(&matrix, 4, 2),
+    ])
+}
+
+// Entries of the Jacobian below them.
+fn jacobian_low(alloc: Global, rt: &impl Abort) -> Result<[i128; 2], AllocError> {
+    let network = load_network(alloc, rt)?;
+    let matrix = network.rounded_jacobian(alloc, &LOW)?;
+    Ok([entry(&matrix, 0, 4), entry(&matrix, 4, 4)])
+}
+
+// Entries of the start matrix.
+fn start_entries(alloc: Global, rt: &impl Abort) -> Result<[i128; 4], AllocError> {
+    let network = load_network(alloc, rt)?;
+    let matrix = network.start_matrix(alloc)?;
+    Ok([
+        entry(&matrix, 0, 0),
+        entry(&matrix, 3, 0),
+        entry(&matrix, 4, 4),
+        entry(&matrix, 0, 4),
+    ])
+}
+
+#[test]
+fn loads(rt: HostRuntime) -> Result<(), Fail> {
+    let [at, low] = load_rows(rt.alloc(), &rt)?;
+    let at_want = [
+        280_301_956,
+        -107_547_153,
+        -78_116_187,
+        13_233_842,
+        -16_156_786,
+    ];
+    assert_eq!(rt; at.as_slice(), at_want.as_slice());
+    let low_want = [
+        228_916_590,
+        -62_326_870,
+        -36_549_708,
+        -14_619_883,
+        120_281_306,
+    ];
+    assert_eq!(rt; low.as_slice(), low_want.as_slice());
+    let ends = load_ends(rt.alloc(), &rt)?;
+    let ends_want = [
+        Some((280_301_954, 280_301_956)),
+        Some((-107_547_154, -107_547_152)),
+        Some((-78_116_187, -78_116_186)),
+        Some((13_233_842, 13_233_843)),
+        Some((-16_156_787, -16_156_786)),
+    ];
+    assert_eq!(rt; ends.as_slice(), ends_want.as_slice());
+    Ok(())
+}
+
+#[test]
+fn slopes(rt: HostRuntime) -> Result<(), Fail> {
+    assert_eq!(rt;
+        jacobian_at(rt.alloc(), &rt)?,
+        [
+            -704_310_984_803,
+            403_966_046_899,
+            -191_205_823_492,
+            -35_062_079_922,
+            1_166_451_126_213,
+            1_909_700_029_764
+        ]
+    );
+    assert_eq!(rt; jacobian_low(rt.alloc(), &rt)?, [0, 1_587_008_334_984]);
+    assert_eq!(rt;
+        start_entries(rt.alloc(), &rt)?,
+        [1_145_324_612_098, -76_354_974_084, 2_199_023_255_552, 0]
+    );
+    Ok(())
+}
+
+#[test]
+fn load_counts(rt: HostRuntime) -> Result<(), Fail> {
+    let network = load_network(rt.alloc(), &rt)?;
+    assert_eq!(rt;
+        (
+            network.count(0, 1),
+            network.count(0, 2),
+            network.count(4, 0)
+        ),
+        (2, 1, 1)
+    );
+    assert_eq!(rt; (network.count(4, 4), network.count(5, 5)), (1, 0));
     Ok(())
 }

@@ -6,10 +6,9 @@ use Rattle.std.proofs.lemmas.Int.{ints}
 use Rattle.std.proofs.lemmas.List.{length-set}
 use Rattle.fd_exact.specs.States.{part}
 use Rattle.fd_exact.specs.Tables.{length-table}
-use Rattle.fd_equations.specs.Coefficients.{linear_entry}
 use Rattle.fd_inject.proofs.Search.{first_none, first_some}
 use Rattle.fd_system.specs.declared.loads.LoadAt.{LoadAt}
-use Rattle.fd_equations.specs.Rounded.{constant_sum, constants_of, jacobian_of, rounded_residual_of, rounded_row, start_matrix_of}
+use Rattle.fd_equations.specs.Rounded.{constant_sum, constants_of, jacobian_entry, jacobian_of, rounded_residual_of, rounded_row, start_entry, start_matrix_of}
 use Rattle.fd_equations.specs.Views.{NetworkView}
 use Rattle.fd_equations.specs.Weights.{weight_at, weights_of}
 use Rattle.fd_equations.proofs.Lists.{length-list_of}
@@ -48,10 +47,10 @@ weight_size z h = omega (arith, ints, h.0, h.1)
 -- ---- lengths
 
 pub start_long : (v : NetworkView) (m : List (List ℤ)) → m ≡ start_matrix_of v → length m ≡ v.size
-start_long v m e = ap length e ∙ length-table v.size v.size (linear_entry v.share.terms)
+start_long v m e = ap length e ∙ length-table v.size v.size (start_entry v)
 
 pub jacobian_long : (v : NetworkView) (x : List ℤ) (m : List (List ℤ)) → m ≡ jacobian_of v x → length m ≡ v.size
-jacobian_long v x m e = ap length e ∙ length-table v.size v.size (linear_entry v.share.terms)
+jacobian_long v x m e = ap length e ∙ length-table v.size v.size (jacobian_entry v x)
 
 pub residual_long : (v : NetworkView) (x rs : List ℤ) → rs ≡ rounded_residual_of v x → length rs ≡ v.size
 residual_long v x rs e = ap length e ∙ length-list_of v.size (rounded_row v x)

@@ -7,6 +7,7 @@ use Rattle.dss_profile.specs.declared.command.Blame.{Blame}
 use Rattle.dss_profile.specs.Ranges.{IsOneOf}
 use Rattle.dss_layout.specs.Layout.{Elements, LayoutView, first_too_many, layout_of}
 use Rattle.dss_ready.specs.Ready.{blame_at}
+use Rattle.fd_xfmr.specs.Leakage.{AreTaps}
 use Rattle.fd_devices.specs.Building.{IsModest}
 use Rattle.fd_devices.specs.Devices.{Device, share_of_all}
 use Rattle.fd_devices.specs.Scripted.{devices_from}
@@ -28,12 +29,13 @@ has_place es place few low = record {
 }
 
 -- the elements of a circuit, with all its settings
-pub are_taken : (hertz : ℕ) (es : Elements) (s : Settings) → IsOneOf (50 ∷ 60 ∷ []) hertz → first_too_many es ≡ None → AreReadyFrom (layout_of es) 0 es → AreSettings es s → All IsModest s.powers → AreTakenFrom (layout_of es) hertz 0 es s
-are_taken hertz es s frequency few ready settings modest = record {
+pub are_taken : (hertz : ℕ) (es : Elements) (s : Settings) → IsOneOf (50 ∷ 60 ∷ []) hertz → first_too_many es ≡ None → AreReadyFrom (layout_of es) 0 es → AreSettings es s → All AreTaps s.taps → All IsModest s.powers → AreTakenFrom (layout_of es) hertz 0 es s
+are_taken hertz es s frequency few ready settings within modest = record {
   frequency = frequency;
   places = λ k low. subst (HasPlace (layout_of es)) (sym (zero-add k)) (has_place es k few low);
   ready = ready;
   settings = settings;
+  within = within;
   modest = modest;
 }
 

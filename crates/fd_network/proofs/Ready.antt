@@ -8,11 +8,10 @@ use Rattle.dss_profile.specs.InRange.{ElementInRange}
 use Rattle.dss_profile.specs.declared.element.Element.{Element}
 use Rattle.dss_profile.specs.declared.names.ElementName.{ElementName}
 use Rattle.dss_layout.specs.declared.limits.TheConstants.{MOST_COMPLEX, MOST_MAGNITUDES}
-use Rattle.dss_layout.specs.Layout.{Elements, LayoutView, branch_phases, complex_count, ends_of, first_magnitude, first_past, first_too_many, layout_of, magnitude_phases, passes_limit}
+use Rattle.dss_layout.specs.Layout.{Elements, LayoutView, branch_phases, complex_count, ends_of, first_magnitude, first_past, first_too_many, layout_of, magnitude_phases, passes_limit, size_of}
 use Rattle.dss_ready.specs.declared.mention.Mention.{Mention}
 use Rattle.dss_ready.specs.Mentions.{is_mentioned}
 use Rattle.dss_ready.specs.Ready.{IsReady, own_blame}
-use Rattle.fd_devices.specs.Building.{IsCovered}
 use Rattle.fd_devices.specs.Sound.{IsSound}
 use Rattle.fd_network.specs.Places.{AreReadyFrom, IsReadyAt}
 use Rattle.fd_network.proofs.ReadyNodes.{mentions_among}
@@ -93,16 +92,18 @@ ready_from layout place (e ∷ es) h = (
         → IsReadyAt layout (place + 1 + k) (slice_index_or es k d).1
     later k d r = let same : place + suc k ≡ place + 1 + k = omega arith in subst (λ n. IsReadyAt layout n (slice_index_or es k d).1) same r
 
--- where the nodes and branches of the element at a place stand
+-- where the nodes, the branches and the magnitudes of the element at a place stand
 pub stands_at : (elements : Elements) (place : ℕ) (d : ElementName × Element) → place < length elements → ElementInRange (slice_index_or elements place d).1
     → IsSound (slice_index_or elements place d).1
-    → (let e = (slice_index_or elements place d).1 in StandsAmong (complex_count (layout_of elements)) (ends_of (layout_of elements) place e) e)
+    → (let e = (slice_index_or elements place d).1 in StandsAmong (complex_count (layout_of elements)) (size_of (layout_of elements)) (first_magnitude (layout_of elements) place) (ends_of (layout_of elements) place e) e)
 stands_at elements place d within in_range sound =
     let layout = layout_of elements in
     let e = (slice_index_or elements place d).1 in
     let sum = sum_with_own branch_phases 0 elements place d within in
     let room : slice_index layout.branches_before place + branch_phases e ≤ length layout.branches = omega arith in
-    stands_among layout place e (side_counts e in_range sound.terminals) (mentions_among elements place d within) room
+    let own = sum_with_own magnitude_phases 0 elements place d within in
+    let behind : slice_index layout.magnitudes_before place + magnitude_phases e ≤ length layout.magnitudes = omega arith in
+    stands_among layout place e (side_counts e in_range sound.terminals) (mentions_among elements place d within) room behind
 
 module _ (same : ElementName → ElementName → Bool) (same_mention : Mention → Mention → Bool) (hertz : ℕ) (elements : Elements) where
   -- every element is sound
@@ -113,22 +114,21 @@ module _ (same : ElementName → ElementName → Bool) (same_mention : Mention �
       (all_pass same same_mention named hertz elements [] elements h.no_own)
 
   -- the element at a place is ready to be taken
-  pub ready_at : IsReady (own_blame same same_mention hertz elements) elements → All (λ e. ElementInRange e.1) elements → All (λ e. IsCovered e.1) elements
+  pub ready_at : IsReady (own_blame same same_mention hertz elements) elements → All (λ e. ElementInRange e.1) elements
       → (place : ℕ) (d : ElementName × Element) → place < length elements → IsReadyAt (layout_of elements) place (slice_index_or elements place d).1
-  ready_at h in_range covered place d within =
+  ready_at h in_range place d within =
       let e = (slice_index_or elements place d).1 in
       let range : ElementInRange e = in_range place d within in
       let sound : IsSound e = all_sound h place d within in
       record {
         in_range = range;
         sound = sound;
-        covered = covered place d within;
-        sited = sited (complex_count (layout_of elements)) (ends_of (layout_of elements) place e) e range (stands_at elements place d within range sound);
+        sited = sited (complex_count (layout_of elements)) (size_of (layout_of elements)) (first_magnitude (layout_of elements) place) (ends_of (layout_of elements) place e) e range (stands_at elements place d within range sound);
       }
 
   -- all are
-  pub ready : IsReady (own_blame same same_mention hertz elements) elements → All (λ e. ElementInRange e.1) elements → All (λ e. IsCovered e.1) elements
+  pub ready : IsReady (own_blame same same_mention hertz elements) elements → All (λ e. ElementInRange e.1) elements
       → AreReadyFrom (layout_of elements) 0 elements
-  ready h in_range covered =
+  ready h in_range =
       ready_from (layout_of elements) 0 elements
-      (λ k d lt. subst (λ n. IsReadyAt (layout_of elements) n (slice_index_or elements k d).1) (sym (zero-add k)) (ready_at h in_range covered k d lt))
+      (λ k d lt. subst (λ n. IsReadyAt (layout_of elements) n (slice_index_or elements k d).1) (sym (zero-add k)) (ready_at h in_range k d lt))

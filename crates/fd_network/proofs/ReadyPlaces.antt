@@ -1,5 +1,5 @@
--- Where the nodes and the branches of an element stand among the unknowns of the layout.
-use Rattle.std.proofs.Common.{◌≡◌, ℕ, zero, suc, ◌+◌, ◌<◌, ◌≤◌, ◌==◌, Bool, true, false, inl, inr, if◌then◌else◌, [], ◌∷◌, length, slice_index, slice_index_or, All, refl, ap, ◌∙◌, length-append, arith}
+-- Where the nodes, the branches and the magnitudes of an element stand among the unknowns of the layout.
+use Rattle.std.proofs.Common.{◌≡◌, ℕ, zero, suc, ◌+◌, ◌<◌, ◌≤◌, ◌==◌, Bool, true, false, inl, inr, if◌then◌else◌, [], ◌∷◌, length, slice_index, slice_index_or, All, refl, ap, subst, ◌∙◌, length-append, arith}
 use Rattle.std.specs.List.{flat_map}
 use Rattle.std.proofs.lemmas.List.{length-map}
 use Rattle.std.proofs.lemmas.List.FromFn.{length-map-range_with_len}
@@ -9,11 +9,12 @@ use Rattle.dss_profile.specs.Ranges.{IsOneOf}
 use Rattle.dss_profile.specs.InRange.{ElementInRange}
 use Rattle.dss_profile.specs.declared.element.Element.{Element}
 use Rattle.dss_profile.specs.declared.element.Element.TheVariants as the
+use Rattle.dss_profile.specs.declared.load.Load.{Load}
 use Rattle.dss_profile.specs.declared.names.ElementName.{ElementName}
 use Rattle.dss_layout.specs.Nodes.{node_at}
 use Rattle.dss_layout.specs.Terminals.{mentions, terminals_of}
-use Rattle.dss_layout.specs.Layout.{Elements, LayoutView, branch_phases, complex_count, ends_of, phase_names, sums_before}
-use Rattle.fd_devices.specs.Sound.{HasBranches, IsSideOf, IsSited}
+use Rattle.dss_layout.specs.Layout.{Elements, LayoutView, branch_phases, complex_count, ends_of, first_magnitude, magnitude_phases, phase_names, size_of, sums_before}
+use Rattle.fd_devices.specs.Sound.{HasBranches, HasMagnitudes, IsSideOf, IsSited}
 use Rattle.fd_network.proofs.ReadyNodes.{IsAmong, sides_below}
 use Rattle.fd_network.proofs.ReadySides.{HasCounts, first_count, second_count}
 
@@ -57,11 +58,13 @@ length-phases f (e ∷ es) =
 
 -- ---- an element
 
--- its sides have a node for each terminal, and its nodes and branches are among the first n complex unknowns
-pub record StandsAmong (n : ℕ) (at : Ends) (e : Element) : Type 0 where
+-- its sides have a node for each terminal, its nodes and branches are among the first n complex unknowns, and its magnitudes, of which the
+-- first's place is given, behind these among `size` real unknowns
+pub record StandsAmong (n size magnitude : ℕ) (at : Ends) (e : Element) : Type 0 where
   pub first : IsSideOf n (first_count e) at.first
   pub second : IsSideOf n (second_count e) at.second
   pub branches : at.branch + branch_phases e ≤ n
+  pub magnitudes : HasMagnitudes n size (magnitude_phases e) magnitude
 
 module _ (layout : LayoutView) (place : ℕ) (e : Element) where
   branches_below : (b : Bool) → slice_index layout.branches_before place + branch_phases e ≤ length layout.branches
@@ -71,13 +74,15 @@ module _ (layout : LayoutView) (place : ℕ) (e : Element) where
 
   pub stands_among : HasCounts (first_count e) (second_count e) (terminals_of e) → All (IsAmong layout.nodes) (mentions e)
       → slice_index layout.branches_before place + branch_phases e ≤ length layout.branches
-      → StandsAmong (complex_count layout) (ends_of layout place e) e
-  stands_among counts among room =
+      → slice_index layout.magnitudes_before place + magnitude_phases e ≤ length layout.magnitudes
+      → StandsAmong (complex_count layout) (size_of layout) (first_magnitude layout place) (ends_of layout place e) e
+  stands_among counts among room behind =
       let below = sides_below layout.nodes (complex_count layout) (omega arith) (terminals_of e) among in
       record {
         first = record { count = length-map (terminals_of e).first (node_at layout.nodes) ∙ counts.at_first; below = below.0 };
         second = record { count = length-map (terminals_of e).second (node_at layout.nodes) ∙ counts.at_second; below = below.1 };
         branches = branches_below (branch_phases e == 0) room;
+        magnitudes = record { behind = omega arith; below = omega arith };
       }
 
 -- an element of one phase or of three has some
@@ -86,16 +91,20 @@ some_phases phases (inl h) = omega arith
 some_phases phases (inr h) = omega arith
 
 -- the branches of an element with phases
-pub has_branches : (n : ℕ) (at : Ends) (e : Element) → 1 ≤ branch_phases e → StandsAmong n at e → HasBranches n (branch_phases e) at
-has_branches n at e some p = record { some = some; below = p.branches }
+pub has_branches : (n size magnitude : ℕ) (at : Ends) (e : Element) → 1 ≤ branch_phases e → StandsAmong n size magnitude at e → HasBranches n (branch_phases e) at
+has_branches n size magnitude at e some p = record { some = some; below = p.branches }
 
-pub sited : (n : ℕ) (at : Ends) (e : Element) → ElementInRange e → StandsAmong n at e → IsSited n at e
-sited n at (the.Vsource v) r p = (p.first, has_branches n at (the.Vsource v) (some_phases v.phases r.phases) p)
-sited n at (the.Line l) r p = (p.first, p.second, has_branches n at (the.Line l) r.phases.least p)
-sited n at (the.Load l) r p = p.first
-sited n at (the.Linecode c) r p = tt
-sited n at (the.Transformer t) r p = tt
-sited n at (the.Capacitor c) r p = tt
-sited n at (the.RegControl c) r p = tt
-sited n at (the.CapControl c) r p = tt
-sited n at (the.Loadshape s) r p = tt
+-- the magnitudes of a load of constant current
+load_magnitudes : (n size magnitude : ℕ) (l : Load) → HasMagnitudes n size (magnitude_phases (the.Load l)) magnitude → l.model ≡ 5 → HasMagnitudes n size l.phases magnitude
+load_magnitudes n size magnitude l h five = subst (λ model. HasMagnitudes n size (if model == 5 then l.phases else 0) magnitude) five h
+
+pub sited : (n size magnitude : ℕ) (at : Ends) (e : Element) → ElementInRange e → StandsAmong n size magnitude at e → IsSited n size magnitude at e
+sited n size magnitude at (the.Vsource v) r p = (p.first, has_branches n size magnitude at (the.Vsource v) (some_phases v.phases r.phases) p)
+sited n size magnitude at (the.Line l) r p = (p.first, p.second, has_branches n size magnitude at (the.Line l) r.phases.least p)
+sited n size magnitude at (the.Transformer t) r p = (p.first, p.second, has_branches n size magnitude at (the.Transformer t) (some_phases t.phases r.phases) p)
+sited n size magnitude at (the.Capacitor c) r p = p.first
+sited n size magnitude at (the.Load l) r p = (p.first, load_magnitudes n size magnitude l p.magnitudes)
+sited n size magnitude at (the.Linecode c) r p = tt
+sited n size magnitude at (the.RegControl c) r p = tt
+sited n size magnitude at (the.CapControl c) r p = tt
+sited n size magnitude at (the.Loadshape s) r p = tt

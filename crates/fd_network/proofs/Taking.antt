@@ -1,14 +1,15 @@
 -- Elements taken one after another, each with its own settings.
-use Rattle.std.proofs.Common.{◌≡◌, ◌∙◌, ℕ, zero, suc, ◌+◌, ◌≤◌, List, [], ◌∷◌, ◌++◌, length, length-drop, take, drop, slice_get, Some, add-zero, arith, ap, refl, sym, subst}
-use Rattle.std.proofs.lemmas.List.Elements.{All-drop}
+use Rattle.std.proofs.Common.{◌≡◌, ◌∙◌, ℕ, zero, suc, ◌+◌, ◌≤◌, List, [], ◌∷◌, ◌++◌, length, length-drop, take, drop, slice_get, Some, add-zero, arith, ap, sym, subst}
+use Rattle.std.proofs.lemmas.List.{length-take-le}
+use Rattle.std.proofs.lemmas.List.Elements.{All-drop, All-take}
 use Rattle.dss_profile.specs.declared.element.Element.{Element}
-use Rattle.dss_profile.specs.declared.element.Element.TheVariants as the
 use Rattle.dss_profile.specs.declared.names.ElementName.{ElementName}
 use Rattle.dss_layout.specs.Layout.{Elements, LayoutView}
+use Rattle.fd_xfmr.specs.Leakage.{AreTaps}
 use Rattle.fd_devices.specs.Building.{IsModest}
 use Rattle.fd_devices.specs.Devices.{Device}
 use Rattle.fd_devices.specs.Scripted.{device_of, devices_from}
-use Rattle.fd_devices.specs.Settings.{Settings, after, bank_count, own, power_count, tap_count, with_powers}
+use Rattle.fd_devices.specs.Settings.{AreOwn, Settings, after, bank_count, own, power_count, tap_count}
 use Rattle.fd_network.specs.Collecting.{AreTakenFrom, HasPlace, IsTakenAt}
 
 -- ---- the first of the rest
@@ -27,7 +28,17 @@ first_taken layout hertz place e es s h = record {
     closed = (counted s.closed (bank_count e.1) _ h.settings.closed).0;
     powers = (counted s.powers (power_count e.1) _ h.settings.powers).0;
   };
+  within = h.within;
   modest = h.modest;
+}
+
+-- its own settings
+pub own_settings : (layout : LayoutView) (hertz place : ℕ) (e : Element) (s : Settings) → IsTakenAt layout hertz place e s → AreOwn e (own e s)
+own_settings layout hertz place e s h = record {
+  taps = length-take-le (tap_count e) s.taps h.own.taps;
+  closed = length-take-le (bank_count e) s.closed h.own.closed;
+  powers = length-take-le (power_count e) s.powers h.own.powers;
+  within = All-take AreTaps (tap_count e) s.taps h.within;
 }
 
 pub rest_taken : (layout : LayoutView) (hertz place : ℕ) (e : ElementName × Element) (es : Elements) (s : Settings) → AreTakenFrom layout hertz place (e ∷ es) s → AreTakenFrom layout hertz (place + 1) es (after e.1 s)
@@ -40,6 +51,7 @@ rest_taken layout hertz place e es s h = record {
     closed = (counted s.closed (bank_count e.1) _ h.settings.closed).1;
     powers = (counted s.powers (power_count e.1) _ h.settings.powers).1;
   };
+  within = All-drop AreTaps (tap_count e.1) s.taps h.within;
   modest = All-drop IsModest (power_count e.1) s.powers h.modest;
 }
 
@@ -91,12 +103,3 @@ module _ (layout : LayoutView) (hertz : ℕ) (es : Elements) (ds : List Device) 
 -- a walk begins
 pub begun_at : (layout : LayoutView) (hertz : ℕ) (es : Elements) (s left : Settings) → left ≡ s → AreTakenFrom layout hertz 0 es s → IsAt layout hertz es (devices_from layout hertz 0 es s) 0 left
 begun_at layout hertz es s left e h = subst (IsAt layout hertz es (devices_from layout hertz 0 es s) 0) (sym e) (record { taken = h; rest = λ i. devices_from layout hertz 0 es s })
-
--- ---- one device
-
--- of the settings only the powers are looked at
-pub device_by_powers : (layout : LayoutView) (hertz place : ℕ) (e : Element) (s : Settings) → device_of layout hertz place e (with_powers s.powers) ≡ device_of layout hertz place e s
-device_by_powers layout hertz place (the.Vsource v) s = refl
-device_by_powers layout hertz place (the.Line l) s = refl
-device_by_powers layout hertz place (the.Load l) s = refl
-device_by_powers layout hertz place e s = refl

@@ -3,6 +3,7 @@ use Rattle.std.specs.Prelude.{◌≡◌, ℕ, ◌+◌, ◌<◌, ◌≤◌, ◌^�
 use Rattle.dss_profile.specs.Ranges.{IsOneOf}
 use Rattle.dss_profile.specs.declared.element.Element.{Element}
 use Rattle.dss_layout.specs.Layout.{Elements, LayoutView, complex_count, first_magnitude}
+use Rattle.fd_xfmr.specs.Leakage.{AreTaps}
 use Rattle.fd_devices.specs.Building.{Fits, IsModest}
 use Rattle.fd_devices.specs.Devices.{Device}
 use Rattle.fd_devices.specs.Settings.{AreSettings, Settings, bank_count, power_count, tap_count}
@@ -13,8 +14,9 @@ use Rattle.fd_network.specs.Places.{AreReadyFrom, IsReadyAt}
 
 -- ---- settings
 
-abbrev pub settings_in : SettingsLeft → Settings
-settings_in s = record { taps = s.taps.now; closed = s.closed.now; powers = s.powers.now }
+-- those that are left of all elements'
+abbrev pub settings_left : SettingsLeft → Settings
+settings_left s = record { taps = s.taps.now; closed = s.closed.now; powers = s.powers.now }
 
 -- there are as many of each kind as an element has
 pub record HasOwn (e : Element) (s : Settings) : Type 0 where
@@ -37,6 +39,7 @@ pub record IsTakenAt (layout : LayoutView) (hertz place : ℕ) (e : Element) (s 
   pub known : HasPlace layout place
   pub ready : IsReadyAt layout place e
   pub own : HasOwn e s
+  pub within : All AreTaps s.taps
   pub modest : All IsModest s.powers
 
 -- elements of which the first stands at a place in order, each ready at its place, with their settings
@@ -45,6 +48,7 @@ pub record AreTakenFrom (layout : LayoutView) (hertz place : ℕ) (elements : El
   pub places : (k : ℕ) → k < length elements → HasPlace layout (place + k)
   pub ready : AreReadyFrom layout place elements
   pub settings : AreSettings elements s
+  pub within : All AreTaps s.taps
   pub modest : All IsModest s.powers
 
 -- ---- faults

@@ -2,16 +2,14 @@
 use Rattle.std.specs.Prelude.{ℕ, ◌+◌, [], ◌∷◌}
 use Rattle.dss_profile.specs.declared.element.Element.{Element}
 use Rattle.dss_profile.specs.InRange.{ElementInRange}
-use Rattle.dss_layout.specs.Layout.{Elements, LayoutView, complex_count, ends_of}
-use Rattle.fd_devices.specs.Building.{IsCovered}
+use Rattle.dss_layout.specs.Layout.{Elements, LayoutView, complex_count, ends_of, first_magnitude, size_of}
 use Rattle.fd_devices.specs.Sound.{IsSited, IsSound}
 
--- its values are in range and sound, and its nodes and branches are among the unknowns of the layout
+-- its values are in range and sound, and its nodes, branches and magnitudes are among the unknowns of the layout
 pub record IsReadyAt (layout : LayoutView) (place : ℕ) (e : Element) : Type 0 where
   pub in_range : ElementInRange e
   pub sound : IsSound e
-  pub covered : IsCovered e
-  pub sited : IsSited (complex_count layout) (ends_of layout place e) e
+  pub sited : IsSited (complex_count layout) (size_of layout) (first_magnitude layout place) (ends_of layout place e) e
 
 -- the same of elements of which the first stands at a place in order
 abbrev pub AreReadyFrom : LayoutView → ℕ → Elements → Type 0

@@ -5,7 +5,7 @@ ghost use Rattle.dss_layout.specs.Layout.{branch_phases, complex_count};
 ghost use Rattle.fd_devices.specs.Building.{AreInRange, Fits};
 ghost use Rattle.fd_devices.specs.Devices.{AgreesWith, parts_of_all, share_of_all};
 ghost use Rattle.fd_devices.specs.Scripted.{devices_from, devices_network, layout_counts};
-ghost use Rattle.fd_network.specs.Collecting.{AreTakenFrom, NamesPlace, settings_in};
+ghost use Rattle.fd_network.specs.Collecting.{AreTakenFrom, NamesPlace, settings_left};
 ghost use Rattle.fd_network.specs.Faults.{first_out_of_range, first_without, has_small_sums};
 
 use crate::fault::PlaceFault;
@@ -30,16 +30,16 @@ pub fn assemble(
     elements: &IndexMap<ElementName, Element>,
     settings: &SettingsLeft,
 ) -> Result<Network, PlaceFault>
-    requires taken { AreTakenFrom layout.now hertz 0 elements.now.entries (settings_in settings.now) }
+    requires taken { AreTakenFrom layout.now hertz 0 elements.now.entries (settings_left settings.now) }
     requires few { length elements.now.entries ≤ 2 ^ 17 }
     requires few_branches { list_n (λ e. branch_phases e.1) elements.now.entries ≤ 240 }
     requires few_complexes { complex_count layout.now ≤ 240 }
     requires few_magnitudes { length layout.now.magnitudes ≤ 48 }
-    ensures network { IfOk result (λ n. n ≡ devices_network layout.now (devices_from layout.now hertz 0 elements.now.entries (settings_in settings.now))) }
-    ensures agrees { IfOk result (λ n. AgreesWith n.share (parts_of_all (devices_from layout.now hertz 0 elements.now.entries (settings_in settings.now)))) }
-    ensures in_range { IfOk result (λ n. AreInRange (devices_from layout.now hertz 0 elements.now.entries (settings_in settings.now))) }
-    ensures no_fault { IfOk result (λ n. first_out_of_range (devices_from layout.now hertz 0 elements.now.entries (settings_in settings.now)) ≡ None) }
-    ensures fault { IfErr result (NamesPlace (first_out_of_range (devices_from layout.now hertz 0 elements.now.entries (settings_in settings.now)))) }
+    ensures network { IfOk result (λ n. n ≡ devices_network layout.now (devices_from layout.now hertz 0 elements.now.entries (settings_left settings.now))) }
+    ensures agrees { IfOk result (λ n. AgreesWith n.share (parts_of_all (devices_from layout.now hertz 0 elements.now.entries (settings_left settings.now)))) }
+    ensures in_range { IfOk result (λ n. AreInRange (devices_from layout.now hertz 0 elements.now.entries (settings_left settings.now))) }
+    ensures no_fault { IfOk result (λ n. first_out_of_range (devices_from layout.now hertz 0 elements.now.entries (settings_left settings.now)) ≡ None) }
+    ensures fault { IfErr result (NamesPlace (first_out_of_range (devices_from layout.now hertz 0 elements.now.entries (settings_left settings.now)))) }
 {
     let Piece {
         constants,
@@ -50,7 +50,8 @@ pub fn assemble(
     let coefficients = Coefficients::of(alloc, layout.size(), terms)?;
     check_entries(alloc, layout, hertz, elements, settings, &coefficients)?;
     device_law();
-    Ok(Network::new(counts(layout), coefficients, constants, loads, draw))
+    let network = Network::new(alloc, counts(layout), coefficients, constants, loads, draw)?;
+    Ok(network)
 }
 
 // Whether each entry is small. The elements are walked again only where one isn't, to name the first that has a part in it.
@@ -62,11 +63,11 @@ fn check_entries(
     settings: &SettingsLeft,
     coefficients: &Coefficients,
 ) -> Result<(), PlaceFault>
-    requires taken { AreTakenFrom layout.now hertz 0 elements.now.entries (settings_in settings.now) }
-    requires fits { All Fits (devices_from layout.now hertz 0 elements.now.entries (settings_in settings.now)) }
-    requires terms { coefficients.now.terms ≡ (share_of_all (devices_from layout.now hertz 0 elements.now.entries (settings_in settings.now))).terms }
-    ensures small { OnOk result (AreInRange (devices_from layout.now hertz 0 elements.now.entries (settings_in settings.now))) }
-    ensures fault { IfErr result (NamesPlace (first_without (has_small_sums coefficients.now.terms) (devices_from layout.now hertz 0 elements.now.entries (settings_in settings.now)))) }
+    requires taken { AreTakenFrom layout.now hertz 0 elements.now.entries (settings_left settings.now) }
+    requires fits { All Fits (devices_from layout.now hertz 0 elements.now.entries (settings_left settings.now)) }
+    requires terms { coefficients.now.terms ≡ (share_of_all (devices_from layout.now hertz 0 elements.now.entries (settings_left settings.now))).terms }
+    ensures small { OnOk result (AreInRange (devices_from layout.now hertz 0 elements.now.entries (settings_left settings.now))) }
+    ensures fault { IfErr result (NamesPlace (first_without (has_small_sums coefficients.now.terms) (devices_from layout.now hertz 0 elements.now.entries (settings_left settings.now)))) }
 {
     if coefficients.are_within() {
         return Ok(());

@@ -18,3 +18,6 @@ mod pieces;
 mod settings;
 
 pub use network::{build, update};
+
+#[cfg(test)]
+mod tests;

@@ -2,7 +2,8 @@
 ghost use Rattle.std.specs.Prelude.{◌≡◌, All, IfErr, IfOk, None};
 ghost use Rattle.dss_layout.specs.Layout.{first_too_many, layout_of};
 ghost use Rattle.dss_ready.specs.Ready.{IsReady, own_blame};
-ghost use Rattle.fd_devices.specs.Building.{AreInRange, IsCovered, IsModest};
+ghost use Rattle.fd_xfmr.specs.Leakage.{AreTaps};
+ghost use Rattle.fd_devices.specs.Building.{AreInRange, IsModest};
 ghost use Rattle.fd_devices.specs.Devices.{AgreesWith};
 ghost use Rattle.fd_devices.specs.Scripted.{circuit_network, circuit_parts, devices_of};
 ghost use Rattle.fd_devices.specs.Settings.{AreSettings, settings_of};
@@ -20,10 +21,10 @@ use fd_equations::Network;
 use std::alloc::{AllocError, Global};
 
 /// The network of a circuit with these positions of its taps and banks and these powers of its load phases, in the order of its layout:
-/// nodes in order of first mention, then branch phases.
+/// nodes in order of first mention, then branch phases, then the magnitudes of loads of constant current.
 ///
-/// The circuit passed the tests of Solve, and the lists have its lengths. Powers are at most 10^17 thousandths of a volt-ampere in
-/// size.
+/// The circuit passed the tests of Solve, and the lists have its lengths. Taps are from 0.5 to 2, and powers at most 10^17 thousandths of a
+/// volt-ampere in size.
 ///
 /// # Errors
 /// `Range` exactly where a contribution, or the sum of those at one place, is past 2^54 in units of 2^-40, or a load phase is past its limit: the
@@ -36,8 +37,8 @@ pub fn build(
     powers: &Powers,
 ) -> Result<Network, BuildFault>
     requires ready { IsReady (own_blame ⟦<ElementName as PartialEq>⟧.eq ⟦<Mention as PartialEq>⟧.eq circuit.now.options.defaultbasefrequency circuit.now.elements) circuit.now.elements }
-    requires covered { All (λ e. IsCovered e.1) circuit.now.elements }
     requires settings { AreSettings circuit.now.elements (settings_of at.now powers.now) }
+    requires within { All AreTaps at.now.taps }
     requires modest { All IsModest powers.now.loads }
     ensures network { IfOk result (λ n. n ≡ circuit_network circuit.now (settings_of at.now powers.now)) }
     ensures agrees { IfOk result (λ n. AgreesWith n.share (circuit_parts circuit.now (settings_of at.now powers.now))) }
@@ -81,8 +82,8 @@ pub fn update(
     powers: &Powers,
 ) -> Result<(), BuildFault>
     requires ready { IsReady (own_blame ⟦<ElementName as PartialEq>⟧.eq ⟦<Mention as PartialEq>⟧.eq circuit.now.options.defaultbasefrequency circuit.now.elements) circuit.now.elements }
-    requires covered { All (λ e. IsCovered e.1) circuit.now.elements }
     requires settings { AreSettings circuit.now.elements (settings_of at.now powers.now) }
+    requires within { All AreTaps at.now.taps }
     requires modest { All IsModest powers.now.loads }
     ensures network { IfOk result (λ _. net.new ≡ circuit_network circuit.now (settings_of at.now powers.now)) }
     ensures agrees { IfOk result (λ _. AgreesWith net.new.share (circuit_parts circuit.now (settings_of at.now powers.now))) }

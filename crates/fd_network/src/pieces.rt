@@ -1,13 +1,13 @@
 // What the elements of a circuit add, one after another.
 ghost use Rattle.std.specs.Prelude.{◌≡◌, ◌≤◌, ◌^◌, ◌↔◌, All, IfErr, IfOk, IsTrue, OnOk, length};
-ghost use Rattle.dss_layout.specs.Layout.{branch_phases, complex_count};
+ghost use Rattle.dss_layout.specs.Layout.{branch_phases, complex_count, size_of};
 ghost use Rattle.fd_system.specs.Contributions.{AreSmall};
 ghost use Rattle.fd_equations.specs.Coefficients.{linear_entry};
 ghost use Rattle.fd_devices.specs.Building.{AreCollected, Fits, HasSmallSums, IsSettled};
 ghost use Rattle.fd_devices.specs.Devices.{added_by, added_of, share_of_all};
 ghost use Rattle.fd_devices.specs.Scripted.{device_of, devices_from};
 ghost use Rattle.fd_devices.specs.Settings.{own};
-ghost use Rattle.fd_network.specs.Collecting.{AreTakenFrom, IsMisfit, IsTakenAt, NamesPlace, settings_in};
+ghost use Rattle.fd_network.specs.Collecting.{AreTakenFrom, IsMisfit, IsTakenAt, NamesPlace, settings_left};
 ghost use Rattle.fd_network.specs.Faults.{first_without, fits, has_small_sums};
 
 use crate::fault::PlaceFault;
@@ -29,19 +29,13 @@ fn piece_at(
     element: &Element,
     left: &SettingsLeft,
 ) -> Result<Piece, PlaceFault>
-    requires { IsTakenAt layout.now hertz place element.now (settings_in left.now) }
-    ensures added { IfOk result (λ p. added_of p ≡ added_by (device_of layout.now hertz place element.now (own element.now (settings_in left.now)))) }
-    ensures settled { IfOk result (λ p. IsSettled (complex_count layout.now) (branch_phases element.now) (device_of layout.now hertz place element.now (own element.now (settings_in left.now)))) }
-    ensures fault { IfErr result (IsMisfit place (device_of layout.now hertz place element.now (own element.now (settings_in left.now)))) }
+    requires { IsTakenAt layout.now hertz place element.now (settings_left left.now) }
+    ensures added { IfOk result (λ p. added_of p ≡ added_by (device_of layout.now hertz place element.now (own element.now (settings_left left.now)))) }
+    ensures settled { IfOk result (λ p. IsSettled (complex_count layout.now) (size_of layout.now) (branch_phases element.now) (device_of layout.now hertz place element.now (own element.now (settings_left left.now)))) }
+    ensures fault { IfErr result (IsMisfit place (device_of layout.now hertz place element.now (own element.now (settings_left left.now)))) }
 {
-    match piece_of(
-        alloc,
-        layout,
-        hertz,
-        place,
-        element,
-        left.own(element).powers,
-    ) {
+    let own = left.own(element);
+    match piece_of(alloc, layout, hertz, place, element, &own) {
         Ok(piece) => Ok(piece),
         Err(TermFault::Range) => Err(PlaceFault::OutOfRange(place)),
         Err(TermFault::NoMemory) => Err(PlaceFault::NoMemory),
@@ -60,10 +54,10 @@ pub fn collect(
     elements: &IndexMap<ElementName, Element>,
     settings: &SettingsLeft,
 ) -> Result<Piece, PlaceFault>
-    requires taken { AreTakenFrom layout.now hertz 0 elements.now.entries (settings_in settings.now) }
+    requires taken { AreTakenFrom layout.now hertz 0 elements.now.entries (settings_left settings.now) }
     requires few { length elements.now.entries ≤ 2 ^ 17 }
-    ensures collected { IfOk result (λ p. AreCollected (complex_count layout.now) elements.now.entries (devices_from layout.now hertz 0 elements.now.entries (settings_in settings.now)) (added_of p)) }
-    ensures fault { IfErr result (NamesPlace (first_without fits (devices_from layout.now hertz 0 elements.now.entries (settings_in settings.now)))) }
+    ensures collected { IfOk result (λ p. AreCollected (complex_count layout.now) (size_of layout.now) elements.now.entries (devices_from layout.now hertz 0 elements.now.entries (settings_left settings.now)) (added_of p)) }
+    ensures fault { IfErr result (NamesPlace (first_without fits (devices_from layout.now hertz 0 elements.now.entries (settings_left settings.now)))) }
 {
     let mut made = Piece::empty(alloc);
     let mut left = *settings;
@@ -90,11 +84,11 @@ pub fn check_sums(
     settings: &SettingsLeft,
     coefficients: &Coefficients,
 ) -> Result<(), PlaceFault>
-    requires taken { AreTakenFrom layout.now hertz 0 elements.now.entries (settings_in settings.now) }
-    requires fits { All Fits (devices_from layout.now hertz 0 elements.now.entries (settings_in settings.now)) }
-    requires terms { coefficients.now.terms ≡ (share_of_all (devices_from layout.now hertz 0 elements.now.entries (settings_in settings.now))).terms }
-    ensures small { OnOk result (All (HasSmallSums coefficients.now.terms) (devices_from layout.now hertz 0 elements.now.entries (settings_in settings.now))) }
-    ensures fault { IfErr result (NamesPlace (first_without (has_small_sums coefficients.now.terms) (devices_from layout.now hertz 0 elements.now.entries (settings_in settings.now)))) }
+    requires taken { AreTakenFrom layout.now hertz 0 elements.now.entries (settings_left settings.now) }
+    requires fits { All Fits (devices_from layout.now hertz 0 elements.now.entries (settings_left settings.now)) }
+    requires terms { coefficients.now.terms ≡ (share_of_all (devices_from layout.now hertz 0 elements.now.entries (settings_left settings.now))).terms }
+    ensures small { OnOk result (All (HasSmallSums coefficients.now.terms) (devices_from layout.now hertz 0 elements.now.entries (settings_left settings.now))) }
+    ensures fault { IfErr result (NamesPlace (first_without (has_small_sums coefficients.now.terms) (devices_from layout.now hertz 0 elements.now.entries (settings_left settings.now)))) }
 {
     let mut left = *settings;
     let entries = elements.as_slice();

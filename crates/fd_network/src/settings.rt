@@ -1,11 +1,11 @@
 // The settings of elements, taken in turn.
 ghost use Rattle.std.specs.Prelude.{◌≡◌, ◌≤◌};
-ghost use Rattle.fd_devices.specs.Settings.{after, bank_count, own, power_count, settings_of, tap_count};
-ghost use Rattle.fd_network.specs.Collecting.{HasOwn, settings_in};
+ghost use Rattle.fd_devices.specs.Settings.{after, bank_count, own, power_count, settings_in, settings_of, tap_count};
+ghost use Rattle.fd_network.specs.Collecting.{HasOwn, settings_left};
 
 use dss_profile::Element;
 use fd_arith::TapPair;
-use fd_devices::{Positions, Powers};
+use fd_devices::{OwnSettings, Positions, Powers};
 use fd_elements::LoadPower;
 
 /// The settings of the elements that follow, each kind in order of definition.
@@ -19,7 +19,7 @@ pub struct SettingsLeft<'a> {
 impl<'a> SettingsLeft<'a> {
     /// The settings of all elements.
     pub fn of(at: &'a Positions, powers: &'a Powers) -> Self
-        ensures { settings_in result ≡ settings_of at.now powers.now }
+        ensures { settings_left result ≡ settings_of at.now powers.now }
     {
         SettingsLeft {
             taps: at.taps.as_slice(),
@@ -29,11 +29,11 @@ impl<'a> SettingsLeft<'a> {
     }
 
     /// Those of the first element.
-    pub fn own(&self, element: &Element) -> Self
-        requires { HasOwn element.now (settings_in self.now) }
-        ensures { settings_in result ≡ own element.now (settings_in self.now) }
+    pub fn own(&self, element: &Element) -> OwnSettings<'a>
+        requires { HasOwn element.now (settings_left self.now) }
+        ensures { settings_in result ≡ own element.now (settings_left self.now) }
     {
-        SettingsLeft {
+        OwnSettings {
             taps: &self.taps[..tap_count(element)],
             closed: &self.closed[..bank_count(element)],
             powers: &self.powers[..power_count(element)],
@@ -42,8 +42,8 @@ impl<'a> SettingsLeft<'a> {
 
     /// Those of the elements after it.
     pub fn after(&self, element: &Element) -> Self
-        requires { HasOwn element.now (settings_in self.now) }
-        ensures { settings_in result ≡ after element.now (settings_in self.now) }
+        requires { HasOwn element.now (settings_left self.now) }
+        ensures { settings_left result ≡ after element.now (settings_left self.now) }
     {
         SettingsLeft {
             taps: &self.taps[tap_count(element)..],
@@ -74,7 +74,7 @@ fn bank_count(element: &Element) -> usize
 }
 
 // How many load phases an element has.
-fn power_count(element: &Element) -> usize
+pub(crate) fn power_count(element: &Element) -> usize
     ensures { result ≡ power_count element.now }
 {
     match element {

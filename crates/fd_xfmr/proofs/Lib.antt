@@ -1,3 +1,3 @@
 mod Lists
-mod Products
-mod Transformer
+pub mod Products
+pub mod Transformer

@@ -1,7 +1,7 @@
 // Scripts whose Solves give solutions, and scripts at whose last Solve the run ends, each with what is due for it.
 
 /// Scripts that are done to their end, and what is printed.
-pub(super) const SOLVED: [(&str, &str); 9] = [
+pub(super) const SOLVED: [(&str, &str); 14] = [
     // A source, a line and a load, of one phase each.
     (
         "Clear
@@ -188,11 +188,117 @@ branch,line.l,2,-190.180737,-92.618100,0.000004,0.000005
 branch,line.l,3,10.543475,179.807335,0.000004,0.000005
 ",
     ),
+    // A load of constant power, beside a bank that is open and draws nothing.
+    (
+        "Clear
+New Circuit.h basekv=1 phases=1 r1=0.5 x1=0 r0=0.5 x0=0
+New Line.l phases=1 bus1=sourcebus.1 bus2=b.1 r1=0.5 x1=0 r0=0.5 x0=0
+New Load.d phases=1 bus1=b.1 kv=1 kw=90 kvar=0 vminpu=0.85
+New Capacitor.k phases=1 bus1=b.1 kv=1 kvar=30 states=[0]
+Solve
+",
+        "solution,1,0,0
+node,sourcebus.1,950.000000,0.000000,0.000000,0.000000
+node,b.1,900.000000,0.000000,0.000000,0.000000
+branch,vsource.source,1,100.000000,0.000000,0.000000,0.000000
+branch,line.l,1,100.000000,0.000000,0.000000,0.000000
+",
+    ),
+    // Constant power below the load's lower limit, where it draws as an impedance.
+    (
+        "Clear
+New Circuit.h basekv=1 phases=1 r1=0.5 x1=0 r0=0.5 x0=0
+New Line.l phases=1 bus1=sourcebus.1 bus2=b.1 r1=0.5 x1=0 r0=0.5 x0=0
+New Load.d phases=1 bus1=b.1 kv=1 kw=200 kvar=0 vminpu=0.95
+Solve
+",
+        "solution,1,0,0
+node,sourcebus.1,909.297052,0.000000,0.000000,0.000000
+node,b.1,818.594105,0.000000,0.000001,0.000000
+branch,vsource.source,1,181.405895,0.000000,0.000001,0.000000
+branch,line.l,1,181.405895,0.000000,0.000001,0.000000
+",
+    ),
+    // Constant power at its lower limit.
+    (
+        "Clear
+New Circuit.h basekv=1 phases=1 r1=0.5 x1=0 r0=0.5 x0=0
+New Line.l phases=1 bus1=sourcebus.1 bus2=b.1 r1=0.5 x1=0 r0=0.5 x0=0
+New Load.d phases=1 bus1=b.1 kv=1 kw=47.5 kvar=0 vminpu=0.95
+Solve
+",
+        "solution,1,0,0
+node,sourcebus.1,975.000000,0.000000,0.000000,0.000000
+node,b.1,950.000000,0.000000,0.000000,0.000000
+branch,vsource.source,1,50.000000,0.000000,0.000000,0.000000
+branch,line.l,1,50.000000,0.000000,0.000000,0.000000
+",
+    ),
+    // Constant current, with its magnitude.
+    (
+        "Clear
+New Circuit.h basekv=1 phases=1 r1=0.5 x1=0 r0=0.5 x0=0
+New Line.l phases=1 bus1=sourcebus.1 bus2=b.1 r1=0.5 x1=0 r0=0.5 x0=0
+New Load.d phases=1 bus1=b.1 kv=1 kw=100 model=5 kvar=0 vminpu=0.85
+Solve
+",
+        "solution,1,0,0
+node,sourcebus.1,950.000000,0.000000,0.000000,0.000000
+node,b.1,899.999999,0.000000,0.000000,0.000000
+branch,vsource.source,1,100.000000,0.000000,0.000000,0.000000
+branch,line.l,1,100.000000,0.000000,0.000001,0.000000
+magnitude,load.d,1,899.999999,0.000000
+",
+    ),
+    // A delta-wye transformer and two of one phase, a bank that is closed, and loads of each model.
+    (
+        "Clear
+New Circuit.d basekv=4.16 pu=1.02 angle=30 mvasc3=200 mvasc1=210
+New Linecode.a nphases=3 rmatrix=(0.35 | 0.16 0.34 | 0.16 0.15 0.34) xmatrix=(1.02 | 0.5 1.05 | 0.42 0.38 1.03) cmatrix=(50 | -9 50 | -9 -9 50) units=mi
+New Line.l bus1=sourcebus bus2=m linecode=a length=2000 units=ft
+New Transformer.t buses=[m n] conns=[delta wye] kvs=[4.16 0.48] kvas=[500 500] %rs=[0.5 0.5] xhl=4
+New Load.a bus1=n kv=0.48 conn=delta kw=60 pf=0.9 vminpu=0.8 vmaxpu=1.2
+New Load.b bus1=n.1 phases=1 kv=0.277 kw=20 kvar=5 model=5 vminpu=0.8 vmaxpu=1.2
+New Load.c bus1=m.1.2 phases=1 conn=delta kv=4.16 kw=30 model=2
+New Capacitor.k bus1=n kv=0.48 kvar=30
+New Transformer.u phases=1 windings=2 buses=[m.1 q.1] kvs=[2.4 0.24] kvas=[50 50] %loadloss=1.5 xhl=2
+New Transformer.w phases=1 conns=[delta wye] buses=[m.2.3 q.2.0] kvs=[4.16 0.24] kvas=[50 50] %rs=[0.5 0.7] xhl=2
+New Load.q phases=1 bus1=q.1 kv=0.24 kw=15
+New Load.r phases=1 bus1=q.1.2 conn=delta kv=0.48 kw=3
+Set voltagebases=[4.16 0.48]
+Solve
+",
+        "solution,1,0,0
+node,sourcebus.1,2121.705950,1222.563984,0.000002,0.000002
+node,sourcebus.2,-0.932269,-2448.914954,0.000003,0.000003
+node,sourcebus.3,-2120.908546,1225.815178,0.000002,0.000002
+node,m.1,2120.867676,1215.015312,0.000008,0.000005
+node,m.2,-3.742976,-2448.513236,0.000005,0.000005
+node,m.3,-2119.050631,1226.799228,0.000004,0.000004
+node,n.1,281.475610,-3.343297,0.000004,0.000002
+node,n.2,-142.527691,-243.141810,0.000003,0.000002
+node,n.3,-139.630490,245.242874,0.000002,0.000003
+node,q.1,210.934396,119.697080,0.000002,0.000002
+node,q.2,121.996148,-211.891641,0.000001,0.000001
+branch,vsource.source,1,26.307783,7.942934,0.000004,0.000004
+branch,vsource.source,2,-7.109243,-12.779245,0.000003,0.000004
+branch,vsource.source,3,-11.785388,5.394550,0.000005,0.000004
+branch,line.l,1,26.312934,7.933996,0.000003,0.000003
+branch,line.l,2,-7.119560,-12.779242,0.000004,0.000003
+branch,line.l,3,-11.780224,5.403484,0.000003,0.000004
+branch,transformer.t,1,143.096350,-17.202452,0.000003,0.000003
+branch,transformer.t,2,-33.944260,-62.293764,0.000002,0.000004
+branch,transformer.t,3,-37.007653,60.500533,0.000003,0.000002
+branch,transformer.u,1,74.131364,5.582422,0.000003,0.000002
+branch,transformer.w,1,-3.865288,-4.091427,0.000002,0.000003
+magnitude,load.b,1,281.495465,0.000001
+",
+    ),
 ];
 
 /// Scripts at whose last Solve the run ends, the status, and what is printed.
 pub(super) const ENDED: [(&str, u8, &str); 7] = [
-    // A Transformer isn't solved yet.
+    // A control of taps isn't solved yet.
     (
         "New Circuit.r basekv=2.34 phases=1 r1=0 x1=0 r0=0 x0=0
 New Transformer.t phases=1 buses=[sourcebus.1 b.1] kvs=[2.4 2.4] kvas=[1000 1000] xhl=1
@@ -201,10 +307,10 @@ New Load.d phases=1 bus1=b.1 kv=2.4 kw=500 kvar=200 vminpu=0.8
 Solve
 ",
         3,
-        "fault,script,m.dss,2,not built
+        "fault,script,m.dss,3,not built
 ",
     ),
-    // A load of constant power before a Capacitor: the first in order is named.
+    // Nor is a control of a bank.
     (
         "New Circuit.b basekv=4.16 mvasc3=60 mvasc1=60
 New Line.l bus1=sourcebus bus2=m r1=0.2 x1=0.6 r0=0.5 x0=1.5 c1=12 c0=7 length=1.5
@@ -214,7 +320,7 @@ New CapControl.k element=line.l terminal=1 capacitor=k type=kvar onsetting=500 o
 Solve
 ",
         3,
-        "fault,script,m.dss,3,not built
+        "fault,script,m.dss,5,not built
 ",
     ),
     // The sum of two lines' charging is out of range: the first of them is named.

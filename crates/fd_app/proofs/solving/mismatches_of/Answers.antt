@@ -4,8 +4,7 @@ use Rattle.fd_arith.specs.Interval.{Bounds, Holds}
 use Rattle.fd_system.specs.Meets.{Meets}
 use Rattle.fd_system.specs.Residual.{greater_size, whole_state}
 use Rattle.fd_system.specs.System.{residual_of}
-use Rattle.fd_equations.specs.Coefficients.{row_count}
-use Rattle.fd_equations.specs.Enclosure.{EndsWithin}
+use Rattle.fd_equations.specs.Enclosure.{EndsWithin, summand_count}
 use Rattle.fd_app.specs.Solving.{mismatches_of}
 use Rattle.fd_app.proofs.SnapshotNetworks.{meets_rows, mismatches_by}
 use Rattle.fd_app.proofs.Streams.{if_ok_weaker}
@@ -20,7 +19,7 @@ returns-clause-meets c =
     let v = c.args.net.now in
     let x = c.args.x.now in
     let H : List Bounds → Type 0 = λ rows. (l : ℕ) → l < v.size → Holds (get_or rows l None) (residual_of v.share (whole_state x) l) in
-    let N : List Bounds → Type 0 = λ rows. (l : ℕ) → l < v.size → EndsWithin (get_or rows l None) (residual_of v.share (whole_state x) l) (2 * row_count v.share.terms l) in
+    let N : List Bounds → Type 0 = λ rows. (l : ℕ) → l < v.size → EndsWithin (get_or rows l None) (residual_of v.share (whole_state x) l) (2 * summand_count v.share l) in
     let E : List ℤ → Type 0 = λ e. Meets (residual_of v.share) e v.size (whole_state x) in
     let meets = meets_rows v x (subst H c.in_ok-rows.ensures.rows c.in_ok-rows.ensures.holds) (subst N c.in_ok-rows.ensures.rows c.in_ok-rows.ensures.near) in
     if_ok_weaker c.mismatches_in.result (λ e. e.items ≡ mismatches_of v x) _ (λ e is. subst E (sym is) meets) (returns-clause-mismatches c)

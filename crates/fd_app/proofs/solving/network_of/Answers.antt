@@ -3,17 +3,14 @@ use Rattle.dss_profile.specs.declared.command.Blame.{Blame}
 use Rattle.fd_equations.specs.Views.{NetworkView}
 use Rattle.fd_devices.specs.Settings.{AreSettings}
 use Rattle.fd_network.specs.Faults.{IsFaultOf}
-use Rattle.fd_app.proofs.SnapshotNetworks.{all_covered, same_settings, settled_blame, settled_network, snapshot_settings}
+use Rattle.fd_app.proofs.SnapshotNetworks.{same_settings, settled_blame, settled_network}
 use Rattle.fd_app.proofs.solving.network_of.Goals as goal
-
-pub build-requires-clause-covered : goal.build-requires-clause-covered
-build-requires-clause-covered c = all_covered c.args.circuit.now.elements c.requires.built
 
 pub build-requires-clause-settings : goal.build-requires-clause-settings
 build-requires-clause-settings c =
     let elements = c.args.circuit.now.elements in
     let is = same_settings c.in_ok-positions.positions c.in_ok-powers.powers elements c.in_ok-positions.ensures.taps c.in_ok-positions.ensures.closed c.in_ok-powers.ensures.powers in
-    subst (AreSettings elements) (sym is) (snapshot_settings elements)
+    subst (AreSettings elements) (sym is) (c.snapshot_law.ensures elements).counts
 
 pub returns-clause-network : goal.returns-clause-network
 returns-clause-network c =

@@ -11,4 +11,4 @@ pub returns-clause-settled : goal.returns-clause-settled
 returns-clause-settled c =
     let is = c.in_ok-phases.ensures.phases in
     let usable = subst (All IsUsable) is c.in_ok-phases.ensures.usable in
-    IfOk-weaker c.phases_at.result _ _ (λ p fits. phases_settled c.args.load.now c.args.nodes.now c.args.magnitude c.args.powers.now c.requires.range.phases usable (subst (λ (us : List LoadAt). Fits (loads us)) is fits)) c.phases_at.ensures.fits
+    IfOk-weaker c.phases_at.result _ _ (λ p fits. phases_settled c.args.load.now c.args.nodes.now c.args.magnitude c.args.powers.now c.requires.range usable (subst (λ (us : List LoadAt). Fits (loads us)) is fits)) c.phases_at.ensures.fits

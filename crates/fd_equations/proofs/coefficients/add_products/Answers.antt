@@ -1,10 +1,10 @@
-use Rattle.std.proofs.Common.{◌≡◌, ◌∙◌, ◌+◌, ◌<◌, ◌*◌, ◌≤◌, ◌^◌, ◌+ℤ◌, ◌*ℤ◌, nat_abs, length, get_or, set, pos, arith, ap, sym, subst}
+use Rattle.std.proofs.Common.{◌∙◌, ◌<◌, ◌≤◌, ◌^◌, ◌+ℤ◌, ◌*ℤ◌, nat_abs, length, set, pos, arith, sym, subst}
 use Rattle.std.specs.List.{All}
 use Rattle.std.proofs.lemmas.List.Elements.{All-head, All-get_or}
 use Rattle.fd_exact.specs.Rounding.{near_div}
 use Rattle.fd_exact.specs.States.{part}
 use Rattle.fd_equations.specs.Conditions.{IsPart}
-use Rattle.fd_equations.proofs.Places.{Adding, IsKept, adding_start, adding_more, adding_end}
+use Rattle.fd_equations.proofs.Places.{IsKept, adding_start, adding_more, adding_end}
 use Rattle.fd_equations.proofs.Sizes.{kept_by, near_size, part_size, product_size}
 use Rattle.fd_equations.proofs.coefficients.add_products.Goals as goal
 

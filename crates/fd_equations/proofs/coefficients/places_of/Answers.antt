@@ -1,4 +1,4 @@
-use Rattle.std.proofs.Common.{pos, length, get_or, subst}
+use Rattle.std.proofs.Common.{pos, subst}
 use Rattle.std.proofs.lemmas.List.{take_all}
 use Rattle.std.proofs.lemmas.List.Elements.{All-get_or}
 use Rattle.fd_equations.specs.Conditions.{IsLinear}

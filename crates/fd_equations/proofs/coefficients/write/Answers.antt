@@ -1,4 +1,4 @@
-use Rattle.std.proofs.Common.{◌≡◌, ◌+◌, ◌*◌, ◌<◌, length, FitsSigned, rules}
+use Rattle.std.proofs.Common.{◌+◌, ◌*◌, ◌<◌, length, FitsSigned, rules}
 use Rattle.std.specs.Int.{w128}
 use Rattle.std.proofs.lemmas.Int.{to_z-of_z}
 use Rattle.fd_equations.proofs.Places.{filling_start, filling_more, filling_place, filling_end}

@@ -1,6 +1,5 @@
-use Rattle.std.proofs.Common.{◌≡◌, ◌∙◌, ◌*◌, ◌^◌, ◌≤◌, nat_abs, length, get_or, pos, sym, subst, ap, arith, ◌+◌}
+use Rattle.std.proofs.Common.{length, get_or, pos, sym, subst, arith, ◌+◌}
 use Rattle.std.proofs.lemmas.List.Elements.{All-get_or}
-use Rattle.fd_exact.specs.States.{part}
 use Rattle.fd_equations.specs.Conditions.{IsKnown}
 use Rattle.fd_equations.proofs.Folds.{SumsTo, sums_start, sums_more, sums_end}
 use Rattle.fd_equations.proofs.constants.add_all.Goals as goal

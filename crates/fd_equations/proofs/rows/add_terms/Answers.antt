@@ -1,4 +1,4 @@
-use Rattle.std.proofs.Common.{◌∙◌, ◌<◌, length, take, get_or, pos, sym, subst, ap}
+use Rattle.std.proofs.Common.{◌∙◌, length, take, get_or, pos, sym, subst, ap}
 use Rattle.std.specs.List.{fold}
 use Rattle.std.proofs.lemmas.List.{take_all}
 use Rattle.std.proofs.lemmas.List.Elements.{All-get_or}

@@ -8,7 +8,7 @@ use Rattle.fd_devices.specs.Devices.{AgreesWith, parts_of_all}
 use Rattle.fd_devices.specs.Scripted.{devices_from, devices_of}
 use Rattle.fd_devices.specs.Settings.{settings_of}
 use Rattle.fd_devices.proofs.Collecting.{devices_length}
-use Rattle.fd_network.specs.Collecting.{settings_in}
+use Rattle.fd_network.specs.Collecting.{settings_left}
 use Rattle.fd_network.specs.Faults.{first_out_of_range}
 use Rattle.fd_network.proofs.Building.{are_taken, blame_of, no_blame, out_of_range_within, same_devices, taken_as}
 use Rattle.fd_network.proofs.Ready.{few_branches, ready}
@@ -18,9 +18,9 @@ pub assemble-requires-clause-taken : goal.assemble-requires-clause-taken
 assemble-requires-clause-taken c =
     let circuit = c.args.circuit.now in
     let hertz = circuit.options.defaultbasefrequency in
-    let is_ready = ready name.eq-value.it eq-value.it hertz circuit.elements c.requires.ready c.elements-elements.ensures.in_range c.requires.covered in
-    let taken = are_taken hertz circuit.elements (settings_of c.args.at.now c.args.powers.now) c.options.ensures.in_range.defaultbasefrequency c.requires.ready.not_many is_ready c.requires.settings c.requires.modest in
-    taken_as c.in_ok-layout.layout _ c.options.result.now.defaultbasefrequency hertz c.elements-elements.result.now.entries circuit.elements (settings_in c.of-settings.result) _
+    let is_ready = ready name.eq-value.it eq-value.it hertz circuit.elements c.requires.ready c.elements-elements.ensures.in_range in
+    let taken = are_taken hertz circuit.elements (settings_of c.args.at.now c.args.powers.now) c.options.ensures.in_range.defaultbasefrequency c.requires.ready.not_many is_ready c.requires.settings c.requires.within c.requires.modest in
+    taken_as c.in_ok-layout.layout _ c.options.result.now.defaultbasefrequency hertz c.elements-elements.result.now.entries circuit.elements (settings_left c.of-settings.result) _
     c.in_ok-layout.ensures (ap (λ (o : Options). o.defaultbasefrequency) c.options.ensures.value) c.elements-elements.ensures.entries c.of-settings.ensures taken
 
 pub assemble-requires-clause-few : goal.assemble-requires-clause-few
@@ -32,14 +32,14 @@ assemble-requires-clause-few_branches c = rw c.elements-elements.ensures.entries
 pub returns-in-Ok-clause-agrees : goal.returns-in-Ok-clause-agrees
 returns-in-Ok-clause-agrees c =
     let hertz = ap (λ (o : Options). o.defaultbasefrequency) c.options.ensures.value in
-    let same = same_devices c.in_ok-layout.layout _ c.options.result.now.defaultbasefrequency _ c.elements-elements.result.now.entries _ (settings_in c.of-settings.result) _ c.in_ok-layout.ensures hertz c.elements-elements.ensures.entries c.of-settings.ensures in
+    let same = same_devices c.in_ok-layout.layout _ c.options.result.now.defaultbasefrequency _ c.elements-elements.result.now.entries _ (settings_left c.of-settings.result) _ c.in_ok-layout.ensures hertz c.elements-elements.ensures.entries c.of-settings.ensures in
     subst (λ ds. AgreesWith c.in-Ok.network.share (parts_of_all ds)) same c.in-Ok.ensures.agrees
 
 pub returns-in-Ok-clause-no_blame : goal.returns-in-Ok-clause-no_blame
 returns-in-Ok-clause-no_blame c =
     let circuit = c.args.circuit.now in
     let hertz = ap (λ (o : Options). o.defaultbasefrequency) c.options.ensures.value in
-    let same = same_devices c.in_ok-layout.layout _ c.options.result.now.defaultbasefrequency _ c.elements-elements.result.now.entries _ (settings_in c.of-settings.result) _ c.in_ok-layout.ensures hertz c.elements-elements.ensures.entries c.of-settings.ensures in
+    let same = same_devices c.in_ok-layout.layout _ c.options.result.now.defaultbasefrequency _ c.elements-elements.result.now.entries _ (settings_left c.of-settings.result) _ c.in_ok-layout.ensures hertz c.elements-elements.ensures.entries c.of-settings.ensures in
     no_blame circuit.elements (devices_of circuit (settings_of c.args.at.now c.args.powers.now)) (ap first_out_of_range (sym same) ∙ c.in-Ok.ensures.no_fault)
 
 pub blame_range-requires : goal.blame_range-requires
@@ -47,7 +47,7 @@ blame_range-requires c =
     let es = c.elements-elements.result.now.entries in
     let layout = c.in_ok-layout.layout in
     let hertz = c.options.result.now.defaultbasefrequency in
-    let settings = settings_in c.of-settings.result in
+    let settings = settings_left c.of-settings.result in
     let first = rw c.in-Err-OutOfRange.field-0-is at c.in-Err-OutOfRange.ensures.fault in
     let low = out_of_range_within (devices_from layout hertz 0 es settings) c.in-Err-OutOfRange.place first in
     subst (λ n. c.in-Err-OutOfRange.place < n) (devices_length layout hertz 0 es settings) low
@@ -56,7 +56,7 @@ pub returns-in-Err-OutOfRange-clause-fault : goal.returns-in-Err-OutOfRange-clau
 returns-in-Err-OutOfRange-clause-fault c =
     let circuit = c.args.circuit.now in
     let hertz = ap (λ (o : Options). o.defaultbasefrequency) c.options.ensures.value in
-    let same = same_devices c.in_ok-layout.layout _ c.options.result.now.defaultbasefrequency _ c.elements-elements.result.now.entries _ (settings_in c.of-settings.result) _ c.in_ok-layout.ensures hertz c.elements-elements.ensures.entries c.of-settings.ensures in
+    let same = same_devices c.in_ok-layout.layout _ c.options.result.now.defaultbasefrequency _ c.elements-elements.result.now.entries _ (settings_left c.of-settings.result) _ c.in_ok-layout.ensures hertz c.elements-elements.ensures.entries c.of-settings.ensures in
     let first = rw c.in-Err-OutOfRange.field-0-is at c.in-Err-OutOfRange.ensures.fault in
     let blame = ap (λ es. blame_at cause.Range es c.in-Err-OutOfRange.place) (sym c.elements-elements.ensures.entries) ∙ c.in_ok-blame_range-in-Err-OutOfRange.ensures in
     blame_of circuit.elements (devices_of circuit (settings_of c.args.at.now c.args.powers.now)) c.in-Err-OutOfRange.place c.in_ok-blame_range-in-Err-OutOfRange.field-0 (ap first_out_of_range (sym same) ∙ first) blame

@@ -10,7 +10,7 @@ use Rattle.fd_devices.specs.Devices.{Added}
 use Rattle.fd_devices.specs.Scripted.{device_of, devices_from}
 use Rattle.fd_devices.specs.Settings.{own}
 use Rattle.fd_devices.proofs.Collecting.{devices_length}
-use Rattle.fd_network.specs.Collecting.{settings_in}
+use Rattle.fd_network.specs.Collecting.{settings_left}
 use Rattle.fd_network.specs.Faults.{first_without, has_small_sums}
 use Rattle.fd_network.proofs.Faulty.{first_at, no_misfit, sums_decide}
 use Rattle.fd_network.proofs.Sums.{IsSmallAt}
@@ -23,16 +23,16 @@ not_both b f t = cc
 pub piece_at-requires : goal.piece_at-requires
 piece_at-requires c =
     let es = c.args.elements.now.entries in
-    let ds = devices_from c.args.layout.now c.args.hertz 0 es (settings_in c.args.settings.now) in
+    let ds = devices_from c.args.layout.now c.args.hertz 0 es (settings_left c.args.settings.now) in
     let here = ap (λ es. slice_get es c.loop-place.place) (sym c.as_slice-entries.ensures.entries) ∙ sym c.get_index.ensures.entry ∙ ap (option_map deref_pair) c.unwrap.ensures in
-    taken_at c.args.layout.now c.args.hertz es ds c.loop-place.place (settings_in c.loop-place.left) (deref_pair c.unwrap.result) here c.loop-place.invariant.at
+    taken_at c.args.layout.now c.args.hertz es ds c.loop-place.place (settings_left c.loop-place.left) (deref_pair c.unwrap.result) here c.loop-place.invariant.at
 
 pub returns-in_err-piece-clause-fault : goal.returns-in_err-piece-clause-fault
 returns-in_err-piece-clause-fault c =
     let es = c.args.elements.now.entries in
-    let ds = devices_from c.args.layout.now c.args.hertz 0 es (settings_in c.args.settings.now) in
+    let ds = devices_from c.args.layout.now c.args.hertz 0 es (settings_left c.args.settings.now) in
     let here = ap (λ es. slice_get es c.loop-place.place) (sym c.as_slice-entries.ensures.entries) ∙ sym c.get_index.ensures.entry ∙ ap (option_map deref_pair) c.unwrap.ensures in
-    let next = device_next c.args.layout.now c.args.hertz es ds c.loop-place.place (settings_in c.loop-place.left) (deref_pair c.unwrap.result) here c.loop-place.invariant.at in
+    let next = device_next c.args.layout.now c.args.hertz es ds c.loop-place.place (settings_left c.loop-place.left) (deref_pair c.unwrap.result) here c.loop-place.invariant.at in
     let p = err_from_is_err_and c.from_residual.result c.from_residual.ensures.1 in
     rw (p.1, p.2) (no_misfit (first_without (has_small_sums c.args.coefficients.now.terms) ds) ds c.loop-place.place _ _ c.in_err-piece.field-0.0 c.requires.fits next c.in_err-piece.ensures.fault)
 
@@ -41,9 +41,9 @@ returns-then-not-have_small_sums-clause-fault c =
     let es = c.args.elements.now.entries in
     let layout = c.args.layout.now in
     let place = c.loop-place.place in
-    let left = settings_in c.loop-place.left in
+    let left = settings_left c.loop-place.left in
     let e = deref_pair c.unwrap.result in
-    let ds = devices_from layout c.args.hertz 0 es (settings_in c.args.settings.now) in
+    let ds = devices_from layout c.args.hertz 0 es (settings_left c.args.settings.now) in
     let all = c.args.coefficients.now.terms in
     let here = ap (λ es. slice_get es c.loop-place.place) (sym c.as_slice-entries.ensures.entries) ∙ sym c.get_index.ensures.entry ∙ ap (option_map deref_pair) c.unwrap.ensures in
     let next = device_next layout c.args.hertz es ds place left e here c.loop-place.invariant.at in
@@ -54,9 +54,9 @@ returns-then-not-have_small_sums-clause-fault c =
 pub after-left-requires : goal.after-left-requires
 after-left-requires c =
     let es = c.args.elements.now.entries in
-    let ds = devices_from c.args.layout.now c.args.hertz 0 es (settings_in c.args.settings.now) in
+    let ds = devices_from c.args.layout.now c.args.hertz 0 es (settings_left c.args.settings.now) in
     let here = ap (λ es. slice_get es c.loop-place.place) (sym c.as_slice-entries.ensures.entries) ∙ sym c.get_index.ensures.entry ∙ ap (option_map deref_pair) c.unwrap.ensures in
-    let taken = taken_at c.args.layout.now c.args.hertz es ds c.loop-place.place (settings_in c.loop-place.left) (deref_pair c.unwrap.result) here c.loop-place.invariant.at in
+    let taken = taken_at c.args.layout.now c.args.hertz es ds c.loop-place.place (settings_left c.loop-place.left) (deref_pair c.unwrap.result) here c.loop-place.invariant.at in
     taken.own
 
 pub loop-place-preserved : goal.loop-place-preserved
@@ -65,9 +65,9 @@ loop-place-preserved c =
     let layout = c.args.layout.now in
     let hertz = c.args.hertz in
     let place = c.loop-place.place in
-    let left = settings_in c.loop-place.left in
+    let left = settings_left c.loop-place.left in
     let e = deref_pair c.unwrap.result in
-    let ds = devices_from layout hertz 0 es (settings_in c.args.settings.now) in
+    let ds = devices_from layout hertz 0 es (settings_left c.args.settings.now) in
     let d = device_of layout hertz place e.1 (own e.1 left) in
     let here = ap (λ es. slice_get es c.loop-place.place) (sym c.as_slice-entries.ensures.entries) ∙ sym c.get_index.ensures.entry ∙ ap (option_map deref_pair) c.unwrap.ensures in
     let next = device_next layout hertz es ds place left e here c.loop-place.invariant.at in
@@ -85,8 +85,8 @@ returns-clause-small c =
     let es = c.args.elements.now.entries in
     let layout = c.args.layout.now in
     let place = c.loop-place.place in
-    let ds = devices_from layout c.args.hertz 0 es (settings_in c.args.settings.now) in
+    let ds = devices_from layout c.args.hertz 0 es (settings_left c.args.settings.now) in
     let count = ap length c.as_slice-entries.ensures.entries in
     let all : length es ≤ place = omega (arith, count, c.len-place-end.ensures, c.loop-place-test.false) in
-    let devices : length ds ≤ place = omega (arith, all, devices_length layout c.args.hertz 0 es (settings_in c.args.settings.now)) in
+    let devices : length ds ≤ place = omega (arith, all, devices_length layout c.args.hertz 0 es (settings_left c.args.settings.now)) in
     subst (All (HasSmallSums c.args.coefficients.now.terms)) (take_all place ds devices) c.loop-place.invariant.small

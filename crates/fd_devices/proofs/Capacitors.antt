@@ -1,0 +1,94 @@
+-- What a capacitor bank adds is bounded.
+use Rattle.std.proofs.Common.{◌≡◌, ℕ, ◌+◌, ◌*◌, ◌/◌, ◌≤◌, ◌^◌, ◌⊎◌, inl, inr, ℤ, pos, negsuc, neg_ℤ, nat_abs, Bool, true, false, cond, eqb, [], arith, subst, sym}
+use Rattle.std.specs.List.{All}
+use Rattle.std.proofs.lemmas.Int.{ints, unsigned_abs-mul}
+use Rattle.std.proofs.lemmas.List.Elements.{All-nil}
+use Rattle.fd_exact.specs.Quotients.{ceil_nat_least}
+use Rattle.fd_exact.specs.Rounding.{ceil_nat}
+use Rattle.fd_arith.specs.declared.terms.Conn.{Conn}
+use Rattle.fd_arith.specs.declared.terms.Conn.TheVariants.{Wye, Delta}
+use Rattle.fd_arith.specs.declared.terms.Ends.{Ends}
+use Rattle.fd_system.specs.Contributions.{IsWithin, stamp}
+use Rattle.fd_xfmr.specs.declared.pairs.NodePair.{NodePair}
+use Rattle.fd_xfmr.specs.Windings.{Between, pairs_of, root_three, three_phase_volts}
+use Rattle.fd_xfmr.proofs.Products.{phases_few}
+use Rattle.fd_cap.specs.declared.data.CapData.{CapData}
+use Rattle.fd_cap.specs.Capacitor.{IsCap, cap_draw_of, cap_list, cap_pair, cap_power, cap_volts, list_at, phase_list, volts_squared}
+use Rattle.fd_cap.proofs.Capacitor.{cap_divided}
+use Rattle.fd_elements.specs.Loads.{IsPast}
+use Rattle.fd_equations.specs.Conditions.{IsKnown, IsServed}
+use Rattle.fd_devices.specs.Devices.{capacitor}
+use Rattle.fd_devices.specs.Building.{IsSettled}
+use Rattle.fd_devices.specs.Sound.{IsBelow, IsSideOf, terminal_nodes}
+use Rattle.fd_devices.proofs.Counting.{AreInside, each_inside, joined_inside, more_room, none_inside, stamp_inside}
+use Rattle.fd_devices.proofs.Bounded.{contributions}
+use Rattle.fd_devices.proofs.Transformers.{IsPairBelow, pair_below}
+
+-- ---- the places of its contributions
+
+module _ (n : ℕ) where
+  phase_inside : (d : CapData) (p : NodePair) → IsPairBelow n p → AreInside n 16 (phase_list d p)
+  phase_inside d p h =
+      let b = cap_power d in
+      let over = pos (volts_squared d) in
+      joined_inside n 8 8 _ _
+      (joined_inside n 4 4 (stamp p.first p.first (pos 0) b over) (stamp p.first p.second (pos 0) (neg_ℤ b) over)
+      (stamp_inside n p.first p.first (pos 0) b over h.first h.first) (stamp_inside n p.first p.second (pos 0) (neg_ℤ b) over h.first h.second))
+      (joined_inside n 4 4 (stamp p.second p.first (pos 0) (neg_ℤ b) over) (stamp p.second p.second (pos 0) b over)
+      (stamp_inside n p.second p.first (pos 0) (neg_ℤ b) over h.second h.first) (stamp_inside n p.second p.second (pos 0) b over h.second h.second))
+
+  cap_inside : (d : CapData) (closed : Bool) (at : Ends) → d.phases ≤ 3 → All (IsBelow n) at.first → AreInside n 64 (cap_list d closed at)
+  cap_inside d true at few below = more_room n (d.phases * 16) 64 (cap_list d true at) (omega arith)
+      (each_inside n 16 (list_at d at) d.phases (λ k p. phase_inside d (cap_pair d at k) (pair_below n (pairs_of d.phases d.conn) at.first k below)))
+  cap_inside d false at few below = more_room n 0 64 [] (omega arith) (none_inside n)
+
+-- ---- what it draws
+
+-- the nominal voltage of a phase of three, from ten volt between phases
+wye_least : (m : ℕ) → 10 ^ 7 ≤ m → 5773000 ≤ (2 * (m * 10 ^ 15) + root_three) / (2 * root_three)
+wye_least m h = omega arith
+
+three_phase_least : (c : Conn) (kv : ℤ) → Between (10 ^ 7) (10 ^ 12) kv → 5773000 ≤ nat_abs (three_phase_volts c kv)
+three_phase_least Wye (pos m) h = wye_least m (omega (arith, ints, h.0))
+three_phase_least Wye (negsuc m) h = absurd (omega (arith, ints, h.0))
+three_phase_least Delta kv h = omega (arith, ints, h.0)
+
+power_size : (d : CapData) → IsCap d → nat_abs (cap_power d) ≤ 10 ^ 20
+power_size d h =
+    let m : nat_abs d.kvar ≤ 10 ^ 14 = omega (arith, ints, h.kvar.0, h.kvar.1) in
+    subst (λ s. s ≤ 10 ^ 20) (sym (unsigned_abs-mul d.kvar (pos (10 ^ 6)))) (omega (arith, m))
+
+volts_least : (d : CapData) → IsCap d → 5773000 ≤ nat_abs (cap_volts d)
+volts_least d h = by (eqb d.phases 1)
+  where
+    by : (b : Bool) → 5773000 ≤ nat_abs (cond b d.kv (three_phase_volts d.conn d.kv))
+    by true = omega (arith, ints, h.kv.0)
+    by false = three_phase_least d.conn d.kv h.kv
+
+-- Q / V of all phases
+draw_most : (q v p : ℕ) → q ≤ 10 ^ 20 → 5773000 ≤ v → (p ≡ 1) ⊎ (p ≡ 3) → ceil_nat q (v * p) * p ≤ 17500000000000
+draw_most q v p h k (inl e) =
+    let c = ceil_nat_least q (v * 1) 17400000000000 (omega arith) (omega arith) in
+    subst (λ m. ceil_nat q (v * m) * m ≤ 17500000000000) (sym e) (omega (arith, c))
+draw_most q v p h k (inr e) =
+    let c = ceil_nat_least q (v * 3) 5800000000000 (omega arith) (omega arith) in
+    subst (λ m. ceil_nat q (v * m) * m ≤ 17500000000000) (sym e) (omega (arith, c))
+
+draw_small : (d : CapData) (closed : Bool) → IsCap d → cap_draw_of d closed ≤ 17500000000000
+draw_small d true h = draw_most (nat_abs (cap_power d)) (nat_abs (cap_volts d)) d.phases (power_size d h) (volts_least d h) h.phases
+draw_small d false h = omega arith
+
+-- ---- what it adds
+
+pub capacitor_settled : (n size : ℕ) (d : CapData) (closed : Bool) (at : Ends) → IsCap d → IsSideOf n (terminal_nodes d.phases) at.first → All IsWithin (cap_list d closed at) → IsSettled n size 0 (capacitor d closed at)
+capacitor_settled n size d closed at h side w = record {
+  fits = record { terms = w; loads = All-nil (λ u. ¬ (IsPast u.load)) };
+  good = h;
+  bounded = record {
+    terms = contributions n 64 (cap_list d closed at) (cap_inside n d closed at (phases_few d.phases h.phases) side.below) (cap_divided d closed at h) w;
+    constants = All-nil (IsKnown (2 * n));
+    few_constants = omega arith;
+    loads = All-nil (IsServed n size);
+    draw = omega (arith, draw_small d closed h);
+  };
+}

@@ -1,0 +1,116 @@
+-- What stands at the places of a terminal: sizes, signs and counts.
+use Rattle.std.proofs.Common.{◌≡◌, ◌∙◌, ℕ, ◌+◌, ◌*◌, ◌<◌, ◌≤◌, ◌^◌, ℤ, pos, neg_ℤ, ◌+ℤ◌, nat_abs, Bool, true, false, cond, eqb, List, Option, Some, None, IfSome, arith, ap, refl}
+use Rattle.std.specs.List.{All}
+use Rattle.std.proofs.lemmas.Int.{ints}
+use Rattle.std.proofs.lemmas.List.Elements.{All-weaker}
+use Rattle.fd_arith.specs.declared.terms.NodeAt.{NodeAt}
+use Rattle.fd_arith.specs.declared.terms.NodeAt.TheVariants.{Ground, Node}
+use Rattle.fd_system.specs.declared.loads.LoadAt.{LoadAt}
+use Rattle.fd_system.specs.Residual.{IsPlace}
+use Rattle.fd_equations.specs.Conditions.{HasMagnitude, IsAmong, IsServed}
+use Rattle.fd_equations.specs.Terminals.{IsConnected, at_magnitude, at_node, at_terminal}
+
+-- ---- sizes
+
+sum_small : (a b : ℤ) (m k : ℕ) → nat_abs a ≤ m → nat_abs b ≤ k → nat_abs (a +ℤ b) ≤ m + k
+sum_small a b m k h l = omega (arith, ints)
+
+pub cond_small : (t : Bool) (z : ℤ) (b : ℕ) → nat_abs z ≤ b → nat_abs (cond t z (pos 0)) ≤ b
+cond_small true z b h = h
+cond_small false z b h = omega arith
+
+pub node_small : (l : ℕ) (node : NodeAt) (re im : ℤ) (b : ℕ) → nat_abs re ≤ b → nat_abs im ≤ b → nat_abs (at_node l node re im) ≤ b + b
+node_small l Ground re im b h k = omega arith
+node_small l (Node n) re im b h k = sum_small (cond (eqb (2 * n) l) re (pos 0)) (cond (eqb (2 * n + 1) l) im (pos 0)) b b (cond_small (eqb (2 * n) l) re b h) (cond_small (eqb (2 * n + 1) l) im b k)
+
+pub magnitude_small : (l : ℕ) (place : Option ℕ) (z : ℤ) (b : ℕ) → nat_abs z ≤ b → nat_abs (at_magnitude l place z) ≤ b
+magnitude_small l None z b h = omega arith
+magnitude_small l (Some place) z b h = cond_small (eqb place l) z b h
+
+pub negative_small : (z : ℤ) (b : ℕ) → nat_abs z ≤ b → nat_abs (neg_ℤ z) ≤ b
+negative_small z b h = omega (arith, ints)
+
+pub terminal_small : (l : ℕ) (u : LoadAt) (re im z : ℤ) (b : ℕ) → nat_abs re ≤ b → nat_abs im ≤ b → nat_abs z ≤ b → nat_abs (at_terminal l u re im z) ≤ 5 * b
+unfolding at_terminal
+terminal_small l u re im z b h k j =
+    let first = node_small l u.first re im b h k in
+    let second = node_small l u.second (neg_ℤ re) (neg_ℤ im) b (negative_small re b h) (negative_small im b k) in
+    let both = sum_small (at_node l u.first re im) (at_node l u.second (neg_ℤ re) (neg_ℤ im)) (b + b) (b + b) first second in
+    let all = sum_small (at_node l u.first re im +ℤ at_node l u.second (neg_ℤ re) (neg_ℤ im)) (at_magnitude l u.magnitude z) (b + b + (b + b)) b both (magnitude_small l u.magnitude z b j) in
+    omega arith
+
+-- ---- numbers added one after another
+
+pub added_three : (o a b c : ℤ) → (((o +ℤ a) +ℤ b) +ℤ c) ≡ (o +ℤ ((a +ℤ b) +ℤ c))
+added_three o a b c = omega (arith, ints)
+
+pub added_two : (o a b : ℤ) → ((o +ℤ a) +ℤ b) ≡ (o +ℤ (a +ℤ b))
+added_two o a b = omega (arith, ints)
+
+pub added_none : (o : ℤ) → o ≡ (o +ℤ pos 0)
+added_none o = omega (arith, ints)
+
+-- ---- signs
+
+negative_sum : (a b : ℤ) → neg_ℤ (a +ℤ b) ≡ (neg_ℤ a +ℤ neg_ℤ b)
+negative_sum a b = omega (arith, ints)
+
+negative_cond : (t : Bool) (z : ℤ) → neg_ℤ (cond t z (pos 0)) ≡ cond t (neg_ℤ z) (pos 0)
+negative_cond true z = refl
+negative_cond false z = refl
+
+node_negative : (l : ℕ) (node : NodeAt) (re im : ℤ) → neg_ℤ (at_node l node re im) ≡ at_node l node (neg_ℤ re) (neg_ℤ im)
+node_negative l Ground re im = refl
+node_negative l (Node k) re im = negative_sum (cond (eqb (2 * k) l) re (pos 0)) (cond (eqb (2 * k + 1) l) im (pos 0)) ∙ (λ i. negative_cond (eqb (2 * k) l) re i +ℤ negative_cond (eqb (2 * k + 1) l) im i)
+
+magnitude_negative : (l : ℕ) (place : Option ℕ) (z : ℤ) → neg_ℤ (at_magnitude l place z) ≡ at_magnitude l place (neg_ℤ z)
+magnitude_negative l None z = refl
+magnitude_negative l (Some place) z = negative_cond (eqb place l) z
+
+pub terminal_negative : (l : ℕ) (u : LoadAt) (re im z : ℤ) → neg_ℤ (at_terminal l u re im z) ≡ at_terminal l u (neg_ℤ re) (neg_ℤ im) (neg_ℤ z)
+unfolding at_terminal
+terminal_negative l u re im z =
+    negative_sum (at_node l u.first re im +ℤ at_node l u.second (neg_ℤ re) (neg_ℤ im)) (at_magnitude l u.magnitude z)
+    ∙ ap (λ a. a +ℤ neg_ℤ (at_magnitude l u.magnitude z)) (negative_sum (at_node l u.first re im) (at_node l u.second (neg_ℤ re) (neg_ℤ im)))
+    ∙ (λ i. (node_negative l u.first re im i +ℤ node_negative l u.second (neg_ℤ re) (neg_ℤ im) i) +ℤ magnitude_negative l u.magnitude z i)
+
+pub terminal_sum : (l : ℕ) (u : LoadAt) (re im z : ℤ) → ((at_node l u.first re im +ℤ at_node l u.second (neg_ℤ re) (neg_ℤ im)) +ℤ at_magnitude l u.magnitude z) ≡ at_terminal l u re im z
+unfolding at_terminal
+terminal_sum l u re im z = refl
+
+-- ---- places below the size
+
+node_inside : (n size : ℕ) (node : NodeAt) → 2 * n ≤ size → size ≤ 2 ^ 11 → IsAmong n node → IsPlace size node
+node_inside n size Ground h few k = tt
+node_inside n size (Node r) h few k = (omega arith, omega arith)
+
+magnitude_inside : (n size model : ℕ) (place : Option ℕ) → HasMagnitude n size model place → IfSome place (λ k. k < size)
+magnitude_inside n size model None h = tt
+magnitude_inside n size model (Some k) h = h.1.1
+
+pub connected : (n size : ℕ) (u : LoadAt) → 2 * n ≤ size → size ≤ 2 ^ 11 → IsServed n size u → IsConnected size u
+connected n size u h few s = record {
+  phase = s.phase;
+  first = node_inside n size u.first h few s.first;
+  second = node_inside n size u.second h few s.second;
+  magnitude = magnitude_inside n size u.load.model u.magnitude s.magnitude;
+}
+
+node_wide : (size n : ℕ) (node : NodeAt) → size ≤ n → IsPlace size node → IsPlace n node
+node_wide size n Ground h k = tt
+node_wide size n (Node r) h k = (omega (arith, k.0), k.1)
+
+magnitude_wide : (size n : ℕ) (place : Option ℕ) → size ≤ n → IfSome place (λ k. k < size) → IfSome place (λ k. k < n)
+magnitude_wide size n None h k = tt
+magnitude_wide size n (Some p) h k = omega arith
+
+pub connected_wide : (size n : ℕ) (u : LoadAt) → size ≤ n → IsConnected size u → IsConnected n u
+connected_wide size n u h c = record {
+  phase = c.phase;
+  first = node_wide size n u.first h c.first;
+  second = node_wide size n u.second h c.second;
+  magnitude = magnitude_wide size n u.magnitude h c.magnitude;
+}
+
+pub all_connected : (n size : ℕ) (us : List LoadAt) → 2 * n ≤ size → size ≤ 2 ^ 11 → All (IsServed n size) us → All (IsConnected size) us
+all_connected n size us h few a = All-weaker (IsServed n size) (IsConnected size) (λ u s. connected n size u h few s) us a
