@@ -103,8 +103,14 @@ fn full_matrix(n: usize) -> Vec<i128> {
     cells
 }
 
+// The sizes are those of the command line, or 168 and 528.
+fn sizes() -> Vec<usize> {
+    let given: Vec<usize> = std::env::args().skip(1).filter_map(|word| word.parse().ok()).collect();
+    if given.is_empty() { vec![168, 528] } else { given }
+}
+
 fn main() {
-    for n in [168, 528] {
+    for n in sizes() {
         let matrix = full_matrix(n);
         let start = Instant::now();
         let inverse = invert(&matrix, n);
