@@ -10,3 +10,4 @@ pub mod Capacitors
 pub mod Collecting
 pub mod Steps
 pub mod Settling
+pub mod Next

@@ -6,3 +6,5 @@ pub mod Scripted
 pub mod Sound
 pub mod Building
 pub mod Snapshot
+pub mod Places
+pub mod Positions

@@ -4,10 +4,13 @@
 // the element's values in the script, and that all devices' system has the rows of their complex equations at every state
 // (`device_law`). Range is the answer exactly where a contribution of the device is past 2^54 units of 2^-40 or a part load past its limit.
 // The settings of a script are exactly its taps, states and powers, as many as its elements have (`snapshot_law`).
+// A later Solve starts with exactly the taps and states that the script set since the Solve before, and else with those of before; they
+// too are as many as the elements have, and in range (`next_law`).
 //
 // Modules: `data` has the data of transformers and capacitor banks, `devices` is the law, `phase_loads` has the part loads of a load's
-// phases, `pieces` what each element adds, `settings` the positions of taps and banks and the powers of loads with which a circuit is
-// taken, `snapshot` those that the script gives, `fault` why there is no network.
+// phases, `pieces` what each element adds, `places` the nodes and branches at which an element stands, `settings` the positions of taps
+// and banks and the powers of loads with which a circuit is taken, `snapshot` those that the script gives, `positions` those with which
+// a later Solve starts, `fault` why there is no network.
 #![tactic(auto)]
 
 mod data;
@@ -15,6 +18,8 @@ mod devices;
 mod fault;
 mod phase_loads;
 mod pieces;
+mod places;
+mod positions;
 mod settings;
 mod snapshot;
 
@@ -24,6 +29,8 @@ pub use fault::BuildFault;
 pub use pieces::{
     Piece, capacitor_piece, line_piece, load_piece, piece_of, source_piece, transformer_piece,
 };
+pub use places::ends_of;
+pub use positions::next_law;
 pub use settings::{BankStates, LoadPowers, OwnSettings, Positions, Powers, Taps};
 pub use snapshot::{powers_at, snapshot_law};
 

@@ -62,7 +62,8 @@ fn add_state(closed: &mut Vec<bool>, element: &Element) -> Result<(), AllocError
     Ok(())
 }
 
-fn is_closed(state: BankState) -> bool
+/// Whether a bank with this state in the script is closed.
+pub fn is_closed(state: BankState) -> bool
     ensures { result ≡ is_state_closed state }
 {
     match state {

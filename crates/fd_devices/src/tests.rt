@@ -1,6 +1,9 @@
+ghost use Rattle.std.specs.Prelude.{◌≡◌, None, true};
+ghost use Rattle.dss_layout.specs.Layout.{first_too_many};
+
 use crate::{
-    Piece, Positions, capacitor_piece, device_law, line_piece, load_piece, powers_at, snapshot_law,
-    source_piece, transformer_piece,
+    BankStates, Piece, Positions, Taps, capacitor_piece, device_law, ends_of, line_piece,
+    load_piece, next_law, powers_at, snapshot_law, source_piece, transformer_piece,
 };
 use dss_circuit::{
     Capacitor, Circuit, Command, Connection, DataForm, Line, Load, ModelFault, Place, SourceForm,
@@ -43,18 +46,46 @@ fn place(alloc: Global) -> Result<Place, ModelFault> {
 fn circuit(alloc: Global) -> Result<Circuit, ModelFault> {
     let mut circuit = Circuit::empty(alloc);
     for (class, name, rest) in &COMMANDS {
-        let place = place(alloc)?;
         let verb = Verb::New {
             class: text(alloc, class)?,
             name: text(alloc, name)?,
-            pairs: PairList::new(pairs(alloc, rest.as_bytes())?),
+            pairs: pair_list(alloc, rest)?,
         };
-        if circuit.solves() > 0 || circuit.elements().len() > 100 {
-            return Err(ModelFault::TooMany);
-        }
-        circuit.apply(alloc, &Command { place, verb })?;
+        apply(alloc, &mut circuit, verb)?;
     }
     Ok(circuit)
+}
+
+fn pair_list(alloc: Global, of: &str) -> Result<PairList, ModelFault> {
+    Ok(PairList::new(pairs(alloc, of.as_bytes())?))
+}
+
+fn apply(alloc: Global, circuit: &mut Circuit, verb: Verb) -> Result<(), ModelFault> {
+    let place = place(alloc)?;
+    if circuit.solves() > 100 || circuit.elements().len() > 100 {
+        return Err(ModelFault::TooMany);
+    }
+    circuit.apply(alloc, &Command { place, verb })
+}
+
+fn edit(
+    alloc: Global,
+    circuit: &mut Circuit,
+    class: &str,
+    name: &str,
+    rest: &str,
+) -> Result<(), ModelFault> {
+    let verb = Verb::Edit {
+        class: text(alloc, class)?,
+        name: text(alloc, name)?,
+        pairs: pair_list(alloc, rest)?,
+    };
+    apply(alloc, circuit, verb)
+}
+
+fn solve(alloc: Global, circuit: &mut Circuit) -> Result<(), ModelFault> {
+    let pairs = pair_list(alloc, "")?;
+    apply(alloc, circuit, Verb::Solve { pairs })
 }
 
 // P is rounded before Q is taken from it: three quarters of 53,333,333 are 39,999,999.75
@@ -73,6 +104,124 @@ fn snapshot(rt: HostRuntime) -> Result<(), Fail> {
         [TapPair { first, second }].as_slice()
     );
     assert_eq!(rt; positions.closed.as_slice(), [false].as_slice());
+    Ok(())
+}
+
+// The circuit with a second transformer, after a Solve.
+fn solved(alloc: Global) -> Result<Circuit, ModelFault> {
+    let mut circuit = circuit(alloc)?;
+    let verb = Verb::New {
+        class: text(alloc, "Transformer")?,
+        name: text(alloc, "u")?,
+        pairs: pair_list(
+            alloc,
+            "buses=[sourcebus c] kvs=[12.47 4.16] taps=[0.95 1.025]",
+        )?,
+    };
+    apply(alloc, &mut circuit, verb)?;
+    solve(alloc, &mut circuit)?;
+    Ok(circuit)
+}
+
+// The same after these values of an element were set, and a second Solve.
+fn solved_again(alloc: Global, class: &str, name: &str, rest: &str) -> Result<Circuit, ModelFault> {
+    let mut circuit = solved(alloc)?;
+    edit(alloc, &mut circuit, class, name, rest)?;
+    solve(alloc, &mut circuit)?;
+    Ok(circuit)
+}
+
+// The taps and the state of the bank with which a Solve starts; before, the bank was closed.
+fn started(
+    alloc: Global,
+    circuit: &Circuit,
+    taps: &[TapPair],
+) -> Result<(Vec<TapPair>, Vec<bool>), ModelFault> {
+    let before = Positions {
+        taps: Taps::new(Vec::from_slice(alloc, taps)?),
+        closed: BankStates::new(vec![in alloc; true]?),
+    };
+    let next = Positions::next(alloc, circuit, &before)?;
+    Ok((next.taps.into_vec(), next.closed.into_vec()))
+}
+
+const BEFORE: [TapPair; 2] = [
+    TapPair {
+        first: 101_250,
+        second: 102_500,
+    },
+    TapPair {
+        first: 98_125,
+        second: 96_875,
+    },
+];
+
+// All is of the script at the first Solve
+#[test]
+fn first_solve(rt: HostRuntime) -> Result<(), Fail> {
+    let alloc = rt.alloc();
+    let circuit = solved(alloc)?;
+    let (taps, closed) = started(alloc, &circuit, &BEFORE)?;
+    assert_eq!(rt;
+        taps.as_slice(),
+        [tap_pair(105_000, 98_750), tap_pair(95_000, 102_500)].as_slice()
+    );
+    assert_eq!(rt; closed.as_slice(), [false].as_slice());
+    Ok(())
+}
+
+// One tap is set: it alone is of the script
+#[test]
+fn tap_set(rt: HostRuntime) -> Result<(), Fail> {
+    let alloc = rt.alloc();
+    let circuit = solved_again(alloc, "Transformer", "t", "wdg=2 tap=1.0125")?;
+    let (taps, closed) = started(alloc, &circuit, &BEFORE)?;
+    assert_eq!(rt;
+        taps.as_slice(),
+        [tap_pair(101_250, 101_250), tap_pair(98_125, 96_875)].as_slice()
+    );
+    assert_eq!(rt; closed.as_slice(), [true].as_slice());
+    Ok(())
+}
+
+// The bank is set; and where there were taps of one transformer alone, those of the other are of the script
+#[test]
+fn state_set(rt: HostRuntime) -> Result<(), Fail> {
+    let alloc = rt.alloc();
+    let circuit = solved_again(alloc, "Capacitor", "k", "states=[0]")?;
+    let (taps, closed) = started(alloc, &circuit, &BEFORE[..1])?;
+    assert_eq!(rt;
+        taps.as_slice(),
+        [tap_pair(101_250, 102_500), tap_pair(95_000, 102_500)].as_slice()
+    );
+    assert_eq!(rt; closed.as_slice(), [false].as_slice());
+    Ok(())
+}
+
+fn tap_pair(first: u32, second: u32) -> TapPair {
+    TapPair { first, second }
+}
+
+// Whether the circuit passes the tests of Solve, and so no limit on its unknowns.
+fn is_ready(alloc: Global, circuit: &Circuit) -> bool
+    ensures { result ≡ true → first_too_many circuit.now.elements ≡ None }
+{
+    match circuit.ready(alloc) {
+        Ok(()) => true,
+        Err(_) => false,
+    }
+}
+
+// The nodes of sourcebus come first, those of b after them; the branches of the source come before those of the transformer.
+#[test]
+fn ends(rt: HostRuntime) -> Result<(), Fail> {
+    let alloc = rt.alloc();
+    let circuit = circuit(alloc)?;
+    assert!(rt; circuit.elements().len() > 3 && is_ready(alloc, &circuit));
+    let ends = ends_of(alloc, &circuit, 3)?;
+    let at = [NodeAt::Node(3), NodeAt::Node(4), NodeAt::Node(5)];
+    assert_eq!(rt; ends.second.as_slice(), at.as_slice());
+    assert_eq!(rt; ends.branch, 9);
     Ok(())
 }
 
@@ -230,6 +379,7 @@ fn appended(rt: HostRuntime) -> Result<(), Fail> {
     let alloc = rt.alloc();
     device_law();
     snapshot_law();
+    next_law();
     let mut all = Piece::empty(alloc);
     let more = Piece {
         constants: vec![in alloc; Constant { row: 4, value: 7 }]?,
