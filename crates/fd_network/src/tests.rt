@@ -11,6 +11,7 @@ use crate::{build, update};
 use dss_circuit::{Circuit, Command, Element, ElementName, ModelFault, Place, Verb};
 use dss_lexer::{PairList, Text, pairs};
 use dss_ready::{Mention, ReadyFault};
+use fd_arith::Term;
 use fd_devices::{BuildFault, LoadPowers, Positions, Powers, snapshot_law};
 use fd_elements::LoadPower;
 use fd_equations::{Network, PlaceKind};
@@ -373,6 +374,89 @@ fn magnitude(rt: HostRuntime) -> Result<(), Fail> {
             assert_eq!(rt; net.loads().len(), 1);
             assert_eq!(rt; net.loads()[0].magnitude, Some(8));
         }
+        Err(_) => return Err(ModelFault::NoMemory)?,
+    }
+    Ok(())
+}
+
+// ---- the residual by the list of contributions, one after another
+
+// A state in which no row is met.
+const ELSEWHERE: [i128; 8] = [
+    955_123_456,
+    -1_234_567,
+    512_345_678,
+    7_654_321,
+    49_876_543,
+    -2_109_876,
+    50_123_456,
+    987_654,
+];
+
+// The greatest whole number up to num x / den and the least from there on; none where den isn't positive or a number is too large.
+fn about(num: i128, x: i128, den: i128) -> Option<(i128, i128)> {
+    if den <= 0 {
+        return None;
+    }
+    let product = num.checked_mul(x)?;
+    let (whole, rest) = (product / den, product % den);
+    if rest == 0 {
+        Some((whole, whole))
+    } else if rest < 0 {
+        Some((whole.checked_sub(1)?, whole))
+    } else {
+        Some((whole, whole.checked_add(1)?))
+    }
+}
+
+// Whole numbers below and above the residual of a row, by a walk over all contributions, and how many of them stand in the row.
+fn plain_row(constant: i128, terms: &[Term], x: &[i128], row: u32) -> Option<(i128, i128, i128)> {
+    let (mut low, mut high, mut count) = (constant, constant, 0i128);
+    for term in terms {
+        if term.row == row {
+            let (below, above) = about(term.num, *x.get(term.col as usize)?, term.den)?;
+            low = low.checked_add(below)?;
+            high = high.checked_add(above)?;
+            count = count.checked_add(1)?;
+        }
+    }
+    Some((low, high, count))
+}
+
+// Whether ends hold the numbers between low and high, or miss them by two for each contribution at most.
+fn is_near(ends: Option<(i128, i128)>, plain: Option<(i128, i128, i128)>) -> Option<bool> {
+    let (first, last) = ends?;
+    let (low, high, count) = plain?;
+    let slack = count.checked_mul(2)?;
+    Some(
+        first <= high
+            && low <= last
+            && low.checked_sub(slack)? <= first
+            && last <= high.checked_add(slack)?,
+    )
+}
+
+// Whether each row's residual in intervals is that of the plain walk.
+fn agrees(alloc: Global, rt: &impl Abort, net: &Network) -> Result<bool, AllocError> {
+    assert!(rt; net.size() == 8);
+    let rows = net.residual(alloc, &ELSEWHERE)?;
+    let constants = net.constants(alloc)?;
+    for k in 0..8u32 {
+        let plain = plain_row(constants[k as usize], net.terms(), &ELSEWHERE, k);
+        if is_near(rows[k as usize].ends(), plain) != Some(true) {
+            return Ok(false);
+        }
+    }
+    Ok(true)
+}
+
+#[test]
+fn plain_residual(rt: HostRuntime) -> Result<(), Fail> {
+    let alloc = rt.alloc();
+    let circuit = circuit(alloc, &[SOURCE, LINE, LOAD])?;
+    let powers = powers(alloc, &[POWER])?;
+    match built(alloc, &rt, &circuit, &powers) {
+        Ok(net) => assert!(rt; agrees(alloc, &rt, &net)?),
         Err(_) => return Err(ModelFault::NoMemory)?,
     }
     Ok(())
