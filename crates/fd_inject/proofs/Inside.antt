@@ -1,5 +1,5 @@
 -- A fault names a place or a column inside the network.
-use Rattle.std.proofs.Common.{◌≡◌, ◌∙◌, ℕ, zero, suc, ◌+◌, ◌<◌, ◌^◌, ℤ, nat_abs, nat_lt, List, length, Bool, true, false, cond, Option, Some, None, Result, Ok, Err, MatchResult, arith, ap, refl, sym, subst}
+use Rattle.std.proofs.Common.{◌≡◌, ◌∙◌, ℕ, zero, suc, ◌+◌, ◌<◌, ◌^◌, ℤ, nat_abs, nat_lt, List, length, Bool, true, false, cond, Option, Some, None, Result, Ok, Err, MatchResult, arith, refl, subst}
 use Rattle.std.specs.List.{fold}
 use Rattle.fd_exact.specs.States.{part}
 use Rattle.fd_equations.specs.Rounded.{constants_of, jacobian_of, rounded_residual_of, start_matrix_of}

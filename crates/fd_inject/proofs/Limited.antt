@@ -1,5 +1,5 @@
 -- Lists and matrices within a limit or past it.
-use Rattle.std.proofs.Common.{◌≡◌, ◌∙◌, ℕ, ◌<◌, ◌≤◌, ◌^◌, ℤ, pos, nat_abs, nat_lt, List, length, Bool, true, false, is_some, Option, Some, None, Ok, Err, arith, refl, ap}
+use Rattle.std.proofs.Common.{◌≡◌, ◌∙◌, ℕ, ◌<◌, ◌≤◌, ◌^◌, ℤ, nat_abs, nat_lt, List, length, Bool, true, false, is_some, Some, None, Ok, Err, arith, ap}
 use Rattle.fd_exact.specs.States.{part, entry}
 use Rattle.fd_mat.specs.Rows.{EntriesWithin, IsFirstPast}
 use Rattle.fd_inverse.specs.Elimination.{inverse_of}

@@ -1,12 +1,11 @@
 -- Updates.
-use Rattle.std.proofs.Common.{◌≡◌, ◌∙◌, ℕ, ◌+◌, ◌<◌, ◌≤◌, ◌^◌, ℤ, pos, neg_ℤ, ◌+ℤ◌, ◌≤ℤ◌, nat_abs, List, [], ◌∷◌, ◌++◌, length, get_or, Ok, Err, arith, ap, sym, refl, subst, inl, inr}
-use Rattle.std.specs.List.{All, fold}
+use Rattle.std.proofs.Common.{◌≡◌, ◌∙◌, ℕ, ◌<◌, ◌≤◌, ◌^◌, ℤ, pos, ◌+ℤ◌, nat_abs, List, [], ◌∷◌, ◌++◌, length, Ok, Err, arith, ap, sym, subst, inl, inr}
 use Rattle.std.proofs.lemmas.Bool.{cases_lt}
 use Rattle.std.proofs.lemmas.Int.{ints}
 use Rattle.std.proofs.Math.Seq.{get_or-append_seam}
 use Rattle.std.proofs.lemmas.List.{get_or_append_left, length-append}
 use Rattle.std.proofs.lemmas.List.Elements.{All-from_get_or, All-get_or}
-use Rattle.fd_exact.specs.States.{part, entry}
+use Rattle.fd_exact.specs.States.{part}
 use Rattle.fd_mat.specs.Rows.{EntriesWithin, row_of}
 use Rattle.fd_equations.specs.Conditions.{IsPart, IsPoint}
 use Rattle.fd_equations.specs.Rounded.{list_of}

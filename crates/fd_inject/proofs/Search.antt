@@ -1,5 +1,5 @@
 -- The first place at which a test holds.
-use Rattle.std.proofs.Common.{◌≡◌, ℕ, zero, suc, ◌+◌, ◌<◌, ◌≤◌, Bool, true, false, cond, Option, Some, None, IsNone, is_some, arith, refl, ap, sym, ◌∙◌, ◌⊎◌, ⊎_elim}
+use Rattle.std.proofs.Common.{◌≡◌, ℕ, zero, suc, ◌<◌, Bool, true, false, cond, Option, Some, None, is_some, arith, refl, ap, sym, ◌∙◌, ◌⊎◌, ⊎_elim}
 use Rattle.fd_inject.specs.Search.{first_of, first_place}
 
 last : (k n : ℕ) → k < suc n → (k < n) ⊎ (k ≡ n)

@@ -1,5 +1,5 @@
 -- Lists and matrices that pass a limit, and the inverse of a matrix.
-use Rattle.std.specs.Prelude.{ℕ, ◌<◌, ◌≤◌, ◌^◌, ℤ, nat_abs, nat_lt, Bool, is_some, List, length, Option, Some, None, Result, Ok, Err}
+use Rattle.std.specs.Prelude.{ℕ, ◌<◌, ◌≤◌, ◌^◌, ℤ, nat_abs, nat_lt, is_some, List, length, Option, Some, None, Result, Ok, Err}
 use Rattle.fd_exact.specs.States.{part, entry}
 use Rattle.fd_inverse.specs.Elimination.{inverse_of}
 use Rattle.fd_inverse.specs.declared.fault.Stop.{Stop}

@@ -67,14 +67,14 @@ fn dot(row: &[i128], residual: &[i128]) -> i128
     sum
 }
 
-// An entry of an inverse times a part of a residual.
+// An entry of an inverse times a part of a residual: one multiplication of 64 bits.
 fn product(entry: i128, residual: i128) -> i128
     requires entry { nat_abs entry ≤ 2 ^ 56 }
     requires residual { nat_abs residual ≤ 2 ^ 58 }
     ensures value { result ≡ entry *ℤ residual }
     ensures small { nat_abs result ≤ 2 ^ 114 }
 {
-    entry * residual
+    (entry as i64) as i128 * (residual as i64) as i128
 }
 
 // z / 2^40 to the nearest.

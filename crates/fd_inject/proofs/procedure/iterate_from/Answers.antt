@@ -1,6 +1,5 @@
-use Rattle.std.proofs.Common.{◌≡◌, ◌∙◌, ◌+◌, ap, sym, subst, refl, arith, true, false, Ok, Err}
+use Rattle.std.proofs.Common.{◌≡◌, ◌∙◌, ◌+◌, ap, refl, arith, false, Ok, Err}
 use Rattle.std.proofs.lemmas.Result.{err_from_is_err_and}
-use Rattle.fd_inject.specs.Procedure.{next_iterate}
 use Rattle.fd_inject.proofs.Iterates.{iterated_more, last_fault, last_still, last_whole}
 use Rattle.fd_inject.proofs.Limited.{unless_more}
 use Rattle.fd_inject.proofs.procedure.iterate_from.Goals as goal

@@ -1,4 +1,4 @@
-use Rattle.std.proofs.Common.{◌≡◌, ◌∙◌, ap, sym, set, FitsSigned, rules}
+use Rattle.std.proofs.Common.{◌∙◌, ap, sym, set, FitsSigned, rules}
 use Rattle.std.specs.Int.{w128}
 use Rattle.std.proofs.lemmas.Int.{to_z-of_z}
 use Rattle.fd_inject.proofs.Iterates.{nominal_at, nominal_none}

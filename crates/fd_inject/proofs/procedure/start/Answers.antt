@@ -1,6 +1,5 @@
-use Rattle.std.proofs.Common.{◌≡◌, ◌∙◌, ◌^◌, length, ap, sym, subst, Ok, Err, rules, arith}
+use Rattle.std.proofs.Common.{◌≡◌, ◌∙◌, ◌^◌, length, ap, sym, subst, Ok, rules, arith}
 use Rattle.std.specs.List.{fold}
-use Rattle.fd_equations.specs.Rounded.{constants_of}
 use Rattle.fd_equations.proofs.Lists.{rewritten}
 use Rattle.std.proofs.lemmas.Result.{err_from_is_err_and}
 use Rattle.fd_inject.specs.Procedure.{with_nominal}

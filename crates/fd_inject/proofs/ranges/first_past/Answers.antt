@@ -1,4 +1,4 @@
-use Rattle.std.proofs.Common.{◌≡◌, ◌∙◌, ◌<◌, ◌^◌, nat_abs, sym, subst, arith, FitsSigned, rules}
+use Rattle.std.proofs.Common.{◌≡◌, ◌<◌, nat_abs, sym, subst, arith, FitsSigned, rules}
 use Rattle.std.specs.Int.{w128}
 use Rattle.std.proofs.lemmas.Int.{to_z-of_z}
 use Rattle.fd_exact.specs.States.{part}

@@ -1,4 +1,4 @@
-use Rattle.std.proofs.Common.{◌≡◌, ◌∙◌, ◌<◌, ◌≤◌, ◌^◌, ℤ, nat_abs, length, pos, arith, ap, sym, subst, below_more}
+use Rattle.std.proofs.Common.{◌∙◌, ◌<◌, ◌≤◌, ◌^◌, nat_abs, length, pos, arith, ap, sym, subst, below_more}
 use Rattle.std.proofs.lemmas.List.{get_or_read}
 use Rattle.fd_exact.specs.States.{part}
 use Rattle.fd_inject.specs.Procedure.{is_moving}

@@ -1,4 +1,4 @@
-use Rattle.std.proofs.Common.{◌≡◌, ℕ, ◌*◌, ◌≤◌, ◌^◌, ◌*ℤ◌, nat_abs}
+use Rattle.std.proofs.Common.{◌≡◌, ◌*◌, ◌≤◌, ◌^◌, ◌*ℤ◌, nat_abs}
 use Rattle.fd_exact.specs.States.{part}
 use Rattle.fd_exact.specs.Sums.{sum_z}
 use Rattle.fd_inject.proofs.updates.dot.Given as goal

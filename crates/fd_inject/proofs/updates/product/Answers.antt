@@ -1,14 +1,19 @@
-use Rattle.std.proofs.Common.{◌≡◌, ◌^◌, ◌≤◌, ◌*ℤ◌, ℤ, to_z, of_z, nat_abs, lit<, FitsSigned}
-use Rattle.std.specs.Int.{w128}
-use Rattle.std.proofs.lemmas.Int.{to_z-of_z, fits_signed_mul}
+use Rattle.std.proofs.Common.{◌≡◌, ◌^◌, ◌≤◌, ◌*ℤ◌, ℤ, to_z, of_z, nat_abs, lit<, arith, FitsSigned}
+use Rattle.std.specs.Int.{w64, w128}
+use Rattle.std.proofs.lemmas.Int.{to_z-of_z, fits_signed_mul, fits_signed_from_abs}
 use Rattle.fd_inject.proofs.Sizes.{product_size}
 use Rattle.fd_inject.proofs.updates.product.Goals as goal
 
-whole : (f p : ℤ) → FitsSigned w128 f → FitsSigned w128 p → nat_abs f ≤ 2 ^ 56 → nat_abs p ≤ 2 ^ 58 → to_z w128 (of_z w128 (to_z w128 (of_z w128 f) *ℤ to_z w128 (of_z w128 p))) ≡ f *ℤ p
-whole f p ff fp hf hp = rw (to_z-of_z w128 f ff, to_z-of_z w128 p fp) (to_z-of_z w128 (f *ℤ p) (fits_signed_mul w128 f p (2 ^ 56) (2 ^ 58) hf hp (lit< tt)))
-
-pub returns-clause-value : goal.returns-clause-value
-returns-clause-value c = whole c.args.entry c.args.residual c.ranges.entry c.ranges.residual c.requires.entry c.requires.residual
+-- a number below 2^63 is what 64 bits keep of it
+short : (z : ℤ) → nat_abs z ≤ 2 ^ 58 → to_z w128 (of_z w128 (to_z w64 (of_z w64 (to_z w128 (of_z w128 z))))) ≡ z
+short z h =
+    let long : FitsSigned w128 z = fits_signed_from_abs w128 z (omega arith) in
+    let half : FitsSigned w64 z = fits_signed_from_abs w64 z (omega arith) in
+    rw (to_z-of_z w128 z long, to_z-of_z w64 z half) (to_z-of_z w128 z long)
 
 pub returns-clause-small : goal.returns-clause-small
-returns-clause-small c = rw (whole c.args.entry c.args.residual c.ranges.entry c.ranges.residual c.requires.entry c.requires.residual) (product_size c.args.entry c.args.residual c.requires.entry c.requires.residual)
+returns-clause-small c =
+    let e = c.args.entry in
+    let r = c.args.residual in
+    let whole = fits_signed_mul w128 e r (2 ^ 56) (2 ^ 58) c.requires.entry c.requires.residual (lit< tt) in
+    rw (short e (omega (arith, c.requires.entry)), short r c.requires.residual) (rw (to_z-of_z w128 (e *ℤ r) whole) (product_size e r c.requires.entry c.requires.residual))

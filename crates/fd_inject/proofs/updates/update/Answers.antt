@@ -1,4 +1,4 @@
-use Rattle.std.proofs.Common.{◌≡◌, ◌∙◌, ◌+◌, ◌<◌, ◌≤◌, ◌^◌, ◌++◌, ◌∷◌, [], pos, ◌-ℤ◌, neg_ℤ, nat_abs, length, to_z, of_z, arith, ap, sym, subst, FitsSigned, rules}
+use Rattle.std.proofs.Common.{◌≡◌, ◌∙◌, ◌≤◌, ◌^◌, ◌++◌, ◌∷◌, [], pos, ◌-ℤ◌, neg_ℤ, nat_abs, length, to_z, of_z, arith, ap, sym, subst}
 use Rattle.std.specs.Int.{w128}
 use Rattle.fd_exact.specs.Rounding.{near_div}
 use Rattle.fd_equations.proofs.Lists.{length-list_of, list_of-more}
