@@ -2,7 +2,7 @@
 use Rattle.std.proofs.Common.{◌≡◌, ◌∙◌, ◌++◌, ℕ, List, [], ◌∷◌, Option, Some, Err, refl, sym, ap, subst, inl, inr}
 use Rattle.std.proofs.lemmas.List.{append_assoc}
 use Rattle.fd_outside.specs.Emitted.{Takes}
-use Rattle.fd_outside.proofs.Fronts.{becomes_then, takes_none, takes_then}
+use Rattle.fd_outside.proofs.CallerLemmas.{becomes_then, takes_none, takes_then}
 use Rattle.dss_values.specs.Names.{bytes}
 use Rattle.dss_profile.specs.declared.command.Command.{Command}
 use Rattle.dss_script.specs.Sessions.{GrowsSome, ReadsLast}

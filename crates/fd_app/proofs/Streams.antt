@@ -3,7 +3,7 @@ use Rattle.std.proofs.Common.{◌≡◌, ℤ, ◌+◌, ◌∙◌, ◌++◌, ℕ,
 use Rattle.std.proofs.lemmas.List.{map-append, append_assoc, append-nil}
 use Rattle.fd_outside.specs.Causes.{Rose}
 use Rattle.fd_outside.specs.Emitted.{Takes, TakesFront}
-use Rattle.fd_outside.proofs.Fronts.{becomes_then, becomes_same, front_nothing, front_then, takes_none, takes_then}
+use Rattle.fd_outside.proofs.CallerLemmas.{becomes_then, becomes_same, front_nothing, front_then, takes_none, takes_then}
 use Rattle.dss_values.specs.Names.{bytes}
 use Rattle.dss_profile.specs.declared.command.Command.{Command}
 use Rattle.dss_profile.specs.declared.names.ElementName.{ElementName}

@@ -1,5 +1,5 @@
 use Rattle.std.proofs.Common.{inl, inr, refl}
-use Rattle.fd_outside.proofs.Fronts.{front_nothing}
+use Rattle.fd_outside.proofs.CallerLemmas.{front_nothing}
 use Rattle.fd_app.specs.Outcome.{fault, texts_of}
 use Rattle.fd_app.proofs.print.print.Goals as goal
 

@@ -1,5 +1,5 @@
 use Rattle.std.proofs.Common.{inl, refl}
-use Rattle.fd_outside.proofs.Fronts.{front_nothing}
+use Rattle.fd_outside.proofs.CallerLemmas.{front_nothing}
 use Rattle.fd_app.proofs.print.print_solution.Goals as goal
 
 pub returns-in_default-clause-ends : goal.returns-in_default-clause-ends
