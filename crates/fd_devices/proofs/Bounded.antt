@@ -10,6 +10,8 @@ use Rattle.fd_exact.specs.Quotients.{ceil_nat_least}
 use Rattle.fd_exact.specs.Sums.{list_n}
 use Rattle.fd_arith.specs.declared.terms.Term.{Term}
 use Rattle.fd_arith.specs.declared.terms.Ends.{Ends}
+use Rattle.fd_arith.specs.declared.terms.NodeAt.{NodeAt}
+use Rattle.fd_arith.specs.declared.terms.NodeAt.TheVariants.{Ground, Node}
 use Rattle.fd_system.specs.declared.loads.LoadAt.{LoadAt}
 use Rattle.fd_system.specs.declared.loads.LoadPhase.{LoadPhase}
 use Rattle.fd_system.specs.Contributions.{IsDivided, IsWithin, each, stamp}
@@ -26,7 +28,7 @@ use Rattle.fd_source.proofs.Rows.{source_divided}
 use Rattle.fd_elements.proofs.Quotients.{near_most}
 use Rattle.fd_load.specs.Current.{IsLoadPhase}
 use Rattle.fd_elements.specs.Loads.{AreVoltages, IsPast, power_sum}
-use Rattle.fd_equations.specs.Conditions.{HasMagnitude, IsKnown, IsServed}
+use Rattle.fd_equations.specs.Conditions.{HasMagnitude, IsAmong, IsKnown, IsServed}
 use Rattle.fd_devices.specs.Devices.{source, line, loads, other, draw_of}
 use Rattle.fd_devices.specs.Building.{AreContributions, Fits, IsSettled, IsUsable}
 use Rattle.fd_devices.specs.Sound.{HasBranches, IsSideOf}
@@ -37,15 +39,16 @@ contributions n b ts h d w = record { inside = h.inside; divided = d; within = w
 
 -- ---- lines
 
-pub line_settled : (n size : ℕ) (l : LineData) (at : Ends) → IsLine l → IsSideOf n l.phases at.first → IsSideOf n l.phases at.second → HasBranches n l.phases at → All IsWithin (line_list l at) → IsSettled n size l.phases (line l at)
-line_settled n size l at g first second branches w = record {
+pub line_settled : (m n size : ℕ) (l : LineData) (at : Ends) → IsLine l → IsSideOf n l.phases at.first → IsSideOf n l.phases at.second → HasBranches n l.phases at → All IsWithin (line_list l at) → IsSettled m n size l.phases (line l at)
+line_settled m n size l at g first second branches w = record {
   fits = record { terms = w; loads = All-nil (λ u. ¬ (IsPast u.load)) };
   good = tt;
   bounded = record {
     terms = contributions n (64 * (1 + l.phases)) (line_list l at) (more_room n (l.phases * 64) (64 * (1 + l.phases)) (line_list l at) (omega arith) (line_inside n l at first.below second.below branches.below g.few)) (line_divided l at) w;
     constants = All-nil (IsKnown (2 * n));
     few_constants = omega arith;
-    loads = All-nil (IsServed n size);
+    loads = All-nil (IsServed m n size);
+    few_loads = omega arith;
     draw = omega arith;
   };
 }
@@ -109,8 +112,8 @@ known_from m row (v ∷ vs) h k =
     All-cons (IsKnown m) _ (constants_from (row + 1) vs) (record { row = omega arith; least = omega (arith, ints, size); most = omega (arith, ints, size) })
     (known_from m (row + 1) vs (omega arith) (All-tail IsSmallVoltage v vs k))
 
-pub source_settled : (n size : ℕ) (s : SourceData) (at : Ends) → IsSource s → IsSideOf n s.phases at.first → HasBranches n s.phases at → All IsWithin (source_list s at) → IsSettled n size s.phases (source s at)
-source_settled n size s at g first branches w =
+pub source_settled : (m n size : ℕ) (s : SourceData) (at : Ends) → IsSource s → IsSideOf n s.phases at.first → HasBranches n s.phases at → All IsWithin (source_list s at) → IsSettled m n size s.phases (source s at)
+source_settled m n size s at g first branches w =
     let count = constants_length s s.phases in
     let rows = from_length (2 * at.branch) (source_constants s) in
     let below = branches.below in
@@ -122,7 +125,8 @@ source_settled n size s at g first branches w =
         terms = contributions n (64 * (1 + s.phases)) (source_list s at) (more_room n (s.phases * 64) (64 * (1 + s.phases)) (source_list s at) (omega arith) (source_inside n s at first.below branches.below g.few)) (source_divided s at) w;
         constants = known_from (2 * n) (2 * at.branch) (source_constants s) (omega arith) (constants_small s g.volts s.phases);
         few_constants = omega arith;
-        loads = All-nil (IsServed n size);
+        loads = All-nil (IsServed m n size);
+        few_loads = omega arith;
         draw = omega arith;
       };
     }
@@ -189,27 +193,32 @@ draws_small (u ∷ us) h n =
     let rest = draws_small us (All-tail IsUsable u us h) (All-tail (λ w. ¬ (IsPast w.load)) u us n) in
     omega arith
 
-module _ (n size : ℕ) where
-  -- both nodes of a part load and its magnitude
+pub among_more : (m n : ℕ) (node : NodeAt) → m ≤ n → IsAmong m node → IsAmong n node
+among_more m n Ground h k = tt
+among_more m n (Node j) h k = omega arith
+
+module _ (m n size : ℕ) where
+  -- a part load is between nodes, and its magnitude stands behind the complex unknowns
   pub record StandsInside (u : LoadAt) : Type 0 where
-    pub nodes : StandsBelow n u
+    pub nodes : StandsBelow m u
     pub magnitude : HasMagnitude n size u.load.model u.magnitude
 
   all_loads : (us : List LoadAt) → All IsUsable us → All StandsInside us → All IsLoad us
-  all_loads [] h m = All-nil IsLoad
-  all_loads (u ∷ us) h m = All-cons IsLoad u us (is_load n size u (All-head IsUsable u us h) (All-head StandsInside u us m).magnitude) (all_loads us (All-tail IsUsable u us h) (All-tail StandsInside u us m))
+  all_loads [] h i = All-nil IsLoad
+  all_loads (u ∷ us) h i = All-cons IsLoad u us (is_load n size u (All-head IsUsable u us h) (All-head StandsInside u us i).magnitude) (all_loads us (All-tail IsUsable u us h) (All-tail StandsInside u us i))
 
-  is_served : (u : LoadAt) → IsUsable u → ¬ (IsPast u.load) → StandsInside u → IsServed n size u
-  is_served u h p m = record { phase = is_load_phase u.load h.voltages p; first = m.nodes.first; second = m.nodes.second; magnitude = m.magnitude }
+  is_served : (u : LoadAt) → IsUsable u → ¬ (IsPast u.load) → StandsInside u → IsServed m n size u
+  is_served u h p i = record { phase = is_load_phase u.load h.voltages p; first = i.nodes.first; second = i.nodes.second; magnitude = i.magnitude }
 
-  all_served : (us : List LoadAt) → All IsUsable us → All (λ u. ¬ (IsPast u.load)) us → All StandsInside us → All (IsServed n size) us
-  all_served [] h p m = All-nil (IsServed n size)
-  all_served (u ∷ us) h p m = All-cons (IsServed n size) u us
-      (is_served u (All-head IsUsable u us h) (All-head (λ w. ¬ (IsPast w.load)) u us p) (All-head StandsInside u us m))
-      (all_served us (All-tail IsUsable u us h) (All-tail (λ w. ¬ (IsPast w.load)) u us p) (All-tail StandsInside u us m))
+  all_served : (us : List LoadAt) → All IsUsable us → All (λ u. ¬ (IsPast u.load)) us → All StandsInside us → All (IsServed m n size) us
+  all_served [] h p i = All-nil (IsServed m n size)
+  all_served (u ∷ us) h p i = All-cons (IsServed m n size) u us
+      (is_served u (All-head IsUsable u us h) (All-head (λ w. ¬ (IsPast w.load)) u us p) (All-head StandsInside u us i))
+      (all_served us (All-tail IsUsable u us h) (All-tail (λ w. ¬ (IsPast w.load)) u us p) (All-tail StandsInside u us i))
 
-  all_below : (us : List LoadAt) → All StandsInside us → All (StandsBelow n) us
-  all_below us m = All-weaker StandsInside (StandsBelow n) (λ u i. i.nodes) us m
+  all_below : m ≤ n → (us : List LoadAt) → All StandsInside us → All (StandsBelow n) us
+  all_below h us a = All-weaker StandsInside (StandsBelow n)
+      (λ u i. record { first = among_more m n u.first h i.nodes.first; second = among_more m n u.second h i.nodes.second }) us a
 
 -- the square of a nominal voltage
 square_between : (z : ℤ) → pos (5 * 10 ^ 6) ≤ℤ z → z ≤ℤ pos (10 ^ 12) → (pos 0 <ℤ (z *ℤ z)) × ((z *ℤ z) ≤ℤ pos (10 ^ 32))
@@ -244,30 +253,32 @@ pub loads_divided : (us : List LoadAt) → All IsUsable us → All IsDivided (fl
 loads_divided [] h = All-nil IsDivided
 loads_divided (u ∷ us) h = All-append IsDivided (linear_list u) (flat_map linear_list us) (linear_divided u (All-head IsUsable u us h) (eqb u.load.model 2)) (loads_divided us (All-tail IsUsable u us h))
 
-pub loads_settled : (n size : ℕ) (us : List LoadAt) → All IsUsable us → length us ≤ 3 → All (StandsInside n size) us → Fits (loads us) → IsSettled n size 0 (loads us)
-loads_settled n size us h few inside f =
+pub loads_settled : (m n size : ℕ) (us : List LoadAt) → m ≤ n → All IsUsable us → length us ≤ 3 → All (StandsInside m n size) us → Fits (loads us) → IsSettled m n size 0 (loads us)
+loads_settled m n size us among h few inside f =
     let draws = draws_small us h f.loads in
     record {
       fits = f;
-      good = all_loads n size us h inside;
+      good = all_loads m n size us h inside;
       bounded = record {
-        terms = contributions n 64 (flat_map linear_list us) (more_room n (length us * 16) 64 (flat_map linear_list us) (omega arith) (loads_inside n us (all_below n size us inside))) (loads_divided us h) f.terms;
+        terms = contributions n 64 (flat_map linear_list us) (more_room n (length us * 16) 64 (flat_map linear_list us) (omega arith) (loads_inside n us (all_below m n size among us inside))) (loads_divided us h) f.terms;
         constants = All-nil (IsKnown (2 * n));
         few_constants = omega arith;
-        loads = all_served n size us h f.loads inside;
+        loads = all_served m n size us h f.loads inside;
+        few_loads = omega arith;
         draw = omega arith;
       };
     }
 
-pub other_settled : (n size : ℕ) → IsSettled n size 0 other
-other_settled n size = record {
+pub other_settled : (m n size : ℕ) → IsSettled m n size 0 other
+other_settled m n size = record {
   fits = record { terms = All-nil IsWithin; loads = All-nil (λ u. ¬ (IsPast u.load)) };
   good = tt;
   bounded = record {
     terms = contributions n 64 [] (more_room n 0 64 [] (omega arith) (none_inside n)) (All-nil IsDivided) (All-nil IsWithin);
     constants = All-nil (IsKnown (2 * n));
     few_constants = omega arith;
-    loads = All-nil (IsServed n size);
+    loads = All-nil (IsServed m n size);
+    few_loads = omega arith;
     draw = omega arith;
   };
 }

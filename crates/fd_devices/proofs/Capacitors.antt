@@ -16,10 +16,10 @@ use Rattle.fd_cap.specs.declared.data.CapData.{CapData}
 use Rattle.fd_cap.specs.Capacitor.{IsCap, cap_draw_of, cap_list, cap_pair, cap_power, cap_volts, list_at, phase_list, volts_squared}
 use Rattle.fd_cap.proofs.Capacitor.{cap_divided}
 use Rattle.fd_elements.specs.Loads.{IsPast}
-use Rattle.fd_equations.specs.Conditions.{IsKnown, IsServed}
+use Rattle.fd_equations.specs.Conditions.{IsAmong, IsKnown, IsServed}
 use Rattle.fd_devices.specs.Devices.{capacitor}
 use Rattle.fd_devices.specs.Building.{IsSettled}
-use Rattle.fd_devices.specs.Sound.{IsBelow, IsSideOf, terminal_nodes}
+use Rattle.fd_devices.specs.Sound.{IsSideOf, terminal_nodes}
 use Rattle.fd_devices.proofs.Counting.{AreInside, each_inside, joined_inside, more_room, none_inside, stamp_inside}
 use Rattle.fd_devices.proofs.Bounded.{contributions}
 use Rattle.fd_devices.proofs.Transformers.{IsPairBelow, pair_below}
@@ -37,7 +37,7 @@ module _ (n : ℕ) where
       (joined_inside n 4 4 (stamp p.second p.first (pos 0) (neg_ℤ b) over) (stamp p.second p.second (pos 0) b over)
       (stamp_inside n p.second p.first (pos 0) (neg_ℤ b) over h.second h.first) (stamp_inside n p.second p.second (pos 0) b over h.second h.second))
 
-  cap_inside : (d : CapData) (closed : Bool) (at : Ends) → d.phases ≤ 3 → All (IsBelow n) at.first → AreInside n 64 (cap_list d closed at)
+  cap_inside : (d : CapData) (closed : Bool) (at : Ends) → d.phases ≤ 3 → All (IsAmong n) at.first → AreInside n 64 (cap_list d closed at)
   cap_inside d true at few below = more_room n (d.phases * 16) 64 (cap_list d true at) (omega arith)
       (each_inside n 16 (list_at d at) d.phases (λ k p. phase_inside d (cap_pair d at k) (pair_below n (pairs_of d.phases d.conn) at.first k below)))
   cap_inside d false at few below = more_room n 0 64 [] (omega arith) (none_inside n)
@@ -80,15 +80,16 @@ draw_small d false h = omega arith
 
 -- ---- what it adds
 
-pub capacitor_settled : (n size : ℕ) (d : CapData) (closed : Bool) (at : Ends) → IsCap d → IsSideOf n (terminal_nodes d.phases) at.first → All IsWithin (cap_list d closed at) → IsSettled n size 0 (capacitor d closed at)
-capacitor_settled n size d closed at h side w = record {
+pub capacitor_settled : (m n size : ℕ) (d : CapData) (closed : Bool) (at : Ends) → IsCap d → IsSideOf n (terminal_nodes d.phases) at.first → All IsWithin (cap_list d closed at) → IsSettled m n size 0 (capacitor d closed at)
+capacitor_settled m n size d closed at h side w = record {
   fits = record { terms = w; loads = All-nil (λ u. ¬ (IsPast u.load)) };
   good = h;
   bounded = record {
     terms = contributions n 64 (cap_list d closed at) (cap_inside n d closed at (phases_few d.phases h.phases) side.below) (cap_divided d closed at h) w;
     constants = All-nil (IsKnown (2 * n));
     few_constants = omega arith;
-    loads = All-nil (IsServed n size);
+    loads = All-nil (IsServed m n size);
+    few_loads = omega arith;
     draw = omega (arith, draw_small d closed h);
   };
 }

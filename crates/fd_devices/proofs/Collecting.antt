@@ -48,12 +48,15 @@ added_more ds d =
     let w = list_n-more device_draw ds d in
     λ i. record { share = record { constants = c i; terms = t i; loads = l i }; draw = w i }
 
-bounded_more : (n size m k b c : ℕ) (a p : Added) → IsBounded n size m b a → IsBounded n size k c p → IsBounded n size (m + k) (b + c) (beside a p)
-bounded_more n size m k b c a p h g =
+bounded_more : (nodes n size m k b c : ℕ) (a p : Added) → IsBounded nodes n size m b a → IsBounded nodes n size k c p → IsBounded nodes n size (m + k) (b + c) (beside a p)
+bounded_more nodes n size m k b c a p h g =
     let terms = length-append a.share.terms p.share.terms in
     let constants = length-append a.share.constants p.share.constants in
     let few = h.terms.few in
     let few' = g.terms.few in
+    let loads = length-append a.share.loads p.share.loads in
+    let served = h.few_loads in
+    let served' = g.few_loads in
     let known = h.few_constants in
     let known' = g.few_constants in
     let draw = h.draw in
@@ -67,23 +70,24 @@ bounded_more n size m k b c a p h g =
       };
       constants = All-append (IsKnown (2 * n)) a.share.constants p.share.constants h.constants g.constants;
       few_constants = omega arith;
-      loads = All-append (IsServed n size) a.share.loads p.share.loads h.loads g.loads;
+      loads = All-append (IsServed nodes n size) a.share.loads p.share.loads h.loads g.loads;
+      few_loads = omega arith;
       draw = omega arith;
     }
 
 -- one element and its device more
-pub collected_more : (n size : ℕ) (es : Elements) (e : ElementName × Element) (ds : List Device) (d : Device) (a p b : Added)
-    → AreCollected n size es ds a → IsSettled n size (branch_phases e.1) d → p ≡ added_by d → b ≡ beside a p → AreCollected n size (es ++ e ∷ []) (ds ++ d ∷ []) b
-collected_more n size es e ds d a p b h s pe be =
+pub collected_more : (nodes n size : ℕ) (es : Elements) (e : ElementName × Element) (ds : List Device) (d : Device) (a p b : Added)
+    → AreCollected nodes n size es ds a → IsSettled nodes n size (branch_phases e.1) d → p ≡ added_by d → b ≡ beside a p → AreCollected nodes n size (es ++ e ∷ []) (ds ++ d ∷ []) b
+collected_more nodes n size es e ds d a p b h s pe be =
     let more : b ≡ beside a (added_by d) = be ∙ ap (beside a) pe in
     let count : length (es ++ e ∷ []) ≡ length es + 1 = length-append es (e ∷ []) in
     let branches = list_n-more (λ (x : ElementName × Element). branch_phases x.1) es e in
-    let bounded = bounded_more n size (length es) 1 (list_n (λ (x : ElementName × Element). branch_phases x.1) es) (branch_phases e.1) a (added_by d) h.bounded s.bounded in
+    let bounded = bounded_more nodes n size (length es) 1 (list_n (λ (x : ElementName × Element). branch_phases x.1) es) (branch_phases e.1) a (added_by d) h.bounded s.bounded in
     record {
       added = more ∙ ap (λ x. beside x (added_by d)) h.added ∙ sym (added_more ds d);
       fits = All-append Fits ds (d ∷ []) h.fits (All-cons Fits d [] s.fits (All-nil Fits));
       good = All-append IsGood ds (d ∷ []) h.good (All-cons IsGood d [] s.good (All-nil IsGood));
-      bounded = subst (IsBounded n size (length (es ++ e ∷ [])) (list_n (λ (x : ElementName × Element). branch_phases x.1) (es ++ e ∷ []))) (sym more)
-          (subst (λ m. IsBounded n size m (list_n (λ (x : ElementName × Element). branch_phases x.1) (es ++ e ∷ [])) (beside a (added_by d))) (sym count)
-          (subst (λ m. IsBounded n size (length es + 1) m (beside a (added_by d))) (sym branches) bounded));
+      bounded = subst (IsBounded nodes n size (length (es ++ e ∷ [])) (list_n (λ (x : ElementName × Element). branch_phases x.1) (es ++ e ∷ []))) (sym more)
+          (subst (λ m. IsBounded nodes n size m (list_n (λ (x : ElementName × Element). branch_phases x.1) (es ++ e ∷ [])) (beside a (added_by d))) (sym count)
+          (subst (λ m. IsBounded nodes n size (length es + 1) m (beside a (added_by d))) (sym branches) bounded));
     }

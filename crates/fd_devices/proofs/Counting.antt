@@ -17,7 +17,7 @@ use Rattle.fd_line.specs.Line.{branch_row, charge_at, end_row, line_list, phase_
 use Rattle.fd_source.specs.declared.data.SourceData.{SourceData}
 use Rattle.fd_source.specs.Equations.{phase_list as source_phase_list, reactance_of as source_reactance, resistance_of as source_resistance, source_list}
 use Rattle.fd_devices.specs.Building.{IsInside}
-use Rattle.fd_devices.specs.Sound.{IsBelow}
+use Rattle.fd_equations.specs.Conditions.{IsAmong}
 
 -- ---- places
 
@@ -53,7 +53,7 @@ module _ (n : ℕ) where
   one_inside : (r c : ℕ) (a d : ℤ) → r < 2 * n → c < 2 * n → AreInside n 1 (one r c a d)
   one_inside r c a d p q = one_by (int_eq a (pos 0)) r c a d p q
 
-  pub stamp_inside : (r c : NodeAt) (a b d : ℤ) → IsBelow n r → IsBelow n c → AreInside n 4 (stamp r c a b d)
+  pub stamp_inside : (r c : NodeAt) (a b d : ℤ) → IsAmong n r → IsAmong n c → AreInside n 4 (stamp r c a b d)
   stamp_inside (Node r) (Node c) a b d p q =
       joined_inside n 1 3 (one (2 * r) (2 * c) a d) _ (one_inside (2 * r) (2 * c) a d (omega arith) (omega arith))
       (joined_inside n 1 2 (one (2 * r) (2 * c + 1) (neg_ℤ b) d) _ (one_inside (2 * r) (2 * c + 1) (neg_ℤ b) d (omega arith) (omega arith))
@@ -61,10 +61,10 @@ module _ (n : ℕ) where
   stamp_inside (Node r) Ground a b d p q = more_room n 0 4 [] (omega arith) (none_inside n)
   stamp_inside Ground c a b d p q = more_room n 0 4 [] (omega arith) (none_inside n)
 
-  pub node_below : (ns : List NodeAt) (k : ℕ) → All (IsBelow n) ns → IsBelow n (node_of ns k)
+  pub node_below : (ns : List NodeAt) (k : ℕ) → All (IsAmong n) ns → IsAmong n (node_of ns k)
   node_below [] k h = tt
-  node_below (m ∷ ns) zero h = All-head (IsBelow n) m ns h
-  node_below (m ∷ ns) (suc k) h = node_below ns k (All-tail (IsBelow n) m ns h)
+  node_below (m ∷ ns) zero h = All-head (IsAmong n) m ns h
+  node_below (m ∷ ns) (suc k) h = node_below ns k (All-tail (IsAmong n) m ns h)
 
   drops_inside : (r x : ℕ → ℕ → ℤ) (branch m k : ℕ) → branch + m ≤ n → k < m → AreInside n (m * 4) (drop_list r x branch m k)
   drops_inside r x branch m k h p = each_inside n 4 (drop_at r x branch k) m
@@ -72,7 +72,7 @@ module _ (n : ℕ) where
 
   -- ---- lines
 
-  module _ (l : LineData) (at : Ends) (first : All (IsBelow n) at.first) (second : All (IsBelow n) at.second) (room : at.branch + l.phases ≤ n) where
+  module _ (l : LineData) (at : Ends) (first : All (IsAmong n) at.first) (second : All (IsAmong n) at.second) (room : at.branch + l.phases ≤ n) where
     branch_inside : (k : ℕ) → k < l.phases → AreInside n (8 + l.phases * 4) (branch_row l at k)
     branch_inside k p =
         let r = branch_of at.branch k in
@@ -82,7 +82,7 @@ module _ (n : ℕ) where
         (stamp_inside r (node_of at.second k) (negsuc 0) (pos 0) (pos 1) (omega arith) (node_below at.second k second)))
         (drops_inside (resistance_of l) (reactance_of l) at.branch l.phases k room p)
 
-    end_inside : (ns : List NodeAt) (sign : ℤ) (k : ℕ) → All (IsBelow n) ns → k < l.phases → AreInside n (4 + l.phases * 4) (end_row l at.branch ns sign k)
+    end_inside : (ns : List NodeAt) (sign : ℤ) (k : ℕ) → All (IsAmong n) ns → k < l.phases → AreInside n (4 + l.phases * 4) (end_row l at.branch ns sign k)
     end_inside ns sign k h p =
         joined_inside n 4 (l.phases * 4) (stamp (node_of ns k) (branch_of at.branch k) sign (pos 0) (pos 1)) (each (charge_at l ns k) l.phases)
         (stamp_inside (node_of ns k) (branch_of at.branch k) sign (pos 0) (pos 1) (node_below ns k h) (omega arith))
@@ -99,7 +99,7 @@ module _ (n : ℕ) where
 
   -- ---- sources
 
-  module _ (s : SourceData) (at : Ends) (first : All (IsBelow n) at.first) (room : at.branch + s.phases ≤ n) where
+  module _ (s : SourceData) (at : Ends) (first : All (IsAmong n) at.first) (room : at.branch + s.phases ≤ n) where
     source_phase_inside : (k : ℕ) → k < s.phases → s.phases ≤ 3 → AreInside n 20 (source_phase_list s at k)
     source_phase_inside k p few =
         let r = branch_of at.branch k in
@@ -119,8 +119,8 @@ module _ (n : ℕ) where
 
   -- both nodes of a part load
   pub record StandsBelow (u : LoadAt) : Type 0 where
-    pub first : IsBelow n u.first
-    pub second : IsBelow n u.second
+    pub first : IsAmong n u.first
+    pub second : IsAmong n u.second
 
   impedance_inside : (u : LoadAt) → StandsBelow u → AreInside n 16 (impedance_list u)
   impedance_inside u h =

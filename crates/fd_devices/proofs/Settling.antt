@@ -1,7 +1,7 @@
 -- The devices of a load and of an element at its place are settled.
-use Rattle.std.proofs.Common.{◌≡◌, ◌∙◌, ℕ, zero, suc, ◌+◌, ◌*◌, ◌%◌, ◌<◌, ◌≤◌, ◌==◌, inl, inr, Bool, true, false, if◌then◌else◌, List, [], ◌∷◌, ◌++◌, add-one, arith, ap, refl, sym, subst}
+use Rattle.std.proofs.Common.{◌≡◌, ◌∙◌, ℕ, zero, suc, ◌+◌, ◌*◌, ◌%◌, ◌<◌, ◌≤◌, ◌==◌, inl, inr, Bool, true, false, if◌then◌else◌, List, [], ◌∷◌, ◌++◌, length, add-one, arith, ap, refl, sym, subst}
 use Rattle.std.specs.List.{All}
-use Rattle.std.proofs.lemmas.List.Elements.{All-nil, All-cons, All-append}
+use Rattle.std.proofs.lemmas.List.Elements.{All-nil, All-cons, All-append, All-weaker}
 use Rattle.fd_arith.specs.declared.terms.NodeAt.{NodeAt}
 use Rattle.fd_arith.specs.declared.terms.NodeAt.TheVariants.{Ground}
 use Rattle.fd_arith.specs.declared.terms.Ends.{Ends}
@@ -9,7 +9,7 @@ use Rattle.fd_arith.specs.declared.terms.TapPair.{TapPair}
 use Rattle.fd_line.specs.Series.{node_of}
 use Rattle.fd_elements.specs.declared.powers.LoadPower.{LoadPower}
 use Rattle.fd_elements.specs.Lines.{line_data_of}
-use Rattle.fd_equations.specs.Conditions.{HasMagnitude}
+use Rattle.fd_equations.specs.Conditions.{HasMagnitude, IsAmong}
 use Rattle.fd_equations.specs.Rounded.{list_of}
 use Rattle.fd_equations.proofs.Lists.{length-list_of, list_of-more}
 use Rattle.dss_values.specs.declared.words.Connection.{Connection}
@@ -29,10 +29,10 @@ use Rattle.fd_devices.specs.Devices.{source, line, transformer, capacitor, loads
 use Rattle.fd_devices.specs.Settings.{Settings}
 use Rattle.fd_devices.specs.Sources.{source_data_of}
 use Rattle.fd_devices.specs.Scripted.{device_of, first_state, first_taps, load_at, magnitude_place, phases_of, second_node}
-use Rattle.fd_devices.specs.Sound.{HasBranches, HasMagnitudes, IsBelow, IsSideOf, IsSited, terminal_nodes}
+use Rattle.fd_devices.specs.Sound.{HasBranches, HasMagnitudes, IsSideOf, IsSited, terminal_nodes}
 use Rattle.fd_devices.specs.Building.{Fits, IsSettled, IsUsable}
 use Rattle.fd_devices.proofs.Counting.{node_below}
-use Rattle.fd_devices.proofs.Bounded.{StandsInside, loads_settled, other_settled}
+use Rattle.fd_devices.proofs.Bounded.{StandsInside, among_more, loads_settled, other_settled}
 
 -- ---- loads
 
@@ -42,10 +42,10 @@ all_listed P (suc n) f h =
     let more : list_of (suc n) f ≡ list_of n f ++ f n ∷ [] = ap (λ m. list_of m f) (sym (add-one n)) ∙ list_of-more n f in
     subst (All P) (sym more) (All-append P (list_of n f) (f n ∷ []) (all_listed P n f (λ k p. h k (omega arith))) (All-cons P (f n) [] (h n (omega arith)) (All-nil P)))
 
-second_below : (n : ℕ) (c : Connection) (phases : ℕ) (ns : List NodeAt) (k : ℕ) → All (IsBelow n) ns → IsBelow n (second_node c phases ns k)
+second_below : (n : ℕ) (c : Connection) (phases : ℕ) (ns : List NodeAt) (k : ℕ) → All (IsAmong n) ns → IsAmong n (second_node c phases ns k)
 second_below n Wye phases ns k h = by (phases == 1)
   where
-    by : (b : Bool) → IsBelow n (if b then node_of ns 1 else Ground)
+    by : (b : Bool) → IsAmong n (if b then node_of ns 1 else Ground)
     by true = node_below n ns 1 h
     by false = tt
 second_below n Delta phases ns k h = node_below n ns ((k + 1) % 3) h
@@ -67,56 +67,66 @@ magnitude_inside n size phases first k model (inr (inr e)) h p =
     subst (λ j. HasMagnitude n size j (magnitude_place j first k)) (sym e) (refl, (least, most))
 
 pub phases_settled : (load : Load) (ns : List NodeAt) (magnitude : ℕ) (powers : List LoadPower) → LoadInRange load → All IsUsable (phases_of load ns magnitude powers) → Fits (loads (phases_of load ns magnitude powers))
-    → (n size : ℕ) → IsSideOf n (terminal_nodes load.phases) ns → (load.model ≡ 5 → HasMagnitudes n size load.phases magnitude) → IsSettled n size 0 (loads (phases_of load ns magnitude powers))
-phases_settled load ns magnitude powers range usable fits n size side places =
+    → (m n size : ℕ) → m ≤ n → IsSideOf m (terminal_nodes load.phases) ns → (load.model ≡ 5 → HasMagnitudes n size load.phases magnitude) → IsSettled m n size 0 (loads (phases_of load ns magnitude powers))
+phases_settled load ns magnitude powers range usable fits m n size among side places =
     let count = length-list_of load.phases (load_at load ns magnitude powers) in
     let few = few_phases load.phases range.phases in
-    loads_settled n size (phases_of load ns magnitude powers) usable (omega arith)
-    (all_listed (StandsInside n size) load.phases (load_at load ns magnitude powers)
+    loads_settled m n size (phases_of load ns magnitude powers) among usable (omega arith)
+    (all_listed (StandsInside m n size) load.phases (load_at load ns magnitude powers)
     (λ k p. record {
-      nodes = record { first = node_below n ns k side.below; second = second_below n load.conn load.phases ns k side.below };
+      nodes = record { first = node_below m ns k side.below; second = second_below m load.conn load.phases ns k side.below };
       magnitude = magnitude_inside n size load.phases magnitude k load.model range.model places p;
     })) fits
 
 -- ---- elements at their places
 
-module _ (layout : LayoutView) (hertz place : ℕ) (e : Element) (s : Settings) (at : Ends) (here : at ≡ ends_of layout place e) (sited : IsSited (complex_count layout) (size_of layout) (first_magnitude layout place) (ends_of layout place e) e) where
+-- a side at nodes is among the complex unknowns, of which the nodes come first
+side_among : (m n count : ℕ) (ns : List NodeAt) → m ≤ n → IsSideOf m count ns → IsSideOf n count ns
+side_among m n count ns h s = record { count = s.count; below = All-weaker (IsAmong m) (IsAmong n) (λ node k. among_more m n node h k) ns s.below }
+
+module _ (layout : LayoutView) (hertz place : ℕ) (e : Element) (s : Settings) (at : Ends) (here : at ≡ ends_of layout place e) (sited : IsSited (length layout.nodes) (complex_count layout) (size_of layout) (first_magnitude layout place) (ends_of layout place e) e) where
   abbrev Settled : Element → Type 0
-  Settled x = IsSettled (complex_count layout) (size_of layout) (branch_phases x) (device_of layout hertz place x s)
+  Settled x = IsSettled (length layout.nodes) (complex_count layout) (size_of layout) (branch_phases x) (device_of layout hertz place x s)
 
   abbrev Stands : Ends → Element → Type 0
-  Stands t x = IsSited (complex_count layout) (size_of layout) (first_magnitude layout place) t x
+  Stands t x = IsSited (length layout.nodes) (complex_count layout) (size_of layout) (first_magnitude layout place) t x
+
+  all_nodes : length layout.nodes ≤ complex_count layout
+  all_nodes = omega arith
+
+  abbrev widened : (count : ℕ) (ns : List NodeAt) → IsSideOf (length layout.nodes) count ns → IsSideOf (complex_count layout) count ns
+  widened count ns s = side_among (length layout.nodes) (complex_count layout) count ns all_nodes s
 
   stands : Stands at e
   stands = subst (λ (t : Ends). Stands t e) (sym here) sited
 
-  pub source_here : (v : Vsource) → e ≡ the.Vsource v → ((n size : ℕ) → IsSideOf n v.phases at.first → HasBranches n v.phases at → IsSettled n size v.phases (source (source_data_of v) at)) → Settled e
+  pub source_here : (v : Vsource) → e ≡ the.Vsource v → ((m n size : ℕ) → IsSideOf n v.phases at.first → HasBranches n v.phases at → IsSettled m n size v.phases (source (source_data_of v) at)) → Settled e
   source_here v is h =
       let side = subst (λ (x : Element). Stands at x) is stands in
       let a = subst (λ (x : Element). at ≡ ends_of layout place x) is here in
-      subst Settled (sym is) (subst (λ (t : Ends). IsSettled (complex_count layout) (size_of layout) v.phases (source (source_data_of v) t)) a (h (complex_count layout) (size_of layout) side.0 side.1))
+      subst Settled (sym is) (subst (λ (t : Ends). IsSettled (length layout.nodes) (complex_count layout) (size_of layout) v.phases (source (source_data_of v) t)) a (h (length layout.nodes) (complex_count layout) (size_of layout) (widened v.phases at.first side.0) side.1))
 
-  pub line_here : (l : Line) → e ≡ the.Line l → ((n size : ℕ) → IsSideOf n l.phases at.first → IsSideOf n l.phases at.second → HasBranches n l.phases at → IsSettled n size l.phases (line (line_data_of l hertz) at)) → Settled e
+  pub line_here : (l : Line) → e ≡ the.Line l → ((m n size : ℕ) → IsSideOf n l.phases at.first → IsSideOf n l.phases at.second → HasBranches n l.phases at → IsSettled m n size l.phases (line (line_data_of l hertz) at)) → Settled e
   line_here l is h =
       let side = subst (λ (x : Element). Stands at x) is stands in
       let a = subst (λ (x : Element). at ≡ ends_of layout place x) is here in
-      subst Settled (sym is) (subst (λ (t : Ends). IsSettled (complex_count layout) (size_of layout) l.phases (line (line_data_of l hertz) t)) a (h (complex_count layout) (size_of layout) side.0 side.1 side.2))
+      subst Settled (sym is) (subst (λ (t : Ends). IsSettled (length layout.nodes) (complex_count layout) (size_of layout) l.phases (line (line_data_of l hertz) t)) a (h (length layout.nodes) (complex_count layout) (size_of layout) (widened l.phases at.first side.0) (widened l.phases at.second side.1) side.2))
 
   pub transformer_here : (t : Transformer) (taps : TapPair) → e ≡ the.Transformer t → taps ≡ first_taps s.taps
-      → ((n size : ℕ) → IsSideOf n (terminal_nodes t.phases) at.first → IsSideOf n (terminal_nodes t.phases) at.second → HasBranches n t.phases at → IsSettled n size t.phases (transformer (xfmr_data_of t) taps at)) → Settled e
+      → ((m n size : ℕ) → IsSideOf n (terminal_nodes t.phases) at.first → IsSideOf n (terminal_nodes t.phases) at.second → HasBranches n t.phases at → IsSettled m n size t.phases (transformer (xfmr_data_of t) taps at)) → Settled e
   transformer_here t taps is own h =
       let side = subst (λ (x : Element). Stands at x) is stands in
       let a = subst (λ (x : Element). at ≡ ends_of layout place x) is here in
-      subst Settled (sym is) (subst (λ (u : TapPair). IsSettled (complex_count layout) (size_of layout) t.phases (transformer (xfmr_data_of t) u (ends_of layout place (the.Transformer t)))) own
-      (subst (λ (u : Ends). IsSettled (complex_count layout) (size_of layout) t.phases (transformer (xfmr_data_of t) taps u)) a (h (complex_count layout) (size_of layout) side.0 side.1 side.2)))
+      subst Settled (sym is) (subst (λ (u : TapPair). IsSettled (length layout.nodes) (complex_count layout) (size_of layout) t.phases (transformer (xfmr_data_of t) u (ends_of layout place (the.Transformer t)))) own
+      (subst (λ (u : Ends). IsSettled (length layout.nodes) (complex_count layout) (size_of layout) t.phases (transformer (xfmr_data_of t) taps u)) a (h (length layout.nodes) (complex_count layout) (size_of layout) (widened (terminal_nodes t.phases) at.first side.0) (widened (terminal_nodes t.phases) at.second side.1) side.2)))
 
   pub capacitor_here : (k : Capacitor) (closed : Bool) → e ≡ the.Capacitor k → closed ≡ first_state s.closed
-      → ((n size : ℕ) → IsSideOf n (terminal_nodes k.phases) at.first → IsSettled n size 0 (capacitor (cap_data_of k) closed at)) → Settled e
+      → ((m n size : ℕ) → IsSideOf n (terminal_nodes k.phases) at.first → IsSettled m n size 0 (capacitor (cap_data_of k) closed at)) → Settled e
   capacitor_here k closed is own h =
       let side = subst (λ (x : Element). Stands at x) is stands in
       let a = subst (λ (x : Element). at ≡ ends_of layout place x) is here in
-      subst Settled (sym is) (subst (λ b. IsSettled (complex_count layout) (size_of layout) 0 (capacitor (cap_data_of k) b (ends_of layout place (the.Capacitor k)))) own
-      (subst (λ (u : Ends). IsSettled (complex_count layout) (size_of layout) 0 (capacitor (cap_data_of k) closed u)) a (h (complex_count layout) (size_of layout) side)))
+      subst Settled (sym is) (subst (λ b. IsSettled (length layout.nodes) (complex_count layout) (size_of layout) 0 (capacitor (cap_data_of k) b (ends_of layout place (the.Capacitor k)))) own
+      (subst (λ (u : Ends). IsSettled (length layout.nodes) (complex_count layout) (size_of layout) 0 (capacitor (cap_data_of k) closed u)) a (h (length layout.nodes) (complex_count layout) (size_of layout) (widened (terminal_nodes k.phases) at.first side))))
 
   -- the device of a load
   pub load_is : (l : Load) (nodes : List NodeAt) (magnitude : ℕ) → e ≡ the.Load l → nodes ≡ at.first → magnitude ≡ first_magnitude layout place → loads (phases_of l nodes magnitude s.powers) ≡ device_of layout hertz place e s
@@ -126,25 +136,25 @@ module _ (layout : LayoutView) (hertz place : ℕ) (e : Element) (s : Settings) 
       (λ i. loads (phases_of l (nodes_are i) (m i) s.powers)) ∙ ap (λ (x : Element). device_of layout hertz place x s) (sym is)
 
   pub load_here : (l : Load) (nodes : List NodeAt) (magnitude : ℕ) → e ≡ the.Load l → nodes ≡ at.first → magnitude ≡ first_magnitude layout place
-      → ((n size : ℕ) → IsSideOf n (terminal_nodes l.phases) nodes → (l.model ≡ 5 → HasMagnitudes n size l.phases magnitude) → IsSettled n size 0 (loads (phases_of l nodes magnitude s.powers))) → Settled e
+      → ((m n size : ℕ) → m ≤ n → IsSideOf m (terminal_nodes l.phases) nodes → (l.model ≡ 5 → HasMagnitudes n size l.phases magnitude) → IsSettled m n size 0 (loads (phases_of l nodes magnitude s.powers))) → Settled e
   load_here l nodes magnitude is ns m h =
       let side = subst (λ (x : Element). Stands at x) is stands in
       let a = subst (λ (x : Element). at ≡ ends_of layout place x) is here in
       let nodes_are = ns ∙ ap (λ (t : Ends). t.first) a in
       let places : l.model ≡ 5 → HasMagnitudes (complex_count layout) (size_of layout) l.phases magnitude = λ five. subst (HasMagnitudes (complex_count layout) (size_of layout) l.phases) (sym m) (side.1 five) in
-      let settled = h (complex_count layout) (size_of layout) (subst (IsSideOf (complex_count layout) (terminal_nodes l.phases)) (sym ns) side.0) places in
-      subst Settled (sym is) (subst (λ k. IsSettled (complex_count layout) (size_of layout) 0 (loads (phases_of l (ends_of layout place (the.Load l)).first k s.powers))) m
-      (subst (λ us. IsSettled (complex_count layout) (size_of layout) 0 (loads (phases_of l us magnitude s.powers))) nodes_are settled))
+      let settled = h (length layout.nodes) (complex_count layout) (size_of layout) all_nodes (subst (IsSideOf (length layout.nodes) (terminal_nodes l.phases)) (sym ns) side.0) places in
+      subst Settled (sym is) (subst (λ k. IsSettled (length layout.nodes) (complex_count layout) (size_of layout) 0 (loads (phases_of l (ends_of layout place (the.Load l)).first k s.powers))) m
+      (subst (λ us. IsSettled (length layout.nodes) (complex_count layout) (size_of layout) 0 (loads (phases_of l us magnitude s.powers))) nodes_are settled))
 
 -- an element that takes no part in the equations
 pub other_here : (layout : LayoutView) (hertz place : ℕ) (s : Settings) (e : Element) → ((v : Vsource) → ¬ (e ≡ the.Vsource v)) → ((l : Line) → ¬ (e ≡ the.Line l)) → ((t : Transformer) → ¬ (e ≡ the.Transformer t))
-    → ((k : Capacitor) → ¬ (e ≡ the.Capacitor k)) → ((l : Load) → ¬ (e ≡ the.Load l)) → IsSettled (complex_count layout) (size_of layout) (branch_phases e) (device_of layout hertz place e s)
+    → ((k : Capacitor) → ¬ (e ≡ the.Capacitor k)) → ((l : Load) → ¬ (e ≡ the.Load l)) → IsSettled (length layout.nodes) (complex_count layout) (size_of layout) (branch_phases e) (device_of layout hertz place e s)
 other_here layout hertz place s (the.Vsource v) a b c d f = absurd (a v refl)
-other_here layout hertz place s (the.Linecode k) a b c d f = other_settled (complex_count layout) (size_of layout)
+other_here layout hertz place s (the.Linecode k) a b c d f = other_settled (length layout.nodes) (complex_count layout) (size_of layout)
 other_here layout hertz place s (the.Line l) a b c d f = absurd (b l refl)
 other_here layout hertz place s (the.Transformer t) a b c d f = absurd (c t refl)
 other_here layout hertz place s (the.Capacitor k) a b c d f = absurd (d k refl)
 other_here layout hertz place s (the.Load l) a b c d f = absurd (f l refl)
-other_here layout hertz place s (the.RegControl k) a b c d f = other_settled (complex_count layout) (size_of layout)
-other_here layout hertz place s (the.CapControl k) a b c d f = other_settled (complex_count layout) (size_of layout)
-other_here layout hertz place s (the.Loadshape k) a b c d f = other_settled (complex_count layout) (size_of layout)
+other_here layout hertz place s (the.RegControl k) a b c d f = other_settled (length layout.nodes) (complex_count layout) (size_of layout)
+other_here layout hertz place s (the.CapControl k) a b c d f = other_settled (length layout.nodes) (complex_count layout) (size_of layout)
+other_here layout hertz place s (the.Loadshape k) a b c d f = other_settled (length layout.nodes) (complex_count layout) (size_of layout)

@@ -24,10 +24,10 @@ use Rattle.fd_xfmr.specs.Transformer.{branch_list, current_list, list_at, phase_
 use Rattle.fd_xfmr.proofs.Products.{over_positive, over_small, percent_most, phases_few, quotient_room, squares_most, times_most}
 use Rattle.fd_xfmr.proofs.Transformer.{xfmr_divided}
 use Rattle.fd_elements.specs.Loads.{IsPast}
-use Rattle.fd_equations.specs.Conditions.{IsKnown, IsServed}
+use Rattle.fd_equations.specs.Conditions.{IsAmong, IsKnown, IsServed}
 use Rattle.fd_devices.specs.Devices.{transformer}
 use Rattle.fd_devices.specs.Building.{IsSettled}
-use Rattle.fd_devices.specs.Sound.{HasBranches, IsBelow, IsSideOf, terminal_nodes}
+use Rattle.fd_devices.specs.Sound.{HasBranches, IsSideOf, terminal_nodes}
 use Rattle.fd_devices.proofs.Counting.{AreInside, each_inside, joined_inside, more_room, node_below, stamp_inside}
 use Rattle.fd_devices.proofs.Bounded.{contributions}
 
@@ -101,19 +101,19 @@ are_within d t h k =
 module _ (n : ℕ) where
   -- both nodes of a pair
   pub record IsPairBelow (p : NodePair) : Type 0 where
-    pub first : IsBelow n p.first
-    pub second : IsBelow n p.second
+    pub first : IsAmong n p.first
+    pub second : IsAmong n p.second
 
-  second_below : (p : PhasePairs) (ns : List NodeAt) (k : ℕ) → All (IsBelow n) ns → IsBelow n (second_node p ns k)
+  second_below : (p : PhasePairs) (ns : List NodeAt) (k : ℕ) → All (IsAmong n) ns → IsAmong n (second_node p ns k)
   second_below pairs.OnePhase ns k h = node_below n ns 1 h
   second_below pairs.Wye ns k h = tt
   second_below pairs.DeltaNext ns k h = node_below n ns ((k + 1) % 3) h
   second_below pairs.DeltaPrevious ns k h = node_below n ns ((k + 2) % 3) h
 
-  pub pair_below : (p : PhasePairs) (ns : List NodeAt) (k : ℕ) → All (IsBelow n) ns → IsPairBelow (pair_of p ns k)
+  pub pair_below : (p : PhasePairs) (ns : List NodeAt) (k : ℕ) → All (IsAmong n) ns → IsPairBelow (pair_of p ns k)
   pair_below p ns k h = record { first = node_below n ns k h; second = second_below p ns k h }
 
-  module _ (c : Coefficients) (p : PhaseAt) (one : IsPairBelow p.winding1) (two : IsPairBelow p.winding2) (branch : IsBelow n p.branch) where
+  module _ (c : Coefficients) (p : PhaseAt) (one : IsPairBelow p.winding1) (two : IsPairBelow p.winding2) (branch : IsAmong n p.branch) where
     branch_inside : AreInside n 20 (branch_list c p)
     branch_inside =
         joined_inside n 16 4 _ (stamp p.branch p.branch (neg_ℤ c.r) (neg_ℤ c.x) (pos (10 ^ 22)))
@@ -134,7 +134,7 @@ module _ (n : ℕ) where
     phase_inside : AreInside n 36 (phase_list c p)
     phase_inside = joined_inside n 20 16 (branch_list c p) (current_list c p) branch_inside current_inside
 
-  xfmr_inside : (d : XfmrData) (t : TapPair) (at : Ends) → All (IsBelow n) at.first → All (IsBelow n) at.second → at.branch + d.phases ≤ n → AreInside n (d.phases * 64) (xfmr_list d t at)
+  xfmr_inside : (d : XfmrData) (t : TapPair) (at : Ends) → All (IsAmong n) at.first → All (IsAmong n) at.second → at.branch + d.phases ≤ n → AreInside n (d.phases * 64) (xfmr_list d t at)
   xfmr_inside d t at first second room = more_room n (d.phases * 36) (d.phases * 64) (xfmr_list d t at) (omega arith)
       (each_inside n 36 (list_at (coefficients_of d t) d at) d.phases
       (λ k p. phase_inside (coefficients_of d t) (phase_at d at k) (pair_below (first_pairs d) at.first k first) (pair_below (second_pairs d) at.second k second) (below k p)))
@@ -144,16 +144,17 @@ module _ (n : ℕ) where
 
 -- ---- what it adds
 
-pub transformer_settled : (n size : ℕ) (d : XfmrData) (t : TapPair) (at : Ends) → IsXfmr d → AreTaps t → IsSideOf n (terminal_nodes d.phases) at.first → IsSideOf n (terminal_nodes d.phases) at.second → HasBranches n d.phases at
-    → All IsWithin (xfmr_list d t at) → IsSettled n size d.phases (transformer d t at)
-transformer_settled n size d t at h k first second branches w = record {
+pub transformer_settled : (m n size : ℕ) (d : XfmrData) (t : TapPair) (at : Ends) → IsXfmr d → AreTaps t → IsSideOf n (terminal_nodes d.phases) at.first → IsSideOf n (terminal_nodes d.phases) at.second → HasBranches n d.phases at
+    → All IsWithin (xfmr_list d t at) → IsSettled m n size d.phases (transformer d t at)
+transformer_settled m n size d t at h k first second branches w = record {
   fits = record { terms = w; loads = All-nil (λ u. ¬ (IsPast u.load)) };
   good = (h, k);
   bounded = record {
     terms = contributions n (64 * (1 + d.phases)) (xfmr_list d t at) (more_room n (d.phases * 64) (64 * (1 + d.phases)) (xfmr_list d t at) (omega arith) (xfmr_inside n d t at first.below second.below branches.below)) (xfmr_divided (coefficients_of d t) d at (are_within d t h k)) w;
     constants = All-nil (IsKnown (2 * n));
     few_constants = omega arith;
-    loads = All-nil (IsServed n size);
+    loads = All-nil (IsServed m n size);
+    few_loads = omega arith;
     draw = omega arith;
   };
 }

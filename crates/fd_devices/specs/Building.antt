@@ -58,23 +58,25 @@ pub record AreContributions (n b : ℕ) (ts : List Term) : Type 0 where
   pub within : All IsWithin ts
   pub few : length ts ≤ b
 
--- what m elements with b branches add, of n complex unknowns and `size` real ones; each element draws at most 17.5 megaampere
-pub record IsBounded (n size m b : ℕ) (a : Added) : Type 0 where
+-- what m elements with b branches add, of n complex unknowns, the nodes first, and `size` real ones; each element has at most nine part
+-- loads and draws at most 17.5 megaampere
+pub record IsBounded (nodes n size m b : ℕ) (a : Added) : Type 0 where
   pub terms : AreContributions n (64 * (m + b)) a.share.terms
   pub constants : All (IsKnown (2 * n)) a.share.constants
   pub few_constants : length a.share.constants ≤ 6 * m
-  pub loads : All (IsServed n size) a.share.loads
+  pub loads : All (IsServed nodes n size) a.share.loads
+  pub few_loads : length a.share.loads ≤ 9 * m
   pub draw : a.draw ≤ 17_500_000_000_000 * m
 
--- a device with good data that fits, with b branches, of n complex unknowns and `size` real ones
-pub record IsSettled (n size b : ℕ) (d : Device) : Type 0 where
+-- a device with good data that fits, with b branches, of n complex unknowns, the nodes first, and `size` real ones
+pub record IsSettled (nodes n size b : ℕ) (d : Device) : Type 0 where
   pub fits : Fits d
   pub good : IsGood d
-  pub bounded : IsBounded n size 1 b (added_by d)
+  pub bounded : IsBounded nodes n size 1 b (added_by d)
 
--- what the devices of these elements add, of n complex unknowns and `size` real ones
-pub record AreCollected (n size : ℕ) (elements : Elements) (ds : List Device) (a : Added) : Type 0 where
+-- what the devices of these elements add, of n complex unknowns, the nodes first, and `size` real ones
+pub record AreCollected (nodes n size : ℕ) (elements : Elements) (ds : List Device) (a : Added) : Type 0 where
   pub added : a ≡ added_by_all ds
   pub fits : All Fits ds
   pub good : All IsGood ds
-  pub bounded : IsBounded n size (length elements) (list_n (λ e. branch_phases e.1) elements) a
+  pub bounded : IsBounded nodes n size (length elements) (list_n (λ e. branch_phases e.1) elements) a

@@ -23,14 +23,10 @@ pub record IsSound (e : Element) : Type 0 where
 
 -- ---- places
 
--- a node is ground or among the first n complex unknowns
-abbrev pub IsBelow : ℕ → NodeAt → Type 0
-IsBelow n node = IsAmong n node
-
--- a side of an element has a node for each of its m terminals, among the first n complex unknowns
+-- a side of an element has a place for each of its m terminals, among the first n complex unknowns
 pub record IsSideOf (n m : ℕ) (nodes : List NodeAt) : Type 0 where
   pub count : length nodes ≡ m
-  pub below : All (IsBelow n) nodes
+  pub below : All (IsAmong n) nodes
 
 -- the branches of m phases are among the first n complex unknowns
 pub record HasBranches (n m : ℕ) (at : Ends) : Type 0 where
@@ -46,12 +42,12 @@ pub record HasMagnitudes (n size m first : ℕ) : Type 0 where
 abbrev pub terminal_nodes : ℕ → ℕ
 terminal_nodes phases = if phases == 1 then 2 else phases
 
--- where an element stands among n complex unknowns and `size` real ones, with the place of its first magnitude, which loads of constant
--- current have
-abbrev pub IsSited : ℕ → ℕ → ℕ → Ends → Element → Type 0
-IsSited n size magnitude at (the.Vsource v) = IsSideOf n v.phases at.first × HasBranches n v.phases at
-IsSited n size magnitude at (the.Line l) = IsSideOf n l.phases at.first × IsSideOf n l.phases at.second × HasBranches n l.phases at
-IsSited n size magnitude at (the.Transformer t) = IsSideOf n (terminal_nodes t.phases) at.first × IsSideOf n (terminal_nodes t.phases) at.second × HasBranches n t.phases at
-IsSited n size magnitude at (the.Capacitor c) = IsSideOf n (terminal_nodes c.phases) at.first
-IsSited n size magnitude at (the.Load l) = IsSideOf n (terminal_nodes l.phases) at.first × (l.model ≡ 5 → HasMagnitudes n size l.phases magnitude)
-IsSited n size magnitude at e = Unit {0}
+-- where an element stands among n complex unknowns, of which the nodes come first, and `size` real ones: its sides at nodes, its branches
+-- among the complex unknowns, and its magnitudes, which loads of constant current have, from the given place on
+abbrev pub IsSited : ℕ → ℕ → ℕ → ℕ → Ends → Element → Type 0
+IsSited nodes n size magnitude at (the.Vsource v) = IsSideOf nodes v.phases at.first × HasBranches n v.phases at
+IsSited nodes n size magnitude at (the.Line l) = IsSideOf nodes l.phases at.first × IsSideOf nodes l.phases at.second × HasBranches n l.phases at
+IsSited nodes n size magnitude at (the.Transformer t) = IsSideOf nodes (terminal_nodes t.phases) at.first × IsSideOf nodes (terminal_nodes t.phases) at.second × HasBranches n t.phases at
+IsSited nodes n size magnitude at (the.Capacitor c) = IsSideOf nodes (terminal_nodes c.phases) at.first
+IsSited nodes n size magnitude at (the.Load l) = IsSideOf nodes (terminal_nodes l.phases) at.first × (l.model ≡ 5 → HasMagnitudes n size l.phases magnitude)
+IsSited nodes n size magnitude at e = Unit {0}

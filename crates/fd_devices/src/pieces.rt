@@ -80,7 +80,7 @@ pub fn source_piece(alloc: Global, source: &Vsource, at: &Ends) -> Result<Piece,
     requires sound { is_source_outside source.now ≡ false }
     requires at { IsPlaced source.now.phases at.now }
     ensures added { IfOk result (λ p. added_of p ≡ added_by (source_device (source_data_of source.now) at.now)) }
-    ensures settled { IfOk result (λ p. (n size : ℕ) → IsSideOf n source.now.phases at.now.first → HasBranches n source.now.phases at.now → IsSettled n size source.now.phases (source_device (source_data_of source.now) at.now)) }
+    ensures settled { IfOk result (λ p. (m n size : ℕ) → IsSideOf n source.now.phases at.now.first → HasBranches n source.now.phases at.now → IsSettled m n size source.now.phases (source_device (source_data_of source.now) at.now)) }
     ensures range { result ≡ Err TermFault.Range → ¬ (Fits (source_device (source_data_of source.now) at.now)) }
 {
     let data = source_data(source)?;
@@ -91,7 +91,7 @@ fn source_at(alloc: Global, source: &SourceData, at: &Ends) -> Result<Piece, Ter
     requires source { IsSource source.now }
     requires at { IsPlaced source.now.phases at.now }
     ensures added { IfOk result (λ p. added_of p ≡ added_by (source_device source.now at.now)) }
-    ensures settled { IfOk result (λ p. (n size : ℕ) → IsSideOf n source.now.phases at.now.first → HasBranches n source.now.phases at.now → IsSettled n size source.now.phases (source_device source.now at.now)) }
+    ensures settled { IfOk result (λ p. (m n size : ℕ) → IsSideOf n source.now.phases at.now.first → HasBranches n source.now.phases at.now → IsSettled m n size source.now.phases (source_device source.now at.now)) }
     ensures range { result ≡ Err TermFault.Range → ¬ (Fits (source_device source.now at.now)) }
 {
     let SourceTerms { terms, constants } = source_terms(alloc, source, at)?;
@@ -126,7 +126,7 @@ pub fn line_piece(alloc: Global, line: &Line, hertz: u32, at: &Ends) -> Result<P
     requires frequency { IsOneOf (50 ∷ 60 ∷ []) hertz }
     requires at { IsBetween line.now.phases at.now }
     ensures added { IfOk result (λ p. added_of p ≡ added_by (line_device (line_data_of line.now hertz) at.now)) }
-    ensures settled { IfOk result (λ p. (n size : ℕ) → IsSideOf n line.now.phases at.now.first → IsSideOf n line.now.phases at.now.second → HasBranches n line.now.phases at.now → IsSettled n size line.now.phases (line_device (line_data_of line.now hertz) at.now)) }
+    ensures settled { IfOk result (λ p. (m n size : ℕ) → IsSideOf n line.now.phases at.now.first → IsSideOf n line.now.phases at.now.second → HasBranches n line.now.phases at.now → IsSettled m n size line.now.phases (line_device (line_data_of line.now hertz) at.now)) }
     ensures range { result ≡ Err TermFault.Range → ¬ (Fits (line_device (line_data_of line.now hertz) at.now)) }
 {
     let data = line_data(alloc, line, hertz)?;
@@ -137,7 +137,7 @@ fn line_at(alloc: Global, line: &LineData, at: &Ends) -> Result<Piece, TermFault
     requires line { IsLine line.now }
     requires at { IsBetween line.now.phases at.now }
     ensures added { IfOk result (λ p. added_of p ≡ added_by (line_device line.now at.now)) }
-    ensures settled { IfOk result (λ p. (n size : ℕ) → IsSideOf n line.now.phases at.now.first → IsSideOf n line.now.phases at.now.second → HasBranches n line.now.phases at.now → IsSettled n size line.now.phases (line_device line.now at.now)) }
+    ensures settled { IfOk result (λ p. (m n size : ℕ) → IsSideOf n line.now.phases at.now.first → IsSideOf n line.now.phases at.now.second → HasBranches n line.now.phases at.now → IsSettled m n size line.now.phases (line_device line.now at.now)) }
     ensures range { result ≡ Err TermFault.Range → ¬ (Fits (line_device line.now at.now)) }
 {
     Ok(Piece {
@@ -159,7 +159,7 @@ pub fn transformer_piece(
     requires taps { AreTaps taps }
     requires at { IsXfmrBetween xfmr.now.phases at.now }
     ensures added { IfOk result (λ p. added_of p ≡ added_by (transformer_device (xfmr_data_of xfmr.now) taps at.now)) }
-    ensures settled { IfOk result (λ p. (n size : ℕ) → IsSideOf n (terminal_nodes xfmr.now.phases) at.now.first → IsSideOf n (terminal_nodes xfmr.now.phases) at.now.second → HasBranches n xfmr.now.phases at.now → IsSettled n size xfmr.now.phases (transformer_device (xfmr_data_of xfmr.now) taps at.now)) }
+    ensures settled { IfOk result (λ p. (m n size : ℕ) → IsSideOf n (terminal_nodes xfmr.now.phases) at.now.first → IsSideOf n (terminal_nodes xfmr.now.phases) at.now.second → HasBranches n xfmr.now.phases at.now → IsSettled m n size xfmr.now.phases (transformer_device (xfmr_data_of xfmr.now) taps at.now)) }
     ensures range { result ≡ Err TermFault.Range → ¬ (Fits (transformer_device (xfmr_data_of xfmr.now) taps at.now)) }
 {
     transformer_at(alloc, &xfmr_data(xfmr), taps, at)
@@ -175,7 +175,7 @@ fn transformer_at(
     requires taps { AreTaps taps }
     requires at { IsXfmrBetween xfmr.now.phases at.now }
     ensures added { IfOk result (λ p. added_of p ≡ added_by (transformer_device xfmr.now taps at.now)) }
-    ensures settled { IfOk result (λ p. (n size : ℕ) → IsSideOf n (terminal_nodes xfmr.now.phases) at.now.first → IsSideOf n (terminal_nodes xfmr.now.phases) at.now.second → HasBranches n xfmr.now.phases at.now → IsSettled n size xfmr.now.phases (transformer_device xfmr.now taps at.now)) }
+    ensures settled { IfOk result (λ p. (m n size : ℕ) → IsSideOf n (terminal_nodes xfmr.now.phases) at.now.first → IsSideOf n (terminal_nodes xfmr.now.phases) at.now.second → HasBranches n xfmr.now.phases at.now → IsSettled m n size xfmr.now.phases (transformer_device xfmr.now taps at.now)) }
     ensures range { result ≡ Err TermFault.Range → ¬ (Fits (transformer_device xfmr.now taps at.now)) }
 {
     Ok(Piece {
@@ -196,7 +196,7 @@ pub fn capacitor_piece(
     requires range { CapacitorInRange bank.now }
     requires at { IsSide (node_count bank.now.phases) at.now.first }
     ensures added { IfOk result (λ p. added_of p ≡ added_by (capacitor_device (cap_data_of bank.now) closed at.now)) }
-    ensures settled { IfOk result (λ p. (n size : ℕ) → IsSideOf n (terminal_nodes bank.now.phases) at.now.first → IsSettled n size 0 (capacitor_device (cap_data_of bank.now) closed at.now)) }
+    ensures settled { IfOk result (λ p. (m n size : ℕ) → IsSideOf n (terminal_nodes bank.now.phases) at.now.first → IsSettled m n size 0 (capacitor_device (cap_data_of bank.now) closed at.now)) }
     ensures range { result ≡ Err TermFault.Range → ¬ (Fits (capacitor_device (cap_data_of bank.now) closed at.now)) }
 {
     capacitor_at(alloc, &cap_data(bank), closed, at)
@@ -206,7 +206,7 @@ fn capacitor_at(alloc: Global, bank: &CapData, closed: bool, at: &Ends) -> Resul
     requires bank { IsCap bank.now }
     requires at { IsSide (node_count bank.now.phases) at.now.first }
     ensures added { IfOk result (λ p. added_of p ≡ added_by (capacitor_device bank.now closed at.now)) }
-    ensures settled { IfOk result (λ p. (n size : ℕ) → IsSideOf n (terminal_nodes bank.now.phases) at.now.first → IsSettled n size 0 (capacitor_device bank.now closed at.now)) }
+    ensures settled { IfOk result (λ p. (m n size : ℕ) → IsSideOf n (terminal_nodes bank.now.phases) at.now.first → IsSettled m n size 0 (capacitor_device bank.now closed at.now)) }
     ensures range { result ≡ Err TermFault.Range → ¬ (Fits (capacitor_device bank.now closed at.now)) }
 {
     Ok(Piece {
@@ -232,7 +232,7 @@ pub fn load_piece(
     requires powers { length powers.now ≡ load.now.phases }
     requires modest { All IsModest powers.now }
     ensures added { IfOk result (λ p. added_of p ≡ added_by (load_device (phases_of load.now nodes.now magnitude powers.now))) }
-    ensures settled { IfOk result (λ p. (n size : ℕ) → IsSideOf n (terminal_nodes load.now.phases) nodes.now → (load.now.model ≡ 5 → HasMagnitudes n size load.now.phases magnitude) → IsSettled n size 0 (load_device (phases_of load.now nodes.now magnitude powers.now))) }
+    ensures settled { IfOk result (λ p. (m n size : ℕ) → m ≤ n → IsSideOf m (terminal_nodes load.now.phases) nodes.now → (load.now.model ≡ 5 → HasMagnitudes n size load.now.phases magnitude) → IsSettled m n size 0 (load_device (phases_of load.now nodes.now magnitude powers.now))) }
     ensures range { result ≡ Err TermFault.Range → ¬ (Fits (load_device (phases_of load.now nodes.now magnitude powers.now))) }
 {
     let phases = load_phases(alloc, load, nodes, magnitude, powers)?;
@@ -279,11 +279,11 @@ pub fn piece_of(
     requires frequency { IsOneOf (50 ∷ 60 ∷ []) hertz }
     requires range { ElementInRange element.now }
     requires sound { IsSound element.now }
-    requires sited { IsSited (complex_count layout.now) (size_of layout.now) (first_magnitude layout.now place) (ends_of layout.now place element.now) element.now }
+    requires sited { IsSited (length layout.now.nodes) (complex_count layout.now) (size_of layout.now) (first_magnitude layout.now place) (ends_of layout.now place element.now) element.now }
     requires own { AreOwn element.now (settings_in own.now) }
     requires modest { All IsModest own.now.powers.now }
     ensures added { IfOk result (λ p. added_of p ≡ added_by (device_of layout.now hertz place element.now (settings_in own.now))) }
-    ensures settled { IfOk result (λ p. IsSettled (complex_count layout.now) (size_of layout.now) (branch_phases element.now) (device_of layout.now hertz place element.now (settings_in own.now))) }
+    ensures settled { IfOk result (λ p. IsSettled (length layout.now.nodes) (complex_count layout.now) (size_of layout.now) (branch_phases element.now) (device_of layout.now hertz place element.now (settings_in own.now))) }
     ensures range { result ≡ Err TermFault.Range → ¬ (Fits (device_of layout.now hertz place element.now (settings_in own.now))) }
 {
     match element {

@@ -39,6 +39,33 @@ terminal_small l u re im z b h k j =
     let all = sum_small (at_node l u.first re im +ℤ at_node l u.second (neg_ℤ re) (neg_ℤ im)) (at_magnitude l u.magnitude z) (b + b + (b + b)) b both (magnitude_small l u.magnitude z b j) in
     omega arith
 
+-- a row is the real one of a node or its imaginary one
+one_part : (c d : Bool) (re im : ℤ) (b : ℕ) → (c ≡ true → d ≡ true → ⊥) → nat_abs re ≤ b → nat_abs im ≤ b → nat_abs (cond c re (pos 0) +ℤ cond d im (pos 0)) ≤ b
+one_part true true re im b apart h k = absurd (apart refl refl)
+one_part true false re im b apart h k = omega (arith, ints)
+one_part false true re im b apart h k = omega (arith, ints)
+one_part false false re im b apart h k = omega (arith, ints)
+
+parts_apart : (n l : ℕ) → eqb (2 * n) l ≡ true → eqb (2 * n + 1) l ≡ true → ⊥
+parts_apart n l h k =
+    let f : 2 * n ≡ l = grind arith in
+    let g : 2 * n + 1 ≡ l = grind arith in
+    absurd (omega arith)
+
+node_least : (l : ℕ) (node : NodeAt) (re im : ℤ) (b : ℕ) → nat_abs re ≤ b → nat_abs im ≤ b → nat_abs (at_node l node re im) ≤ b
+node_least l Ground re im b h k = omega arith
+node_least l (Node n) re im b h k = one_part (eqb (2 * n) l) (eqb (2 * n + 1) l) re im b (parts_apart n l) h k
+
+-- what a part load adds in one row is at most three of its numbers
+pub terminal_least : (l : ℕ) (u : LoadAt) (re im z : ℤ) (b : ℕ) → nat_abs re ≤ b → nat_abs im ≤ b → nat_abs z ≤ b → nat_abs (at_terminal l u re im z) ≤ 3 * b
+unfolding at_terminal
+terminal_least l u re im z b h k j =
+    let first = node_least l u.first re im b h k in
+    let second = node_least l u.second (neg_ℤ re) (neg_ℤ im) b (negative_small re b h) (negative_small im b k) in
+    let both = sum_small (at_node l u.first re im) (at_node l u.second (neg_ℤ re) (neg_ℤ im)) b b first second in
+    let all = sum_small (at_node l u.first re im +ℤ at_node l u.second (neg_ℤ re) (neg_ℤ im)) (at_magnitude l u.magnitude z) (b + b) b both (magnitude_small l u.magnitude z b j) in
+    omega arith
+
 -- ---- numbers added one after another
 
 pub added_three : (o a b c : ℤ) → (((o +ℤ a) +ℤ b) +ℤ c) ≡ (o +ℤ ((a +ℤ b) +ℤ c))
@@ -80,19 +107,19 @@ terminal_sum l u re im z = refl
 
 -- ---- places below the size
 
-node_inside : (n size : ℕ) (node : NodeAt) → 2 * n ≤ size → size ≤ 2 ^ 11 → IsAmong n node → IsPlace size node
-node_inside n size Ground h few k = tt
-node_inside n size (Node r) h few k = (omega arith, omega arith)
+node_inside : (m n size : ℕ) (node : NodeAt) → m ≤ n → 2 * n ≤ size → size ≤ 2 ^ 11 → IsAmong m node → IsPlace size node
+node_inside m n size Ground among h few k = tt
+node_inside m n size (Node r) among h few k = (omega arith, omega arith)
 
 magnitude_inside : (n size model : ℕ) (place : Option ℕ) → HasMagnitude n size model place → IfSome place (λ k. k < size)
 magnitude_inside n size model None h = tt
 magnitude_inside n size model (Some k) h = h.1.1
 
-pub connected : (n size : ℕ) (u : LoadAt) → 2 * n ≤ size → size ≤ 2 ^ 11 → IsServed n size u → IsConnected size u
-connected n size u h few s = record {
+pub connected : (m n size : ℕ) (u : LoadAt) → m ≤ n → 2 * n ≤ size → size ≤ 2 ^ 11 → IsServed m n size u → IsConnected size u
+connected m n size u among h few s = record {
   phase = s.phase;
-  first = node_inside n size u.first h few s.first;
-  second = node_inside n size u.second h few s.second;
+  first = node_inside m n size u.first among h few s.first;
+  second = node_inside m n size u.second among h few s.second;
   magnitude = magnitude_inside n size u.load.model u.magnitude s.magnitude;
 }
 
@@ -112,5 +139,5 @@ connected_wide size n u h c = record {
   magnitude = magnitude_wide size n u.magnitude h c.magnitude;
 }
 
-pub all_connected : (n size : ℕ) (us : List LoadAt) → 2 * n ≤ size → size ≤ 2 ^ 11 → All (IsServed n size) us → All (IsConnected size) us
-all_connected n size us h few a = All-weaker (IsServed n size) (IsConnected size) (λ u s. connected n size u h few s) us a
+pub all_connected : (m n size : ℕ) (us : List LoadAt) → m ≤ n → 2 * n ≤ size → size ≤ 2 ^ 11 → All (IsServed m n size) us → All (IsConnected size) us
+all_connected m n size us among h few a = All-weaker (IsServed m n size) (IsConnected size) (λ u s. connected m n size u among h few s) us a

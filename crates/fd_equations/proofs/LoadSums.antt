@@ -17,7 +17,7 @@ use Rattle.fd_system.specs.Residual.{IsPlace, whole_state}
 use Rattle.fd_equations.specs.Conditions.{IsPart}
 use Rattle.fd_equations.specs.PartLoads.{load_row, loads_row}
 use Rattle.fd_equations.specs.Terminals.{IsConnected, at_terminal, imaginary_of, magnitude_in, real_of}
-use Rattle.fd_equations.proofs.AtTerminals.{terminal_small}
+use Rattle.fd_equations.proofs.AtTerminals.{terminal_least}
 use Rattle.fd_equations.proofs.DrawnSizes.{excess_small, in_phase_small, quadrature_small}
 use Rattle.fd_equations.proofs.Sizes.{part_size}
 
@@ -78,31 +78,31 @@ pub row_linear : (x : List ℤ) (l : ℕ) (u : LoadAt) → u.load.model ≡ 2 �
 unfolding load_row
 row_linear x l u e = ap (λ b. cond b (pos 0) (drawn_row x l u)) (eq-eqb u.load.model 2 e)
 
-pub row_small : (x : List ℤ) (l : ℕ) (u : LoadAt) → All IsPart x → IsConnected (length x) u → nat_abs (load_row x l u) ≤ 2 ^ 65
+pub row_small : (x : List ℤ) (l : ℕ) (u : LoadAt) → All IsPart x → IsConnected (length x) u → nat_abs (load_row x l u) ≤ 2 ^ 64
 unfolding load_row
 row_small x l u parts h =
     let v = voltages x parts u h in
     let p = real_of x u in
     let q = imaginary_of x u in
     let m = magnitude_in x u in
-    let t = terminal_small l u (near_div (in_phase u.load p q) (divisor u.load p q m)) (near_div (quadrature u.load p q) (divisor u.load p q m)) (near_div (excess p q m) (nat_abs u.load.vn)) (2 ^ 62)
+    let t = terminal_least l u (near_div (in_phase u.load p q) (divisor u.load p q m)) (near_div (quadrature u.load p q) (divisor u.load p q m)) (near_div (excess p q m) (nat_abs u.load.vn)) (2 ^ 62)
     (in_phase_small u.load p q m h.phase v) (quadrature_small u.load p q m h.phase v) (excess_small u.load p q m h.phase v) in
     by_test (eqb u.load.model 2) (omega arith)
   where
-    by_test : (b : Bool) → nat_abs (drawn_row x l u) ≤ 2 ^ 65 → nat_abs (cond b (pos 0) (drawn_row x l u)) ≤ 2 ^ 65
+    by_test : (b : Bool) → nat_abs (drawn_row x l u) ≤ 2 ^ 64 → nat_abs (cond b (pos 0) (drawn_row x l u)) ≤ 2 ^ 64
     by_test true k = omega arith
     by_test false k = k
 
-pub rows_small : (x : List ℤ) (l : ℕ) (us : List LoadAt) → All IsPart x → All (IsConnected (length x)) us → nat_abs (loads_row us x l) ≤ length us * 2 ^ 65
-rows_small x l us parts h = list_z_small (load_row x l) (2 ^ 65) us (each us h)
+pub rows_small : (x : List ℤ) (l : ℕ) (us : List LoadAt) → All IsPart x → All (IsConnected (length x)) us → nat_abs (loads_row us x l) ≤ length us * 2 ^ 64
+rows_small x l us parts h = list_z_small (load_row x l) (2 ^ 64) us (each us h)
   where
-    each : (us : List LoadAt) → All (IsConnected (length x)) us → All (λ u. nat_abs (load_row x l u) ≤ 2 ^ 65) us
-    each us h = All-weaker (IsConnected (length x)) (λ u. nat_abs (load_row x l u) ≤ 2 ^ 65) (λ u k. row_small x l u parts k) us h
+    each : (us : List LoadAt) → All (IsConnected (length x)) us → All (λ u. nat_abs (load_row x l u) ≤ 2 ^ 64) us
+    each us h = All-weaker (IsConnected (length x)) (λ u. nat_abs (load_row x l u) ≤ 2 ^ 64) (λ u k. row_small x l u parts k) us h
 
-pub row_room : (x : List ℤ) (l : ℕ) (us : List LoadAt) (k : ℕ) (z : ℤ) → All IsPart x → All (IsConnected (length x)) us → length us < 2 ^ 20 → nat_abs z ≤ 2 ^ 85 → nat_abs (z +ℤ loads_row (take k us) x l) ≤ 2 ^ 86
+pub row_room : (x : List ℤ) (l : ℕ) (us : List LoadAt) (k : ℕ) (z : ℤ) → All IsPart x → All (IsConnected (length x)) us → length us < 2 ^ 21 → nat_abs z ≤ 2 ^ 85 → nat_abs (z +ℤ loads_row (take k us) x l) ≤ 2 ^ 86
 row_room x l us k z parts h few small =
     let all = rows_small x l (take k us) parts (All-take (IsConnected (length x)) k us h) in
-    let n : length (take k us) ≤ 2 ^ 20 = omega (arith, length-take k us) in
+    let n : length (take k us) ≤ 2 ^ 21 = omega (arith, length-take k us) in
     sum z (loads_row (take k us) x l) small (omega arith)
   where
     sum : (a b : ℤ) → nat_abs a ≤ 2 ^ 85 → nat_abs b ≤ 2 ^ 85 → nat_abs (a +ℤ b) ≤ 2 ^ 86

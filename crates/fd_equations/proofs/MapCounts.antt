@@ -129,7 +129,7 @@ rows_none o i t u e = none ((o + count_node i u.first * t) + count_node i u.seco
 pub counts_more : (us : List LoadAt) (k : ℕ) (d : LoadAt) (old new : BTreeMap (ℕ × ℕ) ℕ) → k < length us → ((i j : ℕ) → counted old i j ≡ slope_counts (take k us) i j) → CountsGrown old new (λ i j. slope_count i j (get_or us k d)) → (i j : ℕ) → counted new i j ≡ slope_counts (take (k + 1) us) i j
 counts_more us k d old new l h g i j = g i j ∙ ap (λ n. n + slope_count i j (get_or us k d)) (h i j) ∙ sym (list_n_more (slope_count i j) us k d l)
 
-pub counts_room : (us : List LoadAt) (k : ℕ) (m : BTreeMap (ℕ × ℕ) ℕ) → length us < 2 ^ 20 → ((i j : ℕ) → counted m i j ≡ slope_counts (take k us) i j) → CountsWithin m (2 ^ 27)
+pub counts_room : (us : List LoadAt) (k : ℕ) (m : BTreeMap (ℕ × ℕ) ℕ) → length us < 2 ^ 21 → ((i j : ℕ) → counted m i j ≡ slope_counts (take k us) i j) → CountsWithin m (2 ^ 27)
 counts_room us k m few h i j = let s = slopes_few (take k us) i j in let n = length-take k us in rw (h i j) (omega arith)
 
 pub none_more : (n : ℕ) → n ≡ n + 0

@@ -29,7 +29,7 @@ pub record IsKnown (size : ℕ) (c : Constant) : Type 0 where
   pub least : neg_ℤ (pos (2 ^ 60)) ≤ℤ c.value
   pub most : c.value ≤ℤ pos (2 ^ 60)
 
--- a node is ground or among the first n complex unknowns
+-- a place is ground or among the first n complex unknowns
 abbrev pub IsAmong : ℕ → NodeAt → Type 0
 IsAmong n Ground = Unit {0}
 IsAmong n (Node k) = k < n
@@ -39,25 +39,27 @@ abbrev pub HasMagnitude : ℕ → ℕ → ℕ → Option ℕ → Type 0
 HasMagnitude n size model None = (model ≡ 1) ⊎ (model ≡ 2)
 HasMagnitude n size model (Some place) = (model ≡ 5) × ((2 * n ≤ place) × (place < size))
 
--- a part load of a network with n complex unknowns: of constant power (1), impedance (2) or current (5), within the ranges of the profile,
--- at nodes among the unknowns
-pub record IsServed (n size : ℕ) (u : LoadAt) : Type 0 where
+-- a part load of a network whose first complex unknowns are its nodes and whose others are its branches: of constant power (1),
+-- impedance (2) or current (5), within the ranges of the profile, between nodes, and never at a branch
+pub record IsServed (nodes complexes size : ℕ) (u : LoadAt) : Type 0 where
   pub phase : IsLoadPhase u.load
-  pub first : IsAmong n u.first
-  pub second : IsAmong n u.second
-  pub magnitude : HasMagnitude n size u.load.model u.magnitude
+  pub first : IsAmong nodes u.first
+  pub second : IsAmong nodes u.second
+  pub magnitude : HasMagnitude complexes size u.load.model u.magnitude
 
 -- the condition on a network
 pub record IsNetwork (v : NetworkView) : Type 0 where
   pub small : v.size ≤ 2 ^ 11
-  pub complexes : 2 * v.complexes ≤ v.size
+  -- the nodes are complex unknowns, and the magnitudes stand behind these
+  pub nodes : v.nodes ≤ v.complexes
+  pub unknowns : v.size ≡ 2 * v.complexes + v.magnitudes
   pub terms : AreLinear v.size v.share.terms
   -- the sum at each place is at most 2^54 in units of 2^-40
   pub entries : (row col : ℕ) → AreSmall (linear_entry v.share.terms row col)
   pub constants : All (IsKnown v.size) v.share.constants
   pub few_constants : length v.share.constants < 2 ^ 24
-  pub loads : All (IsServed v.complexes v.size) v.share.loads
-  pub few_loads : length v.share.loads < 2 ^ 20
+  pub loads : All (IsServed v.nodes v.complexes v.size) v.share.loads
+  pub few_loads : length v.share.loads < 2 ^ 21
   pub draw : 16 * v.draw + 10 ^ 6 ≤ 2 ^ 65
 
 -- a part of a point is at most 2^40 in size

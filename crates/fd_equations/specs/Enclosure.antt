@@ -10,7 +10,7 @@ use Rattle.fd_system.specs.System.{Share}
 use Rattle.fd_system.specs.Residual.{residual_interval}
 use Rattle.fd_equations.specs.Views.{NetworkView}
 use Rattle.fd_equations.specs.Coefficients.{row_count}
-use Rattle.fd_equations.specs.PartLoads.{current_counts}
+use Rattle.fd_equations.specs.PartLoads.{current_counts, load_current_counts}
 use Rattle.fd_equations.specs.Rounded.{list_of}
 
 -- the interval residual of each row at the point x
@@ -42,6 +42,10 @@ with_drawn l a u p q m =
 -- the contributions, load currents and magnitude rows in row l
 abbrev pub summand_count : Share → ℕ → ℕ
 summand_count s l = row_count s.terms l + current_counts s.loads l
+
+-- the contributions and load currents in row l
+abbrev pub addend_count : Share → ℕ → ℕ
+addend_count s l = row_count s.terms l + load_current_counts s.loads l
 
 -- both ends are at most the size of f and n more
 abbrev pub EndsWithin : Bounds → Fraction → ℕ → Type 0

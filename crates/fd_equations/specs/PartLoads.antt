@@ -1,6 +1,6 @@
 -- What part loads of constant power (1) and of constant current (5) add beside the contributions. A part load of constant impedance (2)
 -- stands in the contributions, and adds nothing here.
-use Rattle.std.specs.Prelude.{ℕ, ◌*◌, ◌^◌, ℤ, pos, neg_ℤ, nat_abs, cond, eqb, List}
+use Rattle.std.specs.Prelude.{ℕ, ◌+◌, ◌*◌, ◌^◌, ℤ, pos, neg_ℤ, nat_abs, cond, eqb, List}
 use Rattle.fd_exact.specs.Rounding.{near_div}
 use Rattle.fd_exact.specs.Sums.{list_z, list_n}
 use Rattle.fd_system.specs.declared.loads.LoadPhase.{LoadPhase}
@@ -9,7 +9,7 @@ use Rattle.fd_load.specs.Current.{divisor, excess, in_phase, quadrature}
 use Rattle.fd_load.specs.Slopes.{admittance, slope_row, slopes_of}
 use Rattle.fd_load.specs.declared.slopes.Slopes.{Slopes}
 use Rattle.fd_load.specs.declared.slopes.SlopeRow.{SlopeRow}
-use Rattle.fd_equations.specs.Terminals.{at_terminal, count_terminal, imaginary_of, magnitude_in, real_of}
+use Rattle.fd_equations.specs.Terminals.{at_terminal, count_node, count_terminal, imaginary_of, magnitude_in, real_of}
 
 -- ---- the rounded residual
 
@@ -66,12 +66,19 @@ slope_sum us x row col = list_z (λ u. load_entry u (slopes_there x u) row col) 
 unfoldable pub current_count : ℕ → LoadAt → ℕ
 current_count l u = cond (eqb u.load.model 2) 0 (count_terminal l u)
 
+-- the currents alone
+unfoldable pub load_current_count : ℕ → LoadAt → ℕ
+load_current_count l u = cond (eqb u.load.model 2) 0 (count_node l u.first + count_node l u.second)
+
 -- the slopes of a part load in a row and a column: each of its rows has one in each of its columns
 unfoldable pub slope_count : ℕ → ℕ → LoadAt → ℕ
 slope_count row col u = cond (eqb u.load.model 2) 0 (count_terminal row u * count_terminal col u)
 
 abbrev pub current_counts : List LoadAt → ℕ → ℕ
 current_counts us l = list_n (current_count l) us
+
+abbrev pub load_current_counts : List LoadAt → ℕ → ℕ
+load_current_counts us l = list_n (load_current_count l) us
 
 abbrev pub slope_counts : List LoadAt → ℕ → ℕ → ℕ
 slope_counts us row col = list_n (slope_count row col) us

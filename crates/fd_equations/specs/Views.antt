@@ -9,11 +9,12 @@ use Rattle.fd_equations.specs.declared.layout.PlaceKind.{PlaceKind}
 use Rattle.fd_equations.specs.declared.layout.PlaceKind.TheVariants.{Node, Branch, Magnitude}
 
 -- `size` real unknowns: two parts for each of the complex ones, of which the first are nodes and the others branches, then the
--- magnitudes. `draw` is what load and capacitor phases draw at nominal voltage, in whole microamperes
+-- magnitudes of part loads. `draw` is what load and capacitor phases draw at nominal voltage, in whole microamperes
 pub record NetworkView : Type 0 where
   pub size : ℕ
   pub complexes : ℕ
   pub nodes : ℕ
+  pub magnitudes : ℕ
   pub share : Share
   pub draw : ℕ
 
@@ -27,6 +28,7 @@ network_of l s d = record {
   size = 2 * (l.nodes + l.branches) + l.magnitudes;
   complexes = l.nodes + l.branches;
   nodes = l.nodes;
+  magnitudes = l.magnitudes;
   share = s;
   draw = d;
 }

@@ -15,7 +15,7 @@ pub fn slope_counts(
     alloc: Global,
     loads: &[LoadAt],
 ) -> Result<BTreeMap<(u32, u32), u32>, AllocError>
-    requires few { length loads.now < 2 ^ 20 }
+    requires few { length loads.now < 2 ^ 21 }
     requires loads { All (IsConnected (2 ^ 11)) loads.now }
     ensures { IfOk result (λ counts. HasCounts counts loads.now) }
 {

@@ -23,7 +23,7 @@ struct Drawn {
 /// Adds to each row what the part loads add to it at the point x.
 pub fn add_loads(rows: &mut [i128], loads: &[LoadAt], x: &[i128])
     requires loads { All (IsConnected (length x.now)) loads.now }
-    requires few { length loads.now < 2 ^ 20 }
+    requires few { length loads.now < 2 ^ 21 }
     requires long { length rows.old ≡ length x.now }
     requires parts { All IsPart x.now }
     requires room { (l : ℕ) → nat_abs (part rows.old l) ≤ 2 ^ 85 }

@@ -18,7 +18,7 @@ use fd_system::{LoadAt, LoadPhase};
 pub fn add_start_slopes(cells: &mut [i128], size: usize, loads: &[LoadAt])
     requires long { length cells.old ≡ size * size }
     requires loads { All (IsConnected size) loads.now }
-    requires few { length loads.now < 2 ^ 20 }
+    requires few { length loads.now < 2 ^ 21 }
     requires room { CellsWithin size cells.old (2 ^ 54) }
     ensures grown { CellsGrown size cells.old cells.new (start_sum loads.now) }
     ensures small { CellsWithin size cells.new (2 ^ 100) }
@@ -32,7 +32,7 @@ pub fn add_start_slopes(cells: &mut [i128], size: usize, loads: &[LoadAt])
 pub fn add_slopes(cells: &mut [i128], loads: &[LoadAt], x: &[i128])
     requires long { length cells.old ≡ length x.now * length x.now }
     requires loads { All (IsConnected (length x.now)) loads.now }
-    requires few { length loads.now < 2 ^ 20 }
+    requires few { length loads.now < 2 ^ 21 }
     requires parts { All IsPart x.now }
     requires room { CellsWithin (length x.now) cells.old (2 ^ 54) }
     ensures grown { CellsGrown (length x.now) cells.old cells.new (slope_sum loads.now x.now) }

@@ -8,7 +8,7 @@ ghost use Rattle.fd_system.specs.System.{residual_of};
 ghost use Rattle.fd_system.specs.Residual.{whole_state};
 ghost use Rattle.fd_equations.specs.Coefficients.{linear_entry};
 ghost use Rattle.fd_equations.specs.Conditions.{IsKnown, IsPoint, IsServed};
-ghost use Rattle.fd_equations.specs.Enclosure.{EndsWithin, interval_residual_of, summand_count};
+ghost use Rattle.fd_equations.specs.Enclosure.{EndsWithin, addend_count, interval_residual_of, summand_count};
 ghost use Rattle.fd_equations.specs.Rounded.{constants_of, jacobian_count, jacobian_of, linear_residual_of, rounded_residual_of, start_matrix_of};
 ghost use Rattle.fd_equations.specs.Views.{kind_of, network_of, share_with};
 ghost use Rattle.fd_equations.specs.Weights.{weights_of};
@@ -73,8 +73,8 @@ impl Network {
         requires entries { (row col : ℕ) → AreSmall (linear_entry coefficients.terms row col) }
         requires constants { All (IsKnown coefficients.size) constants.items }
         requires few_constants { length constants.items < 2 ^ 24 }
-        requires loads { All (IsServed (layout.nodes + layout.branches) coefficients.size) loads.items }
-        requires few_loads { length loads.items < 2 ^ 20 }
+        requires loads { All (IsServed layout.nodes (layout.nodes + layout.branches) coefficients.size) loads.items }
+        requires few_loads { length loads.items < 2 ^ 21 }
         requires draw { 16 * draw + 10 ^ 6 ≤ 2 ^ 65 }
         ensures { IfOk result (λ n. n ≡ network_of layout (share_with constants.items coefficients.terms loads.items) draw) }
     {
@@ -129,6 +129,7 @@ impl Network {
 
     /// The residual of each row at the point x, in intervals of whole micro-units. Each holds the exact residual, and its ends are at
     /// most the residual's size and two more for each contribution to the row and each load current and magnitude row in it; none is ALL.
+    /// In the row of a node or a branch they are at most the residual's size and 4 n + 4 with n contributions and load currents.
     ///
     /// # Errors
     /// `AllocError` where the memory for the rows is refused.
@@ -137,6 +138,7 @@ impl Network {
         ensures rows { IfOk result (λ rows. rows.items ≡ interval_residual_of self.now x.now) }
         ensures holds { IfOk result (λ rows. (l : ℕ) → l < self.now.size → Holds (get_or rows.items l None) (residual_of self.now.share (whole_state x.now) l)) }
         ensures near { IfOk result (λ rows. (l : ℕ) → l < self.now.size → EndsWithin (get_or rows.items l None) (residual_of self.now.share (whole_state x.now) l) (2 * summand_count self.now.share l)) }
+        ensures tie { IfOk result (λ rows. (l : ℕ) → l < 2 * self.now.complexes → EndsWithin (get_or rows.items l None) (residual_of self.now.share (whole_state x.now) l) (4 * addend_count self.now.share l + 4)) }
     {
         let mut rows = linear_rows(alloc, &self.constants, self.coefficients.terms(), x)?;
         add_load_intervals(&mut rows, &self.loads, x);

@@ -134,7 +134,7 @@ fn rows(rt: HostRuntime) -> Result<(), Fail> {
 
 // 50 kilowatt and 20 kilovar of constant power at 240 volt, from the first node to ground.
 fn constant_power() -> LoadAt
-    ensures { IsServed 2 5 result }
+    ensures { IsServed 2 2 5 result }
 {
     LoadAt {
         load: LoadPhase {
@@ -153,7 +153,7 @@ fn constant_power() -> LoadAt
 
 // 30 kilowatt and -12 kilovar of constant current at 415.692194 volt, between the nodes.
 fn constant_current() -> LoadAt
-    ensures { IsServed 2 5 result }
+    ensures { IsServed 2 2 5 result }
 {
     LoadAt {
         load: LoadPhase {

@@ -75,7 +75,7 @@ fn no_inverse(rt: HostRuntime) -> Result<(), Fail> {
 
 // 9 kW of constant power at 1 kV, at the second node.
 fn constant_power() -> LoadAt
-    ensures { IsServed 4 8 result }
+    ensures { IsServed 2 4 8 result }
 {
     LoadAt {
         load: LoadPhase {
@@ -94,7 +94,7 @@ fn constant_power() -> LoadAt
 
 // 10 kW of constant current at 1 kV, at the second node.
 fn constant_current() -> LoadAt
-    ensures { IsServed 4 9 result }
+    ensures { IsServed 2 4 9 result }
 {
     LoadAt {
         load: LoadPhase {

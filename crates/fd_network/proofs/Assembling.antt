@@ -1,5 +1,5 @@
 -- What elements add is what a network asks for.
-use Rattle.std.proofs.Common.{◌≡◌, ◌∙◌, ℕ, ◌+◌, ◌*◌, ◌<◌, ◌≤◌, ◌^◌, inl, inr, List, [], ◌∷◌, length, length-append, None, arith, ap}
+use Rattle.std.proofs.Common.{◌*◌, ◌<◌, ◌≤◌, ◌^◌, List, [], ◌∷◌, length, None, arith, ap, ◌≡◌, ◌∙◌, ℕ}
 use Rattle.std.specs.List.{All}
 use Rattle.std.specs.Option.{option_or}
 use Rattle.std.proofs.lemmas.List.Elements.{All-nil, All-cons, All-head, All-tail}
@@ -47,36 +47,6 @@ module _ (n size : ℕ) (room : 2 * n ≤ size) where
       let k = All-head (IsKnown (2 * n)) c cs h in
       let row = k.row in
       All-cons (IsKnown size) c cs (record { row = omega arith; least = k.least; most = k.most }) (all_known cs (All-tail (IsKnown (2 * n)) c cs h))
-
--- ---- part loads
-
-few_phases : (phases : ℕ) → IsOneOf (1 ∷ 3 ∷ []) phases → phases ≤ 3
-few_phases phases (inl h) = omega arith
-few_phases phases (inr h) = omega arith
-
--- an element has at most one part load for each of three phases
-few_of_one : (layout : LayoutView) (hertz place : ℕ) (e : Element) (s : Settings) → ElementInRange e → length (device_share (device_of layout hertz place e s)).loads ≤ 3
-few_of_one layout hertz place (the.Vsource v) s r = omega arith
-few_of_one layout hertz place (the.Line l) s r = omega arith
-few_of_one layout hertz place (the.Transformer t) s r = omega arith
-few_of_one layout hertz place (the.Capacitor c) s r = omega arith
-few_of_one layout hertz place (the.Load l) s r =
-    let count = length-map-range_with_len (load_at l (ends_of layout place (the.Load l)).first (first_magnitude layout place) s.powers) 0 l.phases in
-    let few = few_phases l.phases r.phases in
-    omega arith
-few_of_one layout hertz place (the.Linecode c) s r = omega arith
-few_of_one layout hertz place (the.RegControl c) s r = omega arith
-few_of_one layout hertz place (the.CapControl c) s r = omega arith
-few_of_one layout hertz place (the.Loadshape l) s r = omega arith
-
-pub few_loads : (layout : LayoutView) (hertz place : ℕ) (es : Elements) (s : Settings) → AreReadyFrom layout place es → length (share_of_all (devices_from layout hertz place es s)).loads ≤ 3 * length es
-few_loads layout hertz place [] s h = omega arith
-few_loads layout hertz place (e ∷ es) s h =
-    let d = device_of layout hertz place e.1 (own e.1 s) in
-    let one = few_of_one layout hertz place e.1 (own e.1 s) h.0.in_range in
-    let rest = few_loads layout hertz (place + 1) es (after e.1 s) h.1 in
-    let joined = length-append (device_share d).loads (share_of_all (devices_from layout hertz (place + 1) es (after e.1 s))).loads in
-    omega arith
 
 -- ---- faults
 

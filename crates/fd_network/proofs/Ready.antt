@@ -95,7 +95,7 @@ ready_from layout place (e ∷ es) h = (
 -- where the nodes, the branches and the magnitudes of the element at a place stand
 pub stands_at : (elements : Elements) (place : ℕ) (d : ElementName × Element) → place < length elements → ElementInRange (slice_index_or elements place d).1
     → IsSound (slice_index_or elements place d).1
-    → (let e = (slice_index_or elements place d).1 in StandsAmong (complex_count (layout_of elements)) (size_of (layout_of elements)) (first_magnitude (layout_of elements) place) (ends_of (layout_of elements) place e) e)
+    → (let e = (slice_index_or elements place d).1 in StandsAmong (length (layout_of elements).nodes) (complex_count (layout_of elements)) (size_of (layout_of elements)) (first_magnitude (layout_of elements) place) (ends_of (layout_of elements) place e) e)
 stands_at elements place d within in_range sound =
     let layout = layout_of elements in
     let e = (slice_index_or elements place d).1 in
@@ -123,7 +123,7 @@ module _ (same : ElementName → ElementName → Bool) (same_mention : Mention �
       record {
         in_range = range;
         sound = sound;
-        sited = sited (complex_count (layout_of elements)) (size_of (layout_of elements)) (first_magnitude (layout_of elements) place) (ends_of (layout_of elements) place e) e range (stands_at elements place d within range sound);
+        sited = sited (length (layout_of elements).nodes) (complex_count (layout_of elements)) (size_of (layout_of elements)) (first_magnitude (layout_of elements) place) (ends_of (layout_of elements) place e) e range (stands_at elements place d within range sound);
       }
 
   -- all are

@@ -14,7 +14,7 @@ use Rattle.dss_layout.specs.Nodes.{same_node, is_node, new_nodes, node_at, numbe
 use Rattle.dss_layout.specs.Terminals.{mentions}
 use Rattle.dss_layout.specs.Layout.{Elements, nodes_of}
 use Rattle.fd_arith.specs.declared.terms.NodeAt.TheVariants.{Ground, Node}
-use Rattle.fd_devices.specs.Sound.{IsBelow}
+use Rattle.fd_equations.specs.Conditions.{IsAmong as IsBelow}
 
 -- ---- lists
 

@@ -58,11 +58,11 @@ length-phases f (e ∷ es) =
 
 -- ---- an element
 
--- its sides have a node for each terminal, its nodes and branches are among the first n complex unknowns, and its magnitudes, of which the
--- first's place is given, behind these among `size` real unknowns
-pub record StandsAmong (n size magnitude : ℕ) (at : Ends) (e : Element) : Type 0 where
-  pub first : IsSideOf n (first_count e) at.first
-  pub second : IsSideOf n (second_count e) at.second
+-- its sides have a node for each terminal, its branches are among the first n complex unknowns, of which the nodes come first, and its
+-- magnitudes, of which the first's place is given, behind these among `size` real unknowns
+pub record StandsAmong (nodes n size magnitude : ℕ) (at : Ends) (e : Element) : Type 0 where
+  pub first : IsSideOf nodes (first_count e) at.first
+  pub second : IsSideOf nodes (second_count e) at.second
   pub branches : at.branch + branch_phases e ≤ n
   pub magnitudes : HasMagnitudes n size (magnitude_phases e) magnitude
 
@@ -75,9 +75,9 @@ module _ (layout : LayoutView) (place : ℕ) (e : Element) where
   pub stands_among : HasCounts (first_count e) (second_count e) (terminals_of e) → All (IsAmong layout.nodes) (mentions e)
       → slice_index layout.branches_before place + branch_phases e ≤ length layout.branches
       → slice_index layout.magnitudes_before place + magnitude_phases e ≤ length layout.magnitudes
-      → StandsAmong (complex_count layout) (size_of layout) (first_magnitude layout place) (ends_of layout place e) e
+      → StandsAmong (length layout.nodes) (complex_count layout) (size_of layout) (first_magnitude layout place) (ends_of layout place e) e
   stands_among counts among room behind =
-      let below = sides_below layout.nodes (complex_count layout) (omega arith) (terminals_of e) among in
+      let below = sides_below layout.nodes (length layout.nodes) (omega arith) (terminals_of e) among in
       record {
         first = record { count = length-map (terminals_of e).first (node_at layout.nodes) ∙ counts.at_first; below = below.0 };
         second = record { count = length-map (terminals_of e).second (node_at layout.nodes) ∙ counts.at_second; below = below.1 };
@@ -91,20 +91,20 @@ some_phases phases (inl h) = omega arith
 some_phases phases (inr h) = omega arith
 
 -- the branches of an element with phases
-pub has_branches : (n size magnitude : ℕ) (at : Ends) (e : Element) → 1 ≤ branch_phases e → StandsAmong n size magnitude at e → HasBranches n (branch_phases e) at
-has_branches n size magnitude at e some p = record { some = some; below = p.branches }
+pub has_branches : (nodes n size magnitude : ℕ) (at : Ends) (e : Element) → 1 ≤ branch_phases e → StandsAmong nodes n size magnitude at e → HasBranches n (branch_phases e) at
+has_branches nodes n size magnitude at e some p = record { some = some; below = p.branches }
 
 -- the magnitudes of a load of constant current
 load_magnitudes : (n size magnitude : ℕ) (l : Load) → HasMagnitudes n size (magnitude_phases (the.Load l)) magnitude → l.model ≡ 5 → HasMagnitudes n size l.phases magnitude
 load_magnitudes n size magnitude l h five = subst (λ model. HasMagnitudes n size (if model == 5 then l.phases else 0) magnitude) five h
 
-pub sited : (n size magnitude : ℕ) (at : Ends) (e : Element) → ElementInRange e → StandsAmong n size magnitude at e → IsSited n size magnitude at e
-sited n size magnitude at (the.Vsource v) r p = (p.first, has_branches n size magnitude at (the.Vsource v) (some_phases v.phases r.phases) p)
-sited n size magnitude at (the.Line l) r p = (p.first, p.second, has_branches n size magnitude at (the.Line l) r.phases.least p)
-sited n size magnitude at (the.Transformer t) r p = (p.first, p.second, has_branches n size magnitude at (the.Transformer t) (some_phases t.phases r.phases) p)
-sited n size magnitude at (the.Capacitor c) r p = p.first
-sited n size magnitude at (the.Load l) r p = (p.first, load_magnitudes n size magnitude l p.magnitudes)
-sited n size magnitude at (the.Linecode c) r p = tt
-sited n size magnitude at (the.RegControl c) r p = tt
-sited n size magnitude at (the.CapControl c) r p = tt
-sited n size magnitude at (the.Loadshape s) r p = tt
+pub sited : (nodes n size magnitude : ℕ) (at : Ends) (e : Element) → ElementInRange e → StandsAmong nodes n size magnitude at e → IsSited nodes n size magnitude at e
+sited nodes n size magnitude at (the.Vsource v) r p = (p.first, has_branches nodes n size magnitude at (the.Vsource v) (some_phases v.phases r.phases) p)
+sited nodes n size magnitude at (the.Line l) r p = (p.first, p.second, has_branches nodes n size magnitude at (the.Line l) r.phases.least p)
+sited nodes n size magnitude at (the.Transformer t) r p = (p.first, p.second, has_branches nodes n size magnitude at (the.Transformer t) (some_phases t.phases r.phases) p)
+sited nodes n size magnitude at (the.Capacitor c) r p = p.first
+sited nodes n size magnitude at (the.Load l) r p = (p.first, load_magnitudes n size magnitude l p.magnitudes)
+sited nodes n size magnitude at (the.Linecode c) r p = tt
+sited nodes n size magnitude at (the.RegControl c) r p = tt
+sited nodes n size magnitude at (the.CapControl c) r p = tt
+sited nodes n size magnitude at (the.Loadshape s) r p = tt

@@ -1,5 +1,5 @@
 -- An element of a circuit that passed the tests of Solve, at its place in order.
-use Rattle.std.specs.Prelude.{ℕ, ◌+◌, [], ◌∷◌}
+use Rattle.std.specs.Prelude.{ℕ, ◌+◌, [], ◌∷◌, length}
 use Rattle.dss_profile.specs.declared.element.Element.{Element}
 use Rattle.dss_profile.specs.InRange.{ElementInRange}
 use Rattle.dss_layout.specs.Layout.{Elements, LayoutView, complex_count, ends_of, first_magnitude, size_of}
@@ -9,7 +9,7 @@ use Rattle.fd_devices.specs.Sound.{IsSited, IsSound}
 pub record IsReadyAt (layout : LayoutView) (place : ℕ) (e : Element) : Type 0 where
   pub in_range : ElementInRange e
   pub sound : IsSound e
-  pub sited : IsSited (complex_count layout) (size_of layout) (first_magnitude layout place) (ends_of layout place e) e
+  pub sited : IsSited (length layout.nodes) (complex_count layout) (size_of layout) (first_magnitude layout place) (ends_of layout place e) e
 
 -- the same of elements of which the first stands at a place in order
 abbrev pub AreReadyFrom : LayoutView → ℕ → Elements → Type 0

@@ -31,7 +31,7 @@ fn piece_at(
 ) -> Result<Piece, PlaceFault>
     requires { IsTakenAt layout.now hertz place element.now (settings_left left.now) }
     ensures added { IfOk result (λ p. added_of p ≡ added_by (device_of layout.now hertz place element.now (own element.now (settings_left left.now)))) }
-    ensures settled { IfOk result (λ p. IsSettled (complex_count layout.now) (size_of layout.now) (branch_phases element.now) (device_of layout.now hertz place element.now (own element.now (settings_left left.now)))) }
+    ensures settled { IfOk result (λ p. IsSettled (length layout.now.nodes) (complex_count layout.now) (size_of layout.now) (branch_phases element.now) (device_of layout.now hertz place element.now (own element.now (settings_left left.now)))) }
     ensures fault { IfErr result (IsMisfit place (device_of layout.now hertz place element.now (own element.now (settings_left left.now)))) }
 {
     let own = left.own(element);
@@ -56,7 +56,7 @@ pub fn collect(
 ) -> Result<Piece, PlaceFault>
     requires taken { AreTakenFrom layout.now hertz 0 elements.now.entries (settings_left settings.now) }
     requires few { length elements.now.entries ≤ 2 ^ 17 }
-    ensures collected { IfOk result (λ p. AreCollected (complex_count layout.now) (size_of layout.now) elements.now.entries (devices_from layout.now hertz 0 elements.now.entries (settings_left settings.now)) (added_of p)) }
+    ensures collected { IfOk result (λ p. AreCollected (length layout.now.nodes) (complex_count layout.now) (size_of layout.now) elements.now.entries (devices_from layout.now hertz 0 elements.now.entries (settings_left settings.now)) (added_of p)) }
     ensures fault { IfErr result (NamesPlace (first_without fits (devices_from layout.now hertz 0 elements.now.entries (settings_left settings.now)))) }
 {
     let mut made = Piece::empty(alloc);

@@ -5,5 +5,5 @@ use Rattle.fd_devices.proofs.Capacitors.{capacitor_settled}
 use Rattle.fd_devices.proofs.pieces.capacitor_at.Goals as goal
 
 pub returns-clause-settled : goal.returns-clause-settled
-returns-clause-settled c = λ n size side.
-    capacitor_settled n size c.args.bank.now c.args.closed c.args.at.now c.requires.bank side (subst (All IsWithin) c.in_ok-cap_terms.ensures.list c.in_ok-cap_terms.ensures.within)
+returns-clause-settled c = λ m n size side.
+    capacitor_settled m n size c.args.bank.now c.args.closed c.args.at.now c.requires.bank side (subst (All IsWithin) c.in_ok-cap_terms.ensures.list c.in_ok-cap_terms.ensures.within)

@@ -7,4 +7,4 @@ use Rattle.fd_devices.proofs.pieces.capacitor_piece.Goals as goal
 
 pub returns-clause-settled : goal.returns-clause-settled
 returns-clause-settled c =
-    subst (λ d. IfOk c.capacitor_at.result (λ p. (n size : ℕ) → IsSideOf n (terminal_nodes d.phases) c.args.at.now.first → IsSettled n size 0 (capacitor d c.args.closed c.args.at.now))) c.cap_data.ensures.value c.capacitor_at.ensures.settled
+    subst (λ d. IfOk c.capacitor_at.result (λ p. (m n size : ℕ) → IsSideOf n (terminal_nodes d.phases) c.args.at.now.first → IsSettled m n size 0 (capacitor d c.args.closed c.args.at.now))) c.cap_data.ensures.value c.capacitor_at.ensures.settled

@@ -19,5 +19,5 @@ returns-clause-added c =
     λ i. record { share = record { constants = rows i; terms = terms i; loads = none i }; draw = 0 }
 
 pub returns-clause-settled : goal.returns-clause-settled
-returns-clause-settled c = λ n size first branches.
-    source_settled n size c.args.source.now c.args.at.now c.requires.source first branches (subst (All IsWithin) c.in_ok-terms.ensures.terms c.in_ok-terms.ensures.within)
+returns-clause-settled c = λ m n size first branches.
+    source_settled m n size c.args.source.now c.args.at.now c.requires.source first branches (subst (All IsWithin) c.in_ok-terms.ensures.terms c.in_ok-terms.ensures.within)

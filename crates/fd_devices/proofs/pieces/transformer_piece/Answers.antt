@@ -7,4 +7,4 @@ use Rattle.fd_devices.proofs.pieces.transformer_piece.Goals as goal
 
 pub returns-clause-settled : goal.returns-clause-settled
 returns-clause-settled c =
-    subst (λ d. IfOk c.transformer_at.result (λ p. (n size : ℕ) → IsSideOf n (terminal_nodes d.phases) c.args.at.now.first → IsSideOf n (terminal_nodes d.phases) c.args.at.now.second → HasBranches n d.phases c.args.at.now → IsSettled n size d.phases (transformer d c.args.taps c.args.at.now))) c.xfmr_data.ensures.value c.transformer_at.ensures.settled
+    subst (λ d. IfOk c.transformer_at.result (λ p. (m n size : ℕ) → IsSideOf n (terminal_nodes d.phases) c.args.at.now.first → IsSideOf n (terminal_nodes d.phases) c.args.at.now.second → HasBranches n d.phases c.args.at.now → IsSettled m n size d.phases (transformer d c.args.taps c.args.at.now))) c.xfmr_data.ensures.value c.transformer_at.ensures.settled

@@ -6,7 +6,7 @@ use Rattle.fd_devices.specs.Devices.{AgreesWith, Added, parts_of_all, share_of_a
 use Rattle.fd_devices.specs.Scripted.{devices_from}
 use Rattle.fd_network.specs.Collecting.{NamesPlace, settings_left}
 use Rattle.fd_network.specs.Faults.{first_without, has_small_sums}
-use Rattle.fd_network.proofs.Assembling.{few_loads, no_fault, sum_fault}
+use Rattle.fd_network.proofs.Assembling.{no_fault, sum_fault}
 use Rattle.fd_network.proofs.assembly.assemble.Goals as goal
 
 pub returns-in_err-check_entries-clause-fault : goal.returns-in_err-check_entries-clause-fault
@@ -20,11 +20,8 @@ returns-in_err-check_entries-clause-fault c =
 
 pub new-requires-clause-few_loads : goal.new-requires-clause-few_loads
 new-requires-clause-few_loads c =
-    let es = c.args.elements.now.entries in
-    let settings = settings_left c.args.settings.now in
-    let ds = devices_from c.args.layout.now c.args.hertz 0 es settings in
-    let same : length c.in_ok-constants.field-0.loads.items ≡ length (share_of_all ds).loads = ap (λ (a : Added). length a.share.loads) c.in_ok-constants.ensures.collected.added in
-    omega (arith, same, few_loads c.args.layout.now c.args.hertz 0 es settings c.requires.taken.ready, c.requires.few)
+    let loads = c.in_ok-constants.ensures.collected.bounded.few_loads in
+    omega (arith, loads, c.requires.few)
 
 pub returns-clause-agrees : goal.returns-clause-agrees
 returns-clause-agrees c =

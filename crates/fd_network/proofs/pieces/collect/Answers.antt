@@ -46,18 +46,19 @@ loop-place-preserved c =
     let place = c.loop-place.place in
     let left = settings_left c.loop-place.left in
     let e = deref_pair c.unwrap.result in
+    let m = length layout.nodes in
     let n = complex_count layout in
     let size = size_of layout in
     let ds = devices_from layout hertz 0 es (settings_left c.args.settings.now) in
     let d = device_of layout hertz place e.1 (own e.1 left) in
     let here = ap (λ es. slice_get es c.loop-place.place) (sym c.as_slice-entries.ensures.entries) ∙ sym c.get_index.ensures.entry ∙ ap (option_map deref_pair) c.unwrap.ensures in
     let next = device_next layout hertz es ds place left e here c.loop-place.invariant.at in
-    let more = collected_more n size (take place es) e (take place ds) d (added_of c.loop-place.made) (added_of c.in_ok-piece.piece) (added_of c.append.new.self)
+    let more = collected_more m n size (take place es) e (take place ds) d (added_of c.loop-place.made) (added_of c.in_ok-piece.piece) (added_of c.append.new.self)
     c.loop-place.invariant.made c.in_ok-piece.ensures.settled c.in_ok-piece.ensures.added c.in_ok-append.ensures in
     record {
       at = subst (IsAt layout hertz es ds (place + 1)) (sym c.after-left.ensures) (next_at layout hertz es ds place left e here c.loop-place.invariant.at);
-      made = subst (λ xs. AreCollected n size xs (take (place + 1) ds) (added_of c.append.new.self)) (sym (take_more es place e _ (drop_next es place e here)))
-          (subst (λ xs. AreCollected n size (take place es ++ e ∷ []) xs (added_of c.append.new.self)) (sym (take_more ds place d _ next)) more);
+      made = subst (λ xs. AreCollected m n size xs (take (place + 1) ds) (added_of c.append.new.self)) (sym (take_more es place e _ (drop_next es place e here)))
+          (subst (λ xs. AreCollected m n size (take place es ++ e ∷ []) xs (added_of c.append.new.self)) (sym (take_more ds place d _ next)) more);
     }
 
 pub returns-clause-collected : goal.returns-clause-collected
@@ -65,11 +66,12 @@ returns-clause-collected c =
     let es = c.args.elements.now.entries in
     let layout = c.args.layout.now in
     let place = c.loop-place.place in
+    let m = length layout.nodes in
     let n = complex_count layout in
     let size = size_of layout in
     let ds = devices_from layout c.args.hertz 0 es (settings_left c.args.settings.now) in
     let count = ap length c.as_slice-entries.ensures.entries in
     let all : length es ≤ place = omega (arith, count, c.len-place-end.ensures, c.loop-place-test.false) in
     let devices : length ds ≤ place = omega (arith, all, devices_length layout c.args.hertz 0 es (settings_left c.args.settings.now)) in
-    subst (λ xs. AreCollected n size xs ds (added_of c.loop-place.made)) (take_all place es all)
-    (subst (λ xs. AreCollected n size (take place es) xs (added_of c.loop-place.made)) (take_all place ds devices) c.loop-place.invariant.made)
+    subst (λ xs. AreCollected m n size xs ds (added_of c.loop-place.made)) (take_all place es all)
+    (subst (λ xs. AreCollected m n size (take place es) xs (added_of c.loop-place.made)) (take_all place ds devices) c.loop-place.invariant.made)

@@ -5,7 +5,7 @@ use Rattle.fd_system.specs.System.{nonlinear_of}
 use Rattle.fd_equations.specs.Conditions.{IsNetwork}
 use Rattle.fd_equations.specs.Rounded.{list_of}
 use Rattle.fd_equations.proofs.Lists.{length-list_of, rewritten}
-use Rattle.fd_equations.proofs.Networks.{constants_inside, row_holds, row_near, rows_done, terms_inside}
+use Rattle.fd_equations.proofs.Networks.{constants_inside, row_holds, row_near, row_tie, rows_done, terms_inside}
 use Rattle.fd_equations.proofs.network.Network.residual.Goals as goal
 use Rattle.fd_equations.proofs.network.Network.residual.Goals.{After-add_load_intervals}
 
@@ -38,4 +38,4 @@ returns c =
     let long : c.in_ok-rows.rows.len ≡ length c.add_load_intervals.new.rows = search rules in
     let rows = rewritten c.in_ok-rows.rows.items c.add_load_intervals.new.rows c.in_ok-rows.rows.len long
     ∙ rows_done v x n c.requires c.deref_mut.result.now c.add_load_intervals.new.rows (linear c.before) c.add_load_intervals.auto.rows (grown c.before) in
-    record { rows = rows; holds = row_holds v x n c.requires _ rows; near = row_near v x n c.requires _ rows }
+    record { rows = rows; holds = row_holds v x n c.requires _ rows; near = row_near v x n c.requires _ rows; tie = row_tie v x n c.requires _ rows }
