@@ -9,10 +9,10 @@ use Rattle.fd_system.specs.Loads.{re_of, im_of, magnitude_of, clamp, non_negativ
 use Rattle.fd_system.specs.Residual.{whole_state}
 use Rattle.fd_load.specs.Current.{CurrentLaw, MagnitudeLaw, IsLoadPhase, divisor, excess, in_phase, quadrature}
 
-phase_top : (k : ℕ) (a b p q : ℤ) → (pos k *ℤ a *ℤ p +ℤ pos k *ℤ b *ℤ q) ≡ pos k *ℤ (a *ℤ p +ℤ b *ℤ q)
+pub phase_top : (k : ℕ) (a b p q : ℤ) → (pos k *ℤ a *ℤ p +ℤ pos k *ℤ b *ℤ q) ≡ pos k *ℤ (a *ℤ p +ℤ b *ℤ q)
 phase_top k a b p q = rw (as_val a, as_val b, as_val p, as_val q) (simp vals (val-same _ _ _ _ (omega arith)))
 
-quadrature_top : (k : ℕ) (a b p q : ℤ) → (neg_ℤ (pos k *ℤ b) *ℤ p +ℤ pos k *ℤ a *ℤ q) ≡ pos k *ℤ (a *ℤ q -ℤ b *ℤ p)
+pub quadrature_top : (k : ℕ) (a b p q : ℤ) → (neg_ℤ (pos k *ℤ b) *ℤ p +ℤ pos k *ℤ a *ℤ q) ≡ pos k *ℤ (a *ℤ q -ℤ b *ℤ p)
 quadrature_top k a b p q = rw (sub (a *ℤ q) (b *ℤ p), as_val a, as_val b, as_val p, as_val q) (simp vals (val-same _ _ _ _ (omega arith)))
   where
     sub : (x y : ℤ) → (x -ℤ y) ≡ x +ℤ neg_ℤ y

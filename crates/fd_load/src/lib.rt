@@ -2,10 +2,12 @@
 //
 // It promises that each part of the current is the quotient of its numerator by the denominator of its model, in either
 // arithmetic: so it is nearest in `Fix`, and encloses the exact current of the system's part load in `Interval`. The
-// rounded slopes are those of `specs/Slopes.antt`, number for number, and at most of the stated sizes.
+// rounded slopes are those of `specs/Slopes.antt`, number for number, at most of the stated sizes, and at most two units of 2^-40
+// away from the exact slopes, which are those of `specs/ExactSlopes.antt`.
 //
 // Modules: `power` has the numerators and denominators, `currents` the current and the row of the magnitude, `rounding` the
-// quotients to the nearest, `slopes` the slopes, `laws` says that the current and that row are the system's.
+// quotients to the nearest, `slopes` the slopes, `laws` says that the current and that row are the system's, and how
+// near the slopes are.
 #![tactic(auto)]
 
 mod currents;
@@ -15,7 +17,8 @@ mod rounding;
 mod slopes;
 
 pub use currents::{current, magnitude_row};
-pub use laws::{current_law, magnitude_law};
+pub use laws::{current_law, magnitude_law, slope_law};
+pub use power::{clamped_magnitude, clamped_square, nominal_times_magnitude, square};
 pub use slopes::{SlopeRow, Slopes, rounded_slopes};
 
 #[cfg(test)]

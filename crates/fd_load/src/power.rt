@@ -44,7 +44,7 @@ fn weighted(a: i128, b: i128, x: i128, y: i128) -> i128
     PER_UNIT * (a * x + b * y)
 }
 
-/// p^2 + q^2.
+/// The square of a voltage p + j q in whole microvolts, p^2 + q^2. The parts are at most 2^41 in size.
 #[inline]
 pub fn square(p: i128, q: i128) -> u128
     requires p_most { nat_abs p ≤ 2 ^ 41 }
@@ -72,7 +72,8 @@ pub fn clamped(x: u128, low: u128, high: u128) -> u128
     }
 }
 
-/// The square of the voltage, brought between the squares of the load's limits.
+/// The square of the terminal voltage p + j q in whole microvolts, brought between the squares of the load's limits. The parts are at most
+/// 2^41 in size.
 pub fn clamped_square(load: &LoadPhase, p: i128, q: i128) -> u128
     requires load { IsLoadPhase load.now }
     requires p_most { nat_abs p ≤ 2 ^ 41 }
@@ -86,7 +87,7 @@ pub fn clamped_square(load: &LoadPhase, p: i128, q: i128) -> u128
     clamped(square(p, q), low * low, high * high)
 }
 
-/// The magnitude, brought between the load's limits.
+/// A magnitude in whole microvolts, brought between the load's limits. One below 0 counts as 0.
 pub fn clamped_magnitude(load: &LoadPhase, m: i128) -> u128
     requires load { IsLoadPhase load.now }
     ensures value { result ≡ magnitude_within load.now m }
@@ -108,7 +109,7 @@ fn positive_part(m: i128) -> u128
     if m < 0 { 0 } else { m as u128 }
 }
 
-/// The nominal voltage times the clamped magnitude.
+/// The nominal voltage times the clamped magnitude, in square microvolts.
 pub fn nominal_times_magnitude(load: &LoadPhase, m: i128) -> u128
     requires load { IsLoadPhase load.now }
     ensures value { result ≡ nat_abs load.now.vn * magnitude_within load.now m }
