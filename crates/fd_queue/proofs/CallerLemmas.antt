@@ -1,0 +1,15 @@
+-- Lemmas that the crates of the controls use.
+use Rattle.std.proofs.Common.{◌≡◌, ◌⊎◌, inl, inr, ⊎_elim, ℤ, Bool, true, false, refl}
+use Rattle.fd_queue.specs.Quantities.{Quantity, IsProper}
+use Rattle.fd_queue.specs.Decisions.{Decision, IsMonotone, IsOfAll}
+use Rattle.fd_queue.proofs.Decisions.{decided_of_all}
+
+pub decided_everywhere : (f : Quantity → Decision) → IsMonotone f → IsOfAll f
+decided_everywhere f h = decided_of_all f h
+
+pub either : (t : Bool) → (t ≡ true) ⊎ (t ≡ false)
+either true = inl refl
+either false = inr refl
+
+pub not_below : (q : Quantity) (e : ℤ) → IsProper q → q.above e ≡ true → q.below e ≡ false
+not_below q e h t = ⊎_elim (λ b. absurd (let f = h.apart e b in cc)) (λ b. b) (either (q.below e))

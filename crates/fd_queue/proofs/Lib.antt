@@ -1,0 +1,13 @@
+pub mod Quantities
+pub mod Proper
+pub mod Decisions
+pub mod Pairs
+pub mod Queues
+pub mod Steps
+pub mod Rooms
+pub mod Counts
+pub mod Samplings
+pub mod Numbers
+pub mod EntryPlaces
+pub mod Kept
+pub mod CallerLemmas
