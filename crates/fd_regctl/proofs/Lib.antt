@@ -1,0 +1,4 @@
+pub mod Regulators
+pub mod Edges
+pub mod SettingSteps
+pub mod Taps

@@ -1,0 +1,4 @@
+pub mod Regulator
+pub mod Settings
+pub mod RegulatorLaws
+pub mod RegState

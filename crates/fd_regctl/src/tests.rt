@@ -1,0 +1,25 @@
+// Worked regulators.
+use crate::RegState;
+use fd_arith::TapPair;
+use fd_queue::{Queue, Verdict};
+use std::test::Fail;
+
+// Six steps up at 15 s; then one more after the shorter delay, which goes where the regulator is back in its band.
+#[test]
+fn a_regulator_moves_its_winding(rt: HostRuntime) -> Result<(), Fail> {
+    let mut state = RegState::new(0, 2, 625, 15000, 2000);
+    let mut queue = Queue::with_room(rt.alloc(), 1)?;
+    let mut taps = TapPair {
+        first: 100_000,
+        second: 100_000,
+    };
+    state.react(Verdict::Raise { steps: 6 }, 0, &mut queue);
+    assert_eq!(rt; queue.cancel(0).map(|entry| entry.time), Some(15000));
+    assert_eq!(rt; state.act(&mut taps), 6);
+    assert_eq!(rt; (taps.first, taps.second), (100_000, 103_750));
+    state.react(Verdict::Raise { steps: 1 }, 0, &mut queue);
+    assert_eq!(rt; queue.find(0).map(|entry| entry.time), Some(2000));
+    state.react(Verdict::Hold, 0, &mut queue);
+    assert_eq!(rt; queue.find(0), None);
+    Ok(())
+}
