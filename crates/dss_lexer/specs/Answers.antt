@@ -2,6 +2,7 @@
 use Rattle.std.specs.Prelude.{◌≡◌, List, [], ◌∷◌, Result, Ok, Err}
 use Rattle.dss_lexer.specs.declared.fault.LexFault.{LexFault}
 use Rattle.dss_lexer.specs.declared.fault.LexFault.TheVariants as fault
+pub use Rattle.fd_exact.specs.Results.{◌>>=◌}
 
 -- a fault is the one that is said, unless memory ran out
 abbrev pub Fails : {Y : Type 0} → LexFault → Result Y LexFault → Type 0
@@ -17,11 +18,6 @@ Gives view (Err e) said = Fails e said
 abbrev pub Makes : {X : Type 0} → X → Result Unit LexFault → Result X LexFault → Type 0
 Makes new (Ok done) said = said ≡ Ok new
 Makes new (Err e) said = Fails e said
-
-infixl 10 ◌>>=◌
-abbrev pub ◌>>=◌ : {A B : Type 0} → Result A LexFault → (A → Result B LexFault) → Result B LexFault
-(Ok x) >>= f = f x
-(Err e) >>= f = Err e
 
 -- what f makes of each element, or the first fault
 abbrev pub each : {A B : Type 0} → (A → Result B LexFault) → List A → Result (List B) LexFault

@@ -1,11 +1,7 @@
 -- Ranges of values, in the units of their fields. A range includes its ends.
-use Rattle.std.specs.Prelude.{◌≡◌, ℕ, ◌%◌, ◌≤◌, ℤ, pos, neg_ℤ, ◌≤ℤ◌, unsigned_abs, List, [], ◌∷◌, ◌⊎◌}
+use Rattle.std.specs.Prelude.{◌≡◌, ℕ, ◌%◌, ◌≤◌, ℤ, pos, neg_ℤ, unsigned_abs, List, [], ◌∷◌, ◌⊎◌}
 use Rattle.dss_values.specs.Forms.{ones}
-
--- a number from low to high
-pub record IsBetween (low high n : ℤ) : Type 0 where
-  pub least : low ≤ℤ n
-  pub most : n ≤ℤ high
+pub use Rattle.fd_exact.specs.Ranges.{IsBetween}
 
 -- a count, a tap or a time from low to high
 pub record IsCountBetween (low high n : ℕ) : Type 0 where

@@ -2,12 +2,7 @@
 use Rattle.std.specs.Prelude.{◌≡◌, List, [], ◌∷◌, Result, Ok, Err, Option, Some, None}
 use Rattle.dss_values.specs.declared.fault.ModelFault.{ModelFault}
 use Rattle.dss_values.specs.declared.fault.ModelFault.TheVariants as fault
-
--- a step, and what comes after it unless it is refused
-infixl 10 ◌>>=◌
-abbrev pub ◌>>=◌ : {A B : Type 0} → Result A ModelFault → (A → Result B ModelFault) → Result B ModelFault
-(Ok x) >>= f = f x
-(Err e) >>= f = Err e
+pub use Rattle.fd_exact.specs.Results.{◌>>=◌}
 
 -- there is one, or this is the fault
 abbrev pub or_fault : {A : Type 0} → ModelFault → Option A → Result A ModelFault

@@ -2,14 +2,14 @@
 use Rattle.std.specs.Prelude.{ℕ, ◌*◌, ◌^◌, ◌≡◌, ◌⊎◌, ℤ, pos, neg_ℤ, ◌*ℤ◌, nat_abs, Bool, cond, List, [], ◌∷◌, ◌++◌}
 use Rattle.fd_exact.specs.Rounding.{ceil_nat}
 use Rattle.fd_exact.specs.States.{State}
+use Rattle.fd_exact.specs.Ranges.{Between, UpTo}
 use Rattle.fd_arith.specs.declared.terms.Term.{Term}
 use Rattle.fd_arith.specs.declared.terms.Ends.{Ends}
 use Rattle.fd_system.specs.Complex.{Complex, complex, ◌⊟◌, ◌⊠◌, negative}
 use Rattle.fd_system.specs.Contributions.{stamp, each}
 use Rattle.fd_system.specs.Equations.{unknown, Part, both}
-use Rattle.fd_line.specs.Totals.{UpTo}
 use Rattle.fd_xfmr.specs.declared.pairs.NodePair.{NodePair}
-use Rattle.fd_xfmr.specs.Windings.{Between, pair_of, pairs_of, winding_volts}
+use Rattle.fd_xfmr.specs.Windings.{pair_of, pairs_of, winding_volts}
 use Rattle.fd_cap.specs.declared.data.CapData.{CapData}
 
 -- ---- its numbers

@@ -8,6 +8,7 @@ use Rattle.std.proofs.lemmas.List.Elements.{All-nil, All-cons, All-append, All-h
 use Rattle.fd_exact.specs.Rounding.{near_div}
 use Rattle.fd_exact.specs.Quotients.{ceil_nat_least}
 use Rattle.fd_exact.specs.Sums.{list_n}
+use Rattle.fd_exact.specs.Ranges.{UpTo}
 use Rattle.fd_arith.specs.declared.terms.Term.{Term}
 use Rattle.fd_arith.specs.declared.terms.Ends.{Ends}
 use Rattle.fd_arith.specs.declared.terms.NodeAt.{NodeAt}
@@ -18,7 +19,7 @@ use Rattle.fd_system.specs.Contributions.{IsDivided, IsWithin, each, stamp}
 use Rattle.fd_system.specs.Loads.{IsLoad, IsPlain, impedance_list, linear_list}
 use Rattle.fd_system.proofs.Divided.{stamp_divided}
 use Rattle.fd_line.specs.declared.data.LineData.{LineData}
-use Rattle.fd_line.specs.Totals.{IsLine, UpTo}
+use Rattle.fd_line.specs.Totals.{IsLine}
 use Rattle.fd_line.specs.Line.{line_list}
 use Rattle.fd_line.proofs.Line.{line_divided}
 use Rattle.fd_source.specs.declared.data.SourceData.{SourceData}
@@ -85,7 +86,7 @@ found_unit (z ∷ zs) (suc k) h = found_unit zs k (All-tail IsUnit z zs h)
 volts_small : (v : ℤ) (k : ℕ) → UpTo (2 * 10 ^ 12) v → nat_abs (near_div (v *ℤ cosine k) (10 ^ 15)) ≤ 2 * 10 ^ 12
 volts_small v k h =
     let c = found_unit cosines (k % 12) all_units in
-    let size : nat_abs v ≤ 2 * 10 ^ 12 = omega (arith, ints, h.0, h.1) in
+    let size : nat_abs v ≤ 2 * 10 ^ 12 = omega (arith, ints, h.least, h.most) in
     let m : nat_abs v * nat_abs (cosine k) ≤ 2 * 10 ^ 12 * 10 ^ 15 = mul-le-mul size c in
     near_small (v *ℤ cosine k) (10 ^ 15) (2 * 10 ^ 12) (lit< tt) (subst (λ a. a ≤ 2 * 10 ^ 12 * 10 ^ 15) (sym (unsigned_abs-mul v (cosine k))) m)
 

@@ -5,12 +5,13 @@ use Rattle.std.proofs.lemmas.Int.{ints, unsigned_abs-mul}
 use Rattle.std.proofs.lemmas.List.Elements.{All-nil}
 use Rattle.fd_exact.specs.Quotients.{ceil_nat_least}
 use Rattle.fd_exact.specs.Rounding.{ceil_nat}
+use Rattle.fd_exact.specs.Ranges.{Between}
 use Rattle.fd_arith.specs.declared.terms.Conn.{Conn}
 use Rattle.fd_arith.specs.declared.terms.Conn.TheVariants.{Wye, Delta}
 use Rattle.fd_arith.specs.declared.terms.Ends.{Ends}
 use Rattle.fd_system.specs.Contributions.{IsWithin, stamp}
 use Rattle.fd_xfmr.specs.declared.pairs.NodePair.{NodePair}
-use Rattle.fd_xfmr.specs.Windings.{Between, pairs_of, root_three, three_phase_volts}
+use Rattle.fd_xfmr.specs.Windings.{pairs_of, root_three, three_phase_volts}
 use Rattle.fd_xfmr.proofs.Products.{phases_few}
 use Rattle.fd_cap.specs.declared.data.CapData.{CapData}
 use Rattle.fd_cap.specs.Capacitor.{IsCap, cap_draw_of, cap_list, cap_pair, cap_power, cap_volts, list_at, phase_list, volts_squared}
@@ -49,20 +50,20 @@ wye_least : (m : ℕ) → 10 ^ 7 ≤ m → 5773000 ≤ (2 * (m * 10 ^ 15) + root
 wye_least m h = omega arith
 
 three_phase_least : (c : Conn) (kv : ℤ) → Between (10 ^ 7) (10 ^ 12) kv → 5773000 ≤ nat_abs (three_phase_volts c kv)
-three_phase_least Wye (pos m) h = wye_least m (omega (arith, ints, h.0))
-three_phase_least Wye (negsuc m) h = absurd (omega (arith, ints, h.0))
-three_phase_least Delta kv h = omega (arith, ints, h.0)
+three_phase_least Wye (pos m) h = wye_least m (omega (arith, ints, h.least))
+three_phase_least Wye (negsuc m) h = absurd (omega (arith, ints, h.least))
+three_phase_least Delta kv h = omega (arith, ints, h.least)
 
 power_size : (d : CapData) → IsCap d → nat_abs (cap_power d) ≤ 10 ^ 20
 power_size d h =
-    let m : nat_abs d.kvar ≤ 10 ^ 14 = omega (arith, ints, h.kvar.0, h.kvar.1) in
+    let m : nat_abs d.kvar ≤ 10 ^ 14 = omega (arith, ints, h.kvar.least, h.kvar.most) in
     subst (λ s. s ≤ 10 ^ 20) (sym (unsigned_abs-mul d.kvar (pos (10 ^ 6)))) (omega (arith, m))
 
 volts_least : (d : CapData) → IsCap d → 5773000 ≤ nat_abs (cap_volts d)
 volts_least d h = by (eqb d.phases 1)
   where
     by : (b : Bool) → 5773000 ≤ nat_abs (cond b d.kv (three_phase_volts d.conn d.kv))
-    by true = omega (arith, ints, h.kv.0)
+    by true = omega (arith, ints, h.kv.least)
     by false = three_phase_least d.conn d.kv h.kv
 
 -- Q / V of all phases

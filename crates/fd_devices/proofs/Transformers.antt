@@ -5,20 +5,20 @@ use Rattle.std.proofs.Math.Nat.{mul-le-mul, div-lt_iff_lt-mul}
 use Rattle.std.proofs.lemmas.Int.{ints}
 use Rattle.std.proofs.lemmas.List.Elements.{All-nil}
 use Rattle.fd_exact.specs.States.{part}
+use Rattle.fd_exact.specs.Ranges.{Between, UpTo}
 use Rattle.fd_arith.specs.declared.terms.Conn.{Conn}
 use Rattle.fd_arith.specs.declared.terms.Conn.TheVariants.{Wye, Delta}
 use Rattle.fd_arith.specs.declared.terms.NodeAt.{NodeAt}
 use Rattle.fd_arith.specs.declared.terms.Ends.{Ends}
 use Rattle.fd_arith.specs.declared.terms.TapPair.{TapPair}
 use Rattle.fd_system.specs.Contributions.{IsWithin, stamp}
-use Rattle.fd_line.specs.Totals.{UpTo}
 use Rattle.fd_xfmr.specs.declared.data.XfmrData.{XfmrData}
 use Rattle.fd_xfmr.specs.declared.leakage.Coefficients.{Coefficients}
 use Rattle.fd_xfmr.specs.declared.pairs.NodePair.{NodePair}
 use Rattle.fd_xfmr.specs.declared.pairs.PhasePairs.{PhasePairs}
 use Rattle.fd_xfmr.specs.declared.pairs.PhasePairs.TheVariants as pairs
 use Rattle.fd_xfmr.specs.declared.terms.PhaseAt.{PhaseAt}
-use Rattle.fd_xfmr.specs.Windings.{Between, first_pairs, first_volts, kv1, kv2, pair_of, root_three, second_node, second_pairs, second_volts, three_phase_volts, winding_volts}
+use Rattle.fd_xfmr.specs.Windings.{first_pairs, first_volts, kv1, kv2, pair_of, root_three, second_node, second_pairs, second_volts, three_phase_volts, winding_volts}
 use Rattle.fd_xfmr.specs.Leakage.{AreTaps, AreWithin, IsXfmr, coefficients_of, nominal_leakage, percent_resistance}
 use Rattle.fd_xfmr.specs.Transformer.{branch_list, current_list, list_at, phase_at, phase_list, xfmr_list}
 use Rattle.fd_xfmr.proofs.Products.{over_positive, over_small, percent_most, phases_few, quotient_room, squares_most, times_most}
@@ -42,21 +42,21 @@ wye_most m h = omega arith
 
 three_phase_between : (c : Conn) (kv : ℤ) → Between (10 ^ 7) (10 ^ 12) kv → Between (10 ^ 6) (10 ^ 12) (three_phase_volts c kv)
 three_phase_between Wye (pos m) h =
-    let least = wye_least m (omega (arith, ints, h.0)) in
-    let most = wye_most m (omega (arith, ints, h.1)) in
-    (omega (arith, ints, least), omega (arith, ints, most))
-three_phase_between Wye (negsuc m) h = absurd (omega (arith, ints, h.0))
-three_phase_between Delta kv h = (omega (arith, ints, h.0), h.1)
+    let least = wye_least m (omega (arith, ints, h.least)) in
+    let most = wye_most m (omega (arith, ints, h.most)) in
+    record { least = omega (arith, ints, least); most = omega (arith, ints, most) }
+three_phase_between Wye (negsuc m) h = absurd (omega (arith, ints, h.least))
+three_phase_between Delta kv h = record { least = omega (arith, ints, h.least); most = h.most }
 
 winding_between : (phases : ℕ) (c : Conn) (kv : ℤ) → Between (10 ^ 7) (10 ^ 12) kv → Between (10 ^ 6) (10 ^ 12) (winding_volts phases c kv)
 winding_between phases c kv h = by (eqb phases 1)
   where
     by : (b : Bool) → Between (10 ^ 6) (10 ^ 12) (cond b kv (three_phase_volts c kv))
-    by true = (omega (arith, ints, h.0), h.1)
+    by true = record { least = omega (arith, ints, h.least); most = h.most }
     by false = three_phase_between c kv h
 
 volts_size : (v : ℤ) → Between (10 ^ 6) (10 ^ 12) v → nat_abs v ≤ 10 ^ 12
-volts_size v h = omega (arith, ints, h.0, h.1)
+volts_size v h = omega (arith, ints, h.least, h.most)
 
 quotient_most : (n d q : ℕ) → 0 < d → n ≤ q * d → n / d ≤ q
 quotient_most n d q h k = let below : n / d < q + 1 = (div-lt_iff_lt-mul h).1 (omega arith) in omega arith
@@ -67,10 +67,10 @@ leakage_small d (pos m) h u =
     let size = volts_size (second_volts d) (winding_between d.phases _ (kv2 d) h.kv2) in
     let squares : v * v ≤ 10 ^ 12 * 10 ^ 12 = mul-le-mul size size in
     let all = squares_most (v * v) d.phases (omega (arith, squares)) (phases_few d.phases h.phases) in
-    let product = percent_most m (v * v * d.phases) (omega (arith, ints, u.1)) all in
-    let kva : 10 ^ 6 ≤ nat_abs d.kva = omega (arith, ints, h.kva.0) in
+    let product = percent_most m (v * v * d.phases) (omega (arith, ints, u.most)) all in
+    let kva : 10 ^ 6 ≤ nat_abs d.kva = omega (arith, ints, h.kva.least) in
     quotient_most (m * (v * v * d.phases)) (nat_abs d.kva * 10 ^ 5) (6 * 10 ^ 24) (omega (arith, kva)) (quotient_room (m * (v * v * d.phases)) (nat_abs d.kva) product kva)
-leakage_small d (negsuc m) h u = absurd (omega (arith, ints, u.0))
+leakage_small d (negsuc m) h u = absurd (omega (arith, ints, u.least))
 
 squared_tap : (t : ℕ) → t ≤ 200000 → t * t ≤ 4 * 10 ^ 10
 squared_tap t h = let m : t * t ≤ 200000 * 200000 = mul-le-mul h h in omega arith
@@ -81,7 +81,7 @@ at_tap d percent t h u k =
     omega (arith, m)
 
 both_percents : (a b : ℤ) → UpTo (10 ^ 11) a → UpTo (10 ^ 11) b → UpTo (2 * 10 ^ 11) (a +ℤ b)
-both_percents a b h k = (omega (arith, ints, h.0, k.0), omega (arith, ints, h.1, k.1))
+both_percents a b h k = record { least = omega (arith, ints, h.least, k.least); most = omega (arith, ints, h.most, k.most) }
 
 pub are_within : (d : XfmrData) (t : TapPair) → IsXfmr d → AreTaps t → AreWithin (coefficients_of d t)
 are_within d t h k =
@@ -93,7 +93,7 @@ are_within d t h k =
       over_least = over_positive (first_volts d) t.first first (omega (arith, k.first_least));
       over_most = over_small (first_volts d) t.first first k.first_most;
       r = at_tap d (percent_resistance d) t.second h (both_percents (part d.pct_r 0) (part d.pct_r 1) h.pct_r1 h.pct_r2) k.second_most;
-      x = at_tap d d.xhl t.second h (omega (arith, ints, h.xhl.0), omega (arith, ints, h.xhl.1)) k.second_most;
+      x = at_tap d d.xhl t.second h (record { least = omega (arith, ints, h.xhl.least); most = omega (arith, ints, h.xhl.most) }) k.second_most;
     }
 
 -- ---- the places of its contributions

@@ -2,7 +2,7 @@
 ghost use Rattle.std.specs.Prelude.{◌≡◌, ◌*◌, ◌^◌, pos, IfOk, IfErr, IsTrue, ◌↔◌};
 ghost use Rattle.dss_profile.specs.InRange.{VsourceInRange};
 ghost use Rattle.dss_ready.specs.Ranges.{is_source_outside};
-ghost use Rattle.fd_line.specs.Totals.{UpTo};
+ghost use Rattle.fd_exact.specs.Ranges.{UpTo};
 ghost use Rattle.fd_source.specs.Powers.{AreWithin, IsShortCircuit};
 ghost use Rattle.fd_source.specs.Equations.{IsSource};
 ghost use Rattle.fd_elements.specs.Sources.{AreSourceOhms, IsSourceData, given_ohms as ohms_given, short_circuit_of, source_volts};

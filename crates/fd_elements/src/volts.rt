@@ -1,6 +1,6 @@
 // Voltages of phases, in whole microvolts.
 ghost use Rattle.std.specs.Prelude.{◌≡◌, ℕ, ◌*◌, ◌^◌, ℤ, pos, ◌*ℤ◌, ◌≤ℤ◌};
-ghost use Rattle.fd_line.specs.Totals.{UpTo};
+ghost use Rattle.fd_exact.specs.Ranges.{UpTo};
 ghost use Rattle.fd_elements.specs.Volts.{over_root_three as volts_over_root_three, part_of as volts_part, part_over_root_three as volts_part_over_root_three};
 
 use crate::rounding::nearest;

@@ -2,16 +2,18 @@
 use Rattle.std.proofs.Common.{◌≡◌, ◌∙◌, ℕ, zero, suc, ◌+◌, ◌<◌, ◌^◌, ℤ, nat_abs, nat_lt, List, length, Bool, true, false, cond, Option, Some, None, Result, Ok, Err, MatchResult, arith, refl, subst}
 use Rattle.std.specs.List.{fold}
 use Rattle.fd_exact.specs.States.{part}
+use Rattle.fd_exact.specs.Results.{and_then}
+use Rattle.fd_exact.specs.First.{first_place}
+use Rattle.fd_exact.specs.FirstLaws.{place_below}
 use Rattle.fd_equations.specs.Rounded.{constants_of, jacobian_of, rounded_residual_of, start_matrix_of}
 use Rattle.fd_equations.specs.Views.{NetworkView}
 use Rattle.fd_equations.proofs.Lists.{length-list_of}
-use Rattle.fd_inverse.specs.Elimination.{and_then, inverse_of}
+use Rattle.fd_inverse.specs.Elimination.{inverse_of}
 use Rattle.fd_inverse.specs.declared.fault.Stop.{Stop}
 use Rattle.fd_inverse.proofs.Inverses.{fault_column, inverse_size}
 use Rattle.fd_inject.specs.Faults.{IsInside, UnlessMemory}
 use Rattle.fd_inject.specs.Procedure.{Iterate, after, first_moving, is_moving_at, iterated, judged, last_from, last_of, next_iterate, polished, solution_of, start_of, stepped, with_nominal}
 use Rattle.fd_inject.specs.Ranges.{first_column_past, first_past, in_range, inverse_at, inverse_unless, unless_past, without_inverse}
-use Rattle.fd_inject.specs.Search.{first_of, first_place}
 use Rattle.fd_inject.specs.Updates.{moved, update_at, update_for, update_of}
 use Rattle.fd_inject.specs.declared.fault.SolveFault.{SolveFault}
 use Rattle.fd_inject.specs.declared.fault.SolveFault.TheVariants.{NoInverse, OutOfRange, NotConverged, NoMemory}
@@ -23,17 +25,6 @@ use Rattle.fd_inject.proofs.Products.{length-moved}
 then_match : {A B E : Type 0} (P : A → Type 0) (R : B → Type 0) (Q : E → Type 0) (r : Result A E) (f : A → Result B E) → MatchResult r P Q → ((a : A) → P a → MatchResult (f a) R Q) → MatchResult (and_then r f) R Q
 then_match P R Q (Ok a) f h g = g a h
 then_match P R Q (Err e) f h g = h
-
--- ---- a place that is found is below the bound
-
-place_below : (p : ℕ → Bool) (n k : ℕ) → first_place p n ≡ Some k → k < n
-place_below p zero k e = cc
-place_below p (suc n) k e = one (first_place p n) (p n) (place_below p n k) e
-  where
-    one : (o : Option ℕ) (b : Bool) → (o ≡ Some k → k < n) → first_of o (cond b (Some n) None) ≡ Some k → k < suc n
-    one (Some j) b h e = let l = h e in omega arith
-    one None true h e = let same : n ≡ k = cc in omega arith
-    one None false h e = cc
 
 -- ---- lists and matrices past a limit
 

@@ -1,4 +1,3 @@
-pub mod Search
 pub mod Sizes
 pub mod Limited
 pub mod Products

@@ -1,16 +1,16 @@
 -- Lists and matrices within a limit or past it.
 use Rattle.std.proofs.Common.{◌≡◌, ◌∙◌, ℕ, ◌<◌, ◌≤◌, ◌^◌, ℤ, nat_abs, nat_lt, List, length, Bool, true, false, is_some, Some, None, Ok, Err, arith, ap}
 use Rattle.fd_exact.specs.States.{part, entry}
+use Rattle.fd_exact.specs.First.{first_place}
+use Rattle.fd_exact.specs.FirstLaws.{first_none, first_some, found}
 use Rattle.fd_mat.specs.Rows.{EntriesWithin, IsFirstPast}
 use Rattle.fd_inverse.specs.Elimination.{inverse_of}
 use Rattle.fd_inverse.specs.declared.fault.Stop.{Stop}
 use Rattle.fd_inverse.specs.declared.fault.Stop.TheVariants.{Range}
 use Rattle.fd_inject.specs.Faults.{UnlessMemory}
 use Rattle.fd_inject.specs.Ranges.{SizesWithin, first_column_past, first_past, in_range, inverse_at, inverse_unless, unless_past, without_inverse}
-use Rattle.fd_inject.specs.Search.{first_place}
 use Rattle.fd_inject.specs.declared.fault.SolveFault.{SolveFault}
 use Rattle.fd_inject.specs.declared.fault.SolveFault.TheVariants.{NoInverse, OutOfRange, NotConverged, NoMemory}
-use Rattle.fd_inject.proofs.Search.{first_none, first_some, found}
 
 -- what a fault says follows from what another says
 pub unless_more : (f : SolveFault) {P Q : Type 0} → (P → Q) → UnlessMemory f P → UnlessMemory f Q

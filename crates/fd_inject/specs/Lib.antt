@@ -1,4 +1,3 @@
-pub mod Search
 pub mod Faults
 pub mod Ranges
 pub mod Updates

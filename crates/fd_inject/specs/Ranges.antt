@@ -1,10 +1,10 @@
 -- Lists and matrices that pass a limit, and the inverse of a matrix.
 use Rattle.std.specs.Prelude.{ℕ, ◌<◌, ◌≤◌, ◌^◌, ℤ, nat_abs, nat_lt, is_some, List, length, Option, Some, None, Result, Ok, Err}
 use Rattle.fd_exact.specs.States.{part, entry}
+use Rattle.fd_exact.specs.First.{first_place}
 use Rattle.fd_inverse.specs.Elimination.{inverse_of}
 use Rattle.fd_inverse.specs.declared.fault.Stop.{Stop}
 use Rattle.fd_inverse.specs.declared.fault.Stop.TheVariants.{Range}
-use Rattle.fd_inject.specs.Search.{first_place}
 use Rattle.fd_inject.specs.declared.fault.SolveFault.{SolveFault}
 use Rattle.fd_inject.specs.declared.fault.SolveFault.TheVariants.{NoInverse, OutOfRange}
 

@@ -3,9 +3,9 @@ use Rattle.std.specs.Prelude.{ℕ, ◌^◌, ℤ, neg_ℤ, ◌+ℤ◌, ◌*ℤ◌
 use Rattle.fd_exact.specs.Rounding.{near_div}
 use Rattle.fd_exact.specs.States.{part}
 use Rattle.fd_exact.specs.Sums.{sum_z}
+use Rattle.fd_exact.specs.Results.{and_then}
 use Rattle.fd_mat.specs.Rows.{row_of}
 use Rattle.fd_equations.specs.Rounded.{list_of}
-use Rattle.fd_inverse.specs.Elimination.{and_then}
 use Rattle.fd_inject.specs.Ranges.{in_range}
 use Rattle.fd_inject.specs.declared.fault.SolveFault.{SolveFault}
 

@@ -1,8 +1,9 @@
 -- The impedance and the capacitance of a whole line.
-use Rattle.std.specs.Prelude.{ℕ, ◌*◌, ◌≤◌, ◌^◌, ◌≡◌, ℤ, pos, neg_ℤ, ◌*ℤ◌, ◌≤ℤ◌, nat_abs, List, length, cond, eqb, All, ◌⊎◌}
+use Rattle.std.specs.Prelude.{ℕ, ◌*◌, ◌≤◌, ◌^◌, ◌≡◌, ℤ, pos, ◌*ℤ◌, ◌≤ℤ◌, nat_abs, List, length, cond, eqb, All, ◌⊎◌}
 use Rattle.fd_exact.specs.Fractions.{Fraction, fraction}
 use Rattle.fd_exact.specs.States.{cell}
 use Rattle.fd_exact.specs.Rounding.{floor_div}
+use Rattle.fd_exact.specs.Ranges.{UpTo, Within}
 use Rattle.fd_line.specs.declared.data.LineData.{LineData}
 use Rattle.fd_line.specs.declared.data.LineForm.{LineForm}
 use Rattle.fd_line.specs.declared.data.LineForm.TheVariants as line_form
@@ -49,13 +50,6 @@ abbrev pub angular_frequency : ℕ → ℤ
 angular_frequency hertz = cond (eqb hertz 50) (pos 314159265358979) (pos 376991118430775)
 
 -- ---- conditions
-
--- at most n in size, and from 0 to n
-abbrev pub Within : ℕ → ℤ → Type 0
-Within n z = (neg_ℤ (pos n) ≤ℤ z) × (z ≤ℤ pos n)
-
-abbrev pub UpTo : ℕ → ℤ → Type 0
-UpTo n z = (pos 0 ≤ℤ z) × (z ≤ℤ pos n)
 
 -- a matrix of n rows and columns with entries at most b in size
 pub record IsMatrix (n b : ℕ) (xs : List ℤ) : Type 0 where

@@ -1,7 +1,7 @@
 // Entries of matrices from sequence values.
 ghost use Rattle.std.specs.Prelude.{◌≡◌, ◌^◌, ◌*◌, ℤ, pos, neg_ℤ, ◌≤ℤ◌, ◌+ℤ◌, ◌*ℤ◌};
 ghost use Rattle.fd_line.specs.Series.{three_times};
-ghost use Rattle.fd_line.specs.Totals.{UpTo};
+ghost use Rattle.fd_exact.specs.Ranges.{UpTo};
 
 /// Three times the entry in row k and column m of the matrix with the sequence values z1 and z0 (at most 10^16), in their unit:
 /// 2 z1 + z0 on the diagonal, z0 - z1 beside it.

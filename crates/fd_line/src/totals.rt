@@ -2,7 +2,8 @@
 ghost use Rattle.std.specs.Prelude.{◌≡◌, ℕ, ◌*◌, ◌+◌, ◌<◌, ◌≤◌, ◌^◌, ℤ, pos, nat_abs, length};
 ghost use Rattle.fd_exact.specs.Fractions.{fraction};
 ghost use Rattle.fd_exact.specs.States.{cell};
-ghost use Rattle.fd_line.specs.Totals.{IsForm, IsCharge, IsLine, IsMatrix, Within, angular_frequency, capacitance_of, over_length, reactance_of, resistance_of};
+ghost use Rattle.fd_exact.specs.Ranges.{Within};
+ghost use Rattle.fd_line.specs.Totals.{IsForm, IsCharge, IsLine, IsMatrix, angular_frequency, capacitance_of, over_length, reactance_of, resistance_of};
 
 use crate::data::{ChargeForm, Entries, LineData, LineForm};
 use crate::rounding::floor_of_product;

@@ -5,7 +5,8 @@ use Rattle.std.specs.Option.{option_map}
 use Rattle.std.proofs.lemmas.Int.{ints}
 use Rattle.std.proofs.lemmas.Bool.{leb-true, le-leb}
 use Rattle.std.proofs.lemmas.Bool.Decides.{Decides-and, Decides-by_and, Decides-like, Decides-ltb, Decides-not, Decides-or}
-use Rattle.std.proofs.lemmas.List.Elements.{All-drop, All-head, All-tail}
+use Rattle.std.proofs.lemmas.List.Elements.{All-drop, All-head, All-weaker}
+use Rattle.fd_exact.specs.FirstLaws.{such_at, such_below, such_none}
 use Rattle.fd_arith.specs.declared.terms.Term.{Term}
 use Rattle.fd_system.specs.declared.loads.LoadAt.{LoadAt}
 use Rattle.fd_system.specs.declared.loads.LoadPhase.{LoadPhase}
@@ -44,12 +45,12 @@ sums_decide all d =
 -- ---- the first device
 
 module _ (holds : Device → Bool) (Holds : Device → Type 0) (decides : (d : Device) → Decides (holds d) (Holds d)) where
+  holding : (d : Device) → Holds d → not (holds d) ≡ false
+  holding d h = ap not ((decides d).1 h)
+
   -- there is none where it holds of each
   pub none_without : (ds : List Device) → All Holds ds → first_without holds ds ≡ None
-  none_without [] h = refl
-  none_without (d ∷ ds) h =
-      ap (λ b. cond b (option_map suc (first_without holds ds)) (Some zero)) ((decides d).1 (All-head Holds d ds h))
-      ∙ ap (option_map suc) (none_without ds (All-tail Holds d ds h))
+  none_without ds h = such_none (λ d. not (holds d)) ds (All-weaker Holds (λ d. not (holds d) ≡ false) holding ds h)
 
   fails : (b : Bool) (P : Type 0) → Decides b P → ¬ P → b ≡ false
   fails true P h n = absurd (n (h.0 refl))
@@ -57,28 +58,12 @@ module _ (holds : Device → Bool) (Holds : Device → Type 0) (decides : (d : D
 
   -- it is the one after those of which it holds
   pub first_at : (ds : List Device) (place : ℕ) (d : Device) (rest : List Device) → All Holds (take place ds) → drop place ds ≡ d ∷ rest → ¬ (Holds d) → first_without holds ds ≡ Some place
-  first_at [] zero d rest h e n = cc
-  first_at [] (suc place) d rest h e n = cc
-  first_at (c ∷ ds) zero d rest h e n =
-      let k : c ≡ d = cc in
-      ap (λ x. cond (holds x) (option_map suc (first_without holds ds)) (Some zero)) k
-      ∙ ap (λ b. cond b (option_map suc (first_without holds ds)) (Some zero)) (fails (holds d) (Holds d) (decides d) n)
-  first_at (c ∷ ds) (suc place) d rest h e n =
-      ap (λ b. cond b (option_map suc (first_without holds ds)) (Some zero)) ((decides c).1 (All-head Holds c (take place ds) h))
-      ∙ ap (option_map suc) (first_at ds place d rest (All-tail Holds c (take place ds) h) e n)
+  first_at ds place d rest h e n =
+      such_at (λ d. not (holds d)) ds place d rest (All-weaker Holds (λ d. not (holds d) ≡ false) holding (take place ds) h) e (ap not (fails (holds d) (Holds d) (decides d) n))
 
 -- it is one of the devices
 pub first_within : (holds : Device → Bool) (ds : List Device) (place : ℕ) → first_without holds ds ≡ Some place → place < length ds
-first_within holds [] place h = let no : ⊥ = cc in absurd no
-first_within holds (d ∷ ds) place h = by (holds d) (first_without holds ds) h (first_within holds ds)
-  where
-    by : (b : Bool) (o : Option ℕ) → cond b (option_map suc o) (Some zero) ≡ Some place → ((k : ℕ) → o ≡ Some k → k < length ds) → place < length (d ∷ ds)
-    by true None e rest = let no : ⊥ = cc in absurd no
-    by true (Some k) e rest =
-        let is : suc k ≡ place = cc in
-        let low = rest k refl in
-        omega arith
-    by false o e rest = let is : zero ≡ place = cc in omega arith
+first_within holds = such_below (λ d. not (holds d))
 
 -- ---- faults of places
 

@@ -1,11 +1,12 @@
 -- Which element is to blame where a circuit's network is out of range.
-use Rattle.std.specs.Prelude.{◌≡◌, ℕ, ◌*◌, ◌^◌, ℤ, nat_abs, nat_le, nat_lt, Bool, not, ◌&&◌, ◌||◌, List, [], ◌∷◌, zero, suc, Option, Some, None, option_map, if◌then◌else◌}
+use Rattle.std.specs.Prelude.{◌≡◌, ℕ, ◌*◌, ◌^◌, ℤ, nat_abs, nat_le, nat_lt, Bool, not, ◌&&◌, ◌||◌, List, Option, Some}
 use Rattle.std.specs.List.{list_all}
 use Rattle.std.specs.Option.{option_and_then, option_or}
 use Rattle.dss_values.specs.declared.fault.ModelFault.TheVariants as fault
 use Rattle.dss_profile.specs.declared.command.Blame.{Blame}
 use Rattle.dss_layout.specs.Layout.{Elements}
 use Rattle.dss_ready.specs.Ready.{blame_at}
+use Rattle.fd_exact.specs.First.{first_such}
 use Rattle.fd_arith.specs.declared.terms.Term.{Term}
 use Rattle.fd_system.specs.declared.loads.LoadPhase.{LoadPhase}
 use Rattle.fd_elements.specs.Loads.{power_sum}
@@ -32,8 +33,7 @@ has_small_sums all d = list_all (λ t. is_small (linear_entry all t.row t.col)) 
 
 -- the place in order of the first device of which it doesn't hold
 abbrev pub first_without : (Device → Bool) → List Device → Option ℕ
-first_without holds [] = None
-first_without holds (d ∷ ds) = if holds d then option_map suc (first_without holds ds) else Some zero
+first_without holds = first_such (λ d. not (holds d))
 
 -- the first device that doesn't fit; where each fits, the first with a contribution at a place with a large sum
 abbrev pub first_out_of_range : List Device → Option ℕ

@@ -31,10 +31,10 @@ are_ohms s three one x y a b d e ht ho hx hy g1 e1 g0 e0 =
 
 pub are_within : (a b d e : ℕ) → a ≤ 3 * 10 ^ 13 → b ≤ 3 * 10 ^ 13 → d ≤ 3 * 10 ^ 13 → e ≤ 3 * 10 ^ 13 → AreWithin (of_parts a b d e)
 are_within a b d e ha hb hd he = record {
-  r1 = (omega (arith, ints), omega (arith, ints));
-  x1 = (omega (arith, ints), omega (arith, ints));
-  r0 = (omega (arith, ints), omega (arith, ints));
-  x0 = (omega (arith, ints), omega (arith, ints));
+  r1 = record { least = omega (arith, ints); most = omega (arith, ints) };
+  x1 = record { least = omega (arith, ints); most = omega (arith, ints) };
+  r0 = record { least = omega (arith, ints); most = omega (arith, ints) };
+  x0 = record { least = omega (arith, ints); most = omega (arith, ints) };
 }
 
 -- the same in the code's signed type

@@ -2,6 +2,7 @@
 use Rattle.std.specs.Prelude.{ℕ, ◌+◌, ◌*◌, ◌<◌, ◌≤◌, ◌^◌, ℤ, pos, negsuc, neg_ℤ, ◌*ℤ◌, ◌≤ℤ◌, List, [], ◌∷◌, ◌++◌}
 use Rattle.fd_exact.specs.States.{State}
 use Rattle.fd_exact.specs.Rounding.{floor_div}
+use Rattle.fd_exact.specs.Ranges.{UpTo}
 use Rattle.fd_arith.specs.declared.terms.Term.{Term}
 use Rattle.fd_arith.specs.declared.terms.Ends.{Ends}
 use Rattle.fd_system.specs.declared.constants.Constant.{Constant}
@@ -10,7 +11,6 @@ use Rattle.fd_system.specs.Contributions.{stamp, each}
 use Rattle.fd_system.specs.Equations.{unknown, Part, both}
 use Rattle.fd_system.specs.System.{Share}
 use Rattle.fd_line.specs.Series.{IsSide, branch_of, drop_list, drop_of, node_of, three_times}
-use Rattle.fd_line.specs.Totals.{UpTo}
 use Rattle.fd_source.specs.declared.data.SourceData.{SourceData}
 use Rattle.fd_source.specs.Phasors.{volts_im, volts_re}
 use Rattle.fd_source.specs.Powers.{AreWithin}

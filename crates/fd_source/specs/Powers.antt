@@ -1,6 +1,6 @@
 -- The impedances of a source by its short-circuit powers.
 use Rattle.std.specs.Prelude.{ℕ, ◌+◌, ◌*◌, ◌/◌, ◌<◌, ◌≤◌, ◌^◌, ◌≡◌, ℤ, pos, ◌≤ℤ◌, nat_abs, ◌⊎◌}
-use Rattle.fd_line.specs.Totals.{UpTo}
+use Rattle.fd_exact.specs.Ranges.{UpTo}
 use Rattle.fd_source.specs.declared.data.Ohms.{Ohms}
 use Rattle.fd_source.specs.declared.data.ShortCircuit.{ShortCircuit}
 

@@ -1,6 +1,6 @@
 // The impedances of a source by its short-circuit powers.
 ghost use Rattle.std.specs.Prelude.{◌≡◌, ℕ, ◌*◌, ◌/◌, ◌<◌, ◌≤◌, ◌^◌, ℤ, pos, ◌≤ℤ◌, nat_abs, IfOk, IfErr, ◌↔◌};
-ghost use Rattle.fd_line.specs.Totals.{UpTo};
+ghost use Rattle.fd_exact.specs.Ranges.{UpTo};
 ghost use Rattle.fd_source.specs.Powers.{AreOhms, AreWithin, KeepsSize, IsGreatest, IsPast, IsShortCircuit, one_phase_size, ratio_of, reactance_by, size_of, three_phase_size};
 
 use crate::data::{Ohms, ShortCircuit};

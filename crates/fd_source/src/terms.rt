@@ -3,7 +3,7 @@ ghost use Rattle.std.specs.Prelude.{◌≡◌, ℕ, ◌+◌, ◌*◌, ◌<◌, �
 ghost use Rattle.fd_system.specs.Contributions.{each, IsDivided, IsWithin};
 ghost use Rattle.fd_system.specs.System.{Represents};
 ghost use Rattle.fd_line.specs.Series.{drop_list};
-ghost use Rattle.fd_line.specs.Totals.{UpTo};
+ghost use Rattle.fd_exact.specs.Ranges.{UpTo};
 ghost use Rattle.fd_source.specs.Equations.{IsPlaced, IsSource, ohms_by, phase_constants, phase_list, reactance_of, resistance_of, share_of, source_constants, source_list, source_parts};
 
 use crate::data::{SourceData, SourceTerms};

@@ -6,7 +6,8 @@ use Rattle.std.proofs.lemmas.Int.{ints, to_z-of_z, unsigned_abs-mul}
 use Rattle.fd_arith.specs.declared.terms.TapPair.{TapPair}
 use Rattle.fd_xfmr.specs.declared.data.XfmrData.{XfmrData}
 use Rattle.fd_xfmr.specs.declared.leakage.Coefficients.{Coefficients}
-use Rattle.fd_xfmr.specs.Windings.{Between, first_volts, second_volts}
+use Rattle.fd_exact.specs.Ranges.{Between}
+use Rattle.fd_xfmr.specs.Windings.{first_volts, second_volts}
 use Rattle.fd_xfmr.specs.Leakage.{AreWithin, coefficients_of, nominal_reactance, nominal_resistance}
 
 size_is : (n : ℤ) (m : ℕ) → nat_abs (n *ℤ pos m) ≡ nat_abs n * m
@@ -63,13 +64,13 @@ positive_by : (a t : ℕ) → 0 < a → 0 < t → pos 0 <ℤ (pos a *ℤ pos t)
 positive_by a t h k = let p : 0 < a * t = mul-pos h k in omega (arith, ints)
 
 pub over_positive : (v : ℤ) (t : ℕ) → Between (10 ^ 6) (10 ^ 12) v → 0 < t → pos 0 <ℤ (v *ℤ pos t)
-over_positive (pos a) t w h = let l = w.0 in positive_by a t (omega (arith, ints)) h
-over_positive (negsuc a) t w h = let l = w.0 in absurd (omega (arith, ints))
+over_positive (pos a) t w h = let l = w.least in positive_by a t (omega (arith, ints)) h
+over_positive (negsuc a) t w h = let l = w.least in absurd (omega (arith, ints))
 
 pub over_small : (v : ℤ) (t : ℕ) → Between (10 ^ 6) (10 ^ 12) v → t ≤ 200000 → (v *ℤ pos t) ≤ℤ pos (10 ^ 32)
 over_small v t w h =
-    let l = w.0 in
-    let m = w.1 in
+    let l = w.least in
+    let m = w.most in
     let s : nat_abs v ≤ 10 ^ 12 = omega (arith, ints) in
     let p = times_most v t (10 ^ 12) 200000 s h in
     omega (arith, ints)
@@ -78,7 +79,7 @@ pub quotient_room : (n u : ℕ) → n ≤ 6 * 10 ^ 35 → 10 ^ 6 ≤ u → n ≤
 quotient_room n u h k = omega arith
 
 pub voltage_small : (v : ℤ) → Between (10 ^ 6) (10 ^ 12) v → nat_abs v ≤ 10 ^ 36
-voltage_small v w = let l = w.0 in let m = w.1 in omega (arith, ints)
+voltage_small v w = let l = w.least in let m = w.most in omega (arith, ints)
 
 pub ohms_small : (z : ℤ) → nat_abs z ≤ 6 * 10 ^ 24 → nat_abs z ≤ 10 ^ 36
 ohms_small z h = omega arith

@@ -2,11 +2,11 @@
 use Rattle.std.specs.Prelude.{ℕ, ◌*◌, ◌≤◌, ◌^◌, ◌≡◌, ℤ, pos, ◌+ℤ◌, ◌*ℤ◌, ◌<ℤ◌, ◌≤ℤ◌, nat_abs, ◌⊎◌}
 use Rattle.fd_exact.specs.Rounding.{floor_div}
 use Rattle.fd_exact.specs.States.{part}
+use Rattle.fd_exact.specs.Ranges.{Between, UpTo}
 use Rattle.fd_arith.specs.declared.terms.TapPair.{TapPair}
-use Rattle.fd_line.specs.Totals.{UpTo}
 use Rattle.fd_xfmr.specs.declared.data.XfmrData.{XfmrData}
 use Rattle.fd_xfmr.specs.declared.leakage.Coefficients.{Coefficients}
-use Rattle.fd_xfmr.specs.Windings.{Between, first_volts, kv1, kv2, second_volts}
+use Rattle.fd_xfmr.specs.Windings.{first_volts, kv1, kv2, second_volts}
 
 -- ---- at nominal tap
 

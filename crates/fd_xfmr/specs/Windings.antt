@@ -1,5 +1,5 @@
 -- The nominal voltages of windings, and the nodes that the phases of a terminal join.
-use Rattle.std.specs.Prelude.{ℕ, ◌+◌, ◌%◌, ◌^◌, ◌≤ℤ◌, ℤ, pos, ◌*ℤ◌, List, get_or, Bool, true, false, not, cond, eqb, int_le}
+use Rattle.std.specs.Prelude.{ℕ, ◌+◌, ◌%◌, ◌^◌, ℤ, pos, ◌*ℤ◌, List, get_or, Bool, true, false, not, cond, eqb, int_le}
 use Rattle.fd_exact.specs.Rounding.{near_div}
 use Rattle.fd_exact.specs.States.{part}
 use Rattle.fd_arith.specs.declared.terms.NodeAt.{NodeAt}
@@ -11,10 +11,6 @@ use Rattle.fd_xfmr.specs.declared.data.XfmrData.{XfmrData}
 use Rattle.fd_xfmr.specs.declared.pairs.NodePair.{NodePair}
 use Rattle.fd_xfmr.specs.declared.pairs.PhasePairs.{PhasePairs}
 use Rattle.fd_xfmr.specs.declared.pairs.PhasePairs.TheVariants as pairs
-
--- from lo to hi
-abbrev pub Between : ℕ → ℕ → ℤ → Type 0
-Between lo hi z = (pos lo ≤ℤ z) × (z ≤ℤ pos hi)
 
 -- ---- nominal voltages
 

@@ -1,7 +1,7 @@
 // The leakage impedance of a transformer and its ratio, at its taps.
 ghost use Rattle.std.specs.Prelude.{◌≡◌, ℕ, ◌*◌, ◌≤◌, ◌^◌, ℤ, pos, ◌*ℤ◌, ◌≤ℤ◌, nat_abs};
-ghost use Rattle.fd_line.specs.Totals.{UpTo};
-ghost use Rattle.fd_xfmr.specs.Windings.{Between, first_volts as first, second_volts as second};
+ghost use Rattle.fd_exact.specs.Ranges.{Between, UpTo};
+ghost use Rattle.fd_xfmr.specs.Windings.{first_volts as first, second_volts as second};
 ghost use Rattle.fd_xfmr.specs.Leakage.{AreTaps, AreWithin, IsXfmr, coefficients_of, nominal_leakage, nominal_reactance, nominal_resistance, percent_resistance};
 
 use crate::data::XfmrData;

@@ -1,6 +1,7 @@
 // The nominal voltages of windings.
 ghost use Rattle.std.specs.Prelude.{◌≡◌, ◌^◌, ℤ, pos, ◌≤ℤ◌};
-ghost use Rattle.fd_xfmr.specs.Windings.{Between, three_phase_volts as three_phase, winding_volts as nominal};
+ghost use Rattle.fd_exact.specs.Ranges.{Between};
+ghost use Rattle.fd_xfmr.specs.Windings.{three_phase_volts as three_phase, winding_volts as nominal};
 
 use fd_arith::Conn;
 
