@@ -1,8 +1,9 @@
 -- The values of a circuit are in range.
-use Rattle.std.specs.Prelude.{◌≤◌, ◌^◌, length, All}
+use Rattle.std.specs.Prelude.{◌≤◌, length, All}
 use Rattle.dss_profile.specs.declared.options.Options.{Options}
 use Rattle.dss_profile.specs.InRange.{ElementInRange, OptionsInRange}
 use Rattle.dss_circuit.specs.Circuit.{Elements}
+use Rattle.dss_circuit.specs.Limits.{most_elements}
 
 -- the values of each element are in range
 abbrev pub AllInRange : Elements → Type 0
@@ -10,6 +11,6 @@ AllInRange elements = All (λ entry. ElementInRange entry.1) elements
 
 -- what holds of every circuit
 pub record IsWithinLimits (elements : Elements) (options : Options) : Type 0 where
-  pub few : length elements ≤ 2 ^ 17
+  pub few : length elements ≤ most_elements
   pub elements_in_range : AllInRange elements
   pub options_in_range : OptionsInRange options

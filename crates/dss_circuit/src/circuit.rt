@@ -1,17 +1,16 @@
 // A circuit, changed in place by commands.
 ghost use Rattle.std.specs.Prelude.{◌≡◌, ◌<◌, ◌≤◌, ◌^◌, ◌-◌, length};
 ghost use Rattle.dss_profile.specs.Options.{with_options};
-ghost use Rattle.dss_ready.specs.Ready.{own_blame, IsAnswer};
 ghost use Rattle.dss_circuit.specs.Answers.{Becomes};
 ghost use Rattle.dss_circuit.specs.Circuit.{empty_circuit, has_circuit, applied};
 ghost use Rattle.dss_profile.specs.InRange.{OptionsInRange};
 ghost use Rattle.dss_circuit.specs.InRange.{AllInRange};
+ghost use Rattle.dss_circuit.specs.Limits.{most_elements};
 
 use crate::elements::{Elements, edit_element, make_element};
 use crate::keys::{check_circuit, key_to_edit, key_to_make};
 use dss_lexer::Pair;
 use dss_profile::{Command, Element, ElementName, ModelFault, Options, Verb};
-use dss_ready::{Mention, ReadyFault, ready};
 use indexmap::IndexMap;
 use std::alloc::Global;
 use std::marker::Model;
@@ -72,8 +71,8 @@ impl Circuit {
     /// pairs from left to right. A Solve sets its pairs as options and is counted, and does no more.
     pub fn apply(&mut self, alloc: Global, command: &Command) -> Result<(), ModelFault>
         requires solves { self.old.solves < 2 ^ 32 - 1 }
-        requires room { length self.old.elements < 2 ^ 17 }
-        ensures { Becomes self.old self.new result (applied ⟦<ElementName as PartialEq>⟧.eq command.now self.old) }
+        requires room { length self.old.elements < most_elements }
+        ensures { Becomes self.old self.new result (applied command.now self.old) }
     {
         match &command.verb {
             Verb::New { class, name, pairs } => {
@@ -113,16 +112,6 @@ impl Circuit {
         }
     }
 
-    /// The tests that a Solve makes, which look at the values of the script: the first element that is to blame, at the
-    /// place of its New, and why. Elements are looked at in order of definition, each for a value out of range, a wrong
-    /// count, something unsupported, a second control of the same device and a missing impedance; then comes the first
-    /// that passes a limit on the unknowns, and then the first with a node that no source feeds.
-    pub fn ready(&self, alloc: Global) -> Result<(), ReadyFault>
-        ensures { IsAnswer (own_blame ⟦<ElementName as PartialEq>⟧.eq ⟦<Mention as PartialEq>⟧.eq self.now.options.defaultbasefrequency self.now.elements) self.now.elements result }
-    {
-        ready(alloc, &self.elements, self.options.defaultbasefrequency)
-    }
-
     /// The settings that Set and Solve gave. Their values are in range.
     pub fn options(&self) -> &Options
         ensures value { result.now ≡ self.now.options }
@@ -134,7 +123,7 @@ impl Circuit {
     /// The elements by name, in order of definition. The values of each are in range.
     pub fn elements(&self) -> &IndexMap<ElementName, Element>
         ensures entries { result.now.entries ≡ self.now.elements }
-        ensures few { length self.now.elements ≤ 2 ^ 17 }
+        ensures few { length self.now.elements ≤ most_elements }
         ensures in_range { AllInRange self.now.elements }
     {
         &self.elements

@@ -1,5 +1,8 @@
 // Elements by name, in order of definition.
-ghost use Rattle.std.specs.Prelude.{◌≡◌, ◌≤◌, ◌+◌, length, IfOk, IfSome, OnOk, option_copied};
+ghost use Rattle.std.specs.Prelude.{◌≡◌, ◌≤◌, ◌+◌, length, IfErr, IfOk, IfSome, OnOk, option_copied};
+ghost use Rattle.std.specs.Map.{lookup};
+ghost use Rattle.indexmap.specs.IndexMap.{insert_entry};
+ghost use Rattle.dss_profile.specs.SameElement.{same_element};
 ghost use Rattle.dss_values.specs.Answers.{Gives, Makes};
 ghost use Rattle.dss_circuit.specs.Answers.{Becomes};
 ghost use Rattle.dss_circuit.specs.Circuit.{referred, with_pairs, put, make, edit};
@@ -20,6 +23,27 @@ fn copied_place(place: &Place) -> Result<Place, AllocError>
     place.clone()
 }
 
+/// The element of this name, where it is there.
+pub fn find_element<'a>(elements: &'a Elements, name: &ElementName) -> Option<&'a Element>
+    ensures { option_copied result ≡ lookup (same_element name.now) elements.now.entries }
+{
+    elements.get(name)
+}
+
+// An element takes the place of the one of its name, or stands last. After an `Err` the elements are as before.
+fn insert_element(
+    elements: &mut Elements,
+    name: ElementName,
+    element: Element,
+) -> Result<(), AllocError>
+    ensures inserted { OnOk result (elements.new.entries ≡ insert_entry same_element elements.old.entries name element) }
+    ensures few { OnOk result (length elements.new.entries ≤ length elements.old.entries + 1) }
+    ensures as_before { IfErr result (λ _. elements.new.entries ≡ elements.old.entries) }
+{
+    elements.insert(name, element)?;
+    Ok(())
+}
+
 // The element that a pair names, where it is there.
 fn find_referred<'a>(
     alloc: Global,
@@ -28,11 +52,11 @@ fn find_referred<'a>(
     pair: &Pair,
 ) -> Result<Option<&'a Element>, ModelFault>
     requires in_range { AllInRange elements.now.entries }
-    ensures found { Gives (λ found. option_copied found) result (referred ⟦<ElementName as PartialEq>⟧.eq elements.now.entries class pair.now) }
+    ensures found { Gives (λ found. option_copied found) result (referred elements.now.entries class pair.now) }
     ensures in_range { IfOk result (λ found. IfSome (option_copied found) ElementInRange) }
 {
     match referred_element(alloc, class, pair)? {
-        Some(name) => Ok(elements.get(&name)),
+        Some(name) => Ok(find_element(elements, &name)),
         None => Ok(None),
     }
 }
@@ -48,7 +72,7 @@ fn set_pairs(
 ) -> Result<(), ModelFault>
     requires in_range { AllInRange elements.now.entries }
     requires draft_in_range { ElementInRange draft.old }
-    ensures set { Makes draft.new result (with_pairs ⟦<ElementName as PartialEq>⟧.eq solves elements.now.entries class pairs.now draft.old) }
+    ensures set { Makes draft.new result (with_pairs solves elements.now.entries class pairs.now draft.old) }
     ensures in_range { OnOk result (ElementInRange draft.new) }
 {
     for pair in pairs {
@@ -70,13 +94,13 @@ fn put_element(
 ) -> Result<(), ModelFault>
     requires in_range { AllInRange elements.old.entries }
     requires element_in_range { ElementInRange element }
-    ensures put { Becomes elements.old.entries elements.new.entries result (put ⟦<ElementName as PartialEq>⟧.eq solves name element pairs.now elements.old.entries) }
+    ensures put { Becomes elements.old.entries elements.new.entries result (put solves name element pairs.now elements.old.entries) }
     ensures few { length elements.new.entries ≤ length elements.old.entries + 1 }
     ensures in_range { AllInRange elements.new.entries }
 {
     let mut draft = element;
     set_pairs(alloc, solves, elements, name.class, &mut draft, pairs)?;
-    elements.insert(name, draft)?;
+    insert_element(elements, name, draft)?;
     Ok(())
 }
 
@@ -91,11 +115,11 @@ pub fn make_element(
     pairs: &[Pair],
 ) -> Result<(), ModelFault>
     requires in_range { AllInRange elements.old.entries }
-    ensures made { Becomes elements.old.entries elements.new.entries result (make ⟦<ElementName as PartialEq>⟧.eq solves place.now name pairs.now elements.old.entries) }
+    ensures made { Becomes elements.old.entries elements.new.entries result (make solves place.now name pairs.now elements.old.entries) }
     ensures few { length elements.new.entries ≤ length elements.old.entries + 1 }
     ensures in_range { AllInRange elements.new.entries }
 {
-    if elements.contains_key(&name) {
+    if find_element(elements, &name).is_some() {
         return Err(ModelFault::Duplicate);
     }
     let element = Element::fresh(alloc, name.class, copied_place(place)?, solves)?;
@@ -112,11 +136,11 @@ pub fn edit_element(
     pairs: &[Pair],
 ) -> Result<(), ModelFault>
     requires in_range { AllInRange elements.old.entries }
-    ensures edited { Becomes elements.old.entries elements.new.entries result (edit ⟦<ElementName as PartialEq>⟧.eq solves name pairs.now elements.old.entries) }
+    ensures edited { Becomes elements.old.entries elements.new.entries result (edit solves name pairs.now elements.old.entries) }
     ensures few { length elements.new.entries ≤ length elements.old.entries + 1 }
     ensures in_range { AllInRange elements.new.entries }
 {
-    let draft = match elements.get(&name) {
+    let draft = match find_element(elements, &name) {
         Some(element) => element.copied()?,
         None => return Err(ModelFault::UnknownName),
     };

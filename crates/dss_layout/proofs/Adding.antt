@@ -9,7 +9,7 @@ use Rattle.dss_profile.specs.declared.element.Element.{Element}
 use Rattle.dss_profile.specs.declared.names.ElementName.{ElementName}
 use Rattle.dss_layout.specs.declared.nodes.NodeName.{NodeName}
 use Rattle.dss_layout.specs.declared.nodes.PhaseName.{PhaseName}
-use Rattle.dss_layout.specs.declared.limits.TheConstants.{MOST_COMPLEX, MOST_MAGNITUDES}
+use Rattle.dss_layout.specs.Limits.{most_complex, most_magnitudes}
 use Rattle.dss_layout.specs.Nodes.{same_node, new_nodes, is_node}
 use Rattle.dss_layout.specs.Terminals.{mentions}
 use Rattle.dss_layout.specs.Layout.{Elements, LayoutView, layout_of, added, passes_limit, phase_names, branch_phases, magnitude_phases, sums_before}
@@ -54,14 +54,14 @@ noted_filtered before xs ys =
 -- whether a limit is passed with one more element, by counts
 pub passes_limit-added : (v : LayoutView) (name : ElementName) (e : Element) (nodes branches more magnitudes most : ℕ)
     → nodes ≡ length (v.nodes ++ new_nodes v.nodes (mentions e)) → branches ≡ length v.branches → more ≡ branch_phases e → magnitudes ≡ length v.magnitudes → most ≡ magnitude_phases e
-    → (nat_lt MOST_COMPLEX (nodes + branches + more) || nat_lt MOST_MAGNITUDES (magnitudes + most)) ≡ passes_limit (added v name e)
+    → (nat_lt most_complex (nodes + branches + more) || nat_lt most_magnitudes (magnitudes + most)) ≡ passes_limit (added v name e)
 passes_limit-added v name e nodes branches more magnitudes most n b bp m mp =
     let l : length (v.branches ++ phase_names name (branch_phases e)) ≡ branches + more =
     length-append v.branches _ ∙ ap (λ k. length v.branches + k) (length-phase_names name (branch_phases e)) ∙ (λ i. sym b i + sym bp i) in
     let k : length (v.magnitudes ++ phase_names name (magnitude_phases e)) ≡ magnitudes + most =
     length-append v.magnitudes _ ∙ ap (λ k. length v.magnitudes + k) (length-phase_names name (magnitude_phases e)) ∙ (λ i. sym m i + sym mp i) in
     let c : nodes + branches + more ≡ length (v.nodes ++ new_nodes v.nodes (mentions e)) + length (v.branches ++ phase_names name (branch_phases e)) = omega (arith, l, n) in
-    (λ i. nat_lt MOST_COMPLEX (c i) || nat_lt MOST_MAGNITUDES (sym k i))
+    (λ i. nat_lt most_complex (c i) || nat_lt most_magnitudes (sym k i))
 
 -- the sums before one more element
 sums_before-push : (f : Element → ℕ) (names : ElementName → ℕ → List PhaseName) (same : (n : ElementName) (k : ℕ) → length (names n k) ≡ k) (s : ℕ) (es : Elements) (name : ElementName) (e : Element)

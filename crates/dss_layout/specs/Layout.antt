@@ -9,7 +9,7 @@ use Rattle.dss_layout.specs.declared.nodes.PhaseName.{PhaseName}
 use Rattle.fd_arith.specs.declared.terms.Ends.{Ends}
 use Rattle.dss_layout.specs.declared.limits.LayoutFault.{LayoutFault}
 use Rattle.dss_layout.specs.declared.limits.LayoutFault.TheVariants.{TooMany, NoMemory}
-use Rattle.dss_layout.specs.declared.limits.TheConstants.{MOST_COMPLEX, MOST_MAGNITUDES}
+use Rattle.dss_layout.specs.Limits.{most_complex, most_magnitudes}
 use Rattle.dss_layout.specs.Nodes.{new_nodes, node_at}
 use Rattle.dss_layout.specs.Terminals.{mentions, terminals_of}
 
@@ -77,9 +77,9 @@ added layout name element = record {
 abbrev pub complex_count : LayoutView → ℕ
 complex_count layout = length layout.nodes + length layout.branches
 
--- there are more than 240 nodes and branch phases, or more than 48 magnitudes
+-- there are more nodes and branch phases, or more magnitudes, than may be
 abbrev pub passes_limit : LayoutView → Bool
-passes_limit layout = nat_lt MOST_COMPLEX (complex_count layout) || nat_lt MOST_MAGNITUDES (length layout.magnitudes)
+passes_limit layout = nat_lt most_complex (complex_count layout) || nat_lt most_magnitudes (length layout.magnitudes)
 
 -- the first of the rest with which, those before included, a limit is passed
 abbrev pub first_past : Elements → Elements → Option ℕ

@@ -1,5 +1,6 @@
 // The layout of a circuit's unknowns.
 ghost use Rattle.std.specs.Prelude.{◌≡◌, ◌<◌, ◌≤◌, IfOk, length, map};
+ghost use Rattle.dss_layout.specs.Limits.{most_complex};
 ghost use Rattle.dss_layout.specs.Nodes.{node_at, number_in};
 ghost use Rattle.dss_layout.specs.Layout.{LaysOut, laid_out, size_of, ends_of, first_branch, first_magnitude};
 
@@ -83,7 +84,7 @@ impl Layout {
     pub fn number_of(&self, name: &NodeName) -> usize
         ensures number { result ≡ number_in self.now.nodes name.now }
         ensures within { result ≤ length self.now.nodes }
-        ensures small { result ≤ 240 }
+        ensures small { result ≤ most_complex }
     {
         match self.unknowns.nodes.get_index_of(name) {
             Some(index) => index,

@@ -1,5 +1,6 @@
 // The unknowns of a circuit while elements are added one by one.
 ghost use Rattle.std.specs.Prelude.{◌≡◌, ◌++◌, ◌||◌, nat_lt, [], false, filter, IfOk, OnOk};
+ghost use Rattle.dss_layout.specs.Limits.{most_complex, most_magnitudes};
 ghost use Rattle.dss_layout.specs.Nodes.{new_nodes, is_node};
 ghost use Rattle.dss_layout.specs.Terminals.{mentions};
 ghost use Rattle.dss_layout.specs.Layout.{layout_of, added, passes_limit, phase_names, branch_phases, magnitude_phases};
@@ -83,7 +84,7 @@ fn note(alloc: Global, nodes: &mut IndexSet<NodeName>, element: &Element) -> Res
 
 // Whether so many complex unknowns or magnitudes are too many.
 fn are_too_many(complex: usize, magnitudes: usize) -> bool
-    ensures { result ≡ (nat_lt MOST_COMPLEX complex || nat_lt MOST_MAGNITUDES magnitudes) }
+    ensures { result ≡ (nat_lt most_complex complex || nat_lt most_magnitudes magnitudes) }
 {
     complex > MOST_COMPLEX || magnitudes > MOST_MAGNITUDES
 }

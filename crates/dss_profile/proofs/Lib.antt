@@ -1,3 +1,4 @@
 pub mod FormRanges
 pub mod ClassRanges
 pub mod ElementRanges
+pub mod CallerLemmas

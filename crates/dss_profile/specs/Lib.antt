@@ -12,3 +12,4 @@ pub mod Element
 pub mod Options
 pub mod Ranges
 pub mod InRange
+pub mod SameElement

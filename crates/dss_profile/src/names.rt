@@ -2,6 +2,7 @@
 ghost use Rattle.std.specs.Prelude.{◌≡◌};
 ghost use Rattle.dss_values.specs.Names.{named};
 ghost use Rattle.dss_profile.specs.Names.{classes};
+ghost use Rattle.dss_profile.specs.SameElement.{SameElementIsEqual, same_element};
 
 use dss_lexer::Text;
 use dss_values::find_named;
@@ -26,6 +27,13 @@ pub struct ElementName {
     pub class: Class,
     pub name: Text,
 }
+
+/// Two elements are the same where class and name are: `==` answers so, and it is equality.
+#[tactic(auto, using(crate::proofs::CallerLemmas::compares, crate::proofs::CallerLemmas::equal))]
+pub fn name_law()
+    ensures compares { ⟦<ElementName as PartialEq>⟧.eq ≡ same_element }
+    ensures equal { SameElementIsEqual }
+{}
 
 /// The classes by their names in lower case.
 pub const CLASSES: [(&str, Class); 9] = [

@@ -14,9 +14,8 @@ use Rattle.dss_profile.specs.declared.names.Class.TheVariants as class
 use Rattle.dss_profile.specs.declared.names.ElementName.{ElementName}
 use Rattle.dss_layout.specs.declared.numbers.TerminalFault.{TerminalFault}
 use Rattle.dss_layout.specs.declared.numbers.TerminalFault.TheVariants as terminal
-use Rattle.dss_ready.specs.declared.mention.Mention.{Mention}
-use Rattle.dss_ready.specs.declared.mention.Mention.TheVariants as mention
-use Rattle.dss_ready.specs.Mentions.{Elements}
+use Rattle.dss_circuit.specs.Circuit.{Elements}
+use Rattle.dss_ready.specs.Mentions.{is_shape_followed}
 use Rattle.dss_ready.specs.Lookups.{element_given}
 
 -- a matrix that is given has a row and a column for each phase
@@ -48,22 +47,20 @@ abbrev pub is_count_fault : Result Unit TerminalFault → Bool
 is_count_fault (Err terminal.WrongCount) = true
 is_count_fault other = false
 
-module _ (same : ElementName → ElementName → Bool) (elements : Elements) where
+module _ (elements : Elements) where
   -- a RegControl needs its Transformer
   abbrev pub lacks_transformer : RegControl → Bool
-  lacks_transformer control = is_none (element_given same elements class.Transformer control.transformer)
+  lacks_transformer control = is_none (element_given elements class.Transformer control.transformer)
 
   -- a CapControl needs its Line and its Capacitor
   abbrev pub lacks_line_or_bank : CapControl → Bool
   lacks_line_or_bank control =
-      is_none (element_given same elements class.Line control.element) || is_none (element_given same elements class.Capacitor control.capacitor)
+      is_none (element_given elements class.Line control.element) || is_none (element_given elements class.Capacitor control.capacitor)
 
--- `named` says which parts of elements are named by others
-module _ (same : ElementName → ElementName → Bool) (named : Mention → Bool) (elements : Elements) where
   -- besides its buses, whether the element has something in the wrong number; a Loadshape only where a Load names it
   abbrev pub is_part_wrong : ElementName → Element → Bool
   is_part_wrong name (the.Line line) = are_matrices_wrong line
-  is_part_wrong name (the.RegControl control) = lacks_transformer same elements control
-  is_part_wrong name (the.CapControl control) = lacks_line_or_bank same elements control
-  is_part_wrong name (the.Loadshape shape) = is_shape_short shape && named (mention.Shape name.name)
+  is_part_wrong name (the.RegControl control) = lacks_transformer control
+  is_part_wrong name (the.CapControl control) = lacks_line_or_bank control
+  is_part_wrong name (the.Loadshape shape) = is_shape_short shape && is_shape_followed elements name.name
   is_part_wrong name other = false

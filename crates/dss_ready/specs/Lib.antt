@@ -1,4 +1,5 @@
 pub mod Mentions
+pub mod Noted
 pub mod Lookups
 pub mod Sources
 pub mod Ranges

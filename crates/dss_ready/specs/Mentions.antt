@@ -1,29 +1,55 @@
 -- What elements name of one another.
-use Rattle.std.specs.Prelude.{Bool, false, List, Option, None, option_map}
+use Rattle.std.specs.Prelude.{ℕ, ◌==◌, ◌&&◌, Bool, false, List, Option, Some, None}
 use Rattle.std.specs.List.{list_any}
-use Rattle.std.specs.Option.{option_map_or}
+use Rattle.dss_lexer.specs.Texts.{text_eq}
 use Rattle.dss_profile.specs.declared.element.Element.{Element}
 use Rattle.dss_profile.specs.declared.element.Element.TheVariants as the
-use Rattle.dss_profile.specs.declared.names.ElementName.{ElementName}
-use Rattle.dss_ready.specs.declared.mention.Mention.{Mention}
-use Rattle.dss_ready.specs.declared.mention.Mention.TheVariants as mention
+use Rattle.dss_circuit.specs.Circuit.{Elements}
 
--- elements in order of definition
-abbrev pub Elements : Type 0
-Elements = List (ElementName × Element)
+-- a property gives this name
+abbrev pub gives_name : List ℕ → Option (List ℕ) → Bool
+gives_name name None = false
+gives_name name (Some given) = text_eq given name
 
--- a RegControl names a winding, a CapControl a Capacitor, and a Load a Loadshape
-abbrev pub mention_of : Element → Option Mention
-mention_of (the.RegControl control) = option_map (λ name. mention.Winding name control.winding) control.transformer
-mention_of (the.CapControl control) = option_map (λ name. mention.Bank name) control.capacitor
-mention_of (the.Load load) = option_map (λ name. mention.Shape name) load.daily
-mention_of other = None
+-- a control of this winding of the Transformer of this name
+abbrev pub controls_winding : List ℕ → ℕ → Element → Bool
+controls_winding transformer winding (the.RegControl control) = gives_name transformer control.transformer && (control.winding == winding)
+controls_winding transformer winding other = false
 
-module _ (same : Mention → Mention → Bool) where
-  -- whether an element names this
-  abbrev pub names : Mention → Element → Bool
-  names m element = option_map_or (λ named. same named m) (mention_of element) false
+-- a control of the Capacitor of this name
+abbrev pub controls_bank : List ℕ → Element → Bool
+controls_bank capacitor (the.CapControl control) = gives_name capacitor control.capacitor
+controls_bank capacitor other = false
 
-  -- whether any of these elements names this
-  abbrev pub is_mentioned : Elements → Mention → Bool
-  is_mentioned elements m = list_any (λ entry. names m entry.1) elements
+-- a Load that follows the Loadshape of this name
+abbrev pub follows_shape : List ℕ → Element → Bool
+follows_shape shape (the.Load load) = gives_name shape load.daily
+follows_shape shape other = false
+
+-- some of these elements controls the winding
+abbrev pub is_winding_controlled : Elements → List ℕ → ℕ → Bool
+is_winding_controlled elements transformer winding = list_any (λ entry. controls_winding transformer winding entry.1) elements
+
+-- some of these elements controls the bank
+abbrev pub is_bank_controlled : Elements → List ℕ → Bool
+is_bank_controlled elements capacitor = list_any (λ entry. controls_bank capacitor entry.1) elements
+
+-- some Load among these elements names the shape
+abbrev pub is_shape_followed : Elements → List ℕ → Bool
+is_shape_followed elements shape = list_any (λ entry. follows_shape shape entry.1) elements
+
+-- a second control of a winding, where these stand before it
+abbrev pub is_second_of_winding : Elements → Option (List ℕ) → ℕ → Bool
+is_second_of_winding before None winding = false
+is_second_of_winding before (Some transformer) winding = is_winding_controlled before transformer winding
+
+-- a second control of a bank, where these stand before it
+abbrev pub is_second_of_bank : Elements → Option (List ℕ) → Bool
+is_second_of_bank before None = false
+is_second_of_bank before (Some capacitor) = is_bank_controlled before capacitor
+
+-- a second control of the same winding or of the same bank, where these elements stand before it
+abbrev pub is_second_control : Elements → Element → Bool
+is_second_control before (the.RegControl control) = is_second_of_winding before control.transformer control.winding
+is_second_control before (the.CapControl control) = is_second_of_bank before control.capacitor
+is_second_control before other = false

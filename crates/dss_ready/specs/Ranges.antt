@@ -13,9 +13,8 @@ use Rattle.dss_profile.specs.declared.element.Element.{Element}
 use Rattle.dss_profile.specs.declared.element.Element.TheVariants as the
 use Rattle.dss_profile.specs.declared.names.Class.TheVariants as class
 use Rattle.dss_profile.specs.declared.names.ElementName.{ElementName}
-use Rattle.dss_ready.specs.declared.mention.Mention.{Mention}
-use Rattle.dss_ready.specs.declared.mention.Mention.TheVariants as mention
-use Rattle.dss_ready.specs.Mentions.{Elements}
+use Rattle.dss_circuit.specs.Circuit.{Elements}
+use Rattle.dss_ready.specs.Mentions.{is_winding_controlled}
 use Rattle.dss_ready.specs.Lookups.{element_given, phases_given}
 use Rattle.dss_ready.specs.Sources.{is_above_limit}
 
@@ -46,30 +45,27 @@ are_settings_outside quantity.Voltage on off = not (int_lt on off)
 are_settings_outside quantity.Current on off = not (int_lt off on)
 are_settings_outside quantity.Kvar on off = not (int_lt off on)
 
--- `named` says which parts of elements are named by others
-module _ (named : Mention → Bool) where
+module _ (elements : Elements) where
   -- only the tap of a winding that a RegControl controls has a range
   abbrev pub is_winding_outside : List ℕ → ℕ → Winding → Bool
-  is_winding_outside name number winding = is_step_outside winding || (is_tap_outside winding && named (mention.Winding name number))
+  is_winding_outside name number winding = is_step_outside winding || (is_tap_outside winding && is_winding_controlled elements name number)
 
   abbrev pub is_transformer_outside : List ℕ → Transformer → Bool
   is_transformer_outside name transformer = is_winding_outside name 1 transformer.first || is_winding_outside name 2 transformer.second
 
-module _ (same : ElementName → ElementName → Bool) (elements : Elements) where
   abbrev pub is_regcontrol_outside : RegControl → Bool
-  is_regcontrol_outside control = is_phase_outside control.ptphase (phases_given (element_given same elements class.Transformer control.transformer))
+  is_regcontrol_outside control = is_phase_outside control.ptphase (phases_given (element_given elements class.Transformer control.transformer))
 
   abbrev pub is_capcontrol_outside : CapControl → Bool
   is_capcontrol_outside control =
       are_settings_outside control.kind control.onsetting control.offsetting
-      || (is_phase_outside control.ptphase (phases_given (element_given same elements class.Line control.element))
-      || is_phase_outside control.ctphase (phases_given (element_given same elements class.Line control.element)))
+      || (is_phase_outside control.ptphase (phases_given (element_given elements class.Line control.element))
+      || is_phase_outside control.ctphase (phases_given (element_given elements class.Line control.element)))
 
-module _ (same : ElementName → ElementName → Bool) (named : Mention → Bool) (elements : Elements) where
   -- whether a value of the element is out of range
   abbrev pub is_outside_by : ElementName → Element → Bool
   is_outside_by name (the.Vsource source) = is_source_outside source
-  is_outside_by name (the.Transformer transformer) = is_transformer_outside named name.name transformer
-  is_outside_by name (the.RegControl control) = is_regcontrol_outside same elements control
-  is_outside_by name (the.CapControl control) = is_capcontrol_outside same elements control
+  is_outside_by name (the.Transformer transformer) = is_transformer_outside name.name transformer
+  is_outside_by name (the.RegControl control) = is_regcontrol_outside control
+  is_outside_by name (the.CapControl control) = is_capcontrol_outside control
   is_outside_by name other = false

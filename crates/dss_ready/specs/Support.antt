@@ -32,11 +32,6 @@ abbrev pub is_support_fault : Result Unit TerminalFault → Bool
 is_support_fault (Err terminal.Unsupported) = true
 is_support_fault other = false
 
-abbrev pub is_control : Element → Bool
-is_control (the.RegControl control) = true
-is_control (the.CapControl control) = true
-is_control other = false
-
 -- a line has an impedance of its own, from its line code or by switch
 abbrev pub lacks_impedance : Element → Bool
 lacks_impedance (the.Line line) = is_none line.form

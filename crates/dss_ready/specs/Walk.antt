@@ -1,6 +1,5 @@
 -- The first element that is to blame, in order of definition.
-use Rattle.std.specs.Prelude.{◌≡◌, ℕ, Bool, false, ◌&&◌, ◌||◌, [], ◌∷◌, ◌++◌, Option, Some, None, Result, Ok, Err, if◌then◌else◌}
-use Rattle.std.specs.Option.{option_map_or}
+use Rattle.std.specs.Prelude.{◌≡◌, ℕ, Bool, ◌||◌, [], ◌∷◌, ◌++◌, Option, Some, None, Result, Ok, Err, if◌then◌else◌}
 use Rattle.dss_profile.specs.declared.command.Place.{Place}
 use Rattle.dss_values.specs.declared.fault.ModelFault.{ModelFault}
 use Rattle.dss_values.specs.declared.fault.ModelFault.TheVariants as fault
@@ -9,13 +8,13 @@ use Rattle.dss_profile.specs.declared.element.Element.{Element}
 use Rattle.dss_profile.specs.declared.names.ElementName.{ElementName}
 use Rattle.dss_ready.specs.declared.fault.ReadyFault.{ReadyFault}
 use Rattle.dss_ready.specs.declared.fault.ReadyFault.TheVariants as ready_fault
-use Rattle.dss_ready.specs.declared.mention.Mention.{Mention}
 use Rattle.dss_profile.specs.Element.{place_of}
 use Rattle.dss_layout.specs.Terminals.{terminal_numbers, tested}
-use Rattle.dss_ready.specs.Mentions.{Elements, mention_of, is_mentioned}
+use Rattle.dss_circuit.specs.Circuit.{Elements}
+use Rattle.dss_ready.specs.Mentions.{is_second_control}
 use Rattle.dss_ready.specs.Ranges.{is_outside_by}
 use Rattle.dss_ready.specs.Counts.{is_count_fault, is_part_wrong}
-use Rattle.dss_ready.specs.Support.{is_support_fault, are_powers_unequal, differs_from, frequency_of, is_control, lacks_impedance}
+use Rattle.dss_ready.specs.Support.{is_support_fault, are_powers_unequal, differs_from, frequency_of, lacks_impedance}
 
 -- a refusal is the one that is said, unless memory ran out
 abbrev pub Answers : Result Unit ReadyFault → Result Unit Blame → Type 0
@@ -38,20 +37,20 @@ first_cause outside count unsupported second impedance =
     else (if impedance then Some fault.NoImpedance
     else None))))
 
-module _ (same : ElementName → ElementName → Bool) (named : Mention → Bool) (hertz : ℕ) (elements : Elements) where
-  -- why an element is to blame; `again` says whether an element before it names the same
+-- the elements of a circuit with this frequency in hertz
+module _ (hertz : ℕ) (elements : Elements) where
+  -- why an element is to blame; `second` says whether it is a second control
   abbrev pub cause_by : Bool → ElementName → Element → Option ModelFault
-  cause_by again name element = first_cause
-      (is_outside_by same named elements name element)
-      (is_count_fault (tested (terminal_numbers element)) || is_part_wrong same named elements name element)
+  cause_by second name element = first_cause
+      (is_outside_by elements name element)
+      (is_count_fault (tested (terminal_numbers element)) || is_part_wrong elements name element)
       (is_support_fault (tested (terminal_numbers element)) || (are_powers_unequal element || differs_from hertz (frequency_of element)))
-      (is_control element && again)
+      second
       (lacks_impedance element)
 
-module _ (same : ElementName → ElementName → Bool) (same_mention : Mention → Mention → Bool) (named : Mention → Bool) (hertz : ℕ) (elements : Elements) where
   -- why an element is to blame, where these stand before it
   abbrev pub cause_of : Elements → ElementName × Element → Option ModelFault
-  cause_of before entry = cause_by same named hertz elements (option_map_or (is_mentioned same_mention before) (mention_of entry.1) false) entry.0 entry.1
+  cause_of before entry = cause_by (is_second_control before entry.1) entry.0 entry.1
 
   -- the first that is to blame among those that follow
   abbrev pub first_blame : Elements → Elements → Result Unit Blame

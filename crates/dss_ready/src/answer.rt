@@ -5,39 +5,41 @@ ghost use Rattle.dss_ready.specs.Ready.{own_blame, blame_at, IsAnswer};
 ghost use Rattle.dss_ready.specs.Walk.{Answers};
 
 use crate::ReadyFault;
-use crate::lookup::Elements;
-use crate::mention::{Mention, all_mentions};
+use crate::mention::all_mentions;
 use crate::walk::{blame, find_blame};
+use dss_circuit::Circuit;
 use dss_layout::{Layout, LayoutFault, first_isolated};
-use dss_profile::{Blame, Element, ElementName, ModelFault};
-use indexmap::IndexMap;
+use dss_profile::{Blame, ModelFault};
 use std::alloc::{AllocError, Global};
 
 // The first element that is to blame for a cause of its own.
-fn find_own_blame(alloc: Global, elements: &Elements, hertz: u32) -> Result<(), ReadyFault>
-    ensures { Answers result (own_blame ⟦<ElementName as PartialEq>⟧.eq ⟦<Mention as PartialEq>⟧.eq hertz elements.now.entries) }
+fn find_own_blame(alloc: Global, circuit: &Circuit) -> Result<(), ReadyFault>
+    ensures { Answers result (own_blame circuit.now) }
 {
+    let elements = circuit.elements();
     let mentions = all_mentions(alloc, elements)?;
+    let hertz = circuit.options().defaultbasefrequency;
     find_blame(alloc, elements, &mentions, hertz)
 }
 
 // The element at a place in order, to blame for a cause.
-fn blame_place(elements: &Elements, place: usize, cause: ModelFault) -> Result<Blame, AllocError>
-    requires { place < length elements.now.entries }
-    ensures { IfOk result (λ blame. blame_at cause elements.now.entries place ≡ Some blame) }
+fn blame_place(circuit: &Circuit, place: usize, cause: ModelFault) -> Result<Blame, AllocError>
+    requires { place < length circuit.now.elements }
+    ensures { IfOk result (λ blame. blame_at cause circuit.now.elements place ≡ Some blame) }
 {
-    let (_, element) = elements.as_slice().get_index(place).unwrap();
+    let (_, element) = circuit.elements().as_slice().get_index(place).unwrap();
     blame(element, cause)
 }
 
 // The element with which a limit on the unknowns is passed.
-fn blame_limit(elements: &Elements, fault: LayoutFault) -> Result<(), ReadyFault>
-    requires { LaysOut (Err fault) (laid_out elements.now.entries) }
-    ensures { IsAnswer (Ok tt) elements.now.entries result }
+fn blame_limit(circuit: &Circuit, fault: LayoutFault) -> Result<(), ReadyFault>
+    requires no_own { own_blame circuit.now ≡ Ok tt }
+    requires limit { LaysOut (Err fault) (laid_out circuit.now.elements) }
+    ensures { IsAnswer circuit.now result }
 {
     match fault {
         LayoutFault::TooMany(place) => {
-            let blame = blame_place(elements, place, ModelFault::TooMany)?;
+            let blame = blame_place(circuit, place, ModelFault::TooMany)?;
             Err(ReadyFault::Blame(blame))
         }
         LayoutFault::NoMemory => Err(ReadyFault::NoMemory),
@@ -45,13 +47,14 @@ fn blame_limit(elements: &Elements, fault: LayoutFault) -> Result<(), ReadyFault
 }
 
 // The first element with a node that isn't fed.
-fn check_fed(alloc: Global, elements: &Elements, layout: &Layout) -> Result<(), ReadyFault>
-    requires { laid_out elements.now.entries ≡ Ok layout.now }
-    ensures { IsAnswer (Ok tt) elements.now.entries result }
+fn check_fed(alloc: Global, circuit: &Circuit, layout: &Layout) -> Result<(), ReadyFault>
+    requires no_own { own_blame circuit.now ≡ Ok tt }
+    requires layout { laid_out circuit.now.elements ≡ Ok layout.now }
+    ensures { IsAnswer circuit.now result }
 {
-    match first_isolated(alloc, layout, elements)? {
+    match first_isolated(alloc, layout, circuit.elements())? {
         Some(place) => {
-            let blame = blame_place(elements, place, ModelFault::IsolatedNode)?;
+            let blame = blame_place(circuit, place, ModelFault::IsolatedNode)?;
             Err(ReadyFault::Blame(blame))
         }
         None => Ok(()),
@@ -59,16 +62,18 @@ fn check_fed(alloc: Global, elements: &Elements, layout: &Layout) -> Result<(), 
 }
 
 // The tests that look at all elements at once.
-fn check_layout(alloc: Global, elements: &Elements) -> Result<(), ReadyFault>
-    ensures { IsAnswer (Ok tt) elements.now.entries result }
+fn check_layout(alloc: Global, circuit: &Circuit) -> Result<(), ReadyFault>
+    requires { own_blame circuit.now ≡ Ok tt }
+    ensures { IsAnswer circuit.now result }
 {
-    match Layout::of(alloc, elements) {
-        Ok(layout) => check_fed(alloc, elements, &layout),
-        Err(fault) => blame_limit(elements, fault),
+    match Layout::of(alloc, circuit.elements()) {
+        Ok(layout) => check_fed(alloc, circuit, &layout),
+        Err(fault) => blame_limit(circuit, fault),
     }
 }
 
-/// The tests that a Solve makes of its circuit, whose frequency is in hertz.
+/// The tests that a Solve makes of its circuit, which look at the values of the script: whether it passes them, or the
+/// first element that is to blame, and why.
 ///
 /// Elements are looked at in order of definition, each for these causes in turn: a value out of range (the
 /// short-circuit impedance of a source above 10^4 ohm, a step of a tap below 10^-5, the tap of a controlled winding
@@ -79,15 +84,11 @@ fn check_layout(alloc: Global, elements: &Elements) -> Result<(), ReadyFault>
 /// without an impedance. Then comes the first element that passes a limit on the unknowns, and then the first with a
 /// node that no source feeds. Each is blamed at the place of its New (OpenDSS manual for the properties; this profile
 /// for the tests).
-pub fn ready(
-    alloc: Global,
-    elements: &IndexMap<ElementName, Element>,
-    hertz: u32,
-) -> Result<(), ReadyFault>
-    ensures { IsAnswer (own_blame ⟦<ElementName as PartialEq>⟧.eq ⟦<Mention as PartialEq>⟧.eq hertz elements.now.entries) elements.now.entries result }
+pub fn ready(alloc: Global, circuit: &Circuit) -> Result<(), ReadyFault>
+    ensures { IsAnswer circuit.now result }
 {
-    match find_own_blame(alloc, elements, hertz) {
-        Ok(()) => check_layout(alloc, elements),
+    match find_own_blame(alloc, circuit) {
+        Ok(()) => check_layout(alloc, circuit),
         Err(fault) => Err(fault),
     }
 }

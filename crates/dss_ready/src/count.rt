@@ -1,10 +1,10 @@
 // Counts that are tested at Solve.
 ghost use Rattle.std.specs.Prelude.{◌≡◌, ◌&&◌, IfOk};
-ghost use Rattle.std.specs.HashSet.{contains};
+ghost use Rattle.dss_ready.specs.Noted.{Notes, has_shape};
 ghost use Rattle.dss_ready.specs.Counts.{is_size_wrong, is_matrix, are_matrices_wrong, value_count, is_shape_short, lacks_transformer, lacks_line_or_bank, is_part_wrong};
 
 use crate::lookup::{Elements, find_given};
-use crate::mention::{Mention, Mentions, is_shape_named};
+use crate::mention::Mentions;
 use dss_profile::{
     CapControl, Class, DataForm, Element, ElementName, Line, Loadshape, Multipliers, Numbers,
     RegControl,
@@ -51,28 +51,21 @@ fn has_few_values(shape: &Loadshape) -> bool
     shape.npts == 0 || count_values(&shape.mult) < shape.npts as usize
 }
 
-fn is_shape_count_fault(
-    mentions: &Mentions,
-    name: &ElementName,
-    shape: &Loadshape,
-) -> Result<bool, AllocError>
-    ensures { IfOk result (λ wrong. wrong ≡ (is_shape_short shape.now && contains ⟦<Mention as PartialEq>⟧.eq mentions.now (Mention.Shape name.now.name))) }
+fn is_shape_count_fault(mentions: &Mentions, name: &ElementName, shape: &Loadshape) -> bool
+    ensures { result ≡ (is_shape_short shape.now && has_shape mentions.now name.now.name) }
 {
-    if !has_few_values(shape) {
-        return Ok(false);
-    }
-    is_shape_named(mentions, &name.name)
+    has_few_values(shape) && mentions.has_shape(&name.name)
 }
 
 fn is_regcontrol_count_fault(elements: &Elements, control: &RegControl) -> Result<bool, AllocError>
-    ensures { IfOk result (λ lacks. lacks ≡ lacks_transformer ⟦<ElementName as PartialEq>⟧.eq elements.now.entries control.now) }
+    ensures { IfOk result (λ lacks. lacks ≡ lacks_transformer elements.now.entries control.now) }
 {
     let found = find_given(elements, Class::Transformer, &control.transformer)?;
     Ok(found.is_none())
 }
 
 fn is_capcontrol_count_fault(elements: &Elements, control: &CapControl) -> Result<bool, AllocError>
-    ensures { IfOk result (λ lacks. lacks ≡ lacks_line_or_bank ⟦<ElementName as PartialEq>⟧.eq elements.now.entries control.now) }
+    ensures { IfOk result (λ lacks. lacks ≡ lacks_line_or_bank elements.now.entries control.now) }
 {
     let line = find_given(elements, Class::Line, &control.element)?;
     let bank = find_given(elements, Class::Capacitor, &control.capacitor)?;
@@ -86,13 +79,14 @@ pub fn is_part_count_fault(
     name: &ElementName,
     element: &Element,
 ) -> Result<bool, AllocError>
-    ensures { IfOk result (λ wrong. wrong ≡ is_part_wrong ⟦<ElementName as PartialEq>⟧.eq (contains ⟦<Mention as PartialEq>⟧.eq mentions.now) elements.now.entries name.now element.now) }
+    requires { Notes mentions.now elements.now.entries }
+    ensures { IfOk result (λ wrong. wrong ≡ is_part_wrong elements.now.entries name.now element.now) }
 {
     match element {
         Element::Line(line) => Ok(is_line_count_fault(line)),
         Element::RegControl(control) => is_regcontrol_count_fault(elements, control),
         Element::CapControl(control) => is_capcontrol_count_fault(elements, control),
-        Element::Loadshape(shape) => is_shape_count_fault(mentions, name, shape),
+        Element::Loadshape(shape) => Ok(is_shape_count_fault(mentions, name, shape)),
         _ => Ok(false),
     }
 }

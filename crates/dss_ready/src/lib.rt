@@ -1,6 +1,6 @@
 //! The tests that a Solve makes of a circuit's elements before anything is solved.
 //!
-//! `ready` looks at the elements in order of definition, and names the first that is to blame with the first cause
+//! `ready` looks at a circuit's elements in order of definition, and names the first that is to blame with the first cause
 //! that applies to it: a value out of range, a wrong count, something unsupported, a duplicate, no impedance. Then come
 //! the first element that passes a limit on the unknowns, and the first with a node that no source feeds.
 //!
@@ -23,5 +23,6 @@ mod walk;
 
 pub use answer::ready;
 pub use fault::ReadyFault;
-pub use mention::Mention;
-pub use range::is_above_source_limit;
+
+#[cfg(test)]
+mod tests;

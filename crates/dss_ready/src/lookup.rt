@@ -2,6 +2,7 @@
 ghost use Rattle.std.specs.Prelude.{◌≡◌, IfOk, option_copied};
 ghost use Rattle.dss_ready.specs.Lookups.{element_given, phases_given};
 
+use dss_circuit::find_element;
 use dss_lexer::Text;
 use dss_profile::{Class, Element, ElementName};
 use indexmap::IndexMap;
@@ -16,12 +17,12 @@ pub fn find_given<'a>(
     class: Class,
     given: &Option<Text>,
 ) -> Result<Option<&'a Element>, AllocError>
-    ensures { IfOk result (λ found. option_copied found ≡ element_given ⟦<ElementName as PartialEq>⟧.eq elements.now.entries class given.now) }
+    ensures { IfOk result (λ found. option_copied found ≡ element_given elements.now.entries class given.now) }
 {
     match given {
         Some(given) => {
             let name = given.clone()?;
-            Ok(elements.get(&ElementName { class, name }))
+            Ok(find_element(elements, &ElementName { class, name }))
         }
         None => Ok(None),
     }

@@ -1,11 +1,12 @@
 // Values that are tested against one another.
 ghost use Rattle.std.specs.Prelude.{◌≡◌, IfOk};
-ghost use Rattle.std.specs.HashSet.{contains};
+ghost use Rattle.dss_circuit.specs.Circuit.{Elements};
+ghost use Rattle.dss_ready.specs.Noted.{Notes};
 ghost use Rattle.dss_ready.specs.Ranges.{is_source_outside, is_step_outside, is_tap_outside, is_phase_outside, are_settings_outside, is_winding_outside, is_transformer_outside, is_regcontrol_outside, is_capcontrol_outside, is_outside_by};
 ghost use Rattle.dss_ready.specs.Sources.{is_above_limit};
 
 use crate::lookup::{Elements, find_given, phases_to_measure};
-use crate::mention::{Mention, Mentions, is_winding_named};
+use crate::mention::Mentions;
 use dss_lexer::Text;
 use dss_profile::{
     CapControl, Class, ControlQuantity, Element, ElementName, RegControl, SourceForm, Transformer,
@@ -80,7 +81,7 @@ fn is_winding_range_fault(
     number: u32,
     winding: &Winding,
 ) -> Result<bool, AllocError>
-    ensures { IfOk result (λ outside. outside ≡ is_winding_outside (contains ⟦<Mention as PartialEq>⟧.eq mentions.now) name.now number winding.now) }
+    ensures { (elements : Elements) → Notes mentions.now elements → IfOk result (λ outside. outside ≡ is_winding_outside elements name.now number winding.now) }
 {
     if is_step_small(winding) {
         return Ok(true);
@@ -88,7 +89,7 @@ fn is_winding_range_fault(
     if !is_tap_beyond(winding) {
         return Ok(false);
     }
-    is_winding_named(mentions, name, number)
+    mentions.has_winding(name, number)
 }
 
 fn is_transformer_range_fault(
@@ -96,7 +97,7 @@ fn is_transformer_range_fault(
     name: &Text,
     transformer: &Transformer,
 ) -> Result<bool, AllocError>
-    ensures { IfOk result (λ outside. outside ≡ is_transformer_outside (contains ⟦<Mention as PartialEq>⟧.eq mentions.now) name.now transformer.now) }
+    ensures { (elements : Elements) → Notes mentions.now elements → IfOk result (λ outside. outside ≡ is_transformer_outside elements name.now transformer.now) }
 {
     if is_winding_range_fault(mentions, name, 1, &transformer.first)? {
         return Ok(true);
@@ -105,14 +106,14 @@ fn is_transformer_range_fault(
 }
 
 fn is_regcontrol_range_fault(elements: &Elements, control: &RegControl) -> Result<bool, AllocError>
-    ensures { IfOk result (λ outside. outside ≡ is_regcontrol_outside ⟦<ElementName as PartialEq>⟧.eq elements.now.entries control.now) }
+    ensures { IfOk result (λ outside. outside ≡ is_regcontrol_outside elements.now.entries control.now) }
 {
     let found = find_given(elements, Class::Transformer, &control.transformer)?;
     Ok(is_phase_beyond(control.ptphase, phases_to_measure(found)))
 }
 
 fn is_capcontrol_range_fault(elements: &Elements, control: &CapControl) -> Result<bool, AllocError>
-    ensures { IfOk result (λ outside. outside ≡ is_capcontrol_outside ⟦<ElementName as PartialEq>⟧.eq elements.now.entries control.now) }
+    ensures { IfOk result (λ outside. outside ≡ is_capcontrol_outside elements.now.entries control.now) }
 {
     let found = find_given(elements, Class::Line, &control.element)?;
     let phases = phases_to_measure(found);
@@ -131,7 +132,8 @@ pub fn is_range_fault(
     name: &ElementName,
     element: &Element,
 ) -> Result<bool, AllocError>
-    ensures { IfOk result (λ outside. outside ≡ is_outside_by ⟦<ElementName as PartialEq>⟧.eq (contains ⟦<Mention as PartialEq>⟧.eq mentions.now) elements.now.entries name.now element.now) }
+    requires { Notes mentions.now elements.now.entries }
+    ensures { IfOk result (λ outside. outside ≡ is_outside_by elements.now.entries name.now element.now) }
 {
     match element {
         Element::Vsource(source) => Ok(is_source_range_fault(source)),

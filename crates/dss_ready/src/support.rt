@@ -1,6 +1,6 @@
 // What is unsupported, and what an element lacks.
 ghost use Rattle.std.specs.Prelude.{◌≡◌};
-ghost use Rattle.dss_ready.specs.Support.{frequency_of, differs_from, are_powers_unequal, is_control, lacks_impedance};
+ghost use Rattle.dss_ready.specs.Support.{frequency_of, differs_from, are_powers_unequal, lacks_impedance};
 
 use dss_profile::Element;
 
@@ -36,13 +36,6 @@ pub fn has_unequal_powers(element: &Element) -> bool
         Element::Transformer(transformer) => transformer.first.kva != transformer.second.kva,
         _ => false,
     }
-}
-
-/// Whether the element is a RegControl or a CapControl.
-pub fn is_a_control(element: &Element) -> bool
-    ensures { result ≡ is_control element.now }
-{
-    matches!(element, Element::RegControl(_) | Element::CapControl(_))
 }
 
 /// Whether the element is a Line without an impedance.

@@ -1,7 +1,7 @@
 // The first element that is to blame.
 ghost use Rattle.std.specs.Prelude.{◌≡◌, ◌||◌, IfOk, []};
-ghost use Rattle.std.specs.HashSet.{contains};
 ghost use Rattle.dss_layout.specs.Terminals.{terminal_numbers, tested};
+ghost use Rattle.dss_ready.specs.Noted.{Notes};
 ghost use Rattle.dss_ready.specs.Counts.{is_count_fault, is_part_wrong};
 ghost use Rattle.dss_ready.specs.Support.{is_support_fault, are_powers_unequal, differs_from, frequency_of};
 ghost use Rattle.dss_profile.specs.Element.{place_of};
@@ -10,13 +10,12 @@ ghost use Rattle.dss_ready.specs.Walk.{Answers, cause_by, first_blame};
 use crate::ReadyFault;
 use crate::count::is_part_count_fault;
 use crate::lookup::Elements;
-use crate::mention::{Mention, Mentions, note};
+use crate::mention::Mentions;
 use crate::range::is_range_fault;
-use crate::support::{has_no_impedance, has_other_frequency, has_unequal_powers, is_a_control};
+use crate::support::{has_no_impedance, has_other_frequency, has_unequal_powers};
 use dss_layout::{TerminalFault, check_terminals};
 use dss_profile::{Blame, Element, ElementName, ModelFault};
 use std::alloc::{AllocError, Global};
-use std::collections::HashSet;
 
 /// An element to blame for a cause, by the place of its New.
 pub fn blame(element: &Element, cause: ModelFault) -> Result<Blame, AllocError>
@@ -44,7 +43,8 @@ fn is_count_refused(
     name: &ElementName,
     element: &Element,
 ) -> Result<bool, AllocError>
-    ensures { IfOk result (λ wrong. wrong ≡ (is_count_fault (tested (terminal_numbers element.now)) || is_part_wrong ⟦<ElementName as PartialEq>⟧.eq (contains ⟦<Mention as PartialEq>⟧.eq mentions.now) elements.now.entries name.now element.now)) }
+    requires { Notes mentions.now elements.now.entries }
+    ensures { IfOk result (λ wrong. wrong ≡ (is_count_fault (tested (terminal_numbers element.now)) || is_part_wrong elements.now.entries name.now element.now)) }
 {
     if has_count_fault(check_terminals(element)) {
         return Ok(true);
@@ -60,16 +60,17 @@ fn is_support_refused(hertz: u32, element: &Element) -> bool
         || has_other_frequency(hertz, element)
 }
 
-// Why an element is to blame. `again` says whether one before it names the same.
+// Why an element is to blame. `second` says whether it is a second control of a winding or a bank.
 fn cause(
     elements: &Elements,
     mentions: &Mentions,
     hertz: u32,
-    again: bool,
+    second: bool,
     name: &ElementName,
     element: &Element,
 ) -> Result<Option<ModelFault>, AllocError>
-    ensures { IfOk result (λ cause. cause ≡ cause_by ⟦<ElementName as PartialEq>⟧.eq (contains ⟦<Mention as PartialEq>⟧.eq mentions.now) hertz elements.now.entries again name.now element.now) }
+    requires { Notes mentions.now elements.now.entries }
+    ensures { IfOk result (λ cause. cause ≡ cause_by hertz elements.now.entries second name.now element.now) }
 {
     if is_range_fault(elements, mentions, name, element)? {
         return Ok(Some(ModelFault::OutOfRange));
@@ -80,7 +81,7 @@ fn cause(
     if is_support_refused(hertz, element) {
         return Ok(Some(ModelFault::Unsupported));
     }
-    if is_a_control(element) && again {
+    if second {
         return Ok(Some(ModelFault::Duplicate));
     }
     if has_no_impedance(element) {
@@ -96,12 +97,13 @@ pub fn find_blame(
     mentions: &Mentions,
     hertz: u32,
 ) -> Result<(), ReadyFault>
-    ensures { Answers result (first_blame ⟦<ElementName as PartialEq>⟧.eq ⟦<Mention as PartialEq>⟧.eq (contains ⟦<Mention as PartialEq>⟧.eq mentions.now) hertz elements.now.entries [] elements.now.entries) }
+    requires { Notes mentions.now elements.now.entries }
+    ensures { Answers result (first_blame hertz elements.now.entries [] elements.now.entries) }
 {
-    let mut seen = HashSet::new(alloc);
+    let mut seen = Mentions::new(alloc);
     for (name, element) in elements {
-        let again = note(&mut seen, element)?;
-        if let Some(cause) = cause(elements, mentions, hertz, again, name, element)? {
+        let second = seen.note(element)?;
+        if let Some(cause) = cause(elements, mentions, hertz, second, name, element)? {
             return Err(ReadyFault::Blame(blame(element, cause)?));
         }
     }

@@ -16,8 +16,7 @@ use Rattle.dss_layout.specs.Feeding.{IsFed, FirstIsolated}
 use Rattle.dss_layout.specs.Labels.{labels_of, mentions_apart}
 use Rattle.dss_layout.specs.Layout.{first_too_many, nodes_of}
 use Rattle.dss_layout.proofs.Walk.{first_isolated_at, fed_up_to}
-use Rattle.dss_ready.specs.declared.mention.Mention.{Mention}
-use Rattle.dss_ready.specs.Mentions.{Elements}
+use Rattle.dss_circuit.specs.Circuit.{Elements}
 use Rattle.dss_ready.specs.Ready.{for_own, for_many, for_isolated, blame_at, blame_on, own_blame}
 use Rattle.dss_ready.proofs.Limits.{too_many_within}
 use Rattle.dss_circuit.specs.Circuit.{CircuitView, empty_circuit}
@@ -74,27 +73,27 @@ record HasBlame (cause : ModelFault) (elements : Elements) (place : ℕ) : Type 
 blame_for : (cause : ModelFault) (elements : Elements) (place : ℕ) (entry : ElementName × Element) → slice_get elements place ≡ Some entry → HasBlame cause elements place
 blame_for cause elements place entry here = record { blame = blame_on cause entry; is = ap (option_map (blame_on cause)) here }
 
-record HasAnswer (own : Result Unit Blame) (elements : Elements) : Type 0 where
+record HasAnswer (circuit : CircuitView) : Type 0 where
   answer : Result Unit Blame
-  right : IsTested own elements answer
+  right : IsTested circuit answer
 
-module _ (elements : Elements) where
-  answer_by_feeding : first_too_many elements ≡ None → (found : Option ℕ) → FirstIsolated elements found → HasAnswer (Ok tt) elements
-  answer_by_feeding few None fed = record { answer = Ok tt; right = record { no_own = refl; not_many = few; all_fed = fed } }
-  answer_by_feeding few (Some k) first =
-      let by = blame_for fault.IsolatedNode elements k first.element first.at_place in
-      record { answer = Err by.blame; right = for_isolated by.blame k refl few first by.is }
+module _ (circuit : CircuitView) where
+  answer_by_feeding : own_blame circuit ≡ Ok tt → first_too_many circuit.elements ≡ None → (found : Option ℕ) → FirstIsolated circuit.elements found → HasAnswer circuit
+  answer_by_feeding own few None fed = record { answer = Ok tt; right = record { no_own = own; not_many = few; all_fed = fed } }
+  answer_by_feeding own few (Some k) first =
+      let by = blame_for fault.IsolatedNode circuit.elements k first.element first.at_place in
+      record { answer = Err by.blame; right = for_isolated by.blame k own few first by.is }
 
-  answer_by_limits : (past : Option ℕ) → first_too_many elements ≡ past → HasAnswer (Ok tt) elements
-  answer_by_limits None is = let s = searched elements in answer_by_feeding is s.place s.right
-  answer_by_limits (Some k) is =
-      let here = element_at elements k (too_many_within elements k is) in
-      let by = blame_for fault.TooMany elements k here.element here.at_place in
-      record { answer = Err by.blame; right = for_many by.blame k refl is by.is }
+  answer_by_limits : own_blame circuit ≡ Ok tt → (past : Option ℕ) → first_too_many circuit.elements ≡ past → HasAnswer circuit
+  answer_by_limits own None is = let s = searched circuit.elements in answer_by_feeding own is s.place s.right
+  answer_by_limits own (Some k) is =
+      let here = element_at circuit.elements k (too_many_within circuit.elements k is) in
+      let by = blame_for fault.TooMany circuit.elements k here.element here.at_place in
+      record { answer = Err by.blame; right = for_many by.blame k own is by.is }
 
-  answer_of_tests : (own : Result Unit Blame) → HasAnswer own elements
-  answer_of_tests (Err blame) = record { answer = Err blame; right = for_own blame refl }
-  answer_of_tests (Ok x) = answer_by_limits (first_too_many elements) refl
+  answer_of_tests : (own : Result Unit Blame) → own_blame circuit ≡ own → HasAnswer circuit
+  answer_of_tests (Err blame) is = record { answer = Err blame; right = for_own blame is }
+  answer_of_tests (Ok x) is = answer_by_limits is (first_too_many circuit.elements) refl
 
 -- ---- outcomes
 
@@ -124,28 +123,27 @@ after_command is_step rest s go =
     let h = after_step s.step rest go in
     record { outcome = h.outcome; right = record { step = s.step; right = s.right; goes_on = h.right }; how = h.how; ends = h.ends }
 
-module _ (same : ElementName → ElementName → Bool) (same_mention : Mention → Mention → Bool) where
-  step_of : (left : Applied) → HasStep (IsStepOf same same_mention left)
-  step_of (nothing_left circuit) = record { step = changes circuit; right = refl }
-  step_of (refused_at place cause) = record { step = refuses place cause; right = refl }
-  step_of (solve_left circuit) =
-      let tests = answer_of_tests circuit.elements (own_blame same same_mention circuit.options.defaultbasefrequency circuit.elements) in
-      record { step = by_tests circuit tests.answer; right = record { answer = tests.answer; right = tests.right; step_is = refl } }
+step_of : (left : Applied) → HasStep (IsStepOf left)
+step_of (nothing_left circuit) = record { step = changes circuit; right = refl }
+step_of (refused_at place cause) = record { step = refuses place cause; right = refl }
+step_of (solve_left circuit) =
+    let tests = answer_of_tests circuit (own_blame circuit) refl in
+    record { step = by_tests circuit tests.answer; right = record { answer = tests.answer; right = tests.right; step_is = refl } }
 
-  script_ends : (script : Script) (fails : Option ℕ) (circuit : CircuitView) → HasEnd (IsOutcome same same_mention script fails circuit)
-  script_ends finished fails circuit = record { outcome = done; right = inr refl; how = ending.Done; ends = refl }
-  script_ends (refused place cause) fails circuit = record { outcome = script_fault place (script_cause cause); right = inr refl; how = ending.ScriptFault; ends = refl }
-  script_ends (asks name script) (Some zero) circuit = record { outcome = before [] (bytes name ∷ []) (read_fault name); right = inr refl; how = ending.ReadFault; ends = refl }
-  script_ends (asks name script) (Some (suc n)) circuit =
-      or_stopped (Follows (IsOutcome same same_mention script (Some n) circuit) [] (bytes name ∷ [])) (followed_by (IsOutcome same same_mention script (Some n) circuit) [] (bytes name ∷ []) (script_ends script (Some n) circuit))
-  script_ends (asks name script) None circuit =
-      or_stopped (Follows (IsOutcome same same_mention script None circuit) [] (bytes name ∷ [])) (followed_by (IsOutcome same same_mention script None circuit) [] (bytes name ∷ []) (script_ends script None circuit))
-  script_ends (gives command script) fails circuit =
-      or_stopped _ (after_command _ (λ c o. IsOutcome same same_mention script fails c o) (step_of (tried same command circuit)) (λ c. script_ends script fails c))
+script_ends : (script : Script) (fails : Option ℕ) (circuit : CircuitView) → HasEnd (IsOutcome script fails circuit)
+script_ends finished fails circuit = record { outcome = done; right = inr refl; how = ending.Done; ends = refl }
+script_ends (refused place cause) fails circuit = record { outcome = script_fault place (script_cause cause); right = inr refl; how = ending.ScriptFault; ends = refl }
+script_ends (asks name script) (Some zero) circuit = record { outcome = before [] (bytes name ∷ []) (read_fault name); right = inr refl; how = ending.ReadFault; ends = refl }
+script_ends (asks name script) (Some (suc n)) circuit =
+    or_stopped (Follows (IsOutcome script (Some n) circuit) [] (bytes name ∷ [])) (followed_by (IsOutcome script (Some n) circuit) [] (bytes name ∷ []) (script_ends script (Some n) circuit))
+script_ends (asks name script) None circuit =
+    or_stopped (Follows (IsOutcome script None circuit) [] (bytes name ∷ [])) (followed_by (IsOutcome script None circuit) [] (bytes name ∷ []) (script_ends script None circuit))
+script_ends (gives command script) fails circuit =
+    or_stopped _ (after_command _ (λ c o. IsOutcome script fails c o) (step_of (tried command circuit)) (λ c. script_ends script fails c))
 
-  form_ends : (files : Files) (form : Option Form) (fails : Option ℕ) → HasEnd (IsFormOutcome same same_mention files form fails)
-  form_ends files None fails = record { outcome = usage; right = refl; how = ending.Usage; ends = refl }
-  form_ends files (Some (Solve file)) fails = script_ends (script_of files (chars file)) fails empty_circuit
+form_ends : (files : Files) (form : Option Form) (fails : Option ℕ) → HasEnd (IsFormOutcome files form fails)
+form_ends files None fails = record { outcome = usage; right = refl; how = ending.Usage; ends = refl }
+form_ends files (Some (Solve file)) fails = script_ends (script_of files (chars file)) fails empty_circuit
 
 pub exist : OutcomesExist
-exist same same_mention files words fails = form_ends same same_mention files (form_of words) fails
+exist files words fails = form_ends files (form_of words) fails

@@ -2,7 +2,6 @@
 use Rattle.std.proofs.Common.{◌≡◌, ◌∙◌, ◌⊎◌, ℕ, Bool, List, Option, Some, None, refl, sym, ap, subst, inl, inr, if◌then◌else◌, ◌==◌}
 use Rattle.fd_outside.specs.Files.{Files}
 use Rattle.dss_profile.specs.declared.names.ElementName.{ElementName}
-use Rattle.dss_ready.specs.declared.mention.Mention.{Mention}
 use Rattle.fd_app.specs.Outcome.{IsOutcomeOf, code_of}
 use Rattle.fd_app.specs.Answered.{IsOfCommand}
 use Rattle.fd_app.specs.Ends.{AnswersAt, CutsShort, IsStatus}
@@ -12,7 +11,7 @@ use Rattle.fd_app.specs.declared.ending.Ending.TheVariants as ending
 use Rattle.fd_app.proofs.Unique.{words_once, words_unread}
 
 pub unique : OutcomesAreUnique
-unique same same_mention files words fails = words_once same same_mention files words fails
+unique files words fails = words_once files words fails
 
 -- the ending that a status is of
 record HasEnding (status : ℕ) (how : Option Ending) : Type 0 where
@@ -74,39 +73,39 @@ not_cut ending.OutOfRange cut = never_cut 7 (λ is. cc is) (λ is. cc is) cut
 not_cut ending.NotConverged cut = never_cut 8 (λ is. cc is) (λ is. cc is) cut
 not_cut ending.Loose cut = never_cut 9 (λ is. cc is) (λ is. cc is) cut
 
-module _ {L S : Type 0} (same : ElementName → ElementName → Bool) (same_mention : Mention → Mention → Bool) (faults : L → ℕ) (asked : L → Option (List (List ℕ))) (lib_old lib_new : L)
+module _ {L S : Type 0} (faults : L → ℕ) (asked : L → Option (List (List ℕ))) (lib_old lib_new : L)
     (taken : S → Option (List ℕ)) (calls : S → Option ℕ) (old new : S) (files : Files) (words : List (List ℕ)) where
   -- a run whose status is that of its outcome
-  whole_run : (status : ℕ) (how : Ending) (r : Runs faults asked lib_old lib_new taken calls old new status (λ f o. IsOutcomeOf same same_mention files words f o)) → (how ≡ ending.ReadFault → ⊥) → status ≡ code_of how
-      → IsStatus status r.outcome.ending → Due same same_mention files words how
+  whole_run : (status : ℕ) (how : Ending) (r : Runs faults asked lib_old lib_new taken calls old new status (λ f o. IsOutcomeOf files words f o)) → (how ≡ ending.ReadFault → ⊥) → status ≡ code_of how
+      → IsStatus status r.outcome.ending → Due files words how
   whole_run status how r other is h =
       let by = has_ending status r.outcome.ending h in
       let which : by.which ≡ how = same_ending by.which how (sym by.code ∙ is) in
       record {
         outcome = r.outcome;
-        right = words_unread same same_mention files words r.fails r.outcome by.which (λ read. other (sym which ∙ read)) by.is r.right;
+        right = words_unread files words r.fails r.outcome by.which (λ read. other (sym which ∙ read)) by.is r.right;
         ends = by.is ∙ ap Some which;
       }
 
   -- the status of an ending, but for a failed read, is answered only where the outcome ends so
-  pub due_only : (status : ℕ) (how : Ending) → Runs faults asked lib_old lib_new taken calls old new status (λ f o. IsOutcomeOf same same_mention files words f o) → (how ≡ ending.ReadFault → ⊥) → status ≡ code_of how
-      → Due same same_mention files words how
+  pub due_only : (status : ℕ) (how : Ending) → Runs faults asked lib_old lib_new taken calls old new status (λ f o. IsOutcomeOf files words f o) → (how ≡ ending.ReadFault → ⊥) → status ≡ code_of how
+      → Due files words how
   due_only status how r other is = elim r.prints [
     | inl whole ↦ whole_run status how r other is whole.0
     | inr cut ↦ absurd (not_cut how (subst CutsShort is cut.0))
   ]
 
   -- the status that is due, where no read failed
-  due_status : (status : ℕ) (how which : Ending) (r : Runs faults asked lib_old lib_new taken calls old new status (λ f o. IsOutcomeOf same same_mention files words f o)) → Due same same_mention files words how
+  due_status : (status : ℕ) (how which : Ending) (r : Runs faults asked lib_old lib_new taken calls old new status (λ f o. IsOutcomeOf files words f o)) → Due files words how
       → r.outcome.ending ≡ Some which → status ≡ code_of which → (which ≡ ending.ReadFault → ⊥) → status ≡ code_of how
   due_status status how which r due ends code other =
-      let right = words_unread same same_mention files words r.fails r.outcome which other ends r.right in
-      let one : r.outcome ≡ due.outcome = words_once same same_mention files words None r.outcome due.outcome which how right due.right ends due.ends in
+      let right = words_unread files words r.fails r.outcome which other ends r.right in
+      let one : r.outcome ≡ due.outcome = words_once files words None r.outcome due.outcome which how right due.right ends due.ends in
       let f : Some which ≡ Some how = sym ends ∙ ap (λ o. o.ending) one ∙ due.ends in
       let g : which ≡ how = cc f in
       code ∙ ap code_of g
 
-  whole_status : (status : ℕ) (how : Ending) (r : Runs faults asked lib_old lib_new taken calls old new status (λ f o. IsOutcomeOf same same_mention files words f o)) → Due same same_mention files words how → IsStatus status r.outcome.ending
+  whole_status : (status : ℕ) (how : Ending) (r : Runs faults asked lib_old lib_new taken calls old new status (λ f o. IsOutcomeOf files words f o)) → Due files words how → IsStatus status r.outcome.ending
       → (status ≡ code_of how) ⊎ (status ≡ 4)
   whole_status status how r due h =
       let by = has_ending status r.outcome.ending h in
@@ -116,7 +115,7 @@ module _ {L S : Type 0} (same : ElementName → ElementName → Bool) (same_ment
       ]
 
   -- the status that is due, unless the outcome is cut short or a read failed
-  pub answers_due : (status : ℕ) (how : Ending) → Runs faults asked lib_old lib_new taken calls old new status (λ f o. IsOutcomeOf same same_mention files words f o) → Due same same_mention files words how → AnswersAt (code_of how) status
+  pub answers_due : (status : ℕ) (how : Ending) → Runs faults asked lib_old lib_new taken calls old new status (λ f o. IsOutcomeOf files words f o) → Due files words how → AnswersAt (code_of how) status
   answers_due status how r due = elim r.prints [
     | inl whole ↦ elim (whole_status status how r due whole.0) [ inl is ↦ inl is | inr read ↦ inr (inr read) ]
     | inr cut ↦ inr (inl cut.0)

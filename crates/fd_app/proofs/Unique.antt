@@ -12,9 +12,8 @@ use Rattle.dss_profile.specs.declared.element.Element.{Element}
 use Rattle.dss_profile.specs.declared.names.ElementName.{ElementName}
 use Rattle.dss_layout.specs.Feeding.{Fed, IsFed, IsIsolated, IsFirstIsolated, FirstIsolated}
 use Rattle.dss_layout.specs.Terminals.{mentions}
-use Rattle.dss_ready.specs.declared.mention.Mention.{Mention}
-use Rattle.dss_ready.specs.Mentions.{Elements}
-use Rattle.dss_ready.specs.Ready.{IsReady, IsToBlame, for_own, for_many, for_isolated, blame_at}
+use Rattle.dss_circuit.specs.Circuit.{Elements}
+use Rattle.dss_ready.specs.Ready.{HasPassed, IsToBlame, own_blame, for_own, for_many, for_isolated, blame_at}
 use Rattle.std.specs.Str.{chars}
 use Rattle.fd_outside.specs.Files.{Files}
 use Rattle.dss_circuit.specs.Circuit.{CircuitView, empty_circuit}
@@ -65,24 +64,24 @@ same_place place other x h k = let f : Some place ≡ Some other = sym h ∙ k i
 own_and_none : {A B : Type 0} (own : Result A B) (a : A) (b : B) → own ≡ Ok a → own ≡ Err b → ⊥
 own_and_none own a b h k = let f = sym h ∙ k in cc f
 
-module _ (own : Result Unit Blame) (elements : Elements) where
-  blame_once : (a b : Blame) → IsToBlame own elements a → IsToBlame own elements b → a ≡ b
+module _ (circuit : CircuitView) where
+  blame_once : (a b : Blame) → IsToBlame circuit a → IsToBlame circuit b → a ≡ b
   blame_once a b (for_own x h) (for_own y k) = let f = sym h ∙ k in cc f
-  blame_once a b (for_own x h) (for_many y p k m e) = absurd (own_and_none own tt x k h)
-  blame_once a b (for_own x h) (for_isolated y p k n i e) = absurd (own_and_none own tt x k h)
-  blame_once a b (for_many x p h m e) (for_own y k) = absurd (own_and_none own tt y h k)
-  blame_once a b (for_many x p h m e) (for_many y q k n g) = same_blame _ _ x y (ap (λ i. blame_at fault.TooMany elements i) (same_place p q _ m n)) e g
+  blame_once a b (for_own x h) (for_many y p k m e) = absurd (own_and_none (own_blame circuit) tt x k h)
+  blame_once a b (for_own x h) (for_isolated y p k n i e) = absurd (own_and_none (own_blame circuit) tt x k h)
+  blame_once a b (for_many x p h m e) (for_own y k) = absurd (own_and_none (own_blame circuit) tt y h k)
+  blame_once a b (for_many x p h m e) (for_many y q k n g) = same_blame _ _ x y (ap (λ i. blame_at fault.TooMany circuit.elements i) (same_place p q _ m n)) e g
   blame_once a b (for_many x p h m e) (for_isolated y q k n i g) = let f : Some p ≡ None = sym m ∙ n in cc f
-  blame_once a b (for_isolated x p h m i e) (for_own y k) = absurd (own_and_none own tt y h k)
+  blame_once a b (for_isolated x p h m i e) (for_own y k) = absurd (own_and_none (own_blame circuit) tt y h k)
   blame_once a b (for_isolated x p h m i e) (for_many y q k n g) = let f : Some q ≡ None = sym n ∙ m in cc f
-  blame_once a b (for_isolated x p h m i e) (for_isolated y q k n j g) = same_blame _ _ x y (ap (λ l. blame_at fault.IsolatedNode elements l) (isolated_once elements p q i j)) e g
+  blame_once a b (for_isolated x p h m i e) (for_isolated y q k n j g) = same_blame _ _ x y (ap (λ l. blame_at fault.IsolatedNode circuit.elements l) (isolated_once circuit.elements p q i j)) e g
 
-  ready_or_blame : (a : Blame) → IsReady own elements → IsToBlame own elements a → ⊥
-  ready_or_blame a ready (for_own x h) = own_and_none own tt x ready.no_own h
+  ready_or_blame : (a : Blame) → HasPassed circuit → IsToBlame circuit a → ⊥
+  ready_or_blame a ready (for_own x h) = own_and_none (own_blame circuit) tt x ready.no_own h
   ready_or_blame a ready (for_many x p h m e) = let f : Some p ≡ None = sym m ∙ ready.not_many in cc f
-  ready_or_blame a ready (for_isolated x p h m i e) = none_isolated elements p ready.all_fed i
+  ready_or_blame a ready (for_isolated x p h m i e) = none_isolated circuit.elements p ready.all_fed i
 
-  test_once : (a b : Result Unit Blame) → IsTested own elements a → IsTested own elements b → a ≡ b
+  test_once : (a b : Result Unit Blame) → IsTested circuit a → IsTested circuit b → a ≡ b
   test_once (Ok x) (Ok y) h k = refl
   test_once (Ok x) (Err y) h k = absurd (ready_or_blame y h k)
   test_once (Err x) (Ok y) h k = absurd (ready_or_blame x k h)
@@ -130,63 +129,62 @@ after_step_weaker (solves circuit x m) p q o e weaker ended h = record {
   outcome_is = h.outcome_is;
 }
 
-module _ (same : ElementName → ElementName → Bool) (same_mention : Mention → Mention → Bool) where
-  solve_once : (circuit : CircuitView) (s t : Step) → IsSolve same same_mention circuit s → IsSolve same same_mention circuit t → s ≡ t
-  solve_once circuit s t h k = h.step_is ∙ ap (by_tests circuit) (test_once _ circuit.elements h.answer k.answer h.right k.right) ∙ sym k.step_is
+solve_once : (circuit : CircuitView) (s t : Step) → IsSolve circuit s → IsSolve circuit t → s ≡ t
+solve_once circuit s t h k = h.step_is ∙ ap (by_tests circuit) (test_once circuit h.answer k.answer h.right k.right) ∙ sym k.step_is
 
-  step_once : (left : Applied) (s t : Step) → IsStepOf same same_mention left s → IsStepOf same same_mention left t → s ≡ t
-  step_once (nothing_left circuit) s t h k = h ∙ sym k
-  step_once (refused_at at cause) s t h k = h ∙ sym k
-  step_once (solve_left circuit) s t h k = solve_once circuit s t h k
+step_once : (left : Applied) (s t : Step) → IsStepOf left s → IsStepOf left t → s ≡ t
+step_once (nothing_left circuit) s t h k = h ∙ sym k
+step_once (refused_at at cause) s t h k = h ∙ sym k
+step_once (solve_left circuit) s t h k = solve_once circuit s t h k
 
-  pub outcome_once : (script : Script) (fails : Option ℕ) (circuit : CircuitView) → IsOnce (IsOutcome same same_mention script fails circuit)
-  outcome_once finished fails circuit a b e f h k ended also = exactly _ a b e f h k ended also
-  outcome_once (refused place cause) fails circuit a b e f h k ended also = exactly _ a b e f h k ended also
-  outcome_once (asks name script) (Some zero) circuit a b e f h k ended also = exactly _ a b e f h k ended also
-  outcome_once (asks name script) (Some (suc n)) circuit a b e f h k ended also =
-      follows_once (IsOutcome same same_mention script (Some n) circuit) [] (bytes name ∷ []) (outcome_once script (Some n) circuit) a b e f (followed a e h ended) (followed b f k also) ended also
-  outcome_once (asks name script) None circuit a b e f h k ended also =
-      follows_once (IsOutcome same same_mention script None circuit) [] (bytes name ∷ []) (outcome_once script None circuit) a b e f (followed a e h ended) (followed b f k also) ended also
-  outcome_once (gives command script) fails circuit a b e f h k ended also =
-      after_command_once _ (λ c o. IsOutcome same same_mention script fails c o) (step_once (tried same command circuit)) (λ c. outcome_once script fails c) a b e f (followed a e h ended) (followed b f k also) ended also
+pub outcome_once : (script : Script) (fails : Option ℕ) (circuit : CircuitView) → IsOnce (IsOutcome script fails circuit)
+outcome_once finished fails circuit a b e f h k ended also = exactly _ a b e f h k ended also
+outcome_once (refused place cause) fails circuit a b e f h k ended also = exactly _ a b e f h k ended also
+outcome_once (asks name script) (Some zero) circuit a b e f h k ended also = exactly _ a b e f h k ended also
+outcome_once (asks name script) (Some (suc n)) circuit a b e f h k ended also =
+    follows_once (IsOutcome script (Some n) circuit) [] (bytes name ∷ []) (outcome_once script (Some n) circuit) a b e f (followed a e h ended) (followed b f k also) ended also
+outcome_once (asks name script) None circuit a b e f h k ended also =
+    follows_once (IsOutcome script None circuit) [] (bytes name ∷ []) (outcome_once script None circuit) a b e f (followed a e h ended) (followed b f k also) ended also
+outcome_once (gives command script) fails circuit a b e f h k ended also =
+    after_command_once _ (λ c o. IsOutcome script fails c o) (step_once (tried command circuit)) (λ c. outcome_once script fails c) a b e f (followed a e h ended) (followed b f k also) ended also
 
-  pub outcome_unread : (script : Script) (n : ℕ) (circuit : CircuitView) (o : Outcome) (e : Ending) → (e ≡ ending.ReadFault → ⊥) → o.ending ≡ Some e → IsOutcome same same_mention script (Some n) circuit o
-      → IsOutcome same same_mention script None circuit o
-  outcome_unread finished n circuit o e other ended h = h
-  outcome_unread (refused place cause) n circuit o e other ended h = h
-  outcome_unread (asks name script) zero circuit o e other ended h =
-      let is : o ≡ before [] (bytes name ∷ []) (read_fault name) = followed o e h ended in
-      let f : Some e ≡ Some ending.ReadFault = sym ended ∙ ap (λ x. x.ending) is in
-      absurd (other (cc f))
-  outcome_unread (asks name script) (suc n) circuit o e other ended h =
-      let goes = followed o e h ended in
-      inr (record {
-        next = goes.next;
-        goes_on = outcome_unread script n circuit goes.next e other (next_ends [] (bytes name ∷ []) o goes.next e goes.outcome_is ended) goes.goes_on;
-        outcome_is = goes.outcome_is;
-      })
-  outcome_unread (gives command script) n circuit o e other ended h =
-      let goes = followed o e h ended in
-      inr (record {
-        step = goes.step;
-        right = goes.right;
-        goes_on = after_step_weaker goes.step (λ c x. IsOutcome same same_mention script (Some n) c x) (λ c x. IsOutcome same same_mention script None c x) o e
-            (λ c x x_ends is. outcome_unread script n c x e other x_ends is) ended goes.goes_on;
-      })
+pub outcome_unread : (script : Script) (n : ℕ) (circuit : CircuitView) (o : Outcome) (e : Ending) → (e ≡ ending.ReadFault → ⊥) → o.ending ≡ Some e → IsOutcome script (Some n) circuit o
+    → IsOutcome script None circuit o
+outcome_unread finished n circuit o e other ended h = h
+outcome_unread (refused place cause) n circuit o e other ended h = h
+outcome_unread (asks name script) zero circuit o e other ended h =
+    let is : o ≡ before [] (bytes name ∷ []) (read_fault name) = followed o e h ended in
+    let f : Some e ≡ Some ending.ReadFault = sym ended ∙ ap (λ x. x.ending) is in
+    absurd (other (cc f))
+outcome_unread (asks name script) (suc n) circuit o e other ended h =
+    let goes = followed o e h ended in
+    inr (record {
+      next = goes.next;
+      goes_on = outcome_unread script n circuit goes.next e other (next_ends [] (bytes name ∷ []) o goes.next e goes.outcome_is ended) goes.goes_on;
+      outcome_is = goes.outcome_is;
+    })
+outcome_unread (gives command script) n circuit o e other ended h =
+    let goes = followed o e h ended in
+    inr (record {
+      step = goes.step;
+      right = goes.right;
+      goes_on = after_step_weaker goes.step (λ c x. IsOutcome script (Some n) c x) (λ c x. IsOutcome script None c x) o e
+          (λ c x x_ends is. outcome_unread script n c x e other x_ends is) ended goes.goes_on;
+    })
 
-  form_once : (files : Files) (form : Option Form) (fails : Option ℕ) → IsOnce (IsFormOutcome same same_mention files form fails)
-  form_once files None fails a b e f h k ended also = h ∙ sym k
-  form_once files (Some (Solve file)) fails a b e f h k ended also = outcome_once (script_of files (chars file)) fails empty_circuit a b e f h k ended also
+form_once : (files : Files) (form : Option Form) (fails : Option ℕ) → IsOnce (IsFormOutcome files form fails)
+form_once files None fails a b e f h k ended also = h ∙ sym k
+form_once files (Some (Solve file)) fails a b e f h k ended also = outcome_once (script_of files (chars file)) fails empty_circuit a b e f h k ended also
 
-  pub words_once : (files : Files) (words : List (List ℕ)) (fails : Option ℕ) → IsOnce (IsOutcomeOf same same_mention files words fails)
-  words_once files words fails a b e f h k ended also = form_once files (form_of words) fails a b e f h k ended also
+pub words_once : (files : Files) (words : List (List ℕ)) (fails : Option ℕ) → IsOnce (IsOutcomeOf files words fails)
+words_once files words fails a b e f h k ended also = form_once files (form_of words) fails a b e f h k ended also
 
-  form_unread : (files : Files) (form : Option Form) (n : ℕ) (o : Outcome) (e : Ending) → (e ≡ ending.ReadFault → ⊥) → o.ending ≡ Some e → IsFormOutcome same same_mention files form (Some n) o
-      → IsFormOutcome same same_mention files form None o
-  form_unread files None n o e other ended h = h
-  form_unread files (Some (Solve file)) n o e other ended h = outcome_unread (script_of files (chars file)) n empty_circuit o e other ended h
+form_unread : (files : Files) (form : Option Form) (n : ℕ) (o : Outcome) (e : Ending) → (e ≡ ending.ReadFault → ⊥) → o.ending ≡ Some e → IsFormOutcome files form (Some n) o
+    → IsFormOutcome files form None o
+form_unread files None n o e other ended h = h
+form_unread files (Some (Solve file)) n o e other ended h = outcome_unread (script_of files (chars file)) n empty_circuit o e other ended h
 
-  pub words_unread : (files : Files) (words : List (List ℕ)) (fails : Option ℕ) (o : Outcome) (e : Ending) → (e ≡ ending.ReadFault → ⊥) → o.ending ≡ Some e → IsOutcomeOf same same_mention files words fails o
-      → IsOutcomeOf same same_mention files words None o
-  words_unread files words None o e other ended h = h
-  words_unread files words (Some n) o e other ended h = form_unread files (form_of words) n o e other ended h
+pub words_unread : (files : Files) (words : List (List ℕ)) (fails : Option ℕ) (o : Outcome) (e : Ending) → (e ≡ ending.ReadFault → ⊥) → o.ending ≡ Some e → IsOutcomeOf files words fails o
+    → IsOutcomeOf files words None o
+words_unread files words None o e other ended h = h
+words_unread files words (Some n) o e other ended h = form_unread files (form_of words) n o e other ended h

@@ -23,10 +23,10 @@ use Rattle.dss_profile.specs.declared.command.Verb.{Verb}
 use Rattle.dss_profile.specs.declared.command.Verb.TheVariants as verb
 use Rattle.dss_profile.specs.declared.element.Element.{Element}
 use Rattle.dss_profile.specs.declared.names.ElementName.{ElementName}
+use Rattle.dss_profile.specs.SameElement.{same_element}
 use Rattle.dss_profile.specs.declared.options.Options.{Options}
 use Rattle.dss_circuit.specs.Circuit.{CircuitView, Elements, applied, applied_verb, edit, has_circuit, make, make_where, put, with_pairs}
 use Rattle.dss_circuit.specs.Keys.{edit_key, element_key, made_key, needed, new_key, source_name, written}
-use Rattle.dss_ready.specs.declared.mention.Mention.{Mention}
 use Rattle.dss_script.specs.Sessions.{cost}
 use Rattle.dss_profile.specs.declared.command.Blame.{Blame}
 use Rattle.fd_app.specs.Causes.{model_cause, not_built}
@@ -109,100 +109,99 @@ long_new kind name begun key h = let t = through (written kind name) (λ done. m
 
 -- ---- elements are as many, or one more
 
-module _ (same : ElementName → ElementName → Bool) where
-  inserted : (elements : Elements) (name : ElementName) (element : Element) → length (insert_entry same elements name element) ≤ 1 + length elements
-  inserted [] name element = omega arith
-  inserted (e ∷ es) name element = cases (same name e.0) (inserted es name element)
-    where
-      cases : (b : Bool) → length (insert_entry same es name element) ≤ 1 + length es → length (if b then (e.0, element) ∷ es else e ∷ insert_entry same es name element) ≤ 1 + length (e ∷ es)
-      cases true rest = omega arith
-      cases false rest = omega (arith, rest)
+inserted : (elements : Elements) (name : ElementName) (element : Element) → length (insert_entry same_element elements name element) ≤ 1 + length elements
+inserted [] name element = omega arith
+inserted (e ∷ es) name element = cases (same_element name e.0) (inserted es name element)
+  where
+    cases : (b : Bool) → length (insert_entry same_element es name element) ≤ 1 + length es → length (if b then (e.0, element) ∷ es else e ∷ insert_entry same_element es name element) ≤ 1 + length (e ∷ es)
+    cases true rest = omega arith
+    cases false rest = omega (arith, rest)
 
-  replaced : (elements : Elements) (name : ElementName) (element there : Element) → lookup (same name) elements ≡ Some there → length (insert_entry same elements name element) ≤ length elements
-  replaced [] name element there is = cc is
-  replaced (e ∷ es) name element there is = cases (same name e.0) (replaced es name element there) is
-    where
-      cases : (b : Bool) → (lookup (same name) es ≡ Some there → length (insert_entry same es name element) ≤ length es) → cond b (Some e.1) (lookup (same name) es) ≡ Some there
-          → length (if b then (e.0, element) ∷ es else e ∷ insert_entry same es name element) ≤ length (e ∷ es)
-      cases true rest h = omega arith
-      cases false rest h = omega (arith, rest h)
+replaced : (elements : Elements) (name : ElementName) (element there : Element) → lookup (same_element name) elements ≡ Some there → length (insert_entry same_element elements name element) ≤ length elements
+replaced [] name element there is = cc is
+replaced (e ∷ es) name element there is = cases (same_element name e.0) (replaced es name element there) is
+  where
+    cases : (b : Bool) → (lookup (same_element name) es ≡ Some there → length (insert_entry same_element es name element) ≤ length es) → cond b (Some e.1) (lookup (same_element name) es) ≡ Some there
+        → length (if b then (e.0, element) ∷ es else e ∷ insert_entry same_element es name element) ≤ length (e ∷ es)
+    cases true rest h = omega arith
+    cases false rest h = omega (arith, rest h)
 
-  put_more : (count : ℕ) (name : ElementName) (element : Element) (pairs : List Pair) (elements new : Elements) → put same count name element pairs elements ≡ Ok new → length new ≤ 1 + length elements
-  unfolding put
-  put_more count name element pairs elements new h =
-      let t = through (with_pairs same count elements name.class pairs element) (λ e. Ok (insert_entry same elements name e)) new h in
-      let is : insert_entry same elements name t.value ≡ new = cc t.next in
-      omega (arith, ap (λ xs. length xs) is, inserted elements name t.value)
+put_more : (count : ℕ) (name : ElementName) (element : Element) (pairs : List Pair) (elements new : Elements) → put count name element pairs elements ≡ Ok new → length new ≤ 1 + length elements
+unfolding put
+put_more count name element pairs elements new h =
+    let t = through (with_pairs count elements name.class pairs element) (λ e. Ok (insert_entry same_element elements name e)) new h in
+    let is : insert_entry same_element elements name t.value ≡ new = cc t.next in
+    omega (arith, ap (λ xs. length xs) is, inserted elements name t.value)
 
-  put_same : (count : ℕ) (name : ElementName) (element there : Element) (pairs : List Pair) (elements new : Elements) → lookup (same name) elements ≡ Some there → put same count name element pairs elements ≡ Ok new
-      → length new ≤ length elements
-  unfolding put
-  put_same count name element there pairs elements new found h =
-      let t = through (with_pairs same count elements name.class pairs element) (λ e. Ok (insert_entry same elements name e)) new h in
-      let is : insert_entry same elements name t.value ≡ new = cc t.next in
-      omega (arith, ap (λ xs. length xs) is, replaced elements name t.value there found)
+put_same : (count : ℕ) (name : ElementName) (element there : Element) (pairs : List Pair) (elements new : Elements) → lookup (same_element name) elements ≡ Some there → put count name element pairs elements ≡ Ok new
+    → length new ≤ length elements
+unfolding put
+put_same count name element there pairs elements new found h =
+    let t = through (with_pairs count elements name.class pairs element) (λ e. Ok (insert_entry same_element elements name e)) new h in
+    let is : insert_entry same_element elements name t.value ≡ new = cc t.next in
+    omega (arith, ap (λ xs. length xs) is, replaced elements name t.value there found)
 
-  make_where_more : (count : ℕ) (there : Option Element) (place : Place) (name : ElementName) (pairs : List Pair) (elements new : Elements) → make_where same count there place name pairs elements ≡ Ok new → length new ≤ 1 + length elements
-  make_where_more count None place name pairs elements new h = put_more count name _ pairs elements new h
-  make_where_more count (Some there) place name pairs elements new h = cc h
+make_where_more : (count : ℕ) (there : Option Element) (place : Place) (name : ElementName) (pairs : List Pair) (elements new : Elements) → make_where count there place name pairs elements ≡ Ok new → length new ≤ 1 + length elements
+make_where_more count None place name pairs elements new h = put_more count name _ pairs elements new h
+make_where_more count (Some there) place name pairs elements new h = cc h
 
-  make_more : (count : ℕ) (place : Place) (name : ElementName) (pairs : List Pair) (elements new : Elements) → make same count place name pairs elements ≡ Ok new → length new ≤ 1 + length elements
-  unfolding make
-  make_more count place name pairs elements new h = make_where_more count (lookup (same name) elements) place name pairs elements new h
+make_more : (count : ℕ) (place : Place) (name : ElementName) (pairs : List Pair) (elements new : Elements) → make count place name pairs elements ≡ Ok new → length new ≤ 1 + length elements
+unfolding make
+make_more count place name pairs elements new h = make_where_more count (lookup (same_element name) elements) place name pairs elements new h
 
-  edit_same : (count : ℕ) (name : ElementName) (pairs : List Pair) (elements new : Elements) → edit same count name pairs elements ≡ Ok new → length new ≤ length elements
-  unfolding edit
-  edit_same count name pairs elements new h =
-      let t = through _ _ new h in
-      put_same count name t.value t.value pairs elements new (found_named fault.UnknownName _ t.value t.first) t.next
+edit_same : (count : ℕ) (name : ElementName) (pairs : List Pair) (elements new : Elements) → edit count name pairs elements ≡ Ok new → length new ≤ length elements
+unfolding edit
+edit_same count name pairs elements new h =
+    let t = through _ _ new h in
+    put_same count name t.value t.value pairs elements new (found_named fault.UnknownName _ t.value t.first) t.next
 
-  -- ---- a command that is applied takes its room
+-- ---- a command that is applied takes its room
 
-  verb_takes : (place : Place) (v : Verb) (circuit new : CircuitView) → applied_verb same place v circuit ≡ Ok new → weight new ≤ weight circuit + cost v
-  verb_takes place (verb.New kind name pairs) circuit new h =
-      let keep : Elements → Result CircuitView ModelFault = λ es. Ok (record circuit { elements = es }) in
-      let t = through (new_key kind name (has_circuit circuit.elements)) (λ key. make same circuit.solves place key pairs circuit.elements >>= keep) new h in
-      let u = through (make same circuit.solves place t.value pairs circuit.elements) keep new t.next in
-      let is : record circuit { elements = u.value } ≡ new = cc u.next in
-      let long = long_new kind name (has_circuit circuit.elements) t.value t.first in
-      let more = make_more circuit.solves place t.value pairs circuit.elements u.value u.first in
-      let elements : length u.value ≡ length new.elements = ap (λ c. length c.elements) is in
-      let count : circuit.solves ≡ new.solves = ap (λ c. c.solves) is in
-      omega (arith, long, more, elements, count)
-  verb_takes place (verb.Edit kind name pairs) circuit new h =
-      let keep : Elements → Result CircuitView ModelFault = λ es. Ok (record circuit { elements = es }) in
-      let t = through (edit_key kind name (has_circuit circuit.elements)) (λ key. edit same circuit.solves key pairs circuit.elements >>= keep) new h in
-      let u = through (edit same circuit.solves t.value pairs circuit.elements) keep new t.next in
-      let is : record circuit { elements = u.value } ≡ new = cc u.next in
-      let more = edit_same circuit.solves t.value pairs circuit.elements u.value u.first in
-      let elements : length u.value ≡ length new.elements = ap (λ c. length c.elements) is in
-      let count : circuit.solves ≡ new.solves = ap (λ c. c.solves) is in
-      omega (arith, more, elements, count)
-  verb_takes place (verb.Set pairs) circuit new h =
-      let t = through (with_options pairs circuit.options) (λ o. Ok (record circuit { options = o })) new h in
-      let is : record circuit { options = t.value } ≡ new = cc t.next in
-      let elements : length circuit.elements ≡ length new.elements = ap (λ c. length c.elements) is in
-      let count : circuit.solves ≡ new.solves = ap (λ c. c.solves) is in
-      omega (arith, elements, count)
-  verb_takes place (verb.Solve pairs) circuit new h =
-      let keep : Options → Result CircuitView ModelFault = λ o. Ok (record circuit { options = o; solves = circuit.solves + 1 }) in
-      let t = through (needed (has_circuit circuit.elements)) (λ done. with_options pairs circuit.options >>= keep) new h in
-      let u = through (with_options pairs circuit.options) keep new t.next in
-      let is : record circuit { options = u.value; solves = circuit.solves + 1 } ≡ new = cc u.next in
-      let elements : length circuit.elements ≡ length new.elements = ap (λ c. length c.elements) is in
-      let count : circuit.solves + 1 ≡ new.solves = ap (λ c. c.solves) is in
-      omega (arith, elements, count)
-  verb_takes place verb.Clear circuit new h =
-      let is : record circuit { elements = []; options = default_options } ≡ new = cc h in
-      let elements : 0 ≡ length new.elements = ap (λ c. length c.elements) is in
-      let count : circuit.solves ≡ new.solves = ap (λ c. c.solves) is in
-      omega (arith, elements, count)
-  verb_takes place verb.Bases circuit new h =
-      let t = through (needed (has_circuit circuit.elements)) (λ done. Ok circuit) new h in
-      let is : circuit ≡ new = cc t.next in
-      let elements : length circuit.elements ≡ length new.elements = ap (λ c. length c.elements) is in
-      let count : circuit.solves ≡ new.solves = ap (λ c. c.solves) is in
-      omega (arith, elements, count)
+verb_takes : (place : Place) (v : Verb) (circuit new : CircuitView) → applied_verb place v circuit ≡ Ok new → weight new ≤ weight circuit + cost v
+verb_takes place (verb.New kind name pairs) circuit new h =
+    let keep : Elements → Result CircuitView ModelFault = λ es. Ok (record circuit { elements = es }) in
+    let t = through (new_key kind name (has_circuit circuit.elements)) (λ key. make circuit.solves place key pairs circuit.elements >>= keep) new h in
+    let u = through (make circuit.solves place t.value pairs circuit.elements) keep new t.next in
+    let is : record circuit { elements = u.value } ≡ new = cc u.next in
+    let long = long_new kind name (has_circuit circuit.elements) t.value t.first in
+    let more = make_more circuit.solves place t.value pairs circuit.elements u.value u.first in
+    let elements : length u.value ≡ length new.elements = ap (λ c. length c.elements) is in
+    let count : circuit.solves ≡ new.solves = ap (λ c. c.solves) is in
+    omega (arith, long, more, elements, count)
+verb_takes place (verb.Edit kind name pairs) circuit new h =
+    let keep : Elements → Result CircuitView ModelFault = λ es. Ok (record circuit { elements = es }) in
+    let t = through (edit_key kind name (has_circuit circuit.elements)) (λ key. edit circuit.solves key pairs circuit.elements >>= keep) new h in
+    let u = through (edit circuit.solves t.value pairs circuit.elements) keep new t.next in
+    let is : record circuit { elements = u.value } ≡ new = cc u.next in
+    let more = edit_same circuit.solves t.value pairs circuit.elements u.value u.first in
+    let elements : length u.value ≡ length new.elements = ap (λ c. length c.elements) is in
+    let count : circuit.solves ≡ new.solves = ap (λ c. c.solves) is in
+    omega (arith, more, elements, count)
+verb_takes place (verb.Set pairs) circuit new h =
+    let t = through (with_options pairs circuit.options) (λ o. Ok (record circuit { options = o })) new h in
+    let is : record circuit { options = t.value } ≡ new = cc t.next in
+    let elements : length circuit.elements ≡ length new.elements = ap (λ c. length c.elements) is in
+    let count : circuit.solves ≡ new.solves = ap (λ c. c.solves) is in
+    omega (arith, elements, count)
+verb_takes place (verb.Solve pairs) circuit new h =
+    let keep : Options → Result CircuitView ModelFault = λ o. Ok (record circuit { options = o; solves = circuit.solves + 1 }) in
+    let t = through (needed (has_circuit circuit.elements)) (λ done. with_options pairs circuit.options >>= keep) new h in
+    let u = through (with_options pairs circuit.options) keep new t.next in
+    let is : record circuit { options = u.value; solves = circuit.solves + 1 } ≡ new = cc u.next in
+    let elements : length circuit.elements ≡ length new.elements = ap (λ c. length c.elements) is in
+    let count : circuit.solves + 1 ≡ new.solves = ap (λ c. c.solves) is in
+    omega (arith, elements, count)
+verb_takes place verb.Clear circuit new h =
+    let is : record circuit { elements = []; options = default_options } ≡ new = cc h in
+    let elements : 0 ≡ length new.elements = ap (λ c. length c.elements) is in
+    let count : circuit.solves ≡ new.solves = ap (λ c. c.solves) is in
+    omega (arith, elements, count)
+verb_takes place verb.Bases circuit new h =
+    let t = through (needed (has_circuit circuit.elements)) (λ done. Ok circuit) new h in
+    let is : circuit ≡ new = cc t.next in
+    let elements : length circuit.elements ≡ length new.elements = ap (λ c. length c.elements) is in
+    let count : circuit.solves ≡ new.solves = ap (λ c. c.solves) is in
+    omega (arith, elements, count)
 
 -- ---- so does a command after which the run goes on
 
@@ -267,26 +266,25 @@ tests_leave : (circuit now : CircuitView) (r : Result Unit Blame) → Leaves (by
 tests_leave circuit now (Ok done) h = solution_leaves circuit now h
 tests_leave circuit now (Err blame) h = absurd h
 
-module _ (same : ElementName → ElementName → Bool) (same_mention : Mention → Mention → Bool) where
-  step_reaches : (left : Applied) (step : Step) (now : CircuitView) → IsStepOf same same_mention left step → Leaves step now → Reaches left now
-  step_reaches (nothing_left circuit) step now is leaves =
-      let P : Step → Type 0 = λ s. Leaves s now in
-      let e : circuit ≡ now = subst P is leaves in
-      inl (ap nothing_left e)
-  step_reaches (refused_at at cause) step now is leaves = let P : Step → Type 0 = λ s. Leaves s now in absurd (subst P is leaves)
-  step_reaches (solve_left circuit) step now is leaves =
-      let P : Step → Type 0 = λ s. Leaves s now in
-      inr (ap solve_left (tests_leave circuit now is.answer (subst P is.step_is leaves)))
+step_reaches : (left : Applied) (step : Step) (now : CircuitView) → IsStepOf left step → Leaves step now → Reaches left now
+step_reaches (nothing_left circuit) step now is leaves =
+    let P : Step → Type 0 = λ s. Leaves s now in
+    let e : circuit ≡ now = subst P is leaves in
+    inl (ap nothing_left e)
+step_reaches (refused_at at cause) step now is leaves = let P : Step → Type 0 = λ s. Leaves s now in absurd (subst P is leaves)
+step_reaches (solve_left circuit) step now is leaves =
+    let P : Step → Type 0 = λ s. Leaves s now in
+    inr (ap solve_left (tests_leave circuit now is.answer (subst P is.step_is leaves)))
 
-  command_takes : (command : Command) (circuit now : CircuitView) (step : Step) → IsStep same same_mention command circuit step → Leaves step now → TakesRoom command circuit now
-  command_takes command circuit now step is leaves = cases (reads_shape command.verb) (step_reaches (tried same command circuit) step now is leaves)
-    where
-      cases : (b : Bool) → Reaches (if b then refused_at command.place not_built else left_of command.place command.verb (applied same command circuit)) now → TakesRoom command circuit now
-      cases true h = absurd (refused_reaches command.place not_built now h)
-      cases false h = verb_takes same command.place command.verb circuit now (left_reaches command.place command.verb (applied same command circuit) now h)
+command_takes : (command : Command) (circuit now : CircuitView) (step : Step) → IsStep command circuit step → Leaves step now → TakesRoom command circuit now
+command_takes command circuit now step is leaves = cases (reads_shape command.verb) (step_reaches (tried command circuit) step now is leaves)
+  where
+    cases : (b : Bool) → Reaches (if b then refused_at command.place not_built else left_of command.place command.verb (applied command circuit)) now → TakesRoom command circuit now
+    cases true h = absurd (refused_reaches command.place not_built now h)
+    cases false h = verb_takes same command.place command.verb circuit now (left_reaches command.place command.verb (applied command circuit) now h)
 
-  pub change_takes : (command : Command) (circuit now : CircuitView) → IsStep same same_mention command circuit (changes now) → TakesRoom command circuit now
-  change_takes command circuit now is = command_takes command circuit now (changes now) is refl
+pub change_takes : (command : Command) (circuit now : CircuitView) → IsStep command circuit (changes now) → TakesRoom command circuit now
+change_takes command circuit now is = command_takes command circuit now (changes now) is refl
 
-  pub solve_takes : (command : Command) (circuit now : CircuitView) (x e : List ℤ) → IsStep same same_mention command circuit (solves now x e) → TakesRoom command circuit now
-  solve_takes command circuit now x e is = command_takes command circuit now (solves now x e) is refl
+pub solve_takes : (command : Command) (circuit now : CircuitView) (x e : List ℤ) → IsStep command circuit (solves now x e) → TakesRoom command circuit now
+solve_takes command circuit now x e is = command_takes command circuit now (solves now x e) is refl

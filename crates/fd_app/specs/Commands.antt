@@ -12,10 +12,7 @@ use Rattle.dss_profile.specs.declared.command.Command.{Command}
 use Rattle.dss_profile.specs.declared.command.Place.{Place}
 use Rattle.dss_profile.specs.declared.command.Verb.{Verb}
 use Rattle.dss_profile.specs.declared.command.Verb.TheVariants as verb
-use Rattle.dss_profile.specs.declared.names.ElementName.{ElementName}
-use Rattle.dss_layout.specs.Layout.{Elements}
-use Rattle.dss_ready.specs.declared.mention.Mention.{Mention}
-use Rattle.dss_ready.specs.Ready.{IsReady, IsToBlame, own_blame}
+use Rattle.dss_ready.specs.Ready.{HasPassed, IsToBlame}
 use Rattle.dss_circuit.specs.Circuit.{CircuitView, applied}
 use Rattle.fd_app.specs.Causes.{model_cause, not_built}
 use Rattle.fd_app.specs.Solving.{solution_step}
@@ -57,32 +54,31 @@ left_of place verb.Bases (Ok circuit) = refused_at place not_built
 left_of place (verb.Solve pairs) (Ok circuit) = solve_by place circuit
 left_of place v (Ok circuit) = nothing_left circuit
 
-abbrev pub tried : (ElementName → ElementName → Bool) → Command → CircuitView → Applied
-tried same command circuit = if reads_shape command.verb then refused_at command.place not_built else left_of command.place command.verb (applied same command circuit)
+abbrev pub tried : Command → CircuitView → Applied
+tried command circuit = if reads_shape command.verb then refused_at command.place not_built else left_of command.place command.verb (applied command circuit)
 
 -- ---- Solve
 
 -- an answer of the tests of Solve is right
-abbrev pub IsTested : Result Unit Blame → Elements → Result Unit Blame → Type 0
-IsTested own elements (Ok done) = IsReady own elements
-IsTested own elements (Err blame) = IsToBlame own elements blame
+abbrev pub IsTested : CircuitView → Result Unit Blame → Type 0
+IsTested circuit (Ok done) = HasPassed circuit
+IsTested circuit (Err blame) = IsToBlame circuit blame
 
 -- what the tests answer, and what a circuit that passes them comes to
 abbrev pub by_tests : CircuitView → Result Unit Blame → Step
 by_tests circuit (Err blame) = refuses blame.place (model_cause blame.cause)
 by_tests circuit (Ok done) = solution_step circuit
 
-module _ (same : ElementName → ElementName → Bool) (same_mention : Mention → Mention → Bool) where
-  pub record IsSolve (circuit : CircuitView) (step : Step) : Type 0 where
-    pub answer : Result Unit Blame
-    pub right : IsTested (own_blame same same_mention circuit.options.defaultbasefrequency circuit.elements) circuit.elements answer
-    pub step_is : step ≡ by_tests circuit answer
+pub record IsSolve (circuit : CircuitView) (step : Step) : Type 0 where
+  pub answer : Result Unit Blame
+  pub right : IsTested circuit answer
+  pub step_is : step ≡ by_tests circuit answer
 
-  abbrev pub IsStepOf : Applied → Step → Type 0
-  IsStepOf (nothing_left circuit) step = step ≡ changes circuit
-  IsStepOf (refused_at place cause) step = step ≡ refuses place cause
-  IsStepOf (solve_left circuit) step = IsSolve circuit step
+abbrev pub IsStepOf : Applied → Step → Type 0
+IsStepOf (nothing_left circuit) step = step ≡ changes circuit
+IsStepOf (refused_at place cause) step = step ≡ refuses place cause
+IsStepOf (solve_left circuit) step = IsSolve circuit step
 
-  -- what a command comes to, for a circuit
-  abbrev pub IsStep : Command → CircuitView → Step → Type 0
-  IsStep command circuit step = IsStepOf (tried same command circuit) step
+-- what a command comes to, for a circuit
+abbrev pub IsStep : Command → CircuitView → Step → Type 0
+IsStep command circuit step = IsStepOf (tried command circuit) step

@@ -7,7 +7,6 @@ use Rattle.dss_values.specs.Names.{bytes}
 use Rattle.dss_profile.specs.declared.command.Place.{Place}
 use Rattle.dss_profile.specs.declared.names.ElementName.{ElementName}
 use Rattle.dss_layout.specs.Layout.{layout_of}
-use Rattle.dss_ready.specs.declared.mention.Mention.{Mention}
 use Rattle.dss_circuit.specs.Circuit.{CircuitView, empty_circuit}
 use Rattle.dss_script.specs.Script.{Script, finished, refused, asks, gives, script_of}
 use Rattle.fd_report.specs.Lines.{lines_of}
@@ -103,24 +102,23 @@ pub record AfterCommand (is_step : Step → Type 0) (rest : CircuitView → Outc
   pub right : is_step step
   pub goes_on : AfterStep step rest outcome
 
-module _ (same : ElementName → ElementName → Bool) (same_mention : Mention → Mention → Bool) where
-  -- An outcome of a script, followed to its end or up to some command or name, for the circuit that stands at its start. The number is
-  -- that of the reads that go well before one fails, where one does.
-  abbrev pub IsOutcome : Script → Option ℕ → CircuitView → Outcome → Type 0
-  IsOutcome finished fails circuit outcome = OrStopped outcome (outcome ≡ done)
-  IsOutcome (refused place cause) fails circuit outcome = OrStopped outcome (outcome ≡ script_fault place (script_cause cause))
-  IsOutcome (asks name script) (Some zero) circuit outcome = OrStopped outcome (outcome ≡ before [] (bytes name ∷ []) (read_fault name))
-  IsOutcome (asks name script) (Some (suc n)) circuit outcome = OrStopped outcome (Follows (λ o. IsOutcome script (Some n) circuit o) [] (bytes name ∷ []) outcome)
-  IsOutcome (asks name script) None circuit outcome = OrStopped outcome (Follows (λ o. IsOutcome script None circuit o) [] (bytes name ∷ []) outcome)
-  IsOutcome (gives command script) fails circuit outcome =
-      OrStopped outcome (AfterCommand (λ step. IsStep same same_mention command circuit step) (λ c o. IsOutcome script fails c o) outcome)
+-- An outcome of a script, followed to its end or up to some command or name, for the circuit that stands at its start. The number is
+-- that of the reads that go well before one fails, where one does.
+abbrev pub IsOutcome : Script → Option ℕ → CircuitView → Outcome → Type 0
+IsOutcome finished fails circuit outcome = OrStopped outcome (outcome ≡ done)
+IsOutcome (refused place cause) fails circuit outcome = OrStopped outcome (outcome ≡ script_fault place (script_cause cause))
+IsOutcome (asks name script) (Some zero) circuit outcome = OrStopped outcome (outcome ≡ before [] (bytes name ∷ []) (read_fault name))
+IsOutcome (asks name script) (Some (suc n)) circuit outcome = OrStopped outcome (Follows (λ o. IsOutcome script (Some n) circuit o) [] (bytes name ∷ []) outcome)
+IsOutcome (asks name script) None circuit outcome = OrStopped outcome (Follows (λ o. IsOutcome script None circuit o) [] (bytes name ∷ []) outcome)
+IsOutcome (gives command script) fails circuit outcome =
+    OrStopped outcome (AfterCommand (λ step. IsStep command circuit step) (λ c o. IsOutcome script fails c o) outcome)
 
-  abbrev pub IsFormOutcome : Files → Option Form → Option ℕ → Outcome → Type 0
-  IsFormOutcome files None fails outcome = outcome ≡ usage
-  IsFormOutcome files (Some (Solve file)) fails outcome = IsOutcome (script_of files (chars file)) fails empty_circuit outcome
+abbrev pub IsFormOutcome : Files → Option Form → Option ℕ → Outcome → Type 0
+IsFormOutcome files None fails outcome = outcome ≡ usage
+IsFormOutcome files (Some (Solve file)) fails outcome = IsOutcome (script_of files (chars file)) fails empty_circuit outcome
 
-  abbrev pub IsOutcomeOf : Files → List (List ℕ) → Option ℕ → Outcome → Type 0
-  IsOutcomeOf files words fails outcome = IsFormOutcome files (form_of words) fails outcome
+abbrev pub IsOutcomeOf : Files → List (List ℕ) → Option ℕ → Outcome → Type 0
+IsOutcomeOf files words fails outcome = IsFormOutcome files (form_of words) fails outcome
 
 -- an outcome that ends so
 pub record EndsWith (is_outcome : Outcome → Type 0) (how : Ending) : Type 0 where

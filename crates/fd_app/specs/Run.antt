@@ -2,7 +2,6 @@
 use Rattle.std.specs.Prelude.{ℕ, Bool, List, Option, None}
 use Rattle.fd_outside.specs.Files.{Files}
 use Rattle.dss_profile.specs.declared.names.ElementName.{ElementName}
-use Rattle.dss_ready.specs.declared.mention.Mention.{Mention}
 use Rattle.fd_app.specs.Outcome.{Outcome, EndsWith, HasEnd, IsOnce, IsOutcomeOf}
 use Rattle.fd_app.specs.declared.ending.Ending.{Ending}
 use Rattle.fd_app.specs.Ends.{Asks, HasReadCause, Prints}
@@ -21,15 +20,15 @@ pub record Runs {L S : Type 0} (faults : L → ℕ) (asked : L → Option (List 
   pub solutions : AllSolved outcome.entries
 
 -- the outcome of the words in which no read fails ends so; there is no second one that is followed to its end
-abbrev pub Due : (ElementName → ElementName → Bool) → (Mention → Mention → Bool) → Files → List (List ℕ) → Ending → Type 0
-Due same same_mention files words how = EndsWith (λ outcome. IsOutcomeOf same same_mention files words None outcome) how
+abbrev pub Due : Files → List (List ℕ) → Ending → Type 0
+Due files words how = EndsWith (λ outcome. IsOutcomeOf files words None outcome) how
 
 -- words have one outcome at most that is followed to its end, over these files and with this read failing
 abbrev pub OutcomesAreUnique : Type 0
 OutcomesAreUnique =
-    (same : ElementName → ElementName → Bool) (same_mention : Mention → Mention → Bool) (files : Files) (words : List (List ℕ)) (fails : Option ℕ) → IsOnce (IsOutcomeOf same same_mention files words fails)
+    (files : Files) (words : List (List ℕ)) (fails : Option ℕ) → IsOnce (IsOutcomeOf files words fails)
 
 -- words have an outcome that is followed to its end, over these files and with this read failing
 abbrev pub OutcomesExist : Type 0
 OutcomesExist =
-    (same : ElementName → ElementName → Bool) (same_mention : Mention → Mention → Bool) (files : Files) (words : List (List ℕ)) (fails : Option ℕ) → HasEnd (IsOutcomeOf same same_mention files words fails)
+    (files : Files) (words : List (List ℕ)) (fails : Option ℕ) → HasEnd (IsOutcomeOf files words fails)

@@ -4,7 +4,7 @@ ghost use Rattle.std.specs.Option.{option_map, unwrap_or};
 ghost use Rattle.dss_profile.specs.InRange.{OptionsInRange};
 ghost use Rattle.dss_layout.specs.Layout.{first_too_many, layout_of, size_of};
 ghost use Rattle.dss_circuit.specs.Circuit.{CircuitView};
-ghost use Rattle.dss_ready.specs.Ready.{IsReady, own_blame};
+ghost use Rattle.dss_ready.specs.Ready.{HasPassed};
 ghost use Rattle.fd_system.specs.Meets.{Meets};
 ghost use Rattle.fd_system.specs.Residual.{greater_size as greater_end, whole_state};
 ghost use Rattle.fd_system.specs.System.{residual_of};
@@ -26,10 +26,9 @@ ghost use Rattle.fd_app.specs.Solving.{by_network, by_point, by_range, greatest_
 use crate::answer::{Answer, SolvedState, ended, refused};
 use crate::ending::Ending;
 use crate::faults::{model_cause, not_built};
-use dss_circuit::{Circuit, Element, ElementName, Place};
+use dss_circuit::{Circuit, Element, Place};
 use dss_layout::Layout;
 use dss_profile::Options;
-use dss_ready::Mention;
 use fd_arith::{Interval, Micro};
 use fd_devices::{BuildFault, Positions, powers_at, snapshot_law};
 use fd_equations::Network;
@@ -95,7 +94,7 @@ fn limits_of(options: &Options) -> Limits
 
 // The network of a circuit with the taps, states and powers of its script.
 fn network_of(alloc: Global, circuit: &Circuit) -> Result<Network, BuildFault>
-    requires ready { IsReady (own_blame ⟦<ElementName as PartialEq>⟧.eq ⟦<Mention as PartialEq>⟧.eq circuit.now.options.defaultbasefrequency circuit.now.elements) circuit.now.elements }
+    requires ready { HasPassed circuit.now }
     ensures network { IfOk result (λ net. net ≡ snapshot_network circuit.now) }
     ensures agrees { IfOk result (λ net. AgreesWith net.share (circuit_parts circuit.now (snapshot_of circuit.now.elements))) }
     ensures no_blame { IfOk result (λ net. snapshot_blame circuit.now ≡ None) }
@@ -226,7 +225,7 @@ fn solve_network(alloc: Global, circuit: &Circuit, net: &Network) -> Result<Answ
 
 // What a circuit whose elements are all solved comes to.
 fn solve_built(alloc: Global, circuit: &Circuit) -> Result<Answer, AllocError>
-    requires ready { IsReady (own_blame ⟦<ElementName as PartialEq>⟧.eq ⟦<Mention as PartialEq>⟧.eq circuit.now.options.defaultbasefrequency circuit.now.elements) circuit.now.elements }
+    requires ready { HasPassed circuit.now }
     ensures { IfOk result (λ answer. (answered answer circuit.now ≡ by_range circuit.now (snapshot_blame circuit.now)) × IsSound answer circuit.now) }
 {
     match network_of(alloc, circuit) {
@@ -239,7 +238,7 @@ fn solve_built(alloc: Global, circuit: &Circuit) -> Result<Answer, AllocError>
 /// What a Solve of a circuit that passed the tests comes to: a refusal, a fault of the procedure, or the state that the procedure reaches
 /// with its mismatches.
 pub(crate) fn answer(alloc: Global, circuit: &Circuit) -> Result<Answer, AllocError>
-    requires { IsReady (own_blame ⟦<ElementName as PartialEq>⟧.eq ⟦<Mention as PartialEq>⟧.eq circuit.now.options.defaultbasefrequency circuit.now.elements) circuit.now.elements }
+    requires { HasPassed circuit.now }
     ensures { IfOk result (λ answer. (answered answer circuit.now ≡ solution_step circuit.now) × IsSound answer circuit.now) }
 {
     match first_unbuilt(circuit) {

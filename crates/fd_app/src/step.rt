@@ -3,6 +3,7 @@ ghost use Rattle.std.specs.Prelude.{◌≡◌, ◌≤◌, ◌<◌, ◌-◌, ◌^
 ghost use Rattle.std.specs.Cmp.Lexicographic.{pointwise};
 ghost use Rattle.std.specs.List.{list_any, starts_with};
 ghost use Rattle.dss_circuit.specs.Circuit.{CircuitView, applied};
+ghost use Rattle.dss_circuit.specs.Limits.{most_elements};
 ghost use Rattle.dss_script.specs.Script.{Script};
 ghost use Rattle.fd_outside.specs.Causes.{Rose};
 ghost use Rattle.fd_app.specs.Answered.{IsSound, answered};
@@ -17,11 +18,9 @@ use crate::answer::{Answer, refused};
 use crate::faults::{model_cause, not_built};
 use crate::print::{WANT_OF_MEMORY, print_record, print_solution};
 use crate::solving::answer;
-use dss_circuit::{
-    Blame, Circuit, Command, ElementName, Mode, ModelFault, Place, ReadyFault, Verb,
-};
+use dss_circuit::{Blame, Circuit, Command, Mode, ModelFault, Place, Verb};
 use dss_lexer::{Pair, Text};
-use dss_ready::Mention;
+use dss_ready::{ReadyFault, ready};
 use fd_outside::Sink;
 use std::alloc::{AllocError, Global};
 
@@ -98,9 +97,9 @@ fn blamed(alloc: Global, blame: Blame) -> Result<Answer, AllocError>
 
 // A Solve whose options the circuit has taken, in mode snapshot.
 fn test_and_solve(alloc: Global, circuit: &Circuit) -> Result<Answer, AllocError>
-    ensures { IfOk result (λ answer. IsSolve ⟦<ElementName as PartialEq>⟧.eq ⟦<Mention as PartialEq>⟧.eq circuit.now (answered answer circuit.now) × IsSound answer circuit.now) }
+    ensures { IfOk result (λ answer. IsSolve circuit.now (answered answer circuit.now) × IsSound answer circuit.now) }
 {
-    match circuit.ready(alloc) {
+    match ready(alloc, circuit) {
         Ok(()) => answer(alloc, circuit),
         Err(ReadyFault::Blame(blame)) => blamed(alloc, blame),
         Err(ReadyFault::NoMemory) => Err(AllocError),
@@ -108,7 +107,7 @@ fn test_and_solve(alloc: Global, circuit: &Circuit) -> Result<Answer, AllocError
 }
 
 fn solve(alloc: Global, circuit: &Circuit, place: &Place) -> Result<Answer, AllocError>
-    ensures { IfOk result (λ answer. IsStepOf ⟦<ElementName as PartialEq>⟧.eq ⟦<Mention as PartialEq>⟧.eq (solve_by place.now circuit.now) (answered answer circuit.now) × IsSound answer circuit.now) }
+    ensures { IfOk result (λ answer. IsStepOf (solve_by place.now circuit.now) (answered answer circuit.now) × IsSound answer circuit.now) }
 {
     if is_daily(circuit.options().mode) {
         return refused(alloc, place, not_built());
@@ -118,7 +117,7 @@ fn solve(alloc: Global, circuit: &Circuit, place: &Place) -> Result<Answer, Allo
 
 // What is left to do of a command that the circuit has accepted.
 fn after_apply(alloc: Global, circuit: &Circuit, command: &Command) -> Result<Answer, AllocError>
-    ensures { IfOk result (λ answer. IsStepOf ⟦<ElementName as PartialEq>⟧.eq ⟦<Mention as PartialEq>⟧.eq (left_of command.now.place command.now.verb (Ok circuit.now)) (answered answer circuit.now) × IsSound answer circuit.now) }
+    ensures { IfOk result (λ answer. IsStepOf (left_of command.now.place command.now.verb (Ok circuit.now)) (answered answer circuit.now) × IsSound answer circuit.now) }
 {
     match &command.verb {
         Verb::Bases => refused(alloc, &command.place, not_built()),
@@ -130,8 +129,8 @@ fn after_apply(alloc: Global, circuit: &Circuit, command: &Command) -> Result<An
 // Applies a command that reads no file.
 fn apply(alloc: Global, circuit: &mut Circuit, command: &Command) -> Result<Answer, AllocError>
     requires solves { circuit.old.solves < 2 ^ 32 - 1 }
-    requires elements { length circuit.old.elements < 2 ^ 17 }
-    ensures { IfOk result (λ answer. IsStepOf ⟦<ElementName as PartialEq>⟧.eq ⟦<Mention as PartialEq>⟧.eq (left_of command.now.place command.now.verb (applied ⟦<ElementName as PartialEq>⟧.eq command.now circuit.old)) (answered answer circuit.new) × IsSound answer circuit.new) }
+    requires elements { length circuit.old.elements < most_elements }
+    ensures { IfOk result (λ answer. IsStepOf (left_of command.now.place command.now.verb (applied command.now circuit.old)) (answered answer circuit.new) × IsSound answer circuit.new) }
 {
     match circuit.apply(alloc, command) {
         Ok(()) => after_apply(alloc, circuit, command),
@@ -143,8 +142,8 @@ fn apply(alloc: Global, circuit: &mut Circuit, command: &Command) -> Result<Answ
 // Does a command, and says what it comes to.
 fn answer_to(alloc: Global, circuit: &mut Circuit, command: &Command) -> Result<Answer, AllocError>
     requires solves { circuit.old.solves < 2 ^ 32 - 1 }
-    requires elements { length circuit.old.elements < 2 ^ 17 }
-    ensures { IfOk result (λ answer. IsStep ⟦<ElementName as PartialEq>⟧.eq ⟦<Mention as PartialEq>⟧.eq command.now circuit.old (answered answer circuit.new) × IsSound answer circuit.new) }
+    requires elements { length circuit.old.elements < most_elements }
+    ensures { IfOk result (λ answer. IsStep command.now circuit.old (answered answer circuit.new) × IsSound answer circuit.new) }
 {
     if reads_shape(alloc, &command.verb)? {
         return refused(alloc, &command.place, not_built());
@@ -160,9 +159,9 @@ fn do_command<S: Sink>(
     out: &mut S,
 ) -> Option<u8>
     requires solves { circuit.old.solves < 2 ^ 32 - 1 }
-    requires elements { length circuit.old.elements < 2 ^ 17 }
-    ensures goes { IfNone result (GoesOn S.taken S.calls out.old out.new command.now (λ script fails outcome. IsOutcome ⟦<ElementName as PartialEq>⟧.eq ⟦<Mention as PartialEq>⟧.eq script fails circuit.old outcome) (λ script fails outcome. IsOutcome ⟦<ElementName as PartialEq>⟧.eq ⟦<Mention as PartialEq>⟧.eq script fails circuit.new outcome)) }
-    ensures ends { IfSome result (λ status. EndsAt S.taken S.calls out.old out.new status command.now (λ script fails outcome. IsOutcome ⟦<ElementName as PartialEq>⟧.eq ⟦<Mention as PartialEq>⟧.eq script fails circuit.old outcome)) }
+    requires elements { length circuit.old.elements < most_elements }
+    ensures goes { IfNone result (GoesOn S.taken S.calls out.old out.new command.now (λ script fails outcome. IsOutcome script fails circuit.old outcome) (λ script fails outcome. IsOutcome script fails circuit.new outcome)) }
+    ensures ends { IfSome result (λ status. EndsAt S.taken S.calls out.old out.new status command.now (λ script fails outcome. IsOutcome script fails circuit.old outcome)) }
     ensures room { IfNone result (TakesRoom command.now circuit.old circuit.new) }
     ensures later { S.faults out.old ≤ S.faults out.new }
     ensures write { IfSome result (λ status. status ≡ 5 → Rose (S.faults out.old) (S.faults out.new)) }
@@ -185,9 +184,9 @@ pub(crate) fn take_command<S: Sink>(
     out: &mut S,
 ) -> Option<u8>
     requires solves { circuit.old.solves < 2 ^ 32 - 1 }
-    requires elements { length circuit.old.elements < 2 ^ 17 }
-    ensures goes { IfNone result (GoesOn S.taken S.calls out.old out.new command (λ script fails outcome. IsOutcome ⟦<ElementName as PartialEq>⟧.eq ⟦<Mention as PartialEq>⟧.eq script fails circuit.old outcome) (λ script fails outcome. IsOutcome ⟦<ElementName as PartialEq>⟧.eq ⟦<Mention as PartialEq>⟧.eq script fails circuit.new outcome)) }
-    ensures ends { IfSome result (λ status. EndsAt S.taken S.calls out.old out.new status command (λ script fails outcome. IsOutcome ⟦<ElementName as PartialEq>⟧.eq ⟦<Mention as PartialEq>⟧.eq script fails circuit.old outcome)) }
+    requires elements { length circuit.old.elements < most_elements }
+    ensures goes { IfNone result (GoesOn S.taken S.calls out.old out.new command (λ script fails outcome. IsOutcome script fails circuit.old outcome) (λ script fails outcome. IsOutcome script fails circuit.new outcome)) }
+    ensures ends { IfSome result (λ status. EndsAt S.taken S.calls out.old out.new status command (λ script fails outcome. IsOutcome script fails circuit.old outcome)) }
     ensures room { IfNone result (TakesRoom command circuit.old circuit.new) }
     ensures later { S.faults out.old ≤ S.faults out.new }
     ensures write { IfSome result (λ status. status ≡ 5 → Rose (S.faults out.old) (S.faults out.new)) }

@@ -18,8 +18,7 @@ use crate::print::{WANT_OF_MEMORY, print};
 use crate::records::{read_fault, script_fault, usage};
 use crate::step::take_command;
 use crate::words::solved_file;
-use dss_circuit::{Circuit, ElementName};
-use dss_ready::Mention;
+use dss_circuit::Circuit;
 use dss_script::{Session, SessionFault};
 use fd_outside::{Library, Sink};
 use std::alloc::Global;
@@ -67,7 +66,7 @@ fn run_script<L: Library, S: Sink>(
     requires room { room session.old ≤ 1_048_578 }
     ensures run { (files : Files) → L.holds lib.old ≡ Some files →
         Runs L.faults L.asked lib.old lib.new S.taken S.calls out.old out.new result
-        (λ fails outcome. IsOutcome ⟦<ElementName as PartialEq>⟧.eq ⟦<Mention as PartialEq>⟧.eq (remaining files session.old) fails empty_circuit outcome) }
+        (λ fails outcome. IsOutcome (remaining files session.old) fails empty_circuit outcome) }
     ensures read { result ≡ 4 → Rose (L.faults lib.old) (L.faults lib.new) }
     ensures asks { GrowsSome (L.asked lib.old) (L.asked lib.new) }
     ensures last { result ≡ 4 → EndsAtRead L.asked lib.old lib.new S.taken S.calls out.old out.new }
@@ -92,7 +91,7 @@ fn run_script<L: Library, S: Sink>(
 fn solve<L: Library, S: Sink>(alloc: Global, file: &str, lib: &mut L, out: &mut S) -> u8
     ensures run { (files : Files) → L.holds lib.old ≡ Some files →
         Runs L.faults L.asked lib.old lib.new S.taken S.calls out.old out.new result
-        (λ fails outcome. IsOutcome ⟦<ElementName as PartialEq>⟧.eq ⟦<Mention as PartialEq>⟧.eq (script_of files (chars file.now)) fails empty_circuit outcome) }
+        (λ fails outcome. IsOutcome (script_of files (chars file.now)) fails empty_circuit outcome) }
     ensures read { result ≡ 4 → Rose (L.faults lib.old) (L.faults lib.new) }
     ensures asks { GrowsSome (L.asked lib.old) (L.asked lib.new) }
     ensures last { result ≡ 4 → EndsAtRead L.asked lib.old lib.new S.taken S.calls out.old out.new }
@@ -130,7 +129,7 @@ pub fn run<L: Library, S: Sink>(alloc: Global, words: &[String], lib: &mut L, ou
     // the one that the procedure reaches, and meets its circuit's equations within the printed mismatches, which are at most 1,000.
     ensures run { (files : Files) → L.holds lib.old ≡ Some files →
         Runs L.faults L.asked lib.old lib.new S.taken S.calls out.old out.new result
-        (λ fails outcome. IsOutcomeOf ⟦<ElementName as PartialEq>⟧.eq ⟦<Mention as PartialEq>⟧.eq files (map string_bytes words.now) fails outcome) }
+        (λ fails outcome. IsOutcomeOf files (map string_bytes words.now) fails outcome) }
 
     // Whatever the library tells of what it holds, names are only added to those asked.
     ensures asks { GrowsSome (L.asked lib.old) (L.asked lib.new) }
@@ -143,9 +142,9 @@ pub fn run<L: Library, S: Sink>(alloc: Global, words: &[String], lib: &mut L, ou
     // The status of an ending, but for a failed read, comes exactly where the outcome in which no read fails ends so, unless that outcome is
     // cut short or a read fails.
     ensures due { (how : Ending) → how ≢ Ending.ReadFault → result ≡ code_of how → (files : Files) → L.holds lib.old ≡ Some files →
-        Due ⟦<ElementName as PartialEq>⟧.eq ⟦<Mention as PartialEq>⟧.eq files (map string_bytes words.now) how }
+        Due files (map string_bytes words.now) how }
     ensures is_due { (how : Ending) → (files : Files) → L.holds lib.old ≡ Some files →
-        Due ⟦<ElementName as PartialEq>⟧.eq ⟦<Mention as PartialEq>⟧.eq files (map string_bytes words.now) how → AnswersAt (code_of how) result }
+        Due files (map string_bytes words.now) how → AnswersAt (code_of how) result }
 
     // A fault is answered only where its count rose. Where a read failed, its record is the last, and names the file asked last.
     ensures read { result ≡ 4 → Rose (L.faults lib.old) (L.faults lib.new) }
@@ -154,7 +153,7 @@ pub fn run<L: Library, S: Sink>(alloc: Global, words: &[String], lib: &mut L, ou
 
     // What is due to be done is done where no count rises, but for want of memory.
     ensures complete { (files : Files) → L.holds lib.old ≡ Some files →
-        Due ⟦<ElementName as PartialEq>⟧.eq ⟦<Mention as PartialEq>⟧.eq files (map string_bytes words.now) Ending.Done →
+        Due files (map string_bytes words.now) Ending.Done →
         (Rose (L.faults lib.old) (L.faults lib.new) → ⊥) → (Rose (S.faults out.old) (S.faults out.new) → ⊥) →
         (result ≡ 0) ⊎ (result ≡ 1) }
 {

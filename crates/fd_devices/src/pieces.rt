@@ -2,6 +2,7 @@
 ghost use Rattle.std.specs.Prelude.{◌≡◌, ℕ, ◌+◌, ◌*◌, ◌<◌, ◌≤◌, ◌^◌, false, [], ◌∷◌, IfOk, IsSome, OnOk, All, length};
 ghost use Rattle.dss_profile.specs.Ranges.{IsOneOf};
 ghost use Rattle.dss_profile.specs.InRange.{CapacitorInRange, ElementInRange, LineInRange, LoadInRange, TransformerInRange, VsourceInRange};
+ghost use Rattle.dss_layout.specs.Limits.{most_complex};
 ghost use Rattle.dss_layout.specs.Layout.{branch_phases, complex_count, ends_of, first_magnitude, size_of};
 ghost use Rattle.dss_ready.specs.Counts.{are_matrices_wrong};
 ghost use Rattle.dss_ready.specs.Ranges.{is_source_outside};
@@ -274,7 +275,7 @@ pub fn piece_of(
 ) -> Result<Piece, TermFault>
     requires place { place < length layout.now.branches_before }
     requires magnitudes { place < length layout.now.magnitudes_before }
-    requires few { complex_count layout.now ≤ 240 }
+    requires few { complex_count layout.now ≤ most_complex }
     requires magnitude { first_magnitude layout.now place < 2 ^ 31 }
     requires frequency { IsOneOf (50 ∷ 60 ∷ []) hertz }
     requires range { ElementInRange element.now }

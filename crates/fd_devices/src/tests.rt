@@ -10,6 +10,7 @@ use dss_circuit::{
     Transformer, Verb, Vsource,
 };
 use dss_lexer::{PairList, Text, pairs};
+use dss_ready::ready;
 use fd_arith::{Ends, NodeAt, Nodes, TapPair, Term};
 use fd_elements::LoadPower;
 use fd_system::Constant;
@@ -206,7 +207,7 @@ fn tap_pair(first: u32, second: u32) -> TapPair {
 fn is_ready(alloc: Global, circuit: &Circuit) -> bool
     ensures { result ≡ true → first_too_many circuit.now.elements ≡ None }
 {
-    match circuit.ready(alloc) {
+    match ready(alloc, circuit) {
         Ok(()) => true,
         Err(_) => false,
     }

@@ -7,11 +7,10 @@ use Rattle.fd_exact.specs.Sums.{list_n}
 use Rattle.dss_profile.specs.InRange.{ElementInRange}
 use Rattle.dss_profile.specs.declared.element.Element.{Element}
 use Rattle.dss_profile.specs.declared.names.ElementName.{ElementName}
-use Rattle.dss_layout.specs.declared.limits.TheConstants.{MOST_COMPLEX, MOST_MAGNITUDES}
+use Rattle.dss_layout.specs.Limits.{most_complex, most_magnitudes}
 use Rattle.dss_layout.specs.Layout.{Elements, LayoutView, branch_phases, complex_count, ends_of, first_magnitude, first_past, first_too_many, layout_of, magnitude_phases, passes_limit, size_of}
-use Rattle.dss_ready.specs.declared.mention.Mention.{Mention}
-use Rattle.dss_ready.specs.Mentions.{is_mentioned}
-use Rattle.dss_ready.specs.Ready.{IsReady, own_blame}
+use Rattle.dss_circuit.specs.Circuit.{CircuitView}
+use Rattle.dss_ready.specs.Ready.{HasPassed}
 use Rattle.fd_devices.specs.Sound.{IsSound}
 use Rattle.fd_network.specs.Places.{AreReadyFrom, IsReadyAt}
 use Rattle.fd_network.proofs.ReadyNodes.{mentions_among}
@@ -37,22 +36,22 @@ none_past before (e ∷ rest) h low = by (passes_limit (layout_of (before ++ e �
 pub within_limits : (elements : Elements) → first_too_many elements ≡ None → passes_limit (layout_of elements) ≡ false
 within_limits elements h = none_past [] elements h refl
 
--- at most 240 complex unknowns
-pub few_complex : (elements : Elements) → first_too_many elements ≡ None → complex_count (layout_of elements) ≤ 240
+-- the complex unknowns are few
+pub few_complex : (elements : Elements) → first_too_many elements ≡ None → complex_count (layout_of elements) ≤ most_complex
 few_complex elements h =
     let layout = layout_of elements in
-    let parts = or_parts (nat_lt MOST_COMPLEX (complex_count layout)) (nat_lt MOST_MAGNITUDES (length layout.magnitudes)) (within_limits elements h) in
-    ltb-false MOST_COMPLEX (complex_count layout) parts.0
+    let parts = or_parts (nat_lt most_complex (complex_count layout)) (nat_lt most_magnitudes (length layout.magnitudes)) (within_limits elements h) in
+    ltb-false most_complex (complex_count layout) parts.0
 
--- at most 48 magnitudes
-pub few_magnitudes : (elements : Elements) → first_too_many elements ≡ None → length (layout_of elements).magnitudes ≤ 48
+-- and the magnitudes
+pub few_magnitudes : (elements : Elements) → first_too_many elements ≡ None → length (layout_of elements).magnitudes ≤ most_magnitudes
 few_magnitudes elements h =
     let layout = layout_of elements in
-    let parts = or_parts (nat_lt MOST_COMPLEX (complex_count layout)) (nat_lt MOST_MAGNITUDES (length layout.magnitudes)) (within_limits elements h) in
-    ltb-false MOST_MAGNITUDES (length layout.magnitudes) parts.1
+    let parts = or_parts (nat_lt most_complex (complex_count layout)) (nat_lt most_magnitudes (length layout.magnitudes)) (within_limits elements h) in
+    ltb-false most_magnitudes (length layout.magnitudes) parts.1
 
--- at most 240 branch phases
-pub few_branches : (elements : Elements) → first_too_many elements ≡ None → list_n (λ e. branch_phases e.1) elements ≤ 240
+-- and the branch phases
+pub few_branches : (elements : Elements) → first_too_many elements ≡ None → list_n (λ e. branch_phases e.1) elements ≤ most_complex
 few_branches elements h =
     let few = few_complex elements h in
     let count = length-phases branch_phases elements in
@@ -105,21 +104,22 @@ stands_at elements place d within in_range sound =
     let behind : slice_index layout.magnitudes_before place + magnitude_phases e ≤ length layout.magnitudes = omega arith in
     stands_among layout place e (side_counts e in_range sound.terminals) (mentions_among elements place d within) room behind
 
-module _ (same : ElementName → ElementName → Bool) (same_mention : Mention → Mention → Bool) (hertz : ℕ) (elements : Elements) where
+module _ (circuit : CircuitView) (passed : HasPassed circuit) where
   -- every element is sound
-  pub all_sound : IsReady (own_blame same same_mention hertz elements) elements → All (λ e. IsSound e.1) elements
-  all_sound h =
-      let named = is_mentioned same_mention elements in
-      All-weaker (Passes same named hertz elements) (λ e. IsSound e.1) (sound_from same named hertz elements) elements
-      (all_pass same same_mention named hertz elements [] elements h.no_own)
+  pub all_sound : All (λ e. IsSound e.1) circuit.elements
+  all_sound =
+      let hertz = circuit.options.defaultbasefrequency in
+      All-weaker (Passes hertz circuit.elements) (λ e. IsSound e.1) (sound_from hertz circuit.elements) circuit.elements
+      (all_pass hertz circuit.elements [] circuit.elements passed.no_own)
 
   -- the element at a place is ready to be taken
-  pub ready_at : IsReady (own_blame same same_mention hertz elements) elements → All (λ e. ElementInRange e.1) elements
-      → (place : ℕ) (d : ElementName × Element) → place < length elements → IsReadyAt (layout_of elements) place (slice_index_or elements place d).1
-  ready_at h in_range place d within =
+  pub ready_at : All (λ e. ElementInRange e.1) circuit.elements
+      → (place : ℕ) (d : ElementName × Element) → place < length circuit.elements → IsReadyAt (layout_of circuit.elements) place (slice_index_or circuit.elements place d).1
+  ready_at in_range place d within =
+      let elements = circuit.elements in
       let e = (slice_index_or elements place d).1 in
       let range : ElementInRange e = in_range place d within in
-      let sound : IsSound e = all_sound h place d within in
+      let sound : IsSound e = all_sound place d within in
       record {
         in_range = range;
         sound = sound;
@@ -127,8 +127,8 @@ module _ (same : ElementName → ElementName → Bool) (same_mention : Mention �
       }
 
   -- all are
-  pub ready : IsReady (own_blame same same_mention hertz elements) elements → All (λ e. ElementInRange e.1) elements
-      → AreReadyFrom (layout_of elements) 0 elements
-  ready h in_range =
+  pub ready : All (λ e. ElementInRange e.1) circuit.elements → AreReadyFrom (layout_of circuit.elements) 0 circuit.elements
+  ready in_range =
+      let elements = circuit.elements in
       ready_from (layout_of elements) 0 elements
-      (λ k d lt. subst (λ n. IsReadyAt (layout_of elements) n (slice_index_or elements k d).1) (sym (zero-add k)) (ready_at h in_range k d lt))
+      (λ k d lt. subst (λ n. IsReadyAt (layout_of elements) n (slice_index_or elements k d).1) (sym (zero-add k)) (ready_at in_range k d lt))

@@ -2,6 +2,7 @@
 use Rattle.std.specs.Prelude.{◌≡◌, ℕ, ◌+◌, ◌<◌, ◌≤◌, ◌^◌, [], ◌∷◌, length, All, Option, Some}
 use Rattle.dss_profile.specs.Ranges.{IsOneOf}
 use Rattle.dss_profile.specs.declared.element.Element.{Element}
+use Rattle.dss_layout.specs.Limits.{most_complex}
 use Rattle.dss_layout.specs.Layout.{Elements, LayoutView, complex_count, first_magnitude}
 use Rattle.fd_xfmr.specs.Leakage.{AreTaps}
 use Rattle.fd_devices.specs.Building.{Fits, IsModest}
@@ -30,7 +31,7 @@ pub record HasOwn (e : Element) (s : Settings) : Type 0 where
 pub record HasPlace (layout : LayoutView) (place : ℕ) : Type 0 where
   pub branches : place < length layout.branches_before
   pub magnitudes : place < length layout.magnitudes_before
-  pub few : complex_count layout ≤ 240
+  pub few : complex_count layout ≤ most_complex
   pub magnitude : first_magnitude layout place < 2 ^ 31
 
 -- an element, ready at its place, with settings of which its own come first

@@ -1,7 +1,9 @@
 // A network, made of what its elements add.
 ghost use Rattle.std.specs.Prelude.{◌≡◌, ◌≤◌, ◌^◌, All, IfErr, IfOk, None, OnOk, length};
 ghost use Rattle.fd_exact.specs.Sums.{list_n};
+ghost use Rattle.dss_layout.specs.Limits.{most_complex, most_magnitudes};
 ghost use Rattle.dss_layout.specs.Layout.{branch_phases, complex_count};
+ghost use Rattle.dss_circuit.specs.Limits.{most_elements};
 ghost use Rattle.fd_devices.specs.Building.{AreInRange, Fits};
 ghost use Rattle.fd_devices.specs.Devices.{AgreesWith, parts_of_all, share_of_all};
 ghost use Rattle.fd_devices.specs.Scripted.{devices_from, devices_network, layout_counts};
@@ -31,10 +33,10 @@ pub fn assemble(
     settings: &SettingsLeft,
 ) -> Result<Network, PlaceFault>
     requires taken { AreTakenFrom layout.now hertz 0 elements.now.entries (settings_left settings.now) }
-    requires few { length elements.now.entries ≤ 2 ^ 17 }
-    requires few_branches { list_n (λ e. branch_phases e.1) elements.now.entries ≤ 240 }
-    requires few_complexes { complex_count layout.now ≤ 240 }
-    requires few_magnitudes { length layout.now.magnitudes ≤ 48 }
+    requires few { length elements.now.entries ≤ most_elements }
+    requires few_branches { list_n (λ e. branch_phases e.1) elements.now.entries ≤ most_complex }
+    requires few_complexes { complex_count layout.now ≤ most_complex }
+    requires few_magnitudes { length layout.now.magnitudes ≤ most_magnitudes }
     ensures network { IfOk result (λ n. n ≡ devices_network layout.now (devices_from layout.now hertz 0 elements.now.entries (settings_left settings.now))) }
     ensures agrees { IfOk result (λ n. AgreesWith n.share (parts_of_all (devices_from layout.now hertz 0 elements.now.entries (settings_left settings.now)))) }
     ensures in_range { IfOk result (λ n. AreInRange (devices_from layout.now hertz 0 elements.now.entries (settings_left settings.now))) }
@@ -77,8 +79,8 @@ fn check_entries(
 
 // How many nodes, branches and magnitudes a layout has.
 fn counts(layout: &Layout) -> Counts
-    requires few_complexes { complex_count layout.now ≤ 240 }
-    requires few_magnitudes { length layout.now.magnitudes ≤ 48 }
+    requires few_complexes { complex_count layout.now ≤ most_complex }
+    requires few_magnitudes { length layout.now.magnitudes ≤ most_magnitudes }
     ensures { result ≡ layout_counts layout.now }
 {
     Counts {

@@ -1,7 +1,7 @@
 // The network of a circuit, built.
 ghost use Rattle.std.specs.Prelude.{◌≡◌, All, IfErr, IfOk, None};
 ghost use Rattle.dss_layout.specs.Layout.{first_too_many, layout_of};
-ghost use Rattle.dss_ready.specs.Ready.{IsReady, own_blame};
+ghost use Rattle.dss_ready.specs.Ready.{HasPassed};
 ghost use Rattle.fd_xfmr.specs.Leakage.{AreTaps};
 ghost use Rattle.fd_devices.specs.Building.{AreInRange, IsModest};
 ghost use Rattle.fd_devices.specs.Devices.{AgreesWith};
@@ -13,9 +13,8 @@ use crate::assembly::assemble;
 use crate::blame::blame_range;
 use crate::fault::PlaceFault;
 use crate::settings::SettingsLeft;
-use dss_circuit::{Circuit, ElementName};
+use dss_circuit::Circuit;
 use dss_layout::Layout;
-use dss_ready::Mention;
 use fd_devices::{BuildFault, Positions, Powers};
 use fd_equations::Network;
 use std::alloc::{AllocError, Global};
@@ -36,7 +35,7 @@ pub fn build(
     at: &Positions,
     powers: &Powers,
 ) -> Result<Network, BuildFault>
-    requires ready { IsReady (own_blame ⟦<ElementName as PartialEq>⟧.eq ⟦<Mention as PartialEq>⟧.eq circuit.now.options.defaultbasefrequency circuit.now.elements) circuit.now.elements }
+    requires ready { HasPassed circuit.now }
     requires settings { AreSettings circuit.now.elements (settings_of at.now powers.now) }
     requires within { All AreTaps at.now.taps }
     requires modest { All IsModest powers.now.loads }
@@ -81,7 +80,7 @@ pub fn update(
     at: &Positions,
     powers: &Powers,
 ) -> Result<(), BuildFault>
-    requires ready { IsReady (own_blame ⟦<ElementName as PartialEq>⟧.eq ⟦<Mention as PartialEq>⟧.eq circuit.now.options.defaultbasefrequency circuit.now.elements) circuit.now.elements }
+    requires ready { HasPassed circuit.now }
     requires settings { AreSettings circuit.now.elements (settings_of at.now powers.now) }
     requires within { All AreTaps at.now.taps }
     requires modest { All IsModest powers.now.loads }

@@ -1,6 +1,7 @@
 // What the elements of a circuit add, one after another.
 ghost use Rattle.std.specs.Prelude.{◌≡◌, ◌≤◌, ◌^◌, ◌↔◌, All, IfErr, IfOk, IsTrue, OnOk, length};
 ghost use Rattle.dss_layout.specs.Layout.{branch_phases, complex_count, size_of};
+ghost use Rattle.dss_circuit.specs.Limits.{most_elements};
 ghost use Rattle.fd_system.specs.Contributions.{AreSmall};
 ghost use Rattle.fd_equations.specs.Coefficients.{linear_entry};
 ghost use Rattle.fd_devices.specs.Building.{AreCollected, Fits, HasSmallSums, IsSettled};
@@ -55,7 +56,7 @@ pub fn collect(
     settings: &SettingsLeft,
 ) -> Result<Piece, PlaceFault>
     requires taken { AreTakenFrom layout.now hertz 0 elements.now.entries (settings_left settings.now) }
-    requires few { length elements.now.entries ≤ 2 ^ 17 }
+    requires few { length elements.now.entries ≤ most_elements }
     ensures collected { IfOk result (λ p. AreCollected (length layout.now.nodes) (complex_count layout.now) (size_of layout.now) elements.now.entries (devices_from layout.now hertz 0 elements.now.entries (settings_left settings.now)) (added_of p)) }
     ensures fault { IfErr result (NamesPlace (first_without fits (devices_from layout.now hertz 0 elements.now.entries (settings_left settings.now)))) }
 {

@@ -1,16 +1,16 @@
 // Small feeders, built.
 ghost use Rattle.std.specs.Prelude.{◌≡◌, ◌↔◌, All, IfOk, IfSome, IsTrue, length};
 ghost use Rattle.fd_exact.specs.Sums.{list_n};
-ghost use Rattle.dss_ready.specs.Ready.{IsReady, own_blame};
+ghost use Rattle.dss_ready.specs.Ready.{HasPassed};
 ghost use Rattle.fd_xfmr.specs.Leakage.{AreTaps};
 ghost use Rattle.fd_devices.specs.Building.{IsModest};
 ghost use Rattle.fd_devices.specs.Settings.{bank_count, power_count, tap_count};
 
 use crate::settings::power_count;
 use crate::{build, update};
-use dss_circuit::{Circuit, Command, Element, ElementName, ModelFault, Place, Verb};
+use dss_circuit::{Circuit, Command, Element, ModelFault, Place, Verb};
 use dss_lexer::{PairList, Text, pairs};
-use dss_ready::{Mention, ReadyFault};
+use dss_ready::{ReadyFault, ready};
 use fd_arith::Term;
 use fd_devices::{BuildFault, LoadPowers, Positions, Powers, snapshot_law};
 use fd_elements::LoadPower;
@@ -143,9 +143,9 @@ fn are_powers(circuit: &Circuit, powers: &Powers) -> bool
 }
 
 fn is_ready(alloc: Global, circuit: &Circuit) -> bool
-    ensures { IsTrue result → IsReady (own_blame ⟦<ElementName as PartialEq>⟧.eq ⟦<Mention as PartialEq>⟧.eq circuit.now.options.defaultbasefrequency circuit.now.elements) circuit.now.elements }
+    ensures { IsTrue result → HasPassed circuit.now }
 {
-    match circuit.ready(alloc) {
+    match ready(alloc, circuit) {
         Ok(()) => true,
         Err(_) => false,
     }

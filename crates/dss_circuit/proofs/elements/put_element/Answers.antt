@@ -5,4 +5,4 @@ use Rattle.dss_circuit.proofs.elements.put_element.Goals as goal
 
 pub returns-clause-in_range : goal.returns-clause-in_range
 returns-clause-in_range c =
-    All-same (OfValue ElementInRange) _ _ c.in_ok-insert.ensures.entries (of_inserted ElementInRange _ c.args.elements.now.entries _ _ c.requires.in_range c.in_ok-set_pairs.ensures.in_range)
+    All-same (OfValue ElementInRange) _ _ c.in_ok-insert_element.ensures.inserted (of_inserted ElementInRange _ c.args.elements.now.entries _ _ c.requires.in_range c.in_ok-set_pairs.ensures.in_range)

@@ -1,12 +1,25 @@
-use Rattle.std.specs.HashSet.{contains}
-use Rattle.dss_ready.specs.contracts.mention.MentionPartialEq.TheImpl.{eq-value}
-use Rattle.dss_ready.specs.Mentions.{is_mentioned}
-use Rattle.dss_ready.proofs.Noted.{all_noted, one_noted}
+use Rattle.std.proofs.Common.{◌≡◌, [], ◌∷◌, ◌++◌, map, append_assoc, ◌∙◌, sym, ap, subst}
+use Rattle.std.specs.Map.Iter.{deref_pair}
+use Rattle.std.proofs.lemmas.List.{append-nil, map-append}
+use Rattle.dss_profile.specs.declared.element.Element.{Element}
+use Rattle.dss_profile.specs.declared.names.ElementName.{ElementName}
+use Rattle.dss_circuit.specs.Circuit.{Elements}
+use Rattle.dss_ready.specs.Noted.{Notes}
+use Rattle.dss_ready.proofs.Noted.{notes_more}
 use Rattle.dss_ready.proofs.mention.all_mentions.Goals as goal
 
 pub returns : goal.returns
-returns c = λ m. all_noted eq-value.it (contains eq-value.it c.loop-name.mentions m) (is_mentioned eq-value.it c.args.elements.now.entries m) m c.loop-name._name-iterator c.in-None.ensures.steps.0 (c.loop-name.invariant m)
+returns c =
+    let before : Elements = map deref_pair c.loop-name.yielded in
+    let whole : before ≡ c.args.elements.now.entries = sym (append-nil before) ∙ ap (λ l. before ++ l) (sym c.in-None.ensures.steps.0) ∙ c.loop-name.invariant.all in
+    subst (λ es. Notes c.loop-name.mentions es) whole c.loop-name.invariant.noted
 
 pub loop-name-preserved : goal.loop-name-preserved
-loop-name-preserved c = λ m. one_noted eq-value.it (contains eq-value.it c.loop-name.mentions m) (contains eq-value.it c.note.new.mentions m) (is_mentioned eq-value.it c.args.elements.now.entries m) m (c.in-Some._name.now, c.in-Some.element.now) c.loop-name._name-iterator c.next.new.self
-    c.in-Some.ensures.steps (c.in_ok-_again.ensures.noted m) (c.loop-name.invariant m)
+loop-name-preserved c =
+    let before : Elements = map deref_pair c.loop-name.yielded in
+    let entry : ElementName × Element = (c.in-Some._name.now, c.in-Some.element.now) in
+    let more : map deref_pair (c.loop-name.yielded ++ (c.in-Some._name, c.in-Some.element) ∷ []) ≡ before ++ entry ∷ [] = map-append deref_pair c.loop-name.yielded ((c.in-Some._name, c.in-Some.element) ∷ []) in
+    record {
+      noted = subst (λ b. Notes c.note.new.self b) (sym more) (notes_more c.loop-name.mentions c.note.new.self before entry c.in_ok-_second.ensures.noted c.loop-name.invariant.noted);
+      all = ap (λ b. b ++ c.next.new.self) more ∙ append_assoc before (entry ∷ []) c.next.new.self ∙ ap (λ l. before ++ l) (sym c.in-Some.ensures.steps) ∙ c.loop-name.invariant.all;
+    }

@@ -1,8 +1,6 @@
 use Rattle.std.proofs.Common.{◌∙◌, refl, subst, arith}
 use Rattle.dss_script.specs.Script.{Script}
 use Rattle.dss_script.specs.Sessions.{remaining}
-use Rattle.dss_profile.specs.contracts.names.ElementNamePartialEq.TheImpl as element_name
-use Rattle.dss_ready.specs.contracts.mention.MentionPartialEq.TheImpl as mention
 use Rattle.fd_app.proofs.FailedReads.{ends_at_read, grows_then, nothing_shown, shown_more}
 use Rattle.fd_app.proofs.Streams.{SoFar, nothing_yet, names_done, one_more, ended_at_command, ended_at_fault, ended_whole}
 use Rattle.fd_app.proofs.top.run_script.Goals as goal
@@ -34,7 +32,7 @@ loop-command-preserved g c =
           let script = remaining files c.loop-command.session in
           let rest = remaining files c.next.new.self in
           let named = names_done _ _ g.L.Library.faults g.L.Library.asked g.S.Sink.taken g.S.Sink.calls c.args.lib.now c.loop-command.lib c.next.new.lib c.args.out.now c.loop-command.out all script c.loop-command.circuit (kept.told files told) grown in
-          let P : Script → Type 0 = λ s. SoFar element_name.eq-value.it mention.eq-value.it g.L.Library.asked c.args.lib.now c.next.new.lib g.S.Sink.taken g.S.Sink.calls c.args.out.now c.loop-command.out all s c.loop-command.circuit in
+          let P : Script → Type 0 = λ s. SoFar g.L.Library.asked c.args.lib.now c.next.new.lib g.S.Sink.taken g.S.Sink.calls c.args.out.now c.loop-command.out all s c.loop-command.circuit in
           one_more _ _ g.L.Library.faults g.L.Library.asked g.S.Sink.taken g.S.Sink.calls c.args.lib.now c.next.new.lib c.args.out.now c.loop-command.out c.take_command.new.out all rest c.in-Ok-Some.command c.loop-command.circuit c.take_command.new.circuit
           (subst P tells named) c.in_default.ensures.goes;
     }

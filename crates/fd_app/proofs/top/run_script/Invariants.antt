@@ -1,8 +1,6 @@
 use Rattle.std.proofs.Common.{◌≡◌, ◌≤◌, ◌+◌, Some}
 use Rattle.fd_outside.specs.Files.{Files}
 use Rattle.dss_script.specs.Sessions.{remaining, room}
-use Rattle.dss_profile.specs.contracts.names.ElementNamePartialEq.TheImpl as element_name
-use Rattle.dss_ready.specs.contracts.mention.MentionPartialEq.TheImpl as mention
 use Rattle.fd_app.specs.Weights.{weight}
 use Rattle.fd_app.proofs.FailedReads.{Shown}
 use Rattle.fd_app.proofs.Streams.{SoFar}
@@ -16,7 +14,7 @@ invariant-loop-command g l = record {
   room : weight l.circuit + room l.session ≤ 1_048_578;
   shown : Shown g.L.Library.asked l.initial.lib l.lib g.S.Sink.taken g.S.Sink.calls l.initial.out l.out;
   told : (files : Files) → g.L.Library.holds l.initial.lib ≡ Some files →
-      SoFar element_name.eq-value.it mention.eq-value.it g.L.Library.asked l.initial.lib l.lib g.S.Sink.taken g.S.Sink.calls l.initial.out l.out (remaining files l.initial.session) (remaining files l.session) l.circuit;
+      SoFar g.L.Library.asked l.initial.lib l.lib g.S.Sink.taken g.S.Sink.calls l.initial.out l.out (remaining files l.initial.session) (remaining files l.session) l.circuit;
 }
 
 abbrev pub decreases-loop-command : goal.decreases-loop-command

@@ -1,9 +1,7 @@
 use Rattle.std.proofs.Common.{◌∙◌, ◌<◌, length, ap, subst, sym, arith}
 use Rattle.dss_profile.specs.declared.options.Options.{Options}
-use Rattle.dss_profile.specs.contracts.names.ElementNamePartialEq.TheImpl as name
 use Rattle.dss_values.specs.declared.fault.ModelFault.TheVariants as cause
 use Rattle.dss_ready.specs.Ready.{blame_at}
-use Rattle.dss_ready.specs.contracts.mention.MentionPartialEq.TheImpl.{eq-value}
 use Rattle.fd_devices.specs.Devices.{AgreesWith, parts_of_all}
 use Rattle.fd_devices.specs.Scripted.{devices_from, devices_of}
 use Rattle.fd_devices.specs.Settings.{settings_of}
@@ -18,7 +16,7 @@ pub assemble-requires-clause-taken : goal.assemble-requires-clause-taken
 assemble-requires-clause-taken c =
     let circuit = c.args.circuit.now in
     let hertz = circuit.options.defaultbasefrequency in
-    let is_ready = ready name.eq-value.it eq-value.it hertz circuit.elements c.requires.ready c.elements-elements.ensures.in_range in
+    let is_ready = ready circuit c.requires.ready c.elements-elements.ensures.in_range in
     let taken = are_taken hertz circuit.elements (settings_of c.args.at.now c.args.powers.now) c.options.ensures.in_range.defaultbasefrequency c.requires.ready.not_many is_ready c.requires.settings c.requires.within c.requires.modest in
     taken_as c.in_ok-layout.layout _ c.options.result.now.defaultbasefrequency hertz c.elements-elements.result.now.entries circuit.elements (settings_left c.of-settings.result) _
     c.in_ok-layout.ensures (ap (λ (o : Options). o.defaultbasefrequency) c.options.ensures.value) c.elements-elements.ensures.entries c.of-settings.ensures taken

@@ -1,7 +1,8 @@
 // Scripts, command by command.
-use crate::{Circuit, Command, Element, ModelFault, Place, ReadyFault, Verb};
+use crate::range::is_above_source_limit;
+use crate::{ReadyFault, ready};
+use dss_circuit::{Circuit, Command, Element, ModelFault, Place, Verb};
 use dss_lexer::{PairList, Text, pairs};
-use dss_ready::is_above_source_limit;
 use std::alloc::Global;
 use std::process::Abort;
 use std::test::Fail;
@@ -82,7 +83,7 @@ fn refusal(alloc: Global, rows: &[Row]) -> Result<Option<(u32, ModelFault)>, Mod
             Err(cause) => return Ok(Some((line, cause))),
         }
     }
-    match circuit.ready(alloc) {
+    match ready(alloc, &circuit) {
         Ok(()) => Ok(None),
         Err(ReadyFault::Blame(blame)) => Ok(Some((blame.place.line, blame.cause))),
         Err(ReadyFault::NoMemory) => Err(ModelFault::NoMemory),
@@ -312,7 +313,7 @@ fn magnitudes(rt: HostRuntime) -> Result<(), Fail> {
             &("new", "Load", name.as_str(), load),
         )?;
     }
-    match circuit.ready(alloc) {
+    match ready(alloc, &circuit) {
         Err(ReadyFault::Blame(blame)) => {
             assert_eq!(rt; blame.place.line, 18);
             assert_eq!(rt; blame.cause, ModelFault::TooMany);
@@ -330,7 +331,7 @@ fn feeder(rt: HostRuntime) -> Result<(), Fail> {
         apply(alloc, &mut circuit, 1, row)?;
     }
     apply(alloc, &mut circuit, 4, &("solve", "", "", "mode=daily"))?;
-    assert!(rt; circuit.ready(alloc).is_ok());
+    assert!(rt; ready(alloc, &circuit).is_ok());
     assert_eq!(rt; circuit.elements().len(), 3);
     assert_eq!(rt; circuit.options().number, 24);
     assert_eq!(rt; circuit.solves(), 1);

@@ -1,0 +1,10 @@
+-- The limits on a circuit's unknowns.
+use Rattle.std.specs.Prelude.{ℕ}
+
+-- the most nodes and branch phases, counted together
+abbrev pub most_complex : ℕ
+most_complex = 240
+
+-- the most phases of loads of constant current
+abbrev pub most_magnitudes : ℕ
+most_magnitudes = 48
