@@ -1,3 +1,4 @@
 pub mod Banks
 pub mod BankEdges
 pub mod Aways
+pub mod CallerLemmas

@@ -1,5 +1,5 @@
 // The state of a bank's control.
-ghost use Rattle.std.specs.Prelude.{◌≡◌, ◌-◌, ◌^◌, ◌<◌, ◌+◌, true, false, Some, None, length};
+ghost use Rattle.std.specs.Prelude.{◌≡◌, ◌-◌, ◌^◌, ◌<◌, ◌≤◌, ◌+◌, true, false, Some, None, length};
 ghost use Rattle.fd_queue.specs.Controls.{BankSwitch};
 ghost use Rattle.fd_queue.specs.Decisions.{Hold, is_raise, steps_of};
 ghost use Rattle.fd_queue.specs.Machine.{after_opening, signed_steps, switch_time};
@@ -87,6 +87,7 @@ impl CapState {
         requires times { AreEarly self.old now }
         ensures state { self.new ≡ record self.old { verdict = decision verdict } }
         ensures step { Reacts self.old self.new queue.old queue.new now (decision verdict) }
+        ensures numbers { queue.new.next ≤ queue.old.next + 1 }
         ensures room { queue.new.spare + length queue.new.entries ≡ queue.old.spare + length queue.old.entries }
     {
         self.verdict = verdict;

@@ -76,6 +76,7 @@ impl RegState {
         requires times { (now < 2 ^ 62) × (self.old.delay < 2 ^ 62) × (self.old.tap_delay < 2 ^ 62) }
         ensures state { self.new ≡ record self.old { verdict = decision verdict } }
         ensures step { Reacts self.old self.new queue.old queue.new now (decision verdict) }
+        ensures numbers { queue.new.next ≤ queue.old.next + 1 }
         ensures room { queue.new.spare + length queue.new.entries ≡ queue.old.spare + length queue.old.entries }
     {
         self.verdict = verdict;
