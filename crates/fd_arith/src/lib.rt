@@ -6,7 +6,8 @@
 // so that code over it is written and proved once. No call here takes memory.
 //
 // Modules: `grid` (the units), `limit` (2^120), `interval` and `multiply` (intervals), `fix` (numbers to the nearest),
-// `divide` (quotients, areas, squares and roots), `division` and `quotient` (whole quotients, in units of 2^-40 too), `bounded` (whole numbers), `enclose` and `cx`
+// `divide` (quotients, areas, squares and roots), `division` and `quotient` (whole quotients, in units of 2^-40 too), `floor`
+// (quotients of products, rounded down), `bounded` (whole numbers), `enclose` and `cx`
 // (what both arithmetics share), `terms` (the words of
 // contributions and terminals).
 #![tactic(auto)]
@@ -17,6 +18,7 @@ mod divide;
 mod division;
 mod enclose;
 mod fix;
+mod floor;
 mod grid;
 mod interval;
 mod limit;
@@ -28,6 +30,7 @@ pub use bounded::Wide;
 pub use cx::Cx;
 pub use enclose::Enclose;
 pub use fix::Fix;
+pub use floor::floor_of_product;
 pub use grid::{Coef, Grid, Micro, Square};
 pub use interval::Interval;
 pub use quotient::{ceil_at, floor_at, isqrt, near_at};

@@ -1,2 +1,3 @@
-pub mod Capacitor
-pub mod Bounds
+mod Capacitor
+mod Bounds
+pub mod CallerLemmas

@@ -6,17 +6,17 @@ use Rattle.fd_exact.specs.Ranges.{Between, UpTo}
 use Rattle.fd_arith.specs.declared.terms.Term.{Term}
 use Rattle.fd_arith.specs.declared.terms.Ends.{Ends}
 use Rattle.fd_system.specs.Complex.{Complex, complex, ◌⊟◌, ◌⊠◌, negative}
-use Rattle.fd_system.specs.Contributions.{stamp, each}
+use Rattle.fd_system.specs.Contributions.{shunt_list, each}
 use Rattle.fd_system.specs.Equations.{unknown, Part, both}
-use Rattle.fd_xfmr.specs.declared.pairs.NodePair.{NodePair}
-use Rattle.fd_xfmr.specs.Windings.{pair_of, pairs_of, winding_volts}
+use Rattle.fd_system.specs.declared.terminals.NodePair.{NodePair}
+use Rattle.fd_system.specs.Terminals.{pair_of, pairs_of, phase_volts}
 use Rattle.fd_cap.specs.declared.data.CapData.{CapData}
 
 -- ---- its numbers
 
 -- the nominal voltage of a phase in microvolts
 abbrev pub cap_volts : CapData → ℤ
-cap_volts d = winding_volts d.phases d.conn d.kv
+cap_volts d = phase_volts d.phases d.conn d.kv
 
 -- the reactive power of all phases in 10^-12 volt-ampere, of the kvar in 10^-9
 abbrev pub cap_power : CapData → ℤ
@@ -52,11 +52,7 @@ cap_parts d closed at x = cond closed (each (parts_at d at x) d.phases) []
 -- ---- its contributions, in order
 
 abbrev pub phase_list : CapData → NodePair → List Term
-phase_list d p =
-    let b = cap_power d in
-    let over = pos (volts_squared d) in
-    (stamp p.first p.first (pos 0) b over ++ stamp p.first p.second (pos 0) (neg_ℤ b) over)
-    ++ (stamp p.second p.first (pos 0) (neg_ℤ b) over ++ stamp p.second p.second (pos 0) b over)
+phase_list d p = shunt_list p.first p.second (pos 0) (cap_power d) (pos (volts_squared d))
 
 abbrev pub list_at : CapData → Ends → ℕ → List Term
 list_at d at k = phase_list d (cap_pair d at k)

@@ -1,1 +1,2 @@
 pub mod Capacitor
+pub mod Laws

@@ -4,7 +4,7 @@ ghost use Rattle.fd_exact.specs.Ranges.{UpTo};
 ghost use Rattle.fd_cap.specs.Capacitor.{IsCap, cap_power, cap_volts, volts_squared as squared_volts};
 
 use crate::data::CapData;
-use fd_xfmr::winding_volts;
+use fd_system::phase_volts;
 
 // The reactive power of all phases in 10^-12 volt-ampere.
 pub(crate) fn power(cap: &CapData) -> i128
@@ -22,7 +22,7 @@ pub(crate) fn volts(cap: &CapData) -> u128
     ensures least { 5 * 10 ^ 6 ≤ result }
     ensures most { result ≤ 10 ^ 12 }
 {
-    winding_volts(cap.phases, cap.conn, cap.kv).unsigned_abs()
+    phase_volts(cap.phases, cap.conn, cap.kv).unsigned_abs()
 }
 
 // The square of the nominal voltage in 10^-12 volt^2, times the number of phases.

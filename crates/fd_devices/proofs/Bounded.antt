@@ -17,15 +17,15 @@ use Rattle.fd_system.specs.declared.loads.LoadAt.{LoadAt}
 use Rattle.fd_system.specs.declared.loads.LoadPhase.{LoadPhase}
 use Rattle.fd_system.specs.Contributions.{IsDivided, IsWithin, each, stamp}
 use Rattle.fd_system.specs.Loads.{IsLoad, IsPlain, impedance_list, linear_list}
-use Rattle.fd_system.proofs.Divided.{stamp_divided}
+use Rattle.fd_system.proofs.CallerLemmas.{stamp_divided}
 use Rattle.fd_line.specs.declared.data.LineData.{LineData}
 use Rattle.fd_line.specs.Totals.{IsLine}
 use Rattle.fd_line.specs.Line.{line_list}
-use Rattle.fd_line.proofs.Line.{line_divided}
+use Rattle.fd_line.proofs.CallerLemmas.{line_is}
 use Rattle.fd_source.specs.declared.data.SourceData.{SourceData}
 use Rattle.fd_source.specs.Equations.{IsSource, constants_from, phase_constants, source_constants, source_list}
 use Rattle.fd_source.specs.Phasors.{cosine, cosines, steps_of, volts_im, volts_re}
-use Rattle.fd_source.proofs.Rows.{source_divided}
+use Rattle.fd_source.proofs.CallerLemmas.{source_is}
 use Rattle.fd_elements.proofs.Quotients.{near_most}
 use Rattle.fd_load.specs.Current.{IsLoadPhase}
 use Rattle.fd_elements.specs.Loads.{AreVoltages, IsPast, power_sum}
@@ -45,7 +45,7 @@ line_settled m n size l at g first second branches w = record {
   fits = record { terms = w; loads = All-nil (λ u. ¬ (IsPast u.load)) };
   good = tt;
   bounded = record {
-    terms = contributions n (64 * (1 + l.phases)) (line_list l at) (more_room n (l.phases * 64) (64 * (1 + l.phases)) (line_list l at) (omega arith) (line_inside n l at first.below second.below branches.below g.few)) (line_divided l at) w;
+    terms = contributions n (64 * (1 + l.phases)) (line_list l at) (more_room n (l.phases * 64) (64 * (1 + l.phases)) (line_list l at) (omega arith) (line_inside n l at first.below second.below branches.below g.few)) (line_is l at).divided w;
     constants = All-nil (IsKnown (2 * n));
     few_constants = omega arith;
     loads = All-nil (IsServed m n size);
@@ -123,7 +123,7 @@ source_settled m n size s at g first branches w =
       fits = record { terms = w; loads = All-nil (λ u. ¬ (IsPast u.load)) };
       good = tt;
       bounded = record {
-        terms = contributions n (64 * (1 + s.phases)) (source_list s at) (more_room n (s.phases * 64) (64 * (1 + s.phases)) (source_list s at) (omega arith) (source_inside n s at first.below branches.below g.few)) (source_divided s at) w;
+        terms = contributions n (64 * (1 + s.phases)) (source_list s at) (more_room n (s.phases * 64) (64 * (1 + s.phases)) (source_list s at) (omega arith) (source_inside n s at first.below branches.below g.few)) (source_is s at).divided w;
         constants = known_from (2 * n) (2 * at.branch) (source_constants s) (omega arith) (constants_small s g.volts s.phases);
         few_constants = omega arith;
         loads = All-nil (IsServed m n size);

@@ -1,27 +1,24 @@
 -- What a capacitor bank adds is bounded.
-use Rattle.std.proofs.Common.{◌≡◌, ℕ, ◌+◌, ◌*◌, ◌/◌, ◌≤◌, ◌^◌, ◌⊎◌, inl, inr, ℤ, pos, negsuc, neg_ℤ, nat_abs, Bool, true, false, cond, eqb, [], arith, subst, sym}
+use Rattle.std.proofs.Common.{◌≡◌, ℕ, ◌+◌, ◌*◌, ◌≤◌, ◌^◌, ◌⊎◌, inl, inr, ℤ, pos, nat_abs, Bool, true, false, [], arith, subst, sym}
 use Rattle.std.specs.List.{All}
 use Rattle.std.proofs.lemmas.Int.{ints, unsigned_abs-mul}
 use Rattle.std.proofs.lemmas.List.Elements.{All-nil}
 use Rattle.fd_exact.specs.Quotients.{ceil_nat_least}
 use Rattle.fd_exact.specs.Rounding.{ceil_nat}
-use Rattle.fd_exact.specs.Ranges.{Between}
-use Rattle.fd_arith.specs.declared.terms.Conn.{Conn}
-use Rattle.fd_arith.specs.declared.terms.Conn.TheVariants.{Wye, Delta}
 use Rattle.fd_arith.specs.declared.terms.Ends.{Ends}
-use Rattle.fd_system.specs.Contributions.{IsWithin, stamp}
-use Rattle.fd_xfmr.specs.declared.pairs.NodePair.{NodePair}
-use Rattle.fd_xfmr.specs.Windings.{pairs_of, root_three, three_phase_volts}
-use Rattle.fd_xfmr.proofs.Products.{phases_few}
+use Rattle.fd_system.specs.Contributions.{IsWithin}
+use Rattle.fd_system.specs.declared.terminals.NodePair.{NodePair}
+use Rattle.fd_system.specs.Terminals.{node_count, pairs_of}
+use Rattle.fd_system.proofs.CallerLemmas.{phase_volts_between}
 use Rattle.fd_cap.specs.declared.data.CapData.{CapData}
 use Rattle.fd_cap.specs.Capacitor.{IsCap, cap_draw_of, cap_list, cap_pair, cap_power, cap_volts, list_at, phase_list, volts_squared}
-use Rattle.fd_cap.proofs.Capacitor.{cap_divided}
+use Rattle.fd_cap.proofs.CallerLemmas.{cap_is}
 use Rattle.fd_elements.specs.Loads.{IsPast}
 use Rattle.fd_equations.specs.Conditions.{IsAmong, IsKnown, IsServed}
 use Rattle.fd_devices.specs.Devices.{capacitor}
 use Rattle.fd_devices.specs.Building.{IsSettled}
-use Rattle.fd_devices.specs.Sound.{IsSideOf, terminal_nodes}
-use Rattle.fd_devices.proofs.Counting.{AreInside, each_inside, joined_inside, more_room, none_inside, stamp_inside}
+use Rattle.fd_devices.specs.Sound.{IsSideOf}
+use Rattle.fd_devices.proofs.Counting.{AreInside, each_inside, more_room, none_inside, shunt_inside}
 use Rattle.fd_devices.proofs.Bounded.{contributions}
 use Rattle.fd_devices.proofs.Transformers.{IsPairBelow, pair_below}
 
@@ -29,14 +26,7 @@ use Rattle.fd_devices.proofs.Transformers.{IsPairBelow, pair_below}
 
 module _ (n : ℕ) where
   phase_inside : (d : CapData) (p : NodePair) → IsPairBelow n p → AreInside n 16 (phase_list d p)
-  phase_inside d p h =
-      let b = cap_power d in
-      let over = pos (volts_squared d) in
-      joined_inside n 8 8 _ _
-      (joined_inside n 4 4 (stamp p.first p.first (pos 0) b over) (stamp p.first p.second (pos 0) (neg_ℤ b) over)
-      (stamp_inside n p.first p.first (pos 0) b over h.first h.first) (stamp_inside n p.first p.second (pos 0) (neg_ℤ b) over h.first h.second))
-      (joined_inside n 4 4 (stamp p.second p.first (pos 0) (neg_ℤ b) over) (stamp p.second p.second (pos 0) b over)
-      (stamp_inside n p.second p.first (pos 0) (neg_ℤ b) over h.second h.first) (stamp_inside n p.second p.second (pos 0) b over h.second h.second))
+  phase_inside d p h = shunt_inside n p.first p.second (pos 0) (cap_power d) (pos (volts_squared d)) h.first h.second
 
   cap_inside : (d : CapData) (closed : Bool) (at : Ends) → d.phases ≤ 3 → All (IsAmong n) at.first → AreInside n 64 (cap_list d closed at)
   cap_inside d true at few below = more_room n (d.phases * 16) 64 (cap_list d true at) (omega arith)
@@ -45,26 +35,17 @@ module _ (n : ℕ) where
 
 -- ---- what it draws
 
--- the nominal voltage of a phase of three, from ten volt between phases
-wye_least : (m : ℕ) → 10 ^ 7 ≤ m → 5773000 ≤ (2 * (m * 10 ^ 15) + root_three) / (2 * root_three)
-wye_least m h = omega arith
-
-three_phase_least : (c : Conn) (kv : ℤ) → Between (10 ^ 7) (10 ^ 12) kv → 5773000 ≤ nat_abs (three_phase_volts c kv)
-three_phase_least Wye (pos m) h = wye_least m (omega (arith, ints, h.least))
-three_phase_least Wye (negsuc m) h = absurd (omega (arith, ints, h.least))
-three_phase_least Delta kv h = omega (arith, ints, h.least)
-
 power_size : (d : CapData) → IsCap d → nat_abs (cap_power d) ≤ 10 ^ 20
 power_size d h =
     let m : nat_abs d.kvar ≤ 10 ^ 14 = omega (arith, ints, h.kvar.least, h.kvar.most) in
     subst (λ s. s ≤ 10 ^ 20) (sym (unsigned_abs-mul d.kvar (pos (10 ^ 6)))) (omega (arith, m))
 
 volts_least : (d : CapData) → IsCap d → 5773000 ≤ nat_abs (cap_volts d)
-volts_least d h = by (eqb d.phases 1)
-  where
-    by : (b : Bool) → 5773000 ≤ nat_abs (cond b d.kv (three_phase_volts d.conn d.kv))
-    by true = omega (arith, ints, h.kv.least)
-    by false = three_phase_least d.conn d.kv h.kv
+volts_least d h = let b = phase_volts_between d.phases d.conn d.kv h.kv in omega (arith, ints, b.least)
+
+few_phases : (n : ℕ) → (n ≡ 1) ⊎ (n ≡ 3) → n ≤ 3
+few_phases n (inl e) = omega arith
+few_phases n (inr e) = omega arith
 
 -- Q / V of all phases
 draw_most : (q v p : ℕ) → q ≤ 10 ^ 20 → 5773000 ≤ v → (p ≡ 1) ⊎ (p ≡ 3) → ceil_nat q (v * p) * p ≤ 17500000000000
@@ -81,12 +62,12 @@ draw_small d false h = omega arith
 
 -- ---- what it adds
 
-pub capacitor_settled : (m n size : ℕ) (d : CapData) (closed : Bool) (at : Ends) → IsCap d → IsSideOf n (terminal_nodes d.phases) at.first → All IsWithin (cap_list d closed at) → IsSettled m n size 0 (capacitor d closed at)
+pub capacitor_settled : (m n size : ℕ) (d : CapData) (closed : Bool) (at : Ends) → IsCap d → IsSideOf n (node_count d.phases) at.first → All IsWithin (cap_list d closed at) → IsSettled m n size 0 (capacitor d closed at)
 capacitor_settled m n size d closed at h side w = record {
   fits = record { terms = w; loads = All-nil (λ u. ¬ (IsPast u.load)) };
   good = h;
   bounded = record {
-    terms = contributions n 64 (cap_list d closed at) (cap_inside n d closed at (phases_few d.phases h.phases) side.below) (cap_divided d closed at h) w;
+    terms = contributions n 64 (cap_list d closed at) (cap_inside n d closed at (few_phases d.phases h.phases) side.below) (cap_is d closed at h).divided w;
     constants = All-nil (IsKnown (2 * n));
     few_constants = omega arith;
     loads = All-nil (IsServed m n size);

@@ -8,10 +8,11 @@ use Rattle.fd_arith.specs.declared.terms.NodeAt.{NodeAt}
 use Rattle.fd_arith.specs.declared.terms.NodeAt.TheVariants.{Ground, Node}
 use Rattle.fd_arith.specs.declared.terms.Ends.{Ends}
 use Rattle.fd_system.specs.declared.loads.LoadAt.{LoadAt}
-use Rattle.fd_system.specs.Contributions.{one, stamp, each}
+use Rattle.fd_system.specs.Contributions.{one, stamp, shunt_list, each}
+use Rattle.fd_system.specs.Terminals.{branch_of, node_of}
+use Rattle.fd_system.specs.Series.{drop_at, drop_list}
 use Rattle.fd_system.specs.Loads.{impedance_list, linear_list}
 use Rattle.fd_line.specs.declared.data.LineData.{LineData}
-use Rattle.fd_line.specs.Series.{branch_of, drop_at, drop_list, node_of}
 use Rattle.fd_line.specs.Totals.{reactance_of, resistance_of}
 use Rattle.fd_line.specs.Line.{branch_row, charge_at, end_row, line_list, phase_list, susceptance_of}
 use Rattle.fd_source.specs.declared.data.SourceData.{SourceData}
@@ -122,14 +123,14 @@ module _ (n : ℕ) where
     pub first : IsAmong n u.first
     pub second : IsAmong n u.second
 
-  impedance_inside : (u : LoadAt) → StandsBelow u → AreInside n 16 (impedance_list u)
-  impedance_inside u h =
-      let a = pos (10 ^ 9) *ℤ u.load.p in
-      let b = pos (10 ^ 9) *ℤ u.load.q in
-      let d = u.load.vn *ℤ u.load.vn in
+  pub shunt_inside : (m k : NodeAt) (a b d : ℤ) → IsAmong n m → IsAmong n k → AreInside n 16 (shunt_list m k a b d)
+  shunt_inside m k a b d p q =
       joined_inside n 8 8 _ _
-      (joined_inside n 4 4 (stamp u.first u.first a (neg_ℤ b) d) (stamp u.first u.second (neg_ℤ a) (neg_ℤ (neg_ℤ b)) d) (stamp_inside u.first u.first a (neg_ℤ b) d h.first h.first) (stamp_inside u.first u.second (neg_ℤ a) (neg_ℤ (neg_ℤ b)) d h.first h.second))
-      (joined_inside n 4 4 (stamp u.second u.first (neg_ℤ a) (neg_ℤ (neg_ℤ b)) d) (stamp u.second u.second a (neg_ℤ b) d) (stamp_inside u.second u.first (neg_ℤ a) (neg_ℤ (neg_ℤ b)) d h.second h.first) (stamp_inside u.second u.second a (neg_ℤ b) d h.second h.second))
+      (joined_inside n 4 4 (stamp m m a b d) (stamp m k (neg_ℤ a) (neg_ℤ b) d) (stamp_inside m m a b d p p) (stamp_inside m k (neg_ℤ a) (neg_ℤ b) d p q))
+      (joined_inside n 4 4 (stamp k m (neg_ℤ a) (neg_ℤ b) d) (stamp k k a b d) (stamp_inside k m (neg_ℤ a) (neg_ℤ b) d q p) (stamp_inside k k a b d q q))
+
+  impedance_inside : (u : LoadAt) → StandsBelow u → AreInside n 16 (impedance_list u)
+  impedance_inside u h = shunt_inside u.first u.second (pos (10 ^ 9) *ℤ u.load.p) (neg_ℤ (pos (10 ^ 9) *ℤ u.load.q)) (u.load.vn *ℤ u.load.vn) h.first h.second
 
   linear_by : (t : Bool) (u : LoadAt) → StandsBelow u → AreInside n 16 (cond t (impedance_list u) [])
   linear_by true u h = impedance_inside u h

@@ -6,24 +6,21 @@ use Rattle.fd_exact.specs.FractionLaws.{Same-sym}
 use Rattle.fd_exact.specs.States.{State}
 use Rattle.fd_system.specs.Equations.{Part, equation}
 use Rattle.fd_system.specs.System.{Share, residual_of, Represents}
-use Rattle.fd_system.proofs.Shares.{term_share, no_parts, Represents-joined, Meets-Same}
-use Rattle.fd_system.proofs.LoadRows.{loads_represent}
+use Rattle.fd_system.proofs.CallerLemmas.{term_share, no_parts, Represents-joined, Meets-Same, loads_represent}
 use Rattle.fd_line.specs.Line.{line_list, line_parts}
-use Rattle.fd_line.proofs.Line.{line_adds_up}
-use Rattle.fd_source.proofs.Rows.{source_represents}
-use Rattle.fd_xfmr.specs.Leakage.{coefficients_of}
+use Rattle.fd_line.proofs.CallerLemmas.{line_is}
+use Rattle.fd_source.proofs.CallerLemmas.{source_is}
 use Rattle.fd_xfmr.specs.Transformer.{xfmr_list, xfmr_parts}
-use Rattle.fd_xfmr.proofs.Transformer.{xfmr_adds_up}
+use Rattle.fd_xfmr.proofs.CallerLemmas.{xfmr_is}
 use Rattle.fd_cap.specs.Capacitor.{cap_list, cap_parts}
-use Rattle.fd_cap.proofs.Capacitor.{cap_adds_up}
+use Rattle.fd_cap.proofs.CallerLemmas.{cap_is}
 use Rattle.fd_devices.specs.Devices.{Device, source, line, transformer, capacitor, loads, other, device_parts, device_share, IsGood, parts_of_all, share_of_all, AgreesWith, DeviceLaw}
-use Rattle.fd_devices.proofs.Transformers.{are_within}
 
 device_represents : (d : Device) → IsGood d → Represents (device_share d) (device_parts d)
-device_represents (source s at) g = source_represents s at
-device_represents (line l at) g = term_share (line_list l at) (line_parts l at) (line_adds_up l at)
-device_represents (transformer d t at) g = term_share (xfmr_list d t at) (xfmr_parts d t at) (xfmr_adds_up (coefficients_of d t) d at (are_within d t g.0 g.1))
-device_represents (capacitor d closed at) g = term_share (cap_list d closed at) (cap_parts d closed at) (cap_adds_up d closed at g)
+device_represents (source s at) g = (source_is s at).represents
+device_represents (line l at) g = term_share (line_list l at) (line_parts l at) (line_is l at).adds_up
+device_represents (transformer d t at) g = term_share (xfmr_list d t at) (xfmr_parts d t at) (xfmr_is d t at g.0 g.1).adds_up
+device_represents (capacitor d closed at) g = term_share (cap_list d closed at) (cap_parts d closed at) (cap_is d closed at g).adds_up
 device_represents (loads us) g = loads_represent us g
 device_represents other g = λ x o l. no_parts
 

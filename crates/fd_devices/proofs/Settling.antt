@@ -3,17 +3,15 @@ use Rattle.std.proofs.Common.{◌≡◌, ◌∙◌, ℕ, zero, suc, ◌+◌, ◌
 use Rattle.std.specs.List.{All}
 use Rattle.std.proofs.lemmas.List.Elements.{All-nil, All-cons, All-append, All-weaker}
 use Rattle.fd_arith.specs.declared.terms.NodeAt.{NodeAt}
-use Rattle.fd_arith.specs.declared.terms.NodeAt.TheVariants.{Ground}
 use Rattle.fd_arith.specs.declared.terms.Ends.{Ends}
 use Rattle.fd_arith.specs.declared.terms.TapPair.{TapPair}
-use Rattle.fd_line.specs.Series.{node_of}
+use Rattle.fd_system.specs.Terminals.{node_count, pairs_of}
+use Rattle.fd_elements.specs.Connections.{conn_of}
 use Rattle.fd_elements.specs.declared.powers.LoadPower.{LoadPower}
 use Rattle.fd_elements.specs.Lines.{line_data_of}
 use Rattle.fd_equations.specs.Conditions.{HasMagnitude, IsAmong}
 use Rattle.fd_equations.specs.Rounded.{list_of}
 use Rattle.fd_equations.proofs.Lists.{length-list_of, list_of-more}
-use Rattle.dss_values.specs.declared.words.Connection.{Connection}
-use Rattle.dss_values.specs.declared.words.Connection.TheVariants.{Wye, Delta}
 use Rattle.dss_profile.specs.Ranges.{IsOneOf}
 use Rattle.dss_profile.specs.InRange.{LoadInRange}
 use Rattle.dss_profile.specs.declared.element.Element.{Element}
@@ -28,10 +26,10 @@ use Rattle.fd_devices.specs.Data.{cap_data_of, xfmr_data_of}
 use Rattle.fd_devices.specs.Devices.{source, line, transformer, capacitor, loads}
 use Rattle.fd_devices.specs.Settings.{Settings}
 use Rattle.fd_devices.specs.Sources.{source_data_of}
-use Rattle.fd_devices.specs.Scripted.{device_of, first_state, first_taps, load_at, magnitude_place, phases_of, second_node}
-use Rattle.fd_devices.specs.Sound.{HasBranches, HasMagnitudes, IsSideOf, IsSited, terminal_nodes}
+use Rattle.fd_devices.specs.Scripted.{device_of, first_state, first_taps, load_at, magnitude_place, phases_of}
+use Rattle.fd_devices.specs.Sound.{HasBranches, HasMagnitudes, IsSideOf, IsSited}
 use Rattle.fd_devices.specs.Building.{Fits, IsSettled, IsUsable}
-use Rattle.fd_devices.proofs.Counting.{node_below}
+use Rattle.fd_devices.proofs.Transformers.{pair_below}
 use Rattle.fd_devices.proofs.Bounded.{StandsInside, among_more, loads_settled, other_settled}
 
 -- ---- loads
@@ -41,14 +39,6 @@ all_listed P zero f h = All-nil P
 all_listed P (suc n) f h =
     let more : list_of (suc n) f ≡ list_of n f ++ f n ∷ [] = ap (λ m. list_of m f) (sym (add-one n)) ∙ list_of-more n f in
     subst (All P) (sym more) (All-append P (list_of n f) (f n ∷ []) (all_listed P n f (λ k p. h k (omega arith))) (All-cons P (f n) [] (h n (omega arith)) (All-nil P)))
-
-second_below : (n : ℕ) (c : Connection) (phases : ℕ) (ns : List NodeAt) (k : ℕ) → All (IsAmong n) ns → IsAmong n (second_node c phases ns k)
-second_below n Wye phases ns k h = by (phases == 1)
-  where
-    by : (b : Bool) → IsAmong n (if b then node_of ns 1 else Ground)
-    by true = node_below n ns 1 h
-    by false = tt
-second_below n Delta phases ns k h = node_below n ns ((k + 1) % 3) h
 
 few_phases : (phases : ℕ) → IsOneOf (1 ∷ 3 ∷ []) phases → phases ≤ 3
 few_phases phases (inl h) = omega arith
@@ -67,14 +57,14 @@ magnitude_inside n size phases first k model (inr (inr e)) h p =
     subst (λ j. HasMagnitude n size j (magnitude_place j first k)) (sym e) (refl, (least, most))
 
 pub phases_settled : (load : Load) (ns : List NodeAt) (magnitude : ℕ) (powers : List LoadPower) → LoadInRange load → All IsUsable (phases_of load ns magnitude powers) → Fits (loads (phases_of load ns magnitude powers))
-    → (m n size : ℕ) → m ≤ n → IsSideOf m (terminal_nodes load.phases) ns → (load.model ≡ 5 → HasMagnitudes n size load.phases magnitude) → IsSettled m n size 0 (loads (phases_of load ns magnitude powers))
+    → (m n size : ℕ) → m ≤ n → IsSideOf m (node_count load.phases) ns → (load.model ≡ 5 → HasMagnitudes n size load.phases magnitude) → IsSettled m n size 0 (loads (phases_of load ns magnitude powers))
 phases_settled load ns magnitude powers range usable fits m n size among side places =
     let count = length-list_of load.phases (load_at load ns magnitude powers) in
     let few = few_phases load.phases range.phases in
     loads_settled m n size (phases_of load ns magnitude powers) among usable (omega arith)
     (all_listed (StandsInside m n size) load.phases (load_at load ns magnitude powers)
     (λ k p. record {
-      nodes = record { first = node_below m ns k side.below; second = second_below m load.conn load.phases ns k side.below };
+      nodes = let below = pair_below m (pairs_of load.phases (conn_of load.conn)) ns k side.below in record { first = below.first; second = below.second };
       magnitude = magnitude_inside n size load.phases magnitude k load.model range.model places p;
     })) fits
 
@@ -113,20 +103,20 @@ module _ (layout : LayoutView) (hertz place : ℕ) (e : Element) (s : Settings) 
       subst Settled (sym is) (subst (λ (t : Ends). IsSettled (length layout.nodes) (complex_count layout) (size_of layout) l.phases (line (line_data_of l hertz) t)) a (h (length layout.nodes) (complex_count layout) (size_of layout) (widened l.phases at.first side.0) (widened l.phases at.second side.1) side.2))
 
   pub transformer_here : (t : Transformer) (taps : TapPair) → e ≡ the.Transformer t → taps ≡ first_taps s.taps
-      → ((m n size : ℕ) → IsSideOf n (terminal_nodes t.phases) at.first → IsSideOf n (terminal_nodes t.phases) at.second → HasBranches n t.phases at → IsSettled m n size t.phases (transformer (xfmr_data_of t) taps at)) → Settled e
+      → ((m n size : ℕ) → IsSideOf n (node_count t.phases) at.first → IsSideOf n (node_count t.phases) at.second → HasBranches n t.phases at → IsSettled m n size t.phases (transformer (xfmr_data_of t) taps at)) → Settled e
   transformer_here t taps is own h =
       let side = subst (λ (x : Element). Stands at x) is stands in
       let a = subst (λ (x : Element). at ≡ ends_of layout place x) is here in
       subst Settled (sym is) (subst (λ (u : TapPair). IsSettled (length layout.nodes) (complex_count layout) (size_of layout) t.phases (transformer (xfmr_data_of t) u (ends_of layout place (the.Transformer t)))) own
-      (subst (λ (u : Ends). IsSettled (length layout.nodes) (complex_count layout) (size_of layout) t.phases (transformer (xfmr_data_of t) taps u)) a (h (length layout.nodes) (complex_count layout) (size_of layout) (widened (terminal_nodes t.phases) at.first side.0) (widened (terminal_nodes t.phases) at.second side.1) side.2)))
+      (subst (λ (u : Ends). IsSettled (length layout.nodes) (complex_count layout) (size_of layout) t.phases (transformer (xfmr_data_of t) taps u)) a (h (length layout.nodes) (complex_count layout) (size_of layout) (widened (node_count t.phases) at.first side.0) (widened (node_count t.phases) at.second side.1) side.2)))
 
   pub capacitor_here : (k : Capacitor) (closed : Bool) → e ≡ the.Capacitor k → closed ≡ first_state s.closed
-      → ((m n size : ℕ) → IsSideOf n (terminal_nodes k.phases) at.first → IsSettled m n size 0 (capacitor (cap_data_of k) closed at)) → Settled e
+      → ((m n size : ℕ) → IsSideOf n (node_count k.phases) at.first → IsSettled m n size 0 (capacitor (cap_data_of k) closed at)) → Settled e
   capacitor_here k closed is own h =
       let side = subst (λ (x : Element). Stands at x) is stands in
       let a = subst (λ (x : Element). at ≡ ends_of layout place x) is here in
       subst Settled (sym is) (subst (λ b. IsSettled (length layout.nodes) (complex_count layout) (size_of layout) 0 (capacitor (cap_data_of k) b (ends_of layout place (the.Capacitor k)))) own
-      (subst (λ (u : Ends). IsSettled (length layout.nodes) (complex_count layout) (size_of layout) 0 (capacitor (cap_data_of k) closed u)) a (h (length layout.nodes) (complex_count layout) (size_of layout) (widened (terminal_nodes k.phases) at.first side))))
+      (subst (λ (u : Ends). IsSettled (length layout.nodes) (complex_count layout) (size_of layout) 0 (capacitor (cap_data_of k) closed u)) a (h (length layout.nodes) (complex_count layout) (size_of layout) (widened (node_count k.phases) at.first side))))
 
   -- the device of a load
   pub load_is : (l : Load) (nodes : List NodeAt) (magnitude : ℕ) → e ≡ the.Load l → nodes ≡ at.first → magnitude ≡ first_magnitude layout place → loads (phases_of l nodes magnitude s.powers) ≡ device_of layout hertz place e s
@@ -136,13 +126,13 @@ module _ (layout : LayoutView) (hertz place : ℕ) (e : Element) (s : Settings) 
       (λ i. loads (phases_of l (nodes_are i) (m i) s.powers)) ∙ ap (λ (x : Element). device_of layout hertz place x s) (sym is)
 
   pub load_here : (l : Load) (nodes : List NodeAt) (magnitude : ℕ) → e ≡ the.Load l → nodes ≡ at.first → magnitude ≡ first_magnitude layout place
-      → ((m n size : ℕ) → m ≤ n → IsSideOf m (terminal_nodes l.phases) nodes → (l.model ≡ 5 → HasMagnitudes n size l.phases magnitude) → IsSettled m n size 0 (loads (phases_of l nodes magnitude s.powers))) → Settled e
+      → ((m n size : ℕ) → m ≤ n → IsSideOf m (node_count l.phases) nodes → (l.model ≡ 5 → HasMagnitudes n size l.phases magnitude) → IsSettled m n size 0 (loads (phases_of l nodes magnitude s.powers))) → Settled e
   load_here l nodes magnitude is ns m h =
       let side = subst (λ (x : Element). Stands at x) is stands in
       let a = subst (λ (x : Element). at ≡ ends_of layout place x) is here in
       let nodes_are = ns ∙ ap (λ (t : Ends). t.first) a in
       let places : l.model ≡ 5 → HasMagnitudes (complex_count layout) (size_of layout) l.phases magnitude = λ five. subst (HasMagnitudes (complex_count layout) (size_of layout) l.phases) (sym m) (side.1 five) in
-      let settled = h (length layout.nodes) (complex_count layout) (size_of layout) all_nodes (subst (IsSideOf (length layout.nodes) (terminal_nodes l.phases)) (sym ns) side.0) places in
+      let settled = h (length layout.nodes) (complex_count layout) (size_of layout) all_nodes (subst (IsSideOf (length layout.nodes) (node_count l.phases)) (sym ns) side.0) places in
       subst Settled (sym is) (subst (λ k. IsSettled (length layout.nodes) (complex_count layout) (size_of layout) 0 (loads (phases_of l (ends_of layout place (the.Load l)).first k s.powers))) m
       (subst (λ us. IsSettled (length layout.nodes) (complex_count layout) (size_of layout) 0 (loads (phases_of l us magnitude s.powers))) nodes_are settled))
 

@@ -1,100 +1,29 @@
--- A transformer's numbers at its taps are in range, and what it adds is bounded.
-use Rattle.std.proofs.Common.{ℕ, ◌+◌, ◌*◌, ◌/◌, ◌%◌, ◌<◌, ◌≤◌, ◌^◌, ℤ, pos, negsuc, neg_ℤ, ◌+ℤ◌, ◌*ℤ◌, nat_abs, Bool, true, false, cond, eqb, List, arith}
+-- What a transformer adds is bounded.
+use Rattle.std.proofs.Common.{ℕ, ◌+◌, ◌*◌, ◌%◌, ◌<◌, ◌≤◌, ◌^◌, ℤ, pos, negsuc, neg_ℤ, List, arith}
 use Rattle.std.specs.List.{All}
-use Rattle.std.proofs.Math.Nat.{mul-le-mul, div-lt_iff_lt-mul}
-use Rattle.std.proofs.lemmas.Int.{ints}
 use Rattle.std.proofs.lemmas.List.Elements.{All-nil}
-use Rattle.fd_exact.specs.States.{part}
-use Rattle.fd_exact.specs.Ranges.{Between, UpTo}
-use Rattle.fd_arith.specs.declared.terms.Conn.{Conn}
-use Rattle.fd_arith.specs.declared.terms.Conn.TheVariants.{Wye, Delta}
 use Rattle.fd_arith.specs.declared.terms.NodeAt.{NodeAt}
 use Rattle.fd_arith.specs.declared.terms.Ends.{Ends}
 use Rattle.fd_arith.specs.declared.terms.TapPair.{TapPair}
 use Rattle.fd_system.specs.Contributions.{IsWithin, stamp}
+use Rattle.fd_system.specs.declared.terminals.NodePair.{NodePair}
+use Rattle.fd_system.specs.declared.terminals.PhasePairs.{PhasePairs}
+use Rattle.fd_system.specs.declared.terminals.PhasePairs.TheVariants as pairs
+use Rattle.fd_system.specs.Terminals.{node_count, pair_of, second_node}
 use Rattle.fd_xfmr.specs.declared.data.XfmrData.{XfmrData}
 use Rattle.fd_xfmr.specs.declared.leakage.Coefficients.{Coefficients}
-use Rattle.fd_xfmr.specs.declared.pairs.NodePair.{NodePair}
-use Rattle.fd_xfmr.specs.declared.pairs.PhasePairs.{PhasePairs}
-use Rattle.fd_xfmr.specs.declared.pairs.PhasePairs.TheVariants as pairs
 use Rattle.fd_xfmr.specs.declared.terms.PhaseAt.{PhaseAt}
-use Rattle.fd_xfmr.specs.Windings.{first_pairs, first_volts, kv1, kv2, pair_of, root_three, second_node, second_pairs, second_volts, three_phase_volts, winding_volts}
-use Rattle.fd_xfmr.specs.Leakage.{AreTaps, AreWithin, IsXfmr, coefficients_of, nominal_leakage, percent_resistance}
+use Rattle.fd_xfmr.specs.Windings.{first_pairs, second_pairs}
+use Rattle.fd_xfmr.specs.Leakage.{AreTaps, IsXfmr, coefficients_of}
 use Rattle.fd_xfmr.specs.Transformer.{branch_list, current_list, list_at, phase_at, phase_list, xfmr_list}
-use Rattle.fd_xfmr.proofs.Products.{over_positive, over_small, percent_most, phases_few, quotient_room, squares_most, times_most}
-use Rattle.fd_xfmr.proofs.Transformer.{xfmr_divided}
+use Rattle.fd_xfmr.proofs.CallerLemmas.{xfmr_is}
 use Rattle.fd_elements.specs.Loads.{IsPast}
 use Rattle.fd_equations.specs.Conditions.{IsAmong, IsKnown, IsServed}
 use Rattle.fd_devices.specs.Devices.{transformer}
 use Rattle.fd_devices.specs.Building.{IsSettled}
-use Rattle.fd_devices.specs.Sound.{HasBranches, IsSideOf, terminal_nodes}
+use Rattle.fd_devices.specs.Sound.{HasBranches, IsSideOf}
 use Rattle.fd_devices.proofs.Counting.{AreInside, each_inside, joined_inside, more_room, node_below, stamp_inside}
 use Rattle.fd_devices.proofs.Bounded.{contributions}
-
--- ---- the numbers at the taps
-
--- the quotient by root three, of a voltage from 10 volt to 10^6 volt
-wye_least : (m : ℕ) → 10 ^ 7 ≤ m → 10 ^ 6 ≤ (2 * (m * 10 ^ 15) + root_three) / (2 * root_three)
-wye_least m h = omega arith
-
-wye_most : (m : ℕ) → m ≤ 10 ^ 12 → (2 * (m * 10 ^ 15) + root_three) / (2 * root_three) ≤ 10 ^ 12
-wye_most m h = omega arith
-
-three_phase_between : (c : Conn) (kv : ℤ) → Between (10 ^ 7) (10 ^ 12) kv → Between (10 ^ 6) (10 ^ 12) (three_phase_volts c kv)
-three_phase_between Wye (pos m) h =
-    let least = wye_least m (omega (arith, ints, h.least)) in
-    let most = wye_most m (omega (arith, ints, h.most)) in
-    record { least = omega (arith, ints, least); most = omega (arith, ints, most) }
-three_phase_between Wye (negsuc m) h = absurd (omega (arith, ints, h.least))
-three_phase_between Delta kv h = record { least = omega (arith, ints, h.least); most = h.most }
-
-winding_between : (phases : ℕ) (c : Conn) (kv : ℤ) → Between (10 ^ 7) (10 ^ 12) kv → Between (10 ^ 6) (10 ^ 12) (winding_volts phases c kv)
-winding_between phases c kv h = by (eqb phases 1)
-  where
-    by : (b : Bool) → Between (10 ^ 6) (10 ^ 12) (cond b kv (three_phase_volts c kv))
-    by true = record { least = omega (arith, ints, h.least); most = h.most }
-    by false = three_phase_between c kv h
-
-volts_size : (v : ℤ) → Between (10 ^ 6) (10 ^ 12) v → nat_abs v ≤ 10 ^ 12
-volts_size v h = omega (arith, ints, h.least, h.most)
-
-quotient_most : (n d q : ℕ) → 0 < d → n ≤ q * d → n / d ≤ q
-quotient_most n d q h k = let below : n / d < q + 1 = (div-lt_iff_lt-mul h).1 (omega arith) in omega arith
-
-leakage_small : (d : XfmrData) (percent : ℤ) → IsXfmr d → UpTo (2 * 10 ^ 11) percent → nat_abs (nominal_leakage d percent) ≤ 6 * 10 ^ 24
-leakage_small d (pos m) h u =
-    let v = nat_abs (second_volts d) in
-    let size = volts_size (second_volts d) (winding_between d.phases _ (kv2 d) h.kv2) in
-    let squares : v * v ≤ 10 ^ 12 * 10 ^ 12 = mul-le-mul size size in
-    let all = squares_most (v * v) d.phases (omega (arith, squares)) (phases_few d.phases h.phases) in
-    let product = percent_most m (v * v * d.phases) (omega (arith, ints, u.most)) all in
-    let kva : 10 ^ 6 ≤ nat_abs d.kva = omega (arith, ints, h.kva.least) in
-    quotient_most (m * (v * v * d.phases)) (nat_abs d.kva * 10 ^ 5) (6 * 10 ^ 24) (omega (arith, kva)) (quotient_room (m * (v * v * d.phases)) (nat_abs d.kva) product kva)
-leakage_small d (negsuc m) h u = absurd (omega (arith, ints, u.least))
-
-squared_tap : (t : ℕ) → t ≤ 200000 → t * t ≤ 4 * 10 ^ 10
-squared_tap t h = let m : t * t ≤ 200000 * 200000 = mul-le-mul h h in omega arith
-
-at_tap : (d : XfmrData) (percent : ℤ) (t : ℕ) → IsXfmr d → UpTo (2 * 10 ^ 11) percent → t ≤ 200000 → nat_abs (nominal_leakage d percent *ℤ pos (t * t)) ≤ 10 ^ 36
-at_tap d percent t h u k =
-    let m = times_most (nominal_leakage d percent) (t * t) (6 * 10 ^ 24) (4 * 10 ^ 10) (leakage_small d percent h u) (squared_tap t k) in
-    omega (arith, m)
-
-both_percents : (a b : ℤ) → UpTo (10 ^ 11) a → UpTo (10 ^ 11) b → UpTo (2 * 10 ^ 11) (a +ℤ b)
-both_percents a b h k = record { least = omega (arith, ints, h.least, k.least); most = omega (arith, ints, h.most, k.most) }
-
-pub are_within : (d : XfmrData) (t : TapPair) → IsXfmr d → AreTaps t → AreWithin (coefficients_of d t)
-are_within d t h k =
-    let first = winding_between d.phases _ (kv1 d) h.kv1 in
-    let second = winding_between d.phases _ (kv2 d) h.kv2 in
-    let ratio = times_most (second_volts d) t.second (10 ^ 12) 200000 (volts_size (second_volts d) second) k.second_most in
-    record {
-      ratio = omega (arith, ratio);
-      over_least = over_positive (first_volts d) t.first first (omega (arith, k.first_least));
-      over_most = over_small (first_volts d) t.first first k.first_most;
-      r = at_tap d (percent_resistance d) t.second h (both_percents (part d.pct_r 0) (part d.pct_r 1) h.pct_r1 h.pct_r2) k.second_most;
-      x = at_tap d d.xhl t.second h (record { least = omega (arith, ints, h.xhl.least); most = omega (arith, ints, h.xhl.most) }) k.second_most;
-    }
 
 -- ---- the places of its contributions
 
@@ -144,13 +73,13 @@ module _ (n : ℕ) where
 
 -- ---- what it adds
 
-pub transformer_settled : (m n size : ℕ) (d : XfmrData) (t : TapPair) (at : Ends) → IsXfmr d → AreTaps t → IsSideOf n (terminal_nodes d.phases) at.first → IsSideOf n (terminal_nodes d.phases) at.second → HasBranches n d.phases at
+pub transformer_settled : (m n size : ℕ) (d : XfmrData) (t : TapPair) (at : Ends) → IsXfmr d → AreTaps t → IsSideOf n (node_count d.phases) at.first → IsSideOf n (node_count d.phases) at.second → HasBranches n d.phases at
     → All IsWithin (xfmr_list d t at) → IsSettled m n size d.phases (transformer d t at)
 transformer_settled m n size d t at h k first second branches w = record {
   fits = record { terms = w; loads = All-nil (λ u. ¬ (IsPast u.load)) };
   good = (h, k);
   bounded = record {
-    terms = contributions n (64 * (1 + d.phases)) (xfmr_list d t at) (more_room n (d.phases * 64) (64 * (1 + d.phases)) (xfmr_list d t at) (omega arith) (xfmr_inside n d t at first.below second.below branches.below)) (xfmr_divided (coefficients_of d t) d at (are_within d t h k)) w;
+    terms = contributions n (64 * (1 + d.phases)) (xfmr_list d t at) (more_room n (d.phases * 64) (64 * (1 + d.phases)) (xfmr_list d t at) (omega arith) (xfmr_inside n d t at first.below second.below branches.below)) (xfmr_is d t at h k).divided w;
     constants = All-nil (IsKnown (2 * n));
     few_constants = omega arith;
     loads = All-nil (IsServed m n size);

@@ -1,17 +1,10 @@
 -- The data of transformers and capacitor banks by their values in the script.
 use Rattle.std.specs.Prelude.{[], ◌∷◌}
-use Rattle.fd_arith.specs.declared.terms.Conn.{Conn}
-use Rattle.fd_arith.specs.declared.terms.Conn.TheVariants as conn
-use Rattle.dss_values.specs.declared.words.Connection.{Connection}
-use Rattle.dss_values.specs.declared.words.Connection.TheVariants as connection
 use Rattle.dss_profile.specs.declared.transformer.Transformer.{Transformer}
 use Rattle.dss_profile.specs.declared.capacitor.Capacitor.{Capacitor}
 use Rattle.fd_xfmr.specs.declared.data.XfmrData.{XfmrData}
 use Rattle.fd_cap.specs.declared.data.CapData.{CapData}
-
-abbrev pub conn_of : Connection → Conn
-conn_of connection.Wye = conn.Wye
-conn_of connection.Delta = conn.Delta
+use Rattle.fd_elements.specs.Connections.{conn_of}
 
 -- the rated powers of the two windings are equal, so that of the first counts
 abbrev pub xfmr_data_of : Transformer → XfmrData

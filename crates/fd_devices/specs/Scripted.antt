@@ -1,20 +1,19 @@
 -- The devices of a scripted circuit, and its network.
-use Rattle.std.specs.Prelude.{ℕ, ◌+◌, ◌%◌, ◌==◌, pos, Bool, false, List, [], ◌∷◌, length, get_or, Option, Some, None, if◌then◌else◌}
+use Rattle.std.specs.Prelude.{ℕ, ◌+◌, ◌==◌, pos, Bool, false, List, [], ◌∷◌, length, get_or, Option, Some, None, if◌then◌else◌}
 use Rattle.fd_exact.specs.States.{State}
 use Rattle.fd_arith.specs.declared.terms.NodeAt.{NodeAt}
-use Rattle.fd_arith.specs.declared.terms.NodeAt.TheVariants.{Ground}
 use Rattle.fd_arith.specs.declared.terms.TapPair.{TapPair}
 use Rattle.fd_system.specs.declared.loads.LoadAt.{LoadAt}
 use Rattle.fd_system.specs.Equations.{Part}
-use Rattle.fd_line.specs.Series.{node_of}
-use Rattle.dss_values.specs.declared.words.Connection.{Connection}
-use Rattle.dss_values.specs.declared.words.Connection.TheVariants.{Wye, Delta}
+use Rattle.fd_system.specs.declared.terminals.NodePair.{NodePair}
+use Rattle.fd_system.specs.Terminals.{pair_of, pairs_of}
 use Rattle.dss_profile.specs.declared.element.Element.{Element}
 use Rattle.dss_profile.specs.declared.element.Element.TheVariants as the
 use Rattle.dss_profile.specs.declared.load.Load.{Load}
 use Rattle.dss_layout.specs.Layout.{Elements, LayoutView, ends_of, first_magnitude, layout_of}
 use Rattle.dss_circuit.specs.Circuit.{CircuitView}
 use Rattle.fd_elements.specs.declared.powers.LoadPower.{LoadPower}
+use Rattle.fd_elements.specs.Connections.{conn_of}
 use Rattle.fd_elements.specs.Lines.{line_data_of}
 use Rattle.fd_elements.specs.Loads.{load_phase_of}
 use Rattle.fd_equations.specs.declared.layout.Layout.{Layout}
@@ -27,11 +26,9 @@ use Rattle.fd_devices.specs.Sources.{source_data_of}
 
 -- ---- loads
 
--- the node at which phase k of a load gives its current back. One phase has two nodes; of three phases, wye joins each to ground and
--- delta to the next one
-abbrev pub second_node : Connection → ℕ → List NodeAt → ℕ → NodeAt
-second_node Wye phases ns k = if phases == 1 then node_of ns 1 else Ground
-second_node Delta phases ns k = node_of ns ((k + 1) % 3)
+-- the two nodes that phase k of a load joins: it draws its current at the first and gives it back at the second
+abbrev pub load_pair : Load → List NodeAt → ℕ → NodePair
+load_pair load ns k = pair_of (pairs_of load.phases (conn_of load.conn)) ns k
 
 -- the place of the magnitude of phase k, which a load of constant current has; the first one's place is given
 abbrev pub magnitude_place : ℕ → ℕ → ℕ → Option ℕ
@@ -44,8 +41,8 @@ power_at powers k = get_or powers k (record { p = pos 0; q = pos 0 })
 abbrev pub load_at : Load → List NodeAt → ℕ → List LoadPower → ℕ → LoadAt
 load_at load ns magnitude powers k = record {
   load = load_phase_of load (power_at powers k);
-  first = node_of ns k;
-  second = second_node load.conn load.phases ns k;
+  first = (load_pair load ns k).first;
+  second = (load_pair load ns k).second;
   magnitude = magnitude_place load.model magnitude k;
 }
 

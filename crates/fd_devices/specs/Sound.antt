@@ -2,6 +2,7 @@
 use Rattle.std.specs.Prelude.{◌≡◌, ℕ, ◌+◌, ◌*◌, ◌≤◌, ◌==◌, false, Ok, IsSome, List, length, All, if◌then◌else◌}
 use Rattle.fd_arith.specs.declared.terms.NodeAt.{NodeAt}
 use Rattle.fd_arith.specs.declared.terms.Ends.{Ends}
+use Rattle.fd_system.specs.Terminals.{node_count}
 use Rattle.dss_profile.specs.declared.element.Element.{Element}
 use Rattle.dss_profile.specs.declared.element.Element.TheVariants as the
 use Rattle.dss_layout.specs.Terminals.{terminal_numbers, tested}
@@ -38,16 +39,12 @@ pub record HasMagnitudes (n size m first : ℕ) : Type 0 where
   pub behind : 2 * n ≤ first
   pub below : first + m ≤ size
 
--- a winding, a bank or a load of one phase has two nodes
-abbrev pub terminal_nodes : ℕ → ℕ
-terminal_nodes phases = if phases == 1 then 2 else phases
-
 -- where an element stands among n complex unknowns, of which the nodes come first, and `size` real ones: its sides at nodes, its branches
 -- among the complex unknowns, and its magnitudes, which loads of constant current have, from the given place on
 abbrev pub IsSited : ℕ → ℕ → ℕ → ℕ → Ends → Element → Type 0
 IsSited nodes n size magnitude at (the.Vsource v) = IsSideOf nodes v.phases at.first × HasBranches n v.phases at
 IsSited nodes n size magnitude at (the.Line l) = IsSideOf nodes l.phases at.first × IsSideOf nodes l.phases at.second × HasBranches n l.phases at
-IsSited nodes n size magnitude at (the.Transformer t) = IsSideOf nodes (terminal_nodes t.phases) at.first × IsSideOf nodes (terminal_nodes t.phases) at.second × HasBranches n t.phases at
-IsSited nodes n size magnitude at (the.Capacitor c) = IsSideOf nodes (terminal_nodes c.phases) at.first
-IsSited nodes n size magnitude at (the.Load l) = IsSideOf nodes (terminal_nodes l.phases) at.first × (l.model ≡ 5 → HasMagnitudes n size l.phases magnitude)
+IsSited nodes n size magnitude at (the.Transformer t) = IsSideOf nodes (node_count t.phases) at.first × IsSideOf nodes (node_count t.phases) at.second × HasBranches n t.phases at
+IsSited nodes n size magnitude at (the.Capacitor c) = IsSideOf nodes (node_count c.phases) at.first
+IsSited nodes n size magnitude at (the.Load l) = IsSideOf nodes (node_count l.phases) at.first × (l.model ≡ 5 → HasMagnitudes n size l.phases magnitude)
 IsSited nodes n size magnitude at e = Unit {0}

@@ -3,11 +3,11 @@ ghost use Rattle.std.specs.Prelude.{◌≡◌};
 ghost use Rattle.dss_profile.specs.InRange.{CapacitorInRange, TransformerInRange};
 ghost use Rattle.fd_xfmr.specs.Leakage.{IsXfmr};
 ghost use Rattle.fd_cap.specs.Capacitor.{IsCap};
-ghost use Rattle.fd_devices.specs.Data.{cap_data_of, conn_of as conn_by, xfmr_data_of};
+ghost use Rattle.fd_devices.specs.Data.{cap_data_of, xfmr_data_of};
 
-use dss_profile::{Capacitor, Connection, Transformer};
-use fd_arith::Conn;
+use dss_profile::{Capacitor, Transformer};
 use fd_cap::CapData;
+use fd_elements::conn_of;
 use fd_xfmr::XfmrData;
 
 /// The data of a transformer by its values in the script, numbers in whole 10^-9. The rated powers of its windings are equal, so that
@@ -38,14 +38,5 @@ pub fn cap_data(bank: &Capacitor) -> CapData
         conn: conn_of(bank.conn),
         kvar: bank.kvar,
         kv: bank.kv,
-    }
-}
-
-fn conn_of(connection: Connection) -> Conn
-    ensures { result ≡ conn_by connection }
-{
-    match connection {
-        Connection::Wye => Conn::Wye,
-        Connection::Delta => Conn::Delta,
     }
 }

@@ -1,22 +1,20 @@
 // The part loads of a load's phases, their contributions and what they draw.
-ghost use Rattle.std.specs.Prelude.{◌≡◌, ℕ, ◌+◌, ◌*◌, ◌<◌, ◌≤◌, ◌++◌, ◌^◌, ◌↔◌, [], ◌∷◌, pos, neg_ℤ, ◌*ℤ◌, nat_abs, IfOk, OnOk, IsTrue, All, length};
+ghost use Rattle.std.specs.Prelude.{◌≡◌, ℕ, ◌+◌, ◌*◌, ◌<◌, ◌≤◌, ◌++◌, ◌^◌, ◌↔◌, [], ◌∷◌, pos, neg_ℤ, ◌*ℤ◌, nat_abs, IfOk, OnOk, IsTrue, All, length, vec_capacity};
 ghost use Rattle.std.specs.List.{flat_map};
 ghost use Rattle.fd_exact.specs.Sums.{list_n};
-ghost use Rattle.dss_profile.specs.Ranges.{IsOneOf};
 ghost use Rattle.dss_profile.specs.InRange.{LoadInRange};
-ghost use Rattle.fd_system.specs.Contributions.{IsDivided, IsSmall, stamp};
+ghost use Rattle.fd_system.specs.Contributions.{IsDivided};
 ghost use Rattle.fd_system.specs.Loads.{impedance_list, linear_list};
-ghost use Rattle.fd_line.specs.Series.{IsSide};
+ghost use Rattle.fd_system.specs.Terminals.{IsSide, node_count};
 ghost use Rattle.fd_elements.specs.Loads.{IsPast};
 ghost use Rattle.fd_devices.specs.Devices.{draw_of as phase_draw};
-ghost use Rattle.fd_devices.specs.Scripted.{load_at, magnitude_place as place_of_magnitude, phases_of, second_node as second_node_of};
+ghost use Rattle.fd_devices.specs.Scripted.{load_at, magnitude_place as place_of_magnitude, phases_of};
 ghost use Rattle.fd_devices.specs.Building.{IsModest, IsUsable};
-ghost use Rattle.fd_devices.specs.Sound.{terminal_nodes};
 
-use dss_profile::{Connection, Load};
-use fd_arith::{NodeAt, Term};
-use fd_elements::{LoadPower, is_load_past, load_phase};
-use fd_system::{LoadAt, add_stamp};
+use dss_profile::Load;
+use fd_arith::{Nodes, Term};
+use fd_elements::{LoadPower, conn_of, is_load_past, load_phase};
+use fd_system::{LoadAt, NodePair, add_shunt, phase_pair, phase_pairs};
 use std::alloc::{AllocError, Global};
 
 // powers are in 10^-3 VA and voltages in microvolts, so a power over a voltage is in 10^9 microamperes
@@ -26,12 +24,12 @@ const PER_UNIT: i128 = 1_000_000_000;
 pub fn load_phases(
     alloc: Global,
     load: &Load,
-    nodes: &[NodeAt],
+    nodes: &Nodes,
     magnitude: u32,
     powers: &[LoadPower],
 ) -> Result<Vec<LoadAt>, AllocError>
     requires range { LoadInRange load.now }
-    requires nodes { IsSide (terminal_nodes load.now.phases) nodes.now }
+    requires nodes { IsSide (node_count load.now.phases) nodes.now }
     requires magnitude { magnitude < 2 ^ 31 }
     requires powers { length powers.now ≡ load.now.phases }
     requires modest { All IsModest powers.now }
@@ -46,9 +44,9 @@ pub fn load_phases(
 }
 
 // Phase k of a load.
-fn phase_at(load: &Load, nodes: &[NodeAt], magnitude: u32, powers: &[LoadPower], k: u32) -> LoadAt
+fn phase_at(load: &Load, nodes: &Nodes, magnitude: u32, powers: &[LoadPower], k: u32) -> LoadAt
     requires range { LoadInRange load.now }
-    requires nodes { IsSide (terminal_nodes load.now.phases) nodes.now }
+    requires nodes { IsSide (node_count load.now.phases) nodes.now }
     requires magnitude { magnitude < 2 ^ 31 }
     requires powers { length powers.now ≡ load.now.phases }
     requires modest { All IsModest powers.now }
@@ -56,31 +54,12 @@ fn phase_at(load: &Load, nodes: &[NodeAt], magnitude: u32, powers: &[LoadPower],
     ensures value { result ≡ load_at load.now nodes.now magnitude powers.now k }
     ensures usable { IsUsable result }
 {
+    let pair = phase_pair(nodes, phase_pairs(load.phases, conn_of(load.conn)), k);
     LoadAt {
         load: load_phase(load, &powers[k as usize]),
-        first: nodes[k as usize],
-        second: second_node(load.conn, load.phases, nodes, k),
+        first: pair.first,
+        second: pair.second,
         magnitude: magnitude_place(load.model, magnitude, k),
-    }
-}
-
-// The node at which phase k gives its current back.
-fn second_node(connection: Connection, phases: u32, nodes: &[NodeAt], k: u32) -> NodeAt
-    requires phases { IsOneOf (1 ∷ 3 ∷ []) phases }
-    requires nodes { IsSide (terminal_nodes phases) nodes.now }
-    requires k_in { k < phases }
-    ensures value { result ≡ second_node_of connection phases nodes.now k }
-    ensures small { IsSmall result }
-{
-    match connection {
-        Connection::Wye => {
-            if phases == 1 {
-                nodes[1]
-            } else {
-                NodeAt::Ground
-            }
-        }
-        Connection::Delta => nodes[((k + 1) % 3) as usize],
     }
 }
 
@@ -126,24 +105,29 @@ fn add_linear(terms: &mut Vec<Term>, phase: &LoadAt) -> Result<(), AllocError>
     ensures { OnOk result (terms.new.items ≡ terms.old.items ++ linear_list phase.now) }
 {
     if phase.load.model == 2 {
-        add_impedance(terms, phase)?;
+        terms.reserve(16)?;
+        add_impedance(terms, phase);
     }
     Ok(())
 }
 
 // The contributions of one phase of constant impedance: (P - j Q) / Vn^2 between its two nodes.
-fn add_impedance(terms: &mut Vec<Term>, phase: &LoadAt) -> Result<(), AllocError>
-    requires { IsUsable phase.now }
-    ensures { OnOk result (terms.new.items ≡ terms.old.items ++ impedance_list phase.now) }
+fn add_impedance(terms: &mut Vec<Term>, phase: &LoadAt)
+    requires phase { IsUsable phase.now }
+    requires room { length terms.old.items + 16 ≤ vec_capacity terms.old }
+    ensures { terms.new.items ≡ terms.old.items ++ impedance_list phase.now }
 {
-    add_between(
+    let pair = NodePair {
+        first: phase.first,
+        second: phase.second,
+    };
+    add_shunt(
         terms,
-        phase.first,
-        phase.second,
+        &pair,
         scaled(phase.load.p),
         opposite(scaled(phase.load.q)),
         square(phase.load.vn),
-    )
+    );
 }
 
 // A power in 10^-9 microamperes at a microvolt.
@@ -170,28 +154,6 @@ fn square(volts: i128) -> i128
     ensures most { nat_abs result ≤ 10 ^ 24 }
 {
     volts * volts
-}
-
-// The contributions of the admittance (re + j im) / den between two nodes.
-fn add_between(
-    terms: &mut Vec<Term>,
-    first: NodeAt,
-    second: NodeAt,
-    re: i128,
-    im: i128,
-    den: i128,
-) -> Result<(), AllocError>
-    requires first_small { IsSmall first }
-    requires second_small { IsSmall second }
-    requires re_fits { nat_abs re ≤ 2 ^ 126 }
-    requires im_fits { nat_abs im ≤ 2 ^ 126 }
-    ensures { OnOk result (terms.new.items ≡ terms.old.items ++ ((stamp first first re im den ++ stamp first second (neg_ℤ re) (neg_ℤ im) den) ++ (stamp second first (neg_ℤ re) (neg_ℤ im) den ++ stamp second second re im den))) }
-{
-    add_stamp(terms, first, first, re, im, den)?;
-    add_stamp(terms, first, second, -re, -im, den)?;
-    add_stamp(terms, second, first, -re, -im, den)?;
-    add_stamp(terms, second, second, re, im, den)?;
-    Ok(())
 }
 
 /// What the phases draw at nominal voltage, in whole microamperes.

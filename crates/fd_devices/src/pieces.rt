@@ -6,13 +6,12 @@ ghost use Rattle.dss_layout.specs.Limits.{most_complex};
 ghost use Rattle.dss_layout.specs.Layout.{branch_phases, complex_count, ends_of, first_magnitude, size_of};
 ghost use Rattle.dss_ready.specs.Counts.{are_matrices_wrong};
 ghost use Rattle.dss_ready.specs.Ranges.{is_source_outside};
+ghost use Rattle.fd_system.specs.Terminals.{IsSide, node_count};
 ghost use Rattle.fd_line.specs.Line.{IsBetween};
-ghost use Rattle.fd_line.specs.Series.{IsSide};
 ghost use Rattle.fd_line.specs.Totals.{IsLine};
 ghost use Rattle.fd_source.specs.Equations.{IsPlaced, IsSource, constants_from};
 ghost use Rattle.fd_xfmr.specs.Leakage.{AreTaps, IsXfmr};
 ghost use Rattle.fd_xfmr.specs.Transformer.{IsBetween as IsXfmrBetween};
-ghost use Rattle.fd_xfmr.specs.Windings.{node_count};
 ghost use Rattle.fd_cap.specs.Capacitor.{IsCap};
 ghost use Rattle.fd_elements.specs.Lines.{line_data_of};
 ghost use Rattle.fd_devices.specs.Devices.{added_by, added_by_all, added_of, beside, capacitor as capacitor_device, line as line_device, loads as load_device, source as source_device, transformer as transformer_device};
@@ -21,14 +20,14 @@ ghost use Rattle.fd_devices.specs.Sources.{source_data_of};
 ghost use Rattle.fd_devices.specs.Settings.{AreOwn, settings_in};
 ghost use Rattle.fd_devices.specs.Scripted.{device_of, phases_of};
 ghost use Rattle.fd_devices.specs.Building.{Fits, IsModest, IsSettled, IsUsable};
-ghost use Rattle.fd_devices.specs.Sound.{HasBranches, HasMagnitudes, IsSideOf, IsSited, IsSound, terminal_nodes};
+ghost use Rattle.fd_devices.specs.Sound.{HasBranches, HasMagnitudes, IsSideOf, IsSited, IsSound};
 
 use crate::data::{cap_data, xfmr_data};
 use crate::phase_loads::{are_in_limits, linear_terms, load_phases, total_draw};
 use crate::settings::OwnSettings;
 use dss_layout::Layout;
 use dss_profile::{Capacitor, Element, Line, Load, Transformer, Vsource};
-use fd_arith::{Ends, NodeAt, TapPair, Term, TermFault};
+use fd_arith::{Ends, Nodes, TapPair, Term, TermFault};
 use fd_cap::{CapData, cap_draw, cap_terms};
 use fd_elements::{LoadPower, line_data, source_data};
 use fd_line::{LineData, line_terms};
@@ -160,7 +159,7 @@ pub fn transformer_piece(
     requires taps { AreTaps taps }
     requires at { IsXfmrBetween xfmr.now.phases at.now }
     ensures added { IfOk result (λ p. added_of p ≡ added_by (transformer_device (xfmr_data_of xfmr.now) taps at.now)) }
-    ensures settled { IfOk result (λ p. (m n size : ℕ) → IsSideOf n (terminal_nodes xfmr.now.phases) at.now.first → IsSideOf n (terminal_nodes xfmr.now.phases) at.now.second → HasBranches n xfmr.now.phases at.now → IsSettled m n size xfmr.now.phases (transformer_device (xfmr_data_of xfmr.now) taps at.now)) }
+    ensures settled { IfOk result (λ p. (m n size : ℕ) → IsSideOf n (node_count xfmr.now.phases) at.now.first → IsSideOf n (node_count xfmr.now.phases) at.now.second → HasBranches n xfmr.now.phases at.now → IsSettled m n size xfmr.now.phases (transformer_device (xfmr_data_of xfmr.now) taps at.now)) }
     ensures range { result ≡ Err TermFault.Range → ¬ (Fits (transformer_device (xfmr_data_of xfmr.now) taps at.now)) }
 {
     transformer_at(alloc, &xfmr_data(xfmr), taps, at)
@@ -176,7 +175,7 @@ fn transformer_at(
     requires taps { AreTaps taps }
     requires at { IsXfmrBetween xfmr.now.phases at.now }
     ensures added { IfOk result (λ p. added_of p ≡ added_by (transformer_device xfmr.now taps at.now)) }
-    ensures settled { IfOk result (λ p. (m n size : ℕ) → IsSideOf n (terminal_nodes xfmr.now.phases) at.now.first → IsSideOf n (terminal_nodes xfmr.now.phases) at.now.second → HasBranches n xfmr.now.phases at.now → IsSettled m n size xfmr.now.phases (transformer_device xfmr.now taps at.now)) }
+    ensures settled { IfOk result (λ p. (m n size : ℕ) → IsSideOf n (node_count xfmr.now.phases) at.now.first → IsSideOf n (node_count xfmr.now.phases) at.now.second → HasBranches n xfmr.now.phases at.now → IsSettled m n size xfmr.now.phases (transformer_device xfmr.now taps at.now)) }
     ensures range { result ≡ Err TermFault.Range → ¬ (Fits (transformer_device xfmr.now taps at.now)) }
 {
     Ok(Piece {
@@ -197,7 +196,7 @@ pub fn capacitor_piece(
     requires range { CapacitorInRange bank.now }
     requires at { IsSide (node_count bank.now.phases) at.now.first }
     ensures added { IfOk result (λ p. added_of p ≡ added_by (capacitor_device (cap_data_of bank.now) closed at.now)) }
-    ensures settled { IfOk result (λ p. (m n size : ℕ) → IsSideOf n (terminal_nodes bank.now.phases) at.now.first → IsSettled m n size 0 (capacitor_device (cap_data_of bank.now) closed at.now)) }
+    ensures settled { IfOk result (λ p. (m n size : ℕ) → IsSideOf n (node_count bank.now.phases) at.now.first → IsSettled m n size 0 (capacitor_device (cap_data_of bank.now) closed at.now)) }
     ensures range { result ≡ Err TermFault.Range → ¬ (Fits (capacitor_device (cap_data_of bank.now) closed at.now)) }
 {
     capacitor_at(alloc, &cap_data(bank), closed, at)
@@ -207,7 +206,7 @@ fn capacitor_at(alloc: Global, bank: &CapData, closed: bool, at: &Ends) -> Resul
     requires bank { IsCap bank.now }
     requires at { IsSide (node_count bank.now.phases) at.now.first }
     ensures added { IfOk result (λ p. added_of p ≡ added_by (capacitor_device bank.now closed at.now)) }
-    ensures settled { IfOk result (λ p. (m n size : ℕ) → IsSideOf n (terminal_nodes bank.now.phases) at.now.first → IsSettled m n size 0 (capacitor_device bank.now closed at.now)) }
+    ensures settled { IfOk result (λ p. (m n size : ℕ) → IsSideOf n (node_count bank.now.phases) at.now.first → IsSettled m n size 0 (capacitor_device bank.now closed at.now)) }
     ensures range { result ≡ Err TermFault.Range → ¬ (Fits (capacitor_device bank.now closed at.now)) }
 {
     Ok(Piece {
@@ -223,17 +222,17 @@ fn capacitor_at(alloc: Global, bank: &CapData, closed: bool, at: &Ends) -> Resul
 pub fn load_piece(
     alloc: Global,
     load: &Load,
-    nodes: &[NodeAt],
+    nodes: &Nodes,
     magnitude: u32,
     powers: &[LoadPower],
 ) -> Result<Piece, TermFault>
     requires range { LoadInRange load.now }
-    requires nodes { IsSide (terminal_nodes load.now.phases) nodes.now }
+    requires nodes { IsSide (node_count load.now.phases) nodes.now }
     requires magnitude { magnitude < 2 ^ 31 }
     requires powers { length powers.now ≡ load.now.phases }
     requires modest { All IsModest powers.now }
     ensures added { IfOk result (λ p. added_of p ≡ added_by (load_device (phases_of load.now nodes.now magnitude powers.now))) }
-    ensures settled { IfOk result (λ p. (m n size : ℕ) → m ≤ n → IsSideOf m (terminal_nodes load.now.phases) nodes.now → (load.now.model ≡ 5 → HasMagnitudes n size load.now.phases magnitude) → IsSettled m n size 0 (load_device (phases_of load.now nodes.now magnitude powers.now))) }
+    ensures settled { IfOk result (λ p. (m n size : ℕ) → m ≤ n → IsSideOf m (node_count load.now.phases) nodes.now → (load.now.model ≡ 5 → HasMagnitudes n size load.now.phases magnitude) → IsSettled m n size 0 (load_device (phases_of load.now nodes.now magnitude powers.now))) }
     ensures range { result ≡ Err TermFault.Range → ¬ (Fits (load_device (phases_of load.now nodes.now magnitude powers.now))) }
 {
     let phases = load_phases(alloc, load, nodes, magnitude, powers)?;
@@ -309,7 +308,7 @@ pub fn piece_of(
             load_piece(
                 alloc,
                 load,
-                at.first.as_slice(),
+                &at.first,
                 layout.first_magnitude(place),
                 own.powers,
             )

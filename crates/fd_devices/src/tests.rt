@@ -336,7 +336,7 @@ fn line(rt: HostRuntime) -> Result<(), Fail> {
 #[test]
 fn load_of_constant_current(rt: HostRuntime) -> Result<(), Fail> {
     let alloc = rt.alloc();
-    let nodes = [NodeAt::Node(0), NodeAt::Node(1), NodeAt::Node(2)];
+    let nodes = Nodes::new(vec![in alloc; NodeAt::Node(0), NodeAt::Node(1), NodeAt::Node(2)]?);
     let (p, q) = (100_000_000, 0);
     let powers = [LoadPower { p, q }, LoadPower { p, q }, LoadPower { p, q }];
     let mut load = Load::fresh(place(alloc)?);
@@ -360,7 +360,7 @@ fn load_of_constant_current(rt: HostRuntime) -> Result<(), Fail> {
 #[test]
 fn load_of_constant_impedance(rt: HostRuntime) -> Result<(), Fail> {
     let alloc = rt.alloc();
-    let nodes = [NodeAt::Node(0), NodeAt::Ground];
+    let nodes = Nodes::new(vec![in alloc; NodeAt::Node(0), NodeAt::Ground]?);
     let (p, q) = (100_000_000, 0);
     let mut load = Load::fresh(place(alloc)?);
     load.phases = 1;

@@ -1,3 +1,4 @@
+pub mod Connections
 pub mod Volts
 pub mod Lines
 pub mod Sources

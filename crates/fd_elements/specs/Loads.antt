@@ -1,19 +1,15 @@
 -- A phase of a load: its voltages, and its limits.
-use Rattle.std.specs.Prelude.{ℕ, ◌+◌, ◌*◌, ◌^◌, ◌<◌, ◌⊎◌, ℤ, pos, ◌≤ℤ◌, nat_abs, cond, eqb}
-use Rattle.dss_values.specs.declared.words.Connection.{Connection}
-use Rattle.dss_values.specs.declared.words.Connection.TheVariants as connection
+use Rattle.std.specs.Prelude.{ℕ, ◌+◌, ◌*◌, ◌^◌, ◌<◌, ◌⊎◌, ℤ, pos, ◌≤ℤ◌, nat_abs}
 use Rattle.dss_profile.specs.declared.load.Load.{Load}
 use Rattle.fd_system.specs.declared.loads.LoadPhase.{LoadPhase}
+use Rattle.fd_system.specs.Terminals.{phase_volts}
 use Rattle.fd_elements.specs.declared.powers.LoadPower.{LoadPower}
-use Rattle.fd_elements.specs.Volts.{over_root_three, part_of}
+use Rattle.fd_elements.specs.Connections.{conn_of}
+use Rattle.fd_elements.specs.Volts.{part_of}
 
--- the nominal voltage of a phase: that of three phases in wye is given between phases
-abbrev pub nominal_by : Connection → ℕ → ℤ → ℤ
-nominal_by connection.Delta phases kv = kv
-nominal_by connection.Wye phases kv = cond (eqb phases 1) kv (over_root_three kv)
-
+-- the nominal voltage of a phase
 abbrev pub nominal_of : Load → ℤ
-nominal_of load = nominal_by load.conn load.phases load.kv
+nominal_of load = phase_volts load.phases (conn_of load.conn) load.kv
 
 abbrev pub load_phase_of : Load → LoadPower → LoadPhase
 load_phase_of load power = record {

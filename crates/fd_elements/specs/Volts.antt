@@ -1,14 +1,7 @@
 -- Voltages of elements, in whole microvolts: a voltage in 10^-9 kV is one in microvolts.
 use Rattle.std.specs.Prelude.{ℕ, ◌^◌, ℤ, pos, ◌*ℤ◌}
 use Rattle.fd_exact.specs.Rounding.{near_div}
-
--- root three, in 10^-15
-abbrev pub root_three : ℕ
-root_three = 1732050807568877
-
--- a voltage between phases as that of a phase, to the nearest microvolt
-abbrev pub over_root_three : ℤ → ℤ
-over_root_three volts = near_div (volts *ℤ pos (10 ^ 15)) root_three
+use Rattle.fd_system.specs.Terminals.{root_three}
 
 -- a part, in 10^-9, of a voltage, to the nearest microvolt
 abbrev pub part_of : ℤ → ℤ → ℤ

@@ -5,10 +5,11 @@
 // them are in the ranges that the equations of these elements require; that Range is the answer exactly for a source by short-circuit power with
 // more than 10^4 ohm, which the tests of Solve refuse too; and when a load is past its limit.
 //
-// Modules: `rounding` rounds quotients to the nearest, `volts` has voltages of phases, `lines`, `sources` and `loads` the data of the
+// Modules: `connections` has the connection of phases, `rounding` rounds quotients to the nearest, `volts` has voltages of phases, `lines`, `sources` and `loads` the data of the
 // elements, `powers` the powers of loads, `laws` says that there is just one answer.
 #![tactic(auto)]
 
+mod connections;
 mod laws;
 mod lines;
 mod loads;
@@ -17,6 +18,7 @@ mod rounding;
 mod sources;
 mod volts;
 
+pub use connections::conn_of;
 pub use laws::{power_law, source_law};
 pub use lines::line_data;
 pub use loads::{is_load_past, load_phase};

@@ -1,16 +1,17 @@
 // The phases of loads.
 ghost use Rattle.std.specs.Prelude.{◌≡◌, ℕ, ◌*◌, ◌^◌, ◌≤◌, ℤ, pos, ◌≤ℤ◌, nat_abs, IsTrue, ◌↔◌};
 ghost use Rattle.dss_values.specs.Forms.{ones};
-ghost use Rattle.dss_profile.specs.Ranges.{IsBetween, IsKilovolt};
+ghost use Rattle.dss_profile.specs.Ranges.{IsBetween};
 ghost use Rattle.dss_profile.specs.InRange.{LoadInRange};
 ghost use Rattle.fd_elements.specs.Volts.{part_of as volts_part};
 ghost use Rattle.fd_elements.specs.Powers.{ArePowers};
-ghost use Rattle.fd_elements.specs.Loads.{AreVoltages, IsPast, load_phase_of, nominal_by};
+ghost use Rattle.fd_elements.specs.Loads.{AreVoltages, IsPast, load_phase_of};
 
+use crate::connections::conn_of;
 use crate::powers::LoadPower;
-use crate::volts::{over_root_three, part_of};
-use dss_profile::{Connection, Load};
-use fd_system::LoadPhase;
+use crate::volts::part_of;
+use dss_profile::Load;
+use fd_system::{LoadPhase, phase_volts};
 
 // 100 megavolt-ampere
 const MOST_POWER: u128 = 100_000_000_000;
@@ -29,7 +30,7 @@ pub fn load_phase(load: &Load, power: &LoadPower) -> LoadPhase
     ensures phase { result ≡ load_phase_of load.now power.now }
     ensures voltages { AreVoltages result }
 {
-    let vn = nominal(load.conn, load.phases, load.kv);
+    let vn = phase_volts(load.phases, conn_of(load.conn), load.kv);
     LoadPhase {
         model: load.model as u8,
         p: power.p,
@@ -38,28 +39,6 @@ pub fn load_phase(load: &Load, power: &LoadPower) -> LoadPhase
         vlo: low(load.vminpu, vn),
         vhi: high(load.vmaxpu, vn),
     }
-}
-
-// The nominal voltage of a phase.
-fn nominal(conn: Connection, phases: u32, kv: i128) -> i128
-    requires { IsKilovolt kv }
-    ensures value { result ≡ nominal_by conn phases kv }
-    ensures least { pos (5 * 10 ^ 6) ≤ℤ result }
-    ensures most { result ≤ℤ pos (10 ^ 12) }
-{
-    match conn {
-        Connection::Wye => wye(phases, kv),
-        Connection::Delta => kv,
-    }
-}
-
-fn wye(phases: u32, kv: i128) -> i128
-    requires { IsKilovolt kv }
-    ensures value { result ≡ nominal_by Connection.Wye phases kv }
-    ensures least { pos (5 * 10 ^ 6) ≤ℤ result }
-    ensures most { result ≤ℤ pos (10 ^ 12) }
-{
-    if phases == 1 { kv } else { over_root_three(kv) }
 }
 
 // The lower limit of a nominal voltage, a part of it in 10^-9.

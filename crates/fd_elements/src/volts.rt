@@ -1,23 +1,12 @@
 // Voltages of phases, in whole microvolts.
 ghost use Rattle.std.specs.Prelude.{◌≡◌, ℕ, ◌*◌, ◌^◌, ℤ, pos, ◌*ℤ◌, ◌≤ℤ◌};
 ghost use Rattle.fd_exact.specs.Ranges.{UpTo};
-ghost use Rattle.fd_elements.specs.Volts.{over_root_three as volts_over_root_three, part_of as volts_part, part_over_root_three as volts_part_over_root_three};
+ghost use Rattle.fd_elements.specs.Volts.{part_of as volts_part, part_over_root_three as volts_part_over_root_three};
 
 use crate::rounding::nearest;
 
 // root three, in 10^-15
 const ROOT_THREE: u128 = 1_732_050_807_568_877;
-
-/// A voltage between phases as that of a phase.
-pub fn over_root_three(volts: i128) -> i128
-    requires least { pos (10 ^ 7) ≤ℤ volts }
-    requires most { volts ≤ℤ pos (10 ^ 12) }
-    ensures value { result ≡ volts_over_root_three volts }
-    ensures least { pos (5 * 10 ^ 6) ≤ℤ result }
-    ensures most { result ≤ℤ pos (10 ^ 12) }
-{
-    nearest(volts * 1_000_000_000_000_000, ROOT_THREE)
-}
 
 /// A part, in 10^-9, of a voltage.
 pub fn part_of(part: i128, volts: i128) -> i128

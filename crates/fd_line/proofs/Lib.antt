@@ -1,5 +1,3 @@
-pub mod Series
-pub mod Line
-pub mod Steps
-pub mod Bounds
-pub mod Quotients
+mod Line
+mod Bounds
+pub mod CallerLemmas

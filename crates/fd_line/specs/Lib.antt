@@ -1,3 +1,3 @@
-pub mod Series
 pub mod Totals
 pub mod Line
+pub mod Laws

@@ -8,7 +8,8 @@ use Rattle.fd_system.specs.Complex.{Complex, complex, ◌⊞◌, ◌⊟◌, ◌�
 use Rattle.fd_system.specs.Contributions.{stamp, each}
 use Rattle.fd_system.specs.Equations.{unknown, Part, both}
 use Rattle.fd_line.specs.declared.data.LineData.{LineData}
-use Rattle.fd_line.specs.Series.{IsSide, branch_of, drop_list, drop_of, node_of}
+use Rattle.fd_system.specs.Terminals.{IsSide, branch_of, node_of}
+use Rattle.fd_system.specs.Series.{drop_list, drop_of}
 use Rattle.fd_line.specs.Totals.{angular_frequency, capacitance_of, reactance_of, resistance_of}
 
 -- ---- the equations

@@ -9,7 +9,7 @@ use Rattle.fd_line.specs.declared.data.LineForm.{LineForm}
 use Rattle.fd_line.specs.declared.data.LineForm.TheVariants as line_form
 use Rattle.fd_line.specs.declared.data.ChargeForm.{ChargeForm}
 use Rattle.fd_line.specs.declared.data.ChargeForm.TheVariants as charge_form
-use Rattle.fd_line.specs.Series.{sequence_entry}
+use Rattle.fd_system.specs.Series.{sequence_entry}
 
 -- ---- entries per unit of length, in 10^-9 ohm and 10^-9 nanofarad
 

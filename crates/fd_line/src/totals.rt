@@ -6,15 +6,16 @@ ghost use Rattle.fd_exact.specs.Ranges.{Within};
 ghost use Rattle.fd_line.specs.Totals.{IsForm, IsCharge, IsLine, IsMatrix, angular_frequency, capacitance_of, over_length, reactance_of, resistance_of};
 
 use crate::data::{ChargeForm, Entries, LineData, LineForm};
-use crate::rounding::floor_of_product;
-use crate::sequence::thirds;
+use fd_arith::floor_of_product;
+use fd_system::thirds;
 
 // what 10^-18 ohm and 10^-27 farad are counted in
 const PER_OHM_STEP: u128 = 1_000_000;
 
 const PER_FARAD_STEP: u128 = 1_000_000_000_000;
 
-/// The resistance between phases k and m over the whole line, in whole 10^-12 ohm.
+/// The resistance between phases k and m over the whole line, in whole 10^-12 ohm and rounded down: the real part of an entry of its
+/// series impedance (Kersting, series impedance of lines).
 pub fn resistance(line: &LineData, k: u32, m: u32) -> i128
     requires line { IsLine line.now }
     requires k_in { k < line.now.phases }
@@ -30,7 +31,8 @@ pub fn resistance(line: &LineData, k: u32, m: u32) -> i128
     }
 }
 
-/// The reactance between phases k and m over the whole line, in whole 10^-12 ohm.
+/// The reactance between phases k and m over the whole line, in whole 10^-12 ohm and rounded down: the imaginary part of an entry of
+/// its series impedance (Kersting, series impedance of lines).
 pub fn reactance(line: &LineData, k: u32, m: u32) -> i128
     requires line { IsLine line.now }
     requires k_in { k < line.now.phases }

@@ -2,6 +2,7 @@
 use Rattle.std.proofs.Common.{◌≡◌, ℕ, ◌==◌, ◌≤◌, nat_le, Bool, true, false, ◌&&◌, inl, inr, if◌then◌else◌, List, [], ◌∷◌, length, take, Option, Some, None, Result, Ok, Err, refl, sym, ap, subst, ◌∙◌}
 use Rattle.std.proofs.lemmas.Bool.{eqb-true}
 use Rattle.std.proofs.lemmas.List.{length-map, length-take-le}
+use Rattle.fd_system.specs.Terminals.{node_count}
 use Rattle.dss_values.specs.declared.bus.Bus.{Bus}
 use Rattle.dss_values.specs.declared.words.Connection.{Connection}
 use Rattle.dss_values.specs.declared.words.Connection.TheVariants.{Wye, Delta}
@@ -13,7 +14,6 @@ use Rattle.dss_layout.specs.declared.terminals.Terminals.{Terminals}
 use Rattle.dss_layout.specs.declared.numbers.TerminalFault.{TerminalFault}
 use Rattle.dss_layout.specs.declared.numbers.TerminalFault.TheVariants.{WrongCount, Unsupported}
 use Rattle.dss_layout.specs.Terminals.{three_phase_numbers, one_phase_numbers, phase_numbers, one_source_number, source_numbers, line_numbers, bus_numbers, at_one_bus, at_two_buses, terminal_numbers, tested, first_bus, second_bus, named_at, nodes_by, terminals_of}
-use Rattle.fd_devices.specs.Sound.{terminal_nodes}
 
 -- ---- the numbers of one bus
 
@@ -48,9 +48,9 @@ one_counts Delta (a ∷ []) numbers h = cc
 one_counts Delta (a ∷ b ∷ []) numbers h = counted (a ∷ b ∷ []) numbers 2 h refl
 one_counts Delta (a ∷ b ∷ c ∷ more) numbers h = cc
 
-phase_counts : (phases : ℕ) (connection : Connection) → IsOneOf (1 ∷ 3 ∷ []) phases → Counts (phase_numbers phases connection) (terminal_nodes phases)
-phase_counts phases connection (inl h) = subst (λ n. Counts (phase_numbers n connection) (terminal_nodes n)) (sym h) (one_counts connection)
-phase_counts phases connection (inr h) = subst (λ n. Counts (phase_numbers n connection) (terminal_nodes n)) (sym h) three_counts
+phase_counts : (phases : ℕ) (connection : Connection) → IsOneOf (1 ∷ 3 ∷ []) phases → Counts (phase_numbers phases connection) (node_count phases)
+phase_counts phases connection (inl h) = subst (λ n. Counts (phase_numbers n connection) (node_count n)) (sym h) (one_counts connection)
+phase_counts phases connection (inr h) = subst (λ n. Counts (phase_numbers n connection) (node_count n)) (sym h) three_counts
 
 one_source_counts : Counts one_source_number 1
 one_source_counts [] numbers h = counted (1 ∷ []) numbers 1 h refl
@@ -134,15 +134,15 @@ module _ (e : Element) where
 abbrev pub first_count : Element → ℕ
 first_count (the.Vsource v) = v.phases
 first_count (the.Line l) = l.phases
-first_count (the.Transformer t) = terminal_nodes t.phases
-first_count (the.Capacitor c) = terminal_nodes c.phases
-first_count (the.Load l) = terminal_nodes l.phases
+first_count (the.Transformer t) = node_count t.phases
+first_count (the.Capacitor c) = node_count c.phases
+first_count (the.Load l) = node_count l.phases
 first_count other = 0
 
 -- and at its second bus
 abbrev pub second_count : Element → ℕ
 second_count (the.Line l) = l.phases
-second_count (the.Transformer t) = terminal_nodes t.phases
+second_count (the.Transformer t) = node_count t.phases
 second_count other = 0
 
 pub side_counts : (e : Element) → ElementInRange e → tested (terminal_numbers e) ≡ Ok tt → HasCounts (first_count e) (second_count e) (terminals_of e)
@@ -152,12 +152,12 @@ side_counts (the.Line l) r h =
     two_sides (the.Line l) (line_numbers l.phases) (line_numbers l.phases) l.bus1 l.bus2 l.phases refl refl counts counts h
 side_counts (the.Transformer t) r h =
     two_sides (the.Transformer t) (phase_numbers t.phases t.first.conn) (phase_numbers t.phases t.second.conn)
-    t.first.bus t.second.bus (terminal_nodes t.phases) refl refl
+    t.first.bus t.second.bus (node_count t.phases) refl refl
     (phase_counts t.phases t.first.conn r.phases) (phase_counts t.phases t.second.conn r.phases) h
 side_counts (the.Capacitor c) r h =
-    one_side (the.Capacitor c) (phase_numbers c.phases c.conn) c.bus1 (terminal_nodes c.phases) refl refl (phase_counts c.phases c.conn r.phases) h
+    one_side (the.Capacitor c) (phase_numbers c.phases c.conn) c.bus1 (node_count c.phases) refl refl (phase_counts c.phases c.conn r.phases) h
 side_counts (the.Load l) r h =
-    one_side (the.Load l) (phase_numbers l.phases l.conn) l.bus1 (terminal_nodes l.phases) refl refl (phase_counts l.phases l.conn r.phases) h
+    one_side (the.Load l) (phase_numbers l.phases l.conn) l.bus1 (node_count l.phases) refl refl (phase_counts l.phases l.conn r.phases) h
 side_counts (the.Linecode c) r h = record { at_first = refl; at_second = refl }
 side_counts (the.RegControl c) r h = record { at_first = refl; at_second = refl }
 side_counts (the.CapControl c) r h = record { at_first = refl; at_second = refl }

@@ -1,3 +1,4 @@
 pub mod Squares
-pub mod Rows
-pub mod Impedances
+mod Rows
+mod Impedances
+pub mod CallerLemmas

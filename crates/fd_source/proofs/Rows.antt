@@ -1,5 +1,5 @@
 -- The constants and contributions of a source are its equations.
-use Rattle.std.proofs.Common.{◌≡◌, ◌∙◌, ℕ, zero, suc, ◌+◌, ◌*◌, ◌<◌, ℤ, pos, negsuc, Bool, true, false, cond, List, [], ◌∷◌, ◌++◌, length, length-append, arith, ap, sym, refl, subst, lit<}
+use Rattle.std.proofs.Common.{◌≡◌, ◌∙◌, ℕ, zero, suc, ◌+◌, ◌*◌, ◌<◌, ◌≤◌, ◌^◌, ℤ, pos, negsuc, neg_ℤ, Bool, true, false, cond, List, [], ◌∷◌, ◌++◌, length, length-append, arith, ap, sym, refl, subst, lit<}
 use Rattle.std.specs.List.{All}
 use Rattle.std.proofs.lemmas.List.Elements.{All-append}
 use Rattle.fd_exact.specs.Fractions.{Fraction, ◌⊕◌, nothing, Same}
@@ -14,14 +14,13 @@ use Rattle.fd_system.specs.Complex.{Complex, complex, ◌⊞◌, negative}
 use Rattle.fd_system.specs.Contributions.{row_sum, stamp, each, IsDivided}
 use Rattle.fd_system.specs.Equations.{unknown, Part, side, equation}
 use Rattle.fd_system.specs.System.{constant_given, linear_of, Represents}
-use Rattle.fd_system.proofs.Divided.{stamp_divided, each_divided}
-use Rattle.fd_system.proofs.Shares.{linear_row}
-use Rattle.fd_system.proofs.StampRows.{same_place, row-append, row_sum-append, equation-append, minus_stamp, single, side-plus, side-pos, apart}
-use Rattle.fd_line.specs.Series.{branch_of, drop_list, drop_of, node_of}
-use Rattle.fd_line.proofs.Series.{drops_add, drops_divided}
+use Rattle.fd_system.specs.Terminals.{branch_of, node_of}
+use Rattle.fd_system.specs.Series.{drop_at, drop_list, drop_of}
+use Rattle.fd_system.proofs.CallerLemmas.{same_place, row-append, row_sum-append, equation-append, minus_stamp, single, side-plus, side-pos, apart, linear_row, stamp_divided, each_divided, drops_add, drops_divided, joined_few, each_few, stamp_few, real_few}
 use Rattle.fd_source.specs.declared.data.SourceData.{SourceData}
 use Rattle.fd_source.specs.Phasors.{volts_im, volts_re}
 use Rattle.fd_source.specs.Equations.{constants_from, phase_constants, phase_list, reactance_of, resistance_of, share_of, source_constants, source_list, source_parts, source_phase}
+use Rattle.fd_source.specs.Laws.{SourceLaw}
 
 -- ---- constants of rows that follow one another
 
@@ -83,7 +82,7 @@ each_linear : (c : ℕ → List Constant) (t : ℕ → List Term) (p : ℕ → L
 each_linear c t p x l zero h = subst (λ s. Same s nothing) (sym (nothing-plus nothing)) Same-nothing
 each_linear c t p x l (suc n) h = rw (linear-append (each c n) (c n) (each t n) (t n) x l, equation-append l (each p n) (p n)) (Same-plus (each_linear c t p x l n h) (h n))
 
-pub source_represents : (s : SourceData) (at : Ends) → Represents (share_of at (source_constants s) (source_list s at)) (source_parts s at)
+source_represents : (s : SourceData) (at : Ends) → Represents (share_of at (source_constants s) (source_list s at)) (source_parts s at)
 source_represents s at x o l =
     let r = each_linear (at_phase s at) (phase_list s at) (source_phase s at x) x l s.phases (λ m. phase_row s at x o m l) in
     linear_row _ _ x l (source_parts s at x) (subst (λ c. Same (linear_of c (source_list s at) x l) (equation l (source_parts s at x))) (sym (placed s at s.phases)) r)
@@ -101,5 +100,25 @@ phase_divided s at k =
     whole : (r c : NodeAt) → All IsDivided (stamp r c (negsuc 0) (pos 0) (pos 1))
     whole r c = stamp_divided (pos 1) (record { lt = tt }) (record { le = tt }) r c (negsuc 0) (pos 0)
 
-pub source_divided : (s : SourceData) (at : Ends) → All IsDivided (source_list s at)
+source_divided : (s : SourceData) (at : Ends) → All IsDivided (source_list s at)
 source_divided s at = each_divided (phase_list s at) s.phases (phase_divided s at)
+
+-- ---- their number
+
+module _ (s : SourceData) (at : Ends) (h : s.phases ≤ 3) where
+  phase_few : (k : ℕ) → length (phase_list s at k) ≤ 16
+  phase_few k =
+      let r = branch_of at.branch k in
+      let p = node_of at.first k in
+      let drops = each_few 4 (drop_at (resistance_of s) (reactance_of s) at.branch k) s.phases
+      (λ m. stamp_few r (branch_of at.branch m) (neg_ℤ (resistance_of s k m)) (neg_ℤ (reactance_of s k m)) (pos (10 ^ 12))) in
+      let all = joined_few (2 + s.phases * 4) 2 _ (stamp p r (negsuc 0) (pos 0) (pos 1))
+      (joined_few 2 (s.phases * 4) (stamp r p (negsuc 0) (pos 0) (pos 1)) (drop_list (resistance_of s) (reactance_of s) at.branch s.phases k) (real_few r p (negsuc 0) (pos 1)) drops)
+      (real_few p r (negsuc 0) (pos 1)) in
+      omega (arith, all)
+
+  source_few : length (source_list s at) ≤ 16 * s.phases
+  source_few = let all = each_few 16 (phase_list s at) s.phases phase_few in omega (arith, all)
+
+pub source_is : SourceLaw
+source_is s at = record { represents = source_represents s at; divided = source_divided s at; few = source_few s at }

@@ -10,7 +10,8 @@ use Rattle.fd_system.specs.Complex.{complex, ◌⊟◌, negative}
 use Rattle.fd_system.specs.Contributions.{stamp, each}
 use Rattle.fd_system.specs.Equations.{unknown, Part, both}
 use Rattle.fd_system.specs.System.{Share}
-use Rattle.fd_line.specs.Series.{IsSide, branch_of, drop_list, drop_of, node_of, three_times}
+use Rattle.fd_system.specs.Terminals.{IsSide, branch_of, node_of}
+use Rattle.fd_system.specs.Series.{drop_list, drop_of, three_times}
 use Rattle.fd_source.specs.declared.data.SourceData.{SourceData}
 use Rattle.fd_source.specs.Phasors.{volts_im, volts_re}
 use Rattle.fd_source.specs.Powers.{AreWithin}

@@ -1,3 +1,4 @@
 pub mod Powers
 pub mod Phasors
 pub mod Equations
+pub mod Laws

@@ -6,18 +6,20 @@
 // contribution is past 2^54 units of 2^-40, or a short-circuit impedance above 10^4 ohm.
 //
 // Modules: `data` has the types, `resistance` finds the greatest resistance, `ohms` the impedances, `voltage` the parts of the
-// phase voltages, `terms` the contributions and constants.
+// phase voltages, `terms` the contributions and constants, `laws` what is true of the stated lists.
 #![tactic(auto)]
 
 mod data;
+mod laws;
 mod ohms;
 mod resistance;
 mod terms;
 mod voltage;
 
 pub use data::{Ohms, ShortCircuit, SourceData, SourceTerms};
+pub use laws::source_law;
 pub use ohms::source_ohms;
-pub use terms::source_terms;
+pub use terms::{impedance, source_terms};
 
 #[cfg(test)]
 mod tests;

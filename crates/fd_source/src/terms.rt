@@ -1,20 +1,19 @@
 // The contributions and constants of a source.
-ghost use Rattle.std.specs.Prelude.{◌≡◌, ℕ, ◌+◌, ◌*◌, ◌<◌, ◌≤◌, ◌++◌, ◌^◌, ℤ, pos, nat_abs, OnOk, IfOk, All};
+ghost use Rattle.std.specs.Prelude.{◌≡◌, ℕ, ◌+◌, ◌*◌, ◌<◌, ◌≤◌, ◌++◌, ◌^◌, ℤ, pos, nat_abs, OnOk, IfOk, length, vec_capacity, All};
 ghost use Rattle.fd_system.specs.Contributions.{each, IsDivided, IsWithin};
 ghost use Rattle.fd_system.specs.System.{Represents};
-ghost use Rattle.fd_line.specs.Series.{drop_list};
+ghost use Rattle.fd_system.specs.Series.{drop_list};
 ghost use Rattle.fd_exact.specs.Ranges.{UpTo};
 ghost use Rattle.fd_source.specs.Equations.{IsPlaced, IsSource, ohms_by, phase_constants, phase_list, reactance_of, resistance_of, share_of, source_constants, source_list, source_parts};
 
 use crate::data::{SourceData, SourceTerms};
 use crate::voltage::phase_voltage;
-use fd_arith::{Ends, NodeAt, Term, TermFault};
-use fd_line::{floor_of_product, node, thirds};
-use fd_system::{add_stamp, all_within};
+use fd_arith::{Ends, NodeAt, Term, TermFault, floor_of_product};
+use fd_system::{add_drop, add_real, all_within, node, thirds};
 use std::alloc::{AllocError, Global};
 
-/// Impedances are in whole numbers of this part of an ohm.
-const PER_OHM: i128 = 1_000_000_000_000;
+// a phase has at most this many contributions: 14 in the row of its branch and 2 in that of its node
+const MOST_OF_PHASE: usize = 16;
 
 /// The contributions and constants of a source at its nodes, in rows of microamperes at its nodes and of microvolts at its branches:
 /// they add up to its equations, a voltage behind an impedance, at every state. Range exactly where a contribution is past 2^54
@@ -28,6 +27,8 @@ pub fn source_terms(alloc: Global, source: &SourceData, at: &Ends) -> Result<Sou
     ensures terms { IfOk result (λ s. s.terms.items ≡ source_list source.now at.now) }
     ensures constants { IfOk result (λ s. s.constants.items ≡ source_constants source.now) }
     ensures represents { IfOk result (λ s. Represents (share_of at.now s.constants.items s.terms.items) (source_parts source.now at.now)) }
+    ensures divided { IfOk result (λ s. All IsDivided s.terms.items) }
+    ensures few { IfOk result (λ s. length s.terms.items ≤ 16 * source.now.phases) }
     ensures within { IfOk result (λ s. All IsWithin s.terms.items) }
     ensures range { result ≡ Err TermFault.Range → ¬ All IsWithin (source_list source.now at.now) }
 {
@@ -67,57 +68,62 @@ fn terms_of(alloc: Global, source: &SourceData, at: &Ends) -> Result<Vec<Term>, 
     requires at { IsPlaced source.now.phases at.now }
     ensures list { IfOk result (λ v. v.items ≡ source_list source.now at.now) }
     ensures divided { IfOk result (λ v. All IsDivided v.items) }
+    ensures few { IfOk result (λ v. length v.items ≤ 16 * source.now.phases) }
 {
-    let mut terms = Vec::new(alloc);
+    let mut terms = Vec::with_capacity(alloc, MOST_OF_PHASE * source.phases as usize)?;
     for k in 0..source.phases {
-        add_phase(&mut terms, source, at, k)?;
+        add_phase(&mut terms, source, at, k);
     }
     Ok(terms)
 }
 
 // The voltage equation of phase k, and the current that enters its node.
-fn add_phase(
-    terms: &mut Vec<Term>,
-    source: &SourceData,
-    at: &Ends,
-    k: u32,
-) -> Result<(), AllocError>
+fn add_phase(terms: &mut Vec<Term>, source: &SourceData, at: &Ends, k: u32)
     requires source { IsSource source.now }
     requires at { IsPlaced source.now.phases at.now }
     requires k_in { k < source.now.phases }
-    ensures { OnOk result (terms.new.items ≡ terms.old.items ++ phase_list source.now at.now k) }
+    requires room { length terms.old.items + 16 ≤ vec_capacity terms.old }
+    ensures items { terms.new.items ≡ terms.old.items ++ phase_list source.now at.now k }
+    ensures capacity { vec_capacity terms.new ≡ vec_capacity terms.old }
+    ensures few { length terms.new.items ≤ length terms.old.items + 16 }
 {
     let (row, col) = (NodeAt::Node(at.branch + k), node(&at.first, k));
-    add_stamp(terms, row, col, -1, 0, 1)?;
-    add_drops(terms, source, at.branch, k)?;
-    add_stamp(terms, col, row, -1, 0, 1)?;
-    Ok(())
+    add_real(terms, row, col, -1, 1);
+    add_drops(terms, source, at.branch, k);
+    add_real(terms, col, row, -1, 1);
 }
 
 // What the currents take from the voltage of phase k.
-fn add_drops(
-    terms: &mut Vec<Term>,
-    source: &SourceData,
-    branch: u32,
-    k: u32,
-) -> Result<(), AllocError>
+fn add_drops(terms: &mut Vec<Term>, source: &SourceData, branch: u32, k: u32)
     requires source { IsSource source.now }
     requires branch { branch < 2 ^ 30 }
     requires k_in { k < source.now.phases }
-    ensures { OnOk result (terms.new.items ≡ terms.old.items ++ drop_list (resistance_of source.now) (reactance_of source.now) branch source.now.phases k) }
+    requires room { length terms.old.items + 12 ≤ vec_capacity terms.old }
+    ensures items { terms.new.items ≡ terms.old.items ++ drop_list (resistance_of source.now) (reactance_of source.now) branch source.now.phases k }
+    ensures capacity { vec_capacity terms.new ≡ vec_capacity terms.old }
+    ensures few { length terms.new.items ≤ length terms.old.items + 12 }
 {
-    let row = NodeAt::Node(branch + k);
     for m in 0..source.phases {
-        let col = NodeAt::Node(branch + m);
-        let r = ohms(source.ohms.r1, source.ohms.r0, k, m);
-        let x = ohms(source.ohms.x1, source.ohms.x0, k, m);
-        add_stamp(terms, row, col, -r, -x, PER_OHM)?;
+        let (r, x) = impedance(source, k, m);
+        add_drop(terms, branch, k, m, r, x);
     }
-    Ok(())
+}
+
+/// The impedance r + j x between phases k and m of a source, both in whole 10^-12 ohm and rounded down (Kersting, sequence impedances;
+/// the rounding is this profile's).
+pub fn impedance(source: &SourceData, k: u32, m: u32) -> (i128, i128)
+    requires source { IsSource source.now }
+    ensures r { result.0 ≡ resistance_of source.now k m }
+    ensures x { result.1 ≡ reactance_of source.now k m }
+    ensures r_within { nat_abs result.0 ≤ 10 ^ 30 }
+    ensures x_within { nat_abs result.1 ≤ 10 ^ 30 }
+{
+    let ohms = &source.ohms;
+    (entry(ohms.r1, ohms.r0, k, m), entry(ohms.x1, ohms.x0, k, m))
 }
 
 // The entry in row k and column m by sequence values in 10^-9 ohm, rounded down to 10^-12 ohm.
-fn ohms(z1: i128, z0: i128, k: u32, m: u32) -> i128
+fn entry(z1: i128, z0: i128, k: u32, m: u32) -> i128
     requires z1 { UpTo (3 * 10 ^ 13) z1 }
     requires z0 { UpTo (3 * 10 ^ 13) z0 }
     ensures value { result ≡ ohms_by z1 z0 k m }

@@ -3,3 +3,8 @@ pub mod Shares
 pub mod Divided
 pub mod LoadRows
 pub mod Intervals
+mod Steps
+mod Drops
+mod Counts
+mod Volts
+pub mod CallerLemmas

@@ -35,6 +35,12 @@ stamp (Node r) (Node c) re im den =
 stamp (Node r) Ground re im den = []
 stamp Ground c re im den = []
 
+-- the admittance (re + j im) / den between two nodes: the current that leaves the first enters the second
+abbrev pub shunt_list : NodeAt → NodeAt → ℤ → ℤ → ℤ → List Term
+shunt_list first second re im den =
+    (stamp first first re im den ++ stamp first second (neg_ℤ re) (neg_ℤ im) den)
+    ++ (stamp second first (neg_ℤ re) (neg_ℤ im) den ++ stamp second second re im den)
+
 -- f 0 ++ .. ++ f (n - 1)
 abbrev pub each : {A : Type 0} → (ℕ → List A) → ℕ → List A
 each f zero = []

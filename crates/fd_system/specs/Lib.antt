@@ -1,6 +1,8 @@
 pub mod Complex
 pub mod Contributions
 pub mod Equations
+pub mod Terminals
+pub mod Series
 pub mod Loads
 pub mod System
 pub mod Meets

@@ -8,7 +8,7 @@ use Rattle.fd_arith.specs.declared.terms.NodeAt.TheVariants.{Ground, Node}
 use Rattle.fd_system.specs.declared.loads.LoadPhase.{LoadPhase}
 use Rattle.fd_system.specs.declared.loads.LoadAt.{LoadAt}
 use Rattle.fd_system.specs.Complex.{Complex, negative}
-use Rattle.fd_system.specs.Contributions.{stamp}
+use Rattle.fd_system.specs.Contributions.{shunt_list}
 use Rattle.fd_system.specs.Equations.{Part, both, alone}
 
 -- the parts of a place's voltage, over the state's denominator
@@ -105,9 +105,7 @@ abbrev pub impedance_list : LoadAt → List Term
 impedance_list u =
     let a = pos (10 ^ 9) *ℤ u.load.p in
     let b = pos (10 ^ 9) *ℤ u.load.q in
-    let d = u.load.vn *ℤ u.load.vn in
-    (stamp u.first u.first a (neg_ℤ b) d ++ stamp u.first u.second (neg_ℤ a) (neg_ℤ (neg_ℤ b)) d)
-    ++ (stamp u.second u.first (neg_ℤ a) (neg_ℤ (neg_ℤ b)) d ++ stamp u.second u.second a (neg_ℤ b) d)
+    shunt_list u.first u.second a (neg_ℤ b) (u.load.vn *ℤ u.load.vn)
 
 abbrev pub linear_list : LoadAt → List Term
 linear_list u = cond (eqb u.load.model 2) (impedance_list u) []

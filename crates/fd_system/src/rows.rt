@@ -1,15 +1,12 @@
 // The rows of the residual in intervals.
-ghost use Rattle.std.specs.Prelude.{◌≡◌, ◌+◌, ◌*◌, ◌-◌, ◌<◌, ℤ, pos, neg_ℤ, nat_abs, ◌<ℤ◌, ◌≤ℤ◌, ◌^◌, IfSome, List, length};
-ghost use Rattle.std.specs.List.{fold};
+ghost use Rattle.std.specs.Prelude.{◌≡◌, ℤ, pos, nat_abs, ◌≤ℤ◌, ◌^◌, IfSome, length};
 ghost use Rattle.fd_exact.specs.Fractions.{Fraction, SizeWithin};
 ghost use Rattle.fd_arith.specs.Interval.{Holds};
 ghost use Rattle.fd_arith.specs.Limits.{Fits};
-ghost use Rattle.fd_arith.specs.declared.terms.NodeAt.TheVariants.{Node};
-ghost use Rattle.fd_system.specs.Contributions.{one, stamp};
-ghost use Rattle.fd_system.specs.Residual.{IsConstant, IsTerm, IsPlace, constant_added, greater_size as greater_end, term_added, term_interval};
+ghost use Rattle.fd_system.specs.Residual.{IsConstant, IsTerm, constant_added, greater_size as greater_end, term_added, term_interval};
 
 use crate::Constant;
-use fd_arith::{Enclose, Interval, Micro, NodeAt, Term};
+use fd_arith::{Enclose, Interval, Micro, Term};
 
 /// Adds a constant to the interval of its row.
 pub fn add_constant(rows: &mut [Interval<Micro>], constant: &Constant)
@@ -28,64 +25,6 @@ pub fn add_term(rows: &mut [Interval<Micro>], term: &Term, x: &[i128])
 {
     let row = term.row as usize;
     rows[row] = rows[row] + value_at(term, x);
-}
-
-/// Adds the contributions of the complex number (re + j im) / den at a complex row and column, at the point x.
-pub fn add_complex(
-    rows: &mut [Interval<Micro>],
-    x: &[i128],
-    row: NodeAt,
-    col: NodeAt,
-    re: i128,
-    im: i128,
-    den: i128,
-)
-    requires same_length { length rows.old ≡ length x.now }
-    requires row_in { IsPlace (length rows.old) row }
-    requires col_in { IsPlace (length rows.old) col }
-    requires im_fits { neg_ℤ (pos (2 ^ 126)) ≤ℤ im }
-    requires positive { pos 0 <ℤ den }
-    requires most { den ≤ℤ pos (10 ^ 32) }
-    ensures { rows.new ≡ fold (term_added x.now) rows.old (stamp row col re im den) }
-{
-    if let NodeAt::Node(r) = row {
-        if let NodeAt::Node(c) = col {
-            add_four(rows, x, r, c, re, im, den);
-        }
-    }
-}
-
-fn add_four(rows: &mut [Interval<Micro>], x: &[i128], r: u32, c: u32, re: i128, im: i128, den: i128)
-    requires same_length { length rows.old ≡ length x.now }
-    requires row_in { 2 * r + 1 < length rows.old }
-    requires row_small { r < 2 ^ 31 - 1 }
-    requires col_in { 2 * c + 1 < length rows.old }
-    requires col_small { c < 2 ^ 31 - 1 }
-    requires im_fits { neg_ℤ (pos (2 ^ 126)) ≤ℤ im }
-    requires positive { pos 0 <ℤ den }
-    requires most { den ≤ℤ pos (10 ^ 32) }
-    ensures { rows.new ≡ fold (term_added x.now) rows.old (stamp (Node r) (Node c) re im den) }
-{
-    add_number(rows, x, 2 * r, 2 * c, re, den);
-    add_number(rows, x, 2 * r, 2 * c + 1, -im, den);
-    add_number(rows, x, 2 * r + 1, 2 * c, im, den);
-    add_number(rows, x, 2 * r + 1, 2 * c + 1, re, den);
-}
-
-// Adds num / den at a real row and column, unless it is 0.
-fn add_number(rows: &mut [Interval<Micro>], x: &[i128], row: u32, col: u32, num: i128, den: i128)
-    requires same_length { length rows.old ≡ length x.now }
-    requires row_in { row < length rows.old }
-    requires col_in { col < length rows.old }
-    requires positive { pos 0 <ℤ den }
-    requires most { den ≤ℤ pos (10 ^ 32) }
-    ensures added { rows.new ≡ fold (term_added x.now) rows.old (one row col num den) }
-    ensures same_length { length rows.new ≡ length rows.old }
-{
-    if num != 0 {
-        let term = Term { row, col, num, den };
-        add_term(rows, &term, x);
-    }
 }
 
 // A contribution at the point x.

@@ -1,67 +1,132 @@
-// Contributions of complex numbers.
-ghost use Rattle.std.specs.Prelude.{◌≡◌, ◌-◌, ◌+◌, ◌*◌, ◌<◌, ◌++◌, ℤ, pos, ◌≤ℤ◌, neg_ℤ, ◌^◌, OnOk, OnErr};
+// Contributions of complex numbers, which are added in room that a list has.
+ghost use Rattle.std.specs.Prelude.{◌≡◌, ◌-◌, ◌+◌, ◌*◌, ◌<◌, ◌≤◌, ◌++◌, ℤ, pos, ◌≤ℤ◌, neg_ℤ, ◌^◌, length, vec_capacity};
+ghost use Rattle.fd_exact.specs.Ranges.{Within};
 ghost use Rattle.fd_arith.specs.declared.terms.NodeAt.TheVariants.{Node};
-ghost use Rattle.fd_system.specs.Contributions.{one, stamp, IsSmall};
+ghost use Rattle.fd_system.specs.Contributions.{one, shunt_list, stamp, IsSmall};
 
+use crate::terminals::NodePair;
 use fd_arith::{NodeAt, Term};
-use std::alloc::AllocError;
 
-/// Adds the contribution num / den at a real row and column, unless it is 0.
-pub fn add_one(
-    terms: &mut Vec<Term>,
-    row: u32,
-    col: u32,
-    num: i128,
-    den: i128,
-) -> Result<(), AllocError>
-    ensures { OnOk result (terms.new.items ≡ terms.old.items ++ one row col num den) }
+/// Adds the contribution num / den at a real row and column, unless it is 0. Takes no memory.
+pub fn add_one(terms: &mut Vec<Term>, row: u32, col: u32, num: i128, den: i128)
+    requires room { length terms.old.items + 1 ≤ vec_capacity terms.old }
+    ensures items { terms.new.items ≡ terms.old.items ++ one row col num den }
+    ensures capacity { vec_capacity terms.new ≡ vec_capacity terms.old }
+    ensures few { length terms.new.items ≤ length terms.old.items + 1 }
 {
     if num != 0 {
-        terms.push(Term { row, col, num, den })?;
+        terms.push_reserved(Term { row, col, num, den });
     }
-    Ok(())
 }
 
 /// Adds the complex number (re + j im) / den at a complex row and column: four contributions, less those that are 0, and
-/// nothing at ground.
-pub fn add_stamp(
-    terms: &mut Vec<Term>,
-    row: NodeAt,
-    col: NodeAt,
-    re: i128,
-    im: i128,
-    den: i128,
-) -> Result<(), AllocError>
+/// nothing at ground. Takes no memory.
+pub fn add_stamp(terms: &mut Vec<Term>, row: NodeAt, col: NodeAt, re: i128, im: i128, den: i128)
     requires row_small { IsSmall row }
     requires col_small { IsSmall col }
     requires im_fits { neg_ℤ (pos (2 ^ 126)) ≤ℤ im }
-    ensures { OnOk result (terms.new.items ≡ terms.old.items ++ stamp row col re im den) }
+    requires room { length terms.old.items + 4 ≤ vec_capacity terms.old }
+    ensures items { terms.new.items ≡ terms.old.items ++ stamp row col re im den }
+    ensures capacity { vec_capacity terms.new ≡ vec_capacity terms.old }
+    ensures few { length terms.new.items ≤ length terms.old.items + 4 }
 {
-    match row {
-        NodeAt::Ground => Ok(()),
-        NodeAt::Node(r) => match col {
-            NodeAt::Ground => Ok(()),
-            NodeAt::Node(c) => add_four(terms, r, c, re, im, den),
-        },
+    if let NodeAt::Node(r) = row {
+        if let NodeAt::Node(c) = col {
+            add_four(terms, r, c, re, im, den);
+        }
     }
 }
 
-fn add_four(
-    terms: &mut Vec<Term>,
-    r: u32,
-    c: u32,
-    re: i128,
-    im: i128,
-    den: i128,
-) -> Result<(), AllocError>
+fn add_four(terms: &mut Vec<Term>, r: u32, c: u32, re: i128, im: i128, den: i128)
     requires row_small { r < 2 ^ 31 - 1 }
     requires col_small { c < 2 ^ 31 - 1 }
     requires im_fits { neg_ℤ (pos (2 ^ 126)) ≤ℤ im }
-    ensures { OnOk result (terms.new.items ≡ terms.old.items ++ stamp (Node r) (Node c) re im den) }
+    requires room { length terms.old.items + 4 ≤ vec_capacity terms.old }
+    ensures items { terms.new.items ≡ terms.old.items ++ stamp (Node r) (Node c) re im den }
+    ensures capacity { vec_capacity terms.new ≡ vec_capacity terms.old }
+    ensures few { length terms.new.items ≤ length terms.old.items + 4 }
 {
-    add_one(terms, 2 * r, 2 * c, re, den)?;
-    add_one(terms, 2 * r, 2 * c + 1, -im, den)?;
-    add_one(terms, 2 * r + 1, 2 * c, im, den)?;
-    add_one(terms, 2 * r + 1, 2 * c + 1, re, den)?;
-    Ok(())
+    add_one(terms, 2 * r, 2 * c, re, den);
+    add_one(terms, 2 * r, 2 * c + 1, -im, den);
+    add_one(terms, 2 * r + 1, 2 * c, im, den);
+    add_one(terms, 2 * r + 1, 2 * c + 1, re, den);
+}
+
+/// Adds the real number num / den at a complex row and column: two contributions, unless it is 0, and nothing at ground. Takes no
+/// memory.
+pub fn add_real(terms: &mut Vec<Term>, row: NodeAt, col: NodeAt, num: i128, den: i128)
+    requires row_small { IsSmall row }
+    requires col_small { IsSmall col }
+    requires room { length terms.old.items + 2 ≤ vec_capacity terms.old }
+    ensures items { terms.new.items ≡ terms.old.items ++ stamp row col num (pos 0) den }
+    ensures capacity { vec_capacity terms.new ≡ vec_capacity terms.old }
+    ensures few { length terms.new.items ≤ length terms.old.items + 2 }
+{
+    if let NodeAt::Node(r) = row {
+        if let NodeAt::Node(c) = col {
+            add_both_parts(terms, r, c, num, den);
+        }
+    }
+}
+
+fn add_both_parts(terms: &mut Vec<Term>, r: u32, c: u32, num: i128, den: i128)
+    requires row_small { r < 2 ^ 31 - 1 }
+    requires col_small { c < 2 ^ 31 - 1 }
+    requires room { length terms.old.items + 2 ≤ vec_capacity terms.old }
+    ensures items { terms.new.items ≡ terms.old.items ++ stamp (Node r) (Node c) num (pos 0) den }
+    ensures capacity { vec_capacity terms.new ≡ vec_capacity terms.old }
+    ensures few { length terms.new.items ≤ length terms.old.items + 2 }
+{
+    add_one(terms, 2 * r, 2 * c, num, den);
+    add_one(terms, 2 * r + 1, 2 * c + 1, num, den);
+}
+
+/// Adds the imaginary number j num / den at a complex row and column: two contributions, unless it is 0, and nothing at ground. Takes
+/// no memory.
+pub fn add_imaginary(terms: &mut Vec<Term>, row: NodeAt, col: NodeAt, num: i128, den: i128)
+    requires row_small { IsSmall row }
+    requires col_small { IsSmall col }
+    requires num_fits { neg_ℤ (pos (2 ^ 126)) ≤ℤ num }
+    requires room { length terms.old.items + 2 ≤ vec_capacity terms.old }
+    ensures items { terms.new.items ≡ terms.old.items ++ stamp row col (pos 0) num den }
+    ensures capacity { vec_capacity terms.new ≡ vec_capacity terms.old }
+    ensures few { length terms.new.items ≤ length terms.old.items + 2 }
+{
+    if let NodeAt::Node(r) = row {
+        if let NodeAt::Node(c) = col {
+            add_cross_parts(terms, r, c, num, den);
+        }
+    }
+}
+
+fn add_cross_parts(terms: &mut Vec<Term>, r: u32, c: u32, num: i128, den: i128)
+    requires row_small { r < 2 ^ 31 - 1 }
+    requires col_small { c < 2 ^ 31 - 1 }
+    requires num_fits { neg_ℤ (pos (2 ^ 126)) ≤ℤ num }
+    requires room { length terms.old.items + 2 ≤ vec_capacity terms.old }
+    ensures items { terms.new.items ≡ terms.old.items ++ stamp (Node r) (Node c) (pos 0) num den }
+    ensures capacity { vec_capacity terms.new ≡ vec_capacity terms.old }
+    ensures few { length terms.new.items ≤ length terms.old.items + 2 }
+{
+    add_one(terms, 2 * r, 2 * c + 1, -num, den);
+    add_one(terms, 2 * r + 1, 2 * c, num, den);
+}
+
+/// Adds the admittance (re + j im) / den between the two nodes of a phase: what leaves the first enters the second, at most sixteen
+/// contributions. Takes no memory.
+pub fn add_shunt(terms: &mut Vec<Term>, pair: &NodePair, re: i128, im: i128, den: i128)
+    requires first_small { IsSmall pair.now.first }
+    requires second_small { IsSmall pair.now.second }
+    requires re_fits { Within (2 ^ 126) re }
+    requires im_fits { Within (2 ^ 126) im }
+    requires room { length terms.old.items + 16 ≤ vec_capacity terms.old }
+    ensures items { terms.new.items ≡ terms.old.items ++ shunt_list pair.now.first pair.now.second re im den }
+    ensures capacity { vec_capacity terms.new ≡ vec_capacity terms.old }
+    ensures few { length terms.new.items ≤ length terms.old.items + 16 }
+{
+    let (first, second) = (pair.first, pair.second);
+    add_stamp(terms, first, first, re, im, den);
+    add_stamp(terms, first, second, -re, -im, den);
+    add_stamp(terms, second, first, -re, -im, den);
+    add_stamp(terms, second, second, re, im, den);
 }

@@ -1,3 +1,5 @@
 mod Lists
-pub mod Products
-pub mod Transformer
+mod Products
+mod Numbers
+mod Transformer
+pub mod CallerLemmas

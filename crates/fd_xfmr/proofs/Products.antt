@@ -8,7 +8,7 @@ use Rattle.fd_xfmr.specs.declared.data.XfmrData.{XfmrData}
 use Rattle.fd_xfmr.specs.declared.leakage.Coefficients.{Coefficients}
 use Rattle.fd_exact.specs.Ranges.{Between}
 use Rattle.fd_xfmr.specs.Windings.{first_volts, second_volts}
-use Rattle.fd_xfmr.specs.Leakage.{AreWithin, coefficients_of, nominal_reactance, nominal_resistance}
+use Rattle.fd_xfmr.specs.Leakage.{coefficients_of, nominal_reactance, nominal_resistance}
 
 size_is : (n : ℤ) (m : ℕ) → nat_abs (n *ℤ pos m) ≡ nat_abs n * m
 size_is n m = unsigned_abs-mul n (pos m)
@@ -63,11 +63,11 @@ squares_most s p h k = let q : s * p ≤ 10 ^ 24 * 3 = mul-le-mul h k in omega a
 positive_by : (a t : ℕ) → 0 < a → 0 < t → pos 0 <ℤ (pos a *ℤ pos t)
 positive_by a t h k = let p : 0 < a * t = mul-pos h k in omega (arith, ints)
 
-pub over_positive : (v : ℤ) (t : ℕ) → Between (10 ^ 6) (10 ^ 12) v → 0 < t → pos 0 <ℤ (v *ℤ pos t)
+pub over_positive : (v : ℤ) (t : ℕ) → Between 5773000 (10 ^ 12) v → 0 < t → pos 0 <ℤ (v *ℤ pos t)
 over_positive (pos a) t w h = let l = w.least in positive_by a t (omega (arith, ints)) h
 over_positive (negsuc a) t w h = let l = w.least in absurd (omega (arith, ints))
 
-pub over_small : (v : ℤ) (t : ℕ) → Between (10 ^ 6) (10 ^ 12) v → t ≤ 200000 → (v *ℤ pos t) ≤ℤ pos (10 ^ 32)
+pub over_small : (v : ℤ) (t : ℕ) → Between 5773000 (10 ^ 12) v → t ≤ 200000 → (v *ℤ pos t) ≤ℤ pos (10 ^ 32)
 over_small v t w h =
     let l = w.least in
     let m = w.most in
@@ -78,7 +78,7 @@ over_small v t w h =
 pub quotient_room : (n u : ℕ) → n ≤ 6 * 10 ^ 35 → 10 ^ 6 ≤ u → n ≤ 6 * 10 ^ 24 * (u * 100000)
 quotient_room n u h k = omega arith
 
-pub voltage_small : (v : ℤ) → Between (10 ^ 6) (10 ^ 12) v → nat_abs v ≤ 10 ^ 36
+pub voltage_small : (v : ℤ) → Between 5773000 (10 ^ 12) v → nat_abs v ≤ 10 ^ 36
 voltage_small v w = let l = w.least in let m = w.most in omega (arith, ints)
 
 pub ohms_small : (z : ℤ) → nat_abs z ≤ 6 * 10 ^ 24 → nat_abs z ≤ 10 ^ 36
@@ -91,14 +91,3 @@ pub coefficients_same : (d : XfmrData) (t : TapPair) (ratio over r x : ℤ)
     → r ≡ (nominal_resistance d *ℤ pos (t.second * t.second)) → x ≡ (nominal_reactance d *ℤ pos (t.second * t.second))
     → ◌≡◌ {A = Coefficients} (record { ratio = ratio; ratio_over = over; r = r; x = x }) (coefficients_of d t)
 coefficients_same d t ratio over r x p q s u = λ i. record { ratio = p i; ratio_over = q i; r = s i; x = u i }
-
-pub coefficients_within : (ratio r x over v : ℤ) (t : ℕ) → over ≡ (v *ℤ pos t) → Between (10 ^ 6) (10 ^ 12) v → 50000 ≤ t → t ≤ 200000
-    → nat_abs ratio ≤ 10 ^ 36 → nat_abs r ≤ 10 ^ 36 → nat_abs x ≤ 10 ^ 36
-    → AreWithin (record { ratio = to_z w128 (of_z w128 ratio); ratio_over = over; r = to_z w128 (of_z w128 r); x = to_z w128 (of_z w128 x) })
-coefficients_within ratio r x over v t e w l m p q s = record {
-  ratio = subst (λ z. nat_abs z ≤ 10 ^ 36) (sym (read ratio p)) p;
-  over_least = subst (λ z. pos 0 <ℤ z) (sym e) (over_positive v t w (omega arith));
-  over_most = subst (λ z. z ≤ℤ pos (10 ^ 32)) (sym e) (over_small v t w m);
-  r = subst (λ z. nat_abs z ≤ 10 ^ 36) (sym (read r q)) q;
-  x = subst (λ z. nat_abs z ≤ 10 ^ 36) (sym (read x s)) s;
-}

@@ -1,5 +1,5 @@
 -- The contributions of a transformer add up to its equations, and have denominators in range.
-use Rattle.std.proofs.Common.{◌≡◌, ℕ, ◌<◌, ◌≤◌, ◌^◌, ℤ, pos, negsuc, neg_ℤ, nat_abs, ◌<ℤ◌, ◌≤ℤ◌, ◌++◌, arith, lit<, subst, sym}
+use Rattle.std.proofs.Common.{◌≡◌, ℕ, ◌+◌, ◌<◌, ◌≤◌, ◌^◌, ℤ, pos, negsuc, neg_ℤ, nat_abs, ◌<ℤ◌, ◌≤ℤ◌, ◌++◌, ◌*◌, length, arith, lit<, subst, sym}
 use Rattle.std.specs.List.{All}
 use Rattle.std.proofs.lemmas.Int.{ints}
 use Rattle.std.proofs.lemmas.List.Elements.{All-append}
@@ -10,13 +10,15 @@ use Rattle.fd_arith.specs.declared.terms.Ends.{Ends}
 use Rattle.fd_system.specs.Complex.{◌⊞◌, ◌⊟◌, ◌⊠◌, negative}
 use Rattle.fd_system.specs.Contributions.{row_sum, stamp, IsDivided}
 use Rattle.fd_system.specs.Equations.{unknown, side, equation, AddsUp}
-use Rattle.fd_system.proofs.Divided.{stamp_divided, each_divided}
-use Rattle.fd_system.proofs.StampRows.{stamp_row, negative_stamp, plain_stamp, minus_stamp, same_place, row-append, each_row, single, rewritten, difference_times, SameComplex-sym, negative-minus, unknown-pos}
+use Rattle.fd_system.proofs.CallerLemmas.{stamp_divided, each_divided, joined_few, each_few, stamp_few, real_few, stamp_row, negative_stamp, plain_stamp, minus_stamp, same_place, row-append, each_row, single, rewritten, difference_times, SameComplex-sym, negative-minus, unknown-pos}
 use Rattle.fd_xfmr.specs.declared.data.XfmrData.{XfmrData}
 use Rattle.fd_xfmr.specs.declared.leakage.Coefficients.{Coefficients}
 use Rattle.fd_xfmr.specs.declared.terms.PhaseAt.{PhaseAt}
-use Rattle.fd_xfmr.specs.Leakage.{AreWithin}
+use Rattle.fd_xfmr.specs.Leakage.{AreWithin, coefficients_of}
 use Rattle.fd_xfmr.specs.Transformer.{across, branch_list, current_list, leakage_impedance, list_at, list_by, parts_at, parts_by, phase_at, phase_list, phase_parts, turns_ratio}
+use Rattle.fd_xfmr.specs.Laws.{XfmrLaw}
+use Rattle.fd_xfmr.proofs.Numbers.{are_within}
+use Rattle.fd_xfmr.proofs.Products.{phases_few}
 
 -- ---- one phase
 
@@ -62,7 +64,7 @@ module _ (c : Coefficients) (p : PhaseAt) (over : 0 < nat_abs c.ratio_over) (x :
 over_some : (c : Coefficients) → AreWithin c → 0 < nat_abs c.ratio_over
 over_some c w = let h = w.over_least in omega (arith, ints)
 
-pub xfmr_adds_up : (c : Coefficients) (d : XfmrData) (at : Ends) → AreWithin c → AddsUp (list_by c d at) (parts_by c d at)
+xfmr_adds_up : (c : Coefficients) (d : XfmrData) (at : Ends) → AreWithin c → AddsUp (list_by c d at) (parts_by c d at)
 xfmr_adds_up c d at w x o l = each_row (list_at c d at) x l (parts_at c d at x) d.phases (λ k q. phase_adds c (phase_at d at k) (over_some c w) x o l)
 
 -- ---- the denominators
@@ -91,5 +93,34 @@ module _ (c : Coefficients) (w : AreWithin c) (p : PhaseAt) where
   phase_divided : All IsDivided (phase_list c p)
   phase_divided = All-append IsDivided (branch_list c p) (current_list c p) branch_divided current_divided
 
-pub xfmr_divided : (c : Coefficients) (d : XfmrData) (at : Ends) → AreWithin c → All IsDivided (list_by c d at)
+xfmr_divided : (c : Coefficients) (d : XfmrData) (at : Ends) → AreWithin c → All IsDivided (list_by c d at)
 xfmr_divided c d at w = each_divided (list_at c d at) d.phases (λ k. phase_divided c w (phase_at d at k))
+
+-- ---- their number
+
+module _ (c : Coefficients) (p : PhaseAt) where
+  branch_few : length (branch_list c p) ≤ 12
+  branch_few =
+      joined_few 8 4 _ (stamp p.branch p.branch (neg_ℤ c.r) (neg_ℤ c.x) (pos (10 ^ 22)))
+      (joined_few 4 4 (stamp p.branch p.winding1.first c.ratio (pos 0) c.ratio_over ++ stamp p.branch p.winding1.second (neg_ℤ c.ratio) (pos 0) c.ratio_over) _
+      (joined_few 2 2 (stamp p.branch p.winding1.first c.ratio (pos 0) c.ratio_over) _ (real_few p.branch p.winding1.first c.ratio c.ratio_over) (real_few p.branch p.winding1.second (neg_ℤ c.ratio) c.ratio_over))
+      (joined_few 2 2 (stamp p.branch p.winding2.first (negsuc 0) (pos 0) (pos 1)) _ (real_few p.branch p.winding2.first (negsuc 0) (pos 1)) (real_few p.branch p.winding2.second (pos 1) (pos 1))))
+      (stamp_few p.branch p.branch (neg_ℤ c.r) (neg_ℤ c.x) (pos (10 ^ 22)))
+
+  current_few : length (current_list c p) ≤ 8
+  current_few =
+      joined_few 2 6 (stamp p.winding1.first p.branch c.ratio (pos 0) c.ratio_over) _ (real_few p.winding1.first p.branch c.ratio c.ratio_over)
+      (joined_few 2 4 (stamp p.winding1.second p.branch (neg_ℤ c.ratio) (pos 0) c.ratio_over) _ (real_few p.winding1.second p.branch (neg_ℤ c.ratio) c.ratio_over)
+      (joined_few 2 2 (stamp p.winding2.first p.branch (negsuc 0) (pos 0) (pos 1)) _ (real_few p.winding2.first p.branch (negsuc 0) (pos 1)) (real_few p.winding2.second p.branch (pos 1) (pos 1))))
+
+  phase_few : length (phase_list c p) ≤ 20
+  phase_few = joined_few 12 8 (branch_list c p) (current_list c p) branch_few current_few
+
+list_few : (c : Coefficients) (d : XfmrData) (at : Ends) → d.phases ≤ 3 → length (list_by c d at) ≤ 60
+list_few c d at h = let all = each_few 20 (list_at c d at) d.phases (λ k. phase_few c (phase_at d at k)) in omega (arith, all)
+
+pub xfmr_is : XfmrLaw
+xfmr_is d t at h k =
+    let c = coefficients_of d t in
+    let w = are_within d t h k in
+    record { numbers = w; adds_up = xfmr_adds_up c d at w; divided = xfmr_divided c d at w; few = list_few c d at (phases_few d.phases h.phases) }

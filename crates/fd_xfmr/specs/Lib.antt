@@ -1,3 +1,4 @@
 pub mod Windings
 pub mod Leakage
 pub mod Transformer
+pub mod Laws

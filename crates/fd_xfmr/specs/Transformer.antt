@@ -7,12 +7,12 @@ use Rattle.fd_arith.specs.declared.terms.TapPair.{TapPair}
 use Rattle.fd_system.specs.Complex.{Complex, complex, ◌⊟◌, ◌⊠◌, negative}
 use Rattle.fd_system.specs.Contributions.{stamp, each, IsSmall}
 use Rattle.fd_system.specs.Equations.{unknown, Part, both}
-use Rattle.fd_line.specs.Series.{IsSide, branch_of}
+use Rattle.fd_system.specs.declared.terminals.NodePair.{NodePair}
+use Rattle.fd_system.specs.Terminals.{IsSide, branch_of, node_count, pair_of}
 use Rattle.fd_xfmr.specs.declared.data.XfmrData.{XfmrData}
 use Rattle.fd_xfmr.specs.declared.leakage.Coefficients.{Coefficients}
-use Rattle.fd_xfmr.specs.declared.pairs.NodePair.{NodePair}
 use Rattle.fd_xfmr.specs.declared.terms.PhaseAt.{PhaseAt}
-use Rattle.fd_xfmr.specs.Windings.{first_pairs, node_count, pair_of, second_pairs}
+use Rattle.fd_xfmr.specs.Windings.{first_pairs, second_pairs}
 use Rattle.fd_xfmr.specs.Leakage.{coefficients_of}
 
 -- ---- the equations

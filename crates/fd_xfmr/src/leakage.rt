@@ -5,9 +5,8 @@ ghost use Rattle.fd_xfmr.specs.Windings.{first_volts as first, second_volts as s
 ghost use Rattle.fd_xfmr.specs.Leakage.{AreTaps, AreWithin, IsXfmr, coefficients_of, nominal_leakage, nominal_reactance, nominal_resistance, percent_resistance};
 
 use crate::data::XfmrData;
-use crate::volts::winding_volts;
-use fd_arith::TapPair;
-use fd_line::floor_of_product;
+use fd_arith::{TapPair, floor_of_product};
+use fd_system::phase_volts;
 
 /// The numbers of a transformer's equations at its taps: the ratio U2 t2 / (U1 t1) as `ratio` / `ratio_over`, U being the nominal
 /// voltages of the windings and t their taps, and the leakage impedance r + j x at the second winding in whole 10^-22 ohm.
@@ -42,18 +41,18 @@ pub fn coefficients_at(xfmr: &XfmrData, taps: TapPair) -> Coefficients
 fn first_volts(xfmr: &XfmrData) -> i128
     requires { IsXfmr xfmr.now }
     ensures value { result ≡ first xfmr.now }
-    ensures within { Between (10 ^ 6) (10 ^ 12) result }
+    ensures within { Between 5773000 (10 ^ 12) result }
 {
-    winding_volts(xfmr.phases, xfmr.conn[0], xfmr.kv[0])
+    phase_volts(xfmr.phases, xfmr.conn[0], xfmr.kv[0])
 }
 
 // The nominal voltage of winding 2 in microvolts.
 fn second_volts(xfmr: &XfmrData) -> i128
     requires { IsXfmr xfmr.now }
     ensures value { result ≡ second xfmr.now }
-    ensures within { Between (10 ^ 6) (10 ^ 12) result }
+    ensures within { Between 5773000 (10 ^ 12) result }
 {
-    winding_volts(xfmr.phases, xfmr.conn[1], xfmr.kv[1])
+    phase_volts(xfmr.phases, xfmr.conn[1], xfmr.kv[1])
 }
 
 // The resistance and the reactance of the leakage impedance at nominal tap, in whole 10^-12 ohm.

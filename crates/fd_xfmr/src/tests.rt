@@ -1,4 +1,4 @@
-use crate::{NodePair, PhasePairs, XfmrData, phase_pair, phase_pairs, winding_volts, xfmr_terms};
+use crate::{XfmrData, xfmr_terms};
 use fd_arith::{Conn, Ends, NodeAt, Nodes, TapPair, TermFault};
 use std::test::Fail;
 
@@ -117,20 +117,5 @@ fn out_of_range(rt: HostRuntime) -> Result<(), Fail> {
     };
     let fault = xfmr_terms(alloc, &xfmr, taps, &at).err();
     assert_eq!(rt; fault, Some(TermFault::Range));
-    Ok(())
-}
-
-#[test]
-fn loads_and_capacitors(rt: HostRuntime) -> Result<(), Fail> {
-    let kv = 4_160_000_000;
-    assert_eq!(rt; winding_volts(3, Conn::Wye, kv), 2_401_777_120);
-    assert_eq!(rt; winding_volts(3, Conn::Delta, kv), kv);
-    let first = NodeAt::Node(0);
-    let third = NodeAt::Node(2);
-    let nodes = Nodes::new(vec![in rt.alloc(); first, NodeAt::Node(1), third]?);
-    assert_eq!(rt; phase_pairs(1, Conn::Delta), PhasePairs::OnePhase);
-    let pair = phase_pair(&nodes, phase_pairs(3, Conn::Delta), 2);
-    let (first, second) = (third, first);
-    assert_eq!(rt; pair, NodePair { first, second });
     Ok(())
 }

@@ -19,11 +19,11 @@ returns-in_ok-at-in-Line-clause-settled c =
 
 pub returns-in_ok-at-in-Load-clause-settled : goal.returns-in_ok-at-in-Load-clause-settled
 returns-in_ok-at-in-Load-clause-settled c =
-    IfOk-weaker c.load_piece.result _ _ (λ p. load_here c.args.layout.now c.args.hertz c.args.place c.args.element.now (settings_in c.args.own.now) c.in_ok-at-in-Load.at c.in_ok-at-in-Load.ensures c.requires.sited c.in-Load.load c.as_slice.result.now c.first_magnitude.result c.in-Load.is c.as_slice.ensures c.first_magnitude.ensures) c.load_piece.ensures.settled
+    IfOk-weaker c.load_piece.result _ _ (λ p. load_here c.args.layout.now c.args.hertz c.args.place c.args.element.now (settings_in c.args.own.now) c.in_ok-at-in-Load.at c.in_ok-at-in-Load.ensures c.requires.sited c.in-Load.load c.in_ok-at-in-Load.at.first c.first_magnitude.result c.in-Load.is refl c.first_magnitude.ensures) c.load_piece.ensures.settled
 
 pub returns-in_ok-at-in-Load-clause-added : goal.returns-in_ok-at-in-Load-clause-added
 returns-in_ok-at-in-Load-clause-added c =
-    let is = load_is c.args.layout.now c.args.hertz c.args.place c.args.element.now (settings_in c.args.own.now) c.in_ok-at-in-Load.at c.in_ok-at-in-Load.ensures c.requires.sited c.in-Load.load c.as_slice.result.now c.first_magnitude.result c.in-Load.is c.as_slice.ensures c.first_magnitude.ensures in
+    let is = load_is c.args.layout.now c.args.hertz c.args.place c.args.element.now (settings_in c.args.own.now) c.in_ok-at-in-Load.at c.in_ok-at-in-Load.ensures c.requires.sited c.in-Load.load c.in_ok-at-in-Load.at.first c.first_magnitude.result c.in-Load.is refl c.first_magnitude.ensures in
     subst (λ d. IfOk c.load_piece.result (λ p. added_of p ≡ added_by d)) is c.load_piece.ensures.added
 
 pub returns-in_ok-at-in-Transformer-clause-settled : goal.returns-in_ok-at-in-Transformer-clause-settled

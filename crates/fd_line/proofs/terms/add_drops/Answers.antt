@@ -1,23 +1,23 @@
-use Rattle.std.proofs.Common.{◌∙◌, ◌^◌, ap, pos, neg_ℤ, FitsSigned, rules, arith}
+use Rattle.std.proofs.Common.{rules, arith, ◌∙◌, FitsSigned}
 use Rattle.std.specs.Int.{w128}
-use Rattle.std.proofs.lemmas.Int.{ints}
-use Rattle.fd_system.specs.Contributions.{stamp}
-use Rattle.fd_system.proofs.StampRows.{negated}
-use Rattle.fd_line.specs.Series.{branch_of, drop_at}
+use Rattle.std.proofs.lemmas.Int.{ints, to_z-of_z}
+use Rattle.fd_system.specs.Series.{drop_at, drop_stamp}
+use Rattle.fd_system.proofs.CallerLemmas.{one_more}
 use Rattle.fd_line.specs.Totals.{reactance_of, resistance_of}
-use Rattle.fd_line.proofs.Steps.{one_more}
 use Rattle.fd_line.proofs.terms.add_drops.Goals as goal
 
 pub loop-m-preserved : goal.loop-m-preserved
 loop-m-preserved c =
     let l = c.args.line.now in
-    let r = c.resistance-r.result in
-    let x = c.reactance-x.result in
-    let fr : FitsSigned w128 r = search rules in
-    let fx : FitsSigned w128 x = search rules in
-    let nr : FitsSigned w128 (neg_ℤ r) = omega (arith, ints) in
-    let nx : FitsSigned w128 (neg_ℤ x) = omega (arith, ints) in
-    let p = negated r fr nr ∙ ap neg_ℤ c.resistance-r.ensures.value in
-    let q = negated x fx nx ∙ ap neg_ℤ c.reactance-x.ensures.value in
-    one_more _ _ _ _ (drop_at (resistance_of l) (reactance_of l) c.args.branch c.args.k) c.loop-m.m (c.in_ok-add_stamp.ensures {u = tt}) c.loop-m.invariant
-    (λ d. stamp (branch_of c.args.branch c.args.k) (branch_of c.args.branch c.loop-m.m) (p d) (q d) (pos (10 ^ 12)))
+    let i = c.loop-m.invariant in
+    let d = c.add_drop.ensures in
+    let fr : FitsSigned w128 c.resistance-r.result = search rules in
+    let fx : FitsSigned w128 c.reactance-x.result = search rules in
+    let p = to_z-of_z w128 c.resistance-r.result fr ∙ c.resistance-r.ensures.value in
+    let q = to_z-of_z w128 c.reactance-x.result fx ∙ c.reactance-x.ensures.value in
+    record {
+      items = one_more _ _ _ _ (drop_at (resistance_of l) (reactance_of l) c.args.branch c.args.k) c.loop-m.m d.items i.items
+          (λ j. drop_stamp c.args.branch c.args.k c.loop-m.m (p j) (q j));
+      capacity = d.capacity ∙ i.capacity;
+      few = omega (arith, d.few, i.few);
+    }

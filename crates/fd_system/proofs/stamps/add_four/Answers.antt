@@ -14,11 +14,9 @@ four_more : (o n1 n2 n3 n4 : List Term) (r c : ℕ) (re re' im im' minus den den
 four_more o n1 n2 n3 n4 r c re re' im im' minus den den' e1 e2 e3 e4 p q s t =
     rw (← p, ← t, ← s, ← q) (e4 ∙ ap (λ s. s ++ one (2 * r + 1) (2 * c + 1) re' den') (e3 ∙ ap (λ s. s ++ one (2 * r + 1) (2 * c) im' den') (e2 ∙ ap (λ s. s ++ one (2 * r) (2 * c + 1) minus den') e1)) ∙ simp append_assoc)
 
-pub returns : goal.returns
-returns c =
-    let e1 = c.in_ok-add_one.ensures {u = tt} in
-    let e2 = c.in_ok-add_one-2.ensures {u = tt} in
-    let e3 = c.in_ok-add_one-3.ensures {u = tt} in
-    let e4 = c.in_ok-add_one-4.ensures {u = tt} in
+pub returns-clause-items : goal.returns-clause-items
+returns-clause-items c =
     let f : FitsSigned w128 (neg_ℤ c.args.im) = search rules in
-    four_more _ _ _ _ _ c.args.r c.args.c c.args.re _ c.args.im _ _ c.args.den _ e1 e2 e3 e4 (to_z-of_z w128 c.args.re c.ranges.re) (to_z-of_z w128 c.args.im c.ranges.im) (negated c.args.im c.ranges.im f) (to_z-of_z w128 c.args.den c.ranges.den)
+    four_more _ _ _ _ _ c.args.r c.args.c c.args.re _ c.args.im _ _ c.args.den _
+    c.add_one.ensures.items c.add_one-2.ensures.items c.add_one-3.ensures.items c.add_one-4.ensures.items
+    (to_z-of_z w128 c.args.re c.ranges.re) (to_z-of_z w128 c.args.im c.ranges.im) (negated c.args.im c.ranges.im f) (to_z-of_z w128 c.args.den c.ranges.den)

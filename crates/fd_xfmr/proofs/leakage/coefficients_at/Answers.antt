@@ -3,7 +3,8 @@ use Rattle.std.specs.Int.{w128}
 use Rattle.std.proofs.lemmas.Int.{ints}
 use Rattle.fd_xfmr.specs.Windings.{first_volts, second_volts}
 use Rattle.fd_xfmr.specs.Leakage.{AreWithin, coefficients_of, nominal_reactance, nominal_resistance}
-use Rattle.fd_xfmr.proofs.Products.{read, product_is, voltage_small, ohms_small, coefficients_same, coefficients_within}
+use Rattle.fd_xfmr.proofs.Products.{read, product_is, voltage_small, ohms_small, coefficients_same}
+use Rattle.fd_xfmr.proofs.Numbers.{are_within}
 use Rattle.fd_xfmr.proofs.leakage.coefficients_at.Goals as goal
 
 pub returns-clause-coefficients : goal.returns-clause-coefficients
@@ -22,8 +23,5 @@ returns-clause-coefficients c =
 
 pub returns-clause-within : goal.returns-clause-within
 returns-clause-within c =
-    let t = c.args.taps in
-    let v = c.first_volts in
-    let e = product_is c.product-2.result _ v.result _ t.first c.product-2.ensures.value (read v.result (voltage_small v.result v.ensures.within)) refl c.product-2.ensures.within in
-    coefficients_within c.product.result c.product-3.result c.product-4.result _ v.result t.first e v.ensures.within c.requires.taps.first_least c.requires.taps.first_most
-    c.product.ensures.within c.product-3.ensures.within c.product-4.ensures.within
+    let a = c.args in
+    subst AreWithin (sym (returns-clause-coefficients c)) (are_within a.xfmr.now a.taps c.requires.xfmr c.requires.taps)
