@@ -138,6 +138,3 @@ connected_wide size n u h c = record {
   second = node_wide size n u.second h c.second;
   magnitude = magnitude_wide size n u.magnitude h c.magnitude;
 }
-
-pub all_connected : (m n size : ℕ) (us : List LoadAt) → m ≤ n → 2 * n ≤ size → size ≤ 2 ^ 11 → All (IsServed m n size) us → All (IsConnected size) us
-all_connected m n size us among h few a = All-weaker (IsServed m n size) (IsConnected size) (λ u s. connected m n size u among h few s) us a

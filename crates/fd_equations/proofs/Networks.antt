@@ -19,7 +19,6 @@ use Rattle.fd_system.specs.Contributions.{AreSmall}
 use Rattle.fd_system.specs.System.{nonlinear_of, residual_of}
 use Rattle.fd_system.specs.Residual.{HasDen, IsConstant, IsTerm, linear_interval, residual_interval, whole_state, with_part}
 use Rattle.fd_system.proofs.Intervals.{residual_holds}
-use Rattle.fd_equations.specs.Cells.{CellsGrown, CellsWithin}
 use Rattle.fd_equations.specs.Coefficients.{count_at, linear_entry, row_count}
 use Rattle.fd_equations.specs.Conditions.{AreKnown, HasMagnitude, IsKnown, IsLinear, IsNetwork, IsPart, IsPoint, IsServed}
 use Rattle.fd_equations.specs.Enclosure.{EndsWithin, addend_count, interval_residual_of, summand_count}
@@ -30,11 +29,10 @@ use Rattle.fd_equations.specs.declared.layout.PlaceKind.TheVariants.{Node, Branc
 use Rattle.fd_equations.specs.Views.{NetworkView, kind_of}
 use Rattle.fd_equations.specs.Weights.{weight_at, weight_by, weights_of}
 use Rattle.fd_equations.specs.Terminals.{IsConnected, count_magnitude, count_terminal}
-use Rattle.fd_equations.proofs.AtTerminals.{all_connected}
+use Rattle.fd_equations.proofs.CallerLemmas.{all_connected}
 use Rattle.fd_equations.proofs.DrawnIntervals.{loads_positive, narrow_loads}
 use Rattle.fd_equations.proofs.LoadSums.{rows_small}
-use Rattle.fd_equations.proofs.MapCounts.{slopes_few}
-use Rattle.fd_equations.proofs.Places.{count_size}
+use Rattle.fd_equations.proofs.Counting.{count_size, slopes_few}
 use Rattle.fd_equations.proofs.Lists.{get_or-list_of, length-list_of, list_of-ext, part-list_of-small}
 use Rattle.fd_equations.proofs.Sizes.{near_size, part_size, product_size, small_size}
 use Rattle.fd_equations.proofs.Widths.{Narrow, ends_within, narrow_row, wider}
@@ -175,26 +173,6 @@ module _ (v : NetworkView) (x linear rows : List ℤ) (e : linear ≡ linear_res
       sum a b h k = omega (arith, ints)
 
 -- ---- matrices
-
--- the entries of a coefficient matrix have room for the slopes of part loads
-pub cells_within : (n : ℕ) (cells : List ℤ) (at : ℕ → ℕ → ℤ) → ((row col : ℕ) → row < n → col < n → cell cells n row col ≡ at row col) → ((row col : ℕ) → AreSmall (at row col)) → CellsWithin n cells (2 ^ 54)
-cells_within n cells at is small row col h l = rw (is row col h l) (small_size (at row col) (small row col))
-
--- cells with the entries of a coefficient matrix, to which numbers were added
-pub grown_is : (n size k : ℕ) (old cells new : List ℤ) (at more to plus : ℕ → ℕ → ℤ) → size ≡ n → k ≡ n → cells ≡ old
-    → ((i j : ℕ) → i < size → j < size → cell old size i j ≡ at i j) → CellsGrown k cells new more
-    → ((i j : ℕ) → at i j ≡ to i j) → ((i j : ℕ) → more i j ≡ plus i j) → (i j : ℕ) → i < n → j < n → cell new n i j ≡ to i j +ℤ plus i j
-grown_is n size k old cells new at more to plus s e c is g a m i j h l =
-    ap (λ q. cell new q i j) (sym e) ∙ g i j (subst (λ q. i < q) (sym e) h) (subst (λ q. j < q) (sym e) l)
-    ∙ (λ t. cell (c t) ((e ∙ sym s) t) i j +ℤ m i j t)
-    ∙ ap (λ z. z +ℤ plus i j) (is i j (subst (λ q. i < q) (sym s) h) (subst (λ q. j < q) (sym s) l) ∙ a i j)
-
-pub matrix_small : (n : ℕ) (d : List (List ℤ)) (cells : List ℤ) (b : ℕ) → d ≡ square n cells → CellsWithin n cells b → EntriesWithin d b
-matrix_small n d cells b e within = subst (λ m. EntriesWithin m b) (sym e) (λ row col l m.
-    let long = length-table n n (cell cells n) in
-    let h = subst (λ k. row < k) long l in
-    let k = subst (λ k. col < k) long m in
-    rw (entry-table n n (cell cells n) row col h k) (within row col h k))
 
 -- how many summands of the Jacobian stand at a place
 pub counts_small : (v : NetworkView) (row col : ℕ) → IsNetwork v → count_at v.share.terms row col + slope_counts v.share.loads row col ≤ 2 ^ 27

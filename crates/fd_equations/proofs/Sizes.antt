@@ -27,6 +27,9 @@ kept_by z h = to_z-of_z w128 z (fits_signed_from_abs w128 z (omega arith))
 pub kept_sum : (a b : ℤ) → nat_abs a ≤ 2 ^ 120 → nat_abs b ≤ 2 ^ 54 → to_z w128 (of_z w128 (to_z w128 (of_z w128 a) +ℤ to_z w128 (of_z w128 b))) ≡ (a +ℤ b)
 kept_sum a b h k = rw (kept_by a (omega arith), kept_by b (omega arith)) (kept_by (a +ℤ b) (omega (arith, ints)))
 
+pub kept_more : (a b : ℤ) → nat_abs a ≤ 2 ^ 120 → nat_abs b ≤ 2 ^ 54 → to_z w128 (of_z w128 (a +ℤ to_z w128 (of_z w128 b))) ≡ (a +ℤ b)
+kept_more a b h k = rw (kept_by b (omega arith)) (kept_by (a +ℤ b) (omega (arith, ints)))
+
 pub natural_kept : (n : ℕ) → n ≤ 2 ^ 66 → to_z w128 n ≡ pos n
 natural_kept n h = omega (arith, ints)
 

@@ -23,11 +23,3 @@ count_at ts row col = list_n (λ t. cond (stands_at row col t) 1 0) ts
 -- how many contributions stand in a row
 abbrev pub row_count : List Term → ℕ → ℕ
 row_count ts row = list_n (λ t. cond (eqb t.row row) 1 0) ts
-
--- what contracts see of a coefficient matrix: its rows and columns, and the contributions of which it is made
-pub record CoefficientsView : Type 0 where
-  pub size : ℕ
-  pub terms : List Term
-
-abbrev pub coefficients_of : ℕ → List Term → CoefficientsView
-coefficients_of size ts = record { size = size; terms = ts }

@@ -50,6 +50,10 @@ start_slopes w =
       magnitude = slope_row (pos 0) (pos 0) (pos (2 ^ 41));
     }
 
+-- slopes of 0
+unfoldable pub no_slopes : Slopes
+no_slopes = record { real = slope_row (pos 0) (pos 0) (pos 0); imaginary = slope_row (pos 0) (pos 0) (pos 0); magnitude = slope_row (pos 0) (pos 0) (pos 0) }
+
 -- its slopes at the point x
 unfoldable pub slopes_there : List ℤ → LoadAt → Slopes
 slopes_there x u = slopes_of u.load (real_of x u) (imaginary_of x u) (magnitude_in x u)

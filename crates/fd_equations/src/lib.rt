@@ -7,29 +7,43 @@
 // summands of the Jacobian stand at a place (`count`). Part loads of constant impedance stand in the contributions; those of constant
 // power and of constant current are added to the rows and the matrices.
 //
-// Modules: `layout` (where the unknowns stand), `coefficients` (the coefficient matrix, sparse), `constants` (their sums by row),
+// `Rows` keeps the contributions and the part loads with their sums at each place of row and column where something stands; a `Matrix` is
+// the start matrix or the Jacobian at such places. A walk over the cells of a row is the walk over all its columns (`walk_law`,
+// `count_law`).
+//
+// Modules: `layout` (where the unknowns stand), `pattern` and `places` (the places at which something stands), `cells` and `load_cells`
+// (what contributions and part loads add there), `sparse` and `matrix` over them, `laws` of walks, `constants` (their sums by row),
 // `rows` (the linear rows in intervals), `terminals` (the voltage of a part load, and its places in a row), `load_intervals`,
-// `load_rows`, `load_slopes` and `load_counts` (what part loads add to the intervals, to the rounded residual, to the matrices and to
-// the counts), `weights`, `network` over them, and `point` (a state with its inverse).
+// `load_rows` and `load_slopes` (what part loads add to the intervals and to the rounded residual, and their slopes), `weights`, `network`
+// over them, and `point` (a state with its inverse).
 #![tactic(auto)]
 
-mod coefficients;
+mod cells;
 mod constants;
+mod laws;
 mod layout;
-mod load_counts;
+mod load_cells;
 mod load_intervals;
 mod load_rows;
 mod load_slopes;
+mod matrix;
 mod network;
+mod pattern;
+mod places;
 mod point;
 mod rows;
+mod sparse;
 mod terminals;
 mod weights;
 
-pub use coefficients::Coefficients;
+pub use cells::Cell;
+pub use laws::{count_law, walk_law};
 pub use layout::{Layout, PlaceKind};
+pub use matrix::Matrix;
 pub use network::Network;
+pub use pattern::Pattern;
 pub use point::Point;
+pub use sparse::Rows;
 
 #[cfg(test)]
 mod tests;

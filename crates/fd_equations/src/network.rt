@@ -9,23 +9,21 @@ ghost use Rattle.fd_system.specs.Residual.{whole_state};
 ghost use Rattle.fd_equations.specs.Coefficients.{linear_entry};
 ghost use Rattle.fd_equations.specs.Conditions.{IsKnown, IsPoint, IsServed};
 ghost use Rattle.fd_equations.specs.Enclosure.{EndsWithin, addend_count, interval_residual_of, summand_count};
+ghost use Rattle.fd_equations.specs.Matrices.{IsMatrix, jacobian_amount};
 ghost use Rattle.fd_equations.specs.Rounded.{constants_of, jacobian_count, jacobian_of, linear_residual_of, rounded_residual_of, start_matrix_of};
 ghost use Rattle.fd_equations.specs.Views.{kind_of, network_of, share_with};
 ghost use Rattle.fd_equations.specs.Weights.{weights_of};
 
 use crate::constants::constant_sums;
-use crate::load_counts::{count_in, slope_counts};
 use crate::load_intervals::add_load_intervals;
 use crate::load_rows::add_loads;
-use crate::load_slopes::{add_slopes, add_start_slopes};
 use crate::rows::linear_rows;
 use crate::weights::weights;
-use crate::{Coefficients, Layout, PlaceKind};
+use crate::{Layout, Matrix, PlaceKind, Rows};
 use fd_arith::{Interval, Micro, Term};
 use fd_mat::Dense;
 use fd_system::{Constant, LoadAt};
 use std::alloc::{AllocError, Global};
-use std::collections::BTreeMap;
 use std::marker::Model;
 
 /// The rows of a network. Unknowns and rows stand in the same order: the nodes, the branches, then the magnitudes, as `Layout` says.
@@ -33,60 +31,44 @@ use std::marker::Model;
 #[derive(Drop)]
 pub struct Network {
     layout: Layout,
-    coefficients: Coefficients,
+    rows: Rows,
     constants: Vec<Constant>,
-    loads: Vec<LoadAt>,
-    slopes: BTreeMap<(u32, u32), u32>,
     draw: u128,
 }
 
 impl Model for Network {
     ghost use Rattle.std.specs.Prelude.{◌≡◌};
     ghost use Rattle.fd_equations.specs.Conditions.{IsNetwork};
-    ghost use Rattle.fd_equations.specs.Counts.{HasCounts};
     ghost use Rattle.fd_equations.specs.Views.{NetworkView, network_of, share_with};
 
     ghost Value = { NetworkView };
 
-    ghost view = { λ n. network_of n.layout (share_with n.constants.items n.coefficients.terms n.loads.items) n.draw };
+    ghost view = { λ n. network_of n.layout (share_with n.constants.items n.rows.terms n.rows.loads) n.draw };
 
-    ghost invariant = { λ n. IsNetwork (network_of n.layout (share_with n.constants.items n.coefficients.terms n.loads.items) n.draw) × ((n.coefficients.size ≡ (network_of n.layout (share_with n.constants.items n.coefficients.terms n.loads.items) n.draw).size) × HasCounts n.slopes n.loads.items) };
+    ghost invariant = { λ n. IsNetwork (network_of n.layout (share_with n.constants.items n.rows.terms n.rows.loads) n.draw) × (n.rows.size ≡ (network_of n.layout (share_with n.constants.items n.rows.terms n.rows.loads) n.draw).size) };
 }
 
 impl Network {
-    /// The network of these rows. `coefficients` has the contributions, in which loads of constant impedance stand;
+    /// The network of these rows and constants. Loads of constant impedance stand in the contributions too;
     /// `draw` is the sum of (abs P + abs Q) 10^9 / Vn over load phases and of Q 10^9 / V over closed capacitor phases, each rounded
     /// up, in whole microamperes.
-    ///
-    /// # Errors
-    /// `AllocError` where the memory for the places of the part loads' slopes is refused.
-    pub fn new(
-        alloc: Global,
-        layout: Layout,
-        coefficients: Coefficients,
-        constants: Vec<Constant>,
-        loads: Vec<LoadAt>,
-        draw: u128,
-    ) -> Result<Network, AllocError>
+    pub fn new(layout: Layout, rows: Rows, constants: Vec<Constant>, draw: u128) -> Network
         requires small { 2 * (layout.nodes + layout.branches) + layout.magnitudes ≤ 2 ^ 11 }
-        requires size { coefficients.size ≡ 2 * (layout.nodes + layout.branches) + layout.magnitudes }
-        requires entries { (row col : ℕ) → AreSmall (linear_entry coefficients.terms row col) }
-        requires constants { All (IsKnown coefficients.size) constants.items }
+        requires size { rows.size ≡ 2 * (layout.nodes + layout.branches) + layout.magnitudes }
+        requires entries { (row col : ℕ) → AreSmall (linear_entry rows.terms row col) }
+        requires constants { All (IsKnown rows.size) constants.items }
         requires few_constants { length constants.items < 2 ^ 24 }
-        requires loads { All (IsServed layout.nodes (layout.nodes + layout.branches) coefficients.size) loads.items }
-        requires few_loads { length loads.items < 2 ^ 21 }
+        requires loads { All (IsServed layout.nodes (layout.nodes + layout.branches) rows.size) rows.loads }
         requires draw { 16 * draw + 10 ^ 6 ≤ 2 ^ 65 }
-        ensures { IfOk result (λ n. n ≡ network_of layout (share_with constants.items coefficients.terms loads.items) draw) }
+        ensures { result ≡ network_of layout (share_with constants.items rows.terms rows.loads) draw }
     {
-        let slopes = slope_counts(alloc, &loads)?;
-        Ok(Network {
+        let _terms = rows.terms();
+        Network {
             layout,
-            coefficients,
+            rows,
             constants,
-            loads,
-            slopes,
             draw,
-        })
+        }
     }
 
     /// How many real unknowns there are, and how many rows.
@@ -94,7 +76,7 @@ impl Network {
         ensures size { result ≡ self.now.size }
         ensures small { result ≤ 2 ^ 11 }
     {
-        self.coefficients.size()
+        self.rows.size()
     }
 
     /// What the unknown at a place is.
@@ -110,21 +92,21 @@ impl Network {
     pub fn count(&self, row: u32, col: u32) -> u32
         ensures { result ≡ jacobian_count self.now row col }
     {
-        self.coefficients.count(row, col) + count_in(&self.slopes, row, col)
+        self.rows.count(row, col)
     }
 
     /// The contributions in order.
     pub fn terms(&self) -> &[Term]
         ensures { result.now ≡ self.now.share.terms }
     {
-        self.coefficients.terms()
+        self.rows.terms()
     }
 
     /// The part loads in order.
     pub fn loads(&self) -> &[LoadAt]
         ensures { result.now ≡ self.now.share.loads }
     {
-        self.loads.as_slice()
+        self.rows.loads()
     }
 
     /// The residual of each row at the point x, in intervals of whole micro-units. Each holds the exact residual, and its ends are at
@@ -140,8 +122,8 @@ impl Network {
         ensures near { IfOk result (λ rows. (l : ℕ) → l < self.now.size → EndsWithin (get_or rows.items l None) (residual_of self.now.share (whole_state x.now) l) (2 * summand_count self.now.share l)) }
         ensures tie { IfOk result (λ rows. (l : ℕ) → l < 2 * self.now.complexes → EndsWithin (get_or rows.items l None) (residual_of self.now.share (whole_state x.now) l) (4 * addend_count self.now.share l + 4)) }
     {
-        let mut rows = linear_rows(alloc, &self.constants, self.coefficients.terms(), x)?;
-        add_load_intervals(&mut rows, &self.loads, x);
+        let mut rows = linear_rows(alloc, &self.constants, self.rows.terms(), x)?;
+        add_load_intervals(&mut rows, self.rows.loads(), x);
         Ok(rows)
     }
 
@@ -166,7 +148,7 @@ impl Network {
         ensures small { IfOk result (λ rows. (l : ℕ) → nat_abs (part rows.items l) ≤ 2 ^ 86) }
     {
         let mut rows = self.linear_residual(alloc, x)?;
-        add_loads(&mut rows, &self.loads, x);
+        add_loads(&mut rows, self.rows.loads(), x);
         Ok(rows)
     }
 
@@ -177,7 +159,7 @@ impl Network {
         ensures small { IfOk result (λ rows. (l : ℕ) → nat_abs (part rows.items l) ≤ 2 ^ 85) }
     {
         let mut rows = self.constants(alloc)?;
-        self.coefficients.add_products(&mut rows, x);
+        self.rows.add_products(&mut rows, x);
         Ok(rows)
     }
 
@@ -189,9 +171,19 @@ impl Network {
         ensures entries { IfOk result (λ d. d ≡ start_matrix_of self.now) }
         ensures small { IfOk result (λ d. EntriesWithin d (2 ^ 100)) }
     {
-        let mut cells = self.coefficients.to_cells(alloc)?;
-        add_start_slopes(&mut cells, self.size() as usize, &self.loads);
-        Ok(Dense::from_cells(self.size(), cells))
+        self.rows.start(alloc)?.to_dense(alloc)
+    }
+
+    /// The rounded Jacobian at the point x by rows of non-zeros, in units of 2^-40: in each row the columns in which a contribution or a
+    /// slope of a part load stands, with how many there are.
+    ///
+    /// # Errors
+    /// `AllocError` where the memory for the cells is refused.
+    pub fn jacobian(&self, alloc: Global, x: &[i128]) -> Result<Matrix<'_>, AllocError>
+        requires { IsPoint self.now x.now }
+        ensures { IfOk result (λ m. IsMatrix self.now.size m (jacobian_amount self.now x.now)) }
+    {
+        self.rows.jacobian(alloc, x)
     }
 
     /// The rounded Jacobian at the point x, in units of 2^-40.
@@ -203,9 +195,7 @@ impl Network {
         ensures entries { IfOk result (λ d. d ≡ jacobian_of self.now x.now) }
         ensures small { IfOk result (λ d. EntriesWithin d (2 ^ 100)) }
     {
-        let mut cells = self.coefficients.to_cells(alloc)?;
-        add_slopes(&mut cells, &self.loads, x);
-        Ok(Dense::from_cells(self.size(), cells))
+        self.jacobian(alloc, x)?.to_dense(alloc)
     }
 
     /// The weight of each unknown at the point x, in whole micro-units: from 10^6 to 2^66.

@@ -1,7 +1,8 @@
 ghost use Rattle.std.specs.Prelude.{◌≡◌, IfOk};
 ghost use Rattle.fd_equations.specs.Conditions.{IsServed};
+ghost use Rattle.fd_equations.specs.Terminals.{IsConnected};
 
-use crate::{Coefficients, Layout, Network, PlaceKind};
+use crate::{Layout, Network, PlaceKind, Rows};
 use fd_arith::{NodeAt, Term};
 use fd_mat::Dense;
 use fd_system::{Constant, LoadAt, LoadPhase};
@@ -10,7 +11,7 @@ use std::process::Abort;
 use std::test::Fail;
 
 // Two contributions stand at one place, and none is a whole number of 2^-40.
-fn sample(alloc: Global) -> Result<Coefficients, AllocError>
+fn sample(alloc: Global) -> Result<Rows, AllocError>
     ensures { IfOk result (λ c. c.size ≡ 2) }
 {
     let (num, den) = (-2, 7);
@@ -34,30 +35,22 @@ fn sample(alloc: Global) -> Result<Coefficients, AllocError>
             den
         },
     ]?;
-    Coefficients::of(alloc, 2, terms)
+    Rows::of(alloc, 2, terms, Vec::new(alloc))
 }
 
 // The network of these contributions and a constant: two parts of a node.
 fn sample_network(alloc: Global, rt: &impl Abort) -> Result<Network, AllocError>
     ensures { IfOk result (λ n. n.size ≡ 2) }
 {
-    let coefficients = sample(alloc)?;
-    assert!(rt; coefficients.are_within());
+    let rows = sample(alloc)?;
+    assert!(rt; rows.are_within());
     let constants = vec![in alloc; Constant { row: 0, value: 700 }]?;
     let layout = Layout {
         nodes: 1,
         branches: 0,
         magnitudes: 0,
     };
-    let network = Network::new(
-        alloc,
-        layout,
-        coefficients,
-        constants,
-        Vec::new(alloc),
-        2_000_000,
-    )?;
-    Ok(network)
+    Ok(Network::new(layout, rows, constants, 2_000_000))
 }
 
 // The ends of the residual of the first row at 30 and -0.000041 volt.
@@ -91,13 +84,13 @@ fn products(alloc: Global, rt: &impl Abort) -> Result<[i128; 2], AllocError> {
 }
 
 #[test]
-fn coefficients(rt: HostRuntime) -> Result<(), Fail> {
+fn sparse_rows(rt: HostRuntime) -> Result<(), Fail> {
     let all = sample(rt.alloc())?;
     assert_eq!(rt; (all.size(), all.terms().len()), (2, 3));
     assert_eq!(rt; (all.count(0, 0), all.count(1, 0)), (2, 0));
-    assert_eq!(rt; all.get(0, 0), 733_007_751_850);
+    assert_eq!(rt; all.entry(0, 0), 733_007_751_850);
     assert!(rt; all.is_within(0, 1));
-    assert_eq!(rt; all.to_dense(rt.alloc())?.size(), 2);
+    assert_eq!(rt; (all.row(0).len(), all.row(1).len()), (2, 0));
     assert_eq!(rt; products(rt.alloc(), &rt)?, [20, 0]);
     Ok(())
 }
@@ -134,7 +127,8 @@ fn rows(rt: HostRuntime) -> Result<(), Fail> {
 
 // 50 kilowatt and 20 kilovar of constant power at 240 volt, from the first node to ground.
 fn constant_power() -> LoadAt
-    ensures { IsServed 2 2 5 result }
+    ensures served { IsServed 2 2 5 result }
+    ensures connected { IsConnected 5 result }
 {
     LoadAt {
         load: LoadPhase {
@@ -153,7 +147,8 @@ fn constant_power() -> LoadAt
 
 // 30 kilowatt and -12 kilovar of constant current at 415.692194 volt, between the nodes.
 fn constant_current() -> LoadAt
-    ensures { IsServed 2 2 5 result }
+    ensures served { IsServed 2 2 5 result }
+    ensures connected { IsConnected 5 result }
 {
     LoadAt {
         load: LoadPhase {
@@ -174,23 +169,15 @@ fn constant_current() -> LoadAt
 fn load_network(alloc: Global, rt: &impl Abort) -> Result<Network, AllocError>
     ensures { IfOk result (λ n. n.size ≡ 5) }
 {
-    let coefficients = Coefficients::of(alloc, 5, Vec::new(alloc))?;
-    assert!(rt; coefficients.are_within());
     let loads = vec![in alloc; constant_power(), constant_current()]?;
+    let rows = Rows::of(alloc, 5, Vec::new(alloc), loads)?;
+    assert!(rt; rows.are_within());
     let layout = Layout {
         nodes: 2,
         branches: 0,
         magnitudes: 1,
     };
-    let network = Network::new(
-        alloc,
-        layout,
-        coefficients,
-        Vec::new(alloc),
-        loads,
-        400_000_000,
-    )?;
-    Ok(network)
+    Ok(Network::new(layout, rows, Vec::new(alloc), 400_000_000))
 }
 
 // Both loads within their limits, and below them.

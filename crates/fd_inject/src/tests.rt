@@ -1,9 +1,10 @@
 ghost use Rattle.std.specs.Prelude.{◌≡◌, IfOk};
 ghost use Rattle.fd_equations.specs.Conditions.{AreLinear, IsServed};
+ghost use Rattle.fd_equations.specs.Terminals.{IsConnected};
 
 use crate::{Limits, SolveFault, Stop, solve};
 use fd_arith::{NodeAt, Term};
-use fd_equations::{Coefficients, Layout, Network};
+use fd_equations::{Layout, Network, Rows};
 use fd_system::{Constant, LoadAt, LoadPhase};
 use std::alloc::{AllocError, Global};
 use std::process::Abort;
@@ -28,10 +29,10 @@ fn one_line(rt: HostRuntime) -> Result<(), Fail> {
         term(7, 1, 1, 1), term(7, 3, -1, 1), term(7, 7, -9, 1),
     ]?;
     let constants = vec![in rt.alloc(); Constant { row: 4, value: -1_000_000_000 }]?;
-    let coefficients = Coefficients::of(rt.alloc(), 8, terms)?;
-    assert!(rt; coefficients.are_within());
+    let rows = Rows::of(rt.alloc(), 8, terms, Vec::new(rt.alloc()))?;
+    assert!(rt; rows.are_within());
     let layout = Layout { nodes: 2, branches: 2, magnitudes: 0 };
-    let network = Network::new(rt.alloc(), layout, coefficients, constants, Vec::new(rt.alloc()), 100_000_000)?;
+    let network = Network::new(layout, rows, constants, 100_000_000);
     let limits = Limits { max_iterations: 15, tolerance: 100_000 };
     let point = solve(rt.alloc(), &network, &limits)?;
     let state = [950_000_000, 0, 500_000_000, 0, 50_000_000, 0, 50_000_000, 0];
@@ -43,21 +44,14 @@ fn one_line(rt: HostRuntime) -> Result<(), Fail> {
 // Rows with no contribution.
 #[test]
 fn no_inverse(rt: HostRuntime) -> Result<(), Fail> {
-    let coefficients = Coefficients::of(rt.alloc(), 2, Vec::new(rt.alloc()))?;
-    assert!(rt; coefficients.are_within());
+    let rows = Rows::of(rt.alloc(), 2, Vec::new(rt.alloc()), Vec::new(rt.alloc()))?;
+    assert!(rt; rows.are_within());
     let layout = Layout {
         nodes: 1,
         branches: 0,
         magnitudes: 0,
     };
-    let network = Network::new(
-        rt.alloc(),
-        layout,
-        coefficients,
-        Vec::new(rt.alloc()),
-        Vec::new(rt.alloc()),
-        0,
-    )?;
+    let network = Network::new(layout, rows, Vec::new(rt.alloc()), 0);
     let limits = Limits {
         max_iterations: 1,
         tolerance: 1,
@@ -75,7 +69,8 @@ fn no_inverse(rt: HostRuntime) -> Result<(), Fail> {
 
 // 9 kW of constant power at 1 kV, at the second node.
 fn constant_power() -> LoadAt
-    ensures { IsServed 2 4 8 result }
+    ensures served { IsServed 2 4 8 result }
+    ensures connected { IsConnected 8 result }
 {
     LoadAt {
         load: LoadPhase {
@@ -94,7 +89,8 @@ fn constant_power() -> LoadAt
 
 // 10 kW of constant current at 1 kV, at the second node.
 fn constant_current() -> LoadAt
-    ensures { IsServed 2 4 9 result }
+    ensures served { IsServed 2 4 9 result }
+    ensures connected { IsConnected 9 result }
 {
     LoadAt {
         load: LoadPhase {
@@ -129,8 +125,9 @@ fn line_terms(alloc: Global) -> Result<Vec<Term>, AllocError>
 
 // A source of 1,000 V behind 1 ohm, a line of 9 ohm and the load of constant power.
 fn power_network(alloc: Global, rt: &impl Abort) -> Result<Network, AllocError> {
-    let coefficients = Coefficients::of(alloc, 8, line_terms(alloc)?)?;
-    assert!(rt; coefficients.are_within());
+    let loads = vec![in alloc; constant_power()]?;
+    let rows = Rows::of(alloc, 8, line_terms(alloc)?, loads)?;
+    assert!(rt; rows.are_within());
     let constants = vec![in alloc;
         Constant {
             row: 4,
@@ -142,15 +139,14 @@ fn power_network(alloc: Global, rt: &impl Abort) -> Result<Network, AllocError> 
         branches: 2,
         magnitudes: 0,
     };
-    let loads = vec![in alloc; constant_power()]?;
-    let network = Network::new(alloc, layout, coefficients, constants, loads, 10_000_000)?;
-    Ok(network)
+    Ok(Network::new(layout, rows, constants, 10_000_000))
 }
 
 // The same with the load of constant current.
 fn current_network(alloc: Global, rt: &impl Abort) -> Result<Network, AllocError> {
-    let coefficients = Coefficients::of(alloc, 9, line_terms(alloc)?)?;
-    assert!(rt; coefficients.are_within());
+    let loads = vec![in alloc; constant_current()]?;
+    let rows = Rows::of(alloc, 9, line_terms(alloc)?, loads)?;
+    assert!(rt; rows.are_within());
     let constants = vec![in alloc;
         Constant {
             row: 4,
@@ -162,9 +158,7 @@ fn current_network(alloc: Global, rt: &impl Abort) -> Result<Network, AllocError
         branches: 2,
         magnitudes: 1,
     };
-    let loads = vec![in alloc; constant_current()]?;
-    let network = Network::new(alloc, layout, coefficients, constants, loads, 10_000_000)?;
-    Ok(network)
+    Ok(Network::new(layout, rows, constants, 10_000_000))
 }
 
 // Whether two states are the same to the nearest micro-unit.

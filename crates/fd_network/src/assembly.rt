@@ -16,7 +16,7 @@ use crate::settings::SettingsLeft;
 use dss_layout::Layout;
 use dss_profile::{Element, ElementName};
 use fd_devices::{Piece, device_law};
-use fd_equations::{Coefficients, Layout as Counts, Network};
+use fd_equations::{Layout as Counts, Network, Rows};
 use indexmap::IndexMap;
 use std::alloc::Global;
 
@@ -49,11 +49,10 @@ pub fn assemble(
         loads,
         draw,
     } = collect(alloc, layout, hertz, elements, settings)?;
-    let coefficients = Coefficients::of(alloc, layout.size(), terms)?;
-    check_entries(alloc, layout, hertz, elements, settings, &coefficients)?;
+    let rows = Rows::of(alloc, layout.size(), terms, loads)?;
+    check_entries(alloc, layout, hertz, elements, settings, &rows)?;
     device_law();
-    let network = Network::new(alloc, counts(layout), coefficients, constants, loads, draw)?;
-    Ok(network)
+    Ok(Network::new(counts(layout), rows, constants, draw))
 }
 
 // Whether each entry is small. The elements are walked again only where one isn't, to name the first that has a part in it.
@@ -63,18 +62,18 @@ fn check_entries(
     hertz: u32,
     elements: &IndexMap<ElementName, Element>,
     settings: &SettingsLeft,
-    coefficients: &Coefficients,
+    rows: &Rows,
 ) -> Result<(), PlaceFault>
     requires taken { AreTakenFrom layout.now hertz 0 elements.now.entries (settings_left settings.now) }
     requires fits { All Fits (devices_from layout.now hertz 0 elements.now.entries (settings_left settings.now)) }
-    requires terms { coefficients.now.terms ≡ (share_of_all (devices_from layout.now hertz 0 elements.now.entries (settings_left settings.now))).terms }
+    requires terms { rows.now.terms ≡ (share_of_all (devices_from layout.now hertz 0 elements.now.entries (settings_left settings.now))).terms }
     ensures small { OnOk result (AreInRange (devices_from layout.now hertz 0 elements.now.entries (settings_left settings.now))) }
-    ensures fault { IfErr result (NamesPlace (first_without (has_small_sums coefficients.now.terms) (devices_from layout.now hertz 0 elements.now.entries (settings_left settings.now)))) }
+    ensures fault { IfErr result (NamesPlace (first_without (has_small_sums rows.now.terms) (devices_from layout.now hertz 0 elements.now.entries (settings_left settings.now)))) }
 {
-    if coefficients.are_within() {
+    if rows.are_within() {
         return Ok(());
     }
-    check_sums(alloc, layout, hertz, elements, settings, coefficients)
+    check_sums(alloc, layout, hertz, elements, settings, rows)
 }
 
 // How many nodes, branches and magnitudes a layout has.

@@ -17,7 +17,7 @@ use dss_layout::Layout;
 use dss_profile::{Element, ElementName};
 use fd_arith::{Term, TermFault};
 use fd_devices::{Piece, piece_of};
-use fd_equations::Coefficients;
+use fd_equations::Rows;
 use indexmap::IndexMap;
 use std::alloc::Global;
 
@@ -83,20 +83,20 @@ pub fn check_sums(
     hertz: u32,
     elements: &IndexMap<ElementName, Element>,
     settings: &SettingsLeft,
-    coefficients: &Coefficients,
+    rows: &Rows,
 ) -> Result<(), PlaceFault>
     requires taken { AreTakenFrom layout.now hertz 0 elements.now.entries (settings_left settings.now) }
     requires fits { All Fits (devices_from layout.now hertz 0 elements.now.entries (settings_left settings.now)) }
-    requires terms { coefficients.now.terms ≡ (share_of_all (devices_from layout.now hertz 0 elements.now.entries (settings_left settings.now))).terms }
-    ensures small { OnOk result (All (HasSmallSums coefficients.now.terms) (devices_from layout.now hertz 0 elements.now.entries (settings_left settings.now))) }
-    ensures fault { IfErr result (NamesPlace (first_without (has_small_sums coefficients.now.terms) (devices_from layout.now hertz 0 elements.now.entries (settings_left settings.now)))) }
+    requires terms { rows.now.terms ≡ (share_of_all (devices_from layout.now hertz 0 elements.now.entries (settings_left settings.now))).terms }
+    ensures small { OnOk result (All (HasSmallSums rows.now.terms) (devices_from layout.now hertz 0 elements.now.entries (settings_left settings.now))) }
+    ensures fault { IfErr result (NamesPlace (first_without (has_small_sums rows.now.terms) (devices_from layout.now hertz 0 elements.now.entries (settings_left settings.now)))) }
 {
     let mut left = *settings;
     let entries = elements.as_slice();
     for place in 0..entries.len() {
         let (_, element) = entries.get_index(place).unwrap();
         let piece = piece_at(alloc, layout, hertz, place, element, &left)?;
-        if !have_small_sums(coefficients, &piece.terms) {
+        if !have_small_sums(rows, &piece.terms) {
             return Err(PlaceFault::OutOfRange(place));
         }
         left = left.after(element);
@@ -105,10 +105,8 @@ pub fn check_sums(
 }
 
 // Whether the sums at the places of these contributions are small.
-fn have_small_sums(coefficients: &Coefficients, terms: &[Term]) -> bool
-    ensures { IsTrue result ↔ All (λ t. AreSmall (linear_entry coefficients.now.terms t.row t.col)) terms.now }
+fn have_small_sums(rows: &Rows, terms: &[Term]) -> bool
+    ensures { IsTrue result ↔ All (λ t. AreSmall (linear_entry rows.now.terms t.row t.col)) terms.now }
 {
-    terms
-        .iter()
-        .all(|term| coefficients.is_within(term.row, term.col))
+    terms.iter().all(|term| rows.is_within(term.row, term.col))
 }

@@ -1,5 +1,5 @@
 use Rattle.std.proofs.Common.{◌∙◌, arith}
-use Rattle.fd_equations.proofs.CellSteps.{slopes_are}
+use Rattle.fd_equations.proofs.LoadCells.{slopes_are}
 use Rattle.fd_equations.proofs.Sizes.{kept_by}
 use Rattle.fd_equations.proofs.load_slopes.slopes.Goals as goal
 

@@ -34,7 +34,7 @@ returns-in_err-piece-clause-fault c =
     let here = ap (λ es. slice_get es c.loop-place.place) (sym c.as_slice-entries.ensures.entries) ∙ sym c.get_index.ensures.entry ∙ ap (option_map deref_pair) c.unwrap.ensures in
     let next = device_next c.args.layout.now c.args.hertz es ds c.loop-place.place (settings_left c.loop-place.left) (deref_pair c.unwrap.result) here c.loop-place.invariant.at in
     let p = err_from_is_err_and c.from_residual.result c.from_residual.ensures.1 in
-    rw (p.1, p.2) (no_misfit (first_without (has_small_sums c.args.coefficients.now.terms) ds) ds c.loop-place.place _ _ c.in_err-piece.field-0.0 c.requires.fits next c.in_err-piece.ensures.fault)
+    rw (p.1, p.2) (no_misfit (first_without (has_small_sums c.args.rows.now.terms) ds) ds c.loop-place.place _ _ c.in_err-piece.field-0.0 c.requires.fits next c.in_err-piece.ensures.fault)
 
 pub returns-then-not-have_small_sums-clause-fault : goal.returns-then-not-have_small_sums-clause-fault
 returns-then-not-have_small_sums-clause-fault c =
@@ -44,7 +44,7 @@ returns-then-not-have_small_sums-clause-fault c =
     let left = settings_left c.loop-place.left in
     let e = deref_pair c.unwrap.result in
     let ds = devices_from layout c.args.hertz 0 es (settings_left c.args.settings.now) in
-    let all = c.args.coefficients.now.terms in
+    let all = c.args.rows.now.terms in
     let here = ap (λ es. slice_get es c.loop-place.place) (sym c.as_slice-entries.ensures.entries) ∙ sym c.get_index.ensures.entry ∙ ap (option_map deref_pair) c.unwrap.ensures in
     let next = device_next layout c.args.hertz es ds place left e here c.loop-place.invariant.at in
     let terms = c.deref.ensures.value ∙ ap (λ (a : Added). a.share.terms) c.in_ok-piece.ensures.added in
@@ -71,7 +71,7 @@ loop-place-preserved c =
     let d = device_of layout hertz place e.1 (own e.1 left) in
     let here = ap (λ es. slice_get es c.loop-place.place) (sym c.as_slice-entries.ensures.entries) ∙ sym c.get_index.ensures.entry ∙ ap (option_map deref_pair) c.unwrap.ensures in
     let next = device_next layout hertz es ds place left e here c.loop-place.invariant.at in
-    let all = c.args.coefficients.now.terms in
+    let all = c.args.rows.now.terms in
     let P = HasSmallSums all in
     let terms = c.deref.ensures.value ∙ ap (λ (a : Added). a.share.terms) c.in_ok-piece.ensures.added in
     let here_small = subst (All (IsSmallAt all)) terms (c.have_small_sums.ensures.0 c.if-not-have_small_sums.false) in
@@ -89,4 +89,4 @@ returns-clause-small c =
     let count = ap length c.as_slice-entries.ensures.entries in
     let all : length es ≤ place = omega (arith, count, c.len-place-end.ensures, c.loop-place-test.false) in
     let devices : length ds ≤ place = omega (arith, all, devices_length layout c.args.hertz 0 es (settings_left c.args.settings.now)) in
-    subst (All (HasSmallSums c.args.coefficients.now.terms)) (take_all place ds devices) c.loop-place.invariant.small
+    subst (All (HasSmallSums c.args.rows.now.terms)) (take_all place ds devices) c.loop-place.invariant.small

@@ -8,5 +8,5 @@ use Rattle.fd_network.proofs.pieces.check_sums.Given as goal
 abbrev pub invariant-loop-place : goal.invariant-loop-place
 invariant-loop-place l = record {
   at : IsAt l.layout l.hertz l.elements.entries (devices_from l.layout l.hertz 0 l.elements.entries (settings_left l.settings)) l.place (settings_left l.left);
-  small : All (HasSmallSums l.coefficients.terms) (take l.place (devices_from l.layout l.hertz 0 l.elements.entries (settings_left l.settings)));
+  small : All (HasSmallSums l.rows.terms) (take l.place (devices_from l.layout l.hertz 0 l.elements.entries (settings_left l.settings)));
 }

@@ -1,31 +1,19 @@
-use Rattle.std.proofs.Common.{◌≡◌, ◌∙◌, ℕ, ◌^◌, length, ap, subst, rules}
-use Rattle.fd_exact.specs.States.{cell, table}
-use Rattle.fd_exact.specs.Tables.{table-same}
-use Rattle.fd_equations.specs.Cells.{CellsWithin}
-use Rattle.fd_equations.specs.Coefficients.{linear_entry}
-use Rattle.fd_equations.specs.PartLoads.{slope_sum}
+use Rattle.std.proofs.Common.{◌∙◌, ap}
+use Rattle.std.proofs.lemmas.Result.{IfOk-weaker}
+use Rattle.fd_exact.specs.States.{table}
+use Rattle.fd_equations.specs.Matrices.{jacobian_amount}
 use Rattle.fd_equations.specs.Rounded.{jacobian_entry}
-use Rattle.fd_equations.proofs.Lists.{rewritten}
-use Rattle.fd_equations.proofs.Networks.{grown_is, matrix_small}
+use Rattle.fd_equations.proofs.Dense.{own_size}
 use Rattle.fd_equations.proofs.network.Network.rounded_jacobian.Goals as goal
-use Rattle.fd_equations.proofs.network.Network.rounded_jacobian.Goals.{After-from_cells}
-
-cells_are : (c : After-from_cells) → c.from_cells.result ≡ table c.args.self.now.size c.args.self.now.size (cell c.add_slopes.new.cells c.args.self.now.size)
-cells_are c =
-    let long : c.in_ok-cells.cells.len ≡ length c.add_slopes.new.cells = search rules in
-    let r = rewritten c.in_ok-cells.cells.items c.add_slopes.new.cells c.in_ok-cells.cells.len long in
-    c.from_cells.ensures ∙ (λ i. table (c.size.ensures.size i) (c.size.ensures.size i) (cell (r i) (c.size.ensures.size i)))
 
 pub returns-clause-entries : goal.returns-clause-entries
 returns-clause-entries c =
     let v = c.args.self.now in
-    let loads = c.deref.ensures.value ∙ ap (λ w. w.share.loads) c.self.view_is in
-    cells_are c ∙ table-same v.size v.size (cell c.add_slopes.new.cells v.size) (jacobian_entry v c.args.x.now)
-    (grown_is v.size c.self.inside.coefficients.size (length c.args.x.now) c.in_ok-cells.cells.items c.deref_mut.result.now c.add_slopes.new.cells
-    (linear_entry c.self.inside.coefficients.terms) (λ (row : ℕ) (col : ℕ). slope_sum c.deref.result.now c.args.x.now row col) (linear_entry v.share.terms) (λ (row : ℕ) (col : ℕ). slope_sum v.share.loads c.args.x.now row col)
-    (c.self.invariant.1.0 ∙ ap (λ w. w.size) c.self.view_is) c.requires.long c.deref_mut.ensures.value c.in_ok-cells.ensures.entries c.add_slopes.ensures.grown
-    (λ i j. ap (λ w. linear_entry w.share.terms i j) c.self.view_is) (λ i j. ap (λ us. slope_sum us c.args.x.now i j) loads))
+    let m = c.in_ok-jacobian.field-0 in
+    let is = c.in_ok-jacobian.ensures in
+    IfOk-weaker c.to_dense-2.result _ _ (λ d h. h (jacobian_amount v c.args.x.now) (own_size v.size m (jacobian_amount v c.args.x.now) is) ∙ ap (λ n. table n n (jacobian_entry v c.args.x.now)) is.size) c.to_dense-2.ensures.entries
 
 pub returns-clause-small : goal.returns-clause-small
-returns-clause-small c = matrix_small c.args.self.now.size c.from_cells.result c.add_slopes.new.cells (2 ^ 100) (cells_are c)
-    (subst (λ k. CellsWithin k c.add_slopes.new.cells (2 ^ 100)) c.requires.long c.add_slopes.ensures.small)
+returns-clause-small c =
+    let v = c.args.self.now in
+    IfOk-weaker c.to_dense-2.result _ _ (λ d h. h (jacobian_amount v c.args.x.now) (own_size v.size c.in_ok-jacobian.field-0 (jacobian_amount v c.args.x.now) c.in_ok-jacobian.ensures)) c.to_dense-2.ensures.small

@@ -1,0 +1,90 @@
+// A matrix by rows of non-zeros.
+ghost use Rattle.std.specs.Prelude.{◌≡◌, ℕ, ◌*◌, ◌<◌, ◌≤◌, ◌^◌, pos, nat_abs, IfOk, length, All};
+ghost use Rattle.std.specs.List.{Contains};
+ghost use Rattle.fd_exact.specs.States.{cell, part, table};
+ghost use Rattle.fd_mat.specs.Rows.{EntriesWithin};
+ghost use Rattle.fd_equations.specs.Amounts.{Amount, HaveSlopeRoom, IsRowOf, cell_at};
+ghost use Rattle.fd_equations.specs.Matrices.{IsMatrix, matrix_with};
+ghost use Rattle.fd_equations.specs.Patterns.{IsInside, IsRising, IsSlot};
+
+use crate::Pattern;
+use crate::cells::{Cell, row_in};
+use fd_mat::Dense;
+use std::alloc::{AllocError, Global};
+use std::marker::Model;
+
+/// A matrix at the places of a network's rows: in each row only the columns in which something stands are kept.
+#[derive(Drop)]
+pub struct Matrix<'a> {
+    pattern: &'a Pattern,
+    cells: Vec<Cell>,
+}
+
+impl<'a> Model for Matrix<'a> {
+    ghost use Rattle.fd_equations.specs.Matrices.{MatrixView, matrix_with};
+
+    ghost Value = { MatrixView };
+
+    ghost view = { λ m. matrix_with m.pattern.now m.cells.items };
+}
+
+impl<'a> Matrix<'a> {
+    /// The matrix with these cells at the places of a pattern.
+    pub fn new(pattern: &'a Pattern, cells: Vec<Cell>) -> Matrix<'a>
+        ensures { result ≡ matrix_with pattern.now cells.items }
+    {
+        Matrix { pattern, cells }
+    }
+
+    /// How many rows it has, and how many columns.
+    pub fn size(&self) -> u32
+        ensures size { result ≡ self.now.size }
+        ensures small { result ≤ 2 ^ 11 }
+    {
+        self.pattern.size()
+    }
+
+    /// The cells of a row in rising columns: the columns in which something stands, each with its entry in units of 2^-40, the number of
+    /// contributions and the number of slopes of part loads in it.
+    pub fn row(&self, row: u32) -> &[Cell]
+        requires long { length self.now.cells ≡ length self.now.places }
+        requires row { row < self.now.size }
+        ensures { (at : ℕ × ℕ → Amount) → IsMatrix self.now.size self.now at → IsRowOf self.now.size at row result.now }
+    {
+        row_in(self.pattern, &self.cells, row)
+    }
+
+    /// The matrix with all its entries, in units of 2^-40.
+    ///
+    /// # Errors
+    /// `AllocError` where the memory for the entries is refused.
+    pub fn to_dense(&self, alloc: Global) -> Result<Dense, AllocError>
+        requires long { length self.now.cells ≡ length self.now.places }
+        ensures entries { IfOk result (λ d. (at : ℕ × ℕ → Amount) → IsMatrix self.now.size self.now at → d ≡ table self.now.size self.now.size (λ row col. (at (row, col)).units)) }
+        ensures small { IfOk result (λ d. (at : ℕ × ℕ → Amount) → IsMatrix self.now.size self.now at → EntriesWithin d (2 ^ 100)) }
+    {
+        let size = self.pattern.size();
+        let width = size as usize;
+        let mut dense = vec![in alloc; 0; width * width]?;
+        write(self.pattern.places(), &self.cells, width, &mut dense);
+        Ok(Dense::from_cells(size, dense))
+    }
+}
+
+// Writes the cells at these places into rows that lie one after another.
+fn write(places: &[(u32, u32)], cells: &[Cell], width: usize, dense: &mut [i128])
+    requires small { width ≤ 2 ^ 11 }
+    requires long { length cells.now ≡ length places.now }
+    requires square { length dense.old ≡ width * width }
+    requires zero { (k : ℕ) → part dense.old k ≡ pos 0 }
+    requires inside { All (IsInside width) places.now }
+    requires rising { IsRising places.now }
+    ensures square { length dense.new ≡ width * width }
+    ensures here { (row col k : ℕ) → row < width → col < width → IsSlot places.now row col k → cell dense.new width row col ≡ (cell_at cells.now k).units }
+    ensures none { (row col : ℕ) → row < width → col < width → ¬ (Contains places.now (row, col)) → cell dense.new width row col ≡ pos 0 }
+{
+    for k in 0..places.len() {
+        let (row, col) = places[k];
+        dense[row as usize * width + col as usize] = cells[k].units;
+    }
+}

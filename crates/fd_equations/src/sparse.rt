@@ -1,0 +1,224 @@
+// Rows by non-zeros.
+ghost use Rattle.std.specs.Prelude.{◌≡◌, ℕ, ◌+◌, ◌*◌, ◌<◌, ◌≤◌, ◌^◌, ◌↔◌, ℤ, pos, ◌*ℤ◌, nat_abs, map, IfOk, IsTrue, length, All};
+ghost use Rattle.fd_exact.specs.Rounding.{near_div};
+ghost use Rattle.fd_exact.specs.States.{part as part_of};
+ghost use Rattle.fd_exact.specs.Sums.{list_z};
+ghost use Rattle.fd_system.specs.Contributions.{AreSmall};
+ghost use Rattle.fd_equations.specs.Amounts.{IsRowOf, cell_at, of_both, of_rows, rows_with, without_slopes as without_slopes_of};
+ghost use Rattle.fd_equations.specs.Coefficients.{count_at, linear_entry};
+ghost use Rattle.fd_equations.specs.Conditions.{AreKnown, AreLinear, IsPart};
+ghost use Rattle.fd_equations.specs.Matrices.{IsMatrix};
+ghost use Rattle.fd_equations.specs.PartLoads.{slope_counts, slopes_there, start_slopes};
+ghost use Rattle.fd_equations.specs.Rounded.{products_added};
+ghost use Rattle.fd_equations.specs.Terminals.{IsConnected};
+
+use crate::Pattern;
+use crate::cells::{Cell, are_small, cell_in, is_small, linear_cells, row_in};
+use crate::load_cells::{add_slopes, add_start_slopes, count_slopes};
+use crate::matrix::Matrix;
+use crate::places::places_of;
+use fd_arith::Term;
+use fd_system::LoadAt;
+use std::alloc::{AllocError, Global};
+use std::marker::Model;
+
+/// The contributions and the part loads of a network with their sums by row and column: in each row only the columns in which something
+/// stands are kept. A contribution counts to the nearest 2^-40.
+#[derive(Drop)]
+pub struct Rows {
+    pattern: Pattern,
+    terms: Vec<Term>,
+    loads: Vec<LoadAt>,
+    cells: Vec<Cell>,
+}
+
+impl Model for Rows {
+    ghost use Rattle.fd_equations.specs.Amounts.{RowsView, rows_with};
+    ghost use Rattle.fd_equations.specs.Holding.{AreRows};
+
+    ghost Value = { RowsView };
+
+    ghost view = { λ r. rows_with r.pattern.size r.terms.items r.loads.items };
+
+    ghost invariant = { λ r. AreRows r.pattern r.terms.items r.loads.items r.cells.items };
+}
+
+impl Rows {
+    /// The rows of these contributions and part loads, with `size` rows and columns.
+    ///
+    /// # Errors
+    /// `AllocError` where the memory for the places or the sums is refused.
+    pub fn of(
+        alloc: Global,
+        size: u32,
+        terms: Vec<Term>,
+        loads: Vec<LoadAt>,
+    ) -> Result<Rows, AllocError>
+        requires small { size ≤ 2 ^ 11 }
+        requires linear { AreLinear size terms.items }
+        requires loads { All (IsConnected size) loads.items }
+        requires few { length loads.items < 2 ^ 21 }
+        ensures { IfOk result (λ r. r ≡ rows_with size terms.items loads.items) }
+    {
+        let places = places_of(alloc, &terms, &loads)?;
+        let pattern = Pattern::of(alloc, size, places)?;
+        let mut cells = linear_cells(alloc, &pattern, &terms)?;
+        count_slopes(&pattern, &mut cells, &loads);
+        Ok(Rows {
+            pattern,
+            terms,
+            loads,
+            cells,
+        })
+    }
+
+    /// How many rows there are, and how many columns.
+    pub fn size(&self) -> u32
+        ensures size { result ≡ self.now.size }
+        ensures small { result ≤ 2 ^ 11 }
+    {
+        self.pattern.size()
+    }
+
+    /// The contributions in order.
+    pub fn terms(&self) -> &[Term]
+        ensures terms { result.now ≡ self.now.terms }
+        ensures linear { AreLinear self.now.size self.now.terms }
+    {
+        self.terms.as_slice()
+    }
+
+    /// The part loads in order.
+    pub fn loads(&self) -> &[LoadAt]
+        ensures { result.now ≡ self.now.loads }
+    {
+        self.loads.as_slice()
+    }
+
+    /// The sum of the contributions in a row and a column, in units of 2^-40.
+    pub fn entry(&self, row: u32, col: u32) -> i128
+        ensures { result ≡ linear_entry self.now.terms row col }
+    {
+        cell_in(&self.pattern, &self.cells, row, col).units
+    }
+
+    /// How many contributions and slopes of part loads stand in a row and a column.
+    pub fn count(&self, row: u32, col: u32) -> u32
+        ensures { result ≡ count_at self.now.terms row col + slope_counts self.now.loads row col }
+    {
+        let cell = cell_in(&self.pattern, &self.cells, row, col);
+        cell.count + cell.slopes
+    }
+
+    /// Whether the sum in a row and a column is at most 2^54 units in size.
+    pub fn is_within(&self, row: u32, col: u32) -> bool
+        ensures { IsTrue result ↔ AreSmall (linear_entry self.now.terms row col) }
+    {
+        is_small(self.entry(row, col))
+    }
+
+    /// Whether each sum is at most 2^54 units in size.
+    pub fn are_within(&self) -> bool
+        ensures { IsTrue result ↔ ((row col : ℕ) → AreSmall (linear_entry self.now.terms row col)) }
+    {
+        are_small(&self.cells)
+    }
+
+    /// The cells of a row in rising columns: the columns in which something stands, each with the sum of its contributions, their number
+    /// and the number of slopes of part loads.
+    pub fn row(&self, row: u32) -> &[Cell]
+        requires { row < self.now.size }
+        ensures { IsRowOf self.now.size (of_rows self.now.terms self.now.loads) row result.now }
+    {
+        row_in(&self.pattern, &self.cells, row)
+    }
+
+    /// Adds to each row the products of its entries with the parts of x, each to the nearest whole number.
+    pub fn add_products(&self, rows: &mut [i128], x: &[i128])
+        requires rows { length rows.old ≡ self.now.size }
+        requires parts { length x.now ≡ self.now.size }
+        requires entries { (row col : ℕ) → AreSmall (linear_entry self.now.terms row col) }
+        requires room { AreKnown rows.old }
+        requires point { All IsPart x.now }
+        ensures { rows.new ≡ products_added self.now.size (linear_entry self.now.terms) rows.old x.now }
+    {
+        for row in 0..self.size() {
+            rows[row as usize] += row_product(self.row(row), x);
+        }
+    }
+
+    /// The matrix of which the first inverse is made: contributions, and part loads with their slopes at the start.
+    ///
+    /// # Errors
+    /// `AllocError` where the memory for the cells is refused.
+    pub fn start(&self, alloc: Global) -> Result<Matrix<'_>, AllocError>
+        ensures { IfOk result (λ m. IsMatrix self.now.size m (of_both self.now.terms (λ u. start_slopes u.load) self.now.loads)) }
+    {
+        let mut cells = without_slopes(alloc, &self.cells)?;
+        add_start_slopes(&self.pattern, &mut cells, &self.loads);
+        Ok(Matrix::new(&self.pattern, cells))
+    }
+
+    /// The Jacobian at the point x: contributions, and part loads with their slopes there.
+    ///
+    /// # Errors
+    /// `AllocError` where the memory for the cells is refused.
+    pub fn jacobian(&self, alloc: Global, x: &[i128]) -> Result<Matrix<'_>, AllocError>
+        requires long { length x.now ≡ self.now.size }
+        requires parts { All IsPart x.now }
+        ensures { IfOk result (λ m. IsMatrix self.now.size m (of_both self.now.terms (slopes_there x.now) self.now.loads)) }
+    {
+        let mut cells = without_slopes(alloc, &self.cells)?;
+        add_slopes(&self.pattern, &mut cells, &self.loads, x);
+        Ok(Matrix::new(&self.pattern, cells))
+    }
+}
+
+// The cells without the numbers of slopes.
+fn without_slopes(alloc: Global, cells: &[Cell]) -> Result<Vec<Cell>, AllocError>
+    ensures { IfOk result (λ bare. bare.items ≡ map without_slopes_of cells.now) }
+{
+    cells.iter().map(|cell| bare(cell)).collect(alloc)
+}
+
+fn bare(cell: &Cell) -> Cell
+    ensures { result ≡ without_slopes_of cell.now }
+{
+    Cell { slopes: 0, ..*cell }
+}
+
+// The sum of the products of a row's entries with the parts of x, each to the nearest whole number.
+fn row_product(cells: &[Cell], x: &[i128]) -> i128
+    requires few { length cells.now ≤ 2 ^ 11 }
+    requires inside { (k : ℕ) → k < length cells.now → (cell_at cells.now k).col < length x.now }
+    requires small { (k : ℕ) → k < length cells.now → AreSmall (cell_at cells.now k).units }
+    requires point { All IsPart x.now }
+    ensures sum { result ≡ list_z (λ c. near_div (c.units *ℤ part_of x.now c.col) (2 ^ 40)) cells.now }
+    ensures small { nat_abs result ≤ 2 ^ 65 }
+{
+    let mut sum = 0;
+    for cell in cells {
+        sum += nearest(product(cell.units, x[cell.col as usize]));
+    }
+    sum
+}
+
+// An entry times a part.
+fn product(units: i128, part: i128) -> i128
+    requires units { nat_abs units ≤ 2 ^ 54 }
+    requires part { nat_abs part ≤ 2 ^ 40 }
+    ensures value { result ≡ units *ℤ part }
+    ensures small { nat_abs result ≤ 2 ^ 94 }
+{
+    units * part
+}
+
+// z / 2^40 to the nearest.
+fn nearest(z: i128) -> i128
+    requires { nat_abs z ≤ 2 ^ 94 }
+    ensures value { result ≡ near_div z (2 ^ 40) }
+    ensures small { nat_abs result ≤ 2 ^ 54 }
+{
+    let size = (z.unsigned_abs() + 0x80_0000_0000) / 0x100_0000_0000;
+    if z < 0 { -(size as i128) } else { size as i128 }
+}
