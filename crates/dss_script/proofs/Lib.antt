@@ -6,3 +6,4 @@ pub mod Entering
 pub mod Rooms
 pub mod Prices
 pub mod Few
+mod SaidSame

@@ -4,3 +4,5 @@ pub mod Meaning
 pub mod Script
 pub mod Sessions
 pub mod Bounds
+pub mod Said
+pub mod SaidLaws

@@ -8,6 +8,7 @@
 //! - `bounds`: how many commands a session gives, as a law
 //! - `fault`: the causes for which a script is refused, and why a session gives no command
 //! - `meaning`: what the words and pairs of a line ask for
+//! - `laws`: a script as a list of events
 //! - `path`: names of files, joined to MASTER's folder
 //! - `reading`: a file that is being read, line by line
 //! - `session`: `Session`, which reads on from file to file
@@ -15,6 +16,7 @@
 
 mod bounds;
 mod fault;
+mod laws;
 mod meaning;
 mod path;
 mod reading;
@@ -24,4 +26,5 @@ mod tests;
 
 pub use bounds::commands_are_few;
 pub use fault::{ScriptCause, SessionFault};
+pub use laws::said_law;
 pub use session::Session;

@@ -1,7 +1,6 @@
-mod Streams
+mod Weaker
 mod SnapshotNetworks
-mod Unique
-pub mod Exists
-pub mod Statuses
-mod FailedReads
+pub mod Tests
+mod Handed
 mod Weights
+mod Runs

@@ -9,7 +9,7 @@ use Rattle.fd_exact.specs.States.{part}
 use Rattle.fd_arith.specs.Interval.{Bounds, Holds}
 use Rattle.fd_system.specs.Equations.{equation}
 use Rattle.fd_system.specs.Meets.{Meets}
-use Rattle.fd_system.specs.Residual.{greater_size, residual_interval, whole_state}
+use Rattle.fd_system.specs.Residual.{greater_size, mismatch_of, residual_interval, whole_state}
 use Rattle.fd_system.specs.System.{residual_of}
 use Rattle.fd_system.proofs.Intervals.{greater_size_held}
 use Rattle.fd_equations.specs.Enclosure.{EndsWithin, interval_residual_of, summand_count}
@@ -26,9 +26,9 @@ use Rattle.fd_devices.specs.Snapshot.{closed_of, powers_of, snapshot_of, taps_of
 use Rattle.fd_network.specs.Faults.{range_blame}
 use Rattle.fd_app.specs.Built.{unbuilt_place}
 use Rattle.fd_inject.specs.Ranges.{SizesWithin, first_past}
-use Rattle.fd_app.specs.Causes.{not_built}
-use Rattle.fd_app.specs.Headline.{IsReached, IsSolution}
-use Rattle.fd_app.specs.Steps.{refuses, solves}
+use Rattle.fd_report.specs.declared.faults.Cause.TheVariants as cause
+use Rattle.fd_app.specs.Headline.{AreMismatches, IsReached, IsSolution}
+use Rattle.fd_app.specs.Steps.{refuses, round_of, solves}
 use Rattle.fd_app.specs.Solving.{by_built, by_range, greatest_mismatch, judged, mismatch_at, mismatches_of, snapshot_blame, snapshot_network, solution_step, unless_loose}
 
 -- ---- the settings of a script
@@ -72,6 +72,21 @@ meets_rows v x holds near l h =
     let S : ℤ → Type 0 = λ m. SizeWithin f (nat_abs m) in
     subst S (sym e) within
 
+-- an interval with ends has a mismatch
+row_known : (row : Bounds) (f : Fraction) (n : ℕ) → EndsWithin row f n → greater_size row ≡ Some (unwrap_or (greater_size row) (pos 0))
+row_known None f n near = absurd near
+row_known (Some e) f n near = refl
+
+pub mismatches_due : (v : NetworkView) (x : List ℤ) → ((l : ℕ) → l < v.size → EndsWithin (get_or (interval_residual_of v x) l None) (residual_of v.share (whole_state x) l) (2 * summand_count v.share l))
+    → AreMismatches v x (mismatches_of v x)
+unfolding mismatches_of
+mismatches_due v x near l h =
+    let row : get_or (interval_residual_of v x) l None ≡ residual_interval v.share x l = get_or-map-range_with_len (residual_interval v.share x) 0 v.size l l None h (omega arith) in
+    let e : part (mismatches_of v x) l ≡ mismatch_at v x l = get_or-map-range_with_len (mismatch_at v x) 0 v.size l l (pos 0) h (omega arith) in
+    let f = residual_of v.share (whole_state x) l in
+    let Q : Bounds → Type 0 = λ r. EndsWithin r f (2 * summand_count v.share l) in
+    row_known (residual_interval v.share x l) f (2 * summand_count v.share l) (subst Q row (near l h)) ∙ ap Some (sym e)
+
 pub mismatches_long : (v : NetworkView) (x : List ℤ) → length (mismatches_of v x) ≡ v.size
 unfolding mismatches_of
 mismatches_long v x = length-map-range_with_len (mismatch_at v x) 0 v.size
@@ -82,23 +97,24 @@ unfolding mismatches_of
 mismatches_by v x = map-map (λ row. unwrap_or (greater_size row) (pos 0)) (residual_interval v.share x) (range_with_len 0 v.size)
 
 -- a state of which no mismatch is above the greatest is a solution
-pub judged_solved : (c : CircuitView) (x e m : List ℤ) → e ≡ m → None ≡ first_past greatest_mismatch e → solves c x e ≡ judged c x m
-judged_solved c x e m is none = ap (solves c x) is ∙ ap (unless_loose c x m) (none ∙ ap (first_past greatest_mismatch) is)
+pub judged_solved : (c : CircuitView) (x e m : List ℤ) (inverse : List (List ℤ)) → e ≡ m → None ≡ first_past greatest_mismatch e → solves c (round_of x inverse e) ≡ judged c (round_of x inverse m)
+judged_solved c x e m inverse is none = ap (λ l. solves c (round_of x inverse l)) is ∙ ap (unless_loose c (round_of x inverse m)) (none ∙ ap (first_past greatest_mismatch) is)
 
-pub is_solution : (c : CircuitView) (v : NetworkView) (x e : List ℤ) → v ≡ snapshot_network c → AgreesWith v.share (circuit_parts c (snapshot_of c.elements)) → IsReached c x → e ≡ mismatches_of v x → SizesWithin greatest_mismatch e
-    → Meets (residual_of v.share) e v.size (whole_state x) → IsSolution c x e
-is_solution c v x e is agrees reached due small meets =
+pub is_solution : (c : CircuitView) (v : NetworkView) (x e : List ℤ) (inverse : List (List ℤ)) → v ≡ snapshot_network c → AgreesWith v.share (circuit_parts c (snapshot_of c.elements)) → IsReached c x inverse → length e ≡ v.size → AreMismatches v x e
+    → SizesWithin greatest_mismatch e → Meets (residual_of v.share) e v.size (whole_state x) → IsSolution c (round_of x inverse e)
+is_solution c v x e inverse is agrees reached long due small meets =
     let P : ℕ → Type 0 = λ n. Meets (λ y l. equation l (circuit_parts c (snapshot_of c.elements) y)) e n (whole_state x) in
     record {
       state = reached;
-      due = due ∙ ap (λ n. mismatches_of n x) is;
+      long = long ∙ network_size c v is;
+      due = subst (λ (n : NetworkView). AreMismatches n x e) is due;
       small = small;
       meets = subst P (network_size c v is) (agrees.up e v.size (whole_state x) (omega arith) meets);
     }
 
 -- ---- the step of a Solve
 
-pub solved_unbuilt : (c : CircuitView) (place : Place) → unbuilt_place c.elements ≡ Some place → solution_step c ≡ refuses place not_built
+pub solved_unbuilt : (c : CircuitView) (place : Place) → unbuilt_place c.elements ≡ Some place → solution_step c ≡ refuses place cause.NotBuilt
 unfolding solution_step
 solved_unbuilt c place is = ap (by_built c) is
 

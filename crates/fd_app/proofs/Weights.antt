@@ -29,17 +29,21 @@ use Rattle.dss_circuit.specs.Circuit.{CircuitView, Elements, applied, applied_ve
 use Rattle.dss_circuit.specs.Keys.{edit_key, element_key, made_key, needed, new_key, source_name, written}
 use Rattle.dss_script.specs.Sessions.{cost}
 use Rattle.dss_profile.specs.declared.command.Blame.{Blame}
-use Rattle.fd_app.specs.Causes.{model_cause, not_built}
+use Rattle.fd_report.specs.declared.faults.Cause.{Cause}
+use Rattle.fd_report.specs.declared.faults.Cause.TheVariants as cause
+use Rattle.fd_outcome.specs.Settles.{Round}
+use Rattle.fd_outcome.specs.Events.{Event}
+use Rattle.fd_outcome.specs.Work.{Step, goes, ends}
 use Rattle.fd_app.specs.Built.{unbuilt_place}
 use Rattle.fd_app.specs.Commands.{Applied, IsStep, IsStepOf, by_tests, is_daily, left_of, nothing_left, reads_shape, refused_at, solve_by, solve_left, tried}
 use Rattle.fd_app.specs.Solving.{by_built, by_point, by_range, greatest_mismatch, limits_of, mismatches_of, snapshot_blame, snapshot_network, solution_step, unless_loose, unsolved}
-use Rattle.fd_app.specs.Steps.{Step, changes, ends, solves}
+use Rattle.fd_app.specs.Steps.{round_of}
 use Rattle.fd_equations.specs.Views.{NetworkView}
 use Rattle.fd_inject.specs.Procedure.{solution_of}
 use Rattle.fd_inject.specs.Ranges.{first_past}
 use Rattle.fd_inject.specs.declared.fault.SolveFault.{SolveFault}
 use Rattle.fd_inject.specs.declared.fault.SolveFault.TheVariants as procedure
-use Rattle.fd_app.specs.Weights.{TakesRoom, weight}
+use Rattle.fd_app.specs.Weights.{weight}
 
 -- ---- a class of the profile has four letters or more
 
@@ -211,19 +215,19 @@ Reaches left now = (left ≡ nothing_left now) ⊎ (left ≡ solve_left now)
 by_solve : (place : Place) (circuit now : CircuitView) → Reaches (solve_by place circuit) now → circuit ≡ now
 by_solve place circuit now h = cases (is_daily circuit.options.mode) h
   where
-    cases : (b : Bool) → Reaches (if b then refused_at place not_built else solve_left circuit) now → circuit ≡ now
+    cases : (b : Bool) → Reaches (if b then refused_at place cause.NotBuilt else solve_left circuit) now → circuit ≡ now
     cases true h = elim h [ inl is ↦ cc is | inr is ↦ cc is ]
     cases false h = elim h [ inl is ↦ cc is | inr is ↦ cc is ]
 
-refused_reaches : (place : Place) (cause : List ℕ) (now : CircuitView) → Reaches (refused_at place cause) now → ⊥
-refused_reaches place cause now h = elim h [ inl is ↦ cc is | inr is ↦ cc is ]
+refused_reaches : (place : Place) (c : Cause) (now : CircuitView) → Reaches (refused_at place c) now → ⊥
+refused_reaches place c now h = elim h [ inl is ↦ cc is | inr is ↦ cc is ]
 
 nothing_reaches : (circuit now : CircuitView) → Reaches (nothing_left circuit) now → circuit ≡ now
 nothing_reaches circuit now h = elim h [ inl is ↦ cc is | inr is ↦ cc is ]
 
 left_reaches : (place : Place) (v : Verb) (r : Result CircuitView ModelFault) (now : CircuitView) → Reaches (left_of place v r) now → r ≡ Ok now
-left_reaches place v (Err cause) now h = absurd (refused_reaches place (model_cause cause) now h)
-left_reaches place verb.Bases (Ok circuit) now h = absurd (refused_reaches place not_built now h)
+left_reaches place v (Err f) now h = absurd (refused_reaches place (cause.Model f) now h)
+left_reaches place verb.Bases (Ok circuit) now h = absurd (refused_reaches place cause.NotBuilt now h)
 left_reaches place (verb.Solve pairs) (Ok circuit) now h = ap Ok (by_solve place circuit now h)
 left_reaches place (verb.New kind name pairs) (Ok circuit) now h = ap Ok (nothing_reaches circuit now h)
 left_reaches place (verb.Edit kind name pairs) (Ok circuit) now h = ap Ok (nothing_reaches circuit now h)
@@ -231,23 +235,22 @@ left_reaches place (verb.Set pairs) (Ok circuit) now h = ap Ok (nothing_reaches 
 left_reaches place verb.Clear (Ok circuit) now h = ap Ok (nothing_reaches circuit now h)
 
 -- the circuit that stands behind a step after which the run goes on
-abbrev Leaves : Step → CircuitView → Type 0
-Leaves (changes circuit) now = circuit ≡ now
-Leaves (solves circuit x e) now = circuit ≡ now
-Leaves (ends how text) now = ⊥
+abbrev Leaves : Step CircuitView → CircuitView → Type 0
+Leaves (goes events circuit) now = circuit ≡ now
+Leaves (ends events f) now = ⊥
 
-loose_leaves : (circuit now : CircuitView) (x e : List ℤ) (row : Option ℕ) → Leaves (unless_loose circuit x e row) now → circuit ≡ now
-loose_leaves circuit now x e None h = h
-loose_leaves circuit now x e (Some row) h = absurd h
+loose_leaves : (circuit now : CircuitView) (r : Round) (row : Option ℕ) → Leaves (unless_loose circuit r row) now → circuit ≡ now
+loose_leaves circuit now r None h = h
+loose_leaves circuit now r (Some row) h = absurd h
 
 fault_leaves : (circuit now : CircuitView) (f : SolveFault) → Leaves (unsolved circuit f) now → circuit ≡ now
-fault_leaves circuit now (procedure.NoInverse column cause) h = absurd h
+fault_leaves circuit now (procedure.NoInverse column c) h = absurd h
 fault_leaves circuit now (procedure.OutOfRange place step) h = absurd h
 fault_leaves circuit now (procedure.NotConverged place steps update) h = absurd h
 fault_leaves circuit now procedure.NoMemory h = h
 
 point_leaves : (circuit now : CircuitView) (v : NetworkView) (r : Result (List ℤ × List (List ℤ)) SolveFault) → Leaves (by_point circuit v r) now → circuit ≡ now
-point_leaves circuit now v (Ok p) h = loose_leaves circuit now p.0 (mismatches_of v p.0) (first_past greatest_mismatch (mismatches_of v p.0)) h
+point_leaves circuit now v (Ok p) h = loose_leaves circuit now (round_of p.0 p.1 (mismatches_of v p.0)) (first_past greatest_mismatch (mismatches_of v p.0)) h
 point_leaves circuit now v (Err f) h = fault_leaves circuit now f h
 
 range_leaves : (circuit now : CircuitView) (blame : Option Blame) → Leaves (by_range circuit blame) now → circuit ≡ now
@@ -266,25 +269,19 @@ tests_leave : (circuit now : CircuitView) (r : Result Unit Blame) → Leaves (by
 tests_leave circuit now (Ok done) h = solution_leaves circuit now h
 tests_leave circuit now (Err blame) h = absurd h
 
-step_reaches : (left : Applied) (step : Step) (now : CircuitView) → IsStepOf left step → Leaves step now → Reaches left now
+step_reaches : (left : Applied) (step : Step CircuitView) (now : CircuitView) → IsStepOf left step → Leaves step now → Reaches left now
 step_reaches (nothing_left circuit) step now is leaves =
-    let P : Step → Type 0 = λ s. Leaves s now in
+    let P : Step CircuitView → Type 0 = λ s. Leaves s now in
     let e : circuit ≡ now = subst P is leaves in
     inl (ap nothing_left e)
-step_reaches (refused_at at cause) step now is leaves = let P : Step → Type 0 = λ s. Leaves s now in absurd (subst P is leaves)
+step_reaches (refused_at place c) step now is leaves = let P : Step CircuitView → Type 0 = λ s. Leaves s now in absurd (subst P is leaves)
 step_reaches (solve_left circuit) step now is leaves =
-    let P : Step → Type 0 = λ s. Leaves s now in
+    let P : Step CircuitView → Type 0 = λ s. Leaves s now in
     inr (ap solve_left (tests_leave circuit now is.answer (subst P is.step_is leaves)))
 
-command_takes : (command : Command) (circuit now : CircuitView) (step : Step) → IsStep command circuit step → Leaves step now → TakesRoom command circuit now
-command_takes command circuit now step is leaves = cases (reads_shape command.verb) (step_reaches (tried command circuit) step now is leaves)
+pub command_takes : (command : Command) (circuit now : CircuitView) (events : List Event) → IsStep command circuit (goes events now) → weight now ≤ weight circuit + cost command.verb
+command_takes command circuit now events is = cases (reads_shape command.verb) (step_reaches (tried command circuit) (goes events now) now is refl)
   where
-    cases : (b : Bool) → Reaches (if b then refused_at command.place not_built else left_of command.place command.verb (applied command circuit)) now → TakesRoom command circuit now
-    cases true h = absurd (refused_reaches command.place not_built now h)
-    cases false h = verb_takes same command.place command.verb circuit now (left_reaches command.place command.verb (applied command circuit) now h)
-
-pub change_takes : (command : Command) (circuit now : CircuitView) → IsStep command circuit (changes now) → TakesRoom command circuit now
-change_takes command circuit now is = command_takes command circuit now (changes now) is refl
-
-pub solve_takes : (command : Command) (circuit now : CircuitView) (x e : List ℤ) → IsStep command circuit (solves now x e) → TakesRoom command circuit now
-solve_takes command circuit now x e is = command_takes command circuit now (solves now x e) is refl
+    cases : (b : Bool) → Reaches (if b then refused_at command.place cause.NotBuilt else left_of command.place command.verb (applied command circuit)) now → weight now ≤ weight circuit + cost command.verb
+    cases true h = absurd (refused_reaches command.place cause.NotBuilt now h)
+    cases false h = verb_takes command.place command.verb circuit now (left_reaches command.place command.verb (applied command circuit) now h)

@@ -1,36 +1,48 @@
 -- What a command comes to, as the code says it.
-use Rattle.std.specs.Prelude.{◌≡◌, length}
+use Rattle.std.specs.Prelude.{◌≡◌, ℕ, List, [], length}
 use Rattle.dss_layout.specs.Layout.{layout_of, size_of}
 use Rattle.dss_circuit.specs.Circuit.{CircuitView}
+use Rattle.fd_report.specs.Lines.{lines_of}
+use Rattle.fd_report.specs.Records.{report_of}
+use Rattle.fd_report.specs.declared.faults.Fault.{Fault}
+use Rattle.fd_report.specs.declared.faults.Fault.TheVariants as fault
+use Rattle.fd_outcome.specs.Settles.{Round}
+use Rattle.fd_outcome.specs.Work.{Step, ends}
 use Rattle.fd_app.specs.Headline.{IsSolution}
-use Rattle.fd_app.specs.Steps.{Step, changes, solves, ends}
+use Rattle.fd_app.specs.Steps.{changes, fails, round_of, solves}
 use Rattle.fd_app.specs.declared.answer.Answer.{Answer}
 use Rattle.fd_app.specs.declared.answer.Answer.TheVariants as answer
 use Rattle.fd_app.specs.declared.answer.SolvedState.{SolvedState}
-use Rattle.fd_app.specs.declared.ending.Ending.{Ending}
-use Rattle.fd_app.specs.declared.ending.Ending.TheVariants as ending
+
+abbrev pub round_in : SolvedState → Round
+round_in s = round_of s.point.x.items s.point.inverse s.mismatches.items
+
+-- the text of each record of a solution; a snapshot has hour 0 and round 0
+abbrev pub texts_of : CircuitView → Round → List (List ℕ)
+texts_of circuit r = lines_of (report_of (layout_of circuit.elements) circuit.solves 0 0 r.centre r.mismatches)
 
 -- for the circuit as it is now
-abbrev pub answered : Answer → CircuitView → Step
+abbrev pub answered : Answer → CircuitView → Step CircuitView
 answered answer.Done circuit = changes circuit
-answered (answer.Solves s) circuit = solves circuit s.x.items s.mismatches.items
-answered (answer.Ends fault) circuit = ends fault.ending fault.text.bytes
+answered (answer.Solves s) circuit = solves circuit (round_in s)
+answered (answer.Refuses f) circuit = ends [] f
+answered (answer.Fails f) circuit = fails circuit f
 
 -- a solution of the circuit, with its layout
 pub record IsPrintable (s : SolvedState) (circuit : CircuitView) : Type 0 where
   pub layout : s.layout ≡ layout_of circuit.elements
-  pub state : length s.x.items ≡ size_of (layout_of circuit.elements)
-  pub mismatches : length s.mismatches.items ≡ size_of (layout_of circuit.elements)
-  pub solution : IsSolution circuit s.x.items s.mismatches.items
+  pub state : length s.point.x.items ≡ size_of (layout_of circuit.elements)
+  pub solution : IsSolution circuit (round_in s)
 
--- the ending of a command's fault
-abbrev pub IsOfCommand : Ending → Type 0
-IsOfCommand ending.Usage = ⊥
-IsOfCommand ending.ReadFault = ⊥
+-- a fault of a command
+abbrev pub IsOfCommand : Fault → Type 0
+IsOfCommand fault.Usage = ⊥
+IsOfCommand (fault.Read name) = ⊥
 IsOfCommand other = Unit {0}
 
 -- what an answer solves is printable, and its fault is one of a command
 abbrev pub IsSound : Answer → CircuitView → Type 0
 IsSound answer.Done circuit = Unit {0}
 IsSound (answer.Solves s) circuit = IsPrintable s circuit
-IsSound (answer.Ends fault) circuit = IsOfCommand fault.ending
+IsSound (answer.Refuses f) circuit = IsOfCommand f
+IsSound (answer.Fails f) circuit = IsOfCommand f

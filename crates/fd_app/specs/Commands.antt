@@ -14,9 +14,11 @@ use Rattle.dss_profile.specs.declared.command.Verb.{Verb}
 use Rattle.dss_profile.specs.declared.command.Verb.TheVariants as verb
 use Rattle.dss_ready.specs.Ready.{HasPassed, IsToBlame}
 use Rattle.dss_circuit.specs.Circuit.{CircuitView, applied}
-use Rattle.fd_app.specs.Causes.{model_cause, not_built}
+use Rattle.fd_report.specs.declared.faults.Cause.{Cause}
+use Rattle.fd_report.specs.declared.faults.Cause.TheVariants as cause
+use Rattle.fd_outcome.specs.Work.{Step}
 use Rattle.fd_app.specs.Solving.{solution_step}
-use Rattle.fd_app.specs.Steps.{Step, changes, refuses}
+use Rattle.fd_app.specs.Steps.{changes, refuses}
 
 -- ---- what is refused before it is applied: a load shape that is to be read from a file
 
@@ -42,20 +44,20 @@ is_daily mode.Snapshot = false
 pub data Applied : Type 0 where
   nothing_left : CircuitView → Applied
   solve_left : CircuitView → Applied
-  refused_at : Place → List ℕ → Applied
+  refused_at : Place → Cause → Applied
 
 -- a Solve whose options the circuit has taken
 abbrev pub solve_by : Place → CircuitView → Applied
-solve_by place circuit = if is_daily circuit.options.mode then refused_at place not_built else solve_left circuit
+solve_by place circuit = if is_daily circuit.options.mode then refused_at place cause.NotBuilt else solve_left circuit
 
 abbrev pub left_of : Place → Verb → Result CircuitView ModelFault → Applied
-left_of place v (Err cause) = refused_at place (model_cause cause)
-left_of place verb.Bases (Ok circuit) = refused_at place not_built
+left_of place v (Err f) = refused_at place (cause.Model f)
+left_of place verb.Bases (Ok circuit) = refused_at place cause.NotBuilt
 left_of place (verb.Solve pairs) (Ok circuit) = solve_by place circuit
 left_of place v (Ok circuit) = nothing_left circuit
 
 abbrev pub tried : Command → CircuitView → Applied
-tried command circuit = if reads_shape command.verb then refused_at command.place not_built else left_of command.place command.verb (applied command circuit)
+tried command circuit = if reads_shape command.verb then refused_at command.place cause.NotBuilt else left_of command.place command.verb (applied command circuit)
 
 -- ---- Solve
 
@@ -65,20 +67,20 @@ IsTested circuit (Ok done) = HasPassed circuit
 IsTested circuit (Err blame) = IsToBlame circuit blame
 
 -- what the tests answer, and what a circuit that passes them comes to
-abbrev pub by_tests : CircuitView → Result Unit Blame → Step
-by_tests circuit (Err blame) = refuses blame.place (model_cause blame.cause)
+abbrev pub by_tests : CircuitView → Result Unit Blame → Step CircuitView
+by_tests circuit (Err blame) = refuses blame.place (cause.Model blame.cause)
 by_tests circuit (Ok done) = solution_step circuit
 
-pub record IsSolve (circuit : CircuitView) (step : Step) : Type 0 where
+pub record IsSolve (circuit : CircuitView) (step : Step CircuitView) : Type 0 where
   pub answer : Result Unit Blame
   pub right : IsTested circuit answer
   pub step_is : step ≡ by_tests circuit answer
 
-abbrev pub IsStepOf : Applied → Step → Type 0
+abbrev pub IsStepOf : Applied → Step CircuitView → Type 0
 IsStepOf (nothing_left circuit) step = step ≡ changes circuit
-IsStepOf (refused_at place cause) step = step ≡ refuses place cause
+IsStepOf (refused_at place c) step = step ≡ refuses place c
 IsStepOf (solve_left circuit) step = IsSolve circuit step
 
 -- what a command comes to, for a circuit
-abbrev pub IsStep : Command → CircuitView → Step → Type 0
+abbrev pub IsStep : Command → CircuitView → Step CircuitView → Type 0
 IsStep command circuit step = IsStepOf (tried command circuit) step

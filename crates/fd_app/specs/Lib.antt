@@ -1,13 +1,9 @@
 pub mod Words
-pub mod Causes
 pub mod Built
 pub mod Steps
 pub mod Solving
 pub mod Commands
-pub mod Outcome
-pub mod Ends
 pub mod Headline
 pub mod Answered
 pub mod Run
-pub mod Stream
 pub mod Weights

@@ -1,34 +1,43 @@
--- A run of the top call over the files that its library holds.
-use Rattle.std.specs.Prelude.{ℕ, Bool, List, Option, None}
-use Rattle.fd_outside.specs.Files.{Files}
-use Rattle.dss_profile.specs.declared.names.ElementName.{ElementName}
-use Rattle.fd_app.specs.Outcome.{Outcome, EndsWith, HasEnd, IsOnce, IsOutcomeOf}
-use Rattle.fd_app.specs.declared.ending.Ending.{Ending}
-use Rattle.fd_app.specs.Ends.{Asks, HasReadCause, Prints}
-use Rattle.fd_app.specs.Headline.{AllSolved}
+-- The history of a command line over the files that its library holds.
+use Rattle.std.specs.Prelude.{◌≡◌, ℕ, List, [], Option, Some, None}
+use Rattle.std.specs.Str.{chars}
+use Rattle.fd_outside.specs.Files.{Files, held}
+use Rattle.dss_values.specs.Names.{bytes}
+use Rattle.dss_circuit.specs.Circuit.{CircuitView, empty_circuit}
+use Rattle.dss_script.specs.Said.{Part, said_of, ended_by}
+use Rattle.fd_report.specs.declared.faults.Fault.TheVariants as fault
+use Rattle.fd_outcome.specs.Calls.{Style, report}
+use Rattle.fd_outcome.specs.Events.{History, ended, finishes}
+use Rattle.fd_outcome.specs.History.{IsHistory}
+use Rattle.fd_outcome.specs.Work.{ExactlyOne}
+use Rattle.fd_app.specs.Commands.{IsStep}
+use Rattle.fd_app.specs.Words.{Form, Solve}
 
--- What is printed is an outcome of the words over these files, whole or cut short; the names asked are the outcome's, and each of its
--- solutions is one. A read fails only where the count of the library's faults rose.
-pub record Runs {L S : Type 0} (faults : L → ℕ) (asked : L → Option (List (List ℕ))) (lib_old lib_new : L)
-    (taken : S → Option (List ℕ)) (calls : S → Option ℕ) (old new : S) (status : ℕ) (is_outcome : Option ℕ → Outcome → Type 0) : Type 0 where
-  pub fails : Option ℕ
-  pub cause : HasReadCause (faults lib_old) (faults lib_new) fails
-  pub outcome : Outcome
-  pub right : is_outcome fails outcome
-  pub prints : Prints taken calls old new status outcome
-  pub asks : Asks (asked lib_old) (asked lib_new) outcome.names
-  pub solutions : AllSolved outcome.entries
+-- what must be told of the files: nothing where none is asked for
+abbrev pub Knows : Option Form → Option Files → Files → Type 0
+Knows None told files = Unit {0}
+Knows (Some (Solve file)) told files = told ≡ Some files
 
--- the outcome of the words in which no read fails ends so; there is no second one that is followed to its end
-abbrev pub Due : Files → List (List ℕ) → Ending → Type 0
-Due files words how = EndsWith (λ outcome. IsOutcomeOf files words None outcome) how
+abbrev pub style_of : Option Form → Style
+style_of None = report
+style_of (Some (Solve file)) = report
 
--- words have one outcome at most that is followed to its end, over these files and with this read failing
-abbrev pub OutcomesAreUnique : Type 0
-OutcomesAreUnique =
-    (files : Files) (words : List (List ℕ)) (fails : Option ℕ) → IsOnce (IsOutcomeOf files words fails)
+-- `solve` asks for no name behind the last command, and does nothing there
+abbrev pub no_name : CircuitView → Option (List ℕ)
+no_name circuit = None
 
--- words have an outcome that is followed to its end, over these files and with this read failing
-abbrev pub OutcomesExist : Type 0
-OutcomesExist =
-    (files : Files) (words : List (List ℕ)) (fails : Option ℕ) → HasEnd (IsOutcomeOf files words fails)
+abbrev pub IsDoneThere : CircuitView → Option (List ℕ) → History → Type 0
+IsDoneThere circuit found h = h ≡ finishes []
+
+-- the history of the commands of a script, which begins with no circuit
+abbrev pub IsScriptHistory : Files → Part → History → Type 0
+IsScriptHistory files p h = IsHistory IsStep no_name IsDoneThere (λ n. held files (bytes n)) p.said (ended_by p.left) empty_circuit h
+
+-- the history of a command line; words that are no form are a fault
+abbrev pub IsFormHistory : Files → Option Form → History → Type 0
+IsFormHistory files None h = h ≡ ended [] fault.Usage
+IsFormHistory files (Some (Solve file)) h = IsScriptHistory files (said_of files (chars file)) h
+
+-- there is exactly one
+abbrev pub FormsLaw : Type 0
+FormsLaw = (files : Files) (form : Option Form) → ExactlyOne (IsFormHistory files form)

@@ -18,12 +18,13 @@ use Rattle.fd_inject.specs.Ranges.{first_past}
 use Rattle.fd_inject.specs.declared.fault.SolveFault.{SolveFault}
 use Rattle.fd_inject.specs.declared.fault.SolveFault.TheVariants as procedure
 use Rattle.fd_inject.specs.declared.limits.Limits.{Limits}
-use Rattle.fd_report.specs.Lines.{line_of}
-use Rattle.fd_report.specs.Faults.{loose_fields, no_inverse_fields, not_converged_fields, out_of_range_fields}
+use Rattle.fd_report.specs.Names.{name_at}
+use Rattle.fd_report.specs.declared.faults.Cause.TheVariants as cause
+use Rattle.fd_report.specs.declared.faults.Fault.TheVariants as fault
+use Rattle.fd_outcome.specs.Settles.{Round}
+use Rattle.fd_outcome.specs.Work.{Step}
 use Rattle.fd_app.specs.Built.{unbuilt_place}
-use Rattle.fd_app.specs.Causes.{model_cause, not_built}
-use Rattle.fd_app.specs.Steps.{Step, changes, solves, ends, refuses}
-use Rattle.fd_app.specs.declared.ending.Ending.TheVariants as ending
+use Rattle.fd_app.specs.Steps.{changes, fails, refuses, round_of, solves}
 
 -- ---- the network, the procedure's limits, and mismatches
 
@@ -53,38 +54,38 @@ greatest_mismatch = 1000
 
 -- ---- the step
 
--- a state with its mismatches, unless a row was found above the greatest mismatch
-abbrev pub unless_loose : CircuitView → List ℤ → List ℤ → Option ℕ → Step
-unless_loose c x e None = solves c x e
-unless_loose c x e (Some row) = ends ending.Loose (line_of (loose_fields (layout_of c.elements) row (part e row)))
+-- a round, unless a row of it was found above the greatest mismatch
+abbrev pub unless_loose : CircuitView → Round → Option ℕ → Step CircuitView
+unless_loose c r None = solves c r
+unless_loose c r (Some row) = fails c (fault.Loose (name_at (layout_of c.elements) row) (part r.mismatches row))
 
-abbrev pub judged : CircuitView → List ℤ → List ℤ → Step
-judged c x e = unless_loose c x e (first_past greatest_mismatch e)
+abbrev pub judged : CircuitView → Round → Step CircuitView
+judged c r = unless_loose c r (first_past greatest_mismatch r.mismatches)
 
 -- the procedure's fault; its definition gives no want of memory
-abbrev pub unsolved : CircuitView → SolveFault → Step
-unsolved c (procedure.NoInverse column cause) = ends ending.NoInverse (line_of (no_inverse_fields (layout_of c.elements) column cause))
-unsolved c (procedure.OutOfRange place step) = ends ending.OutOfRange (line_of (out_of_range_fields (layout_of c.elements) place step))
-unsolved c (procedure.NotConverged place steps update) = ends ending.NotConverged (line_of (not_converged_fields (layout_of c.elements) place steps update))
+abbrev pub unsolved : CircuitView → SolveFault → Step CircuitView
+unsolved c (procedure.NoInverse column stop) = fails c (fault.NoInverse (name_at (layout_of c.elements) column) stop)
+unsolved c (procedure.OutOfRange place step) = fails c (fault.OutOfRange (name_at (layout_of c.elements) place) step)
+unsolved c (procedure.NotConverged place steps update) = fails c (fault.NotConverged (name_at (layout_of c.elements) place) steps update)
 unsolved c procedure.NoMemory = changes c
 
 -- the point that the procedure reaches is judged by its mismatches in the network
-abbrev pub by_point : CircuitView → NetworkView → Result (List ℤ × List (List ℤ)) SolveFault → Step
-by_point c v (Ok point) = judged c point.0 (mismatches_of v point.0)
-by_point c v (Err fault) = unsolved c fault
+abbrev pub by_point : CircuitView → NetworkView → Result (List ℤ × List (List ℤ)) SolveFault → Step CircuitView
+by_point c v (Ok point) = judged c (round_of point.0 point.1 (mismatches_of v point.0))
+by_point c v (Err f) = unsolved c f
 
-abbrev pub by_network : CircuitView → NetworkView → Step
+abbrev pub by_network : CircuitView → NetworkView → Step CircuitView
 by_network c v = by_point c v (solution_of v (limits_of c.options))
 
-abbrev pub by_range : CircuitView → Option Blame → Step
+abbrev pub by_range : CircuitView → Option Blame → Step CircuitView
 by_range c None = by_network c (snapshot_network c)
-by_range c (Some blame) = refuses blame.place (model_cause blame.cause)
+by_range c (Some blame) = refuses blame.place (cause.Model blame.cause)
 
-abbrev pub by_built : CircuitView → Option Place → Step
+abbrev pub by_built : CircuitView → Option Place → Step CircuitView
 by_built c None = by_range c (snapshot_blame c)
-by_built c (Some place) = refuses place not_built
+by_built c (Some place) = refuses place cause.NotBuilt
 
 -- the first element that isn't solved yet refuses the script, then the one to blame for the range; else the procedure ends with a
 -- fault, or with a point, which is the solution where no mismatch is above the greatest
-unfoldable pub solution_step : CircuitView → Step
+unfoldable pub solution_step : CircuitView → Step CircuitView
 solution_step c = by_built c (unbuilt_place c.elements)

@@ -1,30 +1,36 @@
--- What a command comes to: a change of the circuit, a solution, or the end of the run.
-use Rattle.std.specs.Prelude.{ℕ, ℤ, List, [], ◌∷◌, codes}
-use Rattle.std.specs.Fmt.{decimal}
-use Rattle.dss_values.specs.Names.{bytes}
+-- What a command comes to for `solve`: a change of the circuit, a settle, or the end of the run.
+use Rattle.std.specs.Prelude.{ℤ, List, [], ◌∷◌}
 use Rattle.dss_profile.specs.declared.command.Place.{Place}
 use Rattle.dss_circuit.specs.Circuit.{CircuitView}
-use Rattle.fd_report.specs.Lines.{line_of}
-use Rattle.fd_app.specs.declared.ending.Ending.{Ending}
-use Rattle.fd_app.specs.declared.ending.Ending.TheVariants as ending
+use Rattle.fd_devices.specs.Snapshot.{snapshot_of}
+use Rattle.fd_report.specs.declared.faults.Cause.{Cause}
+use Rattle.fd_report.specs.declared.faults.Fault.{Fault}
+use Rattle.fd_report.specs.declared.faults.Fault.TheVariants as fault
+use Rattle.fd_outcome.specs.Settles.{Round, Settle, SettleEnd, Standing, settled, failed}
+use Rattle.fd_outcome.specs.Events.{settle}
+use Rattle.fd_outcome.specs.Work.{Step, goes, ends}
 
-pub data Step : Type 0 where
-  changes : CircuitView → Step
-  -- a state of the circuit and the mismatch of each row, by place, in whole microvolts and microamperes
-  solves : CircuitView → List ℤ → List ℤ → Step
-  -- how the run ends, and the text of the fault's record
-  ends : Ending → List ℕ → Step
+abbrev pub changes : CircuitView → Step CircuitView
+changes circuit = goes [] circuit
 
-abbrev pub usage_text : List ℕ
-usage_text = line_of (codes "fault" ∷ codes "usage" ∷ [])
+abbrev pub refuses : Place → Cause → Step CircuitView
+refuses place c = ends [] (fault.Script place c)
 
--- the script is refused at a place for a cause
-abbrev pub script_text : Place → List ℕ → List ℕ
-script_text place cause = line_of (codes "fault" ∷ codes "script" ∷ bytes place.file ∷ decimal place.line ∷ cause ∷ [])
+-- the taps and states of a script
+abbrev pub standing_of : CircuitView → Standing
+standing_of c = record { taps = (snapshot_of c.elements).taps; closed = (snapshot_of c.elements).closed }
 
--- the file of this name couldn't be read
-abbrev pub read_text : List ℕ → List ℕ
-read_text name = line_of (codes "fault" ∷ codes "read" ∷ bytes name ∷ [])
+-- a Solve in mode snapshot, by the circuit's number of Solves; no control acts, so it leaves what it started with
+abbrev pub snapshot_settle : CircuitView → List Round → SettleEnd → Settle
+snapshot_settle c rounds end = record { number = c.solves; hour = 0; circuit = c; start = standing_of c; rounds = rounds; end = end; left = standing_of c }
 
-abbrev pub refuses : Place → List ℕ → Step
-refuses place cause = ends ending.ScriptFault (script_text place cause)
+-- a state with the inverse with which it was reached, and its mismatches
+abbrev pub round_of : List ℤ → List (List ℤ) → List ℤ → Round
+round_of x inverse e = record { centre = x; radii = []; mismatches = e; inverse = inverse; acts = [] }
+
+abbrev pub solves : CircuitView → Round → Step CircuitView
+solves c r = goes (settle (snapshot_settle c (r ∷ []) settled) ∷ []) c
+
+-- no record is printed of a settle without rounds
+abbrev pub fails : CircuitView → Fault → Step CircuitView
+fails c f = ends (settle (snapshot_settle c [] (failed f)) ∷ []) f

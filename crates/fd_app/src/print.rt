@@ -1,53 +1,36 @@
 // Records handed to the sink.
-ghost use Rattle.std.specs.Prelude.{◌≡◌, ◌≤◌, ◌⊎◌, ◌∷◌, [], IfOk, IfNone, IfSome, List, ℕ};
+ghost use Rattle.std.specs.Prelude.{◌≡◌, ◌≤◌, IfNone, IfSome, map};
 ghost use Rattle.fd_outside.specs.Causes.{Rose};
-ghost use Rattle.fd_outside.specs.Emitted.{Takes, TakesFront};
-ghost use Rattle.fd_app.specs.Answered.{IsPrintable};
-ghost use Rattle.fd_app.specs.Ends.{CutsShort, Prints};
-ghost use Rattle.fd_app.specs.Outcome.{Solution, code_of, fault, texts_of};
+ghost use Rattle.fd_outcome.specs.Calls.{writes};
+ghost use Rattle.fd_outcome.specs.Parts.{IsCutIn, Printed, Wrote, fault_doing};
+ghost use Rattle.fd_outcome.specs.Way.{whole};
+ghost use Rattle.fd_app.specs.Answered.{IsPrintable, round_in, texts_of};
 
 use crate::answer::SolvedState;
-use crate::ending::{Ending, code};
-use crate::records::solution;
 use dss_circuit::Circuit;
-use fd_outside::{Record, Sink, SinkFault, emit};
-use std::alloc::{AllocError, Global};
+use fd_outside::{Sink, SinkFault, emit};
+use fd_report::{Fault, record, records, status};
+use std::alloc::Global;
 
 /// The exit status where memory runs out.
 pub(crate) const WANT_OF_MEMORY: u8 = 1;
 
-/// The exit status where a write fails.
-pub(crate) const WRITE_FAULT: u8 = 5;
+// The exit status where a write fails.
+const WRITE_FAULT: u8 = 5;
 
-/// Prints the record that ends a run.
-pub(crate) fn print_record<S: Sink>(alloc: Global, text: Record, ending: Ending, out: &mut S) -> u8
-    ensures prints { Prints S.taken S.calls out.old out.new result (fault ending text.bytes) }
-    ensures ending { (result ≡ code_of ending) ⊎ CutsShort result }
+/// Prints the record of a fault that ends the run, and answers the exit status.
+pub(crate) fn print_fault<S: Sink>(alloc: Global, fault: &Fault, out: &mut S) -> u8
+    ensures prints { Printed S.taken S.calls out.old out.new (fault_doing fault.now) result }
     ensures later { S.faults out.old ≤ S.faults out.new }
     ensures write { result ≡ 5 → Rose (S.faults out.old) (S.faults out.new) }
 {
+    let Ok(text) = record(alloc, fault) else {
+        return WANT_OF_MEMORY;
+    };
     match emit(alloc, &[text], out) {
-        Ok(()) => code(ending),
+        Ok(()) => status(fault),
         Err(SinkFault::Failed) => WRITE_FAULT,
         Err(SinkFault::NoMemory) => WANT_OF_MEMORY,
-    }
-}
-
-/// Prints the record that ends a run, if there was memory for it.
-pub(crate) fn print<S: Sink>(
-    alloc: Global,
-    text: Result<Record, AllocError>,
-    ending: Ending,
-    out: &mut S,
-) -> u8
-    ensures prints { (said : List ℕ) → IfOk text (λ r. r.bytes ≡ said) → Prints S.taken S.calls out.old out.new result (fault ending said) }
-    ensures ending { (result ≡ code_of ending) ⊎ CutsShort result }
-    ensures later { S.faults out.old ≤ S.faults out.new }
-    ensures write { result ≡ 5 → Rose (S.faults out.old) (S.faults out.new) }
-{
-    match text {
-        Ok(text) => print_record(alloc, text, ending, out),
-        Err(_) => WANT_OF_MEMORY,
     }
 }
 
@@ -59,12 +42,22 @@ pub(crate) fn print_solution<S: Sink>(
     out: &mut S,
 ) -> Option<u8>
     requires { IsPrintable solved.now circuit.now }
-    ensures goes { IfNone result (Takes S.taken S.calls out.old out.new (texts_of (Solution circuit.now.solves circuit.now solved.now.x.items solved.now.mismatches.items ∷ []))) }
-    ensures ends { IfSome result (λ status. CutsShort status × TakesFront S.taken S.calls out.old out.new (texts_of (Solution circuit.now.solves circuit.now solved.now.x.items solved.now.mismatches.items ∷ []))) }
+    ensures goes { IfNone result (Wrote S.taken S.calls out.old out.new (whole (map writes (texts_of circuit.now (round_in solved.now))))) }
+    ensures ends { IfSome result (λ code. IsCutIn S.taken S.calls out.old out.new (map writes (texts_of circuit.now (round_in solved.now))) code) }
     ensures later { S.faults out.old ≤ S.faults out.new }
-    ensures write { IfSome result (λ status. status ≡ 5 → Rose (S.faults out.old) (S.faults out.new)) }
+    ensures write { IfSome result (λ code. code ≡ 5 → Rose (S.faults out.old) (S.faults out.new)) }
 {
-    let Ok(records) = solution(alloc, circuit, solved) else {
+    let number = circuit.solves();
+    let made = records(
+        alloc,
+        &solved.layout,
+        number,
+        0,
+        0,
+        &solved.point.x,
+        &solved.mismatches,
+    );
+    let Ok(records) = made else {
         return Some(WANT_OF_MEMORY);
     };
     match emit(alloc, records.as_slice(), out) {

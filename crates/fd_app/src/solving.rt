@@ -20,21 +20,20 @@ ghost use Rattle.fd_inject.specs.Ranges.{SizesWithin, first_past};
 ghost use Rattle.fd_inject.specs.declared.fault.SolveFault.{SolveFault};
 ghost use Rattle.fd_app.specs.Answered.{IsSound, answered};
 ghost use Rattle.fd_app.specs.Built.{is_built, unbuilt_place};
-ghost use Rattle.fd_app.specs.Headline.{IsReached};
+ghost use Rattle.fd_app.specs.Headline.{AreMismatches, IsReached};
+ghost use Rattle.fd_app.specs.Steps.{round_of};
 ghost use Rattle.fd_app.specs.Solving.{by_network, by_point, by_range, greatest_mismatch, judged, limits_of, mismatches_of, snapshot_blame, snapshot_network, solution_step};
 
-use crate::answer::{Answer, SolvedState, ended, refused};
-use crate::ending::Ending;
-use crate::faults::{model_cause, not_built};
+use crate::answer::{Answer, SolvedState, refused};
 use dss_circuit::{Circuit, Element, Place};
 use dss_layout::Layout;
 use dss_profile::Options;
 use fd_arith::{Interval, Micro};
 use fd_devices::{BuildFault, Positions, powers_at, snapshot_law};
-use fd_equations::Network;
+use fd_equations::{Network, Point};
 use fd_inject::{Limits, SolveFault, solve};
 use fd_network::build;
-use fd_report::{loose, no_inverse, not_converged, out_of_range};
+use fd_report::{Cause, Fault, name_at};
 use fd_system::greater_size;
 use std::alloc::{AllocError, Global};
 
@@ -129,6 +128,7 @@ fn mismatches_in(alloc: Global, rows: &[Interval<Micro>]) -> Result<Vec<i128>, A
 fn mismatches_of(alloc: Global, net: &Network, x: &[i128]) -> Result<Vec<i128>, AllocError>
     requires { IsPoint net.now x.now }
     ensures mismatches { IfOk result (λ e. e.items ≡ mismatches_of net.now x.now) }
+    ensures due { IfOk result (λ e. AreMismatches net.now x.now e.items) }
     ensures meets { IfOk result (λ e. Meets (residual_of net.now.share) e.items net.now.size (whole_state x.now)) }
 {
     let rows = net.residual(alloc, x)?;
@@ -150,30 +150,31 @@ fn first_loose(mismatches: &[i128], rows: u32) -> Option<u32>
     None
 }
 
-// What a state with its mismatches comes to.
+// What a point with its mismatches comes to.
 fn judge(
     alloc: Global,
     circuit: &Circuit,
     net: &Network,
-    x: Vec<i128>,
+    point: Point,
 ) -> Result<Answer, AllocError>
     requires few { first_too_many circuit.now.elements ≡ None }
     requires network { net.now ≡ snapshot_network circuit.now }
     requires agrees { AgreesWith net.now.share (circuit_parts circuit.now (snapshot_of circuit.now.elements)) }
-    requires point { IsPoint net.now x.items }
-    requires reached { IsReached circuit.now x.items }
-    ensures { IfOk result (λ answer. (answered answer circuit.now ≡ judged circuit.now x.items (mismatches_of net.now x.items)) × IsSound answer circuit.now) }
+    requires point { IsPoint net.now point.x.items }
+    requires reached { IsReached circuit.now point.x.items point.inverse }
+    ensures { IfOk result (λ answer. (answered answer circuit.now ≡ judged circuit.now (round_of point.x.items point.inverse (mismatches_of net.now point.x.items))) × IsSound answer circuit.now) }
 {
     let layout = layout_of(alloc, circuit)?;
-    let mismatches = mismatches_of(alloc, net, &x)?;
+    let mismatches = mismatches_of(alloc, net, &point.x)?;
     match first_loose(&mismatches, net.size()) {
         Some(row) => {
-            let text = loose(alloc, &layout, row, mismatches[row as usize])?;
-            Ok(ended(Ending::Loose, text))
+            let mismatch = mismatches[row as usize];
+            let row = name_at(alloc, &layout, row)?;
+            Ok(Answer::Fails(Fault::Loose { row, mismatch }))
         }
         None => Ok(Answer::Solves(SolvedState {
             layout,
-            x,
+            point,
             mismatches,
         })),
     }
@@ -187,20 +188,24 @@ fn unsolved(alloc: Global, layout: &Layout, fault: SolveFault) -> Result<Answer,
 {
     match fault {
         SolveFault::NoInverse { column, cause } => {
-            let text = no_inverse(alloc, layout, column, cause)?;
-            Ok(ended(Ending::NoInverse, text))
+            let unknown = name_at(alloc, layout, column)?;
+            Ok(Answer::Fails(Fault::NoInverse { unknown, cause }))
         }
         SolveFault::OutOfRange { place, step } => {
-            let text = out_of_range(alloc, layout, place, step)?;
-            Ok(ended(Ending::OutOfRange, text))
+            let unknown = name_at(alloc, layout, place)?;
+            Ok(Answer::Fails(Fault::OutOfRange { unknown, step }))
         }
         SolveFault::NotConverged {
             place,
             steps,
             update,
         } => {
-            let text = not_converged(alloc, layout, place, steps, update)?;
-            Ok(ended(Ending::NotConverged, text))
+            let unknown = name_at(alloc, layout, place)?;
+            Ok(Answer::Fails(Fault::NotConverged {
+                unknown,
+                steps,
+                update,
+            }))
         }
         SolveFault::NoMemory => Err(AllocError),
     }
@@ -215,7 +220,7 @@ fn solve_network(alloc: Global, circuit: &Circuit, net: &Network) -> Result<Answ
 {
     let limits = limits_of(circuit.options());
     match solve(alloc, net, &limits) {
-        Ok(point) => judge(alloc, circuit, net, point.x),
+        Ok(point) => judge(alloc, circuit, net, point),
         Err(fault) => {
             let layout = layout_of(alloc, circuit)?;
             unsolved(alloc, &layout, fault)
@@ -230,7 +235,9 @@ fn solve_built(alloc: Global, circuit: &Circuit) -> Result<Answer, AllocError>
 {
     match network_of(alloc, circuit) {
         Ok(net) => solve_network(alloc, circuit, &net),
-        Err(BuildFault::Range(blame)) => refused(alloc, &blame.place, model_cause(blame.cause)),
+        Err(BuildFault::Range(blame)) => {
+            refused(alloc, &blame.place, Cause::Model(blame.cause))
+        },
         Err(BuildFault::NoMemory) => Err(AllocError),
     }
 }
@@ -242,7 +249,7 @@ pub(crate) fn answer(alloc: Global, circuit: &Circuit) -> Result<Answer, AllocEr
     ensures { IfOk result (λ answer. (answered answer circuit.now ≡ solution_step circuit.now) × IsSound answer circuit.now) }
 {
     match first_unbuilt(circuit) {
-        Some(place) => refused(alloc, place, not_built()),
+        Some(place) => refused(alloc, place, Cause::NotBuilt),
         None => solve_built(alloc, circuit),
     }
 }

@@ -4,24 +4,17 @@ ghost use Rattle.std.specs.Cmp.Lexicographic.{pointwise};
 ghost use Rattle.std.specs.List.{list_any, starts_with};
 ghost use Rattle.dss_circuit.specs.Circuit.{CircuitView, applied};
 ghost use Rattle.dss_circuit.specs.Limits.{most_elements};
-ghost use Rattle.dss_script.specs.Script.{Script};
-ghost use Rattle.fd_outside.specs.Causes.{Rose};
 ghost use Rattle.fd_app.specs.Answered.{IsSound, answered};
-ghost use Rattle.fd_app.specs.Causes.{model_cause};
+ghost use Rattle.fd_report.specs.declared.faults.Cause.TheVariants.{Model};
 ghost use Rattle.fd_app.specs.Commands.{IsSolve, IsStep, IsStepOf, is_daily, is_loadshape, left_of, names_file, reads_shape, solve_by};
-ghost use Rattle.fd_app.specs.Outcome.{IsOutcome};
 ghost use Rattle.fd_app.specs.Steps.{refuses};
-ghost use Rattle.fd_app.specs.Stream.{EndsAt, GoesOn};
-ghost use Rattle.fd_app.specs.Weights.{TakesRoom};
 
 use crate::answer::{Answer, refused};
-use crate::faults::{model_cause, not_built};
-use crate::print::{WANT_OF_MEMORY, print_record, print_solution};
 use crate::solving::answer;
 use dss_circuit::{Blame, Circuit, Command, Mode, ModelFault, Place, Verb};
 use dss_lexer::{Pair, Text};
 use dss_ready::{ReadyFault, ready};
-use fd_outside::Sink;
+use fd_report::Cause;
 use std::alloc::{AllocError, Global};
 
 fn is_loadshape(alloc: Global, class: &Text) -> Result<bool, AllocError>
@@ -90,9 +83,9 @@ fn is_daily(mode: Mode) -> bool
 }
 
 fn blamed(alloc: Global, blame: Blame) -> Result<Answer, AllocError>
-    ensures { IfOk result (λ answer. (circuit : CircuitView) → (answered answer circuit ≡ refuses blame.place (model_cause blame.cause)) × IsSound answer circuit) }
+    ensures { IfOk result (λ answer. (circuit : CircuitView) → (answered answer circuit ≡ refuses blame.place (Model blame.cause)) × IsSound answer circuit) }
 {
-    refused(alloc, &blame.place, model_cause(blame.cause))
+    refused(alloc, &blame.place, Cause::Model(blame.cause))
 }
 
 // A Solve whose options the circuit has taken, in mode snapshot.
@@ -110,7 +103,7 @@ fn solve(alloc: Global, circuit: &Circuit, place: &Place) -> Result<Answer, Allo
     ensures { IfOk result (λ answer. IsStepOf (solve_by place.now circuit.now) (answered answer circuit.now) × IsSound answer circuit.now) }
 {
     if is_daily(circuit.options().mode) {
-        return refused(alloc, place, not_built());
+        return refused(alloc, place, Cause::NotBuilt);
     }
     test_and_solve(alloc, circuit)
 }
@@ -120,7 +113,7 @@ fn after_apply(alloc: Global, circuit: &Circuit, command: &Command) -> Result<An
     ensures { IfOk result (λ answer. IsStepOf (left_of command.now.place command.now.verb (Ok circuit.now)) (answered answer circuit.now) × IsSound answer circuit.now) }
 {
     match &command.verb {
-        Verb::Bases => refused(alloc, &command.place, not_built()),
+        Verb::Bases => refused(alloc, &command.place, Cause::NotBuilt),
         Verb::Solve { .. } => solve(alloc, circuit, &command.place),
         Verb::New { .. } | Verb::Edit { .. } | Verb::Set { .. } | Verb::Clear => Ok(Answer::Done),
     }
@@ -135,63 +128,22 @@ fn apply(alloc: Global, circuit: &mut Circuit, command: &Command) -> Result<Answ
     match circuit.apply(alloc, command) {
         Ok(()) => after_apply(alloc, circuit, command),
         Err(ModelFault::NoMemory) => Err(AllocError),
-        Err(cause) => refused(alloc, &command.place, model_cause(cause)),
+        Err(cause) => refused(alloc, &command.place, Cause::Model(cause)),
     }
 }
 
-// Does a command, and says what it comes to.
-fn answer_to(alloc: Global, circuit: &mut Circuit, command: &Command) -> Result<Answer, AllocError>
+/// Does a command, and says what it comes to.
+pub(crate) fn answer_to(
+    alloc: Global,
+    circuit: &mut Circuit,
+    command: &Command,
+) -> Result<Answer, AllocError>
     requires solves { circuit.old.solves < 2 ^ 32 - 1 }
     requires elements { length circuit.old.elements < most_elements }
     ensures { IfOk result (λ answer. IsStep command.now circuit.old (answered answer circuit.new) × IsSound answer circuit.new) }
 {
     if reads_shape(alloc, &command.verb)? {
-        return refused(alloc, &command.place, not_built());
+        return refused(alloc, &command.place, Cause::NotBuilt);
     }
     apply(alloc, circuit, command)
-}
-
-// Does a command and prints what it gives. An answer ends the run.
-fn do_command<S: Sink>(
-    alloc: Global,
-    circuit: &mut Circuit,
-    command: &Command,
-    out: &mut S,
-) -> Option<u8>
-    requires solves { circuit.old.solves < 2 ^ 32 - 1 }
-    requires elements { length circuit.old.elements < most_elements }
-    ensures goes { IfNone result (GoesOn S.taken S.calls out.old out.new command.now (λ script fails outcome. IsOutcome script fails circuit.old outcome) (λ script fails outcome. IsOutcome script fails circuit.new outcome)) }
-    ensures ends { IfSome result (λ status. EndsAt S.taken S.calls out.old out.new status command.now (λ script fails outcome. IsOutcome script fails circuit.old outcome)) }
-    ensures room { IfNone result (TakesRoom command.now circuit.old circuit.new) }
-    ensures later { S.faults out.old ≤ S.faults out.new }
-    ensures write { IfSome result (λ status. status ≡ 5 → Rose (S.faults out.old) (S.faults out.new)) }
-    ensures read { IfSome result (λ status. status ≡ 4 → ⊥) }
-    ensures usage { IfSome result (λ status. status ≡ 2 → ⊥) }
-{
-    match answer_to(alloc, circuit, command) {
-        Ok(Answer::Done) => None,
-        Ok(Answer::Solves(solved)) => print_solution(alloc, circuit, &solved, out),
-        Ok(Answer::Ends(fault)) => Some(print_record(alloc, fault.text, fault.ending, out)),
-        Err(_) => Some(WANT_OF_MEMORY),
-    }
-}
-
-/// Does a command and prints what it gives. An answer ends the run.
-pub(crate) fn take_command<S: Sink>(
-    alloc: Global,
-    circuit: &mut Circuit,
-    command: Command,
-    out: &mut S,
-) -> Option<u8>
-    requires solves { circuit.old.solves < 2 ^ 32 - 1 }
-    requires elements { length circuit.old.elements < most_elements }
-    ensures goes { IfNone result (GoesOn S.taken S.calls out.old out.new command (λ script fails outcome. IsOutcome script fails circuit.old outcome) (λ script fails outcome. IsOutcome script fails circuit.new outcome)) }
-    ensures ends { IfSome result (λ status. EndsAt S.taken S.calls out.old out.new status command (λ script fails outcome. IsOutcome script fails circuit.old outcome)) }
-    ensures room { IfNone result (TakesRoom command circuit.old circuit.new) }
-    ensures later { S.faults out.old ≤ S.faults out.new }
-    ensures write { IfSome result (λ status. status ≡ 5 → Rose (S.faults out.old) (S.faults out.new)) }
-    ensures read { IfSome result (λ status. status ≡ 4 → ⊥) }
-    ensures usage { IfSome result (λ status. status ≡ 2 → ⊥) }
-{
-    do_command(alloc, circuit, &command, out)
 }

@@ -1,107 +1,41 @@
 // The top call.
-ghost use Rattle.std.specs.Prelude.{◌≡◌, ◌≢◌, ◌≤◌, ◌⊎◌, [], None, Some, Option, map, string_bytes, ℕ, true, false, OnOk, Err, Result};
+ghost use Rattle.std.specs.Prelude.{◌≡◌, List, None, Some, map, string_bytes, ℕ};
 ghost use Rattle.std.specs.Str.{chars};
 ghost use Rattle.fd_outside.specs.Causes.{Rose};
 ghost use Rattle.fd_outside.specs.Files.{Files};
-ghost use Rattle.dss_circuit.specs.Circuit.{empty_circuit};
-ghost use Rattle.dss_script.specs.Script.{Script, script_of};
-ghost use Rattle.dss_script.specs.Sessions.{GrowsSome, IsRead, remaining, room};
-ghost use Rattle.fd_app.specs.Ends.{AnswersAt, Asks, EndsAtRead, Prints};
-ghost use Rattle.fd_app.specs.Outcome.{IsOutcome, IsOutcomeOf, code_of, usage};
-ghost use Rattle.fd_app.specs.Run.{Due, OutcomesAreUnique, OutcomesExist, Runs};
-ghost use Rattle.fd_app.specs.Stream.{PrintsFault};
+ghost use Rattle.dss_script.specs.Said.{said_of};
+ghost use Rattle.dss_script.specs.Sessions.{GrowsSome};
+ghost use Rattle.fd_outcome.specs.Calls.{report};
+ghost use Rattle.fd_outcome.specs.Events.{History};
+ghost use Rattle.fd_outcome.specs.Laws.{IsDue};
+ghost use Rattle.fd_outcome.specs.Runs.{Runs};
+ghost use Rattle.fd_outcome.specs.Untold.{Answers, EndsAtRead, IsUntold};
+ghost use Rattle.fd_app.specs.Headline.{IsSolved};
+ghost use Rattle.fd_app.specs.Run.{FormsLaw, IsFormHistory, IsScriptHistory, Knows, style_of};
 ghost use Rattle.fd_app.specs.Words.{form_of};
 
-use crate::ending::Ending;
-use crate::faults::script_cause;
-use crate::print::{WANT_OF_MEMORY, print};
-use crate::records::{read_fault, script_fault, usage};
-use crate::step::take_command;
+use crate::print::{WANT_OF_MEMORY, print_fault};
+use crate::script::run_script;
 use crate::words::solved_file;
 use dss_circuit::Circuit;
-use dss_script::{Session, SessionFault};
+use dss_script::{Session, said_law};
 use fd_outside::{Library, Sink};
+use fd_report::Fault;
 use std::alloc::Global;
-
-// Prints why the script gives no command.
-fn print_fault<S: Sink>(alloc: Global, fault: &SessionFault, out: &mut S) -> u8
-    ensures prints { PrintsFault S.taken S.calls out.old out.new result fault.now }
-    ensures read { result ≡ 4 → IsRead {X = Unit} (Err fault.now) }
-    ensures write { result ≡ 5 → Rose (S.faults out.old) (S.faults out.new) }
-    ensures usage { result ≡ 2 → ⊥ }
-{
-    match fault {
-        SessionFault::Script { place, cause } => print(
-            alloc,
-            script_fault(alloc, place, script_cause(*cause)),
-            Ending::ScriptFault,
-            out,
-        ),
-        SessionFault::Read { name } => print(
-            alloc,
-            read_fault(alloc, name),
-            Ending::ReadFault,
-            out,
-        ),
-        SessionFault::Ended | SessionFault::NoMemory => WANT_OF_MEMORY,
-    }
-}
-
-fn end_at_fault<S: Sink>(alloc: Global, fault: SessionFault, out: &mut S) -> u8
-    ensures prints { PrintsFault S.taken S.calls out.old out.new result fault }
-    ensures read { result ≡ 4 → IsRead {X = Unit} (Err fault) }
-    ensures write { result ≡ 5 → Rose (S.faults out.old) (S.faults out.new) }
-    ensures usage { result ≡ 2 → ⊥ }
-{
-    print_fault(alloc, &fault, out)
-}
-
-// Does the commands of a script in order, and prints each before the next is read.
-fn run_script<L: Library, S: Sink>(
-    alloc: Global,
-    session: &mut Session,
-    lib: &mut L,
-    out: &mut S,
-) -> u8
-    requires room { room session.old ≤ 1_048_578 }
-    ensures run { (files : Files) → L.holds lib.old ≡ Some files →
-        Runs L.faults L.asked lib.old lib.new S.taken S.calls out.old out.new result
-        (λ fails outcome. IsOutcome (remaining files session.old) fails empty_circuit outcome) }
-    ensures read { result ≡ 4 → Rose (L.faults lib.old) (L.faults lib.new) }
-    ensures asks { GrowsSome (L.asked lib.old) (L.asked lib.new) }
-    ensures last { result ≡ 4 → EndsAtRead L.asked lib.old lib.new S.taken S.calls out.old out.new }
-    ensures write { result ≡ 5 → Rose (S.faults out.old) (S.faults out.new) }
-    ensures usage { result ≡ 2 → ⊥ }
-{
-    let mut circuit = Circuit::empty(alloc);
-    loop {
-        match session.next(alloc, lib) {
-            Ok(Some(command)) => {
-                if let Some(status) = take_command(alloc, &mut circuit, command, out) {
-                    return status;
-                }
-            }
-            Ok(None) => return 0,
-            Err(fault) => return end_at_fault(alloc, fault, out),
-        }
-    }
-}
 
 // Reads the script of this name, and does its commands.
 fn solve<L: Library, S: Sink>(alloc: Global, file: &str, lib: &mut L, out: &mut S) -> u8
     ensures run { (files : Files) → L.holds lib.old ≡ Some files →
-        Runs L.faults L.asked lib.old lib.new S.taken S.calls out.old out.new result
-        (λ fails outcome. IsOutcome (script_of files (chars file.now)) fails empty_circuit outcome) }
-    ensures read { result ≡ 4 → Rose (L.faults lib.old) (L.faults lib.new) }
-    ensures asks { GrowsSome (L.asked lib.old) (L.asked lib.new) }
-    ensures last { result ≡ 4 → EndsAtRead L.asked lib.old lib.new S.taken S.calls out.old out.new }
-    ensures write { result ≡ 5 → Rose (S.faults out.old) (S.faults out.new) }
-    ensures usage { result ≡ 2 → ⊥ }
+        Runs L.faults L.asked S.taken S.calls lib.old lib.new out.old out.new
+        (λ h. IsScriptHistory files (said_of files (chars file.now)) h) report IsSolved result }
+    ensures untold { IsUntold L.faults L.asked S.faults S.taken S.calls lib.old lib.new out.old out.new result }
 {
-    match Session::open(alloc, file) {
-        Ok(mut session) => run_script(alloc, &mut session, lib, out),
-        Err(_) => WANT_OF_MEMORY,
-    }
+    said_law();
+    let Ok(mut session) = Session::open(alloc, file) else {
+        return WANT_OF_MEMORY;
+    };
+    let mut circuit = Circuit::empty(alloc);
+    run_script(alloc, &mut session, &mut circuit, lib, out)
 }
 
 /// Does what the words say, and answers the exit status:
@@ -124,54 +58,44 @@ fn solve<L: Library, S: Sink>(alloc: Global, file: &str, lib: &mut L, out: &mut 
 /// line and its cause, a failed read with the file's name, a fault of the procedure with the first unknown that it is found at, and a
 /// mismatch with its row.
 pub fn run<L: Library, S: Sink>(alloc: Global, words: &[String], lib: &mut L, out: &mut S) -> u8
-    // What is printed is an outcome of the words over the files held, whole or cut short by want of memory or a failed write; a read
-    // fails in it only where the count of faults rose; the names asked are those of the outcome, in order; and each of its states is
-    // the one that the procedure reaches, and meets its circuit's equations within the printed mismatches, which are at most 1,000.
-    ensures run { (files : Files) → L.holds lib.old ≡ Some files →
-        Runs L.faults L.asked lib.old lib.new S.taken S.calls out.old out.new result
-        (λ fails outcome. IsOutcomeOf files (map string_bytes words.now) fails outcome) }
+    // The one history of the words over the files held is done: all its calls, reads and writes, in order, and its end's status; or a front of
+    // whole calls, and 1; or a front and less than all of the next text, and 5; where a read fails, the calls up to it and its fault's record.
+    // Each settle that the run came to is solved: its state is the one that the procedure reaches, and meets its circuit's equations within
+    // the printed mismatches, which are at most 1,000.
+    ensures run { (files : Files) → Knows (form_of (map string_bytes words.now)) (L.holds lib.old) files →
+        Runs L.faults L.asked S.taken S.calls lib.old lib.new out.old out.new
+        (λ h. IsFormHistory files (form_of (map string_bytes words.now)) h)
+        (style_of (form_of (map string_bytes words.now))) IsSolved result }
 
-    // Whatever the library tells of what it holds, names are only added to those asked.
-    ensures asks { GrowsSome (L.asked lib.old) (L.asked lib.new) }
+    // Whatever the library tells of what it holds: it is done, or cut short, or ends with a fault, whose record is the last text taken.
+    ensures statuses { Answers S.taken S.calls out.old out.new result }
 
-    // Usage comes exactly where the words are no form, and then no file is asked for.
+    // Usage comes only where the words are no form. A failed read and a failed write are answered only where a count rose, and the record
+    // of a failed read names the file asked last.
     ensures usage { result ≡ 2 → form_of (map string_bytes words.now) ≡ None }
-    ensures no_form { form_of (map string_bytes words.now) ≡ None → Prints S.taken S.calls out.old out.new result usage }
-    ensures asks_nothing { form_of (map string_bytes words.now) ≡ None → Asks (L.asked lib.old) (L.asked lib.new) [] }
-
-    // The status of an ending, but for a failed read, comes exactly where the outcome in which no read fails ends so, unless that outcome is
-    // cut short or a read fails.
-    ensures due { (how : Ending) → how ≢ Ending.ReadFault → result ≡ code_of how → (files : Files) → L.holds lib.old ≡ Some files →
-        Due files (map string_bytes words.now) how }
-    ensures is_due { (how : Ending) → (files : Files) → L.holds lib.old ≡ Some files →
-        Due files (map string_bytes words.now) how → AnswersAt (code_of how) result }
-
-    // A fault is answered only where its count rose. Where a read failed, its record is the last, and names the file asked last.
     ensures read { result ≡ 4 → Rose (L.faults lib.old) (L.faults lib.new) }
     ensures last { result ≡ 4 → EndsAtRead L.asked lib.old lib.new S.taken S.calls out.old out.new }
     ensures write { result ≡ 5 → Rose (S.faults out.old) (S.faults out.new) }
 
-    // What is due to be done is done where no count rises, but for want of memory.
-    ensures complete { (files : Files) → L.holds lib.old ≡ Some files →
-        Due files (map string_bytes words.now) Ending.Done →
-        (Rose (L.faults lib.old) (L.faults lib.new) → ⊥) → (Rose (S.faults out.old) (S.faults out.new) → ⊥) →
-        (result ≡ 0) ⊎ (result ≡ 1) }
+    // Names are only added to those asked.
+    ensures grows { GrowsSome (L.asked lib.old) (L.asked lib.new) }
 {
     match solved_file(words) {
-        None => print(alloc, usage(alloc), Ending::Usage, out),
+        None => print_fault(alloc, &Fault::Usage, out),
         Some(file) => solve(alloc, file, lib, out),
     }
 }
 
-/// A law: words have one outcome at most that is followed to its end, for the same files and the same failing read. Does nothing.
-#[tactic(auto, using(crate::proofs::Statuses::unique))]
-pub fn outcomes_are_unique()
-    ensures { OutcomesAreUnique }
+/// A law: words have exactly one history over these files. Does nothing.
+pub fn forms_law()
+    ensures { FormsLaw }
 {}
 
-/// A law: words have an outcome that is followed to its end, whatever files there are and whichever read fails, if one does. By
-/// `outcomes_are_unique` it is the only one. Does nothing.
-#[tactic(auto, using(crate::proofs::Exists::exist))]
-pub fn outcomes_exist()
-    ensures { OutcomesExist }
+/// A law: the status of a run is that of the history's end, but for want of memory, a failed write or a failed read; and where no count
+/// rose it is that status or want of memory. Does nothing.
+pub fn due_law<L: Library, S: Sink>()
+    ensures { (files : Files) (words : List (List ℕ)) (h : History) (lib_old lib_new : L) (old new : S) (code : ℕ) →
+        IsFormHistory files (form_of words) h →
+        Runs L.faults L.asked S.taken S.calls lib_old lib_new old new (λ x. IsFormHistory files (form_of words) x) (style_of (form_of words)) IsSolved code →
+        IsDue h.end code (L.faults lib_old) (L.faults lib_new) }
 {}

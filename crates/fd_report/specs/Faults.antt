@@ -1,30 +1,82 @@
--- The records of the faults that the search for a state can end in, as lists of fields. A place, a column or a row goes by the name of
--- its unknown.
-use Rattle.std.specs.Prelude.{ℕ, ℤ, List, [], ◌∷◌, unsigned_abs, codes}
+-- The faults in which a command line can end: the fields of each record, and its exit status. An unknown or a row goes by its name.
+use Rattle.std.specs.Prelude.{ℕ, List, [], ◌∷◌, unsigned_abs, codes}
 use Rattle.std.specs.Fmt.{decimal}
-use Rattle.dss_layout.specs.Layout.{LayoutView}
+use Rattle.dss_values.specs.Names.{bytes}
+use Rattle.dss_values.specs.declared.fault.ModelFault.{ModelFault}
+use Rattle.dss_values.specs.declared.fault.ModelFault.TheVariants as model
+use Rattle.dss_script.specs.declared.fault.ScriptCause.{ScriptCause}
+use Rattle.dss_script.specs.declared.fault.ScriptCause.TheVariants as script
 use Rattle.fd_inverse.specs.declared.fault.Stop.{Stop}
 use Rattle.fd_inverse.specs.declared.fault.Stop.TheVariants.{Pivot, Range}
+use Rattle.fd_report.specs.declared.faults.Cause.{Cause}
+use Rattle.fd_report.specs.declared.faults.Cause.TheVariants as cause
+use Rattle.fd_report.specs.declared.faults.Fault.{Fault}
+use Rattle.fd_report.specs.declared.faults.Fault.TheVariants as fault
 use Rattle.fd_report.specs.Numbers.{micro_text, size_text}
-use Rattle.fd_report.specs.Names.{unknown_field}
+
+-- ---- words
 
 abbrev pub stop_word : Stop → List ℕ
 stop_word Pivot = codes "pivot"
 stop_word Range = codes "range"
 
--- a matrix has no inverse: the column at which its elimination ends, and why
-abbrev pub no_inverse_fields : LayoutView → ℕ → Stop → List (List ℕ)
-no_inverse_fields layout column cause = codes "fault" ∷ codes "no inverse" ∷ unknown_field layout column ∷ stop_word cause ∷ []
+-- what the reader of a script finds
+abbrev pub script_text : ScriptCause → List ℕ
+script_text script.BadValue = codes "bad value"
+script_text script.UnclosedGroup = codes "unclosed group"
+script_text script.LineTooLong = codes "line too long"
+script_text script.NotText = codes "not text"
+script_text script.UnknownCommand = codes "unknown command"
+script_text script.AbsentFile = codes "absent file"
+script_text script.TooDeep = codes "too deep"
+script_text script.TooLong = codes "too long"
+script_text script.ContinuesNothing = codes "continues nothing"
 
--- an iterate or its residual is too large: the place, and the number of the step
-abbrev pub out_of_range_fields : LayoutView → ℕ → ℕ → List (List ℕ)
-out_of_range_fields layout place step = codes "fault" ∷ codes "out of range" ∷ unknown_field layout place ∷ decimal step ∷ []
+-- what the circuit refuses, or a test of Solve finds; want of memory is no cause of a refusal
+abbrev pub model_text : ModelFault → List ℕ
+model_text model.UnknownClass = codes "unknown class"
+model_text model.UnknownProperty = codes "unknown property"
+model_text model.UnknownName = codes "unknown name"
+model_text model.Duplicate = codes "duplicate"
+model_text model.BadValue = codes "bad value"
+model_text model.OutOfRange = codes "value out of range"
+model_text model.WrongCount = codes "wrong count"
+model_text model.Unsupported = codes "unsupported"
+model_text model.NoCircuit = codes "no circuit"
+model_text model.IsolatedNode = codes "isolated node"
+model_text model.NoImpedance = codes "no impedance"
+model_text model.TooMany = codes "too many"
+model_text model.Range = codes "range"
+model_text model.BadNumber = codes "bad number"
+model_text model.NumberTooLarge = codes "number too large"
+model_text model.BadPostfix = codes "bad postfix"
+model_text model.DivideByZero = codes "divide by zero"
+model_text model.NoMemory = codes "no memory"
 
--- an unknown still moves after all steps: the place, the number of steps, and the size of its last update
-abbrev pub not_converged_fields : LayoutView → ℕ → ℕ → ℤ → List (List ℕ)
-not_converged_fields layout place steps update =
-    codes "fault" ∷ codes "not converged" ∷ unknown_field layout place ∷ decimal steps ∷ size_text (unsigned_abs update) ∷ []
+abbrev pub cause_text : Cause → List ℕ
+cause_text (cause.Script c) = script_text c
+cause_text (cause.Model c) = model_text c
+cause_text cause.NotBuilt = codes "not built"
 
--- a mismatch is too large: the row, and its mismatch
-abbrev pub loose_fields : LayoutView → ℕ → ℤ → List (List ℕ)
-loose_fields layout row mismatch = codes "fault" ∷ codes "loose" ∷ unknown_field layout row ∷ micro_text mismatch ∷ []
+-- ---- the fields of its record
+
+abbrev pub fields : Fault → List (List ℕ)
+fields fault.Usage = codes "fault" ∷ codes "usage" ∷ []
+fields (fault.Script place c) = codes "fault" ∷ codes "script" ∷ bytes place.file ∷ decimal place.line ∷ cause_text c ∷ []
+fields (fault.Read name) = codes "fault" ∷ codes "read" ∷ bytes name ∷ []
+fields (fault.NoInverse unknown c) = codes "fault" ∷ codes "no inverse" ∷ bytes unknown ∷ stop_word c ∷ []
+fields (fault.OutOfRange unknown step) = codes "fault" ∷ codes "out of range" ∷ bytes unknown ∷ decimal step ∷ []
+fields (fault.NotConverged unknown steps update) =
+    codes "fault" ∷ codes "not converged" ∷ bytes unknown ∷ decimal steps ∷ size_text (unsigned_abs update) ∷ []
+fields (fault.Loose row mismatch) = codes "fault" ∷ codes "loose" ∷ bytes row ∷ micro_text mismatch ∷ []
+
+-- ---- its status
+
+abbrev pub status : Fault → ℕ
+status fault.Usage = 2
+status (fault.Script place c) = 3
+status (fault.Read name) = 4
+status (fault.NoInverse unknown c) = 6
+status (fault.OutOfRange unknown step) = 7
+status (fault.NotConverged unknown steps update) = 8
+status (fault.Loose row mismatch) = 9

@@ -1,5 +1,5 @@
 -- The names of nodes, elements and unknowns, as records have them. A field is a list of bytes.
-use Rattle.std.specs.Prelude.{ℕ, List, [], ◌∷◌, ◌++◌, unwrap_or, option_map}
+use Rattle.std.specs.Prelude.{ℕ, List, [], ◌∷◌, ◌++◌, unwrap_or}
 use Rattle.std.specs.Fmt.{decimal}
 use Rattle.dss_values.specs.Names.{bytes}
 use Rattle.dss_profile.specs.declared.names.ElementName.{ElementName}
@@ -16,5 +16,5 @@ abbrev pub element_field : ElementName → List ℕ
 element_field element = class_word element.class ++ 46 ∷ bytes element.name
 
 -- the name of the real unknown at a place, which is that of its row; the place is below the layout's size
-unfoldable pub unknown_field : LayoutView → ℕ → List ℕ
-unknown_field layout place = unwrap_or (option_map bytes (unknown_name layout place)) []
+unfoldable pub name_at : LayoutView → ℕ → List ℕ
+name_at layout place = unwrap_or (unknown_name layout place) []

@@ -1,16 +1,81 @@
-// The records of the faults in which the search for a state can end.
-ghost use Rattle.std.specs.Prelude.{◌≡◌, ◌<◌, IfOk};
+// The faults in which a command line can end: the record and the exit status of each.
+ghost use Rattle.std.specs.Fmt.{decimal};
+ghost use Rattle.std.specs.Prelude.{◌≡◌, ◌<◌, ◌∷◌, [], codes, IfOk};
+ghost use Rattle.dss_values.specs.Names.{bytes};
 ghost use Rattle.dss_layout.specs.Layout.{size_of};
 ghost use Rattle.fd_report.specs.Lines.{line_of};
-ghost use Rattle.fd_report.specs.Faults.{loose_fields, no_inverse_fields, not_converged_fields, out_of_range_fields, stop_word};
+ghost use Rattle.fd_report.specs.Names.{name_at};
+ghost use Rattle.fd_report.specs.Faults.{cause_text, fields, model_text, script_text, status, stop_word};
 
 use crate::line::record_of;
-use crate::names::unknown_text;
 use crate::number::{micro_text, size_text};
 use dss_layout::Layout;
+use dss_lexer::Text;
+use dss_profile::Place;
+use dss_script::ScriptCause;
+use dss_values::ModelFault;
 use fd_inverse::Stop;
 use fd_outside::Record;
 use std::alloc::{AllocError, Global};
+
+/// Why a script is refused.
+#[derive(Clone, Copy)]
+pub enum Cause {
+    /// The reader of the script finds it.
+    Script(ScriptCause),
+    /// The circuit refuses a command, or a test of Solve finds it.
+    Model(ModelFault),
+    /// It is part of the profile and isn't solved yet.
+    NotBuilt,
+}
+
+/// Why a command line ends before its end. Unknowns and rows go by their printed names.
+#[derive(Drop)]
+pub enum Fault {
+    /// The words are no form of the command line.
+    Usage,
+    /// The script is refused at this place.
+    Script {
+        place: Place,
+        cause: Cause,
+    },
+    /// The file of this name could not be read.
+    Read {
+        name: Text,
+    },
+    /// A matrix of the procedure has no inverse: its elimination ends at the column of this unknown.
+    NoInverse {
+        unknown: Text,
+        cause: Stop,
+    },
+    /// The iterate of this step has a part or a residual that is too large, first at this unknown. Steps count from 0.
+    OutOfRange {
+        unknown: Text,
+        step: u32,
+    },
+    /// After so many steps this unknown still moves by this update, in whole microvolts or microamperes.
+    NotConverged {
+        unknown: Text,
+        steps: u32,
+        update: i128,
+    },
+    /// The mismatch of this row, in whole microvolts or microamperes, is above the greatest of a solution.
+    Loose {
+        row: Text,
+        mismatch: i128,
+    },
+}
+
+/// The name of the real unknown at this place, which is that of its row, as `b.1 re`.
+#[tactic(auto, unfolding(crate::specs::Names::name_at))]
+pub fn name_at(alloc: Global, layout: &Layout, place: u32) -> Result<Text, AllocError>
+    requires { place < size_of layout.now }
+    ensures { IfOk result (λ name. name ≡ name_at layout.now place) }
+{
+    layout.unknown_name(alloc, place as usize)
+}
+
+// ---- words
 
 fn stop_word(cause: Stop) -> &'static [u8]
     ensures { result.now ≡ stop_word cause }
@@ -21,64 +86,113 @@ fn stop_word(cause: Stop) -> &'static [u8]
     }
 }
 
-/// A matrix has no inverse: its elimination ends at this column, for this cause.
-pub fn no_inverse(
-    alloc: Global,
-    layout: &Layout,
-    column: u32,
-    cause: Stop,
-) -> Result<Record, AllocError>
-    requires { column < size_of layout.now }
-    ensures { IfOk result (λ r. r.bytes ≡ line_of (no_inverse_fields layout.now column cause)) }
+fn script_text(cause: ScriptCause) -> &'static [u8]
+    ensures { result.now ≡ script_text cause }
 {
-    let name = unknown_text(alloc, layout, column)?;
+    match cause {
+        ScriptCause::BadValue => b"bad value",
+        ScriptCause::UnclosedGroup => b"unclosed group",
+        ScriptCause::LineTooLong => b"line too long",
+        ScriptCause::NotText => b"not text",
+        ScriptCause::UnknownCommand => b"unknown command",
+        ScriptCause::AbsentFile => b"absent file",
+        ScriptCause::TooDeep => b"too deep",
+        ScriptCause::TooLong => b"too long",
+        ScriptCause::ContinuesNothing => b"continues nothing",
+    }
+}
+
+fn model_text(cause: ModelFault) -> &'static [u8]
+    ensures { result.now ≡ model_text cause }
+{
+    match cause {
+        ModelFault::UnknownClass => b"unknown class",
+        ModelFault::UnknownProperty => b"unknown property",
+        ModelFault::UnknownName => b"unknown name",
+        ModelFault::Duplicate => b"duplicate",
+        ModelFault::BadValue => b"bad value",
+        ModelFault::OutOfRange => b"value out of range",
+        ModelFault::WrongCount => b"wrong count",
+        ModelFault::Unsupported => b"unsupported",
+        ModelFault::NoCircuit => b"no circuit",
+        ModelFault::IsolatedNode => b"isolated node",
+        ModelFault::NoImpedance => b"no impedance",
+        ModelFault::TooMany => b"too many",
+        ModelFault::Range => b"range",
+        ModelFault::BadNumber => b"bad number",
+        ModelFault::NumberTooLarge => b"number too large",
+        ModelFault::BadPostfix => b"bad postfix",
+        ModelFault::DivideByZero => b"divide by zero",
+        ModelFault::NoMemory => b"no memory",
+    }
+}
+
+fn cause_text(cause: Cause) -> &'static [u8]
+    ensures { result.now ≡ cause_text cause }
+{
+    match cause {
+        Cause::Script(cause) => script_text(cause),
+        Cause::Model(cause) => model_text(cause),
+        Cause::NotBuilt => b"not built",
+    }
+}
+
+// ---- records
+
+fn script_record(alloc: Global, place: &Place, cause: &[u8]) -> Result<Record, AllocError>
+    ensures { IfOk result (λ r. r.bytes ≡ line_of (codes "fault" ∷ codes "script" ∷ bytes place.now.file ∷ decimal place.now.line ∷ cause.now ∷ [])) }
+{
+    let line = place.line.to_string(alloc)?;
     record_of(
         alloc,
         &[
             b"fault",
-            b"no inverse",
-            name.as_str().as_bytes(),
-            stop_word(cause),
+            b"script",
+            place.file.as_str().as_bytes(),
+            line.as_bytes(),
+            cause,
         ],
     )
 }
 
-/// The iterate of this step has a part or a residual that is too large, first at this place. Steps count from 0.
-pub fn out_of_range(
-    alloc: Global,
-    layout: &Layout,
-    place: u32,
-    step: u32,
-) -> Result<Record, AllocError>
-    requires { place < size_of layout.now }
-    ensures { IfOk result (λ r. r.bytes ≡ line_of (out_of_range_fields layout.now place step)) }
+fn read_record(alloc: Global, name: &Text) -> Result<Record, AllocError>
+    ensures { IfOk result (λ r. r.bytes ≡ line_of (fields (Fault.Read name.now))) }
 {
-    let name = unknown_text(alloc, layout, place)?;
+    record_of(alloc, &[b"fault", b"read", name.as_str().as_bytes()])
+}
+
+fn no_inverse_record(alloc: Global, unknown: &Text, cause: &[u8]) -> Result<Record, AllocError>
+    ensures { IfOk result (λ r. r.bytes ≡ line_of (codes "fault" ∷ codes "no inverse" ∷ bytes unknown.now ∷ cause.now ∷ [])) }
+{
+    record_of(
+        alloc,
+        &[b"fault", b"no inverse", unknown.as_str().as_bytes(), cause],
+    )
+}
+
+fn out_of_range_record(alloc: Global, unknown: &Text, step: u32) -> Result<Record, AllocError>
+    ensures { IfOk result (λ r. r.bytes ≡ line_of (fields (Fault.OutOfRange unknown.now step))) }
+{
     let step = step.to_string(alloc)?;
     record_of(
         alloc,
         &[
             b"fault",
             b"out of range",
-            name.as_str().as_bytes(),
+            unknown.as_str().as_bytes(),
             step.as_bytes(),
         ],
     )
 }
 
-/// After so many steps the unknown at this place still moves by this update, in whole microvolts or microamperes. The
-/// record has the update's size.
-pub fn not_converged(
+fn not_converged_record(
     alloc: Global,
-    layout: &Layout,
-    place: u32,
+    unknown: &Text,
     steps: u32,
     update: i128,
 ) -> Result<Record, AllocError>
-    requires { place < size_of layout.now }
-    ensures { IfOk result (λ r. r.bytes ≡ line_of (not_converged_fields layout.now place steps update)) }
+    ensures { IfOk result (λ r. r.bytes ≡ line_of (fields (Fault.NotConverged unknown.now steps update))) }
 {
-    let name = unknown_text(alloc, layout, place)?;
     let steps = steps.to_string(alloc)?;
     let size = size_text(alloc, update)?;
     record_of(
@@ -86,27 +200,58 @@ pub fn not_converged(
         &[
             b"fault",
             b"not converged",
-            name.as_str().as_bytes(),
+            unknown.as_str().as_bytes(),
             steps.as_bytes(),
             size.as_slice(),
         ],
     )
 }
 
-/// The mismatch of this row, in whole microvolts or microamperes, is above the greatest that is certified.
-pub fn loose(alloc: Global, layout: &Layout, row: u32, mismatch: i128) -> Result<Record, AllocError>
-    requires { row < size_of layout.now }
-    ensures { IfOk result (λ r. r.bytes ≡ line_of (loose_fields layout.now row mismatch)) }
+fn loose_record(alloc: Global, row: &Text, mismatch: i128) -> Result<Record, AllocError>
+    ensures { IfOk result (λ r. r.bytes ≡ line_of (fields (Fault.Loose row.now mismatch))) }
 {
-    let name = unknown_text(alloc, layout, row)?;
     let mismatch = micro_text(alloc, mismatch)?;
     record_of(
         alloc,
         &[
             b"fault",
             b"loose",
-            name.as_str().as_bytes(),
+            row.as_str().as_bytes(),
             mismatch.as_slice(),
         ],
     )
+}
+
+/// The record of a fault: its fields, as csv writes them.
+pub fn record(alloc: Global, fault: &Fault) -> Result<Record, AllocError>
+    ensures { IfOk result (λ r. r.bytes ≡ line_of (fields fault.now)) }
+{
+    match fault {
+        Fault::Usage => record_of(alloc, &[b"fault", b"usage"]),
+        Fault::Script { place, cause } => script_record(alloc, place, cause_text(*cause)),
+        Fault::Read { name } => read_record(alloc, name),
+        Fault::NoInverse { unknown, cause } => no_inverse_record(alloc, unknown, stop_word(*cause)),
+        Fault::OutOfRange { unknown, step } => out_of_range_record(alloc, unknown, *step),
+        Fault::NotConverged {
+            unknown,
+            steps,
+            update,
+        } => not_converged_record(alloc, unknown, *steps, *update),
+        Fault::Loose { row, mismatch } => loose_record(alloc, row, *mismatch),
+    }
+}
+
+/// The exit status of a fault.
+pub fn status(fault: &Fault) -> u8
+    ensures { result ≡ status fault.now }
+{
+    match fault {
+        Fault::Usage => 2,
+        Fault::Script { .. } => 3,
+        Fault::Read { .. } => 4,
+        Fault::NoInverse { .. } => 6,
+        Fault::OutOfRange { .. } => 7,
+        Fault::NotConverged { .. } => 8,
+        Fault::Loose { .. } => 9,
+    }
 }

@@ -18,7 +18,7 @@ mod names;
 mod number;
 mod solution;
 
-pub use faults::{loose, no_inverse, not_converged, out_of_range};
+pub use faults::{Cause, Fault, name_at, record, status};
 pub use number::{micro_text, size_text};
 pub use solution::records;
 

@@ -1,12 +1,9 @@
-// The names of nodes, elements and unknowns, as records have them.
-ghost use Rattle.std.specs.Prelude.{◌≡◌, ◌<◌, IfOk};
-ghost use Rattle.dss_values.specs.Names.{bytes};
-ghost use Rattle.dss_layout.specs.Layout.{size_of};
+// The names of nodes and elements, as records have them.
+ghost use Rattle.std.specs.Prelude.{◌≡◌, IfOk};
 ghost use Rattle.dss_layout.specs.UnknownNames.{class_word};
-ghost use Rattle.fd_report.specs.Names.{element_field, node_field, unknown_field};
+ghost use Rattle.fd_report.specs.Names.{element_field, node_field};
 
-use dss_layout::{Layout, NodeName};
-use dss_lexer::Text;
+use dss_layout::NodeName;
 use dss_profile::{Class, ElementName};
 use std::alloc::{AllocError, Global};
 
@@ -47,13 +44,4 @@ pub(crate) fn element_field(alloc: Global, element: &ElementName) -> Result<Vec<
     text.push(b'.')?;
     text.extend_from_slice(element.name.as_str().as_bytes())?;
     Ok(text)
-}
-
-/// The name of the real unknown at this place, as `b.1 re`.
-#[tactic(auto, unfolding(crate::specs::Names::unknown_field))]
-pub(crate) fn unknown_text(alloc: Global, layout: &Layout, place: u32) -> Result<Text, AllocError>
-    requires { place < size_of layout.now }
-    ensures { IfOk result (λ name. bytes name ≡ unknown_field layout.now place) }
-{
-    layout.unknown_name(alloc, place as usize)
 }

@@ -110,10 +110,35 @@ fn faults(rt: HostRuntime) -> Result<(), Fail> {
     let layout = layout(alloc)?;
     if layout.size() == 9 {
         let made = vec![in alloc;
-            no_inverse(alloc, &layout, 6, Stop::Pivot)?,
-            out_of_range(alloc, &layout, 0, 0)?,
-            not_converged(alloc, &layout, 8, 1, -86_776_860)?,
-            loose(alloc, &layout, 6, 2527)?,
+            record(
+                alloc,
+                &Fault::NoInverse {
+                    unknown: name_at(alloc, &layout, 6)?,
+                    cause: Stop::Pivot
+                }
+            )?,
+            record(
+                alloc,
+                &Fault::OutOfRange {
+                    unknown: name_at(alloc, &layout, 0)?,
+                    step: 0
+                }
+            )?,
+            record(
+                alloc,
+                &Fault::NotConverged {
+                    unknown: name_at(alloc, &layout, 8)?,
+                    steps: 1,
+                    update: -86_776_860
+                }
+            )?,
+            record(
+                alloc,
+                &Fault::Loose {
+                    row: name_at(alloc, &layout, 6)?,
+                    mismatch: 2527
+                }
+            )?,
         ]?;
         assert_eq!(rt; joined(alloc, &made)?.as_slice(), FAULTS);
         return Ok(());

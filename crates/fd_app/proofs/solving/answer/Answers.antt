@@ -1,9 +1,8 @@
 use Rattle.std.proofs.Common.{◌≡◌, ◌∙◌, None, Some, ap, sym}
 use Rattle.std.specs.Option.{option_map}
 use Rattle.fd_app.specs.Built.{unbuilt_place}
-use Rattle.fd_app.specs.Steps.{refuses}
 use Rattle.fd_app.proofs.SnapshotNetworks.{solved_built, solved_unbuilt}
-use Rattle.fd_app.proofs.Streams.{if_ok_weaker}
+use Rattle.fd_app.proofs.Weaker.{if_ok_weaker}
 use Rattle.fd_app.proofs.solving.answer.Goals as goal
 
 pub returns-in-Some : goal.returns-in-Some
@@ -11,7 +10,7 @@ returns-in-Some c =
     let circuit = c.args.circuit.now in
     let place = c.in-Some.place.now in
     let unbuilt : unbuilt_place circuit.elements ≡ Some place = sym c.first_unbuilt.ensures ∙ ap (option_map (λ p. p.now)) c.in-Some.is in
-    if_ok_weaker c.refused.result _ _ (λ a h. ((h circuit).0 ∙ ap (refuses place) c.not_built.ensures ∙ sym (solved_unbuilt circuit place unbuilt), (h circuit).1)) c.refused.ensures
+    if_ok_weaker c.refused.result _ _ (λ a h. ((h circuit).0 ∙ sym (solved_unbuilt circuit place unbuilt), (h circuit).1)) c.refused.ensures
 
 pub returns-in-None : goal.returns-in-None
 returns-in-None c =

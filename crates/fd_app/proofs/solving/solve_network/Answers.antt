@@ -10,10 +10,7 @@ use Rattle.fd_app.proofs.solving.solve_network.Goals as goal
 pub judge-requires-clause-reached : goal.judge-requires-clause-reached
 judge-requires-clause-reached c =
     let limits = c.limits_of-limits.ensures.limits ∙ ap limits_of c.options.ensures.value in
-    record {
-      inverse = c.in-Ok.point.inverse;
-      reached = ap (λ v. solution_of v (limits_of c.args.circuit.now.options)) (sym c.requires.network) ∙ ap (solution_of c.args.net.now) (sym limits) ∙ c.in-Ok.ensures.point;
-    }
+    ap (λ v. solution_of v (limits_of c.args.circuit.now.options)) (sym c.requires.network) ∙ ap (solution_of c.args.net.now) (sym limits) ∙ c.in-Ok.ensures.point
 
 pub unsolved-requires : goal.unsolved-requires
 unsolved-requires c =

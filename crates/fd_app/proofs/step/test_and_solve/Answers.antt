@@ -1,5 +1,5 @@
 use Rattle.std.proofs.Common.{Ok, Err}
-use Rattle.fd_app.proofs.Streams.{if_ok_weaker}
+use Rattle.fd_app.proofs.Weaker.{if_ok_weaker}
 use Rattle.fd_app.proofs.step.test_and_solve.Goals as goal
 
 pub returns-in-Ok : goal.returns-in-Ok

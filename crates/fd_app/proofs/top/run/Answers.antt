@@ -1,79 +1,45 @@
-use Rattle.std.proofs.Common.{◌≡◌, ◌∙◌, ◌⊎◌, ℕ, None, Some, inl, inr, refl, sym, ap, map, string_bytes}
+use Rattle.std.proofs.Common.{◌≡◌, ◌∙◌, ◌⊎◌, ℕ, None, Some, inl, inr, sym, ap, map, string_bytes, arith}
 use Rattle.std.specs.Option.{option_map}
-use Rattle.fd_app.specs.Outcome.{usage}
-use Rattle.fd_app.specs.Steps.{usage_text}
+use Rattle.fd_report.specs.declared.faults.Fault.TheVariants as fault
+use Rattle.fd_outcome.specs.Calls.{report}
+use Rattle.fd_outcome.specs.Untold.{CutsShort}
+use Rattle.fd_outcome.proofs.CallerLemmas.{fault_alone, fault_answers, fault_code, grows_none}
+use Rattle.fd_app.specs.Headline.{IsSolved}
 use Rattle.fd_app.specs.Words.{Solve, form_of}
-use Rattle.fd_app.proofs.FailedReads.{grows_none}
-use Rattle.fd_app.proofs.Statuses.{answers_due, complete_status, due_only}
-use Rattle.fd_app.proofs.Streams.{asks_none}
-use Rattle.fd_app.specs.Ends.{CutsShort}
-use Rattle.fd_app.specs.declared.ending.Ending.TheVariants as ending
 use Rattle.fd_app.proofs.top.run.Goals as goal
 
-never_read : (status : ℕ) → (status ≡ 2) ⊎ CutsShort status → status ≡ 4 → ⊥
-never_read status ends is = elim ends [
-  | inl two ↦ (let f : 4 ≡ 2 = sym is ∙ two in cc f)
-  | inr cut ↦ elim cut [
-    | inl memory ↦ (let f : 4 ≡ 1 = sym is ∙ memory in cc f)
-    | inr write ↦ (let f : 4 ≡ 5 = sym is ∙ write in cc f)
-  ]
+never_read : (code : ℕ) → (code ≡ 2) ⊎ CutsShort code → code ≡ 4 → ⊥
+never_read code is four = elim is [
+  | inl two ↦ omega (arith, two, four)
+  | inr cut ↦ elim cut [ inl memory ↦ omega (arith, memory, four) | inr write ↦ omega (arith, write, four) ]
 ]
 
 pub returns-in-None-clause-run : goal.returns-in-None-clause-run
 returns-in-None-clause-run g c files told =
     let form : form_of (map string_bytes c.args.words.now) ≡ None = sym c.solved_file.ensures ∙ ap (option_map (λ file. Solve file.now)) c.in-None.is in
-    record {
-      fails = None;
-      cause = inl refl;
-      outcome = usage;
-      right = rw form refl;
-      prints = c.print.ensures.prints usage_text c.usage.ensures;
-      asks = asks_none (g.L.Library.asked c.args.lib.now);
-      solutions = (tt, tt);
-    }
+    rw form (fault_alone g.L.Library.faults g.L.Library.asked g.S.Sink.taken g.S.Sink.calls report IsSolved c.args.lib.now c.args.out.now c.print_fault.new.out fault.Usage c.print_fault.result c.print_fault.ensures.prints)
 
-pub returns-in-None-clause-no_form : goal.returns-in-None-clause-no_form
-returns-in-None-clause-no_form g c none = c.print.ensures.prints usage_text c.usage.ensures
+pub returns-in-None-clause-statuses : goal.returns-in-None-clause-statuses
+returns-in-None-clause-statuses g c = inr (fault_answers g.S.Sink.taken g.S.Sink.calls c.args.out.now c.print_fault.new.out fault.Usage c.print_fault.result c.print_fault.ensures.prints)
+
+pub returns-in-None-clause-usage : goal.returns-in-None-clause-usage
+returns-in-None-clause-usage g c two = sym c.solved_file.ensures ∙ ap (option_map (λ file. Solve file.now)) c.in-None.is
+
+pub returns-in-None-clause-read : goal.returns-in-None-clause-read
+returns-in-None-clause-read g c four =
+    absurd (never_read c.print_fault.result (fault_code g.S.Sink.taken g.S.Sink.calls c.args.out.now c.print_fault.new.out fault.Usage c.print_fault.result c.print_fault.ensures.prints) four)
+
+pub returns-in-None-clause-last : goal.returns-in-None-clause-last
+returns-in-None-clause-last g c four =
+    absurd (never_read c.print_fault.result (fault_code g.S.Sink.taken g.S.Sink.calls c.args.out.now c.print_fault.new.out fault.Usage c.print_fault.result c.print_fault.ensures.prints) four)
+
+pub returns-in-None-clause-grows : goal.returns-in-None-clause-grows
+returns-in-None-clause-grows g c = grows_none (g.L.Library.asked c.args.lib.now)
 
 pub returns-in-Some-clause-run : goal.returns-in-Some-clause-run
-returns-in-Some-clause-run g c files told =
+returns-in-Some-clause-run g c files =
     let form : form_of (map string_bytes c.args.words.now) ≡ Some (Solve c.in-Some.file.now) = sym c.solved_file.ensures ∙ ap (option_map (λ file. Solve file.now)) c.in-Some.is in
-    rw form (c.solve.ensures.run files told)
+    rw form (c.solve.ensures.run files)
 
-pub returns-in-None-clause-asks : goal.returns-in-None-clause-asks
-returns-in-None-clause-asks g c = grows_none (g.L.Library.asked c.args.lib.now)
-
-pub returns-in-None-clause-asks_nothing : goal.returns-in-None-clause-asks_nothing
-returns-in-None-clause-asks_nothing g c none = asks_none (g.L.Library.asked c.args.lib.now)
-
-pub returns-in-None-clause-due : goal.returns-in-None-clause-due
-returns-in-None-clause-due g c how other is files told =
-    due_only _ _ g.L.Library.faults g.L.Library.asked c.args.lib.now c.args.lib.now g.S.Sink.taken g.S.Sink.calls c.args.out.now c.print.new.out files (map string_bytes c.args.words.now) c.print.result how
-    (returns-in-None-clause-run g c files told) other is
-
-pub returns-in-None-clause-is_due : goal.returns-in-None-clause-is_due
-returns-in-None-clause-is_due g c how files told due =
-    answers_due _ _ g.L.Library.faults g.L.Library.asked c.args.lib.now c.args.lib.now g.S.Sink.taken g.S.Sink.calls c.args.out.now c.print.new.out files (map string_bytes c.args.words.now) c.print.result how
-    (returns-in-None-clause-run g c files told) due
-
-pub returns-in-None-clause-complete : goal.returns-in-None-clause-complete
-returns-in-None-clause-complete g c files told due no_read no_write =
-    let answers = answers_due _ _ g.L.Library.faults g.L.Library.asked c.args.lib.now c.args.lib.now g.S.Sink.taken g.S.Sink.calls c.args.out.now c.print.new.out files (map string_bytes c.args.words.now) c.print.result ending.Done
-    (returns-in-None-clause-run g c files told) due in
-    complete_status c.print.result _ _ (λ is. never_read c.print.result c.print.ensures.ending is) (λ none. none) c.print.ensures.write no_write answers
-
-pub returns-in-Some-clause-due : goal.returns-in-Some-clause-due
-returns-in-Some-clause-due g c how other is files told =
-    due_only _ _ g.L.Library.faults g.L.Library.asked c.args.lib.now c.solve.new.lib g.S.Sink.taken g.S.Sink.calls c.args.out.now c.solve.new.out files (map string_bytes c.args.words.now) c.solve.result how
-    (returns-in-Some-clause-run g c files told) other is
-
-pub returns-in-Some-clause-is_due : goal.returns-in-Some-clause-is_due
-returns-in-Some-clause-is_due g c how files told due =
-    answers_due _ _ g.L.Library.faults g.L.Library.asked c.args.lib.now c.solve.new.lib g.S.Sink.taken g.S.Sink.calls c.args.out.now c.solve.new.out files (map string_bytes c.args.words.now) c.solve.result how
-    (returns-in-Some-clause-run g c files told) due
-
-pub returns-in-Some-clause-complete : goal.returns-in-Some-clause-complete
-returns-in-Some-clause-complete g c files told due no_read no_write =
-    let answers = answers_due _ _ g.L.Library.faults g.L.Library.asked c.args.lib.now c.solve.new.lib g.S.Sink.taken g.S.Sink.calls c.args.out.now c.solve.new.out files (map string_bytes c.args.words.now) c.solve.result ending.Done
-    (returns-in-Some-clause-run g c files told) due in
-    complete_status c.solve.result _ _ c.solve.ensures.read no_read c.solve.ensures.write no_write answers
+pub returns-in-Some-clause-usage : goal.returns-in-Some-clause-usage
+returns-in-Some-clause-usage g c two = absurd (c.solve.ensures.untold.usage two)

@@ -1,18 +1,21 @@
-use Rattle.std.proofs.Common.{◌≡◌}
+use Rattle.std.proofs.Common.{◌≡◌, arith}
 use Rattle.std.specs.Str.{chars}
-use Rattle.dss_script.specs.Script.{script_of}
 use Rattle.dss_script.specs.Sessions.{remaining}
-use Rattle.fd_app.proofs.FailedReads.{grows_none}
-use Rattle.fd_app.proofs.Streams.{nothing_run}
+use Rattle.fd_outcome.proofs.CallerLemmas.{untold_first}
+use Rattle.fd_app.proofs.Runs.{not_begun, of_script}
 use Rattle.fd_app.proofs.top.solve.Goals as goal
 
-pub returns-in-Ok-clause-run : goal.returns-in-Ok-clause-run
-returns-in-Ok-clause-run g c files told =
-    let h : remaining files c.in-Ok.session ≡ script_of files (chars c.args.file.now) = c.in-Ok.ensures.script files in
-    rw h at (c.run_script.ensures.run files told)
+pub returns-in_default-clause-run : goal.returns-in_default-clause-run
+returns-in_default-clause-run g c files told =
+    not_begun g.L.Library.faults g.L.Library.asked g.S.Sink.taken g.S.Sink.calls c.args.lib.now c.args.lib.now c.args.out.now c.args.out.now files (chars c.args.file.now) c.args.lib.now c.args.out.now
 
-pub returns-in-Err-clause-run : goal.returns-in-Err-clause-run
-returns-in-Err-clause-run g c files told = nothing_run _ _ g.L.Library.faults g.L.Library.asked g.S.Sink.taken g.S.Sink.calls c.args.lib.now c.args.out.now (script_of files (chars c.args.file.now))
+pub returns-in_default-clause-untold : goal.returns-in_default-clause-untold
+returns-in_default-clause-untold g c = untold_first g.L.Library.faults g.L.Library.asked g.S.Sink.faults g.S.Sink.taken g.S.Sink.calls c.args.lib.now c.args.out.now
 
-pub returns-in-Err-clause-asks : goal.returns-in-Err-clause-asks
-returns-in-Err-clause-asks g c = grows_none (g.L.Library.asked c.args.lib.now)
+pub run_script-requires : goal.run_script-requires
+run_script-requires g c = rw (c.empty-circuit.ensures, c.in-Ok.ensures.start) omega arith
+
+pub returns-clause-run : goal.returns-clause-run
+returns-clause-run g c files told =
+    of_script g.L.Library.faults g.L.Library.asked g.S.Sink.taken g.S.Sink.calls c.args.lib.now c.run_script.new.lib c.args.out.now c.run_script.new.out c.said_law.ensures files (chars c.args.file.now) (remaining files c.in-Ok.session) c.empty-circuit.result c.run_script.result
+    (c.in-Ok.ensures.script files) c.empty-circuit.ensures (c.run_script.ensures.run files told)

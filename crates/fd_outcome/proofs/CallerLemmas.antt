@@ -1,0 +1,724 @@
+-- What the loop over a script's commands needs: where it stands, how it goes on and how it ends.
+use Rattle.std.proofs.Common.{◌≡◌, ◌∙◌, ℕ, zero, suc, ◌+◌, ◌≤◌, length, Bool, true, false, List, [], ◌∷◌, ◌++◌, map, Option, Some, None, Result, Ok, Err, refl, sym, ap, subst, inl, inr, arith}
+use Rattle.std.specs.Prelude.{◌||◌, ◌⊎◌}
+use Rattle.std.specs.List.{concat}
+use Rattle.std.proofs.lemmas.List.{append_assoc, append-nil, map-append}
+use Rattle.std.proofs.lemmas.List.Elements.{All-nil, All-append}
+use Rattle.fd_outside.specs.Causes.{Becomes, Rose}
+use Rattle.fd_outside.specs.Emitted.{Takes, TakesFirst, TakesTorn}
+use Rattle.fd_outside.proofs.CallerLemmas.{becomes_same, becomes_then, takes_then, takes_none}
+use Rattle.dss_values.specs.Names.{bytes}
+use Rattle.dss_profile.specs.declared.command.Command.{Command}
+use Rattle.dss_profile.specs.declared.command.Place.{Place}
+use Rattle.dss_script.specs.Script.{Script, names_first, after_names}
+use Rattle.dss_script.specs.Said.{Said, name, command, ScriptEnd, at_its_end, refused_at, said_in, end_in}
+use Rattle.dss_script.specs.SaidLaws.{SaidLaw}
+use Rattle.dss_script.specs.Sessions.{State, Asks, GrowsLast, GrowsSome, Tells, remaining}
+use Rattle.dss_script.specs.declared.fault.ScriptCause.{ScriptCause}
+use Rattle.dss_script.specs.declared.fault.SessionFault.{SessionFault}
+use Rattle.dss_script.specs.declared.fault.SessionFault.TheVariants as session
+use Rattle.fd_outside.specs.Files.{Files}
+use Rattle.fd_report.specs.Faults.{status}
+use Rattle.fd_report.specs.declared.faults.Cause.TheVariants as cause
+use Rattle.fd_report.specs.declared.faults.Fault.{Fault}
+use Rattle.fd_report.specs.declared.faults.Fault.TheVariants as fault
+use Rattle.fd_outcome.specs.Statuses.{status_of, want_of_memory, write_fault}
+use Rattle.fd_outcome.specs.Settles.{Settle}
+use Rattle.fd_outcome.specs.Events.{Event, asked, History, before, ended, IfSettle, AllSettles}
+use Rattle.fd_outcome.specs.Work.{Step, goes, ends, ExactlyOne}
+use Rattle.fd_outcome.specs.History.{Point, IsFrom, IsLast, IsHistory, LeadsTo}
+use Rattle.fd_outcome.specs.Calls.{Call, reads, writes, Style, so_far, body, opened, calls_of, doing, Doing, fault_text, names_read, texts_written}
+use Rattle.fd_outcome.specs.Done.{called_first, read_failing, failing, Made, IsFrontOf, IsDone, Sees, HasReadCause, torn_bytes, torn_writes}
+use Rattle.fd_outcome.specs.Behind.{behind, has_text, opened_unless, last_calls, AsksNames}
+use Rattle.fd_outcome.specs.Laws.{HistoryLaw, IsDue}
+use Rattle.fd_outcome.specs.Runs.{Runs}
+use Rattle.fd_outcome.specs.Way.{Way, whole}
+use Rattle.fd_outcome.specs.Parts.{Wrote, Printed, fault_doing, Asked, IsUnread, IsCutShort, Gives, GoesOn, events_in, EndsSo, EndsAt, Finishes, IsCutIn}
+use Rattle.fd_outcome.specs.Untold.{CutsShort, EndsAtFault, Answers, EndsAtRead, IsUntold}
+use Rattle.fd_outcome.proofs.Histories.{one_history, one_value, does_command, stays}
+use Rattle.fd_outcome.proofs.Lists.{body-append, opened-append, names_of_writes, texts-append, texts_of_writes}
+use Rattle.fd_outcome.proofs.Printing.{append_is, front_is, due_of}
+use Rattle.fd_outcome.proofs.Ways.{goes_on, ended_at, ended_at_read, names_lead, names_good, reads_alone, body_reads, done_after, made_after, sees_then, sees_nothing, sees_names, sees_as}
+
+-- ---- what a session gives
+
+module _ (law : SaidLaw) (files : Files) where
+  asked_first : (script rest : Script) (old new : Option (List (List ℕ))) → after_names script ≡ rest → Becomes old new (λ ns. ns ++ map bytes (names_first script)) → Asked (said_in script) (said_in rest) old new
+  asked_first script rest old new e grown = record {
+    names = names_first script;
+    left_is = law.names script ∙ ap (λ r. map name (names_first script) ++ said_in r) e;
+    grown = grown;
+  }
+
+  end_first : (script rest : Script) → after_names script ≡ rest → end_in script ≡ end_in rest
+  end_first script rest e = sym (law.after script) ∙ ap end_in e
+
+  pub gives_next : (script : Script) (state : State) (old new : Option (List (List ℕ))) (result : Result (Option Command) SessionFault)
+      → Tells files (after_names script) state result → Asks old new (names_first script) result → Gives (said_in script) (end_in script) (said_in (remaining files state)) (end_in (remaining files state)) old new result
+  gives_next script state old new (Ok (Some c)) tells asks = (asked_first script _ old new tells asks, sym (end_first script _ tells))
+  gives_next script state old new (Ok None) tells asks = (asked_first script _ old new tells.0 asks, end_first script _ tells.0)
+  gives_next script state old new (Err (session.Script place c)) tells asks = (asked_first script _ old new tells asks, end_first script _ tells)
+  gives_next script state old new (Err (session.Read unread)) tells asks = record {
+    names = asks.front;
+    more = map name asks.rest ++ said_in (after_names script);
+    left_is = law.names script ∙ ap (λ ns. map name ns ++ said_in (after_names script)) asks.parts
+        ∙ ap (λ l. l ++ said_in (after_names script)) (map-append name asks.front (unread ∷ asks.rest))
+        ∙ append_assoc (map name asks.front) (name unread ∷ map name asks.rest) (said_in (after_names script));
+    grown = asks.grown;
+  }
+  gives_next script state old new (Err session.NoMemory) tells asks = record {
+    rest = map name asks.rest ++ said_in (after_names script);
+    asked = record {
+      names = asks.front;
+      left_is = law.names script ∙ ap (λ ns. map name ns ++ said_in (after_names script)) asks.parts
+          ∙ ap (λ l. l ++ said_in (after_names script)) (map-append name asks.front asks.rest)
+          ∙ append_assoc (map name asks.front) (map name asks.rest) (said_in (after_names script));
+      grown = asks.grown;
+    };
+  }
+  gives_next script state old new (Err session.Ended) tells asks = record {
+    rest = said_in script;
+    asked = record { names = []; left_is = refl; grown = subst (λ n. Becomes old n (λ ns. ns ++ [])) (sym asks) (becomes_same old _ (λ ns. sym (append-nil ns))) };
+  }
+
+-- ---- writes
+
+becomes_as : {X : Type 0} (a b : Option X) (f g : X → X) → ((x : X) → f x ≡ g x) → Becomes a b f → Becomes a b g
+becomes_as None b f g same h = tt
+becomes_as (Some x) b f g same h = h ∙ ap Some (same x)
+
+module _ {S : Type 0} (taken : S → Option (List ℕ)) (calls : S → Option ℕ) where
+  pub wrote_nothing : (out : S) → Wrote taken calls out out (whole [])
+  wrote_nothing out = record {
+    names = refl;
+    bytes_are = becomes_same (taken out) _ (λ bs. sym (append-nil bs));
+    writes_are = becomes_same (calls out) _ (λ n. omega arith);
+  }
+
+  takes_wrote : (old new : S) (made : List Call) → Wrote taken calls old new (whole made) → Takes taken calls old new (texts_written made)
+  takes_wrote old new made w = record {
+    bytes = becomes_as (taken old) (taken new) _ _ (λ bs. ap (λ l. bs ++ l) (append-nil (concat (texts_written made)))) w.bytes_are;
+    writes = becomes_as (calls old) (calls new) _ _ (λ n. omega arith) w.writes_are;
+  }
+
+pub sees_none : {L S : Type 0} (asked_of : L → Option (List (List ℕ))) (taken : S → Option (List ℕ)) (calls : S → Option ℕ) (lib : L) (out : S) → Sees asked_of taken calls lib lib out out (whole [])
+sees_none asked_of taken calls lib out = sees_nothing asked_of taken calls lib out
+
+-- ---- whether a text was written
+
+or_false : (b : Bool) → (b || false) ≡ b
+or_false true = refl
+or_false false = refl
+
+has_text-append : (a b : List Call) → has_text (a ++ b) ≡ (has_text a || has_text b)
+has_text-append [] b = refl
+has_text-append (reads n ∷ a) b = has_text-append a b
+has_text-append (writes text ∷ a) b = refl
+
+no_text : (names : List (List ℕ)) → has_text (map reads names) ≡ false
+no_text [] = refl
+no_text (n ∷ names) = no_text names
+
+still : (style : Style) → AsksNames style → (events : List Event) (names : List (List ℕ)) → has_text (body style (events ++ map asked names)) ≡ has_text (body style events)
+still style fits events names =
+    ap has_text (body-append style events (map asked names))
+    ∙ has_text-append (body style events) (body style (map asked names))
+    ∙ ap (λ b. has_text (body style events) || b) (ap has_text (body_reads style fits names) ∙ no_text names)
+    ∙ or_false (has_text (body style events))
+
+-- ---- a read that fails behind others
+
+abbrev called_all : List Call → Doing → Doing
+called_all a d = record { calls = a ++ d.calls; end = d.end }
+
+read_behind : (a : List Call) (n k : ℕ) (rest : List Call) (end : Option Fault) → k ≡ length (names_read a) + n → read_failing k (a ++ rest) end ≡ called_all a (read_failing n rest end)
+read_behind [] n k rest end e = ap (λ (j : ℕ). read_failing j rest end) (let f : k ≡ n = omega (arith, e) in f)
+read_behind (writes text ∷ a) n k rest end e = ap (called_first (writes text)) (read_behind a n k rest end e)
+read_behind (reads m ∷ a) n zero rest end e = absurd (omega (arith, e))
+read_behind (reads m ∷ a) n (suc k) rest end e = ap (called_first (reads m)) (read_behind a n k rest end (omega (arith, e)))
+
+abbrev reads_after : List (List ℕ) → Option ℕ → Option ℕ
+reads_after names None = None
+reads_after names (Some n) = Some (length names + n)
+
+failing_behind : (a : List Call) (fails : Option ℕ) (rest : List Call) (end : Option Fault)
+    → failing (reads_after (names_read a) fails) (called_all a (record { calls = rest; end = end })) ≡ called_all a (failing fails (record { calls = rest; end = end }))
+failing_behind a None rest end = refl
+failing_behind a (Some n) rest end = read_behind a n (length (names_read a) + n) rest end refl
+
+rose_since : (first mid now : ℕ) → first ≤ mid → Rose mid now → Rose first now
+rose_since first mid now le rose = omega (arith, le, rose)
+
+cause_after : (first mid now : ℕ) (names : List (List ℕ)) (fails : Option ℕ) → first ≤ mid → HasReadCause mid now fails → HasReadCause first now (reads_after names fails)
+cause_after first mid now names None le cause = inl refl
+cause_after first mid now names (Some n) le cause = elim cause [ inl none ↦ absurd (let e : Some n ≡ None = none in cc e) | inr rose ↦ inr (rose_since first mid now le rose) ]
+
+-- ---- where the loop stands
+
+module _ {T : Type 0} (is_step : Command → T → Step T → Type 0) (last_name : T → Option (List ℕ)) (is_last : T → Option (List ℕ) → History → Type 0)
+    (good : Settle → Type 0) (style : Style) (held : List ℕ → Option (List ℕ))
+    {L S : Type 0} (faults : L → ℕ) (asked_of : L → Option (List (List ℕ))) (taken : S → Option (List ℕ)) (calls : S → Option ℕ)
+    (p : Point T) (lib_first : L) (out_first : S) where
+  abbrev pub WayAt : List Said → ScriptEnd → T → L → S → Type 0
+  WayAt left end s lib out = Way is_step last_name is_last good held asked_of taken calls style p lib_first out_first (record { left = left; end = end; state = s }) lib out
+
+  pub record At (begun : Bool) (left : List Said) (end : ScriptEnd) (s : T) (lib : L) (out : S) : Type 0 where
+    pub way : WayAt left end s lib out
+    pub begun_is : begun ≡ has_text (body style way.events)
+
+  abbrev pub RunsTo : L → S → ℕ → Type 0
+  RunsTo lib out code = Runs faults asked_of taken calls lib_first lib out_first out (λ h. IsFrom is_step last_name is_last held p h) style good code
+
+  sees_wrote : (lib : L) (old new : S) (m : Made) → Wrote taken calls old new m → Sees asked_of taken calls lib lib old new m
+  sees_wrote lib old new m w = record {
+    names = becomes_same (asked_of lib) _ (λ ns. sym (ap (λ l. ns ++ l) w.names ∙ append-nil ns));
+    bytes = w.bytes_are;
+    writes = w.writes_are;
+  }
+
+  pub at_start : (left : List Said) (end : ScriptEnd) (s : T) → p ≡ record { left = left; end = end; state = s } → At false left end s lib_first out_first
+  at_start left end s e = record {
+    way = record {
+      events = [];
+      leads = subst (λ (q : Point T). LeadsTo is_step last_name is_last held p [] q) e (stays is_step last_name is_last held p);
+      seen = sees_nothing asked_of taken calls lib_first out_first;
+      all_good = All-nil (IfSettle good);
+    };
+    begun_is = refl;
+  }
+
+  module _ (one_step : (c : Command) (s : T) → ExactlyOne (is_step c s)) (one_last : (s : T) (found : Option (List ℕ)) → ExactlyOne (is_last s found)) (fits : AsksNames style) where
+    -- some history goes on from here
+    goes_from : (left : List Said) (end : ScriptEnd) (s : T) → ExactlyOne (IsHistory is_step last_name is_last held left end s)
+    goes_from left end s = one_history is_step last_name is_last one_step one_last held left end s
+
+    at_names : (begun : Bool) (names : List (List ℕ)) (more : List Said) (end : ScriptEnd) (s : T) (lib lib_new : L) (out : S) → At begun (map name names ++ more) end s lib out
+        → Becomes (asked_of lib) (asked_of lib_new) (λ before. before ++ map bytes names) → At begun more end s lib_new out
+    at_names begun names more end s lib lib_new out a grown = record {
+      way = goes_on is_step last_name is_last good held faults asked_of taken calls style p (record { left = map name names ++ more; end = end; state = s }) (record { left = more; end = end; state = s })
+          lib_first lib lib_new out_first out out (map asked names) a.way (names_lead is_step last_name is_last good held faults asked_of taken calls style names more end s) (names_good good names)
+          (sees_as asked_of taken calls lib lib_new out out _ _ (sym (reads_alone style fits (has_text (body style a.way.events)) names)) (sees_names asked_of taken calls lib lib_new out names grown));
+      begun_is = a.begun_is ∙ sym (still style fits a.way.events names);
+    }
+
+    pub at_asked : (begun : Bool) (left rest : List Said) (end : ScriptEnd) (s : T) (lib lib_new : L) (out : S) → At begun left end s lib out → Asked left rest (asked_of lib) (asked_of lib_new)
+        → At begun rest end s lib_new out
+    at_asked begun left rest end s lib lib_new out a names =
+        at_names begun names.names rest end s lib lib_new out (subst (λ l. At begun l end s lib out) names.left_is a) names.grown
+
+    pub at_command : (begun now : Bool) (c : Command) (more : List Said) (end : ScriptEnd) (s t : T) (lib : L) (out out_new : S) → At begun (command c ∷ more) end s lib out
+        → GoesOn style good (is_step c s) t taken calls out out_new begun now → At now more end t lib out_new
+    at_command begun now c more end s t lib out out_new a g = record {
+      way = goes_on is_step last_name is_last good held faults asked_of taken calls style p (record { left = command c ∷ more; end = end; state = s }) (record { left = more; end = end; state = t })
+          lib_first lib lib out_first out out_new g.events a.way (does_command is_step last_name is_last held c more end s t g.events g.right) g.all_good
+          (sees_wrote lib out out_new _ (subst (λ b. Wrote taken calls out out_new (whole (behind style b g.events))) a.begun_is g.wrote));
+      begun_is = g.begun_is ∙ ap (λ b. b || has_text (body style g.events)) a.begun_is
+          ∙ sym (ap has_text (body-append style a.way.events g.events) ∙ has_text-append (body style a.way.events) (body style g.events));
+    }
+
+    -- ---- ends
+
+    -- events behind others, of which the first are shown: all calls are those so far, those of the shown, and more
+    split_at : (a shown hidden : List Event) (end : Option Fault) → (rest : List Call) × (calls_of style (a ++ (shown ++ hidden)) end ≡ so_far style a ++ (behind style (has_text (body style a)) shown ++ rest))
+    split_at a shown hidden end =
+        let f = front_is style (a ++ shown) (record { events = hidden; end = end }) in (
+          f.0,
+          ap (λ l. calls_of style l end) (sym (append_assoc a shown hidden)) ∙ f.1 ∙ ap (λ l. l ++ f.0) (append_is style a shown)
+              ∙ append_assoc (so_far style a) (behind style (has_text (body style a)) shown) f.0,
+        )
+
+    longer : (a rest : List Call) (code : ℕ) (m : Made) → IsFrontOf a code m → IsFrontOf (a ++ rest) code m
+    longer a rest code m is = elim is [
+      | inl x ↦ inl (record { rest = x.rest ++ rest; calls = ap (λ l. l ++ rest) x.calls ∙ append_assoc m.calls x.rest rest; torn = x.torn; status_is = x.status_is })
+      | inr x ↦ inr (record { text = x.text; rest = x.rest ++ rest; calls = ap (λ l. l ++ rest) x.calls ∙ append_assoc m.calls (writes x.text ∷ x.rest) rest; front = x.front; torn = x.torn; cut = x.cut; status_is = x.status_is })
+    ]
+
+    -- cut short behind some of the events of a history that goes on
+    cut_at : (left : List Said) (end : ScriptEnd) (s : T) (lib lib_new : L) (out out_new : S) (h : History) (shown hidden : List Event) (code : ℕ) (m : Made) → (w : WayAt left end s lib out)
+        → IsHistory is_step last_name is_last held left end s h → h.events ≡ shown ++ hidden → AllSettles good shown
+        → IsFrontOf (behind style (has_text (body style w.events)) shown) code m → Sees asked_of taken calls lib lib_new out out_new m → RunsTo lib_new out_new code
+    cut_at left end s lib lib_new out out_new h shown hidden code m w is events_are all front sees =
+        let t = has_text (body style w.events) in
+        let f = split_at w.events shown hidden h.end in
+        let g = split_at w.events shown [] None in
+        ended_at is_step last_name is_last good held faults asked_of taken calls style p (record { left = left; end = end; state = s }) lib_first lib lib_new out_first out out_new h
+        (behind style t shown ++ f.0) code m w is (ap (λ l. calls_of style (w.events ++ l) h.end) events_are ∙ f.1) (inr (longer (behind style t shown) f.0 code m front))
+        shown hidden None (behind style t shown ++ g.0) events_are all (ap (λ l. calls_of style (w.events ++ l) None) (sym (append-nil shown)) ∙ g.1)
+        (inr (longer (behind style t shown) g.0 code m front)) sees
+
+    -- ended with a fault behind these events
+    fault_at : (left : List Said) (end : ScriptEnd) (s : T) (lib lib_new : L) (out out_new : S) (events : List Event) (f : Fault) (code : ℕ) (m : Made) → (w : WayAt left end s lib out)
+        → IsHistory is_step last_name is_last held left end s (ended events f) → AllSettles good events
+        → IsDone (record { calls = behind style (has_text (body style w.events)) events ++ writes (fault_text f) ∷ []; end = Some f }) code m → Sees asked_of taken calls lib lib_new out out_new m → RunsTo lib_new out_new code
+    fault_at left end s lib lib_new out out_new events f code m w is all done sees =
+        let last = writes (fault_text f) ∷ [] in
+        let calls_are : calls_of style (w.events ++ events) (Some f) ≡ so_far style w.events ++ (behind style (has_text (body style w.events)) events ++ last) =
+        ap (λ l. l ++ last) (append_is style w.events events) ∙ append_assoc (so_far style w.events) (behind style (has_text (body style w.events)) events) last in
+        ended_at is_step last_name is_last good held faults asked_of taken calls style p (record { left = left; end = end; state = s }) lib_first lib lib_new out_first out out_new (ended events f)
+        (behind style (has_text (body style w.events)) events ++ last) code m w is calls_are done
+        events [] (Some f) (behind style (has_text (body style w.events)) events ++ last) (sym (append-nil events)) all calls_are done sees
+
+    nothing_behind : (t : Bool) → behind style t [] ≡ []
+    nothing_behind true = refl
+    nothing_behind false = refl
+
+    pub ends_refused : (begun : Bool) (left : List Said) (end : ScriptEnd) (s : T) (lib lib_new : L) (out out_new : S) (place : Place) (c : ScriptCause) (code : ℕ) → At begun left end s lib out
+        → Asked left [] (asked_of lib) (asked_of lib_new) × (end ≡ refused_at place c) → Printed taken calls out out_new (fault_doing (fault.Script place (cause.Script c))) code → RunsTo lib_new out_new code
+    ends_refused begun left end s lib lib_new out out_new place c code a r printed =
+        let f = fault.Script place (cause.Script c) in
+        let b = at_asked begun left [] end s lib lib_new out a r.0 in
+        let w : WayAt [] (refused_at place c) s lib_new out = subst (λ x. WayAt [] x s lib_new out) r.1 b.way in
+        let D : List Call → Type 0 = λ l. IsDone (record { calls = l ++ writes (fault_text f) ∷ []; end = Some f }) code printed.made in
+        fault_at [] (refused_at place c) s lib_new lib_new out out_new [] f code printed.made w refl (All-nil (IfSettle good))
+        (subst D (sym (nothing_behind (has_text (body style w.events)))) printed.done) (sees_wrote lib_new out out_new printed.made printed.wrote)
+
+    pub ends_short : (begun : Bool) (left : List Said) (end : ScriptEnd) (s : T) (lib lib_new : L) (out : S) → At begun left end s lib out
+        → IsCutShort left (asked_of lib) (asked_of lib_new) → RunsTo lib_new out 1
+    ends_short begun left end s lib lib_new out a c =
+        let b = at_asked begun left c.rest end s lib lib_new out a c.asked in
+        let one = goes_from c.rest end s in
+        let F : List Call → Type 0 = λ l. IsFrontOf l 1 (whole []) in
+        cut_at c.rest end s lib_new lib_new out out one.some [] one.some.events 1 (whole []) b.way one.is refl (All-nil (IfSettle good))
+        (subst F (sym (nothing_behind (has_text (body style b.way.events)))) (inl (record { rest = []; calls = refl; torn = refl; status_is = refl }))) (sees_nothing asked_of taken calls lib_new out)
+
+    -- memory runs out before anything is asked
+    pub ends_first : (left : List Said) (end : ScriptEnd) (s : T) → p ≡ record { left = left; end = end; state = s } → RunsTo lib_first out_first 1
+    ends_first left end s e = ends_short false left end s lib_first lib_first out_first (at_start left end s e) (record {
+      rest = left;
+      asked = record { names = []; left_is = refl; grown = becomes_same (asked_of lib_first) _ (λ ns. sym (append-nil ns)) };
+    })
+
+    pub ends_unread : (begun : Bool) (left : List Said) (end : ScriptEnd) (s : T) (lib lib_new : L) (out out_new : S) (unread : List ℕ) (code : ℕ) → At begun left end s lib out
+        → IsUnread left (asked_of lib) (asked_of lib_new) unread → Printed taken calls out out_new (fault_doing (fault.Read unread)) code → Rose (faults lib_first) (faults lib_new)
+        → RunsTo lib_new out_new code
+    ends_unread begun left end s lib lib_new out out_new unread code a r printed rose =
+        let w : WayAt (map name r.names ++ name unread ∷ r.more) end s lib out = subst (λ l. WayAt l end s lib out) r.left_is a.way in
+        let one = goes_from r.more end s in
+        let all = r.names ++ unread ∷ [] in
+        let e : map reads all ≡ map reads r.names ++ reads unread ∷ [] = map-append reads r.names (unread ∷ []) in
+        let last = writes (fault_text (fault.Read unread)) ∷ [] in
+        let f : (map reads r.names ++ reads unread ∷ last) ≡ map reads all ++ last = sym (ap (λ l. l ++ last) e ∙ append_assoc (map reads r.names) (reads unread ∷ []) last) in
+        ended_at_read is_step last_name is_last good held faults asked_of taken calls style p lib_first lib lib_new out_first out out_new fits r.names unread r.more end s one.some code
+        (made_after (map reads all) printed.made) w one.is rose
+        (done_after (map reads all) last _ (Some (fault.Read unread)) code printed.made f printed.done)
+        (sees_then asked_of taken calls lib lib_new lib_new out out out_new (map reads all) printed.made (sees_names asked_of taken calls lib lib_new out all r.grown)
+        (sees_wrote lib_new out out_new printed.made printed.wrote))
+
+    -- ---- ends at a command
+
+    -- a history that begins with this step
+    record Continued (c : Command) (more : List Said) (end : ScriptEnd) (s : T) (step : Step T) : Type 0 where
+      history : History
+      is : IsHistory is_step last_name is_last held (command c ∷ more) end s history
+      rest : List Event
+      events_are : history.events ≡ events_in step ++ rest
+
+    continued : (c : Command) (more : List Said) (end : ScriptEnd) (s : T) (step : Step T) → is_step c s step → Continued c more end s step
+    continued c more end s (goes events t) right =
+        let one = goes_from more end t in
+        record {
+          history = before events one.some;
+          is = record { step = goes events t; right = right; goes_on = record { more = one.some; right = one.is; h_is = refl } };
+          rest = one.some.events;
+          events_are = refl;
+        }
+    continued c more end s (ends events f) right = record {
+      history = ended events f;
+      is = record { step = ends events f; right = right; goes_on = refl };
+      rest = [];
+      events_are = sym (append-nil events);
+    }
+
+    cut_in_step : (c : Command) (more : List Said) (end : ScriptEnd) (s : T) (lib : L) (out out_new : S) (step : Step T) (shown hidden : List Event) (code : ℕ) (m : Made) → is_step c s step
+        → (w : WayAt (command c ∷ more) end s lib out) → events_in step ≡ shown ++ hidden → AllSettles good shown → IsFrontOf (behind style (has_text (body style w.events)) shown) code m
+        → Wrote taken calls out out_new m → RunsTo lib out_new code
+    cut_in_step c more end s lib out out_new step shown hidden code m right w events_are all front wrote =
+        let k = continued c more end s step right in
+        cut_at (command c ∷ more) end s lib lib out out_new k.history shown (hidden ++ k.rest) code m w k.is
+        (k.events_are ∙ ap (λ l. l ++ k.rest) events_are ∙ append_assoc shown hidden k.rest) all front (sees_wrote lib out out_new m wrote)
+
+    end_of_step : (c : Command) (more : List Said) (end : ScriptEnd) (s : T) (lib : L) (out out_new : S) (step : Step T) (code : ℕ) (m : Made) → is_step c s step
+        → (w : WayAt (command c ∷ more) end s lib out) → AllSettles good (events_in step) → EndsSo style (has_text (body style w.events)) step code m
+        → Wrote taken calls out out_new m → RunsTo lib out_new code
+    end_of_step c more end s lib out out_new (goes events t) code m right w all done wrote =
+        cut_in_step c more end s lib out out_new (goes events t) events [] code m right w (sym (append-nil events)) all done wrote
+    end_of_step c more end s lib out out_new (ends events f) code m right w all done wrote =
+        fault_at (command c ∷ more) end s lib lib out out_new events f code m w (record { step = ends events f; right = right; goes_on = refl }) all done (sees_wrote lib out out_new m wrote)
+
+    pub ends_command : (begun : Bool) (c : Command) (more : List Said) (end : ScriptEnd) (s : T) (lib : L) (out out_new : S) (code : ℕ) → At begun (command c ∷ more) end s lib out
+        → EndsAt style good (is_step c s) taken calls out out_new begun code → RunsTo lib out_new code
+    ends_command begun c more end s lib out out_new code a e = elim e.done [
+      | inl all ↦ (
+          let same : events_in e.step ≡ e.shown = e.events_are ∙ ap (λ l. e.shown ++ l) all.0 ∙ append-nil e.shown in
+          end_of_step c more end s lib out out_new e.step code e.made e.right a.way (subst (AllSettles good) (sym same) e.all_good)
+          (subst (λ b. EndsSo style b e.step code e.made) a.begun_is all.1) e.wrote
+          )
+      | inr front ↦ cut_in_step c more end s lib out out_new e.step e.shown e.hidden code e.made e.right a.way e.events_are e.all_good
+          (subst (λ b. IsFrontOf (behind style b e.shown) code e.made) a.begun_is front) e.wrote
+    ]
+
+    -- ---- the end of the script
+
+    -- a history of the end, behind the events so far
+    last_behind : (a events : List Event) (end : Option Fault) → calls_of style (a ++ events) end ≡ so_far style a ++ last_calls style (has_text (body style a)) events end
+    last_behind a events None =
+        ap (λ l. opened style.opening (l ++ map writes style.closing)) (body-append style a events)
+        ∙ ap (opened style.opening) (append_assoc (body style a) (body style events) (map writes style.closing))
+        ∙ opened-append style.opening (body style a) (body style events ++ map writes style.closing)
+    last_behind a events (Some f) =
+        ap (λ l. l ++ writes (fault_text f) ∷ []) (append_is style a events) ∙ append_assoc (so_far style a) (behind style (has_text (body style a)) events) (writes (fault_text f) ∷ [])
+
+    pub ends_finished : (begun : Bool) (left : List Said) (end : ScriptEnd) (s : T) (lib mid lib_new : L) (out out_new : S) (code : ℕ) → At begun left end s lib out
+        → Asked left [] (asked_of lib) (asked_of mid) × (end ≡ at_its_end) → faults lib_first ≤ faults mid
+        → Finishes style good (λ h. IsLast is_step last_name is_last held (last_name s) s h) faults asked_of taken calls mid lib_new out out_new begun code → RunsTo lib_new out_new code
+    ends_finished begun left end s lib mid lib_new out out_new code before_names finished later f =
+        let a = at_asked begun left [] end s lib mid out before_names finished.0 in
+        let w : WayAt [] end s mid out = a.way in
+        let start = so_far style w.events in
+        let rest = last_calls style (has_text (body style w.events)) f.history.events f.history.end in
+        let k : Option ℕ = reads_after (names_read start) f.fails in
+        let split : doing style (before w.events f.history) ≡ called_all start (record { calls = rest; end = f.history.end }) =
+        ap (λ (l : List Call). (let d : Doing = record { calls = l; end = f.history.end } in d)) (last_behind w.events f.history.events f.history.end) in
+        let cut : failing k (doing style (before w.events f.history)) ≡ called_all start (failing f.fails (record { calls = rest; end = f.history.end })) =
+        ap (failing k) split ∙ failing_behind start f.fails rest f.history.end in
+        let ours : IsDone (failing f.fails (record { calls = rest; end = f.history.end })) code f.made =
+        subst (λ b. IsDone (failing f.fails (record { calls = last_calls style b f.history.events f.history.end; end = f.history.end })) code f.made) a.begun_is f.done in
+        let d = failing f.fails (record { calls = rest; end = f.history.end }) in
+        let is_end : IsHistory is_step last_name is_last held [] end s f.history = subst (λ x. IsHistory is_step last_name is_last held [] x s f.history) (sym finished.1) f.right in
+        let all_done : IsDone (failing k (doing style (before w.events f.history))) code (made_after start f.made) =
+        subst (λ (x : Doing). IsDone x code (made_after start f.made)) (sym cut) (done_after start d.calls (start ++ d.calls) d.end code f.made refl ours) in
+        record {
+          history = before w.events f.history;
+          right = w.leads f.history is_end;
+          fails = k;
+          cause = cause_after (faults lib_first) (faults mid) (faults lib_new) (names_read start) f.fails later f.cause;
+          made = made_after start f.made;
+          done = all_done;
+          sees = sees_then asked_of taken calls lib_first mid lib_new out_first out out_new start f.made w.seen f.sees;
+          reached = record {
+            front = w.events ++ f.history.events;
+            rest = [];
+            events_are = sym (append-nil (w.events ++ f.history.events));
+            all_good = All-append (IfSettle good) w.events f.history.events w.all_good f.all_good;
+            end = f.history.end;
+            done = all_done;
+          };
+        }
+
+-- ---- whatever a library tells
+
+not_one : (code : ℕ) → code ≡ 1 → code ≡ 4 → ⊥
+not_one code a b = let f : 1 ≡ 4 = sym a ∙ b in cc f
+
+not_five : (code : ℕ) → code ≡ 5 → code ≡ 4 → ⊥
+not_five code a b = let f : 5 ≡ 4 = sym a ∙ b in cc f
+
+pub not_cut : (code : ℕ) → code ≡ 4 → CutsShort code → ⊥
+not_cut code is cut = elim cut [ inl a ↦ not_one code a is | inr a ↦ not_five code a is ]
+
+cut_code : (calls : List Call) (code : ℕ) (m : Made) → IsFrontOf calls code m → CutsShort code
+cut_code calls code m front = elim front [ inl a ↦ inl a.status_is | inr a ↦ inr a.status_is ]
+
+pub grows_then : (old mid new : Option (List (List ℕ))) → GrowsSome old mid → GrowsSome mid new → GrowsSome old new
+grows_then old mid new first second = record {
+  names = first.names ++ second.names;
+  grown = becomes_then old mid new _ _ _ first.grown second.grown (λ ns. append_assoc ns first.names second.names);
+}
+
+pub grows_none : (names : Option (List (List ℕ))) → GrowsSome names names
+grows_none names = record { names = []; grown = becomes_same names _ (λ ns. sym (append-nil ns)) }
+
+module _ {S : Type 0} (taken : S → Option (List ℕ)) (calls : S → Option ℕ) where
+  -- all calls of a fault behind others are made, so its record is the last text
+  fault_last : (old new : S) (made : List Call) (m : Made) (f : Fault) (code : ℕ) → m.calls ≡ made ++ writes (fault_text f) ∷ [] → m.torn ≡ None → code ≡ status f → Wrote taken calls old new m
+      → EndsAtFault taken calls old new code
+  fault_last old new made m f code e none is wrote =
+      let w : Wrote taken calls old new (whole (made ++ writes (fault_text f) ∷ [])) =
+      subst (λ (x : Made). Wrote taken calls old new x) (ap (λ l. (let x : Made = record { calls = l; torn = m.torn } in x)) e ∙ ap (λ t. (let x : Made = record { calls = made ++ writes (fault_text f) ∷ []; torn = t } in x)) none) wrote in
+      record {
+        which = f;
+        code_is = is;
+        texts = texts_written made;
+        takes = subst (λ l. Takes taken calls old new l) (texts-append made (writes (fault_text f) ∷ [])) (takes_wrote taken calls old new (made ++ writes (fault_text f) ∷ []) w);
+      }
+
+  done_answers : (old new : S) (made : List Call) (f : Fault) (code : ℕ) (m : Made) → IsDone (record { calls = made ++ writes (fault_text f) ∷ []; end = Some f }) code m → Wrote taken calls old new m
+      → CutsShort code ⊎ EndsAtFault taken calls old new code
+  done_answers old new made f code m done wrote = elim done [
+    | inl all ↦ inr (fault_last old new made m f code all.calls all.torn all.status_is wrote)
+    | inr front ↦ inl (cut_code _ code m front)
+  ]
+
+  -- a command ends the run with a fault's record, or is cut short
+  step_answers : {T : Type 0} (style : Style) (begun : Bool) (step : Step T) (old new : S) (code : ℕ) (m : Made) → EndsSo style begun step code m → Wrote taken calls old new m
+      → CutsShort code ⊎ EndsAtFault taken calls old new code
+  step_answers style begun (goes events s) old new code m front wrote = inl (cut_code _ code m front)
+  step_answers style begun (ends events f) old new code m done wrote = done_answers old new (behind style begun events) f code m done wrote
+
+  pub command_answers : {T : Type 0} (style : Style) (good : Settle → Type 0) (is_step : Step T → Type 0) (old new : S) (begun : Bool) (code : ℕ) → EndsAt style good is_step taken calls old new begun code
+      → CutsShort code ⊎ EndsAtFault taken calls old new code
+  command_answers style good is_step old new begun code e = elim e.done [
+    | inl all ↦ step_answers style begun e.step old new code e.made all.1 e.wrote
+    | inr front ↦ inl (cut_code _ code e.made front)
+  ]
+
+  -- the record of a fault is printed, or cut short
+  pub fault_answers : (old new : S) (f : Fault) (code : ℕ) → Printed taken calls old new (fault_doing f) code → CutsShort code ⊎ EndsAtFault taken calls old new code
+  fault_answers old new f code p = done_answers old new [] f code p.made p.done p.wrote
+
+  pub fault_code : (old new : S) (f : Fault) (code : ℕ) → Printed taken calls old new (fault_doing f) code → (code ≡ status f) ⊎ CutsShort code
+  fault_code old new f code p = elim p.done [
+    | inl all ↦ inl all.status_is
+    | inr front ↦ inr (cut_code _ code p.made front)
+  ]
+
+  -- what was taken before
+  pub fault_behind : (old mid new : S) (texts : List (List ℕ)) (code : ℕ) → Takes taken calls old mid texts → CutsShort code ⊎ EndsAtFault taken calls mid new code → CutsShort code ⊎ EndsAtFault taken calls old new code
+  fault_behind old mid new texts code takes is = elim is [
+    | inl cut ↦ inl cut
+    | inr e ↦ inr (record {
+      which = e.which;
+      code_is = e.code_is;
+      texts = texts ++ e.texts;
+      takes = subst (λ l. Takes taken calls old new l) (sym (append_assoc texts e.texts (fault_text e.which ∷ []))) (takes_then taken calls old mid new texts (e.texts ++ fault_text e.which ∷ []) takes e.takes);
+    })
+  ]
+
+  pub answers_behind : (old mid new : S) (texts : List (List ℕ)) (code : ℕ) → Takes taken calls old mid texts → Answers taken calls mid new code → Answers taken calls old new code
+  answers_behind old mid new texts code takes is = elim is [ inl a ↦ inl a | inr a ↦ inr (fault_behind old mid new texts code takes a) ]
+
+  pub takes_more : (old mid new : S) (texts : List (List ℕ)) (made : List Call) → Takes taken calls old mid texts → Wrote taken calls mid new (whole made) → Takes taken calls old new (texts ++ texts_written made)
+  takes_more old mid new texts made takes wrote = takes_then taken calls old mid new texts (texts_written made) takes (takes_wrote taken calls mid new made wrote)
+
+  -- ---- the record of a failed read is the last
+
+  record IsRecord (old new : S) (f : Fault) : Type 0 where
+    takes : Takes taken calls old new (fault_text f ∷ [])
+
+  read_record : (old new : S) (n : List ℕ) (code : ℕ) → Printed taken calls old new (fault_doing (fault.Read n)) code → code ≡ 4 → IsRecord old new (fault.Read n)
+  read_record old new n code p four = elim p.done [
+    | inl all ↦ (
+        let w : Wrote taken calls old new (whole (writes (fault_text (fault.Read n)) ∷ [])) =
+        subst (λ (x : Made). Wrote taken calls old new x) (ap (λ l. (let x : Made = record { calls = l; torn = p.made.torn } in x)) all.calls ∙ ap (λ t. (let x : Made = record { calls = writes (fault_text (fault.Read n)) ∷ []; torn = t } in x)) all.torn) p.wrote in
+        record { takes = takes_wrote taken calls old new (writes (fault_text (fault.Read n)) ∷ []) w }
+        )
+    | inr front ↦ absurd (not_cut code four (cut_code _ code p.made front))
+  ]
+
+  pub ends_at_read : {L : Type 0} (asked_of : L → Option (List (List ℕ))) (lib_old mid lib_new : L) (old now new : S) (texts : List (List ℕ)) (n : List ℕ) (code : ℕ) → GrowsSome (asked_of lib_old) (asked_of mid) → GrowsLast (asked_of mid) (asked_of lib_new) n
+      → Takes taken calls old now texts → Printed taken calls now new (fault_doing (fault.Read n)) code → code ≡ 4 → EndsAtRead asked_of lib_old lib_new taken calls old new
+  ends_at_read asked_of lib_old mid lib_new old now new texts n code some last takes printed four =
+      let end : List (List ℕ) = bytes n ∷ [] in
+      record {
+        texts = texts;
+        names = some.names ++ last.front;
+        name = n;
+        asks = becomes_then (asked_of lib_old) (asked_of mid) (asked_of lib_new) _ _ _ some.grown last.grown
+            (λ ns. ap (λ l. l ++ end) (append_assoc ns some.names last.front) ∙ append_assoc ns (some.names ++ last.front) end);
+        takes = takes_then taken calls old now new texts _ takes (read_record now new n code printed four).takes;
+      }
+
+-- ---- texts handed to a sink
+
+module _ {S : Type 0} (taken : S → Option (List ℕ)) (calls : S → Option ℕ) where
+  wrote_texts : (old new : S) (texts : List (List ℕ)) (torn : Option (List ℕ)) → Becomes (taken old) (taken new) (λ bs. bs ++ (concat texts ++ torn_bytes torn))
+      → Becomes (calls old) (calls new) (λ n. n + (length texts + torn_writes torn)) → Wrote taken calls old new (record { calls = map writes texts; torn = torn })
+  wrote_texts old new texts torn bytes_are writes_are = record {
+    names = names_of_writes texts;
+    bytes_are = subst (λ l. Becomes (taken old) (taken new) (λ bs. bs ++ (concat l ++ torn_bytes torn))) (sym (texts_of_writes texts)) bytes_are;
+    writes_are = subst (λ (l : List (List ℕ)). Becomes (calls old) (calls new) (λ n. n + (length l + torn_writes torn))) (sym (texts_of_writes texts)) writes_are;
+  }
+
+  pub wrote_all : (old new : S) (texts : List (List ℕ)) → Takes taken calls old new texts → Wrote taken calls old new (whole (map writes texts))
+  wrote_all old new texts takes = wrote_texts old new texts None
+      (becomes_as (taken old) (taken new) _ _ (λ bs. ap (λ l. bs ++ l) (sym (append-nil (concat texts)))) takes.bytes)
+      (becomes_as (calls old) (calls new) _ _ (λ n. omega arith) takes.writes)
+
+  pub cut_by_memory : (old new : S) (texts : List (List ℕ)) → TakesFirst taken calls old new texts → IsCutIn taken calls old new (map writes texts) 1
+  cut_by_memory old new texts f = record {
+    made = whole (map writes f.whole);
+    front = inl (record { rest = map writes f.rest; calls = ap (map writes) f.parts ∙ map-append writes f.whole f.rest; torn = refl; status_is = refl });
+    wrote = wrote_all old new f.whole f.takes;
+  }
+
+  pub cut_by_fault : (old new : S) (texts : List (List ℕ)) → TakesTorn taken calls old new texts → IsCutIn taken calls old new (map writes texts) 5
+  cut_by_fault old new texts f = record {
+    made = record { calls = map writes f.whole; torn = Some f.front };
+    front = inr (record {
+      text = f.piece;
+      rest = map writes f.rest;
+      calls = ap (map writes) f.parts ∙ map-append writes f.whole (f.piece ∷ f.rest);
+      front = f.front;
+      torn = refl;
+      cut = f.cut;
+      status_is = refl;
+    });
+    wrote = wrote_texts old new f.whole (Some f.front) f.bytes f.writes;
+  }
+
+  pub cut_before : (out : S) (all : List Call) → IsCutIn taken calls out out all 1
+  cut_before out all = record {
+    made = whole [];
+    front = inl (record { rest = all; calls = refl; torn = refl; status_is = refl });
+    wrote = wrote_nothing taken calls out;
+  }
+
+  -- a fault's record, by what the sink took of it
+  pub fault_whole : (old new : S) (f : Fault) (code : ℕ) → code ≡ status f → Takes taken calls old new (fault_text f ∷ []) → Printed taken calls old new (fault_doing f) code
+  fault_whole old new f code is takes = record {
+    made = whole (writes (fault_text f) ∷ []);
+    done = inl (record { calls = refl; torn = refl; status_is = is });
+    wrote = wrote_all old new (fault_text f ∷ []) takes;
+  }
+
+  pub fault_cut : (old new : S) (f : Fault) (code : ℕ) → IsCutIn taken calls old new (writes (fault_text f) ∷ []) code → Printed taken calls old new (fault_doing f) code
+  fault_cut old new f code c = record { made = c.made; done = inr c.front; wrote = c.wrote }
+
+-- ---- a run whatever a library tells
+
+-- what was taken and asked so far
+pub record Shown {L S : Type 0} (asked_of : L → Option (List (List ℕ))) (taken : S → Option (List ℕ)) (calls : S → Option ℕ) (lib_old lib_now : L) (old now : S) : Type 0 where
+  pub texts : List (List ℕ)
+  pub takes : Takes taken calls old now texts
+  pub grows : GrowsSome (asked_of lib_old) (asked_of lib_now)
+
+not_status : (f : Fault) (code n : ℕ) → (status f ≡ n → ⊥) → (1 ≡ n → ⊥) → (5 ≡ n → ⊥) → (code ≡ status f) ⊎ CutsShort code → code ≡ n → ⊥
+not_status f code n a b c is e = elim is [
+  | inl x ↦ a (sym x ∙ e)
+  | inr cut ↦ elim cut [ inl x ↦ b (sym x ∙ e) | inr x ↦ c (sym x ∙ e) ]
+]
+
+module _ {L S : Type 0} (faults : L → ℕ) (asked_of : L → Option (List (List ℕ))) (sink_faults : S → ℕ) (taken : S → Option (List ℕ)) (calls : S → Option ℕ) where
+  pub shown_nothing : (lib : L) (out : S) → Shown asked_of taken calls lib lib out out
+  shown_nothing lib out = record { texts = []; takes = takes_none taken calls out; grows = grows_none (asked_of lib) }
+
+  pub shown_more : (lib_old lib lib_new : L) (old now new : S) (made : List Call) → Shown asked_of taken calls lib_old lib old now → GrowsSome (asked_of lib) (asked_of lib_new) → Wrote taken calls now new (whole made)
+      → Shown asked_of taken calls lib_old lib_new old new
+  shown_more lib_old lib lib_new old now new made shown grows wrote = record {
+    texts = shown.texts ++ texts_written made;
+    takes = takes_more taken calls old now new shown.texts made shown.takes wrote;
+    grows = grows_then (asked_of lib_old) (asked_of lib) (asked_of lib_new) shown.grows grows;
+  }
+
+  -- ended with a fault's record or cut short, and neither usage nor a failed read
+  pub untold_fault : (lib_old lib lib_new : L) (old now new : S) (code : ℕ) → Shown asked_of taken calls lib_old lib old now → GrowsSome (asked_of lib) (asked_of lib_new)
+      → CutsShort code ⊎ EndsAtFault taken calls now new code → (code ≡ 2 → ⊥) → (code ≡ 4 → ⊥) → (code ≡ 5 → Rose (sink_faults old) (sink_faults new))
+      → IsUntold faults asked_of sink_faults taken calls lib_old lib_new old new code
+  untold_fault lib_old lib lib_new old now new code shown grows is not_usage not_read write = record {
+    answers = inr (fault_behind taken calls old now new shown.texts code shown.takes is);
+    grows = grows_then (asked_of lib_old) (asked_of lib) (asked_of lib_new) shown.grows grows;
+    usage = not_usage;
+    read = λ four. absurd (not_read four);
+    last = λ four. absurd (not_read four);
+    write = write;
+  }
+
+  pub untold_refused : (lib_old lib lib_new : L) (old now new : S) (place : Place) (c : ScriptCause) (code : ℕ) → Shown asked_of taken calls lib_old lib old now → GrowsSome (asked_of lib) (asked_of lib_new)
+      → Printed taken calls now new (fault_doing (fault.Script place (cause.Script c))) code → (code ≡ 5 → Rose (sink_faults old) (sink_faults new))
+      → IsUntold faults asked_of sink_faults taken calls lib_old lib_new old new code
+  untold_refused lib_old lib lib_new old now new place c code shown grows printed write =
+      let f = fault.Script place (cause.Script c) in
+      let is = fault_code taken calls now new f code printed in
+      untold_fault lib_old lib lib_new old now new code shown grows (fault_answers taken calls now new f code printed)
+      (not_status f code 2 (λ e. omega (arith, e)) (λ e. omega (arith, e)) (λ e. omega (arith, e)) is)
+      (not_status f code 4 (λ e. omega (arith, e)) (λ e. omega (arith, e)) (λ e. omega (arith, e)) is) write
+
+  pub untold_read : (lib_old lib lib_new : L) (old now new : S) (n : List ℕ) (code : ℕ) → Shown asked_of taken calls lib_old lib old now → GrowsSome (asked_of lib) (asked_of lib_new) → GrowsLast (asked_of lib) (asked_of lib_new) n
+      → Printed taken calls now new (fault_doing (fault.Read n)) code → Rose (faults lib_old) (faults lib_new) → (code ≡ 5 → Rose (sink_faults old) (sink_faults new))
+      → IsUntold faults asked_of sink_faults taken calls lib_old lib_new old new code
+  untold_read lib_old lib lib_new old now new n code shown grows last printed rose write = record {
+    answers = inr (fault_behind taken calls old now new shown.texts code shown.takes (fault_answers taken calls now new (fault.Read n) code printed));
+    grows = grows_then (asked_of lib_old) (asked_of lib) (asked_of lib_new) shown.grows grows;
+    usage = not_status (fault.Read n) code 2 (λ e. omega (arith, e)) (λ e. omega (arith, e)) (λ e. omega (arith, e)) (fault_code taken calls now new (fault.Read n) code printed);
+    read = λ four. rose;
+    last = λ four. ends_at_read taken calls asked_of lib_old lib lib_new old now new shown.texts n code shown.grows last shown.takes printed four;
+    write = write;
+  }
+
+  pub untold_short : (lib_old lib lib_new : L) (old now : S) → Shown asked_of taken calls lib_old lib old now → GrowsSome (asked_of lib) (asked_of lib_new)
+      → IsUntold faults asked_of sink_faults taken calls lib_old lib_new old now 1
+  untold_short lib_old lib lib_new old now shown grows = record {
+    answers = inr (inl (inl refl));
+    grows = grows_then (asked_of lib_old) (asked_of lib) (asked_of lib_new) shown.grows grows;
+    usage = λ e. omega (arith, e);
+    read = λ e. absurd (omega (arith, e));
+    last = λ e. absurd (omega (arith, e));
+    write = λ e. absurd (omega (arith, e));
+  }
+
+  -- done to its end with nothing more
+  pub untold_first : (lib : L) (out : S) → IsUntold faults asked_of sink_faults taken calls lib lib out out 1
+  untold_first lib out = untold_short lib lib lib out out (shown_nothing lib out) (grows_none (asked_of lib))
+
+  pub untold_done : (lib : L) (out : S) → IsUntold faults asked_of sink_faults taken calls lib lib out out 0
+  untold_done lib out = record {
+    answers = inl refl;
+    grows = grows_none (asked_of lib);
+    usage = λ e. omega (arith, e);
+    read = λ e. absurd (omega (arith, e));
+    last = λ e. absurd (omega (arith, e));
+    write = λ e. absurd (omega (arith, e));
+  }
+
+  pub untold_finished : (lib_old lib mid lib_new : L) (old now new : S) (code : ℕ) → Shown asked_of taken calls lib_old lib old now → GrowsSome (asked_of lib) (asked_of mid)
+      → faults lib_old ≤ faults mid → sink_faults old ≤ sink_faults now → IsUntold faults asked_of sink_faults taken calls mid lib_new now new code
+      → IsUntold faults asked_of sink_faults taken calls lib_old lib_new old new code
+  untold_finished lib_old lib mid lib_new old now new code shown grows later sink u =
+      let some = grows_then (asked_of lib_old) (asked_of lib) (asked_of mid) shown.grows grows in
+      record {
+        answers = answers_behind taken calls old now new shown.texts code shown.takes u.answers;
+        grows = grows_then (asked_of lib_old) (asked_of mid) (asked_of lib_new) some u.grows;
+        usage = u.usage;
+        read = λ four. rose_since (faults lib_old) (faults mid) (faults lib_new) later (u.read four);
+        last = λ four. last_behind (u.last four);
+        write = λ five. rose_since (sink_faults old) (sink_faults now) (sink_faults new) sink (u.write five);
+      }
+    where
+      last_behind : EndsAtRead asked_of mid lib_new taken calls now new → EndsAtRead asked_of lib_old lib_new taken calls old new
+      last_behind e =
+          let all = grows_then (asked_of lib_old) (asked_of lib) (asked_of mid) shown.grows grows in
+          record {
+            texts = shown.texts ++ e.texts;
+            names = all.names ++ e.names;
+            name = e.name;
+            asks = becomes_then (asked_of lib_old) (asked_of mid) (asked_of lib_new) _ _ _ all.grown e.asks
+                (λ ns. append_assoc ns all.names (e.names ++ bytes e.name ∷ []) ∙ ap (λ l. ns ++ l) (sym (append_assoc all.names e.names (bytes e.name ∷ []))));
+            takes = subst (λ l. Takes taken calls old new l) (sym (append_assoc shown.texts e.texts (fault_text (fault.Read e.name) ∷ [])))
+                (takes_then taken calls old now new shown.texts (e.texts ++ fault_text (fault.Read e.name) ∷ []) shown.takes e.takes);
+          }
+
+-- ---- the status of a run
+
+module _ {L S : Type 0} (faults : L → ℕ) (asked_of : L → Option (List (List ℕ))) (taken : S → Option (List ℕ)) (calls : S → Option ℕ) where
+  pub run_due : (is_history : History → Type 0) (style : Style) (good : Settle → Type 0) (lib_old lib_new : L) (old new : S) (code : ℕ) (one : ExactlyOne is_history)
+      → Runs faults asked_of taken calls lib_old lib_new old new is_history style good code → IsDue one.some.end code (faults lib_old) (faults lib_new)
+  run_due is_history style good lib_old lib_new old new code one runs = due_of faults asked_of taken calls is_history style good lib_old lib_new old new code one runs
+
+-- ---- a fault alone
+
+module _ {L S : Type 0} (faults : L → ℕ) (asked_of : L → Option (List (List ℕ))) (taken : S → Option (List ℕ)) (calls : S → Option ℕ) where
+  pub fault_alone : (style : Style) (good : Settle → Type 0) (lib : L) (old new : S) (f : Fault) (code : ℕ) → Printed taken calls old new (fault_doing f) code
+      → Runs faults asked_of taken calls lib lib old new (λ h. h ≡ ended [] f) style good code
+  fault_alone style good lib old new f code p = record {
+    history = ended [] f;
+    right = refl;
+    fails = None;
+    cause = inl refl;
+    made = p.made;
+    done = p.done;
+    sees = record {
+      names = becomes_same (asked_of lib) _ (λ ns. sym (ap (λ l. ns ++ l) p.wrote.names ∙ append-nil ns));
+      bytes = p.wrote.bytes_are;
+      writes = p.wrote.writes_are;
+    };
+    reached = record { front = []; rest = []; events_are = refl; all_good = All-nil (IfSettle good); end = Some f; done = p.done };
+  }
+
+-- ---- exactly one
+
+-- there is exactly one history, where each command comes to exactly one thing and so does the end
+pub exactly_one_history : {S : Type 0} (is_step : Command → S → Step S → Type 0) (last_name : S → Option (List ℕ)) (is_last : S → Option (List ℕ) → History → Type 0) → HistoryLaw is_step last_name is_last
+exactly_one_history is_step last_name is_last = one_history is_step last_name is_last
+
+pub exactly_this : {X : Type 0} (x : X) → ExactlyOne (λ (y : X). y ≡ x)
+exactly_this x = one_value x

@@ -1,0 +1,5 @@
+pub mod Histories
+pub mod Lists
+pub mod Printing
+pub mod Ways
+pub mod CallerLemmas

@@ -1,0 +1,236 @@
+-- Laws of printing.
+use Rattle.std.proofs.Common.{◌≡◌, ◌∙◌, ℕ, zero, suc, ◌+◌, List, [], ◌∷◌, ◌++◌, map, length, Option, Some, None, refl, sym, ap, subst, inl, inr, arith}
+use Rattle.std.specs.Prelude.{◌⊎◌}
+use Rattle.std.specs.List.{flat_map, concat}
+use Rattle.std.proofs.lemmas.List.{append_assoc, append-nil}
+use Rattle.fd_outside.specs.Causes.{Rose}
+use Rattle.fd_outside.specs.Pieces.{Begins}
+use Rattle.fd_outside.specs.Emitted.{IsFront}
+use Rattle.fd_outside.proofs.CallerLemmas.{front_after, front_more, front_none, front_one}
+use Rattle.dss_values.specs.Names.{bytes}
+use Rattle.fd_report.specs.declared.faults.Fault.{Fault}
+use Rattle.fd_report.specs.declared.faults.Fault.TheVariants as fault
+use Rattle.fd_outcome.specs.Statuses.{status_of, want_of_memory, write_fault}
+use Rattle.fd_outcome.specs.Settles.{Settle}
+use Rattle.fd_outcome.specs.Events.{Event, History, before}
+use Rattle.fd_outcome.specs.Work.{ExactlyOne}
+use Rattle.fd_outcome.specs.Calls.{Call, reads, writes, Style, report, opened, body, so_far, calls_of, Doing, doing, fault_text, names_read, texts_written}
+use Rattle.fd_outcome.specs.Done.{called_first, read_failing, failing, Made, IsAll, IsShort, IsTorn, IsDone, HasReadCause, torn_bytes, torn_writes}
+use Rattle.fd_outcome.specs.Behind.{has_text, behind, opened_unless}
+use Rattle.fd_outcome.specs.Laws.{NamesLaw, IsReadFailing, ReadLaw, IsCut, CutLaw, IsDue}
+use Rattle.fd_outcome.specs.Runs.{Runs}
+use Rattle.fd_outcome.proofs.Lists.{opened-append, opened_behind, body-append, names-append, texts-append, names_of_writes, names_of_opened, names_of_body}
+
+-- ---- events that follow others
+
+pub append_is : (style : Style) (a b : List Event) → so_far style (a ++ b) ≡ so_far style a ++ behind style (has_text (body style a)) b
+append_is style a b =
+    ap (opened (style.opening)) (body-append style a b)
+    ∙ opened-append (style.opening) (body style a) (body style b)
+    ∙ ap (λ l. so_far style a ++ l) (opened_behind style (has_text (body style a)) b)
+
+front_by : (style : Style) (a events : List Event) (end : Option Fault) → (rest : List Call) × (calls_of style (a ++ events) end ≡ so_far style a ++ rest)
+front_by style a events None =
+    let last = map writes (style.closing) in (
+      opened_unless (has_text (body style a)) (style.opening) (body style events ++ last),
+      ap (λ l. opened (style.opening) (l ++ last)) (body-append style a events)
+          ∙ ap (opened (style.opening)) (append_assoc (body style a) (body style events) last)
+          ∙ opened-append (style.opening) (body style a) (body style events ++ last),
+    )
+front_by style a events (Some f) =
+    let last = writes (fault_text f) ∷ [] in
+    let more = behind style (has_text (body style a)) events in
+    (more ++ last, ap (λ l. l ++ last) (append_is style a events) ∙ append_assoc (so_far style a) more last)
+
+pub front_is : (style : Style) (a : List Event) (h : History) → (rest : List Call) × ((doing style (before a h)).calls ≡ so_far style a ++ rest)
+front_is style a h = front_by style a h.events h.end
+
+-- ---- names
+
+names_by : (style : Style) (events : List Event) (end : Option Fault) → names_read (calls_of style events end) ≡ map bytes (flat_map (λ e. style.asked_in e) events)
+names_by style events None =
+    let last = map writes style.closing in
+    names_of_opened style.opening (body style events ++ last)
+    ∙ names-append (body style events) last
+    ∙ ap (λ l. names_read (body style events) ++ l) (names_of_writes style.closing)
+    ∙ append-nil (names_read (body style events))
+    ∙ names_of_body style events
+names_by style events (Some f) =
+    names-append (so_far style events) (writes (fault_text f) ∷ [])
+    ∙ append-nil (names_read (so_far style events))
+    ∙ names_of_opened style.opening (body style events)
+    ∙ names_of_body style events
+
+pub names_are : NamesLaw
+names_are h = names_by report h.events h.end
+
+-- ---- a read that fails
+
+abbrev at_calls : List Call → Option Fault → Doing
+at_calls calls end = record { calls = calls; end = end }
+
+ReadCase : ℕ → List Call → Option Fault → Type 0
+ReadCase n calls end = (read_failing n calls end ≡ at_calls calls end) ⊎ IsReadFailing n (at_calls calls end) (read_failing n calls end)
+
+read_by : (n : ℕ) (calls : List Call) (end : Option Fault) → ReadCase n calls end
+unfolding ReadCase
+read_by n [] end = inl refl
+read_by n (writes text ∷ calls) end = elim (read_by n calls end) [
+  | inl same ↦ inl (ap (called_first (writes text)) same)
+  | inr r ↦ inr (record {
+    front = writes text ∷ r.front;
+    name = r.name;
+    rest = r.rest;
+    calls = ap (λ (l : List Call). writes text ∷ l) r.calls;
+    reads_before = r.reads_before;
+    calls_now = ap (λ (l : List Call). writes text ∷ l) r.calls_now;
+    end_now = r.end_now;
+  })
+]
+read_by zero (reads name ∷ calls) end = inr (record { front = []; name = name; rest = calls; calls = refl; reads_before = refl; calls_now = refl; end_now = refl })
+read_by (suc n) (reads name ∷ calls) end = elim (read_by n calls end) [
+  | inl same ↦ inl (ap (called_first (reads name)) same)
+  | inr r ↦ inr (record {
+    front = reads name ∷ r.front;
+    name = r.name;
+    rest = r.rest;
+    calls = ap (λ (l : List Call). reads name ∷ l) r.calls;
+    reads_before = omega (arith, r.reads_before);
+    calls_now = ap (λ (l : List Call). reads name ∷ l) r.calls_now;
+    end_now = r.end_now;
+  })
+]
+
+pub read_is : ReadLaw
+unfolding ReadCase
+read_is n d = read_by n d.calls d.end
+
+-- ---- cuts
+
+-- whole texts
+whole_front : (xs ys : List (List ℕ)) → IsFront (xs ++ ys) (length xs + 0) (concat xs ++ [])
+whole_front xs ys = front_after xs ys 0 [] (front_none ys)
+
+torn_front : (xs : List (List ℕ)) (text : List ℕ) (ys : List (List ℕ)) (front : List ℕ) → Begins front text → IsFront (xs ++ text ∷ ys) (length xs + 1) (concat xs ++ front)
+torn_front xs text ys front begins = front_after xs (text ∷ ys) 1 front (front_more (text ∷ []) ys 1 front (front_one text front begins))
+
+abbrev FrontAt : List (List ℕ) → List (List ℕ) → Option (List ℕ) → Type 0
+FrontAt texts xs torn = IsFront texts (length xs + torn_writes torn) (concat xs ++ torn_bytes torn)
+
+front_with : (texts xs ys : List (List ℕ)) (torn : Option (List ℕ)) → texts ≡ xs ++ ys → torn ≡ None → FrontAt texts xs torn
+front_with texts xs ys torn e none =
+    subst (λ t. FrontAt texts xs t) (sym none) (subst (λ l. FrontAt l xs None) (sym e) (whole_front xs ys))
+
+rest_names : (d : Doing) (calls rest : List Call) → d.calls ≡ calls ++ rest → (more : List (List ℕ)) × (names_read d.calls ≡ names_read calls ++ more)
+rest_names d calls rest e = (names_read rest, ap names_read e ∙ names-append calls rest)
+
+all_cut : (d : Doing) (status : ℕ) (m : Made) → IsAll d status m → IsCut d status m
+all_cut d status m a =
+    let e : d.calls ≡ m.calls ++ [] = sym a.calls ∙ sym (append-nil m.calls) in
+    record {
+      is_front = front_with (texts_written d.calls) (texts_written m.calls) [] m.torn (ap texts_written e ∙ texts-append m.calls []) a.torn;
+      names = rest_names d m.calls [] e;
+      answers = inl a.status_is;
+      whole = λ h. a.torn;
+    }
+
+short_cut : (d : Doing) (status : ℕ) (m : Made) → IsShort d.calls status m → IsCut d status m
+short_cut d status m a = record {
+  is_front = front_with (texts_written d.calls) (texts_written m.calls) (texts_written a.rest) m.torn (ap texts_written a.calls ∙ texts-append m.calls a.rest) a.torn;
+  names = rest_names d m.calls a.rest a.calls;
+  answers = inr (inl a.status_is);
+  whole = λ h. a.torn;
+}
+
+torn_cut : (d : Doing) (status : ℕ) (m : Made) → IsTorn d.calls status m → IsCut d status m
+torn_cut d status m a =
+    let xs = texts_written m.calls in
+    let e : texts_written d.calls ≡ xs ++ a.text ∷ texts_written a.rest = ap texts_written a.calls ∙ texts-append m.calls (writes a.text ∷ a.rest) in
+    record {
+      is_front = subst (λ t. FrontAt (texts_written d.calls) xs t) (sym a.torn) (subst (λ l. FrontAt l xs (Some a.front)) (sym e) (torn_front xs a.text (texts_written a.rest) a.front a.cut.begins));
+      names = rest_names d m.calls (writes a.text ∷ a.rest) a.calls;
+      answers = inr (inr a.status_is);
+      whole = λ h. absurd (h a.status_is);
+    }
+
+pub cut_is : CutLaw
+cut_is d status m is = elim is [
+  | inl a ↦ all_cut d status m a
+  | inr other ↦ elim other [
+    | inl a ↦ short_cut d status m a
+    | inr a ↦ torn_cut d status m a
+  ]
+]
+
+-- ---- statuses
+
+-- the status of what is done of a history
+pub Answered : Option Fault → Option ℕ → ℕ → Type 0
+Answered end fails code = (code ≡ status_of end) ⊎ ((code ≡ want_of_memory) ⊎ ((code ≡ write_fault) ⊎ ((fails ≡ None → ⊥) × (code ≡ 4))))
+
+by_end : (style : Style) (h : History) (fails : Option ℕ) (code : ℕ) → code ≡ status_of (failing fails (doing style h)).end → Answered h.end fails code
+unfolding Answered
+by_end style h None code e = inl e
+by_end style h (Some n) code e = elim (read_is n (doing style h)) [
+  | inl same ↦ inl (e ∙ ap (λ (d : Doing). status_of d.end) same)
+  | inr r ↦ inr (inr (inr (λ none. cc none, e ∙ ap status_of r.end_now)))
+]
+
+pub answer_is : (style : Style) (h : History) (fails : Option ℕ) (code : ℕ) (m : Made) → IsDone (failing fails (doing style h)) code m → Answered h.end fails code
+unfolding Answered
+answer_is style h fails code m is = elim is [
+  | inl a ↦ by_end style h fails code a.status_is
+  | inr other ↦ elim other [
+    | inl a ↦ inr (inl a.status_is)
+    | inr a ↦ inr (inr (inl a.status_is))
+  ]
+]
+
+-- ---- the status of a run
+
+rose : (before now : ℕ) (fails : Option ℕ) → HasReadCause before now fails → (fails ≡ None → ⊥) → Rose before now
+rose before now fails cause fails_not = elim cause [
+  | inl none ↦ absurd (fails_not none)
+  | inr up ↦ up
+]
+
+DueAt : Option Fault → ℕ → ℕ → ℕ → Type 0
+DueAt end code before now = (code ≡ status_of end) ⊎ ((code ≡ want_of_memory) ⊎ ((code ≡ write_fault) ⊎ (Rose before now × (code ≡ 4))))
+
+due_at : (end : Option Fault) (fails : Option ℕ) (code before now : ℕ) → HasReadCause before now fails → Answered end fails code → DueAt end code before now
+unfolding Answered DueAt
+due_at end fails code before now cause is = elim is [
+  | inl a ↦ inl a
+  | inr b ↦ elim b [
+    | inl a ↦ inr (inl a)
+    | inr d ↦ elim d [
+      | inl a ↦ inr (inr (inl a))
+      | inr a ↦ inr (inr (inr (rose before now fails cause a.0, a.1)))
+    ]
+  ]
+]
+
+completes : (end : Option Fault) (code before now : ℕ) → DueAt end code before now → (Rose before now → ⊥) → (code ≡ write_fault → ⊥) → (code ≡ status_of end) ⊎ (code ≡ want_of_memory)
+unfolding DueAt
+completes end code before now is not_read not_written = elim is [
+  | inl a ↦ inl a
+  | inr b ↦ elim b [
+    | inl a ↦ inr a
+    | inr d ↦ elim d [
+      | inl a ↦ absurd (not_written a)
+      | inr a ↦ absurd (not_read a.0)
+    ]
+  ]
+]
+
+is_due : (end : Option Fault) (code before now : ℕ) → DueAt end code before now → IsDue end code before now
+unfolding DueAt
+is_due end code before now at = record { is_due = at; complete = completes end code before now at }
+
+module _ {L S : Type 0} (faults : L → ℕ) (asked : L → Option (List (List ℕ))) (taken : S → Option (List ℕ)) (calls : S → Option ℕ) where
+  pub due_of : (is_history : History → Type 0) (style : Style) (good : Settle → Type 0) (lib_old lib_new : L) (old new : S) (code : ℕ) (one : ExactlyOne is_history)
+      → Runs faults asked taken calls lib_old lib_new old new is_history style good code → IsDue one.some.end code (faults lib_old) (faults lib_new)
+  due_of is_history style good lib_old lib_new old new code one runs =
+      let same : runs.history ≡ one.some = one.only runs.history runs.right in
+      let here = due_at runs.history.end runs.fails code (faults lib_old) (faults lib_new) runs.cause (answer_is style runs.history runs.fails code runs.made runs.done) in
+      subst (λ (h : History). IsDue h.end code (faults lib_old) (faults lib_new)) same (is_due runs.history.end code (faults lib_old) (faults lib_new) here)

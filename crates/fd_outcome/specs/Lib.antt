@@ -1,0 +1,14 @@
+pub mod Statuses
+pub mod Settles
+pub mod Events
+pub mod Work
+pub mod History
+pub mod Pages
+pub mod Calls
+pub mod Done
+pub mod Runs
+pub mod Laws
+pub mod Way
+pub mod Behind
+pub mod Parts
+pub mod Untold

@@ -1,0 +1,40 @@
+-- A settle as data: where it started, its rounds, how it ended, and what it leaves.
+use Rattle.std.specs.Prelude.{ℕ, ℤ, Bool, List}
+use Rattle.fd_arith.specs.declared.terms.TapPair.{TapPair}
+use Rattle.dss_circuit.specs.Circuit.{CircuitView}
+use Rattle.fd_report.specs.declared.faults.Fault.{Fault}
+
+-- what stands from settle to settle: a pair of taps for each Transformer, and whether it is closed for each Capacitor
+pub record Standing : Type 0 where
+  pub taps : List TapPair
+  pub closed : List Bool
+
+-- an act of a control, by its printed name, at a time in milliseconds: by so many steps, and the position behind it
+pub record Act : Type 0 where
+  pub time : ℕ
+  pub control : List ℕ
+  pub steps : ℤ
+  pub after : ℤ
+
+-- A state that the procedure reaches, by place, in whole microvolts and microamperes, the mismatch of each row, and the inverse with which
+-- it was reached. Its certificate's radii, and the acts behind it; where there is no certificate, or no control acts, there are none.
+pub record Round : Type 0 where
+  pub centre : List ℤ
+  pub radii : List ℕ
+  pub mismatches : List ℤ
+  pub inverse : List (List ℤ)
+  pub acts : List Act
+
+pub data SettleEnd : Type 0 where
+  settled : SettleEnd
+  failed : Fault → SettleEnd
+
+-- of a circuit, by its number in the run, from 1; the hour is 0 in a snapshot
+pub record Settle : Type 0 where
+  pub number : ℕ
+  pub hour : ℕ
+  pub circuit : CircuitView
+  pub start : Standing
+  pub rounds : List Round
+  pub end : SettleEnd
+  pub left : Standing
