@@ -32,6 +32,6 @@ all_linear = record {
   few = lit< tt;
 }
 
-pub of-requires : goal.of-requires
+pub of-requires-clause-linear : goal.of-requires-clause-linear
 unfolding third other
-of-requires c = subst (AreLinear 2) (sym c.in_ok-terms.ensures.items) all_linear
+of-requires-clause-linear c = subst (AreLinear 2) (sym c.in_ok-terms.ensures.items) all_linear
