@@ -1,0 +1,12 @@
+pub mod Bounded
+pub mod Clamping
+pub mod CurrentRows
+pub mod MagnitudeRows
+pub mod Magnitudes
+pub mod Phases
+pub mod PowerAcross
+pub mod PowerCases
+pub mod PowerInside
+pub mod Quotients
+pub mod Sizes
+pub mod Terminals

@@ -1,0 +1,3 @@
+pub mod Radii
+pub mod Boxes
+pub mod Changes
