@@ -6,7 +6,7 @@ use Rattle.std.proofs.lemmas.List.Folds.{find_at}
 use Rattle.std.proofs.lemmas.List.Sums.{prefix_len-le-length}
 use Rattle.std.proofs.lemmas.Bool.Decides.{nat_tests}
 use Rattle.fd_queue.specs.declared.entry.Entry.{Entry}
-use Rattle.fd_queue.specs.Queue.{InPairs, IsBefore, IsQueue, HaveOneEach, entry_of, queued, without}
+use Rattle.fd_queue.specs.Queue.{InPairs, IsBefore, IsQueue, entry_of, queued, without}
 use Rattle.fd_queue.proofs.Pairs.{each_weaker}
 
 -- ---- an entry put in

@@ -1,5 +1,5 @@
 -- The queue: entries in order of time, and at one time in order of sequence number, one entry a control at most.
-use Rattle.std.specs.Prelude.{◌≡◌, ◌≢◌, ◌⊎◌, ℕ, ◌<◌, ◌==◌, nat_le, nat_lt, Bool, not, ◌||◌, List, [], ◌∷◌, ◌++◌, Option, Some, None, find, filter}
+use Rattle.std.specs.Prelude.{◌≡◌, ◌≢◌, ◌⊎◌, ℕ, ◌<◌, ◌==◌, nat_le, nat_lt, Bool, not, ◌||◌, List, [], ◌∷◌, ◌++◌, Option, find, filter}
 use Rattle.std.specs.List.{AllByRecursion, list_any}
 use Rattle.fd_queue.specs.Decisions.{is_way}
 use Rattle.fd_queue.specs.declared.entry.Entry.{Entry}

@@ -3,7 +3,7 @@ use Rattle.std.proofs.Common.{◌≢◌, inl, ℕ}
 use Rattle.fd_queue.specs.Quantities.{Quantity}
 use Rattle.fd_queue.specs.Decisions.{IsOfAll, IsEdge}
 use Rattle.fd_queue.proofs.CallerLemmas.{decided_everywhere}
-use Rattle.fd_regctl.specs.Regulator.{Regulator, AreSteps, regulator_verdict, regulator_edge}
+use Rattle.fd_regctl.specs.Regulator.{Regulator, regulator_verdict, regulator_edge}
 use Rattle.fd_regctl.specs.Settings.{RegSettings, regulator_at}
 use Rattle.fd_regctl.proofs.Regulators.{regulator_along}
 use Rattle.fd_regctl.proofs.Edges.{regulator_edges}

@@ -3,7 +3,7 @@ use Rattle.std.proofs.Common.{◌≡◌, ◌≢◌, ◌⊎◌, inl, inr, ⊎_eli
 use Rattle.std.specs.Prelude.{int_lt, nat_le}
 use Rattle.std.proofs.lemmas.Bool.Decides.{nat_tests}
 use Rattle.std.proofs.lemmas.Int.{ints}
-use Rattle.fd_queue.specs.Quantities.{Quantity, AtMost, IsProper}
+use Rattle.fd_queue.specs.Quantities.{Quantity, AtMost}
 use Rattle.fd_queue.specs.Decisions.{Decision, Raise, Hold, Lower, IsEdge}
 use Rattle.fd_regctl.specs.Regulator.{Regulator, AreSteps, regulator_edge, greatest_within, capped, steps_up, steps_down, regulator_verdict}
 use Rattle.fd_regctl.specs.RegulatorLaws.{IsGreatest}

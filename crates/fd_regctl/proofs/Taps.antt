@@ -1,9 +1,9 @@
 -- A verdict's steps keep a tap within its ends.
-use Rattle.std.proofs.Common.{◌≡◌, ℕ, ◌+◌, ◌-◌, ◌*◌, ◌/◌, ◌≤◌, Bool, true, false, cond, arith}
+use Rattle.std.proofs.Common.{◌≡◌, ℕ, ◌-◌, ◌*◌, ◌/◌, ◌≤◌, Bool, true, false, cond, arith}
 use Rattle.std.proofs.Math.Nat.{mul-le-mul_right, div-mul-le_self}
 use Rattle.fd_queue.specs.Quantities.{Quantity}
 use Rattle.fd_queue.specs.Decisions.{Raise, Hold, Lower}
-use Rattle.fd_regctl.specs.Regulator.{capped, greatest_within, regulator_verdict, steps_up, steps_down}
+use Rattle.fd_regctl.specs.Regulator.{capped, regulator_verdict, steps_up, steps_down}
 use Rattle.fd_regctl.specs.Settings.{RegSettings, regulator_at, room_up, room_down}
 use Rattle.fd_regctl.specs.RegulatorLaws.{StaysWithin, StepsUp, StepsDown}
 

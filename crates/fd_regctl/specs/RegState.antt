@@ -1,10 +1,10 @@
 -- What contracts see of the state of a regulator's control, and how the queue machine shows it.
-use Rattle.std.specs.Prelude.{◌≡◌, ℕ, ℤ, ◌+◌, ◌*◌, ◌≤◌, ◌<◌, ◌^◌, Bool, Option, None, Some, List, length, get_or}
+use Rattle.std.specs.Prelude.{◌≡◌, ℕ, ℤ, ◌+◌, ◌*◌, ◌≤◌, ◌<◌, ◌^◌, Bool, Option, None, length, get_or}
 use Rattle.fd_arith.specs.declared.terms.TapPair.{TapPair}
 use Rattle.fd_queue.specs.Decisions.{Decision, Raise, Hold, Lower, is_raise, steps_of}
-use Rattle.fd_queue.specs.Controls.{Control, Regulates, TapChanger, no_taps, tap_of, set_tap, moved_tap}
+use Rattle.fd_queue.specs.Controls.{Regulates, TapChanger, no_taps, tap_of, set_tap, moved_tap}
 use Rattle.fd_queue.specs.Queue.{QueueView}
-use Rattle.fd_queue.specs.Machine.{Machine, Rule, ShowsQueue, reacted, moved_by, acted, Act}
+use Rattle.fd_queue.specs.Machine.{Machine, Rule, ShowsQueue, reacted, moved_by, acted}
 use Rattle.fd_queue.specs.declared.entry.Entry.{Entry}
 
 -- the control's number, its settings (the tap step in 10^-5, the delays in milliseconds), the latest verdict and the
