@@ -1,5 +1,5 @@
-pub mod Answers
 pub mod Limits
 pub mod Keys
 pub mod Circuit
+pub mod WellFormed
 pub mod InRange

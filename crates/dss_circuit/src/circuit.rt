@@ -1,22 +1,25 @@
 // A circuit, changed in place by commands.
-ghost use Rattle.std.specs.Prelude.{◌≡◌, ◌<◌, ◌≤◌, ◌^◌, ◌-◌, length};
+ghost use Rattle.std.specs.Prelude.{◌≡◌, ◌<◌, ◌≤◌, ◌^◌, ◌-◌, All, length, map};
 ghost use Rattle.dss_profile.specs.Options.{with_options};
-ghost use Rattle.dss_circuit.specs.Answers.{Becomes};
+ghost use Rattle.dss_profile.specs.Changes.{Becomes};
 ghost use Rattle.dss_circuit.specs.Circuit.{empty_circuit, has_circuit, applied};
 ghost use Rattle.dss_profile.specs.InRange.{OptionsInRange};
 ghost use Rattle.dss_circuit.specs.InRange.{AllInRange};
 ghost use Rattle.dss_circuit.specs.Limits.{most_elements};
+ghost use Rattle.dss_circuit.specs.WellFormed.{BeginsWithSource, IsEntry};
+ghost use Rattle.dss_profile.specs.SameElement.{same_element};
+ghost use Rattle.std.specs.List.{IsDistinct};
 
-use crate::elements::{Elements, edit_element, make_element};
+use crate::elements::{Elements, edit_element, make_element, no_elements};
 use crate::keys::{check_circuit, key_to_edit, key_to_make};
-use dss_lexer::Pair;
 use dss_profile::{Command, Element, ElementName, ModelFault, Options, Verb};
 use indexmap::IndexMap;
 use std::alloc::Global;
 use std::marker::Model;
 
 /// A circuit as the commands so far have made it: its elements by name in order of definition, its options, and how
-/// many Solves were applied. It has at most 2^17 elements, and each value of an element or an option is in its range.
+/// many Solves were applied. It has at most 2^17 elements, no two of them the same, and each value of an element or an
+/// option is in its range.
 #[derive(Drop)]
 pub struct Circuit {
     elements: Elements,
@@ -42,25 +45,13 @@ fn is_begun(elements: &Elements) -> bool
     !elements.is_empty()
 }
 
-// The options with these pairs. After an `Err` the options are as before.
-fn set_options(alloc: Global, options: &mut Options, pairs: &[Pair]) -> Result<(), ModelFault>
-    requires in_range { OptionsInRange options.old }
-    ensures set { Becomes options.old options.new result (with_options pairs.now options.old) }
-    ensures in_range { OptionsInRange options.new }
-{
-    let mut draft = options.copied()?;
-    draft.set_pairs(alloc, pairs)?;
-    *options = draft;
-    Ok(())
-}
-
 impl Circuit {
     /// No circuit yet, and the options as they are when nothing is set. It takes no memory.
     pub fn empty(alloc: Global) -> Self
         ensures { result ≡ empty_circuit }
     {
         Circuit {
-            elements: IndexMap::new(alloc),
+            elements: no_elements(alloc),
             options: Options::start(alloc),
             solves: 0,
         }
@@ -96,15 +87,15 @@ impl Circuit {
                     pairs.as_slice(),
                 )
             }
-            Verb::Set { pairs } => set_options(alloc, &mut self.options, pairs.as_slice()),
+            Verb::Set { pairs } => self.options.set_pairs(alloc, pairs.as_slice()),
             Verb::Solve { pairs } => {
                 check_circuit(is_begun(&self.elements))?;
-                set_options(alloc, &mut self.options, pairs.as_slice())?;
+                self.options.set_pairs(alloc, pairs.as_slice())?;
                 self.solves += 1;
                 Ok(())
             }
             Verb::Clear => {
-                self.elements = IndexMap::new(alloc);
+                self.elements = no_elements(alloc);
                 self.options = Options::start(alloc);
                 Ok(())
             }
@@ -120,11 +111,15 @@ impl Circuit {
         &self.options
     }
 
-    /// The elements by name, in order of definition. The values of each are in range.
+    /// The elements by name, in order of definition, no two of them the same. Each stands under a legal name in lower case
+    /// with its own class, its values are in range, and the first is the source that New Circuit makes.
     pub fn elements(&self) -> &IndexMap<ElementName, Element>
         ensures entries { result.now.entries ≡ self.now.elements }
         ensures few { length self.now.elements ≤ most_elements }
         ensures in_range { AllInRange self.now.elements }
+        ensures distinct { IsDistinct same_element (map (λ entry. entry.0) self.now.elements) }
+        ensures keys { All IsEntry self.now.elements }
+        ensures source { BeginsWithSource self.now.elements }
     {
         &self.elements
     }

@@ -1,11 +1,14 @@
 // Elements by name, in order of definition.
-ghost use Rattle.std.specs.Prelude.{◌≡◌, ◌≤◌, ◌+◌, length, IfErr, IfOk, IfSome, OnOk, option_copied};
+ghost use Rattle.std.specs.Prelude.{◌≡◌, ◌≤◌, ◌+◌, [], false, length, IfErr, IfOk, IfSome, OnOk, option_copied};
 ghost use Rattle.std.specs.Map.{lookup};
 ghost use Rattle.indexmap.specs.IndexMap.{insert_entry};
 ghost use Rattle.dss_profile.specs.SameElement.{same_element};
 ghost use Rattle.dss_values.specs.Answers.{Gives, Makes};
-ghost use Rattle.dss_circuit.specs.Answers.{Becomes};
-ghost use Rattle.dss_circuit.specs.Circuit.{referred, with_pairs, put, make, edit};
+ghost use Rattle.dss_profile.specs.Changes.{Becomes};
+ghost use Rattle.dss_circuit.specs.Circuit.{has_circuit, referred, with_pairs, put, make, edit};
+ghost use Rattle.dss_circuit.specs.Keys.{source_name};
+ghost use Rattle.dss_circuit.specs.WellFormed.{AreWellFormed, IsKey};
+ghost use Rattle.dss_profile.specs.Element.{class_of};
 ghost use Rattle.dss_profile.specs.InRange.{ElementInRange};
 ghost use Rattle.dss_circuit.specs.InRange.{AllInRange};
 
@@ -21,6 +24,14 @@ fn copied_place(place: &Place) -> Result<Place, AllocError>
     ensures { IfOk result (λ copy. copy ≡ place.now) }
 {
     place.clone()
+}
+
+/// No elements. It takes no memory.
+pub fn no_elements(alloc: Global) -> Elements
+    ensures none { result.entries ≡ [] }
+    ensures well_formed { AreWellFormed result.entries }
+{
+    IndexMap::new(alloc)
 }
 
 /// The element of this name, where it is there.
@@ -93,10 +104,15 @@ fn put_element(
     pairs: &[Pair],
 ) -> Result<(), ModelFault>
     requires in_range { AllInRange elements.old.entries }
+    requires well_formed { AreWellFormed elements.old.entries }
     requires element_in_range { ElementInRange element }
+    requires key { IsKey name }
+    requires class { name.class ≡ class_of element }
+    requires source { has_circuit elements.old.entries ≡ false → name ≡ source_name }
     ensures put { Becomes elements.old.entries elements.new.entries result (put solves name element pairs.now elements.old.entries) }
     ensures few { length elements.new.entries ≤ length elements.old.entries + 1 }
     ensures in_range { AllInRange elements.new.entries }
+    ensures well_formed { AreWellFormed elements.new.entries }
 {
     let mut draft = element;
     set_pairs(alloc, solves, elements, name.class, &mut draft, pairs)?;
@@ -115,9 +131,13 @@ pub fn make_element(
     pairs: &[Pair],
 ) -> Result<(), ModelFault>
     requires in_range { AllInRange elements.old.entries }
+    requires well_formed { AreWellFormed elements.old.entries }
+    requires key { IsKey name }
+    requires source { has_circuit elements.old.entries ≡ false → name ≡ source_name }
     ensures made { Becomes elements.old.entries elements.new.entries result (make solves place.now name pairs.now elements.old.entries) }
     ensures few { length elements.new.entries ≤ length elements.old.entries + 1 }
     ensures in_range { AllInRange elements.new.entries }
+    ensures well_formed { AreWellFormed elements.new.entries }
 {
     if find_element(elements, &name).is_some() {
         return Err(ModelFault::Duplicate);
@@ -136,9 +156,12 @@ pub fn edit_element(
     pairs: &[Pair],
 ) -> Result<(), ModelFault>
     requires in_range { AllInRange elements.old.entries }
+    requires well_formed { AreWellFormed elements.old.entries }
+    requires key { IsKey name }
     ensures edited { Becomes elements.old.entries elements.new.entries result (edit solves name pairs.now elements.old.entries) }
     ensures few { length elements.new.entries ≤ length elements.old.entries + 1 }
     ensures in_range { AllInRange elements.new.entries }
+    ensures well_formed { AreWellFormed elements.new.entries }
 {
     let draft = match find_element(elements, &name) {
         Some(element) => element.copied()?,

@@ -12,6 +12,7 @@ use Rattle.dss_profile.specs.declared.options.OptionName.{OptionName}
 use Rattle.dss_profile.specs.declared.options.OptionName.TheVariants as option
 use Rattle.dss_values.specs.declared.words.Mode.{Mode}
 use Rattle.dss_values.specs.declared.words.Mode.TheVariants as mode
+use Rattle.dss_profile.specs.Changes.{Becomes}
 use Rattle.dss_profile.specs.InRange.{LinecodeInRange, ElementInRange, OptionsInRange}
 use Rattle.dss_profile.specs.Ranges.{IsCountBetween}
 use Rattle.dss_profile.specs.Element.{code_found, with_named}
@@ -23,6 +24,11 @@ use Rattle.dss_profile.proofs.ClassRanges.{vsource_in_range, linecode_in_range, 
 pub draft_in_range : {X : Type 0} (P : X → Type 0) (new : X) (r : Result Unit ModelFault) (said : Result X ModelFault) → Makes new r said → IfOk said P → OnOk r (P new)
 draft_in_range P new (Ok done) said m h = IfOk-at_ok P m h
 draft_in_range P new (Err e) said m h = tt
+
+-- a value that has become what is said is a draft that has
+pub becomes_made : {X : Type 0} (old new : X) (r : Result Unit ModelFault) (said : Result X ModelFault) → Becomes old new r said → Makes new r said
+becomes_made old new (Ok done) said h = h
+becomes_made old new (Err e) said h = h.0
 
 -- ---- elements
 

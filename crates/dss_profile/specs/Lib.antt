@@ -13,3 +13,4 @@ pub mod Options
 pub mod Ranges
 pub mod InRange
 pub mod SameElement
+pub mod Changes

@@ -1,6 +1,6 @@
 // Banks of capacitors.
 ghost use Rattle.std.specs.Prelude.{◌≡◌, IfOk};
-ghost use Rattle.dss_values.specs.Answers.{Makes};
+ghost use Rattle.dss_profile.specs.Changes.{Becomes};
 ghost use Rattle.dss_values.specs.Names.{named};
 ghost use Rattle.dss_profile.specs.Capacitor.{capacitor_properties, fresh_capacitor, with_capacitor};
 
@@ -88,7 +88,7 @@ impl Capacitor {
         }
     }
 
-    /// Sets one property. After an `Err` the draft is to be thrown away.
+    /// Sets one property. After an `Err` it is as before.
     /// `solves` is the number of Solves that were applied so far.
     pub fn set(
         &mut self,
@@ -97,7 +97,7 @@ impl Capacitor {
         pair: &Pair,
         solves: u32,
     ) -> Result<(), ModelFault>
-        ensures { Makes self.new result (with_capacitor solves property pair.now self.old) }
+        ensures { Becomes self.old self.new result (with_capacitor solves property pair.now self.old) }
     {
         match property {
             CapacitorProperty::Bus1 => self.bus1 = Some(bus_value(alloc, pair)?),

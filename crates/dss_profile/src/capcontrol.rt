@@ -1,6 +1,6 @@
 // Controls of banks of capacitors.
 ghost use Rattle.std.specs.Prelude.{◌≡◌, IfOk};
-ghost use Rattle.dss_values.specs.Answers.{Makes};
+ghost use Rattle.dss_profile.specs.Changes.{Becomes};
 ghost use Rattle.dss_values.specs.Names.{named};
 ghost use Rattle.dss_profile.specs.CapControl.{capcontrol_properties, fresh_capcontrol, with_capcontrol};
 
@@ -109,7 +109,7 @@ impl CapControl {
         }
     }
 
-    /// Sets one property. After an `Err` the draft is to be thrown away.
+    /// Sets one property. After an `Err` it is as before.
     /// `found` says whether the element that the pair names is there.
     pub fn set(
         &mut self,
@@ -118,7 +118,7 @@ impl CapControl {
         pair: &Pair,
         found: bool,
     ) -> Result<(), ModelFault>
-        ensures { Makes self.new result (with_capcontrol found property pair.now self.old) }
+        ensures { Becomes self.old self.new result (with_capcontrol found property pair.now self.old) }
     {
         match property {
             CapControlProperty::Element => self.element = Some(found_line_name(

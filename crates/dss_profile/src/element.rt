@@ -1,7 +1,8 @@
 // Elements of all classes.
 ghost use Rattle.std.specs.Prelude.{◌≡◌, IfOk, IfSome, OnOk, option_map, is_some};
 ghost use Rattle.std.specs.Option.{option_copied};
-ghost use Rattle.dss_values.specs.Answers.{Gives, Makes};
+ghost use Rattle.dss_values.specs.Answers.{Gives};
+ghost use Rattle.dss_profile.specs.Changes.{Becomes};
 ghost use Rattle.dss_values.specs.Names.{named};
 ghost use Rattle.dss_profile.specs.Element.{class_of, place_of, fresh, code_found, with_named, with_pair, references, named_in, reference_to, reference};
 ghost use Rattle.dss_profile.specs.InRange.{ElementInRange};
@@ -176,7 +177,7 @@ impl Element {
         solves: u32,
         found: Option<&Element>,
     ) -> Result<(), ModelFault>
-        ensures { Makes self.new result (with_named solves (option_copied found.entry) name.now pair.now self.old) }
+        ensures { Becomes self.old self.new result (with_named solves (option_copied found.entry) name.now pair.now self.old) }
     {
         let there = found.is_some();
         match self {
@@ -219,7 +220,7 @@ impl Element {
         }
     }
 
-    /// Sets the property that a pair names. After an `Err` the draft is to be thrown away.
+    /// Sets the property that a pair names. After an `Err` it is as before.
     ///
     /// `solves` is the number of Solves that were applied so far, and `found` is the element that `referred_element`
     /// names for this pair, where it is there. Errors: each cause for which the pair is refused, the first in the order
@@ -233,7 +234,7 @@ impl Element {
         solves: u32,
         found: Option<&Element>,
     ) -> Result<(), ModelFault>
-        ensures value { Makes self.new result (with_pair solves (option_copied found.entry) pair.now self.old) }
+        ensures value { Becomes self.old self.new result (with_pair solves (option_copied found.entry) pair.now self.old) }
         ensures in_range { IfSome (option_copied found.entry) ElementInRange → ElementInRange self.old → OnOk result (ElementInRange self.new) }
     {
         if pair.name.is_empty() {

@@ -1,6 +1,6 @@
 // Lines.
-ghost use Rattle.std.specs.Prelude.{◌≡◌, IfOk, OnOk};
-ghost use Rattle.dss_values.specs.Answers.{Makes};
+ghost use Rattle.std.specs.Prelude.{◌≡◌, IfErr, IfOk, OnOk};
+ghost use Rattle.dss_profile.specs.Changes.{Becomes};
 ghost use Rattle.dss_values.specs.Names.{named};
 ghost use Rattle.dss_profile.specs.Line.{line_properties, fresh_line, with_code, with_code_in, switched, with_own, with_line_data, with_line};
 ghost use Rattle.std.specs.Option.{option_copied};
@@ -155,7 +155,8 @@ impl Line {
 
     // Takes the data of a line code, with its phases and its unit.
     fn take_code(&mut self, name: Text, code: &Linecode) -> Result<(), AllocError>
-        ensures { OnOk result (self.new ≡ with_code name code.now self.old) }
+        ensures taken { OnOk result (self.new ≡ with_code name code.now self.old) }
+        ensures as_before { IfErr result (λ _. self.new ≡ self.old) }
     {
         let rmatrix = copied_numbers(&code.rmatrix)?;
         let xmatrix = copied_numbers(&code.xmatrix)?;
@@ -183,7 +184,7 @@ impl Line {
         pair: &Pair,
         code: Option<&Linecode>,
     ) -> Result<(), ModelFault>
-        ensures { Makes self.new result (with_code_in (option_copied code.entry) pair.now self.old) }
+        ensures { Becomes self.old self.new result (with_code_in (option_copied code.entry) pair.now self.old) }
     {
         let name = name(alloc, pair)?;
         match code {
@@ -218,7 +219,7 @@ impl Line {
         property: DataProperty,
         pair: &Pair,
     ) -> Result<(), ModelFault>
-        ensures { Makes self.new result (with_line_data property pair.now self.old) }
+        ensures { Becomes self.old self.new result (with_line_data property pair.now self.old) }
     {
         match property {
             DataProperty::Rmatrix => {
@@ -269,7 +270,7 @@ impl Line {
         self.code_units = Units::None;
     }
 
-    /// Sets one property. After an `Err` the draft is to be thrown away.
+    /// Sets one property. After an `Err` it is as before.
     /// `code` is the line code that the pair names, where there is one.
     pub fn set(
         &mut self,
@@ -278,7 +279,7 @@ impl Line {
         pair: &Pair,
         code: Option<&Linecode>,
     ) -> Result<(), ModelFault>
-        ensures { Makes self.new result (with_line (option_copied code.entry) property pair.now self.old) }
+        ensures { Becomes self.old self.new result (with_line (option_copied code.entry) property pair.now self.old) }
     {
         match property {
             LineProperty::Bus1 => self.bus1 = Some(bus_value(alloc, pair)?),

@@ -1,6 +1,6 @@
 // Data of lines under a name.
 ghost use Rattle.std.specs.Prelude.{◌≡◌, IfOk};
-ghost use Rattle.dss_values.specs.Answers.{Makes};
+ghost use Rattle.dss_profile.specs.Changes.{Becomes};
 ghost use Rattle.dss_values.specs.Names.{named};
 ghost use Rattle.dss_profile.specs.Linecode.{linecode_properties, fresh_linecode, with_code_data, with_linecode};
 ghost use Rattle.dss_profile.specs.Linecode.{impedance_matrix_in, capacitance_matrix_in};
@@ -153,7 +153,7 @@ impl Linecode {
         property: DataProperty,
         pair: &Pair,
     ) -> Result<(), ModelFault>
-        ensures { Makes self.new result (with_code_data property pair.now self.old) }
+        ensures { Becomes self.old self.new result (with_code_data property pair.now self.old) }
     {
         match property {
             DataProperty::Rmatrix => {
@@ -196,14 +196,14 @@ impl Linecode {
         Ok(())
     }
 
-    /// Sets one property. After an `Err` the draft is to be thrown away.
+    /// Sets one property. After an `Err` it is as before.
     pub fn set(
         &mut self,
         alloc: Global,
         property: LinecodeProperty,
         pair: &Pair,
     ) -> Result<(), ModelFault>
-        ensures { Makes self.new result (with_linecode property pair.now self.old) }
+        ensures { Becomes self.old self.new result (with_linecode property pair.now self.old) }
     {
         match property {
             LinecodeProperty::Nphases => self.nphases = whole_within(alloc, pair, 1, 3)?,

@@ -1,6 +1,6 @@
 // Loads.
 ghost use Rattle.std.specs.Prelude.{◌≡◌, IfOk};
-ghost use Rattle.dss_values.specs.Answers.{Makes};
+ghost use Rattle.dss_profile.specs.Changes.{Becomes};
 ghost use Rattle.dss_values.specs.Names.{named};
 ghost use Rattle.dss_profile.specs.Load.{load_properties, fresh_load, with_load};
 
@@ -109,7 +109,7 @@ impl Load {
         }
     }
 
-    /// Sets one property. After an `Err` the draft is to be thrown away.
+    /// Sets one property. After an `Err` it is as before.
     /// `found` says whether the load shape that the pair names is there.
     pub fn set(
         &mut self,
@@ -118,7 +118,7 @@ impl Load {
         pair: &Pair,
         found: bool,
     ) -> Result<(), ModelFault>
-        ensures { Makes self.new result (with_load found property pair.now self.old) }
+        ensures { Becomes self.old self.new result (with_load found property pair.now self.old) }
     {
         match property {
             LoadProperty::Bus1 => self.bus1 = Some(bus_value(alloc, pair)?),

@@ -1,6 +1,6 @@
 // Shapes of loads over a day.
 ghost use Rattle.std.specs.Prelude.{◌≡◌, codes, drop, nat_eq, IfOk};
-ghost use Rattle.dss_values.specs.Answers.{Makes};
+ghost use Rattle.dss_profile.specs.Changes.{Becomes};
 ghost use Rattle.dss_values.specs.Names.{named};
 ghost use Rattle.dss_profile.specs.Loadshape.{loadshape_properties, fresh_loadshape, multipliers_in, with_loadshape};
 ghost use Rattle.std.specs.List.{starts_with};
@@ -117,14 +117,14 @@ impl Loadshape {
         }
     }
 
-    /// Sets one property. After an `Err` the draft is to be thrown away.
+    /// Sets one property. After an `Err` it is as before.
     pub fn set(
         &mut self,
         alloc: Global,
         property: LoadshapeProperty,
         pair: &Pair,
     ) -> Result<(), ModelFault>
-        ensures { Makes self.new result (with_loadshape property pair.now self.old) }
+        ensures { Becomes self.old self.new result (with_loadshape property pair.now self.old) }
     {
         match property {
             LoadshapeProperty::Npts => self.npts = whole_within(alloc, pair, 0, 8760)?,

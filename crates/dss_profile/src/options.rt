@@ -1,6 +1,7 @@
 // The settings of a circuit.
 ghost use Rattle.std.specs.Prelude.{◌≡◌, IfOk, OnOk};
 ghost use Rattle.dss_values.specs.Answers.{Makes};
+ghost use Rattle.dss_profile.specs.Changes.{Becomes};
 ghost use Rattle.dss_values.specs.Names.{named};
 ghost use Rattle.dss_profile.specs.Options.{option_names, default_options, in_mode, with_option, with_named_option, with_options};
 ghost use Rattle.dss_profile.specs.InRange.{OptionsInRange};
@@ -94,9 +95,9 @@ impl Options {
         }
     }
 
-    /// Sets one option. After an `Err` the draft is to be thrown away.
+    /// Sets one option. After an `Err` it is as before.
     pub fn set(&mut self, alloc: Global, option: OptionName, pair: &Pair) -> Result<(), ModelFault>
-        ensures { Makes self.new result (with_option option pair.now self.old) }
+        ensures { Becomes self.old self.new result (with_option option pair.now self.old) }
     {
         match option {
             OptionName::Mode => {
@@ -121,21 +122,32 @@ impl Options {
 
     #[tactic(auto, unfolding(crate::specs::Options::with_named_option))]
     fn set_named(&mut self, alloc: Global, pair: &Pair) -> Result<(), ModelFault>
-        ensures { Makes self.new result (with_named_option pair.now self.old) }
+        ensures { Becomes self.old self.new result (with_named_option pair.now self.old) }
     {
         let name = pair.name.lowered(alloc)?;
         let option = option_named(name.as_str()).ok_or(ModelFault::UnknownProperty)?;
         self.set(alloc, option, pair)
     }
 
-    /// Sets the pairs from left to right. After an `Err` the draft is to be thrown away. The values stay in range.
-    pub fn set_pairs(&mut self, alloc: Global, pairs: &[Pair]) -> Result<(), ModelFault>
+    // Sets the pairs from left to right. After an `Err` those before the one that is refused are set.
+    fn set_each(&mut self, alloc: Global, pairs: &[Pair]) -> Result<(), ModelFault>
         ensures value { Makes self.new result (with_options pairs.now self.old) }
         ensures in_range { OptionsInRange self.old → OnOk result (OptionsInRange self.new) }
     {
         for pair in pairs {
             self.set_named(alloc, pair)?;
         }
+        Ok(())
+    }
+
+    /// Sets the pairs from left to right. After an `Err` the options are as before. The values stay in range.
+    pub fn set_pairs(&mut self, alloc: Global, pairs: &[Pair]) -> Result<(), ModelFault>
+        ensures value { Becomes self.old self.new result (with_options pairs.now self.old) }
+        ensures in_range { OptionsInRange self.old → OptionsInRange self.new }
+    {
+        let mut draft = self.copied()?;
+        draft.set_each(alloc, pairs)?;
+        *self = draft;
         Ok(())
     }
 

@@ -1,6 +1,6 @@
 // Controls of regulators.
 ghost use Rattle.std.specs.Prelude.{◌≡◌, IfOk};
-ghost use Rattle.dss_values.specs.Answers.{Makes};
+ghost use Rattle.dss_profile.specs.Changes.{Becomes};
 ghost use Rattle.dss_values.specs.Names.{named};
 ghost use Rattle.dss_profile.specs.RegControl.{regcontrol_properties, fresh_regcontrol, with_regcontrol};
 
@@ -103,7 +103,7 @@ impl RegControl {
         }
     }
 
-    /// Sets one property. After an `Err` the draft is to be thrown away.
+    /// Sets one property. After an `Err` it is as before.
     /// `found` says whether the Transformer that the pair names is there.
     pub fn set(
         &mut self,
@@ -112,7 +112,7 @@ impl RegControl {
         pair: &Pair,
         found: bool,
     ) -> Result<(), ModelFault>
-        ensures { Makes self.new result (with_regcontrol found property pair.now self.old) }
+        ensures { Becomes self.old self.new result (with_regcontrol found property pair.now self.old) }
     {
         match property {
             RegControlProperty::Transformer => self.transformer = Some(found_name(

@@ -1,6 +1,6 @@
 // Transformers of two windings.
 ghost use Rattle.std.specs.Prelude.{◌≡◌, ◌≤ℤ◌, pos, IfOk};
-ghost use Rattle.dss_values.specs.Answers.{Makes};
+ghost use Rattle.dss_profile.specs.Changes.{Becomes};
 ghost use Rattle.dss_values.specs.Names.{named};
 ghost use Rattle.dss_profile.specs.Transformer.{transformer_properties, fresh_winding, fresh_transformer, with_winding, with_chosen, with_kva, with_losses, with_taps, with_both, zero_in, with_transformer};
 ghost use Rattle.dss_values.specs.Answers.{Gives};
@@ -186,7 +186,7 @@ impl Winding {
         }
     }
 
-    /// Sets one property. After an `Err` the draft is to be thrown away.
+    /// Sets one property. After an `Err` it is as before.
     /// `solves` is the number of Solves that were applied so far.
     fn set(
         &mut self,
@@ -195,7 +195,7 @@ impl Winding {
         pair: &Pair,
         solves: u32,
     ) -> Result<(), ModelFault>
-        ensures { Makes self.new result (with_winding solves property pair.now self.old) }
+        ensures { Becomes self.old self.new result (with_winding solves property pair.now self.old) }
     {
         match property {
             WindingProperty::Bus => self.bus = Some(bus_value(alloc, pair)?),
@@ -260,7 +260,7 @@ impl Transformer {
         pair: &Pair,
         solves: u32,
     ) -> Result<(), ModelFault>
-        ensures { Makes self.new result (with_chosen solves property pair.now self.old) }
+        ensures { Becomes self.old self.new result (with_chosen solves property pair.now self.old) }
     {
         if self.wdg == 1 {
             self.first.set(alloc, property, pair, solves)
@@ -308,7 +308,7 @@ impl Transformer {
         pair: &Pair,
         solves: u32,
     ) -> Result<(), ModelFault>
-        ensures { Makes self.new result (with_both solves property pair.now self.old) }
+        ensures { Becomes self.old self.new result (with_both solves property pair.now self.old) }
     {
         match property {
             BothProperty::Buses => {
@@ -344,7 +344,7 @@ impl Transformer {
         Ok(())
     }
 
-    /// Sets one property. After an `Err` the draft is to be thrown away.
+    /// Sets one property. After an `Err` it is as before.
     /// `solves` is the number of Solves that were applied so far.
     pub fn set(
         &mut self,
@@ -353,7 +353,7 @@ impl Transformer {
         pair: &Pair,
         solves: u32,
     ) -> Result<(), ModelFault>
-        ensures { Makes self.new result (with_transformer solves property pair.now self.old) }
+        ensures { Becomes self.old self.new result (with_transformer solves property pair.now self.old) }
     {
         match property {
             TransformerProperty::Phases => self.phases = whole_of(alloc, pair, &[1, 3])?,

@@ -1,6 +1,6 @@
 // Voltage sources.
 ghost use Rattle.std.specs.Prelude.{◌≡◌, [], IfOk};
-ghost use Rattle.dss_values.specs.Answers.{Makes};
+ghost use Rattle.dss_profile.specs.Changes.{Becomes};
 ghost use Rattle.dss_values.specs.Names.{named};
 ghost use Rattle.dss_profile.specs.Vsource.{vsource_properties, source_bus, fresh_vsource, with_vsource};
 
@@ -123,14 +123,14 @@ impl Vsource {
         })
     }
 
-    /// Sets one property. After an `Err` the draft is to be thrown away.
+    /// Sets one property. After an `Err` it is as before.
     pub fn set(
         &mut self,
         alloc: Global,
         property: VsourceProperty,
         pair: &Pair,
     ) -> Result<(), ModelFault>
-        ensures { Makes self.new result (with_vsource property pair.now self.old) }
+        ensures { Becomes self.old self.new result (with_vsource property pair.now self.old) }
     {
         match property {
             VsourceProperty::Bus1 => self.bus1 = bus_value(alloc, pair)?,

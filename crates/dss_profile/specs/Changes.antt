@@ -1,4 +1,4 @@
--- What a change of a circuit answers, and what a definition says.
+-- What a change of a value answers, and what a definition says.
 use Rattle.std.specs.Prelude.{◌≡◌, Result, Ok, Err}
 use Rattle.dss_values.specs.declared.fault.ModelFault.{ModelFault}
 use Rattle.dss_values.specs.Answers.{Fails}

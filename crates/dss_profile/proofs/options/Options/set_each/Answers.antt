@@ -4,7 +4,7 @@ use Rattle.std.proofs.lemmas.Result.{IfOk-at_ok}
 use Rattle.dss_profile.specs.InRange.{OptionsInRange}
 use Rattle.dss_profile.specs.Options.{with_options}
 use Rattle.dss_profile.proofs.ElementRanges.{options_in_range}
-use Rattle.dss_profile.proofs.options.Options.set_pairs.Goals as goal
+use Rattle.dss_profile.proofs.options.Options.set_each.Goals as goal
 
 pub returns-clause-in_range : goal.returns-clause-in_range
 returns-clause-in_range c =

@@ -1,0 +1,7 @@
+use Rattle.std.proofs.Common.{◌∙◌, ap, sym}
+use Rattle.dss_profile.specs.Element.{class_of}
+use Rattle.dss_profile.proofs.CallerLemmas.{fresh_class}
+use Rattle.dss_circuit.proofs.elements.make_element.Goals as goal
+
+pub put_element-requires-clause-class : goal.put_element-requires-clause-class
+put_element-requires-clause-class c = sym (ap class_of c.in_ok-element.ensures.value ∙ fresh_class c.args.solves c.args.name.class _)
