@@ -13,10 +13,10 @@ mod elements;
 mod keys;
 
 pub use circuit::Circuit;
-pub use elements::find_element;
 pub use dss_profile::{
     BankState, Blame, Bus, CapControl, Capacitor, Class, Command, Connection, ControlMode,
     ControlQuantity, DataForm, Element, ElementName, LeadLag, Line, Linecode, Load, Loadshape,
     Mode, ModelFault, Multipliers, Nodes, Numbers, Options, Place, ReactiveRule, RegControl,
     SourceForm, StepSize, Transformer, Units, Verb, Vsource, Winding,
 };
+pub use elements::find_element;

@@ -1,5 +1,6 @@
 -- What a caller needs to know of a layout.
-use Rattle.std.proofs.Common.{◌≡◌, ℕ, zero, suc, ◌+◌, ◌<◌, Bool, true, false, if◌then◌else◌, [], ◌∷◌, ◌++◌, length, take, slice_get, slice_index, sum_by, Contains, Option, Some, None, Ok, Err, refl, sym, ap, ◌∙◌, append_assoc, add-zero, arith}
+use Rattle.std.proofs.Common.{◌≡◌, ℕ, zero, suc, ◌+◌, ◌<◌, ◌≤◌, nat_lt, Bool, true, false, if◌then◌else◌, [], ◌∷◌, ◌++◌, length, take, slice_get, slice_index, sum_by, Contains, Option, Some, None, Ok, Err, refl, sym, ap, ◌∙◌, append_assoc, add-zero, arith}
+use Rattle.std.proofs.lemmas.Bool.{or_parts, ltb-false}
 use Rattle.std.proofs.lemmas.List.{append-nil}
 use Rattle.std.proofs.lemmas.List.Sums.{sum_by-cons}
 use Rattle.dss_profile.specs.declared.element.Element.{Element}
@@ -8,9 +9,12 @@ use Rattle.dss_layout.specs.declared.nodes.NodeName.{NodeName}
 use Rattle.dss_layout.specs.declared.limits.LayoutFault.TheVariants.{TooMany}
 use Rattle.dss_layout.specs.Nodes.{number_in}
 use Rattle.dss_layout.specs.Terminals.{mentions}
-use Rattle.dss_layout.specs.Layout.{Elements, LayoutView, layout_of, nodes_of, laid_out, laid_out_unless, first_too_many, first_past, passes_limit, sums_before}
+use Rattle.dss_layout.specs.Limits.{most_complex, most_magnitudes}
+use Rattle.dss_layout.specs.Layout.{Elements, LayoutView, complex_count, layout_of, nodes_of, laid_out, laid_out_unless, first_too_many, first_past, passes_limit, sums_before}
 use Rattle.dss_layout.proofs.Membership.{in_from_contains, in_from_get}
 use Rattle.dss_layout.proofs.Noted.{found}
+pub use Rattle.dss_layout.proofs.Among.{both_parts, mentions_among}
+pub use Rattle.dss_layout.proofs.Phases.{length-phases, sum_with_own, sum_within}
 
 by_first : (o : Option ℕ) (es : Elements) (v : LayoutView) → laid_out_unless o es ≡ Ok v → (v ≡ layout_of es) × (o ≡ None)
 by_first None es v h = (let e : layout_of es ≡ v = cc in sym e, refl)
@@ -62,3 +66,21 @@ slice_index-sums_before f s (e ∷ es) (suc i) h =
 -- a node that an element mentions has its number
 pub mentioned_at : (es : Elements) (i : ℕ) (e : ElementName × Element) (m : NodeName) → slice_get es i ≡ Some e → Contains (mentions e.1) m → slice_get (nodes_of es) (number_in (nodes_of es) m) ≡ Some m
 mentioned_at es i e m h c = found es e m (in_from_get es i e h) (in_from_contains (mentions e.1) m c)
+
+-- where no element passes a limit, the layout of all passes none
+pub no_limit_passed : (es : Elements) → first_too_many es ≡ None → passes_limit (layout_of es) ≡ false
+no_limit_passed es h = none_past [] es h refl
+
+limits_kept : (es : Elements) → first_too_many es ≡ None → (complex_count (layout_of es) ≤ most_complex) × (length (layout_of es).magnitudes ≤ most_magnitudes)
+limits_kept es h =
+    let layout = layout_of es in
+    let parts = or_parts (nat_lt most_complex (complex_count layout)) (nat_lt most_magnitudes (length layout.magnitudes)) (no_limit_passed es h) in
+    (ltb-false most_complex (complex_count layout) parts.0, ltb-false most_magnitudes (length layout.magnitudes) parts.1)
+
+-- then the complex unknowns are few
+pub few_complex : (es : Elements) → first_too_many es ≡ None → complex_count (layout_of es) ≤ most_complex
+few_complex es h = (limits_kept es h).0
+
+-- and the magnitudes
+pub few_magnitudes : (es : Elements) → first_too_many es ≡ None → length (layout_of es).magnitudes ≤ most_magnitudes
+few_magnitudes es h = (limits_kept es h).1

@@ -6,3 +6,5 @@ pub mod Noted
 pub mod Together
 pub mod Walk
 pub mod CallerLemmas
+pub mod Among
+pub mod Phases

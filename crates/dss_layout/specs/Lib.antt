@@ -6,3 +6,4 @@ pub mod Layout
 pub mod Feeding
 pub mod Labels
 pub mod UnknownNames
+pub mod Among

@@ -1,10 +1,7 @@
 -- What a layout, or its lack, says of the elements.
-use Rattle.std.proofs.Common.{◌≡◌, ℕ, ◌+◌, ◌<◌, Bool, true, false, cond, List, [], ◌∷◌, ◌++◌, length, Option, Some, None, Result, Ok, Err, refl, sym, arith, length-append}
-use Rattle.dss_profile.specs.declared.element.Element.{Element}
-use Rattle.dss_profile.specs.declared.names.ElementName.{ElementName}
-use Rattle.dss_layout.specs.declared.limits.LayoutFault.{LayoutFault}
-use Rattle.dss_layout.specs.declared.limits.LayoutFault.TheVariants.{TooMany, NoMemory}
-use Rattle.dss_layout.specs.Layout.{Elements, LayoutView, layout_of, passes_limit, first_past, first_too_many, laid_out_unless, laid_out}
+use Rattle.std.proofs.Common.{◌≡◌, ℕ, ◌+◌, ◌<◌, Bool, true, false, cond, [], ◌∷◌, ◌++◌, length, Option, Some, None, Ok, Err, refl, arith, length-append}
+use Rattle.dss_layout.specs.declared.limits.LayoutFault.TheVariants.{TooMany}
+use Rattle.dss_layout.specs.Layout.{Elements, LayoutView, layout_of, passes_limit, first_past, first_too_many, laid_out_unless}
 
 chosen : (b : Bool) (x : ℕ) (o : Option ℕ) (k top : ℕ) → cond b (Some x) o ≡ Some k → x < top → (o ≡ Some k → k < top) → k < top
 chosen true x o k top h low rest = let e : x ≡ k = cc in omega arith

@@ -7,3 +7,4 @@ pub mod Counts
 pub mod Support
 pub mod Walk
 pub mod Ready
+pub mod Passed

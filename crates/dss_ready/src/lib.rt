@@ -10,11 +10,13 @@
 //! - `range`, `count`, `support`: the tests of one element by their causes
 //! - `walk`: the first element to blame
 //! - `answer`: all tests
+//! - `law`: what a circuit that passed them is
 #![tactic(auto)]
 
 mod answer;
 mod count;
 mod fault;
+mod law;
 mod lookup;
 mod mention;
 mod range;
@@ -23,6 +25,7 @@ mod walk;
 
 pub use answer::ready;
 pub use fault::ReadyFault;
+pub use law::passed_law;
 
 #[cfg(test)]
 mod tests;

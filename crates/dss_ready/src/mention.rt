@@ -122,10 +122,12 @@ impl Mentions {
         ensures { IfOk result (λ named. named ≡ has_winding self.now transformer.now winding) }
     {
         let transformer = transformer.clone()?;
-        Ok(self.windings.contains(&WindingName {
-            transformer,
-            winding,
-        }))
+        Ok(
+            self.windings.contains(&WindingName {
+                transformer,
+                winding,
+            }),
+        )
     }
 
     /// Whether a Load names this Loadshape.
