@@ -1,4 +1,4 @@
-ghost use Rattle.std.specs.Prelude.{◌≡◌, IfOk};
+ghost use Rattle.std.specs.Prelude.{◌≡◌, [], IfOk};
 ghost use Rattle.fd_equations.specs.Conditions.{IsServed};
 ghost use Rattle.fd_equations.specs.Terminals.{IsConnected};
 
@@ -12,7 +12,8 @@ use std::test::Fail;
 
 // Two contributions stand at one place, and none is a whole number of 2^-40.
 fn sample(alloc: Global) -> Result<Rows, AllocError>
-    ensures { IfOk result (λ c. c.size ≡ 2) }
+    ensures size { IfOk result (λ c. c.size ≡ 2) }
+    ensures loads { IfOk result (λ c. c.loads ≡ []) }
 {
     let (num, den) = (-2, 7);
     let terms = vec![in alloc;

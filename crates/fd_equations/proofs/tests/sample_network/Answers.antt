@@ -1,0 +1,8 @@
+use Rattle.std.proofs.Common.{subst, sym}
+use Rattle.std.specs.List.{All}
+use Rattle.std.proofs.lemmas.List.Elements.{All-nil}
+use Rattle.fd_equations.specs.Conditions.{IsServed}
+use Rattle.fd_equations.proofs.tests.sample_network.Goals as goal
+
+pub new-requires-clause-loads : goal.new-requires-clause-loads
+new-requires-clause-loads c = subst (All (IsServed 1 1 c.in_ok-rows.rows.size)) (sym c.in_ok-rows.ensures.loads) (All-nil (IsServed 1 1 c.in_ok-rows.rows.size))
