@@ -1,1 +1,1 @@
-mod Negative
+mod Floors

@@ -1,11 +1,11 @@
 -- Numbers that may be OUT: quotients to the nearest, products and quotients of bounded whole numbers.
-use Rattle.std.proofs.Common.{◌≡◌, ℕ, ℤ, pos, negsuc, neg_ℤ, ◌*ℤ◌, ◌≤ℤ◌, ◌<ℤ◌, ◌+◌, ◌*◌, ◌/◌, ◌≤◌, ◌<◌, ◌^◌, Option, Some, None, Bool, true, false, cond, arith, refl, ap, sym, ◌∙◌, subst}
-use Rattle.std.proofs.lemmas.Int.{ints}
+use Rattle.std.proofs.Common.{◌≡◌, ℕ, ℤ, pos, negsuc, neg_ℤ, ◌*ℤ◌, ◌≤ℤ◌, ◌<ℤ◌, ◌+◌, ◌*◌, ◌/◌, ◌≤◌, ◌<◌, ◌^◌, nat_abs, Option, Some, None, Bool, true, false, cond, ◌&&◌, int_le, arith, refl, ap, sym, ◌∙◌, subst}
+use Rattle.std.proofs.lemmas.Int.{ints, unsigned_abs-mul}
 use Rattle.std.proofs.Math.Nat.{le-div_iff_mul-le, div-le_self}
 use Rattle.std.specs.Int.RustNames.{unsigned_abs, FitsSigned}
 use Rattle.std.specs.Int.{w128, int_div_euclid}
 use Rattle.fd_exact.specs.Rounding.{near_div, floor_div, ceil_div, signed}
-use Rattle.fd_exact.specs.Nearest.{near-signed, near_from}
+use Rattle.fd_exact.specs.Nearest.{near-signed, near_from, near_within}
 use Rattle.fd_arith.specs.Limits.{Fits, fits, within, IsUnits, bounded}
 use Rattle.fd_arith.specs.Interval.{outward}
 use Rattle.fd_arith.specs.Fix.{nearest}
@@ -103,3 +103,21 @@ near_large t m d h big =
     past : (t : Bool) (n : ℕ) → 2 ^ 100 < n → neg_ℤ (pos (2 ^ 100)) ≤ℤ signed t n → signed t n ≤ℤ pos (2 ^ 100) → ⊥
     past true n p l u = omega (arith, ints)
     past false n p l u = omega (arith, ints)
+
+-- ---- what is within 2^100
+
+small-true : (z : ℤ) → nat_abs z ≤ 2 ^ 100 → (int_le (neg_ℤ (pos (2 ^ 100))) z && int_le z (pos (2 ^ 100))) ≡ true
+small-true z h = let a : neg_ℤ (pos (2 ^ 100)) ≤ℤ z = omega (arith, ints) in let b : z ≤ℤ pos (2 ^ 100) = omega (arith, ints) in grind (arith, ints)
+
+some_by : (t : Bool) (z : ℤ) → t ≡ true → cond t (Some z) None ≡ Some z
+some_by true z e = refl
+some_by false z e = absurd cc
+
+pub bounded_some : (z : ℤ) → nat_abs z ≤ 2 ^ 100 → bounded z ≡ Some z
+bounded_some z h = some_by (int_le (neg_ℤ (pos (2 ^ 100))) z && int_le z (pos (2 ^ 100))) z (small-true z h)
+
+pub near_size : (n : ℤ) (d k : ℕ) → 0 < d → nat_abs n * 2 ^ 40 ≤ k * d → nat_abs (near_div (n *ℤ pos (2 ^ 40)) d) ≤ k
+near_size n d k p h = near_within (n *ℤ pos (2 ^ 40)) d k p (rw (unsigned_abs-mul n (pos (2 ^ 40))) h)
+
+pub near_some : (n : ℤ) (d : ℕ) → 0 < d → nat_abs n * 2 ^ 40 ≤ 2 ^ 100 * d → bounded (near_div (n *ℤ pos (2 ^ 40)) d) ≡ Some (near_div (n *ℤ pos (2 ^ 40)) d)
+near_some n d p h = bounded_some (near_div (n *ℤ pos (2 ^ 40)) d) (near_size n d (2 ^ 100) p h)

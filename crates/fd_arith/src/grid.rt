@@ -1,5 +1,5 @@
 // The grids on which numbers lie.
-ghost use Rattle.std.specs.Prelude.{ℤ, pos, ◌<ℤ◌, ◌^◌};
+ghost use Rattle.std.specs.Prelude.{◌≡◌, ℤ, pos, ◌<ℤ◌, ◌*ℤ◌, ◌^◌};
 
 /// A grid of numbers: whole multiples of one unit.
 pub trait Grid: Copy {
@@ -46,3 +46,12 @@ impl Grid for Coef {
 
     ghost positive = { record { lt = tt } };
 }
+
+/// The units per one. Since `Square` has as many as `Micro` has squared, the product of two numbers of `Micro` is a
+/// number of `Square` (`area`, `square`) and the root of one of `Square` a number of `Micro` (`root`); `Coef` counts the
+/// 2^-40 by which factors are scaled (`factor`, `times`, `div_pos`).
+pub fn grid_law()
+    ensures micro { ⟦<Micro as Grid>⟧.PER_ONE ≡ pos (10 ^ 6) }
+    ensures square { ⟦<Square as Grid>⟧.PER_ONE ≡ ⟦<Micro as Grid>⟧.PER_ONE *ℤ ⟦<Micro as Grid>⟧.PER_ONE }
+    ensures coef { ⟦<Coef as Grid>⟧.PER_ONE ≡ pos (2 ^ 40) }
+{}

@@ -6,10 +6,9 @@
 // so that code over it is written and proved once. No call here takes memory.
 //
 // Modules: `grid` (the units), `limit` (2^120), `interval` and `multiply` (intervals), `fix` (numbers to the nearest),
-// `divide` (quotients, areas, squares and roots), `division` and `quotient` (whole quotients, in units of 2^-40 too), `floor`
-// (quotients of products, rounded down), `bounded` (whole numbers), `enclose` and `cx`
-// (what both arithmetics share), `terms` (the words of
-// contributions and terminals).
+// `divide` (quotients, areas, squares and roots), `division` and `quotient` (whole quotients, in units of 2^-40 too),
+// `rounding` (the one body of each rounding of numbers that fit 128 bits), `bounded` (whole numbers), `enclose` and
+// `cx` (what both arithmetics share), `terms` (the words of contributions and terminals).
 #![tactic(auto)]
 
 mod bounded;
@@ -18,22 +17,22 @@ mod divide;
 mod division;
 mod enclose;
 mod fix;
-mod floor;
 mod grid;
 mod interval;
 mod limit;
 mod multiply;
 mod quotient;
+mod rounding;
 mod terms;
 
 pub use bounded::Wide;
 pub use cx::Cx;
 pub use enclose::Enclose;
 pub use fix::Fix;
-pub use floor::floor_of_product;
-pub use grid::{Coef, Grid, Micro, Square};
+pub use grid::{Coef, Grid, Micro, Square, grid_law};
 pub use interval::Interval;
 pub use quotient::{ceil_at, floor_at, isqrt, near_at};
+pub use rounding::{floor_of_product, near_over_coef, near_quotient, near_units};
 pub use terms::{Conn, Ends, NodeAt, Nodes, TapPair, Term, TermFault};
 
 #[cfg(test)]

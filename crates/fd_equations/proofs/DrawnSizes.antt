@@ -12,7 +12,7 @@ use Rattle.fd_system.specs.Loads.{clamp, non_negative, square_of}
 use Rattle.fd_load.specs.Current.{AreVoltages, IsLoadPhase, divisor, excess, in_phase, largest, power_sum, quadrature}
 use Rattle.fd_load.proofs.Bounds.{current_most}
 use Rattle.fd_load.proofs.Drawn.{divisor-positive}
-use Rattle.fd_load.proofs.Nearest.{near_within}
+use Rattle.fd_exact.specs.Nearest.{near_within}
 use Rattle.fd_equations.proofs.Sizes.{kept_by}
 use Rattle.fd_load.proofs.Sizes.{sum_most, times_most, turned, turned_largest}
 

@@ -8,7 +8,8 @@ ghost use Rattle.fd_equations.specs.Conditions.{AreLinear};
 ghost use Rattle.fd_equations.specs.Patterns.{IsSlot};
 
 use crate::Pattern;
-use fd_arith::{Term, near_at};
+use fd_arith::{Term, near_units};
+use fd_system::is_small;
 use std::alloc::{AllocError, Global};
 
 /// What stands in a column of a row: the sum in units of 2^-40, the number of contributions, and the number of slopes of part loads.
@@ -103,10 +104,7 @@ fn units(term: &Term) -> i128
     ensures units { result ≡ units_of term.now }
     ensures within { AreSmall result }
 {
-    match near_at(term.num, term.den) {
-        Some(units) => units,
-        None => 0,
-    }
+    near_units(term.num, term.den.unsigned_abs())
 }
 
 /// What stands at a place: the cell there, or nothing.
@@ -143,13 +141,4 @@ pub fn are_small(cells: &[Cell]) -> bool
     ensures { IsTrue result ↔ All (λ c. AreSmall c.units) cells.now }
 {
     cells.iter().all(|cell| is_small(cell.units))
-}
-
-const MOST: i128 = 18_014_398_509_481_984;
-
-/// Whether a sum is at most 2^54 units in size.
-pub fn is_small(units: i128) -> bool
-    ensures { IsTrue result ↔ AreSmall units }
-{
-    -MOST <= units && units <= MOST
 }

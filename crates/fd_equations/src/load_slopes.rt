@@ -8,8 +8,7 @@ ghost use Rattle.fd_equations.specs.Terminals.{IsConnected};
 ghost use Rattle.fd_equations.specs.Slopes.{AreSlopes, IsSlope};
 
 use crate::terminals::voltage_of;
-use fd_arith::near_at;
-use fd_load::{SlopeRow, Slopes, rounded_slopes};
+use fd_load::{SlopeRow, Slopes, admittance as admittance_over, rounded_slopes};
 use fd_system::{LoadAt, LoadPhase};
 
 /// The slopes of a part load at the point x.
@@ -64,10 +63,8 @@ fn admittance(load: &LoadPhase, power: i128) -> i128
     ensures value { result ≡ admittance_of power (nat_abs load.now.vn * nat_abs load.now.vn) }
     ensures small { nat_abs result ≤ 2 ^ 52 }
 {
-    match near_at(1_000_000_000 * power, load.vn * load.vn) {
-        Some(units) => units,
-        None => 0,
-    }
+    let nominal = load.vn.unsigned_abs();
+    admittance_over(load, power, nominal * nominal)
 }
 
 /// The slopes with their signs turned.

@@ -13,12 +13,12 @@ ghost use Rattle.fd_equations.specs.Rounded.{products_added};
 ghost use Rattle.fd_equations.specs.Terminals.{IsConnected};
 
 use crate::Pattern;
-use crate::cells::{Cell, are_small, cell_in, is_small, linear_cells, row_in};
+use crate::cells::{Cell, are_small, cell_in, linear_cells, row_in};
 use crate::load_cells::{add_slopes, add_start_slopes, count_slopes};
 use crate::matrix::Matrix;
 use crate::places::places_of;
-use fd_arith::Term;
-use fd_system::LoadAt;
+use fd_arith::{Term, near_over_coef};
+use fd_system::{LoadAt, is_small};
 use std::alloc::{AllocError, Global};
 use std::marker::Model;
 
@@ -198,7 +198,7 @@ fn row_product(cells: &[Cell], x: &[i128]) -> i128
 {
     let mut sum = 0;
     for cell in cells {
-        sum += nearest(product(cell.units, x[cell.col as usize]));
+        sum += near_over_coef(product(cell.units, x[cell.col as usize]));
     }
     sum
 }
@@ -211,14 +211,4 @@ fn product(units: i128, part: i128) -> i128
     ensures small { nat_abs result ≤ 2 ^ 94 }
 {
     units * part
-}
-
-// z / 2^40 to the nearest.
-fn nearest(z: i128) -> i128
-    requires { nat_abs z ≤ 2 ^ 94 }
-    ensures value { result ≡ near_div z (2 ^ 40) }
-    ensures small { nat_abs result ≤ 2 ^ 54 }
-{
-    let size = (z.unsigned_abs() + 0x80_0000_0000) / 0x100_0000_0000;
-    if z < 0 { -(size as i128) } else { size as i128 }
 }

@@ -1,14 +1,14 @@
 -- Lists and matrices within a limit or past it.
-use Rattle.std.proofs.Common.{◌≡◌, ◌∙◌, ℕ, ◌<◌, ◌≤◌, ◌^◌, ℤ, nat_abs, nat_lt, List, length, Bool, true, false, is_some, Some, None, Ok, Err, arith, ap}
-use Rattle.fd_exact.specs.States.{part, entry}
-use Rattle.fd_exact.specs.First.{first_place}
-use Rattle.fd_exact.specs.FirstLaws.{first_none, first_some, found}
-use Rattle.fd_mat.specs.Rows.{EntriesWithin, IsFirstPast}
+use Rattle.std.proofs.Common.{◌≡◌, ◌∙◌, ℕ, ◌<◌, ◌≤◌, ◌^◌, ℤ, nat_abs, nat_lt, List, length, Bool, true, false, is_some, Some, None, Ok, Err, arith, ap, sym}
+use Rattle.fd_exact.specs.States.{part}
+use Rattle.fd_exact.specs.FirstLaws.{first_none, first_some}
+use Rattle.fd_mat.specs.Rows.{EntriesWithin, first_column_past}
+use Rattle.fd_mat.proofs.CallerLemmas.{no_column_past}
 use Rattle.fd_inverse.specs.Elimination.{inverse_of}
 use Rattle.fd_inverse.specs.declared.fault.Stop.{Stop}
 use Rattle.fd_inverse.specs.declared.fault.Stop.TheVariants.{Range}
 use Rattle.fd_inject.specs.Faults.{UnlessMemory}
-use Rattle.fd_inject.specs.Ranges.{SizesWithin, first_column_past, first_past, in_range, inverse_at, inverse_unless, unless_past, without_inverse}
+use Rattle.fd_inject.specs.Ranges.{SizesWithin, first_past, in_range, inverse_at, inverse_unless, unless_past, without_inverse}
 use Rattle.fd_inject.specs.declared.fault.SolveFault.{SolveFault}
 use Rattle.fd_inject.specs.declared.fault.SolveFault.TheVariants.{NoInverse, OutOfRange, NotConverged, NoMemory}
 
@@ -49,30 +49,14 @@ range_err limit step xs place e = ap (unless_past xs step) e
 
 -- ---- matrices
 
-abbrev entry_past : ℕ → List (List ℤ) → ℕ → ℕ → Bool
-entry_past limit m col row = nat_lt limit (nat_abs (entry m row col))
-
-abbrev column_past : ℕ → List (List ℤ) → ℕ → Bool
-column_past limit m col = is_some (first_place (entry_past limit m col) (length m))
-
-column_within : (limit : ℕ) (m : List (List ℤ)) (col : ℕ) → ((row : ℕ) → row < length m → nat_abs (entry m row col) ≤ limit) → column_past limit m col ≡ false
-column_within limit m col h = ap is_some (first_none (entry_past limit m col) (length m) (λ row l. not_past limit (nat_abs (entry m row col)) (h row l)))
-
-pub column_none : (limit : ℕ) (m : List (List ℤ)) → EntriesWithin m limit → first_column_past limit m ≡ None
-column_none limit m h = first_none (column_past limit m) (length m) (λ col l. column_within limit m col (λ row k. h row col k l))
-
-pub column_some : (limit : ℕ) (m : List (List ℤ)) (col : ℕ) → IsFirstPast m limit col → first_column_past limit m ≡ Some col
-column_some limit m col h = first_some (column_past limit m) (length m) col h.col_in (λ earlier l. column_within limit m earlier (h.before earlier l))
-    (found (entry_past limit m col) (length m) h.past.row h.past.row_in (is_past limit (nat_abs (entry m h.past.row col)) h.past.past))
-
 pub inverse_ok : (m c : List (List ℤ)) → EntriesWithin m (2 ^ 62) → inverse_of m ≡ Ok c → inverse_at m ≡ Ok c
 unfolding inverse_at
-inverse_ok m c h e = ap (inverse_unless m) (column_none (2 ^ 62) m h) ∙ ap without_inverse e
+inverse_ok m c h e = ap (inverse_unless m) (no_column_past (2 ^ 62) m h) ∙ ap without_inverse e
 
 pub inverse_err : (m : List (List ℤ)) (col : ℕ) (cause : Stop) → EntriesWithin m (2 ^ 62) → inverse_of m ≡ Err (col, cause) → inverse_at m ≡ Err (NoInverse col cause)
 unfolding inverse_at
-inverse_err m col cause h e = ap (inverse_unless m) (column_none (2 ^ 62) m h) ∙ ap without_inverse e
+inverse_err m col cause h e = ap (inverse_unless m) (no_column_past (2 ^ 62) m h) ∙ ap without_inverse e
 
-pub inverse_past : (m : List (List ℤ)) (col : ℕ) → IsFirstPast m (2 ^ 62) col → inverse_at m ≡ Err (NoInverse col Range)
+pub inverse_past : (m : List (List ℤ)) (col : ℕ) → Some col ≡ first_column_past (2 ^ 62) m → inverse_at m ≡ Err (NoInverse col Range)
 unfolding inverse_at
-inverse_past m col h = ap (inverse_unless m) (column_some (2 ^ 62) m col h)
+inverse_past m col h = ap (inverse_unless m) (sym h)

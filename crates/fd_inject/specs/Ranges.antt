@@ -1,7 +1,8 @@
 -- Lists and matrices that pass a limit, and the inverse of a matrix.
 use Rattle.std.specs.Prelude.{ℕ, ◌<◌, ◌≤◌, ◌^◌, ℤ, nat_abs, nat_lt, is_some, List, length, Option, Some, None, Result, Ok, Err}
-use Rattle.fd_exact.specs.States.{part, entry}
+use Rattle.fd_exact.specs.States.{part}
 use Rattle.fd_exact.specs.First.{first_place}
+use Rattle.fd_mat.specs.Rows.{first_column_past}
 use Rattle.fd_inverse.specs.Elimination.{inverse_of}
 use Rattle.fd_inverse.specs.declared.fault.Stop.{Stop}
 use Rattle.fd_inverse.specs.declared.fault.Stop.TheVariants.{Range}
@@ -15,10 +16,6 @@ SizesWithin limit xs = (k : ℕ) → k < length xs → nat_abs (part xs k) ≤ l
 -- the first place of a list with a number past this in size
 abbrev pub first_past : ℕ → List ℤ → Option ℕ
 first_past limit xs = first_place (λ k. nat_lt limit (nat_abs (part xs k))) (length xs)
-
--- the first column of a matrix with an entry past this in size
-abbrev pub first_column_past : ℕ → List (List ℤ) → Option ℕ
-first_column_past limit m = first_place (λ col. is_some (first_place (λ row. nat_lt limit (nat_abs (entry m row col))) (length m))) (length m)
 
 -- a list; where a place of it was found past a limit, that is out of range
 abbrev pub unless_past : List ℤ → ℕ → Option ℕ → Result (List ℤ) SolveFault

@@ -9,6 +9,7 @@ ghost use Rattle.fd_inject.specs.Faults.{UnlessMemory};
 
 use crate::fault::SolveFault;
 use crate::ranges::test_range;
+use fd_arith::near_over_coef;
 use fd_mat::Dense;
 use std::alloc::{AllocError, Global};
 
@@ -46,7 +47,7 @@ fn update(alloc: Global, inverse: &Dense, residual: &[i128]) -> Result<Vec<i128>
 {
     let mut update = Vec::with_capacity(alloc, residual.len())?;
     for row in 0..inverse.size() {
-        update.push(-nearest(dot(inverse.row(row), residual)))?;
+        update.push(-near_over_coef(dot(inverse.row(row), residual)))?;
     }
     Ok(update)
 }
@@ -75,16 +76,6 @@ fn product(entry: i128, residual: i128) -> i128
     ensures small { nat_abs result ≤ 2 ^ 114 }
 {
     (entry as i64) as i128 * (residual as i64) as i128
-}
-
-// z / 2^40 to the nearest.
-fn nearest(z: i128) -> i128
-    requires { nat_abs z ≤ 2 ^ 125 }
-    ensures value { result ≡ near_div z (2 ^ 40) }
-    ensures small { nat_abs result ≤ 2 ^ 86 }
-{
-    let size = (z.unsigned_abs() + 0x80_0000_0000) / 0x100_0000_0000;
-    if z < 0 { -(size as i128) } else { size as i128 }
 }
 
 // Adds an update to an iterate, part by part.

@@ -3,5 +3,4 @@ pub mod Bounds
 pub mod CallerLemmas
 pub mod Drawn
 pub mod Nearest
-pub mod ReadBack
 pub mod Sizes

@@ -19,7 +19,7 @@ mod slopes;
 pub use currents::{current, magnitude_row};
 pub use laws::{current_law, magnitude_law, slope_law};
 pub use power::{clamped_magnitude, clamped_square, nominal_times_magnitude, square};
-pub use slopes::{SlopeRow, Slopes, rounded_slopes};
+pub use slopes::{SlopeRow, Slopes, admittance, rounded_slopes};
 
 #[cfg(test)]
 mod tests;

@@ -1,19 +1,8 @@
 // Quotients to the nearest.
 ghost use Rattle.std.specs.Prelude.{◌≡◌, ℕ, ◌*◌, ◌^◌, ◌<◌, ◌≤◌, ℤ, nat_abs};
-ghost use Rattle.fd_load.specs.Slopes.{fine_current as current_in_small_units, near_units as nearest_units};
+ghost use Rattle.fd_load.specs.Slopes.{fine_current as current_in_small_units};
 
-use fd_arith::near_at;
-
-/// n / d to the nearest whole number of 2^-40.
-pub fn near_units(n: i128, d: u128) -> i128
-    requires positive { 0 < d }
-    requires most { d ≤ 10 ^ 32 }
-    requires small { nat_abs n * 2 ^ 40 ≤ 2 ^ 100 * d }
-    ensures value { result ≡ nearest_units n d }
-    ensures within { (k : ℕ) → nat_abs n * 2 ^ 40 ≤ k * d → nat_abs result ≤ k }
-{
-    near_at(n, d as i128).unwrap()
-}
+use fd_arith::near_units;
 
 /// A current of n / d microamperes to the nearest whole number of 2^-20 microamperes: n / (2^20 d) in units of 2^-40.
 pub fn fine_current(n: i128, d: u128) -> i128

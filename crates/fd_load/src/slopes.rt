@@ -7,7 +7,8 @@ ghost use Rattle.fd_load.specs.Slopes.{IsCurrentRow, IsMagnitudeRow, admittance 
 use crate::power::{
     clamped_magnitude, clamped_square, in_phase, nominal_times_magnitude, quadrature, square,
 };
-use crate::rounding::{fine_current, near_units};
+use crate::rounding::fine_current;
+use fd_arith::near_units;
 use fd_system::LoadPhase;
 
 /// The slopes of one row in the parts p and q of the terminal voltage and in the magnitude m, in whole 2^-40.
@@ -130,8 +131,8 @@ fn magnitude_slopes(load: &LoadPhase, p: i128, q: i128, m: i128) -> SlopeRow
     }
 }
 
-// One of the powers over d.
-fn admittance(load: &LoadPhase, power: i128, d: u128) -> i128
+/// One of the powers, in thousandths of a volt-ampere, over d square microvolts: in siemens, in whole 2^-40.
+pub fn admittance(load: &LoadPhase, power: i128, d: u128) -> i128
     requires load { IsLoadPhase load.now }
     requires power { nat_abs power ≤ power_sum load.now }
     requires least { nat_abs load.now.vlo * nat_abs load.now.vlo ≤ d }

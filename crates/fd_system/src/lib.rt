@@ -21,7 +21,7 @@ mod terminals;
 pub use constants::Constant;
 pub use laws::{load_law, residual_law, stamp_law};
 pub use loads::{LoadAt, LoadPhase};
-pub use range::{all_within, is_within};
+pub use range::{all_within, is_small, is_within};
 pub use rows::{add_constant, add_term, greater_size};
 pub use series::{add_drop, thirds};
 pub use stamps::{add_imaginary, add_one, add_real, add_shunt, add_stamp};

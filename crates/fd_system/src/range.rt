@@ -24,9 +24,11 @@ pub fn all_within(terms: &[Term]) -> bool
     terms.iter().all(|term| is_within(term))
 }
 
+// 2^54
 const MOST: i128 = 18_014_398_509_481_984;
 
-fn is_small(units: i128) -> bool
+/// Whether a number of units of 2^-40 is at most 2^54 in size.
+pub fn is_small(units: i128) -> bool
     ensures { IsTrue result ↔ AreSmall units }
 {
     -MOST <= units && units <= MOST

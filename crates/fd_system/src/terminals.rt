@@ -4,7 +4,7 @@ ghost use Rattle.fd_exact.specs.Ranges.{Between};
 ghost use Rattle.fd_system.specs.Contributions.{IsSmall};
 ghost use Rattle.fd_system.specs.Terminals.{IsSide, node_count, node_of, pair_of, pairs_of, phase_count, phase_volts as nominal, three_phase_pairs as three_phase, three_phase_volts as three_phase_nominal};
 
-use fd_arith::{Conn, NodeAt, Nodes};
+use fd_arith::{Conn, NodeAt, Nodes, near_quotient};
 
 /// How the phases of a terminal join its nodes.
 #[derive(Clone, Copy, PartialEq, Eq, Debug)]
@@ -77,7 +77,7 @@ fn three_phase_pairs(conn: Conn) -> PhasePairs
 }
 
 // 1 and root three in 10^-15
-const FEMTO_PER_ONE: u128 = 1_000_000_000_000_000;
+const FEMTO_PER_ONE: i128 = 1_000_000_000_000_000;
 
 const ROOT_THREE: u128 = 1_732_050_807_568_877;
 
@@ -101,8 +101,7 @@ fn three_phase_volts(conn: Conn, kv: i128) -> i128
     ensures within { Between 5773000 (10 ^ 12) result }
 {
     match conn {
-        Conn::Wye => ((2 * kv.unsigned_abs() * FEMTO_PER_ONE + ROOT_THREE)
-            / (2 * ROOT_THREE)) as i128,
+        Conn::Wye => near_quotient(kv * FEMTO_PER_ONE, ROOT_THREE),
         Conn::Delta => kv,
     }
 }

@@ -1,8 +1,9 @@
 -- Quotients of products with a sign.
-use Rattle.std.proofs.Common.{◌≡◌, ◌∙◌, ℕ, suc, ◌+◌, ◌*◌, ◌/◌, ◌<◌, ◌≤◌, ◌^◌, ℤ, pos, negsuc, neg_ℤ, ◌-ℤ◌, ◌*ℤ◌, ◌<ℤ◌, nat_abs, ap, arith, sym}
-use Rattle.std.specs.Int.{w128, cast_signed, cast_unsigned}
+use Rattle.std.proofs.Common.{◌≡◌, ◌∙◌, ℕ, zero, suc, ◌+◌, ◌-◌, ◌*◌, ◌/◌, ◌%◌, min, ◌<◌, ◌≤◌, ◌^◌, ℤ, pos, negsuc, neg_ℤ, ◌-ℤ◌, ◌*ℤ◌, ◌<ℤ◌, nat_abs, ap, arith, sym}
+use Rattle.std.specs.Int.{w128, cast_signed, cast_unsigned, div_ceil}
 use Rattle.std.proofs.lemmas.Int.{ints}
 use Rattle.std.proofs.Math.Nat.{div-lt_iff_lt-mul}
+use Rattle.std.proofs.lemmas.Nat.{div-mul-add}
 use Rattle.fd_exact.specs.Rounding.{floor_div, ceil_nat}
 use Rattle.fd_exact.specs.Quotients.{floor-neg, ceil_nat_is, ceil_nat_least}
 
@@ -30,3 +31,17 @@ up_room a d h k = ceil_nat_least a d (2 ^ 126) h (omega arith)
 
 pub down_room : (a d : ℕ) → 0 < d → a ≤ 2 ^ 126 → a / d ≤ 2 ^ 126
 down_room a d h k = down_least a d (2 ^ 126) h (omega arith)
+
+-- std's quotient rounded up
+pub up_is : (a d : ℕ) → 0 < d → div_ceil a d ≡ ceil_nat a d
+up_is a d h = sym (from (a / d) (a % d) (omega arith) (omega arith))
+  where
+    from : (q r : ℕ) → a ≡ q * d + r → r < d → ceil_nat a d ≡ q + min 1 r
+    from q zero e l = ap (λ n. (n + (d - 1)) / d) e ∙ (λ i. (lower q i) / d) ∙ div-mul-add q d (d - 1) (omega arith) ∙ omega arith
+      where
+        lower : (q : ℕ) → q * d + 0 + (d - 1) ≡ q * d + (d - 1)
+        lower q = omega arith
+    from q (suc r) e l = ap (λ n. (n + (d - 1)) / d) e ∙ (λ i. (upper q r i) / d) ∙ div-mul-add (q + 1) d r (omega arith) ∙ omega arith
+      where
+        upper : (q r : ℕ) → q * d + suc r + (d - 1) ≡ (q + 1) * d + r
+        upper q r = omega arith

@@ -2,9 +2,9 @@ use Rattle.std.proofs.Common.{◌≡◌, ◌∙◌, ◌≤◌, ◌^◌, ℤ, pos
 use Rattle.std.specs.Int.{w128}
 use Rattle.std.proofs.lemmas.Int.{to_z-of_z, to_z_pos}
 use Rattle.fd_exact.specs.Rounding.{near_div}
-use Rattle.fd_load.proofs.Nearest.{near_size, near_some}
-use Rattle.fd_load.proofs.ReadBack.{read_back}
-use Rattle.fd_load.proofs.rounding.near_units.Goals as goal
+use Rattle.fd_arith.specs.Nearest.{near_size, near_some}
+use Rattle.fd_exact.specs.ReadBack.{read_back}
+use Rattle.fd_arith.proofs.rounding.near_units.Goals as goal
 
 pub unwrap-requires : goal.unwrap-requires
 unwrap-requires c =

@@ -1,0 +1,78 @@
+// Quotients of whole numbers that fit 128 bits, rounded: one body for each rounding.
+ghost use Rattle.std.specs.Prelude.{◌≡◌, ℕ, ℤ, pos, ◌+◌, ◌*◌, ◌/◌, ◌<◌, ◌≤◌, ◌^◌, ◌*ℤ◌, ◌≤ℤ◌, nat_abs};
+ghost use Rattle.fd_exact.specs.Rounding.{floor_div, near_div};
+
+use crate::quotient::near_at;
+
+/// n over the divisor to the nearest whole number, a tie away from zero.
+#[inline]
+pub fn near_quotient(n: i128, divisor: u128) -> i128
+    requires positive { 0 < divisor }
+    requires divisor_fits { divisor ≤ 2 ^ 120 }
+    requires size_fits { nat_abs n ≤ 2 ^ 126 }
+    ensures value { result ≡ near_div n divisor }
+    ensures most { (q : ℕ) → nat_abs n ≤ q * divisor → nat_abs result ≤ q }
+    ensures least { (q : ℕ) → q * divisor ≤ nat_abs n → q ≤ nat_abs result }
+    ensures sign { pos 0 ≤ℤ n → pos 0 ≤ℤ result }
+{
+    let size = near_size(n.unsigned_abs(), divisor);
+    if n < 0 { -(size as i128) } else { size as i128 }
+}
+
+// The same of a natural.
+#[inline]
+fn near_size(n: u128, divisor: u128) -> u128
+    requires positive { 0 < divisor }
+    requires divisor_fits { divisor ≤ 2 ^ 120 }
+    requires size_fits { n ≤ 2 ^ 126 }
+    ensures value { result ≡ (2 * n + divisor) / (2 * divisor) }
+    ensures most { (q : ℕ) → n ≤ q * divisor → result ≤ q }
+    ensures least { (q : ℕ) → q * divisor ≤ n → q ≤ result }
+    ensures fits { result ≤ n }
+{
+    (2 * n + divisor) / (2 * divisor)
+}
+
+/// z / 2^40 to the nearest whole number, a tie away from zero: the half that is added is one less below 0.
+#[inline]
+pub fn near_over_coef(z: i128) -> i128
+    requires { nat_abs z ≤ 2 ^ 126 }
+    ensures value { result ≡ near_div z (2 ^ 40) }
+    ensures size { nat_abs result ≡ (nat_abs z + 2 ^ 39) / 2 ^ 40 }
+{
+    let half = if z < 0 {
+        0x7f_ffff_ffff
+    } else {
+        0x80_0000_0000
+    };
+    (z + half) >> 40
+}
+
+/// n times the factor over the divisor, rounded down.
+#[inline]
+pub fn floor_of_product(n: i128, factor: u128, divisor: u128) -> i128
+    requires positive { 0 < divisor }
+    requires divisor_fits { divisor ≤ 2 ^ 126 }
+    requires product_fits { nat_abs n * factor ≤ 2 ^ 126 }
+    ensures value { result ≡ floor_div (n *ℤ pos factor) divisor }
+    ensures within { (q : ℕ) → nat_abs n * factor ≤ q * divisor → nat_abs result ≤ q }
+{
+    let size = n.unsigned_abs() * factor;
+    if n < 0 {
+        -(size.div_ceil(divisor) as i128)
+    } else {
+        (size / divisor) as i128
+    }
+}
+
+/// n / d to the nearest whole number of 2^-40, where that is at most 2^100 in size.
+#[inline]
+pub fn near_units(n: i128, d: u128) -> i128
+    requires positive { 0 < d }
+    requires most { d ≤ 10 ^ 32 }
+    requires small { nat_abs n * 2 ^ 40 ≤ 2 ^ 100 * d }
+    ensures value { result ≡ near_div (n *ℤ pos (2 ^ 40)) d }
+    ensures within { (k : ℕ) → nat_abs n * 2 ^ 40 ≤ k * d → nat_abs result ≤ k }
+{
+    near_at(n, d as i128).unwrap()
+}
