@@ -1,0 +1,66 @@
+// A writer as a sink, as standard output is.
+ghost use Rattle.std.specs.Prelude.{◌≡◌, ◌≢◌, None, Err};
+ghost use Rattle.fd_outside.specs.declared.sink.SinkFault.TheVariants.{NoMemory};
+ghost use Rattle.fd_outside.specs.Pieces.{WritesPiece};
+
+use crate::{Sink, SinkFault};
+use std::alloc::Global;
+use std::io::{ErrorKind, Write};
+
+/// Hands each piece to a writer until all of it is taken. It tells what the writer holds, where that is known.
+#[derive(Drop)]
+pub struct WriterSink<W: Write> {
+    writer: W,
+    faults: u64,
+}
+
+impl<W: Write> WriterSink<W> {
+    /// Has handed nothing on yet.
+    pub fn new(writer: W) -> Self
+        ensures taken { ⟦<WriterSink<W> as Sink>⟧.taken result ≡ W.contents writer }
+        ensures faults { ⟦<WriterSink<W> as Sink>⟧.faults result ≡ 0 }
+    {
+        WriterSink { writer, faults: 0 }
+    }
+}
+
+// Writes these bytes, a part at a time. An interrupted write is tried again, and one that takes nothing has failed.
+#[tactic(auto, using(crate::proofs::Parts::nothing_written, crate::proofs::Parts::written_more, crate::proofs::Parts::written_same, crate::proofs::Parts::all_written, crate::proofs::Parts::part_written))]
+fn write_whole<W: Write>(writer: &mut W, bytes: &[u8]) -> Result<(), SinkFault>
+    ensures bytes { WritesPiece (W.contents writer.old) (W.contents writer.new) bytes.now result }
+    ensures failed { result ≢ Err NoMemory }
+{
+    let mut rest = bytes;
+    for _ in 0..u64::MAX {
+        if rest.is_empty() {
+            return Ok(());
+        }
+        match writer.write(rest) {
+            Ok(0) => return Err(SinkFault::Failed),
+            Ok(count) => rest = &rest[count..],
+            Err(e) if e.kind() == ErrorKind::Interrupted => {}
+            Err(_) => return Err(SinkFault::Failed),
+        }
+    }
+    if rest.is_empty() {
+        Ok(())
+    } else {
+        Err(SinkFault::Failed)
+    }
+}
+
+impl<W: Write> Sink for WriterSink<W> {
+    ghost taken = { λ m. W.contents m.writer };
+
+    ghost calls = { λ _. None };
+
+    ghost faults = { λ m. m.faults };
+
+    fn write(&mut self, _alloc: Global, bytes: &[u8]) -> Result<(), SinkFault> {
+        let written = write_whole(&mut self.writer, bytes);
+        if written.is_err() {
+            self.faults = self.faults.saturating_add(1);
+        }
+        written
+    }
+}
