@@ -7,11 +7,7 @@
 //! Numbers of scripts are whole 10^-9 of their unit, taps are whole 10^-5, times are whole milliseconds.
 //!
 //! - `command`: places, verbs and commands
-//! - `fault`: the causes for which a command is refused
 //! - `names`: classes, names of elements, and words by name
-//! - `lists`: small list types over `Vec`
-//! - `bus`: a bus with its node numbers
-//! - `words`: the values that are words
 //! - a module for each class, and `element` for all of them
 //! - `options`: the settings of a circuit
 #![tactic(auto)]

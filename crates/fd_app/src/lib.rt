@@ -26,6 +26,3 @@ mod top;
 mod words;
 
 pub use top::{due_law, forms_law, run};
-
-#[cfg(test)]
-mod tests;
