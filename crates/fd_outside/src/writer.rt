@@ -9,18 +9,18 @@ use std::io::{ErrorKind, Write};
 
 /// Hands each piece to a writer until all of it is taken. It tells what the writer holds, where that is known.
 #[derive(Drop)]
-pub struct WriterSink<W: Write> {
+pub struct StdSink<W: Write> {
     writer: W,
     faults: u64,
 }
 
-impl<W: Write> WriterSink<W> {
+impl<W: Write> StdSink<W> {
     /// Has handed nothing on yet.
     pub fn new(writer: W) -> Self
-        ensures taken { ⟦<WriterSink<W> as Sink>⟧.taken result ≡ W.contents writer }
-        ensures faults { ⟦<WriterSink<W> as Sink>⟧.faults result ≡ 0 }
+        ensures taken { ⟦<StdSink<W> as Sink>⟧.taken result ≡ W.contents writer }
+        ensures faults { ⟦<StdSink<W> as Sink>⟧.faults result ≡ 0 }
     {
-        WriterSink { writer, faults: 0 }
+        StdSink { writer, faults: 0 }
     }
 }
 
@@ -49,7 +49,7 @@ fn write_whole<W: Write>(writer: &mut W, bytes: &[u8]) -> Result<(), SinkFault>
     }
 }
 
-impl<W: Write> Sink for WriterSink<W> {
+impl<W: Write> Sink for StdSink<W> {
     ghost taken = { λ m. W.contents m.writer };
 
     ghost calls = { λ _. None };

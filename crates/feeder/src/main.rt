@@ -4,7 +4,7 @@
 #![tactic(auto)]
 
 use fd_app::run;
-use fd_outside::{FolderLibrary, WriterSink};
+use fd_outside::{FolderLibrary, StdSink};
 use std::env::Env;
 use std::io::ErrorKind;
 use std::process::ExitCode;
@@ -29,6 +29,6 @@ fn main(rt: HostRuntime) -> ExitCode {
         Err(_) => Vec::new(rt.alloc()),
     };
     let mut lib = FolderLibrary::new(rt);
-    let mut out = WriterSink::new(rt.stdout());
+    let mut out = StdSink::new(rt.stdout());
     ExitCode::from(run(rt.alloc(), words.as_slice(), &mut lib, &mut out))
 }
