@@ -16,7 +16,7 @@ use Rattle.fd_arith.specs.declared.terms.NodeAt.TheVariants.{Ground, Node}
 use Rattle.fd_system.specs.declared.loads.LoadAt.{LoadAt}
 use Rattle.fd_system.specs.declared.loads.LoadPhase.{LoadPhase}
 use Rattle.fd_system.specs.Contributions.{IsDivided, IsWithin, each, stamp}
-use Rattle.fd_system.specs.Loads.{IsLoad, IsPlain, impedance_list, linear_list}
+use Rattle.fd_system.specs.Loads.{FitsModel, IsLoad, impedance_list, linear_list}
 use Rattle.fd_system.proofs.CallerLemmas.{stamp_divided}
 use Rattle.fd_line.specs.declared.data.LineData.{LineData}
 use Rattle.fd_line.specs.Totals.{IsLine}
@@ -27,8 +27,8 @@ use Rattle.fd_source.specs.Equations.{IsSource, constants_from, phase_constants,
 use Rattle.fd_source.specs.Phasors.{cosine, cosines, steps_of, volts_im, volts_re}
 use Rattle.fd_source.proofs.CallerLemmas.{source_is}
 use Rattle.fd_elements.proofs.Quotients.{near_most}
-use Rattle.fd_load.specs.Current.{IsLoadPhase}
-use Rattle.fd_elements.specs.Loads.{AreVoltages, IsPast, power_sum}
+use Rattle.fd_load.specs.Current.{IsPast, power_sum}
+use Rattle.fd_load.proofs.CallerLemmas.{within_limit}
 use Rattle.fd_equations.specs.Conditions.{HasMagnitude, IsAmong, IsKnown, IsServed}
 use Rattle.fd_devices.specs.Devices.{source, line, loads, other, draw_of}
 use Rattle.fd_devices.specs.Building.{AreContributions, Fits, IsSettled, IsUsable}
@@ -134,13 +134,9 @@ source_settled m n size s at g first branches w =
 
 -- ---- loads
 
-plain_of : (n size model : ℕ) (place : Option ℕ) → HasMagnitude n size model place → cond (eqb model 2) (IsPlain place) (Unit {0})
-plain_of n size model None h = by (eqb model 2)
-  where
-    by : (b : Bool) → cond b (Unit {0}) (Unit {0})
-    by true = tt
-    by false = tt
-plain_of n size model (Some l) h = subst (λ m. cond (eqb m 2) (IsPlain (Some l)) (Unit {0})) (sym h.0) tt
+fits_model : (n size model : ℕ) (place : Option ℕ) → HasMagnitude n size model place → FitsModel model place
+fits_model n size model None h = h
+fits_model n size model (Some l) h = h.0
 
 is_load : (n size : ℕ) (u : LoadAt) → IsUsable u → HasMagnitude n size u.load.model u.magnitude → IsLoad u
 is_load n size u h m =
@@ -149,27 +145,8 @@ is_load n size u h m =
       vn = omega (arith, ints, v.nominal_least);
       low = omega (arith, ints, v.low_least);
       order = omega (arith, ints, v.low_least, v.low_most, v.high_least);
-      plain = plain_of n size u.load.model u.magnitude m;
+      model = fits_model n size u.load.model u.magnitude m;
     }
-
--- a part load within its limit
-power_most : (w : LoadPhase) → ¬ (IsPast w) → power_sum w ≤ 10 ^ 11
-power_most w n = ⊎_elim (λ p. absurd (n (inl p))) (λ q. q) (cases_lt (10 ^ 11) (power_sum w))
-
-siemens_most : (w : LoadPhase) → ¬ (IsPast w) → power_sum w * 10 ^ 9 ≤ 2 ^ 12 * (nat_abs w.vlo * nat_abs w.vlo)
-siemens_most w n = ⊎_elim (λ p. absurd (n (inr p))) (λ q. q) (cases_lt (2 ^ 12 * (nat_abs w.vlo * nat_abs w.vlo)) (power_sum w * 10 ^ 9))
-
-is_load_phase : (w : LoadPhase) → AreVoltages w → ¬ (IsPast w) → IsLoadPhase w
-is_load_phase w v n = record {
-  nominal_least = v.nominal_least;
-  nominal_most = v.nominal_most;
-  low_least = v.low_least;
-  low_most = v.low_most;
-  high_least = v.high_least;
-  high_most = v.high_most;
-  power = power_most w n;
-  admittance = siemens_most w n;
-}
 
 -- what a part load within its limit draws
 draw_small : (u : LoadAt) → IsUsable u → ¬ (IsPast u.load) → draw_of u ≤ 640000000000
@@ -180,8 +157,9 @@ draw_small u h n =
     let lo = nat_abs u.load.vlo in
     let least : 5 * 10 ^ 6 ≤ vn = omega (arith, ints, v.nominal_least) in
     let order : lo ≤ vn = omega (arith, ints, v.low_least, v.low_most) in
-    let power : g ≤ 10 ^ 11 = power_most u.load n in
-    let siemens : g * 10 ^ 9 ≤ 2 ^ 12 * (lo * lo) = siemens_most u.load n in
+    let phase = within_limit u.load v n in
+    let power : g ≤ 10 ^ 11 = phase.power in
+    let siemens : g * 10 ^ 9 ≤ 2 ^ 12 * (lo * lo) = phase.admittance in
     let squares : lo * lo ≤ vn * vn = mul-le-mul order order in
     let low : vn ≤ 156250000 → g * 10 ^ 9 ≤ 640000000000 * vn = λ k. let m : vn * vn ≤ 156250000 * vn = mul-le-mul_right vn k in omega arith in
     let high : 156250000 < vn → g * 10 ^ 9 ≤ 640000000000 * vn = λ k. omega arith in
@@ -209,7 +187,7 @@ module _ (m n size : ℕ) where
   all_loads (u ∷ us) h i = All-cons IsLoad u us (is_load n size u (All-head IsUsable u us h) (All-head StandsInside u us i).magnitude) (all_loads us (All-tail IsUsable u us h) (All-tail StandsInside u us i))
 
   is_served : (u : LoadAt) → IsUsable u → ¬ (IsPast u.load) → StandsInside u → IsServed m n size u
-  is_served u h p i = record { phase = is_load_phase u.load h.voltages p; first = i.nodes.first; second = i.nodes.second; magnitude = i.magnitude }
+  is_served u h p i = record { phase = within_limit u.load h.voltages p; first = i.nodes.first; second = i.nodes.second; magnitude = i.magnitude }
 
   all_served : (us : List LoadAt) → All IsUsable us → All (λ u. ¬ (IsPast u.load)) us → All StandsInside us → All (IsServed m n size) us
   all_served [] h p i = All-nil (IsServed m n size)

@@ -1,6 +1,4 @@
 pub mod DeviceRows
-pub mod Greatest
-pub mod SourceData
 pub mod PowerOf
 pub mod SnapshotCounts
 pub mod Counting

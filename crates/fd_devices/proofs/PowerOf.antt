@@ -13,7 +13,7 @@ use Rattle.fd_elements.specs.Powers.{IsByPowerFactor, IsLoadPower, IsReactive, p
 use Rattle.fd_elements.proofs.Answers.{same_power}
 use Rattle.fd_elements.proofs.Reactive.{by_sign}
 use Rattle.fd_devices.specs.Snapshot.{power_of, reactive_by, reactive_size}
-use Rattle.fd_devices.proofs.Greatest.{greatest_holds, greatest_most}
+use Rattle.fd_source.proofs.CallerLemmas.{greatest_holds, greatest_most}
 
 -- q^2 pf^2 <= p^2 (1 - pf^2) at most where q <= 10^9 p, and then among the numbers that are looked at
 root_within : (p d q : ℕ) → 1 ≤ d → q * q * d ≤ p * p * (10 ^ 18 - d) → q ≤ 10 ^ 9 * p

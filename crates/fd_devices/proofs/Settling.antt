@@ -25,7 +25,7 @@ use Rattle.dss_layout.specs.Layout.{LayoutView, branch_phases, complex_count, en
 use Rattle.fd_devices.specs.Data.{cap_data_of, xfmr_data_of}
 use Rattle.fd_devices.specs.Devices.{source, line, transformer, capacitor, loads}
 use Rattle.fd_devices.specs.Settings.{Settings}
-use Rattle.fd_devices.specs.Sources.{source_data_of}
+use Rattle.fd_elements.specs.Sources.{source_data_of}
 use Rattle.fd_devices.specs.Scripted.{device_of, first_state, first_taps, load_at, magnitude_place, phases_of}
 use Rattle.fd_devices.specs.Sound.{HasBranches, HasMagnitudes, IsSideOf, IsSited}
 use Rattle.fd_devices.specs.Building.{Fits, IsSettled, IsUsable}

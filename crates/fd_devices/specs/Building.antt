@@ -6,7 +6,7 @@ use Rattle.fd_arith.specs.declared.terms.Term.{Term}
 use Rattle.fd_system.specs.declared.loads.LoadAt.{LoadAt}
 use Rattle.fd_system.specs.Contributions.{AreSmall, IsDivided, IsSmall, IsWithin}
 use Rattle.fd_elements.specs.declared.powers.LoadPower.{LoadPower}
-use Rattle.fd_elements.specs.Loads.{AreVoltages, IsPast}
+use Rattle.fd_load.specs.Current.{AreLoadVoltages, IsPast}
 use Rattle.fd_equations.specs.Coefficients.{linear_entry}
 use Rattle.fd_equations.specs.Conditions.{IsKnown, IsServed}
 use Rattle.fd_devices.specs.Devices.{Added, Device, IsGood, added_by, added_by_all, device_share, share_of_all}
@@ -38,7 +38,7 @@ pub record IsModest (power : LoadPower) : Type 0 where
 
 -- a part load with voltages in their ranges and a power of at most 10^17 in size
 pub record IsUsable (u : LoadAt) : Type 0 where
-  pub voltages : AreVoltages u.load
+  pub voltages : AreLoadVoltages u.load
   pub p : nat_abs u.load.p ≤ 10 ^ 17
   pub q : nat_abs u.load.q ≤ 10 ^ 17
   pub first : IsSmall u.first

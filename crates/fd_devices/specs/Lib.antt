@@ -1,5 +1,4 @@
 pub mod Devices
-pub mod Sources
 pub mod Data
 pub mod Settings
 pub mod Scripted

@@ -22,7 +22,7 @@ use Rattle.fd_equations.specs.Views.{NetworkView, network_of}
 use Rattle.fd_devices.specs.Data.{cap_data_of, xfmr_data_of}
 use Rattle.fd_devices.specs.Devices.{Device, source, line, transformer, capacitor, loads, other, draw_of_all, parts_of_all, share_of_all}
 use Rattle.fd_devices.specs.Settings.{Settings, own, after}
-use Rattle.fd_devices.specs.Sources.{source_data_of}
+use Rattle.fd_elements.specs.Sources.{source_data_of}
 
 -- ---- loads
 

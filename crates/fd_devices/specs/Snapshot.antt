@@ -14,11 +14,11 @@ use Rattle.dss_profile.specs.declared.element.Element.{Element}
 use Rattle.dss_profile.specs.declared.element.Element.TheVariants as the
 use Rattle.dss_profile.specs.InRange.{ElementInRange}
 use Rattle.dss_layout.specs.Layout.{Elements}
+use Rattle.fd_source.specs.Powers.{greatest_such}
 use Rattle.fd_xfmr.specs.Leakage.{AreTaps}
 use Rattle.fd_elements.specs.declared.powers.LoadPower.{LoadPower}
 use Rattle.fd_elements.specs.Powers.{phase_power, square}
 use Rattle.fd_devices.specs.Settings.{AreSettings, Settings}
-use Rattle.fd_devices.specs.Sources.{greatest}
 
 -- ---- positions
 
@@ -38,7 +38,7 @@ closed_of e = []
 
 -- the size of Q by P and the power factor: the greatest number whose square times pf^2 is at most P^2 (1 - pf^2)
 abbrev pub reactive_size : ℤ → ℤ → ℕ
-reactive_size p pf = greatest (λ q. nat_le (q * q * square pf) (square p * (10 ^ 18 - square pf))) (10 ^ 9 * nat_abs p)
+reactive_size p pf = greatest_such (λ q. nat_le (q * q * square pf) (square p * (10 ^ 18 - square pf))) (10 ^ 9 * nat_abs p)
 
 abbrev pub reactive_by : ReactiveRule → Load → ℤ → ℤ → ℤ
 reactive_by rule.PowerFactor load point p = signed (differ p load.pf) (reactive_size p load.pf)

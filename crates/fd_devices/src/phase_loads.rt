@@ -6,14 +6,15 @@ ghost use Rattle.dss_profile.specs.InRange.{LoadInRange};
 ghost use Rattle.fd_system.specs.Contributions.{IsDivided};
 ghost use Rattle.fd_system.specs.Loads.{impedance_list, linear_list};
 ghost use Rattle.fd_system.specs.Terminals.{IsSide, node_count};
-ghost use Rattle.fd_elements.specs.Loads.{IsPast};
+ghost use Rattle.fd_load.specs.Current.{IsPast};
 ghost use Rattle.fd_devices.specs.Devices.{draw_of as phase_draw};
 ghost use Rattle.fd_devices.specs.Scripted.{load_at, magnitude_place as place_of_magnitude, phases_of};
 ghost use Rattle.fd_devices.specs.Building.{IsModest, IsUsable};
 
 use dss_profile::Load;
 use fd_arith::{Nodes, Term};
-use fd_elements::{LoadPower, conn_of, is_load_past, load_phase};
+use fd_elements::{LoadPower, conn_of, load_phase};
+use fd_load::is_load_past;
 use fd_system::{LoadAt, NodePair, add_shunt, phase_pair, phase_pairs};
 use std::alloc::{AllocError, Global};
 

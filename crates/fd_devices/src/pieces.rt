@@ -16,7 +16,7 @@ ghost use Rattle.fd_cap.specs.Capacitor.{IsCap};
 ghost use Rattle.fd_elements.specs.Lines.{line_data_of};
 ghost use Rattle.fd_devices.specs.Devices.{added_by, added_by_all, added_of, beside, capacitor as capacitor_device, line as line_device, loads as load_device, source as source_device, transformer as transformer_device};
 ghost use Rattle.fd_devices.specs.Data.{cap_data_of, xfmr_data_of};
-ghost use Rattle.fd_devices.specs.Sources.{source_data_of};
+ghost use Rattle.fd_elements.specs.Sources.{source_data_of};
 ghost use Rattle.fd_devices.specs.Settings.{AreOwn, settings_in};
 ghost use Rattle.fd_devices.specs.Scripted.{device_of, phases_of};
 ghost use Rattle.fd_devices.specs.Building.{Fits, IsModest, IsSettled, IsUsable};

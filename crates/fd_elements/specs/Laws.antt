@@ -1,15 +1,8 @@
--- Values of elements that a relation states are the only ones that it allows.
+-- Powers that the relation states are the only ones that it allows.
 use Rattle.std.specs.Prelude.{◌≡◌, ℤ}
-use Rattle.dss_profile.specs.declared.vsource.Vsource.{Vsource}
 use Rattle.dss_profile.specs.declared.load.Load.{Load}
-use Rattle.fd_source.specs.declared.data.SourceData.{SourceData}
 use Rattle.fd_elements.specs.declared.powers.LoadPower.{LoadPower}
-use Rattle.fd_elements.specs.Sources.{IsSourceData}
 use Rattle.fd_elements.specs.Powers.{IsLoadPower}
-
--- a source has one answer
-abbrev pub SourceLaw : Type 0
-SourceLaw = (source : Vsource) (a b : SourceData) → IsSourceData source a → IsSourceData source b → a ≡ b
 
 -- a load has one power at a point of its shape
 abbrev pub PowerLaw : Type 0

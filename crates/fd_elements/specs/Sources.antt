@@ -1,5 +1,5 @@
 -- The data of a source by its values in the script.
-use Rattle.std.specs.Prelude.{◌≡◌, ℤ, pos, cond, eqb}
+use Rattle.std.specs.Prelude.{ℤ, pos, cond, eqb}
 use Rattle.std.specs.Option.{unwrap_or}
 use Rattle.dss_values.specs.declared.words.SourceForm.{SourceForm}
 use Rattle.dss_values.specs.declared.words.SourceForm.TheVariants as source_form
@@ -7,7 +7,7 @@ use Rattle.dss_profile.specs.declared.vsource.Vsource.{Vsource}
 use Rattle.fd_source.specs.declared.data.Ohms.{Ohms}
 use Rattle.fd_source.specs.declared.data.ShortCircuit.{ShortCircuit}
 use Rattle.fd_source.specs.declared.data.SourceData.{SourceData}
-use Rattle.fd_source.specs.Powers.{AreOhms}
+use Rattle.fd_source.specs.Powers.{ohms_of}
 use Rattle.fd_elements.specs.Volts.{part_of, part_over_root_three}
 
 -- the base voltage times the part of it, which for three phases is between phases
@@ -30,13 +30,15 @@ short_circuit_of source = record {
   x0r0 = source.x0r0;
 }
 
--- the impedances are those that are given, or those of the short-circuit powers, of which there is one solution
-abbrev pub AreSourceOhms : SourceForm → Vsource → Ohms → Type 0
-AreSourceOhms source_form.Ohms source ohms = ohms ≡ given_ohms source
-AreSourceOhms source_form.ShortCircuit source ohms = AreOhms (short_circuit_of source) ohms
+-- the impedances are those that are given, or those of the short-circuit powers
+abbrev pub source_ohms_of : SourceForm → Vsource → Ohms
+source_ohms_of source_form.Ohms source = given_ohms source
+source_ohms_of source_form.ShortCircuit source = ohms_of (short_circuit_of source)
 
-pub record IsSourceData (source : Vsource) (d : SourceData) : Type 0 where
-  pub phases : d.phases ≡ source.phases
-  pub volts : d.volts ≡ source_volts source
-  pub angle : d.angle ≡ source.angle
-  pub ohms : AreSourceOhms source.form source d.ohms
+abbrev pub source_data_of : Vsource → SourceData
+source_data_of source = record {
+  phases = source.phases;
+  volts = source_volts source;
+  angle = source.angle;
+  ohms = source_ohms_of source.form source;
+}

@@ -3,10 +3,10 @@
 // It promises that a line's data are exactly those that `specs/Lines.antt` states by its values in the script, a source's those of
 // `specs/Sources.antt`, and a load's powers and voltages those of `specs/Powers.antt` and `specs/Loads.antt`; that all of
 // them are in the ranges that the equations of these elements require; that Range is the answer exactly for a source by short-circuit power with
-// more than 10^4 ohm, which the tests of Solve refuse too; and when a load is past its limit.
+// more than 10^4 ohm, which the tests of Solve refuse too.
 //
 // Modules: `connections` has the connection of phases, `rounding` rounds quotients to the nearest, `volts` has voltages of phases, `lines`, `sources` and `loads` the data of the
-// elements, `powers` the powers of loads, `laws` says that there is just one answer.
+// elements, `powers` the powers of loads, `laws` says that a load has just one power.
 #![tactic(auto)]
 
 mod connections;
@@ -19,9 +19,9 @@ mod sources;
 mod volts;
 
 pub use connections::conn_of;
-pub use laws::{power_law, source_law};
+pub use laws::power_law;
 pub use lines::line_data;
-pub use loads::{is_load_past, load_phase};
+pub use loads::load_phase;
 pub use powers::{LoadPower, load_power};
 pub use sources::source_data;
 

@@ -1,11 +1,12 @@
 // The phases of loads.
-ghost use Rattle.std.specs.Prelude.{◌≡◌, ℕ, ◌*◌, ◌^◌, ◌≤◌, ℤ, pos, ◌≤ℤ◌, nat_abs, IsTrue, ◌↔◌};
+ghost use Rattle.std.specs.Prelude.{◌≡◌, ℕ, ◌*◌, ◌^◌, ◌≤◌, ℤ, pos, ◌≤ℤ◌};
 ghost use Rattle.dss_values.specs.Forms.{ones};
 ghost use Rattle.dss_profile.specs.Ranges.{IsBetween};
 ghost use Rattle.dss_profile.specs.InRange.{LoadInRange};
+ghost use Rattle.fd_load.specs.Current.{AreLoadVoltages};
 ghost use Rattle.fd_elements.specs.Volts.{part_of as volts_part};
 ghost use Rattle.fd_elements.specs.Powers.{ArePowers};
-ghost use Rattle.fd_elements.specs.Loads.{AreVoltages, IsPast, load_phase_of};
+ghost use Rattle.fd_elements.specs.Loads.{load_phase_of};
 
 use crate::connections::conn_of;
 use crate::powers::LoadPower;
@@ -13,22 +14,13 @@ use crate::volts::part_of;
 use dss_profile::Load;
 use fd_system::{LoadPhase, phase_volts};
 
-// 100 megavolt-ampere
-const MOST_POWER: u128 = 100_000_000_000;
-
-// 2^12 siemens
-const MOST_SIEMENS: u128 = 4096;
-
-// siemens in 10^-3 VA over a squared microvolt
-const PER_UNIT: u128 = 1_000_000_000;
-
 /// One phase of a load with this power: its model, its power, its nominal voltage in whole microvolts, and the limits between which the model
 /// holds. The nominal voltage is kv, and for three phases in wye kv over root three, to the nearest microvolt; the limits are
 /// its parts by vminpu and vmaxpu, to the nearest. Takes no memory.
 pub fn load_phase(load: &Load, power: &LoadPower) -> LoadPhase
     requires { LoadInRange load.now }
     ensures phase { result ≡ load_phase_of load.now power.now }
-    ensures voltages { AreVoltages result }
+    ensures voltages { AreLoadVoltages result }
 {
     let vn = phase_volts(load.phases, conn_of(load.conn), load.kv);
     LoadPhase {
@@ -63,17 +55,4 @@ fn high(part: i128, vn: i128) -> i128
     ensures most { result ≤ℤ pos (2 * 10 ^ 12) }
 {
     part_of(part, vn)
-}
-
-/// Whether a load phase has more than 100 megavolt-ampere, or more than 2^12 siemens at the lower limit of its voltage: the sum of the
-/// sizes of P and Q over the square of that limit.
-pub fn is_load_past(phase: &LoadPhase) -> bool
-    requires p { nat_abs phase.now.p ≤ 10 ^ 17 }
-    requires q { nat_abs phase.now.q ≤ 10 ^ 17 }
-    requires low { nat_abs phase.now.vlo ≤ 10 ^ 12 }
-    ensures { IsTrue result ↔ IsPast phase.now }
-{
-    let power = phase.p.unsigned_abs() + phase.q.unsigned_abs();
-    let low = phase.vlo.unsigned_abs();
-    power > MOST_POWER || power * PER_UNIT > MOST_SIEMENS * (low * low)
 }

@@ -5,7 +5,7 @@ ghost use Rattle.dss_ready.specs.Ranges.{is_source_outside};
 ghost use Rattle.fd_exact.specs.Ranges.{UpTo};
 ghost use Rattle.fd_source.specs.Powers.{AreWithin, IsShortCircuit};
 ghost use Rattle.fd_source.specs.Equations.{IsSource};
-ghost use Rattle.fd_elements.specs.Sources.{AreSourceOhms, IsSourceData, given_ohms as ohms_given, short_circuit_of, source_volts};
+ghost use Rattle.fd_elements.specs.Sources.{given_ohms as ohms_given, short_circuit_of, source_data_of, source_ohms_of, source_volts};
 
 use crate::volts::{part_of, part_over_root_three};
 use dss_profile::{SourceForm, Vsource};
@@ -17,7 +17,7 @@ use fd_source::{Ohms, ShortCircuit, SourceData, source_ohms};
 /// them is above 10^4 ohm, which the tests of Solve refuse; takes no memory.
 pub fn source_data(source: &Vsource) -> Result<SourceData, TermFault>
     requires { VsourceInRange source.now }
-    ensures value { IfOk result (λ d. IsSourceData source.now d) }
+    ensures value { IfOk result (λ d. d ≡ source_data_of source.now) }
     ensures within { IfOk result (λ d. IsSource d) }
     ensures range { result ≡ Err TermFault.Range ↔ IsTrue (is_source_outside source.now) }
     ensures takes_no_memory { IfErr result (λ e. e ≡ TermFault.Range) }
@@ -45,7 +45,7 @@ fn volts(source: &Vsource) -> i128
 
 fn ohms(source: &Vsource) -> Result<Ohms, TermFault>
     requires { VsourceInRange source.now }
-    ensures ohms { IfOk result (λ o. AreSourceOhms source.now.form source.now o) }
+    ensures ohms { IfOk result (λ o. o ≡ source_ohms_of source.now.form source.now) }
     ensures within { IfOk result (λ o. AreWithin o) }
     ensures range { result ≡ Err TermFault.Range ↔ IsTrue (is_source_outside source.now) }
     ensures takes_no_memory { IfErr result (λ e. e ≡ TermFault.Range) }

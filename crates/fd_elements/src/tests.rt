@@ -1,7 +1,8 @@
-use crate::{LoadPower, is_load_past, line_data, load_phase, load_power, source_data};
+use crate::{LoadPower, line_data, load_phase, load_power, source_data};
 use dss_lexer::Text;
 use dss_profile::{DataForm, Line, Load, Place, Units, Vsource};
 use fd_line::LineForm;
+use fd_load::is_load_past;
 use fd_source::Ohms;
 use std::alloc::{AllocError, Global};
 use std::test::Fail;

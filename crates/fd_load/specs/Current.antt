@@ -1,5 +1,5 @@
 -- The current of a load phase at a terminal voltage p + j q and a magnitude m, all in whole microvolts, as one fraction in microamperes.
-use Rattle.std.specs.Prelude.{◌≡◌, ℕ, ◌+◌, ◌*◌, ◌^◌, ◌≤◌, max, ℤ, pos, ◌+ℤ◌, ◌-ℤ◌, ◌*ℤ◌, ◌≤ℤ◌, nat_abs, cond, eqb, List}
+use Rattle.std.specs.Prelude.{◌≡◌, ℕ, ◌+◌, ◌*◌, ◌^◌, ◌≤◌, max, ℤ, pos, ◌+ℤ◌, ◌-ℤ◌, ◌*ℤ◌, ◌≤ℤ◌, nat_abs, nat_lt, Bool, IsTrue, ◌||◌, cond, eqb, List}
 use Rattle.fd_exact.specs.Fractions.{Fraction, fraction}
 use Rattle.fd_system.specs.declared.loads.LoadPhase.{LoadPhase}
 use Rattle.fd_system.specs.declared.loads.LoadAt.{LoadAt}
@@ -67,8 +67,24 @@ largest p q = max (nat_abs p) (nat_abs q)
 abbrev pub power_sum : LoadPhase → ℕ
 power_sum w = nat_abs w.p + nat_abs w.q
 
--- a nominal voltage from 5 to 10^6 volt; limits on either side of it, from 2 to 2 x 10^6 volt; at most 100 megavolt-ampere, and at most
--- 2^12 siemens at the lower limit
+-- a nominal voltage from 5 to 10^6 volt, and limits on either side of it, from 2 to 2 x 10^6 volt
+pub record AreLoadVoltages (w : LoadPhase) : Type 0 where
+  pub nominal_least : pos (5 * 10 ^ 6) ≤ℤ w.vn
+  pub nominal_most : w.vn ≤ℤ pos (10 ^ 12)
+  pub low_least : pos (2 * 10 ^ 6) ≤ℤ w.vlo
+  pub low_most : w.vlo ≤ℤ w.vn
+  pub high_least : w.vn ≤ℤ w.vhi
+  pub high_most : w.vhi ≤ℤ pos (2 * 10 ^ 12)
+
+-- it has more than 100 megavolt-ampere, or more than 2^12 siemens at the lower limit of its voltage: 10^-3 VA over a squared microvolt
+-- are 10^9 siemens
+abbrev pub is_past : LoadPhase → Bool
+is_past w = nat_lt (10 ^ 11) (power_sum w) || nat_lt (2 ^ 12 * (nat_abs w.vlo * nat_abs w.vlo)) (power_sum w * 10 ^ 9)
+
+abbrev pub IsPast : LoadPhase → Type 0
+IsPast w = IsTrue (is_past w)
+
+-- its voltages are in their ranges, and it isn't past its limit
 pub record IsLoadPhase (w : LoadPhase) : Type 0 where
   pub nominal_least : pos (5 * 10 ^ 6) ≤ℤ w.vn
   pub nominal_most : w.vn ≤ℤ pos (10 ^ 12)

@@ -6,18 +6,20 @@
 // away from the exact slopes, which are those of `specs/ExactSlopes.antt`.
 //
 // Modules: `power` has the numerators and denominators, `currents` the current and the row of the magnitude, `rounding` the
-// quotients to the nearest, `slopes` the slopes, `laws` says that the current and that row are the system's, and how
+// quotients to the nearest, `slopes` the slopes, `limits` the limit on a load, `laws` says that the current and that row are the system's, and how
 // near the slopes are.
 #![tactic(auto)]
 
 mod currents;
 mod laws;
+mod limits;
 mod power;
 mod rounding;
 mod slopes;
 
 pub use currents::{current, magnitude_row};
 pub use laws::{current_law, magnitude_law, slope_law};
+pub use limits::is_load_past;
 pub use power::{clamped_magnitude, clamped_square, nominal_times_magnitude, square};
 pub use slopes::{SlopeRow, Slopes, admittance, rounded_slopes};
 

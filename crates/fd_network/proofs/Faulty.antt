@@ -11,14 +11,14 @@ use Rattle.fd_arith.specs.declared.terms.Term.{Term}
 use Rattle.fd_system.specs.declared.loads.LoadAt.{LoadAt}
 use Rattle.fd_system.specs.declared.loads.LoadPhase.{LoadPhase}
 use Rattle.fd_system.specs.Contributions.{AreSmall, IsWithin}
-use Rattle.fd_elements.specs.Loads.{IsPast, power_sum}
+use Rattle.fd_load.specs.Current.{IsPast, is_past}
 use Rattle.fd_equations.specs.Coefficients.{linear_entry, units_of}
 use Rattle.fd_devices.specs.Building.{Fits, HasSmallSums}
 use Rattle.fd_devices.specs.Devices.{Device, device_share}
 use Rattle.fd_network.specs.declared.fault.PlaceFault.{PlaceFault}
 use Rattle.fd_network.specs.declared.fault.PlaceFault.TheVariants as place_fault
 use Rattle.fd_network.specs.Collecting.{IsMisfit, NamesPlace}
-use Rattle.fd_network.specs.Faults.{first_without, fits, has_small_sums, is_past, is_small}
+use Rattle.fd_network.specs.Faults.{first_without, fits, has_small_sums, is_small}
 
 -- ---- one device
 
@@ -29,7 +29,7 @@ small_decides z = (
 )
 
 past_decides : (w : LoadPhase) → Decides (is_past w) (IsPast w)
-past_decides w = Decides-or _ _ (Decides-ltb (10 ^ 11) (power_sum w)) (Decides-ltb _ (power_sum w * 10 ^ 9))
+past_decides w = (λ h. h, λ h. h)
 
 pub fits_decides : (d : Device) → Decides (fits d) (Fits d)
 fits_decides d =

@@ -9,7 +9,7 @@ use Rattle.dss_ready.specs.Ready.{blame_at}
 use Rattle.fd_exact.specs.First.{first_such}
 use Rattle.fd_arith.specs.declared.terms.Term.{Term}
 use Rattle.fd_system.specs.declared.loads.LoadPhase.{LoadPhase}
-use Rattle.fd_elements.specs.Loads.{power_sum}
+use Rattle.fd_load.specs.Current.{is_past}
 use Rattle.fd_equations.specs.Coefficients.{linear_entry, units_of}
 use Rattle.fd_devices.specs.declared.fault.BuildFault.{BuildFault}
 use Rattle.fd_devices.specs.declared.fault.BuildFault.TheVariants as build_fault
@@ -18,10 +18,6 @@ use Rattle.fd_devices.specs.Devices.{Device, device_share, share_of_all}
 -- at most 2^54 in size
 abbrev pub is_small : ℤ → Bool
 is_small units = nat_le (nat_abs units) (2 ^ 54)
-
--- a load phase is past its limit: more than 100 megavolt-ampere, or more than 2^12 siemens at the lower limit of its voltage
-abbrev pub is_past : LoadPhase → Bool
-is_past w = nat_lt (10 ^ 11) (power_sum w) || nat_lt (2 ^ 12 * (nat_abs w.vlo * nat_abs w.vlo)) (power_sum w * 10 ^ 9)
 
 -- no contribution of a device is past 2^54 in units of 2^-40, and none of its load phases is past its limit
 abbrev pub fits : Device → Bool

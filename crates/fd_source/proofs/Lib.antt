@@ -1,4 +1,5 @@
-pub mod Squares
+mod Squares
+mod Greatest
 mod Rows
 mod Impedances
 pub mod CallerLemmas

@@ -1,5 +1,5 @@
 -- The equations of a source (a voltage behind an impedance), and the constants and contributions that add up to them.
-use Rattle.std.specs.Prelude.{ℕ, ◌+◌, ◌*◌, ◌<◌, ◌≤◌, ◌^◌, ℤ, pos, negsuc, neg_ℤ, ◌*ℤ◌, ◌≤ℤ◌, List, [], ◌∷◌, ◌++◌}
+use Rattle.std.specs.Prelude.{◌≡◌, ℕ, ◌+◌, ◌*◌, ◌%◌, ◌<◌, ◌≤◌, ◌^◌, nat_abs, ℤ, pos, negsuc, neg_ℤ, ◌*ℤ◌, ◌≤ℤ◌, List, [], ◌∷◌, ◌++◌}
 use Rattle.fd_exact.specs.States.{State}
 use Rattle.fd_exact.specs.Rounding.{floor_div}
 use Rattle.fd_exact.specs.Ranges.{UpTo}
@@ -71,13 +71,14 @@ share_of at constants terms = record { constants = constants_from (2 * at.branch
 
 -- ---- conditions
 
--- one to three phases, at most 2 x 10^6 volt, an angle of at most one turn
+-- one to three phases, at most 2 x 10^6 volt, an angle of at most one turn and a multiple of 30 degrees
 pub record IsSource (s : SourceData) : Type 0 where
   pub some : 1 ≤ s.phases
   pub few : s.phases ≤ 3
   pub volts : UpTo (2 * 10 ^ 12) s.volts
   pub angle_least : neg_ℤ (pos 360) ≤ℤ s.angle
   pub angle_most : s.angle ≤ℤ pos 360
+  pub angle_multiple : nat_abs s.angle % 30 ≡ 0
   pub ohms : AreWithin s.ohms
 
 -- one node for each of n phases, and room for the branches

@@ -1,5 +1,5 @@
 -- The impedances of a source by its short-circuit powers.
-use Rattle.std.specs.Prelude.{ℕ, ◌+◌, ◌*◌, ◌/◌, ◌<◌, ◌≤◌, ◌^◌, ◌≡◌, ℤ, pos, ◌≤ℤ◌, nat_abs, ◌⊎◌}
+use Rattle.std.specs.Prelude.{ℕ, zero, suc, ◌+◌, ◌*◌, ◌/◌, ◌%◌, ◌<◌, ◌≤◌, ◌^◌, ◌≡◌, ℤ, pos, ◌≤ℤ◌, nat_abs, nat_le, Bool, if◌then◌else◌, ◌⊎◌}
 use Rattle.fd_exact.specs.Ranges.{UpTo}
 use Rattle.fd_source.specs.declared.data.Ohms.{Ohms}
 use Rattle.fd_source.specs.declared.data.ShortCircuit.{ShortCircuit}
@@ -30,33 +30,64 @@ ratio_of z = nat_abs z / 10 ^ 5
 abbrev pub reactance_by : ℕ → ℕ → ℕ
 reactance_by ratio r = ratio * r / 10 ^ 4
 
+-- ---- the greatest resistance that keeps a size
+
 -- r + j x is at most `size` in size
 abbrev pub IsInside : ℕ → ℕ → ℕ → Type 0
 IsInside r x size = r * r + x * x ≤ size * size
 
--- r + j x and the resistance s with its reactance by the ratio, not rounded, are together at most `size` in size: parts and size in
--- 10^-9 ohm, the ratio in 10^-4
+-- the square of the size of r + j x and the resistance s with its reactance by the ratio, not rounded, together: parts in 10^-9 ohm, the
+-- ratio in 10^-4, the size in 10^-13 ohm
+abbrev pub squared_size : ℕ → ℕ → ℕ → ℕ → ℕ
+squared_size r x ratio s = 10 ^ 4 * (r + s) * (10 ^ 4 * (r + s)) + (10 ^ 4 * x + ratio * s) * (10 ^ 4 * x + ratio * s)
+
+-- it is at most `size`, in 10^-9 ohm
+abbrev pub keeps_size : ℕ → ℕ → ℕ → ℕ → ℕ → Bool
+keeps_size r x ratio size s = nat_le (squared_size r x ratio s) (10 ^ 4 * size * (10 ^ 4 * size))
+
 abbrev pub KeepsSize : ℕ → ℕ → ℕ → ℕ → ℕ → Type 0
-KeepsSize r x ratio size s = IsInside (10 ^ 4 * (r + s)) (10 ^ 4 * x + ratio * s) (10 ^ 4 * size)
+KeepsSize r x ratio size s = squared_size r x ratio s ≤ 10 ^ 4 * size * (10 ^ 4 * size)
+
+-- the greatest number up to n for which it holds, or 0 where none does
+unfoldable pub greatest_such : (ℕ → Bool) → ℕ → ℕ
+greatest_such holds zero = 0
+greatest_such holds (suc n) = if holds (suc n) then suc n else greatest_such holds n
+
+abbrev pub greatest_resistance : ℕ → ℕ → ℕ → ℕ → ℕ
+greatest_resistance r x ratio size = greatest_such (keeps_size r x ratio size) size
+
+-- ---- the impedances
+
+-- R1 is the greatest for which R1 and its reactance are at most kV^2 / MVAsc3 in size; R0 the greatest for which it, its reactance and
+-- 2 (R1 + j X1) are together at most 3 kV^2 / MVAsc1 in size, and 0 where there is none; X1 and X0 are rounded down
+abbrev pub positive_resistance : ShortCircuit → ℕ
+positive_resistance s = greatest_resistance 0 0 (ratio_of s.x1r1) (three_phase_size s)
+
+abbrev pub positive_reactance : ShortCircuit → ℕ
+positive_reactance s = reactance_by (ratio_of s.x1r1) (positive_resistance s)
+
+abbrev pub zero_resistance : ShortCircuit → ℕ
+zero_resistance s = greatest_resistance (2 * positive_resistance s) (2 * positive_reactance s) (ratio_of s.x0r0) (3 * one_phase_size s)
+
+abbrev pub zero_reactance : ShortCircuit → ℕ
+zero_reactance s = reactance_by (ratio_of s.x0r0) (zero_resistance s)
+
+abbrev pub ohms_of : ShortCircuit → Ohms
+ohms_of s = record {
+  r1 = pos (positive_resistance s);
+  x1 = pos (positive_reactance s);
+  r0 = pos (zero_resistance s);
+  x0 = pos (zero_reactance s);
+}
 
 -- n is the greatest number for which it holds, or 0 where none does
 pub record IsGreatest (holds : ℕ → Type 0) (n : ℕ) : Type 0 where
   pub holding : holds n ⊎ (n ≡ 0)
   pub most : (m : ℕ) → holds m → m ≤ n
 
--- R1 is the greatest for which R1 and its reactance are at most kV^2 / MVAsc3 in size; R0 the greatest for which it, its reactance and
--- 2 (R1 + j X1) are together at most 3 kV^2 / MVAsc1 in size, and 0 where there is none; X1 and X0 are rounded down
-pub record AreOhms (s : ShortCircuit) (o : Ohms) : Type 0 where
-  pub r1_sign : pos 0 ≤ℤ o.r1
-  pub r1 : IsGreatest (KeepsSize 0 0 (ratio_of s.x1r1) (three_phase_size s)) (nat_abs o.r1)
-  pub x1 : o.x1 ≡ pos (reactance_by (ratio_of s.x1r1) (nat_abs o.r1))
-  pub r0_sign : pos 0 ≤ℤ o.r0
-  pub r0 : IsGreatest (KeepsSize (2 * nat_abs o.r1) (2 * nat_abs o.x1) (ratio_of s.x0r0) (3 * one_phase_size s)) (nat_abs o.r0)
-  pub x0 : o.x0 ≡ pos (reactance_by (ratio_of s.x0r0) (nat_abs o.r0))
-
 -- ---- conditions
 
--- a base voltage from 0.001 to 1000 kilovolt, powers from 0.001 to 10^6 megavolt-ampere, ratios from 0 to 100
+-- a base voltage from 0.001 to 1000 kilovolt, powers from 0.001 to 10^6 megavolt-ampere, ratios from 0 to 100 of four decimals
 pub record IsShortCircuit (s : ShortCircuit) : Type 0 where
   pub kv_least : pos (10 ^ 6) ≤ℤ s.basekv
   pub kv_most : s.basekv ≤ℤ pos (10 ^ 12)
@@ -65,7 +96,9 @@ pub record IsShortCircuit (s : ShortCircuit) : Type 0 where
   pub one_least : pos (10 ^ 6) ≤ℤ s.mvasc1
   pub one_most : s.mvasc1 ≤ℤ pos (10 ^ 15)
   pub x1r1 : UpTo (10 ^ 11) s.x1r1
+  pub x1r1_multiple : nat_abs s.x1r1 % 10 ^ 5 ≡ 0
   pub x0r0 : UpTo (10 ^ 11) s.x0r0
+  pub x0r0_multiple : nat_abs s.x0r0 % 10 ^ 5 ≡ 0
 
 -- each part is from 0 to 3 x 10^4 ohm
 pub record AreWithin (o : Ohms) : Type 0 where

@@ -17,7 +17,7 @@ mod terms;
 mod voltage;
 
 pub use data::{Ohms, ShortCircuit, SourceData, SourceTerms};
-pub use laws::source_law;
+pub use laws::{ohms_law, source_law};
 pub use ohms::source_ohms;
 pub use terms::{impedance, source_terms};
 

@@ -1,7 +1,7 @@
 // The impedances of a source by its short-circuit powers.
 ghost use Rattle.std.specs.Prelude.{◌≡◌, ℕ, ◌*◌, ◌/◌, ◌<◌, ◌≤◌, ◌^◌, ℤ, pos, ◌≤ℤ◌, nat_abs, IfOk, IfErr, ◌↔◌};
 ghost use Rattle.fd_exact.specs.Ranges.{UpTo};
-ghost use Rattle.fd_source.specs.Powers.{AreOhms, AreWithin, KeepsSize, IsGreatest, IsPast, IsShortCircuit, one_phase_size, ratio_of, reactance_by, size_of, three_phase_size};
+ghost use Rattle.fd_source.specs.Powers.{AreWithin, KeepsSize, IsGreatest, IsPast, IsShortCircuit, ohms_of as ohms_by, one_phase_size, ratio_of, reactance_by, size_of, three_phase_size};
 
 use crate::data::{Ohms, ShortCircuit};
 use crate::resistance::{SizeLimit, greatest_resistance};
@@ -10,7 +10,7 @@ use fd_arith::TermFault;
 // 10^4 ohm
 const MOST: u128 = 10_000_000_000_000;
 
-/// The sequence impedances of a source with these short-circuit powers. R1 is the greatest multiple of 10^-9 ohm for which
+/// The sequence impedances of a source with these short-circuit powers (OpenDSS manual, Vsource; the rounding is this profile's). R1 is the greatest multiple of 10^-9 ohm for which
 /// R1 + j X1R1 R1 is at most kV^2 / MVAsc3 in size, R0 the greatest from 0 up for which 2 (R1 + j X1) + R0 + j X0R0 R0 is at most
 /// 3 kV^2 / MVAsc1 in size, and 0 where there is none; both sizes and the reactances are rounded down to 10^-9 ohm. Range exactly where one of
 /// the sizes kV^2 / MVA is above 10^4 ohm; takes no memory.
@@ -18,7 +18,7 @@ const MOST: u128 = 10_000_000_000_000;
 /// The data are in the ranges of the script profile.
 pub fn source_ohms(source: &ShortCircuit) -> Result<Ohms, TermFault>
     requires { IsShortCircuit source.now }
-    ensures ohms { IfOk result (λ o. AreOhms source.now o) }
+    ensures ohms { IfOk result (λ o. o ≡ ohms_by source.now) }
     ensures within { IfOk result (λ o. AreWithin o) }
     ensures range { result ≡ Err TermFault.Range ↔ IsPast source.now }
     ensures takes_no_memory { IfErr result (λ e. e ≡ TermFault.Range) }
@@ -28,7 +28,7 @@ pub fn source_ohms(source: &ShortCircuit) -> Result<Ohms, TermFault>
     if three > MOST || one > MOST {
         return Err(TermFault::Range);
     }
-    Ok(ohms_of(source, three, one))
+    Ok(ohms_from(source, three, one))
 }
 
 // kV^2 / MVA in whole 10^-9 ohm, rounded down.
@@ -41,13 +41,13 @@ fn size(kv: i128, mva: i128) -> u128
     kv.unsigned_abs() * kv.unsigned_abs() / mva.unsigned_abs()
 }
 
-fn ohms_of(source: &ShortCircuit, three: u128, one: u128) -> Ohms
+fn ohms_from(source: &ShortCircuit, three: u128, one: u128) -> Ohms
     requires source { IsShortCircuit source.now }
     requires three { three ≡ three_phase_size source.now }
     requires one { one ≡ one_phase_size source.now }
     requires three_most { three ≤ 10 ^ 13 }
     requires one_most { one ≤ 10 ^ 13 }
-    ensures ohms { AreOhms source.now result }
+    ensures ohms { result ≡ ohms_by source.now }
     ensures within { AreWithin result }
 {
     let (r1, x1) = part(0, 0, source.x1r1, three);

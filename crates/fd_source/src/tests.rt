@@ -70,3 +70,29 @@ fn three_phases(rt: HostRuntime) -> Result<(), Fail> {
     );
     Ok(())
 }
+
+// 30,000 ohm are past 2^14
+#[test]
+fn out_of_range(rt: HostRuntime) -> Result<(), Fail> {
+    let alloc = rt.alloc();
+    let at = Ends {
+        first: Nodes::new(vec![in alloc; NodeAt::Node(0)]?),
+        second: Nodes::new(Vec::new(alloc)),
+        branch: 1,
+    };
+    let (r1, r0) = (30_000 * GIGA, 30_000 * GIGA);
+    let source = SourceData {
+        phases: 1,
+        volts: GIGA,
+        angle: 0,
+        ohms: Ohms {
+            r1,
+            x1: 0,
+            r0,
+            x0: 0,
+        },
+    };
+    let refused = source_terms(alloc, &source, &at).err();
+    assert_eq!(rt; refused, Some(TermFault::Range));
+    Ok(())
+}

@@ -19,7 +19,7 @@ use Rattle.fd_system.specs.declared.loads.LoadAt.{LoadAt}
 use Rattle.fd_system.specs.Complex.{Complex, complex, ◌⊟◌, ◌⊠◌, negative, SameComplex}
 use Rattle.fd_system.specs.Contributions.{stamp, row_sum}
 use Rattle.fd_system.specs.Equations.{unknown, both, side, seen, equation}
-use Rattle.fd_system.specs.Loads.{re_of, im_of, magnitude_of, clamp, square_of, non_negative, constant_power, constant_impedance, constant_current, drawn, load_current, magnitude_row, magnitude_parts, load_parts, IsLoad, IsPlain, impedance_list}
+use Rattle.fd_system.specs.Loads.{FitsModel, re_of, im_of, magnitude_of, clamp, square_of, non_negative, constant_power, constant_impedance, constant_current, drawn, load_current, magnitude_row, magnitude_parts, load_parts, IsLoad, impedance_list}
 use Rattle.fd_system.specs.System.{Represents, load_share, loads_share}
 use Rattle.fd_system.proofs.StampRows.{stamp_row, negative_stamp, same_place, row-append, rewritten, single, difference_times, negative-minus, unknown-pos, IsWhole, SameComplex-sym, plus-pos, opposite-pos, side-pos}
 use Rattle.fd_system.proofs.Shares.{beside_row, no_parts}
@@ -165,6 +165,19 @@ load-pos u x l h o =
 
 -- ---- a part load of any model
 
+abbrev IsPlain : Option ℕ → Type 0
+IsPlain None = Unit {0}
+IsPlain (Some l) = ⊥
+
+-- a constant impedance has no magnitude
+plain : (model : ℕ) (m : Option ℕ) → FitsModel model m → cond (eqb model 2) (IsPlain m) (Unit {0})
+plain model None h = by (eqb model 2)
+  where
+    by : (b : Bool) → cond b (Unit {0}) (Unit {0})
+    by true = tt
+    by false = tt
+plain model (Some l) h = subst (λ m. cond (eqb m 2) (IsPlain (Some l)) (Unit {0})) (sym h) tt
+
 no_magnitude : (u : LoadAt) (x : State) (m : Option ℕ) → IsPlain m → magnitude_parts u x m ≡ []
 no_magnitude u x None h = refl
 no_magnitude u x (Some l) h = absurd h
@@ -189,7 +202,7 @@ load_row u x l h o true e p = linear_row_of u x l h o e p
 load_row u x l h o false e p = other_row_of u x l h o
 
 pub load_represents : (u : LoadAt) → IsLoad u → Represents (load_share u) (load_parts u)
-load_represents u h x o l = load_row u x l h o (eqb u.load.model 2) refl h.plain
+load_represents u h x o l = load_row u x l h o (eqb u.load.model 2) refl (plain u.load.model u.magnitude h.model)
 
 -- the part loads of an element
 pub loads_represent : (us : List LoadAt) → All IsLoad us → Represents (loads_share us) (λ x. flat_map (λ u. load_parts u x) us)

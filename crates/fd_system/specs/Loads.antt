@@ -1,5 +1,5 @@
 -- A part load at a terminal: the current that it draws, the row of its magnitude, and the contributions of constant impedance.
-use Rattle.std.specs.Prelude.{ℕ, ◌+◌, ◌*◌, ◌^◌, ◌<◌, ◌≤◌, min, max, ℤ, pos, negsuc, neg_ℤ, ◌+ℤ◌, ◌-ℤ◌, ◌*ℤ◌, nat_abs, cond, eqb, List, [], ◌∷◌, ◌++◌, Option, Some, None}
+use Rattle.std.specs.Prelude.{◌≡◌, ◌⊎◌, ℕ, ◌+◌, ◌*◌, ◌^◌, ◌<◌, ◌≤◌, min, max, ℤ, pos, negsuc, neg_ℤ, ◌+ℤ◌, ◌-ℤ◌, ◌*ℤ◌, nat_abs, cond, eqb, List, [], ◌∷◌, ◌++◌, Option, Some, None}
 use Rattle.fd_exact.specs.Fractions.{Fraction, fraction}
 use Rattle.fd_exact.specs.States.{State, part}
 use Rattle.fd_arith.specs.declared.terms.Term.{Term}
@@ -87,16 +87,17 @@ magnitude_parts u x (Some l) =
 abbrev pub load_parts : LoadAt → State → List Part
 load_parts u x = both u.first (load_current u x) ∷ both u.second (negative (load_current u x)) ∷ magnitude_parts u x u.magnitude
 
-abbrev pub IsPlain : Option ℕ → Type 0
-IsPlain None = Unit {0}
-IsPlain (Some l) = ⊥
+-- constant power (1) and constant impedance (2) have no magnitude, constant current (5) has one, and there is no other model
+abbrev pub FitsModel : ℕ → Option ℕ → Type 0
+FitsModel model None = (model ≡ 1) ⊎ (model ≡ 2)
+FitsModel model (Some l) = model ≡ 5
 
--- voltages are positive, the limits are in order, and a constant impedance has no magnitude
+-- voltages are positive, the limits are in order, and there is a magnitude where the model has one
 pub record IsLoad (u : LoadAt) : Type 0 where
   pub vn : 0 < nat_abs u.load.vn
   pub low : 0 < nat_abs u.load.vlo
   pub order : nat_abs u.load.vlo ≤ nat_abs u.load.vhi
-  pub plain : cond (eqb u.load.model 2) (IsPlain u.magnitude) (Unit {0})
+  pub model : FitsModel u.load.model u.magnitude
 
 -- ---- in the system: contributions in model 2, and what isn't linear in models 1 and 5
 
