@@ -16,7 +16,8 @@ use Rattle.fd_network.specs.Collecting.{AreTakenFrom, HasPlace}
 use Rattle.fd_network.specs.Faults.{first_out_of_range, first_without, fits, has_small_sums, range_blame}
 use Rattle.fd_network.specs.Places.{AreReadyFrom}
 use Rattle.fd_network.proofs.Faulty.{first_within}
-use Rattle.fd_network.proofs.Ready.{branches_within, few_complex, magnitudes_within, small_first_magnitude}
+use Rattle.dss_layout.proofs.CallerLemmas.{few_complex}
+use Rattle.fd_network.proofs.Ready.{branches_within, magnitudes_within, small_first_magnitude}
 
 -- ---- taken
 

@@ -3,7 +3,6 @@ pub mod Building
 pub mod Faulty
 pub mod Sums
 pub mod Taking
-pub mod ReadyTests
 pub mod ReadyNodes
 pub mod ReadySides
 pub mod ReadyPlaces

@@ -1,56 +1,26 @@
 -- The elements of a circuit that passed the tests of Solve are ready to be taken into a network.
-use Rattle.std.proofs.Common.{◌≡◌, ℕ, suc, ◌+◌, ◌<◌, ◌≤◌, ◌^◌, nat_lt, Bool, true, false, [], ◌∷◌, ◌++◌, length, slice_index, slice_index_or, All, Some, None, refl, sym, ap, subst, ◌∙◌, append_assoc, add-zero, zero-add, if◌then◌else◌, arith}
-use Rattle.std.proofs.lemmas.Bool.{or_parts, ltb-false}
-use Rattle.std.proofs.lemmas.List.{append-nil}
-use Rattle.std.proofs.lemmas.List.Elements.{All-weaker}
+use Rattle.std.proofs.Common.{◌≡◌, ℕ, suc, ◌+◌, ◌<◌, ◌≤◌, ◌^◌, [], ◌∷◌, length, slice_index, slice_index_or, take, All, None, sym, subst, add-zero, zero-add, arith}
+use Rattle.std.proofs.lemmas.Option.{slice_get-get_or}
 use Rattle.fd_exact.specs.Sums.{list_n}
 use Rattle.dss_profile.specs.InRange.{ElementInRange}
 use Rattle.dss_profile.specs.declared.element.Element.{Element}
+use Rattle.dss_profile.specs.declared.element.Element.TheVariants as the
 use Rattle.dss_profile.specs.declared.names.ElementName.{ElementName}
-use Rattle.dss_layout.specs.Limits.{most_complex, most_magnitudes}
-use Rattle.dss_layout.specs.Layout.{Elements, LayoutView, branch_phases, complex_count, ends_of, first_magnitude, first_past, first_too_many, layout_of, magnitude_phases, passes_limit, size_of}
+use Rattle.dss_layout.specs.Limits.{most_complex}
+use Rattle.dss_layout.specs.Layout.{Elements, LayoutView, branch_phases, complex_count, ends_of, first_magnitude, first_too_many, layout_of, magnitude_phases, size_of}
 use Rattle.dss_circuit.specs.Circuit.{CircuitView}
+use Rattle.dss_layout.proofs.CallerLemmas.{few_complex, few_magnitudes, length-phases, length-sums_before, mentions_among, sum_with_own, sum_within}
+use Rattle.dss_ready.specs.Passed.{AreValuesFit}
 use Rattle.dss_ready.specs.Ready.{HasPassed}
-use Rattle.fd_devices.specs.Sound.{IsSound}
+use Rattle.dss_ready.proofs.CallerLemmas.{passed}
+use Rattle.fd_devices.specs.Sound.{AreValuesSound, IsSound}
 use Rattle.fd_network.specs.Places.{AreReadyFrom, IsReadyAt}
-use Rattle.fd_network.proofs.ReadyNodes.{mentions_among}
-use Rattle.fd_network.proofs.ReadyPlaces.{StandsAmong, length-phases, length-sums_before, sited, stands_among, sum_with_own, sum_within}
+use Rattle.fd_network.proofs.ReadyPlaces.{StandsAmong, sited, stands_among}
 use Rattle.fd_network.proofs.ReadySides.{side_counts}
-use Rattle.fd_network.proofs.ReadyTests.{Passes, all_pass, sound_from}
 
 -- ---- limits
 
-none_past : (before rest : Elements) → first_past before rest ≡ None → passes_limit (layout_of before) ≡ false
-    → passes_limit (layout_of (before ++ rest)) ≡ false
-none_past before [] h low = ap (λ l. passes_limit (layout_of l)) (append-nil before) ∙ low
-none_past before (e ∷ rest) h low = by (passes_limit (layout_of (before ++ e ∷ []))) refl h (none_past (before ++ e ∷ []) rest)
-  where
-    by : (b : Bool) → passes_limit (layout_of (before ++ e ∷ [])) ≡ b → (if b then Some (length before) else first_past (before ++ e ∷ []) rest) ≡ None
-        → (first_past (before ++ e ∷ []) rest ≡ None → passes_limit (layout_of (before ++ e ∷ [])) ≡ false
-        → passes_limit (layout_of ((before ++ e ∷ []) ++ rest)) ≡ false)
-        → passes_limit (layout_of (before ++ e ∷ rest)) ≡ false
-    by true t g later = cc
-    by false t g later = ap (λ l. passes_limit (layout_of l)) (sym (append_assoc before (e ∷ []) rest)) ∙ later g t
-
--- the layout passes no limit
-pub within_limits : (elements : Elements) → first_too_many elements ≡ None → passes_limit (layout_of elements) ≡ false
-within_limits elements h = none_past [] elements h refl
-
--- the complex unknowns are few
-pub few_complex : (elements : Elements) → first_too_many elements ≡ None → complex_count (layout_of elements) ≤ most_complex
-few_complex elements h =
-    let layout = layout_of elements in
-    let parts = or_parts (nat_lt most_complex (complex_count layout)) (nat_lt most_magnitudes (length layout.magnitudes)) (within_limits elements h) in
-    ltb-false most_complex (complex_count layout) parts.0
-
--- and the magnitudes
-pub few_magnitudes : (elements : Elements) → first_too_many elements ≡ None → length (layout_of elements).magnitudes ≤ most_magnitudes
-few_magnitudes elements h =
-    let layout = layout_of elements in
-    let parts = or_parts (nat_lt most_complex (complex_count layout)) (nat_lt most_magnitudes (length layout.magnitudes)) (within_limits elements h) in
-    ltb-false most_magnitudes (length layout.magnitudes) parts.1
-
--- and the branch phases
+-- the branch phases are few
 pub few_branches : (elements : Elements) → first_too_many elements ≡ None → list_n (λ e. branch_phases e.1) elements ≤ most_complex
 few_branches elements h =
     let few = few_complex elements h in
@@ -104,13 +74,25 @@ stands_at elements place d within in_range sound =
     let behind : slice_index layout.magnitudes_before place + magnitude_phases e ≤ length layout.magnitudes = omega arith in
     stands_among layout place e (side_counts e in_range sound.terminals) (mentions_among elements place d within) room behind
 
-module _ (circuit : CircuitView) (passed : HasPassed circuit) where
-  -- every element is sound
-  pub all_sound : All (λ e. IsSound e.1) circuit.elements
-  all_sound =
-      let hertz = circuit.options.defaultbasefrequency in
-      All-weaker (Passes hertz circuit.elements) (λ e. IsSound e.1) (sound_from hertz circuit.elements) circuit.elements
-      (all_pass hertz circuit.elements [] circuit.elements passed.no_own)
+-- the values of an element that fits
+values_sound : (elements before : Elements) (name : ElementName) (e : Element) → AreValuesFit elements before name e → AreValuesSound e
+values_sound elements before name (the.Vsource v) fit = fit.below
+values_sound elements before name (the.Line l) fit = (fit.matrices, fit.impedance)
+values_sound elements before name (the.Linecode c) fit = tt
+values_sound elements before name (the.Transformer t) fit = tt
+values_sound elements before name (the.Capacitor c) fit = tt
+values_sound elements before name (the.Load l) fit = tt
+values_sound elements before name (the.RegControl c) fit = tt
+values_sound elements before name (the.CapControl c) fit = tt
+values_sound elements before name (the.Loadshape s) fit = tt
+
+module _ (circuit : CircuitView) (has_passed : HasPassed circuit) where
+  -- the element at a place is sound
+  sound_at : (place : ℕ) (d : ElementName × Element) → place < length circuit.elements → IsSound (slice_index_or circuit.elements place d).1
+  sound_at place d within =
+      let e = slice_index_or circuit.elements place d in
+      let fit = (passed circuit has_passed).each place e (slice_get-get_or circuit.elements place d within) in
+      record { terminals = fit.terminals; values = values_sound circuit.elements (take place circuit.elements) e.0 e.1 fit.values }
 
   -- the element at a place is ready to be taken
   pub ready_at : All (λ e. ElementInRange e.1) circuit.elements
@@ -119,7 +101,7 @@ module _ (circuit : CircuitView) (passed : HasPassed circuit) where
       let elements = circuit.elements in
       let e = (slice_index_or elements place d).1 in
       let range : ElementInRange e = in_range place d within in
-      let sound : IsSound e = all_sound place d within in
+      let sound : IsSound e = sound_at place d within in
       record {
         in_range = range;
         sound = sound;

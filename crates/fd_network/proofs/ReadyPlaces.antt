@@ -1,62 +1,19 @@
 -- Where the nodes, the branches and the magnitudes of an element stand among the unknowns of the layout.
 use Rattle.std.proofs.Common.{◌≡◌, ℕ, zero, suc, ◌+◌, ◌<◌, ◌≤◌, ◌==◌, Bool, true, false, inl, inr, if◌then◌else◌, [], ◌∷◌, length, slice_index, slice_index_or, All, refl, ap, subst, ◌∙◌, length-append, arith}
-use Rattle.std.specs.List.{flat_map}
 use Rattle.std.proofs.lemmas.List.{length-map}
-use Rattle.std.proofs.lemmas.List.FromFn.{length-map-range_with_len}
-use Rattle.fd_exact.specs.Sums.{list_n}
 use Rattle.fd_arith.specs.declared.terms.Ends.{Ends}
 use Rattle.dss_profile.specs.Ranges.{IsOneOf}
 use Rattle.dss_profile.specs.InRange.{ElementInRange}
 use Rattle.dss_profile.specs.declared.element.Element.{Element}
 use Rattle.dss_profile.specs.declared.element.Element.TheVariants as the
 use Rattle.dss_profile.specs.declared.load.Load.{Load}
-use Rattle.dss_profile.specs.declared.names.ElementName.{ElementName}
+use Rattle.dss_layout.specs.Among.{IsAmong}
 use Rattle.dss_layout.specs.Nodes.{node_at}
 use Rattle.dss_layout.specs.Terminals.{mentions, terminals_of}
-use Rattle.dss_layout.specs.Layout.{Elements, LayoutView, branch_phases, complex_count, ends_of, first_magnitude, magnitude_phases, phase_names, size_of, sums_before}
+use Rattle.dss_layout.specs.Layout.{LayoutView, branch_phases, complex_count, ends_of, first_magnitude, magnitude_phases, size_of}
 use Rattle.fd_devices.specs.Sound.{HasBranches, HasMagnitudes, IsSideOf, IsSited}
-use Rattle.fd_network.proofs.ReadyNodes.{IsAmong, sides_below}
+use Rattle.fd_network.proofs.ReadyNodes.{sides_below}
 use Rattle.fd_network.proofs.ReadySides.{HasCounts, first_count, second_count}
-
--- ---- sums
-
-pub length-sums_before : (f : Element → ℕ) (s : ℕ) (es : Elements) → length (sums_before f s es) ≡ length es
-length-sums_before f s [] = refl
-length-sums_before f s (e ∷ es) = ap suc (length-sums_before f (s + f e.1) es)
-
-length-phase_names : (name : ElementName) (n : ℕ) → length (phase_names name n) ≡ n
-length-phase_names name n = length-map-range_with_len _ 1 n
-
--- the phases of an element, after those before it, are among all
-pub sum_with_own : (f : Element → ℕ) (s : ℕ) (es : Elements) (k : ℕ) (d : ElementName × Element) → k < length es
-    → slice_index (sums_before f s es) k + f (slice_index_or es k d).1 ≤ s + length (flat_map (λ e. phase_names e.0 (f e.1)) es)
-sum_with_own f s [] k d h = absurd (omega arith)
-sum_with_own f s (e ∷ es) zero d h =
-    let joined = length-append (phase_names e.0 (f e.1)) (flat_map (λ (x : ElementName × Element). phase_names x.0 (f x.1)) es) in
-    let count = length-phase_names e.0 (f e.1) in
-    omega arith
-sum_with_own f s (e ∷ es) (suc k) d h =
-    let joined = length-append (phase_names e.0 (f e.1)) (flat_map (λ (x : ElementName × Element). phase_names x.0 (f x.1)) es) in
-    let count = length-phase_names e.0 (f e.1) in
-    let rest = sum_with_own f (s + f e.1) es k d (omega arith) in
-    omega arith
-
--- and so are those before it
-pub sum_within : (f : Element → ℕ) (s : ℕ) (es : Elements) (k : ℕ) → k < length es
-    → slice_index (sums_before f s es) k ≤ s + length (flat_map (λ e. phase_names e.0 (f e.1)) es)
-sum_within f s [] k h = absurd (omega arith)
-sum_within f s (e ∷ es) k h = let own = sum_with_own f s (e ∷ es) k e h in omega arith
-
--- how many phases all elements have
-pub length-phases : (f : Element → ℕ) (es : Elements) → length (flat_map (λ e. phase_names e.0 (f e.1)) es) ≡ list_n (λ e. f e.1) es
-length-phases f [] = refl
-length-phases f (e ∷ es) =
-    let joined = length-append (phase_names e.0 (f e.1)) (flat_map (λ (x : ElementName × Element). phase_names x.0 (f x.1)) es) in
-    let count = length-phase_names e.0 (f e.1) in
-    let rest = length-phases f es in
-    omega arith
-
--- ---- an element
 
 -- its sides have a node for each terminal, its branches are among the first n complex unknowns, of which the nodes come first, and its
 -- magnitudes, of which the first's place is given, behind these among `size` real unknowns
