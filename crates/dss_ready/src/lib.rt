@@ -26,6 +26,3 @@ mod walk;
 pub use answer::ready;
 pub use fault::ReadyFault;
 pub use law::passed_law;
-
-#[cfg(test)]
-mod tests;

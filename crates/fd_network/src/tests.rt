@@ -1,4 +1,4 @@
-// Small feeders, built.
+// A small feeder, built and updated.
 ghost use Rattle.std.specs.Prelude.{◌≡◌, ◌↔◌, All, IfOk, IfSome, IsTrue, length};
 ghost use Rattle.fd_exact.specs.Sums.{list_n};
 ghost use Rattle.dss_ready.specs.Ready.{HasPassed};
@@ -11,10 +11,9 @@ use crate::{build, update};
 use dss_circuit::{Circuit, Command, Element, ModelFault, Place, Verb};
 use dss_lexer::{PairList, Text, pairs};
 use dss_ready::{ReadyFault, ready};
-use fd_arith::Term;
 use fd_devices::{BuildFault, LoadPowers, Positions, Powers, snapshot_law};
 use fd_elements::LoadPower;
-use fd_equations::{Network, PlaceKind};
+use fd_equations::Network;
 use std::alloc::{AllocError, Global};
 use std::process::Abort;
 use std::test::Fail;
@@ -202,105 +201,6 @@ fn updated(
     Ok(update(alloc, net, circuit, &at, powers).is_err())
 }
 
-// The line of the New to blame, if there is one.
-fn line_to_blame(built: Result<Network, BuildFault>) -> Result<Option<u32>, ModelFault> {
-    match built {
-        Ok(_) => Ok(None),
-        Err(BuildFault::Range(blame)) => {
-            if blame.cause == ModelFault::Range {
-                Ok(Some(blame.place.line))
-            } else {
-                Err(blame.cause)
-            }
-        }
-        Err(BuildFault::NoMemory) => Err(ModelFault::NoMemory),
-    }
-}
-
-// That line of a circuit with these powers.
-fn blamed(
-    alloc: Global,
-    rt: &impl Abort,
-    rows: &[Row],
-    loads: &[LoadPower],
-) -> Result<Option<u32>, ModelFault> {
-    let circuit = circuit(alloc, rows)?;
-    let powers = powers(alloc, loads)?;
-    line_to_blame(built(alloc, rt, &circuit, &powers))
-}
-
-// 20,000 ohm, more than 2^14
-const LONG: Row<'static> = (
-    "Line",
-    "long",
-    "phases=1 bus1=sourcebus.1 bus2=c.1 r1=10000 x1=0 r0=10000 x0=0 length=2",
-);
-
-const LONGER: Row<'static> = (
-    "Line",
-    "longer",
-    "phases=1 bus1=c.1 bus2=d.1 r1=10000 x1=0 r0=10000 x0=0 length=3",
-);
-
-// 10 volt
-const SMALL: &str = "phases=1 bus1=sourcebus.1 kv=0.01 kw=360 kvar=0 model=2";
-
-const SMALL_LOADS: [Row<'static>; 5] = [
-    ("Load", "a", SMALL),
-    ("Load", "b", SMALL),
-    ("Load", "c", SMALL),
-    ("Load", "d", SMALL),
-    ("Load", "e", SMALL),
-];
-
-// 360 kilowatt, which are 3600 siemens at 10 volt
-const LARGE: LoadPower = LoadPower {
-    p: 360_000_000,
-    q: 0,
-};
-
-#[test]
-fn own_range(rt: HostRuntime) -> Result<(), Fail> {
-    let alloc = rt.alloc();
-    let lines = [SOURCE, LINE, LONG, LONGER, LOAD];
-    assert_eq!(rt; blamed(alloc, &rt, &lines, &[POWER])?, Some(3));
-    Ok(())
-}
-
-#[test]
-fn load_limit(rt: HostRuntime) -> Result<(), Fail> {
-    let alloc = rt.alloc();
-    let rows = [SOURCE, LINE, LOAD];
-    let p = 100_000_000_000;
-    assert_eq!(rt; blamed(alloc, &rt, &rows, &[LoadPower { p, q: 0 }])?, None);
-    assert_eq!(rt;
-        blamed(alloc, &rt, &rows, &[LoadPower { p, q: 1 }])?,
-        Some(3)
-    );
-    Ok(())
-}
-
-#[test]
-fn sums(rt: HostRuntime) -> Result<(), Fail> {
-    let alloc = rt.alloc();
-    let [a, b, c, d, e] = SMALL_LOADS;
-    assert_eq!(rt;
-        blamed(alloc, &rt, &[SOURCE, LINE, a, b, c, d], &[LARGE; 4])?,
-        None
-    );
-    // 18,000 siemens at one node, more than 2^14; the line has no part in that sum
-    assert_eq!(rt;
-        blamed(alloc, &rt, &[SOURCE, LINE, a, b, c, d, e], &[LARGE; 5])?,
-        Some(3)
-    );
-    // a line out of range by itself comes first
-    assert_eq!(rt;
-        blamed(alloc, &rt, &[SOURCE, a, b, c, d, e, LONG], &[LARGE; 5])?,
-        Some(7)
-    );
-    Ok(())
-}
-
 // The residuals of the worked feeder, and after its load has another power; whether that was refused.
 fn worked(
     alloc: Global,
@@ -340,124 +240,5 @@ fn refused_power(rt: HostRuntime) -> Result<(), Fail> {
     let (_, second, refused) = worked(rt.alloc(), &rt, LoadPower { p, q })?;
     assert_eq!(rt; second, MISMATCH);
     assert!(rt; refused);
-    Ok(())
-}
-
-const TRANSFORMER: Row<'static> = (
-    "Transformer",
-    "t",
-    "phases=1 buses=[sourcebus.1 b.1] kvs=[1 0.5] kvas=[100 100]",
-);
-
-const OPEN_BANK: Row<'static> = (
-    "Capacitor",
-    "k",
-    "phases=1 bus1=b.1 kv=0.5 kvar=50 states=[0]",
-);
-
-const CURRENT: Row<'static> = (
-    "Load",
-    "c",
-    "phases=1 bus1=b.1 kv=0.5 kw=100 kvar=0 model=5",
-);
-
-// Two nodes and two branches have eight places, and the magnitude stands behind them.
-#[test]
-fn magnitude(rt: HostRuntime) -> Result<(), Fail> {
-    let alloc = rt.alloc();
-    let circuit = circuit(alloc, &[SOURCE, TRANSFORMER, OPEN_BANK, CURRENT])?;
-    let powers = powers(alloc, &[POWER])?;
-    match built(alloc, &rt, &circuit, &powers) {
-        Ok(net) => {
-            assert_eq!(rt; net.size(), 9);
-            assert_eq!(rt; net.kind(8), PlaceKind::Magnitude);
-            assert_eq!(rt; net.loads().len(), 1);
-            assert_eq!(rt; net.loads()[0].magnitude, Some(8));
-        }
-        Err(_) => return Err(ModelFault::NoMemory)?,
-    }
-    Ok(())
-}
-
-// ---- the residual by the list of contributions, one after another
-
-// A state in which no row is met.
-const ELSEWHERE: [i128; 8] = [
-    955_123_456,
-    -1_234_567,
-    512_345_678,
-    7_654_321,
-    49_876_543,
-    -2_109_876,
-    50_123_456,
-    987_654,
-];
-
-// The greatest whole number up to num x / den and the least from there on; none where den isn't positive or a number is too large.
-fn about(num: i128, x: i128, den: i128) -> Option<(i128, i128)> {
-    if den <= 0 {
-        return None;
-    }
-    let product = num.checked_mul(x)?;
-    let (whole, rest) = (product / den, product % den);
-    if rest == 0 {
-        Some((whole, whole))
-    } else if rest < 0 {
-        Some((whole.checked_sub(1)?, whole))
-    } else {
-        Some((whole, whole.checked_add(1)?))
-    }
-}
-
-// Whole numbers below and above the residual of a row, by a walk over all contributions, and how many of them stand in the row.
-fn plain_row(constant: i128, terms: &[Term], x: &[i128], row: u32) -> Option<(i128, i128, i128)> {
-    let (mut low, mut high, mut count) = (constant, constant, 0i128);
-    for term in terms {
-        if term.row == row {
-            let (below, above) = about(term.num, *x.get(term.col as usize)?, term.den)?;
-            low = low.checked_add(below)?;
-            high = high.checked_add(above)?;
-            count = count.checked_add(1)?;
-        }
-    }
-    Some((low, high, count))
-}
-
-// Whether ends hold the numbers between low and high, or miss them by two for each contribution at most.
-fn is_near(ends: Option<(i128, i128)>, plain: Option<(i128, i128, i128)>) -> Option<bool> {
-    let (first, last) = ends?;
-    let (low, high, count) = plain?;
-    let slack = count.checked_mul(2)?;
-    Some(
-        first <= high
-            && low <= last
-            && low.checked_sub(slack)? <= first
-            && last <= high.checked_add(slack)?,
-    )
-}
-
-// Whether each row's residual in intervals is that of the plain walk.
-fn agrees(alloc: Global, rt: &impl Abort, net: &Network) -> Result<bool, AllocError> {
-    assert!(rt; net.size() == 8);
-    let rows = net.residual(alloc, &ELSEWHERE)?;
-    let constants = net.constants(alloc)?;
-    for k in 0..8u32 {
-        let plain = plain_row(constants[k as usize], net.terms(), &ELSEWHERE, k);
-        if is_near(rows[k as usize].ends(), plain) != Some(true) {
-            return Ok(false);
-        }
-    }
-    Ok(true)
-}
-
-#[test]
-fn plain_residual(rt: HostRuntime) -> Result<(), Fail> {
-    let alloc = rt.alloc();
-    let circuit = circuit(alloc, &[SOURCE, LINE, LOAD])?;
-    let powers = powers(alloc, &[POWER])?;
-    match built(alloc, &rt, &circuit, &powers) {
-        Ok(net) => assert!(rt; agrees(alloc, &rt, &net)?),
-        Err(_) => return Err(ModelFault::NoMemory)?,
-    }
     Ok(())
 }
