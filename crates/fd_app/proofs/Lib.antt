@@ -1,5 +1,6 @@
 mod Weaker
 mod SnapshotNetworks
+mod Unsolved
 pub mod Tests
 mod Handed
 mod Weights

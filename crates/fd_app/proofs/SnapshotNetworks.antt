@@ -1,5 +1,5 @@
 -- The network of a circuit with the settings of its script, and the mismatches of its state.
-use Rattle.std.proofs.Common.{◌≡◌, ◌∙◌, ◌<◌, ◌*◌, ℕ, ℤ, pos, nat_abs, List, length, map, get_or, Some, None, refl, sym, ap, subst, arith}
+use Rattle.std.proofs.Common.{◌≡◌, ◌∙◌, ◌<◌, ◌*◌, ℕ, ℤ, pos, nat_abs, List, length, map, get_or, Some, None, Result, Ok, Err, refl, sym, ap, subst, arith}
 use Rattle.std.specs.List.{flat_map, range_with_len}
 use Rattle.std.specs.Option.{unwrap_or}
 use Rattle.std.proofs.lemmas.Simd.{map-map}
@@ -24,12 +24,14 @@ use Rattle.fd_devices.specs.declared.settings.Positions.{Positions}
 use Rattle.fd_devices.specs.declared.settings.Powers.{Powers}
 use Rattle.fd_devices.specs.Snapshot.{closed_of, powers_of, snapshot_of, taps_of}
 use Rattle.fd_network.specs.Faults.{range_blame}
+use Rattle.fd_outcome.specs.Work.{Step}
 use Rattle.fd_app.specs.Built.{unbuilt_place}
+use Rattle.fd_inject.specs.declared.fault.SolveFault.{SolveFault}
 use Rattle.fd_inject.specs.Ranges.{SizesWithin, first_past}
 use Rattle.fd_report.specs.declared.faults.Cause.TheVariants as cause
 use Rattle.fd_app.specs.Headline.{AreMismatches, IsReached, IsSolution}
 use Rattle.fd_app.specs.Steps.{refuses, round_of, solves}
-use Rattle.fd_app.specs.Solving.{by_built, by_range, greatest_mismatch, judged, mismatch_at, mismatches_of, snapshot_blame, snapshot_network, solution_step, unless_loose}
+use Rattle.fd_app.specs.Solving.{IsByBuilt, IsByNetwork, IsByPoint, IsByRange, IsSolutionStep, IsUnsolved, greatest_mismatch, judged, mismatch_at, mismatches_of, snapshot_blame, snapshot_network, unless_loose}
 
 -- ---- the settings of a script
 
@@ -114,10 +116,20 @@ is_solution c v x e inverse is agrees reached long due small meets =
 
 -- ---- the step of a Solve
 
-pub solved_unbuilt : (c : CircuitView) (place : Place) → unbuilt_place c.elements ≡ Some place → solution_step c ≡ refuses place cause.NotBuilt
-unfolding solution_step
-solved_unbuilt c place is = ap (by_built c) is
+pub solved_unbuilt : (c : CircuitView) (place : Place) (step : Step CircuitView) → unbuilt_place c.elements ≡ Some place → step ≡ refuses place cause.NotBuilt → IsSolutionStep c step
+unfolding IsSolutionStep
+solved_unbuilt c place step is h = subst (λ p. IsByBuilt c p step) (sym is) h
 
-pub solved_built : (c : CircuitView) → unbuilt_place c.elements ≡ None → solution_step c ≡ by_range c (snapshot_blame c)
-unfolding solution_step
-solved_built c is = ap (by_built c) is
+pub solved_built : (c : CircuitView) (step : Step CircuitView) → unbuilt_place c.elements ≡ None → IsByRange c (snapshot_blame c) step → IsSolutionStep c step
+unfolding IsSolutionStep
+solved_built c step is h = subst (λ p. IsByBuilt c p step) (sym is) h
+
+-- what a fault of the procedure comes to
+pub by_fault : (c : CircuitView) (v : NetworkView) (said : Result (List ℤ × List (List ℤ)) SolveFault) (f : SolveFault) (step : Step CircuitView) → said ≡ Err f → IsUnsolved c f step → IsByPoint c v said step
+by_fault c v said f step is h = subst (λ r. IsByPoint c v r step) (sym is) h
+
+-- what the point that it reaches comes to
+pub by_reached : (c : CircuitView) (x : List ℤ) (inverse : List (List ℤ)) (v : NetworkView) (step : Step CircuitView) → v ≡ snapshot_network c → IsReached c x inverse → step ≡ judged c (round_of x inverse (mismatches_of v x))
+    → IsByNetwork c (snapshot_network c) step
+by_reached c x inverse v step is reached h =
+    subst (λ r. IsByPoint c (snapshot_network c) r step) (sym reached) (h ∙ ap (λ n. judged c (round_of x inverse (mismatches_of n x))) is)

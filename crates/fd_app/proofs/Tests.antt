@@ -1,5 +1,5 @@
 -- A command comes to exactly one thing, as the tests of Solve have exactly one answer.
-use Rattle.std.proofs.Common.{◌≡◌, ◌<◌, ◌+◌, ◌∙◌, ℕ, zero, suc, Bool, true, false, List, [], ◌∷◌, take, length, Option, Some, None, Result, Ok, Err, refl, sym, ap, subst, inl, inr, arith}
+use Rattle.std.proofs.Common.{◌≡◌, ◌<◌, ◌+◌, ◌∙◌, ℕ, zero, suc, ℤ, Bool, true, false, List, [], ◌∷◌, take, length, Option, Some, None, Result, Ok, Err, refl, sym, ap, subst, inl, inr, arith}
 use Rattle.std.specs.Prelude.{slice_get, option_map, get_or, All}
 use Rattle.std.proofs.lemmas.Bool.{cases_order}
 use Rattle.std.proofs.lemmas.Option.{slice_get_within, slice_get-get_or, get_or_from_slice_get}
@@ -13,16 +13,27 @@ use Rattle.dss_profile.specs.declared.element.Element.{Element}
 use Rattle.dss_profile.specs.declared.names.ElementName.{ElementName}
 use Rattle.dss_layout.specs.Feeding.{Fed, IsFed, IsIsolated, IsFirstIsolated, FirstIsolated}
 use Rattle.dss_layout.specs.Labels.{labels_of, mentions_apart}
-use Rattle.dss_layout.specs.Layout.{first_too_many, nodes_of}
+use Rattle.dss_layout.specs.Layout.{first_too_many, layout_of, nodes_of}
 use Rattle.dss_layout.specs.Terminals.{mentions}
 use Rattle.dss_layout.proofs.Walk.{first_isolated_at, fed_up_to}
 use Rattle.dss_ready.specs.Ready.{HasPassed, IsToBlame, for_own, for_many, for_isolated, blame_at, blame_on, own_blame}
 use Rattle.dss_ready.proofs.Limits.{too_many_within}
 use Rattle.dss_circuit.specs.Circuit.{CircuitView, Elements}
+use Rattle.dss_profile.specs.declared.command.Place.{Place}
+use Rattle.fd_equations.specs.Views.{NetworkView}
+use Rattle.fd_inject.specs.Procedure.{solution_of}
+use Rattle.fd_inject.specs.declared.fault.SolveFault.{SolveFault}
+use Rattle.fd_inject.specs.declared.fault.SolveFault.TheVariants as procedure
+use Rattle.fd_report.specs.Names.{name_at}
+use Rattle.fd_report.specs.declared.faults.Cause.TheVariants as cause
+use Rattle.fd_report.specs.declared.faults.Fault.TheVariants as run
 use Rattle.fd_outcome.specs.Work.{Step, ExactlyOne}
 use Rattle.fd_outcome.proofs.CallerLemmas.{exactly_this}
-use Rattle.fd_app.specs.Commands.{Applied, nothing_left, solve_left, refused_at, IsSolve, IsStep, IsStepOf, IsTested, by_tests, tried}
-use Rattle.fd_app.specs.Steps.{changes, refuses}
+use Rattle.fd_app.specs.Commands.{Applied, nothing_left, solve_left, refused_at, IsByTests, IsSolve, IsStep, IsStepOf, IsTested, tried}
+use Rattle.fd_app.specs.Built.{unbuilt_place}
+use Rattle.fd_app.specs.Solving.{IsByBuilt, IsByPoint, IsByRange, IsSolutionStep, IsUnsolved, judged, limits_of, mismatches_of, snapshot_blame, snapshot_network}
+use Rattle.fd_app.specs.Steps.{changes, fails, refuses, round_of}
+use Rattle.fd_app.proofs.Unsolved.{never_memory}
 
 -- ---- the tests of Solve have one answer
 
@@ -152,6 +163,34 @@ module _ (circuit : CircuitView) where
   answer_of_tests (Err blame) is = record { answer = Err blame; right = for_own blame is }
   answer_of_tests (Ok x) is = answer_by_limits is (first_too_many circuit.elements) refl
 
+-- ---- a Solve
+
+one_unsolved : (c : CircuitView) (f : SolveFault) → (f ≡ procedure.NoMemory → ⊥) → ExactlyOne (IsUnsolved c f)
+one_unsolved c (procedure.NoInverse column stop) told = exactly_this (fails c (run.NoInverse (name_at (layout_of c.elements) column) stop))
+one_unsolved c (procedure.OutOfRange place k) told = exactly_this (fails c (run.OutOfRange (name_at (layout_of c.elements) place) k))
+one_unsolved c (procedure.NotConverged place steps update) told = exactly_this (fails c (run.NotConverged (name_at (layout_of c.elements) place) steps update))
+one_unsolved c procedure.NoMemory told = absurd (told refl)
+
+one_by_point : (c : CircuitView) (v : NetworkView) (r : Result (List ℤ × List (List ℤ)) SolveFault) → (r ≡ Err procedure.NoMemory → ⊥) → ExactlyOne (IsByPoint c v r)
+one_by_point c v (Ok point) told = exactly_this (judged c (round_of point.0 point.1 (mismatches_of v point.0)))
+one_by_point c v (Err f) told = one_unsolved c f (λ is. told (ap Err is))
+
+one_by_range : (c : CircuitView) (blame : Option Blame) → ExactlyOne (IsByRange c blame)
+one_by_range c None = one_by_point c (snapshot_network c) (solution_of (snapshot_network c) (limits_of c.options)) (never_memory (snapshot_network c) (limits_of c.options))
+one_by_range c (Some blame) = exactly_this (refuses blame.place (cause.Model blame.cause))
+
+one_by_built : (c : CircuitView) (place : Option Place) → ExactlyOne (IsByBuilt c place)
+one_by_built c None = one_by_range c (snapshot_blame c)
+one_by_built c (Some place) = exactly_this (refuses place cause.NotBuilt)
+
+one_solution : (c : CircuitView) → ExactlyOne (IsSolutionStep c)
+unfolding IsSolutionStep
+one_solution c = one_by_built c (unbuilt_place c.elements)
+
+one_by_tests : (c : CircuitView) (answer : Result Unit Blame) → ExactlyOne (IsByTests c answer)
+one_by_tests c (Ok done) = one_solution c
+one_by_tests c (Err blame) = exactly_this (refuses blame.place (cause.Model blame.cause))
+
 -- ---- a command
 
 one_of : (left : Applied) → ExactlyOne (IsStepOf left)
@@ -159,10 +198,11 @@ one_of (nothing_left circuit) = exactly_this (changes circuit)
 one_of (refused_at place c) = exactly_this (refuses place c)
 one_of (solve_left circuit) =
     let tests = answer_of_tests circuit (own_blame circuit) refl in
+    let one = one_by_tests circuit tests.answer in
     record {
-      some = by_tests circuit tests.answer;
-      is = record { answer = tests.answer; right = tests.right; step_is = refl };
-      only = λ step is. is.step_is ∙ ap (by_tests circuit) (test_once circuit is.answer tests.answer is.right tests.right);
+      some = one.some;
+      is = record { answer = tests.answer; right = tests.right; step_is = one.is };
+      only = λ step is. one.only step (subst (λ a. IsByTests circuit a step) (test_once circuit is.answer tests.answer is.right tests.right) is.step_is);
     }
 
 pub one_step : (command : Command) (circuit : CircuitView) → ExactlyOne (IsStep command circuit)

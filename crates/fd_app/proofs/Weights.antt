@@ -35,9 +35,9 @@ use Rattle.fd_outcome.specs.Settles.{Round}
 use Rattle.fd_outcome.specs.Events.{Event}
 use Rattle.fd_outcome.specs.Work.{Step, goes, ends}
 use Rattle.fd_app.specs.Built.{unbuilt_place}
-use Rattle.fd_app.specs.Commands.{Applied, IsStep, IsStepOf, by_tests, is_daily, left_of, nothing_left, reads_shape, refused_at, solve_by, solve_left, tried}
-use Rattle.fd_app.specs.Solving.{by_built, by_point, by_range, greatest_mismatch, limits_of, mismatches_of, snapshot_blame, snapshot_network, solution_step, unless_loose, unsolved}
-use Rattle.fd_app.specs.Steps.{round_of}
+use Rattle.fd_app.specs.Commands.{Applied, IsByTests, IsStep, IsStepOf, is_daily, left_of, nothing_left, reads_shape, refused_at, solve_by, solve_left, tried}
+use Rattle.fd_app.specs.Solving.{IsByBuilt, IsByPoint, IsByRange, IsSolutionStep, IsUnsolved, greatest_mismatch, limits_of, mismatches_of, snapshot_blame, snapshot_network, unless_loose}
+use Rattle.fd_app.specs.Steps.{changes, refuses, round_of}
 use Rattle.fd_equations.specs.Views.{NetworkView}
 use Rattle.fd_inject.specs.Procedure.{solution_of}
 use Rattle.fd_inject.specs.Ranges.{first_past}
@@ -239,45 +239,45 @@ abbrev Leaves : Step CircuitView → CircuitView → Type 0
 Leaves (goes events circuit) now = circuit ≡ now
 Leaves (ends events f) now = ⊥
 
+-- a step that is this one leaves what it leaves
+left_by : (now : CircuitView) (step other : Step CircuitView) → step ≡ other → Leaves step now → Leaves other now
+left_by now step other is leaves = subst (λ s. Leaves s now) is leaves
+
 loose_leaves : (circuit now : CircuitView) (r : Round) (row : Option ℕ) → Leaves (unless_loose circuit r row) now → circuit ≡ now
 loose_leaves circuit now r None h = h
 loose_leaves circuit now r (Some row) h = absurd h
 
-fault_leaves : (circuit now : CircuitView) (f : SolveFault) → Leaves (unsolved circuit f) now → circuit ≡ now
-fault_leaves circuit now (procedure.NoInverse column c) h = absurd h
-fault_leaves circuit now (procedure.OutOfRange place step) h = absurd h
-fault_leaves circuit now (procedure.NotConverged place steps update) h = absurd h
-fault_leaves circuit now procedure.NoMemory h = h
+fault_leaves : (circuit now : CircuitView) (f : SolveFault) (step : Step CircuitView) → IsUnsolved circuit f step → Leaves step now → circuit ≡ now
+fault_leaves circuit now (procedure.NoInverse column c) step is h = absurd (left_by now step _ is h)
+fault_leaves circuit now (procedure.OutOfRange place k) step is h = absurd (left_by now step _ is h)
+fault_leaves circuit now (procedure.NotConverged place steps update) step is h = absurd (left_by now step _ is h)
+fault_leaves circuit now procedure.NoMemory step is h = absurd is
 
-point_leaves : (circuit now : CircuitView) (v : NetworkView) (r : Result (List ℤ × List (List ℤ)) SolveFault) → Leaves (by_point circuit v r) now → circuit ≡ now
-point_leaves circuit now v (Ok p) h = loose_leaves circuit now (round_of p.0 p.1 (mismatches_of v p.0)) (first_past greatest_mismatch (mismatches_of v p.0)) h
-point_leaves circuit now v (Err f) h = fault_leaves circuit now f h
+point_leaves : (circuit now : CircuitView) (v : NetworkView) (r : Result (List ℤ × List (List ℤ)) SolveFault) (step : Step CircuitView) → IsByPoint circuit v r step → Leaves step now → circuit ≡ now
+point_leaves circuit now v (Ok p) step is h =
+    loose_leaves circuit now (round_of p.0 p.1 (mismatches_of v p.0)) (first_past greatest_mismatch (mismatches_of v p.0)) (left_by now step _ is h)
+point_leaves circuit now v (Err f) step is h = fault_leaves circuit now f step is h
 
-range_leaves : (circuit now : CircuitView) (blame : Option Blame) → Leaves (by_range circuit blame) now → circuit ≡ now
-range_leaves circuit now None h = point_leaves circuit now (snapshot_network circuit) (solution_of (snapshot_network circuit) (limits_of circuit.options)) h
-range_leaves circuit now (Some blame) h = absurd h
+range_leaves : (circuit now : CircuitView) (blame : Option Blame) (step : Step CircuitView) → IsByRange circuit blame step → Leaves step now → circuit ≡ now
+range_leaves circuit now None step is h = point_leaves circuit now (snapshot_network circuit) (solution_of (snapshot_network circuit) (limits_of circuit.options)) step is h
+range_leaves circuit now (Some blame) step is h = absurd (left_by now step _ is h)
 
-built_leaves : (circuit now : CircuitView) (place : Option Place) → Leaves (by_built circuit place) now → circuit ≡ now
-built_leaves circuit now None h = range_leaves circuit now (snapshot_blame circuit) h
-built_leaves circuit now (Some place) h = absurd h
+built_leaves : (circuit now : CircuitView) (place : Option Place) (step : Step CircuitView) → IsByBuilt circuit place step → Leaves step now → circuit ≡ now
+built_leaves circuit now None step is h = range_leaves circuit now (snapshot_blame circuit) step is h
+built_leaves circuit now (Some place) step is h = absurd (left_by now step _ is h)
 
-solution_leaves : (circuit now : CircuitView) → Leaves (solution_step circuit) now → circuit ≡ now
-unfolding solution_step
-solution_leaves circuit now h = built_leaves circuit now (unbuilt_place circuit.elements) h
+solution_leaves : (circuit now : CircuitView) (step : Step CircuitView) → IsSolutionStep circuit step → Leaves step now → circuit ≡ now
+unfolding IsSolutionStep
+solution_leaves circuit now step is h = built_leaves circuit now (unbuilt_place circuit.elements) step is h
 
-tests_leave : (circuit now : CircuitView) (r : Result Unit Blame) → Leaves (by_tests circuit r) now → circuit ≡ now
-tests_leave circuit now (Ok done) h = solution_leaves circuit now h
-tests_leave circuit now (Err blame) h = absurd h
+tests_leave : (circuit now : CircuitView) (r : Result Unit Blame) (step : Step CircuitView) → IsByTests circuit r step → Leaves step now → circuit ≡ now
+tests_leave circuit now (Ok done) step is h = solution_leaves circuit now step is h
+tests_leave circuit now (Err blame) step is h = absurd (left_by now step _ is h)
 
 step_reaches : (left : Applied) (step : Step CircuitView) (now : CircuitView) → IsStepOf left step → Leaves step now → Reaches left now
-step_reaches (nothing_left circuit) step now is leaves =
-    let P : Step CircuitView → Type 0 = λ s. Leaves s now in
-    let e : circuit ≡ now = subst P is leaves in
-    inl (ap nothing_left e)
-step_reaches (refused_at place c) step now is leaves = let P : Step CircuitView → Type 0 = λ s. Leaves s now in absurd (subst P is leaves)
-step_reaches (solve_left circuit) step now is leaves =
-    let P : Step CircuitView → Type 0 = λ s. Leaves s now in
-    inr (ap solve_left (tests_leave circuit now is.answer (subst P is.step_is leaves)))
+step_reaches (nothing_left circuit) step now is leaves = inl (ap nothing_left (left_by now step (changes circuit) is leaves))
+step_reaches (refused_at place c) step now is leaves = absurd (left_by now step (refuses place c) is leaves)
+step_reaches (solve_left circuit) step now is leaves = inr (ap solve_left (tests_leave circuit now is.answer step is.step_is leaves))
 
 pub command_takes : (command : Command) (circuit now : CircuitView) (events : List Event) → IsStep command circuit (goes events now) → weight now ≤ weight circuit + cost command.verb
 command_takes command circuit now events is = cases (reads_shape command.verb) (step_reaches (tried command circuit) (goes events now) now is refl)

@@ -17,7 +17,7 @@ use Rattle.dss_circuit.specs.Circuit.{CircuitView, applied}
 use Rattle.fd_report.specs.declared.faults.Cause.{Cause}
 use Rattle.fd_report.specs.declared.faults.Cause.TheVariants as cause
 use Rattle.fd_outcome.specs.Work.{Step}
-use Rattle.fd_app.specs.Solving.{solution_step}
+use Rattle.fd_app.specs.Solving.{IsSolutionStep}
 use Rattle.fd_app.specs.Steps.{changes, refuses}
 
 -- ---- what is refused before it is applied: a load shape that is to be read from a file
@@ -67,14 +67,14 @@ IsTested circuit (Ok done) = HasPassed circuit
 IsTested circuit (Err blame) = IsToBlame circuit blame
 
 -- what the tests answer, and what a circuit that passes them comes to
-abbrev pub by_tests : CircuitView → Result Unit Blame → Step CircuitView
-by_tests circuit (Err blame) = refuses blame.place (cause.Model blame.cause)
-by_tests circuit (Ok done) = solution_step circuit
+abbrev pub IsByTests : CircuitView → Result Unit Blame → Step CircuitView → Type 0
+IsByTests circuit (Err blame) step = step ≡ refuses blame.place (cause.Model blame.cause)
+IsByTests circuit (Ok done) step = IsSolutionStep circuit step
 
 pub record IsSolve (circuit : CircuitView) (step : Step CircuitView) : Type 0 where
   pub answer : Result Unit Blame
   pub right : IsTested circuit answer
-  pub step_is : step ≡ by_tests circuit answer
+  pub step_is : IsByTests circuit answer step
 
 abbrev pub IsStepOf : Applied → Step CircuitView → Type 0
 IsStepOf (nothing_left circuit) step = step ≡ changes circuit

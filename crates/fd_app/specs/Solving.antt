@@ -1,5 +1,5 @@
 -- What a Solve of a circuit that passed the tests comes to.
-use Rattle.std.specs.Prelude.{ℕ, ℤ, pos, List, Option, Some, None, Result, Ok, Err}
+use Rattle.std.specs.Prelude.{◌≡◌, ℕ, ℤ, pos, List, Option, Some, None, Result, Ok, Err}
 use Rattle.std.specs.Option.{unwrap_or}
 use Rattle.fd_exact.specs.States.{part}
 use Rattle.dss_profile.specs.declared.command.Blame.{Blame}
@@ -24,7 +24,7 @@ use Rattle.fd_report.specs.declared.faults.Fault.TheVariants as fault
 use Rattle.fd_outcome.specs.Settles.{Round}
 use Rattle.fd_outcome.specs.Work.{Step}
 use Rattle.fd_app.specs.Built.{unbuilt_place}
-use Rattle.fd_app.specs.Steps.{changes, fails, refuses, round_of, solves}
+use Rattle.fd_app.specs.Steps.{fails, refuses, round_of, solves}
 
 -- ---- the network, the procedure's limits, and mismatches
 
@@ -62,30 +62,30 @@ unless_loose c r (Some row) = fails c (fault.Loose (name_at (layout_of c.element
 abbrev pub judged : CircuitView → Round → Step CircuitView
 judged c r = unless_loose c r (first_past greatest_mismatch r.mismatches)
 
--- the procedure's fault; its definition gives no want of memory
-abbrev pub unsolved : CircuitView → SolveFault → Step CircuitView
-unsolved c (procedure.NoInverse column stop) = fails c (fault.NoInverse (name_at (layout_of c.elements) column) stop)
-unsolved c (procedure.OutOfRange place step) = fails c (fault.OutOfRange (name_at (layout_of c.elements) place) step)
-unsolved c (procedure.NotConverged place steps update) = fails c (fault.NotConverged (name_at (layout_of c.elements) place) steps update)
-unsolved c procedure.NoMemory = changes c
+-- the procedure's fault; its definition gives no want of memory, so no step comes of that
+abbrev pub IsUnsolved : CircuitView → SolveFault → Step CircuitView → Type 0
+IsUnsolved c (procedure.NoInverse column stop) step = step ≡ fails c (fault.NoInverse (name_at (layout_of c.elements) column) stop)
+IsUnsolved c (procedure.OutOfRange place k) step = step ≡ fails c (fault.OutOfRange (name_at (layout_of c.elements) place) k)
+IsUnsolved c (procedure.NotConverged place steps update) step = step ≡ fails c (fault.NotConverged (name_at (layout_of c.elements) place) steps update)
+IsUnsolved c procedure.NoMemory step = ⊥
 
 -- the point that the procedure reaches is judged by its mismatches in the network
-abbrev pub by_point : CircuitView → NetworkView → Result (List ℤ × List (List ℤ)) SolveFault → Step CircuitView
-by_point c v (Ok point) = judged c (round_of point.0 point.1 (mismatches_of v point.0))
-by_point c v (Err f) = unsolved c f
+abbrev pub IsByPoint : CircuitView → NetworkView → Result (List ℤ × List (List ℤ)) SolveFault → Step CircuitView → Type 0
+IsByPoint c v (Ok point) step = step ≡ judged c (round_of point.0 point.1 (mismatches_of v point.0))
+IsByPoint c v (Err f) step = IsUnsolved c f step
 
-abbrev pub by_network : CircuitView → NetworkView → Step CircuitView
-by_network c v = by_point c v (solution_of v (limits_of c.options))
+abbrev pub IsByNetwork : CircuitView → NetworkView → Step CircuitView → Type 0
+IsByNetwork c v step = IsByPoint c v (solution_of v (limits_of c.options)) step
 
-abbrev pub by_range : CircuitView → Option Blame → Step CircuitView
-by_range c None = by_network c (snapshot_network c)
-by_range c (Some blame) = refuses blame.place (cause.Model blame.cause)
+abbrev pub IsByRange : CircuitView → Option Blame → Step CircuitView → Type 0
+IsByRange c None step = IsByNetwork c (snapshot_network c) step
+IsByRange c (Some blame) step = step ≡ refuses blame.place (cause.Model blame.cause)
 
-abbrev pub by_built : CircuitView → Option Place → Step CircuitView
-by_built c None = by_range c (snapshot_blame c)
-by_built c (Some place) = refuses place cause.NotBuilt
+abbrev pub IsByBuilt : CircuitView → Option Place → Step CircuitView → Type 0
+IsByBuilt c None step = IsByRange c (snapshot_blame c) step
+IsByBuilt c (Some place) step = step ≡ refuses place cause.NotBuilt
 
 -- the first element that isn't solved yet refuses the script, then the one to blame for the range; else the procedure ends with a
 -- fault, or with a point, which is the solution where no mismatch is above the greatest
-unfoldable pub solution_step : CircuitView → Step CircuitView
-solution_step c = by_built c (unbuilt_place c.elements)
+unfoldable pub IsSolutionStep : CircuitView → Step CircuitView → Type 0
+IsSolutionStep c step = IsByBuilt c (unbuilt_place c.elements) step

@@ -22,7 +22,7 @@ ghost use Rattle.fd_app.specs.Answered.{IsSound, answered};
 ghost use Rattle.fd_app.specs.Built.{is_built, unbuilt_place};
 ghost use Rattle.fd_app.specs.Headline.{AreMismatches, IsReached};
 ghost use Rattle.fd_app.specs.Steps.{round_of};
-ghost use Rattle.fd_app.specs.Solving.{by_network, by_point, by_range, greatest_mismatch, judged, limits_of, mismatches_of, snapshot_blame, snapshot_network, solution_step};
+ghost use Rattle.fd_app.specs.Solving.{IsByNetwork, IsByPoint, IsByRange, IsSolutionStep, greatest_mismatch, judged, limits_of, mismatches_of, snapshot_blame, snapshot_network};
 
 use crate::answer::{Answer, SolvedState, refused};
 use dss_circuit::{Circuit, Element, Place};
@@ -181,10 +181,11 @@ fn judge(
 }
 
 // What a fault of the procedure comes to.
+#[tactic(auto, using(crate::proofs::SnapshotNetworks::by_fault))]
 fn unsolved(alloc: Global, layout: &Layout, fault: SolveFault) -> Result<Answer, AllocError>
     requires { IsInside (size_of layout.now) fault }
     ensures { (circuit : CircuitView) (v : NetworkView) (said : Result (List ℤ × List (List ℤ)) SolveFault) → layout.now ≡ layout_of circuit.elements → UnlessMemory fault (said ≡ Err fault) →
-        IfOk result (λ answer. (answered answer circuit ≡ by_point circuit v said) × IsSound answer circuit) }
+        IfOk result (λ answer. IsByPoint circuit v said (answered answer circuit) × IsSound answer circuit) }
 {
     match fault {
         SolveFault::NoInverse { column, cause } => {
@@ -216,7 +217,7 @@ fn solve_network(alloc: Global, circuit: &Circuit, net: &Network) -> Result<Answ
     requires few { first_too_many circuit.now.elements ≡ None }
     requires network { net.now ≡ snapshot_network circuit.now }
     requires agrees { AgreesWith net.now.share (circuit_parts circuit.now (snapshot_of circuit.now.elements)) }
-    ensures { IfOk result (λ answer. (answered answer circuit.now ≡ by_network circuit.now (snapshot_network circuit.now)) × IsSound answer circuit.now) }
+    ensures { IfOk result (λ answer. IsByNetwork circuit.now (snapshot_network circuit.now) (answered answer circuit.now) × IsSound answer circuit.now) }
 {
     let limits = limits_of(circuit.options());
     match solve(alloc, net, &limits) {
@@ -231,7 +232,7 @@ fn solve_network(alloc: Global, circuit: &Circuit, net: &Network) -> Result<Answ
 // What a circuit whose elements are all solved comes to.
 fn solve_built(alloc: Global, circuit: &Circuit) -> Result<Answer, AllocError>
     requires ready { HasPassed circuit.now }
-    ensures { IfOk result (λ answer. (answered answer circuit.now ≡ by_range circuit.now (snapshot_blame circuit.now)) × IsSound answer circuit.now) }
+    ensures { IfOk result (λ answer. IsByRange circuit.now (snapshot_blame circuit.now) (answered answer circuit.now) × IsSound answer circuit.now) }
 {
     match network_of(alloc, circuit) {
         Ok(net) => solve_network(alloc, circuit, &net),
@@ -246,7 +247,7 @@ fn solve_built(alloc: Global, circuit: &Circuit) -> Result<Answer, AllocError>
 /// with its mismatches.
 pub(crate) fn answer(alloc: Global, circuit: &Circuit) -> Result<Answer, AllocError>
     requires { HasPassed circuit.now }
-    ensures { IfOk result (λ answer. (answered answer circuit.now ≡ solution_step circuit.now) × IsSound answer circuit.now) }
+    ensures { IfOk result (λ answer. IsSolutionStep circuit.now (answered answer circuit.now) × IsSound answer circuit.now) }
 {
     match first_unbuilt(circuit) {
         Some(place) => refused(alloc, place, Cause::NotBuilt),

@@ -10,10 +10,10 @@ returns-in-Some c =
     let circuit = c.args.circuit.now in
     let place = c.in-Some.place.now in
     let unbuilt : unbuilt_place circuit.elements ≡ Some place = sym c.first_unbuilt.ensures ∙ ap (option_map (λ p. p.now)) c.in-Some.is in
-    if_ok_weaker c.refused.result _ _ (λ a h. ((h circuit).0 ∙ sym (solved_unbuilt circuit place unbuilt), (h circuit).1)) c.refused.ensures
+    if_ok_weaker c.refused.result _ _ (λ a h. (solved_unbuilt circuit place _ unbuilt (h circuit).0, (h circuit).1)) c.refused.ensures
 
 pub returns-in-None : goal.returns-in-None
 returns-in-None c =
     let circuit = c.args.circuit.now in
     let built : unbuilt_place circuit.elements ≡ None = sym c.first_unbuilt.ensures ∙ ap (option_map (λ p. p.now)) c.in-None.is in
-    if_ok_weaker c.solve_built.result _ _ (λ a h. (h.0 ∙ sym (solved_built circuit built), h.1)) c.solve_built.ensures
+    if_ok_weaker c.solve_built.result _ _ (λ a h. (solved_built circuit _ built h.0, h.1)) c.solve_built.ensures

@@ -4,7 +4,8 @@ use Rattle.fd_inject.specs.Faults.{IsInside}
 use Rattle.fd_inject.specs.Procedure.{solution_of}
 use Rattle.fd_inject.proofs.Limited.{unless_more}
 use Rattle.fd_app.specs.Solving.{limits_of, snapshot_network}
-use Rattle.fd_app.proofs.SnapshotNetworks.{network_size}
+use Rattle.fd_app.proofs.SnapshotNetworks.{by_reached, network_size}
+use Rattle.fd_app.proofs.Weaker.{if_ok_weaker}
 use Rattle.fd_app.proofs.solving.solve_network.Goals as goal
 
 pub judge-requires-clause-reached : goal.judge-requires-clause-reached
@@ -24,3 +25,10 @@ returns-in_ok-layout-in-Err c =
     let said = ap (λ v. solution_of v (limits_of circuit.options)) (sym c.requires.network) ∙ ap (solution_of c.args.net.now) (sym limits) in
     c.unsolved.ensures circuit (snapshot_network circuit) (solution_of (snapshot_network circuit) (limits_of circuit.options)) c.in_ok-layout-in-Err.ensures
     (unless_more c.in-Err.fault (λ is. said ∙ is) c.in-Err.ensures.fault)
+
+pub returns-in-Ok : goal.returns-in-Ok
+returns-in-Ok c =
+    let limits = c.limits_of-limits.ensures.limits ∙ ap limits_of c.options.ensures.value in
+    let reached = ap (λ v. solution_of v (limits_of c.args.circuit.now.options)) (sym c.requires.network) ∙ ap (solution_of c.args.net.now) (sym limits) ∙ c.in-Ok.ensures.point in
+    if_ok_weaker c.judge.result _ _
+    (λ a h. (by_reached c.args.circuit.now c.in-Ok.point.x.items c.in-Ok.point.inverse c.args.net.now _ c.requires.network reached h.0, h.1)) c.judge.ensures

@@ -8,34 +8,34 @@ use Rattle.fd_app.proofs.Handed.{cut_never, ends_failed, ends_refused, ends_solv
 use Rattle.fd_app.proofs.Tests.{one_step}
 use Rattle.fd_app.proofs.Weaker.{at_none, if_some_weaker}
 use Rattle.fd_app.proofs.Weights.{command_takes}
-use Rattle.fd_app.proofs.solve.do_command.Goals as goal
+use Rattle.fd_app.proofs.solve.CircuitLine.take.Goals as goal
 
 pub returns-in-Ok-Done-clause-goes : goal.returns-in-Ok-Done-clause-goes
 returns-in-Ok-Done-clause-goes g c none =
     let is = rw c.in-Ok-Done.field-0-is at c.in-Ok-Done.ensures in
-    goes_changed (IsStep c.args.command.now c.args.circuit.now) g.S.Sink.taken g.S.Sink.calls c.answer_to.new.circuit c.args.out.now c.args.begun.now is.0
+    goes_changed (IsStep c.args.command c.args.self.now) g.S.Sink.taken g.S.Sink.calls c.answer_to.new.circuit c.args.out.now c.args.begun.now is.0
 
 pub returns-in-Ok-Done-clause-room : goal.returns-in-Ok-Done-clause-room
 returns-in-Ok-Done-clause-room g c none =
     let is = rw c.in-Ok-Done.field-0-is at c.in-Ok-Done.ensures in
-    command_takes c.args.command.now c.args.circuit.now c.answer_to.new.circuit [] is.0
+    command_takes c.args.command c.args.self.now c.answer_to.new.circuit [] is.0
 
 pub returns-in-Ok-Solves-clause-goes : goal.returns-in-Ok-Solves-clause-goes
 returns-in-Ok-Solves-clause-goes g c none =
     let is = rw c.in-Ok-Solves.field-0-is at c.in-Ok-Solves.ensures in
-    goes_solved (IsStep c.args.command.now c.args.circuit.now) g.S.Sink.taken g.S.Sink.calls c.answer_to.new.circuit c.args.out.now c.print_solution.new.out c.args.begun.now (round_in c.in-Ok-Solves.solved) is.0 is.1.solution
+    goes_solved (IsStep c.args.command c.args.self.now) g.S.Sink.taken g.S.Sink.calls c.answer_to.new.circuit c.args.out.now c.print_solution.new.out c.args.begun.now (round_in c.in-Ok-Solves.solved) is.0 is.1.solution
     (at_none c.print_solution.result none c.print_solution.ensures.goes)
 
 pub returns-in-Ok-Solves-clause-room : goal.returns-in-Ok-Solves-clause-room
 returns-in-Ok-Solves-clause-room g c none =
     let is = rw c.in-Ok-Solves.field-0-is at c.in-Ok-Solves.ensures in
-    command_takes c.args.command.now c.args.circuit.now c.answer_to.new.circuit (settle (snapshot_settle c.answer_to.new.circuit (round_in c.in-Ok-Solves.solved ∷ []) settled) ∷ []) is.0
+    command_takes c.args.command c.args.self.now c.answer_to.new.circuit (settle (snapshot_settle c.answer_to.new.circuit (round_in c.in-Ok-Solves.solved ∷ []) settled) ∷ []) is.0
 
 pub returns-in-Ok-Solves-clause-ends : goal.returns-in-Ok-Solves-clause-ends
 returns-in-Ok-Solves-clause-ends g c =
     let is = rw c.in-Ok-Solves.field-0-is at c.in-Ok-Solves.ensures in
     if_some_weaker c.print_solution.result _ _
-    (λ code cut. ends_solved (IsStep c.args.command.now c.args.circuit.now) g.S.Sink.taken g.S.Sink.calls c.answer_to.new.circuit c.args.out.now c.print_solution.new.out c.args.begun.now (round_in c.in-Ok-Solves.solved) code is.0 is.1.solution cut)
+    (λ code cut. ends_solved (IsStep c.args.command c.args.self.now) g.S.Sink.taken g.S.Sink.calls c.answer_to.new.circuit c.args.out.now c.print_solution.new.out c.args.begun.now (round_in c.in-Ok-Solves.solved) code is.0 is.1.solution cut)
     c.print_solution.ensures.ends
 
 pub returns-in-Ok-Solves-clause-usage : goal.returns-in-Ok-Solves-clause-usage
@@ -49,7 +49,7 @@ returns-in-Ok-Solves-clause-read g c = if_some_weaker c.print_solution.result _ 
 pub returns-in-Ok-Refuses-clause-ends : goal.returns-in-Ok-Refuses-clause-ends
 returns-in-Ok-Refuses-clause-ends g c =
     let is = rw c.in-Ok-Refuses.field-0-is at c.in-Ok-Refuses.ensures in
-    ends_refused (IsStep c.args.command.now c.args.circuit.now) g.S.Sink.taken g.S.Sink.calls c.answer_to.new.circuit c.args.out.now c.print_fault.new.out c.args.begun.now c.in-Ok-Refuses.fault c.print_fault.result is.0 c.print_fault.ensures.prints
+    ends_refused (IsStep c.args.command c.args.self.now) g.S.Sink.taken g.S.Sink.calls c.answer_to.new.circuit c.args.out.now c.print_fault.new.out c.args.begun.now c.in-Ok-Refuses.fault c.print_fault.result is.0 c.print_fault.ensures.prints
 
 pub returns-in-Ok-Refuses-clause-usage : goal.returns-in-Ok-Refuses-clause-usage
 returns-in-Ok-Refuses-clause-usage g c =
@@ -64,7 +64,7 @@ returns-in-Ok-Refuses-clause-read g c =
 pub returns-in-Ok-Fails-clause-ends : goal.returns-in-Ok-Fails-clause-ends
 returns-in-Ok-Fails-clause-ends g c =
     let is = rw c.in-Ok-Fails.field-0-is at c.in-Ok-Fails.ensures in
-    ends_failed (IsStep c.args.command.now c.args.circuit.now) g.S.Sink.taken g.S.Sink.calls c.answer_to.new.circuit c.args.out.now c.print_fault-in-Ok-Fails.new.out c.args.begun.now c.in-Ok-Fails.fault c.print_fault-in-Ok-Fails.result is.0 c.print_fault-in-Ok-Fails.ensures.prints
+    ends_failed (IsStep c.args.command c.args.self.now) g.S.Sink.taken g.S.Sink.calls c.answer_to.new.circuit c.args.out.now c.print_fault-in-Ok-Fails.new.out c.args.begun.now c.in-Ok-Fails.fault c.print_fault-in-Ok-Fails.result is.0 c.print_fault-in-Ok-Fails.ensures.prints
 
 pub returns-in-Ok-Fails-clause-usage : goal.returns-in-Ok-Fails-clause-usage
 returns-in-Ok-Fails-clause-usage g c =
@@ -76,6 +76,6 @@ returns-in-Ok-Fails-clause-read g c =
     let is = rw c.in-Ok-Fails.field-0-is at c.in-Ok-Fails.ensures in
     never_read g.S.Sink.taken g.S.Sink.calls c.args.out.now c.print_fault-in-Ok-Fails.new.out c.in-Ok-Fails.fault c.print_fault-in-Ok-Fails.result is.1 c.print_fault-in-Ok-Fails.ensures.prints
 
-pub returns-in-Err-clause-ends : goal.returns-in-Err-clause-ends
-returns-in-Err-clause-ends g c =
-    ends_without_memory (IsStep c.args.command.now c.args.circuit.now) g.S.Sink.taken g.S.Sink.calls c.args.circuit.now c.args.out.now c.args.begun.now (one_step c.args.command.now c.args.circuit.now)
+pub returns-clause-ends : goal.returns-clause-ends
+returns-clause-ends g c =
+    ends_without_memory (IsStep c.args.command c.args.self.now) g.S.Sink.taken g.S.Sink.calls c.args.self.now c.args.out.now c.args.begun.now (one_step c.args.command c.args.self.now)
