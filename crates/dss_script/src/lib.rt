@@ -21,8 +21,6 @@ mod meaning;
 mod path;
 mod reading;
 mod session;
-#[cfg(test)]
-mod tests;
 
 pub use bounds::commands_are_few;
 pub use fault::{ScriptCause, SessionFault};

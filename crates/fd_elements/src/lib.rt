@@ -24,6 +24,3 @@ pub use lines::line_data;
 pub use loads::load_phase;
 pub use powers::{LoadPower, load_power};
 pub use sources::source_data;
-
-#[cfg(test)]
-mod tests;

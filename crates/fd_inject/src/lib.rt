@@ -14,8 +14,6 @@ mod limits;
 mod procedure;
 mod ranges;
 mod steps;
-#[cfg(test)]
-mod tests;
 mod updates;
 
 pub use fault::SolveFault;

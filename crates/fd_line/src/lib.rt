@@ -18,6 +18,3 @@ pub use data::{ChargeForm, Entries, LineData, LineForm};
 pub use laws::line_law;
 pub use terms::{line_terms, susceptance};
 pub use totals::{reactance, resistance};
-
-#[cfg(test)]
-mod tests;

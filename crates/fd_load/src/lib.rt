@@ -22,6 +22,3 @@ pub use laws::{current_law, magnitude_law, slope_law};
 pub use limits::is_load_past;
 pub use power::{clamped_magnitude, clamped_square, nominal_times_magnitude, square};
 pub use slopes::{SlopeRow, Slopes, admittance, rounded_slopes};
-
-#[cfg(test)]
-mod tests;

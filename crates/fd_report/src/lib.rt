@@ -21,6 +21,3 @@ mod solution;
 pub use faults::{Cause, Fault, name_at, record, status};
 pub use number::{micro_text, size_text};
 pub use solution::records;
-
-#[cfg(test)]
-mod tests;

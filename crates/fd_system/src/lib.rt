@@ -26,6 +26,3 @@ pub use rows::{add_constant, add_term, greater_size};
 pub use series::{add_drop, thirds};
 pub use stamps::{add_imaginary, add_one, add_real, add_shunt, add_stamp};
 pub use terminals::{NodePair, PhasePairs, node, phase_pair, phase_pairs, phase_volts};
-
-#[cfg(test)]
-mod tests;
