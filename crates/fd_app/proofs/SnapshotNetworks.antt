@@ -31,7 +31,7 @@ use Rattle.fd_inject.specs.Ranges.{SizesWithin, first_past}
 use Rattle.fd_report.specs.declared.faults.Cause.TheVariants as cause
 use Rattle.fd_app.specs.Headline.{AreMismatches, IsReached, IsSolution}
 use Rattle.fd_app.specs.Steps.{refuses, round_of, solves}
-use Rattle.fd_app.specs.Solving.{IsByBuilt, IsByNetwork, IsByPoint, IsByRange, IsSolutionStep, IsUnsolved, greatest_mismatch, judged, mismatch_at, mismatches_of, snapshot_blame, snapshot_network, unless_loose}
+use Rattle.fd_app.specs.Solving.{IsByBuilt, IsByNetwork, IsByPoint, IsByRange, IsSolutionStep, IsUnsolved, greatest_mismatch, judged, mismatch_at, mismatches_of, snapshot_blame, snapshot_network, unless_loose, no_ends}
 
 -- ---- the settings of a script
 
@@ -57,7 +57,7 @@ network_size c v is = ap (λ n. n.size) is ∙ snapshot_size c
 -- ---- mismatches
 
 -- where a row's interval has ends, its residual is within the mismatch
-row_within : (row : Bounds) (f : Fraction) (n : ℕ) → Holds row f → EndsWithin row f n → SizeWithin f (nat_abs (unwrap_or (greater_size row) (pos 0)))
+row_within : (row : Bounds) (f : Fraction) (n : ℕ) → Holds row f → EndsWithin row f n → SizeWithin f (nat_abs (unwrap_or (greater_size row) no_ends))
 row_within None f n h near = absurd near
 row_within (Some e) f n h near = greater_size_held (Some e) _ refl f h
 
@@ -75,7 +75,7 @@ meets_rows v x holds near l h =
     subst S (sym e) within
 
 -- an interval with ends has a mismatch
-row_known : (row : Bounds) (f : Fraction) (n : ℕ) → EndsWithin row f n → greater_size row ≡ Some (unwrap_or (greater_size row) (pos 0))
+row_known : (row : Bounds) (f : Fraction) (n : ℕ) → EndsWithin row f n → greater_size row ≡ Some (unwrap_or (greater_size row) no_ends)
 row_known None f n near = absurd near
 row_known (Some e) f n near = refl
 
@@ -94,9 +94,9 @@ unfolding mismatches_of
 mismatches_long v x = length-map-range_with_len (mismatch_at v x) 0 v.size
 
 -- the mismatches of the intervals of all rows are those of the rows
-pub mismatches_by : (v : NetworkView) (x : List ℤ) → map (λ row. unwrap_or (greater_size row) (pos 0)) (interval_residual_of v x) ≡ mismatches_of v x
+pub mismatches_by : (v : NetworkView) (x : List ℤ) → map (λ row. unwrap_or (greater_size row) no_ends) (interval_residual_of v x) ≡ mismatches_of v x
 unfolding mismatches_of
-mismatches_by v x = map-map (λ row. unwrap_or (greater_size row) (pos 0)) (residual_interval v.share x) (range_with_len 0 v.size)
+mismatches_by v x = map-map (λ row. unwrap_or (greater_size row) no_ends) (residual_interval v.share x) (range_with_len 0 v.size)
 
 -- a state of which no mismatch is above the greatest is a solution
 pub judged_solved : (c : CircuitView) (x e m : List ℤ) (inverse : List (List ℤ)) → e ≡ m → None ≡ first_past greatest_mismatch e → solves c (round_of x inverse e) ≡ judged c (round_of x inverse m)

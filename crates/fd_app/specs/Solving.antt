@@ -40,17 +40,21 @@ snapshot_blame c = range_blame c.elements (devices_of c (snapshot_of c.elements)
 abbrev pub limits_of : Options → Limits
 limits_of o = record { max_iterations = o.maxiterations; tolerance = o.tolerance }
 
--- the mismatch of a row at a state: the greater size of the ends of its residual in intervals. At a point of a network that interval
--- has ends in every row, so the 0 for a row without is never taken
-abbrev pub mismatch_at : NetworkView → List ℤ → ℕ → ℤ
-mismatch_at v x l = unwrap_or (mismatch_of v.share x l) (pos 0)
-
-unfoldable pub mismatches_of : NetworkView → List ℤ → List ℤ
-mismatches_of v x = list_of v.size (mismatch_at v x)
-
 -- the greatest mismatch of a solution, in whole microvolts or microamperes
 abbrev pub greatest_mismatch : ℕ
 greatest_mismatch = 1000
+
+-- a row whose residual has no ends counts as one above the greatest mismatch, so its state is no solution
+abbrev pub no_ends : ℤ
+no_ends = pos 1001
+
+-- the mismatch of a row at a state: the greater size of the ends of its residual in intervals. At a point of a network that interval
+-- has ends in every row
+abbrev pub mismatch_at : NetworkView → List ℤ → ℕ → ℤ
+mismatch_at v x l = unwrap_or (mismatch_of v.share x l) no_ends
+
+unfoldable pub mismatches_of : NetworkView → List ℤ → List ℤ
+mismatches_of v x = list_of v.size (mismatch_at v x)
 
 -- ---- the step
 

@@ -22,7 +22,7 @@ ghost use Rattle.fd_app.specs.Answered.{IsSound, answered};
 ghost use Rattle.fd_app.specs.Built.{is_built, unbuilt_place};
 ghost use Rattle.fd_app.specs.Headline.{AreMismatches, IsReached};
 ghost use Rattle.fd_app.specs.Steps.{round_of};
-ghost use Rattle.fd_app.specs.Solving.{IsByNetwork, IsByPoint, IsByRange, IsSolutionStep, greatest_mismatch, judged, limits_of, mismatches_of, snapshot_blame, snapshot_network};
+ghost use Rattle.fd_app.specs.Solving.{IsByNetwork, IsByPoint, IsByRange, IsSolutionStep, greatest_mismatch, judged, limits_of, mismatches_of, no_ends, snapshot_blame, snapshot_network};
 
 use crate::answer::{Answer, SolvedState, refused};
 use dss_circuit::{Circuit, Element, Place};
@@ -36,6 +36,9 @@ use fd_network::build;
 use fd_report::{Cause, Fault, name_at};
 use fd_system::greater_size;
 use std::alloc::{AllocError, Global};
+
+// What a row whose residual has no ends counts as: one above the greatest mismatch.
+const NO_ENDS: i128 = 1_001;
 
 // The greatest mismatch of a solution, in whole microvolts or microamperes.
 const GREATEST_MISMATCH: u128 = 1000;
@@ -108,14 +111,14 @@ fn network_of(alloc: Global, circuit: &Circuit) -> Result<Network, BuildFault>
 
 // The greater size of the ends of a row's residual, in whole micro-units. At a point of a network it has ends in every row.
 fn mismatch_of(row: Interval<Micro>) -> i128
-    ensures { result ≡ unwrap_or (greater_end row) (pos 0) }
+    ensures { result ≡ unwrap_or (greater_end row) no_ends }
 {
-    greater_size(row).unwrap_or(0)
+    greater_size(row).unwrap_or(NO_ENDS)
 }
 
 // The mismatches of these rows.
 fn mismatches_in(alloc: Global, rows: &[Interval<Micro>]) -> Result<Vec<i128>, AllocError>
-    ensures { IfOk result (λ e. e.items ≡ map (λ row. unwrap_or (greater_end row) (pos 0)) rows.now) }
+    ensures { IfOk result (λ e. e.items ≡ map (λ row. unwrap_or (greater_end row) no_ends) rows.now) }
 {
     let mut mismatches = Vec::with_capacity(alloc, rows.len())?;
     for row in rows {

@@ -6,14 +6,14 @@ use Rattle.fd_system.specs.Residual.{greater_size, whole_state}
 use Rattle.fd_system.specs.System.{residual_of}
 use Rattle.fd_equations.specs.Enclosure.{EndsWithin, summand_count}
 use Rattle.fd_app.specs.Headline.{AreMismatches}
-use Rattle.fd_app.specs.Solving.{mismatches_of}
+use Rattle.fd_app.specs.Solving.{mismatches_of, no_ends}
 use Rattle.fd_app.proofs.SnapshotNetworks.{meets_rows, mismatches_by, mismatches_due}
 use Rattle.fd_app.proofs.Weaker.{if_ok_weaker}
 use Rattle.fd_app.proofs.solving.mismatches_of.Goals as goal
 
 pub returns-clause-mismatches : goal.returns-clause-mismatches
 returns-clause-mismatches c = if_ok_weaker c.mismatches_in.result _ _
-    (λ e is. is ∙ ap (map (λ row. unwrap_or (greater_size row) (pos 0))) (c.deref.ensures.value ∙ c.in_ok-rows.ensures.rows) ∙ mismatches_by c.args.net.now c.args.x.now) c.mismatches_in.ensures
+    (λ e is. is ∙ ap (map (λ row. unwrap_or (greater_size row) no_ends)) (c.deref.ensures.value ∙ c.in_ok-rows.ensures.rows) ∙ mismatches_by c.args.net.now c.args.x.now) c.mismatches_in.ensures
 
 pub returns-clause-meets : goal.returns-clause-meets
 returns-clause-meets c =
