@@ -5,7 +5,7 @@ use Rattle.std.specs.Option.{unwrap_or}
 use Rattle.std.proofs.lemmas.Simd.{map-map}
 use Rattle.std.proofs.lemmas.List.FromFn.{get_or-map-range_with_len, length-map-range_with_len}
 use Rattle.fd_exact.specs.Fractions.{Fraction, SizeWithin}
-use Rattle.fd_exact.specs.States.{part}
+use Rattle.fd_exact.specs.States.{part, size_at}
 use Rattle.fd_arith.specs.Interval.{Bounds, Holds}
 use Rattle.fd_system.specs.Equations.{equation}
 use Rattle.fd_system.specs.Meets.{Meets}
@@ -62,7 +62,7 @@ row_within None f n h near = absurd near
 row_within (Some e) f n h near = greater_size_held (Some e) _ refl f h
 
 pub meets_rows : (v : NetworkView) (x : List ℤ) → ((l : ℕ) → l < v.size → Holds (get_or (interval_residual_of v x) l None) (residual_of v.share (whole_state x) l))
-    → ((l : ℕ) → l < v.size → EndsWithin (get_or (interval_residual_of v x) l None) (residual_of v.share (whole_state x) l) (2 * summand_count v.share l)) → Meets (residual_of v.share) (mismatches_of v x) v.size (whole_state x)
+    → ((l : ℕ) → l < v.size → EndsWithin (get_or (interval_residual_of v x) l None) (residual_of v.share (whole_state x) l) (2 * summand_count v.share l)) → Meets (residual_of v.share) (size_at (mismatches_of v x)) v.size (whole_state x)
 unfolding mismatches_of
 meets_rows v x holds near l h =
     let row : get_or (interval_residual_of v x) l None ≡ residual_interval v.share x l = get_or-map-range_with_len (residual_interval v.share x) 0 v.size l l None h (omega arith) in
@@ -103,15 +103,15 @@ pub judged_solved : (c : CircuitView) (x e m : List ℤ) (inverse : List (List �
 judged_solved c x e m inverse is none = ap (λ l. solves c (round_of x inverse l)) is ∙ ap (unless_loose c (round_of x inverse m)) (none ∙ ap (first_past greatest_mismatch) is)
 
 pub is_solution : (c : CircuitView) (v : NetworkView) (x e : List ℤ) (inverse : List (List ℤ)) → v ≡ snapshot_network c → AgreesWith v.share (circuit_parts c (snapshot_of c.elements)) → IsReached c x inverse → length e ≡ v.size → AreMismatches v x e
-    → SizesWithin greatest_mismatch e → Meets (residual_of v.share) e v.size (whole_state x) → IsSolution c (round_of x inverse e)
+    → SizesWithin greatest_mismatch e → Meets (residual_of v.share) (size_at e) v.size (whole_state x) → IsSolution c (round_of x inverse e)
 is_solution c v x e inverse is agrees reached long due small meets =
-    let P : ℕ → Type 0 = λ n. Meets (λ y l. equation l (circuit_parts c (snapshot_of c.elements) y)) e n (whole_state x) in
+    let P : ℕ → Type 0 = λ n. Meets (λ y l. equation l (circuit_parts c (snapshot_of c.elements) y)) (size_at e) n (whole_state x) in
     record {
       state = reached;
       long = long ∙ network_size c v is;
       due = subst (λ (n : NetworkView). AreMismatches n x e) is due;
       small = small;
-      meets = subst P (network_size c v is) (agrees.up e v.size (whole_state x) (omega arith) meets);
+      meets = subst P (network_size c v is) (agrees.up (size_at e) v.size (whole_state x) (omega arith) meets);
     }
 
 -- ---- the step of a Solve

@@ -1,7 +1,7 @@
 -- What a printed solution is.
 use Rattle.std.specs.Prelude.{◌≡◌, ◌<◌, ℕ, ℤ, List, length, Some, Ok}
 use Rattle.std.specs.List.{All}
-use Rattle.fd_exact.specs.States.{part}
+use Rattle.fd_exact.specs.States.{part, size_at}
 use Rattle.dss_layout.specs.Layout.{layout_of, size_of}
 use Rattle.dss_circuit.specs.Circuit.{CircuitView}
 use Rattle.fd_system.specs.Equations.{equation}
@@ -31,7 +31,7 @@ pub record IsSolution (circuit : CircuitView) (r : Round) : Type 0 where
   pub long : length r.mismatches ≡ size_of (layout_of circuit.elements)
   pub due : AreMismatches (snapshot_network circuit) r.centre r.mismatches
   pub small : SizesWithin greatest_mismatch r.mismatches
-  pub meets : Meets (λ y l. equation l (circuit_parts circuit (snapshot_of circuit.elements) y)) r.mismatches (size_of (layout_of circuit.elements)) (whole_state r.centre)
+  pub meets : Meets (λ y l. equation l (circuit_parts circuit (snapshot_of circuit.elements) y)) (size_at r.mismatches) (size_of (layout_of circuit.elements)) (whole_state r.centre)
 
 -- each round of a settle is a solution of its circuit
 abbrev pub IsSolved : Settle → Type 0

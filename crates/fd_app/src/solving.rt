@@ -5,6 +5,7 @@ ghost use Rattle.dss_profile.specs.InRange.{OptionsInRange};
 ghost use Rattle.dss_layout.specs.Layout.{first_too_many, layout_of, size_of};
 ghost use Rattle.dss_circuit.specs.Circuit.{CircuitView};
 ghost use Rattle.dss_ready.specs.Ready.{HasPassed};
+ghost use Rattle.fd_exact.specs.States.{size_at};
 ghost use Rattle.fd_system.specs.Meets.{Meets};
 ghost use Rattle.fd_system.specs.Residual.{greater_size as greater_end, whole_state};
 ghost use Rattle.fd_system.specs.System.{residual_of};
@@ -132,7 +133,7 @@ fn mismatches_of(alloc: Global, net: &Network, x: &[i128]) -> Result<Vec<i128>, 
     requires { IsPoint net.now x.now }
     ensures mismatches { IfOk result (λ e. e.items ≡ mismatches_of net.now x.now) }
     ensures due { IfOk result (λ e. AreMismatches net.now x.now e.items) }
-    ensures meets { IfOk result (λ e. Meets (residual_of net.now.share) e.items net.now.size (whole_state x.now)) }
+    ensures meets { IfOk result (λ e. Meets (residual_of net.now.share) (size_at e.items) net.now.size (whole_state x.now)) }
 {
     let rows = net.residual(alloc, x)?;
     mismatches_in(alloc, &rows)

@@ -109,8 +109,8 @@ beside a b = record {
 -- the two levels give the same number in every row at every state, so a state meets numbers in one where it does in the other
 pub record AgreesWith (s : Share) (ps : State → List Part) : Type 0 where
   pub same : Represents s ps
-  pub up : (e : List ℤ) (n : ℕ) (x : State) → 0 < x.over → Meets (residual_of s) e n x → Meets (λ y l. equation l (ps y)) e n x
-  pub down : (e : List ℤ) (n : ℕ) (x : State) → 0 < x.over → Meets (λ y l. equation l (ps y)) e n x → Meets (residual_of s) e n x
+  pub up : (e : ℕ → ℕ) (n : ℕ) (x : State) → 0 < x.over → Meets (residual_of s) e n x → Meets (λ y l. equation l (ps y)) e n x
+  pub down : (e : ℕ → ℕ) (n : ℕ) (x : State) → 0 < x.over → Meets (λ y l. equation l (ps y)) e n x → Meets (residual_of s) e n x
 
 abbrev pub DeviceLaw : Type 0
 DeviceLaw = (ds : List Device) → All IsGood ds → AgreesWith (share_of_all ds) (parts_of_all ds)

@@ -6,7 +6,7 @@ use Rattle.std.proofs.Math.Nat.{mul-le-mul_right, le_of_mul-le-mul_right}
 use Rattle.std.proofs.lemmas.Int.{unsigned_abs-mul}
 use Rattle.std.proofs.lemmas.List.Elements.{All-head, All-tail}
 use Rattle.fd_exact.specs.Fractions.{Fraction, SizeWithin}
-use Rattle.fd_exact.specs.States.{State, size_at}
+use Rattle.fd_exact.specs.States.{State}
 use Rattle.fd_system.specs.Meets.{Meets}
 use Rattle.fd_arith.specs.declared.terms.Term.{Term}
 use Rattle.fd_system.specs.declared.constants.Constant.{Constant}
@@ -64,5 +64,5 @@ within_other t u d f e h c w =
 pub SizeWithin-Same : {a b : Fraction} (e : ℕ) → Same a b → SizeWithin a e → SizeWithin b e
 SizeWithin-Same {a} {b} e s h = within_other a.top b.top a.over b.over e s.left s.cross h
 
-pub Meets-Same : (F G : State → ℕ → Fraction) (e : List ℤ) (n : ℕ) (x : State) → ((l : ℕ) → Same (F x l) (G x l)) → Meets F e n x → Meets G e n x
-Meets-Same F G e n x h m l l_in = SizeWithin-Same (size_at e l) (h l) (m l l_in)
+pub Meets-Same : (F G : State → ℕ → Fraction) (e : ℕ → ℕ) (n : ℕ) (x : State) → ((l : ℕ) → Same (F x l) (G x l)) → Meets F e n x → Meets G e n x
+Meets-Same F G e n x h m l l_in = SizeWithin-Same (e l) (h l) (m l l_in)

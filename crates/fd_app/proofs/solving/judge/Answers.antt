@@ -1,5 +1,6 @@
 use Rattle.std.proofs.Common.{◌≡◌, ◌∙◌, ◌<◌, ℤ, List, length, ap, subst, sym}
 use Rattle.dss_layout.specs.Layout.{size_of}
+use Rattle.fd_exact.specs.States.{size_at}
 use Rattle.fd_system.specs.Meets.{Meets}
 use Rattle.fd_system.specs.Residual.{whole_state}
 use Rattle.fd_system.specs.System.{residual_of}
@@ -30,7 +31,7 @@ returns-in-None c =
     let size = network_size circuit v c.requires.network in
     let none = c.in-None.ensures.first ∙ ap (first_past greatest_mismatch) c.deref-2.ensures.value in
     let small = subst (SizesWithin greatest_mismatch) c.deref-2.ensures.value c.in-None.ensures.small in
-    let M : List ℤ → Type 0 = λ y. Meets (residual_of v.share) e v.size (whole_state y) in
+    let M : List ℤ → Type 0 = λ y. Meets (residual_of v.share) (size_at e) v.size (whole_state y) in
     let meets = subst M c.deref.ensures.value c.in_ok-mismatches.ensures.meets in
     let D : List ℤ → Type 0 = λ y. AreMismatches v y e in
     let rows = subst D c.deref.ensures.value c.in_ok-mismatches.ensures.due in (

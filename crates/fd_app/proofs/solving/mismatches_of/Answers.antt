@@ -1,6 +1,7 @@
 use Rattle.std.proofs.Common.{◌≡◌, ◌∙◌, ◌<◌, ◌*◌, ℕ, ℤ, pos, List, None, get_or, map, ap, subst, sym}
 use Rattle.std.specs.Option.{unwrap_or}
 use Rattle.fd_arith.specs.Interval.{Bounds, Holds}
+use Rattle.fd_exact.specs.States.{size_at}
 use Rattle.fd_system.specs.Meets.{Meets}
 use Rattle.fd_system.specs.Residual.{greater_size, whole_state}
 use Rattle.fd_system.specs.System.{residual_of}
@@ -21,7 +22,7 @@ returns-clause-meets c =
     let x = c.args.x.now in
     let H : List Bounds → Type 0 = λ rows. (l : ℕ) → l < v.size → Holds (get_or rows l None) (residual_of v.share (whole_state x) l) in
     let N : List Bounds → Type 0 = λ rows. (l : ℕ) → l < v.size → EndsWithin (get_or rows l None) (residual_of v.share (whole_state x) l) (2 * summand_count v.share l) in
-    let E : List ℤ → Type 0 = λ e. Meets (residual_of v.share) e v.size (whole_state x) in
+    let E : List ℤ → Type 0 = λ e. Meets (residual_of v.share) (size_at e) v.size (whole_state x) in
     let meets = meets_rows v x (subst H c.in_ok-rows.ensures.rows c.in_ok-rows.ensures.holds) (subst N c.in_ok-rows.ensures.rows c.in_ok-rows.ensures.near) in
     if_ok_weaker c.mismatches_in.result (λ e. e.items ≡ mismatches_of v x) _ (λ e is. subst E (sym is) meets) (returns-clause-mismatches c)
 
