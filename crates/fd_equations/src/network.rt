@@ -7,7 +7,7 @@ ghost use Rattle.fd_system.specs.Contributions.{AreSmall};
 ghost use Rattle.fd_system.specs.System.{residual_of};
 ghost use Rattle.fd_system.specs.Residual.{whole_state};
 ghost use Rattle.fd_equations.specs.Coefficients.{linear_entry};
-ghost use Rattle.fd_equations.specs.Conditions.{IsKnown, IsPoint, IsServed};
+ghost use Rattle.fd_equations.specs.Conditions.{IsKnown, IsNetwork, IsPoint, IsServed};
 ghost use Rattle.fd_equations.specs.Enclosure.{EndsWithin, addend_count, interval_residual_of, summand_count};
 ghost use Rattle.fd_equations.specs.Matrices.{IsMatrix, jacobian_amount};
 ghost use Rattle.fd_equations.specs.Rounded.{constants_of, jacobian_count, jacobian_of, linear_residual_of, rounded_residual_of, start_matrix_of};
@@ -75,6 +75,7 @@ impl Network {
     pub fn size(&self) -> u32
         ensures size { result ≡ self.now.size }
         ensures small { result ≤ 2 ^ 11 }
+        ensures valid { IsNetwork self.now }
     {
         self.rows.size()
     }
