@@ -1,0 +1,52 @@
+-- What a sound claim says of other states.
+use Rattle.std.specs.Prelude.{◌≡◌, ℕ, ◌*◌, ◌^◌, ◌<◌, ◌≤◌, ℤ, ◌*ℤ◌, nat_abs, List, length, Ok}
+use Rattle.fd_exact.specs.Fractions.{Near, minus}
+use Rattle.fd_exact.specs.States.{State, away}
+use Rattle.fd_exact.specs.Sums.{sum_n, sum_z}
+use Rattle.fd_system.specs.Meets.{Meets}
+use Rattle.fd_system.specs.Residual.{whole_state}
+use Rattle.fd_system.specs.System.{residual_of}
+use Rattle.fd_equations.specs.Conditions.{IsNetwork, IsPoint}
+use Rattle.fd_equations.specs.Rounded.{jacobian_entry}
+use Rattle.fd_equations.specs.Views.{NetworkView}
+use Rattle.fd_enclosure.specs.Boxes.{IsInTrustBox}
+use Rattle.fd_enclosure.specs.Radii.{slope_radius}
+use Rattle.fd_enclosure.specs.Sound.{Claim, IsInverse, IsSound, certificate_of, number_at}
+
+-- ---- states
+
+-- a state of any denominator in the box of the centre c that meets the mismatches e in every row
+pub record IsAlternative (v : NetworkView) (c : List ℤ) (e : List ℕ) (x : State) : Type 0 where
+  pub over : 0 < x.over
+  pub inside : IsInTrustBox v c x
+  pub meets : Meets (residual_of v.share) (number_at e) v.size x
+
+-- each unknown of it is within its radius of the centre
+abbrev pub IsWithinRadii : NetworkView → List ℤ → List ℕ → State → Type 0
+IsWithinRadii v c r x = (i : ℕ) → i < v.size → nat_abs (away c x i) ≤ x.over * number_at r i
+
+-- every such state is
+abbrev pub Encloses : NetworkView → List ℤ → List ℕ → List ℕ → Type 0
+Encloses v c r e = (x : State) → IsAlternative v c e x → IsWithinRadii v c r x
+
+-- ---- laws
+
+-- the change of a row from the centre to a state in the box is what the Jacobian at the centre says, up to the radii of the slopes
+abbrev pub ChangeLaw : Type 0
+ChangeLaw = (v : NetworkView) (c : List ℤ) (x : State) (l : ℕ) → IsNetwork v → length c ≡ v.size → 0 < x.over → IsInTrustBox v c x → l < v.size →
+    Near (minus (residual_of v.share x l) (residual_of v.share (whole_state c) l))
+    (sum_z (λ j. jacobian_entry v c l j *ℤ away c x j) v.size)
+    (sum_n (λ j. slope_radius v c l j * nat_abs (away c x j)) v.size)
+    (x.over * 2 ^ 40)
+
+-- the centre of a sound claim meets the mismatches, and every state in its box that meets them is within the radii
+pub record IsEnclosure (v : NetworkView) (m : Claim) : Type 0 where
+  pub meets : Meets (residual_of v.share) (number_at m.mismatches) v.size (whole_state m.centre)
+  pub encloses : Encloses v m.centre m.radii m.mismatches
+
+abbrev pub EnclosureLaw : Type 0
+EnclosureLaw = (v : NetworkView) (m : Claim) → IsNetwork v → IsSound v m → IsEnclosure v m
+
+-- the certificate of a point is sound
+abbrev pub CertificateLaw : Type 0
+CertificateLaw = (v : NetworkView) (x : List ℤ) (c : List (List ℤ)) (m : Claim) → IsNetwork v → IsPoint v x → IsInverse v.size c → certificate_of v x c ≡ Ok m → IsSound v m

@@ -1,0 +1,5 @@
+pub mod Boxes
+pub mod Radii
+pub mod Bounds
+pub mod Sound
+pub mod Encloses

@@ -1,0 +1,22 @@
+// The laws of certificates.
+ghost use Rattle.fd_enclosure.specs.Encloses.{CertificateLaw, ChangeLaw, EnclosureLaw};
+
+/// A law: between a centre and a state in its box each row changes as the Jacobian at the centre says, up to the radii of the slopes.
+/// Does nothing.
+pub fn change_law()
+    ensures { ChangeLaw }
+{
+    fd_slope::change_law();
+}
+
+/// A law: the centre of a sound claim meets the mismatches, and every state in the box that meets them is within the radii. Does nothing.
+pub fn enclosure_law()
+    ensures { EnclosureLaw }
+{
+    change_law();
+}
+
+/// A law: the certificate of a point is sound. Does nothing.
+pub fn certificate_law()
+    ensures { CertificateLaw }
+{}

@@ -1,0 +1,12 @@
+// What a certificate is: the trust box of a state, the radii of slopes in it, the bound and the radii of the unknowns, and when a claim
+// is sound. All of it is definitions in whole numbers, for a network without its circuit, and laws. It has no code of its own: the calls
+// of `laws` do nothing.
+//
+// A sound claim encloses: every state in the box, of any denominator, that meets the claim's mismatches is within the radii of its centre
+// (`enclosure_law`). The certificate of a point is sound (`certificate_law`). Between the centre and a state in the box each row changes as
+// the Jacobian at the centre says, up to the radii of the slopes (`change_law`).
+#![tactic(auto)]
+
+mod laws;
+
+pub use laws::{certificate_law, change_law, enclosure_law};
