@@ -5,3 +5,5 @@ pub mod Loads
 pub mod Contraction
 pub mod Wide
 pub mod Network
+pub mod Residuals
+pub mod Enclosing
