@@ -7,3 +7,4 @@ pub mod Wide
 pub mod Network
 pub mod Residuals
 pub mod Enclosing
+pub mod Certificates
