@@ -9,6 +9,7 @@ use Rattle.fd_exact.specs.Quotients.{ceil_nat_covers}
 use Rattle.fd_exact.specs.Rounding.{ceil_nat}
 use Rattle.fd_exact.specs.States.{State, away, entry}
 use Rattle.fd_exact.specs.Sums.{sum_n, sum_z}
+use Rattle.fd_system.specs.Meets.{Meets}
 use Rattle.fd_system.specs.Residual.{whole_state}
 use Rattle.fd_system.specs.System.{residual_of}
 use Rattle.fd_equations.specs.declared.layout.PlaceKind.{PlaceKind}
@@ -18,10 +19,11 @@ use Rattle.fd_equations.specs.Rounded.{jacobian_entry}
 use Rattle.fd_equations.specs.Views.{NetworkView, kind_of}
 use Rattle.fd_equations.specs.Weights.{weight_at, weight_by}
 use Rattle.fd_enclosure.specs.Bounds.{bound_at, bound_of, bound_size, is_below_one, is_bounded, radius_at, reach_at, reach_of}
-use Rattle.fd_enclosure.specs.Encloses.{ChangeLaw, EnclosureLaw}
+use Rattle.fd_enclosure.specs.Encloses.{ChangeLaw, EnclosureLaw, IsWithinRadii, LinearLaw}
 use Rattle.fd_enclosure.specs.Radii.{slope_radius}
 use Rattle.fd_enclosure.specs.Sound.{Claim, IsSound, number_at}
 use Rattle.fd_enclosure.proofs.Contraction.{enclosed}
+use Rattle.fd_enclosure.proofs.Network.{RowFollows, linear_changes}
 use Rattle.fd_enclosure.proofs.Residuals.{centre_meets, residual_positive}
 use Rattle.fd_enclosure.proofs.Wide.{Exactly, bound_exact, row_total}
 
@@ -60,32 +62,77 @@ gap k s h = omega arith
 
 -- ---- the law
 
+module _ (v : NetworkView) (m : Claim) (net : IsNetwork v) (sound : IsSound v m) where
+  -- the numbers of the claim
+  abbrev unknowns : ℕ
+  unknowns = v.size
+
+  abbrev C : ℕ → ℕ → ℤ
+  C = entry m.inverse
+
+  abbrev J : ℕ → ℕ → ℤ
+  J = jacobian_entry v m.centre
+
+  abbrev R : ℕ → ℕ → ℕ
+  R = slope_radius v m.centre
+
+  abbrev w : ℕ → ℕ
+  w = weight_at v m.centre
+
+  abbrev e : ℕ → ℕ
+  e = number_at m.mismatches
+
+  abbrev r : ℕ → ℕ
+  r = number_at m.radii
+
+  abbrev K : ℕ
+  K = bound_of unknowns C J R w
+
+  abbrev B : ℕ
+  B = reach_of unknowns C J R w e
+
+  -- the bound of a row, before the limit is looked at
+  abbrev plain_bound : ℕ → ℕ
+  plain_bound i = ceil_nat (row_total unknowns C J R w i) (w i * 2 ^ 40)
+
+  abbrev row_bound : ℕ → ℕ
+  row_bound i = bound_size (bound_at unknowns C J R w i)
+
+  heavy : (i : ℕ) → 0 < w i
+  heavy i = weight_positive v m.centre i
+
+  known : (i : ℕ) → i < unknowns → (row_bound i ≡ plain_bound i) × (plain_bound i < 2 ^ 40)
+  known i p = bound_known (bound_at unknowns C J R w i) (plain_bound i) (bound_exact unknowns C J R w i (heavy i)) (sound.bounded i p)
+
+  small : K < 2 ^ 40
+  small = greatest_less row_bound unknowns (2 ^ 40) (lit< tt) (λ i p. let q = known i p in subst (λ t. t < 2 ^ 40) (sym q.0) q.1)
+
+  bounds_cover : (i : ℕ) → i < unknowns → row_total unknowns C J R w i ≤ K * (w i * 2 ^ 40)
+  bounds_cover i p = let q = known i p in covered (row_total unknowns C J R w i) (w i * 2 ^ 40) K (mul-pos (heavy i) (lit< tt)) (subst (λ t. t ≤ K) q.0 (le_greatest row_bound unknowns i p))
+
+  reach_covers : (i : ℕ) → i < unknowns → sum_n (λ l. unsigned_abs (C i l) * (2 * e l)) unknowns * 2 ^ 20 ≤ B * w i
+  reach_covers i p = covered (sum_n (λ l. unsigned_abs (C i l) * (2 * e l)) unknowns * 2 ^ 20) (w i) B (heavy i) (le_greatest (reach_at unknowns C J R w e) unknowns i p)
+
+  radii_cover : (i : ℕ) → i < unknowns → w i * B ≤ r i * (2 ^ 20 * (2 ^ 40 - K))
+  unfolding radius_at
+  radii_cover i p = covered (w i * B) (2 ^ 20 * (2 ^ 40 - K)) (r i) (mul-pos (lit< tt) (gap K (2 ^ 40) small)) (sound.radii_least i p)
+
+  pub centre_meets_all : Meets (residual_of v.share) e unknowns (whole_state m.centre)
+  centre_meets_all l p = centre_meets v net m.centre l (e l) (sound.mismatches_least l p) (sound.mismatches_most l p)
+
+  -- a state that meets the mismatches, and whose rows follow the Jacobian, is within the radii
+  pub follower_within : (x : State) → 0 < x.over → ((l : ℕ) → l < unknowns → RowFollows v m.centre x l) → Meets (residual_of v.share) e unknowns x → IsWithinRadii v m.centre m.radii x
+  follower_within x over follows meets =
+      enclosed (2 ^ 40) (2 ^ 20) x.over K B C J R (away m.centre x) e w r unknowns (lit< tt) (lit< tt) (λ j p. heavy j)
+      (λ l p. row_from_fractions (residual_of v.share x l) (residual_of v.share (whole_state m.centre) l) (sum_z (λ j. J l j *ℤ away m.centre x j) unknowns) (sum_n (λ j. R l j * unsigned_abs (away m.centre x j)) unknowns) (e l) (x.over * 2 ^ 40)
+      (residual_positive v net x l over) (residual_positive v net (whole_state m.centre) l (lit< tt)) (follows l p) (meets l p) (centre_meets_all l p))
+      bounds_cover small reach_covers radii_cover
+
 pub sound_encloses : ChangeLaw → EnclosureLaw
-unfolding radius_at
-sound_encloses change v m net sound =
-    let n = v.size in
-    let c = m.centre in
-    let C = entry m.inverse in
-    let J = jacobian_entry v c in
-    let R = slope_radius v c in
-    let w = weight_at v c in
-    let e = number_at m.mismatches in
-    let r = number_at m.radii in
-    let K = bound_of n C J R w in
-    let B = reach_of n C J R w e in
-    let w_pos : (j : ℕ) → 0 < w j = weight_positive v c in
-    let known : (i : ℕ) → i < n → (bound_size (bound_at n C J R w i) ≡ ceil_nat (row_total n C J R w i) (w i * 2 ^ 40)) × (ceil_nat (row_total n C J R w i) (w i * 2 ^ 40) < 2 ^ 40) = λ i p. bound_known (bound_at n C J R w i) (ceil_nat (row_total n C J R w i) (w i * 2 ^ 40)) (bound_exact n C J R w i (w_pos i)) (sound.bounded i p) in
-    let small : K < 2 ^ 40 = greatest_less (λ i. bound_size (bound_at n C J R w i)) n (2 ^ 40) (lit< tt) (λ i p. let q = known i p in subst (λ t. t < 2 ^ 40) (sym q.0) q.1) in
-    let met : (l : ℕ) → l < n → unsigned_abs (residual_of v.share (whole_state c) l).top ≤ e l * (residual_of v.share (whole_state c) l).over = λ l p. centre_meets v net c l (e l) (sound.mismatches_least l p) (sound.mismatches_most l p) in
-    record {
-      meets = met;
-      encloses = λ x alternative i i_in.
-        enclosed (2 ^ 40) (2 ^ 20) x.over K B C J R (away c x) e w r n (lit< tt) (lit< tt) (λ j p. w_pos j)
-        (λ l p. row_from_fractions (residual_of v.share x l) (residual_of v.share (whole_state c) l) (sum_z (λ j. J l j *ℤ away c x j) n) (sum_n (λ j. R l j * unsigned_abs (away c x j)) n) (e l) (x.over * 2 ^ 40)
-        (residual_positive v net x l alternative.over) (residual_positive v net (whole_state c) l (lit< tt)) (change v c x l net sound.centre.long alternative.over alternative.inside p) (alternative.meets l p) (met l p))
-        (λ k p. let q = known k p in covered (row_total n C J R w k) (w k * 2 ^ 40) K (mul-pos (w_pos k) (lit< tt)) (subst (λ t. t ≤ K) q.0 (le_greatest (λ t. bound_size (bound_at n C J R w t)) n k p)))
-        small
-        (λ k p. covered (sum_n (λ l. unsigned_abs (C k l) * (2 * e l)) n * 2 ^ 20) (w k) B (w_pos k) (le_greatest (reach_at n C J R w e) n k p))
-        (λ k p. covered (w k * B) (2 ^ 20 * (2 ^ 40 - K)) (r k) (mul-pos (lit< tt) (gap K (2 ^ 40) small)) (sound.radii_least k p))
-        i i_in;
-    }
+sound_encloses change v m net sound = record {
+  meets = centre_meets_all v m net sound;
+  encloses = λ x a. follower_within v m net sound x a.over (λ l p. change v m.centre x l net sound.centre.long a.over a.inside p) a.meets;
+}
+
+pub sound_encloses_all : LinearLaw
+sound_encloses_all v m net all sound x over meets = follower_within v m net sound x over (λ l p. linear_changes v m.centre x l net all) meets

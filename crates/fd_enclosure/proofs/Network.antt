@@ -1,9 +1,10 @@
 -- The change of a network's rows in the box.
-use Rattle.std.proofs.Common.{◌≡◌, ◌∙◌, ◌≢◌, ℕ, ◌+◌, ◌*◌, ◌<◌, ◌≤◌, ◌^◌, ℤ, pos, ◌+ℤ◌, ◌<ℤ◌, nat_abs, nat_lt, Bool, true, false, cond, eqb, List, length, Option, Some, None, IfSome, is_some, arith, ap, refl, sym, subst}
+use Rattle.std.proofs.Common.{◌≡◌, ◌∙◌, ◌≢◌, ℕ, ◌+◌, ◌*◌, ◌<◌, ◌≤◌, ◌^◌, ℤ, pos, ◌+ℤ◌, ◌<ℤ◌, nat_abs, nat_lt, Bool, true, false, cond, eqb, List, [], ◌∷◌, length, Option, Some, None, IfSome, is_some, arith, ap, refl, sym, subst}
 use Rattle.std.specs.List.{All}
 use Rattle.std.specs.Int.RustNames.{unsigned_abs}
 use Rattle.std.proofs.lemmas.Bool.{le-ltb, lt-ltb}
 use Rattle.std.proofs.lemmas.Int.{ints}
+use Rattle.std.proofs.lemmas.List.Elements.{All-cons, All-head, All-nil, All-tail, All-weaker}
 use Rattle.fd_exact.specs.Fractions.{◌⊕◌}
 use Rattle.fd_exact.specs.States.{State, away}
 use Rattle.fd_exact.specs.Sums.{list_n, list_z, sum_of}
@@ -16,7 +17,7 @@ use Rattle.fd_system.specs.Equations.{equation}
 use Rattle.fd_system.specs.Residual.{IsPlace, whole_state}
 use Rattle.fd_system.specs.System.{constant_given, linear_of, nonlinear_of, residual_of}
 use Rattle.fd_slope.specs.Changes as slope
-use Rattle.fd_slope.specs.Changes.{IsInBox, im_away, im_width, magnitude_away, magnitude_width, radii_in, re_away, re_width}
+use Rattle.fd_slope.specs.Changes.{IsInBox, RowsFollow, im_away, im_width, magnitude_away, magnitude_width, radii_in, re_away, re_width}
 use Rattle.fd_equations.specs.declared.layout.PlaceKind.{PlaceKind}
 use Rattle.fd_equations.specs.declared.layout.PlaceKind.TheVariants.{Branch, Magnitude, Node}
 use Rattle.fd_equations.specs.Coefficients.{count_at, linear_entry}
@@ -25,7 +26,7 @@ use Rattle.fd_equations.specs.PartLoads.{load_entry, slope_counts, slope_sum, sl
 use Rattle.fd_equations.specs.Rounded.{jacobian_count, jacobian_entry}
 use Rattle.fd_equations.specs.Views.{NetworkView, kind_of}
 use Rattle.fd_enclosure.specs.Boxes.{IsInTrustBox, half_width}
-use Rattle.fd_enclosure.specs.Encloses.{ChangeLaw}
+use Rattle.fd_enclosure.specs.Encloses.{ChangeLaw, IsImpedance}
 use Rattle.fd_enclosure.specs.Radii.{load_radius, slope_radius}
 use Rattle.fd_enclosure.proofs.Contributions.{terms_near}
 use Rattle.fd_enclosure.proofs.Loads.{load_near, loads_near}
@@ -104,10 +105,17 @@ sum_three a b = omega (arith, ints)
 radius_three : (a b r : ℕ) → (0 + 4 * a) + (r + 4 * b) ≤ r + 4 * (a + b)
 radius_three a b r = omega arith
 
--- where the rows of each part load follow its slopes, those of the network follow the Jacobian
-pub network_changes : slope.ChangeLaw → ChangeLaw
+-- the network's row l at the state x follows the Jacobian at the centre c
+abbrev pub RowFollows : NetworkView → List ℤ → State → ℕ → Type 0
+RowFollows v c x l = RowNear (away c x) v.size (x.over * 2 ^ 40) (residual_of v.share x l) (residual_of v.share (whole_state c) l) (λ j. jacobian_entry v c l j) (λ j. slope_radius v c l j)
+
+-- a part load whose rows follow its slopes; one of constant impedance has none beside the contributions
+abbrev pub LoadFollows : NetworkView → List ℤ → State → LoadAt → Type 0
+LoadFollows v c x u = IsServed v.nodes v.complexes v.size u × (eqb u.load.model 2 ≡ false → RowsFollow (half_width v c) c x u)
+
+pub row_follows : (v : NetworkView) (c : List ℤ) (x : State) (l : ℕ) → IsNetwork v → All (LoadFollows v c x) v.share.loads → RowFollows v c x l
 unfolding slope_radius
-network_changes follow v c x l net long over box inside =
+row_follows v c x l net all =
     let us = v.share.loads in
     let ts = v.share.terms in
     let y = away c x in
@@ -123,12 +131,27 @@ network_changes follow v c x l net long over box inside =
     let d0 = equation l (nonlinear_of us (whole_state c)) in
     let A = row_still y n k a in
     let B = terms_near c x n l ts net.terms.each (den_positive n) in
-    let D = loads_near half c x n l (IsServed v.nodes v.complexes n) us net.loads (λ u s.
-        load_near half c x n l u (node_inside v net u.first s.first) (node_inside v net u.second s.second) (magnitude_inside v.complexes n u.load.model u.magnitude s.magnitude) (own_model v.complexes n u.load.model u.magnitude s.magnitude)
-        (λ e. follow half c x u s.phase e over (load_in v c x net box u s))) in
+    let D = loads_near half c x n l (LoadFollows v c x) us all (λ u h. let s = h.0 in
+        load_near half c x n l u (node_inside v net u.first s.first) (node_inside v net u.second s.second) (magnitude_inside v.complexes n u.load.model u.magnitude s.magnitude) (own_model v.complexes n u.load.model u.magnitude s.magnitude) h.1) in
     let linear = row_plus y n k a a b b0 (λ j. pos 0) (λ j. linear_entry ts l j) (λ j. 0) (λ j. 4 * count_at ts l j) A B in
     row_more y n k (residual_of v.share x l) (residual_of v.share (whole_state c) l)
     (λ j. (pos 0 +ℤ linear_entry ts l j) +ℤ Ju j) (λ j. jacobian_entry v c l j) (λ j. (0 + 4 * count_at ts l j) + Ru j) (λ j. slope_radius v c l j)
     (λ j p. sum_three (linear_entry ts l j) (slope_sum us c l j))
     (λ j p. radius_three (count_at ts l j) (slope_counts us l j) (list_n (λ u. load_radius u (radii_in half c u) l j) us))
     (row_plus y n k (a ⊕ b) (a ⊕ b0) d d0 (λ j. pos 0 +ℤ linear_entry ts l j) Ju (λ j. 0 + 4 * count_at ts l j) Ru linear D)
+
+-- in the box each part load follows
+pub network_changes : slope.ChangeLaw → ChangeLaw
+network_changes follow v c x l net long over box inside =
+    row_follows v c x l net (All-weaker (IsServed v.nodes v.complexes v.size) (LoadFollows v c x) (λ u s. (s, λ e. follow (half_width v c) c x u s.phase e over (load_in v c x net box u s))) v.share.loads net.loads)
+
+-- where each is of constant impedance they follow everywhere
+impedances : (v : NetworkView) (c : List ℤ) (x : State) (us : List LoadAt) → All (IsServed v.nodes v.complexes v.size) us → All IsImpedance us → All (LoadFollows v c x) us
+impedances v c x [] h g = All-nil (LoadFollows v c x)
+impedances v c x (u ∷ us) h g =
+    let model : u.load.model ≡ 2 = All-head IsImpedance u us g in
+    All-cons (LoadFollows v c x) u us (All-head (IsServed v.nodes v.complexes v.size) u us h, λ e. let no : ⊥ = cc in absurd no)
+    (impedances v c x us (All-tail (IsServed v.nodes v.complexes v.size) u us h) (All-tail IsImpedance u us g))
+
+pub linear_changes : (v : NetworkView) (c : List ℤ) (x : State) (l : ℕ) → IsNetwork v → All IsImpedance v.share.loads → RowFollows v c x l
+linear_changes v c x l net all = row_follows v c x l net (impedances v c x v.share.loads net.loads all)

@@ -1,8 +1,10 @@
 -- What a sound claim says of other states.
 use Rattle.std.specs.Prelude.{◌≡◌, ℕ, ◌*◌, ◌^◌, ◌<◌, ◌≤◌, ℤ, ◌*ℤ◌, nat_abs, List, length, Ok}
+use Rattle.std.specs.List.{All}
 use Rattle.fd_exact.specs.Fractions.{Near, minus}
 use Rattle.fd_exact.specs.States.{State, away}
 use Rattle.fd_exact.specs.Sums.{sum_n, sum_z}
+use Rattle.fd_system.specs.declared.loads.LoadAt.{LoadAt}
 use Rattle.fd_system.specs.Meets.{Meets}
 use Rattle.fd_system.specs.Residual.{whole_state}
 use Rattle.fd_system.specs.System.{residual_of}
@@ -29,6 +31,14 @@ IsWithinRadii v c r x = (i : ℕ) → i < v.size → nat_abs (away c x i) ≤ x.
 abbrev pub Encloses : NetworkView → List ℤ → List ℕ → List ℕ → Type 0
 Encloses v c r e = (x : State) → IsAlternative v c e x → IsWithinRadii v c r x
 
+-- the same of states that need not be in the box
+abbrev pub EnclosesAll : NetworkView → List ℤ → List ℕ → List ℕ → Type 0
+EnclosesAll v c r e = (x : State) → 0 < x.over → Meets (residual_of v.share) (number_at e) v.size x → IsWithinRadii v c r x
+
+-- a part load of constant impedance, whose current is linear
+abbrev pub IsImpedance : LoadAt → Type 0
+IsImpedance u = u.load.model ≡ 2
+
 -- ---- laws
 
 -- the change of a row from the centre to a state in the box is what the Jacobian at the centre says, up to the radii of the slopes
@@ -50,3 +60,7 @@ EnclosureLaw = (v : NetworkView) (m : Claim) → IsNetwork v → IsSound v m →
 -- the certificate of a point is sound
 abbrev pub CertificateLaw : Type 0
 CertificateLaw = (v : NetworkView) (x : List ℤ) (c : List (List ℤ)) (m : Claim) → IsNetwork v → IsPoint v x → IsInverse v.size c → certificate_of v x c ≡ Ok m → IsSound v m
+
+-- where each part load is of constant impedance the rows are linear, and every state that meets the mismatches is within the radii
+abbrev pub LinearLaw : Type 0
+LinearLaw = (v : NetworkView) (m : Claim) → IsNetwork v → All IsImpedance v.share.loads → IsSound v m → EnclosesAll v m.centre m.radii m.mismatches

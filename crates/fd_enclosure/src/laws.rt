@@ -1,5 +1,5 @@
 // The laws of certificates.
-ghost use Rattle.fd_enclosure.specs.Encloses.{CertificateLaw, ChangeLaw, EnclosureLaw};
+ghost use Rattle.fd_enclosure.specs.Encloses.{CertificateLaw, ChangeLaw, EnclosureLaw, LinearLaw};
 
 /// A law: between a centre and a state in its box each row changes as the Jacobian at the centre says, up to the radii of the slopes.
 /// Does nothing.
@@ -19,4 +19,10 @@ pub fn enclosure_law()
 /// A law: the certificate of a point is sound. Does nothing.
 pub fn certificate_law()
     ensures { CertificateLaw }
+{}
+
+/// A law: where each part load is of constant impedance every state that meets the mismatches of a sound claim, in its box or not, is
+/// within the radii. Does nothing.
+pub fn linear_law()
+    ensures { LinearLaw }
 {}

@@ -4,9 +4,12 @@
 //
 // A sound claim encloses: every state in the box, of any denominator, that meets the claim's mismatches is within the radii of its centre
 // (`enclosure_law`). The certificate of a point is sound (`certificate_law`). Between the centre and a state in the box each row changes as
-// the Jacobian at the centre says, up to the radii of the slopes (`change_law`).
+// the Jacobian at the centre says, up to the radii of the slopes (`change_law`). Where each part load is of constant impedance the rows are
+// linear, and the radii hold for every state that meets the mismatches, also outside the box (`linear_law`).
+//
+// Modules: `laws`, the laws.
 #![tactic(auto)]
 
 mod laws;
 
-pub use laws::{certificate_law, change_law, enclosure_law};
+pub use laws::{certificate_law, change_law, enclosure_law, linear_law};
