@@ -1,5 +1,5 @@
 -- The certificate of a point is sound.
-use Rattle.std.proofs.Common.{◌≡◌, ◌∙◌, ℕ, ◌+◌, ◌*◌, ◌-◌, ◌<◌, ◌≤◌, ◌^◌, ℤ, nat_le, nat_lt, not, Bool, true, false, cond, List, length, get_or, Option, Some, None, is_some, Result, Ok, Err, zero-add, arith, ap, refl, sym, subst}
+use Rattle.std.proofs.Common.{◌≡◌, ◌∙◌, ℕ, ◌*◌, ◌-◌, ◌<◌, ◌≤◌, ◌^◌, ℤ, nat_le, nat_lt, not, Bool, true, false, cond, List, length, Option, Some, None, is_some, Ok, zero-add, arith, ap, refl, sym, subst}
 use Rattle.std.proofs.lemmas.Bool.{false_from_ne_true, ltb-false, not-false}
 use Rattle.std.proofs.lemmas.List.FromFn.{get_or-map-range_with_len, length-map-range_with_len}
 use Rattle.fd_exact.specs.First.{first_place}
@@ -16,7 +16,7 @@ use Rattle.fd_equations.specs.Weights.{weight_at}
 use Rattle.fd_enclosure.specs.Bounds.{bound_at, bound_of, first_unbounded, first_wide, is_below_one, is_bounded, radius_at, reach_at, reach_of, refusal, refused_bound, unless_unbounded, unless_wide}
 use Rattle.fd_enclosure.specs.Encloses.{CertificateLaw}
 use Rattle.fd_enclosure.specs.Radii.{slope_radius}
-use Rattle.fd_enclosure.specs.Sound.{Claim, IsInverse, IsSound, Refusal, certificate_of, claim_of, first_loose, greatest_mismatch, mismatch_at, mismatches_of, number_at, radii_of, radius_in, unless_loose, unless_uncertain}
+use Rattle.fd_enclosure.specs.Sound.{Claim, IsInverse, IsSound, certificate_of, claim_of, first_loose, greatest_mismatch, mismatch_at, mismatches_of, number_at, radii_of, radius_in, unless_loose, unless_uncertain}
 
 -- ---- lists
 

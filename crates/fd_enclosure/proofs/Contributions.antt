@@ -1,9 +1,9 @@
 -- The change of contributions.
-use Rattle.std.proofs.Common.{◌≡◌, ◌∙◌, ℕ, ◌+◌, ◌*◌, ◌<◌, ◌≤◌, ◌^◌, ℤ, pos, ◌-ℤ◌, ◌*ℤ◌, Bool, true, false, cond, eqb, ◌&&◌, List, [], ◌∷◌, arith, ap, refl, subst, sym}
+use Rattle.std.proofs.Common.{◌≡◌, ◌∙◌, ℕ, ◌*◌, ◌<◌, ◌≤◌, ◌^◌, ℤ, pos, ◌-ℤ◌, ◌*ℤ◌, Bool, true, false, cond, eqb, ◌&&◌, List, [], ◌∷◌, arith, ap, refl, subst, sym}
 use Rattle.std.specs.List.{All}
 use Rattle.std.specs.Int.RustNames.{unsigned_abs}
 use Rattle.std.proofs.Math.Nat.{mul-le-mul_left}
-use Rattle.std.proofs.lemmas.Int.{ints, unsigned_abs-mul}
+use Rattle.std.proofs.lemmas.Int.{unsigned_abs-mul}
 use Rattle.fd_exact.specs.Fractions.{Near, fraction, minus, nothing}
 use Rattle.fd_exact.specs.Integers.{as_val, vals, val-same}
 use Rattle.fd_exact.specs.Nearest.{near_nearest}

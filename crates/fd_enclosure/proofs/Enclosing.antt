@@ -1,5 +1,5 @@
 -- A sound claim encloses.
-use Rattle.std.proofs.Common.{◌≡◌, ◌∙◌, ℕ, zero, suc, ◌+◌, ◌*◌, ◌-◌, ◌<◌, ◌≤◌, ◌^◌, max, ℤ, pos, ◌*ℤ◌, int_lt, Bool, true, false, List, Option, Some, None, arith, ap, refl, sym, subst, lit<}
+use Rattle.std.proofs.Common.{◌≡◌, ℕ, zero, suc, ◌*◌, ◌-◌, ◌<◌, ◌≤◌, ◌^◌, ℤ, pos, ◌*ℤ◌, int_lt, true, List, Option, Some, None, arith, ap, refl, sym, subst, lit<}
 use Rattle.std.specs.Int.RustNames.{unsigned_abs}
 use Rattle.std.proofs.Math.Nat.{le_trans, mul-le-mul_right, mul-pos}
 use Rattle.std.proofs.lemmas.Int.{ints}
@@ -18,7 +18,7 @@ use Rattle.fd_equations.specs.Conditions.{IsNetwork}
 use Rattle.fd_equations.specs.Rounded.{jacobian_entry}
 use Rattle.fd_equations.specs.Views.{NetworkView, kind_of}
 use Rattle.fd_equations.specs.Weights.{weight_at, weight_by}
-use Rattle.fd_enclosure.specs.Bounds.{bound_at, bound_of, bound_size, is_below_one, is_bounded, radius_at, reach_at, reach_of}
+use Rattle.fd_enclosure.specs.Bounds.{bound_at, bound_of, bound_size, is_below_one, radius_at, reach_at, reach_of}
 use Rattle.fd_enclosure.specs.Encloses.{ChangeLaw, EnclosureLaw, IsWithinRadii, LinearLaw}
 use Rattle.fd_enclosure.specs.Radii.{slope_radius}
 use Rattle.fd_enclosure.specs.Sound.{Claim, IsSound, number_at}

@@ -1,15 +1,14 @@
 -- The change of part loads.
-use Rattle.std.proofs.Common.{◌≡◌, ◌∙◌, ℕ, ◌+◌, ◌*◌, ◌<◌, ◌≤◌, ◌^◌, ℤ, pos, neg_ℤ, ◌+ℤ◌, ◌-ℤ◌, ◌*ℤ◌, nat_abs, Bool, true, false, cond, eqb, List, [], ◌∷◌, ◌++◌, Option, Some, None, IfSome, is_some, arith, ap, refl, sym, subst}
+use Rattle.std.proofs.Common.{◌≡◌, ◌∙◌, ℕ, ◌+◌, ◌*◌, ◌<◌, ◌≤◌, ◌^◌, ℤ, pos, neg_ℤ, ◌+ℤ◌, ◌-ℤ◌, nat_abs, Bool, true, false, cond, eqb, List, [], ◌∷◌, Option, Some, None, IfSome, is_some, arith, ap, refl}
 use Rattle.std.specs.List.{All, flat_map}
 use Rattle.std.proofs.lemmas.Int.{ints}
-use Rattle.std.proofs.lemmas.List.Elements.{All-head, All-tail}
 use Rattle.fd_exact.specs.FractionLaws.{sum_of-append}
 use Rattle.fd_exact.specs.Fractions.{Fraction, nothing, ◌⊕◌}
-use Rattle.fd_exact.specs.States.{State, away, part}
+use Rattle.fd_exact.specs.States.{State, away}
 use Rattle.fd_exact.specs.Sums.{list_n, list_z, sum_of}
 use Rattle.fd_system.specs.declared.loads.LoadAt.{LoadAt}
 use Rattle.fd_system.specs.Complex.{negative}
-use Rattle.fd_system.specs.Equations.{Part, alone, both, equation, seen, side}
+use Rattle.fd_system.specs.Equations.{Part, equation, seen}
 use Rattle.fd_system.specs.Loads.{im_of, load_current, load_parts, magnitude_of, magnitude_parts, magnitude_row, nonlinear_parts, re_of}
 use Rattle.fd_system.specs.Residual.{IsPlace, whole_state}
 use Rattle.fd_system.specs.System.{nonlinear_of}

@@ -1,5 +1,5 @@
 -- The change of a network's rows in the box.
-use Rattle.std.proofs.Common.{◌≡◌, ◌∙◌, ◌≢◌, ℕ, ◌+◌, ◌*◌, ◌<◌, ◌≤◌, ◌^◌, ℤ, pos, ◌+ℤ◌, ◌<ℤ◌, nat_abs, nat_lt, Bool, true, false, cond, eqb, List, [], ◌∷◌, length, Option, Some, None, IfSome, is_some, arith, ap, refl, sym, subst}
+use Rattle.std.proofs.Common.{◌≡◌, ◌≢◌, ℕ, ◌+◌, ◌*◌, ◌<◌, ◌≤◌, ◌^◌, ℤ, pos, ◌+ℤ◌, nat_abs, nat_lt, Bool, true, false, cond, eqb, List, [], ◌∷◌, Option, Some, None, IfSome, is_some, arith, refl}
 use Rattle.std.specs.List.{All}
 use Rattle.std.specs.Int.RustNames.{unsigned_abs}
 use Rattle.std.proofs.lemmas.Bool.{le-ltb, lt-ltb}
@@ -15,16 +15,15 @@ use Rattle.fd_system.specs.declared.loads.LoadAt.{LoadAt}
 use Rattle.fd_system.specs.Contributions.{row_sum}
 use Rattle.fd_system.specs.Equations.{equation}
 use Rattle.fd_system.specs.Residual.{IsPlace, whole_state}
-use Rattle.fd_system.specs.System.{constant_given, linear_of, nonlinear_of, residual_of}
+use Rattle.fd_system.specs.System.{constant_given, nonlinear_of, residual_of}
 use Rattle.fd_slope.specs.Changes as slope
 use Rattle.fd_slope.specs.Changes.{IsInBox, RowsFollow, im_away, im_width, magnitude_away, magnitude_width, radii_in, re_away, re_width}
-use Rattle.fd_equations.specs.declared.layout.PlaceKind.{PlaceKind}
 use Rattle.fd_equations.specs.declared.layout.PlaceKind.TheVariants.{Branch, Magnitude, Node}
 use Rattle.fd_equations.specs.Coefficients.{count_at, linear_entry}
 use Rattle.fd_equations.specs.Conditions.{HasMagnitude, IsAmong, IsLinear, IsNetwork, IsServed}
 use Rattle.fd_equations.specs.PartLoads.{load_entry, slope_counts, slope_sum, slopes_there}
-use Rattle.fd_equations.specs.Rounded.{jacobian_count, jacobian_entry}
-use Rattle.fd_equations.specs.Views.{NetworkView, kind_of}
+use Rattle.fd_equations.specs.Rounded.{jacobian_entry}
+use Rattle.fd_equations.specs.Views.{NetworkView}
 use Rattle.fd_enclosure.specs.Boxes.{IsInTrustBox, half_width}
 use Rattle.fd_enclosure.specs.Encloses.{ChangeLaw, IsImpedance}
 use Rattle.fd_enclosure.specs.Radii.{load_radius, slope_radius}
@@ -132,7 +131,7 @@ row_follows v c x l net all =
     let A = row_still y n k a in
     let B = terms_near c x n l ts net.terms.each (den_positive n) in
     let D = loads_near half c x n l (LoadFollows v c x) us all (λ u h. let s = h.0 in
-        load_near half c x n l u (node_inside v net u.first s.first) (node_inside v net u.second s.second) (magnitude_inside v.complexes n u.load.model u.magnitude s.magnitude) (own_model v.complexes n u.load.model u.magnitude s.magnitude) h.1) in
+    load_near half c x n l u (node_inside v net u.first s.first) (node_inside v net u.second s.second) (magnitude_inside v.complexes n u.load.model u.magnitude s.magnitude) (own_model v.complexes n u.load.model u.magnitude s.magnitude) h.1) in
     let linear = row_plus y n k a a b b0 (λ j. pos 0) (λ j. linear_entry ts l j) (λ j. 0) (λ j. 4 * count_at ts l j) A B in
     row_more y n k (residual_of v.share x l) (residual_of v.share (whole_state c) l)
     (λ j. (pos 0 +ℤ linear_entry ts l j) +ℤ Ju j) (λ j. jacobian_entry v c l j) (λ j. (0 + 4 * count_at ts l j) + Ru j) (λ j. slope_radius v c l j)

@@ -1,5 +1,5 @@
 -- The residual of a network: its denominators are positive, and at a point its size is at most the mismatch.
-use Rattle.std.proofs.Common.{◌≡◌, ◌∙◌, ◌⊎◌, ℕ, zero, suc, ◌+◌, ◌*◌, ◌<◌, ◌≤◌, ◌^◌, ℤ, pos, ◌<ℤ◌, ◌*ℤ◌, nat_abs, Bool, true, false, cond, eqb, List, [], ◌∷◌, ◌++◌, length, Option, Some, None, arith, ap, refl, sym, subst}
+use Rattle.std.proofs.Common.{◌≡◌, ℕ, zero, suc, ◌*◌, ◌<◌, ◌≤◌, ℤ, ◌*ℤ◌, Bool, true, false, cond, eqb, List, [], ◌∷◌, Option, Some, None, arith, refl}
 use Rattle.std.specs.List.{All, flat_map}
 use Rattle.std.specs.Int.RustNames.{unsigned_abs}
 use Rattle.std.proofs.Math.Nat.{le_trans, mul-le-mul_right, mul-pos}
@@ -16,10 +16,10 @@ use Rattle.fd_system.specs.declared.loads.LoadAt.{LoadAt}
 use Rattle.fd_system.specs.Contributions.{given, row_sum}
 use Rattle.fd_system.specs.Equations.{equation, seen}
 use Rattle.fd_system.specs.Loads.{FitsModel, IsLoad, linear_list}
-use Rattle.fd_system.specs.Residual.{HasDen, HasParts, greater_size, residual_interval, whole_state}
-use Rattle.fd_system.specs.System.{constant_given, linear_of, loads_share, nonlinear_of, residual_of}
+use Rattle.fd_system.specs.Residual.{HasDen, greater_size, residual_interval, whole_state}
+use Rattle.fd_system.specs.System.{constant_given, linear_of, nonlinear_of, residual_of}
 use Rattle.fd_system.proofs.CallerLemmas.{greater_size_held, loads_represent, residual_holds}
-use Rattle.fd_equations.specs.Conditions.{HasMagnitude, IsLinear, IsNetwork, IsPoint, IsServed}
+use Rattle.fd_equations.specs.Conditions.{HasMagnitude, IsLinear, IsNetwork, IsServed}
 use Rattle.fd_equations.specs.Views.{NetworkView}
 use Rattle.fd_enclosure.specs.Sound.{greatest_mismatch, mismatch_at, mismatch_size}
 

@@ -1,8 +1,8 @@
 -- What the slopes and the radii of a part load are in the columns of its terminal, and in its rows.
-use Rattle.std.proofs.Common.{◌≡◌, ◌∙◌, ℕ, zero, suc, ◌+◌, ◌*◌, ◌<◌, ◌≤◌, ◌^◌, ℤ, pos, neg_ℤ, ◌+ℤ◌, ◌-ℤ◌, ◌*ℤ◌, Bool, true, false, cond, eqb, List, [], ◌∷◌, Option, Some, None, IfSome, arith, ap, refl, subst, sym}
+use Rattle.std.proofs.Common.{◌≡◌, ◌∙◌, ℕ, ◌+◌, ◌*◌, ◌<◌, ◌≤◌, ◌^◌, ℤ, pos, neg_ℤ, ◌+ℤ◌, ◌-ℤ◌, ◌*ℤ◌, Bool, true, false, cond, eqb, List, Option, Some, None, IfSome, arith, ap, refl, sym}
 use Rattle.std.specs.Int.RustNames.{unsigned_abs}
 use Rattle.std.proofs.lemmas.Int.{ints}
-use Rattle.fd_exact.specs.Fractions.{Fraction, minus, nothing, opposite, ◌⊕◌}
+use Rattle.fd_exact.specs.Fractions.{Fraction, minus, nothing}
 use Rattle.fd_exact.specs.Integers.{as_val, vals, val-same}
 use Rattle.fd_exact.specs.States.{State, away}
 use Rattle.fd_arith.specs.declared.terms.NodeAt.{NodeAt}
@@ -17,7 +17,7 @@ use Rattle.fd_slope.specs.declared.radii.RadiusRow.{RadiusRow}
 use Rattle.fd_equations.specs.PartLoads.{slope_in}
 use Rattle.fd_equations.specs.Terminals.{at_magnitude, at_node, at_terminal, count_magnitude, count_node, count_terminal}
 use Rattle.fd_enclosure.specs.Radii.{radius_in, spread, spread_magnitude, spread_node}
-use Rattle.fd_enclosure.proofs.Rows.{RowNear, moved, moved-add, moved-zero, near_more, row_more, row_opposite, row_plus, row_still, single_moved, single_spanned, spanned, spanned-add, spanned-zero}
+use Rattle.fd_enclosure.proofs.Rows.{RowNear, moved, moved-add, moved-zero, near_more, row_more, row_opposite, row_still, single_moved, single_spanned, spanned, spanned-add, spanned-zero}
 
 -- ---- columns: what moved at a terminal
 

@@ -1,5 +1,5 @@
 -- The bound of a certificate, and its radii: whole numbers made of an inverse, a Jacobian, radii of slopes, weights and mismatches.
-use Rattle.std.specs.Prelude.{ℕ, zero, suc, ◌+◌, ◌*◌, ◌-◌, ◌^◌, ℤ, pos, nat_abs, nat_le, nat_lt, int_lt, not, Bool, true, false, cond, eqb, if◌then◌else◌, Option, Some, None}
+use Rattle.std.specs.Prelude.{ℕ, zero, suc, ◌*◌, ◌-◌, ◌^◌, ℤ, pos, nat_abs, nat_le, nat_lt, int_lt, not, Bool, false, cond, eqb, Option, Some, None}
 use Rattle.fd_exact.specs.First.{first_place}
 use Rattle.fd_exact.specs.Greatest.{greatest}
 use Rattle.fd_exact.specs.Rounding.{ceil_nat}
