@@ -11,11 +11,12 @@ use Rattle.fd_equations.specs.Matrices.{IsMatrix, MatrixView, matrix_with}
 use Rattle.fd_equations.specs.Patterns.{IsSlot, PatternView, key}
 use Rattle.fd_equations.proofs.Elsewhere.{decide}
 
-pub matrix_row : (v : MatrixView) (p : PatternView) (cells found row_cells : List Cell) (row : ℕ) (at : ℕ × ℕ → Amount) → matrix_with p cells ≡ v → found ≡ cells → IsMatrix v.size v at
+pub matrix_row : (v : MatrixView) (p : PatternView) (cells found row_cells : List Cell) (row : ℕ) (at : ℕ × ℕ → Amount) → matrix_with p cells ≡ v → found ≡ cells → AreCells v.places v.cells at → IsNothingElsewhere v.places at
     → (AreCells p.places found at → IsNothingElsewhere p.places at → IsRowOf p.size at row row_cells) → IsRowOf v.size at row row_cells
-matrix_row v p cells found row_cells row at e f is h =
-    let m : IsMatrix p.size (matrix_with p cells) at = subst (λ (w : MatrixView). IsMatrix w.size w at) (sym e) is in
-    subst (λ (w : MatrixView). IsRowOf w.size at row row_cells) e (h (subst (λ l. AreCells p.places l at) (sym f) m.cells) m.nothing)
+matrix_row v p cells found row_cells row at e f are none h =
+    let m : AreCells p.places cells at = subst (λ (w : MatrixView). AreCells w.places w.cells at) (sym e) are in
+    let n : IsNothingElsewhere p.places at = subst (λ (w : MatrixView). IsNothingElsewhere w.places at) (sym e) none in
+    subst (λ (w : MatrixView). IsRowOf w.size at row row_cells) e (h (subst (λ l. AreCells p.places l at) (sym f) m) n)
 
 module _ (v : MatrixView) (at : ℕ × ℕ → Amount) (is : IsMatrix v.size v at) (dense : List ℤ)
     (here : (row col k : ℕ) → row < v.size → col < v.size → IsSlot v.places row col k → cell dense v.size row col ≡ (cell_at v.cells k).units)

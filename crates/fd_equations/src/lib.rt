@@ -44,6 +44,7 @@ pub use network::Network;
 pub use pattern::Pattern;
 pub use point::Point;
 pub use sparse::Rows;
+pub use terminals::{Voltage, voltage_of};
 
 #[cfg(test)]
 mod tests;

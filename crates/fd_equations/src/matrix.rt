@@ -3,9 +3,9 @@ ghost use Rattle.std.specs.Prelude.{◌≡◌, ℕ, ◌*◌, ◌<◌, ◌≤◌,
 ghost use Rattle.std.specs.List.{Contains};
 ghost use Rattle.fd_exact.specs.States.{cell, part, table};
 ghost use Rattle.fd_mat.specs.Rows.{EntriesWithin};
-ghost use Rattle.fd_equations.specs.Amounts.{Amount, HaveSlopeRoom, IsRowOf, cell_at};
+ghost use Rattle.fd_equations.specs.Amounts.{Amount, AreCells, HaveSlopeRoom, IsNothingElsewhere, IsRowOf, cell_at};
 ghost use Rattle.fd_equations.specs.Matrices.{IsMatrix, matrix_with};
-ghost use Rattle.fd_equations.specs.Patterns.{IsInside, IsRising, IsSlot};
+ghost use Rattle.fd_equations.specs.Patterns.{IsInside, IsRising, IsSlot, pattern_of};
 
 use crate::Pattern;
 use crate::cells::{Cell, row_in};
@@ -44,12 +44,26 @@ impl<'a> Matrix<'a> {
         self.pattern.size()
     }
 
+    /// The places at which something can stand.
+    pub fn pattern(&self) -> &'a Pattern
+        ensures { result.now ≡ pattern_of self.now.size self.now.places }
+    {
+        self.pattern
+    }
+
+    /// The cells in the order of the places.
+    pub fn cells(&self) -> &[Cell]
+        ensures { result.now ≡ self.now.cells }
+    {
+        self.cells.as_slice()
+    }
+
     /// The cells of a row in rising columns: the columns in which something stands, each with its entry in units of 2^-40, the number of
     /// contributions and the number of slopes of part loads in it.
     pub fn row(&self, row: u32) -> &[Cell]
         requires long { length self.now.cells ≡ length self.now.places }
         requires row { row < self.now.size }
-        ensures { (at : ℕ × ℕ → Amount) → IsMatrix self.now.size self.now at → IsRowOf self.now.size at row result.now }
+        ensures { (at : ℕ × ℕ → Amount) → AreCells self.now.places self.now.cells at → IsNothingElsewhere self.now.places at → IsRowOf self.now.size at row result.now }
     {
         row_in(self.pattern, &self.cells, row)
     }
