@@ -84,6 +84,11 @@ module _ (v : NetworkView) (x : List ℤ) (c : List (List ℤ)) where
   not_uncertain None m e = (refl, cc)
   not_uncertain (Some r) m e = let no : ⊥ = cc in absurd no
 
+  -- what a certificate claims of a point
+  pub claim_is : (m : Claim) → certificate_of v x c ≡ Ok m → claim_of v x c ≡ m
+  unfolding certificate_of
+  claim_is m e = (not_uncertain refused m (not_loose (first_loose v x) m e).1).1
+
   tight : first_loose v x ≡ None → (l : ℕ) → l < v.size → mismatch_at v x l ≤ greatest_mismatch
   unfolding first_loose
   tight h l p = ltb-false greatest_mismatch (mismatch_at v x l) (none_holds (λ k. nat_lt greatest_mismatch (mismatch_at v x k)) v.size l h p)

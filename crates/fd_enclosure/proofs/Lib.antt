@@ -8,3 +8,5 @@ pub mod Network
 pub mod Residuals
 pub mod Enclosing
 pub mod Certificates
+pub mod OwnResiduals
+pub mod CallerLemmas

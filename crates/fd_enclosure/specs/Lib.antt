@@ -3,3 +3,4 @@ pub mod Radii
 pub mod Bounds
 pub mod Sound
 pub mod Encloses
+pub mod Ties

@@ -1,15 +1,18 @@
 // What a certificate is: the trust box of a state, the radii of slopes in it, the bound and the radii of the unknowns, and when a claim
 // is sound. All of it is definitions in whole numbers, for a network without its circuit, and laws. It has no code of its own: the calls
-// of `laws` do nothing.
+// of `laws` and `ties` do nothing.
 //
 // A sound claim encloses: every state in the box, of any denominator, that meets the claim's mismatches is within the radii of its centre
 // (`enclosure_law`). The certificate of a point is sound (`certificate_law`). Between the centre and a state in the box each row changes as
 // the Jacobian at the centre says, up to the radii of the slopes (`change_law`). Where each part load is of constant impedance the rows are
-// linear, and the radii hold for every state that meets the mismatches, also outside the box (`linear_law`).
+// linear, and the radii hold for every state that meets the mismatches, also outside the box (`linear_law`). A mismatch is tied to its row's
+// residual (`tie_law`), and both parts of a complex unknown have one radius and one box (`ball_law`).
 //
-// Modules: `laws`, the laws.
+// Modules: `laws`, what certificates say, and `ties`, what holds their numbers.
 #![tactic(auto)]
 
 mod laws;
+mod ties;
 
 pub use laws::{certificate_law, change_law, enclosure_law, linear_law};
+pub use ties::{ball_law, tie_law};
