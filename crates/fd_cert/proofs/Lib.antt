@@ -1,0 +1,6 @@
+pub mod Raising
+pub mod Units
+pub mod RowBounds
+pub mod Verdict
+pub mod Certificates
+pub mod SlopeRadii

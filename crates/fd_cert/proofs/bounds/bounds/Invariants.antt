@@ -1,0 +1,14 @@
+use Rattle.std.proofs.Common.{◌≡◌, ℕ, ℤ, length}
+use Rattle.fd_exact.specs.States.{entry}
+use Rattle.fd_equations.specs.Rounded.{list_of}
+use Rattle.fd_enclosure.specs.Bounds.{bound_at}
+use Rattle.fd_cert.specs.Slopes.{HasSlopes}
+use Rattle.fd_cert.proofs.bounds.bounds.Given as goal
+
+abbrev pub invariant-loop-row : goal.invariant-loop-row
+invariant-loop-row l = record {
+  products : length l.products.items ≡ l.slopes.jacobian.now.size;
+  added : length l.added.items ≡ l.slopes.jacobian.now.size;
+  sizes : length l.sizes.items ≡ l.slopes.jacobian.now.size;
+  made : (J : ℕ → ℕ → ℤ) (R : ℕ → ℕ → ℕ) (w : ℕ → ℕ) → HasSlopes l.slopes.jacobian.now l.slopes.radii.now l.slopes.weights.now J R w → l.bounds.items ≡ list_of l.row (bound_at l.slopes.jacobian.now.size (entry l.inverse) J R w);
+}

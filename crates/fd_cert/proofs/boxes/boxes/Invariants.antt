@@ -1,0 +1,9 @@
+use Rattle.std.proofs.Common.{◌≡◌, nat_abs}
+use Rattle.fd_exact.specs.States.{part}
+use Rattle.fd_equations.specs.Rounded.{list_of}
+use Rattle.fd_equations.specs.Views.{kind_of}
+use Rattle.fd_enclosure.specs.Boxes.{half_width_by}
+use Rattle.fd_cert.proofs.boxes.boxes.Given as goal
+
+abbrev pub invariant-loop-place : goal.invariant-loop-place
+invariant-loop-place l = l.boxes.items ≡ list_of l.place (λ i. half_width_by (kind_of l.net i) (nat_abs (part l.weights i)))

@@ -1,0 +1,6 @@
+pub mod Places
+pub mod Claims
+pub mod Columns
+pub mod Slopes
+pub mod Reaches
+pub mod Verdicts

@@ -1,0 +1,28 @@
+// The certificate of a point of a network.
+//
+// `certify` takes a state with an inverse and answers the certificate that the definitions give: the mismatch of each row, the box, and a
+// radius for each unknown; or it names the first row that is loose, or the first unknown at which there is none, and nothing else but
+// want of memory. That a certificate is sound, and what it says of other states, are laws on the definitions.
+//
+// Modules: `ball`, what is certified; `fault`, why there is no certificate; `mismatches` of rows, and the first loose one; `boxes`, the
+// half-widths; `radii`, by how much slopes may be off, by non-zeros; `sums` of columns, and `bounds`, how far the inverse times the Jacobian is from
+// the unit matrix; `reach`, the radii of unknowns; `rounding`, quotients rounded up; `certificate` over them.
+#![tactic(auto)]
+
+mod ball;
+mod bounds;
+mod boxes;
+mod certificate;
+mod fault;
+mod mismatches;
+mod radii;
+mod reach;
+mod rounding;
+mod sums;
+
+pub use ball::{Ball, Certified};
+pub use certificate::certify;
+pub use fault::CertFault;
+
+#[cfg(test)]
+mod tests;

@@ -1,0 +1,54 @@
+// The mismatch of each row, and the first loose one.
+ghost use Rattle.std.specs.Prelude.{◌≡◌, ℕ, ◌<◌, ◌≤◌, ◌^◌, IfOk, IfNone, IfSome, length, map, nat_lt};
+ghost use Rattle.fd_exact.specs.First.{first_place};
+ghost use Rattle.fd_system.specs.Residual.{greater_size};
+ghost use Rattle.fd_equations.specs.Conditions.{IsPoint};
+ghost use Rattle.fd_enclosure.specs.Sound.{greatest_mismatch, mismatch_size, mismatches_of, number_at};
+
+use fd_arith::{Interval, Micro};
+use fd_equations::Network;
+use std::alloc::{AllocError, Global};
+
+// The greatest mismatch of a solution, in whole microamperes and microvolts.
+const GREATEST_MISMATCH: u128 = 1_000;
+
+// The mismatch of each row at the point x.
+pub fn mismatches(alloc: Global, net: &Network, x: &[i128]) -> Result<Vec<u128>, AllocError>
+    requires { IsPoint net.now x.now }
+    ensures mismatches { IfOk result (λ m. m.items ≡ mismatches_of net.now x.now) }
+    ensures long { IfOk result (λ m. length m.items ≡ net.now.size) }
+{
+    let residual = net.residual(alloc, x)?;
+    sizes(alloc, &residual)
+}
+
+fn sizes(alloc: Global, residual: &[Interval<Micro>]) -> Result<Vec<u128>, AllocError>
+    ensures { IfOk result (λ m. m.items ≡ map (λ a. mismatch_size (greater_size a)) residual.now) }
+{
+    residual.iter().map(|row| mismatch(row)).collect(alloc)
+}
+
+// The greater size of the ends of a row; one above the greatest mismatch where it has none.
+fn mismatch(row: &Interval<Micro>) -> u128
+    ensures { result ≡ mismatch_size (greater_size row.now) }
+{
+    match row.ends() {
+        Some((low, high)) => low.unsigned_abs().max(high.unsigned_abs()),
+        None => GREATEST_MISMATCH + 1,
+    }
+}
+
+// The first row whose mismatch is above the greatest, if there is one.
+pub fn first_loose(mismatch: &[u128]) -> Option<u32>
+    requires { length mismatch.now ≤ 2 ^ 11 }
+    ensures first { result ≡ first_place (λ l. nat_lt greatest_mismatch (number_at mismatch.now l)) (length mismatch.now) }
+    ensures inside { IfSome result (λ row. row < length mismatch.now) }
+    ensures tight { IfNone result ((l : ℕ) → l < length mismatch.now → number_at mismatch.now l ≤ greatest_mismatch) }
+{
+    for row in 0..mismatch.len() {
+        if mismatch[row] > GREATEST_MISMATCH {
+            return Some(row as u32);
+        }
+    }
+    None
+}

@@ -1,0 +1,94 @@
+// Sums of the columns of a matrix by non-zeros, each row times a factor.
+ghost use Rattle.std.specs.Prelude.{◌≡◌, ℕ, ◌<◌, ◌≤◌, ◌^◌, ◌*ℤ◌, ℤ, pos, nat_abs, IfNone, IfSome, List, length, Some, None};
+ghost use Rattle.fd_exact.specs.States.{part};
+ghost use Rattle.fd_arith.specs.Wide.{wide_product};
+ghost use Rattle.fd_equations.specs.Amounts.{IsRowOf};
+ghost use Rattle.fd_cert.specs.Columns.{AreColumns, AreUnits, HasEntries, IsMade, IsRow, column_sum, sum_more as more};
+
+use fd_arith::Wide;
+use fd_equations::{Cell, Matrix};
+
+// The product, where it is at most 2^120 in size.
+fn product(factor: i128, entry: i128) -> Option<i128>
+    ensures { result ≡ wide_product (Some factor) (Some entry) }
+{
+    match factor.checked_mul(entry) {
+        Some(product) => Wide::of(product).value(),
+        None => None,
+    }
+}
+
+// The sum with the product of a factor and an entry more, where both are at most 2^120 in size.
+fn sum_more(sum: i128, factor: i128, entry: i128) -> Option<i128>
+    requires { nat_abs sum ≤ 2 ^ 120 }
+    ensures sum { result ≡ more sum factor entry }
+    ensures small { IfSome result (λ s. nat_abs s ≤ 2 ^ 120) }
+{
+    match product(factor, entry) {
+        Some(product) => Wide::of(sum + product).value(),
+        None => None,
+    }
+}
+
+// Adds the products of a factor with the entries of a row to the sums of the columns. Gives a column at which a product or a sum passes
+// 2^120, if there is one.
+fn add_products(sums: &mut [i128], cells: &[Cell], factor: i128) -> Option<u32>
+    requires columns { AreColumns (length sums.old) cells.now }
+    requires units { AreUnits sums.old }
+    ensures long { length sums.new ≡ length sums.old }
+    ensures units { AreUnits sums.new }
+    ensures sums { (at : ℕ → ℤ) → IsRow cells.now at → IfNone result ((j : ℕ) → more (part sums.old j) factor (at j) ≡ Some (part sums.new j)) }
+    ensures past { (at : ℕ → ℤ) → IsRow cells.now at → IfSome result (λ j. (j < length sums.old) × (more (part sums.old j) factor (at j) ≡ None)) }
+{
+    for cell in cells {
+        let col = cell.col as usize;
+        match sum_more(sums[col], factor, cell.units) {
+            Some(sum) => sums[col] = sum,
+            None => return Some(cell.col),
+        }
+    }
+    None
+}
+
+// Writes into `sums` for each column the sum over the rows of the factor of the row times the entry. Gives a column at which a product or
+// a sum passes 2^120, if there is one.
+pub fn column_sums(sums: &mut [i128], matrix: &Matrix, factors: &[i128]) -> Option<u32>
+    requires made { IsMade matrix.now }
+    requires factors { length factors.now ≡ matrix.now.size }
+    requires sums { length sums.old ≡ matrix.now.size }
+    requires zero { (j : ℕ) → part sums.old j ≡ pos 0 }
+    ensures long { length sums.new ≡ length sums.old }
+    ensures units { AreUnits sums.new }
+    ensures sums { (J : ℕ → ℕ → ℤ) → HasEntries matrix.now J → IfNone result ((j : ℕ) → column_sum (part factors.now) J j matrix.now.size ≡ Some (part sums.new j)) }
+    ensures past { (J : ℕ → ℕ → ℤ) → HasEntries matrix.now J → IfSome result (λ j. (j < matrix.now.size) × (column_sum (part factors.now) J j matrix.now.size ≡ None)) }
+{
+    for row in 0..matrix.size() {
+        let past = add_products(sums, matrix.row(row), factors[row as usize]);
+        if past.is_some() {
+            return past;
+        }
+    }
+    None
+}
+
+// Writes 0 at each place.
+pub fn clear(sums: &mut [i128])
+    ensures long { length sums.new ≡ length sums.old }
+    ensures zero { (j : ℕ) → part sums.new j ≡ pos 0 }
+{
+    for sum in sums {
+        *sum = 0;
+    }
+}
+
+// Writes the sizes of numbers.
+pub fn write_sizes(sizes: &mut [i128], numbers: &[i128])
+    requires long { length sizes.old ≡ length numbers.now }
+    requires small { (k : ℕ) → k < length numbers.now → nat_abs (part numbers.now k) ≤ 2 ^ 120 }
+    ensures long { length sizes.new ≡ length numbers.now }
+    ensures sizes { (k : ℕ) → k < length numbers.now → part sizes.new k ≡ pos (nat_abs (part numbers.now k)) }
+{
+    for (k, size) in sizes.iter_mut().enumerate() {
+        *size = numbers[k].abs();
+    }
+}

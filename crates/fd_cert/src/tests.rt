@@ -1,0 +1,86 @@
+use crate::{CertFault, Certified, certify};
+use fd_arith::Term;
+use fd_equations::{Layout, Network, Point, Rows};
+use fd_mat::Dense;
+use fd_system::Constant;
+use std::alloc::{AllocError, Global};
+use std::process::Abort;
+use std::test::Fail;
+
+const ONE: i128 = 0x100_0000_0000;
+
+// A node at which a siemens to ground takes 100 ampere: 100 volt.
+fn network(alloc: Global, rt: &impl Abort) -> Result<Network, AllocError> {
+    let terms = vec![in alloc;
+        Term {
+            row: 0,
+            col: 0,
+            num: 1,
+            den: 1
+        },
+        Term {
+            row: 1,
+            col: 1,
+            num: 1,
+            den: 1
+        },
+    ]?;
+    let rows = Rows::of(alloc, 2, terms, Vec::new(alloc))?;
+    assert!(rt; rows.are_within());
+    let value = -100_000_000;
+    let constants = vec![in alloc; Constant { row: 0, value }]?;
+    let layout = Layout {
+        nodes: 1,
+        branches: 0,
+        magnitudes: 0,
+    };
+    Ok(Network::new(layout, rows, constants, 0))
+}
+
+// A state with a multiple of the unit matrix as its inverse.
+fn answer(
+    alloc: Global,
+    rt: &impl Abort,
+    re: i128,
+    diagonal: i128,
+) -> Result<Certified, CertFault> {
+    let net = network(alloc, rt)?;
+    let mut inverse = Dense::zero(alloc, 2)?;
+    inverse.set(0, 0, diagonal);
+    inverse.set(1, 1, diagonal);
+    let x = vec![in alloc; re, 0]?;
+    certify(alloc, &net, Point { x, inverse })
+}
+
+#[test]
+fn certified(rt: HostRuntime) -> Result<(), Fail> {
+    match answer(rt.alloc(), &rt, 100_001_000, ONE) {
+        Ok(m) => {
+            assert_eq!(rt; m.ball.centre.as_slice(), [100_001_000, 0].as_slice());
+            assert_eq!(rt; m.ball.radius.as_slice(), [2_001, 2_001].as_slice());
+            assert_eq!(rt; m.mismatch.as_slice(), [1_000, 0].as_slice());
+            assert_eq!(rt; m.boxes.as_slice(), [500_005, 500_005].as_slice());
+            assert_eq!(rt; m.inverse.get(0, 0), ONE);
+        }
+        Err(_) => assert!(rt; false),
+    }
+    Ok(())
+}
+
+#[test]
+fn refused(rt: HostRuntime) -> Result<(), Fail> {
+    match answer(rt.alloc(), &rt, 100_001_001, ONE) {
+        Err(CertFault::Loose { row, mismatch }) => {
+            assert_eq!(rt; (row, mismatch), (0, 1_001));
+        }
+        _ => assert!(rt; false),
+    }
+    match answer(rt.alloc(), &rt, 100_000_000, 0) {
+        Err(CertFault::NotCertified { place, sum, tried }) => {
+            assert_eq!(rt; (place, sum), (0, Some(ONE)));
+            assert_eq!(rt; tried.ball.radius.as_slice(), [0, 0].as_slice());
+        }
+        _ => assert!(rt; false),
+    }
+    Ok(())
+}
