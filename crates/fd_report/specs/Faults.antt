@@ -1,5 +1,5 @@
 -- The faults in which a command line can end: the fields of each record, and its exit status. An unknown or a row goes by its name.
-use Rattle.std.specs.Prelude.{ℕ, List, [], ◌∷◌, unsigned_abs, codes}
+use Rattle.std.specs.Prelude.{ℕ, List, [], ◌∷◌, unsigned_abs, codes, Option, Some, None}
 use Rattle.std.specs.Fmt.{decimal}
 use Rattle.dss_values.specs.Names.{bytes}
 use Rattle.dss_values.specs.declared.fault.ModelFault.{ModelFault}
@@ -12,7 +12,7 @@ use Rattle.fd_report.specs.declared.faults.Cause.{Cause}
 use Rattle.fd_report.specs.declared.faults.Cause.TheVariants as cause
 use Rattle.fd_report.specs.declared.faults.Fault.{Fault}
 use Rattle.fd_report.specs.declared.faults.Fault.TheVariants as fault
-use Rattle.fd_report.specs.Numbers.{micro_text, size_text}
+use Rattle.fd_report.specs.Numbers.{size_text}
 
 -- ---- words
 
@@ -58,6 +58,11 @@ cause_text (cause.Script c) = script_text c
 cause_text (cause.Model c) = model_text c
 cause_text cause.NotBuilt = codes "not built"
 
+-- a bound in whole 2^-40, or past every number
+abbrev pub bound_text : Option ℕ → List ℕ
+bound_text None = codes "all"
+bound_text (Some bound) = decimal bound
+
 -- ---- the fields of its record
 
 abbrev pub fields : Fault → List (List ℕ)
@@ -68,7 +73,8 @@ fields (fault.NoInverse unknown c) = codes "fault" ∷ codes "no inverse" ∷ by
 fields (fault.OutOfRange unknown step) = codes "fault" ∷ codes "out of range" ∷ bytes unknown ∷ decimal step ∷ []
 fields (fault.NotConverged unknown steps update) =
     codes "fault" ∷ codes "not converged" ∷ bytes unknown ∷ decimal steps ∷ size_text (unsigned_abs update) ∷ []
-fields (fault.Loose row mismatch) = codes "fault" ∷ codes "loose" ∷ bytes row ∷ micro_text mismatch ∷ []
+fields (fault.Loose row mismatch) = codes "fault" ∷ codes "loose" ∷ bytes row ∷ size_text mismatch ∷ []
+fields (fault.NotCertified unknown bound) = codes "fault" ∷ codes "not certified" ∷ bytes unknown ∷ bound_text bound ∷ []
 
 -- ---- its status
 
@@ -80,3 +86,4 @@ status (fault.NoInverse unknown c) = 6
 status (fault.OutOfRange unknown step) = 7
 status (fault.NotConverged unknown steps update) = 8
 status (fault.Loose row mismatch) = 9
+status (fault.NotCertified unknown bound) = 10

@@ -1,6 +1,8 @@
 pub mod Numbers
 pub mod Lines
 pub mod Names
+pub mod Solutions
+pub mod Sizes
 pub mod Records
 pub mod Faults
 pub mod Texts

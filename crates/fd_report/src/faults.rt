@@ -5,10 +5,10 @@ ghost use Rattle.dss_values.specs.Names.{bytes};
 ghost use Rattle.dss_layout.specs.Layout.{size_of};
 ghost use Rattle.fd_report.specs.Lines.{line_of};
 ghost use Rattle.fd_report.specs.Names.{name_at};
-ghost use Rattle.fd_report.specs.Faults.{cause_text, fields, model_text, script_text, status, stop_word};
+ghost use Rattle.fd_report.specs.Faults.{bound_text, cause_text, fields, model_text, script_text, status, stop_word};
 
 use crate::line::record_of;
-use crate::number::{micro_text, size_text};
+use crate::number::size_text;
 use dss_layout::Layout;
 use dss_lexer::Text;
 use dss_profile::Place;
@@ -62,7 +62,13 @@ pub enum Fault {
     /// The mismatch of this row, in whole microvolts or microamperes, is above the greatest of a solution.
     Loose {
         row: Text,
-        mismatch: i128,
+        mismatch: u128,
+    },
+    /// The state has no certificate: the bound of this unknown reaches one. The bound is in whole 2^-40, and none where it is past every
+    /// number.
+    NotCertified {
+        unknown: Text,
+        bound: Option<u128>,
     },
 }
 
@@ -194,7 +200,7 @@ fn not_converged_record(
     ensures { IfOk result (λ r. r.bytes ≡ line_of (fields (Fault.NotConverged unknown.now steps update))) }
 {
     let steps = steps.to_string(alloc)?;
-    let size = size_text(alloc, update)?;
+    let size = size_text(alloc, update.unsigned_abs())?;
     record_of(
         alloc,
         &[
@@ -207,10 +213,10 @@ fn not_converged_record(
     )
 }
 
-fn loose_record(alloc: Global, row: &Text, mismatch: i128) -> Result<Record, AllocError>
+fn loose_record(alloc: Global, row: &Text, mismatch: u128) -> Result<Record, AllocError>
     ensures { IfOk result (λ r. r.bytes ≡ line_of (fields (Fault.Loose row.now mismatch))) }
 {
-    let mismatch = micro_text(alloc, mismatch)?;
+    let mismatch = size_text(alloc, mismatch)?;
     record_of(
         alloc,
         &[
@@ -218,6 +224,39 @@ fn loose_record(alloc: Global, row: &Text, mismatch: i128) -> Result<Record, All
             b"loose",
             row.as_str().as_bytes(),
             mismatch.as_slice(),
+        ],
+    )
+}
+
+// A bound is a whole number, or past every number.
+fn bound_text(alloc: Global, bound: Option<u128>) -> Result<Vec<u8>, AllocError>
+    ensures { IfOk result (λ v. v.items ≡ bound_text bound) }
+{
+    match bound {
+        Some(bound) => Ok(bound.to_string(alloc)?.into_bytes()),
+        None => {
+            let mut text = Vec::new(alloc);
+            text.extend_from_slice(b"all")?;
+            Ok(text)
+        }
+    }
+}
+
+fn not_certified_record(
+    alloc: Global,
+    unknown: &Text,
+    bound: Option<u128>,
+) -> Result<Record, AllocError>
+    ensures { IfOk result (λ r. r.bytes ≡ line_of (fields (Fault.NotCertified unknown.now bound))) }
+{
+    let bound = bound_text(alloc, bound)?;
+    record_of(
+        alloc,
+        &[
+            b"fault",
+            b"not certified",
+            unknown.as_str().as_bytes(),
+            bound.as_slice(),
         ],
     )
 }
@@ -238,6 +277,7 @@ pub fn record(alloc: Global, fault: &Fault) -> Result<Record, AllocError>
             update,
         } => not_converged_record(alloc, unknown, *steps, *update),
         Fault::Loose { row, mismatch } => loose_record(alloc, row, *mismatch),
+        Fault::NotCertified { unknown, bound } => not_certified_record(alloc, unknown, *bound),
     }
 }
 
@@ -253,5 +293,6 @@ pub fn status(fault: &Fault) -> u8
         Fault::OutOfRange { .. } => 7,
         Fault::NotConverged { .. } => 8,
         Fault::Loose { .. } => 9,
+        Fault::NotCertified { .. } => 10,
     }
 }

@@ -1,14 +1,17 @@
 //! The records of a solved network, and those of the faults in which the search for a state can end.
 //!
 //! `records` promises exactly the records of one solution, in order: the solution's, one for each node, one for each
-//! branch phase and one for each magnitude, each with its own name, its own parts of the state and the mismatches of its
-//! own rows. Each fault's record has exactly the fields of its definition. A record is the text of its fields as csv
+//! branch phase and one for each magnitude, each with its own name, its own parts of the state, their radius and box, and the
+//! mismatches of its own rows. Each fault's record has exactly the fields of its definition. A record is the text of its fields as csv
 //! writes them. Want of memory is the one error.
 //!
 //! - `number`: the texts of numbers of micro-units
 //! - `names`: the names of nodes, elements and unknowns
 //! - `line`: a record of its fields
-//! - `solution`: the records of a solution
+//! - `solution`: the numbers of a solution
+//! - `sizes`: the least and the greatest size of a phasor within its radii
+//! - `texts`: the numbers of an unknown as texts
+//! - `report`: the records of a solution
 //! - `faults`: the records of faults
 #![tactic(auto)]
 
@@ -16,8 +19,12 @@ mod faults;
 mod line;
 mod names;
 mod number;
+mod report;
+mod sizes;
 mod solution;
+mod texts;
 
 pub use faults::{Cause, Fault, name_at, record, status};
 pub use number::{micro_text, size_text};
-pub use solution::records;
+pub use report::records;
+pub use solution::Solution;

@@ -38,12 +38,12 @@ fn push_size(alloc: Global, text: &mut Vec<u8>, size: u128) -> Result<(), AllocE
     Ok(())
 }
 
-/// The text of the size of a number of micro-units: six decimals and no sign.
-pub fn size_text(alloc: Global, value: i128) -> Result<Vec<u8>, AllocError>
-    ensures { IfOk result (λ v. v.items ≡ size_text (unsigned_abs value)) }
+/// The text of so many micro-units: six decimals.
+pub fn size_text(alloc: Global, size: u128) -> Result<Vec<u8>, AllocError>
+    ensures { IfOk result (λ v. v.items ≡ size_text size) }
 {
     let mut text = Vec::new(alloc);
-    push_size(alloc, &mut text, value.unsigned_abs())?;
+    push_size(alloc, &mut text, size)?;
     Ok(text)
 }
 
