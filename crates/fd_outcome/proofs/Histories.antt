@@ -23,6 +23,7 @@ statuses (fault.NoInverse unknown cause) = is_status 6 (λ e. omega (arith, e)) 
 statuses (fault.OutOfRange unknown step) = is_status 7 (λ e. omega (arith, e)) (λ e. omega (arith, e)) (λ e. omega (arith, e)) (omega arith)
 statuses (fault.NotConverged unknown steps update) = is_status 8 (λ e. omega (arith, e)) (λ e. omega (arith, e)) (λ e. omega (arith, e)) (omega arith)
 statuses (fault.Loose row mismatch) = is_status 9 (λ e. omega (arith, e)) (λ e. omega (arith, e)) (λ e. omega (arith, e)) (omega arith)
+statuses (fault.NotCertified unknown bound) = is_status 10 (λ e. omega (arith, e)) (λ e. omega (arith, e)) (λ e. omega (arith, e)) (omega arith)
 
 -- ---- exactly one
 

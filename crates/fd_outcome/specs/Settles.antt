@@ -16,12 +16,14 @@ pub record Act : Type 0 where
   pub steps : ℤ
   pub after : ℤ
 
--- A state that the procedure reaches, by place, in whole microvolts and microamperes, the mismatch of each row, and the inverse with which
--- it was reached. Its certificate's radii, and the acts behind it; where there is no certificate, or no control acts, there are none.
+-- A state that the procedure reaches, by place, in whole microvolts and microamperes, with its certificate: the radius within which others
+-- lie of it, the half-width of the box of which these speak, the mismatch of each row, and the inverse with which it was reached, in units
+-- of 2^-40. And the acts behind it, none where no control acts.
 pub record Round : Type 0 where
   pub centre : List ℤ
   pub radii : List ℕ
-  pub mismatches : List ℤ
+  pub boxes : List ℕ
+  pub mismatches : List ℕ
   pub inverse : List (List ℤ)
   pub acts : List Act
 
