@@ -7,12 +7,14 @@ use Rattle.dss_layout.specs.Layout.{LayoutView, layout_of}
 use Rattle.dss_circuit.specs.Circuit.{CircuitView}
 use Rattle.fd_report.specs.Lines.{lines_of}
 use Rattle.fd_report.specs.Records.{report_of}
+use Rattle.fd_report.specs.Solutions.{SolutionView}
 use Rattle.fd_report.specs.Faults.{status}
 use Rattle.fd_report.specs.declared.faults.Fault.{Fault}
 use Rattle.fd_report.specs.declared.faults.Fault.TheVariants as fault
 use Rattle.fd_outcome.specs.Settles.{Round, Settle, failed, settled}
 use Rattle.fd_outcome.specs.Events.{AllSettles, Event, IfSettle, finishes, settle}
 use Rattle.fd_outcome.specs.Work.{Step, ExactlyOne, goes, ends}
+use Rattle.fd_outcome.specs.Pages.{solution_in}
 use Rattle.fd_outcome.specs.Calls.{Call, report, reads, writes, opened, body, fault_text}
 use Rattle.fd_outcome.specs.Done.{IsFrontOf, IsDone}
 use Rattle.fd_outcome.specs.Way.{whole}
@@ -42,8 +44,8 @@ behind_report false events = opened_by_nothing (body report events)
 round_behind : (begun : Bool) (c : CircuitView) (r : Round) → behind report begun (settle (snapshot_settle c (r ∷ []) settled) ∷ []) ≡ map writes (texts_of c r)
 round_behind begun c r =
     behind_report begun (settle (snapshot_settle c (r ∷ []) settled) ∷ [])
-    ∙ append-nil (map writes (lines_of (report_of (layout_of c.elements) c.solves 0 0 r.centre r.mismatches ++ [])))
-    ∙ ap (λ rows. map writes (lines_of rows)) (append-nil (report_of (layout_of c.elements) c.solves 0 0 r.centre r.mismatches))
+    ∙ append-nil (map writes (lines_of (report_of (layout_of c.elements) c.solves 0 0 (solution_in r) ++ [])))
+    ∙ ap (λ rows. map writes (lines_of rows)) (append-nil (report_of (layout_of c.elements) c.solves 0 0 (solution_in r)))
 
 failed_behind : (begun : Bool) (c : CircuitView) (f : Fault) → behind report begun (settle (snapshot_settle c [] (failed f)) ∷ []) ≡ []
 failed_behind begun c f = behind_report begun (settle (snapshot_settle c [] (failed f)) ∷ [])
@@ -63,12 +65,11 @@ or_true true = refl
 or_true false = refl
 
 -- texts of what is equal
-pub same_texts : (a b : LayoutView) (n k : ℕ) (x y e f : List ℤ) → a ≡ b → n ≡ k → x ≡ y → e ≡ f → lines_of (report_of a n 0 0 x e) ≡ lines_of (report_of b k 0 0 y f)
-same_texts a b n k x y e f same_layout same_number same_state same_mismatches =
-    ap (λ l. lines_of (report_of l n 0 0 x e)) same_layout
-    ∙ ap (λ i. lines_of (report_of b i 0 0 x e)) same_number
-    ∙ ap (λ z. lines_of (report_of b k 0 0 z e)) same_state
-    ∙ ap (λ z. lines_of (report_of b k 0 0 y z)) same_mismatches
+pub same_texts : (a b : LayoutView) (n k : ℕ) (s t : SolutionView) → a ≡ b → n ≡ k → s ≡ t → lines_of (report_of a n 0 0 s) ≡ lines_of (report_of b k 0 0 t)
+same_texts a b n k s t same_layout same_number same_solution =
+    ap (λ l. lines_of (report_of l n 0 0 s)) same_layout
+    ∙ ap (λ i. lines_of (report_of b i 0 0 s)) same_number
+    ∙ ap (λ z. lines_of (report_of b k 0 0 z)) same_solution
 
 -- ---- statuses of a command's faults
 
@@ -86,6 +87,7 @@ command_status (fault.NoInverse u c) h = (λ e. omega (arith, e), λ e. omega (a
 command_status (fault.OutOfRange u k) h = (λ e. omega (arith, e), λ e. omega (arith, e))
 command_status (fault.NotConverged u k d) h = (λ e. omega (arith, e), λ e. omega (arith, e))
 command_status (fault.Loose u d) h = (λ e. omega (arith, e), λ e. omega (arith, e))
+command_status (fault.NotCertified u k) h = (λ e. omega (arith, e), λ e. omega (arith, e))
 
 module _ {S : Type 0} (taken : S → Option (List ℕ)) (calls : S → Option ℕ) where
   pub never_usage : (old new : S) (f : Fault) (code : ℕ) → IsOfCommand f → Printed taken calls old new (fault_doing f) code → code ≡ 2 → ⊥

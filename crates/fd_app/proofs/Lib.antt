@@ -1,5 +1,6 @@
 mod Weaker
 mod SnapshotNetworks
+mod Solutions
 mod Unsolved
 pub mod Tests
 mod Handed

@@ -27,12 +27,13 @@ use Rattle.fd_inject.specs.declared.fault.SolveFault.TheVariants as procedure
 use Rattle.fd_report.specs.Names.{name_at}
 use Rattle.fd_report.specs.declared.faults.Cause.TheVariants as cause
 use Rattle.fd_report.specs.declared.faults.Fault.TheVariants as run
+use Rattle.fd_enclosure.specs.Sound.{certificate_of}
 use Rattle.fd_outcome.specs.Work.{Step, ExactlyOne}
 use Rattle.fd_outcome.proofs.CallerLemmas.{exactly_this}
 use Rattle.fd_app.specs.Commands.{Applied, nothing_left, solve_left, refused_at, IsByTests, IsSolve, IsStep, IsStepOf, IsTested, tried}
 use Rattle.fd_app.specs.Built.{unbuilt_place}
-use Rattle.fd_app.specs.Solving.{IsByBuilt, IsByPoint, IsByRange, IsSolutionStep, IsUnsolved, judged, limits_of, mismatches_of, snapshot_blame, snapshot_network}
-use Rattle.fd_app.specs.Steps.{changes, fails, refuses, round_of}
+use Rattle.fd_app.specs.Solving.{IsByBuilt, IsByPoint, IsByRange, IsSolutionStep, IsUnsolved, judged, limits_of, snapshot_blame, snapshot_network}
+use Rattle.fd_app.specs.Steps.{changes, fails, refuses}
 use Rattle.fd_app.proofs.Unsolved.{never_memory}
 
 -- ---- the tests of Solve have one answer
@@ -172,7 +173,7 @@ one_unsolved c (procedure.NotConverged place steps update) told = exactly_this (
 one_unsolved c procedure.NoMemory told = absurd (told refl)
 
 one_by_point : (c : CircuitView) (v : NetworkView) (r : Result (List ℤ × List (List ℤ)) SolveFault) → (r ≡ Err procedure.NoMemory → ⊥) → ExactlyOne (IsByPoint c v r)
-one_by_point c v (Ok point) told = exactly_this (judged c (round_of point.0 point.1 (mismatches_of v point.0)))
+one_by_point c v (Ok point) told = exactly_this (judged c (certificate_of v point.0 point.1))
 one_by_point c v (Err f) told = one_unsolved c f (λ is. told (ap Err is))
 
 one_by_range : (c : CircuitView) (blame : Option Blame) → ExactlyOne (IsByRange c blame)

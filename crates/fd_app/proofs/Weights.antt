@@ -31,16 +31,15 @@ use Rattle.dss_script.specs.Sessions.{cost}
 use Rattle.dss_profile.specs.declared.command.Blame.{Blame}
 use Rattle.fd_report.specs.declared.faults.Cause.{Cause}
 use Rattle.fd_report.specs.declared.faults.Cause.TheVariants as cause
-use Rattle.fd_outcome.specs.Settles.{Round}
 use Rattle.fd_outcome.specs.Events.{Event}
 use Rattle.fd_outcome.specs.Work.{Step, goes, ends}
 use Rattle.fd_app.specs.Built.{unbuilt_place}
 use Rattle.fd_app.specs.Commands.{Applied, IsByTests, IsStep, IsStepOf, is_daily, left_of, nothing_left, reads_shape, refused_at, solve_by, solve_left, tried}
-use Rattle.fd_app.specs.Solving.{IsByBuilt, IsByPoint, IsByRange, IsSolutionStep, IsUnsolved, greatest_mismatch, limits_of, mismatches_of, snapshot_blame, snapshot_network, unless_loose}
-use Rattle.fd_app.specs.Steps.{changes, refuses, round_of}
+use Rattle.fd_app.specs.Solving.{IsByBuilt, IsByPoint, IsByRange, IsSolutionStep, IsUnsolved, judged, limits_of, snapshot_blame, snapshot_network}
+use Rattle.fd_app.specs.Steps.{changes, refuses}
 use Rattle.fd_equations.specs.Views.{NetworkView}
+use Rattle.fd_enclosure.specs.Sound.{Claim, Refusal, certificate_of, loose, uncertain}
 use Rattle.fd_inject.specs.Procedure.{solution_of}
-use Rattle.fd_inject.specs.Ranges.{first_past}
 use Rattle.fd_inject.specs.declared.fault.SolveFault.{SolveFault}
 use Rattle.fd_inject.specs.declared.fault.SolveFault.TheVariants as procedure
 use Rattle.fd_app.specs.Weights.{weight}
@@ -243,9 +242,10 @@ Leaves (ends events f) now = ⊥
 left_by : (now : CircuitView) (step other : Step CircuitView) → step ≡ other → Leaves step now → Leaves other now
 left_by now step other is leaves = subst (λ s. Leaves s now) is leaves
 
-loose_leaves : (circuit now : CircuitView) (r : Round) (row : Option ℕ) → Leaves (unless_loose circuit r row) now → circuit ≡ now
-loose_leaves circuit now r None h = h
-loose_leaves circuit now r (Some row) h = absurd h
+judged_leaves : (circuit now : CircuitView) (r : Result Claim Refusal) → Leaves (judged circuit r) now → circuit ≡ now
+judged_leaves circuit now (Ok m) h = h
+judged_leaves circuit now (Err (loose row mismatch)) h = absurd h
+judged_leaves circuit now (Err (uncertain place bound)) h = absurd h
 
 fault_leaves : (circuit now : CircuitView) (f : SolveFault) (step : Step CircuitView) → IsUnsolved circuit f step → Leaves step now → circuit ≡ now
 fault_leaves circuit now (procedure.NoInverse column c) step is h = absurd (left_by now step _ is h)
@@ -254,8 +254,7 @@ fault_leaves circuit now (procedure.NotConverged place steps update) step is h =
 fault_leaves circuit now procedure.NoMemory step is h = absurd is
 
 point_leaves : (circuit now : CircuitView) (v : NetworkView) (r : Result (List ℤ × List (List ℤ)) SolveFault) (step : Step CircuitView) → IsByPoint circuit v r step → Leaves step now → circuit ≡ now
-point_leaves circuit now v (Ok p) step is h =
-    loose_leaves circuit now (round_of p.0 p.1 (mismatches_of v p.0)) (first_past greatest_mismatch (mismatches_of v p.0)) (left_by now step _ is h)
+point_leaves circuit now v (Ok p) step is h = judged_leaves circuit now (certificate_of v p.0 p.1) (left_by now step _ is h)
 point_leaves circuit now v (Err f) step is h = fault_leaves circuit now f step is h
 
 range_leaves : (circuit now : CircuitView) (blame : Option Blame) (step : Step CircuitView) → IsByRange circuit blame step → Leaves step now → circuit ≡ now

@@ -6,18 +6,16 @@ ghost use Rattle.fd_app.specs.Steps.{refuses};
 
 use dss_circuit::Place;
 use dss_layout::Layout;
-use fd_equations::Point;
 use fd_report::{Cause, Fault};
+use fd_settle::Round;
 use std::alloc::{AllocError, Global};
 
-/// The state of a circuit that the procedure reaches, with its inverse, and the mismatch of each row, by place, in whole microvolts and
-/// microamperes.
+/// The state of a circuit that the procedure reaches, with its certificate.
 #[derive(Drop)]
 pub(crate) struct SolvedState {
     /// Where the circuit's unknowns stand.
     pub layout: Layout,
-    pub point: Point,
-    pub mismatches: Vec<i128>,
+    pub round: Round,
 }
 
 /// What a command comes to: a change of the circuit, a solution, or the end of the run.

@@ -9,7 +9,7 @@ ghost use Rattle.fd_app.specs.Answered.{IsPrintable, round_in, texts_of};
 use crate::answer::SolvedState;
 use dss_circuit::Circuit;
 use fd_outside::{Sink, SinkFault, emit};
-use fd_report::{Fault, record, records, status};
+use fd_report::{Fault, Solution, record, records, status};
 use std::alloc::Global;
 
 /// The exit status where memory runs out.
@@ -48,15 +48,14 @@ pub(crate) fn print_solution<S: Sink>(
     ensures write { IfSome result (λ code. code ≡ 5 → Rose (S.faults out.old) (S.faults out.new)) }
 {
     let number = circuit.solves();
-    let made = records(
-        alloc,
-        &solved.layout,
-        number,
-        0,
-        0,
-        &solved.point.x,
-        &solved.mismatches,
+    let certified = &solved.round.certified;
+    let solution = Solution::new(
+        &certified.ball.centre,
+        &certified.ball.radius,
+        &certified.boxes,
+        &certified.mismatch,
     );
+    let made = records(alloc, &solved.layout, number, 0, 0, &solution);
     let Ok(records) = made else {
         return Some(WANT_OF_MEMORY);
     };

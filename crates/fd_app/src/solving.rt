@@ -1,48 +1,42 @@
 // What a Solve of a circuit that passed the tests comes to.
-ghost use Rattle.std.specs.Prelude.{◌≡◌, ◌<◌, ℤ, pos, List, length, map, None, Result, Err, IfErr, IfNone, IfOk, IfSome};
-ghost use Rattle.std.specs.Option.{option_map, unwrap_or};
+ghost use Rattle.std.specs.Prelude.{◌≡◌, ℤ, nat_abs, List, None, Result, Err, IfErr, IfOk};
+ghost use Rattle.std.specs.Option.{option_map};
 ghost use Rattle.dss_profile.specs.InRange.{OptionsInRange};
 ghost use Rattle.dss_layout.specs.Layout.{first_too_many, layout_of, size_of};
 ghost use Rattle.dss_circuit.specs.Circuit.{CircuitView};
 ghost use Rattle.dss_ready.specs.Ready.{HasPassed};
-ghost use Rattle.fd_exact.specs.States.{size_at};
-ghost use Rattle.fd_system.specs.Meets.{Meets};
-ghost use Rattle.fd_system.specs.Residual.{greater_size as greater_end, whole_state};
-ghost use Rattle.fd_system.specs.System.{residual_of};
 ghost use Rattle.fd_equations.specs.Conditions.{IsPoint};
 ghost use Rattle.fd_equations.specs.Views.{NetworkView};
 ghost use Rattle.fd_devices.specs.Devices.{AgreesWith};
 ghost use Rattle.fd_devices.specs.Scripted.{circuit_parts};
 ghost use Rattle.fd_devices.specs.Snapshot.{snapshot_of};
 ghost use Rattle.fd_network.specs.Faults.{IsFaultOf};
+ghost use Rattle.fd_enclosure.specs.Sound.{IsInverse, certificate_of};
+ghost use Rattle.fd_cert.specs.Claims.{IsInside as IsPlaced, Refuses, claim_in};
 ghost use Rattle.fd_inject.specs.Faults.{IsInside, UnlessMemory};
 ghost use Rattle.fd_inject.specs.Procedure.{IsLimits, solution_of};
-ghost use Rattle.fd_inject.specs.Ranges.{SizesWithin, first_past};
 ghost use Rattle.fd_inject.specs.declared.fault.SolveFault.{SolveFault};
+ghost use Rattle.fd_report.specs.Solutions.{IsOfSize};
+ghost use Rattle.fd_outcome.specs.Pages.{solution_in};
 ghost use Rattle.fd_app.specs.Answered.{IsSound, answered};
 ghost use Rattle.fd_app.specs.Built.{is_built, unbuilt_place};
-ghost use Rattle.fd_app.specs.Headline.{AreMismatches, IsReached};
-ghost use Rattle.fd_app.specs.Steps.{round_of};
-ghost use Rattle.fd_app.specs.Solving.{IsByNetwork, IsByPoint, IsByRange, IsSolutionStep, greatest_mismatch, judged, limits_of, mismatches_of, no_ends, snapshot_blame, snapshot_network};
+ghost use Rattle.fd_app.specs.Headline.{IsReached, IsSolution};
+ghost use Rattle.fd_app.specs.Steps.{round_of, solves};
+ghost use Rattle.fd_app.specs.Solving.{IsByNetwork, IsByPoint, IsByRange, IsSolutionStep, judged, limits_of, snapshot_blame, snapshot_network};
 
 use crate::answer::{Answer, SolvedState, refused};
 use dss_circuit::{Circuit, Element, Place};
 use dss_layout::Layout;
 use dss_profile::Options;
-use fd_arith::{Interval, Micro};
+use fd_cert::{CertFault, Certified, certify};
 use fd_devices::{BuildFault, Positions, powers_at, snapshot_law};
+use fd_enclosure::{ball_law, certificate_law, enclosure_law, tie_law};
 use fd_equations::{Network, Point};
 use fd_inject::{Limits, SolveFault, solve};
 use fd_network::build;
 use fd_report::{Cause, Fault, name_at};
-use fd_system::greater_size;
+use fd_settle::Round;
 use std::alloc::{AllocError, Global};
-
-// What a row whose residual has no ends counts as: one above the greatest mismatch.
-const NO_ENDS: i128 = 1_001;
-
-// The greatest mismatch of a solution, in whole microvolts or microamperes.
-const GREATEST_MISMATCH: u128 = 1000;
 
 // Whether an element is solved.
 fn is_built(element: &Element) -> bool
@@ -110,51 +104,37 @@ fn network_of(alloc: Global, circuit: &Circuit) -> Result<Network, BuildFault>
     build(alloc, circuit, &positions, &powers)
 }
 
-// The greater size of the ends of a row's residual, in whole micro-units. At a point of a network it has ends in every row.
-fn mismatch_of(row: Interval<Micro>) -> i128
-    ensures { result ≡ unwrap_or (greater_end row) no_ends }
+// Why a point has no certificate, as what the circuit comes to.
+fn uncertified(alloc: Global, layout: &Layout, fault: CertFault) -> Result<Answer, AllocError>
+    requires { IsPlaced (size_of layout.now) fault }
+    ensures { (circuit : CircuitView) (v : NetworkView) (x : List ℤ) (c : List (List ℤ)) → layout.now ≡ layout_of circuit.elements → Refuses v x c fault →
+        IfOk result (λ answer. (answered answer circuit ≡ judged circuit (certificate_of v x c)) × IsSound answer circuit) }
 {
-    greater_size(row).unwrap_or(NO_ENDS)
-}
-
-// The mismatches of these rows.
-fn mismatches_in(alloc: Global, rows: &[Interval<Micro>]) -> Result<Vec<i128>, AllocError>
-    ensures { IfOk result (λ e. e.items ≡ map (λ row. unwrap_or (greater_end row) no_ends) rows.now) }
-{
-    let mut mismatches = Vec::with_capacity(alloc, rows.len())?;
-    for row in rows {
-        mismatches.push(mismatch_of(*row))?;
-    }
-    Ok(mismatches)
-}
-
-// The mismatch of each row of a network at a point.
-fn mismatches_of(alloc: Global, net: &Network, x: &[i128]) -> Result<Vec<i128>, AllocError>
-    requires { IsPoint net.now x.now }
-    ensures mismatches { IfOk result (λ e. e.items ≡ mismatches_of net.now x.now) }
-    ensures due { IfOk result (λ e. AreMismatches net.now x.now e.items) }
-    ensures meets { IfOk result (λ e. Meets (residual_of net.now.share) (size_at e.items) net.now.size (whole_state x.now)) }
-{
-    let rows = net.residual(alloc, x)?;
-    mismatches_in(alloc, &rows)
-}
-
-// The first of so many rows whose mismatch is above the greatest of a solution.
-fn first_loose(mismatches: &[i128], rows: u32) -> Option<u32>
-    requires { length mismatches.now ≡ rows }
-    ensures first { result ≡ first_past greatest_mismatch mismatches.now }
-    ensures small { IfNone result (SizesWithin greatest_mismatch mismatches.now) }
-    ensures within { IfSome result (λ row. row < length mismatches.now) }
-{
-    for row in 0..rows {
-        if mismatches[row as usize].unsigned_abs() > GREATEST_MISMATCH {
-            return Some(row);
+    match fault {
+        CertFault::Loose { row, mismatch } => {
+            let row = name_at(alloc, layout, row)?;
+            Ok(Answer::Fails(Fault::Loose { row, mismatch }))
         }
+        CertFault::NotCertified { place, sum, .. } => {
+            let unknown = name_at(alloc, layout, place)?;
+            let bound = size_of_bound(sum);
+            Ok(Answer::Fails(Fault::NotCertified { unknown, bound }))
+        }
+        CertFault::NoMemory => Err(AllocError),
     }
-    None
 }
 
-// What a point with its mismatches comes to.
+// The size of a bound, where there is one.
+fn size_of_bound(sum: Option<i128>) -> Option<u128>
+    ensures { result ≡ option_map nat_abs sum }
+{
+    match sum {
+        Some(sum) => Some(sum.unsigned_abs()),
+        None => None,
+    }
+}
+
+// What a point comes to.
 fn judge(
     alloc: Global,
     circuit: &Circuit,
@@ -165,23 +145,32 @@ fn judge(
     requires network { net.now ≡ snapshot_network circuit.now }
     requires agrees { AgreesWith net.now.share (circuit_parts circuit.now (snapshot_of circuit.now.elements)) }
     requires point { IsPoint net.now point.x.items }
+    requires inverse { IsInverse net.now.size point.inverse }
     requires reached { IsReached circuit.now point.x.items point.inverse }
-    ensures { IfOk result (λ answer. (answered answer circuit.now ≡ judged circuit.now (round_of point.x.items point.inverse (mismatches_of net.now point.x.items))) × IsSound answer circuit.now) }
+    ensures { IfOk result (λ answer. (answered answer circuit.now ≡ judged circuit.now (certificate_of net.now point.x.items point.inverse)) × IsSound answer circuit.now) }
 {
     let layout = layout_of(alloc, circuit)?;
-    let mismatches = mismatches_of(alloc, net, &point.x)?;
-    match first_loose(&mismatches, net.size()) {
-        Some(row) => {
-            let mismatch = mismatches[row as usize];
-            let row = name_at(alloc, &layout, row)?;
-            Ok(Answer::Fails(Fault::Loose { row, mismatch }))
-        }
-        None => Ok(Answer::Solves(SolvedState {
-            layout,
-            point,
-            mismatches,
-        })),
+    let _valid = net.size();
+    certificate_law();
+    enclosure_law();
+    tie_law();
+    ball_law();
+    match certify(alloc, net, point) {
+        Ok(certified) => Ok(solved(alloc, layout, certified)),
+        Err(fault) => uncertified(alloc, &layout, fault),
     }
+}
+
+// A certified state, behind which no control acts.
+fn solved(alloc: Global, layout: Layout, certified: Certified) -> Answer
+    ensures answered { (circuit : CircuitView) → answered result circuit ≡ solves circuit (round_of (claim_in certified)) }
+    ensures sound { (circuit : CircuitView) → layout ≡ layout_of circuit.elements → IsOfSize (size_of (layout_of circuit.elements)) (solution_in (round_of (claim_in certified))) → IsSolution circuit (round_of (claim_in certified)) → IsSound result circuit }
+{
+    let acts = Vec::new(alloc);
+    Answer::Solves(SolvedState {
+        layout,
+        round: Round { certified, acts },
+    })
 }
 
 // What a fault of the procedure comes to.

@@ -32,3 +32,6 @@ returns-in-Ok c =
     let reached = ap (λ v. solution_of v (limits_of c.args.circuit.now.options)) (sym c.requires.network) ∙ ap (solution_of c.args.net.now) (sym limits) ∙ c.in-Ok.ensures.point in
     if_ok_weaker c.judge.result _ _
     (λ a h. (by_reached c.args.circuit.now c.in-Ok.point.x.items c.in-Ok.point.inverse c.args.net.now _ c.requires.network reached h.0, h.1)) c.judge.ensures
+
+pub judge-requires-clause-inverse : goal.judge-requires-clause-inverse
+judge-requires-clause-inverse c = record { long = c.in-Ok.ensures.size; small = c.in-Ok.ensures.entries }
