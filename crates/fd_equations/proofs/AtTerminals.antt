@@ -1,8 +1,6 @@
 -- What stands at the places of a terminal: sizes, signs and counts.
-use Rattle.std.proofs.Common.{◌≡◌, ◌∙◌, ℕ, ◌+◌, ◌*◌, ◌<◌, ◌≤◌, ◌^◌, ℤ, pos, neg_ℤ, ◌+ℤ◌, nat_abs, Bool, true, false, cond, eqb, List, Option, Some, None, IfSome, arith, ap, refl}
-use Rattle.std.specs.List.{All}
+use Rattle.std.proofs.Common.{◌≡◌, ◌∙◌, ℕ, ◌+◌, ◌*◌, ◌<◌, ◌≤◌, ◌^◌, ℤ, pos, neg_ℤ, ◌+ℤ◌, nat_abs, Bool, true, false, cond, eqb, Option, Some, None, IfSome, arith, ap, refl}
 use Rattle.std.proofs.lemmas.Int.{ints}
-use Rattle.std.proofs.lemmas.List.Elements.{All-weaker}
 use Rattle.fd_arith.specs.declared.terms.NodeAt.{NodeAt}
 use Rattle.fd_arith.specs.declared.terms.NodeAt.TheVariants.{Ground, Node}
 use Rattle.fd_system.specs.declared.loads.LoadAt.{LoadAt}

@@ -1,5 +1,5 @@
 -- How large the sums and the numbers of contributions and slopes are.
-use Rattle.std.proofs.Common.{◌≡◌, ◌∙◌, ℕ, suc, ◌+◌, ◌*◌, ◌<◌, ◌≤◌, ◌^◌, ℤ, pos, ◌+ℤ◌, nat_abs, Bool, true, false, cond, eqb, List, [], ◌∷◌, length, Option, Some, None, lit≤, arith, ap, refl}
+use Rattle.std.proofs.Common.{ℕ, suc, ◌+◌, ◌*◌, ◌≤◌, ◌^◌, pos, ◌+ℤ◌, nat_abs, Bool, true, false, cond, eqb, List, [], ◌∷◌, length, Option, Some, None, lit≤, arith}
 use Rattle.std.specs.List.{All}
 use Rattle.std.proofs.Math.Nat.{mul-le-mul}
 use Rattle.std.proofs.lemmas.Int.{ints}

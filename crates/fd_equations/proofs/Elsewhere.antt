@@ -1,5 +1,5 @@
 -- Nothing stands outside the places of contributions and of slopes of part loads.
-use Rattle.std.proofs.Common.{◌≡◌, ◌≢◌, ◌∙◌, ℕ, zero, suc, ◌+◌, ◌*◌, ◌<◌, ◌≤◌, ◌^◌, ℤ, pos, ◌+ℤ◌, nat_abs, Bool, true, false, cond, eqb, ◌&&◌, List, [], ◌∷◌, ◌++◌, Option, Some, None, length, map, get_or, arith, ap, refl, sym, subst, inl, inr, ◌⊎◌, ◌↔◌, IsTrue}
+use Rattle.std.proofs.Common.{◌≡◌, ◌≢◌, ◌∙◌, ℕ, zero, suc, ◌+◌, ◌*◌, pos, ◌+ℤ◌, Bool, true, false, cond, eqb, ◌&&◌, List, [], ◌∷◌, ◌++◌, Option, Some, None, map, arith, ap, refl, sym, subst, inl, inr, ◌⊎◌}
 use Rattle.std.specs.List.{All, Contains, flat_map}
 use Rattle.std.proofs.lemmas.Int.{ints}
 use Rattle.std.proofs.lemmas.Bool.{cases_eq, eq-eqb, ne_eqb, true≢false}
@@ -10,12 +10,11 @@ use Rattle.fd_arith.specs.declared.terms.NodeAt.{NodeAt}
 use Rattle.fd_arith.specs.declared.terms.NodeAt.TheVariants.{Ground, Node}
 use Rattle.fd_system.specs.declared.loads.LoadAt.{LoadAt}
 use Rattle.fd_system.specs.Contributions.{AreSmall}
-use Rattle.fd_load.specs.declared.slopes.Slopes.{Slopes}
 use Rattle.fd_equations.specs.declared.cells.Cell.{Cell}
-use Rattle.fd_equations.specs.Amounts.{Amount, AreCells, IsNothingElsewhere, amount, cell_at, cell_of, empty, nothing, of_both, of_rows, of_terms}
+use Rattle.fd_equations.specs.Amounts.{Amount, AreCells, IsNothingElsewhere, amount, cell_at, empty, of_rows}
 use Rattle.fd_equations.specs.Coefficients.{count_at, linear_entry, stands_at, units_of}
-use Rattle.fd_equations.specs.PartLoads.{load_entry, slope_count, slope_counts}
-use Rattle.fd_equations.specs.PatternPlaces.{load_places, magnitude_places, node_places, place_of, places_of, square, terminal_places}
+use Rattle.fd_equations.specs.PartLoads.{slope_count, slope_counts}
+use Rattle.fd_equations.specs.PatternPlaces.{load_places, magnitude_places, node_places, place_of, places_of, terminal_places}
 use Rattle.fd_equations.specs.Patterns.{key}
 use Rattle.fd_equations.specs.Terminals.{count_magnitude, count_node, count_terminal}
 

@@ -1,11 +1,10 @@
 -- Cells that grow by what stands at their places.
-use Rattle.std.proofs.Common.{◌≡◌, ◌∙◌, ℕ, ◌+◌, ◌*◌, ◌<◌, ◌≤◌, ◌^◌, ℤ, pos, ◌+ℤ◌, nat_abs, Bool, true, false, cond, eqb, ◌&&◌, List, length, take, get_or, set, map, arith, ap, sym, refl, subst, inl, inr}
-use Rattle.std.specs.List.{All, Contains}
+use Rattle.std.proofs.Common.{◌≡◌, ◌∙◌, ℕ, ◌+◌, ◌<◌, ◌≤◌, ◌^◌, ℤ, pos, ◌+ℤ◌, nat_abs, Bool, true, false, cond, eqb, ◌&&◌, List, length, take, get_or, set, map, arith, ap, sym, refl, subst, inl, inr}
+use Rattle.std.specs.List.{Contains}
 use Rattle.std.proofs.lemmas.Int.{ints}
 use Rattle.std.proofs.lemmas.Bool.{cases_eq, eq-eqb}
 use Rattle.std.proofs.lemmas.List.{get_or-set_same, get_or-set_other, get_or-map, length-map, length-take}
 use Rattle.std.proofs.lemmas.List.Elements.{All-take, Contains-get_or}
-use Rattle.fd_exact.specs.Sums.{list_z}
 use Rattle.fd_arith.specs.declared.terms.Term.{Term}
 use Rattle.fd_load.specs.declared.slopes.Slopes.{Slopes}
 use Rattle.fd_system.specs.declared.loads.LoadAt.{LoadAt}
@@ -13,7 +12,7 @@ use Rattle.fd_equations.specs.declared.cells.Cell.{Cell}
 use Rattle.fd_equations.specs.Amounts.{Amount, AreCells, AreGrown, HaveSlopeRoom, HaveTermRoom, amount, cell_at, cell_of, empty, more, nothing, of_both, of_load, of_loads, of_rows, of_term, of_terms, without_slopes}
 use Rattle.fd_equations.specs.Coefficients.{count_at, linear_entry, stands_at, units_of}
 use Rattle.fd_equations.specs.Conditions.{AreLinear, IsLinear}
-use Rattle.fd_equations.specs.PartLoads.{load_entry, slope_count, slope_counts}
+use Rattle.fd_equations.specs.PartLoads.{load_entry, slope_count}
 use Rattle.fd_equations.specs.Patterns.{IsSlot, key}
 use Rattle.fd_equations.proofs.Lists.{list_n_more, list_z_more}
 use Rattle.fd_equations.proofs.Counting.{count_size, entry_size}

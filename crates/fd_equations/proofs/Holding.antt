@@ -1,12 +1,10 @@
 -- What rows by non-zeros hold: the sums of their contributions and the numbers of slopes of their part loads.
-use Rattle.std.proofs.Common.{◌≡◌, ◌∙◌, ◌⊎◌, ℕ, zero, suc, ◌+◌, ◌*◌, ◌<◌, ◌≤◌, ◌^◌, ℤ, pos, neg_ℤ, ◌+ℤ◌, nat_abs, Bool, true, false, cond, eqb, List, [], ◌∷◌, ◌++◌, Option, Some, None, IfSome, length, map, arith, ap, refl, sym, subst, inl, inr}
+use Rattle.std.proofs.Common.{◌≡◌, ◌∙◌, ◌⊎◌, ℕ, zero, suc, ◌+◌, ◌*◌, ◌<◌, ◌≤◌, ◌^◌, ℤ, pos, neg_ℤ, ◌+ℤ◌, Bool, true, false, cond, eqb, List, [], ◌∷◌, ◌++◌, Option, Some, None, IfSome, length, map, arith, ap, refl, sym, subst, inl, inr}
 use Rattle.std.specs.List.{All, Contains, flat_map}
 use Rattle.std.proofs.Math.Nat.{mul-le-mul}
 use Rattle.std.proofs.lemmas.Int.{ints}
-use Rattle.std.proofs.lemmas.List.{get_or_default}
 use Rattle.std.proofs.lemmas.List.Elements.{All-append, All-cons, All-head, All-nil, All-tail, All-weaker}
 use Rattle.fd_exact.specs.Sums.{list_z}
-use Rattle.fd_exact.specs.States.{cell}
 use Rattle.fd_arith.specs.declared.terms.Term.{Term}
 use Rattle.fd_arith.specs.declared.terms.NodeAt.{NodeAt}
 use Rattle.fd_arith.specs.declared.terms.NodeAt.TheVariants.{Ground, Node}
@@ -14,12 +12,12 @@ use Rattle.fd_load.specs.declared.slopes.Slopes.{Slopes}
 use Rattle.fd_system.specs.declared.loads.LoadAt.{LoadAt}
 use Rattle.fd_system.specs.Residual.{IsPlace}
 use Rattle.fd_equations.specs.declared.cells.Cell.{Cell}
-use Rattle.fd_equations.specs.Amounts.{Amount, RowsView, AreCells, AreGrown, HaveSlopeRoom, IsNothingElsewhere, amount, cell_at, cell_of, nothing, of_both, of_load, of_loads, of_rows, of_terms, rows_with, without_slopes}
+use Rattle.fd_equations.specs.Amounts.{Amount, RowsView, AreCells, AreGrown, HaveSlopeRoom, IsNothingElsewhere, amount, cell_of, of_both, of_loads, of_rows, of_terms, rows_with, without_slopes}
 use Rattle.fd_equations.specs.Conditions.{AreLinear, IsLinear}
-use Rattle.fd_equations.specs.Holding.{AreRows}
+use Rattle.fd_equations.specs.Holding.{AreRows, CanHold}
 use Rattle.fd_equations.specs.Matrices.{IsMatrix, MatrixView, matrix_with}
 use Rattle.fd_equations.specs.PartLoads.{load_entry, no_slopes, slope_count, slope_counts, slope_in}
-use Rattle.fd_equations.specs.PatternPlaces.{load_places, magnitude_places, node_places, place_of, places_of, square, terminal_places}
+use Rattle.fd_equations.specs.PatternPlaces.{load_places, magnitude_places, node_places, place_of, places_of, terminal_places}
 use Rattle.fd_equations.specs.Patterns.{IsInside, PatternView}
 use Rattle.fd_equations.specs.Terminals.{IsConnected, at_magnitude, at_node, at_terminal, count_magnitude, count_node, count_terminal}
 use Rattle.fd_equations.proofs.AtTerminals.{connected_wide}
@@ -188,10 +186,10 @@ matrix_is n m cells ts us f size long are grown room none = record {
 }
 
 -- the matrix of rows with these slopes, as calls made it
-pub matrix_made : (v : RowsView) (p : PatternView) (ts : List Term) (us : List LoadAt) (cells bare out made : List Cell) (f : LoadAt → Slopes) (m : MatrixView) → rows_with p.size ts us ≡ v → AreRows p ts us cells
+pub matrix_made : (v : RowsView) (p : PatternView) (ts : List Term) (us : List LoadAt) (cells bare out made : List Cell) (f : LoadAt → Slopes) (m : MatrixView) (r s : ℕ) → rows_with p ts us r s ≡ v → AreRows p ts us cells
     → bare ≡ map without_slopes cells → AreGrown p.places bare out (of_loads f us) → HaveSlopeRoom p.places out (2 ^ 100) (2 ^ 27) → length out ≡ length bare → made ≡ out → m ≡ matrix_with p made
     → IsMatrix v.size m (of_both v.terms f v.loads)
-matrix_made v p ts us cells bare out made f m view are e grown room long o is =
+matrix_made v p ts us cells bare out made f m r s view are e grown room long o is =
     subst (λ (w : RowsView). IsMatrix w.size m (of_both w.terms f w.loads)) view
     (subst (λ (w : MatrixView). IsMatrix p.size w (of_both ts f us)) (sym (is ∙ ap (matrix_with p) o))
     (matrix_is p.size (matrix_with p out) bare ts us f refl long (subst (λ l. AreCells p.places l (of_terms ts)) (sym e) (bare_cells p.places cells ts us are.sums)) grown room are.nothing))
@@ -199,14 +197,17 @@ matrix_made v p ts us cells bare out made f m view are e grown room long o is =
 pub bare_room : (p : PatternView) (ts : List Term) (us : List LoadAt) (cells bare : List Cell) → AreRows p ts us cells → bare ≡ map without_slopes cells → HaveSlopeRoom p.places bare (2 ^ 78) 0
 bare_room p ts us cells bare are e = slopes_room p.places bare p.size ts are.linear (subst (λ l. AreCells p.places l (of_terms ts)) (sym e) (bare_cells p.places cells ts us are.sums))
 
--- rows, as calls made them
-pub rows_made : (n : ℕ) (p : PatternView) (ts : List Term) (us : List LoadAt) (bare out : List Cell) → p.size ≡ n → n ≤ 2 ^ 11 → AreLinear n ts → All (IsConnected n) us → length us < 2 ^ 21 → AreCells p.places bare (of_terms ts)
-    → length out ≡ length bare → AreGrown p.places bare out (of_loads (λ u. no_slopes) us) → All (Contains p.places) (places_of ts us) → AreRows p ts us out
-rows_made n p ts us bare out e small linear loads few are long grown has = record {
-  small = omega (arith, e);
-  linear = subst (λ m. AreLinear m ts) (sym e) linear;
-  loads = subst (λ m. All (IsConnected m) us) (sym e) loads;
-  few = few;
-  sums = cells_then p.places bare out (of_terms ts) (of_loads (λ u. no_slopes) us) (of_rows ts us) are long grown (counted ts us);
-  nothing = nothing_elsewhere p.places ts us has;
-}
+-- rows of what a pattern reaches
+pub held_rows : (v : RowsView) (p : PatternView) (ts : List Term) (us : List LoadAt) (cells : List Cell) → p.size ≡ v.size → p.places ≡ v.places → p.size ≤ 2 ^ 11 → CanHold v ts us → AreCells p.places cells (of_rows ts us)
+    → AreRows p ts us cells
+held_rows v p ts us cells size places small h sums =
+    let reached = subst (λ ps. All (Contains ps) (places_of ts us)) (sym places) h.reached in
+    record {
+      small = small;
+      linear = subst (λ n. AreLinear n ts) (sym size) h.linear;
+      loads = subst (λ n. All (IsConnected n) us) (sym size) h.loads;
+      few = h.few;
+      sums = sums;
+      reached = reached;
+      nothing = nothing_elsewhere p.places ts us reached;
+    }

@@ -1,8 +1,6 @@
 -- What a part load adds to the cells at the places of its terminal, step by step.
 use Rattle.std.proofs.Common.{◌≡◌, ◌∙◌, ℕ, ◌+◌, ◌*◌, ◌<◌, ◌≤◌, ◌≢◌, ◌^◌, ℤ, pos, neg_ℤ, ◌+ℤ◌, nat_abs, Bool, true, false, cond, eqb, ◌&&◌, List, length, take, get_or, Option, Some, None, arith, ap, sym, refl, subst}
-use Rattle.std.specs.List.{All}
 use Rattle.std.proofs.lemmas.Bool.{eq-eqb, ne_eqb}
-use Rattle.std.proofs.lemmas.Int.{ints}
 use Rattle.std.proofs.lemmas.List.{take_all}
 use Rattle.fd_arith.specs.declared.terms.NodeAt.{NodeAt}
 use Rattle.fd_arith.specs.declared.terms.NodeAt.TheVariants.{Ground, Node}
@@ -13,12 +11,12 @@ use Rattle.fd_system.specs.declared.loads.LoadPhase.{LoadPhase}
 use Rattle.fd_system.specs.declared.loads.LoadAt.{LoadAt}
 use Rattle.fd_equations.specs.declared.cells.Cell.{Cell}
 use Rattle.fd_equations.specs.Amounts.{Amount, AreGrown, HaveSlopeRoom, amount, nothing, of_load, of_loads}
-use Rattle.fd_equations.specs.PartLoads.{load_entry, no_slopes, slope_count, slope_in, slopes_there, start_slopes}
+use Rattle.fd_equations.specs.PartLoads.{load_entry, slope_count, slope_in, slopes_there, start_slopes}
 use Rattle.fd_equations.specs.Slopes.{AreSlopes, IsSlope}
 use Rattle.fd_equations.specs.Terminals.{at_magnitude, at_node, at_terminal, count_magnitude, count_node, count_terminal, imaginary_of, magnitude_in, real_of}
-use Rattle.fd_equations.proofs.AtTerminals.{cond_small, magnitude_small, negative_small, node_small, terminal_negative, terminal_small}
-use Rattle.fd_equations.proofs.Counting.{cond_few, magnitude_few, node_few, product_few, slope_few, terminal_few}
-use Rattle.fd_equations.proofs.Growth.{IsBoth, grown_as, grown_none, grown_then, loads_more, room_after, same_amount, slope_at}
+use Rattle.fd_equations.proofs.AtTerminals.{cond_small, node_small, terminal_negative, terminal_small}
+use Rattle.fd_equations.proofs.Counting.{cond_few, node_few, product_few, slope_few, terminal_few}
+use Rattle.fd_equations.proofs.Growth.{IsBoth, grown_none, grown_then, loads_more, room_after, same_amount, slope_at}
 
 -- ---- a row
 

@@ -1,16 +1,14 @@
 -- A network's rows: the residual in intervals, the rounded one, the matrices and the weights.
-use Rattle.std.proofs.Common.{◌≡◌, ◌∙◌, ℕ, suc, ◌+◌, ◌*◌, ◌/◌, ◌<◌, ◌≤◌, ◌^◌, max, ℤ, pos, neg_ℤ, ◌+ℤ◌, ◌*ℤ◌, ◌≤ℤ◌, nat_abs, Bool, true, false, cond, eqb, List, [], ◌∷◌, length, get_or, Option, Some, None, arith, ap, refl, sym, subst, lit≤, inl, inr}
+use Rattle.std.proofs.Common.{◌≡◌, ◌∙◌, ℕ, suc, ◌+◌, ◌*◌, ◌/◌, ◌<◌, ◌≤◌, ◌^◌, max, ℤ, pos, neg_ℤ, ◌+ℤ◌, ◌*ℤ◌, ◌≤ℤ◌, nat_abs, Bool, true, false, cond, eqb, List, [], ◌∷◌, length, get_or, None, arith, ap, sym, subst, lit≤, inl, inr}
 use Rattle.std.specs.List.{fold, All}
 use Rattle.std.proofs.Math.Nat.{mul-le-mul_right}
 use Rattle.std.proofs.lemmas.Int.{ints}
-use Rattle.std.proofs.lemmas.Bool.{cases_lt, ne_eqb}
+use Rattle.std.proofs.lemmas.Bool.{cases_lt}
 use Rattle.std.proofs.lemmas.List.{get_or_past}
 use Rattle.std.proofs.lemmas.List.Elements.{All-head, All-tail, All-weaker, All-get_or}
-use Rattle.fd_exact.specs.States.{cell, part}
+use Rattle.fd_exact.specs.States.{part}
 use Rattle.fd_exact.specs.Sums.{sum_z}
 use Rattle.fd_exact.specs.SumLaws.{abs_sum, sum_n-bound}
-use Rattle.fd_exact.specs.Tables.{length-table, entry-table}
-use Rattle.fd_mat.specs.Rows.{EntriesWithin, square}
 use Rattle.fd_arith.specs.Interval.{Bounds, Holds}
 use Rattle.fd_arith.specs.declared.terms.Term.{Term}
 use Rattle.fd_system.specs.declared.constants.Constant.{Constant}
@@ -20,7 +18,7 @@ use Rattle.fd_system.specs.System.{nonlinear_of, residual_of}
 use Rattle.fd_system.specs.Residual.{HasDen, IsConstant, IsTerm, linear_interval, residual_interval, whole_state, with_part}
 use Rattle.fd_system.proofs.Intervals.{residual_holds}
 use Rattle.fd_equations.specs.Coefficients.{count_at, linear_entry, row_count}
-use Rattle.fd_equations.specs.Conditions.{AreKnown, HasMagnitude, IsKnown, IsLinear, IsNetwork, IsPart, IsPoint, IsServed}
+use Rattle.fd_equations.specs.Conditions.{AreKnown, IsKnown, IsLinear, IsNetwork, IsPart, IsPoint, magnitude_count}
 use Rattle.fd_equations.specs.Enclosure.{EndsWithin, addend_count, interval_residual_of, summand_count}
 use Rattle.fd_equations.specs.PartLoads.{current_count, current_counts, load_current_count, load_current_counts, loads_row, slope_counts}
 use Rattle.fd_equations.specs.Rounded.{constant_sum, constants_of, entry_product, linear_residual_of, list_of, products_added, rounded_residual_of, rounded_row}
@@ -28,7 +26,7 @@ use Rattle.fd_equations.specs.declared.layout.PlaceKind.{PlaceKind}
 use Rattle.fd_equations.specs.declared.layout.PlaceKind.TheVariants.{Node, Branch, Magnitude}
 use Rattle.fd_equations.specs.Views.{NetworkView, kind_of}
 use Rattle.fd_equations.specs.Weights.{weight_at, weight_by, weights_of}
-use Rattle.fd_equations.specs.Terminals.{IsConnected, count_magnitude, count_terminal}
+use Rattle.fd_equations.specs.Terminals.{IsConnected, count_magnitude, count_node, count_terminal}
 use Rattle.fd_equations.proofs.CallerLemmas.{all_connected}
 use Rattle.fd_equations.proofs.DrawnIntervals.{loads_positive, narrow_loads}
 use Rattle.fd_equations.proofs.LoadSums.{rows_small}
@@ -42,23 +40,18 @@ use Rattle.fd_equations.proofs.Widths.{Narrow, ends_within, narrow_row, wider}
 den_positive : (size : ℕ) (t : Term) → IsLinear size t → HasDen t
 den_positive size t h = let p = h.term.positive in omega (arith, ints)
 
--- the row of a node or a branch is that of no magnitude
-no_magnitude : (n size model l : ℕ) (place : Option ℕ) → l < 2 * n → HasMagnitude n size model place → count_magnitude l place ≡ 0
-no_magnitude n size model l None h m = refl
-no_magnitude n size model l (Some k) h m = let behind = m.1.0 in ap (λ b. cond b 1 0) (ne_eqb k l (omega arith))
-
-only_currents : (nodes n size l : ℕ) (u : LoadAt) → l < 2 * n → IsServed nodes n size u → current_count l u ≡ load_current_count l u
+-- beside its currents a part load has at most the row of its magnitude
+with_magnitude : (l : ℕ) (u : LoadAt) → current_count l u ≤ load_current_count l u + count_magnitude l u.magnitude
 unfolding current_count load_current_count count_terminal
-only_currents nodes n size l u h s =
-    let none = no_magnitude n size u.load.model l u.magnitude h s.magnitude in
-    ap (λ k. cond (eqb u.load.model 2) 0 k) (omega (arith, none))
+with_magnitude l u = by_model (eqb u.load.model 2)
+  where
+    by_model : (b : Bool) → cond b 0 ((count_node l u.first + count_node l u.second) + count_magnitude l u.magnitude) ≤ cond b 0 (count_node l u.first + count_node l u.second) + count_magnitude l u.magnitude
+    by_model true = omega arith
+    by_model false = omega arith
 
-no_magnitudes : (nodes n size l : ℕ) (us : List LoadAt) → l < 2 * n → All (IsServed nodes n size) us → current_counts us l ≡ load_current_counts us l
-no_magnitudes nodes n size l [] h a = refl
-no_magnitudes nodes n size l (u ∷ us) h a =
-    let one = only_currents nodes n size l u h (All-head (IsServed nodes n size) u us a) in
-    let rest = no_magnitudes nodes n size l us h (All-tail (IsServed nodes n size) u us a) in
-    λ i. one i + rest i
+with_magnitudes : (l : ℕ) (us : List LoadAt) → current_counts us l ≤ load_current_counts us l + magnitude_count us l
+with_magnitudes l [] = omega arith
+with_magnitudes l (u ∷ us) = omega (arith, with_magnitude l u, with_magnitudes l us)
 
 complexes_inside : (v : NetworkView) → IsNetwork v → 2 * v.complexes ≤ v.size
 complexes_inside v n = let u = n.unknowns in omega arith
@@ -96,14 +89,12 @@ module _ (v : NetworkView) (x : List ℤ) (n : IsNetwork v) (p : IsPoint v x) wh
       let holds = subst (λ a. Holds a (residual_of v.share (whole_state x) l)) is (row_holds rows e l h) in
       subst (λ a. EndsWithin a (residual_of v.share (whole_state x) l) (2 * summand_count v.share l)) (sym is) (ends_within (residual_interval v.share x l) (2 * summand_count v.share l) (2 ^ 100) (residual_of v.share (whole_state x) l) (row_narrow l) holds)
 
-  -- the same by contributions and load currents alone, in the row of a node or a branch
-  pub row_tie : (rows : List Bounds) → rows ≡ interval_residual_of v x → (l : ℕ) → l < 2 * v.complexes → EndsWithin (get_or rows l None) (residual_of v.share (whole_state x) l) (4 * addend_count v.share l + 4)
+  -- the same by contributions and load currents alone: at most one magnitude row stands in a row
+  pub row_tie : (rows : List Bounds) → rows ≡ interval_residual_of v x → (l : ℕ) → l < v.size → EndsWithin (get_or rows l None) (residual_of v.share (whole_state x) l) (4 * addend_count v.share l + 4)
   row_tie rows e l h =
-      let within : l < v.size = omega (arith, h, n.unknowns) in
-      let is = ap (λ rs. get_or rs l None) e ∙ get_or-list_of v.size (residual_interval v.share x) l None within in
-      let holds = subst (λ a. Holds a (residual_of v.share (whole_state x) l)) is (row_holds rows e l within) in
-      let same = no_magnitudes v.nodes v.complexes v.size l v.share.loads h n.loads in
-      let narrow = wider (residual_interval v.share x l) (2 * summand_count v.share l) (4 * addend_count v.share l + 4) (2 ^ 100) (2 ^ 100) (omega (arith, same)) (lit≤ tt) (row_narrow l) in
+      let is = ap (λ rs. get_or rs l None) e ∙ get_or-list_of v.size (residual_interval v.share x) l None h in
+      let holds = subst (λ a. Holds a (residual_of v.share (whole_state x) l)) is (row_holds rows e l h) in
+      let narrow = wider (residual_interval v.share x l) (2 * summand_count v.share l) (4 * addend_count v.share l + 4) (2 ^ 100) (2 ^ 100) (omega (arith, with_magnitudes l v.share.loads, n.apart l)) (lit≤ tt) (row_narrow l) in
       subst (λ a. EndsWithin a (residual_of v.share (whole_state x) l) (4 * addend_count v.share l + 4)) (sym is) (ends_within (residual_interval v.share x l) (4 * addend_count v.share l + 4) (2 ^ 100) (residual_of v.share (whole_state x) l) narrow holds)
 
   pub constants_inside : All (IsConstant (length x)) v.share.constants

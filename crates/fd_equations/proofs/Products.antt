@@ -1,5 +1,5 @@
 -- Products of the entries of rows with the parts of a point, added to what is there.
-use Rattle.std.proofs.Common.{◌≡◌, ◌∙◌, ℕ, ◌+◌, ◌*◌, ◌<◌, ◌≤◌, ◌^◌, ℤ, pos, ◌+ℤ◌, ◌*ℤ◌, nat_abs, to_z, of_z, List, length, take, get_or, set, arith, ap, sym, subst, inl, inr}
+use Rattle.std.proofs.Common.{◌≡◌, ◌∙◌, ℕ, ◌+◌, ◌*◌, ◌<◌, ◌≤◌, ◌^◌, ℤ, pos, ◌+ℤ◌, ◌*ℤ◌, nat_abs, to_z, of_z, List, length, take, set, arith, ap, sym, subst, inl, inr}
 use Rattle.std.specs.Int.{w128}
 use Rattle.std.proofs.lemmas.Bool.{cases_eq}
 use Rattle.std.proofs.lemmas.Int.{ints}
@@ -13,7 +13,6 @@ use Rattle.fd_system.specs.Contributions.{AreSmall}
 use Rattle.fd_equations.specs.declared.cells.Cell.{Cell}
 use Rattle.fd_equations.specs.Amounts.{IsRowOf, cell_at, empty, of_rows}
 use Rattle.fd_equations.specs.Coefficients.{linear_entry}
-use Rattle.fd_equations.specs.Conditions.{AreKnown}
 use Rattle.fd_equations.specs.Rounded.{entry_product, products_added}
 use Rattle.fd_equations.specs.WalkLaws.{walk_sums}
 use Rattle.fd_equations.proofs.Lists.{list_of-ext, list_z_more}

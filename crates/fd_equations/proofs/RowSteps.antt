@@ -1,5 +1,5 @@
 -- The two sides and the magnitude of a part load in one row.
-use Rattle.std.proofs.Common.{ℕ, ℤ, ◌+◌, ◌*◌, ◌≤◌, ◌^◌, ◌≡◌, neg_ℤ, nat_abs, List, arith, subst}
+use Rattle.std.proofs.Common.{ℕ, ℤ, ◌*◌, ◌^◌, ◌≡◌, neg_ℤ, List, arith, subst}
 use Rattle.fd_load.specs.declared.slopes.SlopeRow.{SlopeRow}
 use Rattle.fd_system.specs.declared.loads.LoadAt.{LoadAt}
 use Rattle.fd_equations.specs.declared.cells.Cell.{Cell}

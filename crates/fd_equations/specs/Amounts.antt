@@ -2,13 +2,13 @@
 use Rattle.std.specs.Prelude.{◌≡◌, ◌≢◌, ℕ, ◌+◌, ◌<◌, ◌≤◌, ℤ, pos, ◌+ℤ◌, nat_abs, cond, List, length, get_or}
 use Rattle.std.specs.List.{Contains}
 use Rattle.fd_arith.specs.declared.terms.Term.{Term}
-use Rattle.fd_exact.specs.Sums.{list_z, list_n}
+use Rattle.fd_exact.specs.Sums.{list_z}
 use Rattle.fd_load.specs.declared.slopes.Slopes.{Slopes}
 use Rattle.fd_system.specs.declared.loads.LoadAt.{LoadAt}
 use Rattle.fd_equations.specs.declared.cells.Cell.{Cell}
 use Rattle.fd_equations.specs.Coefficients.{count_at, linear_entry, stands_at, units_of}
 use Rattle.fd_equations.specs.PartLoads.{load_entry, slope_count, slope_counts}
-use Rattle.fd_equations.specs.Patterns.{key}
+use Rattle.fd_equations.specs.Patterns.{PatternView, key}
 
 -- a sum in units of 2^-40, how many contributions, and how many slopes of part loads
 pub record Amount : Type 0 where
@@ -93,11 +93,15 @@ pub record IsRowOf (size : ℕ) (at : ℕ × ℕ → Amount) (row : ℕ) (cells 
   pub each : (k : ℕ) → k < length cells → cell_at cells k ≡ cell_of (cell_at cells k).col (at (row, (cell_at cells k).col))
   pub all : (col : ℕ) → ((k : ℕ) → k < length cells → (cell_at cells k).col ≢ col) → at (row, col) ≡ nothing
 
--- what contracts see of rows: how many there are, and the contributions and part loads of which they are made
+-- what contracts see of rows: how many there are, the contributions and part loads of which they are made, the places of row and column
+-- at which something can stand, and how many contributions and part loads there is room for
 pub record RowsView : Type 0 where
   pub size : ℕ
   pub terms : List Term
   pub loads : List LoadAt
+  pub places : List (ℕ × ℕ)
+  pub term_room : ℕ
+  pub load_room : ℕ
 
-abbrev pub rows_with : ℕ → List Term → List LoadAt → RowsView
-rows_with size ts us = record { size = size; terms = ts; loads = us }
+abbrev pub rows_with : PatternView → List Term → List LoadAt → ℕ → ℕ → RowsView
+rows_with p ts us m n = record { size = p.size; terms = ts; loads = us; places = p.places; term_room = m; load_room = n }

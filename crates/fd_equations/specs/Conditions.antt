@@ -1,6 +1,7 @@
 -- What a network asks of its parts, and its calls of a point.
 use Rattle.std.specs.Prelude.{◌≡◌, ℕ, ◌+◌, ◌*◌, ◌^◌, ◌<◌, ◌≤◌, ℤ, pos, neg_ℤ, ◌≤ℤ◌, nat_abs, List, length, ◌⊎◌, Option, Some, None}
 use Rattle.fd_exact.specs.States.{part}
+use Rattle.fd_exact.specs.Sums.{list_n}
 use Rattle.std.specs.List.{All}
 use Rattle.fd_arith.specs.declared.terms.Term.{Term}
 use Rattle.fd_arith.specs.declared.terms.NodeAt.{NodeAt}
@@ -11,6 +12,7 @@ use Rattle.fd_system.specs.Contributions.{AreSmall, IsWithin}
 use Rattle.fd_system.specs.Residual.{IsTerm}
 use Rattle.fd_load.specs.Current.{IsLoadPhase}
 use Rattle.fd_equations.specs.Coefficients.{linear_entry}
+use Rattle.fd_equations.specs.Terminals.{count_magnitude}
 use Rattle.fd_equations.specs.Views.{NetworkView}
 
 -- a contribution to a network of this size: its place is inside, and it is at most 2^54 in units of 2^-40
@@ -47,6 +49,14 @@ pub record IsServed (nodes complexes size : ℕ) (u : LoadAt) : Type 0 where
   pub second : IsAmong nodes u.second
   pub magnitude : HasMagnitude complexes size u.load.model u.magnitude
 
+-- how many part loads have their magnitude at a place
+abbrev pub magnitude_count : List LoadAt → ℕ → ℕ
+magnitude_count us place = list_n (λ u. count_magnitude place u.magnitude) us
+
+-- no two part loads have their magnitude at one place
+abbrev pub AreApart : List LoadAt → Type 0
+AreApart us = (place : ℕ) → magnitude_count us place ≤ 1
+
 -- the condition on a network
 pub record IsNetwork (v : NetworkView) : Type 0 where
   pub small : v.size ≤ 2 ^ 11
@@ -60,6 +70,7 @@ pub record IsNetwork (v : NetworkView) : Type 0 where
   pub few_constants : length v.share.constants < 2 ^ 24
   pub loads : All (IsServed v.nodes v.complexes v.size) v.share.loads
   pub few_loads : length v.share.loads < 2 ^ 21
+  pub apart : AreApart v.share.loads
   pub draw : 16 * v.draw + 10 ^ 6 ≤ 2 ^ 65
 
 -- a part of a point is at most 2^40 in size

@@ -1,10 +1,12 @@
--- What rows by non-zeros keep.
-use Rattle.std.specs.Prelude.{ℕ, ◌<◌, ◌≤◌, ◌^◌, List, length, All}
+-- What rows by non-zeros keep, and what they can hold.
+use Rattle.std.specs.Prelude.{◌<◌, ◌≤◌, ◌^◌, List, length, All}
+use Rattle.std.specs.List.{Contains}
 use Rattle.fd_arith.specs.declared.terms.Term.{Term}
 use Rattle.fd_system.specs.declared.loads.LoadAt.{LoadAt}
 use Rattle.fd_equations.specs.declared.cells.Cell.{Cell}
-use Rattle.fd_equations.specs.Amounts.{AreCells, IsNothingElsewhere, of_rows}
+use Rattle.fd_equations.specs.Amounts.{AreCells, IsNothingElsewhere, RowsView, of_rows}
 use Rattle.fd_equations.specs.Conditions.{AreLinear}
+use Rattle.fd_equations.specs.PatternPlaces.{places_of}
 use Rattle.fd_equations.specs.Patterns.{PatternView}
 use Rattle.fd_equations.specs.Terminals.{IsConnected}
 
@@ -15,4 +17,13 @@ pub record AreRows (p : PatternView) (ts : List Term) (us : List LoadAt) (cells 
   pub loads : All (IsConnected p.size) us
   pub few : length us < 2 ^ 21
   pub sums : AreCells p.places cells (of_rows ts us)
+  -- their places are among those that are kept
+  pub reached : All (Contains p.places) (places_of ts us)
   pub nothing : IsNothingElsewhere p.places (of_rows ts us)
+
+-- contributions and part loads that rows can hold: these are of their size, and their places are among those that are kept
+pub record CanHold (v : RowsView) (ts : List Term) (us : List LoadAt) : Type 0 where
+  pub linear : AreLinear v.size ts
+  pub loads : All (IsConnected v.size) us
+  pub few : length us < 2 ^ 21
+  pub reached : All (Contains v.places) (places_of ts us)

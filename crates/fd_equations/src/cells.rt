@@ -21,25 +21,11 @@ pub struct Cell {
     pub units: i128,
 }
 
-/// The sums of these contributions at the places of a pattern.
+/// A cell with nothing in it for each place of a pattern.
 ///
 /// # Errors
 /// `AllocError` where the memory for the cells is refused.
-pub fn linear_cells(
-    alloc: Global,
-    pattern: &Pattern,
-    terms: &[Term],
-) -> Result<Vec<Cell>, AllocError>
-    requires { AreLinear pattern.now.size terms.now }
-    ensures { IfOk result (λ cells. AreCells pattern.now.places cells.items (of_terms terms.now)) }
-{
-    let mut cells = blank(alloc, pattern)?;
-    add_terms(pattern, &mut cells, terms);
-    Ok(cells)
-}
-
-// A cell with nothing in it for each place of a pattern.
-fn blank(alloc: Global, pattern: &Pattern) -> Result<Vec<Cell>, AllocError>
+pub fn blank(alloc: Global, pattern: &Pattern) -> Result<Vec<Cell>, AllocError>
     ensures { IfOk result (λ cells. AreCells pattern.now.places cells.items (λ p. nothing)) }
 {
     pattern
@@ -60,8 +46,19 @@ fn blank_cell(place: &(u32, u32)) -> Cell
     }
 }
 
-// Adds contributions to cells with nothing in them.
-fn add_terms(pattern: &Pattern, cells: &mut [Cell], terms: &[Term])
+/// Takes out what stands in the cells of a pattern.
+pub fn clear(pattern: &Pattern, cells: &mut [Cell])
+    requires { length cells.old ≡ length pattern.now.places }
+    ensures { AreCells pattern.now.places cells.new (λ p. nothing) }
+{
+    let places = pattern.places();
+    for (k, cell) in cells.iter_mut().enumerate() {
+        *cell = blank_cell(&places[k]);
+    }
+}
+
+/// Adds contributions to cells with nothing in them.
+pub fn add_terms(pattern: &Pattern, cells: &mut [Cell], terms: &[Term])
     requires linear { AreLinear pattern.now.size terms.now }
     requires cells { AreCells pattern.now.places cells.old (λ p. nothing) }
     ensures { AreCells pattern.now.places cells.new (of_terms terms.now) }

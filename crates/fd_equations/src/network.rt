@@ -7,7 +7,7 @@ ghost use Rattle.fd_system.specs.Contributions.{AreSmall};
 ghost use Rattle.fd_system.specs.System.{residual_of};
 ghost use Rattle.fd_system.specs.Residual.{whole_state};
 ghost use Rattle.fd_equations.specs.Coefficients.{linear_entry};
-ghost use Rattle.fd_equations.specs.Conditions.{IsKnown, IsNetwork, IsPoint, IsServed};
+ghost use Rattle.fd_equations.specs.Conditions.{AreApart, IsKnown, IsNetwork, IsPoint, IsServed};
 ghost use Rattle.fd_equations.specs.Enclosure.{EndsWithin, addend_count, interval_residual_of, summand_count};
 ghost use Rattle.fd_equations.specs.Matrices.{IsMatrix, jacobian_amount};
 ghost use Rattle.fd_equations.specs.Rounded.{constants_of, jacobian_count, jacobian_of, linear_residual_of, rounded_residual_of, start_matrix_of};
@@ -27,42 +27,50 @@ use std::alloc::{AllocError, Global};
 use std::marker::Model;
 
 /// The rows of a network. Unknowns and rows stand in the same order: the nodes, the branches, then the magnitudes, as `Layout` says.
-/// Rows of nodes and of branches are in whole microamperes and microvolts, and so are voltages and currents.
+/// Rows of nodes and of branches are in whole microamperes and microvolts, and so are voltages and currents. The sums and the constants
+/// are kept elsewhere.
 #[derive(Drop)]
-pub struct Network {
+pub struct Network<'a> {
     layout: Layout,
-    rows: Rows,
-    constants: Vec<Constant>,
+    rows: &'a Rows,
+    constants: &'a [Constant],
     draw: u128,
 }
 
-impl Model for Network {
+impl<'a> Model for Network<'a> {
     ghost use Rattle.std.specs.Prelude.{◌≡◌};
     ghost use Rattle.fd_equations.specs.Conditions.{IsNetwork};
     ghost use Rattle.fd_equations.specs.Views.{NetworkView, network_of, share_with};
 
     ghost Value = { NetworkView };
 
-    ghost view = { λ n. network_of n.layout (share_with n.constants.items n.rows.terms n.rows.loads) n.draw };
+    ghost view = { λ n. network_of n.layout (share_with n.constants.now n.rows.now.terms n.rows.now.loads) n.draw };
 
-    ghost invariant = { λ n. IsNetwork (network_of n.layout (share_with n.constants.items n.rows.terms n.rows.loads) n.draw) × (n.rows.size ≡ (network_of n.layout (share_with n.constants.items n.rows.terms n.rows.loads) n.draw).size) };
+    ghost invariant = { λ n. IsNetwork (network_of n.layout (share_with n.constants.now n.rows.now.terms n.rows.now.loads) n.draw) × (n.rows.now.size ≡ (network_of n.layout (share_with n.constants.now n.rows.now.terms n.rows.now.loads) n.draw).size) };
 }
 
-impl Network {
+impl<'a> Network<'a> {
     /// The network of these rows and constants. Loads of constant impedance stand in the contributions too;
     /// `draw` is the sum of (abs P + abs Q) 10^9 / Vn over load phases and of Q 10^9 / V over closed capacitor phases, each rounded
     /// up, in whole microamperes.
-    pub fn new(layout: Layout, rows: Rows, constants: Vec<Constant>, draw: u128) -> Network
+    pub fn new(
+        layout: Layout,
+        rows: &'a Rows,
+        constants: &'a [Constant],
+        draw: u128,
+    ) -> Network<'a>
         requires small { 2 * (layout.nodes + layout.branches) + layout.magnitudes ≤ 2 ^ 11 }
-        requires size { rows.size ≡ 2 * (layout.nodes + layout.branches) + layout.magnitudes }
-        requires entries { (row col : ℕ) → AreSmall (linear_entry rows.terms row col) }
-        requires constants { All (IsKnown rows.size) constants.items }
-        requires few_constants { length constants.items < 2 ^ 24 }
-        requires loads { All (IsServed layout.nodes (layout.nodes + layout.branches) rows.size) rows.loads }
+        requires size { rows.now.size ≡ 2 * (layout.nodes + layout.branches) + layout.magnitudes }
+        requires entries { (row col : ℕ) → AreSmall (linear_entry rows.now.terms row col) }
+        requires constants { All (IsKnown rows.now.size) constants.now }
+        requires few_constants { length constants.now < 2 ^ 24 }
+        requires loads { All (IsServed layout.nodes (layout.nodes + layout.branches) rows.now.size) rows.now.loads }
+        requires apart { AreApart rows.now.loads }
         requires draw { 16 * draw + 10 ^ 6 ≤ 2 ^ 65 }
-        ensures { result ≡ network_of layout (share_with constants.items rows.terms rows.loads) draw }
+        ensures { result ≡ network_of layout (share_with constants.now rows.now.terms rows.now.loads) draw }
     {
         let _terms = rows.terms();
+        let _loads = rows.loads();
         Network {
             layout,
             rows,
@@ -112,7 +120,7 @@ impl Network {
 
     /// The residual of each row at the point x, in intervals of whole micro-units. Each holds the exact residual, and its ends are at
     /// most the residual's size and two more for each contribution to the row and each load current and magnitude row in it; none is ALL.
-    /// In the row of a node or a branch they are at most the residual's size and 4 n + 4 with n contributions and load currents.
+    /// They are at most the residual's size and 4 n + 4 with n contributions and load currents.
     ///
     /// # Errors
     /// `AllocError` where the memory for the rows is refused.
@@ -121,9 +129,9 @@ impl Network {
         ensures rows { IfOk result (λ rows. rows.items ≡ interval_residual_of self.now x.now) }
         ensures holds { IfOk result (λ rows. (l : ℕ) → l < self.now.size → Holds (get_or rows.items l None) (residual_of self.now.share (whole_state x.now) l)) }
         ensures near { IfOk result (λ rows. (l : ℕ) → l < self.now.size → EndsWithin (get_or rows.items l None) (residual_of self.now.share (whole_state x.now) l) (2 * summand_count self.now.share l)) }
-        ensures tie { IfOk result (λ rows. (l : ℕ) → l < 2 * self.now.complexes → EndsWithin (get_or rows.items l None) (residual_of self.now.share (whole_state x.now) l) (4 * addend_count self.now.share l + 4)) }
+        ensures tie { IfOk result (λ rows. (l : ℕ) → l < self.now.size → EndsWithin (get_or rows.items l None) (residual_of self.now.share (whole_state x.now) l) (4 * addend_count self.now.share l + 4)) }
     {
-        let mut rows = linear_rows(alloc, &self.constants, self.rows.terms(), x)?;
+        let mut rows = linear_rows(alloc, self.constants, self.rows.terms(), x)?;
         add_load_intervals(&mut rows, self.rows.loads(), x);
         Ok(rows)
     }
@@ -136,7 +144,7 @@ impl Network {
         ensures sums { IfOk result (λ rows. rows.items ≡ constants_of self.now) }
         ensures small { IfOk result (λ rows. (l : ℕ) → nat_abs (part rows.items l) ≤ 2 ^ 84) }
     {
-        constant_sums(alloc, self.size(), &self.constants)
+        constant_sums(alloc, self.size(), self.constants)
     }
 
     /// The rounded residual of each row at the point x, in whole micro-units.

@@ -1,19 +1,22 @@
 // Rows by non-zeros.
-ghost use Rattle.std.specs.Prelude.{◌≡◌, ℕ, ◌+◌, ◌*◌, ◌<◌, ◌≤◌, ◌^◌, ◌↔◌, ℤ, pos, ◌*ℤ◌, nat_abs, map, IfOk, IsTrue, length, All};
+ghost use Rattle.std.specs.Prelude.{◌≡◌, ℕ, ◌+◌, ◌*◌, ◌<◌, ◌≤◌, ◌^◌, ◌↔◌, [], ℤ, pos, ◌*ℤ◌, nat_abs, map, IfOk, IsTrue, length, vec_capacity, All};
+ghost use Rattle.std.specs.List.{Contains};
 ghost use Rattle.fd_exact.specs.Rounding.{near_div};
 ghost use Rattle.fd_exact.specs.States.{part as part_of};
 ghost use Rattle.fd_exact.specs.Sums.{list_z};
 ghost use Rattle.fd_system.specs.Contributions.{AreSmall};
-ghost use Rattle.fd_equations.specs.Amounts.{IsRowOf, cell_at, of_both, of_rows, rows_with, without_slopes as without_slopes_of};
+ghost use Rattle.fd_equations.specs.Amounts.{AreCells, IsRowOf, cell_at, of_both, of_rows, without_slopes as without_slopes_of};
 ghost use Rattle.fd_equations.specs.Coefficients.{count_at, linear_entry};
 ghost use Rattle.fd_equations.specs.Conditions.{AreKnown, AreLinear, IsPart};
+ghost use Rattle.fd_equations.specs.Holding.{CanHold};
 ghost use Rattle.fd_equations.specs.Matrices.{IsMatrix};
 ghost use Rattle.fd_equations.specs.PartLoads.{slope_counts, slopes_there, start_slopes};
+ghost use Rattle.fd_equations.specs.Patterns.{IsInside};
 ghost use Rattle.fd_equations.specs.Rounded.{products_added};
 ghost use Rattle.fd_equations.specs.Terminals.{IsConnected};
 
 use crate::Pattern;
-use crate::cells::{Cell, are_small, cell_in, linear_cells, row_in};
+use crate::cells::{Cell, add_terms, are_small, blank, cell_in, clear, row_in};
 use crate::load_cells::{add_slopes, add_start_slopes, count_slopes};
 use crate::matrix::Matrix;
 use crate::places::places_of;
@@ -21,6 +24,7 @@ use fd_arith::{Term, near_over_coef};
 use fd_system::{LoadAt, is_small};
 use std::alloc::{AllocError, Global};
 use std::marker::Model;
+use std::mem;
 
 /// The contributions and the part loads of a network with their sums by row and column: in each row only the columns in which something
 /// stands are kept. A contribution counts to the nearest 2^-40.
@@ -33,12 +37,13 @@ pub struct Rows {
 }
 
 impl Model for Rows {
+    ghost use Rattle.std.specs.Prelude.{vec_capacity};
     ghost use Rattle.fd_equations.specs.Amounts.{RowsView, rows_with};
     ghost use Rattle.fd_equations.specs.Holding.{AreRows};
 
     ghost Value = { RowsView };
 
-    ghost view = { λ r. rows_with r.pattern.size r.terms.items r.loads.items };
+    ghost view = { λ r. rows_with r.pattern r.terms.items r.loads.items (vec_capacity r.terms) (vec_capacity r.loads) };
 
     ghost invariant = { λ r. AreRows r.pattern r.terms.items r.loads.items r.cells.items };
 }
@@ -51,25 +56,73 @@ impl Rows {
     pub fn of(
         alloc: Global,
         size: u32,
-        terms: Vec<Term>,
-        loads: Vec<LoadAt>,
+        mut terms: Vec<Term>,
+        mut loads: Vec<LoadAt>,
     ) -> Result<Rows, AllocError>
         requires small { size ≤ 2 ^ 11 }
         requires linear { AreLinear size terms.items }
         requires loads { All (IsConnected size) loads.items }
         requires few { length loads.items < 2 ^ 21 }
-        ensures { IfOk result (λ r. r ≡ rows_with size terms.items loads.items) }
+        ensures size { IfOk result (λ r. r.size ≡ size) }
+        ensures terms { IfOk result (λ r. r.terms ≡ terms.items) }
+        ensures loads { IfOk result (λ r. r.loads ≡ loads.items) }
     {
         let places = places_of(alloc, &terms, &loads)?;
+        let mut rows = Rows::reaching(alloc, size, places, 0, 0)?;
+        rows.replace(&mut terms, &mut loads);
+        Ok(rows)
+    }
+
+    /// Rows in which nothing stands yet, with `size` rows and columns: they can hold contributions and part loads at these places, given
+    /// in any order and any number of times, and have room for so many of each.
+    ///
+    /// # Errors
+    /// `AllocError` where the memory is refused.
+    pub fn reaching(
+        alloc: Global,
+        size: u32,
+        places: Vec<(u32, u32)>,
+        term_room: usize,
+        load_room: usize,
+    ) -> Result<Rows, AllocError>
+        requires small { size ≤ 2 ^ 11 }
+        requires inside { All (IsInside size) places.items }
+        ensures size { IfOk result (λ r. r.size ≡ size) }
+        ensures no_terms { IfOk result (λ r. r.terms ≡ []) }
+        ensures no_loads { IfOk result (λ r. r.loads ≡ []) }
+        ensures places { IfOk result (λ r. All (Contains r.places) places.items) }
+        ensures term_room { IfOk result (λ r. term_room ≤ r.term_room) }
+        ensures load_room { IfOk result (λ r. load_room ≤ r.load_room) }
+    {
         let pattern = Pattern::of(alloc, size, places)?;
-        let mut cells = linear_cells(alloc, &pattern, &terms)?;
-        count_slopes(&pattern, &mut cells, &loads);
+        let cells = blank(alloc, &pattern)?;
         Ok(Rows {
             pattern,
-            terms,
-            loads,
+            terms: Vec::with_capacity(alloc, term_room)?,
+            loads: Vec::with_capacity(alloc, load_room)?,
             cells,
         })
+    }
+
+    /// Puts contributions and part loads in place of those that stand there, and gives these back. The sums are made anew at the places
+    /// that are kept; takes no memory.
+    pub fn replace(&mut self, terms: &mut Vec<Term>, loads: &mut Vec<LoadAt>)
+        requires held { CanHold self.old terms.old.items loads.old.items }
+        ensures size { self.new.size ≡ self.old.size }
+        ensures places { self.new.places ≡ self.old.places }
+        ensures terms { self.new.terms ≡ terms.old.items }
+        ensures loads { self.new.loads ≡ loads.old.items }
+        ensures term_room { self.new.term_room ≡ vec_capacity terms.old }
+        ensures load_room { self.new.load_room ≡ vec_capacity loads.old }
+        ensures old_terms { terms.new.items ≡ self.old.terms }
+        ensures old_loads { loads.new.items ≡ self.old.loads }
+        ensures old_term_room { vec_capacity terms.new ≡ self.old.term_room }
+        ensures old_load_room { vec_capacity loads.new ≡ self.old.load_room }
+        ensures old_held { CanHold self.new terms.new.items loads.new.items }
+    {
+        mem::swap(&mut self.terms, terms);
+        mem::swap(&mut self.loads, loads);
+        sum_up(&self.pattern, &mut self.cells, &self.terms, &self.loads);
     }
 
     /// How many rows there are, and how many columns.
@@ -90,7 +143,8 @@ impl Rows {
 
     /// The part loads in order.
     pub fn loads(&self) -> &[LoadAt]
-        ensures { result.now ≡ self.now.loads }
+        ensures loads { result.now ≡ self.now.loads }
+        ensures few { length self.now.loads < 2 ^ 21 }
     {
         self.loads.as_slice()
     }
@@ -172,6 +226,20 @@ impl Rows {
         add_slopes(&self.pattern, &mut cells, &self.loads, x);
         Ok(Matrix::new(&self.pattern, cells))
     }
+}
+
+// Makes the cells of a pattern the sums of these contributions, and the numbers of slopes of these part loads.
+fn sum_up(pattern: &Pattern, cells: &mut [Cell], terms: &[Term], loads: &[LoadAt])
+    requires long { length cells.old ≡ length pattern.now.places }
+    requires small { pattern.now.size ≤ 2 ^ 11 }
+    requires linear { AreLinear pattern.now.size terms.now }
+    requires loads { All (IsConnected pattern.now.size) loads.now }
+    requires few { length loads.now < 2 ^ 21 }
+    ensures { AreCells pattern.now.places cells.new (of_rows terms.now loads.now) }
+{
+    clear(pattern, cells);
+    add_terms(pattern, cells, terms);
+    count_slopes(pattern, cells, loads);
 }
 
 // The cells without the numbers of slopes.

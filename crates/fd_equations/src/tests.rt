@@ -1,5 +1,5 @@
-ghost use Rattle.std.specs.Prelude.{◌≡◌, [], IfOk};
-ghost use Rattle.fd_equations.specs.Conditions.{IsServed};
+ghost use Rattle.std.specs.Prelude.{◌≡◌, [], All, IfOk, None};
+ghost use Rattle.fd_equations.specs.Conditions.{AreApart, IsServed};
 ghost use Rattle.fd_equations.specs.Terminals.{IsConnected};
 
 use crate::{Layout, Network, PlaceKind, Rows};
@@ -9,6 +9,8 @@ use fd_system::{Constant, LoadAt, LoadPhase};
 use std::alloc::{AllocError, Global};
 use std::process::Abort;
 use std::test::Fail;
+
+const CONSTANTS: [Constant; 1] = [Constant { row: 0, value: 700 }];
 
 // Two contributions stand at one place, and none is a whole number of 2^-40.
 fn sample(alloc: Global) -> Result<Rows, AllocError>
@@ -40,23 +42,24 @@ fn sample(alloc: Global) -> Result<Rows, AllocError>
 }
 
 // The network of these contributions and a constant: two parts of a node.
-fn sample_network(alloc: Global, rt: &impl Abort) -> Result<Network, AllocError>
-    ensures { IfOk result (λ n. n.size ≡ 2) }
+fn sample_network<'a>(rows: &'a Rows, rt: &impl Abort) -> Network<'a>
+    requires size { rows.now.size ≡ 2 }
+    requires loads { rows.now.loads ≡ [] }
+    ensures { result.size ≡ 2 }
 {
-    let rows = sample(alloc)?;
     assert!(rt; rows.are_within());
-    let constants = vec![in alloc; Constant { row: 0, value: 700 }]?;
     let layout = Layout {
         nodes: 1,
         branches: 0,
         magnitudes: 0,
     };
-    Ok(Network::new(layout, rows, constants, 2_000_000))
+    Network::new(layout, rows, &CONSTANTS, 2_000_000)
 }
 
 // The ends of the residual of the first row at 30 and -0.000041 volt.
 fn first_residual(alloc: Global, rt: &impl Abort) -> Result<Option<(i128, i128)>, AllocError> {
-    let network = sample_network(alloc, rt)?;
+    let rows = sample(alloc)?;
+    let network = sample_network(&rows, rt);
     let residual = network.residual(alloc, &[30_000_000, -41])?;
     match residual.first() {
         Some(row) => Ok(row.ends()),
@@ -66,7 +69,8 @@ fn first_residual(alloc: Global, rt: &impl Abort) -> Result<Option<(i128, i128)>
 
 // The constants, the rounded residual and the weights there.
 fn lists(alloc: Global, rt: &impl Abort) -> Result<[Vec<i128>; 3], AllocError> {
-    let network = sample_network(alloc, rt)?;
+    let rows = sample(alloc)?;
+    let network = sample_network(&rows, rt);
     let x = [30_000_000, -41];
     Ok([
         network.constants(alloc)?,
@@ -98,7 +102,8 @@ fn sparse_rows(rt: HostRuntime) -> Result<(), Fail> {
 
 #[test]
 fn networks(rt: HostRuntime) -> Result<(), Fail> {
-    let network = sample_network(rt.alloc(), &rt)?;
+    let rows = sample(rt.alloc())?;
+    let network = sample_network(&rows, &rt);
     assert_eq!(rt; (network.size(), network.kind(1)), (2, PlaceKind::Node));
     assert_eq!(rt;
         (
@@ -130,6 +135,7 @@ fn rows(rt: HostRuntime) -> Result<(), Fail> {
 fn constant_power() -> LoadAt
     ensures served { IsServed 2 2 5 result }
     ensures connected { IsConnected 5 result }
+    ensures alone { result.magnitude ≡ None }
 {
     LoadAt {
         load: LoadPhase {
@@ -166,19 +172,30 @@ fn constant_current() -> LoadAt
     }
 }
 
-// A network of both loads.
-fn load_network(alloc: Global, rt: &impl Abort) -> Result<Network, AllocError>
-    ensures { IfOk result (λ n. n.size ≡ 5) }
+// The rows of both loads.
+fn both_loads(alloc: Global) -> Result<Rows, AllocError>
+    ensures size { IfOk result (λ r. r.size ≡ 5) }
+    ensures served { IfOk result (λ r. All (IsServed 2 2 5) r.loads) }
+    ensures apart { IfOk result (λ r. AreApart r.loads) }
 {
     let loads = vec![in alloc; constant_power(), constant_current()]?;
-    let rows = Rows::of(alloc, 5, Vec::new(alloc), loads)?;
+    Rows::of(alloc, 5, Vec::new(alloc), loads)
+}
+
+// A network of both loads.
+fn load_network<'a>(rows: &'a Rows, rt: &impl Abort) -> Network<'a>
+    requires size { rows.now.size ≡ 5 }
+    requires served { All (IsServed 2 2 5) rows.now.loads }
+    requires apart { AreApart rows.now.loads }
+    ensures { result.size ≡ 5 }
+{
     assert!(rt; rows.are_within());
     let layout = Layout {
         nodes: 2,
         branches: 0,
         magnitudes: 1,
     };
-    Ok(Network::new(layout, rows, Vec::new(alloc), 400_000_000))
+    Network::new(layout, rows, &[], 400_000_000)
 }
 
 // Both loads within their limits, and below them.
@@ -201,7 +218,8 @@ fn entry(matrix: &Dense, row: u32, col: u32) -> i128 {
 }
 
 fn load_rows(alloc: Global, rt: &impl Abort) -> Result<[Vec<i128>; 2], AllocError> {
-    let network = load_network(alloc, rt)?;
+    let rows = both_loads(alloc)?;
+    let network = load_network(&rows, rt);
     Ok([
         network.rounded_residual(alloc, &AT)?,
         network.rounded_residual(alloc, &LOW)?,
@@ -209,7 +227,8 @@ fn load_rows(alloc: Global, rt: &impl Abort) -> Result<[Vec<i128>; 2], AllocErro
 }
 
 fn load_ends(alloc: Global, rt: &impl Abort) -> Result<Vec<Option<(i128, i128)>>, AllocError> {
-    let network = load_network(alloc, rt)?;
+    let rows = both_loads(alloc)?;
+    let network = load_network(&rows, rt);
     let residual = network.residual(alloc, &AT)?;
     let mut ends = Vec::new(alloc);
     for row in &residual {
@@ -220,7 +239,8 @@ fn load_ends(alloc: Global, rt: &impl Abort) -> Result<Vec<Option<(i128, i128)>>
 
 // Entries of the Jacobian within the limits.
 fn jacobian_at(alloc: Global, rt: &impl Abort) -> Result<[i128; 6], AllocError> {
-    let network = load_network(alloc, rt)?;
+    let rows = both_loads(alloc)?;
+    let network = load_network(&rows, rt);
     let matrix = network.rounded_jacobian(alloc, &AT)?;
     Ok([
         entry(&matrix, 0, 0),
@@ -234,14 +254,16 @@ fn jacobian_at(alloc: Global, rt: &impl Abort) -> Result<[i128; 6], AllocError> 
 
 // Entries of the Jacobian below them.
 fn jacobian_low(alloc: Global, rt: &impl Abort) -> Result<[i128; 2], AllocError> {
-    let network = load_network(alloc, rt)?;
+    let rows = both_loads(alloc)?;
+    let network = load_network(&rows, rt);
     let matrix = network.rounded_jacobian(alloc, &LOW)?;
     Ok([entry(&matrix, 0, 4), entry(&matrix, 4, 4)])
 }
 
 // Entries of the start matrix.
 fn start_entries(alloc: Global, rt: &impl Abort) -> Result<[i128; 4], AllocError> {
-    let network = load_network(alloc, rt)?;
+    let rows = both_loads(alloc)?;
+    let network = load_network(&rows, rt);
     let matrix = network.start_matrix(alloc)?;
     Ok([
         entry(&matrix, 0, 0),
@@ -305,7 +327,8 @@ fn slopes(rt: HostRuntime) -> Result<(), Fail> {
 
 #[test]
 fn load_counts(rt: HostRuntime) -> Result<(), Fail> {
-    let network = load_network(rt.alloc(), &rt)?;
+    let rows = both_loads(rt.alloc())?;
+    let network = load_network(&rows, &rt);
     assert_eq!(rt;
         (
             network.count(0, 1),

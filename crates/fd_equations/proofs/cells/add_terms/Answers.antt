@@ -1,7 +1,6 @@
-use Rattle.std.proofs.Common.{◌∙◌, pos, subst}
+use Rattle.std.proofs.Common.{subst}
 use Rattle.std.proofs.lemmas.List.{take_all}
 use Rattle.std.proofs.lemmas.List.Elements.{All-get_or}
-use Rattle.fd_arith.specs.declared.terms.Term.{Term}
 use Rattle.fd_equations.specs.Amounts.{AreCells, of_terms}
 use Rattle.fd_equations.specs.Conditions.{IsLinear}
 use Rattle.fd_equations.proofs.Growth.{cells_room, cells_then, no_term, terms_more}

@@ -1,4 +1,3 @@
-use Rattle.std.proofs.Common.{arith}
 use Rattle.fd_equations.proofs.Growth.{grown_as, grown_none}
 use Rattle.fd_equations.proofs.LoadCells.{magnitude_row_step, no_magnitude_row_step}
 use Rattle.fd_equations.proofs.load_cells.add_magnitude_row.Goals as goal

@@ -1,9 +1,9 @@
-use Rattle.std.proofs.Common.{◌≡◌, ℕ, ◌+◌, ◌*◌, ◌^◌, arith, refl, subst, sym}
+use Rattle.std.proofs.Common.{◌+◌, ◌*◌, ◌^◌, arith, subst, sym}
 use Rattle.fd_arith.specs.declared.terms.NodeAt.{NodeAt}
-use Rattle.fd_arith.specs.declared.terms.NodeAt.TheVariants.{Ground, Node}
+use Rattle.fd_arith.specs.declared.terms.NodeAt.TheVariants.{Node}
 use Rattle.fd_equations.specs.Amounts.{AreGrown}
-use Rattle.fd_equations.proofs.Growth.{grown_as, grown_none, grown_then, room_after}
-use Rattle.fd_equations.proofs.LoadCells.{no_rows_step, node_rows, node_rows_step, row_in, row_in_small}
+use Rattle.fd_equations.proofs.Growth.{grown_then, room_after}
+use Rattle.fd_equations.proofs.LoadCells.{node_rows, node_rows_step, row_in, row_in_small}
 use Rattle.fd_equations.proofs.load_cells.add_node_rows.Goals as goal
 
 pub add_row-requires-in-Node-clause-room : goal.add_row-requires-in-Node-clause-room

@@ -1,4 +1,3 @@
-use Rattle.std.proofs.Common.{◌∙◌, ap, subst, sym}
 use Rattle.fd_equations.proofs.Dense.{matrix_row}
 use Rattle.fd_equations.proofs.matrix.Matrix.row.Goals as goal
 

@@ -12,7 +12,7 @@ use Rattle.fd_equations.proofs.network.Network.start_matrix.Goals.{After-drop-br
 
 is_start : (c : After-drop-branch) → IsMatrix c.args.self.now.size c.in_ok-start.field-0 (of_both c.args.self.now.share.terms (λ u. start_slopes u.load) c.args.self.now.share.loads)
 is_start c =
-    let r = c.self.inside.rows in
+    let r = c.self.inside.rows.now in
     subst (λ (w : NetworkView). IsMatrix w.size c.in_ok-start.field-0 (of_both w.share.terms (λ u. start_slopes u.load) w.share.loads)) c.self.view_is
     (subst (λ n. IsMatrix n c.in_ok-start.field-0 (of_both r.terms (λ u. start_slopes u.load) r.loads)) c.self.invariant.1 c.in_ok-start.ensures)
 
