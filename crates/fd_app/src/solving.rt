@@ -2,7 +2,7 @@
 ghost use Rattle.std.specs.Prelude.{◌≡◌, ℤ, nat_abs, List, None, Result, Err, IfErr, IfOk};
 ghost use Rattle.std.specs.Option.{option_map};
 ghost use Rattle.dss_profile.specs.InRange.{OptionsInRange};
-ghost use Rattle.dss_layout.specs.Layout.{first_too_many, layout_of, size_of};
+ghost use Rattle.dss_layout.specs.Layout.{layout_of, size_of};
 ghost use Rattle.dss_circuit.specs.Circuit.{CircuitView};
 ghost use Rattle.dss_ready.specs.Ready.{HasPassed};
 ghost use Rattle.fd_equations.specs.Conditions.{IsPoint};
@@ -31,9 +31,9 @@ use dss_profile::Options;
 use fd_cert::{CertFault, Certified, certify};
 use fd_devices::{BuildFault, Positions, powers_at, snapshot_law};
 use fd_enclosure::{ball_law, certificate_law, enclosure_law, tie_law};
-use fd_equations::{Network, Point};
+use fd_equations::Point;
 use fd_inject::{Limits, SolveFault, solve};
-use fd_network::build;
+use fd_network::Network;
 use fd_report::{Cause, Fault, name_at};
 use fd_settle::Round;
 use std::alloc::{AllocError, Global};
@@ -66,17 +66,6 @@ fn first_unbuilt(circuit: &Circuit) -> Option<&Place>
     None
 }
 
-// The layout of a circuit that passes no limit on its unknowns.
-fn layout_of(alloc: Global, circuit: &Circuit) -> Result<Layout, AllocError>
-    requires { first_too_many circuit.now.elements ≡ None }
-    ensures { IfOk result (λ layout. layout ≡ layout_of circuit.now.elements) }
-{
-    match Layout::of(alloc, circuit.elements()) {
-        Ok(layout) => Ok(layout),
-        Err(_) => Err(AllocError),
-    }
-}
-
 // How long and how far the options let the procedure iterate.
 fn limits_of(options: &Options) -> Limits
     requires { OptionsInRange options.now }
@@ -92,8 +81,9 @@ fn limits_of(options: &Options) -> Limits
 // The network of a circuit with the taps, states and powers of its script.
 fn network_of(alloc: Global, circuit: &Circuit) -> Result<Network, BuildFault>
     requires ready { HasPassed circuit.now }
-    ensures network { IfOk result (λ net. net ≡ snapshot_network circuit.now) }
-    ensures agrees { IfOk result (λ net. AgreesWith net.share (circuit_parts circuit.now (snapshot_of circuit.now.elements))) }
+    ensures network { IfOk result (λ net. net.rows ≡ snapshot_network circuit.now) }
+    ensures layout { IfOk result (λ net. net.layout ≡ layout_of circuit.now.elements) }
+    ensures agrees { IfOk result (λ net. AgreesWith net.rows.share (circuit_parts circuit.now (snapshot_of circuit.now.elements))) }
     ensures no_blame { IfOk result (λ net. snapshot_blame circuit.now ≡ None) }
     ensures fault { IfErr result (λ fault. IsFaultOf (snapshot_blame circuit.now) fault) }
 {
@@ -101,7 +91,7 @@ fn network_of(alloc: Global, circuit: &Circuit) -> Result<Network, BuildFault>
     let powers = powers_at(alloc, circuit, 0)?;
     snapshot_law();
     let _in_range = circuit.elements();
-    build(alloc, circuit, &positions, &powers)
+    Network::build(alloc, circuit, &positions, &powers)
 }
 
 // Why a point has no certificate, as what the circuit comes to.
@@ -138,26 +128,26 @@ fn size_of_bound(sum: Option<i128>) -> Option<u128>
 fn judge(
     alloc: Global,
     circuit: &Circuit,
-    net: &Network,
+    net: Network,
     point: Point,
 ) -> Result<Answer, AllocError>
-    requires few { first_too_many circuit.now.elements ≡ None }
-    requires network { net.now ≡ snapshot_network circuit.now }
-    requires agrees { AgreesWith net.now.share (circuit_parts circuit.now (snapshot_of circuit.now.elements)) }
-    requires point { IsPoint net.now point.x.items }
-    requires inverse { IsInverse net.now.size point.inverse }
+    requires layout { net.layout ≡ layout_of circuit.now.elements }
+    requires network { net.rows ≡ snapshot_network circuit.now }
+    requires agrees { AgreesWith net.rows.share (circuit_parts circuit.now (snapshot_of circuit.now.elements)) }
+    requires point { IsPoint net.rows point.x.items }
+    requires inverse { IsInverse net.rows.size point.inverse }
     requires reached { IsReached circuit.now point.x.items point.inverse }
-    ensures { IfOk result (λ answer. (answered answer circuit.now ≡ judged circuit.now (certificate_of net.now point.x.items point.inverse)) × IsSound answer circuit.now) }
+    ensures { IfOk result (λ answer. (answered answer circuit.now ≡ judged circuit.now (certificate_of net.rows point.x.items point.inverse)) × IsSound answer circuit.now) }
 {
-    let layout = layout_of(alloc, circuit)?;
-    let _valid = net.size();
+    let _valid = net.rows().size();
     certificate_law();
     enclosure_law();
     tie_law();
     ball_law();
-    match certify(alloc, net, point) {
-        Ok(certified) => Ok(solved(alloc, layout, certified)),
-        Err(fault) => uncertified(alloc, &layout, fault),
+    let made = certify(alloc, &net.rows(), point);
+    match made {
+        Ok(certified) => Ok(solved(alloc, net.into_layout(), certified)),
+        Err(fault) => uncertified(alloc, net.layout(), fault),
     }
 }
 
@@ -206,19 +196,17 @@ fn unsolved(alloc: Global, layout: &Layout, fault: SolveFault) -> Result<Answer,
 }
 
 // What a circuit with this network comes to.
-fn solve_network(alloc: Global, circuit: &Circuit, net: &Network) -> Result<Answer, AllocError>
-    requires few { first_too_many circuit.now.elements ≡ None }
-    requires network { net.now ≡ snapshot_network circuit.now }
-    requires agrees { AgreesWith net.now.share (circuit_parts circuit.now (snapshot_of circuit.now.elements)) }
+fn solve_network(alloc: Global, circuit: &Circuit, net: Network) -> Result<Answer, AllocError>
+    requires layout { net.layout ≡ layout_of circuit.now.elements }
+    requires network { net.rows ≡ snapshot_network circuit.now }
+    requires agrees { AgreesWith net.rows.share (circuit_parts circuit.now (snapshot_of circuit.now.elements)) }
     ensures { IfOk result (λ answer. IsByNetwork circuit.now (snapshot_network circuit.now) (answered answer circuit.now) × IsSound answer circuit.now) }
 {
     let limits = limits_of(circuit.options());
-    match solve(alloc, net, &limits) {
+    let solved = solve(alloc, &net.rows(), &limits);
+    match solved {
         Ok(point) => judge(alloc, circuit, net, point),
-        Err(fault) => {
-            let layout = layout_of(alloc, circuit)?;
-            unsolved(alloc, &layout, fault)
-        }
+        Err(fault) => unsolved(alloc, net.layout(), fault),
     }
 }
 
@@ -228,7 +216,7 @@ fn solve_built(alloc: Global, circuit: &Circuit) -> Result<Answer, AllocError>
     ensures { IfOk result (λ answer. IsByRange circuit.now (snapshot_blame circuit.now) (answered answer circuit.now) × IsSound answer circuit.now) }
 {
     match network_of(alloc, circuit) {
-        Ok(net) => solve_network(alloc, circuit, &net),
+        Ok(net) => solve_network(alloc, circuit, net),
         Err(BuildFault::Range(blame)) => {
             refused(alloc, &blame.place, Cause::Model(blame.cause))
         },

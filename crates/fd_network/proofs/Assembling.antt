@@ -1,26 +1,24 @@
 -- What elements add is what a network asks for.
-use Rattle.std.proofs.Common.{◌*◌, ◌<◌, ◌≤◌, ◌^◌, List, [], ◌∷◌, length, None, arith, ap, ◌≡◌, ◌∙◌, ℕ}
+use Rattle.std.proofs.Common.{◌+◌, ◌*◌, ◌<◌, ◌≤◌, ◌^◌, List, [], ◌∷◌, length, None, arith, ap, refl, ◌≡◌, ◌∙◌, ℕ}
 use Rattle.std.specs.List.{All}
 use Rattle.std.specs.Option.{option_or}
 use Rattle.std.proofs.lemmas.List.Elements.{All-nil, All-cons, All-head, All-tail}
-use Rattle.std.proofs.lemmas.List.FromFn.{length-map-range_with_len}
-use Rattle.dss_profile.specs.Ranges.{IsOneOf}
-use Rattle.dss_profile.specs.InRange.{ElementInRange}
-use Rattle.dss_profile.specs.declared.element.Element.{Element}
-use Rattle.dss_profile.specs.declared.element.Element.TheVariants as the
-use Rattle.dss_layout.specs.Layout.{Elements, LayoutView, ends_of, first_magnitude}
+use Rattle.dss_circuit.specs.Limits.{most_elements}
+use Rattle.dss_layout.specs.Limits.{most_complex, most_magnitudes}
+use Rattle.dss_layout.specs.Layout.{Elements, LayoutView, branch_phases, complex_count, size_of}
+use Rattle.fd_exact.specs.Sums.{list_n}
 use Rattle.fd_arith.specs.declared.terms.Term.{Term}
 use Rattle.fd_system.specs.declared.constants.Constant.{Constant}
-use Rattle.fd_system.specs.Contributions.{IsDivided, IsWithin}
-use Rattle.fd_equations.specs.Conditions.{AreLinear, IsKnown, IsLinear}
-use Rattle.fd_devices.specs.Building.{AreContributions, AreInRange, Fits, HasSmallSums, IsInside}
-use Rattle.fd_devices.specs.Devices.{Device, device_share, share_of_all}
-use Rattle.fd_devices.specs.Scripted.{device_of, devices_from, load_at}
-use Rattle.fd_devices.specs.Settings.{Settings, after, own}
+use Rattle.fd_system.specs.Contributions.{AreSmall, IsDivided, IsWithin}
+use Rattle.fd_equations.specs.Coefficients.{linear_entry}
+use Rattle.fd_equations.specs.Conditions.{AreApart, AreLinear, IsKnown, IsLinear, IsNetwork}
+use Rattle.fd_equations.specs.Views.{network_of}
+use Rattle.fd_devices.specs.Building.{AreCollected, AreContributions, AreInRange, Fits, HasSmallSums, IsInside}
+use Rattle.fd_devices.specs.Devices.{Added, Device, share_of_all}
+use Rattle.fd_devices.specs.Scripted.{layout_counts}
 use Rattle.fd_network.specs.declared.fault.PlaceFault.{PlaceFault}
 use Rattle.fd_network.specs.declared.fault.PlaceFault.TheVariants as place_fault
 use Rattle.fd_network.specs.Collecting.{NamesPlace}
-use Rattle.fd_network.specs.Places.{AreReadyFrom}
 use Rattle.fd_network.specs.Faults.{first_out_of_range, first_without, fits, has_small_sums}
 use Rattle.fd_network.proofs.Faulty.{fits_decides, none_without, sums_decide}
 use Rattle.fd_network.proofs.Sums.{small_at_devices}
@@ -68,3 +66,29 @@ pub no_fault : (ds : List Device) → AreInRange ds → first_out_of_range ds �
 no_fault ds h =
     fit_then_sums ds h.each
     ∙ none_without (has_small_sums (share_of_all ds).terms) (HasSmallSums (share_of_all ds).terms) (sums_decide (share_of_all ds).terms) ds (small_at_devices (share_of_all ds).terms ds h.sums)
+
+-- ---- the network
+
+-- what elements add is a network, where the sums are small and no two magnitudes stand at one place
+pub is_network : (layout : LayoutView) (es : Elements) (ds : List Device) (a : Added) → AreCollected (length layout.nodes) (complex_count layout) (size_of layout) es ds a
+    → ((row col : ℕ) → AreSmall (linear_entry a.share.terms row col)) → AreApart a.share.loads
+    → length es ≤ most_elements → list_n (λ e. branch_phases e.1) es ≤ most_complex → complex_count layout ≤ most_complex → length layout.magnitudes ≤ most_magnitudes
+    → IsNetwork (network_of (layout_counts layout) a.share a.draw)
+is_network layout es ds a h small apart few branches complexes magnitudes =
+    let b = h.bounded in
+    let few_constants = b.few_constants in
+    let few_loads = b.few_loads in
+    let draw = b.draw in
+    record {
+      small = omega arith;
+      nodes = omega arith;
+      unknowns = refl;
+      terms = are_linear (complex_count layout) (size_of layout) (omega arith) (64 * (length es + list_n (λ e. branch_phases e.1) es)) a.share.terms (omega arith) b.terms;
+      entries = small;
+      constants = all_known (complex_count layout) (size_of layout) (omega arith) a.share.constants b.constants;
+      few_constants = omega arith;
+      loads = b.loads;
+      few_loads = omega arith;
+      apart = apart;
+      draw = omega arith;
+    }

@@ -1,10 +1,9 @@
 -- The tests of devices decide what is said of them, and the first device that fails one.
-use Rattle.std.proofs.Common.{◌≡◌, ◌∙◌, ℕ, zero, suc, ◌*◌, ◌<◌, ◌^◌, ℤ, nat_abs, Bool, true, false, not, cond, List, [], ◌∷◌, length, take, drop, Option, Some, None, Decides, arith, ap, sym, refl, subst}
+use Rattle.std.proofs.Common.{◌≡◌, ◌∙◌, ℕ, ◌<◌, ◌^◌, ℤ, nat_abs, Bool, true, false, not, List, ◌∷◌, length, take, drop, Option, Some, None, Decides, arith, ap, sym, refl, subst}
 use Rattle.std.specs.List.{All, list_all}
-use Rattle.std.specs.Option.{option_map}
 use Rattle.std.proofs.lemmas.Int.{ints}
 use Rattle.std.proofs.lemmas.Bool.{leb-true, le-leb}
-use Rattle.std.proofs.lemmas.Bool.Decides.{Decides-and, Decides-by_and, Decides-like, Decides-ltb, Decides-not, Decides-or}
+use Rattle.std.proofs.lemmas.Bool.Decides.{Decides-and, Decides-by_and, Decides-like, Decides-not}
 use Rattle.std.proofs.lemmas.List.Elements.{All-drop, All-head, All-weaker}
 use Rattle.fd_exact.specs.FirstLaws.{such_at, such_below, such_none}
 use Rattle.fd_arith.specs.declared.terms.Term.{Term}

@@ -1,5 +1,5 @@
 -- Where the nodes, the branches and the magnitudes of an element stand among the unknowns of the layout.
-use Rattle.std.proofs.Common.{◌≡◌, ℕ, zero, suc, ◌+◌, ◌<◌, ◌≤◌, ◌==◌, Bool, true, false, inl, inr, if◌then◌else◌, [], ◌∷◌, length, slice_index, slice_index_or, All, refl, ap, subst, ◌∙◌, length-append, arith}
+use Rattle.std.proofs.Common.{◌≡◌, ℕ, ◌+◌, ◌≤◌, ◌==◌, Bool, true, false, inl, inr, if◌then◌else◌, [], ◌∷◌, length, slice_index, All, subst, ◌∙◌, arith}
 use Rattle.std.proofs.lemmas.List.{length-map}
 use Rattle.fd_arith.specs.declared.terms.Ends.{Ends}
 use Rattle.dss_profile.specs.Ranges.{IsOneOf}

@@ -1,5 +1,5 @@
 -- Which element is to blame where a circuit's network is out of range.
-use Rattle.std.specs.Prelude.{◌≡◌, ℕ, ◌*◌, ◌^◌, ℤ, nat_abs, nat_le, nat_lt, Bool, not, ◌&&◌, ◌||◌, List, Option, Some}
+use Rattle.std.specs.Prelude.{◌≡◌, ℕ, ◌^◌, ℤ, nat_abs, nat_le, Bool, not, ◌&&◌, List, Option, Some}
 use Rattle.std.specs.List.{list_all}
 use Rattle.std.specs.Option.{option_and_then, option_or}
 use Rattle.dss_values.specs.declared.fault.ModelFault.TheVariants as fault
@@ -8,7 +8,6 @@ use Rattle.dss_layout.specs.Layout.{Elements}
 use Rattle.dss_ready.specs.Ready.{blame_at}
 use Rattle.fd_exact.specs.First.{first_such}
 use Rattle.fd_arith.specs.declared.terms.Term.{Term}
-use Rattle.fd_system.specs.declared.loads.LoadPhase.{LoadPhase}
 use Rattle.fd_load.specs.Current.{is_past}
 use Rattle.fd_equations.specs.Coefficients.{linear_entry, units_of}
 use Rattle.fd_devices.specs.declared.fault.BuildFault.{BuildFault}

@@ -1,3 +1,4 @@
+pub mod Built
 pub mod Collecting
 pub mod Faults
 pub mod Places

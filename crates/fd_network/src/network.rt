@@ -1,12 +1,18 @@
 // The network of a circuit, built.
-ghost use Rattle.std.specs.Prelude.{◌≡◌, All, IfErr, IfOk, None};
-ghost use Rattle.dss_layout.specs.Layout.{first_too_many, layout_of};
+ghost use Rattle.std.specs.Prelude.{◌≡◌, ◌<◌, ◌≤◌, All, IfErr, IfOk, None, Some, length, slice_get};
+ghost use Rattle.dss_layout.specs.Layout.{complex_count, first_too_many, layout_of, size_of};
+ghost use Rattle.dss_layout.specs.Limits.{most_complex, most_magnitudes};
+ghost use Rattle.dss_layout.specs.UnknownNames.{unknown_name};
 ghost use Rattle.dss_ready.specs.Ready.{HasPassed};
 ghost use Rattle.fd_xfmr.specs.Leakage.{AreTaps};
+ghost use Rattle.fd_equations.specs.Conditions.{IsNetwork};
+ghost use Rattle.fd_equations.specs.Views.{network_of, share_with};
 ghost use Rattle.fd_devices.specs.Building.{AreInRange, IsModest};
 ghost use Rattle.fd_devices.specs.Devices.{AgreesWith};
-ghost use Rattle.fd_devices.specs.Scripted.{circuit_network, circuit_parts, devices_of};
+ghost use Rattle.fd_devices.specs.Places.{ends_at};
+ghost use Rattle.fd_devices.specs.Scripted.{circuit_network, circuit_parts, devices_of, layout_counts};
 ghost use Rattle.fd_devices.specs.Settings.{AreSettings, settings_of};
+ghost use Rattle.fd_network.specs.Built.{IsBuilt, built_of};
 ghost use Rattle.fd_network.specs.Faults.{IsFaultOf, range_blame};
 
 use crate::assembly::assemble;
@@ -15,46 +21,199 @@ use crate::fault::PlaceFault;
 use crate::settings::SettingsLeft;
 use dss_circuit::Circuit;
 use dss_layout::Layout;
+use dss_lexer::Text;
+use fd_arith::Ends;
 use fd_devices::{BuildFault, Positions, Powers};
-use fd_equations::Network;
+use fd_equations::{Layout as Counts, Network as NetworkRows, Rows};
+use fd_system::Constant;
 use std::alloc::{AllocError, Global};
+use std::marker::Model;
 
-/// The network of a circuit with these positions of its taps and banks and these powers of its load phases, in the order of its layout:
-/// nodes in order of first mention, then branch phases, then the magnitudes of loads of constant current.
-///
-/// The circuit passed the tests of Solve, and the lists have its lengths. Taps are from 0.5 to 2, and powers at most 10^17 thousandths of a
-/// volt-ampere in size.
-///
-/// # Errors
-/// `Range` exactly where a contribution, or the sum of those at one place, is past 2^54 in units of 2^-40, or a load phase is past its limit: the
-/// first element, in order, that has such a contribution or such a phase, and where there is none the first with a contribution at a
-/// place with such a sum. `NoMemory` where memory is refused.
-pub fn build(
-    alloc: Global,
-    circuit: &Circuit,
-    at: &Positions,
-    powers: &Powers,
-) -> Result<Network, BuildFault>
-    requires ready { HasPassed circuit.now }
-    requires settings { AreSettings circuit.now.elements (settings_of at.now powers.now) }
-    requires within { All AreTaps at.now.taps }
-    requires modest { All IsModest powers.now.loads }
-    ensures network { IfOk result (λ n. n ≡ circuit_network circuit.now (settings_of at.now powers.now)) }
-    ensures agrees { IfOk result (λ n. AgreesWith n.share (circuit_parts circuit.now (settings_of at.now powers.now))) }
-    ensures in_range { IfOk result (λ n. AreInRange (devices_of circuit.now (settings_of at.now powers.now))) }
-    ensures no_blame { IfOk result (λ n. range_blame circuit.now.elements (devices_of circuit.now (settings_of at.now powers.now)) ≡ None) }
-    ensures fault { IfErr result (λ f. IsFaultOf (range_blame circuit.now.elements (devices_of circuit.now (settings_of at.now powers.now))) f) }
-{
-    let layout = layout(alloc, circuit)?;
-    let settings = SettingsLeft::of(at, powers);
-    let elements = circuit.elements();
-    let hertz = circuit.options().defaultbasefrequency;
-    match assemble(alloc, &layout, hertz, elements, &settings) {
-        Ok(network) => Ok(network),
-        Err(PlaceFault::OutOfRange(place)) => {
-            Err(BuildFault::Range(blame_range(elements, place)?))
+/// The network of a circuit with positions of its taps and banks and powers of its load phases. Its unknowns and rows are in the order
+/// of its layout: nodes in order of first mention, then branch phases, then the magnitudes of loads of constant current.
+#[derive(Drop)]
+pub struct Network {
+    layout: Layout,
+    counts: Counts,
+    rows: Rows,
+    constants: Vec<Constant>,
+    draw: u128,
+}
+
+impl Model for Network {
+    ghost use Rattle.std.specs.Prelude.{◌≡◌};
+    ghost use Rattle.dss_layout.specs.Layout.{size_of};
+    ghost use Rattle.fd_equations.specs.Views.{share_with};
+    ghost use Rattle.fd_network.specs.Built.{BuiltView, IsBuilt, built_of};
+
+    ghost Value = { BuiltView };
+
+    ghost view = { λ n. built_of n.layout n.counts (share_with n.constants.items n.rows.terms n.rows.loads) n.draw };
+
+    ghost invariant = { λ n. IsBuilt (built_of n.layout n.counts (share_with n.constants.items n.rows.terms n.rows.loads) n.draw) × (n.rows.size ≡ size_of n.layout) };
+}
+
+impl Network {
+    // The network of these rows and constants in a layout.
+    pub(crate) fn with_rows(
+        layout: Layout,
+        rows: Rows,
+        constants: Vec<Constant>,
+        draw: u128,
+    ) -> Network
+        requires few_complexes { complex_count layout ≤ most_complex }
+        requires few_magnitudes { length layout.magnitudes ≤ most_magnitudes }
+        requires size { rows.size ≡ size_of layout }
+        requires network { IsNetwork (network_of (layout_counts layout) (share_with constants.items rows.terms rows.loads) draw) }
+        ensures { result ≡ built_of layout (layout_counts layout) (share_with constants.items rows.terms rows.loads) draw }
+    {
+        let counts = counts(&layout);
+        Network {
+            layout,
+            counts,
+            rows,
+            constants,
+            draw,
         }
-        Err(PlaceFault::NoMemory) => Err(BuildFault::NoMemory),
+    }
+
+    /// The network of a circuit with these positions of its taps and banks and these powers of its load phases.
+    ///
+    /// The circuit passed the tests of Solve, and the lists have its lengths. Taps are from 0.5 to 2, and powers at most 10^17
+    /// thousandths of a volt-ampere in size.
+    ///
+    /// # Errors
+    /// `Range` exactly where a contribution, or the sum of those at one place, is past 2^54 in units of 2^-40, or a load phase is past its
+    /// limit: the first element, in order, that has such a contribution or such a phase, and where there is none the first with a
+    /// contribution at a place with such a sum. `NoMemory` where memory is refused.
+    pub fn build(
+        alloc: Global,
+        circuit: &Circuit,
+        at: &Positions,
+        powers: &Powers,
+    ) -> Result<Network, BuildFault>
+        requires ready { HasPassed circuit.now }
+        requires settings { AreSettings circuit.now.elements (settings_of at.now powers.now) }
+        requires within { All AreTaps at.now.taps }
+        requires modest { All IsModest powers.now.loads }
+        ensures network { IfOk result (λ n. n.rows ≡ circuit_network circuit.now (settings_of at.now powers.now)) }
+        ensures layout { IfOk result (λ n. n.layout ≡ layout_of circuit.now.elements) }
+        ensures agrees { IfOk result (λ n. AgreesWith n.rows.share (circuit_parts circuit.now (settings_of at.now powers.now))) }
+        ensures in_range { IfOk result (λ n. AreInRange (devices_of circuit.now (settings_of at.now powers.now))) }
+        ensures no_blame { IfOk result (λ n. range_blame circuit.now.elements (devices_of circuit.now (settings_of at.now powers.now)) ≡ None) }
+        ensures fault { IfErr result (λ f. IsFaultOf (range_blame circuit.now.elements (devices_of circuit.now (settings_of at.now powers.now))) f) }
+    {
+        let layout = layout(alloc, circuit)?;
+        let settings = SettingsLeft::of(at, powers);
+        let elements = circuit.elements();
+        let hertz = circuit.options().defaultbasefrequency;
+        match assemble(alloc, layout, hertz, elements, &settings) {
+            Ok(network) => Ok(network),
+            Err(PlaceFault::OutOfRange(place)) => {
+                Err(BuildFault::Range(blame_range(elements, place)?))
+            }
+            Err(PlaceFault::NoMemory) => Err(BuildFault::NoMemory),
+        }
+    }
+
+    /// Makes the network of a circuit with other positions or powers what `build` gives for them. After a refusal it is as before.
+    ///
+    /// # Errors
+    /// Those of `build`.
+    pub fn update(
+        &mut self,
+        alloc: Global,
+        circuit: &Circuit,
+        at: &Positions,
+        powers: &Powers,
+    ) -> Result<(), BuildFault>
+        requires ready { HasPassed circuit.now }
+        requires settings { AreSettings circuit.now.elements (settings_of at.now powers.now) }
+        requires within { All AreTaps at.now.taps }
+        requires modest { All IsModest powers.now.loads }
+        ensures network { IfOk result (λ _. self.new.rows ≡ circuit_network circuit.now (settings_of at.now powers.now)) }
+        ensures layout { IfOk result (λ _. self.new.layout ≡ layout_of circuit.now.elements) }
+        ensures agrees { IfOk result (λ _. AgreesWith self.new.rows.share (circuit_parts circuit.now (settings_of at.now powers.now))) }
+        ensures in_range { IfOk result (λ _. AreInRange (devices_of circuit.now (settings_of at.now powers.now))) }
+        ensures no_blame { IfOk result (λ _. range_blame circuit.now.elements (devices_of circuit.now (settings_of at.now powers.now)) ≡ None) }
+        ensures fault { IfErr result (λ f. IsFaultOf (range_blame circuit.now.elements (devices_of circuit.now (settings_of at.now powers.now))) f) }
+        ensures as_before { IfErr result (λ f. self.new ≡ self.old) }
+    {
+        *self = Network::build(alloc, circuit, at, powers)?;
+        Ok(())
+    }
+
+    /// Its rows, as the solver and the certificate ask for them. Takes no memory.
+    pub fn rows(&self) -> NetworkRows<'_>
+        ensures { result ≡ self.now.rows }
+    {
+        NetworkRows::new(self.counts, &self.rows, &self.constants, self.draw)
+    }
+
+    /// Where its unknowns stand.
+    pub fn layout(&self) -> &Layout
+        ensures { result.now ≡ self.now.layout }
+    {
+        &self.layout
+    }
+
+    /// Gives the layout up.
+    pub fn into_layout(self) -> Layout
+        ensures { result ≡ self.layout }
+    {
+        self.layout
+    }
+
+    /// How many real unknowns there are, and how many rows.
+    pub fn size(&self) -> u32
+        ensures rows { result ≡ self.now.rows.size }
+        ensures layout { result ≡ size_of self.now.layout }
+        ensures valid { IsBuilt self.now }
+    {
+        self.rows.size()
+    }
+
+    /// The name of the real unknown at a place: a bus and a number, or an element and a phase, with `re`, `im` or `mag`.
+    ///
+    /// # Errors
+    /// `AllocError` where the memory for the text is refused.
+    pub fn name(&self, alloc: Global, place: u32) -> Result<Text, AllocError>
+        requires { place < self.now.rows.size }
+        ensures { IfOk result (λ name. unknown_name self.now.layout place ≡ Some name) }
+    {
+        self.layout.unknown_name(alloc, place as usize)
+    }
+
+    /// The nodes and the first branch of the element with this number in order, in the circuit of which the network was built. The branch
+    /// of an element without branches is 0.
+    ///
+    /// # Errors
+    /// `AllocError` where the memory is refused.
+    pub fn ends_of(
+        &self,
+        alloc: Global,
+        circuit: &Circuit,
+        element: usize,
+    ) -> Result<Ends, AllocError>
+        requires element { element < length circuit.now.elements }
+        requires layout { self.now.layout ≡ layout_of circuit.now.elements }
+        ensures { IfOk result (λ ends. ends_at circuit.now.elements element ≡ Some ends) }
+    {
+        let (_, own) = circuit.elements().as_slice().get_index(element).unwrap();
+        self.layout.ends(alloc, element, own)
+    }
+}
+
+// How many nodes, branches and magnitudes a layout has.
+fn counts(layout: &Layout) -> Counts
+    requires few_complexes { complex_count layout.now ≤ most_complex }
+    requires few_magnitudes { length layout.now.magnitudes ≤ most_magnitudes }
+    ensures { result ≡ layout_counts layout.now }
+{
+    Counts {
+        nodes: layout.nodes().len() as u32,
+        branches: layout.branches().len() as u32,
+        magnitudes: layout.magnitudes().len() as u32,
     }
 }
 
@@ -67,30 +226,4 @@ fn layout(alloc: Global, circuit: &Circuit) -> Result<Layout, AllocError>
         Ok(layout) => Ok(layout),
         Err(_) => Err(AllocError),
     }
-}
-
-/// Makes the network of a circuit with other positions or powers what `build` gives for them. After a refusal it is as before.
-///
-/// # Errors
-/// Those of `build`.
-pub fn update(
-    alloc: Global,
-    net: &mut Network,
-    circuit: &Circuit,
-    at: &Positions,
-    powers: &Powers,
-) -> Result<(), BuildFault>
-    requires ready { HasPassed circuit.now }
-    requires settings { AreSettings circuit.now.elements (settings_of at.now powers.now) }
-    requires within { All AreTaps at.now.taps }
-    requires modest { All IsModest powers.now.loads }
-    ensures network { IfOk result (λ _. net.new ≡ circuit_network circuit.now (settings_of at.now powers.now)) }
-    ensures agrees { IfOk result (λ _. AgreesWith net.new.share (circuit_parts circuit.now (settings_of at.now powers.now))) }
-    ensures in_range { IfOk result (λ _. AreInRange (devices_of circuit.now (settings_of at.now powers.now))) }
-    ensures no_blame { IfOk result (λ _. range_blame circuit.now.elements (devices_of circuit.now (settings_of at.now powers.now)) ≡ None) }
-    ensures fault { IfErr result (λ f. IsFaultOf (range_blame circuit.now.elements (devices_of circuit.now (settings_of at.now powers.now))) f) }
-    ensures as_before { IfErr result (λ f. net.new ≡ net.old) }
-{
-    *net = build(alloc, circuit, at, powers)?;
-    Ok(())
 }

@@ -8,13 +8,14 @@ use Rattle.fd_app.proofs.solving.judge.Goals as goal
 
 pub uncertified-requires : goal.uncertified-requires
 uncertified-requires c =
-    let size = network_size c.args.circuit.now c.args.net.now c.requires.network ∙ sym (ap size_of c.in_ok-layout.ensures) in
+    let v = c.args.net.rows in
+    let size = ap (λ (w : NetworkView). w.size) c.rows-2.ensures ∙ network_size c.args.circuit.now v c.requires.network ∙ sym (ap size_of (c.layout.ensures ∙ c.requires.layout)) in
     subst (λ n. IsInside n c.in-Err.fault) size c.in-Err.ensures.within
 
 pub returns-in-Ok : goal.returns-in-Ok
 returns-in-Ok c =
     let circuit = c.args.circuit.now in
-    let v = c.args.net.now in
+    let v = c.args.net.rows in
     let x = c.args.point.x.items in
     let inverse = c.args.point.inverse in
     let m = claim_in c.in-Ok.certified in
@@ -24,7 +25,7 @@ returns-in-Ok c =
     let enclosure = c.enclosure_law.ensures v m network sound in
     let solution = is_solution circuit v c.requires.network c.requires.agrees x inverse m network c.requires.point ok sound enclosure c.tie_law.ensures c.ball_law.ensures c.requires.reached in
     let sized = is_of_size circuit v c.requires.network c.requires.agrees x inverse m network c.requires.point ok sound enclosure c.tie_law.ensures c.ball_law.ensures in
-    (c.solved.ensures.answered circuit ∙ sym (ap (judged circuit) ok), c.solved.ensures.sound circuit c.in_ok-layout.ensures sized solution)
+    (c.solved.ensures.answered circuit ∙ sym (ap (judged circuit) ok), c.solved.ensures.sound circuit (c.into_layout.ensures ∙ c.requires.layout) sized solution)
 
 pub returns-in-Err : goal.returns-in-Err
-returns-in-Err c = c.uncertified.ensures c.args.circuit.now c.args.net.now c.args.point.x.items c.args.point.inverse c.in_ok-layout.ensures c.in-Err.ensures.fault
+returns-in-Err c = c.uncertified.ensures c.args.circuit.now c.args.net.rows c.args.point.x.items c.args.point.inverse (c.into_layout.ensures ∙ c.requires.layout) c.in-Err.ensures.fault

@@ -15,7 +15,7 @@ build-requires-clause-settings c =
 pub returns-clause-network : goal.returns-clause-network
 returns-clause-network c =
     let is = same_settings c.in_ok-positions.positions c.in_ok-powers.powers c.args.circuit.now.elements c.in_ok-positions.ensures.taps c.in_ok-positions.ensures.closed c.in_ok-powers.ensures.powers in
-    let P : NetworkView → Type 0 = λ v. IfOk c.build.result (λ net. net ≡ v) in
+    let P : NetworkView → Type 0 = λ v. IfOk c.build.result (λ net. net.rows ≡ v) in
     subst P (settled_network c.args.circuit.now _ is) c.build.ensures.network
 
 pub returns-clause-no_blame : goal.returns-clause-no_blame

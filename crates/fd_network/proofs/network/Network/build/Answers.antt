@@ -1,4 +1,4 @@
-use Rattle.std.proofs.Common.{◌∙◌, ◌<◌, length, ap, subst, sym, arith}
+use Rattle.std.proofs.Common.{◌∙◌, ◌*◌, ◌<◌, length, ap, subst, sym, arith}
 use Rattle.dss_profile.specs.declared.options.Options.{Options}
 use Rattle.dss_values.specs.declared.fault.ModelFault.TheVariants as cause
 use Rattle.dss_ready.specs.Ready.{blame_at}
@@ -8,9 +8,12 @@ use Rattle.fd_devices.specs.Settings.{settings_of}
 use Rattle.fd_devices.proofs.Collecting.{devices_length}
 use Rattle.fd_network.specs.Collecting.{settings_left}
 use Rattle.fd_network.specs.Faults.{first_out_of_range}
+use Rattle.dss_layout.specs.Layout.{complex_count, layout_of}
+use Rattle.fd_network.specs.Places.{AreMagnitudesFrom}
+use Rattle.fd_network.proofs.Apart.{magnitudes_follow}
 use Rattle.fd_network.proofs.Building.{are_taken, blame_of, no_blame, out_of_range_within, same_devices, taken_as}
 use Rattle.fd_network.proofs.Ready.{few_branches, ready}
-use Rattle.fd_network.proofs.network.build.Goals as goal
+use Rattle.fd_network.proofs.network.Network.build.Goals as goal
 
 pub assemble-requires-clause-taken : goal.assemble-requires-clause-taken
 assemble-requires-clause-taken c =
@@ -20,6 +23,13 @@ assemble-requires-clause-taken c =
     let taken = are_taken hertz circuit.elements (settings_of c.args.at.now c.args.powers.now) c.options.ensures.in_range.defaultbasefrequency c.requires.ready.not_many is_ready c.requires.settings c.requires.within c.requires.modest in
     taken_as c.in_ok-layout.layout _ c.options.result.now.defaultbasefrequency hertz c.elements-elements.result.now.entries circuit.elements (settings_left c.of-settings.result) _
     c.in_ok-layout.ensures (ap (λ (o : Options). o.defaultbasefrequency) c.options.ensures.value) c.elements-elements.ensures.entries c.of-settings.ensures taken
+
+pub assemble-requires-clause-magnitudes : goal.assemble-requires-clause-magnitudes
+assemble-requires-clause-magnitudes c =
+    let layout = c.in_ok-layout.ensures in
+    let es = c.elements-elements.ensures.entries in
+    subst (λ l. AreMagnitudesFrom l (2 * complex_count l) 0 c.elements-elements.result.now.entries) (sym layout)
+    (subst (AreMagnitudesFrom (layout_of c.args.circuit.now.elements) (2 * complex_count (layout_of c.args.circuit.now.elements)) 0) (sym es) (magnitudes_follow c.args.circuit.now.elements))
 
 pub assemble-requires-clause-few : goal.assemble-requires-clause-few
 assemble-requires-clause-few c = omega (arith, ap length c.elements-elements.ensures.entries, c.elements-elements.ensures.few)
@@ -31,7 +41,7 @@ pub returns-in-Ok-clause-agrees : goal.returns-in-Ok-clause-agrees
 returns-in-Ok-clause-agrees c =
     let hertz = ap (λ (o : Options). o.defaultbasefrequency) c.options.ensures.value in
     let same = same_devices c.in_ok-layout.layout _ c.options.result.now.defaultbasefrequency _ c.elements-elements.result.now.entries _ (settings_left c.of-settings.result) _ c.in_ok-layout.ensures hertz c.elements-elements.ensures.entries c.of-settings.ensures in
-    subst (λ ds. AgreesWith c.in-Ok.network.share (parts_of_all ds)) same c.in-Ok.ensures.agrees
+    subst (λ ds. AgreesWith c.in-Ok.network.rows.share (parts_of_all ds)) same c.in-Ok.ensures.agrees
 
 pub returns-in-Ok-clause-no_blame : goal.returns-in-Ok-clause-no_blame
 returns-in-Ok-clause-no_blame c =
@@ -50,8 +60,8 @@ blame_range-requires c =
     let low = out_of_range_within (devices_from layout hertz 0 es settings) c.in-Err-OutOfRange.place first in
     subst (λ n. c.in-Err-OutOfRange.place < n) (devices_length layout hertz 0 es settings) low
 
-pub returns-in-Err-OutOfRange-clause-fault : goal.returns-in-Err-OutOfRange-clause-fault
-returns-in-Err-OutOfRange-clause-fault c =
+pub returns-in_ok-blame_range-in-Err-OutOfRange-clause-fault : goal.returns-in_ok-blame_range-in-Err-OutOfRange-clause-fault
+returns-in_ok-blame_range-in-Err-OutOfRange-clause-fault c =
     let circuit = c.args.circuit.now in
     let hertz = ap (λ (o : Options). o.defaultbasefrequency) c.options.ensures.value in
     let same = same_devices c.in_ok-layout.layout _ c.options.result.now.defaultbasefrequency _ c.elements-elements.result.now.entries _ (settings_left c.of-settings.result) _ c.in_ok-layout.ensures hertz c.elements-elements.ensures.entries c.of-settings.ensures in
