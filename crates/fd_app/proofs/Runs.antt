@@ -14,7 +14,6 @@ use Rattle.fd_outcome.specs.Events.{History, ended, finishes}
 use Rattle.fd_outcome.specs.History.{IsHistory}
 use Rattle.fd_outcome.specs.Laws.{IsDue}
 use Rattle.fd_outcome.specs.Runs.{Runs}
-use Rattle.fd_outcome.specs.Work.{ExactlyOne}
 use Rattle.fd_outcome.proofs.CallerLemmas.{ends_first, exactly_one_history, exactly_this, run_due}
 use Rattle.fd_app.specs.Commands.{IsStep}
 use Rattle.fd_app.specs.Headline.{IsSolved}

@@ -1,5 +1,5 @@
 -- The procedure's definition gives no want of memory.
-use Rattle.std.proofs.Common.{◌≡◌, ℕ, zero, suc, ℤ, Bool, true, false, List, Option, Some, None, Result, Ok, Err, refl, sym, ap, if◌then◌else◌}
+use Rattle.std.proofs.Common.{◌≡◌, ℕ, zero, suc, ℤ, Bool, true, false, List, Option, Some, None, Result, Ok, Err, ap, if◌then◌else◌}
 use Rattle.std.specs.Prelude.{nat_lt, ◌+◌, ◌^◌}
 use Rattle.std.specs.List.{fold}
 use Rattle.fd_exact.specs.States.{part}

@@ -1,4 +1,4 @@
-use Rattle.std.proofs.Common.{◌≡◌, arith}
+use Rattle.std.proofs.Common.{arith}
 use Rattle.std.specs.Str.{chars}
 use Rattle.dss_script.specs.Sessions.{remaining}
 use Rattle.fd_outcome.proofs.CallerLemmas.{untold_first}

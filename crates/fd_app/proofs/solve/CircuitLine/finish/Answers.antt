@@ -1,4 +1,3 @@
-use Rattle.std.proofs.Common.{refl}
 use Rattle.fd_outcome.proofs.CallerLemmas.{untold_done}
 use Rattle.fd_app.proofs.Handed.{finishes_nothing}
 use Rattle.fd_app.proofs.solve.CircuitLine.finish.Goals as goal
