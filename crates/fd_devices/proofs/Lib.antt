@@ -9,3 +9,4 @@ pub mod Collecting
 pub mod Steps
 pub mod Settling
 pub mod Next
+pub mod Reach

@@ -7,3 +7,4 @@ pub mod Building
 pub mod Snapshot
 pub mod Places
 pub mod Positions
+pub mod Reach

@@ -24,7 +24,7 @@ mod settings;
 mod snapshot;
 
 pub use data::{cap_data, xfmr_data};
-pub use devices::device_law;
+pub use devices::{device_law, reach_law};
 pub use fault::BuildFault;
 pub use pieces::{
     Piece, capacitor_piece, line_piece, load_piece, piece_of, source_piece, transformer_piece,

@@ -1,3 +1,4 @@
+pub mod Assembled
 pub mod Built
 pub mod Collecting
 pub mod Faults

@@ -12,10 +12,11 @@ ghost use Rattle.fd_devices.specs.Devices.{AgreesWith};
 ghost use Rattle.fd_devices.specs.Places.{ends_at};
 ghost use Rattle.fd_devices.specs.Scripted.{circuit_network, circuit_parts, devices_of, layout_counts};
 ghost use Rattle.fd_devices.specs.Settings.{AreSettings, settings_of};
-ghost use Rattle.fd_network.specs.Built.{IsBuilt, built_of};
+ghost use Rattle.fd_network.specs.Assembled.{parts_network};
+ghost use Rattle.fd_network.specs.Built.{IsBuilt, IsBuiltOf};
 ghost use Rattle.fd_network.specs.Faults.{IsFaultOf, range_blame};
 
-use crate::assembly::assemble;
+use crate::assembly::{Parts, assemble};
 use crate::blame::blame_range;
 use crate::fault::PlaceFault;
 use crate::settings::SettingsLeft;
@@ -44,39 +45,17 @@ impl Model for Network {
     ghost use Rattle.std.specs.Prelude.{◌≡◌};
     ghost use Rattle.dss_layout.specs.Layout.{size_of};
     ghost use Rattle.fd_equations.specs.Views.{share_with};
+    ghost use Rattle.fd_devices.specs.Scripted.{layout_counts};
     ghost use Rattle.fd_network.specs.Built.{BuiltView, IsBuilt, built_of};
 
     ghost Value = { BuiltView };
 
     ghost view = { λ n. built_of n.layout n.counts (share_with n.constants.items n.rows.terms n.rows.loads) n.draw };
 
-    ghost invariant = { λ n. IsBuilt (built_of n.layout n.counts (share_with n.constants.items n.rows.terms n.rows.loads) n.draw) × (n.rows.size ≡ size_of n.layout) };
+    ghost invariant = { λ n. IsBuilt (built_of n.layout n.counts (share_with n.constants.items n.rows.terms n.rows.loads) n.draw) × (n.rows.size ≡ size_of n.layout) × (n.counts ≡ layout_counts n.layout) };
 }
 
 impl Network {
-    // The network of these rows and constants in a layout.
-    pub(crate) fn with_rows(
-        layout: Layout,
-        rows: Rows,
-        constants: Vec<Constant>,
-        draw: u128,
-    ) -> Network
-        requires few_complexes { complex_count layout ≤ most_complex }
-        requires few_magnitudes { length layout.magnitudes ≤ most_magnitudes }
-        requires size { rows.size ≡ size_of layout }
-        requires network { IsNetwork (network_of (layout_counts layout) (share_with constants.items rows.terms rows.loads) draw) }
-        ensures { result ≡ built_of layout (layout_counts layout) (share_with constants.items rows.terms rows.loads) draw }
-    {
-        let counts = counts(&layout);
-        Network {
-            layout,
-            counts,
-            rows,
-            constants,
-            draw,
-        }
-    }
-
     /// The network of a circuit with these positions of its taps and banks and these powers of its load phases.
     ///
     /// The circuit passed the tests of Solve, and the lists have its lengths. Taps are from 0.5 to 2, and powers at most 10^17
@@ -97,23 +76,26 @@ impl Network {
         requires within { All AreTaps at.now.taps }
         requires modest { All IsModest powers.now.loads }
         ensures network { IfOk result (λ n. n.rows ≡ circuit_network circuit.now (settings_of at.now powers.now)) }
-        ensures layout { IfOk result (λ n. n.layout ≡ layout_of circuit.now.elements) }
+        ensures built { IfOk result (λ n. IsBuiltOf n circuit.now) }
         ensures agrees { IfOk result (λ n. AgreesWith n.rows.share (circuit_parts circuit.now (settings_of at.now powers.now))) }
         ensures in_range { IfOk result (λ n. AreInRange (devices_of circuit.now (settings_of at.now powers.now))) }
         ensures no_blame { IfOk result (λ n. range_blame circuit.now.elements (devices_of circuit.now (settings_of at.now powers.now)) ≡ None) }
         ensures fault { IfErr result (λ f. IsFaultOf (range_blame circuit.now.elements (devices_of circuit.now (settings_of at.now powers.now))) f) }
     {
         let layout = layout(alloc, circuit)?;
-        let settings = SettingsLeft::of(at, powers);
-        let elements = circuit.elements();
-        let hertz = circuit.options().defaultbasefrequency;
-        match assemble(alloc, layout, hertz, elements, &settings) {
-            Ok(network) => Ok(network),
-            Err(PlaceFault::OutOfRange(place)) => {
-                Err(BuildFault::Range(blame_range(elements, place)?))
-            }
-            Err(PlaceFault::NoMemory) => Err(BuildFault::NoMemory),
-        }
+        let counts = counts(&layout);
+        let Parts {
+            rows,
+            constants,
+            draw,
+        } = parts(alloc, &layout, circuit, at, powers)?;
+        Ok(Network {
+            layout,
+            counts,
+            rows,
+            constants,
+            draw,
+        })
     }
 
     /// Makes the network of a circuit with other positions or powers what `build` gives for them. After a refusal it is as before.
@@ -131,15 +113,23 @@ impl Network {
         requires settings { AreSettings circuit.now.elements (settings_of at.now powers.now) }
         requires within { All AreTaps at.now.taps }
         requires modest { All IsModest powers.now.loads }
+        requires built { IsBuiltOf self.old circuit.now }
         ensures network { IfOk result (λ _. self.new.rows ≡ circuit_network circuit.now (settings_of at.now powers.now)) }
-        ensures layout { IfOk result (λ _. self.new.layout ≡ layout_of circuit.now.elements) }
+        ensures built { IsBuiltOf self.new circuit.now }
         ensures agrees { IfOk result (λ _. AgreesWith self.new.rows.share (circuit_parts circuit.now (settings_of at.now powers.now))) }
         ensures in_range { IfOk result (λ _. AreInRange (devices_of circuit.now (settings_of at.now powers.now))) }
         ensures no_blame { IfOk result (λ _. range_blame circuit.now.elements (devices_of circuit.now (settings_of at.now powers.now)) ≡ None) }
         ensures fault { IfErr result (λ f. IsFaultOf (range_blame circuit.now.elements (devices_of circuit.now (settings_of at.now powers.now))) f) }
         ensures as_before { IfErr result (λ f. self.new ≡ self.old) }
     {
-        *self = Network::build(alloc, circuit, at, powers)?;
+        let Parts {
+            rows,
+            constants,
+            draw,
+        } = parts(alloc, &self.layout, circuit, at, powers)?;
+        self.rows = rows;
+        self.constants = constants;
+        self.draw = draw;
         Ok(())
     }
 
@@ -196,11 +186,44 @@ impl Network {
         element: usize,
     ) -> Result<Ends, AllocError>
         requires element { element < length circuit.now.elements }
-        requires layout { self.now.layout ≡ layout_of circuit.now.elements }
+        requires built { IsBuiltOf self.now circuit.now }
         ensures { IfOk result (λ ends. ends_at circuit.now.elements element ≡ Some ends) }
     {
         let (_, own) = circuit.elements().as_slice().get_index(element).unwrap();
         self.layout.ends(alloc, element, own)
+    }
+}
+
+// The parts of the network of a circuit in its layout.
+fn parts(
+    alloc: Global,
+    layout: &Layout,
+    circuit: &Circuit,
+    at: &Positions,
+    powers: &Powers,
+) -> Result<Parts, BuildFault>
+    requires layout { layout.now ≡ layout_of circuit.now.elements }
+    requires ready { HasPassed circuit.now }
+    requires settings { AreSettings circuit.now.elements (settings_of at.now powers.now) }
+    requires within { All AreTaps at.now.taps }
+    requires modest { All IsModest powers.now.loads }
+    ensures network { IfOk result (λ n. parts_network layout.now n ≡ circuit_network circuit.now (settings_of at.now powers.now)) }
+    ensures valid { IfOk result (λ n. IsNetwork (parts_network layout.now n)) }
+    ensures size { IfOk result (λ n. n.rows.size ≡ size_of layout.now) }
+    ensures agrees { IfOk result (λ n. AgreesWith (parts_network layout.now n).share (circuit_parts circuit.now (settings_of at.now powers.now))) }
+    ensures in_range { IfOk result (λ n. AreInRange (devices_of circuit.now (settings_of at.now powers.now))) }
+    ensures no_blame { IfOk result (λ n. range_blame circuit.now.elements (devices_of circuit.now (settings_of at.now powers.now)) ≡ None) }
+    ensures fault { IfErr result (λ f. IsFaultOf (range_blame circuit.now.elements (devices_of circuit.now (settings_of at.now powers.now))) f) }
+{
+    let settings = SettingsLeft::of(at, powers);
+    let elements = circuit.elements();
+    let hertz = circuit.options().defaultbasefrequency;
+    match assemble(alloc, layout, hertz, elements, &settings) {
+        Ok(parts) => Ok(parts),
+        Err(PlaceFault::OutOfRange(place)) => {
+            Err(BuildFault::Range(blame_range(elements, place)?))
+        }
+        Err(PlaceFault::NoMemory) => Err(BuildFault::NoMemory),
     }
 }
 

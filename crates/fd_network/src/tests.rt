@@ -1,19 +1,22 @@
-// A small feeder, built and updated.
+// Small feeders, built and updated.
 ghost use Rattle.std.specs.Prelude.{◌≡◌, ◌↔◌, All, IfOk, IfSome, IsTrue, length};
 ghost use Rattle.fd_exact.specs.Sums.{list_n};
 ghost use Rattle.dss_ready.specs.Ready.{HasPassed};
 ghost use Rattle.fd_xfmr.specs.Leakage.{AreTaps};
 ghost use Rattle.fd_devices.specs.Building.{IsModest};
 ghost use Rattle.fd_devices.specs.Settings.{bank_count, power_count, tap_count};
+ghost use Rattle.fd_network.specs.Built.{IsBuiltOf};
 
+use crate::Network;
 use crate::settings::power_count;
-use crate::{build, update};
 use dss_circuit::{Circuit, Command, Element, ModelFault, Place, Verb};
 use dss_lexer::{PairList, Text, pairs};
 use dss_ready::{ReadyFault, ready};
-use fd_devices::{BuildFault, LoadPowers, Positions, Powers, snapshot_law};
+use fd_arith::TapPair;
+use fd_devices::{BankStates, BuildFault, LoadPowers, Positions, Powers, Taps, snapshot_law};
 use fd_elements::LoadPower;
-use fd_equations::Network;
+use fd_equations::Network as NetworkRows;
+use fd_mat::Dense;
 use std::alloc::{AllocError, Global};
 use std::process::Abort;
 use std::test::Fail;
@@ -150,7 +153,70 @@ fn is_ready(alloc: Global, circuit: &Circuit) -> bool
     }
 }
 
+// Whether these positions are as many as those of the script.
+fn are_as_many(script: &Positions, at: &Positions) -> bool
+    ensures taps { IsTrue result → length at.now.taps ≡ length script.now.taps }
+    ensures closed { IsTrue result → length at.now.closed ≡ length script.now.closed }
+{
+    at.taps.as_slice().len() == script.taps.as_slice().len()
+        && at.closed.as_slice().len() == script.closed.as_slice().len()
+}
+
+fn is_tap(taps: &TapPair) -> bool
+    ensures { IsTrue result ↔ AreTaps taps.now }
+{
+    taps.first >= 50_000
+        && taps.first <= 200_000
+        && taps.second >= 50_000
+        && taps.second <= 200_000
+}
+
+fn are_taps(at: &Positions) -> bool
+    ensures { IsTrue result → All AreTaps at.now.taps }
+{
+    at.taps.as_slice().iter().all(|taps| is_tap(taps))
+}
+
 // ---- a network
+
+// The network of a circuit that passes the tests of Solve.
+fn built(
+    alloc: Global,
+    rt: &impl Abort,
+    circuit: &Circuit,
+    at: &Positions,
+    powers: &Powers,
+) -> Result<Network, BuildFault>
+    ensures { IfOk result (λ net. IsBuiltOf net circuit.now) }
+{
+    let script = positions(alloc, circuit)?;
+    assert!(rt; is_ready(alloc, circuit));
+    assert!(rt; are_as_many(&script, at));
+    assert!(rt; are_taps(at));
+    assert!(rt; are_powers(circuit, powers));
+    Network::build(alloc, circuit, at, powers)
+}
+
+// The network with other positions and powers; whether it was refused.
+fn updated(
+    alloc: Global,
+    rt: &impl Abort,
+    net: &mut Network,
+    circuit: &Circuit,
+    at: &Positions,
+    powers: &Powers,
+) -> Result<bool, AllocError>
+    requires { IsBuiltOf net.old circuit.now }
+{
+    let script = positions(alloc, circuit)?;
+    assert!(rt; is_ready(alloc, circuit));
+    assert!(rt; are_as_many(&script, at));
+    assert!(rt; are_taps(at));
+    assert!(rt; are_powers(circuit, powers));
+    Ok(net.update(alloc, circuit, at, powers).is_err())
+}
+
+// ---- the worked feeder
 
 // 950 and 500 volt and twice 50 ampere, in micro-units; each has no imaginary part.
 const STATE: [i128; 8] = [950_000_000, 0, 500_000_000, 0, 50_000_000, 0, 50_000_000, 0];
@@ -165,6 +231,7 @@ fn size(ends: Option<(i128, i128)>) -> u128 {
 
 // The sizes of the residuals in that state, in whole micro-units.
 fn sizes(alloc: Global, rt: &impl Abort, net: &Network) -> Result<[u128; 8], AllocError> {
+    let net = net.rows();
     assert!(rt; net.size() == 8);
     let rows = net.residual(alloc, &STATE)?;
     let mut sizes = [0; 8];
@@ -174,33 +241,6 @@ fn sizes(alloc: Global, rt: &impl Abort, net: &Network) -> Result<[u128; 8], All
     Ok(sizes)
 }
 
-// The network of a circuit that passes the tests of Solve, with these powers.
-fn built(
-    alloc: Global,
-    rt: &impl Abort,
-    circuit: &Circuit,
-    powers: &Powers,
-) -> Result<Network, BuildFault> {
-    let at = positions(alloc, circuit)?;
-    assert!(rt; is_ready(alloc, circuit));
-    assert!(rt; are_powers(circuit, powers));
-    build(alloc, circuit, &at, powers)
-}
-
-// The network with other powers; whether it was refused.
-fn updated(
-    alloc: Global,
-    rt: &impl Abort,
-    net: &mut Network,
-    circuit: &Circuit,
-    powers: &Powers,
-) -> Result<bool, AllocError> {
-    let at = positions(alloc, circuit)?;
-    assert!(rt; is_ready(alloc, circuit));
-    assert!(rt; are_powers(circuit, powers));
-    Ok(update(alloc, net, circuit, &at, powers).is_err())
-}
-
 // The residuals of the worked feeder, and after its load has another power; whether that was refused.
 fn worked(
     alloc: Global,
@@ -208,12 +248,13 @@ fn worked(
     power: LoadPower,
 ) -> Result<([u128; 8], [u128; 8], bool), ModelFault> {
     let circuit = circuit(alloc, &[SOURCE, LINE, LOAD])?;
+    let at = positions(alloc, &circuit)?;
     let before = powers(alloc, &[POWER])?;
     let after = powers(alloc, &[power])?;
-    match built(alloc, rt, &circuit, &before) {
+    match built(alloc, rt, &circuit, &at, &before) {
         Ok(mut net) => {
             let first = sizes(alloc, rt, &net)?;
-            let refused = updated(alloc, rt, &mut net, &circuit, &after)?;
+            let refused = updated(alloc, rt, &mut net, &circuit, &at, &after)?;
             Ok((first, sizes(alloc, rt, &net)?, refused))
         }
         Err(_) => Err(ModelFault::NoMemory),
@@ -240,5 +281,161 @@ fn refused_power(rt: HostRuntime) -> Result<(), Fail> {
     let (_, second, refused) = worked(rt.alloc(), &rt, LoadPower { p, q })?;
     assert_eq!(rt; second, MISMATCH);
     assert!(rt; refused);
+    Ok(())
+}
+
+// ---- other positions and powers
+
+// A transformer, a bank, and loads of constant impedance and of constant current behind the source.
+const MOVABLE: [Row<'static>; 5] = [
+    SOURCE,
+    (
+        "Transformer",
+        "t",
+        "phases=1 buses=[sourcebus.1 b.1] kvs=[1 0.5] kvas=[500 500] %rs=[0.5 0.5] xhl=4",
+    ),
+    ("Capacitor", "k", "phases=1 bus1=b.1 kv=0.5 kvar=30"),
+    (
+        "Load",
+        "d",
+        "phases=1 bus1=b.1 kv=0.5 kw=100 kvar=20 model=2",
+    ),
+    (
+        "Load",
+        "e",
+        "phases=1 bus1=b.1 kv=0.5 kw=50 kvar=10 model=5",
+    ),
+];
+
+// The taps, whether the bank is closed, and the active and reactive power of each load.
+type Setting = (u32, u32, bool, [(i128, i128); 2]);
+
+// As it was built; then other taps, the bank open, other powers (of one load none), and all of these.
+const SETTINGS: [Setting; 5] = [
+    (
+        100_000,
+        100_000,
+        true,
+        [(100_000_000, 20_000_000), (50_000_000, 10_000_000)],
+    ),
+    (
+        102_500,
+        98_750,
+        true,
+        [(100_000_000, 20_000_000), (50_000_000, 10_000_000)],
+    ),
+    (
+        100_000,
+        100_000,
+        false,
+        [(100_000_000, 20_000_000), (50_000_000, 10_000_000)],
+    ),
+    (
+        100_000,
+        100_000,
+        true,
+        [(0, 0), (40_000_000, 70_000_000)],
+    ),
+    (
+        95_000,
+        105_000,
+        false,
+        [(90_000_000, 0), (60_000_000, 20_000_000)],
+    ),
+];
+
+// The state in which residuals are compared, in whole micro-units.
+const THERE: [i128; 9] = [
+    999_000_000,
+    -3_000_000,
+    490_000_000,
+    -12_000_000,
+    120_000_000,
+    -30_000_000,
+    240_000_000,
+    -60_000_000,
+    491_000_000,
+];
+
+fn positions_of(alloc: Global, setting: &Setting) -> Result<Positions, AllocError> {
+    let (first, second, closed, _) = *setting;
+    Ok(Positions {
+        taps: Taps::new(vec![in alloc; TapPair { first, second }]?),
+        closed: BankStates::new(vec![in alloc; closed]?),
+    })
+}
+
+fn powers_of(alloc: Global, setting: &Setting) -> Result<Powers, AllocError> {
+    let (_, _, _, [(p, q), (r, s)]) = *setting;
+    powers(alloc, &[LoadPower { p, q }, LoadPower { p: r, q: s }])
+}
+
+fn entry(matrix: &Dense, row: u32, col: u32) -> i128 {
+    if row < matrix.size() && col < matrix.size() {
+        matrix.get(row, col)
+    } else {
+        0
+    }
+}
+
+// The entries of the start matrix and the numbers of summands, row by row.
+fn cells(alloc: Global, net: &NetworkRows) -> Result<Vec<(i128, u32)>, AllocError> {
+    let start = net.start_matrix(alloc)?;
+    let mut cells = Vec::new(alloc);
+    for place in 0..81u32 {
+        let (row, col) = (place / 9, place % 9);
+        cells.push((entry(&start, row, col), net.count(row, col)))?;
+    }
+    Ok(cells)
+}
+
+// The residuals and the weights there.
+fn lists(
+    alloc: Global,
+    rt: &impl Abort,
+    net: &NetworkRows,
+) -> Result<(Vec<u128>, Vec<i128>), AllocError> {
+    assert!(rt; net.size() == 9);
+    let mut sizes = Vec::new(alloc);
+    for row in &net.residual(alloc, &THERE)? {
+        sizes.push(size(row.ends()))?;
+    }
+    Ok((sizes, net.weights(alloc, &THERE)?))
+}
+
+// Whether two networks have the same rows.
+fn are_same(
+    alloc: Global,
+    rt: &impl Abort,
+    one: &NetworkRows,
+    other: &NetworkRows,
+) -> Result<bool, AllocError> {
+    Ok(cells(alloc, one)? == cells(alloc, other)?
+        && lists(alloc, rt, one)? == lists(alloc, rt, other)?)
+}
+
+// Whether the network that was built at the first setting and updated to another has the rows of one that is built there, and those of
+// the first setting no more.
+fn is_as_built(alloc: Global, rt: &impl Abort, setting: &Setting) -> Result<bool, BuildFault> {
+    let circuit = match circuit(alloc, &MOVABLE) {
+        Ok(circuit) => circuit,
+        Err(_) => return Ok(false),
+    };
+    let (at, loads) = (positions_of(alloc, &SETTINGS[0])?, powers_of(alloc, &SETTINGS[0])?);
+    let (to, draws) = (positions_of(alloc, setting)?, powers_of(alloc, setting)?);
+    let before = built(alloc, rt, &circuit, &at, &loads)?;
+    let anew = built(alloc, rt, &circuit, &to, &draws)?;
+    let mut net = built(alloc, rt, &circuit, &at, &loads)?;
+    let refused = updated(alloc, rt, &mut net, &circuit, &to, &draws)?;
+    let moved = !are_same(alloc, rt, &net.rows(), &before.rows())?;
+    Ok(!refused && moved && are_same(alloc, rt, &net.rows(), &anew.rows())?)
+}
+
+#[test]
+fn updates(rt: HostRuntime) -> Result<(), Fail> {
+    for setting in &SETTINGS[1..] {
+        let is_same = matches!(is_as_built(rt.alloc(), &rt, setting), Ok(true));
+        assert!(rt; is_same);
+    }
     Ok(())
 }

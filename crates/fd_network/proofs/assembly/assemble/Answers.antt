@@ -10,7 +10,6 @@ use Rattle.fd_equations.specs.Views.{network_of, share_with}
 use Rattle.fd_equations.proofs.CallerLemmas.{all_connected}
 use Rattle.fd_devices.specs.Devices.{AgreesWith, Added, Device, added_by_all, added_of, parts_of_all, share_of_all}
 use Rattle.fd_devices.specs.Scripted.{devices_from, layout_counts}
-use Rattle.fd_network.specs.Built.{BuiltView}
 use Rattle.fd_network.specs.Collecting.{NamesPlace, settings_left}
 use Rattle.fd_network.specs.Faults.{first_without, has_small_sums}
 use Rattle.fd_network.proofs.Apart.{apart}
@@ -19,7 +18,7 @@ use Rattle.fd_network.proofs.assembly.assemble.Goals as goal
 
 pub returns-in_err-check_entries-clause-fault : goal.returns-in_err-check_entries-clause-fault
 returns-in_err-check_entries-clause-fault c =
-    let ds = devices_from c.args.layout c.args.hertz 0 c.args.elements.now.entries (settings_left c.args.settings.now) in
+    let ds = devices_from c.args.layout.now c.args.hertz 0 c.args.elements.now.entries (settings_left c.args.settings.now) in
     let collected = c.in_ok-constants.ensures.collected in
     let terms = c.in_ok-rows.ensures.terms ∙ ap (λ (a : Added). a.share.terms) collected.added in
     let p = err_from_is_err_and c.from_residual-in_err-check_entries.result c.from_residual-in_err-check_entries.ensures.1 in
@@ -33,7 +32,7 @@ of-requires-clause-few c =
 
 pub of-requires-clause-loads : goal.of-requires-clause-loads
 of-requires-clause-loads c =
-    let layout = c.args.layout in
+    let layout = c.args.layout.now in
     let size = c.size.ensures in
     let served = subst (λ n. All (IsServed (length layout.nodes) (complex_count layout) n) c.in_ok-constants.field-0.loads.items) (sym size) c.in_ok-constants.ensures.collected.bounded.loads in
     all_connected (length layout.nodes) (complex_count layout) c.size.result c.in_ok-constants.field-0.loads.items (omega arith) (omega (arith, size)) (omega (arith, size, c.requires.few_complexes, c.requires.few_magnitudes)) served
@@ -42,9 +41,9 @@ same_added : (layout : LayoutView) (piece : Added) (rows : RowsView) (ds : List 
     → share_with piece.share.constants rows.terms rows.loads ≡ share_of_all ds
 same_added layout piece rows ds t l e = (λ i. share_with piece.share.constants (t i) (l i)) ∙ ap (λ (a : Added). a.share) e
 
-pub with_rows-requires-clause-network : goal.with_rows-requires-clause-network
-with_rows-requires-clause-network c =
-    let layout = c.args.layout in
+pub returns-clause-valid : goal.returns-clause-valid
+returns-clause-valid c =
+    let layout = c.args.layout.now in
     let ds = devices_from layout c.args.hertz 0 c.args.elements.now.entries (settings_left c.args.settings.now) in
     let collected = c.in_ok-constants.ensures.collected in
     let piece = c.in_ok-constants.field-0 in
@@ -58,23 +57,22 @@ with_rows-requires-clause-network c =
 
 pub returns-clause-network : goal.returns-clause-network
 returns-clause-network c =
-    let layout = c.args.layout in
+    let layout = c.args.layout.now in
     let ds = devices_from layout c.args.hertz 0 c.args.elements.now.entries (settings_left c.args.settings.now) in
     let collected = c.in_ok-constants.ensures.collected in
-    let piece = c.in_ok-constants.field-0 in
-    let share = same_added layout (added_of piece) c.in_ok-rows.rows ds c.in_ok-rows.ensures.terms c.in_ok-rows.ensures.loads collected.added in
+    let share = same_added layout (added_of c.in_ok-constants.field-0) c.in_ok-rows.rows ds c.in_ok-rows.ensures.terms c.in_ok-rows.ensures.loads collected.added in
     let draw = ap (λ (x : Added). x.draw) collected.added in
-    ap (λ (v : BuiltView). v.rows) c.with_rows.ensures ∙ (λ i. network_of (layout_counts layout) (share i) (draw i))
+    λ i. network_of (layout_counts layout) (share i) (draw i)
 
 pub returns-clause-agrees : goal.returns-clause-agrees
 returns-clause-agrees c =
-    let layout = c.args.layout in
+    let layout = c.args.layout.now in
     let ds = devices_from layout c.args.hertz 0 c.args.elements.now.entries (settings_left c.args.settings.now) in
     let collected = c.in_ok-constants.ensures.collected in
-    let share = ap (λ (v : BuiltView). v.rows.share) c.with_rows.ensures ∙ same_added layout (added_of c.in_ok-constants.field-0) c.in_ok-rows.rows ds c.in_ok-rows.ensures.terms c.in_ok-rows.ensures.loads collected.added in
+    let share = same_added layout (added_of c.in_ok-constants.field-0) c.in_ok-rows.rows ds c.in_ok-rows.ensures.terms c.in_ok-rows.ensures.loads collected.added in
     subst (λ s. AgreesWith s (parts_of_all ds)) (sym share) (c.device_law.ensures ds collected.good)
 
 pub returns-clause-no_fault : goal.returns-clause-no_fault
 returns-clause-no_fault c =
-    let ds = devices_from c.args.layout c.args.hertz 0 c.args.elements.now.entries (settings_left c.args.settings.now) in
+    let ds = devices_from c.args.layout.now c.args.hertz 0 c.args.elements.now.entries (settings_left c.args.settings.now) in
     no_fault ds c.in_ok-check_entries.ensures.small

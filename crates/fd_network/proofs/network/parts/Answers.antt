@@ -1,4 +1,4 @@
-use Rattle.std.proofs.Common.{◌∙◌, ◌*◌, ◌<◌, length, ap, subst, sym, arith}
+use Rattle.std.proofs.Common.{◌∙◌, ◌*◌, ◌<◌, ◌≤◌, length, ap, subst, sym, arith}
 use Rattle.dss_profile.specs.declared.options.Options.{Options}
 use Rattle.dss_values.specs.declared.fault.ModelFault.TheVariants as cause
 use Rattle.dss_ready.specs.Ready.{blame_at}
@@ -6,14 +6,17 @@ use Rattle.fd_devices.specs.Devices.{AgreesWith, parts_of_all}
 use Rattle.fd_devices.specs.Scripted.{devices_from, devices_of}
 use Rattle.fd_devices.specs.Settings.{settings_of}
 use Rattle.fd_devices.proofs.Collecting.{devices_length}
+use Rattle.fd_network.specs.Assembled.{parts_network}
 use Rattle.fd_network.specs.Collecting.{settings_left}
 use Rattle.fd_network.specs.Faults.{first_out_of_range}
-use Rattle.dss_layout.specs.Layout.{complex_count, layout_of}
+use Rattle.dss_layout.specs.Limits.{most_complex, most_magnitudes}
+use Rattle.dss_layout.specs.Layout.{LayoutView, complex_count, layout_of}
+use Rattle.dss_layout.proofs.CallerLemmas.{few_complex, few_magnitudes}
 use Rattle.fd_network.specs.Places.{AreMagnitudesFrom}
 use Rattle.fd_network.proofs.Apart.{magnitudes_follow}
 use Rattle.fd_network.proofs.Building.{are_taken, blame_of, no_blame, out_of_range_within, same_devices, taken_as}
 use Rattle.fd_network.proofs.Ready.{few_branches, ready}
-use Rattle.fd_network.proofs.network.Network.build.Goals as goal
+use Rattle.fd_network.proofs.network.parts.Goals as goal
 
 pub assemble-requires-clause-taken : goal.assemble-requires-clause-taken
 assemble-requires-clause-taken c =
@@ -21,12 +24,12 @@ assemble-requires-clause-taken c =
     let hertz = circuit.options.defaultbasefrequency in
     let is_ready = ready circuit c.requires.ready c.elements-elements.ensures.in_range in
     let taken = are_taken hertz circuit.elements (settings_of c.args.at.now c.args.powers.now) c.options.ensures.in_range.defaultbasefrequency c.requires.ready.not_many is_ready c.requires.settings c.requires.within c.requires.modest in
-    taken_as c.in_ok-layout.layout _ c.options.result.now.defaultbasefrequency hertz c.elements-elements.result.now.entries circuit.elements (settings_left c.of-settings.result) _
-    c.in_ok-layout.ensures (ap (λ (o : Options). o.defaultbasefrequency) c.options.ensures.value) c.elements-elements.ensures.entries c.of-settings.ensures taken
+    taken_as c.args.layout.now _ c.options.result.now.defaultbasefrequency hertz c.elements-elements.result.now.entries circuit.elements (settings_left c.of-settings.result) _
+    c.requires.layout (ap (λ (o : Options). o.defaultbasefrequency) c.options.ensures.value) c.elements-elements.ensures.entries c.of-settings.ensures taken
 
 pub assemble-requires-clause-magnitudes : goal.assemble-requires-clause-magnitudes
 assemble-requires-clause-magnitudes c =
-    let layout = c.in_ok-layout.ensures in
+    let layout = c.requires.layout in
     let es = c.elements-elements.ensures.entries in
     subst (λ l. AreMagnitudesFrom l (2 * complex_count l) 0 c.elements-elements.result.now.entries) (sym layout)
     (subst (AreMagnitudesFrom (layout_of c.args.circuit.now.elements) (2 * complex_count (layout_of c.args.circuit.now.elements)) 0) (sym es) (magnitudes_follow c.args.circuit.now.elements))
@@ -40,20 +43,20 @@ assemble-requires-clause-few_branches c = rw c.elements-elements.ensures.entries
 pub returns-in-Ok-clause-agrees : goal.returns-in-Ok-clause-agrees
 returns-in-Ok-clause-agrees c =
     let hertz = ap (λ (o : Options). o.defaultbasefrequency) c.options.ensures.value in
-    let same = same_devices c.in_ok-layout.layout _ c.options.result.now.defaultbasefrequency _ c.elements-elements.result.now.entries _ (settings_left c.of-settings.result) _ c.in_ok-layout.ensures hertz c.elements-elements.ensures.entries c.of-settings.ensures in
-    subst (λ ds. AgreesWith c.in-Ok.network.rows.share (parts_of_all ds)) same c.in-Ok.ensures.agrees
+    let same = same_devices c.args.layout.now _ c.options.result.now.defaultbasefrequency _ c.elements-elements.result.now.entries _ (settings_left c.of-settings.result) _ c.requires.layout hertz c.elements-elements.ensures.entries c.of-settings.ensures in
+    subst (λ ds. AgreesWith (parts_network c.args.layout.now c.in-Ok.parts).share (parts_of_all ds)) same c.in-Ok.ensures.agrees
 
 pub returns-in-Ok-clause-no_blame : goal.returns-in-Ok-clause-no_blame
 returns-in-Ok-clause-no_blame c =
     let circuit = c.args.circuit.now in
     let hertz = ap (λ (o : Options). o.defaultbasefrequency) c.options.ensures.value in
-    let same = same_devices c.in_ok-layout.layout _ c.options.result.now.defaultbasefrequency _ c.elements-elements.result.now.entries _ (settings_left c.of-settings.result) _ c.in_ok-layout.ensures hertz c.elements-elements.ensures.entries c.of-settings.ensures in
+    let same = same_devices c.args.layout.now _ c.options.result.now.defaultbasefrequency _ c.elements-elements.result.now.entries _ (settings_left c.of-settings.result) _ c.requires.layout hertz c.elements-elements.ensures.entries c.of-settings.ensures in
     no_blame circuit.elements (devices_of circuit (settings_of c.args.at.now c.args.powers.now)) (ap first_out_of_range (sym same) ∙ c.in-Ok.ensures.no_fault)
 
 pub blame_range-requires : goal.blame_range-requires
 blame_range-requires c =
     let es = c.elements-elements.result.now.entries in
-    let layout = c.in_ok-layout.layout in
+    let layout = c.args.layout.now in
     let hertz = c.options.result.now.defaultbasefrequency in
     let settings = settings_left c.of-settings.result in
     let first = rw c.in-Err-OutOfRange.field-0-is at c.in-Err-OutOfRange.ensures.fault in
@@ -64,7 +67,13 @@ pub returns-in_ok-blame_range-in-Err-OutOfRange-clause-fault : goal.returns-in_o
 returns-in_ok-blame_range-in-Err-OutOfRange-clause-fault c =
     let circuit = c.args.circuit.now in
     let hertz = ap (λ (o : Options). o.defaultbasefrequency) c.options.ensures.value in
-    let same = same_devices c.in_ok-layout.layout _ c.options.result.now.defaultbasefrequency _ c.elements-elements.result.now.entries _ (settings_left c.of-settings.result) _ c.in_ok-layout.ensures hertz c.elements-elements.ensures.entries c.of-settings.ensures in
+    let same = same_devices c.args.layout.now _ c.options.result.now.defaultbasefrequency _ c.elements-elements.result.now.entries _ (settings_left c.of-settings.result) _ c.requires.layout hertz c.elements-elements.ensures.entries c.of-settings.ensures in
     let first = rw c.in-Err-OutOfRange.field-0-is at c.in-Err-OutOfRange.ensures.fault in
     let blame = ap (λ es. blame_at cause.Range es c.in-Err-OutOfRange.place) (sym c.elements-elements.ensures.entries) ∙ c.in_ok-blame_range-in-Err-OutOfRange.ensures in
     blame_of circuit.elements (devices_of circuit (settings_of c.args.at.now c.args.powers.now)) c.in-Err-OutOfRange.place c.in_ok-blame_range-in-Err-OutOfRange.field-0 (ap first_out_of_range (sym same) ∙ first) blame
+
+pub assemble-requires-clause-few_complexes : goal.assemble-requires-clause-few_complexes
+assemble-requires-clause-few_complexes c = subst (λ (l : LayoutView). complex_count l ≤ most_complex) (sym c.requires.layout) (few_complex c.args.circuit.now.elements c.requires.ready.not_many)
+
+pub assemble-requires-clause-few_magnitudes : goal.assemble-requires-clause-few_magnitudes
+assemble-requires-clause-few_magnitudes c = subst (λ (l : LayoutView). length l.magnitudes ≤ most_magnitudes) (sym c.requires.layout) (few_magnitudes c.args.circuit.now.elements c.requires.ready.not_many)

@@ -1,0 +1,38 @@
+-- The places of row and column that a device can reach, whatever its taps, its state or its powers.
+use Rattle.std.specs.Prelude.{ℕ, List, [], ◌++◌, map, All}
+use Rattle.std.specs.List.{Contains, flat_map}
+use Rattle.fd_arith.specs.declared.terms.NodeAt.{NodeAt}
+use Rattle.fd_system.specs.Contributions.{each}
+use Rattle.fd_system.specs.Terminals.{branch_of}
+use Rattle.fd_line.specs.Line.{line_list}
+use Rattle.fd_source.specs.Equations.{source_list}
+use Rattle.fd_equations.specs.PatternPlaces.{load_places, node_places, place_of, places_of}
+use Rattle.fd_devices.specs.Devices.{Device, capacitor, device_share, line, loads, other, source, transformer}
+
+-- the real unknowns of nodes, and of m branches from the first one on
+abbrev pub unknowns_of : List NodeAt → List ℕ
+unknowns_of ns = flat_map node_places ns
+
+abbrev pub branch_places : ℕ → ℕ → List ℕ
+branch_places branch m = each (λ k. node_places (branch_of branch k)) m
+
+-- each of these rows in each of these columns
+abbrev pub cross : List ℕ → List ℕ → List (ℕ × ℕ)
+cross rows cols = flat_map (λ row. map (λ col. (row, col)) cols) rows
+
+-- a transformer's branches meet its nodes and one another; the nodes of a bank meet one another, also while it is open, and so do the
+-- unknowns of each part load's terminal, whatever its powers; a source and a line don't move
+abbrev pub device_places : Device → List (ℕ × ℕ)
+device_places (source s at) = map place_of (source_list s at)
+device_places (line l at) = map place_of (line_list l at)
+device_places (transformer d taps at) =
+    let nodes = unknowns_of at.first ++ unknowns_of at.second in
+    let branches = branch_places at.branch d.phases in
+    cross branches nodes ++ (cross nodes branches ++ cross branches branches)
+device_places (capacitor d closed at) = cross (unknowns_of at.first) (unknowns_of at.first)
+device_places (loads us) = flat_map load_places us
+device_places other = []
+
+-- what a device adds stands at places that it can reach
+abbrev pub ReachLaw : Type 0
+ReachLaw = (ps : List (ℕ × ℕ)) (d : Device) → All (Contains ps) (device_places d) → All (Contains ps) (places_of (device_share d).terms (device_share d).loads)
