@@ -12,7 +12,7 @@ use crate::settings::power_count;
 use dss_circuit::{Circuit, Command, Element, ModelFault, Place, Verb};
 use dss_lexer::{PairList, Text, pairs};
 use dss_ready::{ReadyFault, ready};
-use fd_arith::TapPair;
+use fd_arith::{Interval, Micro, TapPair};
 use fd_devices::{BankStates, BuildFault, LoadPowers, Positions, Powers, Taps, snapshot_law};
 use fd_elements::LoadPower;
 use fd_equations::Network as NetworkRows;
@@ -241,6 +241,33 @@ fn sizes(alloc: Global, rt: &impl Abort, net: &Network) -> Result<[u128; 8], All
     Ok(sizes)
 }
 
+// The network of a circuit at the positions of its script.
+fn built_by_script(
+    alloc: Global,
+    rt: &impl Abort,
+    circuit: &Circuit,
+    powers: &Powers,
+) -> Result<Network, BuildFault>
+    ensures { IfOk result (λ net. IsBuiltOf net circuit.now) }
+{
+    let at = positions(alloc, circuit)?;
+    built(alloc, rt, circuit, &at, powers)
+}
+
+// The network at these positions with other powers; whether it was refused.
+fn updated_by_script(
+    alloc: Global,
+    rt: &impl Abort,
+    net: &mut Network,
+    circuit: &Circuit,
+    powers: &Powers,
+) -> Result<bool, AllocError>
+    requires { IsBuiltOf net.old circuit.now }
+{
+    let at = positions(alloc, circuit)?;
+    updated(alloc, rt, net, circuit, &at, powers)
+}
+
 // The residuals of the worked feeder, and after its load has another power; whether that was refused.
 fn worked(
     alloc: Global,
@@ -248,13 +275,12 @@ fn worked(
     power: LoadPower,
 ) -> Result<([u128; 8], [u128; 8], bool), ModelFault> {
     let circuit = circuit(alloc, &[SOURCE, LINE, LOAD])?;
-    let at = positions(alloc, &circuit)?;
     let before = powers(alloc, &[POWER])?;
     let after = powers(alloc, &[power])?;
-    match built(alloc, rt, &circuit, &at, &before) {
+    match built_by_script(alloc, rt, &circuit, &before) {
         Ok(mut net) => {
             let first = sizes(alloc, rt, &net)?;
-            let refused = updated(alloc, rt, &mut net, &circuit, &at, &after)?;
+            let refused = updated_by_script(alloc, rt, &mut net, &circuit, &after)?;
             Ok((first, sizes(alloc, rt, &net)?, refused))
         }
         Err(_) => Err(ModelFault::NoMemory),
@@ -370,6 +396,35 @@ fn powers_of(alloc: Global, setting: &Setting) -> Result<Powers, AllocError> {
     powers(alloc, &[LoadPower { p, q }, LoadPower { p: r, q: s }])
 }
 
+// The network at a setting.
+fn built_at(
+    alloc: Global,
+    rt: &impl Abort,
+    circuit: &Circuit,
+    setting: &Setting,
+) -> Result<Network, BuildFault>
+    ensures { IfOk result (λ net. IsBuiltOf net circuit.now) }
+{
+    let at = positions_of(alloc, setting)?;
+    let powers = powers_of(alloc, setting)?;
+    built(alloc, rt, circuit, &at, &powers)
+}
+
+// The network at another setting; whether it was refused.
+fn updated_to(
+    alloc: Global,
+    rt: &impl Abort,
+    net: &mut Network,
+    circuit: &Circuit,
+    setting: &Setting,
+) -> Result<bool, AllocError>
+    requires { IsBuiltOf net.old circuit.now }
+{
+    let at = positions_of(alloc, setting)?;
+    let powers = powers_of(alloc, setting)?;
+    updated(alloc, rt, net, circuit, &at, &powers)
+}
+
 fn entry(matrix: &Dense, row: u32, col: u32) -> i128 {
     if row < matrix.size() && col < matrix.size() {
         matrix.get(row, col)
@@ -378,63 +433,87 @@ fn entry(matrix: &Dense, row: u32, col: u32) -> i128 {
     }
 }
 
-// The entries of the start matrix and the numbers of summands, row by row.
-fn cells(alloc: Global, net: &NetworkRows) -> Result<Vec<(i128, u32)>, AllocError> {
-    let start = net.start_matrix(alloc)?;
-    let mut cells = Vec::new(alloc);
+// Adds the entries of the start matrix and the numbers of summands, row by row.
+fn add_cells(
+    numbers: &mut Vec<i128>,
+    net: &NetworkRows,
+    start: &Dense,
+) -> Result<(), AllocError> {
     for place in 0..81u32 {
         let (row, col) = (place / 9, place % 9);
-        cells.push((entry(&start, row, col), net.count(row, col)))?;
+        numbers.push(entry(start, row, col))?;
+        numbers.push(net.count(row, col) as i128)?;
     }
-    Ok(cells)
+    Ok(())
 }
 
-// The residuals and the weights there.
-fn lists(
-    alloc: Global,
-    rt: &impl Abort,
-    net: &NetworkRows,
-) -> Result<(Vec<u128>, Vec<i128>), AllocError> {
+// Adds the ends of residuals.
+fn add_ends(numbers: &mut Vec<i128>, rows: &[Interval<Micro>]) -> Result<(), AllocError> {
+    for row in rows {
+        if let Some((low, high)) = row.ends() {
+            numbers.push(low)?;
+            numbers.push(high)?;
+        }
+    }
+    Ok(())
+}
+
+// The entries, the numbers of summands, and there the ends of the residuals and the weights.
+fn numbers(alloc: Global, rt: &impl Abort, net: &NetworkRows) -> Result<Vec<i128>, AllocError> {
     assert!(rt; net.size() == 9);
-    let mut sizes = Vec::new(alloc);
-    for row in &net.residual(alloc, &THERE)? {
-        sizes.push(size(row.ends()))?;
-    }
-    Ok((sizes, net.weights(alloc, &THERE)?))
+    let mut numbers = net.weights(alloc, &THERE)?;
+    let start = net.start_matrix(alloc)?;
+    add_cells(&mut numbers, net, &start)?;
+    let rows = net.residual(alloc, &THERE)?;
+    add_ends(&mut numbers, &rows)?;
+    Ok(numbers)
 }
 
-// Whether two networks have the same rows.
-fn are_same(
+// Those of the network that is built at a setting.
+fn built_numbers(
     alloc: Global,
     rt: &impl Abort,
-    one: &NetworkRows,
-    other: &NetworkRows,
-) -> Result<bool, AllocError> {
-    Ok(cells(alloc, one)? == cells(alloc, other)?
-        && lists(alloc, rt, one)? == lists(alloc, rt, other)?)
+    circuit: &Circuit,
+    setting: &Setting,
+) -> Result<Vec<i128>, BuildFault> {
+    let net = built_at(alloc, rt, circuit, setting)?;
+    let numbers = numbers(alloc, rt, &net.rows())?;
+    Ok(numbers)
 }
 
-// Whether the network that was built at the first setting and updated to another has the rows of one that is built there, and those of
-// the first setting no more.
-fn is_as_built(alloc: Global, rt: &impl Abort, setting: &Setting) -> Result<bool, BuildFault> {
-    let circuit = match circuit(alloc, &MOVABLE) {
-        Ok(circuit) => circuit,
-        Err(_) => return Ok(false),
-    };
-    let (at, loads) = (positions_of(alloc, &SETTINGS[0])?, powers_of(alloc, &SETTINGS[0])?);
-    let (to, draws) = (positions_of(alloc, setting)?, powers_of(alloc, setting)?);
-    let before = built(alloc, rt, &circuit, &at, &loads)?;
-    let anew = built(alloc, rt, &circuit, &to, &draws)?;
-    let mut net = built(alloc, rt, &circuit, &at, &loads)?;
-    let refused = updated(alloc, rt, &mut net, &circuit, &to, &draws)?;
-    let moved = !are_same(alloc, rt, &net.rows(), &before.rows())?;
-    Ok(!refused && moved && are_same(alloc, rt, &net.rows(), &anew.rows())?)
+// Those of the network that is built at the first setting and updated to another; none where that is refused.
+fn updated_numbers(
+    alloc: Global,
+    rt: &impl Abort,
+    circuit: &Circuit,
+    setting: &Setting,
+) -> Result<Vec<i128>, BuildFault> {
+    let mut net = built_at(alloc, rt, circuit, &SETTINGS[0])?;
+    if updated_to(alloc, rt, &mut net, circuit, setting)? {
+        return Ok(Vec::new(alloc));
+    }
+    let numbers = numbers(alloc, rt, &net.rows())?;
+    Ok(numbers)
+}
+
+// Whether an update to a setting moves a number, and gives those of the network that is built there.
+fn is_as_built(
+    alloc: Global,
+    rt: &impl Abort,
+    circuit: &Circuit,
+    setting: &Setting,
+) -> Result<bool, BuildFault> {
+    let before = built_numbers(alloc, rt, circuit, &SETTINGS[0])?;
+    let anew = built_numbers(alloc, rt, circuit, setting)?;
+    let moved = updated_numbers(alloc, rt, circuit, setting)?;
+    Ok(moved.as_slice() != before.as_slice() && moved.as_slice() == anew.as_slice())
 }
 
 #[test]
 fn updates(rt: HostRuntime) -> Result<(), Fail> {
+    let circuit = circuit(rt.alloc(), &MOVABLE)?;
     for setting in &SETTINGS[1..] {
-        let is_same = matches!(is_as_built(rt.alloc(), &rt, setting), Ok(true));
+        let is_same = matches!(is_as_built(rt.alloc(), &rt, &circuit, setting), Ok(true));
         assert!(rt; is_same);
     }
     Ok(())
