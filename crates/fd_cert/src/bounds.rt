@@ -19,6 +19,11 @@ const ONE: i128 = 0x1_0000_0000_0000_0000_0000;
 
 const BOUND_UNITS: i128 = 0x100_0000_0000;
 
+// 2^40 and 2^80: a product of two numbers that are at most so great is at most 2^120.
+const SMALL_WEIGHT: u128 = 0x100_0000_0000;
+
+const SMALL_LEFT: u128 = 0x1_0000_0000_0000_0000_0000;
+
 // An entry of the unit matrix, in units of 2^-80.
 fn unit(row: usize, col: usize) -> i128
     ensures { result ≡ unit_at row col }
@@ -35,6 +40,28 @@ fn left_over(row: usize, col: usize, product: i128, added: i128) -> Wide
     (Wide::of(unit(row, col)) - Wide::of(product)).size() + Wide::of(added)
 }
 
+// A weight times what is left over, where the weight is at most 2^40 and that at most 2^80.
+fn small_product(weight: i128, left: i128) -> Wide
+    requires weight { nat_abs weight ≤ 2 ^ 40 }
+    requires left { nat_abs left ≤ 2 ^ 80 }
+    ensures { result ≡ wide_product (Some weight) (Some left) }
+{
+    Wide::of(weight * left)
+}
+
+// A weight times what is left over.
+fn weighted(weight: i128, left: Wide) -> Wide
+    requires { nat_abs weight ≤ 2 ^ 66 }
+    ensures { result ≡ wide_product (Some weight) left }
+{
+    if let Some(left) = left.value() {
+        if weight.unsigned_abs() <= SMALL_WEIGHT && left.unsigned_abs() <= SMALL_LEFT {
+            return small_product(weight, left);
+        }
+    }
+    Wide::of(weight).times(left)
+}
+
 // The weighted sum of what is left over in a row.
 fn weighted_sum(row: usize, products: &[i128], added: &[i128], weights: &[i128]) -> Wide
     requires added { length added.now ≡ length products.now }
@@ -46,7 +73,7 @@ fn weighted_sum(row: usize, products: &[i128], added: &[i128], weights: &[i128])
     let mut sum = Wide::of(0);
     for col in 0..products.len() {
         let left = left_over(row, col, products[col], added[col]);
-        sum = sum + Wide::of(weights[col]).times(left);
+        sum = sum + weighted(weights[col], left);
     }
     sum
 }

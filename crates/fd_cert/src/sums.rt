@@ -8,10 +8,25 @@ ghost use Rattle.fd_cert.specs.Columns.{AreColumns, AreUnits, HasEntries, IsMade
 use fd_arith::Wide;
 use fd_equations::{Cell, Matrix};
 
+// The greatest size of a number of which two have a product of 64 bits each, 2^59.
+const SHORT: u128 = 0x800_0000_0000_0000;
+
+// The product of two short numbers: one multiplication of 64 bits.
+fn short_product(factor: i128, entry: i128) -> i128
+    requires factor { nat_abs factor ≤ 2 ^ 59 }
+    requires entry { nat_abs entry ≤ 2 ^ 59 }
+    ensures { Some result ≡ wide_product (Some factor) (Some entry) }
+{
+    (factor as i64) as i128 * (entry as i64) as i128
+}
+
 // The product, where it is at most 2^120 in size.
 fn product(factor: i128, entry: i128) -> Option<i128>
     ensures { result ≡ wide_product (Some factor) (Some entry) }
 {
+    if factor.unsigned_abs() <= SHORT && entry.unsigned_abs() <= SHORT {
+        return Some(short_product(factor, entry));
+    }
     match factor.checked_mul(entry) {
         Some(product) => Wide::of(product).value(),
         None => None,

@@ -21,8 +21,8 @@ loop-col-preserved c =
     let p = kept_by (part c.args.products.now j) (omega (arith, c.requires.product_units j)) in
     let a = kept_by (part c.args.added.now j) (omega (arith, c.requires.added_units j)) in
     let left = c.left_over-left.ensures ∙ (λ i. left_over_of c.args.row j (Some (p i)) (Some (a i))) in
-    let weight = c.of.ensures ∙ ap within (kept_by (part c.args.weights.now j) (omega (arith, small))) ∙ within_small (part c.args.weights.now j) (omega (arith, small)) in
-    c.add-sum.ensures ∙ (λ i. wide_sum (c.loop-col.invariant i) ((c.times.ensures ∙ (λ k. wide_product (weight k) (left k))) i))
+    let weight = kept_by (part c.args.weights.now j) (omega (arith, small)) in
+    c.add-sum.ensures ∙ (λ i. wide_sum (c.loop-col.invariant i) ((c.weighted.ensures ∙ (λ k. wide_product (Some (weight k)) (left k))) i))
     ∙ ap (wide_sums (λ j. wide_product (Some (part c.args.weights.now j)) (left_over_of c.args.row j (Some (part c.args.products.now j)) (Some (part c.args.added.now j))))) (next j)
   where
     next : (j : ℕ) → suc j ≡ j + 1
