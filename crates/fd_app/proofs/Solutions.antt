@@ -77,12 +77,11 @@ module _ (c : CircuitView) (v : NetworkView) (is : v ≡ snapshot_network c) (ag
     complexes : v.complexes ≡ complex_count (layout_of c.elements)
     complexes = network_complexes c v is
 
-    row_tied : (l : ℕ) → l < 2 * complex_count (layout_of c.elements) → IsTied (equations_of c (whole_state m.centre) l) (addend_count (snapshot_network c).share l) (number_at m.mismatches l)
+    row_tied : (l : ℕ) → l < equation_count c → IsTied (equations_of c (whole_state m.centre) l) (addend_count (snapshot_network c).share l) (number_at m.mismatches l)
     row_tied l h =
-        let inside : l < 2 * v.complexes = omega (arith, h, complexes) in
-        let within : l < v.size = omega (arith, inside, network.unknowns) in
+        let within : l < v.size = omega (arith, h, network_size c v is) in
         let T : List ℤ → ℕ → NetworkView → Type 0 = λ y e n. IsTied (equations_of c (whole_state y) l) (addend_count n.share l) e in
-        let here : T x (mismatch_at v x l) v = tied_same (agrees.same (whole_state x) (omega arith) l) (addend_count v.share l) (mismatch_at v x l) (tie v x l network point inside) in
+        let here : T x (mismatch_at v x l) v = tied_same (agrees.same (whole_state x) (omega arith) l) (addend_count v.share l) (mismatch_at v x l) (tie v x l network point within) in
         subst (λ y. T y (number_at m.mismatches l) (snapshot_network c)) (sym (ap (λ k. k.centre) what))
         (subst (λ e. T x e (snapshot_network c)) (sym (own_mismatch l within)) (subst (λ n. T x (mismatch_at v x l) n) is here))
 

@@ -52,9 +52,9 @@ EnclosesAll circuit r = (x : State) → IsAlternative circuit r x → IsWithinRa
 
 -- ---- a solution
 
--- the mismatch of each node's and each branch's equation is tied to its residual
+-- the mismatch of each equation is tied to its residual
 abbrev pub AreTied : CircuitView → Round → Type 0
-AreTied circuit r = (l : ℕ) → l < 2 * complex_count (layout_of circuit.elements) →
+AreTied circuit r = (l : ℕ) → l < equation_count circuit →
     IsTied (equations_of circuit (whole_state r.centre) l) (addend_count (snapshot_network circuit).share l) (number_at r.mismatches l)
 
 -- both parts of a voltage and of a current have one radius

@@ -8,7 +8,7 @@ use Rattle.fd_equations.specs.Weights.{weight_at}
 use Rattle.fd_arith.specs.Interval.{Bounds}
 use Rattle.fd_system.specs.Residual.{greater_size, residual_interval}
 use Rattle.fd_equations.specs.Enclosure.{interval_residual_of}
-use Rattle.fd_equations.proofs.Lists.{get_or-list_of, length-list_of, list_of-ext}
+use Rattle.fd_equations.proofs.CallerLemmas.{get_or-list_of, length-list_of, list_of-ext}
 use Rattle.std.proofs.lemmas.List.{get_or-map, get_or-replicate, length-map, length-replicate}
 use Rattle.fd_enclosure.specs.Bounds.{refusal}
 use Rattle.fd_enclosure.specs.Boxes.{boxes_of}

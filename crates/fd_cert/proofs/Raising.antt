@@ -8,7 +8,7 @@ use Rattle.fd_arith.specs.declared.terms.NodeAt.{NodeAt}
 use Rattle.fd_arith.specs.declared.terms.NodeAt.TheVariants.{Ground, Node}
 use Rattle.fd_system.specs.declared.loads.LoadAt.{LoadAt}
 use Rattle.fd_equations.specs.Patterns.{IsSlot, key}
-use Rattle.fd_equations.proofs.Lists.{list_n_more}
+use Rattle.fd_equations.proofs.CallerLemmas.{list_n_more}
 use Rattle.fd_slope.specs.Changes.{radii_in}
 use Rattle.fd_slope.specs.Radii.{IsRadiusRow}
 use Rattle.fd_slope.specs.declared.radii.Radii.{Radii}

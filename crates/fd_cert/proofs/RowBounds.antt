@@ -10,7 +10,7 @@ use Rattle.fd_arith.specs.Limits.{fits, within}
 use Rattle.fd_arith.specs.Wide.{wide_difference, wide_product, wide_quotient, wide_size, wide_sum}
 use Rattle.fd_enclosure.specs.Bounds.{added_at, bound_at, left_at, left_over, unit_at, wide_sums}
 use Rattle.fd_equations.specs.Rounded.{list_of}
-use Rattle.fd_equations.proofs.Lists.{get_or-list_of, length-list_of}
+use Rattle.fd_equations.proofs.CallerLemmas.{get_or-list_of, length-list_of}
 use Rattle.fd_cert.specs.Columns.{AreWeights, HasWeights, column_sum, left_over_of}
 use Rattle.fd_cert.specs.Reaches.{AreBounds, bound_in}
 use Rattle.fd_cert.proofs.Units.{kept_by, sums_past, sums_same}

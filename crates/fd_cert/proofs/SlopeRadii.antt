@@ -15,8 +15,7 @@ use Rattle.fd_arith.specs.declared.terms.NodeAt.TheVariants.{Ground, Node}
 use Rattle.fd_system.specs.Residual.{IsPlace}
 use Rattle.fd_system.specs.declared.loads.LoadAt.{LoadAt}
 use Rattle.fd_equations.specs.Amounts.{Amount, AreCells, IsNothingElsewhere, amount, cell_at, cell_of, nothing}
-use Rattle.fd_equations.proofs.CallerLemmas.{all_connected}
-use Rattle.fd_equations.proofs.Lists.{get_or-list_of, length-list_of}
+use Rattle.fd_equations.proofs.CallerLemmas.{all_connected, get_or-list_of, length-list_of}
 use Rattle.fd_equations.specs.Coefficients.{count_at}
 use Rattle.fd_equations.specs.Conditions.{IsNetwork, IsPart, IsPoint}
 use Rattle.fd_equations.specs.Matrices.{IsMatrix, MatrixView, jacobian_amount}

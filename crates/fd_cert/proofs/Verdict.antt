@@ -14,7 +14,7 @@ use Rattle.fd_exact.specs.States.{part}
 use Rattle.fd_exact.specs.Sums.{sum_n}
 use Rattle.fd_exact.specs.Tables.{map-same}
 use Rattle.fd_equations.specs.Rounded.{list_of}
-use Rattle.fd_equations.proofs.Lists.{get_or-list_of, length-list_of}
+use Rattle.fd_equations.proofs.CallerLemmas.{get_or-list_of, length-list_of}
 use Rattle.fd_enclosure.specs.Bounds.{bound_at, bound_of, bound_size, first_unbounded, first_wide, is_below_one, no_bound, radius_at, reach_of, refusal, refused_bound, unless_unbounded, unless_wide}
 use Rattle.fd_enclosure.specs.Sound.{number_at}
 use Rattle.fd_cert.specs.Columns.{HasNumbers, HasWeights}

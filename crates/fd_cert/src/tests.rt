@@ -1,4 +1,4 @@
-ghost use Rattle.std.specs.Prelude.{◌≡◌, IfOk};
+ghost use Rattle.std.specs.Prelude.{◌≡◌, [], IfOk};
 ghost use Rattle.fd_equations.specs.Conditions.{IsPart};
 
 use crate::{CertFault, Certified, certify};
@@ -14,9 +14,17 @@ const ONE: i128 = 0x100_0000_0000;
 
 const GREATEST_ENTRY: u128 = 0x100_0000_0000_0000;
 
-// A node at which a siemens to ground takes 100 ampere: 100 volt.
-fn network(alloc: Global, rt: &impl Abort) -> Result<Network, AllocError>
-    ensures { IfOk result (λ n. n.size ≡ 2) }
+const CONSTANTS: [Constant; 1] = [
+    Constant {
+        row: 0,
+        value: -100_000_000,
+    },
+];
+
+// A siemens from a node to ground.
+fn siemens(alloc: Global) -> Result<Rows, AllocError>
+    ensures size { IfOk result (λ r. r.size ≡ 2) }
+    ensures loads { IfOk result (λ r. r.loads ≡ []) }
 {
     let terms = vec![in alloc;
         Term {
@@ -32,23 +40,30 @@ fn network(alloc: Global, rt: &impl Abort) -> Result<Network, AllocError>
             den: 1
         },
     ]?;
-    let rows = Rows::of(alloc, 2, terms, Vec::new(alloc))?;
+    Rows::of(alloc, 2, terms, Vec::new(alloc))
+}
+
+// It takes 100 ampere: 100 volt.
+fn network<'a>(rows: &'a Rows, rt: &impl Abort) -> Network<'a>
+    requires size { rows.now.size ≡ 2 }
+    requires loads { rows.now.loads ≡ [] }
+    ensures { result.size ≡ 2 }
+{
     assert!(rt; rows.are_within());
-    let value = -100_000_000;
-    let constants = vec![in alloc; Constant { row: 0, value }]?;
     let layout = Layout {
         nodes: 1,
         branches: 0,
         magnitudes: 0,
     };
-    Ok(Network::new(layout, rows, constants, 0))
+    Network::new(layout, rows, &CONSTANTS, 0)
 }
 
 // A state with a multiple of the unit matrix as its inverse.
 fn answer(alloc: Global, rt: &impl Abort, re: i128, diagonal: i128) -> Result<Certified, CertFault>
     requires { IsPart re }
 {
-    let net = network(alloc, rt)?;
+    let rows = siemens(alloc)?;
+    let net = network(&rows, rt);
     let mut inverse = Dense::zero(alloc, 2)?;
     inverse.set(0, 0, diagonal);
     inverse.set(1, 1, diagonal);

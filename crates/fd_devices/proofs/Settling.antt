@@ -11,7 +11,7 @@ use Rattle.fd_elements.specs.declared.powers.LoadPower.{LoadPower}
 use Rattle.fd_elements.specs.Lines.{line_data_of}
 use Rattle.fd_equations.specs.Conditions.{HasMagnitude, IsAmong}
 use Rattle.fd_equations.specs.Rounded.{list_of}
-use Rattle.fd_equations.proofs.Lists.{length-list_of, list_of-more}
+use Rattle.fd_equations.proofs.CallerLemmas.{length-list_of, list_of-more}
 use Rattle.dss_profile.specs.Ranges.{IsOneOf}
 use Rattle.dss_profile.specs.InRange.{LoadInRange}
 use Rattle.dss_profile.specs.declared.element.Element.{Element}

@@ -13,8 +13,7 @@ use Rattle.fd_equations.specs.declared.layout.PlaceKind.{PlaceKind}
 use Rattle.fd_equations.specs.declared.layout.PlaceKind.TheVariants.{Node, Branch}
 use Rattle.fd_equations.specs.Views.{NetworkView, kind_of}
 use Rattle.fd_equations.specs.Weights.{size_of_both, weight_at, weight_by}
-use Rattle.fd_equations.proofs.Lists.{get_or-list_of}
-use Rattle.fd_equations.proofs.Networks.{row_tie}
+use Rattle.fd_equations.proofs.CallerLemmas.{get_or-list_of, row_tie}
 use Rattle.fd_enclosure.specs.Bounds.{bound_of, radius_at, reach_of}
 use Rattle.fd_enclosure.specs.Boxes.{half_width_by}
 use Rattle.fd_enclosure.specs.Radii.{slope_radius}
@@ -30,8 +29,7 @@ size_tied (Some e) f n h = greater_by (nat_abs e.0) (nat_abs e.1) f.over (nat_ab
 
 pub tied : TieLaw
 tied v x l network point inside =
-    let within : l < v.size = omega (arith, inside, network.unknowns) in
-    let row : get_or (interval_residual_of v x) l None ≡ residual_interval v.share x l = get_or-list_of v.size (residual_interval v.share x) l None within in
+    let row : get_or (interval_residual_of v x) l None ≡ residual_interval v.share x l = get_or-list_of v.size (residual_interval v.share x) l None inside in
     let P : Bounds → Type 0 = λ r. EndsWithin r (residual_of v.share (whole_state x) l) (4 * addend_count v.share l + 4) in
     size_tied (residual_interval v.share x l) (residual_of v.share (whole_state x) l) (addend_count v.share l) (subst P row (row_tie v x network point (interval_residual_of v x) refl l inside))
 

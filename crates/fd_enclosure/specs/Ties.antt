@@ -14,9 +14,9 @@ use Rattle.fd_enclosure.specs.Sound.{mismatch_at, radius_in}
 abbrev pub IsTied : Fraction → ℕ → ℕ → Type 0
 IsTied f n e = e * f.over ≤ nat_abs f.top + (4 * n + 4) * f.over
 
--- the mismatch of a node's and of a branch's row is so
+-- the mismatch of each row is so
 abbrev pub TieLaw : Type 0
-TieLaw = (v : NetworkView) (x : List ℤ) (l : ℕ) → IsNetwork v → IsPoint v x → l < 2 * v.complexes →
+TieLaw = (v : NetworkView) (x : List ℤ) (l : ℕ) → IsNetwork v → IsPoint v x → l < v.size →
     IsTied (residual_of v.share (whole_state x) l) (addend_count v.share l) (mismatch_at v x l)
 
 -- both parts of a complex unknown have one radius, and one box

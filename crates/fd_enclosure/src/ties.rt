@@ -1,8 +1,8 @@
 // Ties of the numbers of a certificate.
 ghost use Rattle.fd_enclosure.specs.Ties.{BallLaw, TieLaw};
 
-/// A law: at a point of a network the mismatch of a node's and of a branch's row is at most the size of its residual, and 4 n + 4
-/// micro-units more where n contributions and load currents stand in the row. Does nothing.
+/// A law: at a point of a network the mismatch of a row is at most the size of its residual, and 4 n + 4 micro-units more where n
+/// contributions and load currents stand in the row. Does nothing.
 #[tactic(auto, using(crate::proofs::OwnResiduals::tied))]
 pub fn tie_law()
     ensures { TieLaw }

@@ -27,7 +27,7 @@ use Rattle.fd_equations.specs.declared.layout.PlaceKind.TheVariants.{Node, Branc
 use Rattle.fd_equations.specs.Views.{NetworkView, kind_of}
 use Rattle.fd_equations.specs.Weights.{weight_at, weight_by, weights_of}
 use Rattle.fd_equations.specs.Terminals.{IsConnected, count_magnitude, count_node, count_terminal}
-use Rattle.fd_equations.proofs.CallerLemmas.{all_connected}
+use Rattle.fd_equations.proofs.AtTerminals.{all_connected}
 use Rattle.fd_equations.proofs.DrawnIntervals.{loads_positive, narrow_loads}
 use Rattle.fd_equations.proofs.LoadSums.{rows_small}
 use Rattle.fd_equations.proofs.Counting.{count_size, slopes_few}

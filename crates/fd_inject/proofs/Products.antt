@@ -11,7 +11,7 @@ use Rattle.fd_mat.specs.Rows.{EntriesWithin, row_of}
 use Rattle.fd_equations.specs.Conditions.{IsPart, IsPoint}
 use Rattle.fd_equations.specs.Rounded.{list_of}
 use Rattle.fd_equations.specs.Views.{NetworkView}
-use Rattle.fd_equations.proofs.Lists.{length-list_of, list_of-ext}
+use Rattle.fd_equations.proofs.CallerLemmas.{length-list_of, list_of-ext}
 use Rattle.fd_inject.specs.Ranges.{SizesWithin, in_range}
 use Rattle.fd_inject.specs.Updates.{moved, update_at, update_for, update_of}
 use Rattle.fd_inject.specs.declared.fault.SolveFault.{SolveFault}

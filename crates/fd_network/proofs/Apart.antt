@@ -12,7 +12,7 @@ use Rattle.fd_system.specs.System.{Share}
 use Rattle.fd_equations.specs.Conditions.{AreApart, magnitude_count}
 use Rattle.fd_equations.specs.Rounded.{list_of}
 use Rattle.fd_equations.specs.Terminals.{count_magnitude}
-use Rattle.fd_equations.proofs.Lists.{list_of-more}
+use Rattle.fd_equations.proofs.CallerLemmas.{list_of-more}
 use Rattle.fd_devices.specs.Devices.{device_share, share_of_all}
 use Rattle.fd_devices.specs.Scripted.{device_of, devices_from, load_at}
 use Rattle.fd_devices.specs.Settings.{Settings, after, own}

@@ -2,7 +2,7 @@ use Rattle.std.proofs.Common.{◌≡◌, ◌∙◌, ℕ, ℤ, ◌<◌, ◌≤◌
 use Rattle.fd_exact.specs.States.{entry, part}
 use Rattle.fd_equations.specs.Rounded.{jacobian_entry, list_of}
 use Rattle.fd_equations.specs.Weights.{weight_at}
-use Rattle.fd_equations.proofs.Lists.{length-list_of}
+use Rattle.fd_equations.proofs.CallerLemmas.{length-list_of}
 use Rattle.fd_enclosure.specs.Bounds.{bound_at}
 use Rattle.fd_enclosure.specs.Radii.{slope_radius}
 use Rattle.fd_cert.specs.Columns.{AreWeights, HasNumbers, HasWeights}

@@ -3,7 +3,7 @@ use Rattle.std.specs.Int.{w128}
 use Rattle.std.proofs.lemmas.Int.{to_z-of_z}
 use Rattle.fd_exact.specs.Rounding.{ceil_nat}
 use Rattle.fd_exact.specs.States.{part}
-use Rattle.fd_equations.proofs.Lists.{list_of-more}
+use Rattle.fd_equations.proofs.CallerLemmas.{list_of-more}
 use Rattle.fd_cert.specs.Reaches.{radius_of}
 use Rattle.fd_cert.proofs.reach.radii.Goals as goal
 

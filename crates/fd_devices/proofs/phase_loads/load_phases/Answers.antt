@@ -1,7 +1,7 @@
 use Rattle.std.proofs.Common.{◌∙◌, [], ◌∷◌, ◌++◌, sym, subst}
 use Rattle.std.specs.List.{All}
 use Rattle.std.proofs.lemmas.List.Elements.{All-nil, All-cons, All-append}
-use Rattle.fd_equations.proofs.Lists.{list_of-more}
+use Rattle.fd_equations.proofs.CallerLemmas.{list_of-more}
 use Rattle.fd_devices.specs.Scripted.{load_at}
 use Rattle.fd_devices.specs.Building.{IsUsable}
 use Rattle.fd_devices.proofs.phase_loads.load_phases.Goals as goal

@@ -1,6 +1,6 @@
 use Rattle.std.proofs.Common.{◌≡◌, ◌∙◌, ◌^◌, length, ap, sym, subst, Ok, rules, arith}
 use Rattle.std.specs.List.{fold}
-use Rattle.fd_equations.proofs.Lists.{rewritten}
+use Rattle.fd_equations.proofs.CallerLemmas.{rewritten}
 use Rattle.std.proofs.lemmas.Result.{err_from_is_err_and}
 use Rattle.fd_inject.specs.Procedure.{with_nominal}
 use Rattle.fd_inject.specs.Ranges.{SizesWithin, in_range}
