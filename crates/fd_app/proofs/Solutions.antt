@@ -19,13 +19,13 @@ use Rattle.fd_devices.specs.Devices.{AgreesWith}
 use Rattle.fd_devices.specs.Scripted.{circuit_parts}
 use Rattle.fd_devices.specs.Snapshot.{snapshot_of}
 use Rattle.fd_enclosure.specs.Boxes.{IsInTrustBox, half_width}
-use Rattle.fd_enclosure.specs.Encloses.{IsAlternative as Alternative, IsEnclosure, IsWithinRadii}
+use Rattle.fd_enclosure.specs.Encloses.{IsAlternative, IsEnclosure, IsWithinRadii}
 use Rattle.fd_enclosure.specs.Sound.{Claim, IsSound, certificate_of, claim_of, mismatch_at, mismatches_of, number_at, radii_of, radius_in}
 use Rattle.fd_enclosure.specs.Ties.{BallLaw, IsTied, TieLaw}
 use Rattle.fd_enclosure.proofs.CallerLemmas.{claim_is}
 use Rattle.fd_report.specs.Solutions.{IsOfSize}
 use Rattle.fd_outcome.specs.Pages.{solution_in}
-use Rattle.fd_app.specs.Headline.{IsAlternative, IsReached, IsSolution, equation_count, equations_of}
+use Rattle.fd_app.specs.Headline.{IsOtherState, IsReached, IsSolution, equation_count, equations_of}
 use Rattle.fd_app.specs.Solving.{snapshot_network}
 use Rattle.fd_app.specs.Steps.{claim_in, round_of}
 use Rattle.fd_app.proofs.SnapshotNetworks.{network_complexes, network_size}
@@ -59,7 +59,7 @@ module _ (c : CircuitView) (v : NetworkView) (is : v ≡ snapshot_network c) (ag
     what : m ≡ claim_of v x inverse
     what = sym (claim_is v x inverse m certified)
 
-    alternative : (y : State) → IsAlternative c (round_of m) y → Alternative v m.centre m.mismatches y
+    alternative : (y : State) → IsOtherState c (round_of m) y → IsAlternative v m.centre m.mismatches y
     alternative y a = record {
       over = a.over;
       inside = subst (λ (n : NetworkView). IsInTrustBox n m.centre y) (sym is) a.inside;

@@ -41,14 +41,14 @@ MeetsRound circuit r x = Meets (equations_of circuit) (number_at r.mismatches) (
 -- ---- other states
 
 -- a state of any denominator in the trust box of a round that meets the round's mismatches
-pub record IsAlternative (circuit : CircuitView) (r : Round) (x : State) : Type 0 where
+pub record IsOtherState (circuit : CircuitView) (r : Round) (x : State) : Type 0 where
   pub over : 0 < x.over
   pub inside : IsInTrustBox (snapshot_network circuit) r.centre x
   pub meets : MeetsRound circuit r x
 
 -- each of them is within the radii of the round's state
-abbrev pub EnclosesAll : CircuitView → Round → Type 0
-EnclosesAll circuit r = (x : State) → IsAlternative circuit r x → IsWithinRadii (snapshot_network circuit) r.centre r.radii x
+abbrev pub EnclosesOthers : CircuitView → Round → Type 0
+EnclosesOthers circuit r = (x : State) → IsOtherState circuit r x → IsWithinRadii (snapshot_network circuit) r.centre r.radii x
 
 -- ---- a solution
 
@@ -63,13 +63,13 @@ HaveOneRadius circuit r = (k : ℕ) → k < complex_count (layout_of circuit.ele
 
 -- The state is the one that the procedure reaches, and its certificate is sound: its mismatches, at most 1,000, and its radii are exactly
 -- those of its network. The state meets the equations of the scripted circuit within the mismatches; every other state in its box that
--- does is within the radii; and the mismatches are no larger than rounding makes them.
+-- does is within the radii; and no mismatch is larger than its residual and the rounding of its summands.
 pub record IsSolution (circuit : CircuitView) (r : Round) : Type 0 where
   pub state : IsReached circuit r.centre r.inverse
   pub certificate : certificate_of (snapshot_network circuit) r.centre r.inverse ≡ Ok (claim_in r)
   pub sound : IsSound (snapshot_network circuit) (claim_in r)
   pub meets : MeetsRound circuit r (whole_state r.centre)
-  pub encloses : EnclosesAll circuit r
+  pub encloses : EnclosesOthers circuit r
   pub tied : AreTied circuit r
   pub one_radius : HaveOneRadius circuit r
 

@@ -225,7 +225,7 @@ fn solve_built(alloc: Global, circuit: &Circuit) -> Result<Answer, AllocError>
 }
 
 /// What a Solve of a circuit that passed the tests comes to: a refusal, a fault of the procedure, or the state that the procedure reaches
-/// with its mismatches.
+/// with its certificate.
 pub(crate) fn answer(alloc: Global, circuit: &Circuit) -> Result<Answer, AllocError>
     requires { HasPassed circuit.now }
     ensures { IfOk result (λ answer. IsSolutionStep circuit.now (answered answer circuit.now) × IsSound answer circuit.now) }
