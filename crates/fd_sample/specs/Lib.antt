@@ -1,0 +1,4 @@
+pub mod Balls
+pub mod Phasors
+pub mod Regulators
+pub mod Samples

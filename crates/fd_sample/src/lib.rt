@@ -1,0 +1,10 @@
+//! Samples of controls over a ball of states: a control's verdict, or between which ends it is undecided.
+#![tactic(auto)]
+
+mod intervals;
+mod phasors;
+mod probe;
+mod regulator;
+mod relay;
+
+pub use probe::RegProbe;
