@@ -1,6 +1,6 @@
 -- The quantity of a regulator's control: the magnitude of V / ptratio - (R + j X) I / CTprim, V being the voltage of its winding and I the
 -- current that the winding delivers (OpenDSS manual, RegControl, line drop compensation).
-use Rattle.std.specs.Prelude.{◌≡◌, ℕ, ◌+◌, ◌*◌, ◌^◌, ◌<◌, ◌≤◌, ℤ, pos, nat_abs, if◌then◌else◌, List, length, Some}
+use Rattle.std.specs.Prelude.{◌≡◌, Bool, not, ℕ, ◌+◌, ◌*◌, ◌^◌, ◌<◌, ◌≤◌, ℤ, pos, nat_abs, if◌then◌else◌, List, length, Some}
 use Rattle.fd_exact.specs.Fractions.{Fraction, fraction}
 use Rattle.fd_exact.specs.States.{State}
 use Rattle.fd_arith.specs.Interval.{Bounds}
@@ -13,7 +13,7 @@ use Rattle.fd_system.specs.Residual.{IsPlace}
 use Rattle.fd_xfmr.specs.Transformer.{across}
 use Rattle.fd_queue.specs.Controls.{TapChanger, tap_of}
 use Rattle.fd_queue.specs.Decisions.{Decision}
-use Rattle.fd_queue.specs.Quantities.{Quantity}
+use Rattle.fd_queue.specs.Quantities.{Quantity, root_above, root_below}
 use Rattle.fd_queue.specs.declared.verdict.Verdict.{Verdict}
 use Rattle.fd_regctl.specs.Regulator.{regulator_verdict, regulator_edge}
 use Rattle.fd_regctl.specs.Settings.{RegSettings, regulator_at}
@@ -115,6 +115,13 @@ unfoldable pub reg_interval : RegProbe → TapPair → List ℤ → List ℕ →
 reg_interval p t c r = square_interval (relay_interval p t c r)
 
 -- ---- decisions
+
+-- the magnitude of a square is at most n steps below the voltage that is wanted, and at least n steps above it
+abbrev pub fits_up : RegProbe → ℕ → ℕ → Bool
+fits_up p square n = not (root_above square 1 ((regulator_at (settings_of p) 0).under n))
+
+abbrev pub fits_down : RegProbe → ℕ → ℕ → Bool
+fits_down p square n = not (root_below square 1 ((regulator_at (settings_of p) 0).over n))
 
 -- what the control wants at a quantity, where its winding stands at this tap
 abbrev pub wanted_at : RegProbe → ℕ → Quantity → Decision

@@ -6,7 +6,7 @@ ghost use Rattle.fd_queue.specs.Quantities.{magnitude, root_above, root_below};
 ghost use Rattle.fd_queue.specs.Verdicts.{decision, is_decided};
 ghost use Rattle.fd_regctl.specs.Regulator.{capped as capped_steps, greatest_within};
 ghost use Rattle.fd_regctl.specs.Settings.{room_down as room_below, room_up as room_above, volt_step as step_of};
-ghost use Rattle.fd_sample.specs.Regulators.{AreRegSettings, edge_at, nominal_of, settings_of, wanted_at};
+ghost use Rattle.fd_sample.specs.Regulators.{AreRegSettings, edge_at, fits_down, fits_up, nominal_of, settings_of, wanted_at};
 
 use crate::probe::RegProbe;
 use fd_arith::near_quotient;
@@ -79,30 +79,52 @@ fn nominal(probe: &RegProbe) -> u128
     }
 }
 
-// The greatest number of steps, up to the most at once, for which the magnitude is at most so many below the voltage that is wanted.
+// The greatest number of steps, up to the most at once, of which the magnitude is at most so many below the voltage that is wanted.
 fn steps_up(probe: &RegProbe, square: u128) -> u32
     requires settings { AreRegSettings probe.now }
-    ensures { result ≡ greatest_within (λ n. not (root_above square 1 (near_div (pos probe.now.vreg -ℤ pos (1000 * (n * step_of (settings_of probe.now)))) 1000))) probe.now.maxtapchange }
+    ensures { result ≡ greatest_within (fits_up probe.now square) probe.now.maxtapchange }
 {
     let step = volt_step(probe);
     let mut n = probe.maxtapchange;
-    while n > 0 && is_above(square, below(probe, step, n)) {
+    while n > 0 && !is_up(probe, step, n, square) {
         n -= 1;
     }
     n
 }
 
-// The greatest number of steps, up to the most at once, for which the magnitude is at least so many above the voltage that is wanted.
+// Whether the magnitude is at most n steps below the voltage that is wanted.
+fn is_up(probe: &RegProbe, step: u128, n: u32, square: u128) -> bool
+    requires settings { AreRegSettings probe.now }
+    requires step { step ≡ step_of (settings_of probe.now) }
+    requires most { step ≤ 2 * 10 ^ 15 }
+    requires few { n ≤ 1000 }
+    ensures { result ≡ fits_up probe.now square n }
+{
+    !is_above(square, below(probe, step, n))
+}
+
+// The greatest number of steps, up to the most at once, of which the magnitude is at least so many above the voltage that is wanted.
 fn steps_down(probe: &RegProbe, square: u128) -> u32
     requires settings { AreRegSettings probe.now }
-    ensures { result ≡ greatest_within (λ n. not (root_below square 1 (near_div (pos probe.now.vreg +ℤ pos (1000 * (n * step_of (settings_of probe.now)))) 1000))) probe.now.maxtapchange }
+    ensures { result ≡ greatest_within (fits_down probe.now square) probe.now.maxtapchange }
 {
     let step = volt_step(probe);
     let mut n = probe.maxtapchange;
-    while n > 0 && is_below(square, above(probe, step, n)) {
+    while n > 0 && !is_down(probe, step, n, square) {
         n -= 1;
     }
     n
+}
+
+// Whether the magnitude is at least n steps above the voltage that is wanted.
+fn is_down(probe: &RegProbe, step: u128, n: u32, square: u128) -> bool
+    requires settings { AreRegSettings probe.now }
+    requires step { step ≡ step_of (settings_of probe.now) }
+    requires most { step ≤ 2 * 10 ^ 15 }
+    requires few { n ≤ 1000 }
+    ensures { result ≡ fits_down probe.now square n }
+{
+    !is_below(square, above(probe, step, n))
 }
 
 // At least 1 step, then at most so many at once, then at most the room.
