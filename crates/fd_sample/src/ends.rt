@@ -1,0 +1,72 @@
+// What the ends of an interval decide.
+ghost use Rattle.std.specs.Prelude.{◌≡◌, ℕ, ◌^◌, ◌<◌, ◌≤◌, pos, Option, Some, IsSome, true, false};
+ghost use Rattle.fd_queue.specs.Decisions.{same_decision};
+ghost use Rattle.fd_queue.specs.Verdicts.{decision, is_decided};
+ghost use Rattle.fd_arith.specs.Limits.{non_negative as at_least_0};
+ghost use Rattle.fd_sample.specs.Samples.{AreRootEnds, IfUndecided, agreed as agreed_by, decision_of, lower_square, upper_square};
+
+use fd_arith::{Interval, Square};
+use fd_queue::Verdict;
+
+// 2^120, which ends that no interval has
+const MOST: i128 = 0x100_0000_0000_0000_0000_0000_0000_0000;
+
+/// The least and the greatest square of an interval of squares, with a negative end taken as 0; 0 and 0 at ALL.
+pub fn square_ends(squares: Interval<Square>) -> (u128, u128)
+    ensures least { result.0 ≡ lower_square squares }
+    ensures greatest { IsSome squares → result.1 ≡ upper_square squares }
+{
+    match squares.ends() {
+        None => (0, 0),
+        Some((lo, hi)) => (non_negative(lo), non_negative(hi)),
+    }
+}
+
+fn non_negative(x: i128) -> u128
+    ensures { result ≡ at_least_0 x }
+{
+    if x < 0 { 0 } else { x as u128 }
+}
+
+/// The verdict of a sample over an interval of squares, by those at its least and greatest magnitude and the edge that is to be told where
+/// they differ.
+pub fn agreed(squares: Interval<Square>, low: Verdict, high: Verdict, edge: i128) -> Verdict
+    requires low { is_decided low ≡ true }
+    requires high { is_decided high ≡ true }
+    ensures decides { decision_of result ≡ agreed_by squares (decision low) (decision high) }
+    ensures ends { IfUndecided result (λ lo hi at. AreRootEnds squares lo hi) }
+    ensures edge { IfUndecided result (λ lo hi at. at ≡ edge) }
+{
+    match squares.root().ends() {
+        Some((low_end, high_end)) => {
+            if is_same(low, high) {
+                low
+            } else {
+                Verdict::Undecided {
+                    low: low_end,
+                    high: high_end,
+                    edge,
+                }
+            }
+        }
+        None => Verdict::Undecided {
+            low: 0,
+            high: MOST,
+            edge,
+        },
+    }
+}
+
+// Whether two decided verdicts are the same.
+fn is_same(one: Verdict, other: Verdict) -> bool
+    requires one { is_decided one ≡ true }
+    requires other { is_decided other ≡ true }
+    ensures { result ≡ same_decision (decision one) (decision other) }
+{
+    match (one, other) {
+        (Verdict::Raise { steps }, Verdict::Raise { steps: others }) => steps == others,
+        (Verdict::Lower { steps }, Verdict::Lower { steps: others }) => steps == others,
+        (Verdict::Hold, Verdict::Hold) => true,
+        _ => false,
+    }
+}
