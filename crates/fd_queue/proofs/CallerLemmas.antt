@@ -2,7 +2,9 @@
 use Rattle.std.proofs.Common.{◌≡◌, ◌⊎◌, inl, inr, ⊎_elim, ℤ, Bool, true, false, refl}
 use Rattle.fd_queue.specs.Quantities.{Quantity, IsProper}
 use Rattle.fd_queue.specs.Decisions.{Decision, IsMonotone, IsOfAll}
+use Rattle.fd_queue.specs.DecisionLaws.{MagnitudeLaw, ValueLaw}
 use Rattle.fd_queue.proofs.Decisions.{decided_of_all}
+use Rattle.fd_queue.proofs.Quantities.{magnitudes_in_order, values_in_order}
 
 pub decided_everywhere : (f : Quantity → Decision) → IsMonotone f → IsOfAll f
 decided_everywhere f h = decided_of_all f h
@@ -13,3 +15,10 @@ either false = inr refl
 
 pub not_below : (q : Quantity) (e : ℤ) → IsProper q → q.above e ≡ true → q.below e ≡ false
 not_below q e h t = ⊎_elim (λ b. absurd (let f = h.apart e b in cc)) (λ b. b) (either (q.below e))
+
+-- numbers in order are quantities in order
+pub magnitude_order : MagnitudeLaw
+magnitude_order = magnitudes_in_order
+
+pub value_order : ValueLaw
+value_order = values_in_order

@@ -1,2 +1,5 @@
-pub mod Balls
+pub mod HeldPhasors
+pub mod HeldUnknowns
 pub mod Greatest
+pub mod Samples
+pub mod Regulators

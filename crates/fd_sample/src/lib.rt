@@ -7,5 +7,7 @@ mod phasors;
 mod probe;
 mod regulator;
 mod relay;
+mod sample;
 
 pub use probe::RegProbe;
+pub use sample::regulator_verdict;

@@ -1,11 +1,11 @@
 -- The intervals of a ball hold the unknowns of its states.
-use Rattle.std.proofs.Common.{◌≡◌, ℕ, ◌+◌, ◌*◌, ◌<◌, ◌≤◌, ℤ, pos, ◌+ℤ◌, ◌-ℤ◌, ◌*ℤ◌, ◌≤ℤ◌, neg_ℤ, nat_abs, List, length, arith}
+use Rattle.std.proofs.Common.{◌≡◌, ℕ, ◌+◌, ◌*◌, ◌<◌, ◌≤◌, ℤ, pos, ◌+ℤ◌, ◌-ℤ◌, ◌*ℤ◌, ◌≤ℤ◌, neg_ℤ, nat_abs, List, length, lit<, arith}
 use Rattle.std.proofs.lemmas.Int.{ints}
 use Rattle.fd_exact.specs.Fractions.{Fraction, fraction, nothing}
 use Rattle.fd_exact.specs.Integers.{add-mul, sub-mul, comm}
 use Rattle.fd_exact.specs.States.{State, part, away}
 use Rattle.fd_arith.specs.Interval.{Bounds, Holds}
-use Rattle.fd_arith.specs.Enclosing.{capped-holds, difference-holds}
+use Rattle.fd_arith.specs.Enclosing.{capped-holds}
 use Rattle.fd_arith.specs.Capping.{point-holds}
 use Rattle.fd_arith.specs.declared.cx.Cx.{Cx}
 use Rattle.fd_arith.specs.declared.terms.NodeAt.{NodeAt}
@@ -15,12 +15,8 @@ use Rattle.fd_system.specs.Complex.{Complex}
 use Rattle.fd_system.specs.Equations.{unknown}
 use Rattle.fd_system.specs.Residual.{IsPlace}
 use Rattle.fd_xfmr.specs.Transformer.{across}
+use Rattle.fd_sample.proofs.HeldPhasors.{AreHeld, less_held}
 use Rattle.fd_sample.specs.Balls.{radius_at, IsInBall, place_interval, interval_at, interval_across}
-
--- both parts of a complex number are held
-pub record HoldsBoth (b : Cx Bounds) (z : Complex) : Type 0 where
-  pub re : Holds b.re z.re
-  pub im : Holds b.im z.im
 
 low_end : (p c : ℤ) (r d : ℕ) → nat_abs (p -ℤ (pos d *ℤ c)) ≤ d * r → ((c -ℤ pos r) *ℤ pos d) ≤ℤ p
 low_end p c r d h = omega (arith, ints, sub-mul c (pos r) (pos d), comm c (pos d))
@@ -34,21 +30,17 @@ place_holds c r x i b h = capped-holds (part c i -ℤ pos (radius_at r i)) (part
     (low_end (part x.parts i) (part c i) (radius_at r i) x.over (b.within i h))
     (high_end (part x.parts i) (part c i) (radius_at r i) x.over (b.within i h))
 
-pub node_holds : (c : List ℤ) (r : List ℕ) (x : State) (node : NodeAt) → IsInBall c r x → IsPlace (length c) node →
-    HoldsBoth (interval_at c r node) (unknown x node)
+pub node_held : (c : List ℤ) (r : List ℕ) (x : State) (node : NodeAt) → IsInBall c r x → IsPlace (length c) node →
+    AreHeld (interval_at c r node) (unknown x node)
 unfolding nothing
-node_holds c r x Ground b h = record { re = point-holds (pos 0); im = point-holds (pos 0) }
-node_holds c r x (Node k) b h = record {
-  re = place_holds c r x (2 * k) b (omega (arith, h.0));
-  im = place_holds c r x (2 * k + 1) b h.0;
+node_held c r x Ground b h =
+    record { re = record { over = lit< tt; holds = point-holds (pos 0) }; im = record { over = lit< tt; holds = point-holds (pos 0) } }
+node_held c r x (Node k) b h = record {
+  re = record { over = b.over; holds = place_holds c r x (2 * k) b (omega (arith, h.0)) };
+  im = record { over = b.over; holds = place_holds c r x (2 * k + 1) b h.0 };
 }
 
-pub across_holds : (c : List ℤ) (r : List ℕ) (x : State) (p : NodePair) → IsInBall c r x → IsPlace (length c) p.first → IsPlace (length c) p.second →
-    HoldsBoth (interval_across c r p) (across x p)
-across_holds c r x p b h k =
-    let one = node_holds c r x p.first b h in
-    let two = node_holds c r x p.second b k in
-    record {
-      re = difference-holds (interval_at c r p.first).re (interval_at c r p.second).re (unknown x p.first).re (unknown x p.second).re one.re two.re;
-      im = difference-holds (interval_at c r p.first).im (interval_at c r p.second).im (unknown x p.first).im (unknown x p.second).im one.im two.im;
-    }
+pub across_held : (c : List ℤ) (r : List ℕ) (x : State) (p : NodePair) → IsInBall c r x → IsPlace (length c) p.first → IsPlace (length c) p.second →
+    AreHeld (interval_across c r p) (across x p)
+across_held c r x p b h k = less_held (interval_at c r p.first) (interval_at c r p.second) (unknown x p.first) (unknown x p.second)
+    (node_held c r x p.first b h) (node_held c r x p.second b k)
