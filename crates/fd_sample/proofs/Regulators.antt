@@ -1,5 +1,5 @@
 -- What a regulator's control samples over a ball holds what it would sample at each state, and where ALL differs.
-use Rattle.std.proofs.Common.{◌≡◌, ◌≢◌, ℕ, ◌+◌, ◌*◌, ◌<◌, ◌≤◌, ◌^◌, ℤ, pos, negsuc, ◌+ℤ◌, ◌-ℤ◌, nat_abs, Bool, true, false, cond, List, length, Some, lit<, refl, sym, ap, ◌∙◌, subst, arith}
+use Rattle.std.proofs.Common.{◌≡◌, ◌≢◌, ℕ, ◌+◌, ◌*◌, ◌<◌, ◌≤◌, ◌^◌, ℤ, pos, negsuc, ◌+ℤ◌, ◌-ℤ◌, nat_abs, Bool, true, false, cond, List, length, Some, None, lit<, refl, sym, ap, ◌∙◌, subst, arith}
 use Rattle.std.specs.Prelude.{nat_lt}
 use Rattle.std.proofs.Math.Nat.{mul-pos, mul-le-mul}
 use Rattle.std.proofs.lemmas.Bool.Decides.{nat_tests, Decides-ltb}
@@ -27,7 +27,7 @@ use Rattle.fd_sample.specs.Regulators.{AreRegSettings, IsRegProbe, settings_of, 
 use Rattle.fd_sample.specs.Samples.{agreed, least_root, greatest_root}
 use Rattle.fd_sample.proofs.HeldUnknowns.{node_held, across_held}
 use Rattle.fd_sample.proofs.HeldPhasors.{IsHeld, AreHeld, factor_held, negative_held, less_held, scaled_held, times_held, square_size_held, square_top}
-use Rattle.fd_sample.proofs.Samples.{DiffersAtAll, HasEdge, root_of_all}
+use Rattle.fd_sample.proofs.Samples.{all_differ, root_of_all}
 
 -- ---- the phasor
 
@@ -77,11 +77,6 @@ reg_of_all p t c r x v h taps b e =
     root_of_all (reg_decision p t) (reg_interval p t c r) (nat_abs (square_size z).top) (square_size z).over v
     (regulator_decided (regulator_at (settings_of p) (own_tap p t))) held.over (with_size (reg_interval p t c r) z held) e
 
--- ---- edges
-
-pub reg_edges : (p : RegProbe) (tap : ℕ) (s : Bounds) → HasEdge (wanted_at p tap) (edge_at p tap) s
-reg_edges p tap s d = settings_edge (settings_of p) tap (least_root s) (greatest_root s) d
-
 -- ---- at ALL
 
 small_square : (k : ℕ) → k ≤ 2 ^ 60 → k * k * 1 ≤ 2 ^ 120
@@ -118,7 +113,17 @@ low_size v b h k = omega (arith, ints)
 high_size : (v b : ℕ) → v ≤ 10 ^ 15 → b ≤ 10 ^ 12 → nat_abs (pos (2 * v) +ℤ pos b) ≤ 2 ^ 60 * 2000
 high_size v b h k = omega (arith, ints)
 
-pub reg_differs : (p : RegProbe) (tap : ℕ) → AreRegSettings p → DiffersAtAll (wanted_at p tap)
+pub reg_differs : (p : RegProbe) (tap : ℕ) → AreRegSettings p → wanted_at p tap (least_root None) ≢ wanted_at p tap (greatest_root None)
 reg_differs p tap h = differs (regulator_at (settings_of p) tap) (2 ^ 240) (above_nothing _)
     (below_large (regulator_at (settings_of p) tap).lo (2 ^ 240) (near_within (pos (2 * p.vreg) -ℤ pos p.band) 2000 (2 ^ 60) (lit< tt) (low_size p.vreg p.band h.vreg h.band)) (lit< tt))
     (above_large (regulator_at (settings_of p) tap).hi (2 ^ 240) (near_within (pos (2 * p.vreg) +ℤ pos p.band) 2000 (2 ^ 60) (lit< tt) (high_size p.vreg p.band h.vreg h.band)) (lit< tt))
+
+-- where nothing is decided, the edge is where the decision changes
+all_of : (p : RegProbe) (tap : ℕ) (s : Bounds) → AreRegSettings p → s ≡ None → wanted_at p tap (least_root s) ≢ wanted_at p tap (greatest_root s)
+all_of p tap s h e = subst (λ (b : Bounds). wanted_at p tap (least_root b) ≢ wanted_at p tap (greatest_root b)) (sym e) (reg_differs p tap h)
+
+pub reg_edged : (p : RegProbe) (tap : ℕ) (s : Bounds) → AreRegSettings p →
+    agreed s (wanted_at p tap (least_root s)) (wanted_at p tap (greatest_root s)) ≡ None →
+    IsEdge (wanted_at p tap) (least_root s) (greatest_root s) (edge_at p tap (wanted_at p tap (least_root s)))
+reg_edged p tap s h e = settings_edge (settings_of p) tap (least_root s) (greatest_root s)
+    (all_differ s (wanted_at p tap (least_root s)) (wanted_at p tap (greatest_root s)) (all_of p tap s h) e)

@@ -3,7 +3,7 @@ ghost use Rattle.std.specs.Prelude.{◌≡◌, ℕ, length};
 ghost use Rattle.fd_xfmr.specs.Leakage.{AreTaps};
 ghost use Rattle.fd_sample.specs.Balls.{IsBall};
 ghost use Rattle.fd_sample.specs.Regulators.{AreRegSettings, IsOfEveryState, IsRegProbe, edge_at, own_tap as tap_of_own, reg_decision, reg_edge, reg_interval, wanted_at};
-ghost use Rattle.fd_sample.specs.Samples.{IsRootSample};
+ghost use Rattle.fd_sample.specs.Samples.{IsRootSample, TellsEdge, greatest_root, least_root};
 
 use crate::ends::{agreed, square_ends};
 use crate::probe::RegProbe;
@@ -25,6 +25,7 @@ pub fn regulator_verdict(
     requires taps { AreTaps taps }
     requires ball { IsBall centre.now radii.now }
     ensures sample { IsRootSample (reg_decision probe.now taps) (reg_edge probe.now taps) (reg_interval probe.now taps centre.now radii.now) result }
+    ensures edge { TellsEdge (reg_decision probe.now taps) (least_root (reg_interval probe.now taps centre.now radii.now)) (greatest_root (reg_interval probe.now taps centre.now radii.now)) result }
     ensures every_state { IsOfEveryState probe.now taps centre.now radii.now result }
 {
     let tap = own_tap(probe, taps);
@@ -44,7 +45,8 @@ fn own_tap(probe: &RegProbe, taps: TapPair) -> u32
 // The verdict over an interval of squares, where the winding stands at this tap.
 fn over(probe: &RegProbe, tap: u32, squares: Interval<Square>) -> Verdict
     requires settings { AreRegSettings probe.now }
-    ensures { IsRootSample (wanted_at probe.now tap) (edge_at probe.now tap) squares result }
+    ensures sample { IsRootSample (wanted_at probe.now tap) (edge_at probe.now tap) squares result }
+    ensures edge { TellsEdge (wanted_at probe.now tap) (least_root squares) (greatest_root squares) result }
 {
     let (least, greatest) = square_ends(squares);
     let low = wanted(probe, tap, least);

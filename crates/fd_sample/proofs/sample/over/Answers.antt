@@ -1,18 +1,31 @@
-use Rattle.std.proofs.Common.{◌≡◌, ◌∙◌, ap, rules, FitsSigned}
+use Rattle.std.proofs.Common.{◌≡◌, ◌∙◌, ap, sym, subst, rules, ℤ, FitsSigned}
 use Rattle.std.specs.Int.{w128}
 use Rattle.std.proofs.lemmas.Int.{to_z-of_z}
+use Rattle.fd_queue.specs.Decisions.{IsEdge}
 use Rattle.fd_queue.specs.Quantities.{magnitude}
+use Rattle.fd_queue.specs.Verdicts.{decision}
 use Rattle.fd_sample.specs.Regulators.{wanted_at, edge_at}
-use Rattle.fd_sample.proofs.Samples.{root_sample}
-use Rattle.fd_sample.proofs.Regulators.{reg_edges, reg_differs}
+use Rattle.fd_sample.specs.Samples.{least_root, greatest_root}
+use Rattle.fd_sample.proofs.Samples.{root_sample, tells_edge}
+use Rattle.fd_sample.proofs.Regulators.{reg_edged}
 use Rattle.fd_sample.proofs.sample.over.Goals as goal
 
 pub returns : goal.returns
 returns c =
     let p = c.args.probe.now in
+    let tap = c.args.tap in
+    let s = c.args.squares in
     let fits : FitsSigned w128 c.edge_after.result = search rules in
-    root_sample (wanted_at p c.args.tap) (edge_at p c.args.tap) c.args.squares c.agreed.result c.wanted-low.result c.wanted-high.result _
-    (reg_edges p c.args.tap c.args.squares) (reg_differs p c.args.tap c.requires.settings)
-    (c.wanted-low.ensures.decision ∙ ap (λ n. wanted_at p c.args.tap (magnitude n 1)) c.square_ends-least.ensures.least)
-    (λ s. c.wanted-high.ensures.decision ∙ ap (λ n. wanted_at p c.args.tap (magnitude n 1)) (c.square_ends-least.ensures.greatest s))
-    (to_z-of_z w128 c.edge_after.result fits ∙ c.edge_after.ensures c.args.tap) c.agreed.ensures.decides c.agreed.ensures.ends c.agreed.ensures.edge
+    let low = c.wanted-low.ensures.decision ∙ ap (λ n. wanted_at p tap (magnitude n 1)) c.square_ends-least.ensures.least in
+    let edge = to_z-of_z w128 c.edge_after.result fits ∙ c.edge_after.ensures tap in
+    let sample = root_sample (wanted_at p tap) (edge_at p tap) s c.agreed.result c.wanted-low.result c.wanted-high.result _
+        low
+        (λ some. c.wanted-high.ensures.decision ∙ ap (λ n. wanted_at p tap (magnitude n 1)) (c.square_ends-least.ensures.greatest some))
+        edge c.agreed.ensures.decides c.agreed.ensures.ends c.agreed.ensures.edge in
+    record {
+      sample = sample;
+      edge = tells_edge (wanted_at p tap) (least_root s) (greatest_root s) _ c.agreed.result
+          (λ none. subst (λ (z : ℤ). IsEdge (wanted_at p tap) (least_root s) (greatest_root s) z) (sym (edge ∙ ap (edge_at p tap) low))
+          (reg_edged p tap s c.requires.settings (sym sample.decides ∙ none)))
+          c.agreed.ensures.edge;
+    }
