@@ -1,4 +1,5 @@
 pub mod Balls
 pub mod Phasors
 pub mod Regulators
+pub mod Banks
 pub mod Samples

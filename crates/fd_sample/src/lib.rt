@@ -1,13 +1,16 @@
 //! Samples of controls over a ball of states: a control's verdict, or between which ends it is undecided.
 #![tactic(auto)]
 
+mod bank;
 mod ends;
 mod intervals;
+mod lineflow;
 mod phasors;
 mod probe;
 mod regulator;
 mod relay;
+mod roots;
 mod sample;
 
-pub use probe::RegProbe;
+pub use probe::{CapProbe, LineEnd, Measured, RegProbe};
 pub use sample::regulator_verdict;

@@ -1,4 +1,5 @@
 // What is known of a control to sample it.
+use fd_arith::NodeAt;
 use fd_system::NodePair;
 
 /// A regulator's control, with what its samples need. Numbers are whole 10^-9 where nothing else is said.
@@ -32,4 +33,42 @@ pub struct RegProbe {
     /// The delays of the first act and of each further one, in milliseconds.
     pub delay: u64,
     pub tapdelay: u64,
+}
+
+/// A bank's control, with what its samples need. Numbers are whole 10^-9 where nothing else is said.
+#[derive(Clone, Copy, Debug)]
+pub struct CapProbe {
+    /// The number of the bank among the banks, in the script's order.
+    pub bank: u32,
+    /// What it measures.
+    pub measured: Measured,
+    /// The values at which it closes and opens the bank: in volts or amperes at the relay, or in kvar.
+    pub on: i128,
+    pub off: i128,
+    /// The delays before it closes and opens the bank, and the time for which an opened bank stays open, in milliseconds.
+    pub delay: u64,
+    pub delayoff: u64,
+    pub deadtime: u64,
+}
+
+/// What a bank's control measures at its line.
+#[derive(Clone, Copy, Debug)]
+pub enum Measured {
+    /// The voltage of a node, over the ratio of the voltage transformer.
+    Voltage { node: NodeAt, ratio: u128 },
+    /// The current of a branch, over the ratio of the current transformer.
+    Current { branch: u32, ratio: u128 },
+    /// The reactive power that enters the line at one of its ends.
+    Kvar(LineEnd),
+}
+
+/// One end of a line.
+#[derive(Clone, Copy, Debug)]
+pub struct LineEnd {
+    /// The number of phases, 1 to 3, and the nodes of these; the others do not count.
+    pub phases: u32,
+    pub nodes: [NodeAt; 3],
+    /// The branch of the first phase. Its current enters the line at the first end.
+    pub branch: u32,
+    pub is_second: bool,
 }

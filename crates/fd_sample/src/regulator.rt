@@ -9,6 +9,7 @@ ghost use Rattle.fd_regctl.specs.Settings.{room_down as room_below, room_up as r
 ghost use Rattle.fd_sample.specs.Regulators.{AreRegSettings, edge_at, fits_down, fits_up, nominal_of, settings_of, wanted_at};
 
 use crate::probe::RegProbe;
+use crate::roots::{is_above, is_below};
 use fd_arith::near_quotient;
 use fd_queue::Verdict;
 
@@ -200,29 +201,4 @@ fn lesser(edge: i128, other: i128) -> i128
     ensures { result ≡ (if int_lt edge other then edge else other) }
 {
     if edge < other { edge } else { other }
-}
-
-// ---- magnitudes
-
-// Whether the magnitude of a square is below an edge. A magnitude is above every negative edge.
-fn is_below(square: u128, edge: i128) -> bool
-    requires { nat_abs edge ≤ 2 ^ 62 }
-    ensures { result ≡ root_below square 1 edge }
-{
-    edge >= 0 && square < squared(edge)
-}
-
-// Whether it is above an edge.
-fn is_above(square: u128, edge: i128) -> bool
-    requires { nat_abs edge ≤ 2 ^ 62 }
-    ensures { result ≡ root_above square 1 edge }
-{
-    edge < 0 || squared(edge) < square
-}
-
-fn squared(edge: i128) -> u128
-    requires { nat_abs edge ≤ 2 ^ 62 }
-    ensures { result ≡ nat_abs edge * nat_abs edge }
-{
-    edge.unsigned_abs() * edge.unsigned_abs()
 }
