@@ -34,9 +34,9 @@ pub all_differ : (s : Bounds) (v w : Decision) → (s ≡ None → v ≢ w) → 
 all_differ None v w all e = all refl
 all_differ (Some b) v w all e = ends_differ (Some b) v w refl e
 
-agreed_same : (s : Bounds) (low high v w : Decision) → low ≡ v → (IsSome s → high ≡ w) → agreed s low high ≡ agreed s v w
+agreed_same : (s : Bounds) (low high v w : Decision) → (IsSome s → low ≡ v) → (IsSome s → high ≡ w) → agreed s low high ≡ agreed s v w
 agreed_same None low high v w e h = refl
-agreed_same (Some b) low high v w e h = let k = h refl in cc
+agreed_same (Some b) low high v w e h = let j = e refl in let k = h refl in cc
 
 both_of : {P Q R : ℤ → ℤ → ℤ → Type 0} (v : Verdict) → ((lo hi at : ℤ) → P lo hi at → Q lo hi at → R lo hi at) → IfUndecided v P →
     IfUndecided v Q → IfUndecided v R
@@ -46,21 +46,21 @@ both_of (verdict.Lower n) f p q = tt
 both_of (verdict.Undecided lo hi at) f p q = f lo hi at p q
 
 pub root_sample : (f : Quantity → Decision) (edge_of : Decision → ℤ) (s : Bounds) (v low high : Verdict) (edge : ℤ) →
-    decision low ≡ f (least_root s) → (IsSome s → decision high ≡ f (greatest_root s)) → edge ≡ edge_of (decision low) →
+    (IsSome s → decision low ≡ f (least_root s)) → (IsSome s → decision high ≡ f (greatest_root s)) → edge ≡ edge_of (f (least_root s)) →
     decision_of v ≡ agreed s (decision low) (decision high) → IfUndecided v (λ lo hi at. AreRootEnds s lo hi) →
     IfUndecided v (λ lo hi at. at ≡ edge) → IsRootSample f edge_of s v
 root_sample f edge_of s v low high edge at_low at_high e d ends same = record {
   decides = d ∙ agreed_same s (decision low) (decision high) (f (least_root s)) (f (greatest_root s)) at_low at_high;
-  reports = both_of v (λ lo hi at p q. record { ends = p; edge = q ∙ (e ∙ ap edge_of at_low) }) ends same;
+  reports = both_of v (λ lo hi at p q. record { ends = p; edge = q ∙ e }) ends same;
 }
 
 pub value_sample : (f : Quantity → Decision) (edge_of : Decision → ℤ) (s : Bounds) (v low high : Verdict) (edge : ℤ) →
-    decision low ≡ f (least_value s) → (IsSome s → decision high ≡ f (greatest_value s)) → edge ≡ edge_of (decision low) →
+    (IsSome s → decision low ≡ f (least_value s)) → (IsSome s → decision high ≡ f (greatest_value s)) → edge ≡ edge_of (f (least_value s)) →
     decision_of v ≡ agreed s (decision low) (decision high) → IfUndecided v (λ lo hi at. AreValueEnds s lo hi) →
     IfUndecided v (λ lo hi at. at ≡ edge) → IsValueSample f edge_of s v
 value_sample f edge_of s v low high edge at_low at_high e d ends same = record {
   decides = d ∙ agreed_same s (decision low) (decision high) (f (least_value s)) (f (greatest_value s)) at_low at_high;
-  reports = both_of v (λ lo hi at p q. record { ends = p; edge = q ∙ (e ∙ ap edge_of at_low) }) ends same;
+  reports = both_of v (λ lo hi at p q. record { ends = p; edge = q ∙ e }) ends same;
 }
 
 -- the edge of an undecided verdict

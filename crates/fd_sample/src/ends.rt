@@ -1,15 +1,19 @@
 // What the ends of an interval decide.
-ghost use Rattle.std.specs.Prelude.{◌≡◌, ℕ, ◌^◌, ◌<◌, ◌≤◌, pos, Option, Some, IsSome, true, false};
+ghost use Rattle.std.specs.Prelude.{◌≡◌, ℕ, ◌^◌, ◌<◌, ◌≤◌, pos, Option, Some, IsSome, IfSome, true, false};
+ghost use Rattle.fd_exact.specs.Rounding.{ceil_div, floor_div};
 ghost use Rattle.fd_queue.specs.Decisions.{same_decision};
 ghost use Rattle.fd_queue.specs.Verdicts.{decision, is_decided};
-ghost use Rattle.fd_arith.specs.Limits.{non_negative as at_least_0};
-ghost use Rattle.fd_sample.specs.Samples.{AreRootEnds, IfUndecided, agreed as agreed_by, decision_of, lower_square, upper_square};
+ghost use Rattle.fd_arith.specs.Limits.{Fits, non_negative as at_least_0};
+ghost use Rattle.fd_sample.specs.Samples.{AreRootEnds, AreValueEnds, IfUndecided, agreed as agreed_by, decision_of, lower_square, upper_square};
 
-use fd_arith::{Interval, Square};
+use fd_arith::{Interval, Square, floor_of_product};
 use fd_queue::Verdict;
 
 // 2^120, which ends that no interval has
 const MOST: i128 = 0x100_0000_0000_0000_0000_0000_0000_0000;
+
+// 10^-9 in 10^-15
+const FEMTO_PER_NANO: u128 = 1_000_000;
 
 /// The least and the greatest square of an interval of squares, with a negative end taken as 0; 0 and 0 at ALL.
 pub fn square_ends(squares: Interval<Square>) -> (u128, u128)
@@ -55,6 +59,59 @@ pub fn agreed(squares: Interval<Square>, low: Verdict, high: Verdict, edge: i128
             edge,
         },
     }
+}
+
+/// The least and the greatest value of an interval; 0 and 0 at ALL.
+pub fn value_ends(values: Interval<Square>) -> (i128, i128)
+    ensures { IfSome values (λ e. (result.0 ≡ e.0) × (result.1 ≡ e.1)) }
+{
+    values.ends().unwrap_or((0, 0))
+}
+
+/// The same over an interval of values in 10^-15, whose ends are told in whole 10^-9.
+pub fn agreed_value(values: Interval<Square>, low: Verdict, high: Verdict, edge: i128) -> Verdict
+    requires low { is_decided low ≡ true }
+    requires high { is_decided high ≡ true }
+    ensures decides { decision_of result ≡ agreed_by values (decision low) (decision high) }
+    ensures ends { IfUndecided result (λ lo hi at. AreValueEnds values lo hi) }
+    ensures edge { IfUndecided result (λ lo hi at. at ≡ edge) }
+{
+    match values.ends() {
+        Some((least, greatest)) => {
+            if is_same(low, high) {
+                low
+            } else {
+                Verdict::Undecided {
+                    low: down(least),
+                    high: up(greatest),
+                    edge,
+                }
+            }
+        }
+        None => Verdict::Undecided {
+            low: -MOST,
+            high: MOST,
+            edge,
+        },
+    }
+}
+
+// A number of 10^-15 in whole 10^-9, rounded down.
+fn down(n: i128) -> i128
+    requires { Fits n }
+    ensures value { result ≡ floor_div n (10 ^ 6) }
+    ensures small { Fits result }
+{
+    floor_of_product(n, 1, FEMTO_PER_NANO)
+}
+
+// The same, rounded up.
+fn up(n: i128) -> i128
+    requires { Fits n }
+    ensures value { result ≡ ceil_div n (10 ^ 6) }
+    ensures small { Fits result }
+{
+    -down(-n)
 }
 
 // Whether two decided verdicts are the same.
