@@ -4,9 +4,9 @@ use Rattle.std.proofs.Math.Nat.{mul-pos}
 use Rattle.std.proofs.lemmas.Int.{ints}
 use Rattle.fd_exact.specs.Fractions.{Fraction, fraction, ◌⊕◌, ◌⊖◌, ◌⊗◌, opposite}
 use Rattle.fd_exact.specs.Order.{scale}
-use Rattle.fd_arith.specs.Interval.{Bounds, Holds, HoldsCoef, sum, difference, negation, product, square_of}
+use Rattle.fd_arith.specs.Interval.{Bounds, Holds, HoldsCoef, sum, difference, negation, product, area_of, square_of}
 use Rattle.fd_arith.specs.Enclosing.{sum-holds, difference-holds, negation-holds}
-use Rattle.fd_arith.specs.Products.{product-holds, square-holds}
+use Rattle.fd_arith.specs.Products.{product-holds, area-holds, square-holds}
 use Rattle.fd_arith.specs.Capping.{outward-holds}
 use Rattle.fd_arith.specs.declared.cx.Cx.{Cx}
 use Rattle.fd_system.specs.Complex.{Complex, ◌⊟◌, ◌⊠◌, negative}
@@ -44,7 +44,7 @@ over_opposite : (x : Fraction) → 0 < x.over → 0 < (opposite x).over
 unfolding opposite
 over_opposite x h = h
 
-sum_held : (a b : Bounds) (x y : Fraction) → IsHeld a x → IsHeld b y → IsHeld (sum a b) (x ⊕ y)
+pub sum_held : (a b : Bounds) (x y : Fraction) → IsHeld a x → IsHeld b y → IsHeld (sum a b) (x ⊕ y)
 sum_held a b x y h k = record { over = over_sum x y h.over k.over; holds = sum-holds a b x y h.holds k.holds }
 
 difference_held : (a b : Bounds) (x y : Fraction) → IsHeld a x → IsHeld b y → IsHeld (difference a b) (x ⊖ y)
@@ -53,11 +53,14 @@ difference_held a b x y h k = record {
   holds = difference-holds a b x y h.holds k.holds;
 }
 
-negation_held : (a : Bounds) (x : Fraction) → IsHeld a x → IsHeld (negation a) (opposite x)
+pub negation_held : (a : Bounds) (x : Fraction) → IsHeld a x → IsHeld (negation a) (opposite x)
 negation_held a x h = record { over = over_opposite x h.over; holds = negation-holds a x h.holds }
 
 product_held : (a f : Bounds) (x y : Fraction) → IsHeld a x → IsFactor f y → IsHeld (product a f) (x ⊗ y)
 product_held a f x y h k = record { over = over_product x y h.over k.over; holds = product-holds a f x y h.holds k.holds }
+
+pub area_held : (a b : Bounds) (x y : Fraction) → IsHeld a x → IsHeld b y → IsHeld (area_of a b) (x ⊗ y)
+area_held a b x y h k = record { over = over_product x y h.over k.over; holds = area-holds a b x y h.holds k.holds }
 
 square_held : (a : Bounds) (x : Fraction) → IsHeld a x → IsHeld (square_of a) (x ⊗ x)
 square_held a x h = record { over = over_product x x h.over h.over; holds = square-holds a x h.holds }

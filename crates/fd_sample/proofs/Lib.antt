@@ -3,3 +3,4 @@ pub mod HeldUnknowns
 pub mod Greatest
 pub mod Samples
 pub mod Regulators
+pub mod Banks

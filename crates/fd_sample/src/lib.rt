@@ -2,6 +2,7 @@
 #![tactic(auto)]
 
 mod bank;
+mod bank_sample;
 mod ends;
 mod intervals;
 mod lineflow;
@@ -12,5 +13,6 @@ mod relay;
 mod roots;
 mod sample;
 
+pub use bank_sample::bank_verdict;
 pub use probe::{CapProbe, LineEnd, Measured, RegProbe};
 pub use sample::regulator_verdict;
