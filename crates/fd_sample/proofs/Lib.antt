@@ -4,3 +4,4 @@ pub mod Greatest
 pub mod Samples
 pub mod Regulators
 pub mod Banks
+pub mod Probes

@@ -101,10 +101,10 @@ differs : (r : Regulator) (b : ℕ) → root_above 0 1 r.hi ≡ false → root_b
     regulator_verdict r (magnitude 0 1) ≢ regulator_verdict r (magnitude b 1)
 differs r b low lo hi e =
     let left : regulator_verdict r (magnitude 0 1) ≡ cond (root_below 0 1 r.lo) (Raise (steps_up r (magnitude 0 1))) Hold =
-        ap (λ t. cond (root_below 0 1 r.lo) (Raise (steps_up r (magnitude 0 1))) (cond t (Lower (steps_down r (magnitude 0 1))) Hold)) low in
+    ap (λ t. cond (root_below 0 1 r.lo) (Raise (steps_up r (magnitude 0 1))) (cond t (Lower (steps_down r (magnitude 0 1))) Hold)) low in
     let right : regulator_verdict r (magnitude b 1) ≡ Lower (steps_down r (magnitude b 1)) =
-        ap (λ t. cond t (Raise (steps_up r (magnitude b 1))) (cond (root_above b 1 r.hi) (Lower (steps_down r (magnitude b 1))) Hold)) lo
-        ∙ ap (λ t. cond t (Lower (steps_down r (magnitude b 1))) Hold) hi in
+    ap (λ t. cond t (Raise (steps_up r (magnitude b 1))) (cond (root_above b 1 r.hi) (Lower (steps_down r (magnitude b 1))) Hold)) lo
+    ∙ ap (λ t. cond t (Lower (steps_down r (magnitude b 1))) Hold) hi in
     not_lower (root_below 0 1 r.lo) (steps_up r (magnitude 0 1)) (steps_down r (magnitude b 1)) (sym left ∙ (e ∙ right))
 
 low_size : (v b : ℕ) → v ≤ 10 ^ 15 → b ≤ 10 ^ 12 → nat_abs (pos (2 * v) -ℤ pos b) ≤ 2 ^ 60 * 2000

@@ -2,4 +2,5 @@ pub mod Balls
 pub mod Phasors
 pub mod Regulators
 pub mod Banks
+pub mod Probes
 pub mod Samples

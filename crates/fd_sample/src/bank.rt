@@ -27,7 +27,10 @@ pub fn ratio_squares(node: NodeAt, ratio: u128, centre: &[i128], radii: &[u128])
     requires ball { IsBall centre.now radii.now }
     ensures { result ≡ ratio_interval node ratio centre.now radii.now }
 {
-    square_size(scaled(interval_at(centre, radii, node), factor(NANO_PER_ONE, ratio)))
+    square_size(scaled(
+        interval_at(centre, radii, node),
+        factor(NANO_PER_ONE, ratio),
+    ))
 }
 
 /// What the control wants at the magnitude of this square, in whole 10^-12, where its bank is closed or open.
@@ -40,7 +43,12 @@ pub fn wanted_at_root(probe: &CapProbe, closed: bool, square: u128) -> Verdict
     let edge = edge_of(probe, closed);
     switched(
         closed,
-        is_past(probe, closed, is_below(square, edge), is_above(square, edge)),
+        is_past(
+            probe,
+            closed,
+            is_below(square, edge),
+            is_above(square, edge),
+        ),
     )
 }
 

@@ -57,11 +57,7 @@ pub fn interval_at(centre: &[i128], radii: &[u128], node: NodeAt) -> Cx<Interval
 }
 
 /// The intervals of the first node's unknown less the second's.
-pub fn interval_across(
-    centre: &[i128],
-    radii: &[u128],
-    nodes: NodePair,
-) -> Cx<Interval<Micro>>
+pub fn interval_across(centre: &[i128], radii: &[u128], nodes: NodePair) -> Cx<Interval<Micro>>
     requires ball { IsBall centre.now radii.now }
     requires first { IsPlace (length centre.now) nodes.first }
     requires second { IsPlace (length centre.now) nodes.second }

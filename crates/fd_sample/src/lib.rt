@@ -3,6 +3,7 @@
 
 mod bank;
 mod bank_sample;
+mod controls;
 mod ends;
 mod intervals;
 mod lineflow;
@@ -14,5 +15,6 @@ mod roots;
 mod sample;
 
 pub use bank_sample::bank_verdict;
-pub use probe::{CapProbe, LineEnd, Measured, RegProbe};
+pub use controls::verdict;
+pub use probe::{CapProbe, LineEnd, Measured, Probe, RegProbe};
 pub use sample::regulator_verdict;

@@ -72,3 +72,10 @@ pub struct LineEnd {
     pub branch: u32,
     pub is_second: bool,
 }
+
+/// A control, with what its samples need: nothing of it grows with the circuit.
+#[derive(Clone, Copy, Debug)]
+pub enum Probe {
+    Regulator(RegProbe),
+    Bank(CapProbe),
+}

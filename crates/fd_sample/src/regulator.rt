@@ -29,11 +29,19 @@ pub fn wanted(probe: &RegProbe, tap: u32, square: u128) -> Verdict
 {
     if is_below(square, low_edge(probe)) {
         Verdict::Raise {
-            steps: capped(probe.maxtapchange, room_up(probe, tap), steps_up(probe, square)),
+            steps: capped(
+                probe.maxtapchange,
+                room_up(probe, tap),
+                steps_up(probe, square),
+            ),
         }
     } else if is_above(square, high_edge(probe)) {
         Verdict::Lower {
-            steps: capped(probe.maxtapchange, room_down(probe, tap), steps_down(probe, square)),
+            steps: capped(
+                probe.maxtapchange,
+                room_down(probe, tap),
+                steps_down(probe, square),
+            ),
         }
     } else {
         Verdict::Hold

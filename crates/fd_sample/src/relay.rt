@@ -14,12 +14,7 @@ const NANO_PER_ONE: i128 = 1_000_000_000;
 
 /// The interval of the square of the magnitude, in whole 10^-12.
 #[tactic(auto, unfolding(crate::specs::Regulators::reg_interval))]
-pub fn squares(
-    probe: &RegProbe,
-    taps: TapPair,
-    centre: &[i128],
-    radii: &[u128],
-) -> Interval<Square>
+pub fn squares(probe: &RegProbe, taps: TapPair, centre: &[i128], radii: &[u128]) -> Interval<Square>
     requires probe { IsRegProbe (length centre.now) probe.now }
     requires taps { AreTaps taps }
     requires ball { IsBall centre.now radii.now }

@@ -17,9 +17,9 @@ returns c =
     let fits : FitsSigned w128 c.edge_of.result = search rules in
     let edge = to_z-of_z w128 c.edge_of.result fits ∙ c.edge_of.ensures.value in
     let sample = root_sample (cap_decision p t) (λ d. cap_edge p t) s c.agreed.result c.wanted_at_root-low.result c.wanted_at_root-high.result _
-        (λ some. c.wanted_at_root-low.ensures.decision ∙ ap (λ (n : ℕ). cap_decision p t (magnitude n 1)) c.square_ends-least.ensures.least)
-        (λ some. c.wanted_at_root-high.ensures.decision ∙ ap (λ (n : ℕ). cap_decision p t (magnitude n 1)) (c.square_ends-least.ensures.greatest some))
-        edge c.agreed.ensures.decides c.agreed.ensures.ends c.agreed.ensures.edge in
+    (λ some. c.wanted_at_root-low.ensures.decision ∙ ap (λ (n : ℕ). cap_decision p t (magnitude n 1)) c.square_ends-least.ensures.least)
+    (λ some. c.wanted_at_root-high.ensures.decision ∙ ap (λ (n : ℕ). cap_decision p t (magnitude n 1)) (c.square_ends-least.ensures.greatest some))
+    edge c.agreed.ensures.decides c.agreed.ensures.ends c.agreed.ensures.edge in
     record {
       sample = sample;
       edge = λ some. tells_edge (cap_decision p t) (least_root s) (greatest_root s) _ c.agreed.result

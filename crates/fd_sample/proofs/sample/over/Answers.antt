@@ -19,9 +19,9 @@ returns c =
     let low = c.wanted-low.ensures.decision ∙ ap (λ n. wanted_at p tap (magnitude n 1)) c.square_ends-least.ensures.least in
     let edge = to_z-of_z w128 c.edge_after.result fits ∙ (c.edge_after.ensures tap ∙ ap (edge_at p tap) low) in
     let sample = root_sample (wanted_at p tap) (edge_at p tap) s c.agreed.result c.wanted-low.result c.wanted-high.result _
-        (λ some. low)
-        (λ some. c.wanted-high.ensures.decision ∙ ap (λ n. wanted_at p tap (magnitude n 1)) (c.square_ends-least.ensures.greatest some))
-        edge c.agreed.ensures.decides c.agreed.ensures.ends c.agreed.ensures.edge in
+    (λ some. low)
+    (λ some. c.wanted-high.ensures.decision ∙ ap (λ n. wanted_at p tap (magnitude n 1)) (c.square_ends-least.ensures.greatest some))
+    edge c.agreed.ensures.decides c.agreed.ensures.ends c.agreed.ensures.edge in
     record {
       sample = sample;
       edge = tells_edge (wanted_at p tap) (least_root s) (greatest_root s) _ c.agreed.result

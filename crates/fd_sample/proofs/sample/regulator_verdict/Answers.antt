@@ -10,7 +10,7 @@ returns c =
     let p = c.args.probe.now in
     let t = c.args.taps in
     let sample = subst (λ (s : Bounds). IsRootSample (wanted_at p (own_tap p t)) (edge_at p (own_tap p t)) s c.over.result) c.squares.ensures
-        (subst (λ (n : ℕ). IsRootSample (wanted_at p n) (edge_at p n) c.squares.result c.over.result) c.own_tap-tap.ensures c.over.ensures.sample) in
+    (subst (λ (n : ℕ). IsRootSample (wanted_at p n) (edge_at p n) c.squares.result c.over.result) c.own_tap-tap.ensures c.over.ensures.sample) in
     record {
       sample = sample;
       edge = subst (λ (s : Bounds). TellsEdge (wanted_at p (own_tap p t)) (least_root s) (greatest_root s) c.over.result) c.squares.ensures
