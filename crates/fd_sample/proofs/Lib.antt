@@ -5,3 +5,4 @@ pub mod Samples
 pub mod Regulators
 pub mod Banks
 pub mod Probes
+pub mod Signed

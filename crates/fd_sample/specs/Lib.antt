@@ -3,4 +3,5 @@ pub mod Phasors
 pub mod Regulators
 pub mod Banks
 pub mod Probes
+pub mod Scripted
 pub mod Samples

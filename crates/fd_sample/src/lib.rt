@@ -13,8 +13,10 @@ mod regulator;
 mod relay;
 mod roots;
 mod sample;
+mod scripted;
 
 pub use bank_sample::bank_verdict;
 pub use controls::verdict;
 pub use probe::{CapProbe, LineEnd, Measured, Probe, RegProbe};
 pub use sample::regulator_verdict;
+pub use scripted::regulator_probe;
