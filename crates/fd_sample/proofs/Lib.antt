@@ -6,3 +6,4 @@ pub mod Regulators
 pub mod Banks
 pub mod Probes
 pub mod Signed
+pub mod Sites

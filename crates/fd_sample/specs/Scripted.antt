@@ -109,15 +109,16 @@ pub record IsPhase (phases : ℕ) (phase : ℤ) : Type 0 where
   pub least : pos 1 ≤ℤ phase
   pub most : phase ≤ℤ pos phases
 
--- a transformer, and a line, that stands among the first n complex unknowns
-pub record IsXfmrAt (n phases : ℕ) (at : Ends) : Type 0 where
-  pub first : IsSideOf n (node_count phases) at.first
-  pub second : IsSideOf n (node_count phases) at.second
+-- an element of so many phases with sides of m terminals that stands among the first n complex unknowns, of `places` real ones
+pub record IsAt (n places m phases : ℕ) (at : Ends) : Type 0 where
+  pub first : IsSideOf n m at.first
+  pub second : IsSideOf n m at.second
   pub branches : HasBranches n phases at
   pub few : n ≤ 2 ^ 29
+  pub room : 2 * n ≤ places
 
-pub record IsLineAt (n phases : ℕ) (at : Ends) : Type 0 where
-  pub first : IsSideOf n phases at.first
-  pub second : IsSideOf n phases at.second
-  pub branches : HasBranches n phases at
-  pub few : n ≤ 2 ^ 29
+abbrev pub IsXfmrAt : ℕ → ℕ → ℕ → Ends → Type 0
+IsXfmrAt n size phases at = IsAt n size (node_count phases) phases at
+
+abbrev pub IsLineAt : ℕ → ℕ → ℕ → Ends → Type 0
+IsLineAt n size phases at = IsAt n size phases phases at

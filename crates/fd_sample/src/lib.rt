@@ -19,4 +19,4 @@ pub use bank_sample::bank_verdict;
 pub use controls::verdict;
 pub use probe::{CapProbe, LineEnd, Measured, Probe, RegProbe};
 pub use sample::regulator_verdict;
-pub use scripted::regulator_probe;
+pub use scripted::{bank_probe, regulator_probe};

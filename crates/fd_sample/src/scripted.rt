@@ -1,18 +1,19 @@
 // The probes of controls by their settings in the script.
 ghost use Rattle.std.specs.Prelude.{◌≡◌, ℕ, ◌+◌, ◌-◌, ◌*◌, ◌/◌, ◌^◌, ◌<◌, ◌≤◌, ◌==◌, pos, ◌≤ℤ◌, nat_abs, if◌then◌else◌, length};
-ghost use Rattle.fd_exact.specs.Ranges.{IsBetween as IsWithin};
 ghost use Rattle.dss_profile.specs.InRange.{CapControlInRange, LineInRange, RegControlInRange, TransformerInRange, WindingInRange};
+ghost use Rattle.fd_system.specs.Terminals.{node_of};
 ghost use Rattle.fd_xfmr.specs.Leakage.{IsXfmr};
 ghost use Rattle.fd_xfmr.specs.Transformer.{IsBetween};
 ghost use Rattle.fd_xfmr.specs.Windings.{first_volts as first, second_volts as second};
 ghost use Rattle.fd_devices.specs.Data.{xfmr_data_of};
 ghost use Rattle.fd_sample.specs.Banks.{IsCapProbe};
 ghost use Rattle.fd_sample.specs.Regulators.{AreRegSettings, IsRegProbe};
-ghost use Rattle.fd_sample.specs.Scripted.{IsPhase, IsXfmrAt, phase_index as index_of, reg_probe, step_of, winding_of};
+ghost use Rattle.fd_sample.specs.Scripted.{IsLineAt, IsPhase, IsXfmrAt, cap_probe, line_end as end_of, measured_by, phase_index as index_of, reg_probe, side_of, step_of, winding_of};
 
-use crate::probe::RegProbe;
-use dss_profile::{RegControl, Transformer, Winding};
-use fd_arith::Ends;
+use crate::probe::{CapProbe, LineEnd, Measured, RegProbe};
+use dss_profile::{CapControl, Line, RegControl, Transformer, Winding};
+use dss_values::ControlQuantity;
+use fd_arith::{Ends, NodeAt, Nodes};
 use fd_devices::xfmr_data;
 use fd_system::{NodePair, phase_volts};
 use fd_xfmr::{PhaseAt, XfmrData, phase_at};
@@ -33,6 +34,7 @@ pub fn regulator_probe(
     requires at { IsBetween xfmr.now.phases at.now }
     ensures probe { result ≡ reg_probe control.now xfmr.now at.now transformer }
     ensures settings { AreRegSettings result }
+    ensures places { (n places : ℕ) → IsXfmrAt n places xfmr.now.phases at.now → IsRegProbe places result }
 {
     let data = xfmr_data(xfmr);
     let k = phase_index(control.ptphase);
@@ -60,10 +62,82 @@ pub fn regulator_probe(
     }
 }
 
+/// The probe of a bank's control, whose bank has this number among the banks and whose line stands at these ends. Takes no memory.
+pub fn bank_probe(control: &CapControl, line: &Line, at: &Ends, bank: u32) -> CapProbe
+    requires control { CapControlInRange control.now }
+    requires line { LineInRange line.now }
+    requires voltage_phase { IsPhase line.now.phases control.now.ptphase }
+    requires current_phase { IsPhase line.now.phases control.now.ctphase }
+    requires branch { at.now.branch < 2 ^ 30 }
+    ensures probe { result ≡ cap_probe control.now line.now at.now bank }
+    ensures places { (n places : ℕ) → IsLineAt n places line.now.phases at.now → IsCapProbe places result }
+{
+    CapProbe {
+        bank,
+        measured: measured(control, line, at),
+        on: control.onsetting,
+        off: control.offsetting,
+        delay: control.delay as u64,
+        delayoff: control.delayoff as u64,
+        deadtime: control.deadtime as u64,
+    }
+}
+
+// What a bank's control measures.
+fn measured(control: &CapControl, line: &Line, at: &Ends) -> Measured
+    requires control { CapControlInRange control.now }
+    requires voltage_phase { IsPhase line.now.phases control.now.ptphase }
+    requires current_phase { IsPhase line.now.phases control.now.ctphase }
+    requires few { line.now.phases ≤ 3 }
+    requires branch { at.now.branch < 2 ^ 30 }
+    ensures { result ≡ measured_by control.now.kind control.now line.now at.now }
+{
+    let is_second = control.terminal == 2;
+    match control.kind {
+        ControlQuantity::Voltage => Measured::Voltage {
+            node: node_at(side(at, is_second), phase_index(control.ptphase)),
+            ratio: natural(control.ptratio),
+        },
+        ControlQuantity::Current => Measured::Current {
+            branch: at.branch + phase_index(control.ctphase),
+            ratio: natural(control.ctratio),
+        },
+        ControlQuantity::Kvar => Measured::Kvar(line_end(line, at, is_second)),
+    }
+}
+
+// An end of a line.
+fn line_end(line: &Line, at: &Ends, is_second: bool) -> LineEnd
+    ensures { result ≡ end_of is_second line.now at.now }
+{
+    let nodes = side(at, is_second);
+    LineEnd {
+        phases: line.phases,
+        nodes: [node_at(nodes, 0), node_at(nodes, 1), node_at(nodes, 2)],
+        branch: at.branch,
+        is_second,
+    }
+}
+
+fn side(at: &Ends, is_second: bool) -> &Nodes
+    ensures { result.now ≡ side_of is_second at.now }
+{
+    if is_second { &at.second } else { &at.first }
+}
+
+// The node of a phase; ground where there is none.
+fn node_at(nodes: &Nodes, k: u32) -> NodeAt
+    ensures { result ≡ node_of nodes.now k }
+{
+    match nodes.as_slice().get(k as usize) {
+        Some(node) => *node,
+        None => NodeAt::Ground,
+    }
+}
+
 // A number of the script as a natural one.
 fn natural(n: i128) -> u128
-    ensures value { result ≡ nat_abs n }
-    ensures within { (low high : ℕ) → IsWithin (pos low) (pos high) n → (low ≤ result) × (result ≤ high) }
+    ensures { result ≡ nat_abs n }
 {
     n.unsigned_abs()
 }

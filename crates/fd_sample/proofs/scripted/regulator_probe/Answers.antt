@@ -11,6 +11,7 @@ use Rattle.fd_devices.specs.Data.{xfmr_data_of}
 use Rattle.dss_profile.specs.declared.transformer.Winding.{Winding}
 use Rattle.fd_sample.specs.Scripted.{phase_index, step_of}
 use Rattle.fd_sample.proofs.Signed.{back, back_narrow, size_between, size_within}
+use Rattle.fd_sample.proofs.Sites.{reg_places}
 use Rattle.fd_sample.proofs.scripted.regulator_probe.Goals as goal
 
 pub phase_at-requires-clause-k_in : goal.phase_at-requires-clause-k_in
@@ -29,16 +30,16 @@ returns-clause-probe c =
     let k : c.phase_index-k.result ≡ phase_index s.ptphase = c.phase_index-k.ensures.value ∙ ap phase_index same in
     let d = c.xfmr_data-data.ensures.value in
     let place : c.phase_at.result ≡ phase_at (xfmr_data_of c.args.xfmr.now) c.args.at.now (phase_index s.ptphase) =
-        c.phase_at.ensures.place ∙ (λ i. phase_at (d i) c.args.at.now (k i)) in
+    c.phase_at.ensures.place ∙ (λ i. phase_at (d i) c.args.at.now (k i)) in
     let nodes = c.own_nodes.ensures ∙ ap (λ (p : PhaseAt). cond t p.winding2 p.winding1) place in
     let first = c.first_volts.ensures.value ∙ ap (λ (e : XfmrData). nat_abs (first_volts e)) d in
     let second = c.second_volts.ensures.value ∙ ap (λ (e : XfmrData). nat_abs (second_volts e)) d in
     let w = c.own_winding-winding.ensures.winding in
     let step = c.tap_step.ensures.value ∙ ap step_of w in
-    let vreg = c.natural.ensures.value ∙ ap nat_abs (back (pos (1 * 1_000_000_000)) (pos (1_000_000 * 1_000_000_000)) s.vreg c.requires.control.vreg (omega (arith, ints)) (omega (arith, ints))) in
-    let band = c.natural-2.ensures.value ∙ ap nat_abs (back (pos 1_000_000) (pos (1000 * 1_000_000_000)) s.band c.requires.control.band (omega (arith, ints)) (omega (arith, ints))) in
-    let ptratio = c.natural-3.ensures.value ∙ ap nat_abs (back (pos 1_000_000) (pos (1_000_000 * 1_000_000_000)) s.ptratio c.requires.control.ptratio (omega (arith, ints)) (omega (arith, ints))) in
-    let ctprim = c.natural-4.ensures.value ∙ ap nat_abs (back (pos 1_000_000) (pos (1_000_000 * 1_000_000_000)) s.ctprim c.requires.control.ctprim (omega (arith, ints)) (omega (arith, ints))) in
+    let vreg = c.natural.ensures ∙ ap nat_abs (back (pos (1 * 1_000_000_000)) (pos (1_000_000 * 1_000_000_000)) s.vreg c.requires.control.vreg (omega (arith, ints)) (omega (arith, ints))) in
+    let band = c.natural-2.ensures ∙ ap nat_abs (back (pos 1_000_000) (pos (1000 * 1_000_000_000)) s.band c.requires.control.band (omega (arith, ints)) (omega (arith, ints))) in
+    let ptratio = c.natural-3.ensures ∙ ap nat_abs (back (pos 1_000_000) (pos (1_000_000 * 1_000_000_000)) s.ptratio c.requires.control.ptratio (omega (arith, ints)) (omega (arith, ints))) in
+    let ctprim = c.natural-4.ensures ∙ ap nat_abs (back (pos 1_000_000) (pos (1_000_000 * 1_000_000_000)) s.ctprim c.requires.control.ctprim (omega (arith, ints)) (omega (arith, ints))) in
     let r = back (neg_ℤ (pos (1000 * 1_000_000_000))) (pos (1000 * 1_000_000_000)) s.r c.requires.control.r (omega (arith, ints)) (omega (arith, ints)) in
     let x = back (neg_ℤ (pos (1000 * 1_000_000_000))) (pos (1000 * 1_000_000_000)) s.x c.requires.control.x (omega (arith, ints)) (omega (arith, ints)) in
     λ i. record {
@@ -65,10 +66,10 @@ returns-clause-probe c =
 pub returns-clause-settings : goal.returns-clause-settings
 returns-clause-settings c =
     let s = c.args.control.now in
-    let vreg = c.natural.ensures.value ∙ ap nat_abs (back (pos (1 * 1_000_000_000)) (pos (1_000_000 * 1_000_000_000)) s.vreg c.requires.control.vreg (omega (arith, ints)) (omega (arith, ints))) in
-    let band = c.natural-2.ensures.value ∙ ap nat_abs (back (pos 1_000_000) (pos (1000 * 1_000_000_000)) s.band c.requires.control.band (omega (arith, ints)) (omega (arith, ints))) in
-    let ptratio = c.natural-3.ensures.value ∙ ap nat_abs (back (pos 1_000_000) (pos (1_000_000 * 1_000_000_000)) s.ptratio c.requires.control.ptratio (omega (arith, ints)) (omega (arith, ints))) in
-    let ctprim = c.natural-4.ensures.value ∙ ap nat_abs (back (pos 1_000_000) (pos (1_000_000 * 1_000_000_000)) s.ctprim c.requires.control.ctprim (omega (arith, ints)) (omega (arith, ints))) in
+    let vreg = c.natural.ensures ∙ ap nat_abs (back (pos (1 * 1_000_000_000)) (pos (1_000_000 * 1_000_000_000)) s.vreg c.requires.control.vreg (omega (arith, ints)) (omega (arith, ints))) in
+    let band = c.natural-2.ensures ∙ ap nat_abs (back (pos 1_000_000) (pos (1000 * 1_000_000_000)) s.band c.requires.control.band (omega (arith, ints)) (omega (arith, ints))) in
+    let ptratio = c.natural-3.ensures ∙ ap nat_abs (back (pos 1_000_000) (pos (1_000_000 * 1_000_000_000)) s.ptratio c.requires.control.ptratio (omega (arith, ints)) (omega (arith, ints))) in
+    let ctprim = c.natural-4.ensures ∙ ap nat_abs (back (pos 1_000_000) (pos (1_000_000 * 1_000_000_000)) s.ctprim c.requires.control.ctprim (omega (arith, ints)) (omega (arith, ints))) in
     let r = back (neg_ℤ (pos (1000 * 1_000_000_000))) (pos (1000 * 1_000_000_000)) s.r c.requires.control.r (omega (arith, ints)) (omega (arith, ints)) in
     let x = back (neg_ℤ (pos (1000 * 1_000_000_000))) (pos (1000 * 1_000_000_000)) s.x c.requires.control.x (omega (arith, ints)) (omega (arith, ints)) in
     let vreg_in = size_between (1 * 1_000_000_000) (1_000_000 * 1_000_000_000) s.vreg c.requires.control.vreg in
@@ -93,3 +94,6 @@ returns-clause-settings c =
       x = subst (λ (z : ℤ). nat_abs z ≤ 10 ^ 12) (sym x) x_in;
       most = c.requires.control.maxtapchange.most;
     }
+
+pub returns-clause-places : goal.returns-clause-places
+returns-clause-places c = λ n places h. reg_places c.args.control.now c.args.xfmr.now c.args.at.now c.args.transformer n places _ (returns-clause-probe c) (returns-clause-settings c) c.requires.phase h

@@ -1,0 +1,79 @@
+-- Where the devices that probes measure stand.
+use Rattle.std.proofs.Common.{◌≡◌, ℕ, suc, ◌+◌, ◌-◌, ◌*◌, ◌<◌, ◌≤◌, ◌^◌, ◌%◌, ℤ, pos, ◌≤ℤ◌, nat_abs, Bool, true, false, cond, List, [], ◌∷◌, length, get_or, ◌⊎◌, ⊎_elim, sym, subst, arith}
+use Rattle.std.specs.Prelude.{All, nat_eq}
+use Rattle.std.proofs.lemmas.Int.{ints}
+use Rattle.std.proofs.lemmas.List.{get_or_past}
+use Rattle.std.proofs.lemmas.List.Elements.{All-get_or}
+use Rattle.fd_arith.specs.declared.terms.Ends.{Ends}
+use Rattle.fd_arith.specs.declared.terms.NodeAt.{NodeAt}
+use Rattle.fd_arith.specs.declared.terms.NodeAt.TheVariants.{Ground, Node}
+use Rattle.fd_system.specs.declared.terminals.NodePair.{NodePair}
+use Rattle.fd_system.specs.declared.terminals.PhasePairs.{PhasePairs}
+use Rattle.fd_system.specs.declared.terminals.PhasePairs.TheVariants as pairs
+use Rattle.fd_system.specs.Residual.{IsPlace}
+use Rattle.fd_system.specs.Terminals.{node_of, second_node, pair_of}
+use Rattle.fd_xfmr.specs.Transformer.{phase_at}
+use Rattle.fd_xfmr.specs.Windings.{first_pairs, second_pairs}
+use Rattle.fd_equations.specs.Conditions.{IsAmong}
+use Rattle.dss_profile.specs.declared.regcontrol.RegControl.{RegControl}
+use Rattle.dss_profile.specs.declared.transformer.Transformer.{Transformer}
+use Rattle.fd_devices.specs.Data.{xfmr_data_of}
+use Rattle.fd_sample.specs.declared.probe.RegProbe.{RegProbe}
+use Rattle.fd_sample.specs.Regulators.{AreRegSettings, IsRegProbe}
+use Rattle.fd_sample.specs.Scripted.{IsAt, IsXfmrAt, IsPhase, phase_index, reg_probe}
+
+inside_or_past : (a b : ℕ) → (a < b) ⊎ (b ≤ a)
+inside_or_past a b = grind arith
+
+pub node_among : (n : ℕ) (ns : List NodeAt) (k : ℕ) → All (IsAmong n) ns → IsAmong n (node_of ns k)
+node_among n ns k h = ⊎_elim
+    (λ inside. All-get_or (IsAmong n) ns k Ground inside h)
+    (λ past. subst (IsAmong n) (sym (get_or_past ns k Ground past)) tt)
+    (inside_or_past k (length ns))
+
+pub place_among : (n places : ℕ) (node : NodeAt) → n ≤ 2 ^ 29 → 2 * n ≤ places → IsAmong n node → IsPlace places node
+place_among n places Ground few room h = tt
+place_among n places (Node k) few room h = (omega arith, omega arith)
+
+second_among : (n : ℕ) (p : PhasePairs) (ns : List NodeAt) (k : ℕ) → All (IsAmong n) ns → IsAmong n (second_node p ns k)
+second_among n pairs.OnePhase ns k h = node_among n ns 1 h
+second_among n pairs.Wye ns k h = tt
+second_among n pairs.DeltaNext ns k h = node_among n ns ((k + 1) % 3) h
+second_among n pairs.DeltaPrevious ns k h = node_among n ns ((k + 2) % 3) h
+
+record ArePlaces (places : ℕ) (p : NodePair) : Type 0 where
+  first : IsPlace places p.first
+  second : IsPlace places p.second
+
+pair_places : (n places : ℕ) (p : PhasePairs) (ns : List NodeAt) (k : ℕ) → n ≤ 2 ^ 29 → 2 * n ≤ places → All (IsAmong n) ns → ArePlaces places (pair_of p ns k)
+pair_places n places p ns k few room h = record {
+  first = place_among n places (node_of ns k) few room (node_among n ns k h);
+  second = place_among n places (second_node p ns k) few room (second_among n p ns k h);
+}
+
+either_pair : (t : Bool) (places : ℕ) (p q : NodePair) → ArePlaces places p → ArePlaces places q → ArePlaces places (cond t p q)
+either_pair true places p q h k = h
+either_pair false places p q h k = k
+
+index_below : (phases : ℕ) (phase : ℤ) → IsPhase phases phase → phase_index phase < phases
+index_below phases phase h = omega (arith, ints, h.least, h.most)
+
+pub branch_place : (n places m phases : ℕ) (at : Ends) (k : ℕ) → IsAt n places m phases at → k < phases → IsPlace places (Node (at.branch + k))
+branch_place n places m phases at k h less =
+    let below : at.branch + phases ≤ n = h.branches.below in
+    let few = h.few in
+    let room = h.room in
+    (omega arith, omega arith)
+
+-- the probe of a regulator's control at a transformer that stands among the unknowns
+pub reg_places : (control : RegControl) (t : Transformer) (at : Ends) (number n places : ℕ) (p : RegProbe) → p ≡ reg_probe control t at number →
+    AreRegSettings p → IsPhase t.phases control.ptphase → IsXfmrAt n places t.phases at → IsRegProbe places p
+reg_places control t at number n places p is settings phase h =
+    let k = phase_index control.ptphase in
+    let d = xfmr_data_of t in
+    let nodes = either_pair (nat_eq control.winding 2) places (pair_of (second_pairs d) at.second k) (pair_of (first_pairs d) at.first k)
+    (pair_places n places (second_pairs d) at.second k h.few h.room h.second.below)
+    (pair_places n places (first_pairs d) at.first k h.few h.room h.first.below) in
+    let own = subst (λ (q : RegProbe). ArePlaces places q.nodes × IsPlace places (Node q.branch)) (sym is)
+    (nodes, branch_place n places _ t.phases at k h (index_below t.phases control.ptphase phase)) in
+    record { first = own.0.first; second = own.0.second; branch = own.1; settings = settings }
