@@ -3,7 +3,14 @@ use Rattle.std.proofs.Common.{◌≡◌, ℕ, suc, ◌+◌, ◌-◌, ◌*◌, �
 use Rattle.std.specs.Prelude.{All, nat_eq}
 use Rattle.std.proofs.lemmas.Int.{ints}
 use Rattle.std.proofs.lemmas.List.{get_or_past}
-use Rattle.std.proofs.lemmas.List.Elements.{All-get_or}
+use Rattle.std.proofs.lemmas.List.Elements.{All-get_or, All-cons, All-nil}
+use Rattle.fd_exact.specs.Ranges.{IsBetween}
+use Rattle.dss_values.specs.declared.words.ControlQuantity.{ControlQuantity}
+use Rattle.dss_values.specs.declared.words.ControlQuantity.TheVariants as quantity
+use Rattle.dss_profile.specs.InRange.{CapControlInRange}
+use Rattle.dss_profile.specs.declared.capcontrol.CapControl.{CapControl}
+use Rattle.dss_profile.specs.declared.line.Line.{Line}
+use Rattle.fd_sample.specs.declared.probe.CapProbe.{CapProbe}
 use Rattle.fd_arith.specs.declared.terms.Ends.{Ends}
 use Rattle.fd_arith.specs.declared.terms.NodeAt.{NodeAt}
 use Rattle.fd_arith.specs.declared.terms.NodeAt.TheVariants.{Ground, Node}
@@ -20,7 +27,9 @@ use Rattle.dss_profile.specs.declared.transformer.Transformer.{Transformer}
 use Rattle.fd_devices.specs.Data.{xfmr_data_of}
 use Rattle.fd_sample.specs.declared.probe.RegProbe.{RegProbe}
 use Rattle.fd_sample.specs.Regulators.{AreRegSettings, IsRegProbe}
-use Rattle.fd_sample.specs.Scripted.{IsAt, IsXfmrAt, IsPhase, phase_index, reg_probe}
+use Rattle.fd_sample.specs.Banks.{IsCapProbe, IsLineEnd, IsMeasured, IsRatio}
+use Rattle.fd_sample.specs.Scripted.{IsAt, IsLineAt, IsXfmrAt, IsPhase, cap_probe, line_end, measured_by, phase_index, reg_probe, side_of}
+use Rattle.fd_sample.proofs.Signed.{size_between, size_within}
 
 inside_or_past : (a b : ℕ) → (a < b) ⊎ (b ≤ a)
 inside_or_past a b = grind arith
@@ -77,3 +86,41 @@ reg_places control t at number n places p is settings phase h =
     let own = subst (λ (q : RegProbe). ArePlaces places q.nodes × IsPlace places (Node q.branch)) (sym is)
     (nodes, branch_place n places _ t.phases at k h (index_below t.phases control.ptphase phase)) in
     record { first = own.0.first; second = own.0.second; branch = own.1; settings = settings }
+
+-- ---- the probe of a bank's control at a line that stands among the unknowns
+
+side_among : (t : Bool) (n m places phases : ℕ) (at : Ends) → IsAt n places m phases at → All (IsAmong n) (side_of t at)
+side_among true n m places phases at h = h.second.below
+side_among false n m places phases at h = h.first.below
+
+ratio_of : (z : ℤ) → IsBetween (pos 1_000_000) (pos (1_000_000 * 1_000_000_000)) z → IsRatio (nat_abs z)
+ratio_of z h = let w = size_between 1_000_000 (1_000_000 * 1_000_000_000) z h in record { least = w.0; most = w.1 }
+
+end_places : (t : Bool) (l : Line) (at : Ends) (n places : ℕ) → l.phases ≤ 3 → IsLineAt n places l.phases at → IsLineEnd places (line_end t l at)
+end_places t l at n places few h =
+    let node : (k : ℕ) → IsPlace places (node_of (side_of t at) k) = λ k. place_among n places (node_of (side_of t at) k) h.few h.room (node_among n (side_of t at) k (side_among t n l.phases places l.phases at h)) in
+    record {
+      phases = few;
+      nodes = All-cons (IsPlace places) (node_of (side_of t at) 0) (node_of (side_of t at) 1 ∷ node_of (side_of t at) 2 ∷ []) (node 0)
+          (All-cons (IsPlace places) (node_of (side_of t at) 1) (node_of (side_of t at) 2 ∷ []) (node 1)
+          (All-cons (IsPlace places) (node_of (side_of t at) 2) [] (node 2) (All-nil (IsPlace places))));
+      branches = λ k less. branch_place n places l.phases l.phases at k h less;
+    }
+
+measured_places : (q : ControlQuantity) (control : CapControl) (l : Line) (at : Ends) (n places : ℕ) → CapControlInRange control → l.phases ≤ 3 →
+    IsPhase l.phases control.ctphase → IsLineAt n places l.phases at → IsMeasured places (measured_by q control l at)
+measured_places quantity.Voltage control l at n places range few phase h =
+    let t = nat_eq control.terminal 2 in
+    let k = phase_index control.ptphase in
+    (place_among n places (node_of (side_of t at) k) h.few h.room (node_among n (side_of t at) k (side_among t n l.phases places l.phases at h)), ratio_of control.ptratio range.ptratio)
+measured_places quantity.Current control l at n places range few phase h =
+    (branch_place n places l.phases l.phases at (phase_index control.ctphase) h (index_below l.phases control.ctphase phase), ratio_of control.ctratio range.ctratio)
+measured_places quantity.Kvar control l at n places range few phase h = end_places (nat_eq control.terminal 2) l at n places few h
+
+pub cap_places : (control : CapControl) (l : Line) (at : Ends) (number n places : ℕ) (p : CapProbe) → p ≡ cap_probe control l at number →
+    CapControlInRange control → l.phases ≤ 3 → IsPhase l.phases control.ctphase → IsLineAt n places l.phases at → IsCapProbe places p
+cap_places control l at number n places p is range few phase h = subst (IsCapProbe places) (sym is) (record {
+  measured = measured_places control.kind control l at n places range few phase h;
+  on = size_within (1_000_000 * 1_000_000_000) control.onsetting range.onsetting;
+  off = size_within (1_000_000 * 1_000_000_000) control.offsetting range.offsetting;
+})
