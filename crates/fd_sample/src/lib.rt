@@ -1,4 +1,18 @@
-//! Samples of controls over a ball of states: a control's verdict, or between which ends it is undecided.
+// Samples of controls over a ball of states: what a control wants at every state within the radii of a centre, or between which ends it is
+// undecided.
+//
+// It promises that a sample's interval is the control's expression in the interval operators, in the stated order, and holds the control's
+// quantity at every state of the ball, whatever its denominator. So a decided `verdict` is what the control wants at each of these states,
+// steps included. `Undecided` comes exactly where the least and the greatest value of the interval want different things, or the interval is
+// ALL, and tells the ends and the edge at which the decision changes. A sample takes no memory, and nothing of it grows with the circuit.
+//
+// In `specs/`: `Balls` (states, and the intervals of unknowns), `Phasors` (magnitudes, which are known by their squares), `Regulators` and
+// `Banks` (the quantities, as fractions and as intervals), `Samples` (what an interval decides), `Probes` (both kinds of control), `Scripted`
+// (probes by settings of the script).
+//
+// Modules: `probe` (what is known of a control), `scripted` (by its settings), `intervals`, `phasors`, `relay` (a regulator's voltage),
+// `lineflow` (the reactive power that enters a line), `roots` (where magnitudes stand to edges), `regulator` and `bank` (what they want),
+// `ends` (what the ends of an interval decide), `sample` and `bank_sample` (their samples), `controls` (`verdict`).
 #![tactic(auto)]
 
 mod bank;
@@ -20,3 +34,6 @@ pub use controls::verdict;
 pub use probe::{CapProbe, LineEnd, Measured, Probe, RegProbe};
 pub use sample::regulator_verdict;
 pub use scripted::{bank_probe, regulator_probe};
+
+#[cfg(test)]
+mod tests;
