@@ -1,9 +1,9 @@
 -- What a bank's control samples over a ball holds what it would sample at each state.
-use Rattle.std.proofs.Common.{◌≡◌, ℕ, zero, suc, ◌+◌, ◌*◌, ◌<◌, ◌≤◌, ◌^◌, ℤ, pos, nat_abs, Bool, true, false, cond, List, [], ◌∷◌, length, get_or, Some, None, ◌⊎◌, ⊎_elim, lit<, sym, ap, ◌∙◌, subst, arith}
+use Rattle.std.proofs.Common.{◌≡◌, ℕ, zero, suc, ◌+◌, ◌<◌, ◌≤◌, ◌^◌, ℤ, pos, nat_abs, Bool, true, false, cond, List, length, Some, None, ◌⊎◌, ⊎_elim, lit<, sym, ap, ◌∙◌, subst, arith}
 use Rattle.std.specs.Prelude.{All, IsSome, IfSome}
 use Rattle.std.proofs.lemmas.List.{get_or_past}
 use Rattle.std.proofs.lemmas.List.Elements.{All-get_or}
-use Rattle.fd_exact.specs.Fractions.{Fraction, fraction, ◌⊕◌, ◌⊗◌, opposite}
+use Rattle.fd_exact.specs.Fractions.{fraction, ◌⊕◌, ◌⊗◌, opposite}
 use Rattle.fd_exact.specs.States.{State}
 use Rattle.fd_exact.specs.Sums.{sum_f}
 use Rattle.fd_arith.specs.Interval.{Bounds, Holds, negation, area_of}
@@ -25,7 +25,7 @@ use Rattle.fd_sample.specs.declared.probe.LineEnd.{LineEnd}
 use Rattle.fd_sample.specs.declared.probe.Measured.{Measured}
 use Rattle.fd_sample.specs.declared.probe.Measured.TheVariants as measured
 use Rattle.fd_sample.specs.Balls.{IsInBall, interval_at}
-use Rattle.fd_sample.specs.Phasors.{factor, scaled_by, negative_interval, scaled_interval, square_interval, square_size, size_of}
+use Rattle.fd_sample.specs.Phasors.{factor, scaled_by, negative_interval, scaled_interval, square_size, size_of}
 use Rattle.fd_sample.specs.Banks.{least_of, greatest_of, IsLineEnd, IsMeasured, IsRatio, entering, entering_interval, reactive, reactive_interval, reactive_total, ratio_interval, cap_interval, cap_quantity, bank_of, cap_decision, cap_edge, kind_of, IsCapSample}
 use Rattle.fd_sample.specs.Samples.{IsRootSample, IsValueSample, TellsEdge, decision_of, agreed, least_root, greatest_root, least_value, greatest_value}
 use Rattle.fd_sample.proofs.HeldUnknowns.{node_held}

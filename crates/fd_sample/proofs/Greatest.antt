@@ -1,5 +1,5 @@
 -- The greatest number at which a test holds, from above.
-use Rattle.std.proofs.Common.{◌≡◌, ℕ, zero, suc, ◌-◌, ◌<◌, Bool, true, false, not, cond, refl, ap, ◌∙◌, arith}
+use Rattle.std.proofs.Common.{◌≡◌, ℕ, zero, suc, ◌-◌, ◌<◌, Bool, true, false, cond, ap, ◌∙◌, arith}
 use Rattle.fd_regctl.specs.Regulator.{greatest_within}
 
 -- where the last test holds, and where it doesn't

@@ -1,17 +1,15 @@
 -- The intervals of a ball hold the unknowns of its states.
-use Rattle.std.proofs.Common.{◌≡◌, ℕ, ◌+◌, ◌*◌, ◌<◌, ◌≤◌, ℤ, pos, ◌+ℤ◌, ◌-ℤ◌, ◌*ℤ◌, ◌≤ℤ◌, neg_ℤ, nat_abs, List, length, lit<, arith}
+use Rattle.std.proofs.Common.{ℕ, ◌+◌, ◌*◌, ◌<◌, ◌≤◌, ℤ, pos, ◌+ℤ◌, ◌-ℤ◌, ◌*ℤ◌, ◌≤ℤ◌, nat_abs, List, length, lit<, arith}
 use Rattle.std.proofs.lemmas.Int.{ints}
-use Rattle.fd_exact.specs.Fractions.{Fraction, fraction, nothing}
+use Rattle.fd_exact.specs.Fractions.{fraction, nothing}
 use Rattle.fd_exact.specs.Integers.{add-mul, sub-mul, comm}
-use Rattle.fd_exact.specs.States.{State, part, away}
-use Rattle.fd_arith.specs.Interval.{Bounds, Holds}
+use Rattle.fd_exact.specs.States.{State, part}
+use Rattle.fd_arith.specs.Interval.{Holds}
 use Rattle.fd_arith.specs.Enclosing.{capped-holds}
 use Rattle.fd_arith.specs.Capping.{point-holds}
-use Rattle.fd_arith.specs.declared.cx.Cx.{Cx}
 use Rattle.fd_arith.specs.declared.terms.NodeAt.{NodeAt}
 use Rattle.fd_arith.specs.declared.terms.NodeAt.TheVariants.{Ground, Node}
 use Rattle.fd_system.specs.declared.terminals.NodePair.{NodePair}
-use Rattle.fd_system.specs.Complex.{Complex}
 use Rattle.fd_system.specs.Equations.{unknown}
 use Rattle.fd_system.specs.Residual.{IsPlace}
 use Rattle.fd_xfmr.specs.Transformer.{across}

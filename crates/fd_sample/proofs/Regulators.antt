@@ -1,10 +1,9 @@
 -- What a regulator's control samples over a ball holds what it would sample at each state, and where ALL differs.
-use Rattle.std.proofs.Common.{◌≡◌, ◌≢◌, ℕ, ◌+◌, ◌*◌, ◌<◌, ◌≤◌, ◌^◌, ℤ, pos, negsuc, ◌+ℤ◌, ◌-ℤ◌, nat_abs, Bool, true, false, cond, List, length, Some, None, lit<, refl, sym, ap, ◌∙◌, subst, arith}
-use Rattle.std.specs.Prelude.{nat_lt}
+use Rattle.std.proofs.Common.{◌≡◌, ◌≢◌, ℕ, ◌*◌, ◌<◌, ◌≤◌, ◌^◌, ℤ, pos, negsuc, ◌+ℤ◌, ◌-ℤ◌, nat_abs, Bool, true, false, cond, List, length, Some, None, lit<, refl, sym, ap, ◌∙◌, subst, arith}
 use Rattle.std.proofs.Math.Nat.{mul-pos, mul-le-mul}
 use Rattle.std.proofs.lemmas.Bool.Decides.{nat_tests, Decides-ltb}
 use Rattle.std.proofs.lemmas.Int.{ints}
-use Rattle.fd_exact.specs.Fractions.{Fraction, fraction}
+use Rattle.fd_exact.specs.Fractions.{fraction}
 use Rattle.fd_exact.specs.Nearest.{near_within}
 use Rattle.fd_exact.specs.States.{State}
 use Rattle.fd_arith.specs.Interval.{Bounds, Holds}

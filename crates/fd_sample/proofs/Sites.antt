@@ -1,5 +1,5 @@
 -- Where the devices that probes measure stand.
-use Rattle.std.proofs.Common.{◌≡◌, ℕ, suc, ◌+◌, ◌-◌, ◌*◌, ◌<◌, ◌≤◌, ◌^◌, ◌%◌, ℤ, pos, ◌≤ℤ◌, nat_abs, Bool, true, false, cond, List, [], ◌∷◌, length, get_or, ◌⊎◌, ⊎_elim, sym, subst, arith}
+use Rattle.std.proofs.Common.{◌≡◌, ℕ, ◌+◌, ◌*◌, ◌<◌, ◌≤◌, ◌^◌, ◌%◌, ℤ, pos, nat_abs, Bool, true, false, cond, List, [], ◌∷◌, length, ◌⊎◌, ⊎_elim, sym, subst, arith}
 use Rattle.std.specs.Prelude.{All, nat_eq}
 use Rattle.std.proofs.lemmas.Int.{ints}
 use Rattle.std.proofs.lemmas.List.{get_or_past}
@@ -19,7 +19,6 @@ use Rattle.fd_system.specs.declared.terminals.PhasePairs.{PhasePairs}
 use Rattle.fd_system.specs.declared.terminals.PhasePairs.TheVariants as pairs
 use Rattle.fd_system.specs.Residual.{IsPlace}
 use Rattle.fd_system.specs.Terminals.{node_of, second_node, pair_of}
-use Rattle.fd_xfmr.specs.Transformer.{phase_at}
 use Rattle.fd_xfmr.specs.Windings.{first_pairs, second_pairs}
 use Rattle.fd_equations.specs.Conditions.{IsAmong}
 use Rattle.dss_profile.specs.declared.regcontrol.RegControl.{RegControl}

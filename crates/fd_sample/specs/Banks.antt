@@ -1,6 +1,6 @@
 -- The quantity of a bank's control (OpenDSS manual, CapControl, property type): the magnitude of a node's voltage or of a branch's current over
 -- the ratio of its transformer, or the reactive power that enters a line at one of its ends.
-use Rattle.std.specs.Prelude.{◌≡◌, ℕ, zero, suc, ◌+◌, ◌*◌, ◌^◌, ◌<◌, ◌≤◌, ℤ, pos, nat_abs, Bool, true, false, if◌then◌else◌, List, length, get_or, All, Option, Some}
+use Rattle.std.specs.Prelude.{◌≡◌, ℕ, zero, suc, ◌+◌, ◌*◌, ◌^◌, ◌<◌, ◌≤◌, ℤ, pos, nat_abs, Bool, if◌then◌else◌, List, All, Some}
 use Rattle.fd_exact.specs.Fractions.{Fraction, fraction, opposite}
 use Rattle.fd_exact.specs.Rounding.{near_div}
 use Rattle.fd_exact.specs.States.{State}
@@ -23,7 +23,7 @@ use Rattle.fd_sample.specs.declared.probe.Measured.{Measured}
 use Rattle.fd_sample.specs.declared.probe.Measured.TheVariants as measured
 use Rattle.fd_sample.specs.Balls.{IsInBall, interval_at}
 use Rattle.fd_sample.specs.Phasors.{scaled_by, size_of, factor, negative_interval, scaled_interval, square_interval}
-use Rattle.fd_sample.specs.Samples.{IsRootSample, IsValueSample, TellsEdge, decision_of, least_root, greatest_root, least_value, greatest_value}
+use Rattle.fd_sample.specs.Samples.{IsRootSample, IsValueSample, decision_of, least_root, greatest_root, least_value, greatest_value}
 
 -- ---- settings
 

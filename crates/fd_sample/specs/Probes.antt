@@ -1,15 +1,13 @@
 -- Probes: what a control wants at the positions of a circuit's taps and banks, and its sample over a ball.
-use Rattle.std.specs.Prelude.{◌≡◌, ℕ, ◌<◌, ℤ, Bool, List, length, get_or, false, All, IsSome, Some}
+use Rattle.std.specs.Prelude.{◌≡◌, ℕ, ◌<◌, ℤ, List, length, IsSome, Some}
 use Rattle.fd_exact.specs.States.{State}
 use Rattle.fd_arith.specs.Interval.{Bounds}
-use Rattle.fd_xfmr.specs.Leakage.{AreTaps}
 use Rattle.fd_queue.specs.Controls.{Positions, Control, Regulates, Switches, BankSwitch, pair_at, is_closed}
 use Rattle.fd_queue.specs.Decisions.{Decision}
 use Rattle.fd_queue.specs.Quantities.{Quantity}
 use Rattle.fd_queue.specs.declared.verdict.Verdict.{Verdict}
 use Rattle.fd_devices.specs.declared.settings.Positions.{Positions as CodePositions}
 use Rattle.fd_sample.specs.declared.probe.CapProbe.{CapProbe}
-use Rattle.fd_sample.specs.declared.probe.RegProbe.{RegProbe}
 use Rattle.fd_sample.specs.declared.probe.Probe.{Probe}
 use Rattle.fd_sample.specs.declared.probe.Probe.TheVariants as probe
 use Rattle.fd_sample.specs.Balls.{IsInBall}

@@ -1,6 +1,6 @@
 -- The quantity of a regulator's control: the magnitude of V / ptratio - (R + j X) I / CTprim, V being the voltage of its winding and I the
 -- current that the winding delivers (OpenDSS manual, RegControl, line drop compensation).
-use Rattle.std.specs.Prelude.{◌≡◌, Bool, not, ℕ, ◌+◌, ◌*◌, ◌^◌, ◌<◌, ◌≤◌, ℤ, pos, nat_abs, if◌then◌else◌, List, length, Some}
+use Rattle.std.specs.Prelude.{◌≡◌, Bool, not, ℕ, ◌*◌, ◌^◌, ◌≤◌, ℤ, pos, nat_abs, if◌then◌else◌, List, Some}
 use Rattle.fd_exact.specs.Fractions.{Fraction, fraction}
 use Rattle.fd_exact.specs.States.{State}
 use Rattle.fd_arith.specs.Interval.{Bounds}

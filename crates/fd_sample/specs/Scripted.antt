@@ -1,6 +1,5 @@
 -- The probes of a circuit's controls, by their settings in the script and by where their transformers, banks and lines stand.
-use Rattle.std.specs.Prelude.{◌≡◌, ℕ, ◌+◌, ◌-◌, ◌*◌, ◌/◌, ◌^◌, ◌<◌, ◌≤◌, ◌==◌, ℤ, pos, ◌≤ℤ◌, nat_abs, Bool, true, false, if◌then◌else◌, List, [], ◌∷◌, length, take, map, filter, slice_get, Option, Some}
-use Rattle.fd_exact.specs.Sums.{list_n}
+use Rattle.std.specs.Prelude.{ℕ, ◌+◌, ◌-◌, ◌*◌, ◌/◌, ◌^◌, ◌≤◌, ◌==◌, ℤ, pos, ◌≤ℤ◌, nat_abs, Bool, if◌then◌else◌, List, [], ◌∷◌}
 use Rattle.fd_arith.specs.declared.terms.Ends.{Ends}
 use Rattle.fd_arith.specs.declared.terms.NodeAt.{NodeAt}
 use Rattle.fd_system.specs.Terminals.{node_count, node_of}
@@ -9,23 +8,16 @@ use Rattle.fd_xfmr.specs.Windings.{first_volts, second_volts}
 use Rattle.dss_values.specs.declared.words.ControlQuantity.{ControlQuantity}
 use Rattle.dss_values.specs.declared.words.ControlQuantity.TheVariants as quantity
 use Rattle.dss_profile.specs.declared.capcontrol.CapControl.{CapControl}
-use Rattle.dss_profile.specs.declared.element.Element.{Element}
-use Rattle.dss_profile.specs.declared.element.Element.TheVariants as the
 use Rattle.dss_profile.specs.declared.line.Line.{Line}
-use Rattle.dss_profile.specs.declared.names.ElementName.{ElementName}
 use Rattle.dss_profile.specs.declared.regcontrol.RegControl.{RegControl}
 use Rattle.dss_profile.specs.declared.transformer.Transformer.{Transformer}
 use Rattle.dss_profile.specs.declared.transformer.Winding.{Winding}
-use Rattle.dss_layout.specs.Layout.{Elements, ends_of, layout_of}
 use Rattle.fd_devices.specs.Data.{xfmr_data_of}
-use Rattle.fd_devices.specs.Settings.{bank_count, tap_count}
 use Rattle.fd_devices.specs.Sound.{HasBranches, IsSideOf}
 use Rattle.fd_sample.specs.declared.probe.CapProbe.{CapProbe}
 use Rattle.fd_sample.specs.declared.probe.LineEnd.{LineEnd}
 use Rattle.fd_sample.specs.declared.probe.Measured.{Measured}
 use Rattle.fd_sample.specs.declared.probe.Measured.TheVariants as measured
-use Rattle.fd_sample.specs.declared.probe.Probe.{Probe}
-use Rattle.fd_sample.specs.declared.probe.Probe.TheVariants as probe
 use Rattle.fd_sample.specs.declared.probe.RegProbe.{RegProbe}
 
 -- ---- a regulator's control

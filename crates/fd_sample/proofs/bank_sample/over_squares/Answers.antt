@@ -1,4 +1,4 @@
-use Rattle.std.proofs.Common.{◌≡◌, ◌∙◌, ap, sym, subst, rules, ℕ, ℤ, FitsSigned}
+use Rattle.std.proofs.Common.{◌∙◌, ap, sym, subst, rules, ℕ, ℤ, FitsSigned}
 use Rattle.std.specs.Int.{w128}
 use Rattle.std.proofs.lemmas.Int.{to_z-of_z}
 use Rattle.fd_queue.specs.Decisions.{IsEdge}

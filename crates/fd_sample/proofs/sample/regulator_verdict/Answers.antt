@@ -1,6 +1,6 @@
 use Rattle.std.proofs.Common.{ℕ, ◌∙◌, sym, subst}
 use Rattle.fd_arith.specs.Interval.{Bounds}
-use Rattle.fd_sample.specs.Regulators.{wanted_at, edge_at, own_tap, reg_interval}
+use Rattle.fd_sample.specs.Regulators.{wanted_at, edge_at, own_tap}
 use Rattle.fd_sample.specs.Samples.{IsRootSample, TellsEdge, least_root, greatest_root}
 use Rattle.fd_sample.proofs.Regulators.{reg_of_all}
 use Rattle.fd_sample.proofs.sample.regulator_verdict.Goals as goal

@@ -1,4 +1,4 @@
-use Rattle.std.proofs.Common.{◌≡◌, ℤ, pos, neg_ℤ, ◌*◌, arith}
+use Rattle.std.proofs.Common.{pos, neg_ℤ, ◌*◌, arith}
 use Rattle.std.proofs.lemmas.Int.{ints}
 use Rattle.fd_sample.proofs.Signed.{back}
 use Rattle.fd_sample.proofs.Sites.{cap_places}

@@ -1,14 +1,12 @@
 use Rattle.std.proofs.Common.{◌≡◌, ◌≤◌, ◌∙◌, ap, sym, subst, ℕ, ◌+◌, ◌*◌, ◌^◌, ℤ, pos, neg_ℤ, ◌≤ℤ◌, nat_eq, cond, to_z, of_z, arith}
-use Rattle.std.specs.Int.{w32, w128}
+use Rattle.std.specs.Int.{w32}
 use Rattle.std.specs.Prelude.{nat_abs}
 use Rattle.std.proofs.lemmas.Int.{ints}
-use Rattle.fd_exact.specs.Ranges.{IsBetween}
 use Rattle.fd_xfmr.specs.declared.data.XfmrData.{XfmrData}
 use Rattle.fd_xfmr.specs.declared.terms.PhaseAt.{PhaseAt}
 use Rattle.fd_xfmr.specs.Transformer.{phase_at}
 use Rattle.fd_xfmr.specs.Windings.{first_volts, second_volts}
 use Rattle.fd_devices.specs.Data.{xfmr_data_of}
-use Rattle.dss_profile.specs.declared.transformer.Winding.{Winding}
 use Rattle.fd_sample.specs.Scripted.{phase_index, step_of}
 use Rattle.fd_sample.proofs.Signed.{back, back_narrow, size_between, size_within}
 use Rattle.fd_sample.proofs.Sites.{reg_places}
