@@ -6,4 +6,5 @@ pub mod Regulators
 pub mod Banks
 pub mod Probes
 pub mod Signed
+pub mod Places
 pub mod Sites

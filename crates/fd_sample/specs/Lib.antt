@@ -4,4 +4,5 @@ pub mod Regulators
 pub mod Banks
 pub mod Probes
 pub mod Scripted
+pub mod Circuits
 pub mod Samples

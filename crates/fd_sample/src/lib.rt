@@ -17,6 +17,7 @@
 
 mod bank;
 mod bank_sample;
+mod circuit;
 mod controls;
 mod ends;
 mod intervals;
