@@ -8,3 +8,4 @@ pub mod ReadyNodes
 pub mod ReadySides
 pub mod ReadyPlaces
 pub mod Ready
+pub mod CallerLemmas

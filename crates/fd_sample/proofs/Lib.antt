@@ -7,4 +7,5 @@ pub mod Banks
 pub mod Probes
 pub mod Signed
 pub mod Places
+pub mod Standing
 pub mod Sites

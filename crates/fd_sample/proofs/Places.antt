@@ -1,7 +1,6 @@
 -- Places of elements in order.
-use Rattle.std.proofs.Common.{◌≡◌, ℕ, suc, ◌+◌, ◌++◌, ◌<◌, List, [], ◌∷◌, map, take, length, get_or, slice_get, Option, Some, None, sym, ap, ◌∙◌, add-one, arith}
+use Rattle.std.proofs.Common.{◌≡◌, ℕ, ◌+◌, ◌++◌, [], ◌∷◌, map, take, slice_get, Option, Some, None, sym, ap, ◌∙◌, add-one, arith}
 use Rattle.std.specs.Prelude.{IfSome}
-use Rattle.std.specs.Option.{option_map}
 use Rattle.std.proofs.Math.Seq.{take-suc}
 use Rattle.std.proofs.lemmas.Option.{slice_get-map, slice_get_within, get_or_from_slice_get}
 use Rattle.fd_exact.specs.Sums.{list_n}
@@ -25,5 +24,5 @@ before_next es k e h =
     let f = λ (x : ElementName × Element). tap_count x.1 in
     let within = slice_get_within es k e h in
     let taken : take (k + 1) es ≡ take k es ++ e ∷ [] =
-        ap (λ (n : ℕ). take n es) (add-one k) ∙ (take-suc es k e within ∙ ap (λ (x : ElementName × Element). take k es ++ x ∷ []) (get_or_from_slice_get es k e e h)) in
+    ap (λ (n : ℕ). take n es) (add-one k) ∙ (take-suc es k e within ∙ ap (λ (x : ElementName × Element). take k es ++ x ∷ []) (get_or_from_slice_get es k e e h)) in
     ap (list_n f) taken ∙ (list_n-append f (take k es) (e ∷ []) ∙ ap (λ (n : ℕ). list_n f (take k es) + n) (last_one f e))

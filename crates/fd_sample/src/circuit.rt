@@ -1,20 +1,101 @@
 // The probes of a circuit's controls.
-ghost use Rattle.std.specs.Prelude.{◌≡◌, ℕ, ◌+◌, ◌<◌, ◌≤◌, map, take, length, is_some, slice_get, All, IfOk, IfSome, Some, Option, option_copied};
+ghost use Rattle.std.specs.Prelude.{◌≡◌, ℕ, ◌+◌, ◌<◌, ◌≤◌, map, take, length, is_some, IsSome, slice_get, All, IfOk, IfSome, Some, Option, option_copied};
 ghost use Rattle.std.specs.List.{position};
 ghost use Rattle.std.specs.Map.{lookup};
+ghost use Rattle.dss_profile.specs.InRange.{RegControlInRange};
+ghost use Rattle.dss_profile.specs.declared.names.Class.TheVariants as Class;
 ghost use Rattle.dss_profile.specs.SameElement.{same_element};
 ghost use Rattle.dss_circuit.specs.Limits.{most_elements};
 ghost use Rattle.dss_layout.specs.Layout.{layout_of, size_of};
 ghost use Rattle.dss_ready.specs.Lookups.{element_given};
 ghost use Rattle.dss_ready.specs.Ready.{HasPassed};
 ghost use Rattle.fd_devices.specs.Settings.{tap_count as taps_of};
-ghost use Rattle.fd_sample.specs.Circuits.{IsRegControlIn, IsRegProbeIn, element_at, place_given as place_of, transformers_before as count_before};
+ghost use Rattle.fd_sample.specs.Circuits.{IsRegControlIn, IsRegProbeAt, IsRegProbeIn, IsXfmrFor, element_at, transformer_in, place_given as place_of, transformers_before as count_before};
 ghost use Rattle.fd_sample.specs.Regulators.{IsRegProbe};
 
+use crate::probe::RegProbe;
+use crate::scripted::regulator_probe;
+use dss_circuit::Circuit;
+use dss_layout::Layout;
 use dss_lexer::Text;
-use dss_profile::{Class, Element, ElementName};
+use dss_profile::{Class, Element, ElementName, RegControl, Transformer};
 use indexmap::IndexMap;
-use std::alloc::AllocError;
+use std::alloc::{AllocError, Global};
+
+/// The probe of a regulator's control of a circuit that passed the tests of Solve, whose layout this is.
+///
+/// # Errors
+/// `AllocError` where the memory is refused.
+pub fn regulator_probe_of(
+    alloc: Global,
+    circuit: &Circuit,
+    layout: &Layout,
+    control: &RegControl,
+) -> Result<RegProbe, AllocError>
+    requires ready { HasPassed circuit.now }
+    requires layout { layout.now ≡ layout_of circuit.now.elements }
+    requires control { IsRegControlIn circuit.now.elements control.now }
+    ensures probe { IfOk result (IsRegProbeIn circuit.now.elements control.now) }
+    ensures places { IfOk result (IsRegProbe (size_of (layout_of circuit.now.elements))) }
+{
+    let elements = circuit.elements();
+    let place = transformer_place(elements, &control.transformer)?;
+    let element = element_in(elements, place);
+    let number = transformers_before(elements, place);
+    probe_at(alloc, layout, control, element, place, number)
+}
+
+// The probe of a regulator's control whose transformer stands at this place and has this number.
+fn probe_at(
+    alloc: Global,
+    layout: &Layout,
+    control: &RegControl,
+    element: &Element,
+    place: usize,
+    number: u32,
+) -> Result<RegProbe, AllocError>
+    requires place { place < length layout.now.branches_before }
+    requires control { RegControlInRange control.now }
+    requires element { IsXfmrFor layout.now place control.now element.now }
+    ensures probe { IfOk result (IsRegProbeAt layout.now place control.now element.now number) }
+    ensures places { IfOk result (IsRegProbe (size_of layout.now)) }
+{
+    let at = layout.ends(alloc, place, element)?;
+    let xfmr = as_transformer(element).unwrap();
+    Ok(regulator_probe(control, xfmr, &at, number))
+}
+
+// The place of the transformer that a control names.
+fn transformer_place(
+    elements: &IndexMap<ElementName, Element>,
+    given: &Option<Text>,
+) -> Result<usize, AllocError>
+    requires there { IsSome (element_given elements.now.entries Class.Transformer given.now) }
+    ensures place { IfOk result (λ i. place_of elements.now.entries Class.Transformer given.now ≡ Some i) }
+    ensures there { IfOk result (λ i. element_at elements.now.entries i ≡ element_given elements.now.entries Class.Transformer given.now) }
+    ensures inside { IfOk result (λ i. i < length elements.now.entries) }
+{
+    let place = place_given(elements, Class::Transformer, given)?;
+    Ok(place.unwrap())
+}
+
+// The element at a place.
+fn element_in(elements: &IndexMap<ElementName, Element>, place: usize) -> &Element
+    requires { place < length elements.now.entries }
+    ensures { element_at elements.now.entries place ≡ Some result.now }
+{
+    let (_, element) = elements.as_slice().get_index(place).unwrap();
+    element
+}
+
+fn as_transformer(element: &Element) -> Option<&Transformer>
+    ensures { option_copied result ≡ transformer_in element.now }
+{
+    match element {
+        Element::Transformer(xfmr) => Some(xfmr),
+        _ => None,
+    }
+}
 
 // The place of the element of a class that a property names.
 fn place_given(

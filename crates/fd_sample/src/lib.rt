@@ -8,9 +8,10 @@
 //
 // In `specs/`: `Balls` (states, and the intervals of unknowns), `Phasors` (magnitudes, which are known by their squares), `Regulators` and
 // `Banks` (the quantities, as fractions and as intervals), `Samples` (what an interval decides), `Probes` (both kinds of control), `Scripted`
-// (probes by settings of the script).
+// and `Circuits` (probes by the script, and where the elements that a control names stand).
 //
-// Modules: `probe` (what is known of a control), `scripted` (by its settings), `intervals`, `phasors`, `relay` (a regulator's voltage),
+// Modules: `probe` (what is known of a control), `scripted` (by its settings), `circuit` (in a
+// circuit that passed the tests of Solve), `intervals`, `phasors`, `relay` (a regulator's voltage),
 // `lineflow` (the reactive power that enters a line), `roots` (where magnitudes stand to edges), `regulator` and `bank` (what they want),
 // `ends` (what the ends of an interval decide), `sample` and `bank_sample` (their samples), `controls` (`verdict`).
 #![tactic(auto)]
@@ -31,6 +32,7 @@ mod sample;
 mod scripted;
 
 pub use bank_sample::bank_verdict;
+pub use circuit::regulator_probe_of;
 pub use controls::verdict;
 pub use probe::{CapProbe, LineEnd, Measured, Probe, RegProbe};
 pub use sample::regulator_verdict;

@@ -1,0 +1,16 @@
+-- Lemmas that the crates above use.
+use Rattle.std.proofs.Common.{ℕ, ◌<◌, length, slice_index_or, All}
+use Rattle.dss_profile.specs.InRange.{ElementInRange}
+use Rattle.dss_profile.specs.declared.element.Element.{Element}
+use Rattle.dss_profile.specs.declared.names.ElementName.{ElementName}
+use Rattle.dss_layout.specs.Layout.{layout_of}
+use Rattle.dss_circuit.specs.Circuit.{CircuitView}
+use Rattle.dss_ready.specs.Ready.{HasPassed}
+use Rattle.fd_network.specs.Places.{IsReadyAt}
+use Rattle.fd_network.proofs.Ready.{ready_at}
+
+-- an element of a circuit that passed the tests of Solve is ready at its place
+pub element_ready : (circuit : CircuitView) → HasPassed circuit → All (λ e. ElementInRange e.1) circuit.elements →
+    (place : ℕ) (d : ElementName × Element) → place < length circuit.elements →
+    IsReadyAt (layout_of circuit.elements) place (slice_index_or circuit.elements place d).1
+element_ready circuit passed in_range place d within = ready_at circuit passed in_range place d within

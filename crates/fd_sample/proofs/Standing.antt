@@ -1,0 +1,220 @@
+-- What a circuit that passed the tests of Solve says of the elements that a control names.
+use Rattle.std.proofs.Common.{◌≡◌, ℕ, ◌<◌, ◌≤◌, ◌^◌, Bool, true, false, List, [], ◌∷◌, length, get_or, slice_get, Option, Some, None, if◌then◌else◌, refl, sym, ap, subst, ◌∙◌, arith}
+use Rattle.std.specs.Prelude.{All, IfSome, IsSome}
+use Rattle.std.specs.Map.{lookup}
+use Rattle.std.specs.Option.{option_map}
+use Rattle.std.proofs.lemmas.List.Elements.{All-head, All-tail}
+use Rattle.std.proofs.lemmas.Option.{slice_get_within, get_or_from_slice_get}
+use Rattle.fd_arith.specs.declared.terms.Ends.{Ends}
+use Rattle.fd_arith.specs.declared.terms.NodeAt.{NodeAt}
+use Rattle.fd_arith.specs.declared.terms.NodeAt.TheVariants.{Ground, Node}
+use Rattle.fd_system.specs.Contributions.{IsSmall}
+use Rattle.fd_system.specs.Terminals.{node_count}
+use Rattle.fd_equations.specs.Conditions.{IsAmong}
+use Rattle.dss_profile.specs.Element.{class_of}
+use Rattle.dss_profile.specs.InRange.{ElementInRange}
+use Rattle.dss_profile.specs.SameElement.{same_element}
+use Rattle.dss_profile.specs.declared.element.Element.{Element}
+use Rattle.dss_profile.specs.declared.element.Element.TheVariants as the
+use Rattle.dss_profile.specs.declared.names.Class.{Class}
+use Rattle.dss_profile.specs.declared.names.Class.TheVariants as class
+use Rattle.dss_profile.specs.declared.names.ElementName.{ElementName}
+use Rattle.dss_profile.specs.declared.regcontrol.RegControl.{RegControl}
+use Rattle.dss_profile.specs.declared.transformer.Transformer.{Transformer}
+use Rattle.dss_profile.proofs.CallerLemmas.{equal}
+use Rattle.dss_circuit.specs.Circuit.{CircuitView}
+use Rattle.dss_circuit.specs.WellFormed.{IsEntry}
+use Rattle.dss_layout.specs.Layout.{Elements, LayoutView, branch_phases, complex_count, ends_of, layout_of, size_of}
+use Rattle.dss_layout.proofs.CallerLemmas.{length-sums_before}
+use Rattle.dss_ready.specs.Lookups.{element_given}
+use Rattle.dss_ready.specs.Passed.{IsPhaseOf}
+use Rattle.dss_ready.specs.Ready.{HasPassed}
+use Rattle.dss_ready.proofs.CallerLemmas.{passed}
+use Rattle.fd_devices.specs.Sound.{IsSideOf}
+use Rattle.fd_network.specs.Places.{IsReadyAt}
+use Rattle.fd_network.proofs.CallerLemmas.{element_ready}
+use Rattle.fd_sample.specs.Circuits.{IsXfmrOf, IsXfmrFor, IsRegControlIn, IsRegProbeAt, IsRegProbeIn, element_at, place_given, transformer_in, transformers_before}
+use Rattle.fd_sample.specs.Scripted.{IsXfmrAt, reg_probe}
+use Rattle.fd_sample.specs.declared.probe.RegProbe.{RegProbe}
+
+-- ---- the class of an element that is there
+
+found_class : (name : ElementName) (es : Elements) → All IsEntry es → IfSome (lookup (same_element name) es) (λ e. name.class ≡ class_of e)
+found_class name [] h = tt
+found_class name (e ∷ es) h = by (same_element name e.0) refl (found_class name es (All-tail IsEntry e es h))
+  where
+    by : (b : Bool) → same_element name e.0 ≡ b → IfSome (lookup (same_element name) es) (λ x. name.class ≡ class_of x)
+        → IfSome (if b then Some e.1 else lookup (same_element name) es) (λ x. name.class ≡ class_of x)
+    by true t rest = ap (λ (n : ElementName). n.class) ((equal name e.0).0 t) ∙ (All-head IsEntry e es h).class
+    by false t rest = rest
+
+given_class : (es : Elements) (kind : Class) (given : Option (List ℕ)) (e : Element) → All IsEntry es → element_given es kind given ≡ Some e → kind ≡ class_of e
+given_class es kind None e h is = absurd (cc)
+given_class es kind (Some name) e h is =
+    let found = found_class (record { class = kind; name = name }) es h in
+    subst (λ (o : Option Element). IfSome o (λ x. kind ≡ class_of x)) is found
+
+as_transformer : (e : Element) → class.Transformer ≡ class_of e → IsSome (transformer_in e)
+as_transformer (the.Transformer t) h = refl
+as_transformer (the.Vsource v) h = absurd (cc)
+as_transformer (the.Linecode c) h = absurd (cc)
+as_transformer (the.Line l) h = absurd (cc)
+as_transformer (the.Capacitor c) h = absurd (cc)
+as_transformer (the.Load l) h = absurd (cc)
+as_transformer (the.RegControl c) h = absurd (cc)
+as_transformer (the.CapControl c) h = absurd (cc)
+as_transformer (the.Loadshape s) h = absurd (cc)
+
+pub is_transformer : (es : Elements) (given : Option (List ℕ)) (e : Element) → All IsEntry es → element_given es class.Transformer given ≡ Some e → IsSome (transformer_in e)
+is_transformer es given e h is = as_transformer e (given_class es class.Transformer given e h is)
+
+-- ---- where it stands
+
+among_more : (nodes n : ℕ) (node : NodeAt) → nodes ≤ n → IsAmong nodes node → IsAmong n node
+among_more nodes n Ground le h = tt
+among_more nodes n (Node k) le h = omega arith
+
+among_small : (n : ℕ) (node : NodeAt) → n ≤ 2 ^ 29 → IsAmong n node → IsSmall node
+among_small n Ground few h = tt
+among_small n (Node k) few h = omega arith
+
+side_more : (nodes n m : ℕ) (ns : List NodeAt) → nodes ≤ n → IsSideOf nodes m ns → IsSideOf n m ns
+side_more nodes n m ns le h = record { count = h.count; below = λ k d w. among_more nodes n (get_or ns k d) le (h.below k d w) }
+
+pub xfmr_in : (circuit : CircuitView) → HasPassed circuit → All (λ e. ElementInRange e.1) circuit.elements → (control : RegControl) →
+    IsRegControlIn circuit.elements control → (place : ℕ) (n : ElementName) (t : Transformer) →
+    slice_get circuit.elements place ≡ Some (n, the.Transformer t) →
+    element_at circuit.elements place ≡ element_given circuit.elements class.Transformer control.transformer → IsXfmrOf (layout_of circuit.elements) place control t
+xfmr_in circuit h range control r place n t is same =
+    let es = circuit.elements in
+    let layout = layout_of es in
+    let entry : ElementName × Element = (n, the.Transformer t) in
+    let all = passed circuit h in
+    let within = slice_get_within es place entry is in
+    let at = get_or_from_slice_get es place entry entry is in
+    let ready = subst (λ (e : ElementName × Element). IsReadyAt layout place e.1) at (element_ready circuit h range place entry within) in
+    let fit = (all.each place entry is).values in
+    let here : the.Transformer t ≡ r.transformer = (let e = sym (ap (option_map (λ (x : ElementName × Element). x.1)) is) ∙ (same ∙ r.there) in cc) in
+    let phase = subst (λ (e : Element). IsPhaseOf e control.ptphase) (sym here) r.phase in
+    let few : complex_count layout ≤ 2 ^ 29 = omega (arith, all.complex) in
+    let nodes : length layout.nodes ≤ complex_count layout = omega arith in
+    let first = side_more (length layout.nodes) (complex_count layout) (node_count t.phases) (ends_of layout place (the.Transformer t)).first nodes ready.sited.0 in
+    let second = side_more (length layout.nodes) (complex_count layout) (node_count t.phases) (ends_of layout place (the.Transformer t)).second nodes ready.sited.1 in
+    let branches = ready.sited.2 in
+    let low : (ends_of layout place (the.Transformer t)).branch < 2 ^ 30 = omega (arith, branches.below, branches.some, all.complex) in
+    record {
+      in_range = ready.in_range;
+      first_step = fit.first.step;
+      second_step = fit.second.step;
+      phase = record { least = phase.least t.phases refl; most = phase.most t.phases refl };
+      between = record {
+        first = record { count = first.count; small = λ k d w. among_small (complex_count layout) (get_or (ends_of layout place (the.Transformer t)).first k d) few (first.below k d w) };
+        second = record { count = second.count; small = λ k d w. among_small (complex_count layout) (get_or (ends_of layout place (the.Transformer t)).second k d) few (second.below k d w) };
+        branch = low;
+      };
+      stands = record { first = first; second = second; branches = branches; few = few; room = omega arith };
+    }
+
+-- ---- what is found of a control's transformer
+
+transformer_back : (e : Element) (t : Transformer) → transformer_in e ≡ Some t → e ≡ the.Transformer t
+transformer_back (the.Transformer s) t h = cc
+transformer_back (the.Vsource v) t h = absurd (cc)
+transformer_back (the.Linecode c) t h = absurd (cc)
+transformer_back (the.Line l) t h = absurd (cc)
+transformer_back (the.Capacitor c) t h = absurd (cc)
+transformer_back (the.Load l) t h = absurd (cc)
+transformer_back (the.RegControl c) t h = absurd (cc)
+transformer_back (the.CapControl c) t h = absurd (cc)
+transformer_back (the.Loadshape s) t h = absurd (cc)
+
+pub at_some : (P : ℕ → Type 0) (o : Option ℕ) (place : ℕ) → o ≡ Some place → IfSome o P → P place
+at_some P o place e h = subst (λ (x : Option ℕ). IfSome x P) e h
+
+pub record IsFound (circuit : CircuitView) (control : RegControl) (place : ℕ) (e : Element) (t : Transformer) : Type 0 where
+  pub stands : IsXfmrOf (layout_of circuit.elements) place control t
+  pub is : e ≡ the.Transformer t
+  pub there : element_at circuit.elements place ≡ Some (the.Transformer t)
+
+module _ (circuit : CircuitView) (h : HasPassed circuit) (range : All (λ e. ElementInRange e.1) circuit.elements) (keys : All IsEntry circuit.elements)
+    (control : RegControl) (r : IsRegControlIn circuit.elements control) (place : ℕ) (entry : ElementName × Element)
+    (is : slice_get circuit.elements place ≡ Some entry)
+    (same : element_at circuit.elements place ≡ element_given circuit.elements class.Transformer control.transformer) where
+  own : entry.1 ≡ r.transformer
+  own = let e : Some entry.1 ≡ Some r.transformer = sym (ap (option_map (λ (x : ElementName × Element). x.1)) is) ∙ (same ∙ r.there) in cc
+
+  pub found_some : IsSome (transformer_in entry.1)
+  found_some = subst (λ (e : Element). IsSome (transformer_in e)) (sym own) (is_transformer circuit.elements control.transformer r.transformer keys r.there)
+
+  pub found_at : (t : Transformer) → transformer_in entry.1 ≡ Some t → IsFound circuit control place entry.1 t
+  found_at t back =
+      let e : entry.1 ≡ the.Transformer t = transformer_back entry.1 t back in
+      let there : slice_get circuit.elements place ≡ Some (entry.0, the.Transformer t) = is ∙ ap (λ (x : Element). let pair : ElementName × Element = (entry.0, x) in Some pair) e in
+      record {
+        stands = xfmr_in circuit h range control r place entry.0 t there same;
+        is = e;
+        there = ap (option_map (λ (x : ElementName × Element). x.1)) there;
+      }
+
+-- ---- the same by the element at a place
+
+record HasEntry (o : Option (ElementName × Element)) (e : Element) : Type 0 where
+  name : ElementName
+  is : o ≡ Some (name, e)
+
+entry_of : (o : Option (ElementName × Element)) (e : Element) → option_map (λ x. x.1) o ≡ Some e → HasEntry o e
+entry_of None e h = absurd (cc)
+entry_of (Some x) e h = let same : x.1 ≡ e = cc in record {
+  name = x.0;
+  is = ap (λ (y : Element). let pair : ElementName × Element = (x.0, y) in Some pair) same;
+}
+
+record HasTransformer (o : Option Transformer) : Type 0 where
+  transformer : Transformer
+  is : o ≡ Some transformer
+
+some_of : (o : Option Transformer) → IsSome o → HasTransformer o
+some_of None h = absurd (cc)
+some_of (Some t) h = record { transformer = t; is = refl }
+
+pub xfmr_for : (circuit : CircuitView) → HasPassed circuit → All (λ e. ElementInRange e.1) circuit.elements → All IsEntry circuit.elements →
+    (control : RegControl) → IsRegControlIn circuit.elements control → (place : ℕ) (e : Element) → element_at circuit.elements place ≡ Some e →
+    element_at circuit.elements place ≡ element_given circuit.elements class.Transformer control.transformer →
+    IsXfmrFor (layout_of circuit.elements) place control e
+xfmr_for circuit h range keys control r place e at same =
+    let entry = entry_of (slice_get circuit.elements place) e at in
+    let pair : ElementName × Element = (entry.name, e) in
+    let some = some_of (transformer_in e) (found_some circuit h range keys control r place pair entry.is same) in
+    let found = found_at circuit h range keys control r place pair entry.is same some.transformer some.is in
+    record { transformer = some.transformer; is = found.is; fit = found.stands }
+
+-- the transformer of an element that is one
+own_transformer : (layout : LayoutView) (place : ℕ) (control : RegControl) (e : Element) (f : IsXfmrFor layout place control e) (t : Transformer) →
+    Some t ≡ transformer_in e → f.transformer ≡ t
+own_transformer layout place control e f t is = let back = ap transformer_in f.is in cc
+
+pub stands_of : (layout : LayoutView) (place : ℕ) (control : RegControl) (e : Element) (t : Transformer) (at : Ends) → IsXfmrFor layout place control e →
+    Some t ≡ transformer_in e → at ≡ ends_of layout place e → IsXfmrAt (complex_count layout) (size_of layout) t.phases at
+stands_of layout place control e t at f is ends =
+    let same = own_transformer layout place control e f t is in
+    let there = sym (ends ∙ ap (ends_of layout place) f.is) in
+    subst (λ (s : Transformer). IsXfmrAt (complex_count layout) (size_of layout) s.phases at) same
+    (subst (λ (x : Ends). IsXfmrAt (complex_count layout) (size_of layout) f.transformer.phases x) there f.fit.stands)
+
+pub probe_in : (circuit : CircuitView) (control : RegControl) (place : ℕ) (layout : LayoutView) (e : Element) (number : ℕ) (p : RegProbe) →
+    layout ≡ layout_of circuit.elements → IsXfmrFor (layout_of circuit.elements) place control e → element_at circuit.elements place ≡ Some e →
+    place_given circuit.elements class.Transformer control.transformer ≡ Some place → number ≡ transformers_before circuit.elements place →
+    IsRegProbeAt layout place control e number p → IsRegProbeIn circuit.elements control p
+probe_in circuit control place layout e number p same f at found count h = record {
+  place = place;
+  transformer = f.transformer;
+  found = found;
+  there = at ∙ ap Some f.is;
+  probe = h f.transformer f.is
+      ∙ (λ i. reg_probe control f.transformer (ends_of (same i) place (the.Transformer f.transformer)) (count i));
+}
+
+pub place_inside : (es : Elements) (layout : LayoutView) (place : ℕ) → layout ≡ layout_of es → place < length es → place < length layout.branches_before
+place_inside es layout place same h =
+    let count = ap (λ (l : LayoutView). length l.branches_before) same ∙ length-sums_before branch_phases 0 es in
+    subst (λ (n : ℕ). place < n) (sym count) h
