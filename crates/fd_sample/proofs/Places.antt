@@ -8,8 +8,8 @@ use Rattle.fd_exact.specs.SumLaws.{list_n-append}
 use Rattle.dss_profile.specs.declared.element.Element.{Element}
 use Rattle.dss_profile.specs.declared.names.ElementName.{ElementName}
 use Rattle.dss_layout.specs.Layout.{Elements}
-use Rattle.fd_devices.specs.Settings.{tap_count}
-use Rattle.fd_sample.specs.Circuits.{element_at, transformers_before}
+use Rattle.fd_devices.specs.Settings.{bank_count, tap_count}
+use Rattle.fd_sample.specs.Circuits.{banks_before, element_at, transformers_before}
 
 pub there_by : (o : Option ℕ) (es : Elements) (v w : Option Element) → v ≡ w → IfSome o (λ i. slice_get (map (λ e. e.1) es) i ≡ v) → IfSome o (λ i. element_at es i ≡ w)
 there_by None es v w e h = tt
@@ -22,6 +22,14 @@ pub before_next : (es : Elements) (k : ℕ) (e : ElementName × Element) → sli
     transformers_before es (k + 1) ≡ transformers_before es k + tap_count e.1
 before_next es k e h =
     let f = λ (x : ElementName × Element). tap_count x.1 in
+    let within = slice_get_within es k e h in
+    let taken : take (k + 1) es ≡ take k es ++ e ∷ [] =
+    ap (λ (n : ℕ). take n es) (add-one k) ∙ (take-suc es k e within ∙ ap (λ (x : ElementName × Element). take k es ++ x ∷ []) (get_or_from_slice_get es k e e h)) in
+    ap (list_n f) taken ∙ (list_n-append f (take k es) (e ∷ []) ∙ ap (λ (n : ℕ). list_n f (take k es) + n) (last_one f e))
+
+pub banks_next : (es : Elements) (k : ℕ) (e : ElementName × Element) → slice_get es k ≡ Some e → banks_before es (k + 1) ≡ banks_before es k + bank_count e.1
+banks_next es k e h =
+    let f = λ (x : ElementName × Element). bank_count x.1 in
     let within = slice_get_within es k e h in
     let taken : take (k + 1) es ≡ take k es ++ e ∷ [] =
     ap (λ (n : ℕ). take n es) (add-one k) ∙ (take-suc es k e within ∙ ap (λ (x : ElementName × Element). take k es ++ x ∷ []) (get_or_from_slice_get es k e e h)) in

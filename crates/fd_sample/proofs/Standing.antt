@@ -16,6 +16,9 @@ use Rattle.dss_profile.specs.InRange.{ElementInRange}
 use Rattle.dss_profile.specs.SameElement.{same_element}
 use Rattle.dss_profile.specs.declared.element.Element.{Element}
 use Rattle.dss_profile.specs.declared.element.Element.TheVariants as the
+use Rattle.dss_profile.specs.declared.capcontrol.CapControl.{CapControl}
+use Rattle.dss_profile.specs.declared.line.Line.{Line}
+use Rattle.fd_sample.specs.declared.probe.CapProbe.{CapProbe}
 use Rattle.dss_profile.specs.declared.names.Class.{Class}
 use Rattle.dss_profile.specs.declared.names.Class.TheVariants as class
 use Rattle.dss_profile.specs.declared.names.ElementName.{ElementName}
@@ -33,8 +36,8 @@ use Rattle.dss_ready.proofs.CallerLemmas.{passed}
 use Rattle.fd_devices.specs.Sound.{IsSideOf}
 use Rattle.fd_network.specs.Places.{IsReadyAt}
 use Rattle.fd_network.proofs.CallerLemmas.{element_ready}
-use Rattle.fd_sample.specs.Circuits.{IsXfmrOf, IsXfmrFor, IsRegControlIn, IsRegProbeAt, IsRegProbeIn, element_at, place_given, transformer_in, transformers_before}
-use Rattle.fd_sample.specs.Scripted.{IsXfmrAt, reg_probe}
+use Rattle.fd_sample.specs.Circuits.{IsCapControlIn, IsCapProbeAt, IsCapProbeIn, IsLineFor, IsLineOf, banks_before, line_in, IsXfmrOf, IsXfmrFor, IsRegControlIn, IsRegProbeAt, IsRegProbeIn, element_at, place_given, transformer_in, transformers_before}
+use Rattle.fd_sample.specs.Scripted.{IsLineAt, IsPhase, IsXfmrAt, cap_probe, reg_probe}
 use Rattle.fd_sample.specs.declared.probe.RegProbe.{RegProbe}
 
 -- ---- the class of an element that is there
@@ -218,3 +221,101 @@ pub place_inside : (es : Elements) (layout : LayoutView) (place : ℕ) → layou
 place_inside es layout place same h =
     let count = ap (λ (l : LayoutView). length l.branches_before) same ∙ length-sums_before branch_phases 0 es in
     subst (λ (n : ℕ). place < n) (sym count) h
+
+-- ---- lines
+
+as_line : (e : Element) → class.Line ≡ class_of e → IsSome (line_in e)
+as_line (the.Line l) h = refl
+as_line (the.Vsource v) h = absurd (cc)
+as_line (the.Linecode c) h = absurd (cc)
+as_line (the.Transformer t) h = absurd (cc)
+as_line (the.Capacitor c) h = absurd (cc)
+as_line (the.Load l) h = absurd (cc)
+as_line (the.RegControl c) h = absurd (cc)
+as_line (the.CapControl c) h = absurd (cc)
+as_line (the.Loadshape s) h = absurd (cc)
+
+line_back : (e : Element) (l : Line) → line_in e ≡ Some l → e ≡ the.Line l
+line_back (the.Line s) l h = cc
+line_back (the.Vsource v) l h = absurd (cc)
+line_back (the.Linecode c) l h = absurd (cc)
+line_back (the.Transformer t) l h = absurd (cc)
+line_back (the.Capacitor c) l h = absurd (cc)
+line_back (the.Load s) l h = absurd (cc)
+line_back (the.RegControl c) l h = absurd (cc)
+line_back (the.CapControl c) l h = absurd (cc)
+line_back (the.Loadshape s) l h = absurd (cc)
+
+record HasLine (o : Option Line) : Type 0 where
+  line : Line
+  is : o ≡ Some line
+
+some_line : (o : Option Line) → IsSome o → HasLine o
+some_line None h = absurd (cc)
+some_line (Some l) h = record { line = l; is = refl }
+
+line_at : (circuit : CircuitView) → HasPassed circuit → All (λ e. ElementInRange e.1) circuit.elements → (control : CapControl) →
+    IsCapControlIn circuit.elements control → (place : ℕ) (n : ElementName) (l : Line) →
+    slice_get circuit.elements place ≡ Some (n, the.Line l) →
+    element_at circuit.elements place ≡ element_given circuit.elements class.Line control.element → IsLineOf (layout_of circuit.elements) place control l
+line_at circuit h range control r place n l is same =
+    let es = circuit.elements in
+    let layout = layout_of es in
+    let entry : ElementName × Element = (n, the.Line l) in
+    let all = passed circuit h in
+    let within = slice_get_within es place entry is in
+    let at = get_or_from_slice_get es place entry entry is in
+    let ready = subst (λ (e : ElementName × Element). IsReadyAt layout place e.1) at (element_ready circuit h range place entry within) in
+    let here : the.Line l ≡ r.line = (let e = sym (ap (option_map (λ (x : ElementName × Element). x.1)) is) ∙ (same ∙ r.line_there) in cc) in
+    let voltage = subst (λ (e : Element). IsPhaseOf e control.ptphase) (sym here) r.voltage_phase in
+    let current = subst (λ (e : Element). IsPhaseOf e control.ctphase) (sym here) r.current_phase in
+    let few : complex_count layout ≤ 2 ^ 29 = omega (arith, all.complex) in
+    let nodes : length layout.nodes ≤ complex_count layout = omega arith in
+    let first = side_more (length layout.nodes) (complex_count layout) l.phases (ends_of layout place (the.Line l)).first nodes ready.sited.0 in
+    let second = side_more (length layout.nodes) (complex_count layout) l.phases (ends_of layout place (the.Line l)).second nodes ready.sited.1 in
+    let branches = ready.sited.2 in
+    record {
+      in_range = ready.in_range;
+      voltage_phase = record { least = voltage.least l.phases refl; most = voltage.most l.phases refl };
+      current_phase = record { least = current.least l.phases refl; most = current.most l.phases refl };
+      branch = omega (arith, branches.below, branches.some, all.complex);
+      stands = record { first = first; second = second; branches = branches; few = few; room = omega arith };
+    }
+
+pub line_for : (circuit : CircuitView) → HasPassed circuit → All (λ e. ElementInRange e.1) circuit.elements → All IsEntry circuit.elements →
+    (control : CapControl) → IsCapControlIn circuit.elements control → (place : ℕ) (e : Element) → element_at circuit.elements place ≡ Some e →
+    element_at circuit.elements place ≡ element_given circuit.elements class.Line control.element →
+    IsLineFor (layout_of circuit.elements) place control e
+line_for circuit h range keys control r place e at same =
+    let entry = entry_of (slice_get circuit.elements place) e at in
+    let own : e ≡ r.line = (let f : Some e ≡ Some r.line = sym at ∙ (same ∙ r.line_there) in cc) in
+    let kind = subst (λ (x : Element). class.Line ≡ class_of x) (sym own) (given_class circuit.elements class.Line control.element r.line keys r.line_there) in
+    let some = some_line (line_in e) (as_line e kind) in
+    let back : e ≡ the.Line some.line = line_back e some.line some.is in
+    let there : slice_get circuit.elements place ≡ Some (entry.name, the.Line some.line) = entry.is ∙ ap (λ (x : Element). let pair : ElementName × Element = (entry.name, x) in Some pair) back in
+    record { line = some.line; is = back; fit = line_at circuit h range control r place entry.name some.line there same }
+
+own_line : (layout : LayoutView) (place : ℕ) (control : CapControl) (e : Element) (f : IsLineFor layout place control e) (l : Line) → Some l ≡ line_in e → f.line ≡ l
+own_line layout place control e f l is = let back = ap line_in f.is in cc
+
+pub line_stands : (layout : LayoutView) (place : ℕ) (control : CapControl) (e : Element) (l : Line) (at : Ends) → IsLineFor layout place control e →
+    Some l ≡ line_in e → at ≡ ends_of layout place e → IsLineAt (complex_count layout) (size_of layout) l.phases at
+line_stands layout place control e l at f is ends =
+    let same = own_line layout place control e f l is in
+    let there = sym (ends ∙ ap (ends_of layout place) f.is) in
+    subst (λ (s : Line). IsLineAt (complex_count layout) (size_of layout) s.phases at) same
+    (subst (λ (x : Ends). IsLineAt (complex_count layout) (size_of layout) f.line.phases x) there f.fit.stands)
+
+pub cap_probe_in : (circuit : CircuitView) (control : CapControl) (place bank : ℕ) (layout : LayoutView) (e : Element) (number : ℕ) (p : CapProbe) →
+    layout ≡ layout_of circuit.elements → IsLineFor (layout_of circuit.elements) place control e → element_at circuit.elements place ≡ Some e →
+    place_given circuit.elements class.Line control.element ≡ Some place → place_given circuit.elements class.Capacitor control.capacitor ≡ Some bank →
+    number ≡ banks_before circuit.elements bank → IsCapProbeAt layout place control e number p → IsCapProbeIn circuit.elements control p
+cap_probe_in circuit control place bank layout e number p same f at found bank_found count h = record {
+  place = place;
+  line = f.line;
+  found = found;
+  there = at ∙ ap Some f.is;
+  bank = bank;
+  bank_found = bank_found;
+  probe = h f.line f.is ∙ (λ i. cap_probe control f.line (ends_of (same i) place (the.Line f.line)) (count i));
+}

@@ -1,10 +1,13 @@
 -- The probes of a circuit's controls: where the elements that a control names stand, and their numbers among their kind.
-use Rattle.std.specs.Prelude.{◌≡◌, ℕ, ◌+◌, ◌≤◌, List, map, take, slice_get, Option, Some, None}
+use Rattle.std.specs.Prelude.{◌≡◌, ℕ, ◌+◌, ◌≤◌, ◌<◌, ◌^◌, List, map, take, slice_get, Option, Some, None}
 use Rattle.std.specs.List.{position}
 use Rattle.std.specs.Option.{option_map}
 use Rattle.fd_exact.specs.Sums.{list_n}
-use Rattle.dss_profile.specs.InRange.{RegControlInRange, TransformerInRange}
+use Rattle.dss_profile.specs.InRange.{CapControlInRange, LineInRange, RegControlInRange, TransformerInRange}
 use Rattle.dss_profile.specs.SameElement.{same_element}
+use Rattle.dss_profile.specs.declared.capcontrol.CapControl.{CapControl}
+use Rattle.dss_profile.specs.declared.line.Line.{Line}
+use Rattle.fd_sample.specs.declared.probe.CapProbe.{CapProbe}
 use Rattle.dss_profile.specs.declared.element.Element.{Element}
 use Rattle.dss_profile.specs.declared.element.Element.TheVariants as the
 use Rattle.dss_profile.specs.declared.names.Class.{Class}
@@ -15,9 +18,9 @@ use Rattle.dss_layout.specs.Layout.{Elements, LayoutView, complex_count, ends_of
 use Rattle.dss_ready.specs.Lookups.{element_given}
 use Rattle.dss_ready.specs.Passed.{IsPhaseOf}
 use Rattle.fd_xfmr.specs.Transformer.{IsBetween}
-use Rattle.fd_devices.specs.Settings.{tap_count}
+use Rattle.fd_devices.specs.Settings.{bank_count, tap_count}
 use Rattle.fd_sample.specs.declared.probe.RegProbe.{RegProbe}
-use Rattle.fd_sample.specs.Scripted.{IsPhase, IsXfmrAt, reg_probe}
+use Rattle.fd_sample.specs.Scripted.{IsLineAt, IsPhase, IsXfmrAt, cap_probe, reg_probe}
 
 -- the place in order of the element of a class that a property names
 abbrev pub place_given : Elements → Class → Option (List ℕ) → Option ℕ
@@ -69,3 +72,51 @@ pub record IsXfmrFor (layout : LayoutView) (place : ℕ) (control : RegControl) 
 -- the probe of a control whose transformer is this element and has this number
 abbrev pub IsRegProbeAt : LayoutView → ℕ → RegControl → Element → ℕ → RegProbe → Type 0
 IsRegProbeAt layout place control e number p = (t : Transformer) → e ≡ the.Transformer t → p ≡ reg_probe control t (ends_of layout place (the.Transformer t)) number
+
+-- ---- a bank's control
+
+-- the banks that stand before a place
+abbrev pub banks_before : Elements → ℕ → ℕ
+banks_before elements place = list_n (λ e. bank_count e.1) (take place elements)
+
+abbrev pub line_in : Element → Option Line
+line_in (the.Line l) = Some l
+line_in other = None
+
+-- a bank's control in range, whose line is there and has the phases that it measures, and whose bank is there
+pub record IsCapControlIn (elements : Elements) (control : CapControl) : Type 0 where
+  pub in_range : CapControlInRange control
+  pub line : Element
+  pub line_there : element_given elements class.Line control.element ≡ Some line
+  pub bank : Element
+  pub bank_there : element_given elements class.Capacitor control.capacitor ≡ Some bank
+  pub voltage_phase : IsPhaseOf line control.ptphase
+  pub current_phase : IsPhaseOf line control.ctphase
+
+-- its probe
+pub record IsCapProbeIn (elements : Elements) (control : CapControl) (p : CapProbe) : Type 0 where
+  pub place : ℕ
+  pub line : Line
+  pub found : place_given elements class.Line control.element ≡ Some place
+  pub there : element_at elements place ≡ Some (the.Line line)
+  pub bank : ℕ
+  pub bank_found : place_given elements class.Capacitor control.capacitor ≡ Some bank
+  pub probe : p ≡ cap_probe control line (ends_of (layout_of elements) place (the.Line line)) (banks_before elements bank)
+
+-- what a line at a place must be for a control's probe to be made
+pub record IsLineOf (layout : LayoutView) (place : ℕ) (control : CapControl) (l : Line) : Type 0 where
+  pub in_range : LineInRange l
+  pub voltage_phase : IsPhase l.phases control.ptphase
+  pub current_phase : IsPhase l.phases control.ctphase
+  pub branch : (ends_of layout place (the.Line l)).branch < 2 ^ 30
+  pub stands : IsLineAt (complex_count layout) (size_of layout) l.phases (ends_of layout place (the.Line l))
+
+-- an element that is one
+pub record IsLineFor (layout : LayoutView) (place : ℕ) (control : CapControl) (e : Element) : Type 0 where
+  pub line : Line
+  pub is : e ≡ the.Line line
+  pub fit : IsLineOf layout place control line
+
+-- the probe of a control whose line is this element and whose bank has this number
+abbrev pub IsCapProbeAt : LayoutView → ℕ → CapControl → Element → ℕ → CapProbe → Type 0
+IsCapProbeAt layout place control e number p = (l : Line) → e ≡ the.Line l → p ≡ cap_probe control l (ends_of layout place (the.Line l)) number

@@ -2,23 +2,23 @@
 ghost use Rattle.std.specs.Prelude.{◌≡◌, ℕ, ◌+◌, ◌<◌, ◌≤◌, map, take, length, is_some, IsSome, slice_get, All, IfOk, IfSome, Some, Option, option_copied};
 ghost use Rattle.std.specs.List.{position};
 ghost use Rattle.std.specs.Map.{lookup};
-ghost use Rattle.dss_profile.specs.InRange.{RegControlInRange};
-ghost use Rattle.dss_profile.specs.declared.names.Class.TheVariants as Class;
+ghost use Rattle.dss_profile.specs.InRange.{CapControlInRange, RegControlInRange};
 ghost use Rattle.dss_profile.specs.SameElement.{same_element};
 ghost use Rattle.dss_circuit.specs.Limits.{most_elements};
 ghost use Rattle.dss_layout.specs.Layout.{layout_of, size_of};
 ghost use Rattle.dss_ready.specs.Lookups.{element_given};
 ghost use Rattle.dss_ready.specs.Ready.{HasPassed};
-ghost use Rattle.fd_devices.specs.Settings.{tap_count as taps_of};
-ghost use Rattle.fd_sample.specs.Circuits.{IsRegControlIn, IsRegProbeAt, IsRegProbeIn, IsXfmrFor, element_at, transformer_in, place_given as place_of, transformers_before as count_before};
+ghost use Rattle.fd_devices.specs.Settings.{bank_count as banks_of, tap_count as taps_of};
+ghost use Rattle.fd_sample.specs.Circuits.{IsCapControlIn, IsCapProbeAt, IsCapProbeIn, IsLineFor, IsRegControlIn, IsRegProbeAt, IsRegProbeIn, IsXfmrFor, element_at, banks_before as count_of_banks, line_in, transformer_in, place_given as place_of, transformers_before as count_before};
+ghost use Rattle.fd_sample.specs.Banks.{IsCapProbe};
 ghost use Rattle.fd_sample.specs.Regulators.{IsRegProbe};
 
-use crate::probe::RegProbe;
-use crate::scripted::regulator_probe;
+use crate::probe::{CapProbe, RegProbe};
+use crate::scripted::{bank_probe, regulator_probe};
 use dss_circuit::Circuit;
 use dss_layout::Layout;
 use dss_lexer::Text;
-use dss_profile::{Class, Element, ElementName, RegControl, Transformer};
+use dss_profile::{CapControl, Class, Element, ElementName, Line, RegControl, Transformer};
 use indexmap::IndexMap;
 use std::alloc::{AllocError, Global};
 
@@ -39,7 +39,7 @@ pub fn regulator_probe_of(
     ensures places { IfOk result (IsRegProbe (size_of (layout_of circuit.now.elements))) }
 {
     let elements = circuit.elements();
-    let place = transformer_place(elements, &control.transformer)?;
+    let place = device_place(elements, Class::Transformer, &control.transformer)?;
     let element = element_in(elements, place);
     let number = transformers_before(elements, place);
     probe_at(alloc, layout, control, element, place, number)
@@ -65,17 +65,18 @@ fn probe_at(
     Ok(regulator_probe(control, xfmr, &at, number))
 }
 
-// The place of the transformer that a control names.
-fn transformer_place(
+// The place of the element of a class that a control names, which is there.
+fn device_place(
     elements: &IndexMap<ElementName, Element>,
+    class: Class,
     given: &Option<Text>,
 ) -> Result<usize, AllocError>
-    requires there { IsSome (element_given elements.now.entries Class.Transformer given.now) }
-    ensures place { IfOk result (λ i. place_of elements.now.entries Class.Transformer given.now ≡ Some i) }
-    ensures there { IfOk result (λ i. element_at elements.now.entries i ≡ element_given elements.now.entries Class.Transformer given.now) }
+    requires there { IsSome (element_given elements.now.entries class given.now) }
+    ensures place { IfOk result (λ i. place_of elements.now.entries class given.now ≡ Some i) }
+    ensures there { IfOk result (λ i. element_at elements.now.entries i ≡ element_given elements.now.entries class given.now) }
     ensures inside { IfOk result (λ i. i < length elements.now.entries) }
 {
-    let place = place_given(elements, Class::Transformer, given)?;
+    let place = place_given(elements, class, given)?;
     Ok(place.unwrap())
 }
 
@@ -86,6 +87,59 @@ fn element_in(elements: &IndexMap<ElementName, Element>, place: usize) -> &Eleme
 {
     let (_, element) = elements.as_slice().get_index(place).unwrap();
     element
+}
+
+/// The probe of a bank's control of a circuit that passed the tests of Solve, whose layout this is.
+///
+/// # Errors
+/// `AllocError` where the memory is refused.
+pub fn bank_probe_of(
+    alloc: Global,
+    circuit: &Circuit,
+    layout: &Layout,
+    control: &CapControl,
+) -> Result<CapProbe, AllocError>
+    requires ready { HasPassed circuit.now }
+    requires layout { layout.now ≡ layout_of circuit.now.elements }
+    requires control { IsCapControlIn circuit.now.elements control.now }
+    ensures probe { IfOk result (IsCapProbeIn circuit.now.elements control.now) }
+    ensures places { IfOk result (IsCapProbe (size_of (layout_of circuit.now.elements))) }
+{
+    let elements = circuit.elements();
+    let place = device_place(elements, Class::Line, &control.element)?;
+    let bank = device_place(elements, Class::Capacitor, &control.capacitor)?;
+    let element = element_in(elements, place);
+    let number = banks_before(elements, bank);
+    bank_probe_at(alloc, layout, control, element, place, number)
+}
+
+// The probe of a bank's control whose line stands at this place, and whose bank has this number.
+fn bank_probe_at(
+    alloc: Global,
+    layout: &Layout,
+    control: &CapControl,
+    element: &Element,
+    place: usize,
+    number: u32,
+) -> Result<CapProbe, AllocError>
+    requires place { place < length layout.now.branches_before }
+    requires control { CapControlInRange control.now }
+    requires element { IsLineFor layout.now place control.now element.now }
+    ensures probe { IfOk result (IsCapProbeAt layout.now place control.now element.now number) }
+    ensures places { IfOk result (IsCapProbe (size_of layout.now)) }
+{
+    let at = layout.ends(alloc, place, element)?;
+    let line = as_line(element).unwrap();
+    Ok(bank_probe(control, line, &at, number))
+}
+
+fn as_line(element: &Element) -> Option<&Line>
+    ensures { option_copied result ≡ line_in element.now }
+{
+    match element {
+        Element::Line(line) => Some(line),
+        _ => None,
+    }
 }
 
 fn as_transformer(element: &Element) -> Option<&Transformer>
@@ -147,6 +201,32 @@ fn tap_count(element: &Element) -> u32
 {
     match element {
         Element::Transformer(_) => 1,
+        _ => 0,
+    }
+}
+
+// The banks that stand before a place.
+fn banks_before(elements: &IndexMap<ElementName, Element>, place: usize) -> u32
+    requires inside { place ≤ length elements.now.entries }
+    requires few { length elements.now.entries ≤ most_elements }
+    ensures { result ≡ count_of_banks elements.now.entries place }
+{
+    let entries = elements.as_slice();
+    let mut count = 0;
+    for k in 0..place {
+        let (_, element) = entries.get_index(k).unwrap();
+        count += bank_count(element);
+    }
+    count
+}
+
+// 1 for a Capacitor, and else 0.
+fn bank_count(element: &Element) -> u32
+    ensures value { result ≡ banks_of element.now }
+    ensures few { result ≤ 1 }
+{
+    match element {
+        Element::Capacitor(_) => 1,
         _ => 0,
     }
 }
