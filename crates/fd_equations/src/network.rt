@@ -53,12 +53,7 @@ impl<'a> Network<'a> {
     /// The network of these rows and constants. Loads of constant impedance stand in the contributions too;
     /// `draw` is the sum of (abs P + abs Q) 10^9 / Vn over load phases and of Q 10^9 / V over closed capacitor phases, each rounded
     /// up, in whole microamperes.
-    pub fn new(
-        layout: Layout,
-        rows: &'a Rows,
-        constants: &'a [Constant],
-        draw: u128,
-    ) -> Network<'a>
+    pub fn new(layout: Layout, rows: &'a Rows, constants: &'a [Constant], draw: u128) -> Network<'a>
         requires small { 2 * (layout.nodes + layout.branches) + layout.magnitudes ≤ 2 ^ 11 }
         requires size { rows.now.size ≡ 2 * (layout.nodes + layout.branches) + layout.magnitudes }
         requires entries { (row col : ℕ) → AreSmall (linear_entry rows.now.terms row col) }

@@ -128,7 +128,7 @@ laid_from layout sum place (e ∷ es) h =
     let end : 2 * complex_count layout + (sum + m) ≡ 2 * complex_count layout + sum + m = omega arith in (
       ap (λ n. 2 * complex_count layout + n) (ap (slice_index layout.magnitudes_before) (sym (add-zero place)) ∙ h 0 (omega arith)),
       subst (λ f. AreMagnitudesFrom layout f (place + 1) es) end
-      (laid_from layout (sum + m) (place + 1) es (λ k l. let same : place + 1 + k ≡ place + suc k = omega arith in ap (slice_index layout.magnitudes_before) same ∙ h (suc k) (omega arith))),
+          (laid_from layout (sum + m) (place + 1) es (λ k l. let same : place + 1 + k ≡ place + suc k = omega arith in ap (slice_index layout.magnitudes_before) same ∙ h (suc k) (omega arith))),
     )
 
 -- the magnitudes of all elements follow one another behind the complex unknowns

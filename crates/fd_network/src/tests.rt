@@ -165,10 +165,7 @@ fn are_as_many(script: &Positions, at: &Positions) -> bool
 fn is_tap(taps: &TapPair) -> bool
     ensures { IsTrue result ↔ AreTaps taps.now }
 {
-    taps.first >= 50_000
-        && taps.first <= 200_000
-        && taps.second >= 50_000
-        && taps.second <= 200_000
+    taps.first >= 50_000 && taps.first <= 200_000 && taps.second >= 50_000 && taps.second <= 200_000
 }
 
 fn are_taps(at: &Positions) -> bool
@@ -356,12 +353,7 @@ const SETTINGS: [Setting; 5] = [
         false,
         [(100_000_000, 20_000_000), (50_000_000, 10_000_000)],
     ),
-    (
-        100_000,
-        100_000,
-        true,
-        [(0, 0), (40_000_000, 70_000_000)],
-    ),
+    (100_000, 100_000, true, [(0, 0), (40_000_000, 70_000_000)]),
     (
         95_000,
         105_000,
@@ -434,11 +426,7 @@ fn entry(matrix: &Dense, row: u32, col: u32) -> i128 {
 }
 
 // Adds the entries of the start matrix and the numbers of summands, row by row.
-fn add_cells(
-    numbers: &mut Vec<i128>,
-    net: &NetworkRows,
-    start: &Dense,
-) -> Result<(), AllocError> {
+fn add_cells(numbers: &mut Vec<i128>, net: &NetworkRows, start: &Dense) -> Result<(), AllocError> {
     for place in 0..81u32 {
         let (row, col) = (place / 9, place % 9);
         numbers.push(entry(start, row, col))?;

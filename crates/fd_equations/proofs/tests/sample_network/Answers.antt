@@ -5,4 +5,4 @@ use Rattle.fd_equations.specs.Conditions.{IsServed}
 use Rattle.fd_equations.proofs.tests.sample_network.Goals as goal
 
 pub new-requires-clause-loads : goal.new-requires-clause-loads
-new-requires-clause-loads g c = subst (All (IsServed 1 1 c.in_ok-rows.rows.size)) (sym c.in_ok-rows.ensures.loads) (All-nil (IsServed 1 1 c.in_ok-rows.rows.size))
+new-requires-clause-loads g c = subst (All (IsServed 1 1 c.args.rows.now.size)) (sym c.requires.loads) (All-nil (IsServed 1 1 c.args.rows.now.size))
