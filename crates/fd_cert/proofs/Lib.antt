@@ -1,5 +1,6 @@
 pub mod Raising
 pub mod Units
+pub mod FlatSums
 pub mod RowBounds
 pub mod Verdict
 pub mod Certificates

@@ -76,7 +76,7 @@ pub record IsPartly (cells : List Cell) (factor : ℤ) (old new : List ℤ) (k :
   pub left : (j : ℕ) → ((i : ℕ) → i < k → (cell_at cells i).col ≢ j) → part new j ≡ part old j
 
 -- a cell stands in the column, or none of the first n does
-find : (cells : List Cell) (j n : ℕ) → ((k : ℕ) × (k < n) × ((cell_at cells k).col ≡ j)) ⊎ ((k : ℕ) → k < n → (cell_at cells k).col ≢ j)
+pub find : (cells : List Cell) (j n : ℕ) → ((k : ℕ) × (k < n) × ((cell_at cells k).col ≡ j)) ⊎ ((k : ℕ) → k < n → (cell_at cells k).col ≢ j)
 find cells j zero = inr (λ k l. absurd (omega arith))
 find cells j (suc n) = elim (cases_eq (cell_at cells n).col j) [
   | inl e ↦ inl (n, omega arith, e)
@@ -223,3 +223,13 @@ none_of (Some x) h = absurd (h x refl)
 pub when_default : {X : Type 0} (o : Option X) (P : Type 0) → IfNone o P → ((x : X) → ¬ (o ≡ Some x)) → P
 when_default None P h e = h
 when_default (Some x) P h e = absurd (e x refl)
+
+pub weaker_none : {X : Type 0} (o : Option X) {P Q : Type 0} → (P → Q) → IfNone o P → IfNone o Q
+weaker_none None f h = f h
+weaker_none (Some x) f h = tt
+
+-- a sum is small where it is one
+pub wide_small : (a b : Option ℤ) (s : ℤ) → wide_sum a b ≡ Some s → nat_abs s ≤ 2 ^ 120
+wide_small (Some a) (Some b) s e = within_size (a +ℤ b) s e
+wide_small (Some a) None s e = absurd cc
+wide_small None b s e = absurd cc

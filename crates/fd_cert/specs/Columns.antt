@@ -5,7 +5,7 @@ use Rattle.fd_arith.specs.Wide.{wide_difference, wide_product, wide_size, wide_s
 use Rattle.fd_equations.specs.Amounts.{Amount, AreCells, IsNothingElsewhere, IsRowOf, cell_at}
 use Rattle.fd_equations.specs.Matrices.{MatrixView}
 use Rattle.fd_equations.specs.declared.cells.Cell.{Cell}
-use Rattle.fd_enclosure.specs.Bounds.{unit_at, wide_sums}
+use Rattle.fd_enclosure.specs.Bounds.{wide_sums}
 use Rattle.fd_enclosure.specs.Sound.{number_at}
 
 -- a sum with the product of a factor and an entry more; none where the product or the sum passes 2^120
@@ -43,9 +43,9 @@ pub record IsMade (m : MatrixView) : Type 0 where
 abbrev pub column_sum : (ℕ → ℤ) → (ℕ → ℕ → ℤ) → ℕ → ℕ → Option ℤ
 column_sum factor J j n = wide_sums (λ l. wide_product (Some (factor l)) (Some (J l j))) n
 
--- what a column's sum leaves of the unit matrix, and what another sum adds
-abbrev pub left_over_of : ℕ → ℕ → Option ℤ → Option ℤ → Option ℤ
-left_over_of row col product added = wide_sum (wide_size (wide_difference (Some (unit_at row col)) product)) added
+-- what a column's sum leaves of an entry of the unit matrix, and what another sum adds
+abbrev pub left_over_of : ℤ → Option ℤ → Option ℤ → Option ℤ
+left_over_of unit product added = wide_sum (wide_size (wide_difference (Some unit) product)) added
 
 -- a weight for each of n unknowns, from 10^6 to 2^66
 pub record AreWeights (n : ℕ) (ws : List ℤ) : Type 0 where

@@ -23,6 +23,7 @@ use crate::fault::CertFault;
 use crate::mismatches::{first_loose, mismatches};
 use crate::radii::{load_radii, with_radii};
 use crate::reach::{first_unbounded, first_wide, greatest_bound, greatest_reach, named, radii};
+use crate::sums::Walk;
 use fd_equations::{Matrix, Network, Point};
 use fd_mat::Dense;
 use std::alloc::{AllocError, Global};
@@ -62,9 +63,11 @@ fn bounds_at(
     let _size = net.size();
     let jacobian = net.jacobian(alloc, x)?;
     let radii = radii_at(alloc, net, x, boxes, &jacobian)?;
+    let entries = Walk::of(alloc, &jacobian)?;
+    let radius_entries = Walk::of(alloc, &radii)?;
     let slopes = Slopes {
-        jacobian: &jacobian,
-        radii: &radii,
+        jacobian: entries,
+        radii: radius_entries,
         weights,
     };
     bounds(alloc, &slopes, inverse)

@@ -5,7 +5,7 @@
 // want of memory. That a certificate is sound, and what it says of other states, are laws on the definitions.
 //
 // Modules: `ball`, what is certified; `fault`, why there is no certificate; `mismatches` of rows, and the first loose one; `boxes`, the
-// half-widths; `radii`, by how much slopes may be off, by non-zeros; `sums` of columns, and `bounds`, how far the inverse times the Jacobian is from
+// half-widths; `radii`, by how much slopes may be off, by non-zeros; `flat`, lists of short entries, whose sums need no tests; `sums` of columns; and `bounds`, how far the inverse times the Jacobian is from
 // the unit matrix; `reach`, the radii of unknowns; `rounding`, quotients rounded up; `certificate` over them.
 #![tactic(auto)]
 
@@ -14,6 +14,7 @@ mod bounds;
 mod boxes;
 mod certificate;
 mod fault;
+mod flat;
 mod mismatches;
 mod radii;
 mod reach;

@@ -1,12 +1,15 @@
 // Sums of the columns of a matrix by non-zeros, each row times a factor.
-ghost use Rattle.std.specs.Prelude.{◌≡◌, ℕ, ◌<◌, ◌≤◌, ◌^◌, ◌*ℤ◌, ℤ, pos, nat_abs, IfNone, IfSome, List, length, Some, None};
+ghost use Rattle.std.specs.Prelude.{◌≡◌, ℕ, ◌<◌, ◌≤◌, ◌^◌, ◌*ℤ◌, ℤ, pos, nat_abs, IfNone, IfOk, IfSome, List, length, Some, None};
 ghost use Rattle.fd_exact.specs.States.{part};
 ghost use Rattle.fd_arith.specs.Wide.{wide_product};
 ghost use Rattle.fd_equations.specs.Amounts.{IsRowOf};
-ghost use Rattle.fd_cert.specs.Columns.{AreColumns, AreUnits, HasEntries, IsMade, IsRow, column_sum, sum_more as more};
+ghost use Rattle.fd_cert.specs.Columns.{AreColumns, AreUnits, HasEntries, IsMade, IsRow, IsRowOfInverse, column_sum, sum_more as more};
+ghost use Rattle.fd_cert.specs.Entries.{IsFlatOf};
 
+use crate::flat::{Entry, add_entries, entries_of};
 use fd_arith::Wide;
 use fd_equations::{Cell, Matrix};
+use std::alloc::{AllocError, Global};
 
 // The greatest size of a number of which two have a product of 64 bits each, 2^59.
 const SHORT: u128 = 0x800_0000_0000_0000;
@@ -67,7 +70,7 @@ fn add_products(sums: &mut [i128], cells: &[Cell], factor: i128) -> Option<u32>
 
 // Writes into `sums` for each column the sum over the rows of the factor of the row times the entry. Gives a column at which a product or
 // a sum passes 2^120, if there is one.
-pub fn column_sums(sums: &mut [i128], matrix: &Matrix, factors: &[i128]) -> Option<u32>
+fn column_sums(sums: &mut [i128], matrix: &Matrix, factors: &[i128]) -> Option<u32>
     requires made { IsMade matrix.now }
     requires factors { length factors.now ≡ matrix.now.size }
     requires sums { length sums.old ≡ matrix.now.size }
@@ -84,6 +87,54 @@ pub fn column_sums(sums: &mut [i128], matrix: &Matrix, factors: &[i128]) -> Opti
         }
     }
     None
+}
+
+// A matrix, and its entries in a list if all are short.
+#[derive(Drop)]
+pub struct Walk<'a> {
+    matrix: &'a Matrix<'a>,
+    entries: Option<Vec<Entry>>,
+}
+
+impl<'a> Walk<'a> {
+    pub fn of(alloc: Global, matrix: &'a Matrix<'a>) -> Result<Walk<'a>, AllocError>
+        requires { IsMade matrix.now }
+        ensures matrix { IfOk result (λ w. w.matrix.now ≡ matrix.now) }
+        ensures flat { IfOk result (λ w. IfSome w.entries (λ es. IsFlatOf w.matrix.now es.items)) }
+    {
+        let entries = entries_of(alloc, matrix)?;
+        Ok(Walk { matrix, entries })
+    }
+
+    // How many rows it has, and how many columns.
+    pub fn size(&self) -> u32
+        ensures size { result ≡ self.now.matrix.now.size }
+        ensures small { result ≤ 2 ^ 11 }
+    {
+        self.matrix.size()
+    }
+
+    // The same as `column_sums`, without tests where all entries are short.
+    pub fn sums(&self, sums: &mut [i128], factors: &[i128]) -> Option<u32>
+        requires made { IsMade self.now.matrix.now }
+        requires flat { IfSome self.now.entries (λ es. IsFlatOf self.now.matrix.now es.items) }
+        requires factors { IsRowOfInverse self.now.matrix.now.size factors.now }
+        requires sums { length sums.old ≡ self.now.matrix.now.size }
+        requires zero { (j : ℕ) → part sums.old j ≡ pos 0 }
+        ensures long { length sums.new ≡ length sums.old }
+        ensures units { AreUnits sums.new }
+        ensures sums { (J : ℕ → ℕ → ℤ) → HasEntries self.now.matrix.now J → IfNone result ((j : ℕ) → j < self.now.matrix.now.size → column_sum (part factors.now) J j self.now.matrix.now.size ≡ Some (part sums.new j)) }
+        ensures past { (J : ℕ → ℕ → ℤ) → HasEntries self.now.matrix.now J → IfSome result (λ j. (j < self.now.matrix.now.size) × (column_sum (part factors.now) J j self.now.matrix.now.size ≡ None)) }
+    {
+        match &self.entries {
+            Some(entries) => {
+                let _size = self.size();
+                add_entries(sums, entries, factors);
+                None
+            }
+            None => column_sums(sums, self.matrix, factors),
+        }
+    }
 }
 
 // Writes 0 at each place.

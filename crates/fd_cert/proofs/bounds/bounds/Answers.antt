@@ -7,7 +7,7 @@ use Rattle.fd_cert.proofs.bounds.bounds.Goals as goal
 
 pub loop-row-preserved : goal.loop-row-preserved
 loop-row-preserved c =
-    let n = c.args.slopes.now.jacobian.now.size in
+    let n = c.args.slopes.now.jacobian.matrix.now.size in
     let i = c.loop-row.row in
     let p : c.loop-row.products.len ≡ length c.bound.new.products = search rules in
     let a : c.loop-row.added.len ≡ length c.bound.new.added = search rules in

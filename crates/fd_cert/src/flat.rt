@@ -1,0 +1,93 @@
+// Entries of a matrix that are so short that their sums need no tests.
+ghost use Rattle.std.specs.Prelude.{◌≡◌, ℕ, ◌<◌, ◌≤◌, ◌^◌, ◌*ℤ◌, ◌++◌, ℤ, pos, nat_abs, map, true, IfOk, IfSome, All, length};
+ghost use Rattle.fd_exact.specs.States.{part};
+ghost use Rattle.fd_exact.specs.Sums.{list_z};
+ghost use Rattle.fd_equations.specs.Amounts.{cell_at};
+ghost use Rattle.fd_cert.specs.Columns.{AreColumns, IsMade, IsRowOfInverse};
+ghost use Rattle.fd_cert.specs.Entries.{AreShort, HasSmallUnits, IsFlatOf, IsShort, entry_of, entry_term};
+
+use fd_equations::{Cell, Matrix};
+use std::alloc::{AllocError, Global};
+
+// The greatest size of a short entry, 2^48, and how many a matrix may have, 2^22.
+const SHORT: u128 = 0x1_0000_0000_0000;
+
+const MOST: usize = 0x40_0000;
+
+/// An entry of a matrix, at most 2^48 in size, with its row and its column.
+#[derive(Clone, Copy, Drop)]
+pub struct Entry {
+    row: u32,
+    col: u32,
+    units: i64,
+}
+
+// The entry of a cell of a row, if it is short.
+fn short_entry(row: u32, cell: &Cell) -> Option<Entry>
+    ensures entry { IfSome result (λ e. e ≡ entry_of row cell.now) }
+    ensures small { IfSome result (λ e. nat_abs cell.now.units ≤ 2 ^ 48) }
+{
+    if cell.units.unsigned_abs() <= SHORT {
+        Some(Entry {
+            row,
+            col: cell.col,
+            units: cell.units as i64,
+        })
+    } else {
+        None
+    }
+}
+
+// Adds the entries of a row. Tells whether all are short.
+fn push_row(entries: &mut Vec<Entry>, row: u32, cells: &[Cell]) -> Result<bool, AllocError>
+    ensures made { IfOk result (λ all. all ≡ true → entries.new.items ≡ entries.old.items ++ map (entry_of row) cells.now) }
+    ensures small { IfOk result (λ all. all ≡ true → HasSmallUnits cells.now (length cells.now)) }
+{
+    for cell in cells {
+        let Some(entry) = short_entry(row, cell) else {
+            return Ok(false);
+        };
+        entries.push(entry)?;
+    }
+    Ok(true)
+}
+
+// The entries of a matrix, if all are short.
+pub fn entries_of(alloc: Global, matrix: &Matrix) -> Result<Option<Vec<Entry>>, AllocError>
+    requires { IsMade matrix.now }
+    ensures { IfOk result (λ o. IfSome o (λ entries. IsFlatOf matrix.now entries.items)) }
+{
+    let mut entries = Vec::new(alloc);
+    for row in 0..matrix.size() {
+        if !push_row(&mut entries, row, matrix.row(row))? {
+            return Ok(None);
+        }
+    }
+    if entries.len() > MOST {
+        return Ok(None);
+    }
+    Ok(Some(entries))
+}
+
+// A factor times a short entry: one multiplication of 64 bits.
+fn times(factor: i128, units: i64) -> i128
+    requires factor { nat_abs factor ≤ 2 ^ 56 }
+    requires units { nat_abs units ≤ 2 ^ 48 }
+    ensures value { result ≡ factor *ℤ units }
+    ensures small { nat_abs result ≤ 2 ^ 104 }
+{
+    (factor as i64) as i128 * units as i128
+}
+
+// Adds to the sum of each column its entries, each times the factor of its row.
+pub fn add_entries(sums: &mut [i128], entries: &[Entry], factors: &[i128])
+    requires entries { AreShort (length sums.old) entries.now }
+    requires factors { IsRowOfInverse (length sums.old) factors.now }
+    requires zero { (j : ℕ) → part sums.old j ≡ pos 0 }
+    ensures long { length sums.new ≡ length sums.old }
+    ensures sums { (j : ℕ) → part sums.new j ≡ list_z (entry_term (part factors.now) j) entries.now }
+{
+    for entry in entries {
+        sums[entry.col as usize] += times(factors[entry.row as usize], entry.units);
+    }
+}
