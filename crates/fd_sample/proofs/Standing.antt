@@ -1,5 +1,5 @@
 -- What a circuit that passed the tests of Solve says of the elements that a control names.
-use Rattle.std.proofs.Common.{◌≡◌, ℕ, ◌<◌, ◌≤◌, ◌^◌, Bool, true, false, List, [], ◌∷◌, length, get_or, slice_get, Option, Some, None, if◌then◌else◌, refl, sym, ap, subst, ◌∙◌, arith}
+use Rattle.std.proofs.Common.{take, ◌≡◌, ℕ, ◌<◌, ◌≤◌, ◌^◌, Bool, true, false, List, [], ◌∷◌, length, get_or, slice_get, Option, Some, None, if◌then◌else◌, refl, sym, ap, subst, ◌∙◌, arith}
 use Rattle.std.specs.Prelude.{All, IfSome, IsSome}
 use Rattle.std.specs.Map.{lookup}
 use Rattle.std.specs.Option.{option_map}
@@ -30,7 +30,7 @@ use Rattle.dss_circuit.specs.WellFormed.{IsEntry}
 use Rattle.dss_layout.specs.Layout.{Elements, LayoutView, branch_phases, complex_count, ends_of, layout_of, size_of}
 use Rattle.dss_layout.proofs.CallerLemmas.{length-sums_before}
 use Rattle.dss_ready.specs.Lookups.{element_given}
-use Rattle.dss_ready.specs.Passed.{IsPhaseOf}
+use Rattle.dss_ready.specs.Passed.{IsFit, IsPhaseOf}
 use Rattle.dss_ready.specs.Ready.{HasPassed}
 use Rattle.dss_ready.proofs.CallerLemmas.{passed}
 use Rattle.fd_devices.specs.Sound.{IsSideOf}
@@ -319,3 +319,46 @@ cap_probe_in circuit control place bank layout e number p same f at found bank_f
   bank_found = bank_found;
   probe = h f.line f.is ∙ (λ i. cap_probe control f.line (ends_of (same i) place (the.Line f.line)) (count i));
 }
+
+-- ---- what the tests of Solve say of a control at its place
+
+record AtPlace (circuit : CircuitView) (place : ℕ) (e : Element) : Type 0 where
+  before : Elements
+  name : ElementName
+  fit : IsFit circuit before (name, e)
+  in_range : ElementInRange e
+
+at_place : (circuit : CircuitView) → HasPassed circuit → All (λ e. ElementInRange e.1) circuit.elements → (place : ℕ) (e : Element) →
+    element_at circuit.elements place ≡ Some e → AtPlace circuit place e
+at_place circuit h range place e at =
+    let entry = entry_of (slice_get circuit.elements place) e at in
+    let pair : ElementName × Element = (entry.name, e) in
+    let within = slice_get_within circuit.elements place pair entry.is in
+    record {
+      before = take place circuit.elements;
+      name = entry.name;
+      fit = (passed circuit h).each place pair entry.is;
+      in_range = subst (λ (x : ElementName × Element). ElementInRange x.1) (get_or_from_slice_get circuit.elements place pair pair entry.is) (range place pair within);
+    }
+
+pub regcontrol_in : (circuit : CircuitView) → HasPassed circuit → All (λ e. ElementInRange e.1) circuit.elements → (place : ℕ) (e : Element)
+    (control : RegControl) → element_at circuit.elements place ≡ Some e → e ≡ the.RegControl control → IsRegControlIn circuit.elements control
+regcontrol_in circuit h range place e control at is =
+    let here = at_place circuit h range place (the.RegControl control) (at ∙ ap Some is) in
+    let fit = here.fit.values in
+    record { in_range = here.in_range; transformer = fit.transformer; there = fit.there; phase = fit.phase }
+
+pub capcontrol_in : (circuit : CircuitView) → HasPassed circuit → All (λ e. ElementInRange e.1) circuit.elements → (place : ℕ) (e : Element)
+    (control : CapControl) → element_at circuit.elements place ≡ Some e → e ≡ the.CapControl control → IsCapControlIn circuit.elements control
+capcontrol_in circuit h range place e control at is =
+    let here = at_place circuit h range place (the.CapControl control) (at ∙ ap Some is) in
+    let fit = here.fit.values in
+    record {
+      in_range = here.in_range;
+      line = fit.line;
+      line_there = fit.line_there;
+      bank = fit.bank;
+      bank_there = fit.bank_there;
+      voltage_phase = fit.voltage_phase;
+      current_phase = fit.current_phase;
+    }

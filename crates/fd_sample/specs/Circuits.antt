@@ -19,6 +19,8 @@ use Rattle.dss_ready.specs.Lookups.{element_given}
 use Rattle.dss_ready.specs.Passed.{IsPhaseOf}
 use Rattle.fd_xfmr.specs.Transformer.{IsBetween}
 use Rattle.fd_devices.specs.Settings.{bank_count, tap_count}
+use Rattle.fd_sample.specs.declared.probe.Probe.{Probe}
+use Rattle.fd_sample.specs.declared.probe.Probe.TheVariants as probe
 use Rattle.fd_sample.specs.declared.probe.RegProbe.{RegProbe}
 use Rattle.fd_sample.specs.Scripted.{IsLineAt, IsPhase, IsXfmrAt, cap_probe, reg_probe}
 
@@ -120,3 +122,17 @@ pub record IsLineFor (layout : LayoutView) (place : ℕ) (control : CapControl) 
 -- the probe of a control whose line is this element and whose bank has this number
 abbrev pub IsCapProbeAt : LayoutView → ℕ → CapControl → Element → ℕ → CapProbe → Type 0
 IsCapProbeAt layout place control e number p = (l : Line) → e ≡ the.Line l → p ≡ cap_probe control l (ends_of layout place (the.Line l)) number
+
+-- ---- any element
+
+-- the probe of an element: there is one exactly where it is a control
+abbrev pub IsProbeOf : Elements → Option Element → Option Probe → Type 0
+IsProbeOf es (Some (the.RegControl control)) (Some (probe.Regulator p)) = IsRegProbeIn es control p
+IsProbeOf es (Some (the.RegControl control)) (Some (probe.Bank p)) = ⊥
+IsProbeOf es (Some (the.RegControl control)) None = ⊥
+IsProbeOf es (Some (the.CapControl control)) (Some (probe.Bank p)) = IsCapProbeIn es control p
+IsProbeOf es (Some (the.CapControl control)) (Some (probe.Regulator p)) = ⊥
+IsProbeOf es (Some (the.CapControl control)) None = ⊥
+IsProbeOf es (Some other) None = Unit {0}
+IsProbeOf es (Some other) (Some p) = ⊥
+IsProbeOf es None o = ⊥

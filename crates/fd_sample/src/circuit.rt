@@ -9,11 +9,12 @@ ghost use Rattle.dss_layout.specs.Layout.{layout_of, size_of};
 ghost use Rattle.dss_ready.specs.Lookups.{element_given};
 ghost use Rattle.dss_ready.specs.Ready.{HasPassed};
 ghost use Rattle.fd_devices.specs.Settings.{bank_count as banks_of, tap_count as taps_of};
-ghost use Rattle.fd_sample.specs.Circuits.{IsCapControlIn, IsCapProbeAt, IsCapProbeIn, IsLineFor, IsRegControlIn, IsRegProbeAt, IsRegProbeIn, IsXfmrFor, element_at, banks_before as count_of_banks, line_in, transformer_in, place_given as place_of, transformers_before as count_before};
+ghost use Rattle.fd_sample.specs.Circuits.{IsCapControlIn, IsCapProbeAt, IsCapProbeIn, IsLineFor, IsProbeOf, IsRegControlIn, IsRegProbeAt, IsRegProbeIn, IsXfmrFor, element_at, banks_before as count_of_banks, line_in, transformer_in, place_given as place_of, transformers_before as count_before};
 ghost use Rattle.fd_sample.specs.Banks.{IsCapProbe};
+ghost use Rattle.fd_sample.specs.Probes.{IsProbe};
 ghost use Rattle.fd_sample.specs.Regulators.{IsRegProbe};
 
-use crate::probe::{CapProbe, RegProbe};
+use crate::probe::{CapProbe, Probe, RegProbe};
 use crate::scripted::{bank_probe, regulator_probe};
 use dss_circuit::Circuit;
 use dss_layout::Layout;
@@ -21,6 +22,38 @@ use dss_lexer::Text;
 use dss_profile::{CapControl, Class, Element, ElementName, Line, RegControl, Transformer};
 use indexmap::IndexMap;
 use std::alloc::{AllocError, Global};
+
+/// The probe of the element at this place in order, in a circuit that passed the tests of Solve, whose layout this is: None exactly where the
+/// element is no control.
+///
+/// # Errors
+/// `AllocError` where the memory is refused.
+pub fn probe_at_place(
+    alloc: Global,
+    circuit: &Circuit,
+    layout: &Layout,
+    place: usize,
+) -> Result<Option<Probe>, AllocError>
+    requires ready { HasPassed circuit.now }
+    requires layout { layout.now ≡ layout_of circuit.now.elements }
+    requires place { place < length circuit.now.elements }
+    ensures probe { IfOk result (IsProbeOf circuit.now.elements (element_at circuit.now.elements place)) }
+    ensures places { IfOk result (λ o. IfSome o (IsProbe (size_of (layout_of circuit.now.elements)))) }
+{
+    let elements = circuit.elements();
+    let element = element_in(elements, place);
+    match element {
+        Element::RegControl(control) => {
+            let probe = regulator_probe_of(alloc, circuit, layout, control)?;
+            Ok(Some(Probe::Regulator(probe)))
+        }
+        Element::CapControl(control) => {
+            let probe = bank_probe_of(alloc, circuit, layout, control)?;
+            Ok(Some(Probe::Bank(probe)))
+        }
+        _ => Ok(None),
+    }
+}
 
 /// The probe of a regulator's control of a circuit that passed the tests of Solve, whose layout this is.
 ///

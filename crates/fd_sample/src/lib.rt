@@ -32,7 +32,7 @@ mod sample;
 mod scripted;
 
 pub use bank_sample::bank_verdict;
-pub use circuit::{bank_probe_of, regulator_probe_of};
+pub use circuit::{bank_probe_of, probe_at_place, regulator_probe_of};
 pub use controls::verdict;
 pub use probe::{CapProbe, LineEnd, Measured, Probe, RegProbe};
 pub use sample::regulator_verdict;
