@@ -125,12 +125,7 @@ fn size_of_bound(sum: Option<i128>) -> Option<u128>
 }
 
 // What a point comes to.
-fn judge(
-    alloc: Global,
-    circuit: &Circuit,
-    net: Network,
-    point: Point,
-) -> Result<Answer, AllocError>
+fn judge(alloc: Global, circuit: &Circuit, net: Network, point: Point) -> Result<Answer, AllocError>
     requires layout { net.layout ≡ layout_of circuit.now.elements }
     requires network { net.rows ≡ snapshot_network circuit.now }
     requires agrees { AgreesWith net.rows.share (circuit_parts circuit.now (snapshot_of circuit.now.elements)) }

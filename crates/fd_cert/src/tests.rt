@@ -14,12 +14,10 @@ const ONE: i128 = 0x100_0000_0000;
 
 const GREATEST_ENTRY: u128 = 0x100_0000_0000_0000;
 
-const CONSTANTS: [Constant; 1] = [
-    Constant {
-        row: 0,
-        value: -100_000_000,
-    },
-];
+const CONSTANTS: [Constant; 1] = [Constant {
+    row: 0,
+    value: -100_000_000,
+}];
 
 // A siemens from a node to ground.
 fn siemens(alloc: Global) -> Result<Rows, AllocError>
