@@ -1,0 +1,807 @@
+"""An exact model of `solve` in snapshot (and day) without controls. Whole numbers alone."""
+import sys
+from math import isqrt
+import os
+sys.path.insert(0, os.path.dirname(os.path.abspath(__file__)))
+from script import Script, Refused, near, ONE, UNITS
+
+R3, H3, T15 = 1732050807568877, 866025403784439, 10 ** 15
+OMEGA = {60: 376991118430775, 50: 314159265358979}
+B40, P120 = 1 << 40, 1 << 120
+
+
+def ceil(n, d):
+    return -((-n) // d)
+
+
+def near_at(n, d):
+    return near(n << 40, d)
+
+
+def ceil_at(n, d):
+    v = ceil(n << 40, d)
+    assert abs(v) <= 1 << 100
+    return v
+
+
+def clamp(v, lo, hi):
+    return min(max(v, lo), hi)
+
+
+def u_of(kv, phases, conn):
+    return near(kv * T15, R3) if phases == 3 and conn == 'wye' else kv
+
+
+# ---------------------------------------------------------------- nodes
+
+def three(numbers):
+    if not numbers:
+        return [1, 2, 3]
+    if len(numbers) == 4:
+        if numbers[3]:
+            raise Refused('unsupported')
+        return numbers[:3]
+    if len(numbers) != 3:
+        raise Refused('wrong count')
+    return numbers
+
+
+def pairs_of(bus, phases, conn, back=False):
+    """The terminals (first, second) of a winding, bank or load as node numbers."""
+    name, numbers = bus
+    if phases == 3:
+        n = three(numbers)
+        if conn == 'wye':
+            return [(n[k], 0) for k in range(3)]
+        return [(n[k], n[(k - 1) % 3 if back else (k + 1) % 3]) for k in range(3)]
+    if len(numbers) > 2:
+        raise Refused('wrong count')
+    if conn == 'wye':
+        return [((numbers or [1])[0], numbers[1] if len(numbers) == 2 else 0)]
+    if len(numbers) == 1:
+        raise Refused('wrong count')
+    return [tuple(numbers) if numbers else (1, 2)]
+
+
+def mention(bus, phases, conn):
+    name, numbers = bus
+    if phases == 3:
+        return [(name, n) for n in three(numbers)]
+    return [(name, n) for n in pairs_of(bus, phases, conn)[0]]
+
+
+def line_nodes(bus, phases):
+    name, numbers = bus
+    if not numbers:
+        numbers = [1, 2, 3][:phases]
+    if len(numbers) != phases:
+        raise Refused('wrong count')
+    return [(name, n) for n in numbers]
+
+
+# ---------------------------------------------------------------- the data of elements
+
+def source_ohms(e):
+    if e['ohms']:
+        r1, x1 = e['r1'] or 0, e['x1'] or 0
+        return r1, x1, r1 if e['r0'] is None else e['r0'], x1 if e['x0'] is None else e['x0']
+    k3 = e['basekv'] ** 2 // e['mvasc3']
+    k1 = e['basekv'] ** 2 // e['mvasc1']
+    if max(k3, k1) > 10 ** 13:
+        raise Refused('value out of range')
+    x, y = e['x1r1'], e['x0r0']
+    r1 = isqrt(k3 * k3 * 10 ** 8 // (10 ** 8 + x * x))
+    x1 = x * r1 // 10 ** 4
+    ok = lambda r: (2 * r1 + r) ** 2 * 10 ** 8 + (2 * x1 * 10 ** 4 + y * r) ** 2 <= 9 * k1 * k1 * 10 ** 8
+    r0 = 0
+    if ok(0):
+        lo, hi = 0, 3 * k1 + 1
+        while hi - lo > 1:
+            mid = (lo + hi) // 2
+            lo, hi = (mid, hi) if ok(mid) else (lo, mid)
+        r0 = lo
+    return r1, x1, r0, y * r0 // 10 ** 4
+
+
+def entry(v1, v0, i, j):
+    """Three times the sequence entry."""
+    return 2 * v1 + v0 if i == j else v0 - v1
+
+
+def line_matrices(e):
+    n = e['phases']
+    lu, cu = UNITS[e['units']], UNITS[e['codeunits'] or 'none']
+    if e['own'] or lu is None or cu is None:
+        lu = cu = 1
+    if e['zform'] is None:
+        raise Refused('no impedance')
+    length = e['length']
+    z = []
+    if e['zform'] == 'sequence':
+        r1, x1 = e['r1'] or 0, e['x1'] or 0
+        r0 = r1 if e['r0'] is None else e['r0']
+        x0 = x1 if e['x0'] is None else e['x0']
+        get = lambda i, j: (entry(r1, r0, i, j), entry(x1, x0, i, j), 3)
+    else:
+        for m in (e['rmatrix'], e['xmatrix']):
+            if m is not None and len(m) != n:
+                raise Refused('wrong count')
+        get = lambda i, j: (e['rmatrix'][i][j] if e['rmatrix'] else 0, e['xmatrix'][i][j] if e['xmatrix'] else 0, 1)
+    for i in range(n):
+        row = []
+        for j in range(n):
+            r, x, d = get(i, j)
+            row.append((r * length * lu // (d * cu * 10 ** 6), x * length * lu // (d * cu * 10 ** 6)))
+        z.append(row)
+    if e['cform'] is None:
+        cget = lambda i, j: (0, 1)
+    elif e['cform'] == 'sequence':
+        c1 = e['c1'] or 0
+        c0 = c1 if e['c0'] is None else e['c0']
+        cget = lambda i, j: (entry(c1, c0, i, j), 3)
+    else:
+        if len(e['cmatrix']) != n:
+            raise Refused('wrong count')
+        cget = lambda i, j: (e['cmatrix'][i][j], 1)
+    c = [[cget(i, j)[0] * length * lu // (cget(i, j)[1] * cu * 10 ** 12) for j in range(n)] for i in range(n)]
+    return z, c
+
+
+COS = {0: (1, 0), 30: ('h', 0.5), 60: (0.5, 'h')}
+
+
+def unit(angle, volts):
+    """The two parts of `volts` turned by `angle` degrees."""
+    a = angle % 360
+
+    def part(a):
+        a %= 360
+        s = {0: 2, 30: 'h', 60: 1, 90: 0, 120: -1, 150: '-h', 180: -2, 210: '-h', 240: -1, 270: 0, 300: 1, 330: 'h'}[a]
+        if s == 'h':
+            return near(volts * H3, T15)
+        if s == '-h':
+            return near(-volts * H3, T15)
+        return near(volts * s, 2)
+    return part(a), part(a - 90)
+
+
+class LoadPhase:
+    pass
+
+
+class Network:
+    def __init__(self, circuit, hertz, hour=0):
+        self.build(circuit, hertz, hour)
+
+    def build(self, circuit, hertz, hour):
+        nodes, order, branches, mags = {}, [], [], []
+        els = [(k, e) for k, e in circuit.items()]
+        for (cls, nm), e in els:
+            m = []
+            if cls == 'vsource':
+                if e['phases'] == 3:
+                    m = mention(e['bus1'], 3, 'wye')
+                else:
+                    b, nu = e['bus1']
+                    if len(nu) > 2:
+                        raise Refused('wrong count')
+                    if len(nu) == 2 and nu[1]:
+                        raise Refused('unsupported')
+                    m = [(b, (nu or [1])[0])]
+            elif cls == 'line':
+                m = line_nodes(e['bus1'], e['phases']) + line_nodes(e['bus2'], e['phases'])
+            elif cls == 'transformer':
+                for w in (0, 1):
+                    m += mention(e['buses'][w], e['phases'], e['conns'][w])
+            elif cls in ('capacitor', 'load'):
+                m = mention(e['bus1'], e['phases'], e['conn'])
+            for nd in m:
+                if nd[1] and nd not in nodes:
+                    nodes[nd] = len(order)
+                    order.append(nd)
+            if cls in ('vsource', 'line', 'transformer'):
+                branches += [('%s.%s' % (cls, nm), k + 1) for k in range(e['phases'])]
+            if cls == 'load' and e['model'] == 5:
+                mags += [('load.' + nm, k + 1) for k in range(e['phases'])]
+        self.nodes, self.branches, self.mags = order, branches, mags
+        self.nn, self.nb, self.nm = len(order), len(branches), len(mags)
+        if self.nn + self.nb > 240 or self.nm > 48:
+            raise Refused('too many')
+        self.n = 2 * (self.nn + self.nb) + self.nm
+        self.terms = []      # (row, col, num, den)
+        self.constants = [0] * self.n
+        self.loads = []
+        self.current_sum = 0
+        at = lambda b, n: nodes[(b, n)] if n else None
+        add = self.complex_term
+        br, mg = self.nn, 2 * (self.nn + self.nb)
+        for (cls, nm), e in els:
+            if cls == 'vsource':
+                ph = e['phases']
+                volts = near(e['basekv'] * e['pu'], ONE) if ph == 1 else near(e['basekv'] * e['pu'] * T15, ONE * R3)
+                r1, x1, r0, x0 = source_ohms(e)
+                b, nu = e['bus1']
+                ns = three(nu) if ph == 3 else [(nu or [1])[0]]
+                for k in range(ph):
+                    re, im = unit(e['angle'] - 120 * k, volts)
+                    self.constants[2 * (br + k)] += re
+                    self.constants[2 * (br + k) + 1] += im
+                    nd = at(b, ns[k])
+                    add(br + k, nd, -1, 0, 1)
+                    add(nd, br + k, -1, 0, 1)
+                    for m in range(ph):
+                        r = entry(r1, r0, k, m) * 1000 // 3
+                        x = entry(x1, x0, k, m) * 1000 // 3
+                        add(br + k, br + m, -r, -x, 10 ** 12)
+                br += ph
+            elif cls == 'line':
+                ph = e['phases']
+                z, c = line_matrices(e)
+                n1 = [at(*x) for x in line_nodes(e['bus1'], ph)]
+                n2 = [at(*x) for x in line_nodes(e['bus2'], ph)]
+                for k in range(ph):
+                    add(br + k, n1[k], 1, 0, 1)
+                    add(br + k, n2[k], -1, 0, 1)
+                    add(n1[k], br + k, 1, 0, 1)
+                    add(n2[k], br + k, -1, 0, 1)
+                    for m in range(ph):
+                        add(br + k, br + m, -z[k][m][0], -z[k][m][1], 10 ** 12)
+                        for ns in (n1, n2):
+                            add(ns[k], ns[m], 0, OMEGA[hertz] * c[k][m], 2 * 10 ** 27)
+                br += ph
+            elif cls == 'transformer':
+                ph = e['phases']
+                if e['kvas'][0] != e['kvas'][1]:
+                    raise Refused('unsupported')
+                u = [u_of(e['kvs'][w], ph, e['conns'][w]) for w in (0, 1)]
+                hi = 0 if e['kvs'][0] >= e['kvs'][1] else 1
+                mixed = ph == 3 and e['conns'][0] != e['conns'][1]
+                tm = []
+                for w in (0, 1):
+                    b = e['buses'][w]
+                    back = mixed and w == hi
+                    tm.append([(at(b[0], x), at(b[0], y)) for x, y in pairs_of(b, ph, e['conns'][w], back)])
+                t1, t2 = e['taps']
+                zr = (e['rs'][0] + e['rs'][1]) * u[1] ** 2 * ph // (e['kvas'][0] * 10 ** 5)
+                zx = e['xhl'] * u[1] ** 2 * ph // (e['kvas'][0] * 10 ** 5)
+                an, ad = u[1] * t2, u[0] * t1
+                for k in range(ph):
+                    (f1, s1), (f2, s2) = tm[0][k], tm[1][k]
+                    add(br + k, f1, an, 0, ad)
+                    add(br + k, s1, -an, 0, ad)
+                    add(br + k, f2, -1, 0, 1)
+                    add(br + k, s2, 1, 0, 1)
+                    add(br + k, br + k, -zr * t2 ** 2, -zx * t2 ** 2, 10 ** 22)
+                    add(f1, br + k, an, 0, ad)
+                    add(s1, br + k, -an, 0, ad)
+                    add(f2, br + k, -1, 0, 1)
+                    add(s2, br + k, 1, 0, 1)
+                br += ph
+            elif cls == 'capacitor':
+                if not e['closed']:
+                    continue
+                ph = e['phases']
+                v = u_of(e['kv'], ph, e['conn'])
+                b = e['bus1']
+                for x, y in pairs_of(b, ph, e['conn']):
+                    f, s = at(b[0], x), at(b[0], y)
+                    self.shunt(f, s, 0, e['kvar'] * 10 ** 6, ph * v * v)
+                    self.current_sum += ceil(e['kvar'] * 10 ** 6, ph * v)
+            elif cls == 'load':
+                ph = e['phases']
+                point = ONE
+                if hour and e['daily']:
+                    s = circuit[('loadshape', e['daily'])]
+                    point = s['mult'][:s['npts']][(hour - 1) % s['npts']]
+                p = near(e['kw'] * point, 1000 * ONE * ph)
+                if e['bykvar']:
+                    q = near(e['kvar'] * point, 1000 * ONE * ph)
+                else:
+                    d = e['pf'] ** 2
+                    q = isqrt(p * p * (10 ** 18 - d) // d)
+                    if p * e['pf'] < 0:
+                        q = -q
+                vn = u_of(e['kv'], ph, e['conn'])
+                b = e['bus1']
+                vlo, vhi = near(e['vminpu'] * vn, ONE), near(e['vmaxpu'] * vn, ONE)
+                if abs(p) + abs(q) > 10 ** 11 or (abs(p) + abs(q)) * 10 ** 9 > (vlo * vlo) << 12:
+                    raise Refused('range')
+                for x, y in pairs_of(b, ph, e['conn']):
+                    l = LoadPhase()
+                    l.f, l.s = at(b[0], x), at(b[0], y)
+                    l.model, l.p, l.q, l.vn = e['model'], p, q, vn
+                    l.vlo, l.vhi = vlo, vhi
+                    l.mag = None
+                    if l.model == 5:
+                        l.mag = mg
+                        mg += 1
+                    if l.model == 2:
+                        self.shunt(l.f, l.s, p * 10 ** 9, -q * 10 ** 9, vn * vn)
+                    self.loads.append(l)
+                    self.current_sum += ceil((abs(p) + abs(q)) * 10 ** 9, vn)
+        self.matrix = {}
+        for r, c, num, den in self.terms:
+            v = near_at(num, den)
+            if abs(v) > 1 << 54:
+                raise Refused('range')
+            self.matrix[r, c] = self.matrix.get((r, c), 0) + v
+        if any(abs(v) > 1 << 54 for v in self.matrix.values()):
+            raise Refused('range')
+        self.rows = [{} for _ in range(self.n)]
+        for (r, c), v in self.matrix.items():
+            self.rows[r][c] = v
+
+    def shunt(self, f, s, g, b, den):
+        for r, sr in ((f, 1), (s, -1)):
+            for c, sc in ((f, 1), (s, -1)):
+                self.complex_term(r, c, sr * sc * g, sr * sc * b, den)
+
+    def complex_term(self, r, c, g, b, den):
+        if r is None or c is None:
+            return
+        for dr, dc, v in ((0, 0, g), (0, 1, -b), (1, 0, b), (1, 1, g)):
+            if v:
+                self.terms.append((2 * r + dr, 2 * c + dc, v, den))
+
+    # ------------------------------------------------------------ names
+
+    def name(self, place):
+        k = place // 2
+        part = ' re' if place % 2 == 0 else ' im'
+        if k < self.nn:
+            return '%s.%d' % self.nodes[k] + part
+        if k < self.nn + self.nb:
+            return '%s %d' % self.branches[k - self.nn] + part
+        return '%s %d mag' % self.mags[place - 2 * (self.nn + self.nb)]
+
+    def kind(self, place):
+        k = place // 2
+        return 'node' if k < self.nn else 'branch' if k < self.nn + self.nb else 'magnitude'
+
+    def weights(self, x):
+        w = []
+        for i in range(self.nn):
+            w += [max(10 ** 6, abs(x[2 * i]) + abs(x[2 * i + 1]))] * 2
+        w += [16 * self.current_sum + 10 ** 6] * (2 * self.nb)
+        for i in range(self.nm):
+            w.append(max(10 ** 6, abs(x[2 * (self.nn + self.nb) + i])))
+        return w
+
+    # ------------------------------------------------------------ loads
+
+    def state(self, l, x):
+        p = q = 0
+        if l.f is not None:
+            p, q = p + x[2 * l.f], q + x[2 * l.f + 1]
+        if l.s is not None:
+            p, q = p - x[2 * l.s], q - x[2 * l.s + 1]
+        return p, q, x[l.mag] if l.mag is not None else 0
+
+    def quotients(self, l, p, q, m):
+        u = p * p + q * q
+        if l.model == 1:
+            d = clamp(u, l.vlo ** 2, l.vhi ** 2)
+        else:
+            d = l.vn * clamp(m, l.vlo, l.vhi)
+        return 10 ** 9 * (l.p * p + l.q * q), 10 ** 9 * (l.p * q - l.q * p), d
+
+    def slopes(self, l, p, q, m):
+        """{(row, column): slope} with rows and columns 0, 1 for the parts and 2 for the magnitude."""
+        ir, ii, d = self.quotients(l, p, q, m)
+        jr, ji = near(ir << 20, d), near(ii << 20, d)
+        g, b = near_at(l.p * 10 ** 9, d), near_at(l.q * 10 ** 9, d)
+        s = {(0, 0): g, (0, 1): b, (1, 0): -b, (1, 1): g}
+        if l.model == 1:
+            u = p * p + q * q
+            if l.vlo ** 2 <= u <= l.vhi ** 2:
+                s[0, 0] -= near_at(2 * p * jr, d << 20)
+                s[0, 1] -= near_at(2 * q * jr, d << 20)
+                s[1, 0] -= near_at(2 * p * ji, d << 20)
+                s[1, 1] -= near_at(2 * q * ji, d << 20)
+        else:
+            c = clamp(m, l.vlo, l.vhi)
+            inside = l.vlo <= m <= l.vhi
+            s[0, 2] = -near_at(jr, c << 20) if inside else 0
+            s[1, 2] = -near_at(ji, c << 20) if inside else 0
+            s[2, 0], s[2, 1], s[2, 2] = -near_at(2 * p, l.vn), -near_at(2 * q, l.vn), near_at(2 * m, l.vn)
+        return s
+
+    def places(self, l, r, c):
+        """Where a slope of a load stands, with its sign."""
+        ends = [(l.f, 1), (l.s, -1)]
+        rows = [(l.mag, 1)] if r == 2 else [(2 * n + r, s) for n, s in ends if n is not None]
+        cols = [(l.mag, 1)] if c == 2 else [(2 * n + c, s) for n, s in ends if n is not None]
+        return [(a, b, s * t) for a, s in rows for b, t in cols]
+
+    # ------------------------------------------------------------ procedure
+
+    def residual(self, x):
+        out = list(self.constants)
+        for r, row in enumerate(self.rows):
+            out[r] += sum(near(a * x[c], B40) for c, a in row.items())
+        for l in self.loads:
+            if l.model == 2:
+                continue
+            p, q, m = self.state(l, x)
+            nr, ni, d = self.quotients(l, p, q, m)
+            cur = (near(nr, d), near(ni, d))
+            for n, s in ((l.f, 1), (l.s, -1)):
+                if n is not None:
+                    out[2 * n] += s * cur[0]
+                    out[2 * n + 1] += s * cur[1]
+            if l.model == 5:
+                out[l.mag] += near(m * m - (p * p + q * q), l.vn)
+        return out
+
+    def start_matrix(self):
+        a = [dict(r) for r in self.rows]
+        for l in self.loads:
+            if l.model == 2:
+                continue
+            g, b = near_at(l.p * 10 ** 9, l.vn ** 2), near_at(l.q * 10 ** 9, l.vn ** 2)
+            for (r, c), v in {(0, 0): g, (0, 1): b, (1, 0): -b, (1, 1): g}.items():
+                for i, j, s in self.places(l, r, c):
+                    a[i][j] = a[i].get(j, 0) + s * v
+            if l.model == 5:
+                a[l.mag][l.mag] = a[l.mag].get(l.mag, 0) + (1 << 41)
+        return a
+
+    def jacobian(self, x):
+        a = [dict(r) for r in self.rows]
+        for l in self.loads:
+            if l.model == 2:
+                continue
+            for (r, c), v in self.slopes(l, *self.state(l, x)).items():
+                for i, j, s in self.places(l, r, c):
+                    a[i][j] = a[i].get(j, 0) + s * v
+        return a
+
+
+class Fault(Exception):
+    def __init__(self, status, *fields):
+        self.status, self.fields = status, fields
+
+
+def invert(net, a):
+    """The elimination on rows {column: entry}; gives the inverse as rows {column: entry}."""
+    n = net.n
+    lim = 1 << 62
+    left = [{c: v for c, v in r.items() if v} for r in a]
+    bad = [c for r in left for c, v in r.items() if abs(v) > lim]
+    if bad:
+        raise Fault(6, 'no inverse', net.name(min(bad)), 'range')
+    right = [{i: B40} for i in range(n)]
+    used = [False] * n
+    pivots = [None] * n
+    half = B40 >> 1
+    for col in range(n):
+        best, row = 0, None
+        for r in range(n):
+            if not used[r]:
+                v = abs(left[r].get(col, 0))
+                if v > best:
+                    best, row = v, r
+        if best < 1 << 8:
+            raise Fault(6, 'no inverse', net.name(col), 'pivot')
+        used[row] = True
+        pivots[col] = row
+        pl, pr = left[row], right[row]
+        piv = pl[col]
+        for r in range(n):
+            if r == row:
+                continue
+            e = left[r].get(col, 0)
+            if not e:
+                continue
+            f = near(e << 40, piv) if piv > 0 else near(-e << 40, -piv)
+            if abs(f) > lim:
+                raise Fault(6, 'no inverse', net.name(col), 'range')
+            for mine, other in ((left[r], pl), (right[r], pr)):
+                for c, v in other.items():
+                    t = f * v
+                    t = (t + half) >> 40 if t >= 0 else -((half - t) >> 40)
+                    if t:
+                        w = mine.get(c, 0) - t
+                        if w > lim or w < -lim:
+                            if mine is left[r] and c == col:
+                                continue
+                            raise Fault(6, 'no inverse', net.name(col), 'range')
+                        if w:
+                            mine[c] = w
+                        else:
+                            mine.pop(c, None)
+            left[r].pop(col, None)
+    out = []
+    for col in range(n):
+        piv = left[pivots[col]][col]
+        row = {}
+        for c, v in right[pivots[col]].items():
+            v = near(v << 40, piv) if piv > 0 else near(-v << 40, -piv)
+            if abs(v) > 1 << 56:
+                raise Fault(6, 'no inverse', net.name(col), 'range')
+            if v:
+                row[c] = v
+        out.append(row)
+    return out
+
+
+def apply(c, v):
+    return [near(sum(a * v[j] for j, a in row.items()), B40) for row in c]
+
+
+class Procedure:
+    def __init__(self, net, limit, tolerance):
+        self.net, self.step = net, 0
+        c0 = invert(net, net.start_matrix())
+        self.x = [-v for v in apply(c0, net.constants)]
+        for l in net.loads:
+            if l.mag is not None:
+                self.x[l.mag] = l.vn
+        self.range()
+        while True:
+            change = self.move(c0)
+            w = net.weights(self.x)
+            bad = [k for k in range(net.n) if net.kind(k) != 'branch' and abs(change[k]) * ONE > tolerance * w[k]]
+            if not bad:
+                break
+            if self.step == limit:
+                raise Fault(8, 'not converged', net.name(bad[0]), str(self.step), micro(abs(change[bad[0]])))
+        self.steps = self.step
+        c1 = invert(net, net.jacobian(self.x))
+        self.move(c1)
+        self.move(c1)
+        self.inverse = c1
+
+    def range(self):
+        for k, v in enumerate(self.x):
+            if abs(v) > B40:
+                raise Fault(7, 'out of range', self.net.name(k), str(self.step))
+
+    def move(self, c):
+        res = self.net.residual(self.x)
+        for k, v in enumerate(res):
+            if abs(v) > 1 << 58:
+                raise Fault(7, 'out of range', self.net.name(k), str(self.step))
+        change = apply(c, res)
+        self.x = [a - b for a, b in zip(self.x, change)]
+        self.step += 1
+        self.range()
+        return change
+
+
+# ---------------------------------------------------------------- certificate
+
+def mismatches(net, x):
+    lo, hi = list(net.constants), list(net.constants)
+    for r, c, num, den in net.terms:
+        s = 1 if num >= 0 else -1
+        n = abs(num) << 40
+        f0, f1 = n // den, ceil(n, den)
+        a, b = f0 * x[c], f1 * x[c]
+        a, b = min(a, b) // B40, ceil(max(a, b), B40)
+        if s < 0:
+            a, b = -b, -a
+        lo[r] += a
+        hi[r] += b
+    for l in net.loads:
+        if l.model == 2:
+            continue
+        p, q, m = net.state(l, x)
+        nr, ni, d = net.quotients(l, p, q, m)
+        for k, v in ((0, nr), (1, ni)):
+            a, b = v // d, ceil(v, d)
+            for n, s in ((l.f, 1), (l.s, -1)):
+                if n is not None:
+                    lo[2 * n + k] += a if s > 0 else -b
+                    hi[2 * n + k] += b if s > 0 else -a
+        if l.model == 5:
+            v = m * m - (p * p + q * q)
+            lo[l.mag] += v // l.vn
+            hi[l.mag] += ceil(v, l.vn)
+    return [max(abs(a), abs(b)) for a, b in zip(lo, hi)]
+
+
+def up(x, y):
+    return ceil(x * y, B40)
+
+
+CASES = {}       # which of inside, outside and straddling the loads of a run were: for the choice of cases
+
+
+def slope_radii(net, l, x, half):
+    p, q, m = net.state(l, x)
+    rp = rq = 0
+    for n in (l.f, l.s):
+        if n is not None:
+            rp += half[2 * n]
+            rq += half[2 * n + 1]
+    g_ = abs(l.p) + abs(l.q)
+    a_, s_ = max(abs(p), abs(q)), max(rp, rq)
+    out = {}
+    if l.model == 1:
+        u = p * p + q * q
+        lo, hi = l.vlo ** 2, l.vhi ** 2
+        c = clamp(u, lo, hi)
+        e = (2 * abs(p) + rp) * rp + (2 * abs(q) + rq) * rq
+        n = max(lo, c - e)
+        g, y = ceil_at(g_ * 10 ** 9, c), ceil_at(e, n)
+        if u - e >= lo and u + e <= hi:
+            kind = 'inside'
+            v = up(g, y + ceil_at(a_ * s_, n) + up(2 * ceil_at(a_ * a_, c), y))
+        elif u + e <= lo or u - e >= hi:
+            kind = 'below' if u + e <= lo else 'above'
+            v = 0
+        else:
+            kind = 'straddles %s from %s' % ('low' if u - e < lo else 'high',
+                                             'within' if lo <= u <= hi else 'outside')
+            v = up(g, y + ceil_at(a_ * (2 * a_ + s_), n))
+        for r in (0, 1):
+            for k in (0, 1):
+                out[r, k] = v
+    else:
+        rm = half[l.mag]
+        c = clamp(m, l.vlo, l.vhi)
+        n = max(l.vlo, c - rm)
+        g, y = ceil_at(g_ * 10 ** 9, l.vn * c), ceil_at(rm, n)
+        if m - rm >= l.vlo and m + rm <= l.vhi:
+            kind, v, t = 'inside', up(g, y), up(g, up(ceil_at(a_, c), y))
+        elif m + rm <= l.vlo or m - rm >= l.vhi:
+            kind, v, t = 'below' if m + rm <= l.vlo else 'above', 0, 0
+        else:
+            kind = 'straddles %s from %s' % ('low' if m - rm < l.vlo else 'high',
+                                             'within' if l.vlo <= m <= l.vhi else 'outside')
+            v, t = up(g, y), up(g, ceil_at(a_, n))
+        for r in (0, 1):
+            for k in (0, 1):
+                out[r, k] = v
+            out[r, 2] = t
+        out[2, 0], out[2, 1], out[2, 2] = ceil_at(rp, l.vn), ceil_at(rq, l.vn), ceil_at(rm, l.vn)
+    CASES.setdefault('model %d %s' % (l.model, kind), 0)
+    CASES['model %d %s' % (l.model, kind)] += 1
+    return out
+
+
+class Certified:
+    def __init__(self, net, x, inverse):
+        self.net, self.x, self.inverse = net, x, inverse
+        n = net.n
+        w = net.weights(x)
+        e = self.mismatch = mismatches(net, x)
+        for k in range(n):
+            if e[k] > 1000:
+                raise Fault(9, 'loose', net.name(k), micro(e[k]))
+        half = self.boxes = [0 if net.kind(k) == 'branch' else ceil(w[k], 200) for k in range(n)]
+        jac = net.jacobian(x)
+        rad = [{} for _ in range(n)]
+
+        def put(i, j, v):
+            rad[i][j] = rad[i].get(j, 0) + v
+        for r, c, num, den in net.terms:
+            put(r, c, 4)
+        for l in net.loads:
+            if l.model == 2:
+                continue
+            for (r, c), v in slope_radii(net, l, x, half).items():
+                for i, j, s in net.places(l, r, c):
+                    put(i, j, v + 4)
+        # columns of J and R
+        jc, rc = [{} for _ in range(n)], [{} for _ in range(n)]
+        for l in range(n):
+            for j, v in jac[l].items():
+                if v:
+                    jc[j][l] = v
+            for j, v in rad[l].items():
+                rc[j][l] = v
+        bounds = []
+        for i in range(n):
+            row = inverse[i]
+            total, all_ = 0, False
+            for j in range(n):
+                s = t = 0
+                for l in sorted(jc[j]):
+                    c = row.get(l, 0)
+                    if c:
+                        v = c * jc[j][l]
+                        s += v
+                        all_ |= abs(v) > P120 or abs(s) > P120
+                for l in sorted(rc[j]):
+                    c = row.get(l, 0)
+                    if c:
+                        v = abs(c) * rc[j][l]
+                        t += v
+                        all_ |= v > P120 or t > P120
+                d = ((1 << 80) if i == j else 0) - s
+                tij = abs(d) + t
+                all_ |= abs(d) > P120 or tij > P120
+                v = w[j] * tij
+                total += v
+                all_ |= v > P120 or total > P120
+            bounds.append(None if all_ else ceil(total, w[i] << 40))
+        b_i = []
+        for i in range(n):
+            s = sum(abs(c) * 2 * e[l] for l, c in inverse[i].items())
+            assert s << 20 <= P120
+            b_i.append(ceil(s << 20, w[i]))
+        b = max(b_i)
+        self.late_all = False
+        for i in range(n):
+            if bounds[i] is not None and w[i] * b > P120:
+                bounds[i] = None
+                self.late_all = True
+        for i in range(n):
+            if bounds[i] is None or bounds[i] >= B40:
+                raise Fault(10, 'not certified', net.name(i), 'all' if bounds[i] is None else str(bounds[i]))
+        k = self.bound = max(bounds)
+        self.radii = [ceil(w[i] * b, (1 << 20) * (B40 - k)) for i in range(n)]
+        for i in range(n):
+            if self.radii[i] > B40:
+                raise Fault(10, 'not certified', net.name(i), 'all')
+
+    def records(self, number, hour):
+        net, x, r, e, h = self.net, self.x, self.radii, self.mismatch, self.boxes
+        out = ['solution,%d,%d,0' % (number, hour)]
+        for k in range(net.nn):
+            a, b = 2 * k, 2 * k + 1
+            low = high = 0
+            for i in (a, b):
+                lo, hi = x[i] - r[i], x[i] + r[i]
+                low += 0 if lo <= 0 <= hi else min(lo * lo, hi * hi)
+                high += max(lo * lo, hi * hi)
+            root = isqrt(high)
+            root += root * root < high
+            assert r[a] == r[b] and h[a] == h[b]
+            out.append(','.join(['node', '%s.%d' % net.nodes[k]] + [micro(v) for v in (
+                x[a], x[b], r[a], h[a], isqrt(low), root, e[a], e[b])]))
+        for k in range(net.nb):
+            a = 2 * (net.nn + k)
+            b = a + 1
+            out.append(','.join(['branch', net.branches[k][0], str(net.branches[k][1])] + [micro(v) for v in (
+                x[a], x[b], r[a], e[a], e[b])]))
+        for k in range(net.nm):
+            a = 2 * (net.nn + net.nb) + k
+            out.append(','.join(['magnitude', net.mags[k][0], str(net.mags[k][1])] + [micro(v) for v in (
+                x[a], r[a], h[a], e[a])]))
+        return out
+
+
+def micro(v):
+    return '%s%d.%06d' % ('-' if v < 0 else '', abs(v) // 10 ** 6, abs(v) % 10 ** 6)
+
+
+def run(files, words):
+    """The bytes and the status of `solve MASTER`, and the certified states."""
+    out, number, made = [], [0], []
+
+    def solve(circuit, options):
+        hours = range(1, options['number'] + 1) if options['mode'] == 'daily' else [0]
+        for hour in hours:
+            number[0] += 1
+            net = Network(circuit, options['hertz'], hour)
+            try:
+                p = Procedure(net, options['maxiterations'], options['tolerance'])
+                c = Certified(net, p.x, p.inverse)
+                c.steps = p.steps
+            except Fault as f:
+                out.append(','.join(('fault',) + f.fields))
+                return f.status
+            made.append(c)
+            out.extend(c.records(number[0], hour))
+        return None
+
+    s = Script(files, solve)
+    fault = s.read(words[1], 0, words[1])
+    status = 0
+    if fault == 'absent':
+        fault = (words[1], 0, 'absent file')
+    if isinstance(fault, tuple):
+        out.append('fault,script,%s,%d,%s' % fault)
+        status = 3
+    elif fault:
+        status = fault
+    return ''.join(l + '\n' for l in out).encode(), status, made
+
+
+if __name__ == '__main__':
+    t, s, m = run({'m.dss': open(sys.argv[1], 'rb').read()}, ['solve', 'm.dss'])
+    sys.stdout.write(t.decode())
+    print('status', s, CASES, [(c.steps, c.bound) for c in m])
