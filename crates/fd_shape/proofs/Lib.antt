@@ -1,0 +1,4 @@
+pub mod Numbers
+mod Columns
+mod Readings
+mod Records

@@ -1,0 +1,18 @@
+//! The numbers of a load shape's file: the first field of each record of a text of comma-separated values.
+//!
+//! In `specs/`, `Column` has what the numbers of a file are, and which record is named where one has none.
+//! `read_column` answers exactly that, and want of memory is its only free answer.
+//!
+//! - `blanks`: a field without the blanks and tabs round it
+//! - `column`: `read_column`, the numbers of a file
+//! - `fault`: `ShapeFault`, why a file isn't read
+#![tactic(auto)]
+
+mod blanks;
+mod column;
+mod fault;
+#[cfg(test)]
+mod tests;
+
+pub use column::read_column;
+pub use fault::ShapeFault;
