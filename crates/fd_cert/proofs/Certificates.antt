@@ -1,5 +1,5 @@
 -- The certificate of a point from its mismatches and its radii.
-use Rattle.std.proofs.Common.{◌≡◌, ◌∙◌, ℕ, ◌<◌, ◌≤◌, ℤ, nat_lt, Bool, false, true, List, length, get_or, map, replicate, Option, Some, None, Result, Ok, Err, arith, ap, refl, sym, subst}
+use Rattle.std.proofs.Common.{◌≡◌, ◌∙◌, ℕ, ◌<◌, ℤ, nat_lt, List, length, map, replicate, Option, Some, None, Ok, Err, arith, ap, sym, subst}
 use Rattle.fd_exact.specs.First.{first_place}
 use Rattle.fd_exact.specs.States.{entry}
 use Rattle.fd_equations.specs.Rounded.{jacobian_entry, list_of}
@@ -13,7 +13,7 @@ use Rattle.std.proofs.lemmas.List.{get_or-map, get_or-replicate, length-map, len
 use Rattle.fd_enclosure.specs.Bounds.{refusal}
 use Rattle.fd_enclosure.specs.Boxes.{boxes_of}
 use Rattle.fd_enclosure.specs.Radii.{slope_radius}
-use Rattle.fd_enclosure.specs.Sound.{Claim, Refusal, certificate_of, claim_of, first_loose, greatest_mismatch, loose, mismatch_at, mismatches_of, mismatch_size, number_at, radii_of, radius_in, uncertain, unless_loose, unless_uncertain}
+use Rattle.fd_enclosure.specs.Sound.{Claim, certificate_of, claim_of, first_loose, greatest_mismatch, loose, mismatch_at, mismatches_of, mismatch_size, number_at, radii_of, radius_in, uncertain, unless_loose, unless_uncertain}
 use Rattle.fd_cert.specs.Claims.{tried_claim}
 use Rattle.fd_cert.specs.Columns.{HasNumbers}
 use Rattle.fd_cert.proofs.Verdict.{first_same}

@@ -1,24 +1,24 @@
 -- Sums over lists of short entries.
-use Rattle.std.proofs.Common.{◌≡◌, ◌≢◌, ◌∙◌, ℕ, zero, suc, ◌+◌, ◌*◌, ◌<◌, ◌≤◌, ◌^◌, ℤ, pos, ◌+ℤ◌, ◌*ℤ◌, nat_abs, Bool, true, false, cond, eqb, List, [], ◌∷◌, ◌++◌, map, length, take, get_or, set, Some, All, to_z, of_z, arith, ap, refl, sym, subst, inl, inr}
+use Rattle.std.proofs.Common.{◌≡◌, ◌≢◌, ◌∙◌, ℕ, zero, suc, ◌+◌, ◌*◌, ◌<◌, ◌≤◌, ◌^◌, ℤ, pos, ◌+ℤ◌, ◌*ℤ◌, nat_abs, Bool, true, false, cond, eqb, List, [], ◌∷◌, ◌++◌, map, length, take, get_or, set, Some, to_z, of_z, arith, ap, refl, sym, subst, inl, inr}
 use Rattle.std.proofs.Math.Nat.{mul-le-mul}
 use Rattle.std.proofs.lemmas.Bool.{cases_eq, cases_lt, eq-eqb, ne_eqb}
 use Rattle.std.specs.Int.{w128}
 use Rattle.std.proofs.lemmas.Int.{fits_signed_from_abs, ints, to_z-of_z, unsigned_abs-mul}
-use Rattle.std.proofs.lemmas.List.{get_or-set_same, get_or-set_other, get_or_past, length-set, take_all, take_more}
-use Rattle.std.proofs.lemmas.List.Elements.{All-append, All-from_get_or, All-get_or, All-map, All-nil}
+use Rattle.std.proofs.lemmas.List.{get_or-set_same, get_or-set_other, get_or_past, length-set, take_all}
+use Rattle.std.proofs.lemmas.List.Elements.{All-append, All-from_get_or, All-map, All-nil}
 use Rattle.fd_exact.specs.States.{part}
 use Rattle.fd_exact.specs.SumLaws.{list_z-append, sum_z-same, sum_z-zero}
 use Rattle.fd_exact.specs.Sums.{list_z, sum_z}
 use Rattle.fd_arith.specs.Limits.{within}
 use Rattle.fd_arith.specs.Wide.{wide_sum}
 use Rattle.fd_equations.proofs.CallerLemmas.{list_z_more}
-use Rattle.fd_equations.specs.Amounts.{Amount, AreCells, IsNothingElsewhere, IsRowOf, cell_at, empty}
+use Rattle.fd_equations.specs.Amounts.{Amount, AreCells, IsNothingElsewhere, IsRowOf, empty}
 use Rattle.fd_equations.specs.Matrices.{MatrixView}
 use Rattle.fd_equations.specs.WalkLaws.{walk_sums}
 use Rattle.fd_equations.specs.declared.cells.Cell.{Cell}
 use Rattle.fd_enclosure.specs.Bounds.{wide_sums}
 use Rattle.fd_cert.specs.Columns.{AreUnits, HasEntries, IsRow, IsRowOfInverse, column_sum}
-use Rattle.fd_cert.specs.Entries.{AreShort, HasSmallUnits, IsFlat, IsFlatOf, IsShort, entry_of, entry_term}
+use Rattle.fd_cert.specs.Entries.{HasSmallUnits, IsFlat, IsFlatOf, IsShort, entry_of, entry_term}
 use Rattle.fd_cert.specs.declared.flat.Entry.{Entry}
 use Rattle.fd_cert.proofs.Units.{find, kept_by, row_entries, within_small}
 

@@ -1,4 +1,5 @@
 pub mod Raising
+pub mod RowTotals
 pub mod Units
 pub mod FlatSums
 pub mod RowBounds

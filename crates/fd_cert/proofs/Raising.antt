@@ -1,16 +1,14 @@
 -- Numbers at the places of a pattern that grow.
-use Rattle.std.proofs.Common.{◌≡◌, ◌≢◌, ◌∙◌, ℕ, ◌+◌, ◌*◌, ◌<◌, ◌≤◌, ◌^◌, ℤ, Bool, true, false, cond, eqb, ◌&&◌, List, length, take, get_or, set, Option, Some, None, arith, ap, sym, refl, subst, inl, inr}
+use Rattle.std.proofs.Common.{◌≡◌, ◌≢◌, ◌∙◌, ℕ, ◌+◌, ◌*◌, ◌<◌, ◌≤◌, ◌^◌, ℤ, Bool, true, false, cond, eqb, ◌&&◌, List, length, take, get_or, set, Some, arith, ap, sym, refl, subst, inl, inr}
 use Rattle.std.specs.List.{Contains}
 use Rattle.std.proofs.lemmas.Bool.{cases_eq, eq-eqb, ne_eqb}
 use Rattle.std.proofs.lemmas.List.{get_or-set_same, get_or-set_other, length-set, take_all}
 use Rattle.std.proofs.lemmas.List.Elements.{Contains-get_or}
-use Rattle.fd_arith.specs.declared.terms.NodeAt.{NodeAt}
-use Rattle.fd_arith.specs.declared.terms.NodeAt.TheVariants.{Ground, Node}
+use Rattle.fd_arith.specs.declared.terms.NodeAt.TheVariants.{Node}
 use Rattle.fd_system.specs.declared.loads.LoadAt.{LoadAt}
 use Rattle.fd_equations.specs.Patterns.{IsSlot, key}
 use Rattle.fd_equations.proofs.CallerLemmas.{list_n_more}
 use Rattle.fd_slope.specs.Changes.{radii_in}
-use Rattle.fd_slope.specs.Radii.{IsRadiusRow}
 use Rattle.fd_slope.specs.declared.radii.Radii.{Radii}
 use Rattle.fd_slope.specs.declared.radii.RadiusRow.{RadiusRow}
 use Rattle.fd_enclosure.specs.Radii.{load_radius, radius_in, spread, spread_magnitude, spread_node}

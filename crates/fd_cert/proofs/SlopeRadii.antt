@@ -8,13 +8,12 @@ use Rattle.std.proofs.lemmas.List.Elements.{All-get_or, All-head, All-tail}
 use Rattle.fd_exact.specs.Quotients.{ceil_nat_least}
 use Rattle.fd_exact.specs.Rounding.{ceil_nat}
 use Rattle.fd_exact.specs.States.{part}
-use Rattle.fd_exact.specs.Sums.{list_n}
 use Rattle.fd_exact.specs.Tables.{map-same}
 use Rattle.fd_arith.specs.declared.terms.NodeAt.{NodeAt}
 use Rattle.fd_arith.specs.declared.terms.NodeAt.TheVariants.{Ground, Node}
 use Rattle.fd_system.specs.Residual.{IsPlace}
 use Rattle.fd_system.specs.declared.loads.LoadAt.{LoadAt}
-use Rattle.fd_equations.specs.Amounts.{Amount, AreCells, IsNothingElsewhere, amount, cell_at, cell_of, nothing}
+use Rattle.fd_equations.specs.Amounts.{Amount, amount, cell_at, cell_of, nothing}
 use Rattle.fd_equations.proofs.CallerLemmas.{all_connected, get_or-list_of, length-list_of}
 use Rattle.fd_equations.specs.Coefficients.{count_at}
 use Rattle.fd_equations.specs.Conditions.{IsNetwork, IsPart, IsPoint}

@@ -1,5 +1,5 @@
 -- Whole numbers within 2^120, and sums of columns.
-use Rattle.std.proofs.Common.{◌≡◌, ◌≢◌, ◌∙◌, ℕ, zero, suc, ◌+◌, ◌*◌, ◌<◌, ◌≤◌, ◌^◌, ℤ, pos, neg_ℤ, ◌+ℤ◌, ◌*ℤ◌, ◌≤ℤ◌, nat_abs, Bool, true, false, eqb, List, length, get_or, set, Option, Some, None, IfNone, IfSome, is_some, FitsSigned, to_z, of_z, ◌⊎◌, arith, ap, refl, sym, subst, inl, inr}
+use Rattle.std.proofs.Common.{◌≡◌, ◌≢◌, ◌∙◌, ℕ, zero, suc, ◌+◌, ◌<◌, ◌≤◌, ◌^◌, ℤ, pos, ◌+ℤ◌, ◌*ℤ◌, nat_abs, true, false, List, length, set, Option, Some, None, IfNone, IfSome, is_some, FitsSigned, to_z, of_z, ◌⊎◌, arith, ap, refl, sym, subst, inl, inr}
 use Rattle.std.specs.Int.{w128}
 use Rattle.std.proofs.lemmas.Int.{ints, to_z-of_z, fits_signed_from_abs}
 use Rattle.std.proofs.lemmas.Bool.{cases_eq}
@@ -7,7 +7,7 @@ use Rattle.std.proofs.lemmas.List.{get_or-set_same, get_or-set_other, length-set
 use Rattle.fd_exact.specs.States.{part}
 use Rattle.fd_arith.specs.Limits.{Fits, IsUnits, within}
 use Rattle.fd_arith.specs.Nearest.{within-Fits, within-IsUnits, within-past}
-use Rattle.fd_arith.specs.Wide.{wide_difference, wide_product, wide_quotient, wide_size, wide_sum}
+use Rattle.fd_arith.specs.Wide.{wide_product, wide_sum}
 use Rattle.fd_equations.specs.Amounts.{Amount, AreCells, IsNothingElsewhere, IsRowOf, cell_at}
 use Rattle.fd_equations.specs.Matrices.{MatrixView}
 use Rattle.fd_equations.specs.declared.cells.Cell.{Cell}

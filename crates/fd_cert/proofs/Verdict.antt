@@ -1,5 +1,5 @@
 -- The refusal and the radii from the bounds of the rows.
-use Rattle.std.proofs.Common.{◌≡◌, ◌∙◌, ℕ, zero, suc, ◌+◌, ◌*◌, ◌-◌, ◌<◌, ◌≤◌, ◌^◌, ℤ, pos, negsuc, ◌≤ℤ◌, ◌<ℤ◌, nat_abs, nat_le, nat_lt, int_lt, not, Bool, true, false, cond, List, length, get_or, Option, Some, None, IfSome, arith, max, rules, ap, refl, sym, subst}
+use Rattle.std.proofs.Common.{◌≡◌, ◌∙◌, ℕ, zero, suc, ◌+◌, ◌*◌, ◌-◌, ◌<◌, ◌≤◌, ◌^◌, ℤ, pos, ◌≤ℤ◌, ◌<ℤ◌, nat_abs, nat_le, nat_lt, int_lt, not, Bool, true, false, cond, List, length, Option, Some, None, IfSome, arith, max, rules, ap, refl, sym}
 use Rattle.std.specs.Option.{option_or}
 use Rattle.std.specs.Ordering.{nat_cmp, ord_max}
 use Rattle.std.proofs.lemmas.Grind.{common_steps}
@@ -7,7 +7,6 @@ use Rattle.std.proofs.Math.Nat.{mul-le-mul}
 use Rattle.std.proofs.lemmas.Int.{ints}
 use Rattle.std.proofs.lemmas.Bool.{leb-true}
 use Rattle.fd_exact.specs.First.{first_place}
-use Rattle.fd_exact.specs.FirstLaws.{first_none, first_some}
 use Rattle.fd_exact.specs.Greatest.{greatest, greatest_le, greatest-same}
 use Rattle.fd_exact.specs.Rounding.{ceil_nat}
 use Rattle.fd_exact.specs.States.{part}
@@ -15,7 +14,7 @@ use Rattle.fd_exact.specs.Sums.{sum_n}
 use Rattle.fd_exact.specs.Tables.{map-same}
 use Rattle.fd_equations.specs.Rounded.{list_of}
 use Rattle.fd_equations.proofs.CallerLemmas.{get_or-list_of, length-list_of}
-use Rattle.fd_enclosure.specs.Bounds.{bound_at, bound_of, bound_size, first_unbounded, first_wide, is_below_one, no_bound, radius_at, reach_of, refusal, refused_bound, unless_unbounded, unless_wide}
+use Rattle.fd_enclosure.specs.Bounds.{bound_at, bound_of, bound_size, first_unbounded, first_wide, is_below_one, radius_at, reach_of, refusal, refused_bound, unless_unbounded, unless_wide}
 use Rattle.fd_enclosure.specs.Sound.{number_at}
 use Rattle.fd_cert.specs.Columns.{HasNumbers, HasWeights}
 use Rattle.fd_cert.specs.Reaches.{AreBounds, bound_in, is_unbounded, named_bound, radius_of, reach_in}

@@ -1,5 +1,5 @@
 -- What a certified state claims, and what a fault says.
-use Rattle.std.specs.Prelude.{◌≡◌, ℕ, ◌<◌, ℤ, List, Ok, Err}
+use Rattle.std.specs.Prelude.{◌≡◌, ℕ, ◌<◌, ℤ, List, Err}
 use Rattle.fd_equations.specs.Rounded.{list_of}
 use Rattle.fd_equations.specs.Views.{NetworkView}
 use Rattle.fd_enclosure.specs.Boxes.{boxes_of}

@@ -1,8 +1,8 @@
 -- Sums of the columns of a matrix by non-zeros.
-use Rattle.std.specs.Prelude.{◌≡◌, ◌≢◌, ℕ, ◌^◌, ◌<◌, ◌≤◌, ℤ, pos, ◌≤ℤ◌, nat_abs, List, length, Option, Some, None}
+use Rattle.std.specs.Prelude.{◌≡◌, ◌≢◌, ℕ, ◌^◌, ◌<◌, ◌≤◌, ℤ, pos, ◌≤ℤ◌, nat_abs, List, length, Option, Some}
 use Rattle.fd_exact.specs.States.{part}
-use Rattle.fd_arith.specs.Wide.{wide_difference, wide_product, wide_size, wide_sum}
-use Rattle.fd_equations.specs.Amounts.{Amount, AreCells, IsNothingElsewhere, IsRowOf, cell_at}
+use Rattle.fd_arith.specs.Wide.{wide_product, wide_sum}
+use Rattle.fd_equations.specs.Amounts.{Amount, AreCells, IsNothingElsewhere, cell_at}
 use Rattle.fd_equations.specs.Matrices.{MatrixView}
 use Rattle.fd_equations.specs.declared.cells.Cell.{Cell}
 use Rattle.fd_enclosure.specs.Bounds.{wide_sums}
@@ -42,10 +42,6 @@ pub record IsMade (m : MatrixView) : Type 0 where
 -- the products of factors by row with the entries of column j, added up over n rows
 abbrev pub column_sum : (ℕ → ℤ) → (ℕ → ℕ → ℤ) → ℕ → ℕ → Option ℤ
 column_sum factor J j n = wide_sums (λ l. wide_product (Some (factor l)) (Some (J l j))) n
-
--- what a column's sum leaves of an entry of the unit matrix, and what another sum adds
-abbrev pub left_over_of : ℤ → Option ℤ → Option ℤ → Option ℤ
-left_over_of unit product added = wide_sum (wide_size (wide_difference (Some unit) product)) added
 
 -- a weight for each of n unknowns, from 10^6 to 2^66
 pub record AreWeights (n : ℕ) (ws : List ℤ) : Type 0 where

@@ -1,8 +1,7 @@
 -- What the bounds of rows say of radii: the radius of each unknown, or the unknown at which there is no certificate.
-use Rattle.std.specs.Prelude.{◌≡◌, ℕ, ◌<◌, ℤ, pos, ◌≤ℤ◌, List, length, Option, Some, None}
+use Rattle.std.specs.Prelude.{◌≡◌, ℕ, ◌<◌, ℤ, List, Option, Some, None}
 use Rattle.fd_equations.specs.Rounded.{list_of}
 use Rattle.fd_enclosure.specs.Bounds.{radius_at, refusal}
-use Rattle.fd_cert.specs.Reaches.{bound_in}
 use Rattle.fd_cert.specs.declared.certificate.Widths.{Widths}
 use Rattle.fd_cert.specs.declared.certificate.Widths.TheVariants.{Refused, Within}
 

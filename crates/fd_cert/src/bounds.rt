@@ -1,16 +1,26 @@
 // How far the inverse times the Jacobian may be from the unit matrix, anywhere in the box.
-ghost use Rattle.std.specs.Prelude.{◌≡◌, ℕ, ◌<◌, ◌≤◌, ◌^◌, ◌-ℤ◌, ℤ, nat_abs, IfOk, IfSome, length, Some};
+//
+// A bound is a double sum over columns and rows. What the radii add to it is summed by rows first: the radii of a row
+// by weight are made once for all rows of the inverse, and a row of the inverse meets each of these once. No summand is
+// negative, so no part of the sum passes 2^120 unless the whole does, and the order of summing changes neither the
+// bound nor where there is none.
+ghost use Rattle.std.specs.Prelude.{◌≡◌, ℕ, ◌+◌, ◌*◌, ◌<◌, ◌≤◌, ◌^◌, ℤ, pos, ◌≤ℤ◌, nat_abs, IfOk, IfSome, length};
 ghost use Rattle.fd_exact.specs.States.{entry, part};
-ghost use Rattle.fd_arith.specs.Wide.{wide_product, wide_sum};
+ghost use Rattle.fd_exact.specs.Sums.{list_n};
+ghost use Rattle.fd_arith.specs.Limits.{within};
+ghost use Rattle.fd_arith.specs.Wide.{wide_quotient};
 ghost use Rattle.fd_equations.specs.Rounded.{list_of};
-ghost use Rattle.fd_enclosure.specs.Bounds.{bound_at, unit_at, wide_sums};
+ghost use Rattle.fd_enclosure.specs.Bounds.{bound_at, unit_at};
 ghost use Rattle.fd_mat.specs.Rows.{EntriesWithin};
-ghost use Rattle.fd_cert.specs.Slopes.{AreSlopes, HasSlopes};
+ghost use Rattle.fd_cert.specs.Slopes.{AreSlopes, HasRadii, HasSlopes};
 ghost use Rattle.fd_cert.specs.Entries.{IsFlatOf};
-ghost use Rattle.fd_cert.specs.Columns.{AreUnits, AreWeights, IsRowOfInverse, left_over_of};
+ghost use Rattle.fd_cert.specs.Columns.{AreColumns, AreUnits, HasWeights, IsMade, IsRowOfInverse};
+ghost use Rattle.fd_cert.specs.Totals.{AreShortWeights, AreWeighted, IsTotal, IsUpTo, left_total, sizes_total};
 
-use crate::sums::{Walk, clear, write_sizes};
+use crate::sums::{Walk, clear};
+use crate::totals::{PAST, plus_entry, plus_product, plus_weighted, short_weight, up_to_limit};
 use fd_arith::Wide;
+use fd_equations::{Cell, Matrix};
 use fd_mat::Dense;
 use std::alloc::{AllocError, Global};
 
@@ -19,11 +29,6 @@ const ONE: i128 = 0x1_0000_0000_0000_0000_0000;
 
 const BOUND_UNITS: i128 = 0x100_0000_0000;
 
-// 2^40 and 2^79: a weight times twice the other is at most 2^120.
-const SMALL_WEIGHT: u128 = 0x100_0000_0000;
-
-const SMALL_LEFT: u128 = 0x8000_0000_0000_0000_0000;
-
 // An entry of the unit matrix, in units of 2^-80.
 fn unit(row: usize, col: usize) -> i128
     ensures { result ≡ unit_at row col }
@@ -31,75 +36,51 @@ fn unit(row: usize, col: usize) -> i128
     if row == col { ONE } else { 0 }
 }
 
-// What is left of an entry of the unit matrix, and what the radii of slopes add.
-fn left_over(unit: i128, product: i128, added: i128) -> Wide
-    requires unit { nat_abs unit ≤ 2 ^ 80 }
-    requires product { nat_abs product ≤ 2 ^ 120 }
-    requires added { nat_abs added ≤ 2 ^ 120 }
-    ensures { result ≡ left_over_of unit (Some product) (Some added) }
+// The weights in 64 bits; 0 stands for one above 2^40.
+pub fn short_weights(alloc: Global, weights: &[i128]) -> Result<Vec<u64>, AllocError>
+    ensures { IfOk result (λ shorts. AreShortWeights weights.now shorts.items) }
 {
-    (Wide::of(unit) - Wide::of(product)).size() + Wide::of(added)
+    weights
+        .iter()
+        .map(|weight| short_weight(*weight))
+        .collect(alloc)
 }
 
-// The sum with a weight times what is left over.
-fn with_left(sum: i128, weight: i128, unit: i128, product: i128, added: i128) -> Option<i128>
-    requires sum { nat_abs sum ≤ 2 ^ 120 }
-    requires weight { nat_abs weight ≤ 2 ^ 66 }
-    requires unit { nat_abs unit ≤ 2 ^ 80 }
-    requires product { nat_abs product ≤ 2 ^ 120 }
-    requires added { nat_abs added ≤ 2 ^ 120 }
-    ensures { result ≡ wide_sum (Some sum) (wide_product (Some weight) (left_over_of unit (Some product) (Some added))) }
+// What the sums of columns leave of a row of the unit matrix, each size times the weight of its column; none where that
+// passes 2^120.
+//
+// Never inlined: beside the other loops of a row LLVM would keep its places in memory.
+#[inline(never)]
+fn left_by_weight(row: usize, sums: &[i128], weights: &[i128], shorts: &[u64]) -> Option<u128>
+    requires few { length sums.now ≤ 2 ^ 11 }
+    requires weights { length weights.now ≡ length sums.now }
+    requires shorts { AreShortWeights weights.now shorts.now }
+    requires units { AreUnits sums.now }
+    ensures { IsTotal (left_total (length sums.now) row weights.now sums.now) result }
 {
-    let left = Wide::of(weight).times(left_over(unit, product, added));
-    (Wide::of(sum) + left).value()
-}
-
-// The same where the weight is at most 2^40, and both parts of what is left over are at most 2^79.
-fn with_small(sum: i128, weight: i128, unit: i128, product: i128, added: i128) -> Option<i128>
-    requires sum { nat_abs sum ≤ 2 ^ 120 }
-    requires weight { nat_abs weight ≤ 2 ^ 40 }
-    requires unit { nat_abs unit ≤ 2 ^ 80 }
-    requires product { nat_abs product ≤ 2 ^ 120 }
-    requires left { nat_abs (unit -ℤ product) ≤ 2 ^ 79 }
-    requires added { nat_abs added ≤ 2 ^ 79 }
-    ensures { result ≡ wide_sum (Some sum) (wide_product (Some weight) (left_over_of unit (Some product) (Some added))) }
-{
-    let left = (unit - product).abs() + added;
-    Wide::of(sum + weight * left).value()
-}
-
-// The sum with a weight times what is left over, without tests where the numbers are small.
-fn with_weighted(sum: i128, weight: i128, unit: i128, product: i128, added: i128) -> Option<i128>
-    requires sum { nat_abs sum ≤ 2 ^ 120 }
-    requires weight { nat_abs weight ≤ 2 ^ 66 }
-    requires unit { nat_abs unit ≤ 2 ^ 80 }
-    requires product { nat_abs product ≤ 2 ^ 120 }
-    requires added { nat_abs added ≤ 2 ^ 120 }
-    ensures { result ≡ wide_sum (Some sum) (wide_product (Some weight) (left_over_of unit (Some product) (Some added))) }
-{
-    if weight.unsigned_abs() <= SMALL_WEIGHT
-        && (unit - product).unsigned_abs() <= SMALL_LEFT
-        && added.unsigned_abs() <= SMALL_LEFT
-    {
-        with_small(sum, weight, unit, product, added)
-    } else {
-        with_left(sum, weight, unit, product, added)
+    let mut total = 0;
+    for col in 0..sums.len() {
+        let left = (unit(row, col) - sums[col]).unsigned_abs();
+        match plus_weighted(total, weights[col], shorts[col], left) {
+            Some(next) => total = next,
+            None => return None,
+        }
     }
+    up_to_limit(total)
 }
 
-// The weighted sum of what is left over in a row.
-fn weighted_sum(row: usize, products: &[i128], added: &[i128], weights: &[i128]) -> Option<i128>
-    requires added { length added.now ≡ length products.now }
-    requires weights { AreWeights (length products.now) weights.now }
-    requires product_units { AreUnits products.now }
-    requires added_units { AreUnits added.now }
-    ensures sum { result ≡ wide_sums (λ j. wide_product (Some (part weights.now j)) (left_over_of (unit_at row j) (Some (part products.now j)) (Some (part added.now j)))) (length products.now) }
-    ensures small { IfSome result (λ s. nat_abs s ≤ 2 ^ 120) }
+// The total with the sizes of the entries of a row of the inverse more, each times a number.
+//
+// Never inlined, for the same reason.
+#[inline(never)]
+fn plus_sizes(total: u128, factors: &[i128], numbers: &[u128]) -> Option<u128>
+    requires total { total ≤ 2 ^ 120 }
+    requires factors { IsRowOfInverse (length numbers.now) factors.now }
+    ensures { IsTotal (total + sizes_total (length numbers.now) factors.now numbers.now) result }
 {
-    let mut sum = 0;
-    for col in 0..products.len() {
-        let unit = unit(row, col);
-        match with_weighted(sum, weights[col], unit, products[col], added[col]) {
+    let mut sum = total;
+    for row in 0..numbers.len() {
+        match plus_entry(sum, factors[row], numbers[row]) {
             Some(next) => sum = next,
             None => return None,
         }
@@ -107,50 +88,97 @@ fn weighted_sum(row: usize, products: &[i128], added: &[i128], weights: &[i128])
     Some(sum)
 }
 
-// The Jacobian at a point and the radii of its slopes, in units of 2^-40, with the weight of each unknown.
-#[derive(Drop)]
-pub struct Slopes<'a> {
-    pub jacobian: Walk<'a>,
-    pub radii: Walk<'a>,
-    pub weights: &'a [i128],
+// The entries of a row, each size times the weight of its column, added up; a number above 2^120 where that passes it.
+fn row_by_weight(cells: &[Cell], weights: &[i128]) -> u128
+    requires { AreColumns (length weights.now) cells.now }
+    ensures { IsUpTo (list_n (λ c. nat_abs c.units * nat_abs (part weights.now c.col)) cells.now) result }
+{
+    let mut total = 0;
+    for cell in cells {
+        let weight = weights[cell.col as usize].unsigned_abs();
+        match plus_product(total, cell.units.unsigned_abs(), weight) {
+            Some(next) => total = next,
+            None => return PAST,
+        }
+    }
+    total
 }
 
-// The bound of a row with these factors, a row of the inverse. The lists are as long as a row, and written anew.
-fn bound(
-    slopes: &Slopes,
-    row: u32,
-    factors: &[i128],
-    products: &mut [i128],
-    added: &mut [i128],
-    sizes: &mut [i128],
-) -> Option<i128>
-    requires slopes { AreSlopes slopes.now.jacobian.matrix.now slopes.now.radii.matrix.now slopes.now.weights.now }
+// For each row of a matrix of radii its radii, each times the weight of its column, added up; a number above 2^120
+// where that passes it.
+pub fn rows_by_weight(
+    alloc: Global,
+    radii: &Matrix,
+    weights: &[i128],
+) -> Result<Vec<u128>, AllocError>
+    requires radii { IsMade radii.now }
+    requires weights { length weights.now ≡ radii.now.size }
+    ensures { IfOk result (λ rows. (R : ℕ → ℕ → ℕ) (w : ℕ → ℕ) → HasRadii radii.now R → HasWeights radii.now.size weights.now w → AreWeighted radii.now.size R w rows.items) }
+{
+    let mut rows = Vec::with_capacity(alloc, radii.size() as usize)?;
+    for row in 0..radii.size() {
+        rows.push(row_by_weight(radii.row(row), weights))?;
+    }
+    Ok(rows)
+}
+
+// The Jacobian at a point in units of 2^-40, for each of its rows the radii of its slopes by weight, and the weight of
+// each unknown, also in 64 bits where it is short.
+#[derive(Drop)]
+pub struct Slopes<'a, 'b> {
+    pub jacobian: Walk<'a>,
+    pub radii: Vec<u128>,
+    pub weights: &'b [i128],
+    pub shorts: Vec<u64>,
+}
+
+// The bound of a row with these factors, a row of the inverse. The sums are as long as a row, and written anew.
+fn bound(slopes: &Slopes, row: u32, factors: &[i128], sums: &mut [i128]) -> Option<i128>
+    requires slopes { AreSlopes slopes.now.jacobian.matrix.now slopes.now.radii.items slopes.now.weights.now }
+    requires shorts { AreShortWeights slopes.now.weights.now slopes.now.shorts.items }
     requires jacobian { IfSome slopes.now.jacobian.entries (λ es. IsFlatOf slopes.now.jacobian.matrix.now es.items) }
-    requires radii { IfSome slopes.now.radii.entries (λ es. IsFlatOf slopes.now.radii.matrix.now es.items) }
     requires row { row < slopes.now.jacobian.matrix.now.size }
     requires factors { IsRowOfInverse slopes.now.jacobian.matrix.now.size factors.now }
-    requires products { length products.old ≡ slopes.now.jacobian.matrix.now.size }
-    requires added { length added.old ≡ slopes.now.jacobian.matrix.now.size }
-    requires sizes { length sizes.old ≡ slopes.now.jacobian.matrix.now.size }
-    ensures products { length products.new ≡ length products.old }
-    ensures added { length added.new ≡ length added.old }
-    ensures sizes { length sizes.new ≡ length sizes.old }
-    ensures bound { (J : ℕ → ℕ → ℤ) (R : ℕ → ℕ → ℕ) (w : ℕ → ℕ) → HasSlopes slopes.now.jacobian.matrix.now slopes.now.radii.matrix.now slopes.now.weights.now J R w → result ≡ bound_at slopes.now.jacobian.matrix.now.size (λ _. part factors.now) J R w row }
+    requires sums { length sums.old ≡ slopes.now.jacobian.matrix.now.size }
+    ensures sums { length sums.new ≡ length sums.old }
+    ensures bound { (J : ℕ → ℕ → ℤ) (R : ℕ → ℕ → ℕ) (w : ℕ → ℕ) → HasSlopes slopes.now.jacobian.matrix.now slopes.now.radii.items slopes.now.weights.now J R w → result ≡ bound_at slopes.now.jacobian.matrix.now.size (λ _. part factors.now) J R w row }
 {
-    clear(products);
-    if slopes.jacobian.sums(products, factors).is_some() {
+    clear(sums);
+    if slopes.jacobian.sums(sums, factors).is_some() {
         return None;
     }
-    write_sizes(sizes, factors);
-    clear(added);
-    if slopes.radii.sums(added, sizes).is_some() {
-        return None;
+    let total = row_total(slopes, row, factors, sums);
+    over_weight(total, slopes.weights[row as usize])
+}
+
+// What the sums of columns leave of a row and what the radii add, by weight.
+fn row_total(slopes: &Slopes, row: u32, factors: &[i128], sums: &[i128]) -> Option<u128>
+    requires few { length sums.now ≤ 2 ^ 11 }
+    requires weights { length slopes.now.weights.now ≡ length sums.now }
+    requires shorts { AreShortWeights slopes.now.weights.now slopes.now.shorts.items }
+    requires units { AreUnits sums.now }
+    requires factors { IsRowOfInverse (length slopes.now.radii.items) factors.now }
+    ensures { IsTotal (left_total (length sums.now) row slopes.now.weights.now sums.now + sizes_total (length slopes.now.radii.items) factors.now slopes.now.radii.items) result }
+{
+    match left_by_weight(row as usize, sums, slopes.weights, &slopes.shorts) {
+        Some(left) => plus_sizes(left, factors, &slopes.radii),
+        None => None,
     }
-    let Some(sum) = weighted_sum(row as usize, products, added, slopes.weights) else {
-        return None;
-    };
-    let weight = slopes.weights[row as usize];
-    Wide::of(sum).over_up(weight * BOUND_UNITS).value()
+}
+
+// A total over a weight, rounded up, in units of 2^-40.
+fn over_weight(total: Option<u128>, weight: i128) -> Option<i128>
+    requires total { IfSome total (λ t. t ≤ 2 ^ 120) }
+    requires least { pos (10 ^ 6) ≤ℤ weight }
+    requires most { weight ≤ℤ pos (2 ^ 66) }
+    ensures { (k : ℕ) → IsTotal k total → result ≡ wide_quotient (within (pos k)) (nat_abs weight * 2 ^ 40) }
+{
+    match total {
+        Some(total) => Wide::of(total as i128)
+            .over_up(weight * BOUND_UNITS)
+            .value(),
+        None => None,
+    }
 }
 
 // The bound of each row.
@@ -159,27 +187,18 @@ pub fn bounds(
     slopes: &Slopes,
     inverse: &Dense,
 ) -> Result<Vec<Option<i128>>, AllocError>
-    requires slopes { AreSlopes slopes.now.jacobian.matrix.now slopes.now.radii.matrix.now slopes.now.weights.now }
+    requires slopes { AreSlopes slopes.now.jacobian.matrix.now slopes.now.radii.items slopes.now.weights.now }
+    requires shorts { AreShortWeights slopes.now.weights.now slopes.now.shorts.items }
     requires jacobian { IfSome slopes.now.jacobian.entries (λ es. IsFlatOf slopes.now.jacobian.matrix.now es.items) }
-    requires radii { IfSome slopes.now.radii.entries (λ es. IsFlatOf slopes.now.radii.matrix.now es.items) }
     requires size { length inverse.now ≡ slopes.now.jacobian.matrix.now.size }
     requires entries { EntriesWithin inverse.now (2 ^ 56) }
-    ensures { IfOk result (λ bounds. (J : ℕ → ℕ → ℤ) (R : ℕ → ℕ → ℕ) (w : ℕ → ℕ) → HasSlopes slopes.now.jacobian.matrix.now slopes.now.radii.matrix.now slopes.now.weights.now J R w → bounds.items ≡ list_of slopes.now.jacobian.matrix.now.size (bound_at slopes.now.jacobian.matrix.now.size (entry inverse.now) J R w)) }
+    ensures { IfOk result (λ bounds. (J : ℕ → ℕ → ℤ) (R : ℕ → ℕ → ℕ) (w : ℕ → ℕ) → HasSlopes slopes.now.jacobian.matrix.now slopes.now.radii.items slopes.now.weights.now J R w → bounds.items ≡ list_of slopes.now.jacobian.matrix.now.size (bound_at slopes.now.jacobian.matrix.now.size (entry inverse.now) J R w)) }
 {
     let size = slopes.jacobian.size();
-    let mut products = vec![in alloc; 0; size as usize]?;
-    let mut added = vec![in alloc; 0; size as usize]?;
-    let mut sizes = vec![in alloc; 0; size as usize]?;
+    let mut sums = vec![in alloc; 0; size as usize]?;
     let mut bounds = Vec::with_capacity(alloc, size as usize)?;
     for row in 0..size {
-        bounds.push(bound(
-            slopes,
-            row,
-            inverse.row(row),
-            &mut products,
-            &mut added,
-            &mut sizes,
-        ))?;
+        bounds.push(bound(slopes, row, inverse.row(row), &mut sums))?;
     }
     Ok(bounds)
 }

@@ -17,7 +17,7 @@ ghost use Rattle.fd_cert.specs.Slopes.{HasRadii};
 ghost use Rattle.fd_cert.specs.Verdicts.{IsWidths};
 
 use crate::ball::{Ball, Certified};
-use crate::bounds::{Slopes, bounds};
+use crate::bounds::{Slopes, bounds, rows_by_weight, short_weights};
 use crate::boxes::boxes;
 use crate::fault::CertFault;
 use crate::mismatches::{first_loose, mismatches};
@@ -63,12 +63,13 @@ fn bounds_at(
     let _size = net.size();
     let jacobian = net.jacobian(alloc, x)?;
     let radii = radii_at(alloc, net, x, boxes, &jacobian)?;
-    let entries = Walk::of(alloc, &jacobian)?;
-    let radius_entries = Walk::of(alloc, &radii)?;
+    let rows = rows_by_weight(alloc, &radii, weights)?;
+    let walk = Walk::of(alloc, &jacobian)?;
     let slopes = Slopes {
-        jacobian: entries,
-        radii: radius_entries,
+        jacobian: walk,
+        radii: rows,
         weights,
+        shorts: short_weights(alloc, weights)?,
     };
     bounds(alloc, &slopes, inverse)
 }

@@ -57,7 +57,7 @@ pub fn entries_of(alloc: Global, matrix: &Matrix) -> Result<Option<Vec<Entry>>, 
     requires { IsMade matrix.now }
     ensures { IfOk result (λ o. IfSome o (λ entries. IsFlatOf matrix.now entries.items)) }
 {
-    let mut entries = Vec::new(alloc);
+    let mut entries = Vec::with_capacity(alloc, matrix.cells().len())?;
     for row in 0..matrix.size() {
         if !push_row(&mut entries, row, matrix.row(row))? {
             return Ok(None);

@@ -1,12 +1,15 @@
 // The certificate of a point of a network.
 //
-// `certify` takes a state with an inverse and answers the certificate that the definitions give: the mismatch of each row, the box, and a
-// radius for each unknown; or it names the first row that is loose, or the first unknown at which there is none, and nothing else but
-// want of memory. That a certificate is sound, and what it says of other states, are laws on the definitions.
+// `certify` takes a state with an inverse and answers the certificate that the definitions give: the mismatch of each
+// row, the box, and a radius for each unknown; or it names the first row that is loose, or the first unknown at which
+// there is none, and nothing else but want of memory. That a certificate is sound, and what it says of other states,
+// are laws on the definitions.
 //
-// Modules: `ball`, what is certified; `fault`, why there is no certificate; `mismatches` of rows, and the first loose one; `boxes`, the
-// half-widths; `radii`, by how much slopes may be off, by non-zeros; `flat`, lists of short entries, whose sums need no tests; `sums` of columns; and `bounds`, how far the inverse times the Jacobian is from
-// the unit matrix; `reach`, the radii of unknowns; `rounding`, quotients rounded up; `certificate` over them.
+// Modules: `ball`, what is certified; `fault`, why there is no certificate; `mismatches` of rows, and the first loose
+// one; `boxes`, the half-widths; `radii`, by how much slopes may be off, by non-zeros; `flat`, lists of short entries,
+// whose sums need no tests; `sums` of columns; `totals` of products, up to 2^120; `bounds`, how far the inverse times
+// the Jacobian is from the unit matrix; `reach`, the radii of unknowns; `rounding`, quotients rounded up; and
+// `certificate` over them.
 #![tactic(auto)]
 
 mod ball;
@@ -20,6 +23,7 @@ mod radii;
 mod reach;
 mod rounding;
 mod sums;
+mod totals;
 
 pub use ball::{Ball, Certified};
 pub use certificate::certify;

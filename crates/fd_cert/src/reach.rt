@@ -7,12 +7,13 @@ ghost use Rattle.fd_exact.specs.States.{entry, part};
 ghost use Rattle.fd_exact.specs.Sums.{sum_n};
 ghost use Rattle.fd_equations.specs.Rounded.{list_of};
 ghost use Rattle.fd_enclosure.specs.Bounds.{bound_size, is_below_one as is_below};
-ghost use Rattle.fd_enclosure.specs.Sound.{number_at};
+ghost use Rattle.fd_enclosure.specs.Sound.{greatest_mismatch, number_at};
 ghost use Rattle.fd_mat.specs.Rows.{EntriesWithin};
 ghost use Rattle.fd_cert.specs.Columns.{AreWeights, HasNumbers, HasWeights, IsRowOfInverse};
 ghost use Rattle.fd_cert.specs.Reaches.{AreTight, bound_in, is_unbounded, named_bound, radius_of, reach_in};
 
 use crate::rounding::ceil_over;
+use crate::totals::entry_size;
 use fd_mat::Dense;
 use std::alloc::{AllocError, Global};
 
@@ -26,6 +27,16 @@ const PRODUCT_LIMIT: u128 = 0x100_0000_0000_0000_0000_0000_0000_0000;
 
 const RADIUS_LIMIT: u128 = 0x100_0000_0000;
 
+// The size of an entry of the inverse times twice a mismatch: one multiplication of 64 bits.
+fn share(entry: i128, mismatch: u128) -> u128
+    requires entry { nat_abs entry ≤ 2 ^ 56 }
+    requires mismatch { mismatch ≤ greatest_mismatch }
+    ensures share { result ≡ nat_abs entry * (2 * mismatch) }
+    ensures small { result ≤ 2 ^ 67 }
+{
+    entry_size(entry) as u128 * (2 * mismatch as u64) as u128
+}
+
 // The sum of the sizes of a row of the inverse, each times twice the mismatch.
 fn spread(factors: &[i128], mismatch: &[u128]) -> u128
     requires factors { IsRowOfInverse (length mismatch.now) factors.now }
@@ -36,7 +47,7 @@ fn spread(factors: &[i128], mismatch: &[u128]) -> u128
 {
     let mut sum = 0;
     for row in 0..mismatch.len() {
-        sum += factors[row].unsigned_abs() * (2 * mismatch[row]);
+        sum += share(factors[row], mismatch[row]);
     }
     sum
 }

@@ -146,15 +146,3 @@ pub fn clear(sums: &mut [i128])
         *sum = 0;
     }
 }
-
-// Writes the sizes of numbers.
-pub fn write_sizes(sizes: &mut [i128], numbers: &[i128])
-    requires long { length sizes.old ≡ length numbers.now }
-    requires small { (k : ℕ) → k < length numbers.now → nat_abs (part numbers.now k) ≤ 2 ^ 120 }
-    ensures long { length sizes.new ≡ length numbers.now }
-    ensures sizes { (k : ℕ) → k < length numbers.now → part sizes.new k ≡ pos (nat_abs (part numbers.now k)) }
-{
-    for (k, size) in sizes.iter_mut().enumerate() {
-        *size = numbers[k].abs();
-    }
-}

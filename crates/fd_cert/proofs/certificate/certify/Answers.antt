@@ -1,4 +1,4 @@
-use Rattle.std.proofs.Common.{◌≡◌, ◌∙◌, ℕ, ◌<◌, length, replicate, None, ap, sym, subst, rules}
+use Rattle.std.proofs.Common.{◌≡◌, ◌∙◌, ◌<◌, length, replicate, ap, sym, subst, rules}
 use Rattle.std.proofs.lemmas.List.{get_or_read}
 use Rattle.fd_exact.specs.States.{entry}
 use Rattle.fd_equations.specs.Rounded.{jacobian_entry}

@@ -1,4 +1,4 @@
-use Rattle.std.proofs.Common.{◌≡◌, ◌∙◌, ℕ, ℤ, ◌<◌, ◌≤◌, ◌^◌, ◌≤ℤ◌, List, Option, pos, length, arith, ap, sym, subst}
+use Rattle.std.proofs.Common.{◌≡◌, ◌∙◌, ℕ, ℤ, ◌<◌, ◌^◌, ◌≤ℤ◌, List, pos, length, ap, sym, subst}
 use Rattle.fd_exact.specs.States.{entry, part}
 use Rattle.fd_equations.specs.Rounded.{jacobian_entry, list_of}
 use Rattle.fd_equations.specs.Weights.{weight_at}

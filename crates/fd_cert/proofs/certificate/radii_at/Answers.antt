@@ -1,4 +1,4 @@
-use Rattle.std.proofs.Common.{◌≡◌, ◌∙◌, ℕ, ℤ, ◌<◌, ◌≤◌, List, length, arith, ap, sym, subst}
+use Rattle.std.proofs.Common.{◌∙◌, ℕ, ◌<◌, List, length, arith, ap, sym, subst}
 use Rattle.std.specs.List.{All}
 use Rattle.fd_equations.specs.Matrices.{matrix_with}
 use Rattle.fd_equations.specs.Patterns.{PatternView, key}

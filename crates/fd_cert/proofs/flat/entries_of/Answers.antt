@@ -1,4 +1,4 @@
-use Rattle.std.proofs.Common.{◌<◌, arith}
+use Rattle.std.proofs.Common.{arith}
 use Rattle.fd_cert.proofs.FlatSums.{flat_more}
 use Rattle.fd_cert.proofs.flat.entries_of.Goals as goal
 

@@ -1,4 +1,4 @@
-use Rattle.std.proofs.Common.{◌≡◌, ◌∙◌, ℕ, ◌<◌, ◌++◌, ◌∷◌, [], length, arith, ap, sym, subst}
+use Rattle.std.proofs.Common.{◌≡◌, ◌∙◌, ◌<◌, ◌++◌, ◌∷◌, [], length, arith, ap, sym, subst}
 use Rattle.fd_equations.specs.Amounts.{cell_at, empty}
 use Rattle.fd_equations.proofs.CallerLemmas.{get_or-list_of, length-list_of, list_of-more}
 use Rattle.fd_enclosure.specs.Sound.{number_at}

@@ -1,4 +1,4 @@
-use Rattle.std.proofs.Common.{◌≡◌, ◌∙◌, ◌<◌, nat_abs, not, ap, length, below_more, sym, arith, FitsSigned, rules}
+use Rattle.std.proofs.Common.{◌≡◌, ◌∙◌, nat_abs, not, ap, length, below_more, sym, arith, FitsSigned, rules}
 use Rattle.std.specs.Int.{w128}
 use Rattle.std.proofs.lemmas.Int.{to_z-of_z}
 use Rattle.fd_exact.specs.FirstLaws.{first_none, first_some}

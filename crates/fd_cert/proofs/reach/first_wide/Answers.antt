@@ -1,4 +1,4 @@
-use Rattle.std.proofs.Common.{ℕ, ◌<◌, ◌≤◌, ◌^◌, nat_lt, length, sym, arith}
+use Rattle.std.proofs.Common.{◌^◌, nat_lt, length, sym, arith}
 use Rattle.fd_exact.specs.FirstLaws.{first_none, first_some}
 use Rattle.fd_enclosure.specs.Sound.{number_at}
 use Rattle.fd_cert.proofs.Verdict.{is_past, not_past}

@@ -1,4 +1,4 @@
-use Rattle.std.proofs.Common.{◌≡◌, ◌∙◌, ◌≤◌, ◌^◌, nat_abs, None, Some, to_z, of_z, arith, sym, subst, FitsSigned, rules}
+use Rattle.std.proofs.Common.{◌≤◌, ◌^◌, nat_abs, None, Some, arith, sym, subst, FitsSigned, rules}
 use Rattle.std.specs.Int.{w128}
 use Rattle.std.proofs.lemmas.Int.{to_z-of_z}
 use Rattle.fd_exact.specs.States.{part}

@@ -1,5 +1,4 @@
-use Rattle.std.proofs.Common.{sym, FitsSigned, ◌*ℤ◌, rules}
-use Rattle.std.specs.Int.{w128}
+use Rattle.std.proofs.Common.{sym}
 use Rattle.std.proofs.lemmas.Int.{to_z-of_z}
 use Rattle.fd_cert.proofs.Units.{product_past}
 use Rattle.fd_cert.proofs.sums.product.Goals as goal

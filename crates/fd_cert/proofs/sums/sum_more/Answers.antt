@@ -1,4 +1,4 @@
-use Rattle.std.proofs.Common.{◌≡◌, ◌∙◌, Some, ap, refl}
+use Rattle.std.proofs.Common.{◌∙◌, Some, ap, refl}
 use Rattle.fd_arith.specs.Limits.{within}
 use Rattle.fd_arith.specs.Wide.{wide_sum}
 use Rattle.fd_cert.proofs.Units.{product_read, product_size, sum_fits, sum_kept}

@@ -1,4 +1,4 @@
-use Rattle.std.proofs.Common.{◌≡◌, ◌∙◌, ◌<◌, ◌≤◌, ◌^◌, ℕ, IfSome, length, arith, ap, sym, subst}
+use Rattle.std.proofs.Common.{◌∙◌, ◌≤◌, ◌^◌, ℕ, IfSome, arith, ap, subst}
 use Rattle.fd_exact.specs.States.{part}
 use Rattle.fd_exact.specs.Sums.{list_z}
 use Rattle.fd_cert.specs.Entries.{IsFlatOf, entry_term}

@@ -1,0 +1,104 @@
+// Totals of products of natural numbers, up to 2^120.
+ghost use Rattle.std.specs.Prelude.{◌≡◌, ℕ, ◌+◌, ◌*◌, ◌<◌, ◌≤◌, ◌^◌, nat_abs, IfNone, IfSome};
+ghost use Rattle.fd_cert.specs.Totals.{IsTotal};
+
+// The greatest total, 2^120.
+const LIMIT: u128 = 0x100_0000_0000_0000_0000_0000_0000_0000;
+
+// What stands for each total above that.
+pub const PAST: u128 = LIMIT + 1;
+
+// The greatest short weight, 2^40, and the greatest short number, below 2^75: 2^11 of their products are at most 2^126.
+const SHORT_WEIGHT: u128 = 0x100_0000_0000;
+
+const SHORT_NUMBER: u128 = 0x7ff_ffff_ffff_ffff_ffff;
+
+// The greatest number of 64 bits.
+const HALF: u128 = 0xffff_ffff_ffff_ffff;
+
+// A total, if it is at most 2^120.
+pub fn up_to_limit(total: u128) -> Option<u128>
+    ensures { IsTotal total result }
+{
+    if total <= LIMIT { Some(total) } else { None }
+}
+
+// The total with a product more.
+pub fn plus_product(total: u128, factor: u128, number: u128) -> Option<u128>
+    requires total { total ≤ 2 ^ 127 }
+    ensures { IsTotal (total + factor * number) result }
+{
+    match factor.checked_mul(number) {
+        Some(product) if product <= LIMIT => up_to_limit(total + product),
+        _ => None,
+    }
+}
+
+// The size of an entry of an inverse, in 64 bits.
+pub fn entry_size(entry: i128) -> u64
+    requires { nat_abs entry ≤ 2 ^ 56 }
+    ensures { result ≡ nat_abs entry }
+{
+    (entry as i64).unsigned_abs()
+}
+
+// The product of a short entry and a number of 64 bits: one multiplication.
+fn short_product(size: u64, number: u64) -> u128
+    requires size { size ≤ 2 ^ 56 }
+    ensures value { result ≡ size * number }
+    ensures small { result ≤ 2 ^ 120 }
+{
+    size as u128 * number as u128
+}
+
+// The same as `plus_product` for the size of an entry of an inverse, in one multiplication where the number has 64
+// bits.
+pub fn plus_entry(total: u128, entry: i128, number: u128) -> Option<u128>
+    requires total { total ≤ 2 ^ 120 }
+    requires entry { nat_abs entry ≤ 2 ^ 56 }
+    ensures { IsTotal (total + nat_abs entry * number) result }
+{
+    let size = entry_size(entry);
+    if number <= HALF {
+        up_to_limit(total + short_product(size, number as u64))
+    } else {
+        plus_product(total, size as u128, number)
+    }
+}
+
+// A weight in 64 bits if it is at most 2^40; else 0.
+pub fn short_weight(weight: i128) -> u64
+    ensures short { nat_abs weight ≤ 2 ^ 40 → result ≡ nat_abs weight }
+    ensures same { 0 < result → result ≡ nat_abs weight }
+    ensures small { result ≤ 2 ^ 40 }
+{
+    let size = weight.unsigned_abs();
+    if size <= SHORT_WEIGHT { size as u64 } else { 0 }
+}
+
+// The product of a short weight and a number: two multiplications of 64 bits.
+fn weighted(weight: u64, number: u128) -> u128
+    requires weight { weight ≤ 2 ^ 40 }
+    requires number { number ≤ 2 ^ 75 }
+    ensures value { result ≡ weight * number }
+    ensures small { result ≤ 2 ^ 115 }
+{
+    weight as u128 * number
+}
+
+// The total with the product of a weight and a number more; none only where that passes 2^120. Where both are short it
+// is not tested.
+pub fn plus_weighted(total: u128, weight: i128, short: u64, number: u128) -> Option<u128>
+    requires total { total ≤ 2 ^ 127 }
+    requires same { 0 < short → short ≡ nat_abs weight }
+    requires weight { short ≤ 2 ^ 40 }
+    ensures some { IfSome result (λ t. t ≡ total + nat_abs weight * number) }
+    ensures none { IfNone result (2 ^ 120 < total + nat_abs weight * number) }
+    ensures small { (k : ℕ) → total ≤ 2 ^ 120 + k * 2 ^ 115 → IfSome result (λ t. t ≤ 2 ^ 120 + (k + 1) * 2 ^ 115) }
+{
+    if short != 0 && number <= SHORT_NUMBER {
+        Some(total + weighted(short, number))
+    } else {
+        plus_product(total, weight.unsigned_abs(), number)
+    }
+}
