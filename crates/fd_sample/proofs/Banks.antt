@@ -106,6 +106,14 @@ power_of_all p closed end c r x v h b e =
     value_of_all (cap_decision p closed) (reactive_total end c r end.phases) (sum_f (reactive end x) end.phases).top (sum_f (reactive end x) end.phases).over v
     (bank_decided (bank_of p) closed) held.over held.holds e
 
+pub cap_of_agreed : (p : CapProbe) (closed : Bool) (m : Measured) (c : List ℤ) (r : List ℕ) (x : State) (v : Decision) → IsMeasured (length c) m →
+    IsInBall c r x → agreed (cap_interval m c r) (cap_decision p closed (least_of (kind_of m) (cap_interval m c r))) (cap_decision p closed (greatest_of (kind_of m) (cap_interval m c r))) ≡ Some v →
+    cap_decision p closed (cap_quantity m x) ≡ v
+unfolding cap_interval
+cap_of_agreed p closed (measured.Voltage node ratio) c r x v h b e = magnitude_of_all p closed node ratio c r x v h.0 h.1 b e
+cap_of_agreed p closed (measured.Current branch ratio) c r x v h b e = magnitude_of_all p closed (Node branch) ratio c r x v h.0 h.1 b e
+cap_of_agreed p closed (measured.Kvar end) c r x v h b e = power_of_all p closed end c r x v h b e
+
 pub cap_of_all : (p : CapProbe) (closed : Bool) (m : Measured) (c : List ℤ) (r : List ℕ) (x : State) (w : Verdict) (v : Decision) → IsMeasured (length c) m →
     IsInBall c r x → IsCapSample (kind_of m) (cap_decision p closed) (cap_edge p closed) (cap_interval m c r) w → decision_of w ≡ Some v →
     cap_decision p closed (cap_quantity m x) ≡ v

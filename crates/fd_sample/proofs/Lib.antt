@@ -4,8 +4,15 @@ pub mod Greatest
 pub mod Samples
 pub mod Regulators
 pub mod Banks
-pub mod Probes
+pub mod ByControl
 pub mod Signed
 pub mod Places
 pub mod Standing
 pub mod Sites
+pub mod Listed
+pub mod Named
+pub mod Fitting
+pub mod Kept
+pub mod SquareRoots
+pub mod Decided
+pub mod CallerLemmas

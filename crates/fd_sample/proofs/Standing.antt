@@ -37,7 +37,7 @@ use Rattle.fd_devices.specs.Sound.{IsSideOf}
 use Rattle.fd_network.specs.Places.{IsReadyAt}
 use Rattle.fd_network.proofs.CallerLemmas.{element_ready}
 use Rattle.fd_sample.specs.Circuits.{IsCapControlIn, IsCapProbeAt, IsCapProbeIn, IsLineFor, IsLineOf, banks_before, line_in, IsXfmrOf, IsXfmrFor, IsRegControlIn, IsRegProbeAt, IsRegProbeIn, element_at, place_given, transformer_in, transformers_before}
-use Rattle.fd_sample.specs.Scripted.{IsLineAt, IsPhase, IsXfmrAt, cap_probe, reg_probe}
+use Rattle.fd_sample.specs.Scripted.{IsLineAt, IsXfmrAt, cap_probe, reg_probe}
 use Rattle.fd_sample.specs.declared.probe.RegProbe.{RegProbe}
 
 -- ---- the class of an element that is there
@@ -120,7 +120,7 @@ xfmr_in circuit h range control r place n t is same =
 
 -- ---- what is found of a control's transformer
 
-transformer_back : (e : Element) (t : Transformer) → transformer_in e ≡ Some t → e ≡ the.Transformer t
+pub transformer_back : (e : Element) (t : Transformer) → transformer_in e ≡ Some t → e ≡ the.Transformer t
 transformer_back (the.Transformer s) t h = cc
 transformer_back (the.Vsource v) t h = absurd (cc)
 transformer_back (the.Linecode c) t h = absurd (cc)
@@ -161,11 +161,11 @@ module _ (circuit : CircuitView) (h : HasPassed circuit) (range : All (λ e. Ele
 
 -- ---- the same by the element at a place
 
-record HasEntry (o : Option (ElementName × Element)) (e : Element) : Type 0 where
-  name : ElementName
-  is : o ≡ Some (name, e)
+pub record HasEntry (o : Option (ElementName × Element)) (e : Element) : Type 0 where
+  pub name : ElementName
+  pub is : o ≡ Some (name, e)
 
-entry_of : (o : Option (ElementName × Element)) (e : Element) → option_map (λ x. x.1) o ≡ Some e → HasEntry o e
+pub entry_of : (o : Option (ElementName × Element)) (e : Element) → option_map (λ x. x.1) o ≡ Some e → HasEntry o e
 entry_of None e h = absurd (cc)
 entry_of (Some x) e h = let same : x.1 ≡ e = cc in record {
   name = x.0;
@@ -235,7 +235,7 @@ as_line (the.RegControl c) h = absurd (cc)
 as_line (the.CapControl c) h = absurd (cc)
 as_line (the.Loadshape s) h = absurd (cc)
 
-line_back : (e : Element) (l : Line) → line_in e ≡ Some l → e ≡ the.Line l
+pub line_back : (e : Element) (l : Line) → line_in e ≡ Some l → e ≡ the.Line l
 line_back (the.Line s) l h = cc
 line_back (the.Vsource v) l h = absurd (cc)
 line_back (the.Linecode c) l h = absurd (cc)
@@ -254,7 +254,7 @@ some_line : (o : Option Line) → IsSome o → HasLine o
 some_line None h = absurd (cc)
 some_line (Some l) h = record { line = l; is = refl }
 
-line_at : (circuit : CircuitView) → HasPassed circuit → All (λ e. ElementInRange e.1) circuit.elements → (control : CapControl) →
+pub line_at : (circuit : CircuitView) → HasPassed circuit → All (λ e. ElementInRange e.1) circuit.elements → (control : CapControl) →
     IsCapControlIn circuit.elements control → (place : ℕ) (n : ElementName) (l : Line) →
     slice_get circuit.elements place ≡ Some (n, the.Line l) →
     element_at circuit.elements place ≡ element_given circuit.elements class.Line control.element → IsLineOf (layout_of circuit.elements) place control l

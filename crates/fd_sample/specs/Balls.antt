@@ -1,4 +1,5 @@
--- Balls of states: a centre and a radius for each unknown, in whole micro-units, and the intervals of the unknowns over a ball.
+-- Balls of states: a centre and a radius for each unknown, in whole micro-units, and the intervals of the unknowns over
+-- a ball.
 use Rattle.std.specs.Prelude.{◌≡◌, ℕ, ◌+◌, ◌*◌, ◌^◌, ◌<◌, ◌≤◌, ℤ, pos, ◌+ℤ◌, ◌-ℤ◌, nat_abs, List, length, get_or, All}
 use Rattle.fd_exact.specs.States.{State, part, away}
 use Rattle.fd_arith.specs.Interval.{Bounds, capped, difference}

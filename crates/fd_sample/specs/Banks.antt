@@ -1,5 +1,5 @@
--- The quantity of a bank's control (OpenDSS manual, CapControl, property type): the magnitude of a node's voltage or of a branch's current over
--- the ratio of its transformer, or the reactive power that enters a line at one of its ends.
+-- The quantity of a bank's control (OpenDSS manual, CapControl, property type): the magnitude of a node's voltage or of
+-- a branch's current over the ratio of its transformer, or the reactive power that enters a line at one of its ends.
 use Rattle.std.specs.Prelude.{◌≡◌, ℕ, zero, suc, ◌+◌, ◌*◌, ◌^◌, ◌<◌, ◌≤◌, ℤ, pos, nat_abs, Bool, if◌then◌else◌, List, All, Some}
 use Rattle.fd_exact.specs.Fractions.{Fraction, fraction, opposite}
 use Rattle.fd_exact.specs.Rounding.{near_div}

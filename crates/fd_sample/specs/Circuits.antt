@@ -1,7 +1,8 @@
--- The probes of a circuit's controls: where the elements that a control names stand, and their numbers among their kind.
-use Rattle.std.specs.Prelude.{◌≡◌, ℕ, ◌+◌, ◌≤◌, ◌<◌, ◌^◌, List, map, take, slice_get, Option, Some, None}
-use Rattle.std.specs.List.{position}
-use Rattle.std.specs.Option.{option_map}
+-- The probes of a circuit's controls: where the elements that a control names stand, and their numbers among their
+-- kind.
+use Rattle.std.specs.Prelude.{◌≡◌, ◌≢◌, ℕ, ◌+◌, ◌≤◌, ◌<◌, ◌^◌, List, length, map, take, slice_get, All, Option, Some, None}
+use Rattle.std.specs.List.{filter_map, position}
+use Rattle.std.specs.Option.{option_and_then, option_map}
 use Rattle.fd_exact.specs.Sums.{list_n}
 use Rattle.dss_profile.specs.InRange.{CapControlInRange, LineInRange, RegControlInRange, TransformerInRange}
 use Rattle.dss_profile.specs.SameElement.{same_element}
@@ -14,14 +15,21 @@ use Rattle.dss_profile.specs.declared.names.Class.{Class}
 use Rattle.dss_profile.specs.declared.names.Class.TheVariants as class
 use Rattle.dss_profile.specs.declared.regcontrol.RegControl.{RegControl}
 use Rattle.dss_profile.specs.declared.transformer.Transformer.{Transformer}
+use Rattle.dss_circuit.specs.Circuit.{CircuitView}
+use Rattle.dss_circuit.specs.InRange.{AllInRange}
+use Rattle.dss_circuit.specs.WellFormed.{IsEntry}
 use Rattle.dss_layout.specs.Layout.{Elements, LayoutView, complex_count, ends_of, layout_of, size_of}
 use Rattle.dss_ready.specs.Lookups.{element_given}
 use Rattle.dss_ready.specs.Passed.{IsPhaseOf}
+use Rattle.dss_ready.specs.Ready.{HasPassed}
 use Rattle.fd_xfmr.specs.Transformer.{IsBetween}
 use Rattle.fd_devices.specs.Settings.{bank_count, tap_count}
+use Rattle.fd_queue.specs.Controls.{Positions}
+use Rattle.fd_queue.specs.Queue.{InPairs}
 use Rattle.fd_sample.specs.declared.probe.Probe.{Probe}
 use Rattle.fd_sample.specs.declared.probe.Probe.TheVariants as probe
 use Rattle.fd_sample.specs.declared.probe.RegProbe.{RegProbe}
+use Rattle.fd_sample.specs.Probes.{HasDevice, IsProbe}
 use Rattle.fd_sample.specs.Scripted.{IsLineAt, IsPhase, IsXfmrAt, cap_probe, reg_probe}
 
 -- the place in order of the element of a class that a property names
@@ -136,3 +144,64 @@ IsProbeOf es (Some (the.CapControl control)) None = ⊥
 IsProbeOf es (Some other) None = Unit {0}
 IsProbeOf es (Some other) (Some p) = ⊥
 IsProbeOf es None o = ⊥
+
+-- ---- the controls of a circuit
+
+-- the probe of a regulator's control, by the transformer that it names
+abbrev pub reg_probe_at : Elements → RegControl → ℕ → Option Transformer → Option RegProbe
+reg_probe_at es control place None = None
+reg_probe_at es control place (Some t) = Some (reg_probe control t (ends_of (layout_of es) place (the.Transformer t)) (transformers_before es place))
+
+abbrev pub reg_probe_in : Elements → RegControl → Option RegProbe
+reg_probe_in es control = option_and_then (λ place. reg_probe_at es control place (option_and_then transformer_in (element_at es place))) (place_given es class.Transformer control.transformer)
+
+-- the probe of a bank's control, by the line and the bank that it names
+abbrev pub cap_probe_at : Elements → CapControl → ℕ → Option Line → Option ℕ → Option CapProbe
+cap_probe_at es control place None bank = None
+cap_probe_at es control place (Some l) None = None
+cap_probe_at es control place (Some l) (Some bank) = Some (cap_probe control l (ends_of (layout_of es) place (the.Line l)) (banks_before es bank))
+
+abbrev pub cap_probe_in : Elements → CapControl → Option CapProbe
+cap_probe_in es control = option_and_then (λ place. cap_probe_at es control place (option_and_then line_in (element_at es place)) (place_given es class.Capacitor control.capacitor)) (place_given es class.Line control.element)
+
+-- the probe of an element, one for a control of a circuit that passed the tests of Solve and none for any other element
+abbrev pub probe_in : Elements → Element → Option Probe
+probe_in es (the.RegControl control) = option_map probe.Regulator (reg_probe_in es control)
+probe_in es (the.CapControl control) = option_map probe.Bank (cap_probe_in es control)
+probe_in es other = None
+
+-- of all controls, in the script's order
+unfoldable pub probes_of : Elements → List Probe
+probes_of es = filter_map (λ e. probe_in es e.1) es
+
+-- ---- what they keep to
+
+-- delays from which times can be made, in milliseconds
+abbrev pub HasTimes : Probe → Type 0
+HasTimes (probe.Regulator p) = (p.delay < 2 ^ 60) × (p.tapdelay < 2 ^ 60)
+HasTimes (probe.Bank p) = (p.delay < 2 ^ 60) × ((p.delayoff < 2 ^ 60) × (p.deadtime < 2 ^ 60))
+
+-- a tap that a control moves stays within the range of taps
+abbrev pub HasRange : Probe → Type 0
+HasRange (probe.Regulator p) = (50000 ≤ p.min_tap) × (p.max_tap ≤ 200000)
+HasRange (probe.Bank p) = Unit {0}
+
+-- two controls don't move one winding, nor switch one bank
+abbrev pub AreApart : Probe → Probe → Type 0
+AreApart (probe.Bank p) (probe.Bank q) = p.bank ≢ q.bank
+AreApart (probe.Bank p) (probe.Regulator q) = Unit {0}
+AreApart (probe.Regulator p) (probe.Bank q) = Unit {0}
+AreApart (probe.Regulator p) (probe.Regulator q) = p.transformer ≡ q.transformer → p.is_second ≢ q.is_second
+
+-- the probes of a circuit that passed the tests of Solve
+pub record AreProbes (elements : Elements) (ps : List Probe) : Type 0 where
+  pub places : All (IsProbe (size_of (layout_of elements))) ps
+  pub devices : (at : Positions) → length at.taps ≡ list_n (λ e. tap_count e.1) elements → length at.closed ≡ list_n (λ e. bank_count e.1) elements → All (HasDevice at) ps
+  pub times : All HasTimes ps
+  pub ranges : All HasRange ps
+  pub apart : InPairs AreApart ps
+  pub few : length ps ≤ length elements
+
+-- a circuit's controls keep to it once the circuit passed the tests of Solve
+abbrev pub ProbesLaw : Type 0
+ProbesLaw = (circuit : CircuitView) → HasPassed circuit → AllInRange circuit.elements → All IsEntry circuit.elements → AreProbes circuit.elements (probes_of circuit.elements)

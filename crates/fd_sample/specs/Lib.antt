@@ -6,3 +6,5 @@ pub mod Probes
 pub mod Scripted
 pub mod Circuits
 pub mod Samples
+pub mod Roots
+pub mod Decided

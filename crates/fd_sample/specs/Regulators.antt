@@ -1,5 +1,5 @@
--- The quantity of a regulator's control: the magnitude of V / ptratio - (R + j X) I / CTprim, V being the voltage of its winding and I the
--- current that the winding delivers (OpenDSS manual, RegControl, line drop compensation).
+-- The quantity of a regulator's control: the magnitude of V / ptratio - (R + j X) I / CTprim, V being the voltage of
+-- its winding and I the current that the winding delivers (OpenDSS manual, RegControl, line drop compensation).
 use Rattle.std.specs.Prelude.{◌≡◌, Bool, not, ℕ, ◌*◌, ◌^◌, ◌≤◌, ℤ, pos, nat_abs, if◌then◌else◌, List, Some}
 use Rattle.fd_exact.specs.Fractions.{Fraction, fraction}
 use Rattle.fd_exact.specs.States.{State}
@@ -79,7 +79,8 @@ pub record IsRegProbe (n : ℕ) (p : RegProbe) : Type 0 where
 abbrev pub turns_of : RegProbe → TapPair → Fraction
 turns_of p t = fraction (pos (p.second_volts * t.second)) (p.first_volts * t.first)
 
--- the current that the winding delivers: the branch's at winding 2; winding 1 draws its product with the ratio of the turns
+-- the current that the winding delivers: the branch's at winding 2; winding 1 draws its product with the ratio of the
+-- turns
 abbrev pub delivered : RegProbe → TapPair → State → Complex
 delivered p t x =
     (if p.is_second then unknown x (Node p.branch)

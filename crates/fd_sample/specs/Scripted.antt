@@ -1,4 +1,5 @@
--- The probes of a circuit's controls, by their settings in the script and by where their transformers, banks and lines stand.
+-- The probes of a circuit's controls, by their settings in the script and by where their transformers, banks and lines
+-- stand.
 use Rattle.std.specs.Prelude.{ℕ, ◌+◌, ◌-◌, ◌*◌, ◌/◌, ◌^◌, ◌≤◌, ◌==◌, ℤ, pos, ◌≤ℤ◌, nat_abs, Bool, if◌then◌else◌, List, [], ◌∷◌}
 use Rattle.fd_arith.specs.declared.terms.Ends.{Ends}
 use Rattle.fd_arith.specs.declared.terms.NodeAt.{NodeAt}
@@ -101,7 +102,8 @@ pub record IsPhase (phases : ℕ) (phase : ℤ) : Type 0 where
   pub least : pos 1 ≤ℤ phase
   pub most : phase ≤ℤ pos phases
 
--- an element of so many phases with sides of m terminals that stands among the first n complex unknowns, of `places` real ones
+-- an element of so many phases with sides of m terminals that stands among the first n complex unknowns, of `places`
+-- real ones
 pub record IsAt (n places m phases : ℕ) (at : Ends) : Type 0 where
   pub first : IsSideOf n m at.first
   pub second : IsSideOf n m at.second

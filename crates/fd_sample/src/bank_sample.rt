@@ -11,9 +11,10 @@ use crate::probe::{CapProbe, Measured};
 use fd_arith::{Interval, NodeAt, Square};
 use fd_queue::Verdict;
 
-/// The verdict of a bank's control over the ball of these centres and radii, in whole microvolts and microamperes, where its bank is closed
-/// or open. It is undecided exactly where the least and the greatest value of the interval want different things, or the interval is ALL; a
-/// decided one is what the control wants at every state of the ball. Takes no memory.
+/// The verdict of a bank's control over the ball of these centres and radii, in whole microvolts and microamperes,
+/// where its bank is closed or open. It is undecided exactly where the least and the greatest value of the interval
+/// want different things, or the interval is ALL; a decided one is what the control wants at every state of the ball.
+/// Takes no memory.
 pub fn bank_verdict(probe: &CapProbe, closed: bool, centre: &[i128], radii: &[u128]) -> Verdict
     requires probe { IsCapProbe (length centre.now) probe.now }
     requires ball { IsBall centre.now radii.now }

@@ -23,8 +23,8 @@ use dss_profile::{CapControl, Class, Element, ElementName, Line, RegControl, Tra
 use indexmap::IndexMap;
 use std::alloc::{AllocError, Global};
 
-/// The probe of the element at this place in order, in a circuit that passed the tests of Solve, whose layout this is: None exactly where the
-/// element is no control.
+/// The probe of the element at this place in order, in a circuit that passed the tests of Solve, whose layout this is:
+/// None exactly where the element is no control.
 ///
 /// # Errors
 /// `AllocError` where the memory is refused.

@@ -3,6 +3,7 @@ ghost use Rattle.std.specs.Prelude.{◌≡◌, ◌<◌, ℕ, false, get_or, leng
 ghost use Rattle.fd_xfmr.specs.Leakage.{AreTaps};
 ghost use Rattle.fd_queue.specs.Controls.{pair_at};
 ghost use Rattle.fd_sample.specs.Balls.{IsBall};
+ghost use Rattle.fd_sample.specs.Decided.{sample_of, sample_over};
 ghost use Rattle.fd_sample.specs.Probes.{HasDevice, IsOfEachState, IsProbe, IsSampleOf, TellsChange, interval_over, positions_in};
 
 use crate::bank_sample::bank_verdict;
@@ -12,10 +13,10 @@ use fd_arith::TapPair;
 use fd_devices::Positions;
 use fd_queue::Verdict;
 
-/// The verdict of a control over the ball of these centres and radii, one of each for every unknown, in whole microvolts and microamperes and
-/// at most 2^40, where taps and banks stand at these positions. It is undecided exactly where the least and the greatest value of the
-/// sample's interval want different things, or the interval is ALL; a decided one is what the control wants at every state of the ball.
-/// Takes no memory.
+/// The verdict of a control over the ball of these centres and radii, one of each for every unknown, in whole
+/// microvolts and microamperes and at most 2^40, where taps and banks stand at these positions. It is undecided exactly
+/// where the least and the greatest value of the sample's interval want different things, or the interval is ALL; a
+/// decided one is what the control wants at every state of the ball. Takes no memory.
 pub fn verdict(probe: &Probe, at: &Positions, centre: &[i128], radii: &[u128]) -> Verdict
     requires probe { IsProbe (length centre.now) probe.now }
     requires device { HasDevice (positions_in at.now) probe.now }
@@ -23,6 +24,7 @@ pub fn verdict(probe: &Probe, at: &Positions, centre: &[i128], radii: &[u128]) -
     requires ball { IsBall centre.now radii.now }
     ensures sample { IsSampleOf probe.now (positions_in at.now) (interval_over probe.now (positions_in at.now) centre.now radii.now) result }
     ensures edge { TellsChange probe.now (positions_in at.now) (interval_over probe.now (positions_in at.now) centre.now radii.now) result }
+    ensures verdict { sample_of result ≡ sample_over probe.now (positions_in at.now) centre.now radii.now }
     ensures every_state { IsOfEachState probe.now (positions_in at.now) centre.now radii.now result }
 {
     match probe {

@@ -32,8 +32,8 @@ fn non_negative(x: i128) -> u128
     if x < 0 { 0 } else { x as u128 }
 }
 
-/// The verdict of a sample over an interval of squares, by those at its least and greatest magnitude and the edge that is to be told where
-/// they differ.
+/// The verdict of a sample over an interval of squares, by those at its least and greatest magnitude and the edge that
+/// is to be told where they differ.
 pub fn agreed(squares: Interval<Square>, low: Verdict, high: Verdict, edge: i128) -> Verdict
     requires low { is_decided low ≡ true }
     requires high { is_decided high ≡ true }

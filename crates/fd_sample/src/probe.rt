@@ -45,7 +45,8 @@ pub struct CapProbe {
     /// The values at which it closes and opens the bank: in volts or amperes at the relay, or in kvar.
     pub on: i128,
     pub off: i128,
-    /// The delays before it closes and opens the bank, and the time for which an opened bank stays open, in milliseconds.
+    /// The delays before it closes and opens the bank, and the time for which an opened bank stays open, in
+    /// milliseconds.
     pub delay: u64,
     pub delayoff: u64,
     pub deadtime: u64,

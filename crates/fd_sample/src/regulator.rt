@@ -88,7 +88,8 @@ fn nominal(probe: &RegProbe) -> u128
     }
 }
 
-// The greatest number of steps, up to the most at once, of which the magnitude is at most so many below the voltage that is wanted.
+// The greatest number of steps, up to the most at once, of which the magnitude is at most so many below the voltage
+// that is wanted.
 fn steps_up(probe: &RegProbe, square: u128) -> u32
     requires settings { AreRegSettings probe.now }
     ensures { result ≡ greatest_within (fits_up probe.now square) probe.now.maxtapchange }
@@ -112,7 +113,8 @@ fn is_up(probe: &RegProbe, step: u128, n: u32, square: u128) -> bool
     !is_above(square, below(probe, step, n))
 }
 
-// The greatest number of steps, up to the most at once, of which the magnitude is at least so many above the voltage that is wanted.
+// The greatest number of steps, up to the most at once, of which the magnitude is at least so many above the voltage
+// that is wanted.
 fn steps_down(probe: &RegProbe, square: u128) -> u32
     requires settings { AreRegSettings probe.now }
     ensures { result ≡ greatest_within (fits_down probe.now square) probe.now.maxtapchange }

@@ -12,9 +12,10 @@ use crate::relay::squares;
 use fd_arith::{Interval, Square, TapPair};
 use fd_queue::Verdict;
 
-/// The verdict of a regulator's control over the ball of these centres and radii, in whole microvolts and microamperes, where its
-/// transformer stands at these taps. It is undecided exactly where the least and the greatest magnitude of the interval want different
-/// things, or the interval is ALL; a decided one is what the control wants at every state of the ball. Takes no memory.
+/// The verdict of a regulator's control over the ball of these centres and radii, in whole microvolts and microamperes,
+/// where its transformer stands at these taps. It is undecided exactly where the least and the greatest magnitude of
+/// the interval want different things, or the interval is ALL; a decided one is what the control wants at every state
+/// of the ball. Takes no memory.
 pub fn regulator_verdict(
     probe: &RegProbe,
     taps: TapPair,

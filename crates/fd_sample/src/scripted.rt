@@ -18,8 +18,8 @@ use fd_devices::xfmr_data;
 use fd_system::{NodePair, phase_volts};
 use fd_xfmr::{PhaseAt, XfmrData, phase_at};
 
-/// The probe of a regulator's control, whose transformer has this number among the transformers and stands at these ends. Takes no
-/// memory.
+/// The probe of a regulator's control, whose transformer has this number among the transformers and stands at these
+/// ends. Takes no memory.
 pub fn regulator_probe(
     control: &RegControl,
     xfmr: &Transformer,
@@ -62,7 +62,8 @@ pub fn regulator_probe(
     }
 }
 
-/// The probe of a bank's control, whose bank has this number among the banks and whose line stands at these ends. Takes no memory.
+/// The probe of a bank's control, whose bank has this number among the banks and whose line stands at these ends. Takes
+/// no memory.
 pub fn bank_probe(control: &CapControl, line: &Line, at: &Ends, bank: u32) -> CapProbe
     requires control { CapControlInRange control.now }
     requires line { LineInRange line.now }

@@ -5,8 +5,8 @@ use fd_queue::Verdict;
 use fd_system::NodePair;
 use std::test::Fail;
 
-// A regulator of 122 V with a band of 2 V behind a ratio of 20, on winding 2 of a transformer of 2,400 V, without compensation; its node is
-// the first unknown and its branch the second.
+// A regulator of 122 V with a band of 2 V behind a ratio of 20, on winding 2 of a transformer of 2,400 V, without
+// compensation; its node is the first unknown and its branch the second.
 const REGULATOR: RegProbe = RegProbe {
     transformer: 0,
     is_second: true,

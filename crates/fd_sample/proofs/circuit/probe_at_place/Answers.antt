@@ -1,4 +1,4 @@
-use Rattle.std.proofs.Common.{◌≡◌, ◌<◌, ℕ, sym, subst, length, Some}
+use Rattle.std.proofs.Common.{◌≡◌, subst, Some}
 use Rattle.dss_layout.specs.Layout.{Elements}
 use Rattle.fd_sample.specs.Circuits.{element_at}
 use Rattle.fd_sample.proofs.Standing.{capcontrol_in, regcontrol_in}
