@@ -1,10 +1,38 @@
-// What a settle is made of: rounds, each a certified state and the acts of controls behind it.
+// Settles: a circuit is solved and certified, its controls are sampled and act, and again, until no control waits to act.
 //
-// It has types alone so far, and promises nothing of them.
+// It promises that the acts of each round are those of the queue machine over the samples of the rounds' balls, and that a settle ends
+// exactly as that machine ends; each certified state is sound in the network of its round. So whatever states are chosen in the balls,
+// the acts are these (`history_law`): a decided sample is that of every state of its ball.
 //
 // - `round`: a round, and an act
+// - `clock`: the time, and the last opening times of the banks
+// - `solver`: what finds certified states
+// - `compute`: the solver that computes them
+// - `controls`: the controls at work; `state`: one of them, `sampling`, `reacting` and `acting`: what all of them do in a round
+// - `progress`: what a sampling comes to
+// - `settling`: the settle
+// - `fault`: why it ends
+// - `laws`: the acts follow from the decisions alone, and where states are computed a settle has exactly one computation
 #![tactic(auto)]
 
+mod acting;
+mod clock;
+mod compute;
+mod controls;
+mod fault;
+mod laws;
+mod progress;
+mod reacting;
 mod round;
+mod sampling;
+mod settling;
+mod solver;
+mod state;
 
+pub use clock::Clock;
+pub use compute::{Compute, ComputeFault};
+pub use fault::SettleFault;
+pub use laws::{Sampled, agree_law, computation_law, history_law, whole_law};
 pub use round::{Act, Round};
+pub use settling::settle;
+pub use solver::Solver;

@@ -14,7 +14,7 @@ pub struct Act {
     pub after: u32,
 }
 
-/// A solve of a settle: the certified state, and the acts behind it in order. Until controls act there are none.
+/// A solve of a settle: the certified state, and the acts behind it in order.
 #[derive(Drop)]
 pub struct Round {
     pub certified: Certified,

@@ -1,0 +1,20 @@
+-- Lemmas that callers cite.
+use Rattle.std.proofs.Common.{◌≡◌, List}
+use Rattle.fd_queue.proofs.CallerLemmas.{counted}
+use Rattle.fd_queue.specs.Machine.{Act, Machine, Setup}
+use Rattle.fd_queue.specs.MachineLaws.{IsCounted}
+use Rattle.fd_settle.specs.Computed.{ComputationLaw}
+use Rattle.fd_settle.specs.Sampling.{Sampling}
+use Rattle.fd_settle.specs.Settle.{Moves, outcome_of}
+use Rattle.fd_settle.proofs.Computations.{one_computation}
+use Rattle.fd_settle.proofs.Going.{round_counts}
+pub use Rattle.fd_settle.proofs.Computations.{computed}
+pub use Rattle.fd_settle.proofs.Histories.{history}
+
+-- a settle whose states are computed has one computation
+pub has_one_computation : ComputationLaw
+has_one_computation = one_computation counted
+
+-- a round that goes on is one act more, of those that are allowed
+pub round_counted : (s : Setup) (m : Machine) (w : Sampling) (acts : List Act) (after : Machine) → outcome_of s m w ≡ Moves acts after → IsCounted s m after
+round_counted = round_counts counted

@@ -1,0 +1,14 @@
+pub mod Lists
+pub mod Samplings
+pub mod Reactions
+pub mod Acts
+pub mod Shown
+pub mod Fitting
+pub mod Steps
+pub mod Starting
+pub mod Histories
+pub mod Going
+pub mod Underway
+pub mod Computing
+pub mod Computations
+pub mod CallerLemmas

@@ -1,0 +1,347 @@
+-- A settle of a circuit: where it is after each round, and what is told of how it ends.
+use Rattle.std.proofs.Common.{append-nil, ◌≡◌, ℕ, ◌+◌, ◌-◌, ◌<◌, ◌≤◌, ◌^◌, inl, inr, None, Some, Option, List, [], ◌∷◌, ◌++◌, length, map, Result, Ok, Err, refl, sym, ap, ◌∙◌, subst, arith}
+use Rattle.std.proofs.lemmas.List.Elements.{All-from_get_or}
+use Rattle.dss_profile.specs.declared.command.Blame.{Blame}
+use Rattle.dss_layout.specs.Layout.{layout_of, size_of}
+use Rattle.dss_circuit.specs.Circuit.{CircuitView}
+use Rattle.fd_elements.specs.declared.powers.LoadPower.{LoadPower}
+use Rattle.fd_equations.specs.Conditions.{IsNetwork}
+use Rattle.fd_equations.specs.Views.{NetworkView}
+use Rattle.fd_devices.specs.Devices.{AgreesWith}
+use Rattle.fd_devices.specs.Scripted.{circuit_network, circuit_parts, devices_of}
+use Rattle.fd_devices.specs.Settings.{settings_of}
+use Rattle.fd_devices.specs.declared.fault.BuildFault.{BuildFault}
+use Rattle.fd_devices.specs.declared.fault.BuildFault.TheVariants as build_fault
+use Rattle.fd_devices.specs.declared.settings.Positions.{Positions as CodePositions}
+use Rattle.fd_devices.specs.declared.settings.Powers.{Powers}
+use Rattle.fd_network.specs.Built.{BuiltView, IsBuiltOf}
+use Rattle.fd_network.specs.Faults.{IsFaultOf, range_blame}
+use Rattle.fd_enclosure.specs.Sound.{Claim, IsSound}
+use Rattle.fd_cert.specs.Claims.{claim_in}
+use Rattle.fd_cert.specs.declared.ball.Certified.{Certified}
+use Rattle.fd_queue.specs.Controls.{Positions}
+use Rattle.fd_queue.specs.Machine.{Act, Machine, settle_rule}
+use Rattle.fd_queue.specs.MachineLaws.{CountLaw}
+use Rattle.fd_sample.specs.Balls.{IsBall}
+use Rattle.fd_sample.specs.Probes.{control_of, positions_in}
+use Rattle.fd_sample.specs.declared.probe.Probe.{Probe}
+use Rattle.fd_settle.specs.declared.clock.Clock.{Clock}
+use Rattle.fd_settle.specs.declared.controls.Controls.{Controls}
+use Rattle.fd_settle.specs.declared.fault.SettleFault.{SettleFault}
+use Rattle.fd_settle.specs.declared.fault.SettleFault.TheVariants as fault
+use Rattle.fd_settle.specs.declared.progress.Progress.{Progress}
+use Rattle.fd_settle.specs.declared.progress.Progress.TheVariants as progress
+use Rattle.fd_settle.specs.declared.round.Act.{Act as Made}
+use Rattle.fd_settle.specs.declared.round.Round.{Round}
+use Rattle.fd_settle.specs.Sampling.{look_over}
+use Rattle.fd_settle.specs.Settle.{End, Open, Settled, Limited, Undecidable, Outcome, Moves, Settle, outcome_of}
+use Rattle.fd_settle.specs.Plant.{Plant, blame_at, controls_in, network_at, plant_of, setup_of}
+use Rattle.fd_settle.specs.Rounds.{AtEach, acts_in, claims_in, left_by, seen}
+use Rattle.fd_settle.specs.Calls.{AreCalls, IsLast}
+use Rattle.fd_settle.specs.Contract.{CallsAs, EndsAs, appended, begun, settled_in}
+use Rattle.fd_settle.specs.Refused.{refused}
+use Rattle.fd_settle.specs.Start.{ArePositions, IsClock, IsNetworkAt, IsSoundAt}
+use Rattle.fd_settle.specs.Controls.{AreControls, IfMoved, TellsActs, end_told, machine_of, probes_in, setup_in, shown}
+use Rattle.fd_settle.proofs.Going.{IsStanding, acts_of, end_of, kept_more, appended_more, last_by, nothing_appended, round_counts, round_more}
+
+-- ---- the network at positions
+
+pub network_is : (c : CircuitView) (powers : Powers) (at : CodePositions) → network_at c powers.loads (positions_in at) ≡ circuit_network c (settings_of at powers)
+unfolding network_at
+network_is c powers at = refl
+
+pub blame_is : (c : CircuitView) (powers : Powers) (at : CodePositions) → blame_at c powers.loads (positions_in at) ≡ range_blame c.elements (devices_of c (settings_of at powers))
+unfolding blame_at
+blame_is c powers at = refl
+
+network_size : (c : CircuitView) (powers : List LoadPower) (at : Positions) → (network_at c powers at).size ≡ size_of (layout_of c.elements)
+unfolding network_at
+network_size c powers at = refl
+
+-- what an update of the network gives
+pub updated : (c : CircuitView) (powers : Powers) (at : CodePositions) (net : BuiltView) → IsBuiltOf net c → net.rows ≡ circuit_network c (settings_of at powers) → range_blame c.elements (devices_of c (settings_of at powers)) ≡ None →
+    AgreesWith net.rows.share (circuit_parts c (settings_of at powers)) → IsNetworkAt c powers.loads (positions_in at) net
+updated c powers at net built rows in_range agrees =
+    let is : net.rows ≡ network_at c powers.loads (positions_in at) = rows ∙ sym (network_is c powers at) in
+    record {
+      built = built;
+      rows = is;
+      in_range = blame_is c powers at ∙ in_range;
+      agrees = subst (λ (v : NetworkView). AgreesWith v.share (circuit_parts c (settings_of at powers))) is agrees;
+    }
+
+-- ---- the ball of a sound claim
+
+pub centre_long : (c : CircuitView) (powers : List LoadPower) (at : Positions) (v : NetworkView) (m : Certified) → v ≡ network_at c powers at → IsSound v (claim_in m) → length m.ball.centre.items ≡ size_of (layout_of c.elements)
+centre_long c powers at v m is s = s.centre.long ∙ ap (λ (w : NetworkView). w.size) is ∙ network_size c powers at
+
+pub ball_of : (v : NetworkView) (m : Certified) → IsSound v (claim_in m) → IsBall m.ball.centre.items m.ball.radius.items
+ball_of v m s =
+    let long : length m.ball.radius.items ≡ v.size = s.radii_long in
+    record {
+      long = long ∙ sym s.centre.long;
+      centre = s.centre.parts;
+      radii = All-from_get_or (λ n. n ≤ 2 ^ 40) m.ball.radius.items 0 (λ i h. s.radii_most i (subst (λ n. i < n) long h));
+    }
+
+-- ---- what a settle leaves
+
+-- The rounds that were appended are those of a settle that is open or ends so, and positions, clock and solver are what it leaves.
+pub record IsLeft {V F : Type 0} (gives : V → NetworkView → Result Claim F → V → Type 0) (c : CircuitView) (powers : List LoadPower) (v : V) (m : Machine) (old new : List Round) (end : End) (n : Machine) (there : CodePositions) (times : Clock) (w : V) : Type 0 where
+  pub kept : new ≡ old ++ appended old new
+  pub stands : IsStanding gives (IsSoundAt c powers) (plant_of c powers) v m (appended old new) end n w
+  pub at : positions_in there ≡ n.at
+  pub opened : times.opened.items ≡ n.opened
+  pub now : times.now ≡ m.now
+  pub positions : ArePositions c powers (positions_in there)
+  pub clock : IsClock c times
+
+-- before the first round
+pub left_first : {V F : Type 0} (gives : V → NetworkView → Result Claim F → V → Type 0) (c : CircuitView) (powers : List LoadPower) (v : V) (old new : List Round) (at : CodePositions) (clock : Clock) → new ≡ old → ArePositions c powers (positions_in at) → IsClock c clock →
+    IsLeft gives c powers v (begun c at clock) old new Open (begun c at clock) at clock v
+left_first gives c powers v old new at clock same positions times =
+    let none : appended old new ≡ [] = ap (appended old) same ∙ nothing_appended old in
+    record {
+      kept = same ∙ sym (append-nil old) ∙ ap (λ (rs : List Round). old ++ rs) (sym none);
+      stands = subst (λ (rs : List Round). IsStanding gives (IsSoundAt c powers) (plant_of c powers) v (begun c at clock) rs Open (begun c at clock) v) (sym none) (record { is_settle = refl; calls = refl; each = tt });
+      at = refl;
+      opened = refl;
+      now = refl;
+      positions = positions;
+      clock = times;
+    }
+
+-- The controls at work between the rounds of a settle.
+pub record IsUnderway {V F : Type 0} (gives : V → NetworkView → Result Claim F → V → Type 0) (c : CircuitView) (powers : List LoadPower) (v : V) (m : Machine) (old new : List Round) (end : End) (at : CodePositions) (clock : Clock) (controls : Controls) (w : V) : Type 0 where
+  pub left : IsLeft gives c powers v m old new end (machine_of at clock controls) at clock w
+  pub probes : probes_in controls ≡ controls_in c
+  pub limit : controls.limit ≡ c.options.maxcontroliter
+  pub keeps : AreControls (size_of (layout_of c.elements)) at clock controls
+
+pub underway_first : {V F : Type 0} (gives : V → NetworkView → Result Claim F → V → Type 0) (c : CircuitView) (powers : List LoadPower) (v : V) (old new : List Round) (at : CodePositions) (clock : Clock) (controls : Controls) → new ≡ old → ArePositions c powers (positions_in at) → IsClock c clock →
+    probes_in controls ≡ controls_in c → controls.limit ≡ c.options.maxcontroliter → machine_of at clock controls ≡ begun c at clock → AreControls (size_of (layout_of c.elements)) at clock controls →
+    IsUnderway gives c powers v (begun c at clock) old new Open at clock controls v
+underway_first gives c powers v old new at clock controls same positions times probes limit machine keeps = record {
+  left = subst (λ n. IsLeft gives c powers v (begun c at clock) old new Open n at clock v) (sym machine) (left_first gives c powers v old new at clock same positions times);
+  probes = probes;
+  limit = limit;
+  keeps = keeps;
+}
+
+-- ---- a round
+
+abbrev pub end_by : Progress → End
+end_by progress.Moved = Open
+end_by progress.Settled = Settled
+end_by (progress.Limited made) = Limited
+end_by (progress.Undecided control low high edge) = Undecidable control (record { low = low; high = high; edge = edge })
+
+end_shown : (q : Progress) (acts : List Act) (m : Machine) → end_of (shown q acts m) ≡ end_by q
+end_shown progress.Moved acts m = refl
+end_shown progress.Settled acts m = refl
+end_shown (progress.Limited made) acts m = refl
+end_shown (progress.Undecided control low high edge) acts m = refl
+
+left_shown : (q : Progress) (acts : List Act) (m : Machine) → left_by (shown q acts m) ≡ m
+left_shown progress.Moved acts m = refl
+left_shown progress.Settled acts m = refl
+left_shown (progress.Limited made) acts m = refl
+left_shown (progress.Undecided control low high edge) acts m = refl
+
+acts_shown : (q : Progress) (acts : List Made) (m : Machine) → TellsActs q acts m → map seen acts ≡ acts_of (shown q (map seen acts) m)
+acts_shown progress.Moved acts m h = refl
+acts_shown progress.Settled acts m h = ap (map seen) h
+acts_shown (progress.Limited made) acts m h = ap (map seen) h.0
+acts_shown (progress.Undecided control low high edge) acts m h = ap (map seen) h
+
+-- the controls' own setup and samples are the circuit's
+same_round : (c : CircuitView) (ps : List Probe) (limit : ℕ) (n : Machine) (x : Claim) (o : Outcome) → ps ≡ controls_in c → limit ≡ c.options.maxcontroliter →
+    outcome_of (record { rule = settle_rule; controls = map control_of ps; limit = limit }) n (look_over ps n.at x) ≡ o → outcome_of (setup_of c) n (look_over (controls_in c) n.at x) ≡ o
+same_round c ps limit n x o probes most h =
+    subst (λ (k : ℕ). outcome_of (record { rule = settle_rule; controls = map control_of (controls_in c); limit = k }) n (look_over (controls_in c) n.at x) ≡ o) most
+    (subst (λ (qs : List Probe). outcome_of (record { rule = settle_rule; controls = map control_of qs; limit = limit }) n (look_over qs n.at x) ≡ o) probes h)
+
+-- What a step of the controls says, in the words of its contract.
+pub record IsStep (at : CodePositions) (clock : Clock) (controls : Controls) (m : Certified) (q : Progress) (made : List Made) (to : CodePositions) (then' : Clock) (after : Controls) : Type 0 where
+  pub probes : probes_in after ≡ probes_in controls
+  pub limit : after.limit ≡ controls.limit
+  pub round : outcome_of (setup_in controls) (machine_of at clock controls) (look_over (probes_in controls) (positions_in at) (claim_in m)) ≡ shown q (map seen made) (machine_of to then' after)
+  pub acts : TellsActs q made (machine_of to then' after)
+  pub keeps : AreControls (length m.ball.centre.items) to then' after
+  pub taps : length to.taps ≡ length at.taps
+  pub closed : length to.closed ≡ length at.closed
+  pub time : then'.now ≡ clock.now
+
+pub stepped_positions : (c : CircuitView) (powers : List LoadPower) (n : ℕ) (at to : CodePositions) (clock : Clock) (controls : Controls) → ArePositions c powers (positions_in at) → AreControls n to clock controls → length to.taps ≡ length at.taps → length to.closed ≡ length at.closed →
+    ArePositions c powers (positions_in to)
+stepped_positions c powers n at to clock controls h k taps closed = record {
+  counts = record { taps = taps ∙ h.counts.taps; closed = closed ∙ h.counts.closed; powers = h.counts.powers };
+  taps = k.taps;
+}
+
+stepped_clock : (c : CircuitView) (powers : List LoadPower) (n : ℕ) (at : CodePositions) (clock : Clock) (controls : Controls) → ArePositions c powers (positions_in at) → AreControls n at clock controls → IsClock c clock
+stepped_clock c powers n at clock controls h k = record { now = k.now; each = k.opened_each ∙ h.counts.closed; early = k.early }
+
+-- ---- the acts that are left
+
+-- fall with each round that goes on
+pub fewer_left : CountLaw → (at to : CodePositions) (clock then' : Clock) (controls after : Controls) (m : Certified) (q : Progress) (acts : List Made) (limit : ℕ) → IsStep at clock controls m q acts to then' after → q ≡ progress.Moved → controls.limit ≡ limit →
+    limit - after.made < limit - controls.made
+fewer_left law at to clock then' controls after m q acts limit s moved is =
+    let n = machine_of at clock controls in
+    let next = machine_of to then' after in
+    let e : outcome_of (setup_in controls) n (look_over (probes_in controls) (positions_in at) (claim_in m)) ≡ Moves (map seen acts) next = subst (λ (p : Progress). outcome_of (setup_in controls) n (look_over (probes_in controls) (positions_in at) (claim_in m)) ≡ shown p (map seen acts) next) moved s.round in
+    let h = round_counts law (setup_in controls) n (look_over (probes_in controls) (positions_in at) (claim_in m)) (map seen acts) next e in
+    let more : after.made ≡ controls.made + 1 = h.one_more in
+    let allowed : controls.made < controls.limit = h.allowed in
+    omega arith
+
+-- ---- the end
+
+moved_by : (q : Progress) {F : Type 0} → end_told {F = F} q ≡ None → q ≡ progress.Moved
+moved_by progress.Moved e = refl
+moved_by progress.Settled e = absurd (cc)
+moved_by (progress.Limited made) e = absurd (cc)
+moved_by (progress.Undecided control low high edge) e = absurd (cc)
+
+pub goes_on : {F : Type 0} (q : Progress) → end_told {F = F} q ≡ None → q ≡ progress.Moved
+goes_on {F} q e = moved_by q {F = F} e
+
+-- where no end was told there is none
+pub no_end : {E : Type 0} (x told : Option E) → told ≡ x → ((e : E) → told ≡ Some e → ⊥) → x ≡ None
+no_end None told e h = refl
+no_end (Some x) told e h = absurd (h x e)
+
+pub numbers_kept : (q : Progress) (P : Type 0) → q ≡ progress.Moved → IfMoved q P → P
+numbers_kept progress.Moved P e h = h
+numbers_kept progress.Settled P e h = absurd (cc)
+numbers_kept (progress.Limited made) P e h = absurd (cc)
+numbers_kept (progress.Undecided control low high edge) P e h = absurd (cc)
+
+pub ends_told : {F : Type 0} (p : Plant) (q : Progress) (r : Result Unit (SettleFault F)) (acts : List Made) (n : Machine) → end_told q ≡ Some r → TellsActs q acts n → EndsAs p r (end_by q) n
+ends_told p progress.Moved r acts n e h = absurd (cc)
+ends_told {F} p progress.Settled r acts n e h = let is : Ok tt ≡ r = cc in subst (λ (x : Result Unit (SettleFault F)). EndsAs p x Settled n) is refl
+ends_told {F} p (progress.Limited made) r acts n e h = let is : Err (fault.ControlLimit made) ≡ r = cc in subst (λ (x : Result Unit (SettleFault F)). EndsAs p x Limited n) is (refl, h.1)
+ends_told {F} p (progress.Undecided control low high edge) r acts n e h =
+    let is : Err (fault.Undecided control low high edge) ≡ r = cc in
+    subst (λ (x : Result Unit (SettleFault F)). EndsAs p x (Undecidable control (record { low = low; high = high; edge = edge })) n) is refl
+
+pub calls_told : {V F : Type 0} (gives : V → NetworkView → Result Claim F → V → Type 0) (p : Plant) (v : V) (m : Machine) (rs : List Round) (q : Progress) (r : Result Unit (SettleFault F)) (w : V) → end_told q ≡ Some r → AreCalls gives p v m (claims_in rs) w → CallsAs gives p v m rs r w
+calls_told gives p v m rs progress.Moved r w e h = absurd (cc)
+calls_told {V} {F} gives p v m rs progress.Settled r w e h = let is : Ok tt ≡ r = cc in subst (λ (x : Result Unit (SettleFault F)). CallsAs gives p v m rs x w) is h
+calls_told {V} {F} gives p v m rs (progress.Limited made) r w e h = let is : Err (fault.ControlLimit made) ≡ r = cc in subst (λ (x : Result Unit (SettleFault F)). CallsAs gives p v m rs x w) is h
+calls_told {V} {F} gives p v m rs (progress.Undecided control low high edge) r w e h =
+    let is : Err (fault.Undecided control low high edge) ≡ r = cc in subst (λ (x : Result Unit (SettleFault F)). CallsAs gives p v m rs x w) is h
+
+-- the network is refused
+pub ends_refused : (T F : Type 0) (p : Plant) (f : BuildFault) (n : Machine) → IsFaultOf (p.blame n.at) f → EndsAs {T = T} {F = F} p (Err (refused f)) Open n
+ends_refused T F p (build_fault.Range blame) n h = (refl, h)
+ends_refused T F p build_fault.NoMemory n h = refl
+
+pub calls_refused : (T : Type 0) {V F : Type 0} (gives : V → NetworkView → Result Claim F → V → Type 0) (p : Plant) (v : V) (m : Machine) (rs : List Round) (f : BuildFault) (w : V) → AreCalls gives p v m (claims_in rs) w → CallsAs {V = V} {T = T} {F = F} gives p v m rs (Err (refused f)) w
+calls_refused T gives p v m rs (build_fault.Range blame) w h = h
+calls_refused T gives p v m rs build_fault.NoMemory w h = inl h
+
+-- ---- what `settle` says
+
+-- its clauses, in their order
+pub record IsOver {V T F : Type 0} (gives : V → NetworkView → Result Claim F → V → Type 0) (c : CircuitView) (powers : Powers) (from' : CodePositions) (start : Clock) (v : V) (old new : List Round) (there : CodePositions) (times : Clock) (result : Result T (SettleFault F)) (w : V) : Type 0 where
+  pub kept : new ≡ old ++ appended old new
+  pub acts : acts_in (appended old new) ≡ (settled_in c powers from' start old new).rounds
+  pub at : positions_in there ≡ (settled_in c powers from' start old new).machine.at
+  pub opened : times.opened.items ≡ (settled_in c powers from' start old new).machine.opened
+  pub now : times.now ≡ start.now
+  pub ends : EndsAs (plant_of c powers.loads) result (settled_in c powers from' start old new).end (settled_in c powers from' start old new).machine
+  pub calls : CallsAs gives (plant_of c powers.loads) v (begun c from' start) (appended old new) result w
+  pub sound : AtEach (IsSoundAt c powers.loads) (plant_of c powers.loads) (begun c from' start) (claims_in (appended old new))
+  pub positions : ArePositions c powers.loads (positions_in there)
+  pub clock : IsClock c times
+
+pub over : {V T F : Type 0} (gives : V → NetworkView → Result Claim F → V → Type 0) (c : CircuitView) (powers : Powers) (from' : CodePositions) (start : Clock) (v : V) (old new : List Round) (end : End) (n : Machine) (at : CodePositions) (clock : Clock) (result : Result T (SettleFault F)) (u w : V) →
+    IsLeft gives c powers.loads v (begun c from' start) old new end n at clock u → EndsAs (plant_of c powers.loads) result end n → CallsAs gives (plant_of c powers.loads) v (begun c from' start) (appended old new) result w →
+    IsOver gives c powers from' start v old new at clock result w
+over gives c powers from' start v old new end n at clock result u w h e k =
+    let is : settled_in c powers from' start old new ≡ record { rounds = acts_in (appended old new); end = end; machine = n } = h.stands.is_settle in
+    record {
+      kept = h.kept;
+      acts = sym (ap (λ (s : Settle). s.rounds) is);
+      at = h.at ∙ sym (ap (λ (s : Settle). s.machine.at) is);
+      opened = h.opened ∙ sym (ap (λ (s : Settle). s.machine.opened) is);
+      now = h.now;
+      ends = subst (λ (s : Settle). EndsAs (plant_of c powers.loads) result s.end s.machine) (sym is) e;
+      calls = k;
+      sound = h.stands.each;
+      positions = h.positions;
+      clock = h.clock;
+    }
+
+-- ---- the loop
+
+module _ {V F : Type 0} (gives : V → NetworkView → Result Claim F → V → Type 0) (c : CircuitView) (powers : Powers) (from' : CodePositions) (start : Clock) (v : V) (old mid : List Round) (at : CodePositions) (clock : Clock) (controls : Controls) (net : BuiltView) (w : V)
+    (h : IsUnderway gives c powers.loads v (begun c from' start) old mid Open at clock controls w) (here : IsNetworkAt c powers.loads (positions_in at) net) where
+  -- a round more
+  pub underway_more : IsNetwork net.rows → (view : NetworkView) (r : Round) (u : V) (new : List Round) (q : Progress) (to : CodePositions) (then' : Clock) (after : Controls) → view ≡ net.rows → gives w view (Ok (claim_in r.certified)) u → IsSound view (claim_in r.certified) → new ≡ mid ++ r ∷ [] →
+      IsStep at clock controls r.certified q r.acts.items to then' after → IsUnderway gives c powers.loads v (begun c from' start) old new (end_by q) to then' after u
+  underway_more valid view r u new q to then' after is gave sound more s =
+      let n = machine_of at clock controls in
+      let next = machine_of to then' after in
+      let same : view ≡ network_at c powers.loads (positions_in at) = is ∙ here.rows in
+      let own : IsSound (network_at c powers.loads (positions_in at)) (claim_in r.certified) = subst (λ (x : NetworkView). IsSound x (claim_in r.certified)) same sound in
+      let outcome : outcome_of (setup_of c) n (look_over (controls_in c) n.at (claim_in r.certified)) ≡ shown q (map seen r.acts.items) next =
+      same_round c (probes_in controls) controls.limit n (claim_in r.certified) (shown q (map seen r.acts.items) next) h.probes h.limit s.round in
+      let stands = round_more gives (IsSoundAt c powers.loads) (plant_of c powers.loads) v (begun c from' start) (appended old mid) n w r (shown q (map seen r.acts.items) next) u h.left.stands here.in_range
+      (subst (λ (x : NetworkView). gives w x (Ok (claim_in r.certified)) u) same gave) (record { positions = h.left.positions; agrees = here.agrees; network = subst IsNetwork here.rows valid; sound = own }) outcome (acts_shown q r.acts.items next s.acts) in
+      let long = centre_long c powers.loads (positions_in at) view r.certified same sound in
+      let keeps = subst (λ k. AreControls k to then' after) long s.keeps in
+      let positions = stepped_positions c powers.loads (size_of (layout_of c.elements)) at to then' after h.left.positions keeps s.taps s.closed in
+      record {
+        left = record {
+          kept = kept_more old mid new r h.left.kept more;
+          stands = subst (λ (rs : List Round). IsStanding gives (IsSoundAt c powers.loads) (plant_of c powers.loads) v (begun c from' start) rs (end_by q) next u) (sym (appended_more old mid new r h.left.kept more))
+              (subst (λ (e : End). IsStanding gives (IsSoundAt c powers.loads) (plant_of c powers.loads) v (begun c from' start) (appended old mid ++ r ∷ []) e next u) (end_shown q (map seen r.acts.items) next)
+              (subst (λ (k : Machine). IsStanding gives (IsSoundAt c powers.loads) (plant_of c powers.loads) v (begun c from' start) (appended old mid ++ r ∷ []) (end_of (shown q (map seen r.acts.items) next)) k u) (left_shown q (map seen r.acts.items) next) stands));
+          at = refl;
+          opened = refl;
+          now = s.time ∙ h.left.now;
+          positions = positions;
+          clock = stepped_clock c powers.loads (size_of (layout_of c.elements)) to then' after positions keeps;
+        };
+        probes = s.probes ∙ h.probes;
+        limit = s.limit ∙ h.limit;
+        keeps = keeps;
+      }
+
+  -- the call of which nothing was appended
+  pub last_call : (view : NetworkView) (answer : Result Claim F) (u : V) → view ≡ net.rows → gives w view answer u → IsLast gives (plant_of c powers.loads) v (begun c from' start) (appended old mid) answer u
+  last_call view answer u is gave = last_by gives (IsSoundAt c powers.loads) (plant_of c powers.loads) v (begun c from' start) (appended old mid) Open (machine_of at clock controls) w answer u h.left.stands here.in_range
+      (subst (λ (x : NetworkView). gives w x answer u) (is ∙ here.rows) gave)
+
+  -- the solver answers a fault
+  pub over_solver : (view : NetworkView) (f : F) (u : V) → view ≡ net.rows → gives w view (Err f) u → IsOver {T = Unit} gives c powers from' start v old mid at clock (Err (fault.Solver f)) u
+  over_solver view f u is gave = over {T = Unit} gives c powers from' start v old mid Open (machine_of at clock controls) at clock (Err (fault.Solver f)) w u h.left refl (last_call view (Err f) u is gave)
+
+  -- there is no room for the round
+  pub over_memory : (view : NetworkView) (m : Claim) (u : V) (result : Result Unit (SettleFault F)) → view ≡ net.rows → gives w view (Ok m) u → result ≡ Err fault.NoMemory → IsOver gives c powers from' start v old mid at clock result u
+  over_memory view m u result is gave same =
+      over gives c powers from' start v old mid Open (machine_of at clock controls) at clock result w u h.left
+      (subst (λ (x : Result Unit (SettleFault F)). EndsAs (plant_of c powers.loads) x Open (machine_of at clock controls)) (sym same) refl)
+      (subst (λ (x : Result Unit (SettleFault F)). CallsAs gives (plant_of c powers.loads) v (begun c from' start) (appended old mid) x u) (sym same) (inr (record { missing = m; call = last_call view (Ok m) u is gave })))
+
+module _ {V F : Type 0} (gives : V → NetworkView → Result Claim F → V → Type 0) (c : CircuitView) (powers : Powers) (from' : CodePositions) (start : Clock) (v : V) (old new : List Round) (at : CodePositions) (clock : Clock) (controls : Controls) (w : V) where
+  -- a round ends the settle
+  pub over_told : (q : Progress) (result : Result Unit (SettleFault F)) (acts : List Made) → IsUnderway gives c powers.loads v (begun c from' start) old new (end_by q) at clock controls w → end_told q ≡ Some result → TellsActs q acts (machine_of at clock controls) →
+      IsOver gives c powers from' start v old new at clock result w
+  over_told q result acts h e t =
+      over gives c powers from' start v old new (end_by q) (machine_of at clock controls) at clock result w w h.left
+      (ends_told (plant_of c powers.loads) q result acts (machine_of at clock controls) e t)
+      (calls_told gives (plant_of c powers.loads) v (begun c from' start) (appended old new) q result w e h.left.stands.calls)
+
+  -- the network at the positions behind a round is refused
+  pub over_refused : (f : BuildFault) (result : Result Unit (SettleFault F)) → IsUnderway gives c powers.loads v (begun c from' start) old new Open at clock controls w → IsFaultOf (range_blame c.elements (devices_of c (settings_of at powers))) f → result ≡ Err (refused f) →
+      IsOver gives c powers from' start v old new at clock result w
+  over_refused f result h k same =
+      let fault_of = subst (λ (b : Option Blame). IsFaultOf b f) (sym (blame_is c powers at)) k in
+      over gives c powers from' start v old new Open (machine_of at clock controls) at clock result w w h.left
+      (subst (λ (x : Result Unit (SettleFault F)). EndsAs (plant_of c powers.loads) x Open (machine_of at clock controls)) (sym same) (ends_refused Unit F (plant_of c powers.loads) f (machine_of at clock controls) fault_of))
+      (subst (λ (x : Result Unit (SettleFault F)). CallsAs gives (plant_of c powers.loads) v (begun c from' start) (appended old new) x w) (sym same)
+      (calls_refused Unit gives (plant_of c powers.loads) v (begun c from' start) (appended old new) f w h.left.stands.calls))

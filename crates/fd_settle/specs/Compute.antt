@@ -1,0 +1,34 @@
+-- What the solver that computes may answer.
+use Rattle.std.specs.Prelude.{◌≡◌, ℕ, ℤ, List, Result, Ok, Err}
+use Rattle.fd_equations.specs.Views.{NetworkView}
+use Rattle.fd_inject.specs.Faults.{IsInside, UnlessMemory}
+use Rattle.fd_inject.specs.Procedure.{solution_of}
+use Rattle.fd_inject.specs.declared.limits.Limits.{Limits}
+use Rattle.fd_enclosure.specs.Sound.{Claim, certificate_of}
+use Rattle.fd_cert.specs.Claims.{Refuses}
+use Rattle.fd_cert.specs.Claims as claims
+use Rattle.fd_cert.specs.declared.fault.CertFault.{CertFault}
+use Rattle.fd_settle.specs.declared.compute.ComputeFault.{ComputeFault}
+use Rattle.fd_settle.specs.declared.compute.ComputeFault.TheVariants as fault
+
+-- the procedure reaches a point, which is certified so
+pub record IsComputed (limits : Limits) (v : NetworkView) (m : Claim) : Type 0 where
+  pub point : solution_of v limits ≡ Ok (m.centre, m.inverse)
+  pub certificate : certificate_of v m.centre m.inverse ≡ Ok m
+
+-- the procedure reaches a point, which has no certificate, for this reason
+pub record IsUncertified (limits : Limits) (v : NetworkView) (f : CertFault) : Type 0 where
+  pub centre : List ℤ
+  pub inverse : List (List ℤ)
+  pub point : solution_of v limits ≡ Ok (centre, inverse)
+  pub reason : Refuses v centre inverse f
+
+-- a fault names a place of the network
+abbrev pub IsPlaced : ℕ → ComputeFault → Type 0
+IsPlaced n (fault.Solve f) = IsInside n f
+IsPlaced n (fault.Cert f) = claims.IsInside n f
+
+abbrev pub ComputeGives : Limits → NetworkView → Result Claim ComputeFault → Type 0
+ComputeGives limits v (Ok m) = IsComputed limits v m
+ComputeGives limits v (Err (fault.Solve f)) = UnlessMemory f (solution_of v limits ≡ Err f) × IsInside v.size f
+ComputeGives limits v (Err (fault.Cert f)) = IsUncertified limits v f × claims.IsInside v.size f

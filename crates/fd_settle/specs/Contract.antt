@@ -1,0 +1,54 @@
+-- What `settle` says of how it ends.
+use Rattle.std.specs.Prelude.{◌≡◌, ◌⊎◌, List, drop, length, Some, Result, Ok, Err}
+use Rattle.fd_equations.specs.Views.{NetworkView}
+use Rattle.fd_enclosure.specs.Sound.{Claim}
+use Rattle.fd_queue.specs.Machine.{Machine}
+use Rattle.fd_settle.specs.declared.round.Round.{Round}
+use Rattle.fd_settle.specs.declared.fault.SettleFault.{SettleFault}
+use Rattle.fd_settle.specs.declared.fault.SettleFault.TheVariants as fault
+use Rattle.dss_circuit.specs.Circuit.{CircuitView}
+use Rattle.dss_profile.specs.declared.options.Options.{Options}
+use Rattle.fd_devices.specs.declared.settings.Positions.{Positions as CodePositions}
+use Rattle.fd_devices.specs.declared.settings.Powers.{Powers}
+use Rattle.fd_inject.specs.declared.limits.Limits.{Limits}
+use Rattle.fd_sample.specs.Probes.{positions_in}
+use Rattle.fd_settle.specs.declared.clock.Clock.{Clock}
+use Rattle.fd_settle.specs.Settle.{End, Open, Settled, Limited, Undecidable, Settle}
+use Rattle.fd_settle.specs.Plant.{Plant, plant_of, started}
+use Rattle.fd_settle.specs.Rounds.{claims_in, settled}
+use Rattle.fd_settle.specs.Calls.{AreCalls, IsLast, IsMissing}
+
+-- the rounds that a call appended
+abbrev pub appended : List Round → List Round → List Round
+appended old new = drop (length old) new
+
+-- how many steps the options allow, and how far an unknown may still move
+abbrev pub limits_of : Options → Limits
+limits_of o = record { max_iterations = o.maxiterations; tolerance = o.tolerance }
+
+-- the machine with which a settle of a circuit starts
+abbrev pub begun : CircuitView → CodePositions → Clock → Machine
+begun c at clock = started c (positions_in at) clock.now clock.opened.items
+
+-- the settle of a circuit over the rounds that a call appended
+abbrev pub settled_in : CircuitView → Powers → CodePositions → Clock → List Round → List Round → Settle
+settled_in c powers at clock old new = settled (plant_of c powers.loads) (begun c at clock) (appended old new)
+
+-- How the settle over the appended rounds ends, and so why it ended. It is open where a call was refused.
+abbrev pub EndsAs : {T F : Type 0} → Plant → Result T (SettleFault F) → End → Machine → Type 0
+EndsAs p (Ok t) end m = end ≡ Settled
+EndsAs p (Err (fault.Undecided control low high edge)) end m = end ≡ Undecidable control (record { low = low; high = high; edge = edge })
+EndsAs p (Err (fault.ControlLimit acts)) end m = (end ≡ Limited) × (acts ≡ m.made)
+EndsAs p (Err (fault.Range blame)) end m = (end ≡ Open) × (p.blame m.at ≡ Some blame)
+EndsAs p (Err (fault.Solver f)) end m = end ≡ Open
+EndsAs p (Err fault.NoMemory) end m = end ≡ Open
+
+-- The solver's calls are those of the appended rounds; the solver's own fault is its last answer; after want of memory the last state may
+-- be missing.
+abbrev pub CallsAs : {V T F : Type 0} → (V → NetworkView → Result Claim F → V → Type 0) → Plant → V → Machine → List Round → Result T (SettleFault F) → V → Type 0
+CallsAs gives p v m rounds (Err (fault.Solver f)) w = IsLast gives p v m rounds (Err f) w
+CallsAs gives p v m rounds (Err fault.NoMemory) w = AreCalls gives p v m (claims_in rounds) w ⊎ IsMissing gives p v m rounds w
+CallsAs gives p v m rounds (Err (fault.Undecided control low high edge)) w = AreCalls gives p v m (claims_in rounds) w
+CallsAs gives p v m rounds (Err (fault.ControlLimit acts)) w = AreCalls gives p v m (claims_in rounds) w
+CallsAs gives p v m rounds (Err (fault.Range blame)) w = AreCalls gives p v m (claims_in rounds) w
+CallsAs gives p v m rounds (Ok t) w = AreCalls gives p v m (claims_in rounds) w

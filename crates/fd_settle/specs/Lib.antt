@@ -1,0 +1,14 @@
+pub mod Sampling
+pub mod Settle
+pub mod Chosen
+pub mod Laws
+pub mod Plant
+pub mod Rounds
+pub mod Calls
+pub mod Refused
+pub mod Contract
+pub mod Compute
+pub mod Start
+pub mod Controls
+pub mod Computed
+pub mod Acting

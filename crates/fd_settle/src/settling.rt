@@ -1,0 +1,138 @@
+// A settle: solve, sample and act, and again.
+ghost use Rattle.std.specs.Prelude.{◌≡◌, ◌++◌, ◌<◌, ◌≤◌, [], All, IfOk, OnOk, vec_capacity, vec_len};
+ghost use Rattle.dss_profile.specs.InRange.{OptionsInRange};
+ghost use Rattle.dss_ready.specs.Ready.{HasPassed};
+ghost use Rattle.fd_devices.specs.Building.{IsModest};
+ghost use Rattle.fd_network.specs.Built.{IsBuiltOf};
+ghost use Rattle.fd_inject.specs.Procedure.{IsLimits};
+ghost use Rattle.fd_sample.specs.Probes.{positions_in};
+ghost use Rattle.fd_settle.specs.Contract.{CallsAs, EndsAs, appended, begun, limits_of, settled_in};
+ghost use Rattle.fd_settle.specs.Controls.{end_told};
+ghost use Rattle.fd_settle.specs.Plant.{plant_of};
+ghost use Rattle.fd_settle.specs.Rounds.{AtEach, acts_in, claims_in};
+ghost use Rattle.fd_settle.specs.Start.{ArePositions, IsClock, IsNetworkAt, IsSoundAt};
+
+use crate::clock::Clock;
+use crate::controls::Controls;
+use crate::fault::SettleFault;
+use crate::progress::Progress;
+use crate::round::{Act, Round};
+use crate::solver::Solver;
+use dss_circuit::Circuit;
+use dss_profile::Options;
+use fd_devices::{Positions, Powers};
+use fd_inject::Limits;
+use fd_network::Network;
+use fd_queue::count_law;
+use std::alloc::{AllocError, Global};
+
+/// Solves, samples and acts, and again, until no entry of the queue is due after a sampling. Each solved round is appended to `rounds`.
+/// The circuit passed the tests of Solve, and the network is its own at the positions as they are and these powers; it is brought up to
+/// date after each act. In controlmode off a settle is one solve, and no control is sampled.
+///
+/// # Errors
+/// `Range` exactly where the network at the positions that the acts left is out of range; `Solver` with the solver's own fault; `Undecided`
+/// exactly at the first control whose sample is undecided; `ControlLimit` exactly where an entry is due after as many acts as the options
+/// allow; `NoMemory`. After each of them `rounds` has what was solved in this settle, and `at` and `clock` are what the acts of these
+/// rounds left; after `NoMemory` the last solved round may be missing. Room for the controls is taken before the first solve.
+pub fn settle<V: Solver>(
+    alloc: Global,
+    circuit: &Circuit,
+    net: &mut Network,
+    powers: &Powers,
+    at: &mut Positions,
+    clock: &mut Clock,
+    solver: &mut V,
+    rounds: &mut Vec<Round>,
+) -> Result<(), SettleFault<V::Fault>>
+    requires ready { HasPassed circuit.now }
+    requires positions { ArePositions circuit.now powers.now.loads (positions_in at.old) }
+    requires modest { All IsModest powers.now.loads }
+    requires clock { IsClock circuit.now clock.old }
+    requires network { IsNetworkAt circuit.now powers.now.loads (positions_in at.old) net.old }
+    // Rounds are only appended. Their acts are those of the settle over their certified states, and the positions, the opening times and
+    // the network are what these acts left.
+    ensures kept { rounds.new.items ≡ rounds.old.items ++ appended rounds.old.items rounds.new.items }
+    ensures acts { acts_in (appended rounds.old.items rounds.new.items) ≡ (settled_in circuit.now powers.now at.old clock.old rounds.old.items rounds.new.items).rounds }
+    ensures at { positions_in at.new ≡ (settled_in circuit.now powers.now at.old clock.old rounds.old.items rounds.new.items).machine.at }
+    ensures opened { clock.new.opened.items ≡ (settled_in circuit.now powers.now at.old clock.old rounds.old.items rounds.new.items).machine.opened }
+    ensures now { clock.new.now ≡ clock.old.now }
+    // How it ends is how that settle ends.
+    ensures ends { EndsAs (plant_of circuit.now powers.now.loads) result (settled_in circuit.now powers.now at.old clock.old rounds.old.items rounds.new.items).end (settled_in circuit.now powers.now at.old clock.old rounds.old.items rounds.new.items).machine }
+    // The solver was called once for each of these rounds, in order, and once more where it answered a fault.
+    ensures calls { CallsAs (λ v. V.gives v (limits_of circuit.now.options)) (plant_of circuit.now powers.now.loads) solver.old (begun circuit.now at.old clock.old) (appended rounds.old.items rounds.new.items) result solver.new }
+    ensures sound { AtEach (IsSoundAt circuit.now powers.now.loads) (plant_of circuit.now powers.now.loads) (begun circuit.now at.old clock.old) (claims_in (appended rounds.old.items rounds.new.items)) }
+    // What the next hour starts with.
+    ensures positions { ArePositions circuit.now powers.now.loads (positions_in at.new) }
+    ensures clock { IsClock circuit.now clock.new }
+    ensures built { IsBuiltOf net.new circuit.now }
+{
+    count_law();
+    let limits = limits_of(circuit.options());
+    let mut controls = Controls::start(alloc, circuit, net.layout(), clock)?;
+    loop {
+        // read for what a network is
+        let _size = net.size();
+        let certified = match solver.solve(alloc, &net.rows(), &limits) {
+            Ok(certified) => certified,
+            Err(fault) => return Err(SettleFault::Solver(fault)),
+        };
+        let mut acts = room_for_round(alloc, controls.count(), rounds)?;
+        let progress = controls.step(at, clock, &certified, &mut acts);
+        let _ = rounds.push(Round { certified, acts });
+        if let Some(end) = ended(progress) {
+            return end;
+        }
+        net.update(alloc, circuit, at, powers)?;
+    }
+}
+
+// How long and how far the options let the procedure iterate.
+fn limits_of(options: &Options) -> Limits
+    requires { OptionsInRange options.now }
+    ensures limits { result ≡ limits_of options.now }
+    ensures in_range { IsLimits result }
+{
+    Limits {
+        max_iterations: options.maxiterations,
+        tolerance: options.tolerance,
+    }
+}
+
+// Room for one round more, and for one act of each control in it.
+fn room_for_round(
+    alloc: Global,
+    controls: usize,
+    rounds: &mut Vec<Round>,
+) -> Result<Vec<Act>, AllocError>
+    ensures empty { IfOk result (λ acts. acts.items ≡ []) }
+    ensures acts { IfOk result (λ acts. controls ≤ vec_capacity acts) }
+    ensures room { OnOk result (vec_len rounds.new < vec_capacity rounds.new) }
+    ensures kept { rounds.new.items ≡ rounds.old.items }
+{
+    let acts = Vec::with_capacity(alloc, controls)?;
+    rounds.reserve(1)?;
+    Ok(acts)
+}
+
+// How a round ends the settle, if it does.
+fn ended<F>(progress: Progress) -> Option<Result<(), SettleFault<F>>>
+    ensures { result ≡ end_told progress }
+{
+    match progress {
+        Progress::Moved => None,
+        Progress::Settled => Some(Ok(())),
+        Progress::Limited { acts } => Some(Err(SettleFault::ControlLimit { acts })),
+        Progress::Undecided {
+            control,
+            low,
+            high,
+            edge,
+        } => Some(Err(SettleFault::Undecided {
+            control,
+            low,
+            high,
+            edge,
+        })),
+    }
+}
