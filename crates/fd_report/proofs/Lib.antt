@@ -1,1 +1,1 @@
-mod Roots
+mod Digits

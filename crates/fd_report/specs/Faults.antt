@@ -1,5 +1,5 @@
 -- The faults in which a command line can end: the fields of each record, and its exit status. An unknown or a row goes by its name.
-use Rattle.std.specs.Prelude.{ℕ, List, [], ◌∷◌, unsigned_abs, codes, Option, Some, None}
+use Rattle.std.specs.Prelude.{ℕ, ℤ, List, [], ◌∷◌, unsigned_abs, codes, Option, Some, None}
 use Rattle.std.specs.Fmt.{decimal}
 use Rattle.dss_values.specs.Names.{bytes}
 use Rattle.dss_values.specs.declared.fault.ModelFault.{ModelFault}
@@ -12,7 +12,10 @@ use Rattle.fd_report.specs.declared.faults.Cause.{Cause}
 use Rattle.fd_report.specs.declared.faults.Cause.TheVariants as cause
 use Rattle.fd_report.specs.declared.faults.Fault.{Fault}
 use Rattle.fd_report.specs.declared.faults.Fault.TheVariants as fault
-use Rattle.fd_report.specs.Numbers.{size_text}
+use Rattle.fd_report.specs.declared.faults.Scale.{Scale}
+use Rattle.fd_report.specs.declared.faults.Scale.TheVariants.{Micro, Nano}
+use Rattle.fd_report.specs.Names.{element_field}
+use Rattle.fd_report.specs.Numbers.{size_text, micro_text, nano_text}
 
 -- ---- words
 
@@ -63,6 +66,11 @@ abbrev pub bound_text : Option ℕ → List ℕ
 bound_text None = codes "all"
 bound_text (Some bound) = decimal bound
 
+-- a number of units of this scale
+abbrev pub scaled_text : Scale → ℤ → List ℕ
+scaled_text Micro value = micro_text value
+scaled_text Nano value = nano_text value
+
 -- ---- the fields of its record
 
 abbrev pub fields : Fault → List (List ℕ)
@@ -75,6 +83,9 @@ fields (fault.NotConverged unknown steps update) =
     codes "fault" ∷ codes "not converged" ∷ bytes unknown ∷ decimal steps ∷ size_text (unsigned_abs update) ∷ []
 fields (fault.Loose row mismatch) = codes "fault" ∷ codes "loose" ∷ bytes row ∷ size_text mismatch ∷ []
 fields (fault.NotCertified unknown bound) = codes "fault" ∷ codes "not certified" ∷ bytes unknown ∷ bound_text bound ∷ []
+fields (fault.Undecided control low high edge scale) =
+    codes "fault" ∷ codes "undecided" ∷ element_field control ∷ scaled_text scale low ∷ scaled_text scale high ∷ scaled_text scale edge ∷ []
+fields (fault.ControlLimit acts) = codes "fault" ∷ codes "control limit" ∷ decimal acts ∷ []
 
 -- ---- its status
 
@@ -87,3 +98,5 @@ status (fault.OutOfRange unknown step) = 7
 status (fault.NotConverged unknown steps update) = 8
 status (fault.Loose row mismatch) = 9
 status (fault.NotCertified unknown bound) = 10
+status (fault.Undecided control low high edge scale) = 11
+status (fault.ControlLimit acts) = 12

@@ -6,3 +6,4 @@ pub mod Sizes
 pub mod Records
 pub mod Faults
 pub mod Texts
+pub mod Controls

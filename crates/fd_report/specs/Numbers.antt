@@ -1,18 +1,32 @@
 -- Numbers, as records have them. A text is a list of bytes.
-use Rattle.std.specs.Prelude.{ℕ, ℤ, pos, negsuc, ◌+◌, ◌/◌, ◌%◌, List, [], ◌∷◌, ◌++◌, unsigned_abs, codes}
+use Rattle.std.specs.Prelude.{ℕ, zero, suc, ℤ, pos, negsuc, ◌+◌, ◌/◌, ◌%◌, ◌^◌, List, [], ◌∷◌, ◌++◌, unsigned_abs, codes}
 use Rattle.std.specs.Fmt.{decimal}
 
 abbrev pub sign : ℤ → List ℕ
 sign (pos n) = []
 sign (negsuc n) = codes "-"
 
-abbrev pub six_digits : ℕ → List ℕ
-six_digits n = (48 + n / 100000 % 10) ∷ (48 + n / 10000 % 10) ∷ (48 + n / 1000 % 10) ∷ (48 + n / 100 % 10) ∷ (48 + n / 10 % 10) ∷ (48 + n % 10) ∷ []
+-- the last decimal digits of n, so many
+abbrev pub last_digits : ℕ → ℕ → List ℕ
+last_digits zero n = []
+last_digits (suc places) n = (48 + n / 10 ^ places % 10) ∷ last_digits places n
+
+-- so many units, of which 10^places are one: the whole, and the rest in so many decimals
+unfoldable pub fixed_text : ℕ → ℕ → List ℕ
+fixed_text places n = decimal (n / 10 ^ places) ++ 46 ∷ last_digits places (n % 10 ^ places)
+
+-- the same of a number of units, with a minus before what isn't zero alone
+unfoldable pub signed_text : ℕ → ℤ → List ℕ
+signed_text places n = sign n ++ fixed_text places (unsigned_abs n)
 
 -- so many micro-units: six decimals
-unfoldable pub size_text : ℕ → List ℕ
-size_text size = decimal (size / 1000000) ++ 46 ∷ six_digits (size % 1000000)
+abbrev pub size_text : ℕ → List ℕ
+size_text size = fixed_text 6 size
 
--- a number of micro-units: six decimals, and a minus before what isn't zero alone
-unfoldable pub micro_text : ℤ → List ℕ
-micro_text value = sign value ++ size_text (unsigned_abs value)
+-- a number of micro-units: six decimals
+abbrev pub micro_text : ℤ → List ℕ
+micro_text value = signed_text 6 value
+
+-- a number of nano-units: nine decimals
+abbrev pub nano_text : ℤ → List ℕ
+nano_text value = signed_text 9 value

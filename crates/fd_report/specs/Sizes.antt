@@ -1,15 +1,8 @@
 -- The least and the greatest size of a phasor whose parts lie within radii, in whole micro-units.
-use Rattle.std.specs.Prelude.{ℕ, zero, suc, ◌+◌, ◌-◌, ◌*◌, ℤ, nat_abs, nat_le, eqb, if◌then◌else◌}
+use Rattle.std.specs.Prelude.{ℕ, ◌+◌, ◌-◌, ◌*◌, ℤ, nat_abs}
 use Rattle.fd_exact.specs.States.{part}
+use Rattle.fd_sample.specs.Roots.{root_down, root_up}
 use Rattle.fd_report.specs.Solutions.{SolutionView, number_at}
-
--- the square root of n, rounded down and up
-abbrev pub root_down : ℕ → ℕ
-root_down zero = zero
-root_down (suc n) = (if nat_le ((root_down n + 1) * (root_down n + 1)) (suc n) then root_down n + 1 else root_down n)
-
-abbrev pub root_up : ℕ → ℕ
-root_up n = (if eqb (root_down n * root_down n) n then root_down n else root_down n + 1)
 
 -- the least and the greatest size of a part that is at most r away from c
 abbrev pub least_part : ℤ → ℕ → ℕ

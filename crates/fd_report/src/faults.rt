@@ -5,13 +5,14 @@ ghost use Rattle.dss_values.specs.Names.{bytes};
 ghost use Rattle.dss_layout.specs.Layout.{size_of};
 ghost use Rattle.fd_report.specs.Lines.{line_of};
 ghost use Rattle.fd_report.specs.Names.{name_at};
-ghost use Rattle.fd_report.specs.Faults.{bound_text, cause_text, fields, model_text, script_text, status, stop_word};
+ghost use Rattle.fd_report.specs.Faults.{bound_text, cause_text, fields, model_text, scaled_text, script_text, status, stop_word};
 
 use crate::line::record_of;
-use crate::number::size_text;
+use crate::names::element_field;
+use crate::number::{micro_text, nano_text, size_text};
 use dss_layout::Layout;
 use dss_lexer::Text;
-use dss_profile::Place;
+use dss_profile::{ElementName, Place};
 use dss_script::ScriptCause;
 use dss_values::ModelFault;
 use fd_inverse::Stop;
@@ -27,6 +28,15 @@ pub enum Cause {
     Model(ModelFault),
     /// It is part of the profile and isn't solved yet.
     NotBuilt,
+}
+
+/// The units of what a control measures.
+#[derive(Clone, Copy)]
+pub enum Scale {
+    /// Whole microvolts or microamperes.
+    Micro,
+    /// Whole 10^-9 kvar.
+    Nano,
 }
 
 /// Why a command line ends before its end. Unknowns and rows go by their printed names.
@@ -69,6 +79,20 @@ pub enum Fault {
     NotCertified {
         unknown: Text,
         bound: Option<u128>,
+    },
+    /// The sample of this control is undecided: what it measures lies between these ends, in units of the scale, and
+    /// the edge is the least value between them at which what the control wants changes. The control is printed by class
+    /// and name, as `regcontrol.a`.
+    Undecided {
+        control: ElementName,
+        low: i128,
+        high: i128,
+        edge: i128,
+        scale: Scale,
+    },
+    /// A control is due to act after as many acts as the options allow.
+    ControlLimit {
+        acts: u32,
     },
 }
 
@@ -261,6 +285,49 @@ fn not_certified_record(
     )
 }
 
+fn scaled_text(alloc: Global, scale: Scale, value: i128) -> Result<Vec<u8>, AllocError>
+    ensures { IfOk result (λ v. v.items ≡ scaled_text scale value) }
+{
+    match scale {
+        Scale::Micro => micro_text(alloc, value),
+        Scale::Nano => nano_text(alloc, value),
+    }
+}
+
+fn undecided_record(
+    alloc: Global,
+    control: &ElementName,
+    low: i128,
+    high: i128,
+    edge: i128,
+    scale: Scale,
+) -> Result<Record, AllocError>
+    ensures { IfOk result (λ r. r.bytes ≡ line_of (fields (Fault.Undecided control.now low high edge scale))) }
+{
+    let control = element_field(alloc, control)?;
+    let low = scaled_text(alloc, scale, low)?;
+    let high = scaled_text(alloc, scale, high)?;
+    let edge = scaled_text(alloc, scale, edge)?;
+    record_of(
+        alloc,
+        &[
+            b"fault",
+            b"undecided",
+            control.as_slice(),
+            low.as_slice(),
+            high.as_slice(),
+            edge.as_slice(),
+        ],
+    )
+}
+
+fn control_limit_record(alloc: Global, acts: u32) -> Result<Record, AllocError>
+    ensures { IfOk result (λ r. r.bytes ≡ line_of (fields (Fault.ControlLimit acts))) }
+{
+    let acts = acts.to_string(alloc)?;
+    record_of(alloc, &[b"fault", b"control limit", acts.as_bytes()])
+}
+
 /// The record of a fault: its fields, as csv writes them.
 pub fn record(alloc: Global, fault: &Fault) -> Result<Record, AllocError>
     ensures { IfOk result (λ r. r.bytes ≡ line_of (fields fault.now)) }
@@ -278,6 +345,14 @@ pub fn record(alloc: Global, fault: &Fault) -> Result<Record, AllocError>
         } => not_converged_record(alloc, unknown, *steps, *update),
         Fault::Loose { row, mismatch } => loose_record(alloc, row, *mismatch),
         Fault::NotCertified { unknown, bound } => not_certified_record(alloc, unknown, *bound),
+        Fault::Undecided {
+            control,
+            low,
+            high,
+            edge,
+            scale,
+        } => undecided_record(alloc, control, *low, *high, *edge, *scale),
+        Fault::ControlLimit { acts } => control_limit_record(alloc, *acts),
     }
 }
 
@@ -294,5 +369,7 @@ pub fn status(fault: &Fault) -> u8
         Fault::NotConverged { .. } => 8,
         Fault::Loose { .. } => 9,
         Fault::NotCertified { .. } => 10,
+        Fault::Undecided { .. } => 11,
+        Fault::ControlLimit { .. } => 12,
     }
 }

@@ -1,20 +1,22 @@
-//! The records of a solved network, and those of the faults in which the search for a state can end.
+//! The records of a solved network, of its controls, and those of the faults in which a command line can end.
 //!
 //! `records` promises exactly the records of one solution, in order: the solution's, one for each node, one for each
 //! branch phase and one for each magnitude, each with its own name, its own parts of the state, their radius and box, and the
 //! mismatches of its own rows. Each fault's record has exactly the fields of its definition. A record is the text of its fields as csv
 //! writes them. Want of memory is the one error.
 //!
-//! - `number`: the texts of numbers of micro-units
+//! - `number`: the texts of numbers with a fixed count of decimals
 //! - `names`: the names of nodes, elements and unknowns
 //! - `line`: a record of its fields
 //! - `solution`: the numbers of a solution
 //! - `sizes`: the least and the greatest size of a phasor within its radii
 //! - `texts`: the numbers of an unknown as texts
 //! - `report`: the records of a solution
+//! - `controls`: the records of acts, of taps and of banks
 //! - `faults`: the records of faults
 #![tactic(auto)]
 
+mod controls;
 mod faults;
 mod line;
 mod names;
@@ -24,7 +26,8 @@ mod sizes;
 mod solution;
 mod texts;
 
-pub use faults::{Cause, Fault, name_at, record, status};
-pub use number::{micro_text, size_text};
+pub use controls::{Position, act_record, bank_record, tap_record};
+pub use faults::{Cause, Fault, Scale, name_at, record, status};
+pub use number::{micro_text, nano_text, size_text};
 pub use report::records;
 pub use solution::Solution;

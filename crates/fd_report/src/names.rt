@@ -1,6 +1,7 @@
 // The names of nodes and elements, as records have them.
 ghost use Rattle.std.specs.Prelude.{◌≡◌, IfOk};
 ghost use Rattle.dss_layout.specs.UnknownNames.{class_word};
+ghost use Rattle.dss_values.specs.Names.{bytes};
 ghost use Rattle.fd_report.specs.Names.{element_field, node_field};
 
 use dss_layout::NodeName;
@@ -19,19 +20,19 @@ pub(crate) fn node_field(alloc: Global, node: &NodeName) -> Result<Vec<u8>, Allo
     Ok(text)
 }
 
-fn class_word(class: Class) -> &'static [u8]
+fn class_word(class: Class) -> &'static str
     ensures { result.now ≡ class_word class }
 {
     match class {
-        Class::Vsource => b"vsource",
-        Class::Linecode => b"linecode",
-        Class::Line => b"line",
-        Class::Transformer => b"transformer",
-        Class::Capacitor => b"capacitor",
-        Class::Load => b"load",
-        Class::RegControl => b"regcontrol",
-        Class::CapControl => b"capcontrol",
-        Class::Loadshape => b"loadshape",
+        Class::Vsource => "vsource",
+        Class::Linecode => "linecode",
+        Class::Line => "line",
+        Class::Transformer => "transformer",
+        Class::Capacitor => "capacitor",
+        Class::Load => "load",
+        Class::RegControl => "regcontrol",
+        Class::CapControl => "capcontrol",
+        Class::Loadshape => "loadshape",
     }
 }
 
@@ -40,7 +41,7 @@ pub(crate) fn element_field(alloc: Global, element: &ElementName) -> Result<Vec<
     ensures { IfOk result (λ v. v.items ≡ element_field element.now) }
 {
     let mut text = Vec::new(alloc);
-    text.extend_from_slice(class_word(element.class))?;
+    text.extend_from_slice(class_word(element.class).as_bytes())?;
     text.push(b'.')?;
     text.extend_from_slice(element.name.as_str().as_bytes())?;
     Ok(text)

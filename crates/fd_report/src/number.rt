@@ -1,6 +1,6 @@
 // Numbers, as records have them.
-ghost use Rattle.std.specs.Prelude.{◌≡◌, ◌<◌, ◌+◌, ◌/◌, ◌%◌, ◌++◌, unsigned_abs, IfOk, OnOk};
-ghost use Rattle.fd_report.specs.Numbers.{micro_text, sign, six_digits, size_text};
+ghost use Rattle.std.specs.Prelude.{◌≡◌, ◌<◌, ◌≤◌, ◌+◌, ◌/◌, ◌%◌, ◌^◌, ◌++◌, unsigned_abs, IfOk, OnOk};
+ghost use Rattle.fd_report.specs.Numbers.{fixed_text, last_digits, micro_text, nano_text, sign, signed_text, size_text};
 
 use std::alloc::{AllocError, Global};
 
@@ -10,50 +10,95 @@ fn sign(value: i128) -> &'static [u8]
     if value < 0 { b"-" } else { b"" }
 }
 
-fn six_digits(n: u32) -> [u8; 6]
-    ensures { result ≡ six_digits n }
+fn nine_digits(n: u32) -> [u8; 9]
+    ensures { result ≡ last_digits 9 n }
 {
     let digit = |power: u32| -> u8
         requires { 0 < power }
         ensures { result ≡ 48 + n / power % 10 }
     { 48 + (n / power % 10) as u8 };
     [
+        digit(100_000_000),
+        digit(10_000_000),
+        digit(1_000_000),
         digit(100_000),
         digit(10_000),
         digit(1000),
         digit(100),
         digit(10),
-        48 + (n % 10) as u8,
+        digit(1),
     ]
 }
 
-#[tactic(auto, unfolding(crate::specs::Numbers::size_text))]
-fn push_size(alloc: Global, text: &mut Vec<u8>, size: u128) -> Result<(), AllocError>
-    ensures { OnOk result (text.new.items ≡ text.old.items ++ size_text size) }
+// The number of units that are one.
+fn units_per_one(places: u32) -> u128
+    requires { places ≤ 9 }
+    ensures value { result ≡ 10 ^ places }
+    ensures positive { 0 < result }
+    ensures most { result ≤ 10 ^ 9 }
 {
-    let whole = (size / 1_000_000).to_string(alloc)?;
+    10u128.pow(places)
+}
+
+// Adds the last digits, so many.
+fn push_digits(text: &mut Vec<u8>, places: u32, n: u32) -> Result<(), AllocError>
+    requires { places ≤ 9 }
+    ensures { OnOk result (text.new.items ≡ text.old.items ++ last_digits places n) }
+{
+    text.extend_from_slice(&nine_digits(n)[(9 - places) as usize..])
+}
+
+#[tactic(auto, unfolding(crate::specs::Numbers::fixed_text))]
+fn push_fixed(alloc: Global, text: &mut Vec<u8>, places: u32, n: u128) -> Result<(), AllocError>
+    requires { places ≤ 9 }
+    ensures { OnOk result (text.new.items ≡ text.old.items ++ fixed_text places n) }
+{
+    let one = units_per_one(places);
+    let whole = (n / one).to_string(alloc)?;
     text.extend_from_slice(whole.as_bytes())?;
     text.push(b'.')?;
-    text.extend_from_slice(&six_digits((size % 1_000_000) as u32))?;
-    Ok(())
+    push_digits(text, places, (n % one) as u32)
+}
+
+/// The text of so many units, of which 10^places are one: so many decimals, at most nine.
+pub(crate) fn fixed_text(alloc: Global, places: u32, n: u128) -> Result<Vec<u8>, AllocError>
+    requires { places ≤ 9 }
+    ensures { IfOk result (λ v. v.items ≡ fixed_text places n) }
+{
+    let mut text = Vec::new(alloc);
+    push_fixed(alloc, &mut text, places, n)?;
+    Ok(text)
+}
+
+// The same of a number of units: a minus stands before what isn't zero alone.
+#[tactic(auto, unfolding(crate::specs::Numbers::signed_text))]
+fn signed_text(alloc: Global, places: u32, value: i128) -> Result<Vec<u8>, AllocError>
+    requires { places ≤ 9 }
+    ensures { IfOk result (λ v. v.items ≡ signed_text places value) }
+{
+    let mut text = Vec::new(alloc);
+    text.extend_from_slice(sign(value))?;
+    push_fixed(alloc, &mut text, places, value.unsigned_abs())?;
+    Ok(text)
 }
 
 /// The text of so many micro-units: six decimals.
 pub fn size_text(alloc: Global, size: u128) -> Result<Vec<u8>, AllocError>
     ensures { IfOk result (λ v. v.items ≡ size_text size) }
 {
-    let mut text = Vec::new(alloc);
-    push_size(alloc, &mut text, size)?;
-    Ok(text)
+    fixed_text(alloc, 6, size)
 }
 
 /// The text of a number of micro-units: six decimals, and a minus before what isn't zero alone.
-#[tactic(auto, unfolding(crate::specs::Numbers::micro_text))]
 pub fn micro_text(alloc: Global, value: i128) -> Result<Vec<u8>, AllocError>
     ensures { IfOk result (λ v. v.items ≡ micro_text value) }
 {
-    let mut text = Vec::new(alloc);
-    text.extend_from_slice(sign(value))?;
-    push_size(alloc, &mut text, value.unsigned_abs())?;
-    Ok(text)
+    signed_text(alloc, 6, value)
+}
+
+/// The text of a number of nano-units: nine decimals, and a minus before what isn't zero alone.
+pub fn nano_text(alloc: Global, value: i128) -> Result<Vec<u8>, AllocError>
+    ensures { IfOk result (λ v. v.items ≡ nano_text value) }
+{
+    signed_text(alloc, 9, value)
 }

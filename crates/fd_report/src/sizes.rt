@@ -1,6 +1,7 @@
 // The least and the greatest size of a phasor within the radii of its parts.
 ghost use Rattle.std.specs.Prelude.{◌≡◌, ◌+◌, ◌*◌, ◌<◌, ◌≤◌, ◌^◌, nat_abs};
-ghost use Rattle.fd_report.specs.Sizes.{greatest_part as greatest_part_of, greatest_size as greatest_size_of, least_part as least_part_of, least_size as least_size_of, root_down as rounded_down, root_up as rounded_up, square as square_of};
+ghost use Rattle.fd_report.specs.Sizes.{greatest_part as greatest_part_of, greatest_size as greatest_size_of, least_part as least_part_of, least_size as least_size_of, square as square_of};
+ghost use Rattle.fd_sample.specs.Roots.{root_down as rounded_down, root_up as rounded_up};
 ghost use Rattle.fd_report.specs.Solutions.{IsOfSize};
 
 use crate::solution::Solution;

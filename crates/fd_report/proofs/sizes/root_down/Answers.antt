@@ -1,4 +1,4 @@
-use Rattle.fd_report.proofs.Roots.{root_is}
+use Rattle.fd_sample.proofs.CallerLemmas.{root_is}
 use Rattle.fd_report.proofs.sizes.root_down.Goals as goal
 
 pub returns-clause-value : goal.returns-clause-value
