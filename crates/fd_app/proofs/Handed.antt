@@ -1,30 +1,27 @@
 -- What a command's answer comes to for the loop.
-use Rattle.std.proofs.Common.{◌≡◌, ◌∙◌, ℕ, ℤ, Bool, true, false, List, [], ◌∷◌, ◌++◌, map, Option, Some, None, refl, sym, ap, subst, inl, inr, arith}
+use Rattle.std.proofs.Common.{◌≡◌, ◌∙◌, ℕ, Bool, true, false, List, [], ◌∷◌, ◌++◌, map, Option, Some, None, refl, sym, ap, subst, inl, inr, arith}
 use Rattle.std.specs.Prelude.{◌||◌, ◌⊎◌}
-use Rattle.std.proofs.lemmas.List.{append-nil}
+use Rattle.std.proofs.lemmas.List.{append-nil, map-append}
 use Rattle.std.proofs.lemmas.List.Elements.{All-nil, All-cons}
-use Rattle.dss_layout.specs.Layout.{LayoutView, layout_of}
-use Rattle.dss_circuit.specs.Circuit.{CircuitView}
-use Rattle.fd_report.specs.Lines.{lines_of}
-use Rattle.fd_report.specs.Records.{report_of}
-use Rattle.fd_report.specs.Solutions.{SolutionView}
+use Rattle.fd_outside.specs.Emitted.{Takes}
+use Rattle.fd_queue.specs.Controls.{Positions}
 use Rattle.fd_report.specs.Faults.{status}
 use Rattle.fd_report.specs.declared.faults.Fault.{Fault}
 use Rattle.fd_report.specs.declared.faults.Fault.TheVariants as fault
 use Rattle.fd_outcome.specs.Settles.{Round, Settle, failed, settled}
 use Rattle.fd_outcome.specs.Events.{AllSettles, Event, IfSettle, finishes, settle}
-use Rattle.fd_outcome.specs.Work.{Step, ExactlyOne, goes, ends}
-use Rattle.fd_outcome.specs.Pages.{solution_in}
+use Rattle.fd_outcome.specs.Work.{Step, ExactlyOne, ends}
 use Rattle.fd_outcome.specs.Calls.{Call, report, reads, writes, opened, body, fault_text}
-use Rattle.fd_outcome.specs.Done.{IsFrontOf, IsDone}
+use Rattle.fd_outcome.specs.Done.{IsFrontOf, IsDone, Made}
 use Rattle.fd_outcome.specs.Way.{whole}
-use Rattle.fd_outcome.specs.Behind.{behind, last_calls}
+use Rattle.fd_outcome.specs.Behind.{behind, has_text, last_calls}
 use Rattle.fd_outcome.specs.Parts.{EndsAt, Finishes, GoesOn, IsCutIn, Printed, Wrote, events_in, fault_doing}
 use Rattle.fd_outcome.specs.Untold.{CutsShort}
-use Rattle.fd_outcome.proofs.CallerLemmas.{cut_before, fault_code, sees_none, wrote_nothing}
-use Rattle.fd_app.specs.Answered.{IsOfCommand, texts_of}
-use Rattle.fd_app.specs.Headline.{IsSolution, IsSolved}
-use Rattle.fd_app.specs.Steps.{changes, fails, snapshot_settle, solves}
+use Rattle.fd_outcome.proofs.CallerLemmas.{cut_before, sees_none, wrote_all, wrote_nothing}
+use Rattle.fd_app.specs.Answered.{IsOfCommand, IsPrintable, texts_of}
+use Rattle.fd_app.specs.declared.answer.SettledCircuit.{SettledCircuit}
+use Rattle.fd_app.specs.Headline.{IsSolved}
+use Rattle.fd_app.specs.Steps.{StandingView, changes, fails, settles, snapshot_settle, standing}
 
 nothing_behind : (begun : Bool) → behind report begun [] ≡ []
 nothing_behind true = refl
@@ -40,21 +37,12 @@ behind_report : (begun : Bool) (events : List Event) → behind report begun eve
 behind_report true events = refl
 behind_report false events = opened_by_nothing (body report events)
 
--- a settle with one round is printed as that round's records, and one without rounds isn't printed
-round_behind : (begun : Bool) (c : CircuitView) (r : Round) → behind report begun (settle (snapshot_settle c (r ∷ []) settled) ∷ []) ≡ map writes (texts_of c r)
-round_behind begun c r =
-    behind_report begun (settle (snapshot_settle c (r ∷ []) settled) ∷ [])
-    ∙ append-nil (map writes (lines_of (report_of (layout_of c.elements) c.solves 0 0 (solution_in r) ++ [])))
-    ∙ ap (λ rows. map writes (lines_of rows)) (append-nil (report_of (layout_of c.elements) c.solves 0 0 (solution_in r)))
+-- a settle is printed as its records
+settle_behind : (begun : Bool) (s : Settle) → behind report begun (settle s ∷ []) ≡ map writes (texts_of s)
+settle_behind begun s = behind_report begun (settle s ∷ []) ∙ append-nil (map writes (texts_of s))
 
-failed_behind : (begun : Bool) (c : CircuitView) (f : Fault) → behind report begun (settle (snapshot_settle c [] (failed f)) ∷ []) ≡ []
-failed_behind begun c f = behind_report begun (settle (snapshot_settle c [] (failed f)) ∷ [])
-
-round_good : (c : CircuitView) (r : Round) → IsSolution c r → AllSettles IsSolved (settle (snapshot_settle c (r ∷ []) settled) ∷ [])
-round_good c r is = All-cons (IfSettle IsSolved) (settle (snapshot_settle c (r ∷ []) settled)) [] (All-cons (IsSolution c) r [] is (All-nil (IsSolution c))) (All-nil (IfSettle IsSolved))
-
-failed_good : (c : CircuitView) (f : Fault) → AllSettles IsSolved (settle (snapshot_settle c [] (failed f)) ∷ [])
-failed_good c f = All-cons (IfSettle IsSolved) (settle (snapshot_settle c [] (failed f))) [] (All-nil (IsSolution c)) (All-nil (IfSettle IsSolved))
+settle_good : (s : Settle) → IsSolved s → AllSettles IsSolved (settle s ∷ [])
+settle_good s is = All-cons (IfSettle IsSolved) (settle s) [] is (All-nil (IfSettle IsSolved))
 
 or_false : (b : Bool) → b ≡ (b || false)
 or_false true = refl
@@ -64,12 +52,8 @@ or_true : (b : Bool) → true ≡ (b || true)
 or_true true = refl
 or_true false = refl
 
--- texts of what is equal
-pub same_texts : (a b : LayoutView) (n k : ℕ) (s t : SolutionView) → a ≡ b → n ≡ k → s ≡ t → lines_of (report_of a n 0 0 s) ≡ lines_of (report_of b k 0 0 t)
-same_texts a b n k s t same_layout same_number same_solution =
-    ap (λ l. lines_of (report_of l n 0 0 s)) same_layout
-    ∙ ap (λ i. lines_of (report_of b i 0 0 s)) same_number
-    ∙ ap (λ z. lines_of (report_of b k 0 0 z)) same_solution
+now_begun : (begun : Bool) (calls : List Call) → has_text calls ≡ true → true ≡ (begun || has_text calls)
+now_begun begun calls has = or_true begun ∙ ap (λ (b : Bool). begun || b) (sym has)
 
 -- ---- statuses of a command's faults
 
@@ -88,22 +72,53 @@ command_status (fault.OutOfRange u k) h = (λ e. omega (arith, e), λ e. omega (
 command_status (fault.NotConverged u k d) h = (λ e. omega (arith, e), λ e. omega (arith, e))
 command_status (fault.Loose u d) h = (λ e. omega (arith, e), λ e. omega (arith, e))
 command_status (fault.NotCertified u k) h = (λ e. omega (arith, e), λ e. omega (arith, e))
+command_status (fault.Undecided c l u k x) h = (λ e. omega (arith, e), λ e. omega (arith, e))
+command_status (fault.ControlLimit n) h = (λ e. omega (arith, e), λ e. omega (arith, e))
+
+cut_code : (calls : List Call) (code : ℕ) (m : Made) → IsFrontOf calls code m → CutsShort code
+cut_code calls code m front = elim front [ inl a ↦ inl a.status_is | inr a ↦ inr a.status_is ]
+
+-- the status of a fault behind these calls, or one that cuts short
+ending_code : (calls : List Call) (f : Fault) (code : ℕ) (m : Made) → IsDone (record { calls = calls; end = Some f }) code m → (code ≡ status f) ⊎ CutsShort code
+ending_code calls f code m done = elim done [
+  | inl all ↦ inl all.status_is
+  | inr front ↦ inr (cut_code calls code m front)
+]
 
 module _ {S : Type 0} (taken : S → Option (List ℕ)) (calls : S → Option ℕ) where
-  pub never_usage : (old new : S) (f : Fault) (code : ℕ) → IsOfCommand f → Printed taken calls old new (fault_doing f) code → code ≡ 2 → ⊥
-  never_usage old new f code h printed = not_status f code 2 (command_status f h).0 (λ e. omega (arith, e)) (λ e. omega (arith, e)) (fault_code taken calls old new f code printed)
+  pub never_usage : (old new : S) (all : List Call) (f : Fault) (code : ℕ) → IsOfCommand f → Printed taken calls old new (record { calls = all; end = Some f }) code → code ≡ 2 → ⊥
+  never_usage old new all f code h printed = not_status f code 2 (command_status f h).0 (λ e. omega (arith, e)) (λ e. omega (arith, e)) (ending_code all f code printed.made printed.done)
 
-  pub never_read : (old new : S) (f : Fault) (code : ℕ) → IsOfCommand f → Printed taken calls old new (fault_doing f) code → code ≡ 4 → ⊥
-  never_read old new f code h printed = not_status f code 4 (command_status f h).1 (λ e. omega (arith, e)) (λ e. omega (arith, e)) (fault_code taken calls old new f code printed)
+  pub never_read : (old new : S) (all : List Call) (f : Fault) (code : ℕ) → IsOfCommand f → Printed taken calls old new (record { calls = all; end = Some f }) code → code ≡ 4 → ⊥
+  never_read old new all f code h printed = not_status f code 4 (command_status f h).1 (λ e. omega (arith, e)) (λ e. omega (arith, e)) (ending_code all f code printed.made printed.done)
 
   pub cut_never : (n : ℕ) (old new : S) (all : List Call) (code : ℕ) → (1 ≡ n → ⊥) → (5 ≡ n → ⊥) → IsCutIn taken calls old new all code → code ≡ n → ⊥
   cut_never n old new all code a b cut e = elim cut.front [ inl x ↦ a (sym x.status_is ∙ e) | inr x ↦ b (sym x.status_is ∙ e) ]
 
+-- ---- a settle's records and then a fault's
+
+module _ {S : Type 0} (taken : S → Option (List ℕ)) (calls : S → Option ℕ) where
+  pub failed_whole : (old new : S) (texts : List (List ℕ)) (f : Fault) (code : ℕ) → code ≡ status f → Takes taken calls old new (texts ++ fault_text f ∷ [])
+      → Printed taken calls old new (record { calls = map writes texts ++ writes (fault_text f) ∷ []; end = Some f }) code
+  failed_whole old new texts f code is takes = record {
+    made = whole (map writes (texts ++ fault_text f ∷ []));
+    done = inl (record { calls = map-append writes texts (fault_text f ∷ []); torn = refl; status_is = is });
+    wrote = wrote_all taken calls old new (texts ++ fault_text f ∷ []) takes;
+  }
+
+  pub failed_cut : (old new : S) (texts : List (List ℕ)) (f : Fault) (code : ℕ) → IsCutIn taken calls old new (map writes (texts ++ fault_text f ∷ [])) code
+      → Printed taken calls old new (record { calls = map writes texts ++ writes (fault_text f) ∷ []; end = Some f }) code
+  failed_cut old new texts f code c = record {
+    made = c.made;
+    done = inr (subst (λ l. IsFrontOf l code c.made) (map-append writes texts (fault_text f ∷ [])) c.front);
+    wrote = c.wrote;
+  }
+
 -- ---- what a command does
 
-module _ {S : Type 0} (is_step : Step CircuitView → Type 0) (taken : S → Option (List ℕ)) (calls : S → Option ℕ) (now : CircuitView) where
-  pub goes_changed : (out : S) (begun : Bool) → is_step (changes now) → GoesOn report IsSolved is_step now taken calls out out begun begun
-  goes_changed out begun is = record {
+module _ {S : Type 0} (is_step : Step StandingView → Type 0) (taken : S → Option (List ℕ)) (calls : S → Option ℕ) where
+  pub goes_changed : (now : StandingView) (out : S) (begun : Bool) → is_step (changes now) → GoesOn report IsSolved is_step now taken calls out out begun begun
+  goes_changed now out begun is = record {
     events = [];
     right = is;
     all_good = All-nil (IfSettle IsSolved);
@@ -111,29 +126,36 @@ module _ {S : Type 0} (is_step : Step CircuitView → Type 0) (taken : S → Opt
     begun_is = or_false begun;
   }
 
-  pub goes_solved : (old new : S) (begun : Bool) (r : Round) → is_step (solves now r) → IsSolution now r → Wrote taken calls old new (whole (map writes (texts_of now r)))
-      → GoesOn report IsSolved is_step now taken calls old new begun true
-  goes_solved old new begun r is solution wrote = record {
-    events = settle (snapshot_settle now (r ∷ []) settled) ∷ [];
-    right = is;
-    all_good = round_good now r solution;
-    wrote = subst (λ l. Wrote taken calls old new (whole l)) (sym (round_behind begun now r)) wrote;
-    begun_is = or_true begun;
-  }
+  pub goes_settled : (s : StandingView) (rounds : List Round) (left : Positions) (old new : S) (begun : Bool) → is_step (settles s rounds left)
+      → IsSolved (snapshot_settle s rounds settled left) → has_text (map writes (texts_of (snapshot_settle s rounds settled left))) ≡ true
+      → Wrote taken calls old new (whole (map writes (texts_of (snapshot_settle s rounds settled left))))
+      → GoesOn report IsSolved is_step (standing s.circuit left) taken calls old new begun true
+  goes_settled s rounds left old new begun is solved has wrote =
+      let one : Settle = snapshot_settle s rounds settled left in
+      record {
+        events = settle one ∷ [];
+        right = is;
+        all_good = settle_good one solved;
+        wrote = subst (λ l. Wrote taken calls old new (whole l)) (sym (settle_behind begun one)) wrote;
+        begun_is = now_begun begun (body report (settle one ∷ [])) (ap has_text (append-nil (map writes (texts_of one))) ∙ has);
+      }
 
-  pub ends_solved : (old new : S) (begun : Bool) (r : Round) (code : ℕ) → is_step (solves now r) → IsSolution now r → IsCutIn taken calls old new (map writes (texts_of now r)) code
+  pub ends_settled : (s : StandingView) (rounds : List Round) (left : Positions) (old new : S) (begun : Bool) (code : ℕ) → is_step (settles s rounds left)
+      → IsSolved (snapshot_settle s rounds settled left) → IsCutIn taken calls old new (map writes (texts_of (snapshot_settle s rounds settled left))) code
       → EndsAt report IsSolved is_step taken calls old new begun code
-  ends_solved old new begun r code is solution cut = record {
-    step = solves now r;
-    right = is;
-    made = cut.made;
-    shown = settle (snapshot_settle now (r ∷ []) settled) ∷ [];
-    hidden = [];
-    events_are = refl;
-    all_good = round_good now r solution;
-    done = inr (subst (λ l. IsFrontOf l code cut.made) (sym (round_behind begun now r)) cut.front);
-    wrote = cut.wrote;
-  }
+  ends_settled s rounds left old new begun code is solved cut =
+      let one : Settle = snapshot_settle s rounds settled left in
+      record {
+        step = settles s rounds left;
+        right = is;
+        made = cut.made;
+        shown = settle one ∷ [];
+        hidden = [];
+        events_are = refl;
+        all_good = settle_good one solved;
+        done = inr (subst (λ l. IsFrontOf l code cut.made) (sym (settle_behind begun one)) cut.front);
+        wrote = cut.wrote;
+      }
 
   -- the fault's record stands alone where nothing is printed before it
   fault_behind : (f : Fault) (code : ℕ) (old new : S) (p : Printed taken calls old new (fault_doing f) code) (before : List Call) → before ≡ [] → IsDone (record { calls = before ++ writes (fault_text f) ∷ []; end = Some f }) code p.made
@@ -152,18 +174,23 @@ module _ {S : Type 0} (is_step : Step CircuitView → Type 0) (taken : S → Opt
     wrote = p.wrote;
   }
 
-  pub ends_failed : (old new : S) (begun : Bool) (f : Fault) (code : ℕ) → is_step (fails now f) → Printed taken calls old new (fault_doing f) code → EndsAt report IsSolved is_step taken calls old new begun code
-  ends_failed old new begun f code is p = record {
-    step = fails now f;
-    right = is;
-    made = p.made;
-    shown = settle (snapshot_settle now [] (failed f)) ∷ [];
-    hidden = [];
-    events_are = refl;
-    all_good = failed_good now f;
-    done = inl (refl, fault_behind f code old new p (behind report begun (settle (snapshot_settle now [] (failed f)) ∷ [])) (failed_behind begun now f));
-    wrote = p.wrote;
-  }
+  pub ends_failed : (s : StandingView) (rounds : List Round) (left : Positions) (f : Fault) (old new : S) (begun : Bool) (code : ℕ) → is_step (fails s rounds f left)
+      → IsSolved (snapshot_settle s rounds (failed f) left)
+      → Printed taken calls old new (record { calls = map writes (texts_of (snapshot_settle s rounds (failed f) left)) ++ writes (fault_text f) ∷ []; end = Some f }) code
+      → EndsAt report IsSolved is_step taken calls old new begun code
+  ends_failed s rounds left f old new begun code is solved p =
+      let one : Settle = snapshot_settle s rounds (failed f) left in
+      record {
+        step = fails s rounds f left;
+        right = is;
+        made = p.made;
+        shown = settle one ∷ [];
+        hidden = [];
+        events_are = refl;
+        all_good = settle_good one solved;
+        done = inl (refl, subst (λ l. IsDone (record { calls = l ++ writes (fault_text f) ∷ []; end = Some f }) code p.made) (sym (settle_behind begun one)) p.done);
+        wrote = p.wrote;
+      }
 
   pub ends_without_memory : (out : S) (begun : Bool) → ExactlyOne is_step → EndsAt report IsSolved is_step taken calls out out begun 1
   ends_without_memory out begun one =
@@ -179,6 +206,10 @@ module _ {S : Type 0} (is_step : Step CircuitView → Type 0) (taken : S → Opt
         done = inr cut.front;
         wrote = cut.wrote;
       }
+
+-- what is printable doesn't depend on the positions that were left before
+pub printable_at : (w : SettledCircuit) (s : StandingView) → IsPrintable w s → (at : Positions) → IsPrintable w (standing s.circuit at)
+printable_at w s p at = record { ready = p.ready; layout = p.layout; numbers = p.numbers; few = p.few; positions = p.positions }
 
 -- ---- behind the last command
 

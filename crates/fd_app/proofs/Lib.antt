@@ -1,8 +1,14 @@
 mod Weaker
-mod SnapshotNetworks
-mod Solutions
 mod Unsolved
+mod Computations
+mod Solutions
+mod Steadiness
+mod Settled
+mod Starting
+mod Solves
 pub mod Tests
+mod Recorded
+mod Begun
 mod Handed
 mod Weights
 mod Runs

@@ -3,7 +3,6 @@ use Rattle.std.proofs.Common.{◌≡◌, ◌∙◌, ℕ, List, [], Option, Some,
 use Rattle.std.specs.Str.{chars}
 use Rattle.fd_outside.specs.Files.{Files, held}
 use Rattle.dss_values.specs.Names.{bytes}
-use Rattle.dss_circuit.specs.Circuit.{CircuitView, empty_circuit}
 use Rattle.dss_script.specs.Script.{Script, script_of}
 use Rattle.dss_script.specs.Said.{Said, ScriptEnd, said_of, ended_by, said_in, end_in}
 use Rattle.dss_script.specs.SaidLaws.{SaidLaw}
@@ -17,7 +16,8 @@ use Rattle.fd_outcome.specs.Runs.{Runs}
 use Rattle.fd_outcome.proofs.CallerLemmas.{ends_first, exactly_one_history, exactly_this, run_due}
 use Rattle.fd_app.specs.Commands.{IsStep}
 use Rattle.fd_app.specs.Headline.{IsSolved}
-use Rattle.fd_app.specs.Run.{FormsLaw, IsDoneThere, IsFormHistory, IsScriptHistory, no_name, style_of}
+use Rattle.fd_app.specs.Run.{FormsLaw, IsDoneThere, IsFormHistory, IsScriptHistory, first_standing, no_name, style_of}
+use Rattle.fd_app.specs.Steps.{StandingView}
 use Rattle.fd_app.specs.Words.{Form, Solve}
 use Rattle.fd_app.proofs.Tests.{one_step}
 
@@ -30,7 +30,7 @@ forms files None = exactly_this (ended [] fault.Usage)
 forms files (Some (Solve file)) =
     let p = said_of files (chars file) in
     exactly_one_history IsStep no_name IsDoneThere one_step (λ s found. exactly_this (finishes []))
-    (λ n. held files (bytes n)) p.said (ended_by p.left) empty_circuit
+    (λ n. held files (bytes n)) p.said (ended_by p.left) first_standing
 
 module _ {L S : Type 0} (faults : L → ℕ) (asked_of : L → Option (List (List ℕ))) (taken : S → Option (List ℕ)) (calls : S → Option ℕ) (lib_old lib_new : L) (old new : S) where
   pub due : (files : Files) (form : Option Form) (h : History) (code : ℕ) → IsFormHistory files form h
@@ -42,19 +42,19 @@ module _ {L S : Type 0} (faults : L → ℕ) (asked_of : L → Option (List (Lis
       subst (λ (x : History). IsDue x.end code (faults lib_old) (faults lib_new)) (sym (one.only h right)) all
 
   -- what the loop does of a session's script is done of what the script says
-  pub of_script : (law : SaidLaw) (files : Files) (file : List ℕ) (script : Script) (circuit : CircuitView) (code : ℕ) → script ≡ script_of files file → circuit ≡ empty_circuit
-      → Runs faults asked_of taken calls lib_old lib_new old new (λ h. IsHistory IsStep no_name IsDoneThere (λ n. held files (bytes n)) (said_in script) (end_in script) circuit h) report IsSolved code
+  pub of_script : (law : SaidLaw) (files : Files) (file : List ℕ) (script : Script) (state : StandingView) (code : ℕ) → script ≡ script_of files file → state ≡ first_standing
+      → Runs faults asked_of taken calls lib_old lib_new old new (λ h. IsHistory IsStep no_name IsDoneThere (λ n. held files (bytes n)) (said_in script) (end_in script) state h) report IsSolved code
       → Runs faults asked_of taken calls lib_old lib_new old new (λ h. IsScriptHistory files (said_of files file) h) report IsSolved code
-  of_script law files file script circuit code is empty runs =
+  of_script law files file script state code is empty runs =
       let p = said_of files file in
-      let P : List Said → ScriptEnd → CircuitView → Type 0 = λ l e s. Runs faults asked_of taken calls lib_old lib_new old new (λ h. IsHistory IsStep no_name IsDoneThere (λ n. held files (bytes n)) l e s h) report IsSolved code in
-      let a : P (said_in script) (end_in script) empty_circuit = subst (P (said_in script) (end_in script)) empty runs in
-      let b : P p.said (end_in script) empty_circuit = subst (λ l. P l (end_in script) empty_circuit) (ap said_in is ∙ law.said files file) a in
-      subst (λ e. P p.said e empty_circuit) (ap end_in is ∙ law.end files file) b
+      let P : List Said → ScriptEnd → StandingView → Type 0 = λ l e s. Runs faults asked_of taken calls lib_old lib_new old new (λ h. IsHistory IsStep no_name IsDoneThere (λ n. held files (bytes n)) l e s h) report IsSolved code in
+      let a : P (said_in script) (end_in script) first_standing = subst (P (said_in script) (end_in script)) empty runs in
+      let b : P p.said (end_in script) first_standing = subst (λ l. P l (end_in script) first_standing) (ap said_in is ∙ law.said files file) a in
+      subst (λ e. P p.said e first_standing) (ap end_in is ∙ law.end files file) b
 
   -- memory runs out before the script is read
   pub not_begun : (files : Files) (file : List ℕ) (lib : L) (out : S) → Runs faults asked_of taken calls lib lib out out (λ h. IsScriptHistory files (said_of files file) h) report IsSolved 1
   not_begun files file lib out =
       let p = said_of files file in
-      ends_first IsStep no_name IsDoneThere IsSolved report (λ n. held files (bytes n)) faults asked_of taken calls (record { left = p.said; end = ended_by p.left; state = empty_circuit }) lib out
-      one_step (λ s found. exactly_this (finishes [])) report_asks p.said (ended_by p.left) empty_circuit refl
+      ends_first IsStep no_name IsDoneThere IsSolved report (λ n. held files (bytes n)) faults asked_of taken calls (record { left = p.said; end = ended_by p.left; state = first_standing }) lib out
+      one_step (λ s found. exactly_this (finishes [])) report_asks p.said (ended_by p.left) first_standing refl

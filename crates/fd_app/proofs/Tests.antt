@@ -1,5 +1,5 @@
 -- A command comes to exactly one thing, as the tests of Solve have exactly one answer.
-use Rattle.std.proofs.Common.{◌≡◌, ◌<◌, ◌+◌, ◌∙◌, ℕ, zero, suc, ℤ, Bool, true, false, List, [], ◌∷◌, take, length, Option, Some, None, Result, Ok, Err, refl, sym, ap, subst, inl, inr, arith}
+use Rattle.std.proofs.Common.{◌≡◌, ◌<◌, ◌+◌, ◌∙◌, ℕ, zero, suc, Bool, true, false, List, [], ◌∷◌, take, length, Option, Some, None, Result, Ok, Err, refl, sym, ap, subst, inl, inr, nat_abs, arith}
 use Rattle.std.specs.Prelude.{slice_get, option_map, get_or, All}
 use Rattle.std.proofs.lemmas.Bool.{cases_order}
 use Rattle.std.proofs.lemmas.Option.{slice_get_within, slice_get-get_or, get_or_from_slice_get}
@@ -20,21 +20,25 @@ use Rattle.dss_ready.specs.Ready.{HasPassed, IsToBlame, for_own, for_many, for_i
 use Rattle.dss_ready.proofs.Limits.{too_many_within}
 use Rattle.dss_circuit.specs.Circuit.{CircuitView, Elements}
 use Rattle.dss_profile.specs.declared.command.Place.{Place}
-use Rattle.fd_equations.specs.Views.{NetworkView}
-use Rattle.fd_inject.specs.Procedure.{solution_of}
-use Rattle.fd_inject.specs.declared.fault.SolveFault.{SolveFault}
-use Rattle.fd_inject.specs.declared.fault.SolveFault.TheVariants as procedure
+use Rattle.fd_enclosure.specs.Sound.{loose, uncertain}
+use Rattle.fd_inject.specs.declared.fault.SolveFault.TheVariants as solving
+use Rattle.fd_queue.specs.Controls.{Positions}
+use Rattle.fd_queue.specs.Machine.{Machine}
 use Rattle.fd_report.specs.Names.{name_at}
 use Rattle.fd_report.specs.declared.faults.Cause.TheVariants as cause
 use Rattle.fd_report.specs.declared.faults.Fault.TheVariants as run
-use Rattle.fd_enclosure.specs.Sound.{certificate_of}
+use Rattle.fd_settle.specs.Computed.{Computation, Ending, HasOneComputation, ended, procedure, range, stopped, uncertified}
+use Rattle.fd_settle.specs.Contract.{limits_of}
+use Rattle.fd_settle.proofs.CallerLemmas.{has_one_computation}
+use Rattle.fd_settle.specs.Settle.{Open, Settled, Limited, Undecidable}
+use Rattle.fd_outcome.specs.Settles.{Round}
 use Rattle.fd_outcome.specs.Work.{Step, ExactlyOne}
 use Rattle.fd_outcome.proofs.CallerLemmas.{exactly_this}
-use Rattle.fd_app.specs.Commands.{Applied, nothing_left, solve_left, refused_at, IsByTests, IsSolve, IsStep, IsStepOf, IsTested, tried}
+use Rattle.fd_app.specs.Commands.{Applied, nothing_left, solve_left, refused_at, IsByTests, IsStep, IsStepOf, IsTested, tried}
 use Rattle.fd_app.specs.Built.{unbuilt_place}
-use Rattle.fd_app.specs.Solving.{IsByBuilt, IsByPoint, IsByRange, IsSolutionStep, IsUnsolved, judged, limits_of, snapshot_blame, snapshot_network}
-use Rattle.fd_app.specs.Steps.{changes, fails, refuses}
-use Rattle.fd_app.proofs.Unsolved.{never_memory}
+use Rattle.fd_app.specs.Solving.{IsByBuilt, IsByRange, IsSettleStep, IsSolutionStep, IsStepBy, first_machine, rounds_of, snapshot_plant, undecided_at}
+use Rattle.fd_app.specs.Steps.{StandingView, changes, fails, refuses, settles, standing, start_of}
+use Rattle.fd_app.proofs.Computations.{IsTold, is_told}
 
 -- ---- the tests of Solve have one answer
 
@@ -166,45 +170,67 @@ module _ (circuit : CircuitView) where
 
 -- ---- a Solve
 
-one_unsolved : (c : CircuitView) (f : SolveFault) → (f ≡ procedure.NoMemory → ⊥) → ExactlyOne (IsUnsolved c f)
-one_unsolved c (procedure.NoInverse column stop) told = exactly_this (fails c (run.NoInverse (name_at (layout_of c.elements) column) stop))
-one_unsolved c (procedure.OutOfRange place k) told = exactly_this (fails c (run.OutOfRange (name_at (layout_of c.elements) place) k))
-one_unsolved c (procedure.NotConverged place steps update) told = exactly_this (fails c (run.NotConverged (name_at (layout_of c.elements) place) steps update))
-one_unsolved c procedure.NoMemory told = absurd (told refl)
+one_by_ending : (s : StandingView) (rounds : List Round) (ending : Ending) (n : Machine) → IsTold ending → ExactlyOne (IsStepBy s rounds ending n)
+one_by_ending s rounds (ended Open) n told = absurd told
+one_by_ending s rounds (ended Settled) n told = exactly_this (settles s rounds n.at)
+one_by_ending s rounds (ended Limited) n told = exactly_this (fails s rounds (run.ControlLimit n.made) n.at)
+one_by_ending s rounds (ended (Undecidable k u)) n told = exactly_this (fails s rounds (undecided_at s.circuit k u) n.at)
+one_by_ending s rounds (stopped (range blame)) n told = exactly_this (fails s rounds (run.Script blame.place (cause.Model blame.cause)) n.at)
+one_by_ending s rounds (stopped (procedure (solving.NoInverse column stop))) n told = exactly_this (fails s rounds (run.NoInverse (name_at (layout_of s.circuit.elements) column) stop) n.at)
+one_by_ending s rounds (stopped (procedure (solving.OutOfRange place k))) n told = exactly_this (fails s rounds (run.OutOfRange (name_at (layout_of s.circuit.elements) place) k) n.at)
+one_by_ending s rounds (stopped (procedure (solving.NotConverged place steps update))) n told = exactly_this (fails s rounds (run.NotConverged (name_at (layout_of s.circuit.elements) place) steps update) n.at)
+one_by_ending s rounds (stopped (procedure solving.NoMemory)) n told = absurd told
+one_by_ending s rounds (stopped (uncertified (loose row mismatch))) n told = exactly_this (fails s rounds (run.Loose (name_at (layout_of s.circuit.elements) row) mismatch) n.at)
+one_by_ending s rounds (stopped (uncertified (uncertain place bound))) n told = exactly_this (fails s rounds (run.NotCertified (name_at (layout_of s.circuit.elements) place) (option_map nat_abs bound)) n.at)
 
-one_by_point : (c : CircuitView) (v : NetworkView) (r : Result (List ℤ × List (List ℤ)) SolveFault) → (r ≡ Err procedure.NoMemory → ⊥) → ExactlyOne (IsByPoint c v r)
-one_by_point c v (Ok point) told = exactly_this (judged c (certificate_of v point.0 point.1))
-one_by_point c v (Err f) told = one_unsolved c f (λ is. told (ap Err is))
+abbrev computation_in : (s : StandingView) (step : Step StandingView) → IsSettleStep s step → Computation
+computation_in s step is = record { rounds = is.rounds; ending = is.ending; machine = is.machine }
 
-one_by_range : (c : CircuitView) (blame : Option Blame) → ExactlyOne (IsByRange c blame)
-one_by_range c None = one_by_point c (snapshot_network c) (solution_of (snapshot_network c) (limits_of c.options)) (never_memory (snapshot_network c) (limits_of c.options))
-one_by_range c (Some blame) = exactly_this (refuses blame.place (cause.Model blame.cause))
+abbrev IsStepOfComputation : StandingView → Step StandingView → Computation → Type 0
+IsStepOfComputation s step c = IsStepBy s (rounds_of c.rounds) c.ending c.machine step
 
-one_by_built : (c : CircuitView) (place : Option Place) → ExactlyOne (IsByBuilt c place)
-one_by_built c None = one_by_range c (snapshot_blame c)
-one_by_built c (Some place) = exactly_this (refuses place cause.NotBuilt)
+one_of_computation : (s : StandingView) → HasOneComputation (limits_of s.circuit.options) (snapshot_plant s.circuit) (first_machine s.circuit (start_of s)) → ExactlyOne (IsSettleStep s)
+one_of_computation s one =
+    let c = one.some in
+    let by = one_by_ending s (rounds_of c.rounds) c.ending c.machine (is_told (limits_of s.circuit.options) (snapshot_plant s.circuit) (first_machine s.circuit (start_of s)) c.rounds c.ending c.machine one.is) in
+    record {
+      some = by.some;
+      is = record { rounds = c.rounds; ending = c.ending; machine = c.machine; computed = one.is; step_is = by.is };
+      only = λ step is. by.only step (subst (IsStepOfComputation s step) (one.only (computation_in s step is) is.computed) is.step_is);
+    }
 
-one_solution : (c : CircuitView) → ExactlyOne (IsSolutionStep c)
+one_settle : (s : StandingView) → ExactlyOne (IsSettleStep s)
+one_settle s = one_of_computation s (has_one_computation (limits_of s.circuit.options) (snapshot_plant s.circuit) (first_machine s.circuit (start_of s)) (omega arith))
+
+one_by_range : (s : StandingView) (blame : Option Blame) → ExactlyOne (IsByRange s blame)
+one_by_range s None = one_settle s
+one_by_range s (Some blame) = exactly_this (refuses blame.place (cause.Model blame.cause))
+
+one_by_built : (s : StandingView) (place : Option Place) → ExactlyOne (IsByBuilt s place)
+one_by_built s None = one_by_range s ((snapshot_plant s.circuit).blame (start_of s))
+one_by_built s (Some place) = exactly_this (refuses place cause.NotBuilt)
+
+one_solution : (s : StandingView) → ExactlyOne (IsSolutionStep s)
 unfolding IsSolutionStep
-one_solution c = one_by_built c (unbuilt_place c.elements)
+one_solution s = one_by_built s (unbuilt_place s.circuit.elements)
 
-one_by_tests : (c : CircuitView) (answer : Result Unit Blame) → ExactlyOne (IsByTests c answer)
-one_by_tests c (Ok done) = one_solution c
-one_by_tests c (Err blame) = exactly_this (refuses blame.place (cause.Model blame.cause))
+one_by_tests : (s : StandingView) (answer : Result Unit Blame) → ExactlyOne (IsByTests s answer)
+one_by_tests s (Ok done) = one_solution s
+one_by_tests s (Err blame) = exactly_this (refuses blame.place (cause.Model blame.cause))
 
 -- ---- a command
 
-one_of : (left : Applied) → ExactlyOne (IsStepOf left)
-one_of (nothing_left circuit) = exactly_this (changes circuit)
-one_of (refused_at place c) = exactly_this (refuses place c)
-one_of (solve_left circuit) =
+one_of : (at : Positions) (left : Applied) → ExactlyOne (IsStepOf at left)
+one_of at (nothing_left circuit) = exactly_this (changes (standing circuit at))
+one_of at (refused_at place c) = exactly_this (refuses place c)
+one_of at (solve_left circuit) =
     let tests = answer_of_tests circuit (own_blame circuit) refl in
-    let one = one_by_tests circuit tests.answer in
+    let one = one_by_tests (standing circuit at) tests.answer in
     record {
       some = one.some;
       is = record { answer = tests.answer; right = tests.right; step_is = one.is };
-      only = λ step is. one.only step (subst (λ a. IsByTests circuit a step) (test_once circuit is.answer tests.answer is.right tests.right) is.step_is);
+      only = λ step is. one.only step (subst (λ a. IsByTests (standing circuit at) a step) (test_once circuit is.answer tests.answer is.right tests.right) is.step_is);
     }
 
-pub one_step : (command : Command) (circuit : CircuitView) → ExactlyOne (IsStep command circuit)
-one_step command circuit = one_of (tried command circuit)
+pub one_step : (command : Command) (s : StandingView) → ExactlyOne (IsStep command s)
+one_step command s = one_of s.at (tried command s.circuit)

@@ -1,5 +1,5 @@
 -- A command adds no more elements and Solves than its room in the script pays for.
-use Rattle.std.proofs.Common.{◌≡◌, ◌∙◌, ◌+◌, ◌≤◌, ◌&&◌, ℕ, ℤ, Bool, true, false, List, [], ◌∷◌, length, Option, Some, None, Result, Ok, Err, refl, sym, ap, subst, arith, cond, inl, inr, ◌⊎◌, nat_eq, nat_le, if◌then◌else◌}
+use Rattle.std.proofs.Common.{◌≡◌, ◌∙◌, ◌+◌, ◌≤◌, ◌&&◌, ℕ, Bool, true, false, List, [], ◌∷◌, length, Option, Some, None, Result, Ok, Err, refl, sym, ap, subst, arith, cond, inl, inr, ◌⊎◌, nat_eq, nat_le, if◌then◌else◌}
 use Rattle.std.specs.Prelude.{codes}
 use Rattle.std.specs.Char.{to_ascii_lowercase}
 use Rattle.std.specs.Cmp.Lexicographic.{pointwise}
@@ -35,13 +35,15 @@ use Rattle.fd_outcome.specs.Events.{Event}
 use Rattle.fd_outcome.specs.Work.{Step, goes, ends}
 use Rattle.fd_app.specs.Built.{unbuilt_place}
 use Rattle.fd_app.specs.Commands.{Applied, IsByTests, IsStep, IsStepOf, is_daily, left_of, nothing_left, reads_shape, refused_at, solve_by, solve_left, tried}
-use Rattle.fd_app.specs.Solving.{IsByBuilt, IsByPoint, IsByRange, IsSolutionStep, IsUnsolved, judged, limits_of, snapshot_blame, snapshot_network}
-use Rattle.fd_app.specs.Steps.{changes, refuses}
-use Rattle.fd_equations.specs.Views.{NetworkView}
-use Rattle.fd_enclosure.specs.Sound.{Claim, Refusal, certificate_of, loose, uncertain}
-use Rattle.fd_inject.specs.Procedure.{solution_of}
-use Rattle.fd_inject.specs.declared.fault.SolveFault.{SolveFault}
-use Rattle.fd_inject.specs.declared.fault.SolveFault.TheVariants as procedure
+use Rattle.fd_app.specs.Solving.{IsByBuilt, IsByRange, IsSolutionStep, IsStepBy, rounds_of, snapshot_plant}
+use Rattle.fd_app.specs.Steps.{StandingView, changes, refuses, standing, start_of}
+use Rattle.fd_enclosure.specs.Sound.{loose, uncertain}
+use Rattle.fd_inject.specs.declared.fault.SolveFault.TheVariants as solving
+use Rattle.fd_queue.specs.Controls.{Positions}
+use Rattle.fd_queue.specs.Machine.{Machine}
+use Rattle.fd_settle.specs.Computed.{Ending, ended, procedure, range, stopped, uncertified}
+use Rattle.fd_settle.specs.Settle.{Open, Settled, Limited, Undecidable}
+use Rattle.fd_outcome.specs.Settles.{Round}
 use Rattle.fd_app.specs.Weights.{weight}
 
 -- ---- a class of the profile has four letters or more
@@ -234,53 +236,51 @@ left_reaches place (verb.Set pairs) (Ok circuit) now h = ap Ok (nothing_reaches 
 left_reaches place verb.Clear (Ok circuit) now h = ap Ok (nothing_reaches circuit now h)
 
 -- the circuit that stands behind a step after which the run goes on
-abbrev Leaves : Step CircuitView → CircuitView → Type 0
-Leaves (goes events circuit) now = circuit ≡ now
+abbrev Leaves : Step StandingView → CircuitView → Type 0
+Leaves (goes events s) now = s.circuit ≡ now
 Leaves (ends events f) now = ⊥
 
 -- a step that is this one leaves what it leaves
-left_by : (now : CircuitView) (step other : Step CircuitView) → step ≡ other → Leaves step now → Leaves other now
+left_by : (now : CircuitView) (step other : Step StandingView) → step ≡ other → Leaves step now → Leaves other now
 left_by now step other is leaves = subst (λ s. Leaves s now) is leaves
 
-judged_leaves : (circuit now : CircuitView) (r : Result Claim Refusal) → Leaves (judged circuit r) now → circuit ≡ now
-judged_leaves circuit now (Ok m) h = h
-judged_leaves circuit now (Err (loose row mismatch)) h = absurd h
-judged_leaves circuit now (Err (uncertain place bound)) h = absurd h
+ending_leaves : (s : StandingView) (now : CircuitView) (rounds : List Round) (ending : Ending) (n : Machine) (step : Step StandingView) → IsStepBy s rounds ending n step → Leaves step now → s.circuit ≡ now
+ending_leaves s now rounds (ended Open) n step is h = absurd is
+ending_leaves s now rounds (ended Settled) n step is h = left_by now step _ is h
+ending_leaves s now rounds (ended Limited) n step is h = absurd (left_by now step _ is h)
+ending_leaves s now rounds (ended (Undecidable k u)) n step is h = absurd (left_by now step _ is h)
+ending_leaves s now rounds (stopped (range blame)) n step is h = absurd (left_by now step _ is h)
+ending_leaves s now rounds (stopped (procedure (solving.NoInverse column c))) n step is h = absurd (left_by now step _ is h)
+ending_leaves s now rounds (stopped (procedure (solving.OutOfRange place k))) n step is h = absurd (left_by now step _ is h)
+ending_leaves s now rounds (stopped (procedure (solving.NotConverged place steps update))) n step is h = absurd (left_by now step _ is h)
+ending_leaves s now rounds (stopped (procedure solving.NoMemory)) n step is h = absurd is
+ending_leaves s now rounds (stopped (uncertified (loose row mismatch))) n step is h = absurd (left_by now step _ is h)
+ending_leaves s now rounds (stopped (uncertified (uncertain place bound))) n step is h = absurd (left_by now step _ is h)
 
-fault_leaves : (circuit now : CircuitView) (f : SolveFault) (step : Step CircuitView) → IsUnsolved circuit f step → Leaves step now → circuit ≡ now
-fault_leaves circuit now (procedure.NoInverse column c) step is h = absurd (left_by now step _ is h)
-fault_leaves circuit now (procedure.OutOfRange place k) step is h = absurd (left_by now step _ is h)
-fault_leaves circuit now (procedure.NotConverged place steps update) step is h = absurd (left_by now step _ is h)
-fault_leaves circuit now procedure.NoMemory step is h = absurd is
+range_leaves : (s : StandingView) (now : CircuitView) (blame : Option Blame) (step : Step StandingView) → IsByRange s blame step → Leaves step now → s.circuit ≡ now
+range_leaves s now None step is h = ending_leaves s now (rounds_of is.rounds) is.ending is.machine step is.step_is h
+range_leaves s now (Some blame) step is h = absurd (left_by now step _ is h)
 
-point_leaves : (circuit now : CircuitView) (v : NetworkView) (r : Result (List ℤ × List (List ℤ)) SolveFault) (step : Step CircuitView) → IsByPoint circuit v r step → Leaves step now → circuit ≡ now
-point_leaves circuit now v (Ok p) step is h = judged_leaves circuit now (certificate_of v p.0 p.1) (left_by now step _ is h)
-point_leaves circuit now v (Err f) step is h = fault_leaves circuit now f step is h
+built_leaves : (s : StandingView) (now : CircuitView) (place : Option Place) (step : Step StandingView) → IsByBuilt s place step → Leaves step now → s.circuit ≡ now
+built_leaves s now None step is h = range_leaves s now ((snapshot_plant s.circuit).blame (start_of s)) step is h
+built_leaves s now (Some place) step is h = absurd (left_by now step _ is h)
 
-range_leaves : (circuit now : CircuitView) (blame : Option Blame) (step : Step CircuitView) → IsByRange circuit blame step → Leaves step now → circuit ≡ now
-range_leaves circuit now None step is h = point_leaves circuit now (snapshot_network circuit) (solution_of (snapshot_network circuit) (limits_of circuit.options)) step is h
-range_leaves circuit now (Some blame) step is h = absurd (left_by now step _ is h)
-
-built_leaves : (circuit now : CircuitView) (place : Option Place) (step : Step CircuitView) → IsByBuilt circuit place step → Leaves step now → circuit ≡ now
-built_leaves circuit now None step is h = range_leaves circuit now (snapshot_blame circuit) step is h
-built_leaves circuit now (Some place) step is h = absurd (left_by now step _ is h)
-
-solution_leaves : (circuit now : CircuitView) (step : Step CircuitView) → IsSolutionStep circuit step → Leaves step now → circuit ≡ now
+solution_leaves : (s : StandingView) (now : CircuitView) (step : Step StandingView) → IsSolutionStep s step → Leaves step now → s.circuit ≡ now
 unfolding IsSolutionStep
-solution_leaves circuit now step is h = built_leaves circuit now (unbuilt_place circuit.elements) step is h
+solution_leaves s now step is h = built_leaves s now (unbuilt_place s.circuit.elements) step is h
 
-tests_leave : (circuit now : CircuitView) (r : Result Unit Blame) (step : Step CircuitView) → IsByTests circuit r step → Leaves step now → circuit ≡ now
-tests_leave circuit now (Ok done) step is h = solution_leaves circuit now step is h
-tests_leave circuit now (Err blame) step is h = absurd (left_by now step _ is h)
+tests_leave : (s : StandingView) (now : CircuitView) (r : Result Unit Blame) (step : Step StandingView) → IsByTests s r step → Leaves step now → s.circuit ≡ now
+tests_leave s now (Ok done) step is h = solution_leaves s now step is h
+tests_leave s now (Err blame) step is h = absurd (left_by now step _ is h)
 
-step_reaches : (left : Applied) (step : Step CircuitView) (now : CircuitView) → IsStepOf left step → Leaves step now → Reaches left now
-step_reaches (nothing_left circuit) step now is leaves = inl (ap nothing_left (left_by now step (changes circuit) is leaves))
-step_reaches (refused_at place c) step now is leaves = absurd (left_by now step (refuses place c) is leaves)
-step_reaches (solve_left circuit) step now is leaves = inr (ap solve_left (tests_leave circuit now is.answer step is.step_is leaves))
+step_reaches : (at : Positions) (left : Applied) (step : Step StandingView) (now : CircuitView) → IsStepOf at left step → Leaves step now → Reaches left now
+step_reaches at (nothing_left circuit) step now is leaves = inl (ap nothing_left (left_by now step (changes (standing circuit at)) is leaves))
+step_reaches at (refused_at place c) step now is leaves = absurd (left_by now step (refuses place c) is leaves)
+step_reaches at (solve_left circuit) step now is leaves = inr (ap solve_left (tests_leave (standing circuit at) now is.answer step is.step_is leaves))
 
-pub command_takes : (command : Command) (circuit now : CircuitView) (events : List Event) → IsStep command circuit (goes events now) → weight now ≤ weight circuit + cost command.verb
-command_takes command circuit now events is = cases (reads_shape command.verb) (step_reaches (tried command circuit) (goes events now) now is refl)
+pub command_takes : (command : Command) (s now : StandingView) (events : List Event) → IsStep command s (goes events now) → weight now.circuit ≤ weight s.circuit + cost command.verb
+command_takes command s now events is = cases (reads_shape command.verb) (step_reaches s.at (tried command s.circuit) (goes events now) now.circuit is refl)
   where
-    cases : (b : Bool) → Reaches (if b then refused_at command.place cause.NotBuilt else left_of command.place command.verb (applied command circuit)) now → weight now ≤ weight circuit + cost command.verb
-    cases true h = absurd (refused_reaches command.place cause.NotBuilt now h)
-    cases false h = verb_takes command.place command.verb circuit now (left_reaches command.place command.verb (applied command circuit) now h)
+    cases : (b : Bool) → Reaches (if b then refused_at command.place cause.NotBuilt else left_of command.place command.verb (applied command s.circuit)) now.circuit → weight now.circuit ≤ weight s.circuit + cost command.verb
+    cases true h = absurd (refused_reaches command.place cause.NotBuilt now.circuit h)
+    cases false h = verb_takes command.place command.verb s.circuit now.circuit (left_reaches command.place command.verb (applied command s.circuit) now.circuit h)

@@ -6,9 +6,8 @@ use Rattle.dss_profile.specs.declared.element.Element.TheVariants as the
 use Rattle.dss_profile.specs.Element.{place_of}
 use Rattle.dss_layout.specs.Layout.{Elements}
 
--- every element but the controls of taps and of banks
+-- every element but the controls of banks
 abbrev pub is_built : Element → Bool
-is_built (the.RegControl r) = false
 is_built (the.CapControl c) = false
 is_built other = true
 

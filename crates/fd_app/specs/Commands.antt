@@ -14,11 +14,12 @@ use Rattle.dss_profile.specs.declared.command.Verb.{Verb}
 use Rattle.dss_profile.specs.declared.command.Verb.TheVariants as verb
 use Rattle.dss_ready.specs.Ready.{HasPassed, IsToBlame}
 use Rattle.dss_circuit.specs.Circuit.{CircuitView, applied}
+use Rattle.fd_queue.specs.Controls.{Positions}
 use Rattle.fd_report.specs.declared.faults.Cause.{Cause}
 use Rattle.fd_report.specs.declared.faults.Cause.TheVariants as cause
 use Rattle.fd_outcome.specs.Work.{Step}
 use Rattle.fd_app.specs.Solving.{IsSolutionStep}
-use Rattle.fd_app.specs.Steps.{changes, refuses}
+use Rattle.fd_app.specs.Steps.{StandingView, changes, refuses}
 
 -- ---- what is refused before it is applied: a load shape that is to be read from a file
 
@@ -67,20 +68,21 @@ IsTested circuit (Ok done) = HasPassed circuit
 IsTested circuit (Err blame) = IsToBlame circuit blame
 
 -- what the tests answer, and what a circuit that passes them comes to
-abbrev pub IsByTests : CircuitView → Result Unit Blame → Step CircuitView → Type 0
-IsByTests circuit (Err blame) step = step ≡ refuses blame.place (cause.Model blame.cause)
-IsByTests circuit (Ok done) step = IsSolutionStep circuit step
+abbrev pub IsByTests : StandingView → Result Unit Blame → Step StandingView → Type 0
+IsByTests s (Err blame) step = step ≡ refuses blame.place (cause.Model blame.cause)
+IsByTests s (Ok done) step = IsSolutionStep s step
 
-pub record IsSolve (circuit : CircuitView) (step : Step CircuitView) : Type 0 where
+pub record IsSolve (s : StandingView) (step : Step StandingView) : Type 0 where
   pub answer : Result Unit Blame
-  pub right : IsTested circuit answer
-  pub step_is : IsByTests circuit answer step
+  pub right : IsTested s.circuit answer
+  pub step_is : IsByTests s answer step
 
-abbrev pub IsStepOf : Applied → Step CircuitView → Type 0
-IsStepOf (nothing_left circuit) step = step ≡ changes circuit
-IsStepOf (refused_at place c) step = step ≡ refuses place c
-IsStepOf (solve_left circuit) step = IsSolve circuit step
+-- where the last Solve left these positions
+abbrev pub IsStepOf : Positions → Applied → Step StandingView → Type 0
+IsStepOf at (nothing_left circuit) step = step ≡ changes (record { circuit = circuit; at = at })
+IsStepOf at (refused_at place c) step = step ≡ refuses place c
+IsStepOf at (solve_left circuit) step = IsSolve (record { circuit = circuit; at = at }) step
 
--- what a command comes to, for a circuit
-abbrev pub IsStep : Command → CircuitView → Step CircuitView → Type 0
-IsStep command circuit step = IsStepOf (tried command circuit) step
+-- what a command comes to
+abbrev pub IsStep : Command → StandingView → Step StandingView → Type 0
+IsStep command s step = IsStepOf s.at (tried command s.circuit) step

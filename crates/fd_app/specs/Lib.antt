@@ -7,3 +7,5 @@ pub mod Headline
 pub mod Answered
 pub mod Run
 pub mod Weights
+pub mod Endings
+pub mod Places

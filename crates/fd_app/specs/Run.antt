@@ -3,7 +3,7 @@ use Rattle.std.specs.Prelude.{◌≡◌, ℕ, List, [], Option, Some, None}
 use Rattle.std.specs.Str.{chars}
 use Rattle.fd_outside.specs.Files.{Files, held}
 use Rattle.dss_values.specs.Names.{bytes}
-use Rattle.dss_circuit.specs.Circuit.{CircuitView, empty_circuit}
+use Rattle.dss_circuit.specs.Circuit.{empty_circuit}
 use Rattle.dss_script.specs.Said.{Part, said_of, ended_by}
 use Rattle.fd_report.specs.declared.faults.Fault.TheVariants as fault
 use Rattle.fd_outcome.specs.Calls.{Style, report}
@@ -11,6 +11,7 @@ use Rattle.fd_outcome.specs.Events.{History, ended, finishes}
 use Rattle.fd_outcome.specs.History.{IsHistory}
 use Rattle.fd_outcome.specs.Work.{ExactlyOne}
 use Rattle.fd_app.specs.Commands.{IsStep}
+use Rattle.fd_app.specs.Steps.{StandingView, no_positions}
 use Rattle.fd_app.specs.Words.{Form, Solve}
 
 -- what must be told of the files: nothing where none is asked for
@@ -23,15 +24,18 @@ style_of None = report
 style_of (Some (Solve file)) = report
 
 -- `solve` asks for no name behind the last command, and does nothing there
-abbrev pub no_name : CircuitView → Option (List ℕ)
-no_name circuit = None
+abbrev pub no_name : StandingView → Option (List ℕ)
+no_name s = None
 
-abbrev pub IsDoneThere : CircuitView → Option (List ℕ) → History → Type 0
-IsDoneThere circuit found h = h ≡ finishes []
+abbrev pub IsDoneThere : StandingView → Option (List ℕ) → History → Type 0
+IsDoneThere s found h = h ≡ finishes []
+
+abbrev pub first_standing : StandingView
+first_standing = record { circuit = empty_circuit; at = no_positions }
 
 -- the history of the commands of a script, which begins with no circuit
 abbrev pub IsScriptHistory : Files → Part → History → Type 0
-IsScriptHistory files p h = IsHistory IsStep no_name IsDoneThere (λ n. held files (bytes n)) p.said (ended_by p.left) empty_circuit h
+IsScriptHistory files p h = IsHistory IsStep no_name IsDoneThere (λ n. held files (bytes n)) p.said (ended_by p.left) first_standing h
 
 -- the history of a command line; words that are no form are a fault
 abbrev pub IsFormHistory : Files → Option Form → History → Type 0

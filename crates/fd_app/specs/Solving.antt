@@ -1,72 +1,116 @@
 -- What a Solve of a circuit that passed the tests comes to.
-use Rattle.std.specs.Prelude.{◌≡◌, ℤ, nat_abs, List, Option, Some, None, Result, Ok, Err, option_map}
+use Rattle.std.specs.Prelude.{◌≡◌, ℕ, [], nat_abs, List, map, replicate, slice_get, Option, Some, None, option_map}
+use Rattle.fd_exact.specs.Sums.{list_n}
+use Rattle.dss_values.specs.declared.words.ControlQuantity.{ControlQuantity}
+use Rattle.dss_values.specs.declared.words.ControlQuantity.TheVariants as quantity
 use Rattle.dss_profile.specs.declared.command.Blame.{Blame}
 use Rattle.dss_profile.specs.declared.command.Place.{Place}
-use Rattle.dss_profile.specs.declared.options.Options.{Options}
+use Rattle.dss_profile.specs.declared.element.Element.{Element}
+use Rattle.dss_profile.specs.declared.element.Element.TheVariants as the
+use Rattle.dss_profile.specs.declared.names.Class.TheVariants as class
+use Rattle.dss_profile.specs.declared.names.ElementName.{ElementName}
 use Rattle.dss_layout.specs.Layout.{layout_of}
 use Rattle.dss_circuit.specs.Circuit.{CircuitView}
-use Rattle.fd_equations.specs.Views.{NetworkView}
-use Rattle.fd_devices.specs.Scripted.{circuit_network, devices_of}
+use Rattle.fd_elements.specs.declared.powers.LoadPower.{LoadPower}
+use Rattle.fd_devices.specs.Settings.{bank_count}
 use Rattle.fd_devices.specs.Snapshot.{snapshot_of}
-use Rattle.fd_network.specs.Faults.{range_blame}
-use Rattle.fd_enclosure.specs.Sound.{Claim, Refusal, certificate_of, loose, uncertain}
-use Rattle.fd_inject.specs.Procedure.{solution_of}
-use Rattle.fd_inject.specs.declared.fault.SolveFault.{SolveFault}
+use Rattle.fd_enclosure.specs.Sound.{Claim, loose, uncertain}
 use Rattle.fd_inject.specs.declared.fault.SolveFault.TheVariants as procedure
-use Rattle.fd_inject.specs.declared.limits.Limits.{Limits}
+use Rattle.fd_queue.specs.Controls.{Positions}
+use Rattle.fd_queue.specs.Machine.{Machine, Act}
+use Rattle.fd_sample.specs.Decided.{Undecided}
+use Rattle.fd_settle.specs.Computed.{Ending, ended, stopped, IsComputedFrom, range, uncertified}
+use Rattle.fd_settle.specs.Computed as computed
+use Rattle.fd_settle.specs.Contract.{limits_of}
+use Rattle.fd_settle.specs.Plant.{Plant, plant_of, started}
+use Rattle.fd_settle.specs.Settle.{Open, Settled, Limited, Undecidable}
 use Rattle.fd_report.specs.Names.{name_at}
 use Rattle.fd_report.specs.declared.faults.Cause.TheVariants as cause
+use Rattle.fd_report.specs.declared.faults.Fault.{Fault}
 use Rattle.fd_report.specs.declared.faults.Fault.TheVariants as fault
+use Rattle.fd_report.specs.declared.faults.Scale.{Scale}
+use Rattle.fd_report.specs.declared.faults.Scale.TheVariants as scale
+use Rattle.fd_outcome.specs.Pages.{controls_of}
+use Rattle.fd_outcome.specs.Settles.{Round}
 use Rattle.fd_outcome.specs.Work.{Step}
 use Rattle.fd_app.specs.Built.{unbuilt_place}
-use Rattle.fd_app.specs.Steps.{fails, refuses, round_of, solves}
+use Rattle.fd_app.specs.Steps.{StandingView, fails, refuses, round_of, settles, start_of}
 
--- ---- the network, and the procedure's limits
+-- ---- the machine
 
--- the network of a circuit with the taps, states and powers of its script
-unfoldable pub snapshot_network : CircuitView → NetworkView
-snapshot_network c = circuit_network c (snapshot_of c.elements)
+-- the powers of the loads' phases in a snapshot
+abbrev pub snapshot_powers : CircuitView → List LoadPower
+snapshot_powers c = (snapshot_of c.elements).powers
 
--- the element to blame where a coefficient of that network is out of range
-unfoldable pub snapshot_blame : CircuitView → Option Blame
-snapshot_blame c = range_blame c.elements (devices_of c (snapshot_of c.elements))
+abbrev pub snapshot_plant : CircuitView → Plant
+snapshot_plant c = plant_of c (snapshot_powers c)
 
--- how many steps the options allow, and how far an unknown may still move
-abbrev pub limits_of : Options → Limits
-limits_of o = record { max_iterations = o.maxiterations; tolerance = o.tolerance }
+-- a Solve starts at time 0, and no bank was opened yet
+abbrev pub first_machine : CircuitView → Positions → Machine
+first_machine c at = started c at 0 (replicate (list_n (λ e. bank_count e.1) c.elements) None)
+
+-- ---- faults
+
+-- the ends of a sample are in whole microvolts or microamperes, and those of a reactive power in 10^-9 kvar
+abbrev pub scale_by : ControlQuantity → Scale
+scale_by quantity.Voltage = scale.Micro
+scale_by quantity.Current = scale.Micro
+scale_by quantity.Kvar = scale.Nano
+
+abbrev pub scale_of : Element → Scale
+scale_of (the.CapControl control) = scale_by control.kind
+scale_of other = scale.Micro
+
+-- (a control that is sampled is there)
+abbrev pub nameless : ElementName
+nameless = record { class = class.RegControl; name = [] }
+
+abbrev pub undecided_by : Option (ElementName × Element) → Undecided → Fault
+undecided_by None u = fault.Undecided nameless u.low u.high u.edge scale.Micro
+undecided_by (Some e) u = fault.Undecided e.0 u.low u.high u.edge (scale_of e.1)
+
+-- the fault of an undecided sample of the control of this number
+abbrev pub undecided_at : CircuitView → ℕ → Undecided → Fault
+undecided_at c k u = undecided_by (slice_get (controls_of c.elements) k) u
 
 -- ---- the step
 
--- a point is a solution where it has a certificate
-abbrev pub judged : CircuitView → Result Claim Refusal → Step CircuitView
-judged c (Ok m) = solves c (round_of m)
-judged c (Err (loose row mismatch)) = fails c (fault.Loose (name_at (layout_of c.elements) row) mismatch)
-judged c (Err (uncertain place bound)) = fails c (fault.NotCertified (name_at (layout_of c.elements) place) (option_map nat_abs bound))
+-- the step that comes of these rounds and this ending; the procedure's definition gives no want of memory, so none comes of that
+abbrev pub IsStepBy : StandingView → List Round → Ending → Machine → Step StandingView → Type 0
+IsStepBy s rounds (ended Open) n step = ⊥
+IsStepBy s rounds (ended Settled) n step = step ≡ settles s rounds n.at
+IsStepBy s rounds (ended Limited) n step = step ≡ fails s rounds (fault.ControlLimit n.made) n.at
+IsStepBy s rounds (ended (Undecidable k u)) n step = step ≡ fails s rounds (undecided_at s.circuit k u) n.at
+IsStepBy s rounds (stopped (range blame)) n step = step ≡ fails s rounds (fault.Script blame.place (cause.Model blame.cause)) n.at
+IsStepBy s rounds (stopped (computed.procedure (procedure.NoInverse column stop))) n step = step ≡ fails s rounds (fault.NoInverse (name_at (layout_of s.circuit.elements) column) stop) n.at
+IsStepBy s rounds (stopped (computed.procedure (procedure.OutOfRange place k))) n step = step ≡ fails s rounds (fault.OutOfRange (name_at (layout_of s.circuit.elements) place) k) n.at
+IsStepBy s rounds (stopped (computed.procedure (procedure.NotConverged place steps update))) n step = step ≡ fails s rounds (fault.NotConverged (name_at (layout_of s.circuit.elements) place) steps update) n.at
+IsStepBy s rounds (stopped (computed.procedure procedure.NoMemory)) n step = ⊥
+IsStepBy s rounds (stopped (uncertified (loose row mismatch))) n step = step ≡ fails s rounds (fault.Loose (name_at (layout_of s.circuit.elements) row) mismatch) n.at
+IsStepBy s rounds (stopped (uncertified (uncertain place bound))) n step = step ≡ fails s rounds (fault.NotCertified (name_at (layout_of s.circuit.elements) place) (option_map nat_abs bound)) n.at
 
--- the procedure's fault; its definition gives no want of memory, so no step comes of that
-abbrev pub IsUnsolved : CircuitView → SolveFault → Step CircuitView → Type 0
-IsUnsolved c (procedure.NoInverse column stop) step = step ≡ fails c (fault.NoInverse (name_at (layout_of c.elements) column) stop)
-IsUnsolved c (procedure.OutOfRange place k) step = step ≡ fails c (fault.OutOfRange (name_at (layout_of c.elements) place) k)
-IsUnsolved c (procedure.NotConverged place steps update) step = step ≡ fails c (fault.NotConverged (name_at (layout_of c.elements) place) steps update)
-IsUnsolved c procedure.NoMemory step = ⊥
+abbrev pub rounds_of : List (Claim × List Act) → List Round
+rounds_of rounds = map (λ r. round_of r.0 r.1) rounds
 
--- the point that the procedure reaches is judged by its certificate in the network
-abbrev pub IsByPoint : CircuitView → NetworkView → Result (List ℤ × List (List ℤ)) SolveFault → Step CircuitView → Type 0
-IsByPoint c v (Ok point) step = step ≡ judged c (certificate_of v point.0 point.1)
-IsByPoint c v (Err f) step = IsUnsolved c f step
+-- The settle from the positions with which the Solve starts: its rounds are computed one after the other, each by the procedure and its
+-- certificate in the network at the positions that the acts before left, and its acts are those of the queue machine over the samples of
+-- its ball.
+pub record IsSettleStep (s : StandingView) (step : Step StandingView) : Type 0 where
+  pub rounds : List (Claim × List Act)
+  pub ending : Ending
+  pub machine : Machine
+  pub computed : IsComputedFrom (limits_of s.circuit.options) (snapshot_plant s.circuit) (first_machine s.circuit (start_of s)) rounds ending machine
+  pub step_is : IsStepBy s (rounds_of rounds) ending machine step
 
-abbrev pub IsByNetwork : CircuitView → NetworkView → Step CircuitView → Type 0
-IsByNetwork c v step = IsByPoint c v (solution_of v (limits_of c.options)) step
+abbrev pub IsByRange : StandingView → Option Blame → Step StandingView → Type 0
+IsByRange s None step = IsSettleStep s step
+IsByRange s (Some blame) step = step ≡ refuses blame.place (cause.Model blame.cause)
 
-abbrev pub IsByRange : CircuitView → Option Blame → Step CircuitView → Type 0
-IsByRange c None step = IsByNetwork c (snapshot_network c) step
-IsByRange c (Some blame) step = step ≡ refuses blame.place (cause.Model blame.cause)
+abbrev pub IsByBuilt : StandingView → Option Place → Step StandingView → Type 0
+IsByBuilt s None step = IsByRange s ((snapshot_plant s.circuit).blame (start_of s)) step
+IsByBuilt s (Some place) step = step ≡ refuses place cause.NotBuilt
 
-abbrev pub IsByBuilt : CircuitView → Option Place → Step CircuitView → Type 0
-IsByBuilt c None step = IsByRange c (snapshot_blame c) step
-IsByBuilt c (Some place) step = step ≡ refuses place cause.NotBuilt
-
--- the first element that isn't solved yet refuses the script, then the one to blame for the range; else the procedure ends with a
--- fault, or with a point, which is the solution where it has a certificate
-unfoldable pub IsSolutionStep : CircuitView → Step CircuitView → Type 0
-IsSolutionStep c step = IsByBuilt c (unbuilt_place c.elements) step
+-- the first element that isn't solved yet refuses the script, then the one to blame for the range of the network with which the Solve
+-- starts; else a settle comes of it
+unfoldable pub IsSolutionStep : StandingView → Step StandingView → Type 0
+IsSolutionStep s step = IsByBuilt s (unbuilt_place s.circuit.elements) step

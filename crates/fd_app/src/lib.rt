@@ -2,13 +2,16 @@
 //!
 //! Words have exactly one history over the files that a library holds (`forms_law`). `run` promises that it does its calls in order, all
 //! of them or a front where memory runs out or a write fails; that each printed state meets the equations of its circuit within the
-//! printed mismatches, and that every state in its trust box that does so is within the printed radii; and whatever a library tells, how
-//! it ends. Its status is that of the history's end, but for these (`due_law`).
+//! printed mismatches, that every state in its trust box that does so is within the printed radii, and that each act of a control is the
+//! one that the queue machine makes of any such states; and whatever a library tells, how it ends. Its status is that of the history's end, but for these (`due_law`).
 //!
 //! - `words`: the forms of the command line
 //! - `answer`: what a command comes to
+//! - `controls`: the controls of a circuit
 //! - `solving`: what a Solve comes to
+//! - `standing`: what stands between two commands
 //! - `step`: what one command comes to
+//! - `records`: the records of a settle
 //! - `print`: records handed to the sink
 //! - `line`: what the loop asks of a command line
 //! - `solve`: the command line `solve`
@@ -17,11 +20,14 @@
 #![tactic(auto)]
 
 mod answer;
+mod controls;
 mod line;
 mod print;
+mod records;
 mod script;
 mod solve;
 mod solving;
+mod standing;
 mod step;
 mod top;
 mod words;

@@ -8,25 +8,27 @@ ghost use Rattle.fd_app.specs.Weights.{weight};
 
 use crate::answer::Answer;
 use crate::line::Line;
-use crate::print::{WANT_OF_MEMORY, print_fault, print_solution};
+use crate::print::{WANT_OF_MEMORY, print_failed, print_fault, print_settle};
+use crate::standing::Standing;
 use crate::step::answer_to;
-use dss_circuit::{Circuit, Command};
+use dss_circuit::Command;
 use fd_outside::{Library, Sink};
 use std::alloc::Global;
 
-/// The state between the commands of `solve` is the circuit; it asks for no further name, and does nothing behind the last command.
-impl Line for Circuit {
-    ghost is_step = { λ command circuit step. IsStep command circuit step };
+/// The state between the commands of `solve` is the circuit with the positions that its last Solve left; it asks for no further name, and
+/// does nothing behind the last command.
+impl Line for Standing {
+    ghost is_step = { λ command s step. IsStep command s step };
 
-    ghost last_name = { λ circuit. None };
+    ghost last_name = { λ s. None };
 
-    ghost is_last = { λ circuit found h. h ≡ finishes [] };
+    ghost is_last = { λ s found h. h ≡ finishes [] };
 
     ghost good = { λ s. IsSolved s };
 
     ghost style = { report };
 
-    ghost weight = { λ circuit. weight circuit };
+    ghost weight = { λ s. weight s.circuit };
 
     fn law() {}
 
@@ -37,14 +39,18 @@ impl Line for Circuit {
         begun: &mut bool,
         out: &mut S,
     ) -> Option<u8> {
-        match answer_to(alloc, self, &command) {
+        match answer_to(alloc, &mut self.circuit, &self.at, &command) {
             Ok(Answer::Done) => None,
-            Ok(Answer::Solves(solved)) => {
+            Ok(Answer::Settles(settle)) => {
                 *begun = true;
-                print_solution(alloc, self, &solved, out)
+                let printed = print_settle(alloc, &self.circuit, &settle, out);
+                self.at = settle.at;
+                printed
             }
             Ok(Answer::Refuses(fault)) => Some(print_fault(alloc, &fault, out)),
-            Ok(Answer::Fails(fault)) => Some(print_fault(alloc, &fault, out)),
+            Ok(Answer::Fails(settle, fault)) => {
+                Some(print_failed(alloc, &self.circuit, &settle, &fault, out))
+            }
             Err(_) => Some(WANT_OF_MEMORY),
         }
     }

@@ -1,41 +1,36 @@
 // What a Solve of a circuit that passed the tests comes to.
-ghost use Rattle.std.specs.Prelude.{◌≡◌, ℤ, nat_abs, List, None, Result, Err, IfErr, IfOk};
+ghost use Rattle.std.specs.Prelude.{◌≡◌, None, IfOk, length, replicate, All, nat_abs};
 ghost use Rattle.std.specs.Option.{option_map};
-ghost use Rattle.dss_profile.specs.InRange.{OptionsInRange};
 ghost use Rattle.dss_layout.specs.Layout.{layout_of, size_of};
-ghost use Rattle.dss_circuit.specs.Circuit.{CircuitView};
 ghost use Rattle.dss_ready.specs.Ready.{HasPassed};
-ghost use Rattle.fd_equations.specs.Conditions.{IsPoint};
-ghost use Rattle.fd_equations.specs.Views.{NetworkView};
-ghost use Rattle.fd_devices.specs.Devices.{AgreesWith};
-ghost use Rattle.fd_devices.specs.Scripted.{circuit_parts};
-ghost use Rattle.fd_devices.specs.Snapshot.{snapshot_of};
-ghost use Rattle.fd_network.specs.Faults.{IsFaultOf};
-ghost use Rattle.fd_enclosure.specs.Sound.{IsInverse, certificate_of};
-ghost use Rattle.fd_cert.specs.Claims.{IsInside as IsPlaced, Refuses, claim_in};
-ghost use Rattle.fd_inject.specs.Faults.{IsInside, UnlessMemory};
-ghost use Rattle.fd_inject.specs.Procedure.{IsLimits, solution_of};
-ghost use Rattle.fd_inject.specs.declared.fault.SolveFault.{SolveFault};
-ghost use Rattle.fd_report.specs.Solutions.{IsOfSize};
-ghost use Rattle.fd_outcome.specs.Pages.{solution_in};
-ghost use Rattle.fd_app.specs.Answered.{IsSound, answered};
+ghost use Rattle.fd_devices.specs.Building.{IsModest};
+ghost use Rattle.fd_xfmr.specs.Leakage.{AreTaps};
+ghost use Rattle.fd_inject.specs.Faults.{IsInside};
+ghost use Rattle.fd_cert.specs.Claims.{IsInside as IsInsideCert};
+ghost use Rattle.fd_queue.specs.Controls.{Positions as PositionsView};
+ghost use Rattle.fd_queue.specs.Machine.{Machine};
+ghost use Rattle.fd_sample.specs.Probes.{positions_in};
+ghost use Rattle.fd_settle.specs.Compute.{IsPlaced};
+ghost use Rattle.fd_settle.specs.Plant.{blame_at};
+ghost use Rattle.fd_settle.specs.Start.{ArePositions, IsNetworkAt};
+ghost use Rattle.fd_settle.specs.declared.compute.ComputeFault.TheVariants as compute;
+ghost use Rattle.fd_app.specs.Answered.{IsOfCommand, IsSound, answered};
 ghost use Rattle.fd_app.specs.Built.{is_built, unbuilt_place};
-ghost use Rattle.fd_app.specs.Headline.{IsReached, IsSolution};
-ghost use Rattle.fd_app.specs.Steps.{round_of, solves};
-ghost use Rattle.fd_app.specs.Solving.{IsByNetwork, IsByPoint, IsByRange, IsSolutionStep, judged, limits_of, snapshot_blame, snapshot_network};
+ghost use Rattle.fd_app.specs.Endings.{IsCounted, IsEnding, IsFaultAt, IsWithin, ending_by_solver, ending_of};
+ghost use Rattle.fd_app.specs.Solving.{IsByRange, IsSettleStep, IsSolutionStep, snapshot_powers};
+ghost use Rattle.fd_app.specs.Steps.{StandingView, standing, start_of};
 
-use crate::answer::{Answer, SolvedState, refused};
+use crate::answer::{Answer, SettledCircuit, refused};
+use crate::controls::undecided;
 use dss_circuit::{Circuit, Element, Place};
 use dss_layout::Layout;
-use dss_profile::Options;
-use fd_cert::{CertFault, Certified, certify};
-use fd_devices::{BuildFault, Positions, powers_at, snapshot_law};
-use fd_enclosure::{ball_law, certificate_law, enclosure_law, tie_law};
-use fd_equations::Point;
-use fd_inject::{Limits, SolveFault, solve};
+use fd_cert::CertFault;
+use fd_devices::{BuildFault, Positions, Powers, next_law, powers_at};
+use fd_enclosure::{ball_law, enclosure_law, tie_law};
+use fd_inject::SolveFault;
 use fd_network::Network;
 use fd_report::{Cause, Fault, name_at};
-use fd_settle::Round;
+use fd_settle::{Clock, Compute, ComputeFault, SettleFault, settle};
 use std::alloc::{AllocError, Global};
 
 // Whether an element is solved.
@@ -43,13 +38,14 @@ fn is_built(element: &Element) -> bool
     ensures { result ≡ is_built element.now }
 {
     match element {
-        Element::RegControl(_) | Element::CapControl(_) => false,
+        Element::CapControl(_) => false,
         Element::Vsource(_)
         | Element::Linecode(_)
         | Element::Line(_)
         | Element::Transformer(_)
         | Element::Capacitor(_)
         | Element::Load(_)
+        | Element::RegControl(_)
         | Element::Loadshape(_) => true,
     }
 }
@@ -66,52 +62,14 @@ fn first_unbuilt(circuit: &Circuit) -> Option<&Place>
     None
 }
 
-// How long and how far the options let the procedure iterate.
-fn limits_of(options: &Options) -> Limits
-    requires { OptionsInRange options.now }
-    ensures limits { result ≡ limits_of options.now }
-    ensures in_range { IsLimits result }
+// At time 0, with an opening time for each bank, of which none is there yet.
+fn first_clock(alloc: Global, at: &Positions) -> Result<Clock, AllocError>
+    ensures now { IfOk result (λ clock. clock.now ≡ 0) }
+    ensures opened { IfOk result (λ clock. clock.opened.items ≡ replicate (length at.now.closed) None) }
 {
-    Limits {
-        max_iterations: options.maxiterations,
-        tolerance: options.tolerance,
-    }
-}
-
-// The network of a circuit with the taps, states and powers of its script.
-fn network_of(alloc: Global, circuit: &Circuit) -> Result<Network, BuildFault>
-    requires ready { HasPassed circuit.now }
-    ensures network { IfOk result (λ net. net.rows ≡ snapshot_network circuit.now) }
-    ensures layout { IfOk result (λ net. net.layout ≡ layout_of circuit.now.elements) }
-    ensures agrees { IfOk result (λ net. AgreesWith net.rows.share (circuit_parts circuit.now (snapshot_of circuit.now.elements))) }
-    ensures no_blame { IfOk result (λ net. snapshot_blame circuit.now ≡ None) }
-    ensures fault { IfErr result (λ fault. IsFaultOf (snapshot_blame circuit.now) fault) }
-{
-    let positions = Positions::of(alloc, circuit)?;
-    let powers = powers_at(alloc, circuit, 0)?;
-    snapshot_law();
-    let _in_range = circuit.elements();
-    Network::build(alloc, circuit, &positions, &powers)
-}
-
-// Why a point has no certificate, as what the circuit comes to.
-fn uncertified(alloc: Global, layout: &Layout, fault: CertFault) -> Result<Answer, AllocError>
-    requires { IsPlaced (size_of layout.now) fault }
-    ensures { (circuit : CircuitView) (v : NetworkView) (x : List ℤ) (c : List (List ℤ)) → layout.now ≡ layout_of circuit.elements → Refuses v x c fault →
-        IfOk result (λ answer. (answered answer circuit ≡ judged circuit (certificate_of v x c)) × IsSound answer circuit) }
-{
-    match fault {
-        CertFault::Loose { row, mismatch } => {
-            let row = name_at(alloc, layout, row)?;
-            Ok(Answer::Fails(Fault::Loose { row, mismatch }))
-        }
-        CertFault::NotCertified { place, sum, .. } => {
-            let unknown = name_at(alloc, layout, place)?;
-            let bound = size_of_bound(sum);
-            Ok(Answer::Fails(Fault::NotCertified { unknown, bound }))
-        }
-        CertFault::NoMemory => Err(AllocError),
-    }
+    let banks = at.closed.as_slice().len();
+    let opened = vec![in alloc; None; banks]?;
+    Ok(Clock { now: 0, opened })
 }
 
 // The size of a bound, where there is one.
@@ -124,55 +82,40 @@ fn size_of_bound(sum: Option<i128>) -> Option<u128>
     }
 }
 
-// What a point comes to.
-fn judge(alloc: Global, circuit: &Circuit, net: Network, point: Point) -> Result<Answer, AllocError>
-    requires layout { net.layout ≡ layout_of circuit.now.elements }
-    requires network { net.rows ≡ snapshot_network circuit.now }
-    requires agrees { AgreesWith net.rows.share (circuit_parts circuit.now (snapshot_of circuit.now.elements)) }
-    requires point { IsPoint net.rows point.x.items }
-    requires inverse { IsInverse net.rows.size point.inverse }
-    requires reached { IsReached circuit.now point.x.items point.inverse }
-    ensures { IfOk result (λ answer. (answered answer circuit.now ≡ judged circuit.now (certificate_of net.rows point.x.items point.inverse)) × IsSound answer circuit.now) }
+// The fault of a point that has no certificate.
+fn uncertified(alloc: Global, layout: &Layout, fault: CertFault) -> Result<Fault, AllocError>
+    requires { IsInsideCert (size_of layout.now) fault }
+    ensures fault { IfOk result (λ f. IsEnding (ending_by_solver (compute.Cert fault)) (λ ending. (s : StandingView) (n : Machine) → layout.now ≡ layout_of s.circuit.elements → IsFaultAt s n f ending)) }
+    ensures of_command { IfOk result (λ f. IsOfCommand f) }
 {
-    let _valid = net.rows().size();
-    certificate_law();
-    enclosure_law();
-    tie_law();
-    ball_law();
-    let made = certify(alloc, &net.rows(), point);
-    match made {
-        Ok(certified) => Ok(solved(alloc, net.into_layout(), certified)),
-        Err(fault) => uncertified(alloc, net.layout(), fault),
+    match fault {
+        CertFault::Loose { row, mismatch } => {
+            let row = name_at(alloc, layout, row)?;
+            Ok(Fault::Loose { row, mismatch })
+        }
+        CertFault::NotCertified { place, sum, .. } => {
+            let unknown = name_at(alloc, layout, place)?;
+            let bound = size_of_bound(sum);
+            Ok(Fault::NotCertified { unknown, bound })
+        }
+        CertFault::NoMemory => Err(AllocError),
     }
 }
 
-// A certified state, behind which no control acts.
-fn solved(alloc: Global, layout: Layout, certified: Certified) -> Answer
-    ensures answered { (circuit : CircuitView) → answered result circuit ≡ solves circuit (round_of (claim_in certified)) }
-    ensures sound { (circuit : CircuitView) → layout ≡ layout_of circuit.elements → IsOfSize (size_of (layout_of circuit.elements)) (solution_in (round_of (claim_in certified))) → IsSolution circuit (round_of (claim_in certified)) → IsSound result circuit }
-{
-    let acts = Vec::new(alloc);
-    Answer::Solves(SolvedState {
-        layout,
-        round: Round { certified, acts },
-    })
-}
-
-// What a fault of the procedure comes to.
-#[tactic(auto, using(crate::proofs::SnapshotNetworks::by_fault))]
-fn unsolved(alloc: Global, layout: &Layout, fault: SolveFault) -> Result<Answer, AllocError>
+// The fault of a procedure that gives no point.
+fn unsolved(alloc: Global, layout: &Layout, fault: SolveFault) -> Result<Fault, AllocError>
     requires { IsInside (size_of layout.now) fault }
-    ensures { (circuit : CircuitView) (v : NetworkView) (said : Result (List ℤ × List (List ℤ)) SolveFault) → layout.now ≡ layout_of circuit.elements → UnlessMemory fault (said ≡ Err fault) →
-        IfOk result (λ answer. IsByPoint circuit v said (answered answer circuit) × IsSound answer circuit) }
+    ensures fault { IfOk result (λ f. IsEnding (ending_by_solver (compute.Solve fault)) (λ ending. (s : StandingView) (n : Machine) → layout.now ≡ layout_of s.circuit.elements → IsFaultAt s n f ending)) }
+    ensures of_command { IfOk result (λ f. IsOfCommand f) }
 {
     match fault {
         SolveFault::NoInverse { column, cause } => {
             let unknown = name_at(alloc, layout, column)?;
-            Ok(Answer::Fails(Fault::NoInverse { unknown, cause }))
+            Ok(Fault::NoInverse { unknown, cause })
         }
         SolveFault::OutOfRange { place, step } => {
             let unknown = name_at(alloc, layout, place)?;
-            Ok(Answer::Fails(Fault::OutOfRange { unknown, step }))
+            Ok(Fault::OutOfRange { unknown, step })
         }
         SolveFault::NotConverged {
             place,
@@ -180,38 +123,116 @@ fn unsolved(alloc: Global, layout: &Layout, fault: SolveFault) -> Result<Answer,
             update,
         } => {
             let unknown = name_at(alloc, layout, place)?;
-            Ok(Answer::Fails(Fault::NotConverged {
+            Ok(Fault::NotConverged {
                 unknown,
                 steps,
                 update,
-            }))
+            })
         }
         SolveFault::NoMemory => Err(AllocError),
     }
 }
 
-// What a circuit with this network comes to.
-fn solve_network(alloc: Global, circuit: &Circuit, net: Network) -> Result<Answer, AllocError>
-    requires layout { net.layout ≡ layout_of circuit.now.elements }
-    requires network { net.rows ≡ snapshot_network circuit.now }
-    requires agrees { AgreesWith net.rows.share (circuit_parts circuit.now (snapshot_of circuit.now.elements)) }
-    ensures { IfOk result (λ answer. IsByNetwork circuit.now (snapshot_network circuit.now) (answered answer circuit.now) × IsSound answer circuit.now) }
+// The fault of a solve that gives no certified state.
+fn uncomputed(alloc: Global, layout: &Layout, fault: ComputeFault) -> Result<Fault, AllocError>
+    requires { IsPlaced (size_of layout.now) fault }
+    ensures fault { IfOk result (λ f. IsEnding (ending_by_solver fault) (λ ending. (s : StandingView) (n : Machine) → layout.now ≡ layout_of s.circuit.elements → IsFaultAt s n f ending)) }
+    ensures of_command { IfOk result (λ f. IsOfCommand f) }
 {
-    let limits = limits_of(circuit.options());
-    let solved = solve(alloc, &net.rows(), &limits);
-    match solved {
-        Ok(point) => judge(alloc, circuit, net, point),
-        Err(fault) => unsolved(alloc, net.layout(), fault),
+    match fault {
+        ComputeFault::Solve(fault) => unsolved(alloc, layout, fault),
+        ComputeFault::Cert(fault) => uncertified(alloc, layout, fault),
     }
 }
 
-// What a circuit whose elements are all solved comes to.
-fn solve_built(alloc: Global, circuit: &Circuit) -> Result<Answer, AllocError>
-    requires ready { HasPassed circuit.now }
-    ensures { IfOk result (λ answer. IsByRange circuit.now (snapshot_blame circuit.now) (answered answer circuit.now) × IsSound answer circuit.now) }
+// The fault in which a settle ends.
+fn fault_of(
+    alloc: Global,
+    circuit: &Circuit,
+    layout: &Layout,
+    fault: SettleFault<ComputeFault>,
+) -> Result<Fault, AllocError>
+    requires layout { layout.now ≡ layout_of circuit.now.elements }
+    requires within { IsWithin (size_of layout.now) fault }
+    ensures fault { IfOk result (λ f. (before : PositionsView) (n : Machine) → IsCounted fault n → IsEnding (ending_of fault) (IsFaultAt (standing circuit.now before) n f)) }
+    ensures of_command { IfOk result (λ f. IsOfCommand f) }
 {
-    match network_of(alloc, circuit) {
-        Ok(net) => solve_network(alloc, circuit, net),
+    match fault {
+        SettleFault::Range(blame) => Ok(Fault::Script {
+            place: blame.place,
+            cause: Cause::Model(blame.cause),
+        }),
+        SettleFault::Solver(fault) => uncomputed(alloc, layout, fault),
+        SettleFault::Undecided {
+            control,
+            low,
+            high,
+            edge,
+        } => undecided(alloc, circuit, control, low, high, edge),
+        SettleFault::ControlLimit { acts } => Ok(Fault::ControlLimit { acts }),
+        SettleFault::NoMemory => Err(AllocError),
+    }
+}
+
+// The settle of a circuit whose network at these positions and powers is in range.
+fn settle_network(
+    alloc: Global,
+    circuit: &Circuit,
+    net: Network,
+    at: Positions,
+    powers: &Powers,
+) -> Result<Answer, AllocError>
+    requires ready { HasPassed circuit.now }
+    requires positions { ArePositions circuit.now powers.now.loads (positions_in at) }
+    requires powers { powers.now.loads ≡ snapshot_powers circuit.now }
+    requires modest { All IsModest powers.now.loads }
+    requires network { IsNetworkAt circuit.now powers.now.loads (positions_in at) net }
+    ensures { (before : PositionsView) → start_of (standing circuit.now before) ≡ positions_in at → IfOk result (λ answer. IsSettleStep (standing circuit.now before) (answered answer (standing circuit.now before)) × IsSound answer (standing circuit.now before)) }
+{
+    // read for what the elements are, and how many acts are allowed
+    let _elements = circuit.elements();
+    let _options = circuit.options();
+    enclosure_law();
+    tie_law();
+    ball_law();
+    let mut net = net;
+    let mut at = at;
+    let mut clock = first_clock(alloc, &at)?;
+    let mut rounds = Vec::new(alloc);
+    let mut solver = Compute::new();
+    let ended = settle(
+        alloc,
+        circuit,
+        &mut net,
+        powers,
+        &mut at,
+        &mut clock,
+        &mut solver,
+        &mut rounds,
+    );
+    let layout = net.into_layout();
+    match ended {
+        Ok(()) => Ok(Answer::Settles(SettledCircuit { layout, rounds, at })),
+        Err(fault) => {
+            let fault = fault_of(alloc, circuit, &layout, fault)?;
+            Ok(Answer::Fails(SettledCircuit { layout, rounds, at }, fault))
+        }
+    }
+}
+
+// What a circuit whose elements are all solved comes to, where its last Solve left these positions.
+fn settle_built(alloc: Global, circuit: &Circuit, before: &Positions) -> Result<Answer, AllocError>
+    requires ready { HasPassed circuit.now }
+    requires taps { All AreTaps before.now.taps }
+    ensures { IfOk result (λ answer. IsByRange (standing circuit.now (positions_in before.now)) (blame_at circuit.now (snapshot_powers circuit.now) (start_of (standing circuit.now (positions_in before.now)))) (answered answer (standing circuit.now (positions_in before.now))) × IsSound answer (standing circuit.now (positions_in before.now))) }
+{
+    // read for what the elements are
+    let _elements = circuit.elements();
+    let at = Positions::next(alloc, circuit, before)?;
+    let powers = powers_at(alloc, circuit, 0)?;
+    next_law();
+    match Network::build(alloc, circuit, &at, &powers) {
+        Ok(net) => settle_network(alloc, circuit, net, at, &powers),
         Err(BuildFault::Range(blame)) => {
             refused(alloc, &blame.place, Cause::Model(blame.cause))
         },
@@ -219,14 +240,19 @@ fn solve_built(alloc: Global, circuit: &Circuit) -> Result<Answer, AllocError>
     }
 }
 
-/// What a Solve of a circuit that passed the tests comes to: a refusal, a fault of the procedure, or the state that the procedure reaches
-/// with its certificate.
-pub(crate) fn answer(alloc: Global, circuit: &Circuit) -> Result<Answer, AllocError>
-    requires { HasPassed circuit.now }
-    ensures { IfOk result (λ answer. IsSolutionStep circuit.now (answered answer circuit.now) × IsSound answer circuit.now) }
+/// What a Solve of a circuit that passed the tests comes to, where its last Solve left these positions: a refusal, or a settle, which ends
+/// well or with a fault.
+pub(crate) fn answer(
+    alloc: Global,
+    circuit: &Circuit,
+    before: &Positions,
+) -> Result<Answer, AllocError>
+    requires ready { HasPassed circuit.now }
+    requires taps { All AreTaps before.now.taps }
+    ensures { IfOk result (λ answer. IsSolutionStep (standing circuit.now (positions_in before.now)) (answered answer (standing circuit.now (positions_in before.now))) × IsSound answer (standing circuit.now (positions_in before.now))) }
 {
     match first_unbuilt(circuit) {
         Some(place) => refused(alloc, place, Cause::NotBuilt),
-        None => solve_built(alloc, circuit),
+        None => settle_built(alloc, circuit, before),
     }
 }

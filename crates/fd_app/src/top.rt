@@ -16,8 +16,8 @@ ghost use Rattle.fd_app.specs.Words.{form_of};
 
 use crate::print::{WANT_OF_MEMORY, print_fault};
 use crate::script::run_script;
+use crate::standing::Standing;
 use crate::words::solved_file;
-use dss_circuit::Circuit;
 use dss_script::{Session, said_law};
 use fd_outside::{Library, Sink};
 use fd_report::Fault;
@@ -34,8 +34,8 @@ fn solve<L: Library, S: Sink>(alloc: Global, file: &str, lib: &mut L, out: &mut 
     let Ok(mut session) = Session::open(alloc, file) else {
         return WANT_OF_MEMORY;
     };
-    let mut circuit = Circuit::empty(alloc);
-    run_script(alloc, &mut session, &mut circuit, lib, out)
+    let mut standing = Standing::new(alloc);
+    run_script(alloc, &mut session, &mut standing, lib, out)
 }
 
 /// Does what the words say, and answers the exit status:
@@ -53,16 +53,20 @@ fn solve<L: Library, S: Sink>(alloc: Global, file: &str, lib: &mut L, out: &mut 
 /// | 8 | an unknown still moves after the steps that the options allow |
 /// | 9 | a mismatch of the state that the procedure reaches is above 1,000 microvolts or microamperes |
 /// | 10 | the state has no certificate: the bound of an unknown reaches one |
+/// | 11 | the sample of a control is undecided over the ball of the state |
+/// | 12 | a control is due to act after as many acts as the options allow |
 ///
-/// The words are those after the program's name. `solve FILE` does the commands of the script of that name, and prints a solution at
-/// each Solve before the next command is read. Each record is handed to the sink by one write. A refusal is printed with its file, its
+/// The words are those after the program's name. `solve FILE` does the commands of the script of that name, and prints the rounds
+/// of each Solve, with the acts of its controls, before the next command is read. Each record is handed to the sink by one write. A refusal is printed with its file, its
 /// line and its cause, a failed read with the file's name, a fault of the procedure with the first unknown that it is found at, a
-/// mismatch with its row, and a state without a certificate with the unknown whose bound reaches one.
+/// mismatch with its row, a state without a certificate with the unknown whose bound reaches one, and an undecided sample with its
+/// control.
 pub fn run<L: Library, S: Sink>(alloc: Global, words: &[String], lib: &mut L, out: &mut S) -> u8
     // The one history of the words over the files held is done: all its calls, reads and writes, in order, and its end's status; or a front of
     // whole calls, and 1; or a front and less than all of the next text, and 5; where a read fails, the calls up to it and its fault's record.
-    // Each settle that the run came to is solved: its state is the one that the procedure reaches, meets its circuit's equations within the
-    // printed mismatches, which are at most 1,000, and each state in its trust box that meets them too is within the printed radii.
+    // Each settle that the run came to is solved: each state is the one that the procedure reaches, meets its circuit's equations within the
+    // printed mismatches, which are at most 1,000, and each state in its trust box that meets them too is within the printed radii. And its
+    // acts are those of the queue machine over any such states, one for each round.
     ensures run { (files : Files) → Knows (form_of (map string_bytes words.now)) (L.holds lib.old) files →
         Runs L.faults L.asked S.taken S.calls lib.old lib.new out.old out.new
         (λ h. IsFormHistory files (form_of (map string_bytes words.now)) h)

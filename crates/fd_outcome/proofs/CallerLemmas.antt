@@ -22,14 +22,13 @@ use Rattle.fd_report.specs.Faults.{status}
 use Rattle.fd_report.specs.declared.faults.Cause.TheVariants as cause
 use Rattle.fd_report.specs.declared.faults.Fault.{Fault}
 use Rattle.fd_report.specs.declared.faults.Fault.TheVariants as fault
-use Rattle.fd_outcome.specs.Statuses.{status_of, want_of_memory, write_fault}
 use Rattle.fd_outcome.specs.Settles.{Settle}
 use Rattle.fd_outcome.specs.Events.{Event, asked, History, before, ended, IfSettle, AllSettles}
 use Rattle.fd_outcome.specs.Work.{Step, goes, ends, ExactlyOne}
 use Rattle.fd_outcome.specs.History.{Point, IsFrom, IsLast, IsHistory, LeadsTo}
 use Rattle.fd_outcome.specs.Calls.{Call, reads, writes, Style, so_far, body, opened, calls_of, doing, Doing, fault_text, names_read, texts_written}
 use Rattle.fd_outcome.specs.Done.{called_first, read_failing, failing, Made, IsFrontOf, IsDone, Sees, HasReadCause, torn_bytes, torn_writes}
-use Rattle.fd_outcome.specs.Behind.{behind, has_text, opened_unless, last_calls, AsksNames}
+use Rattle.fd_outcome.specs.Behind.{behind, has_text, last_calls, AsksNames}
 use Rattle.fd_outcome.specs.Laws.{HistoryLaw, IsDue}
 use Rattle.fd_outcome.specs.Runs.{Runs}
 use Rattle.fd_outcome.specs.Way.{Way, whole}

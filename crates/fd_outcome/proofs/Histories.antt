@@ -24,6 +24,8 @@ statuses (fault.OutOfRange unknown step) = is_status 7 (λ e. omega (arith, e)) 
 statuses (fault.NotConverged unknown steps update) = is_status 8 (λ e. omega (arith, e)) (λ e. omega (arith, e)) (λ e. omega (arith, e)) (omega arith)
 statuses (fault.Loose row mismatch) = is_status 9 (λ e. omega (arith, e)) (λ e. omega (arith, e)) (λ e. omega (arith, e)) (omega arith)
 statuses (fault.NotCertified unknown bound) = is_status 10 (λ e. omega (arith, e)) (λ e. omega (arith, e)) (λ e. omega (arith, e)) (omega arith)
+statuses (fault.Undecided control low high edge scale) = is_status 11 (λ e. omega (arith, e)) (λ e. omega (arith, e)) (λ e. omega (arith, e)) (omega arith)
+statuses (fault.ControlLimit acts) = is_status 12 (λ e. omega (arith, e)) (λ e. omega (arith, e)) (λ e. omega (arith, e)) (omega arith)
 
 -- ---- exactly one
 

@@ -1,24 +1,13 @@
 -- A settle as data: where it started, its rounds, how it ended, and what it leaves.
-use Rattle.std.specs.Prelude.{ℕ, ℤ, Bool, List}
-use Rattle.fd_arith.specs.declared.terms.TapPair.{TapPair}
+use Rattle.std.specs.Prelude.{ℕ, ℤ, List}
 use Rattle.dss_circuit.specs.Circuit.{CircuitView}
+use Rattle.fd_queue.specs.Controls.{Positions}
+use Rattle.fd_queue.specs.Machine.{Act}
 use Rattle.fd_report.specs.declared.faults.Fault.{Fault}
-
--- what stands from settle to settle: a pair of taps for each Transformer, and whether it is closed for each Capacitor
-pub record Standing : Type 0 where
-  pub taps : List TapPair
-  pub closed : List Bool
-
--- an act of a control, by its printed name, at a time in milliseconds: by so many steps, and the position behind it
-pub record Act : Type 0 where
-  pub time : ℕ
-  pub control : List ℕ
-  pub steps : ℤ
-  pub after : ℤ
 
 -- A state that the procedure reaches, by place, in whole microvolts and microamperes, with its certificate: the radius within which others
 -- lie of it, the half-width of the box of which these speak, the mismatch of each row, and the inverse with which it was reached, in units
--- of 2^-40. And the acts behind it, none where no control acts.
+-- of 2^-40. And the acts of controls behind it, by the controls' numbers in the script's order.
 pub record Round : Type 0 where
   pub centre : List ℤ
   pub radii : List ℕ
@@ -31,12 +20,12 @@ pub data SettleEnd : Type 0 where
   settled : SettleEnd
   failed : Fault → SettleEnd
 
--- of a circuit, by its number in the run, from 1; the hour is 0 in a snapshot
+-- of a circuit, by its number in the run, from 1; the hour is 0 in a snapshot. It starts and leaves with the positions of taps and banks
 pub record Settle : Type 0 where
   pub number : ℕ
   pub hour : ℕ
   pub circuit : CircuitView
-  pub start : Standing
+  pub start : Positions
   pub rounds : List Round
   pub end : SettleEnd
-  pub left : Standing
+  pub left : Positions

@@ -1,5 +1,5 @@
 -- What a command comes to, and what is left to do behind the last one.
-use Rattle.std.specs.Prelude.{◌≡◌, List, ◌++◌}
+use Rattle.std.specs.Prelude.{◌≡◌, List}
 use Rattle.fd_report.specs.declared.faults.Fault.{Fault}
 use Rattle.fd_outcome.specs.Events.{Event, History, before, ended}
 

@@ -1,4 +1,6 @@
 use Rattle.std.proofs.Common.{Ok, Err}
+use Rattle.fd_sample.specs.Probes.{positions_in}
+use Rattle.fd_app.specs.Steps.{standing}
 use Rattle.fd_app.proofs.Weaker.{if_ok_weaker}
 use Rattle.fd_app.proofs.step.test_and_solve.Goals as goal
 
@@ -7,5 +9,6 @@ returns-in-Ok c = if_ok_weaker c.answer.result _ _ (λ a h. (record { answer = O
 
 pub returns-in-Err-Blame : goal.returns-in-Err-Blame
 returns-in-Err-Blame c =
+    let s = standing c.args.circuit.now (positions_in c.args.before.now) in
     let right = rw c.in-Err-Blame.field-0-is at c.in-Err-Blame.ensures in
-    if_ok_weaker c.blamed.result _ _ (λ a h. (record { answer = Err c.in-Err-Blame.blame; right = right; step_is = (h c.args.circuit.now).0 }, (h c.args.circuit.now).1)) c.blamed.ensures
+    if_ok_weaker c.blamed.result _ _ (λ a h. (record { answer = Err c.in-Err-Blame.blame; right = right; step_is = (h s).0 }, (h s).1)) c.blamed.ensures

@@ -13,9 +13,9 @@ pub returns-in_default-clause-untold : goal.returns-in_default-clause-untold
 returns-in_default-clause-untold g c = untold_first g.L.Library.faults g.L.Library.asked g.S.Sink.faults g.S.Sink.taken g.S.Sink.calls c.args.lib.now c.args.out.now
 
 pub run_script-requires : goal.run_script-requires
-run_script-requires g c = rw (c.empty-circuit.ensures, c.in-Ok.ensures.start) omega arith
+run_script-requires g c = rw (c.new-standing.ensures, c.in-Ok.ensures.start) omega arith
 
 pub returns-clause-run : goal.returns-clause-run
 returns-clause-run g c files told =
-    of_script g.L.Library.faults g.L.Library.asked g.S.Sink.taken g.S.Sink.calls c.args.lib.now c.run_script.new.lib c.args.out.now c.run_script.new.out c.said_law.ensures files (chars c.args.file.now) (remaining files c.in-Ok.session) c.empty-circuit.result c.run_script.result
-    (c.in-Ok.ensures.script files) c.empty-circuit.ensures (c.run_script.ensures.run files told)
+    of_script g.L.Library.faults g.L.Library.asked g.S.Sink.taken g.S.Sink.calls c.args.lib.now c.run_script.new.lib c.args.out.now c.run_script.new.out c.said_law.ensures files (chars c.args.file.now) (remaining files c.in-Ok.session) c.new-standing.result c.run_script.result
+    (c.in-Ok.ensures.script files) c.new-standing.ensures (c.run_script.ensures.run files told)

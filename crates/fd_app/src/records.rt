@@ -1,0 +1,296 @@
+// The records of a settle.
+ghost use Rattle.std.specs.Prelude.{◌≡◌, ◌++◌, ◌∷◌, ◌<◌, ◌^◌, [], All, IfOk, OnOk, Some, if◌then◌else◌, length, map, slice_get};
+ghost use Rattle.dss_layout.specs.Layout.{layout_of, size_of};
+ghost use Rattle.dss_ready.specs.Ready.{HasPassed};
+ghost use Rattle.fd_outside.specs.Emitted.{pieces_of};
+ghost use Rattle.fd_queue.specs.Controls.{Positions as PositionsView, tap_at};
+ghost use Rattle.fd_report.specs.Lines.{line_of, lines_of};
+ghost use Rattle.fd_report.specs.Faults.{fields};
+ghost use Rattle.fd_report.specs.Solutions.{IsOfSize};
+ghost use Rattle.fd_sample.specs.Probes.{HasDevice, positions_in};
+ghost use Rattle.fd_sample.specs.Regulators.{changer_of};
+ghost use Rattle.fd_settle.specs.Rounds.{seen};
+ghost use Rattle.fd_settle.specs.Start.{ArePositions};
+ghost use Rattle.fd_outcome.specs.Settles.{Settle, failed, settled};
+ghost use Rattle.fd_outcome.specs.Pages.{act_rows, act_rows_by, controls_of, is_control, position_of, round_rows, rounds_rows, solution_in, tap_rows, tap_rows_by};
+ghost use Rattle.fd_app.specs.Answered.{IsPrintable, IsSnapshotOf, round_in, settle_in, texts_of};
+ghost use Rattle.fd_app.specs.Places.{AreControlPlaces, tap_rows_of};
+ghost use Rattle.fd_app.specs.Solving.{snapshot_powers};
+ghost use Rattle.fd_app.specs.Steps.{standing};
+
+use crate::answer::SettledCircuit;
+use crate::controls::is_control;
+use dss_circuit::Circuit;
+use dss_layout::Layout;
+use dss_profile::{Element, ElementName};
+use fd_devices::Positions;
+use fd_outside::Record;
+use fd_report::{Fault, Position, Solution, act_record, record, records, tap_record};
+use fd_sample::{Probe, RegProbe, probes};
+use fd_settle::{Act, Round};
+use std::alloc::{AllocError, Global};
+
+// The places of a circuit's controls among its elements, in the script's order.
+fn control_places(alloc: Global, circuit: &Circuit) -> Result<Vec<usize>, AllocError>
+    ensures { IfOk result (λ places. AreControlPlaces circuit.now.elements places.items) }
+{
+    let mut places = Vec::new(alloc);
+    let entries = circuit.elements().as_slice();
+    for place in 0..entries.len() {
+        let (_, element) = entries.get_index(place).unwrap();
+        add_place(&mut places, place, element)?;
+    }
+    Ok(places)
+}
+
+// Adds the place of an element that is a control.
+fn add_place(places: &mut Vec<usize>, place: usize, element: &Element) -> Result<(), AllocError>
+    ensures { OnOk result (places.new.items ≡ places.old.items ++ (if is_control element.now then place ∷ [] else [])) }
+{
+    if is_control(element) {
+        places.push(place)?;
+    }
+    Ok(())
+}
+
+// Where the device of a control stands behind an act.
+fn position_of(element: &Element, after: u32) -> Position
+    ensures { result ≡ position_of element.now after }
+{
+    match element {
+        Element::CapControl(_) => {
+            if after == 0 {
+                Position::Open
+            } else {
+                Position::Closed
+            }
+        }
+        _ => Position::Tap(after),
+    }
+}
+
+// Adds the record of an act of this control.
+fn push_act(
+    alloc: Global,
+    name: &ElementName,
+    element: &Element,
+    act: &Act,
+    into: &mut Vec<Record>,
+) -> Result<(), AllocError>
+    ensures { OnOk result (pieces_of into.new.items ≡ pieces_of into.old.items ++ lines_of (act_rows_by (Some (name.now, element.now)) (seen act.now))) }
+{
+    let position = position_of(element, act.after);
+    into.push(act_record(alloc, act.time, name, act.steps, position)?)?;
+    Ok(())
+}
+
+// Adds the record of an act, which names one of the controls at these places.
+fn add_act(
+    alloc: Global,
+    circuit: &Circuit,
+    controls: &[usize],
+    act: &Act,
+    into: &mut Vec<Record>,
+) -> Result<(), AllocError>
+    requires { AreControlPlaces circuit.now.elements controls.now }
+    ensures { OnOk result (pieces_of into.new.items ≡ pieces_of into.old.items ++ lines_of (act_rows_by (slice_get (controls_of circuit.now.elements) act.now.control) (seen act.now))) }
+{
+    match controls.get(act.control as usize) {
+        None => Ok(()),
+        Some(place) => {
+            let entries = circuit.elements().as_slice();
+            let (name, element) = entries.get_index(*place).unwrap();
+            push_act(alloc, name, element, act, into)
+        }
+    }
+}
+
+// Adds the records of a round's acts, which name controls at these places.
+fn add_acts(
+    alloc: Global,
+    circuit: &Circuit,
+    controls: &[usize],
+    acts: &[Act],
+    into: &mut Vec<Record>,
+) -> Result<(), AllocError>
+    requires { AreControlPlaces circuit.now.elements controls.now }
+    ensures { OnOk result (pieces_of into.new.items ≡ pieces_of into.old.items ++ lines_of (act_rows (controls_of circuit.now.elements) (map seen acts.now))) }
+{
+    for act in acts {
+        add_act(alloc, circuit, controls, act, into)?;
+    }
+    Ok(())
+}
+
+// Adds the records of a round of this number, and of its acts.
+fn add_round(
+    alloc: Global,
+    circuit: &Circuit,
+    layout: &Layout,
+    controls: &[usize],
+    number: u32,
+    round: &Round,
+    into: &mut Vec<Record>,
+) -> Result<(), AllocError>
+    requires layout { layout.now ≡ layout_of circuit.now.elements }
+    requires controls { AreControlPlaces circuit.now.elements controls.now }
+    requires numbers { IsOfSize (size_of (layout_of circuit.now.elements)) (solution_in (round_in round.now)) }
+    ensures { (s : Settle) → IsSnapshotOf circuit.now s → OnOk result (pieces_of into.new.items ≡ pieces_of into.old.items ++ lines_of (round_rows s number (round_in round.now))) }
+{
+    let certified = &round.certified;
+    let solution = Solution::new(
+        &certified.ball.centre,
+        &certified.ball.radius,
+        &certified.boxes,
+        &certified.mismatch,
+    );
+    let mut made = records(alloc, layout, circuit.solves(), 0, number, &solution)?;
+    into.append(&mut made)?;
+    add_acts(alloc, circuit, controls, round.acts.as_slice(), into)
+}
+
+// Adds the records of the rounds, which are numbered from 0, and of their acts.
+fn add_rounds(
+    alloc: Global,
+    circuit: &Circuit,
+    layout: &Layout,
+    rounds: &[Round],
+    into: &mut Vec<Record>,
+) -> Result<(), AllocError>
+    requires layout { layout.now ≡ layout_of circuit.now.elements }
+    requires numbers { All (λ r. IsOfSize (size_of (layout_of circuit.now.elements)) (solution_in r)) (map round_in rounds.now) }
+    requires few { length rounds.now < 2 ^ 32 }
+    ensures { (s : Settle) → IsSnapshotOf circuit.now s → OnOk result (pieces_of into.new.items ≡ pieces_of into.old.items ++ lines_of (rounds_rows s 0 (map round_in rounds.now))) }
+{
+    let controls = control_places(alloc, circuit)?;
+    for (number, round) in rounds.iter().enumerate() {
+        add_round(
+            alloc,
+            circuit,
+            layout,
+            controls.as_slice(),
+            number as u32,
+            round,
+            into,
+        )?;
+    }
+    Ok(())
+}
+
+// The tap of a regulator's winding.
+fn tap_of(at: &Positions, probe: &RegProbe) -> u32
+    requires { probe.now.transformer < length at.now.taps }
+    ensures { result ≡ tap_at (positions_in at.now) (changer_of probe.now) }
+{
+    let pair = at.taps.as_slice()[probe.transformer as usize];
+    if probe.is_second {
+        pair.second
+    } else {
+        pair.first
+    }
+}
+
+// Adds the record of the tap of a control of this name, if it is a regulator's.
+fn push_tap(
+    alloc: Global,
+    name: &ElementName,
+    at: &Positions,
+    probe: &Probe,
+    into: &mut Vec<Record>,
+) -> Result<(), AllocError>
+    requires { HasDevice (positions_in at.now) probe.now }
+    ensures { OnOk result (pieces_of into.new.items ≡ pieces_of into.old.items ++ lines_of (tap_rows_by (positions_in at.now) name.now probe.now)) }
+{
+    if let Probe::Regulator(probe) = probe {
+        into.push(tap_record(alloc, name, tap_of(at, probe))?)?;
+    }
+    Ok(())
+}
+
+// Adds the record of the tap of the control of this number, if it is a regulator's. The controls stand at these places.
+fn add_tap(
+    alloc: Global,
+    circuit: &Circuit,
+    at: &Positions,
+    controls: &[usize],
+    number: usize,
+    probe: &Probe,
+    into: &mut Vec<Record>,
+) -> Result<(), AllocError>
+    requires controls { AreControlPlaces circuit.now.elements controls.now }
+    requires device { HasDevice (positions_in at.now) probe.now }
+    ensures { OnOk result (pieces_of into.new.items ≡ pieces_of into.old.items ++ lines_of (tap_rows_of (positions_in at.now) (slice_get (controls_of circuit.now.elements) number) probe.now)) }
+{
+    match controls.get(number) {
+        None => Ok(()),
+        Some(place) => {
+            let entries = circuit.elements().as_slice();
+            let (name, _) = entries.get_index(*place).unwrap();
+            push_tap(alloc, name, at, probe, into)
+        }
+    }
+}
+
+// Adds the record of each regulator's tap.
+fn add_taps(
+    alloc: Global,
+    circuit: &Circuit,
+    layout: &Layout,
+    at: &Positions,
+    into: &mut Vec<Record>,
+) -> Result<(), AllocError>
+    requires ready { HasPassed circuit.now }
+    requires layout { layout.now ≡ layout_of circuit.now.elements }
+    requires positions { ArePositions circuit.now (snapshot_powers circuit.now) (positions_in at.now) }
+    ensures { OnOk result (pieces_of into.new.items ≡ pieces_of into.old.items ++ lines_of (tap_rows circuit.now.elements (positions_in at.now))) }
+{
+    let controls = control_places(alloc, circuit)?;
+    let probes = probes(alloc, circuit, layout)?;
+    for (number, probe) in probes.iter().enumerate() {
+        add_tap(alloc, circuit, at, controls.as_slice(), number, probe, into)?;
+    }
+    Ok(())
+}
+
+/// The records of a settle that ended well.
+pub(crate) fn settled_records(
+    alloc: Global,
+    circuit: &Circuit,
+    settle: &SettledCircuit,
+) -> Result<Vec<Record>, AllocError>
+    requires { (at : PositionsView) → IsPrintable settle.now (standing circuit.now at) }
+    ensures { (at : PositionsView) → IfOk result (λ r. pieces_of r.items ≡ texts_of (settle_in (standing circuit.now at) settle.now settled)) }
+{
+    let mut into = Vec::new(alloc);
+    add_rounds(
+        alloc,
+        circuit,
+        &settle.layout,
+        settle.rounds.as_slice(),
+        &mut into,
+    )?;
+    add_taps(alloc, circuit, &settle.layout, &settle.at, &mut into)?;
+    Ok(into)
+}
+
+/// The records of a settle that ended with a fault: those of its rounds, and the fault's.
+pub(crate) fn failed_records(
+    alloc: Global,
+    circuit: &Circuit,
+    settle: &SettledCircuit,
+    fault: &Fault,
+) -> Result<Vec<Record>, AllocError>
+    requires { (at : PositionsView) → IsPrintable settle.now (standing circuit.now at) }
+    ensures { (at : PositionsView) → IfOk result (λ r. pieces_of r.items ≡ texts_of (settle_in (standing circuit.now at) settle.now (failed fault.now)) ++ line_of (fields fault.now) ∷ []) }
+{
+    let mut into = Vec::new(alloc);
+    add_rounds(
+        alloc,
+        circuit,
+        &settle.layout,
+        settle.rounds.as_slice(),
+        &mut into,
+    )?;
+    into.push(record(alloc, fault)?)?;
+    Ok(into)
+}

@@ -1,0 +1,43 @@
+// What stands between two commands.
+ghost use Rattle.std.specs.Prelude.{◌≡◌};
+ghost use Rattle.fd_app.specs.Run.{first_standing};
+
+use dss_circuit::Circuit;
+use fd_devices::{BankStates, Positions, Taps};
+use std::alloc::Global;
+use std::marker::Model;
+
+/// The circuit, and the positions of taps and banks that its last Solve left, none before the first.
+#[derive(Drop)]
+pub(crate) struct Standing {
+    pub circuit: Circuit,
+    pub at: Positions,
+}
+
+impl Model for Standing {
+    ghost use Rattle.std.specs.Prelude.{All};
+    ghost use Rattle.fd_xfmr.specs.Leakage.{AreTaps};
+    ghost use Rattle.fd_sample.specs.Probes.{positions_in};
+    ghost use Rattle.fd_app.specs.Steps.{StandingView};
+
+    ghost Value = { StandingView };
+
+    ghost view = { λ s. record { circuit = s.circuit; at = positions_in s.at } };
+
+    ghost invariant = { λ s. All AreTaps s.at.taps };
+}
+
+impl Standing {
+    /// No circuit, and no positions.
+    pub(crate) fn new(alloc: Global) -> Standing
+        ensures { result ≡ first_standing }
+    {
+        Standing {
+            circuit: Circuit::empty(alloc),
+            at: Positions {
+                taps: Taps::new(Vec::new(alloc)),
+                closed: BankStates::new(Vec::new(alloc)),
+            },
+        }
+    }
+}
