@@ -1,168 +1,14 @@
-"""An exact model of `solve` in snapshot (and day) without controls. Whole numbers alone."""
+"""An exact model of `solve` in snapshot and day, with controls. Whole numbers alone."""
 import sys
 from math import isqrt
 import os
 sys.path.insert(0, os.path.dirname(os.path.abspath(__file__)))
-from script import Script, Refused, near, ONE, UNITS
-
-R3, H3, T15 = 1732050807568877, 866025403784439, 10 ** 15
-OMEGA = {60: 376991118430775, 50: 314159265358979}
-B40, P120 = 1 << 40, 1 << 120
-
-
-def ceil(n, d):
-    return -((-n) // d)
-
-
-def near_at(n, d):
-    return near(n << 40, d)
-
-
-def ceil_at(n, d):
-    v = ceil(n << 40, d)
-    assert abs(v) <= 1 << 100
-    return v
-
-
-def clamp(v, lo, hi):
-    return min(max(v, lo), hi)
-
-
-def u_of(kv, phases, conn):
-    return near(kv * T15, R3) if phases == 3 and conn == 'wye' else kv
-
-
-# ---------------------------------------------------------------- nodes
-
-def three(numbers):
-    if not numbers:
-        return [1, 2, 3]
-    if len(numbers) == 4:
-        if numbers[3]:
-            raise Refused('unsupported')
-        return numbers[:3]
-    if len(numbers) != 3:
-        raise Refused('wrong count')
-    return numbers
-
-
-def pairs_of(bus, phases, conn, back=False):
-    """The terminals (first, second) of a winding, bank or load as node numbers."""
-    name, numbers = bus
-    if phases == 3:
-        n = three(numbers)
-        if conn == 'wye':
-            return [(n[k], 0) for k in range(3)]
-        return [(n[k], n[(k - 1) % 3 if back else (k + 1) % 3]) for k in range(3)]
-    if len(numbers) > 2:
-        raise Refused('wrong count')
-    if conn == 'wye':
-        return [((numbers or [1])[0], numbers[1] if len(numbers) == 2 else 0)]
-    if len(numbers) == 1:
-        raise Refused('wrong count')
-    return [tuple(numbers) if numbers else (1, 2)]
-
-
-def mention(bus, phases, conn):
-    name, numbers = bus
-    if phases == 3:
-        return [(name, n) for n in three(numbers)]
-    return [(name, n) for n in pairs_of(bus, phases, conn)[0]]
-
-
-def line_nodes(bus, phases):
-    name, numbers = bus
-    if not numbers:
-        numbers = [1, 2, 3][:phases]
-    if len(numbers) != phases:
-        raise Refused('wrong count')
-    return [(name, n) for n in numbers]
-
-
-# ---------------------------------------------------------------- the data of elements
-
-def source_ohms(e):
-    if e['ohms']:
-        r1, x1 = e['r1'] or 0, e['x1'] or 0
-        return r1, x1, r1 if e['r0'] is None else e['r0'], x1 if e['x0'] is None else e['x0']
-    k3 = e['basekv'] ** 2 // e['mvasc3']
-    k1 = e['basekv'] ** 2 // e['mvasc1']
-    if max(k3, k1) > 10 ** 13:
-        raise Refused('value out of range')
-    x, y = e['x1r1'], e['x0r0']
-    r1 = isqrt(k3 * k3 * 10 ** 8 // (10 ** 8 + x * x))
-    x1 = x * r1 // 10 ** 4
-    ok = lambda r: (2 * r1 + r) ** 2 * 10 ** 8 + (2 * x1 * 10 ** 4 + y * r) ** 2 <= 9 * k1 * k1 * 10 ** 8
-    r0 = 0
-    if ok(0):
-        lo, hi = 0, 3 * k1 + 1
-        while hi - lo > 1:
-            mid = (lo + hi) // 2
-            lo, hi = (mid, hi) if ok(mid) else (lo, mid)
-        r0 = lo
-    return r1, x1, r0, y * r0 // 10 ** 4
-
-
-def entry(v1, v0, i, j):
-    """Three times the sequence entry."""
-    return 2 * v1 + v0 if i == j else v0 - v1
-
-
-def line_matrices(e):
-    n = e['phases']
-    lu, cu = UNITS[e['units']], UNITS[e['codeunits'] or 'none']
-    if e['own'] or lu is None or cu is None:
-        lu = cu = 1
-    if e['zform'] is None:
-        raise Refused('no impedance')
-    length = e['length']
-    z = []
-    if e['zform'] == 'sequence':
-        r1, x1 = e['r1'] or 0, e['x1'] or 0
-        r0 = r1 if e['r0'] is None else e['r0']
-        x0 = x1 if e['x0'] is None else e['x0']
-        get = lambda i, j: (entry(r1, r0, i, j), entry(x1, x0, i, j), 3)
-    else:
-        for m in (e['rmatrix'], e['xmatrix']):
-            if m is not None and len(m) != n:
-                raise Refused('wrong count')
-        get = lambda i, j: (e['rmatrix'][i][j] if e['rmatrix'] else 0, e['xmatrix'][i][j] if e['xmatrix'] else 0, 1)
-    for i in range(n):
-        row = []
-        for j in range(n):
-            r, x, d = get(i, j)
-            row.append((r * length * lu // (d * cu * 10 ** 6), x * length * lu // (d * cu * 10 ** 6)))
-        z.append(row)
-    if e['cform'] is None:
-        cget = lambda i, j: (0, 1)
-    elif e['cform'] == 'sequence':
-        c1 = e['c1'] or 0
-        c0 = c1 if e['c0'] is None else e['c0']
-        cget = lambda i, j: (entry(c1, c0, i, j), 3)
-    else:
-        if len(e['cmatrix']) != n:
-            raise Refused('wrong count')
-        cget = lambda i, j: (e['cmatrix'][i][j], 1)
-    c = [[cget(i, j)[0] * length * lu // (cget(i, j)[1] * cu * 10 ** 12) for j in range(n)] for i in range(n)]
-    return z, c
-
-
-COS = {0: (1, 0), 30: ('h', 0.5), 60: (0.5, 'h')}
-
-
-def unit(angle, volts):
-    """The two parts of `volts` turned by `angle` degrees."""
-    a = angle % 360
-
-    def part(a):
-        a %= 360
-        s = {0: 2, 30: 'h', 60: 1, 90: 0, 120: -1, 150: '-h', 180: -2, 210: '-h', 240: -1, 270: 0, 300: 1, 330: 'h'}[a]
-        if s == 'h':
-            return near(volts * H3, T15)
-        if s == '-h':
-            return near(-volts * H3, T15)
-        return near(volts * s, 2)
-    return part(a), part(a - 90)
+from script import Script, Refused, near, ONE
+from elements import (
+    R3, T15, OMEGA, B40, P120, ceil, near_at, ceil_at, clamp, u_of, three, pairs_of, terminals, mention,
+    line_nodes, source_ohms, entry, line_matrices, unit)
+import controls
+from controls import micro
 
 
 class LoadPhase:
@@ -215,7 +61,9 @@ class Network:
         at = lambda b, n: nodes[(b, n)] if n else None
         add = self.complex_term
         br, mg = self.nn, 2 * (self.nn + self.nb)
-        for (cls, nm), e in els:
+        bad, self.owners = [], []
+        for place, ((cls, nm), e) in enumerate(els):
+            self.owners += [place - 1] * (len(self.terms) - len(self.owners))
             if cls == 'vsource':
                 ph = e['phases']
                 volts = near(e['basekv'] * e['pu'], ONE) if ph == 1 else near(e['basekv'] * e['pu'] * T15, ONE * R3)
@@ -254,14 +102,8 @@ class Network:
                 if e['kvas'][0] != e['kvas'][1]:
                     raise Refused('unsupported')
                 u = [u_of(e['kvs'][w], ph, e['conns'][w]) for w in (0, 1)]
-                hi = 0 if e['kvs'][0] >= e['kvs'][1] else 1
-                mixed = ph == 3 and e['conns'][0] != e['conns'][1]
-                tm = []
-                for w in (0, 1):
-                    b = e['buses'][w]
-                    back = mixed and w == hi
-                    tm.append([(at(b[0], x), at(b[0], y)) for x, y in pairs_of(b, ph, e['conns'][w], back)])
-                t1, t2 = e['taps']
+                tm = [[(at(e['buses'][w][0], x), at(e['buses'][w][0], y)) for x, y in terminals(e)[w]] for w in (0, 1)]
+                t1, t2 = e['at']
                 zr = (e['rs'][0] + e['rs'][1]) * u[1] ** 2 * ph // (e['kvas'][0] * 10 ** 5)
                 zx = e['xhl'] * u[1] ** 2 * ph // (e['kvas'][0] * 10 ** 5)
                 an, ad = u[1] * t2, u[0] * t1
@@ -278,7 +120,7 @@ class Network:
                     add(s2, br + k, 1, 0, 1)
                 br += ph
             elif cls == 'capacitor':
-                if not e['closed']:
+                if not e['now']:
                     continue
                 ph = e['phases']
                 v = u_of(e['kv'], ph, e['conn'])
@@ -305,7 +147,7 @@ class Network:
                 b = e['bus1']
                 vlo, vhi = near(e['vminpu'] * vn, ONE), near(e['vmaxpu'] * vn, ONE)
                 if abs(p) + abs(q) > 10 ** 11 or (abs(p) + abs(q)) * 10 ** 9 > (vlo * vlo) << 12:
-                    raise Refused('range')
+                    bad.append(place)
                 for x, y in pairs_of(b, ph, e['conn']):
                     l = LoadPhase()
                     l.f, l.s = at(b[0], x), at(b[0], y)
@@ -319,14 +161,16 @@ class Network:
                         self.shunt(l.f, l.s, p * 10 ** 9, -q * 10 ** 9, vn * vn)
                     self.loads.append(l)
                     self.current_sum += ceil((abs(p) + abs(q)) * 10 ** 9, vn)
+        self.owners += [len(els) - 1] * (len(self.terms) - len(self.owners))
         self.matrix = {}
-        for r, c, num, den in self.terms:
+        for (r, c, num, den), owner in zip(self.terms, self.owners):
             v = near_at(num, den)
             if abs(v) > 1 << 54:
-                raise Refused('range')
+                bad.append(owner)
             self.matrix[r, c] = self.matrix.get((r, c), 0) + v
-        if any(abs(v) > 1 << 54 for v in self.matrix.values()):
-            raise Refused('range')
+        bad = bad or [o for (r, c, _, _), o in zip(self.terms, self.owners) if abs(self.matrix[r, c]) > 1 << 54]
+        if bad:
+            raise Refused('range', els[min(bad)][1]['place'])
         self.rows = [{} for _ in range(self.n)]
         for (r, c), v in self.matrix.items():
             self.rows[r][c] = v
@@ -605,6 +449,7 @@ def up(x, y):
     return ceil(x * y, B40)
 
 
+BANK_RECORDS = False     # whether the report names each bank's state, as it does once controls of banks are solved
 CASES = {}       # which of inside, outside and straddling the loads of a run were: for the choice of cases
 
 
@@ -737,9 +582,9 @@ class Certified:
             if self.radii[i] > B40:
                 raise Fault(10, 'not certified', net.name(i), 'all')
 
-    def records(self, number, hour):
+    def records(self, number, hour, turn):
         net, x, r, e, h = self.net, self.x, self.radii, self.mismatch, self.boxes
-        out = ['solution,%d,%d,0' % (number, hour)]
+        out = ['solution,%d,%d,%d' % (number, hour, turn)]
         for k in range(net.nn):
             a, b = 2 * k, 2 * k + 1
             low = high = 0
@@ -764,28 +609,39 @@ class Certified:
         return out
 
 
-def micro(v):
-    return '%s%d.%06d' % ('-' if v < 0 else '', abs(v) // 10 ** 6, abs(v) % 10 ** 6)
-
-
 def run(files, words):
     """The bytes and the status of `solve MASTER`, and the certified states."""
     out, number, made = [], [0], []
 
+    def state(circuit, options, hour, turn):
+        net = Network(circuit, options['hertz'], hour)
+        p = Procedure(net, options['maxiterations'], options['tolerance'])
+        c = Certified(net, p.x, p.inverse)
+        c.steps = p.steps
+        made.append(c)
+        return c, c.records(number[0], hour, turn)
+
     def solve(circuit, options):
         hours = range(1, options['number'] + 1) if options['mode'] == 'daily' else [0]
+        opened = {}
         for hour in hours:
             number[0] += 1
-            net = Network(circuit, options['hertz'], hour)
+            now = 3600000 * (hour - 1) if hour else 0
             try:
-                p = Procedure(net, options['maxiterations'], options['tolerance'])
-                c = Certified(net, p.x, p.inverse)
-                c.steps = p.steps
+                off = options['controlmode'] == 'off'
+                for records in controls.settle(circuit, options['maxcontroliter'], off, now, opened,
+                                               lambda turn: state(circuit, options, hour, turn)):
+                    out.extend(records)
             except Fault as f:
                 out.append(','.join(('fault',) + f.fields))
                 return f.status
-            made.append(c)
-            out.extend(c.records(number[0], hour))
+            except controls.Undecided as f:
+                out.append(','.join(('fault', 'undecided') + f.fields))
+                return 11
+            except controls.Limit as f:
+                out.append('fault,control limit,%d' % f.acts)
+                return 12
+            out.extend(controls.positions(circuit, BANK_RECORDS))
         return None
 
     s = Script(files, solve)

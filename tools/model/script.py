@@ -1,11 +1,10 @@
 """The script language and the circuit, as far as valid scripts need them. Whole numbers alone."""
 import re
-from math import isqrt
 
 
 class Refused(Exception):
-    def __init__(self, cause):
-        self.cause = cause
+    def __init__(self, cause, place=None):
+        self.cause, self.place = cause, place
 
 
 def near(n, d):
@@ -172,7 +171,9 @@ def truth(value, grouped):
 
 def bus(text):
     parts = text.split('.')
-    if not re.match(r'[A-Za-z0-9_%-]+\Z', parts[0]) or any(not re.match('[0-9]\Z', p) for p in parts[1:]) or len(parts) > 5:
+    numbers = parts[1:]
+    bad = any(not re.match('[0-9]\Z', p) for p in numbers) or len(numbers) > 4
+    if bad or not re.match(r'[A-Za-z0-9_%-]+\Z', parts[0]):
         raise Refused('bad value')
     return parts[0].lower(), [int(p) for p in parts[1:]]
 
@@ -200,12 +201,17 @@ NEW = {
                          c1=None, c0=None),
     'transformer': lambda: dict(phases=3, wdg=1, xhl=7 * ONE, buses=[None, None], conns=['wye', 'wye'],
                                 kvs=[12470000000, 12470000000], kvas=[1000 * ONE] * 2, rs=[200000000] * 2,
-                                taps=[100000] * 2, mintap=[90000] * 2, maxtap=[110000] * 2, numtaps=[32] * 2),
-    'capacitor': lambda: dict(bus1=None, phases=3, kvar=1200 * ONE, kv=12470000000, conn='wye', closed=True),
-    'load': lambda: dict(bus1=None, phases=3, kv=12470000000, kw=10 * ONE, pf=880000000, kvar=None, bykvar=False, model=1,
-                         conn='wye', vminpu=950000000, vmaxpu=1050000000, daily=None),
-    'regcontrol': dict,
-    'capcontrol': dict,
+                                taps=[100000] * 2, at=[100000] * 2, mintap=[90000] * 2, maxtap=[110000] * 2,
+                                numtaps=[32] * 2),
+    'capacitor': lambda: dict(bus1=None, phases=3, kvar=1200 * ONE, kv=12470000000, conn='wye', closed=True,
+                              now=True),
+    'load': lambda: dict(bus1=None, phases=3, kv=12470000000, kw=10 * ONE, pf=880000000, kvar=None, bykvar=False,
+                         model=1, conn='wye', vminpu=950000000, vmaxpu=1050000000, daily=None),
+    'regcontrol': lambda: dict(transformer=None, winding=1, vreg=120 * ONE, band=3 * ONE, ptratio=60 * ONE,
+                               ctprim=300 * ONE, r=0, x=0, delay=15000, tapdelay=2000, maxtapchange=16, ptphase=1),
+    'capcontrol': lambda: dict(element=None, terminal=1, capacitor=None, type='current', ptratio=60 * ONE,
+                               ctratio=60 * ONE, onsetting=300 * ONE, offsetting=200 * ONE, delay=15000,
+                               delayoff=15000, deadtime=300000, ptphase=1, ctphase=1),
     'loadshape': lambda: dict(npts=0, mult=[]),
 }
 Z = ('r1', 'x1', 'r0', 'x0')
@@ -319,7 +325,7 @@ def set_pair(circuit, cls, e, name, value, grouped):
         elif name == '%r':
             e['rs'][w] = one(value, grouped)
         elif name == 'tap':
-            e['taps'][w] = near(one(value, grouped), 10 ** 4)
+            e['taps'][w] = e['at'][w] = near(one(value, grouped), 10 ** 4)
         elif name in ('mintap', 'maxtap'):
             e[name][w] = near(one(value, grouped), 10 ** 4)
         elif name == 'numtaps':
@@ -338,6 +344,7 @@ def set_pair(circuit, cls, e, name, value, grouped):
             e['rs'] = array(value, grouped)
         elif name == 'taps':
             e['taps'] = [near(v, 10 ** 4) for v in array(value, grouped)]
+            e['at'] = list(e['taps'])
         elif name in ('leadlag', '%noloadloss', '%imag', 'bank', 'sub', 'subname', 'ppm_antifloat'):
             pass
         else:
@@ -360,7 +367,7 @@ def set_pair(circuit, cls, e, name, value, grouped):
             a = array(value, grouped)
             if len(a) != 1:
                 raise Refused('wrong count')
-            e['closed'] = a[0] == ONE
+            e['closed'] = e['now'] = a[0] == ONE
         else:
             raise Refused('unknown property')
     elif cls == 'load':
@@ -395,6 +402,8 @@ def set_pair(circuit, cls, e, name, value, grouped):
             pass
         else:
             raise Refused('unknown property')
+    elif cls in ('regcontrol', 'capcontrol'):
+        set_control(circuit, e, name, value, grouped)
     elif cls == 'loadshape':
         if name == 'npts':
             e['npts'] = whole(value, grouped)
@@ -406,7 +415,32 @@ def set_pair(circuit, cls, e, name, value, grouped):
             raise Refused('unknown property')
 
 
-OPTIONS = dict(mode='snap', number=1, maxiterations=15, tolerance=100000, hertz=60, controlmode='static')
+def set_control(circuit, e, name, value, grouped):
+    if name not in e:
+        raise Refused('unknown property')
+    if name in ('transformer', 'capacitor', 'element'):
+        w = word(value, grouped).lower()
+        if name == 'element':
+            if not w.startswith('line.'):
+                raise Refused('bad value')
+            w = w[5:]
+        if (name if name != 'element' else 'line', w) not in circuit:
+            raise Refused('unknown name')
+        e[name] = w
+    elif name == 'type':
+        e[name] = word(value, grouped).lower()
+        if e[name] not in ('voltage', 'current', 'kvar'):
+            raise Refused('unsupported')
+    elif name in ('winding', 'terminal', 'maxtapchange', 'ptphase', 'ctphase'):
+        e[name] = whole(value, grouped)
+    elif name in ('delay', 'tapdelay', 'delayoff', 'deadtime'):
+        e[name] = near(one(value, grouped), 10 ** 6)
+    else:
+        e[name] = one(value, grouped)
+
+
+OPTIONS = dict(mode='snap', number=1, maxiterations=15, tolerance=100000, hertz=60, controlmode='static',
+               maxcontroliter=10)
 
 
 def set_option(options, name, value, grouped):
@@ -426,7 +460,9 @@ def set_option(options, name, value, grouped):
         options['hertz'] = whole(value, grouped)
     elif name == 'controlmode':
         options['controlmode'] = word(value, grouped).lower()
-    elif name in ('stepsize', 'maxcontroliter', 'voltagebases'):
+    elif name == 'maxcontroliter':
+        options[name] = check(whole(value, grouped), 0, 100)
+    elif name in ('stepsize', 'voltagebases'):
         pass
     else:
         raise Refused('unknown property')
@@ -438,6 +474,7 @@ class Script:
     def __init__(self, files, solve):
         self.files, self.solve = files, solve
         self.circuit, self.options, self.last, self.has = {}, dict(OPTIONS), None, False
+        self.place = None
 
     def read(self, name, depth, master):
         """Gives None, or the fault (file, line, cause)."""
@@ -452,6 +489,7 @@ class Script:
         for k, raw in enumerate(data):
             if raw.endswith(b'\r') and (ended or k + 1 < len(data)):
                 raw = raw[:-1]
+            self.place = (name, k + 1)
             try:
                 if len(raw) > 65536:
                     raise Refused('line too long')
@@ -463,7 +501,7 @@ class Script:
                 if fault:
                     return fault
             except Refused as e:
-                return (name, k + 1, e.cause)
+                return (e.place or (name, k + 1)) + (e.cause,)
         return None
 
     def pairs(self, key, pairs):
@@ -513,6 +551,7 @@ class Script:
             elif key in self.circuit:
                 raise Refused('duplicate')
             self.circuit[key] = NEW[key[0]]()
+            self.circuit[key]['place'] = self.place
             self.pairs(key, rest[1:])
             self.last = key
         elif verb in ('~', 'more'):
