@@ -1,6 +1,7 @@
 pub mod DeviceRows
 pub mod PowerOf
 pub mod SnapshotCounts
+pub mod HourPowers
 pub mod Counting
 pub mod Bounded
 pub mod Transformers

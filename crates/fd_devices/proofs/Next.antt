@@ -1,5 +1,5 @@
 -- The positions with which a Solve starts: one element more, how many there are, and their ranges.
-use Rattle.std.proofs.Common.{◌≡◌, ◌∙◌, ℕ, zero, suc, ◌+◌, ◌≤◌, Bool, true, false, if◌then◌else◌, List, [], ◌∷◌, ◌++◌, length, length-append, drop, slice_get, Option, Some, None, append_assoc, add-zero, arith, ap, sym, refl}
+use Rattle.std.proofs.Common.{◌≡◌, ◌∙◌, ℕ, zero, suc, ◌+◌, ◌≤◌, Bool, true, false, if◌then◌else◌, List, [], ◌∷◌, ◌++◌, length, length-append, drop, slice_get, Option, Some, None, append_assoc, arith, ap, sym, refl}
 use Rattle.std.specs.List.{All, flat_map}
 use Rattle.std.proofs.Math.ListN.{drop_of_length-le}
 use Rattle.std.proofs.lemmas.List.{append-nil}
@@ -18,7 +18,7 @@ use Rattle.dss_layout.proofs.Placing.{drop-more}
 use Rattle.fd_xfmr.specs.Leakage.{AreTaps}
 use Rattle.fd_devices.specs.Settings.{bank_count, tap_count}
 use Rattle.fd_devices.specs.Snapshot.{closed_of, powers_of, taps_of}
-use Rattle.fd_devices.specs.Positions.{AreNext, NextLaw, in_order, is_set, next_closed, next_closed_of, next_pair, next_tap, next_taps, next_taps_of}
+use Rattle.fd_devices.specs.Positions.{NextLaw, in_order, is_set, next_closed, next_closed_of, next_pair, next_tap, next_taps, next_taps_of}
 use Rattle.fd_devices.proofs.SnapshotCounts.{snapshot_is}
 
 -- ---- what is left of a list

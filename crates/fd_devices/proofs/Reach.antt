@@ -1,5 +1,5 @@
 -- What a device adds stands at places that it can reach.
-use Rattle.std.proofs.Common.{◌≡◌, ℕ, zero, suc, ◌+◌, ◌*◌, ◌%◌, ◌<◌, ◌^◌, ℤ, pos, negsuc, neg_ℤ, ◌*ℤ◌, Bool, true, false, cond, eqb, List, [], ◌∷◌, ◌++◌, length, map, arith, sym, subst, inl, inr}
+use Rattle.std.proofs.Common.{ℕ, zero, suc, ◌+◌, ◌*◌, ◌%◌, ◌<◌, ◌^◌, ℤ, pos, negsuc, neg_ℤ, ◌*ℤ◌, Bool, true, false, cond, eqb, List, [], ◌∷◌, ◌++◌, map, arith, sym, subst, inl, inr}
 use Rattle.std.specs.List.{All, Contains, flat_map}
 use Rattle.std.specs.Ordering.{int_eq}
 use Rattle.std.proofs.lemmas.Bool.{cases_eq}
@@ -14,7 +14,7 @@ use Rattle.fd_system.specs.declared.terminals.PhasePairs.{PhasePairs}
 use Rattle.fd_system.specs.declared.terminals.PhasePairs.TheVariants as pairs
 use Rattle.fd_system.specs.Contributions.{each, one, shunt_list, stamp}
 use Rattle.fd_system.specs.Loads.{impedance_list, linear_list}
-use Rattle.fd_system.specs.Terminals.{branch_of, node_of, pair_of, pairs_of, second_node}
+use Rattle.fd_system.specs.Terminals.{branch_of, node_of, pairs_of, second_node}
 use Rattle.fd_xfmr.specs.declared.data.XfmrData.{XfmrData}
 use Rattle.fd_xfmr.specs.declared.leakage.Coefficients.{Coefficients}
 use Rattle.fd_xfmr.specs.declared.terms.PhaseAt.{PhaseAt}
@@ -24,8 +24,8 @@ use Rattle.fd_xfmr.specs.Transformer.{branch_list, current_list, list_at, phase_
 use Rattle.fd_cap.specs.declared.data.CapData.{CapData}
 use Rattle.fd_cap.specs.Capacitor.{cap_list, cap_pair, cap_power, list_at as cap_list_at, volts_squared}
 use Rattle.fd_equations.specs.PatternPlaces.{load_places, magnitude_places, node_places, place_of, places_of, terminal_places}
-use Rattle.fd_devices.specs.Devices.{Device, capacitor, device_share, line, loads, other, source, transformer}
-use Rattle.fd_devices.specs.Reach.{ReachLaw, branch_places, cross, device_places, unknowns_of}
+use Rattle.fd_devices.specs.Devices.{capacitor, line, loads, other, source, transformer}
+use Rattle.fd_devices.specs.Reach.{ReachLaw, branch_places, cross, unknowns_of}
 
 -- ---- what is among a list
 

@@ -47,7 +47,7 @@ powers_counted (the.RegControl c) = refl
 powers_counted (the.CapControl c) = refl
 powers_counted (the.Loadshape s) = refl
 
-counted : {A : Type 0} (f : Element → List A) (n : Element → ℕ) → ((e : Element) → length (f e) ≡ n e) → (es : Elements) → length (flat_map (λ (x : ElementName × Element). f x.1) es) ≡ list_n (λ (x : ElementName × Element). n x.1) es
+pub counted : {A : Type 0} (f : Element → List A) (n : Element → ℕ) → ((e : Element) → length (f e) ≡ n e) → (es : Elements) → length (flat_map (λ (x : ElementName × Element). f x.1) es) ≡ list_n (λ (x : ElementName × Element). n x.1) es
 counted f n h [] = refl
 counted f n h (e ∷ es) = length-append (f e.1) (flat_map (λ (x : ElementName × Element). f x.1) es) ∙ (λ i. h e.1 i + counted f n h es i)
 

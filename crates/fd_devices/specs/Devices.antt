@@ -1,6 +1,6 @@
 -- Devices: elements of a circuit with the data of their equations, at their nodes and branches. Their complex equations, their
 -- system, and that the two have the same rows.
-use Rattle.std.specs.Prelude.{ℕ, ◌+◌, ◌*◌, ◌^◌, ◌<◌, ℤ, nat_abs, Bool, List, [], ◌++◌, map, All}
+use Rattle.std.specs.Prelude.{ℕ, ◌+◌, ◌*◌, ◌^◌, ◌<◌, nat_abs, Bool, List, [], ◌++◌, map, All}
 use Rattle.std.specs.List.{flat_map}
 use Rattle.fd_exact.specs.Rounding.{ceil_nat}
 use Rattle.fd_exact.specs.States.{State}

@@ -5,6 +5,7 @@ pub mod Scripted
 pub mod Sound
 pub mod Building
 pub mod Snapshot
+pub mod Hours
 pub mod Places
 pub mod Positions
 pub mod Reach

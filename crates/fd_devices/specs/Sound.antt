@@ -1,5 +1,5 @@
 -- What the tests of Solve say of an element that takes part in the equations, and where it stands.
-use Rattle.std.specs.Prelude.{◌≡◌, ℕ, ◌+◌, ◌*◌, ◌≤◌, ◌==◌, false, Ok, IsSome, List, length, All, if◌then◌else◌}
+use Rattle.std.specs.Prelude.{◌≡◌, ℕ, ◌+◌, ◌*◌, ◌≤◌, false, Ok, IsSome, List, length, All}
 use Rattle.fd_arith.specs.declared.terms.NodeAt.{NodeAt}
 use Rattle.fd_arith.specs.declared.terms.Ends.{Ends}
 use Rattle.fd_system.specs.Terminals.{node_count}

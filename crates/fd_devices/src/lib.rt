@@ -6,16 +6,18 @@
 // The settings of a script are exactly its taps, states and powers, as many as its elements have (`snapshot_law`).
 // A later Solve starts with exactly the taps and states that the script set since the Solve before, and else with those of before; they
 // too are as many as the elements have, and in range (`next_law`).
+// The powers of loads at an hour of a day follow their shapes exactly (`powers_at`); those of hour 0 are the snapshot's (`hours_law`).
 //
 // Modules: `data` has the data of transformers and capacitor banks, `devices` is the law, `phase_loads` has the part loads of a load's
 // phases, `pieces` what each element adds, `places` the nodes and branches at which an element stands, `settings` the positions of taps
-// and banks and the powers of loads with which a circuit is taken, `snapshot` those that the script gives, `positions` those with which
-// a later Solve starts, `fault` why there is no network.
+// and banks and the powers of loads with which a circuit is taken, `snapshot` those that the script gives, `hours` the powers at an hour
+// of a day, `positions` those with which a later Solve starts, `fault` why there is no network.
 #![tactic(auto)]
 
 mod data;
 mod devices;
 mod fault;
+mod hours;
 mod phase_loads;
 mod pieces;
 mod places;
@@ -26,13 +28,14 @@ mod snapshot;
 pub use data::{cap_data, xfmr_data};
 pub use devices::{device_law, reach_law};
 pub use fault::BuildFault;
+pub use hours::{hours_law, powers_at};
 pub use pieces::{
     Piece, capacitor_piece, line_piece, load_piece, piece_of, source_piece, transformer_piece,
 };
 pub use places::ends_of;
 pub use positions::next_law;
 pub use settings::{BankStates, LoadPowers, OwnSettings, Positions, Powers, Taps};
-pub use snapshot::{powers_at, snapshot_law};
+pub use snapshot::snapshot_law;
 
 #[cfg(test)]
 mod tests;

@@ -26,6 +26,23 @@ const COMMANDS: [(&str, &str, &str); 4] = [
     ),
 ];
 
+// A load of 120 kilowatt and 60 kilovar that follows a shape, and one of 7 kilowatt that follows none.
+const SHAPED: [(&str, &str, &str); 4] = [
+    ("Circuit", "h", "basekv=12.47"),
+    ("Loadshape", "s", "npts=2 mult=[0.25 1.5 9]"),
+    (
+        "Load",
+        "d",
+        "bus1=sourcebus.1 phases=1 kv=7.2 kw=120 kvar=60 daily=s",
+    ),
+    ("Load", "e", "bus1=sourcebus.1 phases=1 kv=7.2 kw=7 kvar=-2"),
+];
+
+const UNSHAPED: LoadPower = LoadPower {
+    p: 7_000_000,
+    q: -2_000_000,
+};
+
 fn text(alloc: Global, of: &str) -> Result<Text, ModelFault> {
     Ok(Text::new(String::from_str(alloc, of)?))
 }
@@ -40,14 +57,24 @@ fn place(alloc: Global) -> Result<Place, ModelFault> {
 fn circuit(alloc: Global) -> Result<Circuit, ModelFault> {
     let mut circuit = Circuit::empty(alloc);
     for (class, name, rest) in &COMMANDS {
-        let verb = Verb::New {
-            class: text(alloc, class)?,
-            name: text(alloc, name)?,
-            pairs: pair_list(alloc, rest)?,
-        };
-        apply(alloc, &mut circuit, verb)?;
+        add(alloc, &mut circuit, class, name, rest)?;
     }
     Ok(circuit)
+}
+
+fn add(
+    alloc: Global,
+    circuit: &mut Circuit,
+    class: &str,
+    name: &str,
+    rest: &str,
+) -> Result<(), ModelFault> {
+    let verb = Verb::New {
+        class: text(alloc, class)?,
+        name: text(alloc, name)?,
+        pairs: pair_list(alloc, rest)?,
+    };
+    apply(alloc, circuit, verb)
 }
 
 fn pair_list(alloc: Global, of: &str) -> Result<PairList, ModelFault> {
@@ -101,18 +128,32 @@ fn snapshot(rt: HostRuntime) -> Result<(), Fail> {
     Ok(())
 }
 
+// A shape of two points, 0.25 and 1.5, of three numbers: P is 120 kilowatt in all times the point, and Q is half of it.
+#[test]
+fn hours(rt: HostRuntime) -> Result<(), Fail> {
+    let alloc = rt.alloc();
+    let mut circuit = Circuit::empty(alloc);
+    for (class, name, rest) in &SHAPED {
+        add(alloc, &mut circuit, class, name, rest)?;
+    }
+    for (hour, p) in [
+        (0, 120_000_000),
+        (1, 30_000_000),
+        (2, 180_000_000),
+        (3, 30_000_000),
+    ] {
+        let powers = powers_at(alloc, &circuit, hour)?;
+        let phase = LoadPower { p, q: p / 2 };
+        assert_eq!(rt; powers.loads.as_slice(), [phase, UNSHAPED].as_slice());
+    }
+    Ok(())
+}
+
 // The circuit with a second transformer, after a Solve.
 fn solved(alloc: Global) -> Result<Circuit, ModelFault> {
     let mut circuit = circuit(alloc)?;
-    let verb = Verb::New {
-        class: text(alloc, "Transformer")?,
-        name: text(alloc, "u")?,
-        pairs: pair_list(
-            alloc,
-            "buses=[sourcebus c] kvs=[12.47 4.16] taps=[0.95 1.025]",
-        )?,
-    };
-    apply(alloc, &mut circuit, verb)?;
+    let rest = "buses=[sourcebus c] kvs=[12.47 4.16] taps=[0.95 1.025]";
+    add(alloc, &mut circuit, "Transformer", "u", rest)?;
     solve(alloc, &mut circuit)?;
     Ok(circuit)
 }

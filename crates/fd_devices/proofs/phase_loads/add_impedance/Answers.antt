@@ -1,4 +1,4 @@
-use Rattle.std.proofs.Common.{◌≡◌, ◌∙◌, ◌*ℤ◌, ◌≤◌, ◌^◌, ◌++◌, ℤ, pos, neg_ℤ, nat_abs, FitsSigned, arith, ap}
+use Rattle.std.proofs.Common.{◌∙◌, ◌*ℤ◌, ◌≤◌, ◌^◌, ◌++◌, ℤ, pos, neg_ℤ, nat_abs, FitsSigned, arith, ap}
 use Rattle.std.specs.Int.{w128}
 use Rattle.std.proofs.lemmas.Int.{ints, to_z-of_z}
 use Rattle.fd_system.specs.Contributions.{shunt_list}

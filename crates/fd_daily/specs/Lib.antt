@@ -1,0 +1,5 @@
+pub mod Hours
+pub mod Run
+pub mod Chosen
+pub mod Laws
+pub mod Day

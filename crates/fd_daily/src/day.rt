@@ -1,0 +1,143 @@
+// Where a Solve stands between its hours.
+ghost use Rattle.std.specs.Prelude.{◌≡◌, ◌++◌, ◌≤◌, IfOk, None, OnOk, Some, replicate};
+ghost use Rattle.fd_exact.specs.Sums.{list_n};
+ghost use Rattle.fd_devices.specs.Settings.{bank_count};
+ghost use Rattle.fd_daily.specs.Day.{IsDayOf, hour_kept, hours_left};
+ghost use Rattle.fd_daily.specs.Hours.{first_hour, hour_after, hours_of, last_hour, time_of};
+
+use dss_circuit::Circuit;
+use dss_profile::{Element, Options};
+use dss_values::Mode;
+use fd_settle::Clock;
+use std::alloc::{AllocError, Global};
+use std::marker::Model;
+use std::mem;
+
+// The milliseconds of an hour.
+const HOUR: u64 = 3_600_000;
+
+/// The hours of a Solve that are left, and the last opening time of each bank in the script's order, in milliseconds.
+#[derive(Drop)]
+pub struct Day {
+    hour: Option<u32>,
+    last: u32,
+    opened: Vec<Option<u64>>,
+}
+
+impl Model for Day {
+    ghost use Rattle.fd_daily.specs.Day.{DayView};
+
+    ghost Value = { DayView };
+
+    ghost view = { λ d. record { hour = d.hour; last = d.last; opened = d.opened.items } };
+}
+
+impl Day {
+    /// The start of a Solve by the circuit's options: all of its hours are left, and no bank was opened yet.
+    ///
+    /// # Errors
+    /// `AllocError` where the memory is refused.
+    pub fn start(alloc: Global, circuit: &Circuit) -> Result<Day, AllocError>
+        ensures left { IfOk result (λ d. hours_left d ≡ hours_of circuit.now.options) }
+        ensures hour { IfOk result (λ d. d.hour ≡ Some (first_hour circuit.now.options.mode)) }
+        ensures last { IfOk result (λ d. d.last ≡ last_hour circuit.now.options.mode circuit.now.options.number) }
+        ensures opened { IfOk result (λ d. d.opened ≡ replicate (list_n (λ e. bank_count e.1) circuit.now.elements) None) }
+        ensures day { IfOk result (IsDayOf circuit.now) }
+    {
+        let opened = no_openings(alloc, circuit)?;
+        let options = circuit.options();
+        Ok(Day {
+            hour: Some(first_hour(options)),
+            last: last_hour(options),
+            opened,
+        })
+    }
+
+    /// The hour that comes next: 0 for a snapshot, from 1 on for a day; none after the last.
+    pub fn next_hour(&self) -> Option<u32>
+        ensures { result ≡ self.now.hour }
+    {
+        self.hour
+    }
+
+    // The clock at the start of an hour. It takes the opening times until `keep` gives them back.
+    pub(crate) fn take_clock(&mut self, alloc: Global, hour: u32) -> Clock
+        requires { hour ≤ 8760 }
+        ensures now { result.now ≡ time_of hour }
+        ensures opened { result.opened.items ≡ self.old.opened }
+        ensures hour { self.new.hour ≡ self.old.hour }
+        ensures last { self.new.last ≡ self.old.last }
+    {
+        Clock {
+            now: time_of(hour),
+            opened: mem::replace(&mut self.opened, Vec::new(alloc)),
+        }
+    }
+
+    // Keeps the opening times, and goes on behind an hour that ended well.
+    pub(crate) fn keep(&mut self, clock: Clock, hour: u32, is_well: bool)
+        requires { hour ≤ 8760 }
+        ensures opened { self.new.opened ≡ clock.opened.items }
+        ensures hour { self.new.hour ≡ hour_kept is_well hour self.old }
+        ensures last { self.new.last ≡ self.old.last }
+    {
+        self.opened = clock.opened;
+        if is_well {
+            self.hour = hour_after(hour, self.last);
+        }
+    }
+}
+
+// No opening time for each bank.
+fn no_openings(alloc: Global, circuit: &Circuit) -> Result<Vec<Option<u64>>, AllocError>
+    ensures { IfOk result (λ opened. opened.items ≡ replicate (list_n (λ e. bank_count e.1) circuit.now.elements) None) }
+{
+    let mut opened = Vec::new(alloc);
+    for (_name, element) in circuit.elements() {
+        add_bank(&mut opened, element)?;
+    }
+    Ok(opened)
+}
+
+// No opening time for a Capacitor, and nothing for another element.
+fn add_bank(opened: &mut Vec<Option<u64>>, element: &Element) -> Result<(), AllocError>
+    ensures { OnOk result (opened.new.items ≡ opened.old.items ++ replicate (bank_count element.now) None) }
+{
+    if let Element::Capacitor(_) = element {
+        opened.push(None)?;
+    }
+    Ok(())
+}
+
+fn first_hour(options: &Options) -> u32
+    ensures { result ≡ first_hour options.now.mode }
+{
+    match options.mode {
+        Mode::Snapshot => 0,
+        Mode::Daily => 1,
+    }
+}
+
+fn last_hour(options: &Options) -> u32
+    ensures { result ≡ last_hour options.now.mode options.now.number }
+{
+    match options.mode {
+        Mode::Snapshot => 0,
+        Mode::Daily => options.number,
+    }
+}
+
+// The hour behind hour `k`, none behind the last.
+fn hour_after(k: u32, last: u32) -> Option<u32>
+    ensures { result ≡ hour_after k last }
+{
+    if k < last { Some(k + 1) } else { None }
+}
+
+// The time at which an hour starts, in milliseconds.
+fn time_of(hour: u32) -> u64
+    requires { hour ≤ 8760 }
+    ensures { result ≡ time_of hour }
+{
+    HOUR * u64::from(hour.saturating_sub(1))
+}

@@ -1,0 +1,18 @@
+// The hours of a Solve: a settle at each hour, with the powers of that hour.
+//
+// A snapshot is one settle at hour 0. A day is a settle at each of its hours in order, up to the first that doesn't end
+// well: positions and the banks' opening times are kept from hour to hour, and each hour starts with an empty queue. So
+// whatever states are chosen in the balls of the rounds, the acts of all hours are these (`run_law`).
+//
+// - `day`: where a Solve stands between its hours
+// - `running`: the settle of the next hour
+// - `laws`: the acts of all hours follow from the decisions alone, and a run goes on hour by hour
+#![tactic(auto)]
+
+mod day;
+mod laws;
+mod running;
+
+pub use day::Day;
+pub use laws::{next_hour_law, run_law};
+pub use running::daily_run;
