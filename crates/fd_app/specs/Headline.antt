@@ -34,8 +34,8 @@ module _ (circuit : CircuitView) (at : Positions) where
 
   -- ---- the equations of the scripted circuit
 
-  -- The complex equations at a state, in their real and their imaginary parts: Kirchhoff's current law at each node, and the voltage
-  -- equation of each branch; then the row of each magnitude.
+  -- The complex equations at a state, in their real and their imaginary parts: Kirchhoff's current law at each node,
+  -- and the voltage equation of each branch; then the row of each magnitude.
   abbrev pub equations_of : State → ℕ → Fraction
   equations_of x l = equation l (circuit_parts circuit (settings_at (snapshot_powers circuit) at) x)
 
@@ -68,9 +68,10 @@ module _ (circuit : CircuitView) (at : Positions) where
   abbrev pub HaveOneRadius : Claim → Type 0
   HaveOneRadius m = (k : ℕ) → k < complex_count (layout_of circuit.elements) → number_at m.radii (2 * k) ≡ number_at m.radii (2 * k + 1)
 
-  -- The state is the one that the procedure reaches, and its certificate is sound: its mismatches, at most 1,000, and its radii are exactly
-  -- those of its network. The state meets the equations of the scripted circuit within the mismatches; every other state in its box that
-  -- does is within the radii; and no mismatch is larger than its residual and the rounding of its summands.
+  -- The state is the one that the procedure reaches, and its certificate is sound: its mismatches, at most 1,000, and
+  -- its radii are exactly those of its network. The state meets the equations of the scripted circuit within the
+  -- mismatches; every other state in its box that does is within the radii; and no mismatch is larger than its residual
+  -- and the rounding of its summands.
   pub record IsSolution (m : Claim) : Type 0 where
     pub state : solution_of snapshot_network (limits_of circuit.options) ≡ Ok (m.centre, m.inverse)
     pub certificate : certificate_of snapshot_network m.centre m.inverse ≡ Ok m
@@ -93,8 +94,8 @@ machine_of s = first_machine s.circuit s.start
 abbrev pub AreSolutions : Settle → Type 0
 AreSolutions s = AtEach (IsSolution s.circuit) (snapshot_plant s.circuit) (machine_of s) (claims_of s)
 
--- Whatever states are chosen for its first rounds, each in the trust box of its round and meeting the round's mismatches: the acts of these
--- rounds are those of the queue machine over these states.
+-- Whatever states are chosen for its first rounds, each in the trust box of its round and meeting the round's
+-- mismatches: the acts of these rounds are those of the queue machine over these states.
 abbrev pub IsSteady : Settle → Type 0
 IsSteady s = (xs : List State) → AreChosen (setup_of s.circuit) (IsOtherState s.circuit) (look_over (controls_in s.circuit)) (machine_of s) (claims_of s) xs →
     (settle_of (setup_of s.circuit) (look_at (controls_in s.circuit)) (machine_of s) xs).rounds ≡ take (length xs) (map (λ r. r.acts) s.rounds)

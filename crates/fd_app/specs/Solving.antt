@@ -75,7 +75,8 @@ undecided_at c k u = undecided_by (slice_get (controls_of c.elements) k) u
 
 -- ---- the step
 
--- the step that comes of these rounds and this ending; the procedure's definition gives no want of memory, so none comes of that
+-- the step that comes of these rounds and this ending; the procedure's definition gives no want of memory, so none
+-- comes of that
 abbrev pub IsStepBy : StandingView → List Round → Ending → Machine → Step StandingView → Type 0
 IsStepBy s rounds (ended Open) n step = ⊥
 IsStepBy s rounds (ended Settled) n step = step ≡ settles s rounds n.at
@@ -92,9 +93,9 @@ IsStepBy s rounds (stopped (uncertified (uncertain place bound))) n step = step 
 abbrev pub rounds_of : List (Claim × List Act) → List Round
 rounds_of rounds = map (λ r. round_of r.0 r.1) rounds
 
--- The settle from the positions with which the Solve starts: its rounds are computed one after the other, each by the procedure and its
--- certificate in the network at the positions that the acts before left, and its acts are those of the queue machine over the samples of
--- its ball.
+-- The settle from the positions with which the Solve starts: its rounds are computed one after the other, each by the
+-- procedure and its certificate in the network at the positions that the acts before left, and its acts are those of
+-- the queue machine over the samples of its ball.
 pub record IsSettleStep (s : StandingView) (step : Step StandingView) : Type 0 where
   pub rounds : List (Claim × List Act)
   pub ending : Ending
@@ -110,7 +111,7 @@ abbrev pub IsByBuilt : StandingView → Option Place → Step StandingView → T
 IsByBuilt s None step = IsByRange s ((snapshot_plant s.circuit).blame (start_of s)) step
 IsByBuilt s (Some place) step = step ≡ refuses place cause.NotBuilt
 
--- the first element that isn't solved yet refuses the script, then the one to blame for the range of the network with which the Solve
--- starts; else a settle comes of it
+-- the first element that isn't solved yet refuses the script, then the one to blame for the range of the network with
+-- which the Solve starts; else a settle comes of it
 unfoldable pub IsSolutionStep : StandingView → Step StandingView → Type 0
 IsSolutionStep s step = IsByBuilt s (unbuilt_place s.circuit.elements) step

@@ -13,7 +13,8 @@ use Rattle.fd_outcome.specs.Settles.{Round, Settle, SettleEnd, settled, failed}
 use Rattle.fd_outcome.specs.Events.{settle}
 use Rattle.fd_outcome.specs.Work.{Step, goes, ends}
 
--- between two commands: the circuit, and the positions of taps and banks that its last Solve left, none before the first
+-- between two commands: the circuit, and the positions of taps and banks that its last Solve left, none before the
+-- first
 pub record StandingView : Type 0 where
   pub circuit : CircuitView
   pub at : Positions
@@ -30,7 +31,8 @@ changes s = goes [] s
 abbrev pub refuses : Place → Cause → Step StandingView
 refuses place c = ends [] (fault.Script place c)
 
--- the positions with which a Solve starts: those that the script set since the Solve before, and else those that it left
+-- the positions with which a Solve starts: those that the script set since the Solve before, and else those that it
+-- left
 abbrev pub start_of : StandingView → Positions
 start_of s = record { taps = next_taps s.circuit.solves s.circuit.elements s.at.taps; closed = next_closed s.circuit.solves s.circuit.elements s.at.closed }
 

@@ -30,8 +30,8 @@ fn scale_of(element: &Element) -> Scale
     }
 }
 
-/// The fault of an undecided sample of the control of this number, which counts the controls from 0 in the script's order: the ends of the
-/// sample, and the least value between them at which what the control wants changes.
+/// The fault of an undecided sample of the control of this number, which counts the controls from 0 in the script's
+/// order: the ends of the sample, and the least value between them at which what the control wants changes.
 pub(crate) fn undecided(
     alloc: Global,
     circuit: &Circuit,

@@ -38,13 +38,15 @@ pub(crate) trait Line {
     /// The least room in a script that the commands so far have taken.
     ghost weight: { Self → ℕ };
 
-    /// A law: a command comes to exactly one thing, and so does the end; the names of its events are asked of the library. Does nothing.
+    /// A law: a command comes to exactly one thing, and so does the end; the names of its events are asked of the
+    /// library. Does nothing.
     fn law()
         ensures one_step { (command : Command) (state : Self) → ExactlyOne (is_step command state) }
         ensures one_last { (state : Self) (found : Option (List ℕ)) → ExactlyOne (is_last state found) }
         ensures fits { AsksNames style };
 
-    /// Does a command, and hands over what it gives. An answer ends the run. `begun` tells whether a text was written before.
+    /// Does a command, and hands over what it gives. An answer ends the run. `begun` tells whether a text was written
+    /// before.
     fn take<S: Sink>(
         &mut self,
         alloc: Global,

@@ -38,7 +38,8 @@ pub(crate) fn print_fault<S: Sink>(alloc: Global, fault: &Fault, out: &mut S) ->
     }
 }
 
-/// Prints the records of a settle that ended well: its rounds with their acts, and then the taps. An answer ends the run.
+/// Prints the records of a settle that ended well: its rounds with their acts, and then the taps. An answer ends the
+/// run.
 pub(crate) fn print_settle<S: Sink>(
     alloc: Global,
     circuit: &Circuit,
@@ -61,7 +62,8 @@ pub(crate) fn print_settle<S: Sink>(
     }
 }
 
-/// Prints the records of the rounds of a settle that ended with a fault, and then the fault's, and answers the exit status.
+/// Prints the records of the rounds of a settle that ended with a fault, and then the fault's, and answers the exit
+/// status.
 pub(crate) fn print_failed<S: Sink>(
     alloc: Global,
     circuit: &Circuit,

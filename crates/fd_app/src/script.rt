@@ -15,8 +15,8 @@ use fd_outside::{Library, Sink};
 use fd_report::{Cause, Fault};
 use std::alloc::Global;
 
-/// Does the commands of a script and what a command line does behind them, prints what each gives in the command line's style, and
-/// answers the exit status.
+/// Does the commands of a script and what a command line does behind them, prints what each gives in the command line's
+/// style, and answers the exit status.
 pub(crate) fn run_script<T: Line, L: Library, S: Sink>(
     alloc: Global,
     session: &mut Session,

@@ -15,8 +15,8 @@ use dss_circuit::Command;
 use fd_outside::{Library, Sink};
 use std::alloc::Global;
 
-/// The state between the commands of `solve` is the circuit with the positions that its last Solve left; it asks for no further name, and
-/// does nothing behind the last command.
+/// The state between the commands of `solve` is the circuit with the positions that its last Solve left; it asks for no
+/// further name, and does nothing behind the last command.
 impl Line for Standing {
     ghost is_step = { λ command s step. IsStep command s step };
 

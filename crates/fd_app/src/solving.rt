@@ -25,7 +25,7 @@ use crate::controls::undecided;
 use dss_circuit::{Circuit, Element, Place};
 use dss_layout::Layout;
 use fd_cert::CertFault;
-use fd_devices::{BuildFault, Positions, Powers, next_law, powers_at};
+use fd_devices::{BuildFault, Positions, Powers, hours_law, next_law, powers_at};
 use fd_enclosure::{ball_law, enclosure_law, tie_law};
 use fd_inject::SolveFault;
 use fd_network::Network;
@@ -220,6 +220,15 @@ fn settle_network(
     }
 }
 
+// The powers of the loads' phases in a snapshot.
+fn snapshot_powers(alloc: Global, circuit: &Circuit) -> Result<Powers, AllocError>
+    ensures powers { IfOk result (λ p. p.loads ≡ snapshot_powers circuit.now) }
+    ensures modest { IfOk result (λ p. All IsModest p.loads) }
+{
+    hours_law();
+    powers_at(alloc, circuit, 0)
+}
+
 // What a circuit whose elements are all solved comes to, where its last Solve left these positions.
 fn settle_built(alloc: Global, circuit: &Circuit, before: &Positions) -> Result<Answer, AllocError>
     requires ready { HasPassed circuit.now }
@@ -229,7 +238,7 @@ fn settle_built(alloc: Global, circuit: &Circuit, before: &Positions) -> Result<
     // read for what the elements are
     let _elements = circuit.elements();
     let at = Positions::next(alloc, circuit, before)?;
-    let powers = powers_at(alloc, circuit, 0)?;
+    let powers = snapshot_powers(alloc, circuit)?;
     next_law();
     match Network::build(alloc, circuit, &at, &powers) {
         Ok(net) => settle_network(alloc, circuit, net, at, &powers),
@@ -240,8 +249,8 @@ fn settle_built(alloc: Global, circuit: &Circuit, before: &Positions) -> Result<
     }
 }
 
-/// What a Solve of a circuit that passed the tests comes to, where its last Solve left these positions: a refusal, or a settle, which ends
-/// well or with a fault.
+/// What a Solve of a circuit that passed the tests comes to, where its last Solve left these positions: a refusal, or a
+/// settle, which ends well or with a fault.
 pub(crate) fn answer(
     alloc: Global,
     circuit: &Circuit,

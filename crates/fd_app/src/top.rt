@@ -56,27 +56,29 @@ fn solve<L: Library, S: Sink>(alloc: Global, file: &str, lib: &mut L, out: &mut 
 /// | 11 | the sample of a control is undecided over the ball of the state |
 /// | 12 | a control is due to act after as many acts as the options allow |
 ///
-/// The words are those after the program's name. `solve FILE` does the commands of the script of that name, and prints the rounds
-/// of each Solve, with the acts of its controls, before the next command is read. Each record is handed to the sink by one write. A refusal is printed with its file, its
-/// line and its cause, a failed read with the file's name, a fault of the procedure with the first unknown that it is found at, a
-/// mismatch with its row, a state without a certificate with the unknown whose bound reaches one, and an undecided sample with its
-/// control.
+/// The words are those after the program's name. `solve FILE` does the commands of the script of that name, and prints
+/// the rounds of each Solve, with the acts of its controls, before the next command is read. Each record is handed to
+/// the sink by one write. A refusal is printed with its file, its line and its cause, a failed read with the file's
+/// name, a fault of the procedure with the first unknown that it is found at, a mismatch with its row, a state without
+/// a certificate with the unknown whose bound reaches one, and an undecided sample with its control.
 pub fn run<L: Library, S: Sink>(alloc: Global, words: &[String], lib: &mut L, out: &mut S) -> u8
-    // The one history of the words over the files held is done: all its calls, reads and writes, in order, and its end's status; or a front of
-    // whole calls, and 1; or a front and less than all of the next text, and 5; where a read fails, the calls up to it and its fault's record.
-    // Each settle that the run came to is solved: each state is the one that the procedure reaches, meets its circuit's equations within the
-    // printed mismatches, which are at most 1,000, and each state in its trust box that meets them too is within the printed radii. And its
-    // acts are those of the queue machine over any such states, one for each round.
+    // The one history of the words over the files held is done: all its calls, reads and writes, in order, and its
+    // end's status; or a front of whole calls, and 1; or a front and less than all of the next text, and 5; where a
+    // read fails, the calls up to it and its fault's record. Each settle that the run came to is solved: each state is
+    // the one that the procedure reaches, meets its circuit's equations within the printed mismatches, which are at
+    // most 1,000, and each state in its trust box that meets them too is within the printed radii. And its acts are
+    // those of the queue machine over any such states, one for each round.
     ensures run { (files : Files) → Knows (form_of (map string_bytes words.now)) (L.holds lib.old) files →
         Runs L.faults L.asked S.taken S.calls lib.old lib.new out.old out.new
         (λ h. IsFormHistory files (form_of (map string_bytes words.now)) h)
         (style_of (form_of (map string_bytes words.now))) IsSolved result }
 
-    // Whatever the library tells of what it holds: it is done, or cut short, or ends with a fault, whose record is the last text taken.
+    // Whatever the library tells of what it holds: it is done, or cut short, or ends with a fault, whose record is the
+    // last text taken.
     ensures statuses { Answers S.taken S.calls out.old out.new result }
 
-    // Usage comes only where the words are no form. A failed read and a failed write are answered only where a count rose, and the record
-    // of a failed read names the file asked last.
+    // Usage comes only where the words are no form. A failed read and a failed write are answered only where a count
+    // rose, and the record of a failed read names the file asked last.
     ensures usage { result ≡ 2 → form_of (map string_bytes words.now) ≡ None }
     ensures read { result ≡ 4 → Rose (L.faults lib.old) (L.faults lib.new) }
     ensures last { result ≡ 4 → EndsAtRead L.asked lib.old lib.new S.taken S.calls out.old out.new }
@@ -96,8 +98,8 @@ pub fn forms_law()
     ensures { FormsLaw }
 {}
 
-/// A law: the status of a run is that of the history's end, but for want of memory, a failed write or a failed read; and where no count
-/// rose it is that status or want of memory. Does nothing.
+/// A law: the status of a run is that of the history's end, but for want of memory, a failed write or a failed read;
+/// and where no count rose it is that status or want of memory. Does nothing.
 pub fn due_law<L: Library, S: Sink>()
     ensures { (files : Files) (words : List (List ℕ)) (h : History) (lib_old lib_new : L) (old new : S) (code : ℕ) →
         IsFormHistory files (form_of words) h →

@@ -13,8 +13,8 @@ pub record Point (S : Type 0) : Type 0 where
   pub end : ScriptEnd
   pub state : S
 
--- A command line gives what a command comes to, the name that it asks for behind the last command, where it asks for one, and what it
--- does then, by what is held under that name.
+-- A command line gives what a command comes to, the name that it asks for behind the last command, where it asks for
+-- one, and what it does then, by what is held under that name.
 module _ {S : Type 0} (is_step : Command → S → Step S → Type 0) (last_name : S → Option (List ℕ)) (is_last : S → Option (List ℕ) → History → Type 0)
     (held : List ℕ → Option (List ℕ)) where
   abbrev pub IsLast : Option (List ℕ) → S → History → Type 0
@@ -33,6 +33,7 @@ module _ {S : Type 0} (is_step : Command → S → Step S → Type 0) (last_name
   abbrev pub IsFrom : Point S → History → Type 0
   IsFrom p h = IsHistory p.left p.end p.state h
 
-  -- with these events the run has come from one point to another: whatever history follows there, these events lead to it
+  -- with these events the run has come from one point to another: whatever history follows there, these events lead to
+  -- it
   abbrev pub LeadsTo : Point S → List Event → Point S → Type 0
   LeadsTo p events q = (h : History) → IsFrom q h → IsFrom p (before events h)

@@ -60,7 +60,8 @@ pub record IsReadFailing (n : ℕ) (d e : Doing) : Type 0 where
 abbrev pub ReadLaw : Type 0
 ReadLaw = (n : ℕ) (d : Doing) → (failing (Some n) d ≡ d) ⊎ IsReadFailing n d (failing (Some n) d)
 
--- what was written is a front of the texts: so many writes, of which the last may be torn; at want of memory whole texts
+-- what was written is a front of the texts: so many writes, of which the last may be torn; at want of memory whole
+-- texts
 pub record IsCut (d : Doing) (code : ℕ) (m : Made) : Type 0 where
   pub is_front : IsFront (texts_written d.calls) (length (texts_written m.calls) + torn_writes m.torn) (concat (texts_written m.calls) ++ torn_bytes m.torn)
   pub names : (rest : List (List ℕ)) × (names_read d.calls ≡ names_read m.calls ++ rest)
@@ -72,8 +73,8 @@ CutLaw = (d : Doing) (code : ℕ) (m : Made) → IsDone d code m → IsCut d cod
 
 -- ---- the status of a run
 
--- the status of a run is that of the one history's end, unless memory ran out, a write failed, or a read did; so where no count rises
--- it is that status or want of memory
+-- the status of a run is that of the one history's end, unless memory ran out, a write failed, or a read did; so where
+-- no count rises it is that status or want of memory
 pub record IsDue (end : Option Fault) (code before now : ℕ) : Type 0 where
   pub is_due : (code ≡ status_of end) ⊎ ((code ≡ want_of_memory) ⊎ ((code ≡ write_fault) ⊎ (Rose before now × (code ≡ 4))))
   pub complete : (Rose before now → ⊥) → (code ≡ write_fault → ⊥) → (code ≡ status_of end) ⊎ (code ≡ want_of_memory)

@@ -40,7 +40,8 @@ pub record IsCutIn {S : Type 0} (taken : S → Option (List ℕ)) (calls : S →
 abbrev pub fault_doing : Fault → Doing
 fault_doing f = record { calls = writes (fault_text f) ∷ []; end = Some f }
 
--- ---- a session: what is left of the script and how it ends, before a call and after it, and the names asked before and after
+-- ---- a session: what is left of the script and how it ends, before a call and after it, and the names asked before
+-- and after
 
 -- names that stand before the rest were asked
 pub record Asked (left rest : List Said) (old new : Option (List (List ℕ))) : Type 0 where

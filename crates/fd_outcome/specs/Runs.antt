@@ -6,8 +6,8 @@ use Rattle.fd_outcome.specs.Events.{Event, History, AllSettles}
 use Rattle.fd_outcome.specs.Calls.{Style, doing}
 use Rattle.fd_outcome.specs.Done.{failing, Made, IsDone, Sees, HasReadCause}
 
--- The run came so far in its history: what was made is done of these first events and an end, and each of their settles is good. So a
--- settle of which a record was handed over is good.
+-- The run came so far in its history: what was made is done of these first events and an end, and each of their settles
+-- is good. So a settle of which a record was handed over is good.
 pub record Reached (style : Style) (good : Settle → Type 0) (history : History) (fails : Option ℕ) (code : ℕ) (made : Made) : Type 0 where
   pub front : List Event
   pub rest : List Event
@@ -19,8 +19,9 @@ pub record Reached (style : Style) (good : Settle → Type 0) (history : History
 -- over a library and a sink that tell what they see
 module _ {L S : Type 0} (faults : L → ℕ) (asked : L → Option (List (List ℕ))) (taken : S → Option (List ℕ)) (calls : S → Option ℕ)
     (lib_old lib_new : L) (old new : S) where
-  -- The one history is done, whole or cut short; a read fails only where the library's count of faults rose; the names asked, the bytes
-  -- taken and the writes are those of what is done, in one order; and each settle that the run came to is good.
+  -- The one history is done, whole or cut short; a read fails only where the library's count of faults rose; the names
+  -- asked, the bytes taken and the writes are those of what is done, in one order; and each settle that the run came to
+  -- is good.
   pub record Runs (is_history : History → Type 0) (style : Style) (good : Settle → Type 0) (code : ℕ) : Type 0 where
     pub history : History
     pub right : is_history history

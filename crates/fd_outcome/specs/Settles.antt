@@ -5,9 +5,10 @@ use Rattle.fd_queue.specs.Controls.{Positions}
 use Rattle.fd_queue.specs.Machine.{Act}
 use Rattle.fd_report.specs.declared.faults.Fault.{Fault}
 
--- A state that the procedure reaches, by place, in whole microvolts and microamperes, with its certificate: the radius within which others
--- lie of it, the half-width of the box of which these speak, the mismatch of each row, and the inverse with which it was reached, in units
--- of 2^-40. And the acts of controls behind it, by the controls' numbers in the script's order.
+-- A state that the procedure reaches, by place, in whole microvolts and microamperes, with its certificate: the radius
+-- within which others lie of it, the half-width of the box of which these speak, the mismatch of each row, and the
+-- inverse with which it was reached, in units of 2^-40. And the acts of controls behind it, by the controls' numbers in
+-- the script's order.
 pub record Round : Type 0 where
   pub centre : List ℤ
   pub radii : List ℕ
@@ -20,7 +21,8 @@ pub data SettleEnd : Type 0 where
   settled : SettleEnd
   failed : Fault → SettleEnd
 
--- of a circuit, by its number in the run, from 1; the hour is 0 in a snapshot. It starts and leaves with the positions of taps and banks
+-- of a circuit, by its number in the run, from 1; the hour is 0 in a snapshot. It starts and leaves with the positions
+-- of taps and banks
 pub record Settle : Type 0 where
   pub number : ℕ
   pub hour : ℕ

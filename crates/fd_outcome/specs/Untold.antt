@@ -34,8 +34,8 @@ pub record EndsAtRead {L S : Type 0} (asked : L → Option (List (List ℕ))) (l
   pub asks : Becomes (asked lib_old) (asked lib_new) (λ before. before ++ (names ++ bytes name ∷ []))
   pub takes : Takes taken calls old new (texts ++ fault_text (fault.Read name) ∷ [])
 
--- What a run answers and does: names are only added to those asked; usage is none of its statuses; a failed read and a failed write are
--- answered only where a count rose.
+-- What a run answers and does: names are only added to those asked; usage is none of its statuses; a failed read and a
+-- failed write are answered only where a count rose.
 pub record IsUntold {L S : Type 0} (faults : L → ℕ) (asked : L → Option (List (List ℕ))) (sink_faults : S → ℕ)
     (taken : S → Option (List ℕ)) (calls : S → Option ℕ) (lib_old lib_new : L) (old new : S) (code : ℕ) : Type 0 where
   pub answers : Answers taken calls old new code

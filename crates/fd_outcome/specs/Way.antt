@@ -14,8 +14,9 @@ whole calls = record { calls = calls; torn = None }
 module _ {T : Type 0} (is_step : Command → T → Step T → Type 0) (last_name : T → Option (List ℕ)) (is_last : T → Option (List ℕ) → History → Type 0)
     (good : Settle → Type 0) (held : List ℕ → Option (List ℕ))
     {L S : Type 0} (asked : L → Option (List (List ℕ))) (taken : S → Option (List ℕ)) (calls : S → Option ℕ) (style : Style) where
-  -- These events lead from the first point to where the run stands: whatever follows here, it is the history of the rest behind them.
-  -- The outside has seen them whole: each name was asked and each text written, in order, and nothing else. And their settles are good.
+  -- These events lead from the first point to where the run stands: whatever follows here, it is the history of the
+  -- rest behind them. The outside has seen them whole: each name was asked and each text written, in order, and nothing
+  -- else. And their settles are good.
   pub record Way (first : Point T) (lib_first : L) (out_first : S) (now : Point T) (lib_now : L) (out_now : S) : Type 0 where
     pub events : List Event
     pub leads : LeadsTo is_step last_name is_last held first events now

@@ -10,8 +10,8 @@ ghost use Rattle.fd_outcome.specs.Work.{Step};
 
 use fd_outside::{Library, Sink};
 
-/// A command line, with T between its commands, and a property of its settles. (A clause can't range over relations, so a law that speaks of any takes them from a
-/// bound.)
+/// A command line, with T between its commands, and a property of its settles. (A clause can't range over relations, so
+/// a law that speaks of any takes them from a bound.)
 pub trait Work<T> {
     ghost is_step: { Command → T → Step T → Type 0 };
 
@@ -45,13 +45,15 @@ pub fn read_law()
     ensures { ReadLaw }
 {}
 
-/// A law: what was written of a run that was cut short is a front of its texts, and the names asked are a front of its names. Does nothing.
+/// A law: what was written of a run that was cut short is a front of its texts, and the names asked are a front of its
+/// names. Does nothing.
 #[tactic(auto, using(crate::proofs::Printing::cut_is))]
 pub fn cut_law()
     ensures { CutLaw }
 {}
 
-/// A law: the status of a run is that of its history's end, but for want of memory, a failed write or a failed read. Does nothing.
+/// A law: the status of a run is that of its history's end, but for want of memory, a failed write or a failed read.
+/// Does nothing.
 pub fn due_law<T, W: Work<T>, L: Library, S: Sink>()
     ensures { (held : List ℕ → Option (List ℕ)) (style : Style) (p : Point T) (lib_old lib_new : L) (old new : S) (code : ℕ) →
         DueLaw W.is_step W.last_name W.is_last L.faults L.asked S.taken S.calls held style W.good p lib_old lib_new old new code }

@@ -1,15 +1,18 @@
 //! What a command line does: definitions and laws alone.
 //!
-//! What a script says is a list, a name asked or a command given, and an end. What a command line makes of it is its history: the events
-//! in order, a name asked or a settle, and an end, which is a fault or none. It is always followed to its end, and there is exactly one
-//! (`history_law`). A history is printed in a style as one list of calls, reads and writes in order. A failing read cuts the calls, and
-//! not the history (`read_law`); want of memory leaves a front of whole calls, a failed write a front and a torn text (`cut_law`). The
-//! status is that of the end, unless one of these came (`due_law`, `status_law`).
+//! What a script says is a list, a name asked or a command given, and an end. What a command line makes of it is its
+//! history: the events in order, a name asked or a settle, and an end, which is a fault or none. It is always followed
+//! to its end, and there is exactly one (`history_law`). A history is printed in a style as one list of calls, reads
+//! and writes in order. A failing read cuts the calls, and not the history (`read_law`); want of memory leaves a front
+//! of whole calls, a failed write a front and a torn text (`cut_law`). The status is that of the end, unless one of
+//! these came (`due_law`, `status_law`).
 //!
-//! A command line differs from another in what a command comes to (`Step`), in the tail behind the last command, and in its style.
+//! A command line differs from another in what a command comes to (`Step`), in the tail behind the last command, and in
+//! its style.
 //!
-//! Specs: `Statuses`; `Settles`, `Events`, `Work`, `History`; `Pages`, `Calls`; `Done`, `Runs`: what a run promises; `Laws`; and for the
-//! loop over a script's commands `Way`, its invariant, `Behind` and `Parts`, what its parts promise it.
+//! Specs: `Statuses`; `Settles`, `Events`, `Work`, `History`; `Pages`, `Calls`; `Done`, `Runs`: what a run promises;
+//! `Laws`; and for the loop over a script's commands `Way`, its invariant, `Behind` and `Parts`, what its parts promise
+//! it.
 #![tactic(auto)]
 
 mod laws;

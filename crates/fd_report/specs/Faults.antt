@@ -1,4 +1,5 @@
--- The faults in which a command line can end: the fields of each record, and its exit status. An unknown or a row goes by its name.
+-- The faults in which a command line can end: the fields of each record, and its exit status. An unknown or a row goes
+-- by its name.
 use Rattle.std.specs.Prelude.{ℕ, ℤ, List, [], ◌∷◌, unsigned_abs, codes, Option, Some, None}
 use Rattle.std.specs.Fmt.{decimal}
 use Rattle.dss_values.specs.Names.{bytes}

@@ -2,7 +2,8 @@
 use Rattle.std.specs.Prelude.{◌≡◌, ℕ, ◌<◌, ◌≤◌, ◌^◌, ℤ, nat_abs, List, length, get_or}
 use Rattle.fd_exact.specs.States.{part}
 
--- a state, the radii within which others lie, the half-widths of the box of which these speak, and the mismatch of each row
+-- a state, the radii within which others lie, the half-widths of the box of which these speak, and the mismatch of each
+-- row
 pub record SolutionView : Type 0 where
   pub centre : List ℤ
   pub radii : List ℕ

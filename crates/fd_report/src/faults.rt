@@ -74,15 +74,15 @@ pub enum Fault {
         row: Text,
         mismatch: u128,
     },
-    /// The state has no certificate: the bound of this unknown reaches one. The bound is in whole 2^-40, and none where it is past every
-    /// number.
+    /// The state has no certificate: the bound of this unknown reaches one. The bound is in whole 2^-40, and none where
+    /// it is past every number.
     NotCertified {
         unknown: Text,
         bound: Option<u128>,
     },
     /// The sample of this control is undecided: what it measures lies between these ends, in units of the scale, and
-    /// the edge is the least value between them at which what the control wants changes. The control is printed by class
-    /// and name, as `regcontrol.a`.
+    /// the edge is the least value between them at which what the control wants changes. The control is printed by
+    /// class and name, as `regcontrol.a`.
     Undecided {
         control: ElementName,
         low: i128,

@@ -1,9 +1,9 @@
 //! The records of a solved network, of its controls, and those of the faults in which a command line can end.
 //!
 //! `records` promises exactly the records of one solution, in order: the solution's, one for each node, one for each
-//! branch phase and one for each magnitude, each with its own name, its own parts of the state, their radius and box, and the
-//! mismatches of its own rows. Each fault's record has exactly the fields of its definition. A record is the text of its fields as csv
-//! writes them. Want of memory is the one error.
+//! branch phase and one for each magnitude, each with its own name, its own parts of the state, their radius and box,
+//! and the mismatches of its own rows. Each fault's record has exactly the fields of its definition. A record is the
+//! text of its fields as csv writes them. Want of memory is the one error.
 //!
 //! - `number`: the texts of numbers with a fixed count of decimals
 //! - `names`: the names of nodes, elements and unknowns

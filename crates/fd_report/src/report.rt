@@ -185,7 +185,8 @@ fn push_magnitudes(
 
 /// The records of one solution of a network with this layout: the solution's, one for each node, one for each branch
 /// phase and one for each magnitude, in order. `number` is that of the settle in the run, from 1; the hour is 0 in a
-/// snapshot; rounds count from 0. Both parts of a node and of a branch phase have one radius and one box, so each is written once.
+/// snapshot; rounds count from 0. Both parts of a node and of a branch phase have one radius and one box, so each is
+/// written once.
 pub fn records(
     alloc: Global,
     layout: &Layout,

@@ -4,8 +4,8 @@ ghost use Rattle.fd_report.specs.Solutions.{solution_of};
 
 use std::marker::Model;
 
-/// The numbers of a solution, by place, in whole microvolts and microamperes: a state, the radius within which others lie of it, the
-/// half-width of the box of which these speak, and the mismatch of each row.
+/// The numbers of a solution, by place, in whole microvolts and microamperes: a state, the radius within which others
+/// lie of it, the half-width of the box of which these speak, and the mismatch of each row.
 #[derive(Drop)]
 pub struct Solution<'a> {
     centre: &'a [i128],

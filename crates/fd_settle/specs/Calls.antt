@@ -14,8 +14,8 @@ abbrev pub answer_in : {F : Type 0} → Result Certified F → Result Claim F
 answer_in (Ok m) = Ok (claim_in m)
 answer_in (Err f) = Err f
 
--- The solver answered these claims in order, each call made on the solver that the call before left, with the network at the positions that
--- the acts before left, which is in range.
+-- The solver answered these claims in order, each call made on the solver that the call before left, with the network
+-- at the positions that the acts before left, which is in range.
 abbrev pub AreCalls : {V F : Type 0} → (V → NetworkView → Result Claim F → V → Type 0) → Plant → V → Machine → List Claim → V → Type 0
 AreCalls gives p v m [] w = w ≡ v
 AreCalls {V} gives p v m (c ∷ cs) w = (u : V) × ((p.blame m.at ≡ None) × (gives v (p.network m.at) (Ok c) u × AreCalls gives p u (after_round p m c) cs w))

@@ -19,7 +19,8 @@ use Rattle.fd_settle.specs.Plant.{Plant}
 use Rattle.fd_settle.specs.Rounds.{seen}
 use Rattle.fd_settle.specs.Settle.{End, Settled, Limited, Undecidable, Outcome, Ends, Moves, outcome_of}
 
--- why a solve gives no certified state: the network is out of range, the procedure gives no point, or its point has no certificate
+-- why a solve gives no certified state: the network is out of range, the procedure gives no point, or its point has no
+-- certificate
 pub data Stop : Type 0 where
   range : Blame → Stop
   procedure : SolveFault → Stop

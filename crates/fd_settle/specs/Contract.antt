@@ -43,8 +43,8 @@ EndsAs p (Err (fault.Range blame)) end m = (end ≡ Open) × (p.blame m.at ≡ S
 EndsAs p (Err (fault.Solver f)) end m = end ≡ Open
 EndsAs p (Err fault.NoMemory) end m = end ≡ Open
 
--- The solver's calls are those of the appended rounds; the solver's own fault is its last answer; after want of memory the last state may
--- be missing.
+-- The solver's calls are those of the appended rounds; the solver's own fault is its last answer; after want of memory
+-- the last state may be missing.
 abbrev pub CallsAs : {V T F : Type 0} → (V → NetworkView → Result Claim F → V → Type 0) → Plant → V → Machine → List Round → Result T (SettleFault F) → V → Type 0
 CallsAs gives p v m rounds (Err (fault.Solver f)) w = IsLast gives p v m rounds (Err f) w
 CallsAs gives p v m rounds (Err fault.NoMemory) w = AreCalls gives p v m (claims_in rounds) w ⊎ IsMissing gives p v m rounds w

@@ -57,6 +57,7 @@ plant_of c powers = record {
   blame = blame_at c powers;
 }
 
--- the machine with an empty queue, no moves and no acts, at these positions, this time and these opening times of the banks
+-- the machine with an empty queue, no moves and no acts, at these positions, this time and these opening times of the
+-- banks
 abbrev pub started : CircuitView → Positions → ℕ → List (Option ℕ) → Machine
 started c at now opened = record { at = at; now = now; opened = opened; moves = replicate (length (controls_in c)) None; queue = []; next = 0; made = 0 }

@@ -5,8 +5,8 @@ use Rattle.fd_queue.specs.Machine.{Machine, Setup, Act, Step, Quiet, AtLimit, Ac
 use Rattle.fd_sample.specs.Decided.{Undecided}
 use Rattle.fd_settle.specs.Sampling.{Sampling, Decided, Unclear}
 
--- why a settle ends: no entry is due; one is after as many acts as are allowed; a control's sample is undecided. It is open where the
--- solves run out
+-- why a settle ends: no entry is due; one is after as many acts as are allowed; a control's sample is undecided. It is
+-- open where the solves run out
 pub data End : Type 0 where
   Open : End
   Settled : End
@@ -37,8 +37,8 @@ abbrev pub before_rest : Outcome → (Machine → Settle) → Settle
 before_rest (Ends end m) rest = record { rounds = [] ∷ []; end = end; machine = m }
 before_rest (Moves acts m) rest = let after = rest m in record after { rounds = acts ∷ after.rounds }
 
--- over a list with one item for each solve: a state, or a certified state with its ball. What is sampled depends on the positions that the
--- acts before left
+-- over a list with one item for each solve: a state, or a certified state with its ball. What is sampled depends on the
+-- positions that the acts before left
 abbrev pub settle_of : {X : Type 0} → Setup → (Positions → X → Sampling) → Machine → List X → Settle
 settle_of s look m [] = record { rounds = []; end = Open; machine = m }
 settle_of s look m (x ∷ xs) = before_rest (outcome_of s m (look m.at x)) (λ n. settle_of s look n xs)

@@ -89,9 +89,9 @@ impl Controls {
         self.states.len()
     }
 
-    /// Samples all controls over a certified state and takes one step of the queue machine. Its acts are left in `acts`,
-    /// which is empty before and has room for one act of each control. Where a sample is undecided nothing changes.
-    /// Takes no memory.
+    /// Samples all controls over a certified state and takes one step of the queue machine. Its acts are left in
+    /// `acts`, which is empty before and has room for one act of each control. Where a sample is undecided nothing
+    /// changes. Takes no memory.
     pub(crate) fn step(
         &mut self,
         at: &mut Positions,

@@ -10,8 +10,9 @@ pub enum SettleFault<F> {
     Range(Blame),
     /// The solver's own fault.
     Solver(F),
-    /// The sample of this control is undecided: the ends of its interval, and the least value between them at which what it wants changes;
-    /// in whole microvolts or microamperes, or in 10^-9 kvar. Controls count from 0 in the script's order.
+    /// The sample of this control is undecided: the ends of its interval, and the least value between them at which
+    /// what it wants changes; in whole microvolts or microamperes, or in 10^-9 kvar. Controls count from 0 in the
+    /// script's order.
     Undecided {
         control: u32,
         low: i128,

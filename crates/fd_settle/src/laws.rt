@@ -6,8 +6,8 @@ ghost use Rattle.fd_settle.specs.Sampling.{Sampling};
 
 use fd_queue::count_law;
 
-/// What a circuit's balls and states are sampled to, and which states a ball holds. (A clause can't range over relations, so a law
-/// that speaks of any relation takes it from a bound.)
+/// What a circuit's balls and states are sampled to, and which states a ball holds. (A clause can't range over
+/// relations, so a law that speaks of any relation takes it from a bound.)
 pub trait Sampled<C, Y, X> {
     ghost holds: { C → Positions → Y → X → Type 0 };
 
@@ -31,7 +31,8 @@ pub fn whole_law<C, Y, X, S: Sampled<C, Y, X>>()
     ensures { (c : C) → WholeLaw (S.holds c) (S.of_ball c) (S.of_state c) }
 {}
 
-/// A law: a settle whose states are computed has exactly one computation: its rounds, its ending, and what it leaves. Does nothing.
+/// A law: a settle whose states are computed has exactly one computation: its rounds, its ending, and what it leaves.
+/// Does nothing.
 pub fn computation_law()
     ensures { ComputationLaw }
 {

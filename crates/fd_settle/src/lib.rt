@@ -1,8 +1,10 @@
-// Settles: a circuit is solved and certified, its controls are sampled and act, and again, until no control waits to act.
+// Settles: a circuit is solved and certified, its controls are sampled and act, and again, until no control waits to
+// act.
 //
-// It promises that the acts of each round are those of the queue machine over the samples of the rounds' balls, and that a settle ends
-// exactly as that machine ends; each certified state is sound in the network of its round. So whatever states are chosen in the balls,
-// the acts are these (`history_law`): a decided sample is that of every state of its ball.
+// It promises that the acts of each round are those of the queue machine over the samples of the rounds' balls, and
+// that a settle ends exactly as that machine ends; each certified state is sound in the network of its round. So
+// whatever states are chosen in the balls, the acts are these (`history_law`): a decided sample is that of every state
+// of its ball.
 //
 // - `round`: a round, and an act
 // - `clock`: the time, and the last opening times of the banks

@@ -26,15 +26,17 @@ use fd_network::Network;
 use fd_queue::count_law;
 use std::alloc::{AllocError, Global};
 
-/// Solves, samples and acts, and again, until no entry of the queue is due after a sampling. Each solved round is appended to `rounds`.
-/// The circuit passed the tests of Solve, and the network is its own at the positions as they are and these powers; it is brought up to
-/// date after each act. In controlmode off a settle is one solve, and no control is sampled.
+/// Solves, samples and acts, and again, until no entry of the queue is due after a sampling. Each solved round is
+/// appended to `rounds`. The circuit passed the tests of Solve, and the network is its own at the positions as they are
+/// and these powers; it is brought up to date after each act. In controlmode off a settle is one solve, and no control
+/// is sampled.
 ///
 /// # Errors
-/// `Range` exactly where the network at the positions that the acts left is out of range; `Solver` with the solver's own fault; `Undecided`
-/// exactly at the first control whose sample is undecided; `ControlLimit` exactly where an entry is due after as many acts as the options
-/// allow; `NoMemory`. After each of them `rounds` has what was solved in this settle, and `at` and `clock` are what the acts of these
-/// rounds left; after `NoMemory` the last solved round may be missing. Room for the controls is taken before the first solve.
+/// `Range` exactly where the network at the positions that the acts left is out of range; `Solver` with the solver's
+/// own fault; `Undecided` exactly at the first control whose sample is undecided; `ControlLimit` exactly where an entry
+/// is due after as many acts as the options allow; `NoMemory`. After each of them `rounds` has what was solved in this
+/// settle, and `at` and `clock` are what the acts of these rounds left; after `NoMemory` the last solved round may be
+/// missing. Room for the controls is taken before the first solve.
 pub fn settle<V: Solver>(
     alloc: Global,
     circuit: &Circuit,
@@ -50,8 +52,8 @@ pub fn settle<V: Solver>(
     requires modest { All IsModest powers.now.loads }
     requires clock { IsClock circuit.now clock.old }
     requires network { IsNetworkAt circuit.now powers.now.loads (positions_in at.old) net.old }
-    // Rounds are only appended. Their acts are those of the settle over their certified states, and the positions, the opening times and
-    // the network are what these acts left.
+    // Rounds are only appended. Their acts are those of the settle over their certified states, and the positions, the
+    // opening times and the network are what these acts left.
     ensures kept { rounds.new.items ≡ rounds.old.items ++ appended rounds.old.items rounds.new.items }
     ensures acts { acts_in (appended rounds.old.items rounds.new.items) ≡ (settled_in circuit.now powers.now at.old clock.old rounds.old.items rounds.new.items).rounds }
     ensures at { positions_in at.new ≡ (settled_in circuit.now powers.now at.old clock.old rounds.old.items rounds.new.items).machine.at }

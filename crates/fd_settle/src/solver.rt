@@ -16,7 +16,8 @@ use std::alloc::Global;
 pub trait Solver {
     type Fault: Drop;
 
-    /// Whether, from the solver before, a call on this network with these limits may answer so and leave the solver after.
+    /// Whether, from the solver before, a call on this network with these limits may answer so and leave the solver
+    /// after.
     ghost gives: { Self → Limits → NetworkView → Result Claim Self.Fault → Self → Type 0 };
 
     /// A certified state of the network, which is sound whatever the solver is.
