@@ -27,6 +27,7 @@ mod unknowns;
 pub use feeding::first_isolated;
 pub use layout::Layout;
 pub use limits::LayoutFault;
+pub use names::class_word;
 pub use nodes::{NodeName, NodeNames, PhaseName};
 pub use numbers::{PhaseNumbers, TerminalFault, bus_at, line_bus_at, source_at};
 pub use terminals::{Terminals, check_terminals, terminal_nodes};

@@ -44,7 +44,8 @@ fn push_decimal(name: &mut Vec<char>, number: u32) -> Result<(), AllocError>
     Ok(())
 }
 
-fn word(class: Class) -> &'static str
+/// The word of a class, in lower case.
+pub fn class_word(class: Class) -> &'static str
     ensures { result.now ≡ class_word class }
 {
     match class {
@@ -78,7 +79,7 @@ fn node_name(alloc: Global, node: &NodeName) -> Result<Vec<char>, AllocError>
 fn phase_name(alloc: Global, phase: &PhaseName) -> Result<Vec<char>, AllocError>
     ensures { IfOk result (λ name. name.items ≡ phase_text phase.now) }
 {
-    let mut name = characters(alloc, word(phase.element.class))?;
+    let mut name = characters(alloc, class_word(phase.element.class))?;
     name.push('.')?;
     push_text(alloc, &mut name, phase.element.name.as_str())?;
     name.push(' ')?;

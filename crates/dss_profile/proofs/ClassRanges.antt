@@ -42,10 +42,8 @@ use Rattle.dss_profile.specs.declared.capcontrol.CapControlProperty.TheVariants 
 use Rattle.dss_profile.specs.declared.loadshape.Loadshape.{Loadshape}
 use Rattle.dss_profile.specs.declared.loadshape.LoadshapeProperty.{LoadshapeProperty}
 use Rattle.dss_profile.specs.declared.loadshape.LoadshapeProperty.TheVariants as of_shape
-use Rattle.dss_profile.specs.declared.loadshape.Multipliers.{Multipliers}
-use Rattle.dss_profile.specs.declared.loadshape.Multipliers.TheVariants as multipliers
 use Rattle.dss_profile.specs.Ranges.{IsBetween, IsRating, IsImpedance, IsImpedanceEntry, IsCapacitance, IsCapacitanceEntry}
-use Rattle.dss_profile.specs.InRange.{VsourceInRange, LinecodeInRange, LineInRange, WindingInRange, TransformerInRange, CapacitorInRange, LoadInRange, RegControlInRange, CapControlInRange, MultipliersInRange, LoadshapeInRange}
+use Rattle.dss_profile.specs.InRange.{VsourceInRange, LinecodeInRange, LineInRange, WindingInRange, TransformerInRange, CapacitorInRange, LoadInRange, RegControlInRange, CapControlInRange, LoadshapeInRange}
 use Rattle.dss_profile.specs.Vsource.{with_vsource}
 use Rattle.dss_profile.specs.Linecode.{impedance_matrix_in, capacitance_matrix_in, with_code_data, with_linecode}
 use Rattle.dss_profile.specs.Line.{with_code, with_code_in, switched, with_line_data, with_line}
@@ -54,7 +52,7 @@ use Rattle.dss_profile.specs.Capacitor.{with_capacitor}
 use Rattle.dss_profile.specs.Load.{with_load}
 use Rattle.dss_profile.specs.RegControl.{with_regcontrol}
 use Rattle.dss_profile.specs.CapControl.{with_capcontrol}
-use Rattle.dss_profile.specs.Loadshape.{multipliers_in, with_loadshape}
+use Rattle.dss_profile.specs.Loadshape.{with_loadshape}
 use Rattle.dss_profile.proofs.FormRanges.{then_ok, any_ok, made_ok, kept_ok, number_ok, power_factor_ok, whole_ok, among_ok, supported_ok, tap_ok, time_ok, ratio_ok, half_between, angle_ok, phase_ok, numbers_ok, two_numbers_ok, two_taps_ok, matrix_ok}
 
 -- ---- sources
@@ -282,18 +280,10 @@ capcontrol_in_range found of_capcontrol.Ctphase pair control h = made_ok _ CapCo
 
 -- ---- shapes of loads
 
-multipliers_or : (b : Bool) (m : Multipliers) (r : Result Multipliers ModelFault) → MultipliersInRange m → IfOk r MultipliersInRange → IfOk (if b then Ok m else r) MultipliersInRange
-multipliers_or true m r p q = p
-multipliers_or false m r p q = q
-
-multipliers_ok : (pair : Pair) → IfOk (multipliers_in pair) MultipliersInRange
-unfolding multipliers_in
-multipliers_ok pair = multipliers_or (starts_with nat_eq (bytes (lower pair.value)) (codes "file=")) (multipliers.File (drop 5 pair.value)) _ tt (made_ok _ MultipliersInRange (numbers_between (pos 0) (ones 1000) pair) (λ ns. multipliers.Numbers ns) (numbers_ok (pos 0) (ones 1000) pair) (λ v r. r))
-
 npts_ok : (pair : Pair) → IfOk (whole_between 0 8760 pair) (λ n. n ≤ 8760)
 npts_ok pair = IfOk-weaker (whole_between 0 8760 pair) _ _ (λ n r. r.most) (whole_ok 0 8760 pair)
 
 pub loadshape_in_range : (property : LoadshapeProperty) (pair : Pair) (shape : Loadshape) → LoadshapeInRange shape → IfOk (with_loadshape property pair shape) LoadshapeInRange
 loadshape_in_range of_shape.Npts pair shape h = made_ok _ LoadshapeInRange _ _ (npts_ok pair) (λ v r. assumption (h, r))
 loadshape_in_range of_shape.Interval pair shape h = made_ok _ LoadshapeInRange _ _ (supported_ok _ pair) (λ v r. assumption (h, r))
-loadshape_in_range of_shape.Mult pair shape h = made_ok _ LoadshapeInRange _ _ (multipliers_ok pair) (λ v r. assumption (h, r))
+loadshape_in_range of_shape.Mult pair shape h = made_ok _ LoadshapeInRange _ _ (numbers_ok (pos 0) (ones 1000) pair) (λ v r. assumption (h, r))

@@ -11,8 +11,6 @@ use Rattle.dss_profile.specs.declared.load.Load.{Load}
 use Rattle.dss_profile.specs.declared.regcontrol.RegControl.{RegControl}
 use Rattle.dss_profile.specs.declared.capcontrol.CapControl.{CapControl}
 use Rattle.dss_profile.specs.declared.loadshape.Loadshape.{Loadshape}
-use Rattle.dss_profile.specs.declared.loadshape.Multipliers.{Multipliers}
-use Rattle.dss_profile.specs.declared.loadshape.Multipliers.TheVariants as multipliers
 use Rattle.dss_profile.specs.declared.element.Element.{Element}
 use Rattle.dss_profile.specs.declared.element.Element.TheVariants as the
 use Rattle.dss_profile.specs.declared.options.Options.{Options}
@@ -119,15 +117,10 @@ pub record CapControlInRange (control : CapControl) : Type 0 where
   pub ptphase : IsPhaseNumber control.ptphase
   pub ctphase : IsPhaseNumber control.ctphase
 
--- factors of a script are from 0 to 1000; those of a file are not read yet
-abbrev pub MultipliersInRange : Multipliers → Type 0
-MultipliersInRange (multipliers.Numbers factors) = All (IsBetween (pos 0) (ones 1000)) factors
-MultipliersInRange (multipliers.File name) = Unit {0}
-
 pub record LoadshapeInRange (shape : Loadshape) : Type 0 where
   pub npts : shape.npts ≤ 8760
   pub interval : shape.interval ≡ 1
-  pub mult : MultipliersInRange shape.mult
+  pub mult : All (IsBetween (pos 0) (ones 1000)) shape.mult
 
 abbrev pub ElementInRange : Element → Type 0
 ElementInRange (the.Vsource source) = VsourceInRange source

@@ -37,7 +37,7 @@ pub use element::{Element, referred_element};
 pub use line::{Line, LineProperty, line_property};
 pub use linecode::{DataProperty, Linecode, LinecodeProperty, linecode_property};
 pub use load::{Load, LoadProperty, load_property};
-pub use loadshape::{Loadshape, LoadshapeProperty, Multipliers, loadshape_property};
+pub use loadshape::{Loadshape, LoadshapeProperty, file_named, loadshape_property};
 pub use names::{Class, ElementName, class_named, name_law};
 pub use options::{OptionName, Options, option_named};
 pub use regcontrol::{RegControl, RegControlProperty, regcontrol_property};

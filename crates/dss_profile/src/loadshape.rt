@@ -2,9 +2,9 @@
 ghost use Rattle.std.specs.Prelude.{◌≡◌, codes, drop, nat_eq, IfOk};
 ghost use Rattle.dss_profile.specs.Changes.{Becomes};
 ghost use Rattle.dss_values.specs.Names.{named};
-ghost use Rattle.dss_profile.specs.Loadshape.{loadshape_properties, fresh_loadshape, multipliers_in, with_loadshape};
+ghost use Rattle.dss_profile.specs.Loadshape.{file_named, fresh_loadshape, loadshape_properties, with_loadshape};
+ghost use Rattle.std.specs.Cmp.Lexicographic.{pointwise};
 ghost use Rattle.std.specs.List.{starts_with};
-ghost use Rattle.dss_values.specs.Answers.{Gives};
 
 use crate::Place;
 use dss_lexer::{Pair, Text};
@@ -12,15 +12,6 @@ use dss_values::{
     ModelFault, Numbers, ONE, find_named, numbers_within, supported_of, whole_within,
 };
 use std::alloc::{AllocError, Global};
-
-/// Factors, one for each hour.
-#[derive(Drop)]
-pub enum Multipliers {
-    /// The factors themselves, in whole 10^-9.
-    Numbers(Numbers),
-    /// The name of the file that holds them, as it is written.
-    File(Text),
-}
 
 /// Factors by which a load's power is multiplied, hour by hour.
 #[derive(Drop)]
@@ -31,7 +22,8 @@ pub struct Loadshape {
     pub npts: u32,
     /// The hours from one factor to the next, 1.
     pub interval: u32,
-    pub mult: Multipliers,
+    /// One factor for each hour, in whole 10^-9.
+    pub mult: Numbers,
 }
 
 /// A property of a Loadshape.
@@ -80,28 +72,22 @@ fn file_name(alloc: Global, value: &Text) -> Result<Text, AllocError>
     Text::of(alloc, after_five(&characters))
 }
 
-// The factors of a pair, or the file that holds them.
-#[tactic(auto, unfolding(crate::specs::Loadshape::multipliers_in))]
-fn factors(alloc: Global, pair: &Pair) -> Result<Multipliers, ModelFault>
-    ensures { Gives (λ m. m) result (multipliers_in pair.now) }
+fn is_mult(name: &str) -> bool
+    ensures { result ≡ pointwise nat_eq name.now (codes "mult") }
 {
-    let lowered = pair.value.lowered(alloc)?;
-    if is_file(lowered.as_str()) {
-        Ok(Multipliers::File(file_name(alloc, &pair.value)?))
-    } else {
-        Ok(Multipliers::Numbers(numbers_within(alloc, pair, 0, 1000 * ONE)?))
-    }
+    name == "mult"
 }
 
-impl Multipliers {
-    fn copied(&self) -> Result<Multipliers, AllocError>
-        ensures { IfOk result (λ copy. copy ≡ self.now) }
-    {
-        match self {
-            Multipliers::Numbers(numbers) => Ok(Multipliers::Numbers(numbers.copied()?)),
-            Multipliers::File(name) => Ok(Multipliers::File(name.clone()?)),
-        }
+/// The name of the file that holds a shape's factors, where a pair is `mult=file=NAME`.
+pub fn file_named(alloc: Global, pair: &Pair) -> Result<Option<Text>, AllocError>
+    ensures { IfOk result (λ name. name ≡ file_named pair.now) }
+{
+    let name = pair.name.lowered(alloc)?;
+    let value = pair.value.lowered(alloc)?;
+    if is_mult(name.as_str()) && is_file(value.as_str()) {
+        return Ok(Some(file_name(alloc, &pair.value)?));
     }
+    Ok(None)
 }
 
 impl Loadshape {
@@ -113,7 +99,7 @@ impl Loadshape {
             place,
             npts: 0,
             interval: 1,
-            mult: Multipliers::Numbers(Numbers::new(Vec::new(alloc))),
+            mult: Numbers::new(Vec::new(alloc)),
         }
     }
 
@@ -129,7 +115,7 @@ impl Loadshape {
         match property {
             LoadshapeProperty::Npts => self.npts = whole_within(alloc, pair, 0, 8760)?,
             LoadshapeProperty::Interval => self.interval = supported_of(alloc, pair, &[1])?,
-            LoadshapeProperty::Mult => self.mult = factors(alloc, pair)?,
+            LoadshapeProperty::Mult => self.mult = numbers_within(alloc, pair, 0, 1000 * ONE)?,
         }
         Ok(())
     }

@@ -1,6 +1,6 @@
 -- What an element that passes the tests of Solve is, class by class.
 use Rattle.std.proofs.Common.{◌≡◌, ℕ, ℤ, pos, ◌+◌, ltb, eqb, Bool, true, false, not, ◌&&◌, ◌||◌, is_some, is_none, List, Option, Some, None, Result, Ok, Err, refl, sym, ap, subst, ◌∙◌, arith}
-use Rattle.std.specs.Prelude.{◌≤ℤ◌, ◌<ℤ◌, int_lt, int_le, IsTrue}
+use Rattle.std.specs.Prelude.{length, ◌≤ℤ◌, ◌<ℤ◌, int_lt, int_le, IsTrue}
 use Rattle.std.specs.Ordering.{int_eq}
 use Rattle.std.proofs.lemmas.Bool.{or_parts, and_parts, ltb-false, eqb-false}
 use Rattle.std.proofs.lemmas.Bool.Decides.{Decides-int_eq}
@@ -21,7 +21,7 @@ use Rattle.dss_profile.specs.declared.names.ElementName.{ElementName}
 use Rattle.dss_circuit.specs.Circuit.{Elements}
 use Rattle.dss_layout.specs.declared.numbers.TerminalFault.{TerminalFault}
 use Rattle.dss_layout.specs.declared.numbers.TerminalFault.TheVariants as terminal
-use Rattle.dss_ready.specs.Counts.{is_count_fault, is_part_wrong, is_shape_short, lacks_line_or_bank, lacks_transformer, value_count}
+use Rattle.dss_ready.specs.Counts.{is_count_fault, is_part_wrong, is_shape_short, lacks_line_or_bank, lacks_transformer}
 use Rattle.dss_ready.specs.Lookups.{element_given, measured_phases, phases_given}
 use Rattle.dss_ready.specs.Mentions.{is_shape_followed, is_winding_controlled, is_second_control}
 use Rattle.dss_ready.specs.Passed.{AreSettingsApart, AreValuesFit, IsCapControlFit, IsPhaseOf, IsRegControlFit, IsShapeFit, IsTransformerFit, IsWindingFit}
@@ -75,11 +75,11 @@ module _ (elements : Elements) (name : List ℕ) where
 
   shape_fit : (s : Loadshape) → (is_shape_short s && is_shape_followed elements name) ≡ false → IsShapeFit elements name s
   shape_fit s h =
-      let parts : IsTrue (is_shape_followed elements name) → (eqb s.npts 0 ≡ false) × (ltb (value_count s.mult) s.npts ≡ false) =
-      λ on. or_parts (eqb s.npts 0) (ltb (value_count s.mult) s.npts) (and_off (is_shape_short s) (is_shape_followed elements name) h on) in
+      let parts : IsTrue (is_shape_followed elements name) → (eqb s.npts 0 ≡ false) × (ltb (length s.mult) s.npts ≡ false) =
+      λ on. or_parts (eqb s.npts 0) (ltb (length s.mult) s.npts) (and_off (is_shape_short s) (is_shape_followed elements name) h on) in
       record {
         hours = λ on. (let some = eqb-false s.npts 0 (parts on).0 in omega arith);
-        values = λ on. ltb-false (value_count s.mult) s.npts (parts on).1;
+        values = λ on. ltb-false (length s.mult) s.npts (parts on).1;
       }
 
 -- ---- controls

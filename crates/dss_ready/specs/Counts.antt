@@ -4,8 +4,6 @@ use Rattle.dss_values.specs.declared.words.DataForm.{DataForm}
 use Rattle.dss_values.specs.declared.words.DataForm.TheVariants as form
 use Rattle.dss_profile.specs.declared.line.Line.{Line}
 use Rattle.dss_profile.specs.declared.loadshape.Loadshape.{Loadshape}
-use Rattle.dss_profile.specs.declared.loadshape.Multipliers.{Multipliers}
-use Rattle.dss_profile.specs.declared.loadshape.Multipliers.TheVariants as multipliers
 use Rattle.dss_profile.specs.declared.regcontrol.RegControl.{RegControl}
 use Rattle.dss_profile.specs.declared.capcontrol.CapControl.{CapControl}
 use Rattle.dss_profile.specs.declared.element.Element.{Element}
@@ -33,14 +31,9 @@ are_matrices_wrong line =
     (is_matrix line.form && (is_size_wrong line.phases line.rmatrix || is_size_wrong line.phases line.xmatrix))
     || (is_matrix line.charge_form && is_size_wrong line.phases line.cmatrix)
 
--- how many values a shape has
-abbrev pub value_count : Multipliers → ℕ
-value_count (multipliers.Numbers numbers) = length numbers
-value_count (multipliers.File name) = 0
-
 -- a shape of no hours, or with fewer values than hours
 abbrev pub is_shape_short : Loadshape → Bool
-is_shape_short shape = (shape.npts == 0) || nat_lt (value_count shape.mult) shape.npts
+is_shape_short shape = (shape.npts == 0) || nat_lt (length shape.mult) shape.npts
 
 -- whether a bus isn't given, or has too few or too many nodes
 abbrev pub is_count_fault : Result Unit TerminalFault → Bool

@@ -20,7 +20,7 @@ use Rattle.dss_layout.specs.Feeding.{Fed}
 use Rattle.dss_layout.specs.Limits.{most_complex, most_magnitudes}
 use Rattle.dss_layout.specs.Layout.{complex_count, layout_of, nodes_of}
 use Rattle.dss_layout.specs.Terminals.{mentions, terminal_numbers, tested}
-use Rattle.dss_ready.specs.Counts.{are_matrices_wrong, value_count}
+use Rattle.dss_ready.specs.Counts.{are_matrices_wrong}
 use Rattle.dss_ready.specs.Lookups.{element_given, measured_phases}
 use Rattle.dss_ready.specs.Mentions.{is_second_of_bank, is_second_of_winding, is_shape_followed, is_winding_controlled}
 use Rattle.dss_ready.specs.Ranges.{is_source_outside}
@@ -83,7 +83,7 @@ pub record IsCapControlFit (elements before : Elements) (control : CapControl) :
 -- a shape that a Load names has some hours, and a value for each
 pub record IsShapeFit (elements : Elements) (name : List ℕ) (shape : Loadshape) : Type 0 where
   pub hours : IsTrue (is_shape_followed elements name) → 0 < shape.npts
-  pub values : IsTrue (is_shape_followed elements name) → shape.npts ≤ value_count shape.mult
+  pub values : IsTrue (is_shape_followed elements name) → shape.npts ≤ length shape.mult
 
 -- the values of an element of a class, of which these stand before it
 abbrev pub AreValuesFit : Elements → Elements → ElementName → Element → Type 0

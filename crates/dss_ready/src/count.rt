@@ -1,12 +1,12 @@
 // Counts that are tested at Solve.
 ghost use Rattle.std.specs.Prelude.{◌≡◌, ◌&&◌, IfOk};
 ghost use Rattle.dss_ready.specs.Noted.{Notes, has_shape};
-ghost use Rattle.dss_ready.specs.Counts.{is_size_wrong, is_matrix, are_matrices_wrong, value_count, is_shape_short, lacks_transformer, lacks_line_or_bank, is_part_wrong};
+ghost use Rattle.dss_ready.specs.Counts.{is_size_wrong, is_matrix, are_matrices_wrong, is_shape_short, lacks_transformer, lacks_line_or_bank, is_part_wrong};
 
 use crate::lookup::{Elements, find_given};
 use crate::mention::Mentions;
 use dss_profile::{
-    CapControl, Class, DataForm, Element, ElementName, Line, Loadshape, Multipliers, Numbers,
+    CapControl, Class, DataForm, Element, ElementName, Line, Loadshape, Numbers,
     RegControl,
 };
 use std::alloc::AllocError;
@@ -36,19 +36,10 @@ fn is_line_count_fault(line: &Line) -> bool
         || (is_given_by_matrices(line.charge_form) && charging)
 }
 
-fn count_values(multipliers: &Multipliers) -> usize
-    ensures { result ≡ value_count multipliers.now }
-{
-    match multipliers {
-        Multipliers::Numbers(numbers) => numbers.as_slice().len(),
-        Multipliers::File(_) => 0,
-    }
-}
-
 fn has_few_values(shape: &Loadshape) -> bool
     ensures { result ≡ is_shape_short shape.now }
 {
-    shape.npts == 0 || count_values(&shape.mult) < shape.npts as usize
+    shape.npts == 0 || shape.mult.as_slice().len() < shape.npts as usize
 }
 
 fn is_shape_count_fault(mentions: &Mentions, name: &ElementName, shape: &Loadshape) -> bool

@@ -5,8 +5,6 @@ use Rattle.fd_exact.specs.Sums.{list_n}
 use Rattle.dss_values.specs.Forms.{ones}
 use Rattle.dss_profile.specs.declared.load.Load.{Load}
 use Rattle.dss_profile.specs.declared.loadshape.Loadshape.{Loadshape}
-use Rattle.dss_profile.specs.declared.loadshape.Multipliers.{Multipliers}
-use Rattle.dss_profile.specs.declared.loadshape.Multipliers.TheVariants as multipliers
 use Rattle.dss_profile.specs.declared.element.Element.{Element}
 use Rattle.dss_profile.specs.declared.element.Element.TheVariants as the
 use Rattle.dss_profile.specs.declared.names.Class.TheVariants as class
@@ -18,14 +16,9 @@ use Rattle.fd_devices.specs.Snapshot.{power_of, snapshot_of}
 
 -- ---- the point of a shape
 
--- (a file of numbers isn't read yet)
-abbrev pub numbers_of : Multipliers → List ℤ
-numbers_of (multipliers.Numbers numbers) = numbers
-numbers_of (multipliers.File name) = []
-
 -- the points of a shape, in 10^-9: its first numbers
 abbrev pub points_of : Loadshape → List ℤ
-points_of shape = take shape.npts (numbers_of shape.mult)
+points_of shape = take shape.npts shape.mult
 
 -- the point that many hours after the first, where the points begin anew after the last, and 0 where there is none (a
 -- shape that is followed in a circuit that passed the tests of Solve has them all)

@@ -12,7 +12,7 @@ ghost use Rattle.fd_devices.specs.Snapshot.{power_of};
 use crate::settings::{LoadPowers, Powers};
 use dss_circuit::{Circuit, find_element};
 use dss_lexer::Text;
-use dss_profile::{Class, Element, ElementName, Load, Loadshape, Multipliers};
+use dss_profile::{Class, Element, ElementName, Load, Loadshape};
 use fd_elements::{LoadPower, load_power};
 use std::alloc::{AllocError, Global};
 
@@ -129,10 +129,7 @@ fn repeated_point(shape: &Loadshape, passed: u32) -> i128
     ensures value { result ≡ repeated_point shape.now passed }
     ensures within { IsBetween (pos 0) (ones 1000) result }
 {
-    match &shape.mult {
-        Multipliers::Numbers(numbers) => repeated(numbers.as_slice(), shape.npts, passed),
-        Multipliers::File(_) => 0,
-    }
+    repeated(shape.mult.as_slice(), shape.npts, passed)
 }
 
 // Of the first numbers, begun anew after the last, the one of that place; 0 where there is none.

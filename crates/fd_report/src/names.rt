@@ -1,11 +1,10 @@
 // The names of nodes and elements, as records have them.
 ghost use Rattle.std.specs.Prelude.{◌≡◌, IfOk};
-ghost use Rattle.dss_layout.specs.UnknownNames.{class_word};
 ghost use Rattle.dss_values.specs.Names.{bytes};
 ghost use Rattle.fd_report.specs.Names.{element_field, node_field};
 
-use dss_layout::NodeName;
-use dss_profile::{Class, ElementName};
+use dss_layout::{NodeName, class_word};
+use dss_profile::ElementName;
 use std::alloc::{AllocError, Global};
 
 /// `BUS.NUMBER`
@@ -18,22 +17,6 @@ pub(crate) fn node_field(alloc: Global, node: &NodeName) -> Result<Vec<u8>, Allo
     text.push(b'.')?;
     text.extend_from_slice(number.as_bytes())?;
     Ok(text)
-}
-
-fn class_word(class: Class) -> &'static str
-    ensures { result.now ≡ class_word class }
-{
-    match class {
-        Class::Vsource => "vsource",
-        Class::Linecode => "linecode",
-        Class::Line => "line",
-        Class::Transformer => "transformer",
-        Class::Capacitor => "capacitor",
-        Class::Load => "load",
-        Class::RegControl => "regcontrol",
-        Class::CapControl => "capcontrol",
-        Class::Loadshape => "loadshape",
-    }
 }
 
 /// `CLASS.NAME`
