@@ -4,7 +4,7 @@ use Rattle.std.specs.Fmt.{signed_decimal}
 use Rattle.dss_profile.specs.declared.names.ElementName.{ElementName}
 use Rattle.fd_report.specs.declared.controls.Position.{Position}
 use Rattle.fd_report.specs.declared.controls.Position.TheVariants.{Tap, Open, Closed}
-use Rattle.fd_report.specs.Numbers.{fixed_text}
+use Rattle.fd_decimal.specs.Decimals.{fixed_text}
 use Rattle.fd_report.specs.Names.{element_field}
 
 -- a time in whole milliseconds: seconds with three decimals

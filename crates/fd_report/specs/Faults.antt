@@ -16,7 +16,7 @@ use Rattle.fd_report.specs.declared.faults.Fault.TheVariants as fault
 use Rattle.fd_report.specs.declared.faults.Scale.{Scale}
 use Rattle.fd_report.specs.declared.faults.Scale.TheVariants.{Micro, Nano}
 use Rattle.fd_report.specs.Names.{element_field}
-use Rattle.fd_report.specs.Numbers.{size_text, micro_text, nano_text}
+use Rattle.fd_decimal.specs.Decimals.{size_text, micro_text, nano_text}
 
 -- ---- words
 

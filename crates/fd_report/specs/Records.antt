@@ -6,7 +6,7 @@ use Rattle.fd_exact.specs.States.{part}
 use Rattle.dss_layout.specs.declared.nodes.NodeName.{NodeName}
 use Rattle.dss_layout.specs.declared.nodes.PhaseName.{PhaseName}
 use Rattle.dss_layout.specs.Layout.{LayoutView, complex_count}
-use Rattle.fd_report.specs.Numbers.{micro_text, size_text}
+use Rattle.fd_decimal.specs.Decimals.{micro_text, size_text}
 use Rattle.fd_report.specs.Names.{node_field, element_field}
 use Rattle.fd_report.specs.Sizes.{greatest_size, least_size}
 use Rattle.fd_report.specs.Solutions.{SolutionView, number_at}

@@ -9,7 +9,7 @@ ghost use Rattle.fd_report.specs.Faults.{bound_text, cause_text, fields, model_t
 
 use crate::line::record_of;
 use crate::names::element_field;
-use crate::number::{micro_text, nano_text, size_text};
+use fd_decimal::{micro_text, nano_text, size_text};
 use dss_layout::Layout;
 use dss_lexer::Text;
 use dss_profile::{ElementName, Place};

@@ -5,7 +5,6 @@
 //! and the mismatches of its own rows. Each fault's record has exactly the fields of its definition. A record is the
 //! text of its fields as csv writes them. Want of memory is the one error.
 //!
-//! - `number`: the texts of numbers with a fixed count of decimals
 //! - `names`: the names of nodes, elements and unknowns
 //! - `line`: a record of its fields
 //! - `solution`: the numbers of a solution
@@ -20,7 +19,6 @@ mod controls;
 mod faults;
 mod line;
 mod names;
-mod number;
 mod report;
 mod sizes;
 mod solution;
@@ -28,6 +26,5 @@ mod texts;
 
 pub use controls::{Position, act_record, bank_record, tap_record};
 pub use faults::{Cause, Fault, Scale, name_at, record, status};
-pub use number::{micro_text, nano_text, size_text};
 pub use report::records;
 pub use solution::Solution;

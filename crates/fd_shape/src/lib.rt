@@ -1,11 +1,13 @@
 //! The numbers of a load shape's file: the first field of each record of a text of comma-separated values.
 //!
-//! In `specs/`, `Column` has what the numbers of a file are, and which record is named where one has none.
-//! `read_column` answers exactly that, and want of memory is its only free answer.
+//! In `specs/`, `Column` has what the numbers of a file are, and which record is named where one has none, and `Text`
+//! how a script writes numbers. `read_column` and `values_text` answer exactly that, and want of memory is their only
+//! free answer.
 //!
 //! - `blanks`: a field without the blanks and tabs round it
 //! - `column`: `read_column`, the numbers of a file
 //! - `fault`: `ShapeFault`, why a file isn't read
+//! - `text`: `values_text`, the numbers as a script writes them
 #![tactic(auto)]
 
 mod blanks;
@@ -13,6 +15,8 @@ mod column;
 mod fault;
 #[cfg(test)]
 mod tests;
+mod text;
 
 pub use column::read_column;
 pub use fault::ShapeFault;
+pub use text::values_text;

@@ -1,4 +1,4 @@
--- Numbers, as records have them. A text is a list of bytes.
+-- Numbers with a fixed count of decimals. A text is a list of bytes.
 use Rattle.std.specs.Prelude.{ℕ, zero, suc, ℤ, pos, negsuc, ◌+◌, ◌/◌, ◌%◌, ◌^◌, List, [], ◌∷◌, ◌++◌, unsigned_abs, codes}
 use Rattle.std.specs.Fmt.{decimal}
 

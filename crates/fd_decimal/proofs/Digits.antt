@@ -1,7 +1,7 @@
 -- The last digits of a number are the last of nine.
 use Rattle.std.proofs.Common.{◌≡◌, ◌∙◌, ℕ, zero, suc, ◌+◌, ◌-◌, ◌<◌, ◌≤◌, ◌%◌, ◌/◌, ◌^◌, ◌∷◌, take, drop, ap, refl, arith}
 use Rattle.std.proofs.Math.Nat.{pow-suc}
-use Rattle.fd_report.specs.Numbers.{last_digits}
+use Rattle.fd_decimal.specs.Decimals.{last_digits}
 
 drop_first : (k p n : ℕ) → drop k (last_digits (k + p) n) ≡ last_digits p n
 drop_first zero p n = ap (λ m. last_digits m n) (let e : 0 + p ≡ p = omega arith in e)

@@ -1,6 +1,6 @@
 use Rattle.std.proofs.Common.{◌∙◌, ap, rules, take, drop, ◌-◌}
-use Rattle.fd_report.proofs.Digits.{last_of_nine}
-use Rattle.fd_report.proofs.number.push_digits.Goals as goal
+use Rattle.fd_decimal.proofs.Digits.{last_of_nine}
+use Rattle.fd_decimal.proofs.decimals.push_digits.Goals as goal
 
 pub returns : goal.returns
 returns c =

@@ -1,6 +1,6 @@
-// Numbers, as records have them.
+// Numbers with a fixed count of decimals.
 ghost use Rattle.std.specs.Prelude.{◌≡◌, ◌<◌, ◌≤◌, ◌+◌, ◌/◌, ◌%◌, ◌^◌, ◌++◌, unsigned_abs, IfOk, OnOk};
-ghost use Rattle.fd_report.specs.Numbers.{fixed_text, last_digits, micro_text, nano_text, sign, signed_text, size_text};
+ghost use Rattle.fd_decimal.specs.Decimals.{fixed_text, last_digits, micro_text, nano_text, sign, signed_text, size_text};
 
 use std::alloc::{AllocError, Global};
 
@@ -48,7 +48,7 @@ fn push_digits(text: &mut Vec<u8>, places: u32, n: u32) -> Result<(), AllocError
     text.extend_from_slice(&nine_digits(n)[(9 - places) as usize..])
 }
 
-#[tactic(auto, unfolding(crate::specs::Numbers::fixed_text))]
+#[tactic(auto, unfolding(crate::specs::Decimals::fixed_text))]
 fn push_fixed(alloc: Global, text: &mut Vec<u8>, places: u32, n: u128) -> Result<(), AllocError>
     requires { places ≤ 9 }
     ensures { OnOk result (text.new.items ≡ text.old.items ++ fixed_text places n) }
@@ -61,7 +61,7 @@ fn push_fixed(alloc: Global, text: &mut Vec<u8>, places: u32, n: u128) -> Result
 }
 
 /// The text of so many units, of which 10^places are one: so many decimals, at most nine.
-pub(crate) fn fixed_text(alloc: Global, places: u32, n: u128) -> Result<Vec<u8>, AllocError>
+pub fn fixed_text(alloc: Global, places: u32, n: u128) -> Result<Vec<u8>, AllocError>
     requires { places ≤ 9 }
     ensures { IfOk result (λ v. v.items ≡ fixed_text places n) }
 {
@@ -71,7 +71,7 @@ pub(crate) fn fixed_text(alloc: Global, places: u32, n: u128) -> Result<Vec<u8>,
 }
 
 // The same of a number of units: a minus stands before what isn't zero alone.
-#[tactic(auto, unfolding(crate::specs::Numbers::signed_text))]
+#[tactic(auto, unfolding(crate::specs::Decimals::signed_text))]
 fn signed_text(alloc: Global, places: u32, value: i128) -> Result<Vec<u8>, AllocError>
     requires { places ≤ 9 }
     ensures { IfOk result (λ v. v.items ≡ signed_text places value) }
