@@ -13,7 +13,7 @@ use Rattle.dss_script.specs.declared.session.Turn.{Turn}
 use Rattle.dss_script.specs.Script.{Script, asks, names_first, after_names}
 use Rattle.dss_script.specs.Sessions.{State, remaining_with, Steps, Enters, Tells, Asks, Grows, GrowsUpTo, FailsAt, Reached, EnterAsks, IsNotEnded, IsRead, IsReadOf, ReadsLast, GrowsSome, GrowsLast, found_bytes}
 
-held_is : (there : Option (List ℕ)) (what : Found) → IsHeld there what → found_bytes what ≡ there
+pub held_is : (there : Option (List ℕ)) (what : Found) → IsHeld there what → found_bytes what ≡ there
 held_is there (found.Bytes bs) h = sym h
 held_is there found.Absent h = sym h
 
@@ -27,15 +27,15 @@ told_by holds files what place name old new result told h e =
 
 -- ---- the names that were asked
 
-becomes : {A : Type 0} (old mid new : Option A) (f g : A → A) → Becomes old mid f → Becomes mid new g → Becomes old new (λ x. g (f x))
+pub becomes : {A : Type 0} (old mid new : Option A) (f g : A → A) → Becomes old mid f → Becomes mid new g → Becomes old new (λ x. g (f x))
 becomes None mid new f g h k = tt
 becomes (Some o) mid new f g h k = let P : Option _ → Type 0 = λ m. Becomes m new g in subst P h k
 
-same_becomes : {A : Type 0} (old new : Option A) (f g : A → A) → ((x : A) → f x ≡ g x) → Becomes old new f → Becomes old new g
+pub same_becomes : {A : Type 0} (old new : Option A) (f g : A → A) → ((x : A) → f x ≡ g x) → Becomes old new f → Becomes old new g
 same_becomes None new f g e h = tt
 same_becomes (Some o) new f g e h = h ∙ ap Some (e o)
 
-nothing_asked : (old : Option (List (List ℕ))) → Becomes old old (λ ns. ns ++ [])
+pub nothing_asked : (old : Option (List (List ℕ))) → Becomes old old (λ ns. ns ++ [])
 nothing_asked None = tt
 nothing_asked (Some ns) = ap Some (sym (append-nil ns))
 

@@ -7,15 +7,19 @@ use Rattle.dss_lexer.specs.declared.fault.LexFault.{LexFault}
 use Rattle.dss_lexer.specs.Line.{pairs_of}
 use Rattle.dss_values.specs.Names.{bytes}
 use Rattle.dss_profile.specs.declared.command.Place.{Place}
+use Rattle.dss_profile.specs.declared.command.Command.{Command}
+use Rattle.dss_profile.specs.declared.command.Verb.{Verb}
 use Rattle.fd_outside.specs.Files.{Files, held}
 use Rattle.dss_script.specs.declared.fault.ScriptCause.{ScriptCause}
 use Rattle.dss_script.specs.declared.fault.ScriptCause.TheVariants as cause
 use Rattle.dss_script.specs.declared.meaning.Meaning.{Meaning}
 use Rattle.dss_script.specs.declared.meaning.Meaning.TheVariants as the
-use Rattle.dss_script.specs.Meaning.{meaning_of}
-use Rattle.dss_script.specs.Script.{Script, finished, refused, asks, gives, Standing, Then, Reader, folder_of, joined, meaning_says, line_says, lines_say, found_says, file_says, script_of, names_first, after_names}
-use Rattle.dss_script.specs.Said.{Said, name, command, Part, silent, stops, says, by_left, followed, File, by_meaning, by_line, by_lines, by_found, by_file, said_of, chained, goes_on, chain_of, ended_by, said_in, end_in}
+use Rattle.dss_script.specs.Meaning.{meaning_of, target_after}
+use Rattle.dss_script.specs.Paths.{folder_of, joined}
+use Rattle.dss_script.specs.Script.{Script, finished, refused, asks, gives, asks_each, given, command_says, Standing, Then, Reader, meaning_says, line_says, lines_say, found_says, file_says, script_of, names_first, after_names}
+use Rattle.dss_script.specs.Said.{Said, name, command, Part, stops, says, by_left, File, by_command, by_filled, by_meaning, by_line, by_lines, by_found, by_file, said_of, chained, goes_on, chain_of, ended_by, said_in, end_in}
 use Rattle.dss_script.specs.SaidLaws.{SaidLaw}
+use Rattle.dss_script.specs.Shapes.{verb_filled}
 
 abbrev told : Part → Then → Script
 told p go = chained p.said (goes_on p.left go)
@@ -30,41 +34,55 @@ behind : (said : List Said) (left : Result Standing (Place × ScriptCause)) (nex
 behind said (Ok s) next go far same = ap (chained said) (same s) ∙ sym (chained-append said (next s).said (goes_on (next s).left go))
 behind said (Err refusal) next go far same = refl
 
-module _ (file : File) (reader : Reader) (same : (place : Place) (n : List ℕ) (s : Standing) (go : Then) → reader place n s go ≡ told (file place n s) go) (folder : List ℕ) where
-  meaning_same : (place : Place) (m : Meaning) (s : Standing) (go : Then) → meaning_says reader folder place m s go ≡ told (by_meaning file folder place m s) go
+names_same : (names : List (List ℕ)) (p : Part) (go : Then) → asks_each names (told p go) ≡ told (says (map name names) p) go
+names_same [] p go = refl
+names_same (n ∷ names) p go = ap (asks n) (names_same names p go)
+
+given_same : (place : Place) (filled : Result Verb ScriptCause) (s : Standing) (go : Then) → given place filled (go s) ≡ told (by_filled place filled s) go
+given_same place (Ok verb) s go = refl
+given_same place (Err c) s go = refl
+
+command_same : (files : Files) (folder : List ℕ) (c : Command) (s : Standing) (go : Then) → command_says files folder c (go s) ≡ told (by_command files folder c s) go
+command_same files folder c s go =
+    let f = verb_filled files folder c.verb in
+    ap (asks_each f.names) (given_same c.place f.filled s go) ∙ names_same f.names (by_filled c.place f.filled s) go
+
+module _ (files : Files) (file : File) (reader : Reader) (same : (place : Place) (n : List ℕ) (s : Standing) (go : Then) → reader place n s go ≡ told (file place n s) go) (folder : List ℕ) where
+  meaning_same : (place : Place) (m : Meaning) (s : Standing) (go : Then) → meaning_says files reader folder place m s go ≡ told (by_meaning files file folder place m s) go
   meaning_same place the.Nothing s go = refl
   meaning_same place (the.Refused c) s go = refl
   meaning_same place (the.Reads named) s go = same place (joined folder named) s go
-  meaning_same place (the.Does verb change) s go = refl
+  meaning_same place (the.Does verb change) s go =
+      command_same files folder (record { place = place; verb = verb }) (record { target = target_after s.target change; read = s.read }) go
 
-  line_same : (place : Place) (r : Result (List Pair) LexFault) (s : Standing) (go : Then) → line_says reader folder place r s go ≡ told (by_line file folder place r s) go
+  line_same : (place : Place) (r : Result (List Pair) LexFault) (s : Standing) (go : Then) → line_says files reader folder place r s go ≡ told (by_line files file folder place r s) go
   line_same place (Err e) s go = refl
   line_same place (Ok pairs) s go = meaning_same place (meaning_of s.target pairs) s go
 
-  lines_same : (at : List ℕ) (n : ℕ) (ls : List (List ℕ)) (s : Standing) (go : Then) → lines_say reader folder at n ls s go ≡ told (by_lines file folder at n ls s) go
+  lines_same : (at : List ℕ) (n : ℕ) (ls : List (List ℕ)) (s : Standing) (go : Then) → lines_say files reader folder at n ls s go ≡ told (by_lines files file folder at n ls s) go
   lines_same at n [] s go = refl
   lines_same at n (line ∷ rest) s go =
       let place : Place = record { file = at; line = n + 1 } in
-      let p = by_line file folder place (pairs_of line) s in
-      line_same place (pairs_of line) s (λ t. lines_say reader folder at (n + 1) rest t go)
-      ∙ behind p.said p.left (λ t. by_lines file folder at (n + 1) rest t) go (λ t. lines_say reader folder at (n + 1) rest t go) (λ t. lines_same at (n + 1) rest t go)
+      let p = by_line files file folder place (pairs_of line) s in
+      line_same place (pairs_of line) s (λ t. lines_say files reader folder at (n + 1) rest t go)
+      ∙ behind p.said p.left (λ t. by_lines files file folder at (n + 1) rest t) go (λ t. lines_say files reader folder at (n + 1) rest t go) (λ t. lines_same at (n + 1) rest t go)
 
   within_same : (b : Bool) (place : Place) (ours : Part) (theirs : Script) (go : Then) → theirs ≡ told ours go
       → (if b then refused place cause.TooLong else theirs) ≡ told (if b then stops place cause.TooLong else ours) go
   within_same true place ours theirs go e = refl
   within_same false place ours theirs go e = e
 
-  found_same : (o : Option (List ℕ)) (place : Place) (at : List ℕ) (s : Standing) (go : Then) → found_says reader folder o place at s go ≡ told (by_found file folder o place at s) go
+  found_same : (o : Option (List ℕ)) (place : Place) (at : List ℕ) (s : Standing) (go : Then) → found_says files reader folder o place at s go ≡ told (by_found files file folder o place at s) go
   found_same None place at s go = refl
   found_same (Some bs) place at s go =
       let t : Standing = record { target = s.target; read = s.read + length bs } in
-      within_same (nat_lt 1_048_576 (s.read + length bs)) place (by_lines file folder at 0 (lines bs) t) (lines_say reader folder at 0 (lines bs) t go) go (lines_same at 0 (lines bs) t go)
+      within_same (nat_lt 1_048_576 (s.read + length bs)) place (by_lines files file folder at 0 (lines bs) t) (lines_say files reader folder at 0 (lines bs) t go) go (lines_same at 0 (lines bs) t go)
 
 file_same : (files : Files) (folder : List ℕ) (depth : ℕ) (place : Place) (at : List ℕ) (s : Standing) (go : Then)
     → file_says files folder depth place at s go ≡ told (by_file files folder depth place at s) go
 file_same files folder zero place at s go = refl
 file_same files folder (suc depth) place at s go =
-    ap (asks at) (found_same (λ p n t. by_file files folder depth p n t) (λ p n t g. file_says files folder depth p n t g)
+    ap (asks at) (found_same files (λ p n t. by_file files folder depth p n t) (λ p n t g. file_says files folder depth p n t g)
     (λ p n t g. file_same files folder depth p n t g) folder (held files (bytes at)) place at s go)
 
 chain_same : (files : Files) (master : List ℕ) → script_of files master ≡ chain_of (said_of files master)

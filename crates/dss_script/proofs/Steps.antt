@@ -28,7 +28,8 @@ use Rattle.dss_script.specs.declared.reading.Taken.{Taken}
 use Rattle.dss_script.specs.declared.reading.Taken.TheVariants as taken
 use Rattle.dss_script.specs.Readings.{Reading, advanced, next_line, first_of, rest_of}
 use Rattle.dss_script.specs.Meaning.{meaning_of, target_after}
-use Rattle.dss_script.specs.Script.{Script, finished, Standing, refused, asks, gives, lines_say, line_says, file_says, found_says, joined, script_of}
+use Rattle.dss_script.specs.Script.{Script, finished, Standing, refused, asks, gives, command_says, lines_say, line_says, file_says, found_says, script_of}
+use Rattle.dss_script.specs.Paths.{joined}
 use Rattle.dss_script.specs.Sessions.{State, start, remaining, waiting_says, remaining_by, remaining_with, entered, opened, is_fresh, taken_says, taken_of, files_after, files_say, deeper, room, left, lines_room, files_room, pays, closes, Spends, Tells, cut_into, next_place}
 
 pub reversed_length : {X : Type 0} (xs : List X) → length (reverse xs) ≡ length xs
@@ -53,15 +54,15 @@ over_says files state w h = open_says files state w ∙ none state.files h
 
 line_is : (files : Files) (folder : List ℕ) (r : Reading) (outer : List Reading) (standing : Standing) → (ls : List (List ℕ)) → r.lines ≡ ls → 0 < length ls
     → files_say files folder (r ∷ outer) standing
-    ≡ line_says (λ p n s g. file_says files folder (deeper (r ∷ outer)) p n s g) folder (next_place r) (pairs_of (next_line r)) standing (λ s. files_say files folder (advanced r ∷ outer) s)
+    ≡ line_says files (λ p n s g. file_says files folder (deeper (r ∷ outer)) p n s g) folder (next_place r) (pairs_of (next_line r)) standing (λ s. files_say files folder (advanced r ∷ outer) s)
 line_is files folder r outer standing [] e h = absurd (omega arith)
 line_is files folder r outer standing (line ∷ rest) e h =
     ap (λ ls. files_say files folder (record { file = r.file; line = r.line; lines = ls } ∷ outer) standing) e
-    ∙ ap (λ ls. line_says (λ p n s g. file_says files folder (deeper (r ∷ outer)) p n s g) folder (next_place r) (pairs_of (first_of ls)) standing
+    ∙ ap (λ ls. line_says files (λ p n s g. file_says files folder (deeper (r ∷ outer)) p n s g) folder (next_place r) (pairs_of (first_of ls)) standing
     (λ s. files_say files folder (record { file = r.file; line = r.line + 1; lines = rest_of ls } ∷ outer) s)) (sym e)
 
 cut_says : (files : Files) (state : State) (place : Place) (said : Result (List Pair) LexFault)
-    → line_says (λ p n s g. file_says files state.folder (deeper state.files) p n s g) state.folder place said state.standing (λ s. files_say files state.folder state.files s) ≡ taken_says files (cut_into place said) state
+    → line_says files (λ p n s g. file_says files state.folder (deeper state.files) p n s g) state.folder place said state.standing (λ s. files_say files state.folder state.files s) ≡ taken_says files (cut_into place said) state
 unfolding taken_says remaining_by
 cut_says files state place (Ok pairs) = refl
 cut_says files state place (Err e) = refl
@@ -104,22 +105,23 @@ says_refused files state place c = refl
 
 pub says_command : (files : Files) (state new : State) (place : Place) (verb : Verb) (change : Change) → new.waiting ≡ None → new.folder ≡ state.folder → new.files ≡ state.files
     → new.standing ≡ record { target = target_after state.standing.target change; read = state.standing.read }
-    → remaining_by files place (the.Does verb change) state ≡ gives (record { place = place; verb = verb }) (remaining files new)
+    → remaining_by files place (the.Does verb change) state ≡ command_says files new.folder (record { place = place; verb = verb }) (remaining files new)
 unfolding remaining_by
 says_command files state new place verb change w f g h =
-    ap (λ rest. gives (record { place = place; verb = verb }) rest)
+    ap (λ folder. command_says files folder (record { place = place; verb = verb }) (files_say files state.folder state.files (record { target = target_after state.standing.target change; read = state.standing.read }))) (sym f)
+    ∙ ap (λ rest. command_says files new.folder (record { place = place; verb = verb }) rest)
     (ap (files_say files state.folder state.files) (sym h) ∙ ap (λ rs. files_say files state.folder rs new.standing) (sym g) ∙ ap (λ d. files_say files d new.files new.standing) (sym f) ∙ sym (open_says files new w))
 
 -- a file's name, where so many files may be open within those that are
 found_is : (files : Files) (state : State) (place : Place) (name : List ℕ) (n : ℕ) (found : Option (List ℕ)) → state.waiting ≡ None → deeper state.files ≡ suc n
-    → found_says (λ p m s g. file_says files state.folder n p m s g) state.folder found place name state.standing (λ s. files_say files state.folder state.files s)
+    → found_says files (λ p m s g. file_says files state.folder n p m s g) state.folder found place name state.standing (λ s. files_say files state.folder state.files s)
     ≡ remaining_with files found place name state
 unfolding remaining_with
 found_is files state place name n None w h = refl
 found_is files state place name n (Some bs) w h =
     let st : Standing = record { target = state.standing.target; read = state.standing.read + length bs } in
     ap (λ script. if nat_lt 1_048_576 (state.standing.read + length bs) then refused place cause.TooLong else script)
-    (ap (λ d. lines_say (λ p m s g. file_says files state.folder d p m s g) state.folder name 0 (lines bs) st (λ s. files_say files state.folder state.files s))
+    (ap (λ d. lines_say files (λ p m s g. file_says files state.folder d p m s g) state.folder name 0 (lines bs) st (λ s. files_say files state.folder state.files s))
     (let e : n ≡ deeper state.files - 1 = omega arith in e)
     ∙ sym (open_says files (entered state name bs) w))
 

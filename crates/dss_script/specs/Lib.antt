@@ -1,8 +1,11 @@
 pub mod Readings
 pub mod Lines
 pub mod Meaning
+pub mod Paths
+pub mod Shapes
 pub mod Script
 pub mod Sessions
+pub mod Fills
 pub mod Bounds
 pub mod Said
 pub mod SaidLaws

@@ -1,6 +1,5 @@
 -- What a script says: its commands with their places and the files that it asks for, in order, and how it ends.
-use Rattle.std.specs.Prelude.{ℕ, suc, zero, ◌+◌, ◌-◌, ◌==◌, nat_lt, Bool, not, take, List, [], ◌∷◌, ◌++◌, length, map, Option, Some, None, Result, Ok, Err, if◌then◌else◌}
-use Rattle.std.specs.List.{suffix_len}
+use Rattle.std.specs.Prelude.{ℕ, suc, zero, ◌+◌, nat_lt, List, [], ◌∷◌, length, Option, Some, None, Result, Ok, Err, if◌then◌else◌}
 use Rattle.std.specs.Str.Lines.{lines}
 use Rattle.dss_lexer.specs.declared.pair.Pair.{Pair}
 use Rattle.dss_lexer.specs.declared.fault.LexFault.{LexFault}
@@ -8,6 +7,7 @@ use Rattle.dss_lexer.specs.Line.{pairs_of}
 use Rattle.dss_values.specs.Names.{bytes}
 use Rattle.dss_profile.specs.declared.command.Place.{Place}
 use Rattle.dss_profile.specs.declared.command.Command.{Command}
+use Rattle.dss_profile.specs.declared.command.Verb.{Verb}
 use Rattle.fd_outside.specs.Files.{Files, held}
 use Rattle.dss_script.specs.declared.fault.ScriptCause.{ScriptCause}
 use Rattle.dss_script.specs.declared.fault.ScriptCause.TheVariants as cause
@@ -15,6 +15,8 @@ use Rattle.dss_script.specs.declared.meaning.Target.{Target}
 use Rattle.dss_script.specs.declared.meaning.Meaning.{Meaning}
 use Rattle.dss_script.specs.declared.meaning.Meaning.TheVariants as the
 use Rattle.dss_script.specs.Meaning.{cause_of, meaning_of, target_after}
+use Rattle.dss_script.specs.Paths.{folder_of, joined}
+use Rattle.dss_script.specs.Shapes.{verb_filled}
 
 -- a script is the end of MASTER, or a cause at a place, or a name that is asked for or a command, and then more
 pub data Script : Type 0 where
@@ -36,54 +38,50 @@ Then = Standing → Script
 abbrev pub Reader : Type 0
 Reader = Place → List ℕ → Standing → Then → Script
 
-abbrev pub is_slash : ℕ → Bool
-is_slash c = c == 47
+-- names that are asked for one after another
+abbrev pub asks_each : List (List ℕ) → Script → Script
+asks_each [] script = script
+asks_each (name ∷ names) script = asks name (asks_each names script)
 
-abbrev pub is_no_slash : ℕ → Bool
-is_no_slash c = not (is_slash c)
+-- a command, unless a file that it names is refused
+abbrev pub given : Place → Result Verb ScriptCause → Script → Script
+given place (Ok verb) script = gives (record { place = place; verb = verb }) script
+given place (Err c) script = refused place c
 
--- all up to and with the last slash
-abbrev pub folder_of : List ℕ → List ℕ
-folder_of name = take (length name - suffix_len is_no_slash name) name
-
--- a backslash is read as a slash
-abbrev pub slashed : ℕ → ℕ
-slashed c = if c == 92 then 47 else c
-
--- names are those of MASTER's folder, wherever they are written
-abbrev pub joined : List ℕ → List ℕ → List ℕ
-joined folder name = folder ++ map slashed name
+-- a command asks for the files of its load shape, and is given with their numbers
+abbrev pub command_says : Files → List ℕ → Command → Script → Script
+command_says files folder command script = let f = verb_filled files folder command.verb in asks_each f.names (given command.place f.filled script)
 
 -- what a line asks for, and what comes after it
-abbrev pub meaning_says : Reader → List ℕ → Place → Meaning → Standing → Then → Script
-meaning_says reader folder place the.Nothing standing go = go standing
-meaning_says reader folder place (the.Refused c) standing go = refused place c
-meaning_says reader folder place (the.Reads name) standing go = reader place (joined folder name) standing go
-meaning_says reader folder place (the.Does verb change) standing go =
-    gives (record { place = place; verb = verb }) (go (record { target = target_after standing.target change; read = standing.read }))
+abbrev pub meaning_says : Files → Reader → List ℕ → Place → Meaning → Standing → Then → Script
+meaning_says files reader folder place the.Nothing standing go = go standing
+meaning_says files reader folder place (the.Refused c) standing go = refused place c
+meaning_says files reader folder place (the.Reads name) standing go = reader place (joined folder name) standing go
+meaning_says files reader folder place (the.Does verb change) standing go =
+    command_says files folder (record { place = place; verb = verb }) (go (record { target = target_after standing.target change; read = standing.read }))
 
-abbrev pub line_says : Reader → List ℕ → Place → Result (List Pair) LexFault → Standing → Then → Script
-line_says reader folder place (Err e) standing go = refused place (cause_of e)
-line_says reader folder place (Ok pairs) standing go = meaning_says reader folder place (meaning_of standing.target pairs) standing go
+abbrev pub line_says : Files → Reader → List ℕ → Place → Result (List Pair) LexFault → Standing → Then → Script
+line_says files reader folder place (Err e) standing go = refused place (cause_of e)
+line_says files reader folder place (Ok pairs) standing go = meaning_says files reader folder place (meaning_of standing.target pairs) standing go
 
 -- lines of a file, of which so many went before
-abbrev pub lines_say : Reader → List ℕ → List ℕ → ℕ → List (List ℕ) → Standing → Then → Script
-lines_say reader folder file n [] standing go = go standing
-lines_say reader folder file n (line ∷ rest) standing go =
-    line_says reader folder (record { file = file; line = n + 1 }) (pairs_of line) standing (λ s. lines_say reader folder file (n + 1) rest s go)
+abbrev pub lines_say : Files → Reader → List ℕ → List ℕ → ℕ → List (List ℕ) → Standing → Then → Script
+lines_say files reader folder file n [] standing go = go standing
+lines_say files reader folder file n (line ∷ rest) standing go =
+    line_says files reader folder (record { file = file; line = n + 1 }) (pairs_of line) standing (λ s. lines_say files reader folder file (n + 1) rest s go)
 
 -- a file that is there, unless the script gets too long by it
-abbrev pub found_says : Reader → List ℕ → Option (List ℕ) → Place → List ℕ → Standing → Then → Script
-found_says reader folder None place name standing go = refused place cause.AbsentFile
-found_says reader folder (Some bs) place name standing go =
+abbrev pub found_says : Files → Reader → List ℕ → Option (List ℕ) → Place → List ℕ → Standing → Then → Script
+found_says files reader folder None place name standing go = refused place cause.AbsentFile
+found_says files reader folder (Some bs) place name standing go =
     if nat_lt 1_048_576 (standing.read + length bs) then refused place cause.TooLong
-    else lines_say reader folder name 0 (lines bs) (record { target = standing.target; read = standing.read + length bs }) go
+    else lines_say files reader folder name 0 (lines bs) (record { target = standing.target; read = standing.read + length bs }) go
 
 -- a file, where so many files may be open within it
 abbrev pub file_says : Files → List ℕ → ℕ → Reader
 file_says files folder zero place name standing go = refused place cause.TooDeep
 file_says files folder (suc depth) place name standing go =
-    asks name (found_says (λ p n s g. file_says files folder depth p n s g) folder (held files (bytes name)) place name standing go)
+    asks name (found_says files (λ p n s g. file_says files folder depth p n s g) folder (held files (bytes name)) place name standing go)
 
 -- MASTER, within which eight files may be open; for MASTER itself the line is 0
 abbrev pub script_of : Files → List ℕ → Script

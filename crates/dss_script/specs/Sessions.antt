@@ -24,7 +24,8 @@ use Rattle.dss_script.specs.declared.reading.Taken.TheVariants as taken
 use Rattle.dss_script.specs.declared.meaning.Meaning.TheVariants as the
 use Rattle.dss_script.specs.Meaning.{cause_of, meaning_of}
 use Rattle.dss_script.specs.Readings.{Reading, next_line, advanced}
-use Rattle.dss_script.specs.Script.{Script, finished, refused, asks, gives, Standing, folder_of, meaning_says, lines_say, file_says, names_first, after_names}
+use Rattle.dss_script.specs.Paths.{folder_of}
+use Rattle.dss_script.specs.Script.{Script, finished, refused, asks, gives, Standing, command_says, meaning_says, lines_say, file_says, names_first, after_names}
 
 -- a session: MASTER until it is read, its folder, the open files with the innermost first, and what lines leave to the next
 pub record State : Type 0 where
@@ -46,7 +47,7 @@ deeper (r ∷ outer) = deeper outer - 1
 abbrev pub files_say : Files → List ℕ → List Reading → Standing → Script
 files_say files folder [] standing = finished
 files_say files folder (r ∷ outer) standing =
-    lines_say (λ p n s g. file_says files folder (deeper (r ∷ outer)) p n s g) folder r.file r.line r.lines standing (λ s. files_say files folder outer s)
+    lines_say files (λ p n s g. file_says files folder (deeper (r ∷ outer)) p n s g) folder r.file r.line r.lines standing (λ s. files_say files folder outer s)
 
 abbrev pub waiting_says : Files → Option (List ℕ) → State → Script
 waiting_says files None state = files_say files state.folder state.files state.standing
@@ -97,7 +98,7 @@ files_after (r ∷ outer) = if length r.lines == 0 then outer else advanced r �
 -- what is left of the script where a line asks for this
 unfoldable pub remaining_by : Files → Place → Meaning → State → Script
 remaining_by files place meaning state =
-    meaning_says (λ p n s g. file_says files state.folder (deeper state.files) p n s g) state.folder place meaning state.standing
+    meaning_says files (λ p n s g. file_says files state.folder (deeper state.files) p n s g) state.folder place meaning state.standing
     (λ s. files_say files state.folder state.files s)
 
 -- how much may still be read: each line that is left with its line feed, and each byte that further files may have
@@ -168,7 +169,7 @@ is_fresh (Some master) files = length files == 0
 
 -- one step within the open files has done what the script says
 abbrev pub Steps : Files → Script → State → Result Turn SessionFault → Type 0
-Steps files said new (Ok (turn.Gives command)) = said ≡ gives command (remaining files new)
+Steps files said new (Ok (turn.Gives command)) = said ≡ command_says files new.folder command (remaining files new)
 Steps files said new (Ok turn.Goes) = said ≡ remaining files new
 Steps files said new (Ok (turn.Reads place name)) = said ≡ asks name (remaining_with files (held files (bytes name)) place name new)
 Steps files said new (Ok turn.Ends) = (said ≡ finished) × (remaining files new ≡ finished)

@@ -1,7 +1,8 @@
 //! The commands of a script, one at a time, with the places where they stand.
 //!
 //! What a script says is one function of the files that the library holds: its commands in order, the names that it
-//! asks for, absent ones among them, and then the end of MASTER or one cause with its place. A call of `next` gives
+//! asks for, absent ones among them, and then the end of MASTER or one cause with its place. A command that names files
+//! of a load shape has their numbers in place of the names. A call of `next` gives
 //! exactly what comes next there. Want of memory is free, and a failed read comes only where the library's count of
 //! faults rose.
 //!
@@ -12,6 +13,7 @@
 //! - `path`: names of files, joined to MASTER's folder
 //! - `reading`: a file that is being read, line by line
 //! - `session`: `Session`, which reads on from file to file
+//! - `shapes`: the files of load shapes, whose numbers stand in place of their names
 #![tactic(auto)]
 
 mod bounds;
@@ -21,6 +23,7 @@ mod meaning;
 mod path;
 mod reading;
 mod session;
+mod shapes;
 
 pub use bounds::commands_are_few;
 pub use fault::{ScriptCause, SessionFault};

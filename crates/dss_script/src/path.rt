@@ -1,7 +1,7 @@
 // Names of files, joined to MASTER's folder.
 ghost use Rattle.std.specs.Prelude.{◌≡◌, ◌-◌, ◌≤◌, IfOk, length};
 ghost use Rattle.std.specs.List.{suffix_len};
-ghost use Rattle.dss_script.specs.Script.{folder_of, is_slash, is_no_slash, slashed, joined};
+ghost use Rattle.dss_script.specs.Paths.{folder_of, is_slash, is_no_slash, slashed, joined};
 
 use dss_lexer::Text;
 use std::alloc::{AllocError, Global};

@@ -4,15 +4,18 @@ ghost use Rattle.std.specs.Str.{chars};
 ghost use Rattle.fd_outside.specs.Files.{Files, held};
 ghost use Rattle.dss_values.specs.Names.{bytes};
 ghost use Rattle.dss_script.specs.Script.{script_of, names_first, after_names};
-ghost use Rattle.dss_script.specs.Sessions.{start, remaining, remaining_by, remaining_with, Steps, Enters, Tells, Spends, found_bytes, room, left, IsRead, pays, closes, price, taken_says, opened, EnterAsks, ReadHasCause, Asks, GrowsSome, ReadsLast, Pays, IsNotEnded, IsReadOf};
+ghost use Rattle.dss_script.specs.Sessions.{start, remaining, remaining_by, remaining_with, Steps, Enters, Tells, Spends, found_bytes, room, left, IsRead, pays, closes, price, taken_says, opened, EnterAsks, ReadHasCause, Asks, GrowsSome, ReadsLast, Pays, IsNotEnded, IsReadOf, cost};
+ghost use Rattle.dss_script.specs.Fills.{Fills};
+ghost use Rattle.dss_script.specs.Shapes.{verb_filled};
 ghost use Rattle.dss_script.specs.declared.meaning.Meaning.TheVariants.{Reads};
 
 use crate::meaning::{Meaning, Target, meaning_for, target_then};
 use crate::path::{folder, name_within};
 use crate::reading::{Frame, Taken, push_frame, take_line};
+use crate::shapes::fill;
 use crate::{ScriptCause, SessionFault};
 use dss_lexer::Text;
-use dss_profile::{Command, Place};
+use dss_profile::{Command, Place, Verb};
 use fd_outside::{Found, LibFault, Library};
 use std::alloc::{AllocError, Global};
 use std::marker::Model;
@@ -120,7 +123,12 @@ impl Session {
     {
         loop {
             match self.step(alloc) {
-                Ok(Turn::Gives(command)) => return Ok(Some(command)),
+                Ok(Turn::Gives(Command { place, verb })) => match self.fill(
+                    alloc, lib, &place, verb,
+                ) {
+                    Ok(verb) => return Ok(Some(Command { place, verb })),
+                    Err(e) => return Err(e),
+                },
                 Ok(Turn::Goes) => {}
                 Ok(Turn::Reads(place, name)) => match self.enter(alloc, lib, place, name) {
                     Ok(()) => {}
@@ -130,6 +138,25 @@ impl Session {
                 Err(e) => return Err(e),
             }
         }
+    }
+
+    // What a command does, with the numbers of the files that it names.
+    fn fill<L: Library>(
+        &self,
+        alloc: Global,
+        lib: &mut L,
+        place: &Place,
+        verb: Verb,
+    ) -> Result<Verb, SessionFault>
+        ensures fills { (files : Files) → L.holds lib.old ≡ Some files → Fills place.now (verb_filled files self.now.folder verb) (L.asked lib.old) (L.asked lib.new) result }
+        ensures grows { GrowsSome (L.asked lib.old) (L.asked lib.new) }
+        ensures last { ReadsLast (L.asked lib.old) (L.asked lib.new) result }
+        ensures holds { L.holds lib.new ≡ L.holds lib.old }
+        ensures cause { ReadHasCause (L.faults lib.old) (L.faults lib.new) result }
+        ensures goes { IsNotEnded result }
+        ensures cost { IfOk result (λ filled. cost filled ≡ cost verb) }
+    {
+        fill(alloc, lib, &self.folder, place, verb)
     }
 
     // The next step within the open files: MASTER's read, a line, or the end of a file.

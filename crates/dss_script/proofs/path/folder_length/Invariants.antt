@@ -1,6 +1,6 @@
 use Rattle.std.proofs.Common.{◌≡◌, ◌-◌, ◌≤◌, length, take}
 use Rattle.std.specs.List.{suffix_len}
-use Rattle.dss_script.specs.Script.{is_no_slash}
+use Rattle.dss_script.specs.Paths.{is_no_slash}
 use Rattle.dss_script.proofs.path.folder_length.Given as goal
 
 abbrev pub invariant-loop-end : goal.invariant-loop-end

@@ -1,5 +1,5 @@
 use Rattle.std.proofs.Common.{◌≡◌, ◌++◌, map, take}
-use Rattle.dss_script.specs.Script.{slashed}
+use Rattle.dss_script.specs.Paths.{slashed}
 use Rattle.dss_script.proofs.path.name_within.Given as goal
 
 abbrev pub invariant-loop-character : goal.invariant-loop-character

@@ -1,61 +1,56 @@
 use Rattle.std.proofs.Common.{◌∙◌, ap, refl, arith, Option}
 use Rattle.dss_profile.specs.declared.command.Command.{Command}
+use Rattle.dss_profile.specs.declared.command.Verb.{Verb}
 use Rattle.dss_script.specs.declared.session.Turn.{Turn}
 use Rattle.dss_script.specs.Script.{asks}
+use Rattle.dss_script.proofs.Commands.{asks_filling, fails_filling, reached_command}
+use Rattle.dss_script.proofs.Filling.{last_both, some_both}
 use Rattle.dss_script.proofs.Entering.{reached_same, reached_read, reached_all, reached_said, fails_here, asks_here, fails_entering, asks_entering, some_more, some_entering, last_here, not_ended}
 use Rattle.dss_script.proofs.session.Session.go_on.Goals as goal
 
-pub returns-in-Ok-Gives-clause-told : goal.returns-in-Ok-Gives-clause-told
-returns-in-Ok-Gives-clause-told g c =
-    λ files told. reached_said _ _ _ _ _ (c.loop-command.invariant.reached files told) (rw c.in-Ok-Gives.field-0-is at (c.in-Ok-Gives.ensures.steps files))
-
-pub returns-in-Ok-Gives-clause-asked : goal.returns-in-Ok-Gives-clause-asked
-returns-in-Ok-Gives-clause-asked g c =
-    λ files told. reached_all _ _ _ _ _ (c.loop-command.invariant.reached files told) (rw c.in-Ok-Gives.field-0-is at (c.in-Ok-Gives.ensures.steps files)) refl
-
-pub loop-command-preserved-in-Ok-Goes : goal.loop-command-preserved-in-Ok-Goes
-loop-command-preserved-in-Ok-Goes g c =
+pub loop-place-preserved-in-Ok-Goes : goal.loop-place-preserved-in-Ok-Goes
+loop-place-preserved-in-Ok-Goes g c =
     let spent = rw c.in-Ok-Goes.field-0-is at c.in-Ok-Goes.ensures.room in
     record {
-      holds = c.loop-command.invariant.holds;
-      reached = λ files told. reached_same _ _ _ _ _ (c.loop-command.invariant.reached files told) (rw c.in-Ok-Goes.field-0-is at (c.in-Ok-Goes.ensures.steps files));
-      some = c.loop-command.invariant.some;
-      faults = c.loop-command.invariant.faults;
-      room = omega (arith, spent.0, c.loop-command.invariant.room);
+      holds = c.loop-place.invariant.holds;
+      reached = λ files told. reached_same _ _ _ _ _ (c.loop-place.invariant.reached files told) (rw c.in-Ok-Goes.field-0-is at (c.in-Ok-Goes.ensures.steps files));
+      some = c.loop-place.invariant.some;
+      faults = c.loop-place.invariant.faults;
+      room = omega (arith, spent.0, c.loop-place.invariant.room);
     }
 
-pub loop-command-preserved : goal.loop-command-preserved
-loop-command-preserved g c =
+pub loop-place-preserved : goal.loop-place-preserved
+loop-place-preserved g c =
     let spent = rw c.in-Ok-Reads.field-0-is at c.in-Ok-Reads.ensures.room in
     record {
-      holds = c.enter.ensures.holds ∙ c.loop-command.invariant.holds;
+      holds = c.enter.ensures.holds ∙ c.loop-place.invariant.holds;
       reached = λ files told.
-          reached_read _ _ _ _ _ _ c.in-Ok-Reads.name (c.loop-command.invariant.reached files told)
-          (let reads = rw c.in-Ok-Reads.field-0-is at (c.in-Ok-Reads.ensures.steps files) in reads ∙ ap (asks c.in-Ok-Reads.name) (c.in-Ok.ensures.told files (c.loop-command.invariant.holds ∙ told)))
-          c.in-Ok.ensures.asked;
-      some = some_more _ _ _ c.in-Ok-Reads.name c.loop-command.invariant.some c.in-Ok.ensures.asked;
-      faults = omega (arith, c.enter.ensures.cause.later, c.loop-command.invariant.faults);
-      room = omega (arith, spent.0, c.in-Ok.ensures.room.0, c.loop-command.invariant.room);
+          reached_read _ _ _ _ _ _ c.in-Ok-Reads.name (c.loop-place.invariant.reached files told)
+          (let reads = rw c.in-Ok-Reads.field-0-is at (c.in-Ok-Reads.ensures.steps files) in reads ∙ ap (asks c.in-Ok-Reads.name) (c.in-Ok-enter.ensures.told files (c.loop-place.invariant.holds ∙ told)))
+          c.in-Ok-enter.ensures.asked;
+      some = some_more _ _ _ c.in-Ok-Reads.name c.loop-place.invariant.some c.in-Ok-enter.ensures.asked;
+      faults = omega (arith, c.enter.ensures.cause.later, c.loop-place.invariant.faults);
+      room = omega (arith, spent.0, c.in-Ok-enter.ensures.room.0, c.loop-place.invariant.room);
     }
 
 pub returns-in-Err-enter-clause-told : goal.returns-in-Err-enter-clause-told
 returns-in-Err-enter-clause-told g c =
     λ files told.
-    fails_entering files _ _ _ c.enter.new.self c.enter.new.self _ _ c.in-Ok-Reads.name c.in-Err-enter.e (c.loop-command.invariant.reached files told)
-    (rw c.in-Ok-Reads.field-0-is at (c.in-Ok-Reads.ensures.steps files)) (c.in-Err-enter.ensures.told files (c.loop-command.invariant.holds ∙ told))
+    fails_entering files _ _ _ c.enter.new.self c.enter.new.self _ _ c.in-Ok-Reads.name c.in-Err-enter.e (c.loop-place.invariant.reached files told)
+    (rw c.in-Ok-Reads.field-0-is at (c.in-Ok-Reads.ensures.steps files)) (c.in-Err-enter.ensures.told files (c.loop-place.invariant.holds ∙ told))
 
 pub returns-in-Err-enter-clause-asked : goal.returns-in-Err-enter-clause-asked
 returns-in-Err-enter-clause-asked g c =
     λ files told.
-    asks_entering files _ _ _ c.enter.new.self _ _ _ c.in-Ok-Reads.name c.in-Err-enter.e (c.loop-command.invariant.reached files told)
-    (rw c.in-Ok-Reads.field-0-is at (c.in-Ok-Reads.ensures.steps files)) (c.in-Err-enter.ensures.told files (c.loop-command.invariant.holds ∙ told))
+    asks_entering files _ _ _ c.enter.new.self _ _ _ c.in-Ok-Reads.name c.in-Err-enter.e (c.loop-place.invariant.reached files told)
+    (rw c.in-Ok-Reads.field-0-is at (c.in-Ok-Reads.ensures.steps files)) (c.in-Err-enter.ensures.told files (c.loop-place.invariant.holds ∙ told))
     c.in-Err-enter.ensures.asked c.in-Err-enter.ensures.goes c.in-Err-enter.ensures.named
 
 pub returns-in-Err-enter-clause-grows : goal.returns-in-Err-enter-clause-grows
-returns-in-Err-enter-clause-grows g c = some_entering _ _ _ c.in-Ok-Reads.name c.in-Err-enter.e c.loop-command.invariant.some c.in-Err-enter.ensures.asked
+returns-in-Err-enter-clause-grows g c = some_entering _ _ _ c.in-Ok-Reads.name c.in-Err-enter.e c.loop-place.invariant.some c.in-Err-enter.ensures.asked
 
 pub returns-in-Err-enter-clause-last : goal.returns-in-Err-enter-clause-last
-returns-in-Err-enter-clause-last g c = last_here _ _ _ c.in-Ok-Reads.name c.in-Err-enter.e c.loop-command.invariant.some c.in-Err-enter.ensures.asked c.in-Err-enter.ensures.named
+returns-in-Err-enter-clause-last g c = last_here _ _ _ c.in-Ok-Reads.name c.in-Err-enter.e c.loop-place.invariant.some c.in-Err-enter.ensures.asked c.in-Err-enter.ensures.named
 
 pub returns-in-Err-enter-clause-goes : goal.returns-in-Err-enter-clause-goes
 returns-in-Err-enter-clause-goes g c = not_ended Unit (Option Command) c.in-Err-enter.e c.in-Err-enter.ensures.goes
@@ -64,21 +59,54 @@ pub returns-in-Ok-Ends-clause-told : goal.returns-in-Ok-Ends-clause-told
 returns-in-Ok-Ends-clause-told g c =
     λ files told.
     let over = rw c.in-Ok-Ends.field-0-is at (c.in-Ok-Ends.ensures.steps files) in
-    (reached_said _ _ _ _ _ (c.loop-command.invariant.reached files told) over.0, over.1)
+    (reached_said _ _ _ _ _ (c.loop-place.invariant.reached files told) over.0, over.1)
 
 pub returns-in-Ok-Ends-clause-asked : goal.returns-in-Ok-Ends-clause-asked
 returns-in-Ok-Ends-clause-asked g c =
     λ files told.
     let over = rw c.in-Ok-Ends.field-0-is at (c.in-Ok-Ends.ensures.steps files) in
-    reached_all _ _ _ _ _ (c.loop-command.invariant.reached files told) over.0 refl
+    reached_all _ _ _ _ _ (c.loop-place.invariant.reached files told) over.0 refl
 
 pub returns-in-Err-clause-told : goal.returns-in-Err-clause-told
 returns-in-Err-clause-told g c =
-    λ files told. fails_here files _ _ c.step.new.self c.step.new.self _ _ c.in-Err.e (c.loop-command.invariant.reached files told) (c.in-Err.ensures.steps files)
+    λ files told. fails_here files _ _ c.step.new.self c.step.new.self _ _ c.in-Err.e (c.loop-place.invariant.reached files told) (c.in-Err.ensures.steps files)
 
 pub returns-in-Err-clause-asked : goal.returns-in-Err-clause-asked
 returns-in-Err-clause-asked g c =
-    λ files told. asks_here files _ _ c.step.new.self _ _ c.in-Err.e (c.loop-command.invariant.reached files told) (c.in-Err.ensures.steps files) c.in-Err.ensures.goes c.in-Err.ensures.reads_nothing
+    λ files told. asks_here files _ _ c.step.new.self _ _ c.in-Err.e (c.loop-place.invariant.reached files told) (c.in-Err.ensures.steps files) c.in-Err.ensures.goes c.in-Err.ensures.reads_nothing
 
 pub returns-in-Err-clause-goes : goal.returns-in-Err-clause-goes
 returns-in-Err-clause-goes g c = not_ended Turn (Option Command) c.in-Err.e c.in-Err.ensures.goes
+
+pub returns-in-Ok-clause-told : goal.returns-in-Ok-clause-told
+returns-in-Ok-clause-told g c =
+    λ files told.
+    let steps = rw c.in-Ok-Gives.field-0-is at (c.in-Ok-Gives.ensures.steps files) in
+    reached_said _ _ _ _ _ (reached_command files _ _ _ _ _ c.in-Ok.verb _ _ _ (c.loop-place.invariant.reached files told) steps (c.in-Ok.ensures.fills files (c.loop-place.invariant.holds ∙ told))) refl
+
+pub returns-in-Ok-clause-asked : goal.returns-in-Ok-clause-asked
+returns-in-Ok-clause-asked g c =
+    λ files told.
+    let steps = rw c.in-Ok-Gives.field-0-is at (c.in-Ok-Gives.ensures.steps files) in
+    reached_all _ _ _ _ _ (reached_command files _ _ _ _ _ c.in-Ok.verb _ _ _ (c.loop-place.invariant.reached files told) steps (c.in-Ok.ensures.fills files (c.loop-place.invariant.holds ∙ told))) refl refl
+
+pub returns-in-Ok-clause-grows : goal.returns-in-Ok-clause-grows
+returns-in-Ok-clause-grows g c = some_both _ _ _ c.loop-place.invariant.some c.fill.ensures.grows
+
+pub returns-in-Err-fill-clause-told : goal.returns-in-Err-fill-clause-told
+returns-in-Err-fill-clause-told g c =
+    λ files told.
+    let steps = rw c.in-Ok-Gives.field-0-is at (c.in-Ok-Gives.ensures.steps files) in
+    fails_filling files _ _ _ _ _ c.step.new.self c.in-Err-fill.e _ _ _ (c.loop-place.invariant.reached files told) steps (c.in-Err-fill.ensures.fills files (c.loop-place.invariant.holds ∙ told))
+
+pub returns-in-Err-fill-clause-asked : goal.returns-in-Err-fill-clause-asked
+returns-in-Err-fill-clause-asked g c =
+    λ files told.
+    let steps = rw c.in-Ok-Gives.field-0-is at (c.in-Ok-Gives.ensures.steps files) in
+    asks_filling files _ _ _ _ _ c.in-Err-fill.e _ _ _ (c.loop-place.invariant.reached files told) steps (c.in-Err-fill.ensures.fills files (c.loop-place.invariant.holds ∙ told))
+
+pub returns-in-Err-fill-clause-grows : goal.returns-in-Err-fill-clause-grows
+returns-in-Err-fill-clause-grows g c = some_both _ _ _ c.loop-place.invariant.some c.fill.ensures.grows
+
+pub returns-in-Err-fill-clause-last : goal.returns-in-Err-fill-clause-last
+returns-in-Err-fill-clause-last g c = last_both Verb (Option Command) _ _ _ c.in-Err-fill.e c.loop-place.invariant.some c.in-Err-fill.ensures.last

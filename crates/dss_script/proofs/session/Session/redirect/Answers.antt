@@ -1,5 +1,5 @@
 use Rattle.std.proofs.Common.{◌∙◌, ap, sym}
-use Rattle.dss_script.specs.Script.{joined}
+use Rattle.dss_script.specs.Paths.{joined}
 use Rattle.dss_script.proofs.Steps.{deep_enough, too_deep_for}
 use Rattle.dss_script.proofs.session.Session.redirect.Goals as goal
 
