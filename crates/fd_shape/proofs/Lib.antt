@@ -1,4 +1,5 @@
 pub mod Numbers
 mod Columns
 mod Readings
+mod ReadsBack
 mod Records

@@ -1,3 +1,4 @@
 pub mod Column
 pub mod Left
 pub mod Text
+pub mod TextLaws

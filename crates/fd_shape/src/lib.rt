@@ -7,16 +7,19 @@
 //! - `blanks`: a field without the blanks and tabs round it
 //! - `column`: `read_column`, the numbers of a file
 //! - `fault`: `ShapeFault`, why a file isn't read
+//! - `laws`: the text of numbers reads as these numbers
 //! - `text`: `values_text`, the numbers as a script writes them
 #![tactic(auto)]
 
 mod blanks;
 mod column;
 mod fault;
+mod laws;
 #[cfg(test)]
 mod tests;
 mod text;
 
 pub use column::read_column;
 pub use fault::ShapeFault;
+pub use laws::text_law;
 pub use text::values_text;
