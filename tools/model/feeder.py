@@ -658,6 +658,10 @@ def run(files, words):
 
 
 if __name__ == '__main__':
-    t, s, m = run({'m.dss': open(sys.argv[1], 'rb').read()}, ['solve', 'm.dss'])
+    top = os.path.dirname(os.path.abspath(sys.argv[1]))
+    paths = [os.path.join(folder, name) for folder, _, names in os.walk(top) for name in names]
+    held = {os.path.relpath(path, top): open(path, 'rb').read() for path in paths}
+    held['m.dss'] = open(sys.argv[1], 'rb').read()
+    t, s, m = run(held, ['solve', 'm.dss'])
     sys.stdout.write(t.decode())
     print('status', s, CASES, [(c.steps, c.bound) for c in m])

@@ -1,4 +1,6 @@
 """The script language and the circuit, as far as valid scripts need them. Whole numbers alone."""
+import csv
+import io
 import re
 
 
@@ -408,7 +410,7 @@ def set_pair(circuit, cls, e, name, value, grouped):
         if name == 'npts':
             e['npts'] = whole(value, grouped)
         elif name == 'mult':
-            e['mult'] = array(value, grouped)
+            e['mult'] = [check(v, 0, 1000 * ONE) for v in array(value, grouped)]
         elif name == 'interval':
             pass
         else:
@@ -437,6 +439,24 @@ def set_control(circuit, e, name, value, grouped):
         e[name] = near(one(value, grouped), 10 ** 6)
     else:
         e[name] = one(value, grouped)
+
+
+def decimals(v):
+    """A number of units of 10^-9 with nine decimals."""
+    return ('-' if v < 0 else '') + f'{abs(v) // ONE}.{abs(v) % ONE:09}'
+
+
+def column(data):
+    """The numbers that the records of a file begin with, in units of 10^-9."""
+    text = data.removeprefix(b'\xef\xbb\xbf').decode('latin1')
+    records = [r for r in csv.reader(io.StringIO(text, newline='')) if r]
+    try:
+        found = [number(r[0].strip(' \t')) for r in records]
+    except Refused:
+        found = []
+    if not found:
+        raise Refused('bad value')
+    return found
 
 
 OPTIONS = dict(mode='snap', number=1, maxiterations=15, tolerance=100000, hertz=60, controlmode='static',
@@ -516,6 +536,18 @@ class Script:
             self.circuit[key] = kept
             raise
 
+    def shapes(self, cls, pairs, master):
+        """The pairs with the numbers of the files that `mult` of a load shape names, each read in order."""
+        found = []
+        for name, value, grouped in pairs:
+            if cls == 'loadshape' and (name or '').lower() == 'mult' and value[:5].lower() == 'file=':
+                at = master[:master.rfind('/') + 1] + value[5:].replace('\\', '/')
+                if at not in self.files:
+                    raise Refused('absent file')
+                value, grouped = ' '.join(decimals(v) for v in column(self.files[at])), True
+            found.append((name, value, grouped))
+        return found
+
     def command(self, items, depth, master):
         if not items:
             return
@@ -526,7 +558,7 @@ class Script:
             if len(parts) != 3 or not all(parts):
                 raise Refused('unknown command')
             key = (parts[0].lower(), parts[1].lower())
-            self.edit(key, [(parts[2],) + items[0][1:]] + rest)
+            self.edit(key, self.shapes(key[0], [(parts[2],) + items[0][1:]] + rest, master))
             return
         verb = value.lower()
         if verb in ('new', 'edit'):
@@ -536,8 +568,9 @@ class Script:
             if not cls or not re.match(r'[A-Za-z0-9_%-]+\Z', nm):
                 raise Refused('bad value')
             key = (cls.lower(), nm.lower())
+            pairs = self.shapes(key[0], rest[1:], master)
             if verb == 'edit':
-                self.edit(key, rest[1:])
+                self.edit(key, pairs)
                 self.last = key
                 return
             if key[0] == 'circuit':
@@ -552,12 +585,12 @@ class Script:
                 raise Refused('duplicate')
             self.circuit[key] = NEW[key[0]]()
             self.circuit[key]['place'] = self.place
-            self.pairs(key, rest[1:])
+            self.pairs(key, pairs)
             self.last = key
         elif verb in ('~', 'more'):
             if self.last is None:
                 raise Refused('continues nothing')
-            self.edit(self.last, rest)
+            self.edit(self.last, self.shapes(self.last[0], rest, master))
         elif verb in ('set', 'solve'):
             if verb == 'solve' and not self.has:
                 raise Refused('no circuit')
