@@ -55,37 +55,43 @@ by_filled place (Err c) standing = stops place c
 
 -- a command asks for the files of its load shape, and is given with their numbers
 abbrev pub by_command : Files → List ℕ → Command → Standing → Part
-by_command files folder c standing = let f = verb_filled files folder c.verb in says (map name f.names) (by_filled c.place f.filled standing)
+by_command files folder c standing =
+    let f = verb_filled files folder c.verb in says (map name f.names) (by_filled c.place f.filled standing)
 
 abbrev pub by_meaning : Files → File → List ℕ → Place → Meaning → Standing → Part
 by_meaning files file folder place the.Nothing standing = silent standing
 by_meaning files file folder place (the.Refused c) standing = stops place c
 by_meaning files file folder place (the.Reads named) standing = file place (joined folder named) standing
 by_meaning files file folder place (the.Does verb change) standing =
-    by_command files folder (record { place = place; verb = verb }) (record { target = target_after standing.target change; read = standing.read })
+    by_command files folder (record { place = place; verb = verb })
+    (record { target = target_after standing.target change; read = standing.read })
 
 abbrev pub by_line : Files → File → List ℕ → Place → Result (List Pair) LexFault → Standing → Part
 by_line files file folder place (Err e) standing = stops place (cause_of e)
-by_line files file folder place (Ok pairs) standing = by_meaning files file folder place (meaning_of standing.target pairs) standing
+by_line files file folder place (Ok pairs) standing =
+    by_meaning files file folder place (meaning_of standing.target pairs) standing
 
 -- lines of a file, of which so many went before
 abbrev pub by_lines : Files → File → List ℕ → List ℕ → ℕ → List (List ℕ) → Standing → Part
 by_lines files file folder at n [] standing = silent standing
 by_lines files file folder at n (line ∷ rest) standing =
-    followed (by_line files file folder (record { file = at; line = n + 1 }) (pairs_of line) standing) (λ s. by_lines files file folder at (n + 1) rest s)
+    followed (by_line files file folder (record { file = at; line = n + 1 }) (pairs_of line) standing)
+    (λ s. by_lines files file folder at (n + 1) rest s)
 
 -- a file that is there, unless the script gets too long by it
 abbrev pub by_found : Files → File → List ℕ → Option (List ℕ) → Place → List ℕ → Standing → Part
 by_found files file folder None place at standing = stops place cause.AbsentFile
 by_found files file folder (Some bs) place at standing =
     if nat_lt 1_048_576 (standing.read + length bs) then stops place cause.TooLong
-    else by_lines files file folder at 0 (lines bs) (record { target = standing.target; read = standing.read + length bs })
+    else by_lines files file folder at 0 (lines bs)
+    (record { target = standing.target; read = standing.read + length bs })
 
 -- a file, where so many files may be open within it
 abbrev pub by_file : Files → List ℕ → ℕ → File
 by_file files folder zero place at standing = stops place cause.TooDeep
 by_file files folder (suc depth) place at standing =
-    says (name at ∷ []) (by_found files (λ p n s. by_file files folder depth p n s) folder (held files (bytes at)) place at standing)
+    says (name at ∷ [])
+    (by_found files (λ p n s. by_file files folder depth p n s) folder (held files (bytes at)) place at standing)
 
 -- MASTER and all that it redirects to
 abbrev pub said_of : Files → List ℕ → Part

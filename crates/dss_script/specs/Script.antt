@@ -50,7 +50,8 @@ given place (Err c) script = refused place c
 
 -- a command asks for the files of its load shape, and is given with their numbers
 abbrev pub command_says : Files → List ℕ → Command → Script → Script
-command_says files folder command script = let f = verb_filled files folder command.verb in asks_each f.names (given command.place f.filled script)
+command_says files folder command script =
+    let f = verb_filled files folder command.verb in asks_each f.names (given command.place f.filled script)
 
 -- what a line asks for, and what comes after it
 abbrev pub meaning_says : Files → Reader → List ℕ → Place → Meaning → Standing → Then → Script
@@ -58,30 +59,35 @@ meaning_says files reader folder place the.Nothing standing go = go standing
 meaning_says files reader folder place (the.Refused c) standing go = refused place c
 meaning_says files reader folder place (the.Reads name) standing go = reader place (joined folder name) standing go
 meaning_says files reader folder place (the.Does verb change) standing go =
-    command_says files folder (record { place = place; verb = verb }) (go (record { target = target_after standing.target change; read = standing.read }))
+    command_says files folder (record { place = place; verb = verb })
+    (go (record { target = target_after standing.target change; read = standing.read }))
 
 abbrev pub line_says : Files → Reader → List ℕ → Place → Result (List Pair) LexFault → Standing → Then → Script
 line_says files reader folder place (Err e) standing go = refused place (cause_of e)
-line_says files reader folder place (Ok pairs) standing go = meaning_says files reader folder place (meaning_of standing.target pairs) standing go
+line_says files reader folder place (Ok pairs) standing go =
+    meaning_says files reader folder place (meaning_of standing.target pairs) standing go
 
 -- lines of a file, of which so many went before
 abbrev pub lines_say : Files → Reader → List ℕ → List ℕ → ℕ → List (List ℕ) → Standing → Then → Script
 lines_say files reader folder file n [] standing go = go standing
 lines_say files reader folder file n (line ∷ rest) standing go =
-    line_says files reader folder (record { file = file; line = n + 1 }) (pairs_of line) standing (λ s. lines_say files reader folder file (n + 1) rest s go)
+    line_says files reader folder (record { file = file; line = n + 1 }) (pairs_of line) standing
+    (λ s. lines_say files reader folder file (n + 1) rest s go)
 
 -- a file that is there, unless the script gets too long by it
 abbrev pub found_says : Files → Reader → List ℕ → Option (List ℕ) → Place → List ℕ → Standing → Then → Script
 found_says files reader folder None place name standing go = refused place cause.AbsentFile
 found_says files reader folder (Some bs) place name standing go =
     if nat_lt 1_048_576 (standing.read + length bs) then refused place cause.TooLong
-    else lines_say files reader folder name 0 (lines bs) (record { target = standing.target; read = standing.read + length bs }) go
+    else lines_say files reader folder name 0 (lines bs)
+    (record { target = standing.target; read = standing.read + length bs }) go
 
 -- a file, where so many files may be open within it
 abbrev pub file_says : Files → List ℕ → ℕ → Reader
 file_says files folder zero place name standing go = refused place cause.TooDeep
 file_says files folder (suc depth) place name standing go =
-    asks name (found_says files (λ p n s g. file_says files folder depth p n s g) folder (held files (bytes name)) place name standing go)
+    asks name
+    (found_says files (λ p n s g. file_says files folder depth p n s g) folder (held files (bytes name)) place name standing go)
 
 -- MASTER, within which eight files may be open; for MASTER itself the line is 0
 abbrev pub script_of : Files → List ℕ → Script

@@ -47,7 +47,8 @@ deeper (r ∷ outer) = deeper outer - 1
 abbrev pub files_say : Files → List ℕ → List Reading → Standing → Script
 files_say files folder [] standing = finished
 files_say files folder (r ∷ outer) standing =
-    lines_say files (λ p n s g. file_says files folder (deeper (r ∷ outer)) p n s g) folder r.file r.line r.lines standing (λ s. files_say files folder outer s)
+    lines_say files (λ p n s g. file_says files folder (deeper (r ∷ outer)) p n s g) folder r.file r.line r.lines standing
+    (λ s. files_say files folder outer s)
 
 abbrev pub waiting_says : Files → Option (List ℕ) → State → Script
 waiting_says files None state = files_say files state.folder state.files state.standing
@@ -98,7 +99,8 @@ files_after (r ∷ outer) = if length r.lines == 0 then outer else advanced r �
 -- what is left of the script where a line asks for this
 unfoldable pub remaining_by : Files → Place → Meaning → State → Script
 remaining_by files place meaning state =
-    meaning_says files (λ p n s g. file_says files state.folder (deeper state.files) p n s g) state.folder place meaning state.standing
+    meaning_says files (λ p n s g. file_says files state.folder (deeper state.files) p n s g) state.folder place meaning
+    state.standing
     (λ s. files_say files state.folder state.files s)
 
 -- how much may still be read: each line that is left with its line feed, and each byte that further files may have

@@ -5,7 +5,7 @@ ghost use Rattle.fd_outside.specs.Files.{Files, held};
 ghost use Rattle.dss_values.specs.Names.{bytes};
 ghost use Rattle.dss_script.specs.Script.{script_of, names_first, after_names};
 ghost use Rattle.dss_script.specs.Sessions.{start, remaining, remaining_by, remaining_with, Steps, Enters, Tells, Spends, found_bytes, room, left, IsRead, pays, closes, price, taken_says, opened, EnterAsks, ReadHasCause, Asks, GrowsSome, ReadsLast, Pays, IsNotEnded, IsReadOf, cost};
-ghost use Rattle.dss_script.specs.Fills.{Fills};
+ghost use Rattle.dss_script.specs.Fills.{FillsBy};
 ghost use Rattle.dss_script.specs.Shapes.{verb_filled};
 ghost use Rattle.dss_script.specs.declared.meaning.Meaning.TheVariants.{Reads};
 
@@ -148,7 +148,7 @@ impl Session {
         place: &Place,
         verb: Verb,
     ) -> Result<Verb, SessionFault>
-        ensures fills { (files : Files) → L.holds lib.old ≡ Some files → Fills place.now (verb_filled files self.now.folder verb) (L.asked lib.old) (L.asked lib.new) result }
+        ensures fills { FillsBy (L.holds lib.old) place.now (λ files. verb_filled files self.now.folder verb) (L.asked lib.old) (L.asked lib.new) result }
         ensures grows { GrowsSome (L.asked lib.old) (L.asked lib.new) }
         ensures last { ReadsLast (L.asked lib.old) (L.asked lib.new) result }
         ensures holds { L.holds lib.new ≡ L.holds lib.old }

@@ -1,8 +1,7 @@
 // The files of load shapes: their numbers stand in place of their names.
-ghost use Rattle.std.specs.Prelude.{◌≡◌, codes, IfOk, Ok, Some};
-ghost use Rattle.fd_outside.specs.Files.{Files};
+ghost use Rattle.std.specs.Prelude.{◌≡◌, codes, IfOk, Ok};
 ghost use Rattle.fd_shape.specs.Column.{column_of};
-ghost use Rattle.dss_script.specs.Fills.{Fills, IsFilled, IsRefusal};
+ghost use Rattle.dss_script.specs.Fills.{FillsBy, IsFilled, IsRefusal};
 ghost use Rattle.dss_script.specs.Sessions.{GrowsSome, IsNotEnded, ReadHasCause, ReadsLast, cost, found_bytes};
 ghost use Rattle.dss_script.specs.Shapes.{class_filled, is_loadshape, pair_filled, pairs_filled, verb_filled, with_file, with_numbers};
 
@@ -79,7 +78,7 @@ fn fill_pair<L: Library>(
     place: &Place,
     pair: Pair,
 ) -> Result<Pair, SessionFault>
-    ensures fills { (files : Files) → L.holds lib.old ≡ Some files → Fills place.now (pair_filled files folder.now pair) (L.asked lib.old) (L.asked lib.new) result }
+    ensures fills { FillsBy (L.holds lib.old) place.now (λ files. pair_filled files folder.now pair) (L.asked lib.old) (L.asked lib.new) result }
     ensures grows { GrowsSome (L.asked lib.old) (L.asked lib.new) }
     ensures last { ReadsLast (L.asked lib.old) (L.asked lib.new) result }
     ensures holds { L.holds lib.new ≡ L.holds lib.old }
@@ -105,7 +104,7 @@ fn fill_pairs<L: Library>(
     place: &Place,
     pairs: PairList,
 ) -> Result<PairList, SessionFault>
-    ensures fills { (files : Files) → L.holds lib.old ≡ Some files → Fills place.now (pairs_filled files folder.now pairs) (L.asked lib.old) (L.asked lib.new) result }
+    ensures fills { FillsBy (L.holds lib.old) place.now (λ files. pairs_filled files folder.now pairs) (L.asked lib.old) (L.asked lib.new) result }
     ensures grows { GrowsSome (L.asked lib.old) (L.asked lib.new) }
     ensures last { ReadsLast (L.asked lib.old) (L.asked lib.new) result }
     ensures holds { L.holds lib.new ≡ L.holds lib.old }
@@ -131,7 +130,7 @@ fn fill_class<L: Library>(
     class: &Text,
     pairs: PairList,
 ) -> Result<PairList, SessionFault>
-    ensures fills { (files : Files) → L.holds lib.old ≡ Some files → Fills place.now (class_filled files folder.now class.now pairs) (L.asked lib.old) (L.asked lib.new) result }
+    ensures fills { FillsBy (L.holds lib.old) place.now (λ files. class_filled files folder.now class.now pairs) (L.asked lib.old) (L.asked lib.new) result }
     ensures grows { GrowsSome (L.asked lib.old) (L.asked lib.new) }
     ensures last { ReadsLast (L.asked lib.old) (L.asked lib.new) result }
     ensures holds { L.holds lib.new ≡ L.holds lib.old }
@@ -156,7 +155,7 @@ pub fn fill<L: Library>(
     place: &Place,
     verb: Verb,
 ) -> Result<Verb, SessionFault>
-    ensures fills { (files : Files) → L.holds lib.old ≡ Some files → Fills place.now (verb_filled files folder.now verb) (L.asked lib.old) (L.asked lib.new) result }
+    ensures fills { FillsBy (L.holds lib.old) place.now (λ files. verb_filled files folder.now verb) (L.asked lib.old) (L.asked lib.new) result }
     ensures grows { GrowsSome (L.asked lib.old) (L.asked lib.new) }
     ensures last { ReadsLast (L.asked lib.old) (L.asked lib.new) result }
     ensures holds { L.holds lib.new ≡ L.holds lib.old }

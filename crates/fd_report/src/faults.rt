@@ -9,12 +9,12 @@ ghost use Rattle.fd_report.specs.Faults.{bound_text, cause_text, fields, model_t
 
 use crate::line::record_of;
 use crate::names::element_field;
-use fd_decimal::{micro_text, nano_text, size_text};
 use dss_layout::Layout;
 use dss_lexer::Text;
 use dss_profile::{ElementName, Place};
 use dss_script::ScriptCause;
 use dss_values::ModelFault;
+use fd_decimal::{micro_text, nano_text, size_text};
 use fd_inverse::Stop;
 use fd_outside::Record;
 use std::alloc::{AllocError, Global};

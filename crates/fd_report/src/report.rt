@@ -8,10 +8,10 @@ ghost use Rattle.fd_report.specs.Solutions.{IsOfSize};
 
 use crate::line::record_of;
 use crate::names::{element_field, node_field};
-use fd_decimal::size_text;
 use crate::solution::Solution;
 use crate::texts::{complex_texts, interval_texts, value_texts};
 use dss_layout::{Layout, NodeName, PhaseName};
+use fd_decimal::size_text;
 use fd_outside::Record;
 use std::alloc::{AllocError, Global};
 

@@ -4,9 +4,9 @@ ghost use Rattle.fd_report.specs.Records.{interval_fields, mismatch_fields, part
 ghost use Rattle.fd_report.specs.Solutions.{IsOfSize};
 ghost use Rattle.fd_report.specs.Texts.{intervals_in, mismatches_in, parts_in, values_in};
 
-use fd_decimal::{micro_text, size_text};
 use crate::sizes::{greatest_size, least_size};
 use crate::solution::Solution;
+use fd_decimal::{micro_text, size_text};
 use std::alloc::{AllocError, Global};
 
 /// The parts of a complex unknown and the mismatches of its rows.

@@ -8,4 +8,5 @@ use Rattle.fd_shape.specs.Text.{values_text}
 -- numbers below 10^9 in size, which are all that a script can spell
 pub record TextLaw : Type 0 where
   pub number : (z : ℤ) → unsigned_abs z < 1_000_000_000_000_000_000 → number_of (nano_text z) ≡ Ok z
-  pub numbers : (zs : List ℤ) → All (λ z. unsigned_abs z < 1_000_000_000_000_000_000) zs → row_of (values_text zs) ≡ Ok zs
+  pub numbers : (zs : List ℤ) → All (λ z. unsigned_abs z < 1_000_000_000_000_000_000) zs
+      → row_of (values_text zs) ≡ Ok zs
