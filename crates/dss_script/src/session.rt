@@ -73,7 +73,8 @@ impl Session {
         })
     }
 
-    /// The next command, with its place. At the end of MASTER there is none, nor at any later call.
+    /// The next command, with its place, and with the numbers of the files that a load shape names in place of their
+    /// names. At the end of MASTER there is none, nor at any later call.
     ///
     /// Errors: `Script` exactly where the script is refused there, `Read` where the library's count of faults rose in
     /// this call, with the name asked last, which is the next of those that the script asks for, `Ended` exactly where
