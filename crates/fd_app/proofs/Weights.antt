@@ -34,7 +34,7 @@ use Rattle.fd_report.specs.declared.faults.Cause.TheVariants as cause
 use Rattle.fd_outcome.specs.Events.{Event}
 use Rattle.fd_outcome.specs.Work.{Step, goes, ends}
 use Rattle.fd_app.specs.Built.{unbuilt_place}
-use Rattle.fd_app.specs.Commands.{Applied, IsByTests, IsStep, IsStepOf, is_daily, left_of, nothing_left, reads_shape, refused_at, solve_by, solve_left, tried}
+use Rattle.fd_app.specs.Commands.{Applied, IsByTests, IsStep, IsStepOf, is_daily, left_of, nothing_left, refused_at, solve_by, solve_left, tried}
 use Rattle.fd_app.specs.Solving.{IsByBuilt, IsByRange, IsSolutionStep, IsStepBy, rounds_of, snapshot_plant}
 use Rattle.fd_app.specs.Steps.{StandingView, changes, refuses, standing, start_of}
 use Rattle.fd_enclosure.specs.Sound.{loose, uncertain}
@@ -279,8 +279,6 @@ step_reaches at (refused_at place c) step now is leaves = absurd (left_by now st
 step_reaches at (solve_left circuit) step now is leaves = inr (ap solve_left (tests_leave (standing circuit at) now is.answer step is.step_is leaves))
 
 pub command_takes : (command : Command) (s now : StandingView) (events : List Event) → IsStep command s (goes events now) → weight now.circuit ≤ weight s.circuit + cost command.verb
-command_takes command s now events is = cases (reads_shape command.verb) (step_reaches s.at (tried command s.circuit) (goes events now) now.circuit is refl)
-  where
-    cases : (b : Bool) → Reaches (if b then refused_at command.place cause.NotBuilt else left_of command.place command.verb (applied command s.circuit)) now.circuit → weight now.circuit ≤ weight s.circuit + cost command.verb
-    cases true h = absurd (refused_reaches command.place cause.NotBuilt now.circuit h)
-    cases false h = verb_takes command.place command.verb s.circuit now.circuit (left_reaches command.place command.verb (applied command s.circuit) now.circuit h)
+command_takes command s now events is =
+    verb_takes command.place command.verb s.circuit now.circuit
+    (left_reaches command.place command.verb (applied command s.circuit) now.circuit (step_reaches s.at (tried command s.circuit) (goes events now) now.circuit is refl))

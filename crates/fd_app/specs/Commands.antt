@@ -1,12 +1,8 @@
 -- What a command comes to.
-use Rattle.std.specs.Prelude.{◌≡◌, ℕ, ◌&&◌, Bool, true, false, nat_eq, List, codes, Result, Ok, Err, if◌then◌else◌}
-use Rattle.std.specs.List.{list_any, starts_with}
-use Rattle.std.specs.Cmp.Lexicographic.{pointwise}
-use Rattle.dss_lexer.specs.declared.pair.Pair.{Pair}
+use Rattle.std.specs.Prelude.{◌≡◌, Bool, true, false, Result, Ok, Err, if◌then◌else◌}
 use Rattle.dss_values.specs.declared.fault.ModelFault.{ModelFault}
 use Rattle.dss_values.specs.declared.words.Mode.{Mode}
 use Rattle.dss_values.specs.declared.words.Mode.TheVariants as mode
-use Rattle.dss_values.specs.Names.{bytes, lower}
 use Rattle.dss_profile.specs.declared.command.Blame.{Blame}
 use Rattle.dss_profile.specs.declared.command.Command.{Command}
 use Rattle.dss_profile.specs.declared.command.Place.{Place}
@@ -20,20 +16,6 @@ use Rattle.fd_report.specs.declared.faults.Cause.TheVariants as cause
 use Rattle.fd_outcome.specs.Work.{Step}
 use Rattle.fd_app.specs.Solving.{IsSolutionStep}
 use Rattle.fd_app.specs.Steps.{StandingView, changes, refuses}
-
--- ---- what is refused before it is applied: a load shape that is to be read from a file
-
-abbrev pub is_loadshape : List ℕ → Bool
-is_loadshape class = pointwise nat_eq (bytes (lower class)) (codes "loadshape")
-
--- `mult=file=NAME`
-abbrev pub names_file : Pair → Bool
-names_file p = pointwise nat_eq (bytes (lower p.name)) (codes "mult") && starts_with nat_eq (bytes (lower p.value)) (codes "file=")
-
-abbrev pub reads_shape : Verb → Bool
-reads_shape (verb.New class name pairs) = is_loadshape class && list_any names_file pairs
-reads_shape (verb.Edit class name pairs) = is_loadshape class && list_any names_file pairs
-reads_shape other = false
 
 -- ---- what is refused once it is applied
 
@@ -58,7 +40,7 @@ left_of place (verb.Solve pairs) (Ok circuit) = solve_by place circuit
 left_of place v (Ok circuit) = nothing_left circuit
 
 abbrev pub tried : Command → CircuitView → Applied
-tried command circuit = if reads_shape command.verb then refused_at command.place cause.NotBuilt else left_of command.place command.verb (applied command circuit)
+tried command circuit = left_of command.place command.verb (applied command circuit)
 
 -- ---- Solve
 
