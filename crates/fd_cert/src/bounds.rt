@@ -60,7 +60,12 @@ fn sizes_by_weight(numbers: &[i128], weights: &[i128], shorts: &[u64]) -> Option
 {
     let mut total = 0;
     for col in 0..numbers.len() {
-        match plus_weighted(total, weights[col], shorts[col], numbers[col].unsigned_abs()) {
+        match plus_weighted(
+            total,
+            weights[col],
+            shorts[col],
+            numbers[col].unsigned_abs(),
+        ) {
             Some(next) => total = next,
             None => return None,
         }

@@ -1,6 +1,6 @@
 -- A writer of records of any length writes each as one of records of one length does.
-use Rattle.std.proofs.Common.{◌≡◌, ◌∙◌, ◌++◌, ◌∷◌, ◌==◌, ◌+◌, ℕ, List, [], true, false, Bool, ap, refl, length, if◌then◌else◌}
-use Rattle.csv.specs.Writing.{default_writer, end_text, escaped, field_text, fields_text, is_blank, needs_quotes, quoted, row_body, row_text, with_flexible}
+use Rattle.std.proofs.Common.{◌≡◌, ◌∙◌, ◌++◌, ◌∷◌, ◌==◌, ℕ, List, [], true, ap, refl, length, if◌then◌else◌}
+use Rattle.csv.specs.Writing.{default_writer, end_text, escaped, field_text, fields_text, is_blank, needs_quotes, row_body, row_text, with_flexible}
 use Rattle.csv.specs.declared.writer.WriterBuilder.{WriterBuilder}
 
 abbrev pub any_length : WriterBuilder

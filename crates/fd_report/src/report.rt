@@ -233,7 +233,23 @@ pub fn records(
     let mut records = Vec::new(alloc);
     records.push(solution_record(alloc, &mut writer, number, hour, round)?)?;
     push_nodes(alloc, &mut writer, &mut records, s, n, nodes)?;
-    push_branches(alloc, &mut writer, &mut records, s, n, nodes.len(), branches)?;
-    push_magnitudes(alloc, &mut writer, &mut records, s, n, 2 * complex, magnitudes)?;
+    push_branches(
+        alloc,
+        &mut writer,
+        &mut records,
+        s,
+        n,
+        nodes.len(),
+        branches,
+    )?;
+    push_magnitudes(
+        alloc,
+        &mut writer,
+        &mut records,
+        s,
+        n,
+        2 * complex,
+        magnitudes,
+    )?;
     Ok(records)
 }

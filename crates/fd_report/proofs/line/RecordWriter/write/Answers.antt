@@ -1,4 +1,4 @@
-use Rattle.std.proofs.Common.{◌≢◌, ◌∙◌, ◌++◌, sym, ap, append-nil, map}
+use Rattle.std.proofs.Common.{◌≢◌, ◌∙◌, ◌++◌, ap, append-nil, map}
 use Rattle.csv.specs.declared.writer.QuoteStyle.TheVariants as style
 use Rattle.fd_report.specs.Lines.{line_of, text_of}
 use Rattle.fd_report.proofs.Rows.{same_row}
