@@ -79,7 +79,6 @@ fn sizes_by_weight(numbers: &[i128], weights: &[i128], shorts: &[u64]) -> Option
 #[inline(never)]
 fn plus_sizes(total: u128, factors: &[i128], numbers: &[u128]) -> Option<u128>
     requires total { total ≤ 2 ^ 120 }
-    requires few { length numbers.now ≤ 2 ^ 11 }
     requires factors { IsRowOfInverse (length numbers.now) factors.now }
     ensures { IsTotal (total + sizes_total (length numbers.now) factors.now numbers.now) result }
 {
@@ -90,7 +89,7 @@ fn plus_sizes(total: u128, factors: &[i128], numbers: &[u128]) -> Option<u128>
             None => return None,
         }
     }
-    up_to_limit(sum)
+    Some(sum)
 }
 
 // The entries of a row, each size times the weight of its column, added up; a number above 2^120 where that passes it.
@@ -162,7 +161,6 @@ fn row_total(slopes: &Slopes, factors: &[i128], left: &[i128]) -> Option<u128>
     requires few { length left.now ≤ 2 ^ 11 }
     requires weights { length slopes.now.weights.now ≡ length left.now }
     requires shorts { AreShortWeights slopes.now.weights.now slopes.now.shorts.items }
-    requires radii { length slopes.now.radii.items ≤ 2 ^ 11 }
     requires factors { IsRowOfInverse (length slopes.now.radii.items) factors.now }
     ensures { IsTotal (weighted_total (length left.now) slopes.now.weights.now left.now + sizes_total (length slopes.now.radii.items) factors.now slopes.now.radii.items) result }
 {

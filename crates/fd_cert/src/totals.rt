@@ -8,11 +8,8 @@ const LIMIT: u128 = 0x100_0000_0000_0000_0000_0000_0000_0000;
 // What stands for each total above that.
 pub const PAST: u128 = LIMIT + 1;
 
-// The greatest short weight, 2^40, and the greatest short number, 2^59: 2^11 of the products of a short weight and 64
-// bits, or of an entry and a short number, are at most 2^126.
+// The greatest short weight, 2^40: 2^11 of its products with numbers of 64 bits are at most 2^115.
 const SHORT_WEIGHT: u128 = 0x100_0000_0000;
-
-const SHORT_NUMBER: u128 = 0x800_0000_0000_0000;
 
 // The greatest number of 64 bits.
 const HALF: u128 = 0xffff_ffff_ffff_ffff;
@@ -50,18 +47,16 @@ fn short_product(left: u64, right: u64) -> u128
     left as u128 * right as u128
 }
 
-// The total with the size of an entry of an inverse more, times a number; none only where that passes 2^120. Where the
-// number is short it is not tested.
+// The same as `plus_product` for the size of an entry of an inverse, in one multiplication where the number has 64
+// bits.
 pub fn plus_entry(total: u128, entry: i128, number: u128) -> Option<u128>
-    requires total { total ≤ 2 ^ 127 }
+    requires total { total ≤ 2 ^ 120 }
     requires entry { nat_abs entry ≤ 2 ^ 56 }
-    ensures some { IfSome result (λ t. t ≡ total + nat_abs entry * number) }
-    ensures none { IfNone result (2 ^ 120 < total + nat_abs entry * number) }
-    ensures small { (k : ℕ) → total ≤ 2 ^ 120 + k * 2 ^ 115 → IfSome result (λ t. t ≤ 2 ^ 120 + (k + 1) * 2 ^ 115) }
+    ensures { IsTotal (total + nat_abs entry * number) result }
 {
     let size = entry_size(entry);
-    if number <= SHORT_NUMBER {
-        Some(total + short_product(size, number as u64))
+    if number <= HALF {
+        up_to_limit(total + short_product(size, number as u64))
     } else {
         plus_product(total, size as u128, number)
     }

@@ -1,9 +1,9 @@
-use Rattle.std.proofs.Common.{◌∙◌, ◌*◌, ◌+◌, ◌<◌, ◌^◌, nat_abs, length, ap, subst, FitsSigned, rules}
+use Rattle.std.proofs.Common.{◌*◌, ◌+◌, ◌<◌, ◌^◌, nat_abs, length, subst, FitsSigned, rules}
 use Rattle.std.specs.Int.{w128}
 use Rattle.std.proofs.lemmas.Int.{to_z-of_z}
 use Rattle.fd_exact.specs.States.{part}
 use Rattle.fd_enclosure.specs.Sound.{number_at}
-use Rattle.fd_cert.proofs.RowTotals.{front_more, past_front}
+use Rattle.fd_cert.proofs.RowTotals.{past_front}
 use Rattle.fd_cert.proofs.bounds.plus_sizes.Goals as goal
 
 pub returns-in-None : goal.returns-in-None
@@ -11,16 +11,4 @@ returns-in-None c =
     let k = c.loop-row.row in
     let f : FitsSigned w128 (part c.args.factors.now k) = search rules in
     past_front (λ l. nat_abs (part c.args.factors.now l) * number_at c.args.numbers.now l) k (length c.args.numbers.now) c.args.total c.loop-row.sum c.loop-row-test.true c.loop-row.invariant.sum
-    (subst (λ z. 2 ^ 120 < c.loop-row.sum + nat_abs z * number_at c.args.numbers.now k) (to_z-of_z w128 (part c.args.factors.now k) f) c.in-None.ensures.none)
-
-pub loop-row-preserved : goal.loop-row-preserved
-loop-row-preserved c =
-    let k = c.loop-row.row in
-    let fs = c.args.factors.now in
-    let ns = c.args.numbers.now in
-    let f : FitsSigned w128 (part fs k) = search rules in
-    let size = ap nat_abs (to_z-of_z w128 (part fs k) f) in
-    record {
-      sum = c.in-Some.ensures.some ∙ (λ i. c.loop-row.sum + size i * number_at ns k) ∙ front_more (λ l. nat_abs (part fs l) * number_at ns l) k c.args.total c.loop-row.sum c.loop-row.invariant.sum;
-      small = c.in-Some.ensures.small k c.loop-row.invariant.small;
-    }
+    (subst (λ z. 2 ^ 120 < c.loop-row.sum + nat_abs z * number_at c.args.numbers.now k) (to_z-of_z w128 (part c.args.factors.now k) f) c.in-None.ensures)
