@@ -1,0 +1,14 @@
+//! The text of certificates: what is written for a round, and how it is read again.
+//!
+//! The definitions are those of numbers, lines, blocks and whole certificates, written and read. Their laws are the
+//! contracts of functions without code in `grammar`: what is written is read as exactly that and as nothing else, and a
+//! line that the grammar refuses is the first with which no block begins.
+//!
+//! - `grammar`: laws of the grammar
+#![tactic(auto)]
+
+mod grammar;
+
+pub use grammar::{
+    block_cases, block_law, certificate_law, line_law, number_law, row_law, sparse_rows, text_law,
+};
