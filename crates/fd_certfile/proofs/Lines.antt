@@ -10,7 +10,7 @@ use Rattle.std.proofs.lemmas.List.Concat.{flat_map-cons}
 use Rattle.std.proofs.lemmas.List.Splits.{slice_split_at, slice_split_none, length-slice_split, join_with_byte-slice_split}
 use Rattle.fd_certfile.specs.Numbers.{text_eq, IsNumber, numbers_of}
 use Rattle.fd_certfile.specs.Lines.{Line, header, solution, state, row, act, end, other, is_blank, is_feed, word_of, numbers_in, text_of, bytes_of, header_of, solution_of, state_of, act_of, end_of, line_by, line_with, line_in, line_of, rest_of, lines_in, lines_of, IsKnown, IsLine}
-use Rattle.fd_certfile.proofs.Texts.{same_from}
+use Rattle.fd_certfile.proofs.SameTexts.{same_from}
 use Rattle.fd_certfile.proofs.Numbers.{numbers_again, numbers_found}
 use Rattle.fd_certfile.proofs.Inked.{split_text, above_text, lacks_all}
 

@@ -9,7 +9,7 @@ use Rattle.std.proofs.lemmas.Fmt.{decimal_is_IsNumeral_wide}
 use Rattle.std.proofs.lemmas.Str.Parse.{digit_from_value}
 use Rattle.fd_certfile.specs.Numbers.{text_eq, value_of, number_of, numbers_of, IsNumber}
 use Rattle.fd_certfile.specs.Laws.{NumberLaw}
-use Rattle.fd_certfile.proofs.Texts.{same_from, same_self, let_through, and_then_some, map_some}
+use Rattle.fd_certfile.proofs.SameTexts.{same_from, same_self, let_through, and_then_some, map_some}
 
 -- digits have no minus before them
 pub value_of_digits : (ds : List ℕ) → IsNumeral 10 ds → value_of ds ≡ pos (digits_value 10 ds)

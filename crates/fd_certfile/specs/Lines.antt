@@ -39,12 +39,19 @@ numbers_in (act time control steps) = time ∷ control ∷ steps ∷ []
 numbers_in end = []
 numbers_in other = []
 
+-- a word, and numbers behind one blank each
+abbrev pub text_by : List ℕ → List ℤ → List ℕ
+text_by word numbers = join_with_byte 32 (word ∷ map signed_decimal numbers)
+
 -- the text of a line without its line feed
 abbrev pub text_of : Line → List ℕ
-text_of line = join_with_byte 32 (word_of line ∷ map signed_decimal (numbers_in line))
+text_of line = text_by (word_of line) (numbers_in line)
+
+abbrev pub line_bytes : Line → List ℕ
+line_bytes line = text_of line ++ 10 ∷ []
 
 abbrev pub bytes_of : List Line → List ℕ
-bytes_of lines = flat_map (λ line. text_of line ++ 10 ∷ []) lines
+bytes_of lines = flat_map line_bytes lines
 
 -- ---- what a text is read as
 

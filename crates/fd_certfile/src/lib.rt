@@ -5,9 +5,15 @@
 //! line that the grammar refuses is the first with which no block begins.
 //!
 //! - `grammar`: laws of the grammar
+//! - `texts`: the texts of lines
 #![tactic(auto)]
 
+mod cut;
+mod field;
 mod grammar;
+mod line;
+mod number;
+mod texts;
 
 pub use grammar::{
     block_cases, block_law, certificate_law, line_law, number_law, row_law, sparse_rows, text_law,
