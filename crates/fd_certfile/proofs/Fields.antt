@@ -1,5 +1,5 @@
 -- Numbers behind one blank each.
-use Rattle.std.proofs.Common.{◌≡◌, ℕ, ◌<◌, ℤ, List, [], ◌∷◌, ◌++◌, length, Option, Some, None, refl, ap, sym, ◌∙◌, arith}
+use Rattle.std.proofs.Common.{◌≡◌, ℕ, ◌<◌, ℤ, List, [], ◌∷◌, ◌++◌, length, ◌⊎◌, inl, inr, Option, Some, None, refl, ap, sym, ◌∙◌, arith}
 use Rattle.std.specs.Prelude.{option_map}
 use Rattle.std.specs.Option.{option_and_then}
 use Rattle.std.specs.List.{slice_split}
@@ -34,6 +34,14 @@ parted_none text h = slice_split_none is_blank text h
 
 -- ---- so many numbers
 
+pub first_none : (fs : List (List ℕ)) → None ≡ first_number fs → (numbers_of fs ≡ None) ⊎ (numbers_of fs ≡ Some [])
+first_none [] e = inr refl
+first_none (t ∷ ts) e = inl (at (number_of t) e)
+  where
+    at : (o : Option ℤ) → ◌≡◌ {A = Option (ℤ × List (List ℕ))} None (option_map (λ z. (z, ts)) o) → option_and_then (λ z. option_map (λ zs. z ∷ zs) (numbers_of ts)) o ≡ None
+    at None e = refl
+    at (Some z) e = absurd cc
+
 pub first_some : (fs : List (List ℕ)) (z : ℤ) (ts : List (List ℕ)) → Some (z, ts) ≡ first_number fs → numbers_of fs ≡ option_map (λ zs. z ∷ zs) (numbers_of ts)
 first_some [] z ts e = absurd cc
 first_some (t ∷ us) z ts e = at (number_of t) e
@@ -45,7 +53,7 @@ first_some (t ∷ us) z ts e = at (number_of t) e
         ap (λ (p : ℤ × List (List ℕ)). option_map (λ zs. p.0 ∷ zs) (numbers_of p.1)) (sym same)
 
 -- a text has some field, so its fields spell no empty list
-some_field : {X : Type 0} (f : Option (List ℤ) → X) (x : X) → f None ≡ x → ((z : ℤ) (zs : List ℤ) → f (Some (z ∷ zs)) ≡ x) → (text : List ℕ) → f (numbers_of (slice_split is_blank text)) ≡ x
+pub some_field : {X : Type 0} (f : Option (List ℤ) → X) (x : X) → f None ≡ x → ((z : ℤ) (zs : List ℤ) → f (Some (z ∷ zs)) ≡ x) → (text : List ℕ) → f (numbers_of (slice_split is_blank text)) ≡ x
 some_field f x none some text = longer (slice_split is_blank text) (omega (arith, length-slice_split is_blank text))
   where
     at : (o : Option ℤ) (p : Option (List ℤ)) → f (option_and_then (λ y. option_map (λ zs. y ∷ zs) p) o) ≡ x

@@ -3,6 +3,9 @@ use Rattle.std.specs.Prelude.{ℕ, ℤ, List, Option, Some, None, codes, option_
 use Rattle.fd_certfile.specs.Numbers.{numbers_of, text_eq}
 use Rattle.fd_certfile.specs.Cuts.{fields_of_text}
 use Rattle.fd_certfile.specs.Lines as text
+use Rattle.fd_certfile.specs.Blocks as blocks
+use Rattle.fd_certfile.specs.declared.block.ClaimedAct.{ClaimedAct}
+use Rattle.fd_certfile.specs.declared.block.Part.{Part}
 use Rattle.fd_certfile.specs.declared.line.Line.{Line}
 use Rattle.fd_certfile.specs.declared.line.Line.TheVariants as the
 
@@ -30,3 +33,9 @@ line_by_fields word numbers =
     else if text_eq word (codes "act") then or_other text.act_of numbers
     else if text_eq word (codes "end") then or_other text.end_of numbers
     else text.other
+
+abbrev pub part : Part → blocks.Part
+part p = record { centre = p.centre; radius = p.radius; mismatch = p.mismatch }
+
+abbrev pub act : ClaimedAct → blocks.Act
+act a = record { time = a.time; control = a.control; steps = a.steps }

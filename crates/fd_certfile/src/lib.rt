@@ -8,13 +8,18 @@
 //! - `texts`: the texts of lines
 #![tactic(auto)]
 
+mod block;
 mod cut;
+mod fault;
 mod field;
 mod grammar;
 mod line;
 mod number;
+mod row;
 mod texts;
 
+pub use block::Part;
+pub use fault::{CertFileFault, Rule};
 pub use grammar::{
     block_cases, block_law, certificate_law, line_law, number_law, row_law, sparse_rows, text_law,
 };
