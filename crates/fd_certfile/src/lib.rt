@@ -17,9 +17,11 @@ mod line;
 mod number;
 mod row;
 mod texts;
+mod write;
 
 pub use block::Part;
 pub use fault::{CertFileFault, Rule};
 pub use grammar::{
     block_cases, block_law, certificate_law, line_law, number_law, row_law, sparse_rows, text_law,
 };
+pub use write::write_block;
