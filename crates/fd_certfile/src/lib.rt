@@ -16,6 +16,7 @@ mod grammar;
 mod line;
 mod number;
 mod row;
+mod rule;
 mod texts;
 mod write;
 
@@ -24,4 +25,5 @@ pub use fault::{CertFileFault, Rule};
 pub use grammar::{
     block_cases, block_law, certificate_law, line_law, number_law, row_law, sparse_rows, text_law,
 };
+pub use rule::{answers_law, rule_cases, rule_law, verdict_cases};
 pub use write::write_block;
