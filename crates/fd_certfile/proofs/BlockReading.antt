@@ -1,16 +1,20 @@
 -- A block, part after part.
-use Rattle.std.proofs.Common.{◌≡◌, ℕ, ◌+◌, ◌≤◌, ℤ, List, [], ◌∷◌, length, Some, None, Result, Ok, Err, refl, ap, sym, ◌∙◌, arith}
+use Rattle.std.proofs.Common.{◌≡◌, ℕ, zero, suc, ◌+◌, ◌≤◌, ℤ, List, [], ◌∷◌, length, Option, Some, None, Result, Ok, Err, refl, ap, sym, ◌∙◌, arith}
+use Rattle.std.specs.Prelude.{map}
 use Rattle.std.specs.List.{slice_split}
 use Rattle.std.proofs.lemmas.List.{length-append}
 use Rattle.std.proofs.lemmas.List.Splits.{length-slice_split}
 use Rattle.std.proofs.lemmas.List.Sums.{count_by-le-length}
 use Rattle.fd_certfile.specs.Lines.{Line, header, solution, state, row, act, end, other, is_feed, rest_of, lines_in, lines_of}
-use Rattle.fd_certfile.specs.Blocks.{Version, Part, Act, Block, count_of, part_line, numbered_lines, part_at, row_at, ◌>>=◌, numbered_at, acts_at, block_at}
-use Rattle.fd_certfile.proofs.Blocks.{Anything, numbered_found, part_found, length-numbered}
+use Rattle.fd_certfile.specs.Blocks.{Version, Whole, Part, Act, Block, count_of, part_line, numbered_lines, part_at, row_at, ◌>>=◌, is_place, or_refused, numbered_at, acts_at, block_at}
+use Rattle.fd_certfile.proofs.Blocks.{Anything, bind_ok, numbered_found, part_found, length-numbered}
 use Rattle.fd_certfile.proofs.Refused.{no_solution}
 use Rattle.fd_certfile.specs.declared.fault.Stop.{Stop}
 use Rattle.fd_certfile.specs.declared.fault.Stop.TheVariants as stop
-use Rattle.fd_certfile.specs.Readings.{RefusedBehind, Fails, moved, lines_before, due_in}
+use Rattle.fd_certfile.specs.Readings.{RefusedBehind, Fails, cells_of, due_in, kept, lines_before, moved}
+use Rattle.fd_certfile.specs.Ahead.{IsAhead}
+use Rattle.fd_certfile.specs.Views.{part}
+use Rattle.fd_certfile.specs.declared.ahead.Ahead.{Ahead}
 
 -- ---- how many lines there are
 
@@ -104,3 +108,60 @@ due_line (row fields) n h r s e = absurd cc
 due_line (act t c q) n h r s e = absurd cc
 due_line end n h r s e = absurd cc
 due_line other n h r s e = absurd cc
+
+-- ---- a block that is kept where its size is due
+
+pub numbered_long : {X : Type 0} (read : ℕ → Line → Option X) (n i : ℕ) (lines : List Line) (xs : List X) (rest : List Line) → numbered_at read n i lines ≡ Ok (xs, rest) → length xs ≡ n
+numbered_long {X} read zero i lines xs rest e = let same : ([], lines) ≡ (xs, rest) = cc in ap (λ (p : List X × List Line). length p.0) (sym same)
+numbered_long read (suc n) i [] xs rest e = absurd cc
+numbered_long {X} read (suc n) i (l ∷ lines) xs rest e =
+    let a = bind_ok (or_refused (l ∷ lines) (read i l)) (λ x. numbered_at read n (suc i) lines >>= λ ys. Ok (x ∷ ys.0, ys.1)) (xs, rest) e in
+    let b = bind_ok (numbered_at read n (suc i) lines) (λ ys. Ok (a.0 ∷ ys.0, ys.1)) (xs, rest) a.2 in
+    let c = b.2 in
+    let same : (a.0 ∷ b.0.0, b.0.1) ≡ (xs, rest) = cc in
+    ap (λ (p : List X × List Line). length p.0) (sym same) ∙ ap suc (numbered_long read n (suc i) lines b.0.0 b.0.1 b.1)
+
+pub numbered_left : {X : Type 0} (read : ℕ → Line → Option X) (n i : ℕ) (lines : List Line) (xs : List X) (rest : List Line) → numbered_at read n i lines ≡ Ok (xs, rest) → length lines ≡ n + length rest
+numbered_left {X} read zero i lines xs rest e =
+    let same : ([], lines) ≡ (xs, rest) = cc in
+    let long : length lines ≡ length rest = ap (λ (p : List X × List Line). length p.1) same in
+    omega (arith, long)
+numbered_left read (suc n) i [] xs rest e = absurd cc
+numbered_left {X} read (suc n) i (l ∷ lines) xs rest e =
+    let a = bind_ok (or_refused (l ∷ lines) (read i l)) (λ x. numbered_at read n (suc i) lines >>= λ ys. Ok (x ∷ ys.0, ys.1)) (xs, rest) e in
+    let b = bind_ok (numbered_at read n (suc i) lines) (λ ys. Ok (a.0 ∷ ys.0, ys.1)) (xs, rest) a.2 in
+    let c = b.2 in
+    let same : (a.0 ∷ b.0.0, b.0.1) ≡ (xs, rest) = cc in
+    let long : length b.0.1 ≡ length rest = ap (λ (p : List X × List Line). length p.1) same in
+    omega (arith, numbered_left read n (suc i) lines b.0.0 b.0.1 b.1, long)
+
+module _ (due : ℕ) (x : Ahead) (lines : List Line) where
+  pub ahead_is : (parts : List Part) (mid : List Line) (rows : List (List ℤ))
+      → numbered_at part_at (count_of x.head.size) 0 lines ≡ Ok (parts, mid)
+      → numbered_at (row_at Whole (count_of x.head.size)) (count_of x.head.size) 0 mid ≡ Ok (rows, lines_of x.acts.now)
+      → (acts_at (lines_of x.acts.now)).1 ≡ lines_of x.rest.now
+      → map part x.parts.items ≡ kept (is_place due x.head.size) parts
+      → x.cells.items ≡ kept (is_place due x.head.size) (cells_of rows)
+      → x.lines ≡ 1 + (count_of x.head.size + (count_of x.head.size + length (acts_at (lines_of x.acts.now)).0))
+      → IsAhead due (solution x.head.number x.head.hour x.head.round x.head.size ∷ lines) x
+  ahead_is parts mid rows p r a ps cs n = record {
+    block = record {
+      number = x.head.number;
+      hour = x.head.hour;
+      round = x.head.round;
+      size = x.head.size;
+      parts = parts;
+      inverse = rows;
+      acts = (acts_at (lines_of x.acts.now)).0;
+    };
+    same = all_read Whole x.head.number x.head.hour x.head.round x.head.size lines parts mid p rows (lines_of x.acts.now) r (acts_at (lines_of x.acts.now)).0 (lines_of x.rest.now)
+        (ap (λ (ls : List Line). ((acts_at (lines_of x.acts.now)).0, ls)) a);
+    number = refl;
+    hour = refl;
+    round = refl;
+    size = refl;
+    parts = ps;
+    cells = cs;
+    acts = refl;
+    count = omega (arith, n, numbered_long part_at (count_of x.head.size) 0 lines parts mid p, numbered_long (row_at Whole (count_of x.head.size)) (count_of x.head.size) 0 mid rows (lines_of x.acts.now) r);
+  }

@@ -4,6 +4,7 @@ use Rattle.fd_certfile.specs.Numbers.{numbers_of, text_eq}
 use Rattle.fd_certfile.specs.Cuts.{fields_of_text}
 use Rattle.fd_certfile.specs.Lines as text
 use Rattle.fd_certfile.specs.Blocks as blocks
+use Rattle.fd_certfile.specs.declared.ahead.Head.{Head}
 use Rattle.fd_certfile.specs.declared.block.ClaimedAct.{ClaimedAct}
 use Rattle.fd_certfile.specs.declared.block.Part.{Part}
 use Rattle.fd_certfile.specs.declared.line.Line.{Line}
@@ -39,3 +40,7 @@ part p = record { centre = p.centre; radius = p.radius; mismatch = p.mismatch }
 
 abbrev pub act : ClaimedAct → blocks.Act
 act a = record { time = a.time; control = a.control; steps = a.steps }
+
+-- the numbers of a solution line
+abbrev pub head : Head → ℤ × ℤ × ℤ × ℤ
+head h = (h.number, h.hour, h.round, h.size)

@@ -8,6 +8,7 @@
 //! - `texts`: the texts of lines
 #![tactic(auto)]
 
+mod ahead;
 mod block;
 mod cut;
 mod fault;
