@@ -149,6 +149,15 @@ cut (c ∷ bytes) =
       | inr isnt ↦ elim rest [ inl none ↦ inl (isnt, none) | inr k ↦ inr (cut_more c bytes isnt k) ]
     ]
 
+-- some bytes have some line
+pub lines_some : (bytes : List ℕ) → 0 < length bytes → 0 < length (lines_of bytes)
+lines_some [] l = absurd (omega (arith, l))
+lines_some (c ∷ bytes) l =
+    elim (cut (c ∷ bytes)) [
+      | inl none ↦ omega (arith, ap length (of_last (c ∷ bytes) (All-from_recursion (λ d. is_feed d ≡ false) (c ∷ bytes) none)))
+      | inr k ↦ omega (arith, ap length (ap lines_of k.whole ∙ of_cons k.text k.more (All-from_recursion (λ d. is_feed d ≡ false) k.text k.lacks)))
+    ]
+
 rest_known : (bytes : List ℕ) (line : Line) (lines : List Line) → rest_of bytes ≡ line ∷ lines → IsKnown line → ⊥
 rest_known [] line lines e h = absurd cc
 rest_known (c ∷ bytes) line lines e h = let o : other ≡ line = cc in subst IsKnown (sym o) h

@@ -11,11 +11,13 @@
 mod ahead;
 mod block;
 mod cut;
+mod ending;
 mod fault;
 mod field;
 mod grammar;
 mod line;
 mod number;
+mod reader;
 mod row;
 mod rule;
 mod texts;
@@ -26,5 +28,6 @@ pub use fault::{CertFileFault, Rule};
 pub use grammar::{
     block_cases, block_law, certificate_law, line_law, number_law, row_law, sparse_rows, text_law,
 };
+pub use reader::{CertReader, Claimed};
 pub use rule::{answers_law, rule_cases, rule_law, verdict_cases};
 pub use write::write_block;
