@@ -5,7 +5,7 @@ use Rattle.fd_certfile.specs.Lines.{Line, header, solution, state, row, act, end
 use Rattle.fd_certfile.specs.Blocks.{Act, acts_at}
 use Rattle.fd_certfile.specs.Readings.{act_in, acts_behind}
 
-first_act : (line : Line) (more : List Line) (a : Act) → Some a ≡ act_in line → acts_at (line ∷ more) ≡ acts_behind (a ∷ []) (acts_at more)
+pub first_act : (line : Line) (more : List Line) (a : Act) → Some a ≡ act_in line → acts_at (line ∷ more) ≡ acts_behind (a ∷ []) (acts_at more)
 first_act (act t c s) more a e =
     let same : a ≡ record { time = t; control = c; steps = s } = (let f = e in cc) in
     ap (λ (b : Act). acts_behind (b ∷ []) (acts_at more)) (sym same)
@@ -16,7 +16,7 @@ first_act (row fields) more a e = absurd cc
 first_act end more a e = absurd cc
 first_act other more a e = absurd cc
 
-no_first : (line : Line) (more : List Line) → None ≡ act_in line → acts_at (line ∷ more) ≡ ([], line ∷ more)
+pub no_first : (line : Line) (more : List Line) → None ≡ act_in line → acts_at (line ∷ more) ≡ ([], line ∷ more)
 no_first (act t c s) more e = absurd cc
 no_first (header w) more e = refl
 no_first (solution m h r s) more e = refl

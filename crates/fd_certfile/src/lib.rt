@@ -10,6 +10,7 @@
 
 mod ahead;
 mod block;
+mod claimed_acts;
 mod cut;
 mod ending;
 mod fault;

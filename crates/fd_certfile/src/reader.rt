@@ -12,6 +12,7 @@ ghost use Rattle.fd_certfile.specs.Views.{view};
 
 use crate::ahead::{Ahead, Head, read_block};
 use crate::block::Part;
+use crate::claimed_acts::acts_are;
 use crate::cut::cut;
 use crate::ending::{is_end, is_ended, is_solution};
 use crate::fault::{CertFileFault, Rule, Stop};
@@ -177,6 +178,15 @@ impl<'a> CertReader<'a> {
             parts: ahead.parts,
             inverse: Dense::from_cells(size, ahead.cells),
         })
+    }
+
+    /// Whether the acts of a block that was given, counted from 0, have the times, controls and steps of these, in order.
+    /// Takes no memory.
+    pub fn acts_hold(&self, block: u64, acts: &[Act]) -> bool
+        requires { block < length self.now.given }
+        ensures { result ≡ pointwise same_act (map act_of acts.now) (given_at self.now block).acts }
+    {
+        acts_are(self.given[block as usize].acts, acts)
     }
 
     /// The line behind the inverse of a block that was given, counted from 0. The rules on its acts name it.
