@@ -112,18 +112,18 @@ due_line other n h r s e = absurd cc
 -- ---- a block that is kept where its size is due
 
 pub numbered_long : {X : Type 0} (read : ℕ → Line → Option X) (n i : ℕ) (lines : List Line) (xs : List X) (rest : List Line) → numbered_at read n i lines ≡ Ok (xs, rest) → length xs ≡ n
-numbered_long {X} read zero i lines xs rest e = let same : ([], lines) ≡ (xs, rest) = cc in ap (λ (p : List X × List Line). length p.0) (sym same)
+numbered_long {X} read zero i lines xs rest e = let same : ◌≡◌ {A = List X × List Line} ([], lines) (xs, rest) = cc in ap (λ (p : List X × List Line). length p.0) (sym same)
 numbered_long read (suc n) i [] xs rest e = absurd cc
 numbered_long {X} read (suc n) i (l ∷ lines) xs rest e =
     let a = bind_ok (or_refused (l ∷ lines) (read i l)) (λ x. numbered_at read n (suc i) lines >>= λ ys. Ok (x ∷ ys.0, ys.1)) (xs, rest) e in
     let b = bind_ok (numbered_at read n (suc i) lines) (λ ys. Ok (a.0 ∷ ys.0, ys.1)) (xs, rest) a.2 in
     let c = b.2 in
-    let same : (a.0 ∷ b.0.0, b.0.1) ≡ (xs, rest) = cc in
+    let same : ◌≡◌ {A = List X × List Line} (a.0 ∷ b.0.0, b.0.1) (xs, rest) = cc in
     ap (λ (p : List X × List Line). length p.0) (sym same) ∙ ap suc (numbered_long read n (suc i) lines b.0.0 b.0.1 b.1)
 
 pub numbered_left : {X : Type 0} (read : ℕ → Line → Option X) (n i : ℕ) (lines : List Line) (xs : List X) (rest : List Line) → numbered_at read n i lines ≡ Ok (xs, rest) → length lines ≡ n + length rest
 numbered_left {X} read zero i lines xs rest e =
-    let same : ([], lines) ≡ (xs, rest) = cc in
+    let same : ◌≡◌ {A = List X × List Line} ([], lines) (xs, rest) = cc in
     let long : length lines ≡ length rest = ap (λ (p : List X × List Line). length p.1) same in
     omega (arith, long)
 numbered_left read (suc n) i [] xs rest e = absurd cc
@@ -131,7 +131,7 @@ numbered_left {X} read (suc n) i (l ∷ lines) xs rest e =
     let a = bind_ok (or_refused (l ∷ lines) (read i l)) (λ x. numbered_at read n (suc i) lines >>= λ ys. Ok (x ∷ ys.0, ys.1)) (xs, rest) e in
     let b = bind_ok (numbered_at read n (suc i) lines) (λ ys. Ok (a.0 ∷ ys.0, ys.1)) (xs, rest) a.2 in
     let c = b.2 in
-    let same : (a.0 ∷ b.0.0, b.0.1) ≡ (xs, rest) = cc in
+    let same : ◌≡◌ {A = List X × List Line} (a.0 ∷ b.0.0, b.0.1) (xs, rest) = cc in
     let long : length b.0.1 ≡ length rest = ap (λ (p : List X × List Line). length p.1) same in
     omega (arith, numbered_left read n (suc i) lines b.0.0 b.0.1 b.1, long)
 

@@ -1,18 +1,8 @@
 -- Bytes that are cut at one of them.
-use Rattle.std.proofs.Common.{◌≡◌, ℕ, ◌+◌, ◌<◌, ◌≤◌, false, ℤ, pos, negsuc, List, [], ◌∷◌, ◌++◌, length, inl, inr, take, drop, get_or, Option, Some, None, refl, ap, sym, subst, ◌∙◌, arith}
-use Rattle.std.specs.Prelude.{nat_eq, option_map}
-use Rattle.std.specs.Option.{option_and_then}
-use Rattle.std.specs.List.{slice_split}
-use Rattle.std.proofs.lemmas.List.{append_assoc, drop_more, take-append-drop, take_all, length-append, length-take, get_or-take, get_or_default}
+use Rattle.std.proofs.Common.{◌≡◌, ℕ, ◌+◌, ◌<◌, ◌≤◌, false, List, ◌∷◌, ◌++◌, length, inl, inr, take, drop, get_or, ap, sym, subst, ◌∙◌, arith}
+use Rattle.std.specs.Prelude.{nat_eq}
+use Rattle.std.proofs.lemmas.List.{drop_more, take-append-drop, take_all, length-take, get_or-take, get_or_default}
 use Rattle.std.proofs.lemmas.Bool.{cases_eq}
-use Rattle.std.proofs.lemmas.List.Splits.{slice_split_at, slice_split_none}
-use Rattle.fd_certfile.specs.Numbers.{number_of, numbers_of}
-use Rattle.fd_certfile.specs.Lines.{is_blank}
-use Rattle.fd_certfile.specs.Numbers.{IsNumber}
-use Rattle.fd_certfile.proofs.Numbers.{number_found}
-use Rattle.std.proofs.lemmas.Int.{to_z-of_z}
-use mir.Val.{SFits, of_z, to_z}
-use mir.Syntax.{w128}
 use Rattle.fd_certfile.specs.Cuts.{Lacks}
 
 pub lacks_more : (bytes : List ℕ) (i c : ℕ) → i < length bytes → Lacks c (take i bytes) → nat_eq (get_or bytes i 0) c ≡ false → Lacks c (take (i + 1) bytes)

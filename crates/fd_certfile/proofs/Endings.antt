@@ -1,9 +1,8 @@
 -- How a certificate begins and ends.
-use Rattle.std.proofs.Common.{◌≡◌, ℕ, ◌+◌, ◌<◌, ◌≤◌, Bool, true, false, List, [], ◌∷◌, ◌++◌, length, Some, None, Result, Ok, Err, inl, inr, refl, ap, sym, subst, ◌∙◌, arith}
+use Rattle.std.proofs.Common.{◌≡◌, ℕ, ◌+◌, ◌<◌, Bool, true, false, List, [], ◌∷◌, length, Some, None, Result, Ok, Err, refl, ap, sym, subst, ◌∙◌, arith}
 use Rattle.std.specs.Prelude.{if◌then◌else◌}
-use Rattle.std.proofs.lemmas.List.{length-append}
 use Rattle.fd_certfile.specs.Lines.{Line, header, solution, state, row, act, end, other, rest_of, lines_of}
-use Rattle.fd_certfile.specs.Blocks.{Version, Whole}
+use Rattle.fd_certfile.specs.Blocks.{Whole}
 use Rattle.fd_certfile.specs.Certificates.{version_in, behind_first}
 use Rattle.fd_certfile.specs.Reader.{GivenBlock, IsOpened, ReaderView, finished, is_end, is_solution, starts_with_end}
 use Rattle.fd_certfile.specs.declared.fault.CertFileFault.{CertFileFault}

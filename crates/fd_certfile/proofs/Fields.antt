@@ -10,7 +10,7 @@ use Rattle.fd_certfile.specs.Numbers.{number_of, numbers_of}
 use Rattle.fd_certfile.specs.Lines.{end_of, is_blank, other, text_by}
 use Rattle.fd_certfile.specs.Views.{or_other}
 use Rattle.fd_certfile.specs.Texts.{field_text, fields_text}
-use Rattle.fd_certfile.specs.Cuts.{Lacks, fields_of_text, first_number, one_of}
+use Rattle.fd_certfile.specs.Cuts.{Lacks, first_number, one_of}
 
 fields_append : (xs ys : List ℤ) → fields_text (xs ++ ys) ≡ fields_text xs ++ fields_text ys
 fields_append [] ys = refl

@@ -1,15 +1,14 @@
 -- The entries of a row, field by field.
-use Rattle.std.proofs.Common.{◌≡◌, ◌≢◌, ℕ, ◌+◌, ◌<◌, ◌≤◌, Bool, true, false, ℤ, List, [], ◌∷◌, ◌++◌, length, ◌⊎◌, inl, inr, Option, Some, None, refl, ap, sym, subst, ◌∙◌, arith}
-use Rattle.std.specs.Prelude.{nat_eq, option_map, if◌then◌else◌}
+use Rattle.std.proofs.Common.{◌≡◌, ◌≢◌, ℕ, ◌+◌, ◌<◌, Bool, true, false, ℤ, List, [], ◌∷◌, ◌++◌, length, inl, inr, Option, Some, None, refl, ap, sym, ◌∙◌, arith}
+use Rattle.std.specs.Prelude.{nat_eq, option_map}
 use Rattle.std.specs.Option.{option_and_then}
 use Rattle.std.specs.List.{slice_split}
 use Rattle.std.proofs.lemmas.Bool.{cond-true, cond-false, eq-eqb, ne_eqb}
 use Rattle.std.proofs.lemmas.List.{append_assoc, append-nil, length-append}
 use Rattle.fd_certfile.specs.Numbers.{numbers_of}
-use Rattle.fd_certfile.specs.Lines.{Line, row, is_blank}
-use Rattle.fd_certfile.specs.Blocks.{Whole, is_place, row_at, row_of}
+use Rattle.fd_certfile.specs.Lines.{is_blank}
+use Rattle.fd_certfile.specs.Blocks.{Whole, row_of}
 use Rattle.fd_certfile.specs.Cuts.{first_number}
-use Rattle.fd_certfile.specs.Views.{or_other}
 use Rattle.fd_certfile.specs.Readings.{RowIs, kept}
 use Rattle.fd_certfile.proofs.Fields.{first_none, first_some, some_field}
 

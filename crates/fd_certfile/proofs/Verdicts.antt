@@ -1,12 +1,12 @@
 -- Bytes have exactly one answer.
-use Rattle.std.proofs.Common.{◌≡◌, ℕ, zero, suc, ◌+◌, List, length, Option, Some, None, refl, ap, sym, subst, ◌∙◌, arith}
+use Rattle.std.proofs.Common.{◌≡◌, ℕ, zero, suc, ◌+◌, List, length, Option, Some, None, refl, ap, sym, ◌∙◌, arith}
 use Rattle.std.specs.Prelude.{◌↔◌}
 use Rattle.fd_certfile.specs.Lines.{Line, lines_of}
-use Rattle.fd_certfile.specs.Blocks.{Version, Whole, Sparse, Block}
-use Rattle.fd_certfile.specs.Certificates.{Certificate, ends, trails, refuses, gives, IsWhole, blocks_of, version_in, behind_first, lines_count, lines_behind, certificate_lines, certificate_bytes}
+use Rattle.fd_certfile.specs.Blocks.{Version, Block}
+use Rattle.fd_certfile.specs.Certificates.{Certificate, ends, trails, refuses, gives, blocks_of, version_in, behind_first, lines_count}
 use Rattle.fd_certfile.proofs.Certificates as certificates
 use Rattle.fd_certfile.specs.Rules.{Broken, Judge, first_broken}
-use Rattle.fd_certfile.specs.Verdict.{Due, asks, complete, stops, Answer, accepted, refused, by_due, unless_broken, verdict, ComesTo, IsAnswerBy, IsAnswer, AllHold}
+use Rattle.fd_certfile.specs.Verdict.{Due, asks, complete, stops, Answer, accepted, refused, by_due, unless_broken, verdict, IsAnswerBy, IsAnswer, AllHold}
 use Rattle.fd_certfile.specs.declared.fault.Rule.{Rule}
 use Rattle.fd_certfile.specs.declared.fault.Rule.TheVariants.{Count}
 use Rattle.fd_certfile.specs.RuleLaws.{AnswersLaw}

@@ -1,15 +1,13 @@
 -- The lines of a round are those of its block, and its block can be written.
-use Rattle.std.proofs.Common.{◌≡◌, ℕ, zero, suc, ◌+◌, ◌<◌, ◌≤◌, ◌^◌, ℤ, pos, negsuc, nat_abs, List, [], ◌∷◌, ◌++◌, length, get_or, drop, take, All, inl, inr, refl, ap, sym, subst, ◌∙◌, arith, FitsSigned}
+use Rattle.std.proofs.Common.{◌≡◌, ℕ, zero, suc, ◌+◌, ◌<◌, ◌≤◌, ◌^◌, ℤ, pos, negsuc, nat_abs, List, [], ◌∷◌, ◌++◌, length, get_or, drop, take, All, inl, inr, refl, ap, sym, subst, ◌∙◌, arith}
 use Rattle.std.specs.Prelude.{map}
 use Rattle.std.specs.List.{AllByRecursion, concat, range_with_len}
-use Rattle.std.specs.Int.{w32}
 use Rattle.std.proofs.lemmas.List.{append_assoc, drop_more, get_or_default, get_or-take, length-take, map-append, map_push}
 use Rattle.std.proofs.lemmas.Bool.{cases_eq}
 use Rattle.std.proofs.lemmas.List.Elements.{recursion_from_All}
 use Rattle.fd_exact.specs.States.{entry, part}
 use Rattle.fd_equations.specs.Rounded.{list_of}
 use Rattle.fd_equations.proofs.CallerLemmas.{length-list_of, list_of-ext, list_of-more}
-use Rattle.fd_enclosure.specs.Sound.{number_at}
 use Rattle.fd_outside.specs.declared.bytes.Record.{Record}
 use Rattle.fd_outside.specs.Emitted.{pieces_of}
 use Rattle.fd_mat.specs.Rows.{row_of}
@@ -18,7 +16,7 @@ use Rattle.fd_settle.specs.declared.round.Act.{Act as Made}
 use Rattle.fd_settle.specs.declared.round.Round.{Round}
 use Rattle.fd_certfile.specs.Numbers.{IsNumber}
 use Rattle.fd_certfile.specs.Lines.{Line, bytes_of, line_bytes, solution}
-use Rattle.fd_certfile.specs.Blocks.{Whole, Part, Act, Block, part_line, row_line, act_line, numbered_lines, block_lines, IsSized, IsWritable}
+use Rattle.fd_certfile.specs.Blocks.{Whole, Part, Block, part_line, row_line, act_line, numbered_lines, block_lines, IsSized, IsWritable}
 use Rattle.fd_certfile.specs.Rounds.{AreNumbers, IsRoundOf, act_of, block_of, part_in}
 
 -- ---- lines

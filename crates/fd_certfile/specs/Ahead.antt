@@ -1,5 +1,5 @@
 -- A block that is read ahead, as contracts see it.
-use Rattle.std.specs.Prelude.{◌≡◌, ℕ, ◌+◌, List, map, Result, Ok, Err}
+use Rattle.std.specs.Prelude.{◌≡◌, ℕ, List, map, Result, Ok, Err}
 use Rattle.fd_certfile.specs.Blocks.{Whole, Block, acts_at, block_at, is_place}
 use Rattle.fd_certfile.specs.Certificates.{lines_count}
 use Rattle.fd_certfile.specs.Lines.{Line, lines_of}

@@ -1,8 +1,8 @@
 -- A reader of a certificate as contracts see it.
-use Rattle.std.specs.Prelude.{◌≡◌, ℕ, pos, ◌+◌, ◌-◌, Bool, true, false, List, [], ◌∷◌, ◌++◌, length, map, get_or, Option, Some, None, Result, Ok, Err, if◌then◌else◌}
+use Rattle.std.specs.Prelude.{◌≡◌, ℕ, pos, ◌+◌, ◌-◌, Bool, true, false, List, [], ◌∷◌, ◌++◌, length, map, get_or, Option, Some, None, Result, Ok, Err}
 use Rattle.fd_certfile.specs.Lines.{Line, lines_of}
 use Rattle.fd_certfile.specs.Lines as text
-use Rattle.fd_certfile.specs.Blocks.{Version, Whole, Act, Block, acts_at, block_at, count_of}
+use Rattle.fd_certfile.specs.Blocks.{Version, Whole, Act, Block, acts_at, block_at}
 use Rattle.fd_certfile.specs.Certificates.{lines_count}
 use Rattle.fd_certfile.specs.Readings.{cells_of}
 use Rattle.fd_certfile.specs.Rules.{behind_rows, is_numbered, line_at}

@@ -1,5 +1,5 @@
 -- What a reader answers, and what the grammar says.
-use Rattle.std.specs.Prelude.{◌≡◌, ◌+◌, ◌-◌, ◌≤◌, ℕ, ℤ, Bool, true, false, Option, Some, None, List, [], ◌∷◌, ◌++◌, flat_map, length, Result, Ok, Err}
+use Rattle.std.specs.Prelude.{◌≡◌, ◌+◌, ◌-◌, ◌≤◌, ℕ, ℤ, Bool, true, false, Option, Some, None, List, [], ◌++◌, flat_map, length, Result, Ok, Err}
 use Rattle.fd_certfile.specs.Lines.{Line}
 use Rattle.fd_certfile.specs.Lines as text
 use Rattle.fd_certfile.specs.Blocks.{Act, ◌>>=◌, numbered_at}

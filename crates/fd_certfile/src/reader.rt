@@ -180,6 +180,13 @@ impl<'a> CertReader<'a> {
         })
     }
 
+    /// How many blocks were given.
+    pub fn given(&self) -> u64
+        ensures { result ≡ length self.now.given }
+    {
+        self.given.len() as u64
+    }
+
     /// Whether the acts of a block that was given, counted from 0, have the times, controls and steps of these, in order.
     /// Takes no memory.
     pub fn acts_hold(&self, block: u64, acts: &[Act]) -> bool

@@ -1,4 +1,4 @@
-use Rattle.std.proofs.Common.{ℕ, length}
+use Rattle.std.proofs.Common.{length}
 use Rattle.fd_certfile.specs.Lines.{lines_of}
 use Rattle.fd_certfile.proofs.Acts.{IsCounted}
 use Rattle.fd_certfile.proofs.block.acts.Given as goal

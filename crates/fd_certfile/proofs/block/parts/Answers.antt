@@ -1,6 +1,5 @@
 use Rattle.std.proofs.Common.{◌∷◌, [], sym, ◌∙◌, ap, refl}
 use Rattle.std.specs.Prelude.{map}
-use Rattle.std.specs.Option.{option_map}
 use Rattle.fd_certfile.specs.Lines.{lines_of}
 use Rattle.fd_certfile.specs.Blocks.{part_at}
 use Rattle.fd_certfile.specs.Readings.{as_they_are}

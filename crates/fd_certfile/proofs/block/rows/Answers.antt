@@ -1,4 +1,4 @@
-use Rattle.std.proofs.Common.{Bool, true, false, ◌∷◌, [], sym, subst, ◌∙◌, ap, refl}
+use Rattle.std.proofs.Common.{Bool, ◌∷◌, sym, subst, ◌∙◌, ap, refl}
 use Rattle.fd_certfile.specs.Lines.{lines_of}
 use Rattle.fd_certfile.specs.Blocks.{Whole, row_at}
 use Rattle.fd_certfile.specs.Readings.{PushesRow, cells_of}

@@ -1,4 +1,3 @@
-use Rattle.std.proofs.Common.{rules}
 use Rattle.std.specs.Option.{option_map}
 use Rattle.fd_certfile.specs.Cuts.{fields_of_text}
 use Rattle.fd_certfile.proofs.Fields.{one_more}

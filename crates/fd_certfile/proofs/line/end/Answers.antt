@@ -1,4 +1,3 @@
-use Rattle.std.proofs.Common.{rules}
 use Rattle.fd_certfile.proofs.Fields.{end_more}
 use Rattle.fd_certfile.proofs.line.end.Goals as goal
 

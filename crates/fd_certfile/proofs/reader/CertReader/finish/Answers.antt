@@ -1,10 +1,9 @@
-use Rattle.std.proofs.Common.{◌≡◌, ℕ, ◌+◌, List, ◌∷◌, length, Result, Ok, Err, sym, subst, ◌∙◌, ap, arith, rules}
+use Rattle.std.proofs.Common.{◌≡◌, ℕ, ◌+◌, List, ◌∷◌, length, Ok, Err, sym, subst, ◌∙◌, ap, rules}
 use Rattle.std.specs.Prelude.{map}
 use Rattle.std.proofs.lemmas.List.{length-map}
 use Rattle.fd_certfile.specs.Lines.{Line, lines_of}
 use Rattle.fd_certfile.specs.Reader.{ReaderView, finish_of, finished, given_block}
 use Rattle.fd_certfile.specs.Views.{view}
-use Rattle.fd_certfile.specs.declared.fault.Rule.{Rule}
 use Rattle.fd_certfile.specs.declared.fault.Rule.TheVariants.{Count, Grammar}
 use Rattle.fd_certfile.proofs.Endings.{finish_left, finish_more, finish_nothing, finish_other, finish_rest}
 use Rattle.fd_certfile.proofs.Lines.{of_last}
