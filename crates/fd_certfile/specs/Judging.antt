@@ -9,8 +9,8 @@ use Rattle.fd_enclosure.specs.Boxes.{boxes_of}
 use Rattle.fd_enclosure.specs.Radii.{slope_radius}
 use Rattle.fd_enclosure.specs.Sound as sound
 use Rattle.fd_enclosure.specs.Sound.{mismatch_at, number_at, radius_in}
-use Rattle.fd_certfile.specs.Blocks.{Block}
-use Rattle.fd_certfile.specs.Rules.{Ball, Claim, Judge, Sampled, claim_of}
+use Rattle.fd_certfile.specs.Blocks.{Block, IsSized}
+use Rattle.fd_certfile.specs.Rules.{Ball, Claim, Holds, Judge, Sampled, claim_of}
 
 -- the mismatches by their sizes; a claim for which the rule on mismatches holds has none below 0
 abbrev pub sizes_of : List ℤ → List ℕ
@@ -49,3 +49,8 @@ claim_on v b = record {
   boxes = boxes_of v (claim_of b).centre;
   inverse = b.inverse;
 }
+
+-- where the rules hold of a block on a network, what it claims there is sound, whoever made it
+abbrev pub SoundLaw : Type 0
+SoundLaw = (v : NetworkView) (number hour round : ℕ) (sampled : Ball → Sampled) (b : Block)
+    → IsSized b → Holds (judge_of v number hour round sampled) b → sound.IsSound v (claim_on v b)

@@ -1,5 +1,6 @@
 // Laws of the rules: functions without code, whose contracts are the laws.
 ghost use Rattle.fd_certfile.specs.Blocks.{Block};
+ghost use Rattle.fd_certfile.specs.Judging.{SoundLaw};
 ghost use Rattle.fd_certfile.specs.RuleExamples.{VerdictCases, RuleCases};
 ghost use Rattle.fd_certfile.specs.RuleLaws.{RuleLaw, AnswersLaw};
 ghost use Rattle.fd_certfile.specs.Verdict.{Due};
@@ -8,6 +9,11 @@ ghost use Rattle.fd_certfile.specs.Verdict.{Due};
 #[tactic(auto, using(crate::proofs::RuleOrder::rule_law))]
 pub fn rule_law()
     ensures { RuleLaw }
+{}
+
+/// Where the rules hold of a block on a network, what it claims there is sound, whoever made it.
+pub fn sound_law()
+    ensures { SoundLaw }
 {}
 
 /// Bytes have exactly one answer, and which one; for every script with states of type `S` and faults of type `F`.
