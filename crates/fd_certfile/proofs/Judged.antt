@@ -1,6 +1,5 @@
 -- A block for which the rules hold on a network makes a sound claim there.
-use Rattle.std.proofs.Common.{◌≡◌, ℕ, zero, suc, ◌<◌, ◌≤◌, ◌^◌, ◌≤ℤ◌, neg_ℤ, nat_abs, Bool, true, false, ℤ, pos, negsuc, List, [], ◌∷◌, length, get_or, Option, Some, None, refl, ap, sym, subst, ◌∙◌, arith}
-use Rattle.std.specs.Prelude.{map}
+use Rattle.std.proofs.Common.{◌≡◌, ℕ, zero, suc, ◌<◌, ◌≤◌, ◌^◌, ◌≤ℤ◌, nat_abs, Bool, true, false, ℤ, pos, List, [], ◌∷◌, length, get_or, Option, Some, None, refl, ap, sym, subst, ◌∙◌, arith}
 use Rattle.std.specs.List.{AllByRecursion}
 use Rattle.std.proofs.Math.ListN.{get_or-map}
 use Rattle.std.proofs.lemmas.Bool.{eq-eqb}
@@ -13,7 +12,7 @@ use Rattle.fd_equations.specs.Conditions.{IsPart, IsPoint}
 use Rattle.fd_equations.specs.Rounded.{jacobian_entry}
 use Rattle.fd_equations.specs.Views.{NetworkView}
 use Rattle.fd_equations.specs.Weights.{weight_at}
-use Rattle.fd_enclosure.specs.Bounds.{first_unbounded, first_wide, is_below_one, radius_at, refusal, refused_bound, unless_unbounded, unless_wide}
+use Rattle.fd_enclosure.specs.Bounds.{first_unbounded, first_wide, refusal, refused_bound, unless_unbounded, unless_wide}
 use Rattle.fd_enclosure.specs.Radii.{slope_radius}
 use Rattle.fd_enclosure.specs.Sound.{IsInverse, IsSound, greatest_mismatch, mismatch_at, number_at, radius_in}
 use Rattle.fd_enclosure.proofs.CallerLemmas.{all_bounded}

@@ -1,5 +1,5 @@
 // The lines of a block: its unknowns, the rows of its inverse, and its acts.
-ghost use Rattle.std.specs.Prelude.{◌≡◌, ◌+◌, ◌∷◌, ◌++◌, [], OnOk, length, map};
+ghost use Rattle.std.specs.Prelude.{◌≡◌, ◌+◌, ◌∷◌, ◌++◌, [], IfOk, OnOk, length, map};
 ghost use Rattle.std.specs.Option.{option_map};
 ghost use Rattle.fd_certfile.specs.Blocks.{Whole, acts_at, numbered_at, part_at, row_at};
 ghost use Rattle.fd_certfile.specs.Lines.{lines_of};
@@ -83,6 +83,19 @@ pub(crate) fn parts(
     Ok((found, rest))
 }
 
+// Room for the entries of so many rows of so many, where they are kept.
+fn room(alloc: Global, keep: bool, count: u128) -> Result<Vec<i128>, AllocError>
+    ensures { IfOk result (λ cells. cells.items ≡ []) }
+{
+    if !keep {
+        return Ok(Vec::new(alloc));
+    }
+    match usize::try_from(count.saturating_mul(count)) {
+        Ok(places) => Vec::with_capacity(alloc, places),
+        Err(_) => Err(AllocError),
+    }
+}
+
 /// The next so many rows of an inverse, of which the entries are kept one after another or none, and the bytes behind
 /// them.
 pub(crate) fn rows(
@@ -93,7 +106,7 @@ pub(crate) fn rows(
 ) -> Result<(Vec<i128>, &[u8]), Stop>
     ensures { Keeps cells_of keep (λ x. x.0.items) (λ x. lines_of x.1.now) result (lines_of bytes.now) (numbered_at (row_at Whole count) count 0 (lines_of bytes.now)) }
 {
-    let mut cells = Vec::new(alloc);
+    let mut cells = room(alloc, keep, count)?;
     let mut rest = bytes;
     for place in 0..count {
         match cut(rest, b'\n') {

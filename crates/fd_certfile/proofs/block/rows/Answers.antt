@@ -8,7 +8,7 @@ use Rattle.fd_certfile.proofs.Reading.{cells_more, kept_start, kept_more, kept_a
 use Rattle.fd_certfile.proofs.block.rows.Goals as goal
 
 pub loop-place-init : goal.loop-place-init
-loop-place-init c = kept_start (row_at Whole c.args.count) cells_of c.args.keep c.args.count (lines_of c.args.bytes.now) c.new-cells.result.items c.new-cells.ensures.items refl
+loop-place-init c = kept_start (row_at Whole c.args.count) cells_of c.args.keep c.args.count (lines_of c.args.bytes.now) c.in_ok-cells.cells.items c.in_ok-cells.ensures refl
 
 pub loop-place-preserved : goal.loop-place-preserved
 loop-place-preserved c =
