@@ -9,9 +9,9 @@ abbrev pub Lacks : ℕ → List ℕ → Type 0
 Lacks c bytes = All (λ d. nat_eq d c ≡ false) bytes
 
 -- the fields of a text, whose blanks part them, or of none
-abbrev pub fields_of_text : Option (List ℕ) → List (List ℕ)
-fields_of_text None = []
-fields_of_text (Some text) = slice_split is_blank text
+abbrev pub texts_of : Option (List ℕ) → List (List ℕ)
+texts_of None = []
+texts_of (Some text) = slice_split is_blank text
 
 -- the number that the first field spells, and the other fields
 abbrev pub first_number : List (List ℕ) → Option (ℤ × List (List ℕ))

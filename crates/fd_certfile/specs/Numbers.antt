@@ -1,5 +1,5 @@
--- Whole numbers as a certificate has them: no plus sign, no leading zero, and a minus directly before the digits of what
--- isn't 0.
+-- Whole numbers as a certificate has them: no plus sign, no leading zero, and a minus directly before the digits of
+-- what isn't 0.
 use Rattle.std.specs.Prelude.{ℕ, ℤ, pos, neg_ℤ, ◌^◌, ◌==◌, nat_eq, nat_lt, ◌<◌, ◌&&◌, Bool, List, [], ◌∷◌, Option, Some, None, unsigned_abs, option_map, option_and_then, if◌then◌else◌}
 use Rattle.std.specs.Cmp.Lexicographic.{pointwise}
 use Rattle.std.specs.Fmt.{signed_decimal}

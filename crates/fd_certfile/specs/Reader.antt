@@ -1,8 +1,8 @@
 -- A reader of a certificate as contracts see it.
-use Rattle.std.specs.Prelude.{◌≡◌, ℕ, pos, ◌+◌, ◌-◌, Bool, true, false, List, [], ◌∷◌, ◌++◌, length, map, get_or, Option, Some, None, Result, Ok, Err}
+use Rattle.std.specs.Prelude.{◌≡◌, ℕ, pos, ◌+◌, ◌-◌, Bool, true, false, List, [], ◌∷◌, ◌++◌, length, map, get_or, Option, Some, None, Result, Ok, Err, ◌&&◌}
 use Rattle.fd_certfile.specs.Lines.{Line, lines_of}
 use Rattle.fd_certfile.specs.Lines as text
-use Rattle.fd_certfile.specs.Blocks.{Version, Whole, Act, Block, acts_at, block_at}
+use Rattle.fd_certfile.specs.Blocks.{Version, Whole, Act, Block, acts_at, block_at, is_place}
 use Rattle.fd_certfile.specs.Certificates.{lines_count}
 use Rattle.fd_certfile.specs.Readings.{cells_of}
 use Rattle.fd_certfile.specs.Rules.{behind_rows, is_numbered, line_at}
@@ -14,6 +14,7 @@ use Rattle.fd_certfile.specs.declared.fault.Rule.{Rule}
 use Rattle.fd_certfile.specs.declared.fault.Rule.TheVariants.{Count, Grammar, Size}
 use Rattle.fd_certfile.specs.declared.reader.Claimed.{Claimed}
 use Rattle.fd_certfile.specs.declared.reader.Given.{Given}
+use Rattle.fd_certfile.specs.declared.ahead.Head.{Head}
 
 -- a block that was given: its acts, and the line behind its inverse
 pub record GivenBlock : Type 0 where
@@ -33,6 +34,23 @@ pub record ReaderView : Type 0 where
 -- a block of which the reader holds the bytes from its acts on
 abbrev pub given_block : Given → GivenBlock
 given_block g = record { acts = (acts_at (lines_of g.acts.now)).0; rule_line = g.rule_line }
+
+-- the reader of these lines, with the blocks that were given
+abbrev pub viewed : List Line → ℕ → ℕ → ℕ → ℕ → List Given → ReaderView
+viewed lines line number hour round given = record {
+  version = Whole;
+  lines = lines;
+  line = line;
+  number = number;
+  hour = hour;
+  round = round;
+  given = map given_block given;
+}
+
+-- whether these are the numbers of the block that is due, of n unknowns
+abbrev pub is_headed : ReaderView → ℕ → Head → Bool
+is_headed r n h =
+    is_place r.number h.number && (is_place r.hour h.hour && (is_place r.round h.round && is_place n h.size))
 
 -- ---- opening
 

@@ -2,9 +2,10 @@
 use Rattle.std.specs.Prelude.{◌≡◌, ◌+◌, ◌-◌, ◌≤◌, ℕ, ℤ, Bool, true, false, Option, Some, None, List, [], ◌++◌, flat_map, length, Result, Ok, Err}
 use Rattle.fd_certfile.specs.Lines.{Line}
 use Rattle.fd_certfile.specs.Lines as text
-use Rattle.fd_certfile.specs.Blocks.{Act, ◌>>=◌, numbered_at}
+use Rattle.fd_certfile.specs.Blocks.{Act, ◌>>=◌, numbered_at, Whole, Part, part_at, row_at, row_of}
 use Rattle.fd_certfile.specs.declared.fault.Stop.{Stop}
 use Rattle.fd_certfile.specs.declared.fault.Stop.TheVariants as stop
+use Rattle.std.specs.Option.{option_and_then}
 
 -- a reader keeps all of these, or none
 abbrev pub kept : {X : Type 0} → Bool → List X → List X
@@ -17,6 +18,10 @@ as_they_are xs = xs
 -- the entries of rows, one row after another
 abbrev pub cells_of : List (List ℤ) → List ℤ
 cells_of rows = flat_map as_they_are rows
+
+-- the row of these numbers, if they are numbers and so many
+abbrev pub row_in : ℕ → Option (List ℤ) → Option (List ℤ)
+row_in n numbers = option_and_then (row_of Whole n) numbers
 
 -- the row that is read is added where it is kept, or no row is read
 pub record RowIs (keep : Bool) (old new : List ℤ) (read : Option (List ℤ)) : Type 0 where
@@ -44,6 +49,13 @@ Fails (stop.Refused behind) lines read = RefusedBehind behind lines read
 abbrev pub behind_front : {X : Type 0} → List X → Result (List X × List Line) (List Line)
     → Result (List X × List Line) (List Line)
 behind_front front read = read >>= λ xs. Ok (front ++ xs.0, xs.1)
+
+-- the next n lines, as unknowns and as rows
+abbrev pub parts_at : ℕ → List Line → Result (List Part × List Line) (List Line)
+parts_at n lines = numbered_at part_at n 0 lines
+
+abbrev pub rows_at : ℕ → List Line → Result (List (List ℤ) × List Line) (List Line)
+rows_at n lines = numbered_at (row_at Whole n) n 0 lines
 
 -- what was read so far, and what the lines that are left give, is what all lines give
 pub record IsSoFar {X : Type 0} (read : ℕ → Line → Option X) (n : ℕ) (lines : List Line) (i : ℕ) (front : List X)

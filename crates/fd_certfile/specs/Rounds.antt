@@ -1,6 +1,6 @@
 -- The block of a round of a settle.
-use Rattle.std.specs.Prelude.{◌≡◌, ℕ, ◌<◌, ◌≤◌, ◌^◌, pos, nat_abs, [], ◌∷◌, length, map}
-use Rattle.std.specs.List.{AllByRecursion}
+use Rattle.std.specs.Prelude.{◌≡◌, ℕ, ◌<◌, ◌≤◌, ◌^◌, pos, nat_abs, [], ◌∷◌, length, map, ◌++◌, Ok, List, ℤ}
+use Rattle.std.specs.List.{AllByRecursion, concat}
 use Rattle.fd_exact.specs.States.{part}
 use Rattle.fd_equations.specs.Rounded.{list_of}
 use Rattle.fd_enclosure.specs.Sound.{Claim, IsInverse, greatest_mismatch, number_at}
@@ -8,7 +8,9 @@ use Rattle.fd_cert.specs.Claims.{claim_in}
 use Rattle.fd_settle.specs.declared.round.Act.{Act as Made}
 use Rattle.fd_settle.specs.declared.round.Round.{Round}
 use Rattle.fd_certfile.specs.Numbers.{IsNumber}
-use Rattle.fd_certfile.specs.Blocks.{Act, Block, Part}
+use Rattle.fd_certfile.specs.Blocks.{Act, Block, Part, Whole, IsBehindActs, block_at, block_lines, part_line, row_line}
+use Rattle.fd_mat.specs.Rows.{row_of}
+use Rattle.fd_certfile.specs.Lines.{line_bytes, lines_of}
 
 -- what is claimed of the unknown and the row at a place
 abbrev pub part_in : Claim → ℕ → Part
@@ -38,6 +40,22 @@ block_of size number hour round made = record {
   inverse = made.certified.inverse;
   acts = map act_of made.acts.items;
 }
+
+-- the lines of an unknown and of a row, as bytes
+abbrev pub part_bytes : Claim → ℕ → List ℕ
+part_bytes m i = line_bytes (part_line i (part_in m i))
+
+abbrev pub row_bytes : List (List ℤ) → ℕ → List ℕ
+row_bytes rows i = line_bytes (row_line Whole i (row_of rows i))
+
+-- these pieces are the lines of a block, one each
+abbrev pub AreLinesOf : List (List ℕ) → Block → Type 0
+AreLinesOf pieces b = pieces ≡ map line_bytes (block_lines Whole b)
+
+-- they are read as exactly that block, whatever lines that are no acts follow
+abbrev pub AreReadAs : List (List ℕ) → Block → Type 0
+AreReadAs pieces b = (tail : List ℕ) → IsBehindActs (lines_of tail)
+    → block_at Whole (lines_of (concat pieces ++ tail)) ≡ Ok (b, lines_of tail)
 
 -- a round of a network of this size, whose numbers are within those of a certificate
 pub record IsRoundOf (size : ℕ) (made : Round) : Type 0 where

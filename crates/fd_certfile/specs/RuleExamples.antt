@@ -63,20 +63,31 @@ pub record VerdictCases : Type 0 where
   pub left_broken : says (gives good (refuses 2)) 1 ≡ refused 6 Count
   pub due_broken : says (gives good (refuses 2)) 2 ≡ refused 8 Grammar
   -- a rule of an earlier block precedes the grammar of a later one
-  pub earlier : says (gives (block_with (pos 1) (pos 9) (pos 1) (pos 1) (pos 3) a_move) (refuses 0)) 1 ≡ refused 3 Radius
+  pub earlier : says (gives (block_with (pos 1) (pos 9) (pos 1) (pos 1) (pos 3) a_move) (refuses 0)) 1
+      ≡ refused 3 Radius
 
 pub record RuleCases : Type 0 where
   pub size : judged false (moves a_move) (block_with (pos 2) (pos 9) (pos 2) (pos 1) (pos 3) a_move) ≡ refused 2 Size
-  pub centre : judged false (moves a_move) (block_with (pos 1) (negsuc (2 ^ 40)) (pos 2) (pos 1) (pos 3) a_move) ≡ refused 3 Range
-  pub centre_at : judged false (moves a_move) (block_with (pos 1) (pos (2 ^ 40)) (pos 2) (pos 1) (pos 3) a_move) ≡ accepted 1
-  pub entry : judged false (moves a_move) (block_with (pos 1) (pos 9) (pos 2) (pos 1) (pos (2 ^ 56 + 1)) a_move) ≡ refused 3 Range
-  pub negative_radius : judged false (moves a_move) (block_with (pos 1) (pos 9) (negsuc 0) (pos 1) (pos 3) a_move) ≡ refused 3 Range
-  pub mismatch_low : judged false (moves a_move) (block_with (pos 1) (pos 9) (pos 2) (pos 0) (pos 3) a_move) ≡ refused 3 Mismatch
-  pub mismatch_high : judged false (moves a_move) (block_with (pos 1) (pos 9) (pos 2) (pos 1001) (pos 3) a_move) ≡ refused 3 Mismatch
-  pub mismatch_at : judged false (moves a_move) (block_with (pos 1) (pos 9) (pos 2) (pos 1000) (pos 3) a_move) ≡ accepted 1
-  pub bound_first : judged true (moves a_move) (block_with (pos 1) (pos 9) (pos 1) (pos 1) (pos 3) a_move) ≡ refused 3 Bound
-  pub radius : judged false (moves a_move) (block_with (pos 1) (pos 9) (pos 1) (pos 1) (pos 3) a_move) ≡ refused 3 Radius
-  pub undecided_first : judged false undecided (block_with (pos 1) (pos 9) (pos 2) (pos 1) (pos 3) a_move) ≡ refused 5 Undecided
+  pub centre : judged false (moves a_move) (block_with (pos 1) (negsuc (2 ^ 40)) (pos 2) (pos 1) (pos 3) a_move)
+      ≡ refused 3 Range
+  pub centre_at : judged false (moves a_move) (block_with (pos 1) (pos (2 ^ 40)) (pos 2) (pos 1) (pos 3) a_move)
+      ≡ accepted 1
+  pub entry : judged false (moves a_move) (block_with (pos 1) (pos 9) (pos 2) (pos 1) (pos (2 ^ 56 + 1)) a_move)
+      ≡ refused 3 Range
+  pub negative_radius : judged false (moves a_move) (block_with (pos 1) (pos 9) (negsuc 0) (pos 1) (pos 3) a_move)
+      ≡ refused 3 Range
+  pub mismatch_low : judged false (moves a_move) (block_with (pos 1) (pos 9) (pos 2) (pos 0) (pos 3) a_move)
+      ≡ refused 3 Mismatch
+  pub mismatch_high : judged false (moves a_move) (block_with (pos 1) (pos 9) (pos 2) (pos 1001) (pos 3) a_move)
+      ≡ refused 3 Mismatch
+  pub mismatch_at : judged false (moves a_move) (block_with (pos 1) (pos 9) (pos 2) (pos 1000) (pos 3) a_move)
+      ≡ accepted 1
+  pub bound_first : judged true (moves a_move) (block_with (pos 1) (pos 9) (pos 1) (pos 1) (pos 3) a_move)
+      ≡ refused 3 Bound
+  pub radius : judged false (moves a_move) (block_with (pos 1) (pos 9) (pos 1) (pos 1) (pos 3) a_move)
+      ≡ refused 3 Radius
+  pub undecided_first : judged false undecided (block_with (pos 1) (pos 9) (pos 2) (pos 1) (pos 3) a_move)
+      ≡ refused 5 Undecided
   pub acts : judged false (moves []) good ≡ refused 5 Acts
   pub acts_before_limit : judged false at_limit good ≡ refused 5 Acts
   pub limit : judged false at_limit (block_with (pos 1) (pos 9) (pos 2) (pos 1) (pos 3) []) ≡ refused 5 ControlLimit

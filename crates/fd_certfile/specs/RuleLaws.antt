@@ -17,7 +17,8 @@ pub record RuleLaw : Type 0 where
   -- no rule is named exactly where all hold
   pub none : (judge : Judge) (b : Block) → (first_broken judge b ≡ None) ↔ Holds judge b
   -- the rule that is named is the first that is broken
-  pub named : (judge : Judge) (b : Block) (broken : Broken) → first_broken judge b ≡ Some broken → IsFirst judge b broken
+  pub named : (judge : Judge) (b : Block) (broken : Broken)
+      → first_broken judge b ≡ Some broken → IsFirst judge b broken
   -- the place that is named is the least
   pub least : (n i : ℕ) (test : ℕ → Bool) → least_from 0 n test ≡ Some i
       → (i < n) × (test i ≡ false) × ((j : ℕ) → j < i → test j ≡ true)

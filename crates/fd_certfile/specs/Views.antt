@@ -1,7 +1,7 @@
 -- What the definitions see of the code's lines.
 use Rattle.std.specs.Prelude.{ℕ, ℤ, List, Option, Some, None, codes, option_map, if◌then◌else◌}
 use Rattle.fd_certfile.specs.Numbers.{numbers_of, text_eq}
-use Rattle.fd_certfile.specs.Cuts.{fields_of_text}
+use Rattle.fd_certfile.specs.Cuts.{texts_of}
 use Rattle.fd_certfile.specs.Lines as text
 use Rattle.fd_certfile.specs.Blocks as blocks
 use Rattle.fd_certfile.specs.declared.ahead.Head.{Head}
@@ -19,7 +19,7 @@ abbrev pub view : Line → text.Line
 view (the.Header version) = text.header version
 view (the.Solution number hour round size) = text.solution number hour round size
 view (the.State place centre radius mismatch) = text.state place centre radius mismatch
-view (the.Row fields) = or_other text.row (numbers_of (fields_of_text (option_map (λ t. t.now) fields)))
+view (the.Row fields) = or_other text.row (numbers_of (texts_of (option_map (λ t. t.now) fields)))
 view (the.Act time control steps) = text.act time control steps
 view the.End = text.end
 view the.Other = text.other

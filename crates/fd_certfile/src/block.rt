@@ -1,9 +1,9 @@
 // The lines of a block: its unknowns, the rows of its inverse, and its acts.
 ghost use Rattle.std.specs.Prelude.{◌≡◌, ◌+◌, ◌∷◌, ◌++◌, [], IfOk, OnOk, length, map};
 ghost use Rattle.std.specs.Option.{option_map};
-ghost use Rattle.fd_certfile.specs.Blocks.{Whole, acts_at, numbered_at, part_at, row_at};
+ghost use Rattle.fd_certfile.specs.Blocks.{acts_at, part_at};
 ghost use Rattle.fd_certfile.specs.Lines.{lines_of};
-ghost use Rattle.fd_certfile.specs.Readings.{Keeps, act_in, as_they_are, cells_of, kept};
+ghost use Rattle.fd_certfile.specs.Readings.{Keeps, act_in, as_they_are, cells_of, kept, parts_at, rows_at};
 ghost use Rattle.fd_certfile.specs.Views.{act, part, view};
 
 use crate::cut::cut;
@@ -64,7 +64,7 @@ pub(crate) fn parts(
     count: u128,
     bytes: &[u8],
 ) -> Result<(Vec<Part>, &[u8]), Stop>
-    ensures { Keeps as_they_are keep (λ x. map part x.0.items) (λ x. lines_of x.1.now) result (lines_of bytes.now) (numbered_at part_at count 0 (lines_of bytes.now)) }
+    ensures { Keeps as_they_are keep (λ x. map part x.0.items) (λ x. lines_of x.1.now) result (lines_of bytes.now) (parts_at count (lines_of bytes.now)) }
 {
     let mut found = Vec::new(alloc);
     let mut rest = bytes;
@@ -104,7 +104,7 @@ pub(crate) fn rows(
     count: u128,
     bytes: &[u8],
 ) -> Result<(Vec<i128>, &[u8]), Stop>
-    ensures { Keeps cells_of keep (λ x. x.0.items) (λ x. lines_of x.1.now) result (lines_of bytes.now) (numbered_at (row_at Whole count) count 0 (lines_of bytes.now)) }
+    ensures { Keeps cells_of keep (λ x. x.0.items) (λ x. lines_of x.1.now) result (lines_of bytes.now) (rows_at count (lines_of bytes.now)) }
 {
     let mut cells = room(alloc, keep, count)?;
     let mut rest = bytes;

@@ -7,7 +7,8 @@
 //! that is due; its other calls take no memory. The bytes may come from anyone.
 //!
 //! That what is written is read as exactly that, that a refused line is the first with which no block begins, that the
-//! rule which is named is the first that is broken, and that bytes have exactly one answer, are laws of the definitions.
+//! rule which is named is the first that is broken, that a block for which the rules hold makes a sound claim, and that
+//! bytes have exactly one answer, are laws of the definitions.
 //!
 //! - `grammar`: laws of the grammar
 //! - `rule`: laws of the rules, and of what a certificate comes to

@@ -1,8 +1,8 @@
 // The lines of a certificate.
-ghost use Rattle.std.specs.Prelude.{◌≡◌, if◌then◌else◌};
+ghost use Rattle.std.specs.Prelude.{◌≡◌};
 ghost use Rattle.std.specs.Option.{option_map};
-ghost use Rattle.fd_certfile.specs.Cuts.{fields_of_text};
-ghost use Rattle.fd_certfile.specs.Lines.{act_of, end_of, header_of, line_of, line_with, solution_of, state_of};
+ghost use Rattle.fd_certfile.specs.Cuts.{texts_of};
+ghost use Rattle.fd_certfile.specs.Lines.{act_of, end_of, header_of, line_of, solution_of, state_of};
 ghost use Rattle.fd_certfile.specs.Numbers.{numbers_of, text_eq};
 ghost use Rattle.fd_certfile.specs.Views.{line_by_fields, or_other, view};
 
@@ -33,7 +33,7 @@ fn is_word(word: &[u8], name: &[u8]) -> bool
 }
 
 fn header(fields: Fields<'_>) -> Line<'_>
-    ensures { view result ≡ or_other header_of (numbers_of (fields_of_text (option_map (λ t. t.now) fields.entry))) }
+    ensures { view result ≡ or_other header_of (numbers_of (texts_of (option_map (λ t. t.now) fields.entry))) }
 {
     match one(fields) {
         Some(version) => Line::Header(version),
@@ -42,7 +42,7 @@ fn header(fields: Fields<'_>) -> Line<'_>
 }
 
 fn solution(fields: Fields<'_>) -> Line<'_>
-    ensures { view result ≡ or_other solution_of (numbers_of (fields_of_text (option_map (λ t. t.now) fields.entry))) }
+    ensures { view result ≡ or_other solution_of (numbers_of (texts_of (option_map (λ t. t.now) fields.entry))) }
 {
     match four(fields) {
         Some((number, hour, round, size)) => Line::Solution(number, hour, round, size),
@@ -51,7 +51,7 @@ fn solution(fields: Fields<'_>) -> Line<'_>
 }
 
 fn state(fields: Fields<'_>) -> Line<'_>
-    ensures { view result ≡ or_other state_of (numbers_of (fields_of_text (option_map (λ t. t.now) fields.entry))) }
+    ensures { view result ≡ or_other state_of (numbers_of (texts_of (option_map (λ t. t.now) fields.entry))) }
 {
     match four(fields) {
         Some((place, centre, radius, mismatch)) => Line::State(place, centre, radius, mismatch),
@@ -60,7 +60,7 @@ fn state(fields: Fields<'_>) -> Line<'_>
 }
 
 fn act(fields: Fields<'_>) -> Line<'_>
-    ensures { view result ≡ or_other act_of (numbers_of (fields_of_text (option_map (λ t. t.now) fields.entry))) }
+    ensures { view result ≡ or_other act_of (numbers_of (texts_of (option_map (λ t. t.now) fields.entry))) }
 {
     match three(fields) {
         Some((time, control, steps)) => Line::Act(time, control, steps),
@@ -69,7 +69,7 @@ fn act(fields: Fields<'_>) -> Line<'_>
 }
 
 fn end(fields: Fields<'_>) -> Line<'_>
-    ensures { view result ≡ or_other end_of (numbers_of (fields_of_text (option_map (λ t. t.now) fields.entry))) }
+    ensures { view result ≡ or_other end_of (numbers_of (texts_of (option_map (λ t. t.now) fields.entry))) }
 {
     match fields {
         Some(_) => Line::Other,
@@ -80,7 +80,7 @@ fn end(fields: Fields<'_>) -> Line<'_>
 // The line of a word and the fields behind it.
 #[tactic(auto, unfolding(crate::specs::Views::line_by_fields))]
 fn by_word<'a>(word: &[u8], fields: Fields<'a>) -> Line<'a>
-    ensures { view result ≡ line_by_fields word.now (numbers_of (fields_of_text (option_map (λ t. t.now) fields.entry))) }
+    ensures { view result ≡ line_by_fields word.now (numbers_of (texts_of (option_map (λ t. t.now) fields.entry))) }
 {
     if is_word(word, b"cert") {
         return header(fields);

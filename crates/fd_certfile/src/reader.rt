@@ -1,11 +1,10 @@
 // A reader of a certificate, block by block.
-ghost use Rattle.std.specs.Prelude.{◌≡◌, ◌+◌, ◌<◌, ◌^◌, ◌&&◌, ◌∷◌, [], IfOk, Some, None, if◌then◌else◌, length, map};
+ghost use Rattle.std.specs.Prelude.{◌≡◌, ◌+◌, ◌<◌, ◌^◌, ◌&&◌, ◌∷◌, [], Some, None, if◌then◌else◌, length, map};
 ghost use Rattle.std.specs.Cmp.Lexicographic.{pointwise};
 ghost use Rattle.fd_certfile.specs.Blocks.{Whole, is_place};
 ghost use Rattle.fd_certfile.specs.Certificates.{behind_first, version_in};
 ghost use Rattle.fd_certfile.specs.Lines.{lines_of};
-ghost use Rattle.fd_certfile.specs.Reader.{FindsAhead, GivesNext, IsFinished, IsOpened, finish_of, given_at};
-ghost use Rattle.fd_certfile.specs.Readings.{lines_before};
+ghost use Rattle.fd_certfile.specs.Reader.{FindsAhead, GivesNext, IsFinished, IsOpened, finish_of, given_at, is_headed};
 ghost use Rattle.fd_certfile.specs.Rounds.{act_of};
 ghost use Rattle.fd_certfile.specs.Rules.{same_act};
 ghost use Rattle.fd_certfile.specs.Views.{view};
@@ -55,11 +54,11 @@ impl<'a> Model for CertReader<'a> {
     ghost use Rattle.std.specs.Prelude.{◌+◌, ◌^◌, ◌≤◌, length, map};
     ghost use Rattle.fd_certfile.specs.Blocks.{Whole};
     ghost use Rattle.fd_certfile.specs.Lines.{lines_of};
-    ghost use Rattle.fd_certfile.specs.Reader.{ReaderView, given_block};
+    ghost use Rattle.fd_certfile.specs.Reader.{ReaderView, viewed};
 
     ghost Value = { ReaderView };
 
-    ghost view = { λ r. record { version = Whole; lines = lines_of r.rest.now; line = r.line; number = r.number; hour = r.hour; round = r.round; given = map given_block r.given.items } };
+    ghost view = { λ r. viewed (lines_of r.rest.now) r.line r.number r.hour r.round r.given.items };
 
     ghost invariant = { λ r. (r.line + length (lines_of r.rest.now) ≤ 2 ^ 63 + 1) × (r.round ≤ r.line) };
 }
@@ -119,7 +118,7 @@ impl<'a> CertReader<'a> {
 
     // Whether these are the numbers of the block that is due.
     fn is_due(&self, size: u32, head: &Head) -> bool
-        ensures { result ≡ (is_place self.now.number head.now.number && (is_place self.now.hour head.now.hour && (is_place self.now.round head.now.round && is_place size head.now.size))) }
+        ensures { result ≡ is_headed self.now size head.now }
     {
         is_place(u128::from(self.number), head.number)
             && is_place(u128::from(self.hour), head.hour)
@@ -187,8 +186,8 @@ impl<'a> CertReader<'a> {
         self.given.len() as u64
     }
 
-    /// Whether the acts of a block that was given, counted from 0, have the times, controls and steps of these, in order.
-    /// Takes no memory.
+    /// Whether the acts of a block that was given, counted from 0, have the times, controls and steps of these, in
+    /// order. Takes no memory.
     pub fn acts_hold(&self, block: u64, acts: &[Act]) -> bool
         requires { block < length self.now.given }
         ensures { result ≡ pointwise same_act (map act_of acts.now) (given_at self.now block).acts }

@@ -1,10 +1,10 @@
 // Rows of an inverse, read into the cells of a matrix.
 ghost use Rattle.std.specs.Prelude.{◌≡◌, ◌++◌, ◌∷◌, [], IfOk, OnOk};
-ghost use Rattle.std.specs.Option.{option_and_then, option_map};
-ghost use Rattle.fd_certfile.specs.Blocks.{Whole, is_place, row_at, row_of};
-ghost use Rattle.fd_certfile.specs.Cuts.{fields_of_text};
+ghost use Rattle.std.specs.Option.{option_map};
+ghost use Rattle.fd_certfile.specs.Blocks.{Whole, is_place, row_at};
+ghost use Rattle.fd_certfile.specs.Cuts.{texts_of};
 ghost use Rattle.fd_certfile.specs.Numbers.{numbers_of};
-ghost use Rattle.fd_certfile.specs.Readings.{PushesRow, kept};
+ghost use Rattle.fd_certfile.specs.Readings.{PushesRow, kept, row_in};
 ghost use Rattle.fd_certfile.specs.Views.{view};
 
 use crate::field::{Fields, first};
@@ -35,7 +35,7 @@ fn push_entries(
     count: u128,
     fields: Fields<'_>,
 ) -> Result<bool, AllocError>
-    ensures { IfOk result (λ ok. PushesRow keep cells.old.items cells.new.items ok (option_and_then (row_of Whole count) (numbers_of (fields_of_text (option_map (λ t. t.now) fields.entry))))) }
+    ensures { IfOk result (λ ok. PushesRow keep cells.old.items cells.new.items ok (row_in count (numbers_of (texts_of (option_map (λ t. t.now) fields.entry))))) }
 {
     let mut rest = fields;
     for _place in 0..count {

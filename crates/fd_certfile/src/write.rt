@@ -1,14 +1,13 @@
 // The lines of a round.
-ghost use Rattle.std.specs.Prelude.{◌≡◌, ℕ, ◌<◌, ◌≤◌, ◌^◌, ◌++◌, List, map, pos, All, IfOk, OnOk, Ok, length};
-ghost use Rattle.std.specs.List.{concat};
+ghost use Rattle.std.specs.Prelude.{◌≡◌, ℕ, ◌<◌, ◌^◌, ◌++◌, map, pos, All, IfOk, OnOk, Ok, length};
 ghost use Rattle.fd_cert.specs.Claims.{claim_in};
 ghost use Rattle.fd_enclosure.specs.Sound.{number_at};
 ghost use Rattle.fd_equations.specs.Rounded.{list_of};
 ghost use Rattle.fd_mat.specs.Rows.{row_of};
 ghost use Rattle.fd_outside.specs.Emitted.{pieces_of};
-ghost use Rattle.fd_certfile.specs.Blocks.{IsBehindActs, Whole, act_line, block_at, block_lines, numbered_lines, part_line, row_line};
-ghost use Rattle.fd_certfile.specs.Lines.{line_bytes, lines_of, solution};
-ghost use Rattle.fd_certfile.specs.Rounds.{AreNumbers, IsRoundOf, act_of, block_of, part_in};
+ghost use Rattle.fd_certfile.specs.Blocks.{Whole, act_line, row_line};
+ghost use Rattle.fd_certfile.specs.Lines.{line_bytes, solution};
+ghost use Rattle.fd_certfile.specs.Rounds.{AreNumbers, IsRoundOf, act_of, block_of, AreLinesOf, AreReadAs, part_bytes, row_bytes};
 
 use crate::texts::line_record;
 use fd_cert::Certified;
@@ -42,7 +41,7 @@ fn part_record(alloc: Global, place: u32, certified: &Certified) -> Result<Recor
     requires mismatches { place < length certified.now.mismatch.items }
     requires small_radius { number_at certified.now.ball.radius.items place < 2 ^ 127 }
     requires small_mismatch { number_at certified.now.mismatch.items place < 2 ^ 127 }
-    ensures { IfOk result (λ r. r.bytes ≡ line_bytes (part_line place (part_in (claim_in certified.now) place))) }
+    ensures { IfOk result (λ r. r.bytes ≡ part_bytes (claim_in certified.now) place) }
 {
     let centre = certified.ball.centre[place as usize];
     let radius = certified.ball.radius[place as usize] as i128;
@@ -81,7 +80,7 @@ fn push_parts(
     requires mismatches { length certified.now.mismatch.items ≡ size }
     requires small_radii { (i : ℕ) → i < size → number_at certified.now.ball.radius.items i < 2 ^ 127 }
     requires small_mismatches { (i : ℕ) → i < size → number_at certified.now.mismatch.items i < 2 ^ 127 }
-    ensures { OnOk result (pieces_of records.new.items ≡ pieces_of records.old.items ++ list_of size (λ i. line_bytes (part_line i (part_in (claim_in certified.now) i)))) }
+    ensures { OnOk result (pieces_of records.new.items ≡ pieces_of records.old.items ++ list_of size (part_bytes (claim_in certified.now))) }
 {
     for place in 0..size {
         records.push(part_record(alloc, place, certified)?)?;
@@ -91,7 +90,7 @@ fn push_parts(
 
 // Adds the rows of an inverse.
 fn push_rows(alloc: Global, records: &mut Vec<Record>, inverse: &Dense) -> Result<(), AllocError>
-    ensures lines { OnOk result (pieces_of records.new.items ≡ pieces_of records.old.items ++ list_of (length inverse.now) (λ i. line_bytes (row_line Whole i (row_of inverse.now i)))) }
+    ensures lines { OnOk result (pieces_of records.new.items ≡ pieces_of records.old.items ++ list_of (length inverse.now) (row_bytes inverse.now)) }
     ensures wide { OnOk result ((i : ℕ) → i < length inverse.now → length (row_of inverse.now i) ≡ length inverse.now) }
 {
     for place in 0..inverse.size() {
@@ -128,9 +127,9 @@ pub fn write_block(
 ) -> Result<Vec<Record>, AllocError>
     requires { IsRoundOf net.now.rows.size made.now }
     // The lines are those of the block.
-    ensures lines { IfOk result (λ rs. pieces_of rs.items ≡ map line_bytes (block_lines Whole (block_of net.now.rows.size number hour round made.now))) }
+    ensures lines { IfOk result (λ rs. AreLinesOf (pieces_of rs.items) (block_of net.now.rows.size number hour round made.now)) }
     // They are read again as exactly that block, whatever lines that are no acts follow.
-    ensures read { IfOk result (λ rs. (tail : List ℕ) → IsBehindActs (lines_of tail) → block_at Whole (lines_of (concat (pieces_of rs.items) ++ tail)) ≡ Ok (block_of net.now.rows.size number hour round made.now, lines_of tail)) }
+    ensures read { IfOk result (λ rs. AreReadAs (pieces_of rs.items) (block_of net.now.rows.size number hour round made.now)) }
 {
     let size = net.size();
     let certified = &made.certified;
