@@ -5,7 +5,8 @@ use Rattle.fd_certfile.specs.Lines.{Line, header, solution, state, row, act, end
 use Rattle.fd_certfile.specs.Blocks.{Act, acts_at}
 use Rattle.fd_certfile.specs.Readings.{act_in, acts_behind}
 
-pub first_act : (line : Line) (more : List Line) (a : Act) → Some a ≡ act_in line → acts_at (line ∷ more) ≡ acts_behind (a ∷ []) (acts_at more)
+pub first_act : (line : Line) (more : List Line) (a : Act) → Some a ≡ act_in line
+    → acts_at (line ∷ more) ≡ acts_behind (a ∷ []) (acts_at more)
 first_act (act t c s) more a e =
     let same : a ≡ record { time = t; control = c; steps = s } = (let f = e in cc) in
     ap (λ (b : Act). acts_behind (b ∷ []) (acts_at more)) (sym same)
@@ -40,11 +41,13 @@ pub counted_start : (all : List Line) → IsCounted all 0 all
 counted_start all = record { front = []; many = refl; so_far = refl; lines = omega arith }
 
 module _ (all : List Line) (count : ℕ) (rest : List Line) (k : IsCounted all count rest) where
-  pub one_act : (line : Line) (more : List Line) (a : Act) → rest ≡ line ∷ more → Some a ≡ act_in line → IsCounted all (count + 1) more
+  pub one_act : (line : Line) (more : List Line) (a : Act) → rest ≡ line ∷ more → Some a ≡ act_in line
+      → IsCounted all (count + 1) more
   one_act line more a e f = record {
     front = k.front ++ a ∷ [];
     many = omega (arith, k.many, length-append k.front (a ∷ []));
-    so_far = k.so_far ∙ ap (λ (ls : List Line). acts_behind k.front (acts_at ls)) e ∙ ap (acts_behind k.front) (first_act line more a f)
+    so_far = k.so_far ∙ ap (λ (ls : List Line). acts_behind k.front (acts_at ls)) e
+        ∙ ap (acts_behind k.front) (first_act line more a f)
         ∙ ap (λ (xs : List Act). (xs, (acts_at more).1)) (sym (append_assoc k.front (a ∷ []) (acts_at more).0));
     lines = omega (arith, k.lines, ap length e);
   }
@@ -52,7 +55,8 @@ module _ (all : List Line) (count : ℕ) (rest : List Line) (k : IsCounted all c
   stops : acts_at rest ≡ ([], rest) → acts_at all ≡ (k.front, rest)
   stops e = k.so_far ∙ ap (acts_behind k.front) e ∙ ap (λ (xs : List Act). (xs, rest)) (append-nil k.front)
 
-  pub no_act : (line : Line) (more : List Line) → rest ≡ line ∷ more → None ≡ act_in line → acts_at all ≡ (k.front, rest)
+  pub no_act : (line : Line) (more : List Line) → rest ≡ line ∷ more → None ≡ act_in line
+      → acts_at all ≡ (k.front, rest)
   no_act line more e f = stops (ap acts_at e ∙ no_first line more f ∙ ap (λ (ls : List Line). ([], ls)) (sym e))
 
   pub no_line : (bytes : List ℕ) → rest ≡ rest_of bytes → acts_at all ≡ (k.front, rest)

@@ -28,7 +28,8 @@ pub length-lines_of : (bytes : List ℕ) → length (lines_of bytes) ≤ length 
 unfolding lines_of
 length-lines_of bytes = omega (arith, length-lines_in (slice_split is_feed bytes), length-slice_split is_feed bytes, count_by-le-length is_feed bytes)
 
-pub before_fits : {Y : Type 0} (s : Stop) (bytes : List ℕ) (read : Result Y (List Line)) → Fails s (lines_of bytes) read → lines_before s ≤ length bytes + 1
+pub before_fits : {Y : Type 0} (s : Stop) (bytes : List ℕ) (read : Result Y (List Line)) → Fails s (lines_of bytes) read
+    → lines_before s ≤ length bytes + 1
 before_fits stop.NoMemory bytes read f = omega arith
 before_fits (stop.Refused behind) bytes read f = omega (arith, f.count, length-lines_of bytes)
 
@@ -39,7 +40,8 @@ module _ (v : Version) (number hour round size : ℤ) (lines : List Line) where
   first = solution number hour round size
 
   rows_then : List Part → List (List ℤ) × List Line → Result (Block × List Line) (List Line)
-  rows_then parts rows = let acts = acts_at rows.1 in Ok (record { number = number; hour = hour; round = round; size = size; parts = parts; inverse = rows.0; acts = acts.0 }, acts.1)
+  rows_then parts rows = let acts = acts_at rows.1 in Ok
+      (record { number = number; hour = hour; round = round; size = size; parts = parts; inverse = rows.0; acts = acts.0 }, acts.1)
 
   parts_then : List Part × List Line → Result (Block × List Line) (List Line)
   parts_then parts = numbered_at (row_at v (count_of size)) (count_of size) 0 parts.1 >>= λ rows. rows_then parts.0 rows
@@ -48,7 +50,8 @@ module _ (v : Version) (number hour round size : ℤ) (lines : List Line) where
   unfolding block_at parts_then rows_then
   block_by = refl
 
-  pub parts_fail : (s : Stop) → Fails s lines (numbered_at part_at (count_of size) 0 lines) → Fails (moved 1 s) (solution number hour round size ∷ lines) (block_at v (solution number hour round size ∷ lines))
+  pub parts_fail : (s : Stop) → Fails s lines (numbered_at part_at (count_of size) 0 lines)
+      → Fails (moved 1 s) (solution number hour round size ∷ lines) (block_at v (solution number hour round size ∷ lines))
   parts_fail stop.NoMemory f = tt
   parts_fail (stop.Refused behind) f = record {
     rest = f.rest;
@@ -65,7 +68,8 @@ module _ (v : Version) (number hour round size : ℤ) (lines : List Line) where
     behind_parts : block_at v (solution number hour round size ∷ lines) ≡ parts_then (parts, mid)
     behind_parts = block_by ∙ ap (λ r. r >>= λ ps. parts_then ps) read
 
-    pub rows_fail : (s : Stop) → Fails s mid (numbered_at (row_at v (count_of size)) (count_of size) 0 mid) → Fails (moved (1 + count_of size) s) (solution number hour round size ∷ lines) (block_at v (solution number hour round size ∷ lines))
+    pub rows_fail : (s : Stop) → Fails s mid (numbered_at (row_at v (count_of size)) (count_of size) 0 mid)
+        → Fails (moved (1 + count_of size) s) (solution number hour round size ∷ lines) (block_at v (solution number hour round size ∷ lines))
     unfolding parts_then
     rows_fail stop.NoMemory f = tt
     rows_fail (stop.Refused behind) f = record {
@@ -74,16 +78,22 @@ module _ (v : Version) (number hour round size : ℤ) (lines : List Line) where
       count = omega (arith, f.count, parts_lines);
     }
 
-    pub all_read : (rows : List (List ℤ)) (more : List Line) → numbered_at (row_at v (count_of size)) (count_of size) 0 mid ≡ Ok (rows, more) → (acts : List Act) (rest : List Line) → acts_at more ≡ (acts, rest)
-        → block_at v (solution number hour round size ∷ lines) ≡ Ok (record { number = number; hour = hour; round = round; size = size; parts = parts; inverse = rows; acts = acts }, rest)
+    pub all_read : (rows : List (List ℤ)) (more : List Line)
+        → numbered_at (row_at v (count_of size)) (count_of size) 0 mid ≡ Ok (rows, more)
+        → (acts : List Act) (rest : List Line) → acts_at more ≡ (acts, rest)
+        → block_at v (solution number hour round size ∷ lines) ≡ Ok
+        (record { number = number; hour = hour; round = round; size = size; parts = parts; inverse = rows; acts = acts }, rest)
     unfolding parts_then rows_then
     all_read rows more r acts rest a =
         behind_parts ∙ ap (λ x. x >>= λ ys. rows_then parts ys) r
-        ∙ ap (λ (p : List Act × List Line). Ok (record { number = number; hour = hour; round = round; size = size; parts = parts; inverse = rows; acts = p.0 }, p.1)) a
+        ∙ ap
+        (λ (p : List Act × List Line). Ok (record { number = number; hour = hour; round = round; size = size; parts = parts; inverse = rows; acts = p.0 }, p.1))
+        a
 
 -- ---- no block
 
-pub none_refused : (v : Version) (line : Line) (more : List Line) → None ≡ due_in line → RefusedBehind 0 (line ∷ more) (block_at v (line ∷ more))
+pub none_refused : (v : Version) (line : Line) (more : List Line) → None ≡ due_in line
+    → RefusedBehind 0 (line ∷ more) (block_at v (line ∷ more))
 none_refused v (solution m h r s) more e = absurd cc
 none_refused v (header w) more e = record { rest = header w ∷ more; refused = no_solution v (header w ∷ more) tt; count = omega arith }
 none_refused v (state p c r m) more e = record { rest = state p c r m ∷ more; refused = no_solution v (state p c r m ∷ more) tt; count = omega arith }
@@ -92,9 +102,12 @@ none_refused v (act t c s) more e = record { rest = act t c s ∷ more; refused 
 none_refused v end more e = record { rest = end ∷ more; refused = no_solution v (end ∷ more) tt; count = omega arith }
 none_refused v other more e = record { rest = other ∷ more; refused = no_solution v (other ∷ more) tt; count = omega arith }
 
-pub rest_refused : (v : Version) (lines : List Line) (bytes : List ℕ) → lines ≡ rest_of bytes → RefusedBehind 0 lines (block_at v lines)
-rest_refused v lines [] e = record { rest = lines; refused = ap (block_at v) e ∙ no_solution v [] tt ∙ ap (λ (ls : List Line). Err ls) (sym e); count = omega arith }
-rest_refused v lines (c ∷ bytes) e = record { rest = lines; refused = ap (block_at v) e ∙ no_solution v (other ∷ []) tt ∙ ap (λ (ls : List Line). Err ls) (sym e); count = omega arith }
+pub rest_refused : (v : Version) (lines : List Line) (bytes : List ℕ) → lines ≡ rest_of bytes
+    → RefusedBehind 0 lines (block_at v lines)
+rest_refused v lines [] e = record
+    { rest = lines; refused = ap (block_at v) e ∙ no_solution v [] tt ∙ ap (λ (ls : List Line). Err ls) (sym e); count = omega arith }
+rest_refused v lines (c ∷ bytes) e = record
+    { rest = lines; refused = ap (block_at v) e ∙ no_solution v (other ∷ []) tt ∙ ap (λ (ls : List Line). Err ls) (sym e); count = omega arith }
 
 some_is : {X : Type 0} {x y : X} → Some x ≡ Some y → x ≡ y
 some_is e = cc
@@ -111,8 +124,10 @@ due_line other n h r s e = absurd cc
 
 -- ---- a block that is kept where its size is due
 
-pub numbered_long : {X : Type 0} (read : ℕ → Line → Option X) (n i : ℕ) (lines : List Line) (xs : List X) (rest : List Line) → numbered_at read n i lines ≡ Ok (xs, rest) → length xs ≡ n
-numbered_long {X} read zero i lines xs rest e = let same : ◌≡◌ {A = List X × List Line} ([], lines) (xs, rest) = cc in ap (λ (p : List X × List Line). length p.0) (sym same)
+pub numbered_long : {X : Type 0} (read : ℕ → Line → Option X) (n i : ℕ) (lines : List Line) (xs : List X) (rest : List Line)
+    → numbered_at read n i lines ≡ Ok (xs, rest) → length xs ≡ n
+numbered_long {X} read zero i lines xs rest e = let same : ◌≡◌ {A = List X × List Line} ([], lines) (xs, rest) = cc in
+    ap (λ (p : List X × List Line). length p.0) (sym same)
 numbered_long read (suc n) i [] xs rest e = absurd cc
 numbered_long {X} read (suc n) i (l ∷ lines) xs rest e =
     let a = bind_ok (or_refused (l ∷ lines) (read i l)) (λ x. numbered_at read n (suc i) lines >>= λ ys. Ok (x ∷ ys.0, ys.1)) (xs, rest) e in
@@ -121,7 +136,8 @@ numbered_long {X} read (suc n) i (l ∷ lines) xs rest e =
     let same : ◌≡◌ {A = List X × List Line} (a.0 ∷ b.0.0, b.0.1) (xs, rest) = cc in
     ap (λ (p : List X × List Line). length p.0) (sym same) ∙ ap suc (numbered_long read n (suc i) lines b.0.0 b.0.1 b.1)
 
-pub numbered_left : {X : Type 0} (read : ℕ → Line → Option X) (n i : ℕ) (lines : List Line) (xs : List X) (rest : List Line) → numbered_at read n i lines ≡ Ok (xs, rest) → length lines ≡ n + length rest
+pub numbered_left : {X : Type 0} (read : ℕ → Line → Option X) (n i : ℕ) (lines : List Line) (xs : List X) (rest : List Line)
+    → numbered_at read n i lines ≡ Ok (xs, rest) → length lines ≡ n + length rest
 numbered_left {X} read zero i lines xs rest e =
     let same : ◌≡◌ {A = List X × List Line} ([], lines) (xs, rest) = cc in
     let long : length lines ≡ length rest = ap (λ (p : List X × List Line). length p.1) same in
@@ -154,7 +170,8 @@ module _ (due : ℕ) (x : Ahead) (lines : List Line) where
       inverse = rows;
       acts = (acts_at (lines_of x.acts.now)).0;
     };
-    same = all_read Whole x.head.number x.head.hour x.head.round x.head.size lines parts mid p rows (lines_of x.acts.now) r (acts_at (lines_of x.acts.now)).0 (lines_of x.rest.now)
+    same = all_read Whole x.head.number x.head.hour x.head.round x.head.size lines parts mid p rows
+        (lines_of x.acts.now) r (acts_at (lines_of x.acts.now)).0 (lines_of x.rest.now)
         (ap (λ (ls : List Line). ((acts_at (lines_of x.acts.now)).0, ls)) a);
     number = refl;
     hour = refl;
@@ -163,5 +180,6 @@ module _ (due : ℕ) (x : Ahead) (lines : List Line) where
     parts = ps;
     cells = cs;
     acts = refl;
-    count = omega (arith, n, numbered_long part_at (count_of x.head.size) 0 lines parts mid p, numbered_long (row_at Whole (count_of x.head.size)) (count_of x.head.size) 0 mid rows (lines_of x.acts.now) r);
+    count = omega
+        (arith, n, numbered_long part_at (count_of x.head.size) 0 lines parts mid p, numbered_long (row_at Whole (count_of x.head.size)) (count_of x.head.size) 0 mid rows (lines_of x.acts.now) r);
   }

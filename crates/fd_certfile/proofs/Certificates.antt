@@ -29,7 +29,8 @@ ending (row fields ∷ lines) = inr (inr tt)
 ending (act t c s ∷ lines) = inr (inr tt)
 ending (other ∷ lines) = inr (inr tt)
 
-shorter : (v : Version) (lines : List Line) (b : Block) (rest : List Line) → block_at v lines ≡ Ok (b, rest) → length rest < length lines
+shorter : (v : Version) (lines : List Line) (b : Block) (rest : List Line) → block_at v lines ≡ Ok (b, rest)
+    → length rest < length lines
 shorter v lines b rest e =
     let k = block_found v lines b rest e in
     omega (arith, ap length k.lines_are, length-append (block_lines v b) rest, length-block v b)
@@ -40,13 +41,16 @@ at_refused v lines rest e =
     elim (ending lines) [
       | inl same ↦ (ends, same)
       | inr (inl t) ↦ (trails, (t.line, t.more, t.lines_are))
-      | inr (inr none) ↦ (refuses (length lines - length rest), record { rest = rest; refused = e; behind = omega (arith, ap length k.lines_are, length-append k.front rest); no_end = none })
+      | inr (inr none) ↦
+          (refuses (length lines - length rest), record { rest = rest; refused = e; behind = omega (arith, ap length k.lines_are, length-append k.front rest); no_end = none })
     ]
 
 some_within : (v : Version) (n : ℕ) (lines : List Line) → length lines < n → (c : Certificate) × Reads v lines c
 some_within v zero lines l = absurd (omega (arith, l))
 some_within v (suc n) lines l = go (block_at v lines) refl (some_within v n) where
-  go : (r : Result (Block × List Line) (List Line)) → block_at v lines ≡ r → ((rest : List Line) → length rest < n → (c : Certificate) × Reads v rest c) → (c : Certificate) × Reads v lines c
+  go : (r : Result (Block × List Line) (List Line)) → block_at v lines ≡ r
+      → ((rest : List Line) → length rest < n → (c : Certificate) × Reads v rest c)
+      → (c : Certificate) × Reads v lines c
   go (Ok (b, rest)) e more = let m = more rest (omega (arith, shorter v lines b rest e, l)) in (gives b m.0, (rest, e, m.1))
   go (Err rest) e more = at_refused v lines rest e
 
@@ -55,7 +59,8 @@ some v lines = some_within v (suc (length lines)) lines (omega arith)
 
 -- ---- one certificate
 
-end_read : (v : Version) (lines more : List Line) (y : Block × List Line) → lines ≡ end ∷ more → block_at v lines ≡ Ok y → ⊥
+end_read : (v : Version) (lines more : List Line) (y : Block × List Line) → lines ≡ end ∷ more → block_at v lines ≡ Ok y
+    → ⊥
 end_read v lines more y same e = ok_err (sym (ap (block_at v) same) ∙ e) (no_solution v (end ∷ more) tt)
 
 end_refused : (v : Version) (lines more : List Line) (count : ℕ) → lines ≡ end ∷ more → RefusedBehind v lines count → ⊥
@@ -111,20 +116,23 @@ read_again : (v : Version) (c : Certificate) → IsWhole c → Reads v (lines_be
 read_again v ends h = refl
 read_again v trails h = absurd h
 read_again v (refuses count) h = absurd h
-read_again v (gives b c) h = (lines_behind v (blocks_of c), block_only v b (lines_behind v (blocks_of c)) h.0 (no_acts_first v (blocks_of c)), read_again v c h.2)
+read_again v (gives b c) h =
+    (lines_behind v (blocks_of c), block_only v b (lines_behind v (blocks_of c)) h.0 (no_acts_first v (blocks_of c)), read_again v c h.2)
 
 nothing_left : lines_of [] ≡ []
 unfolding lines_of
 nothing_left = refl
 
-pub again : (v : Version) (c : Certificate) → IsWhole c → (lines_of (certificate_bytes v (blocks_of c)) ≡ certificate_lines v (blocks_of c)) × Reads v (lines_behind v (blocks_of c)) c
+pub again : (v : Version) (c : Certificate) → IsWhole c
+    → (lines_of (certificate_bytes v (blocks_of c)) ≡ certificate_lines v (blocks_of c)) × Reads v (lines_behind v (blocks_of c)) c
 again v c h =
     let ls = certificate_lines v (blocks_of c) in
     (ap lines_of (sym (append-nil (bytes_of ls))) ∙ lines_again ls [] (fits_header v, fits_behind v c h) ∙ ap (λ (rest : List Line). ls ++ rest) nothing_left ∙ append-nil ls, read_again v c h)
 
 length-behind : (a b : Version) (blocks : List Block) → length (lines_behind a blocks) ≡ length (lines_behind b blocks)
 length-behind a b [] = refl
-length-behind a b (x ∷ blocks) = omega (arith, length-append (block_lines a x) (lines_behind a blocks), length-append (block_lines b x) (lines_behind b blocks), length-block a x, length-block b x, length-behind a b blocks)
+length-behind a b (x ∷ blocks) = omega
+    (arith, length-append (block_lines a x) (lines_behind a blocks), length-append (block_lines b x) (lines_behind b blocks), length-block a x, length-block b x, length-behind a b blocks)
 
 pub certificate_law : CertificateLaw
 certificate_law = record { some = some; one = one; again = again; as_long = λ a b c. ap suc (length-behind a b (blocks_of c)) }

@@ -14,11 +14,15 @@ use Rattle.fd_certfile.proofs.Acts.{first_act, no_first}
 abbrev pub are_same : List Made → List Act → Bool
 are_same made claimed = pointwise same_act (map act_of made) claimed
 
-pub act_here : (lines : List Line) (line : Line) (more : List Line) (a : Act) → lines ≡ line ∷ more → Some a ≡ act_in line → (acts_at lines).0 ≡ a ∷ (acts_at more).0
-act_here lines line more a e f = ap (λ (ls : List Line). (acts_at ls).0) e ∙ ap (λ (p : List Act × List Line). p.0) (first_act line more a f)
+pub act_here : (lines : List Line) (line : Line) (more : List Line) (a : Act) → lines ≡ line ∷ more
+    → Some a ≡ act_in line → (acts_at lines).0 ≡ a ∷ (acts_at more).0
+act_here lines line more a e f = ap (λ (ls : List Line). (acts_at ls).0) e
+    ∙ ap (λ (p : List Act × List Line). p.0) (first_act line more a f)
 
-pub none_here : (lines : List Line) (line : Line) (more : List Line) → lines ≡ line ∷ more → None ≡ act_in line → (acts_at lines).0 ≡ []
-none_here lines line more e f = ap (λ (ls : List Line). (acts_at ls).0) e ∙ ap (λ (p : List Act × List Line). p.0) (no_first line more f)
+pub none_here : (lines : List Line) (line : Line) (more : List Line) → lines ≡ line ∷ more → None ≡ act_in line
+    → (acts_at lines).0 ≡ []
+none_here lines line more e f = ap (λ (ls : List Line). (acts_at ls).0) e
+    ∙ ap (λ (p : List Act × List Line). p.0) (no_first line more f)
 
 pub none_behind : (lines : List Line) (bytes : List ℕ) → lines ≡ rest_of bytes → (acts_at lines).0 ≡ []
 none_behind lines [] e = ap (λ (ls : List Line). (acts_at ls).0) e
@@ -33,13 +37,17 @@ nothing_left made i l = none (drop i made) (omega (arith, l, length-drop i made)
 
 module _ (made : List Made) (all : List Act) (i : ℕ) (rest : List Act) (s : are_same made all ≡ are_same (drop i made) rest) where
   module _ (l : i < length made) (e : Made) where
-    here : (a : Act) (more : List Act) → rest ≡ a ∷ more → are_same made all ≡ (same_act (act_of (get_or made i e)) a && are_same (drop (i + 1) made) more)
-    here a more f = s ∙ ap (λ (ms : List Made). are_same ms rest) (drop_more made i e l) ∙ ap (are_same (get_or made i e ∷ drop (i + 1) made)) f
+    here : (a : Act) (more : List Act) → rest ≡ a ∷ more
+        → are_same made all ≡ (same_act (act_of (get_or made i e)) a && are_same (drop (i + 1) made) more)
+    here a more f = s ∙ ap (λ (ms : List Made). are_same ms rest) (drop_more made i e l)
+        ∙ ap (are_same (get_or made i e ∷ drop (i + 1) made)) f
 
-    pub same_more : (a : Act) (more : List Act) → rest ≡ a ∷ more → true ≡ same_act (act_of (get_or made i e)) a → are_same made all ≡ are_same (drop (i + 1) made) more
+    pub same_more : (a : Act) (more : List Act) → rest ≡ a ∷ more → true ≡ same_act (act_of (get_or made i e)) a
+        → are_same made all ≡ are_same (drop (i + 1) made) more
     same_more a more f t = here a more f ∙ ap (λ (b : Bool). b && are_same (drop (i + 1) made) more) (sym t)
 
-    pub differs : (a : Act) (more : List Act) → rest ≡ a ∷ more → false ≡ same_act (act_of (get_or made i e)) a → false ≡ are_same made all
+    pub differs : (a : Act) (more : List Act) → rest ≡ a ∷ more → false ≡ same_act (act_of (get_or made i e)) a
+        → false ≡ are_same made all
     differs a more f t = sym (here a more f ∙ ap (λ (b : Bool). b && are_same (drop (i + 1) made) more) (sym t))
 
     pub too_few : rest ≡ [] → false ≡ are_same made all

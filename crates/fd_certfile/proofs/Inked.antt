@@ -57,17 +57,21 @@ pub lacks_all : (c : ℕ) (text : List ℕ) → Above c text → All (λ d. nat_
 lacks_all c text h = All-from_recursion (λ d. nat_eq d c ≡ false) text (lacks c text h)
 
 -- fields that are joined by blanks are cut at them
-split_join : (field : List ℕ) (fields : List (List ℕ)) → Above 32 field → AllByRecursion (Above 32) fields → slice_split is_blank (join_with_byte 32 (field ∷ fields)) ≡ field ∷ fields
+split_join : (field : List ℕ) (fields : List (List ℕ)) → Above 32 field → AllByRecursion (Above 32) fields
+    → slice_split is_blank (join_with_byte 32 (field ∷ fields)) ≡ field ∷ fields
 split_join field [] h k = slice_split_none is_blank field (lacks_all 32 field h)
 split_join field (next ∷ fields) h k =
-    slice_split_at is_blank field 32 (join_with_byte 32 (next ∷ fields)) (lacks_all 32 field h) refl ∙ ap (λ (fs : List (List ℕ)). field ∷ fs) (split_join next fields k.0 k.1)
+    slice_split_at is_blank field 32 (join_with_byte 32 (next ∷ fields)) (lacks_all 32 field h) refl
+    ∙ ap (λ (fs : List (List ℕ)). field ∷ fs) (split_join next fields k.0 k.1)
 
-above_join : (field : List ℕ) (fields : List (List ℕ)) → Above 32 field → AllByRecursion (Above 32) fields → Above 10 (join_with_byte 32 (field ∷ fields))
+above_join : (field : List ℕ) (fields : List (List ℕ)) → Above 32 field → AllByRecursion (Above 32) fields
+    → Above 10 (join_with_byte 32 (field ∷ fields))
 above_join field [] h k = above_less 10 32 field (omega arith) h
 above_join field (next ∷ fields) h k =
     above_append 10 field (32 ∷ join_with_byte 32 (next ∷ fields)) (above_less 10 32 field (omega arith) h) (omega arith, above_join next fields k.0 k.1)
 
-pub split_text : (line : Line) → AllByRecursion IsNumber (numbers_in line) → slice_split is_blank (text_of line) ≡ word_of line ∷ map signed_decimal (numbers_in line)
+pub split_text : (line : Line) → AllByRecursion IsNumber (numbers_in line)
+    → slice_split is_blank (text_of line) ≡ word_of line ∷ map signed_decimal (numbers_in line)
 split_text line h = split_join (word_of line) (map signed_decimal (numbers_in line)) (above_word line) (above_decimals (numbers_in line) h)
 
 pub above_text : (line : Line) → AllByRecursion IsNumber (numbers_in line) → Above 10 (text_of line)

@@ -23,13 +23,15 @@ use Rattle.fd_certfile.specs.Rules.{Ball, Holds, Sampled, claim_of, part_of, row
 -- ---- the unknown that a refusal names is one of n
 
 module _ (n : ℕ) (C J : ℕ → ℕ → ℤ) (R : ℕ → ℕ → ℕ) (w e : ℕ → ℕ) where
-  wide_below : (o : Option ℕ) (r : ℕ × Option ℤ) → first_wide n C J R w e ≡ o → unless_wide n C J R w e o ≡ Some r → r.0 < n
+  wide_below : (o : Option ℕ) (r : ℕ × Option ℤ) → first_wide n C J R w e ≡ o → unless_wide n C J R w e o ≡ Some r
+      → r.0 < n
   wide_below None r f h = absurd cc
   wide_below (Some i) r f h =
       let same : (i, None) ≡ r = cc in
       subst (λ (k : ℕ). k < n) (ap (λ (q : ℕ × Option ℤ). q.0) same) (place_below _ n i f)
 
-  unbounded_below : (o : Option ℕ) (r : ℕ × Option ℤ) → first_unbounded n C J R w e ≡ o → unless_unbounded n C J R w e o ≡ Some r → r.0 < n
+  unbounded_below : (o : Option ℕ) (r : ℕ × Option ℤ) → first_unbounded n C J R w e ≡ o
+      → unless_unbounded n C J R w e o ≡ Some r → r.0 < n
   unbounded_below None r f h = wide_below (first_wide n C J R w e) r refl h
   unbounded_below (Some i) r f h =
       let same : (i, refused_bound n C J R w e i) ≡ r = cc in
@@ -66,7 +68,8 @@ all_or P d (x ∷ xs) (suc i) h a = all_or P d xs i h a.1
 
 -- ---- the claim
 
-module _ (v : NetworkView) (number hour round : ℕ) (sampled : Ball → Sampled) (b : Block) (s : IsSized b) (h : Holds (judge_of v number hour round sampled) b) where
+module _ (v : NetworkView) (number hour round : ℕ) (sampled : Ball → Sampled) (b : Block) (s : IsSized b)
+    (h : Holds (judge_of v number hour round sampled) b) where
   sized : count_of b.size ≡ v.size
   sized = ap count_of h.due.size
 
@@ -87,17 +90,21 @@ module _ (v : NetworkView) (number hour round : ℕ) (sampled : Ball → Sampled
   point : IsPoint v (claim_of b).centre
   point = record {
     long = length-map b.parts (λ (p : Part). p.centre) ∙ many;
-    parts = All-from_get_or IsPart (claim_of b).centre (pos 0) (λ i l. subst IsPart (sym (centre_at i)) (abs_part (part_of b i).centre (h.range i (omega (arith, l, length-map b.parts (λ (p : Part). p.centre), many))).centre));
+    parts = All-from_get_or IsPart (claim_of b).centre (pos 0)
+        (λ i l. subst IsPart (sym (centre_at i)) (abs_part (part_of b i).centre (h.range i (omega (arith, l, length-map b.parts (λ (p : Part). p.centre), many))).centre));
   }
 
   inverse : IsInverse v.size b.inverse
   inverse = record {
     long = s.rows ∙ sized;
-    small = λ row col r c. all_or (λ (z : ℤ). nat_abs z ≤ 2 ^ 56) (pos 0) (row_of b row) col (omega arith) (h.range row (omega (arith, r, s.rows, sized))).entries;
+    small = λ row col r c. all_or (λ (z : ℤ). nat_abs z ≤ 2 ^ 56) (pos 0) (row_of b row) col (omega arith)
+        (h.range row (omega (arith, r, s.rows, sized))).entries;
   }
 
   certain : refusal_in v (claim_of b) ≡ None
-  certain = none_named v.size (entry b.inverse) (jacobian_entry v (claim_of b).centre) (slope_radius v (claim_of b).centre) (weight_at v (claim_of b).centre) (number_at (sizes_of (claim_of b).mismatch))
+  certain = none_named v.size (entry b.inverse) (jacobian_entry v (claim_of b).centre)
+      (slope_radius v (claim_of b).centre) (weight_at v (claim_of b).centre)
+      (number_at (sizes_of (claim_of b).mismatch))
       (refusal_in v (claim_of b)) refl h.bound
 
   claim_sound : IsSound v (claim_on v b)
@@ -106,11 +113,18 @@ module _ (v : NetworkView) (number hour round : ℕ) (sampled : Ball → Sampled
     inverse = inverse;
     boxes = refl;
     mismatches_long = length-map (claim_of b).mismatch nat_abs ∙ length-map b.parts (λ (p : Part). p.mismatch) ∙ many;
-    mismatches_least = λ l p. subst (λ (k : ℕ). mismatch_at v (claim_of b).centre l ≤ k) (sym (mismatch_here l)) (above (mismatch_at v (claim_of b).centre l) (part_of b l).mismatch (h.mismatch l p).0);
-    mismatches_most = λ l p. subst (λ (k : ℕ). k ≤ greatest_mismatch) (sym (mismatch_here l)) (below (mismatch_at v (claim_of b).centre l) (part_of b l).mismatch (h.mismatch l p).0 (h.mismatch l p).1);
-    bounded = all_bounded v.size (entry b.inverse) (jacobian_entry v (claim_of b).centre) (slope_radius v (claim_of b).centre) (weight_at v (claim_of b).centre) (number_at (sizes_of (claim_of b).mismatch)) certain;
+    mismatches_least = λ l p. subst (λ (k : ℕ). mismatch_at v (claim_of b).centre l ≤ k) (sym (mismatch_here l))
+        (above (mismatch_at v (claim_of b).centre l) (part_of b l).mismatch (h.mismatch l p).0);
+    mismatches_most = λ l p. subst (λ (k : ℕ). k ≤ greatest_mismatch) (sym (mismatch_here l))
+        (below (mismatch_at v (claim_of b).centre l) (part_of b l).mismatch (h.mismatch l p).0 (h.mismatch l p).1);
+    bounded = all_bounded v.size (entry b.inverse) (jacobian_entry v (claim_of b).centre)
+        (slope_radius v (claim_of b).centre) (weight_at v (claim_of b).centre)
+        (number_at (sizes_of (claim_of b).mismatch)) certain;
     radii_long = length-map b.parts (λ (p : Part). nat_abs p.radius) ∙ many;
-    radii_least = λ i p. subst (λ (k : ℕ). radius_in v (claim_of b).centre b.inverse (sizes_of (claim_of b).mismatch) i ≤ k) (sym (radius_here i)) (above (radius_in v (claim_of b).centre b.inverse (sizes_of (claim_of b).mismatch) i) (part_of b i).radius (h.radius i p));
+    radii_least = λ i p. subst
+        (λ (k : ℕ). radius_in v (claim_of b).centre b.inverse (sizes_of (claim_of b).mismatch) i ≤ k)
+        (sym (radius_here i))
+        (above (radius_in v (claim_of b).centre b.inverse (sizes_of (claim_of b).mismatch) i) (part_of b i).radius (h.radius i p));
     radii_most = λ i p. subst (λ (k : ℕ). k ≤ 2 ^ 40) (sym (radius_here i)) (h.range i p).radius;
   }
 

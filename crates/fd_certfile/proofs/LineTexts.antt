@@ -22,6 +22,7 @@ unfolding line_by_fields line_by
 by_fields word None = by_none word
 by_fields word (Some numbers) = refl
 
-pub line_parted : (text word : List ℕ) (fields : List (List ℕ)) → slice_split is_blank text ≡ word ∷ fields → line_by_fields word (numbers_of fields) ≡ line_of text
+pub line_parted : (text word : List ℕ) (fields : List (List ℕ)) → slice_split is_blank text ≡ word ∷ fields
+    → line_by_fields word (numbers_of fields) ≡ line_of text
 unfolding line_of
 line_parted text word fields e = by_fields word (numbers_of fields) ∙ sym (ap line_in e)

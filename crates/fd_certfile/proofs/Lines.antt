@@ -28,7 +28,8 @@ by_again other h = absurd h
 
 pub line_again : (line : Line) → IsLine line → line_of (text_of line) ≡ line
 unfolding line_of
-line_again line h = ap line_in (split_text line h.1) ∙ ap (line_with (word_of line)) (numbers_again (numbers_in line) h.1) ∙ by_again line h.0
+line_again line h = ap line_in (split_text line h.1)
+    ∙ ap (line_with (word_of line)) (numbers_again (numbers_in line) h.1) ∙ by_again line h.0
 
 -- ---- what is read is a line's text
 
@@ -77,7 +78,9 @@ by_found word numbers =
     cond_both (text_eq word (codes "act")) _ _ (IsBy word numbers) (λ e. act_by word (same_from word _ e) numbers) (λ _.
     cond_both (text_eq word (codes "end")) _ _ (IsBy word numbers) (λ e. end_by word (same_from word _ e) numbers) (λ _ h. absurd h))))))
 
-with_found : (word : List ℕ) (fields : List (List ℕ)) (o : Option (List ℤ)) → numbers_of fields ≡ o → IsKnown (line_with word o) → (word ∷ fields ≡ word_of (line_with word o) ∷ map signed_decimal (numbers_in (line_with word o))) × AllByRecursion IsNumber (numbers_in (line_with word o))
+with_found : (word : List ℕ) (fields : List (List ℕ)) (o : Option (List ℤ)) → numbers_of fields ≡ o
+    → IsKnown (line_with word o)
+    → (word ∷ fields ≡ word_of (line_with word o) ∷ map signed_decimal (numbers_in (line_with word o))) × AllByRecursion IsNumber (numbers_in (line_with word o))
 with_found word fields None f h = absurd h
 with_found word fields (Some zs) f h =
     let a = numbers_found fields zs f in
@@ -88,7 +91,8 @@ with_found word fields (Some zs) f h =
     let P : List ℤ → Type 0 = λ ys. (word ∷ fields ≡ word_of (line_by word zs) ∷ map signed_decimal ys) × AllByRecursion IsNumber ys in
     subst P ns (ap (λ (v : List ℕ). v ∷ fields) w ∙ ap (λ (gs : List (List ℕ)). word_of (line_by word zs) ∷ gs) fs, a.1)
 
-in_found : (parts : List (List ℕ)) → IsKnown (line_in parts) → (parts ≡ word_of (line_in parts) ∷ map signed_decimal (numbers_in (line_in parts))) × AllByRecursion IsNumber (numbers_in (line_in parts))
+in_found : (parts : List (List ℕ)) → IsKnown (line_in parts)
+    → (parts ≡ word_of (line_in parts) ∷ map signed_decimal (numbers_in (line_in parts))) × AllByRecursion IsNumber (numbers_in (line_in parts))
 in_found [] h = absurd h
 in_found (word ∷ fields) h = with_found word fields (numbers_of fields) refl h
 
@@ -103,26 +107,31 @@ line_found text h =
 split_some : (bytes : List ℕ) → 0 < length (slice_split is_feed bytes)
 split_some bytes = omega (arith, length-slice_split is_feed bytes)
 
-in_cons : (text : List ℕ) (parts : List (List ℕ)) → 0 < length parts → lines_in (text ∷ parts) ≡ line_of text ∷ lines_in parts
+in_cons : (text : List ℕ) (parts : List (List ℕ)) → 0 < length parts
+    → lines_in (text ∷ parts) ≡ line_of text ∷ lines_in parts
 in_cons text [] h = absurd (omega (arith, h))
 in_cons text (part ∷ parts) h = refl
 
 -- a text, its line feed, and more
-pub of_cons : (text bytes : List ℕ) → All (λ c. is_feed c ≡ false) text → lines_of (text ++ 10 ∷ bytes) ≡ line_of text ∷ lines_of bytes
+pub of_cons : (text bytes : List ℕ) → All (λ c. is_feed c ≡ false) text
+    → lines_of (text ++ 10 ∷ bytes) ≡ line_of text ∷ lines_of bytes
 unfolding lines_of
-of_cons text bytes h = ap lines_in (slice_split_at is_feed text 10 bytes h refl) ∙ in_cons text (slice_split is_feed bytes) (split_some bytes)
+of_cons text bytes h = ap lines_in (slice_split_at is_feed text 10 bytes h refl)
+    ∙ in_cons text (slice_split is_feed bytes) (split_some bytes)
 
 pub of_last : (bytes : List ℕ) → All (λ c. is_feed c ≡ false) bytes → lines_of bytes ≡ rest_of bytes
 unfolding lines_of
 of_last bytes h = ap lines_in (slice_split_none is_feed bytes h)
 
-bytes_cons : (line : Line) (lines : List Line) (tail : List ℕ) → bytes_of (line ∷ lines) ++ tail ≡ text_of line ++ 10 ∷ (bytes_of lines ++ tail)
+bytes_cons : (line : Line) (lines : List Line) (tail : List ℕ)
+    → bytes_of (line ∷ lines) ++ tail ≡ text_of line ++ 10 ∷ (bytes_of lines ++ tail)
 bytes_cons line lines tail =
     ap (λ (x : List ℕ). x ++ tail) (flat_map-cons (λ l. text_of l ++ 10 ∷ []) line lines)
     ∙ ap (λ (x : List ℕ). x ++ tail) (append_assoc (text_of line) (10 ∷ []) (bytes_of lines))
     ∙ append_assoc (text_of line) (10 ∷ bytes_of lines) tail
 
-pub lines_again : (lines : List Line) (tail : List ℕ) → AllByRecursion IsLine lines → lines_of (bytes_of lines ++ tail) ≡ lines ++ lines_of tail
+pub lines_again : (lines : List Line) (tail : List ℕ) → AllByRecursion IsLine lines
+    → lines_of (bytes_of lines ++ tail) ≡ lines ++ lines_of tail
 lines_again [] tail h = refl
 lines_again (line ∷ lines) tail h =
     ap lines_of (bytes_cons line lines tail)
@@ -169,25 +178,30 @@ pub record Begins (bytes : List ℕ) (lines rest : List Line) : Type 0 where
   pub rest_is : lines_of tail ≡ rest
   pub fits : AllByRecursion IsLine lines
 
-begins_more : (bytes : List ℕ) (line : Line) (lines rest : List Line) (k : Cut bytes) → line_of k.text ≡ line → IsKnown line → Begins k.more lines rest → Begins bytes (line ∷ lines) rest
+begins_more : (bytes : List ℕ) (line : Line) (lines rest : List Line) (k : Cut bytes) → line_of k.text ≡ line
+    → IsKnown line → Begins k.more lines rest → Begins bytes (line ∷ lines) rest
 begins_more bytes line lines rest k e h b =
     let found = line_found k.text (subst IsKnown (sym e) h) in
     let text : k.text ≡ text_of line = found.0 ∙ ap text_of e in
     record {
       tail = b.tail;
-      whole = k.whole ∙ ap (λ (t : List ℕ). t ++ 10 ∷ k.more) text ∙ ap (λ (t : List ℕ). text_of line ++ 10 ∷ t) b.whole ∙ sym (bytes_cons line lines b.tail);
+      whole = k.whole ∙ ap (λ (t : List ℕ). t ++ 10 ∷ k.more) text ∙ ap (λ (t : List ℕ). text_of line ++ 10 ∷ t) b.whole
+          ∙ sym (bytes_cons line lines b.tail);
       rest_is = b.rest_is;
       fits = (subst IsLine e found.1, b.fits);
     }
 
-pub lines_found : (lines rest : List Line) (bytes : List ℕ) → AllByRecursion IsKnown lines → lines_of bytes ≡ lines ++ rest → Begins bytes lines rest
+pub lines_found : (lines rest : List Line) (bytes : List ℕ) → AllByRecursion IsKnown lines
+    → lines_of bytes ≡ lines ++ rest → Begins bytes lines rest
 lines_found [] rest bytes h e = record { tail = bytes; whole = refl; rest_is = e; fits = tt }
 lines_found (line ∷ lines) rest bytes h e =
     let go = lines_found lines rest in
     elim (cut bytes) [
       | inl none ↦ absurd (rest_known bytes line (lines ++ rest) (sym (of_last bytes (All-from_recursion (λ c. is_feed c ≡ false) bytes none)) ∙ e) h.0)
       | inr k ↦
-          let f : line_of k.text ∷ lines_of k.more ≡ line ∷ (lines ++ rest) = sym (of_cons k.text k.more (All-from_recursion (λ c. is_feed c ≡ false) k.text k.lacks)) ∙ sym (ap lines_of k.whole) ∙ e in
+          let f : line_of k.text ∷ lines_of k.more ≡ line ∷ (lines ++ rest) = sym
+          (of_cons k.text k.more (All-from_recursion (λ c. is_feed c ≡ false) k.text k.lacks))
+          ∙ sym (ap lines_of k.whole) ∙ e in
           let first : line_of k.text ≡ line = cc in
           let others : lines_of k.more ≡ lines ++ rest = cc in
           begins_more bytes line lines rest k first h.0 (go k.more h.1 others)

@@ -46,7 +46,8 @@ pub numbers_again : (zs : List ℤ) → AllByRecursion IsNumber zs → numbers_o
 numbers_again [] h = refl
 numbers_again (z ∷ zs) h = rw (number_again z h.0, numbers_again zs h.1) refl
 
-pub numbers_found : (texts : List (List ℕ)) (zs : List ℤ) → numbers_of texts ≡ Some zs → (texts ≡ map signed_decimal zs) × AllByRecursion IsNumber zs
+pub numbers_found : (texts : List (List ℕ)) (zs : List ℤ) → numbers_of texts ≡ Some zs
+    → (texts ≡ map signed_decimal zs) × AllByRecursion IsNumber zs
 numbers_found [] zs e = let nil : [] ≡ zs = cc in subst (λ (ys : List ℤ). ([] ≡ map signed_decimal ys) × AllByRecursion IsNumber ys) nil (refl, tt)
 numbers_found (text ∷ texts) zs e =
     let first = and_then_some (λ z. option_map (λ ys. z ∷ ys) (numbers_of texts)) (number_of text) zs e in

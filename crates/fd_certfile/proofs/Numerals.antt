@@ -30,7 +30,8 @@ module _ (ds : List ℕ) (h : IsSize ds) where
   small : (k : ℕ) → digits_value 10 (take k ds) < 10 ^ 64
   small k = omega (arith, digits_value-take-le 10 ds k (omega arith), h.small)
 
-  digit : (i : ℕ) → i < length ds → (digit_value (get_or ds i 0) + 48 ≡ get_or ds i 0) × (digit_value (get_or ds i 0) < 10)
+  digit : (i : ℕ) → i < length ds
+      → (digit_value (get_or ds i 0) + 48 ≡ get_or ds i 0) × (digit_value (get_or ds i 0) < 10)
   digit i l = let r = digit_at ds i h.numeral.1 l in let e = digit_value_digit (get_or ds i 0) r in (e, omega (arith, e, r.1))
 
   one_digit : IsFront ds 1
@@ -40,7 +41,8 @@ module _ (ds : List ℕ) (h : IsSize ds) where
       let front : take 1 ds ≡ get_or ds 0 0 ∷ [] = take_more ds 0 0 l in
       let worth : digits_value 10 (take 1 ds) ≡ digit_value (get_or ds 0 0) = omega (arith, digits_value_more 10 ds 0 l) in
       record {
-        same = ap decimal worth ∙ decimal_digit (digit_value (get_or ds 0 0)) d.1 ∙ ap (λ (c : ℕ). c ∷ []) (omega (arith, d.0)) ∙ sym front;
+        same = ap decimal worth ∙ decimal_digit (digit_value (get_or ds 0 0)) d.1
+            ∙ ap (λ (c : ℕ). c ∷ []) (omega (arith, d.0)) ∙ sym front;
         more = λ m. elim (cases_lt 0 (digit_value (get_or ds 0 0))) [
           | inl above ↦ omega (arith, worth, above)
           | inr none ↦ absurd (first_not_zero ds m h.no_zero (omega (arith, none, d.0)))
@@ -104,9 +106,11 @@ size_of_decimal n l =
 pub plain_number : (ds : List ℕ) → IsSize ds → number_of ds ≡ Some (pos (digits_value 10 ds))
 plain_number ds h = ap number_of (sym (decimal_again ds h)) ∙ number_again (pos (digits_value 10 ds)) h.small
 
-pub minus_number : (ds : List ℕ) → IsSize ds → (n : ℕ) → digits_value 10 ds ≡ suc n → number_of (45 ∷ ds) ≡ Some (negsuc n)
+pub minus_number : (ds : List ℕ) → IsSize ds → (n : ℕ) → digits_value 10 ds ≡ suc n
+    → number_of (45 ∷ ds) ≡ Some (negsuc n)
 minus_number ds h n e =
-    ap (λ (t : List ℕ). number_of (45 ∷ t)) (sym (decimal_again ds h) ∙ ap decimal e) ∙ number_again (negsuc n) (omega (arith, h.small, e))
+    ap (λ (t : List ℕ). number_of (45 ∷ t)) (sym (decimal_again ds h) ∙ ap decimal e)
+    ∙ number_again (negsuc n) (omega (arith, h.small, e))
 
 none_from : (text : List ℕ) → ((z : ℤ) → text ≡ signed_decimal z → IsNumber z → ⊥) → number_of text ≡ None
 none_from text h = go (number_of text) refl where
@@ -143,11 +147,13 @@ minus_none ds h = none_from (45 ∷ ds) (minus h) where
       let d = decimal_is_IsNumeral_wide (suc n) (omega arith) in
       omega (arith, zero_worth, ap (digits_value 10) (tail_same 45 45 ds (decimal (suc n)) e), d.1)
 
-pub above_number : (o : Option ℕ) (ds : List ℕ) → IsNoMinus ds → SomeIff o (IsSize ds) (digits_value 10 ds) → option_map pos o ≡ number_of ds
+pub above_number : (o : Option ℕ) (ds : List ℕ) → IsNoMinus ds → SomeIff o (IsSize ds) (digits_value 10 ds)
+    → option_map pos o ≡ number_of ds
 above_number None ds m h = sym (plain_none ds m h)
 above_number (Some n) ds m h = ap (λ (k : ℕ). Some (pos k)) h.1 ∙ sym (plain_number ds h.0)
 
-pub below_number : (o : Option ℕ) (ds : List ℕ) → SomeIff o (IsSize ds) (digits_value 10 ds) → option_and_then below_zero o ≡ number_of (45 ∷ ds)
+pub below_number : (o : Option ℕ) (ds : List ℕ) → SomeIff o (IsSize ds) (digits_value 10 ds)
+    → option_and_then below_zero o ≡ number_of (45 ∷ ds)
 below_number None ds h = sym (minus_none ds (inl h))
 below_number (Some zero) ds h = sym (minus_none ds (inr (sym h.1)))
 below_number (Some (suc n)) ds h = sym (minus_number ds h.0 n (sym h.1))
@@ -160,10 +166,13 @@ no_minus : (field : List ℕ) → is_negative field ≡ false → IsNoMinus fiel
 no_minus [] e = tt
 no_minus (c ∷ cs) e = eqb-false c 45 e
 
-pub plain_field : (o : Option ℕ) (field : List ℕ) → is_negative field ≡ false → SomeIff o (IsSize field) (digits_value 10 field) → option_map pos o ≡ number_of field
+pub plain_field : (o : Option ℕ) (field : List ℕ) → is_negative field ≡ false
+    → SomeIff o (IsSize field) (digits_value 10 field) → option_map pos o ≡ number_of field
 plain_field o field e h = above_number o field (no_minus field e) h
 
-pub minus_field : (o : Option ℕ) (field : List ℕ) → is_negative field ≡ true → SomeIff o (IsSize (drop 1 field)) (digits_value 10 (drop 1 field)) → option_and_then below_zero o ≡ number_of field
+pub minus_field : (o : Option ℕ) (field : List ℕ) → is_negative field ≡ true
+    → SomeIff o (IsSize (drop 1 field)) (digits_value 10 (drop 1 field))
+    → option_and_then below_zero o ≡ number_of field
 minus_field o [] e h = absurd cc
 minus_field o (c ∷ cs) e h = below_number o cs h ∙ ap (λ (d : ℕ). number_of (d ∷ cs)) (sym (eqb-true c 45 e))
 
@@ -173,7 +182,8 @@ negative_some (c ∷ cs) e = omega arith
 
 -- ---- one digit more
 
-pub digit_some : (ds : List ℕ) (i v next : ℕ) → i < length ds → AllDigits 10 (take i ds) → v ≡ digits_value 10 (take i ds)
+pub digit_some : (ds : List ℕ) (i v next : ℕ) → i < length ds → AllDigits 10 (take i ds)
+    → v ≡ digits_value 10 (take i ds)
     → SomeIff (Some next) ((digit_value (get_or ds i 0) < 10) × (v * 10 + digit_value (get_or ds i 0) < 2 ^ 128)) (v * 10 + digit_value (get_or ds i 0))
     → AllDigits 10 (take (i + 1) ds) × (next ≡ digits_value 10 (take (i + 1) ds))
 digit_some ds i v next l a e h = (digits_more 10 ds i l a h.0.0, omega (arith, h.1, e, digits_value_more 10 ds i l))

@@ -8,7 +8,8 @@ use Rattle.fd_certfile.proofs.Blocks.{ReadsAgain, IsFound, IsWide, Anything, any
 
 -- ---- numbered lines
 
-bind_err : {A B : Type 0} (r : Result A (List Line)) (f : A → Result B (List Line)) (d : List Line) (P : Type 0) → (r >>= f) ≡ Err d → (r ≡ Err d → P) → ((x : A) → r ≡ Ok x → f x ≡ Err d → P) → P
+bind_err : {A B : Type 0} (r : Result A (List Line)) (f : A → Result B (List Line)) (d : List Line) (P : Type 0)
+    → (r >>= f) ≡ Err d → (r ≡ Err d → P) → ((x : A) → r ≡ Ok x → f x ≡ Err d → P) → P
 bind_err (Ok x) f d P e at_err at_ok = at_ok x refl e
 bind_err (Err c) f d P e at_err at_ok = at_err cc
 
@@ -20,14 +21,17 @@ record Cut {X : Type 0} (read : ℕ → Line → Option X) (line : ℕ → X →
   lines_are : lines ≡ numbered_lines line i xs ++ rest
   short : length xs < n
   right : AllByRecursion IsRight xs
-  refused : (more : List Line) → numbered_at read n i (numbered_lines line i xs ++ with_first rest more) ≡ Err (with_first rest more)
+  refused : (more : List Line)
+      → numbered_at read n i (numbered_lines line i xs ++ with_first rest more) ≡ Err (with_first rest more)
 
 module _ {X : Type 0} (read : ℕ → Line → Option X) (line : ℕ → X → Line) (IsRight : X → Type 0) where
   read_err : (lines : List Line) (o : Option X) (d : List Line) → or_refused lines o ≡ Err d → (o ≡ None) × (lines ≡ d)
   read_err lines None d e = (refl, cc)
   read_err lines (Some x) d e = absurd cc
 
-  cut_more : (n i : ℕ) (l : Line) (lines rest : List Line) (x : X) → ReadsAgain read line IsRight → (l ≡ line i x) × IsRight x → Cut read line IsRight n (suc i) lines rest → Cut read line IsRight (suc n) i (l ∷ lines) rest
+  cut_more : (n i : ℕ) (l : Line) (lines rest : List Line) (x : X) → ReadsAgain read line IsRight
+      → (l ≡ line i x) × IsRight x → Cut read line IsRight n (suc i) lines rest
+      → Cut read line IsRight (suc n) i (l ∷ lines) rest
   cut_more n i l lines rest x again first k = record {
     xs = x ∷ k.xs;
     lines_are = ap (λ (m : Line). m ∷ lines) first.0 ∙ ap (λ (ls : List Line). line i x ∷ ls) (rw add-one k.lines_are);
@@ -39,14 +43,17 @@ module _ {X : Type 0} (read : ℕ → Line → Option X) (line : ℕ → X → L
         rw (here, add-one, there) refl;
   }
 
-  refused_here : (n i : ℕ) (l : Line) (lines : List Line) → read i l ≡ None → Cut read line IsRight (suc n) i (l ∷ lines) (l ∷ lines)
+  refused_here : (n i : ℕ) (l : Line) (lines : List Line) → read i l ≡ None
+      → Cut read line IsRight (suc n) i (l ∷ lines) (l ∷ lines)
   refused_here n i l lines e = record { xs = []; lines_are = refl; short = omega arith; right = tt; refused = λ more. rw e refl }
 
-  numbered_refused : ReadsAgain read line IsRight → IsFound read line IsRight → (n i : ℕ) (lines rest : List Line) → numbered_at read n i lines ≡ Err rest → Cut read line IsRight n i lines rest
+  numbered_refused : ReadsAgain read line IsRight → IsFound read line IsRight → (n i : ℕ) (lines rest : List Line)
+      → numbered_at read n i lines ≡ Err rest → Cut read line IsRight n i lines rest
   numbered_refused again found zero i lines rest e = absurd cc
   numbered_refused again found (suc n) i [] rest e =
       let same : [] ≡ rest = cc in
-      subst (λ (r : List Line). Cut read line IsRight (suc n) i [] r) same (record { xs = []; lines_are = refl; short = omega arith; right = tt; refused = λ more. refl })
+      subst (λ (r : List Line). Cut read line IsRight (suc n) i [] r) same
+      (record { xs = []; lines_are = refl; short = omega arith; right = tt; refused = λ more. refl })
   numbered_refused again found (suc n) i (l ∷ lines) rest e =
       let below = λ (h : numbered_at read n (suc i) lines ≡ Err rest). numbered_refused again found n (suc i) lines rest h in
       bind_err (or_refused (l ∷ lines) (read i l)) (λ x. numbered_at read n (suc i) lines >>= λ xs. Ok (x ∷ xs.0, xs.1)) rest _ e
@@ -57,7 +64,8 @@ module _ {X : Type 0} (read : ℕ → Line → Option X) (line : ℕ → X → L
 
 -- ---- a front that is filled up to a block
 
-enumerate-append : {X : Type 0} (line : ℕ → X → Line) (i : ℕ) (xs ys : List X) → numbered_lines line i (xs ++ ys) ≡ numbered_lines line i xs ++ numbered_lines line (i + length xs) ys
+enumerate-append : {X : Type 0} (line : ℕ → X → Line) (i : ℕ) (xs ys : List X)
+    → numbered_lines line i (xs ++ ys) ≡ numbered_lines line i xs ++ numbered_lines line (i + length xs) ys
 enumerate-append line i [] ys = ap (λ (k : ℕ). numbered_lines line k ys) (omega arith)
 enumerate-append line i (x ∷ xs) ys =
     ap (λ (ls : List Line). line i x ∷ ls) (enumerate-append line (i + 1) xs ys
@@ -66,7 +74,8 @@ enumerate-append line i (x ∷ xs) ys =
 filled : {X : Type 0} (xs : List X) (x : X) (n : ℕ) → length xs ≤ n → length (xs ++ replicate (n - length xs) x) ≡ n
 filled xs x n h = omega (arith, length-append xs (replicate (n - length xs) x), length-replicate (n - length xs) x)
 
-right_append : {X : Type 0} (P : X → Type 0) (xs ys : List X) → AllByRecursion P xs → AllByRecursion P ys → AllByRecursion P (xs ++ ys)
+right_append : {X : Type 0} (P : X → Type 0) (xs ys : List X) → AllByRecursion P xs → AllByRecursion P ys
+    → AllByRecursion P (xs ++ ys)
 right_append P [] ys h k = k
 right_append P (x ∷ xs) ys h k = (h.0, right_append P xs ys h.1 k)
 
@@ -81,7 +90,8 @@ nothing : Part
 nothing = record { centre = pos 0; radius = pos 0; mismatch = pos 0 }
 
 module _ (v : Version) (number hour round size : ℤ) where
-  begins_with_parts : (ps : List Part) → length ps ≤ count_of size → BeginsBlock v (solution number hour round size ∷ numbered_lines part_line 0 ps)
+  begins_with_parts : (ps : List Part) → length ps ≤ count_of size
+      → BeginsBlock v (solution number hour round size ∷ numbered_lines part_line 0 ps)
   unfolding zeros
   begins_with_parts ps h =
       let n = count_of size in
@@ -90,13 +100,16 @@ module _ (v : Version) (number hour round size : ℤ) where
       let tail = numbered_lines (row_line v) 0 rows ++ [] in
       record {
         block = record { number = number; hour = hour; round = round; size = size; parts = ps ++ others; inverse = rows; acts = [] };
-        sized = record { parts = filled ps nothing n h; rows = length-replicate n (zeros n); entries = right_replicate (IsWide n) n (zeros n) (length-replicate n (pos 0)) };
+        sized = record
+            { parts = filled ps nothing n h; rows = length-replicate n (zeros n); entries = right_replicate (IsWide n) n (zeros n) (length-replicate n (pos 0)) };
         more = numbered_lines part_line (0 + length ps) others ++ tail;
         lines_are = ap (λ (ls : List Line). solution number hour round size ∷ ls)
             (ap (λ (ls : List Line). ls ++ tail) (enumerate-append part_line 0 ps others) ∙ append_assoc (numbered_lines part_line 0 ps) (numbered_lines part_line (0 + length ps) others) tail);
       }
 
-  begins_with_rows : (ps : List Part) (rs : List (List ℤ)) → length ps ≡ count_of size → length rs ≤ count_of size → AllByRecursion (IsWide (count_of size)) rs → BeginsBlock v (solution number hour round size ∷ (numbered_lines part_line 0 ps ++ numbered_lines (row_line v) 0 rs))
+  begins_with_rows : (ps : List Part) (rs : List (List ℤ)) → length ps ≡ count_of size → length rs ≤ count_of size
+      → AllByRecursion (IsWide (count_of size)) rs
+      → BeginsBlock v (solution number hour round size ∷ (numbered_lines part_line 0 ps ++ numbered_lines (row_line v) 0 rs))
   unfolding zeros
   begins_with_rows ps rs e h right =
       let n = count_of size in
@@ -112,7 +125,8 @@ module _ (v : Version) (number hour round size : ℤ) where
         more = tail;
         lines_are = ap (λ (ls : List Line). solution number hour round size ∷ ls)
             (ap (λ (ls : List Line). numbered_lines part_line 0 ps ++ (ls ++ [])) (enumerate-append (row_line v) 0 rs others)
-            ∙ ap (λ (ls : List Line). numbered_lines part_line 0 ps ++ ls) (append_assoc (numbered_lines (row_line v) 0 rs) (numbered_lines (row_line v) (0 + length rs) others) [])
+            ∙ ap (λ (ls : List Line). numbered_lines part_line 0 ps ++ ls)
+            (append_assoc (numbered_lines (row_line v) 0 rs) (numbered_lines (row_line v) (0 + length rs) others) [])
             ∙ sym (append_assoc (numbered_lines part_line 0 ps) (numbered_lines (row_line v) 0 rs) tail));
       }
 
@@ -161,7 +175,8 @@ first_no_solution (other ∷ lines) more h = tt
 pub same_err : {A : Type 0} {r : Result A (List Line)} {c d : List Line} → r ≡ Err c → r ≡ Err d → c ≡ d
 same_err e f = cc
 
-at_once : (v : Version) (lines rest : List Line) → IsNoSolution lines → block_at v lines ≡ Err rest → Refuses v lines rest
+at_once : (v : Version) (lines rest : List Line) → IsNoSolution lines → block_at v lines ≡ Err rest
+    → Refuses v lines rest
 at_once v lines rest h e =
     let same : lines ≡ rest = same_err (no_solution v lines h) e in
     record {
@@ -172,12 +187,17 @@ at_once v lines rest h e =
           (refused_begins v (with_first lines more) (with_first lines more) (no_solution v (with_first lines more) (first_no_solution lines more h)));
     }
 
-solution_refused : (v : Version) (number hour round size : ℤ) (lines rest : List Line) → block_at v (solution number hour round size ∷ lines) ≡ Err rest → Refuses v (solution number hour round size ∷ lines) rest
+solution_refused : (v : Version) (number hour round size : ℤ) (lines rest : List Line)
+    → block_at v (solution number hour round size ∷ lines) ≡ Err rest
+    → Refuses v (solution number hour round size ∷ lines) rest
 unfolding block_at
 solution_refused v number hour round size lines rest e =
     let n = count_of size in
     let first = solution number hour round size in
-    let rows_then : List Part → List (List ℤ) × List Line → Result (Block × List Line) (List Line) = λ parts rows. let acts = acts_at rows.1 in Ok (record { number = number; hour = hour; round = round; size = size; parts = parts; inverse = rows.0; acts = acts.0 }, acts.1) in
+    let rows_then : List Part → List (List ℤ) × List Line → Result (Block × List Line) (List Line) = λ parts rows. let
+    acts = acts_at rows.1 in Ok
+    (record { number = number; hour = hour; round = round; size = size; parts = parts; inverse = rows.0; acts = acts.0 }, acts.1)
+    in
     bind_err (numbered_at part_at n 0 lines) (λ parts. numbered_at (row_at v n) n 0 parts.1 >>= λ rows. rows_then parts.0 rows) rest _ e
     (λ failed.
     let k = numbered_refused part_at part_line Anything part_again part_found n 0 lines rest failed in
@@ -185,7 +205,8 @@ solution_refused v number hour round size lines rest e =
       front = first ∷ numbered_lines part_line 0 k.xs;
       lines_are = ap (λ (ls : List Line). first ∷ ls) k.lines_are;
       begins = begins_with_parts v number hour round size k.xs (omega (arith, k.short));
-      refused = λ more. refused_begins v _ (with_first rest more) (ap (λ r. r >>= λ parts. numbered_at (row_at v n) n 0 parts.1 >>= λ rows. rows_then parts.0 rows) (k.refused more));
+      refused = λ more. refused_begins v _ (with_first rest more)
+          (ap (λ r. r >>= λ parts. numbered_at (row_at v n) n 0 parts.1 >>= λ rows. rows_then parts.0 rows) (k.refused more));
     })
     (λ parts done f.
     let found = numbered_found part_at part_line Anything part_found n 0 lines parts done in

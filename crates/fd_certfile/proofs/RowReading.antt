@@ -35,22 +35,27 @@ kept_append true xs ys = refl
 kept_append false xs ys = refl
 
 module _ (keep : Bool) (old new : List ℤ) (all : List (List ℕ)) (i : ℕ) (rest : List (List ℕ)) (t : IsTaken keep old new all i rest) where
-  joined : (z : ℤ) (o : Option (List ℤ)) → option_map (λ zs. t.taken ++ zs) (option_map (λ zs. z ∷ zs) o) ≡ option_map (λ zs. (t.taken ++ z ∷ []) ++ zs) o
+  joined : (z : ℤ) (o : Option (List ℤ))
+      → option_map (λ zs. t.taken ++ zs) (option_map (λ zs. z ∷ zs) o) ≡ option_map (λ zs. (t.taken ++ z ∷ []) ++ zs) o
   joined z None = refl
   joined z (Some zs) = ap Some (sym (append_assoc t.taken (z ∷ []) zs))
 
-  pub taken_more : (z : ℤ) (more : List (List ℕ)) (next : List ℤ) → Some (z, more) ≡ first_number rest → next ≡ new ++ kept keep (z ∷ []) → IsTaken keep old next all (i + 1) more
+  pub taken_more : (z : ℤ) (more : List (List ℕ)) (next : List ℤ) → Some (z, more) ≡ first_number rest
+      → next ≡ new ++ kept keep (z ∷ []) → IsTaken keep old next all (i + 1) more
   taken_more z more next e f = record {
     taken = t.taken ++ z ∷ [];
     many = omega (arith, t.many, length-append t.taken (z ∷ []));
     same = t.same ∙ ap (option_map (λ zs. t.taken ++ zs)) (first_some rest z more e) ∙ joined z (numbers_of more);
-    added = f ∙ ap (λ (l : List ℤ). l ++ kept keep (z ∷ [])) t.added ∙ append_assoc old (kept keep t.taken) (kept keep (z ∷ [])) ∙ ap (λ (l : List ℤ). old ++ l) (sym (kept_append keep t.taken (z ∷ [])));
+    added = f ∙ ap (λ (l : List ℤ). l ++ kept keep (z ∷ [])) t.added
+        ∙ append_assoc old (kept keep t.taken) (kept keep (z ∷ []))
+        ∙ ap (λ (l : List ℤ). old ++ l) (sym (kept_append keep t.taken (z ∷ [])));
   }
 
   of_length : (n : ℕ) (zs : List ℤ) → length (t.taken ++ zs) ≢ n → row_of Whole n (t.taken ++ zs) ≡ None
   of_length n zs h = cond-false (nat_eq (length (t.taken ++ zs)) n) _ _ (ne_eqb (length (t.taken ++ zs)) n h)
 
-  read_is : (n : ℕ) (o : Option (List ℤ)) → numbers_of rest ≡ o → option_and_then (row_of Whole n) (numbers_of all) ≡ option_and_then (row_of Whole n) (option_map (λ zs. t.taken ++ zs) o)
+  read_is : (n : ℕ) (o : Option (List ℤ)) → numbers_of rest ≡ o
+      → option_and_then (row_of Whole n) (numbers_of all) ≡ option_and_then (row_of Whole n) (option_map (λ zs. t.taken ++ zs) o)
   read_is n o e = ap (option_and_then (row_of Whole n)) (t.same ∙ ap (option_map (λ zs. t.taken ++ zs)) e)
 
   few : (n : ℕ) → i < n → length (t.taken ++ []) ≡ n → ⊥
@@ -67,7 +72,8 @@ module _ (keep : Bool) (old new : List ℤ) (all : List (List ℕ)) (i : ℕ) (r
   pub taken_all : rest ≡ [] → (n : ℕ) → i ≡ n → RowIs keep old new (option_and_then (row_of Whole n) (numbers_of all))
   taken_all e n f = record {
     entries = t.taken;
-    same = read_is n (Some []) (ap numbers_of e) ∙ ap (row_of Whole n) (append-nil t.taken) ∙ cond-true (nat_eq (length t.taken) n) _ _ (eq-eqb (length t.taken) n (t.many ∙ f));
+    same = read_is n (Some []) (ap numbers_of e) ∙ ap (row_of Whole n) (append-nil t.taken)
+        ∙ cond-true (nat_eq (length t.taken) n) _ _ (eq-eqb (length t.taken) n (t.many ∙ f));
     added = t.added;
   }
 
@@ -75,7 +81,8 @@ module _ (keep : Bool) (old new : List ℤ) (all : List (List ℕ)) (i : ℕ) (r
   long n z zs f e = omega (arith, f, e, t.many, length-append t.taken (z ∷ zs))
 
   -- more fields than are due
-  pub taken_past : (text : List ℕ) → rest ≡ slice_split is_blank text → (n : ℕ) → i ≡ n → option_and_then (row_of Whole n) (numbers_of all) ≡ None
+  pub taken_past : (text : List ℕ) → rest ≡ slice_split is_blank text → (n : ℕ) → i ≡ n
+      → option_and_then (row_of Whole n) (numbers_of all) ≡ None
   taken_past text e n f =
       read_is n (numbers_of (slice_split is_blank text)) (ap numbers_of e)
       ∙ some_field (λ o. option_and_then (row_of Whole n) (option_map (λ zs. t.taken ++ zs) o)) None refl (λ z zs. of_length n (z ∷ zs) (long n z zs f)) text

@@ -38,7 +38,8 @@ starts_pairs j k (e ∷ entries) l =
     ]
 
 -- where no pair has this place, the entry is 0
-skipped : (n j : ℕ) (fields : List ℤ) (r : List ℤ) → StartsFrom (suc j) fields → entries_at n (suc j) fields ≡ Some r → entries_at (suc n) j fields ≡ Some (pos 0 ∷ r)
+skipped : (n j : ℕ) (fields : List ℤ) (r : List ℤ) → StartsFrom (suc j) fields → entries_at n (suc j) fields ≡ Some r
+    → entries_at (suc n) j fields ≡ Some (pos 0 ∷ r)
 skipped n j [] r s e = ap (option_map (λ r. pos 0 ∷ r)) e
 skipped zero j (p ∷ []) r s e = absurd cc
 skipped (suc n) j (p ∷ []) r s e = absurd cc
@@ -61,7 +62,8 @@ entries_again j (e ∷ entries) =
           (cond-true (is_place j (pos j)) _ _ (is_place_self j) ∙ cond-false (is_zero e) _ _ isnt ∙ ap (option_map (λ r. e ∷ r)) rest)
     ]
 
-pub row_again : (v : Version) (n : ℕ) (entries : List ℤ) → length entries ≡ n → row_of v n (fields_of v entries) ≡ Some entries
+pub row_again : (v : Version) (n : ℕ) (entries : List ℤ) → length entries ≡ n
+    → row_of v n (fields_of v entries) ≡ Some entries
 row_again Whole n entries h = cond-true (nat_eq (length entries) n) (Some entries) None (eq-eqb (length entries) n h)
 row_again Sparse n entries h = subst (λ (m : ℕ). row_of Sparse m (fields_of Sparse entries) ≡ Some entries) h
     (ap (option_and_then (with_count (pos (count_by is_entry entries)))) (entries_again 0 entries) ∙ (cond-true (is_place (count_by is_entry entries) (pos (count_by is_entry entries))) (Some entries) None (is_place_self (count_by is_entry entries))))
@@ -71,7 +73,8 @@ row_again Sparse n entries h = subst (λ (m : ℕ). row_of Sparse m (fields_of S
 none_some : {A : Type 0} {x : A} → None ≡ Some x → ⊥
 none_some e = cc
 
-here_found : (n j : ℕ) (p e : ℤ) (fields entries : List ℤ) → is_place j p ≡ true → (if is_zero e then None else option_map (λ r. e ∷ r) (entries_at n (suc j) fields)) ≡ Some entries
+here_found : (n j : ℕ) (p e : ℤ) (fields entries : List ℤ) → is_place j p ≡ true
+    → (if is_zero e then None else option_map (λ r. e ∷ r) (entries_at n (suc j) fields)) ≡ Some entries
     → ((m : (r : List ℤ) × (entries_at n (suc j) fields ≡ Some r) × (e ∷ r ≡ entries)) → (length m.0 ≡ n) × (fields ≡ pairs_from (suc j) m.0))
     → (length entries ≡ suc n) × (p ∷ e ∷ fields ≡ pairs_from j entries)
 here_found n j p e fields entries here h rest_found =
@@ -84,7 +87,8 @@ here_found n j p e fields entries here h rest_found =
           (ap suc rest.0, rw (cond-false (is_zero e) [] (pos j ∷ e ∷ []) some, add-one) (ap (λ (q : ℤ). q ∷ e ∷ fields) (place_is j p here) ∙ ap (λ (f : List ℤ). pos j ∷ e ∷ f) rest.1))
     ]
 
-entries_found : (n j : ℕ) (fields entries : List ℤ) → entries_at n j fields ≡ Some entries → (length entries ≡ n) × (fields ≡ pairs_from j entries)
+entries_found : (n j : ℕ) (fields entries : List ℤ) → entries_at n j fields ≡ Some entries
+    → (length entries ≡ n) × (fields ≡ pairs_from j entries)
 entries_found zero j [] entries e = let nil : [] ≡ entries = cc in subst (λ (r : List ℤ). (length r ≡ 0) × ([] ≡ pairs_from j r)) nil (refl, refl)
 entries_found zero j (p ∷ fields) entries e = absurd cc
 entries_found (suc n) j [] entries e =
@@ -93,7 +97,8 @@ entries_found (suc n) j [] entries e =
     subst (λ (r : List ℤ). (length r ≡ suc n) × ([] ≡ pairs_from j r)) m.2 (ap suc rest.0, rw add-one rest.1)
 entries_found (suc n) j (p ∷ []) entries e = absurd cc
 entries_found (suc n) j (p ∷ e ∷ fields) entries h =
-    let skip = λ (m : (r : List ℤ) × (entries_at n (suc j) (p ∷ e ∷ fields) ≡ Some r) × (pos 0 ∷ r ≡ entries)). entries_found n (suc j) (p ∷ e ∷ fields) m.0 m.1 in
+    let skip = λ (m : (r : List ℤ) × (entries_at n (suc j) (p ∷ e ∷ fields) ≡ Some r) × (pos 0 ∷ r ≡ entries)).
+    entries_found n (suc j) (p ∷ e ∷ fields) m.0 m.1 in
     let take = λ (m : (r : List ℤ) × (entries_at n (suc j) fields ≡ Some r) × (e ∷ r ≡ entries)). entries_found n (suc j) fields m.0 m.1 in
     elim (cases_Bool (is_place j p)) [
       | inl here ↦ here_found n j p e fields entries here (sym (cond-true (is_place j p) _ _ here) ∙ h) take
@@ -103,12 +108,14 @@ entries_found (suc n) j (p ∷ e ∷ fields) entries h =
           subst (λ (r : List ℤ). (length r ≡ suc n) × (p ∷ e ∷ fields ≡ pairs_from j r)) m.2 (ap suc rest.0, rw add-one rest.1)
     ]
 
-count_found : (count : ℤ) (entries r : List ℤ) → with_count count entries ≡ Some r → (entries ≡ r) × (count ≡ pos (count_by is_entry r))
+count_found : (count : ℤ) (entries r : List ℤ) → with_count count entries ≡ Some r
+    → (entries ≡ r) × (count ≡ pos (count_by is_entry r))
 count_found count entries r e =
     let g = let_through (is_place (count_by is_entry entries) count) entries r e in
     (g.1, place_is (count_by is_entry entries) count g.0 ∙ ap (λ (x : List ℤ). pos (count_by is_entry x)) g.1)
 
-pub row_found : (v : Version) (n : ℕ) (fields entries : List ℤ) → row_of v n fields ≡ Some entries → (length entries ≡ n) × (fields ≡ fields_of v entries)
+pub row_found : (v : Version) (n : ℕ) (fields entries : List ℤ) → row_of v n fields ≡ Some entries
+    → (length entries ≡ n) × (fields ≡ fields_of v entries)
 row_found Whole n fields entries e =
     let g = let_through (nat_eq (length fields) n) fields entries e in
     (sym (ap length g.1) ∙ eqb-true (length fields) n g.0, g.1)

@@ -35,7 +35,8 @@ least_none (suc n) i test e j l m =
 
 least_all : (n i : ℕ) (test : ℕ → Bool) → ((j : ℕ) → i ≤ j → j < i + n → test j ≡ true) → least_from i n test ≡ None
 least_all zero i test h = refl
-least_all (suc n) i test h = cond-true (test i) _ _ (h i (omega arith) (omega arith)) ∙ least_all n (suc i) test (λ j l m. h j (omega (arith, l)) (omega (arith, m)))
+least_all (suc n) i test h = cond-true (test i) _ _ (h i (omega arith) (omega arith))
+    ∙ least_all n (suc i) test (λ j l m. h j (omega (arith, l)) (omega (arith, m)))
 
 pub record IsLeast (n i : ℕ) (test : ℕ → Bool) (k : ℕ) : Type 0 where
   pub from : i ≤ k
@@ -61,7 +62,8 @@ least_some (suc n) i test k e =
           }
       | inr fails ↦
           let same : i ≡ k = some_is (sym (cond-false (test i) _ _ fails) ∙ e) in
-          record { from = omega (arith, same); below = omega (arith, same); fails = sym (ap test same) ∙ fails; least = λ j l m. absurd (omega (arith, l, m, same)) }
+          record
+          { from = omega (arith, same); below = omega (arith, same); fails = sym (ap test same) ∙ fails; least = λ j l m. absurd (omega (arith, l, m, same)) }
     ]
 
 -- ---- the first rule
@@ -84,7 +86,8 @@ record Splits {X : Type 0} (os : List (Option X)) (x : X) : Type 0 where
 
 splits : {X : Type 0} (os : List (Option X)) (x : X) → first_some os ≡ Some x → Splits os x
 splits [] x e = absurd cc
-splits (None ∷ os) x e = let s = splits os x e in record { before = None ∷ s.before; after = s.after; os_are = ap (λ (l : List (Option _)). None ∷ l) s.os_are; hold = (refl, s.hold) }
+splits (None ∷ os) x e = let s = splits os x e in record
+    { before = None ∷ s.before; after = s.after; os_are = ap (λ (l : List (Option _)). None ∷ l) s.os_are; hold = (refl, s.hold) }
 splits (Some y ∷ os) x e = record { before = []; after = os; os_are = ap (λ z. Some z ∷ os) (some_is e); hold = tt }
 
 -- ---- one rule
@@ -121,7 +124,8 @@ Decides-place i (negsuc n) = (λ e. absurd cc, λ e. absurd cc)
 Decides-within : (limit : ℕ) (z : ℤ) → Decides (is_within limit z) (unsigned_abs z ≤ limit)
 Decides-within limit z = (leb-true (unsigned_abs z) limit, le-leb (unsigned_abs z) limit)
 
-Decides-all : {X : Type 0} (test : X → Bool) (P : X → Type 0) → ((x : X) → Decides (test x) (P x)) → (xs : List X) → Decides (list_all test xs) (AllByRecursion P xs)
+Decides-all : {X : Type 0} (test : X → Bool) (P : X → Type 0) → ((x : X) → Decides (test x) (P x)) → (xs : List X)
+    → Decides (list_all test xs) (AllByRecursion P xs)
 Decides-all test P h [] = (λ e. tt, λ e. refl)
 Decides-all test P h (x ∷ xs) = Decides-and (test x) (list_all test xs) (h x) (Decides-all test P h xs)
 
@@ -132,25 +136,30 @@ Decides-due judge b =
 
 Decides-range : (b : Block) (i : ℕ) → Decides (is_in_range b i) (IsInRange b i)
 Decides-range b i =
-    Decides-like (is_in_range b i) (λ h. record { centre = h.0; radius = h.1.0; not_negative = h.1.1.0; entries = h.1.1.1 }) (λ h. (h.centre, (h.radius, (h.not_negative, h.entries))))
+    Decides-like (is_in_range b i)
+    (λ h. record { centre = h.0; radius = h.1.0; not_negative = h.1.1.0; entries = h.1.1.1 })
+    (λ h. (h.centre, (h.radius, (h.not_negative, h.entries))))
     (Decides-and _ _ (Decides-within (2 ^ 40) (part_of b i).centre) (Decides-and _ _ (Decides-within (2 ^ 40) (part_of b i).radius)
     (Decides-and _ _ (Decides-le (pos 0) (part_of b i).radius) (Decides-all (is_within (2 ^ 56)) (λ e. unsigned_abs e ≤ 2 ^ 56) (Decides-within (2 ^ 56)) (row_of b i)))))
 
 act_same : (a b : Act) → a.time ≡ b.time → a.control ≡ b.control → a.steps ≡ b.steps → a ≡ b
 act_same a b t c s =
     let P : ℤ → ℤ → ℤ → Act = λ x y z. record { time = x; control = y; steps = z } in
-    ap (λ (x : ℤ). P x a.control a.steps) t ∙ ap (λ (y : ℤ). P b.time y a.steps) c ∙ ap (λ (z : ℤ). P b.time b.control z) s
+    ap (λ (x : ℤ). P x a.control a.steps) t ∙ ap (λ (y : ℤ). P b.time y a.steps) c
+    ∙ ap (λ (z : ℤ). P b.time b.control z) s
 
 Decides-act : (a b : Act) → Decides (same_act a b) (a ≡ b)
 Decides-act a b =
-    Decides-like (same_act a b) (λ h. let t : a.time ≡ b.time = h.0 in let c : a.control ≡ b.control = h.1.0 in let s : a.steps ≡ b.steps = h.1.1 in act_same a b t c s)
+    Decides-like (same_act a b)
+    (λ h. let t : a.time ≡ b.time = h.0 in let c : a.control ≡ b.control = h.1.0 in let s : a.steps ≡ b.steps = h.1.1 in act_same a b t c s)
     (λ h. (ap (λ (x : Act). x.time) h, (ap (λ (x : Act). x.control) h, ap (λ (x : Act). x.steps) h)))
     (Decides-and _ _ (Decides-int_eq a.time b.time) (Decides-and _ _ (Decides-int_eq a.control b.control) (Decides-int_eq a.steps b.steps)))
 
 Decides-acts : (xs ys : List Act) → Decides (pointwise same_act xs ys) (xs ≡ ys)
 Decides-acts xs ys = slice_eq-Decides Decides-act xs ys (pointwise same_act xs ys) refl
 
-moves_from : (s : Sampled) (acts : List Act) → not (is_undecided s) ≡ true → pointwise same_act (acts_due s) acts ≡ true → not (is_limit s) ≡ true → s ≡ moves acts
+moves_from : (s : Sampled) (acts : List Act) → not (is_undecided s) ≡ true → pointwise same_act (acts_due s) acts ≡ true
+    → not (is_limit s) ≡ true → s ≡ moves acts
 moves_from undecided acts a b c = absurd cc
 moves_from (moves xs) acts a b c = ap moves ((Decides-acts xs acts).0 b)
 moves_from at_limit acts a b c = absurd cc
@@ -169,7 +178,8 @@ holds_from judge b e =
           ((Decides-le _ _).0 p.0, (Decides-le _ _).0 p.1);
       bound = λ i l. not-true (judge.reaches_one (claim_of b) i) (at_holds _ judge.size (λ i. not (judge.reaches_one (claim_of b) i)) h.1.1.1.0 i l);
       radius = λ i l. (Decides-le _ _).0 (at_holds _ judge.size (is_radius judge b) h.1.1.1.1.0 i l);
-      acts = moves_from (judge.sampled (ball_of b)) b.acts (unless_holds _ _ _ h.1.1.1.1.1.0) (unless_holds _ _ _ h.1.1.1.1.1.1.0) (unless_holds _ _ _ h.1.1.1.1.1.1.1.0);
+      acts = moves_from (judge.sampled (ball_of b)) b.acts (unless_holds _ _ _ h.1.1.1.1.1.0)
+          (unless_holds _ _ _ h.1.1.1.1.1.1.0) (unless_holds _ _ _ h.1.1.1.1.1.1.1.0);
     }
 
 from_holds : (judge : Judge) (b : Block) → Holds judge b → first_broken judge b ≡ None

@@ -13,12 +13,14 @@ record Longer (short long rest : List Line) : Type 0 where
   rest_is : rest ≡ line ∷ behind
 
 longer_by : (l : Line) (short long rest : List Line) → Longer short long rest → Longer (l ∷ short) (l ∷ long) rest
-longer_by l short long rest k = record { line = k.line; more = k.more; behind = k.behind; long_is = ap (λ (ls : List Line). l ∷ ls) k.long_is; rest_is = k.rest_is }
+longer_by l short long rest k = record
+    { line = k.line; more = k.more; behind = k.behind; long_is = ap (λ (ls : List Line). l ∷ ls) k.long_is; rest_is = k.rest_is }
 
 heads : (a b : Line) (xs ys : List Line) → a ∷ xs ≡ b ∷ ys → (a ≡ b) × (xs ≡ ys)
 heads a b xs ys e = (cc, cc)
 
-along : (a b : Line) (short long rest : List Line) → a ≡ b → Longer (a ∷ short) (a ∷ long) rest → Longer (a ∷ short) (b ∷ long) rest
+along : (a b : Line) (short long rest : List Line) → a ≡ b → Longer (a ∷ short) (a ∷ long) rest
+    → Longer (a ∷ short) (b ∷ long) rest
 along a b short long rest e k = subst (λ (c : Line). Longer (a ∷ short) (c ∷ long) rest) e k
 
 split : (f g r s : List Line) → f ++ r ≡ g ++ s → (r ≡ s) ⊎ (Longer f g r ⊎ Longer g f s)
@@ -34,7 +36,8 @@ split (a ∷ f) (b ∷ g) r s e =
     ]
 
 -- a refused line begins no block, and so stands in no front that begins one
-too_long : (v : Version) (lines r s : List Line) (p : Refuses v lines r) (q : Refuses v lines s) → Longer p.front q.front r → ⊥
+too_long : (v : Version) (lines r s : List Line) (p : Refuses v lines r) (q : Refuses v lines s)
+    → Longer p.front q.front r → ⊥
 too_long v lines r s p q k =
     let b = q.begins in
     let rest : with_first r (k.more ++ b.more) ≡ k.line ∷ (k.more ++ b.more) = ap (λ (t : List Line). with_first t (k.more ++ b.more)) k.rest_is in

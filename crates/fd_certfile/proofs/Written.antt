@@ -12,13 +12,15 @@ use Rattle.fd_certfile.proofs.Lines.{lines_again, lines_found}
 use Rattle.fd_certfile.proofs.Blocks.{block_only, block_found}
 use Rattle.fd_certfile.proofs.Rows.{pairs_from}
 
-pub all_append : {X : Type 0} (P : X → Type 0) (xs ys : List X) → AllByRecursion P xs → AllByRecursion P ys → AllByRecursion P (xs ++ ys)
+pub all_append : {X : Type 0} (P : X → Type 0) (xs ys : List X) → AllByRecursion P xs → AllByRecursion P ys
+    → AllByRecursion P (xs ++ ys)
 all_append P [] ys h k = k
 all_append P (x ∷ xs) ys h k = (h.0, all_append P xs ys h.1 k)
 
 -- ---- known lines
 
-known_numbered : {X : Type 0} (line : ℕ → X → Line) → ((i : ℕ) (x : X) → IsKnown (line i x)) → (i : ℕ) (xs : List X) → AllByRecursion IsKnown (numbered_lines line i xs)
+known_numbered : {X : Type 0} (line : ℕ → X → Line) → ((i : ℕ) (x : X) → IsKnown (line i x)) → (i : ℕ) (xs : List X)
+    → AllByRecursion IsKnown (numbered_lines line i xs)
 known_numbered line h i [] = tt
 known_numbered line h i (x ∷ xs) = (h i x, known_numbered line h (i + 1) xs)
 
@@ -35,11 +37,14 @@ known_block v b = (
 
 -- ---- lines that can be written
 
-fits_parts : (i : ℕ) (ps : List Part) → i + length ps < 2 ^ 127 → AllByRecursion (λ p. AllByRecursion IsNumber (p.centre ∷ p.radius ∷ p.mismatch ∷ [])) ps → AllByRecursion IsLine (numbered_lines part_line i ps)
+fits_parts : (i : ℕ) (ps : List Part) → i + length ps < 2 ^ 127
+    → AllByRecursion (λ p. AllByRecursion IsNumber (p.centre ∷ p.radius ∷ p.mismatch ∷ [])) ps
+    → AllByRecursion IsLine (numbered_lines part_line i ps)
 fits_parts i [] l h = tt
 fits_parts i (p ∷ ps) l h = ((tt, (omega arith, h.0)), fits_parts (i + 1) ps (omega arith) h.1)
 
-fits_pairs : (j : ℕ) (r : List ℤ) → j + length r < 2 ^ 127 → AllByRecursion IsNumber r → AllByRecursion IsNumber (pairs_from j r)
+fits_pairs : (j : ℕ) (r : List ℤ) → j + length r < 2 ^ 127 → AllByRecursion IsNumber r
+    → AllByRecursion IsNumber (pairs_from j r)
 fits_pairs j [] l h = tt
 fits_pairs j (e ∷ r) l h =
     let rest = fits_pairs (j + 1) r (omega arith) h.1 in
@@ -48,15 +53,19 @@ fits_pairs j (e ∷ r) l h =
       | inr isnt ↦ rw (cond-false (is_zero e) [] (pos j ∷ e ∷ []) isnt) (omega arith, (h.0, rest))
     ]
 
-fits_fields : (v : Version) (r : List ℤ) → length r < 2 ^ 127 → AllByRecursion IsNumber r → AllByRecursion IsNumber (fields_of v r)
+fits_fields : (v : Version) (r : List ℤ) → length r < 2 ^ 127 → AllByRecursion IsNumber r
+    → AllByRecursion IsNumber (fields_of v r)
 fits_fields Whole r l h = h
 fits_fields Sparse r l h = (omega (arith, count_by-le-length is_entry r), fits_pairs 0 r (omega arith) h)
 
-fits_rows : (v : Version) (n i : ℕ) (rs : List (List ℤ)) → n < 2 ^ 127 → i + length rs < 2 ^ 127 → AllByRecursion (λ r. length r ≡ n) rs → AllByRecursion (AllByRecursion IsNumber) rs → AllByRecursion IsLine (numbered_lines (row_line v) i rs)
+fits_rows : (v : Version) (n i : ℕ) (rs : List (List ℤ)) → n < 2 ^ 127 → i + length rs < 2 ^ 127
+    → AllByRecursion (λ r. length r ≡ n) rs → AllByRecursion (AllByRecursion IsNumber) rs
+    → AllByRecursion IsLine (numbered_lines (row_line v) i rs)
 fits_rows v n i [] m l w h = tt
 fits_rows v n i (r ∷ rs) m l w h = ((tt, (omega arith, fits_fields v r (omega (arith, w.0)) h.0)), fits_rows v n (i + 1) rs m (omega arith) w.1 h.1)
 
-fits_acts : (acts : List Act) → AllByRecursion (λ a. AllByRecursion IsNumber (a.time ∷ a.control ∷ a.steps ∷ [])) acts → AllByRecursion IsLine (map act_line acts)
+fits_acts : (acts : List Act) → AllByRecursion (λ a. AllByRecursion IsNumber (a.time ∷ a.control ∷ a.steps ∷ [])) acts
+    → AllByRecursion IsLine (map act_line acts)
 fits_acts [] h = tt
 fits_acts (a ∷ acts) h = ((tt, h.0), fits_acts acts h.1)
 
@@ -74,10 +83,13 @@ fits_block v b s w =
 
 -- ---- bytes
 
-text_again : (v : Version) (b : Block) (tail : List ℕ) → IsSized b → IsWritable b → IsBehindActs (lines_of tail) → block_at v (lines_of (block_bytes v b ++ tail)) ≡ Ok (b, lines_of tail)
-text_again v b tail s w k = ap (block_at v) (lines_again (block_lines v b) tail (fits_block v b s w)) ∙ block_only v b (lines_of tail) s k
+text_again : (v : Version) (b : Block) (tail : List ℕ) → IsSized b → IsWritable b → IsBehindActs (lines_of tail)
+    → block_at v (lines_of (block_bytes v b ++ tail)) ≡ Ok (b, lines_of tail)
+text_again v b tail s w k = ap (block_at v) (lines_again (block_lines v b) tail (fits_block v b s w))
+    ∙ block_only v b (lines_of tail) s k
 
-text_found : (v : Version) (bytes : List ℕ) (b : Block) (rest : List Line) → block_at v (lines_of bytes) ≡ Ok (b, rest) → (tail : List ℕ) × (bytes ≡ block_bytes v b ++ tail) × (lines_of tail ≡ rest)
+text_found : (v : Version) (bytes : List ℕ) (b : Block) (rest : List Line) → block_at v (lines_of bytes) ≡ Ok (b, rest)
+    → (tail : List ℕ) × (bytes ≡ block_bytes v b ++ tail) × (lines_of tail ≡ rest)
 text_found v bytes b rest e =
     let k = block_found v (lines_of bytes) b rest e in
     let t = lines_found (block_lines v b) rest bytes (known_block v b) k.lines_are in

@@ -22,16 +22,23 @@ pub moved-requires-in-Err-rows : goal.moved-requires-in-Err-rows
 moved-requires-in-Err-rows c =
     let fits : FitsSigned w128 c.args.head.size = search rules in
     let counted = c.count_of-count.ensures ∙ ap count_of (to_z-of_z w128 c.args.head.size fits) in
-    let read = subst (λ (n : ℕ). numbered_at part_at n 0 (lines_of c.args.bytes.now) ≡ Ok (c.in-Ok.ensures.all, lines_of c.in-Ok.read.1.now)) counted c.in-Ok.ensures.same in
-    let few = parts_lines Whole c.args.head.number c.args.head.hour c.args.head.round c.args.head.size (lines_of c.args.bytes.now) c.in-Ok.ensures.all (lines_of c.in-Ok.read.1.now) read in
+    let read = subst
+    (λ (n : ℕ). numbered_at part_at n 0 (lines_of c.args.bytes.now) ≡ Ok (c.in-Ok.ensures.all, lines_of c.in-Ok.read.1.now))
+    counted c.in-Ok.ensures.same in
+    let few = parts_lines Whole c.args.head.number c.args.head.hour c.args.head.round c.args.head.size
+    (lines_of c.args.bytes.now) c.in-Ok.ensures.all (lines_of c.in-Ok.read.1.now) read in
     omega (arith, counted, few, length-lines_of c.args.bytes.now, before_fits c.in-Err-rows.stop c.in-Ok.read.1.now _ c.in-Err-rows.ensures)
 
 pub returns-in-Err-rows : goal.returns-in-Err-rows
 returns-in-Err-rows c =
     let fits : FitsSigned w128 c.args.head.size = search rules in
     let counted = c.count_of-count.ensures ∙ ap count_of (to_z-of_z w128 c.args.head.size fits) in
-    let read = subst (λ (n : ℕ). numbered_at part_at n 0 (lines_of c.args.bytes.now) ≡ Ok (c.in-Ok.ensures.all, lines_of c.in-Ok.read.1.now)) counted c.in-Ok.ensures.same in
-    let f = subst (λ (n : ℕ). Fails c.in-Err-rows.stop (lines_of c.in-Ok.read.1.now) (numbered_at (row_at Whole n) n 0 (lines_of c.in-Ok.read.1.now))) counted c.in-Err-rows.ensures in
+    let read = subst
+    (λ (n : ℕ). numbered_at part_at n 0 (lines_of c.args.bytes.now) ≡ Ok (c.in-Ok.ensures.all, lines_of c.in-Ok.read.1.now))
+    counted c.in-Ok.ensures.same in
+    let f = subst
+    (λ (n : ℕ). Fails c.in-Err-rows.stop (lines_of c.in-Ok.read.1.now) (numbered_at (row_at Whole n) n 0 (lines_of c.in-Ok.read.1.now)))
+    counted c.in-Err-rows.ensures in
     rw (c.moved-in-Err-rows.ensures, counted)
     (rows_fail Whole c.args.head.number c.args.head.hour c.args.head.round c.args.head.size (lines_of c.args.bytes.now) c.in-Ok.ensures.all (lines_of c.in-Ok.read.1.now) read c.in-Err-rows.stop f)
 
@@ -42,7 +49,8 @@ overflow_add-result c =
       length-lines_of c.args.bytes.now,
       c.acts-made.ensures.lines,
       numbered_left part_at c.count_of-count.result 0 (lines_of c.args.bytes.now) c.in-Ok.ensures.all (lines_of c.in-Ok.read.1.now) c.in-Ok.ensures.same,
-      numbered_left (row_at Whole c.count_of-count.result) c.count_of-count.result 0 (lines_of c.in-Ok.read.1.now) c.in-Ok-rows.ensures.all (lines_of c.in-Ok-rows.read.1.now) c.in-Ok-rows.ensures.same,
+      numbered_left (row_at Whole c.count_of-count.result) c.count_of-count.result 0 (lines_of c.in-Ok.read.1.now)
+          c.in-Ok-rows.ensures.all (lines_of c.in-Ok-rows.read.1.now) c.in-Ok-rows.ensures.same,
     )
 
 pub overflow_add-result-2 : goal.overflow_add-result-2
@@ -52,7 +60,8 @@ overflow_add-result-2 c =
       length-lines_of c.args.bytes.now,
       c.acts-made.ensures.lines,
       numbered_left part_at c.count_of-count.result 0 (lines_of c.args.bytes.now) c.in-Ok.ensures.all (lines_of c.in-Ok.read.1.now) c.in-Ok.ensures.same,
-      numbered_left (row_at Whole c.count_of-count.result) c.count_of-count.result 0 (lines_of c.in-Ok.read.1.now) c.in-Ok-rows.ensures.all (lines_of c.in-Ok-rows.read.1.now) c.in-Ok-rows.ensures.same,
+      numbered_left (row_at Whole c.count_of-count.result) c.count_of-count.result 0 (lines_of c.in-Ok.read.1.now)
+          c.in-Ok-rows.ensures.all (lines_of c.in-Ok-rows.read.1.now) c.in-Ok-rows.ensures.same,
     )
 
 pub overflow_add-result-3 : goal.overflow_add-result-3
@@ -62,14 +71,17 @@ overflow_add-result-3 c =
       length-lines_of c.args.bytes.now,
       c.acts-made.ensures.lines,
       numbered_left part_at c.count_of-count.result 0 (lines_of c.args.bytes.now) c.in-Ok.ensures.all (lines_of c.in-Ok.read.1.now) c.in-Ok.ensures.same,
-      numbered_left (row_at Whole c.count_of-count.result) c.count_of-count.result 0 (lines_of c.in-Ok.read.1.now) c.in-Ok-rows.ensures.all (lines_of c.in-Ok-rows.read.1.now) c.in-Ok-rows.ensures.same,
+      numbered_left (row_at Whole c.count_of-count.result) c.count_of-count.result 0 (lines_of c.in-Ok.read.1.now)
+          c.in-Ok-rows.ensures.all (lines_of c.in-Ok-rows.read.1.now) c.in-Ok-rows.ensures.same,
     )
 
 pub returns : goal.returns
 returns c =
     let fits : FitsSigned w128 c.args.head.size = search rules in
     let counted = c.count_of-count.ensures ∙ ap count_of (to_z-of_z w128 c.args.head.size fits) in
-    let keep : c.is_place-keep.result ≡ is_place c.args.due c.args.head.size = c.is_place-keep.ensures ∙ ap (λ (n : ℕ). is_place n (to_z w128 (of_z w128 c.args.head.size))) c.from.ensures ∙ ap (is_place c.args.due) (to_z-of_z w128 c.args.head.size fits) in
+    let keep : c.is_place-keep.result ≡ is_place c.args.due c.args.head.size = c.is_place-keep.ensures
+    ∙ ap (λ (n : ℕ). is_place n (to_z w128 (of_z w128 c.args.head.size))) c.from.ensures
+    ∙ ap (is_place c.args.due) (to_z-of_z w128 c.args.head.size fits) in
     let x : Ahead = record {
       head = c.args.head;
       parts = c.in-Ok.read.0;
@@ -78,8 +90,12 @@ returns c =
       rest = c.acts-made.result.1;
       lines = 1 + (c.count_of-count.result + (c.count_of-count.result + c.acts-made.result.0));
     } in
-    let p = subst (λ (n : ℕ). numbered_at part_at n 0 (lines_of c.args.bytes.now) ≡ Ok (c.in-Ok.ensures.all, lines_of c.in-Ok.read.1.now)) counted c.in-Ok.ensures.same in
-    let r = subst (λ (n : ℕ). numbered_at (row_at Whole n) n 0 (lines_of c.in-Ok.read.1.now) ≡ Ok (c.in-Ok-rows.ensures.all, lines_of c.in-Ok-rows.read.1.now)) counted c.in-Ok-rows.ensures.same in
+    let p = subst
+    (λ (n : ℕ). numbered_at part_at n 0 (lines_of c.args.bytes.now) ≡ Ok (c.in-Ok.ensures.all, lines_of c.in-Ok.read.1.now))
+    counted c.in-Ok.ensures.same in
+    let r = subst
+    (λ (n : ℕ). numbered_at (row_at Whole n) n 0 (lines_of c.in-Ok.read.1.now) ≡ Ok (c.in-Ok-rows.ensures.all, lines_of c.in-Ok-rows.read.1.now))
+    counted c.in-Ok-rows.ensures.same in
     ahead_is c.args.due x (lines_of c.args.bytes.now) c.in-Ok.ensures.all (lines_of c.in-Ok.read.1.now) c.in-Ok-rows.ensures.all p r c.acts-made.ensures.rest
     (c.in-Ok.ensures.keeps ∙ ap (λ (k : Bool). kept k c.in-Ok.ensures.all) keep)
     (c.in-Ok-rows.ensures.keeps ∙ ap (λ (k : Bool). kept k (cells_of c.in-Ok-rows.ensures.all)) keep)

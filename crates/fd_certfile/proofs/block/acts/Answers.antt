@@ -16,19 +16,22 @@ overflow_add-count c = omega (arith, c.loop-text.invariant.lines, length-lines_o
 
 pub loop-text-preserved : goal.loop-text-preserved
 loop-text-preserved c =
-    one_act (lines_of c.args.bytes.now) c.loop-text.count (lines_of c.loop-text.rest.now) c.loop-text.invariant (view c.read_line.result) (lines_of c.in-Some.more.now) (act c.in-Some-act_of._act)
+    one_act (lines_of c.args.bytes.now) c.loop-text.count (lines_of c.loop-text.rest.now) c.loop-text.invariant
+    (view c.read_line.result) (lines_of c.in-Some.more.now) (act c.in-Some-act_of._act)
     (lines_cut c.loop-text.rest.now c.in-Some.text.now c.in-Some.more.now c.in-Some.ensures.before c.in-Some.ensures.whole ∙ ap (λ l. l ∷ lines_of c.in-Some.more.now) (sym c.read_line.ensures))
     c.in-Some-act_of.ensures
 
 pub returns-in-None-clause-count : goal.returns-in-None-clause-count
 returns-in-None-clause-count c =
-    let here = lines_cut c.loop-text.rest.now c.in-Some.text.now c.in-Some.more.now c.in-Some.ensures.before c.in-Some.ensures.whole ∙ ap (λ l. l ∷ lines_of c.in-Some.more.now) (sym c.read_line.ensures) in
+    let here = lines_cut c.loop-text.rest.now c.in-Some.text.now c.in-Some.more.now c.in-Some.ensures.before c.in-Some.ensures.whole
+    ∙ ap (λ l. l ∷ lines_of c.in-Some.more.now) (sym c.read_line.ensures) in
     counts (lines_of c.args.bytes.now) c.loop-text.count (lines_of c.loop-text.rest.now) c.loop-text.invariant
     (no_act (lines_of c.args.bytes.now) c.loop-text.count (lines_of c.loop-text.rest.now) c.loop-text.invariant (view c.read_line.result) (lines_of c.in-Some.more.now) here c.in-None.ensures)
 
 pub returns-in-None-clause-rest : goal.returns-in-None-clause-rest
 returns-in-None-clause-rest c =
-    let here = lines_cut c.loop-text.rest.now c.in-Some.text.now c.in-Some.more.now c.in-Some.ensures.before c.in-Some.ensures.whole ∙ ap (λ l. l ∷ lines_of c.in-Some.more.now) (sym c.read_line.ensures) in
+    let here = lines_cut c.loop-text.rest.now c.in-Some.text.now c.in-Some.more.now c.in-Some.ensures.before c.in-Some.ensures.whole
+    ∙ ap (λ l. l ∷ lines_of c.in-Some.more.now) (sym c.read_line.ensures) in
     ap (λ (p : List Act × List Line). p.1)
     (no_act (lines_of c.args.bytes.now) c.loop-text.count (lines_of c.loop-text.rest.now) c.loop-text.invariant (view c.read_line.result) (lines_of c.in-Some.more.now) here c.in-None.ensures)
 

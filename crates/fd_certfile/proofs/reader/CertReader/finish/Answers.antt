@@ -19,7 +19,8 @@ returns-in_default c =
 pub returns-then-is_empty : goal.returns-then-is_empty
 returns-then-is_empty c =
     let count = length (map given_block c.self.inside.given.items) in
-    let lines = lines_cut c.self.inside.rest.now c.in-Some.text.now c.in-Some.rest.now c.in-Some.ensures.before c.in-Some.ensures.whole ∙ ap (λ l. l ∷ lines_of c.in-Some.rest.now) (sym c.read_line-line.ensures) in
+    let lines = lines_cut c.self.inside.rest.now c.in-Some.text.now c.in-Some.rest.now c.in-Some.ensures.before c.in-Some.ensures.whole
+    ∙ ap (λ l. l ∷ lines_of c.in-Some.rest.now) (sym c.read_line-line.ensures) in
     subst (λ (r : ReaderView). finish_of r ≡ Ok c.len.result) c.self.view_is
     (ap (λ (ls : List Line). finished ls c.self.inside.line count) lines
     ∙ finish_nothing c.self.inside.line count (view c.read_line-line.result) c.in-Some.rest.now (sym c.if-is_end.true ∙ c.is_end.ensures) (search rules)
@@ -28,7 +29,8 @@ returns-then-is_empty c =
 pub returns-then-is_end : goal.returns-then-is_end
 returns-then-is_end c =
     let count = length (map given_block c.self.inside.given.items) in
-    let lines = lines_cut c.self.inside.rest.now c.in-Some.text.now c.in-Some.rest.now c.in-Some.ensures.before c.in-Some.ensures.whole ∙ ap (λ l. l ∷ lines_of c.in-Some.rest.now) (sym c.read_line-line.ensures) in
+    let lines = lines_cut c.self.inside.rest.now c.in-Some.text.now c.in-Some.rest.now c.in-Some.ensures.before c.in-Some.ensures.whole
+    ∙ ap (λ l. l ∷ lines_of c.in-Some.rest.now) (sym c.read_line-line.ensures) in
     subst (λ (r : ReaderView). finish_of r ≡ Err (c.self.inside.line + 1, Grammar)) c.self.view_is
     (ap (λ (ls : List Line). finished ls c.self.inside.line count) lines
     ∙ finish_more c.self.inside.line count (view c.read_line-line.result) c.in-Some.rest.now (sym c.if-is_end.true ∙ c.is_end.ensures) (search rules))
@@ -36,7 +38,8 @@ returns-then-is_end c =
 pub returns-then-is_solution : goal.returns-then-is_solution
 returns-then-is_solution c =
     let count = length (map given_block c.self.inside.given.items) in
-    let lines = lines_cut c.self.inside.rest.now c.in-Some.text.now c.in-Some.rest.now c.in-Some.ensures.before c.in-Some.ensures.whole ∙ ap (λ l. l ∷ lines_of c.in-Some.rest.now) (sym c.read_line-line.ensures) in
+    let lines = lines_cut c.self.inside.rest.now c.in-Some.text.now c.in-Some.rest.now c.in-Some.ensures.before c.in-Some.ensures.whole
+    ∙ ap (λ l. l ∷ lines_of c.in-Some.rest.now) (sym c.read_line-line.ensures) in
     subst (λ (r : ReaderView). finish_of r ≡ Err (c.self.inside.line, Count)) c.self.view_is
     (ap (λ (ls : List Line). finished ls c.self.inside.line count) lines
     ∙ finish_left c.self.inside.line count (view c.read_line-line.result) (lines_of c.in-Some.rest.now) (sym c.if-is_solution.true ∙ c.is_solution.ensures))
@@ -44,7 +47,9 @@ returns-then-is_solution c =
 pub returns : goal.returns
 returns c =
     let count = length (map given_block c.self.inside.given.items) in
-    let lines = lines_cut c.self.inside.rest.now c.in-Some.text.now c.in-Some.rest.now c.in-Some.ensures.before c.in-Some.ensures.whole ∙ ap (λ l. l ∷ lines_of c.in-Some.rest.now) (sym c.read_line-line.ensures) in
+    let lines = lines_cut c.self.inside.rest.now c.in-Some.text.now c.in-Some.rest.now c.in-Some.ensures.before c.in-Some.ensures.whole
+    ∙ ap (λ l. l ∷ lines_of c.in-Some.rest.now) (sym c.read_line-line.ensures) in
     subst (λ (r : ReaderView). finish_of r ≡ Err (c.self.inside.line, Grammar)) c.self.view_is
     (ap (λ (ls : List Line). finished ls c.self.inside.line count) lines
-    ∙ finish_other c.self.inside.line count (view c.read_line-line.result) (lines_of c.in-Some.rest.now) (sym c.if-is_end.false ∙ c.is_end.ensures) (sym c.if-is_solution.false ∙ c.is_solution.ensures))
+    ∙ finish_other c.self.inside.line count (view c.read_line-line.result) (lines_of c.in-Some.rest.now)
+    (sym c.if-is_end.false ∙ c.is_end.ensures) (sym c.if-is_solution.false ∙ c.is_solution.ensures))

@@ -10,7 +10,8 @@ use Rattle.fd_certfile.proofs.Reading.{lines_cut}
 use Rattle.fd_certfile.proofs.reader.CertReader.open.Goals as goal
 
 pub invariant_of-result : goal.invariant_of-result
-invariant_of-result c = (omega (arith, length-lines_of c.in-Some.rest.now, ap length c.in-Some.ensures.whole, length-append c.in-Some.text.now (10 ∷ c.in-Some.rest.now)), omega arith)
+invariant_of-result c =
+    (omega (arith, length-lines_of c.in-Some.rest.now, ap length c.in-Some.ensures.whole, length-append c.in-Some.text.now (10 ∷ c.in-Some.rest.now)), omega arith)
 
 pub returns-then-names_version : goal.returns-then-names_version
 returns-then-names_version c =
