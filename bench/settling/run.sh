@@ -2,7 +2,7 @@
 # Counts the instructions of the built program, with its start, by callgrind:
 # - on the 13-node feeder with its regulators (examples/thirteen-regulated.dss), beside the sum of its rounds solved alone, with controls
 #   off and the taps of each round given, of which reading the script counts once;
-# - on a hundred regulators, what is spent outside the solves and certificates, of all that a settle takes.
+# - on a hundred regulators, what is spent outside the solves and certificates, records among it, of all that a settle takes.
 # Counts don't change from run to run. Needs `valgrind` and the built program.
 set -eu
 here=$(cd "$(dirname "$0")" && pwd)
@@ -44,7 +44,7 @@ table = subprocess.run(["callgrind_annotate", "--inclusive=yes", "--threshold=10
 def of(function):
     return max(int(n.replace(",", "")) for n in re.findall(rf"^\s*([\d,]+) .*{re.escape(function)}", table, re.M))
 
-settle, solves = of("fd_app::solving::settle_built"), of("fd_settle::compute::ComputeSolver::solve")
+settle, solves = of("fd_app::hours::run_hours"), of("fd_settle::compute::ComputeSolver::solve")
 rounds = len(re.findall(r"^solution,", text, re.M))
-print(f"a hundred regulators, {rounds} rounds: {settle - solves} of {settle} instructions outside solves and certificates, {(settle - solves) / settle:.2%}")
+print(f"a hundred regulators, {rounds} rounds: {settle - solves} of {settle} instructions outside solves and certificates, records among them, {(settle - solves) / settle:.2%}")
 P

@@ -367,10 +367,9 @@ def settle(circuit, limit, off, now, clock, solve):
         done += 1
 
 
-def positions(circuit, banks):
+def positions(circuit):
     """The records behind the last round."""
     out = ['tap,%s,%s' % (c.name, tap_text(c.t['at'][c.w])) for c in controls_of(circuit) if isinstance(c, Regulator)]
-    if banks:
-        out += ['bank,capacitor.%s,%s' % (k[1], 'closed' if e['now'] else 'open')
-                for k, e in circuit.items() if k[0] == 'capacitor']
+    out += ['bank,capacitor.%s,%s' % (k[1], 'closed' if e['now'] else 'open')
+            for k, e in circuit.items() if k[0] == 'capacitor']
     return out

@@ -449,7 +449,6 @@ def up(x, y):
     return ceil(x * y, B40)
 
 
-BANK_RECORDS = False     # whether the report names each bank's state, as it does once controls of banks are solved
 CASES = {}       # which of inside, outside and straddling the loads of a run were: for the choice of cases
 
 
@@ -641,7 +640,7 @@ def run(files, words):
             except controls.Limit as f:
                 out.append('fault,control limit,%d' % f.acts)
                 return 12
-            out.extend(controls.positions(circuit, BANK_RECORDS))
+            out.extend(controls.positions(circuit))
         return None
 
     s = Script(files, solve)

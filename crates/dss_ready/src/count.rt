@@ -6,8 +6,7 @@ ghost use Rattle.dss_ready.specs.Counts.{is_size_wrong, is_matrix, are_matrices_
 use crate::lookup::{Elements, find_given};
 use crate::mention::Mentions;
 use dss_profile::{
-    CapControl, Class, DataForm, Element, ElementName, Line, Loadshape, Numbers,
-    RegControl,
+    CapControl, Class, DataForm, Element, ElementName, Line, Loadshape, Numbers, RegControl,
 };
 use std::alloc::AllocError;
 

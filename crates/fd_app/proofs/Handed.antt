@@ -1,27 +1,24 @@
 -- What a command's answer comes to for the loop.
 use Rattle.std.proofs.Common.{◌≡◌, ◌∙◌, ℕ, Bool, true, false, List, [], ◌∷◌, ◌++◌, map, Option, Some, None, refl, sym, ap, subst, inl, inr, arith}
 use Rattle.std.specs.Prelude.{◌||◌, ◌⊎◌}
-use Rattle.std.proofs.lemmas.List.{append-nil, map-append}
-use Rattle.std.proofs.lemmas.List.Elements.{All-nil, All-cons}
+use Rattle.std.proofs.lemmas.List.{map-append}
+use Rattle.std.proofs.lemmas.List.Elements.{All-nil}
 use Rattle.fd_outside.specs.Emitted.{Takes}
-use Rattle.fd_queue.specs.Controls.{Positions}
 use Rattle.fd_report.specs.Faults.{status}
 use Rattle.fd_report.specs.declared.faults.Fault.{Fault}
 use Rattle.fd_report.specs.declared.faults.Fault.TheVariants as fault
-use Rattle.fd_outcome.specs.Settles.{Round, Settle, failed, settled}
-use Rattle.fd_outcome.specs.Events.{AllSettles, Event, IfSettle, finishes, settle}
-use Rattle.fd_outcome.specs.Work.{Step, ExactlyOne, ends}
+use Rattle.fd_outcome.specs.Events.{Event, IfSettle, finishes}
+use Rattle.fd_outcome.specs.Work.{Step, ExactlyOne, goes, ends}
 use Rattle.fd_outcome.specs.Calls.{Call, report, reads, writes, opened, body, fault_text}
 use Rattle.fd_outcome.specs.Done.{IsFrontOf, IsDone, Made}
 use Rattle.fd_outcome.specs.Way.{whole}
-use Rattle.fd_outcome.specs.Behind.{behind, has_text, last_calls}
+use Rattle.fd_outcome.specs.Behind.{behind, last_calls}
 use Rattle.fd_outcome.specs.Parts.{EndsAt, Finishes, GoesOn, IsCutIn, Printed, Wrote, events_in, fault_doing}
 use Rattle.fd_outcome.specs.Untold.{CutsShort}
 use Rattle.fd_outcome.proofs.CallerLemmas.{cut_before, sees_none, wrote_all, wrote_nothing}
-use Rattle.fd_app.specs.Answered.{IsOfCommand, IsPrintable, texts_of}
-use Rattle.fd_app.specs.declared.answer.SettledCircuit.{SettledCircuit}
+use Rattle.fd_app.specs.Answered.{IsOfCommand}
 use Rattle.fd_app.specs.Headline.{IsSolved}
-use Rattle.fd_app.specs.Steps.{StandingView, changes, fails, settles, snapshot_settle, standing}
+use Rattle.fd_app.specs.Steps.{StandingView, changes}
 
 nothing_behind : (begun : Bool) → behind report begun [] ≡ []
 nothing_behind true = refl
@@ -33,27 +30,13 @@ opened_by_nothing [] = refl
 opened_by_nothing (reads n ∷ calls) = ap (λ (l : List Call). reads n ∷ l) (opened_by_nothing calls)
 opened_by_nothing (writes text ∷ calls) = refl
 
-behind_report : (begun : Bool) (events : List Event) → behind report begun events ≡ body report events
+pub behind_report : (begun : Bool) (events : List Event) → behind report begun events ≡ body report events
 behind_report true events = refl
 behind_report false events = opened_by_nothing (body report events)
-
--- a settle is printed as its records
-settle_behind : (begun : Bool) (s : Settle) → behind report begun (settle s ∷ []) ≡ map writes (texts_of s)
-settle_behind begun s = behind_report begun (settle s ∷ []) ∙ append-nil (map writes (texts_of s))
-
-settle_good : (s : Settle) → IsSolved s → AllSettles IsSolved (settle s ∷ [])
-settle_good s is = All-cons (IfSettle IsSolved) (settle s) [] is (All-nil (IfSettle IsSolved))
 
 or_false : (b : Bool) → b ≡ (b || false)
 or_false true = refl
 or_false false = refl
-
-or_true : (b : Bool) → true ≡ (b || true)
-or_true true = refl
-or_true false = refl
-
-now_begun : (begun : Bool) (calls : List Call) → has_text calls ≡ true → true ≡ (begun || has_text calls)
-now_begun begun calls has = or_true begun ∙ ap (λ (b : Bool). begun || b) (sym has)
 
 -- ---- statuses of a command's faults
 
@@ -126,37 +109,6 @@ module _ {S : Type 0} (is_step : Step StandingView → Type 0) (taken : S → Op
     begun_is = or_false begun;
   }
 
-  pub goes_settled : (s : StandingView) (rounds : List Round) (left : Positions) (old new : S) (begun : Bool) → is_step (settles s rounds left)
-      → IsSolved (snapshot_settle s rounds settled left) → has_text (map writes (texts_of (snapshot_settle s rounds settled left))) ≡ true
-      → Wrote taken calls old new (whole (map writes (texts_of (snapshot_settle s rounds settled left))))
-      → GoesOn report IsSolved is_step (standing s.circuit left) taken calls old new begun true
-  goes_settled s rounds left old new begun is solved has wrote =
-      let one : Settle = snapshot_settle s rounds settled left in
-      record {
-        events = settle one ∷ [];
-        right = is;
-        all_good = settle_good one solved;
-        wrote = subst (λ l. Wrote taken calls old new (whole l)) (sym (settle_behind begun one)) wrote;
-        begun_is = now_begun begun (body report (settle one ∷ [])) (ap has_text (append-nil (map writes (texts_of one))) ∙ has);
-      }
-
-  pub ends_settled : (s : StandingView) (rounds : List Round) (left : Positions) (old new : S) (begun : Bool) (code : ℕ) → is_step (settles s rounds left)
-      → IsSolved (snapshot_settle s rounds settled left) → IsCutIn taken calls old new (map writes (texts_of (snapshot_settle s rounds settled left))) code
-      → EndsAt report IsSolved is_step taken calls old new begun code
-  ends_settled s rounds left old new begun code is solved cut =
-      let one : Settle = snapshot_settle s rounds settled left in
-      record {
-        step = settles s rounds left;
-        right = is;
-        made = cut.made;
-        shown = settle one ∷ [];
-        hidden = [];
-        events_are = refl;
-        all_good = settle_good one solved;
-        done = inr (subst (λ l. IsFrontOf l code cut.made) (sym (settle_behind begun one)) cut.front);
-        wrote = cut.wrote;
-      }
-
   -- the fault's record stands alone where nothing is printed before it
   fault_behind : (f : Fault) (code : ℕ) (old new : S) (p : Printed taken calls old new (fault_doing f) code) (before : List Call) → before ≡ [] → IsDone (record { calls = before ++ writes (fault_text f) ∷ []; end = Some f }) code p.made
   fault_behind f code old new p before none = subst (λ l. IsDone (record { calls = l ++ writes (fault_text f) ∷ []; end = Some f }) code p.made) (sym none) p.done
@@ -174,24 +126,6 @@ module _ {S : Type 0} (is_step : Step StandingView → Type 0) (taken : S → Op
     wrote = p.wrote;
   }
 
-  pub ends_failed : (s : StandingView) (rounds : List Round) (left : Positions) (f : Fault) (old new : S) (begun : Bool) (code : ℕ) → is_step (fails s rounds f left)
-      → IsSolved (snapshot_settle s rounds (failed f) left)
-      → Printed taken calls old new (record { calls = map writes (texts_of (snapshot_settle s rounds (failed f) left)) ++ writes (fault_text f) ∷ []; end = Some f }) code
-      → EndsAt report IsSolved is_step taken calls old new begun code
-  ends_failed s rounds left f old new begun code is solved p =
-      let one : Settle = snapshot_settle s rounds (failed f) left in
-      record {
-        step = fails s rounds f left;
-        right = is;
-        made = p.made;
-        shown = settle one ∷ [];
-        hidden = [];
-        events_are = refl;
-        all_good = settle_good one solved;
-        done = inl (refl, subst (λ l. IsDone (record { calls = l ++ writes (fault_text f) ∷ []; end = Some f }) code p.made) (sym (settle_behind begun one)) p.done);
-        wrote = p.wrote;
-      }
-
   pub ends_without_memory : (out : S) (begun : Bool) → ExactlyOne is_step → EndsAt report IsSolved is_step taken calls out out begun 1
   ends_without_memory out begun one =
       let cut = cut_before taken calls out (behind report begun []) in
@@ -207,9 +141,24 @@ module _ {S : Type 0} (is_step : Step StandingView → Type 0) (taken : S → Op
         wrote = cut.wrote;
       }
 
--- what is printable doesn't depend on the positions that were left before
-pub printable_at : (w : SettledCircuit) (s : StandingView) → IsPrintable w s → (at : Positions) → IsPrintable w (standing s.circuit at)
-printable_at w s p at = record { ready = p.ready; layout = p.layout; numbers = p.numbers; few = p.few; positions = p.positions }
+-- ---- another step of the same events
+
+module _ {S : Type 0} (taken : S → Option (List ℕ)) (calls : S → Option ℕ) (P Q : Step StandingView → Type 0) (weaker : (step : Step StandingView) → P step → Q step) where
+  pub goes_as : (now : StandingView) (old new : S) (begun after : Bool) → GoesOn report IsSolved P now taken calls old new begun after → GoesOn report IsSolved Q now taken calls old new begun after
+  goes_as now old new begun after h = record { events = h.events; right = weaker (goes h.events now) h.right; all_good = h.all_good; wrote = h.wrote; begun_is = h.begun_is }
+
+  pub ends_as : (old new : S) (begun : Bool) (code : ℕ) → EndsAt report IsSolved P taken calls old new begun code → EndsAt report IsSolved Q taken calls old new begun code
+  ends_as old new begun code h = record {
+    step = h.step;
+    right = weaker h.step h.right;
+    made = h.made;
+    shown = h.shown;
+    hidden = h.hidden;
+    events_are = h.events_are;
+    all_good = h.all_good;
+    done = h.done;
+    wrote = h.wrote;
+  }
 
 -- ---- behind the last command
 

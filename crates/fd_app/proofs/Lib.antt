@@ -5,10 +5,10 @@ mod Solutions
 mod Steadiness
 mod Settled
 mod Starting
-mod Solves
 pub mod Tests
 mod Recorded
-mod Begun
+mod Hourly
 mod Handed
 mod Weights
 mod Runs
+mod Days

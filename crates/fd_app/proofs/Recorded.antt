@@ -1,5 +1,5 @@
 -- The records of a settle, of its parts.
-use Rattle.std.proofs.Common.{◌≡◌, ◌∙◌, ◌<◌, ◌≤◌, ◌+◌, ◌++◌, ℕ, zero, suc, Bool, true, false, cond, List, [], ◌∷◌, map, filter, length, take, drop, slice_get, get_or, Option, Some, None, refl, sym, ap, subst}
+use Rattle.std.proofs.Common.{arith, ◌≡◌, ◌∙◌, ◌<◌, ◌≤◌, ◌+◌, ◌++◌, ℕ, zero, suc, Bool, true, false, cond, List, [], ◌∷◌, map, filter, length, take, drop, slice_get, get_or, Option, Some, None, refl, sym, ap, subst}
 use Rattle.std.specs.List.{flat_map, zip}
 use Rattle.std.specs.Option.{option_map}
 use Rattle.std.specs.Prelude.{All, IsSome, if◌then◌else◌}
@@ -9,15 +9,20 @@ use Rattle.std.proofs.lemmas.Option.{get_or_from_slice_get, same_Some, slice_get
 use Rattle.dss_profile.specs.declared.element.Element.{Element}
 use Rattle.dss_profile.specs.declared.names.ElementName.{ElementName}
 use Rattle.dss_layout.specs.Layout.{Elements}
+use Rattle.fd_outside.specs.Emitted.{pieces_of}
+use Rattle.fd_outside.specs.declared.bytes.Record.{Record}
+use Rattle.fd_outcome.specs.Behind.{has_text}
+use Rattle.fd_outcome.specs.Calls.{writes}
 use Rattle.fd_queue.specs.Controls.{Positions}
+use Rattle.fd_report.specs.Controls.{bank_fields}
 use Rattle.fd_report.specs.Lines.{lines_of}
 use Rattle.fd_report.specs.Solutions.{IsOfSize}
 use Rattle.fd_sample.specs.declared.probe.Probe.{Probe}
 use Rattle.fd_settle.specs.declared.round.Round.{Round as Made}
-use Rattle.fd_outcome.specs.Pages.{controls_of, is_control, solution_in, tap_rows_by}
+use Rattle.fd_outcome.specs.Pages.{bank_rows_by, banks_of, controls_of, is_bank, is_control, solution_in, tap_rows_by}
 use Rattle.fd_outcome.specs.Settles.{Round}
 use Rattle.fd_app.specs.Answered.{round_in}
-use Rattle.fd_app.specs.Places.{AreControlPlaces, tap_rows_of}
+use Rattle.fd_app.specs.Places.{AreControlPlaces, bank_rows_first, tap_rows_of}
 
 -- ---- places of controls
 
@@ -123,9 +128,40 @@ no_probes at (c ∷ cs) = refl
 pub taps_end : (at : Positions) (cs : Elements) (ps : List Probe) (k : ℕ) → length ps ≤ k → taps_from at (drop k cs) (drop k ps) ≡ []
 taps_end at cs ps k past = ap (taps_from at (drop k cs)) (drop_all k ps past) ∙ no_probes at (drop k cs)
 
+-- ---- banks
+
+banks_first : (e : ElementName × Element) (es : Elements) → is_bank e.1 ≡ true → banks_of (e ∷ es) ≡ e ∷ banks_of es
+banks_first e es h = rw h refl
+
+banks_later : (e : ElementName × Element) (es : Elements) → is_bank e.1 ≡ false → banks_of (e ∷ es) ≡ banks_of es
+banks_later e es h = rw h refl
+
+no_states : (banks : Elements) → bank_rows_by banks [] ≡ []
+no_states [] = refl
+no_states (b ∷ banks) = refl
+
+-- behind a bank's record
+pub bank_next : (e : ElementName × Element) (es all_left : Elements) (closed left : List Bool) (old mid new : List (List ℕ)) → is_bank e.1 ≡ true → all_left ≡ e ∷ es → left ≡ drop 1 closed → mid ++ lines_of (bank_rows_by (banks_of all_left) closed) ≡ old
+    → new ≡ mid ++ lines_of (bank_rows_first e.0 closed) → new ++ lines_of (bank_rows_by (banks_of es) left) ≡ old
+bank_next e es all_left closed left old mid new bank first behind made more =
+    rows_left old mid new (bank_rows_first e.0 closed) (bank_rows_by (banks_of es) left) (ap (λ l. mid ++ lines_of l) (sym (all closed left behind)) ∙ ap (λ (bs : Elements). mid ++ lines_of (bank_rows_by (banks_of bs) closed)) (sym first) ∙ made) more
+  where
+    all : (cs ls : List Bool) → ls ≡ drop 1 cs → bank_rows_by (banks_of (e ∷ es)) cs ≡ bank_rows_first e.0 cs ++ bank_rows_by (banks_of es) ls
+    all [] ls is = ap (λ (bs : Elements). bank_rows_by bs []) (banks_first e es bank) ∙ sym (no_states (banks_of es)) ∙ ap (bank_rows_by (banks_of es)) (sym is)
+    all (b ∷ cs) ls is = ap (λ (bs : Elements). bank_rows_by bs (b ∷ cs)) (banks_first e es bank) ∙ ap (λ (l : List Bool). bank_fields e.0 b ∷ bank_rows_by (banks_of es) l) (sym is)
+
+pub bank_none : (e : ElementName × Element) (es : Elements) (closed : List Bool) (mid old : List (List ℕ)) → is_bank e.1 ≡ false → mid ++ lines_of (bank_rows_by (banks_of (e ∷ es)) closed) ≡ old → mid ++ lines_of (bank_rows_by (banks_of es) closed) ≡ old
+bank_none e es closed mid old other made = ap (λ (bs : Elements). mid ++ lines_of (bank_rows_by bs closed)) (sym (banks_later e es other)) ∙ made
+
 -- ---- numbers of a round
 
 pub size_at : (n : ℕ) (rs : List Made) (k : ℕ) (r : Made) → All (λ x. IsOfSize n (solution_in x)) (map round_in rs) → k < length rs → r ≡ get_or rs k r → IsOfSize n (solution_in (round_in r))
 size_at n rs k r all within is =
     let P : Round → Type 0 = λ x. IsOfSize n (solution_in x) in
     subst P (get_or-map round_in rs k r (round_in r) within ∙ ap round_in (sym is)) (all k (round_in r) (subst (λ m. k < m) (sym (length-map rs round_in)) within))
+
+-- ---- whether a text is among records
+
+pub some_text : (rs : List Record) → 1 ≤ length rs → has_text (map writes (pieces_of rs)) ≡ true
+some_text [] h = absurd (omega (arith, h))
+some_text (r ∷ rs) h = refl

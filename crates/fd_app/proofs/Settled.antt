@@ -1,5 +1,5 @@
 -- What a settle whose states are computed comes to: its step, and its rounds, which are printed.
-use Rattle.std.proofs.Common.{◌≡◌, ◌∙◌, ◌≤◌, ◌<◌, ◌+◌, ◌^◌, ℕ, List, [], ◌∷◌, ◌++◌, map, take, length, replicate, Option, Some, None, Result, Ok, Err, ap, refl, sym, subst, arith}
+use Rattle.std.proofs.Common.{◌≡◌, ◌∙◌, ◌≤◌, ◌<◌, ◌+◌, ◌^◌, ℕ, List, [], ◌∷◌, map, take, length, Option, Some, None, Result, Ok, Err, ap, refl, sym, subst, arith}
 use Rattle.std.specs.Prelude.{All}
 use Rattle.std.proofs.lemmas.List.{length-map}
 use Rattle.std.proofs.lemmas.List.Elements.{All-cons, All-nil}
@@ -16,25 +16,21 @@ use Rattle.fd_enclosure.specs.Sound.{Claim}
 use Rattle.fd_enclosure.specs.Ties.{BallLaw, TieLaw}
 use Rattle.fd_inject.specs.declared.fault.SolveFault.TheVariants as solving
 use Rattle.fd_inject.specs.declared.limits.Limits.{Limits}
-use Rattle.fd_exact.specs.Sums.{list_n}
+use Rattle.fd_devices.specs.Hours.{hour_powers}
 use Rattle.fd_elements.specs.declared.powers.LoadPower.{LoadPower}
-use Rattle.fd_devices.specs.Settings.{bank_count}
-use Rattle.fd_devices.specs.declared.settings.Positions.{Positions as CodePositions}
 use Rattle.fd_queue.specs.Controls.{Positions}
 use Rattle.fd_queue.specs.Machine.{Act, Machine}
 use Rattle.fd_report.specs.Solutions.{IsOfSize}
 use Rattle.fd_report.specs.declared.faults.Fault.{Fault}
-use Rattle.fd_sample.specs.Probes.{positions_in}
 use Rattle.fd_settle.specs.Chosen.{AreChosen}
 use Rattle.fd_settle.specs.Compute.{ComputeGives, IsPlaced}
 use Rattle.fd_settle.specs.Computed.{Ending, EndsBySolver, EndsSo, Follows, IsComputedFrom, computed_in, ended}
-use Rattle.fd_settle.specs.Contract.{CallsAs, EndsAs, appended, begun, limits_of}
-use Rattle.fd_settle.specs.Plant.{Plant, controls_in, network_at, plant_of, setup_of, started}
+use Rattle.fd_settle.specs.Contract.{CallsAs, EndsAs, limits_of}
+use Rattle.fd_settle.specs.Plant.{Plant, controls_in, network_at, plant_of, setup_of}
 use Rattle.fd_settle.specs.Rounds.{AtEach, acts_in, after_round, claims_in, left_by, seen, settled}
 use Rattle.fd_settle.specs.Sampling.{look_over}
 use Rattle.fd_settle.specs.Settle.{End, Settled, Outcome, Ends, Moves, outcome_of}
 use Rattle.fd_settle.specs.Start.{ArePositions, IsSoundAt}
-use Rattle.fd_settle.specs.declared.clock.Clock.{Clock}
 use Rattle.fd_settle.specs.declared.compute.ComputeFault.{ComputeFault}
 use Rattle.fd_settle.specs.declared.compute.ComputeFault.TheVariants as compute
 use Rattle.fd_settle.specs.declared.fault.SettleFault.{SettleFault}
@@ -43,58 +39,52 @@ use Rattle.fd_settle.specs.declared.round.Round.{Round as Made}
 use Rattle.fd_outcome.specs.Pages.{solution_in}
 use Rattle.fd_outcome.specs.Settles.{Round, SettleEnd}
 use Rattle.fd_outcome.specs.Settles as outcome
-use Rattle.fd_outcome.specs.Work.{Step}
-use Rattle.fd_app.specs.Answered.{IsOfCommand, IsPrintable, IsSound, answered, rounds_in, settle_in}
-use Rattle.fd_app.specs.Endings.{IsCounted, IsEnding, IsFaultAt, IsWithin, ending_by_solver, ending_of}
-use Rattle.fd_app.specs.Headline.{IsOtherState, IsSolution, IsSolved}
-use Rattle.fd_app.specs.Solving.{IsSettleStep, IsStepBy, first_machine, rounds_of, snapshot_plant, snapshot_powers}
-use Rattle.fd_app.specs.Steps.{StandingView, fails, round_of, settles, standing, start_of}
+use Rattle.fd_app.specs.Answered.{IsMadeHour, IsOfCommand, IsPrintable, round_in, rounds_in, settle_made}
+use Rattle.fd_app.specs.Endings.{IsCounted, IsEnding, IsFaultAt, IsWithin, TellsOf, ending_by_solver, ending_of}
+use Rattle.fd_app.specs.Headline.{DecidesAlike, IsOtherState, IsSolution, IsSolved}
+use Rattle.fd_app.specs.Solving.{IsEndBy, IsHour, hour_begun, kept_by, plant_at, rounds_of}
+use Rattle.fd_app.specs.Steps.{Kept, hour_settle, round_of}
 use Rattle.fd_app.specs.Steps as steps
-use Rattle.fd_app.specs.declared.answer.Answer.TheVariants as answer
-use Rattle.fd_app.specs.declared.answer.SettledCircuit.{SettledCircuit}
 use Rattle.fd_app.proofs.Computations.{few_rounds}
 use Rattle.fd_app.proofs.Solutions.{is_of_size, is_solution, network_size}
-use Rattle.fd_app.proofs.Steadiness.{steady}
+use Rattle.fd_app.proofs.Steadiness.{each_alike, steady}
 
 -- ---- rounds as the code makes them, and as they are printed
 
-abbrev pub shown : Made → Round
-shown r = round_of (claim_in r.certified) (map seen r.acts.items)
-
-same_rounds : (rs : List Made) → rounds_of (computed_in rs) ≡ map shown rs
+same_rounds : (rs : List Made) → rounds_of (computed_in rs) ≡ rounds_in rs
 same_rounds [] = refl
-same_rounds (r ∷ rs) = ap (λ (xs : List Round). shown r ∷ xs) (same_rounds rs)
+same_rounds (r ∷ rs) = ap (λ (xs : List Round). round_in r ∷ xs) (same_rounds rs)
 
-same_claims : (rs : List Made) → map steps.claim_in (map shown rs) ≡ claims_in rs
+same_claims : (rs : List Made) → map steps.claim_in (rounds_in rs) ≡ claims_in rs
 same_claims [] = refl
 same_claims (r ∷ rs) = ap (λ (xs : List Claim). claim_in r.certified ∷ xs) (same_claims rs)
 
-same_acts : (rs : List Made) → map (λ (r : Round). r.acts) (map shown rs) ≡ acts_in rs
+same_acts : (rs : List Made) → map (λ (r : Round). r.acts) (rounds_in rs) ≡ acts_in rs
 same_acts [] = refl
 same_acts (r ∷ rs) = ap (λ (xs : List (List Act)). map seen r.acts.items ∷ xs) (same_acts rs)
 
 -- ---- each round
 
-module _ (c : CircuitView) where
-  all_of_size : (m : Machine) (rs : List Made) → AtEach (IsSoundAt c (snapshot_powers c)) (snapshot_plant c) m (claims_in rs) → All (λ r. IsOfSize (size_of (layout_of c.elements)) (solution_in r)) (map shown rs)
+module _ (c : CircuitView) (hour : ℕ) where
+  all_of_size : (m : Machine) (rs : List Made) → AtEach (IsSoundAt c (hour_powers c.elements hour)) (plant_at c hour) m (claims_in rs) → All (λ r. IsOfSize (size_of (layout_of c.elements)) (solution_in r)) (rounds_in rs)
   all_of_size m [] sound = All-nil (λ r. IsOfSize (size_of (layout_of c.elements)) (solution_in r))
   all_of_size m (r ∷ rs) sound =
-      All-cons (λ r. IsOfSize (size_of (layout_of c.elements)) (solution_in r)) (shown r) (map shown rs) (is_of_size c m.at (claim_in r.certified) sound.0 (map seen r.acts.items)) (all_of_size (after_round (snapshot_plant c) m (claim_in r.certified)) rs sound.1)
+      All-cons (λ r. IsOfSize (size_of (layout_of c.elements)) (solution_in r)) (round_in r) (rounds_in rs) (is_of_size c hour m.at (claim_in r.certified) sound.0 (map seen r.acts.items)) (all_of_size (after_round (plant_at c hour) m (claim_in r.certified)) rs sound.1)
 
-  behind : (o : Outcome) (acts : List Act) (rs : List Made) (ending : Ending) (n : Machine) → Follows o acts (computed_in rs) ending n (λ k. IsComputedFrom (limits_of c.options) (snapshot_plant c) k (computed_in rs) ending n) →
-      AtEach (IsSoundAt c (snapshot_powers c)) (snapshot_plant c) (left_by o) (claims_in rs) →
-      ((k : Machine) → IsComputedFrom (limits_of c.options) (snapshot_plant c) k (computed_in rs) ending n → AtEach (IsSoundAt c (snapshot_powers c)) (snapshot_plant c) k (claims_in rs) → AtEach (IsSolution c) (snapshot_plant c) k (claims_in rs)) →
-      AtEach (IsSolution c) (snapshot_plant c) (left_by o) (claims_in rs)
+  behind : (o : Outcome) (acts : List Act) (rs : List Made) (ending : Ending) (n : Machine) → Follows o acts (computed_in rs) ending n (λ k. IsComputedFrom (limits_of c.options) (plant_at c hour) k (computed_in rs) ending n) →
+      AtEach (IsSoundAt c (hour_powers c.elements hour)) (plant_at c hour) (left_by o) (claims_in rs) →
+      ((k : Machine) → IsComputedFrom (limits_of c.options) (plant_at c hour) k (computed_in rs) ending n → AtEach (IsSoundAt c (hour_powers c.elements hour)) (plant_at c hour) k (claims_in rs) → AtEach (IsSolution c hour) (plant_at c hour) k (claims_in rs)) →
+      AtEach (IsSolution c hour) (plant_at c hour) (left_by o) (claims_in rs)
   behind (Moves made k) acts rs ending n h sound go = go k h.1 sound
   behind (Ends end k) acts [] ending n h sound go = tt
   behind (Ends end k) acts (r ∷ rs) ending n h sound go = absurd (let none = h.1.0 in cc)
 
-  solutions : EnclosureLaw → TieLaw → BallLaw → (m : Machine) (rs : List Made) (ending : Ending) (n : Machine) → IsComputedFrom (limits_of c.options) (snapshot_plant c) m (computed_in rs) ending n →
-      AtEach (IsSoundAt c (snapshot_powers c)) (snapshot_plant c) m (claims_in rs) → AtEach (IsSolution c) (snapshot_plant c) m (claims_in rs)
+  solutions : EnclosureLaw → TieLaw → BallLaw → (m : Machine) (rs : List Made) (ending : Ending) (n : Machine) → IsComputedFrom (limits_of c.options) (plant_at c hour) m (computed_in rs) ending n →
+      AtEach (IsSoundAt c (hour_powers c.elements hour)) (plant_at c hour) m (claims_in rs) → AtEach (IsSolution c hour) (plant_at c hour) m (claims_in rs)
   solutions law tie ball m [] ending n h sound = tt
   solutions law tie ball m (r ∷ rs) ending n h sound = (
-    is_solution c m.at (claim_in r.certified) sound.0 h.1.0 law tie ball,
-    behind (outcome_of (setup_of c) m ((snapshot_plant c).look m.at (claim_in r.certified))) (map seen r.acts.items) rs ending n h.1.1 sound.1 (λ k later s. solutions law tie ball k rs ending n later s),
+    is_solution c hour m.at (claim_in r.certified) sound.0 h.1.0 law tie ball,
+    behind (outcome_of (setup_of c) m ((plant_at c hour).look m.at (claim_in r.certified))) (map seen r.acts.items) rs ending n h.1.1 sound.1 (λ k later s. solutions law tie ball k rs ending n later s),
   )
 
 -- ---- what a fault tells
@@ -143,90 +133,90 @@ within limits c powers v m rs (fault.Undecided control low high edge) w l is h =
 within limits c powers v m rs (fault.ControlLimit acts) w l is h = tt
 within limits c powers v m rs fault.NoMemory w l is h = tt
 
--- ---- what the clauses of a settle say of its rounds
+-- ---- what the clauses of an hour say of its rounds
 
-pub record IsMade (c : CircuitView) (powers : List LoadPower) (m : Machine) (rs : List Made) (result : Result (Unit {0}) (SettleFault ComputeFault)) (at : Positions) : Type 0 where
+pub record IsMade (c : CircuitView) (powers : List LoadPower) (m : Machine) (rs : List Made) (result : Result (Unit {0}) (SettleFault ComputeFault)) (k : Kept) : Type 0 where
   pub acts : acts_in rs ≡ (settled (plant_of c powers) m rs).rounds
-  pub at_is : at ≡ (settled (plant_of c powers) m rs).machine.at
+  pub at_is : k.at ≡ (settled (plant_of c powers) m rs).machine.at
+  pub opened_is : k.opened ≡ (settled (plant_of c powers) m rs).machine.opened
   pub ends : EndsAs (plant_of c powers) result (settled (plant_of c powers) m rs).end (settled (plant_of c powers) m rs).machine
   pub computed : EndsSo result (λ ending. IsComputedFrom (limits_of c.options) (plant_of c powers) m (computed_in rs) ending (settled (plant_of c powers) m rs).machine)
   pub sound : AtEach (IsSoundAt c powers) (plant_of c powers) m (claims_in rs)
-  pub positions : ArePositions c powers at
+  pub positions : ArePositions c powers k.at
 
--- the same where powers, machine and rounds are written otherwise
-pub made_as : (c : CircuitView) (powers : List LoadPower) (m n : Machine) (rs new : List Made) (result : Result (Unit {0}) (SettleFault ComputeFault)) (at : Positions) → powers ≡ snapshot_powers c → m ≡ n → rs ≡ new →
-    IsMade c powers m rs result at → IsMade c (snapshot_powers c) n new result at
-made_as c powers m n rs new result at p q r h =
-    subst (λ (x : List Made). IsMade c (snapshot_powers c) n x result at) r (subst (λ (x : Machine). IsMade c (snapshot_powers c) x rs result at) q (subst (λ (x : List LoadPower). IsMade c x m rs result at) p h))
+-- the same where the powers are written otherwise
+pub made_as : (c : CircuitView) (powers other : List LoadPower) (m : Machine) (rs : List Made) (result : Result (Unit {0}) (SettleFault ComputeFault)) (k : Kept) → powers ≡ other → IsMade c powers m rs result k → IsMade c other m rs result k
+made_as c powers other m rs result k same h = subst (λ (x : List LoadPower). IsMade c x m rs result k) same h
 
--- nothing was there before
-pub all_appended : (old new : List Made) → old ≡ [] → new ≡ old ++ appended old new → appended old new ≡ new
-all_appended old new none kept = sym (kept ∙ ap (λ (o : List Made). o ++ appended old new) none)
+-- ---- the settle of an hour
 
--- the machine with which it starts
-pub same_start : (c : CircuitView) (before : Positions) (at : CodePositions) (clock : Clock) → start_of (standing c before) ≡ positions_in at → clock.now ≡ 0 → clock.opened.items ≡ replicate (length at.closed) None →
-    length at.closed ≡ list_n (λ e. bank_count e.1) c.elements → begun c at clock ≡ first_machine c (start_of (standing c before))
-same_start c before at clock start now opened long =
-    let each : clock.opened.items ≡ replicate (list_n (λ e. bank_count e.1) c.elements) None = opened ∙ ap (λ n. replicate n None) long in
-    ap (λ (x : Positions). started c x clock.now clock.opened.items) (sym start) ∙ ap (λ n. started c (start_of (standing c before)) n clock.opened.items) now ∙ ap (λ (x : List (Option ℕ)). started c (start_of (standing c before)) 0 x) each
-
--- ---- the settle of a circuit
-
-module _ (c : CircuitView) (before : Positions) (w : SettledCircuit) (ready : HasPassed c) (range : AllInRange c.elements) (keys : All IsEntry c.elements) (law : EnclosureLaw) (tie : TieLaw) (ball : BallLaw) (most : c.options.maxcontroliter ≤ 100) (layout : w.layout ≡ layout_of c.elements) where
-  abbrev here : StandingView
-  here = standing c before
-
+module _ (c : CircuitView) (hour : ℕ) (l : Kept) (rs : List Made) (k : Kept) (ready : HasPassed c) (range : AllInRange c.elements) (keys : All IsEntry c.elements) (law : EnclosureLaw) (tie : TieLaw) (ball : BallLaw) (most : c.options.maxcontroliter ≤ 100) (count : k.settled ≡ l.settled + 1) where
   abbrev first : Machine
-  first = first_machine c (start_of here)
+  first = hour_begun c hour l
 
   abbrev last : Machine
-  last = (settled (snapshot_plant c) first w.rounds.items).machine
+  last = (settled (plant_at c hour) first rs).machine
 
   abbrev MadeHere : Result (Unit {0}) (SettleFault ComputeFault) → Type 0
-  MadeHere result = IsMade c (snapshot_powers c) first w.rounds.items result (positions_in w.at)
+  MadeHere result = IsMade c (hour_powers c.elements hour) first rs result k
 
   abbrev EndsHere : Ending → Type 0
-  EndsHere ending = IsComputedFrom (limits_of c.options) (snapshot_plant c) first (computed_in w.rounds.items) ending last
+  EndsHere ending = IsComputedFrom (limits_of c.options) (plant_at c hour) first (computed_in rs) ending last
 
-  few : (ending : Ending) → EndsHere ending → length w.rounds.items < 2 ^ 32
+  few : (ending : Ending) → EndsHere ending → length rs < 2 ^ 32
   few ending computed =
-      let within : length (computed_in w.rounds.items) + first.made ≤ c.options.maxcontroliter + 1 = few_rounds (limits_of c.options) (snapshot_plant c) first (computed_in w.rounds.items) ending last (omega arith) computed in
-      omega (arith, within, most, ap length (same_rounds w.rounds.items), length-map w.rounds.items shown, length-map (computed_in w.rounds.items) (λ (r : Claim × List Act). round_of r.0 r.1))
+      let within : length (computed_in rs) + first.made ≤ c.options.maxcontroliter + 1 = few_rounds (limits_of c.options) (plant_at c hour) first (computed_in rs) ending last (omega arith) computed in
+      let as_computed : Made → Claim × List Act = λ r. (claim_in r.certified, map seen r.acts.items) in
+      omega (arith, within, most, length-map rs as_computed)
 
-  printable : (result : Result (Unit {0}) (SettleFault ComputeFault)) (ending : Ending) → MadeHere result → EndsHere ending → IsPrintable w here
-  printable result ending made computed = record { ready = ready; layout = layout; numbers = all_of_size c first w.rounds.items made.sound; positions = made.positions; few = few ending computed }
+  printable : (result : Result (Unit {0}) (SettleFault ComputeFault)) (ending : Ending) → MadeHere result → EndsHere ending → IsPrintable c hour rs k.at
+  printable result ending made computed = record { ready = ready; numbers = all_of_size c hour first rs made.sound; positions = made.positions; few = few ending computed }
 
-  solved : (result : Result (Unit {0}) (SettleFault ComputeFault)) (ending : Ending) (end : SettleEnd) → MadeHere result → EndsHere ending → IsSolved (settle_in here w end)
+  solved : (result : Result (Unit {0}) (SettleFault ComputeFault)) (ending : Ending) (end : SettleEnd) → MadeHere result → EndsHere ending → IsSolved (settle_made c hour l rs end k.at)
   solved result ending end made computed = record {
-    solutions = subst (λ (ys : List Claim). AtEach (IsSolution c) (snapshot_plant c) first ys) (sym (same_claims w.rounds.items)) (solutions c law tie ball first w.rounds.items ending last computed made.sound);
-    steady = λ xs chosen. steady c ready range keys law first (claims_in w.rounds.items) xs made.sound
-        (subst (λ (ys : List Claim). AreChosen (setup_of c) (IsOtherState c) (look_over (controls_in c)) first ys xs) (same_claims w.rounds.items) chosen)
-        ∙ ap (λ (acts : List (List Act)). take (length xs) acts) (sym made.acts ∙ sym (same_acts w.rounds.items));
+    solutions = subst (λ (ys : List Claim). AtEach (IsSolution c hour) (plant_at c hour) first ys) (sym (same_claims rs)) (solutions c hour law tie ball first rs ending last computed made.sound);
+    alike = subst (λ (ys : List Claim). AtEach (DecidesAlike c hour) (plant_at c hour) first ys) (sym (same_claims rs)) (each_alike c hour ready range keys law first (claims_in rs) made.sound);
+    steady = λ xs chosen. steady c hour ready range keys law first (claims_in rs) xs made.sound
+        (subst (λ (ys : List Claim). AreChosen (setup_of c) (IsOtherState c hour) (look_over (controls_in c)) first ys xs) (same_claims rs) chosen)
+        ∙ ap (λ (acts : List (List Act)). take (length xs) acts) (sym made.acts ∙ sym (same_acts rs));
   }
 
-  step_by : (ending : Ending) (step : Step StandingView) → EndsHere ending → IsStepBy here (rounds_in w) ending last step → IsSettleStep here step
-  step_by ending step computed is = record {
-    rounds = computed_in w.rounds.items;
+  same_kept : (machine : Machine) → k.at ≡ machine.at → k.opened ≡ machine.opened → k ≡ kept_by l machine
+  same_kept machine at_is opened_is =
+      let made : Positions → List (Option ℕ) → ℕ → Kept = λ at opened settled_so. record { at = at; opened = opened; settled = settled_so } in
+      ap (λ x. made x k.opened k.settled) at_is ∙ ap (λ x. made machine.at x k.settled) opened_is ∙ ap (λ x. made machine.at machine.opened x) count
+
+  hour_by : (result : Result (Unit {0}) (SettleFault ComputeFault)) (ending : Ending) (end : SettleEnd) → MadeHere result → EndsHere ending → IsEndBy c ending last end → IsHour c hour l (settle_made c hour l rs end k.at) k
+  hour_by result ending end made computed is = record {
+    rounds = computed_in rs;
     ending = ending;
     machine = last;
     computed = computed;
-    step_is = subst (λ (rs : List Round). IsStepBy here rs ending last step) (sym (same_rounds w.rounds.items)) is;
+    end = end;
+    end_is = is;
+    settle_is = ap (λ (x : List Round). hour_settle c hour l x end k.at) (sym (same_rounds rs)) ∙ ap (λ (at : Positions). hour_settle c hour l (rounds_of (computed_in rs)) end at) made.at_is;
+    kept = same_kept last made.at_is made.opened_is;
   }
 
-  pub ended_well : (done : Unit {0}) → MadeHere (Ok done) → IsSettleStep here (answered (answer.Settles w) here) × IsSound (answer.Settles w) here
-  ended_well done made = (
-    step_by (ended Settled) (answered (answer.Settles w) here) made.computed (ap (λ (at : Positions). settles here (rounds_in w) at) made.at_is),
-    (printable (Ok done) (ended Settled) made made.computed, solved (Ok done) (ended Settled) outcome.settled made made.computed),
-  )
+  pub ended_well : (done : Unit {0}) → MadeHere (Ok done) → IsMadeHour c hour l rs None k
+  ended_well done made = record {
+    is = hour_by (Ok done) (ended Settled) outcome.settled made made.computed refl;
+    solved = solved (Ok done) (ended Settled) outcome.settled made made.computed;
+    printable = printable (Ok done) (ended Settled) made made.computed;
+    command = tt;
+  }
 
   module _ (e : SettleFault ComputeFault) (f : Fault) (made : MadeHere (Err e)) (command : IsOfCommand f) where
-    ended_so : (o : Option Ending) → ending_of e ≡ o → IsEnding o (IsFaultAt here last f) → IsSettleStep here (answered (answer.Fails w f) here) × IsSound (answer.Fails w f) here
+    ended_so : (o : Option Ending) → ending_of e ≡ o → IsEnding o (IsFaultAt c last f) → IsMadeHour c hour l rs (Some f) k
     ended_so None is told = absurd told
     ended_so (Some ending) is told =
-        let computed : EndsHere ending = both e EndsHere ending is made.computed in (
-          step_by ending (answered (answer.Fails w f) here) computed (subst (λ (at : Positions). IsStepBy here (rounds_in w) ending last (fails here (rounds_in w) f at)) (sym made.at_is) (told (rounds_in w))),
-          (printable (Err e) ending made computed, (solved (Err e) ending (outcome.failed f) made computed, command)),
-        )
+        let computed : EndsHere ending = both e EndsHere ending is made.computed in
+        record {
+          is = hour_by (Err e) ending (outcome.failed f) made computed told;
+          solved = solved (Err e) ending (outcome.failed f) made computed;
+          printable = printable (Err e) ending made computed;
+          command = command;
+        }
 
-    pub ended_by_fault : ((n : Machine) → IsCounted e n → IsEnding (ending_of e) (IsFaultAt here n f)) → IsSettleStep here (answered (answer.Fails w f) here) × IsSound (answer.Fails w f) here
-    ended_by_fault told = ended_so (ending_of e) refl (told last (counted (snapshot_plant c) e (settled (snapshot_plant c) first w.rounds.items).end last made.ends))
+    pub ended_by_fault : TellsOf c e f → IsMadeHour c hour l rs (Some f) k
+    ended_by_fault told = ended_so (ending_of e) refl (told last (counted (plant_at c hour) e (settled (plant_at c hour) first rs).end last made.ends))

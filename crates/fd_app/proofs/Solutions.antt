@@ -27,8 +27,8 @@ use Rattle.fd_settle.specs.Contract.{limits_of}
 use Rattle.fd_settle.specs.Plant.{network_at}
 use Rattle.fd_settle.specs.Start.{IsSoundAt}
 use Rattle.fd_outcome.specs.Pages.{solution_in}
-use Rattle.fd_app.specs.Headline.{EnclosesOthers, IsOtherState, IsSolution, equation_count, equations_of, snapshot_network}
-use Rattle.fd_app.specs.Solving.{snapshot_powers}
+use Rattle.fd_devices.specs.Hours.{hour_powers}
+use Rattle.fd_app.specs.Headline.{EnclosesOthers, IsOtherState, IsSolution, equation_count, equations_of, hour_network}
 use Rattle.fd_app.specs.Steps.{round_of}
 use Rattle.fd_queue.specs.Machine.{Act}
 
@@ -60,63 +60,63 @@ network_complexes c powers at = refl
 
 -- ---- a round
 
-module _ (c : CircuitView) (at : Positions) (m : Claim) (here : IsSoundAt c (snapshot_powers c) at m) where
+module _ (c : CircuitView) (hour : ℕ) (at : Positions) (m : Claim) (here : IsSoundAt c (hour_powers c.elements hour) at m) where
   -- a state meets numbers in the equations of the circuit where it does in the rows of its network, and the other way round
-  up : (e : ℕ → ℕ) (y : State) → 0 < y.over → Meets (residual_of (snapshot_network c at).share) e (snapshot_network c at).size y → Meets (equations_of c at) e (equation_count c at) y
-  up e y h meets = let P : ℕ → Type 0 = λ n. Meets (equations_of c at) e n y in subst P (network_size c (snapshot_powers c) at) (here.agrees.up e (snapshot_network c at).size y h meets)
+  up : (e : ℕ → ℕ) (y : State) → 0 < y.over → Meets (residual_of (hour_network c hour at).share) e (hour_network c hour at).size y → Meets (equations_of c hour at) e (equation_count c hour at) y
+  up e y h meets = let P : ℕ → Type 0 = λ n. Meets (equations_of c hour at) e n y in subst P (network_size c (hour_powers c.elements hour) at) (here.agrees.up e (hour_network c hour at).size y h meets)
 
-  down : (e : ℕ → ℕ) (y : State) → 0 < y.over → Meets (equations_of c at) e (equation_count c at) y → Meets (residual_of (snapshot_network c at).share) e (snapshot_network c at).size y
-  down e y h meets = let P : ℕ → Type 0 = λ n. Meets (equations_of c at) e n y in here.agrees.down e (snapshot_network c at).size y h (subst P (sym (network_size c (snapshot_powers c) at)) meets)
+  down : (e : ℕ → ℕ) (y : State) → 0 < y.over → Meets (equations_of c hour at) e (equation_count c hour at) y → Meets (residual_of (hour_network c hour at).share) e (hour_network c hour at).size y
+  down e y h meets = let P : ℕ → Type 0 = λ n. Meets (equations_of c hour at) e n y in here.agrees.down e (hour_network c hour at).size y h (subst P (sym (network_size c (hour_powers c.elements hour) at)) meets)
 
-  enclosed : EnclosureLaw → IsEnclosure (snapshot_network c at) m
-  enclosed law = law (snapshot_network c at) m here.network here.sound
+  enclosed : EnclosureLaw → IsEnclosure (hour_network c hour at) m
+  enclosed law = law (hour_network c hour at) m here.network here.sound
 
   -- a state of the round's ball that meets its mismatches is one that the certificate speaks of
-  alternative : (y : State) → IsOtherState c at m y → IsAlternative (snapshot_network c at) m.centre m.mismatches y
+  alternative : (y : State) → IsOtherState c hour at m y → IsAlternative (hour_network c hour at) m.centre m.mismatches y
   alternative y a = record { over = a.over; inside = a.inside; meets = down (number_at m.mismatches) y a.over a.meets }
 
-  pub others : EnclosureLaw → EnclosesOthers c at m
+  pub others : EnclosureLaw → EnclosesOthers c hour at m
   others law y a = (enclosed law).encloses y (alternative y a)
 
   pub is_of_size : (acts : List Act) → IsOfSize (size_of (layout_of c.elements)) (solution_in (round_of m acts))
   is_of_size acts =
-      subst (λ n. IsOfSize n (solution_in (round_of m acts))) (network_size c (snapshot_powers c) at) (record {
+      subst (λ n. IsOfSize n (solution_in (round_of m acts))) (network_size c (hour_powers c.elements hour) at) (record {
         centre = here.sound.centre.long;
         radii = here.sound.radii_long;
-        boxes = ap length here.sound.boxes ∙ length-map-range_with_len (half_width (snapshot_network c at) m.centre) 0 (snapshot_network c at).size;
+        boxes = ap length here.sound.boxes ∙ length-map-range_with_len (half_width (hour_network c hour at) m.centre) 0 (hour_network c hour at).size;
         mismatches = here.sound.mismatches_long;
         parts_small = λ i h. part_size (part m.centre i) (All-get_or IsPart m.centre i (pos 0) (subst (λ n. i < n) (sym here.sound.centre.long) h) here.sound.centre.parts);
         radii_small = here.sound.radii_most;
       })
 
-  module _ (computed : IsComputed (limits_of c.options) (snapshot_network c at) m) where
-    what : m ≡ claim_of (snapshot_network c at) m.centre m.inverse
-    what = sym (claim_is (snapshot_network c at) m.centre m.inverse m computed.certificate)
+  module _ (computed : IsComputed (limits_of c.options) (hour_network c hour at) m) where
+    what : m ≡ claim_of (hour_network c hour at) m.centre m.inverse
+    what = sym (claim_is (hour_network c hour at) m.centre m.inverse m computed.certificate)
 
-    own_mismatch : (l : ℕ) → l < (snapshot_network c at).size → number_at m.mismatches l ≡ mismatch_at (snapshot_network c at) m.centre l
+    own_mismatch : (l : ℕ) → l < (hour_network c hour at).size → number_at m.mismatches l ≡ mismatch_at (hour_network c hour at) m.centre l
     unfolding mismatches_of
-    own_mismatch l h = ap (λ k. number_at k.mismatches l) what ∙ get_or-map-range_with_len (mismatch_at (snapshot_network c at) m.centre) 0 (snapshot_network c at).size l l 0 h (omega arith)
+    own_mismatch l h = ap (λ k. number_at k.mismatches l) what ∙ get_or-map-range_with_len (mismatch_at (hour_network c hour at) m.centre) 0 (hour_network c hour at).size l l 0 h (omega arith)
 
-    own_radius : (i : ℕ) → i < (snapshot_network c at).size → number_at m.radii i ≡ radius_in (snapshot_network c at) m.centre m.inverse (mismatches_of (snapshot_network c at) m.centre) i
+    own_radius : (i : ℕ) → i < (hour_network c hour at).size → number_at m.radii i ≡ radius_in (hour_network c hour at) m.centre m.inverse (mismatches_of (hour_network c hour at) m.centre) i
     unfolding radii_of
     own_radius i h =
         ap (λ k. number_at k.radii i) what
-        ∙ get_or-map-range_with_len (radius_in (snapshot_network c at) m.centre m.inverse (mismatches_of (snapshot_network c at) m.centre)) 0 (snapshot_network c at).size i i 0 h (omega arith)
+        ∙ get_or-map-range_with_len (radius_in (hour_network c hour at) m.centre m.inverse (mismatches_of (hour_network c hour at) m.centre)) 0 (hour_network c hour at).size i i 0 h (omega arith)
 
-    row_tied : TieLaw → (l : ℕ) → l < equation_count c at → IsTied (equations_of c at (whole_state m.centre) l) (addend_count (snapshot_network c at).share l) (number_at m.mismatches l)
+    row_tied : TieLaw → (l : ℕ) → l < equation_count c hour at → IsTied (equations_of c hour at (whole_state m.centre) l) (addend_count (hour_network c hour at).share l) (number_at m.mismatches l)
     row_tied tie l h =
-        let within : l < (snapshot_network c at).size = omega (arith, h, network_size c (snapshot_powers c) at) in
-        let tied : IsTied (equations_of c at (whole_state m.centre) l) (addend_count (snapshot_network c at).share l) (mismatch_at (snapshot_network c at) m.centre l) =
-        tied_same (here.agrees.same (whole_state m.centre) (omega arith) l) (addend_count (snapshot_network c at).share l) (mismatch_at (snapshot_network c at) m.centre l) (tie (snapshot_network c at) m.centre l here.network here.sound.centre within) in
-        subst (λ e. IsTied (equations_of c at (whole_state m.centre) l) (addend_count (snapshot_network c at).share l) e) (sym (own_mismatch l within)) tied
+        let within : l < (hour_network c hour at).size = omega (arith, h, network_size c (hour_powers c.elements hour) at) in
+        let tied : IsTied (equations_of c hour at (whole_state m.centre) l) (addend_count (hour_network c hour at).share l) (mismatch_at (hour_network c hour at) m.centre l) =
+        tied_same (here.agrees.same (whole_state m.centre) (omega arith) l) (addend_count (hour_network c hour at).share l) (mismatch_at (hour_network c hour at) m.centre l) (tie (hour_network c hour at) m.centre l here.network here.sound.centre within) in
+        subst (λ e. IsTied (equations_of c hour at (whole_state m.centre) l) (addend_count (hour_network c hour at).share l) e) (sym (own_mismatch l within)) tied
 
     pair : BallLaw → (k : ℕ) → k < complex_count (layout_of c.elements) → number_at m.radii (2 * k) ≡ number_at m.radii (2 * k + 1)
     pair ball k h =
-        let inside : k < (snapshot_network c at).complexes = omega (arith, h, network_complexes c (snapshot_powers c) at) in
-        own_radius (2 * k) (omega (arith, inside, here.network.unknowns)) ∙ (ball (snapshot_network c at) m.centre m.inverse (mismatches_of (snapshot_network c at) m.centre) k here.network.nodes inside).radius
+        let inside : k < (hour_network c hour at).complexes = omega (arith, h, network_complexes c (hour_powers c.elements hour) at) in
+        own_radius (2 * k) (omega (arith, inside, here.network.unknowns)) ∙ (ball (hour_network c hour at) m.centre m.inverse (mismatches_of (hour_network c hour at) m.centre) k here.network.nodes inside).radius
         ∙ sym (own_radius (2 * k + 1) (omega (arith, inside, here.network.unknowns)))
 
-    pub is_solution : EnclosureLaw → TieLaw → BallLaw → IsSolution c at m
+    pub is_solution : EnclosureLaw → TieLaw → BallLaw → IsSolution c hour at m
     is_solution law tie ball = record {
       state = computed.point;
       certificate = computed.certificate;

@@ -10,6 +10,7 @@ use Rattle.dss_circuit.specs.Circuit.{CircuitView}
 use Rattle.dss_circuit.specs.InRange.{AllInRange}
 use Rattle.dss_circuit.specs.WellFormed.{IsEntry}
 use Rattle.fd_exact.specs.States.{State}
+use Rattle.fd_devices.specs.Hours.{hour_powers}
 use Rattle.fd_enclosure.specs.Encloses.{EnclosureLaw}
 use Rattle.fd_enclosure.specs.Sound.{Claim}
 use Rattle.fd_queue.specs.Controls.{Positions}
@@ -22,14 +23,13 @@ use Rattle.fd_sample.specs.Probes.{IsProbe, decision_at, quantity_at}
 use Rattle.fd_sample.specs.declared.probe.Probe.{Probe}
 use Rattle.fd_sample.proofs.CallerLemmas.{probes_kept, sample_wanted}
 use Rattle.fd_settle.specs.Chosen.{AreChosen, AreOfHeld, GoesOn}
-use Rattle.fd_settle.specs.Plant.{controls_in, plant_of, setup_of, taking_part}
-use Rattle.fd_settle.specs.Rounds.{AtEach, left_by}
+use Rattle.fd_settle.specs.Plant.{Plant, controls_in, plant_of, setup_of, taking_part}
+use Rattle.fd_settle.specs.Rounds.{AtEach, after_round, left_by}
 use Rattle.fd_settle.specs.Sampling.{Sampling, Decided, Unclear, look_at, look_over, sampling_of, with_first}
 use Rattle.fd_settle.specs.Settle.{Open, Settled, Limited, Undecidable, Outcome, Ends, Moves, outcome_of, settle_of}
 use Rattle.fd_settle.specs.Start.{IsSoundAt}
 use Rattle.fd_settle.proofs.CallerLemmas.{history}
-use Rattle.fd_app.specs.Headline.{IsOtherState}
-use Rattle.fd_app.specs.Solving.{snapshot_powers}
+use Rattle.fd_app.specs.Headline.{DecidesAlike, IsOtherState}
 use Rattle.fd_app.proofs.Solutions.{network_size, others}
 
 -- ---- decided samples
@@ -60,29 +60,33 @@ part_taken control_mode.Static P ps h = h
 
 -- ---- states that may be chosen
 
-module _ (c : CircuitView) where
+-- states that may be chosen, where something holds of each round besides
+module _ (p : Plant) (P : Positions → Claim → State → Type 0) (Q : Positions → Claim → Type 0) where
+  abbrev pub Both : Positions → Claim → State → Type 0
+  Both at m x = P at m x × Q at m
+
+  on_both : (o : Outcome) (ys : List Claim) (xs : List State) → ((n : Machine) → AtEach Q p n ys → AreChosen p.setup P p.look n ys xs → AreChosen p.setup Both p.look n ys xs) → AtEach Q p (left_by o) ys
+      → GoesOn o xs (λ n. AreChosen p.setup P p.look n ys xs) → GoesOn o xs (λ n. AreChosen p.setup Both p.look n ys xs)
+  on_both (Moves acts n) ys xs go each h = go n each h
+  on_both (Ends (Undecidable k u) n) ys xs go each h = h
+  on_both (Ends Open n) ys xs go each h = h
+  on_both (Ends Settled n) ys xs go each h = h
+  on_both (Ends Limited n) ys xs go each h = h
+
+  pub both : (m : Machine) (ys : List Claim) (xs : List State) → AtEach Q p m ys → AreChosen p.setup P p.look m ys xs → AreChosen p.setup Both p.look m ys xs
+  both m ys [] each h = tt
+  both m [] (x ∷ xs) each h = absurd h
+  both m (y ∷ ys) (x ∷ xs) each h = ((h.0, each.0), on_both (outcome_of p.setup m (p.look m.at y)) ys xs (λ n e k. both n ys xs e k) each.1 h.1)
+
+module _ (c : CircuitView) (hour : ℕ) where
   -- a state that may be chosen for a round, where the round is sound
   abbrev IsHeld : Positions → Claim → State → Type 0
-  IsHeld at m x = IsOtherState c at m x × IsSoundAt c (snapshot_powers c) at m
+  IsHeld at m x = IsOtherState c hour at m x × IsSoundAt c (hour_powers c.elements hour) at m
 
   abbrev chosen_by : (Positions → Claim → State → Type 0) → Machine → List Claim → List State → Type 0
   chosen_by holds m ys xs = AreChosen (setup_of c) holds (look_over (controls_in c)) m ys xs
 
-  goes_on_held : (o : Outcome) (ys : List Claim) (xs : List State) → ((n : Machine) → AtEach (IsSoundAt c (snapshot_powers c)) (plant_of c (snapshot_powers c)) n ys → chosen_by (IsOtherState c) n ys xs → chosen_by IsHeld n ys xs) →
-      AtEach (IsSoundAt c (snapshot_powers c)) (plant_of c (snapshot_powers c)) (left_by o) ys → GoesOn o xs (λ n. chosen_by (IsOtherState c) n ys xs) → GoesOn o xs (λ n. chosen_by IsHeld n ys xs)
-  goes_on_held (Moves acts n) ys xs go sound h = go n sound h
-  goes_on_held (Ends (Undecidable k u) n) ys xs go sound h = h
-  goes_on_held (Ends Open n) ys xs go sound h = h
-  goes_on_held (Ends Settled n) ys xs go sound h = h
-  goes_on_held (Ends Limited n) ys xs go sound h = h
-
-  held : (m : Machine) (ys : List Claim) (xs : List State) → AtEach (IsSoundAt c (snapshot_powers c)) (plant_of c (snapshot_powers c)) m ys → chosen_by (IsOtherState c) m ys xs → chosen_by IsHeld m ys xs
-  held m ys [] sound h = tt
-  held m [] (x ∷ xs) sound h = absurd h
-  held m (y ∷ ys) (x ∷ xs) sound h =
-      ((h.0, sound.0), goes_on_held (outcome_of (setup_of c) m (look_over (controls_in c) m.at y)) ys xs (λ n s k. held n ys xs s k) sound.1 h.1)
-
-  ball_of : (at : Positions) (m : Claim) → IsSoundAt c (snapshot_powers c) at m → IsBall m.centre m.radii
+  ball_of : (at : Positions) (m : Claim) → IsSoundAt c (hour_powers c.elements hour) at m → IsBall m.centre m.radii
   ball_of at m here = record {
     long = here.sound.radii_long ∙ sym here.sound.centre.long;
     centre = here.sound.centre.parts;
@@ -90,14 +94,14 @@ module _ (c : CircuitView) where
   }
 
   in_ball : EnclosureLaw → (at : Positions) (m : Claim) (x : State) → IsHeld at m x → IsInBall m.centre m.radii x
-  in_ball law at m x h = record { over = h.0.over; within = λ i lt. others c at m h.1 law x h.0 i (subst (λ n. i < n) h.1.sound.centre.long lt) }
+  in_ball law at m x h = record { over = h.0.over; within = λ i lt. others c hour at m h.1 law x h.0 i (subst (λ n. i < n) h.1.sound.centre.long lt) }
 
   module _ (ready : HasPassed c) (range : AllInRange c.elements) (keys : All IsEntry c.elements) (law : EnclosureLaw) where
     -- a decided sample over a round's ball is what its control wants at each state that may be chosen
     wanted : (at : Positions) (m : Claim) (x : State) → IsHeld at m x → All (λ p. (d : Decision) → sample_over p at m.centre m.radii ≡ Ok d → decision_at p at (quantity_at p at x) ≡ d) (probes_of c.elements)
     wanted at m x h i p lt d is =
         let kept = probes_kept c ready range keys in
-        let long : length m.centre ≡ size_of (layout_of c.elements) = h.1.sound.centre.long ∙ network_size c (snapshot_powers c) at in
+        let long : length m.centre ≡ size_of (layout_of c.elements) = h.1.sound.centre.long ∙ network_size c (hour_powers c.elements hour) at in
         let q = get_or (probes_of c.elements) i p in
         sample_wanted q at m.centre m.radii x d (subst (λ n. IsProbe n q) (sym long) (kept.places i p lt)) (kept.devices at h.1.positions.counts.taps h.1.positions.counts.closed i p lt) h.1.positions.taps
         (ball_of at m h.1) (in_ball law at m x h) is
@@ -107,6 +111,13 @@ module _ (c : CircuitView) where
         ap Decided (decided_each 0 (controls_in c) (λ p. sample_over p at m.centre m.radii) (λ p. decision_at p at (quantity_at p at x)) ds
         (part_taken c.options.controlmode (λ p. (d : Decision) → sample_over p at m.centre m.radii ≡ Ok d → decision_at p at (quantity_at p at x) ≡ d) (probes_of c.elements) (wanted at m x h)) is)
 
-    pub steady : (m : Machine) (ys : List Claim) (xs : List State) → AtEach (IsSoundAt c (snapshot_powers c)) (plant_of c (snapshot_powers c)) m ys → chosen_by (IsOtherState c) m ys xs →
+    pub alike : (at : Positions) (m : Claim) → IsSoundAt c (hour_powers c.elements hour) at m → DecidesAlike c hour at m
+    alike at m here x ds other is = of_held at m x ds (other, here) is
+
+    pub each_alike : (m : Machine) (ys : List Claim) → AtEach (IsSoundAt c (hour_powers c.elements hour)) (plant_of c (hour_powers c.elements hour)) m ys → AtEach (DecidesAlike c hour) (plant_of c (hour_powers c.elements hour)) m ys
+    each_alike m [] sound = tt
+    each_alike m (y ∷ ys) sound = (alike m.at y sound.0, each_alike (after_round (plant_of c (hour_powers c.elements hour)) m y) ys sound.1)
+
+    pub steady : (m : Machine) (ys : List Claim) (xs : List State) → AtEach (IsSoundAt c (hour_powers c.elements hour)) (plant_of c (hour_powers c.elements hour)) m ys → chosen_by (IsOtherState c hour) m ys xs →
         (settle_of (setup_of c) (look_at (controls_in c)) m xs).rounds ≡ take (length xs) (settle_of (setup_of c) (look_over (controls_in c)) m ys).rounds
-    steady m ys xs sound h = history IsHeld (look_over (controls_in c)) (look_at (controls_in c)) of_held (setup_of c) m ys xs (held m ys xs sound h)
+    steady m ys xs sound h = history IsHeld (look_over (controls_in c)) (look_at (controls_in c)) of_held (setup_of c) m ys xs (both (plant_of c (hour_powers c.elements hour)) (IsOtherState c hour) (IsSoundAt c (hour_powers c.elements hour)) m ys xs sound h)

@@ -13,31 +13,30 @@ use Rattle.dss_profile.specs.declared.element.Element.{Element}
 use Rattle.dss_profile.specs.declared.names.ElementName.{ElementName}
 use Rattle.dss_layout.specs.Feeding.{Fed, IsFed, IsIsolated, IsFirstIsolated, FirstIsolated}
 use Rattle.dss_layout.specs.Labels.{labels_of, mentions_apart}
-use Rattle.dss_layout.specs.Layout.{first_too_many, layout_of, nodes_of}
+use Rattle.dss_layout.specs.Layout.{first_too_many, nodes_of}
 use Rattle.dss_layout.specs.Terminals.{mentions}
 use Rattle.dss_layout.proofs.Walk.{first_isolated_at, fed_up_to}
 use Rattle.dss_ready.specs.Ready.{HasPassed, IsToBlame, for_own, for_many, for_isolated, blame_at, blame_on, own_blame}
 use Rattle.dss_ready.proofs.Limits.{too_many_within}
 use Rattle.dss_circuit.specs.Circuit.{CircuitView, Elements}
-use Rattle.dss_profile.specs.declared.command.Place.{Place}
 use Rattle.fd_enclosure.specs.Sound.{loose, uncertain}
 use Rattle.fd_inject.specs.declared.fault.SolveFault.TheVariants as solving
 use Rattle.fd_queue.specs.Controls.{Positions}
 use Rattle.fd_queue.specs.Machine.{Machine}
-use Rattle.fd_report.specs.Names.{name_at}
 use Rattle.fd_report.specs.declared.faults.Cause.TheVariants as cause
 use Rattle.fd_report.specs.declared.faults.Fault.TheVariants as run
 use Rattle.fd_settle.specs.Computed.{Computation, Ending, HasOneComputation, ended, procedure, range, stopped, uncertified}
 use Rattle.fd_settle.specs.Contract.{limits_of}
 use Rattle.fd_settle.proofs.CallerLemmas.{has_one_computation}
 use Rattle.fd_settle.specs.Settle.{Open, Settled, Limited, Undecidable}
-use Rattle.fd_outcome.specs.Settles.{Round}
-use Rattle.fd_outcome.specs.Work.{Step, ExactlyOne}
+use Rattle.fd_daily.specs.Hours.{hours_of}
+use Rattle.fd_outcome.specs.Events.{settle}
+use Rattle.fd_outcome.specs.Settles.{Settle, SettleEnd, settled, failed}
+use Rattle.fd_outcome.specs.Work.{Step, ExactlyOne, goes, ends}
 use Rattle.fd_outcome.proofs.CallerLemmas.{exactly_this}
 use Rattle.fd_app.specs.Commands.{Applied, nothing_left, solve_left, refused_at, IsByTests, IsStep, IsStepOf, IsTested, tried}
-use Rattle.fd_app.specs.Built.{unbuilt_place}
-use Rattle.fd_app.specs.Solving.{IsByBuilt, IsByRange, IsSettleStep, IsSolutionStep, IsStepBy, first_machine, rounds_of, snapshot_plant, undecided_at}
-use Rattle.fd_app.specs.Steps.{StandingView, changes, fails, refuses, settles, standing, start_of}
+use Rattle.fd_app.specs.Solving.{IsBehind, IsEndBy, IsHour, IsHourStep, IsHoursStep, IsSolutionStep, hour_begun, kept_by, kept_first, plant_at, rounds_of, undecided_at, unknown_of}
+use Rattle.fd_app.specs.Steps.{Kept, StandingView, behind_events, changes, hour_settle, refuses, standing}
 use Rattle.fd_app.proofs.Computations.{IsTold, is_told}
 
 -- ---- the tests of Solve have one answer
@@ -170,49 +169,87 @@ module _ (circuit : CircuitView) where
 
 -- ---- a Solve
 
-one_by_ending : (s : StandingView) (rounds : List Round) (ending : Ending) (n : Machine) → IsTold ending → ExactlyOne (IsStepBy s rounds ending n)
-one_by_ending s rounds (ended Open) n told = absurd told
-one_by_ending s rounds (ended Settled) n told = exactly_this (settles s rounds n.at)
-one_by_ending s rounds (ended Limited) n told = exactly_this (fails s rounds (run.ControlLimit n.made) n.at)
-one_by_ending s rounds (ended (Undecidable k u)) n told = exactly_this (fails s rounds (undecided_at s.circuit k u) n.at)
-one_by_ending s rounds (stopped (range blame)) n told = exactly_this (fails s rounds (run.Script blame.place (cause.Model blame.cause)) n.at)
-one_by_ending s rounds (stopped (procedure (solving.NoInverse column stop))) n told = exactly_this (fails s rounds (run.NoInverse (name_at (layout_of s.circuit.elements) column) stop) n.at)
-one_by_ending s rounds (stopped (procedure (solving.OutOfRange place k))) n told = exactly_this (fails s rounds (run.OutOfRange (name_at (layout_of s.circuit.elements) place) k) n.at)
-one_by_ending s rounds (stopped (procedure (solving.NotConverged place steps update))) n told = exactly_this (fails s rounds (run.NotConverged (name_at (layout_of s.circuit.elements) place) steps update) n.at)
-one_by_ending s rounds (stopped (procedure solving.NoMemory)) n told = absurd told
-one_by_ending s rounds (stopped (uncertified (loose row mismatch))) n told = exactly_this (fails s rounds (run.Loose (name_at (layout_of s.circuit.elements) row) mismatch) n.at)
-one_by_ending s rounds (stopped (uncertified (uncertain place bound))) n told = exactly_this (fails s rounds (run.NotCertified (name_at (layout_of s.circuit.elements) place) (option_map nat_abs bound)) n.at)
+one_end : (c : CircuitView) (ending : Ending) (n : Machine) → IsTold ending → ExactlyOne (IsEndBy c ending n)
+one_end c (ended Open) n told = absurd told
+one_end c (ended Settled) n told = exactly_this settled
+one_end c (ended Limited) n told = exactly_this (failed (run.ControlLimit n.made))
+one_end c (ended (Undecidable k u)) n told = exactly_this (failed (undecided_at c k u))
+one_end c (stopped (range blame)) n told = exactly_this (failed (run.Script blame.place (cause.Model blame.cause)))
+one_end c (stopped (procedure (solving.NoInverse column stop))) n told = exactly_this (failed (run.NoInverse (unknown_of c column) stop))
+one_end c (stopped (procedure (solving.OutOfRange place k))) n told = exactly_this (failed (run.OutOfRange (unknown_of c place) k))
+one_end c (stopped (procedure (solving.NotConverged place steps update))) n told = exactly_this (failed (run.NotConverged (unknown_of c place) steps update))
+one_end c (stopped (procedure solving.NoMemory)) n told = absurd told
+one_end c (stopped (uncertified (loose row mismatch))) n told = exactly_this (failed (run.Loose (unknown_of c row) mismatch))
+one_end c (stopped (uncertified (uncertain place bound))) n told = exactly_this (failed (run.NotCertified (unknown_of c place) (option_map nat_abs bound)))
 
-abbrev computation_in : (s : StandingView) (step : Step StandingView) → IsSettleStep s step → Computation
-computation_in s step is = record { rounds = is.rounds; ending = is.ending; machine = is.machine }
+-- what comes behind a settle
+one_behind : (x : Settle) (end : SettleEnd) (rest : Step StandingView → Type 0) → ExactlyOne rest → ExactlyOne (IsBehind x end rest)
+one_behind x settled rest one = record {
+  some = behind_events (settle x ∷ []) one.some;
+  is = record { more = one.some; right = one.is; step_is = refl };
+  only = λ step is. is.step_is ∙ ap (behind_events (settle x ∷ [])) (one.only is.more is.right);
+}
+one_behind x (failed f) rest one = exactly_this (ends (settle x ∷ []) f)
 
-abbrev IsStepOfComputation : StandingView → Step StandingView → Computation → Type 0
-IsStepOfComputation s step c = IsStepBy s (rounds_of c.rounds) c.ending c.machine step
+module _ (c : CircuitView) (hour : ℕ) (l : Kept) (one : HasOneComputation (limits_of c.options) (plant_at c hour) (hour_begun c hour l)) where
+  abbrev only_end : ExactlyOne (IsEndBy c one.some.ending one.some.machine)
+  only_end = one_end c one.some.ending one.some.machine (is_told (limits_of c.options) (plant_at c hour) (hour_begun c hour l) one.some.rounds one.some.ending one.some.machine one.is)
 
-one_of_computation : (s : StandingView) → HasOneComputation (limits_of s.circuit.options) (snapshot_plant s.circuit) (first_machine s.circuit (start_of s)) → ExactlyOne (IsSettleStep s)
-one_of_computation s one =
-    let c = one.some in
-    let by = one_by_ending s (rounds_of c.rounds) c.ending c.machine (is_told (limits_of s.circuit.options) (snapshot_plant s.circuit) (first_machine s.circuit (start_of s)) c.rounds c.ending c.machine one.is) in
-    record {
-      some = by.some;
-      is = record { rounds = c.rounds; ending = c.ending; machine = c.machine; computed = one.is; step_is = by.is };
-      only = λ step is. by.only step (subst (IsStepOfComputation s step) (one.only (computation_in s step is) is.computed) is.step_is);
-    }
+  abbrev only_settle : Settle
+  only_settle = hour_settle c hour l (rounds_of one.some.rounds) only_end.some one.some.machine.at
 
-one_settle : (s : StandingView) → ExactlyOne (IsSettleStep s)
-one_settle s = one_of_computation s (has_one_computation (limits_of s.circuit.options) (snapshot_plant s.circuit) (first_machine s.circuit (start_of s)) (omega arith))
+  abbrev only_kept : Kept
+  only_kept = kept_by l one.some.machine
 
-one_by_range : (s : StandingView) (blame : Option Blame) → ExactlyOne (IsByRange s blame)
-one_by_range s None = one_settle s
-one_by_range s (Some blame) = exactly_this (refuses blame.place (cause.Model blame.cause))
+  is_hour : IsHour c hour l only_settle only_kept
+  is_hour = record {
+    rounds = one.some.rounds;
+    ending = one.some.ending;
+    machine = one.some.machine;
+    computed = one.is;
+    end = only_end.some;
+    end_is = only_end.is;
+    settle_is = refl;
+    kept = refl;
+  }
 
-one_by_built : (s : StandingView) (place : Option Place) → ExactlyOne (IsByBuilt s place)
-one_by_built s None = one_by_range s ((snapshot_plant s.circuit).blame (start_of s))
-one_by_built s (Some place) = exactly_this (refuses place cause.NotBuilt)
+  module _ (x : Settle) (k : Kept) (h : IsHour c hour l x k) where
+    abbrev made : Computation
+    made = record { rounds = h.rounds; ending = h.ending; machine = h.machine }
 
-one_solution : (s : StandingView) → ExactlyOne (IsSolutionStep s)
+    same : made ≡ one.some
+    same = one.only made h.computed
+
+    same_end : h.end ≡ only_end.some
+    same_end = only_end.only h.end (subst (λ (m : Computation). IsEndBy c m.ending m.machine h.end) same h.end_is)
+
+    same_settle : x ≡ only_settle
+    same_settle =
+        h.settle_is
+        ∙ ap (λ (m : Computation). hour_settle c hour l (rounds_of m.rounds) h.end m.machine.at) same
+        ∙ ap (λ (e : SettleEnd). hour_settle c hour l (rounds_of one.some.rounds) e one.some.machine.at) same_end
+
+    same_kept : k ≡ only_kept
+    same_kept = h.kept ∙ ap (λ (m : Computation). kept_by l m.machine) same
+
+  one_hour : (rest : Kept → Step StandingView → Type 0) → ((k : Kept) → ExactlyOne (rest k)) → ExactlyOne (IsHourStep c hour l rest)
+  one_hour rest one_rest =
+      let by = one_behind only_settle only_end.some (rest only_kept) (one_rest only_kept) in
+      record {
+        some = by.some;
+        is = record { made = only_settle; kept = only_kept; is = is_hour; goes_on = by.is };
+        only = λ step h. by.only step (subst (λ (k : Kept). IsBehind only_settle only_settle.end (rest k) step) (same_kept h.made h.kept h.is)
+            (subst (λ (x : Settle). IsBehind x x.end (rest h.kept) step) (same_settle h.made h.kept h.is) h.goes_on));
+      }
+
+-- the hours of a Solve come to exactly one thing
+pub one_hours : (c : CircuitView) (hours : List ℕ) (l : Kept) → ExactlyOne (IsHoursStep c hours l)
+one_hours c [] l = exactly_this (goes [] (standing c l.at l.settled))
+one_hours c (hour ∷ hours) l = one_hour c hour l (has_one_computation (limits_of c.options) (plant_at c hour) (hour_begun c hour l) (omega arith)) (λ k step. IsHoursStep c hours k step) (λ k. one_hours c hours k)
+
+pub one_solution : (s : StandingView) → ExactlyOne (IsSolutionStep s)
 unfolding IsSolutionStep
-one_solution s = one_by_built s (unbuilt_place s.circuit.elements)
+one_solution s = one_hours s.circuit (hours_of s.circuit.options) (kept_first s)
 
 one_by_tests : (s : StandingView) (answer : Result Unit Blame) → ExactlyOne (IsByTests s answer)
 one_by_tests s (Ok done) = one_solution s
@@ -220,17 +257,17 @@ one_by_tests s (Err blame) = exactly_this (refuses blame.place (cause.Model blam
 
 -- ---- a command
 
-one_of : (at : Positions) (left : Applied) → ExactlyOne (IsStepOf at left)
-one_of at (nothing_left circuit) = exactly_this (changes (standing circuit at))
-one_of at (refused_at place c) = exactly_this (refuses place c)
-one_of at (solve_left circuit) =
+one_of : (at : Positions) (settled_so : ℕ) (left : Applied) → ExactlyOne (IsStepOf at settled_so left)
+one_of at n (nothing_left circuit) = exactly_this (changes (standing circuit at n))
+one_of at n (refused_at place c) = exactly_this (refuses place c)
+one_of at n (solve_left circuit) =
     let tests = answer_of_tests circuit (own_blame circuit) refl in
-    let one = one_by_tests (standing circuit at) tests.answer in
+    let one = one_by_tests (standing circuit at n) tests.answer in
     record {
       some = one.some;
       is = record { answer = tests.answer; right = tests.right; step_is = one.is };
-      only = λ step is. one.only step (subst (λ a. IsByTests (standing circuit at) a step) (test_once circuit is.answer tests.answer is.right tests.right) is.step_is);
+      only = λ step is. one.only step (subst (λ a. IsByTests (standing circuit at n) a step) (test_once circuit is.answer tests.answer is.right tests.right) is.step_is);
     }
 
 pub one_step : (command : Command) (s : StandingView) → ExactlyOne (IsStep command s)
-one_step command s = one_of s.at (tried command s.circuit)
+one_step command s = one_of s.at s.settled (tried command s.circuit)

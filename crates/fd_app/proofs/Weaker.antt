@@ -1,6 +1,6 @@
 -- What follows from what a result holds.
 use Rattle.std.proofs.Common.{◌≡◌, Option, Some, None, Result, Ok, Err}
-use Rattle.std.specs.Prelude.{IfNone, IfOk, IfSome}
+use Rattle.std.specs.Prelude.{IfNone, IfOk, IfSome, false, is_some}
 
 pub if_ok_weaker : {T E : Type 0} (r : Result T E) (P Q : T → Type 0) → ((x : T) → P x → Q x) → IfOk r P → IfOk r Q
 if_ok_weaker (Ok x) P Q f p = f x p
@@ -10,6 +10,10 @@ pub if_some_weaker : {A : Type 0} (o : Option A) (P Q : A → Type 0) → ((x : 
 if_some_weaker None P Q f p = tt
 if_some_weaker (Some x) P Q f p = f x p
 
-pub at_none : {A P : Type 0} (o : Option A) → o ≡ None → IfNone o P → P
-at_none None e p = p
-at_none (Some x) e p = cc e
+pub none_goes : {A : Type 0} (o : Option A) (P : Type 0) → o ≡ None → IfNone o P → P
+none_goes None P e p = p
+none_goes (Some x) P e p = cc e
+
+pub is_none_by : {A : Type 0} (o : Option A) → is_some o ≡ false → o ≡ None
+is_none_by None e = cc
+is_none_by (Some x) e = absurd (cc e)

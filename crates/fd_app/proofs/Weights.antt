@@ -31,19 +31,15 @@ use Rattle.dss_script.specs.Sessions.{cost}
 use Rattle.dss_profile.specs.declared.command.Blame.{Blame}
 use Rattle.fd_report.specs.declared.faults.Cause.{Cause}
 use Rattle.fd_report.specs.declared.faults.Cause.TheVariants as cause
-use Rattle.fd_outcome.specs.Events.{Event}
+use Rattle.fd_daily.specs.Hours.{hours_of}
+use Rattle.fd_outcome.specs.Events.{Event, settle}
+use Rattle.fd_outcome.specs.Settles.{Settle, SettleEnd, settled, failed}
 use Rattle.fd_outcome.specs.Work.{Step, goes, ends}
-use Rattle.fd_app.specs.Built.{unbuilt_place}
-use Rattle.fd_app.specs.Commands.{Applied, IsByTests, IsStep, IsStepOf, is_daily, left_of, nothing_left, refused_at, solve_by, solve_left, tried}
-use Rattle.fd_app.specs.Solving.{IsByBuilt, IsByRange, IsSolutionStep, IsStepBy, rounds_of, snapshot_plant}
-use Rattle.fd_app.specs.Steps.{StandingView, changes, refuses, standing, start_of}
-use Rattle.fd_enclosure.specs.Sound.{loose, uncertain}
-use Rattle.fd_inject.specs.declared.fault.SolveFault.TheVariants as solving
+use Rattle.fd_app.specs.Answered.{solve_count}
+use Rattle.fd_app.specs.Commands.{Applied, IsByTests, IsStep, IsStepOf, left_of, nothing_left, refused_at, solve_left, tried}
+use Rattle.fd_app.specs.Solving.{IsBehind, IsHoursStep, IsSolutionStep, kept_first}
+use Rattle.fd_app.specs.Steps.{Kept, StandingView, behind_events, changes, refuses, standing}
 use Rattle.fd_queue.specs.Controls.{Positions}
-use Rattle.fd_queue.specs.Machine.{Machine}
-use Rattle.fd_settle.specs.Computed.{Ending, ended, procedure, range, stopped, uncertified}
-use Rattle.fd_settle.specs.Settle.{Open, Settled, Limited, Undecidable}
-use Rattle.fd_outcome.specs.Settles.{Round}
 use Rattle.fd_app.specs.Weights.{weight}
 
 -- ---- a class of the profile has four letters or more
@@ -162,7 +158,12 @@ edit_same count name pairs elements new h =
 
 -- ---- a command that is applied takes its room
 
-verb_takes : (place : Place) (v : Verb) (circuit new : CircuitView) → applied_verb place v circuit ≡ Ok new → weight new ≤ weight circuit + cost v
+-- a command takes its room, and counts a Solve
+pub record Takes (v : Verb) (circuit new : CircuitView) : Type 0 where
+  pub room : weight new ≤ weight circuit + cost v
+  pub count : circuit.solves + solve_count v ≤ new.solves
+
+pub verb_takes : (place : Place) (v : Verb) (circuit new : CircuitView) → applied_verb place v circuit ≡ Ok new → Takes v circuit new
 verb_takes place (verb.New kind name pairs) circuit new h =
     let keep : Elements → Result CircuitView ModelFault = λ es. Ok (record circuit { elements = es }) in
     let t = through (new_key kind name (has_circuit circuit.elements)) (λ key. make circuit.solves place key pairs circuit.elements >>= keep) new h in
@@ -172,7 +173,7 @@ verb_takes place (verb.New kind name pairs) circuit new h =
     let more = make_more circuit.solves place t.value pairs circuit.elements u.value u.first in
     let elements : length u.value ≡ length new.elements = ap (λ c. length c.elements) is in
     let count : circuit.solves ≡ new.solves = ap (λ c. c.solves) is in
-    omega (arith, long, more, elements, count)
+    record { room = omega (arith, long, more, elements, count); count = omega (arith, count) }
 verb_takes place (verb.Edit kind name pairs) circuit new h =
     let keep : Elements → Result CircuitView ModelFault = λ es. Ok (record circuit { elements = es }) in
     let t = through (edit_key kind name (has_circuit circuit.elements)) (λ key. edit circuit.solves key pairs circuit.elements >>= keep) new h in
@@ -181,13 +182,13 @@ verb_takes place (verb.Edit kind name pairs) circuit new h =
     let more = edit_same circuit.solves t.value pairs circuit.elements u.value u.first in
     let elements : length u.value ≡ length new.elements = ap (λ c. length c.elements) is in
     let count : circuit.solves ≡ new.solves = ap (λ c. c.solves) is in
-    omega (arith, more, elements, count)
+    record { room = omega (arith, more, elements, count); count = omega (arith, count) }
 verb_takes place (verb.Set pairs) circuit new h =
     let t = through (with_options pairs circuit.options) (λ o. Ok (record circuit { options = o })) new h in
     let is : record circuit { options = t.value } ≡ new = cc t.next in
     let elements : length circuit.elements ≡ length new.elements = ap (λ c. length c.elements) is in
     let count : circuit.solves ≡ new.solves = ap (λ c. c.solves) is in
-    omega (arith, elements, count)
+    record { room = omega (arith, elements, count); count = omega (arith, count) }
 verb_takes place (verb.Solve pairs) circuit new h =
     let keep : Options → Result CircuitView ModelFault = λ o. Ok (record circuit { options = o; solves = circuit.solves + 1 }) in
     let t = through (needed (has_circuit circuit.elements)) (λ done. with_options pairs circuit.options >>= keep) new h in
@@ -195,30 +196,26 @@ verb_takes place (verb.Solve pairs) circuit new h =
     let is : record circuit { options = u.value; solves = circuit.solves + 1 } ≡ new = cc u.next in
     let elements : length circuit.elements ≡ length new.elements = ap (λ c. length c.elements) is in
     let count : circuit.solves + 1 ≡ new.solves = ap (λ c. c.solves) is in
-    omega (arith, elements, count)
+    record { room = omega (arith, elements, count); count = omega (arith, count) }
 verb_takes place verb.Clear circuit new h =
     let is : record circuit { elements = []; options = default_options } ≡ new = cc h in
     let elements : 0 ≡ length new.elements = ap (λ c. length c.elements) is in
     let count : circuit.solves ≡ new.solves = ap (λ c. c.solves) is in
-    omega (arith, elements, count)
+    record { room = omega (arith, elements, count); count = omega (arith, count) }
 verb_takes place verb.Bases circuit new h =
     let t = through (needed (has_circuit circuit.elements)) (λ done. Ok circuit) new h in
     let is : circuit ≡ new = cc t.next in
     let elements : length circuit.elements ≡ length new.elements = ap (λ c. length c.elements) is in
     let count : circuit.solves ≡ new.solves = ap (λ c. c.solves) is in
-    omega (arith, elements, count)
+    record { room = omega (arith, elements, count); count = omega (arith, count) }
 
 -- ---- so does a command after which the run goes on
 
 abbrev Reaches : Applied → CircuitView → Type 0
 Reaches left now = (left ≡ nothing_left now) ⊎ (left ≡ solve_left now)
 
-by_solve : (place : Place) (circuit now : CircuitView) → Reaches (solve_by place circuit) now → circuit ≡ now
-by_solve place circuit now h = cases (is_daily circuit.options.mode) h
-  where
-    cases : (b : Bool) → Reaches (if b then refused_at place cause.NotBuilt else solve_left circuit) now → circuit ≡ now
-    cases true h = elim h [ inl is ↦ cc is | inr is ↦ cc is ]
-    cases false h = elim h [ inl is ↦ cc is | inr is ↦ cc is ]
+solve_reaches : (circuit now : CircuitView) → Reaches (solve_left circuit) now → circuit ≡ now
+solve_reaches circuit now h = elim h [ inl is ↦ cc is | inr is ↦ cc is ]
 
 refused_reaches : (place : Place) (c : Cause) (now : CircuitView) → Reaches (refused_at place c) now → ⊥
 refused_reaches place c now h = elim h [ inl is ↦ cc is | inr is ↦ cc is ]
@@ -229,7 +226,7 @@ nothing_reaches circuit now h = elim h [ inl is ↦ cc is | inr is ↦ cc is ]
 left_reaches : (place : Place) (v : Verb) (r : Result CircuitView ModelFault) (now : CircuitView) → Reaches (left_of place v r) now → r ≡ Ok now
 left_reaches place v (Err f) now h = absurd (refused_reaches place (cause.Model f) now h)
 left_reaches place verb.Bases (Ok circuit) now h = absurd (refused_reaches place cause.NotBuilt now h)
-left_reaches place (verb.Solve pairs) (Ok circuit) now h = ap Ok (by_solve place circuit now h)
+left_reaches place (verb.Solve pairs) (Ok circuit) now h = ap Ok (solve_reaches circuit now h)
 left_reaches place (verb.New kind name pairs) (Ok circuit) now h = ap Ok (nothing_reaches circuit now h)
 left_reaches place (verb.Edit kind name pairs) (Ok circuit) now h = ap Ok (nothing_reaches circuit now h)
 left_reaches place (verb.Set pairs) (Ok circuit) now h = ap Ok (nothing_reaches circuit now h)
@@ -244,41 +241,33 @@ Leaves (ends events f) now = ⊥
 left_by : (now : CircuitView) (step other : Step StandingView) → step ≡ other → Leaves step now → Leaves other now
 left_by now step other is leaves = subst (λ s. Leaves s now) is leaves
 
-ending_leaves : (s : StandingView) (now : CircuitView) (rounds : List Round) (ending : Ending) (n : Machine) (step : Step StandingView) → IsStepBy s rounds ending n step → Leaves step now → s.circuit ≡ now
-ending_leaves s now rounds (ended Open) n step is h = absurd is
-ending_leaves s now rounds (ended Settled) n step is h = left_by now step _ is h
-ending_leaves s now rounds (ended Limited) n step is h = absurd (left_by now step _ is h)
-ending_leaves s now rounds (ended (Undecidable k u)) n step is h = absurd (left_by now step _ is h)
-ending_leaves s now rounds (stopped (range blame)) n step is h = absurd (left_by now step _ is h)
-ending_leaves s now rounds (stopped (procedure (solving.NoInverse column c))) n step is h = absurd (left_by now step _ is h)
-ending_leaves s now rounds (stopped (procedure (solving.OutOfRange place k))) n step is h = absurd (left_by now step _ is h)
-ending_leaves s now rounds (stopped (procedure (solving.NotConverged place steps update))) n step is h = absurd (left_by now step _ is h)
-ending_leaves s now rounds (stopped (procedure solving.NoMemory)) n step is h = absurd is
-ending_leaves s now rounds (stopped (uncertified (loose row mismatch))) n step is h = absurd (left_by now step _ is h)
-ending_leaves s now rounds (stopped (uncertified (uncertain place bound))) n step is h = absurd (left_by now step _ is h)
+-- events before a step leave what it leaves
+behind_leaves : (now : CircuitView) (events : List Event) (step : Step StandingView) → Leaves (behind_events events step) now → Leaves step now
+behind_leaves now events (goes more s) h = h
+behind_leaves now events (ends more f) h = h
 
-range_leaves : (s : StandingView) (now : CircuitView) (blame : Option Blame) (step : Step StandingView) → IsByRange s blame step → Leaves step now → s.circuit ≡ now
-range_leaves s now None step is h = ending_leaves s now (rounds_of is.rounds) is.ending is.machine step is.step_is h
-range_leaves s now (Some blame) step is h = absurd (left_by now step _ is h)
+hour_leaves : (c now : CircuitView) (x : Settle) (end : SettleEnd) (rest : Step StandingView → Type 0) (step : Step StandingView) → ((more : Step StandingView) → rest more → Leaves more now → c ≡ now) → IsBehind x end rest step → Leaves step now → c ≡ now
+hour_leaves c now x settled rest step go is h = go is.more is.right (behind_leaves now (settle x ∷ []) is.more (left_by now step _ is.step_is h))
+hour_leaves c now x (failed f) rest step go is h = absurd (left_by now step _ is h)
 
-built_leaves : (s : StandingView) (now : CircuitView) (place : Option Place) (step : Step StandingView) → IsByBuilt s place step → Leaves step now → s.circuit ≡ now
-built_leaves s now None step is h = range_leaves s now ((snapshot_plant s.circuit).blame (start_of s)) step is h
-built_leaves s now (Some place) step is h = absurd (left_by now step _ is h)
+hours_leave : (c now : CircuitView) (hours : List ℕ) (l : Kept) (step : Step StandingView) → IsHoursStep c hours l step → Leaves step now → c ≡ now
+hours_leave c now [] l step is h = left_by now step _ is h
+hours_leave c now (hour ∷ hours) l step is h = hour_leaves c now is.made is.made.end (λ s. IsHoursStep c hours is.kept s) step (λ more right later. hours_leave c now hours is.kept more right later) is.goes_on h
 
 solution_leaves : (s : StandingView) (now : CircuitView) (step : Step StandingView) → IsSolutionStep s step → Leaves step now → s.circuit ≡ now
 unfolding IsSolutionStep
-solution_leaves s now step is h = built_leaves s now (unbuilt_place s.circuit.elements) step is h
+solution_leaves s now step is h = hours_leave s.circuit now (hours_of s.circuit.options) (kept_first s) step is h
 
 tests_leave : (s : StandingView) (now : CircuitView) (r : Result Unit Blame) (step : Step StandingView) → IsByTests s r step → Leaves step now → s.circuit ≡ now
 tests_leave s now (Ok done) step is h = solution_leaves s now step is h
 tests_leave s now (Err blame) step is h = absurd (left_by now step _ is h)
 
-step_reaches : (at : Positions) (left : Applied) (step : Step StandingView) (now : CircuitView) → IsStepOf at left step → Leaves step now → Reaches left now
-step_reaches at (nothing_left circuit) step now is leaves = inl (ap nothing_left (left_by now step (changes (standing circuit at)) is leaves))
-step_reaches at (refused_at place c) step now is leaves = absurd (left_by now step (refuses place c) is leaves)
-step_reaches at (solve_left circuit) step now is leaves = inr (ap solve_left (tests_leave (standing circuit at) now is.answer step is.step_is leaves))
+step_reaches : (at : Positions) (n : ℕ) (left : Applied) (step : Step StandingView) (now : CircuitView) → IsStepOf at n left step → Leaves step now → Reaches left now
+step_reaches at n (nothing_left circuit) step now is leaves = inl (ap nothing_left (left_by now step (changes (standing circuit at n)) is leaves))
+step_reaches at n (refused_at place c) step now is leaves = absurd (left_by now step (refuses place c) is leaves)
+step_reaches at n (solve_left circuit) step now is leaves = inr (ap solve_left (tests_leave (standing circuit at n) now is.answer step is.step_is leaves))
 
 pub command_takes : (command : Command) (s now : StandingView) (events : List Event) → IsStep command s (goes events now) → weight now.circuit ≤ weight s.circuit + cost command.verb
 command_takes command s now events is =
-    verb_takes command.place command.verb s.circuit now.circuit
-    (left_reaches command.place command.verb (applied command s.circuit) now.circuit (step_reaches s.at (tried command s.circuit) (goes events now) now.circuit is refl))
+    (verb_takes command.place command.verb s.circuit now.circuit
+    (left_reaches command.place command.verb (applied command s.circuit) now.circuit (step_reaches s.at s.settled (tried command s.circuit) (goes events now) now.circuit is refl))).room

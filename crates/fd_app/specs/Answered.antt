@@ -1,9 +1,15 @@
--- What a command comes to, as the code says it.
-use Rattle.std.specs.Prelude.{◌≡◌, ◌<◌, ◌^◌, ℕ, List, [], length, map, All}
+-- What a command and an hour come to, as the code says it.
+use Rattle.std.specs.Prelude.{◌≡◌, ◌<◌, ◌^◌, ℕ, List, [], length, map, All, Option, Some, None}
 use Rattle.dss_layout.specs.Layout.{layout_of, size_of}
+use Rattle.dss_profile.specs.declared.command.Verb.{Verb}
+use Rattle.dss_profile.specs.declared.command.Verb.TheVariants as verb
 use Rattle.dss_circuit.specs.Circuit.{CircuitView}
 use Rattle.dss_ready.specs.Ready.{HasPassed}
 use Rattle.fd_cert.specs.Claims as cert
+use Rattle.fd_daily.specs.Day.{DayView}
+use Rattle.fd_devices.specs.Hours.{hour_powers}
+use Rattle.fd_devices.specs.declared.settings.Positions.{Positions as CodePositions}
+use Rattle.fd_queue.specs.Controls.{Positions}
 use Rattle.fd_report.specs.Lines.{lines_of}
 use Rattle.fd_report.specs.Solutions.{IsOfSize}
 use Rattle.fd_report.specs.declared.faults.Fault.{Fault}
@@ -13,49 +19,17 @@ use Rattle.fd_settle.specs.declared.round.Round.{Round as Made}
 use Rattle.fd_settle.specs.Rounds.{seen}
 use Rattle.fd_settle.specs.Start.{ArePositions}
 use Rattle.fd_outcome.specs.Pages.{report_rows, solution_in}
-use Rattle.fd_outcome.specs.Settles.{Round, Settle, SettleEnd, failed, settled}
+use Rattle.fd_outcome.specs.Settles.{Round, Settle, SettleEnd}
 use Rattle.fd_outcome.specs.Work.{Step, ends}
+use Rattle.fd_app.specs.Commands.{Applied, IsStepOf}
+use Rattle.fd_app.specs.Endings.{end_by}
 use Rattle.fd_app.specs.Headline.{IsSolved}
-use Rattle.fd_app.specs.Solving.{snapshot_powers}
-use Rattle.fd_app.specs.Steps.{StandingView, changes, fails, round_of, settles, snapshot_settle}
+use Rattle.fd_app.specs.Solving.{IsHour, IsSolutionStep}
+use Rattle.fd_app.specs.Steps.{Kept, StandingView, changes, hour_settle, round_of, standing}
 use Rattle.fd_app.specs.declared.answer.Answer.{Answer}
 use Rattle.fd_app.specs.declared.answer.Answer.TheVariants as answer
-use Rattle.fd_app.specs.declared.answer.SettledCircuit.{SettledCircuit}
 
-abbrev pub round_in : Made → Round
-round_in r = round_of (cert.claim_in r.certified) (map seen r.acts.items)
-
-abbrev pub rounds_in : SettledCircuit → List Round
-rounds_in w = map round_in w.rounds.items
-
--- the settle of a circuit as it stands, which ends so
-abbrev pub settle_in : StandingView → SettledCircuit → SettleEnd → Settle
-settle_in s w end = snapshot_settle s (rounds_in w) end (positions_in w.at)
-
--- a settle of this circuit in mode snapshot, by the circuit's number of Solves
-pub record IsSnapshotOf (circuit : CircuitView) (s : Settle) : Type 0 where
-  pub circuit_is : s.circuit ≡ circuit
-  pub number : s.number ≡ circuit.solves
-  pub hour : s.hour ≡ 0
-
--- the text of each record of a settle
-abbrev pub texts_of : Settle → List (List ℕ)
-texts_of s = lines_of (report_rows s)
-
--- for the circuit as it is now, and the positions that its last Solve left
-abbrev pub answered : Answer → StandingView → Step StandingView
-answered answer.Done s = changes s
-answered (answer.Settles w) s = settles s (rounds_in w) (positions_in w.at)
-answered (answer.Refuses f) s = ends [] f
-answered (answer.Fails w f) s = fails s (rounds_in w) f (positions_in w.at)
-
--- what is settled of a circuit: its layout, numbers for each unknown in each round, and rounds that can be numbered
-pub record IsPrintable (w : SettledCircuit) (s : StandingView) : Type 0 where
-  pub ready : HasPassed s.circuit
-  pub layout : w.layout ≡ layout_of s.circuit.elements
-  pub numbers : All (λ r. IsOfSize (size_of (layout_of s.circuit.elements)) (solution_in r)) (rounds_in w)
-  pub few : length w.rounds.items < 2 ^ 32
-  pub positions : ArePositions s.circuit (snapshot_powers s.circuit) (positions_in w.at)
+-- ---- a command
 
 -- a fault of a command
 abbrev pub IsOfCommand : Fault → Type 0
@@ -63,9 +37,63 @@ IsOfCommand fault.Usage = ⊥
 IsOfCommand (fault.Read name) = ⊥
 IsOfCommand other = Unit {0}
 
--- what an answer settles is printable and solved, and its fault is one of a command
-abbrev pub IsSound : Answer → StandingView → Type 0
-IsSound answer.Done s = Unit {0}
-IsSound (answer.Settles w) s = IsPrintable w s × IsSolved (settle_in s w settled)
-IsSound (answer.Refuses f) s = IsOfCommand f
-IsSound (answer.Fails w f) s = IsPrintable w s × (IsSolved (settle_in s w (failed f)) × IsOfCommand f)
+-- What is left of a command comes to this with the circuit as it is now: it is done; or it ends the run with a fault; or
+-- it is a Solve that passed the tests, and comes to what the hours of the Solve come to.
+abbrev pub IsAnswerOf : Positions → ℕ → Applied → CircuitView → Answer → Type 0
+IsAnswerOf at settled left c answer.Done = IsStepOf at settled left (changes (standing c at settled))
+IsAnswerOf at settled left c (answer.Refuses f) = IsStepOf at settled left (ends [] f) × IsOfCommand f
+IsAnswerOf at settled left c answer.Solves = HasPassed c × ((step : Step StandingView) → IsSolutionStep (standing c at settled) step → IsStepOf at settled left step)
+
+-- how many Solves a command counts, and an answer to it
+abbrev pub solve_count : Verb → ℕ
+solve_count (verb.Solve pairs) = 1
+solve_count other = 0
+
+abbrev pub solves_of : Answer → ℕ
+solves_of answer.Solves = 1
+solves_of other = 0
+
+-- ---- an hour
+
+abbrev pub round_in : Made → Round
+round_in r = round_of (cert.claim_in r.certified) (map seen r.acts.items)
+
+abbrev pub rounds_in : List Made → List Round
+rounds_in rounds = map round_in rounds
+
+-- a settle of an hour of this circuit, by its number in the run
+pub record IsSettleAt (circuit : CircuitView) (number hour : ℕ) (s : Settle) : Type 0 where
+  pub circuit_is : s.circuit ≡ circuit
+  pub number_is : s.number ≡ number
+  pub hour_is : s.hour ≡ hour
+
+-- the text of each record of a settle
+abbrev pub texts_of : Settle → List (List ℕ)
+texts_of s = lines_of (report_rows s)
+
+-- rounds of an hour that can be printed: numbers for each unknown in each of them, rounds that can be numbered, and the
+-- positions that their acts left
+pub record IsPrintable (c : CircuitView) (hour : ℕ) (rounds : List Made) (at : Positions) : Type 0 where
+  pub ready : HasPassed c
+  pub numbers : All (λ r. IsOfSize (size_of (layout_of c.elements)) (solution_in r)) (rounds_in rounds)
+  pub few : length rounds < 2 ^ 32
+  pub positions : ArePositions c (hour_powers c.elements hour) at
+
+-- what is kept from hour to hour
+abbrev pub kept_in : CodePositions → DayView → ℕ → Kept
+kept_in at day settled = record { at = positions_in at; opened = day.opened; settled = settled }
+
+abbrev pub IsFaultOfCommand : Option Fault → Type 0
+IsFaultOfCommand None = Unit {0}
+IsFaultOfCommand (Some f) = IsOfCommand f
+
+-- the settle of an hour as the code made it
+abbrev pub settle_made : CircuitView → ℕ → Kept → List Made → SettleEnd → Positions → Settle
+settle_made c hour l rounds end at = hour_settle c hour l (rounds_in rounds) end at
+
+-- An hour was made: its settle is the hour's, it is solved, its rounds can be printed, and a fault is one of a command.
+pub record IsMadeHour (c : CircuitView) (hour : ℕ) (l : Kept) (rounds : List Made) (f : Option Fault) (k : Kept) : Type 0 where
+  pub is : IsHour c hour l (settle_made c hour l rounds (end_by f) k.at) k
+  pub solved : IsSolved (settle_made c hour l rounds (end_by f) k.at)
+  pub printable : IsPrintable c hour rounds k.at
+  pub command : IsFaultOfCommand f

@@ -1,8 +1,6 @@
 -- What a command comes to.
-use Rattle.std.specs.Prelude.{◌≡◌, Bool, true, false, Result, Ok, Err, if◌then◌else◌}
+use Rattle.std.specs.Prelude.{◌≡◌, ℕ, Result, Ok, Err}
 use Rattle.dss_values.specs.declared.fault.ModelFault.{ModelFault}
-use Rattle.dss_values.specs.declared.words.Mode.{Mode}
-use Rattle.dss_values.specs.declared.words.Mode.TheVariants as mode
 use Rattle.dss_profile.specs.declared.command.Blame.{Blame}
 use Rattle.dss_profile.specs.declared.command.Command.{Command}
 use Rattle.dss_profile.specs.declared.command.Place.{Place}
@@ -15,13 +13,9 @@ use Rattle.fd_report.specs.declared.faults.Cause.{Cause}
 use Rattle.fd_report.specs.declared.faults.Cause.TheVariants as cause
 use Rattle.fd_outcome.specs.Work.{Step}
 use Rattle.fd_app.specs.Solving.{IsSolutionStep}
-use Rattle.fd_app.specs.Steps.{StandingView, changes, refuses}
+use Rattle.fd_app.specs.Steps.{StandingView, changes, refuses, standing}
 
--- ---- what is refused once it is applied
-
-abbrev pub is_daily : Mode → Bool
-is_daily mode.Daily = true
-is_daily mode.Snapshot = false
+-- ---- what is left to do once it is applied
 
 -- what is left to do of a command that the circuit accepted
 pub data Applied : Type 0 where
@@ -29,14 +23,10 @@ pub data Applied : Type 0 where
   solve_left : CircuitView → Applied
   refused_at : Place → Cause → Applied
 
--- a Solve whose options the circuit has taken
-abbrev pub solve_by : Place → CircuitView → Applied
-solve_by place circuit = if is_daily circuit.options.mode then refused_at place cause.NotBuilt else solve_left circuit
-
 abbrev pub left_of : Place → Verb → Result CircuitView ModelFault → Applied
 left_of place v (Err f) = refused_at place (cause.Model f)
 left_of place verb.Bases (Ok circuit) = refused_at place cause.NotBuilt
-left_of place (verb.Solve pairs) (Ok circuit) = solve_by place circuit
+left_of place (verb.Solve pairs) (Ok circuit) = solve_left circuit
 left_of place v (Ok circuit) = nothing_left circuit
 
 abbrev pub tried : Command → CircuitView → Applied
@@ -59,12 +49,12 @@ pub record IsSolve (s : StandingView) (step : Step StandingView) : Type 0 where
   pub right : IsTested s.circuit answer
   pub step_is : IsByTests s answer step
 
--- where the last Solve left these positions
-abbrev pub IsStepOf : Positions → Applied → Step StandingView → Type 0
-IsStepOf at (nothing_left circuit) step = step ≡ changes (record { circuit = circuit; at = at })
-IsStepOf at (refused_at place c) step = step ≡ refuses place c
-IsStepOf at (solve_left circuit) step = IsSolve (record { circuit = circuit; at = at }) step
+-- where the last Solve left these positions, and there were so many settles
+abbrev pub IsStepOf : Positions → ℕ → Applied → Step StandingView → Type 0
+IsStepOf at settled (nothing_left circuit) step = step ≡ changes (standing circuit at settled)
+IsStepOf at settled (refused_at place c) step = step ≡ refuses place c
+IsStepOf at settled (solve_left circuit) step = IsSolve (standing circuit at settled) step
 
 -- what a command comes to
 abbrev pub IsStep : Command → StandingView → Step StandingView → Type 0
-IsStep command s step = IsStepOf s.at (tried command s.circuit) step
+IsStep command s step = IsStepOf s.at s.settled (tried command s.circuit) step

@@ -9,6 +9,8 @@ use Rattle.fd_system.specs.Meets.{Meets}
 use Rattle.fd_system.specs.Residual.{whole_state}
 use Rattle.fd_equations.specs.Enclosure.{addend_count}
 use Rattle.fd_equations.specs.Views.{NetworkView}
+use Rattle.fd_daily.specs.Hours.{time_of}
+use Rattle.fd_devices.specs.Hours.{hour_powers}
 use Rattle.fd_devices.specs.Scripted.{circuit_parts}
 use Rattle.fd_enclosure.specs.Boxes.{IsInTrustBox}
 use Rattle.fd_enclosure.specs.Encloses.{IsWithinRadii}
@@ -16,28 +18,29 @@ use Rattle.fd_enclosure.specs.Sound.{Claim, IsSound, certificate_of, number_at}
 use Rattle.fd_enclosure.specs.Ties.{IsTied}
 use Rattle.fd_inject.specs.Procedure.{solution_of}
 use Rattle.fd_queue.specs.Controls.{Positions}
+use Rattle.fd_queue.specs.Decisions.{Decision}
 use Rattle.fd_queue.specs.Machine.{Machine}
 use Rattle.fd_settle.specs.Chosen.{AreChosen}
 use Rattle.fd_settle.specs.Contract.{limits_of}
-use Rattle.fd_settle.specs.Plant.{controls_in, network_at, settings_at, setup_of}
+use Rattle.fd_settle.specs.Plant.{controls_in, network_at, settings_at, setup_of, started}
 use Rattle.fd_settle.specs.Rounds.{AtEach}
-use Rattle.fd_settle.specs.Sampling.{look_at, look_over}
+use Rattle.fd_settle.specs.Sampling.{Decided, look_at, look_over}
 use Rattle.fd_settle.specs.Settle.{settle_of}
 use Rattle.fd_outcome.specs.Settles.{Settle}
-use Rattle.fd_app.specs.Solving.{first_machine, snapshot_plant, snapshot_powers}
+use Rattle.fd_app.specs.Solving.{plant_at}
 use Rattle.fd_app.specs.Steps.{claim_in}
 
--- at these positions of taps and banks
-module _ (circuit : CircuitView) (at : Positions) where
-  abbrev pub snapshot_network : NetworkView
-  snapshot_network = network_at circuit (snapshot_powers circuit) at
+-- at this hour, and these positions of taps and banks
+module _ (circuit : CircuitView) (hour : ℕ) (at : Positions) where
+  abbrev pub hour_network : NetworkView
+  hour_network = network_at circuit (hour_powers circuit.elements hour) at
 
   -- ---- the equations of the scripted circuit
 
   -- The complex equations at a state, in their real and their imaginary parts: Kirchhoff's current law at each node,
   -- and the voltage equation of each branch; then the row of each magnitude.
   abbrev pub equations_of : State → ℕ → Fraction
-  equations_of x l = equation l (circuit_parts circuit (settings_at (snapshot_powers circuit) at) x)
+  equations_of x l = equation l (circuit_parts circuit (settings_at (hour_powers circuit.elements hour) at) x)
 
   abbrev pub equation_count : ℕ
   equation_count = size_of (layout_of circuit.elements)
@@ -51,18 +54,22 @@ module _ (circuit : CircuitView) (at : Positions) where
   -- a state of any denominator in the trust box of a round that meets the round's mismatches
   pub record IsOtherState (m : Claim) (x : State) : Type 0 where
     pub over : 0 < x.over
-    pub inside : IsInTrustBox snapshot_network m.centre x
+    pub inside : IsInTrustBox hour_network m.centre x
     pub meets : MeetsRound m x
 
   -- each of them is within the radii of the round's state
   abbrev pub EnclosesOthers : Claim → Type 0
-  EnclosesOthers m = (x : State) → IsOtherState m x → IsWithinRadii snapshot_network m.centre m.radii x
+  EnclosesOthers m = (x : State) → IsOtherState m x → IsWithinRadii hour_network m.centre m.radii x
+
+  -- what is decided over the ball of the round's state is what the controls want at each of them
+  abbrev pub DecidesAlike : Claim → Type 0
+  DecidesAlike m = (x : State) (ds : List Decision) → IsOtherState m x → look_over (controls_in circuit) at m ≡ Decided ds → look_at (controls_in circuit) at x ≡ Decided ds
 
   -- ---- a solution
 
   -- the mismatch of each equation is tied to its residual
   abbrev pub AreTied : Claim → Type 0
-  AreTied m = (l : ℕ) → l < equation_count → IsTied (equations_of (whole_state m.centre) l) (addend_count snapshot_network.share l) (number_at m.mismatches l)
+  AreTied m = (l : ℕ) → l < equation_count → IsTied (equations_of (whole_state m.centre) l) (addend_count hour_network.share l) (number_at m.mismatches l)
 
   -- both parts of a voltage and of a current have one radius
   abbrev pub HaveOneRadius : Claim → Type 0
@@ -73,9 +80,9 @@ module _ (circuit : CircuitView) (at : Positions) where
   -- mismatches; every other state in its box that does is within the radii; and no mismatch is larger than its residual
   -- and the rounding of its summands.
   pub record IsSolution (m : Claim) : Type 0 where
-    pub state : solution_of snapshot_network (limits_of circuit.options) ≡ Ok (m.centre, m.inverse)
-    pub certificate : certificate_of snapshot_network m.centre m.inverse ≡ Ok m
-    pub sound : IsSound snapshot_network m
+    pub state : solution_of hour_network (limits_of circuit.options) ≡ Ok (m.centre, m.inverse)
+    pub certificate : certificate_of hour_network m.centre m.inverse ≡ Ok m
+    pub sound : IsSound hour_network m
     pub meets : MeetsRound m (whole_state m.centre)
     pub encloses : EnclosesOthers m
     pub tied : AreTied m
@@ -88,18 +95,23 @@ abbrev pub claims_of : Settle → List Claim
 claims_of s = map claim_in s.rounds
 
 abbrev pub machine_of : Settle → Machine
-machine_of s = first_machine s.circuit s.start
+machine_of s = started s.circuit s.start (time_of s.hour) s.opened
 
--- each round is a solution of its circuit at the positions that the acts before it left
+-- each round is a solution of its circuit at the hour and at the positions that the acts before it left
 abbrev pub AreSolutions : Settle → Type 0
-AreSolutions s = AtEach (IsSolution s.circuit) (snapshot_plant s.circuit) (machine_of s) (claims_of s)
+AreSolutions s = AtEach (IsSolution s.circuit s.hour) (plant_at s.circuit s.hour) (machine_of s) (claims_of s)
+
+-- at each round
+abbrev pub AreAlike : Settle → Type 0
+AreAlike s = AtEach (DecidesAlike s.circuit s.hour) (plant_at s.circuit s.hour) (machine_of s) (claims_of s)
 
 -- Whatever states are chosen for its first rounds, each in the trust box of its round and meeting the round's
 -- mismatches: the acts of these rounds are those of the queue machine over these states.
 abbrev pub IsSteady : Settle → Type 0
-IsSteady s = (xs : List State) → AreChosen (setup_of s.circuit) (IsOtherState s.circuit) (look_over (controls_in s.circuit)) (machine_of s) (claims_of s) xs →
+IsSteady s = (xs : List State) → AreChosen (setup_of s.circuit) (IsOtherState s.circuit s.hour) (look_over (controls_in s.circuit)) (machine_of s) (claims_of s) xs →
     (settle_of (setup_of s.circuit) (look_at (controls_in s.circuit)) (machine_of s) xs).rounds ≡ take (length xs) (map (λ r. r.acts) s.rounds)
 
 pub record IsSolved (s : Settle) : Type 0 where
   pub solutions : AreSolutions s
+  pub alike : AreAlike s
   pub steady : IsSteady s

@@ -1,5 +1,4 @@
 pub mod Words
-pub mod Built
 pub mod Steps
 pub mod Solving
 pub mod Commands
@@ -9,3 +8,4 @@ pub mod Run
 pub mod Weights
 pub mod Endings
 pub mod Places
+pub mod Days

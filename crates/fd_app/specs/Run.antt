@@ -11,7 +11,7 @@ use Rattle.fd_outcome.specs.Events.{History, ended, finishes}
 use Rattle.fd_outcome.specs.History.{IsHistory}
 use Rattle.fd_outcome.specs.Work.{ExactlyOne}
 use Rattle.fd_app.specs.Commands.{IsStep}
-use Rattle.fd_app.specs.Steps.{StandingView, no_positions}
+use Rattle.fd_app.specs.Steps.{StandingView, no_positions, standing}
 use Rattle.fd_app.specs.Words.{Form, Solve}
 
 -- what must be told of the files: nothing where none is asked for
@@ -31,7 +31,7 @@ abbrev pub IsDoneThere : StandingView → Option (List ℕ) → History → Type
 IsDoneThere s found h = h ≡ finishes []
 
 abbrev pub first_standing : StandingView
-first_standing = record { circuit = empty_circuit; at = no_positions }
+first_standing = standing empty_circuit no_positions 0
 
 -- the history of the commands of a script, which begins with no circuit
 abbrev pub IsScriptHistory : Files → Part → History → Type 0

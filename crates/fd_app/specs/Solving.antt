@@ -1,22 +1,19 @@
--- What a Solve of a circuit that passed the tests comes to.
-use Rattle.std.specs.Prelude.{◌≡◌, ℕ, [], nat_abs, List, map, replicate, slice_get, Option, Some, None, option_map}
+-- What a Solve of a circuit that passed the tests comes to: the settles of its hours.
+use Rattle.std.specs.Prelude.{◌≡◌, ℕ, ◌+◌, [], ◌∷◌, nat_abs, List, map, replicate, slice_get, Option, Some, None, option_map}
 use Rattle.fd_exact.specs.Sums.{list_n}
 use Rattle.dss_values.specs.declared.words.ControlQuantity.{ControlQuantity}
 use Rattle.dss_values.specs.declared.words.ControlQuantity.TheVariants as quantity
-use Rattle.dss_profile.specs.declared.command.Blame.{Blame}
-use Rattle.dss_profile.specs.declared.command.Place.{Place}
 use Rattle.dss_profile.specs.declared.element.Element.{Element}
 use Rattle.dss_profile.specs.declared.element.Element.TheVariants as the
 use Rattle.dss_profile.specs.declared.names.Class.TheVariants as class
 use Rattle.dss_profile.specs.declared.names.ElementName.{ElementName}
 use Rattle.dss_layout.specs.Layout.{layout_of}
 use Rattle.dss_circuit.specs.Circuit.{CircuitView}
-use Rattle.fd_elements.specs.declared.powers.LoadPower.{LoadPower}
+use Rattle.fd_daily.specs.Hours.{hours_of, time_of}
+use Rattle.fd_devices.specs.Hours.{hour_powers}
 use Rattle.fd_devices.specs.Settings.{bank_count}
-use Rattle.fd_devices.specs.Snapshot.{snapshot_of}
 use Rattle.fd_enclosure.specs.Sound.{Claim, loose, uncertain}
 use Rattle.fd_inject.specs.declared.fault.SolveFault.TheVariants as procedure
-use Rattle.fd_queue.specs.Controls.{Positions}
 use Rattle.fd_queue.specs.Machine.{Machine, Act}
 use Rattle.fd_sample.specs.Decided.{Undecided}
 use Rattle.fd_settle.specs.Computed.{Ending, ended, stopped, IsComputedFrom, range, uncertified}
@@ -30,24 +27,29 @@ use Rattle.fd_report.specs.declared.faults.Fault.{Fault}
 use Rattle.fd_report.specs.declared.faults.Fault.TheVariants as fault
 use Rattle.fd_report.specs.declared.faults.Scale.{Scale}
 use Rattle.fd_report.specs.declared.faults.Scale.TheVariants as scale
+use Rattle.fd_outcome.specs.Events.{settle}
 use Rattle.fd_outcome.specs.Pages.{controls_of}
-use Rattle.fd_outcome.specs.Settles.{Round}
-use Rattle.fd_outcome.specs.Work.{Step}
-use Rattle.fd_app.specs.Built.{unbuilt_place}
-use Rattle.fd_app.specs.Steps.{StandingView, fails, refuses, round_of, settles, start_of}
+use Rattle.fd_outcome.specs.Settles.{Round, Settle, SettleEnd, settled, failed}
+use Rattle.fd_outcome.specs.Work.{Step, goes, ends}
+use Rattle.fd_app.specs.Steps.{Kept, StandingView, behind_events, hour_settle, round_of, standing, start_of}
 
 -- ---- the machine
 
--- the powers of the loads' phases in a snapshot
-abbrev pub snapshot_powers : CircuitView → List LoadPower
-snapshot_powers c = (snapshot_of c.elements).powers
+-- the circuit with the powers of an hour, as the queue machine sees it
+abbrev pub plant_at : CircuitView → ℕ → Plant
+plant_at c hour = plant_of c (hour_powers c.elements hour)
 
-abbrev pub snapshot_plant : CircuitView → Plant
-snapshot_plant c = plant_of c (snapshot_powers c)
+-- an hour starts at its time with an empty queue
+abbrev pub hour_begun : CircuitView → ℕ → Kept → Machine
+hour_begun c hour l = started c l.at (time_of hour) l.opened
 
--- a Solve starts at time 0, and no bank was opened yet
-abbrev pub first_machine : CircuitView → Positions → Machine
-first_machine c at = started c at 0 (replicate (list_n (λ e. bank_count e.1) c.elements) None)
+-- what an hour's machine leaves to the next
+abbrev pub kept_by : Kept → Machine → Kept
+kept_by l m = record { at = m.at; opened = m.opened; settled = l.settled + 1 }
+
+-- a Solve starts with no bank opened yet
+abbrev pub kept_first : StandingView → Kept
+kept_first s = record { at = start_of s; opened = replicate (list_n (λ e. bank_count e.1) s.circuit.elements) None; settled = s.settled }
 
 -- ---- faults
 
@@ -73,45 +75,68 @@ undecided_by (Some e) u = fault.Undecided e.0 u.low u.high u.edge (scale_of e.1)
 abbrev pub undecided_at : CircuitView → ℕ → Undecided → Fault
 undecided_at c k u = undecided_by (slice_get (controls_of c.elements) k) u
 
--- ---- the step
+-- the name of the unknown at a place
+abbrev pub unknown_of : CircuitView → ℕ → List ℕ
+unknown_of c place = name_at (layout_of c.elements) place
 
--- the step that comes of these rounds and this ending; the procedure's definition gives no want of memory, so none
--- comes of that
-abbrev pub IsStepBy : StandingView → List Round → Ending → Machine → Step StandingView → Type 0
-IsStepBy s rounds (ended Open) n step = ⊥
-IsStepBy s rounds (ended Settled) n step = step ≡ settles s rounds n.at
-IsStepBy s rounds (ended Limited) n step = step ≡ fails s rounds (fault.ControlLimit n.made) n.at
-IsStepBy s rounds (ended (Undecidable k u)) n step = step ≡ fails s rounds (undecided_at s.circuit k u) n.at
-IsStepBy s rounds (stopped (range blame)) n step = step ≡ fails s rounds (fault.Script blame.place (cause.Model blame.cause)) n.at
-IsStepBy s rounds (stopped (computed.procedure (procedure.NoInverse column stop))) n step = step ≡ fails s rounds (fault.NoInverse (name_at (layout_of s.circuit.elements) column) stop) n.at
-IsStepBy s rounds (stopped (computed.procedure (procedure.OutOfRange place k))) n step = step ≡ fails s rounds (fault.OutOfRange (name_at (layout_of s.circuit.elements) place) k) n.at
-IsStepBy s rounds (stopped (computed.procedure (procedure.NotConverged place steps update))) n step = step ≡ fails s rounds (fault.NotConverged (name_at (layout_of s.circuit.elements) place) steps update) n.at
-IsStepBy s rounds (stopped (computed.procedure procedure.NoMemory)) n step = ⊥
-IsStepBy s rounds (stopped (uncertified (loose row mismatch))) n step = step ≡ fails s rounds (fault.Loose (name_at (layout_of s.circuit.elements) row) mismatch) n.at
-IsStepBy s rounds (stopped (uncertified (uncertain place bound))) n step = step ≡ fails s rounds (fault.NotCertified (name_at (layout_of s.circuit.elements) place) (option_map nat_abs bound)) n.at
+-- ---- an hour
+
+-- how a settle ends in the report where its computation ends so with this machine; the procedure's definition gives no
+-- want of memory, so none comes of that
+abbrev pub IsEndBy : CircuitView → Ending → Machine → SettleEnd → Type 0
+IsEndBy c (ended Open) n end = ⊥
+IsEndBy c (ended Settled) n end = end ≡ settled
+IsEndBy c (ended Limited) n end = end ≡ failed (fault.ControlLimit n.made)
+IsEndBy c (ended (Undecidable k u)) n end = end ≡ failed (undecided_at c k u)
+IsEndBy c (stopped (range blame)) n end = end ≡ failed (fault.Script blame.place (cause.Model blame.cause))
+IsEndBy c (stopped (computed.procedure (procedure.NoInverse column stop))) n end = end ≡ failed (fault.NoInverse (unknown_of c column) stop)
+IsEndBy c (stopped (computed.procedure (procedure.OutOfRange place step))) n end = end ≡ failed (fault.OutOfRange (unknown_of c place) step)
+IsEndBy c (stopped (computed.procedure (procedure.NotConverged place steps update))) n end = end ≡ failed (fault.NotConverged (unknown_of c place) steps update)
+IsEndBy c (stopped (computed.procedure procedure.NoMemory)) n end = ⊥
+IsEndBy c (stopped (uncertified (loose row mismatch))) n end = end ≡ failed (fault.Loose (unknown_of c row) mismatch)
+IsEndBy c (stopped (uncertified (uncertain place bound))) n end = end ≡ failed (fault.NotCertified (unknown_of c place) (option_map nat_abs bound))
 
 abbrev pub rounds_of : List (Claim × List Act) → List Round
 rounds_of rounds = map (λ r. round_of r.0 r.1) rounds
 
--- The settle from the positions with which the Solve starts: its rounds are computed one after the other, each by the
--- procedure and its certificate in the network at the positions that the acts before left, and its acts are those of
--- the queue machine over the samples of its ball.
-pub record IsSettleStep (s : StandingView) (step : Step StandingView) : Type 0 where
+-- The settle of an hour that starts with what was kept, and what it keeps: its rounds are computed one after the other,
+-- each by the procedure and its certificate in the network at the positions that the acts before left, and its acts are
+-- those of the queue machine over the samples of its ball.
+pub record IsHour (c : CircuitView) (hour : ℕ) (l : Kept) (x : Settle) (k : Kept) : Type 0 where
   pub rounds : List (Claim × List Act)
   pub ending : Ending
   pub machine : Machine
-  pub computed : IsComputedFrom (limits_of s.circuit.options) (snapshot_plant s.circuit) (first_machine s.circuit (start_of s)) rounds ending machine
-  pub step_is : IsStepBy s (rounds_of rounds) ending machine step
+  pub computed : IsComputedFrom (limits_of c.options) (plant_at c hour) (hour_begun c hour l) rounds ending machine
+  pub end : SettleEnd
+  pub end_is : IsEndBy c ending machine end
+  pub settle_is : x ≡ hour_settle c hour l (rounds_of rounds) end machine.at
+  pub kept : k ≡ kept_by l machine
 
-abbrev pub IsByRange : StandingView → Option Blame → Step StandingView → Type 0
-IsByRange s None step = IsSettleStep s step
-IsByRange s (Some blame) step = step ≡ refuses blame.place (cause.Model blame.cause)
+-- ---- the hours
 
-abbrev pub IsByBuilt : StandingView → Option Place → Step StandingView → Type 0
-IsByBuilt s None step = IsByRange s ((snapshot_plant s.circuit).blame (start_of s)) step
-IsByBuilt s (Some place) step = step ≡ refuses place cause.NotBuilt
+-- a step that begins with a settle, and goes on so
+pub record After (x : Settle) (rest : Step StandingView → Type 0) (step : Step StandingView) : Type 0 where
+  pub more : Step StandingView
+  pub right : rest more
+  pub step_is : step ≡ behind_events (settle x ∷ []) more
 
--- the first element that isn't solved yet refuses the script, then the one to blame for the range of the network with
--- which the Solve starts; else a settle comes of it
+-- the run goes on where the settle ended well, and else ends with its fault
+abbrev pub IsBehind : Settle → SettleEnd → (Step StandingView → Type 0) → Step StandingView → Type 0
+IsBehind x settled rest step = After x rest step
+IsBehind x (failed f) rest step = step ≡ ends (settle x ∷ []) f
+
+-- a step that begins with an hour
+pub record IsHourStep (c : CircuitView) (hour : ℕ) (l : Kept) (rest : Kept → Step StandingView → Type 0) (step : Step StandingView) : Type 0 where
+  pub made : Settle
+  pub kept : Kept
+  pub is : IsHour c hour l made kept
+  pub goes_on : IsBehind made made.end (rest kept) step
+
+-- the hours that are left, one after the other, from what was kept
+abbrev pub IsHoursStep : CircuitView → List ℕ → Kept → Step StandingView → Type 0
+IsHoursStep c [] l step = step ≡ goes [] (standing c l.at l.settled)
+IsHoursStep c (hour ∷ hours) l step = IsHourStep c hour l (λ k s. IsHoursStep c hours k s) step
+
+-- all hours of the Solve
 unfoldable pub IsSolutionStep : StandingView → Step StandingView → Type 0
-IsSolutionStep s step = IsByBuilt s (unbuilt_place s.circuit.elements) step
+IsSolutionStep s step = IsHoursStep s.circuit (hours_of s.circuit.options) (kept_first s) step

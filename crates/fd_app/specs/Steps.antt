@@ -1,5 +1,5 @@
--- What a command comes to for `solve`: a change of the circuit, a settle, or the end of the run.
-use Rattle.std.specs.Prelude.{List, [], ◌∷◌}
+-- What a command comes to for `solve`: a change of the circuit, the settles of a Solve's hours, or the end of the run.
+use Rattle.std.specs.Prelude.{ℕ, List, [], ◌++◌, ◌+◌, Option}
 use Rattle.dss_profile.specs.declared.command.Place.{Place}
 use Rattle.dss_circuit.specs.Circuit.{CircuitView}
 use Rattle.fd_devices.specs.Positions.{next_closed, next_taps}
@@ -7,20 +7,20 @@ use Rattle.fd_enclosure.specs.Sound.{Claim}
 use Rattle.fd_queue.specs.Controls.{Positions}
 use Rattle.fd_queue.specs.Machine.{Act}
 use Rattle.fd_report.specs.declared.faults.Cause.{Cause}
-use Rattle.fd_report.specs.declared.faults.Fault.{Fault}
 use Rattle.fd_report.specs.declared.faults.Fault.TheVariants as fault
-use Rattle.fd_outcome.specs.Settles.{Round, Settle, SettleEnd, settled, failed}
-use Rattle.fd_outcome.specs.Events.{settle}
+use Rattle.fd_outcome.specs.Settles.{Round, Settle, SettleEnd}
+use Rattle.fd_outcome.specs.Events.{Event}
 use Rattle.fd_outcome.specs.Work.{Step, goes, ends}
 
--- between two commands: the circuit, and the positions of taps and banks that its last Solve left, none before the
--- first
+-- between two commands: the circuit, the positions of taps and banks that its last Solve left, none before the first,
+-- and how many settles there were so far
 pub record StandingView : Type 0 where
   pub circuit : CircuitView
   pub at : Positions
+  pub settled : ℕ
 
-abbrev pub standing : CircuitView → Positions → StandingView
-standing circuit at = record { circuit = circuit; at = at }
+abbrev pub standing : CircuitView → Positions → ℕ → StandingView
+standing circuit at settled = record { circuit = circuit; at = at; settled = settled }
 
 abbrev pub no_positions : Positions
 no_positions = record { taps = []; closed = [] }
@@ -44,13 +44,18 @@ round_of m acts = record { centre = m.centre; radii = m.radii; boxes = m.boxes; 
 abbrev pub claim_in : Round → Claim
 claim_in r = record { centre = r.centre; radii = r.radii; mismatches = r.mismatches; boxes = r.boxes; inverse = r.inverse }
 
--- a Solve in mode snapshot, by the circuit's number of Solves
-abbrev pub snapshot_settle : StandingView → List Round → SettleEnd → Positions → Settle
-snapshot_settle s rounds end left = record { number = s.circuit.solves; hour = 0; circuit = s.circuit; start = start_of s; rounds = rounds; end = end; left = left }
+-- what is kept from hour to hour of a Solve: the positions, the last opening time of each bank, none where it wasn't
+-- opened in this Solve, and how many settles there were so far
+pub record Kept : Type 0 where
+  pub at : Positions
+  pub opened : List (Option ℕ)
+  pub settled : ℕ
 
-abbrev pub settles : StandingView → List Round → Positions → Step StandingView
-settles s rounds left = goes (settle (snapshot_settle s rounds settled left) ∷ []) (record { circuit = s.circuit; at = left })
+-- the settle of an hour that starts with what was kept: settles are numbered from 1 in the whole run
+abbrev pub hour_settle : CircuitView → ℕ → Kept → List Round → SettleEnd → Positions → Settle
+hour_settle c hour l rounds end left = record { number = l.settled + 1; hour = hour; circuit = c; start = l.at; opened = l.opened; rounds = rounds; end = end; left = left }
 
--- the records of its rounds are printed before the fault's
-abbrev pub fails : StandingView → List Round → Fault → Positions → Step StandingView
-fails s rounds f left = ends (settle (snapshot_settle s rounds (failed f) left) ∷ []) f
+-- these events, and then those of a step
+abbrev pub behind_events : List Event → Step StandingView → Step StandingView
+behind_events front (goes events s) = goes (front ++ events) s
+behind_events front (ends events f) = ends (front ++ events) f

@@ -1,39 +1,25 @@
 // What a command comes to.
 ghost use Rattle.std.specs.Prelude.{◌≡◌, IfOk};
-ghost use Rattle.fd_app.specs.Answered.{IsSound, answered};
-ghost use Rattle.fd_app.specs.Steps.{StandingView, refuses};
+ghost use Rattle.fd_report.specs.declared.faults.Fault.TheVariants.{Script};
 
 use dss_circuit::Place;
-use dss_layout::Layout;
-use fd_devices::Positions;
 use fd_report::{Cause, Fault};
-use fd_settle::Round;
-use std::alloc::{AllocError, Global};
+use std::alloc::AllocError;
 
-/// The settle of a circuit: its rounds, and the positions of taps and banks that their acts left.
-#[derive(Drop)]
-pub(crate) struct SettledCircuit {
-    /// Where the circuit's unknowns stand.
-    pub layout: Layout,
-    pub rounds: Vec<Round>,
-    pub at: Positions,
-}
-
-/// What a command comes to: a change of the circuit, a settle, or the end of the run.
+/// What a command comes to before the hours of a Solve: a change of the circuit, the end of the run, or a Solve that
+/// passed the tests.
 #[derive(Drop)]
 pub(crate) enum Answer {
     Done,
-    Settles(SettledCircuit),
     /// The script is refused.
     Refuses(Fault),
-    /// A settle ends with a fault.
-    Fails(SettledCircuit, Fault),
+    Solves,
 }
 
-/// The script is refused at this place.
-pub(crate) fn refused(alloc: Global, place: &Place, cause: Cause) -> Result<Answer, AllocError>
-    ensures { IfOk result (λ answer. (s : StandingView) → (answered answer s ≡ refuses place.now cause) × IsSound answer s) }
+/// The fault of a script that is refused at this place.
+pub(crate) fn refused(place: &Place, cause: Cause) -> Result<Fault, AllocError>
+    ensures { IfOk result (λ fault. fault ≡ Script place.now cause) }
 {
     let place = place.clone()?;
-    Ok(Answer::Refuses(Fault::Script { place, cause }))
+    Ok(Fault::Script { place, cause })
 }

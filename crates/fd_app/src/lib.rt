@@ -4,12 +4,14 @@
 //! calls in order, all of them or a front where memory runs out or a write fails; that each printed state meets the
 //! equations of its circuit within the printed mismatches, that every state in its trust box that does so is within the
 //! printed radii, and that each act of a control is the one that the queue machine makes of any such states; and
-//! whatever a library tells, how it ends. Its status is that of the history's end, but for these (`due_law`).
+//! whatever a library tells, how it ends. Its status is that of the history's end, but for these (`due_law`). So through all
+//! hours of a Solve its acts are those of any such states (`days_law`).
 //!
 //! - `words`: the forms of the command line
 //! - `answer`: what a command comes to
 //! - `controls`: the controls of a circuit
-//! - `solving`: what a Solve comes to
+//! - `faults`: the fault with which a run ends, by how a settle ended
+//! - `hour`, `hours`: the hours of a Solve, each printed before the next is solved
 //! - `standing`: what stands between two commands
 //! - `step`: what one command comes to
 //! - `records`: the records of a settle
@@ -22,15 +24,17 @@
 
 mod answer;
 mod controls;
+mod faults;
+mod hour;
+mod hours;
 mod line;
 mod print;
 mod records;
 mod script;
 mod solve;
-mod solving;
 mod standing;
 mod step;
 mod top;
 mod words;
 
-pub use top::{due_law, forms_law, run};
+pub use top::{days_law, due_law, forms_law, run};

@@ -1,7 +1,8 @@
 // The records of a settle.
-ghost use Rattle.std.specs.Prelude.{◌≡◌, ◌++◌, ◌∷◌, ◌<◌, ◌^◌, [], All, IfOk, OnOk, Some, if◌then◌else◌, length, map, slice_get};
+ghost use Rattle.std.specs.Prelude.{◌≡◌, ◌+◌, ◌++◌, ◌∷◌, ◌<◌, ◌^◌, [], All, IfOk, OnOk, Some, if◌then◌else◌, drop, length, map, slice_get};
 ghost use Rattle.dss_layout.specs.Layout.{layout_of, size_of};
 ghost use Rattle.dss_ready.specs.Ready.{HasPassed};
+ghost use Rattle.fd_devices.specs.Hours.{hour_powers};
 ghost use Rattle.fd_outside.specs.Emitted.{pieces_of};
 ghost use Rattle.fd_queue.specs.Controls.{Positions as PositionsView, tap_at};
 ghost use Rattle.fd_report.specs.Lines.{line_of, lines_of};
@@ -12,20 +13,18 @@ ghost use Rattle.fd_sample.specs.Regulators.{changer_of};
 ghost use Rattle.fd_settle.specs.Rounds.{seen};
 ghost use Rattle.fd_settle.specs.Start.{ArePositions};
 ghost use Rattle.fd_outcome.specs.Settles.{Settle, failed, settled};
-ghost use Rattle.fd_outcome.specs.Pages.{act_rows, act_rows_by, controls_of, is_control, position_of, round_rows, rounds_rows, solution_in, tap_rows, tap_rows_by};
-ghost use Rattle.fd_app.specs.Answered.{IsPrintable, IsSnapshotOf, round_in, settle_in, texts_of};
-ghost use Rattle.fd_app.specs.Places.{AreControlPlaces, tap_rows_of};
-ghost use Rattle.fd_app.specs.Solving.{snapshot_powers};
-ghost use Rattle.fd_app.specs.Steps.{standing};
+ghost use Rattle.fd_outcome.specs.Pages.{act_rows, act_rows_by, bank_rows, controls_of, is_bank, is_control, position_of, round_rows, rounds_rows, solution_in, tap_rows, tap_rows_by};
+ghost use Rattle.fd_app.specs.Answered.{IsPrintable, IsSettleAt, round_in, rounds_in, settle_made, texts_of};
+ghost use Rattle.fd_app.specs.Places.{AreControlPlaces, bank_rows_first, tap_rows_of};
+ghost use Rattle.fd_app.specs.Steps.{Kept};
 
-use crate::answer::SettledCircuit;
 use crate::controls::is_control;
 use dss_circuit::Circuit;
 use dss_layout::Layout;
 use dss_profile::{Element, ElementName};
 use fd_devices::Positions;
 use fd_outside::Record;
-use fd_report::{Fault, Position, Solution, act_record, record, records, tap_record};
+use fd_report::{Fault, Position, Solution, act_record, bank_record, record, records, tap_record};
 use fd_sample::{Probe, RegProbe, probes};
 use fd_settle::{Act, Round};
 use std::alloc::{AllocError, Global};
@@ -122,20 +121,22 @@ fn add_acts(
     Ok(())
 }
 
-// Adds the records of a round of this number, and of its acts.
+// Adds the records of a round at this place in its settle, and of its acts.
 fn add_round(
     alloc: Global,
     circuit: &Circuit,
     layout: &Layout,
     controls: &[usize],
     number: u32,
+    hour: u32,
+    place: u32,
     round: &Round,
     into: &mut Vec<Record>,
 ) -> Result<(), AllocError>
     requires layout { layout.now ≡ layout_of circuit.now.elements }
     requires controls { AreControlPlaces circuit.now.elements controls.now }
     requires numbers { IsOfSize (size_of (layout_of circuit.now.elements)) (solution_in (round_in round.now)) }
-    ensures { (s : Settle) → IsSnapshotOf circuit.now s → OnOk result (pieces_of into.new.items ≡ pieces_of into.old.items ++ lines_of (round_rows s number (round_in round.now))) }
+    ensures { (s : Settle) → IsSettleAt circuit.now number hour s → OnOk result (pieces_of into.new.items ≡ pieces_of into.old.items ++ lines_of (round_rows s place (round_in round.now))) }
 {
     let certified = &round.certified;
     let solution = Solution::new(
@@ -144,7 +145,7 @@ fn add_round(
         &certified.boxes,
         &certified.mismatch,
     );
-    let mut made = records(alloc, layout, circuit.solves(), 0, number, &solution)?;
+    let mut made = records(alloc, layout, number, hour, place, &solution)?;
     into.append(&mut made)?;
     add_acts(alloc, circuit, controls, round.acts.as_slice(), into)
 }
@@ -154,22 +155,26 @@ fn add_rounds(
     alloc: Global,
     circuit: &Circuit,
     layout: &Layout,
+    number: u32,
+    hour: u32,
     rounds: &[Round],
     into: &mut Vec<Record>,
 ) -> Result<(), AllocError>
     requires layout { layout.now ≡ layout_of circuit.now.elements }
-    requires numbers { All (λ r. IsOfSize (size_of (layout_of circuit.now.elements)) (solution_in r)) (map round_in rounds.now) }
+    requires numbers { All (λ r. IsOfSize (size_of (layout_of circuit.now.elements)) (solution_in r)) (rounds_in rounds.now) }
     requires few { length rounds.now < 2 ^ 32 }
-    ensures { (s : Settle) → IsSnapshotOf circuit.now s → OnOk result (pieces_of into.new.items ≡ pieces_of into.old.items ++ lines_of (rounds_rows s 0 (map round_in rounds.now))) }
+    ensures { (s : Settle) → IsSettleAt circuit.now number hour s → OnOk result (pieces_of into.new.items ≡ pieces_of into.old.items ++ lines_of (rounds_rows s 0 (rounds_in rounds.now))) }
 {
     let controls = control_places(alloc, circuit)?;
-    for (number, round) in rounds.iter().enumerate() {
+    for (place, round) in rounds.iter().enumerate() {
         add_round(
             alloc,
             circuit,
             layout,
             controls.as_slice(),
-            number as u32,
+            number,
+            hour,
+            place as u32,
             round,
             into,
         )?;
@@ -236,12 +241,13 @@ fn add_taps(
     alloc: Global,
     circuit: &Circuit,
     layout: &Layout,
+    hour: u32,
     at: &Positions,
     into: &mut Vec<Record>,
 ) -> Result<(), AllocError>
     requires ready { HasPassed circuit.now }
     requires layout { layout.now ≡ layout_of circuit.now.elements }
-    requires positions { ArePositions circuit.now (snapshot_powers circuit.now) (positions_in at.now) }
+    requires positions { ArePositions circuit.now (hour_powers circuit.now.elements hour) (positions_in at.now) }
     ensures { OnOk result (pieces_of into.new.items ≡ pieces_of into.old.items ++ lines_of (tap_rows circuit.now.elements (positions_in at.now))) }
 {
     let controls = control_places(alloc, circuit)?;
@@ -252,45 +258,87 @@ fn add_taps(
     Ok(())
 }
 
-/// The records of a settle that ended well.
+fn is_bank(element: &Element) -> bool
+    ensures { result ≡ is_bank element.now }
+{
+    matches!(element, Element::Capacitor(_))
+}
+
+// Adds the record of the bank of this name, whose state is the first of these, and gives the states behind it.
+fn add_bank<'a>(
+    alloc: Global,
+    name: &ElementName,
+    closed: &'a [bool],
+    into: &mut Vec<Record>,
+) -> Result<&'a [bool], AllocError>
+    ensures rows { OnOk result (pieces_of into.new.items ≡ pieces_of into.old.items ++ lines_of (bank_rows_first name.now closed.now)) }
+    ensures left { IfOk result (λ left. left.now ≡ drop 1 closed.now) }
+{
+    match closed {
+        [] => Ok(closed),
+        [is_closed, left @ ..] => {
+            into.push(bank_record(alloc, name, *is_closed)?)?;
+            Ok(left)
+        }
+    }
+}
+
+// Adds the record of each bank, in the script's order.
+fn add_banks(
+    alloc: Global,
+    circuit: &Circuit,
+    at: &Positions,
+    into: &mut Vec<Record>,
+) -> Result<(), AllocError>
+    ensures { OnOk result (pieces_of into.new.items ≡ pieces_of into.old.items ++ lines_of (bank_rows circuit.now.elements (positions_in at.now))) }
+{
+    let mut closed = at.closed.as_slice();
+    for (name, element) in circuit.elements() {
+        if is_bank(element) {
+            closed = add_bank(alloc, name, closed, into)?;
+        }
+    }
+    Ok(())
+}
+
+/// The records of an hour's settle that ended well.
 pub(crate) fn settled_records(
     alloc: Global,
     circuit: &Circuit,
-    settle: &SettledCircuit,
+    layout: &Layout,
+    number: u32,
+    hour: u32,
+    rounds: &[Round],
+    at: &Positions,
 ) -> Result<Vec<Record>, AllocError>
-    requires { (at : PositionsView) → IsPrintable settle.now (standing circuit.now at) }
-    ensures { (at : PositionsView) → IfOk result (λ r. pieces_of r.items ≡ texts_of (settle_in (standing circuit.now at) settle.now settled)) }
+    requires layout { layout.now ≡ layout_of circuit.now.elements }
+    requires printable { IsPrintable circuit.now hour rounds.now (positions_in at.now) }
+    ensures { (l : Kept) → number ≡ l.settled + 1 → IfOk result (λ r. pieces_of r.items ≡ texts_of (settle_made circuit.now hour l rounds.now settled (positions_in at.now))) }
 {
     let mut into = Vec::new(alloc);
-    add_rounds(
-        alloc,
-        circuit,
-        &settle.layout,
-        settle.rounds.as_slice(),
-        &mut into,
-    )?;
-    add_taps(alloc, circuit, &settle.layout, &settle.at, &mut into)?;
+    add_rounds(alloc, circuit, layout, number, hour, rounds, &mut into)?;
+    add_taps(alloc, circuit, layout, hour, at, &mut into)?;
+    add_banks(alloc, circuit, at, &mut into)?;
     Ok(into)
 }
 
-/// The records of a settle that ended with a fault: those of its rounds, and the fault's.
+/// The records of an hour's settle that ended with a fault: those of its rounds, and the fault's.
 pub(crate) fn failed_records(
     alloc: Global,
     circuit: &Circuit,
-    settle: &SettledCircuit,
+    layout: &Layout,
+    number: u32,
+    hour: u32,
+    rounds: &[Round],
     fault: &Fault,
 ) -> Result<Vec<Record>, AllocError>
-    requires { (at : PositionsView) → IsPrintable settle.now (standing circuit.now at) }
-    ensures { (at : PositionsView) → IfOk result (λ r. pieces_of r.items ≡ texts_of (settle_in (standing circuit.now at) settle.now (failed fault.now)) ++ line_of (fields fault.now) ∷ []) }
+    requires layout { layout.now ≡ layout_of circuit.now.elements }
+    requires numbers { All (λ r. IsOfSize (size_of (layout_of circuit.now.elements)) (solution_in r)) (rounds_in rounds.now) }
+    requires few { length rounds.now < 2 ^ 32 }
+    ensures { (l : Kept) (left : PositionsView) → number ≡ l.settled + 1 → IfOk result (λ r. pieces_of r.items ≡ texts_of (settle_made circuit.now hour l rounds.now (failed fault.now) left) ++ line_of (fields fault.now) ∷ []) }
 {
     let mut into = Vec::new(alloc);
-    add_rounds(
-        alloc,
-        circuit,
-        &settle.layout,
-        settle.rounds.as_slice(),
-        &mut into,
-    )?;
+    add_rounds(alloc, circuit, layout, number, hour, rounds, &mut into)?;
     into.push(record(alloc, fault)?)?;
     Ok(into)
 }

@@ -7,8 +7,9 @@ ghost use Rattle.fd_app.specs.Headline.{IsSolved};
 ghost use Rattle.fd_app.specs.Weights.{weight};
 
 use crate::answer::Answer;
+use crate::hours::solve_hours;
 use crate::line::Line;
-use crate::print::{WANT_OF_MEMORY, print_failed, print_fault, print_settle};
+use crate::print::{WANT_OF_MEMORY, print_fault};
 use crate::standing::Standing;
 use crate::step::answer_to;
 use dss_circuit::Command;
@@ -39,18 +40,17 @@ impl Line for Standing {
         begun: &mut bool,
         out: &mut S,
     ) -> Option<u8> {
-        match answer_to(alloc, &mut self.circuit, &self.at, &command) {
+        match answer_to(alloc, &mut self.circuit, &command) {
             Ok(Answer::Done) => None,
-            Ok(Answer::Settles(settle)) => {
-                *begun = true;
-                let printed = print_settle(alloc, &self.circuit, &settle, out);
-                self.at = settle.at;
-                printed
-            }
             Ok(Answer::Refuses(fault)) => Some(print_fault(alloc, &fault, out)),
-            Ok(Answer::Fails(settle, fault)) => {
-                Some(print_failed(alloc, &self.circuit, &settle, &fault, out))
-            }
+            Ok(Answer::Solves) => solve_hours(
+                alloc,
+                &self.circuit,
+                &mut self.at,
+                &mut self.settled,
+                begun,
+                out,
+            ),
             Err(_) => Some(WANT_OF_MEMORY),
         }
     }

@@ -7,28 +7,30 @@ use fd_devices::{BankStates, Positions, Taps};
 use std::alloc::Global;
 use std::marker::Model;
 
-/// The circuit, and the positions of taps and banks that its last Solve left, none before the first.
+/// The circuit, the positions of taps and banks that its last Solve left, none before the first, and how many settles
+/// there were so far.
 #[derive(Drop)]
 pub(crate) struct Standing {
     pub circuit: Circuit,
     pub at: Positions,
+    pub settled: u32,
 }
 
 impl Model for Standing {
-    ghost use Rattle.std.specs.Prelude.{All};
+    ghost use Rattle.std.specs.Prelude.{◌*◌, ◌≤◌, All};
     ghost use Rattle.fd_xfmr.specs.Leakage.{AreTaps};
     ghost use Rattle.fd_sample.specs.Probes.{positions_in};
     ghost use Rattle.fd_app.specs.Steps.{StandingView};
 
     ghost Value = { StandingView };
 
-    ghost view = { λ s. record { circuit = s.circuit; at = positions_in s.at } };
+    ghost view = { λ s. record { circuit = s.circuit; at = positions_in s.at; settled = s.settled } };
 
-    ghost invariant = { λ s. All AreTaps s.at.taps };
+    ghost invariant = { λ s. All AreTaps s.at.taps × (s.settled ≤ 8761 * s.circuit.solves) };
 }
 
 impl Standing {
-    /// No circuit, and no positions.
+    /// No circuit, no positions, and no settle.
     pub(crate) fn new(alloc: Global) -> Standing
         ensures { result ≡ first_standing }
     {
@@ -38,6 +40,7 @@ impl Standing {
                 taps: Taps::new(Vec::new(alloc)),
                 closed: BankStates::new(Vec::new(alloc)),
             },
+            settled: 0,
         }
     }
 }

@@ -10,6 +10,7 @@ ghost use Rattle.fd_outcome.specs.Events.{History};
 ghost use Rattle.fd_outcome.specs.Laws.{IsDue};
 ghost use Rattle.fd_outcome.specs.Runs.{Runs};
 ghost use Rattle.fd_outcome.specs.Untold.{Answers, EndsAtRead, IsUntold};
+ghost use Rattle.fd_app.specs.Days.{DaysLaw};
 ghost use Rattle.fd_app.specs.Headline.{IsSolved};
 ghost use Rattle.fd_app.specs.Run.{FormsLaw, IsFormHistory, IsScriptHistory, Knows, style_of};
 ghost use Rattle.fd_app.specs.Words.{form_of};
@@ -105,4 +106,11 @@ pub fn due_law<L: Library, S: Sink>()
         IsFormHistory files (form_of words) h →
         Runs L.faults L.asked S.taken S.calls lib_old lib_new old new (λ x. IsFormHistory files (form_of words) x) (style_of (form_of words)) IsSolved code →
         IsDue h.end code (L.faults lib_old) (L.faults lib_new) }
+{}
+
+/// A law: whatever states are chosen for the rounds of a Solve, each in its trust box and meeting its mismatches, its acts
+/// are those of the queue machine over them, through all its hours. Does nothing.
+#[tactic(auto, using(crate::proofs::Days::days_alike))]
+pub fn days_law()
+    ensures { DaysLaw }
 {}

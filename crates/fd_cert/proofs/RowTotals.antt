@@ -1,8 +1,9 @@
 -- Totals up to 2^120, and the weighted sum of a row by them.
-use Rattle.std.proofs.Common.{◌≡◌, ◌∙◌, ℕ, zero, suc, ◌+◌, ◌*◌, ◌<◌, ◌≤◌, ◌^◌, ℤ, pos, ◌+ℤ◌, ◌-ℤ◌, ◌*ℤ◌, nat_abs, List, [], ◌∷◌, take, length, get_or, Option, Some, None, arith, ap, refl, sym, subst, inl, inr}
+use Rattle.std.proofs.Common.{◌≡◌, ◌∙◌, ℕ, zero, suc, ◌+◌, ◌*◌, ◌<◌, ◌≤◌, ◌^◌, ℤ, pos, ◌+ℤ◌, ◌-ℤ◌, ◌*ℤ◌, nat_abs, List, [], ◌∷◌, take, length, get_or, set, cond, Option, Some, None, arith, ap, refl, sym, subst, inl, inr}
 use Rattle.std.proofs.Math.Nat.{mul-le-mul}
-use Rattle.std.proofs.lemmas.Bool.{cases_lt}
+use Rattle.std.proofs.lemmas.Bool.{cases_eq, cases_lt, eq-eqb, ne_eqb}
 use Rattle.std.proofs.lemmas.Int.{ints}
+use Rattle.std.proofs.lemmas.List.{get_or-set_other, get_or-set_same}
 use Rattle.fd_exact.specs.States.{part}
 use Rattle.fd_exact.specs.SumLaws.{sum_n-add, sum_n-same, sum_n-swap, sum_n-times}
 use Rattle.fd_exact.specs.Sums.{list_n, list_z, sum_n, sum_z}
@@ -16,7 +17,7 @@ use Rattle.fd_arith.specs.Wide.{wide_difference, wide_product, wide_size, wide_s
 use Rattle.fd_enclosure.specs.Bounds.{added_at, left_at, left_over, unit_at, wide_sums}
 use Rattle.fd_enclosure.specs.Sound.{number_at}
 use Rattle.fd_cert.specs.Columns.{HasWeights, column_sum}
-use Rattle.fd_cert.specs.Totals.{AreWeighted, IsUpTo, left_total, weighted_radius}
+use Rattle.fd_cert.specs.Totals.{AreWeighted, IsUpTo, left_total, weighted_radius, weighted_total}
 use Rattle.fd_cert.proofs.Units.{within_small}
 
 -- ---- fronts of a sum
@@ -174,3 +175,31 @@ past_sum f k n total l e h = let s = front_le f (suc k) n (omega arith) in omega
 
 pub past_take : {X : Type 0} (f : X → ℕ) (xs : List X) (k : ℕ) (d : X) (total : ℕ) → k < length xs → total ≡ list_n f (take k xs) → 2 ^ 120 < total + f (get_or xs k d) → 2 ^ 120 < list_n f xs
 past_take f xs k d total l e h = let s = take_le f (k + 1) xs in let m = list_n_more f xs k d l in omega arith
+
+pub front_more : (f : ℕ → ℕ) (k from total : ℕ) → total ≡ from + sum_n f k → total + f k ≡ from + sum_n f (k + 1)
+front_more f k from total h =
+    let next : suc k ≡ k + 1 = omega arith in
+    let more : total + f k ≡ from + sum_n f (suc k) = omega (arith, h) in
+    more ∙ ap (λ n. from + sum_n f n) next
+
+-- what sums leave of a row of the unit matrix, where the row has been taken off them
+pub left_is_weighted : (n i : ℕ) (ws sums : List ℤ) → i < length sums → left_total n i ws sums ≡ weighted_total n ws (set sums i (part sums i -ℤ pos (2 ^ 80)))
+left_is_weighted n i ws sums l =
+    sum_n-same (λ j. nat_abs (part ws j) * nat_abs (unit_at i j -ℤ part sums j)) (λ j. nat_abs (part ws j) * nat_abs (part (set sums i (part sums i -ℤ pos (2 ^ 80))) j)) n
+    (λ j m. ap (λ k. nat_abs (part ws j) * k) (size j))
+  where
+    back : (u s : ℤ) → nat_abs (u -ℤ s) ≡ nat_abs (s -ℤ u)
+    back u s = omega (arith, ints)
+
+    none : (s : ℤ) → nat_abs (pos 0 -ℤ s) ≡ nat_abs s
+    none s = omega (arith, ints)
+
+    size : (j : ℕ) → nat_abs (unit_at i j -ℤ part sums j) ≡ nat_abs (part (set sums i (part sums i -ℤ pos (2 ^ 80))) j)
+    size j = elim (cases_eq i j) [
+      | inl q ↦ subst (λ m. nat_abs (unit_at i m -ℤ part sums m) ≡ nat_abs (part (set sums i (part sums i -ℤ pos (2 ^ 80))) m)) q
+          (ap (λ b. nat_abs (cond b (pos (2 ^ 80)) (pos 0) -ℤ part sums i)) (eq-eqb i i refl) ∙ back (pos (2 ^ 80)) (part sums i)
+          ∙ ap nat_abs (sym (get_or-set_same sums i (part sums i -ℤ pos (2 ^ 80)) (pos 0) l)))
+      | inr ne ↦
+          ap (λ b. nat_abs (cond b (pos (2 ^ 80)) (pos 0) -ℤ part sums j)) (ne_eqb i j ne) ∙ none (part sums j)
+          ∙ ap nat_abs (sym (get_or-set_other sums i j (part sums i -ℤ pos (2 ^ 80)) (pos 0) (λ q. ne (sym q))))
+    ]

@@ -23,6 +23,10 @@ weighted_radius n R w l = sum_n (λ j. R l j * w j) n
 abbrev pub left_total : ℕ → ℕ → List ℤ → List ℤ → ℕ
 left_total n i ws sums = sum_n (λ j. nat_abs (part ws j) * nat_abs (unit_at i j -ℤ part sums j)) n
 
+-- the sizes of n numbers, each times its weight
+abbrev pub weighted_total : ℕ → List ℤ → List ℤ → ℕ
+weighted_total n ws zs = sum_n (λ j. nat_abs (part ws j) * nat_abs (part zs j)) n
+
 -- the sizes of the entries of a row of the inverse, each times a number
 abbrev pub sizes_total : ℕ → List ℤ → List ℕ → ℕ
 sizes_total n row numbers = sum_n (λ l. nat_abs (part row l) * number_at numbers l) n

@@ -4,18 +4,18 @@
 // by weight are made once for all rows of the inverse, and a row of the inverse meets each of these once. No summand is
 // negative, so no part of the sum passes 2^120 unless the whole does, and the order of summing changes neither the
 // bound nor where there is none.
-ghost use Rattle.std.specs.Prelude.{◌≡◌, ℕ, ◌+◌, ◌*◌, ◌<◌, ◌≤◌, ◌^◌, ℤ, pos, ◌≤ℤ◌, nat_abs, IfOk, IfSome, length};
+ghost use Rattle.std.specs.Prelude.{◌≡◌, ℕ, ◌+◌, ◌*◌, ◌<◌, ◌≤◌, ◌^◌, ℤ, pos, ◌≤ℤ◌, ◌-ℤ◌, nat_abs, set, IfOk, IfSome, length};
 ghost use Rattle.fd_exact.specs.States.{entry, part};
 ghost use Rattle.fd_exact.specs.Sums.{list_n};
 ghost use Rattle.fd_arith.specs.Limits.{within};
 ghost use Rattle.fd_arith.specs.Wide.{wide_quotient};
 ghost use Rattle.fd_equations.specs.Rounded.{list_of};
-ghost use Rattle.fd_enclosure.specs.Bounds.{bound_at, unit_at};
+ghost use Rattle.fd_enclosure.specs.Bounds.{bound_at};
 ghost use Rattle.fd_mat.specs.Rows.{EntriesWithin};
 ghost use Rattle.fd_cert.specs.Slopes.{AreSlopes, HasRadii, HasSlopes};
 ghost use Rattle.fd_cert.specs.Entries.{IsFlatOf};
 ghost use Rattle.fd_cert.specs.Columns.{AreColumns, AreUnits, HasWeights, IsMade, IsRowOfInverse};
-ghost use Rattle.fd_cert.specs.Totals.{AreShortWeights, AreWeighted, IsTotal, IsUpTo, left_total, sizes_total};
+ghost use Rattle.fd_cert.specs.Totals.{AreShortWeights, AreWeighted, IsTotal, IsUpTo, sizes_total, weighted_total};
 
 use crate::sums::{Walk, clear};
 use crate::totals::{PAST, plus_entry, plus_product, plus_weighted, short_weight, up_to_limit};
@@ -29,13 +29,6 @@ const ONE: i128 = 0x1_0000_0000_0000_0000_0000;
 
 const BOUND_UNITS: i128 = 0x100_0000_0000;
 
-// An entry of the unit matrix, in units of 2^-80.
-fn unit(row: usize, col: usize) -> i128
-    ensures { result ≡ unit_at row col }
-{
-    if row == col { ONE } else { 0 }
-}
-
 // The weights in 64 bits; 0 stands for one above 2^40.
 pub fn short_weights(alloc: Global, weights: &[i128]) -> Result<Vec<u64>, AllocError>
     ensures { IfOk result (λ shorts. AreShortWeights weights.now shorts.items) }
@@ -46,22 +39,33 @@ pub fn short_weights(alloc: Global, weights: &[i128]) -> Result<Vec<u64>, AllocE
         .collect(alloc)
 }
 
-// What the sums of columns leave of a row of the unit matrix, each size times the weight of its column; none where that
-// passes 2^120.
+// Takes a row of the unit matrix off the sums of its columns.
+fn take_unit(sums: &mut [i128], row: usize)
+    requires row { row < length sums.old }
+    requires units { AreUnits sums.old }
+    ensures { sums.new ≡ set sums.old row (part sums.old row -ℤ pos (2 ^ 80)) }
+{
+    sums[row] -= ONE;
+}
+
+// The sizes of numbers, each times its weight, added up; none where that passes 2^120.
 //
 // Never inlined: beside the other loops of a row LLVM would keep its places in memory.
 #[inline(never)]
-fn left_by_weight(row: usize, sums: &[i128], weights: &[i128], shorts: &[u64]) -> Option<u128>
-    requires few { length sums.now ≤ 2 ^ 11 }
-    requires weights { length weights.now ≡ length sums.now }
+fn sizes_by_weight(numbers: &[i128], weights: &[i128], shorts: &[u64]) -> Option<u128>
+    requires few { length numbers.now ≤ 2 ^ 11 }
+    requires weights { length weights.now ≡ length numbers.now }
     requires shorts { AreShortWeights weights.now shorts.now }
-    requires units { AreUnits sums.now }
-    ensures { IsTotal (left_total (length sums.now) row weights.now sums.now) result }
+    ensures { IsTotal (weighted_total (length numbers.now) weights.now numbers.now) result }
 {
     let mut total = 0;
-    for col in 0..sums.len() {
-        let left = (unit(row, col) - sums[col]).unsigned_abs();
-        match plus_weighted(total, weights[col], shorts[col], left) {
+    for col in 0..numbers.len() {
+        match plus_weighted(
+            total,
+            weights[col],
+            shorts[col],
+            numbers[col].unsigned_abs(),
+        ) {
             Some(next) => total = next,
             None => return None,
         }
@@ -147,21 +151,21 @@ fn bound(slopes: &Slopes, row: u32, factors: &[i128], sums: &mut [i128]) -> Opti
     if slopes.jacobian.sums(sums, factors).is_some() {
         return None;
     }
-    let total = row_total(slopes, row, factors, sums);
+    take_unit(sums, row as usize);
+    let total = row_total(slopes, factors, sums);
     over_weight(total, slopes.weights[row as usize])
 }
 
-// What the sums of columns leave of a row and what the radii add, by weight.
-fn row_total(slopes: &Slopes, row: u32, factors: &[i128], sums: &[i128]) -> Option<u128>
-    requires few { length sums.now ≤ 2 ^ 11 }
-    requires weights { length slopes.now.weights.now ≡ length sums.now }
+// What is left of a row of the unit matrix and what the radii add, by weight.
+fn row_total(slopes: &Slopes, factors: &[i128], left: &[i128]) -> Option<u128>
+    requires few { length left.now ≤ 2 ^ 11 }
+    requires weights { length slopes.now.weights.now ≡ length left.now }
     requires shorts { AreShortWeights slopes.now.weights.now slopes.now.shorts.items }
-    requires units { AreUnits sums.now }
     requires factors { IsRowOfInverse (length slopes.now.radii.items) factors.now }
-    ensures { IsTotal (left_total (length sums.now) row slopes.now.weights.now sums.now + sizes_total (length slopes.now.radii.items) factors.now slopes.now.radii.items) result }
+    ensures { IsTotal (weighted_total (length left.now) slopes.now.weights.now left.now + sizes_total (length slopes.now.radii.items) factors.now slopes.now.radii.items) result }
 {
-    match left_by_weight(row as usize, sums, slopes.weights, &slopes.shorts) {
-        Some(left) => plus_sizes(left, factors, &slopes.radii),
+    match sizes_by_weight(left, slopes.weights, &slopes.shorts) {
+        Some(total) => plus_sizes(total, factors, &slopes.radii),
         None => None,
     }
 }

@@ -8,10 +8,8 @@ const LIMIT: u128 = 0x100_0000_0000_0000_0000_0000_0000_0000;
 // What stands for each total above that.
 pub const PAST: u128 = LIMIT + 1;
 
-// The greatest short weight, 2^40, and the greatest short number, below 2^75: 2^11 of their products are at most 2^126.
+// The greatest short weight, 2^40: 2^11 of its products with numbers of 64 bits are at most 2^115.
 const SHORT_WEIGHT: u128 = 0x100_0000_0000;
-
-const SHORT_NUMBER: u128 = 0x7ff_ffff_ffff_ffff_ffff;
 
 // The greatest number of 64 bits.
 const HALF: u128 = 0xffff_ffff_ffff_ffff;
@@ -42,13 +40,11 @@ pub fn entry_size(entry: i128) -> u64
     (entry as i64).unsigned_abs()
 }
 
-// The product of a short entry and a number of 64 bits: one multiplication.
-fn short_product(size: u64, number: u64) -> u128
-    requires size { size ≤ 2 ^ 56 }
-    ensures value { result ≡ size * number }
-    ensures small { result ≤ 2 ^ 120 }
+// The product of two numbers of 64 bits: one multiplication.
+fn short_product(left: u64, right: u64) -> u128
+    ensures { result ≡ left * right }
 {
-    size as u128 * number as u128
+    left as u128 * right as u128
 }
 
 // The same as `plus_product` for the size of an entry of an inverse, in one multiplication where the number has 64
@@ -76,18 +72,8 @@ pub fn short_weight(weight: i128) -> u64
     if size <= SHORT_WEIGHT { size as u64 } else { 0 }
 }
 
-// The product of a short weight and a number: two multiplications of 64 bits.
-fn weighted(weight: u64, number: u128) -> u128
-    requires weight { weight ≤ 2 ^ 40 }
-    requires number { number ≤ 2 ^ 75 }
-    ensures value { result ≡ weight * number }
-    ensures small { result ≤ 2 ^ 115 }
-{
-    weight as u128 * number
-}
-
-// The total with the product of a weight and a number more; none only where that passes 2^120. Where both are short it
-// is not tested.
+// The total with the product of a weight and a number more; none only where that passes 2^120. Where the weight is
+// short and the number has 64 bits it is not tested.
 pub fn plus_weighted(total: u128, weight: i128, short: u64, number: u128) -> Option<u128>
     requires total { total ≤ 2 ^ 127 }
     requires same { 0 < short → short ≡ nat_abs weight }
@@ -96,8 +82,8 @@ pub fn plus_weighted(total: u128, weight: i128, short: u64, number: u128) -> Opt
     ensures none { IfNone result (2 ^ 120 < total + nat_abs weight * number) }
     ensures small { (k : ℕ) → total ≤ 2 ^ 120 + k * 2 ^ 115 → IfSome result (λ t. t ≤ 2 ^ 120 + (k + 1) * 2 ^ 115) }
 {
-    if short != 0 && number <= SHORT_NUMBER {
-        Some(total + weighted(short, number))
+    if short != 0 && number <= HALF {
+        Some(total + short_product(short, number as u64))
     } else {
         plus_product(total, weight.unsigned_abs(), number)
     }

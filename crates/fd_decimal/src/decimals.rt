@@ -2,7 +2,11 @@
 ghost use Rattle.std.specs.Prelude.{◌≡◌, ◌<◌, ◌≤◌, ◌+◌, ◌/◌, ◌%◌, ◌^◌, ◌++◌, unsigned_abs, IfOk, OnOk};
 ghost use Rattle.fd_decimal.specs.Decimals.{fixed_text, last_digits, micro_text, nano_text, sign, signed_text, size_text};
 
+use itoa::Buffer;
 use std::alloc::{AllocError, Global};
+
+// The length of the longest text of a size up to 2^60 micro-units, with its sign.
+const USUAL_LENGTH: usize = 21;
 
 fn sign(value: i128) -> &'static [u8]
     ensures { result.now ≡ sign value }
@@ -49,13 +53,13 @@ fn push_digits(text: &mut Vec<u8>, places: u32, n: u32) -> Result<(), AllocError
 }
 
 #[tactic(auto, unfolding(crate::specs::Decimals::fixed_text))]
-fn push_fixed(alloc: Global, text: &mut Vec<u8>, places: u32, n: u128) -> Result<(), AllocError>
+fn push_fixed(text: &mut Vec<u8>, places: u32, n: u128) -> Result<(), AllocError>
     requires { places ≤ 9 }
     ensures { OnOk result (text.new.items ≡ text.old.items ++ fixed_text places n) }
 {
     let one = units_per_one(places);
-    let whole = (n / one).to_string(alloc)?;
-    text.extend_from_slice(whole.as_bytes())?;
+    let mut whole = Buffer::new();
+    text.extend_from_slice(whole.format(n / one).as_bytes())?;
     text.push(b'.')?;
     push_digits(text, places, (n % one) as u32)
 }
@@ -65,8 +69,8 @@ pub fn fixed_text(alloc: Global, places: u32, n: u128) -> Result<Vec<u8>, AllocE
     requires { places ≤ 9 }
     ensures { IfOk result (λ v. v.items ≡ fixed_text places n) }
 {
-    let mut text = Vec::new(alloc);
-    push_fixed(alloc, &mut text, places, n)?;
+    let mut text = Vec::with_capacity(alloc, USUAL_LENGTH)?;
+    push_fixed(&mut text, places, n)?;
     Ok(text)
 }
 
@@ -76,9 +80,9 @@ fn signed_text(alloc: Global, places: u32, value: i128) -> Result<Vec<u8>, Alloc
     requires { places ≤ 9 }
     ensures { IfOk result (λ v. v.items ≡ signed_text places value) }
 {
-    let mut text = Vec::new(alloc);
+    let mut text = Vec::with_capacity(alloc, USUAL_LENGTH)?;
     text.extend_from_slice(sign(value))?;
-    push_fixed(alloc, &mut text, places, value.unsigned_abs())?;
+    push_fixed(&mut text, places, value.unsigned_abs())?;
     Ok(text)
 }
 

@@ -1,2 +1,2 @@
 -- Lemmas that callers cite.
-pub use Rattle.fd_enclosure.proofs.Certificates.{claim_is}
+pub use Rattle.fd_enclosure.proofs.Certificates.{all_bounded, claim_is}

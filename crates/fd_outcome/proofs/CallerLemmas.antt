@@ -35,9 +35,9 @@ use Rattle.fd_outcome.specs.Way.{Way, whole}
 use Rattle.fd_outcome.specs.Parts.{Wrote, Printed, fault_doing, Asked, IsUnread, IsCutShort, Gives, GoesOn, events_in, EndsSo, EndsAt, Finishes, IsCutIn}
 use Rattle.fd_outcome.specs.Untold.{CutsShort, EndsAtFault, Answers, EndsAtRead, IsUntold}
 use Rattle.fd_outcome.proofs.Histories.{one_history, one_value, does_command, stays}
-use Rattle.fd_outcome.proofs.Lists.{body-append, opened-append, names_of_writes, texts-append, texts_of_writes}
+use Rattle.fd_outcome.proofs.Lists.{body-append, names-append, opened-append, names_of_writes, texts-append, texts_of_writes}
 use Rattle.fd_outcome.proofs.Printing.{append_is, front_is, due_of}
-use Rattle.fd_outcome.proofs.Ways.{goes_on, ended_at, ended_at_read, names_lead, names_good, reads_alone, body_reads, done_after, made_after, sees_then, sees_nothing, sees_names, sees_as}
+use Rattle.fd_outcome.proofs.Ways.{goes_on, ended_at, ended_at_read, names_lead, names_good, reads_alone, body_reads, done_after, front_after, made_after, sees_then, sees_nothing, sees_names, sees_as}
 
 -- ---- what a session gives
 
@@ -572,6 +572,37 @@ module _ {S : Type 0} (taken : S → Option (List ℕ)) (calls : S → Option �
 
   pub fault_cut : (old new : S) (f : Fault) (code : ℕ) → IsCutIn taken calls old new (writes (fault_text f) ∷ []) code → Printed taken calls old new (fault_doing f) code
   fault_cut old new f code c = record { made = c.made; done = inr c.front; wrote = c.wrote }
+
+-- ---- writes behind others
+
+module _ {S : Type 0} (taken : S → Option (List ℕ)) (calls : S → Option ℕ) where
+  seen_by : (old new : S) (m : Made) → Wrote taken calls old new m → Sees {L = Unit {0}} (λ u. None) taken calls tt tt old new m
+  seen_by old new m w = record { names = tt; bytes = w.bytes_are; writes = w.writes_are }
+
+  pub wrote_then : (old mid new : S) (a : List Call) (m : Made) → Wrote taken calls old mid (whole a) → Wrote taken calls mid new m → Wrote taken calls old new (made_after a m)
+  wrote_then old mid new a m first second =
+      let both = sees_then {L = Unit {0}} (λ u. None) taken calls tt tt tt old mid new a m (seen_by old mid (whole a) first) (seen_by mid new m second) in
+      record {
+        names = names-append a m.calls ∙ ap (λ l. l ++ names_read m.calls) first.names ∙ second.names;
+        bytes_are = both.bytes;
+        writes_are = both.writes;
+      }
+
+  -- what is done of these calls is done of those before and these
+  pub printed_then : (old mid new : S) (a rest : List Call) (end : Option Fault) (code : ℕ) → Wrote taken calls old mid (whole a) → Printed taken calls mid new (record { calls = rest; end = end }) code
+      → Printed taken calls old new (record { calls = a ++ rest; end = end }) code
+  printed_then old mid new a rest end code first p = record {
+    made = made_after a p.made;
+    done = done_after a rest (a ++ rest) end code p.made refl p.done;
+    wrote = wrote_then old mid new a p.made first p.wrote;
+  }
+
+  pub cut_then : (old mid new : S) (a rest : List Call) (code : ℕ) → Wrote taken calls old mid (whole a) → IsCutIn taken calls mid new rest code → IsCutIn taken calls old new (a ++ rest) code
+  cut_then old mid new a rest code first c = record {
+    made = made_after a c.made;
+    front = front_after a rest code c.made c.front;
+    wrote = wrote_then old mid new a c.made first c.wrote;
+  }
 
 -- ---- a run whatever a library tells
 

@@ -16,7 +16,7 @@ use Rattle.fd_outcome.specs.Events.{Event, asked, History, before, IfSettle, All
 use Rattle.fd_outcome.specs.Work.{Step}
 use Rattle.fd_outcome.specs.History.{Point, IsFrom, LeadsTo}
 use Rattle.fd_outcome.specs.Calls.{Call, reads, writes, Style, opened, so_far, body, calls_in, calls_of, doing, Doing, fault_text, names_read, texts_written}
-use Rattle.fd_outcome.specs.Done.{called_first, read_failing, failing, Made, IsDone, Sees, torn_bytes, torn_writes}
+use Rattle.fd_outcome.specs.Done.{called_first, read_failing, failing, Made, IsDone, IsFrontOf, Sees, torn_bytes, torn_writes}
 use Rattle.fd_outcome.specs.Behind.{behind, has_text, AsksNames}
 use Rattle.fd_outcome.specs.Runs.{Runs}
 use Rattle.fd_outcome.specs.Way.{Way, whole}
@@ -99,14 +99,25 @@ names_good good (n ∷ names) = All-cons (IfSettle good) (asked n) (map asked na
 
 -- ---- fronts of calls behind others
 
+pub front_after : (a rest : List Call) (status : ℕ) (m : Made) → IsFrontOf rest status m → IsFrontOf (a ++ rest) status (made_after a m)
+front_after a rest status m front = elim front [
+  | inl x ↦ inl (record { rest = x.rest; calls = ap (λ l. a ++ l) x.calls ∙ sym (append_assoc a m.calls x.rest); torn = x.torn; status_is = x.status_is })
+  | inr x ↦ inr (record {
+    text = x.text;
+    rest = x.rest;
+    calls = ap (λ l. a ++ l) x.calls ∙ sym (append_assoc a m.calls (writes x.text ∷ x.rest));
+    front = x.front;
+    torn = x.torn;
+    cut = x.cut;
+    status_is = x.status_is;
+  })
+]
+
 pub done_after : (a rest : List Call) (all : List Call) (end : Option Fault) (status : ℕ) (m : Made) → all ≡ a ++ rest
     → IsDone (record { calls = rest; end = end }) status m → IsDone (record { calls = all; end = end }) status (made_after a m)
 done_after a rest all end status m e is = elim is [
   | inl x ↦ inl (record { calls = ap (λ l. a ++ l) x.calls ∙ sym e; torn = x.torn; status_is = x.status_is })
-  | inr cut ↦ inr (elim cut [
-    | inl x ↦ inl (record { rest = x.rest; calls = e ∙ ap (λ l. a ++ l) x.calls ∙ sym (append_assoc a m.calls x.rest); torn = x.torn; status_is = x.status_is })
-    | inr x ↦ inr (record { text = x.text; rest = x.rest; calls = e ∙ ap (λ l. a ++ l) x.calls ∙ sym (append_assoc a m.calls (writes x.text ∷ x.rest)); front = x.front; torn = x.torn; cut = x.cut; status_is = x.status_is })
-  ])
+  | inr front ↦ inr (subst (λ l. IsFrontOf l status (made_after a m)) (sym e) (front_after a rest status m front))
 ]
 
 -- as many reads go well as there are before the one that fails

@@ -1,5 +1,5 @@
 -- What events are printed as.
-use Rattle.std.specs.Prelude.{ℕ, ◌+◌, ◌==◌, Bool, true, false, List, [], ◌∷◌, ◌++◌, filter, slice_get, Option, Some, None, if◌then◌else◌}
+use Rattle.std.specs.Prelude.{ℕ, ◌+◌, ◌==◌, Bool, true, false, List, [], ◌∷◌, ◌++◌, filter, map, slice_get, Option, Some, None, if◌then◌else◌}
 use Rattle.std.specs.List.{flat_map, zip}
 use Rattle.dss_profile.specs.declared.element.Element.{Element}
 use Rattle.dss_profile.specs.declared.element.Element.TheVariants as the
@@ -11,7 +11,7 @@ use Rattle.fd_sample.specs.declared.probe.Probe.{Probe}
 use Rattle.fd_sample.specs.declared.probe.Probe.TheVariants as probe
 use Rattle.fd_sample.specs.Circuits.{probes_of}
 use Rattle.fd_sample.specs.Regulators.{changer_of}
-use Rattle.fd_report.specs.Controls.{act_fields, tap_fields}
+use Rattle.fd_report.specs.Controls.{act_fields, bank_fields, tap_fields}
 use Rattle.fd_report.specs.declared.controls.Position.{Position}
 use Rattle.fd_report.specs.declared.controls.Position.TheVariants as position
 use Rattle.fd_report.specs.Lines.{line_of, lines_of}
@@ -53,6 +53,23 @@ tap_rows_by at name (probe.Bank p) = []
 abbrev pub tap_rows : Elements → Positions → List (List (List ℕ))
 tap_rows es at = flat_map (λ c. tap_rows_by at c.0.0 c.1) (zip (controls_of es) (probes_of es))
 
+-- ---- banks
+
+abbrev pub is_bank : Element → Bool
+is_bank (the.Capacitor bank) = true
+is_bank other = false
+
+-- the banks of a circuit with their names, in the script's order
+abbrev pub banks_of : Elements → Elements
+banks_of es = filter (λ e. is_bank e.1) es
+
+-- a row for each bank, by whether it is closed
+abbrev pub bank_rows_by : Elements → List Bool → List (List (List ℕ))
+bank_rows_by banks closed = map (λ b. bank_fields b.0.0 b.1) (zip banks closed)
+
+abbrev pub bank_rows : Elements → Positions → List (List (List ℕ))
+bank_rows es at = bank_rows_by (banks_of es) at.closed
+
 -- ---- the report
 
 -- the numbers of a round
@@ -68,9 +85,9 @@ abbrev pub rounds_rows : Settle → ℕ → List Round → List (List (List ℕ)
 rounds_rows s k [] = []
 rounds_rows s k (r ∷ rounds) = round_rows s k r ++ rounds_rows s (k + 1) rounds
 
--- the taps stand behind a settle that ends well
+-- the taps, and then the banks, stand behind a settle that ends well
 abbrev pub end_rows : Settle → SettleEnd → List (List (List ℕ))
-end_rows s settled = tap_rows s.circuit.elements s.left
+end_rows s settled = tap_rows s.circuit.elements s.left ++ bank_rows s.circuit.elements s.left
 end_rows s (failed f) = []
 
 abbrev pub report_rows : Settle → List (List (List ℕ))

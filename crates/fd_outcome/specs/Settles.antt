@@ -1,5 +1,5 @@
 -- A settle as data: where it started, its rounds, how it ended, and what it leaves.
-use Rattle.std.specs.Prelude.{ℕ, ℤ, List}
+use Rattle.std.specs.Prelude.{ℕ, ℤ, List, Option}
 use Rattle.dss_circuit.specs.Circuit.{CircuitView}
 use Rattle.fd_queue.specs.Controls.{Positions}
 use Rattle.fd_queue.specs.Machine.{Act}
@@ -21,13 +21,15 @@ pub data SettleEnd : Type 0 where
   settled : SettleEnd
   failed : Fault → SettleEnd
 
--- of a circuit, by its number in the run, from 1; the hour is 0 in a snapshot. It starts and leaves with the positions
--- of taps and banks
+-- of a circuit, by the number of its Solve in the run, from 1; the hour is 0 in a snapshot. It starts with the
+-- positions of taps and banks and the last opening time of each bank, none where it wasn't opened in this Solve, and
+-- leaves the positions
 pub record Settle : Type 0 where
   pub number : ℕ
   pub hour : ℕ
   pub circuit : CircuitView
   pub start : Positions
+  pub opened : List (Option ℕ)
   pub rounds : List Round
   pub end : SettleEnd
   pub left : Positions

@@ -2,11 +2,11 @@
 ghost use Rattle.std.specs.Prelude.{◌≡◌, ◌∷◌, ◌++◌, ◌+◌, ◌*◌, ◌<◌, ◌≤◌, length, IfOk, OnOk};
 ghost use Rattle.fd_outside.specs.Emitted.{pieces_of};
 ghost use Rattle.dss_layout.specs.Layout.{size_of};
-ghost use Rattle.fd_report.specs.Lines.{line_of, lines_of};
+ghost use Rattle.fd_report.specs.Lines.{IsReady, line_of, lines_of};
 ghost use Rattle.fd_report.specs.Records.{branch_fields, branch_records, magnitude_fields, magnitude_records, node_fields, node_records, report_of, solution_fields};
 ghost use Rattle.fd_report.specs.Solutions.{IsOfSize};
 
-use crate::line::record_of;
+use crate::line::RecordWriter;
 use crate::names::{element_field, node_field};
 use crate::solution::Solution;
 use crate::texts::{complex_texts, interval_texts, value_texts};
@@ -15,13 +15,21 @@ use fd_decimal::size_text;
 use fd_outside::Record;
 use std::alloc::{AllocError, Global};
 
-fn solution_record(alloc: Global, number: u32, hour: u32, round: u32) -> Result<Record, AllocError>
-    ensures { IfOk result (λ r. r.bytes ≡ line_of (solution_fields number hour round)) }
+fn solution_record(
+    alloc: Global,
+    writer: &mut RecordWriter,
+    number: u32,
+    hour: u32,
+    round: u32,
+) -> Result<Record, AllocError>
+    requires { IsReady writer.old }
+    ensures ready { OnOk result (IsReady writer.new) }
+    ensures record { IfOk result (λ r. r.bytes ≡ line_of (solution_fields number hour round)) }
 {
     let number = number.to_string(alloc)?;
     let hour = hour.to_string(alloc)?;
     let round = round.to_string(alloc)?;
-    record_of(
+    writer.record(
         alloc,
         &[
             b"solution",
@@ -35,19 +43,22 @@ fn solution_record(alloc: Global, number: u32, hour: u32, round: u32) -> Result<
 // The record of a node, whose voltage is complex unknown k.
 fn node_record(
     alloc: Global,
+    writer: &mut RecordWriter,
     s: &Solution,
     n: usize,
     k: usize,
     node: &NodeName,
 ) -> Result<Record, AllocError>
+    requires ready { IsReady writer.old }
     requires solution { IsOfSize n s.now }
     requires place { 2 * k + 2 ≤ n }
-    ensures { IfOk result (λ r. r.bytes ≡ line_of (node_fields s.now k node.now)) }
+    ensures ready { OnOk result (IsReady writer.new) }
+    ensures record { IfOk result (λ r. r.bytes ≡ line_of (node_fields s.now k node.now)) }
 {
     let name = node_field(alloc, node)?;
     let texts = complex_texts(alloc, s, n, k)?;
     let interval = interval_texts(alloc, s, n, k)?;
-    record_of(
+    writer.record(
         alloc,
         &[
             b"node",
@@ -67,20 +78,23 @@ fn node_record(
 // The record of a branch phase, whose current is complex unknown k.
 fn branch_record(
     alloc: Global,
+    writer: &mut RecordWriter,
     s: &Solution,
     n: usize,
     k: usize,
     phase: &PhaseName,
 ) -> Result<Record, AllocError>
+    requires ready { IsReady writer.old }
     requires solution { IsOfSize n s.now }
     requires place { 2 * k + 2 ≤ n }
-    ensures { IfOk result (λ r. r.bytes ≡ line_of (branch_fields s.now k phase.now)) }
+    ensures ready { OnOk result (IsReady writer.new) }
+    ensures record { IfOk result (λ r. r.bytes ≡ line_of (branch_fields s.now k phase.now)) }
 {
     let element = element_field(alloc, &phase.element)?;
     let number = phase.phase.to_string(alloc)?;
     let texts = complex_texts(alloc, s, n, k)?;
     let radius = size_text(alloc, s.radii()[2 * k])?;
-    record_of(
+    writer.record(
         alloc,
         &[
             b"branch",
@@ -98,19 +112,22 @@ fn branch_record(
 // The record of a phase of a load of constant current, whose voltage magnitude is at this place.
 fn magnitude_record(
     alloc: Global,
+    writer: &mut RecordWriter,
     s: &Solution,
     n: usize,
     place: usize,
     phase: &PhaseName,
 ) -> Result<Record, AllocError>
+    requires ready { IsReady writer.old }
     requires solution { IsOfSize n s.now }
     requires place { place < n }
-    ensures { IfOk result (λ r. r.bytes ≡ line_of (magnitude_fields s.now place phase.now)) }
+    ensures ready { OnOk result (IsReady writer.new) }
+    ensures record { IfOk result (λ r. r.bytes ≡ line_of (magnitude_fields s.now place phase.now)) }
 {
     let load = element_field(alloc, &phase.element)?;
     let number = phase.phase.to_string(alloc)?;
     let texts = value_texts(alloc, s, n, place)?;
-    record_of(
+    writer.record(
         alloc,
         &[
             b"magnitude",
@@ -127,17 +144,20 @@ fn magnitude_record(
 // Adds the records of the nodes, which are the first complex unknowns.
 fn push_nodes(
     alloc: Global,
+    writer: &mut RecordWriter,
     records: &mut Vec<Record>,
     s: &Solution,
     n: usize,
     nodes: &[NodeName],
 ) -> Result<(), AllocError>
+    requires ready { IsReady writer.old }
     requires solution { IsOfSize n s.now }
     requires places { 2 * length nodes.now ≤ n }
-    ensures { OnOk result (pieces_of records.new.items ≡ pieces_of records.old.items ++ lines_of (node_records s.now 0 nodes.now)) }
+    ensures ready { OnOk result (IsReady writer.new) }
+    ensures records { OnOk result (pieces_of records.new.items ≡ pieces_of records.old.items ++ lines_of (node_records s.now 0 nodes.now)) }
 {
     for (k, node) in nodes.iter().enumerate() {
-        let record = node_record(alloc, s, n, k, node)?;
+        let record = node_record(alloc, writer, s, n, k, node)?;
         records.push(record)?;
     }
     Ok(())
@@ -146,18 +166,21 @@ fn push_nodes(
 // Adds the records of branch phases, of which the first is this complex unknown.
 fn push_branches(
     alloc: Global,
+    writer: &mut RecordWriter,
     records: &mut Vec<Record>,
     s: &Solution,
     n: usize,
     first: usize,
     phases: &[PhaseName],
 ) -> Result<(), AllocError>
+    requires ready { IsReady writer.old }
     requires solution { IsOfSize n s.now }
     requires places { 2 * (first + length phases.now) ≤ n }
-    ensures { OnOk result (pieces_of records.new.items ≡ pieces_of records.old.items ++ lines_of (branch_records s.now first phases.now)) }
+    ensures ready { OnOk result (IsReady writer.new) }
+    ensures records { OnOk result (pieces_of records.new.items ≡ pieces_of records.old.items ++ lines_of (branch_records s.now first phases.now)) }
 {
     for (k, phase) in phases.iter().enumerate() {
-        let record = branch_record(alloc, s, n, first + k, phase)?;
+        let record = branch_record(alloc, writer, s, n, first + k, phase)?;
         records.push(record)?;
     }
     Ok(())
@@ -166,18 +189,21 @@ fn push_branches(
 // Adds the records of phases of loads of constant current, of which the first has its magnitude at this place.
 fn push_magnitudes(
     alloc: Global,
+    writer: &mut RecordWriter,
     records: &mut Vec<Record>,
     s: &Solution,
     n: usize,
     first: usize,
     phases: &[PhaseName],
 ) -> Result<(), AllocError>
+    requires ready { IsReady writer.old }
     requires solution { IsOfSize n s.now }
     requires places { first + length phases.now ≤ n }
-    ensures { OnOk result (pieces_of records.new.items ≡ pieces_of records.old.items ++ lines_of (magnitude_records s.now first phases.now)) }
+    ensures ready { OnOk result (IsReady writer.new) }
+    ensures records { OnOk result (pieces_of records.new.items ≡ pieces_of records.old.items ++ lines_of (magnitude_records s.now first phases.now)) }
 {
     for (k, phase) in phases.iter().enumerate() {
-        let record = magnitude_record(alloc, s, n, first + k, phase)?;
+        let record = magnitude_record(alloc, writer, s, n, first + k, phase)?;
         records.push(record)?;
     }
     Ok(())
@@ -203,10 +229,27 @@ pub fn records(
     let magnitudes = layout.magnitudes();
     let complex = nodes.len() + branches.len();
     let n = 2 * complex + magnitudes.len();
+    let mut writer = RecordWriter::new(alloc);
     let mut records = Vec::new(alloc);
-    records.push(solution_record(alloc, number, hour, round)?)?;
-    push_nodes(alloc, &mut records, s, n, nodes)?;
-    push_branches(alloc, &mut records, s, n, nodes.len(), branches)?;
-    push_magnitudes(alloc, &mut records, s, n, 2 * complex, magnitudes)?;
+    records.push(solution_record(alloc, &mut writer, number, hour, round)?)?;
+    push_nodes(alloc, &mut writer, &mut records, s, n, nodes)?;
+    push_branches(
+        alloc,
+        &mut writer,
+        &mut records,
+        s,
+        n,
+        nodes.len(),
+        branches,
+    )?;
+    push_magnitudes(
+        alloc,
+        &mut writer,
+        &mut records,
+        s,
+        n,
+        2 * complex,
+        magnitudes,
+    )?;
     Ok(records)
 }

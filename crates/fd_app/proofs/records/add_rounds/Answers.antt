@@ -5,4 +5,4 @@ use Rattle.fd_app.proofs.records.add_rounds.Goals as goal
 
 pub add_round-requires-clause-numbers : goal.add_round-requires-clause-numbers
 add_round-requires-clause-numbers c =
-    size_at (size_of (layout_of c.args.circuit.now.elements)) c.args.rounds.now c.loop-number.number c.index-rounds-number.result c.requires.numbers (omega (arith, c.loop-number-test.true, c.loop-number.auto.number-end)) c.index-rounds-number.is
+    size_at (size_of (layout_of c.args.circuit.now.elements)) c.args.rounds.now c.loop-place.place c.index-rounds-place.result c.requires.numbers (omega (arith, c.loop-place-test.true, c.loop-place.auto.place-end)) c.index-rounds-place.is

@@ -1,4 +1,4 @@
-use Rattle.std.proofs.Common.{◌≡◌, ◌∙◌, ℤ, pos, List, [], ◌∷◌, length, to_z, of_z, ap, sym, subst, arith}
+use Rattle.std.proofs.Common.{◌∙◌, pos, [], ◌∷◌, length, to_z, of_z, ap, sym, subst, arith}
 use Rattle.std.specs.List.{All}
 use Rattle.std.specs.Int.{w128}
 use Rattle.std.proofs.lemmas.Int.{ints, to_z-of_z}

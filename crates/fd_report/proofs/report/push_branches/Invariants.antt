@@ -1,11 +1,13 @@
 use Rattle.std.proofs.Common.{◌≡◌, ◌+◌, ◌++◌, drop}
 use Rattle.fd_outside.specs.Emitted.{pieces_of}
-use Rattle.fd_report.specs.Lines.{lines_of}
+use Rattle.fd_report.specs.Lines.{IsReady, lines_of}
 use Rattle.fd_report.specs.Records.{branch_records}
 use Rattle.fd_report.proofs.report.push_branches.Given as goal
 
--- the records so far and those of the phases that are left
 abbrev pub invariant-loop-k : goal.invariant-loop-k
-invariant-loop-k l =
-    pieces_of l.records.items ++ lines_of (branch_records l.s (l.first + l.k) (drop l.k l.phases))
-    ≡ pieces_of l.fn.records.items ++ lines_of (branch_records l.s l.first l.phases)
+invariant-loop-k l = record {
+  ready : IsReady l.writer;
+  -- the records so far and those of the phases that are left
+  records : pieces_of l.records.items ++ lines_of (branch_records l.s (l.first + l.k) (drop l.k l.phases))
+      ≡ pieces_of l.fn.records.items ++ lines_of (branch_records l.s l.first l.phases);
+}

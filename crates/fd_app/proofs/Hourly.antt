@@ -1,0 +1,233 @@
+-- Where the loop over a Solve's hours stands, how it goes on and how it ends.
+use Rattle.std.proofs.Common.{◌≡◌, ◌∙◌, ℕ, Bool, true, false, List, [], ◌∷◌, ◌++◌, map, Option, Some, None, refl, sym, ap, subst, inl, inr}
+use Rattle.std.specs.Prelude.{◌||◌, ◌+◌, ◌-◌, IsSome}
+use Rattle.std.specs.List.{range_with_len}
+use Rattle.std.specs.Option.{unwrap_or}
+use Rattle.std.proofs.lemmas.Grind.{flat_map-append}
+use Rattle.std.proofs.lemmas.List.{append_assoc, append-nil}
+use Rattle.std.proofs.lemmas.List.Elements.{All-nil, All-cons, All-append}
+use Rattle.dss_profile.specs.declared.command.Blame.{Blame}
+use Rattle.dss_circuit.specs.Circuit.{CircuitView}
+use Rattle.fd_daily.specs.Day.{DayView, IsDayOf, hour_in, hours_left}
+use Rattle.fd_daily.specs.Hours.{hours_from, hours_of}
+use Rattle.fd_report.specs.declared.faults.Cause.TheVariants as cause
+use Rattle.fd_report.specs.declared.faults.Fault.{Fault}
+use Rattle.fd_report.specs.declared.faults.Fault.TheVariants as fault
+use Rattle.fd_devices.specs.declared.settings.Positions.{Positions as CodePositions}
+use Rattle.fd_queue.specs.Controls.{Positions}
+use Rattle.fd_settle.specs.Computed.{range, stopped}
+use Rattle.fd_settle.specs.declared.round.Round.{Round as Made}
+use Rattle.fd_outcome.specs.Behind.{has_text}
+use Rattle.fd_outcome.specs.Calls.{Call, body, calls_in, fault_text, reads, report, writes}
+use Rattle.fd_outcome.specs.Done.{IsDone, IsFrontOf}
+use Rattle.fd_outcome.specs.Events.{AllSettles, Event, IfSettle, settle}
+use Rattle.fd_outcome.specs.Parts.{EndsAt, GoesOn, IsCutIn, Printed, Wrote, events_in, fault_doing}
+use Rattle.fd_outcome.specs.Settles.{Settle, settled, failed}
+use Rattle.fd_outcome.specs.Way.{whole}
+use Rattle.fd_outcome.specs.Work.{Step, goes, ends}
+use Rattle.fd_outcome.proofs.CallerLemmas.{cut_before, cut_then, printed_then, wrote_nothing, wrote_then}
+use Rattle.fd_app.specs.Answered.{IsMadeHour, kept_in, texts_of}
+use Rattle.fd_app.specs.Headline.{IsSolved, IsSteady}
+use Rattle.fd_app.specs.Solving.{IsBehind, IsHour, IsHoursStep, IsSolutionStep, hour_begun, kept_by, kept_first, plant_at}
+use Rattle.fd_app.specs.Steps.{Kept, StandingView, behind_events, hour_settle, standing}
+use Rattle.fd_app.proofs.Handed.{behind_report}
+use Rattle.fd_app.proofs.Starting.{next_first}
+use Rattle.fd_app.proofs.Tests.{one_hours}
+
+-- ---- events before a step
+
+behind_none : (step : Step StandingView) → behind_events [] step ≡ step
+behind_none (goes events s) = refl
+behind_none (ends events f) = refl
+
+behind_both : (a b : List Event) (step : Step StandingView) → behind_events a (behind_events b step) ≡ behind_events (a ++ b) step
+behind_both a b (goes events s) = ap (λ l. goes l s) (sym (append_assoc a b events))
+behind_both a b (ends events f) = ap (λ l. ends l f) (sym (append_assoc a b events))
+
+pub events_behind : (a : List Event) (step : Step StandingView) → events_in (behind_events a step) ≡ a ++ events_in step
+events_behind a (goes events s) = refl
+events_behind a (ends events f) = refl
+
+-- ---- calls
+
+body-append : (a b : List Event) → body report (a ++ b) ≡ body report a ++ body report b
+body-append a b = flat_map-append (λ e. calls_in report e) a b
+
+body_settle : (x : Settle) → body report (settle x ∷ []) ≡ map writes (texts_of x)
+body_settle x = append-nil (map writes (texts_of x))
+
+body_more : (events : List Event) (x : Settle) → body report (events ++ settle x ∷ []) ≡ body report events ++ map writes (texts_of x)
+body_more events x = body-append events (settle x ∷ []) ∙ ap (λ l. body report events ++ l) (body_settle x)
+
+-- whether a text was written, so far and then more
+or_assoc : (a b c : Bool) → ((a || b) || c) ≡ (a || (b || c))
+or_assoc true b c = refl
+or_assoc false b c = refl
+
+has_text-append : (a b : List Call) → has_text (a ++ b) ≡ (has_text a || has_text b)
+has_text-append [] b = refl
+has_text-append (reads n ∷ a) b = has_text-append a b
+has_text-append (writes text ∷ a) b = refl
+
+or_false : (b : Bool) → b ≡ (b || false)
+or_false true = refl
+or_false false = refl
+
+good_more : (events : List Event) (x : Settle) → AllSettles IsSolved events → IsSolved x → AllSettles IsSolved (events ++ settle x ∷ [])
+good_more events x all is = All-append (IfSettle IsSolved) events (settle x ∷ []) all (All-cons (IfSettle IsSolved) (settle x) [] is (All-nil (IfSettle IsSolved)))
+
+-- no state can be chosen for a settle of no round
+unsampled : (c : CircuitView) (hour : ℕ) (k : Kept) (f : Fault) → IsSteady (hour_settle c hour k [] (failed f) k.at)
+unsampled c hour k f [] chosen = refl
+unsampled c hour k f (x ∷ xs) chosen = absurd chosen
+
+-- ---- the loop
+
+module _ (c : CircuitView) (first : List ℕ) (l : Kept) {S : Type 0} (taken : S → Option (List ℕ)) (calls : S → Option ℕ) (old : S) (begun : Bool) where
+  abbrev IsFirst : Step StandingView → Type 0
+  IsFirst step = IsHoursStep c first l step
+
+  -- These events lead from the first hour to the hours that are left, and what is kept for them: whatever step follows
+  -- here, the Solve's is that step behind these events. Their texts are written, and their settles are solved.
+  pub record HourWay (left : List ℕ) (k : Kept) (now : S) (b : Bool) : Type 0 where
+    pub events : List Event
+    pub leads : (step : Step StandingView) → IsHoursStep c left k step → IsHoursStep c first l (behind_events events step)
+    pub wrote : Wrote taken calls old now (whole (body report events))
+    pub all_good : AllSettles IsSolved events
+    pub begun_is : b ≡ (begun || has_text (body report events))
+
+  pub way_start : HourWay first l old begun
+  way_start = record {
+    events = [];
+    leads = λ step is. subst IsFirst (sym (behind_none step)) is;
+    wrote = wrote_nothing taken calls old;
+    all_good = All-nil (IfSettle IsSolved);
+    begun_is = or_false begun;
+  }
+
+  module _ (hour : ℕ) (left : List ℕ) (k : Kept) (now : S) (b : Bool) (way : HourWay (hour ∷ left) k now b) (x : Settle) (kept : Kept) (is : IsHour c hour k x kept) (good : IsSolved x) where
+    abbrev more : List Event
+    more = way.events ++ settle x ∷ []
+
+    -- whatever follows an hour that ended well
+    leads_on : x.end ≡ settled → (step : Step StandingView) → IsHoursStep c left kept step → IsFirst (behind_events more step)
+    leads_on well step h =
+        let next : IsBehind x settled (λ s. IsHoursStep c left kept s) (behind_events (settle x ∷ []) step) = record { more = step; right = h; step_is = refl } in
+        let here : IsBehind x x.end (λ s. IsHoursStep c left kept s) (behind_events (settle x ∷ []) step) = subst (λ e. IsBehind x e (λ s. IsHoursStep c left kept s) (behind_events (settle x ∷ []) step)) (sym well) next in
+        subst IsFirst (behind_both way.events (settle x ∷ []) step) (way.leads (behind_events (settle x ∷ []) step) (record { made = x; kept = kept; is = is; goes_on = here }))
+
+    pub way_more : x.end ≡ settled → (new : S) (after : Bool) → Wrote taken calls now new (whole (map writes (texts_of x))) → after ≡ (b || has_text (map writes (texts_of x))) → HourWay left kept new after
+    way_more well new after wrote now_begun = record {
+      events = more;
+      leads = leads_on well;
+      wrote = subst (λ cs. Wrote taken calls old new (whole cs)) (sym (body_more way.events x)) (wrote_then taken calls old now new (body report way.events) (whole (map writes (texts_of x))) way.wrote wrote);
+      all_good = good_more way.events x way.all_good good;
+      begun_is = now_begun ∙ ap (λ y. y || has_text (map writes (texts_of x))) way.begun_is ∙ or_assoc begun (has_text (body report way.events)) (has_text (map writes (texts_of x)))
+          ∙ ap (λ y. begun || y) (sym (has_text-append (body report way.events) (map writes (texts_of x))) ∙ ap has_text (sym (body_more way.events x)));
+    }
+
+    -- cut short within its texts
+    pub way_cut : x.end ≡ settled → (new : S) (code : ℕ) → IsCutIn taken calls now new (map writes (texts_of x)) code → EndsAt report IsSolved IsFirst taken calls old new begun code
+    way_cut well new code cut =
+        let rest = one_hours c left kept in
+        let all = cut_then taken calls old now new (body report way.events) (map writes (texts_of x)) code way.wrote cut in
+        record {
+          step = behind_events more rest.some;
+          right = leads_on well rest.some rest.is;
+          made = all.made;
+          shown = more;
+          hidden = events_in rest.some;
+          events_are = events_behind more rest.some;
+          all_good = good_more way.events x way.all_good good;
+          done = inr (subst (λ cs. IsFrontOf cs code all.made) (sym (body_more way.events x) ∙ sym (behind_report begun more)) all.front);
+          wrote = all.wrote;
+        }
+
+    pub way_failed : (f : Fault) → x.end ≡ failed f → (new : S) (code : ℕ) → Printed taken calls now new (record { calls = map writes (texts_of x) ++ writes (fault_text f) ∷ []; end = Some f }) code
+        → EndsAt report IsSolved IsFirst taken calls old new begun code
+    way_failed f ill new code printed =
+        let last : List Call = writes (fault_text f) ∷ [] in
+        let all = printed_then taken calls old now new (body report way.events) (map writes (texts_of x) ++ last) (Some f) code way.wrote printed in
+        let step : Step StandingView = ends (settle x ∷ []) f in
+        let here : IsBehind x x.end (λ s. IsHoursStep c left kept s) step = subst (λ e. IsBehind x e (λ s. IsHoursStep c left kept s) step) (sym ill) refl in
+        record {
+          step = ends more f;
+          right = way.leads step (record { made = x; kept = kept; is = is; goes_on = here });
+          made = all.made;
+          shown = more;
+          hidden = [];
+          events_are = sym (append-nil more);
+          all_good = good_more way.events x way.all_good good;
+          done = inl (
+            refl,
+            subst (λ cs. IsDone (record { calls = cs; end = Some f }) code all.made)
+                (sym (append_assoc (body report way.events) (map writes (texts_of x)) last) ∙ ap (λ cs. cs ++ last) (sym (body_more way.events x) ∙ sym (behind_report begun more))) all.done,
+          );
+          wrote = all.wrote;
+        }
+
+  -- all hours are done
+  pub way_done : (left : List ℕ) (k : Kept) (now : S) (b : Bool) → left ≡ [] → HourWay left k now b → GoesOn report IsSolved IsFirst (standing c k.at k.settled) taken calls old now begun b
+  way_done left k now b none way =
+      let last : Step StandingView = goes [] (standing c k.at k.settled) in
+      record {
+        events = way.events;
+        right = subst (λ events. IsFirst (goes events (standing c k.at k.settled))) (append-nil way.events) (way.leads last (subst (λ hours. IsHoursStep c hours k last) (sym none) refl));
+        all_good = way.all_good;
+        wrote = subst (λ cs. Wrote taken calls old now (whole cs)) (sym (behind_report begun way.events)) way.wrote;
+        begun_is = way.begun_is;
+      }
+
+  -- memory runs out between two texts
+  pub way_short : (left : List ℕ) (k : Kept) (now : S) (b : Bool) → HourWay left k now b → EndsAt report IsSolved IsFirst taken calls old now begun 1
+  way_short left k now b way =
+      let rest = one_hours c left k in
+      let cut = cut_then taken calls old now now (body report way.events) [] 1 way.wrote (cut_before taken calls now []) in
+      record {
+        step = behind_events way.events rest.some;
+        right = way.leads rest.some rest.is;
+        made = cut.made;
+        shown = way.events;
+        hidden = events_in rest.some;
+        events_are = events_behind way.events rest.some;
+        all_good = way.all_good;
+        done = inr (subst (λ cs. IsFrontOf cs 1 cut.made) (append-nil (body report way.events) ∙ sym (behind_report begun way.events)) cut.front);
+        wrote = cut.wrote;
+      }
+
+  -- the network with which an hour starts is out of range
+  pub way_range : (hour : ℕ) (left : List ℕ) (k : Kept) (now : S) (b : Bool) → HourWay (hour ∷ left) k now b → (blame : Blame) → (plant_at c hour).blame k.at ≡ Some blame → (new : S) (code : ℕ)
+      → Printed taken calls now new (fault_doing (fault.Script blame.place (cause.Model blame.cause))) code → EndsAt report IsSolved IsFirst taken calls old new begun code
+  way_range hour left k now b way blame here new code printed =
+      let f : Fault = fault.Script blame.place (cause.Model blame.cause) in
+      let none : Settle = hour_settle c hour k [] (failed f) k.at in
+      way_failed hour left k now b way none (kept_by k (hour_begun c hour k))
+      (record { rounds = []; ending = stopped (range blame); machine = hour_begun c hour k; computed = (here, refl); end = failed f; end_is = refl; settle_is = refl; kept = refl })
+      (record { solutions = tt; alike = tt; steady = unsampled c hour k f }) f refl new code printed
+
+-- ---- an hour as the code has it
+
+-- the hour that comes next
+pub hour_is : (o : Option ℕ) (d : DayView) (h : ℕ) → o ≡ d.hour → o ≡ Some h → hour_in d ≡ h
+hour_is o d h next some = ap (λ (x : Option ℕ). unwrap_or x 0) (sym next ∙ some)
+
+pub made_as : (c : CircuitView) (hour h : ℕ) (l : Kept) (rounds rs : List Made) (f : Option Fault) (k : Kept) → hour ≡ h → rs ≡ rounds → IsMadeHour c hour l rounds f k → IsMadeHour c h l rs f k
+made_as c hour h l rounds rs f k same_hour same made = subst (λ (x : List Made). IsMadeHour c h l x f k) (sym same) (subst (λ (n : ℕ). IsMadeHour c n l rounds f k) same_hour made)
+
+-- the hours that were left begin with it
+pub left_first : (day after : DayView) (h : ℕ) → hour_in day ≡ h → hours_left day ≡ hour_in day ∷ hours_left after → hours_left day ≡ h ∷ hours_left after
+left_first day after h same left = left ∙ ap (λ (n : ℕ). n ∷ hours_left after) same
+
+pub left_open : (c : CircuitView) (day : DayView) (h : ℕ) → IsDayOf c day → IsSome day.hour → hour_in day ≡ h → hours_left day ≡ h ∷ range_with_len (hour_in day + 1) (day.last - hour_in day)
+left_open c day h is some same = next_first c day is some ∙ ap (λ (n : ℕ). n ∷ range_with_len (hour_in day + 1) (day.last - hour_in day)) same
+
+-- none is left behind the last
+pub none_left : (d : DayView) (o : Option ℕ) → o ≡ d.hour → o ≡ None → hours_left d ≡ []
+none_left d o next none = ap (λ (x : Option ℕ). hours_from x d.last) (sym next ∙ none)
+
+-- the hours of a Solve are its step
+pub solution_step : (c : CircuitView) (before : Positions) (n : ℕ) (at : CodePositions) (day : DayView) → kept_first (standing c before n) ≡ kept_in at day n → hours_left day ≡ hours_of c.options → (step : Step StandingView)
+    → IsHoursStep c (hours_left day) (kept_in at day n) step → IsSolutionStep (standing c before n) step
+unfolding IsSolutionStep
+solution_step c before n at day kept left step h =
+    subst (λ (hs : List ℕ). IsHoursStep c hs (kept_first (standing c before n)) step) left (subst (λ (l : Kept). IsHoursStep c (hours_left day) l step) (sym kept) h)

@@ -1,0 +1,24 @@
+use Rattle.std.proofs.Common.{arith, sym, subst}
+use Rattle.std.specs.Prelude.{IfOk}
+use Rattle.fd_app.specs.Answered.{IsAnswerOf}
+use Rattle.fd_app.specs.Commands.{left_of}
+use Rattle.fd_app.proofs.Weaker.{if_ok_weaker}
+use Rattle.fd_app.proofs.Weights.{verb_takes}
+use Rattle.fd_app.proofs.step.answer_to.Goals as goal
+
+pub returns-in-Ok-clause-step : goal.returns-in-Ok-clause-step
+returns-in-Ok-clause-step c at settled =
+    let command = c.args.command.now in
+    subst (λ r. IfOk c.after_apply.result (IsAnswerOf at settled (left_of command.place command.verb r) c.apply.new.self)) (sym c.in-Ok.ensures) (c.after_apply.ensures.step at settled)
+
+pub returns-in-Ok-clause-count : goal.returns-in-Ok-clause-count
+returns-in-Ok-clause-count c =
+    let command = c.args.command.now in
+    let takes = verb_takes command.place command.verb c.args.circuit.now c.apply.new.self c.in-Ok.ensures in
+    if_ok_weaker c.after_apply.result _ _ (λ a few. let more = takes.count in omega (arith, few, more)) c.after_apply.ensures.count
+
+pub returns-in-Ok-clause-kept : goal.returns-in-Ok-clause-kept
+returns-in-Ok-clause-kept c =
+    let command = c.args.command.now in
+    let takes = (verb_takes command.place command.verb c.args.circuit.now c.apply.new.self c.in-Ok.ensures).count in
+    omega (arith, takes)

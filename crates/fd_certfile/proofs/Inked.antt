@@ -1,0 +1,78 @@
+-- Texts without blanks and line feeds.
+use Rattle.std.proofs.Common.{◌≡◌, ℕ, suc, ◌<◌, ◌≤◌, true, false, ℤ, pos, negsuc, List, [], ◌∷◌, ◌++◌, All, refl, ap, ◌∙◌, arith}
+use Rattle.std.specs.Prelude.{nat_eq, nat_lt, map}
+use Rattle.std.specs.List.{AllByRecursion, list_all, slice_split, join_with_byte}
+use Rattle.std.specs.Fmt.{decimal, signed_decimal}
+use Rattle.std.specs.Str.Parse.{AllDigits}
+use Rattle.std.proofs.lemmas.Bool.{and_parts, ltb-true, ne_eqb}
+use Rattle.std.proofs.lemmas.Fmt.{decimal_is_IsNumeral_wide}
+use Rattle.std.proofs.lemmas.List.Elements.{All-from_recursion}
+use Rattle.std.proofs.lemmas.List.Splits.{slice_split_none, slice_split_at}
+use Rattle.std.proofs.lemmas.Str.Parse.{digit_from_value}
+use Rattle.fd_certfile.specs.Numbers.{IsNumber}
+use Rattle.fd_certfile.specs.Lines.{Line, header, solution, state, row, act, end, other, is_blank, word_of, numbers_in, text_of}
+
+-- each byte is above this one
+abbrev pub Above : ℕ → List ℕ → Type 0
+Above c text = AllByRecursion (λ d. c < d) text
+
+above_tested : (c : ℕ) (text : List ℕ) → list_all (λ d. nat_lt c d) text ≡ true → Above c text
+above_tested c [] h = tt
+above_tested c (d ∷ text) h = let p = and_parts (nat_lt c d) (list_all (λ d. nat_lt c d) text) h in (ltb-true c d p.0, above_tested c text p.1)
+
+above_digits : (ds : List ℕ) → AllDigits 10 ds → Above 32 ds
+above_digits [] h = tt
+above_digits (c ∷ cs) h = let r = digit_from_value c h.0 in (omega (arith, r.0), above_digits cs h.1)
+
+above_decimal : (z : ℤ) → IsNumber z → Above 32 (signed_decimal z)
+above_decimal (pos n) h = above_digits (decimal n) (decimal_is_IsNumeral_wide n (omega arith)).0.1
+above_decimal (negsuc n) h = (omega arith, above_digits (decimal (suc n)) (decimal_is_IsNumeral_wide (suc n) (omega arith)).0.1)
+
+above_decimals : (zs : List ℤ) → AllByRecursion IsNumber zs → AllByRecursion (Above 32) (map signed_decimal zs)
+above_decimals [] h = tt
+above_decimals (z ∷ zs) h = (above_decimal z h.0, above_decimals zs h.1)
+
+above_word : (line : Line) → Above 32 (word_of line)
+above_word (header v) = above_tested 32 (word_of (header v)) refl
+above_word (solution n h r s) = above_tested 32 (word_of (solution n h r s)) refl
+above_word (state p c r m) = above_tested 32 (word_of (state p c r m)) refl
+above_word (row fields) = above_tested 32 (word_of (row fields)) refl
+above_word (act t c s) = above_tested 32 (word_of (act t c s)) refl
+above_word end = above_tested 32 (word_of end) refl
+above_word other = tt
+
+above_less : (b c : ℕ) (text : List ℕ) → b ≤ c → Above c text → Above b text
+above_less b c [] l h = tt
+above_less b c (d ∷ text) l h = (omega (arith, h.0), above_less b c text l h.1)
+
+above_append : (c : ℕ) (xs ys : List ℕ) → Above c xs → Above c ys → Above c (xs ++ ys)
+above_append c [] ys h k = k
+above_append c (x ∷ xs) ys h k = (h.0, above_append c xs ys h.1 k)
+
+lacks : (c : ℕ) (text : List ℕ) → Above c text → AllByRecursion (λ d. nat_eq d c ≡ false) text
+lacks c [] h = tt
+lacks c (d ∷ text) h = (ne_eqb d c (λ e. omega (arith, h.0, e)), lacks c text h.1)
+
+pub lacks_all : (c : ℕ) (text : List ℕ) → Above c text → All (λ d. nat_eq d c ≡ false) text
+lacks_all c text h = All-from_recursion (λ d. nat_eq d c ≡ false) text (lacks c text h)
+
+-- fields that are joined by blanks are cut at them
+split_join : (field : List ℕ) (fields : List (List ℕ)) → Above 32 field → AllByRecursion (Above 32) fields
+    → slice_split is_blank (join_with_byte 32 (field ∷ fields)) ≡ field ∷ fields
+split_join field [] h k = slice_split_none is_blank field (lacks_all 32 field h)
+split_join field (next ∷ fields) h k =
+    slice_split_at is_blank field 32 (join_with_byte 32 (next ∷ fields)) (lacks_all 32 field h) refl
+    ∙ ap (λ (fs : List (List ℕ)). field ∷ fs) (split_join next fields k.0 k.1)
+
+above_join : (field : List ℕ) (fields : List (List ℕ)) → Above 32 field → AllByRecursion (Above 32) fields
+    → Above 10 (join_with_byte 32 (field ∷ fields))
+above_join field [] h k = above_less 10 32 field (omega arith) h
+above_join field (next ∷ fields) h k =
+    above_append 10 field (32 ∷ join_with_byte 32 (next ∷ fields)) (above_less 10 32 field (omega arith) h) (omega arith, above_join next fields k.0 k.1)
+
+pub split_text : (line : Line) → AllByRecursion IsNumber (numbers_in line)
+    → slice_split is_blank (text_of line) ≡ word_of line ∷ map signed_decimal (numbers_in line)
+split_text line h = split_join (word_of line) (map signed_decimal (numbers_in line)) (above_word line) (above_decimals (numbers_in line) h)
+
+pub above_text : (line : Line) → AllByRecursion IsNumber (numbers_in line) → Above 10 (text_of line)
+above_text line h = above_join (word_of line) (map signed_decimal (numbers_in line)) (above_word line) (above_decimals (numbers_in line) h)

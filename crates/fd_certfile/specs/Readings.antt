@@ -1,0 +1,113 @@
+-- What a reader answers, and what the grammar says.
+use Rattle.std.specs.Prelude.{◌≡◌, ◌+◌, ◌-◌, ◌≤◌, ℕ, ℤ, Bool, true, false, Option, Some, None, List, [], ◌++◌, flat_map, length, Result, Ok, Err}
+use Rattle.fd_certfile.specs.Lines.{Line}
+use Rattle.fd_certfile.specs.Lines as text
+use Rattle.fd_certfile.specs.Blocks.{Act, ◌>>=◌, numbered_at, Whole, Part, part_at, row_at, row_of}
+use Rattle.fd_certfile.specs.declared.fault.Stop.{Stop}
+use Rattle.fd_certfile.specs.declared.fault.Stop.TheVariants as stop
+use Rattle.std.specs.Option.{option_and_then}
+
+-- a reader keeps all of these, or none
+abbrev pub kept : {X : Type 0} → Bool → List X → List X
+kept true xs = xs
+kept false xs = []
+
+abbrev pub as_they_are : {X : Type 0} → List X → List X
+as_they_are xs = xs
+
+-- the entries of rows, one row after another
+abbrev pub cells_of : List (List ℤ) → List ℤ
+cells_of rows = flat_map as_they_are rows
+
+-- the row of these numbers, if they are numbers and so many
+abbrev pub row_in : ℕ → Option (List ℤ) → Option (List ℤ)
+row_in n numbers = option_and_then (row_of Whole n) numbers
+
+-- the row that is read is added where it is kept, or no row is read
+pub record RowIs (keep : Bool) (old new : List ℤ) (read : Option (List ℤ)) : Type 0 where
+  pub entries : List ℤ
+  pub same : read ≡ Some entries
+  pub added : new ≡ old ++ kept keep entries
+
+abbrev pub PushesRow : Bool → List ℤ → List ℤ → Bool → Option (List ℤ) → Type 0
+PushesRow keep old new true read = RowIs keep old new read
+PushesRow keep old new false read = read ≡ None
+
+-- the grammar refuses a line behind so many of these
+pub record RefusedBehind {Y : Type 0} (behind : ℕ) (lines : List Line) (read : Result Y (List Line)) : Type 0 where
+  pub rest : List Line
+  pub refused : read ≡ Err rest
+  pub count : length lines ≡ behind + length rest
+
+abbrev pub Fails : {Y : Type 0} → Stop → List Line → Result Y (List Line) → Type 0
+Fails stop.NoMemory lines read = Unit {0}
+Fails (stop.Refused behind) lines read = RefusedBehind behind lines read
+
+-- ---- numbered lines
+
+-- these, and then what is read
+abbrev pub behind_front : {X : Type 0} → List X → Result (List X × List Line) (List Line)
+    → Result (List X × List Line) (List Line)
+behind_front front read = read >>= λ xs. Ok (front ++ xs.0, xs.1)
+
+-- the next n lines, as unknowns and as rows
+abbrev pub parts_at : ℕ → List Line → Result (List Part × List Line) (List Line)
+parts_at n lines = numbered_at part_at n 0 lines
+
+abbrev pub rows_at : ℕ → List Line → Result (List (List ℤ) × List Line) (List Line)
+rows_at n lines = numbered_at (row_at Whole n) n 0 lines
+
+-- what was read so far, and what the lines that are left give, is what all lines give
+pub record IsSoFar {X : Type 0} (read : ℕ → Line → Option X) (n : ℕ) (lines : List Line) (i : ℕ) (front : List X)
+    (rest : List Line) : Type 0 where
+  pub within : i ≤ n
+  pub same : numbered_at read n 0 lines ≡ behind_front front (numbered_at read (n - i) i rest)
+  pub count : length lines ≡ i + length rest
+
+-- so far these lines were read, of which the reader keeps what flat makes of them, or nothing
+pub record IsKeptSoFar {X Y : Type 0} (read : ℕ → Line → Option X) (flat : List X → List Y) (keep : Bool) (n : ℕ)
+    (lines : List Line) (i : ℕ) (found : List Y) (rest : List Line) : Type 0 where
+  pub front : List X
+  pub so_far : IsSoFar read n lines i front rest
+  pub keeps : found ≡ kept keep (flat front)
+
+-- what was read, of which the reader keeps what flat makes of it, or nothing
+pub record IsKept {X Y : Type 0} (flat : List X → List Y) (keep : Bool) (found : List Y) (rest : List Line)
+    (read : Result (List X × List Line) (List Line)) : Type 0 where
+  pub all : List X
+  pub same : read ≡ Ok (all, rest)
+  pub keeps : found ≡ kept keep (flat all)
+
+-- an answer, of which found and rest are seen, is what the grammar reads of these lines
+abbrev pub Keeps : {X Y Z : Type 0} → (List X → List Y) → Bool → (Z → List Y) → (Z → List Line) → Result Z Stop
+    → List Line → Result (List X × List Line) (List Line) → Type 0
+Keeps flat keep found rest (Ok z) lines read = IsKept flat keep (found z) (rest z) read
+Keeps flat keep found rest (Err e) lines read = Fails e lines read
+
+-- ---- acts
+
+-- the act of a line, if it is one
+abbrev pub act_in : Line → Option Act
+act_in (text.act time control steps) = Some (record { time = time; control = control; steps = steps })
+act_in line = None
+
+-- these acts, and then those that are read
+abbrev pub acts_behind : List Act → List Act × List Line → List Act × List Line
+acts_behind front read = (front ++ read.0, read.1)
+
+-- ---- a block
+
+-- so many lines were read before the refused one
+abbrev pub lines_before : Stop → ℕ
+lines_before stop.NoMemory = 0
+lines_before (stop.Refused behind) = behind
+
+-- the same, with so many lines before
+abbrev pub moved : ℕ → Stop → Stop
+moved lines stop.NoMemory = stop.NoMemory
+moved lines (stop.Refused behind) = stop.Refused (lines + behind)
+
+-- the numbers of a solution line
+abbrev pub due_in : Line → Option (ℤ × ℤ × ℤ × ℤ)
+due_in (text.solution number hour round size) = Some (number, hour, round, size)
+due_in line = None

@@ -1,0 +1,68 @@
+-- The block of a round of a settle.
+use Rattle.std.specs.Prelude.{◌≡◌, ℕ, ◌<◌, ◌≤◌, ◌^◌, pos, nat_abs, [], ◌∷◌, length, map, ◌++◌, Ok, List, ℤ}
+use Rattle.std.specs.List.{AllByRecursion, concat}
+use Rattle.fd_exact.specs.States.{part}
+use Rattle.fd_equations.specs.Rounded.{list_of}
+use Rattle.fd_enclosure.specs.Sound.{Claim, IsInverse, greatest_mismatch, number_at}
+use Rattle.fd_cert.specs.Claims.{claim_in}
+use Rattle.fd_settle.specs.declared.round.Act.{Act as Made}
+use Rattle.fd_settle.specs.declared.round.Round.{Round}
+use Rattle.fd_certfile.specs.Numbers.{IsNumber}
+use Rattle.fd_certfile.specs.Blocks.{Act, Block, Part, Whole, IsBehindActs, block_at, block_lines, part_line, row_line}
+use Rattle.fd_mat.specs.Rows.{row_of}
+use Rattle.fd_certfile.specs.Lines.{line_bytes, lines_of}
+
+-- what is claimed of the unknown and the row at a place
+abbrev pub part_in : Claim → ℕ → Part
+part_in m i = record {
+  centre = part m.centre i;
+  radius = pos (number_at m.radii i);
+  mismatch = pos (number_at m.mismatches i);
+}
+
+-- an act by its time, its control and its steps
+abbrev pub act_of : Made → Act
+act_of a = record { time = pos a.time; control = pos a.control; steps = a.steps }
+
+-- its numbers can be written
+abbrev pub AreNumbers : Act → Type 0
+AreNumbers a = AllByRecursion IsNumber (a.time ∷ a.control ∷ a.steps ∷ [])
+
+-- the block of a round in a network of this size: of this settle in the run and this hour, the round that comes so many
+-- rounds after the settle's first
+abbrev pub block_of : ℕ → ℕ → ℕ → ℕ → Round → Block
+block_of size number hour round made = record {
+  number = pos number;
+  hour = pos hour;
+  round = pos round;
+  size = pos size;
+  parts = list_of size (part_in (claim_in made.certified));
+  inverse = made.certified.inverse;
+  acts = map act_of made.acts.items;
+}
+
+-- the lines of an unknown and of a row, as bytes
+abbrev pub part_bytes : Claim → ℕ → List ℕ
+part_bytes m i = line_bytes (part_line i (part_in m i))
+
+abbrev pub row_bytes : List (List ℤ) → ℕ → List ℕ
+row_bytes rows i = line_bytes (row_line Whole i (row_of rows i))
+
+-- these pieces are the lines of a block, one each
+abbrev pub AreLinesOf : List (List ℕ) → Block → Type 0
+AreLinesOf pieces b = pieces ≡ map line_bytes (block_lines Whole b)
+
+-- they are read as exactly that block, whatever lines that are no acts follow
+abbrev pub AreReadAs : List (List ℕ) → Block → Type 0
+AreReadAs pieces b = (tail : List ℕ) → IsBehindActs (lines_of tail)
+    → block_at Whole (lines_of (concat pieces ++ tail)) ≡ Ok (b, lines_of tail)
+
+-- a round of a network of this size, whose numbers are within those of a certificate
+pub record IsRoundOf (size : ℕ) (made : Round) : Type 0 where
+  pub centre_long : length made.certified.ball.centre.items ≡ size
+  pub radii_long : length made.certified.ball.radius.items ≡ size
+  pub mismatches_long : length made.certified.mismatch.items ≡ size
+  pub inverse : IsInverse size made.certified.inverse
+  pub centre : (i : ℕ) → i < size → nat_abs (part made.certified.ball.centre.items i) ≤ 2 ^ 40
+  pub radii : (i : ℕ) → i < size → number_at made.certified.ball.radius.items i ≤ 2 ^ 40
+  pub mismatches : (i : ℕ) → i < size → number_at made.certified.mismatch.items i ≤ greatest_mismatch

@@ -1,0 +1,56 @@
+//! The text of certificates: what is written for a round, and how it is read again.
+//!
+//! A round is written as the lines of its block, which are read again as exactly that block and as nothing else,
+//! whatever lines that are no acts follow (`write_block`). `CertReader` gives the blocks of a certificate one after
+//! another: exactly the next one where it is in the grammar and has the numbers that are due, and else exactly the line
+//! and the rule that is broken. It reads in one pass, holds the bytes by reference, and takes storage only for the size
+//! that is due; its other calls take no memory. The bytes may come from anyone.
+//!
+//! That what is written is read as exactly that, that a refused line is the first with which no block begins, that the
+//! rule which is named is the first that is broken, that a block for which the rules hold makes a sound claim, and that
+//! bytes have exactly one answer, are laws of the definitions.
+//!
+//! - `grammar`: laws of the grammar
+//! - `rule`: laws of the rules, and of what a certificate comes to
+//! - `texts`: the texts of lines
+//! - `write`: the lines of a round
+//! - `number`: the number that a field spells
+//! - `cut`: bytes cut at one of them
+//! - `field`: the fields of a line
+//! - `line`: a line
+//! - `row`: a row of an inverse, read into cells
+//! - `block`: unknowns, rows and acts of a block
+//! - `ahead`: a block that is read ahead
+//! - `claimed_acts`: the acts of a block beside those that were made
+//! - `ending`: whether a certificate ends
+//! - `reader`: the reader
+//! - `fault`: the rules, and why a certificate is refused
+#![tactic(auto)]
+
+mod ahead;
+mod block;
+mod claimed_acts;
+mod cut;
+mod ending;
+mod fault;
+mod field;
+mod grammar;
+mod line;
+mod number;
+mod reader;
+mod row;
+mod rule;
+mod texts;
+mod write;
+
+pub use block::Part;
+pub use fault::{CertFileFault, Rule};
+pub use grammar::{
+    block_cases, block_law, certificate_law, line_law, number_law, row_law, sparse_rows, text_law,
+};
+pub use reader::{CertReader, Claimed};
+pub use rule::{answers_law, rule_cases, rule_law, sound_law, verdict_cases};
+pub use write::write_block;
+
+#[cfg(test)]
+mod tests;

@@ -1,0 +1,129 @@
+// A certificate that an independent exact model wrote, whole and with one line changed, with its answers.
+use crate::{CertFileFault, CertReader, Claimed, Rule};
+use fd_settle::Act;
+use std::alloc::{AllocError, Global};
+
+const LINES: [&str; 21] = [
+    "cert 1",
+    "solution 1 0 0 8",
+    "x 0 950000000 20 0",
+    "x 1 0 20 0",
+    "x 2 500000000 11 1",
+    "x 3 0 11 0",
+    "x 4 50000000 33 0",
+    "x 5 0 33 0",
+    "x 6 50000000 33 0",
+    "x 7 0 33 0",
+    "c 0 1044536046387 0 549755813887 0 -1044536046387 0 54975581389 0",
+    "c 1 0 1044536046387 0 549755813887 0 -1044536046387 0 54975581389",
+    "c 2 549755813887 0 5497558138870 0 -549755813887 0 -549755813887 0",
+    "c 3 0 549755813887 0 5497558138870 0 -549755813887 0 -549755813887",
+    "c 4 -1044536046387 0 -549755813887 0 -54975581389 0 -54975581389 0",
+    "c 5 0 -1044536046387 0 -549755813887 0 -54975581389 0 -54975581389",
+    "c 6 54975581389 0 -549755813887 0 -54975581389 0 -54975581389 0",
+    "c 7 0 54975581389 0 -549755813887 0 -54975581389 0 -54975581389",
+    "act 15000 0 -6",
+    "act 15000 1 16",
+    "end",
+];
+
+// The lines with the one of this number changed, counted from 1.
+fn with_line(alloc: Global, at: usize, line: &str) -> Result<String, AllocError> {
+    let mut text = String::new(alloc);
+    let mut number: usize = 1;
+    for old in &LINES {
+        text.push_str(if number == at { line } else { old })?;
+        text.push_str("\n")?;
+        number = number.wrapping_add(1);
+    }
+    Ok(text)
+}
+
+// The sum of the centres, of each radius times its number, and of each entry times its row and its column.
+fn sums(claimed: &Claimed) -> (i128, i128, i128) {
+    let (mut centres, mut radii, mut entries): (i128, i128, i128) = (0, 0, 0);
+    let mut number: i128 = 0;
+    for part in &claimed.parts {
+        number = number.wrapping_add(1);
+        centres = centres.wrapping_add(part.centre);
+        radii = radii.wrapping_add(number.wrapping_mul(part.radius));
+    }
+    number = 0;
+    for place in 0..claimed.inverse.size() {
+        number = number.wrapping_add(1);
+        let mut column: i128 = 1;
+        for entry in claimed.inverse.row(place) {
+            column = column.wrapping_add(1);
+            entries = entries.wrapping_add(number.wrapping_mul(column).wrapping_mul(*entry));
+        }
+    }
+    (centres, radii, entries)
+}
+
+fn act(time: u64, control: u32, steps: i32) -> Act {
+    Act {
+        time,
+        control,
+        steps,
+        after: 0,
+    }
+}
+
+#[test]
+fn reads_a_certificate(rt: HostRuntime) -> Result<(), CertFileFault> {
+    let alloc = rt.alloc();
+    let text = with_line(alloc, 100, "")?;
+    let mut reader = CertReader::open(alloc, text.as_bytes())?;
+    let claimed = reader.next_block(alloc, 8)?;
+    assert_eq!(rt; sums(&claimed), (1550000000, 995, 10555311626464));
+    assert_eq!(rt; reader.finish()?, 1);
+    let acts = [act(15000, 0, -6), act(15000, 1, 16)];
+    assert_eq!(rt; reader.given(), 1);
+    if reader.given() == 1 {
+        assert_eq!(rt; reader.rule_line(0), 19);
+        assert!(rt; reader.acts_hold(0, &acts));
+        assert!(rt; !reader.acts_hold(0, &acts[..1]));
+        assert!(rt; !reader.acts_hold(0, &[act(15000, 0, -6), act(15000, 1, 15)]));
+    }
+    Ok(())
+}
+
+// The line and the rule of the first refusal: of the first line, of a block of 8 unknowns, or of the end.
+fn refusal(alloc: Global, text: &str) -> Result<(u64, Option<Rule>), CertFileFault> {
+    match read_all(alloc, text) {
+        Ok(count) => Ok((count, None)),
+        Err(CertFileFault::Refused { line, rule }) => Ok((line, Some(rule))),
+        Err(CertFileFault::NoMemory) => Err(CertFileFault::NoMemory),
+    }
+}
+
+fn read_all(alloc: Global, text: &str) -> Result<u64, CertFileFault> {
+    let mut reader = CertReader::open(alloc, text.as_bytes())?;
+    let _claimed = reader.next_block(alloc, 8)?;
+    reader.finish()
+}
+
+#[test]
+fn refuses_lines(rt: HostRuntime) -> Result<(), CertFileFault> {
+    let alloc = rt.alloc();
+    for (at, line, want) in [
+        (1, "cert 2", (1, Some(Rule::Grammar))),
+        (2, "solution 1 0 0", (2, Some(Rule::Grammar))),
+        (2, "solution 1 0 0 9", (11, Some(Rule::Grammar))),
+        (2, "solution 2 0 0 8", (2, Some(Rule::Size))),
+        (2, "end", (2, Some(Rule::Count))),
+        (5, "x 3 500000000 11 1", (5, Some(Rule::Grammar))),
+        (4, "x 1 0 020 0", (4, Some(Rule::Grammar))),
+        (10, "x 7 0 33 -0", (10, Some(Rule::Grammar))),
+        (11, "c 0 1 2 3 4 5 6 7", (11, Some(Rule::Grammar))),
+        (11, "c 0 1 2 3 4 5 6 7 8 9", (11, Some(Rule::Grammar))),
+        (20, "act 15000 1", (20, Some(Rule::Grammar))),
+        (20, "end", (21, Some(Rule::Grammar))),
+        (21, "solution 1 0 1 8", (21, Some(Rule::Count))),
+        (100, "", (1, None)),
+    ] {
+        let text = with_line(alloc, at, line)?;
+        assert!(rt; refusal(alloc, &text)? == want);
+    }
+    Ok(())
+}
