@@ -1,0 +1,4 @@
+mod Basing
+mod Chosen
+mod Walking
+pub mod Settled

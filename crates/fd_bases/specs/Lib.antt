@@ -1,0 +1,5 @@
+pub mod Nominals
+pub mod Nearest
+pub mod Walk
+pub mod Bases
+pub mod WalkLaws

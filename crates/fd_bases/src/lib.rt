@@ -1,0 +1,28 @@
+//! The voltage bases of buses, as `CalcVoltageBases` asks for them.
+//!
+//! A source gives its bus a nominal voltage: its basekv over root three for three phases, its basekv as it is for one
+//! phase. A line gives its other bus the nominal voltage of the one that is reached, and a transformer gives its other
+//! bus that of the winding there: kv as it is for one phase with one node at ground, else kv over root three. Elements
+//! are taken in order of definition, again and again, until no bus is new. A bus so reached has, of the option
+//! voltagebases, the value which over root three is nearest to its nominal voltage.
+//!
+//! In `specs/`, `Nominals`, `Walk`, `Nearest` and `Bases` say this exactly. `bases` answers exactly that, of any circuit,
+//! whether it passes the tests of Solve or not; want of memory is its only free answer.
+//!
+//! - `bus_base`: `bases`, the bases of a circuit's buses
+//! - `laws`: the walk ends
+//! - `nearest`: the base that is nearest to a nominal voltage
+//! - `nominal`: the nominal voltages that sources and windings give
+//! - `walk`: the buses that are reached from the sources
+#![tactic(auto)]
+
+mod bus_base;
+mod laws;
+mod nearest;
+mod nominal;
+#[cfg(test)]
+mod tests;
+mod walk;
+
+pub use bus_base::{BusBase, bases};
+pub use laws::settled_law;
