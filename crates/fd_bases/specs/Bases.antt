@@ -5,7 +5,8 @@ use Rattle.fd_bases.specs.declared.bus_base.BusBase.{BusBase}
 use Rattle.fd_bases.specs.Nearest.{nearest}
 use Rattle.fd_bases.specs.Walk.{Reached, reached_in}
 
--- each bus that is reached has the base that is nearest to its nominal voltage; where there are no bases there is nothing
+-- each bus that is reached has the base that is nearest to its nominal voltage; where there are no bases there is
+-- nothing
 abbrev pub based : List ℤ → Reached → List BusBase
 based [] reached = []
 based (base ∷ bases) reached = map (λ at. record { bus = at.0; kv = nearest at.1 (base ∷ bases) }) reached

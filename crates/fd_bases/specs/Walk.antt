@@ -29,7 +29,8 @@ abbrev pub carried_where : Option Nominal → List ℕ → Option Nominal → Re
 carried_where None to own reached = reached
 carried_where (Some there) to own reached = reach to (unwrap_or own there) reached
 
--- where bus `from` is reached, bus `to` is, with the nominal voltage of the element's own end there, else with that of `from`
+-- where bus `from` is reached, bus `to` is, with the nominal voltage of the element's own end there, else with that
+-- of `from`
 abbrev pub carried : List ℕ → List ℕ → Option Nominal → Reached → Reached
 carried from to own reached = carried_where (nominal_at reached from) to own reached
 
@@ -39,8 +40,8 @@ joined (Some a) at_a (Some b) at_b reached = carried b.name a.name at_a (carried
 joined (Some a) at_a None at_b reached = reached
 joined None at_a b at_b reached = reached
 
--- an element is taken: a source reaches its bus, a line its other bus with the same nominal voltage, and a transformer its other
--- bus with the nominal voltage of that winding
+-- an element is taken: a source reaches its bus, a line its other bus with the same nominal voltage, and a transformer
+-- its other bus with the nominal voltage of that winding
 abbrev pub taken : Element → Reached → Reached
 taken (the.Vsource v) reached = reach v.bus1.name (source_nominal v) reached
 taken (the.Line l) reached = joined l.bus1 None l.bus2 None reached

@@ -40,9 +40,10 @@ fn based(
     Ok(bases)
 }
 
-/// The voltage bases of a circuit's buses, in the order in which the buses are reached from its sources (OpenDSS manual,
-/// CalcVoltageBases). Each is a value of the option voltagebases, the one which over root three is nearest to the bus's
-/// nominal voltage, the smaller where two are as near. Root three is the decimal 1.732050807568877; all else is exact.
+/// The voltage bases of a circuit's buses, in the order in which the buses are reached from its sources (OpenDSS
+/// manual, CalcVoltageBases). Each is a value of the option voltagebases, the one which over root three is nearest to
+/// the bus's nominal voltage, the smaller where two are as near. Root three is the decimal 1.732050807568877; all else
+/// is exact.
 ///
 /// A source gives its bus the basekv over root three, or for one phase the basekv as it is. A line gives its other bus
 /// the nominal voltage of the one that is reached, and a transformer gives its other bus the kv of the winding there

@@ -6,8 +6,8 @@
 //! are taken in order of definition, again and again, until no bus is new. A bus so reached has, of the option
 //! voltagebases, the value which over root three is nearest to its nominal voltage.
 //!
-//! In `specs/`, `Nominals`, `Walk`, `Nearest` and `Bases` say this exactly. `bases` answers exactly that, of any circuit,
-//! whether it passes the tests of Solve or not; want of memory is its only free answer.
+//! In `specs/`, `Nominals`, `Walk`, `Nearest` and `Bases` say this exactly. `bases` answers exactly that, of any
+//! circuit, whether it passes the tests of Solve or not; want of memory is its only free answer.
 //!
 //! - `bus_base`: `bases`, the bases of a circuit's buses
 //! - `laws`: the walk ends

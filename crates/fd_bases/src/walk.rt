@@ -23,7 +23,8 @@ fn reach(reached: &mut Reached, bus: &Text, nominal: Nominal) -> Result<(), Allo
     Ok(())
 }
 
-// Bus `to` is reached where `from` is, with the nominal voltage of the element's own end there, else with that of `from`.
+// Bus `to` is reached where `from` is, with the nominal voltage of the element's own end there, else with that of
+// `from`.
 fn carry(
     reached: &mut Reached,
     from: &Text,
