@@ -28,7 +28,7 @@ use Rattle.fd_sample.specs.declared.probe.Probe.TheVariants as probe
 use Rattle.fd_sample.specs.declared.probe.RegProbe.{RegProbe}
 use Rattle.fd_sample.specs.Circuits.{IsCapProbeIn, IsProbeOf, IsRegProbeIn, banks_before, cap_probe_at, cap_probe_in, element_at, line_in, place_given, probe_in, reg_probe_at, reg_probe_in, transformer_in, transformers_before}
 use Rattle.fd_sample.proofs.Listed.{all_at, front_least, fronts_in_order}
-use Rattle.fd_sample.proofs.Places.{banks_next, before_next}
+use Rattle.fd_sample.proofs.Places.{count_next}
 use Rattle.fd_sample.proofs.Standing.{line_back, transformer_back}
 
 -- ---- the element at the place that a property names
@@ -126,18 +126,18 @@ pub transformer_below : (es : Elements) (k : ℕ) (e : ElementName × Element) �
     transformers_before es k < list_n (λ x. tap_count x.1) es
 transformer_below es k e h one =
     let most : transformers_before es (k + 1) ≤ list_n (λ x. tap_count x.1) es = front_least (λ (x : ElementName × Element). tap_count x.1) (k + 1) es in
-    omega (arith, before_next es k e h, one, most)
+    omega (arith, count_next tap_count es k e h, one, most)
 
 pub bank_below : (es : Elements) (k : ℕ) (e : ElementName × Element) → slice_get es k ≡ Some e → bank_count e.1 ≡ 1 →
     banks_before es k < list_n (λ x. bank_count x.1) es
 bank_below es k e h one =
     let most : banks_before es (k + 1) ≤ list_n (λ x. bank_count x.1) es = front_least (λ (x : ElementName × Element). bank_count x.1) (k + 1) es in
-    omega (arith, banks_next es k e h, one, most)
+    omega (arith, count_next bank_count es k e h, one, most)
 
 bank_less : (es : Elements) (a b : ℕ) (e : ElementName × Element) → slice_get es a ≡ Some e → bank_count e.1 ≡ 1 → a < b → banks_before es a < banks_before es b
 bank_less es a b e h one less =
     let most : banks_before es (a + 1) ≤ banks_before es b = fronts_in_order (λ (x : ElementName × Element). bank_count x.1) (a + 1) b es (omega arith) in
-    omega (arith, banks_next es a e h, one, most)
+    omega (arith, count_next bank_count es a e h, one, most)
 
 in_order : (a b : ℕ) → (a < b) ⊎ ((a ≡ b) ⊎ (b < a))
 in_order a b = grind arith
@@ -153,7 +153,7 @@ transformer_less : (es : Elements) (a b : ℕ) (e : ElementName × Element) → 
     transformers_before es a < transformers_before es b
 transformer_less es a b e h one less =
     let most : transformers_before es (a + 1) ≤ transformers_before es b = fronts_in_order (λ (x : ElementName × Element). tap_count x.1) (a + 1) b es (omega arith) in
-    omega (arith, before_next es a e h, one, most)
+    omega (arith, count_next tap_count es a e h, one, most)
 
 -- transformers at two places have two numbers
 pub one_transformer_place : (es : Elements) (a b : ℕ) (x y : ElementName × Element) → slice_get es a ≡ Some x → tap_count x.1 ≡ 1 →

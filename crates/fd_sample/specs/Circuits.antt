@@ -18,7 +18,7 @@ use Rattle.dss_profile.specs.declared.transformer.Transformer.{Transformer}
 use Rattle.dss_circuit.specs.Circuit.{CircuitView}
 use Rattle.dss_circuit.specs.InRange.{AllInRange}
 use Rattle.dss_circuit.specs.WellFormed.{IsEntry}
-use Rattle.dss_layout.specs.Layout.{Elements, LayoutView, complex_count, ends_of, layout_of, size_of}
+use Rattle.dss_layout.specs.Layout.{Elements, LayoutView, complex_count, ends_of, layout_of, size_of, sums_before}
 use Rattle.dss_ready.specs.Lookups.{element_given}
 use Rattle.dss_ready.specs.Passed.{IsPhaseOf}
 use Rattle.dss_ready.specs.Ready.{HasPassed}
@@ -26,6 +26,7 @@ use Rattle.fd_xfmr.specs.Transformer.{IsBetween}
 use Rattle.fd_devices.specs.Settings.{bank_count, tap_count}
 use Rattle.fd_queue.specs.Controls.{Positions}
 use Rattle.fd_queue.specs.Queue.{InPairs}
+use Rattle.fd_sample.specs.declared.numbers.Numbers.{Numbers}
 use Rattle.fd_sample.specs.declared.probe.Probe.{Probe}
 use Rattle.fd_sample.specs.declared.probe.Probe.TheVariants as probe
 use Rattle.fd_sample.specs.declared.probe.RegProbe.{RegProbe}
@@ -132,6 +133,11 @@ abbrev pub IsCapProbeAt : LayoutView → ℕ → CapControl → Element → ℕ 
 IsCapProbeAt layout place control e number p = (l : Line) → e ≡ the.Line l → p ≡ cap_probe control l (ends_of layout place (the.Line l)) number
 
 -- ---- any element
+
+-- for each element, how many transformers and how many banks stand before it
+pub record AreNumbers (elements : Elements) (numbers : Numbers) : Type 0 where
+  pub transformers : numbers.transformers.items ≡ sums_before tap_count 0 elements
+  pub banks : numbers.banks.items ≡ sums_before bank_count 0 elements
 
 -- the probe of an element: there is one exactly where it is a control
 abbrev pub IsProbeOf : Elements → Option Element → Option Probe → Type 0

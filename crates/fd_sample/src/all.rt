@@ -6,6 +6,7 @@ ghost use Rattle.dss_ready.specs.Ready.{HasPassed};
 ghost use Rattle.fd_sample.specs.Circuits.{AreProbes, probes_of};
 
 use crate::circuit::probe_at_place;
+use crate::numbers::Numbers;
 use crate::probe::Probe;
 use dss_circuit::Circuit;
 use dss_layout::Layout;
@@ -22,9 +23,10 @@ pub fn probes(alloc: Global, circuit: &Circuit, layout: &Layout) -> Result<Vec<P
     ensures fit { IfOk result (λ ps. AreProbes circuit.now.elements ps.items) }
 {
     let elements = circuit.elements();
+    let numbers = Numbers::of(alloc, elements)?;
     let mut probes = Vec::new(alloc);
     for place in 0..elements.len() {
-        let probe = probe_at_place(alloc, circuit, layout, place)?;
+        let probe = probe_at_place(alloc, circuit, layout, &numbers, place)?;
         add(&mut probes, probe)?;
     }
     Ok(probes)

@@ -4,16 +4,15 @@ ghost use Rattle.std.specs.List.{position};
 ghost use Rattle.std.specs.Map.{lookup};
 ghost use Rattle.dss_profile.specs.InRange.{CapControlInRange, RegControlInRange};
 ghost use Rattle.dss_profile.specs.SameElement.{same_element};
-ghost use Rattle.dss_circuit.specs.Limits.{most_elements};
 ghost use Rattle.dss_layout.specs.Layout.{layout_of, size_of};
 ghost use Rattle.dss_ready.specs.Lookups.{element_given};
 ghost use Rattle.dss_ready.specs.Ready.{HasPassed};
-ghost use Rattle.fd_devices.specs.Settings.{bank_count as banks_of, tap_count as taps_of};
-ghost use Rattle.fd_sample.specs.Circuits.{IsCapControlIn, IsCapProbeAt, IsCapProbeIn, IsLineFor, IsProbeOf, IsRegControlIn, IsRegProbeAt, IsRegProbeIn, IsXfmrFor, element_at, banks_before as count_of_banks, line_in, transformer_in, place_given as place_of, transformers_before as count_before};
+ghost use Rattle.fd_sample.specs.Circuits.{AreNumbers, IsCapControlIn, IsCapProbeAt, IsCapProbeIn, IsLineFor, IsProbeOf, IsRegControlIn, IsRegProbeAt, IsRegProbeIn, IsXfmrFor, element_at, line_in, transformer_in, place_given as place_of};
 ghost use Rattle.fd_sample.specs.Banks.{IsCapProbe};
 ghost use Rattle.fd_sample.specs.Probes.{IsProbe};
 ghost use Rattle.fd_sample.specs.Regulators.{IsRegProbe};
 
+use crate::numbers::Numbers;
 use crate::probe::{CapProbe, Probe, RegProbe};
 use crate::scripted::{bank_probe, regulator_probe};
 use dss_circuit::Circuit;
@@ -23,8 +22,8 @@ use dss_profile::{CapControl, Class, Element, ElementName, Line, RegControl, Tra
 use indexmap::IndexMap;
 use std::alloc::{AllocError, Global};
 
-/// The probe of the element at this place in order, in a circuit that passed the tests of Solve, whose layout this is:
-/// None exactly where the element is no control.
+/// The probe of the element at this place in order, in a circuit that passed the tests of Solve, with its layout and its
+/// numbers: None exactly where the element is no control.
 ///
 /// # Errors
 /// `AllocError` where the memory is refused.
@@ -32,10 +31,12 @@ pub fn probe_at_place(
     alloc: Global,
     circuit: &Circuit,
     layout: &Layout,
+    numbers: &Numbers,
     place: usize,
 ) -> Result<Option<Probe>, AllocError>
     requires ready { HasPassed circuit.now }
     requires layout { layout.now ≡ layout_of circuit.now.elements }
+    requires numbers { AreNumbers circuit.now.elements numbers.now }
     requires place { place < length circuit.now.elements }
     ensures probe { IfOk result (IsProbeOf circuit.now.elements (element_at circuit.now.elements place)) }
     ensures places { IfOk result (λ o. IfSome o (IsProbe (size_of (layout_of circuit.now.elements)))) }
@@ -44,18 +45,18 @@ pub fn probe_at_place(
     let element = element_in(elements, place);
     match element {
         Element::RegControl(control) => {
-            let probe = regulator_probe_of(alloc, circuit, layout, control)?;
+            let probe = regulator_probe_of(alloc, circuit, layout, numbers, control)?;
             Ok(Some(Probe::Regulator(probe)))
         }
         Element::CapControl(control) => {
-            let probe = bank_probe_of(alloc, circuit, layout, control)?;
+            let probe = bank_probe_of(alloc, circuit, layout, numbers, control)?;
             Ok(Some(Probe::Bank(probe)))
         }
         _ => Ok(None),
     }
 }
 
-/// The probe of a regulator's control of a circuit that passed the tests of Solve, whose layout this is.
+/// The probe of a regulator's control of a circuit that passed the tests of Solve, with its layout and its numbers.
 ///
 /// # Errors
 /// `AllocError` where the memory is refused.
@@ -63,10 +64,12 @@ pub fn regulator_probe_of(
     alloc: Global,
     circuit: &Circuit,
     layout: &Layout,
+    numbers: &Numbers,
     control: &RegControl,
 ) -> Result<RegProbe, AllocError>
     requires ready { HasPassed circuit.now }
     requires layout { layout.now ≡ layout_of circuit.now.elements }
+    requires numbers { AreNumbers circuit.now.elements numbers.now }
     requires control { IsRegControlIn circuit.now.elements control.now }
     ensures probe { IfOk result (IsRegProbeIn circuit.now.elements control.now) }
     ensures places { IfOk result (IsRegProbe (size_of (layout_of circuit.now.elements))) }
@@ -74,7 +77,7 @@ pub fn regulator_probe_of(
     let elements = circuit.elements();
     let place = device_place(elements, Class::Transformer, &control.transformer)?;
     let element = element_in(elements, place);
-    let number = transformers_before(elements, place);
+    let number = numbers.transformers_before(place);
     probe_at(alloc, layout, control, element, place, number)
 }
 
@@ -122,7 +125,7 @@ fn element_in(elements: &IndexMap<ElementName, Element>, place: usize) -> &Eleme
     element
 }
 
-/// The probe of a bank's control of a circuit that passed the tests of Solve, whose layout this is.
+/// The probe of a bank's control of a circuit that passed the tests of Solve, with its layout and its numbers.
 ///
 /// # Errors
 /// `AllocError` where the memory is refused.
@@ -130,10 +133,12 @@ pub fn bank_probe_of(
     alloc: Global,
     circuit: &Circuit,
     layout: &Layout,
+    numbers: &Numbers,
     control: &CapControl,
 ) -> Result<CapProbe, AllocError>
     requires ready { HasPassed circuit.now }
     requires layout { layout.now ≡ layout_of circuit.now.elements }
+    requires numbers { AreNumbers circuit.now.elements numbers.now }
     requires control { IsCapControlIn circuit.now.elements control.now }
     ensures probe { IfOk result (IsCapProbeIn circuit.now.elements control.now) }
     ensures places { IfOk result (IsCapProbe (size_of (layout_of circuit.now.elements))) }
@@ -142,7 +147,7 @@ pub fn bank_probe_of(
     let place = device_place(elements, Class::Line, &control.element)?;
     let bank = device_place(elements, Class::Capacitor, &control.capacitor)?;
     let element = element_in(elements, place);
-    let number = banks_before(elements, bank);
+    let number = numbers.banks_before(bank);
     bank_probe_at(alloc, layout, control, element, place, number)
 }
 
@@ -210,56 +215,4 @@ fn index_of(elements: &IndexMap<ElementName, Element>, name: &ElementName) -> Op
     ensures found { is_some result ≡ is_some (lookup (same_element name.now) elements.now.entries) }
 {
     elements.get_index_of(name)
-}
-
-// The transformers that stand before a place.
-fn transformers_before(elements: &IndexMap<ElementName, Element>, place: usize) -> u32
-    requires inside { place ≤ length elements.now.entries }
-    requires few { length elements.now.entries ≤ most_elements }
-    ensures { result ≡ count_before elements.now.entries place }
-{
-    let entries = elements.as_slice();
-    let mut count = 0;
-    for k in 0..place {
-        let (_, element) = entries.get_index(k).unwrap();
-        count += tap_count(element);
-    }
-    count
-}
-
-// 1 for a Transformer, and else 0.
-fn tap_count(element: &Element) -> u32
-    ensures value { result ≡ taps_of element.now }
-    ensures few { result ≤ 1 }
-{
-    match element {
-        Element::Transformer(_) => 1,
-        _ => 0,
-    }
-}
-
-// The banks that stand before a place.
-fn banks_before(elements: &IndexMap<ElementName, Element>, place: usize) -> u32
-    requires inside { place ≤ length elements.now.entries }
-    requires few { length elements.now.entries ≤ most_elements }
-    ensures { result ≡ count_of_banks elements.now.entries place }
-{
-    let entries = elements.as_slice();
-    let mut count = 0;
-    for k in 0..place {
-        let (_, element) = entries.get_index(k).unwrap();
-        count += bank_count(element);
-    }
-    count
-}
-
-// 1 for a Capacitor, and else 0.
-fn bank_count(element: &Element) -> u32
-    ensures value { result ≡ banks_of element.now }
-    ensures few { result ≤ 1 }
-{
-    match element {
-        Element::Capacitor(_) => 1,
-        _ => 0,
-    }
 }

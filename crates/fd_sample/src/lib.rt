@@ -16,8 +16,8 @@
 // a control names stand, and the controls of a circuit), `Roots` (square roots in whole numbers), `Decided` (the sample
 // as a function, and its law).
 //
-// Modules: `probe` (what is known of a control), `scripted` (by its settings), `circuit` (in a circuit that passed the
-// tests of Solve), `all` (of all controls), `intervals`, `phasors`, `relay` (a regulator's voltage), `lineflow` (the
+// Modules: `probe` (what is known of a control), `scripted` (by its settings), `numbers` (of transformers and banks),
+// `circuit` (a probe in a circuit that passed the tests of Solve), `all` (of all controls), `intervals`, `phasors`, `relay` (a regulator's voltage), `lineflow` (the
 // reactive power that enters a line), `roots` (where magnitudes stand to edges), `regulator` and `bank` (what they
 // want), `ends` (what the ends of an interval decide), `sample` and `bank_sample` (their samples), `controls`
 // (`verdict`), `laws`.
@@ -32,6 +32,7 @@ mod ends;
 mod intervals;
 mod laws;
 mod lineflow;
+mod numbers;
 mod phasors;
 mod probe;
 mod regulator;
@@ -42,7 +43,6 @@ mod scripted;
 
 pub use all::probes;
 pub use bank_sample::bank_verdict;
-pub use circuit::{bank_probe_of, probe_at_place, regulator_probe_of};
 pub use controls::verdict;
 pub use laws::{probes_law, sample_law};
 pub use probe::{CapProbe, LineEnd, Measured, Probe, RegProbe};

@@ -1,9 +1,11 @@
-use Rattle.std.proofs.Common.{◌≡◌, ◌∙◌, ◌<◌, ap, sym, subst, length, Some}
+use Rattle.std.proofs.Common.{◌≡◌, ◌∙◌, ◌<◌, sym, subst, length, Some}
 use Rattle.std.proofs.lemmas.Result.{IfOk-weaker}
 use Rattle.dss_profile.specs.declared.names.Class.TheVariants as class
 use Rattle.dss_layout.specs.Layout.{Elements, LayoutView}
 use Rattle.dss_ready.specs.Lookups.{element_given}
-use Rattle.fd_sample.specs.Circuits.{IsXfmrFor, element_at, place_given, transformers_before}
+use Rattle.fd_devices.specs.Settings.{tap_count}
+use Rattle.fd_sample.specs.Circuits.{IsXfmrFor, element_at, place_given}
+use Rattle.fd_sample.proofs.Places.{number_at, numbers_inside}
 use Rattle.fd_sample.proofs.Standing.{place_inside, probe_in, xfmr_for}
 use Rattle.fd_sample.proofs.circuit.regulator_probe_of.Goals as goal
 
@@ -23,6 +25,11 @@ probe_at-requires-clause-element c =
     subst (λ (l : LayoutView). IsXfmrFor l place c.args.control.now e) (sym c.requires.layout)
     (xfmr_for c.args.circuit.now c.requires.ready c.elements-elements.ensures.in_range c.elements-elements.ensures.keys c.args.control.now c.requires.control place e at same)
 
+pub transformers_before-number-requires : goal.transformers_before-number-requires
+transformers_before-number-requires c =
+    numbers_inside tap_count _ c.args.circuit.now.elements c.in_ok-place.place c.requires.numbers.transformers
+    (subst (λ (xs : Elements). c.in_ok-place.place < length xs) c.elements-elements.ensures.entries c.in_ok-place.ensures.inside)
+
 pub returns-clause-probe : goal.returns-clause-probe
 returns-clause-probe c =
     let place = c.in_ok-place.place in
@@ -31,6 +38,7 @@ returns-clause-probe c =
     let at = subst (λ (xs : Elements). element_at xs place ≡ Some e) entries c.element_in-element.ensures in
     let same = subst (λ (xs : Elements). element_at xs place ≡ element_given xs class.Transformer c.args.control.now.transformer) entries c.in_ok-place.ensures.there in
     let found = subst (λ (xs : Elements). place_given xs class.Transformer c.args.control.now.transformer ≡ Some place) entries c.in_ok-place.ensures.place in
-    let count = c.transformers_before-number.ensures ∙ ap (λ (xs : Elements). transformers_before xs place) entries in
+    let inside = subst (λ (xs : Elements). place < length xs) entries c.in_ok-place.ensures.inside in
+    let count = c.transformers_before-number.ensures ∙ number_at tap_count _ c.args.circuit.now.elements place c.requires.numbers.transformers inside in
     let fit = xfmr_for c.args.circuit.now c.requires.ready c.elements-elements.ensures.in_range c.elements-elements.ensures.keys c.args.control.now c.requires.control place e at same in
     IfOk-weaker c.probe_at.result _ _ (λ p h. probe_in c.args.circuit.now c.args.control.now place c.args.layout.now e _ p c.requires.layout fit at found count h) c.probe_at.ensures.probe
