@@ -6,3 +6,5 @@ pub mod RowBounds
 pub mod Verdict
 pub mod Certificates
 pub mod SlopeRadii
+pub mod Rechecks
+pub mod FirstBroken

@@ -36,7 +36,7 @@ pub record IsBelow (t : Bool) (o : Option ℤ) : Type 0 where
   pub within : t ≡ true
   pub small : bound_size o < 2 ^ 40
 
-below_one : (t : Bool) (o : Option ℤ) → IfSome o (λ k. pos 0 ≤ℤ k) → not (is_below_one (cond t o None)) ≡ false → IsBelow t o
+pub below_one : (t : Bool) (o : Option ℤ) → IfSome o (λ k. pos 0 ≤ℤ k) → not (is_below_one (cond t o None)) ≡ false → IsBelow t o
 below_one true (Some k) h e = by_test (int_lt k (pos (2 ^ 40))) refl e
   where
     by_test : (b : Bool) → int_lt k (pos (2 ^ 40)) ≡ b → not b ≡ false → IsBelow true (Some k)

@@ -6,3 +6,4 @@ pub mod Totals
 pub mod Slopes
 pub mod Reaches
 pub mod Verdicts
+pub mod Rechecks

@@ -30,16 +30,16 @@ use std::alloc::{AllocError, Global};
 
 // The radius of each unknown; or the unknown at which there is no certificate, with its bound.
 #[derive(Drop)]
-enum Widths {
+pub(crate) enum Widths {
     Within(Vec<u128>),
     Refused { place: u32, sum: Option<i128> },
 }
 
 // The half-widths of the box, and the radii.
 #[derive(Drop)]
-struct Judged {
-    boxes: Vec<u128>,
-    widths: Widths,
+pub(crate) struct Judged {
+    pub boxes: Vec<u128>,
+    pub widths: Widths,
 }
 
 // The bound of each row.
@@ -130,7 +130,7 @@ fn verdict(
 }
 
 // The box around the point x, and the radii that its mismatches give.
-fn judge(
+pub(crate) fn judge(
     alloc: Global,
     net: &Network,
     x: &[i128],

@@ -2,14 +2,16 @@
 //
 // `certify` takes a state with an inverse and answers the certificate that the definitions give: the mismatch of each
 // row, the box, and a radius for each unknown; or it names the first row that is loose, or the first unknown at which
-// there is none, and nothing else but want of memory. That a certificate is sound, and what it says of other states,
-// are laws on the definitions.
+// there is none, and nothing else but want of memory. `recheck` takes what anyone claims and answers the first rule that
+// it breaks, none exactly where the claim is sound; `boxed` makes a certified state of such a claim. That a certificate
+// is sound, and what it says of other states, are laws on the definitions.
 //
 // Modules: `ball`, what is certified; `fault`, why there is no certificate; `mismatches` of rows, and the first loose
 // one; `boxes`, the half-widths; `radii`, by how much slopes may be off, by non-zeros; `flat`, lists of short entries,
 // whose sums need no tests; `sums` of columns; `totals` of products, up to 2^120; `bounds`, how far the inverse times
-// the Jacobian is from the unit matrix; `reach`, the radii of unknowns; `rounding`, quotients rounded up; and
-// `certificate` over them.
+// the Jacobian is from the unit matrix; `reach`, the radii of unknowns; `rounding`, quotients rounded up;
+// `certificate` over them; `rule`, the rules of certificates; `range`, the size and the range of a claim's numbers; and
+// `rechecking`, the rules on a claim.
 #![tactic(auto)]
 
 mod ball;
@@ -20,14 +22,19 @@ mod fault;
 mod flat;
 mod mismatches;
 mod radii;
+mod range;
 mod reach;
+mod rechecking;
 mod rounding;
+mod rule;
 mod sums;
 mod totals;
 
 pub use ball::{Ball, Certified};
 pub use certificate::certify;
 pub use fault::CertFault;
+pub use rechecking::{boxed, recheck};
+pub use rule::{Broken, Rule};
 
 #[cfg(test)]
 mod tests;

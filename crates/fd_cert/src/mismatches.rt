@@ -1,9 +1,10 @@
-// The mismatch of each row, and the first loose one.
+// The mismatch of each row, the first loose one, and the first claimed one that doesn't hold.
 ghost use Rattle.std.specs.Prelude.{◌≡◌, ℕ, ◌<◌, ◌≤◌, ◌^◌, IfOk, IfNone, IfSome, length, map, nat_lt};
 ghost use Rattle.fd_exact.specs.First.{first_place};
 ghost use Rattle.fd_system.specs.Residual.{greater_size};
 ghost use Rattle.fd_equations.specs.Conditions.{IsPoint};
 ghost use Rattle.fd_enclosure.specs.Sound.{greatest_mismatch, mismatch_size, mismatches_of, number_at};
+ghost use Rattle.fd_cert.specs.Rechecks.{is_untrue};
 
 use fd_arith::{Interval, Micro};
 use fd_equations::Network;
@@ -47,6 +48,27 @@ pub fn first_loose(mismatch: &[u128]) -> Option<u32>
 {
     for row in 0..mismatch.len() {
         if mismatch[row] > GREATEST_MISMATCH {
+            return Some(row as u32);
+        }
+    }
+    None
+}
+
+// Whether a claimed mismatch is below the row's own or above the greatest.
+fn is_untrue(own: u128, claimed: u128) -> bool
+    ensures { result ≡ is_untrue own claimed }
+{
+    claimed < own || claimed > GREATEST_MISMATCH
+}
+
+// The first row whose claimed mismatch is below its own or above the greatest, if there is one.
+pub fn first_untrue(own: &[u128], claimed: &[u128]) -> Option<u32>
+    requires few { length own.now ≤ 2 ^ 11 }
+    requires long { length claimed.now ≡ length own.now }
+    ensures { result ≡ first_place (λ l. is_untrue (number_at own.now l) (number_at claimed.now l)) (length own.now) }
+{
+    for row in 0..own.len() {
+        if is_untrue(own[row], claimed[row]) {
             return Some(row as u32);
         }
     }

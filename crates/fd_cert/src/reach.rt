@@ -1,4 +1,4 @@
-// The radii of unknowns, from the inverse, the mismatches and the bounds of rows.
+// The radii of unknowns, from the inverse, the mismatches and the bounds of rows; and the first claimed one that is less.
 ghost use Rattle.std.specs.Prelude.{◌≡◌, ℕ, ◌*◌, ◌<◌, ◌≤◌, ◌^◌, nat_abs, nat_lt, false, IfNone, IfOk, IfSome, length};
 ghost use Rattle.fd_exact.specs.First.{first_place};
 ghost use Rattle.fd_exact.specs.Greatest.{greatest};
@@ -25,7 +25,7 @@ const BOUND_UNITS: u128 = 0x100_0000_0000;
 // The greatest product of a weight and a reach, and the greatest radius in whole micro-units.
 const PRODUCT_LIMIT: u128 = 0x100_0000_0000_0000_0000_0000_0000_0000;
 
-const RADIUS_LIMIT: u128 = 0x100_0000_0000;
+pub const RADIUS_LIMIT: u128 = 0x100_0000_0000;
 
 // The size of an entry of the inverse times twice a mismatch: one multiplication of 64 bits.
 fn share(entry: i128, mismatch: u128) -> u128
@@ -167,6 +167,20 @@ pub fn first_wide(radii: &[u128]) -> Option<u32>
 {
     for place in 0..radii.len() {
         if radii[place] > RADIUS_LIMIT {
+            return Some(place as u32);
+        }
+    }
+    None
+}
+
+// The first unknown whose claimed radius is below the least that holds, if there is one.
+pub fn first_narrow(least: &[u128], claimed: &[u128]) -> Option<u32>
+    requires few { length least.now ≤ 2 ^ 11 }
+    requires long { length claimed.now ≡ length least.now }
+    ensures { result ≡ first_place (λ i. nat_lt (number_at claimed.now i) (number_at least.now i)) (length least.now) }
+{
+    for place in 0..least.len() {
+        if claimed[place] < least[place] {
             return Some(place as u32);
         }
     }

@@ -16,7 +16,7 @@ use Rattle.fd_certfile.specs.Reader.{GivenBlock, HasAhead, ReaderView, behind, b
 use Rattle.fd_certfile.specs.Readings.{RefusedBehind, cells_of, kept}
 use Rattle.fd_certfile.specs.Rules.{is_numbered}
 use Rattle.fd_certfile.specs.declared.ahead.Ahead.{Ahead}
-use Rattle.fd_certfile.specs.declared.fault.Rule.TheVariants.{Count, Grammar, Size}
+use Rattle.fd_cert.specs.declared.rule.Rule.TheVariants.{Count, Grammar, Size}
 use Rattle.fd_certfile.proofs.Blocks.{block_found, length-block}
 use Rattle.fd_certfile.proofs.Rows.{place_is}
 

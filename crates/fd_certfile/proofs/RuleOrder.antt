@@ -9,7 +9,7 @@ use Rattle.std.proofs.lemmas.Bool.Decides.{Decides-and, Decides-like, Decides-in
 use Rattle.std.proofs.lemmas.Slice.Eq.{slice_eq-Decides}
 use Rattle.fd_certfile.specs.Blocks.{Act, Block, is_place}
 use Rattle.fd_certfile.specs.Rules.{Where, Broken, Sampled, undecided, moves, at_limit, Judge, claim_of, ball_of, part_of, row_of, IsDue, IsInRange, Holds, is_due, is_within, is_in_range, is_mismatch, is_radius, same_act, is_undecided, is_limit, acts_due, least_from, broken_by, unless, unless_at, rules, first_some, first_broken}
-use Rattle.fd_certfile.specs.declared.fault.Rule.{Rule}
+use Rattle.fd_cert.specs.declared.rule.Rule.{Rule}
 use Rattle.fd_certfile.specs.RuleLaws.{IsFirst, RuleLaw}
 
 some_none : {X : Type 0} {x : X} → Some x ≡ None → ⊥
@@ -20,7 +20,7 @@ some_is e = cc
 
 -- ---- the least place
 
-least_none : (n i : ℕ) (test : ℕ → Bool) → least_from i n test ≡ None → (j : ℕ) → i ≤ j → j < i + n → test j ≡ true
+pub least_none : (n i : ℕ) (test : ℕ → Bool) → least_from i n test ≡ None → (j : ℕ) → i ≤ j → j < i + n → test j ≡ true
 least_none zero i test e j l m = absurd (omega (arith, l, m))
 least_none (suc n) i test e j l m =
     let below = least_none n (suc i) test in
@@ -33,7 +33,7 @@ least_none (suc n) i test e j l m =
       | inr fails ↦ absurd (let h = sym (cond-false (test i) _ _ fails) ∙ e in some_none h)
     ]
 
-least_all : (n i : ℕ) (test : ℕ → Bool) → ((j : ℕ) → i ≤ j → j < i + n → test j ≡ true) → least_from i n test ≡ None
+pub least_all : (n i : ℕ) (test : ℕ → Bool) → ((j : ℕ) → i ≤ j → j < i + n → test j ≡ true) → least_from i n test ≡ None
 least_all zero i test h = refl
 least_all (suc n) i test h = cond-true (test i) _ _ (h i (omega arith) (omega arith))
     ∙ least_all n (suc i) test (λ j l m. h j (omega (arith, l)) (omega (arith, m)))
@@ -44,7 +44,7 @@ pub record IsLeast (n i : ℕ) (test : ℕ → Bool) (k : ℕ) : Type 0 where
   pub fails : test k ≡ false
   pub least : (j : ℕ) → i ≤ j → j < k → test j ≡ true
 
-least_some : (n i : ℕ) (test : ℕ → Bool) (k : ℕ) → least_from i n test ≡ Some k → IsLeast n i test k
+pub least_some : (n i : ℕ) (test : ℕ → Bool) (k : ℕ) → least_from i n test ≡ Some k → IsLeast n i test k
 least_some zero i test k e = absurd cc
 least_some (suc n) i test k e =
     let rest = least_some n (suc i) test k in
@@ -117,14 +117,14 @@ Decides-le a b = (λ e. record { le = subst T (sym e) tt }, λ h. told (int_le a
   told true h = refl
   told false h = absurd h
 
-Decides-place : (i : ℕ) (z : ℤ) → Decides (is_place i z) (z ≡ pos i)
+pub Decides-place : (i : ℕ) (z : ℤ) → Decides (is_place i z) (z ≡ pos i)
 Decides-place i (pos n) = (λ e. ap pos (eqb-true n i e), λ e. eq-eqb n i (let h : n ≡ i = cc in h))
 Decides-place i (negsuc n) = (λ e. absurd cc, λ e. absurd cc)
 
-Decides-within : (limit : ℕ) (z : ℤ) → Decides (is_within limit z) (unsigned_abs z ≤ limit)
+pub Decides-within : (limit : ℕ) (z : ℤ) → Decides (is_within limit z) (unsigned_abs z ≤ limit)
 Decides-within limit z = (leb-true (unsigned_abs z) limit, le-leb (unsigned_abs z) limit)
 
-Decides-all : {X : Type 0} (test : X → Bool) (P : X → Type 0) → ((x : X) → Decides (test x) (P x)) → (xs : List X)
+pub Decides-all : {X : Type 0} (test : X → Bool) (P : X → Type 0) → ((x : X) → Decides (test x) (P x)) → (xs : List X)
     → Decides (list_all test xs) (AllByRecursion P xs)
 Decides-all test P h [] = (λ e. tt, λ e. refl)
 Decides-all test P h (x ∷ xs) = Decides-and (test x) (list_all test xs) (h x) (Decides-all test P h xs)

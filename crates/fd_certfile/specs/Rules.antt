@@ -1,11 +1,11 @@
 -- The rules on one block of a certificate.
-use Rattle.std.specs.Prelude.{◌≡◌, ℕ, zero, suc, ℤ, pos, ◌+◌, ◌*◌, ◌^◌, ◌<◌, ◌≤◌, ◌≤ℤ◌, nat_le, int_le, unsigned_abs, Bool, true, false, not, ◌&&◌, List, [], ◌∷◌, map, get_or, Option, Some, None, if◌then◌else◌}
+use Rattle.std.specs.Prelude.{◌≡◌, ℕ, zero, suc, ℤ, pos, ◌+◌, ◌*◌, ◌^◌, ◌<◌, ◌≤◌, ◌≤ℤ◌, nat_le, int_le, unsigned_abs, Bool, true, false, not, ◌&&◌, List, [], ◌∷◌, ◌++◌, map, get_or, Option, Some, None, if◌then◌else◌}
 use Rattle.std.specs.List.{list_all, AllByRecursion}
 use Rattle.std.specs.Cmp.Lexicographic.{pointwise}
 use Rattle.std.specs.Ordering.{int_eq}
 use Rattle.fd_certfile.specs.Blocks.{Part, Act, Block, count_of, is_place}
-use Rattle.fd_certfile.specs.declared.fault.Rule.{Rule}
-use Rattle.fd_certfile.specs.declared.fault.Rule.TheVariants.{Size, Range, Mismatch, Bound, Radius, Undecided, Acts, ControlLimit}
+use Rattle.fd_cert.specs.declared.rule.Rule.{Rule}
+use Rattle.fd_cert.specs.declared.rule.Rule.TheVariants.{Size, Range, Mismatch, Bound, Radius, Undecided, Acts, ControlLimit}
 
 -- where a block breaks a rule
 pub data Where : Type 0 where
@@ -160,18 +160,26 @@ unless rule place false = Some (record { rule = rule; place = place })
 abbrev pub unless_at : Rule → ℕ → (ℕ → Bool) → Option Broken
 unless_at rule n test = broken_by rule (least_from 0 n test)
 
--- each rule in order, with the place at which the block breaks it
-abbrev pub rules : Judge → Block → List (Option Broken)
-rules judge b =
+-- the rules on what a block claims, in order, with the place at which the block breaks each
+abbrev pub claim_rules : Judge → Block → List (Option Broken)
+claim_rules judge b =
     unless Size at_solution (is_due judge b)
     ∷ unless_at Range judge.size (is_in_range b)
     ∷ unless_at Mismatch judge.size (is_mismatch judge b)
     ∷ unless_at Bound judge.size (λ i. not (judge.reaches_one (claim_of b) i))
     ∷ unless_at Radius judge.size (is_radius judge b)
-    ∷ unless Undecided behind_rows (not (is_undecided (judge.sampled (ball_of b))))
+    ∷ []
+
+-- those on its samples and its acts
+abbrev pub act_rules : Judge → Block → List (Option Broken)
+act_rules judge b =
+    unless Undecided behind_rows (not (is_undecided (judge.sampled (ball_of b))))
     ∷ unless Acts behind_rows (pointwise same_act (acts_due (judge.sampled (ball_of b))) b.acts)
     ∷ unless ControlLimit behind_rows (not (is_limit (judge.sampled (ball_of b))))
     ∷ []
+
+abbrev pub rules : Judge → Block → List (Option Broken)
+rules judge b = claim_rules judge b ++ act_rules judge b
 
 abbrev pub first_some : {X : Type 0} → List (Option X) → Option X
 first_some [] = None

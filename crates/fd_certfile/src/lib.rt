@@ -44,7 +44,8 @@ mod texts;
 mod write;
 
 pub use block::Part;
-pub use fault::{CertFileFault, Rule};
+pub use fault::CertFileFault;
+pub use fd_cert::Rule;
 pub use grammar::{
     block_cases, block_law, certificate_law, line_law, number_law, row_law, sparse_rows, text_law,
 };

@@ -1,0 +1,28 @@
+-- The claim that the numbers of a block are read as. Sizes and mismatches of a claim have no sign, and no rule holds of a
+-- number below 0.
+use Rattle.std.specs.Prelude.{◌≡◌, ℕ, ℤ, pos, negsuc, List, map}
+use Rattle.fd_equations.specs.Views.{NetworkView}
+use Rattle.fd_enclosure.specs.Sound as sound
+use Rattle.fd_cert.specs.Rechecks.{boxed_claim}
+use Rattle.fd_certfile.specs.Blocks.{Block}
+use Rattle.fd_certfile.specs.Rules.{claim_of}
+
+-- a radius; one below 0 as one that is out of range
+abbrev pub read_radius : ℤ → ℕ
+read_radius (pos n) = n
+read_radius (negsuc n) = 1099511627777
+
+-- a mismatch; one below 0 as one above the greatest of a solution
+abbrev pub read_mismatch : ℤ → ℕ
+read_mismatch (pos n) = n
+read_mismatch (negsuc n) = 1001
+
+abbrev pub radii_read : Block → List ℕ
+radii_read b = map (λ p. read_radius p.radius) b.parts
+
+abbrev pub mismatches_read : Block → List ℕ
+mismatches_read b = map (λ p. read_mismatch p.mismatch) b.parts
+
+-- the text has no boxes, which are those of its centre
+abbrev pub claim_read : NetworkView → Block → sound.Claim
+claim_read v b = boxed_claim v (claim_of b).centre (radii_read b) (mismatches_read b) b.inverse
