@@ -37,7 +37,7 @@ module _ (n : ℕ) (C J : ℕ → ℕ → ℤ) (R : ℕ → ℕ → ℕ) (w e : 
       let same : (i, refused_bound n C J R w e i) ≡ r = cc in
       subst (λ (k : ℕ). k < n) (ap (λ (q : ℕ × Option ℤ). q.0) same) (place_below _ n i f)
 
-  refusal_below : (r : ℕ × Option ℤ) → refusal n C J R w e ≡ Some r → r.0 < n
+  pub refusal_below : (r : ℕ × Option ℤ) → refusal n C J R w e ≡ Some r → r.0 < n
   unfolding refusal
   refusal_below r h = unbounded_below (first_unbounded n C J R w e) r refl h
 

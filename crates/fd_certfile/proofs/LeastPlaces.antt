@@ -19,7 +19,7 @@ least_is n test bad h = by (least_from 0 n test) refl
         let below : k < n = omega (arith, s.below) in
         sym (first_some bad n k below (λ j m. h j (omega (arith, m, below)) ∙ ap not (s.least j (omega arith) m)) (h k below ∙ ap not s.fails))
 
-none_holds : (p : ℕ → Bool) (n k : ℕ) → first_place p n ≡ None → k < n → p k ≡ false
+pub none_holds : (p : ℕ → Bool) (n k : ℕ) → first_place p n ≡ None → k < n → p k ≡ false
 none_holds p n k e h = false_from_ne_true (p k) (λ t. let s : is_some (first_place p n) ≡ true = found p n k h t in let no : ⊥ = cc in no)
 
 pub none_found : (o : Option ℕ) → is_some o ≡ false → o ≡ None
@@ -49,7 +49,7 @@ opposite false false f g = let no : ⊥ = let e = g refl in cc in absurd no
 
 -- ---- entries
 
-all_at : {X : Type 0} (P : X → Type 0) (d : X) (xs : List X) (i : ℕ) → AllByRecursion P xs → i < length xs → P (get_or xs i d)
+pub all_at : {X : Type 0} (P : X → Type 0) (d : X) (xs : List X) (i : ℕ) → AllByRecursion P xs → i < length xs → P (get_or xs i d)
 all_at P d [] i a l = absurd (omega (arith, l))
 all_at P d (x ∷ xs) zero a l = a.0
 all_at P d (x ∷ xs) (suc i) a l = all_at P d xs i a.1 (omega (arith, l))

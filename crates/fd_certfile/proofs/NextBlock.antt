@@ -9,10 +9,10 @@ use Rattle.fd_exact.specs.States.{cell, entry, part}
 use Rattle.fd_exact.specs.Tables.{length-table, row-table}
 use Rattle.fd_mat.specs.Rows.{square}
 use Rattle.fd_certfile.specs.Ahead.{IsAhead}
-use Rattle.fd_certfile.specs.Blocks.{Whole, Act, Block, Spells, block_at, block_lines, count_of, is_place}
+use Rattle.fd_certfile.specs.Blocks.{Whole, Act, Block, Spells, acts_at, block_at, block_lines, count_of, is_place}
 use Rattle.fd_certfile.specs.Certificates.{lines_count}
 use Rattle.fd_certfile.specs.Lines.{Line, lines_of}
-use Rattle.fd_certfile.specs.Reader.{GivenBlock, HasAhead, ReaderView, behind, by_head, next_of, starts_with_end, unless_other}
+use Rattle.fd_certfile.specs.Reader.{GivenBlock, HasAhead, IsAheadOf, ReaderView, behind, by_head, next_of, starts_with_end, unless_other}
 use Rattle.fd_certfile.specs.Readings.{RefusedBehind, cells_of, kept}
 use Rattle.fd_certfile.specs.Rules.{is_numbered}
 use Rattle.fd_certfile.specs.declared.ahead.Ahead.{Ahead}
@@ -118,11 +118,8 @@ module _ (r : ReaderView) (n : ℕ) (x : Ahead) (h : HasAhead r n x) where
   counted : count_of h.block.size ≡ n
   counted = ap count_of h.size
 
-  pub ahead_lines : length r.lines ≡ x.lines + length (lines_of x.rest.now)
-  ahead_lines = omega (arith, ap length spelled.lines_are, length-append (block_lines Whole h.block) (lines_of x.rest.now), length-block Whole h.block, h.count)
-
-  pub ahead_some : 1 ≤ x.lines
-  ahead_some = omega (arith, h.count)
+  pub ahead_of : IsAheadOf r n (acts_at (lines_of x.acts.now)).0 (lines_of x.rest.now) x.lines
+  ahead_of = record { block = h.block; next = h.next; same = h.same; size = h.size; acts_are = h.acts; count_is = h.count }
 
   widths : AllByRecursion (λ q. length q ≡ n) h.block.inverse
   widths = subst (λ m. AllByRecursion (λ q. length q ≡ m) h.block.inverse) counted spelled.sized.entries
@@ -133,6 +130,20 @@ module _ (r : ReaderView) (n : ℕ) (x : Ahead) (h : HasAhead r n x) where
 
   pub ahead_square : square n x.cells.items ≡ h.block.inverse
   ahead_square = ap (square n) h.cells ∙ square-cells n h.block.inverse (spelled.sized.rows ∙ counted) widths
+
+-- what a reader passes over
+module _ (r : ReaderView) (n : ℕ) (acts : List Act) (rest : List Line) (count : ℕ) (h : IsAheadOf r n acts rest count) where
+  pub passed_lines : length r.lines ≡ count + length rest
+  passed_lines = omega (arith, ap length (block_found Whole r.lines h.block rest h.same).lines_are, length-append (block_lines Whole h.block) rest, length-block Whole h.block, h.count_is)
+
+  pub passed_some : 1 ≤ count
+  passed_some = omega (arith, h.count_is)
+
+  -- the next block is one alone
+  pub passed_one : (b : Block) (w : ReaderView) → next_of r n ≡ Ok (b, w) → w ≡ behind r h.block rest
+  passed_one b w e =
+      let same : Ok (b, w) ≡ Ok (h.block, behind r h.block rest) = sym e ∙ h.next in
+      cc
 
 -- the reader behind a block, by its fields
 pub after_is : (lines : List Line) (line number hour round : ℕ) (given : List GivenBlock) (b : Block) (rest : List Line)

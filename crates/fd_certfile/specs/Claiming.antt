@@ -6,6 +6,7 @@ use Rattle.fd_enclosure.specs.Sound as sound
 use Rattle.fd_cert.specs.Rechecks.{boxed_claim}
 use Rattle.fd_certfile.specs.Blocks.{Block}
 use Rattle.fd_certfile.specs.Rules.{claim_of}
+use Rattle.fd_certfile.specs.declared.block.Part.{Part as Read}
 
 -- a radius; one below 0 as one that is out of range
 abbrev pub read_radius : ℤ → ℕ
@@ -16,6 +17,16 @@ read_radius (negsuc n) = 1099511627777
 abbrev pub read_mismatch : ℤ → ℕ
 read_mismatch (pos n) = n
 read_mismatch (negsuc n) = 1001
+
+-- of an unknown as the code reads it
+abbrev pub centre_in : Read → ℤ
+centre_in p = p.centre
+
+abbrev pub radius_in : Read → ℕ
+radius_in p = read_radius p.radius
+
+abbrev pub mismatch_in : Read → ℕ
+mismatch_in p = read_mismatch p.mismatch
 
 abbrev pub radii_read : Block → List ℕ
 radii_read b = map (λ p. read_radius p.radius) b.parts

@@ -119,6 +119,20 @@ FindsAhead r n (Ok x) = HasAhead r n x
 FindsAhead r n (Err (fault.Refused line rule)) = next_of r n ≡ Err (line, rule)
 FindsAhead r n (Err fault.NoMemory) = Unit {0}
 
+-- these acts, lines and number of lines are those behind the inverse of the next block, behind it, and in it
+pub record IsAheadOf (r : ReaderView) (n : ℕ) (acts : List Act) (rest : List Line) (count : ℕ) : Type 0 where
+  pub block : Block
+  pub next : next_of r n ≡ Ok (block, behind r block rest)
+  pub same : block_at Whole r.lines ≡ Ok (block, rest)
+  pub size : block.size ≡ pos n
+  pub acts_are : acts ≡ block.acts
+  pub count_is : count ≡ lines_count block
+
+-- the reader stands behind the next block, or where it stood
+abbrev pub Passes : {T F : Type 0} → ReaderView → ℕ → Result T F → ReaderView → Type 0
+Passes before n (Ok t) after = (b : Block) (w : ReaderView) → next_of before n ≡ Ok (b, w) → w ≡ after
+Passes before n (Err e) after = after ≡ before
+
 -- what a call answers is the next block, and the reader after it stands behind that
 pub record IsNext (before : ReaderView) (n : ℕ) (claimed : Claimed) (after : ReaderView) : Type 0 where
   pub block : Block

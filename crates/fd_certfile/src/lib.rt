@@ -4,7 +4,9 @@
 //! whatever lines that are no acts follow (`write_block`). `CertReader` gives the blocks of a certificate one after
 //! another: exactly the next one where it is in the grammar and has the numbers that are due, and else exactly the line
 //! and the rule that is broken. It reads in one pass, holds the bytes by reference, and takes storage only for the size
-//! that is due; its other calls take no memory. The bytes may come from anyone.
+//! that is due; its other calls take no memory. As a `Solver` it gives the certified state that the next block claims,
+//! where the rules hold of it on the network (`solve`), so a settle over it takes its states from the text. The bytes may
+//! come from anyone.
 //!
 //! That what is written is read as exactly that, that a refused line is the first with which no block begins, that the
 //! rule which is named is the first that is broken, that a block for which the rules hold makes a sound claim, and that
@@ -21,14 +23,16 @@
 //! - `row`: a row of an inverse, read into cells
 //! - `block`: unknowns, rows and acts of a block
 //! - `ahead`: a block that is read ahead
+//! - `claim`: the claim that a block's numbers are read as, tested on a network
 //! - `claimed_acts`: the acts of a block beside those that were made
 //! - `ending`: whether a certificate ends
 //! - `reader`: the reader
-//! - `fault`: the rules, and why a certificate is refused
+//! - `fault`: why a certificate is refused
 #![tactic(auto)]
 
 mod ahead;
 mod block;
+mod claim;
 mod claimed_acts;
 mod cut;
 mod ending;

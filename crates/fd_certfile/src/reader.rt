@@ -1,26 +1,29 @@
 // A reader of a certificate, block by block.
 ghost use Rattle.std.specs.Prelude.{◌≡◌, ◌+◌, ◌<◌, ◌^◌, ◌&&◌, ◌∷◌, [], Some, None, if◌then◌else◌, length, map};
 ghost use Rattle.std.specs.Cmp.Lexicographic.{pointwise};
-ghost use Rattle.fd_certfile.specs.Blocks.{Whole, is_place};
+ghost use Rattle.fd_certfile.specs.Blocks.{Whole, acts_at, is_place};
 ghost use Rattle.fd_certfile.specs.Certificates.{behind_first, version_in};
 ghost use Rattle.fd_certfile.specs.Lines.{lines_of};
-ghost use Rattle.fd_certfile.specs.Reader.{FindsAhead, GivesNext, IsFinished, IsOpened, finish_of, given_at, is_headed};
+ghost use Rattle.fd_certfile.specs.Reader.{FindsAhead, GivesNext, IsAheadOf, IsFinished, IsOpened, Passes, finish_of, given_at, is_headed};
 ghost use Rattle.fd_certfile.specs.Rounds.{act_of};
 ghost use Rattle.fd_certfile.specs.Rules.{same_act};
 ghost use Rattle.fd_certfile.specs.Views.{view};
 
 use crate::ahead::{Ahead, Head, read_block};
 use crate::block::Part;
+use crate::claim::claimed;
 use crate::claimed_acts::acts_are;
 use crate::cut::cut;
 use crate::ending::{is_end, is_ended, is_solution};
 use crate::fault::{CertFileFault, Stop};
 use crate::line::{Line, read_line};
 use crate::row::is_place;
-use fd_cert::Rule;
+use fd_cert::{Certified, Rule};
+use fd_equations::Network;
+use fd_inject::Limits;
 use fd_mat::Dense;
-use fd_settle::Act;
-use std::alloc::Global;
+use fd_settle::{Act, Solver};
+use std::alloc::{AllocError, Global};
 use std::marker::Model;
 
 /// What a block claims: of each unknown and its row in order, and an inverse, a row for each unknown and a column for
@@ -157,6 +160,28 @@ impl<'a> CertReader<'a> {
         }
     }
 
+    // Moves behind the next block, which has so many unknowns and so many lines: the bytes from its acts on, and those
+    // behind it.
+    fn pass(
+        &mut self,
+        size: u32,
+        acts: &'a [u8],
+        rest: &'a [u8],
+        lines: u128,
+    ) -> Result<(), AllocError>
+        requires { IsAheadOf self.old size (acts_at (lines_of acts.now)).0 (lines_of rest.now) lines }
+        ensures { Passes self.old size result self.new }
+    {
+        self.given.push(Given {
+            acts,
+            rule_line: self.line + 1 + 2 * u64::from(size),
+        })?;
+        self.rest = rest;
+        self.line += lines as u64;
+        self.round += 1;
+        Ok(())
+    }
+
     /// The next block, which has so many unknowns, and behind it the reader expects the next round.
     ///
     /// # Errors
@@ -167,13 +192,7 @@ impl<'a> CertReader<'a> {
         ensures { GivesNext self.old size result self.new }
     {
         let ahead = self.ahead(alloc, size)?;
-        self.given.push(Given {
-            acts: ahead.acts,
-            rule_line: self.line + 1 + 2 * u64::from(size),
-        })?;
-        self.rest = ahead.rest;
-        self.line += ahead.lines as u64;
-        self.round += 1;
+        self.pass(size, ahead.acts, ahead.rest, ahead.lines)?;
         Ok(Claimed {
             parts: ahead.parts,
             inverse: Dense::from_cells(size, ahead.cells),
@@ -238,5 +257,41 @@ impl<'a> CertReader<'a> {
             line: self.line,
             rule: Rule::Grammar,
         })
+    }
+}
+
+impl<'a> Solver for CertReader<'a> {
+    type Fault = CertFileFault;
+
+    ghost use Rattle.fd_certfile.specs.Solving.{GivesSolved};
+
+    ghost gives = { λ before limits v answer after. GivesSolved v before answer after };
+
+    /// What the next block claims, where it has the network's size and the rules on what it claims hold; behind it the
+    /// reader expects the next round. The limits are not looked at. The claim and its boxes are tested before the reader
+    /// moves on.
+    ///
+    /// # Errors
+    /// `Refused` as `next_block` refuses; else as range, mismatch, bound or radius at the line of the first unknown that
+    /// breaks the rule. It and `NoMemory` leave the reader as it was.
+    fn solve(
+        &mut self,
+        alloc: Global,
+        net: &Network,
+        _limits: &Limits,
+    ) -> Result<Certified, CertFileFault> {
+        let size = net.size();
+        let ahead = self.ahead(alloc, size)?;
+        let cells = ahead.cells;
+        match claimed(alloc, net, size, &ahead.parts, cells)? {
+            Ok(certified) => {
+                self.pass(size, ahead.acts, ahead.rest, ahead.lines)?;
+                Ok(certified)
+            }
+            Err(broken) => Err(CertFileFault::Refused {
+                line: self.line + 1 + u64::from(broken.place),
+                rule: broken.rule,
+            }),
+        }
     }
 }
