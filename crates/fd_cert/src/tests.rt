@@ -1,7 +1,7 @@
 ghost use Rattle.std.specs.Prelude.{◌≡◌, [], IfOk};
 ghost use Rattle.fd_equations.specs.Conditions.{IsPart};
 
-use crate::{CertFault, Certified, certify};
+use crate::{Ball, CertFault, Certified, Rule, boxed, certify};
 use fd_arith::Term;
 use fd_equations::{Layout, Network, Point, Rows};
 use fd_mat::Dense;
@@ -108,5 +108,47 @@ fn refused(rt: HostRuntime) -> Result<(), Fail> {
     assert_eq!(rt; loose(&far), Some((0, 1_001)));
     let blind = answer(rt.alloc(), &rt, 100_000_000, 0);
     assert_eq!(rt; uncertain(&blind), Some((0, Some(ONE))));
+    Ok(())
+}
+
+// The rule that a claim of the point 100,001,000 with a multiple of the unit matrix as its inverse breaks, and where.
+fn broken(
+    alloc: Global,
+    rt: &impl Abort,
+    re: i128,
+    radius: u128,
+    mismatch: u128,
+    diagonal: i128,
+) -> Result<Option<(Rule, u32)>, AllocError> {
+    let rows = siemens(alloc)?;
+    let net = network(&rows, rt);
+    let mut inverse = Dense::zero(alloc, 2)?;
+    inverse.set(0, 0, diagonal);
+    inverse.set(1, 1, diagonal);
+    let ball = Ball {
+        centre: vec![in alloc; re, 0]?,
+        radius: vec![in alloc; radius, radius]?,
+    };
+    let mismatch = vec![in alloc; mismatch, 0]?;
+    match boxed(alloc, &net, ball, mismatch, inverse)? {
+        Ok(_certified) => Ok(None),
+        Err(broken) => Ok(Some((broken.rule, broken.place))),
+    }
+}
+
+#[test]
+fn rechecked(rt: HostRuntime) -> Result<(), AllocError> {
+    let alloc = rt.alloc();
+    let past = 0x100_0000_0001;
+    for (re, radius, mismatch, diagonal, want) in [
+        (100_001_000, 2_001, 1_000, ONE, None),
+        (past, 2_001, 1_000, ONE, Some((Rule::Range, 0))),
+        (100_001_000, 2_001, 999, ONE, Some((Rule::Mismatch, 0))),
+        (100_001_000, 2_001, 1_001, ONE, Some((Rule::Mismatch, 0))),
+        (100_001_000, 2_001, 1_000, 0, Some((Rule::Bound, 0))),
+        (100_001_000, 2_000, 1_000, ONE, Some((Rule::Radius, 0))),
+    ] {
+        assert!(rt; broken(alloc, &rt, re, radius, mismatch, diagonal)? == want);
+    }
     Ok(())
 }

@@ -143,7 +143,8 @@ module _ (r : ReaderView) (n : ℕ) (acts : List Act) (rest : List Line) (count 
   pub passed_one : (b : Block) (w : ReaderView) → next_of r n ≡ Ok (b, w) → w ≡ behind r h.block rest
   passed_one b w e =
       let same : Ok (b, w) ≡ Ok (h.block, behind r h.block rest) = sym e ∙ h.next in
-      cc
+      let pair : (b, w) ≡ (h.block, behind r h.block rest) = cc in
+      ap (λ (p : Block × ReaderView). p.1) pair
 
 -- the reader behind a block, by its fields
 pub after_is : (lines : List Line) (line number hour round : ℕ) (given : List GivenBlock) (b : Block) (rest : List Line)

@@ -83,12 +83,11 @@ mismatch_size own (negsuc k) e = let t = untrue_below own k in let no : ⊥ = cc
 
 -- ---- one rule and the later ones
 
-pub at_place : Found → Broken
+abbrev pub at_place : Found → Broken
 at_place f = record { rule = f.rule; place = at_part f.place }
 
 step : (rule : Rule) (o : Option ℕ) (os : List (Option Broken)) (later : Option Found) → (o ≡ None → first_some os ≡ option_map at_place later)
     → first_some (broken_by rule o ∷ os) ≡ option_map at_place (broken_at rule o later)
-unfolding at_place
 step rule None os later h = h refl
 step rule (Some i) os later h = refl
 

@@ -12,11 +12,13 @@ use Rattle.fd_certfile.specs.Blocks as blocks
 use Rattle.fd_certfile.specs.Claiming.{centre_in, claim_read, mismatch_in, radius_in, read_mismatch, read_radius}
 use Rattle.fd_certfile.specs.Judging.{claim_on, judge_of}
 use Rattle.fd_certfile.specs.Lines.{Line}
-use Rattle.fd_certfile.specs.Reader.{ReaderView, behind, by_head, next_of, starts_with_end, unless_other}
+use Rattle.fd_certfile.specs.Reader.{FindsAhead, ReaderView, behind, by_head, next_of, starts_with_end, unless_other}
 use Rattle.fd_certfile.specs.Rules.{Ball, Broken, Sampled, at_part, claim_of, claim_rules, first_some, is_due, is_numbered}
-use Rattle.fd_certfile.specs.Solving.{by_claim, judge_in, no_acts, solved_of, unless_unsound}
+use Rattle.fd_certfile.specs.Solving.{GivesSolved, by_claim, judge_in, no_acts, solved_of, unless_unsound}
 use Rattle.fd_certfile.specs.Views.{part}
 use Rattle.fd_certfile.specs.declared.block.Part.{Part as Read}
+use Rattle.fd_certfile.specs.declared.fault.CertFileFault.{CertFileFault}
+use Rattle.fd_certfile.specs.declared.fault.CertFileFault.TheVariants as fault
 use Rattle.fd_certfile.proofs.Blocks.{block_found}
 use Rattle.fd_certfile.proofs.ReadClaims.{at_place, claim_same, rules_same}
 use Rattle.fd_certfile.proofs.Rows.{place_is}
@@ -83,12 +85,15 @@ module _ (v : NetworkView) (r : ReaderView) (b : Block) (w : ReaderView) (next :
   solved_claim h = claim_same v r.number r.hour r.round no_acts b sized of_size h
 
   pub solved_broken : (k : Found) → first_unsound v (claim_read v b) ≡ Some k → solved_of v r ≡ Err (r.line + 1 + k.place, k.rule)
-  unfolding at_place
   solved_broken k h = solved_by (Some (at_place k)) (rules_are no_acts ∙ ap (option_map at_place) h)
 
 pub solved_refused : (v : NetworkView) (r : ReaderView) (line : ℕ) (rule : Rule) → next_of r v.size ≡ Err (line, rule) → solved_of v r ≡ Err (line, rule)
 unfolding solved_of
 solved_refused v r line rule h = ap (by_claim v r) h
+
+pub gives_refused : (v : NetworkView) (r : ReaderView) (n : ℕ) (f : CertFileFault) → n ≡ v.size → FindsAhead r n (Err f) → GivesSolved v r (Err f) r
+gives_refused v r n (fault.Refused line rule) e h = (solved_refused v r line rule (ap (next_of r) (sym e) ∙ h), refl)
+gives_refused v r n fault.NoMemory e h = refl
 
 -- ---- what the code reads
 

@@ -1,14 +1,14 @@
 -- Laws of a reader as a solver: what it gives is what the certificate comes to.
-use Rattle.std.specs.Prelude.{◌≡◌, ℕ, ◌+◌, List, Option, None, Ok, Err}
+use Rattle.std.specs.Prelude.{◌≡◌, ℕ, ◌+◌, List, None, Ok, Err}
 use Rattle.fd_equations.specs.Views.{NetworkView}
 use Rattle.fd_cert.specs.declared.rule.Rule.{Rule}
 use Rattle.fd_certfile.specs.Lines.{Line}
 use Rattle.fd_certfile.specs.Blocks.{Block, IsSized, block_at}
 use Rattle.fd_certfile.specs.Certificates.{Certificate, Reads, gives}
-use Rattle.fd_certfile.specs.Reader.{ReaderView, behind, finish_of}
+use Rattle.fd_certfile.specs.Reader.{ReaderView, behind}
 use Rattle.fd_certfile.specs.Rules.{Ball, Sampled, act_rules, claim_rules, first_some}
 use Rattle.fd_certfile.specs.Solving.{judge_in, solved_of}
-use Rattle.fd_certfile.specs.Verdict.{Answer, Due, accepted, asks, complete, refused, unless_broken, verdict}
+use Rattle.fd_certfile.specs.Verdict.{Due, asks, refused, unless_broken, verdict}
 
 -- The lines begin with the block that is given, the reader stands behind it, and the rules on what it claims hold, with
 -- whatever samples.
@@ -30,8 +30,8 @@ module _ {S F : Type 0} (due : S → Due F) (after : S → Block → S) where
     pub rest : Certificate
     pub gives_is : c ≡ gives b rest
     pub reads : Reads w.version w.lines rest
-    pub comes : verdict due after r.line count c s ≡ unless_broken r.line b
-    (first_some (act_rules (judge_in v r sampled) b)) (verdict due after w.line (count + 1) rest (after s b))
+    pub comes : verdict due after r.line count c s
+        ≡ unless_broken r.line b (first_some (act_rules (judge_in v r sampled) b)) (verdict due after w.line (count + 1) rest (after s b))
 
   pub record SolvingLaw : Type 0 where
     -- where a block is given
@@ -43,11 +43,4 @@ module _ {S F : Type 0} (due : S → Due F) (after : S → Block → S) where
     pub refused_so : (v : NetworkView) (r : ReaderView) (line : ℕ) (rule : Rule) (c : Certificate)
         (sampled : Ball → Sampled) (s : S) (count : ℕ)
         → solved_of v r ≡ Err (line, rule) → Reads r.version r.lines c → due s ≡ asks (judge_in v r sampled)
-        → verdict due after r.line count c s ≡ refused line rule
-    -- where no further block is due it comes to what the reader finishes with
-    pub finished : (r : ReaderView) (c : Certificate) (s : S) (n : ℕ)
-        → finish_of r ≡ Ok n → Reads r.version r.lines c → due s ≡ complete
-        → verdict due after r.line n c s ≡ accepted n
-    pub unfinished : (r : ReaderView) (c : Certificate) (s : S) (count line : ℕ) (rule : Rule)
-        → finish_of r ≡ Err (line, rule) → Reads r.version r.lines c → due s ≡ complete
         → verdict due after r.line count c s ≡ refused line rule

@@ -54,7 +54,9 @@ pub use grammar::{
     block_cases, block_law, certificate_law, line_law, number_law, row_law, sparse_rows, text_law,
 };
 pub use reader::{CertReader, Claimed};
-pub use rule::{answers_law, rule_cases, rule_law, sound_law, verdict_cases};
+pub use rule::{
+    answers_law, given_law, rule_cases, rule_law, solving_law, sound_law, verdict_cases,
+};
 pub use write::write_block;
 
 #[cfg(test)]

@@ -281,7 +281,10 @@ impl<'a> Solver for CertReader<'a> {
         _limits: &Limits,
     ) -> Result<Certified, CertFileFault> {
         let size = net.size();
-        let ahead = self.ahead(alloc, size)?;
+        let ahead = match self.ahead(alloc, size) {
+            Ok(ahead) => ahead,
+            Err(fault) => return Err(fault),
+        };
         let cells = ahead.cells;
         match claimed(alloc, net, size, &ahead.parts, cells)? {
             Ok(certified) => {

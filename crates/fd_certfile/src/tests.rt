@@ -1,7 +1,14 @@
 // A certificate that an independent exact model wrote, whole and with one line changed, with its answers.
+ghost use Rattle.std.specs.Prelude.{◌≡◌, [], IfOk};
+
 use crate::{CertFileFault, CertReader, Claimed, Rule};
-use fd_settle::Act;
+use fd_arith::Term;
+use fd_equations::{Layout, Network, Rows};
+use fd_inject::Limits;
+use fd_settle::{Act, Solver};
+use fd_system::Constant;
 use std::alloc::{AllocError, Global};
+use std::process::Abort;
 
 const LINES: [&str; 21] = [
     "cert 1",
@@ -124,6 +131,93 @@ fn refuses_lines(rt: HostRuntime) -> Result<(), CertFileFault> {
     ] {
         let text = with_line(alloc, at, line)?;
         assert!(rt; refusal(alloc, &text)? == want);
+    }
+    Ok(())
+}
+
+const CONSTANTS: [Constant; 1] = [Constant {
+    row: 0,
+    value: -100_000_000,
+}];
+
+// A siemens from a node to ground.
+fn siemens(alloc: Global) -> Result<Rows, AllocError>
+    ensures size { IfOk result (λ r. r.size ≡ 2) }
+    ensures loads { IfOk result (λ r. r.loads ≡ []) }
+{
+    let terms = vec![in alloc;
+        Term {
+            row: 0,
+            col: 0,
+            num: 1,
+            den: 1
+        },
+        Term {
+            row: 1,
+            col: 1,
+            num: 1,
+            den: 1
+        },
+    ]?;
+    Rows::of(alloc, 2, terms, Vec::new(alloc))
+}
+
+// It takes 100 ampere: 100 volt.
+fn network<'a>(rows: &'a Rows, rt: &impl Abort) -> Network<'a>
+    requires size { rows.now.size ≡ 2 }
+    requires loads { rows.now.loads ≡ [] }
+{
+    assert!(rt; rows.are_within());
+    let layout = Layout {
+        nodes: 1,
+        branches: 0,
+        magnitudes: 0,
+    };
+    Network::new(layout, rows, &CONSTANTS, 0)
+}
+
+// The centre of the first unknown in a certificate of this network with these lines of unknowns, or the refusal; and
+// the blocks that were given.
+fn solved(
+    alloc: Global,
+    rt: &impl Abort,
+    first: &str,
+    second: &str,
+) -> Result<((i128, u64, Option<Rule>), u64), CertFileFault> {
+    let mut text = String::new(alloc);
+    text.push_str("cert 1\nsolution 1 0 0 2\n")?;
+    text.push_str(first)?;
+    text.push_str(second)?;
+    text.push_str("c 0 1099511627776 0\nc 1 0 1099511627776\nend\n")?;
+    let rows = siemens(alloc)?;
+    let net = network(&rows, rt);
+    let limits = Limits {
+        max_iterations: 15,
+        tolerance: 100_000,
+    };
+    let mut reader = CertReader::open(alloc, text.as_bytes())?;
+    let answer = match reader.solve(alloc, &net, &limits) {
+        Ok(certified) => match certified.ball.centre.first() {
+            Some(centre) => (*centre, 0, None),
+            None => (0, 0, None),
+        },
+        Err(CertFileFault::Refused { line, rule }) => (0, line, Some(rule)),
+        Err(CertFileFault::NoMemory) => return Err(CertFileFault::NoMemory),
+    };
+    Ok((answer, reader.given()))
+}
+
+#[test]
+fn solves(rt: HostRuntime) -> Result<(), CertFileFault> {
+    let alloc = rt.alloc();
+    let second = "x 1 0 2001 0\n";
+    for (first, second, want) in [
+        ("x 0 100001000 2001 1000\n", second, ((100001000, 0, None), 1)),
+        ("x 0 100001000 -2001 1000\n", second, ((0, 3, Some(Rule::Range)), 0)),
+        ("x 0 100001000 2001 -1\n", second, ((0, 3, Some(Rule::Mismatch)), 0)),
+        ("x 0 100001000 2001 1000\n", "x 1 0 2000 0\n", ((0, 4, Some(Rule::Radius)), 0)),
+    ] {
+        assert!(rt; solved(alloc, &rt, first, second)? == want);
     }
     Ok(())
 }
