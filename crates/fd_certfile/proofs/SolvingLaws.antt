@@ -96,10 +96,10 @@ module _ (v : NetworkView) (r : ReaderView) where
   unfolding solved_of
   solved_by o h = ap (by_claim v r) h
 
-  pub ended : starts_with_end r.lines ≡ true → solved_of v r ≡ Err (r.line, Count)
+  ended : starts_with_end r.lines ≡ true → solved_of v r ≡ Err (r.line, Count)
   ended e = solved_by (Err (r.line, Count)) (next_by true (block_at r.version r.lines) e refl)
 
-  pub not_read : (k : ℕ) → RefusedBehind r.version r.lines k → solved_of v r ≡ Err (r.line + k, Grammar)
+  not_read : (k : ℕ) → RefusedBehind r.version r.lines k → solved_of v r ≡ Err (r.line + k, Grammar)
   not_read k h =
       solved_by (Err (r.line + (length r.lines - length h.rest), Grammar)) (next_by false (Err h.rest) (no_end_starts r.lines h.no_end) h.refused)
       ∙ ap (λ (n : ℕ). Err (r.line + n, Grammar)) (omega (arith, h.behind))
@@ -145,32 +145,38 @@ module _ (v : NetworkView) (r : ReaderView) where
           rule_is = ap (λ (p : ℕ × Rule). p.1) same;
         }
 
-    pub breaks : (line : ℕ) (rule : Rule) (sampled : Ball → Sampled) → solved_of v r ≡ Err (line, rule) → Breaks line rule sampled
+    breaks : (line : ℕ) (rule : Rule) (sampled : Ball → Sampled) → solved_of v r ≡ Err (line, rule) → Breaks line rule sampled
     breaks line rule sampled h = by_number (is_numbered r.number r.hour r.round v.size b) line rule sampled refl h
 
-err_is : (a b : ℕ) (p q : Rule) (o : Result (Block × ReaderView) (ℕ × Rule)) → o ≡ Err (a, p) → o ≡ Err (b, q) → (a, p) ≡ (b, q)
-err_is a b p q o e f = let both : Err (a, p) ≡ Err (b, q) = sym e ∙ f in cc
+err_is : (x y : ℕ × Rule) (o : Result (Block × ReaderView) (ℕ × Rule)) → o ≡ Err x → o ≡ Err y → x ≡ y
+err_is x y o e f = let both = sym e ∙ f in cc
+
+not_ok : (x : ℕ × Rule) (p : Block × ReaderView) (o : Result (Block × ReaderView) (ℕ × Rule)) → o ≡ Err x → o ≡ Ok p → ⊥
+not_ok x p o e f = let both = sym e ∙ f in cc
 
 module _ {S F : Type 0} (due : S → Due F) (after : S → Block → S) where
-  refused_same : (a b : ℕ) (p q : Rule) → (a, p) ≡ (b, q) → refused {F = F} a p ≡ refused b q
-  refused_same a b p q e = ap (λ (k : ℕ × Rule). refused k.0 k.1) e
+  abbrev refused_at : ℕ × Rule → Answer F
+  refused_at k = refused k.0 k.1
+
+  refused_same : (x y : ℕ × Rule) → x ≡ y → refused_at x ≡ refused_at y
+  refused_same x y e = ap refused_at e
 
   refused_so : (v : NetworkView) (r : ReaderView) (line : ℕ) (rule : Rule) (c : Certificate) (sampled : Ball → Sampled) (s : S) (count : ℕ)
       → solved_of v r ≡ Err (line, rule) → Reads r.version r.lines c → due s ≡ asks (judge_in v r sampled)
       → verdict due after r.line count c s ≡ refused line rule
   refused_so v r line rule ends sampled s count h reads d =
       ap (λ (x : Due F). by_due x (accepted count) (λ judge. refused r.line Count)) d
-      ∙ refused_same r.line line Count rule (err_is r.line line Count rule (solved_of v r) (ended v r (ap starts_with_end reads)) h)
+      ∙ refused_same (r.line, Count) (line, rule) (err_is (r.line, Count) (line, rule) (solved_of v r) (ended v r (ap starts_with_end reads)) h)
   refused_so v r line rule trails sampled s count h reads d =
       ap (λ (x : Due F). by_due x (refused (r.line + 1) Grammar) (λ judge. refused r.line Count)) d
-      ∙ refused_same r.line line Count rule (err_is r.line line Count rule (solved_of v r) (ended v r (ap starts_with_end reads.2)) h)
+      ∙ refused_same (r.line, Count) (line, rule) (err_is (r.line, Count) (line, rule) (solved_of v r) (ended v r (ap starts_with_end reads.2)) h)
   refused_so v r line rule (refuses zero) sampled s count h reads d =
       ap (λ (x : Due F). by_due x (refused r.line Grammar) (λ judge. refused r.line Grammar)) d
       ∙ ap (λ (n : ℕ). refused n Grammar) (omega arith)
-      ∙ refused_same (r.line + 0) line Grammar rule (err_is (r.line + 0) line Grammar rule (solved_of v r) (not_read v r 0 reads) h)
+      ∙ refused_same (r.line + 0, Grammar) (line, rule) (err_is (r.line + 0, Grammar) (line, rule) (solved_of v r) (not_read v r 0 reads) h)
   refused_so v r line rule (refuses (suc k)) sampled s count h reads d =
       ap (λ (x : Due F). by_due x (refused r.line Count) (λ judge. refused (r.line + suc k) Grammar)) d
-      ∙ refused_same (r.line + suc k) line Grammar rule (err_is (r.line + suc k) line Grammar rule (solved_of v r) (not_read v r (suc k) reads) h)
+      ∙ refused_same (r.line + suc k, Grammar) (line, rule) (err_is (r.line + suc k, Grammar) (line, rule) (solved_of v r) (not_read v r (suc k) reads) h)
   refused_so v r line rule (gives b more) sampled s count h reads d =
       let k = breaks v r b reads.0 reads.1 line rule sampled h in
       ap (λ (x : Due F). by_due x (refused r.line Count) (λ judge. unless_broken r.line b (first_broken judge b) (verdict due after (r.line + lines_count b) (count + 1) more (after s b)))) d
@@ -192,12 +198,9 @@ module _ {S F : Type 0} (due : S → Due F) (after : S → Block → S) where
   solved : (v : NetworkView) (r : ReaderView) (b : Block) (w : ReaderView) (c : Certificate) (sampled : Ball → Sampled) (s : S) (count : ℕ)
       → solved_of v r ≡ Ok (b, w) → Reads r.version r.lines c → due s ≡ asks (judge_in v r sampled)
       → ComesAfter due after v r b w c sampled s count
-  solved v r b w ends sampled s count h reads d =
-      let both : Err (r.line, Count) ≡ Ok (b, w) = sym (ended v r (ap starts_with_end reads)) ∙ h in let no : ⊥ = cc in absurd no
-  solved v r b w trails sampled s count h reads d =
-      let both : Err (r.line, Count) ≡ Ok (b, w) = sym (ended v r (ap starts_with_end reads.2)) ∙ h in let no : ⊥ = cc in absurd no
-  solved v r b w (refuses k) sampled s count h reads d =
-      let both : Err (r.line + k, Grammar) ≡ Ok (b, w) = sym (not_read v r k reads) ∙ h in let no : ⊥ = cc in absurd no
+  solved v r b w ends sampled s count h reads d = absurd (not_ok (r.line, Count) (b, w) (solved_of v r) (ended v r (ap starts_with_end reads)) h)
+  solved v r b w trails sampled s count h reads d = absurd (not_ok (r.line, Count) (b, w) (solved_of v r) (ended v r (ap starts_with_end reads.2)) h)
+  solved v r b w (refuses k) sampled s count h reads d = absurd (not_ok (r.line + k, Grammar) (b, w) (solved_of v r) (not_read v r k reads) h)
   solved v r b w (gives e more) sampled s count h reads d =
       let g = given_law v r b w h in
       let both : Ok (e, reads.0) ≡ Ok (b, g.rest) = sym reads.1 ∙ g.block in
