@@ -237,3 +237,32 @@ block_refused v (state p c r m ∷ lines) rest e = at_once v (state p c r m ∷ 
 block_refused v (row fields ∷ lines) rest e = at_once v (row fields ∷ lines) rest tt e
 block_refused v (end ∷ lines) rest e = at_once v (end ∷ lines) rest tt e
 block_refused v (other ∷ lines) rest e = at_once v (other ∷ lines) rest tt e
+
+-- ---- where a refused line stands
+
+-- behind a solution line
+pub solution_kept : (v : Version) (number hour round size : ℤ) (lines rest : List Line)
+    → block_at v (solution number hour round size ∷ lines) ≡ Err rest → length rest ≤ length lines
+unfolding block_at
+solution_kept v number hour round size lines rest e =
+    let n = count_of size in
+    let rows_then : List Part → List (List ℤ) × List Line → Result (Block × List Line) (List Line) = λ parts rows. let
+    acts = acts_at rows.1 in Ok
+    (record { number = number; hour = hour; round = round; size = size; parts = parts; inverse = rows.0; acts = acts.0 }, acts.1)
+    in
+    bind_err (numbered_at part_at n 0 lines) (λ parts. numbered_at (row_at v n) n 0 parts.1 >>= λ rows. rows_then parts.0 rows) rest _ e
+    (λ failed.
+    let k = numbered_refused part_at part_line Anything part_again part_found n 0 lines rest failed in
+    omega (arith, ap length k.lines_are, length-append (numbered_lines part_line 0 k.xs) rest))
+    (λ parts done f.
+    let found = numbered_found part_at part_line Anything part_found n 0 lines parts done in
+    bind_err (numbered_at (row_at v n) n 0 parts.1) (rows_then parts.0) rest _ f
+    (λ failed.
+    let k = numbered_refused (row_at v n) (row_line v) (IsWide n) (row_line_again v n) (row_line_found v n) n 0 parts.1 rest failed in
+    omega
+    (arith, ap length found.0, length-append (numbered_lines part_line 0 parts.0) parts.1, ap length k.lines_are, length-append (numbered_lines (row_line v) 0 k.xs) rest))
+    (λ rows made g. made_ok _ rest _ g))
+
+-- else it is the first
+pub first_kept : (v : Version) (lines rest : List Line) → IsNoSolution lines → block_at v lines ≡ Err rest → lines ≡ rest
+first_kept v lines rest h e = same_err (no_solution v lines h) e

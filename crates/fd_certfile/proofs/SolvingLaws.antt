@@ -3,15 +3,16 @@ use Rattle.std.proofs.Common.{◌≡◌, ℕ, zero, suc, ◌+◌, ◌-◌, Bool,
 use Rattle.fd_equations.specs.Views.{NetworkView}
 use Rattle.fd_cert.specs.declared.rule.Rule.{Rule}
 use Rattle.fd_cert.specs.declared.rule.Rule.TheVariants.{Bound, Count, Grammar, Mismatch, Radius, Range, Size}
-use Rattle.fd_certfile.specs.Blocks.{Block, block_at}
+use Rattle.fd_certfile.specs.Blocks.{Block, Version, block_at}
 use Rattle.fd_certfile.specs.Certificates.{Certificate, IsNoEnd, Reads, RefusedBehind, ends, gives, lines_count, refuses, trails}
 use Rattle.fd_certfile.specs.Lines.{Line, header, solution, state, row, act, end, other}
-use Rattle.fd_certfile.specs.Reader.{ReaderView, behind, by_head, next_of, starts_with_end, unless_other}
+use Rattle.fd_certfile.specs.Reader.{ReaderView, behind, by_head, finish_of, finished, next_of, starts_with_end, unless_other}
 use Rattle.fd_certfile.specs.Rules.{Ball, Broken, Judge, Sampled, act_rules, at_solution, claim_of, claim_rules, first_broken, first_some, is_due, is_in_range, is_mismatch, is_numbered, is_radius, line_at, unless, unless_at}
 use Rattle.fd_certfile.specs.Solving.{by_claim, judge_in, no_acts, solved_of, unless_unsound}
-use Rattle.fd_certfile.specs.SolvingLaws.{ComesAfter, GivenLaw, SolvingLaw}
-use Rattle.fd_certfile.specs.Verdict.{Answer, Due, accepted, asks, by_due, refused, unless_broken, verdict}
+use Rattle.fd_certfile.specs.SolvingLaws.{ComesAfter, GivenLaw, SolvingLaw, answer_of}
+use Rattle.fd_certfile.specs.Verdict.{Answer, Due, accepted, asks, by_due, complete, refused, unless_broken, verdict}
 use Rattle.fd_certfile.proofs.Blocks.{block_found}
+use Rattle.fd_certfile.proofs.Refused.{first_kept, solution_kept}
 use Rattle.fd_certfile.proofs.Solving.{next_given, sized}
 
 -- ---- the first rule of two lists
@@ -154,6 +155,28 @@ err_is x y o e f = let both = sym e ∙ f in cc
 not_ok : (x : ℕ × Rule) (p : Block × ReaderView) (o : Result (Block × ReaderView) (ℕ × Rule)) → o ≡ Err x → o ≡ Ok p → ⊥
 not_ok x p o e f = let both = sym e ∙ f in cc
 
+-- ---- what is finished
+
+at_other : (v : Version) (lines : List Line) (line n : ℕ) → RefusedBehind v lines zero → finished lines line n ≡ Err (line, Grammar)
+at_other v [] line n h = refl
+at_other v (header k ∷ lines) line n h = refl
+at_other v (solution m a k p ∷ lines) line n h = absurd (omega (arith, h.behind, solution_kept v m a k p lines h.rest h.refused))
+at_other v (state p x y m ∷ lines) line n h = refl
+at_other v (row fields ∷ lines) line n h = refl
+at_other v (act t k p ∷ lines) line n h = refl
+at_other v (end ∷ lines) line n h = absurd h.no_end
+at_other v (other ∷ lines) line n h = refl
+
+at_block : (v : Version) (lines : List Line) (line n k : ℕ) → RefusedBehind v lines (suc k) → finished lines line n ≡ Err (line, Count)
+at_block v (solution m a o p ∷ lines) line n k h = refl
+at_block v [] line n k h = absurd (omega (arith, h.behind, ap length (first_kept v [] h.rest tt h.refused)))
+at_block v (header z ∷ lines) line n k h = absurd (omega (arith, h.behind, ap length (first_kept v (header z ∷ lines) h.rest tt h.refused)))
+at_block v (state p x y m ∷ lines) line n k h = absurd (omega (arith, h.behind, ap length (first_kept v (state p x y m ∷ lines) h.rest tt h.refused)))
+at_block v (row fields ∷ lines) line n k h = absurd (omega (arith, h.behind, ap length (first_kept v (row fields ∷ lines) h.rest tt h.refused)))
+at_block v (act t c p ∷ lines) line n k h = absurd (omega (arith, h.behind, ap length (first_kept v (act t c p ∷ lines) h.rest tt h.refused)))
+at_block v (end ∷ lines) line n k h = absurd h.no_end
+at_block v (other ∷ lines) line n k h = absurd (omega (arith, h.behind, ap length (first_kept v (other ∷ lines) h.rest tt h.refused)))
+
 module _ {S F : Type 0} (due : S → Due F) (after : S → Block → S) where
   abbrev refused_at : ℕ × Rule → Answer F
   refused_at k = refused k.0 k.1
@@ -209,5 +232,23 @@ module _ {S F : Type 0} (due : S → Due F) (after : S → Block → S) where
       subst (λ (q : ReaderView). ComesAfter due after v r b q (gives e more) sampled s count) (sym g.reader)
       (subst (λ (p : Block × List Line). ComesAfter due after v r b (behind r b g.rest) (gives p.0 more) sampled s count) (sym pair) (came v r b g.rest more sampled s count (g.holds sampled) left d))
 
+  finishes : (r : ReaderView) (c : Certificate) (s : S) → Reads r.version r.lines c → due s ≡ complete
+      → verdict due after r.line (length r.given) c s ≡ answer_of (finish_of r)
+  finishes r ends s reads d =
+      ap (λ (x : Due F). by_due x (accepted (length r.given)) (λ judge. refused r.line Count)) d
+      ∙ ap (λ (ls : List Line). answer_of (finished ls r.line (length r.given))) (sym reads)
+  finishes r trails s reads d =
+      ap (λ (x : Due F). by_due x (refused (r.line + 1) Grammar) (λ judge. refused r.line Count)) d
+      ∙ ap (λ (ls : List Line). answer_of (finished ls r.line (length r.given))) (sym reads.2)
+  finishes r (refuses zero) s reads d =
+      ap (λ (x : Due F). by_due x (refused r.line Grammar) (λ judge. refused r.line Grammar)) d
+      ∙ ap answer_of (sym (at_other r.version r.lines r.line (length r.given) reads))
+  finishes r (refuses (suc k)) s reads d =
+      ap (λ (x : Due F). by_due x (refused r.line Count) (λ judge. refused (r.line + suc k) Grammar)) d
+      ∙ ap answer_of (sym (at_block r.version r.lines r.line (length r.given) k reads))
+  finishes r (gives b more) s reads d =
+      ap (λ (x : Due F). by_due x (refused r.line Count) (λ judge. unless_broken r.line b (first_broken judge b) (verdict due after (r.line + lines_count b) (length r.given + 1) more (after s b)))) d
+      ∙ ap (λ (ls : List Line). answer_of (finished ls r.line (length r.given))) (sym (block_found r.version r.lines b reads.0 reads.1).lines_are)
+
   pub solving_law : SolvingLaw due after
-  solving_law = record { solved = solved; refused_so = refused_so }
+  solving_law = record { solved = solved; refused_so = refused_so; finishes = finishes }

@@ -1,14 +1,14 @@
 -- Laws of a reader as a solver: what it gives is what the certificate comes to.
-use Rattle.std.specs.Prelude.{◌≡◌, ℕ, ◌+◌, List, None, Ok, Err}
+use Rattle.std.specs.Prelude.{◌≡◌, ℕ, ◌+◌, List, length, None, Result, Ok, Err}
 use Rattle.fd_equations.specs.Views.{NetworkView}
 use Rattle.fd_cert.specs.declared.rule.Rule.{Rule}
 use Rattle.fd_certfile.specs.Lines.{Line}
 use Rattle.fd_certfile.specs.Blocks.{Block, IsSized, block_at}
 use Rattle.fd_certfile.specs.Certificates.{Certificate, Reads, gives}
-use Rattle.fd_certfile.specs.Reader.{ReaderView, behind}
+use Rattle.fd_certfile.specs.Reader.{ReaderView, behind, finish_of}
 use Rattle.fd_certfile.specs.Rules.{Ball, Sampled, act_rules, claim_rules, first_some}
 use Rattle.fd_certfile.specs.Solving.{judge_in, solved_of}
-use Rattle.fd_certfile.specs.Verdict.{Due, asks, refused, unless_broken, verdict}
+use Rattle.fd_certfile.specs.Verdict.{Answer, Due, accepted, asks, complete, refused, unless_broken, verdict}
 
 -- The lines begin with the block that is given, the reader stands behind it, and the rules on what it claims hold, with
 -- whatever samples.
@@ -21,6 +21,11 @@ pub record IsGiven (v : NetworkView) (r : ReaderView) (b : Block) (w : ReaderVie
 
 abbrev pub GivenLaw : Type 0
 GivenLaw = (v : NetworkView) (r : ReaderView) (b : Block) (w : ReaderView) → solved_of v r ≡ Ok (b, w) → IsGiven v r b w
+
+-- the answer that a reader's end is
+abbrev pub answer_of : {F : Type 0} → Result ℕ (ℕ × Rule) → Answer F
+answer_of (Ok count) = accepted count
+answer_of (Err refusal) = refused refusal.0 refusal.1
 
 -- a script, as what is due in each of its states and the state after a block
 module _ {S F : Type 0} (due : S → Due F) (after : S → Block → S) where
@@ -44,3 +49,7 @@ module _ {S F : Type 0} (due : S → Due F) (after : S → Block → S) where
         (sampled : Ball → Sampled) (s : S) (count : ℕ)
         → solved_of v r ≡ Err (line, rule) → Reads r.version r.lines c → due s ≡ asks (judge_in v r sampled)
         → verdict due after r.line count c s ≡ refused line rule
+    -- where no further block is due it comes to what the reader finishes with
+    pub finishes : (r : ReaderView) (c : Certificate) (s : S)
+        → Reads r.version r.lines c → due s ≡ complete
+        → verdict due after r.line (length r.given) c s ≡ answer_of (finish_of r)
