@@ -199,13 +199,13 @@ module _ (v : NetworkView) (number hour round : ℕ) (sampled : Ball → Sampled
       ap (λ (t : Bool). first_some (unless Size at_solution t ∷ unless_at Range v.size (is_in_range b) ∷ second)) due
       ∙ ap (λ (o : Option ℕ). first_some (broken_by Range o ∷ second)) range_is
       ∙ step Range _ second (first_at_point v x (radii_read b) (mismatches_read b) b.inverse) (λ in_range.
-          ap (λ (o : Option ℕ). first_some (broken_by Mismatch o ∷ third)) mismatch_is
-          ∙ step Mismatch _ third _ (λ true_ones.
-              ap (λ (o : Option ℕ). first_some (broken_by Bound o ∷ last)) (bound_is true_ones)
-              ∙ step Bound _ last _ (λ certain.
-                  ap (λ (o : Option ℕ). first_some (broken_by Radius o ∷ [])) (radius_is true_ones in_range)
-                  ∙ step Radius _ [] None (λ wide. refl)))
-          ∙ sym (ap (option_map at_place) at_point))
+      ap (λ (o : Option ℕ). first_some (broken_by Mismatch o ∷ third)) mismatch_is
+      ∙ step Mismatch _ third _ (λ true_ones.
+      ap (λ (o : Option ℕ). first_some (broken_by Bound o ∷ last)) (bound_is true_ones)
+      ∙ step Bound _ last _ (λ certain.
+      ap (λ (o : Option ℕ). first_some (broken_by Radius o ∷ [])) (radius_is true_ones in_range)
+      ∙ step Radius _ [] None (λ wide. refl)))
+      ∙ sym (ap (option_map at_place) at_point))
       ∙ sym (ap (option_map at_place) past_size)
 
   -- where no rule is broken no number is below 0

@@ -212,10 +212,26 @@ fn solves(rt: HostRuntime) -> Result<(), CertFileFault> {
     let alloc = rt.alloc();
     let second = "x 1 0 2001 0\n";
     for (first, second, want) in [
-        ("x 0 100001000 2001 1000\n", second, ((100001000, 0, None), 1)),
-        ("x 0 100001000 -2001 1000\n", second, ((0, 3, Some(Rule::Range)), 0)),
-        ("x 0 100001000 2001 -1\n", second, ((0, 3, Some(Rule::Mismatch)), 0)),
-        ("x 0 100001000 2001 1000\n", "x 1 0 2000 0\n", ((0, 4, Some(Rule::Radius)), 0)),
+        (
+            "x 0 100001000 2001 1000\n",
+            second,
+            ((100001000, 0, None), 1),
+        ),
+        (
+            "x 0 100001000 -2001 1000\n",
+            second,
+            ((0, 3, Some(Rule::Range)), 0),
+        ),
+        (
+            "x 0 100001000 2001 -1\n",
+            second,
+            ((0, 3, Some(Rule::Mismatch)), 0),
+        ),
+        (
+            "x 0 100001000 2001 1000\n",
+            "x 1 0 2000 0\n",
+            ((0, 4, Some(Rule::Radius)), 0),
+        ),
     ] {
         assert!(rt; solved(alloc, &rt, first, second)? == want);
     }
