@@ -1,5 +1,5 @@
 -- Sums over lists of short entries.
-use Rattle.std.proofs.Common.{◌≡◌, ◌≢◌, ◌∙◌, ℕ, zero, suc, ◌+◌, ◌*◌, ◌<◌, ◌≤◌, ◌^◌, ℤ, pos, ◌+ℤ◌, ◌*ℤ◌, nat_abs, Bool, true, false, cond, eqb, List, [], ◌∷◌, ◌++◌, map, length, take, get_or, set, Some, to_z, of_z, arith, ap, refl, sym, subst, inl, inr}
+use Rattle.std.proofs.Common.{◌≡◌, ◌≢◌, ◌∙◌, ℕ, zero, suc, ◌+◌, ◌*◌, ◌<◌, ◌≤◌, ◌^◌, ℤ, pos, ◌+ℤ◌, ◌*ℤ◌, nat_abs, Bool, true, false, cond, eqb, List, [], ◌∷◌, ◌++◌, map, length, take, get_or, set, Some, to_z, of_z, FitsSigned, arith, ap, refl, sym, subst, inl, inr}
 use Rattle.std.proofs.Math.Nat.{mul-le-mul}
 use Rattle.std.proofs.lemmas.Bool.{cases_eq, cases_lt, eq-eqb, ne_eqb}
 use Rattle.std.specs.Int.{w128}
@@ -161,6 +161,12 @@ sum_value s t p k e small h few =
     let both : nat_abs (s +ℤ p) ≤ 2 ^ 126 + 2 ^ 104 = omega (arith, ints) in
     (λ i. to_z w128 (of_z w128 (kept_by s wide i +ℤ (ap (λ z. to_z w128 (of_z w128 z)) e ∙ kept_by p (omega arith)) i)))
     ∙ to_z-of_z w128 (s +ℤ p) (fits_signed_from_abs w128 (s +ℤ p) (omega arith))
+
+-- it fits
+pub sum_room : (s t : ℤ) (k : ℕ) → nat_abs t ≤ 2 ^ 104 → nat_abs s ≤ k * 2 ^ 104 → k ≤ 2 ^ 22 → FitsSigned w128 (to_z w128 (of_z w128 s) +ℤ to_z w128 (of_z w128 t))
+sum_room s t k small h few =
+    let wide : nat_abs s ≤ 2 ^ 126 = omega arith in
+    rw (kept_by s wide, kept_by t (omega arith)) (fits_signed_from_abs w128 (s +ℤ t) (omega (arith, ints)))
 
 pub added_all : (factors : List ℤ) (es : List Entry) (old new : List ℤ) (k : ℕ) → length es ≤ k → AreAdded factors es old new k → (j : ℕ) → part new j ≡ list_z (entry_term (part factors) j) es
 added_all factors es old new k l h j = h.sums j ∙ ap (list_z (entry_term (part factors) j)) (take_all k es l)

@@ -31,6 +31,10 @@ weighted_total n ws zs = sum_n (λ j. nat_abs (part ws j) * nat_abs (part zs j))
 abbrev pub sizes_total : ℕ → List ℤ → List ℕ → ℕ
 sizes_total n row numbers = sum_n (λ l. nat_abs (part row l) * number_at numbers l) n
 
+-- each number is at most 2^71
+abbrev pub AreLight : List ℕ → Type 0
+AreLight numbers = (l : ℕ) → l < length numbers → number_at numbers l ≤ 2 ^ 71
+
 -- for each of n rows its radii by weight
 pub record AreWeighted (n : ℕ) (R : ℕ → ℕ → ℕ) (w : ℕ → ℕ) (rows : List ℕ) : Type 0 where
   pub long : length rows ≡ n

@@ -4,7 +4,7 @@
 // by weight are made once for all rows of the inverse, and a row of the inverse meets each of these once. No summand is
 // negative, so no part of the sum passes 2^120 unless the whole does, and the order of summing changes neither the
 // bound nor where there is none.
-ghost use Rattle.std.specs.Prelude.{◌≡◌, ℕ, ◌+◌, ◌*◌, ◌<◌, ◌≤◌, ◌^◌, ℤ, pos, ◌≤ℤ◌, ◌-ℤ◌, nat_abs, set, IfOk, IfSome, length};
+ghost use Rattle.std.specs.Prelude.{◌≡◌, ℕ, ◌+◌, ◌*◌, ◌<◌, ◌≤◌, ◌^◌, ℤ, pos, ◌≤ℤ◌, ◌-ℤ◌, nat_abs, set, true, IfOk, IfSome, length, Some, []};
 ghost use Rattle.fd_exact.specs.States.{entry, part};
 ghost use Rattle.fd_exact.specs.Sums.{list_n};
 ghost use Rattle.fd_arith.specs.Limits.{within};
@@ -14,11 +14,14 @@ ghost use Rattle.fd_enclosure.specs.Bounds.{bound_at};
 ghost use Rattle.fd_mat.specs.Rows.{EntriesWithin};
 ghost use Rattle.fd_cert.specs.Slopes.{AreSlopes, HasRadii, HasSlopes};
 ghost use Rattle.fd_cert.specs.Entries.{IsFlatOf};
-ghost use Rattle.fd_cert.specs.Columns.{AreColumns, AreUnits, HasWeights, IsMade, IsRowOfInverse};
-ghost use Rattle.fd_cert.specs.Totals.{AreShortWeights, AreWeighted, IsTotal, IsUpTo, sizes_total, weighted_total};
+ghost use Rattle.fd_cert.specs.Columns.{AreColumns, AreUnits, HasEntries, HasWeights, IsMade, IsRowOfInverse, column_sum};
+ghost use Rattle.fd_cert.specs.Totals.{AreLight, AreShortWeights, AreWeighted, IsTotal, IsUpTo, sizes_total, weighted_total};
 
+use crate::flat::{Entry, add_entries_of_two};
 use crate::sums::{Walk, clear};
-use crate::totals::{PAST, plus_entry, plus_product, plus_weighted, short_weight, up_to_limit};
+use crate::totals::{
+    PAST, entry_product, plus_entry, plus_product, plus_weighted, short_weight, up_to_limit,
+};
 use fd_arith::Wide;
 use fd_equations::{Cell, Matrix};
 use fd_mat::Dense;
@@ -28,6 +31,9 @@ use std::alloc::{AllocError, Global};
 const ONE: i128 = 0x1_0000_0000_0000_0000_0000;
 
 const BOUND_UNITS: i128 = 0x100_0000_0000;
+
+// The greatest light number, 2^71.
+const LIGHT: u128 = 0x80_0000_0000_0000_0000;
 
 // The weights in 64 bits; 0 stands for one above 2^40.
 pub fn short_weights(alloc: Global, weights: &[i128]) -> Result<Vec<u64>, AllocError>
@@ -60,12 +66,7 @@ fn sizes_by_weight(numbers: &[i128], weights: &[i128], shorts: &[u64]) -> Option
 {
     let mut total = 0;
     for col in 0..numbers.len() {
-        match plus_weighted(
-            total,
-            weights[col],
-            shorts[col],
-            numbers[col].unsigned_abs(),
-        ) {
+        match plus_weighted(total, weights[col], shorts[col], numbers[col]) {
             Some(next) => total = next,
             None => return None,
         }
@@ -90,6 +91,38 @@ fn plus_sizes(total: u128, factors: &[i128], numbers: &[u128]) -> Option<u128>
         }
     }
     Some(sum)
+}
+
+// Whether each number is at most 2^71: its product with the size of an entry of the inverse is then at most 2^127.
+pub fn are_light(numbers: &[u128]) -> bool
+    ensures { result ≡ true → AreLight numbers.now }
+{
+    for number in numbers {
+        if *number > LIGHT {
+            return false;
+        }
+    }
+    true
+}
+
+// The same as `plus_sizes` for light numbers: on the way only what passes 128 bits is tested.
+//
+// Never inlined, for the same reason.
+#[inline(never)]
+fn plus_light_sizes(total: u128, factors: &[i128], numbers: &[u128]) -> Option<u128>
+    requires total { total ≤ 2 ^ 120 }
+    requires factors { IsRowOfInverse (length numbers.now) factors.now }
+    requires light { AreLight numbers.now }
+    ensures { IsTotal (total + sizes_total (length numbers.now) factors.now numbers.now) result }
+{
+    let mut sum = total;
+    for row in 0..numbers.len() {
+        match sum.checked_add(entry_product(factors[row], numbers[row])) {
+            Some(next) => sum = next,
+            None => return None,
+        }
+    }
+    up_to_limit(sum)
 }
 
 // The entries of a row, each size times the weight of its column, added up; a number above 2^120 where that passes it.
@@ -127,11 +160,12 @@ pub fn rows_by_weight(
 }
 
 // The Jacobian at a point in units of 2^-40, for each of its rows the radii of its slopes by weight, and the weight of
-// each unknown, also in 64 bits where it is short.
+// each unknown, also in 64 bits where it is short. `light` where the radii by weight are light.
 #[derive(Drop)]
 pub struct Slopes<'a, 'b> {
     pub jacobian: Walk<'a>,
     pub radii: Vec<u128>,
+    pub light: bool,
     pub weights: &'b [i128],
     pub shorts: Vec<u64>,
 }
@@ -140,6 +174,7 @@ pub struct Slopes<'a, 'b> {
 fn bound(slopes: &Slopes, row: u32, factors: &[i128], sums: &mut [i128]) -> Option<i128>
     requires slopes { AreSlopes slopes.now.jacobian.matrix.now slopes.now.radii.items slopes.now.weights.now }
     requires shorts { AreShortWeights slopes.now.weights.now slopes.now.shorts.items }
+    requires light { slopes.now.light ≡ true → AreLight slopes.now.radii.items }
     requires jacobian { IfSome slopes.now.jacobian.entries (λ es. IsFlatOf slopes.now.jacobian.matrix.now es.items) }
     requires row { row < slopes.now.jacobian.matrix.now.size }
     requires factors { IsRowOfInverse slopes.now.jacobian.matrix.now.size factors.now }
@@ -151,6 +186,22 @@ fn bound(slopes: &Slopes, row: u32, factors: &[i128], sums: &mut [i128]) -> Opti
     if slopes.jacobian.sums(sums, factors).is_some() {
         return None;
     }
+    bound_of_sums(slopes, row, factors, sums)
+}
+
+// The bound of a row with these factors from the sums of the Jacobian's columns, each row times its factor.
+fn bound_of_sums(slopes: &Slopes, row: u32, factors: &[i128], sums: &mut [i128]) -> Option<i128>
+    requires slopes { AreSlopes slopes.now.jacobian.matrix.now slopes.now.radii.items slopes.now.weights.now }
+    requires shorts { AreShortWeights slopes.now.weights.now slopes.now.shorts.items }
+    requires light { slopes.now.light ≡ true → AreLight slopes.now.radii.items }
+    requires row { row < slopes.now.jacobian.matrix.now.size }
+    requires factors { IsRowOfInverse slopes.now.jacobian.matrix.now.size factors.now }
+    requires long { length sums.old ≡ slopes.now.jacobian.matrix.now.size }
+    requires units { AreUnits sums.old }
+    requires sums { (J : ℕ → ℕ → ℤ) → HasEntries slopes.now.jacobian.matrix.now J → (j : ℕ) → j < slopes.now.jacobian.matrix.now.size → column_sum (part factors.now) J j slopes.now.jacobian.matrix.now.size ≡ Some (part sums.old j) }
+    ensures long { length sums.new ≡ length sums.old }
+    ensures bound { (J : ℕ → ℕ → ℤ) (R : ℕ → ℕ → ℕ) (w : ℕ → ℕ) → HasSlopes slopes.now.jacobian.matrix.now slopes.now.radii.items slopes.now.weights.now J R w → result ≡ bound_at slopes.now.jacobian.matrix.now.size (λ _. part factors.now) J R w row }
+{
     take_unit(sums, row as usize);
     let total = row_total(slopes, factors, sums);
     over_weight(total, slopes.weights[row as usize])
@@ -161,10 +212,12 @@ fn row_total(slopes: &Slopes, factors: &[i128], left: &[i128]) -> Option<u128>
     requires few { length left.now ≤ 2 ^ 11 }
     requires weights { length slopes.now.weights.now ≡ length left.now }
     requires shorts { AreShortWeights slopes.now.weights.now slopes.now.shorts.items }
+    requires light { slopes.now.light ≡ true → AreLight slopes.now.radii.items }
     requires factors { IsRowOfInverse (length slopes.now.radii.items) factors.now }
     ensures { IsTotal (weighted_total (length left.now) slopes.now.weights.now left.now + sizes_total (length slopes.now.radii.items) factors.now slopes.now.radii.items) result }
 {
     match sizes_by_weight(left, slopes.weights, &slopes.shorts) {
+        Some(total) if slopes.light => plus_light_sizes(total, factors, &slopes.radii),
         Some(total) => plus_sizes(total, factors, &slopes.radii),
         None => None,
     }
@@ -185,6 +238,75 @@ fn over_weight(total: Option<u128>, weight: i128) -> Option<i128>
     }
 }
 
+// The bounds of two rows with these factors, both rows of the inverse, where the Jacobian's entries are short. Both
+// lists of sums are as long as a row, and written anew.
+fn two_bounds(
+    slopes: &Slopes,
+    entries: &[Entry],
+    row: u32,
+    first: &[i128],
+    second: &[i128],
+    sums: &mut [i128],
+    others: &mut [i128],
+) -> (Option<i128>, Option<i128>)
+    requires slopes { AreSlopes slopes.now.jacobian.matrix.now slopes.now.radii.items slopes.now.weights.now }
+    requires shorts { AreShortWeights slopes.now.weights.now slopes.now.shorts.items }
+    requires light { slopes.now.light ≡ true → AreLight slopes.now.radii.items }
+    requires entries { IsFlatOf slopes.now.jacobian.matrix.now entries.now }
+    requires row { row + 1 < slopes.now.jacobian.matrix.now.size }
+    requires first { IsRowOfInverse slopes.now.jacobian.matrix.now.size first.now }
+    requires second { IsRowOfInverse slopes.now.jacobian.matrix.now.size second.now }
+    requires sums { length sums.old ≡ slopes.now.jacobian.matrix.now.size }
+    requires others { length others.old ≡ slopes.now.jacobian.matrix.now.size }
+    ensures sums { length sums.new ≡ length sums.old }
+    ensures others { length others.new ≡ length others.old }
+    ensures first { (J : ℕ → ℕ → ℤ) (R : ℕ → ℕ → ℕ) (w : ℕ → ℕ) → HasSlopes slopes.now.jacobian.matrix.now slopes.now.radii.items slopes.now.weights.now J R w → result.0 ≡ bound_at slopes.now.jacobian.matrix.now.size (λ _. part first.now) J R w row }
+    ensures second { (J : ℕ → ℕ → ℤ) (R : ℕ → ℕ → ℕ) (w : ℕ → ℕ) → HasSlopes slopes.now.jacobian.matrix.now slopes.now.radii.items slopes.now.weights.now J R w → result.1 ≡ bound_at slopes.now.jacobian.matrix.now.size (λ _. part second.now) J R w (row + 1) }
+{
+    // read for its bound alone
+    let _size = slopes.jacobian.size();
+    clear(sums);
+    clear(others);
+    add_entries_of_two(sums, others, entries, first, second);
+    let bound = bound_of_sums(slopes, row, first, sums);
+    (bound, bound_of_sums(slopes, row + 1, second, others))
+}
+
+// Adds the bounds of the rows by twos where the Jacobian's entries are short. Gives how many rows have theirs.
+fn push_by_twos(
+    alloc: Global,
+    bounds: &mut Vec<Option<i128>>,
+    slopes: &Slopes,
+    inverse: &Dense,
+    sums: &mut [i128],
+) -> Result<u32, AllocError>
+    requires slopes { AreSlopes slopes.now.jacobian.matrix.now slopes.now.radii.items slopes.now.weights.now }
+    requires shorts { AreShortWeights slopes.now.weights.now slopes.now.shorts.items }
+    requires light { slopes.now.light ≡ true → AreLight slopes.now.radii.items }
+    requires jacobian { IfSome slopes.now.jacobian.entries (λ es. IsFlatOf slopes.now.jacobian.matrix.now es.items) }
+    requires size { length inverse.now ≡ slopes.now.jacobian.matrix.now.size }
+    requires entries { EntriesWithin inverse.now (2 ^ 56) }
+    requires sums { length sums.old ≡ slopes.now.jacobian.matrix.now.size }
+    requires none { bounds.old.items ≡ [] }
+    ensures sums { length sums.new ≡ length sums.old }
+    ensures few { IfOk result (λ done. done ≤ slopes.now.jacobian.matrix.now.size) }
+    ensures bounds { IfOk result (λ done. (J : ℕ → ℕ → ℤ) (R : ℕ → ℕ → ℕ) (w : ℕ → ℕ) → HasSlopes slopes.now.jacobian.matrix.now slopes.now.radii.items slopes.now.weights.now J R w → bounds.new.items ≡ list_of done (bound_at slopes.now.jacobian.matrix.now.size (entry inverse.now) J R w)) }
+{
+    let Some(entries) = &slopes.jacobian.entries else {
+        return Ok(0);
+    };
+    let size = slopes.jacobian.size();
+    let mut others = vec![in alloc; 0; size as usize]?;
+    for pair in 0..size / 2 {
+        let row = 2 * pair;
+        let (first, second) = (inverse.row(row), inverse.row(row + 1));
+        let (bound, other) = two_bounds(slopes, entries, row, first, second, sums, &mut others);
+        bounds.push(bound)?;
+        bounds.push(other)?;
+    }
+    Ok(size / 2 * 2)
+}
+
 // The bound of each row.
 pub fn bounds(
     alloc: Global,
@@ -193,6 +315,7 @@ pub fn bounds(
 ) -> Result<Vec<Option<i128>>, AllocError>
     requires slopes { AreSlopes slopes.now.jacobian.matrix.now slopes.now.radii.items slopes.now.weights.now }
     requires shorts { AreShortWeights slopes.now.weights.now slopes.now.shorts.items }
+    requires light { slopes.now.light ≡ true → AreLight slopes.now.radii.items }
     requires jacobian { IfSome slopes.now.jacobian.entries (λ es. IsFlatOf slopes.now.jacobian.matrix.now es.items) }
     requires size { length inverse.now ≡ slopes.now.jacobian.matrix.now.size }
     requires entries { EntriesWithin inverse.now (2 ^ 56) }
@@ -201,7 +324,8 @@ pub fn bounds(
     let size = slopes.jacobian.size();
     let mut sums = vec![in alloc; 0; size as usize]?;
     let mut bounds = Vec::with_capacity(alloc, size as usize)?;
-    for row in 0..size {
+    let done = push_by_twos(alloc, &mut bounds, slopes, inverse, &mut sums)?;
+    for row in done..size {
         bounds.push(bound(slopes, row, inverse.row(row), &mut sums))?;
     }
     Ok(bounds)

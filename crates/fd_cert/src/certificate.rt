@@ -17,7 +17,7 @@ ghost use Rattle.fd_cert.specs.Slopes.{HasRadii};
 ghost use Rattle.fd_cert.specs.Verdicts.{IsWidths};
 
 use crate::ball::{Ball, Certified};
-use crate::bounds::{Slopes, bounds, rows_by_weight, short_weights};
+use crate::bounds::{Slopes, are_light, bounds, rows_by_weight, short_weights};
 use crate::boxes::boxes;
 use crate::fault::CertFault;
 use crate::mismatches::{first_loose, mismatches};
@@ -67,6 +67,7 @@ fn bounds_at(
     let walk = Walk::of(alloc, &jacobian)?;
     let slopes = Slopes {
         jacobian: walk,
+        light: are_light(&rows),
         radii: rows,
         weights,
         shorts: short_weights(alloc, weights)?,

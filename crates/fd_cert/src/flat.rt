@@ -91,3 +91,34 @@ pub fn add_entries(sums: &mut [i128], entries: &[Entry], factors: &[i128])
         sums[entry.col as usize] += times(factors[entry.row as usize], entry.units);
     }
 }
+
+// The same as `add_entries` for two lists of sums and the factors of each: an entry is read once for both.
+//
+// Never inlined: beside the other loops of a row LLVM would keep its places in memory.
+#[inline(never)]
+pub fn add_entries_of_two(
+    sums: &mut [i128],
+    others: &mut [i128],
+    entries: &[Entry],
+    first: &[i128],
+    second: &[i128],
+)
+    requires entries { AreShort (length sums.old) entries.now }
+    requires long { length others.old ≡ length sums.old }
+    requires first { IsRowOfInverse (length sums.old) first.now }
+    requires second { IsRowOfInverse (length sums.old) second.now }
+    requires zero { (j : ℕ) → part sums.old j ≡ pos 0 }
+    requires other_zero { (j : ℕ) → part others.old j ≡ pos 0 }
+    ensures long { length sums.new ≡ length sums.old }
+    ensures other_long { length others.new ≡ length others.old }
+    ensures sums { (j : ℕ) → part sums.new j ≡ list_z (entry_term (part first.now) j) entries.now }
+    ensures others { (j : ℕ) → part others.new j ≡ list_z (entry_term (part second.now) j) entries.now }
+{
+    for entry in entries {
+        let (row, col) = (entry.row as usize, entry.col as usize);
+        let product = times(first[row], entry.units);
+        let other = times(second[row], entry.units);
+        sums[col] += product;
+        others[col] += other;
+    }
+}

@@ -93,7 +93,7 @@ fn column_sums(sums: &mut [i128], matrix: &Matrix, factors: &[i128]) -> Option<u
 #[derive(Drop)]
 pub struct Walk<'a> {
     matrix: &'a Matrix<'a>,
-    entries: Option<Vec<Entry>>,
+    pub entries: Option<Vec<Entry>>,
 }
 
 impl<'a> Walk<'a> {

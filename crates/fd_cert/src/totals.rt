@@ -11,6 +11,11 @@ pub const PAST: u128 = LIMIT + 1;
 // The greatest short weight, 2^40: 2^11 of its products with numbers of 64 bits are at most 2^115.
 const SHORT_WEIGHT: u128 = 0x100_0000_0000;
 
+// The least and the greatest number of 64 bits with a sign.
+const LEAST: i128 = -0x8000_0000_0000_0000;
+
+const GREATEST: i128 = 0x7fff_ffff_ffff_ffff;
+
 // The greatest number of 64 bits.
 const HALF: u128 = 0xffff_ffff_ffff_ffff;
 
@@ -72,19 +77,39 @@ pub fn short_weight(weight: i128) -> u64
     if size <= SHORT_WEIGHT { size as u64 } else { 0 }
 }
 
-// The total with the product of a weight and a number more; none only where that passes 2^120. Where the weight is
-// short and the number has 64 bits it is not tested.
-pub fn plus_weighted(total: u128, weight: i128, short: u64, number: u128) -> Option<u128>
+// The size of a number of 64 bits with its sign, if it is one.
+fn short_size(number: i128) -> Option<u64>
+    ensures { IfSome result (λ size. size ≡ nat_abs number) }
+{
+    if number >= LEAST && number <= GREATEST {
+        Some((number as i64).unsigned_abs())
+    } else {
+        None
+    }
+}
+
+// The total with the product of a weight and the size of a number more; none only where that passes 2^120. Where the
+// weight is short and the number has 64 bits it is not tested.
+pub fn plus_weighted(total: u128, weight: i128, short: u64, number: i128) -> Option<u128>
     requires total { total ≤ 2 ^ 127 }
     requires same { 0 < short → short ≡ nat_abs weight }
     requires weight { short ≤ 2 ^ 40 }
-    ensures some { IfSome result (λ t. t ≡ total + nat_abs weight * number) }
-    ensures none { IfNone result (2 ^ 120 < total + nat_abs weight * number) }
+    ensures some { IfSome result (λ t. t ≡ total + nat_abs weight * nat_abs number) }
+    ensures none { IfNone result (2 ^ 120 < total + nat_abs weight * nat_abs number) }
     ensures small { (k : ℕ) → total ≤ 2 ^ 120 + k * 2 ^ 115 → IfSome result (λ t. t ≤ 2 ^ 120 + (k + 1) * 2 ^ 115) }
 {
-    if short != 0 && number <= HALF {
-        Some(total + short_product(short, number as u64))
-    } else {
-        plus_product(total, weight.unsigned_abs(), number)
+    match short_size(number) {
+        Some(size) if short != 0 => Some(total + short_product(short, size)),
+        _ => plus_product(total, weight.unsigned_abs(), number.unsigned_abs()),
     }
+}
+
+// The product of the size of an entry of an inverse and a number, where it is at most 2^127: one multiplication of two
+// numbers of 64 bits, and one of 64 bits alone.
+pub fn entry_product(entry: i128, number: u128) -> u128
+    requires entry { nat_abs entry ≤ 2 ^ 56 }
+    requires number { number ≤ 2 ^ 71 }
+    ensures { result ≡ nat_abs entry * number }
+{
+    entry_size(entry) as u128 * number
 }

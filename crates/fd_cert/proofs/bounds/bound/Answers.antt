@@ -1,11 +1,7 @@
-use Rattle.std.proofs.Common.{◌≡◌, ◌∙◌, ◌<◌, ◌≤◌, ◌^◌, ◌+◌, ◌-ℤ◌, pos, nat_abs, length, arith, ap, sym, subst}
-use Rattle.std.proofs.lemmas.Int.{ints}
-use Rattle.std.proofs.lemmas.List.{length-set}
+use Rattle.std.proofs.Common.{◌∙◌, sym}
 use Rattle.fd_exact.specs.States.{part}
-use Rattle.fd_cert.specs.Totals.{IsTotal, left_total, sizes_total, weighted_total}
-use Rattle.fd_cert.proofs.RowBounds.{bound_is, no_product}
-use Rattle.fd_cert.proofs.RowTotals.{left_is_weighted}
-use Rattle.fd_cert.proofs.Units.{kept_by, when_none, when_some}
+use Rattle.fd_cert.proofs.RowBounds.{no_product}
+use Rattle.fd_cert.proofs.Units.{when_none, when_some}
 use Rattle.fd_cert.proofs.bounds.bound.Goals as goal
 
 pub returns-then-is_some-clause-bound : goal.returns-then-is_some-clause-bound
@@ -13,24 +9,5 @@ returns-then-is_some-clause-bound c = λ J R w h.
     let n = c.args.slopes.now.jacobian.matrix.now.size in
     when_some c.sums.result _ (λ j q. no_product n (λ _. part c.args.factors.now) J R w c.args.row j q.0 q.1) (c.sums.ensures.past J h.jacobian) (sym c.is_some.ensures ∙ c.if-is_some.true)
 
-pub returns-clause-bound : goal.returns-clause-bound
-returns-clause-bound c = λ J R w h.
-    let n = c.args.slopes.now.jacobian.matrix.now.size in
-    let i = c.args.row in
-    let ws = c.args.slopes.now.weights.now in
-    let rows = c.args.slopes.now.radii.items in
-    let fs = c.args.factors.now in
-    let ss = c.sums.new.sums in
-    let columns = when_none c.sums.result (c.sums.ensures.sums J h.jacobian) (sym c.is_some.ensures ∙ c.if-is_some.false) in
-    let long : length ss ≡ n = c.sums.ensures.long ∙ c.clear.ensures.long ∙ c.requires.sums in
-    let ts = c.take_unit.new.sums in
-    let result = c.row_total-total.result in
-    let inside : i < length ss = subst (λ m. i < m) (sym long) c.requires.row in
-    let size : length ts ≡ n = ap length c.take_unit.ensures ∙ length-set ss i (part ss i -ℤ pos (2 ^ 80)) ∙ long in
-    let total = left_total n i ws ss + sizes_total n fs rows in
-    let left : left_total n i ws ss ≡ weighted_total n ws ts = left_is_weighted n i ws ss inside ∙ ap (weighted_total n ws) (sym c.take_unit.ensures) in
-    let is : IsTotal total result = subst (λ k. IsTotal (k + sizes_total n fs rows) result) (sym left) (subst (λ k. IsTotal (weighted_total k ws ts + sizes_total n fs rows) result) size
-    (subst (λ k. IsTotal (weighted_total (length ts) ws ts + sizes_total k fs rows) result) c.requires.slopes.radii c.row_total-total.ensures)) in
-    let value : part ws i ≡ pos (w i) = h.weights i c.requires.row in
-    let few : nat_abs (part ws i) ≤ 2 ^ 126 = let most = c.requires.slopes.weights.most i c.requires.row in let least = c.requires.slopes.weights.least i c.requires.row in omega (arith, ints) in
-    c.over_weight.ensures total is ∙ bound_is n (λ _. part fs) J R w i ss rows ws columns h.radii h.weights (λ j l. let least = c.requires.slopes.weights.least j l in let v = h.weights j l in omega (arith, ints)) (ap nat_abs (kept_by (part ws i) few ∙ value))
+pub bound_of_sums-requires-clause-sums : goal.bound_of_sums-requires-clause-sums
+bound_of_sums-requires-clause-sums c = λ J has. when_none c.sums.result (c.sums.ensures.sums J has) (sym c.is_some.ensures ∙ c.if-is_some.false)
