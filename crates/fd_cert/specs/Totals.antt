@@ -27,22 +27,25 @@ left_total n i ws sums = sum_n (λ j. nat_abs (part ws j) * nat_abs (unit_at i j
 abbrev pub weighted_total : ℕ → List ℤ → List ℤ → ℕ
 weighted_total n ws zs = sum_n (λ j. nat_abs (part ws j) * nat_abs (part zs j)) n
 
+-- the same with the sizes of the weights
+abbrev pub short_total : ℕ → List ℕ → List ℤ → ℕ
+short_total n shorts zs = sum_n (λ j. number_at shorts j * nat_abs (part zs j)) n
+
 -- the sizes of the entries of a row of the inverse, each times a number
 abbrev pub sizes_total : ℕ → List ℤ → List ℕ → ℕ
 sizes_total n row numbers = sum_n (λ l. nat_abs (part row l) * number_at numbers l) n
 
--- each number is at most 2^71
+-- each number is at most 2^70
 abbrev pub AreLight : List ℕ → Type 0
-AreLight numbers = (l : ℕ) → l < length numbers → number_at numbers l ≤ 2 ^ 71
+AreLight numbers = (l : ℕ) → l < length numbers → number_at numbers l ≤ 2 ^ 70
 
 -- for each of n rows its radii by weight
 pub record AreWeighted (n : ℕ) (R : ℕ → ℕ → ℕ) (w : ℕ → ℕ) (rows : List ℕ) : Type 0 where
   pub long : length rows ≡ n
   pub each : (l : ℕ) → l < n → IsUpTo (weighted_radius n R w l) (number_at rows l)
 
--- the weights that are at most 2^40; 0 stands for each other
+-- the weights, where each is at most 2^40
 pub record AreShortWeights (ws : List ℤ) (shorts : List ℕ) : Type 0 where
   pub long : length shorts ≡ length ws
-  pub short : (j : ℕ) → j < length ws → nat_abs (part ws j) ≤ 2 ^ 40 → number_at shorts j ≡ nat_abs (part ws j)
-  pub same : (j : ℕ) → j < length ws → 0 < number_at shorts j → number_at shorts j ≡ nat_abs (part ws j)
+  pub each : (j : ℕ) → j < length ws → number_at shorts j ≡ nat_abs (part ws j)
   pub small : (j : ℕ) → j < length ws → number_at shorts j ≤ 2 ^ 40

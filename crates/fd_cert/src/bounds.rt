@@ -11,16 +11,17 @@ ghost use Rattle.fd_arith.specs.Limits.{within};
 ghost use Rattle.fd_arith.specs.Wide.{wide_quotient};
 ghost use Rattle.fd_equations.specs.Rounded.{list_of};
 ghost use Rattle.fd_enclosure.specs.Bounds.{bound_at};
+ghost use Rattle.fd_enclosure.specs.Sound.{number_at};
 ghost use Rattle.fd_mat.specs.Rows.{EntriesWithin};
 ghost use Rattle.fd_cert.specs.Slopes.{AreSlopes, HasRadii, HasSlopes};
 ghost use Rattle.fd_cert.specs.Entries.{IsFlatOf};
 ghost use Rattle.fd_cert.specs.Columns.{AreColumns, AreUnits, HasEntries, HasWeights, IsMade, IsRowOfInverse, column_sum};
-ghost use Rattle.fd_cert.specs.Totals.{AreLight, AreShortWeights, AreWeighted, IsTotal, IsUpTo, sizes_total, weighted_total};
+ghost use Rattle.fd_cert.specs.Totals.{AreLight, AreShortWeights, AreWeighted, IsTotal, IsUpTo, short_total, sizes_total, weighted_total};
 
 use crate::flat::{Entry, add_entries_of_two};
 use crate::sums::{Walk, clear};
 use crate::totals::{
-    PAST, entry_product, plus_entry, plus_product, plus_weighted, short_weight, up_to_limit,
+    PAST, plus_entry, plus_light, plus_product, plus_short, short_size, short_weight, up_to_limit,
 };
 use fd_arith::Wide;
 use fd_equations::{Cell, Matrix};
@@ -32,17 +33,21 @@ const ONE: i128 = 0x1_0000_0000_0000_0000_0000;
 
 const BOUND_UNITS: i128 = 0x100_0000_0000;
 
-// The greatest light number, 2^71.
-const LIGHT: u128 = 0x80_0000_0000_0000_0000;
+// The greatest light number, 2^70.
+const LIGHT: u128 = 0x40_0000_0000_0000_0000;
 
-// The weights in 64 bits; 0 stands for one above 2^40.
-pub fn short_weights(alloc: Global, weights: &[i128]) -> Result<Vec<u64>, AllocError>
-    ensures { IfOk result (λ shorts. AreShortWeights weights.now shorts.items) }
+// The weights in 64 bits, if all are short.
+pub fn short_weights(alloc: Global, weights: &[i128]) -> Result<Option<Vec<u64>>, AllocError>
+    ensures { IfOk result (λ o. IfSome o (λ shorts. AreShortWeights weights.now shorts.items)) }
 {
-    weights
-        .iter()
-        .map(|weight| short_weight(*weight))
-        .collect(alloc)
+    let mut shorts = Vec::with_capacity(alloc, weights.len())?;
+    for weight in weights {
+        let Some(short) = short_weight(*weight) else {
+            return Ok(None);
+        };
+        shorts.push(short)?;
+    }
+    Ok(Some(shorts))
 }
 
 // Takes a row of the unit matrix off the sums of its columns.
@@ -55,23 +60,56 @@ fn take_unit(sums: &mut [i128], row: usize)
 }
 
 // The sizes of numbers, each times its weight, added up; none where that passes 2^120.
-//
-// Never inlined: beside the other loops of a row LLVM would keep its places in memory.
-#[inline(never)]
-fn sizes_by_weight(numbers: &[i128], weights: &[i128], shorts: &[u64]) -> Option<u128>
-    requires few { length numbers.now ≤ 2 ^ 11 }
+fn sizes_by_weight(numbers: &[i128], weights: &[i128]) -> Option<u128>
     requires weights { length weights.now ≡ length numbers.now }
-    requires shorts { AreShortWeights weights.now shorts.now }
     ensures { IsTotal (weighted_total (length numbers.now) weights.now numbers.now) result }
 {
     let mut total = 0;
     for col in 0..numbers.len() {
-        match plus_weighted(total, weights[col], shorts[col], numbers[col]) {
+        let weight = weights[col].unsigned_abs();
+        match plus_product(total, weight, numbers[col].unsigned_abs()) {
             Some(next) => total = next,
             None => return None,
         }
     }
-    up_to_limit(total)
+    Some(total)
+}
+
+// The same where the weights are short and each number has 64 bits; none where one has more.
+//
+// Never inlined: beside the other loops of a row LLVM would keep its places in memory.
+#[inline(never)]
+fn sizes_by_short_weight(numbers: &[i128], shorts: &[u64]) -> Option<u128>
+    requires few { length numbers.now ≤ 2 ^ 11 }
+    requires long { length shorts.now ≡ length numbers.now }
+    requires small { (j : ℕ) → j < length numbers.now → number_at shorts.now j ≤ 2 ^ 40 }
+    ensures sum { IfSome result (λ t. t ≡ short_total (length numbers.now) shorts.now numbers.now) }
+    ensures small { IfSome result (λ t. t ≤ 2 ^ 120) }
+{
+    let mut total = 0;
+    for col in 0..numbers.len() {
+        match short_size(numbers[col]) {
+            Some(size) => total = plus_short(total, shorts[col], size),
+            None => return None,
+        }
+    }
+    Some(total)
+}
+
+// The sizes of numbers, each times its weight, added up; none where that passes 2^120. `shorts` are the weights where
+// all are short.
+fn left_by_weight(numbers: &[i128], weights: &[i128], shorts: &Option<Vec<u64>>) -> Option<u128>
+    requires few { length numbers.now ≤ 2 ^ 11 }
+    requires weights { length weights.now ≡ length numbers.now }
+    requires shorts { IfSome shorts.now (λ s. AreShortWeights weights.now s.items) }
+    ensures { IsTotal (weighted_total (length numbers.now) weights.now numbers.now) result }
+{
+    if let Some(shorts) = shorts {
+        if let Some(total) = sizes_by_short_weight(numbers, shorts) {
+            return Some(total);
+        }
+    }
+    sizes_by_weight(numbers, weights)
 }
 
 // The total with the sizes of the entries of a row of the inverse more, each times a number.
@@ -93,7 +131,7 @@ fn plus_sizes(total: u128, factors: &[i128], numbers: &[u128]) -> Option<u128>
     Some(sum)
 }
 
-// Whether each number is at most 2^71: its product with the size of an entry of the inverse is then at most 2^127.
+// Whether each number is at most 2^70: its product with the size of an entry of the inverse is then at most 2^126.
 pub fn are_light(numbers: &[u128]) -> bool
     ensures { result ≡ true → AreLight numbers.now }
 {
@@ -105,7 +143,7 @@ pub fn are_light(numbers: &[u128]) -> bool
     true
 }
 
-// The same as `plus_sizes` for light numbers: on the way only what passes 128 bits is tested.
+// The same as `plus_sizes` for light numbers: on the way only what passes 2^127 is tested.
 //
 // Never inlined, for the same reason.
 #[inline(never)]
@@ -117,7 +155,7 @@ fn plus_light_sizes(total: u128, factors: &[i128], numbers: &[u128]) -> Option<u
 {
     let mut sum = total;
     for row in 0..numbers.len() {
-        match sum.checked_add(entry_product(factors[row], numbers[row])) {
+        match plus_light(sum, factors[row], numbers[row]) {
             Some(next) => sum = next,
             None => return None,
         }
@@ -160,20 +198,20 @@ pub fn rows_by_weight(
 }
 
 // The Jacobian at a point in units of 2^-40, for each of its rows the radii of its slopes by weight, and the weight of
-// each unknown, also in 64 bits where it is short. `light` where the radii by weight are light.
+// each unknown, also in 64 bits where all are short. `light` where the radii by weight are light.
 #[derive(Drop)]
 pub struct Slopes<'a, 'b> {
     pub jacobian: Walk<'a>,
     pub radii: Vec<u128>,
     pub light: bool,
     pub weights: &'b [i128],
-    pub shorts: Vec<u64>,
+    pub shorts: Option<Vec<u64>>,
 }
 
 // The bound of a row with these factors, a row of the inverse. The sums are as long as a row, and written anew.
 fn bound(slopes: &Slopes, row: u32, factors: &[i128], sums: &mut [i128]) -> Option<i128>
     requires slopes { AreSlopes slopes.now.jacobian.matrix.now slopes.now.radii.items slopes.now.weights.now }
-    requires shorts { AreShortWeights slopes.now.weights.now slopes.now.shorts.items }
+    requires shorts { IfSome slopes.now.shorts (λ s. AreShortWeights slopes.now.weights.now s.items) }
     requires light { slopes.now.light ≡ true → AreLight slopes.now.radii.items }
     requires jacobian { IfSome slopes.now.jacobian.entries (λ es. IsFlatOf slopes.now.jacobian.matrix.now es.items) }
     requires row { row < slopes.now.jacobian.matrix.now.size }
@@ -192,7 +230,7 @@ fn bound(slopes: &Slopes, row: u32, factors: &[i128], sums: &mut [i128]) -> Opti
 // The bound of a row with these factors from the sums of the Jacobian's columns, each row times its factor.
 fn bound_of_sums(slopes: &Slopes, row: u32, factors: &[i128], sums: &mut [i128]) -> Option<i128>
     requires slopes { AreSlopes slopes.now.jacobian.matrix.now slopes.now.radii.items slopes.now.weights.now }
-    requires shorts { AreShortWeights slopes.now.weights.now slopes.now.shorts.items }
+    requires shorts { IfSome slopes.now.shorts (λ s. AreShortWeights slopes.now.weights.now s.items) }
     requires light { slopes.now.light ≡ true → AreLight slopes.now.radii.items }
     requires row { row < slopes.now.jacobian.matrix.now.size }
     requires factors { IsRowOfInverse slopes.now.jacobian.matrix.now.size factors.now }
@@ -211,12 +249,12 @@ fn bound_of_sums(slopes: &Slopes, row: u32, factors: &[i128], sums: &mut [i128])
 fn row_total(slopes: &Slopes, factors: &[i128], left: &[i128]) -> Option<u128>
     requires few { length left.now ≤ 2 ^ 11 }
     requires weights { length slopes.now.weights.now ≡ length left.now }
-    requires shorts { AreShortWeights slopes.now.weights.now slopes.now.shorts.items }
+    requires shorts { IfSome slopes.now.shorts (λ s. AreShortWeights slopes.now.weights.now s.items) }
     requires light { slopes.now.light ≡ true → AreLight slopes.now.radii.items }
     requires factors { IsRowOfInverse (length slopes.now.radii.items) factors.now }
     ensures { IsTotal (weighted_total (length left.now) slopes.now.weights.now left.now + sizes_total (length slopes.now.radii.items) factors.now slopes.now.radii.items) result }
 {
-    match sizes_by_weight(left, slopes.weights, &slopes.shorts) {
+    match left_by_weight(left, slopes.weights, &slopes.shorts) {
         Some(total) if slopes.light => plus_light_sizes(total, factors, &slopes.radii),
         Some(total) => plus_sizes(total, factors, &slopes.radii),
         None => None,
@@ -250,7 +288,7 @@ fn two_bounds(
     others: &mut [i128],
 ) -> (Option<i128>, Option<i128>)
     requires slopes { AreSlopes slopes.now.jacobian.matrix.now slopes.now.radii.items slopes.now.weights.now }
-    requires shorts { AreShortWeights slopes.now.weights.now slopes.now.shorts.items }
+    requires shorts { IfSome slopes.now.shorts (λ s. AreShortWeights slopes.now.weights.now s.items) }
     requires light { slopes.now.light ≡ true → AreLight slopes.now.radii.items }
     requires entries { IsFlatOf slopes.now.jacobian.matrix.now entries.now }
     requires row { row + 1 < slopes.now.jacobian.matrix.now.size }
@@ -281,7 +319,7 @@ fn push_by_twos(
     sums: &mut [i128],
 ) -> Result<u32, AllocError>
     requires slopes { AreSlopes slopes.now.jacobian.matrix.now slopes.now.radii.items slopes.now.weights.now }
-    requires shorts { AreShortWeights slopes.now.weights.now slopes.now.shorts.items }
+    requires shorts { IfSome slopes.now.shorts (λ s. AreShortWeights slopes.now.weights.now s.items) }
     requires light { slopes.now.light ≡ true → AreLight slopes.now.radii.items }
     requires jacobian { IfSome slopes.now.jacobian.entries (λ es. IsFlatOf slopes.now.jacobian.matrix.now es.items) }
     requires size { length inverse.now ≡ slopes.now.jacobian.matrix.now.size }
@@ -314,7 +352,7 @@ pub fn bounds(
     inverse: &Dense,
 ) -> Result<Vec<Option<i128>>, AllocError>
     requires slopes { AreSlopes slopes.now.jacobian.matrix.now slopes.now.radii.items slopes.now.weights.now }
-    requires shorts { AreShortWeights slopes.now.weights.now slopes.now.shorts.items }
+    requires shorts { IfSome slopes.now.shorts (λ s. AreShortWeights slopes.now.weights.now s.items) }
     requires light { slopes.now.light ≡ true → AreLight slopes.now.radii.items }
     requires jacobian { IfSome slopes.now.jacobian.entries (λ es. IsFlatOf slopes.now.jacobian.matrix.now es.items) }
     requires size { length inverse.now ≡ slopes.now.jacobian.matrix.now.size }

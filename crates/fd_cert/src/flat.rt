@@ -117,8 +117,8 @@ pub fn add_entries_of_two(
     for entry in entries {
         let (row, col) = (entry.row as usize, entry.col as usize);
         let product = times(first[row], entry.units);
-        let other = times(second[row], entry.units);
         sums[col] += product;
+        let other = times(second[row], entry.units);
         others[col] += other;
     }
 }

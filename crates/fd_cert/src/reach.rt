@@ -27,14 +27,14 @@ const PRODUCT_LIMIT: u128 = 0x100_0000_0000_0000_0000_0000_0000_0000;
 
 pub const RADIUS_LIMIT: u128 = 0x100_0000_0000;
 
-// The size of an entry of the inverse times twice a mismatch: one multiplication of 64 bits.
+// The size of an entry of the inverse times a mismatch: one multiplication of 64 bits.
 fn share(entry: i128, mismatch: u128) -> u128
     requires entry { nat_abs entry ≤ 2 ^ 56 }
     requires mismatch { mismatch ≤ greatest_mismatch }
-    ensures share { result ≡ nat_abs entry * (2 * mismatch) }
-    ensures small { result ≤ 2 ^ 67 }
+    ensures share { result ≡ nat_abs entry * mismatch }
+    ensures small { result ≤ 2 ^ 66 }
 {
-    entry_size(entry) as u128 * (2 * mismatch as u64) as u128
+    entry_size(entry) as u128 * (mismatch as u64) as u128
 }
 
 // The sum of the sizes of a row of the inverse, each times twice the mismatch.
@@ -49,7 +49,7 @@ fn spread(factors: &[i128], mismatch: &[u128]) -> u128
     for row in 0..mismatch.len() {
         sum += share(factors[row], mismatch[row]);
     }
-    sum
+    2 * sum
 }
 
 // How far an unknown may be from the centre by the inverse alone, over its weight, in units of 2^-60.

@@ -11,6 +11,9 @@ pub const PAST: u128 = LIMIT + 1;
 // The greatest short weight, 2^40: 2^11 of its products with numbers of 64 bits are at most 2^115.
 const SHORT_WEIGHT: u128 = 0x100_0000_0000;
 
+// The greatest number below 2^127.
+const TOP: u128 = 0x7fff_ffff_ffff_ffff_ffff_ffff_ffff_ffff;
+
 // The least and the greatest number of 64 bits with a sign.
 const LEAST: i128 = -0x8000_0000_0000_0000;
 
@@ -67,18 +70,21 @@ pub fn plus_entry(total: u128, entry: i128, number: u128) -> Option<u128>
     }
 }
 
-// A weight in 64 bits if it is at most 2^40; else 0.
-pub fn short_weight(weight: i128) -> u64
-    ensures short { nat_abs weight ≤ 2 ^ 40 → result ≡ nat_abs weight }
-    ensures same { 0 < result → result ≡ nat_abs weight }
-    ensures small { result ≤ 2 ^ 40 }
+// A weight in 64 bits, if it is at most 2^40.
+pub fn short_weight(weight: i128) -> Option<u64>
+    ensures same { IfSome result (λ short. short ≡ nat_abs weight) }
+    ensures small { IfSome result (λ short. short ≤ 2 ^ 40) }
 {
     let size = weight.unsigned_abs();
-    if size <= SHORT_WEIGHT { size as u64 } else { 0 }
+    if size <= SHORT_WEIGHT {
+        Some(size as u64)
+    } else {
+        None
+    }
 }
 
 // The size of a number of 64 bits with its sign, if it is one.
-fn short_size(number: i128) -> Option<u64>
+pub fn short_size(number: i128) -> Option<u64>
     ensures { IfSome result (λ size. size ≡ nat_abs number) }
 {
     if number >= LEAST && number <= GREATEST {
@@ -88,28 +94,39 @@ fn short_size(number: i128) -> Option<u64>
     }
 }
 
-// The total with the product of a weight and the size of a number more; none only where that passes 2^120. Where the
-// weight is short and the number has 64 bits it is not tested.
-pub fn plus_weighted(total: u128, weight: i128, short: u64, number: i128) -> Option<u128>
+// The total with the product of a short weight and a number of 64 bits more.
+pub fn plus_short(total: u128, short: u64, number: u64) -> u128
     requires total { total ≤ 2 ^ 127 }
-    requires same { 0 < short → short ≡ nat_abs weight }
-    requires weight { short ≤ 2 ^ 40 }
-    ensures some { IfSome result (λ t. t ≡ total + nat_abs weight * nat_abs number) }
-    ensures none { IfNone result (2 ^ 120 < total + nat_abs weight * nat_abs number) }
-    ensures small { (k : ℕ) → total ≤ 2 ^ 120 + k * 2 ^ 115 → IfSome result (λ t. t ≤ 2 ^ 120 + (k + 1) * 2 ^ 115) }
+    requires short { short ≤ 2 ^ 40 }
+    ensures sum { result ≡ total + short * number }
+    ensures small { (k : ℕ) → total ≤ k * 2 ^ 104 → result ≤ (k + 1) * 2 ^ 104 }
 {
-    match short_size(number) {
-        Some(size) if short != 0 => Some(total + short_product(short, size)),
-        _ => plus_product(total, weight.unsigned_abs(), number.unsigned_abs()),
-    }
+    total + short_product(short, number)
 }
 
-// The product of the size of an entry of an inverse and a number, where it is at most 2^127: one multiplication of two
-// numbers of 64 bits, and one of 64 bits alone.
-pub fn entry_product(entry: i128, number: u128) -> u128
+// The product of the size of an entry of an inverse and a number of at most 2^70: one multiplication of two numbers of
+// 64 bits, and one of 64 bits alone.
+fn entry_product(entry: i128, number: u128) -> u128
     requires entry { nat_abs entry ≤ 2 ^ 56 }
-    requires number { number ≤ 2 ^ 71 }
-    ensures { result ≡ nat_abs entry * number }
+    requires number { number ≤ 2 ^ 70 }
+    ensures product { result ≡ nat_abs entry * number }
+    ensures small { result ≤ 2 ^ 126 }
 {
     entry_size(entry) as u128 * number
+}
+
+// The total with such a product more; none where the total itself passes 2^127.
+pub fn plus_light(total: u128, entry: i128, number: u128) -> Option<u128>
+    requires total { total ≤ 2 ^ 127 + 2 ^ 126 }
+    requires entry { nat_abs entry ≤ 2 ^ 56 }
+    requires number { number ≤ 2 ^ 70 }
+    ensures some { IfSome result (λ t. t ≡ total + nat_abs entry * number) }
+    ensures none { IfNone result (2 ^ 120 < total) }
+    ensures small { IfSome result (λ t. t ≤ 2 ^ 127 + 2 ^ 126) }
+{
+    if total <= TOP {
+        Some(total + entry_product(entry, number))
+    } else {
+        None
+    }
 }

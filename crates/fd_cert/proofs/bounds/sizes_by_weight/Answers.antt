@@ -13,10 +13,10 @@ returns-in-None c =
     let z = part c.args.numbers.now j in
     let f : FitsSigned w128 w = search rules in
     let g : FitsSigned w128 z = search rules in
-    let weight = ap nat_abs (to_z-of_z w128 w f) in
-    let size = ap nat_abs (to_z-of_z w128 z g) in
+    let weight = c.unsigned_abs-weight.ensures.value ∙ ap nat_abs (to_z-of_z w128 w f) in
+    let size = c.unsigned_abs.ensures.value ∙ ap nat_abs (to_z-of_z w128 z g) in
     past_sum (λ j. nat_abs (part c.args.weights.now j) * nat_abs (part c.args.numbers.now j)) j (length c.args.numbers.now) c.loop-col.total c.loop-col-test.true c.loop-col.invariant.sum
-    (subst (λ k. 2 ^ 120 < c.loop-col.total + k) (λ i. weight i * size i) c.in-None.ensures.none)
+    (subst (λ k. 2 ^ 120 < c.loop-col.total + k) (λ i. weight i * size i) c.in-None.ensures)
 
 pub loop-col-preserved : goal.loop-col-preserved
 loop-col-preserved c =
@@ -25,12 +25,12 @@ loop-col-preserved c =
     let zs = c.args.numbers.now in
     let f : FitsSigned w128 (part ws j) = search rules in
     let g : FitsSigned w128 (part zs j) = search rules in
-    let weight = ap nat_abs (to_z-of_z w128 (part ws j) f) in
-    let size = ap nat_abs (to_z-of_z w128 (part zs j) g) in
+    let weight = c.unsigned_abs-weight.ensures.value ∙ ap nat_abs (to_z-of_z w128 (part ws j) f) in
+    let size = c.unsigned_abs.ensures.value ∙ ap nat_abs (to_z-of_z w128 (part zs j) g) in
     let sum = front_more (λ j. nat_abs (part ws j) * nat_abs (part zs j)) j 0 c.loop-col.total (c.loop-col.invariant.sum ∙ sym (zero_plus (weighted_total j ws zs))) in
     record {
-      sum = c.in-Some.ensures.some ∙ (λ i. c.loop-col.total + weight i * size i) ∙ sum ∙ zero_plus (weighted_total (j + 1) ws zs);
-      small = c.in-Some.ensures.small j c.loop-col.invariant.small;
+      sum = c.in-Some.ensures.0 ∙ (λ i. c.loop-col.total + weight i * size i) ∙ sum ∙ zero_plus (weighted_total (j + 1) ws zs);
+      small = c.in-Some.ensures.1;
     }
   where
     zero_plus : (k : ℕ) → 0 + k ≡ k

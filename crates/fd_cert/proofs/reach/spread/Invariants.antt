@@ -6,6 +6,6 @@ use Rattle.fd_cert.proofs.reach.spread.Given as goal
 
 abbrev pub invariant-loop-row : goal.invariant-loop-row
 invariant-loop-row l = record {
-  sum : l.sum ≡ sum_n (λ k. nat_abs (part l.factors k) * (2 * number_at l.mismatch k)) l.row;
-  small : l.sum ≤ l.row * 2 ^ 67;
+  sum : l.sum ≡ sum_n (λ k. nat_abs (part l.factors k) * number_at l.mismatch k) l.row;
+  small : l.sum ≤ l.row * 2 ^ 66;
 }

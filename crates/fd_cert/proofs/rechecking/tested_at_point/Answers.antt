@@ -56,7 +56,8 @@ returns c =
     let v = c.args.net.now in
     let x = c.args.centre.now in
     let e = c.args.mismatch.now in
-    let at = subst (IsWidths v.size (entry c.args.inverse.now) (jacobian_entry v x) (slope_radius v x) (weight_at v x) (number_at e)) c.in-Within.is (c.in_ok-judged.ensures.widths (number_at e) (λ i l. refl)) in (
+    let at = subst (IsWidths v.size (entry c.args.inverse.now) (jacobian_entry v x) (slope_radius v x) (weight_at v x) (number_at e)) c.in-Within.is (c.in_ok-judged.ensures.widths (number_at e) (λ i l. refl)) in
+    (
       none_first v x c.args.radius.now e c.args.inverse.now c.deref.result.now (c.deref.ensures.value ∙ c.in_ok-own.ensures.mismatches) c.in_default.ensures at.refusal c.deref-in-Within.result.now (c.deref-in-Within.ensures.value ∙ at.radii) c.in-None.ensures,
       c.in_ok-judged.ensures.boxes,
     )
