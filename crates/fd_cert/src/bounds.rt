@@ -4,6 +4,8 @@
 // by weight are made once for all rows of the inverse, and a row of the inverse meets each of these once. No summand is
 // negative, so no part of the sum passes 2^120 unless the whole does, and the order of summing changes neither the
 // bound nor where there is none.
+//
+// Where the Jacobian's entries are short, two rows of the inverse meet them at once, and an entry is read once for both.
 ghost use Rattle.std.specs.Prelude.{◌≡◌, ℕ, ◌+◌, ◌*◌, ◌<◌, ◌≤◌, ◌^◌, ℤ, pos, ◌≤ℤ◌, ◌-ℤ◌, nat_abs, set, true, IfOk, IfSome, length, Some, []};
 ghost use Rattle.fd_exact.specs.States.{entry, part};
 ghost use Rattle.fd_exact.specs.Sums.{list_n};
