@@ -339,10 +339,20 @@ def seconds(ms):
     return '%d.%03d' % (ms // 1000, ms % 1000)
 
 
-def settle(circuit, limit, off, now, clock, solve):
-    """Solves, samples and acts until nothing is due. `solve(round)` gives a certified state.
+def act_record(time, number, name, steps, after):
+    """An act as a record of a report."""
+    return 'act,%s,%s,%d,%s' % (seconds(time), name, steps, after)
 
-    Gives the records of each round, one after the other, and raises what ends it: Undecided, or Limit.
+
+def act_line(time, number, name, steps, after):
+    """An act as a line of a certificate."""
+    return 'act %d %d %d' % (time, number, steps)
+
+
+def settle(circuit, limit, off, now, clock, solve, text=act_record):
+    """Solves, samples and acts until nothing is due. `solve(round)` gives a certified state, `text` what an act is printed as.
+
+    Gives the texts of each round, one after the other, and raises what ends it: Undecided, or Limit.
     """
     controls, queue, done = controls_of(circuit), Queue(now, clock), 0
     while True:
@@ -362,7 +372,7 @@ def settle(circuit, limit, off, now, clock, solve):
         acts = []
         for time, c in queue.nearest():
             signed, after = c.act(*wanted[c], time, clock)
-            acts.append('act,%s,%s,%d,%s' % (seconds(time), c.name, signed, after))
+            acts.append(text(time, controls.index(c), c.name, signed, after))
         yield acts
         done += 1
 

@@ -574,12 +574,27 @@ class Certified:
                 self.late_all = True
         for i in range(n):
             if bounds[i] is None or bounds[i] >= B40:
-                raise Fault(10, 'not certified', net.name(i), 'all' if bounds[i] is None else str(bounds[i]))
+                raise self.refused(i, 'all' if bounds[i] is None else str(bounds[i]))
         k = self.bound = max(bounds)
         self.radii = [ceil(w[i] * b, (1 << 20) * (B40 - k)) for i in range(n)]
         for i in range(n):
             if self.radii[i] > B40:
-                raise Fault(10, 'not certified', net.name(i), 'all')
+                raise self.refused(i, 'all')
+
+    def refused(self, i, bound):
+        """No certificate; what would have been claimed has radii 0."""
+        fault = Fault(10, 'not certified', self.net.name(i), bound)
+        self.radii = [0] * self.net.n
+        fault.tried = self
+        return fault
+
+    def block(self, number, hour, turn):
+        """The lines of a certificate's block."""
+        n = self.net.n
+        out = ['solution %d %d %d %d' % (number, hour, turn, n)]
+        out += ['x %d %d %d %d' % (i, self.x[i], self.radii[i], self.mismatch[i]) for i in range(n)]
+        out += [' '.join(['c', str(i)] + [str(self.inverse[i].get(l, 0)) for l in range(n)]) for i in range(n)]
+        return out
 
     def records(self, number, hour, turn):
         net, x, r, e, h = self.net, self.x, self.radii, self.mismatch, self.boxes
@@ -609,8 +624,10 @@ class Certified:
 
 
 def run(files, words):
-    """The bytes and the status of `solve MASTER`, and the certified states."""
+    """The bytes and the status of `solve MASTER` or `cert MASTER`, and the certified states."""
     out, number, made = [], [0], []
+    cert = words[0] == 'cert'
+    act = controls.act_line if cert else controls.act_record
 
     def state(circuit, options, hour, turn):
         net = Network(circuit, options['hertz'], hour)
@@ -618,20 +635,24 @@ def run(files, words):
         c = Certified(net, p.x, p.inverse)
         c.steps = p.steps
         made.append(c)
-        return c, c.records(number[0], hour, turn)
+        return c, c.block(number[0], hour, turn) if cert else c.records(number[0], hour, turn)
 
     def solve(circuit, options):
         hours = range(1, options['number'] + 1) if options['mode'] == 'daily' else [0]
         opened = {}
         for hour in hours:
             number[0] += 1
+            turns = 0
             now = 3600000 * (hour - 1) if hour else 0
             try:
                 off = options['controlmode'] == 'off'
                 for records in controls.settle(circuit, options['maxcontroliter'], off, now, opened,
-                                               lambda turn: state(circuit, options, hour, turn)):
+                                               lambda turn: state(circuit, options, hour, turn), act):
                     out.extend(records)
+                    turns += 1 if records and records[0].startswith('solution') else 0
             except Fault as f:
+                if cert and hasattr(f, 'tried'):
+                    out.extend(f.tried.block(number[0], hour, turns))
                 out.append(','.join(('fault',) + f.fields))
                 return f.status
             except controls.Undecided as f:
@@ -640,7 +661,8 @@ def run(files, words):
             except controls.Limit as f:
                 out.append('fault,control limit,%d' % f.acts)
                 return 12
-            out.extend(controls.positions(circuit))
+            if not cert:
+                out.extend(controls.positions(circuit))
         return None
 
     s = Script(files, solve)
@@ -653,6 +675,9 @@ def run(files, words):
         status = 3
     elif fault:
         status = fault
+    if cert:
+        out += ['end'] if status == 0 else []
+        out = ['cert 1'] + out if out and not out[0].startswith('fault') else out
     return ''.join(l + '\n' for l in out).encode(), status, made
 
 
@@ -661,6 +686,6 @@ if __name__ == '__main__':
     paths = [os.path.join(folder, name) for folder, _, names in os.walk(top) for name in names]
     held = {os.path.relpath(path, top): open(path, 'rb').read() for path in paths}
     held['m.dss'] = open(sys.argv[1], 'rb').read()
-    t, s, m = run(held, ['solve', 'm.dss'])
+    t, s, m = run(held, [sys.argv[2] if len(sys.argv) > 2 else 'solve', 'm.dss'])
     sys.stdout.write(t.decode())
     print('status', s, CASES, [(c.steps, c.bound) for c in m])

@@ -24,14 +24,14 @@ use Rattle.fd_settle.specs.Settle.{End, Open, Settled, Limited, Undecidable, Out
 use Rattle.fd_settle.specs.Settle as settling
 use Rattle.fd_outcome.specs.Events.{AllSettles, Event, IfSettle, settle}
 use Rattle.fd_outcome.specs.Parts.{events_in}
-use Rattle.fd_outcome.specs.Settles.{Round, Settle, SettleEnd, settled, failed}
+use Rattle.fd_outcome.specs.Settles.{Round, Settle, SettleEnd, claim_in, settled, failed, without_certificate}
 use Rattle.fd_outcome.specs.Work.{Step}
 use Rattle.fd_app.specs.Days.{AreSteady, DaysLaw, acts_of, hours_at, settles_in}
 use Rattle.fd_app.specs.Headline.{DecidesAlike, IsOtherState, IsSolved, claims_of, machine_of}
 use Rattle.fd_app.specs.Solving.{IsBehind, IsEndBy, IsHour, IsHoursStep, IsSolutionStep, hour_begun, kept_first, plant_at, rounds_of}
 use Rattle.fd_app.proofs.Hourly.{events_behind}
 use Rattle.fd_app.proofs.Steadiness.{both}
-use Rattle.fd_app.specs.Steps.{Kept, StandingView, claim_in, hour_settle}
+use Rattle.fd_app.specs.Steps.{Kept, StandingView, hour_settle}
 
 -- ---- the settle over the balls of computed rounds
 
@@ -147,18 +147,18 @@ module _ (c : CircuitView) (hour : ℕ) (hours : List ℕ) (l : Kept) (rs : List
 
 -- ---- the hours of a Solve
 
-settled_ending : (c : CircuitView) (ending : Ending) (n : Machine) → IsEndBy c ending n settled → ending ≡ ended Settled
-settled_ending c (ended Open) n h = absurd h
-settled_ending c (ended Settled) n h = refl
-settled_ending c (ended Limited) n h = absurd (cc h)
-settled_ending c (ended (Undecidable k u)) n h = absurd (cc h)
-settled_ending c (stopped (range blame)) n h = absurd (cc h)
-settled_ending c (stopped (procedure (solving.NoInverse column stop))) n h = absurd (cc h)
-settled_ending c (stopped (procedure (solving.OutOfRange place step))) n h = absurd (cc h)
-settled_ending c (stopped (procedure (solving.NotConverged place steps update))) n h = absurd (cc h)
-settled_ending c (stopped (procedure solving.NoMemory)) n h = absurd h
-settled_ending c (stopped (uncertified (loose row mismatch))) n h = absurd (cc h)
-settled_ending c (stopped (uncertified (uncertain place bound))) n h = absurd (cc h)
+settled_ending : (c : CircuitView) (hour : ℕ) (ending : Ending) (n : Machine) → IsEndBy c hour ending n settled → ending ≡ ended Settled
+settled_ending c hour (ended Open) n h = absurd h
+settled_ending c hour (ended Settled) n h = refl
+settled_ending c hour (ended Limited) n h = absurd (cc h)
+settled_ending c hour (ended (Undecidable k u)) n h = absurd (cc h)
+settled_ending c hour (stopped (range blame)) n h = absurd (cc h)
+settled_ending c hour (stopped (procedure (solving.NoInverse column stop))) n h = absurd (cc h)
+settled_ending c hour (stopped (procedure (solving.OutOfRange place step))) n h = absurd (cc h)
+settled_ending c hour (stopped (procedure (solving.NotConverged place steps update))) n h = absurd (cc h)
+settled_ending c hour (stopped (procedure solving.NoMemory)) n h = absurd h
+settled_ending c hour (stopped (uncertified (loose row mismatch))) n h = absurd (cc h)
+settled_ending c hour (stopped (uncertified (uncertain place bound))) n h = absurd (cc h)
 
 -- what an hour that ended well leaves
 machine_left : (c : CircuitView) (hour : ℕ) (m : Machine) (rounds : List (Claim × List Act)) (ending : Ending) (n : Machine) → IsComputedFrom (limits_of c.options) (plant_at c hour) m rounds ending n → ending ≡ ended Settled
@@ -177,12 +177,16 @@ pub record Goes (P : Step StandingView → Type 0) (tail : List Event) : Type 0 
 abbrev Tail : SettleEnd → (Step StandingView → Type 0) → List Event → Type 0
 Tail settled P tail = Goes P tail
 Tail (failed f) P tail = tail ≡ []
+Tail (without_certificate r f) P tail = tail ≡ []
 
 begins : (x : Settle) (end : SettleEnd) (P : Step StandingView → Type 0) (step : Step StandingView) (e : Event) (tail : List Event) → IsBehind x end P step → events_in step ≡ e ∷ tail → (e ≡ settle x) × Tail end P tail
 begins x settled P step e tail b events =
     let is : settle x ∷ events_in b.more ≡ e ∷ tail = sym (events_behind (settle x ∷ []) b.more) ∙ sym (ap events_in b.step_is) ∙ events in
     (sym (cc is), record { more = b.more; right = b.right; events_are = cc is })
 begins x (failed f) P step e tail b events =
+    let is : settle x ∷ [] ≡ e ∷ tail = sym (ap events_in b) ∙ events in
+    (sym (cc is), sym (cc is))
+begins x (without_certificate r f) P step e tail b events =
     let is : settle x ∷ [] ≡ e ∷ tail = sym (ap events_in b) ∙ events in
     (sym (cc is), sym (cc is))
 
@@ -199,9 +203,10 @@ module _ (c : CircuitView) (hour : ℕ) (hours : List ℕ) (l k : Kept) (m : Mac
   next_hour : (made : Settle) (is : IsHour c hour l made k) (end : SettleEnd) → is.end ≡ end → Tail end (λ s. IsHoursStep c hours k s) (front ++ rest)
       → AreSteady c hours (left_by_balls is.rounds) (settles_in front)
   next_hour made is (failed f) same tail = subst (λ (events : List Event). AreSteady c hours (left_by_balls is.rounds) (settles_in events)) (sym (none_left front rest tail)) (none_steady c hours _)
+  next_hour made is (without_certificate r f) same tail = subst (λ (events : List Event). AreSteady c hours (left_by_balls is.rounds) (settles_in events)) (sym (none_left front rest tail)) (none_steady c hours _)
   next_hour made is settled same tail =
       let balls = left_by_balls is.rounds in
-      let well = settled_ending c is.ending is.machine (subst (λ (e : SettleEnd). IsEndBy c is.ending is.machine e) same is.end_is) in
+      let well = settled_ending c hour is.ending is.machine (subst (λ (e : SettleEnd). IsEndBy c hour is.ending is.machine e) same is.end_is) in
       let begun_is : started c m.at (time_of hour) m.opened ≡ hour_begun c hour l = ap (λ (a : Positions). started c a (time_of hour) m.opened) at_is ∙ ap (λ o. started c l.at (time_of hour) o) opened_is in
       let left : balls ≡ is.machine = ap (λ (n : Machine). (settle_of (setup_of c) (look_over (controls_in c)) n (map claim_in (rounds_of is.rounds))).machine) begun_is ∙ machine_left c hour (hour_begun c hour l) is.rounds is.ending is.machine is.computed well in
       go balls (ap (λ (n : Machine). n.at) left ∙ sym (ap (λ (x : Kept). x.at) is.kept)) (ap (λ (n : Machine). n.opened) left ∙ sym (ap (λ (x : Kept). x.opened) is.kept)) tail.more tail.right tail.events_are

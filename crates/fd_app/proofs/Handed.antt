@@ -1,42 +1,27 @@
 -- What a command's answer comes to for the loop.
 use Rattle.std.proofs.Common.{◌≡◌, ◌∙◌, ℕ, Bool, true, false, List, [], ◌∷◌, ◌++◌, map, Option, Some, None, refl, sym, ap, subst, inl, inr, arith}
 use Rattle.std.specs.Prelude.{◌||◌, ◌⊎◌}
-use Rattle.std.proofs.lemmas.List.{map-append}
-use Rattle.std.proofs.lemmas.List.Elements.{All-nil}
+use Rattle.std.specs.List.{AllByRecursion, flat_map}
+use Rattle.std.proofs.lemmas.List.{append-nil, map-append}
+use Rattle.std.proofs.lemmas.List.Elements.{All-cons, All-nil}
 use Rattle.fd_outside.specs.Emitted.{Takes}
 use Rattle.fd_report.specs.Faults.{status}
 use Rattle.fd_report.specs.declared.faults.Fault.{Fault}
 use Rattle.fd_report.specs.declared.faults.Fault.TheVariants as fault
-use Rattle.fd_outcome.specs.Events.{Event, IfSettle, finishes}
+use Rattle.fd_bases.specs.declared.bus_base.BusBase.{BusBase}
+use Rattle.fd_report.specs.Bases.{base_fields}
+use Rattle.fd_outcome.specs.Events.{AllSettles, Event, IfSettle, row}
 use Rattle.fd_outcome.specs.Work.{Step, ExactlyOne, goes, ends}
-use Rattle.fd_outcome.specs.Calls.{Call, report, reads, writes, opened, body, fault_text}
+use Rattle.fd_outcome.specs.Calls.{Call, Style, body, fault_text, opened, reads, writes}
 use Rattle.fd_outcome.specs.Done.{IsFrontOf, IsDone, Made}
 use Rattle.fd_outcome.specs.Way.{whole}
-use Rattle.fd_outcome.specs.Behind.{behind, last_calls}
-use Rattle.fd_outcome.specs.Parts.{EndsAt, Finishes, GoesOn, IsCutIn, Printed, Wrote, events_in, fault_doing}
+use Rattle.fd_outcome.specs.Behind.{behind, has_text, opened_unless}
+use Rattle.fd_outcome.specs.Parts.{EndsAt, GoesOn, IsCutIn, Printed, Wrote, events_in, fault_doing}
 use Rattle.fd_outcome.specs.Untold.{CutsShort}
-use Rattle.fd_outcome.proofs.CallerLemmas.{cut_before, sees_none, wrote_all, wrote_nothing}
+use Rattle.fd_outcome.proofs.CallerLemmas.{cut_before, nothing_behind, or_false, wrote_all, wrote_nothing}
 use Rattle.fd_app.specs.Answered.{IsOfCommand}
 use Rattle.fd_app.specs.Headline.{IsSolved}
 use Rattle.fd_app.specs.Steps.{StandingView, changes}
-
-nothing_behind : (begun : Bool) → behind report begun [] ≡ []
-nothing_behind true = refl
-nothing_behind false = refl
-
--- a report is opened by nothing
-opened_by_nothing : (calls : List Call) → opened [] calls ≡ calls
-opened_by_nothing [] = refl
-opened_by_nothing (reads n ∷ calls) = ap (λ (l : List Call). reads n ∷ l) (opened_by_nothing calls)
-opened_by_nothing (writes text ∷ calls) = refl
-
-pub behind_report : (begun : Bool) (events : List Event) → behind report begun events ≡ body report events
-behind_report true events = refl
-behind_report false events = opened_by_nothing (body report events)
-
-or_false : (b : Bool) → b ≡ (b || false)
-or_false true = refl
-or_false false = refl
 
 -- ---- statuses of a command's faults
 
@@ -78,42 +63,86 @@ module _ {S : Type 0} (taken : S → Option (List ℕ)) (calls : S → Option �
   pub cut_never : (n : ℕ) (old new : S) (all : List Call) (code : ℕ) → (1 ≡ n → ⊥) → (5 ≡ n → ⊥) → IsCutIn taken calls old new all code → code ≡ n → ⊥
   cut_never n old new all code a b cut e = elim cut.front [ inl x ↦ a (sym x.status_is ∙ e) | inr x ↦ b (sym x.status_is ∙ e) ]
 
--- ---- a settle's records and then a fault's
+-- ---- the calls of events that ask for nothing
+
+silent_body : (style : Style) (events : List Event) → AllByRecursion (λ e. style.asked_in e ≡ []) events → body style events ≡ map writes (flat_map style.texts_in events)
+silent_body style [] silent = refl
+silent_body style (e ∷ events) silent =
+    ap (λ l. (map reads l ++ map writes (style.texts_in e)) ++ body style events) silent.0
+    ∙ ap (λ l. map writes (style.texts_in e) ++ l) (silent_body style events silent.1)
+    ∙ sym (map-append writes (style.texts_in e) (flat_map style.texts_in events))
+
+-- what opens the texts, and the texts
+pub silent_calls : (style : Style) (begun : Bool) (events : List Event) (texts : List (List ℕ)) → AllByRecursion (λ e. style.asked_in e ≡ []) events → texts ≡ flat_map style.texts_in events → opened_unless begun style.opening (map writes texts) ≡ behind style begun events
+silent_calls style true events texts silent same = ap (map writes) same ∙ sym (silent_body style events silent)
+silent_calls style false events texts silent same = ap (λ l. opened style.opening (map writes l)) same ∙ ap (opened style.opening) (sym (silent_body style events silent))
+
+-- whether a text was written with them
+pub silent_begun : (style : Style) (begun : Bool) (events : List Event) (texts : List (List ℕ)) → AllByRecursion (λ e. style.asked_in e ≡ []) events → texts ≡ flat_map style.texts_in events → (begun || has_text (map writes texts)) ≡ (begun || has_text (body style events))
+silent_begun style begun events texts silent same = ap (λ l. begun || has_text (map writes l)) same ∙ ap (λ l. begun || has_text l) (sym (silent_body style events silent))
+
+-- the texts of one event
+pub texts_alone : (style : Style) (e : Event) (texts : List (List ℕ)) → texts ≡ style.texts_in e → texts ≡ flat_map style.texts_in (e ∷ [])
+texts_alone style e texts same = same ∙ sym (append-nil (style.texts_in e))
+
+pub bases_silent : (style : Style) (bases : List BusBase) → ((fields : List (List ℕ)) → style.asked_in (row fields) ≡ []) → AllByRecursion (λ e. style.asked_in e ≡ []) (map (λ b. row (base_fields b.bus b.kv)) bases)
+bases_silent style [] silent = tt
+bases_silent style (b ∷ bases) silent = (silent (base_fields b.bus b.kv), bases_silent style bases silent)
+
+-- texts with what opens them
+pub opened_first : (first : List (List ℕ)) (texts : List (List ℕ)) → has_text (map writes texts) ≡ true → map writes (first ++ texts) ≡ opened first (map writes texts)
+opened_first first [] some = absurd (cc some)
+opened_first first (text ∷ texts) some = map-append writes first (text ∷ texts)
+
+pub opened_nothing : (first : List (List ℕ)) (texts : List (List ℕ)) → has_text (map writes texts) ≡ false → map writes texts ≡ opened first (map writes texts)
+opened_nothing first [] none = refl
+opened_nothing first (text ∷ texts) none = absurd (cc none)
+
+-- ---- a settle's calls and then a fault's
 
 module _ {S : Type 0} (taken : S → Option (List ℕ)) (calls : S → Option ℕ) where
-  pub failed_whole : (old new : S) (texts : List (List ℕ)) (f : Fault) (code : ℕ) → code ≡ status f → Takes taken calls old new (texts ++ fault_text f ∷ [])
-      → Printed taken calls old new (record { calls = map writes texts ++ writes (fault_text f) ∷ []; end = Some f }) code
-  failed_whole old new texts f code is takes = record {
-    made = whole (map writes (texts ++ fault_text f ∷ []));
-    done = inl (record { calls = map-append writes texts (fault_text f ∷ []); torn = refl; status_is = is });
-    wrote = wrote_all taken calls old new (texts ++ fault_text f ∷ []) takes;
+  pub failed_whole : (old new : S) (texts : List (List ℕ)) (all : List Call) (f : Fault) (code : ℕ) → map writes texts ≡ all → code ≡ status f → Takes taken calls old new texts
+      → Printed taken calls old new (record { calls = all; end = Some f }) code
+  failed_whole old new texts all f code same is takes = record {
+    made = whole (map writes texts);
+    done = inl (record { calls = same; torn = refl; status_is = is });
+    wrote = wrote_all taken calls old new texts takes;
   }
 
-  pub failed_cut : (old new : S) (texts : List (List ℕ)) (f : Fault) (code : ℕ) → IsCutIn taken calls old new (map writes (texts ++ fault_text f ∷ [])) code
-      → Printed taken calls old new (record { calls = map writes texts ++ writes (fault_text f) ∷ []; end = Some f }) code
-  failed_cut old new texts f code c = record {
-    made = c.made;
-    done = inr (subst (λ l. IsFrontOf l code c.made) (map-append writes texts (fault_text f ∷ [])) c.front);
-    wrote = c.wrote;
+  pub ended_whole : (old new : S) (texts : List (List ℕ)) (all : List Call) → map writes texts ≡ all → Takes taken calls old new texts
+      → Printed taken calls old new (record { calls = all; end = None }) 0
+  ended_whole old new texts all same takes = record {
+    made = whole (map writes texts);
+    done = inl (record { calls = same; torn = refl; status_is = refl });
+    wrote = wrote_all taken calls old new texts takes;
   }
+
+  pub wrote_as : (old new : S) (texts : List (List ℕ)) (all : List Call) → map writes texts ≡ all → Takes taken calls old new texts → Wrote taken calls old new (whole all)
+  wrote_as old new texts all same takes = subst (λ l. Wrote taken calls old new (whole l)) same (wrote_all taken calls old new texts takes)
+
+  pub cut_as : (old new : S) (a all : List Call) (code : ℕ) → a ≡ all → IsCutIn taken calls old new a code → IsCutIn taken calls old new all code
+  cut_as old new a all code same c = subst (λ l. IsCutIn taken calls old new l code) same c
+
+  pub printed_cut : (old new : S) (all : List Call) (end : Option Fault) (code : ℕ) → IsCutIn taken calls old new all code → Printed taken calls old new (record { calls = all; end = end }) code
+  printed_cut old new all end code c = record { made = c.made; done = inr c.front; wrote = c.wrote }
 
 -- ---- what a command does
 
-module _ {S : Type 0} (is_step : Step StandingView → Type 0) (taken : S → Option (List ℕ)) (calls : S → Option ℕ) where
-  pub goes_changed : (now : StandingView) (out : S) (begun : Bool) → is_step (changes now) → GoesOn report IsSolved is_step now taken calls out out begun begun
+module _ {S : Type 0} (style : Style) (is_step : Step StandingView → Type 0) (taken : S → Option (List ℕ)) (calls : S → Option ℕ) where
+  pub goes_changed : (now : StandingView) (out : S) (begun : Bool) → is_step (changes now) → GoesOn style IsSolved is_step now taken calls out out begun begun
   goes_changed now out begun is = record {
     events = [];
     right = is;
     all_good = All-nil (IfSettle IsSolved);
-    wrote = subst (λ l. Wrote taken calls out out (whole l)) (sym (nothing_behind begun)) (wrote_nothing taken calls out);
-    begun_is = or_false begun;
+    wrote = subst (λ l. Wrote taken calls out out (whole l)) (sym (nothing_behind style begun)) (wrote_nothing taken calls out);
+    begun_is = sym (or_false begun);
   }
 
   -- the fault's record stands alone where nothing is printed before it
   fault_behind : (f : Fault) (code : ℕ) (old new : S) (p : Printed taken calls old new (fault_doing f) code) (before : List Call) → before ≡ [] → IsDone (record { calls = before ++ writes (fault_text f) ∷ []; end = Some f }) code p.made
   fault_behind f code old new p before none = subst (λ l. IsDone (record { calls = l ++ writes (fault_text f) ∷ []; end = Some f }) code p.made) (sym none) p.done
 
-  pub ends_refused : (old new : S) (begun : Bool) (f : Fault) (code : ℕ) → is_step (ends [] f) → Printed taken calls old new (fault_doing f) code → EndsAt report IsSolved is_step taken calls old new begun code
+  pub ends_refused : (old new : S) (begun : Bool) (f : Fault) (code : ℕ) → is_step (ends [] f) → Printed taken calls old new (fault_doing f) code → EndsAt style IsSolved is_step taken calls old new begun code
   ends_refused old new begun f code is p = record {
     step = ends [] f;
     right = is;
@@ -122,13 +151,13 @@ module _ {S : Type 0} (is_step : Step StandingView → Type 0) (taken : S → Op
     hidden = [];
     events_are = refl;
     all_good = All-nil (IfSettle IsSolved);
-    done = inl (refl, fault_behind f code old new p (behind report begun []) (nothing_behind begun));
+    done = inl (refl, fault_behind f code old new p (behind style begun []) (nothing_behind style begun));
     wrote = p.wrote;
   }
 
-  pub ends_without_memory : (out : S) (begun : Bool) → ExactlyOne is_step → EndsAt report IsSolved is_step taken calls out out begun 1
+  pub ends_without_memory : (out : S) (begun : Bool) → ExactlyOne is_step → EndsAt style IsSolved is_step taken calls out out begun 1
   ends_without_memory out begun one =
-      let cut = cut_before taken calls out (behind report begun []) in
+      let cut = cut_before taken calls out (behind style begun []) in
       record {
         step = one.some;
         right = one.is;
@@ -141,13 +170,36 @@ module _ {S : Type 0} (is_step : Step StandingView → Type 0) (taken : S → Op
         wrote = cut.wrote;
       }
 
+-- ---- events that are no settles
+
+pub bases_good : (bases : List BusBase) → AllSettles IsSolved (map (λ b. row (base_fields b.bus b.kv)) bases)
+bases_good [] = All-nil (IfSettle IsSolved)
+bases_good (b ∷ bases) = All-cons (IfSettle IsSolved) (row (base_fields b.bus b.kv)) (map (λ x. row (base_fields x.bus x.kv)) bases) tt (bases_good bases)
+
+module _ {S : Type 0} (style : Style) (is_step : Step StandingView → Type 0) (taken : S → Option (List ℕ)) (calls : S → Option ℕ) (now : StandingView) (events : List Event) (good : AllSettles IsSolved events) (is : is_step (goes events now)) where
+  pub goes_printed : (old new : S) (begun after : Bool) → Wrote taken calls old new (whole (behind style begun events)) → after ≡ (begun || has_text (body style events)) → GoesOn style IsSolved is_step now taken calls old new begun after
+  goes_printed old new begun after wrote begun_is = record { events = events; right = is; all_good = good; wrote = wrote; begun_is = begun_is }
+
+  pub ends_cut : (old new : S) (begun : Bool) (code : ℕ) → IsCutIn taken calls old new (behind style begun events) code → EndsAt style IsSolved is_step taken calls old new begun code
+  ends_cut old new begun code cut = record {
+    step = goes events now;
+    right = is;
+    made = cut.made;
+    shown = events;
+    hidden = [];
+    events_are = sym (append-nil events);
+    all_good = good;
+    done = inr cut.front;
+    wrote = cut.wrote;
+  }
+
 -- ---- another step of the same events
 
-module _ {S : Type 0} (taken : S → Option (List ℕ)) (calls : S → Option ℕ) (P Q : Step StandingView → Type 0) (weaker : (step : Step StandingView) → P step → Q step) where
-  pub goes_as : (now : StandingView) (old new : S) (begun after : Bool) → GoesOn report IsSolved P now taken calls old new begun after → GoesOn report IsSolved Q now taken calls old new begun after
+module _ {S : Type 0} (style : Style) (taken : S → Option (List ℕ)) (calls : S → Option ℕ) (P Q : Step StandingView → Type 0) (weaker : (step : Step StandingView) → P step → Q step) where
+  pub goes_as : (now : StandingView) (old new : S) (begun after : Bool) → GoesOn style IsSolved P now taken calls old new begun after → GoesOn style IsSolved Q now taken calls old new begun after
   goes_as now old new begun after h = record { events = h.events; right = weaker (goes h.events now) h.right; all_good = h.all_good; wrote = h.wrote; begun_is = h.begun_is }
 
-  pub ends_as : (old new : S) (begun : Bool) (code : ℕ) → EndsAt report IsSolved P taken calls old new begun code → EndsAt report IsSolved Q taken calls old new begun code
+  pub ends_as : (old new : S) (begun : Bool) (code : ℕ) → EndsAt style IsSolved P taken calls old new begun code → EndsAt style IsSolved Q taken calls old new begun code
   ends_as old new begun code h = record {
     step = h.step;
     right = weaker h.step h.right;
@@ -159,22 +211,3 @@ module _ {S : Type 0} (taken : S → Option (List ℕ)) (calls : S → Option �
     done = h.done;
     wrote = h.wrote;
   }
-
--- ---- behind the last command
-
-last_nothing : (begun : Bool) → last_calls report begun [] None ≡ []
-last_nothing true = refl
-last_nothing false = refl
-
-pub finishes_nothing : {L S : Type 0} (faults : L → ℕ) (asked_of : L → Option (List (List ℕ))) (taken : S → Option (List ℕ)) (calls : S → Option ℕ) (lib : L) (out : S) (begun : Bool)
-    → Finishes report IsSolved (λ h. h ≡ finishes []) faults asked_of taken calls lib lib out out begun 0
-finishes_nothing faults asked_of taken calls lib out begun = record {
-  history = finishes [];
-  right = refl;
-  fails = None;
-  cause = inl refl;
-  made = whole [];
-  done = inl (record { calls = sym (last_nothing begun); torn = refl; status_is = refl });
-  all_good = All-nil (IfSettle IsSolved);
-  sees = sees_none asked_of taken calls lib out;
-}

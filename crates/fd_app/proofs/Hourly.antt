@@ -3,7 +3,6 @@ use Rattle.std.proofs.Common.{◌≡◌, ◌∙◌, ℕ, Bool, true, false, List
 use Rattle.std.specs.Prelude.{◌||◌, ◌+◌, ◌-◌, IsSome}
 use Rattle.std.specs.List.{range_with_len}
 use Rattle.std.specs.Option.{unwrap_or}
-use Rattle.std.proofs.lemmas.Grind.{flat_map-append}
 use Rattle.std.proofs.lemmas.List.{append_assoc, append-nil}
 use Rattle.std.proofs.lemmas.List.Elements.{All-nil, All-cons, All-append}
 use Rattle.dss_profile.specs.declared.command.Blame.{Blame}
@@ -17,20 +16,21 @@ use Rattle.fd_devices.specs.declared.settings.Positions.{Positions as CodePositi
 use Rattle.fd_queue.specs.Controls.{Positions}
 use Rattle.fd_settle.specs.Computed.{range, stopped}
 use Rattle.fd_settle.specs.declared.round.Round.{Round as Made}
-use Rattle.fd_outcome.specs.Behind.{has_text}
-use Rattle.fd_outcome.specs.Calls.{Call, body, calls_in, fault_text, reads, report, writes}
+use Rattle.fd_outcome.specs.Behind.{behind, has_text}
+use Rattle.fd_outcome.specs.Calls.{Call, Style, body, calls_in, fault_text, opened, reads, writes}
 use Rattle.fd_outcome.specs.Done.{IsDone, IsFrontOf}
 use Rattle.fd_outcome.specs.Events.{AllSettles, Event, IfSettle, settle}
 use Rattle.fd_outcome.specs.Parts.{EndsAt, GoesOn, IsCutIn, Printed, Wrote, events_in, fault_doing}
-use Rattle.fd_outcome.specs.Settles.{Settle, settled, failed}
+use Rattle.fd_outcome.specs.Settles.{Settle, SettleEnd, settled, failed, without_certificate}
 use Rattle.fd_outcome.specs.Way.{whole}
 use Rattle.fd_outcome.specs.Work.{Step, goes, ends}
-use Rattle.fd_outcome.proofs.CallerLemmas.{cut_before, cut_then, printed_then, wrote_nothing, wrote_then}
-use Rattle.fd_app.specs.Answered.{IsMadeHour, kept_in, texts_of}
+use Rattle.fd_outcome.proofs.CallerLemmas.{behind-append, cut_then, nothing_behind, or_false, printed_then, text_behind, wrote_nothing, wrote_then}
+use Rattle.fd_app.specs.Answered.{IsMadeHour, kept_in}
 use Rattle.fd_app.specs.Headline.{IsSolved, IsSteady}
+use Rattle.fd_app.specs.Printing.{EndsInHour, IsPrintedHour, begun_behind, fault_of, settle_calls}
 use Rattle.fd_app.specs.Solving.{IsBehind, IsHour, IsHoursStep, IsSolutionStep, hour_begun, kept_by, kept_first, plant_at}
 use Rattle.fd_app.specs.Steps.{Kept, StandingView, behind_events, hour_settle, standing}
-use Rattle.fd_app.proofs.Handed.{behind_report}
+use Rattle.fd_app.specs.declared.faults.Failure.{Failure}
 use Rattle.fd_app.proofs.Starting.{next_first}
 use Rattle.fd_app.proofs.Tests.{one_hours}
 
@@ -50,28 +50,20 @@ events_behind a (ends events f) = refl
 
 -- ---- calls
 
-body-append : (a b : List Event) → body report (a ++ b) ≡ body report a ++ body report b
-body-append a b = flat_map-append (λ e. calls_in report e) a b
+-- the calls of events, and then of a settle
+behind_more : (style : Style) (begun b : Bool) (events : List Event) (x : Settle) → b ≡ (begun || has_text (body style events)) → behind style begun events ++ settle_calls style b x ≡ behind style begun (events ++ settle x ∷ [])
+behind_more style begun b events x is = ap (λ (t : Bool). behind style begun events ++ behind style t (settle x ∷ [])) is ∙ sym (behind-append style begun events (settle x ∷ []))
 
-body_settle : (x : Settle) → body report (settle x ∷ []) ≡ map writes (texts_of x)
-body_settle x = append-nil (map writes (texts_of x))
+-- nothing of a settle without a text
+no_calls : (style : Style) (b : Bool) (x : Settle) → style.asked_in (settle x) ≡ [] → style.texts_in (settle x) ≡ [] → settle_calls style b x ≡ []
+no_calls style b x silent none = by b
+  where
+    no_body : body style (settle x ∷ []) ≡ []
+    no_body = append-nil (calls_in style (settle x)) ∙ ap (λ l. map reads l ++ map writes (style.texts_in (settle x))) silent ∙ ap (map writes) none
 
-body_more : (events : List Event) (x : Settle) → body report (events ++ settle x ∷ []) ≡ body report events ++ map writes (texts_of x)
-body_more events x = body-append events (settle x ∷ []) ∙ ap (λ l. body report events ++ l) (body_settle x)
-
--- whether a text was written, so far and then more
-or_assoc : (a b c : Bool) → ((a || b) || c) ≡ (a || (b || c))
-or_assoc true b c = refl
-or_assoc false b c = refl
-
-has_text-append : (a b : List Call) → has_text (a ++ b) ≡ (has_text a || has_text b)
-has_text-append [] b = refl
-has_text-append (reads n ∷ a) b = has_text-append a b
-has_text-append (writes text ∷ a) b = refl
-
-or_false : (b : Bool) → b ≡ (b || false)
-or_false true = refl
-or_false false = refl
+    by : (t : Bool) → settle_calls style t x ≡ []
+    by true = no_body
+    by false = ap (opened style.opening) no_body
 
 good_more : (events : List Event) (x : Settle) → AllSettles IsSolved events → IsSolved x → AllSettles IsSolved (events ++ settle x ∷ [])
 good_more events x all is = All-append (IfSettle IsSolved) events (settle x ∷ []) all (All-cons (IfSettle IsSolved) (settle x) [] is (All-nil (IfSettle IsSolved)))
@@ -81,9 +73,15 @@ unsampled : (c : CircuitView) (hour : ℕ) (k : Kept) (f : Fault) → IsSteady (
 unsampled c hour k f [] chosen = refl
 unsampled c hour k f (x ∷ xs) chosen = absurd chosen
 
+-- a settle that ended with this fault ends the step
+behind_failed : (x : Settle) (end : SettleEnd) (f : Fault) (rest : Step StandingView → Type 0) → fault_of end ≡ Some f → IsBehind x end rest (ends (settle x ∷ []) f)
+behind_failed x settled f rest h = absurd (let no : None ≡ Some f = h in cc no)
+behind_failed x (failed e) f rest h = ap (λ (k : Fault). (let s : Step StandingView = ends (settle x ∷ []) k in s)) (let same : Some e ≡ Some f = h in let is : f ≡ e = cc same in is)
+behind_failed x (without_certificate r e) f rest h = ap (λ (k : Fault). (let s : Step StandingView = ends (settle x ∷ []) k in s)) (let same : Some e ≡ Some f = h in let is : f ≡ e = cc same in is)
+
 -- ---- the loop
 
-module _ (c : CircuitView) (first : List ℕ) (l : Kept) {S : Type 0} (taken : S → Option (List ℕ)) (calls : S → Option ℕ) (old : S) (begun : Bool) where
+module _ (style : Style) (c : CircuitView) (first : List ℕ) (l : Kept) {S : Type 0} (taken : S → Option (List ℕ)) (calls : S → Option ℕ) (old : S) (begun : Bool) where
   abbrev IsFirst : Step StandingView → Type 0
   IsFirst step = IsHoursStep c first l step
 
@@ -92,97 +90,25 @@ module _ (c : CircuitView) (first : List ℕ) (l : Kept) {S : Type 0} (taken : S
   pub record HourWay (left : List ℕ) (k : Kept) (now : S) (b : Bool) : Type 0 where
     pub events : List Event
     pub leads : (step : Step StandingView) → IsHoursStep c left k step → IsHoursStep c first l (behind_events events step)
-    pub wrote : Wrote taken calls old now (whole (body report events))
+    pub wrote : Wrote taken calls old now (whole (behind style begun events))
     pub all_good : AllSettles IsSolved events
-    pub begun_is : b ≡ (begun || has_text (body report events))
+    pub begun_is : b ≡ (begun || has_text (body style events))
 
   pub way_start : HourWay first l old begun
   way_start = record {
     events = [];
     leads = λ step is. subst IsFirst (sym (behind_none step)) is;
-    wrote = wrote_nothing taken calls old;
+    wrote = subst (λ cs. Wrote taken calls old old (whole cs)) (sym (nothing_behind style begun)) (wrote_nothing taken calls old);
     all_good = All-nil (IfSettle IsSolved);
-    begun_is = or_false begun;
+    begun_is = sym (or_false begun);
   }
 
-  module _ (hour : ℕ) (left : List ℕ) (k : Kept) (now : S) (b : Bool) (way : HourWay (hour ∷ left) k now b) (x : Settle) (kept : Kept) (is : IsHour c hour k x kept) (good : IsSolved x) where
-    abbrev more : List Event
-    more = way.events ++ settle x ∷ []
-
-    -- whatever follows an hour that ended well
-    leads_on : x.end ≡ settled → (step : Step StandingView) → IsHoursStep c left kept step → IsFirst (behind_events more step)
-    leads_on well step h =
-        let next : IsBehind x settled (λ s. IsHoursStep c left kept s) (behind_events (settle x ∷ []) step) = record { more = step; right = h; step_is = refl } in
-        let here : IsBehind x x.end (λ s. IsHoursStep c left kept s) (behind_events (settle x ∷ []) step) = subst (λ e. IsBehind x e (λ s. IsHoursStep c left kept s) (behind_events (settle x ∷ []) step)) (sym well) next in
-        subst IsFirst (behind_both way.events (settle x ∷ []) step) (way.leads (behind_events (settle x ∷ []) step) (record { made = x; kept = kept; is = is; goes_on = here }))
-
-    pub way_more : x.end ≡ settled → (new : S) (after : Bool) → Wrote taken calls now new (whole (map writes (texts_of x))) → after ≡ (b || has_text (map writes (texts_of x))) → HourWay left kept new after
-    way_more well new after wrote now_begun = record {
-      events = more;
-      leads = leads_on well;
-      wrote = subst (λ cs. Wrote taken calls old new (whole cs)) (sym (body_more way.events x)) (wrote_then taken calls old now new (body report way.events) (whole (map writes (texts_of x))) way.wrote wrote);
-      all_good = good_more way.events x way.all_good good;
-      begun_is = now_begun ∙ ap (λ y. y || has_text (map writes (texts_of x))) way.begun_is ∙ or_assoc begun (has_text (body report way.events)) (has_text (map writes (texts_of x)))
-          ∙ ap (λ y. begun || y) (sym (has_text-append (body report way.events) (map writes (texts_of x))) ∙ ap has_text (sym (body_more way.events x)));
-    }
-
-    -- cut short within its texts
-    pub way_cut : x.end ≡ settled → (new : S) (code : ℕ) → IsCutIn taken calls now new (map writes (texts_of x)) code → EndsAt report IsSolved IsFirst taken calls old new begun code
-    way_cut well new code cut =
-        let rest = one_hours c left kept in
-        let all = cut_then taken calls old now new (body report way.events) (map writes (texts_of x)) code way.wrote cut in
-        record {
-          step = behind_events more rest.some;
-          right = leads_on well rest.some rest.is;
-          made = all.made;
-          shown = more;
-          hidden = events_in rest.some;
-          events_are = events_behind more rest.some;
-          all_good = good_more way.events x way.all_good good;
-          done = inr (subst (λ cs. IsFrontOf cs code all.made) (sym (body_more way.events x) ∙ sym (behind_report begun more)) all.front);
-          wrote = all.wrote;
-        }
-
-    pub way_failed : (f : Fault) → x.end ≡ failed f → (new : S) (code : ℕ) → Printed taken calls now new (record { calls = map writes (texts_of x) ++ writes (fault_text f) ∷ []; end = Some f }) code
-        → EndsAt report IsSolved IsFirst taken calls old new begun code
-    way_failed f ill new code printed =
-        let last : List Call = writes (fault_text f) ∷ [] in
-        let all = printed_then taken calls old now new (body report way.events) (map writes (texts_of x) ++ last) (Some f) code way.wrote printed in
-        let step : Step StandingView = ends (settle x ∷ []) f in
-        let here : IsBehind x x.end (λ s. IsHoursStep c left kept s) step = subst (λ e. IsBehind x e (λ s. IsHoursStep c left kept s) step) (sym ill) refl in
-        record {
-          step = ends more f;
-          right = way.leads step (record { made = x; kept = kept; is = is; goes_on = here });
-          made = all.made;
-          shown = more;
-          hidden = [];
-          events_are = sym (append-nil more);
-          all_good = good_more way.events x way.all_good good;
-          done = inl (
-            refl,
-            subst (λ cs. IsDone (record { calls = cs; end = Some f }) code all.made)
-                (sym (append_assoc (body report way.events) (map writes (texts_of x)) last) ∙ ap (λ cs. cs ++ last) (sym (body_more way.events x) ∙ sym (behind_report begun more))) all.done,
-          );
-          wrote = all.wrote;
-        }
-
-  -- all hours are done
-  pub way_done : (left : List ℕ) (k : Kept) (now : S) (b : Bool) → left ≡ [] → HourWay left k now b → GoesOn report IsSolved IsFirst (standing c k.at k.settled) taken calls old now begun b
-  way_done left k now b none way =
-      let last : Step StandingView = goes [] (standing c k.at k.settled) in
-      record {
-        events = way.events;
-        right = subst (λ events. IsFirst (goes events (standing c k.at k.settled))) (append-nil way.events) (way.leads last (subst (λ hours. IsHoursStep c hours k last) (sym none) refl));
-        all_good = way.all_good;
-        wrote = subst (λ cs. Wrote taken calls old now (whole cs)) (sym (behind_report begun way.events)) way.wrote;
-        begun_is = way.begun_is;
-      }
-
   -- memory runs out between two texts
-  pub way_short : (left : List ℕ) (k : Kept) (now : S) (b : Bool) → HourWay left k now b → EndsAt report IsSolved IsFirst taken calls old now begun 1
-  way_short left k now b way =
+  pub way_short : (left : List ℕ) (k : Kept) (now : S) (b : Bool) → HourWay left k now b → (new : S) (code : ℕ) → Wrote taken calls now new (whole []) → code ≡ 1 → EndsAt style IsSolved IsFirst taken calls old new begun code
+  way_short left k now b way new code none is =
       let rest = one_hours c left k in
-      let cut = cut_then taken calls old now now (body report way.events) [] 1 way.wrote (cut_before taken calls now []) in
+      let nothing : IsCutIn taken calls now new [] code = record { made = whole []; front = inl (record { rest = []; calls = refl; torn = refl; status_is = is }); wrote = none } in
+      let cut = cut_then taken calls old now new (behind style begun way.events) [] code way.wrote nothing in
       record {
         step = behind_events way.events rest.some;
         right = way.leads rest.some rest.is;
@@ -191,19 +117,110 @@ module _ (c : CircuitView) (first : List ℕ) (l : Kept) {S : Type 0} (taken : S
         hidden = events_in rest.some;
         events_are = events_behind way.events rest.some;
         all_good = way.all_good;
-        done = inr (subst (λ cs. IsFrontOf cs 1 cut.made) (append-nil (body report way.events) ∙ sym (behind_report begun way.events)) cut.front);
+        done = inr (subst (λ cs. IsFrontOf cs code cut.made) (append-nil (behind style begun way.events)) cut.front);
         wrote = cut.wrote;
       }
 
-  -- the network with which an hour starts is out of range
-  pub way_range : (hour : ℕ) (left : List ℕ) (k : Kept) (now : S) (b : Bool) → HourWay (hour ∷ left) k now b → (blame : Blame) → (plant_at c hour).blame k.at ≡ Some blame → (new : S) (code : ℕ)
-      → Printed taken calls now new (fault_doing (fault.Script blame.place (cause.Model blame.cause))) code → EndsAt report IsSolved IsFirst taken calls old new begun code
-  way_range hour left k now b way blame here new code printed =
-      let f : Fault = fault.Script blame.place (cause.Model blame.cause) in
-      let none : Settle = hour_settle c hour k [] (failed f) k.at in
-      way_failed hour left k now b way none (kept_by k (hour_begun c hour k))
-      (record { rounds = []; ending = stopped (range blame); machine = hour_begun c hour k; computed = (here, refl); end = failed f; end_is = refl; settle_is = refl; kept = refl })
-      (record { solutions = tt; alike = tt; steady = unsampled c hour k f }) f refl new code printed
+  module _ (hour : ℕ) (left : List ℕ) (k : Kept) (now : S) (b : Bool) (way : HourWay (hour ∷ left) k now b) (x : Settle) (kept : Kept) (is : IsHour c hour k x kept) (good : IsSolved x) where
+    abbrev more : List Event
+    more = way.events ++ settle x ∷ []
+
+    calls_more : behind style begun way.events ++ settle_calls style b x ≡ behind style begun more
+    calls_more = behind_more style begun b way.events x way.begun_is
+
+    -- whatever follows an hour that ended well
+    leads_on : x.end ≡ settled → (step : Step StandingView) → IsHoursStep c left kept step → IsFirst (behind_events more step)
+    leads_on well step h =
+        let next : IsBehind x settled (λ s. IsHoursStep c left kept s) (behind_events (settle x ∷ []) step) = record { more = step; right = h; step_is = refl } in
+        let here : IsBehind x x.end (λ s. IsHoursStep c left kept s) (behind_events (settle x ∷ []) step) = subst (λ e. IsBehind x e (λ s. IsHoursStep c left kept s) (behind_events (settle x ∷ []) step)) (sym well) next in
+        subst IsFirst (behind_both way.events (settle x ∷ []) step) (way.leads (behind_events (settle x ∷ []) step) (record { made = x; kept = kept; is = is; goes_on = here }))
+
+    way_more : x.end ≡ settled → (new : S) (after : Bool) → Wrote taken calls now new (whole (settle_calls style b x)) → after ≡ begun_behind style b x → HourWay left kept new after
+    way_more well new after wrote now_begun = record {
+      events = more;
+      leads = leads_on well;
+      wrote = subst (λ cs. Wrote taken calls old new (whole cs)) calls_more (wrote_then taken calls old now new (behind style begun way.events) (whole (settle_calls style b x)) way.wrote wrote);
+      all_good = good_more way.events x way.all_good good;
+      begun_is = now_begun ∙ ap (λ y. y || has_text (body style (settle x ∷ []))) way.begun_is ∙ text_behind style begun way.events (settle x ∷ []);
+    }
+
+    -- cut short within its texts
+    way_cut : x.end ≡ settled → (new : S) (code : ℕ) → IsCutIn taken calls now new (settle_calls style b x) code → EndsAt style IsSolved IsFirst taken calls old new begun code
+    way_cut well new code cut =
+        let rest = one_hours c left kept in
+        let all = cut_then taken calls old now new (behind style begun way.events) (settle_calls style b x) code way.wrote cut in
+        record {
+          step = behind_events more rest.some;
+          right = leads_on well rest.some rest.is;
+          made = all.made;
+          shown = more;
+          hidden = events_in rest.some;
+          events_are = events_behind more rest.some;
+          all_good = good_more way.events x way.all_good good;
+          done = inr (subst (λ cs. IsFrontOf cs code all.made) calls_more all.front);
+          wrote = all.wrote;
+        }
+
+    way_failed : (f : Fault) → fault_of x.end ≡ Some f → (new : S) (code : ℕ) → Printed taken calls now new (record { calls = settle_calls style b x ++ writes (fault_text f) ∷ []; end = Some f }) code
+        → EndsAt style IsSolved IsFirst taken calls old new begun code
+    way_failed f ill new code printed =
+        let last : List Call = writes (fault_text f) ∷ [] in
+        let all = printed_then taken calls old now new (behind style begun way.events) (settle_calls style b x ++ last) (Some f) code way.wrote printed in
+        let step : Step StandingView = ends (settle x ∷ []) f in
+        record {
+          step = ends more f;
+          right = way.leads step (record { made = x; kept = kept; is = is; goes_on = behind_failed x x.end f (λ s. IsHoursStep c left kept s) ill });
+          made = all.made;
+          shown = more;
+          hidden = [];
+          events_are = sym (append-nil more);
+          all_good = good_more way.events x way.all_good good;
+          done = inl (
+            refl,
+            subst (λ cs. IsDone (record { calls = cs; end = Some f }) code all.made) (sym (append_assoc (behind style begun way.events) (settle_calls style b x) last) ∙ ap (λ cs. cs ++ last) calls_more) all.done,
+          );
+          wrote = all.wrote;
+        }
+
+  module _ (hour : ℕ) (left : List ℕ) (k : Kept) (now : S) (b : Bool) (way : HourWay (hour ∷ left) k now b) where
+    -- behind an hour that is printed
+    pub way_printed : (kept : Kept) (new : S) (after : Bool) → IsPrintedHour style taken calls now new b c hour k kept after → HourWay left kept new after
+    way_printed kept new after p = way_more hour left k now b way p.made kept p.is p.good p.well new after p.wrote p.begun_is
+
+    -- the run ends in an hour
+    pub way_ended : (new : S) (code : ℕ) → EndsInHour style taken calls now new b c hour k code → EndsAt style IsSolved IsFirst taken calls old new begun code
+    way_ended new code e = elim e [
+      | inl short ↦ way_short (hour ∷ left) k now b way new code short.wrote short.code_is
+      | inr more ↦ elim more [
+        | inl p ↦ way_cut hour left k now b way p.made p.kept p.is p.good p.well new code p.cut
+        | inr p ↦ way_failed hour left k now b way p.made p.kept p.is p.good p.fault p.ill new code p.printed
+      ]
+    ]
+
+    -- the network with which an hour starts is out of range
+    pub way_range : ((s : Settle) → style.asked_in (settle s) ≡ []) → ((s : Settle) (f : Fault) → s.rounds ≡ [] → s.end ≡ failed f → style.texts_in (settle s) ≡ []) →
+        (blame : Blame) → (plant_at c hour).blame k.at ≡ Some blame → (new : S) (code : ℕ)
+        → Printed taken calls now new (fault_doing (fault.Script blame.place (cause.Model blame.cause))) code → EndsAt style IsSolved IsFirst taken calls old new begun code
+    way_range silent unshown blame here new code printed =
+        let f : Fault = fault.Script blame.place (cause.Model blame.cause) in
+        let none : Settle = hour_settle c hour k [] (failed f) k.at in
+        let nothing : settle_calls style b none ≡ [] = no_calls style b none (silent none) (unshown none f refl refl) in
+        way_failed hour left k now b way none (kept_by k (hour_begun c hour k))
+        (record { rounds = []; ending = stopped (range blame); machine = hour_begun c hour k; computed = (here, refl); end = failed f; end_is = refl; settle_is = refl; kept = refl })
+        (record { solutions = tt; alike = tt; steady = unsampled c hour k f }) f refl new code
+        (subst (λ cs. Printed taken calls now new (record { calls = cs ++ writes (fault_text f) ∷ []; end = Some f }) code) (sym nothing) printed)
+
+  -- all hours are done
+  pub way_done : (left : List ℕ) (k : Kept) (now : S) (b : Bool) → left ≡ [] → HourWay left k now b → GoesOn style IsSolved IsFirst (standing c k.at k.settled) taken calls old now begun b
+  way_done left k now b none way =
+      let last : Step StandingView = goes [] (standing c k.at k.settled) in
+      record {
+        events = way.events;
+        right = subst (λ events. IsFirst (goes events (standing c k.at k.settled))) (append-nil way.events) (way.leads last (subst (λ hours. IsHoursStep c hours k last) (sym none) refl));
+        all_good = way.all_good;
+        wrote = way.wrote;
+        begun_is = way.begun_is;
+      }
 
 -- ---- an hour as the code has it
 
@@ -211,7 +228,7 @@ module _ (c : CircuitView) (first : List ℕ) (l : Kept) {S : Type 0} (taken : S
 pub hour_is : (o : Option ℕ) (d : DayView) (h : ℕ) → o ≡ d.hour → o ≡ Some h → hour_in d ≡ h
 hour_is o d h next some = ap (λ (x : Option ℕ). unwrap_or x 0) (sym next ∙ some)
 
-pub made_as : (c : CircuitView) (hour h : ℕ) (l : Kept) (rounds rs : List Made) (f : Option Fault) (k : Kept) → hour ≡ h → rs ≡ rounds → IsMadeHour c hour l rounds f k → IsMadeHour c h l rs f k
+pub made_as : (c : CircuitView) (hour h : ℕ) (l : Kept) (rounds rs : List Made) (f : Option Failure) (k : Kept) → hour ≡ h → rs ≡ rounds → IsMadeHour c hour l rounds f k → IsMadeHour c h l rs f k
 made_as c hour h l rounds rs f k same_hour same made = subst (λ (x : List Made). IsMadeHour c h l x f k) (sym same) (subst (λ (n : ℕ). IsMadeHour c n l rounds f k) same_hour made)
 
 -- the hours that were left begin with it

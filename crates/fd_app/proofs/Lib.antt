@@ -12,3 +12,5 @@ mod Handed
 mod Weights
 mod Runs
 mod Days
+mod Tried
+mod Blocks

@@ -8,29 +8,38 @@ use Rattle.dss_script.specs.Said.{Said, ScriptEnd, said_of, ended_by, said_in, e
 use Rattle.dss_script.specs.SaidLaws.{SaidLaw}
 use Rattle.fd_report.specs.declared.faults.Fault.TheVariants as fault
 use Rattle.fd_outcome.specs.Behind.{AsksNames}
-use Rattle.fd_outcome.specs.Calls.{report}
+use Rattle.fd_outcome.specs.Calls.{Style, certificate, report}
 use Rattle.fd_outcome.specs.Events.{History, ended, finishes}
 use Rattle.fd_outcome.specs.History.{IsHistory}
 use Rattle.fd_outcome.specs.Laws.{IsDue}
 use Rattle.fd_outcome.specs.Runs.{Runs}
+use Rattle.fd_outcome.specs.Work.{ExactlyOne}
 use Rattle.fd_outcome.proofs.CallerLemmas.{ends_first, exactly_one_history, exactly_this, run_due}
 use Rattle.fd_app.specs.Commands.{IsStep}
 use Rattle.fd_app.specs.Headline.{IsSolved}
 use Rattle.fd_app.specs.Run.{FormsLaw, IsDoneThere, IsFormHistory, IsScriptHistory, first_standing, no_name, style_of}
 use Rattle.fd_app.specs.Steps.{StandingView}
-use Rattle.fd_app.specs.Words.{Form, Solve}
+use Rattle.fd_app.specs.Words.{Form, Solve, Cert}
 use Rattle.fd_app.proofs.Tests.{one_step}
 
 -- a report asks for the names of its events
 pub report_asks : AsksNames report
 report_asks = record { asks = λ n. refl; silent = λ n. refl }
 
-pub forms : FormsLaw
-forms files None = exactly_this (ended [] fault.Usage)
-forms files (Some (Solve file)) =
+-- and so does a certificate
+pub certificate_asks : AsksNames certificate
+certificate_asks = record { asks = λ n. refl; silent = λ n. refl }
+
+script_form : (files : Files) (file : List ℕ) → ExactlyOne (λ h. IsScriptHistory files (said_of files (chars file)) h)
+script_form files file =
     let p = said_of files (chars file) in
     exactly_one_history IsStep no_name IsDoneThere one_step (λ s found. exactly_this (finishes []))
     (λ n. held files (bytes n)) p.said (ended_by p.left) first_standing
+
+pub forms : FormsLaw
+forms files None = exactly_this (ended [] fault.Usage)
+forms files (Some (Solve file)) = script_form files file
+forms files (Some (Cert file)) = script_form files file
 
 module _ {L S : Type 0} (faults : L → ℕ) (asked_of : L → Option (List (List ℕ))) (taken : S → Option (List ℕ)) (calls : S → Option ℕ) (lib_old lib_new : L) (old new : S) where
   pub due : (files : Files) (form : Option Form) (h : History) (code : ℕ) → IsFormHistory files form h
@@ -42,19 +51,19 @@ module _ {L S : Type 0} (faults : L → ℕ) (asked_of : L → Option (List (Lis
       subst (λ (x : History). IsDue x.end code (faults lib_old) (faults lib_new)) (sym (one.only h right)) all
 
   -- what the loop does of a session's script is done of what the script says
-  pub of_script : (law : SaidLaw) (files : Files) (file : List ℕ) (script : Script) (state : StandingView) (code : ℕ) → script ≡ script_of files file → state ≡ first_standing
-      → Runs faults asked_of taken calls lib_old lib_new old new (λ h. IsHistory IsStep no_name IsDoneThere (λ n. held files (bytes n)) (said_in script) (end_in script) state h) report IsSolved code
-      → Runs faults asked_of taken calls lib_old lib_new old new (λ h. IsScriptHistory files (said_of files file) h) report IsSolved code
-  of_script law files file script state code is empty runs =
+  pub of_script : (style : Style) (law : SaidLaw) (files : Files) (file : List ℕ) (script : Script) (state : StandingView) (code : ℕ) → script ≡ script_of files file → state ≡ first_standing
+      → Runs faults asked_of taken calls lib_old lib_new old new (λ h. IsHistory IsStep no_name IsDoneThere (λ n. held files (bytes n)) (said_in script) (end_in script) state h) style IsSolved code
+      → Runs faults asked_of taken calls lib_old lib_new old new (λ h. IsScriptHistory files (said_of files file) h) style IsSolved code
+  of_script style law files file script state code is empty runs =
       let p = said_of files file in
-      let P : List Said → ScriptEnd → StandingView → Type 0 = λ l e s. Runs faults asked_of taken calls lib_old lib_new old new (λ h. IsHistory IsStep no_name IsDoneThere (λ n. held files (bytes n)) l e s h) report IsSolved code in
+      let P : List Said → ScriptEnd → StandingView → Type 0 = λ l e s. Runs faults asked_of taken calls lib_old lib_new old new (λ h. IsHistory IsStep no_name IsDoneThere (λ n. held files (bytes n)) l e s h) style IsSolved code in
       let a : P (said_in script) (end_in script) first_standing = subst (P (said_in script) (end_in script)) empty runs in
       let b : P p.said (end_in script) first_standing = subst (λ l. P l (end_in script) first_standing) (ap said_in is ∙ law.said files file) a in
       subst (λ e. P p.said e first_standing) (ap end_in is ∙ law.end files file) b
 
   -- memory runs out before the script is read
-  pub not_begun : (files : Files) (file : List ℕ) (lib : L) (out : S) → Runs faults asked_of taken calls lib lib out out (λ h. IsScriptHistory files (said_of files file) h) report IsSolved 1
-  not_begun files file lib out =
+  pub not_begun : (style : Style) → AsksNames style → (files : Files) (file : List ℕ) (lib : L) (out : S) → Runs faults asked_of taken calls lib lib out out (λ h. IsScriptHistory files (said_of files file) h) style IsSolved 1
+  not_begun style fits files file lib out =
       let p = said_of files file in
-      ends_first IsStep no_name IsDoneThere IsSolved report (λ n. held files (bytes n)) faults asked_of taken calls (record { left = p.said; end = ended_by p.left; state = first_standing }) lib out
-      one_step (λ s found. exactly_this (finishes [])) report_asks p.said (ended_by p.left) first_standing refl
+      ends_first IsStep no_name IsDoneThere IsSolved style (λ n. held files (bytes n)) faults asked_of taken calls (record { left = p.said; end = ended_by p.left; state = first_standing }) lib out
+      one_step (λ s found. exactly_this (finishes [])) fits p.said (ended_by p.left) first_standing refl

@@ -10,6 +10,7 @@ use Rattle.dss_circuit.specs.InRange.{AllInRange}
 use Rattle.dss_circuit.specs.WellFormed.{IsEntry}
 use Rattle.fd_equations.specs.Views.{NetworkView}
 use Rattle.fd_cert.specs.Claims.{claim_in}
+use Rattle.fd_certfile.specs.Rounds.{IsRoundOf}
 use Rattle.fd_cert.specs.declared.fault.CertFault.TheVariants as cert
 use Rattle.fd_enclosure.specs.Encloses.{EnclosureLaw}
 use Rattle.fd_enclosure.specs.Sound.{Claim}
@@ -21,7 +22,6 @@ use Rattle.fd_elements.specs.declared.powers.LoadPower.{LoadPower}
 use Rattle.fd_queue.specs.Controls.{Positions}
 use Rattle.fd_queue.specs.Machine.{Act, Machine}
 use Rattle.fd_report.specs.Solutions.{IsOfSize}
-use Rattle.fd_report.specs.declared.faults.Fault.{Fault}
 use Rattle.fd_settle.specs.Chosen.{AreChosen}
 use Rattle.fd_settle.specs.Compute.{ComputeGives, IsPlaced}
 use Rattle.fd_settle.specs.Computed.{Ending, EndsBySolver, EndsSo, Follows, IsComputedFrom, computed_in, ended}
@@ -39,15 +39,19 @@ use Rattle.fd_settle.specs.declared.round.Round.{Round as Made}
 use Rattle.fd_outcome.specs.Pages.{solution_in}
 use Rattle.fd_outcome.specs.Settles.{Round, SettleEnd}
 use Rattle.fd_outcome.specs.Settles as outcome
-use Rattle.fd_app.specs.Answered.{IsMadeHour, IsOfCommand, IsPrintable, round_in, rounds_in, settle_made}
-use Rattle.fd_app.specs.Endings.{IsCounted, IsEnding, IsFaultAt, IsWithin, TellsOf, ending_by_solver, ending_of}
+use Rattle.fd_app.specs.Answered.{IsFailureOf, IsMadeHour, IsOfCommand, IsPrintable, IsTriedOf, round_in, rounds_in, settle_made}
+use Rattle.fd_app.specs.Endings.{IsCounted, IsEnding, IsFailureAt, IsTriedAt, IsWithin, TellsOf, end_by, end_with, ending_by_solver, ending_of, tried_at}
+use Rattle.fd_app.specs.declared.faults.Failure.{Failure}
 use Rattle.fd_app.specs.Headline.{DecidesAlike, IsOtherState, IsSolution, IsSolved}
+use Rattle.fd_cert.specs.declared.ball.Certified.{Certified}
+use Rattle.fd_report.specs.declared.faults.Fault.{Fault}
+use Rattle.fd_app.specs.Printing.{fault_of}
 use Rattle.fd_app.specs.Solving.{IsEndBy, IsHour, hour_begun, kept_by, plant_at, rounds_of}
-use Rattle.fd_app.specs.Steps.{Kept, hour_settle, round_of}
-use Rattle.fd_app.specs.Steps as steps
+use Rattle.fd_app.specs.Steps.{Kept, hour_settle}
 use Rattle.fd_app.proofs.Computations.{few_rounds}
 use Rattle.fd_app.proofs.Solutions.{is_of_size, is_solution, network_size}
 use Rattle.fd_app.proofs.Steadiness.{each_alike, steady}
+use Rattle.fd_app.proofs.Tried.{IsTriedBy, sound_claim, tried_as, tried_claims}
 
 -- ---- rounds as the code makes them, and as they are printed
 
@@ -55,7 +59,7 @@ same_rounds : (rs : List Made) → rounds_of (computed_in rs) ≡ rounds_in rs
 same_rounds [] = refl
 same_rounds (r ∷ rs) = ap (λ (xs : List Round). round_in r ∷ xs) (same_rounds rs)
 
-same_claims : (rs : List Made) → map steps.claim_in (rounds_in rs) ≡ claims_in rs
+same_claims : (rs : List Made) → map outcome.claim_in (rounds_in rs) ≡ claims_in rs
 same_claims [] = refl
 same_claims (r ∷ rs) = ap (λ (xs : List Claim). claim_in r.certified ∷ xs) (same_claims rs)
 
@@ -70,6 +74,11 @@ module _ (c : CircuitView) (hour : ℕ) where
   all_of_size m [] sound = All-nil (λ r. IsOfSize (size_of (layout_of c.elements)) (solution_in r))
   all_of_size m (r ∷ rs) sound =
       All-cons (λ r. IsOfSize (size_of (layout_of c.elements)) (solution_in r)) (round_in r) (rounds_in rs) (is_of_size c hour m.at (claim_in r.certified) sound.0 (map seen r.acts.items)) (all_of_size (after_round (plant_at c hour) m (claim_in r.certified)) rs sound.1)
+
+  all_claims : (m : Machine) (rs : List Made) → AtEach (IsSoundAt c (hour_powers c.elements hour)) (plant_at c hour) m (claims_in rs) → All (IsRoundOf (size_of (layout_of c.elements))) rs
+  all_claims m [] sound = All-nil (IsRoundOf (size_of (layout_of c.elements)))
+  all_claims m (r ∷ rs) sound =
+      All-cons (IsRoundOf (size_of (layout_of c.elements))) r rs (sound_claim c hour m.at (claim_in r.certified) sound.0) (all_claims (after_round (plant_at c hour) m (claim_in r.certified)) rs sound.1)
 
   behind : (o : Outcome) (acts : List Act) (rs : List Made) (ending : Ending) (n : Machine) → Follows o acts (computed_in rs) ending n (λ k. IsComputedFrom (limits_of c.options) (plant_at c hour) k (computed_in rs) ending n) →
       AtEach (IsSoundAt c (hour_powers c.elements hour)) (plant_at c hour) (left_by o) (claims_in rs) →
@@ -143,6 +152,7 @@ pub record IsMade (c : CircuitView) (powers : List LoadPower) (m : Machine) (rs 
   pub computed : EndsSo result (λ ending. IsComputedFrom (limits_of c.options) (plant_of c powers) m (computed_in rs) ending (settled (plant_of c powers) m rs).machine)
   pub sound : AtEach (IsSoundAt c powers) (plant_of c powers) m (claims_in rs)
   pub positions : ArePositions c powers k.at
+  pub tried : IsTriedBy (limits_of c.options) (plant_of c powers) result (settled (plant_of c powers) m rs).machine
 
 -- the same where the powers are written otherwise
 pub made_as : (c : CircuitView) (powers other : List LoadPower) (m : Machine) (rs : List Made) (result : Result (Unit {0}) (SettleFault ComputeFault)) (k : Kept) → powers ≡ other → IsMade c powers m rs result k → IsMade c other m rs result k
@@ -170,7 +180,13 @@ module _ (c : CircuitView) (hour : ℕ) (l : Kept) (rs : List Made) (k : Kept) (
       omega (arith, within, most, length-map rs as_computed)
 
   printable : (result : Result (Unit {0}) (SettleFault ComputeFault)) (ending : Ending) → MadeHere result → EndsHere ending → IsPrintable c hour rs k.at
-  printable result ending made computed = record { ready = ready; numbers = all_of_size c hour first rs made.sound; positions = made.positions; few = few ending computed }
+  printable result ending made computed = record {
+    ready = ready;
+    numbers = all_of_size c hour first rs made.sound;
+    claims = all_claims c hour first rs made.sound;
+    positions = made.positions;
+    few = few ending computed;
+  }
 
   solved : (result : Result (Unit {0}) (SettleFault ComputeFault)) (ending : Ending) (end : SettleEnd) → MadeHere result → EndsHere ending → IsSolved (settle_made c hour l rs end k.at)
   solved result ending end made computed = record {
@@ -186,7 +202,7 @@ module _ (c : CircuitView) (hour : ℕ) (l : Kept) (rs : List Made) (k : Kept) (
       let made : Positions → List (Option ℕ) → ℕ → Kept = λ at opened settled_so. record { at = at; opened = opened; settled = settled_so } in
       ap (λ x. made x k.opened k.settled) at_is ∙ ap (λ x. made machine.at x k.settled) opened_is ∙ ap (λ x. made machine.at machine.opened x) count
 
-  hour_by : (result : Result (Unit {0}) (SettleFault ComputeFault)) (ending : Ending) (end : SettleEnd) → MadeHere result → EndsHere ending → IsEndBy c ending last end → IsHour c hour l (settle_made c hour l rs end k.at) k
+  hour_by : (result : Result (Unit {0}) (SettleFault ComputeFault)) (ending : Ending) (end : SettleEnd) → MadeHere result → EndsHere ending → IsEndBy c hour ending last end → IsHour c hour l (settle_made c hour l rs end k.at) k
   hour_by result ending end made computed is = record {
     rounds = computed_in rs;
     ending = ending;
@@ -203,20 +219,34 @@ module _ (c : CircuitView) (hour : ℕ) (l : Kept) (rs : List Made) (k : Kept) (
     is = hour_by (Ok done) (ended Settled) outcome.settled made made.computed refl;
     solved = solved (Ok done) (ended Settled) outcome.settled made made.computed;
     printable = printable (Ok done) (ended Settled) made made.computed;
+    tried = tt;
     command = tt;
   }
 
-  module _ (e : SettleFault ComputeFault) (f : Fault) (made : MadeHere (Err e)) (command : IsOfCommand f) where
-    ended_so : (o : Option Ending) → ending_of e ≡ o → IsEnding o (IsFaultAt c last f) → IsMadeHour c hour l rs (Some f) k
+  module _ (e : SettleFault ComputeFault) (x : Failure) (made : MadeHere (Err e)) (command : IsOfCommand x.fault) (tells : x.tried ≡ tried_at e) where
+    tried_here : IsTriedAt c hour e last
+    tried_here = tried_as c hour e last made.tried
+
+    claimed : IsFailureOf (size_of (layout_of c.elements)) (Some x)
+    claimed = subst (IsTriedOf (size_of (layout_of c.elements))) (sym tells) (tried_claims c hour e last tried_here)
+
+    ended_so : (o : Option Ending) → ending_of e ≡ o → IsEnding o (IsFailureAt c hour last x) → IsMadeHour c hour l rs (Some x) k
     ended_so None is told = absurd told
     ended_so (Some ending) is told =
         let computed : EndsHere ending = both e EndsHere ending is made.computed in
         record {
-          is = hour_by (Err e) ending (outcome.failed f) made computed told;
-          solved = solved (Err e) ending (outcome.failed f) made computed;
+          is = hour_by (Err e) ending (end_by (Some x)) made computed told;
+          solved = solved (Err e) ending (end_by (Some x)) made computed;
           printable = printable (Err e) ending made computed;
+          tried = claimed;
           command = command;
         }
 
-    pub ended_by_fault : TellsOf c e f → IsMadeHour c hour l rs (Some f) k
-    ended_by_fault told = ended_so (ending_of e) refl (told last (counted (plant_at c hour) e (settled (plant_at c hour) first rs).end last made.ends))
+    pub ended_by_fault : TellsOf c hour e x → IsMadeHour c hour l rs (Some x) k
+    ended_by_fault told = ended_so (ending_of e) refl (told last (counted (plant_at c hour) e (settled (plant_at c hour) first rs).end last made.ends) tried_here)
+
+-- ---- the fault of a failure
+
+pub fault_end : (f : Fault) (tried : Option Certified) → fault_of (end_with f tried) ≡ Some f
+fault_end f None = refl
+fault_end f (Some tried) = refl

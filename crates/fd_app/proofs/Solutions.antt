@@ -29,10 +29,10 @@ use Rattle.fd_settle.specs.Start.{IsSoundAt}
 use Rattle.fd_outcome.specs.Pages.{solution_in}
 use Rattle.fd_devices.specs.Hours.{hour_powers}
 use Rattle.fd_app.specs.Headline.{EnclosesOthers, IsOtherState, IsSolution, equation_count, equations_of, hour_network}
-use Rattle.fd_app.specs.Steps.{round_of}
+use Rattle.fd_outcome.specs.Settles.{round_of}
 use Rattle.fd_queue.specs.Machine.{Act}
 
-part_size : (z : ℤ) → IsPart z → nat_abs z ≤ 2 ^ 40
+pub part_size : (z : ℤ) → IsPart z → nat_abs z ≤ 2 ^ 40
 part_size z h = let a = h.0 in let b = h.1 in omega (arith, ints)
 
 -- a tie holds of a number however it is written

@@ -31,11 +31,11 @@ use Rattle.fd_settle.proofs.CallerLemmas.{has_one_computation}
 use Rattle.fd_settle.specs.Settle.{Open, Settled, Limited, Undecidable}
 use Rattle.fd_daily.specs.Hours.{hours_of}
 use Rattle.fd_outcome.specs.Events.{settle}
-use Rattle.fd_outcome.specs.Settles.{Settle, SettleEnd, settled, failed}
+use Rattle.fd_outcome.specs.Settles.{Settle, SettleEnd, settled, failed, without_certificate}
 use Rattle.fd_outcome.specs.Work.{Step, ExactlyOne, goes, ends}
 use Rattle.fd_outcome.proofs.CallerLemmas.{exactly_this}
-use Rattle.fd_app.specs.Commands.{Applied, nothing_left, solve_left, refused_at, IsByTests, IsStep, IsStepOf, IsTested, tried}
-use Rattle.fd_app.specs.Solving.{IsBehind, IsEndBy, IsHour, IsHourStep, IsHoursStep, IsSolutionStep, hour_begun, kept_by, kept_first, plant_at, rounds_of, undecided_at, unknown_of}
+use Rattle.fd_app.specs.Commands.{Applied, base_events, bases_left, nothing_left, solve_left, refused_at, IsByTests, IsStep, IsStepOf, IsTested, tried}
+use Rattle.fd_app.specs.Solving.{IsBehind, IsEndBy, IsHour, IsHourStep, IsHoursStep, IsSolutionStep, hour_begun, kept_by, kept_first, plant_at, rounds_of, tried_round, undecided_at, unknown_of}
 use Rattle.fd_app.specs.Steps.{Kept, StandingView, behind_events, changes, hour_settle, refuses, standing}
 use Rattle.fd_app.proofs.Computations.{IsTold, is_told}
 
@@ -169,18 +169,19 @@ module _ (circuit : CircuitView) where
 
 -- ---- a Solve
 
-one_end : (c : CircuitView) (ending : Ending) (n : Machine) → IsTold ending → ExactlyOne (IsEndBy c ending n)
-one_end c (ended Open) n told = absurd told
-one_end c (ended Settled) n told = exactly_this settled
-one_end c (ended Limited) n told = exactly_this (failed (run.ControlLimit n.made))
-one_end c (ended (Undecidable k u)) n told = exactly_this (failed (undecided_at c k u))
-one_end c (stopped (range blame)) n told = exactly_this (failed (run.Script blame.place (cause.Model blame.cause)))
-one_end c (stopped (procedure (solving.NoInverse column stop))) n told = exactly_this (failed (run.NoInverse (unknown_of c column) stop))
-one_end c (stopped (procedure (solving.OutOfRange place k))) n told = exactly_this (failed (run.OutOfRange (unknown_of c place) k))
-one_end c (stopped (procedure (solving.NotConverged place steps update))) n told = exactly_this (failed (run.NotConverged (unknown_of c place) steps update))
-one_end c (stopped (procedure solving.NoMemory)) n told = absurd told
-one_end c (stopped (uncertified (loose row mismatch))) n told = exactly_this (failed (run.Loose (unknown_of c row) mismatch))
-one_end c (stopped (uncertified (uncertain place bound))) n told = exactly_this (failed (run.NotCertified (unknown_of c place) (option_map nat_abs bound)))
+one_end : (c : CircuitView) (hour : ℕ) (ending : Ending) (n : Machine) → IsTold ending → ExactlyOne (IsEndBy c hour ending n)
+one_end c hour (ended Open) n told = absurd told
+one_end c hour (ended Settled) n told = exactly_this settled
+one_end c hour (ended Limited) n told = exactly_this (failed (run.ControlLimit n.made))
+one_end c hour (ended (Undecidable k u)) n told = exactly_this (failed (undecided_at c k u))
+one_end c hour (stopped (range blame)) n told = exactly_this (failed (run.Script blame.place (cause.Model blame.cause)))
+one_end c hour (stopped (procedure (solving.NoInverse column stop))) n told = exactly_this (failed (run.NoInverse (unknown_of c column) stop))
+one_end c hour (stopped (procedure (solving.OutOfRange place k))) n told = exactly_this (failed (run.OutOfRange (unknown_of c place) k))
+one_end c hour (stopped (procedure (solving.NotConverged place steps update))) n told = exactly_this (failed (run.NotConverged (unknown_of c place) steps update))
+one_end c hour (stopped (procedure solving.NoMemory)) n told = absurd told
+one_end c hour (stopped (uncertified (loose row mismatch))) n told = exactly_this (failed (run.Loose (unknown_of c row) mismatch))
+one_end c hour (stopped (uncertified (uncertain place bound))) n told =
+    exactly_this (without_certificate (tried_round ((plant_at c hour).network n.at) (limits_of c.options)) (run.NotCertified (unknown_of c place) (option_map nat_abs bound)))
 
 -- what comes behind a settle
 one_behind : (x : Settle) (end : SettleEnd) (rest : Step StandingView → Type 0) → ExactlyOne rest → ExactlyOne (IsBehind x end rest)
@@ -190,10 +191,11 @@ one_behind x settled rest one = record {
   only = λ step is. is.step_is ∙ ap (behind_events (settle x ∷ [])) (one.only is.more is.right);
 }
 one_behind x (failed f) rest one = exactly_this (ends (settle x ∷ []) f)
+one_behind x (without_certificate r f) rest one = exactly_this (ends (settle x ∷ []) f)
 
 module _ (c : CircuitView) (hour : ℕ) (l : Kept) (one : HasOneComputation (limits_of c.options) (plant_at c hour) (hour_begun c hour l)) where
-  abbrev only_end : ExactlyOne (IsEndBy c one.some.ending one.some.machine)
-  only_end = one_end c one.some.ending one.some.machine (is_told (limits_of c.options) (plant_at c hour) (hour_begun c hour l) one.some.rounds one.some.ending one.some.machine one.is)
+  abbrev only_end : ExactlyOne (IsEndBy c hour one.some.ending one.some.machine)
+  only_end = one_end c hour one.some.ending one.some.machine (is_told (limits_of c.options) (plant_at c hour) (hour_begun c hour l) one.some.rounds one.some.ending one.some.machine one.is)
 
   abbrev only_settle : Settle
   only_settle = hour_settle c hour l (rounds_of one.some.rounds) only_end.some one.some.machine.at
@@ -221,7 +223,7 @@ module _ (c : CircuitView) (hour : ℕ) (l : Kept) (one : HasOneComputation (lim
     same = one.only made h.computed
 
     same_end : h.end ≡ only_end.some
-    same_end = only_end.only h.end (subst (λ (m : Computation). IsEndBy c m.ending m.machine h.end) same h.end_is)
+    same_end = only_end.only h.end (subst (λ (m : Computation). IsEndBy c hour m.ending m.machine h.end) same h.end_is)
 
     same_settle : x ≡ only_settle
     same_settle =
@@ -260,6 +262,7 @@ one_by_tests s (Err blame) = exactly_this (refuses blame.place (cause.Model blam
 one_of : (at : Positions) (settled_so : ℕ) (left : Applied) → ExactlyOne (IsStepOf at settled_so left)
 one_of at n (nothing_left circuit) = exactly_this (changes (standing circuit at n))
 one_of at n (refused_at place c) = exactly_this (refuses place c)
+one_of at n (bases_left circuit) = exactly_this (goes (base_events circuit) (standing circuit at n))
 one_of at n (solve_left circuit) =
     let tests = answer_of_tests circuit (own_blame circuit) refl in
     let one = one_by_tests (standing circuit at n) tests.answer in

@@ -33,10 +33,10 @@ use Rattle.fd_report.specs.declared.faults.Cause.{Cause}
 use Rattle.fd_report.specs.declared.faults.Cause.TheVariants as cause
 use Rattle.fd_daily.specs.Hours.{hours_of}
 use Rattle.fd_outcome.specs.Events.{Event, settle}
-use Rattle.fd_outcome.specs.Settles.{Settle, SettleEnd, settled, failed}
+use Rattle.fd_outcome.specs.Settles.{Settle, SettleEnd, settled, failed, without_certificate}
 use Rattle.fd_outcome.specs.Work.{Step, goes, ends}
 use Rattle.fd_app.specs.Answered.{solve_count}
-use Rattle.fd_app.specs.Commands.{Applied, IsByTests, IsStep, IsStepOf, left_of, nothing_left, refused_at, solve_left, tried}
+use Rattle.fd_app.specs.Commands.{Applied, base_events, bases_left, IsByTests, IsStep, IsStepOf, left_of, nothing_left, refused_at, solve_left, tried}
 use Rattle.fd_app.specs.Solving.{IsBehind, IsHoursStep, IsSolutionStep, kept_first}
 use Rattle.fd_app.specs.Steps.{Kept, StandingView, behind_events, changes, refuses, standing}
 use Rattle.fd_queue.specs.Controls.{Positions}
@@ -212,20 +212,23 @@ verb_takes place verb.Bases circuit new h =
 -- ---- so does a command after which the run goes on
 
 abbrev Reaches : Applied → CircuitView → Type 0
-Reaches left now = (left ≡ nothing_left now) ⊎ (left ≡ solve_left now)
+Reaches left now = (left ≡ nothing_left now) ⊎ ((left ≡ solve_left now) ⊎ (left ≡ bases_left now))
 
 solve_reaches : (circuit now : CircuitView) → Reaches (solve_left circuit) now → circuit ≡ now
-solve_reaches circuit now h = elim h [ inl is ↦ cc is | inr is ↦ cc is ]
+solve_reaches circuit now h = elim h [ inl is ↦ cc is | inr more ↦ elim more [ inl is ↦ cc is | inr is ↦ cc is ] ]
+
+bases_reaches : (circuit now : CircuitView) → Reaches (bases_left circuit) now → circuit ≡ now
+bases_reaches circuit now h = elim h [ inl is ↦ cc is | inr more ↦ elim more [ inl is ↦ cc is | inr is ↦ cc is ] ]
 
 refused_reaches : (place : Place) (c : Cause) (now : CircuitView) → Reaches (refused_at place c) now → ⊥
-refused_reaches place c now h = elim h [ inl is ↦ cc is | inr is ↦ cc is ]
+refused_reaches place c now h = elim h [ inl is ↦ cc is | inr more ↦ elim more [ inl is ↦ cc is | inr is ↦ cc is ] ]
 
 nothing_reaches : (circuit now : CircuitView) → Reaches (nothing_left circuit) now → circuit ≡ now
-nothing_reaches circuit now h = elim h [ inl is ↦ cc is | inr is ↦ cc is ]
+nothing_reaches circuit now h = elim h [ inl is ↦ cc is | inr more ↦ elim more [ inl is ↦ cc is | inr is ↦ cc is ] ]
 
 left_reaches : (place : Place) (v : Verb) (r : Result CircuitView ModelFault) (now : CircuitView) → Reaches (left_of place v r) now → r ≡ Ok now
 left_reaches place v (Err f) now h = absurd (refused_reaches place (cause.Model f) now h)
-left_reaches place verb.Bases (Ok circuit) now h = absurd (refused_reaches place cause.NotBuilt now h)
+left_reaches place verb.Bases (Ok circuit) now h = ap Ok (bases_reaches circuit now h)
 left_reaches place (verb.Solve pairs) (Ok circuit) now h = ap Ok (solve_reaches circuit now h)
 left_reaches place (verb.New kind name pairs) (Ok circuit) now h = ap Ok (nothing_reaches circuit now h)
 left_reaches place (verb.Edit kind name pairs) (Ok circuit) now h = ap Ok (nothing_reaches circuit now h)
@@ -249,6 +252,7 @@ behind_leaves now events (ends more f) h = h
 hour_leaves : (c now : CircuitView) (x : Settle) (end : SettleEnd) (rest : Step StandingView → Type 0) (step : Step StandingView) → ((more : Step StandingView) → rest more → Leaves more now → c ≡ now) → IsBehind x end rest step → Leaves step now → c ≡ now
 hour_leaves c now x settled rest step go is h = go is.more is.right (behind_leaves now (settle x ∷ []) is.more (left_by now step _ is.step_is h))
 hour_leaves c now x (failed f) rest step go is h = absurd (left_by now step _ is h)
+hour_leaves c now x (without_certificate r f) rest step go is h = absurd (left_by now step _ is h)
 
 hours_leave : (c now : CircuitView) (hours : List ℕ) (l : Kept) (step : Step StandingView) → IsHoursStep c hours l step → Leaves step now → c ≡ now
 hours_leave c now [] l step is h = left_by now step _ is h
@@ -265,7 +269,8 @@ tests_leave s now (Err blame) step is h = absurd (left_by now step _ is h)
 step_reaches : (at : Positions) (n : ℕ) (left : Applied) (step : Step StandingView) (now : CircuitView) → IsStepOf at n left step → Leaves step now → Reaches left now
 step_reaches at n (nothing_left circuit) step now is leaves = inl (ap nothing_left (left_by now step (changes (standing circuit at n)) is leaves))
 step_reaches at n (refused_at place c) step now is leaves = absurd (left_by now step (refuses place c) is leaves)
-step_reaches at n (solve_left circuit) step now is leaves = inr (ap solve_left (tests_leave (standing circuit at n) now is.answer step is.step_is leaves))
+step_reaches at n (solve_left circuit) step now is leaves = inr (inl (ap solve_left (tests_leave (standing circuit at n) now is.answer step is.step_is leaves)))
+step_reaches at n (bases_left circuit) step now is leaves = inr (inr (ap bases_left (left_by now step (goes (base_events circuit) (standing circuit at n)) is leaves)))
 
 pub command_takes : (command : Command) (s now : StandingView) (events : List Event) → IsStep command s (goes events now) → weight now.circuit ≤ weight s.circuit + cost command.verb
 command_takes command s now events is =

@@ -1,5 +1,5 @@
 -- What a command comes to.
-use Rattle.std.specs.Prelude.{◌≡◌, ℕ, Result, Ok, Err}
+use Rattle.std.specs.Prelude.{◌≡◌, ℕ, List, map, Result, Ok, Err}
 use Rattle.dss_values.specs.declared.fault.ModelFault.{ModelFault}
 use Rattle.dss_profile.specs.declared.command.Blame.{Blame}
 use Rattle.dss_profile.specs.declared.command.Command.{Command}
@@ -11,7 +11,10 @@ use Rattle.dss_circuit.specs.Circuit.{CircuitView, applied}
 use Rattle.fd_queue.specs.Controls.{Positions}
 use Rattle.fd_report.specs.declared.faults.Cause.{Cause}
 use Rattle.fd_report.specs.declared.faults.Cause.TheVariants as cause
-use Rattle.fd_outcome.specs.Work.{Step}
+use Rattle.fd_bases.specs.Bases.{bases_of}
+use Rattle.fd_report.specs.Bases.{base_fields}
+use Rattle.fd_outcome.specs.Events.{Event, row}
+use Rattle.fd_outcome.specs.Work.{Step, goes}
 use Rattle.fd_app.specs.Solving.{IsSolutionStep}
 use Rattle.fd_app.specs.Steps.{StandingView, changes, refuses, standing}
 
@@ -21,11 +24,12 @@ use Rattle.fd_app.specs.Steps.{StandingView, changes, refuses, standing}
 pub data Applied : Type 0 where
   nothing_left : CircuitView → Applied
   solve_left : CircuitView → Applied
+  bases_left : CircuitView → Applied
   refused_at : Place → Cause → Applied
 
 abbrev pub left_of : Place → Verb → Result CircuitView ModelFault → Applied
 left_of place v (Err f) = refused_at place (cause.Model f)
-left_of place verb.Bases (Ok circuit) = refused_at place cause.NotBuilt
+left_of place verb.Bases (Ok circuit) = bases_left circuit
 left_of place (verb.Solve pairs) (Ok circuit) = solve_left circuit
 left_of place v (Ok circuit) = nothing_left circuit
 
@@ -49,10 +53,17 @@ pub record IsSolve (s : StandingView) (step : Step StandingView) : Type 0 where
   pub right : IsTested s.circuit answer
   pub step_is : IsByTests s answer step
 
+-- ---- voltage bases
+
+-- a row for each bus that is reached
+abbrev pub base_events : CircuitView → List Event
+base_events c = map (λ b. row (base_fields b.bus b.kv)) (bases_of c)
+
 -- where the last Solve left these positions, and there were so many settles
 abbrev pub IsStepOf : Positions → ℕ → Applied → Step StandingView → Type 0
 IsStepOf at settled (nothing_left circuit) step = step ≡ changes (standing circuit at settled)
 IsStepOf at settled (refused_at place c) step = step ≡ refuses place c
+IsStepOf at settled (bases_left circuit) step = step ≡ goes (base_events circuit) (standing circuit at settled)
 IsStepOf at settled (solve_left circuit) step = IsSolve (standing circuit at settled) step
 
 -- what a command comes to

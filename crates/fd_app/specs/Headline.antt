@@ -26,9 +26,8 @@ use Rattle.fd_settle.specs.Plant.{controls_in, network_at, settings_at, setup_of
 use Rattle.fd_settle.specs.Rounds.{AtEach}
 use Rattle.fd_settle.specs.Sampling.{Decided, look_at, look_over}
 use Rattle.fd_settle.specs.Settle.{settle_of}
-use Rattle.fd_outcome.specs.Settles.{Settle}
+use Rattle.fd_outcome.specs.Settles.{Settle, claim_in}
 use Rattle.fd_app.specs.Solving.{plant_at}
-use Rattle.fd_app.specs.Steps.{claim_in}
 
 -- at this hour, and these positions of taps and banks
 module _ (circuit : CircuitView) (hour : ℕ) (at : Positions) where

@@ -7,5 +7,6 @@ pub mod Answered
 pub mod Run
 pub mod Weights
 pub mod Endings
+pub mod Printing
 pub mod Places
 pub mod Days

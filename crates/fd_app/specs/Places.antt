@@ -4,7 +4,10 @@ use Rattle.dss_profile.specs.declared.element.Element.{Element}
 use Rattle.dss_profile.specs.declared.names.ElementName.{ElementName}
 use Rattle.dss_layout.specs.Layout.{Elements}
 use Rattle.fd_queue.specs.Controls.{Positions}
+use Rattle.fd_bases.specs.declared.bus_base.BusBase.{BusBase}
+use Rattle.fd_report.specs.Bases.{base_fields}
 use Rattle.fd_report.specs.Controls.{bank_fields}
+use Rattle.fd_report.specs.Lines.{line_of}
 use Rattle.fd_sample.specs.declared.probe.Probe.{Probe}
 use Rattle.fd_outcome.specs.Pages.{controls_of, tap_rows_by}
 
@@ -21,3 +24,7 @@ tap_rows_of at (Some control) p = tap_rows_by at control.0 p
 abbrev pub bank_rows_first : ElementName → List Bool → List (List (List ℕ))
 bank_rows_first name [] = []
 bank_rows_first name (is_closed ∷ closed) = bank_fields name is_closed ∷ []
+
+-- the text of each record of voltage bases
+abbrev pub base_texts : List BusBase → List (List ℕ)
+base_texts bases = map (λ b. line_of (base_fields b.bus b.kv)) bases

@@ -6,24 +6,33 @@ use Rattle.dss_values.specs.Names.{bytes}
 use Rattle.dss_circuit.specs.Circuit.{empty_circuit}
 use Rattle.dss_script.specs.Said.{Part, said_of, ended_by}
 use Rattle.fd_report.specs.declared.faults.Fault.TheVariants as fault
-use Rattle.fd_outcome.specs.Calls.{Style, report}
+use Rattle.fd_outcome.specs.Calls.{Style, certificate, report}
 use Rattle.fd_outcome.specs.Events.{History, ended, finishes}
 use Rattle.fd_outcome.specs.History.{IsHistory}
 use Rattle.fd_outcome.specs.Work.{ExactlyOne}
 use Rattle.fd_app.specs.Commands.{IsStep}
 use Rattle.fd_app.specs.Steps.{StandingView, no_positions, standing}
-use Rattle.fd_app.specs.Words.{Form, Solve}
+use Rattle.fd_app.specs.Words.{Form, Solve, Cert}
+use Rattle.fd_app.specs.declared.words.Form.{Form as Words}
+use Rattle.fd_app.specs.declared.words.Form.TheVariants as words
+
+-- the form that words were found to be
+abbrev pub form_in : Words → Form
+form_in (words.Solve file) = Solve file.now
+form_in (words.Cert file) = Cert file.now
 
 -- what must be told of the files: nothing where none is asked for
 abbrev pub Knows : Option Form → Option Files → Files → Type 0
 Knows None told files = Unit {0}
 Knows (Some (Solve file)) told files = told ≡ Some files
+Knows (Some (Cert file)) told files = told ≡ Some files
 
 abbrev pub style_of : Option Form → Style
 style_of None = report
 style_of (Some (Solve file)) = report
+style_of (Some (Cert file)) = certificate
 
--- `solve` asks for no name behind the last command, and does nothing there
+-- `solve` and `cert` ask for no name behind the last command, and do nothing there
 abbrev pub no_name : StandingView → Option (List ℕ)
 no_name s = None
 
@@ -41,6 +50,7 @@ IsScriptHistory files p h = IsHistory IsStep no_name IsDoneThere (λ n. held fil
 abbrev pub IsFormHistory : Files → Option Form → History → Type 0
 IsFormHistory files None h = h ≡ ended [] fault.Usage
 IsFormHistory files (Some (Solve file)) h = IsScriptHistory files (said_of files (chars file)) h
+IsFormHistory files (Some (Cert file)) h = IsScriptHistory files (said_of files (chars file)) h
 
 -- there is exactly one
 abbrev pub FormsLaw : Type 0

@@ -1,5 +1,5 @@
 -- What a Solve of a circuit that passed the tests comes to: the settles of its hours.
-use Rattle.std.specs.Prelude.{◌≡◌, ℕ, ◌+◌, [], ◌∷◌, nat_abs, List, map, replicate, slice_get, Option, Some, None, option_map}
+use Rattle.std.specs.Prelude.{◌≡◌, ℕ, ◌+◌, ℤ, [], ◌∷◌, nat_abs, List, map, replicate, slice_get, Option, Some, None, option_map, Result, Ok, Err}
 use Rattle.fd_exact.specs.Sums.{list_n}
 use Rattle.dss_values.specs.declared.words.ControlQuantity.{ControlQuantity}
 use Rattle.dss_values.specs.declared.words.ControlQuantity.TheVariants as quantity
@@ -12,8 +12,12 @@ use Rattle.dss_circuit.specs.Circuit.{CircuitView}
 use Rattle.fd_daily.specs.Hours.{hours_of, time_of}
 use Rattle.fd_devices.specs.Hours.{hour_powers}
 use Rattle.fd_devices.specs.Settings.{bank_count}
+use Rattle.fd_cert.specs.Claims.{tried_claim}
 use Rattle.fd_enclosure.specs.Sound.{Claim, loose, uncertain}
+use Rattle.fd_equations.specs.Views.{NetworkView}
+use Rattle.fd_inject.specs.Procedure.{solution_of}
 use Rattle.fd_inject.specs.declared.fault.SolveFault.TheVariants as procedure
+use Rattle.fd_inject.specs.declared.limits.Limits.{Limits}
 use Rattle.fd_queue.specs.Machine.{Machine, Act}
 use Rattle.fd_sample.specs.Decided.{Undecided}
 use Rattle.fd_settle.specs.Computed.{Ending, ended, stopped, IsComputedFrom, range, uncertified}
@@ -29,9 +33,9 @@ use Rattle.fd_report.specs.declared.faults.Scale.{Scale}
 use Rattle.fd_report.specs.declared.faults.Scale.TheVariants as scale
 use Rattle.fd_outcome.specs.Events.{settle}
 use Rattle.fd_outcome.specs.Pages.{controls_of}
-use Rattle.fd_outcome.specs.Settles.{Round, Settle, SettleEnd, settled, failed}
+use Rattle.fd_outcome.specs.Settles.{Round, Settle, SettleEnd, round_of, settled, failed, without_certificate}
 use Rattle.fd_outcome.specs.Work.{Step, goes, ends}
-use Rattle.fd_app.specs.Steps.{Kept, StandingView, behind_events, hour_settle, round_of, standing, start_of}
+use Rattle.fd_app.specs.Steps.{Kept, StandingView, behind_events, hour_settle, standing, start_of}
 
 -- ---- the machine
 
@@ -79,22 +83,37 @@ undecided_at c k u = undecided_by (slice_get (controls_of c.elements) k) u
 abbrev pub unknown_of : CircuitView → ℕ → List ℕ
 unknown_of c place = name_at (layout_of c.elements) place
 
+-- ---- a state without a certificate
+
+-- the point that the procedure gives, nothing where it gives none
+abbrev pub point_or_nothing : {F : Type 0} → Result (List ℤ × List (List ℤ)) F → List ℤ × List (List ℤ)
+point_or_nothing (Ok point) = point
+point_or_nothing (Err f) = ([], [])
+
+abbrev pub tried_by : NetworkView → List ℤ × List (List ℤ) → Round
+tried_by v point = round_of (tried_claim v point.0 point.1) []
+
+-- what would have been claimed of the point that the procedure reaches in a network, with radii 0
+abbrev pub tried_round : NetworkView → Limits → Round
+tried_round v limits = tried_by v (point_or_nothing (solution_of v limits))
+
 -- ---- an hour
 
 -- how a settle ends in the report where its computation ends so with this machine; the procedure's definition gives no
 -- want of memory, so none comes of that
-abbrev pub IsEndBy : CircuitView → Ending → Machine → SettleEnd → Type 0
-IsEndBy c (ended Open) n end = ⊥
-IsEndBy c (ended Settled) n end = end ≡ settled
-IsEndBy c (ended Limited) n end = end ≡ failed (fault.ControlLimit n.made)
-IsEndBy c (ended (Undecidable k u)) n end = end ≡ failed (undecided_at c k u)
-IsEndBy c (stopped (range blame)) n end = end ≡ failed (fault.Script blame.place (cause.Model blame.cause))
-IsEndBy c (stopped (computed.procedure (procedure.NoInverse column stop))) n end = end ≡ failed (fault.NoInverse (unknown_of c column) stop)
-IsEndBy c (stopped (computed.procedure (procedure.OutOfRange place step))) n end = end ≡ failed (fault.OutOfRange (unknown_of c place) step)
-IsEndBy c (stopped (computed.procedure (procedure.NotConverged place steps update))) n end = end ≡ failed (fault.NotConverged (unknown_of c place) steps update)
-IsEndBy c (stopped (computed.procedure procedure.NoMemory)) n end = ⊥
-IsEndBy c (stopped (uncertified (loose row mismatch))) n end = end ≡ failed (fault.Loose (unknown_of c row) mismatch)
-IsEndBy c (stopped (uncertified (uncertain place bound))) n end = end ≡ failed (fault.NotCertified (unknown_of c place) (option_map nat_abs bound))
+abbrev pub IsEndBy : CircuitView → ℕ → Ending → Machine → SettleEnd → Type 0
+IsEndBy c hour (ended Open) n end = ⊥
+IsEndBy c hour (ended Settled) n end = end ≡ settled
+IsEndBy c hour (ended Limited) n end = end ≡ failed (fault.ControlLimit n.made)
+IsEndBy c hour (ended (Undecidable k u)) n end = end ≡ failed (undecided_at c k u)
+IsEndBy c hour (stopped (range blame)) n end = end ≡ failed (fault.Script blame.place (cause.Model blame.cause))
+IsEndBy c hour (stopped (computed.procedure (procedure.NoInverse column stop))) n end = end ≡ failed (fault.NoInverse (unknown_of c column) stop)
+IsEndBy c hour (stopped (computed.procedure (procedure.OutOfRange place step))) n end = end ≡ failed (fault.OutOfRange (unknown_of c place) step)
+IsEndBy c hour (stopped (computed.procedure (procedure.NotConverged place steps update))) n end = end ≡ failed (fault.NotConverged (unknown_of c place) steps update)
+IsEndBy c hour (stopped (computed.procedure procedure.NoMemory)) n end = ⊥
+IsEndBy c hour (stopped (uncertified (loose row mismatch))) n end = end ≡ failed (fault.Loose (unknown_of c row) mismatch)
+IsEndBy c hour (stopped (uncertified (uncertain place bound))) n end =
+    end ≡ without_certificate (tried_round ((plant_at c hour).network n.at) (limits_of c.options)) (fault.NotCertified (unknown_of c place) (option_map nat_abs bound))
 
 abbrev pub rounds_of : List (Claim × List Act) → List Round
 rounds_of rounds = map (λ r. round_of r.0 r.1) rounds
@@ -108,7 +127,7 @@ pub record IsHour (c : CircuitView) (hour : ℕ) (l : Kept) (x : Settle) (k : Ke
   pub machine : Machine
   pub computed : IsComputedFrom (limits_of c.options) (plant_at c hour) (hour_begun c hour l) rounds ending machine
   pub end : SettleEnd
-  pub end_is : IsEndBy c ending machine end
+  pub end_is : IsEndBy c hour ending machine end
   pub settle_is : x ≡ hour_settle c hour l (rounds_of rounds) end machine.at
   pub kept : k ≡ kept_by l machine
 
@@ -124,6 +143,7 @@ pub record After (x : Settle) (rest : Step StandingView → Type 0) (step : Step
 abbrev pub IsBehind : Settle → SettleEnd → (Step StandingView → Type 0) → Step StandingView → Type 0
 IsBehind x settled rest step = After x rest step
 IsBehind x (failed f) rest step = step ≡ ends (settle x ∷ []) f
+IsBehind x (without_certificate r f) rest step = step ≡ ends (settle x ∷ []) f
 
 -- a step that begins with an hour
 pub record IsHourStep (c : CircuitView) (hour : ℕ) (l : Kept) (rest : Kept → Step StandingView → Type 0) (step : Step StandingView) : Type 0 where

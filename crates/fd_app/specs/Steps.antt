@@ -3,9 +3,7 @@ use Rattle.std.specs.Prelude.{ℕ, List, [], ◌++◌, ◌+◌, Option}
 use Rattle.dss_profile.specs.declared.command.Place.{Place}
 use Rattle.dss_circuit.specs.Circuit.{CircuitView}
 use Rattle.fd_devices.specs.Positions.{next_closed, next_taps}
-use Rattle.fd_enclosure.specs.Sound.{Claim}
 use Rattle.fd_queue.specs.Controls.{Positions}
-use Rattle.fd_queue.specs.Machine.{Act}
 use Rattle.fd_report.specs.declared.faults.Cause.{Cause}
 use Rattle.fd_report.specs.declared.faults.Fault.TheVariants as fault
 use Rattle.fd_outcome.specs.Settles.{Round, Settle, SettleEnd}
@@ -35,14 +33,6 @@ refuses place c = ends [] (fault.Script place c)
 -- left
 abbrev pub start_of : StandingView → Positions
 start_of s = record { taps = next_taps s.circuit.solves s.circuit.elements s.at.taps; closed = next_closed s.circuit.solves s.circuit.elements s.at.closed }
-
--- a certified state, and the acts behind it
-abbrev pub round_of : Claim → List Act → Round
-round_of m acts = record { centre = m.centre; radii = m.radii; boxes = m.boxes; mismatches = m.mismatches; inverse = m.inverse; acts = acts }
-
--- the certificate of a round
-abbrev pub claim_in : Round → Claim
-claim_in r = record { centre = r.centre; radii = r.radii; mismatches = r.mismatches; boxes = r.boxes; inverse = r.inverse }
 
 -- what is kept from hour to hour of a Solve: the positions, the last opening time of each bank, none where it wasn't
 -- opened in this Solve, and how many settles there were so far

@@ -1,16 +1,25 @@
 -- The forms of the command line. A word is a list of bytes.
-use Rattle.std.specs.Prelude.{ℕ, ◌&&◌, ◌==◌, not, Bool, false, List, [], ◌∷◌, if◌then◌else◌, Option, Some, None, nat_eq, codes}
+use Rattle.std.specs.Prelude.{ℕ, ◌==◌, not, Bool, false, List, [], ◌∷◌, if◌then◌else◌, Option, Some, None, nat_eq, codes}
 use Rattle.std.specs.Cmp.Lexicographic.{pointwise}
 
--- `solve FILE`
 pub data Form : Type 0 where
+  -- `solve FILE`
   Solve : List ℕ → Form
+  -- `cert FILE`
+  Cert : List ℕ → Form
 
 -- whether a word may name a file: it isn't empty and doesn't start with a dash
 abbrev pub names_file : List ℕ → Bool
 names_file [] = false
 names_file (byte ∷ bytes) = not (byte == 45)
 
+-- by the first word, where a file is named behind it
+abbrev pub form_by : List ℕ → List ℕ → Option Form
+form_by word file =
+    if pointwise nat_eq word (codes "solve") then Some (Solve file)
+    else if pointwise nat_eq word (codes "cert") then Some (Cert file)
+    else None
+
 abbrev pub form_of : List (List ℕ) → Option Form
-form_of (word ∷ file ∷ []) = if pointwise nat_eq word (codes "solve") && names_file file then Some (Solve file) else None
+form_of (word ∷ file ∷ []) = if names_file file then form_by word file else None
 form_of words = None

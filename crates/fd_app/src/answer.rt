@@ -6,13 +6,15 @@ use dss_circuit::Place;
 use fd_report::{Cause, Fault};
 use std::alloc::AllocError;
 
-/// What a command comes to before the hours of a Solve: a change of the circuit, the end of the run, or a Solve that
-/// passed the tests.
+/// What a command comes to before the hours of a Solve: a change of the circuit, the end of the run, the voltage bases, or
+/// a Solve that passed the tests.
 #[derive(Drop)]
 pub(crate) enum Answer {
     Done,
     /// The script is refused.
     Refuses(Fault),
+    /// The voltage bases of buses are asked for.
+    Bases,
     Solves,
 }
 

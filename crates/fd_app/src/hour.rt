@@ -9,17 +9,16 @@ ghost use Rattle.fd_sample.specs.Probes.{positions_in};
 ghost use Rattle.fd_settle.specs.Start.{ArePositions, IsNetworkAt};
 ghost use Rattle.fd_app.specs.Answered.{IsMadeHour, kept_in};
 
-use crate::faults::fault_of;
+use crate::faults::{Failure, failure_of};
 use dss_circuit::Circuit;
 use fd_daily::{Day, daily_run};
 use fd_devices::{Positions, Powers};
 use fd_enclosure::{ball_law, enclosure_law, tie_law};
 use fd_network::Network;
-use fd_report::Fault;
 use fd_settle::{Compute, Round};
 use std::alloc::{AllocError, Global};
 
-/// Solves the next hour of a Solve, whose powers and network these are, and gives the fault in which it ends, where it
+/// Solves the next hour of a Solve, whose powers and network these are, and gives the failure in which it ends, where it
 /// doesn't end well. The rounds are those of this hour alone.
 pub(crate) fn solve_hour(
     alloc: Global,
@@ -29,7 +28,7 @@ pub(crate) fn solve_hour(
     day: &mut Day,
     at: &mut Positions,
     rounds: &mut Vec<Round>,
-) -> Result<Option<Fault>, AllocError>
+) -> Result<Option<Failure>, AllocError>
     requires ready { HasPassed circuit.now }
     requires positions { ArePositions circuit.now powers.now.loads (positions_in at.old) }
     requires powers { powers.now.loads ≡ hour_powers circuit.now.elements (hour_in day.old) }
@@ -54,8 +53,8 @@ pub(crate) fn solve_hour(
     match ended {
         Ok(()) => Ok(None),
         Err(fault) => {
-            let fault = fault_of(alloc, circuit, net.layout(), fault)?;
-            Ok(Some(fault))
+            let failure = failure_of(alloc, circuit, net.layout(), fault)?;
+            Ok(Some(failure))
         }
     }
 }

@@ -1,36 +1,47 @@
 // The hours of a Solve, each printed before the next is solved.
-ghost use Rattle.std.specs.Prelude.{◌≡◌, ◌+◌, ◌^◌, ◌<◌, ◌≤◌, All, IfSome, IsSome, None};
+ghost use Rattle.std.specs.Prelude.{◌≡◌, ◌+◌, ◌^◌, ◌<◌, ◌≤◌, All, IfErr, IfSome, IsSome, None, OnOk};
 ghost use Rattle.fd_outside.specs.Causes.{Rose};
 ghost use Rattle.dss_ready.specs.Ready.{HasPassed};
 ghost use Rattle.fd_daily.specs.Day.{IsDayOf, hour_in, hours_left};
-ghost use Rattle.fd_devices.specs.Building.{IsModest};
-ghost use Rattle.fd_devices.specs.Hours.{hour_powers};
+ghost use Rattle.fd_network.specs.Built.{IsBuiltOf};
 ghost use Rattle.fd_sample.specs.Probes.{positions_in};
-ghost use Rattle.fd_settle.specs.Start.{ArePositions, IsNetworkAt};
+ghost use Rattle.fd_settle.specs.Start.{ArePositions};
 ghost use Rattle.fd_xfmr.specs.Leakage.{AreTaps};
-ghost use Rattle.fd_outcome.specs.Calls.{report};
 ghost use Rattle.fd_report.specs.declared.faults.Cause.TheVariants.{Model};
 ghost use Rattle.fd_report.specs.declared.faults.Fault.TheVariants.{Script};
 ghost use Rattle.fd_outcome.specs.Parts.{EndsAt, GoesOn, Printed, fault_doing};
 ghost use Rattle.fd_app.specs.Answered.{kept_in};
 ghost use Rattle.fd_app.specs.Headline.{IsSolved};
+ghost use Rattle.fd_app.specs.Printing.{EndsInHour, IsLeftBehind, IsPrintedHour, IsRefusedAt, IsUnderway};
 ghost use Rattle.fd_app.specs.Solving.{IsHoursStep, IsSolutionStep};
 ghost use Rattle.fd_app.specs.Steps.{standing};
 
 use crate::answer::refused;
 use crate::hour::solve_hour;
-use crate::print::{WANT_OF_MEMORY, print_failed, print_fault, print_settle};
+use crate::page::{Page, SolvedHour};
+use crate::print::{WANT_OF_MEMORY, print_failed, print_fault, print_settled};
 use dss_circuit::{Blame, Circuit};
 use fd_daily::Day;
 use fd_devices::{BuildFault, Positions, Powers, hours_law, next_law, powers_at};
 use fd_network::Network;
 use fd_outside::Sink;
 use fd_report::Cause;
+use fd_settle::Round;
 use std::alloc::Global;
+
+/// The hours of a Solve under way: the network with the powers of the next hour, where the Solve stands, and room for the
+/// rounds of an hour.
+#[derive(Drop)]
+pub(crate) struct Underway {
+    pub net: Network,
+    pub powers: Powers,
+    pub day: Day,
+    pub rounds: Vec<Round>,
+}
 
 /// Solves the hours of a Solve of a circuit that passed the tests, where its last Solve left these positions, and prints
 /// the records of each before the next is solved. An answer ends the run.
-pub(crate) fn solve_hours<S: Sink>(
+pub(crate) fn solve_hours<P: Page, S: Sink>(
     alloc: Global,
     circuit: &Circuit,
     at: &mut Positions,
@@ -41,8 +52,8 @@ pub(crate) fn solve_hours<S: Sink>(
     requires ready { HasPassed circuit.now }
     requires taps { All AreTaps at.old.taps }
     requires settles { settled.old + 8761 < 2 ^ 32 }
-    ensures goes { result ≡ None → GoesOn report IsSolved (IsSolutionStep (standing circuit.now (positions_in at.old) settled.old)) (standing circuit.now (positions_in at.new) settled.new) S.taken S.calls out.old out.new begun.old begun.new }
-    ensures ends { IfSome result (EndsAt report IsSolved (IsSolutionStep (standing circuit.now (positions_in at.old) settled.old)) S.taken S.calls out.old out.new begun.old) }
+    ensures goes { result ≡ None → GoesOn P.style IsSolved (IsSolutionStep (standing circuit.now (positions_in at.old) settled.old)) (standing circuit.now (positions_in at.new) settled.new) S.taken S.calls out.old out.new begun.old begun.new }
+    ensures ends { IfSome result (EndsAt P.style IsSolved (IsSolutionStep (standing circuit.now (positions_in at.old) settled.old)) S.taken S.calls out.old out.new begun.old) }
     ensures taps { All AreTaps at.new.taps }
     ensures settles { settled.new ≤ settled.old + 8761 }
     ensures later { S.faults out.old ≤ S.faults out.new }
@@ -52,7 +63,7 @@ pub(crate) fn solve_hours<S: Sink>(
 {
     // read for what the elements are
     let _elements = circuit.elements();
-    let Ok(mut day) = Day::start(alloc, circuit) else {
+    let Ok(day) = Day::start(alloc, circuit) else {
         return Some(WANT_OF_MEMORY);
     };
     let Ok(start) = Positions::next(alloc, circuit, at) else {
@@ -60,15 +71,22 @@ pub(crate) fn solve_hours<S: Sink>(
     };
     next_law();
     hours_law();
+    P::law();
     *at = start;
     let hour = day.next_hour().unwrap();
     let Ok(powers) = powers_at(alloc, circuit, hour) else {
         return Some(WANT_OF_MEMORY);
     };
     match Network::build(alloc, circuit, at, &powers) {
-        Ok(mut net) => run_hours(
-            alloc, circuit, &mut net, powers, &mut day, at, settled, begun, out,
-        ),
+        Ok(net) => {
+            let mut underway = Underway {
+                net,
+                powers,
+                day,
+                rounds: Vec::new(alloc),
+            };
+            run_hours::<P, S>(alloc, circuit, &mut underway, at, settled, begun, out)
+        }
         Err(BuildFault::Range(blame)) => Some(print_range(alloc, &blame, out)),
         Err(BuildFault::NoMemory) => Some(WANT_OF_MEMORY),
     }
@@ -86,28 +104,105 @@ fn print_range<S: Sink>(alloc: Global, blame: &Blame, out: &mut S) -> u8
     }
 }
 
-// Solves and prints the hours that are left, where the network and the powers are those of the next.
-fn run_hours<S: Sink>(
+// Solves and prints the next hour. An answer ends the run.
+fn do_hour<P: Page, S: Sink>(
     alloc: Global,
     circuit: &Circuit,
-    net: &mut Network,
-    powers: Powers,
-    day: &mut Day,
+    underway: &mut Underway,
     at: &mut Positions,
     settled: &mut u32,
     begun: &mut bool,
     out: &mut S,
 ) -> Option<u8>
     requires ready { HasPassed circuit.now }
-    requires positions { ArePositions circuit.now powers.loads (positions_in at.old) }
-    requires powers { powers.loads ≡ hour_powers circuit.now.elements (hour_in day.old) }
-    requires modest { All IsModest powers.loads }
-    requires day { IsDayOf circuit.now day.old }
-    requires hour { IsSome day.old.hour }
+    requires underway { IsUnderway circuit.now at.old underway.old }
+    requires settles { settled.old + 1 < 2 ^ 32 }
+    ensures goes { result ≡ None → IsPrintedHour P.style S.taken S.calls out.old out.new begun.old circuit.now (hour_in underway.old.day) (kept_in at.old underway.old.day settled.old) (kept_in at.new underway.new.day settled.new) begun.new }
+    ensures ends { IfSome result (EndsInHour P.style S.taken S.calls out.old out.new begun.old circuit.now (hour_in underway.old.day) (kept_in at.old underway.old.day settled.old)) }
+    ensures left { result ≡ None → IsLeftBehind circuit.now at.new underway.old underway.new }
+    ensures positions { ArePositions circuit.now underway.new.powers.loads (positions_in at.new) }
+    ensures settles { settled.new ≤ settled.old + 1 }
+    ensures later { S.faults out.old ≤ S.faults out.new }
+    ensures write { IfSome result (λ code. code ≡ 5 → Rose (S.faults out.old) (S.faults out.new)) }
+    ensures usage { IfSome result (λ code. code ≡ 2 → ⊥) }
+    ensures read { IfSome result (λ code. code ≡ 4 → ⊥) }
+{
+    let hour = underway.day.next_hour().unwrap();
+    let number = *settled + 1;
+    let solved = solve_hour(
+        alloc,
+        circuit,
+        &mut underway.net,
+        &underway.powers,
+        &mut underway.day,
+        at,
+        &mut underway.rounds,
+    );
+    let Ok(failure) = solved else {
+        return Some(WANT_OF_MEMORY);
+    };
+    let made = SolvedHour {
+        circuit,
+        net: &underway.net,
+        number,
+        hour,
+        rounds: &underway.rounds,
+    };
+    match failure {
+        Some(failure) => Some(print_failed::<P, S>(alloc, &made, failure, at, *begun, out)),
+        None => {
+            let printed = print_settled::<P, S>(alloc, &made, at, begun, out);
+            if printed.is_none() {
+                *settled = number;
+            }
+            printed
+        }
+    }
+}
+
+// Brings the network up to date for the next hour.
+fn next_network(
+    alloc: Global,
+    circuit: &Circuit,
+    underway: &mut Underway,
+    at: &Positions,
+    hour: u32,
+) -> Result<(), BuildFault>
+    requires ready { HasPassed circuit.now }
+    requires positions { ArePositions circuit.now underway.old.powers.loads (positions_in at.now) }
+    requires day { IsDayOf circuit.now underway.old.day }
+    requires hour { underway.old.day.hour ≡ Some hour }
+    requires built { IsBuiltOf underway.old.net circuit.now }
+    ensures underway { OnOk result (IsUnderway circuit.now at.now underway.new) }
+    ensures day { underway.new.day ≡ underway.old.day }
+    ensures fault { IfErr result (IsRefusedAt circuit.now hour (positions_in at.now)) }
+{
+    hours_law();
+    let powers = powers_at(alloc, circuit, hour)?;
+    match underway.net.update(alloc, circuit, at, &powers) {
+        Ok(()) => {
+            underway.powers = powers;
+            Ok(())
+        }
+        Err(fault) => Err(fault),
+    }
+}
+
+// Solves and prints the hours that are left.
+fn run_hours<P: Page, S: Sink>(
+    alloc: Global,
+    circuit: &Circuit,
+    underway: &mut Underway,
+    at: &mut Positions,
+    settled: &mut u32,
+    begun: &mut bool,
+    out: &mut S,
+) -> Option<u8>
+    requires ready { HasPassed circuit.now }
+    requires underway { IsUnderway circuit.now at.old underway.old }
     requires settles { settled.old + 8761 < 2 ^ 32 }
-    requires network { IsNetworkAt circuit.now powers.loads (positions_in at.old) net.old }
-    ensures goes { result ≡ None → GoesOn report IsSolved (IsHoursStep circuit.now (hours_left day.old) (kept_in at.old day.old settled.old)) (standing circuit.now (positions_in at.new) settled.new) S.taken S.calls out.old out.new begun.old begun.new }
-    ensures ends { IfSome result (EndsAt report IsSolved (IsHoursStep circuit.now (hours_left day.old) (kept_in at.old day.old settled.old)) S.taken S.calls out.old out.new begun.old) }
+    ensures goes { result ≡ None → GoesOn P.style IsSolved (IsHoursStep circuit.now (hours_left underway.old.day) (kept_in at.old underway.old.day settled.old)) (standing circuit.now (positions_in at.new) settled.new) S.taken S.calls out.old out.new begun.old begun.new }
+    ensures ends { IfSome result (EndsAt P.style IsSolved (IsHoursStep circuit.now (hours_left underway.old.day) (kept_in at.old underway.old.day settled.old)) S.taken S.calls out.old out.new begun.old) }
     ensures taps { All AreTaps at.new.taps }
     ensures settles { settled.new ≤ settled.old + 8761 }
     ensures later { S.faults out.old ≤ S.faults out.new }
@@ -115,52 +210,16 @@ fn run_hours<S: Sink>(
     ensures usage { IfSome result (λ code. code ≡ 2 → ⊥) }
     ensures read { IfSome result (λ code. code ≡ 4 → ⊥) }
 {
-    hours_law();
-    let mut powers = powers;
-    let mut rounds = Vec::new(alloc);
+    P::law();
     loop {
-        let hour = day.next_hour().unwrap();
-        let number = *settled + 1;
-        match solve_hour(alloc, circuit, net, &powers, day, at, &mut rounds) {
-            Ok(None) => {
-                let printed = print_settle(
-                    alloc,
-                    circuit,
-                    net.layout(),
-                    number,
-                    hour,
-                    &rounds,
-                    at,
-                    begun,
-                    out,
-                );
-                if printed.is_some() {
-                    return printed;
-                }
-                *settled = number;
-            }
-            Ok(Some(fault)) => {
-                return Some(print_failed(
-                    alloc,
-                    circuit,
-                    net.layout(),
-                    number,
-                    hour,
-                    &rounds,
-                    &fault,
-                    out,
-                ));
-            }
-            Err(_) => return Some(WANT_OF_MEMORY),
+        let ended = do_hour::<P, S>(alloc, circuit, underway, at, settled, begun, out);
+        if ended.is_some() {
+            return ended;
         }
-        let Some(next) = day.next_hour() else {
+        let Some(hour) = underway.day.next_hour() else {
             return None;
         };
-        powers = match powers_at(alloc, circuit, next) {
-            Ok(powers) => powers,
-            Err(_) => return Some(WANT_OF_MEMORY),
-        };
-        match net.update(alloc, circuit, at, &powers) {
+        match next_network(alloc, circuit, underway, at, hour) {
             Ok(()) => {}
             Err(BuildFault::Range(blame)) => return Some(print_range(alloc, &blame, out)),
             Err(BuildFault::NoMemory) => return Some(WANT_OF_MEMORY),

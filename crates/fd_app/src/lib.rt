@@ -14,22 +14,26 @@
 //! - `hour`, `hours`: the hours of a Solve, each printed before the next is solved
 //! - `standing`: what stands between two commands
 //! - `step`: what one command comes to
+//! - `page`: how settles are printed; `report`, `certificate`: as records, as blocks of a certificate
 //! - `records`: the records of a settle
 //! - `print`: records handed to the sink
 //! - `line`: what the loop asks of a command line
-//! - `solve`: the command line `solve`
+//! - `solve`: the command lines `solve` and `cert`
 //! - `script`: the loop over a script's commands
 //! - `top`: the call itself
 #![tactic(auto)]
 
 mod answer;
+mod certificate;
 mod controls;
 mod faults;
 mod hour;
 mod hours;
 mod line;
+mod page;
 mod print;
 mod records;
+mod report;
 mod script;
 mod solve;
 mod standing;

@@ -1,30 +1,36 @@
 // The records of a settle.
-ghost use Rattle.std.specs.Prelude.{◌≡◌, ◌+◌, ◌++◌, ◌∷◌, ◌<◌, ◌^◌, [], All, IfOk, OnOk, Some, if◌then◌else◌, drop, length, map, slice_get};
+ghost use Rattle.std.specs.Prelude.{◌≡◌, ◌+◌, ◌++◌, ◌∷◌, ◌<◌, ◌^◌, [], All, IfOk, OnOk, Option, Some, if◌then◌else◌, drop, length, map, slice_get};
 ghost use Rattle.dss_layout.specs.Layout.{layout_of, size_of};
 ghost use Rattle.dss_ready.specs.Ready.{HasPassed};
 ghost use Rattle.fd_devices.specs.Hours.{hour_powers};
 ghost use Rattle.fd_outside.specs.Emitted.{pieces_of};
 ghost use Rattle.fd_queue.specs.Controls.{Positions as PositionsView, tap_at};
-ghost use Rattle.fd_report.specs.Lines.{line_of, lines_of};
-ghost use Rattle.fd_report.specs.Faults.{fields};
+ghost use Rattle.fd_report.specs.Lines.{lines_of};
+ghost use Rattle.fd_report.specs.declared.faults.Fault.{Fault as FaultView};
 ghost use Rattle.fd_report.specs.Solutions.{IsOfSize};
 ghost use Rattle.fd_sample.specs.Probes.{HasDevice, positions_in};
 ghost use Rattle.fd_sample.specs.Regulators.{changer_of};
 ghost use Rattle.fd_settle.specs.Rounds.{seen};
 ghost use Rattle.fd_settle.specs.Start.{ArePositions};
-ghost use Rattle.fd_outcome.specs.Settles.{Settle, failed, settled};
-ghost use Rattle.fd_outcome.specs.Pages.{act_rows, act_rows_by, bank_rows, controls_of, is_bank, is_control, position_of, round_rows, rounds_rows, solution_in, tap_rows, tap_rows_by};
-ghost use Rattle.fd_app.specs.Answered.{IsPrintable, IsSettleAt, round_in, rounds_in, settle_made, texts_of};
-ghost use Rattle.fd_app.specs.Places.{AreControlPlaces, bank_rows_first, tap_rows_of};
+ghost use Rattle.fd_cert.specs.declared.ball.Certified.{Certified as CertifiedView};
+ghost use Rattle.fd_network.specs.Built.{IsBuiltOf};
+ghost use Rattle.fd_outcome.specs.Settles.{Settle, settled};
+ghost use Rattle.fd_outcome.specs.Pages.{act_rows, act_rows_by, bank_rows, controls_of, is_bank, is_control, position_of, report_rows, round_rows, rounds_rows, solution_in, tap_rows, tap_rows_by};
+ghost use Rattle.fd_app.specs.Answered.{IsPrintable, IsSettleAt, round_in, rounds_in, settle_made};
+ghost use Rattle.fd_app.specs.Endings.{end_with};
+ghost use Rattle.fd_app.specs.Places.{AreControlPlaces, bank_rows_first, base_texts, tap_rows_of};
+ghost use Rattle.fd_bases.specs.Bases.{bases_of};
 ghost use Rattle.fd_app.specs.Steps.{Kept};
 
 use crate::controls::is_control;
+use crate::page::SolvedHour;
 use dss_circuit::Circuit;
 use dss_layout::Layout;
 use dss_profile::{Element, ElementName};
+use fd_bases::bases;
 use fd_devices::Positions;
 use fd_outside::Record;
-use fd_report::{Fault, Position, Solution, act_record, bank_record, record, records, tap_record};
+use fd_report::{Position, Solution, act_record, bank_record, base_record, records, tap_record};
 use fd_sample::{Probe, RegProbe, probes};
 use fd_settle::{Act, Round};
 use std::alloc::{AllocError, Global};
@@ -301,44 +307,64 @@ fn add_banks(
     Ok(())
 }
 
-/// The records of an hour's settle that ended well.
+/// The records of an hour's settle that ended well, at these positions.
 pub(crate) fn settled_records(
     alloc: Global,
-    circuit: &Circuit,
-    layout: &Layout,
-    number: u32,
-    hour: u32,
-    rounds: &[Round],
+    made: &SolvedHour<'_>,
     at: &Positions,
 ) -> Result<Vec<Record>, AllocError>
-    requires layout { layout.now ≡ layout_of circuit.now.elements }
-    requires printable { IsPrintable circuit.now hour rounds.now (positions_in at.now) }
-    ensures { (l : Kept) → number ≡ l.settled + 1 → IfOk result (λ r. pieces_of r.items ≡ texts_of (settle_made circuit.now hour l rounds.now settled (positions_in at.now))) }
+    requires network { IsBuiltOf made.now.net.now made.now.circuit.now }
+    requires printable { IsPrintable made.now.circuit.now made.now.hour made.now.rounds.now (positions_in at.now) }
+    ensures { (l : Kept) → made.now.number ≡ l.settled + 1 → IfOk result (λ r. pieces_of r.items ≡ lines_of (report_rows (settle_made made.now.circuit.now made.now.hour l made.now.rounds.now settled (positions_in at.now)))) }
 {
+    let layout = made.net.layout();
     let mut into = Vec::new(alloc);
-    add_rounds(alloc, circuit, layout, number, hour, rounds, &mut into)?;
-    add_taps(alloc, circuit, layout, hour, at, &mut into)?;
-    add_banks(alloc, circuit, at, &mut into)?;
+    add_rounds(
+        alloc,
+        made.circuit,
+        layout,
+        made.number,
+        made.hour,
+        made.rounds,
+        &mut into,
+    )?;
+    add_taps(alloc, made.circuit, layout, made.hour, at, &mut into)?;
+    add_banks(alloc, made.circuit, at, &mut into)?;
     Ok(into)
 }
 
-/// The records of an hour's settle that ended with a fault: those of its rounds, and the fault's.
+/// The records of an hour's settle that ended with a fault, before the fault's: those of its rounds.
 pub(crate) fn failed_records(
     alloc: Global,
-    circuit: &Circuit,
-    layout: &Layout,
-    number: u32,
-    hour: u32,
-    rounds: &[Round],
-    fault: &Fault,
+    made: &SolvedHour<'_>,
 ) -> Result<Vec<Record>, AllocError>
-    requires layout { layout.now ≡ layout_of circuit.now.elements }
-    requires numbers { All (λ r. IsOfSize (size_of (layout_of circuit.now.elements)) (solution_in r)) (rounds_in rounds.now) }
-    requires few { length rounds.now < 2 ^ 32 }
-    ensures { (l : Kept) (left : PositionsView) → number ≡ l.settled + 1 → IfOk result (λ r. pieces_of r.items ≡ texts_of (settle_made circuit.now hour l rounds.now (failed fault.now) left) ++ line_of (fields fault.now) ∷ []) }
+    requires network { IsBuiltOf made.now.net.now made.now.circuit.now }
+    requires numbers { All (λ r. IsOfSize (size_of (layout_of made.now.circuit.now.elements)) (solution_in r)) (rounds_in made.now.rounds.now) }
+    requires few { length made.now.rounds.now < 2 ^ 32 }
+    ensures { (l : Kept) (f : FaultView) (tried : Option CertifiedView) (left : PositionsView) → made.now.number ≡ l.settled + 1 → IfOk result (λ r. pieces_of r.items ≡ lines_of (report_rows (settle_made made.now.circuit.now made.now.hour l made.now.rounds.now (end_with f tried) left))) }
 {
+    let layout = made.net.layout();
     let mut into = Vec::new(alloc);
-    add_rounds(alloc, circuit, layout, number, hour, rounds, &mut into)?;
-    into.push(record(alloc, fault)?)?;
+    add_rounds(
+        alloc,
+        made.circuit,
+        layout,
+        made.number,
+        made.hour,
+        made.rounds,
+        &mut into,
+    )?;
+    Ok(into)
+}
+
+/// The records of the voltage bases of a circuit's buses.
+pub(crate) fn base_records(alloc: Global, circuit: &Circuit) -> Result<Vec<Record>, AllocError>
+    ensures { IfOk result (λ r. pieces_of r.items ≡ base_texts (bases_of circuit.now)) }
+{
+    let bases = bases(alloc, circuit)?;
+    let mut into = Vec::new(alloc);
+    for base in &bases {
+        into.push(base_record(alloc, &base.bus, base.kv)?)?;
+    }
     Ok(into)
 }

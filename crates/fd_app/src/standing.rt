@@ -2,21 +2,23 @@
 ghost use Rattle.std.specs.Prelude.{◌≡◌};
 ghost use Rattle.fd_app.specs.Run.{first_standing};
 
+use crate::page::Page;
 use dss_circuit::Circuit;
 use fd_devices::{BankStates, Positions, Taps};
 use std::alloc::Global;
-use std::marker::Model;
+use std::marker::{Model, PhantomData};
 
 /// The circuit, the positions of taps and banks that its last Solve left, none before the first, and how many settles
-/// there were so far.
+/// there were so far, which are printed so.
 #[derive(Drop)]
-pub(crate) struct Standing {
+pub(crate) struct Standing<P: Page> {
     pub circuit: Circuit,
     pub at: Positions,
     pub settled: u32,
+    page: PhantomData<P>,
 }
 
-impl Model for Standing {
+impl<P: Page> Model for Standing<P> {
     ghost use Rattle.std.specs.Prelude.{◌*◌, ◌≤◌, All};
     ghost use Rattle.fd_xfmr.specs.Leakage.{AreTaps};
     ghost use Rattle.fd_sample.specs.Probes.{positions_in};
@@ -29,9 +31,9 @@ impl Model for Standing {
     ghost invariant = { λ s. All AreTaps s.at.taps × (s.settled ≤ 8761 * s.circuit.solves) };
 }
 
-impl Standing {
+impl<P: Page> Standing<P> {
     /// No circuit, no positions, and no settle.
-    pub(crate) fn new(alloc: Global) -> Standing
+    pub(crate) fn new(alloc: Global) -> Standing<P>
         ensures { result ≡ first_standing }
     {
         Standing {
@@ -41,6 +43,7 @@ impl Standing {
                 closed: BankStates::new(Vec::new(alloc)),
             },
             settled: 0,
+            page: PhantomData,
         }
     }
 }

@@ -31,7 +31,7 @@ fn after_apply(alloc: Global, circuit: &Circuit, command: &Command) -> Result<An
     ensures count { IfOk result (λ a. solves_of a ≤ solve_count command.now.verb) }
 {
     match &command.verb {
-        Verb::Bases => Ok(Answer::Refuses(refused(&command.place, Cause::NotBuilt)?)),
+        Verb::Bases => Ok(Answer::Bases),
         Verb::Solve { .. } => test(alloc, circuit),
         Verb::New { .. } | Verb::Edit { .. } | Verb::Set { .. } | Verb::Clear => Ok(Answer::Done),
     }

@@ -5,7 +5,6 @@ ghost use Rattle.fd_outside.specs.Causes.{Rose};
 ghost use Rattle.fd_outside.specs.Files.{Files};
 ghost use Rattle.dss_script.specs.Said.{said_of};
 ghost use Rattle.dss_script.specs.Sessions.{GrowsSome};
-ghost use Rattle.fd_outcome.specs.Calls.{report};
 ghost use Rattle.fd_outcome.specs.Events.{History};
 ghost use Rattle.fd_outcome.specs.Laws.{IsDue};
 ghost use Rattle.fd_outcome.specs.Runs.{Runs};
@@ -15,27 +14,31 @@ ghost use Rattle.fd_app.specs.Headline.{IsSolved};
 ghost use Rattle.fd_app.specs.Run.{FormsLaw, IsFormHistory, IsScriptHistory, Knows, style_of};
 ghost use Rattle.fd_app.specs.Words.{form_of};
 
+use crate::certificate::Certificate;
+use crate::page::Page;
 use crate::print::{WANT_OF_MEMORY, print_fault};
+use crate::report::Report;
 use crate::script::run_script;
 use crate::standing::Standing;
-use crate::words::solved_file;
+use crate::words::{Form, form_of};
 use dss_script::{Session, said_law};
 use fd_outside::{Library, Sink};
 use fd_report::Fault;
 use std::alloc::Global;
 
-// Reads the script of this name, and does its commands.
-fn solve<L: Library, S: Sink>(alloc: Global, file: &str, lib: &mut L, out: &mut S) -> u8
+// Reads the script of this name, does its commands, and prints their settles so.
+fn solve<P: Page, L: Library, S: Sink>(alloc: Global, file: &str, lib: &mut L, out: &mut S) -> u8
     ensures run { (files : Files) → L.holds lib.old ≡ Some files →
         Runs L.faults L.asked S.taken S.calls lib.old lib.new out.old out.new
-        (λ h. IsScriptHistory files (said_of files (chars file.now)) h) report IsSolved result }
+        (λ h. IsScriptHistory files (said_of files (chars file.now)) h) P.style IsSolved result }
     ensures untold { IsUntold L.faults L.asked S.faults S.taken S.calls lib.old lib.new out.old out.new result }
 {
     said_law();
+    P::law();
     let Ok(mut session) = Session::open(alloc, file) else {
         return WANT_OF_MEMORY;
     };
-    let mut standing = Standing::new(alloc);
+    let mut standing: Standing<P> = Standing::new(alloc);
     run_script(alloc, &mut session, &mut standing, lib, out)
 }
 
@@ -58,7 +61,8 @@ fn solve<L: Library, S: Sink>(alloc: Global, file: &str, lib: &mut L, out: &mut 
 /// | 12 | a control is due to act after as many acts as the options allow |
 ///
 /// The words are those after the program's name. `solve FILE` does the commands of the script of that name, and prints
-/// the rounds of each Solve, with the acts of its controls, before the next command is read. Each record is handed to
+/// the rounds of each Solve, with the acts of its controls, before the next command is read; `cert FILE` does the same,
+/// and prints each round as a block of a certificate. Each record is handed to
 /// the sink by one write. A refusal is printed with its file, its line and its cause, a failed read with the file's
 /// name, a fault of the procedure with the first unknown that it is found at, a mismatch with its row, a state without
 /// a certificate with the unknown whose bound reaches one, and an undecided sample with its control.
@@ -88,9 +92,10 @@ pub fn run<L: Library, S: Sink>(alloc: Global, words: &[String], lib: &mut L, ou
     // Names are only added to those asked.
     ensures grows { GrowsSome (L.asked lib.old) (L.asked lib.new) }
 {
-    match solved_file(words) {
+    match form_of(words) {
         None => print_fault(alloc, &Fault::Usage, out),
-        Some(file) => solve(alloc, file, lib, out),
+        Some(Form::Solve(file)) => solve::<Report, L, S>(alloc, file, lib, out),
+        Some(Form::Cert(file)) => solve::<Certificate, L, S>(alloc, file, lib, out),
     }
 }
 

@@ -1,7 +1,15 @@
 // The words of the command line.
-ghost use Rattle.std.specs.Prelude.{◌≡◌, map, string_bytes};
+ghost use Rattle.std.specs.Prelude.{◌≡◌, ◌∷◌, [], map, string_bytes};
 ghost use Rattle.std.specs.Option.{option_map};
-ghost use Rattle.fd_app.specs.Words.{Solve, form_of, names_file};
+ghost use Rattle.fd_app.specs.Run.{form_in};
+ghost use Rattle.fd_app.specs.Words.{form_of, names_file};
+
+/// A command line, with the words behind its first.
+#[derive(Clone, Copy, Drop)]
+pub(crate) enum Form<'a> {
+    Solve(&'a str),
+    Cert(&'a str),
+}
 
 fn names_file(word: &str) -> bool
     ensures { result ≡ names_file word.now }
@@ -12,14 +20,27 @@ fn names_file(word: &str) -> bool
     }
 }
 
-/// The file that `solve FILE` names, where the words are of that form.
-pub(crate) fn solved_file(words: &[String]) -> Option<&str>
-    ensures { option_map (λ file. Solve file.now) result ≡ form_of (map string_bytes words.now) }
+// The form of two words.
+fn form_of_two<'a>(first: &str, file: &'a str) -> Option<Form<'a>>
+    ensures { option_map form_in result ≡ form_of (first.now ∷ file.now ∷ []) }
+{
+    if !names_file(file) {
+        None
+    } else if first == "solve" {
+        Some(Form::Solve(file))
+    } else if first == "cert" {
+        Some(Form::Cert(file))
+    } else {
+        None
+    }
+}
+
+/// The form that the words are, if they are one.
+pub(crate) fn form_of(words: &[String]) -> Option<Form<'_>>
+    ensures { option_map form_in result ≡ form_of (map string_bytes words.now) }
 {
     match words {
-        [word, file] if word.as_str() == "solve" && names_file(file.as_str()) => Some(
-            file.as_str(),
-        ),
+        [first, file] => form_of_two(first.as_str(), file.as_str()),
         _ => None,
     }
 }

@@ -1,5 +1,5 @@
 -- The first rule that a claim breaks, from lists as they were computed.
-use Rattle.std.proofs.Common.{◌≡◌, ◌∙◌, ℕ, ◌<◌, ◌≤◌, ℤ, nat_lt, Bool, true, false, cond, List, length, Option, Some, None, arith, refl, ap, sym, subst}
+use Rattle.std.proofs.Common.{◌≡◌, ◌∙◌, ℕ, ◌<◌, ℤ, nat_lt, true, false, cond, List, length, Option, Some, None, ap, sym, subst}
 use Rattle.std.specs.Prelude.{◌↔◌}
 use Rattle.std.proofs.lemmas.Bool.{ltb-false, or_parts}
 use Rattle.fd_exact.specs.First.{first_place}

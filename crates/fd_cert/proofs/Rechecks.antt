@@ -1,6 +1,6 @@
 -- A claim is sound exactly where it breaks no rule.
-use Rattle.std.proofs.Common.{◌≡◌, ◌∙◌, ℕ, ◌+◌, ◌*◌, ◌-◌, ◌<◌, ◌≤◌, ◌^◌, ℤ, pos, ◌≤ℤ◌, nat_abs, nat_le, nat_lt, not, Bool, true, false, cond, List, length, Option, Some, None, IfSome, is_some, All, arith, refl, ap, sym, subst}
-use Rattle.std.specs.Prelude.{◌&&◌, ◌||◌, ◌==◌, ◌↔◌}
+use Rattle.std.proofs.Common.{◌≡◌, ◌∙◌, ℕ, ◌*◌, ◌-◌, ◌<◌, ◌≤◌, ◌^◌, ℤ, pos, nat_abs, nat_lt, not, Bool, true, false, cond, List, length, Option, Some, None, is_some, All, arith, refl, ap, sym, subst}
+use Rattle.std.specs.Prelude.{◌==◌, ◌↔◌}
 use Rattle.std.proofs.lemmas.Bool.{and_from, and_parts, eq-eqb, eqb-true, false_from_ne_true, le-leb, ltb-false, or_from, or_parts}
 use Rattle.std.proofs.lemmas.Int.{ints}
 use Rattle.std.proofs.Math.Nat.{mul-le-mul}
@@ -18,12 +18,11 @@ use Rattle.fd_equations.specs.declared.layout.PlaceKind.TheVariants.{Node, Branc
 use Rattle.fd_equations.specs.Rounded.{jacobian_entry}
 use Rattle.fd_equations.specs.Views.{NetworkView, kind_of}
 use Rattle.fd_equations.specs.Weights.{weight_at, weight_by}
-use Rattle.fd_enclosure.specs.Bounds.{bound_at, bound_of, bound_size, first_unbounded, first_wide, is_below_one, is_bounded, radius_at, reach_of, refusal, refused_bound, unless_unbounded, unless_wide}
-use Rattle.fd_enclosure.specs.Boxes.{boxes_of}
+use Rattle.fd_enclosure.specs.Bounds.{bound_at, bound_of, bound_size, is_below_one, is_bounded, radius_at, reach_of, refusal, refused_bound, unless_unbounded, unless_wide}
 use Rattle.fd_enclosure.specs.Radii.{slope_radius}
 use Rattle.fd_enclosure.specs.Sound.{Claim, IsInverse, IsSound, greatest_mismatch, mismatch_at, number_at, radius_in}
 use Rattle.fd_enclosure.proofs.CallerLemmas.{all_bounded}
-use Rattle.fd_cert.specs.Rechecks.{HasItsBoxes, broken_at, first_at_point, first_broken, first_unsound, has_size, has_wide_entry, is_narrow, is_out_of_range, is_past_range, is_untrue, place_named, refusal_of}
+use Rattle.fd_cert.specs.Rechecks.{HasItsBoxes, broken_at, first_at_point, first_broken, first_unsound, has_size, has_wide_entry, is_narrow, is_out_of_range, is_untrue, place_named, refusal_of}
 use Rattle.fd_cert.specs.declared.rule.Broken.{Broken}
 use Rattle.fd_cert.specs.declared.rule.Rule.{Rule}
 use Rattle.fd_cert.specs.declared.rule.Rule.TheVariants.{Bound, Mismatch, Radius, Range, Size}

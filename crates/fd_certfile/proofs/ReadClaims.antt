@@ -1,6 +1,6 @@
 -- The rules on what a block claims come to those of the claim that its numbers are read as.
-use Rattle.std.proofs.Common.{◌≡◌, ℕ, ◌+◌, ◌<◌, ◌≤◌, ◌^◌, ℤ, pos, negsuc, nat_abs, nat_le, nat_lt, not, Bool, true, false, List, [], ◌∷◌, length, get_or, Option, Some, None, cond, refl, ap, sym, subst, ◌∙◌, arith}
-use Rattle.std.specs.Prelude.{◌&&◌, ◌||◌, ◌==◌, int_le, map, option_map}
+use Rattle.std.proofs.Common.{◌≡◌, ℕ, ◌<◌, ◌^◌, ℤ, pos, negsuc, nat_abs, nat_le, nat_lt, not, Bool, true, false, List, [], ◌∷◌, length, Option, Some, None, cond, refl, ap, sym, ◌∙◌, arith}
+use Rattle.std.specs.Prelude.{◌&&◌, ◌||◌, ◌==◌, int_le, option_map}
 use Rattle.std.specs.List.{list_all}
 use Rattle.std.proofs.Math.ListN.{get_or-map}
 use Rattle.std.proofs.lemmas.Bool.{and_from, and_parts, eq-eqb, eqb-true, false_from_ne_true, le-leb, lt-ltb, not-false}
@@ -8,14 +8,11 @@ use Rattle.std.proofs.lemmas.List.{ext_get_or, length-map}
 use Rattle.fd_exact.specs.First.{first_place}
 use Rattle.fd_exact.specs.FirstLaws.{first_some as first_at}
 use Rattle.fd_exact.specs.States.{entry, part}
-use Rattle.fd_mat.specs.Rows.{row_of as row_at}
 use Rattle.fd_equations.specs.Rounded.{jacobian_entry}
 use Rattle.fd_equations.specs.Views.{NetworkView}
 use Rattle.fd_equations.specs.Weights.{weight_at}
 use Rattle.fd_enclosure.specs.Boxes.{boxes_of}
-use Rattle.fd_enclosure.specs.Bounds.{refusal}
 use Rattle.fd_enclosure.specs.Radii.{slope_radius}
-use Rattle.fd_enclosure.specs.Sound as sound
 use Rattle.fd_enclosure.specs.Sound.{mismatch_at, number_at, radius_in}
 use Rattle.fd_cert.specs.Rechecks.{broken_at, first_at_point, first_broken, first_unsound, has_size, has_wide_entry, is_narrow, is_out_of_range, is_untrue, place_named, refusal_of}
 use Rattle.fd_cert.specs.declared.rule.Broken.{Broken as Found}
@@ -24,10 +21,10 @@ use Rattle.fd_cert.specs.declared.rule.Rule.TheVariants.{Bound, Mismatch, Radius
 use Rattle.fd_certfile.specs.Blocks.{Block, IsSized, Part, count_of}
 use Rattle.fd_certfile.specs.Claiming.{claim_read, mismatches_read, radii_read, read_mismatch, read_radius}
 use Rattle.fd_certfile.specs.Judging.{claim_on, judge_of, names, refusal_in, sizes_of}
-use Rattle.fd_certfile.specs.Rules.{Ball, Broken, Judge, Sampled, at_part, at_solution, broken_by, claim_of, claim_rules, first_some, is_due, is_in_range, is_mismatch, is_radius, is_within, least_from, part_of, row_of, unless, unless_at}
+use Rattle.fd_certfile.specs.Rules.{Ball, Broken, Sampled, at_part, at_solution, broken_by, claim_of, claim_rules, first_some, is_due, is_in_range, is_mismatch, is_radius, is_within, least_from, part_of, row_of, unless, unless_at}
 use Rattle.fd_certfile.proofs.Judged.{refusal_below}
 use Rattle.fd_certfile.proofs.LeastPlaces.{all_at, is_wide, least_is, lt_not, none_holds, or_not}
-use Rattle.fd_certfile.proofs.RuleOrder.{least_all, least_none}
+use Rattle.fd_certfile.proofs.RuleOrder.{least_all}
 
 -- ---- tests
 

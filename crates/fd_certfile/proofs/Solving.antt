@@ -1,6 +1,6 @@
 -- What a reader gives as a solver.
-use Rattle.std.proofs.Common.{◌≡◌, ℕ, ◌+◌, Bool, true, false, List, ◌∷◌, Option, Some, None, Result, Ok, Err, ℤ, refl, ap, sym, subst, ◌∙◌}
-use Rattle.std.specs.Prelude.{◌&&◌, option_map, map, pos}
+use Rattle.std.proofs.Common.{◌≡◌, ℕ, ◌+◌, Bool, true, false, List, Option, Some, None, Result, Ok, Err, ℤ, refl, ap, sym, ◌∙◌}
+use Rattle.std.specs.Prelude.{option_map, map, pos}
 use Rattle.std.proofs.lemmas.Bool.{and_parts}
 use Rattle.std.proofs.lemmas.Simd.{map-map}
 use Rattle.fd_equations.specs.Views.{NetworkView}
@@ -10,10 +10,10 @@ use Rattle.fd_cert.specs.declared.rule.Rule.{Rule}
 use Rattle.fd_certfile.specs.Blocks.{Block, IsSized, Version, block_at, is_place}
 use Rattle.fd_certfile.specs.Blocks as blocks
 use Rattle.fd_certfile.specs.Claiming.{centre_in, claim_read, mismatch_in, radius_in, read_mismatch, read_radius}
-use Rattle.fd_certfile.specs.Judging.{claim_on, judge_of}
+use Rattle.fd_certfile.specs.Judging.{claim_on}
 use Rattle.fd_certfile.specs.Lines.{Line}
 use Rattle.fd_certfile.specs.Reader.{FindsAhead, ReaderView, behind, by_head, next_of, starts_with_end, unless_other}
-use Rattle.fd_certfile.specs.Rules.{Ball, Broken, Sampled, at_part, claim_of, claim_rules, first_some, is_due, is_numbered}
+use Rattle.fd_certfile.specs.Rules.{Ball, Broken, Sampled, claim_of, claim_rules, first_some, is_due, is_numbered}
 use Rattle.fd_certfile.specs.Solving.{GivesSolved, by_claim, judge_in, no_acts, solved_of, unless_unsound}
 use Rattle.fd_certfile.specs.Views.{part}
 use Rattle.fd_certfile.specs.declared.block.Part.{Part as Read}

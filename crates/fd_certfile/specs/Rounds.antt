@@ -57,12 +57,16 @@ abbrev pub AreReadAs : List (List ℕ) → Block → Type 0
 AreReadAs pieces b = (tail : List ℕ) → IsBehindActs (lines_of tail)
     → block_at Whole (lines_of (concat pieces ++ tail)) ≡ Ok (b, lines_of tail)
 
--- a round of a network of this size, whose numbers are within those of a certificate
-pub record IsRoundOf (size : ℕ) (made : Round) : Type 0 where
-  pub centre_long : length made.certified.ball.centre.items ≡ size
-  pub radii_long : length made.certified.ball.radius.items ≡ size
-  pub mismatches_long : length made.certified.mismatch.items ≡ size
-  pub inverse : IsInverse size made.certified.inverse
-  pub centre : (i : ℕ) → i < size → nat_abs (part made.certified.ball.centre.items i) ≤ 2 ^ 40
-  pub radii : (i : ℕ) → i < size → number_at made.certified.ball.radius.items i ≤ 2 ^ 40
-  pub mismatches : (i : ℕ) → i < size → number_at made.certified.mismatch.items i ≤ greatest_mismatch
+-- what is claimed in a network of this size, with numbers that are within those of a certificate
+pub record IsClaimOf (size : ℕ) (m : Claim) : Type 0 where
+  pub centre_long : length m.centre ≡ size
+  pub radii_long : length m.radii ≡ size
+  pub mismatches_long : length m.mismatches ≡ size
+  pub inverse : IsInverse size m.inverse
+  pub centre : (i : ℕ) → i < size → nat_abs (part m.centre i) ≤ 2 ^ 40
+  pub radii : (i : ℕ) → i < size → number_at m.radii i ≤ 2 ^ 40
+  pub mismatches : (i : ℕ) → i < size → number_at m.mismatches i ≤ greatest_mismatch
+
+-- a round of such a network
+abbrev pub IsRoundOf : ℕ → Round → Type 0
+IsRoundOf size made = IsClaimOf size (claim_in made.certified)

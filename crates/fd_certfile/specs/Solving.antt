@@ -1,5 +1,5 @@
 -- What a reader gives as a solver: the next block, where what it claims holds on a network.
-use Rattle.std.specs.Prelude.{◌≡◌, ℕ, List, [], Option, Some, None, Result, Ok, Err}
+use Rattle.std.specs.Prelude.{◌≡◌, ℕ, [], Option, Some, None, Result, Ok, Err}
 use Rattle.fd_equations.specs.Views.{NetworkView}
 use Rattle.fd_enclosure.specs.Sound.{Claim}
 use Rattle.fd_cert.specs.declared.rule.Rule.{Rule}

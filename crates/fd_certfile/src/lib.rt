@@ -57,7 +57,7 @@ pub use reader::{CertReader, Claimed};
 pub use rule::{
     answers_law, given_law, rule_cases, rule_law, solving_law, sound_law, verdict_cases,
 };
-pub use write::write_block;
+pub use write::{end_record, header_record, write_block};
 
 #[cfg(test)]
 mod tests;

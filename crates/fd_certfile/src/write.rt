@@ -6,7 +6,7 @@ ghost use Rattle.fd_equations.specs.Rounded.{list_of};
 ghost use Rattle.fd_mat.specs.Rows.{row_of};
 ghost use Rattle.fd_outside.specs.Emitted.{pieces_of};
 ghost use Rattle.fd_certfile.specs.Blocks.{Whole, act_line, row_line};
-ghost use Rattle.fd_certfile.specs.Lines.{line_bytes, solution};
+ghost use Rattle.fd_certfile.specs.Lines.{end, header, line_bytes, solution};
 ghost use Rattle.fd_certfile.specs.Rounds.{AreNumbers, IsRoundOf, act_of, block_of, AreLinesOf, AreReadAs, part_bytes, row_bytes};
 
 use crate::texts::line_record;
@@ -66,6 +66,26 @@ fn act_record(alloc: Global, act: &Act) -> Result<Record, AllocError>
         i128::from(act.steps),
     ];
     line_record(alloc, b"act", &numbers, &[])
+}
+
+/// The first line of a certificate, which names its version.
+///
+/// # Errors
+/// `AllocError` where memory is refused.
+pub fn header_record(alloc: Global) -> Result<Record, AllocError>
+    ensures { IfOk result (λ r. r.bytes ≡ line_bytes (header (pos 1))) }
+{
+    line_record(alloc, b"cert", &[1], &[])
+}
+
+/// The line behind the last block of a certificate.
+///
+/// # Errors
+/// `AllocError` where memory is refused.
+pub fn end_record(alloc: Global) -> Result<Record, AllocError>
+    ensures { IfOk result (λ r. r.bytes ≡ line_bytes end) }
+{
+    line_record(alloc, b"end", &[], &[])
 }
 
 // Adds the lines of unknowns.

@@ -23,7 +23,7 @@ use Rattle.fd_report.specs.declared.faults.Cause.TheVariants as cause
 use Rattle.fd_report.specs.declared.faults.Fault.{Fault}
 use Rattle.fd_report.specs.declared.faults.Fault.TheVariants as fault
 use Rattle.fd_outcome.specs.Settles.{Settle}
-use Rattle.fd_outcome.specs.Events.{Event, asked, History, before, ended, IfSettle, AllSettles}
+use Rattle.fd_outcome.specs.Events.{Event, asked, History, before, ended, finishes, IfSettle, AllSettles}
 use Rattle.fd_outcome.specs.Work.{Step, goes, ends, ExactlyOne}
 use Rattle.fd_outcome.specs.History.{Point, IsFrom, IsLast, IsHistory, LeadsTo}
 use Rattle.fd_outcome.specs.Calls.{Call, reads, writes, Style, so_far, body, opened, calls_of, doing, Doing, fault_text, names_read, texts_written}
@@ -105,14 +105,28 @@ sees_none asked_of taken calls lib out = sees_nothing asked_of taken calls lib o
 
 -- ---- whether a text was written
 
-or_false : (b : Bool) → (b || false) ≡ b
+pub or_false : (b : Bool) → (b || false) ≡ b
 or_false true = refl
 or_false false = refl
 
-has_text-append : (a b : List Call) → has_text (a ++ b) ≡ (has_text a || has_text b)
+pub has_text-append : (a b : List Call) → has_text (a ++ b) ≡ (has_text a || has_text b)
 has_text-append [] b = refl
 has_text-append (reads n ∷ a) b = has_text-append a b
 has_text-append (writes text ∷ a) b = refl
+
+-- events behind others
+pub behind-append : (style : Style) (t : Bool) (a b : List Event) → behind style t (a ++ b) ≡ behind style t a ++ behind style (t || has_text (body style a)) b
+behind-append style true a b = body-append style a b
+behind-append style false a b = append_is style a b
+
+-- whether a text was written, with one event more
+pub text_behind : (style : Style) (t : Bool) (a b : List Event) → ((t || has_text (body style a)) || has_text (body style b)) ≡ (t || has_text (body style (a ++ b)))
+text_behind style true a b = refl
+text_behind style false a b = sym (has_text-append (body style a) (body style b)) ∙ ap has_text (sym (body-append style a b))
+
+pub nothing_behind : (style : Style) (t : Bool) → behind style t [] ≡ []
+nothing_behind style true = refl
+nothing_behind style false = refl
 
 no_text : (names : List (List ℕ)) → has_text (map reads names) ≡ false
 no_text [] = refl
@@ -257,10 +271,6 @@ module _ {T : Type 0} (is_step : Command → T → Step T → Type 0) (last_name
         (behind style (has_text (body style w.events)) events ++ last) code m w is calls_are done
         events [] (Some f) (behind style (has_text (body style w.events)) events ++ last) (sym (append-nil events)) all calls_are done sees
 
-    nothing_behind : (t : Bool) → behind style t [] ≡ []
-    nothing_behind true = refl
-    nothing_behind false = refl
-
     pub ends_refused : (begun : Bool) (left : List Said) (end : ScriptEnd) (s : T) (lib lib_new : L) (out out_new : S) (place : Place) (c : ScriptCause) (code : ℕ) → At begun left end s lib out
         → Asked left [] (asked_of lib) (asked_of lib_new) × (end ≡ refused_at place c) → Printed taken calls out out_new (fault_doing (fault.Script place (cause.Script c))) code → RunsTo lib_new out_new code
     ends_refused begun left end s lib lib_new out out_new place c code a r printed =
@@ -269,7 +279,7 @@ module _ {T : Type 0} (is_step : Command → T → Step T → Type 0) (last_name
         let w : WayAt [] (refused_at place c) s lib_new out = subst (λ x. WayAt [] x s lib_new out) r.1 b.way in
         let D : List Call → Type 0 = λ l. IsDone (record { calls = l ++ writes (fault_text f) ∷ []; end = Some f }) code printed.made in
         fault_at [] (refused_at place c) s lib_new lib_new out out_new [] f code printed.made w refl (All-nil (IfSettle good))
-        (subst D (sym (nothing_behind (has_text (body style w.events)))) printed.done) (sees_wrote lib_new out out_new printed.made printed.wrote)
+        (subst D (sym (nothing_behind style (has_text (body style w.events)))) printed.done) (sees_wrote lib_new out out_new printed.made printed.wrote)
 
     pub ends_short : (begun : Bool) (left : List Said) (end : ScriptEnd) (s : T) (lib lib_new : L) (out : S) → At begun left end s lib out
         → IsCutShort left (asked_of lib) (asked_of lib_new) → RunsTo lib_new out 1
@@ -278,7 +288,7 @@ module _ {T : Type 0} (is_step : Command → T → Step T → Type 0) (last_name
         let one = goes_from c.rest end s in
         let F : List Call → Type 0 = λ l. IsFrontOf l 1 (whole []) in
         cut_at c.rest end s lib_new lib_new out out one.some [] one.some.events 1 (whole []) b.way one.is refl (All-nil (IfSettle good))
-        (subst F (sym (nothing_behind (has_text (body style b.way.events)))) (inl (record { rest = []; calls = refl; torn = refl; status_is = refl }))) (sees_nothing asked_of taken calls lib_new out)
+        (subst F (sym (nothing_behind style (has_text (body style b.way.events)))) (inl (record { rest = []; calls = refl; torn = refl; status_is = refl }))) (sees_nothing asked_of taken calls lib_new out)
 
     -- memory runs out before anything is asked
     pub ends_first : (left : List Said) (end : ScriptEnd) (s : T) → p ≡ record { left = left; end = end; state = s } → RunsTo lib_first out_first 1
@@ -414,6 +424,9 @@ not_five code a b = let f : 5 ≡ 4 = sym a ∙ b in cc f
 
 pub not_cut : (code : ℕ) → code ≡ 4 → CutsShort code → ⊥
 not_cut code is cut = elim cut [ inl a ↦ not_one code a is | inr a ↦ not_five code a is ]
+
+not_usage : (code : ℕ) → code ≡ 2 → CutsShort code → ⊥
+not_usage code is cut = elim cut [ inl a ↦ (let e : code ≡ 1 = a in omega (arith, e, is)) | inr a ↦ (let e : code ≡ 5 = a in omega (arith, e, is)) ]
 
 cut_code : (calls : List Call) (code : ℕ) (m : Made) → IsFrontOf calls code m → CutsShort code
 cut_code calls code m front = elim front [ inl a ↦ inl a.status_is | inr a ↦ inr a.status_is ]
@@ -679,6 +692,46 @@ module _ {L S : Type 0} (faults : L → ℕ) (asked_of : L → Option (List (Lis
   -- done to its end with nothing more
   pub untold_first : (lib : L) (out : S) → IsUntold faults asked_of sink_faults taken calls lib lib out out 1
   untold_first lib out = untold_short lib lib lib out out (shown_nothing lib out) (grows_none (asked_of lib))
+
+  -- done to its end with these last texts, or cut short
+  pub untold_last : (lib : L) (old new : S) (last : List Call) (code : ℕ) → Printed taken calls old new (record { calls = last; end = None }) code → (code ≡ 5 → Rose (sink_faults old) (sink_faults new))
+      → IsUntold faults asked_of sink_faults taken calls lib lib old new code
+  untold_last lib old new last code p write = elim p.done [
+    | inl all ↦ record {
+      answers = inl all.status_is;
+      grows = grows_none (asked_of lib);
+      usage = λ e. let is : code ≡ 0 = all.status_is in omega (arith, is, e);
+      read = λ e. let is : code ≡ 0 = all.status_is in absurd (omega (arith, is, e));
+      last = λ e. let is : code ≡ 0 = all.status_is in absurd (omega (arith, is, e));
+      write = write;
+    }
+    | inr front ↦ record {
+      answers = inr (inl (cut_code last code p.made front));
+      grows = grows_none (asked_of lib);
+      usage = λ e. not_usage code e (cut_code last code p.made front);
+      read = λ e. absurd (not_cut code e (cut_code last code p.made front));
+      last = λ e. absurd (not_cut code e (cut_code last code p.made front));
+      write = write;
+    }
+  ]
+
+  -- and behind the last command of a command line that does nothing there
+  pub finishes_last : (style : Style) (good : Settle → Type 0) (lib : L) (old new : S) (begun : Bool) (code : ℕ) → Printed taken calls old new (record { calls = last_calls style begun [] None; end = None }) code
+      → Finishes style good (λ h. h ≡ finishes []) faults asked_of taken calls lib lib old new begun code
+  finishes_last style good lib old new begun code p = record {
+    history = finishes [];
+    right = refl;
+    fails = None;
+    cause = inl refl;
+    made = p.made;
+    done = p.done;
+    all_good = All-nil (IfSettle good);
+    sees = record {
+      names = becomes_same (asked_of lib) _ (λ ns. sym (ap (λ l. ns ++ l) p.wrote.names ∙ append-nil ns));
+      bytes = p.wrote.bytes_are;
+      writes = p.wrote.writes_are;
+    };
+  }
 
   pub untold_done : (lib : L) (out : S) → IsUntold faults asked_of sink_faults taken calls lib lib out out 0
   untold_done lib out = record {

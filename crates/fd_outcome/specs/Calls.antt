@@ -1,11 +1,14 @@
 -- What a command line does to the outside, in order.
-use Rattle.std.specs.Prelude.{ℕ, List, [], ◌∷◌, ◌++◌, map, Option, Some, None}
+use Rattle.std.specs.Prelude.{ℕ, pos, List, [], ◌∷◌, ◌++◌, map, Option, Some, None}
 use Rattle.std.specs.List.{flat_map}
 use Rattle.dss_values.specs.Names.{bytes}
 use Rattle.fd_report.specs.Faults.{fields}
 use Rattle.fd_report.specs.Lines.{line_of}
 use Rattle.fd_report.specs.declared.faults.Fault.{Fault}
 use Rattle.fd_outcome.specs.Events.{Event, History, name_in}
+use Rattle.fd_certfile.specs.Lines.{header, line_bytes}
+use Rattle.fd_certfile.specs.Lines as text
+use Rattle.fd_outcome.specs.Certificates.{certificate_texts}
 use Rattle.fd_outcome.specs.Pages.{report_texts}
 
 -- a file of this name is asked of the library, or a text is handed to the sink by one write
@@ -25,6 +28,15 @@ pub record Style : Type 0 where
 
 abbrev pub report : Style
 report = record { asked_in = name_in; texts_in = report_texts; opening = []; closing = [] }
+
+-- the version stands before the first block, or before the end where there is none
+abbrev pub certificate : Style
+certificate = record {
+  asked_in = name_in;
+  texts_in = certificate_texts;
+  opening = line_bytes (header (pos 1)) ∷ [];
+  closing = line_bytes text.end ∷ [];
+}
 
 -- ---- calls
 

@@ -4,6 +4,7 @@ pub mod Events
 pub mod Work
 pub mod History
 pub mod Pages
+pub mod Certificates
 pub mod Calls
 pub mod Done
 pub mod Runs

@@ -17,7 +17,7 @@ use Rattle.fd_report.specs.declared.controls.Position.TheVariants as position
 use Rattle.fd_report.specs.Lines.{line_of, lines_of}
 use Rattle.fd_report.specs.Records.{report_of}
 use Rattle.fd_report.specs.Solutions.{SolutionView, solution_of}
-use Rattle.fd_outcome.specs.Settles.{Round, Settle, SettleEnd, settled, failed}
+use Rattle.fd_outcome.specs.Settles.{Round, Settle, SettleEnd, settled, failed, without_certificate}
 use Rattle.fd_outcome.specs.Events.{Event, asked, settle, row, line}
 
 -- ---- controls
@@ -89,6 +89,7 @@ rounds_rows s k (r ∷ rounds) = round_rows s k r ++ rounds_rows s (k + 1) round
 abbrev pub end_rows : Settle → SettleEnd → List (List (List ℕ))
 end_rows s settled = tap_rows s.circuit.elements s.left ++ bank_rows s.circuit.elements s.left
 end_rows s (failed f) = []
+end_rows s (without_certificate r f) = []
 
 abbrev pub report_rows : Settle → List (List (List ℕ))
 report_rows s = rounds_rows s 0 s.rounds ++ end_rows s s.end

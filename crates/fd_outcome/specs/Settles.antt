@@ -1,6 +1,7 @@
 -- A settle as data: where it started, its rounds, how it ended, and what it leaves.
 use Rattle.std.specs.Prelude.{ℕ, ℤ, List, Option}
 use Rattle.dss_circuit.specs.Circuit.{CircuitView}
+use Rattle.fd_enclosure.specs.Sound.{Claim}
 use Rattle.fd_queue.specs.Controls.{Positions}
 use Rattle.fd_queue.specs.Machine.{Act}
 use Rattle.fd_report.specs.declared.faults.Fault.{Fault}
@@ -17,9 +18,19 @@ pub record Round : Type 0 where
   pub inverse : List (List ℤ)
   pub acts : List Act
 
+-- a certified state, and the acts behind it
+abbrev pub round_of : Claim → List Act → Round
+round_of m acts = record { centre = m.centre; radii = m.radii; boxes = m.boxes; mismatches = m.mismatches; inverse = m.inverse; acts = acts }
+
+-- the certificate of a round
+abbrev pub claim_in : Round → Claim
+claim_in r = record { centre = r.centre; radii = r.radii; mismatches = r.mismatches; boxes = r.boxes; inverse = r.inverse }
+
 pub data SettleEnd : Type 0 where
   settled : SettleEnd
   failed : Fault → SettleEnd
+  -- the last state has no certificate: what would have been claimed of it, with radii 0, and the fault
+  without_certificate : Round → Fault → SettleEnd
 
 -- of a circuit, by the number of its Solve in the run, from 1; the hour is 0 in a snapshot. It starts with the
 -- positions of taps and banks and the last opening time of each bank, none where it wasn't opened in this Solve, and

@@ -60,7 +60,6 @@ model_text model.NoMemory = codes "no memory"
 abbrev pub cause_text : Cause → List ℕ
 cause_text (cause.Script c) = script_text c
 cause_text (cause.Model c) = model_text c
-cause_text cause.NotBuilt = codes "not built"
 
 -- a bound in whole 2^-40, or past every number
 abbrev pub bound_text : Option ℕ → List ℕ

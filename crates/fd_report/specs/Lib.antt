@@ -5,4 +5,5 @@ pub mod Sizes
 pub mod Records
 pub mod Faults
 pub mod Texts
+pub mod Bases
 pub mod Controls

@@ -26,8 +26,6 @@ pub enum Cause {
     Script(ScriptCause),
     /// The circuit refuses a command, or a test of Solve finds it.
     Model(ModelFault),
-    /// It is part of the profile and isn't solved yet.
-    NotBuilt,
 }
 
 /// The units of what a control measures.
@@ -163,7 +161,6 @@ fn cause_text(cause: Cause) -> &'static [u8]
     match cause {
         Cause::Script(cause) => script_text(cause),
         Cause::Model(cause) => model_text(cause),
-        Cause::NotBuilt => b"not built",
     }
 }
 

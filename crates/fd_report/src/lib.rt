@@ -12,9 +12,11 @@
 //! - `texts`: the numbers of an unknown as texts
 //! - `report`: the records of a solution
 //! - `controls`: the records of acts, of taps and of banks
+//! - `bases`: the records of voltage bases
 //! - `faults`: the records of faults
 #![tactic(auto)]
 
+mod bases;
 mod controls;
 mod faults;
 mod line;
@@ -24,6 +26,7 @@ mod sizes;
 mod solution;
 mod texts;
 
+pub use bases::base_record;
 pub use controls::{Position, act_record, bank_record, tap_record};
 pub use faults::{Cause, Fault, Scale, name_at, record, status};
 pub use report::records;

@@ -4,7 +4,8 @@ use Rattle.fd_equations.specs.Views.{NetworkView}
 use Rattle.fd_inject.specs.Faults.{IsInside, UnlessMemory}
 use Rattle.fd_inject.specs.Procedure.{solution_of}
 use Rattle.fd_inject.specs.declared.limits.Limits.{Limits}
-use Rattle.fd_enclosure.specs.Sound.{Claim, certificate_of}
+use Rattle.fd_equations.specs.Conditions.{IsPoint}
+use Rattle.fd_enclosure.specs.Sound.{Claim, IsInverse, certificate_of}
 use Rattle.fd_cert.specs.Claims.{Refuses}
 use Rattle.fd_cert.specs.Claims as claims
 use Rattle.fd_cert.specs.declared.fault.CertFault.{CertFault}
@@ -21,6 +22,8 @@ pub record IsUncertified (limits : Limits) (v : NetworkView) (f : CertFault) : T
   pub centre : List ℤ
   pub inverse : List (List ℤ)
   pub point : solution_of v limits ≡ Ok (centre, inverse)
+  pub parts : IsPoint v centre
+  pub entries : IsInverse v.size inverse
   pub reason : Refuses v centre inverse f
 
 -- a fault names a place of the network

@@ -1,4 +1,4 @@
-use Rattle.std.proofs.Common.{◌*◌, ◌+◌, ◌<◌, ◌^◌, nat_abs, length, arith}
+use Rattle.std.proofs.Common.{◌*◌, nat_abs, length, arith}
 use Rattle.fd_exact.specs.States.{part}
 use Rattle.fd_enclosure.specs.Sound.{number_at}
 use Rattle.fd_cert.proofs.RowTotals.{past_front}

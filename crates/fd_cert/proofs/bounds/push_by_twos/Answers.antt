@@ -1,4 +1,4 @@
-use Rattle.std.proofs.Common.{◌≡◌, ◌∙◌, ◌+◌, ◌*◌, ℕ, ◌++◌, ◌∷◌, [], length, arith, ap, sym, rules}
+use Rattle.std.proofs.Common.{◌≡◌, ◌∙◌, ◌+◌, ◌*◌, ◌++◌, ◌∷◌, [], length, arith, ap, sym, rules}
 use Rattle.fd_exact.specs.States.{entry, part}
 use Rattle.fd_equations.proofs.CallerLemmas.{list_of-more, rewritten}
 use Rattle.fd_equations.specs.Rounded.{list_of}

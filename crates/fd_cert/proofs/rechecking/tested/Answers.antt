@@ -1,4 +1,4 @@
-use Rattle.std.proofs.Common.{◌≡◌, ◌∙◌, Option, not, sym, subst, ap}
+use Rattle.std.proofs.Common.{◌≡◌, ◌∙◌, Option, sym, subst}
 use Rattle.std.proofs.lemmas.Result.{IfOk-weaker}
 use Rattle.fd_enclosure.specs.Boxes.{boxes_of}
 use Rattle.fd_cert.specs.Rechecks.{Tells}

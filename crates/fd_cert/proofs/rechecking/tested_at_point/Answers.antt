@@ -1,4 +1,4 @@
-use Rattle.std.proofs.Common.{◌∙◌, ◌≤◌, ◌^◌, length, refl, sym, subst, ap}
+use Rattle.std.proofs.Common.{◌∙◌, ◌≤◌, ◌^◌, refl, sym, subst}
 use Rattle.fd_exact.specs.States.{entry}
 use Rattle.fd_equations.specs.Rounded.{jacobian_entry}
 use Rattle.fd_equations.specs.Weights.{weight_at}
@@ -56,8 +56,7 @@ returns c =
     let v = c.args.net.now in
     let x = c.args.centre.now in
     let e = c.args.mismatch.now in
-    let at = subst (IsWidths v.size (entry c.args.inverse.now) (jacobian_entry v x) (slope_radius v x) (weight_at v x) (number_at e)) c.in-Within.is (c.in_ok-judged.ensures.widths (number_at e) (λ i l. refl)) in
-    (
+    let at = subst (IsWidths v.size (entry c.args.inverse.now) (jacobian_entry v x) (slope_radius v x) (weight_at v x) (number_at e)) c.in-Within.is (c.in_ok-judged.ensures.widths (number_at e) (λ i l. refl)) in (
       none_first v x c.args.radius.now e c.args.inverse.now c.deref.result.now (c.deref.ensures.value ∙ c.in_ok-own.ensures.mismatches) c.in_default.ensures at.refusal c.deref-in-Within.result.now (c.deref-in-Within.ensures.value ∙ at.radii) c.in-None.ensures,
       c.in_ok-judged.ensures.boxes,
     )

@@ -1,9 +1,9 @@
-use Rattle.std.proofs.Common.{ℕ, ◌+◌, ◌*◌, [], ◌∷◌, ◌++◌, length, ap, sym, subst, ◌∙◌, arith}
+use Rattle.std.proofs.Common.{ℕ, ◌+◌, ◌*◌, [], ◌∷◌, ◌++◌, length, ap, sym, ◌∙◌, arith}
 use Rattle.std.specs.Prelude.{map}
 use Rattle.std.proofs.lemmas.List.{map_push}
 use Rattle.fd_certfile.specs.Blocks.{acts_at}
 use Rattle.fd_certfile.specs.Lines.{lines_of}
-use Rattle.fd_certfile.specs.Reader.{IsAheadOf, ReaderView, behind, given_block}
+use Rattle.fd_certfile.specs.Reader.{ReaderView, behind, given_block}
 use Rattle.fd_certfile.specs.declared.reader.Given.{Given}
 use Rattle.fd_certfile.proofs.NextBlock.{after_is, passed_lines, passed_one, passed_some}
 use Rattle.fd_certfile.proofs.reader.CertReader.pass.Goals as goal

@@ -1,12 +1,9 @@
-use Rattle.std.proofs.Common.{◌≡◌, ◌∙◌, ℕ, ◌+◌, List, None, Ok, Err, map, refl, ap, sym, subst}
+use Rattle.std.proofs.Common.{◌≡◌, ◌∙◌, ℕ, ◌+◌, None, Ok, Err, map, refl, ap, sym, subst}
 use Rattle.fd_mat.specs.Rows.{square}
 use Rattle.fd_cert.specs.Rechecks.{IsBoxed, boxed_claim, first_unsound}
-use Rattle.fd_enclosure.specs.Sound.{Claim}
 use Rattle.fd_certfile.specs.Claiming.{centre_in, claim_read, mismatch_in, radius_in}
 use Rattle.fd_certfile.specs.Reader.{ReaderView, next_of}
-use Rattle.fd_certfile.specs.Solving.{GivesSolved, solved_of}
 use Rattle.fd_certfile.specs.Views.{part}
-use Rattle.fd_certfile.specs.declared.block.Part.{Part as Read}
 use Rattle.fd_certfile.proofs.NextBlock.{ahead_long, ahead_square}
 use Rattle.fd_certfile.proofs.Solving.{gives_refused, read_is, solved_broken, solved_claim, solved_ok}
 use Rattle.fd_certfile.proofs.reader.CertReaderSolver.solve.Goals as goal

@@ -1,0 +1,96 @@
+-- What an hour of a Solve comes to for the loop over its hours: its settle, and what of it was printed.
+use Rattle.std.specs.Prelude.{◌≡◌, ◌⊎◌, ◌||◌, ℕ, All, Bool, IsSome, List, [], ◌∷◌, ◌++◌, Option, Some, None}
+use Rattle.dss_circuit.specs.Circuit.{CircuitView}
+use Rattle.fd_daily.specs.Day.{IsDayOf, hour_in, hours_left}
+use Rattle.fd_devices.specs.Building.{IsModest}
+use Rattle.fd_devices.specs.Hours.{hour_powers}
+use Rattle.fd_devices.specs.declared.settings.Positions.{Positions as CodePositions}
+use Rattle.fd_devices.specs.declared.fault.BuildFault.{BuildFault}
+use Rattle.fd_network.specs.Built.{IsBuiltOf}
+use Rattle.fd_network.specs.Faults.{IsFaultOf}
+use Rattle.fd_queue.specs.Controls.{Positions}
+use Rattle.fd_sample.specs.Probes.{positions_in}
+use Rattle.fd_settle.specs.Start.{ArePositions, IsNetworkAt}
+use Rattle.fd_report.specs.declared.faults.Fault.{Fault}
+use Rattle.fd_outcome.specs.Behind.{behind, has_text}
+use Rattle.fd_outcome.specs.Calls.{Call, Style, body, fault_text, writes}
+use Rattle.fd_outcome.specs.Events.{settle}
+use Rattle.fd_outcome.specs.Parts.{IsCutIn, Printed, Wrote}
+use Rattle.fd_outcome.specs.Settles.{Settle, SettleEnd, settled, failed, without_certificate}
+use Rattle.fd_outcome.specs.Way.{whole}
+use Rattle.fd_app.specs.Headline.{IsSolved}
+use Rattle.fd_app.specs.Solving.{IsHour, plant_at}
+use Rattle.fd_app.specs.Steps.{Kept}
+use Rattle.fd_app.specs.declared.hours.Underway.{Underway}
+
+-- the hours of a Solve are under way: the network is the circuit's at these positions with the powers of the next hour
+pub record IsUnderway (c : CircuitView) (at : CodePositions) (r : Underway) : Type 0 where
+  pub positions : ArePositions c r.powers.loads (positions_in at)
+  pub powers : r.powers.loads ≡ hour_powers c.elements (hour_in r.day)
+  pub modest : All IsModest r.powers.loads
+  pub day : IsDayOf c r.day
+  pub hour : IsSome r.day.hour
+  pub network : IsNetworkAt c r.powers.loads (positions_in at) r.net
+
+-- what is left of them behind an hour
+pub record IsLeftBehind (c : CircuitView) (at : CodePositions) (before after : Underway) : Type 0 where
+  pub positions : ArePositions c after.powers.loads (positions_in at)
+  pub day : IsDayOf c after.day
+  pub built : IsBuiltOf after.net c
+  pub left : hours_left before.day ≡ hour_in before.day ∷ hours_left after.day
+
+-- the network of an hour at these positions is refused so
+abbrev pub IsRefusedAt : CircuitView → ℕ → Positions → BuildFault → Type 0
+IsRefusedAt c hour at f = IsFaultOf ((plant_at c hour).blame at) f
+
+-- the calls of a settle, where a text was written before or not
+abbrev pub settle_calls : Style → Bool → Settle → List Call
+settle_calls style begun x = behind style begun (settle x ∷ [])
+
+-- whether a text was written, behind a settle
+abbrev pub begun_behind : Style → Bool → Settle → Bool
+begun_behind style begun x = begun || has_text (body style (settle x ∷ []))
+
+-- the fault in which a settle ended
+abbrev pub fault_of : SettleEnd → Option Fault
+fault_of settled = None
+fault_of (failed f) = Some f
+fault_of (without_certificate r f) = Some f
+
+module _ {S : Type 0} (style : Style) (taken : S → Option (List ℕ)) (calls : S → Option ℕ) (old new : S) (begun : Bool) (c : CircuitView) (hour : ℕ) (l : Kept) where
+  -- the hour was solved and ended well, and all of it is printed
+  pub record IsPrintedHour (k : Kept) (now : Bool) : Type 0 where
+    pub made : Settle
+    pub is : IsHour c hour l made k
+    pub good : IsSolved made
+    pub well : made.end ≡ settled
+    pub wrote : Wrote taken calls old new (whole (settle_calls style begun made))
+    pub begun_is : now ≡ begun_behind style begun made
+
+  -- the hour was solved and ended well, and a front of it is printed
+  pub record IsCutHour (code : ℕ) : Type 0 where
+    pub made : Settle
+    pub kept : Kept
+    pub is : IsHour c hour l made kept
+    pub good : IsSolved made
+    pub well : made.end ≡ settled
+    pub cut : IsCutIn taken calls old new (settle_calls style begun made) code
+
+  -- the hour ended with a fault, which is printed behind it
+  pub record IsFailedHour (code : ℕ) : Type 0 where
+    pub made : Settle
+    pub kept : Kept
+    pub is : IsHour c hour l made kept
+    pub good : IsSolved made
+    pub fault : Fault
+    pub ill : fault_of made.end ≡ Some fault
+    pub printed : Printed taken calls old new (record { calls = settle_calls style begun made ++ writes (fault_text fault) ∷ []; end = Some fault }) code
+
+  -- memory ran out before it was solved, and nothing is printed
+  pub record IsShortHour (code : ℕ) : Type 0 where
+    pub wrote : Wrote taken calls old new (whole [])
+    pub code_is : code ≡ 1
+
+  -- the run ends in the hour
+  abbrev pub EndsInHour : ℕ → Type 0
+  EndsInHour code = IsShortHour code ⊎ (IsCutHour code ⊎ IsFailedHour code)
