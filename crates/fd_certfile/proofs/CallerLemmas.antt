@@ -1,0 +1,2 @@
+-- Lemmas that callers cite.
+pub use Rattle.fd_certfile.proofs.SolvingLaws.{given_law, solving_law}

@@ -1,0 +1,6 @@
+mod Blocks
+mod Walks
+mod Told
+mod Judged
+mod Way
+mod Accepted

@@ -1,0 +1,117 @@
+-- What a script's Solves ask of a certificate, block by block.
+use Rattle.std.specs.Prelude.{ℕ, ◌+◌, pos, List, [], ◌∷◌, map, nat_abs, replicate, Option, Some, None}
+use Rattle.fd_exact.specs.Sums.{list_n}
+use Rattle.dss_profile.specs.declared.command.Blame.{Blame}
+use Rattle.dss_circuit.specs.Circuit.{CircuitView}
+use Rattle.fd_devices.specs.Hours.{hour_powers}
+use Rattle.fd_devices.specs.Positions.{next_closed, next_taps}
+use Rattle.fd_devices.specs.Settings.{bank_count}
+use Rattle.fd_queue.specs.Controls.{Positions}
+use Rattle.fd_queue.specs.Machine.{Act, Machine}
+use Rattle.fd_sample.specs.Decided.{sample_over}
+use Rattle.fd_settle.specs.Plant.{Plant, controls_in, plant_of, setup_of, started}
+use Rattle.fd_settle.specs.Sampling.{Sampling, sampling_of}
+use Rattle.fd_settle.specs.Settle.{Open, Settled, Limited, Undecidable, Outcome, Ends, Moves, outcome_of}
+use Rattle.fd_daily.specs.Hours.{hours_of, time_of}
+use Rattle.fd_certfile.specs.Blocks.{Block}
+use Rattle.fd_certfile.specs.Blocks as blocks
+use Rattle.fd_certfile.specs.Judging.{judge_of}
+use Rattle.fd_certfile.specs.Rules.{Ball, Sampled, at_limit, ball_of, moves, undecided}
+use Rattle.fd_certfile.specs.Verdict.{Due, asks, complete, stops}
+
+-- ---- with what a Solve starts
+
+-- the positions, where the Solve before left these
+abbrev pub start_from : CircuitView → Positions → Positions
+start_from c at = record { taps = next_taps c.solves c.elements at.taps; closed = next_closed c.solves c.elements at.closed }
+
+-- no bank was opened yet
+abbrev pub no_openings : CircuitView → List (Option ℕ)
+no_openings c = replicate (list_n (λ e. bank_count e.1) c.elements) None
+
+-- ---- what comes of a block's ball
+
+-- the circuit with the powers of an hour, as the queue machine sees it
+abbrev pub plant_at : CircuitView → ℕ → Plant
+plant_at c hour = plant_of c (hour_powers c.elements hour)
+
+-- the samples of the controls over a ball, at these positions
+abbrev pub sampling_in : CircuitView → Positions → Ball → Sampling
+sampling_in c at ball = sampling_of 0 (map (λ p. sample_over p at ball.centre (map nat_abs ball.radii)) (controls_in c))
+
+-- what a round with this ball comes to
+abbrev pub outcome_in : CircuitView → Machine → Ball → Outcome
+outcome_in c m ball = outcome_of (setup_of c) m (sampling_in c m.at ball)
+
+-- an act, as a block claims it
+abbrev pub act_due : Act → blocks.Act
+act_due a = record { time = pos a.time; control = pos a.control; steps = a.steps }
+
+-- (no round leaves a settle open)
+abbrev pub sampled_by : Outcome → Sampled
+sampled_by (Moves acts m) = moves (map act_due acts)
+sampled_by (Ends Settled m) = moves []
+sampled_by (Ends Limited m) = at_limit
+sampled_by (Ends (Undecidable k u) m) = undecided
+sampled_by (Ends Open m) = undecided
+
+-- ---- where the check of a script's Solves stands
+
+-- before a round of a settle
+pub record Settling : Type 0 where
+  pub circuit : CircuitView
+  pub hour : ℕ
+  -- the hours that are left of the Solve behind this one, and the circuits of the Solves behind it
+  pub hours : List ℕ
+  pub more : List CircuitView
+  -- the settle's number in the run, and the round's in the settle
+  pub number : ℕ
+  pub round : ℕ
+  -- what the acts so far left
+  pub machine : Machine
+
+pub data Checking : Type 0 where
+  -- no Solve is left
+  done : Checking
+  under_way : Settling → Checking
+
+-- The first round of the next hour of a Solve, which starts at these positions, with these opening times and behind so
+-- many settles; where no hour is left, what comes behind the Solve.
+abbrev pub open_hours : CircuitView → List CircuitView → List ℕ → Positions → List (Option ℕ) → ℕ → (Positions → ℕ → Checking) → Checking
+open_hours c more [] at opened n behind = behind at n
+open_hours c more (hour ∷ hours) at opened n behind = under_way (record {
+  circuit = c;
+  hour = hour;
+  hours = hours;
+  more = more;
+  number = n + 1;
+  round = 0;
+  machine = started c at (time_of hour) opened;
+})
+
+-- the first round of the next Solve, where the Solves so far left these positions and had so many settles
+abbrev pub open_solves : List CircuitView → Positions → ℕ → Checking
+open_solves [] at n = done
+open_solves (c ∷ more) at n = open_hours c more (hours_of c.options) (start_from c at) (no_openings c) n (λ left count. open_solves more left count)
+
+-- ---- what is due
+
+-- where the network is in range a block, judged there; else the fault of the script
+abbrev pub due_in : Settling → Option Blame → Due Blame
+due_in s None = asks (judge_of ((plant_at s.circuit s.hour).network s.machine.at) s.number s.hour s.round (λ ball. sampled_by (outcome_in s.circuit s.machine ball)))
+due_in s (Some blame) = stops blame
+
+abbrev pub due : Checking → Due Blame
+due done = complete
+due (under_way s) = due_in s ((plant_at s.circuit s.hour).blame s.machine.at)
+
+-- ---- what a block leads to
+
+-- behind acts the next round, and else the next hour, with the positions and the opening times that the acts left
+abbrev pub behind_round : Settling → Outcome → Checking
+behind_round s (Moves acts m) = under_way (record s { round = s.round + 1; machine = m })
+behind_round s (Ends end m) = open_hours s.circuit s.more s.hours m.at m.opened s.number (λ left count. open_solves s.more left count)
+
+abbrev pub after : Checking → Block → Checking
+after done b = done
+after (under_way s) b = behind_round s (outcome_in s.circuit s.machine (ball_of b))

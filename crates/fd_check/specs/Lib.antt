@@ -1,0 +1,7 @@
+pub mod Checking
+pub mod Comes
+pub mod Comparing
+pub mod Faults
+pub mod Given
+pub mod Underway
+pub mod Laws
