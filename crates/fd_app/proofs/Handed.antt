@@ -1,11 +1,14 @@
 -- What a command's answer comes to for the loop.
-use Rattle.std.proofs.Common.{◌≡◌, ◌∙◌, ℕ, Bool, true, false, List, [], ◌∷◌, ◌++◌, map, Option, Some, None, refl, sym, ap, subst, inl, inr, arith}
+use Rattle.std.proofs.Common.{◌≡◌, ◌∙◌, ℕ, Bool, true, false, List, [], ◌∷◌, ◌++◌, map, Option, Some, None, Ok, Err, refl, sym, ap, subst, inl, inr, arith}
 use Rattle.std.specs.Prelude.{◌||◌, ◌⊎◌}
 use Rattle.std.specs.List.{AllByRecursion, flat_map}
 use Rattle.std.proofs.lemmas.List.{append-nil, map-append}
 use Rattle.std.proofs.lemmas.List.Elements.{All-cons, All-nil}
 use Rattle.fd_outside.specs.Emitted.{Takes}
 use Rattle.fd_report.specs.Faults.{status}
+use Rattle.dss_circuit.specs.Circuit.{CircuitView}
+use Rattle.fd_queue.specs.Controls.{Positions}
+use Rattle.fd_report.specs.declared.faults.Cause.TheVariants as cause
 use Rattle.fd_report.specs.declared.faults.Fault.{Fault}
 use Rattle.fd_report.specs.declared.faults.Fault.TheVariants as fault
 use Rattle.fd_bases.specs.declared.bus_base.BusBase.{BusBase}
@@ -19,9 +22,12 @@ use Rattle.fd_outcome.specs.Behind.{behind, has_text, opened_unless}
 use Rattle.fd_outcome.specs.Parts.{EndsAt, GoesOn, IsCutIn, Printed, Wrote, events_in, fault_doing}
 use Rattle.fd_outcome.specs.Untold.{CutsShort}
 use Rattle.fd_outcome.proofs.CallerLemmas.{cut_before, nothing_behind, or_false, wrote_all, wrote_nothing}
-use Rattle.fd_app.specs.Answered.{IsOfCommand}
+use Rattle.fd_app.specs.Answered.{IsAnswerOf, IsAnswered, IsOfCommand}
+use Rattle.fd_app.specs.Commands.{Applied, IsStepOf, base_events, bases_left, nothing_left, refused_at, solve_left}
+use Rattle.fd_app.specs.declared.answer.Answer.{Answer}
+use Rattle.fd_app.specs.declared.answer.Answer.TheVariants as answer
 use Rattle.fd_app.specs.Headline.{IsSolved}
-use Rattle.fd_app.specs.Steps.{StandingView, changes}
+use Rattle.fd_app.specs.Steps.{StandingView, changes, standing}
 
 -- ---- statuses of a command's faults
 
@@ -42,6 +48,7 @@ command_status (fault.Loose u d) h = (λ e. omega (arith, e), λ e. omega (arith
 command_status (fault.NotCertified u k) h = (λ e. omega (arith, e), λ e. omega (arith, e))
 command_status (fault.Undecided c l u k x) h = (λ e. omega (arith, e), λ e. omega (arith, e))
 command_status (fault.ControlLimit n) h = (λ e. omega (arith, e), λ e. omega (arith, e))
+command_status (fault.Certificate line broken) h = (λ e. omega (arith, e), λ e. omega (arith, e))
 
 cut_code : (calls : List Call) (code : ℕ) (m : Made) → IsFrontOf calls code m → CutsShort code
 cut_code calls code m front = elim front [ inl a ↦ inl a.status_is | inr a ↦ inr a.status_is ]
@@ -62,6 +69,21 @@ module _ {S : Type 0} (taken : S → Option (List ℕ)) (calls : S → Option �
 
   pub cut_never : (n : ℕ) (old new : S) (all : List Call) (code : ℕ) → (1 ≡ n → ⊥) → (5 ≡ n → ⊥) → IsCutIn taken calls old new all code → code ≡ n → ⊥
   cut_never n old new all code a b cut e = elim cut.front [ inl x ↦ a (sym x.status_is ∙ e) | inr x ↦ b (sym x.status_is ∙ e) ]
+
+-- ---- the answer to a command, for `solve`
+
+of_command : (f g : Fault) → f ≡ g → IsOfCommand g → IsOfCommand f
+of_command f g e h = subst IsOfCommand (sym e) h
+
+pub answer_of : (left : Applied) (c : CircuitView) (a : Answer) → IsAnswered left c a → (at : Positions) (n : ℕ) → IsAnswerOf at n left c a
+answer_of left c answer.Done h at n = subst (λ (l : Applied). IsStepOf at n l (changes (standing c at n))) (sym h) refl
+answer_of left c answer.Bases h at n = subst (λ (l : Applied). IsStepOf at n l (goes (base_events c) (standing c at n))) (sym h) refl
+answer_of left c answer.Solves h at n = (h.1, λ step is. subst (λ (l : Applied). IsStepOf at n l step) (sym h.0) (record { answer = Ok tt; right = h.1; step_is = is }))
+answer_of (nothing_left x) c (answer.Refuses f) h at n = absurd h
+answer_of (bases_left x) c (answer.Refuses f) h at n = absurd h
+answer_of (refused_at place x) c (answer.Refuses f) h at n = (ap (λ (g : Fault). ends [] g) h, of_command f (fault.Script place x) h tt)
+answer_of (solve_left x) c (answer.Refuses f) h at n =
+    (record { answer = Err h.blame; right = h.right; step_is = ap (λ (g : Fault). ends [] g) h.fault_is }, of_command f (fault.Script h.blame.place (cause.Model h.blame.cause)) h.fault_is tt)
 
 -- ---- the calls of events that ask for nothing
 
@@ -128,8 +150,8 @@ module _ {S : Type 0} (taken : S → Option (List ℕ)) (calls : S → Option �
 
 -- ---- what a command does
 
-module _ {S : Type 0} (style : Style) (is_step : Step StandingView → Type 0) (taken : S → Option (List ℕ)) (calls : S → Option ℕ) where
-  pub goes_changed : (now : StandingView) (out : S) (begun : Bool) → is_step (changes now) → GoesOn style IsSolved is_step now taken calls out out begun begun
+module _ {T S : Type 0} (style : Style) (is_step : Step T → Type 0) (taken : S → Option (List ℕ)) (calls : S → Option ℕ) where
+  pub goes_changed : (now : T) (out : S) (begun : Bool) → is_step (goes [] now) → GoesOn style IsSolved is_step now taken calls out out begun begun
   goes_changed now out begun is = record {
     events = [];
     right = is;

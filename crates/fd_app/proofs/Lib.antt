@@ -14,3 +14,6 @@ mod Runs
 mod Days
 mod Tried
 mod Blocks
+mod Gathering
+mod Judging
+mod Checked

@@ -13,13 +13,16 @@ use Rattle.fd_outcome.specs.Events.{History, ended, finishes}
 use Rattle.fd_outcome.specs.History.{IsHistory}
 use Rattle.fd_outcome.specs.Laws.{IsDue}
 use Rattle.fd_outcome.specs.Runs.{Runs}
-use Rattle.fd_outcome.specs.Work.{ExactlyOne}
+use Rattle.fd_outcome.specs.Work.{ExactlyOne, Step}
 use Rattle.fd_outcome.proofs.CallerLemmas.{ends_first, exactly_one_history, exactly_this, run_due}
+use Rattle.fd_outcome.specs.Settles.{Settle}
+use Rattle.dss_profile.specs.declared.command.Command.{Command}
+use Rattle.fd_app.specs.Checks.{IsCheckStep, IsJudged, certificate_name, first_gathered}
 use Rattle.fd_app.specs.Commands.{IsStep}
 use Rattle.fd_app.specs.Headline.{IsSolved}
-use Rattle.fd_app.specs.Run.{FormsLaw, IsDoneThere, IsFormHistory, IsScriptHistory, first_standing, no_name, style_of}
-use Rattle.fd_app.specs.Steps.{StandingView}
-use Rattle.fd_app.specs.Words.{Form, Solve, Cert}
+use Rattle.fd_app.specs.Run.{FormsLaw, IsCheckHistory, IsDoneThere, IsFormHistory, IsScriptHistory, first_standing, no_name, style_of}
+use Rattle.fd_app.specs.Words.{Form, Solve, Cert, Check}
+use Rattle.fd_app.proofs.Gathering.{one_check_step, one_judged}
 use Rattle.fd_app.proofs.Tests.{one_step}
 
 -- a report asks for the names of its events
@@ -36,10 +39,17 @@ script_form files file =
     exactly_one_history IsStep no_name IsDoneThere one_step (λ s found. exactly_this (finishes []))
     (λ n. held files (bytes n)) p.said (ended_by p.left) first_standing
 
+check_form : (files : Files) (script certificate : List ℕ) → ExactlyOne (λ h. IsCheckHistory files (said_of files (chars script)) (chars certificate) h)
+check_form files script certificate =
+    let p = said_of files (chars script) in
+    exactly_one_history IsCheckStep certificate_name IsJudged one_check_step one_judged
+    (λ n. held files (bytes n)) p.said (ended_by p.left) (first_gathered (chars certificate))
+
 pub forms : FormsLaw
 forms files None = exactly_this (ended [] fault.Usage)
 forms files (Some (Solve file)) = script_form files file
 forms files (Some (Cert file)) = script_form files file
+forms files (Some (Check script certificate)) = check_form files script certificate
 
 module _ {L S : Type 0} (faults : L → ℕ) (asked_of : L → Option (List (List ℕ))) (taken : S → Option (List ℕ)) (calls : S → Option ℕ) (lib_old lib_new : L) (old new : S) where
   pub due : (files : Files) (form : Option Form) (h : History) (code : ℕ) → IsFormHistory files form h
@@ -50,20 +60,26 @@ module _ {L S : Type 0} (faults : L → ℕ) (asked_of : L → Option (List (Lis
       let all = run_due faults asked_of taken calls (λ x. IsFormHistory files form x) (style_of form) IsSolved lib_old lib_new old new code one runs in
       subst (λ (x : History). IsDue x.end code (faults lib_old) (faults lib_new)) (sym (one.only h right)) all
 
+module _ {T : Type 0} (is_step : Command → T → Step T → Type 0) (last_name : T → Option (List ℕ)) (is_last : T → Option (List ℕ) → History → Type 0) (good : Settle → Type 0) (style : Style)
+    {L S : Type 0} (faults : L → ℕ) (asked_of : L → Option (List (List ℕ))) (taken : S → Option (List ℕ)) (calls : S → Option ℕ) (files : Files) (file : List ℕ) (first : T) where
+  abbrev pub IsHistoryOf : List Said → ScriptEnd → T → History → Type 0
+  IsHistoryOf said end state h = IsHistory is_step last_name is_last (λ n. held files (bytes n)) said end state h
+
   -- what the loop does of a session's script is done of what the script says
-  pub of_script : (style : Style) (law : SaidLaw) (files : Files) (file : List ℕ) (script : Script) (state : StandingView) (code : ℕ) → script ≡ script_of files file → state ≡ first_standing
-      → Runs faults asked_of taken calls lib_old lib_new old new (λ h. IsHistory IsStep no_name IsDoneThere (λ n. held files (bytes n)) (said_in script) (end_in script) state h) style IsSolved code
-      → Runs faults asked_of taken calls lib_old lib_new old new (λ h. IsScriptHistory files (said_of files file) h) style IsSolved code
-  of_script style law files file script state code is empty runs =
+  pub of_script : SaidLaw → (script : Script) (state : T) (lib_old lib_new : L) (old new : S) (code : ℕ) → script ≡ script_of files file → state ≡ first
+      → Runs faults asked_of taken calls lib_old lib_new old new (λ h. IsHistoryOf (said_in script) (end_in script) state h) style good code
+      → Runs faults asked_of taken calls lib_old lib_new old new (λ h. IsHistoryOf (said_of files file).said (ended_by (said_of files file).left) first h) style good code
+  of_script law script state lib_old lib_new old new code is begins runs =
       let p = said_of files file in
-      let P : List Said → ScriptEnd → StandingView → Type 0 = λ l e s. Runs faults asked_of taken calls lib_old lib_new old new (λ h. IsHistory IsStep no_name IsDoneThere (λ n. held files (bytes n)) l e s h) style IsSolved code in
-      let a : P (said_in script) (end_in script) first_standing = subst (P (said_in script) (end_in script)) empty runs in
-      let b : P p.said (end_in script) first_standing = subst (λ l. P l (end_in script) first_standing) (ap said_in is ∙ law.said files file) a in
-      subst (λ e. P p.said e first_standing) (ap end_in is ∙ law.end files file) b
+      let P : List Said → ScriptEnd → T → Type 0 = λ l e s. Runs faults asked_of taken calls lib_old lib_new old new (λ h. IsHistoryOf l e s h) style good code in
+      let a : P (said_in script) (end_in script) first = subst (P (said_in script) (end_in script)) begins runs in
+      let b : P p.said (end_in script) first = subst (λ l. P l (end_in script) first) (ap said_in is ∙ law.said files file) a in
+      subst (λ e. P p.said e first) (ap end_in is ∙ law.end files file) b
 
   -- memory runs out before the script is read
-  pub not_begun : (style : Style) → AsksNames style → (files : Files) (file : List ℕ) (lib : L) (out : S) → Runs faults asked_of taken calls lib lib out out (λ h. IsScriptHistory files (said_of files file) h) style IsSolved 1
-  not_begun style fits files file lib out =
+  pub not_begun : ((c : Command) (s : T) → ExactlyOne (is_step c s)) → ((s : T) (found : Option (List ℕ)) → ExactlyOne (is_last s found)) → AsksNames style → (lib : L) (out : S)
+      → Runs faults asked_of taken calls lib lib out out (λ h. IsHistoryOf (said_of files file).said (ended_by (said_of files file).left) first h) style good 1
+  not_begun one_step one_last fits lib out =
       let p = said_of files file in
-      ends_first IsStep no_name IsDoneThere IsSolved style (λ n. held files (bytes n)) faults asked_of taken calls (record { left = p.said; end = ended_by p.left; state = first_standing }) lib out
-      one_step (λ s found. exactly_this (finishes [])) fits p.said (ended_by p.left) first_standing refl
+      ends_first is_step last_name is_last good style (λ n. held files (bytes n)) faults asked_of taken calls (record { left = p.said; end = ended_by p.left; state = first }) lib out
+      one_step one_last fits p.said (ended_by p.left) first refl

@@ -95,7 +95,7 @@ module _ (circuit : CircuitView) where
   ready_or_blame a ready (for_many x p h m e) = let f : Some p ≡ None = sym m ∙ ready.not_many in cc f
   ready_or_blame a ready (for_isolated x p h m i e) = none_isolated circuit.elements p ready.all_fed i
 
-  test_once : (a b : Result Unit Blame) → IsTested circuit a → IsTested circuit b → a ≡ b
+  pub test_once : (a b : Result Unit Blame) → IsTested circuit a → IsTested circuit b → a ≡ b
   test_once (Ok x) (Ok y) h k = refl
   test_once (Ok x) (Err y) h k = absurd (ready_or_blame y h k)
   test_once (Err x) (Ok y) h k = absurd (ready_or_blame x k h)
@@ -145,9 +145,9 @@ record HasBlame (cause : ModelFault) (elements : Elements) (place : ℕ) : Type 
 blame_for : (cause : ModelFault) (elements : Elements) (place : ℕ) (entry : ElementName × Element) → slice_get elements place ≡ Some entry → HasBlame cause elements place
 blame_for cause elements place entry here = record { blame = blame_on cause entry; is = ap (option_map (blame_on cause)) here }
 
-record HasAnswer (circuit : CircuitView) : Type 0 where
-  answer : Result Unit Blame
-  right : IsTested circuit answer
+pub record HasAnswer (circuit : CircuitView) : Type 0 where
+  pub answer : Result Unit Blame
+  pub right : IsTested circuit answer
 
 module _ (circuit : CircuitView) where
   answer_by_feeding : own_blame circuit ≡ Ok tt → first_too_many circuit.elements ≡ None → (found : Option ℕ) → FirstIsolated circuit.elements found → HasAnswer circuit
@@ -166,6 +166,9 @@ module _ (circuit : CircuitView) where
   answer_of_tests : (own : Result Unit Blame) → own_blame circuit ≡ own → HasAnswer circuit
   answer_of_tests (Err blame) is = record { answer = Err blame; right = for_own blame is }
   answer_of_tests (Ok x) is = answer_by_limits is (first_too_many circuit.elements) refl
+
+pub tests_answer : (circuit : CircuitView) → HasAnswer circuit
+tests_answer circuit = answer_of_tests circuit (own_blame circuit) refl
 
 -- ---- a Solve
 
@@ -264,7 +267,7 @@ one_of at n (nothing_left circuit) = exactly_this (changes (standing circuit at 
 one_of at n (refused_at place c) = exactly_this (refuses place c)
 one_of at n (bases_left circuit) = exactly_this (goes (base_events circuit) (standing circuit at n))
 one_of at n (solve_left circuit) =
-    let tests = answer_of_tests circuit (own_blame circuit) refl in
+    let tests = tests_answer circuit in
     let one = one_by_tests (standing circuit at n) tests.answer in
     record {
       some = one.some;

@@ -1,10 +1,11 @@
 -- What a command and an hour come to, as the code says it.
 use Rattle.std.specs.Prelude.{◌≡◌, ◌<◌, ◌^◌, ℕ, List, [], length, map, All, Option, Some, None}
 use Rattle.dss_layout.specs.Layout.{layout_of, size_of}
+use Rattle.dss_profile.specs.declared.command.Blame.{Blame}
 use Rattle.dss_profile.specs.declared.command.Verb.{Verb}
 use Rattle.dss_profile.specs.declared.command.Verb.TheVariants as verb
 use Rattle.dss_circuit.specs.Circuit.{CircuitView}
-use Rattle.dss_ready.specs.Ready.{HasPassed}
+use Rattle.dss_ready.specs.Ready.{HasPassed, IsToBlame}
 use Rattle.fd_cert.specs.Claims as cert
 use Rattle.fd_cert.specs.declared.ball.Certified.{Certified}
 use Rattle.fd_certfile.specs.Rounds.{IsClaimOf, IsRoundOf}
@@ -13,6 +14,7 @@ use Rattle.fd_devices.specs.Hours.{hour_powers}
 use Rattle.fd_devices.specs.declared.settings.Positions.{Positions as CodePositions}
 use Rattle.fd_queue.specs.Controls.{Positions}
 use Rattle.fd_report.specs.Solutions.{IsOfSize}
+use Rattle.fd_report.specs.declared.faults.Cause.TheVariants as cause
 use Rattle.fd_report.specs.declared.faults.Fault.{Fault}
 use Rattle.fd_report.specs.declared.faults.Fault.TheVariants as fault
 use Rattle.fd_sample.specs.Probes.{positions_in}
@@ -23,7 +25,7 @@ use Rattle.fd_outcome.specs.Certificates.{block_in, block_texts}
 use Rattle.fd_outcome.specs.Pages.{solution_in}
 use Rattle.fd_outcome.specs.Settles.{Round, Settle, SettleEnd, round_of}
 use Rattle.fd_outcome.specs.Work.{Step, ends, goes}
-use Rattle.fd_app.specs.Commands.{Applied, IsStepOf, base_events}
+use Rattle.fd_app.specs.Commands.{Applied, IsStepOf, base_events, bases_left, nothing_left, refused_at, solve_left}
 use Rattle.fd_app.specs.Endings.{end_by}
 use Rattle.fd_app.specs.Headline.{IsSolved}
 use Rattle.fd_app.specs.Solving.{IsHour, IsSolutionStep}
@@ -40,8 +42,29 @@ IsOfCommand fault.Usage = ⊥
 IsOfCommand (fault.Read name) = ⊥
 IsOfCommand other = Unit {0}
 
--- What is left of a command comes to this with the circuit as it is now: it is done; or it ends the run with a fault; or
--- it asks for voltage bases; or it is a Solve that passed the tests, and comes to what the hours of the Solve come to.
+-- a circuit that doesn't pass the tests of Solve, as a fault
+pub record IsBlamed (c : CircuitView) (f : Fault) : Type 0 where
+  pub blame : Blame
+  pub right : IsToBlame c blame
+  pub fault_is : f ≡ fault.Script blame.place (cause.Model blame.cause)
+
+-- why a command is refused, by what is left of it
+abbrev pub IsRefusal : Applied → Fault → Type 0
+IsRefusal (nothing_left c) f = ⊥
+IsRefusal (bases_left c) f = ⊥
+IsRefusal (refused_at place x) f = f ≡ fault.Script place x
+IsRefusal (solve_left c) f = IsBlamed c f
+
+-- What is left of a command with the circuit as it is now: nothing; or the voltage bases of buses; or it is a Solve that
+-- passed the tests; or it is refused.
+abbrev pub IsAnswered : Applied → CircuitView → Answer → Type 0
+IsAnswered left c answer.Done = left ≡ nothing_left c
+IsAnswered left c answer.Bases = left ≡ bases_left c
+IsAnswered left c answer.Solves = (left ≡ solve_left c) × HasPassed c
+IsAnswered left c (answer.Refuses f) = IsRefusal left f
+
+-- What is left of a command comes to this for `solve`: it is done; or it ends the run with a fault; or it asks for voltage
+-- bases; or it is a Solve that passed the tests, and comes to what the hours of the Solve come to.
 abbrev pub IsAnswerOf : Positions → ℕ → Applied → CircuitView → Answer → Type 0
 IsAnswerOf at settled left c answer.Done = IsStepOf at settled left (changes (standing c at settled))
 IsAnswerOf at settled left c answer.Bases = IsStepOf at settled left (goes (base_events c) (standing c at settled))

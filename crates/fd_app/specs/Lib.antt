@@ -10,3 +10,6 @@ pub mod Endings
 pub mod Printing
 pub mod Places
 pub mod Days
+pub mod Checks
+pub mod Gathered
+pub mod Judged

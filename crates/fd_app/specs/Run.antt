@@ -10,9 +10,11 @@ use Rattle.fd_outcome.specs.Calls.{Style, certificate, report}
 use Rattle.fd_outcome.specs.Events.{History, ended, finishes}
 use Rattle.fd_outcome.specs.History.{IsHistory}
 use Rattle.fd_outcome.specs.Work.{ExactlyOne}
+use Rattle.fd_check.specs.Checking.{no_positions}
+use Rattle.fd_app.specs.Checks.{IsCheckStep, IsJudged, certificate_name, first_gathered}
 use Rattle.fd_app.specs.Commands.{IsStep}
-use Rattle.fd_app.specs.Steps.{StandingView, no_positions, standing}
-use Rattle.fd_app.specs.Words.{Form, Solve, Cert}
+use Rattle.fd_app.specs.Steps.{StandingView, standing}
+use Rattle.fd_app.specs.Words.{Form, Solve, Cert, Check}
 use Rattle.fd_app.specs.declared.words.Form.{Form as Words}
 use Rattle.fd_app.specs.declared.words.Form.TheVariants as words
 
@@ -20,17 +22,20 @@ use Rattle.fd_app.specs.declared.words.Form.TheVariants as words
 abbrev pub form_in : Words → Form
 form_in (words.Solve file) = Solve file.now
 form_in (words.Cert file) = Cert file.now
+form_in (words.Check script certificate) = Check script.now certificate.now
 
 -- what must be told of the files: nothing where none is asked for
 abbrev pub Knows : Option Form → Option Files → Files → Type 0
 Knows None told files = Unit {0}
 Knows (Some (Solve file)) told files = told ≡ Some files
 Knows (Some (Cert file)) told files = told ≡ Some files
+Knows (Some (Check script certificate)) told files = told ≡ Some files
 
 abbrev pub style_of : Option Form → Style
 style_of None = report
 style_of (Some (Solve file)) = report
 style_of (Some (Cert file)) = certificate
+style_of (Some (Check script certificate)) = report
 
 -- `solve` and `cert` ask for no name behind the last command, and do nothing there
 abbrev pub no_name : StandingView → Option (List ℕ)
@@ -46,11 +51,16 @@ first_standing = standing empty_circuit no_positions 0
 abbrev pub IsScriptHistory : Files → Part → History → Type 0
 IsScriptHistory files p h = IsHistory IsStep no_name IsDoneThere (λ n. held files (bytes n)) p.said (ended_by p.left) first_standing h
 
+-- the history of the commands of a script for `check`, with the certificate of this name behind them
+abbrev pub IsCheckHistory : Files → Part → List ℕ → History → Type 0
+IsCheckHistory files p name h = IsHistory IsCheckStep certificate_name IsJudged (λ n. held files (bytes n)) p.said (ended_by p.left) (first_gathered name) h
+
 -- the history of a command line; words that are no form are a fault
 abbrev pub IsFormHistory : Files → Option Form → History → Type 0
 IsFormHistory files None h = h ≡ ended [] fault.Usage
 IsFormHistory files (Some (Solve file)) h = IsScriptHistory files (said_of files (chars file)) h
 IsFormHistory files (Some (Cert file)) h = IsScriptHistory files (said_of files (chars file)) h
+IsFormHistory files (Some (Check script certificate)) h = IsCheckHistory files (said_of files (chars script)) (chars certificate) h
 
 -- there is exactly one
 abbrev pub FormsLaw : Type 0

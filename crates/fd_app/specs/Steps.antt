@@ -20,9 +20,6 @@ pub record StandingView : Type 0 where
 abbrev pub standing : CircuitView → Positions → ℕ → StandingView
 standing circuit at settled = record { circuit = circuit; at = at; settled = settled }
 
-abbrev pub no_positions : Positions
-no_positions = record { taps = []; closed = [] }
-
 abbrev pub changes : StandingView → Step StandingView
 changes s = goes [] s
 

@@ -18,6 +18,7 @@
 //! - `records`: the records of a settle
 //! - `print`: records handed to the sink
 //! - `line`: what the loop asks of a command line
+//! - `gathered`: what `check` has gathered of a script; `judged`: what its certificate comes to; `check`: the command line
 //! - `solve`: the command lines `solve` and `cert`
 //! - `script`: the loop over a script's commands
 //! - `top`: the call itself
@@ -25,10 +26,13 @@
 
 mod answer;
 mod certificate;
+mod check;
 mod controls;
 mod faults;
+mod gathered;
 mod hour;
 mod hours;
+mod judged;
 mod line;
 mod page;
 mod print;
@@ -41,4 +45,4 @@ mod step;
 mod top;
 mod words;
 
-pub use top::{days_law, due_law, forms_law, run};
+pub use top::{checked_law, days_law, due_law, forms_law, run};

@@ -47,6 +47,19 @@ pub(crate) fn print_fault<S: Sink>(alloc: Global, fault: &Fault, out: &mut S) ->
     }
 }
 
+/// Prints a record that stands alone at the end of a run without a fault, and answers the exit status.
+pub(crate) fn print_alone<S: Sink>(alloc: Global, text: Record, out: &mut S) -> u8
+    ensures prints { Printed S.taken S.calls out.old out.new (record { calls = writes text.bytes ∷ []; end = None }) result }
+    ensures later { S.faults out.old ≤ S.faults out.new }
+    ensures write { result ≡ 5 → Rose (S.faults out.old) (S.faults out.new) }
+{
+    match emit(alloc, &[text], out) {
+        Ok(()) => 0,
+        Err(SinkFault::Failed) => WRITE_FAULT,
+        Err(SinkFault::NoMemory) => WANT_OF_MEMORY,
+    }
+}
+
 // Whether a text was written before, or is among these.
 #[tactic(auto, using(crate::proofs::Recorded::some_text))]
 fn now_begun(begun: bool, records: &[Record]) -> bool

@@ -1,8 +1,7 @@
 // What one command comes to.
-ghost use Rattle.std.specs.Prelude.{◌≡◌, ℕ, ◌+◌, ◌≤◌, ◌<◌, ◌-◌, ◌^◌, IfOk, Ok, length};
+ghost use Rattle.std.specs.Prelude.{◌≡◌, ◌+◌, ◌≤◌, ◌<◌, ◌-◌, ◌^◌, IfOk, Ok, length};
 ghost use Rattle.dss_circuit.specs.Limits.{most_elements};
-ghost use Rattle.fd_queue.specs.Controls.{Positions};
-ghost use Rattle.fd_app.specs.Answered.{IsAnswerOf, solve_count, solves_of};
+ghost use Rattle.fd_app.specs.Answered.{IsAnswered, solve_count, solves_of};
 ghost use Rattle.fd_app.specs.Commands.{left_of, solve_left, tried};
 
 use crate::answer::{Answer, refused};
@@ -13,7 +12,7 @@ use std::alloc::{AllocError, Global};
 
 // A Solve whose options the circuit has taken, by the tests that come first.
 fn test(alloc: Global, circuit: &Circuit) -> Result<Answer, AllocError>
-    ensures { (at : Positions) (settled : ℕ) → IfOk result (IsAnswerOf at settled (solve_left circuit.now) circuit.now) }
+    ensures { IfOk result (IsAnswered (solve_left circuit.now) circuit.now) }
 {
     match ready(alloc, circuit) {
         Ok(()) => Ok(Answer::Solves),
@@ -27,7 +26,7 @@ fn test(alloc: Global, circuit: &Circuit) -> Result<Answer, AllocError>
 
 // What is left to do of a command that the circuit has accepted.
 fn after_apply(alloc: Global, circuit: &Circuit, command: &Command) -> Result<Answer, AllocError>
-    ensures step { (at : Positions) (settled : ℕ) → IfOk result (IsAnswerOf at settled (left_of command.now.place command.now.verb (Ok circuit.now)) circuit.now) }
+    ensures left { IfOk result (IsAnswered (left_of command.now.place command.now.verb (Ok circuit.now)) circuit.now) }
     ensures count { IfOk result (λ a. solves_of a ≤ solve_count command.now.verb) }
 {
     match &command.verb {
@@ -45,7 +44,7 @@ pub(crate) fn answer_to(
 ) -> Result<Answer, AllocError>
     requires solves { circuit.old.solves < 2 ^ 32 - 1 }
     requires elements { length circuit.old.elements < most_elements }
-    ensures step { (at : Positions) (settled : ℕ) → IfOk result (IsAnswerOf at settled (tried command.now circuit.old) circuit.new) }
+    ensures left { IfOk result (IsAnswered (tried command.now circuit.old) circuit.new) }
     ensures count { IfOk result (λ a. circuit.old.solves + solves_of a ≤ circuit.new.solves) }
     ensures kept { circuit.old.solves ≤ circuit.new.solves }
 {

@@ -5,16 +5,19 @@ ghost use Rattle.fd_outside.specs.Causes.{Rose};
 ghost use Rattle.fd_outside.specs.Files.{Files};
 ghost use Rattle.dss_script.specs.Said.{said_of};
 ghost use Rattle.dss_script.specs.Sessions.{GrowsSome};
+ghost use Rattle.fd_outcome.specs.Calls.{report};
 ghost use Rattle.fd_outcome.specs.Events.{History};
 ghost use Rattle.fd_outcome.specs.Laws.{IsDue};
 ghost use Rattle.fd_outcome.specs.Runs.{Runs};
 ghost use Rattle.fd_outcome.specs.Untold.{Answers, EndsAtRead, IsUntold};
+ghost use Rattle.fd_app.specs.Checks.{CheckedLaw};
 ghost use Rattle.fd_app.specs.Days.{DaysLaw};
 ghost use Rattle.fd_app.specs.Headline.{IsSolved};
-ghost use Rattle.fd_app.specs.Run.{FormsLaw, IsFormHistory, IsScriptHistory, Knows, style_of};
+ghost use Rattle.fd_app.specs.Run.{FormsLaw, IsCheckHistory, IsFormHistory, IsScriptHistory, Knows, style_of};
 ghost use Rattle.fd_app.specs.Words.{form_of};
 
 use crate::certificate::Certificate;
+use crate::gathered::Gathered;
 use crate::page::Page;
 use crate::print::{WANT_OF_MEMORY, print_fault};
 use crate::report::Report;
@@ -22,6 +25,7 @@ use crate::script::run_script;
 use crate::standing::Standing;
 use crate::words::{Form, form_of};
 use dss_script::{Session, said_law};
+use fd_check::accepted_law;
 use fd_outside::{Library, Sink};
 use fd_report::Fault;
 use std::alloc::Global;
@@ -42,6 +46,30 @@ fn solve<P: Page, L: Library, S: Sink>(alloc: Global, file: &str, lib: &mut L, o
     run_script(alloc, &mut session, &mut standing, lib, out)
 }
 
+// Reads the script of this name, gathers its commands, and judges the certificate of this name on the networks of its
+// Solves.
+fn check<L: Library, S: Sink>(
+    alloc: Global,
+    script: &str,
+    certificate: &str,
+    lib: &mut L,
+    out: &mut S,
+) -> u8
+    ensures run { (files : Files) → L.holds lib.old ≡ Some files →
+        Runs L.faults L.asked S.taken S.calls lib.old lib.new out.old out.new
+        (λ h. IsCheckHistory files (said_of files (chars script.now)) (chars certificate.now) h) report IsSolved result }
+    ensures untold { IsUntold L.faults L.asked S.faults S.taken S.calls lib.old lib.new out.old out.new result }
+{
+    said_law();
+    let Ok(mut session) = Session::open(alloc, script) else {
+        return WANT_OF_MEMORY;
+    };
+    let Ok(mut gathered) = Gathered::new(alloc, certificate) else {
+        return WANT_OF_MEMORY;
+    };
+    run_script(alloc, &mut session, &mut gathered, lib, out)
+}
+
 /// Does what the words say, and answers the exit status:
 ///
 /// | Status | Comes where |
@@ -59,13 +87,16 @@ fn solve<P: Page, L: Library, S: Sink>(alloc: Global, file: &str, lib: &mut L, o
 /// | 10 | the state has no certificate: the bound of an unknown reaches one |
 /// | 11 | the sample of a control is undecided over the ball of the state |
 /// | 12 | a control is due to act after as many acts as the options allow |
+/// | 13 | the certificate is refused |
 ///
 /// The words are those after the program's name. `solve FILE` does the commands of the script of that name, and prints
 /// the rounds of each Solve, with the acts of its controls, before the next command is read; `cert FILE` does the same,
-/// and prints each round as a block of a certificate. Each record is handed to
+/// and prints each round as a block of a certificate. `check SCRIPT CERTIFICATE` solves nothing: it gathers the commands of
+/// the script, asks for the certificate behind the last one, and prints whether it is accepted. Each record is handed to
 /// the sink by one write. A refusal is printed with its file, its line and its cause, a failed read with the file's
 /// name, a fault of the procedure with the first unknown that it is found at, a mismatch with its row, a state without
-/// a certificate with the unknown whose bound reaches one, and an undecided sample with its control.
+/// a certificate with the unknown whose bound reaches one, an undecided sample with its control, and a refused certificate
+/// with its line and the rule that it breaks.
 pub fn run<L: Library, S: Sink>(alloc: Global, words: &[String], lib: &mut L, out: &mut S) -> u8
     // The one history of the words over the files held is done: all its calls, reads and writes, in order, and its
     // end's status; or a front of whole calls, and 1; or a front and less than all of the next text, and 5; where a
@@ -96,6 +127,13 @@ pub fn run<L: Library, S: Sink>(alloc: Global, words: &[String], lib: &mut L, ou
         None => print_fault(alloc, &Fault::Usage, out),
         Some(Form::Solve(file)) => solve::<Report, L, S>(alloc, file, lib, out),
         Some(Form::Cert(file)) => solve::<Certificate, L, S>(alloc, file, lib, out),
+        Some(Form::Check(script, certificate)) => check::<L, S>(
+            alloc,
+            script,
+            certificate,
+            lib,
+            out,
+        ),
     }
 }
 
@@ -119,3 +157,11 @@ pub fn due_law<L: Library, S: Sink>()
 pub fn days_law()
     ensures { DaysLaw }
 {}
+
+/// A law: where `check` accepts a certificate, its blocks are those of the rounds of the script's Solves; what each claims is
+/// sound in the network of its round, and its acts are those of the queue machine. Does nothing.
+pub fn checked_law()
+    ensures { CheckedLaw }
+{
+    accepted_law();
+}

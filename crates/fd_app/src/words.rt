@@ -9,6 +9,7 @@ ghost use Rattle.fd_app.specs.Words.{form_of, names_file};
 pub(crate) enum Form<'a> {
     Solve(&'a str),
     Cert(&'a str),
+    Check(&'a str, &'a str),
 }
 
 fn names_file(word: &str) -> bool
@@ -35,12 +36,28 @@ fn form_of_two<'a>(first: &str, file: &'a str) -> Option<Form<'a>>
     }
 }
 
+// The form of three words.
+fn form_of_three<'a>(first: &str, script: &'a str, certificate: &'a str) -> Option<Form<'a>>
+    ensures { option_map form_in result ≡ form_of (first.now ∷ script.now ∷ certificate.now ∷ []) }
+{
+    if names_file(script) && names_file(certificate) && first == "check" {
+        Some(Form::Check(script, certificate))
+    } else {
+        None
+    }
+}
+
 /// The form that the words are, if they are one.
 pub(crate) fn form_of(words: &[String]) -> Option<Form<'_>>
     ensures { option_map form_in result ≡ form_of (map string_bytes words.now) }
 {
     match words {
         [first, file] => form_of_two(first.as_str(), file.as_str()),
+        [first, script, certificate] => form_of_three(
+            first.as_str(),
+            script.as_str(),
+            certificate.as_str(),
+        ),
         _ => None,
     }
 }

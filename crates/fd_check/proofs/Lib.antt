@@ -4,3 +4,4 @@ mod Told
 mod Judged
 mod Way
 mod Accepted
+mod Commands

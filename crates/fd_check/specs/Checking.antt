@@ -25,6 +25,10 @@ use Rattle.fd_certfile.specs.Verdict.{Due, asks, complete, stops}
 abbrev pub start_from : CircuitView → Positions → Positions
 start_from c at = record { taps = next_taps c.solves c.elements at.taps; closed = next_closed c.solves c.elements at.closed }
 
+-- before the first Solve no device has a position
+abbrev pub no_positions : Positions
+no_positions = record { taps = []; closed = [] }
+
 -- no bank was opened yet
 abbrev pub no_openings : CircuitView → List (Option ℕ)
 no_openings c = replicate (list_n (λ e. bank_count e.1) c.elements) None

@@ -5,3 +5,4 @@ pub mod Faults
 pub mod Given
 pub mod Underway
 pub mod Laws
+pub mod Commands

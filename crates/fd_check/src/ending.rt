@@ -12,7 +12,7 @@ use fd_certfile::{CertReader, certificate_law};
 /// # Errors
 /// `Refused` where a block or something else is left, with the line and the rule.
 #[tactic(auto, using(crate::proofs::Judged::end_refused))]
-pub fn check_end(reader: &CertReader<'_>) -> Result<u64, CheckFault>
+pub(crate) fn check_end(reader: &CertReader<'_>) -> Result<u64, CheckFault>
     ensures accepted { IfOk result (λ count. Comes reader.now done (accepted count)) }
     ensures refused { IfErr result (λ fault. Refuses fault (Comes reader.now done)) }
 {

@@ -39,7 +39,7 @@ pub(crate) struct Underway {
 /// # Errors
 /// `Refused` at the first rule that the certificate breaks, with the line that it names; `Range` where the network of the
 /// block that is due is out of range, and the blocks before it break no rule; `NoMemory`.
-pub fn check_solve(
+pub(crate) fn check_solve(
     alloc: Global,
     circuit: &Circuit,
     at: &mut Positions,

@@ -34,6 +34,7 @@ use Rattle.fd_outcome.specs.Runs.{Runs}
 use Rattle.fd_outcome.specs.Way.{Way, whole}
 use Rattle.fd_outcome.specs.Parts.{Wrote, Printed, fault_doing, Asked, IsUnread, IsCutShort, Gives, GoesOn, events_in, EndsSo, EndsAt, Finishes, IsCutIn}
 use Rattle.fd_outcome.specs.Untold.{CutsShort, EndsAtFault, Answers, EndsAtRead, IsUntold}
+pub use Rattle.fd_outcome.proofs.Asked.{finishes_asked, finishes_short, finishes_unread}
 use Rattle.fd_outcome.proofs.Histories.{one_history, one_value, does_command, stays}
 use Rattle.fd_outcome.proofs.Lists.{body-append, names-append, opened-append, names_of_writes, texts-append, texts_of_writes}
 use Rattle.fd_outcome.proofs.Printing.{append_is, front_is, due_of}

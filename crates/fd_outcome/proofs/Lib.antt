@@ -2,4 +2,5 @@ pub mod Histories
 pub mod Lists
 pub mod Printing
 pub mod Ways
+pub mod Asked
 pub mod CallerLemmas

@@ -7,6 +7,8 @@ use Rattle.dss_values.specs.declared.fault.ModelFault.{ModelFault}
 use Rattle.dss_values.specs.declared.fault.ModelFault.TheVariants as model
 use Rattle.dss_script.specs.declared.fault.ScriptCause.{ScriptCause}
 use Rattle.dss_script.specs.declared.fault.ScriptCause.TheVariants as script
+use Rattle.fd_cert.specs.declared.rule.Rule.{Rule}
+use Rattle.fd_cert.specs.declared.rule.Rule.TheVariants as rule
 use Rattle.fd_inverse.specs.declared.fault.Stop.{Stop}
 use Rattle.fd_inverse.specs.declared.fault.Stop.TheVariants.{Pivot, Range}
 use Rattle.fd_report.specs.declared.faults.Cause.{Cause}
@@ -23,6 +25,19 @@ use Rattle.fd_decimal.specs.Decimals.{size_text, micro_text, nano_text}
 abbrev pub stop_word : Stop → List ℕ
 stop_word Pivot = codes "pivot"
 stop_word Range = codes "range"
+
+abbrev pub rule_word : Rule → List ℕ
+rule_word rule.Absent = codes "absent"
+rule_word rule.Grammar = codes "grammar"
+rule_word rule.Size = codes "size"
+rule_word rule.Range = codes "range"
+rule_word rule.Mismatch = codes "mismatch"
+rule_word rule.Bound = codes "bound"
+rule_word rule.Radius = codes "radius"
+rule_word rule.Undecided = codes "undecided"
+rule_word rule.Acts = codes "acts"
+rule_word rule.ControlLimit = codes "control limit"
+rule_word rule.Count = codes "count"
 
 -- what the reader of a script finds
 abbrev pub script_text : ScriptCause → List ℕ
@@ -86,6 +101,7 @@ fields (fault.NotCertified unknown bound) = codes "fault" ∷ codes "not certifi
 fields (fault.Undecided control low high edge scale) =
     codes "fault" ∷ codes "undecided" ∷ element_field control ∷ scaled_text scale low ∷ scaled_text scale high ∷ scaled_text scale edge ∷ []
 fields (fault.ControlLimit acts) = codes "fault" ∷ codes "control limit" ∷ decimal acts ∷ []
+fields (fault.Certificate line broken) = codes "fault" ∷ codes "certificate" ∷ decimal line ∷ rule_word broken ∷ []
 
 -- ---- its status
 
@@ -100,3 +116,4 @@ status (fault.Loose row mismatch) = 9
 status (fault.NotCertified unknown bound) = 10
 status (fault.Undecided control low high edge scale) = 11
 status (fault.ControlLimit acts) = 12
+status (fault.Certificate line broken) = 13

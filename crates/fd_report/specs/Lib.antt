@@ -7,3 +7,4 @@ pub mod Faults
 pub mod Texts
 pub mod Bases
 pub mod Controls
+pub mod Accepted

@@ -5,7 +5,7 @@ ghost use Rattle.dss_values.specs.Names.{bytes};
 ghost use Rattle.dss_layout.specs.Layout.{size_of};
 ghost use Rattle.fd_report.specs.Lines.{line_of};
 ghost use Rattle.fd_report.specs.Names.{name_at};
-ghost use Rattle.fd_report.specs.Faults.{bound_text, cause_text, fields, model_text, scaled_text, script_text, status, stop_word};
+ghost use Rattle.fd_report.specs.Faults.{bound_text, cause_text, fields, model_text, rule_word, scaled_text, script_text, status, stop_word};
 
 use crate::line::record_of;
 use crate::names::element_field;
@@ -14,6 +14,7 @@ use dss_lexer::Text;
 use dss_profile::{ElementName, Place};
 use dss_script::ScriptCause;
 use dss_values::ModelFault;
+use fd_cert::Rule;
 use fd_decimal::{micro_text, nano_text, size_text};
 use fd_inverse::Stop;
 use fd_outside::Record;
@@ -92,6 +93,11 @@ pub enum Fault {
     ControlLimit {
         acts: u32,
     },
+    /// The certificate breaks this rule, at a line counted from 1; where there is none, the line is 0.
+    Certificate {
+        line: u64,
+        rule: Rule,
+    },
 }
 
 /// The name of the real unknown at this place, which is that of its row, as `b.1 re`.
@@ -111,6 +117,24 @@ fn stop_word(cause: Stop) -> &'static [u8]
     match cause {
         Stop::Pivot => b"pivot",
         Stop::Range => b"range",
+    }
+}
+
+fn rule_word(rule: Rule) -> &'static [u8]
+    ensures { result.now ≡ rule_word rule }
+{
+    match rule {
+        Rule::Absent => b"absent",
+        Rule::Grammar => b"grammar",
+        Rule::Size => b"size",
+        Rule::Range => b"range",
+        Rule::Mismatch => b"mismatch",
+        Rule::Bound => b"bound",
+        Rule::Radius => b"radius",
+        Rule::Undecided => b"undecided",
+        Rule::Acts => b"acts",
+        Rule::ControlLimit => b"control limit",
+        Rule::Count => b"count",
     }
 }
 
@@ -325,6 +349,16 @@ fn control_limit_record(alloc: Global, acts: u32) -> Result<Record, AllocError>
     record_of(alloc, &[b"fault", b"control limit", acts.as_bytes()])
 }
 
+fn certificate_record(alloc: Global, line: u64, rule: Rule) -> Result<Record, AllocError>
+    ensures { IfOk result (λ r. r.bytes ≡ line_of (fields (Fault.Certificate line rule))) }
+{
+    let line = line.to_string(alloc)?;
+    record_of(
+        alloc,
+        &[b"fault", b"certificate", line.as_bytes(), rule_word(rule)],
+    )
+}
+
 /// The record of a fault: its fields, as csv writes them.
 pub fn record(alloc: Global, fault: &Fault) -> Result<Record, AllocError>
     ensures { IfOk result (λ r. r.bytes ≡ line_of (fields fault.now)) }
@@ -350,6 +384,7 @@ pub fn record(alloc: Global, fault: &Fault) -> Result<Record, AllocError>
             scale,
         } => undecided_record(alloc, control, *low, *high, *edge, *scale),
         Fault::ControlLimit { acts } => control_limit_record(alloc, *acts),
+        Fault::Certificate { line, rule } => certificate_record(alloc, *line, *rule),
     }
 }
 
@@ -368,5 +403,6 @@ pub fn status(fault: &Fault) -> u8
         Fault::NotCertified { .. } => 10,
         Fault::Undecided { .. } => 11,
         Fault::ControlLimit { .. } => 12,
+        Fault::Certificate { .. } => 13,
     }
 }

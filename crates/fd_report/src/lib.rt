@@ -13,9 +13,11 @@
 //! - `report`: the records of a solution
 //! - `controls`: the records of acts, of taps and of banks
 //! - `bases`: the records of voltage bases
+//! - `accepted`: the record of an accepted certificate
 //! - `faults`: the records of faults
 #![tactic(auto)]
 
+mod accepted;
 mod bases;
 mod controls;
 mod faults;
@@ -26,6 +28,7 @@ mod sizes;
 mod solution;
 mod texts;
 
+pub use accepted::accepted_record;
 pub use bases::base_record;
 pub use controls::{Position, act_record, bank_record, tap_record};
 pub use faults::{Cause, Fault, Scale, name_at, record, status};

@@ -1,15 +1,15 @@
 use Rattle.std.proofs.Common.{arith, sym, subst}
 use Rattle.std.specs.Prelude.{IfOk}
-use Rattle.fd_app.specs.Answered.{IsAnswerOf}
+use Rattle.fd_app.specs.Answered.{IsAnswered}
 use Rattle.fd_app.specs.Commands.{left_of}
 use Rattle.fd_app.proofs.Weaker.{if_ok_weaker}
 use Rattle.fd_app.proofs.Weights.{verb_takes}
 use Rattle.fd_app.proofs.step.answer_to.Goals as goal
 
-pub returns-in-Ok-clause-step : goal.returns-in-Ok-clause-step
-returns-in-Ok-clause-step c at settled =
+pub returns-in-Ok-clause-left : goal.returns-in-Ok-clause-left
+returns-in-Ok-clause-left c =
     let command = c.args.command.now in
-    subst (λ r. IfOk c.after_apply.result (IsAnswerOf at settled (left_of command.place command.verb r) c.apply.new.self)) (sym c.in-Ok.ensures) (c.after_apply.ensures.step at settled)
+    subst (λ r. IfOk c.after_apply.result (IsAnswered (left_of command.place command.verb r) c.apply.new.self)) (sym c.in-Ok.ensures) c.after_apply.ensures.left
 
 pub returns-in-Ok-clause-count : goal.returns-in-Ok-clause-count
 returns-in-Ok-clause-count c =

@@ -7,7 +7,7 @@ use Rattle.fd_outcome.proofs.CallerLemmas.{fault_alone, fault_answers, fault_cod
 use Rattle.fd_app.specs.Headline.{IsSolved}
 use Rattle.fd_app.specs.Run.{form_in}
 use Rattle.fd_app.specs.declared.words.Form.{Form as Words}
-use Rattle.fd_app.specs.Words.{Cert, Solve, form_of}
+use Rattle.fd_app.specs.Words.{Cert, Check, Solve, form_of}
 use Rattle.fd_app.proofs.top.run.Goals as goal
 
 never_read : (code : ℕ) → (code ≡ 2) ⊎ CutsShort code → code ≡ 4 → ⊥
@@ -53,3 +53,11 @@ returns-in-Some-Cert-clause-run g c files =
 
 pub returns-in-Some-Cert-clause-usage : goal.returns-in-Some-Cert-clause-usage
 returns-in-Some-Cert-clause-usage g c two = absurd (c.solve-in-Some-Cert.ensures.untold.usage two)
+
+pub returns-in-Some-Check-clause-run : goal.returns-in-Some-Check-clause-run
+returns-in-Some-Check-clause-run g c files =
+    let form : form_of (map string_bytes c.args.words.now) ≡ Some (Check c.in-Some-Check.script.now c.in-Some-Check.certificate.now) = sym c.form_of.ensures ∙ ap (option_map form_in) c.in-Some-Check.is ∙ ap (λ (w : Words). Some (form_in w)) c.in-Some-Check.field-0-is in
+    rw form (c.check.ensures.run files)
+
+pub returns-in-Some-Check-clause-usage : goal.returns-in-Some-Check-clause-usage
+returns-in-Some-Check-clause-usage g c two = absurd (c.check.ensures.untold.usage two)

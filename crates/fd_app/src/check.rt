@@ -1,0 +1,124 @@
+// The command line `check SCRIPT CERTIFICATE`.
+ghost use Rattle.std.specs.Prelude.{◌≡◌, ◌+◌, ◌≤◌, [], IfOk, List, None, ℕ};
+ghost use Rattle.dss_circuit.specs.Circuit.{empty_circuit};
+ghost use Rattle.fd_outside.specs.Causes.{Rose};
+ghost use Rattle.fd_report.specs.declared.faults.Fault.TheVariants.{Read};
+ghost use Rattle.fd_outcome.specs.Parts.{Printed, fault_doing};
+ghost use Rattle.dss_script.specs.Sessions.{cost};
+ghost use Rattle.fd_outcome.specs.Calls.{report};
+ghost use Rattle.fd_app.specs.Checks.{IsCheckStep, IsJudged, certificate_name};
+ghost use Rattle.fd_app.specs.Gathered.{IsFollowed, IsGathered, IsKeptWith};
+ghost use Rattle.fd_app.specs.Headline.{IsSolved};
+ghost use Rattle.fd_app.specs.Weights.{weight};
+
+use crate::answer::Answer;
+use crate::gathered::Gathered;
+use crate::judged::answer_found;
+use crate::line::Line;
+use crate::print::{WANT_OF_MEMORY, print_fault};
+use crate::step::answer_to;
+use dss_circuit::{Circuit, Command};
+use dss_lexer::Text;
+use fd_outside::{LibFault, Library, Sink};
+use fd_report::Fault;
+use std::alloc::{AllocError, Global};
+
+// Keeps a command that was accepted.
+fn keep(commands: &mut Vec<Command>, command: Command) -> Result<Option<Fault>, AllocError>
+    ensures { IfOk result (λ f. IsKeptWith command commands.old.items commands.new.items f) }
+{
+    commands.push(command)?;
+    Ok(None)
+}
+
+// Does a command and keeps it, or gives the fault in which the run ends.
+fn follow(
+    alloc: Global,
+    circuit: &mut Circuit,
+    commands: &mut Vec<Command>,
+    command: Command,
+) -> Result<Option<Fault>, AllocError>
+    requires gathered { IsGathered circuit.old commands.old.items }
+    requires room { weight circuit.old + cost command.verb ≤ 1_048_578 }
+    ensures { IfOk result (λ f. IsFollowed command circuit.old circuit.new commands.old.items commands.new.items f) }
+{
+    match answer_to(alloc, circuit, &command)? {
+        Answer::Done => keep(commands, command),
+        Answer::Bases => keep(commands, command),
+        Answer::Solves => keep(commands, command),
+        Answer::Refuses(fault) => Ok(Some(fault)),
+    }
+}
+
+// Forgets the script, where the run ends in it.
+fn forget(alloc: Global, circuit: &mut Circuit, commands: &mut Vec<Command>)
+    ensures circuit { circuit.new ≡ empty_circuit }
+    ensures commands { commands.new.items ≡ [] }
+{
+    *circuit = Circuit::empty(alloc);
+    *commands = Vec::new(alloc);
+}
+
+// Prints the fault of a file that couldn't be read, and answers the exit status.
+fn print_unread<S: Sink>(alloc: Global, name: &Text, out: &mut S) -> u8
+    ensures prints { Printed S.taken S.calls out.old out.new (fault_doing (Read name.now)) result }
+    ensures later { S.faults out.old ≤ S.faults out.new }
+    ensures write { result ≡ 5 → Rose (S.faults out.old) (S.faults out.new) }
+{
+    match name.clone() {
+        Ok(name) => print_fault(alloc, &Fault::Read { name }, out),
+        Err(_) => WANT_OF_MEMORY,
+    }
+}
+
+/// Commands are gathered, and nothing is solved or printed; behind the last one the certificate is asked for, and judged.
+impl Line for Gathered {
+    ghost is_step = { λ command g step. IsCheckStep command g step };
+
+    ghost last_name = { λ g. certificate_name g };
+
+    ghost is_last = { λ g found h. IsJudged g found h };
+
+    ghost good = { λ s. IsSolved s };
+
+    ghost style = { report };
+
+    ghost weight = { λ g. weight g.circuit };
+
+    fn law() {}
+
+    fn take<S: Sink>(
+        &mut self,
+        alloc: Global,
+        command: Command,
+        _begun: &mut bool,
+        out: &mut S,
+    ) -> Option<u8> {
+        match follow(alloc, &mut self.circuit, &mut self.commands, command) {
+            Ok(None) => None,
+            Ok(Some(fault)) => {
+                forget(alloc, &mut self.circuit, &mut self.commands);
+                Some(print_fault(alloc, &fault, out))
+            }
+            Err(_) => {
+                forget(alloc, &mut self.circuit, &mut self.commands);
+                Some(WANT_OF_MEMORY)
+            }
+        }
+    }
+
+    fn finish<L: Library, S: Sink>(
+        &mut self,
+        alloc: Global,
+        lib: &mut L,
+        _begun: bool,
+        out: &mut S,
+    ) -> u8 {
+        let found = match lib.read(alloc, self.certificate.as_str()) {
+            Ok(found) => found,
+            Err(LibFault::Failed) => return print_unread(alloc, &self.certificate, out),
+            Err(LibFault::NoMemory) => return WANT_OF_MEMORY,
+        };
+        answer_found(alloc, self.commands.as_slice(), found, out)
+    }
+}

@@ -1,0 +1,102 @@
+// A certificate over the Solves of a script.
+ghost use Rattle.std.specs.Prelude.{◌≡◌, ◌+◌, ◌*◌, ◌++◌, ◌<◌, ◌≤◌, ◌^◌, All, IfErr, IfOk, List, Ok, OnOk, Some, length};
+ghost use Rattle.dss_circuit.specs.Circuit.{CircuitView, applied, empty_circuit};
+ghost use Rattle.fd_certfile.specs.Verdict.{IsAnswer, accepted};
+ghost use Rattle.fd_sample.specs.Probes.{positions_in};
+ghost use Rattle.fd_xfmr.specs.Leakage.{AreTaps};
+ghost use Rattle.fd_check.specs.Checking.{after, due, no_positions, open_solves};
+ghost use Rattle.fd_check.specs.Comes.{Comes, Leads, Tells};
+ghost use Rattle.fd_check.specs.Commands.{AreAccepted, HasRoom, IsAcceptedBy, behind_one, most_solves, solve_in, solves_in};
+
+use crate::ending::check_end;
+use crate::fault::CheckFault;
+use crate::hours::check_solve;
+use dss_circuit::{Circuit, Command, Verb};
+use fd_certfile::CertReader;
+use fd_devices::{BankStates, Positions, Taps};
+use std::alloc::Global;
+
+/// Checks a certificate over the Solves of a script, whose commands these are in order; and gives the number of its blocks
+/// where it is accepted. Each command was accepted by the circuit that the commands before it made from none, and the
+/// circuit of each Solve passed the tests. The commands are done again one by one, so there is one circuit and one network
+/// at a time.
+///
+/// # Errors
+/// `Refused` at the first rule that the certificate breaks, with the line that it names; `Range` where the network of the
+/// block that is due is out of range, and the blocks before it break no rule; `NoMemory`.
+pub fn check_script(alloc: Global, commands: &[Command], bytes: &[u8]) -> Result<u64, CheckFault>
+    requires accepted { AreAccepted empty_circuit commands.now }
+    requires few { length (solves_in empty_circuit commands.now) ≤ most_solves }
+    ensures accepted { IfOk result (λ count. IsAnswer due after (Some bytes.now) (open_solves (solves_in empty_circuit commands.now) no_positions 0) (accepted count)) }
+    ensures refused { IfErr result (λ fault. Tells fault (IsAnswer due after (Some bytes.now) (open_solves (solves_in empty_circuit commands.now) no_positions 0))) }
+{
+    match CertReader::open(alloc, bytes) {
+        Ok(reader) => {
+            let mut reader = reader;
+            check_commands(alloc, commands, &mut reader)
+        }
+        Err(fault) => Err(CheckFault::from(fault)),
+    }
+}
+
+// Checks what is left of a certificate over these commands.
+fn check_commands(
+    alloc: Global,
+    commands: &[Command],
+    reader: &mut CertReader<'_>,
+) -> Result<u64, CheckFault>
+    requires accepted { AreAccepted empty_circuit commands.now }
+    requires few { length (solves_in empty_circuit commands.now) ≤ most_solves }
+    ensures accepted { IfOk result (λ count. Comes reader.old (open_solves (solves_in empty_circuit commands.now) no_positions 0) (accepted count)) }
+    ensures refused { IfErr result (λ fault. Tells fault (Comes reader.old (open_solves (solves_in empty_circuit commands.now) no_positions 0))) }
+{
+    let mut circuit = Circuit::empty(alloc);
+    let mut at = Positions {
+        taps: Taps::new(Vec::new(alloc)),
+        closed: BankStates::new(Vec::new(alloc)),
+    };
+    let mut settled = 0;
+    for command in commands {
+        if let Err(fault) = check_command(
+            alloc,
+            command,
+            &mut circuit,
+            &mut at,
+            &mut settled,
+            reader,
+        ) {
+            return Err(fault);
+        }
+    }
+    check_end(reader)
+}
+
+// Does a command, and checks the blocks of a Solve.
+fn check_command(
+    alloc: Global,
+    command: &Command,
+    circuit: &mut Circuit,
+    at: &mut Positions,
+    settled: &mut u32,
+    reader: &mut CertReader<'_>,
+) -> Result<(), CheckFault>
+    requires room { HasRoom circuit.old }
+    requires accepted { IsAcceptedBy command.now.verb (applied command.now circuit.old) }
+    requires taps { All AreTaps at.old.taps }
+    requires settles { settled.old + 8761 < 2 ^ 32 }
+    ensures circuit { OnOk result (circuit.new ≡ behind_one command.now circuit.old) }
+    ensures goes { (more : List CircuitView) → OnOk result (Leads reader.old (open_solves (solve_in command.now circuit.old ++ more) (positions_in at.old) settled.old) reader.new (open_solves more (positions_in at.new) settled.new)) }
+    ensures refused { (more : List CircuitView) → IfErr result (λ fault. Tells fault (Comes reader.old (open_solves (solve_in command.now circuit.old ++ more) (positions_in at.old) settled.old))) }
+    ensures taps { All AreTaps at.new.taps }
+    ensures settles { settled.new ≤ settled.old + 8761 * length (solve_in command.now circuit.old) }
+{
+    match circuit.apply(alloc, command) {
+        Ok(()) => match command.verb {
+            Verb::Solve { .. } => check_solve(alloc, circuit, at, settled, reader),
+            Verb::New { .. } | Verb::Edit { .. } | Verb::Set { .. } | Verb::Clear | Verb::Bases => {
+                Ok(())
+            }
+        },
+        Err(_) => Err(CheckFault::NoMemory),
+    }
+}

@@ -1,0 +1,92 @@
+-- What is left to do behind the last command, where a name is asked for there.
+use Rattle.std.proofs.Common.{◌≡◌, ◌∙◌, ℕ, Bool, true, false, List, [], ◌∷◌, ◌++◌, map, Option, Some, None, refl, sym, ap, subst, inl, inr, arith}
+use Rattle.std.proofs.lemmas.List.{append-nil}
+use Rattle.std.proofs.lemmas.List.Elements.{All-cons}
+use Rattle.fd_outside.specs.Causes.{Becomes, Rose}
+use Rattle.fd_outside.proofs.CallerLemmas.{becomes_same}
+use Rattle.dss_values.specs.Names.{bytes}
+use Rattle.fd_report.specs.declared.faults.Fault.{Fault}
+use Rattle.fd_report.specs.declared.faults.Fault.TheVariants as fault
+use Rattle.fd_outcome.specs.Settles.{Settle}
+use Rattle.fd_outcome.specs.Events.{Event, asked, History, before, IfSettle, AllSettles}
+use Rattle.fd_outcome.specs.Calls.{Call, reads, writes, Style, body, opened, fault_text, names_read}
+use Rattle.fd_outcome.specs.Done.{Made, IsDone, read_failing}
+use Rattle.fd_outcome.specs.Behind.{last_calls, AsksNames}
+use Rattle.fd_outcome.specs.Parts.{Finishes, Printed, fault_doing}
+use Rattle.fd_outcome.specs.Way.{whole}
+use Rattle.fd_outcome.proofs.Ways.{done_after, made_after}
+
+-- ---- the calls of events behind a name
+
+module _ (style : Style) (fits : AsksNames style) where
+  body_asked : (n : List ℕ) (es : List Event) → body style (asked n ∷ es) ≡ reads n ∷ body style es
+  body_asked n es =
+      ap (λ (names : List (List ℕ)). (map reads names ++ map writes (style.texts_in (asked n))) ++ body style es) (fits.asks n)
+      ∙ ap (λ (texts : List (List ℕ)). ((reads n ∷ []) ++ map writes texts) ++ body style es) (fits.silent n)
+
+  last_asked : (n : List ℕ) (begun : Bool) (es : List Event) (end : Option Fault) → last_calls style begun (asked n ∷ es) end ≡ reads n ∷ last_calls style begun es end
+  last_asked n true es None = ap (λ (l : List Call). l ++ map writes style.closing) (body_asked n es)
+  last_asked n false es None = ap (λ (l : List Call). opened style.opening (l ++ map writes style.closing)) (body_asked n es)
+  last_asked n true es (Some f) = ap (λ (l : List Call). l ++ writes (fault_text f) ∷ []) (body_asked n es)
+  last_asked n false es (Some f) = ap (λ (l : List Call). opened style.opening l ++ writes (fault_text f) ∷ []) (body_asked n es)
+
+  -- ---- what is done of it
+
+  module _ {L S : Type 0} (faults : L → ℕ) (asked_of : L → Option (List (List ℕ))) (taken : S → Option (List ℕ)) (calls : S → Option ℕ)
+      (good : Settle → Type 0) (P : History → Type 0) (n : List ℕ) (more : History) (is : P (before (asked n ∷ []) more)) (all_good : AllSettles good more.events)
+      (lib_old lib_new : L) (begun : Bool) where
+    abbrev Ends : S → S → ℕ → Type 0
+    Ends old new code = Finishes style good P faults asked_of taken calls lib_old lib_new old new begun code
+
+    grown_by : (m : Made) → names_read m.calls ≡ [] → Becomes (asked_of lib_old) (asked_of lib_new) (λ ns. ns ++ bytes n ∷ []) → Becomes (asked_of lib_old) (asked_of lib_new) (λ ns. ns ++ names_read (reads n ∷ m.calls))
+    grown_by m none grown = grown_as (asked_of lib_old) (asked_of lib_new) grown
+      where
+        grown_as : (a b : Option (List (List ℕ))) → Becomes a b (λ ns. ns ++ bytes n ∷ []) → Becomes a b (λ ns. ns ++ names_read (reads n ∷ m.calls))
+        grown_as None b h = tt
+        grown_as (Some ns) b h = h ∙ ap (λ (l : List (List ℕ)). Some (ns ++ bytes n ∷ l)) (sym none)
+
+    -- what comes behind the name is printed
+    pub finishes_asked : (old new : S) (code : ℕ) → Becomes (asked_of lib_old) (asked_of lib_new) (λ ns. ns ++ bytes n ∷ [])
+        → Printed taken calls old new (record { calls = last_calls style begun more.events more.end; end = more.end }) code → Ends old new code
+    finishes_asked old new code grown p = record {
+      history = before (asked n ∷ []) more;
+      right = is;
+      fails = None;
+      cause = inl refl;
+      made = made_after (reads n ∷ []) p.made;
+      done = done_after (reads n ∷ []) (last_calls style begun more.events more.end) (last_calls style begun (asked n ∷ more.events) more.end) more.end code p.made (last_asked n begun more.events more.end) p.done;
+      all_good = All-cons (IfSettle good) (asked n) more.events tt all_good;
+      sees = record { names = grown_by p.made p.wrote.names grown; bytes = p.wrote.bytes_are; writes = p.wrote.writes_are };
+    }
+
+    -- memory runs out before the name is asked
+    pub finishes_short : (out : S) → Becomes (asked_of lib_old) (asked_of lib_new) (λ ns. ns ++ []) → Ends out out 1
+    finishes_short out same = record {
+      history = before (asked n ∷ []) more;
+      right = is;
+      fails = None;
+      cause = inl refl;
+      made = whole [];
+      done = inr (inl (record { rest = last_calls style begun (asked n ∷ more.events) more.end; calls = refl; torn = refl; status_is = refl }));
+      all_good = All-cons (IfSettle good) (asked n) more.events tt all_good;
+      sees = record {
+        names = same;
+        bytes = becomes_same (taken out) _ (λ bs. sym (append-nil bs));
+        writes = becomes_same (calls out) _ (λ k. omega arith);
+      };
+    }
+
+    -- the read of the file fails
+    pub finishes_unread : (old new : S) (code : ℕ) → Becomes (asked_of lib_old) (asked_of lib_new) (λ ns. ns ++ bytes n ∷ []) → Rose (faults lib_old) (faults lib_new)
+        → Printed taken calls old new (fault_doing (fault.Read n)) code → Ends old new code
+    finishes_unread old new code grown rose p = record {
+      history = before (asked n ∷ []) more;
+      right = is;
+      fails = Some 0;
+      cause = inr rose;
+      made = made_after (reads n ∷ []) p.made;
+      done = subst (λ (l : List Call). IsDone (read_failing 0 l more.end) code (made_after (reads n ∷ []) p.made)) (sym (last_asked n begun more.events more.end))
+          (done_after (reads n ∷ []) (writes (fault_text (fault.Read n)) ∷ []) (reads n ∷ writes (fault_text (fault.Read n)) ∷ []) (Some (fault.Read n)) code p.made refl p.done);
+      all_good = All-cons (IfSettle good) (asked n) more.events tt all_good;
+      sees = record { names = grown_by p.made p.wrote.names grown; bytes = p.wrote.bytes_are; writes = p.wrote.writes_are };
+    }
