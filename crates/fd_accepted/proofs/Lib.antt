@@ -1,0 +1,7 @@
+mod Points
+mod Claims
+mod Settles
+mod Texts
+mod Solves
+mod Scripts
+mod Runs

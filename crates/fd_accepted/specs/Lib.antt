@@ -1,0 +1,3 @@
+pub mod Solves
+pub mod Printed
+pub mod Laws

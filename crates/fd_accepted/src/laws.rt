@@ -1,0 +1,29 @@
+// What `cert` writes is accepted.
+ghost use Rattle.fd_accepted.specs.Laws.{CertLaw, WrittenLaw};
+
+use dss_ready::passed_law;
+use fd_app::forms_law;
+use fd_certfile::{certificate_law, rule_law};
+use fd_outcome::{read_law, status_law};
+use fd_outside::{Library, Sink};
+
+/// A law: where the history of a script's commands ends without a fault, the bytes that it is printed as in a
+/// certificate are accepted for the Solves of that script, with a block for each round. Does nothing.
+#[tactic(auto, using(crate::proofs::Scripts::cert_is_accepted))]
+pub fn cert_law()
+    ensures { CertLaw }
+{
+    rule_law();
+    certificate_law();
+    passed_law();
+}
+
+/// A law: where a run of `cert` answers 0, what it wrote is accepted for the Solves of its script. Does nothing.
+pub fn written_law<L: Library, S: Sink>()
+    ensures { WrittenLaw L.faults L.asked S.taken S.calls }
+{
+    cert_law();
+    forms_law();
+    status_law();
+    read_law();
+}
