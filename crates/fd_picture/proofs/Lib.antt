@@ -1,0 +1,10 @@
+mod Appends
+mod DotSteps
+mod LastBases
+mod LineSteps
+mod Marking
+mod Powers
+mod ReadSteps
+mod Records
+mod Steps
+mod Utf8

@@ -1,0 +1,8 @@
+use Rattle.std.proofs.Common.{◌∙◌, append_assoc, refl}
+use Rattle.fd_picture.specs.Pages.{bars_text}
+use Rattle.fd_picture.proofs.Appends.{on_ok}
+use Rattle.fd_picture.proofs.page.push_bars.Goals as goal
+
+pub returns : goal.returns
+unfolding bars_text
+returns c = on_ok c.push-2.result (λ added. added ∙ rw (c.in_ok-push.ensures) (simp append_assoc refl)) c.push-2.ensures

@@ -1,0 +1,28 @@
+-- The marks of a panel: one for each node.
+use Rattle.std.specs.Prelude.{◌≡◌, ◌<◌, ℕ, ◌+◌, ◌-◌, ◌*◌, ◌==◌, ◌&&◌, ◌||◌, nat_lt, max, Bool, List, [], ◌∷◌, ◌++◌, length, Some, slice_get, if◌then◌else◌}
+use Rattle.fd_picture.specs.Scales.{axis_of, level}
+use Rattle.fd_picture.specs.Units.{is_per_unit, span_of}
+use Rattle.fd_picture.specs.declared.marks.Mark.{Mark}
+use Rattle.fd_picture.specs.declared.marks.Shape.{Shape}
+use Rattle.fd_picture.specs.declared.marks.Shape.TheVariants as shape
+use Rattle.fd_picture.specs.declared.report.Base.{Base}
+use Rattle.fd_picture.specs.declared.report.Node.{Node}
+use Rattle.fd_picture.specs.declared.units.Span.{Span}
+
+-- the phases are told apart by shapes
+abbrev pub shape_of : ℕ → Shape
+shape_of number = if number == 1 then shape.Triangle else if number == 2 then shape.Square else if number == 3 then shape.Circle else shape.Diamond
+
+-- a voltage per unit that isn't within 0.95 to 1.05
+abbrev pub is_outside : Bool → Span → Bool
+is_outside per_unit span = per_unit && (nat_lt span.low 950_000 || nat_lt 1_050_000 span.high)
+
+-- the mark of the node at a place of its panel: from the level of its high down to that of its low, and at least one unit high
+unfoldable pub mark_of : Span → Bool → ℕ → Node → Span → Mark
+mark_of axis per_unit place node span = record {
+  across = 110 + 20 * place;
+  top = level axis span.high;
+  height = max (level axis span.low - level axis span.high) 1;
+  shape = shape_of node.number;
+  is_outside = is_outside per_unit span;
+}

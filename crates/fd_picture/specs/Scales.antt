@@ -1,0 +1,51 @@
+-- The axis of a panel, and the place of a voltage on it.
+use Rattle.std.specs.Int.{div_ceil}
+use Rattle.std.specs.Prelude.{ℕ, zero, suc, ◌+◌, ◌-◌, ◌*◌, ◌/◌, ◌^◌, ◌==◌, nat_lt, nat_le, min, max, Bool, List, [], ◌∷◌, fold, Option, Some, None, if◌then◌else◌}
+use Rattle.fd_picture.specs.Units.{span_of}
+use Rattle.fd_picture.specs.declared.report.Base.{Base}
+use Rattle.fd_picture.specs.declared.report.Node.{Node}
+use Rattle.fd_picture.specs.declared.units.Span.{Span}
+
+abbrev pub widened : Span → Span → Span
+widened axis span = record { low = min axis.low span.low; high = max axis.high span.high }
+
+-- from the least low to the greatest high of these nodes
+unfoldable pub axis_of : List Base → Bool → List Node → Span
+axis_of bases per_unit [] = record { low = 0; high = 0 }
+axis_of bases per_unit (node ∷ nodes) = fold (λ axis n. widened axis (span_of bases per_unit n)) (span_of bases per_unit node) nodes
+
+-- how far above the low end of an axis a voltage stands, where the axis is 220 units of the page high: rounded down, once
+unfoldable pub place : Span → ℕ → ℕ
+place axis value = (value - axis.low) * 220 / max (axis.high - axis.low) 1
+
+-- where it stands below the top of its panel
+abbrev pub level : Span → ℕ → ℕ
+level axis value = 256 - place axis value
+
+-- the least of one, two and five times a power of ten that is above a fifth of a range, if one is
+abbrev pub step_in : ℕ → ℕ → Option ℕ
+step_in decade range =
+    if nat_lt (range / 5) (10 ^ decade) then Some (10 ^ decade)
+    else if nat_lt (range / 5) (10 ^ decade * 2) then Some (10 ^ decade * 2)
+    else if nat_lt (range / 5) (10 ^ decade * 5) then Some (10 ^ decade * 5)
+    else None
+
+abbrev pub step_or : Option ℕ → ℕ → ℕ
+step_or None next = next
+step_or (Some step) next = step
+
+-- the same from a power on, of so many powers
+abbrev pub step_from : ℕ → ℕ → ℕ → ℕ
+step_from zero decade range = 10_000_000_000_000_000_000
+step_from (suc more) decade range = step_or (step_in decade range) (step_from more (decade + 1) range)
+
+-- the distance of the lines of an axis over a range
+unfoldable pub step_for : ℕ → ℕ
+step_for range = step_from 19 0 range
+
+-- the k-th multiple of a step from the low end of an axis on, where it is within the axis
+unfoldable pub tick_value : Span → ℕ → ℕ → Option ℕ
+tick_value axis step k =
+    if step == 0 then None
+    else if nat_le ((div_ceil axis.low step + k) * step) axis.high then Some ((div_ceil axis.low step + k) * step)
+    else None

@@ -1,0 +1,409 @@
+// What a record makes of a report that is read.
+ghost use Rattle.std.specs.Prelude.{◌≡◌, ◌<◌, ◌&&◌, ◌==◌, ◌++◌, ◌∷◌, [], IfOk, IfSome, OnOk, length, nat_lt, option_map, option_to_list};
+ghost use Rattle.csv.specs.Records.{fields_of};
+ghost use Rattle.fd_picture.specs.Drafts.{DraftView, empty_draft};
+ghost use Rattle.fd_picture.specs.Fields.{at as field_at};
+ghost use Rattle.fd_picture.specs.Numbers.{before_dot, behind_dot};
+ghost use Rattle.fd_picture.specs.Reading.{CountGives, Gives, NodeGives, act_to, bank_to, base_to, bare_node, counted, counts, fault_to, finished, has_act_form, has_branch_form, has_magnitude_form, has_node_form, is_kind, kept_panels, node_in, node_to, other_record, passed_over, record_to, row_to, solution_to, tap_to, with_entry, with_node};
+ghost use Rattle.fd_picture.specs.declared.fault.Cause.TheVariants as cause;
+ghost use Rattle.fd_picture.specs.declared.report.Entry.{Entry};
+ghost use Rattle.fd_picture.specs.declared.report.Node.{Node};
+ghost use Rattle.fd_picture.specs.declared.report.Panel.{Panel};
+
+use crate::fault::{Cause, Stop};
+use crate::fields::{at, spaced};
+use crate::numbers::{
+    decimal, is_bank_position, is_name, is_position, is_same, is_signed, is_size, is_steps, is_tap,
+    is_text, is_time, whole,
+};
+use crate::report::{Base, Draft, Entry, Kind, Node, Nodes, Panel, Report};
+use csv::ByteRecord;
+use fd_outside::Bytes;
+use std::alloc::{AllocError, Global};
+
+fn copied(alloc: Global, text: &[u8]) -> Result<Bytes, AllocError>
+    ensures { IfOk result (λ bytes. bytes ≡ text.now) }
+{
+    Ok(Bytes::new(Vec::from_slice(alloc, text)?))
+}
+
+// The bytes before the first point, and those behind it.
+fn at_dot(name: &[u8]) -> (&[u8], &[u8])
+    ensures bus { result.0.now ≡ before_dot name.now }
+    ensures node { result.1.now ≡ behind_dot name.now }
+{
+    for i in 0..name.len() {
+        if name[i] == b'.' {
+            return (&name[..i], &name[i + 1..]);
+        }
+    }
+    (name, &[])
+}
+
+// A node without the form of its other fields.
+fn bare_node(alloc: Global, row: &ByteRecord) -> Result<Option<Node>, AllocError>
+    ensures { IfOk result (λ node. node ≡ bare_node (fields_of row.now)) }
+{
+    let (bus, number) = at_dot(at(row, 1));
+    match (
+        whole(number),
+        decimal(6, at(row, 6)),
+        decimal(6, at(row, 7)),
+    ) {
+        (Some(number), Some(low), Some(high)) if is_name(bus) => Ok(Some(Node {
+            bus: copied(alloc, bus)?,
+            number,
+            low,
+            high,
+        })),
+        _ => Ok(None),
+    }
+}
+
+fn has_node_form(row: &ByteRecord) -> bool
+    ensures { result ≡ has_node_form (fields_of row.now) }
+{
+    is_signed(at(row, 2))
+        && is_signed(at(row, 3))
+        && is_size(at(row, 4))
+        && is_size(at(row, 5))
+        && is_size(at(row, 8))
+        && is_size(at(row, 9))
+}
+
+#[tactic(auto, unfolding(crate::specs::Reading::node_in))]
+fn node_in(alloc: Global, row: &ByteRecord) -> Result<Option<Node>, AllocError>
+    ensures { IfOk result (λ node. node ≡ node_in (fields_of row.now)) }
+{
+    if has_node_form(row) {
+        bare_node(alloc, row)
+    } else {
+        Ok(None)
+    }
+}
+
+#[tactic(auto, unfolding(crate::specs::Reading::has_branch_form))]
+fn has_branch_form(row: &ByteRecord) -> bool
+    ensures { result ≡ has_branch_form (fields_of row.now) }
+{
+    is_name(at(row, 1))
+        && whole(at(row, 2)).is_some()
+        && is_signed(at(row, 3))
+        && is_signed(at(row, 4))
+        && is_size(at(row, 5))
+        && is_size(at(row, 6))
+        && is_size(at(row, 7))
+}
+
+#[tactic(auto, unfolding(crate::specs::Reading::has_magnitude_form))]
+fn has_magnitude_form(row: &ByteRecord) -> bool
+    ensures { result ≡ has_magnitude_form (fields_of row.now) }
+{
+    is_name(at(row, 1))
+        && whole(at(row, 2)).is_some()
+        && is_signed(at(row, 3))
+        && is_size(at(row, 4))
+        && is_size(at(row, 5))
+        && is_size(at(row, 6))
+}
+
+#[tactic(auto, unfolding(crate::specs::Reading::has_act_form))]
+fn has_act_form(row: &ByteRecord) -> bool
+    ensures { result ≡ has_act_form (fields_of row.now) }
+{
+    is_time(at(row, 1)) && is_name(at(row, 2)) && is_steps(at(row, 3)) && is_position(at(row, 4))
+}
+
+// The panels that the next round doesn't replace: those of other settles and hours.
+fn kept_panels(
+    done: Vec<Panel>,
+    current: Option<Panel>,
+    settle: u64,
+    hour: u64,
+) -> Result<Vec<Panel>, AllocError>
+    ensures { IfOk result (λ panels. panels.items ≡ kept_panels done.items current settle hour) }
+{
+    let mut panels = done;
+    if let Some(last) = current {
+        let is_same = last.settle == settle && last.hour == hour;
+        if !is_same {
+            panels.push(last)?;
+        }
+    }
+    Ok(panels)
+}
+
+fn solution_to(alloc: Global, draft: Draft, row: &ByteRecord) -> Result<Draft, Stop>
+    ensures { Gives result (solution_to draft (fields_of row.now)) }
+{
+    let mut draft = draft;
+    match (whole(at(row, 1)), whole(at(row, 2)), whole(at(row, 3))) {
+        (Some(settle), Some(hour), Some(round)) => {
+            let last = draft.current.take();
+            draft.done = kept_panels(draft.done, last, settle, hour)?;
+            draft.current = Some(Panel {
+                settle,
+                hour,
+                round,
+                nodes: Nodes::new(alloc),
+            });
+            Ok(draft)
+        }
+        _ => Err(Stop::Refused(Cause::BadField)),
+    }
+}
+
+// A panel with one node more.
+fn with_node(panel: Panel, node: Option<Node>) -> Result<Panel, Stop>
+    ensures { NodeGives result (with_node panel node) }
+{
+    let Some(node) = node else {
+        return Err(Stop::Refused(Cause::BadField));
+    };
+    if node.high < node.low {
+        return Err(Stop::Refused(Cause::LowAboveHigh));
+    }
+    let mut panel = panel;
+    panel.nodes.push(node)?;
+    Ok(panel)
+}
+
+fn node_to(alloc: Global, draft: Draft, row: &ByteRecord) -> Result<Draft, Stop>
+    ensures { Gives result (node_to draft (fields_of row.now)) }
+{
+    let mut draft = draft;
+    let Some(panel) = draft.current.take() else {
+        return Err(Stop::Refused(Cause::NoSolution));
+    };
+    let node = node_in(alloc, row)?;
+    draft.current = Some(with_node(panel, node)?);
+    Ok(draft)
+}
+
+fn passed_over(draft: Draft, form: bool) -> Result<Draft, Stop>
+    ensures { Gives result (passed_over draft form) }
+{
+    if draft.current.is_none() {
+        return Err(Stop::Refused(Cause::NoSolution));
+    }
+    if form {
+        Ok(draft)
+    } else {
+        Err(Stop::Refused(Cause::BadField))
+    }
+}
+
+// The settle and the hour of the panel that is open.
+fn place_of(draft: &Draft) -> Option<(u64, u64)>
+    ensures { result ≡ option_map (λ panel. (panel.settle, panel.hour)) draft.now.current }
+{
+    match &draft.current {
+        Some(panel) => Some((panel.settle, panel.hour)),
+        None => None,
+    }
+}
+
+fn with_entry(draft: Draft, form: bool, entry: Entry) -> Result<Draft, Stop>
+    ensures { Gives result (with_entry draft form entry) }
+{
+    if !form {
+        return Err(Stop::Refused(Cause::BadField));
+    }
+    let mut draft = draft;
+    draft.entries.push(entry)?;
+    Ok(draft)
+}
+
+fn act_to(alloc: Global, draft: Draft, row: &ByteRecord) -> Result<Draft, Stop>
+    ensures { Gives result (act_to draft (fields_of row.now)) }
+{
+    let Some((settle, hour)) = place_of(&draft) else {
+        return Err(Stop::Refused(Cause::NoSolution));
+    };
+    let entry = Entry {
+        settle,
+        hour,
+        kind: Kind::Act,
+        time: copied(alloc, at(row, 1))?,
+        element: copied(alloc, at(row, 2))?,
+        steps: copied(alloc, at(row, 3))?,
+        position: copied(alloc, at(row, 4))?,
+    };
+    with_entry(draft, has_act_form(row), entry)
+}
+
+// The row of the table of a tap or a bank.
+fn position_entry(
+    alloc: Global,
+    settle: u64,
+    hour: u64,
+    kind: Kind,
+    row: &ByteRecord,
+) -> Result<Entry, AllocError>
+    ensures { IfOk result (λ entry. entry ≡ record { settle = settle; hour = hour; kind = kind; time = []; element = field_at (fields_of row.now) 1; steps = []; position = field_at (fields_of row.now) 2 }) }
+{
+    Ok(Entry {
+        settle,
+        hour,
+        kind,
+        time: copied(alloc, b"")?,
+        element: copied(alloc, at(row, 1))?,
+        steps: copied(alloc, b"")?,
+        position: copied(alloc, at(row, 2))?,
+    })
+}
+
+fn tap_to(alloc: Global, draft: Draft, row: &ByteRecord) -> Result<Draft, Stop>
+    ensures { Gives result (tap_to draft (fields_of row.now)) }
+{
+    let Some((settle, hour)) = place_of(&draft) else {
+        return Err(Stop::Refused(Cause::NoSolution));
+    };
+    let entry = position_entry(alloc, settle, hour, Kind::Tap, row)?;
+    with_entry(draft, is_name(at(row, 1)) && is_tap(at(row, 2)), entry)
+}
+
+fn bank_to(alloc: Global, draft: Draft, row: &ByteRecord) -> Result<Draft, Stop>
+    ensures { Gives result (bank_to draft (fields_of row.now)) }
+{
+    let Some((settle, hour)) = place_of(&draft) else {
+        return Err(Stop::Refused(Cause::NoSolution));
+    };
+    let entry = position_entry(alloc, settle, hour, Kind::Bank, row)?;
+    with_entry(
+        draft,
+        is_name(at(row, 1)) && is_bank_position(at(row, 2)),
+        entry,
+    )
+}
+
+fn base_to(alloc: Global, draft: Draft, row: &ByteRecord) -> Result<Draft, Stop>
+    ensures { Gives result (base_to draft (fields_of row.now)) }
+{
+    let Some(micro_kilovolts) = decimal(6, at(row, 2)) else {
+        return Err(Stop::Refused(Cause::BadField));
+    };
+    if !is_name(at(row, 1)) || micro_kilovolts == 0 {
+        return Err(Stop::Refused(Cause::BadField));
+    }
+    let bus = copied(alloc, at(row, 1))?;
+    let mut draft = draft;
+    draft.bases.push(Base {
+        bus,
+        micro_kilovolts,
+    })?;
+    Ok(draft)
+}
+
+fn fault_to(alloc: Global, draft: Draft, row: &ByteRecord) -> Result<Draft, Stop>
+    ensures { Gives result (fault_to draft (fields_of row.now)) }
+{
+    let text = spaced(alloc, row)?;
+    if !is_text(&text) {
+        return Err(Stop::Refused(Cause::BadField));
+    }
+    let mut draft = draft;
+    draft.fault = Some(Bytes::new(text));
+    Ok(draft)
+}
+
+fn counted(right: bool) -> Result<(), Stop>
+    ensures { CountGives result right }
+{
+    if right {
+        Ok(())
+    } else {
+        Err(Stop::Refused(Cause::FieldCount))
+    }
+}
+
+fn is_kind(row: &ByteRecord, name: &[u8]) -> bool
+    ensures { result ≡ is_kind (fields_of row.now) name.now }
+{
+    is_same(at(row, 0), name)
+}
+
+#[tactic(auto, unfolding(crate::specs::Reading::other_record))]
+fn other_record(alloc: Global, draft: Draft, row: &ByteRecord) -> Result<Draft, Stop>
+    ensures { Gives result (other_record draft (fields_of row.now)) }
+{
+    if is_kind(row, b"act") {
+        counted(row.len() == 5)?;
+        act_to(alloc, draft, row)
+    } else if is_kind(row, b"tap") {
+        counted(row.len() == 3)?;
+        tap_to(alloc, draft, row)
+    } else if is_kind(row, b"bank") {
+        counted(row.len() == 3)?;
+        bank_to(alloc, draft, row)
+    } else if is_kind(row, b"base") {
+        counted(row.len() == 3)?;
+        base_to(alloc, draft, row)
+    } else if is_kind(row, b"fault") {
+        counted(row.len() > 1)?;
+        fault_to(alloc, draft, row)
+    } else {
+        Err(Stop::Refused(Cause::UnknownRecord))
+    }
+}
+
+#[tactic(auto, unfolding(crate::specs::Reading::record_to))]
+fn record_to(alloc: Global, draft: Draft, row: &ByteRecord) -> Result<Draft, Stop>
+    ensures { Gives result (record_to draft (fields_of row.now)) }
+{
+    if is_kind(row, b"solution") {
+        counted(row.len() == 4)?;
+        solution_to(alloc, draft, row)
+    } else if is_kind(row, b"node") {
+        counted(row.len() == 10)?;
+        node_to(alloc, draft, row)
+    } else if is_kind(row, b"branch") {
+        counted(row.len() == 8)?;
+        passed_over(draft, has_branch_form(row))
+    } else if is_kind(row, b"magnitude") {
+        counted(row.len() == 7)?;
+        passed_over(draft, has_magnitude_form(row))
+    } else {
+        other_record(alloc, draft, row)
+    }
+}
+
+/// A draft with a record behind its own.
+#[tactic(auto, unfolding(crate::specs::Reading::row_to))]
+pub(crate) fn row_to(alloc: Global, draft: Draft, row: &ByteRecord) -> Result<Draft, Stop>
+    ensures { Gives result (row_to draft (fields_of row.now)) }
+{
+    if draft.fault.is_some() {
+        return Err(Stop::Refused(Cause::BehindFault));
+    }
+    record_to(alloc, draft, row)
+}
+
+/// A draft of no records.
+pub(crate) fn empty_draft(alloc: Global) -> Draft
+    ensures { result ≡ empty_draft }
+{
+    Draft {
+        done: Vec::new(alloc),
+        current: None,
+        entries: Vec::new(alloc),
+        bases: Vec::new(alloc),
+        fault: None,
+    }
+}
+
+/// The report of a draft behind its last record.
+pub(crate) fn finished(draft: Draft) -> Result<Report, AllocError>
+    ensures { IfOk result (λ report. report ≡ finished draft) }
+{
+    let mut draft = draft;
+    if let Some(last) = draft.current.take() {
+        draft.done.push(last)?;
+    }
+    Ok(Report {
+        panels: draft.done,
+        entries: draft.entries,
+        bases: draft.bases,
+        fault: draft.fault,
+    })
+}

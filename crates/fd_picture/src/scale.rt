@@ -1,0 +1,109 @@
+// The axis of a panel, and the place of a voltage on it.
+ghost use Rattle.std.specs.Prelude.{◌≡◌, ◌<◌, ◌≤◌, ◌^◌, ◌/◌, ◌*◌};
+ghost use Rattle.fd_picture.specs.Scales.{axis_of, level, place, step_for, step_in, tick_value, widened};
+
+use crate::report::Node;
+use crate::units::{BaseTable, Span, span_of};
+
+/// The height of an axis, in units of the page.
+const PLOT_HEIGHT: u128 = 220;
+/// Where the low end of an axis stands below the top of its panel.
+const PLOT_BOTTOM: u128 = 256;
+
+// The span from the lower low to the higher high.
+fn widened(axis: Span, span: Span) -> Span
+    ensures { result ≡ widened axis span }
+{
+    Span {
+        low: axis.low.min(span.low),
+        high: axis.high.max(span.high),
+    }
+}
+
+/// The axis of a panel: from the least low to the greatest high of its nodes.
+#[tactic(auto, unfolding(crate::specs::Scales::axis_of))]
+pub(crate) fn axis_of(bases: &BaseTable, per_unit: bool, nodes: &[Node]) -> Span
+    ensures { result ≡ axis_of bases.now per_unit nodes.now }
+{
+    let Some((first, rest)) = nodes.split_first() else {
+        return Span { low: 0, high: 0 };
+    };
+    let mut axis = span_of(bases, per_unit, first);
+    for node in rest {
+        axis = widened(axis, span_of(bases, per_unit, node));
+    }
+    axis
+}
+
+// How far above the low end of the axis a voltage stands, in units of the page, rounded down.
+#[tactic(auto, unfolding(crate::specs::Scales::place))]
+fn place(axis: Span, value: u64) -> u128
+    ensures { result ≡ place axis value }
+{
+    let range = u128::from(axis.high.saturating_sub(axis.low).max(1));
+    u128::from(value.saturating_sub(axis.low)) * PLOT_HEIGHT / range
+}
+
+/// Where a voltage stands below the top of its panel, in units of the page.
+pub(crate) fn level(axis: Span, value: u64) -> u128
+    ensures value { result ≡ level axis value }
+    ensures small { result ≤ 256 }
+{
+    PLOT_BOTTOM.saturating_sub(place(axis, value))
+}
+
+// A power of ten.
+fn power(decade: u32) -> u64
+    requires { decade ≤ 18 }
+    ensures value { result ≡ 10 ^ decade }
+    ensures most { result ≤ 10 ^ 18 }
+{
+    10u64.pow(decade)
+}
+
+// The least of one, two and five times a power of ten that is above a fifth of the range, if one is.
+fn step_in(decade: u32, range: u64) -> Option<u64>
+    requires { decade ≤ 18 }
+    ensures { result ≡ step_in decade range }
+{
+    let unit = power(decade);
+    if range / 5 < unit {
+        Some(unit)
+    } else if range / 5 < unit * 2 {
+        Some(unit * 2)
+    } else if range / 5 < unit * 5 {
+        Some(unit * 5)
+    } else {
+        None
+    }
+}
+
+/// The distance of the lines of an axis: the least of one, two and five times a power of ten that is above a fifth of
+/// the range.
+pub(crate) fn step_for(range: u64) -> u64
+    ensures { result ≡ step_for range }
+{
+    for decade in 0..19 {
+        if let Some(step) = step_in(decade, range) {
+            return step;
+        }
+    }
+    10_000_000_000_000_000_000
+}
+
+/// The k-th multiple of a step from the low end of an axis on, where it is within the axis.
+#[tactic(auto, unfolding(crate::specs::Scales::tick_value))]
+pub(crate) fn tick_value(axis: Span, step: u64, k: u64) -> Option<u64>
+    ensures { result ≡ tick_value axis step k }
+{
+    if step == 0 {
+        return None;
+    }
+    let number = u128::from(axis.low.div_ceil(step)) + u128::from(k);
+    let value = number * u128::from(step);
+    if value <= u128::from(axis.high) {
+        Some(value as u64)
+    } else {
+        None
+    }
+}
