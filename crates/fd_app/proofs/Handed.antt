@@ -28,6 +28,9 @@ use Rattle.fd_app.specs.declared.answer.Answer.{Answer}
 use Rattle.fd_app.specs.declared.answer.Answer.TheVariants as answer
 use Rattle.fd_app.specs.Headline.{IsSolved}
 use Rattle.fd_app.specs.Steps.{StandingView, changes, standing}
+use Rattle.fd_app.specs.Bench.{tally_of}
+use Rattle.fd_app.specs.Benching.{GoesOnTallied}
+use Rattle.fd_app.specs.declared.tally.Tally.{Tally}
 
 -- ---- statuses of a command's faults
 
@@ -148,16 +151,26 @@ module _ {S : Type 0} (taken : S → Option (List ℕ)) (calls : S → Option �
   pub printed_cut : (old new : S) (all : List Call) (end : Option Fault) (code : ℕ) → IsCutIn taken calls old new all code → Printed taken calls old new (record { calls = all; end = end }) code
   printed_cut old new all end code c = record { made = c.made; done = inr c.front; wrote = c.wrote }
 
+  -- the same calls
+  pub printed_as : (old new : S) (a all : List Call) (end : Option Fault) (code : ℕ) → a ≡ all → Printed taken calls old new (record { calls = a; end = end }) code → Printed taken calls old new (record { calls = all; end = end }) code
+  printed_as old new a all end code same p = subst (λ l. Printed taken calls old new (record { calls = l; end = end }) code) same p
+
 -- ---- what a command does
 
 module _ {T S : Type 0} (style : Style) (is_step : Step T → Type 0) (taken : S → Option (List ℕ)) (calls : S → Option ℕ) where
-  pub goes_changed : (now : T) (out : S) (begun : Bool) → is_step (goes [] now) → GoesOn style IsSolved is_step now taken calls out out begun begun
-  goes_changed now out begun is = record {
+  abbrev pub goes_silent : (now : T) (out : S) (begun : Bool) → is_step (goes [] now) → GoesOn style IsSolved is_step now taken calls out out begun begun
+  goes_silent now out begun is = record {
     events = [];
     right = is;
     all_good = All-nil (IfSettle IsSolved);
     wrote = subst (λ l. Wrote taken calls out out (whole l)) (sym (nothing_behind style begun)) (wrote_nothing taken calls out);
     begun_is = sym (or_false begun);
+  }
+
+  pub goes_changed : (now : T) (out : S) (begun : Bool) (t : Tally) → is_step (goes [] now) → GoesOnTallied style is_step now taken calls out out begun begun t t
+  goes_changed now out begun t is = record {
+    on = goes_silent now out begun is;
+    added = refl;
   }
 
   -- the fault's record stands alone where nothing is printed before it
@@ -198,9 +211,14 @@ pub bases_good : (bases : List BusBase) → AllSettles IsSolved (map (λ b. row 
 bases_good [] = All-nil (IfSettle IsSolved)
 bases_good (b ∷ bases) = All-cons (IfSettle IsSolved) (row (base_fields b.bus b.kv)) (map (λ x. row (base_fields x.bus x.kv)) bases) tt (bases_good bases)
 
+-- bases are no rounds
+pub bases_tally : (t : Tally) (bases : List BusBase) → t ≡ tally_of t (map (λ b. row (base_fields b.bus b.kv)) bases)
+bases_tally t [] = refl
+bases_tally t (b ∷ bases) = bases_tally t bases
+
 module _ {S : Type 0} (style : Style) (is_step : Step StandingView → Type 0) (taken : S → Option (List ℕ)) (calls : S → Option ℕ) (now : StandingView) (events : List Event) (good : AllSettles IsSolved events) (is : is_step (goes events now)) where
-  pub goes_printed : (old new : S) (begun after : Bool) → Wrote taken calls old new (whole (behind style begun events)) → after ≡ (begun || has_text (body style events)) → GoesOn style IsSolved is_step now taken calls old new begun after
-  goes_printed old new begun after wrote begun_is = record { events = events; right = is; all_good = good; wrote = wrote; begun_is = begun_is }
+  pub goes_printed : (old new : S) (begun after : Bool) → Wrote taken calls old new (whole (behind style begun events)) → after ≡ (begun || has_text (body style events)) → (t : Tally) → t ≡ tally_of t events → GoesOnTallied style is_step now taken calls old new begun after t t
+  goes_printed old new begun after wrote begun_is t none = record { on = record { events = events; right = is; all_good = good; wrote = wrote; begun_is = begun_is }; added = none }
 
   pub ends_cut : (old new : S) (begun : Bool) (code : ℕ) → IsCutIn taken calls old new (behind style begun events) code → EndsAt style IsSolved is_step taken calls old new begun code
   ends_cut old new begun code cut = record {
@@ -218,8 +236,11 @@ module _ {S : Type 0} (style : Style) (is_step : Step StandingView → Type 0) (
 -- ---- another step of the same events
 
 module _ {S : Type 0} (style : Style) (taken : S → Option (List ℕ)) (calls : S → Option ℕ) (P Q : Step StandingView → Type 0) (weaker : (step : Step StandingView) → P step → Q step) where
-  pub goes_as : (now : StandingView) (old new : S) (begun after : Bool) → GoesOn style IsSolved P now taken calls old new begun after → GoesOn style IsSolved Q now taken calls old new begun after
-  goes_as now old new begun after h = record { events = h.events; right = weaker (goes h.events now) h.right; all_good = h.all_good; wrote = h.wrote; begun_is = h.begun_is }
+  pub tallied_as : (now : StandingView) (old new : S) (begun after : Bool) (t u : Tally) → GoesOnTallied style P now taken calls old new begun after t u → GoesOnTallied style Q now taken calls old new begun after t u
+  tallied_as now old new begun after t u h = record {
+    on = record { events = h.on.events; right = weaker (goes h.on.events now) h.on.right; all_good = h.on.all_good; wrote = h.on.wrote; begun_is = h.on.begun_is };
+    added = h.added;
+  }
 
   pub ends_as : (old new : S) (begun : Bool) (code : ℕ) → EndsAt style IsSolved P taken calls old new begun code → EndsAt style IsSolved Q taken calls old new begun code
   ends_as old new begun code h = record {

@@ -5,6 +5,7 @@ use Rattle.std.specs.List.{range_with_len}
 use Rattle.std.specs.Option.{unwrap_or}
 use Rattle.std.proofs.lemmas.List.{append_assoc, append-nil}
 use Rattle.std.proofs.lemmas.List.Elements.{All-nil, All-cons, All-append}
+use Rattle.std.proofs.lemmas.List.Sums.{fold-append}
 use Rattle.dss_profile.specs.declared.command.Blame.{Blame}
 use Rattle.dss_circuit.specs.Circuit.{CircuitView}
 use Rattle.fd_daily.specs.Day.{DayView, IsDayOf, hour_in, hours_left}
@@ -20,17 +21,20 @@ use Rattle.fd_outcome.specs.Behind.{behind, has_text}
 use Rattle.fd_outcome.specs.Calls.{Call, Style, body, calls_in, fault_text, opened, reads, writes}
 use Rattle.fd_outcome.specs.Done.{IsDone, IsFrontOf}
 use Rattle.fd_outcome.specs.Events.{AllSettles, Event, IfSettle, settle}
-use Rattle.fd_outcome.specs.Parts.{EndsAt, GoesOn, IsCutIn, Printed, Wrote, events_in, fault_doing}
+use Rattle.fd_outcome.specs.Parts.{EndsAt, IsCutIn, Printed, Wrote, events_in, fault_doing}
 use Rattle.fd_outcome.specs.Settles.{Settle, SettleEnd, settled, failed, without_certificate}
 use Rattle.fd_outcome.specs.Way.{whole}
 use Rattle.fd_outcome.specs.Work.{Step, goes, ends}
 use Rattle.fd_outcome.proofs.CallerLemmas.{behind-append, cut_then, nothing_behind, or_false, printed_then, text_behind, wrote_nothing, wrote_then}
 use Rattle.fd_app.specs.Answered.{IsMadeHour, kept_in}
+use Rattle.fd_app.specs.Bench.{tallied, tally_of}
+use Rattle.fd_app.specs.Benching.{GoesOnTallied}
 use Rattle.fd_app.specs.Headline.{IsSolved, IsSteady}
 use Rattle.fd_app.specs.Printing.{EndsInHour, IsPrintedHour, begun_behind, fault_of, settle_calls}
 use Rattle.fd_app.specs.Solving.{IsBehind, IsHour, IsHoursStep, IsSolutionStep, hour_begun, kept_by, kept_first, plant_at}
 use Rattle.fd_app.specs.Steps.{Kept, StandingView, behind_events, hour_settle, standing}
 use Rattle.fd_app.specs.declared.faults.Failure.{Failure}
+use Rattle.fd_app.specs.declared.tally.Tally.{Tally}
 use Rattle.fd_app.proofs.Starting.{next_first}
 use Rattle.fd_app.proofs.Tests.{one_hours}
 
@@ -81,31 +85,34 @@ behind_failed x (without_certificate r e) f rest h = ap (λ (k : Fault). (let s 
 
 -- ---- the loop
 
-module _ (style : Style) (c : CircuitView) (first : List ℕ) (l : Kept) {S : Type 0} (taken : S → Option (List ℕ)) (calls : S → Option ℕ) (old : S) (begun : Bool) where
+module _ (style : Style) (c : CircuitView) (first : List ℕ) (l : Kept) {S : Type 0} (taken : S → Option (List ℕ)) (calls : S → Option ℕ) (old : S) (begun : Bool) (none_yet : Tally) where
   abbrev IsFirst : Step StandingView → Type 0
   IsFirst step = IsHoursStep c first l step
 
   -- These events lead from the first hour to the hours that are left, and what is kept for them: whatever step follows
-  -- here, the Solve's is that step behind these events. Their texts are written, and their settles are solved.
-  pub record HourWay (left : List ℕ) (k : Kept) (now : S) (b : Bool) : Type 0 where
+  -- here, the Solve's is that step behind these events. Their texts are written, their settles are solved, and their
+  -- rounds are added to those before.
+  pub record HourWay (left : List ℕ) (k : Kept) (now : S) (b : Bool) (t : Tally) : Type 0 where
     pub events : List Event
     pub leads : (step : Step StandingView) → IsHoursStep c left k step → IsHoursStep c first l (behind_events events step)
     pub wrote : Wrote taken calls old now (whole (behind style begun events))
     pub all_good : AllSettles IsSolved events
     pub begun_is : b ≡ (begun || has_text (body style events))
+    pub added : t ≡ tally_of none_yet events
 
-  pub way_start : HourWay first l old begun
+  pub way_start : HourWay first l old begun none_yet
   way_start = record {
     events = [];
     leads = λ step is. subst IsFirst (sym (behind_none step)) is;
     wrote = subst (λ cs. Wrote taken calls old old (whole cs)) (sym (nothing_behind style begun)) (wrote_nothing taken calls old);
     all_good = All-nil (IfSettle IsSolved);
     begun_is = sym (or_false begun);
+    added = refl;
   }
 
   -- memory runs out between two texts
-  pub way_short : (left : List ℕ) (k : Kept) (now : S) (b : Bool) → HourWay left k now b → (new : S) (code : ℕ) → Wrote taken calls now new (whole []) → code ≡ 1 → EndsAt style IsSolved IsFirst taken calls old new begun code
-  way_short left k now b way new code none is =
+  pub way_short : (left : List ℕ) (k : Kept) (now : S) (b : Bool) (t : Tally) → HourWay left k now b t → (new : S) (code : ℕ) → Wrote taken calls now new (whole []) → code ≡ 1 → EndsAt style IsSolved IsFirst taken calls old new begun code
+  way_short left k now b t way new code none is =
       let rest = one_hours c left k in
       let nothing : IsCutIn taken calls now new [] code = record { made = whole []; front = inl (record { rest = []; calls = refl; torn = refl; status_is = is }); wrote = none } in
       let cut = cut_then taken calls old now new (behind style begun way.events) [] code way.wrote nothing in
@@ -121,7 +128,7 @@ module _ (style : Style) (c : CircuitView) (first : List ℕ) (l : Kept) {S : Ty
         wrote = cut.wrote;
       }
 
-  module _ (hour : ℕ) (left : List ℕ) (k : Kept) (now : S) (b : Bool) (way : HourWay (hour ∷ left) k now b) (x : Settle) (kept : Kept) (is : IsHour c hour k x kept) (good : IsSolved x) where
+  module _ (hour : ℕ) (left : List ℕ) (k : Kept) (now : S) (b : Bool) (t : Tally) (way : HourWay (hour ∷ left) k now b t) (x : Settle) (kept : Kept) (is : IsHour c hour k x kept) (good : IsSolved x) where
     abbrev more : List Event
     more = way.events ++ settle x ∷ []
 
@@ -135,13 +142,14 @@ module _ (style : Style) (c : CircuitView) (first : List ℕ) (l : Kept) {S : Ty
         let here : IsBehind x x.end (λ s. IsHoursStep c left kept s) (behind_events (settle x ∷ []) step) = subst (λ e. IsBehind x e (λ s. IsHoursStep c left kept s) (behind_events (settle x ∷ []) step)) (sym well) next in
         subst IsFirst (behind_both way.events (settle x ∷ []) step) (way.leads (behind_events (settle x ∷ []) step) (record { made = x; kept = kept; is = is; goes_on = here }))
 
-    way_more : x.end ≡ settled → (new : S) (after : Bool) → Wrote taken calls now new (whole (settle_calls style b x)) → after ≡ begun_behind style b x → HourWay left kept new after
-    way_more well new after wrote now_begun = record {
+    way_more : x.end ≡ settled → (new : S) (after : Bool) → Wrote taken calls now new (whole (settle_calls style b x)) → after ≡ begun_behind style b x → (u : Tally) → u ≡ tallied t (settle x) → HourWay left kept new after u
+    way_more well new after wrote now_begun u more_rounds = record {
       events = more;
       leads = leads_on well;
       wrote = subst (λ cs. Wrote taken calls old new (whole cs)) calls_more (wrote_then taken calls old now new (behind style begun way.events) (whole (settle_calls style b x)) way.wrote wrote);
       all_good = good_more way.events x way.all_good good;
       begun_is = now_begun ∙ ap (λ y. y || has_text (body style (settle x ∷ []))) way.begun_is ∙ text_behind style begun way.events (settle x ∷ []);
+      added = more_rounds ∙ ap (λ (y : Tally). tallied y (settle x)) way.added ∙ sym (fold-append tallied none_yet way.events (settle x ∷ []));
     }
 
     -- cut short within its texts
@@ -182,18 +190,18 @@ module _ (style : Style) (c : CircuitView) (first : List ℕ) (l : Kept) {S : Ty
           wrote = all.wrote;
         }
 
-  module _ (hour : ℕ) (left : List ℕ) (k : Kept) (now : S) (b : Bool) (way : HourWay (hour ∷ left) k now b) where
+  module _ (hour : ℕ) (left : List ℕ) (k : Kept) (now : S) (b : Bool) (t : Tally) (way : HourWay (hour ∷ left) k now b t) where
     -- behind an hour that is printed
-    pub way_printed : (kept : Kept) (new : S) (after : Bool) → IsPrintedHour style taken calls now new b c hour k kept after → HourWay left kept new after
-    way_printed kept new after p = way_more hour left k now b way p.made kept p.is p.good p.well new after p.wrote p.begun_is
+    pub way_printed : (kept : Kept) (new : S) (after : Bool) (u : Tally) → IsPrintedHour style taken calls now new b c hour k kept after t u → HourWay left kept new after u
+    way_printed kept new after u p = way_more hour left k now b t way p.made kept p.is p.good p.well new after p.wrote p.begun_is u p.added
 
     -- the run ends in an hour
     pub way_ended : (new : S) (code : ℕ) → EndsInHour style taken calls now new b c hour k code → EndsAt style IsSolved IsFirst taken calls old new begun code
     way_ended new code e = elim e [
-      | inl short ↦ way_short (hour ∷ left) k now b way new code short.wrote short.code_is
+      | inl short ↦ way_short (hour ∷ left) k now b t way new code short.wrote short.code_is
       | inr more ↦ elim more [
-        | inl p ↦ way_cut hour left k now b way p.made p.kept p.is p.good p.well new code p.cut
-        | inr p ↦ way_failed hour left k now b way p.made p.kept p.is p.good p.fault p.ill new code p.printed
+        | inl p ↦ way_cut hour left k now b t way p.made p.kept p.is p.good p.well new code p.cut
+        | inr p ↦ way_failed hour left k now b t way p.made p.kept p.is p.good p.fault p.ill new code p.printed
       ]
     ]
 
@@ -205,21 +213,24 @@ module _ (style : Style) (c : CircuitView) (first : List ℕ) (l : Kept) {S : Ty
         let f : Fault = fault.Script blame.place (cause.Model blame.cause) in
         let none : Settle = hour_settle c hour k [] (failed f) k.at in
         let nothing : settle_calls style b none ≡ [] = no_calls style b none (silent none) (unshown none f refl refl) in
-        way_failed hour left k now b way none (kept_by k (hour_begun c hour k))
+        way_failed hour left k now b t way none (kept_by k (hour_begun c hour k))
         (record { rounds = []; ending = stopped (range blame); machine = hour_begun c hour k; computed = (here, refl); end = failed f; end_is = refl; settle_is = refl; kept = refl })
         (record { solutions = tt; alike = tt; steady = unsampled c hour k f }) f refl new code
         (subst (λ cs. Printed taken calls now new (record { calls = cs ++ writes (fault_text f) ∷ []; end = Some f }) code) (sym nothing) printed)
 
   -- all hours are done
-  pub way_done : (left : List ℕ) (k : Kept) (now : S) (b : Bool) → left ≡ [] → HourWay left k now b → GoesOn style IsSolved IsFirst (standing c k.at k.settled) taken calls old now begun b
-  way_done left k now b none way =
+  pub way_done : (left : List ℕ) (k : Kept) (now : S) (b : Bool) (t : Tally) → left ≡ [] → HourWay left k now b t → GoesOnTallied style IsFirst (standing c k.at k.settled) taken calls old now begun b none_yet t
+  way_done left k now b t none way =
       let last : Step StandingView = goes [] (standing c k.at k.settled) in
       record {
-        events = way.events;
-        right = subst (λ events. IsFirst (goes events (standing c k.at k.settled))) (append-nil way.events) (way.leads last (subst (λ hours. IsHoursStep c hours k last) (sym none) refl));
-        all_good = way.all_good;
-        wrote = way.wrote;
-        begun_is = way.begun_is;
+        on = record {
+          events = way.events;
+          right = subst (λ events. IsFirst (goes events (standing c k.at k.settled))) (append-nil way.events) (way.leads last (subst (λ hours. IsHoursStep c hours k last) (sym none) refl));
+          all_good = way.all_good;
+          wrote = way.wrote;
+          begun_is = way.begun_is;
+        };
+        added = way.added;
       }
 
 -- ---- an hour as the code has it

@@ -17,3 +17,6 @@ mod Blocks
 mod Gathering
 mod Judging
 mod Checked
+mod Digits
+mod Alone
+mod Benched

@@ -20,9 +20,10 @@ use Rattle.dss_profile.specs.declared.command.Command.{Command}
 use Rattle.fd_app.specs.Checks.{IsCheckStep, IsJudged, certificate_name, first_gathered}
 use Rattle.fd_app.specs.Commands.{IsStep}
 use Rattle.fd_app.specs.Headline.{IsSolved}
-use Rattle.fd_app.specs.Run.{FormsLaw, IsCheckHistory, IsDoneThere, IsFormHistory, IsScriptHistory, first_standing, no_name, style_of}
-use Rattle.fd_app.specs.Words.{Form, Solve, Cert, Check}
+use Rattle.fd_app.specs.Run.{FormsLaw, IsCheckHistory, IsDoneThere, IsFormHistory, IsScriptHistory, first_standing, no_name, style_of, IsBenchHistory, script_written}
+use Rattle.fd_app.specs.Words.{Form, Solve, Cert, Check, Gen, Bench}
 use Rattle.fd_app.proofs.Gathering.{one_check_step, one_judged}
+use Rattle.fd_app.specs.Bench.{bench_of, feeder_files, feeder_name}
 use Rattle.fd_app.proofs.Tests.{one_step}
 
 -- a report asks for the names of its events
@@ -45,11 +46,22 @@ check_form files script certificate =
     exactly_one_history IsCheckStep certificate_name IsJudged one_check_step one_judged
     (λ n. held files (bytes n)) p.said (ended_by p.left) (first_gathered (chars certificate))
 
+pub one_bench : (number sections : ℕ) → ExactlyOne (λ h. IsBenchHistory number sections h)
+one_bench number sections =
+    let one = script_form (feeder_files number sections) feeder_name in
+    record {
+      some = bench_of sections one.some;
+      is = record { solving = one.some; right = one.is; h_is = refl };
+      only = λ h is. is.h_is ∙ ap (bench_of sections) (one.only is.solving is.right);
+    }
+
 pub forms : FormsLaw
 forms files None = exactly_this (ended [] fault.Usage)
 forms files (Some (Solve file)) = script_form files file
 forms files (Some (Cert file)) = script_form files file
 forms files (Some (Check script certificate)) = check_form files script certificate
+forms files (Some (Gen number sections)) = exactly_this (script_written number sections)
+forms files (Some (Bench number sections)) = one_bench number sections
 
 module _ {L S : Type 0} (faults : L → ℕ) (asked_of : L → Option (List (List ℕ))) (taken : S → Option (List ℕ)) (calls : S → Option ℕ) (lib_old lib_new : L) (old new : S) where
   pub due : (files : Files) (form : Option Form) (h : History) (code : ℕ) → IsFormHistory files form h

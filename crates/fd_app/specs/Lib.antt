@@ -1,3 +1,4 @@
+pub mod Numbers
 pub mod Words
 pub mod Steps
 pub mod Solving
@@ -13,3 +14,6 @@ pub mod Days
 pub mod Checks
 pub mod Gathered
 pub mod Judged
+pub mod Alone
+pub mod Bench
+pub mod Benching

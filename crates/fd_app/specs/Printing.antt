@@ -18,10 +18,12 @@ use Rattle.fd_outcome.specs.Events.{settle}
 use Rattle.fd_outcome.specs.Parts.{IsCutIn, Printed, Wrote}
 use Rattle.fd_outcome.specs.Settles.{Settle, SettleEnd, settled, failed, without_certificate}
 use Rattle.fd_outcome.specs.Way.{whole}
+use Rattle.fd_app.specs.Bench.{tallied}
 use Rattle.fd_app.specs.Headline.{IsSolved}
 use Rattle.fd_app.specs.Solving.{IsHour, plant_at}
 use Rattle.fd_app.specs.Steps.{Kept}
 use Rattle.fd_app.specs.declared.hours.Underway.{Underway}
+use Rattle.fd_app.specs.declared.tally.Tally.{Tally}
 
 -- the hours of a Solve are under way: the network is the circuit's at these positions with the powers of the next hour
 pub record IsUnderway (c : CircuitView) (at : CodePositions) (r : Underway) : Type 0 where
@@ -58,14 +60,15 @@ fault_of (failed f) = Some f
 fault_of (without_certificate r f) = Some f
 
 module _ {S : Type 0} (style : Style) (taken : S → Option (List ℕ)) (calls : S → Option ℕ) (old new : S) (begun : Bool) (c : CircuitView) (hour : ℕ) (l : Kept) where
-  -- the hour was solved and ended well, and all of it is printed
-  pub record IsPrintedHour (k : Kept) (now : Bool) : Type 0 where
+  -- the hour was solved and ended well, all of it is printed, and its rounds are added to those before
+  pub record IsPrintedHour (k : Kept) (now : Bool) (before after : Tally) : Type 0 where
     pub made : Settle
     pub is : IsHour c hour l made k
     pub good : IsSolved made
     pub well : made.end ≡ settled
     pub wrote : Wrote taken calls old new (whole (settle_calls style begun made))
     pub begun_is : now ≡ begun_behind style begun made
+    pub added : after ≡ tallied before (settle made)
 
   -- the hour was solved and ended well, and a front of it is printed
   pub record IsCutHour (code : ℕ) : Type 0 where

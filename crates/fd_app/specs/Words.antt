@@ -1,6 +1,7 @@
 -- The forms of the command line. A word is a list of bytes.
 use Rattle.std.specs.Prelude.{ℕ, ◌==◌, ◌&&◌, not, Bool, false, List, [], ◌∷◌, if◌then◌else◌, Option, Some, None, nat_eq, codes}
 use Rattle.std.specs.Cmp.Lexicographic.{pointwise}
+use Rattle.fd_app.specs.Numbers.{number_of, sections_of}
 
 pub data Form : Type 0 where
   -- `solve FILE`
@@ -9,6 +10,10 @@ pub data Form : Type 0 where
   Cert : List ℕ → Form
   -- `check SCRIPT CERTIFICATE`
   Check : List ℕ → List ℕ → Form
+  -- `gen NUMBER SECTIONS`
+  Gen : ℕ → ℕ → Form
+  -- `bench NUMBER SECTIONS`
+  Bench : ℕ → ℕ → Form
 
 -- whether a word may name a file: it isn't empty and doesn't start with a dash
 abbrev pub names_file : List ℕ → Bool
@@ -22,11 +27,24 @@ form_by word file =
     else if pointwise nat_eq word (codes "cert") then Some (Cert file)
     else None
 
--- by the first word, where two files are named behind it
-abbrev pub form_by_two : List ℕ → List ℕ → List ℕ → Option Form
-form_by_two word script certificate = if pointwise nat_eq word (codes "check") then Some (Check script certificate) else None
+-- a script and a certificate
+abbrev pub check_form : List ℕ → List ℕ → Option Form
+check_form script certificate = if names_file script && names_file certificate then Some (Check script certificate) else None
+
+-- by the first word, where a number and sections stand behind it
+abbrev pub feeder_form_by : List ℕ → ℕ → ℕ → Option Form
+feeder_form_by word number sections =
+    if pointwise nat_eq word (codes "gen") then Some (Gen number sections)
+    else if pointwise nat_eq word (codes "bench") then Some (Bench number sections)
+    else None
+
+abbrev pub feeder_form : List ℕ → Option ℕ → Option ℕ → Option Form
+feeder_form word (Some number) (Some sections) = feeder_form_by word number sections
+feeder_form word number sections = None
 
 abbrev pub form_of : List (List ℕ) → Option Form
 form_of (word ∷ file ∷ []) = if names_file file then form_by word file else None
-form_of (word ∷ script ∷ certificate ∷ []) = if names_file script && names_file certificate then form_by_two word script certificate else None
+form_of (word ∷ second ∷ third ∷ []) =
+    if pointwise nat_eq word (codes "check") then check_form second third
+    else feeder_form word (number_of second) (sections_of third)
 form_of words = None

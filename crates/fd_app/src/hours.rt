@@ -9,8 +9,9 @@ ghost use Rattle.fd_settle.specs.Start.{ArePositions};
 ghost use Rattle.fd_xfmr.specs.Leakage.{AreTaps};
 ghost use Rattle.fd_report.specs.declared.faults.Cause.TheVariants.{Model};
 ghost use Rattle.fd_report.specs.declared.faults.Fault.TheVariants.{Script};
-ghost use Rattle.fd_outcome.specs.Parts.{EndsAt, GoesOn, Printed, fault_doing};
+ghost use Rattle.fd_outcome.specs.Parts.{EndsAt, Printed, fault_doing};
 ghost use Rattle.fd_app.specs.Answered.{kept_in};
+ghost use Rattle.fd_app.specs.Benching.{GoesOnTallied, HasRoom};
 ghost use Rattle.fd_app.specs.Headline.{IsSolved};
 ghost use Rattle.fd_app.specs.Printing.{EndsInHour, IsLeftBehind, IsPrintedHour, IsRefusedAt, IsUnderway};
 ghost use Rattle.fd_app.specs.Solving.{IsHoursStep, IsSolutionStep};
@@ -20,6 +21,7 @@ use crate::answer::refused;
 use crate::hour::solve_hour;
 use crate::page::{Page, SolvedHour};
 use crate::print::{WANT_OF_MEMORY, print_failed, print_fault, print_settled};
+use crate::tally::Tally;
 use dss_circuit::{Blame, Circuit};
 use fd_daily::Day;
 use fd_devices::{BuildFault, Positions, Powers, hours_law, next_law, powers_at};
@@ -40,22 +42,25 @@ pub(crate) struct Underway {
 }
 
 /// Solves the hours of a Solve of a circuit that passed the tests, where its last Solve left these positions, and prints
-/// the records of each before the next is solved. An answer ends the run.
+/// the records of each before the next is solved. The rounds of each are added to the tally. An answer ends the run.
 pub(crate) fn solve_hours<P: Page, S: Sink>(
     alloc: Global,
     circuit: &Circuit,
     at: &mut Positions,
     settled: &mut u32,
+    tally: &mut Tally,
     begun: &mut bool,
     out: &mut S,
 ) -> Option<u8>
     requires ready { HasPassed circuit.now }
     requires taps { All AreTaps at.old.taps }
     requires settles { settled.old + 8761 < 2 ^ 32 }
-    ensures goes { result ≡ None → GoesOn P.style IsSolved (IsSolutionStep (standing circuit.now (positions_in at.old) settled.old)) (standing circuit.now (positions_in at.new) settled.new) S.taken S.calls out.old out.new begun.old begun.new }
+    requires room { HasRoom tally.old settled.old }
+    ensures goes { result ≡ None → GoesOnTallied P.style (IsSolutionStep (standing circuit.now (positions_in at.old) settled.old)) (standing circuit.now (positions_in at.new) settled.new) S.taken S.calls out.old out.new begun.old begun.new tally.old tally.new }
     ensures ends { IfSome result (EndsAt P.style IsSolved (IsSolutionStep (standing circuit.now (positions_in at.old) settled.old)) S.taken S.calls out.old out.new begun.old) }
     ensures taps { All AreTaps at.new.taps }
     ensures settles { settled.new ≤ settled.old + 8761 }
+    ensures room { HasRoom tally.new settled.new }
     ensures later { S.faults out.old ≤ S.faults out.new }
     ensures write { IfSome result (λ code. code ≡ 5 → Rose (S.faults out.old) (S.faults out.new)) }
     ensures usage { IfSome result (λ code. code ≡ 2 → ⊥) }
@@ -85,7 +90,16 @@ pub(crate) fn solve_hours<P: Page, S: Sink>(
                 day,
                 rounds: Vec::new(alloc),
             };
-            run_hours::<P, S>(alloc, circuit, &mut underway, at, settled, begun, out)
+            run_hours::<P, S>(
+                alloc,
+                circuit,
+                &mut underway,
+                at,
+                settled,
+                tally,
+                begun,
+                out,
+            )
         }
         Err(BuildFault::Range(blame)) => Some(print_range(alloc, &blame, out)),
         Err(BuildFault::NoMemory) => Some(WANT_OF_MEMORY),
@@ -111,17 +125,20 @@ fn do_hour<P: Page, S: Sink>(
     underway: &mut Underway,
     at: &mut Positions,
     settled: &mut u32,
+    tally: &mut Tally,
     begun: &mut bool,
     out: &mut S,
 ) -> Option<u8>
     requires ready { HasPassed circuit.now }
     requires underway { IsUnderway circuit.now at.old underway.old }
     requires settles { settled.old + 1 < 2 ^ 32 }
-    ensures goes { result ≡ None → IsPrintedHour P.style S.taken S.calls out.old out.new begun.old circuit.now (hour_in underway.old.day) (kept_in at.old underway.old.day settled.old) (kept_in at.new underway.new.day settled.new) begun.new }
+    requires room { HasRoom tally.old settled.old }
+    ensures goes { result ≡ None → IsPrintedHour P.style S.taken S.calls out.old out.new begun.old circuit.now (hour_in underway.old.day) (kept_in at.old underway.old.day settled.old) (kept_in at.new underway.new.day settled.new) begun.new tally.old tally.new }
     ensures ends { IfSome result (EndsInHour P.style S.taken S.calls out.old out.new begun.old circuit.now (hour_in underway.old.day) (kept_in at.old underway.old.day settled.old)) }
     ensures left { result ≡ None → IsLeftBehind circuit.now at.new underway.old underway.new }
     ensures positions { ArePositions circuit.now underway.new.powers.loads (positions_in at.new) }
     ensures settles { settled.new ≤ settled.old + 1 }
+    ensures room { HasRoom tally.new settled.new }
     ensures later { S.faults out.old ≤ S.faults out.new }
     ensures write { IfSome result (λ code. code ≡ 5 → Rose (S.faults out.old) (S.faults out.new)) }
     ensures usage { IfSome result (λ code. code ≡ 2 → ⊥) }
@@ -154,6 +171,7 @@ fn do_hour<P: Page, S: Sink>(
             let printed = print_settled::<P, S>(alloc, &made, at, begun, out);
             if printed.is_none() {
                 *settled = number;
+                tally.add(made.net.layout(), made.rounds);
             }
             printed
         }
@@ -195,16 +213,19 @@ fn run_hours<P: Page, S: Sink>(
     underway: &mut Underway,
     at: &mut Positions,
     settled: &mut u32,
+    tally: &mut Tally,
     begun: &mut bool,
     out: &mut S,
 ) -> Option<u8>
     requires ready { HasPassed circuit.now }
     requires underway { IsUnderway circuit.now at.old underway.old }
     requires settles { settled.old + 8761 < 2 ^ 32 }
-    ensures goes { result ≡ None → GoesOn P.style IsSolved (IsHoursStep circuit.now (hours_left underway.old.day) (kept_in at.old underway.old.day settled.old)) (standing circuit.now (positions_in at.new) settled.new) S.taken S.calls out.old out.new begun.old begun.new }
+    requires room { HasRoom tally.old settled.old }
+    ensures goes { result ≡ None → GoesOnTallied P.style (IsHoursStep circuit.now (hours_left underway.old.day) (kept_in at.old underway.old.day settled.old)) (standing circuit.now (positions_in at.new) settled.new) S.taken S.calls out.old out.new begun.old begun.new tally.old tally.new }
     ensures ends { IfSome result (EndsAt P.style IsSolved (IsHoursStep circuit.now (hours_left underway.old.day) (kept_in at.old underway.old.day settled.old)) S.taken S.calls out.old out.new begun.old) }
     ensures taps { All AreTaps at.new.taps }
     ensures settles { settled.new ≤ settled.old + 8761 }
+    ensures room { HasRoom tally.new settled.new }
     ensures later { S.faults out.old ≤ S.faults out.new }
     ensures write { IfSome result (λ code. code ≡ 5 → Rose (S.faults out.old) (S.faults out.new)) }
     ensures usage { IfSome result (λ code. code ≡ 2 → ⊥) }
@@ -212,7 +233,7 @@ fn run_hours<P: Page, S: Sink>(
 {
     P::law();
     loop {
-        let ended = do_hour::<P, S>(alloc, circuit, underway, at, settled, begun, out);
+        let ended = do_hour::<P, S>(alloc, circuit, underway, at, settled, tally, begun, out);
         if ended.is_some() {
             return ended;
         }

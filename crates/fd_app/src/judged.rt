@@ -10,7 +10,7 @@ ghost use Rattle.fd_app.specs.Checks.{IsJudged, gathered};
 ghost use Rattle.fd_app.specs.Gathered.{solved_by};
 ghost use Rattle.fd_app.specs.Judged.{IsAnsweredSo, IsJudgedBy, IsOfCheck, history_in};
 
-use crate::print::{WANT_OF_MEMORY, print_alone, print_fault};
+use crate::print::{WANT_OF_MEMORY, print_end, print_fault};
 use dss_circuit::Command;
 use fd_cert::Rule;
 use fd_check::{CheckFault, check_script};
@@ -66,7 +66,7 @@ fn print_judged<S: Sink>(alloc: Global, judged: &Judged, out: &mut S) -> u8
 {
     match judged {
         Judged::Accepted(blocks) => match accepted_record(alloc, *blocks) {
-            Ok(text) => print_alone(alloc, text, out),
+            Ok(text) => print_end(alloc, &[text], out),
             Err(_) => WANT_OF_MEMORY,
         },
         Judged::Refused(fault) => print_fault(alloc, fault, out),

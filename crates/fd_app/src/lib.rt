@@ -7,33 +7,39 @@
 //! whatever a library tells, how it ends. Its status is that of the history's end, but for these (`due_law`). So through all
 //! hours of a Solve its acts are those of any such states (`days_law`).
 //!
-//! - `words`: the forms of the command line
+//! - `words`: the forms of the command line; `numbers`: the numbers among its words
 //! - `answer`: what a command comes to
 //! - `controls`: the controls of a circuit
 //! - `faults`: the fault with which a run ends, by how a settle ended
 //! - `hour`, `hours`: the hours of a Solve, each printed before the next is solved
 //! - `standing`: what stands between two commands
 //! - `step`: what one command comes to
-//! - `page`: how settles are printed; `report`, `certificate`: as records, as blocks of a certificate
+//! - `page`: how settles are printed; `report`, `certificate`, `summary`: as records, as blocks of a certificate, not at
+//!   all
 //! - `records`: the records of a settle
 //! - `print`: records handed to the sink
 //! - `line`: what the loop asks of a command line
 //! - `gathered`: what `check` has gathered of a script; `judged`: what its certificate comes to; `check`: the command line
 //! - `solve`: the command lines `solve` and `cert`
+//! - `feeder`: the script of a feeder from a number, which `gen` writes
+//! - `tally`: what rounds come to; `bench`: the command line that prints it for such a script
 //! - `script`: the loop over a script's commands
 //! - `top`: the call itself
 #![tactic(auto)]
 
 mod answer;
+mod bench;
 mod certificate;
 mod check;
 mod controls;
 mod faults;
+mod feeder;
 mod gathered;
 mod hour;
 mod hours;
 mod judged;
 mod line;
+mod numbers;
 mod page;
 mod print;
 mod records;
@@ -42,6 +48,8 @@ mod script;
 mod solve;
 mod standing;
 mod step;
+mod summary;
+mod tally;
 mod top;
 mod words;
 

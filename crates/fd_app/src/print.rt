@@ -47,19 +47,6 @@ pub(crate) fn print_fault<S: Sink>(alloc: Global, fault: &Fault, out: &mut S) ->
     }
 }
 
-/// Prints a record that stands alone at the end of a run without a fault, and answers the exit status.
-pub(crate) fn print_alone<S: Sink>(alloc: Global, text: Record, out: &mut S) -> u8
-    ensures prints { Printed S.taken S.calls out.old out.new (record { calls = writes text.bytes ∷ []; end = None }) result }
-    ensures later { S.faults out.old ≤ S.faults out.new }
-    ensures write { result ≡ 5 → Rose (S.faults out.old) (S.faults out.new) }
-{
-    match emit(alloc, &[text], out) {
-        Ok(()) => 0,
-        Err(SinkFault::Failed) => WRITE_FAULT,
-        Err(SinkFault::NoMemory) => WANT_OF_MEMORY,
-    }
-}
-
 // Whether a text was written before, or is among these.
 #[tactic(auto, using(crate::proofs::Recorded::some_text))]
 fn now_begun(begun: bool, records: &[Record]) -> bool
@@ -234,6 +221,19 @@ fn last_texts<P: Page>(alloc: Global, begun: bool) -> Result<Vec<Record>, AllocE
     with_opening::<P>(alloc, begun, texts)
 }
 
+/// Prints the last texts where there is no fault, and answers the exit status.
+pub(crate) fn print_end<S: Sink>(alloc: Global, texts: &[Record], out: &mut S) -> u8
+    ensures prints { Printed S.taken S.calls out.old out.new (record { calls = map writes (pieces_of texts.now); end = None }) result }
+    ensures later { S.faults out.old ≤ S.faults out.new }
+    ensures write { result ≡ 5 → Rose (S.faults out.old) (S.faults out.new) }
+{
+    match emit(alloc, texts, out) {
+        Ok(()) => 0,
+        Err(SinkFault::Failed) => WRITE_FAULT,
+        Err(SinkFault::NoMemory) => WANT_OF_MEMORY,
+    }
+}
+
 /// Prints what stands last where there is no fault, and answers the exit status. `begun` tells whether a text was
 /// written before.
 pub(crate) fn print_last<P: Page, S: Sink>(alloc: Global, begun: bool, out: &mut S) -> u8
@@ -244,9 +244,5 @@ pub(crate) fn print_last<P: Page, S: Sink>(alloc: Global, begun: bool, out: &mut
     let Ok(texts) = last_texts::<P>(alloc, begun) else {
         return WANT_OF_MEMORY;
     };
-    match emit(alloc, texts.as_slice(), out) {
-        Ok(()) => 0,
-        Err(SinkFault::Failed) => WRITE_FAULT,
-        Err(SinkFault::NoMemory) => WANT_OF_MEMORY,
-    }
+    print_end(alloc, texts.as_slice(), out)
 }

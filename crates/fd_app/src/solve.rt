@@ -1,6 +1,10 @@
 // The command lines `solve FILE` and `cert FILE`.
-ghost use Rattle.std.specs.Prelude.{◌≡◌, [], None};
+ghost use Rattle.std.specs.Prelude.{◌≡◌, ◌+◌, ◌≤◌, [], IfSome, None};
+ghost use Rattle.fd_outside.specs.Causes.{Rose};
+ghost use Rattle.dss_script.specs.Sessions.{cost};
 ghost use Rattle.fd_outcome.specs.Events.{finishes};
+ghost use Rattle.fd_outcome.specs.Parts.{EndsAt};
+ghost use Rattle.fd_app.specs.Benching.{GoesOnTallied, HasRoom};
 ghost use Rattle.fd_app.specs.Commands.{IsStep};
 ghost use Rattle.fd_app.specs.Headline.{IsSolved};
 ghost use Rattle.fd_app.specs.Weights.{weight};
@@ -12,9 +16,48 @@ use crate::page::Page;
 use crate::print::{WANT_OF_MEMORY, print_bases, print_fault, print_last};
 use crate::standing::Standing;
 use crate::step::answer_to;
+use crate::tally::Tally;
 use dss_circuit::Command;
 use fd_outside::{Library, Sink};
 use std::alloc::Global;
+
+/// Does a command, hands over what it gives, and adds its rounds to the tally. An answer ends the run. `begun` tells
+/// whether a text was written before.
+pub(crate) fn take_command<P: Page, S: Sink>(
+    alloc: Global,
+    standing: &mut Standing<P>,
+    tally: &mut Tally,
+    command: &Command,
+    begun: &mut bool,
+    out: &mut S,
+) -> Option<u8>
+    requires weight { weight standing.old.circuit + cost command.now.verb ≤ 1_048_578 }
+    requires room { HasRoom tally.old standing.old.settled }
+    ensures goes { result ≡ None → GoesOnTallied P.style (IsStep command.now standing.old) standing.new S.taken S.calls out.old out.new begun.old begun.new tally.old tally.new }
+    ensures ends { IfSome result (λ code. EndsAt P.style IsSolved (IsStep command.now standing.old) S.taken S.calls out.old out.new begun.old code) }
+    ensures weight { result ≡ None → weight standing.new.circuit ≤ weight standing.old.circuit + cost command.now.verb }
+    ensures room { HasRoom tally.new standing.new.settled }
+    ensures later { S.faults out.old ≤ S.faults out.new }
+    ensures write { IfSome result (λ code. code ≡ 5 → Rose (S.faults out.old) (S.faults out.new)) }
+    ensures usage { IfSome result (λ code. code ≡ 2 → ⊥) }
+    ensures read { IfSome result (λ code. code ≡ 4 → ⊥) }
+{
+    match answer_to(alloc, &mut standing.circuit, command) {
+        Ok(Answer::Done) => None,
+        Ok(Answer::Refuses(fault)) => Some(print_fault(alloc, &fault, out)),
+        Ok(Answer::Bases) => print_bases::<P, S>(alloc, &standing.circuit, begun, out),
+        Ok(Answer::Solves) => solve_hours::<P, S>(
+            alloc,
+            &standing.circuit,
+            &mut standing.at,
+            &mut standing.settled,
+            tally,
+            begun,
+            out,
+        ),
+        Err(_) => Some(WANT_OF_MEMORY),
+    }
+}
 
 /// The state between the commands is the circuit with the positions that its last Solve left; no further name is asked
 /// for, and behind the last command nothing is left but to print what stands last.
@@ -42,20 +85,7 @@ impl<P: Page> Line for Standing<P> {
         begun: &mut bool,
         out: &mut S,
     ) -> Option<u8> {
-        match answer_to(alloc, &mut self.circuit, &command) {
-            Ok(Answer::Done) => None,
-            Ok(Answer::Refuses(fault)) => Some(print_fault(alloc, &fault, out)),
-            Ok(Answer::Bases) => print_bases::<P, S>(alloc, &self.circuit, begun, out),
-            Ok(Answer::Solves) => solve_hours::<P, S>(
-                alloc,
-                &self.circuit,
-                &mut self.at,
-                &mut self.settled,
-                begun,
-                out,
-            ),
-            Err(_) => Some(WANT_OF_MEMORY),
-        }
+        take_command(alloc, self, &mut Tally::none(), &command, begun, out)
     }
 
     fn finish<L: Library, S: Sink>(

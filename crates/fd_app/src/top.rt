@@ -16,7 +16,9 @@ ghost use Rattle.fd_app.specs.Headline.{IsSolved};
 ghost use Rattle.fd_app.specs.Run.{FormsLaw, IsCheckHistory, IsFormHistory, IsScriptHistory, Knows, style_of};
 ghost use Rattle.fd_app.specs.Words.{form_of};
 
+use crate::bench::bench;
 use crate::certificate::Certificate;
+use crate::feeder::write_script;
 use crate::gathered::Gathered;
 use crate::page::Page;
 use crate::print::{WANT_OF_MEMORY, print_fault};
@@ -92,7 +94,9 @@ fn check<L: Library, S: Sink>(
 /// The words are those after the program's name. `solve FILE` does the commands of the script of that name, and prints
 /// the rounds of each Solve, with the acts of its controls, before the next command is read; `cert FILE` does the same,
 /// and prints each round as a block of a certificate. `check SCRIPT CERTIFICATE` solves nothing: it gathers the commands of
-/// the script, asks for the certificate behind the last one, and prints whether it is accepted. Each record is handed to
+/// the script, asks for the certificate behind the last one, and prints whether it is accepted. `gen NUMBER SECTIONS`
+/// prints the script of a feeder from a number, and `bench NUMBER SECTIONS` solves that script, of which it prints one
+/// record. Each record is handed to
 /// the sink by one write. A refusal is printed with its file, its line and its cause, a failed read with the file's
 /// name, a fault of the procedure with the first unknown that it is found at, a mismatch with its row, a state without
 /// a certificate with the unknown whose bound reaches one, an undecided sample with its control, and a refused certificate
@@ -134,6 +138,8 @@ pub fn run<L: Library, S: Sink>(alloc: Global, words: &[String], lib: &mut L, ou
             lib,
             out,
         ),
+        Some(Form::Gen { number, sections }) => write_script(alloc, number, sections, out),
+        Some(Form::Bench { number, sections }) => bench(alloc, number, sections, out),
     }
 }
 

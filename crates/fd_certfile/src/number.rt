@@ -16,12 +16,18 @@ fn leads_with_zero(digits: &[u8]) -> bool
     }
 }
 
+// Below it a number has room for one more digit in 64 bits.
+const SHORT: u128 = 1 << 60;
+
 // A number with one more digit behind it.
 fn with_digit(value: u128, digit: u8) -> Option<u128>
     ensures { SomeIff result ((digit_value digit < 10) × (value * 10 + digit_value digit < 2 ^ 128)) (value * 10 + digit_value digit) }
 {
     if !digit.is_ascii_digit() {
         return None;
+    }
+    if value < SHORT {
+        return Some((value as u64 * 10 + (digit - b'0') as u64) as u128);
     }
     match value.checked_mul(10) {
         Some(tenfold) => tenfold.checked_add((digit - b'0') as u128),

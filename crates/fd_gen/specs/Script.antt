@@ -52,6 +52,10 @@ ended line = line ++ 10 ∷ []
 abbrev pub Adds : List Record → List Record → List (List ℕ) → Type 0
 Adds old new lines = pieces_of new ≡ pieces_of old ++ map ended lines
 
--- the script's lines, each with its end
+-- the script's lines, without their ends
+abbrev pub script_of : ℕ → ℕ → List (List ℕ)
+script_of number count = head ++ sections_of number count ++ codes "Solve" ∷ []
+
+-- the same, each with its end
 abbrev pub lines_of : ℕ → ℕ → List (List ℕ)
-lines_of number count = map ended (head ++ sections_of number count ++ codes "Solve" ∷ [])
+lines_of number count = map ended (script_of number count)

@@ -1,10 +1,14 @@
-use Rattle.std.proofs.Common.{◌+◌, ℕ, None, Some, inl, inr, refl, sym, subst, arith}
+use Rattle.std.proofs.Common.{◌≡◌, ◌∙◌, ◌+◌, ℕ, None, Some, ap, inl, inr, length, refl, sym, subst, arith}
+use Rattle.std.proofs.lemmas.List.{length-map}
+use Rattle.dss_layout.specs.Layout.{LayoutView, complex_count}
 use Rattle.fd_daily.specs.Day.{hour_in}
 use Rattle.fd_sample.specs.Probes.{positions_in}
 use Rattle.fd_outcome.specs.Settles.{settled}
-use Rattle.fd_app.specs.Answered.{IsMadeHour, kept_in, settle_made}
+use Rattle.fd_app.specs.Answered.{IsMadeHour, kept_in, round_in, rounds_in, settle_made}
+use Rattle.fd_app.specs.Bench.{with_rounds}
 use Rattle.fd_app.specs.Endings.{end_by}
 use Rattle.fd_app.specs.Printing.{EndsInHour, IsPrintedHour}
+use Rattle.fd_app.specs.declared.tally.Tally.{Tally}
 use Rattle.fd_app.proofs.Handed.{cut_never, never_read, never_usage}
 use Rattle.fd_app.proofs.Hourly.{hour_is, made_as}
 use Rattle.fd_app.proofs.Settled.{fault_end}
@@ -103,8 +107,44 @@ returns-then-is_none-clause-goes g c none =
     let told : IsMadeHour circuit (hour_in day) before c.solve_hour-solved.new.rounds.items None k = rw c.in-None.is at (c.in-Ok.ensures.made c.args.settled.now) in
     let made = made_as circuit (hour_in day) h before c.solve_hour-solved.new.rounds.items rounds None k same c.deref.ensures.value told in
     let x = settle_made circuit h before rounds settled (positions_in c.solve_hour-solved.new.at) in
-    subst (λ (n : ℕ). IsPrintedHour g.P.Page.style g.S.Sink.taken g.S.Sink.calls c.args.out.now c.print_settled-printed.new.out c.args.begun.now circuit n before k c.print_settled-printed.new.begun) (sym same)
-    (record { made = x; is = made.is; good = made.solved; well = refl; wrote = none_goes c.print_settled-printed.result _ none (c.print_settled-printed.ensures.goes before refl); begun_is = c.print_settled-printed.ensures.begun before refl none })
+    subst (λ (n : ℕ). IsPrintedHour g.P.Page.style g.S.Sink.taken g.S.Sink.calls c.args.out.now c.print_settled-printed.new.out c.args.begun.now circuit n before k c.print_settled-printed.new.begun c.args.tally.now c.add.new.self) (sym same)
+    (record {
+      made = x;
+      is = made.is;
+      good = made.solved;
+      well = refl;
+      wrote = none_goes c.print_settled-printed.result _ none (c.print_settled-printed.ensures.goes before refl);
+      begun_is = c.print_settled-printed.ensures.begun before refl none;
+      added = c.add.ensures ∙ ap (λ (l : LayoutView). with_rounds c.args.tally.now (complex_count l) (rounds_in rounds)) (c.layout.ensures ∙ c.in-Ok.ensures.built.layout);
+    })
+
+pub add-requires : goal.add-requires
+add-requires g c =
+    let circuit = c.args.circuit.now in
+    let day = c.args.underway.now.day in
+    let h = c.unwrap-hour.result in
+    let same = hour_is c.next_hour.result day h c.next_hour.ensures c.unwrap-hour.ensures in
+    let before = kept_in c.args.at.now day c.args.settled.now in
+    let k = kept_in c.solve_hour-solved.new.at c.solve_hour-solved.new.day (c.args.settled.now + 1) in
+    let rounds = c.deref.result.now in
+    let told : IsMadeHour circuit (hour_in day) before c.solve_hour-solved.new.rounds.items None k = rw c.in-None.is at (c.in-Ok.ensures.made c.args.settled.now) in
+    let made = made_as circuit (hour_in day) h before c.solve_hour-solved.new.rounds.items rounds None k same c.deref.ensures.value told in
+    omega (arith, made.printable.few, c.requires.room, c.requires.settles)
+
+pub returns-then-is_none-clause-room : goal.returns-then-is_none-clause-room
+returns-then-is_none-clause-room g c =
+    let circuit = c.args.circuit.now in
+    let day = c.args.underway.now.day in
+    let h = c.unwrap-hour.result in
+    let same = hour_is c.next_hour.result day h c.next_hour.ensures c.unwrap-hour.ensures in
+    let before = kept_in c.args.at.now day c.args.settled.now in
+    let k = kept_in c.solve_hour-solved.new.at c.solve_hour-solved.new.day (c.args.settled.now + 1) in
+    let rounds = c.deref.result.now in
+    let told : IsMadeHour circuit (hour_in day) before c.solve_hour-solved.new.rounds.items None k = rw c.in-None.is at (c.in-Ok.ensures.made c.args.settled.now) in
+    let made = made_as circuit (hour_in day) h before c.solve_hour-solved.new.rounds.items rounds None k same c.deref.ensures.value told in
+    let count : c.add.new.self.solutions ≡ c.args.tally.now.solutions + length (rounds_in rounds) = ap (λ (t : Tally). t.solutions) c.add.ensures in
+    let long = length-map rounds round_in in
+    omega (arith, count, long, made.printable.few, c.requires.room)
 
 pub returns-else-is_none-clause-ends : goal.returns-else-is_none-clause-ends
 returns-else-is_none-clause-ends g c =

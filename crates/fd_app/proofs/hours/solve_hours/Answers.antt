@@ -7,7 +7,7 @@ use Rattle.fd_xfmr.specs.Leakage.{AreTaps}
 use Rattle.fd_app.specs.Answered.{kept_in}
 use Rattle.fd_app.specs.Solving.{IsHoursStep, IsSolutionStep}
 use Rattle.fd_app.specs.Steps.{standing}
-use Rattle.fd_app.proofs.Handed.{ends_as, ends_without_memory, goes_as}
+use Rattle.fd_app.proofs.Handed.{ends_as, ends_without_memory, tallied_as}
 use Rattle.fd_app.proofs.Hourly.{HourWay, hour_is, left_open, solution_step, way_range, way_start}
 use Rattle.fd_app.proofs.Starting.{blame_is, first_kept, first_positions, first_settings, first_taps, network_there}
 use Rattle.fd_app.proofs.Tests.{one_solution}
@@ -51,9 +51,9 @@ run_hours-requires-clause-underway g c =
 
 pub returns-in-Ok-build-clause-goes : goal.returns-in-Ok-build-clause-goes
 returns-in-Ok-build-clause-goes g c none =
-    goes_as g.P.Page.style g.S.Sink.taken g.S.Sink.calls (IsHoursStep c.args.circuit.now (hours_left c.in-Ok.day) (kept_in c.in-Ok-next.start c.in-Ok.day c.args.settled.now)) (IsSolutionStep (standing c.args.circuit.now (positions_in c.args.at.now) c.args.settled.now))
+    tallied_as g.P.Page.style g.S.Sink.taken g.S.Sink.calls (IsHoursStep c.args.circuit.now (hours_left c.in-Ok.day) (kept_in c.in-Ok-next.start c.in-Ok.day c.args.settled.now)) (IsSolutionStep (standing c.args.circuit.now (positions_in c.args.at.now) c.args.settled.now))
     (solution_step c.args.circuit.now (positions_in c.args.at.now) c.args.settled.now c.in-Ok-next.start c.in-Ok.day (first_kept c.args.circuit.now (positions_in c.args.at.now) c.in-Ok-next.start c.in-Ok-powers_at.powers c.in-Ok-next.ensures.taps c.in-Ok-next.ensures.closed c.unwrap-hour.result c.in-Ok-powers_at.ensures.powers c.args.settled.now c.in-Ok.day c.in-Ok.ensures.opened) c.in-Ok.ensures.left)
-    (standing c.args.circuit.now (positions_in c.run_hours.new.at) c.run_hours.new.settled) c.args.out.now c.run_hours.new.out c.args.begun.now c.run_hours.new.begun (c.run_hours.ensures.goes none)
+    (standing c.args.circuit.now (positions_in c.run_hours.new.at) c.run_hours.new.settled) c.args.out.now c.run_hours.new.out c.args.begun.now c.run_hours.new.begun c.args.tally.now c.run_hours.new.tally (c.run_hours.ensures.goes none)
 
 pub returns-in-Ok-build-clause-ends : goal.returns-in-Ok-build-clause-ends
 returns-in-Ok-build-clause-ends g c =
@@ -73,12 +73,12 @@ returns-in-Err-Range-clause-ends g c =
     let told = rw c.in-Err-Range.field-0-is at c.in-Err-Range.ensures.fault in
     let some : day.hour ≡ Some h = sym c.next_hour.ensures ∙ c.unwrap-hour.ensures in
     let same = hour_is c.next_hour.result day h c.next_hour.ensures c.unwrap-hour.ensures in
-    let W : List ℕ → Type 0 = λ hs. HourWay g.P.Page.style circuit (hours_left day) l g.S.Sink.taken g.S.Sink.calls c.args.out.now c.args.begun.now hs l c.args.out.now c.args.begun.now in
-    let way = subst W (left_open circuit day h c.in-Ok.ensures.day (subst IsSome (sym some) refl) same) (way_start g.P.Page.style circuit (hours_left day) l g.S.Sink.taken g.S.Sink.calls c.args.out.now c.args.begun.now) in
+    let W : List ℕ → Type 0 = λ hs. HourWay g.P.Page.style circuit (hours_left day) l g.S.Sink.taken g.S.Sink.calls c.args.out.now c.args.begun.now c.args.tally.now hs l c.args.out.now c.args.begun.now c.args.tally.now in
+    let way = subst W (left_open circuit day h c.in-Ok.ensures.day (subst IsSome (sym some) refl) same) (way_start g.P.Page.style circuit (hours_left day) l g.S.Sink.taken g.S.Sink.calls c.args.out.now c.args.begun.now c.args.tally.now) in
     ends_as g.P.Page.style g.S.Sink.taken g.S.Sink.calls (IsHoursStep circuit (hours_left day) l) (IsSolutionStep (standing c.args.circuit.now (positions_in c.args.at.now) c.args.settled.now))
     (solution_step c.args.circuit.now (positions_in c.args.at.now) c.args.settled.now c.in-Ok-next.start c.in-Ok.day (first_kept c.args.circuit.now (positions_in c.args.at.now) c.in-Ok-next.start c.in-Ok-powers_at.powers c.in-Ok-next.ensures.taps c.in-Ok-next.ensures.closed c.unwrap-hour.result c.in-Ok-powers_at.ensures.powers c.args.settled.now c.in-Ok.day c.in-Ok.ensures.opened) c.in-Ok.ensures.left)
     c.args.out.now c.print_range.new.out c.args.begun.now c.print_range.result
-    (way_range g.P.Page.style circuit (hours_left day) l g.S.Sink.taken g.S.Sink.calls c.args.out.now c.args.begun.now h _ l c.args.out.now c.args.begun.now way c.law.ensures.silent c.law.ensures.unshown blame
+    (way_range g.P.Page.style circuit (hours_left day) l g.S.Sink.taken g.S.Sink.calls c.args.out.now c.args.begun.now c.args.tally.now h _ l c.args.out.now c.args.begun.now c.args.tally.now way c.law.ensures.silent c.law.ensures.unshown blame
     (blame_is circuit c.in-Ok-next.start c.in-Ok-powers_at.powers h c.in-Ok-powers_at.ensures.powers (Some blame) told) c.print_range.new.out c.print_range.result c.print_range.ensures.prints)
 
 pub returns-in-Err-Range-clause-taps : goal.returns-in-Err-Range-clause-taps

@@ -3,11 +3,14 @@ use Rattle.std.specs.Option.{option_map}
 use Rattle.fd_report.specs.declared.faults.Fault.TheVariants as fault
 use Rattle.fd_outcome.specs.Calls.{report}
 use Rattle.fd_outcome.specs.Untold.{CutsShort}
-use Rattle.fd_outcome.proofs.CallerLemmas.{fault_alone, fault_answers, fault_code, grows_none}
+use Rattle.fd_gen.specs.Script.{script_of}
+use Rattle.fd_outcome.proofs.CallerLemmas.{fault_alone, fault_answers, fault_code, grows_none, untold_last}
+use Rattle.fd_app.specs.Bench.{lines_alone}
 use Rattle.fd_app.specs.Headline.{IsSolved}
-use Rattle.fd_app.specs.Run.{form_in}
+use Rattle.fd_app.specs.Run.{IsBenchHistory, form_in, script_written}
 use Rattle.fd_app.specs.declared.words.Form.{Form as Words}
-use Rattle.fd_app.specs.Words.{Cert, Check, Solve, form_of}
+use Rattle.fd_app.specs.Words.{Cert, Check, Solve, form_of, Bench, Gen}
+use Rattle.fd_app.proofs.Alone.{alone_runs, lines_good, printed_alone}
 use Rattle.fd_app.proofs.top.run.Goals as goal
 
 never_read : (code : ℕ) → (code ≡ 2) ⊎ CutsShort code → code ≡ 4 → ⊥
@@ -18,14 +21,14 @@ never_read code is four = elim is [
 
 pub returns-in-None-clause-run : goal.returns-in-None-clause-run
 returns-in-None-clause-run g c files told =
-    let form : form_of (map string_bytes c.args.words.now) ≡ None = sym c.form_of.ensures ∙ ap (option_map form_in) c.in-None.is in
+    let form : form_of (map string_bytes c.args.words.now) ≡ None = sym c.form_of.ensures.form ∙ ap (option_map form_in) c.in-None.is in
     rw form (fault_alone g.L.Library.faults g.L.Library.asked g.S.Sink.taken g.S.Sink.calls report IsSolved c.args.lib.now c.args.out.now c.print_fault.new.out fault.Usage c.print_fault.result c.print_fault.ensures.prints)
 
 pub returns-in-None-clause-statuses : goal.returns-in-None-clause-statuses
 returns-in-None-clause-statuses g c = inr (fault_answers g.S.Sink.taken g.S.Sink.calls c.args.out.now c.print_fault.new.out fault.Usage c.print_fault.result c.print_fault.ensures.prints)
 
 pub returns-in-None-clause-usage : goal.returns-in-None-clause-usage
-returns-in-None-clause-usage g c two = sym c.form_of.ensures ∙ ap (option_map form_in) c.in-None.is
+returns-in-None-clause-usage g c two = sym c.form_of.ensures.form ∙ ap (option_map form_in) c.in-None.is
 
 pub returns-in-None-clause-read : goal.returns-in-None-clause-read
 returns-in-None-clause-read g c four =
@@ -40,7 +43,7 @@ returns-in-None-clause-grows g c = grows_none (g.L.Library.asked c.args.lib.now)
 
 pub returns-in-Some-Solve-clause-run : goal.returns-in-Some-Solve-clause-run
 returns-in-Some-Solve-clause-run g c files =
-    let form : form_of (map string_bytes c.args.words.now) ≡ Some (Solve c.in-Some-Solve.file.now) = sym c.form_of.ensures ∙ ap (option_map form_in) c.in-Some-Solve.is ∙ ap (λ (w : Words). Some (form_in w)) c.in-Some-Solve.field-0-is in
+    let form : form_of (map string_bytes c.args.words.now) ≡ Some (Solve c.in-Some-Solve.file.now) = sym c.form_of.ensures.form ∙ ap (option_map form_in) c.in-Some-Solve.is ∙ ap (λ (w : Words). Some (form_in w)) c.in-Some-Solve.field-0-is in
     rw form (c.solve.ensures.run files)
 
 pub returns-in-Some-Solve-clause-usage : goal.returns-in-Some-Solve-clause-usage
@@ -48,7 +51,7 @@ returns-in-Some-Solve-clause-usage g c two = absurd (c.solve.ensures.untold.usag
 
 pub returns-in-Some-Cert-clause-run : goal.returns-in-Some-Cert-clause-run
 returns-in-Some-Cert-clause-run g c files =
-    let form : form_of (map string_bytes c.args.words.now) ≡ Some (Cert c.in-Some-Cert.file.now) = sym c.form_of.ensures ∙ ap (option_map form_in) c.in-Some-Cert.is ∙ ap (λ (w : Words). Some (form_in w)) c.in-Some-Cert.field-0-is in
+    let form : form_of (map string_bytes c.args.words.now) ≡ Some (Cert c.in-Some-Cert.file.now) = sym c.form_of.ensures.form ∙ ap (option_map form_in) c.in-Some-Cert.is ∙ ap (λ (w : Words). Some (form_in w)) c.in-Some-Cert.field-0-is in
     rw form (c.solve-in-Some-Cert.ensures.run files)
 
 pub returns-in-Some-Cert-clause-usage : goal.returns-in-Some-Cert-clause-usage
@@ -56,8 +59,60 @@ returns-in-Some-Cert-clause-usage g c two = absurd (c.solve-in-Some-Cert.ensures
 
 pub returns-in-Some-Check-clause-run : goal.returns-in-Some-Check-clause-run
 returns-in-Some-Check-clause-run g c files =
-    let form : form_of (map string_bytes c.args.words.now) ≡ Some (Check c.in-Some-Check.script.now c.in-Some-Check.certificate.now) = sym c.form_of.ensures ∙ ap (option_map form_in) c.in-Some-Check.is ∙ ap (λ (w : Words). Some (form_in w)) c.in-Some-Check.field-0-is in
+    let form : form_of (map string_bytes c.args.words.now) ≡ Some (Check c.in-Some-Check.script.now c.in-Some-Check.certificate.now) = sym c.form_of.ensures.form ∙ ap (option_map form_in) c.in-Some-Check.is ∙ ap (λ (w : Words). Some (form_in w)) c.in-Some-Check.field-0-is in
     rw form (c.check.ensures.run files)
 
 pub returns-in-Some-Check-clause-usage : goal.returns-in-Some-Check-clause-usage
 returns-in-Some-Check-clause-usage g c two = absurd (c.check.ensures.untold.usage two)
+
+pub write_script-requires : goal.write_script-requires
+write_script-requires g c = rw (c.in-Some-Gen.is, c.in-Some-Gen.field-0-is) at c.form_of.ensures.some
+
+pub returns-in-Some-Gen-clause-run : goal.returns-in-Some-Gen-clause-run
+returns-in-Some-Gen-clause-run g c files told =
+    let number = c.in-Some-Gen.number in
+    let sections = c.in-Some-Gen.sections in
+    let form : form_of (map string_bytes c.args.words.now) ≡ Some (Gen number sections) = sym c.form_of.ensures.form ∙ ap (option_map form_in) c.in-Some-Gen.is ∙ ap (λ (w : Words). Some (form_in w)) c.in-Some-Gen.field-0-is in
+    rw form (alone_runs g.L.Library.faults g.L.Library.asked g.S.Sink.taken g.S.Sink.calls c.args.lib.now c.args.out.now c.write_script.new.out (λ h. h ≡ script_written number sections) report IsSolved c.write_script.result
+    (printed_alone g.S.Sink.taken g.S.Sink.calls c.args.out.now c.write_script.new.out (script_written number sections) report IsSolved c.write_script.result (lines_good IsSolved (script_of number sections)) c.write_script.ensures.prints))
+
+pub returns-in-Some-Gen-clause-statuses : goal.returns-in-Some-Gen-clause-statuses
+returns-in-Some-Gen-clause-statuses g c =
+    (untold_last g.L.Library.faults g.L.Library.asked g.S.Sink.faults g.S.Sink.taken g.S.Sink.calls c.args.lib.now c.args.out.now c.write_script.new.out _ c.write_script.result c.write_script.ensures.prints c.write_script.ensures.write).answers
+
+pub returns-in-Some-Gen-clause-usage : goal.returns-in-Some-Gen-clause-usage
+returns-in-Some-Gen-clause-usage g c two =
+    absurd ((untold_last g.L.Library.faults g.L.Library.asked g.S.Sink.faults g.S.Sink.taken g.S.Sink.calls c.args.lib.now c.args.out.now c.write_script.new.out _ c.write_script.result c.write_script.ensures.prints c.write_script.ensures.write).usage two)
+
+pub returns-in-Some-Gen-clause-read : goal.returns-in-Some-Gen-clause-read
+returns-in-Some-Gen-clause-read g c =
+    (untold_last g.L.Library.faults g.L.Library.asked g.S.Sink.faults g.S.Sink.taken g.S.Sink.calls c.args.lib.now c.args.out.now c.write_script.new.out _ c.write_script.result c.write_script.ensures.prints c.write_script.ensures.write).read
+
+pub returns-in-Some-Gen-clause-last : goal.returns-in-Some-Gen-clause-last
+returns-in-Some-Gen-clause-last g c =
+    (untold_last g.L.Library.faults g.L.Library.asked g.S.Sink.faults g.S.Sink.taken g.S.Sink.calls c.args.lib.now c.args.out.now c.write_script.new.out _ c.write_script.result c.write_script.ensures.prints c.write_script.ensures.write).last
+
+pub returns-in-Some-Gen-clause-grows : goal.returns-in-Some-Gen-clause-grows
+returns-in-Some-Gen-clause-grows g c = grows_none (g.L.Library.asked c.args.lib.now)
+
+pub bench-requires : goal.bench-requires
+bench-requires g c = rw (c.in-Some-Bench.is, c.in-Some-Bench.field-0-is) at c.form_of.ensures.some
+
+pub returns-in-Some-Bench-clause-run : goal.returns-in-Some-Bench-clause-run
+returns-in-Some-Bench-clause-run g c files told =
+    let number = c.in-Some-Bench.number in
+    let sections = c.in-Some-Bench.sections in
+    let form : form_of (map string_bytes c.args.words.now) ≡ Some (Bench number sections) = sym c.form_of.ensures.form ∙ ap (option_map form_in) c.in-Some-Bench.is ∙ ap (λ (w : Words). Some (form_in w)) c.in-Some-Bench.field-0-is in
+    rw form (alone_runs g.L.Library.faults g.L.Library.asked g.S.Sink.taken g.S.Sink.calls c.args.lib.now c.args.out.now c.bench.new.out (λ h. IsBenchHistory number sections h) lines_alone IsSolved c.bench.result c.bench.ensures.run)
+
+pub returns-in-Some-Bench-clause-usage : goal.returns-in-Some-Bench-clause-usage
+returns-in-Some-Bench-clause-usage g c two = absurd (c.bench.ensures.usage two)
+
+pub returns-in-Some-Bench-clause-read : goal.returns-in-Some-Bench-clause-read
+returns-in-Some-Bench-clause-read g c four = absurd (c.bench.ensures.read four)
+
+pub returns-in-Some-Bench-clause-last : goal.returns-in-Some-Bench-clause-last
+returns-in-Some-Bench-clause-last g c four = absurd (c.bench.ensures.read four)
+
+pub returns-in-Some-Bench-clause-grows : goal.returns-in-Some-Bench-clause-grows
+returns-in-Some-Bench-clause-grows g c = grows_none (g.L.Library.asked c.args.lib.now)

@@ -4,7 +4,7 @@ use Rattle.fd_outcome.specs.Work.{ends, goes}
 use Rattle.fd_app.specs.Checks.{IsCheckStep, gathered}
 use Rattle.fd_app.specs.Gathered.{solved_by}
 use Rattle.fd_app.proofs.Gathering.{one_check_step}
-use Rattle.fd_app.proofs.Handed.{ends_refused, ends_without_memory, goes_changed}
+use Rattle.fd_app.proofs.Handed.{ends_refused, ends_without_memory, goes_silent}
 use Rattle.fd_app.proofs.check.GatheredLine.take.Goals as goal
 
 pub returns-in-Ok-None-clause-goes : goal.returns-in-Ok-None-clause-goes
@@ -12,7 +12,7 @@ returns-in-Ok-None-clause-goes g c none =
     let now = gathered c.follow.new.circuit (solved_by c.follow.new.commands.items) c.self.inside.certificate in
     let told = rw c.in-Ok-None.field-0-is at c.in-Ok-None.ensures in
     let right = subst (λ s. IsCheckStep c.args.command s (goes [] now)) c.self.view_is (told.step c.self.inside.certificate) in
-    goes_changed report (IsCheckStep c.args.command c.args.self.now) g.S.Sink.taken g.S.Sink.calls now c.args.out.now c.args._begun.now right
+    goes_silent report (IsCheckStep c.args.command c.args.self.now) g.S.Sink.taken g.S.Sink.calls now c.args.out.now c.args._begun.now right
 
 pub returns-in-Ok-Some-clause-ends : goal.returns-in-Ok-Some-clause-ends
 returns-in-Ok-Some-clause-ends g c =

@@ -1,0 +1,15 @@
+use Rattle.std.proofs.Common.{[], ◌∷◌, refl}
+use Rattle.fd_outcome.specs.Events.{finishes, line}
+use Rattle.fd_outcome.proofs.CallerLemmas.{exactly_this}
+use Rattle.fd_app.specs.Bench.{tally_text}
+use Rattle.fd_app.proofs.Benched.{one_bench_step}
+use Rattle.fd_app.proofs.bench.BenchStateLine.law.Goals as goal
+
+pub returns-clause-one_step : goal.returns-clause-one_step
+returns-clause-one_step c command state = one_bench_step command state
+
+pub returns-clause-one_last : goal.returns-clause-one_last
+returns-clause-one_last c state found = exactly_this (finishes (line (tally_text state.sections state.tally) ∷ []))
+
+pub returns-clause-fits : goal.returns-clause-fits
+returns-clause-fits c = record { asks = λ n. refl; silent = λ n. refl }

@@ -1,0 +1,30 @@
+use Rattle.std.proofs.Common.{◌∙◌, Some, ap, arith}
+use Rattle.std.specs.FinMap.{from_entries}
+use Rattle.fd_outside.specs.Files.{held}
+use Rattle.dss_values.specs.Names.{bytes}
+use Rattle.dss_script.specs.Said.{end_in, said_in}
+use Rattle.dss_script.specs.Sessions.{remaining}
+use Rattle.fd_outcome.specs.History.{IsFrom}
+use Rattle.fd_app.specs.Bench.{feeder_files, lines_alone}
+use Rattle.fd_app.specs.Benching.{IsBenchLast, IsBenchStep, no_bench_name}
+use Rattle.fd_app.specs.Run.{IsBenchHistory}
+use Rattle.fd_app.proofs.Benched.{bench_history, short_alone, without_library}
+use Rattle.fd_app.proofs.Runs.{one_bench}
+use Rattle.fd_app.proofs.bench.bench.Goals as goal
+
+pub returns-in_default-clause-run : goal.returns-in_default-clause-run
+returns-in_default-clause-run g c = short_alone g.S.Sink.taken g.S.Sink.calls c.args.out.now (λ h. IsBenchHistory c.args.number c.args.sections h) lines_alone (one_bench c.args.number c.args.sections)
+
+pub returns-in_default-open-clause-run : goal.returns-in_default-open-clause-run
+returns-in_default-open-clause-run g c = short_alone g.S.Sink.taken g.S.Sink.calls c.args.out.now (λ h. IsBenchHistory c.args.number c.args.sections h) lines_alone (one_bench c.args.number c.args.sections)
+
+pub returns-clause-run : goal.returns-clause-run
+returns-clause-run g c =
+    let files = feeder_files c.args.number c.args.sections in
+    let script = remaining files c.in-Ok-open.session in
+    let told = c.new-lib.ensures.holds ∙ ap (λ entries. Some (from_entries entries)) c.in-Ok.ensures in
+    without_library _ _ g.S.Sink.taken g.S.Sink.calls c.new-lib.result c.run_script.new.lib c.args.out.now c.run_script.new.out
+    (λ h. IsFrom IsBenchStep no_bench_name IsBenchLast (λ n. held files (bytes n)) (record { left = said_in script; end = end_in script; state = c.new-line.result }) h)
+    (λ h. IsBenchHistory c.args.number c.args.sections h)
+    (bench_history c.said_law.ensures c.args.number c.args.sections script c.new-line.result (c.in-Ok-open.ensures.script files) c.new-line.ensures)
+    c.run_script.result (λ rose. omega (arith, rose)) (c.run_script.ensures.run files told)

@@ -1,0 +1,8 @@
+use Rattle.std.proofs.Common.{◌≡◌, ◌++◌, drop}
+use Rattle.std.specs.List.{concat}
+use Rattle.fd_outside.specs.Emitted.{pieces_of}
+use Rattle.fd_app.proofs.feeder.joined.Given as goal
+
+-- the bytes so far, and those of the records that are left
+abbrev pub invariant-loop-record : goal.invariant-loop-record
+invariant-loop-record l = l.text.items ++ concat (pieces_of (drop l.record-index l.records)) ≡ concat (pieces_of l.records)
