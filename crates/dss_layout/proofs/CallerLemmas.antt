@@ -15,6 +15,8 @@ use Rattle.dss_layout.proofs.Membership.{in_from_contains, in_from_get}
 use Rattle.dss_layout.proofs.Noted.{found}
 pub use Rattle.dss_layout.proofs.Among.{both_parts, mentions_among}
 pub use Rattle.dss_layout.proofs.Phases.{length-phases, sum_with_own, sum_within}
+pub use Rattle.dss_layout.proofs.Placing.{drop-more, take-more}
+pub use Rattle.dss_layout.proofs.Walk.{first_isolated_at, fed_up_to}
 
 by_first : (o : Option ℕ) (es : Elements) (v : LayoutView) → laid_out_unless o es ≡ Ok v → (v ≡ layout_of es) × (o ≡ None)
 by_first None es v h = (let e : layout_of es ≡ v = cc in sym e, refl)

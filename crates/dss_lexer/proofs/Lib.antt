@@ -4,4 +4,5 @@ pub mod Each
 pub mod Stacks
 pub mod Words
 pub mod SameText
+pub mod CallerLemmas
 pub mod AsciiNumbers

@@ -13,6 +13,7 @@ use Rattle.dss_ready.specs.Passed.{IsFit, PassedLaw}
 use Rattle.dss_ready.specs.Support.{frequency_of}
 use Rattle.dss_ready.proofs.Fitting.{same_frequency, values_fit, without_fault}
 use Rattle.dss_ready.proofs.Passing.{Passes, each_passes}
+pub use Rattle.dss_ready.proofs.Limits.{too_many_within}
 
 -- what holds of all elements holds of the one at a place
 at_place : (P : ElementName × Element → Type 0) (elements : Elements) (place : ℕ) (entry : ElementName × Element) → All P elements → slice_get elements place ≡ Some entry → P entry

@@ -9,7 +9,7 @@ use Rattle.std.proofs.lemmas.Str.{encodes_same}
 use Rattle.dss_lexer.specs.declared.pair.Pair.{Pair}
 use Rattle.std.specs.Prelude.{codes}
 use Rattle.dss_lexer.specs.Texts.{is_empty, text_eq}
-use Rattle.dss_lexer.proofs.SameText.{same_from}
+use Rattle.dss_lexer.proofs.CallerLemmas.{same_from}
 use Rattle.dss_values.specs.Names.{named, bytes, lower, is_name}
 use Rattle.dss_script.specs.declared.meaning.Target.{Target}
 use Rattle.dss_script.specs.declared.meaning.CommandWord.{CommandWord}

@@ -10,7 +10,7 @@ use Rattle.std.proofs.lemmas.List.{length-map}
 use Rattle.std.proofs.lemmas.Str.{encodes_same}
 use Rattle.indexmap.specs.IndexMap.{insert_entry}
 use Rattle.dss_lexer.specs.declared.pair.Pair.{Pair}
-use Rattle.dss_lexer.proofs.SameText.{same_from}
+use Rattle.dss_lexer.proofs.CallerLemmas.{same_from}
 use Rattle.dss_values.specs.Answers.{◌>>=◌, or_fault}
 use Rattle.dss_values.specs.Names.{bytes, lower, named}
 use Rattle.dss_values.specs.declared.fault.ModelFault.{ModelFault}

@@ -25,7 +25,7 @@ use Rattle.fd_source.specs.declared.data.SourceData.{SourceData}
 use Rattle.fd_source.specs.Equations.{IsSource, constants_from, phase_constants, source_constants, source_list}
 use Rattle.fd_source.specs.Phasors.{cosine, cosines, steps_of, volts_im, volts_re}
 use Rattle.fd_source.proofs.CallerLemmas.{source_is}
-use Rattle.fd_elements.proofs.Quotients.{near_most}
+use Rattle.fd_exact.specs.Nearest.{near_most}
 use Rattle.fd_load.specs.Current.{IsPast, power_sum}
 use Rattle.fd_load.proofs.CallerLemmas.{within_limit}
 use Rattle.fd_equations.specs.Conditions.{HasMagnitude, IsAmong, IsKnown, IsServed}

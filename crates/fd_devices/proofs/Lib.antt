@@ -6,6 +6,7 @@ pub mod Counting
 pub mod Bounded
 pub mod Transformers
 pub mod Capacitors
+pub mod CallerLemmas
 pub mod Collecting
 pub mod Steps
 pub mod Settling

@@ -14,7 +14,7 @@ use Rattle.dss_profile.specs.declared.transformer.Winding.{Winding}
 use Rattle.dss_profile.specs.InRange.{ElementInRange, TransformerInRange}
 use Rattle.dss_profile.specs.Ranges.{IsTap}
 use Rattle.dss_layout.specs.Layout.{Elements}
-use Rattle.dss_layout.proofs.Placing.{drop-more}
+use Rattle.dss_layout.proofs.CallerLemmas.{drop-more}
 use Rattle.fd_xfmr.specs.Leakage.{AreTaps}
 use Rattle.fd_devices.specs.Settings.{bank_count, tap_count}
 use Rattle.fd_devices.specs.Snapshot.{closed_of, powers_of, taps_of}

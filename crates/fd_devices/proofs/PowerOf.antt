@@ -10,8 +10,7 @@ use Rattle.dss_profile.specs.Ranges.{IsPowerFactor}
 use Rattle.dss_profile.specs.declared.load.Load.{Load}
 use Rattle.fd_elements.specs.declared.powers.LoadPower.{LoadPower}
 use Rattle.fd_elements.specs.Powers.{IsByPowerFactor, IsLoadPower, IsReactive, phase_power, square}
-use Rattle.fd_elements.proofs.Answers.{same_power}
-use Rattle.fd_elements.proofs.Reactive.{by_sign}
+use Rattle.fd_elements.proofs.CallerLemmas.{by_sign, same_power}
 use Rattle.fd_devices.specs.Snapshot.{power_of, reactive_by, reactive_size}
 use Rattle.fd_source.proofs.CallerLemmas.{greatest_holds, greatest_most}
 

@@ -5,7 +5,7 @@ use Rattle.std.proofs.Math.Seq.{take-suc, drop-cons}
 use Rattle.std.proofs.lemmas.Grind.{flat_map-append}
 use Rattle.std.proofs.lemmas.List.{append-nil}
 use Rattle.std.proofs.lemmas.Option.{slice_get_within, get_or_from_slice_get}
-use Rattle.dss_layout.proofs.Placing.{take-more}
+use Rattle.dss_layout.proofs.CallerLemmas.{take-more}
 use Rattle.fd_exact.specs.Sums.{list_n}
 use Rattle.fd_system.specs.declared.constants.Constant.{Constant}
 use Rattle.fd_source.specs.Equations.{constants_from}

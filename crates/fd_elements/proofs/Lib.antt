@@ -1,4 +1,4 @@
-pub mod Quotients
+pub mod CallerLemmas
 pub mod Given
 pub mod Reactive
 pub mod Answers

@@ -5,7 +5,7 @@
 // them are in the ranges that the equations of these elements require; that Range is the answer exactly for a source by short-circuit power with
 // more than 10^4 ohm, which the tests of Solve refuse too.
 //
-// Modules: `connections` has the connection of phases, `rounding` rounds quotients to the nearest, `volts` has voltages of phases, `lines`, `sources` and `loads` the data of the
+// Modules: `connections` has the connection of phases, `volts` has voltages of phases, `lines`, `sources` and `loads` the data of the
 // elements, `powers` the powers of loads, `laws` says that a load has just one power.
 #![tactic(auto)]
 
@@ -14,7 +14,6 @@ mod laws;
 mod lines;
 mod loads;
 mod powers;
-mod rounding;
 mod sources;
 mod volts;
 

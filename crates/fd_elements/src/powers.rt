@@ -5,9 +5,8 @@ ghost use Rattle.dss_profile.specs.Ranges.{IsBetween, IsOneOf, IsPower, IsPowerF
 ghost use Rattle.dss_profile.specs.InRange.{LoadInRange};
 ghost use Rattle.fd_elements.specs.Powers.{ArePowers, IsByPowerFactor, IsLoadPower, IsReactive, phase_power};
 
-use crate::rounding::nearest;
 use dss_profile::{Load, ReactiveRule};
-use fd_arith::isqrt;
+use fd_arith::{isqrt, near_quotient};
 
 /// The power of one phase of a load, in whole thousandths of a volt-ampere.
 #[derive(Clone, Copy, PartialEq, Eq, Debug)]
@@ -43,7 +42,7 @@ fn part(total: i128, point: i128, phases: u32) -> i128
     ensures value { result ≡ phase_power total point phases }
     ensures most { nat_abs result ≤ 3 * 10 ^ 14 }
 {
-    nearest(at_point(total, point), 1_000_000_000_000 * phases as u128)
+    near_quotient(at_point(total, point), 1_000_000_000_000 * phases as u128)
 }
 
 // A power at a point of the shape, in 10^-18.

@@ -3,7 +3,7 @@ ghost use Rattle.std.specs.Prelude.{◌≡◌, ℕ, ◌*◌, ◌^◌, ℤ, pos, 
 ghost use Rattle.fd_exact.specs.Ranges.{UpTo};
 ghost use Rattle.fd_elements.specs.Volts.{part_of as volts_part, part_over_root_three as volts_part_over_root_three};
 
-use crate::rounding::nearest;
+use fd_arith::near_quotient;
 
 // root three, in 10^-15
 const ROOT_THREE: u128 = 1_732_050_807_568_877;
@@ -17,7 +17,7 @@ pub fn part_of(part: i128, volts: i128) -> i128
     ensures most { (q : ℕ) → (part *ℤ volts) ≤ℤ pos (q * 10 ^ 9) → result ≤ℤ pos q }
     ensures least { (q : ℕ) → pos (q * 10 ^ 9) ≤ℤ (part *ℤ volts) → pos q ≤ℤ result }
 {
-    nearest(part * volts, 1_000_000_000)
+    near_quotient(part * volts, 1_000_000_000)
 }
 
 /// A part, in 10^-9, of a voltage between phases, as that of a phase.
@@ -27,7 +27,7 @@ pub fn part_over_root_three(part: i128, volts: i128) -> i128
     ensures value { result ≡ volts_part_over_root_three part volts }
     ensures most { UpTo (2 * 10 ^ 12) result }
 {
-    nearest(product(part, volts) * 1_000_000, ROOT_THREE)
+    near_quotient(product(part, volts) * 1_000_000, ROOT_THREE)
 }
 
 // A part times a voltage.

@@ -18,14 +18,14 @@ use Rattle.fd_arith.specs.Limits.{fits}
 use Rattle.fd_arith.specs.declared.terms.NodeAt.{NodeAt}
 use Rattle.fd_arith.specs.declared.terms.NodeAt.TheVariants.{Ground, Node}
 use Rattle.fd_load.specs.Current.{AreVoltages, IsLoadPhase, divisor, excess, in_phase, quadrature}
-use Rattle.fd_load.proofs.Drawn.{current_is, divisor-positive, magnitude_is}
+use Rattle.fd_load.proofs.CallerLemmas.{current_is, divisor-positive, magnitude_is}
 use Rattle.fd_system.specs.declared.loads.LoadAt.{LoadAt}
 use Rattle.fd_system.specs.Complex.{Complex, negative}
 use Rattle.fd_system.specs.Equations.{alone, both, seen}
 use Rattle.fd_system.specs.Loads.{load_current, load_parts, magnitude_parts, magnitude_row, nonlinear_parts}
 use Rattle.fd_system.specs.Residual.{HasParts, fraction_interval, whole_state, with_part}
 use Rattle.fd_system.specs.System.{nonlinear_of}
-use Rattle.fd_system.proofs.StampRows.{IsWhole, opposite-pos, side-pos}
+use Rattle.fd_system.proofs.CallerLemmas.{IsWhole, opposite-pos, side-pos}
 use Rattle.fd_equations.specs.Conditions.{IsPart}
 use Rattle.fd_equations.specs.Enclosure.{with_current, with_drawn, with_magnitude}
 use Rattle.fd_equations.specs.PartLoads.{current_count, current_counts}

@@ -10,11 +10,9 @@ use Rattle.fd_exact.specs.Rounding.{near_div}
 use Rattle.fd_system.specs.declared.loads.LoadPhase.{LoadPhase}
 use Rattle.fd_system.specs.Loads.{clamp, non_negative, square_of}
 use Rattle.fd_load.specs.Current.{AreVoltages, IsLoadPhase, divisor, excess, in_phase, largest, power_sum, quadrature}
-use Rattle.fd_load.proofs.Bounds.{current_most}
-use Rattle.fd_load.proofs.Drawn.{divisor-positive}
 use Rattle.fd_exact.specs.Nearest.{near_within}
 use Rattle.fd_equations.proofs.Sizes.{kept_by}
-use Rattle.fd_load.proofs.Sizes.{sum_most, times_most, turned, turned_largest}
+use Rattle.fd_load.proofs.CallerLemmas.{current_most, divisor-positive, sum_most, times_most, turned, turned_largest}
 
 -- ---- the denominator is at least the square of the lower limit
 

@@ -16,7 +16,7 @@ use Rattle.fd_system.specs.declared.loads.LoadAt.{LoadAt}
 use Rattle.fd_system.specs.Contributions.{AreSmall}
 use Rattle.fd_system.specs.System.{nonlinear_of, residual_of}
 use Rattle.fd_system.specs.Residual.{HasDen, IsConstant, IsTerm, linear_interval, residual_interval, whole_state, with_part}
-use Rattle.fd_system.proofs.Intervals.{residual_holds}
+use Rattle.fd_system.proofs.CallerLemmas.{residual_holds}
 use Rattle.fd_equations.specs.Coefficients.{count_at, linear_entry, row_count}
 use Rattle.fd_equations.specs.Conditions.{AreKnown, IsKnown, IsLinear, IsNetwork, IsPart, IsPoint, magnitude_count}
 use Rattle.fd_equations.specs.Enclosure.{EndsWithin, addend_count, interval_residual_of, summand_count}

@@ -11,7 +11,7 @@ use Rattle.fd_equations.proofs.CallerLemmas.{length-list_of}
 use Rattle.fd_mat.specs.Rows.{first_column_past}
 use Rattle.fd_inverse.specs.Elimination.{inverse_of}
 use Rattle.fd_inverse.specs.declared.fault.Stop.{Stop}
-use Rattle.fd_inverse.proofs.Inverses.{fault_column, inverse_size}
+use Rattle.fd_inverse.proofs.CallerLemmas.{fault_column, inverse_size}
 use Rattle.fd_inject.specs.Faults.{IsInside, UnlessMemory}
 use Rattle.fd_inject.specs.Procedure.{Iterate, after, first_moving, is_moving_at, iterated, judged, last_from, last_of, next_iterate, polished, solution_of, start_of, stepped, with_nominal}
 use Rattle.fd_inject.specs.Ranges.{first_past, in_range, inverse_at, inverse_unless, unless_past, without_inverse}

@@ -5,6 +5,9 @@ use Rattle.fd_load.specs.Current.{in_phase, quadrature}
 use Rattle.fd_load.specs.ExactSlopes.{SlopeLaw}
 use Rattle.fd_load.proofs.Away.{slopes_near}
 use Rattle.fd_load.proofs.Drawn.{phase_top, quadrature_top}
+pub use Rattle.fd_load.proofs.Bounds.{current_most}
+pub use Rattle.fd_load.proofs.Drawn.{current_is, divisor-positive, magnitude_is}
+pub use Rattle.fd_load.proofs.Sizes.{sum_most, times_most, turned, turned_largest}
 pub use Rattle.fd_load.proofs.WithinLimit.{within_limit}
 
 -- how near the rounded slopes are to the exact ones

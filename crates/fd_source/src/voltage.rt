@@ -6,6 +6,7 @@ ghost use Rattle.fd_source.specs.Phasors.{cosine as cosine_at, steps_of, volts_i
 ghost use Rattle.fd_source.specs.Equations.{IsSource};
 
 use crate::data::SourceData;
+use fd_arith::near_quotient;
 
 // a cosine of 1, of the half of root three and of one half, in 10^-15
 const ONE: i128 = 1_000_000_000_000_000;
@@ -43,7 +44,7 @@ fn component(volts: i128, steps: u32) -> i128
     requires volts { UpTo (2 * 10 ^ 12) volts }
     ensures { result ≡ near_div (volts *ℤ cosine_at steps) (10 ^ 15) }
 {
-    nearest(volts * cosine(steps))
+    near_quotient(volts * cosine(steps), ONE as u128)
 }
 
 // The cosine of this many steps of 30 degrees, in 10^-15.
@@ -60,14 +61,4 @@ fn cosine(steps: u32) -> i128
         6 => -ONE,
         _ => 0,
     }
-}
-
-// A number in 10^-15, to the nearest whole number, ties away from zero.
-fn nearest(n: i128) -> i128
-    requires { nat_abs n ≤ 2 ^ 100 }
-    ensures { result ≡ near_div n (10 ^ 15) }
-{
-    let one = ONE as u128;
-    let size = (2 * n.unsigned_abs() + one) / (2 * one);
-    if n < 0 { -(size as i128) } else { size as i128 }
 }

@@ -3,7 +3,7 @@ use Rattle.std.specs.List.{fold}
 use Rattle.std.proofs.lemmas.List.{take_all}
 use Rattle.std.proofs.lemmas.List.Elements.{All-get_or}
 use Rattle.fd_system.specs.Residual.{IsConstant, constant_added}
-use Rattle.fd_system.proofs.Intervals.{length-constants}
+use Rattle.fd_system.proofs.CallerLemmas.{length-constants}
 use Rattle.fd_equations.proofs.Folds.{fold_more}
 use Rattle.fd_equations.proofs.rows.add_constants.Goals as goal
 

@@ -5,7 +5,7 @@ use Rattle.dss_ready.specs.Ready.{blame_at}
 use Rattle.fd_devices.specs.Devices.{AgreesWith, parts_of_all}
 use Rattle.fd_devices.specs.Scripted.{devices_from, devices_of}
 use Rattle.fd_devices.specs.Settings.{settings_of}
-use Rattle.fd_devices.proofs.Collecting.{devices_length}
+use Rattle.fd_devices.proofs.CallerLemmas.{devices_length}
 use Rattle.fd_network.specs.Assembled.{parts_network}
 use Rattle.fd_network.specs.Collecting.{settings_left}
 use Rattle.fd_network.specs.Faults.{first_out_of_range}

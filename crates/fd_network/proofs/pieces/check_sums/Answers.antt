@@ -9,7 +9,7 @@ use Rattle.fd_devices.specs.Building.{HasSmallSums}
 use Rattle.fd_devices.specs.Devices.{Added}
 use Rattle.fd_devices.specs.Scripted.{device_of, devices_from}
 use Rattle.fd_devices.specs.Settings.{own}
-use Rattle.fd_devices.proofs.Collecting.{devices_length}
+use Rattle.fd_devices.proofs.CallerLemmas.{devices_length}
 use Rattle.fd_network.specs.Collecting.{settings_left}
 use Rattle.fd_network.specs.Faults.{first_without, has_small_sums}
 use Rattle.fd_network.proofs.Faulty.{first_at, no_misfit, sums_decide}

@@ -8,7 +8,7 @@ use Rattle.fd_devices.specs.Building.{AreCollected}
 use Rattle.fd_devices.specs.Devices.{added_of}
 use Rattle.fd_devices.specs.Scripted.{device_of, devices_from}
 use Rattle.fd_devices.specs.Settings.{own}
-use Rattle.fd_devices.proofs.Collecting.{collected_more, devices_length}
+use Rattle.fd_devices.proofs.CallerLemmas.{collected_more, devices_length}
 use Rattle.fd_network.specs.Collecting.{settings_left}
 use Rattle.fd_network.proofs.Faulty.{misfit_first}
 use Rattle.fd_network.proofs.Taking.{IsAt, device_next, drop_next, next_at, taken_at, take_more}

@@ -6,7 +6,7 @@ use Rattle.dss_profile.specs.declared.element.Element.{Element}
 use Rattle.dss_profile.specs.declared.names.ElementName.{ElementName}
 use Rattle.dss_layout.specs.Layout.{Elements}
 use Rattle.fd_devices.specs.Settings.{power_count}
-use Rattle.fd_devices.proofs.Collecting.{list_n-more}
+use Rattle.fd_devices.proofs.CallerLemmas.{list_n-more}
 use Rattle.fd_network.proofs.Taking.{drop_next, take_more}
 use Rattle.fd_network.proofs.tests.count_powers.Goals as goal
 

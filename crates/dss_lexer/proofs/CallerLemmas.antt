@@ -1,0 +1,2 @@
+-- The lemmas that this crate hands on.
+pub use Rattle.dss_lexer.proofs.SameText.{same_from}

@@ -1,0 +1,3 @@
+-- The lemmas that this crate hands on.
+pub use Rattle.fd_elements.proofs.Answers.{same_power}
+pub use Rattle.fd_elements.proofs.Reactive.{by_sign}
