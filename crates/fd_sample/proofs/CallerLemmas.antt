@@ -21,6 +21,7 @@ use Rattle.fd_sample.proofs.Kept.{are_probes, each_probe}
 use Rattle.fd_sample.proofs.Listed.{pairs_at}
 use Rattle.fd_sample.proofs.Named.{probe_of}
 use Rattle.fd_sample.proofs.SquareRoots.{root_of, root_up_of}
+pub use Rattle.fd_sample.proofs.SquareRoots.{is_root, is_root_up}
 
 -- ---- square roots
 

@@ -23,7 +23,7 @@ test_true a b e = grind arith
 test_false : (a b : ℕ) → nat_le a b ≡ false → b < a
 test_false a b e = grind arith
 
-is_root : (n : ℕ) → IsRoot n (root_down n)
+pub is_root : (n : ℕ) → IsRoot n (root_down n)
 is_root zero = (omega arith, omega arith)
 is_root (suc n) = next_by (nat_le ((root_down n + 1) * (root_down n + 1)) (suc n)) n (root_down n) (test_true _ _) (test_false _ _) (is_root n)
 
@@ -52,7 +52,7 @@ up_by : (t : Bool) (n r : ℕ) → (t ≡ true → r * r ≡ n) → (t ≡ false
 up_by true n r same less h = (let e = same refl in omega arith, λ s below. let e = same refl in let k = squares_in_order (s + 1) r (omega arith) in omega arith)
 up_by false n r same less h = (let k = h.1 in omega arith, λ s below. let e = less refl in let k = squares_in_order s r (omega arith) in omega arith)
 
-is_root_up : (n : ℕ) → IsRootUp n (root_up n)
+pub is_root_up : (n : ℕ) → IsRootUp n (root_up n)
 is_root_up n = let h = is_root n in
     up_by (eqb (root_down n * root_down n) n) n (root_down n) (λ e. eqb-true (root_down n * root_down n) n e) (λ e. differ (root_down n * root_down n) n e h.0) h
 
