@@ -2,6 +2,7 @@ pub mod Lines
 pub mod Names
 pub mod Solutions
 pub mod Sizes
+pub mod Enclosed
 pub mod Records
 pub mod Faults
 pub mod Texts

@@ -9,6 +9,7 @@
 //! - `line`: a record of its fields
 //! - `solution`: the numbers of a solution
 //! - `sizes`: the least and the greatest size of a phasor within its radii
+//! - `laws`: what these sizes say of other states
 //! - `texts`: the numbers of an unknown as texts
 //! - `report`: the records of a solution
 //! - `controls`: the records of acts, of taps and of banks
@@ -21,6 +22,7 @@ mod accepted;
 mod bases;
 mod controls;
 mod faults;
+mod laws;
 mod line;
 mod names;
 mod report;
@@ -32,5 +34,6 @@ pub use accepted::accepted_record;
 pub use bases::base_record;
 pub use controls::{Position, act_record, bank_record, tap_record};
 pub use faults::{Cause, Fault, Scale, name_at, record, status};
+pub use laws::size_law;
 pub use report::records;
 pub use solution::Solution;
