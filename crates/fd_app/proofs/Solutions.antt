@@ -21,14 +21,15 @@ use Rattle.fd_enclosure.specs.Sound.{Claim, claim_of, mismatch_at, mismatches_of
 use Rattle.fd_enclosure.specs.Ties.{BallLaw, IsTied, TieLaw}
 use Rattle.fd_enclosure.proofs.CallerLemmas.{claim_is}
 use Rattle.fd_queue.specs.Controls.{Positions}
-use Rattle.fd_report.specs.Solutions.{IsOfSize}
+use Rattle.fd_report.specs.Solutions.{IsOfSize, solution_of}
+use Rattle.fd_report.proofs.CallerLemmas.{sizes}
 use Rattle.fd_settle.specs.Compute.{IsComputed}
 use Rattle.fd_settle.specs.Contract.{limits_of}
 use Rattle.fd_settle.specs.Plant.{network_at}
 use Rattle.fd_settle.specs.Start.{IsSoundAt}
 use Rattle.fd_outcome.specs.Pages.{solution_in}
 use Rattle.fd_devices.specs.Hours.{hour_powers}
-use Rattle.fd_app.specs.Headline.{EnclosesOthers, IsOtherState, IsSolution, equation_count, equations_of, hour_network}
+use Rattle.fd_app.specs.Headline.{EnclosesOthers, EnclosesSizes, IsOtherState, IsSolution, equation_count, equations_of, hour_network}
 use Rattle.fd_outcome.specs.Settles.{round_of}
 use Rattle.fd_queue.specs.Machine.{Act}
 
@@ -116,6 +117,13 @@ module _ (c : CircuitView) (hour : ℕ) (at : Positions) (m : Claim) (here : IsS
         own_radius (2 * k) (omega (arith, inside, here.network.unknowns)) ∙ (ball (hour_network c hour at) m.centre m.inverse (mismatches_of (hour_network c hour at) m.centre) k here.network.nodes inside).radius
         ∙ sym (own_radius (2 * k + 1) (omega (arith, inside, here.network.unknowns)))
 
+    sizes_of_others : EnclosureLaw → EnclosesSizes c hour at m
+    sizes_of_others law y k other h =
+        let inside : k < (hour_network c hour at).complexes = omega (arith, h, network_complexes c (hour_powers c.elements hour) at) in
+        let near = others law y other in
+        sizes (solution_of m.centre m.radii m.boxes m.mismatches) y k
+        (near (2 * k) (omega (arith, inside, here.network.unknowns))) (near (2 * k + 1) (omega (arith, inside, here.network.unknowns)))
+
     pub is_solution : EnclosureLaw → TieLaw → BallLaw → IsSolution c hour at m
     is_solution law tie ball = record {
       state = computed.point;
@@ -123,6 +131,7 @@ module _ (c : CircuitView) (hour : ℕ) (at : Positions) (m : Claim) (here : IsS
       sound = here.sound;
       meets = up (number_at m.mismatches) (whole_state m.centre) (omega arith) (enclosed law).meets;
       encloses = others law;
+      sizes = sizes_of_others law;
       tied = row_tied tie;
       one_radius = pair ball;
     }

@@ -20,6 +20,8 @@ use Rattle.fd_inject.specs.Procedure.{solution_of}
 use Rattle.fd_queue.specs.Controls.{Positions}
 use Rattle.fd_queue.specs.Decisions.{Decision}
 use Rattle.fd_queue.specs.Machine.{Machine}
+use Rattle.fd_report.specs.Enclosed.{IsSizeBetween}
+use Rattle.fd_report.specs.Solutions as printed
 use Rattle.fd_settle.specs.Chosen.{AreChosen}
 use Rattle.fd_settle.specs.Contract.{limits_of}
 use Rattle.fd_settle.specs.Plant.{controls_in, network_at, settings_at, setup_of, started}
@@ -60,6 +62,10 @@ module _ (circuit : CircuitView) (hour : ℕ) (at : Positions) where
   abbrev pub EnclosesOthers : Claim → Type 0
   EnclosesOthers m = (x : State) → IsOtherState m x → IsWithinRadii hour_network m.centre m.radii x
 
+  -- the size of each voltage and of each current at each of them is from low to high; a node's record prints them
+  abbrev pub EnclosesSizes : Claim → Type 0
+  EnclosesSizes m = (x : State) (k : ℕ) → IsOtherState m x → k < complex_count (layout_of circuit.elements) → IsSizeBetween (printed.solution_of m.centre m.radii m.boxes m.mismatches) x k
+
   -- what is decided over the ball of the round's state is what the controls want at each of them
   abbrev pub DecidesAlike : Claim → Type 0
   DecidesAlike m = (x : State) (ds : List Decision) → IsOtherState m x → look_over (controls_in circuit) at m ≡ Decided ds → look_at (controls_in circuit) at x ≡ Decided ds
@@ -76,14 +82,15 @@ module _ (circuit : CircuitView) (hour : ℕ) (at : Positions) where
 
   -- The state is the one that the procedure reaches, and its certificate is sound: its mismatches, at most 1,000, and
   -- its radii are exactly those of its network. The state meets the equations of the scripted circuit within the
-  -- mismatches; every other state in its box that does is within the radii; and no mismatch is larger than its residual
-  -- and the rounding of its summands.
+  -- mismatches; every other state in its box that does is within the radii, and the sizes of its voltages and currents
+  -- are from low to high; and no mismatch is larger than its residual and the rounding of its summands.
   pub record IsSolution (m : Claim) : Type 0 where
     pub state : solution_of hour_network (limits_of circuit.options) ≡ Ok (m.centre, m.inverse)
     pub certificate : certificate_of hour_network m.centre m.inverse ≡ Ok m
     pub sound : IsSound hour_network m
     pub meets : MeetsRound m (whole_state m.centre)
     pub encloses : EnclosesOthers m
+    pub sizes : EnclosesSizes m
     pub tied : AreTied m
     pub one_radius : HaveOneRadius m
 
