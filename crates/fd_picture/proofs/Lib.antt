@@ -1,10 +1,13 @@
 mod Appends
 mod DotSteps
+mod Framing
 mod LastBases
 mod LineSteps
 mod Marking
+mod Orders
 mod Powers
 mod ReadSteps
 mod Records
+mod Rows
 mod Steps
 mod Utf8

@@ -1,5 +1,5 @@
 -- What the bytes before a place make of the lines behind it.
-use Rattle.std.proofs.Common.{◌≡◌, ◌∙◌, ◌+◌, ◌-◌, ◌<◌, ◌≤◌, ◌==◌, ◌&&◌, ℕ, zero, suc, List, [], ◌∷◌, ◌++◌, length, take, drop, get_or, Bool, true, false, not, if◌then◌else◌, refl, sym, ap, add-one, drop-cons, length-drop, arith}
+use Rattle.std.proofs.Common.{◌≡◌, ◌∙◌, ◌+◌, ◌-◌, ◌<◌, ◌≤◌, ◌==◌, ◌&&◌, ℕ, List, [], ◌∷◌, ◌++◌, length, take, drop, get_or, Bool, true, false, not, refl, sym, ap, add-one, drop-cons, length-drop, arith}
 use Rattle.std.proofs.Math.Seq.{take-length, take-suc}
 use Rattle.std.specs.List.{onto_first}
 use Rattle.std.proofs.lemmas.List.{append-nil, drop_all, take_all}

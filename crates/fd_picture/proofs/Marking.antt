@@ -1,7 +1,7 @@
 -- A panel has one mark for each of its nodes.
-use Rattle.std.proofs.Common.{◌≡◌, ◌∙◌, ◌+◌, ℕ, zero, suc, List, [], ◌∷◌, ◌++◌, length, map, Bool, Some, refl, sym, ap, arith}
+use Rattle.std.proofs.Common.{◌≡◌, ◌∙◌, ◌+◌, ℕ, zero, suc, List, [], ◌∷◌, ◌++◌, length, map, Some, refl, ap, arith}
 use Rattle.std.specs.List.{enumerate_from, flat_map, slice_get}
-use Rattle.fd_picture.specs.Laws.{MarksLaw, mark_at, marks_of}
+use Rattle.fd_picture.specs.Laws.{MarksLaw, mark_at}
 use Rattle.fd_picture.specs.Marks.{mark_of}
 use Rattle.fd_picture.specs.Panels.{marks_text, node_text}
 use Rattle.fd_picture.specs.Texts.{numbered}
@@ -27,8 +27,8 @@ numbered_is text k (x ∷ xs) = ap (λ rest. text k x ++ rest) (numbered_is text
 pub marks_law_holds : MarksLaw
 unfolding mark_of marks_text
 marks_law_holds = record {
-  count = λ bases nodes. count_by (λ p. mark_at bases nodes p.0 p.1) 0 nodes;
-  each = λ bases nodes k node e. each_by (λ p. mark_at bases nodes p.0 p.1) 0 nodes k node e ∙ ap (λ m. Some (mark_at bases nodes m node)) (let place : 0 + k ≡ k = omega arith in place);
+  count = λ bases scale nodes. count_by (λ p. mark_at bases scale p.0 p.1) 0 nodes;
+  each = λ bases scale nodes k node e. each_by (λ p. mark_at bases scale p.0 p.1) 0 nodes k node e ∙ ap (λ m. Some (mark_at bases scale m node)) (let place : 0 + k ≡ k = omega arith in place);
   top = λ axis span per_unit k node. refl;
   height = λ axis span per_unit k node. refl;
   text = λ bases per_unit axis nodes. numbered_is (λ place node. node_text bases per_unit axis place node) 0 nodes;

@@ -1,5 +1,5 @@
 -- The steps of reading a report.
-use Rattle.std.proofs.Common.{◌≡◌, ◌∙◌, ◌+◌, ◌-◌, ◌<◌, ◌^◌, ℕ, zero, suc, List, [], ◌∷◌, ◌++◌, length, take, Option, Some, None, Bool, true, false, Ok, Err, Result, refl, sym, ap, append_assoc, arith, Bor}
+use Rattle.std.proofs.Common.{◌≡◌, ◌∙◌, ◌+◌, ◌-◌, ◌<◌, ◌^◌, ℕ, zero, suc, List, [], ◌∷◌, ◌++◌, length, take, Option, None, true, false, Ok, Err, Result, refl, sym, ap, append_assoc, arith, Bor}
 use Rattle.std.proofs.lemmas.List.{append-nil}
 use Rattle.csv.specs.Reading.{default_config, reader_state, records_from}
 use Rattle.csv.specs.Records.{field_at}

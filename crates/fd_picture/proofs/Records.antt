@@ -1,8 +1,7 @@
 -- What reads of records show.
-use Rattle.std.proofs.Common.{◌≡◌, ◌∙◌, ℕ, suc, List, [], ◌∷◌, Option, Some, None, Bool, true, false, refl, sym, inl, Bor}
+use Rattle.std.proofs.Common.{◌≡◌, ◌∙◌, ℕ, suc, List, [], ◌∷◌, Some, None, true, false, refl, inl, Bor}
 use Rattle.csv.specs.Machine.{Read, next_record}
-use Rattle.csv.specs.Reading.{Reached, default_config, records_from, reader_state, reader_trim, strip_bom, took_first}
-use Rattle.csv.specs.declared.parser.State.{State}
+use Rattle.csv.specs.Reading.{Reached, default_config, records_from, reader_state, reader_trim, took_first}
 use Rattle.csv.specs.declared.reader.Reader.{Reader}
 use Rattle.csv.specs.declared.reader.Trim.TheVariants as trim
 use Rattle.csv.proofs.ReadFacts.{rows-end, rows-more}

@@ -1,5 +1,5 @@
 -- The search for the distance of an axis's lines.
-use Rattle.std.proofs.Common.{◌≡◌, ◌∙◌, ◌+◌, ◌-◌, ◌<◌, ◌≤◌, ℕ, zero, suc, Some, None, refl, sym, ap, arith}
+use Rattle.std.proofs.Common.{◌≡◌, ◌∙◌, ◌+◌, ◌-◌, ◌<◌, ◌≤◌, ℕ, suc, Some, None, refl, ap, arith}
 use Rattle.fd_picture.specs.Scales.{step_for, step_from, step_in, step_or}
 
 pub search_begins : (range : ℕ) → step_for range ≡ step_from (19 - 0) 0 range

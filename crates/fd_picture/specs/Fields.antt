@@ -1,5 +1,5 @@
 -- The fields of a record.
-use Rattle.std.specs.Prelude.{ℕ, List, [], ◌∷◌, ◌++◌, unwrap_or}
+use Rattle.std.specs.Prelude.{ℕ, List, [], ◌∷◌, unwrap_or}
 use Rattle.std.specs.List.{flat_map}
 use Rattle.csv.specs.Records.{field_at}
 

@@ -10,5 +10,6 @@ pub mod Panels
 pub mod Readers
 pub mod Reading
 pub mod Scales
+pub mod Strips
 pub mod Texts
 pub mod Units

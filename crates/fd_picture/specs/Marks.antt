@@ -1,11 +1,9 @@
 -- The marks of a panel: one for each node.
-use Rattle.std.specs.Prelude.{◌≡◌, ◌<◌, ℕ, ◌+◌, ◌-◌, ◌*◌, ◌==◌, ◌&&◌, ◌||◌, nat_lt, max, Bool, List, [], ◌∷◌, ◌++◌, length, Some, slice_get, if◌then◌else◌}
-use Rattle.fd_picture.specs.Scales.{axis_of, level}
-use Rattle.fd_picture.specs.Units.{is_per_unit, span_of}
+use Rattle.std.specs.Prelude.{ℕ, ◌+◌, ◌-◌, ◌*◌, ◌==◌, ◌&&◌, ◌||◌, nat_lt, max, Bool, if◌then◌else◌}
+use Rattle.fd_picture.specs.Scales.{level}
 use Rattle.fd_picture.specs.declared.marks.Mark.{Mark}
 use Rattle.fd_picture.specs.declared.marks.Shape.{Shape}
 use Rattle.fd_picture.specs.declared.marks.Shape.TheVariants as shape
-use Rattle.fd_picture.specs.declared.report.Base.{Base}
 use Rattle.fd_picture.specs.declared.report.Node.{Node}
 use Rattle.fd_picture.specs.declared.units.Span.{Span}
 

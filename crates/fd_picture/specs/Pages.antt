@@ -1,7 +1,9 @@
 -- The page of a report.
-use Rattle.std.specs.Prelude.{ℕ, ◌+◌, ◌-◌, ◌*◌, ◌/◌, ◌%◌, min, max, List, [], ◌∷◌, ◌++◌, length, fold, Option, Some, None, codes, decimal}
+use Rattle.std.specs.Prelude.{ℕ, ◌==◌, if◌then◌else◌, ◌+◌, ◌-◌, ◌*◌, ◌/◌, ◌%◌, min, max, List, [], ◌++◌, length, fold, Option, Some, None, codes, decimal}
 use Rattle.fd_picture.specs.Drafts.{ReportView}
 use Rattle.fd_picture.specs.Panels.{panel_text}
+use Rattle.fd_picture.specs.Scales.{scale_of}
+use Rattle.fd_picture.specs.Strips.{drawn}
 use Rattle.fd_picture.specs.Texts.{attribute, escaped, numbered}
 use Rattle.fd_picture.specs.declared.page.Grid.{Grid}
 use Rattle.fd_picture.specs.declared.report.Base.{Base}
@@ -10,19 +12,20 @@ use Rattle.fd_picture.specs.declared.report.Kind.{Kind}
 use Rattle.fd_picture.specs.declared.report.Kind.TheVariants as kind
 use Rattle.fd_picture.specs.declared.report.Node.{Node}
 use Rattle.fd_picture.specs.declared.report.Panel.{Panel}
+use Rattle.fd_picture.specs.declared.scale.Scale.{Scale}
 
--- the most nodes of a panel, and at least seven
+-- the most nodes of a strip, and at least seven
 abbrev pub most_nodes : List Panel → ℕ
 most_nodes panels = fold (λ most panel. max most (length panel.nodes)) 7 panels
 
 abbrev pub longest_bus : List Node → ℕ
 longest_bus nodes = fold (λ longest node. max longest (length node.bus)) 0 nodes
 
--- the bytes of the longest name of a bus, and at most forty
+-- the bytes of the longest name of a bus, and at most 65,536
 abbrev pub label_length : List Panel → ℕ
-label_length panels = min (fold (λ longest panel. max longest (longest_bus panel.nodes)) 0 panels) 40
+label_length panels = min (fold (λ longest panel. max longest (longest_bus panel.nodes)) 0 panels) 65_536
 
--- the size of a panel, and how many stand beside each other within the width of 1000
+-- the size of a strip, and how many stand beside each other within the width of 1000
 unfoldable pub grid_of : List Panel → Grid
 grid_of panels = record {
   width = 110 + 20 * most_nodes panels;
@@ -30,18 +33,24 @@ grid_of panels = record {
   columns = max (1000 / (110 + 20 * most_nodes panels)) 1;
 }
 
--- the k-th panel at its place on the page: row by row, from the left
-unfoldable pub panel_at : List Base → Grid → ℕ → Panel → List ℕ
-panel_at bases grid k panel =
-    codes "<g transform='translate(" ++ decimal (k % grid.columns * grid.width) ++ codes "," ++ decimal (80 + k / grid.columns * grid.height) ++ codes ")'>\n"
-    ++ panel_text bases panel ++ codes "</g>\n"
+-- the place of the k-th strip on the page: row by row, from the left
+abbrev pub panel_left : Grid → ℕ → ℕ
+panel_left grid k = k % grid.columns * grid.width
 
-unfoldable pub panels_text : List Base → Grid → List Panel → List ℕ
-panels_text bases grid panels = numbered (λ k panel. panel_at bases grid k panel) 0 panels
+abbrev pub panel_top : Grid → ℕ → ℕ
+panel_top grid k = 100 + k / grid.columns * grid.height
 
--- where the table begins below so many panels
+unfoldable pub panel_at : List Base → Scale → Grid → ℕ → Panel → List ℕ
+panel_at bases scale grid k panel =
+    codes "<g transform='translate(" ++ decimal (panel_left grid k) ++ codes "," ++ decimal (panel_top grid k) ++ codes ")'>\n"
+    ++ panel_text bases scale panel ++ codes "</g>\n"
+
+unfoldable pub panels_text : List Base → Scale → Grid → List Panel → List ℕ
+panels_text bases scale grid panels = numbered (λ k panel. panel_at bases scale grid k panel) 0 panels
+
+-- where the table begins below so many strips
 abbrev pub table_top : Grid → ℕ → ℕ
-table_top grid panels = 80 + (panels + (grid.columns - 1)) / grid.columns * grid.height
+table_top grid panels = 100 + (panels + (grid.columns - 1)) / grid.columns * grid.height
 
 abbrev pub kind_name : Kind → List ℕ
 kind_name kind.Act = codes "act"
@@ -56,25 +65,32 @@ number_cell across n = codes "<tspan" ++ attribute (codes "x") across ++ codes "
 
 unfoldable pub entry_text : ℕ → ℕ → Entry → List ℕ
 entry_text top k entry =
-    codes "<text" ++ attribute (codes "y") (top + 54 + 20 * k) ++ codes ">" ++ number_cell 20 entry.settle ++ number_cell 90 entry.hour
-    ++ cell_text 160 (kind_name entry.kind) ++ cell_text 230 entry.time ++ cell_text 350 entry.element ++ cell_text 640 entry.steps
-    ++ cell_text 720 entry.position ++ codes "</text>\n"
+    codes "<text class='row'" ++ attribute (codes "y") (top + 54 + 20 * k) ++ codes ">" ++ number_cell 20 entry.settle ++ number_cell 90 entry.hour
+    ++ cell_text 160 (kind_name entry.kind) ++ cell_text 230 entry.time ++ cell_text 350 entry.steps ++ cell_text 420 entry.position
+    ++ cell_text 600 entry.element ++ codes "</text>\n"
 
 unfoldable pub entries_text : ℕ → List Entry → List ℕ
 entries_text top entries = numbered (λ k entry. entry_text top k entry) 0 entries
 
--- acts, taps and banks in the order of the report
-unfoldable pub table_text : ℕ → List Entry → List ℕ
-table_text top entries =
+-- the heads of the columns
+unfoldable pub heads_text : ℕ → List ℕ
+heads_text top =
     codes "<text class='head'" ++ attribute (codes "y") (top + 24)
     ++ codes "><tspan x='20'>settle</tspan><tspan x='90'>hour</tspan><tspan x='160'>record</tspan><tspan x='230'>time in s</tspan>"
-    ++ codes "<tspan x='350'>element</tspan><tspan x='640'>steps</tspan><tspan x='720'>tap per unit, or bank</tspan></text>\n"
-    ++ entries_text top entries
+    ++ codes "<tspan x='350'>steps</tspan><tspan x='420'>tap per unit, or bank</tspan><tspan x='600'>element</tspan></text>\n"
+
+-- acts, taps and banks in the order of the report, if there are any
+unfoldable pub table_text : ℕ → List Entry → List ℕ
+table_text top entries = if length entries == 0 then [] else heads_text top ++ entries_text top entries
+
+abbrev pub table_height : ℕ → ℕ
+table_height entries = if entries == 0 then 0 else 40 + 20 * entries
 
 -- the record of the fault that ends the report, if one does
 unfoldable pub fault_text : ℕ → Option (List ℕ) → List ℕ
 fault_text down None = []
-fault_text down (Some line) = codes "<text class='fault' x='20'" ++ attribute (codes "y") down ++ codes ">The report ends with:" ++ escaped line ++ codes "</text>\n"
+fault_text down (Some line) =
+    codes "<text class='fault' x='20'" ++ attribute (codes "y") down ++ codes ">The report ends with:" ++ escaped line ++ codes "</text>\n"
 
 unfoldable pub view_text : ℕ → ℕ → List ℕ
 view_text width height = decimal width ++ codes " " ++ decimal height ++ codes "'>\n"
@@ -87,9 +103,9 @@ svg_text width height =
 -- how the page's elements look
 unfoldable pub style_text : List ℕ
 style_text =
-    codes "<style>text{font:14px sans-serif}.head,.fault{font-weight:bold}.round{font-size:12px}.title{font:bold 20px sans-serif}"
-    ++ codes ".tick,.node,.unit{text-anchor:end}path.tick{stroke:#bbb}path.limit{stroke:#000;stroke-dasharray:6 4}"
-    ++ codes ".frame{fill:none;stroke:#000}.bar{fill:#000;fill-opacity:.5}</style>\n"
+    codes "<style>text{font:14px sans-serif}.head{font-weight:bold}.title{font:bold 18px sans-serif}.round,.tick{font-size:12px}"
+    ++ codes ".node,.row{font:13px monospace}.fault{font:bold 13px monospace}.tick,.node,.unit{text-anchor:end}path.tick{stroke:#bbb}"
+    ++ codes "path.limit{stroke:#000;stroke-dasharray:6 4}.frame{fill:none;stroke:#000}.bar{fill:#000;fill-opacity:.5}</style>\n"
 
 -- the shapes of the marks of phases: apart in black and white too
 unfoldable pub phase_shapes_text : List ℕ
@@ -113,16 +129,17 @@ heading_text =
 -- the legend of the shapes
 unfoldable pub phases_text : List ℕ
 phases_text =
-    codes "<use href='#triangle' x='28' y='53'/><text x='42' y='58'>node 1</text>\n"
-    ++ codes "<use href='#square' x='112' y='53'/><text x='126' y='58'>node 2</text>\n"
-    ++ codes "<use href='#circle' x='196' y='53'/><text x='210' y='58'>node 3</text>\n"
-    ++ codes "<use href='#diamond' x='280' y='53'/><text x='294' y='58'>another node</text>\n"
+    codes "<use href='#triangle' x='28' y='53'/><text x='44' y='58'>node 1</text>\n"
+    ++ codes "<use href='#square' x='128' y='53'/><text x='144' y='58'>node 2</text>\n"
+    ++ codes "<use href='#circle' x='228' y='53'/><text x='244' y='58'>node 3</text>\n"
+    ++ codes "<use href='#diamond' x='328' y='53'/><text x='344' y='58'>another node</text>\n"
 
--- the legend of the ring and of the bar
+-- the legend of the limits, the ring and the bar
 unfoldable pub bars_text : List ℕ
 bars_text =
-    codes "<use href='#outside' x='412' y='53'/><text x='428' y='58'>outside 0.95 to 1.05 per unit</text>\n"
-    ++ codes "<rect class='bar' x='646' y='49' width='18' height='8'/><text x='672' y='58'>from low to high, one unit or more</text>\n"
+    codes "<path class='limit' d='M18 77h26'/><text x='52' y='82'>limits of 0.95 and 1.05 per unit</text>\n"
+    ++ codes "<use href='#outside' x='302' y='77'/><text x='320' y='82'>outside them</text>\n"
+    ++ codes "<rect class='bar' x='438' y='73' width='18' height='8'/><text x='464' y='82'>from low to high, at least a line</text>\n"
 
 -- all that is the same on each page
 unfoldable pub legend_text : List ℕ
@@ -130,12 +147,26 @@ legend_text = style_text ++ phase_shapes_text ++ other_shapes_text ++ heading_te
 
 -- where the last line stands below the table
 abbrev pub last_line : Grid → ReportView → ℕ
-last_line grid r = table_top grid (length r.panels) + 64 + 20 * length r.entries
+last_line grid r = table_top grid (length (drawn r.panels)) + 24 + table_height (length r.entries)
+
+abbrev pub longest_element : List Entry → ℕ
+longest_element entries = fold (λ longest entry. max longest (length entry.element)) 0 entries
+
+abbrev pub fault_length : Option (List ℕ) → ℕ
+fault_length None = 0
+fault_length (Some line) = length line
+
+-- the size of a page: as wide as a row of strips, 1000, the table with its longest name, and the line of the fault
+abbrev pub page_width : Grid → ReportView → ℕ
+page_width grid r = max (max grid.width 1000) (max (600 + 8 * longest_element r.entries) (200 + 8 * fault_length r.fault)) + 30
+
+abbrev pub page_height : Grid → ReportView → ℕ
+page_height grid r = last_line grid r + 40
 
 -- the page of a report
 unfoldable pub page_of : ReportView → List ℕ
 page_of r =
-    let grid = grid_of r.panels in
-    let down = last_line grid r in
-    svg_text (max grid.width 1000 + 30) (down + 40) ++ legend_text ++ panels_text r.bases grid r.panels ++ table_text (table_top grid (length r.panels)) r.entries
-    ++ fault_text down r.fault ++ codes "</svg>\n"
+    let strips = drawn r.panels in
+    let grid = grid_of strips in
+    svg_text (page_width grid r) (page_height grid r) ++ legend_text ++ panels_text r.bases (scale_of r.bases strips) grid strips
+    ++ table_text (table_top grid (length strips)) r.entries ++ fault_text (last_line grid r) r.fault ++ codes "</svg>\n"

@@ -1,16 +1,17 @@
 -- The text of a panel. Places are in units of the page from the panel's own top left.
-use Rattle.std.specs.Prelude.{ℕ, ◌+◌, ◌-◌, ◌*◌, ◌/◌, ◌%◌, ◌==◌, ◌&&◌, nat_le, Bool, List, [], ◌∷◌, ◌++◌, length, Option, Some, None, if◌then◌else◌, codes, decimal}
+use Rattle.std.specs.Prelude.{ℕ, ◌+◌, ◌-◌, ◌*◌, ◌/◌, ◌%◌, ◌==◌, ◌&&◌, nat_le, max, Bool, List, [], ◌++◌, length, Option, Some, None, if◌then◌else◌, codes, decimal}
 use Rattle.fd_decimal.specs.Decimals.{fixed_text, size_text}
 use Rattle.fd_picture.specs.Marks.{mark_of}
-use Rattle.fd_picture.specs.Scales.{axis_of, level, step_for, tick_value}
+use Rattle.fd_picture.specs.Scales.{level, step_for, tick_value}
 use Rattle.fd_picture.specs.Texts.{attribute, between, escaped, numbered}
-use Rattle.fd_picture.specs.Units.{is_per_unit, span_of}
+use Rattle.fd_picture.specs.Units.{span_of}
 use Rattle.fd_picture.specs.declared.marks.Mark.{Mark}
 use Rattle.fd_picture.specs.declared.marks.Shape.{Shape}
 use Rattle.fd_picture.specs.declared.marks.Shape.TheVariants as shape
 use Rattle.fd_picture.specs.declared.report.Base.{Base}
 use Rattle.fd_picture.specs.declared.report.Node.{Node}
 use Rattle.fd_picture.specs.declared.report.Panel.{Panel}
+use Rattle.fd_picture.specs.declared.scale.Scale.{Scale}
 use Rattle.fd_picture.specs.declared.units.Span.{Span}
 
 -- BUS.NODE
@@ -20,7 +21,7 @@ node_name node = escaped node.bus ++ codes "." ++ decimal node.number
 unfoldable pub per_unit_text : Bool → Span → List ℕ
 per_unit_text per_unit span = if per_unit then codes ", " ++ size_text span.low ++ codes " to " ++ size_text span.high ++ codes " per unit" else []
 
--- a node with its low, its high and the width between them in volts, and both ends per unit where its panel is
+-- a node with its low, its high and the width between them in volts, and both ends per unit where its page is
 unfoldable pub title_text : Node → Bool → Span → List ℕ
 title_text node per_unit span =
     codes "<title>" ++ node_name node ++ codes ": " ++ size_text node.low ++ codes " to " ++ size_text node.high
@@ -59,7 +60,7 @@ mark_text mark node per_unit span =
 -- the name of a node below its mark, from the bottom up
 unfoldable pub label_text : ℕ → Node → List ℕ
 label_text across node =
-    codes "<text class='node' transform='translate(" ++ decimal (across + 5) ++ codes ",278)rotate(-90)'>" ++ node_name node ++ codes "</text>\n"
+    codes "<text class='node' transform='translate(" ++ decimal (across + 4) ++ codes ",278)rotate(-90)'>" ++ node_name node ++ codes "</text>\n"
 
 -- a node at a place of its panel: its mark and its name
 abbrev pub node_text : List Base → Bool → Span → ℕ → Node → List ℕ
@@ -131,8 +132,10 @@ head_text panel =
     between (codes "<text class='round' x='104' y='18'>settle ") panel.settle (codes ", hour ")
     ++ between [] panel.hour (codes ", round ") ++ between [] panel.round (codes "</text>\n")
 
-unfoldable pub panel_text : List Base → Panel → List ℕ
-panel_text bases panel =
-    let per_unit = is_per_unit bases panel.nodes in
-    let axis = axis_of bases per_unit panel.nodes in
-    head_text panel ++ axis_text per_unit axis (20 * length panel.nodes) ++ marks_text bases per_unit axis panel.nodes
+-- the width of the frame of so many nodes, and of at least seven
+abbrev pub frame_width : ℕ → ℕ
+frame_width nodes = 20 * max nodes 7
+
+unfoldable pub panel_text : List Base → Scale → Panel → List ℕ
+panel_text bases scale panel =
+    head_text panel ++ axis_text scale.per_unit scale.axis (frame_width (length panel.nodes)) ++ marks_text bases scale.per_unit scale.axis panel.nodes

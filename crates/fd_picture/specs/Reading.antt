@@ -13,7 +13,6 @@ use Rattle.fd_picture.specs.declared.fault.ReportFault.{ReportFault}
 use Rattle.fd_picture.specs.declared.fault.ReportFault.TheVariants as fault
 use Rattle.fd_picture.specs.declared.fault.Stop.{Stop}
 use Rattle.fd_picture.specs.declared.fault.Stop.TheVariants as stop
-use Rattle.fd_picture.specs.declared.report.Base.{Base}
 use Rattle.fd_picture.specs.declared.report.Entry.{Entry}
 use Rattle.fd_picture.specs.declared.report.Kind.{Kind}
 use Rattle.fd_picture.specs.declared.report.Kind.TheVariants as kind

@@ -1,18 +1,28 @@
--- The axis of a panel, and the place of a voltage on it.
+-- The axis of a page, and the place of a voltage on it.
 use Rattle.std.specs.Int.{div_ceil}
-use Rattle.std.specs.Prelude.{ℕ, zero, suc, ◌+◌, ◌-◌, ◌*◌, ◌/◌, ◌^◌, ◌==◌, nat_lt, nat_le, min, max, Bool, List, [], ◌∷◌, fold, Option, Some, None, if◌then◌else◌}
-use Rattle.fd_picture.specs.Units.{span_of}
+use Rattle.std.specs.Prelude.{ℕ, zero, suc, ◌+◌, ◌-◌, ◌*◌, ◌/◌, ◌^◌, ◌==◌, nat_lt, nat_le, min, max, Bool, List, fold, Option, Some, None, unwrap_or, if◌then◌else◌}
+use Rattle.fd_picture.specs.Units.{is_per_unit, span_of}
 use Rattle.fd_picture.specs.declared.report.Base.{Base}
 use Rattle.fd_picture.specs.declared.report.Node.{Node}
+use Rattle.fd_picture.specs.declared.report.Panel.{Panel}
+use Rattle.fd_picture.specs.declared.scale.Scale.{Scale}
 use Rattle.fd_picture.specs.declared.units.Span.{Span}
 
-abbrev pub widened : Span → Span → Span
-widened axis span = record { low = min axis.low span.low; high = max axis.high span.high }
+abbrev pub widened : Option Span → Span → Span
+widened None span = span
+widened (Some axis) span = record { low = min axis.low span.low; high = max axis.high span.high }
 
--- from the least low to the greatest high of these nodes
-unfoldable pub axis_of : List Base → Bool → List Node → Span
-axis_of bases per_unit [] = record { low = 0; high = 0 }
-axis_of bases per_unit (node ∷ nodes) = fold (λ axis n. widened axis (span_of bases per_unit n)) (span_of bases per_unit node) nodes
+-- from the least low to the greatest high of an axis and these nodes
+unfoldable pub widened_by : List Base → Bool → Option Span → List Node → Option Span
+widened_by bases per_unit axis nodes = fold (λ axis node. Some (widened axis (span_of bases per_unit node))) axis nodes
+
+-- from the least low to the greatest high of all nodes of a page
+unfoldable pub axis_of : List Base → Bool → List Panel → Span
+axis_of bases per_unit panels = unwrap_or (fold (λ axis panel. widened_by bases per_unit axis panel.nodes) None panels) (record { low = 0; high = 0 })
+
+-- the unit and the axis of a page, which are those of each panel
+unfoldable pub scale_of : List Base → List Panel → Scale
+scale_of bases panels = let per_unit = is_per_unit bases panels in record { per_unit = per_unit; axis = axis_of bases per_unit panels }
 
 -- how far above the low end of an axis a voltage stands, where the axis is 220 units of the page high: rounded down, once
 unfoldable pub place : Span → ℕ → ℕ

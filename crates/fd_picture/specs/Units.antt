@@ -1,9 +1,10 @@
--- The voltages of a panel, in the unit of its axis.
+-- The voltages of nodes, in the unit of their page.
 use Rattle.std.specs.Prelude.{ℕ, ◌+◌, ◌-◌, ◌*◌, ◌/◌, ◌^◌, ◌==◌, ◌&&◌, nat_lt, Bool, List, Option, Some, None, is_some, unwrap_or, if◌then◌else◌}
 use Rattle.std.specs.List.{list_all}
 use Rattle.fd_picture.specs.Bases.{base_of}
 use Rattle.fd_picture.specs.declared.report.Base.{Base}
 use Rattle.fd_picture.specs.declared.report.Node.{Node}
+use Rattle.fd_picture.specs.declared.report.Panel.{Panel}
 use Rattle.fd_picture.specs.declared.units.Span.{Span}
 
 -- root three, in units of 10^-15
@@ -32,9 +33,13 @@ per_unit_by (Some base) node = per_unit_span base node
 abbrev pub per_unit_at : List Base → Node → Option Span
 per_unit_at bases node = per_unit_by (base_of bases node.bus) node
 
--- a panel is per unit where each of its nodes has a base
-unfoldable pub is_per_unit : List Base → List Node → Bool
-is_per_unit bases nodes = list_all (λ node. is_some (per_unit_at bases node)) nodes
+-- each of these nodes has a base
+unfoldable pub have_bases : List Base → List Node → Bool
+have_bases bases nodes = list_all (λ node. is_some (per_unit_at bases node)) nodes
+
+-- a page is per unit where each node of its panels has a base
+unfoldable pub is_per_unit : List Base → List Panel → Bool
+is_per_unit bases panels = list_all (λ panel. have_bases bases panel.nodes) panels
 
 abbrev pub volts_span : Node → Span
 volts_span node = record { low = node.low; high = node.high }

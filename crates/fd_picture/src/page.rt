@@ -1,27 +1,29 @@
 // The page of a report.
 ghost use Rattle.std.specs.Prelude.{◌≡◌, ◌<◌, ◌≤◌, ◌^◌, ◌++◌, IfOk, OnOk, length};
-ghost use Rattle.fd_picture.specs.Pages.{bars_text, cell_text, entries_text, entry_text, fault_text, grid_of, heading_text, kind_name, label_length, legend_text, longest_bus, most_nodes, number_cell, other_shapes_text, page_of, panel_at, panels_text, phase_shapes_text, phases_text, style_text, svg_text, table_text, table_top, view_text};
+ghost use Rattle.fd_picture.specs.Pages.{bars_text, fault_length, heads_text, longest_element, page_width, panel_left, panel_top, table_height, cell_text, entries_text, entry_text, fault_text, grid_of, heading_text, kind_name, label_length, legend_text, longest_bus, most_nodes, number_cell, other_shapes_text, page_of, panel_at, panels_text, phase_shapes_text, phases_text, style_text, svg_text, table_text, table_top, view_text};
 
 use crate::panel::push_panel;
-use crate::report::{Entry, Kind, Node, Panel, Report};
+use crate::report::{Entry, Kind, Node, Report};
+use crate::scale::{Scale, scale_of};
+use crate::strips::{Strip, drawn};
 use crate::text::{push, push_attribute, push_escaped, push_number};
 use crate::units::BaseTable;
 use fd_outside::Bytes;
 use std::alloc::{AllocError, Global};
 
-// The least width of a page, and of a panel in nodes.
+// The least width of a page, and of a strip in nodes.
 const LEAST_WIDTH: u128 = 1000;
 
 const LEAST_NODES: usize = 7;
-// Longer names run over the edge of their panel.
-const MOST_LETTERS: usize = 40;
+// Longer names run over the edge of their panel: no line of a script has more bytes.
+const MOST_LETTERS: usize = 65_536;
 
-fn most_nodes(panels: &[Panel]) -> usize
-    ensures { result ≡ most_nodes panels.now }
+fn most_nodes(strips: &[Strip]) -> usize
+    ensures { result ≡ most_nodes strips.now }
 {
     let mut most = LEAST_NODES;
-    for panel in panels {
-        most = most.max(panel.nodes.as_slice().len());
+    for strip in strips {
+        most = most.max(strip.nodes().len());
     }
     most
 }
@@ -36,18 +38,18 @@ fn longest_bus(nodes: &[Node]) -> usize
     longest
 }
 
-fn label_length(panels: &[Panel]) -> usize
-    ensures value { result ≡ label_length panels.now }
-    ensures small { result ≤ 40 }
+fn label_length(strips: &[Strip]) -> usize
+    ensures value { result ≡ label_length strips.now }
+    ensures small { result ≤ 65_536 }
 {
     let mut longest = 0;
-    for panel in panels {
-        longest = longest.max(longest_bus(panel.nodes.as_slice()));
+    for strip in strips {
+        longest = longest.max(longest_bus(strip.nodes()));
     }
     longest.min(MOST_LETTERS)
 }
 
-/// The size of a panel and how many stand beside each other.
+/// The size of a strip and how many stand beside each other.
 #[derive(Clone, Copy)]
 struct Grid {
     width: u128,
@@ -56,44 +58,64 @@ struct Grid {
 }
 
 #[tactic(auto, unfolding(crate::specs::Pages::grid_of))]
-fn grid_of(panels: &[Panel]) -> Grid
-    ensures grid { result ≡ grid_of panels.now }
+fn grid_of(strips: &[Strip]) -> Grid
+    ensures grid { result ≡ grid_of strips.now }
     ensures columns { 0 < result.columns }
     ensures most { result.columns ≤ 1000 }
     ensures width { 0 < result.width }
     ensures wide { result.width ≤ 2 ^ 70 }
-    ensures height { result.height ≤ 1000 }
+    ensures height { result.height ≤ 1_000_000 }
 {
-    let width = 110 + 20 * most_nodes(panels) as u128;
+    let width = 110 + 20 * most_nodes(strips) as u128;
     Grid {
         width,
-        height: 310 + 8 * (label_length(panels) as u128 + 3),
+        height: 310 + 8 * (label_length(strips) as u128 + 3),
         columns: (LEAST_WIDTH / width).max(1),
     }
 }
 
-// The k-th panel, at its place on the page.
+// The left edge of the k-th strip.
+fn panel_left(grid: Grid, k: usize) -> u128
+    requires columns { 0 < grid.columns }
+    requires most { grid.columns ≤ 1000 }
+    requires wide { grid.width ≤ 2 ^ 70 }
+    ensures { result ≡ panel_left grid k }
+{
+    k as u128 % grid.columns * grid.width
+}
+
+// The top edge of the k-th strip.
+fn panel_top(grid: Grid, k: usize) -> u128
+    requires columns { 0 < grid.columns }
+    requires height { grid.height ≤ 1_000_000 }
+    ensures { result ≡ panel_top grid k }
+{
+    100 + k as u128 / grid.columns * grid.height
+}
+
+// The k-th strip, at its place on the page.
 #[tactic(auto, unfolding(crate::specs::Pages::panel_at))]
 fn push_panel_at(
     alloc: Global,
     text: &mut Vec<u8>,
     bases: &BaseTable,
+    scale: Scale,
     grid: Grid,
     k: usize,
-    panel: &Panel,
+    strip: &Strip,
 ) -> Result<(), AllocError>
     requires columns { 0 < grid.columns }
     requires most { grid.columns ≤ 1000 }
     requires wide { grid.width ≤ 2 ^ 70 }
-    requires height { grid.height ≤ 1000 }
-    ensures { OnOk result (text.new.items ≡ text.old.items ++ panel_at bases.now grid k panel.now) }
+    requires height { grid.height ≤ 1_000_000 }
+    ensures { OnOk result (text.new.items ≡ text.old.items ++ panel_at bases.now scale grid k strip.now) }
 {
     push(text, b"<g transform='translate(")?;
-    push_number(text, k as u128 % grid.columns * grid.width)?;
+    push_number(text, panel_left(grid, k))?;
     push(text, b",")?;
-    push_number(text, 80 + k as u128 / grid.columns * grid.height)?;
+    push_number(text, panel_top(grid, k))?;
     push(text, b")'>\n")?;
-    push_panel(alloc, text, bases, panel)?;
+    push_panel(alloc, text, bases, scale, strip)?;
     push(text, b"</g>\n")
 }
 
@@ -102,30 +124,31 @@ fn push_panels(
     alloc: Global,
     text: &mut Vec<u8>,
     bases: &BaseTable,
+    scale: Scale,
     grid: Grid,
-    panels: &[Panel],
+    strips: &[Strip],
 ) -> Result<(), AllocError>
     requires columns { 0 < grid.columns }
     requires most { grid.columns ≤ 1000 }
     requires wide { grid.width ≤ 2 ^ 70 }
-    requires height { grid.height ≤ 1000 }
-    ensures { OnOk result (text.new.items ≡ text.old.items ++ panels_text bases.now grid panels.now) }
+    requires height { grid.height ≤ 1_000_000 }
+    ensures { OnOk result (text.new.items ≡ text.old.items ++ panels_text bases.now scale grid strips.now) }
 {
-    for k in 0..panels.len() {
-        push_panel_at(alloc, text, bases, grid, k, &panels[k])?;
+    for k in 0..strips.len() {
+        push_panel_at(alloc, text, bases, scale, grid, k, &strips[k])?;
     }
     Ok(())
 }
 
-// Where the table begins below the panels.
-fn table_top(grid: Grid, panels: usize) -> u128
+// Where the table begins below the strips.
+fn table_top(grid: Grid, strips: usize) -> u128
     requires columns { 0 < grid.columns }
     requires most { grid.columns ≤ 1000 }
-    requires height { grid.height ≤ 1000 }
-    ensures value { result ≡ table_top grid panels }
-    ensures small { result ≤ 2 ^ 80 }
+    requires height { grid.height ≤ 1_000_000 }
+    ensures value { result ≡ table_top grid strips }
+    ensures small { result ≤ 2 ^ 90 }
 {
-    80 + (panels as u128 + (grid.columns - 1)) / grid.columns * grid.height
+    100 + (strips as u128 + (grid.columns - 1)) / grid.columns * grid.height
 }
 
 fn kind_name(kind: Kind) -> &'static [u8]
@@ -164,25 +187,25 @@ fn push_number_cell(text: &mut Vec<u8>, across: u128, n: u64) -> Result<(), Allo
 // A row of the table.
 #[tactic(auto, unfolding(crate::specs::Pages::entry_text))]
 fn push_entry(text: &mut Vec<u8>, top: u128, k: usize, entry: &Entry) -> Result<(), AllocError>
-    requires { top ≤ 2 ^ 80 }
+    requires { top ≤ 2 ^ 90 }
     ensures { OnOk result (text.new.items ≡ text.old.items ++ entry_text top k entry.now) }
 {
-    push(text, b"<text")?;
+    push(text, b"<text class='row'")?;
     push_attribute(text, b"y", top + 54 + 20 * k as u128)?;
     push(text, b">")?;
     push_number_cell(text, 20, entry.settle)?;
     push_number_cell(text, 90, entry.hour)?;
     push_cell(text, 160, kind_name(entry.kind))?;
     push_cell(text, 230, entry.time.as_slice())?;
-    push_cell(text, 350, entry.element.as_slice())?;
-    push_cell(text, 640, entry.steps.as_slice())?;
-    push_cell(text, 720, entry.position.as_slice())?;
+    push_cell(text, 350, entry.steps.as_slice())?;
+    push_cell(text, 420, entry.position.as_slice())?;
+    push_cell(text, 600, entry.element.as_slice())?;
     push(text, b"</text>\n")
 }
 
 #[tactic(auto, unfolding(crate::specs::Pages::entries_text))]
 fn push_entries(text: &mut Vec<u8>, top: u128, entries: &[Entry]) -> Result<(), AllocError>
-    requires { top ≤ 2 ^ 80 }
+    requires { top ≤ 2 ^ 90 }
     ensures { OnOk result (text.new.items ≡ text.old.items ++ entries_text top entries.now) }
 {
     for k in 0..entries.len() {
@@ -191,11 +214,11 @@ fn push_entries(text: &mut Vec<u8>, top: u128, entries: &[Entry]) -> Result<(), 
     Ok(())
 }
 
-// The table's heads, where it has a row.
-#[tactic(auto, unfolding(crate::specs::Pages::table_text))]
-fn push_table(text: &mut Vec<u8>, top: u128, entries: &[Entry]) -> Result<(), AllocError>
-    requires { top ≤ 2 ^ 80 }
-    ensures { OnOk result (text.new.items ≡ text.old.items ++ table_text top entries.now) }
+// The heads of the table's columns.
+#[tactic(auto, unfolding(crate::specs::Pages::heads_text))]
+fn push_heads(text: &mut Vec<u8>, top: u128) -> Result<(), AllocError>
+    requires { top ≤ 2 ^ 90 }
+    ensures { OnOk result (text.new.items ≡ text.old.items ++ heads_text top) }
 {
     push(text, b"<text class='head'")?;
     push_attribute(text, b"y", top + 24)?;
@@ -205,9 +228,62 @@ fn push_table(text: &mut Vec<u8>, top: u128, entries: &[Entry]) -> Result<(), Al
     )?;
     push(
         text,
-        b"<tspan x='350'>element</tspan><tspan x='640'>steps</tspan><tspan x='720'>tap per unit, or bank</tspan></text>\n",
-    )?;
+        b"<tspan x='350'>steps</tspan><tspan x='420'>tap per unit, or bank</tspan><tspan x='600'>element</tspan></text>\n",
+    )
+}
+
+// The table, where it has a row.
+#[tactic(auto, unfolding(crate::specs::Pages::table_text))]
+fn push_table(text: &mut Vec<u8>, top: u128, entries: &[Entry]) -> Result<(), AllocError>
+    requires { top ≤ 2 ^ 90 }
+    ensures { OnOk result (text.new.items ≡ text.old.items ++ table_text top entries.now) }
+{
+    if entries.is_empty() {
+        return Ok(());
+    }
+    push_heads(text, top)?;
     push_entries(text, top, entries)
+}
+
+// The height of a table of so many rows.
+fn table_height(entries: usize) -> u128
+    ensures value { result ≡ table_height entries }
+    ensures small { result ≤ 2 ^ 70 }
+{
+    if entries == 0 {
+        0
+    } else {
+        40 + 20 * entries as u128
+    }
+}
+
+fn longest_element(entries: &[Entry]) -> usize
+    ensures { result ≡ longest_element entries.now }
+{
+    let mut longest = 0;
+    for entry in entries {
+        longest = longest.max(entry.element.as_slice().len());
+    }
+    longest
+}
+
+fn fault_length(fault: &Option<Bytes>) -> usize
+    ensures { result ≡ fault_length fault.now }
+{
+    match fault {
+        Some(fault) => fault.as_slice().len(),
+        None => 0,
+    }
+}
+
+// The width of the page of a report: of a row of panels, the table with its longest name, and the line of the fault.
+fn page_width(grid: Grid, report: &Report) -> u128
+    requires { grid.width ≤ 2 ^ 70 }
+    ensures { result ≡ page_width grid report.now }
+{
+    let table = 600 + 8 * longest_element(report.entries.as_slice()) as u128;
+    let fault = 200 + 8 * fault_length(&report.fault) as u128;
+    grid.width.max(LEAST_WIDTH).max(table.max(fault)) + 30
 }
 
 // The record of the fault that ends the report, below the table.
@@ -234,15 +310,15 @@ fn push_style(text: &mut Vec<u8>) -> Result<(), AllocError>
 {
     push(
         text,
-        b"<style>text{font:14px sans-serif}.head,.fault{font-weight:bold}.round{font-size:12px}.title{font:bold 20px sans-serif}",
+        b"<style>text{font:14px sans-serif}.head{font-weight:bold}.title{font:bold 18px sans-serif}.round,.tick{font-size:12px}",
     )?;
     push(
         text,
-        b".tick,.node,.unit{text-anchor:end}path.tick{stroke:#bbb}path.limit{stroke:#000;stroke-dasharray:6 4}",
+        b".node,.row{font:13px monospace}.fault{font:bold 13px monospace}.tick,.node,.unit{text-anchor:end}path.tick{stroke:#bbb}",
     )?;
     push(
         text,
-        b".frame{fill:none;stroke:#000}.bar{fill:#000;fill-opacity:.5}</style>\n",
+        b"path.limit{stroke:#000;stroke-dasharray:6 4}.frame{fill:none;stroke:#000}.bar{fill:#000;fill-opacity:.5}</style>\n",
     )
 }
 
@@ -299,34 +375,38 @@ fn push_phases(text: &mut Vec<u8>) -> Result<(), AllocError>
 {
     push(
         text,
-        b"<use href='#triangle' x='28' y='53'/><text x='42' y='58'>node 1</text>\n",
+        b"<use href='#triangle' x='28' y='53'/><text x='44' y='58'>node 1</text>\n",
     )?;
     push(
         text,
-        b"<use href='#square' x='112' y='53'/><text x='126' y='58'>node 2</text>\n",
+        b"<use href='#square' x='128' y='53'/><text x='144' y='58'>node 2</text>\n",
     )?;
     push(
         text,
-        b"<use href='#circle' x='196' y='53'/><text x='210' y='58'>node 3</text>\n",
+        b"<use href='#circle' x='228' y='53'/><text x='244' y='58'>node 3</text>\n",
     )?;
     push(
         text,
-        b"<use href='#diamond' x='280' y='53'/><text x='294' y='58'>another node</text>\n",
+        b"<use href='#diamond' x='328' y='53'/><text x='344' y='58'>another node</text>\n",
     )
 }
 
-// The legend of the ring and of the bar.
+// The legend of the limits, of the ring and of the bar.
 #[tactic(auto, unfolding(crate::specs::Pages::bars_text))]
 fn push_bars(text: &mut Vec<u8>) -> Result<(), AllocError>
     ensures { OnOk result (text.new.items ≡ text.old.items ++ bars_text) }
 {
     push(
         text,
-        b"<use href='#outside' x='412' y='53'/><text x='428' y='58'>outside 0.95 to 1.05 per unit</text>\n",
+        b"<path class='limit' d='M18 77h26'/><text x='52' y='82'>limits of 0.95 and 1.05 per unit</text>\n",
     )?;
     push(
         text,
-        b"<rect class='bar' x='646' y='49' width='18' height='8'/><text x='672' y='58'>from low to high, one unit or more</text>\n",
+        b"<use href='#outside' x='302' y='77'/><text x='320' y='82'>outside them</text>\n",
+    )?;
+    push(
+        text,
+        b"<rect class='bar' x='438' y='73' width='18' height='8'/><text x='464' y='82'>from low to high, at least a line</text>\n",
     )
 }
 
@@ -368,22 +448,30 @@ fn push_svg(text: &mut Vec<u8>, width: u128, height: u128) -> Result<(), AllocEr
 
 /// The page of a report: one SVG picture, as text.
 ///
-/// The voltages of each panel's nodes stand beside each other in the order of the report, one mark for each; acts, taps
-/// and banks in a table below. The time is linear in the report.
+/// The voltages of each panel's nodes stand beside each other in the order of the report, one mark for each, in strips of
+/// at most 42 over the axis that all strips have; acts, taps and banks in a table below. The time is linear in the
+/// report.
 #[tactic(auto, unfolding(crate::specs::Pages::page_of))]
 pub fn draw(alloc: Global, report: &Report) -> Result<Vec<u8>, AllocError>
     ensures { IfOk result (λ text. text.items ≡ page_of report.now) }
 {
-    let panels = report.panels.as_slice();
+    let strips = drawn(alloc, report.panels.as_slice())?;
     let entries = report.entries.as_slice();
-    let grid = grid_of(panels);
-    let top = table_top(grid, panels.len());
-    let down = top + 64 + 20 * entries.len() as u128;
+    let grid = grid_of(&strips);
+    let top = table_top(grid, strips.len());
+    let down = top + 24 + table_height(entries.len());
     let bases = BaseTable::new(alloc, report.bases.as_slice())?;
     let mut text = Vec::new(alloc);
-    push_svg(&mut text, grid.width.max(LEAST_WIDTH) + 30, down + 40)?;
+    push_svg(&mut text, page_width(grid, report), down + 40)?;
     push_legend(&mut text)?;
-    push_panels(alloc, &mut text, &bases, grid, panels)?;
+    push_panels(
+        alloc,
+        &mut text,
+        &bases,
+        scale_of(&bases, &strips),
+        grid,
+        &strips,
+    )?;
     push_table(&mut text, top, entries)?;
     push_fault(&mut text, down, &report.fault)?;
     push(&mut text, b"</svg>\n")?;

@@ -1,12 +1,13 @@
-// A panel: the nodes of one round over their axis.
+// A strip of a panel: nodes of one round over the axis of the page.
 ghost use Rattle.std.specs.Prelude.{◌≡◌, ◌≤◌, ◌^◌, ◌++◌, OnOk};
-ghost use Rattle.fd_picture.specs.Panels.{head_text, label_text, limit_text, mark_text, marks_text, node_name, panel_text, per_unit_text, shape_name, tick_text, ticks_text, title_text, unit_name, level_text, axis_text, bar_text, frame_text, line_text, node_text, place_text, ring_text, shape_text, tick_within};
+ghost use Rattle.fd_picture.specs.Panels.{head_text, label_text, limit_text, mark_text, marks_text, node_name, panel_text, per_unit_text, shape_name, tick_text, ticks_text, title_text, unit_name, level_text, axis_text, bar_text, frame_text, line_text, node_text, place_text, ring_text, shape_text, tick_within, frame_width};
 
 use crate::marks::{GREATEST_INSIDE, LEAST_INSIDE, Mark, Shape, mark_of};
-use crate::report::{Node, Panel};
-use crate::scale::{axis_of, level, step_for, tick_value};
+use crate::report::Node;
+use crate::scale::{Scale, level, step_for, tick_value};
+use crate::strips::Strip;
 use crate::text::{push, push_attribute, push_between, push_escaped, push_number, push_size};
-use crate::units::{BaseTable, Span, is_per_unit, span_of};
+use crate::units::{BaseTable, Span, span_of};
 use fd_decimal::fixed_text;
 use std::alloc::{AllocError, Global};
 
@@ -39,7 +40,7 @@ fn push_per_unit(
     push(text, b" per unit")
 }
 
-// The title of a mark: the node, its low, its high and the width between them, per unit too where the panel is.
+// The title of a mark: the node, its low, its high and the width between them, per unit too where the page is.
 #[tactic(auto, unfolding(crate::specs::Panels::title_text))]
 fn push_title(
     alloc: Global,
@@ -149,7 +150,7 @@ fn push_label(text: &mut Vec<u8>, across: u128, node: &Node) -> Result<(), Alloc
     ensures { OnOk result (text.new.items ≡ text.old.items ++ label_text across node.now) }
 {
     push(text, b"<text class='node' transform='translate(")?;
-    push_number(text, across + 5)?;
+    push_number(text, across + 4)?;
     push(text, b",278)rotate(-90)'>")?;
     push_node_name(text, node)?;
     push(text, b"</text>\n")
@@ -335,33 +336,47 @@ fn push_axis(
 
 // The head of a panel: its settle, hour and round.
 #[tactic(auto, unfolding(crate::specs::Panels::head_text))]
-fn push_head(text: &mut Vec<u8>, panel: &Panel) -> Result<(), AllocError>
-    ensures { OnOk result (text.new.items ≡ text.old.items ++ head_text panel.now) }
+fn push_head(text: &mut Vec<u8>, strip: &Strip) -> Result<(), AllocError>
+    ensures { OnOk result (text.new.items ≡ text.old.items ++ head_text strip.now) }
 {
     push_between(
         text,
         b"<text class='round' x='104' y='18'>settle ",
-        panel.settle,
+        strip.settle(),
         b", hour ",
     )?;
-    push_between(text, b"", panel.hour, b", round ")?;
-    push_between(text, b"", panel.round, b"</text>\n")
+    push_between(text, b"", strip.hour(), b", round ")?;
+    push_between(text, b"", strip.round(), b"</text>\n")
 }
 
-/// A panel, from its own top left.
+// Frames are at least as wide as those of so many nodes.
+const LEAST_NODES: usize = 7;
+
+fn frame_width(nodes: usize) -> u128
+    ensures { result ≡ frame_width nodes }
+{
+    20 * nodes.max(LEAST_NODES) as u128
+}
+
+/// A strip of a panel, from its own top left.
 #[tactic(auto, unfolding(crate::specs::Panels::panel_text))]
 pub(crate) fn push_panel(
     alloc: Global,
     text: &mut Vec<u8>,
     bases: &BaseTable,
-    panel: &Panel,
+    scale: Scale,
+    strip: &Strip,
 ) -> Result<(), AllocError>
-    ensures { OnOk result (text.new.items ≡ text.old.items ++ panel_text bases.now panel.now) }
+    ensures { OnOk result (text.new.items ≡ text.old.items ++ panel_text bases.now scale strip.now) }
 {
-    let nodes = panel.nodes.as_slice();
-    let per_unit = is_per_unit(bases, nodes);
-    let axis = axis_of(bases, per_unit, nodes);
-    push_head(text, panel)?;
-    push_axis(alloc, text, per_unit, axis, 20 * nodes.len() as u128)?;
-    push_marks(alloc, text, bases, per_unit, axis, nodes)
+    let nodes = strip.nodes();
+    push_head(text, strip)?;
+    push_axis(
+        alloc,
+        text,
+        scale.per_unit,
+        scale.axis,
+        frame_width(nodes.len()),
+    )?;
+    push_marks(alloc, text, bases, scale.per_unit, scale.axis, nodes)
 }

@@ -1,38 +1,71 @@
-// The axis of a panel, and the place of a voltage on it.
+// The axis of a page, and the place of a voltage on it.
 ghost use Rattle.std.specs.Prelude.{◌≡◌, ◌<◌, ◌≤◌, ◌^◌, ◌/◌, ◌*◌};
-ghost use Rattle.fd_picture.specs.Scales.{axis_of, level, place, step_for, step_in, tick_value, widened};
+ghost use Rattle.fd_picture.specs.Scales.{axis_of, level, place, scale_of, step_for, step_in, tick_value, widened, widened_by};
 
 use crate::report::Node;
-use crate::units::{BaseTable, Span, span_of};
+use crate::strips::Strip;
+use crate::units::{BaseTable, Span, is_per_unit, span_of};
 
 /// The height of an axis, in units of the page.
 const PLOT_HEIGHT: u128 = 220;
 /// Where the low end of an axis stands below the top of its panel.
 const PLOT_BOTTOM: u128 = 256;
 
+/// The unit and the axis of a page, which are those of each strip.
+#[derive(Clone, Copy, Debug, PartialEq, Eq)]
+pub struct Scale {
+    /// Whether the axis is in millionths of each node's base to ground, and else in microvolts.
+    pub per_unit: bool,
+    pub axis: Span,
+}
+
 // The span from the lower low to the higher high.
-fn widened(axis: Span, span: Span) -> Span
+fn widened(axis: Option<Span>, span: Span) -> Span
     ensures { result ≡ widened axis span }
 {
-    Span {
-        low: axis.low.min(span.low),
-        high: axis.high.max(span.high),
+    match axis {
+        Some(axis) => Span {
+            low: axis.low.min(span.low),
+            high: axis.high.max(span.high),
+        },
+        None => span,
     }
 }
 
-/// The axis of a panel: from the least low to the greatest high of its nodes.
-#[tactic(auto, unfolding(crate::specs::Scales::axis_of))]
-pub(crate) fn axis_of(bases: &BaseTable, per_unit: bool, nodes: &[Node]) -> Span
-    ensures { result ≡ axis_of bases.now per_unit nodes.now }
+// An axis, widened by nodes.
+#[tactic(auto, unfolding(crate::specs::Scales::widened_by))]
+fn widened_by(bases: &BaseTable, per_unit: bool, axis: Option<Span>, nodes: &[Node]) -> Option<Span>
+    ensures { result ≡ widened_by bases.now per_unit axis nodes.now }
 {
-    let Some((first, rest)) = nodes.split_first() else {
-        return Span { low: 0, high: 0 };
-    };
-    let mut axis = span_of(bases, per_unit, first);
-    for node in rest {
-        axis = widened(axis, span_of(bases, per_unit, node));
+    let mut axis = axis;
+    for node in nodes {
+        axis = Some(widened(axis, span_of(bases, per_unit, node)));
     }
     axis
+}
+
+// From the least low to the greatest high of all nodes.
+#[tactic(auto, unfolding(crate::specs::Scales::axis_of))]
+fn axis_of(bases: &BaseTable, per_unit: bool, strips: &[Strip]) -> Span
+    ensures { result ≡ axis_of bases.now per_unit strips.now }
+{
+    let mut axis = None;
+    for strip in strips {
+        axis = widened_by(bases, per_unit, axis, strip.nodes());
+    }
+    axis.unwrap_or(Span { low: 0, high: 0 })
+}
+
+/// The unit and the axis of a page.
+#[tactic(auto, unfolding(crate::specs::Scales::scale_of))]
+pub(crate) fn scale_of(bases: &BaseTable, strips: &[Strip]) -> Scale
+    ensures { result ≡ scale_of bases.now strips.now }
+{
+    let per_unit = is_per_unit(bases, strips);
+    Scale {
+        per_unit,
+        axis: axis_of(bases, per_unit, strips),
+    }
 }
 
 // How far above the low end of the axis a voltage stands, in units of the page, rounded down.

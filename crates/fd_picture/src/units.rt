@@ -1,9 +1,10 @@
-// The voltages of a panel, in the unit of its axis.
+// The voltages of nodes, in the unit of their page.
 ghost use Rattle.std.specs.Prelude.{◌≡◌, ◌<◌, ◌^◌, ◌*◌, IfOk};
 ghost use Rattle.fd_picture.specs.Bases.{base_of};
-ghost use Rattle.fd_picture.specs.Units.{femto_root_three, is_per_unit, micro_base, per_unit_at, per_unit_span, span_in_range, span_of};
+ghost use Rattle.fd_picture.specs.Units.{femto_root_three, have_bases, is_per_unit, micro_base, per_unit_at, per_unit_span, span_in_range, span_of};
 
 use crate::report::{Base, Node};
+use crate::strips::Strip;
 use std::alloc::{AllocError, Global};
 use std::collections::HashMap;
 use std::marker::Model;
@@ -105,13 +106,26 @@ fn per_unit_at(bases: &BaseTable, node: &Node) -> Option<Span>
     }
 }
 
-/// Whether a panel is per unit: where each of its nodes has a base. Else it is in volts.
-#[tactic(auto, unfolding(crate::specs::Units::is_per_unit))]
-pub(crate) fn is_per_unit(bases: &BaseTable, nodes: &[Node]) -> bool
-    ensures { result ≡ is_per_unit bases.now nodes.now }
+// Whether each of these nodes has a base.
+#[tactic(auto, unfolding(crate::specs::Units::have_bases))]
+fn have_bases(bases: &BaseTable, nodes: &[Node]) -> bool
+    ensures { result ≡ have_bases bases.now nodes.now }
 {
     for node in nodes {
         if per_unit_at(bases, node).is_none() {
+            return false;
+        }
+    }
+    true
+}
+
+/// Whether a page is per unit: where each node of its strips has a base. Else it is in volts.
+#[tactic(auto, unfolding(crate::specs::Units::is_per_unit))]
+pub(crate) fn is_per_unit(bases: &BaseTable, strips: &[Strip]) -> bool
+    ensures { result ≡ is_per_unit bases.now strips.now }
+{
+    for strip in strips {
+        if !have_bases(bases, strip.nodes()) {
             return false;
         }
     }

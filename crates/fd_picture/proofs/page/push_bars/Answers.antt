@@ -5,4 +5,4 @@ use Rattle.fd_picture.proofs.page.push_bars.Goals as goal
 
 pub returns : goal.returns
 unfolding bars_text
-returns c = on_ok c.push-2.result (λ added. added ∙ rw (c.in_ok-push.ensures) (simp append_assoc refl)) c.push-2.ensures
+returns c = on_ok c.push-3.result (λ added. added ∙ rw (c.in_ok-push-2.ensures, c.in_ok-push.ensures) (simp append_assoc refl)) c.push-3.ensures

@@ -1,7 +1,7 @@
-use Rattle.std.proofs.Common.{◌≡◌, is_some, take, true}
+use Rattle.std.proofs.Common.{◌≡◌, take, true}
 use Rattle.std.specs.List.{list_all}
-use Rattle.fd_picture.specs.Units.{per_unit_at}
+use Rattle.fd_picture.specs.Units.{have_bases}
 use Rattle.fd_picture.proofs.units.is_per_unit.Given as goal
 
-abbrev pub invariant-loop-node : goal.invariant-loop-node
-invariant-loop-node l = list_all (λ node. is_some (per_unit_at l.bases node)) (take l.node-index l.nodes) ≡ true
+abbrev pub invariant-loop-strip : goal.invariant-loop-strip
+invariant-loop-strip l = list_all (λ panel. have_bases l.bases panel.nodes) (take l.strip-index l.strips) ≡ true
