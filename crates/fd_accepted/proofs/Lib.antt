@@ -4,4 +4,5 @@ mod Settles
 mod Texts
 mod Solves
 mod Scripts
+mod RoundTrips
 mod Runs

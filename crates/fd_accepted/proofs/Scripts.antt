@@ -1,5 +1,5 @@
 -- A script's history: the blocks of all its settles hold, from its first Solve to behind its last.
-use Rattle.std.proofs.Common.{◌≡◌, ◌∙◌, ℕ, ◌+◌, ◌<◌, ◌≤◌, ◌^◌, List, [], ◌∷◌, length, map, Option, Some, None, Result, Ok, Err, refl, sym, ap, subst, arith, zero-add}
+use Rattle.std.proofs.Common.{◌≡◌, ◌∙◌, ℕ, ◌+◌, ◌<◌, ◌≤◌, ◌^◌, List, [], ◌∷◌, length, map, Option, Some, None, Result, Ok, Err, refl, sym, ap, subst, arith, zero-add, inr}
 use Rattle.std.specs.List.{AllByRecursion}
 use Rattle.std.proofs.lemmas.List.Elements.{recursion_from_All}
 use Rattle.dss_profile.specs.declared.command.Blame.{Blame}
@@ -8,7 +8,7 @@ use Rattle.dss_circuit.specs.Circuit.{CircuitView}
 use Rattle.dss_layout.specs.Layout.{layout_of, size_of}
 use Rattle.dss_ready.specs.Passed.{PassedLaw}
 use Rattle.dss_ready.specs.Ready.{HasPassed}
-use Rattle.dss_script.specs.Said.{Said, name, command, ScriptEnd, at_its_end, refused_at, ended_by}
+use Rattle.dss_script.specs.Said.{Part, Said, name, command, ScriptEnd, at_its_end, refused_at, ended_by}
 use Rattle.fd_outside.specs.Files.{Files, held}
 use Rattle.dss_values.specs.Names.{bytes}
 use Rattle.fd_bases.specs.declared.bus_base.BusBase.{BusBase}
@@ -25,20 +25,23 @@ use Rattle.fd_certfile.specs.RuleLaws.{RuleLaw}
 use Rattle.fd_certfile.specs.Rules.{Broken, first_broken}
 use Rattle.fd_certfile.specs.Verdict.{AllHold, Answer, Due, IsAnswer, IsAnswerBy, accepted, by_due, refused, unless_broken, verdict}
 use Rattle.fd_check.specs.Checking.{no_positions, Checking, after, due, open_solves}
-use Rattle.fd_outcome.specs.Events.{Event, History, IfSettle, row}
+use Rattle.fd_outcome.specs.Calls.{certificate}
+use Rattle.fd_outcome.specs.Events as event
+use Rattle.fd_outcome.specs.Events.{Event, History, IfSettle, asked, settle, row}
 use Rattle.fd_outcome.specs.History.{IsHistory}
 use Rattle.fd_outcome.specs.Work as work
 use Rattle.fd_outcome.specs.Work.{AfterStep, Step, goes}
 use Rattle.fd_app.specs.Commands.{Applied, nothing_left, solve_left, bases_left, IsByTests, IsSolve, IsStep, IsStepOf, IsTested, base_events, tried}
 use Rattle.fd_app.specs.Commands as commands
-use Rattle.fd_app.specs.Run.{IsDoneThere, first_standing, no_name}
+use Rattle.fd_app.specs.Headline.{IsSolved}
+use Rattle.fd_app.specs.Run.{IsDoneThere, IsScriptHistory, first_standing, no_name}
 use Rattle.fd_app.specs.Solving.{IsSolutionStep, kept_first}
 use Rattle.fd_app.specs.Steps.{StandingView, standing}
-use Rattle.fd_accepted.specs.Laws.{CertLaw}
-use Rattle.fd_accepted.specs.Printed.{IsWithinNumbers, all_rounds}
+use Rattle.fd_accepted.specs.Laws.{AreAccepted, CertLaw}
+use Rattle.fd_accepted.specs.Printed.{all_rounds, bytes_by}
 use Rattle.fd_accepted.specs.Solves.{behind_command, solves_from, solves_of}
 use Rattle.fd_accepted.proofs.Settles.{before}
-use Rattle.fd_accepted.proofs.Solves.{HoursHold, IsFit, IsPrinted, before_both, both_printed, count_rounds, hours_step, none_printed}
+use Rattle.fd_accepted.proofs.Solves.{CanBeWritten, HoursHold, IsFit, IsPrinted, before_both, both_printed, hours_step, none_printed}
 use Rattle.fd_accepted.proofs.Texts.{all_blocks, blocks_in, bytes_are}
 
 -- ---- a command
@@ -50,17 +53,16 @@ module _ (passed : PassedLaw) where
   -- what stands after a command's events, where these Solves come behind it
   pub record CommandHolds (left : Applied) (at : Positions) (settled : ℕ) (more : CircuitView → List CircuitView) (events : List Event)
       (t : StandingView) : Type 0 where
-    pub settles : t.settled ≤ settled + count_rounds events
-    pub printed : IsPrinted settled events
+    pub printed : IsPrinted events
     pub hold : (last : Certificate) → AllHold due after last (open_solves (more t.circuit) t.at t.settled)
         → AllHold due after (before (blocks_in events) last) (open_solves (behind_command left more) at settled)
 
-  bases_printed : (n : ℕ) (bases : List BusBase)
-      → IsPrinted n (map (λ b. row (base_fields b.bus b.kv)) bases) × (blocks_in (map (λ b. row (base_fields b.bus b.kv)) bases) ≡ [])
-  bases_printed n [] = (none_printed n, refl)
-  bases_printed n (b ∷ bases) =
-      let rest = bases_printed n bases in
-      (record { no_lines = (tt, rest.0.no_lines); fit = λ few h. rest.0.fit few h.1; counted = rest.0.counted }, rest.1)
+  bases_printed : (bases : List BusBase)
+      → IsPrinted (map (λ b. row (base_fields b.bus b.kv)) bases) × (blocks_in (map (λ b. row (base_fields b.bus b.kv)) bases) ≡ [])
+  bases_printed [] = (none_printed, refl)
+  bases_printed (b ∷ bases) =
+      let rest = bases_printed bases in
+      (record { no_lines = (tt, rest.0.no_lines); fit = λ h. rest.0.fit h.1; counted = rest.0.counted }, rest.1)
 
   solve_holds : (d : CircuitView) (at : Positions) (settled : ℕ) (more : CircuitView → List CircuitView) (step : Step StandingView)
       → HasPassed d → IsSolutionStep (standing d at settled) step
@@ -71,10 +73,16 @@ module _ (passed : PassedLaw) where
       let first : HoursHold d (more d) size (hours_of d.options) (kept_first (standing d at settled)) events t =
       hours_step d (more d) size (hours_of d.options) (kept_first (standing d at settled)) step h events t e in
       record {
-        settles = first.settles;
         printed = first.printed;
         hold = λ last k. first.hold last (subst (λ (c : CircuitView). AllHold due after last (open_solves (more c) t.at t.settled)) first.circuit k);
       }
+
+  -- a Solve leaves its circuit as it is
+  pub solve_circuit : (d : CircuitView) (at : Positions) (settled : ℕ) (step : Step StandingView) → HasPassed d → IsSolutionStep (standing d at settled) step
+      → (events : List Event) (t : StandingView) → step ≡ goes events t → t.circuit ≡ d
+  unfolding IsSolutionStep
+  solve_circuit d at settled step ready h events t e =
+      (hours_step d [] (few_unknowns d ready) (hours_of d.options) (kept_first (standing d at settled)) step h events t e).circuit
 
   command_holds : (left : Applied) (at : Positions) (settled : ℕ) (more : CircuitView → List CircuitView) (step : Step StandingView)
       → IsStepOf at settled left step
@@ -84,14 +92,13 @@ module _ (passed : PassedLaw) where
       let ts : standing d at settled ≡ t = cc in
       subst (λ (u : StandingView). CommandHolds (nothing_left d) at settled more events u) ts
       (subst (λ (q : List Event). CommandHolds (nothing_left d) at settled more q (standing d at settled)) es
-      (record { settles = omega arith; printed = none_printed settled; hold = λ last k. k }))
+      (record { printed = none_printed; hold = λ last k. k }))
   command_holds (bases_left d) at settled more step h events t e =
       let es : base_events d ≡ events = cc in
       let ts : standing d at settled ≡ t = cc in
-      let rows = bases_printed settled (bases_of d) in
+      let rows = bases_printed (bases_of d) in
       subst (λ (u : StandingView). CommandHolds (bases_left d) at settled more events u) ts
       (subst (λ (q : List Event). CommandHolds (bases_left d) at settled more q (standing d at settled)) es (record {
-        settles = omega arith;
         printed = rows.0;
         hold = λ last k. subst (λ (bs : List Block). AllHold due after (before bs last) (open_solves (more d) at settled)) (sym rows.1) k;
       }))
@@ -106,7 +113,7 @@ module _ (passed : PassedLaw) where
   -- ---- a history
 
   pub record ScriptHolds (said : List Said) (s : StandingView) (h : History) : Type 0 where
-    pub printed : IsPrinted s.settled h.events
+    pub printed : IsPrinted h.events
     pub hold : AllHold due after (before (blocks_in h.events) ends) (open_solves (solves_from said s.circuit) s.at s.settled)
 
   module _ (files : Files) where
@@ -114,7 +121,7 @@ module _ (passed : PassedLaw) where
     IsHistoryFrom said end s h = IsHistory IsStep no_name IsDoneThere (λ n. held files (bytes n)) said end s h
 
     at_end : (end : ScriptEnd) (s : StandingView) (h : History) → IsHistoryFrom [] end s h → h.end ≡ None → ScriptHolds [] s h
-    at_end at_its_end s h is none = subst (ScriptHolds [] s) (sym is) (record { printed = none_printed s.settled; hold = refl })
+    at_end at_its_end s h is none = subst (ScriptHolds [] s) (sym is) (record { printed = none_printed; hold = refl })
     at_end (refused_at place c) s h is none = absurd (let some = ap (λ (x : History). x.end) is in let no : ⊥ = cc in no)
 
     -- behind a step that goes on
@@ -127,7 +134,7 @@ module _ (passed : PassedLaw) where
         let here : CommandHolds (tried c s.circuit) s.at s.settled (λ next. solves_from more next) events t =
         command_holds (tried c s.circuit) s.at s.settled (λ next. solves_from more next) (goes events t) right events t refl in
         subst (ScriptHolds (command c ∷ more) s) (sym goes_on.h_is) (record {
-          printed = both_printed s.settled t.settled events x.events here.settles here.printed rest.printed;
+          printed = both_printed events x.events here.printed rest.printed;
           hold = subst (λ (k : Certificate). AllHold due after k (open_solves (solves_from (command c ∷ more) s.circuit) s.at s.settled))
               (sym (ap (λ (bs : List Block). before bs ends) (all_blocks events x.events)
               ∙ before_both (blocks_in events) (blocks_in x.events) ends))
@@ -140,7 +147,7 @@ module _ (passed : PassedLaw) where
     script_holds (name n ∷ more) end s h is none =
         let rest : ScriptHolds more s is.more = script_holds more end s is.more is.right (sym (ap (λ (y : History). y.end) is.h_is) ∙ none) in
         subst (ScriptHolds (name n ∷ more) s) (sym is.h_is) (record {
-          printed = record { no_lines = (tt, rest.printed.no_lines); fit = λ few h. rest.printed.fit few h.1; counted = rest.printed.counted };
+          printed = record { no_lines = (tt, rest.printed.no_lines); fit = λ h. rest.printed.fit h.1; counted = rest.printed.counted };
           hold = rest.hold;
         })
     script_holds (command c ∷ more) end s h is none =
@@ -155,6 +162,14 @@ whole_blocks (b ∷ bs) = ap (λ (q : List Block). b ∷ q) (whole_blocks bs)
 is_whole : (bs : List Block) → AllByRecursion IsFit bs → IsWhole (before bs ends)
 is_whole [] h = tt
 is_whole (b ∷ bs) h = (h.0.0, h.0.1, is_whole bs h.1)
+
+-- each solved settle can
+pub can_be_written : (events : List Event) → AllByRecursion (IfSettle IsSolved) events → AllByRecursion (IfSettle CanBeWritten) events
+can_be_written [] h = tt
+can_be_written (settle s ∷ events) h = (inr h.0.numbers, can_be_written events h.1)
+can_be_written (asked n ∷ events) h = (tt, can_be_written events h.1)
+can_be_written (row fields ∷ events) h = (tt, can_be_written events h.1)
+can_be_written (event.line t ∷ events) h = (tt, can_be_written events h.1)
 
 module _ (rules : RuleLaw) where
   accepts : (c : Certificate) (s : Checking) (line count : ℕ) → AllHold due after c s
@@ -187,12 +202,17 @@ module _ (rules : RuleLaw) where
       subst (λ (ls : List Line). IsAnswerBy due after (version_in ls) ls s (accepted (length (blocks_of c)))) (sym again.0) there in
       subst (λ (q : List Block). IsAnswer due after (Some (certificate_bytes Whole q)) s (accepted (length q))) (whole_blocks bs) read
 
-  pub cert_is_accepted : PassedLaw → CertificateLaw → CertLaw
-  cert_is_accepted passed law files p h is none numbers =
+  -- where its settles can be written
+  pub written_accepted : PassedLaw → CertificateLaw → (files : Files) (p : Part) (h : History) → IsScriptHistory files p h → h.end ≡ None
+      → AllByRecursion (IfSettle CanBeWritten) h.events → AreAccepted (bytes_by certificate h) (solves_of p) (length (all_rounds h.events))
+  written_accepted passed law files p h is none written =
       let s : Checking = open_solves (solves_of p) no_positions 0 in
       let holds : ScriptHolds passed p.said first_standing h = script_holds passed files p.said (ended_by p.left) first_standing h is none in
-      let fit = holds.printed.fit (omega (arith, numbers.few)) (recursion_from_All (IfSettle IsWithinNumbers) h.events numbers.settles) in
       let read : IsAnswer due after (Some (certificate_bytes Whole (blocks_in h.events))) s (accepted (length (blocks_in h.events))) =
-      bytes_accepted law (blocks_in h.events) s fit holds.hold in
+      bytes_accepted law (blocks_in h.events) s (holds.printed.fit written) holds.hold in
       let counted = subst (λ (n : ℕ). IsAnswer due after (Some (certificate_bytes Whole (blocks_in h.events))) s (accepted n)) holds.printed.counted read in
       subst (λ (bs : List ℕ). IsAnswer due after (Some bs) s (accepted (length (all_rounds h.events)))) (sym (bytes_are h none holds.printed.no_lines)) counted
+
+  pub cert_is_accepted : PassedLaw → CertificateLaw → CertLaw
+  cert_is_accepted passed law files p h is none solved =
+      written_accepted passed law files p h is none (can_be_written h.events (recursion_from_All (IfSettle IsSolved) h.events solved))

@@ -12,6 +12,7 @@ use Rattle.fd_queue.specs.Machine.{Act, Machine}
 use Rattle.fd_sample.specs.Decided.{sample_over}
 use Rattle.fd_settle.specs.Compute.{IsComputed}
 use Rattle.fd_settle.specs.Computed.{Ending, Follows, IsComputedFrom, ended}
+use Rattle.fd_settle.specs.Numbers.{AreActNumbers}
 use Rattle.fd_settle.specs.Plant.{controls_in, network_at, setup_of}
 use Rattle.fd_settle.specs.Sampling.{look_over, sampling_of}
 use Rattle.fd_settle.specs.Settle.{Open, Settled, Limited, Undecidable, Outcome, Ends, Moves, outcome_of}
@@ -22,11 +23,11 @@ use Rattle.fd_certfile.specs.Judging.{judge_of}
 use Rattle.fd_certfile.specs.Numbers.{IsNumber}
 use Rattle.fd_certfile.specs.Rules.{Holds, Judge, ball_of, moves}
 use Rattle.fd_certfile.specs.Verdict.{AllHold}
-use Rattle.fd_check.specs.Checking.{Checking, Settling, after, behind_round, due, due_in, open_hours, open_solves, outcome_in, plant_at, sampled_by, under_way}
+use Rattle.fd_daily.specs.Underway.{plant_at}
+use Rattle.fd_check.specs.Checking.{Checking, Settling, after, behind_round, due, due_in, open_hours, open_solves, outcome_in, sampled_by, under_way}
 use Rattle.fd_outcome.specs.Certificates.{act_in, block_in, blocks_from}
 use Rattle.fd_outcome.specs.Settles.{Round, Settle, round_of}
 use Rattle.fd_app.specs.Solving.{rounds_of}
-use Rattle.fd_accepted.specs.Printed.{IsActWithin}
 use Rattle.fd_accepted.proofs.Claims as claims
 use Rattle.fd_accepted.proofs.Points.{IsSolutionPoint, solution_point}
 
@@ -34,6 +35,10 @@ use Rattle.fd_accepted.proofs.Points.{IsSolutionPoint, solution_point}
 abbrev pub before : List Block → Certificate → Certificate
 before [] rest = rest
 before (b ∷ blocks) rest = gives b (before blocks rest)
+
+-- the numbers of an act are those of its types
+abbrev pub HasActNumbers : Act → Type 0
+HasActNumbers a = AreActNumbers a.time a.control a.steps
 
 abbrev pub network_in : CircuitView → ℕ → Positions → NetworkView
 network_in c hour at = network_at c (hour_powers c.elements hour) at
@@ -73,13 +78,13 @@ module _ (x : Settle) (limits : Limits) (at : Positions) (m : Claim) (computed :
     pub round_sized : IsSized (block_in x k (round_of m acts))
     round_sized = subst IsSized block_is (claims.sized v m there computed.certificate x.number x.hour k (map act_in acts))
 
-    all_within : (made : List Act) → AllByRecursion IsActWithin made
+    all_within : (made : List Act) → AllByRecursion HasActNumbers made
         → AllByRecursion (λ (a : blocks.Act). AllByRecursion IsNumber (a.time ∷ a.control ∷ a.steps ∷ [])) (map act_in made)
     all_within [] h = tt
-    all_within (a ∷ rest) h = ((h.0.0, (h.0.1.0, (h.0.1.1, tt))), all_within rest h.1)
+    all_within (a ∷ rest) h = ((omega (arith, h.0.time), (omega (arith, h.0.control), (omega (arith, h.0.steps), tt))), all_within rest h.1)
 
     pub round_writable : x.number < 2 ^ 127 → x.hour < 2 ^ 127 → k < 2 ^ 127 → size_of (layout_of x.circuit.elements) < 2 ^ 127
-        → AllByRecursion IsActWithin acts → IsWritable (block_in x k (round_of m acts))
+        → AllByRecursion HasActNumbers acts → IsWritable (block_in x k (round_of m acts))
     round_writable n h r s each =
         subst IsWritable block_is (claims.writable v m there computed.certificate x.number x.hour k (map act_in acts) n h r
         (subst (λ (z : ℕ). z < 2 ^ 127) (sym (size_in x.circuit x.hour at)) s) (all_within acts each))
@@ -161,7 +166,7 @@ module _ (x : Settle) (hours : List ℕ) (more : List CircuitView) where
     fit_behind (Moves made j) r rest k f go = go j f.1
 
     pub rounds_fit : (rounds : List (Claim × List Act)) (k : ℕ) (machine : Machine) → IsComputedFrom limits (plant_at x.circuit x.hour) machine rounds ending n
-        → k + length rounds < 2 ^ 127 → AllByRecursion (λ (r : Round). AllByRecursion IsActWithin r.acts) (rounds_of rounds)
+        → k + length rounds < 2 ^ 127 → AllByRecursion (λ (r : Round). AllByRecursion HasActNumbers r.acts) (rounds_of rounds)
         → AllByRecursion IsFit (blocks_from x k (rounds_of rounds))
     rounds_fit [] k machine h few acts = tt
     rounds_fit (r ∷ rest) k machine h few acts = (

@@ -1,5 +1,5 @@
 -- The hours of a Solve: the blocks of their settles hold, and lead to what comes behind the Solve.
-use Rattle.std.proofs.Common.{◌≡◌, ◌∙◌, ℕ, suc, ◌+◌, ◌<◌, ◌≤◌, ◌^◌, List, [], ◌∷◌, ◌++◌, length, refl, sym, ap, subst, arith}
+use Rattle.std.proofs.Common.{◌≡◌, ◌∙◌, ℕ, suc, ◌+◌, ◌<◌, ◌≤◌, ◌^◌, List, [], ◌∷◌, ◌++◌, length, refl, sym, ap, subst, arith, ◌⊎◌, inl, inr}
 use Rattle.std.specs.List.{AllByRecursion}
 use Rattle.std.proofs.lemmas.List.{append_assoc, append-nil, length-append}
 use Rattle.dss_circuit.specs.Circuit.{CircuitView}
@@ -18,9 +18,11 @@ use Rattle.fd_outcome.specs.Certificates.{blocks_from, blocks_of}
 use Rattle.fd_outcome.specs.Events.{Event, IfSettle, settle}
 use Rattle.fd_outcome.specs.Settles.{Round, Settle, SettleEnd, settled, failed, without_certificate}
 use Rattle.fd_outcome.specs.Work.{Step, goes, ends}
-use Rattle.fd_app.specs.Solving.{IsBehind, IsEndBy, IsHour, IsHoursStep, hour_begun, kept_by, plant_at, rounds_of}
+use Rattle.fd_daily.specs.Underway.{plant_at}
+use Rattle.fd_app.specs.Solving.{IsBehind, IsEndBy, IsHour, IsHoursStep, hour_begun, kept_by, rounds_of}
 use Rattle.fd_app.specs.Steps.{Kept, StandingView, behind_events, hour_settle, standing}
-use Rattle.fd_accepted.specs.Printed.{IsWithinNumbers, all_rounds, rounds_in}
+use Rattle.fd_app.specs.Headline.{HasModestNumbers}
+use Rattle.fd_accepted.specs.Printed.{all_rounds, rounds_in}
 use Rattle.fd_accepted.proofs.Settles.{before, rounds_fit, rounds_hold}
 use Rattle.fd_accepted.proofs.Texts.{IsNoLine, all_blocks, blocks_in}
 
@@ -54,15 +56,18 @@ IsFit b = IsSized b × IsWritable b
 abbrev pub count_rounds : List Event → ℕ
 count_rounds events = length (all_rounds events)
 
--- events behind so many settles that are printed as blocks alone, one for each round, which can be written where their
--- numbers can
-pub record IsPrinted (first : ℕ) (events : List Event) : Type 0 where
+-- a settle whose blocks can be written: it has none, or its numbers are modest
+abbrev pub CanBeWritten : Settle → Type 0
+CanBeWritten s = (blocks_of s ≡ []) ⊎ HasModestNumbers s
+
+-- events that are printed as blocks alone, one for each round
+pub record IsPrinted (events : List Event) : Type 0 where
   pub no_lines : AllByRecursion IsNoLine events
-  pub fit : first + count_rounds events < 2 ^ 127 → AllByRecursion (IfSettle IsWithinNumbers) events → AllByRecursion IsFit (blocks_in events)
+  pub fit : AllByRecursion (IfSettle CanBeWritten) events → AllByRecursion IsFit (blocks_in events)
   pub counted : length (blocks_in events) ≡ count_rounds events
 
-pub none_printed : (first : ℕ) → IsPrinted first []
-none_printed first = record { no_lines = tt; fit = λ few h. tt; counted = refl }
+pub none_printed : IsPrinted []
+none_printed = record { no_lines = tt; fit = λ h. tt; counted = refl }
 
 all_rounds_both : (a b : List Event) → all_rounds (a ++ b) ≡ all_rounds a ++ all_rounds b
 all_rounds_both [] b = refl
@@ -71,12 +76,11 @@ all_rounds_both (e ∷ a) b = ap (λ (rs : List Round). rounds_in e ++ rs) (all_
 pub count_both : (a b : List Event) → count_rounds (a ++ b) ≡ count_rounds a + count_rounds b
 count_both a b = ap length (all_rounds_both a b) ∙ length-append (all_rounds a) (all_rounds b)
 
-pub both_printed : (first next : ℕ) (a b : List Event) → next ≤ first + count_rounds a → IsPrinted first a → IsPrinted next b → IsPrinted first (a ++ b)
-both_printed first next a b most p q = record {
+pub both_printed : (a b : List Event) → IsPrinted a → IsPrinted b → IsPrinted (a ++ b)
+both_printed a b p q = record {
   no_lines = both_all IsNoLine a b p.no_lines q.no_lines;
-  fit = λ few h. subst (AllByRecursion IsFit) (sym (all_blocks a b)) (both_all IsFit (blocks_in a) (blocks_in b)
-      (p.fit (omega (arith, few, count_both a b)) (left_all (IfSettle IsWithinNumbers) a b h))
-      (q.fit (omega (arith, few, most, count_both a b)) (right_all (IfSettle IsWithinNumbers) a b h)));
+  fit = λ h. subst (AllByRecursion IsFit) (sym (all_blocks a b)) (both_all IsFit (blocks_in a) (blocks_in b)
+      (p.fit (left_all (IfSettle CanBeWritten) a b h)) (q.fit (right_all (IfSettle CanBeWritten) a b h)));
   counted = ap length (all_blocks a b) ∙ length-append (blocks_in a) (blocks_in b) ∙ added p.counted q.counted ∙ sym (count_both a b);
 }
   where
@@ -108,8 +112,7 @@ module _ (c : CircuitView) where
     -- the hours that are left came to these events, and what stands then
     pub record HoursHold (hours : List ℕ) (l : Kept) (events : List Event) (t : StandingView) : Type 0 where
       pub circuit : t.circuit ≡ c
-      pub settles : t.settled ≤ l.settled + count_rounds events
-      pub printed : IsPrinted l.settled events
+      pub printed : IsPrinted events
       pub hold : (last : Certificate) → AllHold due after last (open_solves more t.at t.settled)
           → AllHold due after (before (blocks_in events) last) (opens hours l)
 
@@ -124,32 +127,23 @@ module _ (c : CircuitView) where
       many_rounds [] = refl
       many_rounds (r ∷ rs) = ap suc (many_rounds rs)
 
-      one_count : count_rounds (settle x ∷ []) ≡ length rounds
-      one_count = ap length (append-nil (rounds_of rounds)) ∙ many_rounds rounds
+      one_fit : CanBeWritten x → AllByRecursion IsFit (blocks_of x)
+      one_fit h = elim h [
+        | inl none ↦ subst (AllByRecursion IsFit) (sym none) tt
+        | inr modest ↦ rounds_fit x hours more (limits_of c.options) n (ended Settled) (omega (arith, modest.number)) (omega (arith, modest.hour)) size rounds 0
+            (hour_begun c hour l) computed (omega (arith, modest.few, many_rounds rounds)) modest.acts
+      ]
 
-      -- a settle that ended well has a round
-      some_round : (rs : List (Claim × List Act)) (m : Machine) → IsComputedFrom (limits_of c.options) (plant_at c hour) m rs (ended Settled) n → 1 ≤ length rs
-      some_round [] m h = absurd h
-      some_round (r ∷ rs) m h = omega arith
-
-      one_fit : l.settled + count_rounds (settle x ∷ []) < 2 ^ 127 → IsWithinNumbers x → AllByRecursion IsFit (blocks_of x)
-      one_fit few h =
-          let some = some_round rounds (hour_begun c hour l) computed in
-          rounds_fit x hours more (limits_of c.options) n (ended Settled) (omega (arith, few, one_count, some)) h.hour size rounds 0
-          (hour_begun c hour l) computed (omega (arith, few, one_count)) h.acts
-
-      hour_printed : IsPrinted l.settled (settle x ∷ events)
-      hour_printed = both_printed l.settled (l.settled + 1) (settle x ∷ []) events
-          (omega (arith, one_count, some_round rounds (hour_begun c hour l) computed)) (record {
-            no_lines = (tt, tt);
-            fit = λ few h. both_all IsFit (blocks_of x) [] (one_fit few h.0) tt;
-            counted = ap length (append-nil (blocks_of x)) ∙ many_from x 0 (rounds_of rounds) ∙ ap length (sym (append-nil (rounds_of rounds)));
-          }) rest.printed
+      hour_printed : IsPrinted (settle x ∷ events)
+      hour_printed = both_printed (settle x ∷ []) events (record {
+        no_lines = (tt, tt);
+        fit = λ h. both_all IsFit (blocks_of x) [] (one_fit h.0) tt;
+        counted = ap length (append-nil (blocks_of x)) ∙ many_from x 0 (rounds_of rounds) ∙ ap length (sym (append-nil (rounds_of rounds)));
+      }) rest.printed
 
       hour_before : HoursHold (hour ∷ hours) l (settle x ∷ events) t
       hour_before = record {
         circuit = rest.circuit;
-        settles = omega (arith, rest.settles, one_count, some_round rounds (hour_begun c hour l) computed, count_both (settle x ∷ []) events);
         printed = hour_printed;
         hold = λ last h. subst (λ (k : Certificate). AllHold due after k (opens (hour ∷ hours) l)) (sym (before_both (blocks_of x) (blocks_in events) last))
             (rounds_hold x hours more (limits_of c.options) n (before (blocks_in events) last) (rest.hold last h) rounds 0 (hour_begun c hour l) computed);
@@ -170,7 +164,7 @@ module _ (c : CircuitView) where
     -- ---- the hours
 
     no_hours : (l : Kept) → HoursHold [] l [] (standing c l.at l.settled)
-    no_hours l = record { circuit = refl; settles = omega arith; printed = none_printed l.settled; hold = λ last h. h }
+    no_hours l = record { circuit = refl; printed = none_printed; hold = λ last h. h }
 
     abbrev Again : List ℕ → Kept → Type 0
     Again hours kept = (rest : Step StandingView) → IsHoursStep c hours kept rest → (es : List Event) (u : StandingView) → rest ≡ goes es u

@@ -76,7 +76,7 @@ blocks_written (b ∷ bs) rest later h =
     ∙ ap (λ (t : List ℕ). bytes_of (block_lines Whole b) ++ t) (blocks_written bs rest later h)
     ∙ sym (lines_together (block_lines Whole b) (lines_behind Whole (bs ++ later)))
 
-abbrev last_text : List ℕ
+abbrev pub last_text : List ℕ
 last_text = line_bytes text.end
 
 events_written : (events : List Event) → AllByRecursion IsNoLine events

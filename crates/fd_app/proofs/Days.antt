@@ -28,7 +28,8 @@ use Rattle.fd_outcome.specs.Settles.{Round, Settle, SettleEnd, claim_in, settled
 use Rattle.fd_outcome.specs.Work.{Step}
 use Rattle.fd_app.specs.Days.{AreSteady, DaysLaw, acts_of, hours_at, settles_in}
 use Rattle.fd_app.specs.Headline.{DecidesAlike, IsOtherState, IsSolved, claims_of, machine_of}
-use Rattle.fd_app.specs.Solving.{IsBehind, IsEndBy, IsHour, IsHoursStep, IsSolutionStep, hour_begun, kept_first, plant_at, rounds_of}
+use Rattle.fd_daily.specs.Underway.{plant_at}
+use Rattle.fd_app.specs.Solving.{IsBehind, IsEndBy, IsHour, IsHoursStep, IsSolutionStep, hour_begun, kept_first, rounds_of}
 use Rattle.fd_app.proofs.Hourly.{events_behind}
 use Rattle.fd_app.proofs.Steadiness.{both}
 use Rattle.fd_app.specs.Steps.{Kept, StandingView, hour_settle}

@@ -1,20 +1,19 @@
 -- Where the loop over a Solve's hours stands, how it goes on and how it ends.
-use Rattle.std.proofs.Common.{◌≡◌, ◌∙◌, ℕ, Bool, true, false, List, [], ◌∷◌, ◌++◌, map, Option, Some, None, refl, sym, ap, subst, inl, inr}
-use Rattle.std.specs.Prelude.{◌||◌, ◌+◌, ◌-◌, IsSome}
-use Rattle.std.specs.List.{range_with_len}
-use Rattle.std.specs.Option.{unwrap_or}
+use Rattle.std.proofs.Common.{◌≡◌, ◌∙◌, ℕ, Bool, true, false, List, [], ◌∷◌, ◌++◌, map, Option, Some, None, refl, sym, ap, subst, arith, length, inl, inr}
+use Rattle.std.specs.Prelude.{◌||◌, ◌+◌, ◌<◌, ◌≤◌, ◌^◌}
 use Rattle.std.proofs.lemmas.List.{append_assoc, append-nil}
 use Rattle.std.proofs.lemmas.List.Elements.{All-nil, All-cons, All-append}
 use Rattle.std.proofs.lemmas.List.Sums.{fold-append}
 use Rattle.dss_profile.specs.declared.command.Blame.{Blame}
 use Rattle.dss_circuit.specs.Circuit.{CircuitView}
-use Rattle.fd_daily.specs.Day.{DayView, IsDayOf, hour_in, hours_left}
-use Rattle.fd_daily.specs.Hours.{hours_from, hours_of}
+use Rattle.fd_daily.specs.Day.{DayView, hours_left, no_openings}
+use Rattle.fd_daily.specs.Hours.{AreHours, hours_of}
 use Rattle.fd_report.specs.declared.faults.Cause.TheVariants as cause
 use Rattle.fd_report.specs.declared.faults.Fault.{Fault}
 use Rattle.fd_report.specs.declared.faults.Fault.TheVariants as fault
 use Rattle.fd_devices.specs.declared.settings.Positions.{Positions as CodePositions}
 use Rattle.fd_queue.specs.Controls.{Positions}
+use Rattle.fd_sample.specs.Probes.{positions_in}
 use Rattle.fd_settle.specs.Computed.{range, stopped}
 use Rattle.fd_settle.specs.declared.round.Round.{Round as Made}
 use Rattle.fd_outcome.specs.Behind.{behind, has_text}
@@ -31,11 +30,11 @@ use Rattle.fd_app.specs.Bench.{tallied, tally_of}
 use Rattle.fd_app.specs.Benching.{GoesOnTallied}
 use Rattle.fd_app.specs.Headline.{IsSolved, IsSteady}
 use Rattle.fd_app.specs.Printing.{EndsInHour, IsPrintedHour, begun_behind, fault_of, settle_calls}
-use Rattle.fd_app.specs.Solving.{IsBehind, IsHour, IsHoursStep, IsSolutionStep, hour_begun, kept_by, kept_first, plant_at}
+use Rattle.fd_daily.specs.Underway.{blame_first, plant_at, start_from}
+use Rattle.fd_app.specs.Solving.{IsBehind, IsHour, IsHoursStep, IsSolutionStep, hour_begun, kept_by, kept_first}
 use Rattle.fd_app.specs.Steps.{Kept, StandingView, behind_events, hour_settle, standing}
 use Rattle.fd_app.specs.declared.faults.Failure.{Failure}
 use Rattle.fd_app.specs.declared.tally.Tally.{Tally}
-use Rattle.fd_app.proofs.Starting.{next_first}
 use Rattle.fd_app.proofs.Tests.{one_hours}
 
 -- ---- events before a step
@@ -205,18 +204,32 @@ module _ (style : Style) (c : CircuitView) (first : List ℕ) (l : Kept) {S : Ty
       ]
     ]
 
-    -- the network with which an hour starts is out of range
-    pub way_range : ((s : Settle) → style.asked_in (settle s) ≡ []) → ((s : Settle) (f : Fault) → s.rounds ≡ [] → s.end ≡ failed f → style.texts_in (settle s) ≡ []) →
+    -- the network with which it starts is out of range
+    range_there : k.settled + 1 < 2 ^ 32 → hour ≤ 8760 → ((s : Settle) → style.asked_in (settle s) ≡ []) → ((s : Settle) (f : Fault) → s.rounds ≡ [] → s.end ≡ failed f → style.texts_in (settle s) ≡ []) →
         (blame : Blame) → (plant_at c hour).blame k.at ≡ Some blame → (new : S) (code : ℕ)
         → Printed taken calls now new (fault_doing (fault.Script blame.place (cause.Model blame.cause))) code → EndsAt style IsSolved IsFirst taken calls old new begun code
-    way_range silent unshown blame here new code printed =
+    range_there number within silent unshown blame here new code printed =
         let f : Fault = fault.Script blame.place (cause.Model blame.cause) in
         let none : Settle = hour_settle c hour k [] (failed f) k.at in
         let nothing : settle_calls style b none ≡ [] = no_calls style b none (silent none) (unshown none f refl refl) in
         way_failed hour left k now b t way none (kept_by k (hour_begun c hour k))
         (record { rounds = []; ending = stopped (range blame); machine = hour_begun c hour k; computed = (here, refl); end = failed f; end_is = refl; settle_is = refl; kept = refl })
-        (record { solutions = tt; alike = tt; steady = unsampled c hour k f }) f refl new code
+        (record {
+          solutions = tt;
+          alike = tt;
+          steady = unsampled c hour k f;
+          numbers = record { number = number; hour = omega (arith, within); few = omega arith; acts = tt };
+        }) f refl new code
         (subst (λ cs. Printed taken calls now new (record { calls = cs ++ writes (fault_text f) ∷ []; end = Some f }) code) (sym nothing) printed)
+
+  -- the network of the first of the hours that are left is out of range
+  pub way_range : ((s : Settle) → style.asked_in (settle s) ≡ []) → ((s : Settle) (f : Fault) → s.rounds ≡ [] → s.end ≡ failed f → style.texts_in (settle s) ≡ []) →
+      (left : List ℕ) (k : Kept) (now : S) (b : Bool) (t : Tally) → HourWay left k now b t → AreHours left → k.settled + length left < 2 ^ 32
+      → (blame : Blame) → blame_first c left k.at ≡ Some blame → (new : S) (code : ℕ)
+      → Printed taken calls now new (fault_doing (fault.Script blame.place (cause.Model blame.cause))) code → EndsAt style IsSolved IsFirst taken calls old new begun code
+  way_range silent unshown [] k now b t way are room blame here new code printed = absurd (cc here)
+  way_range silent unshown (hour ∷ left) k now b t way are room blame here new code printed =
+      range_there hour left k now b t way (omega (arith, room)) are.each.0 silent unshown blame here new code printed
 
   -- all hours are done
   pub way_done : (left : List ℕ) (k : Kept) (now : S) (b : Bool) (t : Tally) → left ≡ [] → HourWay left k now b t → GoesOnTallied style IsFirst (standing c k.at k.settled) taken calls old now begun b none_yet t
@@ -235,27 +248,19 @@ module _ (style : Style) (c : CircuitView) (first : List ℕ) (l : Kept) {S : Ty
 
 -- ---- an hour as the code has it
 
--- the hour that comes next
-pub hour_is : (o : Option ℕ) (d : DayView) (h : ℕ) → o ≡ d.hour → o ≡ Some h → hour_in d ≡ h
-hour_is o d h next some = ap (λ (x : Option ℕ). unwrap_or x 0) (sym next ∙ some)
-
 pub made_as : (c : CircuitView) (hour h : ℕ) (l : Kept) (rounds rs : List Made) (f : Option Failure) (k : Kept) → hour ≡ h → rs ≡ rounds → IsMadeHour c hour l rounds f k → IsMadeHour c h l rs f k
 made_as c hour h l rounds rs f k same_hour same made = subst (λ (x : List Made). IsMadeHour c h l x f k) (sym same) (subst (λ (n : ℕ). IsMadeHour c n l rounds f k) same_hour made)
 
--- the hours that were left begin with it
-pub left_first : (day after : DayView) (h : ℕ) → hour_in day ≡ h → hours_left day ≡ hour_in day ∷ hours_left after → hours_left day ≡ h ∷ hours_left after
-left_first day after h same left = left ∙ ap (λ (n : ℕ). n ∷ hours_left after) same
-
-pub left_open : (c : CircuitView) (day : DayView) (h : ℕ) → IsDayOf c day → IsSome day.hour → hour_in day ≡ h → hours_left day ≡ h ∷ range_with_len (hour_in day + 1) (day.last - hour_in day)
-left_open c day h is some same = next_first c day is some ∙ ap (λ (n : ℕ). n ∷ range_with_len (hour_in day + 1) (day.last - hour_in day)) same
-
--- none is left behind the last
-pub none_left : (d : DayView) (o : Option ℕ) → o ≡ d.hour → o ≡ None → hours_left d ≡ []
-none_left d o next none = ap (λ (x : Option ℕ). hours_from x d.last) (sym next ∙ none)
-
 -- the hours of a Solve are its step
-pub solution_step : (c : CircuitView) (before : Positions) (n : ℕ) (at : CodePositions) (day : DayView) → kept_first (standing c before n) ≡ kept_in at day n → hours_left day ≡ hours_of c.options → (step : Step StandingView)
-    → IsHoursStep c (hours_left day) (kept_in at day n) step → IsSolutionStep (standing c before n) step
+pub first_step : (s : StandingView) (step : Step StandingView) → IsHoursStep s.circuit (hours_of s.circuit.options) (kept_first s) step → IsSolutionStep s step
 unfolding IsSolutionStep
-solution_step c before n at day kept left step h =
-    subst (λ (hs : List ℕ). IsHoursStep c hs (kept_first (standing c before n)) step) left (subst (λ (l : Kept). IsHoursStep c (hours_left day) l step) (sym kept) h)
+first_step s step h = h
+
+pub solution_step : (c : CircuitView) (before : Positions) (n : ℕ) (at : CodePositions) (day : DayView) → positions_in at ≡ start_from c before → day.opened ≡ no_openings c
+    → hours_left day ≡ hours_of c.options → (step : Step StandingView) → IsHoursStep c (hours_left day) (kept_in at day n) step → IsSolutionStep (standing c before n) step
+solution_step c before n at day start opened left step h =
+    let kept : kept_in at day n ≡ kept_first (standing c before n) =
+    ap (λ (p : Positions). (let k : Kept = record { at = p; opened = day.opened; settled = n } in k)) start
+    ∙ ap (λ (o : List (Option ℕ)). (let k : Kept = record { at = start_from c before; opened = o; settled = n } in k)) opened in
+    first_step (standing c before n) step
+    (subst (λ (hs : List ℕ). IsHoursStep c hs (kept_first (standing c before n)) step) left (subst (λ (l : Kept). IsHoursStep c (hours_left day) l step) kept h))

@@ -4,7 +4,6 @@ mod Computations
 mod Solutions
 mod Steadiness
 mod Settled
-mod Starting
 pub mod Tests
 mod Recorded
 mod Hourly

@@ -1,6 +1,7 @@
 -- What a settle whose states are computed comes to: its step, and its rounds, which are printed.
 use Rattle.std.proofs.Common.{◌≡◌, ◌∙◌, ◌≤◌, ◌<◌, ◌+◌, ◌^◌, ℕ, List, [], ◌∷◌, map, take, length, Option, Some, None, Result, Ok, Err, ap, refl, sym, subst, arith}
 use Rattle.std.specs.Prelude.{All}
+use Rattle.std.specs.List.{AllByRecursion}
 use Rattle.std.proofs.lemmas.List.{length-map}
 use Rattle.std.proofs.lemmas.List.Elements.{All-cons, All-nil}
 use Rattle.dss_layout.specs.Layout.{LayoutView, layout_of, size_of}
@@ -26,6 +27,7 @@ use Rattle.fd_settle.specs.Chosen.{AreChosen}
 use Rattle.fd_settle.specs.Compute.{ComputeGives, IsPlaced}
 use Rattle.fd_settle.specs.Computed.{Ending, EndsBySolver, EndsSo, Follows, IsComputedFrom, computed_in, ended}
 use Rattle.fd_settle.specs.Contract.{CallsAs, EndsAs, limits_of}
+use Rattle.fd_settle.specs.Numbers.{AreActNumbers}
 use Rattle.fd_settle.specs.Plant.{Plant, controls_in, network_at, plant_of, setup_of}
 use Rattle.fd_settle.specs.Rounds.{AtEach, acts_in, after_round, claims_in, left_by, seen, settled}
 use Rattle.fd_settle.specs.Sampling.{look_over}
@@ -35,6 +37,7 @@ use Rattle.fd_settle.specs.declared.compute.ComputeFault.{ComputeFault}
 use Rattle.fd_settle.specs.declared.compute.ComputeFault.TheVariants as compute
 use Rattle.fd_settle.specs.declared.fault.SettleFault.{SettleFault}
 use Rattle.fd_settle.specs.declared.fault.SettleFault.TheVariants as fault
+use Rattle.fd_settle.specs.declared.round.Act.{Act as MadeAct}
 use Rattle.fd_settle.specs.declared.round.Round.{Round as Made}
 use Rattle.fd_outcome.specs.Pages.{solution_in}
 use Rattle.fd_outcome.specs.Settles.{Round, SettleEnd}
@@ -42,11 +45,12 @@ use Rattle.fd_outcome.specs.Settles as outcome
 use Rattle.fd_app.specs.Answered.{IsFailureOf, IsMadeHour, IsOfCommand, IsPrintable, IsTriedOf, round_in, rounds_in, settle_made}
 use Rattle.fd_app.specs.Endings.{IsCounted, IsEnding, IsFailureAt, IsTriedAt, IsWithin, TellsOf, end_by, end_with, ending_by_solver, ending_of, tried_at}
 use Rattle.fd_app.specs.declared.faults.Failure.{Failure}
-use Rattle.fd_app.specs.Headline.{DecidesAlike, IsOtherState, IsSolution, IsSolved}
+use Rattle.fd_app.specs.Headline.{DecidesAlike, HasModestNumbers, IsOtherState, IsSolution, IsSolved}
 use Rattle.fd_cert.specs.declared.ball.Certified.{Certified}
 use Rattle.fd_report.specs.declared.faults.Fault.{Fault}
 use Rattle.fd_app.specs.Printing.{fault_of}
-use Rattle.fd_app.specs.Solving.{IsEndBy, IsHour, hour_begun, kept_by, plant_at, rounds_of}
+use Rattle.fd_daily.specs.Underway.{plant_at}
+use Rattle.fd_app.specs.Solving.{IsEndBy, IsHour, hour_begun, kept_by, rounds_of}
 use Rattle.fd_app.specs.Steps.{Kept, hour_settle}
 use Rattle.fd_app.proofs.Computations.{few_rounds}
 use Rattle.fd_app.proofs.Solutions.{is_of_size, is_solution, network_size}
@@ -154,13 +158,20 @@ pub record IsMade (c : CircuitView) (powers : List LoadPower) (m : Machine) (rs 
   pub positions : ArePositions c powers k.at
   pub tried : IsTriedBy (limits_of c.options) (plant_of c powers) result (settled (plant_of c powers) m rs).machine
 
--- the same where the powers are written otherwise
-pub made_as : (c : CircuitView) (powers other : List LoadPower) (m : Machine) (rs : List Made) (result : Result (Unit {0}) (SettleFault ComputeFault)) (k : Kept) → powers ≡ other → IsMade c powers m rs result k → IsMade c other m rs result k
-made_as c powers other m rs result k same h = subst (λ (x : List LoadPower). IsMade c x m rs result k) same h
+-- ---- the numbers of acts, by their types
+
+act_numbers : (acts : List MadeAct) → AllByRecursion (λ (a : Act). AreActNumbers a.time a.control a.steps) (map seen acts)
+act_numbers [] = tt
+act_numbers (a ∷ acts) = (a.numbers, act_numbers acts)
+
+numbers_of : (rs : List Made) → AllByRecursion (λ (r : Round). AllByRecursion (λ (a : Act). AreActNumbers a.time a.control a.steps) r.acts) (rounds_in rs)
+numbers_of [] = tt
+numbers_of (r ∷ rs) = (act_numbers r.acts.items, numbers_of rs)
 
 -- ---- the settle of an hour
 
-module _ (c : CircuitView) (hour : ℕ) (l : Kept) (rs : List Made) (k : Kept) (ready : HasPassed c) (range : AllInRange c.elements) (keys : All IsEntry c.elements) (law : EnclosureLaw) (tie : TieLaw) (ball : BallLaw) (most : c.options.maxcontroliter ≤ 100) (count : k.settled ≡ l.settled + 1) where
+module _ (c : CircuitView) (hour : ℕ) (l : Kept) (rs : List Made) (k : Kept) (ready : HasPassed c) (range : AllInRange c.elements) (keys : All IsEntry c.elements) (law : EnclosureLaw) (tie : TieLaw) (ball : BallLaw) (most : c.options.maxcontroliter ≤ 100) (count : k.settled ≡ l.settled + 1)
+    (number : l.settled + 1 < 2 ^ 32) (most_hour : hour ≤ 8760) where
   abbrev first : Machine
   first = hour_begun c hour l
 
@@ -188,6 +199,14 @@ module _ (c : CircuitView) (hour : ℕ) (l : Kept) (rs : List Made) (k : Kept) (
     few = few ending computed;
   }
 
+  modest : (ending : Ending) (end : SettleEnd) → EndsHere ending → HasModestNumbers (settle_made c hour l rs end k.at)
+  modest ending end computed = record {
+    number = number;
+    hour = omega (arith, most_hour);
+    few = omega (arith, few ending computed, length-map rs round_in);
+    acts = numbers_of rs;
+  }
+
   solved : (result : Result (Unit {0}) (SettleFault ComputeFault)) (ending : Ending) (end : SettleEnd) → MadeHere result → EndsHere ending → IsSolved (settle_made c hour l rs end k.at)
   solved result ending end made computed = record {
     solutions = subst (λ (ys : List Claim). AtEach (IsSolution c hour) (plant_at c hour) first ys) (sym (same_claims rs)) (solutions c hour law tie ball first rs ending last computed made.sound);
@@ -195,6 +214,7 @@ module _ (c : CircuitView) (hour : ℕ) (l : Kept) (rs : List Made) (k : Kept) (
     steady = λ xs chosen. steady c hour ready range keys law first (claims_in rs) xs made.sound
         (subst (λ (ys : List Claim). AreChosen (setup_of c) (IsOtherState c hour) (look_over (controls_in c)) first ys xs) (same_claims rs) chosen)
         ∙ ap (λ (acts : List (List Act)). take (length xs) acts) (sym made.acts ∙ sym (same_acts rs));
+    numbers = modest ending end computed;
   }
 
   same_kept : (machine : Machine) → k.at ≡ machine.at → k.opened ≡ machine.opened → k ≡ kept_by l machine

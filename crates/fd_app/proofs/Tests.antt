@@ -35,7 +35,8 @@ use Rattle.fd_outcome.specs.Settles.{Settle, SettleEnd, settled, failed, without
 use Rattle.fd_outcome.specs.Work.{Step, ExactlyOne, goes, ends}
 use Rattle.fd_outcome.proofs.CallerLemmas.{exactly_this}
 use Rattle.fd_app.specs.Commands.{Applied, base_events, bases_left, nothing_left, solve_left, refused_at, IsByTests, IsStep, IsStepOf, IsTested, tried}
-use Rattle.fd_app.specs.Solving.{IsBehind, IsEndBy, IsHour, IsHourStep, IsHoursStep, IsSolutionStep, hour_begun, kept_by, kept_first, plant_at, rounds_of, tried_round, undecided_at, unknown_of}
+use Rattle.fd_daily.specs.Underway.{plant_at}
+use Rattle.fd_app.specs.Solving.{IsBehind, IsEndBy, IsHour, IsHourStep, IsHoursStep, IsSolutionStep, hour_begun, kept_by, kept_first, rounds_of, tried_round, undecided_at, unknown_of}
 use Rattle.fd_app.specs.Steps.{Kept, StandingView, behind_events, changes, hour_settle, refuses, standing}
 use Rattle.fd_app.proofs.Computations.{IsTold, is_told}
 

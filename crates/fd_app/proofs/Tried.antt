@@ -36,7 +36,8 @@ use Rattle.fd_outcome.specs.Settles.{failed, round_of}
 use Rattle.fd_app.specs.Answered.{IsTriedOf}
 use Rattle.fd_app.specs.Endings.{IsTried, IsTriedAt, end_by, end_with, tried_at, tried_in}
 use Rattle.fd_app.specs.declared.faults.Failure.{Failure}
-use Rattle.fd_app.specs.Solving.{plant_at, point_or_nothing, tried_by, tried_round}
+use Rattle.fd_daily.specs.Underway.{plant_at}
+use Rattle.fd_app.specs.Solving.{point_or_nothing, tried_by, tried_round}
 use Rattle.fd_app.proofs.Solutions.{network_size, part_size}
 
 -- ---- the numbers of a claim

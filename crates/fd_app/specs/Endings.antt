@@ -20,7 +20,8 @@ use Rattle.fd_settle.specs.Compute.{IsPlaced, IsUncertified}
 use Rattle.fd_settle.specs.Computed.{Ending, ended, procedure, range, stopped, uncertified}
 use Rattle.fd_settle.specs.Contract.{limits_of}
 use Rattle.fd_settle.specs.Settle.{Limited, Undecidable}
-use Rattle.fd_app.specs.Solving.{IsEndBy, plant_at}
+use Rattle.fd_daily.specs.Underway.{plant_at}
+use Rattle.fd_app.specs.Solving.{IsEndBy}
 use Rattle.fd_app.specs.declared.faults.Failure.{Failure}
 
 -- ---- how a settle ended; want of memory tells none

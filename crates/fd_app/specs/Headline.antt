@@ -1,5 +1,6 @@
 -- What a printed settle is.
-use Rattle.std.specs.Prelude.{◌≡◌, ◌+◌, ◌*◌, ◌<◌, ℕ, List, length, map, take, Ok}
+use Rattle.std.specs.Prelude.{◌≡◌, ◌+◌, ◌*◌, ◌<◌, ◌^◌, ℕ, List, length, map, take, Ok}
+use Rattle.std.specs.List.{AllByRecursion}
 use Rattle.fd_exact.specs.Fractions.{Fraction}
 use Rattle.fd_exact.specs.States.{State}
 use Rattle.dss_layout.specs.Layout.{complex_count, layout_of, size_of}
@@ -19,17 +20,18 @@ use Rattle.fd_enclosure.specs.Ties.{IsTied}
 use Rattle.fd_inject.specs.Procedure.{solution_of}
 use Rattle.fd_queue.specs.Controls.{Positions}
 use Rattle.fd_queue.specs.Decisions.{Decision}
-use Rattle.fd_queue.specs.Machine.{Machine}
+use Rattle.fd_queue.specs.Machine.{Act, Machine}
 use Rattle.fd_report.specs.Enclosed.{IsSizeBetween}
 use Rattle.fd_report.specs.Solutions as printed
 use Rattle.fd_settle.specs.Chosen.{AreChosen}
 use Rattle.fd_settle.specs.Contract.{limits_of}
+use Rattle.fd_settle.specs.Numbers.{AreActNumbers}
 use Rattle.fd_settle.specs.Plant.{controls_in, network_at, settings_at, setup_of, started}
 use Rattle.fd_settle.specs.Rounds.{AtEach}
 use Rattle.fd_settle.specs.Sampling.{Decided, look_at, look_over}
 use Rattle.fd_settle.specs.Settle.{settle_of}
-use Rattle.fd_outcome.specs.Settles.{Settle, claim_in}
-use Rattle.fd_app.specs.Solving.{plant_at}
+use Rattle.fd_outcome.specs.Settles.{Round, Settle, claim_in}
+use Rattle.fd_daily.specs.Underway.{plant_at}
 
 -- at this hour, and these positions of taps and banks
 module _ (circuit : CircuitView) (hour : ℕ) (at : Positions) where
@@ -117,7 +119,15 @@ abbrev pub IsSteady : Settle → Type 0
 IsSteady s = (xs : List State) → AreChosen (setup_of s.circuit) (IsOtherState s.circuit s.hour) (look_over (controls_in s.circuit)) (machine_of s) (claims_of s) xs →
     (settle_of (setup_of s.circuit) (look_at (controls_in s.circuit)) (machine_of s) xs).rounds ≡ take (length xs) (map (λ r. r.acts) s.rounds)
 
+-- its number in the run, its hour, how many rounds it has, and the numbers of its acts
+pub record HasModestNumbers (s : Settle) : Type 0 where
+  pub number : s.number < 2 ^ 32
+  pub hour : s.hour < 2 ^ 32
+  pub few : length s.rounds < 2 ^ 32
+  pub acts : AllByRecursion (λ (r : Round). AllByRecursion (λ (a : Act). AreActNumbers a.time a.control a.steps) r.acts) s.rounds
+
 pub record IsSolved (s : Settle) : Type 0 where
   pub solutions : AreSolutions s
   pub alike : AreAlike s
   pub steady : IsSteady s
+  pub numbers : HasModestNumbers s

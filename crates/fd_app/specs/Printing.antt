@@ -1,16 +1,6 @@
 -- What an hour of a Solve comes to for the loop over its hours: its settle, and what of it was printed.
-use Rattle.std.specs.Prelude.{◌≡◌, ◌⊎◌, ◌||◌, ℕ, All, Bool, IsSome, List, [], ◌∷◌, ◌++◌, Option, Some, None}
+use Rattle.std.specs.Prelude.{◌≡◌, ◌⊎◌, ◌||◌, ℕ, Bool, List, [], ◌∷◌, ◌++◌, Option, Some, None}
 use Rattle.dss_circuit.specs.Circuit.{CircuitView}
-use Rattle.fd_daily.specs.Day.{IsDayOf, hour_in, hours_left}
-use Rattle.fd_devices.specs.Building.{IsModest}
-use Rattle.fd_devices.specs.Hours.{hour_powers}
-use Rattle.fd_devices.specs.declared.settings.Positions.{Positions as CodePositions}
-use Rattle.fd_devices.specs.declared.fault.BuildFault.{BuildFault}
-use Rattle.fd_network.specs.Built.{IsBuiltOf}
-use Rattle.fd_network.specs.Faults.{IsFaultOf}
-use Rattle.fd_queue.specs.Controls.{Positions}
-use Rattle.fd_sample.specs.Probes.{positions_in}
-use Rattle.fd_settle.specs.Start.{ArePositions, IsNetworkAt}
 use Rattle.fd_report.specs.declared.faults.Fault.{Fault}
 use Rattle.fd_outcome.specs.Behind.{behind, has_text}
 use Rattle.fd_outcome.specs.Calls.{Call, Style, body, fault_text, writes}
@@ -20,30 +10,9 @@ use Rattle.fd_outcome.specs.Settles.{Settle, SettleEnd, settled, failed, without
 use Rattle.fd_outcome.specs.Way.{whole}
 use Rattle.fd_app.specs.Bench.{tallied}
 use Rattle.fd_app.specs.Headline.{IsSolved}
-use Rattle.fd_app.specs.Solving.{IsHour, plant_at}
+use Rattle.fd_app.specs.Solving.{IsHour}
 use Rattle.fd_app.specs.Steps.{Kept}
-use Rattle.fd_app.specs.declared.hours.Underway.{Underway}
 use Rattle.fd_app.specs.declared.tally.Tally.{Tally}
-
--- the hours of a Solve are under way: the network is the circuit's at these positions with the powers of the next hour
-pub record IsUnderway (c : CircuitView) (at : CodePositions) (r : Underway) : Type 0 where
-  pub positions : ArePositions c r.powers.loads (positions_in at)
-  pub powers : r.powers.loads ≡ hour_powers c.elements (hour_in r.day)
-  pub modest : All IsModest r.powers.loads
-  pub day : IsDayOf c r.day
-  pub hour : IsSome r.day.hour
-  pub network : IsNetworkAt c r.powers.loads (positions_in at) r.net
-
--- what is left of them behind an hour
-pub record IsLeftBehind (c : CircuitView) (at : CodePositions) (before after : Underway) : Type 0 where
-  pub positions : ArePositions c after.powers.loads (positions_in at)
-  pub day : IsDayOf c after.day
-  pub built : IsBuiltOf after.net c
-  pub left : hours_left before.day ≡ hour_in before.day ∷ hours_left after.day
-
--- the network of an hour at these positions is refused so
-abbrev pub IsRefusedAt : CircuitView → ℕ → Positions → BuildFault → Type 0
-IsRefusedAt c hour at f = IsFaultOf ((plant_at c hour).blame at) f
 
 -- the calls of a settle, where a text was written before or not
 abbrev pub settle_calls : Style → Bool → Settle → List Call

@@ -1,6 +1,5 @@
 -- What a Solve of a circuit that passed the tests comes to: the settles of its hours.
-use Rattle.std.specs.Prelude.{◌≡◌, ℕ, ◌+◌, ℤ, [], ◌∷◌, nat_abs, List, map, replicate, slice_get, Option, Some, None, option_map, Result, Ok, Err}
-use Rattle.fd_exact.specs.Sums.{list_n}
+use Rattle.std.specs.Prelude.{◌≡◌, ℕ, ◌+◌, ℤ, [], ◌∷◌, nat_abs, List, map, slice_get, Option, Some, None, option_map, Result, Ok, Err}
 use Rattle.dss_values.specs.declared.words.ControlQuantity.{ControlQuantity}
 use Rattle.dss_values.specs.declared.words.ControlQuantity.TheVariants as quantity
 use Rattle.dss_profile.specs.declared.element.Element.{Element}
@@ -9,9 +8,9 @@ use Rattle.dss_profile.specs.declared.names.Class.TheVariants as class
 use Rattle.dss_profile.specs.declared.names.ElementName.{ElementName}
 use Rattle.dss_layout.specs.Layout.{layout_of}
 use Rattle.dss_circuit.specs.Circuit.{CircuitView}
+use Rattle.fd_daily.specs.Day.{no_openings}
 use Rattle.fd_daily.specs.Hours.{hours_of, time_of}
-use Rattle.fd_devices.specs.Hours.{hour_powers}
-use Rattle.fd_devices.specs.Settings.{bank_count}
+use Rattle.fd_daily.specs.Underway.{plant_at, start_from}
 use Rattle.fd_cert.specs.Claims.{tried_claim}
 use Rattle.fd_enclosure.specs.Sound.{Claim, loose, uncertain}
 use Rattle.fd_equations.specs.Views.{NetworkView}
@@ -23,7 +22,7 @@ use Rattle.fd_sample.specs.Decided.{Undecided}
 use Rattle.fd_settle.specs.Computed.{Ending, ended, stopped, IsComputedFrom, range, uncertified}
 use Rattle.fd_settle.specs.Computed as computed
 use Rattle.fd_settle.specs.Contract.{limits_of}
-use Rattle.fd_settle.specs.Plant.{Plant, plant_of, started}
+use Rattle.fd_settle.specs.Plant.{started}
 use Rattle.fd_settle.specs.Settle.{Open, Settled, Limited, Undecidable}
 use Rattle.fd_report.specs.Names.{name_at}
 use Rattle.fd_report.specs.declared.faults.Cause.TheVariants as cause
@@ -35,13 +34,9 @@ use Rattle.fd_outcome.specs.Events.{settle}
 use Rattle.fd_outcome.specs.Pages.{controls_of}
 use Rattle.fd_outcome.specs.Settles.{Round, Settle, SettleEnd, round_of, settled, failed, without_certificate}
 use Rattle.fd_outcome.specs.Work.{Step, goes, ends}
-use Rattle.fd_app.specs.Steps.{Kept, StandingView, behind_events, hour_settle, standing, start_of}
+use Rattle.fd_app.specs.Steps.{Kept, StandingView, behind_events, hour_settle, standing}
 
 -- ---- the machine
-
--- the circuit with the powers of an hour, as the queue machine sees it
-abbrev pub plant_at : CircuitView → ℕ → Plant
-plant_at c hour = plant_of c (hour_powers c.elements hour)
 
 -- an hour starts at its time with an empty queue
 abbrev pub hour_begun : CircuitView → ℕ → Kept → Machine
@@ -53,7 +48,7 @@ kept_by l m = record { at = m.at; opened = m.opened; settled = l.settled + 1 }
 
 -- a Solve starts with no bank opened yet
 abbrev pub kept_first : StandingView → Kept
-kept_first s = record { at = start_of s; opened = replicate (list_n (λ e. bank_count e.1) s.circuit.elements) None; settled = s.settled }
+kept_first s = record { at = start_from s.circuit s.at; opened = no_openings s.circuit; settled = s.settled }
 
 -- ---- faults
 

@@ -2,7 +2,6 @@
 use Rattle.std.specs.Prelude.{ℕ, List, [], ◌++◌, ◌+◌, Option}
 use Rattle.dss_profile.specs.declared.command.Place.{Place}
 use Rattle.dss_circuit.specs.Circuit.{CircuitView}
-use Rattle.fd_devices.specs.Positions.{next_closed, next_taps}
 use Rattle.fd_queue.specs.Controls.{Positions}
 use Rattle.fd_report.specs.declared.faults.Cause.{Cause}
 use Rattle.fd_report.specs.declared.faults.Fault.TheVariants as fault
@@ -25,11 +24,6 @@ changes s = goes [] s
 
 abbrev pub refuses : Place → Cause → Step StandingView
 refuses place c = ends [] (fault.Script place c)
-
--- the positions with which a Solve starts: those that the script set since the Solve before, and else those that it
--- left
-abbrev pub start_of : StandingView → Positions
-start_of s = record { taps = next_taps s.circuit.solves s.circuit.elements s.at.taps; closed = next_closed s.circuit.solves s.circuit.elements s.at.closed }
 
 -- what is kept from hour to hour of a Solve: the positions, the last opening time of each bank, none where it wasn't
 -- opened in this Solve, and how many settles there were so far

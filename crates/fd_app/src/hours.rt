@@ -1,9 +1,9 @@
 // The hours of a Solve, each printed before the next is solved.
-ghost use Rattle.std.specs.Prelude.{◌≡◌, ◌+◌, ◌^◌, ◌<◌, ◌≤◌, All, IfErr, IfSome, IsSome, None, OnOk};
+ghost use Rattle.std.specs.Prelude.{◌≡◌, ◌+◌, ◌^◌, ◌<◌, ◌≤◌, All, IfSome, None};
 ghost use Rattle.fd_outside.specs.Causes.{Rose};
 ghost use Rattle.dss_ready.specs.Ready.{HasPassed};
-ghost use Rattle.fd_daily.specs.Day.{IsDayOf, hour_in, hours_left};
-ghost use Rattle.fd_network.specs.Built.{IsBuiltOf};
+ghost use Rattle.fd_daily.specs.Day.{hour_in, hours_left};
+ghost use Rattle.fd_daily.specs.Underway.{IsLeftBehind, IsUnderway};
 ghost use Rattle.fd_sample.specs.Probes.{positions_in};
 ghost use Rattle.fd_settle.specs.Start.{ArePositions};
 ghost use Rattle.fd_xfmr.specs.Leakage.{AreTaps};
@@ -13,7 +13,7 @@ ghost use Rattle.fd_outcome.specs.Parts.{EndsAt, Printed, fault_doing};
 ghost use Rattle.fd_app.specs.Answered.{kept_in};
 ghost use Rattle.fd_app.specs.Benching.{GoesOnTallied, HasRoom};
 ghost use Rattle.fd_app.specs.Headline.{IsSolved};
-ghost use Rattle.fd_app.specs.Printing.{EndsInHour, IsLeftBehind, IsPrintedHour, IsRefusedAt, IsUnderway};
+ghost use Rattle.fd_app.specs.Printing.{EndsInHour, IsPrintedHour};
 ghost use Rattle.fd_app.specs.Solving.{IsHoursStep, IsSolutionStep};
 ghost use Rattle.fd_app.specs.Steps.{standing};
 
@@ -23,23 +23,11 @@ use crate::page::{Page, SolvedHour};
 use crate::print::{WANT_OF_MEMORY, print_failed, print_fault, print_settled};
 use crate::tally::Tally;
 use dss_circuit::{Blame, Circuit};
-use fd_daily::Day;
-use fd_devices::{BuildFault, Positions, Powers, hours_law, next_law, powers_at};
-use fd_network::Network;
+use fd_daily::Underway;
+use fd_devices::{BuildFault, Positions};
 use fd_outside::Sink;
 use fd_report::Cause;
-use fd_settle::Round;
 use std::alloc::Global;
-
-/// The hours of a Solve under way: the network with the powers of the next hour, where the Solve stands, and room for the
-/// rounds of an hour.
-#[derive(Drop)]
-pub(crate) struct Underway {
-    pub net: Network,
-    pub powers: Powers,
-    pub day: Day,
-    pub rounds: Vec<Round>,
-}
 
 /// Solves the hours of a Solve of a circuit that passed the tests, where its last Solve left these positions, and prints
 /// the records of each before the next is solved. The rounds of each are added to the tally. An answer ends the run.
@@ -66,30 +54,12 @@ pub(crate) fn solve_hours<P: Page, S: Sink>(
     ensures usage { IfSome result (λ code. code ≡ 2 → ⊥) }
     ensures read { IfSome result (λ code. code ≡ 4 → ⊥) }
 {
-    // read for what the elements are
-    let _elements = circuit.elements();
-    let Ok(day) = Day::start(alloc, circuit) else {
-        return Some(WANT_OF_MEMORY);
-    };
-    let Ok(start) = Positions::next(alloc, circuit, at) else {
-        return Some(WANT_OF_MEMORY);
-    };
-    next_law();
-    hours_law();
+    // read for how many hours there can be
+    let _options = circuit.options();
     P::law();
-    *at = start;
-    let hour = day.next_hour().unwrap();
-    let Ok(powers) = powers_at(alloc, circuit, hour) else {
-        return Some(WANT_OF_MEMORY);
-    };
-    match Network::build(alloc, circuit, at, &powers) {
-        Ok(net) => {
-            let mut underway = Underway {
-                net,
-                powers,
-                day,
-                rounds: Vec::new(alloc),
-            };
+    match Underway::start(alloc, circuit, at) {
+        Ok(underway) => {
+            let mut underway = underway;
             run_hours::<P, S>(
                 alloc,
                 circuit,
@@ -144,18 +114,9 @@ fn do_hour<P: Page, S: Sink>(
     ensures usage { IfSome result (λ code. code ≡ 2 → ⊥) }
     ensures read { IfSome result (λ code. code ≡ 4 → ⊥) }
 {
-    let hour = underway.day.next_hour().unwrap();
+    let hour = underway.hour();
     let number = *settled + 1;
-    let solved = solve_hour(
-        alloc,
-        circuit,
-        &mut underway.net,
-        &underway.powers,
-        &mut underway.day,
-        at,
-        &mut underway.rounds,
-    );
-    let Ok(failure) = solved else {
+    let Ok(failure) = solve_hour(alloc, circuit, underway, at) else {
         return Some(WANT_OF_MEMORY);
     };
     let made = SolvedHour {
@@ -175,34 +136,6 @@ fn do_hour<P: Page, S: Sink>(
             }
             printed
         }
-    }
-}
-
-// Brings the network up to date for the next hour.
-fn next_network(
-    alloc: Global,
-    circuit: &Circuit,
-    underway: &mut Underway,
-    at: &Positions,
-    hour: u32,
-) -> Result<(), BuildFault>
-    requires ready { HasPassed circuit.now }
-    requires positions { ArePositions circuit.now underway.old.powers.loads (positions_in at.now) }
-    requires day { IsDayOf circuit.now underway.old.day }
-    requires hour { underway.old.day.hour ≡ Some hour }
-    requires built { IsBuiltOf underway.old.net circuit.now }
-    ensures underway { OnOk result (IsUnderway circuit.now at.now underway.new) }
-    ensures day { underway.new.day ≡ underway.old.day }
-    ensures fault { IfErr result (IsRefusedAt circuit.now hour (positions_in at.now)) }
-{
-    hours_law();
-    let powers = powers_at(alloc, circuit, hour)?;
-    match underway.net.update(alloc, circuit, at, &powers) {
-        Ok(()) => {
-            underway.powers = powers;
-            Ok(())
-        }
-        Err(fault) => Err(fault),
     }
 }
 
@@ -237,10 +170,10 @@ fn run_hours<P: Page, S: Sink>(
         if ended.is_some() {
             return ended;
         }
-        let Some(hour) = underway.day.next_hour() else {
+        if underway.day.next_hour().is_none() {
             return None;
-        };
-        match next_network(alloc, circuit, underway, at, hour) {
+        }
+        match underway.next_network(alloc, circuit, at) {
             Ok(()) => {}
             Err(BuildFault::Range(blame)) => return Some(print_range(alloc, &blame, out)),
             Err(BuildFault::NoMemory) => return Some(WANT_OF_MEMORY),

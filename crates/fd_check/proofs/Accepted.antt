@@ -11,7 +11,8 @@ use Rattle.fd_certfile.specs.Lines.{Line}
 use Rattle.fd_certfile.specs.RuleLaws.{RuleLaw}
 use Rattle.fd_certfile.specs.Rules.{Broken, Holds, Judge, first_broken}
 use Rattle.fd_certfile.specs.Verdict.{Answer, accepted, by_due, refused, unless_broken, verdict}
-use Rattle.fd_check.specs.Checking.{Checking, Settling, after, done, due, due_in, outcome_in, plant_at, sampled_by, under_way}
+use Rattle.fd_daily.specs.Underway.{plant_at}
+use Rattle.fd_check.specs.Checking.{Checking, Settling, after, done, due, due_in, outcome_in, sampled_by, under_way}
 use Rattle.fd_check.specs.Laws.{AcceptedLaw, AreOfRounds, IsOfRound}
 
 -- what would follow a rule that is broken

@@ -24,7 +24,8 @@ use Rattle.fd_certfile.specs.Rules.{Ball, Broken, Sampled, acts_due, at_limit, b
 use Rattle.fd_certfile.specs.Solving.{judge_in, solved_of}
 use Rattle.fd_certfile.specs.SolvingLaws.{ComesAfter, GivenLaw, IsGiven, SolvingLaw}
 use Rattle.fd_certfile.specs.Verdict.{Answer, asks, refused, unless_broken, verdict}
-use Rattle.fd_check.specs.Checking.{Checking, Settling, act_due, after, behind_round, due, due_in, open_hours, open_solves, outcome_in, plant_at, sampled_by, under_way}
+use Rattle.fd_daily.specs.Underway.{plant_at}
+use Rattle.fd_check.specs.Checking.{Checking, Settling, act_due, after, behind_round, due, due_in, open_hours, open_solves, outcome_in, sampled_by, under_way}
 use Rattle.fd_check.specs.Comes.{Comes, Leads}
 
 -- a certificate's samples are those of a settle over its claims

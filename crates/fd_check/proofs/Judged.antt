@@ -3,7 +3,6 @@ use Rattle.std.proofs.Common.{◌≡◌, ◌∙◌, ℕ, ◌+◌, ◌≤◌, tru
 use Rattle.std.specs.Prelude.{IfErr, OnOk, is_ok}
 use Rattle.dss_profile.specs.declared.command.Blame.{Blame}
 use Rattle.dss_circuit.specs.Circuit.{CircuitView}
-use Rattle.fd_elements.specs.declared.powers.LoadPower.{LoadPower}
 use Rattle.fd_cert.specs.declared.rule.Rule.{Rule}
 use Rattle.fd_queue.specs.Controls.{Positions}
 use Rattle.fd_queue.specs.Machine.{Machine}
@@ -39,16 +38,6 @@ pub record IsRun (p : Plant) (m : Machine) (rounds : List Round) (ended : Result
   pub acts : acts_in rounds ≡ (settled p m rounds).rounds
   pub ends : EndsAs p ended (settled p m rounds).end (settled p m rounds).machine
   pub calls : CallsAs gives_solved p r m rounds ended w
-
--- the same of a circuit with these powers, with what the acts left
-pub record IsHourRun (c : CircuitView) (powers : List LoadPower) (m : Machine) (rounds : List Round) (ended : Result (Unit {0}) (SettleFault CertFileFault)) (r w : ReaderView) (at : Positions) (opened : List (Option ℕ)) : Type 0 where
-  pub run : IsRun (plant_of c powers) m rounds ended r w
-  pub at_is : at ≡ (settled (plant_of c powers) m rounds).machine.at
-  pub opened_is : opened ≡ (settled (plant_of c powers) m rounds).machine.opened
-
-pub powers_as : (c : CircuitView) (powers other : List LoadPower) (m : Machine) (rounds : List Round) (ended : Result (Unit {0}) (SettleFault CertFileFault)) (r w : ReaderView) (at : Positions) (opened : List (Option ℕ)) → powers ≡ other
-    → IsHourRun c powers m rounds ended r w at opened → IsHourRun c other m rounds ended r w at opened
-powers_as c powers other m rounds ended r w at opened same run = subst (λ (x : List LoadPower). IsHourRun c x m rounds ended r w at opened) same run
 
 -- a settle that doesn't stay open had a round
 closed_rounds : (p : Plant) (m : Machine) (rounds : List Round) (end : End) → (settled p m rounds).end ≡ end → (Open ≡ end → ⊥) → 1 ≤ length rounds

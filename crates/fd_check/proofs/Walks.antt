@@ -23,7 +23,8 @@ use Rattle.fd_certfile.specs.SolvingLaws.{GivenLaw, IsGiven, SolvingLaw}
 use Rattle.fd_certfile.specs.Verdict.{refused}
 use Rattle.fd_certfile.specs.declared.fault.CertFileFault.{CertFileFault}
 use Rattle.fd_queue.specs.Controls.{Positions}
-use Rattle.fd_check.specs.Checking.{Settling, act_due, after, due, open_hours, open_solves, outcome_in, plant_at, under_way}
+use Rattle.fd_daily.specs.Underway.{plant_at}
+use Rattle.fd_check.specs.Checking.{Settling, act_due, after, due, open_hours, open_solves, outcome_in, under_way}
 use Rattle.fd_check.specs.Comes.{Comes, Leads}
 use Rattle.fd_check.specs.Comparing.{before_last, first_unlike, last_line}
 use Rattle.fd_check.proofs.Blocks.{given_so, grown, is, limited_alike, limited_unlike, moved_alike, moved_unlike, same_outcome, settled_alike, settled_unlike, undecided_there}

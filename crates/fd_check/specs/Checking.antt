@@ -1,43 +1,29 @@
 -- What a script's Solves ask of a certificate, block by block.
-use Rattle.std.specs.Prelude.{ℕ, ◌+◌, pos, List, [], ◌∷◌, map, nat_abs, replicate, Option, Some, None}
-use Rattle.fd_exact.specs.Sums.{list_n}
+use Rattle.std.specs.Prelude.{ℕ, ◌+◌, pos, List, [], ◌∷◌, map, nat_abs, Option, Some, None}
 use Rattle.dss_profile.specs.declared.command.Blame.{Blame}
 use Rattle.dss_circuit.specs.Circuit.{CircuitView}
-use Rattle.fd_devices.specs.Hours.{hour_powers}
-use Rattle.fd_devices.specs.Positions.{next_closed, next_taps}
-use Rattle.fd_devices.specs.Settings.{bank_count}
 use Rattle.fd_queue.specs.Controls.{Positions}
 use Rattle.fd_queue.specs.Machine.{Act, Machine}
 use Rattle.fd_sample.specs.Decided.{sample_over}
-use Rattle.fd_settle.specs.Plant.{Plant, controls_in, plant_of, setup_of, started}
+use Rattle.fd_settle.specs.Plant.{controls_in, setup_of, started}
 use Rattle.fd_settle.specs.Sampling.{Sampling, sampling_of}
 use Rattle.fd_settle.specs.Settle.{Open, Settled, Limited, Undecidable, Outcome, Ends, Moves, outcome_of}
+use Rattle.fd_daily.specs.Day.{no_openings}
 use Rattle.fd_daily.specs.Hours.{hours_of, time_of}
+use Rattle.fd_daily.specs.Underway.{plant_at, start_from}
 use Rattle.fd_certfile.specs.Blocks.{Block}
 use Rattle.fd_certfile.specs.Blocks as blocks
 use Rattle.fd_certfile.specs.Judging.{judge_of}
 use Rattle.fd_certfile.specs.Rules.{Ball, Sampled, at_limit, ball_of, moves, undecided}
 use Rattle.fd_certfile.specs.Verdict.{Due, asks, complete, stops}
 
--- ---- with what a Solve starts
-
--- the positions, where the Solve before left these
-abbrev pub start_from : CircuitView → Positions → Positions
-start_from c at = record { taps = next_taps c.solves c.elements at.taps; closed = next_closed c.solves c.elements at.closed }
+-- ---- with what a script starts
 
 -- before the first Solve no device has a position
 abbrev pub no_positions : Positions
 no_positions = record { taps = []; closed = [] }
 
--- no bank was opened yet
-abbrev pub no_openings : CircuitView → List (Option ℕ)
-no_openings c = replicate (list_n (λ e. bank_count e.1) c.elements) None
-
 -- ---- what comes of a block's ball
-
--- the circuit with the powers of an hour, as the queue machine sees it
-abbrev pub plant_at : CircuitView → ℕ → Plant
-plant_at c hour = plant_of c (hour_powers c.elements hour)
 
 -- the samples of the controls over a ball, at these positions
 abbrev pub sampling_in : CircuitView → Positions → Ball → Sampling

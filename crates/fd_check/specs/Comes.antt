@@ -1,6 +1,7 @@
 -- What a certificate comes to from where a reader stands.
-use Rattle.std.specs.Prelude.{◌≡◌, length}
+use Rattle.std.specs.Prelude.{◌≡◌, List, length}
 use Rattle.dss_profile.specs.declared.command.Blame.{Blame}
+use Rattle.dss_circuit.specs.Circuit.{CircuitView}
 use Rattle.fd_certfile.specs.Certificates.{Certificate, Reads}
 use Rattle.fd_certfile.specs.Reader.{ReaderView}
 use Rattle.fd_certfile.specs.Verdict.{Answer, refused, stopped, verdict}
@@ -19,11 +20,19 @@ pub record Comes (r : ReaderView) (s : Checking) (answer : Answer Blame) : Type 
 abbrev pub Leads : ReaderView → Checking → ReaderView → Checking → Type 0
 Leads r s w t = (answer : Answer Blame) → Comes w t answer → Comes r s answer
 
+-- so with whatever Solves behind
+abbrev pub LeadsForAll : ReaderView → (List CircuitView → Checking) → ReaderView → (List CircuitView → Checking) → Type 0
+LeadsForAll r s w t = (more : List CircuitView) → Leads r (s more) w (t more)
+
 -- a fault as an answer; want of memory tells nothing
 abbrev pub Tells : CheckFault → (Answer Blame → Type 0) → Type 0
 Tells (fault.Refused line rule) P = P (refused line rule)
 Tells (fault.Range blame) P = P (stopped blame)
 Tells fault.NoMemory P = Unit {0}
+
+-- a fault is what comes from there, with whatever Solves behind
+abbrev pub TellsForAll : ReaderView → (List CircuitView → Checking) → CheckFault → Type 0
+TellsForAll r s fault = (more : List CircuitView) → Tells fault (Comes r (s more))
 
 -- a refusal, and nothing else
 abbrev pub Refuses : CheckFault → (Answer Blame → Type 0) → Type 0

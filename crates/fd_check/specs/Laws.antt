@@ -7,7 +7,8 @@ use Rattle.fd_certfile.specs.Judging.{claim_on}
 use Rattle.fd_certfile.specs.Lines.{Line}
 use Rattle.fd_certfile.specs.Rules.{ball_of, moves}
 use Rattle.fd_certfile.specs.Verdict.{accepted, verdict}
-use Rattle.fd_check.specs.Checking.{Checking, Settling, after, done, due, outcome_in, plant_at, sampled_by, under_way}
+use Rattle.fd_daily.specs.Underway.{plant_at}
+use Rattle.fd_check.specs.Checking.{Checking, Settling, after, done, due, outcome_in, sampled_by, under_way}
 
 -- A block of a settle's round: it has the round's numbers, the network of the round is in range, what the block claims is
 -- sound there, and its acts are those that the queue machine makes of the samples of its ball.

@@ -3,6 +3,6 @@ pub mod Comes
 pub mod Comparing
 pub mod Faults
 pub mod Given
-pub mod Underway
+pub mod Hours
 pub mod Laws
 pub mod Commands

@@ -1,12 +1,12 @@
 // A certificate over the Solves of a script.
-ghost use Rattle.std.specs.Prelude.{◌≡◌, ◌+◌, ◌*◌, ◌++◌, ◌<◌, ◌≤◌, ◌^◌, All, IfErr, IfOk, List, Ok, OnOk, Some, length};
-ghost use Rattle.dss_circuit.specs.Circuit.{CircuitView, applied, empty_circuit};
+ghost use Rattle.std.specs.Prelude.{◌≡◌, ◌+◌, ◌*◌, [], ◌<◌, ◌≤◌, ◌^◌, All, IfErr, IfOk, Ok, OnOk, Some, length};
+ghost use Rattle.dss_circuit.specs.Circuit.{applied, empty_circuit};
 ghost use Rattle.fd_certfile.specs.Verdict.{IsAnswer, accepted};
-ghost use Rattle.fd_sample.specs.Probes.{positions_in};
 ghost use Rattle.fd_xfmr.specs.Leakage.{AreTaps};
-ghost use Rattle.fd_check.specs.Checking.{after, due, no_positions, open_solves};
-ghost use Rattle.fd_check.specs.Comes.{Comes, Leads, Tells};
+ghost use Rattle.fd_check.specs.Checking.{after, due};
+ghost use Rattle.fd_check.specs.Comes.{Comes, LeadsForAll, Tells, TellsForAll};
 ghost use Rattle.fd_check.specs.Commands.{AreAccepted, HasRoom, IsAcceptedBy, behind_one, most_solves, solve_in, solves_in};
+ghost use Rattle.fd_check.specs.Hours.{script_open, solves_open};
 
 use crate::ending::check_end;
 use crate::fault::CheckFault;
@@ -27,8 +27,8 @@ use std::alloc::Global;
 pub fn check_script(alloc: Global, commands: &[Command], bytes: &[u8]) -> Result<u64, CheckFault>
     requires accepted { AreAccepted empty_circuit commands.now }
     requires few { length (solves_in empty_circuit commands.now) ≤ most_solves }
-    ensures accepted { IfOk result (λ count. IsAnswer due after (Some bytes.now) (open_solves (solves_in empty_circuit commands.now) no_positions 0) (accepted count)) }
-    ensures refused { IfErr result (λ fault. Tells fault (IsAnswer due after (Some bytes.now) (open_solves (solves_in empty_circuit commands.now) no_positions 0))) }
+    ensures accepted { IfOk result (λ count. IsAnswer due after (Some bytes.now) (script_open commands.now) (accepted count)) }
+    ensures refused { IfErr result (λ fault. Tells fault (IsAnswer due after (Some bytes.now) (script_open commands.now))) }
 {
     match CertReader::open(alloc, bytes) {
         Ok(reader) => {
@@ -47,8 +47,8 @@ fn check_commands(
 ) -> Result<u64, CheckFault>
     requires accepted { AreAccepted empty_circuit commands.now }
     requires few { length (solves_in empty_circuit commands.now) ≤ most_solves }
-    ensures accepted { IfOk result (λ count. Comes reader.old (open_solves (solves_in empty_circuit commands.now) no_positions 0) (accepted count)) }
-    ensures refused { IfErr result (λ fault. Tells fault (Comes reader.old (open_solves (solves_in empty_circuit commands.now) no_positions 0))) }
+    ensures accepted { IfOk result (λ count. Comes reader.old (script_open commands.now) (accepted count)) }
+    ensures refused { IfErr result (λ fault. Tells fault (Comes reader.old (script_open commands.now))) }
 {
     let mut circuit = Circuit::empty(alloc);
     let mut at = Positions {
@@ -85,8 +85,10 @@ fn check_command(
     requires taps { All AreTaps at.old.taps }
     requires settles { settled.old + 8761 < 2 ^ 32 }
     ensures circuit { OnOk result (circuit.new ≡ behind_one command.now circuit.old) }
-    ensures goes { (more : List CircuitView) → OnOk result (Leads reader.old (open_solves (solve_in command.now circuit.old ++ more) (positions_in at.old) settled.old) reader.new (open_solves more (positions_in at.new) settled.new)) }
-    ensures refused { (more : List CircuitView) → IfErr result (λ fault. Tells fault (Comes reader.old (open_solves (solve_in command.now circuit.old ++ more) (positions_in at.old) settled.old))) }
+    ensures goes { OnOk result (LeadsForAll
+        reader.old (solves_open (solve_in command.now circuit.old) at.old settled.old)
+        reader.new (solves_open [] at.new settled.new)) }
+    ensures refused { IfErr result (TellsForAll reader.old (solves_open (solve_in command.now circuit.old) at.old settled.old)) }
     ensures taps { All AreTaps at.new.taps }
     ensures settles { settled.new ≤ settled.old + 8761 * length (solve_in command.now circuit.old) }
 {

@@ -1,18 +1,14 @@
 -- Where a Solve stands between its hours.
-use Rattle.std.specs.Prelude.{◌≡◌, ℕ, ◌≤◌, Bool, true, false, List, ◌∷◌, length, All, Option, IfSome}
+use Rattle.std.specs.Prelude.{◌≡◌, ℕ, ◌≤◌, Bool, true, false, List, ◌∷◌, length, replicate, All, Option, None, IfSome}
 use Rattle.std.specs.Option.{unwrap_or}
 use Rattle.fd_exact.specs.Sums.{list_n}
 use Rattle.dss_circuit.specs.Circuit.{CircuitView}
 use Rattle.fd_capctl.specs.CapState.{IsEarly}
 use Rattle.fd_devices.specs.Settings.{bank_count}
 use Rattle.fd_devices.specs.declared.settings.Positions.{Positions as CodePositions}
-use Rattle.fd_devices.specs.declared.settings.Powers.{Powers}
 use Rattle.fd_queue.specs.Machine.{Machine}
 use Rattle.fd_sample.specs.Probes.{positions_in}
-use Rattle.fd_settle.specs.declared.round.Round.{Round}
-use Rattle.fd_settle.specs.Plant.{plant_of, started}
-use Rattle.fd_settle.specs.Rounds.{settled}
-use Rattle.fd_settle.specs.Settle.{Settle}
+use Rattle.fd_settle.specs.Plant.{started}
 use Rattle.fd_daily.specs.Hours.{hour_after, hours_from, time_of}
 
 -- the hour that comes next, or none after the last; the last hour; the last opening time of each bank, none where it
@@ -21,6 +17,10 @@ pub record DayView : Type 0 where
   pub hour : Option ℕ
   pub last : ℕ
   pub opened : List (Option ℕ)
+
+-- no bank was opened yet
+abbrev pub no_openings : CircuitView → List (Option ℕ)
+no_openings c = replicate (list_n (λ e. bank_count e.1) c.elements) None
 
 -- the hours that are left
 abbrev pub hours_left : DayView → List ℕ
@@ -40,10 +40,6 @@ hour_in d = unwrap_or d.hour 0
 -- the machine with which that hour starts
 abbrev pub begun_hour : CircuitView → CodePositions → DayView → Machine
 begun_hour c at d = started c (positions_in at) (time_of (hour_in d)) d.opened
-
--- the settle of that hour over these rounds
-abbrev pub settled_hour : CircuitView → Powers → CodePositions → DayView → List Round → Settle
-settled_hour c powers at d rounds = settled (plant_of c powers.loads) (begun_hour c at d) rounds
 
 -- the hour behind it where its settle ended well, and else the same
 abbrev pub hour_kept : Bool → ℕ → DayView → Option ℕ

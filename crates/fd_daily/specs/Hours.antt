@@ -1,6 +1,6 @@
 -- The hours of a Solve.
-use Rattle.std.specs.Prelude.{ℕ, ◌+◌, ◌-◌, ◌*◌, nat_lt, if◌then◌else◌, List, [], ◌∷◌, Option, Some, None}
-use Rattle.std.specs.List.{range_with_len}
+use Rattle.std.specs.Prelude.{ℕ, ◌+◌, ◌-◌, ◌*◌, ◌≤◌, nat_lt, if◌then◌else◌, List, [], ◌∷◌, length, Option, Some, None}
+use Rattle.std.specs.List.{AllByRecursion, range_with_len}
 use Rattle.dss_values.specs.declared.words.Mode.{Mode}
 use Rattle.dss_values.specs.declared.words.Mode.TheVariants as mode
 use Rattle.dss_profile.specs.declared.options.Options.{Options}
@@ -12,6 +12,11 @@ hours_in mode.Daily number = range_with_len 1 number
 
 abbrev pub hours_of : Options → List ℕ
 hours_of o = hours_in o.mode o.number
+
+-- at most 8,761 of them, none past 8,760
+pub record AreHours (hours : List ℕ) : Type 0 where
+  pub few : length hours ≤ 8761
+  pub each : AllByRecursion (λ hour. hour ≤ 8760) hours
 
 -- the time at which an hour starts, in milliseconds: a snapshot's and the first hour's is 0
 abbrev pub time_of : ℕ → ℕ

@@ -3,3 +3,4 @@ pub mod Run
 pub mod Chosen
 pub mod Laws
 pub mod Day
+pub mod Underway

@@ -1,14 +1,13 @@
 -- A run: the settles of a Solve, hour by hour.
-use Rattle.std.specs.Prelude.{ℕ, Bool, true, false, if◌then◌else◌, List, [], ◌∷◌, map, replicate, None, IsTrue}
+use Rattle.std.specs.Prelude.{ℕ, Bool, true, false, if◌then◌else◌, List, [], ◌∷◌, map, IsTrue}
 use Rattle.std.specs.List.{AllByRecursion}
-use Rattle.fd_exact.specs.Sums.{list_n}
 use Rattle.dss_circuit.specs.Circuit.{CircuitView}
-use Rattle.fd_devices.specs.Settings.{bank_count}
 use Rattle.fd_queue.specs.Controls.{Positions}
 use Rattle.fd_queue.specs.Machine.{Machine, Setup}
 use Rattle.fd_settle.specs.Sampling.{Sampling}
 use Rattle.fd_settle.specs.Settle.{Settle, End, Open, Settled, Limited, Undecidable, settle_of}
 use Rattle.fd_settle.specs.Plant.{setup_of, started}
+use Rattle.fd_daily.specs.Day.{no_openings}
 use Rattle.fd_daily.specs.Hours.{hours_of, time_of}
 
 -- an hour: what is sampled in it, the machine's setup, and how the machine starts from what the hour before left
@@ -43,7 +42,7 @@ day_of at_hour c = map (hour_of at_hour c) (hours_of c.options)
 
 -- what a Solve starts with: no bank was opened yet
 abbrev pub before_first : CircuitView → Positions → Machine
-before_first c at = started c at 0 (replicate (list_n (λ e. bank_count e.1) c.elements) None)
+before_first c at = started c at 0 (no_openings c)
 
 -- ---- how a run goes on
 

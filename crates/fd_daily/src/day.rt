@@ -1,8 +1,7 @@
 // Where a Solve stands between its hours.
 ghost use Rattle.std.specs.Prelude.{◌≡◌, ◌++◌, ◌≤◌, IfOk, None, OnOk, Some, replicate};
-ghost use Rattle.fd_exact.specs.Sums.{list_n};
 ghost use Rattle.fd_devices.specs.Settings.{bank_count};
-ghost use Rattle.fd_daily.specs.Day.{IsDayOf, hour_kept, hours_left};
+ghost use Rattle.fd_daily.specs.Day.{IsDayOf, hour_kept, hours_left, no_openings};
 ghost use Rattle.fd_daily.specs.Hours.{first_hour, hour_after, hours_of, last_hour, time_of};
 
 use dss_circuit::Circuit;
@@ -41,7 +40,7 @@ impl Day {
         ensures left { IfOk result (λ d. hours_left d ≡ hours_of circuit.now.options) }
         ensures hour { IfOk result (λ d. d.hour ≡ Some (first_hour circuit.now.options.mode)) }
         ensures last { IfOk result (λ d. d.last ≡ last_hour circuit.now.options.mode circuit.now.options.number) }
-        ensures opened { IfOk result (λ d. d.opened ≡ replicate (list_n (λ e. bank_count e.1) circuit.now.elements) None) }
+        ensures opened { IfOk result (λ d. d.opened ≡ no_openings circuit.now) }
         ensures day { IfOk result (IsDayOf circuit.now) }
     {
         let opened = no_openings(alloc, circuit)?;
@@ -90,7 +89,7 @@ impl Day {
 
 // No opening time for each bank.
 fn no_openings(alloc: Global, circuit: &Circuit) -> Result<Vec<Option<u64>>, AllocError>
-    ensures { IfOk result (λ opened. opened.items ≡ replicate (list_n (λ e. bank_count e.1) circuit.now.elements) None) }
+    ensures { IfOk result (λ opened. opened.items ≡ no_openings circuit.now) }
 {
     let mut opened = Vec::new(alloc);
     for (_name, element) in circuit.elements() {

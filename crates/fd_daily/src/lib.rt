@@ -5,6 +5,7 @@
 // whatever states are chosen in the balls of the rounds, the acts of all hours are these (`run_law`).
 //
 // - `day`: where a Solve stands between its hours
+// - `underway`: the start of a Solve, and the network of each hour behind the first
 // - `running`: the settle of the next hour
 // - `laws`: the acts of all hours follow from the decisions alone, and a run goes on hour by hour
 #![tactic(auto)]
@@ -12,7 +13,9 @@
 mod day;
 mod laws;
 mod running;
+mod underway;
 
 pub use day::Day;
 pub use laws::{next_hour_law, run_law};
 pub use running::daily_run;
+pub use underway::Underway;

@@ -1,3 +1,4 @@
+pub mod Numbers
 pub mod Sampling
 pub mod Settle
 pub mod Chosen

@@ -1,4 +1,6 @@
 // A round of a settle.
+ghost use Rattle.fd_settle.specs.Numbers.{AreActNumbers};
+
 use fd_cert::Certified;
 
 /// An act of a control: a step of a tap changer or a bank.
@@ -12,6 +14,7 @@ pub struct Act {
     pub steps: i32,
     /// The winding's tap behind it, in units of 10^-5; of a bank 1 where it is then closed and 0 where it is open.
     pub after: u32,
+    ghost numbers: { AreActNumbers time control steps },
 }
 
 /// A solve of a settle: the certified state, and the acts behind it in order.

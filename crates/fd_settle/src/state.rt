@@ -135,9 +135,10 @@ impl ControlState {
 fn act_at(entry: &Entry, steps: i32, after: u32) -> Act
     ensures { seen result ≡ record { time = entry.now.time; control = entry.now.control; steps = steps; after = after } }
 {
+    let (time, control) = (entry.time, entry.control);
     Act {
-        time: entry.time,
-        control: entry.control,
+        time,
+        control,
         steps,
         after,
     }

@@ -1,17 +1,21 @@
-use Rattle.std.proofs.Common.{◌≡◌, ◌∙◌, ℕ, List, Some, length, refl, sym, ap, subst, arith}
-use Rattle.std.specs.Prelude.{IsSome}
+use Rattle.std.specs.Prelude.{is_none, is_some, not}
+use Rattle.std.proofs.Common.{◌≡◌, ◌∙◌, ℕ, Bool, true, false, Option, Some, None, List, length, refl, sym, ap, subst, arith}
 use Rattle.fd_daily.specs.Day.{DayView, hour_in, hours_left}
 use Rattle.fd_outcome.proofs.CallerLemmas.{wrote_nothing}
 use Rattle.fd_app.specs.Answered.{kept_in}
-use Rattle.fd_app.proofs.Hourly.{HourWay, hour_is, left_open, none_left, way_done, way_ended, way_printed, way_range, way_short, way_start}
-use Rattle.fd_app.proofs.Starting.{few_hours, next_first}
+use Rattle.fd_daily.proofs.CallerLemmas.{left_hours, next_first, none_left}
+use Rattle.fd_app.proofs.Hourly.{HourWay, way_done, way_ended, way_printed, way_range, way_short, way_start}
 use Rattle.fd_app.proofs.Weaker.{if_some_weaker, is_none_by}
 use Rattle.fd_app.proofs.hours.run_hours.Goals as goal
+
+none_told : (o : Option ℕ) (t : Bool) → is_some o ≡ not t → t ≡ true → is_none o ≡ true
+none_told None t told is = refl
+none_told (Some k) t told is = absurd (let no : true ≡ false = told ∙ ap not is in cc no)
 
 pub loop-alloc-init : goal.loop-alloc-init
 loop-alloc-init g c =
     let day = c.args.underway.now.day in
-    let few = few_hours c.args.circuit.now day c.requires.underway.day in
+    let few = (left_hours c.args.circuit.now day c.requires.underway.day).few in
     record {
       underway = c.requires.underway;
       settles = omega (arith, few);
@@ -50,8 +54,8 @@ returns-then-is_some-clause-settles g c =
     let one = c.do_hour-ended.ensures.settles in
     omega (arith, left, so_far, one)
 
-pub returns-in_default-clause-goes : goal.returns-in_default-clause-goes
-returns-in_default-clause-goes g c all =
+pub returns-then-is_none-clause-goes : goal.returns-then-is_none-clause-goes
+returns-then-is_none-clause-goes g c all =
     let circuit = c.args.circuit.now in
     let first = hours_left c.args.underway.now.day in
     let l = kept_in c.args.at.now c.args.underway.now.day c.args.settled.now in
@@ -64,7 +68,7 @@ returns-in_default-clause-goes g c all =
     let at = subst W (c.do_hour-ended.ensures.left none).left c.loop-alloc.invariant.way in
     let next = way_printed g.P.Page.style circuit first l g.S.Sink.taken g.S.Sink.calls c.args.out.now c.args.begun.now c.args.tally.now (hour_in day) (hours_left after) before c.loop-alloc.out c.loop-alloc.begun c.loop-alloc.tally at k c.do_hour-ended.new.out c.do_hour-ended.new.begun c.do_hour-ended.new.tally (c.do_hour-ended.ensures.goes none) in
     way_done g.P.Page.style circuit first l g.S.Sink.taken g.S.Sink.calls c.args.out.now c.args.begun.now c.args.tally.now (hours_left after) k c.do_hour-ended.new.out c.do_hour-ended.new.begun c.do_hour-ended.new.tally
-    (none_left after c.next_hour.result c.next_hour.ensures c.in_default.is) next
+    (none_left after c.next_hour.result c.next_hour.ensures (none_told c.next_hour.result c.is_none.result c.is_none.ensures c.if-is_none.true)) next
 
 pub loop-alloc-preserved : goal.loop-alloc-preserved
 loop-alloc-preserved g c =
@@ -110,13 +114,10 @@ returns-in-Err-Range-clause-ends g c =
     let W : List ℕ → Type 0 = λ hs. HourWay g.P.Page.style circuit first l g.S.Sink.taken g.S.Sink.calls c.args.out.now c.args.begun.now c.args.tally.now hs before c.loop-alloc.out c.loop-alloc.begun c.loop-alloc.tally in
     let at = subst W behind.left c.loop-alloc.invariant.way in
     let next = way_printed g.P.Page.style circuit first l g.S.Sink.taken g.S.Sink.calls c.args.out.now c.args.begun.now c.args.tally.now (hour_in day) (hours_left after) before c.loop-alloc.out c.loop-alloc.begun c.loop-alloc.tally at k c.do_hour-ended.new.out c.do_hour-ended.new.begun c.do_hour-ended.new.tally (c.do_hour-ended.ensures.goes none) in
-    let some : after.hour ≡ Some c.in-Some.hour = sym c.next_hour.ensures ∙ c.in-Some.is in
-    let there = hour_is c.next_hour.result after c.in-Some.hour c.next_hour.ensures c.in-Some.is in
-    let V : List ℕ → Type 0 = λ hs. HourWay g.P.Page.style circuit first l g.S.Sink.taken g.S.Sink.calls c.args.out.now c.args.begun.now c.args.tally.now hs k c.do_hour-ended.new.out c.do_hour-ended.new.begun c.do_hour-ended.new.tally in
-    let opened = subst V (left_open circuit after c.in-Some.hour behind.day (subst IsSome (sym some) refl) there) next in
-    let told = rw c.in-Err-Range.field-0-is at c.in-Err-Range.ensures.fault in
-    way_range g.P.Page.style circuit first l g.S.Sink.taken g.S.Sink.calls c.args.out.now c.args.begun.now c.args.tally.now c.in-Some.hour _ k c.do_hour-ended.new.out c.do_hour-ended.new.begun c.do_hour-ended.new.tally opened c.law.ensures.silent c.law.ensures.unshown
-    c.in-Err-Range.blame told c.print_range.new.out c.print_range.result c.print_range.ensures.prints
+    let told = rw c.in-Err-Range.field-0-is at c.in-Err-Range.ensures.refused in
+    way_range g.P.Page.style circuit first l g.S.Sink.taken g.S.Sink.calls c.args.out.now c.args.begun.now c.args.tally.now c.law.ensures.silent c.law.ensures.unshown
+    (hours_left after) k c.do_hour-ended.new.out c.do_hour-ended.new.begun c.do_hour-ended.new.tally next (left_hours circuit after behind.day)
+    (omega (arith, ap length behind.left, c.loop-alloc.invariant.settles, c.do_hour-ended.ensures.settles, c.requires.settles)) c.in-Err-Range.blame told c.print_range.new.out c.print_range.result c.print_range.ensures.prints
 
 pub returns-in-Err-NoMemory-clause-ends : goal.returns-in-Err-NoMemory-clause-ends
 returns-in-Err-NoMemory-clause-ends g c =

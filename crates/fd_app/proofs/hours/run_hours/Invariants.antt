@@ -1,8 +1,8 @@
 use Rattle.std.proofs.Common.{◌≤◌, ◌+◌, length}
 use Rattle.fd_daily.specs.Day.{hours_left}
+use Rattle.fd_daily.specs.Underway.{IsUnderway}
 use Rattle.fd_app.specs.Answered.{kept_in}
 use Rattle.fd_app.specs.Benching.{HasRoom}
-use Rattle.fd_app.specs.Printing.{IsUnderway}
 use Rattle.fd_app.proofs.Hourly.{HourWay}
 use Rattle.fd_app.proofs.hours.run_hours.Given as goal
 

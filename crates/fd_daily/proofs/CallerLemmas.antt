@@ -1,0 +1,66 @@
+-- Lemmas on the hours that are left, for callers.
+use Rattle.std.proofs.Common.{◌≡◌, ◌∙◌, ℕ, zero, suc, ◌+◌, ◌-◌, ◌≤◌, List, [], ◌∷◌, Option, Some, None, true, refl, sym, ap, arith}
+use Rattle.std.specs.Prelude.{IfSome, IsSome, is_none}
+use Rattle.std.specs.List.{AllByRecursion, range_with_len}
+use Rattle.std.specs.Option.{unwrap_or}
+use Rattle.std.proofs.lemmas.List.FromFn.{length-range_with_len}
+use Rattle.dss_circuit.specs.Circuit.{CircuitView}
+use Rattle.dss_profile.specs.InRange.{OptionsInRange}
+use Rattle.dss_profile.specs.declared.options.Options.{Options}
+use Rattle.dss_values.specs.declared.words.Mode.{Mode}
+use Rattle.dss_values.specs.declared.words.Mode.TheVariants as mode
+use Rattle.fd_daily.specs.Day.{DayView, IsDayOf, hour_in, hours_left}
+use Rattle.fd_daily.specs.Hours.{AreHours, hours_from, hours_in, hours_of}
+
+hours_more : (k last : ℕ) → k ≤ last → hours_from (Some k) last ≡ k ∷ range_with_len (k + 1) (last - k)
+hours_more k last h = let more : last + 1 - k ≡ suc (last - k) = omega (arith, h) in ap (range_with_len k) more
+
+open_by : (o : Option ℕ) (last : ℕ) → IsSome o → IfSome o (λ k. k ≤ last)
+    → hours_from o last ≡ unwrap_or o 0 ∷ range_with_len (unwrap_or o 0 + 1) (last - unwrap_or o 0)
+open_by None last s h = absurd (cc s)
+open_by (Some k) last s h = hours_more k last h
+
+-- the hours behind the next
+abbrev pub hours_behind : DayView → List ℕ
+hours_behind d = range_with_len (hour_in d + 1) (d.last - hour_in d)
+
+-- an hour that comes next is the first of those that are left
+pub next_first : (c : CircuitView) (d : DayView) → IsDayOf c d → IsSome d.hour → hours_left d ≡ hour_in d ∷ hours_behind d
+next_first c d is some = open_by d.hour d.last some is.hour
+
+within_by : (o : Option ℕ) (last : ℕ) → IfSome o (λ k. k ≤ last) → last ≤ 8760 → unwrap_or o 0 ≤ 8760
+within_by None last h most = omega arith
+within_by (Some k) last h most = omega (arith, h, most)
+
+-- no hour is past 8,760
+pub hour_within : (c : CircuitView) (d : DayView) → IsDayOf c d → hour_in d ≤ 8760
+hour_within c d is = within_by d.hour d.last is.hour is.last
+
+each_from : (k n : ℕ) → k + n ≤ 8761 → AllByRecursion (λ hour. hour ≤ 8760) (range_with_len k n)
+each_from k zero h = tt
+each_from k (suc n) h = (omega (arith, h), each_from (k + 1) n (omega (arith, h)))
+
+hours_within : (k n : ℕ) → k + n ≤ 8761 → AreHours (range_with_len k n)
+hours_within k n h = record { few = omega (arith, h, length-range_with_len k n); each = each_from k n h }
+
+left_by : (o : Option ℕ) (last : ℕ) → IfSome o (λ k. k ≤ last) → last ≤ 8760 → AreHours (hours_from o last)
+left_by None last h within = record { few = omega arith; each = tt }
+left_by (Some k) last h within = hours_within k (last + 1 - k) (omega (arith, h, within))
+
+pub left_hours : (c : CircuitView) (d : DayView) → IsDayOf c d → AreHours (hours_left d)
+left_hours c d is = left_by d.hour d.last is.hour is.last
+
+hours_by : (m : Mode) (number : ℕ) → number ≤ 8760 → AreHours (hours_in m number)
+hours_by mode.Snapshot number h = record { few = omega arith; each = (omega arith, tt) }
+hours_by mode.Daily number h = hours_within 1 number (omega (arith, h))
+
+pub all_hours : (o : Options) → OptionsInRange o → AreHours (hours_of o)
+all_hours o h = hours_by o.mode o.number h.number.most
+
+none_by : (o : Option ℕ) → is_none o ≡ true → o ≡ None
+none_by None h = refl
+none_by (Some k) h = absurd (cc h)
+
+-- none is left where none comes next
+pub none_left : (d : DayView) (o : Option ℕ) → o ≡ d.hour → is_none o ≡ true → hours_left d ≡ []
+none_left d o next none = ap (λ (x : Option ℕ). hours_from x d.last) (sym next ∙ none_by o none)

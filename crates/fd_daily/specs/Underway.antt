@@ -1,0 +1,58 @@
+-- The hours of a Solve under way.
+use Rattle.std.specs.Prelude.{◌≡◌, ℕ, All, IsSome, List, [], ◌∷◌, Option, None}
+use Rattle.dss_profile.specs.declared.command.Blame.{Blame}
+use Rattle.dss_circuit.specs.Circuit.{CircuitView}
+use Rattle.fd_devices.specs.Building.{IsModest}
+use Rattle.fd_devices.specs.Hours.{hour_powers}
+use Rattle.fd_devices.specs.Positions.{next_closed, next_taps}
+use Rattle.fd_devices.specs.declared.fault.BuildFault.{BuildFault}
+use Rattle.fd_devices.specs.declared.settings.Positions.{Positions as CodePositions}
+use Rattle.fd_network.specs.Built.{IsBuiltOf}
+use Rattle.fd_network.specs.Faults.{IsFaultOf}
+use Rattle.fd_queue.specs.Controls.{Positions}
+use Rattle.fd_sample.specs.Probes.{positions_in}
+use Rattle.fd_settle.specs.Plant.{Plant, plant_of}
+use Rattle.fd_settle.specs.Rounds.{settled}
+use Rattle.fd_settle.specs.Settle.{Settle}
+use Rattle.fd_settle.specs.Start.{ArePositions, IsNetworkAt}
+use Rattle.fd_settle.specs.declared.round.Round.{Round}
+use Rattle.fd_daily.specs.Day.{DayView, IsDayOf, begun_hour, hour_in, hours_left}
+use Rattle.fd_daily.specs.declared.underway.Underway.{Underway}
+
+-- the positions with which a Solve starts, where the Solve before left these: those that the script set since then, and
+-- else those that it left
+abbrev pub start_from : CircuitView → Positions → Positions
+start_from c at = record { taps = next_taps c.solves c.elements at.taps; closed = next_closed c.solves c.elements at.closed }
+
+-- the circuit with the powers of an hour, as the queue machine sees it
+abbrev pub plant_at : CircuitView → ℕ → Plant
+plant_at c hour = plant_of c (hour_powers c.elements hour)
+
+-- the settle of the next hour over these rounds
+abbrev pub settled_hour : CircuitView → CodePositions → DayView → List Round → Settle
+settled_hour c at d rounds = settled (plant_at c (hour_in d)) (begun_hour c at d) rounds
+
+-- the network is the circuit's at these positions with the powers of the next hour
+pub record IsUnderway (c : CircuitView) (at : CodePositions) (u : Underway) : Type 0 where
+  pub positions : ArePositions c u.powers.loads (positions_in at)
+  pub powers : u.powers.loads ≡ hour_powers c.elements (hour_in u.day)
+  pub modest : All IsModest u.powers.loads
+  pub day : IsDayOf c u.day
+  pub hour : IsSome u.day.hour
+  pub network : IsNetworkAt c u.powers.loads (positions_in at) u.net
+
+-- what is left of them behind an hour that left these positions
+pub record IsLeftBehind (c : CircuitView) (at : CodePositions) (before after : Underway) : Type 0 where
+  pub positions : ArePositions c after.powers.loads (positions_in at)
+  pub day : IsDayOf c after.day
+  pub built : IsBuiltOf after.net c
+  pub left : hours_left before.day ≡ hour_in before.day ∷ hours_left after.day
+
+-- what is to blame where the network of the first of these hours is out of range at these positions
+abbrev pub blame_first : CircuitView → List ℕ → Positions → Option Blame
+blame_first c [] at = None
+blame_first c (hour ∷ hours) at = (plant_at c hour).blame at
+
+-- the network of the first of these hours is refused so at these positions; want of memory is free
+abbrev pub IsRefusedAt : CircuitView → List ℕ → Positions → BuildFault → Type 0
+IsRefusedAt c hours at f = IsFaultOf (blame_first c hours at) f

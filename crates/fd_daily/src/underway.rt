@@ -1,0 +1,111 @@
+// The hours of a Solve under way.
+ghost use Rattle.std.specs.Prelude.{◌≡◌, All, IfErr, IfOk, IsSome, OnErr, OnOk};
+ghost use Rattle.dss_ready.specs.Ready.{HasPassed};
+ghost use Rattle.fd_network.specs.Built.{IsBuiltOf};
+ghost use Rattle.fd_sample.specs.Probes.{positions_in};
+ghost use Rattle.fd_settle.specs.Start.{ArePositions};
+ghost use Rattle.fd_xfmr.specs.Leakage.{AreTaps};
+ghost use Rattle.fd_daily.specs.Day.{IsDayOf, hour_in, hours_left, no_openings};
+ghost use Rattle.fd_daily.specs.Hours.{hours_of};
+ghost use Rattle.fd_daily.specs.Underway.{IsRefusedAt, IsUnderway, start_from};
+
+use crate::day::Day;
+use dss_circuit::Circuit;
+use fd_devices::{BuildFault, Positions, Powers, hours_law, next_law, powers_at};
+use fd_network::Network;
+use fd_settle::Round;
+use std::alloc::Global;
+
+/// The hours of a Solve under way: the network with the powers of the next hour, where the Solve stands, and room for the
+/// rounds of an hour.
+#[derive(Drop)]
+pub struct Underway {
+    pub net: Network,
+    pub powers: Powers,
+    pub day: Day,
+    pub rounds: Vec<Round>,
+}
+
+impl Underway {
+    /// Starts a Solve of a circuit that passed the tests. The positions are those that the Solve before left; they become
+    /// those with which this one starts, and the network is that of its first hour.
+    ///
+    /// # Errors
+    /// `Range` where the network of the first hour is out of range, with what is to blame; `NoMemory`. The positions stay
+    /// then as they were.
+    pub fn start(
+        alloc: Global,
+        circuit: &Circuit,
+        at: &mut Positions,
+    ) -> Result<Underway, BuildFault>
+        requires ready { HasPassed circuit.now }
+        requires taps { All AreTaps at.old.taps }
+        ensures start { OnOk result (positions_in at.new ≡ start_from circuit.now (positions_in at.old)) }
+        ensures underway { IfOk result (IsUnderway circuit.now at.new) }
+        ensures left { IfOk result (λ u. hours_left u.day ≡ hours_of circuit.now.options) }
+        ensures opened { IfOk result (λ u. u.day.opened ≡ no_openings circuit.now) }
+        ensures refused { IfErr result (IsRefusedAt circuit.now (hours_of circuit.now.options) (start_from circuit.now (positions_in at.old))) }
+        ensures as_before { OnErr result (at.new ≡ at.old) }
+    {
+        // read for what the elements are
+        let _elements = circuit.elements();
+        next_law();
+        hours_law();
+        let day = Day::start(alloc, circuit)?;
+        let start = Positions::next(alloc, circuit, at)?;
+        let hour = day.next_hour().unwrap();
+        let powers = powers_at(alloc, circuit, hour)?;
+        match Network::build(alloc, circuit, &start, &powers) {
+            Ok(net) => {
+                *at = start;
+                Ok(Underway {
+                    net,
+                    powers,
+                    day,
+                    rounds: Vec::new(alloc),
+                })
+            }
+            Err(fault) => Err(fault),
+        }
+    }
+
+    /// The hour that comes next, where one is left: 0 for a snapshot, from 1 on for a day.
+    pub fn hour(&self) -> u32
+        requires { IsSome self.now.day.hour }
+        ensures { result ≡ hour_in self.now.day }
+    {
+        self.day.next_hour().unwrap()
+    }
+
+    /// Brings the network up to date for the hour that comes next, at the positions that the hour before left.
+    ///
+    /// # Errors
+    /// `Range` where the network of that hour is out of range, with what is to blame; `NoMemory`. All stays then as it was.
+    pub fn next_network(
+        &mut self,
+        alloc: Global,
+        circuit: &Circuit,
+        at: &Positions,
+    ) -> Result<(), BuildFault>
+        requires ready { HasPassed circuit.now }
+        requires positions { ArePositions circuit.now self.old.powers.loads (positions_in at.now) }
+        requires day { IsDayOf circuit.now self.old.day }
+        requires hour { IsSome self.old.day.hour }
+        requires built { IsBuiltOf self.old.net circuit.now }
+        ensures underway { OnOk result (IsUnderway circuit.now at.now self.new) }
+        ensures day { self.new.day ≡ self.old.day }
+        ensures refused { IfErr result (IsRefusedAt circuit.now (hours_left self.old.day) (positions_in at.now)) }
+        ensures as_before { OnErr result (self.new ≡ self.old) }
+    {
+        hours_law();
+        let hour = self.hour();
+        let powers = powers_at(alloc, circuit, hour)?;
+        match self.net.update(alloc, circuit, at, &powers) {
+            Ok(()) => {
+                self.powers = powers;
+                Ok(())
+            }
+            Err(fault) => Err(fault),
+        }
+    }
+}
