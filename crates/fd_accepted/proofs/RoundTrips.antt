@@ -22,7 +22,7 @@ use Rattle.fd_app.specs.Commands.{Applied, nothing_left, solve_left, bases_left,
 use Rattle.fd_app.specs.Commands as commands
 use Rattle.fd_app.specs.Run.{FormsLaw, IsCheckHistory, IsDoneThere, IsFormHistory, IsScriptHistory, first_standing, no_name}
 use Rattle.fd_app.specs.Steps.{StandingView, standing}
-use Rattle.fd_app.specs.Words.{Check}
+use Rattle.fd_words.specs.Words.{Check}
 use Rattle.fd_accepted.specs.Laws.{AreAccepted, HasAccepted}
 use Rattle.fd_accepted.specs.Solves.{behind_command, solves_from, solves_of}
 use Rattle.fd_accepted.proofs.Scripts.{solve_circuit}

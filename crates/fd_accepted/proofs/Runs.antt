@@ -23,7 +23,7 @@ use Rattle.fd_outcome.specs.Settles.{Settle}
 use Rattle.fd_outcome.specs.Statuses.{status_of}
 use Rattle.fd_app.specs.Headline.{IsSolved}
 use Rattle.fd_app.specs.Run.{FormsLaw, IsFormHistory}
-use Rattle.fd_app.specs.Words.{Cert, Form}
+use Rattle.fd_words.specs.Words.{Cert, Form}
 use Rattle.fd_accepted.specs.Laws.{HaveTaken, RoundTripLaw, RunsWell, WrittenLaw}
 use Rattle.fd_accepted.specs.Printed.{all_rounds, bytes_by}
 use Rattle.fd_accepted.specs.Solves.{solves_of}

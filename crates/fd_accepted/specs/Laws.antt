@@ -15,7 +15,7 @@ use Rattle.fd_outcome.specs.Runs.{Runs}
 use Rattle.fd_app.specs.Headline.{IsSolved}
 use Rattle.fd_app.specs.Run.{IsFormHistory, IsScriptHistory, style_of}
 use Rattle.fd_check.specs.Checking.{no_positions}
-use Rattle.fd_app.specs.Words.{Cert, Check, Form}
+use Rattle.fd_words.specs.Words.{Cert, Check, Form}
 use Rattle.fd_accepted.specs.Printed.{all_rounds, bytes_by}
 use Rattle.fd_accepted.specs.Solves.{solves_of}
 

@@ -16,6 +16,5 @@ mod Blocks
 mod Gathering
 mod Judging
 mod Checked
-mod Digits
 mod Alone
 mod Benched

@@ -21,7 +21,7 @@ use Rattle.fd_app.specs.Checks.{IsCheckStep, IsJudged, certificate_name, first_g
 use Rattle.fd_app.specs.Commands.{IsStep}
 use Rattle.fd_app.specs.Headline.{IsSolved}
 use Rattle.fd_app.specs.Run.{FormsLaw, IsCheckHistory, IsDoneThere, IsFormHistory, IsScriptHistory, first_standing, no_name, style_of, IsBenchHistory, script_written}
-use Rattle.fd_app.specs.Words.{Form, Solve, Cert, Check, Gen, Bench}
+use Rattle.fd_words.specs.Words.{Form, Solve, Cert, Check, Gen, Bench}
 use Rattle.fd_app.proofs.Gathering.{one_check_step, one_judged}
 use Rattle.fd_app.specs.Bench.{bench_of, feeder_files, feeder_name}
 use Rattle.fd_app.proofs.Tests.{one_step}

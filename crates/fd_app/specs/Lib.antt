@@ -1,5 +1,3 @@
-pub mod Numbers
-pub mod Words
 pub mod Steps
 pub mod Solving
 pub mod Commands

@@ -1,11 +1,12 @@
 -- The history of a command line over the files that its library holds.
-use Rattle.std.specs.Prelude.{◌≡◌, ◌≤◌, ℕ, List, [], map, Option, Some, None}
+use Rattle.std.specs.Prelude.{◌≡◌, ℕ, List, [], map, Option, Some, None}
 use Rattle.std.specs.Str.{chars}
 use Rattle.fd_outside.specs.Files.{Files, held}
 use Rattle.dss_values.specs.Names.{bytes}
 use Rattle.dss_circuit.specs.Circuit.{empty_circuit}
 use Rattle.dss_script.specs.Said.{Part, said_of, ended_by}
 use Rattle.fd_gen.specs.Script.{script_of}
+use Rattle.fd_words.specs.Words.{Form, Solve, Cert, Check, Gen, Bench}
 use Rattle.fd_report.specs.declared.faults.Fault.TheVariants as fault
 use Rattle.fd_outcome.specs.Calls.{Style, certificate, report}
 use Rattle.fd_outcome.specs.Events.{History, ended, finishes, line}
@@ -15,24 +16,7 @@ use Rattle.fd_check.specs.Checking.{no_positions}
 use Rattle.fd_app.specs.Checks.{IsCheckStep, IsJudged, certificate_name, first_gathered}
 use Rattle.fd_app.specs.Commands.{IsStep}
 use Rattle.fd_app.specs.Steps.{StandingView, standing}
-use Rattle.fd_app.specs.Words.{Form, Solve, Cert, Check, Gen, Bench}
 use Rattle.fd_app.specs.Bench.{bench_of, feeder_files, feeder_name, lines_alone}
-use Rattle.fd_app.specs.declared.words.Form.{Form as Words}
-use Rattle.fd_app.specs.declared.words.Form.TheVariants as words
-
--- the form that words were found to be
-abbrev pub form_in : Words → Form
-form_in (words.Solve file) = Solve file.now
-form_in (words.Cert file) = Cert file.now
-form_in (words.Check script name) = Check script.now name.now
-form_in (words.Gen number sections) = Gen number sections
-form_in (words.Bench number sections) = Bench number sections
-
--- a feeder has a section
-abbrev pub has_sections : Words → Type 0
-has_sections (words.Gen number sections) = 1 ≤ sections
-has_sections (words.Bench number sections) = 1 ≤ sections
-has_sections other = Unit {0}
 
 -- what must be told of the files: nothing where none is asked for
 abbrev pub Knows : Option Form → Option Files → Files → Type 0

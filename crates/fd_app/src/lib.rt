@@ -7,7 +7,6 @@
 //! whatever a library tells, how it ends. Its status is that of the history's end, but for these (`due_law`). So through all
 //! hours of a Solve its acts are those of any such states (`days_law`).
 //!
-//! - `words`: the forms of the command line; `numbers`: the numbers among its words
 //! - `answer`: what a command comes to
 //! - `controls`: the controls of a circuit
 //! - `faults`: the fault with which a run ends, by how a settle ended
@@ -39,7 +38,6 @@ mod hour;
 mod hours;
 mod judged;
 mod line;
-mod numbers;
 mod page;
 mod print;
 mod records;
@@ -51,6 +49,5 @@ mod step;
 mod summary;
 mod tally;
 mod top;
-mod words;
 
 pub use top::{checked_law, days_law, due_law, forms_law, run};

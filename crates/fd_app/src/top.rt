@@ -14,7 +14,7 @@ ghost use Rattle.fd_app.specs.Checks.{CheckedLaw};
 ghost use Rattle.fd_app.specs.Days.{DaysLaw};
 ghost use Rattle.fd_app.specs.Headline.{IsSolved};
 ghost use Rattle.fd_app.specs.Run.{FormsLaw, IsCheckHistory, IsFormHistory, IsScriptHistory, Knows, style_of};
-ghost use Rattle.fd_app.specs.Words.{form_of};
+ghost use Rattle.fd_words.specs.Words.{form_of};
 
 use crate::bench::bench;
 use crate::certificate::Certificate;
@@ -25,11 +25,11 @@ use crate::print::{WANT_OF_MEMORY, print_fault};
 use crate::report::Report;
 use crate::script::run_script;
 use crate::standing::Standing;
-use crate::words::{Form, form_of};
 use dss_script::{Session, said_law};
 use fd_check::accepted_law;
 use fd_outside::{Library, Sink};
 use fd_report::Fault;
+use fd_words::{Form, form_of};
 use std::alloc::Global;
 
 // Reads the script of this name, does its commands, and prints their settles so.
@@ -127,7 +127,10 @@ pub fn run<L: Library, S: Sink>(alloc: Global, words: &[String], lib: &mut L, ou
     // Names are only added to those asked.
     ensures grows { GrowsSome (L.asked lib.old) (L.asked lib.new) }
 {
-    match form_of(words) {
+    let Ok(form) = form_of(alloc, words) else {
+        return WANT_OF_MEMORY;
+    };
+    match form {
         None => print_fault(alloc, &Fault::Usage, out),
         Some(Form::Solve(file)) => solve::<Report, L, S>(alloc, file, lib, out),
         Some(Form::Cert(file)) => solve::<Certificate, L, S>(alloc, file, lib, out),

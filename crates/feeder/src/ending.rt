@@ -8,7 +8,7 @@ ghost use Rattle.fd_outcome.specs.Runs.{Runs};
 ghost use Rattle.fd_outcome.specs.Untold.{Answers};
 ghost use Rattle.fd_app.specs.Headline.{IsSolved};
 ghost use Rattle.fd_app.specs.Run.{IsFormHistory, Knows, style_of};
-ghost use Rattle.fd_app.specs.Words.{form_of};
+ghost use Rattle.fd_words.specs.Words.{form_of};
 ghost use Rattle.feeder.specs.Given.{IsWithoutMemory, given};
 
 use fd_app::run;

@@ -1,4 +1,4 @@
-use Rattle.fd_app.specs.Words.{form_of}
+use Rattle.fd_words.specs.Words.{form_of}
 use Rattle.fd_app.proofs.Runs.{due}
 use Rattle.fd_app.proofs.top.due_law.Goals as goal
 

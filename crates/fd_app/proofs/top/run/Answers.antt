@@ -7,10 +7,12 @@ use Rattle.fd_gen.specs.Script.{script_of}
 use Rattle.fd_outcome.proofs.CallerLemmas.{fault_alone, fault_answers, fault_code, grows_none, untold_last}
 use Rattle.fd_app.specs.Bench.{lines_alone}
 use Rattle.fd_app.specs.Headline.{IsSolved}
-use Rattle.fd_app.specs.Run.{IsBenchHistory, form_in, script_written}
-use Rattle.fd_app.specs.declared.words.Form.{Form as Words}
-use Rattle.fd_app.specs.Words.{Cert, Check, Solve, form_of, Bench, Gen}
+use Rattle.fd_app.specs.Run.{IsBenchHistory, IsFormHistory, script_written, style_of}
+use Rattle.fd_words.specs.declared.words.Form.{Form as Words}
+use Rattle.fd_words.specs.Words.{Cert, Check, Solve, form_in, form_of, Bench, Gen}
 use Rattle.fd_app.proofs.Alone.{alone_runs, lines_good, printed_alone}
+use Rattle.fd_app.proofs.Benched.{short_alone}
+use Rattle.fd_app.proofs.Runs.{forms}
 use Rattle.fd_app.proofs.top.run.Goals as goal
 
 never_read : (code : ℕ) → (code ≡ 2) ⊎ CutsShort code → code ≡ 4 → ⊥
@@ -19,16 +21,22 @@ never_read code is four = elim is [
   | inr cut ↦ elim cut [ inl memory ↦ omega (arith, memory, four) | inr write ↦ omega (arith, write, four) ]
 ]
 
+pub returns-in_default-clause-run : goal.returns-in_default-clause-run
+returns-in_default-clause-run g c files told =
+    let form = form_of (map string_bytes c.args.words.now) in
+    alone_runs g.L.Library.faults g.L.Library.asked g.S.Sink.taken g.S.Sink.calls c.args.lib.now c.args.out.now c.args.out.now (λ h. IsFormHistory files form h) (style_of form) IsSolved 1
+    (short_alone g.S.Sink.taken g.S.Sink.calls c.args.out.now (λ h. IsFormHistory files form h) (style_of form) (forms files form))
+
 pub returns-in-None-clause-run : goal.returns-in-None-clause-run
 returns-in-None-clause-run g c files told =
-    let form : form_of (map string_bytes c.args.words.now) ≡ None = sym c.form_of.ensures.form ∙ ap (option_map form_in) c.in-None.is in
+    let form : form_of (map string_bytes c.args.words.now) ≡ None = sym c.in-Ok.ensures.form ∙ ap (option_map form_in) c.in-None.is in
     rw form (fault_alone g.L.Library.faults g.L.Library.asked g.S.Sink.taken g.S.Sink.calls report IsSolved c.args.lib.now c.args.out.now c.print_fault.new.out fault.Usage c.print_fault.result c.print_fault.ensures.prints)
 
 pub returns-in-None-clause-statuses : goal.returns-in-None-clause-statuses
 returns-in-None-clause-statuses g c = inr (fault_answers g.S.Sink.taken g.S.Sink.calls c.args.out.now c.print_fault.new.out fault.Usage c.print_fault.result c.print_fault.ensures.prints)
 
 pub returns-in-None-clause-usage : goal.returns-in-None-clause-usage
-returns-in-None-clause-usage g c two = sym c.form_of.ensures.form ∙ ap (option_map form_in) c.in-None.is
+returns-in-None-clause-usage g c two = sym c.in-Ok.ensures.form ∙ ap (option_map form_in) c.in-None.is
 
 pub returns-in-None-clause-read : goal.returns-in-None-clause-read
 returns-in-None-clause-read g c four =
@@ -43,7 +51,7 @@ returns-in-None-clause-grows g c = grows_none (g.L.Library.asked c.args.lib.now)
 
 pub returns-in-Some-Solve-clause-run : goal.returns-in-Some-Solve-clause-run
 returns-in-Some-Solve-clause-run g c files =
-    let form : form_of (map string_bytes c.args.words.now) ≡ Some (Solve c.in-Some-Solve.file.now) = sym c.form_of.ensures.form ∙ ap (option_map form_in) c.in-Some-Solve.is ∙ ap (λ (w : Words). Some (form_in w)) c.in-Some-Solve.field-0-is in
+    let form : form_of (map string_bytes c.args.words.now) ≡ Some (Solve c.in-Some-Solve.file.now) = sym c.in-Ok.ensures.form ∙ ap (option_map form_in) c.in-Some-Solve.is ∙ ap (λ (w : Words). Some (form_in w)) (rw c.in-Some-Solve.is at c.in-Some-Solve.field-0-is) in
     rw form (c.solve.ensures.run files)
 
 pub returns-in-Some-Solve-clause-usage : goal.returns-in-Some-Solve-clause-usage
@@ -51,7 +59,7 @@ returns-in-Some-Solve-clause-usage g c two = absurd (c.solve.ensures.untold.usag
 
 pub returns-in-Some-Cert-clause-run : goal.returns-in-Some-Cert-clause-run
 returns-in-Some-Cert-clause-run g c files =
-    let form : form_of (map string_bytes c.args.words.now) ≡ Some (Cert c.in-Some-Cert.file.now) = sym c.form_of.ensures.form ∙ ap (option_map form_in) c.in-Some-Cert.is ∙ ap (λ (w : Words). Some (form_in w)) c.in-Some-Cert.field-0-is in
+    let form : form_of (map string_bytes c.args.words.now) ≡ Some (Cert c.in-Some-Cert.file.now) = sym c.in-Ok.ensures.form ∙ ap (option_map form_in) c.in-Some-Cert.is ∙ ap (λ (w : Words). Some (form_in w)) (rw c.in-Some-Cert.is at c.in-Some-Cert.field-0-is) in
     rw form (c.solve-in-Some-Cert.ensures.run files)
 
 pub returns-in-Some-Cert-clause-usage : goal.returns-in-Some-Cert-clause-usage
@@ -59,20 +67,22 @@ returns-in-Some-Cert-clause-usage g c two = absurd (c.solve-in-Some-Cert.ensures
 
 pub returns-in-Some-Check-clause-run : goal.returns-in-Some-Check-clause-run
 returns-in-Some-Check-clause-run g c files =
-    let form : form_of (map string_bytes c.args.words.now) ≡ Some (Check c.in-Some-Check.script.now c.in-Some-Check.certificate.now) = sym c.form_of.ensures.form ∙ ap (option_map form_in) c.in-Some-Check.is ∙ ap (λ (w : Words). Some (form_in w)) c.in-Some-Check.field-0-is in
+    let form : form_of (map string_bytes c.args.words.now) ≡ Some (Check c.in-Some-Check.script.now c.in-Some-Check.certificate.now) = sym c.in-Ok.ensures.form ∙ ap (option_map form_in) c.in-Some-Check.is ∙ ap (λ (w : Words). Some (form_in w)) (rw c.in-Some-Check.is at c.in-Some-Check.field-0-is) in
     rw form (c.check.ensures.run files)
 
 pub returns-in-Some-Check-clause-usage : goal.returns-in-Some-Check-clause-usage
 returns-in-Some-Check-clause-usage g c two = absurd (c.check.ensures.untold.usage two)
 
 pub write_script-requires : goal.write_script-requires
-write_script-requires g c = rw (c.in-Some-Gen.is, c.in-Some-Gen.field-0-is) at c.form_of.ensures.some
+write_script-requires g c =
+    let found = rw c.in-Some-Gen.is at c.in-Some-Gen.field-0-is in
+    rw (c.in-Some-Gen.is, found) at c.in-Ok.ensures.some
 
 pub returns-in-Some-Gen-clause-run : goal.returns-in-Some-Gen-clause-run
 returns-in-Some-Gen-clause-run g c files told =
     let number = c.in-Some-Gen.number in
     let sections = c.in-Some-Gen.sections in
-    let form : form_of (map string_bytes c.args.words.now) ≡ Some (Gen number sections) = sym c.form_of.ensures.form ∙ ap (option_map form_in) c.in-Some-Gen.is ∙ ap (λ (w : Words). Some (form_in w)) c.in-Some-Gen.field-0-is in
+    let form : form_of (map string_bytes c.args.words.now) ≡ Some (Gen number sections) = sym c.in-Ok.ensures.form ∙ ap (option_map form_in) c.in-Some-Gen.is ∙ ap (λ (w : Words). Some (form_in w)) (rw c.in-Some-Gen.is at c.in-Some-Gen.field-0-is) in
     rw form (alone_runs g.L.Library.faults g.L.Library.asked g.S.Sink.taken g.S.Sink.calls c.args.lib.now c.args.out.now c.write_script.new.out (λ h. h ≡ script_written number sections) report IsSolved c.write_script.result
     (printed_alone g.S.Sink.taken g.S.Sink.calls c.args.out.now c.write_script.new.out (script_written number sections) report IsSolved c.write_script.result (lines_good IsSolved (script_of number sections)) c.write_script.ensures.prints))
 
@@ -96,13 +106,15 @@ pub returns-in-Some-Gen-clause-grows : goal.returns-in-Some-Gen-clause-grows
 returns-in-Some-Gen-clause-grows g c = grows_none (g.L.Library.asked c.args.lib.now)
 
 pub bench-requires : goal.bench-requires
-bench-requires g c = rw (c.in-Some-Bench.is, c.in-Some-Bench.field-0-is) at c.form_of.ensures.some
+bench-requires g c =
+    let found = rw c.in-Some-Bench.is at c.in-Some-Bench.field-0-is in
+    rw (c.in-Some-Bench.is, found) at c.in-Ok.ensures.some
 
 pub returns-in-Some-Bench-clause-run : goal.returns-in-Some-Bench-clause-run
 returns-in-Some-Bench-clause-run g c files told =
     let number = c.in-Some-Bench.number in
     let sections = c.in-Some-Bench.sections in
-    let form : form_of (map string_bytes c.args.words.now) ≡ Some (Bench number sections) = sym c.form_of.ensures.form ∙ ap (option_map form_in) c.in-Some-Bench.is ∙ ap (λ (w : Words). Some (form_in w)) c.in-Some-Bench.field-0-is in
+    let form : form_of (map string_bytes c.args.words.now) ≡ Some (Bench number sections) = sym c.in-Ok.ensures.form ∙ ap (option_map form_in) c.in-Some-Bench.is ∙ ap (λ (w : Words). Some (form_in w)) (rw c.in-Some-Bench.is at c.in-Some-Bench.field-0-is) in
     rw form (alone_runs g.L.Library.faults g.L.Library.asked g.S.Sink.taken g.S.Sink.calls c.args.lib.now c.args.out.now c.bench.new.out (λ h. IsBenchHistory number sections h) lines_alone IsSolved c.bench.result c.bench.ensures.run)
 
 pub returns-in-Some-Bench-clause-usage : goal.returns-in-Some-Bench-clause-usage

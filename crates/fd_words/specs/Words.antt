@@ -1,7 +1,9 @@
 -- The forms of the command line. A word is a list of bytes.
-use Rattle.std.specs.Prelude.{ℕ, ◌==◌, ◌&&◌, not, Bool, false, List, [], ◌∷◌, if◌then◌else◌, Option, Some, None, nat_eq, codes}
+use Rattle.std.specs.Prelude.{ℕ, ◌≤◌, ◌==◌, ◌&&◌, not, Bool, false, List, [], ◌∷◌, if◌then◌else◌, Option, Some, None, nat_eq, codes}
 use Rattle.std.specs.Cmp.Lexicographic.{pointwise}
-use Rattle.fd_app.specs.Numbers.{number_of, sections_of}
+use Rattle.fd_words.specs.Numbers.{number_of, sections_of}
+use Rattle.fd_words.specs.declared.words.Form.{Form as Words}
+use Rattle.fd_words.specs.declared.words.Form.TheVariants as words
 
 pub data Form : Type 0 where
   -- `solve FILE`
@@ -48,3 +50,17 @@ form_of (word ∷ second ∷ third ∷ []) =
     if pointwise nat_eq word (codes "check") then check_form second third
     else feeder_form word (number_of second) (sections_of third)
 form_of words = None
+
+-- the form that words were found to be
+abbrev pub form_in : Words → Form
+form_in (words.Solve file) = Solve file.now
+form_in (words.Cert file) = Cert file.now
+form_in (words.Check script name) = Check script.now name.now
+form_in (words.Gen number sections) = Gen number sections
+form_in (words.Bench number sections) = Bench number sections
+
+-- a feeder has a section
+abbrev pub has_sections : Words → Type 0
+has_sections (words.Gen number sections) = 1 ≤ sections
+has_sections (words.Bench number sections) = 1 ≤ sections
+has_sections other = Unit {0}

@@ -1,6 +1,6 @@
 // The numbers of a command line.
 ghost use Rattle.std.specs.Prelude.{◌≡◌, ◌≤◌, IfSome};
-ghost use Rattle.fd_app.specs.Numbers.{all_digits, are_digits, number_of, sections_of, value_of};
+ghost use Rattle.fd_words.specs.Numbers.{all_digits, are_digits, number_of, sections_of, value_of};
 
 // The most digits of a number.
 const NUMBER_DIGITS: usize = 20;

@@ -1,5 +1,5 @@
 -- The value of a word of digits is the number that is read of it.
-use Rattle.std.proofs.Common.{◌≡◌, ◌∙◌, ◌<◌, ◌^◌, ℕ, Bool, true, false, List, [], ◌∷◌, length, Option, Some, None, Result, Ok, Err, refl, sym, ap, if◌then◌else◌, nat_lt, nat_le, arith}
+use Rattle.std.proofs.Common.{◌≡◌, ◌∙◌, ◌<◌, ◌^◌, ℕ, Bool, true, false, List, [], ◌∷◌, length, Option, Some, None, Result, Ok, Err, refl, sym, subst, ap, not, ◌==◌, if◌then◌else◌, nat_lt, nat_le, arith}
 use Rattle.std.specs.Prelude.{◌&&◌}
 use Rattle.std.specs.Char.{is_ascii_digit}
 use Rattle.std.specs.Str.{all_ascii_digits}
@@ -7,7 +7,8 @@ use Rattle.std.specs.Str.Parse.{ParsesUnsigned, digits_value}
 use Rattle.std.specs.Result.{OkIff, result_ok}
 use Rattle.std.proofs.lemmas.Str.Parse.{IsNumeralModel, numerals_by_value, parse_digits, tells_all_ascii_digits}
 use Rattle.std.proofs.lemmas.Bool.Decides.{nat_tests}
-use Rattle.fd_app.specs.Numbers.{all_digits, are_digits, value_of}
+use Rattle.fd_words.specs.Numbers.{all_digits, are_digits, value_of}
+use Rattle.fd_words.specs.Words.{names_file}
 
 digits_by : (ds : List ℕ) → all_digits ds ≡ all_ascii_digits ds
 digits_by [] = refl
@@ -48,3 +49,22 @@ read most word r digits parses =
 pub not_read : (most : ℕ) (word : List ℕ) → are_digits most word ≡ false → None ≡ value_of most word
 unfolding value_of
 not_read most word other = sym (ap (λ (b : Bool). (let x : Option ℕ = if b && nat_lt (digits_value 10 word) (2 ^ 64) then Some (digits_value 10 word) else None in x)) other)
+
+digits_where : (a c : Bool) (x n : ℕ) → (if a && c then Some x else None) ≡ Some n → a ≡ true
+digits_where true c x n h = refl
+digits_where false c x n h = absurd (cc h)
+
+no_dash : (b : ℕ) (bs : List ℕ) (t : Bool) → b == 45 ≡ t → all_digits (b ∷ bs) ≡ true → not t ≡ true
+no_dash b bs false e h = refl
+no_dash b bs true e h =
+    let is : b ≡ 45 = grind (arith, nat_tests) in
+    let no : false ≡ true = subst (λ (d : ℕ). all_digits (d ∷ bs) ≡ true) is h in
+    absurd (cc no)
+
+-- a word that is a number may name a file too
+pub number_named : (most : ℕ) (word : List ℕ) (n : ℕ) → value_of most word ≡ Some n → names_file word ≡ true
+unfolding value_of
+number_named most [] n h = absurd (cc h)
+number_named most (b ∷ bs) n h =
+    let digits = digits_where (are_digits most (b ∷ bs)) _ _ n h in
+    no_dash b bs (b == 45) refl (last_true (nat_lt 0 (length (b ∷ bs))) (nat_le (length (b ∷ bs)) most) (all_digits (b ∷ bs)) digits).1
