@@ -46,19 +46,28 @@ scaled_up o r a b h = let k = mul-le-mul_right (o * o) h in omega (arith, k)
 pub sizes : SizeLaw
 unfolding least_size greatest_size
 sizes s x k re im = record {
-  least = omega (arith,
-      scaled_down x.over (least_size s k) (least_part c0 r0) (least_part c1 r1) (is_root (least_square s k)).0,
-      in_order _ _ (least (part x.parts (2 * k)) c0 x.over r0 re), in_order _ _ (least (part x.parts (2 * k + 1)) c1 x.over r1 im));
-  greatest = omega (arith,
-      scaled_up x.over (greatest_size s k) (greatest_part c0 r0) (greatest_part c1 r1) (is_root_up (greatest_square s k)).0,
-      in_order _ _ (most (part x.parts (2 * k)) c0 x.over r0 re), in_order _ _ (most (part x.parts (2 * k + 1)) c1 x.over r1 im));
+  least = omega (
+    arith,
+    scaled_down x.over (least_size s k) (least_part c0 r0) (least_part c1 r1) (is_root (least_square s k)).0,
+    in_order _ _ (least (part x.parts (2 * k)) c0 x.over r0 re),
+    in_order _ _ (least (part x.parts (2 * k + 1)) c1 x.over r1 im),
+  );
+  greatest = omega (
+    arith,
+    scaled_up x.over (greatest_size s k) (greatest_part c0 r0) (greatest_part c1 r1) (is_root_up (greatest_square s k)).0,
+    in_order _ _ (most (part x.parts (2 * k)) c0 x.over r0 re),
+    in_order _ _ (most (part x.parts (2 * k + 1)) c1 x.over r1 im),
+  );
 }
   where
     c0 : ℤ
     c0 = part s.centre (2 * k)
+
     c1 : ℤ
     c1 = part s.centre (2 * k + 1)
+
     r0 : ℕ
     r0 = number_at s.radii (2 * k)
+
     r1 : ℕ
     r1 = number_at s.radii (2 * k + 1)
