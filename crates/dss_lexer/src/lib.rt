@@ -19,8 +19,6 @@ mod expressions;
 mod fault;
 mod numbers;
 mod pair;
-#[cfg(test)]
-mod tests;
 mod text;
 
 pub use arrays::{Row, cells, matrix};

@@ -34,6 +34,3 @@ pub use interval::Interval;
 pub use quotient::{ceil_at, floor_at, isqrt, near_at};
 pub use rounding::{floor_of_product, near_over_coef, near_quotient, near_units};
 pub use terms::{Conn, Ends, NodeAt, Nodes, TapPair, Term, TermFault};
-
-#[cfg(test)]
-mod tests;

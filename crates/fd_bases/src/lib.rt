@@ -20,8 +20,6 @@ mod bus_base;
 mod laws;
 mod nearest;
 mod nominal;
-#[cfg(test)]
-mod tests;
 mod walk;
 
 pub use bus_base::{BusBase, bases};

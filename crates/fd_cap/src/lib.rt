@@ -19,6 +19,3 @@ pub use data::CapData;
 pub use draw::cap_draw;
 pub use laws::cap_law;
 pub use terms::{admittance, cap_terms, cap_terms_into};
-
-#[cfg(test)]
-mod tests;

@@ -15,6 +15,3 @@ mod state;
 
 pub use laws::{away_law, bank_decided_law, bank_edge_law, bank_law};
 pub use state::CapState;
-
-#[cfg(test)]
-mod tests;

@@ -35,6 +35,3 @@ pub use certificate::certify;
 pub use fault::CertFault;
 pub use rechecking::{boxed, recheck};
 pub use rule::{Broken, Rule};
-
-#[cfg(test)]
-mod tests;

@@ -58,6 +58,3 @@ pub use rule::{
     answers_law, given_law, rule_cases, rule_law, solving_law, sound_law, verdict_cases,
 };
 pub use write::{end_record, header_record, write_block};
-
-#[cfg(test)]
-mod tests;

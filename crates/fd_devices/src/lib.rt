@@ -36,6 +36,3 @@ pub use places::ends_of;
 pub use positions::next_law;
 pub use settings::{BankStates, LoadPowers, OwnSettings, Positions, Powers, Taps};
 pub use snapshot::snapshot_law;
-
-#[cfg(test)]
-mod tests;

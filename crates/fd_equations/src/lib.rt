@@ -45,6 +45,3 @@ pub use pattern::Pattern;
 pub use point::Point;
 pub use sparse::Rows;
 pub use terminals::{Voltage, voltage_of};
-
-#[cfg(test)]
-mod tests;

@@ -17,6 +17,3 @@ mod draws;
 mod script;
 
 pub use script::generate;
-
-#[cfg(test)]
-mod tests;

@@ -19,6 +19,3 @@ mod pieces;
 mod settings;
 
 pub use network::Network;
-
-#[cfg(test)]
-mod tests;

@@ -25,6 +25,3 @@ pub use laws::{
 };
 pub use queue::Queue;
 pub use verdict::Verdict;
-
-#[cfg(test)]
-mod tests;

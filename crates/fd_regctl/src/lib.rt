@@ -18,6 +18,3 @@ pub use laws::{
     regulator_decided_law, regulator_edge_law, regulator_law, settings_law, steps_law, tap_law,
 };
 pub use state::RegState;
-
-#[cfg(test)]
-mod tests;

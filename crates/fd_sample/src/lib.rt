@@ -48,6 +48,3 @@ pub use laws::{probes_law, sample_law};
 pub use probe::{CapProbe, LineEnd, Measured, Probe, RegProbe};
 pub use sample::regulator_verdict;
 pub use scripted::{bank_probe, regulator_probe};
-
-#[cfg(test)]
-mod tests;

@@ -15,8 +15,6 @@ mod blanks;
 mod column;
 mod fault;
 mod laws;
-#[cfg(test)]
-mod tests;
 mod text;
 
 pub use column::read_column;

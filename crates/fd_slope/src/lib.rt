@@ -16,8 +16,6 @@ mod power;
 mod radii;
 mod rounding;
 mod slope;
-#[cfg(test)]
-mod tests;
 
 pub use laws::change_law;
 pub use radii::{Radii, RadiusRow};

@@ -20,6 +20,3 @@ pub use data::{Ohms, ShortCircuit, SourceData, SourceTerms};
 pub use laws::{ohms_law, source_law};
 pub use ohms::source_ohms;
 pub use terms::{impedance, source_terms};
-
-#[cfg(test)]
-mod tests;

@@ -20,6 +20,3 @@ pub use laws::xfmr_law;
 pub use leakage::{Coefficients, coefficients_at};
 pub use pairs::winding_pairs;
 pub use terms::{PhaseAt, phase_at, xfmr_terms, xfmr_terms_into};
-
-#[cfg(test)]
-mod tests;

@@ -1,0 +1,239 @@
+// A certificate that an independent exact model wrote, whole and with one line changed, with its answers.
+ghost use Rattle.std.specs.Prelude.{◌≡◌, [], IfOk};
+
+use fd_arith::Term;
+use fd_certfile::{CertFileFault, CertReader, Claimed, Rule};
+use fd_equations::{Layout, Network, Rows};
+use fd_inject::Limits;
+use fd_settle::{Act, Solver};
+use fd_system::Constant;
+use std::alloc::{AllocError, Global};
+use std::process::Abort;
+
+const LINES: [&str; 21] = [
+    "cert 1",
+    "solution 1 0 0 8",
+    "x 0 950000000 20 0",
+    "x 1 0 20 0",
+    "x 2 500000000 11 1",
+    "x 3 0 11 0",
+    "x 4 50000000 33 0",
+    "x 5 0 33 0",
+    "x 6 50000000 33 0",
+    "x 7 0 33 0",
+    "c 0 1044536046387 0 549755813887 0 -1044536046387 0 54975581389 0",
+    "c 1 0 1044536046387 0 549755813887 0 -1044536046387 0 54975581389",
+    "c 2 549755813887 0 5497558138870 0 -549755813887 0 -549755813887 0",
+    "c 3 0 549755813887 0 5497558138870 0 -549755813887 0 -549755813887",
+    "c 4 -1044536046387 0 -549755813887 0 -54975581389 0 -54975581389 0",
+    "c 5 0 -1044536046387 0 -549755813887 0 -54975581389 0 -54975581389",
+    "c 6 54975581389 0 -549755813887 0 -54975581389 0 -54975581389 0",
+    "c 7 0 54975581389 0 -549755813887 0 -54975581389 0 -54975581389",
+    "act 15000 0 -6",
+    "act 15000 1 16",
+    "end",
+];
+
+// The lines with the one of this number changed, counted from 1.
+fn with_line(alloc: Global, at: usize, line: &str) -> Result<String, AllocError> {
+    let mut text = String::new(alloc);
+    let mut number: usize = 1;
+    for old in &LINES {
+        text.push_str(if number == at { line } else { old })?;
+        text.push_str("\n")?;
+        number = number.wrapping_add(1);
+    }
+    Ok(text)
+}
+
+// The sum of the centres, of each radius times its number, and of each entry times its row and its column.
+fn sums(claimed: &Claimed) -> (i128, i128, i128) {
+    let (mut centres, mut radii, mut entries): (i128, i128, i128) = (0, 0, 0);
+    let mut number: i128 = 0;
+    for part in &claimed.parts {
+        number = number.wrapping_add(1);
+        centres = centres.wrapping_add(part.centre);
+        radii = radii.wrapping_add(number.wrapping_mul(part.radius));
+    }
+    number = 0;
+    for place in 0..claimed.inverse.size() {
+        number = number.wrapping_add(1);
+        let mut column: i128 = 1;
+        for entry in claimed.inverse.row(place) {
+            column = column.wrapping_add(1);
+            entries = entries.wrapping_add(number.wrapping_mul(column).wrapping_mul(*entry));
+        }
+    }
+    (centres, radii, entries)
+}
+
+fn act(time: u64, control: u32, steps: i32) -> Act {
+    Act {
+        time,
+        control,
+        steps,
+        after: 0,
+    }
+}
+
+#[test]
+fn reads_a_certificate(rt: HostRuntime) -> Result<(), CertFileFault> {
+    let alloc = rt.alloc();
+    let text = with_line(alloc, 100, "")?;
+    let mut reader = CertReader::open(alloc, text.as_bytes())?;
+    let claimed = reader.next_block(alloc, 8)?;
+    assert_eq!(rt; sums(&claimed), (1550000000, 995, 10555311626464));
+    assert_eq!(rt; reader.finish()?, 1);
+    let acts = [act(15000, 0, -6), act(15000, 1, 16)];
+    assert_eq!(rt; reader.given(), 1);
+    if reader.given() == 1 {
+        assert_eq!(rt; reader.rule_line(0), 19);
+        assert!(rt; reader.acts_hold(0, &acts));
+        assert!(rt; !reader.acts_hold(0, &acts[..1]));
+        assert!(rt; !reader.acts_hold(0, &[act(15000, 0, -6), act(15000, 1, 15)]));
+    }
+    Ok(())
+}
+
+// The line and the rule of the first refusal: of the first line, of a block of 8 unknowns, or of the end.
+fn refusal(alloc: Global, text: &str) -> Result<(u64, Option<Rule>), CertFileFault> {
+    match read_all(alloc, text) {
+        Ok(count) => Ok((count, None)),
+        Err(CertFileFault::Refused { line, rule }) => Ok((line, Some(rule))),
+        Err(CertFileFault::NoMemory) => Err(CertFileFault::NoMemory),
+    }
+}
+
+fn read_all(alloc: Global, text: &str) -> Result<u64, CertFileFault> {
+    let mut reader = CertReader::open(alloc, text.as_bytes())?;
+    let _claimed = reader.next_block(alloc, 8)?;
+    reader.finish()
+}
+
+#[test]
+fn refuses_lines(rt: HostRuntime) -> Result<(), CertFileFault> {
+    let alloc = rt.alloc();
+    for (at, line, want) in [
+        (1, "cert 2", (1, Some(Rule::Grammar))),
+        (2, "solution 1 0 0", (2, Some(Rule::Grammar))),
+        (2, "solution 1 0 0 9", (11, Some(Rule::Grammar))),
+        (2, "solution 2 0 0 8", (2, Some(Rule::Size))),
+        (2, "end", (2, Some(Rule::Count))),
+        (5, "x 3 500000000 11 1", (5, Some(Rule::Grammar))),
+        (4, "x 1 0 020 0", (4, Some(Rule::Grammar))),
+        (10, "x 7 0 33 -0", (10, Some(Rule::Grammar))),
+        (11, "c 0 1 2 3 4 5 6 7", (11, Some(Rule::Grammar))),
+        (11, "c 0 1 2 3 4 5 6 7 8 9", (11, Some(Rule::Grammar))),
+        (20, "act 15000 1", (20, Some(Rule::Grammar))),
+        (20, "end", (21, Some(Rule::Grammar))),
+        (21, "solution 1 0 1 8", (21, Some(Rule::Count))),
+        (100, "", (1, None)),
+    ] {
+        let text = with_line(alloc, at, line)?;
+        assert!(rt; refusal(alloc, &text)? == want);
+    }
+    Ok(())
+}
+
+const CONSTANTS: [Constant; 1] = [Constant {
+    row: 0,
+    value: -100_000_000,
+}];
+
+// A siemens from a node to ground.
+fn siemens(alloc: Global) -> Result<Rows, AllocError>
+    ensures size { IfOk result (λ r. r.size ≡ 2) }
+    ensures loads { IfOk result (λ r. r.loads ≡ []) }
+{
+    let terms = vec![in alloc;
+        Term {
+            row: 0,
+            col: 0,
+            num: 1,
+            den: 1
+        },
+        Term {
+            row: 1,
+            col: 1,
+            num: 1,
+            den: 1
+        },
+    ]?;
+    Rows::of(alloc, 2, terms, Vec::new(alloc))
+}
+
+// It takes 100 ampere: 100 volt.
+fn network<'a>(rows: &'a Rows, rt: &impl Abort) -> Network<'a>
+    requires size { rows.now.size ≡ 2 }
+    requires loads { rows.now.loads ≡ [] }
+{
+    assert!(rt; rows.are_within());
+    let layout = Layout {
+        nodes: 1,
+        branches: 0,
+        magnitudes: 0,
+    };
+    Network::new(layout, rows, &CONSTANTS, 0)
+}
+
+// The centre of the first unknown in a certificate of this network with these lines of unknowns, or the refusal; and
+// the blocks that were given.
+fn solved(
+    alloc: Global,
+    rt: &impl Abort,
+    first: &str,
+    second: &str,
+) -> Result<((i128, u64, Option<Rule>), u64), CertFileFault> {
+    let mut text = String::new(alloc);
+    text.push_str("cert 1\nsolution 1 0 0 2\n")?;
+    text.push_str(first)?;
+    text.push_str(second)?;
+    text.push_str("c 0 1099511627776 0\nc 1 0 1099511627776\nend\n")?;
+    let rows = siemens(alloc)?;
+    let net = network(&rows, rt);
+    let limits = Limits {
+        max_iterations: 15,
+        tolerance: 100_000,
+    };
+    let mut reader = CertReader::open(alloc, text.as_bytes())?;
+    let answer = match reader.solve(alloc, &net, &limits) {
+        Ok(certified) => match certified.ball.centre.first() {
+            Some(centre) => (*centre, 0, None),
+            None => (0, 0, None),
+        },
+        Err(CertFileFault::Refused { line, rule }) => (0, line, Some(rule)),
+        Err(CertFileFault::NoMemory) => return Err(CertFileFault::NoMemory),
+    };
+    Ok((answer, reader.given()))
+}
+
+#[test]
+fn solves(rt: HostRuntime) -> Result<(), CertFileFault> {
+    let alloc = rt.alloc();
+    let second = "x 1 0 2001 0\n";
+    for (first, second, want) in [
+        (
+            "x 0 100001000 2001 1000\n",
+            second,
+            ((100001000, 0, None), 1),
+        ),
+        (
+            "x 0 100001000 -2001 1000\n",
+            second,
+            ((0, 3, Some(Rule::Range)), 0),
+        ),
+        (
+            "x 0 100001000 2001 -1\n",
+            second,
+            ((0, 3, Some(Rule::Mismatch)), 0),
+        ),
+        (
+            "x 0 100001000 2001 1000\n",
+            "x 1 0 2000 0\n",
+            ((0, 4, Some(Rule::Radius)), 0),
+        ),
+    ] {
+        assert!(rt; solved(alloc, &rt, first, second)? == want);
+    }
+    Ok(())
+}

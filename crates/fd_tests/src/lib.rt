@@ -1,0 +1,49 @@
+// Unit tests of the libraries: worked values, corners of inputs, and calls compared with the same work written plainly, for what the cases of
+// the top call don't reach.
+//
+// They stand in a crate of their own, since a crate with tests is proved twice: once as it is, once with its tests. Each module has the
+// tests of the library that it is named for.
+#![tactic(auto)]
+
+#[cfg(test)]
+mod arith;
+#[cfg(test)]
+mod bases;
+#[cfg(test)]
+mod cap;
+#[cfg(test)]
+mod capctl;
+#[cfg(test)]
+mod cert;
+#[cfg(test)]
+mod certfile;
+#[cfg(test)]
+mod devices;
+#[cfg(test)]
+mod equations;
+#[cfg(test)]
+mod generator;
+#[cfg(test)]
+mod inverse;
+#[cfg(test)]
+mod lexer;
+#[cfg(test)]
+mod mat;
+#[cfg(test)]
+mod network;
+#[cfg(test)]
+mod outside;
+#[cfg(test)]
+mod queue;
+#[cfg(test)]
+mod regctl;
+#[cfg(test)]
+mod sample;
+#[cfg(test)]
+mod shape;
+#[cfg(test)]
+mod slope;
+#[cfg(test)]
+mod source;
+#[cfg(test)]
+mod xfmr;

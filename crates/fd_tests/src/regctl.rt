@@ -1,0 +1,24 @@
+// Worked regulators.
+use fd_arith::TapPair;
+use fd_queue::{Queue, Verdict};
+use fd_regctl::RegState;
+use std::test::Fail;
+
+// Six steps up at 15 s; then one more after the shorter delay.
+#[test]
+fn a_regulator_moves_its_winding(rt: HostRuntime) -> Result<(), Fail> {
+    let mut state = RegState::new(0, 2, 625, 15000, 2000);
+    let mut first = Queue::with_room(rt.alloc(), 1)?;
+    let mut second = Queue::with_room(rt.alloc(), 1)?;
+    let mut taps = TapPair {
+        first: 100_000,
+        second: 100_000,
+    };
+    state.react(Verdict::Raise { steps: 6 }, 0, &mut first);
+    assert_eq!(rt; first.find(0).map(|entry| entry.time), Some(15000));
+    assert_eq!(rt; state.act(&mut taps), 6);
+    assert_eq!(rt; (taps.first, taps.second), (100_000, 103_750));
+    state.react(Verdict::Raise { steps: 1 }, 0, &mut second);
+    assert_eq!(rt; second.find(0).map(|entry| entry.time), Some(2000));
+    Ok(())
+}

@@ -1,0 +1,121 @@
+use fd_arith::{Conn, Ends, NodeAt, Nodes, TapPair, TermFault};
+use fd_xfmr::{XfmrData, xfmr_terms};
+use std::test::Fail;
+
+const GIGA: i128 = 1_000_000_000;
+
+// 2.4 kilovolt, 1000 kilovolt-ampere, 0.4 + j 1 percent: 0.02304 + j 0.0576 ohm, times the square of the tap 1.0375
+const RATIO: i128 = 249_000_000_000_000;
+
+const RESISTANCE: i128 = 248_004_000_000_000_000_000;
+
+const REACTANCE: i128 = 620_010_000_000_000_000_000;
+
+const NUMBERS: [(u32, u32, i128); 12] = [
+    (4, 0, RATIO),
+    (5, 1, RATIO),
+    (4, 2, -1),
+    (5, 3, -1),
+    (4, 4, -RESISTANCE),
+    (4, 5, REACTANCE),
+    (5, 4, -REACTANCE),
+    (5, 5, -RESISTANCE),
+    (0, 4, RATIO),
+    (1, 5, RATIO),
+    (2, 4, -1),
+    (3, 5, -1),
+];
+
+#[test]
+fn one_phase(rt: HostRuntime) -> Result<(), Fail> {
+    let alloc = rt.alloc();
+    let at = Ends {
+        first: Nodes::new(vec![in alloc; NodeAt::Node(0), NodeAt::Ground]?),
+        second: Nodes::new(vec![in alloc; NodeAt::Node(1), NodeAt::Ground]?),
+        branch: 2,
+    };
+    let xfmr = XfmrData {
+        phases: 1,
+        conn: [Conn::Wye, Conn::Wye],
+        kv: [2_400_000_000, 2_400_000_000],
+        kva: 1000 * GIGA,
+        pct_r: [200_000_000, 200_000_000],
+        xhl: GIGA,
+    };
+    let taps = TapPair {
+        first: 100_000,
+        second: 103_750,
+    };
+    let terms = xfmr_terms(alloc, &xfmr, taps, &at)?;
+    assert_eq!(rt; terms.len(), NUMBERS.len());
+    for (term, number) in terms.iter().zip(NUMBERS) {
+        assert_eq!(rt; (term.row, term.col, term.num), number);
+    }
+    assert_eq!(rt; terms[0].den, 240_000_000_000_000);
+    Ok(())
+}
+
+// 115 kilovolt in delta and 4.16 kilovolt in wye, 5000 kilovolt-ampere, 0.001 + j 0.008 percent: 2401.77712 volt and
+// 0.0000346112 + j 0.0002768896 ohm in a phase, and phase 1 joins nodes 1 and 3 of the higher side
+#[test]
+fn delta_wye(rt: HostRuntime) -> Result<(), Fail> {
+    let alloc = rt.alloc();
+    let first = vec![in alloc; NodeAt::Node(0), NodeAt::Node(1), NodeAt::Node(2)]?;
+    let second = vec![in alloc; NodeAt::Node(3), NodeAt::Node(4), NodeAt::Node(5)]?;
+    let at = Ends {
+        first: Nodes::new(first),
+        second: Nodes::new(second),
+        branch: 6,
+    };
+    let xfmr = XfmrData {
+        phases: 3,
+        conn: [Conn::Delta, Conn::Wye],
+        kv: [115 * GIGA, 4_160_000_000],
+        kva: 5000 * GIGA,
+        pct_r: [500_000, 500_000],
+        xhl: 8_000_000,
+    };
+    let taps = TapPair {
+        first: 100_000,
+        second: 100_000,
+    };
+    let terms = xfmr_terms(alloc, &xfmr, taps, &at)?;
+    assert_eq!(rt; terms.len(), 48);
+    let (own, before) = (terms[0], terms[2]);
+    assert_eq!(rt; (own.row, own.col, own.num), (12, 0, 240_177_712_000_000));
+    assert_eq!(rt; own.den, 11_500_000_000_000_000);
+    assert_eq!(rt;
+        (before.row, before.col, before.num),
+        (12, 4, -240_177_712_000_000)
+    );
+    let (r, x) = (terms[6], terms[7]);
+    assert_eq!(rt; r.num, -346_112_000_000_000_000);
+    assert_eq!(rt; (x.col, x.num), (13, 2_768_896_000_000_000_000));
+    Ok(())
+}
+
+// 1000 kilovolt over 0.01 kilovolt is past 2^14
+#[test]
+fn out_of_range(rt: HostRuntime) -> Result<(), Fail> {
+    let alloc = rt.alloc();
+    let at = Ends {
+        first: Nodes::new(vec![in alloc; NodeAt::Node(0), NodeAt::Ground]?),
+        second: Nodes::new(vec![in alloc; NodeAt::Node(1), NodeAt::Ground]?),
+        branch: 2,
+    };
+    let xfmr = XfmrData {
+        phases: 1,
+        conn: [Conn::Wye, Conn::Wye],
+        kv: [10_000_000, 1000 * GIGA],
+        kva: 1000 * GIGA,
+        pct_r: [0, 0],
+        xhl: GIGA,
+    };
+    let taps = TapPair {
+        first: 100_000,
+        second: 100_000,
+    };
+    let fault = xfmr_terms(alloc, &xfmr, taps, &at).err();
+    assert_eq!(rt; fault, Some(TermFault::Range));
+    Ok(())
+}
