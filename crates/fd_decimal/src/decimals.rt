@@ -35,13 +35,13 @@ fn nine_digits(n: u32) -> [u8; 9]
 }
 
 // The number of units that are one.
-fn units_per_one(places: u32) -> u128
+fn units_per_one(places: u32) -> u64
     requires { places ≤ 9 }
     ensures value { result ≡ 10 ^ places }
     ensures positive { 0 < result }
     ensures most { result ≤ 10 ^ 9 }
 {
-    10u128.pow(places)
+    10u64.pow(places)
 }
 
 // Adds the last digits, so many.
@@ -52,12 +52,28 @@ fn push_digits(text: &mut Vec<u8>, places: u32, n: u32) -> Result<(), AllocError
     text.extend_from_slice(&nine_digits(n)[(9 - places) as usize..])
 }
 
+// The same as `push_fixed` for so many units in 64 bits.
+#[tactic(auto, unfolding(crate::specs::Decimals::fixed_text))]
+fn push_short(text: &mut Vec<u8>, places: u32, n: u64) -> Result<(), AllocError>
+    requires { places ≤ 9 }
+    ensures { OnOk result (text.new.items ≡ text.old.items ++ fixed_text places n) }
+{
+    let one = units_per_one(places);
+    let mut whole = Buffer::new();
+    text.extend_from_slice(whole.format(n / one).as_bytes())?;
+    text.push(b'.')?;
+    push_digits(text, places, (n % one) as u32)
+}
+
 #[tactic(auto, unfolding(crate::specs::Decimals::fixed_text))]
 fn push_fixed(text: &mut Vec<u8>, places: u32, n: u128) -> Result<(), AllocError>
     requires { places ≤ 9 }
     ensures { OnOk result (text.new.items ≡ text.old.items ++ fixed_text places n) }
 {
-    let one = units_per_one(places);
+    if n <= u64::MAX as u128 {
+        return push_short(text, places, n as u64);
+    }
+    let one = units_per_one(places) as u128;
     let mut whole = Buffer::new();
     text.extend_from_slice(whole.format(n / one).as_bytes())?;
     text.push(b'.')?;
