@@ -3,4 +3,5 @@ pub mod Lists
 pub mod Printing
 pub mod Ways
 pub mod Asked
+pub mod Given
 pub mod CallerLemmas
