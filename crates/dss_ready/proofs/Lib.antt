@@ -1,6 +1,5 @@
 pub mod Noted
 pub mod Blaming
-pub mod Above
 pub mod Limits
 pub mod Answering
 pub mod Passing

@@ -1,7 +1,6 @@
 pub mod Mentions
 pub mod Noted
 pub mod Lookups
-pub mod Sources
 pub mod Ranges
 pub mod Counts
 pub mod Support

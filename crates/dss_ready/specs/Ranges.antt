@@ -16,11 +16,11 @@ use Rattle.dss_profile.specs.declared.names.ElementName.{ElementName}
 use Rattle.dss_circuit.specs.Circuit.{Elements}
 use Rattle.dss_ready.specs.Mentions.{is_winding_controlled}
 use Rattle.dss_ready.specs.Lookups.{element_given, phases_given}
-use Rattle.dss_ready.specs.Sources.{is_above_limit}
+use Rattle.fd_arith.specs.ShortCircuit.{is_source_above_limit}
 
 -- a source that isn't given in ohms has at most 10^4 ohm for three phases and for one
 abbrev pub is_source_outside_by : SourceForm → Vsource → Bool
-is_source_outside_by form.ShortCircuit source = is_above_limit source.basekv source.mvasc3 || is_above_limit source.basekv source.mvasc1
+is_source_outside_by form.ShortCircuit source = is_source_above_limit source.basekv source.mvasc3 source.mvasc1
 is_source_outside_by form.Ohms source = false
 
 abbrev pub is_source_outside : Vsource → Bool

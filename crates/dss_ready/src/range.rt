@@ -3,7 +3,6 @@ ghost use Rattle.std.specs.Prelude.{◌≡◌, IfOk};
 ghost use Rattle.dss_circuit.specs.Circuit.{Elements};
 ghost use Rattle.dss_ready.specs.Noted.{Notes};
 ghost use Rattle.dss_ready.specs.Ranges.{is_source_outside, is_step_outside, is_tap_outside, is_phase_outside, are_settings_outside, is_winding_outside, is_transformer_outside, is_regcontrol_outside, is_capcontrol_outside, is_outside_by};
-ghost use Rattle.dss_ready.specs.Sources.{is_above_limit};
 
 use crate::lookup::{Elements, find_given, phases_to_measure};
 use crate::mention::Mentions;
@@ -12,33 +11,15 @@ use dss_profile::{
     CapControl, Class, ControlQuantity, Element, ElementName, RegControl, SourceForm, Transformer,
     Vsource, Winding,
 };
+use fd_arith::is_source_above_limit;
 use std::alloc::AllocError;
-
-/// The limit of the impedance of a source, in 10^-9 ohm.
-const LIMIT: u128 = 10_000_000_000_000;
-
-/// Whether a source with this nominal voltage, in 10^-9 kV, and this short-circuit power, in 10^-9 MVA, has more than
-/// 10^4 ohm.
-pub fn is_above_source_limit(basekv: i128, mva: i128) -> bool
-    ensures { result ≡ is_above_limit basekv mva }
-{
-    let volts = basekv.unsigned_abs();
-    let power = mva.unsigned_abs();
-    if power == 0 {
-        return false;
-    }
-    let (low, high) = volts.carrying_mul(volts, 0);
-    let (least_low, least_high) = (LIMIT + 1).carrying_mul(power, 0);
-    high > least_high || (high == least_high && low >= least_low)
-}
 
 fn is_source_range_fault(source: &Vsource) -> bool
     ensures { result ≡ is_source_outside source.now }
 {
     match source.form {
         SourceForm::ShortCircuit => {
-            is_above_source_limit(source.basekv, source.mvasc3)
-                || is_above_source_limit(source.basekv, source.mvasc1)
+            is_source_above_limit(source.basekv, source.mvasc3, source.mvasc1)
         }
         SourceForm::Ohms => false,
     }

@@ -9,3 +9,4 @@ pub mod Products
 pub mod Quotients
 pub mod Roots
 pub mod Nearest
+pub mod ShortCircuit

@@ -8,7 +8,8 @@
 // Modules: `grid` (the units), `limit` (2^120), `interval` and `multiply` (intervals), `fix` (numbers to the nearest),
 // `divide` (quotients, areas, squares and roots), `division` and `quotient` (whole quotients, in units of 2^-40 too),
 // `rounding` (the one body of each rounding of numbers that fit 128 bits), `bounded` (whole numbers), `enclose` and
-// `cx` (what both arithmetics share), `terms` (the words of contributions and terminals).
+// `cx` (what both arithmetics share), `terms` (the words of contributions and terminals), `short_circuit` (the limit of
+// a source's impedance).
 #![tactic(auto)]
 
 mod bounded;
@@ -23,6 +24,7 @@ mod limit;
 mod multiply;
 mod quotient;
 mod rounding;
+mod short_circuit;
 mod terms;
 
 pub use bounded::Wide;
@@ -33,4 +35,5 @@ pub use grid::{Coef, Grid, Micro, Square, grid_law};
 pub use interval::Interval;
 pub use quotient::{ceil_at, floor_at, isqrt, near_at};
 pub use rounding::{floor_of_product, near_over_coef, near_quotient, near_units};
+pub use short_circuit::is_source_above_limit;
 pub use terms::{Conn, Ends, NodeAt, Nodes, TapPair, Term, TermFault};

@@ -1,24 +1,22 @@
 -- The impedances of a source by its short-circuit powers.
-use Rattle.std.specs.Prelude.{ℕ, zero, suc, ◌+◌, ◌*◌, ◌/◌, ◌%◌, ◌<◌, ◌≤◌, ◌^◌, ◌≡◌, ℤ, pos, ◌≤ℤ◌, nat_abs, nat_le, Bool, if◌then◌else◌, ◌⊎◌}
+use Rattle.std.specs.Prelude.{ℕ, zero, suc, ◌+◌, ◌*◌, ◌/◌, ◌%◌, ◌≤◌, ◌^◌, ◌≡◌, ℤ, pos, ◌≤ℤ◌, nat_abs, nat_le, Bool, IsTrue, if◌then◌else◌, ◌⊎◌}
 use Rattle.fd_exact.specs.Ranges.{UpTo}
+use Rattle.fd_arith.specs.ShortCircuit.{is_source_above_limit, short_circuit_ohms}
 use Rattle.fd_source.specs.declared.data.Ohms.{Ohms}
 use Rattle.fd_source.specs.declared.data.ShortCircuit.{ShortCircuit}
 
 -- ---- the sizes of the impedances
 
--- kV^2 / MVA in 10^-9 ohm, rounded down: the voltage in 10^-9 kilovolt, the power in 10^-9 megavolt-ampere
-abbrev pub size_of : ℤ → ℤ → ℕ
-size_of kv mva = nat_abs kv * nat_abs kv / nat_abs mva
-
+-- kV^2 / MVA for three phases and for one, in 10^-9 ohm
 abbrev pub three_phase_size : ShortCircuit → ℕ
-three_phase_size s = size_of s.basekv s.mvasc3
+three_phase_size s = short_circuit_ohms s.basekv s.mvasc3
 
 abbrev pub one_phase_size : ShortCircuit → ℕ
-one_phase_size s = size_of s.basekv s.mvasc1
+one_phase_size s = short_circuit_ohms s.basekv s.mvasc1
 
 -- one of them is above 10^4 ohm
 abbrev pub IsPast : ShortCircuit → Type 0
-IsPast s = (10 ^ 13 < three_phase_size s) ⊎ (10 ^ 13 < one_phase_size s)
+IsPast s = IsTrue (is_source_above_limit s.basekv s.mvasc3 s.mvasc1)
 
 -- ---- resistances and reactances
 

@@ -1,14 +1,12 @@
 // The impedances of a source by its short-circuit powers.
 ghost use Rattle.std.specs.Prelude.{◌≡◌, ℕ, ◌*◌, ◌/◌, ◌<◌, ◌≤◌, ◌^◌, ℤ, pos, ◌≤ℤ◌, nat_abs, IfOk, IfErr, ◌↔◌};
 ghost use Rattle.fd_exact.specs.Ranges.{UpTo};
-ghost use Rattle.fd_source.specs.Powers.{AreWithin, KeepsSize, IsGreatest, IsPast, IsShortCircuit, ohms_of as ohms_by, one_phase_size, ratio_of, reactance_by, size_of, three_phase_size};
+ghost use Rattle.fd_arith.specs.ShortCircuit.{most_source_ohms, short_circuit_ohms};
+ghost use Rattle.fd_source.specs.Powers.{AreWithin, KeepsSize, IsGreatest, IsPast, IsShortCircuit, ohms_of as ohms_by, one_phase_size, ratio_of, reactance_by, three_phase_size};
 
 use crate::data::{Ohms, ShortCircuit};
 use crate::resistance::{SizeLimit, greatest_resistance};
-use fd_arith::TermFault;
-
-// 10^4 ohm
-const MOST: u128 = 10_000_000_000_000;
+use fd_arith::{TermFault, is_source_above_limit};
 
 /// The sequence impedances of a source with these short-circuit powers (OpenDSS manual, Vsource; the rounding is this profile's). R1 is the greatest multiple of 10^-9 ohm for which
 /// R1 + j X1R1 R1 is at most kV^2 / MVAsc3 in size, R0 the greatest from 0 up for which 2 (R1 + j X1) + R0 + j X0R0 R0 is at most
@@ -23,11 +21,11 @@ pub fn source_ohms(source: &ShortCircuit) -> Result<Ohms, TermFault>
     ensures range { result ≡ Err TermFault.Range ↔ IsPast source.now }
     ensures takes_no_memory { IfErr result (λ e. e ≡ TermFault.Range) }
 {
-    let three = size(source.basekv, source.mvasc3);
-    let one = size(source.basekv, source.mvasc1);
-    if three > MOST || one > MOST {
+    if is_source_above_limit(source.basekv, source.mvasc3, source.mvasc1) {
         return Err(TermFault::Range);
     }
+    let three = size(source.basekv, source.mvasc3);
+    let one = size(source.basekv, source.mvasc1);
     Ok(ohms_from(source, three, one))
 }
 
@@ -36,7 +34,7 @@ fn size(kv: i128, mva: i128) -> u128
     requires kv_least { pos 0 ≤ℤ kv }
     requires kv_most { kv ≤ℤ pos (10 ^ 12) }
     requires mva { pos (10 ^ 6) ≤ℤ mva }
-    ensures { result ≡ size_of kv mva }
+    ensures { result ≡ short_circuit_ohms kv mva }
 {
     kv.unsigned_abs() * kv.unsigned_abs() / mva.unsigned_abs()
 }
@@ -45,8 +43,8 @@ fn ohms_from(source: &ShortCircuit, three: u128, one: u128) -> Ohms
     requires source { IsShortCircuit source.now }
     requires three { three ≡ three_phase_size source.now }
     requires one { one ≡ one_phase_size source.now }
-    requires three_most { three ≤ 10 ^ 13 }
-    requires one_most { one ≤ 10 ^ 13 }
+    requires three_most { three ≤ most_source_ohms }
+    requires one_most { one ≤ most_source_ohms }
     ensures ohms { result ≡ ohms_by source.now }
     ensures within { AreWithin result }
 {

@@ -2,8 +2,8 @@ use Rattle.std.proofs.Common.{◌∙◌, ap, arith}
 use Rattle.std.proofs.lemmas.Int.{to_z-of_z}
 use Rattle.std.specs.Prelude.{nat_abs}
 use Rattle.std.specs.Int.{w128}
-use Rattle.dss_ready.proofs.Above.{by_high, by_equal, by_less}
-use Rattle.dss_ready.proofs.range.is_above_source_limit.Goals as goal
+use Rattle.fd_arith.proofs.Above.{by_high, by_equal, by_less}
+use Rattle.fd_arith.proofs.short_circuit.is_above.Goals as goal
 
 pub returns-then-high-least_high : goal.returns-then-high-least_high
 returns-then-high-least_high c =
