@@ -1,8 +1,10 @@
 -- What a caller needs to know of a layout.
-use Rattle.std.proofs.Common.{◌≡◌, ℕ, zero, suc, ◌+◌, ◌<◌, ◌≤◌, nat_lt, Bool, true, false, if◌then◌else◌, [], ◌∷◌, ◌++◌, length, take, slice_get, slice_index, sum_by, Contains, Option, Some, None, Ok, Err, refl, sym, ap, ◌∙◌, append_assoc, add-zero, arith}
+use Rattle.std.proofs.Common.{◌≡◌, ℕ, zero, suc, ◌+◌, ◌<◌, ◌≤◌, nat_lt, Bool, true, false, [], ◌∷◌, length, take, slice_get, slice_index, sum_by, Contains, Option, is_some, Some, None, Ok, Err, refl, sym, ap, ◌∙◌, add-zero, arith}
 use Rattle.std.proofs.lemmas.Bool.{or_parts, ltb-false}
-use Rattle.std.proofs.lemmas.List.{append-nil}
+use Rattle.std.proofs.lemmas.List.{take_all}
 use Rattle.std.proofs.lemmas.List.Sums.{sum_by-cons}
+use Rattle.fd_exact.specs.First.{first_place}
+use Rattle.fd_exact.specs.FirstLaws.{found as first_found}
 use Rattle.dss_profile.specs.declared.element.Element.{Element}
 use Rattle.dss_profile.specs.declared.names.ElementName.{ElementName}
 use Rattle.dss_layout.specs.declared.nodes.NodeName.{NodeName}
@@ -10,7 +12,7 @@ use Rattle.dss_layout.specs.declared.limits.LayoutFault.TheVariants.{TooMany}
 use Rattle.dss_layout.specs.Nodes.{number_in}
 use Rattle.dss_layout.specs.Terminals.{mentions}
 use Rattle.dss_layout.specs.Limits.{most_complex, most_magnitudes}
-use Rattle.dss_layout.specs.Layout.{Elements, LayoutView, complex_count, layout_of, nodes_of, laid_out, laid_out_unless, first_too_many, first_past, passes_limit, sums_before}
+use Rattle.dss_layout.specs.Layout.{Elements, LayoutView, complex_count, layout_of, nodes_of, laid_out, laid_out_unless, first_too_many, is_past_limit_at, passes_limit, sums_before}
 use Rattle.dss_layout.proofs.Membership.{in_from_contains, in_from_get}
 use Rattle.dss_layout.proofs.Noted.{found}
 pub use Rattle.dss_layout.proofs.Among.{both_parts, mentions_among}
@@ -38,18 +40,26 @@ by_fault (Some j) es k h = cc
 pub first_from_laid_out : (es : Elements) (k : ℕ) → laid_out es ≡ Err (TooMany k) → first_too_many es ≡ Some k
 first_from_laid_out es k h = by_fault (first_too_many es) es k h
 
-none_past : (before rest : Elements) → first_past before rest ≡ None → passes_limit (layout_of before) ≡ false → passes_limit (layout_of (before ++ rest)) ≡ false
-none_past before [] h low = ap (λ l. passes_limit (layout_of l)) (append-nil before) ∙ low
-none_past before (e ∷ rest) h low = by (passes_limit (layout_of (before ++ e ∷ []))) refl h (none_past (before ++ e ∷ []) rest)
+none_below : (p : ℕ → Bool) (n k : ℕ) → first_place p n ≡ None → k < n → p k ≡ false
+none_below p n k h low = by (p k) refl
   where
-    by : (b : Bool) → passes_limit (layout_of (before ++ e ∷ [])) ≡ b → (if b then Some (length before) else first_past (before ++ e ∷ []) rest) ≡ None
-        → (first_past (before ++ e ∷ []) rest ≡ None → passes_limit (layout_of (before ++ e ∷ [])) ≡ false → passes_limit (layout_of ((before ++ e ∷ []) ++ rest)) ≡ false) → passes_limit (layout_of (before ++ e ∷ rest)) ≡ false
-    by true t g later = cc
-    by false t g later = ap (λ l. passes_limit (layout_of l)) (sym (append_assoc before (e ∷ []) rest)) ∙ later g t
+    by : (b : Bool) → p k ≡ b → p k ≡ false
+    by false e = e
+    by true e =
+        let there = first_found p n k low e in
+        let none : is_some (first_place p n) ≡ false = ap is_some h in
+        cc
+
+-- where no element passes a limit, the layout of all passes none
+pub no_limit_passed : (es : Elements) → first_too_many es ≡ None → passes_limit (layout_of es) ≡ false
+no_limit_passed [] h = refl
+no_limit_passed (e ∷ rest) h =
+    ap (λ l. passes_limit (layout_of l)) (sym (take_all (length rest + 1) (e ∷ rest) (omega arith)))
+    ∙ none_below (is_past_limit_at (e ∷ rest)) (suc (length rest)) (length rest) h (omega arith)
 
 -- a layout passes no limit
 pub within_limits : (es : Elements) (v : LayoutView) → laid_out es ≡ Ok v → passes_limit v ≡ false
-within_limits es v h = ap passes_limit (layout_from_laid_out es v h) ∙ none_past [] es (none_from_laid_out es v h) refl
+within_limits es v h = ap passes_limit (layout_from_laid_out es v h) ∙ no_limit_passed es (none_from_laid_out es v h)
 
 -- a layout has a place for each element
 pub length-sums_before : (f : Element → ℕ) (s : ℕ) (es : Elements) → length (sums_before f s es) ≡ length es
@@ -68,10 +78,6 @@ slice_index-sums_before f s (e ∷ es) (suc i) h =
 -- a node that an element mentions has its number
 pub mentioned_at : (es : Elements) (i : ℕ) (e : ElementName × Element) (m : NodeName) → slice_get es i ≡ Some e → Contains (mentions e.1) m → slice_get (nodes_of es) (number_in (nodes_of es) m) ≡ Some m
 mentioned_at es i e m h c = found es e m (in_from_get es i e h) (in_from_contains (mentions e.1) m c)
-
--- where no element passes a limit, the layout of all passes none
-pub no_limit_passed : (es : Elements) → first_too_many es ≡ None → passes_limit (layout_of es) ≡ false
-no_limit_passed es h = none_past [] es h refl
 
 limits_kept : (es : Elements) → first_too_many es ≡ None → (complex_count (layout_of es) ≤ most_complex) × (length (layout_of es).magnitudes ≤ most_magnitudes)
 limits_kept es h =

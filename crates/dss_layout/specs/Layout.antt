@@ -1,11 +1,12 @@
 -- The order of the unknowns: nodes in order of first mention, then branch phases, then magnitudes of constant-current loads.
-use Rattle.std.specs.Prelude.{◌≡◌, ℕ, ◌+◌, ◌*◌, ◌==◌, nat_lt, Bool, ◌||◌, List, [], ◌∷◌, ◌++◌, length, map, Option, Some, None, Result, Ok, Err, if◌then◌else◌, slice_index}
+use Rattle.std.specs.Prelude.{◌≡◌, ℕ, ◌+◌, ◌*◌, ◌==◌, nat_lt, Bool, ◌||◌, List, [], ◌∷◌, ◌++◌, length, map, take, Option, Some, None, Result, Ok, Err, if◌then◌else◌, slice_index}
 use Rattle.std.specs.List.{flat_map, range_with_len}
 use Rattle.dss_profile.specs.declared.element.Element.{Element}
 use Rattle.dss_profile.specs.declared.element.Element.TheVariants as the
 use Rattle.dss_profile.specs.declared.names.ElementName.{ElementName}
 use Rattle.dss_layout.specs.declared.nodes.NodeName.{NodeName}
 use Rattle.dss_layout.specs.declared.nodes.PhaseName.{PhaseName}
+use Rattle.fd_exact.specs.First.{first_place}
 use Rattle.fd_arith.specs.declared.terms.Ends.{Ends}
 use Rattle.dss_layout.specs.declared.limits.LayoutFault.{LayoutFault}
 use Rattle.dss_layout.specs.declared.limits.LayoutFault.TheVariants.{TooMany, NoMemory}
@@ -81,14 +82,13 @@ complex_count layout = length layout.nodes + length layout.branches
 abbrev pub passes_limit : LayoutView → Bool
 passes_limit layout = nat_lt most_complex (complex_count layout) || nat_lt most_magnitudes (length layout.magnitudes)
 
--- the first of the rest with which, those before included, a limit is passed
-abbrev pub first_past : Elements → Elements → Option ℕ
-first_past before [] = None
-first_past before (e ∷ rest) = if passes_limit (layout_of (before ++ e ∷ [])) then Some (length before) else first_past (before ++ e ∷ []) rest
+-- a limit is passed by the elements up to the one at this place in order
+abbrev pub is_past_limit_at : Elements → ℕ → Bool
+is_past_limit_at elements place = passes_limit (layout_of (take (place + 1) elements))
 
 -- the place in order of the first element with which a limit is passed
 abbrev pub first_too_many : Elements → Option ℕ
-first_too_many elements = first_past [] elements
+first_too_many elements = first_place (is_past_limit_at elements) (length elements)
 
 abbrev pub laid_out_unless : Option ℕ → Elements → Result LayoutView LayoutFault
 laid_out_unless None elements = Ok (layout_of elements)
