@@ -12,7 +12,7 @@ ghost use Rattle.std.specs.List.{IsDistinct};
 
 use crate::elements::{Elements, edit_element, make_element, no_elements};
 use crate::keys::{check_circuit, key_to_edit, key_to_make};
-use dss_profile::{Command, Element, ElementName, ModelFault, Options, Verb};
+use dss_profile::{Command, Element, ElementName, ModelError, Options, Verb};
 use indexmap::IndexMap;
 use std::alloc::Global;
 use std::marker::Model;
@@ -60,7 +60,7 @@ impl Circuit {
     /// Does one command: it is one step of the fold. After a refusal the circuit is as before, and the refusal is the
     /// first in this order: the class and the name are written as such, the class, the circuit, the element, then the
     /// pairs from left to right. A Solve sets its pairs as options and is counted, and does no more.
-    pub fn apply(&mut self, alloc: Global, command: &Command) -> Result<(), ModelFault>
+    pub fn apply(&mut self, alloc: Global, command: &Command) -> Result<(), ModelError>
         requires solves { self.old.solves < 2 ^ 32 - 1 }
         requires room { length self.old.elements < most_elements }
         ensures { Becomes self.old self.new result (applied command.now self.old) }
@@ -99,7 +99,7 @@ impl Circuit {
                 self.options = Options::start(alloc);
                 Ok(())
             }
-            Verb::Bases => check_circuit(is_begun(&self.elements)),
+            Verb::Bases => Ok(check_circuit(is_begun(&self.elements))?),
         }
     }
 

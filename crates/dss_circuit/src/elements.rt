@@ -13,7 +13,7 @@ ghost use Rattle.dss_profile.specs.InRange.{ElementInRange};
 ghost use Rattle.dss_circuit.specs.InRange.{AllInRange};
 
 use dss_lexer::Pair;
-use dss_profile::{Class, Element, ElementName, ModelFault, Place, referred_element};
+use dss_profile::{Class, Element, ElementName, ModelError, ModelFault, Place, referred_element};
 use indexmap::IndexMap;
 use std::alloc::{AllocError, Global};
 
@@ -61,7 +61,7 @@ fn find_referred<'a>(
     elements: &'a Elements,
     class: Class,
     pair: &Pair,
-) -> Result<Option<&'a Element>, ModelFault>
+) -> Result<Option<&'a Element>, ModelError>
     requires in_range { AllInRange elements.now.entries }
     ensures found { Gives (λ found. option_copied found) result (referred elements.now.entries class pair.now) }
     ensures in_range { IfOk result (λ found. IfSome (option_copied found) ElementInRange) }
@@ -80,7 +80,7 @@ fn set_pairs(
     class: Class,
     draft: &mut Element,
     pairs: &[Pair],
-) -> Result<(), ModelFault>
+) -> Result<(), ModelError>
     requires in_range { AllInRange elements.now.entries }
     requires draft_in_range { ElementInRange draft.old }
     ensures set { Makes draft.new result (with_pairs solves elements.now.entries class pairs.now draft.old) }
@@ -102,7 +102,7 @@ fn put_element(
     name: ElementName,
     element: Element,
     pairs: &[Pair],
-) -> Result<(), ModelFault>
+) -> Result<(), ModelError>
     requires in_range { AllInRange elements.old.entries }
     requires well_formed { AreWellFormed elements.old.entries }
     requires element_in_range { ElementInRange element }
@@ -129,7 +129,7 @@ pub fn make_element(
     place: &Place,
     name: ElementName,
     pairs: &[Pair],
-) -> Result<(), ModelFault>
+) -> Result<(), ModelError>
     requires in_range { AllInRange elements.old.entries }
     requires well_formed { AreWellFormed elements.old.entries }
     requires key { IsKey name }
@@ -140,7 +140,7 @@ pub fn make_element(
     ensures well_formed { AreWellFormed elements.new.entries }
 {
     if find_element(elements, &name).is_some() {
-        return Err(ModelFault::Duplicate);
+        return Err(ModelError::Fault(ModelFault::Duplicate));
     }
     let element = Element::fresh(alloc, name.class, copied_place(place)?, solves)?;
     put_element(alloc, solves, elements, name, element, pairs)
@@ -154,7 +154,7 @@ pub fn edit_element(
     elements: &mut Elements,
     name: ElementName,
     pairs: &[Pair],
-) -> Result<(), ModelFault>
+) -> Result<(), ModelError>
     requires in_range { AllInRange elements.old.entries }
     requires well_formed { AreWellFormed elements.old.entries }
     requires key { IsKey name }
@@ -165,7 +165,7 @@ pub fn edit_element(
 {
     let draft = match find_element(elements, &name) {
         Some(element) => element.copied()?,
-        None => return Err(ModelFault::UnknownName),
+        None => return Err(ModelError::Fault(ModelFault::UnknownName)),
     };
     put_element(alloc, solves, elements, name, draft, pairs)
 }

@@ -6,7 +6,7 @@ ghost use Rattle.dss_values.specs.Names.{named};
 ghost use Rattle.dss_circuit.specs.Keys.{source_name, written, needed, element_key, edit_key, made_key, new_key};
 
 use dss_lexer::Text;
-use dss_profile::{Class, ElementName, ModelFault, class_named, is_legal_name};
+use dss_profile::{Class, ElementName, ModelError, ModelFault, class_named, is_legal_name};
 use std::alloc::{AllocError, Global};
 
 // The source that New Circuit makes.
@@ -26,17 +26,17 @@ fn is_circuit(class: &str) -> bool
 }
 
 // Whether a class and a name are written as such.
-fn check_written(alloc: Global, class: &Text, name: &Text) -> Result<(), ModelFault>
+fn check_written(alloc: Global, class: &Text, name: &Text) -> Result<(), ModelError>
     ensures { Gives (λ done. done) result (written class.now name.now) }
 {
     if class.is_empty() {
-        return Err(ModelFault::BadValue);
+        return Err(ModelError::Fault(ModelFault::BadValue));
     }
     let characters = name.characters(alloc)?;
     if is_legal_name(&characters) {
         Ok(())
     } else {
-        Err(ModelFault::BadValue)
+        Err(ModelError::Fault(ModelFault::BadValue))
     }
 }
 
@@ -57,7 +57,7 @@ fn find_key(
     class: &str,
     name: &Text,
     has_circuit: bool,
-) -> Result<ElementName, ModelFault>
+) -> Result<ElementName, ModelError>
     ensures { Gives (λ key. key) result (element_key class.now name.now has_circuit) }
 {
     let class = class_named(class).ok_or(ModelFault::UnknownClass)?;
@@ -74,7 +74,7 @@ pub fn key_to_edit(
     class: &Text,
     name: &Text,
     has_circuit: bool,
-) -> Result<ElementName, ModelFault>
+) -> Result<ElementName, ModelError>
     ensures { Gives (λ key. key) result (edit_key class.now name.now has_circuit) }
 {
     check_written(alloc, class, name)?;
@@ -87,7 +87,7 @@ fn find_new_key(
     class: &str,
     name: &Text,
     has_circuit: bool,
-) -> Result<ElementName, ModelFault>
+) -> Result<ElementName, ModelError>
     ensures { Gives (λ key. key) result (made_key class.now name.now has_circuit) }
 {
     if is_circuit(class) {
@@ -102,7 +102,7 @@ pub fn key_to_make(
     class: &Text,
     name: &Text,
     has_circuit: bool,
-) -> Result<ElementName, ModelFault>
+) -> Result<ElementName, ModelError>
     ensures { Gives (λ key. key) result (new_key class.now name.now has_circuit) }
 {
     check_written(alloc, class, name)?;

@@ -16,7 +16,7 @@ pub use circuit::Circuit;
 pub use dss_profile::{
     BankState, Blame, Bus, CapControl, Capacitor, Class, Command, Connection, ControlMode,
     ControlQuantity, DataForm, Element, ElementName, LeadLag, Line, Linecode, Load, Loadshape,
-    Mode, ModelFault, Nodes, Numbers, Options, Place, ReactiveRule, RegControl, SourceForm,
-    StepSize, Transformer, Units, Verb, Vsource, Winding,
+    Mode, ModelError, ModelFault, Nodes, Numbers, Options, Place, ReactiveRule, RegControl,
+    SourceForm, StepSize, Transformer, Units, Verb, Vsource, Winding,
 };
 pub use elements::find_element;

@@ -1,7 +1,8 @@
 -- Steps along a list whose elements are read one by one.
 use Rattle.std.proofs.Common.{◌≡◌, ◌∙◌, ℕ, zero, suc, ◌+◌, ◌<◌, ◌≤◌, Bool, true, false, List, [], ◌∷◌, ◌++◌, length, drop, get_or, map, refl, sym, ap, arith, Ok, Err, Result, add-one, drop-cons, append_assoc, append-nil}
 use Rattle.dss_lexer.specs.declared.fault.LexFault.{LexFault}
-use Rattle.dss_lexer.specs.declared.fault.LexFault.TheVariants as fault
+use Rattle.dss_lexer.specs.declared.fault.LexError.{LexError}
+use Rattle.dss_lexer.specs.declared.fault.LexError.TheVariants as error
 use Rattle.dss_lexer.specs.Answers.{Fails, ◌>>=◌, each}
 
 -- what is found first, and what is found in the rest
@@ -18,25 +19,9 @@ joined front y (Ok ys) = ap Ok (append_assoc front (y ∷ []) ys)
 joined front y (Err e) = refl
 
 -- a fault goes on
-pub fails_further : {X Y : Type 0} (e : LexFault) (r : Result X LexFault) (s : Result Y LexFault) → (r ≡ Err e → s ≡ Err e) → Fails e r → Fails e s
-fails_further fault.UnclosedGroup r s f h = f h
-fails_further fault.BadNumber r s f h = f h
-fails_further fault.NumberTooLarge r s f h = f h
-fails_further fault.BadPostfix r s f h = f h
-fails_further fault.DivideByZero r s f h = f h
-fails_further fault.LineTooLong r s f h = f h
-fails_further fault.NotText r s f h = f h
-fails_further fault.NoMemory r s f h = tt
-
-pub fails_from : {Y : Type 0} (e : LexFault) (r : Result Y LexFault) → r ≡ Err e → Fails e r
-fails_from fault.UnclosedGroup r h = h
-fails_from fault.BadNumber r h = h
-fails_from fault.NumberTooLarge r h = h
-fails_from fault.BadPostfix r h = h
-fails_from fault.DivideByZero r h = h
-fails_from fault.LineTooLong r h = h
-fails_from fault.NotText r h = h
-fails_from fault.NoMemory r h = tt
+pub fails_further : {X Y : Type 0} (e : LexError) (r : Result X LexFault) (s : Result Y LexFault) → ((fault : LexFault) → r ≡ Err fault → s ≡ Err fault) → Fails e r → Fails e s
+fails_further (error.Fault fault) r s f h = f fault h
+fails_further error.NoMemory r s f h = tt
 
 module _ {X A B : Type 0} (view : X → A) (f : A → Result B LexFault) (xs : List X) (i : ℕ) (d : X) (less : i < length xs) where
   this : drop i xs ≡ get_or xs i d ∷ drop (i + 1) xs

@@ -9,7 +9,7 @@ ghost use Rattle.dss_lexer.specs.Number.{number_of};
 ghost use Rattle.dss_lexer.specs.Arrays.{words_of, word_in, is_bar, row_of, matrix_of};
 
 use crate::text::characters_of;
-use crate::{LexFault, Text, number};
+use crate::{LexError, Text, number};
 use std::alloc::{AllocError, Global};
 use std::marker::Model;
 
@@ -112,15 +112,15 @@ pub fn cells(alloc: Global, text: &str) -> Result<Vec<Text>, AllocError>
 }
 
 /// The number that a word spells.
-pub fn number_of_word(alloc: Global, word: &[char]) -> Result<i128, LexFault>
+pub fn number_of_word(alloc: Global, word: &[char]) -> Result<i128, LexError>
     ensures value { Gives (λ n. n) result (number_of word.now) }
     ensures size { IfOk result (λ n. unsigned_abs n < 1_000_000_000_000_000_000) }
 {
     let text = Text::of(alloc, word)?;
-    number(text.as_str())
+    Ok(number(text.as_str())?)
 }
 
-fn numbers(alloc: Global, words: &[&[char]]) -> Result<Vec<i128>, LexFault>
+fn numbers(alloc: Global, words: &[&[char]]) -> Result<Vec<i128>, LexError>
     ensures { Gives (λ v. v.items) result (each number_of (map (λ word. word.now) words.now)) }
 {
     let mut numbers = Vec::new(alloc);
@@ -130,14 +130,14 @@ fn numbers(alloc: Global, words: &[&[char]]) -> Result<Vec<i128>, LexFault>
     Ok(numbers)
 }
 
-fn row_numbers(alloc: Global, text: &[char]) -> Result<Row, LexFault>
+fn row_numbers(alloc: Global, text: &[char]) -> Result<Row, LexError>
     ensures { Gives (λ row. row) result (row_of text.now) }
 {
     let words = words(alloc, text)?;
     Ok(Row::new(numbers(alloc, &words)?))
 }
 
-fn rows(alloc: Global, parts: &[&[char]]) -> Result<Vec<Row>, LexFault>
+fn rows(alloc: Global, parts: &[&[char]]) -> Result<Vec<Row>, LexError>
     ensures { Gives (λ v. v.items) result (each row_of (map (λ part. part.now) parts.now)) }
 {
     let mut rows = Vec::new(alloc);
@@ -151,7 +151,7 @@ fn rows(alloc: Global, parts: &[&[char]]) -> Result<Vec<Row>, LexFault>
 ///
 /// Each row holds its numbers in whole units of 10^-9, which blanks, tabs and commas part; an empty row holds none.
 /// Errors: those of `number` for the first word that isn't one, NoMemory.
-pub fn matrix(alloc: Global, text: &str) -> Result<Vec<Row>, LexFault>
+pub fn matrix(alloc: Global, text: &str) -> Result<Vec<Row>, LexError>
     ensures { Gives (λ v. v.items) result (matrix_of (chars text.now)) }
 {
     let characters = characters_of(alloc, text)?;

@@ -8,10 +8,10 @@ ghost use Rattle.dss_lexer.specs.Number.{with_sign};
 ghost use Rattle.dss_lexer.specs.Postfix.{operator_of, quotient, exact, operate, reduce, read_by, read_word, sole, value_after, postfix_of};
 ghost use Rattle.fd_exact.specs.Rounding.{near_div};
 
-use crate::LexFault;
 use crate::arrays::{number_of_word, words};
 use crate::numbers::limited;
 use crate::text::characters_of;
+use crate::{LexError, LexFault};
 use std::alloc::Global;
 
 #[derive(Clone, Copy, Debug, PartialEq, Eq)]
@@ -88,20 +88,20 @@ fn result_of(operator: Operator, left: i64, right: i64) -> Result<i64, LexFault>
 }
 
 // The last two operands give way to their result.
-fn reduce_stack(stack: &mut Vec<i64>, operator: Operator) -> Result<(), LexFault>
+fn reduce_stack(stack: &mut Vec<i64>, operator: Operator) -> Result<(), LexError>
     ensures { Makes (reverse stack.new.items) result (reduce operator (reverse stack.old.items)) }
 {
     let Some(right) = stack.pop() else {
-        return Err(LexFault::BadPostfix);
+        return Err(LexError::Fault(LexFault::BadPostfix));
     };
     let Some(left) = stack.pop() else {
-        return Err(LexFault::BadPostfix);
+        return Err(LexError::Fault(LexFault::BadPostfix));
     };
     stack.push(result_of(operator, left, right)?)?;
     Ok(())
 }
 
-fn push_number(alloc: Global, stack: &mut Vec<i64>, word: &[char]) -> Result<(), LexFault>
+fn push_number(alloc: Global, stack: &mut Vec<i64>, word: &[char]) -> Result<(), LexError>
     ensures { Makes (reverse stack.new.items) result (read_by None (reverse stack.old.items) word.now) }
 {
     let number = number_of_word(alloc, word)?;
@@ -110,7 +110,7 @@ fn push_number(alloc: Global, stack: &mut Vec<i64>, word: &[char]) -> Result<(),
 }
 
 // The operands after one more word.
-fn take_word(alloc: Global, stack: &mut Vec<i64>, word: &[char]) -> Result<(), LexFault>
+fn take_word(alloc: Global, stack: &mut Vec<i64>, word: &[char]) -> Result<(), LexError>
     ensures { Makes (reverse stack.new.items) result (read_word (reverse stack.old.items) word.now) }
 {
     match operator_for(word) {
@@ -128,14 +128,14 @@ fn sole_operand(stack: &[i64]) -> Result<i128, LexFault>
     }
 }
 
-fn value_of_words(alloc: Global, words: &[&[char]]) -> Result<i128, LexFault>
+fn value_of_words(alloc: Global, words: &[&[char]]) -> Result<i128, LexError>
     ensures { Gives (λ n. n) result (value_after [] (map (λ word. word.now) words.now)) }
 {
     let mut stack = Vec::new(alloc);
     for word in words {
         take_word(alloc, &mut stack, word)?;
     }
-    sole_operand(&stack)
+    Ok(sole_operand(&stack)?)
 }
 
 /// The value of a postfix expression, in whole units of 10^-9, as `8 1000 /` is 0.008.
@@ -147,7 +147,7 @@ fn value_of_words(alloc: Global, words: &[&[char]]) -> Result<i128, LexFault>
 /// of 10^9 or more in size, DivideByZero, BadPostfix where an operator lacks operands or not exactly one result is
 /// left, NoMemory.
 #[tactic(auto, unfolding(crate::specs::Postfix::postfix_of))]
-pub fn postfix(alloc: Global, text: &str) -> Result<i128, LexFault>
+pub fn postfix(alloc: Global, text: &str) -> Result<i128, LexError>
     ensures { Gives (λ n. n) result (postfix_of (chars text.now)) }
 {
     let characters = characters_of(alloc, text)?;

@@ -26,29 +26,48 @@ pub enum LexFault {
     /// A line isn't UTF-8.
     #[error("not text")]
     NotText,
+}
+
+/// Why a call doesn't read a text.
+#[derive(Clone, Copy, Debug, PartialEq, Eq, Error)]
+pub enum LexError {
+    /// The text is at fault.
+    #[error("{0}")]
+    Fault(LexFault),
     /// Memory was refused.
     #[error("no memory")]
     NoMemory,
 }
 
-impl From<AllocError> for LexFault {
+impl From<LexFault> for LexError {
     ghost use Rattle.std.specs.Prelude.{◌≡◌};
-    ghost use Rattle.dss_lexer.specs.declared.fault.LexFault.TheVariants.{NoMemory};
+    ghost use Rattle.dss_lexer.specs.declared.fault.LexError.TheVariants.{Fault};
+
+    ghost from_gives = { λ fault e. e ≡ Fault fault };
+
+    fn from(fault: LexFault) -> Self {
+        LexError::Fault(fault)
+    }
+}
+
+impl From<AllocError> for LexError {
+    ghost use Rattle.std.specs.Prelude.{◌≡◌};
+    ghost use Rattle.dss_lexer.specs.declared.fault.LexError.TheVariants.{NoMemory};
 
     ghost from_gives = { λ _ e. e ≡ NoMemory };
 
     fn from(_: AllocError) -> Self {
-        LexFault::NoMemory
+        LexError::NoMemory
     }
 }
 
-impl<T: Drop> From<AllocFailed<T>> for LexFault {
+impl<T: Drop> From<AllocFailed<T>> for LexError {
     ghost use Rattle.std.specs.Prelude.{◌≡◌};
-    ghost use Rattle.dss_lexer.specs.declared.fault.LexFault.TheVariants.{NoMemory};
+    ghost use Rattle.dss_lexer.specs.declared.fault.LexError.TheVariants.{NoMemory};
 
     ghost from_gives = { λ _ e. e ≡ NoMemory };
 
     fn from(_: AllocFailed<T>) -> Self {
-        LexFault::NoMemory
+        LexError::NoMemory
     }
 }

@@ -5,7 +5,7 @@
 //! Want of memory is the only free answer.
 //!
 //! - `text`: `Text`, which contracts see as its characters
-//! - `fault`: `LexFault`, why a text isn't read
+//! - `fault`: `LexFault`, why a text isn't read, and `LexError`, which a call answers: such a fault, or want of memory
 //! - `pair`: `Pair` and `PairList`
 //! - `cutting`: `pairs`, a line's words and pairs
 //! - `numbers`: `number`, in units of 10^-9
@@ -24,7 +24,7 @@ mod text;
 pub use arrays::{Row, cells, matrix};
 pub use cutting::pairs;
 pub use expressions::postfix;
-pub use fault::LexFault;
+pub use fault::{LexError, LexFault};
 pub use numbers::number;
 pub use pair::{Pair, PairList};
 pub use text::Text;

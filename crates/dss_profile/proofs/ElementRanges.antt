@@ -2,6 +2,7 @@
 use Rattle.std.proofs.Common.{ℕ, ◌≤◌, List, [], ◌∷◌, Option, Some, None, is_some, IfSome, Result, Ok, Err, IfOk, OnOk, refl}
 use Rattle.std.proofs.lemmas.Result.{IfOk-at_ok, IfOk-weaker}
 use Rattle.dss_lexer.specs.declared.pair.Pair.{Pair}
+use Rattle.dss_values.specs.declared.fault.ModelError.{ModelError}
 use Rattle.dss_values.specs.declared.fault.ModelFault.{ModelFault}
 use Rattle.dss_values.specs.Answers.{Makes}
 use Rattle.dss_values.specs.Forms.{whole_between}
@@ -21,12 +22,12 @@ use Rattle.dss_profile.proofs.FormRanges.{count_by_test, then_ok, any_ok, made_o
 use Rattle.dss_profile.proofs.ClassRanges.{vsource_in_range, linecode_in_range, line_in_range, transformer_in_range, capacitor_in_range, load_in_range, regcontrol_in_range, capcontrol_in_range, loadshape_in_range}
 
 -- what a draft has become is in range where what is said is
-pub draft_in_range : {X : Type 0} (P : X → Type 0) (new : X) (r : Result Unit ModelFault) (said : Result X ModelFault) → Makes new r said → IfOk said P → OnOk r (P new)
+pub draft_in_range : {X : Type 0} (P : X → Type 0) (new : X) (r : Result Unit ModelError) (said : Result X ModelFault) → Makes new r said → IfOk said P → OnOk r (P new)
 draft_in_range P new (Ok done) said m h = IfOk-at_ok P m h
 draft_in_range P new (Err e) said m h = tt
 
 -- a value that has become what is said is a draft that has
-pub becomes_made : {X : Type 0} (old new : X) (r : Result Unit ModelFault) (said : Result X ModelFault) → Becomes old new r said → Makes new r said
+pub becomes_made : {X : Type 0} (old new : X) (r : Result Unit ModelError) (said : Result X ModelFault) → Becomes old new r said → Makes new r said
 becomes_made old new (Ok done) said h = h
 becomes_made old new (Err e) said h = h.0
 

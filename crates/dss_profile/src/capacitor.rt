@@ -8,8 +8,8 @@ use crate::Place;
 use crate::line::copied_bus;
 use dss_lexer::Pair;
 use dss_values::{
-    BankState, Bus, Connection, ModelFault, ONE, bank_state, bus_value, connection, find_named,
-    number_value, number_within, supported_of, whole_of,
+    BankState, Bus, Connection, ModelError, ModelFault, ONE, bank_state, bus_value, connection,
+    find_named, number_value, number_within, supported_of, whole_of,
 };
 use std::alloc::{AllocError, Global};
 
@@ -96,12 +96,12 @@ impl Capacitor {
         property: CapacitorProperty,
         pair: &Pair,
         solves: u32,
-    ) -> Result<(), ModelFault>
+    ) -> Result<(), ModelError>
         ensures { Becomes self.old self.new result (with_capacitor solves property pair.now self.old) }
     {
         match property {
             CapacitorProperty::Bus1 => self.bus1 = Some(bus_value(alloc, pair)?),
-            CapacitorProperty::Bus2 => return Err(ModelFault::Unsupported),
+            CapacitorProperty::Bus2 => return Err(ModelError::Fault(ModelFault::Unsupported)),
             CapacitorProperty::Phases => self.phases = whole_of(alloc, pair, &[1, 3])?,
             CapacitorProperty::Kvar => self.kvar = number_within(alloc, pair, 0, 100_000 * ONE)?,
             CapacitorProperty::Kv => self.kv = number_within(alloc, pair, ONE / 100, 1000 * ONE)?,

@@ -8,7 +8,7 @@ use crate::Place;
 use crate::line::copied_text;
 use dss_lexer::{Pair, Text};
 use dss_values::{
-    ControlQuantity, ModelFault, ONE, find_named, found_line_name, found_name, milliseconds,
+    ControlQuantity, ModelError, ONE, find_named, found_line_name, found_name, milliseconds,
     number_within, phase, quantity, whole_within,
 };
 use std::alloc::{AllocError, Global};
@@ -117,7 +117,7 @@ impl CapControl {
         property: CapControlProperty,
         pair: &Pair,
         found: bool,
-    ) -> Result<(), ModelFault>
+    ) -> Result<(), ModelError>
         ensures { Becomes self.old self.new result (with_capcontrol found property pair.now self.old) }
     {
         match property {

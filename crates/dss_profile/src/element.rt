@@ -21,7 +21,7 @@ use crate::{
     Transformer, Vsource,
 };
 use dss_lexer::{Pair, Text};
-use dss_values::{ModelFault, find_named, line_name, name};
+use dss_values::{ModelError, ModelFault, find_named, line_name, name};
 use std::alloc::{AllocError, Global};
 
 /// An element of a circuit.
@@ -59,7 +59,7 @@ fn referred_class(class: Class, property: &str) -> Option<Class>
 }
 
 // The name of an element of a class: a Line is named with its class before it.
-fn referred_name(alloc: Global, class: Class, pair: &Pair) -> Result<Text, ModelFault>
+fn referred_name(alloc: Global, class: Class, pair: &Pair) -> Result<Text, ModelError>
     ensures { Gives (λ text. text) result (named_in class pair.now) }
 {
     match class {
@@ -72,7 +72,7 @@ fn refer(
     alloc: Global,
     class: Option<Class>,
     pair: &Pair,
-) -> Result<Option<ElementName>, ModelFault>
+) -> Result<Option<ElementName>, ModelError>
     ensures { Gives (λ named. named) result (reference_to class pair.now) }
 {
     match class {
@@ -91,7 +91,7 @@ pub fn referred_element(
     alloc: Global,
     class: Class,
     pair: &Pair,
-) -> Result<Option<ElementName>, ModelFault>
+) -> Result<Option<ElementName>, ModelError>
     ensures { Gives (λ named. named) result (reference class pair.now) }
 {
     let property = pair.name.lowered(alloc)?;
@@ -176,7 +176,7 @@ impl Element {
         pair: &Pair,
         solves: u32,
         found: Option<&Element>,
-    ) -> Result<(), ModelFault>
+    ) -> Result<(), ModelError>
         ensures { Becomes self.old self.new result (with_named solves (option_copied found.entry) name.now pair.now self.old) }
     {
         let there = found.is_some();
@@ -233,12 +233,12 @@ impl Element {
         pair: &Pair,
         solves: u32,
         found: Option<&Element>,
-    ) -> Result<(), ModelFault>
+    ) -> Result<(), ModelError>
         ensures value { Becomes self.old self.new result (with_pair solves (option_copied found.entry) pair.now self.old) }
         ensures in_range { IfSome (option_copied found.entry) ElementInRange → ElementInRange self.old → OnOk result (ElementInRange self.new) }
     {
         if pair.name.is_empty() {
-            return Err(ModelFault::Unsupported);
+            return Err(ModelError::Fault(ModelFault::Unsupported));
         }
         let name = pair.name.lowered(alloc)?;
         self.set_named(alloc, name.as_str(), pair, solves, found)

@@ -30,8 +30,9 @@ pub use capacitor::{Capacitor, CapacitorProperty, capacitor_property};
 pub use capcontrol::{CapControl, CapControlProperty, capcontrol_property};
 pub use command::{Blame, Command, Place, Verb};
 pub use dss_values::{
-    BankState, Bus, Connection, ControlMode, ControlQuantity, DataForm, LeadLag, Mode, ModelFault,
-    Nodes, Numbers, ReactiveRule, SourceForm, StepSize, Units, find_named, is_legal_name,
+    BankState, Bus, Connection, ControlMode, ControlQuantity, DataForm, LeadLag, Mode, ModelError,
+    ModelFault, Nodes, Numbers, ReactiveRule, SourceForm, StepSize, Units, find_named,
+    is_legal_name,
 };
 pub use element::{Element, referred_element};
 pub use line::{Line, LineProperty, line_property};

@@ -9,8 +9,8 @@ use crate::linecode::{DataProperty, capacitance_matrix, copied_numbers, impedanc
 use crate::{Linecode, Place};
 use dss_lexer::{Pair, Text};
 use dss_values::{
-    Bus, DataForm, ModelFault, Numbers, ONE, Units, bus_value, find_named, length_unit, name,
-    number_value, number_within, truth, whole_within,
+    Bus, DataForm, ModelError, ModelFault, Numbers, ONE, Units, bus_value, find_named, length_unit,
+    name, number_value, number_within, truth, whole_within,
 };
 use std::alloc::{AllocError, Global};
 
@@ -183,13 +183,13 @@ impl Line {
         alloc: Global,
         pair: &Pair,
         code: Option<&Linecode>,
-    ) -> Result<(), ModelFault>
+    ) -> Result<(), ModelError>
         ensures { Becomes self.old self.new result (with_code_in (option_copied code.entry) pair.now self.old) }
     {
         let name = name(alloc, pair)?;
         match code {
             Some(code) => Ok(self.take_code(name, code)?),
-            None => Err(ModelFault::UnknownName),
+            None => Err(ModelError::Fault(ModelFault::UnknownName)),
         }
     }
 
@@ -218,7 +218,7 @@ impl Line {
         alloc: Global,
         property: DataProperty,
         pair: &Pair,
-    ) -> Result<(), ModelFault>
+    ) -> Result<(), ModelError>
         ensures { Becomes self.old self.new result (with_line_data property pair.now self.old) }
     {
         match property {
@@ -278,7 +278,7 @@ impl Line {
         property: LineProperty,
         pair: &Pair,
         code: Option<&Linecode>,
-    ) -> Result<(), ModelFault>
+    ) -> Result<(), ModelError>
         ensures { Becomes self.old self.new result (with_line (option_copied code.entry) property pair.now self.old) }
     {
         match property {

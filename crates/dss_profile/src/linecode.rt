@@ -9,7 +9,7 @@ ghost use Rattle.dss_values.specs.Answers.{Gives};
 use crate::Place;
 use dss_lexer::Pair;
 use dss_values::{
-    DataForm, ModelFault, Numbers, ONE, Units, find_named, length_unit, matrix_within,
+    DataForm, ModelError, Numbers, ONE, Units, find_named, length_unit, matrix_within,
     number_value, number_within, whole_within,
 };
 use std::alloc::{AllocError, Global};
@@ -99,7 +99,7 @@ pub fn linecode_property(name: &str) -> Option<LinecodeProperty>
 
 /// A matrix of resistances or reactances, in ohm for each unit of length, each at most 10^4 in size.
 #[tactic(auto, unfolding(crate::specs::Linecode::impedance_matrix_in))]
-pub fn impedance_matrix(alloc: Global, pair: &Pair) -> Result<Numbers, ModelFault>
+pub fn impedance_matrix(alloc: Global, pair: &Pair) -> Result<Numbers, ModelError>
     ensures { Gives (λ m. m) result (impedance_matrix_in pair.now) }
 {
     matrix_within(alloc, pair, -10_000 * ONE, 10_000 * ONE)
@@ -107,7 +107,7 @@ pub fn impedance_matrix(alloc: Global, pair: &Pair) -> Result<Numbers, ModelFaul
 
 /// A matrix of capacitances, in nF for each unit of length, each at most 10^6 in size.
 #[tactic(auto, unfolding(crate::specs::Linecode::capacitance_matrix_in))]
-pub fn capacitance_matrix(alloc: Global, pair: &Pair) -> Result<Numbers, ModelFault>
+pub fn capacitance_matrix(alloc: Global, pair: &Pair) -> Result<Numbers, ModelError>
     ensures { Gives (λ m. m) result (capacitance_matrix_in pair.now) }
 {
     matrix_within(alloc, pair, -1_000_000 * ONE, 1_000_000 * ONE)
@@ -152,7 +152,7 @@ impl Linecode {
         alloc: Global,
         property: DataProperty,
         pair: &Pair,
-    ) -> Result<(), ModelFault>
+    ) -> Result<(), ModelError>
         ensures { Becomes self.old self.new result (with_code_data property pair.now self.old) }
     {
         match property {
@@ -202,7 +202,7 @@ impl Linecode {
         alloc: Global,
         property: LinecodeProperty,
         pair: &Pair,
-    ) -> Result<(), ModelFault>
+    ) -> Result<(), ModelError>
         ensures { Becomes self.old self.new result (with_linecode property pair.now self.old) }
     {
         match property {

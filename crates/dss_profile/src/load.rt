@@ -8,7 +8,7 @@ use crate::Place;
 use crate::line::{copied_bus, copied_text};
 use dss_lexer::{Pair, Text};
 use dss_values::{
-    Bus, Connection, ModelFault, ONE, ReactiveRule, bus_value, connection, find_named, found_name,
+    Bus, Connection, ModelError, ONE, ReactiveRule, bus_value, connection, find_named, found_name,
     number_value, number_within, power_factor, supported_of, whole_of,
 };
 use std::alloc::{AllocError, Global};
@@ -117,7 +117,7 @@ impl Load {
         property: LoadProperty,
         pair: &Pair,
         found: bool,
-    ) -> Result<(), ModelFault>
+    ) -> Result<(), ModelError>
         ensures { Becomes self.old self.new result (with_load found property pair.now self.old) }
     {
         match property {

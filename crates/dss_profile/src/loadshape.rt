@@ -9,7 +9,7 @@ ghost use Rattle.std.specs.List.{starts_with};
 use crate::Place;
 use dss_lexer::{Pair, Text};
 use dss_values::{
-    ModelFault, Numbers, ONE, find_named, numbers_within, supported_of, whole_within,
+    ModelError, Numbers, ONE, find_named, numbers_within, supported_of, whole_within,
 };
 use std::alloc::{AllocError, Global};
 
@@ -109,7 +109,7 @@ impl Loadshape {
         alloc: Global,
         property: LoadshapeProperty,
         pair: &Pair,
-    ) -> Result<(), ModelFault>
+    ) -> Result<(), ModelError>
         ensures { Becomes self.old self.new result (with_loadshape property pair.now self.old) }
     {
         match property {

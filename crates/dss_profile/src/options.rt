@@ -8,8 +8,8 @@ ghost use Rattle.dss_profile.specs.InRange.{OptionsInRange};
 
 use dss_lexer::Pair;
 use dss_values::{
-    ControlMode, Mode, ModelFault, Numbers, ONE, StepSize, control_mode, find_named, number_within,
-    numbers_within, solve_mode, step_size, supported_of, whole_within,
+    ControlMode, Mode, ModelError, ModelFault, Numbers, ONE, StepSize, control_mode, find_named,
+    number_within, numbers_within, solve_mode, step_size, supported_of, whole_within,
 };
 use std::alloc::{AllocError, Global};
 
@@ -96,7 +96,7 @@ impl Options {
     }
 
     /// Sets one option. After an `Err` it is as before.
-    pub fn set(&mut self, alloc: Global, option: OptionName, pair: &Pair) -> Result<(), ModelFault>
+    pub fn set(&mut self, alloc: Global, option: OptionName, pair: &Pair) -> Result<(), ModelError>
         ensures { Becomes self.old self.new result (with_option option pair.now self.old) }
     {
         match option {
@@ -121,7 +121,7 @@ impl Options {
     }
 
     #[tactic(auto, unfolding(crate::specs::Options::with_named_option))]
-    fn set_named(&mut self, alloc: Global, pair: &Pair) -> Result<(), ModelFault>
+    fn set_named(&mut self, alloc: Global, pair: &Pair) -> Result<(), ModelError>
         ensures { Becomes self.old self.new result (with_named_option pair.now self.old) }
     {
         let name = pair.name.lowered(alloc)?;
@@ -130,7 +130,7 @@ impl Options {
     }
 
     // Sets the pairs from left to right. After an `Err` those before the one that is refused are set.
-    fn set_each(&mut self, alloc: Global, pairs: &[Pair]) -> Result<(), ModelFault>
+    fn set_each(&mut self, alloc: Global, pairs: &[Pair]) -> Result<(), ModelError>
         ensures value { Makes self.new result (with_options pairs.now self.old) }
         ensures in_range { OptionsInRange self.old → OnOk result (OptionsInRange self.new) }
     {
@@ -141,7 +141,7 @@ impl Options {
     }
 
     /// Sets the pairs from left to right. After an `Err` the options are as before. The values stay in range.
-    pub fn set_pairs(&mut self, alloc: Global, pairs: &[Pair]) -> Result<(), ModelFault>
+    pub fn set_pairs(&mut self, alloc: Global, pairs: &[Pair]) -> Result<(), ModelError>
         ensures value { Becomes self.old self.new result (with_options pairs.now self.old) }
         ensures in_range { OptionsInRange self.old → OptionsInRange self.new }
     {

@@ -8,7 +8,7 @@ use crate::Place;
 use crate::line::copied_text;
 use dss_lexer::{Pair, Text};
 use dss_values::{
-    ModelFault, ONE, find_named, found_name, milliseconds, number_within, phase, whole_within,
+    ModelError, ONE, find_named, found_name, milliseconds, number_within, phase, whole_within,
 };
 use std::alloc::{AllocError, Global};
 
@@ -111,7 +111,7 @@ impl RegControl {
         property: RegControlProperty,
         pair: &Pair,
         found: bool,
-    ) -> Result<(), ModelFault>
+    ) -> Result<(), ModelError>
         ensures { Becomes self.old self.new result (with_regcontrol found property pair.now self.old) }
     {
         match property {

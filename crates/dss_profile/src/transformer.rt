@@ -9,7 +9,7 @@ use crate::Place;
 use crate::line::copied_bus;
 use dss_lexer::Pair;
 use dss_values::{
-    Bus, Connection, LeadLag, ModelFault, ONE, bus_value, connection, find_named, half_of,
+    Bus, Connection, LeadLag, ModelError, ONE, bus_value, connection, find_named, half_of,
     lead_lag, number_value, number_within, supported_of, tap, two_buses, two_connections,
     two_numbers_within, two_taps, whole_of, whole_within,
 };
@@ -161,7 +161,7 @@ pub fn transformer_property(name: &str) -> Option<TransformerProperty>
 
 // The number 0; any other is unsupported.
 #[tactic(auto, unfolding(crate::specs::Transformer::zero_in))]
-fn zero(alloc: Global, pair: &Pair) -> Result<i128, ModelFault>
+fn zero(alloc: Global, pair: &Pair) -> Result<i128, ModelError>
     ensures { Gives (λ n. n) result (zero_in pair.now) }
 {
     supported_of(alloc, pair, &[0])?;
@@ -194,7 +194,7 @@ impl Winding {
         property: WindingProperty,
         pair: &Pair,
         solves: u32,
-    ) -> Result<(), ModelFault>
+    ) -> Result<(), ModelError>
         ensures { Becomes self.old self.new result (with_winding solves property pair.now self.old) }
     {
         match property {
@@ -259,7 +259,7 @@ impl Transformer {
         property: WindingProperty,
         pair: &Pair,
         solves: u32,
-    ) -> Result<(), ModelFault>
+    ) -> Result<(), ModelError>
         ensures { Becomes self.old self.new result (with_chosen solves property pair.now self.old) }
     {
         if self.wdg == 1 {
@@ -307,7 +307,7 @@ impl Transformer {
         property: BothProperty,
         pair: &Pair,
         solves: u32,
-    ) -> Result<(), ModelFault>
+    ) -> Result<(), ModelError>
         ensures { Becomes self.old self.new result (with_both solves property pair.now self.old) }
     {
         match property {
@@ -352,7 +352,7 @@ impl Transformer {
         property: TransformerProperty,
         pair: &Pair,
         solves: u32,
-    ) -> Result<(), ModelFault>
+    ) -> Result<(), ModelError>
         ensures { Becomes self.old self.new result (with_transformer solves property pair.now self.old) }
     {
         match property {

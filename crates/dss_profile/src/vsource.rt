@@ -7,7 +7,7 @@ ghost use Rattle.dss_profile.specs.Vsource.{vsource_properties, source_bus, fres
 use crate::Place;
 use dss_lexer::{Pair, Text};
 use dss_values::{
-    Bus, ModelFault, Nodes, ONE, SourceForm, angle, bus_value, find_named, number_value,
+    Bus, ModelError, Nodes, ONE, SourceForm, angle, bus_value, find_named, number_value,
     number_within, ratio, whole_of,
 };
 use std::alloc::{AllocError, Global};
@@ -129,7 +129,7 @@ impl Vsource {
         alloc: Global,
         property: VsourceProperty,
         pair: &Pair,
-    ) -> Result<(), ModelFault>
+    ) -> Result<(), ModelError>
         ensures { Becomes self.old self.new result (with_vsource property pair.now self.old) }
     {
         match property {

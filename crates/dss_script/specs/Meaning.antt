@@ -39,7 +39,7 @@ command_words =
     ∷ (codes "buscoords", word.Ignored)
     ∷ []
 
--- the cause that stands for a fault of a line; the last five are faults of values, which no line has
+-- the cause that stands for a fault of a line; the last four are faults of values, which no line has
 abbrev pub cause_of : LexFault → ScriptCause
 cause_of lex.UnclosedGroup = cause.UnclosedGroup
 cause_of lex.LineTooLong = cause.LineTooLong
@@ -48,7 +48,6 @@ cause_of lex.BadNumber = cause.BadValue
 cause_of lex.NumberTooLarge = cause.BadValue
 cause_of lex.BadPostfix = cause.BadValue
 cause_of lex.DivideByZero = cause.BadValue
-cause_of lex.NoMemory = cause.BadValue
 
 abbrev pub is_dot : ℕ → Bool
 is_dot c = c == 46

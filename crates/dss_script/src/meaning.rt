@@ -85,8 +85,7 @@ pub fn line_cause(fault: LexFault) -> ScriptCause
         LexFault::BadNumber
         | LexFault::NumberTooLarge
         | LexFault::BadPostfix
-        | LexFault::DivideByZero
-        | LexFault::NoMemory => ScriptCause::BadValue,
+        | LexFault::DivideByZero => ScriptCause::BadValue,
     }
 }
 

@@ -11,7 +11,6 @@ cause_of lex.BadNumber = fault.BadNumber
 cause_of lex.NumberTooLarge = fault.NumberTooLarge
 cause_of lex.BadPostfix = fault.BadPostfix
 cause_of lex.DivideByZero = fault.DivideByZero
-cause_of lex.NoMemory = fault.NoMemory
 cause_of lex.UnclosedGroup = fault.BadValue
 cause_of lex.LineTooLong = fault.BadValue
 cause_of lex.NotText = fault.BadValue

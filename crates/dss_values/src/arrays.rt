@@ -8,18 +8,18 @@ ghost use Rattle.dss_values.specs.Forms.{cells_in, number_of_cell, numbers_in, i
 use crate::bus::bus_of_word;
 use crate::names::find_named;
 use crate::numbers::{ONE, has_no_fraction, is_in_range, tap_of_number};
-use crate::{BankState, Bus, ModelFault, Numbers};
+use crate::{BankState, Bus, ModelError, ModelFault, Numbers};
 use dss_lexer::{Pair, Text, cells, number};
 use std::alloc::Global;
 
 // The words of an array.
-fn words(alloc: Global, pair: &Pair) -> Result<Vec<Text>, ModelFault>
+fn words(alloc: Global, pair: &Pair) -> Result<Vec<Text>, ModelError>
     ensures { Gives (λ v. v.items) result (cells_in pair.now) }
 {
     if pair.grouped {
         Ok(cells(alloc, pair.value.as_str())?)
     } else {
-        Err(ModelFault::BadValue)
+        Err(ModelError::Fault(ModelFault::BadValue))
     }
 }
 
@@ -29,7 +29,7 @@ fn cell_number(cell: &Text) -> Result<i128, ModelFault>
     Ok(number(cell.as_str())?)
 }
 
-fn numbers_of_cells(alloc: Global, cells: &[Text]) -> Result<Vec<i128>, ModelFault>
+fn numbers_of_cells(alloc: Global, cells: &[Text]) -> Result<Vec<i128>, ModelError>
     ensures { Gives (λ v. v.items) result (each number_of_cell cells.now) }
 {
     let mut numbers = Vec::new(alloc);
@@ -40,7 +40,7 @@ fn numbers_of_cells(alloc: Global, cells: &[Text]) -> Result<Vec<i128>, ModelFau
 }
 
 #[tactic(auto, unfolding(crate::specs::Forms::numbers_in))]
-fn number_cells(alloc: Global, pair: &Pair) -> Result<Vec<i128>, ModelFault>
+fn number_cells(alloc: Global, pair: &Pair) -> Result<Vec<i128>, ModelError>
     ensures { Gives (λ v. v.items) result (numbers_in pair.now) }
 {
     let words = words(alloc, pair)?;
@@ -53,14 +53,14 @@ fn are_in_range(numbers: &[i128], low: i128, high: i128) -> bool
     numbers.iter().all(|number| is_in_range(*number, low, high))
 }
 
-fn check_ranges(numbers: &[i128], low: i128, high: i128) -> Result<(), ModelFault>
+fn check_ranges(numbers: &[i128], low: i128, high: i128) -> Result<(), ModelError>
     ensures value { Makes numbers.now result (all_within low high numbers.now) }
     ensures within { OnOk result (IsTrue (list_all (is_within low high) numbers.now)) }
 {
     if are_in_range(numbers, low, high) {
         Ok(())
     } else {
-        Err(ModelFault::OutOfRange)
+        Err(ModelError::Fault(ModelFault::OutOfRange))
     }
 }
 
@@ -70,7 +70,7 @@ fn numbers_in_range(
     pair: &Pair,
     low: i128,
     high: i128,
-) -> Result<Vec<i128>, ModelFault>
+) -> Result<Vec<i128>, ModelError>
     ensures value { Gives (λ v. v.items) result (numbers_between low high pair.now) }
     ensures within { IfOk result (λ v. IsTrue (list_all (is_within low high) v.items)) }
 {
@@ -85,7 +85,7 @@ pub fn numbers_within(
     pair: &Pair,
     low: i128,
     high: i128,
-) -> Result<Numbers, ModelFault>
+) -> Result<Numbers, ModelError>
     ensures { Gives (λ numbers. numbers) result (numbers_between low high pair.now) }
 {
     Ok(Numbers::new(numbers_in_range(alloc, pair, low, high)?))
@@ -107,13 +107,13 @@ pub fn two_numbers_within(
     pair: &Pair,
     low: i128,
     high: i128,
-) -> Result<(i128, i128), ModelFault>
+) -> Result<(i128, i128), ModelError>
     ensures value { Gives (λ n. n) result (two_numbers_between low high pair.now) }
     ensures low { IfOk result (λ n. (low ≤ℤ n.0) × (low ≤ℤ n.1)) }
     ensures high { IfOk result (λ n. (n.0 ≤ℤ high) × (n.1 ≤ℤ high)) }
 {
     let numbers = numbers_in_range(alloc, pair, low, high)?;
-    two_of(&numbers)
+    Ok(two_of(&numbers)?)
 }
 
 fn taps_of(numbers: (i128, i128)) -> (u32, u32)
@@ -126,21 +126,21 @@ fn taps_of(numbers: (i128, i128)) -> (u32, u32)
 
 /// Two taps from 0.5 to 2, in whole 10^-5.
 #[tactic(auto, unfolding(crate::specs::Forms::two_taps_in))]
-pub fn two_taps(alloc: Global, pair: &Pair) -> Result<(u32, u32), ModelFault>
+pub fn two_taps(alloc: Global, pair: &Pair) -> Result<(u32, u32), ModelError>
     ensures { Gives (λ n. n) result (two_taps_in pair.now) }
 {
     let numbers = two_numbers_within(alloc, pair, 500_000_000, 2 * ONE)?;
     Ok(taps_of(numbers))
 }
 
-fn cell_bus(alloc: Global, cell: &Text) -> Result<Bus, ModelFault>
+fn cell_bus(alloc: Global, cell: &Text) -> Result<Bus, ModelError>
     ensures { Gives (λ bus. bus) result (bus_of_cell cell.now) }
 {
     let word = cell.lowered(alloc)?;
     bus_of_word(alloc, &word)
 }
 
-fn buses_of_cells(alloc: Global, cells: &[Text]) -> Result<Vec<Bus>, ModelFault>
+fn buses_of_cells(alloc: Global, cells: &[Text]) -> Result<Vec<Bus>, ModelError>
     ensures { Gives (λ v. v.items) result (each bus_of_cell cells.now) }
 {
     let mut buses = Vec::new(alloc);
@@ -150,18 +150,18 @@ fn buses_of_cells(alloc: Global, cells: &[Text]) -> Result<Vec<Bus>, ModelFault>
     Ok(buses)
 }
 
-fn two_of_buses(buses: &[Bus]) -> Result<(Bus, Bus), ModelFault>
+fn two_of_buses(buses: &[Bus]) -> Result<(Bus, Bus), ModelError>
     ensures { Gives (λ b. b) result (two buses.now) }
 {
     match buses {
         [first, second] => Ok((first.copied()?, second.copied()?)),
-        _ => Err(ModelFault::WrongCount),
+        _ => Err(ModelError::Fault(ModelFault::WrongCount)),
     }
 }
 
 /// Two buses.
 #[tactic(auto, unfolding(crate::specs::Forms::two_buses_in))]
-pub fn two_buses(alloc: Global, pair: &Pair) -> Result<(Bus, Bus), ModelFault>
+pub fn two_buses(alloc: Global, pair: &Pair) -> Result<(Bus, Bus), ModelError>
     ensures { Gives (λ b. b) result (two_buses_in pair.now) }
 {
     let words = words(alloc, pair)?;
@@ -169,18 +169,18 @@ pub fn two_buses(alloc: Global, pair: &Pair) -> Result<(Bus, Bus), ModelFault>
     two_of_buses(&buses)
 }
 
-fn cell_choice<T: Copy>(alloc: Global, table: &[(&str, T)], cell: &Text) -> Result<T, ModelFault>
+fn cell_choice<T: Copy>(alloc: Global, table: &[(&str, T)], cell: &Text) -> Result<T, ModelError>
     ensures { Gives (λ x. x) result (named_cell (rows table.now) cell.now) }
 {
     let word = cell.lowered(alloc)?;
-    find_named(table, word.as_str()).ok_or(ModelFault::BadValue)
+    Ok(find_named(table, word.as_str()).ok_or(ModelFault::BadValue)?)
 }
 
 fn choices_of_cells<T: Copy>(
     alloc: Global,
     table: &[(&str, T)],
     cells: &[Text],
-) -> Result<Vec<T>, ModelFault>
+) -> Result<Vec<T>, ModelError>
     ensures { Gives (λ v. v.items) result (each (named_cell (rows table.now)) cells.now) }
 {
     let mut choices = Vec::new(alloc);
@@ -196,12 +196,12 @@ pub fn two_choices<T: Copy>(
     alloc: Global,
     table: &[(&str, T)],
     pair: &Pair,
-) -> Result<(T, T), ModelFault>
+) -> Result<(T, T), ModelError>
     ensures { Gives (λ x. x) result (two_choices_in (rows table.now) pair.now) }
 {
     let words = words(alloc, pair)?;
     let choices = choices_of_cells(alloc, table, &words)?;
-    two_of(&choices)
+    Ok(two_of(&choices)?)
 }
 
 fn are_whole(numbers: &[i128]) -> bool
@@ -210,13 +210,13 @@ fn are_whole(numbers: &[i128]) -> bool
     numbers.iter().all(|number| has_no_fraction(*number))
 }
 
-fn check_whole(numbers: &[i128]) -> Result<(), ModelFault>
+fn check_whole(numbers: &[i128]) -> Result<(), ModelError>
     ensures { Makes numbers.now result (all_whole numbers.now) }
 {
     if are_whole(numbers) {
         Ok(())
     } else {
-        Err(ModelFault::BadValue)
+        Err(ModelError::Fault(ModelFault::BadValue))
     }
 }
 
@@ -241,7 +241,7 @@ fn state_of_number(number: i128) -> BankState
 
 /// The state of the one step of a bank: 0 is open and 1 is closed.
 #[tactic(auto, unfolding(crate::specs::Forms::state_in))]
-pub fn bank_state(alloc: Global, pair: &Pair) -> Result<BankState, ModelFault>
+pub fn bank_state(alloc: Global, pair: &Pair) -> Result<BankState, ModelError>
     ensures { Gives (λ s. s) result (state_in pair.now) }
 {
     let numbers = number_cells(alloc, pair)?;

@@ -5,7 +5,7 @@ ghost use Rattle.dss_values.specs.Forms.{node_of, bus_of_parts, bus_of, bus_in};
 
 use crate::forms::{parts, word};
 use crate::names::is_legal_name;
-use crate::{ModelFault, Nodes};
+use crate::{ModelError, ModelFault, Nodes};
 use dss_lexer::{Pair, Text};
 use std::alloc::{AllocError, Global};
 
@@ -25,7 +25,7 @@ fn node(part: &[char]) -> Result<u8, ModelFault>
     }
 }
 
-fn nodes(alloc: Global, parts: &[&[char]]) -> Result<Vec<u8>, ModelFault>
+fn nodes(alloc: Global, parts: &[&[char]]) -> Result<Vec<u8>, ModelError>
     ensures { Gives (λ v. v.items) result (each node_of (map (λ part. part.now) parts.now)) }
 {
     let mut nodes = Vec::new(alloc);
@@ -35,7 +35,7 @@ fn nodes(alloc: Global, parts: &[&[char]]) -> Result<Vec<u8>, ModelFault>
     Ok(nodes)
 }
 
-fn bus_from(alloc: Global, parts: &[&[char]]) -> Result<Bus, ModelFault>
+fn bus_from(alloc: Global, parts: &[&[char]]) -> Result<Bus, ModelError>
     ensures { Gives (λ bus. bus) result (bus_of_parts (map (λ part. part.now) parts.now)) }
 {
     match parts {
@@ -43,13 +43,13 @@ fn bus_from(alloc: Global, parts: &[&[char]]) -> Result<Bus, ModelFault>
             nodes: Nodes::new(nodes(alloc, numbers)?),
             name: Text::of(alloc, name)?,
         }),
-        _ => Err(ModelFault::BadValue),
+        _ => Err(ModelError::Fault(ModelFault::BadValue)),
     }
 }
 
 /// The bus that a word in lower case names.
 #[tactic(auto, unfolding(crate::specs::Forms::bus_of))]
-pub fn bus_of_word(alloc: Global, word: &Text) -> Result<Bus, ModelFault>
+pub fn bus_of_word(alloc: Global, word: &Text) -> Result<Bus, ModelError>
     ensures { Gives (λ bus. bus) result (bus_of word.now) }
 {
     let characters = word.characters(alloc)?;
@@ -59,7 +59,7 @@ pub fn bus_of_word(alloc: Global, word: &Text) -> Result<Bus, ModelFault>
 
 /// The bus of a pair.
 #[tactic(auto, unfolding(crate::specs::Forms::bus_in))]
-pub fn bus_value(alloc: Global, pair: &Pair) -> Result<Bus, ModelFault>
+pub fn bus_value(alloc: Global, pair: &Pair) -> Result<Bus, ModelError>
     ensures { Gives (λ bus. bus) result (bus_in pair.now) }
 {
     let word = word(alloc, pair)?;

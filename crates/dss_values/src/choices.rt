@@ -6,7 +6,10 @@ ghost use Rattle.dss_values.specs.Words.{connections, units, truths, quantities,
 
 use crate::arrays::two_choices;
 use crate::forms::choice;
-use crate::{Connection, ControlMode, ControlQuantity, LeadLag, Mode, ModelFault, StepSize, Units};
+use crate::{
+    Connection, ControlMode, ControlQuantity, LeadLag, Mode, ModelError, ModelFault, StepSize,
+    Units,
+};
 use dss_lexer::Pair;
 use std::alloc::Global;
 
@@ -65,63 +68,63 @@ const STEP_SIZES: [(&str, StepSize); 3] = [
 ];
 
 /// `wye` or `ln`, `delta` or `ll`.
-pub fn connection(alloc: Global, pair: &Pair) -> Result<Connection, ModelFault>
+pub fn connection(alloc: Global, pair: &Pair) -> Result<Connection, ModelError>
     ensures { Gives (λ c. c) result (choice_in fault.BadValue connections pair.now) }
 {
     choice(alloc, &CONNECTIONS, ModelFault::BadValue, pair)
 }
 
 /// Two of the words `wye`, `ln`, `delta` and `ll`.
-pub fn two_connections(alloc: Global, pair: &Pair) -> Result<(Connection, Connection), ModelFault>
+pub fn two_connections(alloc: Global, pair: &Pair) -> Result<(Connection, Connection), ModelError>
     ensures { Gives (λ c. c) result (two_choices_in connections pair.now) }
 {
     two_choices(alloc, &CONNECTIONS, pair)
 }
 
 /// `mi`, `kft`, `km`, `m`, `ft`, `in`, `cm` or `none`.
-pub fn length_unit(alloc: Global, pair: &Pair) -> Result<Units, ModelFault>
+pub fn length_unit(alloc: Global, pair: &Pair) -> Result<Units, ModelError>
     ensures { Gives (λ u. u) result (choice_in fault.BadValue units pair.now) }
 {
     choice(alloc, &UNITS, ModelFault::BadValue, pair)
 }
 
 /// A truth value: `y`, `yes`, `t` or `true`, and `n`, `no`, `f` or `false`.
-pub fn truth(alloc: Global, pair: &Pair) -> Result<bool, ModelFault>
+pub fn truth(alloc: Global, pair: &Pair) -> Result<bool, ModelError>
     ensures { Gives (λ on. on) result (choice_in fault.BadValue truths pair.now) }
 {
     choice(alloc, &TRUTHS, ModelFault::BadValue, pair)
 }
 
 /// `voltage`, `current` or `kvar`; any other word is unsupported.
-pub fn quantity(alloc: Global, pair: &Pair) -> Result<ControlQuantity, ModelFault>
+pub fn quantity(alloc: Global, pair: &Pair) -> Result<ControlQuantity, ModelError>
     ensures { Gives (λ q. q) result (choice_in fault.Unsupported quantities pair.now) }
 {
     choice(alloc, &QUANTITIES, ModelFault::Unsupported, pair)
 }
 
 /// `lag` or `ansi`; any other word is unsupported.
-pub fn lead_lag(alloc: Global, pair: &Pair) -> Result<LeadLag, ModelFault>
+pub fn lead_lag(alloc: Global, pair: &Pair) -> Result<LeadLag, ModelError>
     ensures { Gives (λ l. l) result (choice_in fault.Unsupported lead_lags pair.now) }
 {
     choice(alloc, &LEAD_LAGS, ModelFault::Unsupported, pair)
 }
 
 /// `snap`, `snapshot` or `daily`.
-pub fn solve_mode(alloc: Global, pair: &Pair) -> Result<Mode, ModelFault>
+pub fn solve_mode(alloc: Global, pair: &Pair) -> Result<Mode, ModelError>
     ensures { Gives (λ m. m) result (choice_in fault.BadValue modes pair.now) }
 {
     choice(alloc, &MODES, ModelFault::BadValue, pair)
 }
 
 /// `static` or `off`; any other word is unsupported.
-pub fn control_mode(alloc: Global, pair: &Pair) -> Result<ControlMode, ModelFault>
+pub fn control_mode(alloc: Global, pair: &Pair) -> Result<ControlMode, ModelError>
     ensures { Gives (λ c. c) result (choice_in fault.Unsupported control_modes pair.now) }
 {
     choice(alloc, &CONTROL_MODES, ModelFault::Unsupported, pair)
 }
 
 /// `1h`, `60m` or `3600`; any other word is unsupported.
-pub fn step_size(alloc: Global, pair: &Pair) -> Result<StepSize, ModelFault>
+pub fn step_size(alloc: Global, pair: &Pair) -> Result<StepSize, ModelError>
     ensures { Gives (λ s. s) result (choice_in fault.Unsupported step_sizes pair.now) }
 {
     choice(alloc, &STEP_SIZES, ModelFault::Unsupported, pair)

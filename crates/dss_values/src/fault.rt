@@ -1,5 +1,5 @@
 // Why a command is refused.
-use dss_lexer::LexFault;
+use dss_lexer::{LexError, LexFault};
 use std::alloc::{AllocError, AllocFailed};
 
 /// The cause for which a command is refused.
@@ -39,6 +39,13 @@ pub enum ModelFault {
     BadPostfix,
     /// A postfix expression divides by zero.
     DivideByZero,
+}
+
+/// Why a call gives no value, or doesn't do a command.
+#[derive(Clone, Copy, Debug, PartialEq, Eq)]
+pub enum ModelError {
+    /// The value or the command is refused.
+    Fault(ModelFault),
     /// Want of memory.
     NoMemory,
 }
@@ -55,7 +62,6 @@ impl From<LexFault> for ModelFault {
             LexFault::NumberTooLarge => ModelFault::NumberTooLarge,
             LexFault::BadPostfix => ModelFault::BadPostfix,
             LexFault::DivideByZero => ModelFault::DivideByZero,
-            LexFault::NoMemory => ModelFault::NoMemory,
             // Faults of lines, which no value has.
             LexFault::UnclosedGroup | LexFault::LineTooLong | LexFault::NotText => {
                 ModelFault::BadValue
@@ -64,24 +70,61 @@ impl From<LexFault> for ModelFault {
     }
 }
 
-impl From<AllocError> for ModelFault {
+impl From<ModelFault> for ModelError {
     ghost use Rattle.std.specs.Prelude.{◌≡◌};
-    ghost use Rattle.dss_values.specs.declared.fault.ModelFault.TheVariants.{NoMemory};
+    ghost use Rattle.dss_values.specs.declared.fault.ModelError.TheVariants.{Fault};
+
+    ghost from_gives = { λ fault e. e ≡ Fault fault };
+
+    fn from(fault: ModelFault) -> Self {
+        ModelError::Fault(fault)
+    }
+}
+
+impl From<LexFault> for ModelError {
+    ghost use Rattle.std.specs.Prelude.{◌≡◌};
+    ghost use Rattle.dss_values.specs.declared.fault.ModelError.TheVariants.{Fault};
+    ghost use Rattle.dss_values.specs.Causes.{cause_of};
+
+    ghost from_gives = { λ fault e. e ≡ Fault (cause_of fault) };
+
+    fn from(fault: LexFault) -> Self {
+        ModelError::Fault(ModelFault::from(fault))
+    }
+}
+
+impl From<LexError> for ModelError {
+    ghost use Rattle.std.specs.Prelude.{◌≡◌};
+    ghost use Rattle.dss_values.specs.Answers.{error_of};
+
+    ghost from_gives = { λ error e. e ≡ error_of error };
+
+    fn from(error: LexError) -> Self {
+        match error {
+            LexError::Fault(fault) => ModelError::from(fault),
+            LexError::NoMemory => ModelError::NoMemory,
+        }
+    }
+}
+
+impl From<AllocError> for ModelError {
+    ghost use Rattle.std.specs.Prelude.{◌≡◌};
+    ghost use Rattle.dss_values.specs.declared.fault.ModelError.TheVariants.{NoMemory};
 
     ghost from_gives = { λ _ e. e ≡ NoMemory };
 
     fn from(_: AllocError) -> Self {
-        ModelFault::NoMemory
+        ModelError::NoMemory
     }
 }
 
-impl<T: Drop> From<AllocFailed<T>> for ModelFault {
+impl<T: Drop> From<AllocFailed<T>> for ModelError {
     ghost use Rattle.std.specs.Prelude.{◌≡◌};
-    ghost use Rattle.dss_values.specs.declared.fault.ModelFault.TheVariants.{NoMemory};
+    ghost use Rattle.dss_values.specs.declared.fault.ModelError.TheVariants.{NoMemory};
 
     ghost from_gives = { λ _ e. e ≡ NoMemory };
 
     fn from(_: AllocFailed<T>) -> Self {
-        ModelFault::NoMemory
+        ModelError::NoMemory
     }
 }

@@ -8,23 +8,23 @@ ghost use Rattle.dss_values.specs.Causes.{from_lexer};
 ghost use Rattle.dss_lexer.specs.Number.{number_of};
 ghost use Rattle.dss_values.specs.Forms.{sole, word_in, choice_in, a_name, name_in, line_name_of, line_name_in, known, known_name_in, known_line_name_in, is_point, node_of, bus_of_parts, bus_of, bus_in, cells_in, numbers_in, numbers_between, two, two_numbers_between, two_buses_in, two_choices_in, two_taps_in, one, state_of, state_in, within, whole};
 
-use crate::ModelFault;
 use crate::names::{find_named, is_legal_name};
+use crate::{ModelError, ModelFault};
 use dss_lexer::{Pair, Text, cells};
 use std::alloc::{AllocError, Global};
 
-fn sole_word(alloc: Global, words: &[Text]) -> Result<Text, ModelFault>
+fn sole_word(alloc: Global, words: &[Text]) -> Result<Text, ModelError>
     ensures { Gives (λ text. text) result (sole words.now) }
 {
     match words {
         [word] => Ok(word.lowered(alloc)?),
-        _ => Err(ModelFault::BadValue),
+        _ => Err(ModelError::Fault(ModelFault::BadValue)),
     }
 }
 
 /// The one word of a value, in lower case.
 #[tactic(auto, unfolding(crate::specs::Forms::word_in))]
-pub fn word(alloc: Global, pair: &Pair) -> Result<Text, ModelFault>
+pub fn word(alloc: Global, pair: &Pair) -> Result<Text, ModelError>
     ensures { Gives (λ text. text) result (word_in pair.now) }
 {
     let words = cells(alloc, pair.value.as_str())?;
@@ -38,27 +38,27 @@ pub fn choice<T: Copy>(
     table: &[(&str, T)],
     other: ModelFault,
     pair: &Pair,
-) -> Result<T, ModelFault>
+) -> Result<T, ModelError>
     ensures { Gives (λ x. x) result (choice_in other (rows table.now) pair.now) }
 {
     let word = word(alloc, pair)?;
-    find_named(table, word.as_str()).ok_or(other)
+    Ok(find_named(table, word.as_str()).ok_or(other)?)
 }
 
 // The text, where it is a name.
-fn legal_name(alloc: Global, word: &[char]) -> Result<Text, ModelFault>
+fn legal_name(alloc: Global, word: &[char]) -> Result<Text, ModelError>
     ensures { Gives (λ text. text) result (a_name word.now) }
 {
     if is_legal_name(word) {
         Ok(Text::of(alloc, word)?)
     } else {
-        Err(ModelFault::BadValue)
+        Err(ModelError::Fault(ModelFault::BadValue))
     }
 }
 
 /// The name of an element, in lower case and without its class.
 #[tactic(auto, unfolding(crate::specs::Forms::name_in))]
-pub fn name(alloc: Global, pair: &Pair) -> Result<Text, ModelFault>
+pub fn name(alloc: Global, pair: &Pair) -> Result<Text, ModelError>
     ensures { Gives (λ text. text) result (name_in pair.now) }
 {
     let word = word(alloc, pair)?;
@@ -86,18 +86,18 @@ fn is_line(word: &[char]) -> bool
     word == ['l', 'i', 'n', 'e'].as_slice()
 }
 
-fn line_name_from(alloc: Global, parts: &[&[char]]) -> Result<Text, ModelFault>
+fn line_name_from(alloc: Global, parts: &[&[char]]) -> Result<Text, ModelError>
     ensures { Gives (λ text. text) result (line_name_of (map (λ part. part.now) parts.now)) }
 {
     match parts {
         [class, name] if is_line(class) => legal_name(alloc, name),
-        _ => Err(ModelFault::BadValue),
+        _ => Err(ModelError::Fault(ModelFault::BadValue)),
     }
 }
 
 /// The name of a line, in lower case, where it is written with its class.
 #[tactic(auto, unfolding(crate::specs::Forms::line_name_in))]
-pub fn line_name(alloc: Global, pair: &Pair) -> Result<Text, ModelFault>
+pub fn line_name(alloc: Global, pair: &Pair) -> Result<Text, ModelError>
     ensures { Gives (λ text. text) result (line_name_in pair.now) }
 {
     let word = word(alloc, pair)?;
@@ -119,18 +119,18 @@ fn known_name(name: Text, found: bool) -> Result<Text, ModelFault>
 
 /// The name of an element that is there, as `found` says, in lower case.
 #[tactic(auto, unfolding(crate::specs::Forms::known_name_in))]
-pub fn found_name(alloc: Global, pair: &Pair, found: bool) -> Result<Text, ModelFault>
+pub fn found_name(alloc: Global, pair: &Pair, found: bool) -> Result<Text, ModelError>
     ensures { Gives (λ text. text) result (known_name_in found pair.now) }
 {
     let name = name(alloc, pair)?;
-    known_name(name, found)
+    Ok(known_name(name, found)?)
 }
 
 /// The name of a line that is there, as `found` says, in lower case and without its class.
 #[tactic(auto, unfolding(crate::specs::Forms::known_line_name_in))]
-pub fn found_line_name(alloc: Global, pair: &Pair, found: bool) -> Result<Text, ModelFault>
+pub fn found_line_name(alloc: Global, pair: &Pair, found: bool) -> Result<Text, ModelError>
     ensures { Gives (λ text. text) result (known_line_name_in found pair.now) }
 {
     let name = line_name(alloc, pair)?;
-    known_name(name, found)
+    Ok(known_name(name, found)?)
 }

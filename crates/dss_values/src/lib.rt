@@ -8,7 +8,7 @@
 //!
 //! Numbers are whole 10^-9 of their unit, taps are whole 10^-5, times are whole milliseconds.
 //!
-//! - `fault`: the causes for which a value or a command is refused
+//! - `fault`: the causes for which a value or a command is refused, and the error of a call: such a cause or no memory
 //! - `names`: words by name, and the names of elements and buses
 //! - `lists`: small list types over `Vec`
 //! - `words`: the values that are words, and `choices`, which reads them
@@ -36,7 +36,7 @@ pub use choices::{
     connection, control_mode, lead_lag, length_unit, quantity, solve_mode, step_size, truth,
     two_connections,
 };
-pub use fault::ModelFault;
+pub use fault::{ModelError, ModelFault};
 pub use forms::{found_line_name, found_name, line_name, name};
 pub use lists::{Nodes, Numbers};
 pub use matrices::matrix_within;

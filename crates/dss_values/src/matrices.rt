@@ -6,7 +6,7 @@ ghost use Rattle.dss_values.specs.Forms.{is_within};
 ghost use Rattle.dss_values.specs.Matrices.{is_square, is_triangle_from, cell, mirrored, first_of, row_by_row, joined, symmetric, whole_matrix, rows_within, matrix_between};
 
 use crate::numbers::is_in_range;
-use crate::{ModelFault, Numbers};
+use crate::{ModelError, ModelFault, Numbers};
 use dss_lexer::{Pair, Row, matrix};
 use std::alloc::{AllocError, Global};
 
@@ -24,13 +24,13 @@ fn are_rows_in_range(rows: &[Row], low: i128, high: i128) -> bool
     rows.iter().all(|row| is_row_in_range(row, low, high))
 }
 
-fn check_rows(rows: &[Row], low: i128, high: i128) -> Result<(), ModelFault>
+fn check_rows(rows: &[Row], low: i128, high: i128) -> Result<(), ModelError>
     ensures { Makes rows.now result (rows_within low high rows.now) }
 {
     if are_rows_in_range(rows, low, high) {
         Ok(())
     } else {
-        Err(ModelFault::OutOfRange)
+        Err(ModelError::Fault(ModelFault::OutOfRange))
     }
 }
 
@@ -107,7 +107,7 @@ fn joined_cells(alloc: Global, rows: &[Row]) -> Result<Vec<i128>, AllocError>
 }
 
 #[tactic(auto, unfolding(crate::specs::Matrices::whole_matrix))]
-fn whole_cells(alloc: Global, rows: &[Row]) -> Result<Vec<i128>, ModelFault>
+fn whole_cells(alloc: Global, rows: &[Row]) -> Result<Vec<i128>, ModelError>
     ensures { Gives (λ v. v.items) result (whole_matrix rows.now) }
 {
     if has_whole_rows(rows) {
@@ -115,7 +115,7 @@ fn whole_cells(alloc: Global, rows: &[Row]) -> Result<Vec<i128>, ModelFault>
     } else if has_rising_rows(rows) {
         Ok(symmetric_cells(alloc, rows)?)
     } else {
-        Err(ModelFault::WrongCount)
+        Err(ModelError::Fault(ModelFault::WrongCount))
     }
 }
 
@@ -126,11 +126,11 @@ pub fn matrix_within(
     pair: &Pair,
     low: i128,
     high: i128,
-) -> Result<Numbers, ModelFault>
+) -> Result<Numbers, ModelError>
     ensures { Gives (λ numbers. numbers) result (matrix_between low high pair.now) }
 {
     if !pair.grouped {
-        return Err(ModelFault::BadValue);
+        return Err(ModelError::Fault(ModelFault::BadValue));
     }
     let rows = matrix(alloc, pair.value.as_str())?;
     check_rows(&rows, low, high)?;

@@ -3,7 +3,7 @@ ghost use Rattle.std.specs.Prelude.{◌≡◌, ◌<◌, ◌≤◌, ◌≤ℤ◌,
 ghost use Rattle.dss_values.specs.Answers.{Gives};
 ghost use Rattle.dss_values.specs.Forms.{ones, number_in, is_within, within, number_between, has_power_factor, power_factor_in, is_whole, whole, whole_in, count_of, whole_between, one_of, whole_among, supported_among, nearest_count, half, tap_of, tap_in, milliseconds_in, ratio_in, has_angle, angle_in, phase_in};
 
-use crate::ModelFault;
+use crate::{ModelError, ModelFault};
 use dss_lexer::{Pair, number, postfix};
 use std::alloc::Global;
 
@@ -18,7 +18,7 @@ fn ones_of(count: u32) -> i128
 
 /// The number of a pair: a word spells it, and a group holds a postfix expression.
 #[tactic(auto, unfolding(crate::specs::Forms::number_in))]
-pub fn number_value(alloc: Global, pair: &Pair) -> Result<i128, ModelFault>
+pub fn number_value(alloc: Global, pair: &Pair) -> Result<i128, ModelError>
     ensures { Gives (λ n. n) result (number_in pair.now) }
 {
     if pair.grouped {
@@ -50,12 +50,12 @@ fn in_range(number: i128, low: i128, high: i128) -> Result<i128, ModelFault>
 
 /// A number from `low` to `high`.
 #[tactic(auto, unfolding(crate::specs::Forms::number_between))]
-pub fn number_within(alloc: Global, pair: &Pair, low: i128, high: i128) -> Result<i128, ModelFault>
+pub fn number_within(alloc: Global, pair: &Pair, low: i128, high: i128) -> Result<i128, ModelError>
     ensures value { Gives (λ n. n) result (number_between low high pair.now) }
     ensures within { IfOk result (λ n. (low ≤ℤ n) × (n ≤ℤ high)) }
 {
     let number = number_value(alloc, pair)?;
-    in_range(number, low, high)
+    Ok(in_range(number, low, high)?)
 }
 
 fn is_power_factor(number: i128) -> bool
@@ -66,14 +66,14 @@ fn is_power_factor(number: i128) -> bool
 
 /// A power factor: a number from 0.01 to 1 in size, with either sign.
 #[tactic(auto, unfolding(crate::specs::Forms::power_factor_in))]
-pub fn power_factor(alloc: Global, pair: &Pair) -> Result<i128, ModelFault>
+pub fn power_factor(alloc: Global, pair: &Pair) -> Result<i128, ModelError>
     ensures { Gives (λ n. n) result (power_factor_in pair.now) }
 {
     let number = number_value(alloc, pair)?;
     if is_power_factor(number) {
         Ok(number)
     } else {
-        Err(ModelFault::OutOfRange)
+        Err(ModelError::Fault(ModelFault::OutOfRange))
     }
 }
 
@@ -95,11 +95,11 @@ fn whole_number(number: i128) -> Result<i128, ModelFault>
 }
 
 #[tactic(auto, unfolding(crate::specs::Forms::whole_in))]
-fn whole_value(alloc: Global, pair: &Pair) -> Result<i128, ModelFault>
+fn whole_value(alloc: Global, pair: &Pair) -> Result<i128, ModelError>
     ensures { Gives (λ n. n) result (whole_in pair.now) }
 {
     let number = number_value(alloc, pair)?;
-    whole_number(number)
+    Ok(whole_number(number)?)
 }
 
 // How many ones there are in a number.
@@ -113,7 +113,7 @@ fn count(number: i128) -> u32
 
 /// A whole number from `low` to `high`.
 #[tactic(auto, unfolding(crate::specs::Forms::whole_between))]
-pub fn whole_within(alloc: Global, pair: &Pair, low: u32, high: u32) -> Result<u32, ModelFault>
+pub fn whole_within(alloc: Global, pair: &Pair, low: u32, high: u32) -> Result<u32, ModelError>
     ensures { Gives (λ n. n) result (whole_between low high pair.now) }
 {
     let number = whole_value(alloc, pair)?;
@@ -132,20 +132,20 @@ fn find_one(values: &[u32], number: i128) -> Option<u32>
 
 /// A whole number that is one of `values`; any other is out of range.
 #[tactic(auto, unfolding(crate::specs::Forms::whole_among))]
-pub fn whole_of(alloc: Global, pair: &Pair, values: &[u32]) -> Result<u32, ModelFault>
+pub fn whole_of(alloc: Global, pair: &Pair, values: &[u32]) -> Result<u32, ModelError>
     ensures { Gives (λ n. n) result (whole_among values.now pair.now) }
 {
     let number = whole_value(alloc, pair)?;
-    find_one(values, number).ok_or(ModelFault::OutOfRange)
+    Ok(find_one(values, number).ok_or(ModelFault::OutOfRange)?)
 }
 
 /// A number that is one of `values`; any other is unsupported.
 #[tactic(auto, unfolding(crate::specs::Forms::supported_among))]
-pub fn supported_of(alloc: Global, pair: &Pair, values: &[u32]) -> Result<u32, ModelFault>
+pub fn supported_of(alloc: Global, pair: &Pair, values: &[u32]) -> Result<u32, ModelError>
     ensures { Gives (λ n. n) result (supported_among values.now pair.now) }
 {
     let number = number_value(alloc, pair)?;
-    find_one(values, number).ok_or(ModelFault::Unsupported)
+    Ok(find_one(values, number).ok_or(ModelFault::Unsupported)?)
 }
 
 // The number of units nearest to a number that isn't negative and at most 10^15.
@@ -181,7 +181,7 @@ pub fn tap_of_number(number: i128) -> u32
 
 /// A tap from 0.5 to 2, in whole 10^-5.
 #[tactic(auto, unfolding(crate::specs::Forms::tap_in))]
-pub fn tap(alloc: Global, pair: &Pair) -> Result<u32, ModelFault>
+pub fn tap(alloc: Global, pair: &Pair) -> Result<u32, ModelError>
     ensures { Gives (λ n. n) result (tap_in pair.now) }
 {
     let number = number_within(alloc, pair, 500_000_000, 2 * ONE)?;
@@ -190,7 +190,7 @@ pub fn tap(alloc: Global, pair: &Pair) -> Result<u32, ModelFault>
 
 /// A time from 0 to 10^6 seconds, in whole milliseconds.
 #[tactic(auto, unfolding(crate::specs::Forms::milliseconds_in))]
-pub fn milliseconds(alloc: Global, pair: &Pair) -> Result<u32, ModelFault>
+pub fn milliseconds(alloc: Global, pair: &Pair) -> Result<u32, ModelError>
     ensures { Gives (λ n. n) result (milliseconds_in pair.now) }
 {
     let number = number_within(alloc, pair, 0, 1_000_000 * ONE)?;
@@ -199,7 +199,7 @@ pub fn milliseconds(alloc: Global, pair: &Pair) -> Result<u32, ModelFault>
 
 /// A ratio from 0 to 100, a multiple of 10^-4.
 #[tactic(auto, unfolding(crate::specs::Forms::ratio_in))]
-pub fn ratio(alloc: Global, pair: &Pair) -> Result<i128, ModelFault>
+pub fn ratio(alloc: Global, pair: &Pair) -> Result<i128, ModelError>
     ensures { Gives (λ n. n) result (ratio_in pair.now) }
 {
     let number = number_within(alloc, pair, 0, 100 * ONE)?;
@@ -227,20 +227,20 @@ fn signed_count(number: i128) -> i32
 
 /// An angle in degrees, a multiple of 30 from -360 to 360; any other is unsupported.
 #[tactic(auto, unfolding(crate::specs::Forms::angle_in))]
-pub fn angle(alloc: Global, pair: &Pair) -> Result<i32, ModelFault>
+pub fn angle(alloc: Global, pair: &Pair) -> Result<i32, ModelError>
     ensures { Gives (λ n. n) result (angle_in pair.now) }
 {
     let number = number_value(alloc, pair)?;
     if is_angle(number) {
         Ok(signed_count(number))
     } else {
-        Err(ModelFault::Unsupported)
+        Err(ModelError::Fault(ModelFault::Unsupported))
     }
 }
 
 /// The number of a phase, which may be any whole number.
 #[tactic(auto, unfolding(crate::specs::Forms::phase_in))]
-pub fn phase(alloc: Global, pair: &Pair) -> Result<i32, ModelFault>
+pub fn phase(alloc: Global, pair: &Pair) -> Result<i32, ModelError>
     ensures { Gives (λ n. n) result (phase_in pair.now) }
 {
     let number = whole_value(alloc, pair)?;

@@ -5,7 +5,7 @@ ghost use Rattle.fd_app.specs.Answered.{IsAnswered, solve_count, solves_of};
 ghost use Rattle.fd_app.specs.Commands.{left_of, solve_left, tried};
 
 use crate::answer::{Answer, refused};
-use dss_circuit::{Circuit, Command, ModelFault, Verb};
+use dss_circuit::{Circuit, Command, ModelError, Verb};
 use dss_ready::{ReadyFault, ready};
 use fd_report::Cause;
 use std::alloc::{AllocError, Global};
@@ -50,7 +50,10 @@ pub(crate) fn answer_to(
 {
     match circuit.apply(alloc, command) {
         Ok(()) => after_apply(alloc, circuit, command),
-        Err(ModelFault::NoMemory) => Err(AllocError),
-        Err(cause) => Ok(Answer::Refuses(refused(&command.place, Cause::Model(cause))?)),
+        Err(ModelError::Fault(cause)) => {
+            let fault = refused(&command.place, Cause::Model(cause))?;
+            Ok(Answer::Refuses(fault))
+        }
+        Err(ModelError::NoMemory) => Err(AllocError),
     }
 }

@@ -51,7 +51,7 @@ script_text script.TooDeep = codes "too deep"
 script_text script.TooLong = codes "too long"
 script_text script.ContinuesNothing = codes "continues nothing"
 
--- what the circuit refuses, or a test of Solve finds; want of memory is no cause of a refusal
+-- what the circuit refuses, or a test of Solve finds
 abbrev pub model_text : ModelFault → List ℕ
 model_text model.UnknownClass = codes "unknown class"
 model_text model.UnknownProperty = codes "unknown property"
@@ -70,7 +70,6 @@ model_text model.BadNumber = codes "bad number"
 model_text model.NumberTooLarge = codes "number too large"
 model_text model.BadPostfix = codes "bad postfix"
 model_text model.DivideByZero = codes "divide by zero"
-model_text model.NoMemory = codes "no memory"
 
 abbrev pub cause_text : Cause → List ℕ
 cause_text (cause.Script c) = script_text c

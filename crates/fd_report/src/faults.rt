@@ -175,7 +175,6 @@ fn model_text(cause: ModelFault) -> &'static [u8]
         ModelFault::NumberTooLarge => b"number too large",
         ModelFault::BadPostfix => b"bad postfix",
         ModelFault::DivideByZero => b"divide by zero",
-        ModelFault::NoMemory => b"no memory",
     }
 }
 

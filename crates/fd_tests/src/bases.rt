@@ -1,5 +1,5 @@
 // Small feeders with their bases.
-use dss_circuit::{Circuit, Command, ModelFault, Place, Verb};
+use dss_circuit::{Circuit, Command, ModelError, ModelFault, Place, Verb};
 use dss_lexer::{PairList, Text, pairs};
 use fd_bases::{BusBase, bases};
 use std::alloc::Global;
@@ -37,22 +37,22 @@ const WALK: [Row<'static>; 7] = [
     ("Line", "y", "bus1=nowhere bus2=else"),
 ];
 
-fn text(alloc: Global, of: &str) -> Result<Text, ModelFault> {
+fn text(alloc: Global, of: &str) -> Result<Text, ModelError> {
     Ok(Text::new(String::from_str(alloc, of)?))
 }
 
-fn apply(alloc: Global, circuit: &mut Circuit, verb: Verb) -> Result<(), ModelFault> {
+fn apply(alloc: Global, circuit: &mut Circuit, verb: Verb) -> Result<(), ModelError> {
     let place = Place {
         file: text(alloc, "m.dss")?,
         line: 1,
     };
     if circuit.solves() > 0 || circuit.elements().len() > 100 {
-        return Err(ModelFault::TooMany);
+        return Err(ModelError::Fault(ModelFault::TooMany));
     }
     circuit.apply(alloc, &Command { place, verb })
 }
 
-fn circuit(alloc: Global, rows: &[Row]) -> Result<Circuit, ModelFault> {
+fn circuit(alloc: Global, rows: &[Row]) -> Result<Circuit, ModelError> {
     let mut circuit = Circuit::empty(alloc);
     for (class, name, rest) in rows {
         let verb = Verb::New {
@@ -65,7 +65,7 @@ fn circuit(alloc: Global, rows: &[Row]) -> Result<Circuit, ModelFault> {
     Ok(circuit)
 }
 
-fn set(alloc: Global, circuit: &mut Circuit, options: &str) -> Result<(), ModelFault> {
+fn set(alloc: Global, circuit: &mut Circuit, options: &str) -> Result<(), ModelError> {
     let pairs = PairList::new(pairs(alloc, options.as_bytes())?);
     apply(alloc, circuit, Verb::Set { pairs })
 }
@@ -80,7 +80,7 @@ fn are(found: &[BusBase], due: &[(&str, i128)]) -> bool {
 }
 
 #[test]
-fn finds_the_nearest_base(rt: HostRuntime) -> Result<(), ModelFault> {
+fn finds_the_nearest_base(rt: HostRuntime) -> Result<(), ModelError> {
     let alloc = rt.alloc();
     let mut feeder = circuit(alloc, &ONE_PHASE)?;
     assert!(rt; bases(alloc, &feeder)?.is_empty());
@@ -95,7 +95,7 @@ fn finds_the_nearest_base(rt: HostRuntime) -> Result<(), ModelFault> {
 }
 
 #[test]
-fn walks_to_every_bus(rt: HostRuntime) -> Result<(), ModelFault> {
+fn walks_to_every_bus(rt: HostRuntime) -> Result<(), ModelError> {
     let alloc = rt.alloc();
     let mut feeder = circuit(alloc, &WALK)?;
     set(alloc, &mut feeder, "voltagebases=[0.208 4.16 0.48]")?;

@@ -1,7 +1,7 @@
 ghost use Rattle.std.specs.Prelude.{◌≡◌, None, true};
 ghost use Rattle.dss_layout.specs.Layout.{first_too_many};
 
-use dss_circuit::{Circuit, Command, ModelFault, Place, Verb};
+use dss_circuit::{Circuit, Command, ModelError, ModelFault, Place, Verb};
 use dss_lexer::{PairList, Text, pairs};
 use dss_ready::ready;
 use fd_arith::{NodeAt, TapPair};
@@ -43,18 +43,18 @@ const UNSHAPED: LoadPower = LoadPower {
     q: -2_000_000,
 };
 
-fn text(alloc: Global, of: &str) -> Result<Text, ModelFault> {
+fn text(alloc: Global, of: &str) -> Result<Text, ModelError> {
     Ok(Text::new(String::from_str(alloc, of)?))
 }
 
-fn place(alloc: Global) -> Result<Place, ModelFault> {
+fn place(alloc: Global) -> Result<Place, ModelError> {
     Ok(Place {
         file: text(alloc, "m.dss")?,
         line: 1,
     })
 }
 
-fn circuit(alloc: Global) -> Result<Circuit, ModelFault> {
+fn circuit(alloc: Global) -> Result<Circuit, ModelError> {
     let mut circuit = Circuit::empty(alloc);
     for (class, name, rest) in &COMMANDS {
         add(alloc, &mut circuit, class, name, rest)?;
@@ -68,7 +68,7 @@ fn add(
     class: &str,
     name: &str,
     rest: &str,
-) -> Result<(), ModelFault> {
+) -> Result<(), ModelError> {
     let verb = Verb::New {
         class: text(alloc, class)?,
         name: text(alloc, name)?,
@@ -77,14 +77,14 @@ fn add(
     apply(alloc, circuit, verb)
 }
 
-fn pair_list(alloc: Global, of: &str) -> Result<PairList, ModelFault> {
+fn pair_list(alloc: Global, of: &str) -> Result<PairList, ModelError> {
     Ok(PairList::new(pairs(alloc, of.as_bytes())?))
 }
 
-fn apply(alloc: Global, circuit: &mut Circuit, verb: Verb) -> Result<(), ModelFault> {
+fn apply(alloc: Global, circuit: &mut Circuit, verb: Verb) -> Result<(), ModelError> {
     let place = place(alloc)?;
     if circuit.solves() > 100 || circuit.elements().len() > 100 {
-        return Err(ModelFault::TooMany);
+        return Err(ModelError::Fault(ModelFault::TooMany));
     }
     circuit.apply(alloc, &Command { place, verb })
 }
@@ -95,7 +95,7 @@ fn edit(
     class: &str,
     name: &str,
     rest: &str,
-) -> Result<(), ModelFault> {
+) -> Result<(), ModelError> {
     let verb = Verb::Edit {
         class: text(alloc, class)?,
         name: text(alloc, name)?,
@@ -104,7 +104,7 @@ fn edit(
     apply(alloc, circuit, verb)
 }
 
-fn solve(alloc: Global, circuit: &mut Circuit) -> Result<(), ModelFault> {
+fn solve(alloc: Global, circuit: &mut Circuit) -> Result<(), ModelError> {
     let pairs = pair_list(alloc, "")?;
     apply(alloc, circuit, Verb::Solve { pairs })
 }
@@ -150,7 +150,7 @@ fn hours(rt: HostRuntime) -> Result<(), Fail> {
 }
 
 // The circuit with a second transformer, after a Solve.
-fn solved(alloc: Global) -> Result<Circuit, ModelFault> {
+fn solved(alloc: Global) -> Result<Circuit, ModelError> {
     let mut circuit = circuit(alloc)?;
     let rest = "buses=[sourcebus c] kvs=[12.47 4.16] taps=[0.95 1.025]";
     add(alloc, &mut circuit, "Transformer", "u", rest)?;
@@ -159,7 +159,7 @@ fn solved(alloc: Global) -> Result<Circuit, ModelFault> {
 }
 
 // The same after these values of an element were set, and a second Solve.
-fn solved_again(alloc: Global, class: &str, name: &str, rest: &str) -> Result<Circuit, ModelFault> {
+fn solved_again(alloc: Global, class: &str, name: &str, rest: &str) -> Result<Circuit, ModelError> {
     let mut circuit = solved(alloc)?;
     edit(alloc, &mut circuit, class, name, rest)?;
     solve(alloc, &mut circuit)?;
@@ -171,7 +171,7 @@ fn started(
     alloc: Global,
     circuit: &Circuit,
     taps: &[TapPair],
-) -> Result<(Vec<TapPair>, Vec<bool>), ModelFault> {
+) -> Result<(Vec<TapPair>, Vec<bool>), ModelError> {
     let before = Positions {
         taps: Taps::new(Vec::from_slice(alloc, taps)?),
         closed: BankStates::new(vec![in alloc; true]?),

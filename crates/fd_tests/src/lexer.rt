@@ -1,10 +1,10 @@
 // Corners of the script language, with values worked out by hand.
-use dss_lexer::{LexFault, Pair, PairList, Row, Text, cells, matrix, number, pairs, postfix};
+use dss_lexer::{LexError, LexFault, Pair, PairList, Row, Text, cells, matrix, number, pairs, postfix};
 use std::alloc::{AllocError, Global};
 use std::fmt::Write;
 
 // Each pair as `name=value`, or `name=(value)` for a group, with a semicolon behind it.
-fn shown(alloc: Global, line: &[u8]) -> Result<String, LexFault> {
+fn shown(alloc: Global, line: &[u8]) -> Result<String, LexError> {
     let list = PairList::new(pairs(alloc, line)?);
     let mut text = String::new(alloc);
     for pair in list.as_slice() {
@@ -24,7 +24,7 @@ fn write_pair(text: &mut String, pair: &Pair) -> Result<(), AllocError> {
 }
 
 #[test]
-fn cuts_lines(rt: HostRuntime) -> Result<(), LexFault> {
+fn cuts_lines(rt: HostRuntime) -> Result<(), LexError> {
     let alloc = rt.alloc();
     for (line, want) in [
         ("Solve! four", "=Solve;"),
@@ -49,16 +49,22 @@ fn cuts_lines(rt: HostRuntime) -> Result<(), LexFault> {
 }
 
 #[test]
-fn refuses_lines(rt: HostRuntime) -> Result<(), LexFault> {
+fn refuses_lines(rt: HostRuntime) -> Result<(), LexError> {
     let alloc = rt.alloc();
     let blanks = vec![in alloc; b' '; 65_536]?;
     let long = vec![in alloc; 255; 65_537]?;
     assert!(rt; pairs(alloc, &blanks)?.is_empty());
-    assert_eq!(rt; shown(alloc, &long).err(), Some(LexFault::LineTooLong));
-    assert_eq!(rt; shown(alloc, &[255]).err(), Some(LexFault::NotText));
+    assert_eq!(rt;
+        shown(alloc, &long).err(),
+        Some(LexError::Fault(LexFault::LineTooLong))
+    );
+    assert_eq!(rt;
+        shown(alloc, &[255]).err(),
+        Some(LexError::Fault(LexFault::NotText))
+    );
     assert_eq!(rt;
         shown(alloc, b"bus1='b.1").err(),
-        Some(LexFault::UnclosedGroup)
+        Some(LexError::Fault(LexFault::UnclosedGroup))
     );
     Ok(())
 }
@@ -96,19 +102,25 @@ fn evaluates_expressions(rt: HostRuntime) {
         ("100, 1 3 / 3 * 10 * -", Ok(90_000_000_010)),
         ("17 -20 / -1 *", Ok(850_000_000)),
         ("-5 +95 +", Ok(90_000_000_000)),
-        ("+ 1 2", Err(LexFault::BadPostfix)),
-        ("1 2", Err(LexFault::BadPostfix)),
-        ("", Err(LexFault::BadPostfix)),
-        ("1 0.0000000004 /", Err(LexFault::DivideByZero)),
-        ("100000 100000 *", Err(LexFault::NumberTooLarge)),
-        ("1 x +", Err(LexFault::BadNumber)),
+        ("+ 1 2", Err(LexError::Fault(LexFault::BadPostfix))),
+        ("1 2", Err(LexError::Fault(LexFault::BadPostfix))),
+        ("", Err(LexError::Fault(LexFault::BadPostfix))),
+        (
+            "1 0.0000000004 /",
+            Err(LexError::Fault(LexFault::DivideByZero)),
+        ),
+        (
+            "100000 100000 *",
+            Err(LexError::Fault(LexFault::NumberTooLarge)),
+        ),
+        ("1 x +", Err(LexError::Fault(LexFault::BadNumber))),
     ] {
         assert_eq!(rt; postfix(rt.alloc(), text), want, "at {text}");
     }
 }
 
 #[test]
-fn reads_groups(rt: HostRuntime) -> Result<(), LexFault> {
+fn reads_groups(rt: HostRuntime) -> Result<(), LexError> {
     let alloc = rt.alloc();
     let rows = matrix(alloc, "0.3|0.1, 0.4")?;
     assert_eq!(rt; rows.len(), 2);

@@ -7,7 +7,7 @@ ghost use Rattle.fd_devices.specs.Building.{IsModest};
 ghost use Rattle.fd_devices.specs.Settings.{bank_count, power_count, tap_count};
 ghost use Rattle.fd_network.specs.Built.{IsBuiltOf};
 
-use dss_circuit::{Circuit, Command, Element, ModelFault, Place, Verb};
+use dss_circuit::{Circuit, Command, Element, ModelError, ModelFault, Place, Verb};
 use dss_lexer::{PairList, Text, pairs};
 use dss_ready::{ReadyFault, ready};
 use fd_arith::{Interval, Micro, TapPair};
@@ -43,12 +43,12 @@ const POWER: LoadPower = LoadPower {
     q: 0,
 };
 
-fn text(alloc: Global, of: &str) -> Result<Text, ModelFault> {
+fn text(alloc: Global, of: &str) -> Result<Text, ModelError> {
     Ok(Text::new(String::from_str(alloc, of)?))
 }
 
 // Makes an element; its New stands in this line.
-fn make(alloc: Global, circuit: &mut Circuit, line: u32, row: &Row) -> Result<(), ModelFault> {
+fn make(alloc: Global, circuit: &mut Circuit, line: u32, row: &Row) -> Result<(), ModelError> {
     let (class, name, rest) = *row;
     let place = Place {
         file: text(alloc, "m.dss")?,
@@ -60,17 +60,17 @@ fn make(alloc: Global, circuit: &mut Circuit, line: u32, row: &Row) -> Result<()
         pairs: PairList::new(pairs(alloc, rest.as_bytes())?),
     };
     if circuit.solves() > 0 || circuit.elements().len() > 100 {
-        return Err(ModelFault::TooMany);
+        return Err(ModelError::Fault(ModelFault::TooMany));
     }
     circuit.apply(alloc, &Command { place, verb })
 }
 
 // The circuit of these elements, of which the first has its New in line 1.
-fn circuit(alloc: Global, rows: &[Row]) -> Result<Circuit, ModelFault> {
+fn circuit(alloc: Global, rows: &[Row]) -> Result<Circuit, ModelError> {
     let mut circuit = Circuit::empty(alloc);
     for (before, row) in rows.iter().enumerate() {
         if before >= 1000 {
-            return Err(ModelFault::TooMany);
+            return Err(ModelError::Fault(ModelFault::TooMany));
         }
         make(alloc, &mut circuit, before as u32 + 1, row)?;
     }
@@ -279,7 +279,7 @@ fn worked(
     alloc: Global,
     rt: &impl Abort,
     power: LoadPower,
-) -> Result<([u128; 8], [u128; 8], bool), ModelFault> {
+) -> Result<([u128; 8], [u128; 8], bool), ModelError> {
     let circuit = circuit(alloc, &[SOURCE, LINE, LOAD])?;
     let before = powers(alloc, &[POWER])?;
     let after = powers(alloc, &[power])?;
@@ -289,7 +289,7 @@ fn worked(
             let refused = updated_by_script(alloc, rt, &mut net, &circuit, &after)?;
             Ok((first, sizes(alloc, rt, &net)?, refused))
         }
-        Err(_) => Err(ModelFault::NoMemory),
+        Err(_) => Err(ModelError::NoMemory),
     }
 }
 

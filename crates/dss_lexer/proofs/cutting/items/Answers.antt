@@ -17,8 +17,8 @@ returns-in_err-pair c =
     let left : length c.args.text.now - c.loop.counter ≡ suc (length c.args.text.now - (c.loop.counter + 1)) = omega arith in
     rw (p.1, p.2)
     (fails_further c.in_err-pair.field-0.0 (item_at c.without_separators-rest.result.now) (items_of (length c.args.text.now) c.args.text.now)
-    (λ was. sym c.loop.invariant ∙ ap (λ n. after c.loop.found.items (items_of n c.loop.rest.now)) left
-    ∙ items_fault _ c.loop.rest.now c.loop.found.items c.in_err-pair.field-0.0 goes (ap item_at (sym c.without_separators-rest.ensures) ∙ was))
+    (λ fault was. sym c.loop.invariant ∙ ap (λ n. after c.loop.found.items (items_of n c.loop.rest.now)) left
+    ∙ items_fault _ c.loop.rest.now c.loop.found.items fault goes (ap item_at (sym c.without_separators-rest.ensures) ∙ was))
     c.in_err-pair.ensures)
 
 pub loop-preserved : goal.loop-preserved
