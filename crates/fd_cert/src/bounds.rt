@@ -77,46 +77,9 @@ fn sizes_by_weight(numbers: &[i128], weights: &[i128]) -> Option<u128>
     Some(total)
 }
 
-// The same where the weights are short and each number has 64 bits; none where one has more.
-//
-// Never inlined: beside the other loops of a row LLVM would keep its places in memory.
-#[inline(never)]
-fn sizes_by_short_weight(numbers: &[i128], shorts: &[u64]) -> Option<u128>
-    requires few { length numbers.now ≤ 2 ^ 11 }
-    requires long { length shorts.now ≡ length numbers.now }
-    requires small { (j : ℕ) → j < length numbers.now → number_at shorts.now j ≤ 2 ^ 40 }
-    ensures sum { IfSome result (λ t. t ≡ short_total (length numbers.now) shorts.now numbers.now) }
-    ensures small { IfSome result (λ t. t ≤ 2 ^ 120) }
-{
-    let mut total = 0;
-    for col in 0..numbers.len() {
-        match short_size(numbers[col]) {
-            Some(size) => total = plus_short(total, shorts[col], size),
-            None => return None,
-        }
-    }
-    Some(total)
-}
-
-// The sizes of numbers, each times its weight, added up; none where that passes 2^120. `shorts` are the weights where
-// all are short.
-fn left_by_weight(numbers: &[i128], weights: &[i128], shorts: &Option<Vec<u64>>) -> Option<u128>
-    requires few { length numbers.now ≤ 2 ^ 11 }
-    requires weights { length weights.now ≡ length numbers.now }
-    requires shorts { IfSome shorts.now (λ s. AreShortWeights weights.now s.items) }
-    ensures { IsTotal (weighted_total (length numbers.now) weights.now numbers.now) result }
-{
-    if let Some(shorts) = shorts {
-        if let Some(total) = sizes_by_short_weight(numbers, shorts) {
-            return Some(total);
-        }
-    }
-    sizes_by_weight(numbers, weights)
-}
-
 // The total with the sizes of the entries of a row of the inverse more, each times a number.
 //
-// Never inlined, for the same reason.
+// Never inlined: beside the other loops of a row LLVM would keep its places in memory.
 #[inline(never)]
 fn plus_sizes(total: u128, factors: &[i128], numbers: &[u128]) -> Option<u128>
     requires total { total ≤ 2 ^ 120 }
@@ -145,24 +108,39 @@ pub fn are_light(numbers: &[u128]) -> bool
     true
 }
 
-// The same as `plus_sizes` for light numbers: on the way only what passes 2^127 is tested.
+// The sizes of numbers, each times its weight, and the sizes of the entries of a row of the inverse, each times a radius,
+// added up in one walk, where the weights are short and the radii light. None where a number has more than 64 bits, or
+// where the second sum passes 2^127 on the way.
 //
 // Never inlined, for the same reason.
 #[inline(never)]
-fn plus_light_sizes(total: u128, factors: &[i128], numbers: &[u128]) -> Option<u128>
-    requires total { total ≤ 2 ^ 120 }
+fn short_row_total(
+    numbers: &[i128],
+    shorts: &[u64],
+    factors: &[i128],
+    radii: &[u128],
+) -> Option<u128>
+    requires few { length numbers.now ≤ 2 ^ 11 }
+    requires shorts { length shorts.now ≡ length numbers.now }
+    requires small { (j : ℕ) → j < length numbers.now → number_at shorts.now j ≤ 2 ^ 40 }
+    requires radii { length radii.now ≡ length numbers.now }
+    requires light { AreLight radii.now }
     requires factors { IsRowOfInverse (length numbers.now) factors.now }
-    requires light { AreLight numbers.now }
-    ensures { IsTotal (total + sizes_total (length numbers.now) factors.now numbers.now) result }
+    ensures { IfSome result (λ t. t ≡ short_total (length numbers.now) shorts.now numbers.now + sizes_total (length numbers.now) factors.now radii.now) }
 {
-    let mut sum = total;
-    for row in 0..numbers.len() {
-        match plus_light(sum, factors[row], numbers[row]) {
-            Some(next) => sum = next,
-            None => return None,
-        }
+    let mut total = 0;
+    let mut sizes = 0;
+    for place in 0..numbers.len() {
+        let Some(size) = short_size(numbers[place]) else {
+            return None;
+        };
+        let Some(next) = plus_light(sizes, factors[place], radii[place]) else {
+            return None;
+        };
+        total = plus_short(total, shorts[place], size);
+        sizes = next;
     }
-    up_to_limit(sum)
+    Some(total + sizes)
 }
 
 // The entries of a row, each size times the weight of its column, added up; a number above 2^120 where that passes it.
@@ -247,17 +225,37 @@ fn bound_of_sums(slopes: &Slopes, row: u32, factors: &[i128], sums: &mut [i128])
     over_weight(total, slopes.weights[row as usize])
 }
 
+// What is left of a row of the unit matrix and what the radii add, by weight, where the weights are short, the radii
+// light, and what is left has 64 bits.
+fn usual_row_total(slopes: &Slopes, factors: &[i128], left: &[i128]) -> Option<u128>
+    requires few { length left.now ≤ 2 ^ 11 }
+    requires weights { length slopes.now.weights.now ≡ length left.now }
+    requires radii { length slopes.now.radii.items ≡ length left.now }
+    requires shorts { IfSome slopes.now.shorts (λ s. AreShortWeights slopes.now.weights.now s.items) }
+    requires light { slopes.now.light ≡ true → AreLight slopes.now.radii.items }
+    requires factors { IsRowOfInverse (length left.now) factors.now }
+    ensures { IfSome result (λ t. t ≡ weighted_total (length left.now) slopes.now.weights.now left.now + sizes_total (length left.now) factors.now slopes.now.radii.items) }
+{
+    match &slopes.shorts {
+        Some(shorts) if slopes.light => short_row_total(left, shorts, factors, &slopes.radii),
+        _ => None,
+    }
+}
+
 // What is left of a row of the unit matrix and what the radii add, by weight.
 fn row_total(slopes: &Slopes, factors: &[i128], left: &[i128]) -> Option<u128>
     requires few { length left.now ≤ 2 ^ 11 }
     requires weights { length slopes.now.weights.now ≡ length left.now }
+    requires radii { length slopes.now.radii.items ≡ length left.now }
     requires shorts { IfSome slopes.now.shorts (λ s. AreShortWeights slopes.now.weights.now s.items) }
     requires light { slopes.now.light ≡ true → AreLight slopes.now.radii.items }
     requires factors { IsRowOfInverse (length slopes.now.radii.items) factors.now }
     ensures { IsTotal (weighted_total (length left.now) slopes.now.weights.now left.now + sizes_total (length slopes.now.radii.items) factors.now slopes.now.radii.items) result }
 {
-    match left_by_weight(left, slopes.weights, &slopes.shorts) {
-        Some(total) if slopes.light => plus_light_sizes(total, factors, &slopes.radii),
+    if let Some(total) = usual_row_total(slopes, factors, left) {
+        return up_to_limit(total);
+    }
+    match sizes_by_weight(left, slopes.weights) {
         Some(total) => plus_sizes(total, factors, &slopes.radii),
         None => None,
     }

@@ -1,9 +1,11 @@
-use Rattle.std.proofs.Common.{◌≡◌, ◌*◌, ◌≤◌, ◌^◌}
-use Rattle.fd_cert.specs.Totals.{short_total}
-use Rattle.fd_cert.proofs.bounds.sizes_by_short_weight.Given as goal
+use Rattle.std.proofs.Common.{◌≡◌, ◌+◌, ◌*◌, ◌≤◌, ◌^◌}
+use Rattle.fd_cert.specs.Totals.{short_total, sizes_total}
+use Rattle.fd_cert.proofs.bounds.short_row_total.Given as goal
 
-abbrev pub invariant-loop-col : goal.invariant-loop-col
-invariant-loop-col l = record {
-  sum : l.total ≡ short_total l.col l.shorts l.numbers;
-  small : l.total ≤ l.col * 2 ^ 104;
+abbrev pub invariant-loop-place : goal.invariant-loop-place
+invariant-loop-place l = record {
+  sum : l.total ≡ short_total l.place l.shorts l.numbers;
+  small : l.total ≤ l.place * 2 ^ 104;
+  sizes : l.sizes ≡ sizes_total l.place l.factors l.radii;
+  below : l.sizes ≤ 2 ^ 127 + 2 ^ 126;
 }
