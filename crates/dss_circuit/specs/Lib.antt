@@ -3,3 +3,4 @@ pub mod Keys
 pub mod Circuit
 pub mod WellFormed
 pub mod InRange
+pub mod Lookups

@@ -14,3 +14,4 @@ pub mod Ranges
 pub mod InRange
 pub mod SameElement
 pub mod Changes
+pub mod Sound

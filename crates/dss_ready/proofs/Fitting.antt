@@ -22,7 +22,8 @@ use Rattle.dss_circuit.specs.Circuit.{Elements}
 use Rattle.dss_layout.specs.declared.numbers.TerminalFault.{TerminalFault}
 use Rattle.dss_layout.specs.declared.numbers.TerminalFault.TheVariants as terminal
 use Rattle.dss_ready.specs.Counts.{is_count_fault, is_part_wrong, is_shape_short, lacks_line_or_bank, lacks_transformer}
-use Rattle.dss_ready.specs.Lookups.{element_given, measured_phases, phases_given}
+use Rattle.dss_circuit.specs.Lookups.{element_given}
+use Rattle.dss_ready.specs.Lookups.{measured_phases, phases_given}
 use Rattle.dss_ready.specs.Mentions.{is_shape_followed, is_winding_controlled, is_second_control}
 use Rattle.dss_ready.specs.Passed.{AreSettingsApart, AreValuesFit, IsCapControlFit, IsPhaseOf, IsRegControlFit, IsShapeFit, IsTransformerFit, IsWindingFit}
 use Rattle.dss_ready.specs.Ranges.{are_settings_outside, is_capcontrol_outside, is_outside_by, is_phase_outside, is_regcontrol_outside, is_step_outside, is_tap_outside, is_transformer_outside, is_winding_outside}

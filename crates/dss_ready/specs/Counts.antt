@@ -1,8 +1,5 @@
 -- The counts that are tested at Solve.
-use Rattle.std.specs.Prelude.{ℕ, ℤ, ◌*◌, ◌==◌, nat_lt, length, Bool, true, false, not, ◌&&◌, ◌||◌, List, Option, Some, None, is_none, Result, Err}
-use Rattle.dss_values.specs.declared.words.DataForm.{DataForm}
-use Rattle.dss_values.specs.declared.words.DataForm.TheVariants as form
-use Rattle.dss_profile.specs.declared.line.Line.{Line}
+use Rattle.std.specs.Prelude.{ℕ, ◌==◌, nat_lt, length, Bool, true, false, ◌&&◌, ◌||◌, is_none, Result, Err}
 use Rattle.dss_profile.specs.declared.loadshape.Loadshape.{Loadshape}
 use Rattle.dss_profile.specs.declared.regcontrol.RegControl.{RegControl}
 use Rattle.dss_profile.specs.declared.capcontrol.CapControl.{CapControl}
@@ -14,22 +11,8 @@ use Rattle.dss_layout.specs.declared.numbers.TerminalFault.{TerminalFault}
 use Rattle.dss_layout.specs.declared.numbers.TerminalFault.TheVariants as terminal
 use Rattle.dss_circuit.specs.Circuit.{Elements}
 use Rattle.dss_ready.specs.Mentions.{is_shape_followed}
-use Rattle.dss_ready.specs.Lookups.{element_given}
-
--- a matrix that is given has a row and a column for each phase
-abbrev pub is_size_wrong : ℕ → Option (List ℤ) → Bool
-is_size_wrong phases None = false
-is_size_wrong phases (Some numbers) = not (length numbers == phases * phases)
-
-abbrev pub is_matrix : Option DataForm → Bool
-is_matrix (Some form.Matrix) = true
-is_matrix other = false
-
--- only the matrices of the form that holds are tested
-abbrev pub are_matrices_wrong : Line → Bool
-are_matrices_wrong line =
-    (is_matrix line.form && (is_size_wrong line.phases line.rmatrix || is_size_wrong line.phases line.xmatrix))
-    || (is_matrix line.charge_form && is_size_wrong line.phases line.cmatrix)
+use Rattle.dss_circuit.specs.Lookups.{element_given}
+use Rattle.dss_profile.specs.Sound.{are_matrices_wrong}
 
 -- a shape of no hours, or with fewer values than hours
 abbrev pub is_shape_short : Loadshape → Bool

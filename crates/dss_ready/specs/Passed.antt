@@ -20,10 +20,11 @@ use Rattle.dss_layout.specs.Feeding.{Fed}
 use Rattle.dss_layout.specs.Limits.{most_complex, most_magnitudes}
 use Rattle.dss_layout.specs.Layout.{complex_count, layout_of, nodes_of}
 use Rattle.dss_layout.specs.Terminals.{mentions, terminal_numbers, tested}
-use Rattle.dss_ready.specs.Counts.{are_matrices_wrong}
-use Rattle.dss_ready.specs.Lookups.{element_given, measured_phases}
+use Rattle.dss_profile.specs.Sound.{are_matrices_wrong}
+use Rattle.dss_circuit.specs.Lookups.{element_given}
+use Rattle.dss_ready.specs.Lookups.{measured_phases}
 use Rattle.dss_ready.specs.Mentions.{is_second_of_bank, is_second_of_winding, is_shape_followed, is_winding_controlled}
-use Rattle.dss_ready.specs.Ranges.{is_source_outside}
+use Rattle.dss_profile.specs.Sound.{is_source_outside}
 use Rattle.dss_ready.specs.Ready.{HasPassed}
 use Rattle.dss_ready.specs.Support.{frequency_of}
 

@@ -2,9 +2,6 @@
 use Rattle.std.specs.Prelude.{ℕ, ℤ, pos, ◌+◌, nat_lt, int_lt, int_le, Bool, false, not, ◌&&◌, ◌||◌, List, Option, Some, None}
 use Rattle.dss_values.specs.declared.words.ControlQuantity.{ControlQuantity}
 use Rattle.dss_values.specs.declared.words.ControlQuantity.TheVariants as quantity
-use Rattle.dss_values.specs.declared.words.SourceForm.{SourceForm}
-use Rattle.dss_values.specs.declared.words.SourceForm.TheVariants as form
-use Rattle.dss_profile.specs.declared.vsource.Vsource.{Vsource}
 use Rattle.dss_profile.specs.declared.transformer.Winding.{Winding}
 use Rattle.dss_profile.specs.declared.transformer.Transformer.{Transformer}
 use Rattle.dss_profile.specs.declared.regcontrol.RegControl.{RegControl}
@@ -15,16 +12,9 @@ use Rattle.dss_profile.specs.declared.names.Class.TheVariants as class
 use Rattle.dss_profile.specs.declared.names.ElementName.{ElementName}
 use Rattle.dss_circuit.specs.Circuit.{Elements}
 use Rattle.dss_ready.specs.Mentions.{is_winding_controlled}
-use Rattle.dss_ready.specs.Lookups.{element_given, phases_given}
-use Rattle.fd_arith.specs.ShortCircuit.{is_source_above_limit}
-
--- a source that isn't given in ohms has at most 10^4 ohm for three phases and for one
-abbrev pub is_source_outside_by : SourceForm → Vsource → Bool
-is_source_outside_by form.ShortCircuit source = is_source_above_limit source.basekv source.mvasc3 source.mvasc1
-is_source_outside_by form.Ohms source = false
-
-abbrev pub is_source_outside : Vsource → Bool
-is_source_outside source = is_source_outside_by source.form source
+use Rattle.dss_circuit.specs.Lookups.{element_given}
+use Rattle.dss_ready.specs.Lookups.{phases_given}
+use Rattle.dss_profile.specs.Sound.{is_source_outside}
 
 -- a step of the tap, (maxtap - mintap) over numtaps, is at least 10^-5
 abbrev pub is_step_outside : Winding → Bool

@@ -1,7 +1,8 @@
 // Counts that are tested at Solve.
 ghost use Rattle.std.specs.Prelude.{◌≡◌, ◌&&◌, IfOk};
 ghost use Rattle.dss_ready.specs.Noted.{Notes, has_shape};
-ghost use Rattle.dss_ready.specs.Counts.{is_size_wrong, is_matrix, are_matrices_wrong, is_shape_short, lacks_transformer, lacks_line_or_bank, is_part_wrong};
+ghost use Rattle.dss_profile.specs.Sound.{is_size_wrong, is_matrix, are_matrices_wrong};
+ghost use Rattle.dss_ready.specs.Counts.{is_shape_short, lacks_transformer, lacks_line_or_bank, is_part_wrong};
 
 use crate::lookup::{Elements, find_given};
 use crate::mention::Mentions;

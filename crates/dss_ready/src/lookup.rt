@@ -1,6 +1,7 @@
 // Elements by name.
 ghost use Rattle.std.specs.Prelude.{◌≡◌, IfOk, option_copied};
-ghost use Rattle.dss_ready.specs.Lookups.{element_given, phases_given};
+ghost use Rattle.dss_circuit.specs.Lookups.{element_given};
+ghost use Rattle.dss_ready.specs.Lookups.{phases_given};
 
 use dss_circuit::find_element;
 use dss_lexer::Text;

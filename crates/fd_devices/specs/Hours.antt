@@ -9,7 +9,7 @@ use Rattle.dss_profile.specs.declared.element.Element.{Element}
 use Rattle.dss_profile.specs.declared.element.Element.TheVariants as the
 use Rattle.dss_profile.specs.declared.names.Class.TheVariants as class
 use Rattle.dss_layout.specs.Layout.{Elements}
-use Rattle.dss_ready.specs.Lookups.{element_given}
+use Rattle.dss_circuit.specs.Lookups.{element_given}
 use Rattle.fd_elements.specs.declared.powers.LoadPower.{LoadPower}
 use Rattle.fd_devices.specs.Settings.{power_count}
 use Rattle.fd_devices.specs.Snapshot.{power_of, snapshot_of}

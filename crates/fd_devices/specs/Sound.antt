@@ -6,8 +6,8 @@ use Rattle.fd_system.specs.Terminals.{node_count}
 use Rattle.dss_profile.specs.declared.element.Element.{Element}
 use Rattle.dss_profile.specs.declared.element.Element.TheVariants as the
 use Rattle.dss_layout.specs.Terminals.{terminal_numbers, tested}
-use Rattle.dss_ready.specs.Counts.{are_matrices_wrong}
-use Rattle.dss_ready.specs.Ranges.{is_source_outside}
+use Rattle.dss_profile.specs.Sound.{are_matrices_wrong}
+use Rattle.dss_profile.specs.Sound.{is_source_outside}
 use Rattle.fd_equations.specs.Conditions.{IsAmong}
 
 -- ---- values

@@ -4,7 +4,7 @@ ghost use Rattle.dss_values.specs.Forms.{ones};
 ghost use Rattle.dss_profile.specs.Ranges.{IsBetween};
 ghost use Rattle.dss_profile.specs.InRange.{ElementInRange, LoadInRange, LoadshapeInRange};
 ghost use Rattle.dss_profile.specs.declared.names.Class.TheVariants as class;
-ghost use Rattle.dss_ready.specs.Lookups.{element_given};
+ghost use Rattle.dss_circuit.specs.Lookups.{element_given};
 ghost use Rattle.fd_devices.specs.Building.{IsModest};
 ghost use Rattle.fd_devices.specs.Hours.{HoursLaw, element_powers, followed_point, hour_powers, point_at, repeated_point};
 ghost use Rattle.fd_devices.specs.Snapshot.{power_of};

@@ -1,7 +1,7 @@
 // The data of sources.
 ghost use Rattle.std.specs.Prelude.{◌≡◌, ◌*◌, ◌^◌, pos, IfOk, IfErr, IsTrue, ◌↔◌};
 ghost use Rattle.dss_profile.specs.InRange.{VsourceInRange};
-ghost use Rattle.dss_ready.specs.Ranges.{is_source_outside};
+ghost use Rattle.dss_profile.specs.Sound.{is_source_outside};
 ghost use Rattle.fd_exact.specs.Ranges.{UpTo};
 ghost use Rattle.fd_source.specs.Powers.{AreWithin, IsShortCircuit};
 ghost use Rattle.fd_source.specs.Equations.{IsSource};

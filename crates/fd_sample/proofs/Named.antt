@@ -20,7 +20,7 @@ use Rattle.dss_profile.specs.declared.transformer.Transformer.{Transformer}
 use Rattle.dss_profile.proofs.CallerLemmas.{equal}
 use Rattle.dss_circuit.specs.WellFormed.{IsEntry}
 use Rattle.dss_layout.specs.Layout.{Elements}
-use Rattle.dss_ready.specs.Lookups.{element_given}
+use Rattle.dss_circuit.specs.Lookups.{element_given}
 use Rattle.fd_devices.specs.Settings.{bank_count, tap_count}
 use Rattle.fd_sample.specs.declared.probe.CapProbe.{CapProbe}
 use Rattle.fd_sample.specs.declared.probe.Probe.{Probe}

@@ -29,7 +29,7 @@ use Rattle.dss_circuit.specs.Circuit.{CircuitView}
 use Rattle.dss_circuit.specs.WellFormed.{IsEntry}
 use Rattle.dss_layout.specs.Layout.{Elements, LayoutView, branch_phases, complex_count, ends_of, layout_of, size_of}
 use Rattle.dss_layout.proofs.CallerLemmas.{length-sums_before}
-use Rattle.dss_ready.specs.Lookups.{element_given}
+use Rattle.dss_circuit.specs.Lookups.{element_given}
 use Rattle.dss_ready.specs.Passed.{IsFit, IsPhaseOf}
 use Rattle.dss_ready.specs.Ready.{HasPassed}
 use Rattle.dss_ready.proofs.CallerLemmas.{passed}

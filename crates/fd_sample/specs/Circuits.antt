@@ -19,7 +19,7 @@ use Rattle.dss_circuit.specs.Circuit.{CircuitView}
 use Rattle.dss_circuit.specs.InRange.{AllInRange}
 use Rattle.dss_circuit.specs.WellFormed.{IsEntry}
 use Rattle.dss_layout.specs.Layout.{Elements, LayoutView, complex_count, ends_of, layout_of, size_of, sums_before}
-use Rattle.dss_ready.specs.Lookups.{element_given}
+use Rattle.dss_circuit.specs.Lookups.{element_given}
 use Rattle.dss_ready.specs.Passed.{IsPhaseOf}
 use Rattle.dss_ready.specs.Ready.{HasPassed}
 use Rattle.fd_xfmr.specs.Transformer.{IsBetween}

@@ -5,7 +5,7 @@ ghost use Rattle.std.specs.Map.{lookup};
 ghost use Rattle.dss_profile.specs.InRange.{CapControlInRange, RegControlInRange};
 ghost use Rattle.dss_profile.specs.SameElement.{same_element};
 ghost use Rattle.dss_layout.specs.Layout.{layout_of, size_of};
-ghost use Rattle.dss_ready.specs.Lookups.{element_given};
+ghost use Rattle.dss_circuit.specs.Lookups.{element_given};
 ghost use Rattle.dss_ready.specs.Ready.{HasPassed};
 ghost use Rattle.fd_sample.specs.Circuits.{AreNumbers, IsCapControlIn, IsCapProbeAt, IsCapProbeIn, IsLineFor, IsProbeOf, IsRegControlIn, IsRegProbeAt, IsRegProbeIn, IsXfmrFor, element_at, line_in, transformer_in, place_given as place_of};
 ghost use Rattle.fd_sample.specs.Banks.{IsCapProbe};

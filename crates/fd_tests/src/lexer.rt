@@ -1,5 +1,7 @@
 // Corners of the script language, with values worked out by hand.
-use dss_lexer::{LexError, LexFault, Pair, PairList, Row, Text, cells, matrix, number, pairs, postfix};
+use dss_lexer::{
+    LexError, LexFault, Pair, PairList, Row, Text, cells, matrix, number, pairs, postfix,
+};
 use std::alloc::{AllocError, Global};
 use std::fmt::Write;
 

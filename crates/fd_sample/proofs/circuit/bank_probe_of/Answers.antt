@@ -2,7 +2,7 @@ use Rattle.std.proofs.Common.{◌≡◌, ◌∙◌, ◌<◌, sym, subst, length,
 use Rattle.std.proofs.lemmas.Result.{IfOk-weaker}
 use Rattle.dss_profile.specs.declared.names.Class.TheVariants as class
 use Rattle.dss_layout.specs.Layout.{Elements, LayoutView}
-use Rattle.dss_ready.specs.Lookups.{element_given}
+use Rattle.dss_circuit.specs.Lookups.{element_given}
 use Rattle.fd_devices.specs.Settings.{bank_count}
 use Rattle.fd_sample.specs.Circuits.{IsLineFor, element_at, place_given}
 use Rattle.fd_sample.proofs.Places.{number_at, numbers_inside}
