@@ -1,0 +1,41 @@
+// Items in order, which contracts see as a list.
+ghost use Rattle.std.specs.Prelude.{◌≡◌};
+
+use std::marker::Model;
+
+/// Items in order, which contracts see as a list. None is added or changed.
+#[derive(Drop, Debug)]
+pub struct Items<T> {
+    kept: Vec<T>,
+}
+
+impl<T> Model for Items<T> {
+    ghost use Rattle.std.specs.Prelude.{List};
+
+    ghost Value = { List T };
+
+    ghost view = { λ items. items.kept.items };
+}
+
+impl<T> Items<T> {
+    /// The items of a vector. It takes no memory.
+    pub fn new(items: Vec<T>) -> Self
+        ensures { result ≡ items.items }
+    {
+        Items { kept: items }
+    }
+
+    /// The vector of the items. It takes no memory.
+    pub fn into_vec(self) -> Vec<T>
+        ensures { result.items ≡ self }
+    {
+        self.kept
+    }
+
+    /// The items in order.
+    pub fn as_slice(&self) -> &[T]
+        ensures { result.now ≡ self.now }
+    {
+        self.kept.as_slice()
+    }
+}
