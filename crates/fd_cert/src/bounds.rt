@@ -108,9 +108,9 @@ pub fn are_light(numbers: &[u128]) -> bool
     true
 }
 
-// The sizes of numbers, each times its weight, and the sizes of the entries of a row of the inverse, each times a radius,
-// added up in one walk, where the weights are short and the radii light. None where a number has more than 64 bits, or
-// where the second sum passes 2^127 on the way.
+// The sizes of numbers, each times its weight, and the sizes of the entries of a row of the inverse, each times a
+// radius, added up in one walk, where the weights are short and the radii light. None where a number has more than 64
+// bits, or where the second sum passes 2^127 on the way.
 //
 // Never inlined, for the same reason.
 #[inline(never)]
@@ -126,7 +126,8 @@ fn short_row_total(
     requires radii { length radii.now ≡ length numbers.now }
     requires light { AreLight radii.now }
     requires factors { IsRowOfInverse (length numbers.now) factors.now }
-    ensures { IfSome result (λ t. t ≡ short_total (length numbers.now) shorts.now numbers.now + sizes_total (length numbers.now) factors.now radii.now) }
+    ensures { IfSome result (λ t. t
+        ≡ short_total (length numbers.now) shorts.now numbers.now + sizes_total (length numbers.now) factors.now radii.now) }
 {
     let mut total = 0;
     let mut sizes = 0;
@@ -234,7 +235,8 @@ fn usual_row_total(slopes: &Slopes, factors: &[i128], left: &[i128]) -> Option<u
     requires shorts { IfSome slopes.now.shorts (λ s. AreShortWeights slopes.now.weights.now s.items) }
     requires light { slopes.now.light ≡ true → AreLight slopes.now.radii.items }
     requires factors { IsRowOfInverse (length left.now) factors.now }
-    ensures { IfSome result (λ t. t ≡ weighted_total (length left.now) slopes.now.weights.now left.now + sizes_total (length left.now) factors.now slopes.now.radii.items) }
+    ensures { IfSome result (λ t. t ≡ weighted_total (length left.now) slopes.now.weights.now left.now
+        + sizes_total (length left.now) factors.now slopes.now.radii.items) }
 {
     match &slopes.shorts {
         Some(shorts) if slopes.light => short_row_total(left, shorts, factors, &slopes.radii),
