@@ -12,3 +12,4 @@ pub mod Steps
 pub mod Settling
 pub mod Next
 pub mod Reach
+pub mod Keeping

@@ -9,3 +9,4 @@ pub mod Hours
 pub mod Places
 pub mod Positions
 pub mod Reach
+pub mod Kept

@@ -2,6 +2,7 @@
 use Rattle.std.specs.Prelude.{ℕ, List, [], ◌++◌, map, All}
 use Rattle.std.specs.List.{Contains, flat_map}
 use Rattle.fd_arith.specs.declared.terms.NodeAt.{NodeAt}
+use Rattle.fd_arith.specs.declared.terms.Ends.{Ends}
 use Rattle.fd_system.specs.Contributions.{each}
 use Rattle.fd_system.specs.Terminals.{branch_of}
 use Rattle.fd_line.specs.Line.{line_list}
@@ -20,16 +21,23 @@ branch_places branch m = each (λ k. node_places (branch_of branch k)) m
 abbrev pub cross : List ℕ → List ℕ → List (ℕ × ℕ)
 cross rows cols = flat_map (λ row. map (λ col. (row, col)) cols) rows
 
--- a transformer's branches meet its nodes and one another; the nodes of a bank meet one another, also while it is open, and so do the
--- unknowns of each part load's terminal, whatever its powers; a source and a line don't move
+-- a transformer's branches meet its nodes and one another
+abbrev pub transformer_places : ℕ → Ends → List (ℕ × ℕ)
+transformer_places phases at =
+    let nodes = unknowns_of at.first ++ unknowns_of at.second in
+    let branches = branch_places at.branch phases in
+    cross branches nodes ++ (cross nodes branches ++ cross branches branches)
+
+-- the nodes of a bank meet one another, also while it is open
+abbrev pub bank_places : Ends → List (ℕ × ℕ)
+bank_places at = cross (unknowns_of at.first) (unknowns_of at.first)
+
+-- the unknowns of each part load's terminal meet one another, whatever its powers; a source and a line don't move
 abbrev pub device_places : Device → List (ℕ × ℕ)
 device_places (source s at) = map place_of (source_list s at)
 device_places (line l at) = map place_of (line_list l at)
-device_places (transformer d taps at) =
-    let nodes = unknowns_of at.first ++ unknowns_of at.second in
-    let branches = branch_places at.branch d.phases in
-    cross branches nodes ++ (cross nodes branches ++ cross branches branches)
-device_places (capacitor d closed at) = cross (unknowns_of at.first) (unknowns_of at.first)
+device_places (transformer d taps at) = transformer_places d.phases at
+device_places (capacitor d closed at) = bank_places at
 device_places (loads us) = flat_map load_places us
 device_places other = []
 

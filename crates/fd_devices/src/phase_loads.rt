@@ -38,10 +38,32 @@ pub fn load_phases(
     ensures usable { IfOk result (λ us. All IsUsable us.items) }
 {
     let mut phases = Vec::with_capacity(alloc, load.phases as usize)?;
-    for k in 0..load.phases {
-        phases.push(phase_at(load, nodes, magnitude, powers, k))?;
-    }
+    load_phases_into(load, nodes, magnitude, powers, &mut phases);
     Ok(phases)
+}
+
+/// Puts the part loads of `load_phases` into an empty list with room for them. Takes no memory.
+pub fn load_phases_into(
+    load: &Load,
+    nodes: &Nodes,
+    magnitude: u32,
+    powers: &[LoadPower],
+    into: &mut Vec<LoadAt>,
+)
+    requires range { LoadInRange load.now }
+    requires nodes { IsSide (node_count load.now.phases) nodes.now }
+    requires magnitude { magnitude < 2 ^ 31 }
+    requires powers { length powers.now ≡ load.now.phases }
+    requires modest { All IsModest powers.now }
+    requires empty { into.old.items ≡ [] }
+    requires room { load.now.phases ≤ vec_capacity into.old }
+    ensures phases { into.new.items ≡ phases_of load.now nodes.now magnitude powers.now }
+    ensures usable { All IsUsable into.new.items }
+    ensures capacity { vec_capacity into.new ≡ vec_capacity into.old }
+{
+    for k in 0..load.phases {
+        into.push_reserved(phase_at(load, nodes, magnitude, powers, k));
+    }
 }
 
 // Phase k of a load.
@@ -89,34 +111,51 @@ fn is_in_limit(phase: &LoadAt) -> bool
 
 /// The contributions of phases of constant impedance; phases of constant power or current have none.
 pub fn linear_terms(alloc: Global, phases: &[LoadAt]) -> Result<Vec<Term>, AllocError>
-    requires { All IsUsable phases.now }
+    requires usable { All IsUsable phases.now }
+    requires few { length phases.now ≤ 3 }
     ensures terms { IfOk result (λ ts. ts.items ≡ flat_map linear_list phases.now) }
     ensures divided { IfOk result (λ ts. All IsDivided ts.items) }
 {
-    let mut terms = Vec::new(alloc);
-    for phase in phases {
-        add_linear(&mut terms, phase)?;
-    }
+    let mut terms = Vec::with_capacity(alloc, 16 * phases.len())?;
+    linear_terms_into(phases, &mut terms);
     Ok(terms)
 }
 
+/// Puts the contributions of `linear_terms` into an empty list with room for 16 of each phase. Takes no memory.
+pub fn linear_terms_into(phases: &[LoadAt], into: &mut Vec<Term>)
+    requires usable { All IsUsable phases.now }
+    requires empty { into.old.items ≡ [] }
+    requires room { 16 * length phases.now ≤ vec_capacity into.old }
+    ensures terms { into.new.items ≡ flat_map linear_list phases.now }
+    ensures divided { All IsDivided into.new.items }
+    ensures few { length into.new.items ≤ 16 * length phases.now }
+    ensures capacity { vec_capacity into.new ≡ vec_capacity into.old }
+{
+    for phase in phases {
+        add_linear(into, phase);
+    }
+}
+
 // The contributions of one phase.
-fn add_linear(terms: &mut Vec<Term>, phase: &LoadAt) -> Result<(), AllocError>
-    requires { IsUsable phase.now }
-    ensures { OnOk result (terms.new.items ≡ terms.old.items ++ linear_list phase.now) }
+fn add_linear(terms: &mut Vec<Term>, phase: &LoadAt)
+    requires usable { IsUsable phase.now }
+    requires room { length terms.old.items + 16 ≤ vec_capacity terms.old }
+    ensures items { terms.new.items ≡ terms.old.items ++ linear_list phase.now }
+    ensures capacity { vec_capacity terms.new ≡ vec_capacity terms.old }
+    ensures few { length terms.new.items ≤ length terms.old.items + 16 }
 {
     if phase.load.model == 2 {
-        terms.reserve(16)?;
         add_impedance(terms, phase);
     }
-    Ok(())
 }
 
 // The contributions of one phase of constant impedance: (P - j Q) / Vn^2 between its two nodes.
 fn add_impedance(terms: &mut Vec<Term>, phase: &LoadAt)
     requires phase { IsUsable phase.now }
     requires room { length terms.old.items + 16 ≤ vec_capacity terms.old }
-    ensures { terms.new.items ≡ terms.old.items ++ impedance_list phase.now }
+    ensures items { terms.new.items ≡ terms.old.items ++ impedance_list phase.now }
+    ensures capacity { vec_capacity terms.new ≡ vec_capacity terms.old }
+    ensures few { length terms.new.items ≤ length terms.old.items + 16 }
 {
     let pair = NodePair {
         first: phase.first,

@@ -7,8 +7,8 @@ use Rattle.fd_devices.proofs.phase_loads.add_impedance.Goals as goal
 small_fits : (z : ℤ) → nat_abs z ≤ 10 ^ 26 → FitsSigned w128 z
 small_fits z h = omega (arith, ints, h)
 
-pub returns : goal.returns
-returns c =
+pub returns-clause-items : goal.returns-clause-items
+returns-clause-items c =
     let load = c.args.phase.now.load in
     let fp = small_fits load.p (omega (arith, c.requires.phase.p)) in
     let fq = small_fits load.q (omega (arith, c.requires.phase.q)) in

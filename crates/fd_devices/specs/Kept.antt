@@ -1,0 +1,80 @@
+-- What is kept of elements, so that they can be taken at other settings without memory.
+use Rattle.std.specs.Prelude.{◌≡◌, ℕ, ◌+◌, ◌*◌, ◌<◌, ◌≤◌, ◌^◌, Bool, true, false, vec_capacity, length, List, map, All}
+use Rattle.std.specs.List.{flat_map}
+use Rattle.fd_arith.specs.declared.terms.Ends.{Ends}
+use Rattle.fd_system.specs.Contributions.{IsSmall}
+use Rattle.fd_equations.specs.PatternPlaces.{load_places, place_of}
+use Rattle.dss_profile.specs.declared.element.Element.{Element}
+use Rattle.dss_profile.specs.declared.element.Element.TheVariants as the
+use Rattle.dss_layout.specs.Layout.{LayoutView, branch_phases, complex_count, ends_of, size_of}
+use Rattle.fd_devices.specs.declared.kept.Kept.{Kept}
+use Rattle.fd_devices.specs.declared.pieces.Piece.{Piece}
+use Rattle.fd_devices.specs.Building.{IsSettled}
+use Rattle.fd_devices.specs.Devices.{Added, added_by, added_of}
+use Rattle.fd_devices.specs.Reach.{bank_places, transformer_places}
+use Rattle.fd_devices.specs.Scripted.{device_of}
+use Rattle.fd_devices.specs.Settings.{Settings}
+
+-- ---- room
+
+-- the lists of a piece have room for so many contributions, part loads and constants
+pub record HasRoom (p : Piece) (most few some : ℕ) : Type 0 where
+  pub terms : most ≤ vec_capacity p.terms
+  pub loads : few ≤ vec_capacity p.loads
+  pub constants : some ≤ vec_capacity p.constants
+
+-- they have the room that they had
+pub record IsRoomSame (old new : Piece) : Type 0 where
+  pub terms : vec_capacity new.terms ≡ vec_capacity old.terms
+  pub loads : vec_capacity new.loads ≡ vec_capacity old.loads
+  pub constants : vec_capacity new.constants ≡ vec_capacity old.constants
+
+-- ---- one element
+
+-- the numbers of the nodes and branches that it reaches leave room for two parts
+abbrev pub AreSmallEnds : Element → Ends → Type 0
+AreSmallEnds (the.Transformer t) at = (All IsSmall at.first × All IsSmall at.second) × (at.branch + t.phases < 2 ^ 31)
+AreSmallEnds (the.Capacitor c) at = All IsSmall at.first
+AreSmallEnds e at = Unit {0}
+
+-- how many contributions, part loads and constants it has at most, at any settings
+abbrev pub most_terms : Element → ℕ
+most_terms (the.Vsource v) = 64 * (1 + v.phases)
+most_terms (the.Line l) = 64 * (1 + l.phases)
+most_terms (the.Transformer t) = 60
+most_terms (the.Capacitor c) = 24
+most_terms (the.Load l) = 16 * l.phases
+most_terms e = 0
+
+abbrev pub most_loads : Element → ℕ
+most_loads (the.Load l) = l.phases
+most_loads e = 0
+
+abbrev pub most_constants : Element → ℕ
+most_constants (the.Vsource v) = 6
+most_constants e = 0
+
+pub record AreFewOf (e : Element) (a : Added) : Type 0 where
+  pub terms : length a.share.terms ≤ most_terms e
+  pub loads : length a.share.loads ≤ most_loads e
+  pub constants : length a.share.constants ≤ most_constants e
+
+-- it has settings
+abbrev pub is_moved : Element → Bool
+is_moved (the.Transformer t) = true
+is_moved (the.Capacitor c) = true
+is_moved (the.Load l) = true
+is_moved e = false
+
+-- where it stands, and what it adds if it has no settings
+pub record IsKeptOf (layout : LayoutView) (hertz place : ℕ) (e : Element) (k : Kept) : Type 0 where
+  pub at : k.at ≡ ends_of layout place e
+  pub added : is_moved e ≡ false → (s : Settings) → added_of k.piece ≡ added_by (device_of layout hertz place e s)
+  pub settled : is_moved e ≡ false → (s : Settings) → IsSettled (length layout.nodes) (complex_count layout) (size_of layout) (branch_phases e) (device_of layout hertz place e s)
+
+-- the places that it can reach, at these ends and by what it adds at any settings
+abbrev pub reach_of : Element → Ends → Added → List (ℕ × ℕ)
+reach_of (the.Transformer t) at a = transformer_places t.phases at
+reach_of (the.Capacitor c) at a = bank_places at
+reach_of (the.Load l) at a = flat_map load_places a.share.loads
+reach_of e at a = map place_of a.share.terms

@@ -1,0 +1,194 @@
+// What is kept of elements.
+ghost use Rattle.std.specs.Prelude.{◌≡◌, ◌+◌, ◌*◌, ◌<◌, ◌≤◌, ◌^◌, ◌++◌, [], ◌∷◌, IfOk, IfErr, OnOk, All, Err, length};
+ghost use Rattle.dss_profile.specs.Ranges.{IsOneOf};
+ghost use Rattle.dss_profile.specs.InRange.{ElementInRange};
+ghost use Rattle.dss_layout.specs.Limits.{most_complex};
+ghost use Rattle.dss_layout.specs.Layout.{branch_phases, complex_count, ends_of, first_magnitude, size_of};
+ghost use Rattle.fd_devices.specs.Building.{Fits, IsModest, IsSettled};
+ghost use Rattle.fd_devices.specs.Devices.{added_by, added_of};
+ghost use Rattle.fd_system.specs.Contributions.{IsSmall};
+ghost use Rattle.fd_equations.specs.Patterns.{IsInside};
+ghost use Rattle.fd_devices.specs.Kept.{AreFewOf, AreSmallEnds, HasRoom, IsKeptOf, IsRoomSame, is_moved as has_settings, most_constants as most_constants_of, most_loads as most_loads_of, most_terms as most_terms_of, reach_of};
+ghost use Rattle.fd_devices.specs.Reach.{device_places};
+ghost use Rattle.fd_devices.specs.Scripted.{device_of};
+ghost use Rattle.fd_devices.specs.Settings.{AreOwn, settings_in};
+ghost use Rattle.fd_devices.specs.Sound.{IsSited, IsSound};
+
+use crate::pieces::{Piece, piece_of};
+use crate::reached::{add_bank_places, add_load_places, add_term_places, add_transformer_places};
+use crate::settings::OwnSettings;
+use crate::writers::{capacitor_into, load_into, transformer_into};
+use dss_layout::Layout;
+use dss_profile::Element;
+use fd_arith::{Ends, TermFault};
+use std::alloc::{AllocError, Global};
+
+/// What is the same of an element at all settings: where it stands, and, if it has no settings, what it adds.
+#[derive(Drop)]
+pub struct Kept {
+    pub at: Ends,
+    pub piece: Piece,
+}
+
+/// Whether an element has settings: taps, a state, or powers.
+pub fn is_moved(element: &Element) -> bool
+    ensures { result ≡ has_settings element.now }
+{
+    match element {
+        Element::Transformer(_) | Element::Capacitor(_) | Element::Load(_) => true,
+        _ => false,
+    }
+}
+
+/// How many contributions an element has at most, at any settings.
+pub fn most_terms(element: &Element) -> usize
+    requires { ElementInRange element.now }
+    ensures value { result ≡ most_terms_of element.now }
+    ensures small { result ≤ 256 }
+{
+    match element {
+        Element::Vsource(source) => 64 * (1 + source.phases as usize),
+        Element::Line(line) => 64 * (1 + line.phases as usize),
+        Element::Transformer(_) => 60,
+        Element::Capacitor(_) => 24,
+        Element::Load(load) => 16 * load.phases as usize,
+        _ => 0,
+    }
+}
+
+/// How many part loads an element has at most.
+pub fn most_loads(element: &Element) -> usize
+    requires { ElementInRange element.now }
+    ensures value { result ≡ most_loads_of element.now }
+    ensures small { result ≤ 3 }
+{
+    match element {
+        Element::Load(load) => load.phases as usize,
+        _ => 0,
+    }
+}
+
+/// How many constants an element has at most.
+pub fn most_constants(element: &Element) -> usize
+    ensures value { result ≡ most_constants_of element.now }
+    ensures small { result ≤ 6 }
+{
+    match element {
+        Element::Vsource(_) => 6,
+        _ => 0,
+    }
+}
+
+/// What is kept of an element, which is taken with these settings; adds the places that it can reach. After a refusal
+/// nothing is said of the places.
+///
+/// # Errors
+/// Range exactly where a contribution of the element is past 2^54 in units of 2^-40 or a load phase past its limit.
+/// `NoMemory` where memory is refused.
+pub fn kept_of(
+    alloc: Global,
+    places: &mut Vec<(u32, u32)>,
+    layout: &Layout,
+    hertz: u32,
+    place: usize,
+    element: &Element,
+    own: &OwnSettings,
+) -> Result<Kept, TermFault>
+    requires place { place < length layout.now.branches_before }
+    requires magnitudes { place < length layout.now.magnitudes_before }
+    requires few { complex_count layout.now ≤ most_complex }
+    requires magnitude { first_magnitude layout.now place < 2 ^ 31 }
+    requires frequency { IsOneOf (50 ∷ 60 ∷ []) hertz }
+    requires range { ElementInRange element.now }
+    requires sound { IsSound element.now }
+    requires sited { IsSited (length layout.now.nodes) (complex_count layout.now) (size_of layout.now) (first_magnitude layout.now place) (ends_of layout.now place element.now) element.now }
+    requires own { AreOwn element.now (settings_in own.now) }
+    requires modest { All IsModest own.now.powers.now }
+    ensures kept { IfOk result (λ k. IsKeptOf layout.now hertz place element.now k) }
+    ensures settled { IfOk result (λ k. IsSettled (length layout.now.nodes) (complex_count layout.now) (size_of layout.now) (branch_phases element.now) (device_of layout.now hertz place element.now (settings_in own.now))) }
+    ensures places { IfOk result (λ k. places.new.items ≡ places.old.items ++ device_places (device_of layout.now hertz place element.now (settings_in own.now))) }
+    ensures inside { IfOk result (λ k. All (IsInside (size_of layout.now)) (device_places (device_of layout.now hertz place element.now (settings_in own.now)))) }
+    ensures range { result ≡ Err TermFault.Range → ¬ (Fits (device_of layout.now hertz place element.now (settings_in own.now))) }
+{
+    let piece = piece_of(alloc, layout, hertz, place, element, own)?;
+    let at = layout.ends(alloc, place, element)?;
+    add_places(alloc, places, element, &at, &piece)?;
+    let piece = if is_moved(element) {
+        Piece::empty(alloc)
+    } else {
+        piece
+    };
+    Ok(Kept { at, piece })
+}
+
+// Adds the places that an element can reach, which stands at these ends and adds this piece with its settings.
+fn add_places(
+    alloc: Global,
+    places: &mut Vec<(u32, u32)>,
+    element: &Element,
+    at: &Ends,
+    piece: &Piece,
+) -> Result<(), AllocError>
+    requires ends { AreSmallEnds element.now at.now }
+    requires first { All (λ u. IsSmall u.first) piece.now.loads.items }
+    requires second { All (λ u. IsSmall u.second) piece.now.loads.items }
+    ensures { OnOk result (places.new.items ≡ places.old.items ++ reach_of element.now at.now (added_of piece.now)) }
+{
+    match element {
+        Element::Transformer(xfmr) => add_transformer_places(alloc, places, xfmr.phases, at),
+        Element::Capacitor(_) => add_bank_places(alloc, places, at),
+        Element::Load(_) => add_load_places(alloc, places, &piece.loads),
+        _ => add_term_places(places, &piece.terms),
+    }
+}
+
+/// Puts what an element adds in place of what a piece has, which has room for 256 contributions, nine part loads and
+/// six constants. Takes no memory.
+///
+/// # Errors
+/// Range alone, exactly where a contribution of the element is past 2^54 in units of 2^-40 or a load phase past its
+/// limit.
+pub fn piece_into(
+    into: &mut Piece,
+    layout: &Layout,
+    hertz: u32,
+    place: usize,
+    element: &Element,
+    own: &OwnSettings,
+    kept: &Kept,
+) -> Result<(), TermFault>
+    requires place { place < length layout.now.magnitudes_before }
+    requires few { complex_count layout.now ≤ most_complex }
+    requires magnitude { first_magnitude layout.now place < 2 ^ 31 }
+    requires range { ElementInRange element.now }
+    requires sound { IsSound element.now }
+    requires sited { IsSited (length layout.now.nodes) (complex_count layout.now) (size_of layout.now) (first_magnitude layout.now place) (ends_of layout.now place element.now) element.now }
+    requires own { AreOwn element.now (settings_in own.now) }
+    requires modest { All IsModest own.now.powers.now }
+    requires kept { IsKeptOf layout.now hertz place element.now kept.now }
+    requires room { HasRoom into.old 256 9 6 }
+    ensures added { OnOk result (added_of into.new ≡ added_by (device_of layout.now hertz place element.now (settings_in own.now))) }
+    ensures settled { OnOk result (IsSettled (length layout.now.nodes) (complex_count layout.now) (size_of layout.now) (branch_phases element.now) (device_of layout.now hertz place element.now (settings_in own.now))) }
+    ensures few { OnOk result (AreFewOf element.now (added_of into.new)) }
+    ensures range { IfErr result (λ e. (e ≡ TermFault.Range) × ¬ (Fits (device_of layout.now hertz place element.now (settings_in own.now)))) }
+    ensures room { IsRoomSame into.old into.new }
+{
+    // it counts in what is kept of a line
+    let _frequency = hertz;
+    match element {
+        Element::Transformer(xfmr) => transformer_into(into, xfmr, own.taps[0], &kept.at),
+        Element::Capacitor(bank) => capacitor_into(into, bank, own.closed[0], &kept.at),
+        Element::Load(load) => load_into(
+            into,
+            load,
+            &kept.at.first,
+            layout.first_magnitude(place),
+            own.powers,
+        ),
+        _ => {
+            into.clear();
+            into.append_reserved(&kept.piece);
+            Ok(())
+        }
+    }
+}
