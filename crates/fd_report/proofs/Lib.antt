@@ -1,3 +1,4 @@
+mod Newton
 mod Rows
 pub mod CallerLemmas
 mod Enclosed

@@ -13,6 +13,7 @@ use crate::texts::{complex_texts, interval_texts, value_texts};
 use dss_layout::{Layout, NodeName, PhaseName};
 use fd_decimal::size_text;
 use fd_outside::Record;
+use itoa::Buffer;
 use std::alloc::{AllocError, Global};
 
 fn solution_record(
@@ -91,7 +92,7 @@ fn branch_record(
     ensures record { IfOk result (λ r. r.bytes ≡ line_of (branch_fields s.now k phase.now)) }
 {
     let element = element_field(alloc, &phase.element)?;
-    let number = phase.phase.to_string(alloc)?;
+    let mut number = Buffer::new();
     let texts = complex_texts(alloc, s, n, k)?;
     let radius = size_text(alloc, s.radii()[2 * k])?;
     writer.record(
@@ -99,7 +100,7 @@ fn branch_record(
         &[
             b"branch",
             element.as_slice(),
-            number.as_bytes(),
+            number.format(phase.phase).as_bytes(),
             texts.re.as_slice(),
             texts.im.as_slice(),
             radius.as_slice(),
@@ -125,14 +126,14 @@ fn magnitude_record(
     ensures record { IfOk result (λ r. r.bytes ≡ line_of (magnitude_fields s.now place phase.now)) }
 {
     let load = element_field(alloc, &phase.element)?;
-    let number = phase.phase.to_string(alloc)?;
+    let mut number = Buffer::new();
     let texts = value_texts(alloc, s, n, place)?;
     writer.record(
         alloc,
         &[
             b"magnitude",
             load.as_slice(),
-            number.as_bytes(),
+            number.format(phase.phase).as_bytes(),
             texts.value.as_slice(),
             texts.radius.as_slice(),
             texts.half_width.as_slice(),

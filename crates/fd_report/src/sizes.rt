@@ -5,22 +5,29 @@ ghost use Rattle.fd_sample.specs.Roots.{root_down as rounded_down, root_up as ro
 ghost use Rattle.fd_report.specs.Solutions.{IsOfSize};
 
 use crate::solution::Solution;
-use fd_arith::isqrt;
 
-// The square root, rounded down.
-fn root_down(n: u128) -> u128
+// The square root, rounded down, by Newton's steps from a start that isn't below it.
+fn root_down(n: u128, start: u128) -> u128
+    requires small { start ≤ 2 ^ 42 }
+    requires start { n < (start + 1) * (start + 1) }
     ensures value { result ≡ rounded_down n }
     ensures low { result * result ≤ n }
+    ensures small { result ≤ 2 ^ 42 }
 {
-    isqrt(n)
+    let mut root = start;
+    while root * root > n {
+        root = (root + n / root) / 2;
+    }
+    root
 }
 
-// The square root, rounded up.
-fn root_up(n: u128) -> u128
-    requires { n ≤ 2 ^ 100 }
+// The square root, rounded up, from a start that isn't below it rounded down.
+fn root_up(n: u128, start: u128) -> u128
+    requires small { start ≤ 2 ^ 42 }
+    requires start { n < (start + 1) * (start + 1) }
     ensures { result ≡ rounded_up n }
 {
-    let root = root_down(n);
+    let root = root_down(n, start);
     if root * root == n { root } else { root + 1 }
 }
 
@@ -60,7 +67,7 @@ pub(crate) fn least_size(s: &Solution, n: usize, k: usize) -> u128
 {
     let re = least_part(s.centre()[2 * k], s.radii()[2 * k]);
     let im = least_part(s.centre()[2 * k + 1], s.radii()[2 * k + 1]);
-    root_down(square(re) + square(im))
+    root_down(square(re) + square(im), re + im)
 }
 
 /// The greatest size of complex unknown k of a solution within its radii, in whole micro-units, rounded up.
@@ -72,5 +79,5 @@ pub(crate) fn greatest_size(s: &Solution, n: usize, k: usize) -> u128
 {
     let re = greatest_part(s.centre()[2 * k], s.radii()[2 * k]);
     let im = greatest_part(s.centre()[2 * k + 1], s.radii()[2 * k + 1]);
-    root_up(square(re) + square(im))
+    root_up(square(re) + square(im), re + im)
 }
