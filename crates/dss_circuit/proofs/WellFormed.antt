@@ -11,6 +11,7 @@ use Rattle.std.proofs.lemmas.Bool.Decides.{nat_tests}
 use Rattle.std.proofs.lemmas.List.{length-map}
 use Rattle.std.proofs.lemmas.List.Elements.{All-nil, All-cons, All-head, All-tail}
 use Rattle.std.proofs.lemmas.List.Folds.{list_all-map}
+use Rattle.std.proofs.lemmas.Result.{IfOk-at_ok}
 use Rattle.std.proofs.lemmas.Str.Ascii.{lowercase-lowercase}
 use Rattle.indexmap.specs.IndexMap.{insert_entry}
 use Rattle.dss_lexer.specs.declared.pair.Pair.{Pair}
@@ -28,7 +29,8 @@ use Rattle.dss_profile.specs.SameElement.{same_element}
 use Rattle.dss_profile.proofs.CallerLemmas.{class_kept, equal}
 use Rattle.dss_circuit.specs.Circuit.{Elements, has_circuit, referred, with_pairs}
 use Rattle.dss_circuit.specs.Keys.{edit_key, element_key, made_key, needed, new_key, source_name, written}
-use Rattle.dss_circuit.specs.WellFormed.{AreWellFormed, BeginsWithSource, IsEntry, IsKey}
+use Rattle.dss_circuit.specs.WellFormed.{AreWellFormed, BeginsWithSource, IsEntry, IsKey, NamesAreThere}
+use Rattle.dss_circuit.proofs.Named.{names_kept_by_all, pair_there}
 
 -- ---- names
 
@@ -173,17 +175,18 @@ module _ (k : ElementName) (v : Element) where
       by false = h
 
   -- an element takes the place of the one of its name, or stands last
-  pub well_formed_kept : (es : Elements) → IsKey k → k.class ≡ class_of v → (has_circuit es ≡ false → k ≡ source_name) → AreWellFormed es
+  pub well_formed_kept : (es : Elements) → IsKey k → k.class ≡ class_of v → (has_circuit es ≡ false → k ≡ source_name) → NamesAreThere es v → AreWellFormed es
       → AreWellFormed (insert_entry same_element es k v)
-  well_formed_kept es key class source h = record {
+  well_formed_kept es key class source own h = record {
     distinct = distinct_kept es h.distinct;
     entries = entries_kept es (record { key = key; class = class }) h.entries;
     source = source_kept es source h.source;
+    named = names_kept_by_all k v es own h.named;
   }
 
 pub none_well_formed : AreWellFormed []
 unfolding IsDistinct
-none_well_formed = record { distinct = tt; entries = All-nil IsEntry; source = tt }
+none_well_formed = record { distinct = tt; entries = All-nil IsEntry; source = tt; named = All-nil _ }
 
 -- ---- pairs
 
@@ -194,3 +197,13 @@ pairs_keep_class solves elements kind (p ∷ ps) e new h =
     let t = through (referred elements kind p) (λ found. with_pair solves found p e >>= with_pairs solves elements kind ps) new h in
     let u = through (with_pair solves t.value p e) (with_pairs solves elements kind ps) new t.next in
     pairs_keep_class solves elements kind ps u.value new u.next ∙ class_kept solves t.value p e u.value u.first
+
+-- each element that one names after its pairs is in the circuit, as those that it named before are
+pub pairs_keep_names : (solves : ℕ) (elements : Elements) (kind : Class) (pairs : List Pair) (e new : Element) → kind ≡ class_of e → with_pairs solves elements kind pairs e ≡ Ok new → NamesAreThere elements e → NamesAreThere elements new
+pairs_keep_names solves elements kind [] e new k h names = let same : e ≡ new = cc h in subst (NamesAreThere elements) same names
+pairs_keep_names solves elements kind (p ∷ ps) e new k h names =
+    let t = through (referred elements kind p) (λ found. with_pair solves found p e >>= with_pairs solves elements kind ps) new h in
+    let u = through (with_pair solves t.value p e) (with_pairs solves elements kind ps) new t.next in
+    let own = subst (λ class. referred elements class p ≡ Ok t.value) k t.first in
+    let named = IfOk-at_ok (NamesAreThere elements) u.first (pair_there elements t.value p solves e own names) in
+    pairs_keep_names solves elements kind ps u.value new (k ∙ sym (class_kept solves t.value p e u.value u.first)) u.next named

@@ -6,7 +6,7 @@ ghost use Rattle.dss_circuit.specs.Circuit.{empty_circuit, has_circuit, applied}
 ghost use Rattle.dss_profile.specs.InRange.{OptionsInRange};
 ghost use Rattle.dss_circuit.specs.InRange.{AllInRange};
 ghost use Rattle.dss_circuit.specs.Limits.{most_elements};
-ghost use Rattle.dss_circuit.specs.WellFormed.{BeginsWithSource, IsEntry};
+ghost use Rattle.dss_circuit.specs.WellFormed.{AllNamesAreThere, BeginsWithSource, IsEntry};
 ghost use Rattle.dss_profile.specs.SameElement.{same_element};
 ghost use Rattle.std.specs.List.{IsDistinct};
 
@@ -18,8 +18,8 @@ use std::alloc::Global;
 use std::marker::Model;
 
 /// A circuit as the commands so far have made it: its elements by name in order of definition, its options, and how
-/// many Solves were applied. It has at most 2^17 elements, no two of them the same, and each value of an element or an
-/// option is in its range.
+/// many Solves were applied. It has at most 2^17 elements, no two of them the same, each value of an element or an
+/// option is in its range, and each element that one names is there.
 #[derive(Drop)]
 pub struct Circuit {
     elements: Elements,
@@ -112,7 +112,8 @@ impl Circuit {
     }
 
     /// The elements by name, in order of definition, no two of them the same. Each stands under a legal name in lower case
-    /// with its own class, its values are in range, and the first is the source that New Circuit makes.
+    /// with its own class, its values are in range, and each element that it names is there. The first is the source that
+    /// New Circuit makes.
     pub fn elements(&self) -> &IndexMap<ElementName, Element>
         ensures entries { result.now.entries ≡ self.now.elements }
         ensures few { length self.now.elements ≤ most_elements }
@@ -120,6 +121,7 @@ impl Circuit {
         ensures distinct { IsDistinct same_element (map (λ entry. entry.0) self.now.elements) }
         ensures keys { All IsEntry self.now.elements }
         ensures source { BeginsWithSource self.now.elements }
+        ensures named { AllNamesAreThere self.now.elements }
     {
         &self.elements
     }

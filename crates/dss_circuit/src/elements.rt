@@ -7,7 +7,7 @@ ghost use Rattle.dss_values.specs.Answers.{Gives, Makes};
 ghost use Rattle.dss_profile.specs.Changes.{Becomes};
 ghost use Rattle.dss_circuit.specs.Circuit.{has_circuit, referred, with_pairs, put, make, edit};
 ghost use Rattle.dss_circuit.specs.Keys.{source_name};
-ghost use Rattle.dss_circuit.specs.WellFormed.{AreWellFormed, IsKey};
+ghost use Rattle.dss_circuit.specs.WellFormed.{AreWellFormed, IsKey, NamesAreThere};
 ghost use Rattle.dss_profile.specs.Element.{class_of};
 ghost use Rattle.dss_profile.specs.InRange.{ElementInRange};
 ghost use Rattle.dss_circuit.specs.InRange.{AllInRange};
@@ -109,6 +109,7 @@ fn put_element(
     requires key { IsKey name }
     requires class { name.class ≡ class_of element }
     requires source { has_circuit elements.old.entries ≡ false → name ≡ source_name }
+    requires named { NamesAreThere elements.old.entries element }
     ensures put { Becomes elements.old.entries elements.new.entries result (put solves name element pairs.now elements.old.entries) }
     ensures few { length elements.new.entries ≤ length elements.old.entries + 1 }
     ensures in_range { AllInRange elements.new.entries }

@@ -3,6 +3,7 @@ use Rattle.dss_profile.specs.InRange.{ElementInRange}
 use Rattle.dss_profile.specs.Element.{class_of}
 use Rattle.dss_circuit.specs.Circuit.{has_circuit}
 use Rattle.dss_circuit.specs.Keys.{source_name}
+use Rattle.dss_circuit.specs.WellFormed.{NamesAreThere}
 use Rattle.dss_circuit.proofs.Entries.{of_found}
 use Rattle.dss_circuit.proofs.WellFormed.{found_begun, found_class}
 use Rattle.dss_circuit.proofs.elements.edit_element.Goals as goal
@@ -23,3 +24,9 @@ pub put_element-requires-clause-source : goal.put_element-requires-clause-source
 put_element-requires-clause-source c = λ none.
     let begun = found_begun c.args.name c.args.elements.now.entries c.in-Some.element.now (sym c.in-Some.ensures) in
     absurd (cc (none, begun))
+
+pub put_element-requires-clause-named : goal.put_element-requires-clause-named
+put_element-requires-clause-named c =
+    let names = NamesAreThere c.args.elements.now.entries in
+    let there : IfSome (Some c.in-Some.element.now) names = subst (λ found. IfSome found names) (sym c.in-Some.ensures) (of_found names _ c.args.elements.now.entries c.requires.well_formed.named) in
+    subst names (sym c.in_ok-draft-in-Some.ensures) there

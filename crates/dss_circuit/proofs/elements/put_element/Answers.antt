@@ -3,7 +3,7 @@ use Rattle.std.proofs.lemmas.List.Elements.{All-same}
 use Rattle.dss_profile.specs.InRange.{ElementInRange}
 use Rattle.dss_circuit.specs.WellFormed.{AreWellFormed}
 use Rattle.dss_circuit.proofs.Entries.{OfValue, of_inserted}
-use Rattle.dss_circuit.proofs.WellFormed.{pairs_keep_class, well_formed_kept}
+use Rattle.dss_circuit.proofs.WellFormed.{pairs_keep_class, pairs_keep_names, well_formed_kept}
 use Rattle.dss_circuit.proofs.elements.put_element.Goals as goal
 
 pub returns-clause-in_range : goal.returns-clause-in_range
@@ -12,5 +12,6 @@ returns-clause-in_range c =
 
 pub returns-clause-well_formed : goal.returns-clause-well_formed
 returns-clause-well_formed c =
-    subst AreWellFormed (sym c.in_ok-insert_element.ensures.inserted)
-    (well_formed_kept _ _ c.args.elements.now.entries c.requires.key (c.requires.class ∙ sym (pairs_keep_class _ _ _ _ _ _ c.in_ok-set_pairs.ensures.set)) c.requires.source c.requires.well_formed)
+    let class = c.requires.class ∙ sym (pairs_keep_class _ _ _ _ _ _ c.in_ok-set_pairs.ensures.set) in
+    let named = pairs_keep_names _ _ _ _ _ _ c.requires.class c.in_ok-set_pairs.ensures.set c.requires.named in
+    subst AreWellFormed (sym c.in_ok-insert_element.ensures.inserted) (well_formed_kept _ _ c.args.elements.now.entries c.requires.key class c.requires.source named c.requires.well_formed)
