@@ -1,5 +1,5 @@
 -- The elements that elements name are in the circuit, and stay there.
-use Rattle.std.proofs.Common.{◌≡◌, ℕ, Bool, true, false, ◌&&◌, if◌then◌else◌, List, [], ◌∷◌, All, Option, Some, None, is_some, IfSome, IsSome, IsTrue, Result, Ok, Err, IfOk, refl, sym, ap, subst, ◌∙◌, codes, nat_eq}
+use Rattle.std.proofs.Common.{◌≡◌, ℕ, Bool, true, false, if◌then◌else◌, List, [], ◌∷◌, Option, Some, None, is_some, IfSome, IsSome, IsTrue, Result, Ok, Err, IfOk, refl, sym, ap, subst, ◌∙◌, codes, nat_eq}
 use Rattle.std.specs.List.{list_all}
 use Rattle.std.specs.Option.{option_and_then}
 use Rattle.std.specs.Cmp.Lexicographic.{bytes_decides, pointwise}

@@ -1,13 +1,11 @@
 -- The properties of each class keep its values in range.
-use Rattle.std.proofs.Common.{◌≡◌, ℕ, ◌==◌, ◌≤◌, ℤ, pos, Bool, true, false, List, [], ◌∷◌, All, Option, Some, None, IfSome, Result, Ok, if◌then◌else◌, IfOk, refl, arith, codes, drop, nat_eq}
+use Rattle.std.proofs.Common.{◌≡◌, ℕ, ◌==◌, ◌≤◌, ℤ, pos, Bool, true, false, List, [], ◌∷◌, All, Option, Some, None, IfSome, Result, Ok, if◌then◌else◌, IfOk, refl, arith}
 use Rattle.std.proofs.lemmas.Int.{ints}
 use Rattle.std.proofs.lemmas.Result.{IfOk-weaker}
 use Rattle.dss_lexer.specs.declared.pair.Pair.{Pair}
 use Rattle.dss_values.specs.declared.fault.ModelFault.{ModelFault}
 use Rattle.dss_values.specs.Answers.{◌>>=◌}
-use Rattle.std.specs.List.{starts_with}
-use Rattle.dss_values.specs.Names.{bytes, lower}
-use Rattle.dss_values.specs.Forms.{ones, half, name_in, whole_between, supported_among, numbers_between}
+use Rattle.dss_values.specs.Forms.{ones, half, name_in, whole_between, supported_among}
 use Rattle.dss_profile.specs.declared.vsource.Vsource.{Vsource}
 use Rattle.dss_profile.specs.declared.vsource.VsourceProperty.{VsourceProperty}
 use Rattle.dss_profile.specs.declared.vsource.VsourceProperty.TheVariants as of_source
@@ -53,12 +51,12 @@ use Rattle.dss_profile.specs.Load.{with_load}
 use Rattle.dss_profile.specs.RegControl.{with_regcontrol}
 use Rattle.dss_profile.specs.CapControl.{with_capcontrol}
 use Rattle.dss_profile.specs.Loadshape.{with_loadshape}
-use Rattle.dss_profile.proofs.FormRanges.{then_ok, any_ok, made_ok, kept_ok, number_ok, power_factor_ok, whole_ok, among_ok, supported_ok, tap_ok, time_ok, ratio_ok, half_between, angle_ok, phase_ok, numbers_ok, two_numbers_ok, two_taps_ok, matrix_ok}
+use Rattle.dss_profile.proofs.FormRanges.{then_ok, any_ok, made_ok, kept_ok, number_ok, power_factor_ok, whole_ok, among_ok, supported_ok, tap_ok, time_ok, ratio_ok, half_between, angle_ok, phase_ok, numbers_ok, two_numbers_ok, two_taps_ok, matrix_ok, bus_ok, two_buses_ok}
 
 -- ---- sources
 
 pub vsource_in_range : (property : VsourceProperty) (pair : Pair) (source : Vsource) → VsourceInRange source → IfOk (with_vsource property pair source) VsourceInRange
-vsource_in_range of_source.Bus1 pair source h = kept_ok VsourceInRange _ _ (λ b. assumption h)
+vsource_in_range of_source.Bus1 pair source h = made_ok _ VsourceInRange _ _ (bus_ok pair) (λ b r. assumption (h, r))
 vsource_in_range of_source.Phases pair source h = made_ok _ VsourceInRange _ _ (among_ok _ pair) (λ n r. assumption (h, r))
 vsource_in_range of_source.Basekv pair source h = made_ok _ VsourceInRange _ _ (number_ok _ _ pair) (λ n r. assumption (h, r))
 vsource_in_range of_source.Pu pair source h = made_ok _ VsourceInRange _ _ (number_ok _ _ pair) (λ n r. assumption (h, r))
@@ -115,7 +113,7 @@ line_data_in_range of_data.C1 pair line h = made_ok _ LineInRange _ _ (number_ok
 line_data_in_range of_data.C0 pair line h = made_ok _ LineInRange _ _ (number_ok _ _ pair) (λ v r. assumption (h, r))
 
 copied_in_range : (name : List ℕ) (code : Linecode) (line : Line) → LinecodeInRange code → LineInRange line → LineInRange (with_code name code line)
-copied_in_range name code line c h = record { phases = c.nphases; length = h.length; rmatrix = c.rmatrix; xmatrix = c.xmatrix; cmatrix = c.cmatrix; r1 = c.r1; x1 = c.x1; r0 = c.r0; x0 = c.x0; c1 = c.c1; c0 = c.c0 }
+copied_in_range name code line c h = record { bus1 = h.bus1; bus2 = h.bus2; phases = c.nphases; length = h.length; rmatrix = c.rmatrix; xmatrix = c.xmatrix; cmatrix = c.cmatrix; r1 = c.r1; x1 = c.x1; r0 = c.r0; x0 = c.x0; c1 = c.c1; c0 = c.c0 }
 
 code_in_range : (code : Option Linecode) (pair : Pair) (line : Line) → IfSome code LinecodeInRange → LineInRange line → IfOk (with_code_in code pair line) LineInRange
 code_in_range (Some code) pair line c h = any_ok LineInRange (name_in pair) _ (λ name. copied_in_range name code line c h)
@@ -128,12 +126,12 @@ switch_in_range true line h =
     let c1 : IsCapacitance (pos 1_100_000_000) = record { least = omega (arith, ints); most = omega (arith, ints) } in
     let c0 : IsCapacitance (ones 1) = record { least = omega (arith, ints); most = omega (arith, ints) } in
     let short : IsBetween (pos 0) (ones 1_000_000) (pos 1_000_000) = record { least = omega (arith, ints); most = omega (arith, ints) } in
-    record { phases = h.phases; length = short; rmatrix = h.rmatrix; xmatrix = h.xmatrix; cmatrix = h.cmatrix; r1 = one; x1 = one; r0 = one; x0 = one; c1 = c1; c0 = c0 }
+    record { bus1 = h.bus1; bus2 = h.bus2; phases = h.phases; length = short; rmatrix = h.rmatrix; xmatrix = h.xmatrix; cmatrix = h.cmatrix; r1 = one; x1 = one; r0 = one; x0 = one; c1 = c1; c0 = c0 }
 
 -- `code` is the line code that the pair names
 pub line_in_range : (code : Option Linecode) (property : LineProperty) (pair : Pair) (line : Line) → IfSome code LinecodeInRange → LineInRange line → IfOk (with_line code property pair line) LineInRange
-line_in_range code of_line.Bus1 pair line c h = kept_ok LineInRange _ _ (λ v. assumption h)
-line_in_range code of_line.Bus2 pair line c h = kept_ok LineInRange _ _ (λ v. assumption h)
+line_in_range code of_line.Bus1 pair line c h = made_ok _ LineInRange _ _ (bus_ok pair) (λ v r. assumption (h, r))
+line_in_range code of_line.Bus2 pair line c h = made_ok _ LineInRange _ _ (bus_ok pair) (λ v r. assumption (h, r))
 line_in_range code of_line.Phases pair line c h = made_ok _ LineInRange _ _ (whole_ok _ _ pair) (λ v r. assumption (h, r))
 line_in_range code of_line.Linecode pair line c h = code_in_range code pair line c h
 line_in_range code of_line.Length pair line c h = made_ok _ LineInRange _ _ (number_ok _ _ pair) (λ v r. assumption (h, r))
@@ -146,7 +144,7 @@ line_in_range code of_line.Ignored pair line c h = h
 -- ---- transformers
 
 winding_in_range : (solves : ℕ) (property : WindingProperty) (pair : Pair) (winding : Winding) → WindingInRange winding → IfOk (with_winding solves property pair winding) WindingInRange
-winding_in_range solves of_winding.Bus pair winding h = kept_ok WindingInRange _ _ (λ v. assumption h)
+winding_in_range solves of_winding.Bus pair winding h = made_ok _ WindingInRange _ _ (bus_ok pair) (λ v r. assumption (h, r))
 winding_in_range solves of_winding.Conn pair winding h = kept_ok WindingInRange _ _ (λ v. assumption h)
 winding_in_range solves of_winding.Kv pair winding h = made_ok _ WindingInRange _ _ (number_ok _ _ pair) (λ v r. assumption (h, r))
 winding_in_range solves of_winding.PctR pair winding h = made_ok _ WindingInRange _ _ (number_ok _ _ pair) (λ v r. assumption (h, r))
@@ -191,7 +189,7 @@ losses_in_range n xfmr p h =
     pct_rs_in_range (half n) (half n) (record xfmr { pct_loadloss = Some n }) half_in half_in there
 
 both_in_range : (solves : ℕ) (property : BothProperty) (pair : Pair) (xfmr : Transformer) → TransformerInRange xfmr → IfOk (with_both solves property pair xfmr) TransformerInRange
-both_in_range solves of_both.Buses pair xfmr h = kept_ok TransformerInRange _ _ (λ v. let first = h.first in let second = h.second in with_windings xfmr _ _ h (assumption first) (assumption second))
+both_in_range solves of_both.Buses pair xfmr h = made_ok _ TransformerInRange _ _ (two_buses_ok pair) (λ v r. let first = h.first in let second = h.second in let p = r.0 in let q = r.1 in with_windings xfmr _ _ h (assumption (first, p)) (assumption (second, q)))
 both_in_range solves of_both.Conns pair xfmr h = kept_ok TransformerInRange _ _ (λ v. let first = h.first in let second = h.second in with_windings xfmr _ _ h (assumption first) (assumption second))
 both_in_range solves of_both.Kvs pair xfmr h = made_ok _ TransformerInRange _ _ (two_numbers_ok _ _ pair) (λ v r. let first = h.first in let second = h.second in let p = r.0 in let q = r.1 in with_windings xfmr _ _ h (assumption (first, p)) (assumption (second, q)))
 both_in_range solves of_both.Kvas pair xfmr h = made_ok _ TransformerInRange _ _ (two_numbers_ok _ _ pair) (λ v r. kvas_in_range v.0 v.1 xfmr r.0 r.1 h)
@@ -220,7 +218,7 @@ transformer_in_range solves of_xfmr.Ignored pair xfmr h = h
 -- ---- banks of capacitors
 
 pub capacitor_in_range : (solves : ℕ) (property : CapacitorProperty) (pair : Pair) (bank : Capacitor) → CapacitorInRange bank → IfOk (with_capacitor solves property pair bank) CapacitorInRange
-capacitor_in_range solves of_bank.Bus1 pair bank h = kept_ok CapacitorInRange _ _ (λ v. assumption h)
+capacitor_in_range solves of_bank.Bus1 pair bank h = made_ok _ CapacitorInRange _ _ (bus_ok pair) (λ v r. assumption (h, r))
 capacitor_in_range solves of_bank.Bus2 pair bank h = tt
 capacitor_in_range solves of_bank.Phases pair bank h = made_ok _ CapacitorInRange _ _ (among_ok _ pair) (λ v r. assumption (h, r))
 capacitor_in_range solves of_bank.Kvar pair bank h = made_ok _ CapacitorInRange _ _ (number_ok _ _ pair) (λ v r. assumption (h, r))
@@ -233,7 +231,7 @@ capacitor_in_range solves of_bank.Basefreq pair bank h = kept_ok CapacitorInRang
 -- ---- loads
 
 pub load_in_range : (found : Bool) (property : LoadProperty) (pair : Pair) (load : Load) → LoadInRange load → IfOk (with_load found property pair load) LoadInRange
-load_in_range found of_load.Bus1 pair load h = kept_ok LoadInRange _ _ (λ v. assumption h)
+load_in_range found of_load.Bus1 pair load h = made_ok _ LoadInRange _ _ (bus_ok pair) (λ v r. assumption (h, r))
 load_in_range found of_load.Phases pair load h = made_ok _ LoadInRange _ _ (among_ok _ pair) (λ v r. assumption (h, r))
 load_in_range found of_load.Kv pair load h = made_ok _ LoadInRange _ _ (number_ok _ _ pair) (λ v r. assumption (h, r))
 load_in_range found of_load.Kw pair load h = made_ok _ LoadInRange _ _ (number_ok _ _ pair) (λ v r. assumption (h, r))

@@ -1,17 +1,22 @@
 -- The ranges of what the forms of values give.
-use Rattle.std.proofs.Common.{◌≡◌, ℕ, zero, suc, ◌*◌, ◌%◌, ◌≤◌, ℤ, pos, negsuc, neg_ℤ, unsigned_abs, int_div, min, max, Bool, true, false, List, [], ◌∷◌, length, get_or, Option, Some, None, Result, Ok, Err, if◌then◌else◌, ◌||◌, ◌&&◌, ◌⊎◌, inl, inr, nat_le, ◌==◌, IsTrue, IfOk, IfSome, All, arith, refl}
+use Rattle.std.proofs.Common.{◌≡◌, ℕ, zero, suc, ◌*◌, ◌%◌, ◌≤◌, ℤ, pos, negsuc, neg_ℤ, unsigned_abs, int_div, min, max, Bool, true, false, List, [], ◌∷◌, length, get_or, Option, Some, None, Result, Ok, Err, if◌then◌else◌, ◌||◌, ◌&&◌, ◌⊎◌, inl, inr, nat_le, ◌==◌, IsTrue, IfOk, IfSome, All, arith, refl, ap}
 use Rattle.std.proofs.lemmas.Int.{ints}
 use Rattle.std.proofs.lemmas.Bool.Decides.{nat_tests}
+use Rattle.std.proofs.lemmas.Result.{IfOk-weaker}
+use Rattle.std.specs.Char.{is_ascii_digit}
 use Rattle.std.proofs.lemmas.List.Elements.{All-nil, All-cons, All-head, All-tail, All-append, All-push}
-use Rattle.std.specs.List.{list_all}
+use Rattle.std.specs.List.{list_all, slice_split}
 use Rattle.std.specs.Ordering.{int_eq}
 use Rattle.dss_lexer.specs.declared.pair.Pair.{Pair}
 use Rattle.dss_lexer.specs.Arrays.{matrix_of}
 use Rattle.dss_values.specs.declared.fault.ModelFault.{ModelFault}
-use Rattle.dss_values.specs.Answers.{◌>>=◌, or_fault}
+use Rattle.dss_values.specs.Answers.{◌>>=◌, or_fault, each}
 use Rattle.dss_values.specs.Causes.{from_lexer}
-use Rattle.dss_values.specs.Forms.{ones, number_in, numbers_in, is_within, within, number_between, has_power_factor, power_factor_in, whole_in, count_of, whole_between, one_of, whole_among, supported_among, nearest_count, tap_of, tap_in, milliseconds_in, ratio_in, half, has_angle, angle_in, phase_in, all_within, numbers_between, two, two_numbers_between, two_taps_in}
+use Rattle.dss_values.specs.declared.fault.ModelFault.TheVariants as fault
+use Rattle.dss_values.specs.Names.{is_name, lower}
+use Rattle.dss_values.specs.Forms.{ones, number_in, numbers_in, is_within, within, number_between, has_power_factor, power_factor_in, whole_in, count_of, whole_between, one_of, whole_among, supported_among, nearest_count, tap_of, tap_in, milliseconds_in, ratio_in, half, has_angle, angle_in, phase_in, all_within, numbers_between, two, two_numbers_between, two_taps_in, word_in, is_point, node_of, bus_of_parts, bus_of, bus_in, cells_in, bus_of_cell, two_buses_in}
 use Rattle.dss_values.specs.Matrices.{cell, mirrored, first_of, row_by_row, joined, symmetric, is_square, is_triangle_from, whole_matrix, rows_within, matrix_between}
+use Rattle.dss_profile.specs.InRange.{BusInRange}
 use Rattle.dss_profile.specs.Ranges.{IsBetween, IsCountBetween, IsOneOf, IsAngle, IsRatio, IsPowerFactor, IsTap, IsTime, IsPhaseNumber}
 
 -- ---- steps
@@ -189,6 +194,47 @@ two_numbers_ok low high pair = then_ok _ _ (numbers_between low high pair) _ (nu
 pub two_taps_ok : (pair : Pair) → IfOk (two_taps_in pair) (λ n. IsTap n.0 × IsTap n.1)
 unfolding two_taps_in
 two_taps_ok pair = then_ok _ _ (two_numbers_between (pos 500_000_000) (ones 2) pair) _ (two_numbers_ok _ _ pair) (λ n h. (tap_between n.0 h.0, tap_between n.1 h.1))
+
+-- ---- buses
+
+node_ok : (part : List ℕ) → IfOk (node_of part) (λ n. n ≤ 9)
+node_ok [] = tt
+node_ok (digit ∷ []) = if_ok (λ n. n ≤ 9) (is_ascii_digit digit) _ _ (λ h. grind (arith, nat_tests, h))
+node_ok (a ∷ b ∷ part) = tt
+
+-- so many answers, each with P
+each_ok : {A B : Type 0} (P : B → Type 0) (f : A → Result B ModelFault) → ((a : A) → IfOk (f a) P) → (xs : List A) → IfOk (each f xs) (λ ys. All P ys × (length ys ≡ length xs))
+each_ok P f h [] = (All-nil P, refl)
+each_ok P f h (x ∷ xs) = then_ok P _ (f x) _ (h x) (λ y p. made_ok (λ ys. All P ys × (length ys ≡ length xs)) _ (each f xs) (λ ys. y ∷ ys) (each_ok P f h xs) (λ ys q. (All-cons P y ys p q.0, ap suc q.1)))
+
+parts_ok : (parts : List (List ℕ)) → IfOk (bus_of_parts parts) BusInRange
+parts_ok [] = tt
+parts_ok (name ∷ parts) = by (is_name name && nat_le (length parts) 4) refl
+  where
+    few : (nodes : List ℕ) → length nodes ≡ length parts → nat_le (length parts) 4 ≡ true → length nodes ≤ 4
+    few nodes same t = grind (arith, nat_tests, same, t)
+
+    by : (b : Bool) → (is_name name && nat_le (length parts) 4) ≡ b → IfOk (if b then (each node_of parts >>= λ nodes. Ok (record { name = name; nodes = nodes })) else Err fault.BadValue) BusInRange
+    by true t =
+        let most = (both (is_name name) (nat_le (length parts) 4) t).1 in
+        made_ok (λ nodes. All (λ n. n ≤ 9) nodes × (length nodes ≡ length parts)) BusInRange (each node_of parts) (λ nodes. record { name = name; nodes = nodes }) (each_ok (λ n. n ≤ 9) node_of node_ok parts)
+        (λ nodes q. record { few = few nodes q.1 most; digits = q.0 })
+    by false t = tt
+
+word_bus_ok : (word : List ℕ) → IfOk (bus_of word) BusInRange
+unfolding bus_of
+word_bus_ok word = parts_ok (slice_split is_point word)
+
+pub bus_ok : (pair : Pair) → IfOk (bus_in pair) BusInRange
+unfolding bus_in
+bus_ok pair = any_ok BusInRange (word_in pair) bus_of word_bus_ok
+
+cell_buses_ok : (cells : List (List ℕ)) → IfOk (each bus_of_cell cells) (All BusInRange)
+cell_buses_ok cells = IfOk-weaker (each bus_of_cell cells) _ _ (λ buses q. q.0) (each_ok BusInRange bus_of_cell (λ cell. word_bus_ok (lower cell)) cells)
+
+pub two_buses_ok : (pair : Pair) → IfOk (two_buses_in pair) (λ b. BusInRange b.0 × BusInRange b.1)
+unfolding two_buses_in
+two_buses_ok pair = then_ok (All BusInRange) _ (cells_in pair >>= each bus_of_cell) two (any_ok (All BusInRange) (cells_in pair) (each bus_of_cell) cell_buses_ok) (two_of_all BusInRange)
 
 -- ---- matrices
 

@@ -1,6 +1,7 @@
 -- The ranges of the values of elements and options: each value that a script can set lies in them.
-use Rattle.std.specs.Prelude.{◌≡◌, ◌≤◌, pos, [], ◌∷◌, All, IfSome}
+use Rattle.std.specs.Prelude.{◌≡◌, ◌≤◌, length, pos, [], ◌∷◌, All, IfSome}
 use Rattle.dss_values.specs.Forms.{ones}
+use Rattle.dss_values.specs.declared.bus.Bus.{Bus}
 use Rattle.dss_profile.specs.declared.vsource.Vsource.{Vsource}
 use Rattle.dss_profile.specs.declared.linecode.Linecode.{Linecode}
 use Rattle.dss_profile.specs.declared.line.Line.{Line}
@@ -16,7 +17,13 @@ use Rattle.dss_profile.specs.declared.element.Element.TheVariants as the
 use Rattle.dss_profile.specs.declared.options.Options.{Options}
 use Rattle.dss_profile.specs.Ranges.{IsBetween, IsCountBetween, IsOneOf, IsAngle, IsRatio, IsPowerFactor, IsTap, IsTime, IsPhaseNumber, IsKilovolt, IsRating, IsImpedance, IsImpedanceEntry, IsCapacitance, IsCapacitanceEntry, IsPower, IsCompensation, IsSetting}
 
+-- at most four node numbers, each of one digit
+pub record BusInRange (bus : Bus) : Type 0 where
+  pub few : length bus.nodes ≤ 4
+  pub digits : All (λ n. n ≤ 9) bus.nodes
+
 pub record VsourceInRange (source : Vsource) : Type 0 where
+  pub bus1 : BusInRange source.bus1
   pub phases : IsOneOf (1 ∷ 3 ∷ []) source.phases
   pub basekv : IsBetween (pos 1_000_000) (ones 1000) source.basekv
   pub pu : IsBetween (pos 0) (ones 2) source.pu
@@ -44,6 +51,8 @@ pub record LinecodeInRange (code : Linecode) : Type 0 where
   pub c0 : IfSome code.c0 IsCapacitance
 
 pub record LineInRange (line : Line) : Type 0 where
+  pub bus1 : IfSome line.bus1 BusInRange
+  pub bus2 : IfSome line.bus2 BusInRange
   pub phases : IsCountBetween 1 3 line.phases
   pub length : IsBetween (pos 0) (ones 1_000_000) line.length
   pub rmatrix : IfSome line.rmatrix (All IsImpedanceEntry)
@@ -57,6 +66,7 @@ pub record LineInRange (line : Line) : Type 0 where
   pub c0 : IfSome line.c0 IsCapacitance
 
 pub record WindingInRange (winding : Winding) : Type 0 where
+  pub bus : IfSome winding.bus BusInRange
   pub kv : IsKilovolt winding.kv
   pub kva : IsRating winding.kva
   pub pct_r : IsBetween (pos 0) (ones 100) winding.pct_r
@@ -77,12 +87,14 @@ pub record TransformerInRange (xfmr : Transformer) : Type 0 where
   pub pct_imag : xfmr.pct_imag ≡ pos 0
 
 pub record CapacitorInRange (bank : Capacitor) : Type 0 where
+  pub bus1 : IfSome bank.bus1 BusInRange
   pub phases : IsOneOf (1 ∷ 3 ∷ []) bank.phases
   pub kvar : IsBetween (pos 0) (ones 100_000) bank.kvar
   pub kv : IsKilovolt bank.kv
   pub numsteps : bank.numsteps ≡ 1
 
 pub record LoadInRange (load : Load) : Type 0 where
+  pub bus1 : IfSome load.bus1 BusInRange
   pub phases : IsOneOf (1 ∷ 3 ∷ []) load.phases
   pub kv : IsKilovolt load.kv
   pub kw : IsPower load.kw

@@ -1,8 +1,6 @@
-use Rattle.std.proofs.Common.{◌≡◌, ◌∙◌, false, IfSome, Some, ap, sym, subst}
+use Rattle.std.proofs.Common.{◌≡◌, ◌∙◌, IfSome, Some, ap, sym, subst}
 use Rattle.dss_profile.specs.InRange.{ElementInRange}
 use Rattle.dss_profile.specs.Element.{class_of}
-use Rattle.dss_circuit.specs.Circuit.{has_circuit}
-use Rattle.dss_circuit.specs.Keys.{source_name}
 use Rattle.dss_circuit.specs.WellFormed.{NamesAreThere}
 use Rattle.dss_circuit.proofs.Entries.{of_found}
 use Rattle.dss_circuit.proofs.WellFormed.{found_begun, found_class}

@@ -1,5 +1,4 @@
-use Rattle.std.proofs.Common.{◌∙◌, ap, sym}
-use Rattle.dss_circuit.specs.Circuit.{has_circuit}
+use Rattle.std.proofs.Common.{◌∙◌}
 use Rattle.dss_circuit.proofs.WellFormed.{edit_key_is, new_key_is}
 use Rattle.dss_circuit.proofs.circuit.Circuit.apply.Goals as goal
 
