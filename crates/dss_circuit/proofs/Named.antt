@@ -46,7 +46,7 @@ use Rattle.dss_profile.specs.Linecode.{with_linecode}
 use Rattle.dss_profile.specs.Transformer.{with_transformer}
 use Rattle.dss_profile.specs.Capacitor.{with_capacitor}
 use Rattle.dss_profile.specs.Loadshape.{with_loadshape}
-use Rattle.dss_profile.proofs.FormRanges.{then_ok, any_ok, made_ok, kept_ok, found_ok}
+use Rattle.dss_profile.proofs.CallerLemmas.{then_ok, any_ok, made_ok, kept_ok, found_ok}
 use Rattle.dss_circuit.specs.Circuit.{Elements, referred}
 use Rattle.dss_circuit.specs.WellFormed.{AllNamesAreThere, IsThere, NamesAreThere}
 use Rattle.dss_circuit.proofs.Entries.{OfValue, of_inserted}

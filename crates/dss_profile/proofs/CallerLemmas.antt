@@ -1,4 +1,4 @@
--- What a caller needs to know of the names and the classes of elements.
+-- What a caller needs to know of the names and the classes of elements, and of the answers that a pair's steps give.
 use Rattle.std.proofs.Common.{◌≡◌, ℕ, ◌&&◌, ◌==◌, eqb, Bool, true, false, IsTrue, List, [], ◌∷◌, Option, is_some, Ok, Err, IfOk, if◌then◌else◌, slice_index_or, refl, sym, ap, ◌∙◌}
 use Rattle.std.specs.Cmp.Lexicographic.{bytes_decides}
 use Rattle.std.proofs.lemmas.Bool.{and_parts, eqb-true, eq-eqb}
@@ -27,7 +27,7 @@ use Rattle.dss_profile.specs.Load.{with_load}
 use Rattle.dss_profile.specs.RegControl.{with_regcontrol}
 use Rattle.dss_profile.specs.CapControl.{with_capcontrol}
 use Rattle.dss_profile.specs.Loadshape.{with_loadshape}
-use Rattle.dss_profile.proofs.FormRanges.{any_ok, kept_ok}
+pub use Rattle.dss_profile.proofs.FormRanges.{then_ok, any_ok, made_ok, kept_ok, found_ok}
 
 numbered : (a : Class) → tag_of the_type a ≡ class_number a
 numbered the.Vsource = refl
