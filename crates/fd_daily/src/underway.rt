@@ -100,7 +100,7 @@ impl Underway {
         hours_law();
         let hour = self.hour();
         let powers = powers_at(alloc, circuit, hour)?;
-        match self.net.update(alloc, circuit, at, &powers) {
+        match self.net.update(circuit, at, &powers) {
             Ok(()) => {
                 self.powers = powers;
                 Ok(())

@@ -1,5 +1,5 @@
 -- What elements add is what a network asks for.
-use Rattle.std.proofs.Common.{◌+◌, ◌*◌, ◌<◌, ◌≤◌, ◌^◌, List, [], ◌∷◌, length, None, arith, ap, refl, ◌≡◌, ◌∙◌, ℕ}
+use Rattle.std.proofs.Common.{◌+◌, ◌*◌, ◌<◌, ◌≤◌, ◌^◌, List, [], ◌∷◌, length, None, Some, arith, ap, refl, ◌≡◌, ◌∙◌, ℕ}
 use Rattle.std.specs.List.{All}
 use Rattle.std.specs.Option.{option_or}
 use Rattle.std.proofs.lemmas.List.Elements.{All-nil, All-cons, All-head, All-tail}
@@ -49,17 +49,19 @@ module _ (n size : ℕ) (room : 2 * n ≤ size) where
 -- ---- faults
 
 -- a device out of range by itself comes first
+pub own_first : (ds : List Device) (place : ℕ) → first_without fits ds ≡ Some place → first_out_of_range ds ≡ Some place
+own_first ds place h = ap (λ o. option_or o (first_without (has_small_sums (share_of_all ds).terms) ds)) h
+
 pub own_fault : (ds : List Device) (f : PlaceFault) → NamesPlace (first_without fits ds) f → NamesPlace (first_out_of_range ds) f
-own_fault ds (place_fault.OutOfRange k) h = ap (λ o. option_or o (first_without (has_small_sums (share_of_all ds).terms) ds)) h
+own_fault ds (place_fault.OutOfRange k) h = own_first ds k h
 own_fault ds place_fault.NoMemory h = tt
 
 fit_then_sums : (ds : List Device) → All Fits ds → first_out_of_range ds ≡ first_without (has_small_sums (share_of_all ds).terms) ds
 fit_then_sums ds h = ap (λ o. option_or o (first_without (has_small_sums (share_of_all ds).terms) ds)) (none_without fits Fits fits_decides ds h)
 
 -- where each fits, the first with a large sum is the first out of range
-pub sum_fault : (ds : List Device) (f : PlaceFault) → All Fits ds → NamesPlace (first_without (has_small_sums (share_of_all ds).terms) ds) f → NamesPlace (first_out_of_range ds) f
-sum_fault ds (place_fault.OutOfRange k) fit h = fit_then_sums ds fit ∙ h
-sum_fault ds place_fault.NoMemory fit h = tt
+pub sum_first : (ds : List Device) (place : ℕ) → All Fits ds → first_without (has_small_sums (share_of_all ds).terms) ds ≡ Some place → first_out_of_range ds ≡ Some place
+sum_first ds place fit h = fit_then_sums ds fit ∙ h
 
 -- no device in range is out of range
 pub no_fault : (ds : List Device) → AreInRange ds → first_out_of_range ds ≡ None

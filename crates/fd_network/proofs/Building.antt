@@ -3,17 +3,19 @@ use Rattle.std.proofs.Common.{◌≡◌, ◌∙◌, ℕ, ◌<◌, List, [], ◌�
 use Rattle.std.specs.List.{All}
 use Rattle.std.specs.Option.{option_and_then, option_or}
 use Rattle.dss_values.specs.declared.fault.ModelFault.TheVariants as cause
-use Rattle.dss_profile.specs.declared.command.Blame.{Blame}
 use Rattle.dss_profile.specs.Ranges.{IsOneOf}
 use Rattle.dss_layout.specs.Layout.{Elements, LayoutView, first_too_many, layout_of}
 use Rattle.dss_ready.specs.Ready.{blame_at}
 use Rattle.fd_xfmr.specs.Leakage.{AreTaps}
 use Rattle.fd_devices.specs.Building.{IsModest}
+use Rattle.fd_devices.specs.declared.fault.BuildFault.{BuildFault}
 use Rattle.fd_devices.specs.Devices.{Device, share_of_all}
 use Rattle.fd_devices.specs.Scripted.{devices_from}
+use Rattle.fd_devices.specs.declared.kept.Kept.{Kept}
 use Rattle.fd_devices.specs.Settings.{AreSettings, Settings}
 use Rattle.fd_network.specs.Collecting.{AreTakenFrom, HasPlace}
-use Rattle.fd_network.specs.Faults.{first_out_of_range, first_without, fits, has_small_sums, range_blame}
+use Rattle.fd_network.specs.Faults.{IsFaultOf, first_out_of_range, first_without, fits, has_small_sums, range_blame}
+use Rattle.fd_network.specs.Keeping.{AreKept, Reaches}
 use Rattle.fd_network.specs.Places.{AreReadyFrom}
 use Rattle.fd_network.proofs.Faulty.{first_within}
 use Rattle.dss_layout.proofs.CallerLemmas.{few_complex}
@@ -48,6 +50,12 @@ taken_as l l' h h' es es' s s' el eh ees e taken =
 pub same_devices : (l l' : LayoutView) (h h' : ℕ) (es es' : Elements) (s s' : Settings) → l ≡ l' → h ≡ h' → es ≡ es' → s ≡ s' → devices_from l h 0 es s ≡ devices_from l' h' 0 es' s'
 same_devices l l' h h' es es' s s' el eh ees e = λ i. devices_from (el i) (eh i) 0 (ees i) (e i)
 
+pub kept_as : (l l' : LayoutView) (h h' : ℕ) (es es' : Elements) (ks : List Kept) → l ≡ l' → h ≡ h' → es ≡ es' → AreKept l' h' es' ks → AreKept l h es ks
+kept_as l l' h h' es es' ks el eh ees kept = subst (λ x. AreKept x h es ks) (sym el) (subst (λ x. AreKept l' x es ks) (sym eh) (subst (λ x. AreKept l' h' x ks) (sym ees) kept))
+
+pub reaches_as : (l l' : LayoutView) (h h' : ℕ) (es es' : Elements) (ps : List (ℕ × ℕ)) → l ≡ l' → h ≡ h' → es ≡ es' → Reaches l' h' es' ps → Reaches l h es ps
+reaches_as l l' h h' es es' ps el eh ees reach = subst (λ x. Reaches x h es ps) (sym el) (subst (λ x. Reaches l' x es ps) (sym eh) (subst (λ x. Reaches l' h' x ps) (sym ees) reach))
+
 -- ---- blame
 
 either_within : (p q : Option ℕ) (n place : ℕ) → ((k : ℕ) → p ≡ Some k → k < n) → ((k : ℕ) → q ≡ Some k → k < n) → option_or p q ≡ Some place → place < n
@@ -60,8 +68,10 @@ out_of_range_within ds place e =
     either_within (first_without fits ds) (first_without (has_small_sums (share_of_all ds).terms) ds) (length ds) place
     (λ k. first_within fits ds k) (λ k. first_within (has_small_sums (share_of_all ds).terms) ds k) e
 
-pub blame_of : (es : Elements) (ds : List Device) (place : ℕ) (blame : Blame) → first_out_of_range ds ≡ Some place → blame_at cause.Range es place ≡ Some blame → range_blame es ds ≡ Some blame
-blame_of es ds place blame e b = ap (option_and_then (blame_at cause.Range es)) e ∙ b
+-- the fault that names the element at the place of the first device out of range is the one that is due
+pub fault_named : (es es' : Elements) (ds : List Device) (place : ℕ) (f : BuildFault) → es' ≡ es → first_out_of_range ds ≡ Some place → IsFaultOf (blame_at cause.Range es' place) f → IsFaultOf (range_blame es ds) f
+fault_named es es' ds place f same e h =
+    subst (λ b. IsFaultOf b f) (ap (λ x. blame_at cause.Range x place) same ∙ sym (ap (option_and_then (blame_at cause.Range es)) e)) h
 
 pub no_blame : (es : Elements) (ds : List Device) → first_out_of_range ds ≡ None → range_blame es ds ≡ None
 no_blame es ds e = ap (option_and_then (blame_at cause.Range es)) e

@@ -2,8 +2,10 @@ pub mod Apart
 pub mod Assembling
 pub mod Building
 pub mod Faulty
+pub mod Filling
 pub mod Sums
 pub mod Taking
+pub mod Walking
 pub mod ReadyNodes
 pub mod ReadySides
 pub mod ReadyPlaces

@@ -1,23 +1,39 @@
 -- What contracts see of the network of a circuit.
-use Rattle.std.specs.Prelude.{◌≡◌, ℕ}
+use Rattle.std.specs.Prelude.{◌≡◌, ℕ, List}
 use Rattle.dss_layout.specs.Layout.{LayoutView, layout_of, size_of}
 use Rattle.dss_circuit.specs.Circuit.{CircuitView}
-use Rattle.fd_system.specs.System.{Share}
 use Rattle.fd_equations.specs.declared.layout.Layout.{Layout}
 use Rattle.fd_equations.specs.Conditions.{IsNetwork}
-use Rattle.fd_equations.specs.Views.{NetworkView, network_of}
+use Rattle.fd_equations.specs.Views.{NetworkView, network_of, share_with}
+use Rattle.fd_devices.specs.declared.kept.Kept.{Kept}
+use Rattle.fd_network.specs.declared.assembly.Parts.{Parts}
+use Rattle.fd_network.specs.declared.room.Room.{Room}
+use Rattle.fd_network.specs.Keeping.{AreKept, Reaches, room_for}
 
--- where its unknowns stand, and its rows
+-- where its unknowns stand, its rows, what is kept of each element, the places of row and column at which something can stand, and how
+-- much its lists have room for
 pub record BuiltView : Type 0 where
   pub layout : LayoutView
   pub rows : NetworkView
+  pub kept : List Kept
+  pub places : List (ℕ × ℕ)
+  pub room : Room
 
-abbrev pub built_of : LayoutView → Layout → Share → ℕ → BuiltView
-built_of layout counts share draw = record { layout = layout; rows = network_of counts share draw }
+abbrev pub built_of : LayoutView → Layout → Parts → List Kept → Room → BuiltView
+built_of layout counts parts kept room = record {
+  layout = layout;
+  rows = network_of counts (share_with parts.constants.items parts.rows.terms parts.rows.loads) parts.draw;
+  kept = kept;
+  places = parts.rows.places;
+  room = room;
+}
 
--- it was built of a circuit, at whatever positions and powers
+-- it was built of a circuit, at whatever positions and powers, and can be updated to any
 pub record IsBuiltOf (v : BuiltView) (c : CircuitView) : Type 0 where
   pub layout : v.layout ≡ layout_of c.elements
+  pub kept : AreKept (layout_of c.elements) c.options.defaultbasefrequency c.elements v.kept
+  pub reach : Reaches (layout_of c.elements) c.options.defaultbasefrequency c.elements v.places
+  pub room : v.room ≡ room_for c.elements
 
 -- its rows are those of a network with these unknowns
 pub record IsBuilt (v : BuiltView) : Type 0 where

@@ -1,28 +1,34 @@
 // The rows of a network, made of what its elements add.
-ghost use Rattle.std.specs.Prelude.{◌≡◌, ◌*◌, ◌≤◌, ◌^◌, All, IfErr, IfOk, None, OnOk, length};
+ghost use Rattle.std.specs.Prelude.{◌≡◌, ◌*◌, ◌≤◌, ◌^◌, All, IfErr, IfOk, None, OnOk, Some, length};
+ghost use Rattle.std.specs.List.{Contains};
 ghost use Rattle.fd_exact.specs.Sums.{list_n};
 ghost use Rattle.dss_layout.specs.Limits.{most_complex, most_magnitudes};
 ghost use Rattle.dss_layout.specs.Layout.{branch_phases, complex_count, size_of};
 ghost use Rattle.dss_circuit.specs.Limits.{most_elements};
 ghost use Rattle.fd_equations.specs.Conditions.{IsNetwork};
+ghost use Rattle.fd_equations.specs.Patterns.{IsInside};
 ghost use Rattle.fd_devices.specs.Building.{AreInRange, Fits};
 ghost use Rattle.fd_devices.specs.Devices.{AgreesWith, parts_of_all, share_of_all};
+ghost use Rattle.fd_devices.specs.Kept.{HasRoom, IsRoomSame};
 ghost use Rattle.fd_devices.specs.Scripted.{devices_from, devices_network};
-ghost use Rattle.fd_network.specs.Assembled.{parts_network};
-ghost use Rattle.fd_network.specs.Collecting.{AreTakenFrom, NamesPlace, settings_left};
+ghost use Rattle.fd_network.specs.Assembled.{AreExchanged, CanTake, HaveListsRoom, HavePartsRoom, HaveRoom, IsAsBefore, parts_network};
+ghost use Rattle.fd_network.specs.Collecting.{AreTakenFrom, settings_left};
 ghost use Rattle.fd_network.specs.Faults.{first_out_of_range, first_without, has_small_sums};
+ghost use Rattle.fd_network.specs.Keeping.{AreKept, Reaches, room_for};
 ghost use Rattle.fd_network.specs.Places.{AreMagnitudesFrom};
 
-use crate::fault::PlaceFault;
+use crate::fault::OutOfRange;
 use crate::pieces::{check_sums, collect};
+use crate::room::Room;
 use crate::settings::SettingsLeft;
 use dss_layout::Layout;
 use dss_profile::{Element, ElementName};
-use fd_devices::{Piece, device_law};
+use fd_devices::{Kept, Piece, device_law, reach_law};
 use fd_equations::Rows;
 use fd_system::Constant;
 use indexmap::IndexMap;
-use std::alloc::Global;
+use std::alloc::{AllocError, Global};
+use std::mem;
 
 /// What elements in a layout add to the rows of a network, with the sums.
 #[derive(Drop)]
@@ -32,65 +38,137 @@ pub struct Parts {
     pub draw: u128,
 }
 
-/// The parts of the network of elements in a layout, at the circuit's frequency in hertz and with these settings.
+/// The lists in which what elements add is written: `all` for all elements, `one` for each in turn.
+#[derive(Drop)]
+pub struct Lists {
+    pub all: Piece,
+    pub one: Piece,
+}
+
+/// Makes the parts those of the network of elements in a layout, at the circuit's frequency in hertz and with these settings. Takes no
+/// memory. After a refusal the parts are as before.
 ///
 /// # Errors
 /// `OutOfRange` with the place of the first element that is out of range by itself, or where there is none of the first with a
-/// contribution at a place where the sum is past 2^54 in units of 2^-40. `NoMemory` where memory is refused.
+/// contribution at a place where the sum is past 2^54 in units of 2^-40.
 pub fn assemble(
-    alloc: Global,
+    parts: &mut Parts,
+    lists: &mut Lists,
     layout: &Layout,
     hertz: u32,
     elements: &IndexMap<ElementName, Element>,
     settings: &SettingsLeft,
-) -> Result<Parts, PlaceFault>
+    kept: &[Kept],
+) -> Result<(), OutOfRange>
     requires taken { AreTakenFrom layout.now hertz 0 elements.now.entries (settings_left settings.now) }
     requires magnitudes { AreMagnitudesFrom layout.now (2 * complex_count layout.now) 0 elements.now.entries }
     requires few { length elements.now.entries ≤ most_elements }
     requires few_branches { list_n (λ e. branch_phases e.1) elements.now.entries ≤ most_complex }
     requires few_complexes { complex_count layout.now ≤ most_complex }
     requires few_magnitudes { length layout.now.magnitudes ≤ most_magnitudes }
-    ensures network { IfOk result (λ n. parts_network layout.now n ≡ devices_network layout.now (devices_from layout.now hertz 0 elements.now.entries (settings_left settings.now))) }
-    ensures valid { IfOk result (λ n. IsNetwork (parts_network layout.now n)) }
-    ensures size { IfOk result (λ n. n.rows.size ≡ size_of layout.now) }
-    ensures agrees { IfOk result (λ n. AgreesWith (parts_network layout.now n).share (parts_of_all (devices_from layout.now hertz 0 elements.now.entries (settings_left settings.now)))) }
-    ensures in_range { IfOk result (λ n. AreInRange (devices_from layout.now hertz 0 elements.now.entries (settings_left settings.now))) }
-    ensures no_fault { IfOk result (λ n. first_out_of_range (devices_from layout.now hertz 0 elements.now.entries (settings_left settings.now)) ≡ None) }
-    ensures fault { IfErr result (NamesPlace (first_out_of_range (devices_from layout.now hertz 0 elements.now.entries (settings_left settings.now)))) }
+    requires size { parts.old.rows.size ≡ size_of layout.now }
+    requires kept { AreKept layout.now hertz elements.now.entries kept.now }
+    requires room { HaveRoom (room_for elements.now.entries) parts.old lists.old }
+    requires reaches { Reaches layout.now hertz elements.now.entries parts.old.rows.places }
+    ensures network { OnOk result (parts_network layout.now parts.new ≡ devices_network layout.now (devices_from layout.now hertz 0 elements.now.entries (settings_left settings.now))) }
+    ensures valid { OnOk result (IsNetwork (parts_network layout.now parts.new)) }
+    ensures agrees { OnOk result (AgreesWith (parts_network layout.now parts.new).share (parts_of_all (devices_from layout.now hertz 0 elements.now.entries (settings_left settings.now)))) }
+    ensures in_range { OnOk result (AreInRange (devices_from layout.now hertz 0 elements.now.entries (settings_left settings.now))) }
+    ensures no_fault { OnOk result (first_out_of_range (devices_from layout.now hertz 0 elements.now.entries (settings_left settings.now)) ≡ None) }
+    ensures fault { IfErr result (λ f. first_out_of_range (devices_from layout.now hertz 0 elements.now.entries (settings_left settings.now)) ≡ Some f.0) }
+    ensures as_before { IfErr result (λ f. IsAsBefore parts.old parts.new) }
+    ensures size { parts.new.rows.size ≡ parts.old.rows.size }
+    ensures places { parts.new.rows.places ≡ parts.old.rows.places }
+    ensures room { HaveRoom (room_for elements.now.entries) parts.new lists.new }
 {
-    let Piece {
-        constants,
-        terms,
-        loads,
-        draw,
-    } = collect(alloc, layout, hertz, elements, settings)?;
-    let rows = Rows::of(alloc, layout.size(), terms, loads)?;
-    check_entries(alloc, layout, hertz, elements, settings, &rows)?;
-    device_law();
-    Ok(Parts {
-        rows,
-        constants,
-        draw,
-    })
+    let Lists { all, one } = lists;
+    collect(all, one, layout, hertz, elements, settings, kept)?;
+    reach_law();
+    exchange(parts, all);
+    match check_entries(one, layout, hertz, elements, settings, kept, &parts.rows) {
+        Ok(()) => {
+            device_law();
+            Ok(())
+        }
+        Err(fault) => {
+            exchange(parts, all);
+            Err(fault)
+        }
+    }
+}
+
+impl Parts {
+    /// Parts in which nothing stands yet: they can hold what stands at these places of row and column in a layout, and have this room.
+    ///
+    /// # Errors
+    /// `AllocError` where the memory is refused.
+    pub fn reaching(
+        alloc: Global,
+        layout: &Layout,
+        places: Vec<(u32, u32)>,
+        room: Room,
+    ) -> Result<Parts, AllocError>
+        requires inside { All (IsInside (size_of layout.now)) places.items }
+        requires few_complexes { complex_count layout.now ≤ most_complex }
+        requires few_magnitudes { length layout.now.magnitudes ≤ most_magnitudes }
+        ensures size { IfOk result (λ p. p.rows.size ≡ size_of layout.now) }
+        ensures places { IfOk result (λ p. All (Contains p.rows.places) places.items) }
+        ensures room { IfOk result (HavePartsRoom room) }
+    {
+        Ok(Parts {
+            rows: Rows::reaching(alloc, layout.size(), places, room.terms, room.loads)?,
+            constants: Vec::with_capacity(alloc, room.constants)?,
+            draw: 0,
+        })
+    }
+}
+
+impl Lists {
+    /// Empty lists with this room for all elements, and for one the room that any element has.
+    ///
+    /// # Errors
+    /// `AllocError` where the memory is refused.
+    pub fn with_room(alloc: Global, room: Room) -> Result<Lists, AllocError>
+        ensures { IfOk result (HaveListsRoom room) }
+    {
+        Ok(Lists {
+            all: Piece::with_room(alloc, room.terms, room.loads, room.constants)?,
+            one: Piece::with_room(alloc, 256, 9, 6)?,
+        })
+    }
+}
+
+// Exchanges the parts with what a piece has. Takes no memory.
+fn exchange(parts: &mut Parts, piece: &mut Piece)
+    requires { CanTake parts.old piece.old }
+    ensures exchanged { AreExchanged parts.old piece.old parts.new piece.new }
+{
+    parts.rows.replace(&mut piece.terms, &mut piece.loads);
+    mem::swap(&mut parts.constants, &mut piece.constants);
+    mem::swap(&mut parts.draw, &mut piece.draw);
 }
 
 // Whether each entry is small. The elements are walked again only where one isn't, to name the first that has a part in it.
 fn check_entries(
-    alloc: Global,
+    one: &mut Piece,
     layout: &Layout,
     hertz: u32,
     elements: &IndexMap<ElementName, Element>,
     settings: &SettingsLeft,
+    kept: &[Kept],
     rows: &Rows,
-) -> Result<(), PlaceFault>
+) -> Result<(), OutOfRange>
     requires taken { AreTakenFrom layout.now hertz 0 elements.now.entries (settings_left settings.now) }
+    requires kept { AreKept layout.now hertz elements.now.entries kept.now }
+    requires one { HasRoom one.old 256 9 6 }
     requires fits { All Fits (devices_from layout.now hertz 0 elements.now.entries (settings_left settings.now)) }
     requires terms { rows.now.terms ≡ (share_of_all (devices_from layout.now hertz 0 elements.now.entries (settings_left settings.now))).terms }
     ensures small { OnOk result (AreInRange (devices_from layout.now hertz 0 elements.now.entries (settings_left settings.now))) }
-    ensures fault { IfErr result (NamesPlace (first_without (has_small_sums rows.now.terms) (devices_from layout.now hertz 0 elements.now.entries (settings_left settings.now)))) }
+    ensures fault { IfErr result (λ f. first_without (has_small_sums rows.now.terms) (devices_from layout.now hertz 0 elements.now.entries (settings_left settings.now)) ≡ Some f.0) }
+    ensures one { IsRoomSame one.old one.new }
 {
     if rows.are_within() {
         return Ok(());
     }
-    check_sums(alloc, layout, hertz, elements, settings, rows)
+    check_sums(one, layout, hertz, elements, settings, kept, rows)
 }

@@ -8,6 +8,10 @@ pub enum PlaceFault {
     NoMemory,
 }
 
+/// The element at this place in order of definition is out of range.
+#[derive(Clone, Copy, PartialEq, Eq, Debug)]
+pub struct OutOfRange(pub usize);
+
 impl From<AllocError> for PlaceFault {
     ghost use Rattle.std.specs.Prelude.{◌≡◌};
     ghost use Rattle.fd_network.specs.declared.fault.PlaceFault.TheVariants.{NoMemory};

@@ -3,19 +3,22 @@
 // `Network::build` gives exactly the network of a circuit that passed the tests of Solve, at given positions of taps and banks and given powers
 // of load phases: its rows are those of the elements' complex equations at every state. Range is the answer exactly where a number of the
 // linear rows, or the sum of those at one place, is past 2^54 in units of 2^-40, or a load is past its limit, and it names the
-// first element to blame. `update` leaves what `build` gives, and after a refusal what was there. A network keeps the layout of its
-// unknowns, with their names, and hands on its rows (`rows`) to the solver and the certificate.
+// first element to blame. `update` leaves what `build` gives, and after a refusal what was there; where nothing is out of range it is Ok and
+// takes no memory, since the lists have room, and the rows places, for all that the elements add at any settings. A network keeps the layout
+// of its unknowns, with their names, and hands on its rows (`rows`) to the solver and the certificate.
 //
-// Modules: `network` has the type, `assembly` makes a network of what the elements add, `pieces` collects that and names the element out
-// of range by its place, `settings` are the positions and powers of elements in turn, `fault` why elements have no rows, `blame` the
-// element to blame.
+// Modules: `network` has the type, `assembly` makes its parts those of what the elements add, `pieces` collects that and names the element
+// out of range by its place, `keeping` has what is kept of the elements for updates, `room` how much room the lists need, `settings` are the
+// positions and powers of elements in turn, `fault` why elements have no rows, `blame` the element to blame.
 #![tactic(auto)]
 
 mod assembly;
 mod blame;
 mod fault;
+mod keeping;
 mod network;
 mod pieces;
+mod room;
 mod settings;
 
 pub use network::Network;

@@ -1,32 +1,39 @@
 // The network of a circuit, built.
-ghost use Rattle.std.specs.Prelude.{◌≡◌, ◌<◌, ◌≤◌, All, IfErr, IfOk, None, Some, length, slice_get};
+ghost use Rattle.std.specs.Prelude.{◌≡◌, ◌<◌, ◌≤◌, All, IfErr, IfOk, IsOk, None, Some, length, slice_get};
+ghost use Rattle.std.specs.List.{flat_map};
 ghost use Rattle.dss_layout.specs.Layout.{complex_count, first_too_many, layout_of, size_of};
 ghost use Rattle.dss_layout.specs.Limits.{most_complex, most_magnitudes};
 ghost use Rattle.dss_layout.specs.UnknownNames.{unknown_name};
-ghost use Rattle.dss_ready.specs.Ready.{HasPassed};
+ghost use Rattle.dss_values.specs.declared.fault.ModelFault.TheVariants as cause;
+ghost use Rattle.dss_ready.specs.Ready.{HasPassed, blame_at};
 ghost use Rattle.fd_xfmr.specs.Leakage.{AreTaps};
 ghost use Rattle.fd_equations.specs.Conditions.{IsNetwork};
-ghost use Rattle.fd_equations.specs.Views.{network_of, share_with};
+ghost use Rattle.fd_equations.specs.Patterns.{IsInside};
 ghost use Rattle.fd_devices.specs.Building.{AreInRange, IsModest};
 ghost use Rattle.fd_devices.specs.Devices.{AgreesWith};
 ghost use Rattle.fd_devices.specs.Places.{ends_at};
+ghost use Rattle.fd_devices.specs.Reach.{device_places};
 ghost use Rattle.fd_devices.specs.Scripted.{circuit_network, circuit_parts, devices_of, layout_counts};
 ghost use Rattle.fd_devices.specs.Settings.{AreSettings, settings_of};
-ghost use Rattle.fd_network.specs.Assembled.{parts_network};
+ghost use Rattle.fd_network.specs.Assembled.{HaveRoom, IsAsBefore, parts_network};
 ghost use Rattle.fd_network.specs.Built.{IsBuilt, IsBuiltOf};
 ghost use Rattle.fd_network.specs.Faults.{IsFaultOf, range_blame};
+ghost use Rattle.fd_network.specs.Keeping.{AreKept, Reaches, room_for};
 
-use crate::assembly::{Parts, assemble};
+use crate::assembly::{Lists, Parts, assemble};
 use crate::blame::blame_range;
 use crate::fault::PlaceFault;
+use crate::keeping::{Made, keep};
+use crate::room::{Room, room_of};
 use crate::settings::SettingsLeft;
 use dss_circuit::Circuit;
 use dss_layout::Layout;
 use dss_lexer::Text;
+use dss_profile::{Element, ElementName};
 use fd_arith::Ends;
-use fd_devices::{BuildFault, Positions, Powers};
-use fd_equations::{Layout as Counts, Network as NetworkRows, Rows};
-use fd_system::Constant;
+use fd_devices::{BuildFault, Kept, Positions, Powers};
+use fd_equations::{Layout as Counts, Network as NetworkRows};
+use indexmap::IndexMap;
 use std::alloc::{AllocError, Global};
 use std::marker::Model;
 
@@ -36,23 +43,24 @@ use std::marker::Model;
 pub struct Network {
     layout: Layout,
     counts: Counts,
-    rows: Rows,
-    constants: Vec<Constant>,
-    draw: u128,
+    parts: Parts,
+    kept: Vec<Kept>,
+    room: Room,
+    lists: Lists,
 }
 
 impl Model for Network {
     ghost use Rattle.std.specs.Prelude.{◌≡◌};
     ghost use Rattle.dss_layout.specs.Layout.{size_of};
-    ghost use Rattle.fd_equations.specs.Views.{share_with};
     ghost use Rattle.fd_devices.specs.Scripted.{layout_counts};
+    ghost use Rattle.fd_network.specs.Assembled.{HaveRoom};
     ghost use Rattle.fd_network.specs.Built.{BuiltView, IsBuilt, built_of};
 
     ghost Value = { BuiltView };
 
-    ghost view = { λ n. built_of n.layout n.counts (share_with n.constants.items n.rows.terms n.rows.loads) n.draw };
+    ghost view = { λ n. built_of n.layout n.counts n.parts n.kept.items n.room };
 
-    ghost invariant = { λ n. IsBuilt (built_of n.layout n.counts (share_with n.constants.items n.rows.terms n.rows.loads) n.draw) × (n.rows.size ≡ size_of n.layout) × (n.counts ≡ layout_counts n.layout) };
+    ghost invariant = { λ n. IsBuilt (built_of n.layout n.counts n.parts n.kept.items n.room) × (n.parts.rows.size ≡ size_of n.layout) × (n.counts ≡ layout_counts n.layout) × HaveRoom n.room n.parts n.lists };
 }
 
 impl Network {
@@ -83,28 +91,29 @@ impl Network {
         ensures fault { IfErr result (λ f. IsFaultOf (range_blame circuit.now.elements (devices_of circuit.now (settings_of at.now powers.now))) f) }
     {
         let layout = layout(alloc, circuit)?;
+        let Made { kept, places } = kept_in(alloc, &layout, circuit, at, powers)?;
+        let room = room_of(circuit.elements());
+        let mut parts = Parts::reaching(alloc, &layout, places, room)?;
+        let mut lists = Lists::with_room(alloc, room)?;
+        fill(&mut parts, &mut lists, &layout, &kept, circuit, at, powers)?;
         let counts = counts(&layout);
-        let Parts {
-            rows,
-            constants,
-            draw,
-        } = parts(alloc, &layout, circuit, at, powers)?;
         Ok(Network {
             layout,
             counts,
-            rows,
-            constants,
-            draw,
+            parts,
+            kept,
+            room,
+            lists,
         })
     }
 
-    /// Makes the network of a circuit with other positions or powers what `build` gives for them. After a refusal it is as before.
+    /// Makes the network of a circuit with other positions or powers what `build` gives for them. Takes no memory but for the name of the
+    /// element to blame. After a refusal it is as before.
     ///
     /// # Errors
-    /// Those of `build`.
+    /// `Range` exactly where `build` has it. `NoMemory` only there, where the memory for the name is refused.
     pub fn update(
         &mut self,
-        alloc: Global,
         circuit: &Circuit,
         at: &Positions,
         powers: &Powers,
@@ -120,24 +129,30 @@ impl Network {
         ensures in_range { IfOk result (λ _. AreInRange (devices_of circuit.now (settings_of at.now powers.now))) }
         ensures no_blame { IfOk result (λ _. range_blame circuit.now.elements (devices_of circuit.now (settings_of at.now powers.now)) ≡ None) }
         ensures fault { IfErr result (λ f. IsFaultOf (range_blame circuit.now.elements (devices_of circuit.now (settings_of at.now powers.now))) f) }
+        ensures ok { AreInRange (devices_of circuit.now (settings_of at.now powers.now)) → IsOk result }
         ensures as_before { IfErr result (λ f. self.new ≡ self.old) }
     {
-        let Parts {
-            rows,
-            constants,
-            draw,
-        } = parts(alloc, &self.layout, circuit, at, powers)?;
-        self.rows = rows;
-        self.constants = constants;
-        self.draw = draw;
-        Ok(())
+        fill(
+            &mut self.parts,
+            &mut self.lists,
+            &self.layout,
+            &self.kept,
+            circuit,
+            at,
+            powers,
+        )
     }
 
     /// Its rows, as the solver and the certificate ask for them. Takes no memory.
     pub fn rows(&self) -> NetworkRows<'_>
         ensures { result ≡ self.now.rows }
     {
-        NetworkRows::new(self.counts, &self.rows, &self.constants, self.draw)
+        NetworkRows::new(
+            self.counts,
+            &self.parts.rows,
+            &self.parts.constants,
+            self.parts.draw,
+        )
     }
 
     /// Where its unknowns stand.
@@ -160,7 +175,7 @@ impl Network {
         ensures layout { result ≡ size_of self.now.layout }
         ensures valid { IsBuilt self.now }
     {
-        self.rows.size()
+        self.parts.rows.size()
     }
 
     /// The name of the real unknown at a place: a bus and a number, or an element and a phase, with `re`, `im` or `mag`.
@@ -194,36 +209,83 @@ impl Network {
     }
 }
 
-// The parts of the network of a circuit in its layout.
-fn parts(
+// What is kept of the elements of a circuit in its layout, with the places that they can reach.
+fn kept_in(
     alloc: Global,
     layout: &Layout,
     circuit: &Circuit,
     at: &Positions,
     powers: &Powers,
-) -> Result<Parts, BuildFault>
+) -> Result<Made, BuildFault>
     requires layout { layout.now ≡ layout_of circuit.now.elements }
     requires ready { HasPassed circuit.now }
     requires settings { AreSettings circuit.now.elements (settings_of at.now powers.now) }
     requires within { All AreTaps at.now.taps }
     requires modest { All IsModest powers.now.loads }
-    ensures network { IfOk result (λ n. parts_network layout.now n ≡ circuit_network circuit.now (settings_of at.now powers.now)) }
-    ensures valid { IfOk result (λ n. IsNetwork (parts_network layout.now n)) }
-    ensures size { IfOk result (λ n. n.rows.size ≡ size_of layout.now) }
-    ensures agrees { IfOk result (λ n. AgreesWith (parts_network layout.now n).share (circuit_parts circuit.now (settings_of at.now powers.now))) }
-    ensures in_range { IfOk result (λ n. AreInRange (devices_of circuit.now (settings_of at.now powers.now))) }
-    ensures no_blame { IfOk result (λ n. range_blame circuit.now.elements (devices_of circuit.now (settings_of at.now powers.now)) ≡ None) }
+    ensures kept { IfOk result (λ m. AreKept (layout_of circuit.now.elements) circuit.now.options.defaultbasefrequency circuit.now.elements m.kept.items) }
+    ensures places { IfOk result (λ m. m.places.items ≡ flat_map device_places (devices_of circuit.now (settings_of at.now powers.now))) }
+    ensures inside { IfOk result (λ m. All (IsInside (size_of layout.now)) m.places.items) }
     ensures fault { IfErr result (λ f. IsFaultOf (range_blame circuit.now.elements (devices_of circuit.now (settings_of at.now powers.now))) f) }
 {
     let settings = SettingsLeft::of(at, powers);
     let elements = circuit.elements();
     let hertz = circuit.options().defaultbasefrequency;
-    match assemble(alloc, layout, hertz, elements, &settings) {
-        Ok(parts) => Ok(parts),
-        Err(PlaceFault::OutOfRange(place)) => {
-            Err(BuildFault::Range(blame_range(elements, place)?))
-        }
+    match keep(alloc, layout, hertz, elements, &settings) {
+        Ok(made) => Ok(made),
+        Err(PlaceFault::OutOfRange(place)) => Err(blamed(elements, place)),
         Err(PlaceFault::NoMemory) => Err(BuildFault::NoMemory),
+    }
+}
+
+// Makes the parts those of the network of a circuit in its layout. Takes no memory but for the name of the element to blame. After a
+// refusal the parts are as before.
+fn fill(
+    parts: &mut Parts,
+    lists: &mut Lists,
+    layout: &Layout,
+    kept: &[Kept],
+    circuit: &Circuit,
+    at: &Positions,
+    powers: &Powers,
+) -> Result<(), BuildFault>
+    requires layout { layout.now ≡ layout_of circuit.now.elements }
+    requires ready { HasPassed circuit.now }
+    requires settings { AreSettings circuit.now.elements (settings_of at.now powers.now) }
+    requires within { All AreTaps at.now.taps }
+    requires modest { All IsModest powers.now.loads }
+    requires size { parts.old.rows.size ≡ size_of layout.now }
+    requires kept { AreKept (layout_of circuit.now.elements) circuit.now.options.defaultbasefrequency circuit.now.elements kept.now }
+    requires reach { Reaches (layout_of circuit.now.elements) circuit.now.options.defaultbasefrequency circuit.now.elements parts.old.rows.places }
+    requires room { HaveRoom (room_for circuit.now.elements) parts.old lists.old }
+    ensures network { IfOk result (λ _. parts_network layout.now parts.new ≡ circuit_network circuit.now (settings_of at.now powers.now)) }
+    ensures valid { IfOk result (λ _. IsNetwork (parts_network layout.now parts.new)) }
+    ensures agrees { IfOk result (λ _. AgreesWith (parts_network layout.now parts.new).share (circuit_parts circuit.now (settings_of at.now powers.now))) }
+    ensures in_range { IfOk result (λ _. AreInRange (devices_of circuit.now (settings_of at.now powers.now))) }
+    ensures no_blame { IfOk result (λ _. range_blame circuit.now.elements (devices_of circuit.now (settings_of at.now powers.now)) ≡ None) }
+    ensures fault { IfErr result (λ f. IsFaultOf (range_blame circuit.now.elements (devices_of circuit.now (settings_of at.now powers.now))) f) }
+    ensures ok { AreInRange (devices_of circuit.now (settings_of at.now powers.now)) → IsOk result }
+    ensures as_before { IfErr result (λ f. IsAsBefore parts.old parts.new) }
+    ensures size { parts.new.rows.size ≡ size_of layout.now }
+    ensures places { parts.new.rows.places ≡ parts.old.rows.places }
+    ensures room { HaveRoom (room_for circuit.now.elements) parts.new lists.new }
+{
+    let settings = SettingsLeft::of(at, powers);
+    let elements = circuit.elements();
+    let hertz = circuit.options().defaultbasefrequency;
+    match assemble(parts, lists, layout, hertz, elements, &settings, kept) {
+        Ok(()) => Ok(()),
+        Err(fault) => Err(blamed(elements, fault.0)),
+    }
+}
+
+// The fault that names the element at a place in order.
+fn blamed(elements: &IndexMap<ElementName, Element>, place: usize) -> BuildFault
+    requires { place < length elements.now.entries }
+    ensures { IsFaultOf (blame_at cause.Range elements.now.entries place) result }
+{
+    match blame_range(elements, place) {
+        Ok(blame) => BuildFault::Range(blame),
+        Err(_) => BuildFault::NoMemory,
     }
 }
 

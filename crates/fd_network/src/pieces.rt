@@ -1,103 +1,121 @@
 // What the elements of a circuit add, one after another.
-ghost use Rattle.std.specs.Prelude.{◌≡◌, ◌≤◌, ◌^◌, ◌↔◌, All, IfErr, IfOk, IsTrue, OnOk, length};
+ghost use Rattle.std.specs.Prelude.{◌≡◌, ◌+◌, ◌*◌, ◌≤◌, ◌^◌, ◌↔◌, All, IfErr, IfOk, IsTrue, OnOk, length};
 ghost use Rattle.dss_layout.specs.Layout.{branch_phases, complex_count, size_of};
 ghost use Rattle.dss_circuit.specs.Limits.{most_elements};
 ghost use Rattle.fd_system.specs.Contributions.{AreSmall};
 ghost use Rattle.fd_equations.specs.Coefficients.{linear_entry};
 ghost use Rattle.fd_devices.specs.Building.{AreCollected, Fits, HasSmallSums, IsSettled};
 ghost use Rattle.fd_devices.specs.Devices.{added_by, added_of, share_of_all};
+ghost use Rattle.fd_devices.specs.Kept.{AreFewOf, HasRoom, IsKeptOf, IsRoomSame};
 ghost use Rattle.fd_devices.specs.Scripted.{device_of, devices_from};
 ghost use Rattle.fd_devices.specs.Settings.{own};
-ghost use Rattle.fd_network.specs.Collecting.{AreTakenFrom, IsMisfit, IsTakenAt, NamesPlace, settings_left};
+ghost use Rattle.fd_network.specs.Collecting.{AreTakenFrom, IsTakenAt, settings_left};
 ghost use Rattle.fd_network.specs.Faults.{first_without, fits, has_small_sums};
+ghost use Rattle.fd_network.specs.Keeping.{AreKept, HasRoomOf, room_for};
 
-use crate::fault::PlaceFault;
+use crate::fault::OutOfRange;
 use crate::settings::SettingsLeft;
 use dss_layout::Layout;
 use dss_profile::{Element, ElementName};
-use fd_arith::{Term, TermFault};
-use fd_devices::{Piece, piece_of};
+use fd_arith::Term;
+use fd_devices::{Kept, Piece, piece_into};
 use fd_equations::Rows;
 use indexmap::IndexMap;
-use std::alloc::Global;
 
-// What the element at a place in order adds, with the first of the settings that are left.
+// Puts what the element at a place in order adds, with the first of the settings that are left, in place of what a piece has.
 fn piece_at(
-    alloc: Global,
+    into: &mut Piece,
     layout: &Layout,
     hertz: u32,
     place: usize,
     element: &Element,
     left: &SettingsLeft,
-) -> Result<Piece, PlaceFault>
-    requires { IsTakenAt layout.now hertz place element.now (settings_left left.now) }
-    ensures added { IfOk result (λ p. added_of p ≡ added_by (device_of layout.now hertz place element.now (own element.now (settings_left left.now)))) }
-    ensures settled { IfOk result (λ p. IsSettled (length layout.now.nodes) (complex_count layout.now) (size_of layout.now) (branch_phases element.now) (device_of layout.now hertz place element.now (own element.now (settings_left left.now)))) }
-    ensures fault { IfErr result (IsMisfit place (device_of layout.now hertz place element.now (own element.now (settings_left left.now)))) }
+    kept: &Kept,
+) -> Result<(), OutOfRange>
+    requires taken { IsTakenAt layout.now hertz place element.now (settings_left left.now) }
+    requires kept { IsKeptOf layout.now hertz place element.now kept.now }
+    requires room { HasRoom into.old 256 9 6 }
+    ensures added { OnOk result (added_of into.new ≡ added_by (device_of layout.now hertz place element.now (own element.now (settings_left left.now)))) }
+    ensures settled { OnOk result (IsSettled (length layout.now.nodes) (complex_count layout.now) (size_of layout.now) (branch_phases element.now) (device_of layout.now hertz place element.now (own element.now (settings_left left.now)))) }
+    ensures few { OnOk result (AreFewOf element.now (added_of into.new)) }
+    ensures fault { IfErr result (λ f. (f.0 ≡ place) × ¬ (Fits (device_of layout.now hertz place element.now (own element.now (settings_left left.now))))) }
+    ensures room { IsRoomSame into.old into.new }
 {
     let own = left.own(element);
-    match piece_of(alloc, layout, hertz, place, element, &own) {
-        Ok(piece) => Ok(piece),
-        Err(TermFault::Range) => Err(PlaceFault::OutOfRange(place)),
-        Err(TermFault::NoMemory) => Err(PlaceFault::NoMemory),
+    match piece_into(into, layout, hertz, place, element, &own, kept) {
+        Ok(()) => Ok(()),
+        Err(_) => Err(OutOfRange(place)),
     }
 }
 
-/// What all elements add, in order, at the circuit's frequency in hertz.
+/// Puts what all elements add, in order, at the circuit's frequency in hertz, in place of what `all` has; `one` is written for each in turn.
+/// Takes no memory.
 ///
 /// # Errors
-/// `OutOfRange` with the place of the first element that has a contribution past 2^54 in units of 2^-40 or a load phase past its limit.
-/// `NoMemory` where memory is refused.
+/// `OutOfRange` exactly where an element has a contribution past 2^54 in units of 2^-40 or a load phase past its limit, with the place of the
+/// first.
 pub fn collect(
-    alloc: Global,
+    all: &mut Piece,
+    one: &mut Piece,
     layout: &Layout,
     hertz: u32,
     elements: &IndexMap<ElementName, Element>,
     settings: &SettingsLeft,
-) -> Result<Piece, PlaceFault>
+    kept: &[Kept],
+) -> Result<(), OutOfRange>
     requires taken { AreTakenFrom layout.now hertz 0 elements.now.entries (settings_left settings.now) }
     requires few { length elements.now.entries ≤ most_elements }
-    ensures collected { IfOk result (λ p. AreCollected (length layout.now.nodes) (complex_count layout.now) (size_of layout.now) elements.now.entries (devices_from layout.now hertz 0 elements.now.entries (settings_left settings.now)) (added_of p)) }
-    ensures fault { IfErr result (NamesPlace (first_without fits (devices_from layout.now hertz 0 elements.now.entries (settings_left settings.now)))) }
+    requires kept { AreKept layout.now hertz elements.now.entries kept.now }
+    requires room { HasRoomOf (room_for elements.now.entries) all.old }
+    requires one { HasRoom one.old 256 9 6 }
+    ensures collected { OnOk result (AreCollected (length layout.now.nodes) (complex_count layout.now) (size_of layout.now) elements.now.entries (devices_from layout.now hertz 0 elements.now.entries (settings_left settings.now)) (added_of all.new)) }
+    ensures fault { IfErr result (λ f. first_without fits (devices_from layout.now hertz 0 elements.now.entries (settings_left settings.now)) ≡ Some f.0) }
+    ensures room { IsRoomSame all.old all.new }
+    ensures one { IsRoomSame one.old one.new }
 {
-    let mut made = Piece::empty(alloc);
+    all.clear();
     let mut left = *settings;
     let entries = elements.as_slice();
     for place in 0..entries.len() {
         let (_, element) = entries.get_index(place).unwrap();
-        let piece = piece_at(alloc, layout, hertz, place, element, &left)?;
-        made.append(&piece)?;
+        piece_at(one, layout, hertz, place, element, &left, &kept[place])?;
+        all.append_reserved(one);
         left = left.after(element);
     }
-    Ok(made)
+    Ok(())
 }
 
 /// Names the first element with a contribution at a place where the sum of all contributions is past 2^54 in units of 2^-40; there is
-/// none where each sum is small. The contributions are those of these elements, each of which is in range by itself.
+/// none where each sum is small. The contributions are those of these elements, each of which is in range by itself; `one` is written for
+/// each in turn. Takes no memory.
 ///
 /// # Errors
-/// `OutOfRange` with the place of that element. `NoMemory` where memory is refused.
+/// `OutOfRange` with the place of that element.
 pub fn check_sums(
-    alloc: Global,
+    one: &mut Piece,
     layout: &Layout,
     hertz: u32,
     elements: &IndexMap<ElementName, Element>,
     settings: &SettingsLeft,
+    kept: &[Kept],
     rows: &Rows,
-) -> Result<(), PlaceFault>
+) -> Result<(), OutOfRange>
     requires taken { AreTakenFrom layout.now hertz 0 elements.now.entries (settings_left settings.now) }
+    requires kept { AreKept layout.now hertz elements.now.entries kept.now }
+    requires one { HasRoom one.old 256 9 6 }
     requires fits { All Fits (devices_from layout.now hertz 0 elements.now.entries (settings_left settings.now)) }
     requires terms { rows.now.terms ≡ (share_of_all (devices_from layout.now hertz 0 elements.now.entries (settings_left settings.now))).terms }
     ensures small { OnOk result (All (HasSmallSums rows.now.terms) (devices_from layout.now hertz 0 elements.now.entries (settings_left settings.now))) }
-    ensures fault { IfErr result (NamesPlace (first_without (has_small_sums rows.now.terms) (devices_from layout.now hertz 0 elements.now.entries (settings_left settings.now)))) }
+    ensures fault { IfErr result (λ f. first_without (has_small_sums rows.now.terms) (devices_from layout.now hertz 0 elements.now.entries (settings_left settings.now)) ≡ Some f.0) }
+    ensures one { IsRoomSame one.old one.new }
 {
     let mut left = *settings;
     let entries = elements.as_slice();
     for place in 0..entries.len() {
         let (_, element) = entries.get_index(place).unwrap();
-        let piece = piece_at(alloc, layout, hertz, place, element, &left)?;
-        if !have_small_sums(rows, &piece.terms) {
-            return Err(PlaceFault::OutOfRange(place));
+        piece_at(one, layout, hertz, place, element, &left, &kept[place])?;
+        if !have_small_sums(rows, &one.terms) {
+            return Err(OutOfRange(place));
         }
         left = left.after(element);
     }

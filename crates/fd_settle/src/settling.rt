@@ -85,7 +85,7 @@ pub fn settle<V: Solver>(
         if let Some(end) = ended(progress) {
             return end;
         }
-        net.update(alloc, circuit, at, powers)?;
+        net.update(circuit, at, powers)?;
     }
 }
 

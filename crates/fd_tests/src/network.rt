@@ -219,7 +219,7 @@ fn updated(
     assert!(rt; are_as_many(&script, at));
     assert!(rt; are_taps(at));
     assert!(rt; are_powers(circuit, powers));
-    Ok(net.update(alloc, circuit, at, powers).is_err())
+    Ok(net.update(circuit, at, powers).is_err())
 }
 
 // ---- the worked feeder

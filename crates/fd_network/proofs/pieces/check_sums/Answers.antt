@@ -4,59 +4,88 @@ use Rattle.std.specs.Option.{option_map}
 use Rattle.std.specs.Map.Iter.{deref_pair}
 use Rattle.std.proofs.lemmas.List.{take_all}
 use Rattle.std.proofs.lemmas.List.Elements.{All-append, All-cons, All-nil}
-use Rattle.std.proofs.lemmas.Result.{err_from_is_err_and}
-use Rattle.fd_devices.specs.Building.{HasSmallSums}
+use Rattle.fd_devices.specs.Building.{Fits, HasSmallSums}
 use Rattle.fd_devices.specs.Devices.{Added}
 use Rattle.fd_devices.specs.Scripted.{device_of, devices_from}
 use Rattle.fd_devices.specs.Settings.{own}
 use Rattle.fd_devices.proofs.CallerLemmas.{devices_length}
 use Rattle.fd_network.specs.Collecting.{settings_left}
-use Rattle.fd_network.specs.Faults.{first_without, has_small_sums}
-use Rattle.fd_network.proofs.Faulty.{first_at, no_misfit, sums_decide}
+use Rattle.fd_network.specs.Faults.{has_small_sums}
+use Rattle.fd_network.proofs.Faulty.{first_at, holds_next, sums_decide}
+use Rattle.fd_network.proofs.Filling.{room_then}
 use Rattle.fd_network.proofs.Sums.{IsSmallAt}
 use Rattle.fd_network.proofs.Taking.{IsAt, device_next, next_at, taken_at, take_more}
+use Rattle.fd_network.proofs.Walking.{stands_at}
 use Rattle.fd_network.proofs.pieces.check_sums.Goals as goal
 
 not_both : (b : Bool) → b ≡ false → b ≡ true → ⊥
 not_both b f t = cc
 
-pub piece_at-requires : goal.piece_at-requires
-piece_at-requires c =
+pub piece_at-requires-clause-taken : goal.piece_at-requires-clause-taken
+piece_at-requires-clause-taken c =
     let es = c.args.elements.now.entries in
-    let ds = devices_from c.args.layout.now c.args.hertz 0 es (settings_left c.args.settings.now) in
+    let layout = c.args.layout.now in
+    let hertz = c.args.hertz in
+    let place = c.loop-place.place in
+    let left = settings_left c.loop-place.left in
+    let e = deref_pair c.unwrap.result in
+    let ds = devices_from layout hertz 0 es (settings_left c.args.settings.now) in
     let here = ap (λ es. slice_get es c.loop-place.place) (sym c.as_slice-entries.ensures.entries) ∙ sym c.get_index.ensures.entry ∙ ap (option_map deref_pair) c.unwrap.ensures in
-    taken_at c.args.layout.now c.args.hertz es ds c.loop-place.place (settings_left c.loop-place.left) (deref_pair c.unwrap.result) here c.loop-place.invariant.at
+    taken_at layout hertz es ds place left e here c.loop-place.invariant.at
 
-pub returns-in_err-piece-clause-fault : goal.returns-in_err-piece-clause-fault
-returns-in_err-piece-clause-fault c =
+pub piece_at-requires-clause-kept : goal.piece_at-requires-clause-kept
+piece_at-requires-clause-kept c =
     let es = c.args.elements.now.entries in
-    let ds = devices_from c.args.layout.now c.args.hertz 0 es (settings_left c.args.settings.now) in
+    let layout = c.args.layout.now in
+    let hertz = c.args.hertz in
+    let place = c.loop-place.place in
+    let left = settings_left c.loop-place.left in
+    let e = deref_pair c.unwrap.result in
+    let ds = devices_from layout hertz 0 es (settings_left c.args.settings.now) in
     let here = ap (λ es. slice_get es c.loop-place.place) (sym c.as_slice-entries.ensures.entries) ∙ sym c.get_index.ensures.entry ∙ ap (option_map deref_pair) c.unwrap.ensures in
-    let next = device_next c.args.layout.now c.args.hertz es ds c.loop-place.place (settings_left c.loop-place.left) (deref_pair c.unwrap.result) here c.loop-place.invariant.at in
-    let p = err_from_is_err_and c.from_residual.result c.from_residual.ensures.1 in
-    rw (p.1, p.2) (no_misfit (first_without (has_small_sums c.args.rows.now.terms) ds) ds c.loop-place.place _ _ c.in_err-piece.field-0.0 c.requires.fits next c.in_err-piece.ensures.fault)
+    c.requires.kept.each place e c.index-kept-place.result here
+    (stands_at c.args.kept.now place c.index-kept-place.result (omega (arith, c.requires.kept.count, ap length c.as_slice-entries.ensures.entries, c.len-place-end.ensures, c.loop-place-test.true, c.loop-place.auto.place-end)) c.index-kept-place.is)
+
+pub returns-in_err-piece_at-clause-fault : goal.returns-in_err-piece_at-clause-fault
+returns-in_err-piece_at-clause-fault c =
+    let es = c.args.elements.now.entries in
+    let layout = c.args.layout.now in
+    let hertz = c.args.hertz in
+    let place = c.loop-place.place in
+    let left = settings_left c.loop-place.left in
+    let e = deref_pair c.unwrap.result in
+    let ds = devices_from layout hertz 0 es (settings_left c.args.settings.now) in
+    let here = ap (λ es. slice_get es c.loop-place.place) (sym c.as_slice-entries.ensures.entries) ∙ sym c.get_index.ensures.entry ∙ ap (option_map deref_pair) c.unwrap.ensures in
+    let next = device_next layout hertz es ds place left e here c.loop-place.invariant.at in
+    absurd (c.in_err-piece_at.ensures.fault.1 (holds_next Fits ds place _ _ c.requires.fits next))
 
 pub returns-then-not-have_small_sums-clause-fault : goal.returns-then-not-have_small_sums-clause-fault
 returns-then-not-have_small_sums-clause-fault c =
     let es = c.args.elements.now.entries in
     let layout = c.args.layout.now in
+    let hertz = c.args.hertz in
     let place = c.loop-place.place in
     let left = settings_left c.loop-place.left in
     let e = deref_pair c.unwrap.result in
-    let ds = devices_from layout c.args.hertz 0 es (settings_left c.args.settings.now) in
-    let all = c.args.rows.now.terms in
+    let ds = devices_from layout hertz 0 es (settings_left c.args.settings.now) in
     let here = ap (λ es. slice_get es c.loop-place.place) (sym c.as_slice-entries.ensures.entries) ∙ sym c.get_index.ensures.entry ∙ ap (option_map deref_pair) c.unwrap.ensures in
-    let next = device_next layout c.args.hertz es ds place left e here c.loop-place.invariant.at in
-    let terms = c.deref.ensures.value ∙ ap (λ (a : Added). a.share.terms) c.in_ok-piece.ensures.added in
+    let next = device_next layout hertz es ds place left e here c.loop-place.invariant.at in
+    let all = c.args.rows.now.terms in
+    let terms = c.deref.ensures.value ∙ ap (λ (a : Added). a.share.terms) c.in_ok-piece_at.ensures.added in
     first_at (has_small_sums all) (HasSmallSums all) (sums_decide all) ds place _ _ c.loop-place.invariant.small next
     (λ h. not_both c.have_small_sums.result c.if-not-have_small_sums.true (c.have_small_sums.ensures.1 (subst (All (IsSmallAt all)) (sym terms) h)))
 
 pub after-left-requires : goal.after-left-requires
 after-left-requires c =
     let es = c.args.elements.now.entries in
-    let ds = devices_from c.args.layout.now c.args.hertz 0 es (settings_left c.args.settings.now) in
+    let layout = c.args.layout.now in
+    let hertz = c.args.hertz in
+    let place = c.loop-place.place in
+    let left = settings_left c.loop-place.left in
+    let e = deref_pair c.unwrap.result in
+    let ds = devices_from layout hertz 0 es (settings_left c.args.settings.now) in
     let here = ap (λ es. slice_get es c.loop-place.place) (sym c.as_slice-entries.ensures.entries) ∙ sym c.get_index.ensures.entry ∙ ap (option_map deref_pair) c.unwrap.ensures in
-    let taken = taken_at c.args.layout.now c.args.hertz es ds c.loop-place.place (settings_left c.loop-place.left) (deref_pair c.unwrap.result) here c.loop-place.invariant.at in
+    let taken = taken_at layout hertz es ds place left e here c.loop-place.invariant.at in
     taken.own
 
 pub loop-place-preserved : goal.loop-place-preserved
@@ -68,16 +97,17 @@ loop-place-preserved c =
     let left = settings_left c.loop-place.left in
     let e = deref_pair c.unwrap.result in
     let ds = devices_from layout hertz 0 es (settings_left c.args.settings.now) in
-    let d = device_of layout hertz place e.1 (own e.1 left) in
     let here = ap (λ es. slice_get es c.loop-place.place) (sym c.as_slice-entries.ensures.entries) ∙ sym c.get_index.ensures.entry ∙ ap (option_map deref_pair) c.unwrap.ensures in
+    let d = device_of layout hertz place e.1 (own e.1 left) in
     let next = device_next layout hertz es ds place left e here c.loop-place.invariant.at in
     let all = c.args.rows.now.terms in
     let P = HasSmallSums all in
-    let terms = c.deref.ensures.value ∙ ap (λ (a : Added). a.share.terms) c.in_ok-piece.ensures.added in
+    let terms = c.deref.ensures.value ∙ ap (λ (a : Added). a.share.terms) c.in_ok-piece_at.ensures.added in
     let here_small = subst (All (IsSmallAt all)) terms (c.have_small_sums.ensures.0 c.if-not-have_small_sums.false) in
     record {
       at = subst (IsAt layout hertz es ds (place + 1)) (sym c.after-left.ensures) (next_at layout hertz es ds place left e here c.loop-place.invariant.at);
       small = subst (All P) (sym (take_more ds place d _ next)) (All-append P (take place ds) (d ∷ []) c.loop-place.invariant.small (All-cons P d [] here_small (All-nil P)));
+      one = room_then c.args.one.now c.loop-place.one c.piece_at.new.into c.loop-place.invariant.one c.piece_at.ensures.room;
     }
 
 pub returns-clause-small : goal.returns-clause-small

@@ -1,5 +1,6 @@
 use Rattle.std.proofs.Common.{take, All}
 use Rattle.fd_devices.specs.Building.{HasSmallSums}
+use Rattle.fd_devices.specs.Kept.{IsRoomSame}
 use Rattle.fd_devices.specs.Scripted.{devices_from}
 use Rattle.fd_network.specs.Collecting.{settings_left}
 use Rattle.fd_network.proofs.Taking.{IsAt}
@@ -9,4 +10,5 @@ abbrev pub invariant-loop-place : goal.invariant-loop-place
 invariant-loop-place l = record {
   at : IsAt l.layout l.hertz l.elements.entries (devices_from l.layout l.hertz 0 l.elements.entries (settings_left l.settings)) l.place (settings_left l.left);
   small : All (HasSmallSums l.rows.terms) (take l.place (devices_from l.layout l.hertz 0 l.elements.entries (settings_left l.settings)));
+  one : IsRoomSame l.initial.one l.one;
 }

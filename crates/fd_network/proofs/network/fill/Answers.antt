@@ -1,12 +1,11 @@
-use Rattle.std.proofs.Common.{◌∙◌, ◌*◌, ◌<◌, ◌≤◌, length, ap, subst, sym, arith}
+use Rattle.std.proofs.Common.{◌≡◌, ℕ, Option, None, Some, ◌∙◌, ◌*◌, ◌<◌, ◌≤◌, length, ap, subst, sym, arith}
 use Rattle.dss_profile.specs.declared.options.Options.{Options}
-use Rattle.dss_values.specs.declared.fault.ModelFault.TheVariants as cause
-use Rattle.dss_ready.specs.Ready.{blame_at}
 use Rattle.fd_devices.specs.Devices.{AgreesWith, parts_of_all}
 use Rattle.fd_devices.specs.Scripted.{devices_from, devices_of}
 use Rattle.fd_devices.specs.Settings.{settings_of}
 use Rattle.fd_devices.proofs.CallerLemmas.{devices_length}
-use Rattle.fd_network.specs.Assembled.{parts_network}
+use Rattle.fd_network.specs.Assembled.{HaveRoom, parts_network}
+use Rattle.fd_network.specs.Keeping.{room_for}
 use Rattle.fd_network.specs.Collecting.{settings_left}
 use Rattle.fd_network.specs.Faults.{first_out_of_range}
 use Rattle.dss_layout.specs.Limits.{most_complex, most_magnitudes}
@@ -14,9 +13,14 @@ use Rattle.dss_layout.specs.Layout.{LayoutView, complex_count, layout_of}
 use Rattle.dss_layout.proofs.CallerLemmas.{few_complex, few_magnitudes}
 use Rattle.fd_network.specs.Places.{AreMagnitudesFrom}
 use Rattle.fd_network.proofs.Apart.{magnitudes_follow}
-use Rattle.fd_network.proofs.Building.{are_taken, blame_of, no_blame, out_of_range_within, same_devices, taken_as}
+use Rattle.fd_network.proofs.Building.{are_taken, fault_named, kept_as, no_blame, out_of_range_within, reaches_as, same_devices, taken_as}
 use Rattle.fd_network.proofs.Ready.{few_branches, ready}
-use Rattle.fd_network.proofs.network.parts.Goals as goal
+use Rattle.fd_network.proofs.Assembling.{no_fault}
+use Rattle.fd_network.proofs.network.fill.Goals as goal
+
+none_or_some : (o : Option ℕ) (k : ℕ) → o ≡ None → o ≡ Some k → ⊥
+none_or_some None k e f = cc
+none_or_some (Some x) k e f = cc
 
 pub assemble-requires-clause-taken : goal.assemble-requires-clause-taken
 assemble-requires-clause-taken c =
@@ -44,7 +48,7 @@ pub returns-in-Ok-clause-agrees : goal.returns-in-Ok-clause-agrees
 returns-in-Ok-clause-agrees c =
     let hertz = ap (λ (o : Options). o.defaultbasefrequency) c.options.ensures.value in
     let same = same_devices c.args.layout.now _ c.options.result.now.defaultbasefrequency _ c.elements-elements.result.now.entries _ (settings_left c.of-settings.result) _ c.requires.layout hertz c.elements-elements.ensures.entries c.of-settings.ensures in
-    subst (λ ds. AgreesWith (parts_network c.args.layout.now c.in-Ok.parts).share (parts_of_all ds)) same c.in-Ok.ensures.agrees
+    subst (λ ds. AgreesWith (parts_network c.args.layout.now c.assemble.new.parts).share (parts_of_all ds)) same c.in-Ok.ensures.agrees
 
 pub returns-in-Ok-clause-no_blame : goal.returns-in-Ok-clause-no_blame
 returns-in-Ok-clause-no_blame c =
@@ -53,24 +57,42 @@ returns-in-Ok-clause-no_blame c =
     let same = same_devices c.args.layout.now _ c.options.result.now.defaultbasefrequency _ c.elements-elements.result.now.entries _ (settings_left c.of-settings.result) _ c.requires.layout hertz c.elements-elements.ensures.entries c.of-settings.ensures in
     no_blame circuit.elements (devices_of circuit (settings_of c.args.at.now c.args.powers.now)) (ap first_out_of_range (sym same) ∙ c.in-Ok.ensures.no_fault)
 
-pub blame_range-requires : goal.blame_range-requires
-blame_range-requires c =
+pub blamed-requires : goal.blamed-requires
+blamed-requires c =
     let es = c.elements-elements.result.now.entries in
     let layout = c.args.layout.now in
     let hertz = c.options.result.now.defaultbasefrequency in
     let settings = settings_left c.of-settings.result in
-    let first = rw c.in-Err-OutOfRange.field-0-is at c.in-Err-OutOfRange.ensures.fault in
-    let low = out_of_range_within (devices_from layout hertz 0 es settings) c.in-Err-OutOfRange.place first in
-    subst (λ n. c.in-Err-OutOfRange.place < n) (devices_length layout hertz 0 es settings) low
+    let low = out_of_range_within (devices_from layout hertz 0 es settings) c.in-Err.fault.0 c.in-Err.ensures.fault in
+    subst (λ n. c.in-Err.fault.0 < n) (devices_length layout hertz 0 es settings) low
 
-pub returns-in_ok-blame_range-in-Err-OutOfRange-clause-fault : goal.returns-in_ok-blame_range-in-Err-OutOfRange-clause-fault
-returns-in_ok-blame_range-in-Err-OutOfRange-clause-fault c =
+pub returns-in-Err-clause-fault : goal.returns-in-Err-clause-fault
+returns-in-Err-clause-fault c =
     let circuit = c.args.circuit.now in
     let hertz = ap (λ (o : Options). o.defaultbasefrequency) c.options.ensures.value in
     let same = same_devices c.args.layout.now _ c.options.result.now.defaultbasefrequency _ c.elements-elements.result.now.entries _ (settings_left c.of-settings.result) _ c.requires.layout hertz c.elements-elements.ensures.entries c.of-settings.ensures in
-    let first = rw c.in-Err-OutOfRange.field-0-is at c.in-Err-OutOfRange.ensures.fault in
-    let blame = ap (λ es. blame_at cause.Range es c.in-Err-OutOfRange.place) (sym c.elements-elements.ensures.entries) ∙ c.in_ok-blame_range-in-Err-OutOfRange.ensures in
-    blame_of circuit.elements (devices_of circuit (settings_of c.args.at.now c.args.powers.now)) c.in-Err-OutOfRange.place c.in_ok-blame_range-in-Err-OutOfRange.field-0 (ap first_out_of_range (sym same) ∙ first) blame
+    fault_named circuit.elements c.elements-elements.result.now.entries (devices_of circuit (settings_of c.args.at.now c.args.powers.now)) c.in-Err.fault.0 c.blamed.result
+    c.elements-elements.ensures.entries (ap first_out_of_range (sym same) ∙ c.in-Err.ensures.fault) c.blamed.ensures
+
+pub returns-in-Err-clause-ok : goal.returns-in-Err-clause-ok
+returns-in-Err-clause-ok c =
+    let circuit = c.args.circuit.now in
+    let hertz = ap (λ (o : Options). o.defaultbasefrequency) c.options.ensures.value in
+    let same = same_devices c.args.layout.now _ c.options.result.now.defaultbasefrequency _ c.elements-elements.result.now.entries _ (settings_left c.of-settings.result) _ c.requires.layout hertz c.elements-elements.ensures.entries c.of-settings.ensures in
+    λ in_range. absurd (none_or_some _ c.in-Err.fault.0 (no_fault (devices_of circuit (settings_of c.args.at.now c.args.powers.now)) in_range) (ap first_out_of_range (sym same) ∙ c.in-Err.ensures.fault))
+
+pub assemble-requires-clause-kept : goal.assemble-requires-clause-kept
+assemble-requires-clause-kept c =
+    kept_as c.args.layout.now _ c.options.result.now.defaultbasefrequency _ c.elements-elements.result.now.entries _ c.args.kept.now
+    c.requires.layout (ap (λ (o : Options). o.defaultbasefrequency) c.options.ensures.value) c.elements-elements.ensures.entries c.requires.kept
+
+pub assemble-requires-clause-reaches : goal.assemble-requires-clause-reaches
+assemble-requires-clause-reaches c =
+    reaches_as c.args.layout.now _ c.options.result.now.defaultbasefrequency _ c.elements-elements.result.now.entries _ c.args.parts.now.rows.places
+    c.requires.layout (ap (λ (o : Options). o.defaultbasefrequency) c.options.ensures.value) c.elements-elements.ensures.entries c.requires.reach
+
+pub assemble-requires-clause-room : goal.assemble-requires-clause-room
+assemble-requires-clause-room c = subst (λ es. HaveRoom (room_for es) c.args.parts.now c.args.lists.now) (sym c.elements-elements.ensures.entries) c.requires.room
 
 pub assemble-requires-clause-few_complexes : goal.assemble-requires-clause-few_complexes
 assemble-requires-clause-few_complexes c = subst (λ (l : LayoutView). complex_count l ≤ most_complex) (sym c.requires.layout) (few_complex c.args.circuit.now.elements c.requires.ready.not_many)

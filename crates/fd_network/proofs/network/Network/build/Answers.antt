@@ -1,0 +1,26 @@
+use Rattle.std.proofs.Common.{◌∙◌, ap, subst, sym}
+use Rattle.dss_layout.specs.Layout.{layout_of}
+use Rattle.fd_devices.specs.Settings.{settings_of}
+use Rattle.fd_network.specs.Keeping.{Reaches, room_for}
+use Rattle.fd_network.proofs.Filling.{reaches}
+use Rattle.fd_network.proofs.network.Network.build.Goals as goal
+
+pub fill-requires-clause-reach : goal.fill-requires-clause-reach
+fill-requires-clause-reach c =
+    let circuit = c.args.circuit.now in
+    reaches (layout_of circuit.elements) circuit.options.defaultbasefrequency circuit.elements (settings_of c.args.at.now c.args.powers.now) c.in_ok-parts.parts.rows.places
+    c.in_ok-kept.field-0.places.items c.in_ok-kept.ensures.places c.in_ok-parts.ensures.places
+
+pub returns-clause-built : goal.returns-clause-built
+returns-clause-built c =
+    let circuit = c.args.circuit.now in
+    let layout = layout_of circuit.elements in
+    let hertz = circuit.options.defaultbasefrequency in
+    record {
+      layout = c.in_ok-layout.ensures;
+      kept = c.in_ok-kept.ensures.kept;
+      reach = subst (Reaches layout hertz circuit.elements) (sym c.fill.ensures.places)
+          (reaches layout hertz circuit.elements (settings_of c.args.at.now c.args.powers.now) c.in_ok-parts.parts.rows.places
+          c.in_ok-kept.field-0.places.items c.in_ok-kept.ensures.places c.in_ok-parts.ensures.places);
+      room = c.room_of-room.ensures ∙ ap room_for c.elements.ensures.entries;
+    }

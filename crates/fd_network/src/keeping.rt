@@ -1,0 +1,88 @@
+// What is kept of the elements of a circuit, for its updates.
+ghost use Rattle.std.specs.Prelude.{◌≡◌, ◌≤◌, ◌++◌, All, IfErr, IfOk, length};
+ghost use Rattle.std.specs.List.{flat_map};
+ghost use Rattle.dss_layout.specs.Layout.{branch_phases, complex_count, size_of};
+ghost use Rattle.dss_circuit.specs.Limits.{most_elements};
+ghost use Rattle.fd_equations.specs.Patterns.{IsInside};
+ghost use Rattle.fd_devices.specs.Building.{Fits, IsSettled};
+ghost use Rattle.fd_devices.specs.Kept.{IsKeptOf};
+ghost use Rattle.fd_devices.specs.Reach.{device_places};
+ghost use Rattle.fd_devices.specs.Scripted.{device_of, devices_from};
+ghost use Rattle.fd_devices.specs.Settings.{own};
+ghost use Rattle.fd_network.specs.Collecting.{AreTakenFrom, IsMisfit, IsTakenAt, NamesPlace, settings_left};
+ghost use Rattle.fd_network.specs.Faults.{first_without, fits};
+ghost use Rattle.fd_network.specs.Keeping.{AreKept};
+
+use crate::fault::PlaceFault;
+use crate::settings::SettingsLeft;
+use dss_layout::Layout;
+use dss_profile::{Element, ElementName};
+use fd_arith::TermFault;
+use fd_devices::{Kept, kept_of};
+use indexmap::IndexMap;
+use std::alloc::Global;
+
+/// What is kept of all elements, and the places that they can reach.
+#[derive(Drop)]
+pub struct Made {
+    pub kept: Vec<Kept>,
+    pub places: Vec<(u32, u32)>,
+}
+
+/// What is kept of all elements, in order, with the places that they can reach.
+///
+/// # Errors
+/// `OutOfRange` with the place of the first element that has a contribution past 2^54 in units of 2^-40 or a load phase past its limit.
+/// `NoMemory` where memory is refused.
+pub fn keep(
+    alloc: Global,
+    layout: &Layout,
+    hertz: u32,
+    elements: &IndexMap<ElementName, Element>,
+    settings: &SettingsLeft,
+) -> Result<Made, PlaceFault>
+    requires taken { AreTakenFrom layout.now hertz 0 elements.now.entries (settings_left settings.now) }
+    requires few { length elements.now.entries ≤ most_elements }
+    ensures kept { IfOk result (λ m. AreKept layout.now hertz elements.now.entries m.kept.items) }
+    ensures places { IfOk result (λ m. m.places.items ≡ flat_map device_places (devices_from layout.now hertz 0 elements.now.entries (settings_left settings.now))) }
+    ensures inside { IfOk result (λ m. All (IsInside (size_of layout.now)) m.places.items) }
+    ensures fits { IfOk result (λ m. All Fits (devices_from layout.now hertz 0 elements.now.entries (settings_left settings.now))) }
+    ensures fault { IfErr result (NamesPlace (first_without fits (devices_from layout.now hertz 0 elements.now.entries (settings_left settings.now)))) }
+{
+    let entries = elements.as_slice();
+    let mut kept = Vec::with_capacity(alloc, entries.len())?;
+    let mut places = Vec::new(alloc);
+    let mut left = *settings;
+    for place in 0..entries.len() {
+        let (_, element) = entries.get_index(place).unwrap();
+        let one = kept_at(alloc, &mut places, layout, hertz, place, element, &left)?;
+        kept.push_reserved(one);
+        left = left.after(element);
+    }
+    Ok(Made { kept, places })
+}
+
+// What is kept of the element at a place in order, with the first of the settings that are left.
+fn kept_at(
+    alloc: Global,
+    places: &mut Vec<(u32, u32)>,
+    layout: &Layout,
+    hertz: u32,
+    place: usize,
+    element: &Element,
+    left: &SettingsLeft,
+) -> Result<Kept, PlaceFault>
+    requires { IsTakenAt layout.now hertz place element.now (settings_left left.now) }
+    ensures kept { IfOk result (λ k. IsKeptOf layout.now hertz place element.now k) }
+    ensures settled { IfOk result (λ k. IsSettled (length layout.now.nodes) (complex_count layout.now) (size_of layout.now) (branch_phases element.now) (device_of layout.now hertz place element.now (own element.now (settings_left left.now)))) }
+    ensures places { IfOk result (λ k. places.new.items ≡ places.old.items ++ device_places (device_of layout.now hertz place element.now (own element.now (settings_left left.now)))) }
+    ensures inside { IfOk result (λ k. All (IsInside (size_of layout.now)) (device_places (device_of layout.now hertz place element.now (own element.now (settings_left left.now))))) }
+    ensures fault { IfErr result (IsMisfit place (device_of layout.now hertz place element.now (own element.now (settings_left left.now)))) }
+{
+    let own = left.own(element);
+    match kept_of(alloc, places, layout, hertz, place, element, &own) {
+        Ok(kept) => Ok(kept),
+        Err(TermFault::Range) => Err(PlaceFault::OutOfRange(place)),
+        Err(TermFault::NoMemory) => Err(PlaceFault::NoMemory),
+    }
+}
