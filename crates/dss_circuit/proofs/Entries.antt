@@ -4,7 +4,8 @@ use Rattle.std.specs.Map.{lookup}
 use Rattle.std.proofs.lemmas.List.Elements.{All-nil, All-cons, All-head, All-tail}
 use Rattle.indexmap.specs.IndexMap.{insert_entry}
 
-first_or : {V : Type 0} (P : V → Type 0) (b : Bool) (v : V) (rest : Option V) → P v → IfSome rest P → IfSome (if b then Some v else rest) P
+first_or : {V : Type 0} (P : V → Type 0) (b : Bool) (v : V) (rest : Option V) → P v → IfSome rest P
+    → IfSome (if b then Some v else rest) P
 first_or P true v rest p h = p
 first_or P false v rest p h = h
 
@@ -17,11 +18,13 @@ module _ {K V : Type 0} (P : V → Type 0) where
   of_found test [] h = tt
   of_found test (e ∷ es) h = first_or P (test e.0) e.1 (lookup test es) (All-head OfValue e es h) (of_found test es (All-tail OfValue e es h))
 
-  inserted_or : (b : Bool) (entries others : List (K × V)) → All OfValue entries → All OfValue others → All OfValue (if b then entries else others)
+  inserted_or : (b : Bool) (entries others : List (K × V)) → All OfValue entries → All OfValue others
+      → All OfValue (if b then entries else others)
   inserted_or true entries others p q = p
   inserted_or false entries others p q = q
 
-  pub of_inserted : (same : K → K → Bool) (entries : List (K × V)) (k : K) (v : V) → All OfValue entries → P v → All OfValue (insert_entry same entries k v)
+  pub of_inserted : (same : K → K → Bool) (entries : List (K × V)) (k : K) (v : V) → All OfValue entries → P v
+      → All OfValue (insert_entry same entries k v)
   of_inserted same [] k v h p = All-cons OfValue (k, v) [] p (All-nil OfValue)
   of_inserted same (e ∷ es) k v h p =
       let rest = of_inserted same es k v (All-tail OfValue e es h) p in

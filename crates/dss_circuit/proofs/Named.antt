@@ -53,22 +53,26 @@ use Rattle.dss_circuit.proofs.Entries.{OfValue, of_inserted}
 
 -- ---- elements stay
 
-first_there : (b : Bool) (x y : Element) (o p : Option Element) → (IsSome o → IsSome p) → IsSome (if b then Some x else o) → IsSome (if b then Some y else p)
+first_there : (b : Bool) (x y : Element) (o p : Option Element) → (IsSome o → IsSome p)
+    → IsSome (if b then Some x else o) → IsSome (if b then Some y else p)
 first_there true x y o p k h = refl
 first_there false x y o p k h = k h
 
 -- an element that is there is there after an insertion
-stays : (k : ElementName) (v : Element) (es : Elements) (name : ElementName) → IsSome (lookup (same_element name) es) → IsSome (lookup (same_element name) (insert_entry same_element es k v))
+stays : (k : ElementName) (v : Element) (es : Elements) (name : ElementName) → IsSome (lookup (same_element name) es)
+    → IsSome (lookup (same_element name) (insert_entry same_element es k v))
 stays k v [] name h = cc h
 stays k v (e ∷ es) name h = by (same_element k e.0) (stays k v es name)
   where
-    by : (b : Bool) → (IsSome (lookup (same_element name) es) → IsSome (lookup (same_element name) (insert_entry same_element es k v)))
+    by : (b : Bool)
+        → (IsSome (lookup (same_element name) es) → IsSome (lookup (same_element name) (insert_entry same_element es k v)))
         → IsSome (lookup (same_element name) (if b then (e.0, v) ∷ es else e ∷ insert_entry same_element es k v))
     by true rest = first_there (same_element name e.0) e.1 v (lookup (same_element name) es) (lookup (same_element name) es) (λ r. r) h
     by false rest = first_there (same_element name e.0) e.1 e.1 (lookup (same_element name) es) (lookup (same_element name) (insert_entry same_element es k v)) rest h
 
 -- what is there in one circuit is there in another that has its elements
-module _ (es fs : Elements) (has : (name : ElementName) → IsSome (lookup (same_element name) es) → IsSome (lookup (same_element name) fs)) where
+module _ (es fs : Elements)
+    (has : (name : ElementName) → IsSome (lookup (same_element name) es) → IsSome (lookup (same_element name) fs)) where
   name_stays : (class : Class) (given : Option (List ℕ)) → IsThere es class given → IsThere fs class given
   name_stays class None h = h
   name_stays class (Some name) h = has (record { class = class; name = name }) h
@@ -84,14 +88,16 @@ module _ (es fs : Elements) (has : (name : ElementName) → IsSome (lookup (same
   names_stay (the.Capacitor bank) h = tt
   names_stay (the.Loadshape shape) h = tt
 
-pub names_kept_by_all : (k : ElementName) (v : Element) (es : Elements) → NamesAreThere es v → AllNamesAreThere es → AllNamesAreThere (insert_entry same_element es k v)
+pub names_kept_by_all : (k : ElementName) (v : Element) (es : Elements) → NamesAreThere es v → AllNamesAreThere es
+    → AllNamesAreThere (insert_entry same_element es k v)
 names_kept_by_all k v es own h =
     let fs = insert_entry same_element es k v in
     let stay = names_stay es fs (stays k v es) in
     of_inserted (NamesAreThere fs) same_element es k v (All-weaker (OfValue (NamesAreThere es)) (OfValue (NamesAreThere fs)) (λ entry r. stay entry.1 r) es h) (stay v own)
 
 -- an element with its defaults names none
-pub fresh_names : (es : Elements) (solves : ℕ) (kind : Class) (place : Place) → NamesAreThere es (fresh solves kind place)
+pub fresh_names : (es : Elements) (solves : ℕ) (kind : Class) (place : Place)
+    → NamesAreThere es (fresh solves kind place)
 fresh_names es solves class.Line place = tt
 fresh_names es solves class.Load place = tt
 fresh_names es solves class.RegControl place = tt
@@ -105,13 +111,16 @@ fresh_names es solves class.Loadshape place = tt
 -- ---- properties that name an element
 
 -- what each row of a table passes, the row of a name does
-row_passes : {T : Type 0} (test : List ℕ → T → Bool) (rows : List (List ℕ × T)) (name : List ℕ) → IsTrue (list_all (λ row. test row.0 row.1) rows) → IfSome (named rows name) (λ p. IsTrue (test name p))
+row_passes : {T : Type 0} (test : List ℕ → T → Bool) (rows : List (List ℕ × T)) (name : List ℕ)
+    → IsTrue (list_all (λ row. test row.0 row.1) rows) → IfSome (named rows name) (λ p. IsTrue (test name p))
 row_passes test [] name h = tt
 row_passes test (row ∷ rows) name h =
     let parts = and_parts (test row.0 row.1) (list_all (λ r. test r.0 r.1) rows) h in
     by (pointwise nat_eq row.0 name) refl parts.0 (row_passes test rows name parts.1)
   where
-    by : (b : Bool) → pointwise nat_eq row.0 name ≡ b → IsTrue (test row.0 row.1) → IfSome (named rows name) (λ p. IsTrue (test name p)) → IfSome (if b then Some row.1 else named rows name) (λ p. IsTrue (test name p))
+    by : (b : Bool) → pointwise nat_eq row.0 name ≡ b → IsTrue (test row.0 row.1)
+        → IfSome (named rows name) (λ p. IsTrue (test name p))
+        → IfSome (if b then Some row.1 else named rows name) (λ p. IsTrue (test name p))
     by true t first rest = subst (λ n. IsTrue (test n row.1)) ((bytes_decides row.0 name).0 t) first
     by false t first rest = rest
 
@@ -136,7 +145,8 @@ capcontrol_named name of_capcontrol.Element = is_word (codes "element") name
 capcontrol_named name of_capcontrol.Capacitor = is_word (codes "capacitor") name
 capcontrol_named name other = true
 
-refers : (kind to : Class) (word name : List ℕ) → IsTrue (is_word word name) → named (references kind) word ≡ Some to → named (references kind) name ≡ Some to
+refers : (kind to : Class) (word name : List ℕ) → IsTrue (is_word word name) → named (references kind) word ≡ Some to
+    → named (references kind) name ≡ Some to
 refers kind to word name h e = subst (λ n. named (references kind) n ≡ Some to) ((bytes_decides word name).0 h) e
 
 -- ---- pairs
@@ -156,15 +166,19 @@ module _ (elements : Elements) (found : Option Element) (pair : Pair) where
   answered : (to : Class) → Answered (Some to) → IfOk (named_in to pair) (IsFound to)
   answered to h = by (named_in to pair) h
     where
-      by : (r : Result (List ℕ) ModelFault) → ((r >>= λ name. Ok (Some (record { class = to; name = name }))) >>= λ n. Ok (option_and_then (λ name. lookup (same_element name) elements) n)) ≡ Ok found → IfOk r (IsFound to)
+      by : (r : Result (List ℕ) ModelFault)
+          → ((r >>= λ name. Ok (Some (record { class = to; name = name }))) >>= λ n. Ok (option_and_then (λ name. lookup (same_element name) elements) n)) ≡ Ok found
+          → IfOk r (IsFound to)
       by (Ok name) h = sym (cc h)
       by (Err e) h = tt
 
-  found_by : (kind to : Class) → named (references kind) (bytes (lower pair.name)) ≡ Some to → referred elements kind pair ≡ Ok found → IfOk (named_in to pair) (IsFound to)
+  found_by : (kind to : Class) → named (references kind) (bytes (lower pair.name)) ≡ Some to
+      → referred elements kind pair ≡ Ok found → IfOk (named_in to pair) (IsFound to)
   unfolding reference
   found_by kind to e h = answered to (subst Answered e h)
 
-  known_there : (to : Class) (r : Result (List ℕ) ModelFault) → IfOk r (IsFound to) → IfOk (r >>= known (is_some found)) (λ name. IsThere elements to (Some name))
+  known_there : (to : Class) (r : Result (List ℕ) ModelFault) → IfOk r (IsFound to)
+      → IfOk (r >>= known (is_some found)) (λ name. IsThere elements to (Some name))
   known_there to (Err e) h = tt
   known_there to (Ok name) h = by (is_some found) refl
     where
@@ -177,11 +191,14 @@ module _ (elements : Elements) (found : Option Element) (pair : Pair) where
   code_there line (Err e) h = tt
   code_there line (Ok name) h = by (code_found found) refl
     where
-      by : (c : Option Linecode) → code_found found ≡ c → IfOk (or_fault fault.UnknownName c >>= λ c. Ok (with_code name c line)) (λ l. IsThere elements class.Linecode l.linecode)
+      by : (c : Option Linecode) → code_found found ≡ c
+          → IfOk (or_fault fault.UnknownName c >>= λ c. Ok (with_code name c line)) (λ l. IsThere elements class.Linecode l.linecode)
       by (Some code) t = ap is_some (sym h) ∙ some_code found code t
       by None t = tt
 
-  name_known : (kind to : Class) (word : List ℕ) → IsTrue (is_word word (bytes (lower pair.name))) → named (references kind) word ≡ Some to → referred elements kind pair ≡ Ok found → IfOk (named_in to pair) (IsFound to)
+  name_known : (kind to : Class) (word : List ℕ) → IsTrue (is_word word (bytes (lower pair.name)))
+      → named (references kind) word ≡ Some to → referred elements kind pair ≡ Ok found
+      → IfOk (named_in to pair) (IsFound to)
   name_known kind to word t e h = found_by kind to (refers kind to word (bytes (lower pair.name)) t e) h
 
   -- ---- classes
@@ -189,7 +206,8 @@ module _ (elements : Elements) (found : Option Element) (pair : Pair) where
   abbrev LineNames : Line → Type 0
   LineNames line = NamesAreThere elements (the.Line line)
 
-  line_data_names : (property : DataProperty) (line : Line) → LineNames line → IfOk (with_line_data property pair line) LineNames
+  line_data_names : (property : DataProperty) (line : Line) → LineNames line
+      → IfOk (with_line_data property pair line) LineNames
   line_data_names of_data.Rmatrix line h = kept_ok LineNames _ _ (λ v. h)
   line_data_names of_data.Xmatrix line h = kept_ok LineNames _ _ (λ v. h)
   line_data_names of_data.Cmatrix line h = kept_ok LineNames _ _ (λ v. h)
@@ -204,7 +222,9 @@ module _ (elements : Elements) (found : Option Element) (pair : Pair) where
   switch_names true line h = h
   switch_names false line h = h
 
-  line_names : (property : LineProperty) (line : Line) → IsTrue (line_named (bytes (lower pair.name)) property) → referred elements class.Line pair ≡ Ok found → LineNames line → IfOk (with_line (code_found found) property pair line) LineNames
+  line_names : (property : LineProperty) (line : Line) → IsTrue (line_named (bytes (lower pair.name)) property)
+      → referred elements class.Line pair ≡ Ok found → LineNames line
+      → IfOk (with_line (code_found found) property pair line) LineNames
   line_names of_line.Linecode line t r h = code_there line (name_in pair) (name_known class.Line class.Linecode (codes "linecode") t refl r)
   line_names of_line.Bus1 line t r h = kept_ok LineNames _ _ (λ v. h)
   line_names of_line.Bus2 line t r h = kept_ok LineNames _ _ (λ v. h)
@@ -219,7 +239,9 @@ module _ (elements : Elements) (found : Option Element) (pair : Pair) where
   abbrev LoadNames : Load → Type 0
   LoadNames load = NamesAreThere elements (the.Load load)
 
-  load_names : (property : LoadProperty) (load : Load) → IsTrue (load_named (bytes (lower pair.name)) property) → referred elements class.Load pair ≡ Ok found → LoadNames load → IfOk (with_load (is_some found) property pair load) LoadNames
+  load_names : (property : LoadProperty) (load : Load) → IsTrue (load_named (bytes (lower pair.name)) property)
+      → referred elements class.Load pair ≡ Ok found → LoadNames load
+      → IfOk (with_load (is_some found) property pair load) LoadNames
   unfolding known_name_in
   load_names of_load.Daily load t r h =
       let there = known_there class.Loadshape (name_in pair) (name_known class.Load class.Loadshape (codes "daily") t refl r) in
@@ -240,7 +262,9 @@ module _ (elements : Elements) (found : Option Element) (pair : Pair) where
   abbrev RegControlNames : RegControl → Type 0
   RegControlNames control = NamesAreThere elements (the.RegControl control)
 
-  regcontrol_names : (property : RegControlProperty) (control : RegControl) → IsTrue (regcontrol_named (bytes (lower pair.name)) property) → referred elements class.RegControl pair ≡ Ok found → RegControlNames control
+  regcontrol_names : (property : RegControlProperty) (control : RegControl)
+      → IsTrue (regcontrol_named (bytes (lower pair.name)) property)
+      → referred elements class.RegControl pair ≡ Ok found → RegControlNames control
       → IfOk (with_regcontrol (is_some found) property pair control) RegControlNames
   unfolding known_name_in
   regcontrol_names of_regcontrol.Transformer control t r h =
@@ -261,7 +285,9 @@ module _ (elements : Elements) (found : Option Element) (pair : Pair) where
   abbrev CapControlNames : CapControl → Type 0
   CapControlNames control = NamesAreThere elements (the.CapControl control)
 
-  capcontrol_names : (property : CapControlProperty) (control : CapControl) → IsTrue (capcontrol_named (bytes (lower pair.name)) property) → referred elements class.CapControl pair ≡ Ok found → CapControlNames control
+  capcontrol_names : (property : CapControlProperty) (control : CapControl)
+      → IsTrue (capcontrol_named (bytes (lower pair.name)) property)
+      → referred elements class.CapControl pair ≡ Ok found → CapControlNames control
       → IfOk (with_capcontrol (is_some found) property pair control) CapControlNames
   unfolding known_name_in known_line_name_in
   capcontrol_names of_capcontrol.Element control t r h =
@@ -287,7 +313,8 @@ module _ (elements : Elements) (found : Option Element) (pair : Pair) where
   abbrev property : List ℕ
   property = bytes (lower pair.name)
 
-  named_there : (solves : ℕ) (e : Element) → referred elements (class_of e) pair ≡ Ok found → NamesAreThere elements e → IfOk (with_named solves found property pair e) (NamesAreThere elements)
+  named_there : (solves : ℕ) (e : Element) → referred elements (class_of e) pair ≡ Ok found → NamesAreThere elements e
+      → IfOk (with_named solves found property pair e) (NamesAreThere elements)
   unfolding with_named
   named_there solves (the.Line line) r h =
       then_ok (λ p. IsTrue (line_named property p)) (NamesAreThere elements) (or_fault fault.UnknownProperty (named line_properties property)) _ (found_ok _ (named line_properties property) _ (row_passes line_named line_properties property refl))
@@ -308,10 +335,12 @@ module _ (elements : Elements) (found : Option Element) (pair : Pair) where
   named_there solves (the.Loadshape shape) r h = any_ok (NamesAreThere elements) _ _ (λ p. kept_ok (NamesAreThere elements) (with_loadshape p pair shape) the.Loadshape (λ x. tt))
 
   -- a pair leaves each name as it was, or sets that of an element that is there
-  pub pair_there : (solves : ℕ) (e : Element) → referred elements (class_of e) pair ≡ Ok found → NamesAreThere elements e → IfOk (with_pair solves found pair e) (NamesAreThere elements)
+  pub pair_there : (solves : ℕ) (e : Element) → referred elements (class_of e) pair ≡ Ok found
+      → NamesAreThere elements e → IfOk (with_pair solves found pair e) (NamesAreThere elements)
   unfolding with_pair
   pair_there solves e r h = by (is_empty pair.name)
     where
-      by : (b : Bool) → IfOk (if b then Err fault.Unsupported else with_named solves found property pair e) (NamesAreThere elements)
+      by : (b : Bool)
+          → IfOk (if b then Err fault.Unsupported else with_named solves found property pair e) (NamesAreThere elements)
       by true = tt
       by false = named_there solves e r h

@@ -70,12 +70,14 @@ record Through {A B : Type 0} (r : Result A ModelFault) (f : A → Result B Mode
   first : r ≡ Ok value
   next : f value ≡ Ok b
 
-through : {A B : Type 0} (r : Result A ModelFault) (f : A → Result B ModelFault) (b : B) → (r >>= f) ≡ Ok b → Through r f b
+through : {A B : Type 0} (r : Result A ModelFault) (f : A → Result B ModelFault) (b : B) → (r >>= f) ≡ Ok b
+    → Through r f b
 through (Ok a) f b h = record { value = a; first = refl; next = h }
 through (Err e) f b h = cc h
 
 -- a name is written as such
-legal_by : (a b : Bool) (done : Unit {0}) → (if a then Err fault.BadValue else (if b then Ok tt else Err fault.BadValue)) ≡ Ok done → b ≡ true
+legal_by : (a b : Bool) (done : Unit {0})
+    → (if a then Err fault.BadValue else (if b then Ok tt else Err fault.BadValue)) ≡ Ok done → b ≡ true
 legal_by true b done h = cc h
 legal_by false true done h = refl
 legal_by false false done h = cc h
@@ -87,7 +89,8 @@ begun_before : (begun : Bool) (done : Unit {0}) → needed begun ≡ Ok done →
 begun_before true done h e = absurd (cc e)
 begun_before false done h e = absurd (cc h)
 
-element_key_is : (kind name : List ℕ) (begun : Bool) (key : ElementName) → IsTrue (is_name name) → element_key kind name begun ≡ Ok key → IsKey key × (begun ≡ false → key ≡ source_name)
+element_key_is : (kind name : List ℕ) (begun : Bool) (key : ElementName) → IsTrue (is_name name)
+    → element_key kind name begun ≡ Ok key → IsKey key × (begun ≡ false → key ≡ source_name)
 element_key_is kind name begun key legal h =
     let t = through (or_fault fault.UnknownClass (named classes kind)) (λ c. needed begun >>= λ done. Ok (record { class = c; name = lower name })) key h in
     let u = through (needed begun) (λ done. Ok (record { class = t.value; name = lower name })) key t.next in
@@ -95,20 +98,24 @@ element_key_is kind name begun key legal h =
     (subst IsKey e (key_of t.value name legal), λ none. absurd (begun_before begun u.value u.first none))
 
 -- the key of an Edit
-pub edit_key_is : (kind name : List ℕ) (begun : Bool) (key : ElementName) → edit_key kind name begun ≡ Ok key → IsKey key
+pub edit_key_is : (kind name : List ℕ) (begun : Bool) (key : ElementName) → edit_key kind name begun ≡ Ok key
+    → IsKey key
 edit_key_is kind name begun key h =
     let t = through (written kind name) (λ done. element_key (bytes (lower kind)) name begun) key h in
     (element_key_is (bytes (lower kind)) name begun key (legal_name kind name t.value t.first) t.next).0
 
-made_key_is : (kind name : List ℕ) (begun : Bool) (key : ElementName) → IsTrue (is_name name) → made_key kind name begun ≡ Ok key → IsKey key × (begun ≡ false → key ≡ source_name)
+made_key_is : (kind name : List ℕ) (begun : Bool) (key : ElementName) → IsTrue (is_name name)
+    → made_key kind name begun ≡ Ok key → IsKey key × (begun ≡ false → key ≡ source_name)
 made_key_is kind name begun key legal h = by (pointwise nat_eq kind (codes "circuit")) h
   where
-    by : (b : Bool) → (if b then Ok source_name else element_key kind name begun) ≡ Ok key → IsKey key × (begun ≡ false → key ≡ source_name)
+    by : (b : Bool) → (if b then Ok source_name else element_key kind name begun) ≡ Ok key
+        → IsKey key × (begun ≡ false → key ≡ source_name)
     by true h = let e : source_name ≡ key = cc h in (subst IsKey e source_key, λ none. sym e)
     by false h = element_key_is kind name begun key legal h
 
 -- the key of a New, which is the source's where there is no circuit
-pub new_key_is : (kind name : List ℕ) (begun : Bool) (key : ElementName) → new_key kind name begun ≡ Ok key → IsKey key × (begun ≡ false → key ≡ source_name)
+pub new_key_is : (kind name : List ℕ) (begun : Bool) (key : ElementName) → new_key kind name begun ≡ Ok key
+    → IsKey key × (begun ≡ false → key ≡ source_name)
 new_key_is kind name begun key h =
     let t = through (written kind name) (λ done. made_key (bytes (lower kind)) name begun) key h in
     made_key_is (bytes (lower kind)) name begun key (legal_name kind name t.value t.first) t.next
@@ -123,7 +130,8 @@ abbrev name_of : ElementName × Element → ElementName
 name_of entry = entry.0
 
 -- an element that is there has its name's class
-pub found_class : (name : ElementName) (es : Elements) → All IsEntry es → IfSome (lookup (same_element name) es) (λ e. name.class ≡ class_of e)
+pub found_class : (name : ElementName) (es : Elements) → All IsEntry es
+    → IfSome (lookup (same_element name) es) (λ e. name.class ≡ class_of e)
 found_class name [] h = tt
 found_class name (e ∷ es) h = by (same_element name e.0) refl (found_class name es (All-tail IsEntry e es h))
   where
@@ -133,7 +141,8 @@ found_class name (e ∷ es) h = by (same_element name e.0) refl (found_class nam
     by false t rest = rest
 
 -- and then there is a circuit
-pub found_begun : (name : ElementName) (es : Elements) (e : Element) → lookup (same_element name) es ≡ Some e → has_circuit es ≡ true
+pub found_begun : (name : ElementName) (es : Elements) (e : Element) → lookup (same_element name) es ≡ Some e
+    → has_circuit es ≡ true
 found_begun name [] e h = cc h
 found_begun name (x ∷ es) e h = refl
 
@@ -142,30 +151,36 @@ module _ (k : ElementName) (v : Element) where
   entries_kept [] own h = All-cons IsEntry (k, v) [] own (All-nil IsEntry)
   entries_kept (e ∷ es) own h = by (same_element k e.0) refl (entries_kept es own (All-tail IsEntry e es h))
     where
-      by : (b : Bool) → same_element k e.0 ≡ b → All IsEntry (insert_entry same_element es k v) → All IsEntry (if b then (e.0, v) ∷ es else e ∷ insert_entry same_element es k v)
+      by : (b : Bool) → same_element k e.0 ≡ b → All IsEntry (insert_entry same_element es k v)
+          → All IsEntry (if b then (e.0, v) ∷ es else e ∷ insert_entry same_element es k v)
       by true t rest = All-cons IsEntry (e.0, v) es (subst (λ n. IsEntry (n, v)) ((equal k e.0).0 t) own) (All-tail IsEntry e es h)
       by false t rest = All-cons IsEntry e (insert_entry same_element es k v) (All-head IsEntry e es h) rest
 
   -- what holds of the names holds of them with one more
-  names_kept : (P : ElementName → Type 0) (es : Elements) → P k → AllByRecursion P (map name_of es) → AllByRecursion P (map name_of (insert_entry same_element es k v))
+  names_kept : (P : ElementName → Type 0) (es : Elements) → P k → AllByRecursion P (map name_of es)
+      → AllByRecursion P (map name_of (insert_entry same_element es k v))
   names_kept P [] own h = (own, tt)
   names_kept P (e ∷ es) own h = by (same_element k e.0) (names_kept P es own h.1)
     where
-      by : (b : Bool) → AllByRecursion P (map name_of (insert_entry same_element es k v)) → AllByRecursion P (map name_of (if b then (e.0, v) ∷ es else e ∷ insert_entry same_element es k v))
+      by : (b : Bool) → AllByRecursion P (map name_of (insert_entry same_element es k v))
+          → AllByRecursion P (map name_of (if b then (e.0, v) ∷ es else e ∷ insert_entry same_element es k v))
       by true rest = h
       by false rest = (h.0, rest)
 
-  distinct_kept : (es : Elements) → IsDistinct same_element (map name_of es) → IsDistinct same_element (map name_of (insert_entry same_element es k v))
+  distinct_kept : (es : Elements) → IsDistinct same_element (map name_of es)
+      → IsDistinct same_element (map name_of (insert_entry same_element es k v))
   unfolding IsDistinct
   distinct_kept [] h = (tt, tt)
   distinct_kept (e ∷ es) h = by (same_element k e.0) refl (distinct_kept es h.1)
     where
-      by : (b : Bool) → same_element k e.0 ≡ b → IsDistinct same_element (map name_of (insert_entry same_element es k v))
+      by : (b : Bool) → same_element k e.0 ≡ b
+          → IsDistinct same_element (map name_of (insert_entry same_element es k v))
           → IsDistinct same_element (map name_of (if b then (e.0, v) ∷ es else e ∷ insert_entry same_element es k v))
       by true t rest = h
       by false t rest = (names_kept (λ y. same_element e.0 y ≡ false) es (turned e.0 k ∙ t) h.0, rest)
 
-  source_kept : (es : Elements) → (has_circuit es ≡ false → k ≡ source_name) → BeginsWithSource es → BeginsWithSource (insert_entry same_element es k v)
+  source_kept : (es : Elements) → (has_circuit es ≡ false → k ≡ source_name) → BeginsWithSource es
+      → BeginsWithSource (insert_entry same_element es k v)
   source_kept [] own h = own refl
   source_kept (e ∷ es) own h = by (same_element k e.0)
     where
@@ -174,7 +189,8 @@ module _ (k : ElementName) (v : Element) where
       by false = h
 
   -- an element takes the place of the one of its name, or stands last
-  pub well_formed_kept : (es : Elements) → IsKey k → k.class ≡ class_of v → (has_circuit es ≡ false → k ≡ source_name) → NamesAreThere es v → AreWellFormed es
+  pub well_formed_kept : (es : Elements) → IsKey k → k.class ≡ class_of v → (has_circuit es ≡ false → k ≡ source_name)
+      → NamesAreThere es v → AreWellFormed es
       → AreWellFormed (insert_entry same_element es k v)
   well_formed_kept es key class source own h = record {
     distinct = distinct_kept es h.distinct;
@@ -190,7 +206,8 @@ none_well_formed = record { distinct = tt; entries = All-nil IsEntry; source = t
 -- ---- pairs
 
 -- pairs keep an element's class
-pub pairs_keep_class : (solves : ℕ) (elements : Elements) (kind : Class) (pairs : List Pair) (e new : Element) → with_pairs solves elements kind pairs e ≡ Ok new → class_of new ≡ class_of e
+pub pairs_keep_class : (solves : ℕ) (elements : Elements) (kind : Class) (pairs : List Pair) (e new : Element)
+    → with_pairs solves elements kind pairs e ≡ Ok new → class_of new ≡ class_of e
 pairs_keep_class solves elements kind [] e new h = let same : e ≡ new = cc h in ap class_of (sym same)
 pairs_keep_class solves elements kind (p ∷ ps) e new h =
     let t = through (referred elements kind p) (λ found. with_pair solves found p e >>= with_pairs solves elements kind ps) new h in
@@ -198,7 +215,9 @@ pairs_keep_class solves elements kind (p ∷ ps) e new h =
     pairs_keep_class solves elements kind ps u.value new u.next ∙ class_kept solves t.value p e u.value u.first
 
 -- each element that one names after its pairs is in the circuit, as those that it named before are
-pub pairs_keep_names : (solves : ℕ) (elements : Elements) (kind : Class) (pairs : List Pair) (e new : Element) → kind ≡ class_of e → with_pairs solves elements kind pairs e ≡ Ok new → NamesAreThere elements e → NamesAreThere elements new
+pub pairs_keep_names : (solves : ℕ) (elements : Elements) (kind : Class) (pairs : List Pair) (e new : Element)
+    → kind ≡ class_of e → with_pairs solves elements kind pairs e ≡ Ok new → NamesAreThere elements e
+    → NamesAreThere elements new
 pairs_keep_names solves elements kind [] e new k h names = let same : e ≡ new = cc h in subst (NamesAreThere elements) same names
 pairs_keep_names solves elements kind (p ∷ ps) e new k h names =
     let t = through (referred elements kind p) (λ found. with_pair solves found p e >>= with_pairs solves elements kind ps) new h in

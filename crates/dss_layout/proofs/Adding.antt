@@ -14,12 +14,15 @@ use Rattle.dss_layout.specs.Nodes.{same_node, new_nodes, is_node}
 use Rattle.dss_layout.specs.Terminals.{mentions}
 use Rattle.dss_layout.specs.Layout.{Elements, LayoutView, layout_of, added, passes_limit, phase_names, branch_phases, magnitude_phases, sums_before}
 
-pub phase_names_more : (e : ElementName) (n : ℕ) → phase_names e (n + 1) ≡ phase_names e n ++ (let p : PhaseName = record { element = e; phase = n + 1 } in p) ∷ []
+pub phase_names_more : (e : ElementName) (n : ℕ)
+    → phase_names e (n + 1) ≡ phase_names e n ++ (let p : PhaseName = record { element = e; phase = n + 1 } in p) ∷ []
 phase_names_more e n = map-range_with_len_more _ 1 n (n + 1) (omega arith)
 
 -- the names of one more phase
-pub phase_pushed : (before so_far now : List PhaseName) (e name : ElementName) (n : ℕ) → so_far ≡ before ++ phase_names e n → name ≡ e
-    → now ≡ so_far ++ (let p : PhaseName = record { element = name; phase = n + 1 } in p) ∷ [] → now ≡ before ++ phase_names e (n + 1)
+pub phase_pushed : (before so_far now : List PhaseName) (e name : ElementName) (n : ℕ)
+    → so_far ≡ before ++ phase_names e n → name ≡ e
+    → now ≡ so_far ++ (let p : PhaseName = record { element = name; phase = n + 1 } in p) ∷ []
+    → now ≡ before ++ phase_names e (n + 1)
 phase_pushed before so_far now e name n h same pushed =
     pushed
     ∙ (λ i. h i ++ (let p : PhaseName = record { element = same i; phase = n + 1 } in p) ∷ [])
@@ -30,7 +33,8 @@ pub length-phase_names : (e : ElementName) (n : ℕ) → length (phase_names e n
 length-phase_names e n = length-map-range_with_len _ 1 n
 
 -- the new nodes of two lists: those of the first, and then those of the second that the first lacks
-pub new_nodes-append : (before xs ys : List NodeName) → new_nodes before (xs ++ ys) ≡ new_nodes before xs ++ new_nodes (before ++ new_nodes before xs) ys
+pub new_nodes-append : (before xs ys : List NodeName)
+    → new_nodes before (xs ++ ys) ≡ new_nodes before xs ++ new_nodes (before ++ new_nodes before xs) ys
 new_nodes-append before [] ys = ap (λ b. new_nodes b ys) (sym (append-nil before))
 new_nodes-append before (x ∷ xs) ys = by (list_any (same_node x) before) (new_nodes-append before xs ys) (new_nodes-append (before ++ x ∷ []) xs ys)
   where
@@ -44,16 +48,19 @@ new_nodes-append before (x ∷ xs) ys = by (list_any (same_node x) before) (new_
         ∙ ap (λ l. x ∷ (new_nodes (before ++ x ∷ []) xs ++ new_nodes l ys)) (append_assoc before (x ∷ []) (new_nodes (before ++ x ∷ []) xs))
 
 -- the nodes of two lists, one after the other
-pub noted_twice : (before xs ys : List NodeName) → (before ++ new_nodes before xs) ++ new_nodes (before ++ new_nodes before xs) ys ≡ before ++ new_nodes before (xs ++ ys)
+pub noted_twice : (before xs ys : List NodeName)
+    → (before ++ new_nodes before xs) ++ new_nodes (before ++ new_nodes before xs) ys ≡ before ++ new_nodes before (xs ++ ys)
 noted_twice before xs ys = append_assoc before (new_nodes before xs) (new_nodes (before ++ new_nodes before xs) ys) ∙ ap (λ l. before ++ l) (sym (new_nodes-append before xs ys))
 
-pub noted_filtered : (before xs ys : List NodeName) → (before ++ new_nodes before (filter is_node xs)) ++ new_nodes (before ++ new_nodes before (filter is_node xs)) (filter is_node ys) ≡ before ++ new_nodes before (filter is_node (xs ++ ys))
+pub noted_filtered : (before xs ys : List NodeName)
+    → (before ++ new_nodes before (filter is_node xs)) ++ new_nodes (before ++ new_nodes before (filter is_node xs)) (filter is_node ys) ≡ before ++ new_nodes before (filter is_node (xs ++ ys))
 noted_filtered before xs ys =
     noted_twice before (filter is_node xs) (filter is_node ys) ∙ ap (λ l. before ++ new_nodes before l) (sym (filter-append is_node xs ys))
 
 -- whether a limit is passed with one more element, by counts
 pub passes_limit-added : (v : LayoutView) (name : ElementName) (e : Element) (nodes branches more magnitudes most : ℕ)
-    → nodes ≡ length (v.nodes ++ new_nodes v.nodes (mentions e)) → branches ≡ length v.branches → more ≡ branch_phases e → magnitudes ≡ length v.magnitudes → most ≡ magnitude_phases e
+    → nodes ≡ length (v.nodes ++ new_nodes v.nodes (mentions e)) → branches ≡ length v.branches → more ≡ branch_phases e
+    → magnitudes ≡ length v.magnitudes → most ≡ magnitude_phases e
     → (nat_lt most_complex (nodes + branches + more) || nat_lt most_magnitudes (magnitudes + most)) ≡ passes_limit (added v name e)
 passes_limit-added v name e nodes branches more magnitudes most n b bp m mp =
     let l : length (v.branches ++ phase_names name (branch_phases e)) ≡ branches + more =
@@ -74,7 +81,8 @@ sums_before-push f names same s (x ∷ es) name e =
     ap (λ t. s ∷ t) (sums_before-push f names same (s + f x.1) es name e ∙ ap (λ k. sums_before f (s + f x.1) es ++ k ∷ []) n)
 
 -- the layout of one more element
-pub layout_of-push : (es : Elements) (name : ElementName) (e : Element) → layout_of (es ++ (name, e) ∷ []) ≡ added (layout_of es) name e
+pub layout_of-push : (es : Elements) (name : ElementName) (e : Element)
+    → layout_of (es ++ (name, e) ∷ []) ≡ added (layout_of es) name e
 layout_of-push es name e =
     let one = (name, e) ∷ [] in
     let nodes = ap (new_nodes []) (flat_map-append (λ x. mentions x.1) es one ∙ ap (λ l. flat_map (λ x. mentions x.1) es ++ l) (append-nil (mentions e))) ∙ new_nodes-append [] (flat_map (λ x. mentions x.1) es) (mentions e) in

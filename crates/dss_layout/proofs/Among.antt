@@ -21,7 +21,8 @@ both_parts P (x ∷ xs) ys h =
     let parts = both_parts P xs ys (All-tail P x (xs ++ ys) h) in
     (All-cons P x xs (All-head P x (xs ++ ys) h) parts.0, parts.1)
 
-each_part : {X Y : Type 0} (f : X → List Y) (P : Y → Type 0) (xs : List X) → All P (flat_map f xs) → All (λ x. All P (f x)) xs
+each_part : {X Y : Type 0} (f : X → List Y) (P : Y → Type 0) (xs : List X) → All P (flat_map f xs)
+    → All (λ x. All P (f x)) xs
 each_part f P [] h = All-nil (λ x. All P (f x))
 each_part f P (x ∷ xs) h =
     let parts = both_parts P (f x) (flat_map f xs) h in

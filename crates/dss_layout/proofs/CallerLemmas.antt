@@ -20,7 +20,8 @@ pub use Rattle.dss_layout.proofs.Phases.{length-phases, sum_with_own, sum_within
 pub use Rattle.dss_layout.proofs.Placing.{drop-more, take-more}
 pub use Rattle.dss_layout.proofs.Walk.{first_isolated_at, fed_up_to}
 
-by_first : (o : Option ℕ) (es : Elements) (v : LayoutView) → laid_out_unless o es ≡ Ok v → (v ≡ layout_of es) × (o ≡ None)
+by_first : (o : Option ℕ) (es : Elements) (v : LayoutView) → laid_out_unless o es ≡ Ok v
+    → (v ≡ layout_of es) × (o ≡ None)
 by_first None es v h = (let e : layout_of es ≡ v = cc in sym e, refl)
 by_first (Some k) es v h = cc
 
@@ -67,7 +68,8 @@ length-sums_before f s [] = refl
 length-sums_before f s (e ∷ es) = ap suc (length-sums_before f (s + f e.1) es)
 
 -- what stands there is the sum over the elements before it
-pub slice_index-sums_before : (f : Element → ℕ) (s : ℕ) (es : Elements) (i : ℕ) → i < length es → slice_index (sums_before f s es) i ≡ s + sum_by (λ e. f e.1) (take i es)
+pub slice_index-sums_before : (f : Element → ℕ) (s : ℕ) (es : Elements) (i : ℕ) → i < length es
+    → slice_index (sums_before f s es) i ≡ s + sum_by (λ e. f e.1) (take i es)
 slice_index-sums_before f s [] i h = absurd (omega arith)
 slice_index-sums_before f s (e ∷ es) zero h = sym (add-zero s)
 slice_index-sums_before f s (e ∷ es) (suc i) h =
@@ -76,10 +78,12 @@ slice_index-sums_before f s (e ∷ es) (suc i) h =
     omega (arith, rest, all)
 
 -- a node that an element mentions has its number
-pub mentioned_at : (es : Elements) (i : ℕ) (e : ElementName × Element) (m : NodeName) → slice_get es i ≡ Some e → Contains (mentions e.1) m → slice_get (nodes_of es) (number_in (nodes_of es) m) ≡ Some m
+pub mentioned_at : (es : Elements) (i : ℕ) (e : ElementName × Element) (m : NodeName) → slice_get es i ≡ Some e
+    → Contains (mentions e.1) m → slice_get (nodes_of es) (number_in (nodes_of es) m) ≡ Some m
 mentioned_at es i e m h c = found es e m (in_from_get es i e h) (in_from_contains (mentions e.1) m c)
 
-limits_kept : (es : Elements) → first_too_many es ≡ None → (complex_count (layout_of es) ≤ most_complex) × (length (layout_of es).magnitudes ≤ most_magnitudes)
+limits_kept : (es : Elements) → first_too_many es ≡ None
+    → (complex_count (layout_of es) ≤ most_complex) × (length (layout_of es).magnitudes ≤ most_magnitudes)
 limits_kept es h =
     let layout = layout_of es in
     let parts = or_parts (nat_lt most_complex (complex_count layout)) (nat_lt most_magnitudes (length layout.magnitudes)) (no_limit_passed es h) in

@@ -12,7 +12,8 @@ use Rattle.dss_layout.specs.Labels.{joined, joined_all, group_pairs, element_pai
 use Rattle.dss_layout.proofs.Placing.{drop-more}
 
 -- one more element of a list changed in place
-pub set-mapped : (f : ℕ → ℕ) (xs : List ℕ) (i : ℕ) → i < length xs → set (map f (take i xs) ++ drop i xs) i (f (get_or xs i 0)) ≡ map f (take (suc i) xs) ++ drop (suc i) xs
+pub set-mapped : (f : ℕ → ℕ) (xs : List ℕ) (i : ℕ) → i < length xs
+    → set (map f (take i xs) ++ drop i xs) i (f (get_or xs i 0)) ≡ map f (take (suc i) xs) ++ drop (suc i) xs
 set-mapped f [] i h = absurd (omega arith)
 set-mapped f (x ∷ xs) zero h = refl
 set-mapped f (x ∷ xs) (suc i) h = ap (λ l. f x ∷ l) (set-mapped f xs i (omega arith))
@@ -28,7 +29,8 @@ zip-nil [] = refl
 zip-nil (x ∷ xs) = refl
 
 -- no pairs are left after the shorter list
-pub zip-dropped : {A B : Type 0} (xs : List A) (ys : List B) (k : ℕ) → min (length xs) (length ys) ≤ k → zip (drop k xs) (drop k ys) ≡ []
+pub zip-dropped : {A B : Type 0} (xs : List A) (ys : List B) (k : ℕ) → min (length xs) (length ys) ≤ k
+    → zip (drop k xs) (drop k ys) ≡ []
 zip-dropped [] ys zero h = refl
 zip-dropped [] ys (suc k) h = refl
 zip-dropped (x ∷ xs) [] zero h = refl
@@ -41,20 +43,24 @@ pub range_with_len-more : (a n : ℕ) → range_with_len a (suc n) ≡ range_wit
 range_with_len-more a zero = ap (λ k. k ∷ []) (sym (add-zero a))
 range_with_len-more a (suc n) = ap (λ l. a ∷ l) (range_with_len-more (a + 1) n ∙ ap (λ k. range_with_len (a + 1) n ++ k ∷ []) (omega arith))
 
-pub joined_all-append : (labels : List ℕ) (ps qs : List (ℕ × ℕ)) → joined_all labels (ps ++ qs) ≡ joined_all (joined_all labels ps) qs
+pub joined_all-append : (labels : List ℕ) (ps qs : List (ℕ × ℕ))
+    → joined_all labels (ps ++ qs) ≡ joined_all (joined_all labels ps) qs
 joined_all-append labels [] qs = refl
 joined_all-append labels (p ∷ ps) qs = joined_all-append (joined labels p) ps qs
 
 -- one more element's pairs
-pub joined_next : (nodes : List NodeName) (es : Elements) (k : ℕ) (name : ElementName) (e : Element) (labels new : List ℕ) → slice_get es k ≡ Some (name, e)
-    → new ≡ joined_all labels (element_pairs nodes e) → joined_all new (all_pairs nodes (drop (k + 1) es)) ≡ joined_all labels (all_pairs nodes (drop k es))
+pub joined_next : (nodes : List NodeName) (es : Elements) (k : ℕ) (name : ElementName) (e : Element) (labels new : List ℕ)
+    → slice_get es k ≡ Some (name, e)
+    → new ≡ joined_all labels (element_pairs nodes e)
+    → joined_all new (all_pairs nodes (drop (k + 1) es)) ≡ joined_all labels (all_pairs nodes (drop k es))
 joined_next nodes es k name e labels new here made =
     ap (λ l. joined_all l (all_pairs nodes (drop (k + 1) es))) made
     ∙ sym (joined_all-append labels (element_pairs nodes e) (all_pairs nodes (drop (k + 1) es)))
     ∙ ap (λ l. joined_all labels (all_pairs nodes l)) (sym (drop-more es k (name, e) here))
 
 -- all phases are done once the shorter list is
-pub joined_phases : (nodes : List NodeName) (labels old : List ℕ) (first second xs ys : List NodeName) (k : ℕ) → xs ≡ first → ys ≡ second → min (length xs) (length ys) ≤ k
+pub joined_phases : (nodes : List NodeName) (labels old : List ℕ) (first second xs ys : List NodeName) (k : ℕ)
+    → xs ≡ first → ys ≡ second → min (length xs) (length ys) ≤ k
     → joined_all labels (flat_map (group_pairs nodes) (phase_ends (let t : Terminals = record { first = drop k xs; second = drop k ys } in t)))
     ≡ joined_all old (flat_map (group_pairs nodes) (phase_ends (let t : Terminals = record { first = xs; second = ys } in t)))
     → labels ≡ joined_all old (flat_map (group_pairs nodes) (phase_ends (let t : Terminals = record { first = first; second = second } in t)))

@@ -63,7 +63,8 @@ pub record IsPart {X Y : Type 0} (f : X → List Y) (xs : List X) (y : Y) : Type
 part_later : {X Y : Type 0} (f : X → List Y) (x : X) (xs : List X) (y : Y) → IsPart f xs y → IsPart f (x ∷ xs) y
 part_later f x xs y r = record { source = r.source; is_in = inr r.is_in; part = r.part }
 
-pub in_flat_map : {X Y : Type 0} (f : X → List Y) (xs : List X) (x : X) (y : Y) → In x xs → In y (f x) → In y (flat_map f xs)
+pub in_flat_map : {X Y : Type 0} (f : X → List Y) (xs : List X) (x : X) (y : Y) → In x xs → In y (f x)
+    → In y (flat_map f xs)
 in_flat_map f [] x y h p = absurd h
 in_flat_map f (z ∷ xs) x y (inl e) p = in_append_left (f z) (flat_map f xs) y (subst (λ w. In y (f w)) (sym e) p)
 in_flat_map f (z ∷ xs) x y (inr h) p = in_append_right (f z) (flat_map f xs) y (in_flat_map f xs x y h p)
@@ -89,7 +90,8 @@ pub in_filter_from : {X : Type 0} (p : X → Bool) (xs : List X) (x : X) → In 
 in_filter_from p [] x h = absurd h
 in_filter_from p (y ∷ xs) x h = by (p y) refl h (in_filter_from p xs x)
   where
-    by : (b : Bool) → p y ≡ b → In x (if b then y ∷ filter p xs else filter p xs) → (In x (filter p xs) → In x xs × (p x ≡ true)) → In x (y ∷ xs) × (p x ≡ true)
+    by : (b : Bool) → p y ≡ b → In x (if b then y ∷ filter p xs else filter p xs)
+        → (In x (filter p xs) → In x xs × (p x ≡ true)) → In x (y ∷ xs) × (p x ≡ true)
     by true t (inl e) later = (inl e, ap p (sym e) ∙ t)
     by true t (inr r) later = (inr (later r).0, (later r).1)
     by false t r later = (inr (later r).0, (later r).1)
@@ -113,15 +115,18 @@ pub in_from_list_any : {X : Type 0} (p : X → Bool) (xs : List X) → list_any 
 in_from_list_any p [] h = cc
 in_from_list_any p (x ∷ xs) h = by (p x) refl h (in_from_list_any p xs)
   where
-    by : (b : Bool) → p x ≡ b → (b || list_any p xs) ≡ true → (list_any p xs ≡ true → IsPassing p xs) → IsPassing p (x ∷ xs)
+    by : (b : Bool) → p x ≡ b → (b || list_any p xs) ≡ true → (list_any p xs ≡ true → IsPassing p xs)
+        → IsPassing p (x ∷ xs)
     by true t e later = record { element = x; is_in = inl refl; passes = t }
     by false t e later = passing_later p x xs (later e)
 
-pub none_from_list_any : {X : Type 0} (p : X → Bool) (xs : List X) (x : X) → list_any p xs ≡ false → In x xs → p x ≡ false
+pub none_from_list_any : {X : Type 0} (p : X → Bool) (xs : List X) (x : X) → list_any p xs ≡ false → In x xs
+    → p x ≡ false
 none_from_list_any p [] x h i = absurd i
 none_from_list_any p (y ∷ xs) x h i = by (p y) refl h i (none_from_list_any p xs x)
   where
-    by : (b : Bool) → p y ≡ b → (b || list_any p xs) ≡ false → In x (y ∷ xs) → (list_any p xs ≡ false → In x xs → p x ≡ false) → p x ≡ false
+    by : (b : Bool) → p y ≡ b → (b || list_any p xs) ≡ false → In x (y ∷ xs)
+        → (list_any p xs ≡ false → In x xs → p x ≡ false) → p x ≡ false
     by true t e i later = cc
     by false t e (inl q) later = ap p (sym q) ∙ t
     by false t e (inr q) later = later e q

@@ -38,7 +38,10 @@ new_nodes-has before (x ∷ ms) m h = by (list_any (same_node x) before) refl h 
     known : list_any (same_node x) before ≡ true → x ≡ m → In m before
     known t e = let p = in_from_list_any (same_node x) before t in subst (λ y. In y before) (sym (same_node-true x p.element p.passes) ∙ e) p.is_in
 
-    by : (b : Bool) → list_any (same_node x) before ≡ b → (x ≡ m) ⊎ In m ms → (In m ms → In m (before ++ new_nodes before ms)) → (In m ms → In m ((before ++ x ∷ []) ++ new_nodes (before ++ x ∷ []) ms)) → In m (before ++ (if b then new_nodes before ms else x ∷ new_nodes (before ++ x ∷ []) ms))
+    by : (b : Bool) → list_any (same_node x) before ≡ b → (x ≡ m) ⊎ In m ms
+        → (In m ms → In m (before ++ new_nodes before ms))
+        → (In m ms → In m ((before ++ x ∷ []) ++ new_nodes (before ++ x ∷ []) ms))
+        → In m (before ++ (if b then new_nodes before ms else x ∷ new_nodes (before ++ x ∷ []) ms))
     by true t (inl e) here later = in_append_left before (new_nodes before ms) m (known t e)
     by true t (inr r) here later = here r
     by false t (inl e) here later = in_append_right before (x ∷ new_nodes (before ++ x ∷ []) ms) m (inl e)
@@ -47,14 +50,16 @@ new_nodes-has before (x ∷ ms) m h = by (list_any (same_node x) before) refl h 
 pub number_in-le : (nodes : List NodeName) (m : NodeName) → number_in nodes m ≤ length nodes
 number_in-le nodes m = prefix_len-le-length _ nodes
 
-pub slice_get-number_in : (nodes : List NodeName) (m : NodeName) → In m nodes → slice_get nodes (number_in nodes m) ≡ Some m
+pub slice_get-number_in : (nodes : List NodeName) (m : NodeName) → In m nodes
+    → slice_get nodes (number_in nodes m) ≡ Some m
 slice_get-number_in [] m h = absurd h
 slice_get-number_in (x ∷ xs) m h = by (same_node m x) refl h (slice_get-number_in xs m)
   where
     later : (k : ℕ) → slice_get (x ∷ xs) (1 + k) ≡ slice_get xs k
     later k = let e : 1 + k ≡ suc k = omega arith in ap (slice_get (x ∷ xs)) e
 
-    by : (b : Bool) → same_node m x ≡ b → (x ≡ m) ⊎ In m xs → (In m xs → slice_get xs (number_in xs m) ≡ Some m) → slice_get (x ∷ xs) (cond (not b) (1 + number_in xs m) 0) ≡ Some m
+    by : (b : Bool) → same_node m x ≡ b → (x ≡ m) ⊎ In m xs → (In m xs → slice_get xs (number_in xs m) ≡ Some m)
+        → slice_get (x ∷ xs) (cond (not b) (1 + number_in xs m) 0) ≡ Some m
     by true t i found = ap Some (sym (same_node-true m x t))
     by false t (inl e) found = let same : same_node m x ≡ true = ap (same_node m) e ∙ same_node_refl m in cc
     by false t (inr i) found = later (number_in xs m) ∙ found i
@@ -71,19 +76,22 @@ source-mentions (the.CapControl v) m h = absurd h
 source-mentions (the.Loadshape v) m h = absurd h
 
 -- a node at one end of a phase is a node of the terminals
-phase_ends-mentions : (t : Terminals) (group : List NodeName) (m : NodeName) → In group (phase_ends t) → In m group → In m (filter is_node (t.first ++ t.second))
+phase_ends-mentions : (t : Terminals) (group : List NodeName) (m : NodeName) → In group (phase_ends t) → In m group
+    → In m (filter is_node (t.first ++ t.second))
 phase_ends-mentions t group m h i =
     let made = in_map_from (λ (p : NodeName × NodeName). filter is_node (p.0 ∷ p.1 ∷ [])) (zip t.first t.second) group h in
     let ends = in_zip_from t.first t.second made.source made.is_in in
     let passed = in_filter_from is_node (made.source.0 ∷ made.source.1 ∷ []) m (subst (In m) (sym made.is_made) i) in
     in_filter is_node (t.first ++ t.second) m (by made.source ends.0 ends.1 passed.0) passed.1
   where
-    by : (p : NodeName × NodeName) → In p.0 t.first → In p.1 t.second → In m (p.0 ∷ p.1 ∷ []) → In m (t.first ++ t.second)
+    by : (p : NodeName × NodeName) → In p.0 t.first → In p.1 t.second → In m (p.0 ∷ p.1 ∷ [])
+        → In m (t.first ++ t.second)
     by p a b (inl e) = in_append_left t.first t.second m (subst (λ x. In x t.first) e a)
     by p a b (inr (inl e)) = in_append_right t.first t.second m (subst (λ x. In x t.second) e b)
     by p a b (inr (inr f)) = absurd f
 
-pub tied-mentions : (e : Element) (group : List NodeName) (m : NodeName) → In group (tied_nodes e) → In m group → In m (mentions e)
+pub tied-mentions : (e : Element) (group : List NodeName) (m : NodeName) → In group (tied_nodes e) → In m group
+    → In m (mentions e)
 tied-mentions (the.Line l) group m h i = phase_ends-mentions (terminals_of (the.Line l)) group m h i
 tied-mentions (the.Transformer t) group m (inl e) i = subst (In m) (sym e) i
 tied-mentions (the.Transformer t) group m (inr f) i = absurd f
@@ -96,11 +104,14 @@ tied-mentions (the.CapControl v) group m h i = absurd h
 tied-mentions (the.Loadshape v) group m h i = absurd h
 
 -- a node that an element mentions is found by its number
-pub found : (es : Elements) (e : ElementName × Element) (m : NodeName) → In e es → In m (mentions e.1) → slice_get (nodes_of es) (number_in (nodes_of es) m) ≡ Some m
+pub found : (es : Elements) (e : ElementName × Element) (m : NodeName) → In e es → In m (mentions e.1)
+    → slice_get (nodes_of es) (number_in (nodes_of es) m) ≡ Some m
 found es e m here i = slice_get-number_in (nodes_of es) m (new_nodes-has [] (flat_map (λ x. mentions x.1) es) m (in_flat_map (λ x. mentions x.1) es e m here i))
 
-pub source_found : (es : Elements) (m : NodeName) → In m (flat_map (λ e. source_nodes e.1) es) → slice_get (nodes_of es) (number_in (nodes_of es) m) ≡ Some m
+pub source_found : (es : Elements) (m : NodeName) → In m (flat_map (λ e. source_nodes e.1) es)
+    → slice_get (nodes_of es) (number_in (nodes_of es) m) ≡ Some m
 source_found es m h = let p = in_flat_map_from (λ (e : ElementName × Element). source_nodes e.1) es m h in found es p.source m p.is_in (source-mentions p.source.1 m p.part)
 
-pub tied_found : (es : Elements) (group : List NodeName) (m : NodeName) → In group (flat_map (λ e. tied_nodes e.1) es) → In m group → slice_get (nodes_of es) (number_in (nodes_of es) m) ≡ Some m
+pub tied_found : (es : Elements) (group : List NodeName) (m : NodeName) → In group (flat_map (λ e. tied_nodes e.1) es)
+    → In m group → slice_get (nodes_of es) (number_in (nodes_of es) m) ≡ Some m
 tied_found es group m h i = let p = in_flat_map_from (λ (e : ElementName × Element). tied_nodes e.1) es group h in found es p.source m p.is_in (tied-mentions p.source.1 group m p.part i)

@@ -31,7 +31,8 @@ sum_within f s [] k h = absurd (omega arith)
 sum_within f s (e ∷ es) k h = let own = sum_with_own f s (e ∷ es) k e h in omega arith
 
 -- how many phases all elements have
-pub length-phases : (f : Element → ℕ) (es : Elements) → length (flat_map (λ e. phase_names e.0 (f e.1)) es) ≡ list_n (λ e. f e.1) es
+pub length-phases : (f : Element → ℕ) (es : Elements)
+    → length (flat_map (λ e. phase_names e.0 (f e.1)) es) ≡ list_n (λ e. f e.1) es
 length-phases f [] = refl
 length-phases f (e ∷ es) =
     let joined = length-append (phase_names e.0 (f e.1)) (flat_map (λ (x : ElementName × Element). phase_names x.0 (f x.1)) es) in

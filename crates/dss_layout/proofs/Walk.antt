@@ -40,13 +40,15 @@ record IsTiePair (nodes : List NodeName) (es : Elements) (p : ℕ × ℕ) : Type
   has_to : In to group
   is : (number_in nodes from, number_in nodes to) ≡ p
 
-group_case : (nodes : List NodeName) (es : Elements) (p : ℕ × ℕ) (group : List NodeName) → In group (ties es) → In p (group_pairs nodes group) → IsTiePair nodes es p
+group_case : (nodes : List NodeName) (es : Elements) (p : ℕ × ℕ) (group : List NodeName) → In group (ties es)
+    → In p (group_pairs nodes group) → IsTiePair nodes es p
 group_case nodes es p [] tied h = absurd h
 group_case nodes es p (m ∷ ms) tied h =
     let made = in_map_from (λ (x : NodeName). (number_in nodes m, number_in nodes x)) ms p h in
     record { group = m ∷ ms; from = m; to = made.source; is_tied = tied; has_from = inl refl; has_to = inr made.is_in; is = made.is_made }
 
-pair_cases : (nodes : List NodeName) (es : Elements) (p : ℕ × ℕ) → In p (all_pairs nodes es) → IsSourcePair nodes es p ⊎ IsTiePair nodes es p
+pair_cases : (nodes : List NodeName) (es : Elements) (p : ℕ × ℕ) → In p (all_pairs nodes es)
+    → IsSourcePair nodes es p ⊎ IsTiePair nodes es p
 pair_cases nodes es p h = by (in_append_cases (pairs_with nodes (length nodes) (source_nodes e.1)) (flat_map (group_pairs nodes) (tied_nodes e.1)) p whole.part)
   where
     whole : IsPart (λ (x : ElementName × Element). element_pairs nodes x.1) es p
@@ -55,7 +57,8 @@ pair_cases nodes es p h = by (in_append_cases (pairs_with nodes (length nodes) (
     e : ElementName × Element
     e = whole.source
 
-    by : In p (pairs_with nodes (length nodes) (source_nodes e.1)) ⊎ In p (flat_map (group_pairs nodes) (tied_nodes e.1)) → IsSourcePair nodes es p ⊎ IsTiePair nodes es p
+    by : In p (pairs_with nodes (length nodes) (source_nodes e.1)) ⊎ In p (flat_map (group_pairs nodes) (tied_nodes e.1))
+        → IsSourcePair nodes es p ⊎ IsTiePair nodes es p
     by (inl i) =
         let made = in_map_from (λ (x : NodeName). (length nodes, number_in nodes x)) (source_nodes e.1) p i in
         inl (record { node = made.source; is_source = in_flat_map (λ (x : ElementName × Element). source_nodes x.1) es e made.source whole.is_in made.is_in; is = made.is_made })
@@ -153,7 +156,8 @@ abbrev fed_label : Elements → ℕ
 fed_label es = label (labels_of (nodes_of es) es) (length (nodes_of es))
 
 -- a node with the sources' label is fed
-pub fed_from_label : (es : Elements) (m : NodeName) → slice_get (nodes_of es) (number_in (nodes_of es) m) ≡ Some m → node_label es m ≡ fed_label es → Fed es m
+pub fed_from_label : (es : Elements) (m : NodeName) → slice_get (nodes_of es) (number_in (nodes_of es) m) ≡ Some m
+    → node_label es m ≡ fed_label es → Fed es m
 fed_from_label es m place h =
     let n = length (nodes_of es) in
     let all = implied_all (Alike es) (alike_laws es) (own_labels (nodes_of es)) (all_pairs (nodes_of es) es) (below_own (nodes_of es) es) (pair_alike es) (own_alike es) in
@@ -164,7 +168,8 @@ fed_from_label es m place h =
     to_fed es (number_in (nodes_of es) m) m place ((all (number_in (nodes_of es) m) n a b h).back (fed_after es))
 
 -- two nodes of a group have one label
-first_label : (es : Elements) (m : NodeName) (ms : List NodeName) (x : NodeName) → In (m ∷ ms) (ties es) → In x (m ∷ ms) → node_label es m ≡ node_label es x
+first_label : (es : Elements) (m : NodeName) (ms : List NodeName) (x : NodeName) → In (m ∷ ms) (ties es) → In x (m ∷ ms)
+    → node_label es m ≡ node_label es x
 first_label es m ms x tied (inl e) = ap (node_label es) e
 first_label es m ms x tied (inr i) =
     let nodes = nodes_of es in
@@ -175,7 +180,8 @@ first_label es m ms x tied (inr i) =
     let of_all = in_flat_map (λ (e : ElementName × Element). element_pairs nodes e.1) es p.source (number_in nodes m, number_in nodes x) p.is_in of_element in
     pair_all (own_labels nodes) (all_pairs nodes es) (number_in nodes m, number_in nodes x) (below_own nodes es) of_all
 
-group_label : (es : Elements) (group : List NodeName) (x y : NodeName) → In group (ties es) → In x group → In y group → node_label es x ≡ node_label es y
+group_label : (es : Elements) (group : List NodeName) (x y : NodeName) → In group (ties es) → In x group → In y group
+    → node_label es x ≡ node_label es y
 group_label es [] x y tied hx hy = absurd hx
 group_label es (m ∷ ms) x y tied hx hy = sym (first_label es m ms x tied hx) ∙ first_label es m ms y tied hy
 
@@ -207,7 +213,8 @@ not_false true h = refl
 not_false false h = cc
 
 -- an element that mentions a node with another label mentions one that isn't fed
-isolated_from : (es : Elements) (e : ElementName × Element) → list_any (apart es) (mentions e.1) ≡ true → IsIsolated es e
+isolated_from : (es : Elements) (e : ElementName × Element) → list_any (apart es) (mentions e.1) ≡ true
+    → IsIsolated es e
 isolated_from es e h =
     let p = in_from_list_any (apart es) (mentions e.1) h in
     let differs = not_true (node_label es p.element == fed_label es) p.passes in
@@ -218,20 +225,24 @@ isolated_from es e h =
     }
 
 -- one that mentions none is fed
-fed_from : (es : Elements) (e : ElementName × Element) → In e es → list_any (apart es) (mentions e.1) ≡ false → IsFed es e
+fed_from : (es : Elements) (e : ElementName × Element) → In e es → list_any (apart es) (mentions e.1) ≡ false
+    → IsFed es e
 fed_from es e here h k d within =
     let m = get_or (mentions e.1) k d in
     let i = in_index (mentions e.1) k d within in
     let same = not_false (node_label es m == fed_label es) (none_from_list_any (apart es) (mentions e.1) m h i) in
     fed_from_label es m (found es e m here i) (eqb-true (node_label es m) (fed_label es) same)
 
-same_test : (es : Elements) (e : Element) (nodes : List NodeName) (labels : List ℕ) (b : Bool) → nodes ≡ nodes_of es → labels ≡ labels_of nodes es → b ≡ mentions_apart nodes labels e → b ≡ list_any (apart es) (mentions e)
+same_test : (es : Elements) (e : Element) (nodes : List NodeName) (labels : List ℕ) (b : Bool) → nodes ≡ nodes_of es
+    → labels ≡ labels_of nodes es → b ≡ mentions_apart nodes labels e → b ≡ list_any (apart es) (mentions e)
 same_test es e nodes labels b same_nodes same_labels test =
     test ∙ ap (λ l. mentions_apart nodes l e) same_labels ∙ ap (λ n. mentions_apart n (labels_of n es) e) same_nodes
 
 -- the element at this place is the first that isn't fed
-pub first_isolated_at : (es : Elements) (k : ℕ) (name : ElementName) (e : Element) (nodes : List NodeName) (labels : List ℕ) (b : Bool) → slice_get es k ≡ Some (name, e)
-    → nodes ≡ nodes_of es → labels ≡ labels_of nodes es → b ≡ mentions_apart nodes labels e → b ≡ true → All (IsFed es) (take k es) → IsFirstIsolated es k
+pub first_isolated_at : (es : Elements) (k : ℕ) (name : ElementName) (e : Element) (nodes : List NodeName) (labels : List ℕ) (b : Bool)
+    → slice_get es k ≡ Some (name, e)
+    → nodes ≡ nodes_of es → labels ≡ labels_of nodes es → b ≡ mentions_apart nodes labels e → b ≡ true
+    → All (IsFed es) (take k es) → IsFirstIsolated es k
 first_isolated_at es k name e nodes labels b here same_nodes same_labels test is_true before = record {
   element = (name, e);
   at_place = here;
@@ -240,8 +251,10 @@ first_isolated_at es k name e nodes labels b here same_nodes same_labels test is
 }
 
 -- the elements up to this one are fed
-pub fed_up_to : (es : Elements) (k : ℕ) (name : ElementName) (e : Element) (nodes : List NodeName) (labels : List ℕ) (b : Bool) → slice_get es k ≡ Some (name, e)
-    → nodes ≡ nodes_of es → labels ≡ labels_of nodes es → b ≡ mentions_apart nodes labels e → b ≡ false → All (IsFed es) (take k es) → All (IsFed es) (take (k + 1) es)
+pub fed_up_to : (es : Elements) (k : ℕ) (name : ElementName) (e : Element) (nodes : List NodeName) (labels : List ℕ) (b : Bool)
+    → slice_get es k ≡ Some (name, e)
+    → nodes ≡ nodes_of es → labels ≡ labels_of nodes es → b ≡ mentions_apart nodes labels e → b ≡ false
+    → All (IsFed es) (take k es) → All (IsFed es) (take (k + 1) es)
 fed_up_to es k name e nodes labels b here same_nodes same_labels test is_false before =
     let fed = fed_from es (name, e) (in_from_get es k (name, e) here) (sym (same_test es e nodes labels b same_nodes same_labels test) ∙ is_false) in
     All-more (IsFed es) es k (name, e) (slice_get_within es k (name, e) here) before (subst (IsFed es) (sym (get_or_from_slice_get es k (name, e) (name, e) here)) fed)

@@ -28,7 +28,8 @@ tied_nodes other = []
 -- a node is fed where it is a source's, or is tied to one that is fed
 pub data Fed (elements : Elements) : NodeName → Type 0 where
   by_source : (node : NodeName) → Contains (flat_map (λ e. source_nodes e.1) elements) node → Fed elements node
-  by_tie : (group : List NodeName) (from to : NodeName) → Contains (flat_map (λ e. tied_nodes e.1) elements) group → Contains group from → Contains group to → Fed elements from → Fed elements to
+  by_tie : (group : List NodeName) (from to : NodeName) → Contains (flat_map (λ e. tied_nodes e.1) elements) group
+      → Contains group from → Contains group to → Fed elements from → Fed elements to
 
 -- every node that the element mentions is fed
 abbrev pub IsFed : Elements → ElementName × Element → Type 0

@@ -55,7 +55,8 @@ at_one_bus (Ok numbers) = Ok (numbers, [])
 at_one_bus (Err e) = Err e
 
 -- a wrong count at either bus comes before a number that is unsupported
-abbrev pub at_two_buses : Result (List ℕ) TerminalFault → Result (List ℕ) TerminalFault → Result (List ℕ × List ℕ) TerminalFault
+abbrev pub at_two_buses : Result (List ℕ) TerminalFault → Result (List ℕ) TerminalFault
+    → Result (List ℕ × List ℕ) TerminalFault
 at_two_buses (Ok first) (Ok second) = Ok (first, second)
 at_two_buses (Ok first) (Err e) = Err e
 at_two_buses (Err WrongCount) second = Err WrongCount

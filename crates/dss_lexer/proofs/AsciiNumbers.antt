@@ -50,7 +50,8 @@ unsigned_plain (c ∷ cs) h = cases (is_plus c || is_minus c) refl
     cases false e = subst P e h
 
 -- the text before a mark, the mark and the text after it
-parts_plain : (p : ℕ → Bool) → ((c : ℕ) → p c ≡ true → is_plain c ≡ true) → (cs : List ℕ) → are_plain (before_first p cs) ≡ true → are_plain (after_first p cs) ≡ true → are_plain cs ≡ true
+parts_plain : (p : ℕ → Bool) → ((c : ℕ) → p c ≡ true → is_plain c ≡ true) → (cs : List ℕ)
+    → are_plain (before_first p cs) ≡ true → are_plain (after_first p cs) ≡ true → are_plain cs ≡ true
 parts_plain p mark [] h k = refl
 parts_plain p mark (c ∷ cs) h k = cases (λ h k. parts_plain p mark cs h k) (p c) refl
   where
@@ -63,7 +64,8 @@ parts_plain p mark (c ∷ cs) h k = cases (λ h k. parts_plain p mark cs h k) (p
     Q : Bool → Type 0
     Q b = are_plain (drop (cond (not b) (1 + n) 0 + 1) (c ∷ cs)) ≡ true
 
-    cases : (are_plain (before_first p cs) ≡ true → are_plain (after_first p cs) ≡ true → are_plain cs ≡ true) → (b : Bool) → p c ≡ b → are_plain (c ∷ cs) ≡ true
+    cases : (are_plain (before_first p cs) ≡ true → are_plain (after_first p cs) ≡ true → are_plain cs ≡ true)
+        → (b : Bool) → p c ≡ b → are_plain (c ∷ cs) ≡ true
     cases rest true e = plain_cons c cs (mark c e) (subst Q e k)
     cases rest false e =
         let one : 1 + n ≡ suc n = omega arith in
@@ -83,7 +85,9 @@ exponent_plain cs h = cases (are_digits (unsigned cs) && (nat_lt 0 (length (unsi
     shift : Option Shift
     shift = if is_negative cs then Some (record { right = 0; left = value (unsigned cs) }) else Some (record { right = value (unsigned cs); left = 0 })
 
-    cases : (b : Bool) → (are_digits (unsigned cs) && (nat_lt 0 (length (unsigned cs)) && nat_le (length (unsigned cs)) 2)) ≡ b → are_plain cs ≡ true
+    cases : (b : Bool)
+        → (are_digits (unsigned cs) && (nat_lt 0 (length (unsigned cs)) && nat_le (length (unsigned cs)) 2)) ≡ b
+        → are_plain cs ≡ true
     cases true e = unsigned_plain cs (digits_plain (unsigned cs) (both (are_digits (unsigned cs)) (nat_lt 0 (length (unsigned cs)) && nat_le (length (unsigned cs)) 2) e).0)
     cases false e = let none : is_some (if false then shift else None) ≡ true = subst (λ b. is_some (if b then shift else None) ≡ true) e h in absurd (cc)
 
@@ -93,20 +97,25 @@ shift_plain u h = cases (nat_lt (position_or_len is_exponent_mark u) (length u))
     P : Bool → Type 0
     P b = is_some (if b then exponent_of (after_first is_exponent_mark u) else Some (record { right = 0; left = 0 })) ≡ true
 
-    cases : (b : Bool) → nat_lt (position_or_len is_exponent_mark u) (length u) ≡ b → are_plain (after_first is_exponent_mark u) ≡ true
+    cases : (b : Bool) → nat_lt (position_or_len is_exponent_mark u) (length u) ≡ b
+        → are_plain (after_first is_exponent_mark u) ≡ true
     cases true e = exponent_plain (after_first is_exponent_mark u) (subst P e h)
     cases false e = ap are_plain (drop_over u (position_or_len is_exponent_mark u + 1) (let h : length u ≤ position_or_len is_exponent_mark u = ltb-false _ _ e in omega arith))
 
 -- what is read is a mantissa with an exponent
-read_by : (negative : Bool) (whole decimals : List ℕ) (shift : Option Shift) → (number_from negative whole decimals shift ≡ Err BadNumber) ⊎ ((is_some shift ≡ true) × (are_mantissa whole decimals ≡ true))
+read_by : (negative : Bool) (whole decimals : List ℕ) (shift : Option Shift)
+    → (number_from negative whole decimals shift ≡ Err BadNumber) ⊎ ((is_some shift ≡ true) × (are_mantissa whole decimals ≡ true))
 read_by negative whole decimals None = inl refl
 read_by negative whole decimals (Some shift) = cases (are_mantissa whole decimals) refl
   where
-    cases : (b : Bool) → are_mantissa whole decimals ≡ b → (number_from negative whole decimals (Some shift) ≡ Err BadNumber) ⊎ ((true ≡ true) × (are_mantissa whole decimals ≡ true))
+    cases : (b : Bool) → are_mantissa whole decimals ≡ b
+        → (number_from negative whole decimals (Some shift) ≡ Err BadNumber) ⊎ ((true ≡ true) × (are_mantissa whole decimals ≡ true))
     cases true e = inr (refl, e)
     cases false e = inl (ap (λ b. if b then within_limit (with_sign negative (units whole decimals shift)) else Err BadNumber) e)
 
-mantissa_plain : (cs : List ℕ) → is_some (shift_of (unsigned cs)) ≡ true → are_mantissa (before_first is_point (before_first is_exponent_mark (unsigned cs))) (after_first is_point (before_first is_exponent_mark (unsigned cs))) ≡ true → are_plain cs ≡ true
+mantissa_plain : (cs : List ℕ) → is_some (shift_of (unsigned cs)) ≡ true
+    → are_mantissa (before_first is_point (before_first is_exponent_mark (unsigned cs))) (after_first is_point (before_first is_exponent_mark (unsigned cs))) ≡ true
+    → are_plain cs ≡ true
 mantissa_plain cs h k =
     let mantissa : List ℕ = before_first is_exponent_mark (unsigned cs) in
     let whole : List ℕ = before_first is_point mantissa in

@@ -14,28 +14,33 @@ pub after-nil : {A : Type 0} (front : List A) → after front (Ok []) ≡ Ok fro
 after-nil front = ap Ok (append-nil front)
 
 -- one more element, and the rest
-pub joined : {A : Type 0} (front : List A) (y : A) (said : Result (List A) LexFault) → after (front ++ y ∷ []) said ≡ after front (said >>= λ ys. Ok (y ∷ ys))
+pub joined : {A : Type 0} (front : List A) (y : A) (said : Result (List A) LexFault)
+    → after (front ++ y ∷ []) said ≡ after front (said >>= λ ys. Ok (y ∷ ys))
 joined front y (Ok ys) = ap Ok (append_assoc front (y ∷ []) ys)
 joined front y (Err e) = refl
 
 -- a fault goes on
-pub fails_further : {X Y : Type 0} (e : LexError) (r : Result X LexFault) (s : Result Y LexFault) → ((fault : LexFault) → r ≡ Err fault → s ≡ Err fault) → Fails e r → Fails e s
+pub fails_further : {X Y : Type 0} (e : LexError) (r : Result X LexFault) (s : Result Y LexFault)
+    → ((fault : LexFault) → r ≡ Err fault → s ≡ Err fault) → Fails e r → Fails e s
 fails_further (error.Fault fault) r s f h = f fault h
 fails_further error.NoMemory r s f h = tt
 
-module _ {X A B : Type 0} (view : X → A) (f : A → Result B LexFault) (xs : List X) (i : ℕ) (d : X) (less : i < length xs) where
+module _ {X A B : Type 0} (view : X → A) (f : A → Result B LexFault) (xs : List X) (i : ℕ) (d : X)
+    (less : i < length xs) where
   this : drop i xs ≡ get_or xs i d ∷ drop (i + 1) xs
   this = rw add-one (drop-cons xs i d less)
 
   pub each_step : each f (map view (drop i xs)) ≡ (f (view (get_or xs i d)) >>= λ y. each f (map view (drop (i + 1) xs)) >>= λ ys. Ok (y ∷ ys))
   each_step = ap (λ ys. each f (map view ys)) this
 
-  pub each_more : (front : List B) (y : B) → f (view (get_or xs i d)) ≡ Ok y → after (front ++ y ∷ []) (each f (map view (drop (i + 1) xs))) ≡ after front (each f (map view (drop i xs)))
+  pub each_more : (front : List B) (y : B) → f (view (get_or xs i d)) ≡ Ok y
+      → after (front ++ y ∷ []) (each f (map view (drop (i + 1) xs))) ≡ after front (each f (map view (drop i xs)))
   each_more front y e =
       joined front y (each f (map view (drop (i + 1) xs)))
       ∙ sym (ap (after front) (each_step ∙ ap (λ r. r >>= λ z. each f (map view (drop (i + 1) xs)) >>= λ ys. Ok (z ∷ ys)) e))
 
-  pub each_fault : (front : List B) (e : LexFault) → f (view (get_or xs i d)) ≡ Err e → after front (each f (map view (drop i xs))) ≡ Err e
+  pub each_fault : (front : List B) (e : LexFault) → f (view (get_or xs i d)) ≡ Err e
+      → after front (each f (map view (drop i xs))) ≡ Err e
   each_fault front e was = ap (after front) (each_step ∙ ap (λ r. r >>= λ z. each f (map view (drop (i + 1) xs)) >>= λ ys. Ok (z ∷ ys)) was)
 
 pub drop_over : {X : Type 0} (xs : List X) (i : ℕ) → length xs ≤ i → drop i xs ≡ []
@@ -44,5 +49,6 @@ drop_over [] (suc i) h = refl
 drop_over (x ∷ xs) zero h = absurd (omega arith)
 drop_over (x ∷ xs) (suc i) h = drop_over xs i (omega arith)
 
-pub each_end : {X A B : Type 0} (view : X → A) (f : A → Result B LexFault) (xs : List X) (i : ℕ) (front : List B) → length xs ≤ i → after front (each f (map view (drop i xs))) ≡ Ok front
+pub each_end : {X A B : Type 0} (view : X → A) (f : A → Result B LexFault) (xs : List X) (i : ℕ) (front : List B)
+    → length xs ≤ i → after front (each f (map view (drop i xs))) ≡ Ok front
 each_end view f xs i front h = ap (λ ys. after front (each f (map view ys))) (drop_over xs i h) ∙ after-nil front

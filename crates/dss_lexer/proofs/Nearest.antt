@@ -38,7 +38,8 @@ nearest_none v n l r small h =
     let low : 10 ^ r * (v + 1) ≤ 10 ^ r * 10 ^ n = mul-le-mul_left (10 ^ r) (let one : v + 1 ≤ 10 ^ n = omega arith in one) in
     nearest_is (v * 10 ^ r) (10 ^ l) 0 (2 * (v * 10 ^ r) + 10 ^ l) (omega arith) (omega arith)
 
-cut_by : (k p q v rest s t d : ℕ) → 1 ≤ k → v ≡ q * p + rest → rest < p → s * 10 + t ≡ q + 5 → t ≤ 9 → d ≡ k * (p * 10) → nearest (v * k) d ≡ s
+cut_by : (k p q v rest s t d : ℕ) → 1 ≤ k → v ≡ q * p + rest → rest < p → s * 10 + t ≡ q + 5 → t ≤ 9 → d ≡ k * (p * 10)
+    → nearest (v * k) d ≡ s
 cut_by k p q v rest s t d some e h divided last scale =
     let tens : (k * p) * (s * 10 + t) ≡ (k * p) * (q + 5) = ap (λ z. (k * p) * z) divided in
     let low : k * (rest + 1) ≤ k * p = mul-le-mul_left k (let one : rest + 1 ≤ p = omega arith in one) in
@@ -47,7 +48,8 @@ cut_by k p q v rest s t d some e h divided last scale =
     nearest_is (v * k) d s (2 * ((k * p) * t) + 2 * (k * rest)) (let twice : s * (2 * d) ≡ s * (2 * (k * (p * 10))) = ap (λ z. s * (2 * z)) scale in omega arith) (omega arith)
 
 -- the first digit that is dropped decides
-pub nearest_cut : (v q rest m r : ℕ) → v ≡ q * 10 ^ m + rest → rest < 10 ^ m → nearest (v * 10 ^ r) (10 ^ (r + (m + 1))) ≡ (q + 5) / 10
+pub nearest_cut : (v q rest m r : ℕ) → v ≡ q * 10 ^ m + rest → rest < 10 ^ m
+    → nearest (v * 10 ^ r) (10 ^ (r + (m + 1))) ≡ (q + 5) / 10
 nearest_cut v q rest m r e h =
     let s : ℕ = (q + 5) / 10 in
     let t : ℕ = (q + 5) % 10 in
@@ -57,7 +59,8 @@ nearest_cut v q rest m r e h =
     cut_by (10 ^ r) (10 ^ m) q v rest s t (10 ^ (r + (m + 1))) (one-le-pow r 10 (omega arith)) e h divided last scale
 
 -- a cut at the limit may come before the last test of it
-pub zeros_cut : (v z : ℕ) → min 1_000_000_000_000_000_000 (min 10_000_000_000_000_000_000 (min 10_000_000_000_000_000_000 v * 10 ^ z)) ≡ min 1_000_000_000_000_000_000 (v * 10 ^ z)
+pub zeros_cut : (v z : ℕ)
+    → min 1_000_000_000_000_000_000 (min 10_000_000_000_000_000_000 (min 10_000_000_000_000_000_000 v * 10 ^ z)) ≡ min 1_000_000_000_000_000_000 (v * 10 ^ z)
 zeros_cut v z =
     let some : 1 ≤ 10 ^ z = one-le-pow z 10 (omega arith) in
     let high : min 10_000_000_000_000_000_000 v * 1 ≤ min 10_000_000_000_000_000_000 v * 10 ^ z = mul-le-mul_left (min 10_000_000_000_000_000_000 v) some in
@@ -67,38 +70,46 @@ zeros_cut v z =
     (λ (h : v ≤ 10_000_000_000_000_000_000). let e : min 10_000_000_000_000_000_000 v ≡ v = omega arith in rw e (omega arith))
     (cases_lt 10_000_000_000_000_000_000 v)
 
-pub tenth_cut : (q : ℕ) → min 1_000_000_000_000_000_000 ((min 10_000_000_000_000_000_000 q + 5) / 10) ≡ min 1_000_000_000_000_000_000 ((q + 5) / 10)
+pub tenth_cut : (q : ℕ)
+    → min 1_000_000_000_000_000_000 ((min 10_000_000_000_000_000_000 q + 5) / 10) ≡ min 1_000_000_000_000_000_000 ((q + 5) / 10)
 tenth_cut q = omega arith
 
 pub one_more_zero : (m n k : ℕ) → min m (min m (n * 10 ^ k) * 10 + 0) ≡ min m (n * 10 ^ (k + 1))
 one_more_zero m n k = let more : n * 10 ^ (k + 1) ≡ n * (10 ^ k * 10) = ap (λ p. n * p) (pow-add 10 k 1) in omega arith
 
-pub size_up : (v front zeroed size l r : ℕ) → front ≡ min 10_000_000_000_000_000_000 v → zeroed ≡ min 10_000_000_000_000_000_000 (front * 10 ^ (r - l)) → size ≡ min zeroed 1_000_000_000_000_000_000 → l ≤ r
+pub size_up : (v front zeroed size l r : ℕ) → front ≡ min 10_000_000_000_000_000_000 v
+    → zeroed ≡ min 10_000_000_000_000_000_000 (front * 10 ^ (r - l)) → size ≡ min zeroed 1_000_000_000_000_000_000
+    → l ≤ r
     → size ≡ min 1_000_000_000_000_000_000 (nearest (v * 10 ^ r) (10 ^ l))
 size_up v front zeroed size l r e₁ e₂ e₃ h =
     let zeroed_is : zeroed ≡ min 10_000_000_000_000_000_000 (min 10_000_000_000_000_000_000 v * 10 ^ (r - l)) = e₂ ∙ ap (λ f. min 10_000_000_000_000_000_000 (f * 10 ^ (r - l))) e₁ in
     omega (arith, zeros_cut v (r - l), nearest_whole v l r h)
 
-pub size_none : (v n l r : ℕ) → v < 10 ^ n → n + r < l → 0 ≡ min 1_000_000_000_000_000_000 (nearest (v * 10 ^ r) (10 ^ l))
+pub size_none : (v n l r : ℕ) → v < 10 ^ n → n + r < l
+    → 0 ≡ min 1_000_000_000_000_000_000 (nearest (v * 10 ^ r) (10 ^ l))
 size_none v n l r small h = omega (arith, nearest_none v n l r small h)
 
-pub size_cut : (v q rest front size m l r : ℕ) → front ≡ min 10_000_000_000_000_000_000 q → size ≡ min ((front + 5) / 10) 1_000_000_000_000_000_000 → v ≡ q * 10 ^ m + rest → rest < 10 ^ m → l ≡ r + (m + 1)
+pub size_cut : (v q rest front size m l r : ℕ) → front ≡ min 10_000_000_000_000_000_000 q
+    → size ≡ min ((front + 5) / 10) 1_000_000_000_000_000_000 → v ≡ q * 10 ^ m + rest → rest < 10 ^ m → l ≡ r + (m + 1)
     → size ≡ min 1_000_000_000_000_000_000 (nearest (v * 10 ^ r) (10 ^ l))
 size_cut v q rest front size m l r e₁ e₂ e₃ h e₄ =
     let cut : nearest (v * 10 ^ r) (10 ^ l) ≡ (q + 5) / 10 = ap (λ k. nearest (v * 10 ^ r) (10 ^ k)) e₄ ∙ nearest_cut v q rest m r e₃ h in
     omega (arith, tenth_cut q)
 
-limit_past : (negative : Bool) (n : ℕ) → 1_000_000_000_000_000_000 ≤ n → within_limit (with_sign negative (pos n)) ≡ Err NumberTooLarge
+limit_past : (negative : Bool) (n : ℕ) → 1_000_000_000_000_000_000 ≤ n
+    → within_limit (with_sign negative (pos n)) ≡ Err NumberTooLarge
 limit_past true n h = let e : unsigned_abs (neg_ℤ (pos n)) ≡ n = omega (arith, ints) in rw (e, le-ltb n 1_000_000_000_000_000_000 h) refl
 limit_past false n h = rw (le-ltb n 1_000_000_000_000_000_000 h) refl
 
-sized_cut : (negative : Bool) (size n : ℕ) → size ≡ min 1_000_000_000_000_000_000 n → within_limit (with_sign negative (pos size)) ≡ within_limit (with_sign negative (pos n))
+sized_cut : (negative : Bool) (size n : ℕ) → size ≡ min 1_000_000_000_000_000_000 n
+    → within_limit (with_sign negative (pos size)) ≡ within_limit (with_sign negative (pos n))
 sized_cut negative size n e =
     ⊎_elim
     (λ (h : n < 1_000_000_000_000_000_000). let same : size ≡ n = omega arith in ap (λ k. within_limit (with_sign negative (pos k))) same)
     (λ (h : 1_000_000_000_000_000_000 ≤ n). limit_past negative size (omega arith) ∙ sym (limit_past negative n h))
     (cases_lt n 1_000_000_000_000_000_000)
 
-pub within_limit_cut : (negative : Bool) (whole decimals : List ℕ) (shift : Shift) (size : ℕ) → size ≡ min 1_000_000_000_000_000_000 (unsigned_abs (units whole decimals shift))
+pub within_limit_cut : (negative : Bool) (whole decimals : List ℕ) (shift : Shift) (size : ℕ)
+    → size ≡ min 1_000_000_000_000_000_000 (unsigned_abs (units whole decimals shift))
     → within_limit (with_sign negative (pos size)) ≡ within_limit (with_sign negative (units whole decimals shift))
 within_limit_cut negative whole decimals shift size e = sized_cut negative size (nearest (value (whole ++ decimals) * 10 ^ (shift.right + 9)) (10 ^ (shift.left + length decimals))) e

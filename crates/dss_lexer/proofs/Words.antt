@@ -13,10 +13,12 @@ pub word_ends : (is_name : Bool) (cs : List ℕ) → ends_word is_name cs ≡ tr
 word_ends is_name [] h = refl
 word_ends is_name (c ∷ cs) h = ap (λ b. if b then 0 else word_len is_name cs + 1) h
 
-one_on : (is_name : Bool) (c : ℕ) (cs : List ℕ) → ends_word is_name (c ∷ cs) ≡ false → word_len is_name (c ∷ cs) ≡ word_len is_name cs + 1
+one_on : (is_name : Bool) (c : ℕ) (cs : List ℕ) → ends_word is_name (c ∷ cs) ≡ false
+    → word_len is_name (c ∷ cs) ≡ word_len is_name cs + 1
 one_on is_name c cs h = ap (λ b. if b then 0 else word_len is_name cs + 1) h
 
-pub word_goes : (is_name : Bool) (cs : List ℕ) (i : ℕ) → i < length cs → ends_word is_name (drop i cs) ≡ false → word_len is_name (drop i cs) ≡ word_len is_name (drop (i + 1) cs) + 1
+pub word_goes : (is_name : Bool) (cs : List ℕ) (i : ℕ) → i < length cs → ends_word is_name (drop i cs) ≡ false
+    → word_len is_name (drop i cs) ≡ word_len is_name (drop (i + 1) cs) + 1
 word_goes is_name cs i less h =
     let e : drop i cs ≡ get_or cs i 0 ∷ drop (i + 1) cs = rw add-one (drop-cons cs i 0 less) in
     ap (word_len is_name) e ∙ one_on is_name (get_or cs i 0) (drop (i + 1) cs) (sym (ap (ends_word is_name) e) ∙ h)
@@ -27,14 +29,16 @@ word_over is_name [] (suc i) h = refl
 word_over is_name (c ∷ cs) zero h = absurd (omega arith)
 word_over is_name (c ∷ cs) (suc i) h = word_over is_name cs i (omega arith)
 
-pub read_text : (line text : List ℕ) → (text ≡ line) × IsUtf8 line → ◌≡◌ {A = Result (List ℕ) LexFault} (if is_utf8 line then Ok line else Err fault.NotText) (Ok text)
+pub read_text : (line text : List ℕ) → (text ≡ line) × IsUtf8 line
+    → ◌≡◌ {A = Result (List ℕ) LexFault} (if is_utf8 line then Ok line else Err fault.NotText) (Ok text)
 read_text line text h = ap (λ b. if b then Ok line else Err fault.NotText) (is_utf8-from_IsUtf8 line h.1) ∙ ap Ok (sym h.0)
 
 not_true : (b : Bool) → ¬ (b ≡ true) → b ≡ false
 not_true true h = absurd (h refl)
 not_true false h = refl
 
-pub read_no_text : (line : List ℕ) → ¬ (IsUtf8 line) → ◌≡◌ {A = Result (List ℕ) LexFault} (if is_utf8 line then Ok line else Err fault.NotText) (Err fault.NotText)
+pub read_no_text : (line : List ℕ) → ¬ (IsUtf8 line)
+    → ◌≡◌ {A = Result (List ℕ) LexFault} (if is_utf8 line then Ok line else Err fault.NotText) (Err fault.NotText)
 read_no_text line h = ap (λ b. if b then Ok line else Err fault.NotText) (not_true (is_utf8 line) (λ e. h (IsUtf8-from_is_utf8 line e)))
 
 -- no text holds nothing
@@ -47,12 +51,14 @@ pub items_none : (cs : List ℕ) → items_of 0 cs ≡ Ok []
 unfolding items_of
 items_none cs = refl
 
-pub items_more : (n : ℕ) (cs rest : List ℕ) (pair : Pair) (front : List Pair) → ends_line (skip_separators cs) ≡ false → item_at (skip_separators cs) ≡ Ok (pair, rest)
+pub items_more : (n : ℕ) (cs rest : List ℕ) (pair : Pair) (front : List Pair) → ends_line (skip_separators cs) ≡ false
+    → item_at (skip_separators cs) ≡ Ok (pair, rest)
     → after (front ++ pair ∷ []) (items_of n rest) ≡ after front (items_of (suc n) cs)
 unfolding items_of
 items_more n cs rest pair front h e = rw (h, e) (joined front pair (items_of n rest))
 
-pub items_fault : (n : ℕ) (cs : List ℕ) (front : List Pair) (e : LexFault) → ends_line (skip_separators cs) ≡ false → item_at (skip_separators cs) ≡ Err e
+pub items_fault : (n : ℕ) (cs : List ℕ) (front : List Pair) (e : LexFault) → ends_line (skip_separators cs) ≡ false
+    → item_at (skip_separators cs) ≡ Err e
     → after front (items_of (suc n) cs) ≡ Err e
 unfolding items_of
 items_fault n cs front e h was = rw (h, was) refl

@@ -81,7 +81,8 @@ equal a b = (same, λ e. itself _ _ (eq-eqb _ _ (ap (λ (x : ElementName). class
 abbrev IsOf : Class → Element → Type 0
 IsOf class e = class_of e ≡ class
 
-named_class : (solves : ℕ) (found : Option Element) (name : List ℕ) (pair : Pair) (e : Element) → IfOk (with_named solves found name pair e) (IsOf (class_of e))
+named_class : (solves : ℕ) (found : Option Element) (name : List ℕ) (pair : Pair) (e : Element)
+    → IfOk (with_named solves found name pair e) (IsOf (class_of e))
 unfolding with_named
 named_class solves found name pair (the_element.Vsource source) = any_ok (IsOf the.Vsource) _ _ (λ p. kept_ok (IsOf the.Vsource) (with_vsource p pair source) the_element.Vsource (λ x. refl))
 named_class solves found name pair (the_element.Linecode code) = any_ok (IsOf the.Linecode) _ _ (λ p. kept_ok (IsOf the.Linecode) (with_linecode p pair code) the_element.Linecode (λ x. refl))
@@ -94,11 +95,14 @@ named_class solves found name pair (the_element.CapControl control) = any_ok (Is
 named_class solves found name pair (the_element.Loadshape shape) = any_ok (IsOf the.Loadshape) _ _ (λ p. kept_ok (IsOf the.Loadshape) (with_loadshape p pair shape) the_element.Loadshape (λ x. refl))
 
 -- a pair keeps an element's class
-pub class_kept : (solves : ℕ) (found : Option Element) (pair : Pair) (e new : Element) → with_pair solves found pair e ≡ Ok new → class_of new ≡ class_of e
+pub class_kept : (solves : ℕ) (found : Option Element) (pair : Pair) (e new : Element)
+    → with_pair solves found pair e ≡ Ok new → class_of new ≡ class_of e
 unfolding with_pair
 class_kept solves found pair e new h = by (is_empty pair.name) h
   where
-    by : (b : Bool) → (if b then Err fault.Unsupported else with_named solves found (bytes (lower pair.name)) pair e) ≡ Ok new → class_of new ≡ class_of e
+    by : (b : Bool)
+        → (if b then Err fault.Unsupported else with_named solves found (bytes (lower pair.name)) pair e) ≡ Ok new
+        → class_of new ≡ class_of e
     by true h = cc h
     by false h = IfOk-at_ok (IsOf (class_of e)) h (named_class solves found (bytes (lower pair.name)) pair e)
 

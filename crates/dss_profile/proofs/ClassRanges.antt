@@ -55,7 +55,8 @@ use Rattle.dss_profile.proofs.FormRanges.{then_ok, any_ok, made_ok, kept_ok, num
 
 -- ---- sources
 
-pub vsource_in_range : (property : VsourceProperty) (pair : Pair) (source : Vsource) → VsourceInRange source → IfOk (with_vsource property pair source) VsourceInRange
+pub vsource_in_range : (property : VsourceProperty) (pair : Pair) (source : Vsource) → VsourceInRange source
+    → IfOk (with_vsource property pair source) VsourceInRange
 vsource_in_range of_source.Bus1 pair source h = made_ok _ VsourceInRange _ _ (bus_ok pair) (λ b r. assumption (h, r))
 vsource_in_range of_source.Phases pair source h = made_ok _ VsourceInRange _ _ (among_ok _ pair) (λ n r. assumption (h, r))
 vsource_in_range of_source.Basekv pair source h = made_ok _ VsourceInRange _ _ (number_ok _ _ pair) (λ n r. assumption (h, r))
@@ -81,7 +82,8 @@ capacitance_ok : (pair : Pair) → IfOk (capacitance_matrix_in pair) (All IsCapa
 unfolding capacitance_matrix_in
 capacitance_ok pair = matrix_ok _ _ pair (record { least = omega (arith, ints); most = omega (arith, ints) })
 
-code_data_in_range : (property : DataProperty) (pair : Pair) (code : Linecode) → LinecodeInRange code → IfOk (with_code_data property pair code) LinecodeInRange
+code_data_in_range : (property : DataProperty) (pair : Pair) (code : Linecode) → LinecodeInRange code
+    → IfOk (with_code_data property pair code) LinecodeInRange
 code_data_in_range of_data.Rmatrix pair code h = made_ok _ LinecodeInRange _ _ (impedance_ok pair) (λ v r. assumption (h, r))
 code_data_in_range of_data.Xmatrix pair code h = made_ok _ LinecodeInRange _ _ (impedance_ok pair) (λ v r. assumption (h, r))
 code_data_in_range of_data.Cmatrix pair code h = made_ok _ LinecodeInRange _ _ (capacitance_ok pair) (λ v r. assumption (h, r))
@@ -92,7 +94,8 @@ code_data_in_range of_data.X0 pair code h = made_ok _ LinecodeInRange _ _ (numbe
 code_data_in_range of_data.C1 pair code h = made_ok _ LinecodeInRange _ _ (number_ok _ _ pair) (λ v r. assumption (h, r))
 code_data_in_range of_data.C0 pair code h = made_ok _ LinecodeInRange _ _ (number_ok _ _ pair) (λ v r. assumption (h, r))
 
-pub linecode_in_range : (property : LinecodeProperty) (pair : Pair) (code : Linecode) → LinecodeInRange code → IfOk (with_linecode property pair code) LinecodeInRange
+pub linecode_in_range : (property : LinecodeProperty) (pair : Pair) (code : Linecode) → LinecodeInRange code
+    → IfOk (with_linecode property pair code) LinecodeInRange
 linecode_in_range of_code.Nphases pair code h = made_ok _ LinecodeInRange _ _ (whole_ok _ _ pair) (λ v r. assumption (h, r))
 linecode_in_range (of_code.Data property) pair code h = code_data_in_range property pair code h
 linecode_in_range of_code.Units pair code h = kept_ok LinecodeInRange _ _ (λ v. assumption h)
@@ -101,7 +104,8 @@ linecode_in_range of_code.Ignored pair code h = h
 
 -- ---- lines
 
-line_data_in_range : (property : DataProperty) (pair : Pair) (line : Line) → LineInRange line → IfOk (with_line_data property pair line) LineInRange
+line_data_in_range : (property : DataProperty) (pair : Pair) (line : Line) → LineInRange line
+    → IfOk (with_line_data property pair line) LineInRange
 line_data_in_range of_data.Rmatrix pair line h = made_ok _ LineInRange _ _ (impedance_ok pair) (λ v r. assumption (h, r))
 line_data_in_range of_data.Xmatrix pair line h = made_ok _ LineInRange _ _ (impedance_ok pair) (λ v r. assumption (h, r))
 line_data_in_range of_data.Cmatrix pair line h = made_ok _ LineInRange _ _ (capacitance_ok pair) (λ v r. assumption (h, r))
@@ -112,10 +116,12 @@ line_data_in_range of_data.X0 pair line h = made_ok _ LineInRange _ _ (number_ok
 line_data_in_range of_data.C1 pair line h = made_ok _ LineInRange _ _ (number_ok _ _ pair) (λ v r. assumption (h, r))
 line_data_in_range of_data.C0 pair line h = made_ok _ LineInRange _ _ (number_ok _ _ pair) (λ v r. assumption (h, r))
 
-copied_in_range : (name : List ℕ) (code : Linecode) (line : Line) → LinecodeInRange code → LineInRange line → LineInRange (with_code name code line)
+copied_in_range : (name : List ℕ) (code : Linecode) (line : Line) → LinecodeInRange code → LineInRange line
+    → LineInRange (with_code name code line)
 copied_in_range name code line c h = record { bus1 = h.bus1; bus2 = h.bus2; phases = c.nphases; length = h.length; rmatrix = c.rmatrix; xmatrix = c.xmatrix; cmatrix = c.cmatrix; r1 = c.r1; x1 = c.x1; r0 = c.r0; x0 = c.x0; c1 = c.c1; c0 = c.c0 }
 
-code_in_range : (code : Option Linecode) (pair : Pair) (line : Line) → IfSome code LinecodeInRange → LineInRange line → IfOk (with_code_in code pair line) LineInRange
+code_in_range : (code : Option Linecode) (pair : Pair) (line : Line) → IfSome code LinecodeInRange → LineInRange line
+    → IfOk (with_code_in code pair line) LineInRange
 code_in_range (Some code) pair line c h = any_ok LineInRange (name_in pair) _ (λ name. copied_in_range name code line c h)
 code_in_range None pair line c h = any_ok LineInRange (name_in pair) _ (λ name. tt)
 
@@ -129,7 +135,8 @@ switch_in_range true line h =
     record { bus1 = h.bus1; bus2 = h.bus2; phases = h.phases; length = short; rmatrix = h.rmatrix; xmatrix = h.xmatrix; cmatrix = h.cmatrix; r1 = one; x1 = one; r0 = one; x0 = one; c1 = c1; c0 = c0 }
 
 -- `code` is the line code that the pair names
-pub line_in_range : (code : Option Linecode) (property : LineProperty) (pair : Pair) (line : Line) → IfSome code LinecodeInRange → LineInRange line → IfOk (with_line code property pair line) LineInRange
+pub line_in_range : (code : Option Linecode) (property : LineProperty) (pair : Pair) (line : Line)
+    → IfSome code LinecodeInRange → LineInRange line → IfOk (with_line code property pair line) LineInRange
 line_in_range code of_line.Bus1 pair line c h = made_ok _ LineInRange _ _ (bus_ok pair) (λ v r. assumption (h, r))
 line_in_range code of_line.Bus2 pair line c h = made_ok _ LineInRange _ _ (bus_ok pair) (λ v r. assumption (h, r))
 line_in_range code of_line.Phases pair line c h = made_ok _ LineInRange _ _ (whole_ok _ _ pair) (λ v r. assumption (h, r))
@@ -143,7 +150,8 @@ line_in_range code of_line.Ignored pair line c h = h
 
 -- ---- transformers
 
-winding_in_range : (solves : ℕ) (property : WindingProperty) (pair : Pair) (winding : Winding) → WindingInRange winding → IfOk (with_winding solves property pair winding) WindingInRange
+winding_in_range : (solves : ℕ) (property : WindingProperty) (pair : Pair) (winding : Winding) → WindingInRange winding
+    → IfOk (with_winding solves property pair winding) WindingInRange
 winding_in_range solves of_winding.Bus pair winding h = made_ok _ WindingInRange _ _ (bus_ok pair) (λ v r. assumption (h, r))
 winding_in_range solves of_winding.Conn pair winding h = kept_ok WindingInRange _ _ (λ v. assumption h)
 winding_in_range solves of_winding.Kv pair winding h = made_ok _ WindingInRange _ _ (number_ok _ _ pair) (λ v r. assumption (h, r))
@@ -153,42 +161,50 @@ winding_in_range solves of_winding.Mintap pair winding h = made_ok _ WindingInRa
 winding_in_range solves of_winding.Maxtap pair winding h = made_ok _ WindingInRange _ _ (tap_ok pair) (λ v r. assumption (h, r))
 winding_in_range solves of_winding.Numtaps pair winding h = made_ok _ WindingInRange _ _ (whole_ok _ _ pair) (λ v r. assumption (h, r))
 
-with_windings : (xfmr : Transformer) (first second : Winding) → TransformerInRange xfmr → WindingInRange first → WindingInRange second → TransformerInRange (record xfmr { first = first; second = second })
+with_windings : (xfmr : Transformer) (first second : Winding) → TransformerInRange xfmr → WindingInRange first
+    → WindingInRange second → TransformerInRange (record xfmr { first = first; second = second })
 with_windings xfmr first second h a b = record { phases = h.phases; windings = h.windings; wdg = h.wdg; first = a; second = b; xhl = h.xhl; pct_loadloss = h.pct_loadloss; pct_noloadloss = h.pct_noloadloss; pct_imag = h.pct_imag }
 
 -- the winding that was chosen, by the test of which it is
-chosen_or : (b : Bool) (first second : Result Winding ModelFault) (xfmr : Transformer) → IfOk first WindingInRange → IfOk second WindingInRange → TransformerInRange xfmr
+chosen_or : (b : Bool) (first second : Result Winding ModelFault) (xfmr : Transformer) → IfOk first WindingInRange
+    → IfOk second WindingInRange → TransformerInRange xfmr
     → IfOk (if b then (first >>= λ w. Ok (record xfmr { first = w })) else (second >>= λ w. Ok (record xfmr { second = w }))) TransformerInRange
 chosen_or true first second xfmr p q h = then_ok _ TransformerInRange first _ p (λ w r. with_windings xfmr w xfmr.second h r h.second)
 chosen_or false first second xfmr p q h = then_ok _ TransformerInRange second _ q (λ w r. with_windings xfmr xfmr.first w h h.first r)
 
-chosen_in_range : (solves : ℕ) (property : WindingProperty) (pair : Pair) (xfmr : Transformer) → TransformerInRange xfmr → IfOk (with_chosen solves property pair xfmr) TransformerInRange
+chosen_in_range : (solves : ℕ) (property : WindingProperty) (pair : Pair) (xfmr : Transformer) → TransformerInRange xfmr
+    → IfOk (with_chosen solves property pair xfmr) TransformerInRange
 chosen_in_range solves property pair xfmr h =
     chosen_or (xfmr.wdg == 1) _ _ xfmr (winding_in_range solves property pair xfmr.first h.first) (winding_in_range solves property pair xfmr.second h.second) h
 
-kvas_in_range : (a b : ℤ) (xfmr : Transformer) → IsRating a → IsRating b → TransformerInRange xfmr → TransformerInRange (with_kvas a b xfmr)
+kvas_in_range : (a b : ℤ) (xfmr : Transformer) → IsRating a → IsRating b → TransformerInRange xfmr
+    → TransformerInRange (with_kvas a b xfmr)
 kvas_in_range a b xfmr p q h =
     let first = h.first in
     let second = h.second in
     with_windings xfmr _ _ h (assumption (first, p)) (assumption (second, q))
 
-kva_or : (b : Bool) (n : ℤ) (xfmr : Transformer) → IsRating n → TransformerInRange xfmr → TransformerInRange (if b then with_kvas n n xfmr else with_kvas xfmr.first.kva n xfmr)
+kva_or : (b : Bool) (n : ℤ) (xfmr : Transformer) → IsRating n → TransformerInRange xfmr
+    → TransformerInRange (if b then with_kvas n n xfmr else with_kvas xfmr.first.kva n xfmr)
 kva_or true n xfmr p h = kvas_in_range n n xfmr p p h
 kva_or false n xfmr p h = kvas_in_range xfmr.first.kva n xfmr h.first.kva p h
 
-pct_rs_in_range : (a b : ℤ) (xfmr : Transformer) → IsBetween (pos 0) (ones 100) a → IsBetween (pos 0) (ones 100) b → TransformerInRange xfmr → TransformerInRange (with_pct_rs a b xfmr)
+pct_rs_in_range : (a b : ℤ) (xfmr : Transformer) → IsBetween (pos 0) (ones 100) a → IsBetween (pos 0) (ones 100) b
+    → TransformerInRange xfmr → TransformerInRange (with_pct_rs a b xfmr)
 pct_rs_in_range a b xfmr p q h =
     let first = h.first in
     let second = h.second in
     with_windings xfmr _ _ h (assumption (first, p)) (assumption (second, q))
 
-losses_in_range : (n : ℤ) (xfmr : Transformer) → IsBetween (pos 0) (ones 200) n → TransformerInRange xfmr → TransformerInRange (with_losses n xfmr)
+losses_in_range : (n : ℤ) (xfmr : Transformer) → IsBetween (pos 0) (ones 200) n → TransformerInRange xfmr
+    → TransformerInRange (with_losses n xfmr)
 losses_in_range n xfmr p h =
     let half_in : IsBetween (pos 0) (ones 100) (half n) = half_between n p in
     let there : TransformerInRange (record xfmr { pct_loadloss = Some n }) = assumption (h, p) in
     pct_rs_in_range (half n) (half n) (record xfmr { pct_loadloss = Some n }) half_in half_in there
 
-both_in_range : (solves : ℕ) (property : BothProperty) (pair : Pair) (xfmr : Transformer) → TransformerInRange xfmr → IfOk (with_both solves property pair xfmr) TransformerInRange
+both_in_range : (solves : ℕ) (property : BothProperty) (pair : Pair) (xfmr : Transformer) → TransformerInRange xfmr
+    → IfOk (with_both solves property pair xfmr) TransformerInRange
 both_in_range solves of_both.Buses pair xfmr h = made_ok _ TransformerInRange _ _ (two_buses_ok pair) (λ v r. let first = h.first in let second = h.second in let p = r.0 in let q = r.1 in with_windings xfmr _ _ h (assumption (first, p)) (assumption (second, q)))
 both_in_range solves of_both.Conns pair xfmr h = kept_ok TransformerInRange _ _ (λ v. let first = h.first in let second = h.second in with_windings xfmr _ _ h (assumption first) (assumption second))
 both_in_range solves of_both.Kvs pair xfmr h = made_ok _ TransformerInRange _ _ (two_numbers_ok _ _ pair) (λ v r. let first = h.first in let second = h.second in let p = r.0 in let q = r.1 in with_windings xfmr _ _ h (assumption (first, p)) (assumption (second, q)))
@@ -200,7 +216,8 @@ zero_ok : (pair : Pair) → IfOk (zero_in pair) (λ n. n ≡ pos 0)
 unfolding zero_in
 zero_ok pair = any_ok _ (supported_among (0 ∷ []) pair) _ (λ n. refl)
 
-pub transformer_in_range : (solves : ℕ) (property : TransformerProperty) (pair : Pair) (xfmr : Transformer) → TransformerInRange xfmr → IfOk (with_transformer solves property pair xfmr) TransformerInRange
+pub transformer_in_range : (solves : ℕ) (property : TransformerProperty) (pair : Pair) (xfmr : Transformer)
+    → TransformerInRange xfmr → IfOk (with_transformer solves property pair xfmr) TransformerInRange
 transformer_in_range solves of_xfmr.Phases pair xfmr h = made_ok _ TransformerInRange _ _ (among_ok _ pair) (λ v r. assumption (h, r))
 transformer_in_range solves of_xfmr.Windings pair xfmr h = made_ok _ TransformerInRange _ _ (supported_ok _ pair) (λ v r. assumption (h, r))
 transformer_in_range solves of_xfmr.Wdg pair xfmr h = made_ok _ TransformerInRange _ _ (whole_ok _ _ pair) (λ v r. assumption (h, r))
@@ -217,7 +234,8 @@ transformer_in_range solves of_xfmr.Ignored pair xfmr h = h
 
 -- ---- banks of capacitors
 
-pub capacitor_in_range : (solves : ℕ) (property : CapacitorProperty) (pair : Pair) (bank : Capacitor) → CapacitorInRange bank → IfOk (with_capacitor solves property pair bank) CapacitorInRange
+pub capacitor_in_range : (solves : ℕ) (property : CapacitorProperty) (pair : Pair) (bank : Capacitor)
+    → CapacitorInRange bank → IfOk (with_capacitor solves property pair bank) CapacitorInRange
 capacitor_in_range solves of_bank.Bus1 pair bank h = made_ok _ CapacitorInRange _ _ (bus_ok pair) (λ v r. assumption (h, r))
 capacitor_in_range solves of_bank.Bus2 pair bank h = tt
 capacitor_in_range solves of_bank.Phases pair bank h = made_ok _ CapacitorInRange _ _ (among_ok _ pair) (λ v r. assumption (h, r))
@@ -230,7 +248,8 @@ capacitor_in_range solves of_bank.Basefreq pair bank h = kept_ok CapacitorInRang
 
 -- ---- loads
 
-pub load_in_range : (found : Bool) (property : LoadProperty) (pair : Pair) (load : Load) → LoadInRange load → IfOk (with_load found property pair load) LoadInRange
+pub load_in_range : (found : Bool) (property : LoadProperty) (pair : Pair) (load : Load) → LoadInRange load
+    → IfOk (with_load found property pair load) LoadInRange
 load_in_range found of_load.Bus1 pair load h = made_ok _ LoadInRange _ _ (bus_ok pair) (λ v r. assumption (h, r))
 load_in_range found of_load.Phases pair load h = made_ok _ LoadInRange _ _ (among_ok _ pair) (λ v r. assumption (h, r))
 load_in_range found of_load.Kv pair load h = made_ok _ LoadInRange _ _ (number_ok _ _ pair) (λ v r. assumption (h, r))
@@ -247,7 +266,8 @@ load_in_range found of_load.Ignored pair load h = h
 
 -- ---- controls
 
-pub regcontrol_in_range : (found : Bool) (property : RegControlProperty) (pair : Pair) (control : RegControl) → RegControlInRange control → IfOk (with_regcontrol found property pair control) RegControlInRange
+pub regcontrol_in_range : (found : Bool) (property : RegControlProperty) (pair : Pair) (control : RegControl)
+    → RegControlInRange control → IfOk (with_regcontrol found property pair control) RegControlInRange
 regcontrol_in_range found of_regcontrol.Transformer pair control h = kept_ok RegControlInRange _ _ (λ v. assumption h)
 regcontrol_in_range found of_regcontrol.Winding pair control h = made_ok _ RegControlInRange _ _ (whole_ok _ _ pair) (λ v r. assumption (h, r))
 regcontrol_in_range found of_regcontrol.Vreg pair control h = made_ok _ RegControlInRange _ _ (number_ok _ _ pair) (λ v r. assumption (h, r))
@@ -261,7 +281,8 @@ regcontrol_in_range found of_regcontrol.Tapdelay pair control h = made_ok _ RegC
 regcontrol_in_range found of_regcontrol.Maxtapchange pair control h = made_ok _ RegControlInRange _ _ (whole_ok _ _ pair) (λ v r. assumption (h, r))
 regcontrol_in_range found of_regcontrol.Ptphase pair control h = made_ok _ RegControlInRange _ _ (phase_ok pair) (λ v r. assumption (h, r))
 
-pub capcontrol_in_range : (found : Bool) (property : CapControlProperty) (pair : Pair) (control : CapControl) → CapControlInRange control → IfOk (with_capcontrol found property pair control) CapControlInRange
+pub capcontrol_in_range : (found : Bool) (property : CapControlProperty) (pair : Pair) (control : CapControl)
+    → CapControlInRange control → IfOk (with_capcontrol found property pair control) CapControlInRange
 capcontrol_in_range found of_capcontrol.Element pair control h = kept_ok CapControlInRange _ _ (λ v. assumption h)
 capcontrol_in_range found of_capcontrol.Terminal pair control h = made_ok _ CapControlInRange _ _ (whole_ok _ _ pair) (λ v r. assumption (h, r))
 capcontrol_in_range found of_capcontrol.Capacitor pair control h = kept_ok CapControlInRange _ _ (λ v. assumption h)
@@ -281,7 +302,8 @@ capcontrol_in_range found of_capcontrol.Ctphase pair control h = made_ok _ CapCo
 npts_ok : (pair : Pair) → IfOk (whole_between 0 8760 pair) (λ n. n ≤ 8760)
 npts_ok pair = IfOk-weaker (whole_between 0 8760 pair) _ _ (λ n r. r.most) (whole_ok 0 8760 pair)
 
-pub loadshape_in_range : (property : LoadshapeProperty) (pair : Pair) (shape : Loadshape) → LoadshapeInRange shape → IfOk (with_loadshape property pair shape) LoadshapeInRange
+pub loadshape_in_range : (property : LoadshapeProperty) (pair : Pair) (shape : Loadshape) → LoadshapeInRange shape
+    → IfOk (with_loadshape property pair shape) LoadshapeInRange
 loadshape_in_range of_shape.Npts pair shape h = made_ok _ LoadshapeInRange _ _ (npts_ok pair) (λ v r. assumption (h, r))
 loadshape_in_range of_shape.Interval pair shape h = made_ok _ LoadshapeInRange _ _ (supported_ok _ pair) (λ v r. assumption (h, r))
 loadshape_in_range of_shape.Mult pair shape h = made_ok _ LoadshapeInRange _ _ (numbers_ok (pos 0) (ones 1000) pair) (λ v r. assumption (h, r))

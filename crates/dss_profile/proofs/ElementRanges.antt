@@ -22,12 +22,14 @@ use Rattle.dss_profile.proofs.FormRanges.{count_by_test, then_ok, any_ok, made_o
 use Rattle.dss_profile.proofs.ClassRanges.{vsource_in_range, linecode_in_range, line_in_range, transformer_in_range, capacitor_in_range, load_in_range, regcontrol_in_range, capcontrol_in_range, loadshape_in_range}
 
 -- what a draft has become is in range where what is said is
-pub draft_in_range : {X : Type 0} (P : X → Type 0) (new : X) (r : Result Unit ModelError) (said : Result X ModelFault) → Makes new r said → IfOk said P → OnOk r (P new)
+pub draft_in_range : {X : Type 0} (P : X → Type 0) (new : X) (r : Result Unit ModelError) (said : Result X ModelFault)
+    → Makes new r said → IfOk said P → OnOk r (P new)
 draft_in_range P new (Ok done) said m h = IfOk-at_ok P m h
 draft_in_range P new (Err e) said m h = tt
 
 -- a value that has become what is said is a draft that has
-pub becomes_made : {X : Type 0} (old new : X) (r : Result Unit ModelError) (said : Result X ModelFault) → Becomes old new r said → Makes new r said
+pub becomes_made : {X : Type 0} (old new : X) (r : Result Unit ModelError) (said : Result X ModelFault)
+    → Becomes old new r said → Makes new r said
 becomes_made old new (Ok done) said h = h
 becomes_made old new (Err e) said h = h.0
 
@@ -45,7 +47,9 @@ code_found_in_range (Some (the.RegControl control)) h = tt
 code_found_in_range (Some (the.CapControl control)) h = tt
 code_found_in_range (Some (the.Loadshape shape)) h = tt
 
-pub named_in_range : (solves : ℕ) (found : Option Element) (name : List ℕ) (pair : Pair) (element : Element) → IfSome found ElementInRange → ElementInRange element → IfOk (with_named solves found name pair element) ElementInRange
+pub named_in_range : (solves : ℕ) (found : Option Element) (name : List ℕ) (pair : Pair) (element : Element)
+    → IfSome found ElementInRange → ElementInRange element
+    → IfOk (with_named solves found name pair element) ElementInRange
 unfolding with_named
 named_in_range solves found name pair (the.Vsource source) f h = any_ok ElementInRange _ _ (λ p. made_ok _ ElementInRange _ the.Vsource (vsource_in_range p pair source h) (λ x r. r))
 named_in_range solves found name pair (the.Linecode code) f h = any_ok ElementInRange _ _ (λ p. made_ok _ ElementInRange _ the.Linecode (linecode_in_range p pair code h) (λ x r. r))
@@ -71,7 +75,8 @@ mode_in_range mode.Daily options h =
 at_most : (high : ℕ) (pair : Pair) → IfOk (whole_between 0 high pair) (λ n. n ≤ high)
 at_most high pair = IfOk-weaker (whole_between 0 high pair) _ _ (λ n r. r.most) (whole_ok 0 high pair)
 
-option_in_range : (name : OptionName) (pair : Pair) (options : Options) → OptionsInRange options → IfOk (with_option name pair options) OptionsInRange
+option_in_range : (name : OptionName) (pair : Pair) (options : Options) → OptionsInRange options
+    → IfOk (with_option name pair options) OptionsInRange
 option_in_range option.Mode pair options h = kept_ok OptionsInRange _ _ (λ m. mode_in_range m options h)
 option_in_range option.Number pair options h = made_ok _ OptionsInRange _ _ (whole_ok _ _ pair) (λ v r. assumption (h, r))
 option_in_range option.Stepsize pair options h = kept_ok OptionsInRange _ _ (λ v. assumption h)
@@ -82,10 +87,12 @@ option_in_range option.Controlmode pair options h = kept_ok OptionsInRange _ _ (
 option_in_range option.Voltagebases pair options h = made_ok _ OptionsInRange _ _ (numbers_ok _ _ pair) (λ v r. assumption (h, r))
 option_in_range option.Defaultbasefrequency pair options h = made_ok _ OptionsInRange _ _ (supported_ok _ pair) (λ v r. assumption (h, r))
 
-named_option_in_range : (pair : Pair) (options : Options) → OptionsInRange options → IfOk (with_named_option pair options) OptionsInRange
+named_option_in_range : (pair : Pair) (options : Options) → OptionsInRange options
+    → IfOk (with_named_option pair options) OptionsInRange
 unfolding with_named_option
 named_option_in_range pair options h = any_ok OptionsInRange _ _ (λ name. option_in_range name pair options h)
 
-pub options_in_range : (pairs : List Pair) (options : Options) → OptionsInRange options → IfOk (with_options pairs options) OptionsInRange
+pub options_in_range : (pairs : List Pair) (options : Options) → OptionsInRange options
+    → IfOk (with_options pairs options) OptionsInRange
 options_in_range [] options h = h
 options_in_range (p ∷ ps) options h = then_ok _ OptionsInRange (with_named_option p options) (with_options ps) (named_option_in_range p options h) (options_in_range ps)

@@ -22,22 +22,27 @@ use Rattle.dss_profile.specs.Ranges.{IsBetween, IsCountBetween, IsOneOf, IsAngle
 -- ---- steps
 
 -- what is made of an answer with P has Q
-pub then_ok : {A B : Type 0} (P : A → Type 0) (Q : B → Type 0) (r : Result A ModelFault) (f : A → Result B ModelFault) → IfOk r P → ((a : A) → P a → IfOk (f a) Q) → IfOk (r >>= f) Q
+pub then_ok : {A B : Type 0} (P : A → Type 0) (Q : B → Type 0) (r : Result A ModelFault) (f : A → Result B ModelFault)
+    → IfOk r P → ((a : A) → P a → IfOk (f a) Q) → IfOk (r >>= f) Q
 then_ok P Q (Ok a) f h k = k a h
 then_ok P Q (Err e) f h k = tt
 
-pub any_ok : {A B : Type 0} (Q : B → Type 0) (r : Result A ModelFault) (f : A → Result B ModelFault) → ((a : A) → IfOk (f a) Q) → IfOk (r >>= f) Q
+pub any_ok : {A B : Type 0} (Q : B → Type 0) (r : Result A ModelFault) (f : A → Result B ModelFault)
+    → ((a : A) → IfOk (f a) Q) → IfOk (r >>= f) Q
 any_ok Q (Ok a) f k = k a
 any_ok Q (Err e) f k = tt
 
 -- what is made of it without fail, likewise
-pub made_ok : {A B : Type 0} (P : A → Type 0) (Q : B → Type 0) (r : Result A ModelFault) (f : A → B) → IfOk r P → ((a : A) → P a → Q (f a)) → IfOk (r >>= λ a. Ok (f a)) Q
+pub made_ok : {A B : Type 0} (P : A → Type 0) (Q : B → Type 0) (r : Result A ModelFault) (f : A → B) → IfOk r P
+    → ((a : A) → P a → Q (f a)) → IfOk (r >>= λ a. Ok (f a)) Q
 made_ok P Q r f h k = then_ok P Q r (λ a. Ok (f a)) h k
 
-pub kept_ok : {A B : Type 0} (Q : B → Type 0) (r : Result A ModelFault) (f : A → B) → ((a : A) → Q (f a)) → IfOk (r >>= λ a. Ok (f a)) Q
+pub kept_ok : {A B : Type 0} (Q : B → Type 0) (r : Result A ModelFault) (f : A → B) → ((a : A) → Q (f a))
+    → IfOk (r >>= λ a. Ok (f a)) Q
 kept_ok Q r f k = any_ok Q r (λ a. Ok (f a)) k
 
-pub if_ok : {A : Type 0} (Q : A → Type 0) (b : Bool) (x : A) (e : ModelFault) → (IsTrue b → Q x) → IfOk (if b then Ok x else Err e) Q
+pub if_ok : {A : Type 0} (Q : A → Type 0) (b : Bool) (x : A) (e : ModelFault) → (IsTrue b → Q x)
+    → IfOk (if b then Ok x else Err e) Q
 if_ok Q true x e h = h refl
 if_ok Q false x e h = tt
 
@@ -93,7 +98,8 @@ one_later : (m n : ℕ) (ms : List ℕ) → IsOneOf ms n → IsOneOf (m ∷ ms) 
 one_later m n [] h = absurd h
 one_later m n (k ∷ ms) h = inr h
 
-one_found : (m : ℕ) (ms : List ℕ) (n : ℤ) (b : Bool) → IfSome (one_of ms n) (IsOneOf ms) → IfSome (if b then Some m else one_of ms n) (IsOneOf (m ∷ ms))
+one_found : (m : ℕ) (ms : List ℕ) (n : ℤ) (b : Bool) → IfSome (one_of ms n) (IsOneOf ms)
+    → IfSome (if b then Some m else one_of ms n) (IsOneOf (m ∷ ms))
 one_found m ms n true h = one_first m ms
 one_found m ms n false h = weaker_some (one_of ms n) _ _ (λ k. one_later m k ms) h
 
@@ -161,7 +167,8 @@ pub angle_ok : (pair : Pair) → IfOk (angle_in pair) IsAngle
 unfolding angle_in
 angle_ok pair = any_ok _ (number_in pair) _ (λ n. if_ok _ (has_angle n) _ _ (λ h. angle_of_turn n (turn_by_test n h)))
 
-phase_between : (n : ℤ) → IsBetween (neg_ℤ (ones 1_000_000_000)) (ones 1_000_000_000) n → IsPhaseNumber (int_div n (pos 1_000_000_000))
+phase_between : (n : ℤ) → IsBetween (neg_ℤ (ones 1_000_000_000)) (ones 1_000_000_000) n
+    → IsPhaseNumber (int_div n (pos 1_000_000_000))
 phase_between (pos a) h = record { least = omega (arith, ints); most = omega (arith, ints) }
 phase_between (negsuc a) h = record { least = omega (arith, ints); most = omega (arith, ints) }
 
@@ -187,7 +194,8 @@ two_of_all P (a ∷ []) h = tt
 two_of_all P (a ∷ b ∷ []) h = (All-head P a (b ∷ []) h, All-head P b [] (All-tail P a (b ∷ []) h))
 two_of_all P (a ∷ b ∷ c ∷ xs) h = tt
 
-pub two_numbers_ok : (low high : ℤ) (pair : Pair) → IfOk (two_numbers_between low high pair) (λ n. IsBetween low high n.0 × IsBetween low high n.1)
+pub two_numbers_ok : (low high : ℤ) (pair : Pair)
+    → IfOk (two_numbers_between low high pair) (λ n. IsBetween low high n.0 × IsBetween low high n.1)
 unfolding two_numbers_between
 two_numbers_ok low high pair = then_ok _ _ (numbers_between low high pair) _ (numbers_ok low high pair) (two_of_all _)
 
@@ -203,7 +211,8 @@ node_ok (digit ∷ []) = if_ok (λ n. n ≤ 9) (is_ascii_digit digit) _ _ (λ h.
 node_ok (a ∷ b ∷ part) = tt
 
 -- so many answers, each with P
-each_ok : {A B : Type 0} (P : B → Type 0) (f : A → Result B ModelFault) → ((a : A) → IfOk (f a) P) → (xs : List A) → IfOk (each f xs) (λ ys. All P ys × (length ys ≡ length xs))
+each_ok : {A B : Type 0} (P : B → Type 0) (f : A → Result B ModelFault) → ((a : A) → IfOk (f a) P) → (xs : List A)
+    → IfOk (each f xs) (λ ys. All P ys × (length ys ≡ length xs))
 each_ok P f h [] = (All-nil P, refl)
 each_ok P f h (x ∷ xs) = then_ok P _ (f x) _ (h x) (λ y p. made_ok (λ ys. All P ys × (length ys ≡ length xs)) _ (each f xs) (λ ys. y ∷ ys) (each_ok P f h xs) (λ ys q. (All-cons P y ys p q.0, ap suc q.1)))
 
@@ -214,7 +223,8 @@ parts_ok (name ∷ parts) = by (is_name name && nat_le (length parts) 4) refl
     few : (nodes : List ℕ) → length nodes ≡ length parts → nat_le (length parts) 4 ≡ true → length nodes ≤ 4
     few nodes same t = grind (arith, nat_tests, same, t)
 
-    by : (b : Bool) → (is_name name && nat_le (length parts) 4) ≡ b → IfOk (if b then (each node_of parts >>= λ nodes. Ok (record { name = name; nodes = nodes })) else Err fault.BadValue) BusInRange
+    by : (b : Bool) → (is_name name && nat_le (length parts) 4) ≡ b
+        → IfOk (if b then (each node_of parts >>= λ nodes. Ok (record { name = name; nodes = nodes })) else Err fault.BadValue) BusInRange
     by true t =
         let most = (both (is_name name) (nat_le (length parts) 4) t).1 in
         made_ok (λ nodes. All (λ n. n ≤ 9) nodes × (length nodes ≡ length parts)) BusInRange (each node_of parts) (λ nodes. record { name = name; nodes = nodes }) (each_ok (λ n. n ≤ 9) node_of node_ok parts)
@@ -238,7 +248,8 @@ two_buses_ok pair = then_ok (All BusInRange) _ (cells_in pair >>= each bus_of_ce
 
 -- ---- matrices
 
-rows_by_test : (low high : ℤ) (rows : List (List ℤ)) → IsTrue (list_all (list_all (is_within low high)) rows) → All (All (IsBetween low high)) rows
+rows_by_test : (low high : ℤ) (rows : List (List ℤ)) → IsTrue (list_all (list_all (is_within low high)) rows)
+    → All (All (IsBetween low high)) rows
 rows_by_test low high [] h = All-nil _
 rows_by_test low high (row ∷ rows) h =
     let t = both (list_all (is_within low high) row) (list_all (list_all (is_within low high)) rows) h in
@@ -271,16 +282,19 @@ all_rows P row (suc n) h = All-append P (row_by_row row n) (row n) (all_rows P r
 all_symmetric : (P : ℤ → Type 0) (rows : List (List ℤ)) → P (pos 0) → All (All P) rows → All P (symmetric rows)
 all_symmetric P rows p h = all_rows P _ (length rows) (λ i. all_first P (mirrored rows i) (length rows) (λ j. mirrored_has P rows i j p h))
 
-whole_or : (P : ℤ → Type 0) (square triangle : Bool) (xs ys : List ℤ) (e : ModelFault) → All P xs → All P ys → IfOk (if square then Ok xs else if triangle then Ok ys else Err e) (All P)
+whole_or : (P : ℤ → Type 0) (square triangle : Bool) (xs ys : List ℤ) (e : ModelFault) → All P xs → All P ys
+    → IfOk (if square then Ok xs else if triangle then Ok ys else Err e) (All P)
 whole_or P true triangle xs ys e p q = p
 whole_or P false true xs ys e p q = q
 whole_or P false false xs ys e p q = tt
 
-whole_matrix_ok : (P : ℤ → Type 0) (rows : List (List ℤ)) → P (pos 0) → All (All P) rows → IfOk (whole_matrix rows) (All P)
+whole_matrix_ok : (P : ℤ → Type 0) (rows : List (List ℤ)) → P (pos 0) → All (All P) rows
+    → IfOk (whole_matrix rows) (All P)
 unfolding whole_matrix
 whole_matrix_ok P rows p h = whole_or P (is_square rows) (is_triangle_from 0 rows) (joined rows) (symmetric rows) _ (all_joined P rows h) (all_symmetric P rows p h)
 
-matrix_or : (Q : List ℤ → Type 0) (grouped : Bool) (r : Result (List ℤ) ModelFault) (e : ModelFault) → IfOk r Q → IfOk (if grouped then r else Err e) Q
+matrix_or : (Q : List ℤ → Type 0) (grouped : Bool) (r : Result (List ℤ) ModelFault) (e : ModelFault) → IfOk r Q
+    → IfOk (if grouped then r else Err e) Q
 matrix_or Q true r e h = h
 matrix_or Q false r e h = tt
 
@@ -288,7 +302,8 @@ rows_ok : (low high : ℤ) (rows : List (List ℤ)) → IfOk (rows_within low hi
 rows_ok low high rows = if_ok _ (list_all (list_all (is_within low high)) rows) rows _ (rows_by_test low high rows)
 
 -- a range of a matrix includes 0
-pub matrix_ok : (low high : ℤ) (pair : Pair) → IsBetween low high (pos 0) → IfOk (matrix_between low high pair) (All (IsBetween low high))
+pub matrix_ok : (low high : ℤ) (pair : Pair) → IsBetween low high (pos 0)
+    → IfOk (matrix_between low high pair) (All (IsBetween low high))
 unfolding matrix_between
 matrix_ok low high pair p =
     matrix_or _ pair.grouped _ _ (then_ok _ _ (from_lexer (matrix_of pair.value) >>= rows_within low high) whole_matrix (any_ok _ (from_lexer (matrix_of pair.value)) _ (rows_ok low high)) (λ rows h. whole_matrix_ok (IsBetween low high) rows p h))

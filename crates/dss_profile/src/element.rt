@@ -235,7 +235,8 @@ impl Element {
         found: Option<&Element>,
     ) -> Result<(), ModelError>
         ensures value { Becomes self.old self.new result (with_pair solves (option_copied found.entry) pair.now self.old) }
-        ensures in_range { IfSome (option_copied found.entry) ElementInRange → ElementInRange self.old → OnOk result (ElementInRange self.new) }
+        ensures in_range { IfSome (option_copied found.entry) ElementInRange → ElementInRange self.old →
+            OnOk result (ElementInRange self.new) }
     {
         if pair.name.is_empty() {
             return Err(ModelError::Fault(ModelFault::Unsupported));

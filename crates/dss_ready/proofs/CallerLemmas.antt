@@ -16,7 +16,8 @@ use Rattle.dss_ready.proofs.Passing.{Passes, each_passes}
 pub use Rattle.dss_ready.proofs.Limits.{too_many_within}
 
 -- what holds of all elements holds of the one at a place
-at_place : (P : ElementName × Element → Type 0) (elements : Elements) (place : ℕ) (entry : ElementName × Element) → All P elements → slice_get elements place ≡ Some entry → P entry
+at_place : (P : ElementName × Element → Type 0) (elements : Elements) (place : ℕ) (entry : ElementName × Element)
+    → All P elements → slice_get elements place ≡ Some entry → P entry
 at_place P elements place entry all is = subst P (get_or_from_slice_get elements place entry entry is) (all place entry (slice_get_within elements place entry is))
 
 -- a circuit that passed the tests of Solve is what the law says
@@ -27,7 +28,8 @@ passed circuit h = record {
   each = fit;
 }
   where
-    fit : (place : ℕ) (entry : ElementName × Element) → slice_get circuit.elements place ≡ Some entry → IsFit circuit (take place circuit.elements) entry
+    fit : (place : ℕ) (entry : ElementName × Element) → slice_get circuit.elements place ≡ Some entry
+        → IsFit circuit (take place circuit.elements) entry
     fit place entry is =
         let hertz = circuit.options.defaultbasefrequency in
         let p : Passes hertz circuit.elements (take place circuit.elements) entry = each_passes hertz circuit.elements [] circuit.elements h.no_own place entry is in

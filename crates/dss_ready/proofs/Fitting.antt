@@ -31,7 +31,8 @@ use Rattle.dss_ready.specs.Support.{are_powers_unequal, differs_from, is_support
 
 -- ---- tests
 
-pub without_fault : (answer : Result Unit TerminalFault) → is_count_fault answer ≡ false → is_support_fault answer ≡ false → answer ≡ Ok tt
+pub without_fault : (answer : Result Unit TerminalFault) → is_count_fault answer ≡ false
+    → is_support_fault answer ≡ false → answer ≡ Ok tt
 without_fault (Ok done) c s = refl
 without_fault (Err terminal.WrongCount) c s = cc
 without_fault (Err terminal.Unsupported) c s = cc
@@ -58,7 +59,8 @@ same_frequency hertz (Some g) h f is = let e : g ≡ f = cc in sym e ∙ equal_o
 -- ---- windings
 
 module _ (elements : Elements) (name : List ℕ) where
-  winding_fit : (number : ℕ) (w : Winding) → is_winding_outside elements name number w ≡ false → IsWindingFit elements name number w
+  winding_fit : (number : ℕ) (w : Winding) → is_winding_outside elements name number w ≡ false
+      → IsWindingFit elements name number w
   winding_fit number w h =
       let parts = or_parts (is_step_outside w) (is_tap_outside w && is_winding_controlled elements name number) h in
       let taps : IsTrue (is_winding_controlled elements name number) → (ltb w.tap w.mintap ≡ false) × (ltb w.maxtap w.tap ≡ false) =
@@ -69,12 +71,14 @@ module _ (elements : Elements) (name : List ℕ) where
         most = λ on. ltb-false w.maxtap w.tap (taps on).1;
       }
 
-  transformer_fit : (t : Transformer) → is_transformer_outside elements name t ≡ false → are_powers_unequal (the.Transformer t) ≡ false → IsTransformerFit elements name t
+  transformer_fit : (t : Transformer) → is_transformer_outside elements name t ≡ false
+      → are_powers_unequal (the.Transformer t) ≡ false → IsTransformerFit elements name t
   transformer_fit t h powers =
       let parts = or_parts (is_winding_outside elements name 1 t.first) (is_winding_outside elements name 2 t.second) h in
       record { first = winding_fit 1 t.first parts.0; second = winding_fit 2 t.second parts.1; powers = equal_ones t.first.kva t.second.kva powers }
 
-  shape_fit : (s : Loadshape) → (is_shape_short s && is_shape_followed elements name) ≡ false → IsShapeFit elements name s
+  shape_fit : (s : Loadshape) → (is_shape_short s && is_shape_followed elements name) ≡ false
+      → IsShapeFit elements name s
   shape_fit s h =
       let parts : IsTrue (is_shape_followed elements name) → (eqb s.npts 0 ≡ false) × (ltb (length s.mult) s.npts ≡ false) =
       λ on. or_parts (eqb s.npts 0) (ltb (length s.mult) s.npts) (and_off (is_shape_short s) (is_shape_followed elements name) h on) in
@@ -103,7 +107,8 @@ phase_fit e phase h = record { least = λ n is. (parts n is).0; most = λ n is. 
         let both = and_parts (int_le (pos 1) phase) (int_le phase (pos n)) (is_true (int_le (pos 1) phase && int_le phase (pos n)) inside) in
         (le_z_yes (subst T (sym both.0) tt), le_z_yes (subst T (sym both.1) tt))
 
-phase_of : (found : Option Element) (e : Element) (phase : ℤ) → found ≡ Some e → is_phase_outside phase (phases_given found) ≡ false → IsPhaseOf e phase
+phase_of : (found : Option Element) (e : Element) (phase : ℤ) → found ≡ Some e
+    → is_phase_outside phase (phases_given found) ≡ false → IsPhaseOf e phase
 phase_of found e phase is h = phase_fit e phase (ap (λ o. is_phase_outside phase (phases_given o)) (sym is) ∙ h)
 
 apart : (kind : ControlQuantity) (on off : ℤ) → are_settings_outside kind on off ≡ false → AreSettingsApart kind on off
@@ -112,13 +117,15 @@ apart quantity.Current on off h = below off on h
 apart quantity.Kvar on off h = below off on h
 
 module _ (elements before : Elements) where
-  regcontrol_fit : (c : RegControl) → is_regcontrol_outside elements c ≡ false → lacks_transformer elements c ≡ false → is_second_control before (the.RegControl c) ≡ false
+  regcontrol_fit : (c : RegControl) → is_regcontrol_outside elements c ≡ false → lacks_transformer elements c ≡ false
+      → is_second_control before (the.RegControl c) ≡ false
       → IsRegControlFit elements before c
   regcontrol_fit c inside lacks second =
       let found = is_there (element_given elements class.Transformer c.transformer) lacks in
       record { transformer = found.element; there = found.is; phase = phase_of (element_given elements class.Transformer c.transformer) found.element c.ptphase found.is inside; first = second }
 
-  capcontrol_fit : (c : CapControl) → is_capcontrol_outside elements c ≡ false → lacks_line_or_bank elements c ≡ false → is_second_control before (the.CapControl c) ≡ false
+  capcontrol_fit : (c : CapControl) → is_capcontrol_outside elements c ≡ false → lacks_line_or_bank elements c ≡ false
+      → is_second_control before (the.CapControl c) ≡ false
       → IsCapControlFit elements before c
   capcontrol_fit c inside lacks second =
       let line = element_given elements class.Line c.element in
@@ -140,7 +147,8 @@ module _ (elements before : Elements) where
       }
 
   -- the values of an element that passes
-  pub values_fit : (name : ElementName) (e : Element) → is_outside_by elements name e ≡ false → is_part_wrong elements name e ≡ false → are_powers_unequal e ≡ false
+  pub values_fit : (name : ElementName) (e : Element) → is_outside_by elements name e ≡ false
+      → is_part_wrong elements name e ≡ false → are_powers_unequal e ≡ false
       → is_second_control before e ≡ false → lacks_impedance e ≡ false → AreValuesFit elements before name e
   values_fit name (the.Vsource v) inside parts powers second impedance = record { below = inside }
   values_fit name (the.Line l) inside parts powers second impedance = record { matrices = parts; impedance = is_true (is_some l.form) impedance }

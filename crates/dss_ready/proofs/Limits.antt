@@ -13,6 +13,7 @@ pub few_where_laid_out : (o : Option ℕ) (es : Elements) (l : LayoutView) → l
 few_where_laid_out None es l h = refl
 few_where_laid_out (Some k) es l h = cc
 
-pub many_where_not_laid_out : (o : Option ℕ) (es : Elements) (k : ℕ) → laid_out_unless o es ≡ Err (TooMany k) → o ≡ Some k
+pub many_where_not_laid_out : (o : Option ℕ) (es : Elements) (k : ℕ) → laid_out_unless o es ≡ Err (TooMany k)
+    → o ≡ Some k
 many_where_not_laid_out None es k h = cc
 many_where_not_laid_out (Some j) es k h = cc

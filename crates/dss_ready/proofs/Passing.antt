@@ -22,7 +22,8 @@ record AreFalse (outside count unsupported second impedance : Bool) : Type 0 whe
   second_is : second ≡ false
   impedance_is : impedance ≡ false
 
-none_applies : (outside count unsupported second impedance : Bool) → first_cause outside count unsupported second impedance ≡ None
+none_applies : (outside count unsupported second impedance : Bool)
+    → first_cause outside count unsupported second impedance ≡ None
     → AreFalse outside count unsupported second impedance
 none_applies true c u s i h = cc
 none_applies false true u s i h = cc
@@ -43,7 +44,8 @@ module _ (hertz : ℕ) (elements : Elements) where
     pub second : is_second_control before e.1 ≡ false
     pub impedance : lacks_impedance e.1 ≡ false
 
-  passes_without_cause : (before : Elements) (e : ElementName × Element) → cause_of hertz elements before e ≡ None → Passes before e
+  passes_without_cause : (before : Elements) (e : ElementName × Element) → cause_of hertz elements before e ≡ None
+      → Passes before e
   passes_without_cause before e h =
       let counts = is_count_fault (tested (terminal_numbers e.1)) in
       let supports = is_support_fault (tested (terminal_numbers e.1)) in

@@ -32,12 +32,15 @@ has_shape noted shape = list_any (text_eq shape) noted.shapes
 
 -- noted is just what these elements name
 pub record Notes (noted : Noted) (elements : Elements) : Type 0 where
-  pub windings : (transformer : List ℕ) (winding : ℕ) → has_winding noted transformer winding ≡ is_winding_controlled elements transformer winding
+  pub windings : (transformer : List ℕ) (winding : ℕ)
+      → has_winding noted transformer winding ≡ is_winding_controlled elements transformer winding
   pub banks : (capacitor : List ℕ) → has_bank noted capacitor ≡ is_bank_controlled elements capacitor
   pub shapes : (shape : List ℕ) → has_shape noted shape ≡ is_shape_followed elements shape
 
 -- what an element names is noted besides
 pub record NotesToo (old new : Noted) (element : Element) : Type 0 where
-  pub windings : (transformer : List ℕ) (winding : ℕ) → has_winding new transformer winding ≡ (controls_winding transformer winding element || has_winding old transformer winding)
-  pub banks : (capacitor : List ℕ) → has_bank new capacitor ≡ (controls_bank capacitor element || has_bank old capacitor)
+  pub windings : (transformer : List ℕ) (winding : ℕ)
+      → has_winding new transformer winding ≡ (controls_winding transformer winding element || has_winding old transformer winding)
+  pub banks : (capacitor : List ℕ)
+      → has_bank new capacitor ≡ (controls_bank capacitor element || has_bank old capacitor)
   pub shapes : (shape : List ℕ) → has_shape new shape ≡ (follows_shape shape element || has_shape old shape)

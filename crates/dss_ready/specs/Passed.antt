@@ -119,7 +119,8 @@ pub record Passed (circuit : CircuitView) : Type 0 where
   pub complex : complex_count (layout_of circuit.elements) ≤ most_complex
   pub magnitudes : length (layout_of circuit.elements).magnitudes ≤ most_magnitudes
   -- the element at each place
-  pub each : (place : ℕ) (entry : ElementName × Element) → slice_get circuit.elements place ≡ Some entry → IsFit circuit (take place circuit.elements) entry
+  pub each : (place : ℕ) (entry : ElementName × Element) → slice_get circuit.elements place ≡ Some entry
+      → IsFit circuit (take place circuit.elements) entry
 
 -- what it means to have passed the tests of Solve
 abbrev pub PassedLaw : Type 0

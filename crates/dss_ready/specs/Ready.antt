@@ -29,8 +29,11 @@ blame_at cause elements place = option_map (blame_on cause) (slice_get elements 
 -- there is none, the first with a node that isn't fed
 pub data IsToBlame (circuit : CircuitView) : Blame → Type 0 where
   for_own : (blame : Blame) → own_blame circuit ≡ Err blame → IsToBlame circuit blame
-  for_many : (blame : Blame) (place : ℕ) → own_blame circuit ≡ Ok tt → first_too_many circuit.elements ≡ Some place → blame_at fault.TooMany circuit.elements place ≡ Some blame → IsToBlame circuit blame
-  for_isolated : (blame : Blame) (place : ℕ) → own_blame circuit ≡ Ok tt → first_too_many circuit.elements ≡ None → IsFirstIsolated circuit.elements place → blame_at fault.IsolatedNode circuit.elements place ≡ Some blame → IsToBlame circuit blame
+  for_many : (blame : Blame) (place : ℕ) → own_blame circuit ≡ Ok tt → first_too_many circuit.elements ≡ Some place
+      → blame_at fault.TooMany circuit.elements place ≡ Some blame → IsToBlame circuit blame
+  for_isolated : (blame : Blame) (place : ℕ) → own_blame circuit ≡ Ok tt → first_too_many circuit.elements ≡ None
+      → IsFirstIsolated circuit.elements place → blame_at fault.IsolatedNode circuit.elements place ≡ Some blame
+      → IsToBlame circuit blame
 
 -- a circuit passed the tests of Solve: no element is to blame
 pub record HasPassed (circuit : CircuitView) : Type 0 where

@@ -63,7 +63,8 @@ fn is_winding_range_fault(
     number: u32,
     winding: &Winding,
 ) -> Result<bool, AllocError>
-    ensures { (elements : Elements) → Notes mentions.now elements → IfOk result (λ outside. outside ≡ is_winding_outside elements name.now number winding.now) }
+    ensures { (elements : Elements) → Notes mentions.now elements →
+        IfOk result (λ outside. outside ≡ is_winding_outside elements name.now number winding.now) }
 {
     if is_step_small(winding) {
         return Ok(true);
@@ -79,7 +80,8 @@ fn is_transformer_range_fault(
     name: &Text,
     transformer: &Transformer,
 ) -> Result<bool, AllocError>
-    ensures { (elements : Elements) → Notes mentions.now elements → IfOk result (λ outside. outside ≡ is_transformer_outside elements name.now transformer.now) }
+    ensures { (elements : Elements) → Notes mentions.now elements →
+        IfOk result (λ outside. outside ≡ is_transformer_outside elements name.now transformer.now) }
 {
     if is_winding_range_fault(mentions, name, 1, &transformer.first)? {
         return Ok(true);

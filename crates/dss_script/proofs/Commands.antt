@@ -26,13 +26,15 @@ given_first place (Ok verb) rest = refl
 given_first place (Err c) rest = refl
 
 -- the names of a command's files stand first in what it says
-command_first : (files : Files) (folder : List ℕ) (c : Command) (rest : Script) → names_first (command_says files folder c rest) ≡ (verb_filled files folder c.verb).names
+command_first : (files : Files) (folder : List ℕ) (c : Command) (rest : Script)
+    → names_first (command_says files folder c rest) ≡ (verb_filled files folder c.verb).names
 command_first files folder c rest =
     let f = verb_filled files folder c.verb in
     each_first f.names (given c.place f.filled rest) ∙ ap (λ ns. f.names ++ ns) (given_first c.place f.filled rest) ∙ append-nil f.names
 
 reached_given : (files : Files) (folder : List ℕ) (c : Command) (rest from now : Script) (r : Result Verb ScriptCause) (old mid new : Option (List (List ℕ)))
-    → Reached from now old mid → now ≡ command_says files folder c rest → (verb_filled files folder c.verb).filled ≡ r → Grows mid new (verb_filled files folder c.verb).names
+    → Reached from now old mid → now ≡ command_says files folder c rest → (verb_filled files folder c.verb).filled ≡ r
+    → Grows mid new (verb_filled files folder c.verb).names
     → Reached from (given c.place r rest) old new
 reached_given files folder c rest from now r old mid new reached e h g =
     let f = verb_filled files folder c.verb in
@@ -45,17 +47,20 @@ reached_given files folder c rest from now r old mid new reached e h g =
     }
 
 pub reached_command : (files : Files) (folder : List ℕ) (c : Command) (rest from now : Script) (v : Verb) (old mid new : Option (List (List ℕ)))
-    → Reached from now old mid → now ≡ command_says files folder c rest → Fills c.place (verb_filled files folder c.verb) mid new (Ok v)
+    → Reached from now old mid → now ≡ command_says files folder c rest
+    → Fills c.place (verb_filled files folder c.verb) mid new (Ok v)
     → Reached from (gives (record { place = c.place; verb = v }) rest) old new
 reached_command files folder c rest from now v old mid new reached e f = reached_given files folder c rest from now (Ok v) old mid new reached e f.0 f.1
 
 -- the names that the rest of a call asks for, of which the first are those of a command
-split : (files : Files) (folder : List ℕ) (c : Command) (rest from now : Script) (old mid : Option (List (List ℕ))) → (reached : Reached from now old mid) → now ≡ command_says files folder c rest
+split : (files : Files) (folder : List ℕ) (c : Command) (rest from now : Script) (old mid : Option (List (List ℕ)))
+    → (reached : Reached from now old mid) → now ≡ command_says files folder c rest
     → names_first from ≡ reached.names ++ (verb_filled files folder c.verb).names
 split files folder c rest from now old mid reached e = reached.first ∙ ap (λ s. reached.names ++ names_first s) e ∙ ap (λ ns. reached.names ++ ns) (command_first files folder c rest)
 
 pub fails_filling : (files : Files) (folder : List ℕ) (c : Command) (rest from now : Script) (s : State) (e : SessionFault) (old mid new : Option (List (List ℕ)))
-    → Reached from now old mid → now ≡ command_says files folder c rest → Fills {X = Verb} c.place (verb_filled files folder c.verb) mid new (Err e)
+    → Reached from now old mid → now ≡ command_says files folder c rest
+    → Fills {X = Verb} c.place (verb_filled files folder c.verb) mid new (Err e)
     → Tells files (after_names from) s (Err e)
 fails_filling files folder c rest from now s (fault.Script at why) old mid new reached e f =
     (reached_given files folder c rest from now (Err why) old mid new reached e f.1 f.2).said ∙ ap (λ p. refused p why) (sym f.0)
@@ -64,7 +69,8 @@ fails_filling files folder c rest from now s fault.NoMemory old mid new reached 
 fails_filling files folder c rest from now s fault.Ended old mid new reached e f = tt
 
 pub asks_filling : (files : Files) (folder : List ℕ) (c : Command) (rest from now : Script) (e : SessionFault) (old mid new : Option (List (List ℕ)))
-    → Reached from now old mid → now ≡ command_says files folder c rest → Fills {X = Verb} c.place (verb_filled files folder c.verb) mid new (Err e)
+    → Reached from now old mid → now ≡ command_says files folder c rest
+    → Fills {X = Verb} c.place (verb_filled files folder c.verb) mid new (Err e)
     → Asks {X = Option Command} old new (names_first from) (Err e)
 asks_filling files folder c rest from now (fault.Script at why) old mid new reached e f =
     let further = reached_given files folder c rest from now (Err why) old mid new reached e f.1 f.2 in reached_all from _ (refused c.place why) old new further refl refl

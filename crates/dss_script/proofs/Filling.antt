@@ -19,7 +19,8 @@ use Rattle.dss_script.proofs.Entering.{becomes, grows_more, grows_none, held_is,
 
 -- ---- a file that was asked
 
-fills_found : {X : Type 0} (place : Place) (said : Filling X) (old new : Option (List (List ℕ))) (r : Result X SessionFault) → Grows old new said.names → IsFilled place said.filled r
+fills_found : {X : Type 0} (place : Place) (said : Filling X) (old new : Option (List (List ℕ))) (r : Result X SessionFault)
+    → Grows old new said.names → IsFilled place said.filled r
     → Fills place said old new r
 fills_found place said old new (Ok x) g h = (h, g)
 fills_found place said old new (Err (fault.Script at c)) g h = (h.0, h.1, g)
@@ -27,14 +28,16 @@ fills_found place said old new (Err (fault.Read name)) g h = absurd h
 fills_found place said old new (Err fault.NoMemory) g h = record { front = said.names; rest = []; parts = sym (append-nil said.names); grown = g }
 fills_found place said old new (Err fault.Ended) g h = absurd h
 
-named_so : (files : Files) (folder : List ℕ) (pair : Pair) (written name : List ℕ) → file_named pair ≡ Some written → name ≡ joined folder written
+named_so : (files : Files) (folder : List ℕ) (pair : Pair) (written name : List ℕ) → file_named pair ≡ Some written
+    → name ≡ joined folder written
     → pair_filled files folder pair ≡ record { names = name ∷ []; filled = with_file pair (held files (bytes name)) }
 named_so files folder pair written name e n =
     ap (pair_by_name files folder pair) e
     ∙ ap (λ (m : List ℕ). record { names = m ∷ []; filled = with_file pair (held files (bytes m)) }) (sym n)
 
 pub pair_found : (holds : Option Files) (files : Files) (what : Found) (folder : List ℕ) (place : Place) (pair : Pair) (written name : List ℕ) (old new : Option (List (List ℕ))) (r : Result Pair SessionFault)
-    → holds ≡ Some files → AnswersHeld holds (bytes name) (Ok what) → file_named pair ≡ Some written → name ≡ joined folder written → Grows old new (name ∷ [])
+    → holds ≡ Some files → AnswersHeld holds (bytes name) (Ok what) → file_named pair ≡ Some written
+    → name ≡ joined folder written → Grows old new (name ∷ [])
     → IsFilled place (with_file pair (found_bytes what)) r → Fills place (pair_filled files folder pair) old new r
 pair_found holds files what folder place pair written name old new r told a e n g h =
     let Q : Option Files → Type 0 = λ o. AnswersHeld o (bytes name) (Ok what) in
@@ -45,7 +48,8 @@ pair_found holds files what folder place pair written name old new r told a e n 
     (fills_found place (record { names = name ∷ []; filled = with_file pair (held files (bytes name)) }) old new r g (subst P there h))
 
 pub pair_failed : (files : Files) (folder : List ℕ) (place : Place) (pair : Pair) (written name : List ℕ) (old new : Option (List (List ℕ)))
-    → file_named pair ≡ Some written → name ≡ joined folder written → Grows old new (name ∷ []) → FailsAt old new (pair_filled files folder pair).names name
+    → file_named pair ≡ Some written → name ≡ joined folder written → Grows old new (name ∷ [])
+    → FailsAt old new (pair_filled files folder pair).names name
 pair_failed files folder place pair written name old new e n g =
     let F : Filling Pair → Type 0 = λ f. FailsAt old new f.names name in
     subst F (sym (named_so files folder pair written name e n)) (record { front = []; rest = []; parts = refl; grown = g })
@@ -57,36 +61,42 @@ abbrev pub behind : List (List ℕ) → List Pair → Filling (List Pair) → Fi
 behind names done rest = record { names = names ++ rest.names; filled = rest.filled >>= λ pairs. Ok (done ++ pairs) }
 
 -- so many pairs are done
-pub record Done (files : Files) (folder : List ℕ) (all done left : List Pair) (old new : Option (List (List ℕ))) : Type 0 where
+pub record Done (files : Files) (folder : List ℕ) (all done left : List Pair)
+    (old new : Option (List (List ℕ))) : Type 0 where
   pub names : List (List ℕ)
   pub said : pairs_filled files folder all ≡ behind names done (pairs_filled files folder left)
   pub grown : Grows old new names
 
-same_filling : {X : Type 0} (f : Filling X) → (names : List (List ℕ)) (filled : Result X ScriptCause) → f.names ≡ names → f.filled ≡ filled → f ≡ record { names = names; filled = filled }
+same_filling : {X : Type 0} (f : Filling X) → (names : List (List ℕ)) (filled : Result X ScriptCause) → f.names ≡ names
+    → f.filled ≡ filled → f ≡ record { names = names; filled = filled }
 same_filling f names filled e h = ap (λ (n : List (List ℕ)). record { names = n; filled = f.filled }) e ∙ ap (λ r. record { names = names; filled = r }) h
 
 bind_same : (r : Result (List Pair) ScriptCause) → r ≡ (r >>= λ pairs. Ok ([] ++ pairs))
 bind_same (Ok pairs) = refl
 bind_same (Err c) = refl
 
-pub none_done : (files : Files) (folder : List ℕ) (all : List Pair) (old : Option (List (List ℕ))) → Done files folder all [] all old old
+pub none_done : (files : Files) (folder : List ℕ) (all : List Pair) (old : Option (List (List ℕ)))
+    → Done files folder all [] all old old
 none_done files folder all old = record {
   names = [];
   said = ap (λ r. record { names = (pairs_filled files folder all).names; filled = r }) (bind_same (pairs_filled files folder all).filled);
   grown = grows_none old;
 }
 
-bind_one : (done : List Pair) (pair : Pair) (r : Result (List Pair) ScriptCause) → ((r >>= λ pairs. Ok (pair ∷ pairs)) >>= λ pairs. Ok (done ++ pairs)) ≡ (r >>= λ pairs. Ok ((done ++ (pair ∷ [])) ++ pairs))
+bind_one : (done : List Pair) (pair : Pair) (r : Result (List Pair) ScriptCause)
+    → ((r >>= λ pairs. Ok (pair ∷ pairs)) >>= λ pairs. Ok (done ++ pairs)) ≡ (r >>= λ pairs. Ok ((done ++ (pair ∷ [])) ++ pairs))
 bind_one done pair (Ok pairs) = ap Ok (sym (append_assoc done (pair ∷ []) pairs))
 bind_one done pair (Err c) = refl
 
-behind_one : (names more : List (List ℕ)) (done : List Pair) (pair : Pair) (rest : Filling (List Pair)) → behind names done (filled_before more (Ok pair) rest) ≡ behind (names ++ more) (done ++ (pair ∷ [])) rest
+behind_one : (names more : List (List ℕ)) (done : List Pair) (pair : Pair) (rest : Filling (List Pair))
+    → behind names done (filled_before more (Ok pair) rest) ≡ behind (names ++ more) (done ++ (pair ∷ [])) rest
 behind_one names more done pair rest =
     ap (λ (n : List (List ℕ)). record { names = n; filled = (rest.filled >>= λ pairs. Ok (pair ∷ pairs)) >>= λ pairs. Ok (done ++ pairs) }) (sym (append_assoc names more rest.names))
     ∙ ap (λ r. record { names = (names ++ more) ++ rest.names; filled = r }) (bind_one done pair rest.filled)
 
 pub one_done : (files : Files) (folder : List ℕ) (place : Place) (all done left : List Pair) (pair filled : Pair) (old mid new : Option (List (List ℕ)))
-    → Done files folder all done (pair ∷ left) old mid → Fills place (pair_filled files folder pair) mid new (Ok filled) → Done files folder all (done ++ (filled ∷ [])) left old new
+    → Done files folder all done (pair ∷ left) old mid → Fills place (pair_filled files folder pair) mid new (Ok filled)
+    → Done files folder all (done ++ (filled ∷ [])) left old new
 one_done files folder place all done left pair filled old mid new d f =
     let first = pair_filled files folder pair in
     record {
@@ -96,7 +106,8 @@ one_done files folder place all done left pair filled old mid new d f =
       grown = grows_more old mid new d.names first.names d.grown f.1;
     }
 
-pub all_done : (files : Files) (folder : List ℕ) (place : Place) (all done : List Pair) (old new : Option (List (List ℕ))) → Done files folder all done [] old new
+pub all_done : (files : Files) (folder : List ℕ) (place : Place) (all done : List Pair) (old new : Option (List (List ℕ)))
+    → Done files folder all done [] old new
     → Fills place (pairs_filled files folder all) old new (Ok done)
 all_done files folder place all done old new d =
     let F : Filling (List Pair) → Type 0 = λ f. Fills place f old new (Ok done) in
@@ -104,7 +115,8 @@ all_done files folder place all done old new d =
     subst F (sym d.said) (ap Ok (append-nil done), subst N (sym (append-nil d.names)) d.grown)
 
 -- memory runs out behind some of the pairs
-pub done_upto : (files : Files) (folder : List ℕ) (all done left : List Pair) (old new : Option (List (List ℕ))) → Done files folder all done left old new
+pub done_upto : (files : Files) (folder : List ℕ) (all done left : List Pair) (old new : Option (List (List ℕ)))
+    → Done files folder all done left old new
     → GrowsUpTo old new (pairs_filled files folder all).names
 done_upto files folder all done left old new d = record {
   front = d.names;
@@ -114,12 +126,14 @@ done_upto files folder all done left old new d = record {
 }
 
 -- the first names of a pair are the first of all that are left
-first_names : (more : List (List ℕ)) (r : Result Pair ScriptCause) (rest : Filling (List Pair)) → (tail : List (List ℕ)) × ((filled_before more r rest).names ≡ more ++ tail)
+first_names : (more : List (List ℕ)) (r : Result Pair ScriptCause) (rest : Filling (List Pair))
+    → (tail : List (List ℕ)) × ((filled_before more r rest).names ≡ more ++ tail)
 first_names more (Ok pair) rest = (rest.names, refl)
 first_names more (Err c) rest = ([], sym (append-nil more))
 
 -- the names of all pairs, of which some are done
-split_names : (files : Files) (folder : List ℕ) (all done left : List Pair) (pair : Pair) (old mid : Option (List (List ℕ))) → (d : Done files folder all done (pair ∷ left) old mid)
+split_names : (files : Files) (folder : List ℕ) (all done left : List Pair) (pair : Pair) (old mid : Option (List (List ℕ)))
+    → (d : Done files folder all done (pair ∷ left) old mid)
     → (tail : List (List ℕ)) × ((pairs_filled files folder all).names ≡ d.names ++ ((pair_filled files folder pair).names ++ tail))
 split_names files folder all done left pair old mid d =
     let first = pair_filled files folder pair in
@@ -127,7 +141,9 @@ split_names files folder all done left pair old mid d =
     (tail, ap (λ (f : Filling (List Pair)). f.names) d.said ∙ ap (λ ns. d.names ++ ns) e)
 
 pub fault_done : (files : Files) (folder : List ℕ) (place : Place) (all done left : List Pair) (pair : Pair) (e : SessionFault) (old mid new : Option (List (List ℕ)))
-    → Done files folder all done (pair ∷ left) old mid → Fills {X = Pair} place (pair_filled files folder pair) mid new (Err e) → Fills {X = List Pair} place (pairs_filled files folder all) old new (Err e)
+    → Done files folder all done (pair ∷ left) old mid
+    → Fills {X = Pair} place (pair_filled files folder pair) mid new (Err e)
+    → Fills {X = List Pair} place (pairs_filled files folder all) old new (Err e)
 fault_done files folder place all done left pair (fault.Script at c) old mid new d f =
     let first = pair_filled files folder pair in
     let said = d.said ∙ ap (λ r. behind d.names done (filled_before first.names r (pairs_filled files folder left))) f.1 in
@@ -155,7 +171,8 @@ fault_done files folder place all done left pair fault.Ended old mid new d f = a
 
 -- ---- some names are asked
 
-pub some_asked : (old new : Option (List (List ℕ))) (name : List ℕ) → Becomes old new (λ ns. ns ++ name ∷ []) → GrowsSome old new
+pub some_asked : (old new : Option (List (List ℕ))) (name : List ℕ) → Becomes old new (λ ns. ns ++ name ∷ [])
+    → GrowsSome old new
 some_asked old new name h = record { names = name ∷ []; grown = h }
 
 pub some_both : (old mid new : Option (List (List ℕ))) → GrowsSome old mid → GrowsSome mid new → GrowsSome old new
@@ -169,7 +186,8 @@ pub some_none : (old : Option (List (List ℕ))) → GrowsSome old old
 some_none old = record { names = []; grown = nothing_asked old }
 
 -- a read that failed is still the last one
-pub last_both : (X Y : Type 0) (old mid new : Option (List (List ℕ))) (e : SessionFault) → GrowsSome old mid → ReadsLast {X = X} mid new (Err e) → ReadsLast {X = Y} old new (Err e)
+pub last_both : (X Y : Type 0) (old mid new : Option (List (List ℕ))) (e : SessionFault) → GrowsSome old mid
+    → ReadsLast {X = X} mid new (Err e) → ReadsLast {X = Y} old new (Err e)
 last_both X Y old mid new (fault.Read name) g h = record {
   front = g.names ++ h.front;
   grown = same_becomes old new (λ ns. (ns ++ g.names) ++ h.front ++ bytes name ∷ []) (λ ns. ns ++ (g.names ++ h.front) ++ bytes name ∷ [])

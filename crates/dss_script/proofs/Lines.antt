@@ -10,7 +10,8 @@ use Rattle.std.specs.Str.Lines.{lines, lines_of_parts, strip_carriage_return}
 use Rattle.dss_script.specs.Lines.{is_line_feed, first_line}
 use Rattle.dss_script.specs.Readings.{first_of, rest_of}
 
-parts_cons : (part : List ℕ) (parts : List (List ℕ)) → 0 < length parts → lines_of_parts (part ∷ parts) ≡ strip_carriage_return part ∷ lines_of_parts parts
+parts_cons : (part : List ℕ) (parts : List (List ℕ)) → 0 < length parts
+    → lines_of_parts (part ∷ parts) ≡ strip_carriage_return part ∷ lines_of_parts parts
 parts_cons part [] h = absurd (omega arith)
 parts_cons part (next ∷ more) h = refl
 
@@ -63,7 +64,8 @@ back_from_end xs m =
     (cases_lt (length xs) m)
 
 -- what is left after the first line of the bytes from a place on
-pub advanced_is : (bytes whole after : List ℕ) (at n : ℕ) → after ≡ after_first is_line_feed (take (length whole - at) (drop at whole)) → whole ≡ bytes → n ≡ length bytes
+pub advanced_is : (bytes whole after : List ℕ) (at n : ℕ)
+    → after ≡ after_first is_line_feed (take (length whole - at) (drop at whole)) → whole ≡ bytes → n ≡ length bytes
     → 0 < length (lines (drop at bytes)) → lines (drop (n - length after) bytes) ≡ rest_of (lines (drop at bytes))
 advanced_is bytes whole after at n e₁ e₂ e₃ some =
     let part : take (length whole - at) (drop at whole) ≡ drop at bytes = take_all (length whole - at) (drop at whole) (omega (arith, length-drop at whole)) ∙ ap (drop at) e₂ in

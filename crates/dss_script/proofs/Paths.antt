@@ -8,5 +8,6 @@ pub step_back : (name : List ℕ) (n d : ℕ) → 0 < n → n ≤ length name �
     → n - suffix_len is_no_slash (take n name) ≡ (n - 1) - suffix_len is_no_slash (take (n - 1) name)
 step_back name n d some within h = let e = suffix_len-take_yes is_no_slash name n d some within (rw h) in omega arith
 
-pub at_slash : (name : List ℕ) (n d : ℕ) → 0 < n → n ≤ length name → is_slash (get_or name (n - 1) d) ≡ true → n - suffix_len is_no_slash (take n name) ≡ n
+pub at_slash : (name : List ℕ) (n d : ℕ) → 0 < n → n ≤ length name → is_slash (get_or name (n - 1) d) ≡ true
+    → n - suffix_len is_no_slash (take n name) ≡ n
 at_slash name n d some within h = let e = suffix_len-take_no is_no_slash name n d some within (rw h) in omega arith

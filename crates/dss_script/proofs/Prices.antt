@@ -35,11 +35,14 @@ abbrev least_of : Option CommandWord → ℕ
 least_of None = 0
 least_of (Some w) = least w
 
-named_length : (table : List (List ℕ × CommandWord)) (v : List ℕ) → list_all fits table ≡ true → least_of (named table (bytes (lower v))) ≤ length v
+named_length : (table : List (List ℕ × CommandWord)) (v : List ℕ) → list_all fits table ≡ true
+    → least_of (named table (bytes (lower v))) ≤ length v
 named_length [] v h = omega arith
 named_length (row ∷ rows) v h = cases (named_length rows v (both (fits row) (list_all fits rows) h).1) (pointwise nat_eq row.0 (bytes (lower v))) refl
   where
-    cases : least_of (named rows (bytes (lower v))) ≤ length v → (b : Bool) → pointwise nat_eq row.0 (bytes (lower v)) ≡ b → least_of (if b then Some row.1 else named rows (bytes (lower v))) ≤ length v
+    cases : least_of (named rows (bytes (lower v))) ≤ length v → (b : Bool)
+        → pointwise nat_eq row.0 (bytes (lower v)) ≡ b
+        → least_of (if b then Some row.1 else named rows (bytes (lower v))) ≤ length v
     cases rest true e =
         let row_fits = both (pointwise nat_eq (bytes row.0) row.0) (nat_le (least row.1) (length row.0)) (both (fits row) (list_all fits rows) h).0 in
         let same : row.0 ≡ lower v = encodes_same row.0 (lower v) (same_from (bytes row.0) row.0 row_fits.0 ∙ same_from row.0 (bytes (lower v)) e) in
@@ -77,11 +80,13 @@ element_size text = cases (is_empty class || not (is_name name)) refl
     name : List ℕ
     name = drop (at + 1) text
 
-    cases : (b : Bool) → (is_empty class || not (is_name name)) ≡ b → size_of (if b then None else Some (record { class = class; name = name })) ≤ length text
+    cases : (b : Bool) → (is_empty class || not (is_name name)) ≡ b
+        → size_of (if b then None else Some (record { class = class; name = name })) ≤ length text
     cases true e = omega arith
     cases false e = let some = some_name name (has_name (is_empty class) name e) in omega (arith, length-take at text, length-drop (at + 1) text)
 
-new_price : (o : Option Target) (ps : List Pair) → (price (new_element o ps) ≤ 5 + size_of o) × (size_of o ≡ 0 → price (new_element o ps) ≤ 0)
+new_price : (o : Option Target) (ps : List Pair)
+    → (price (new_element o ps) ≤ 5 + size_of o) × (size_of o ≡ 0 → price (new_element o ps) ≤ 0)
 unfolding size_of
 new_price None ps = (omega arith, λ e. omega arith)
 new_price (Some t) ps = (omega arith, λ e. absurd (omega arith))
@@ -110,7 +115,8 @@ file_price (p ∷ ps) = cases (is_word p && not (is_empty p.value))
     cases true = omega arith
     cases false = omega arith
 
-command_price : (w : Option CommandWord) (target : Option Target) (n : ℕ) (ps : List Pair) → least_of w ≤ n → price (command_of w target ps) ≤ n + 1 + paid ps
+command_price : (w : Option CommandWord) (target : Option Target) (n : ℕ) (ps : List Pair) → least_of w ≤ n
+    → price (command_of w target ps) ≤ n + 1 + paid ps
 command_price None target n ps h = omega arith
 command_price (Some word.New) target n ps h = omega (arith, made_price ps)
 command_price (Some word.Edit) target n ps h = omega (arith, edited_price (element_of (subject false ps)) (others ps))
@@ -122,10 +128,12 @@ command_price (Some word.Bases) target n ps h = omega arith
 command_price (Some word.Redirect) target n ps h = omega (arith, file_price ps)
 command_price (Some word.Ignored) target n ps h = omega arith
 
-set_price : (class name property : List ℕ) (p : Pair) (ps : List Pair) → price (property_set class name property p ps) ≤ 2
+set_price : (class name property : List ℕ) (p : Pair) (ps : List Pair)
+    → price (property_set class name property p ps) ≤ 2
 set_price class name property p ps = cases (is_empty class || (is_empty name || is_empty property)) (is_name name)
   where
-    cases : (b c : Bool) → price (if b then the.Refused cause.UnknownCommand else if c then the.Does (verb.Edit class name (record { name = property; value = p.value; grouped = p.grouped } ∷ ps)) change.Kept else the.Refused cause.BadValue) ≤ 2
+    cases : (b c : Bool)
+        → price (if b then the.Refused cause.UnknownCommand else if c then the.Does (verb.Edit class name (record { name = property; value = p.value; grouped = p.grouped } ∷ ps)) change.Kept else the.Refused cause.BadValue) ≤ 2
     cases true c = omega arith
     cases false true = omega arith
     cases false false = omega arith
@@ -149,6 +157,7 @@ pub price_paid : (target : Option Target) (pairs : List Pair) → price (meaning
 price_paid target [] = omega arith
 price_paid target (p ∷ ps) = cases (is_word p) refl
   where
-    cases : (b : Bool) → is_word p ≡ b → price (if b then command_of (named command_words (bytes (lower p.value))) target ps else property_of (slice_split is_dot p.name) p ps) ≤ max (paid (p ∷ ps)) 1
+    cases : (b : Bool) → is_word p ≡ b
+        → price (if b then command_of (named command_words (bytes (lower p.value))) target ps else property_of (slice_split is_dot p.name) p ps) ≤ max (paid (p ∷ ps)) 1
     cases true e = omega (arith, command_price (named command_words (bytes (lower p.value))) target (length p.value) ps (named_length command_words p.value all_fit))
     cases false e = let some = some_first p.name e in omega (arith, property_price (slice_split is_dot p.name) p ps)

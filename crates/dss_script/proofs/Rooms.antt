@@ -22,7 +22,8 @@ separators_off : (cs : List ℕ) → length (skip_separators cs) ≤ length cs
 separators_off [] = omega arith
 separators_off (c ∷ cs) = cases (is_separator c) (separators_off cs)
   where
-    cases : (b : Bool) → length (skip_separators cs) ≤ length cs → length (if b then skip_separators cs else c ∷ cs) ≤ length (c ∷ cs)
+    cases : (b : Bool) → length (skip_separators cs) ≤ length cs
+        → length (if b then skip_separators cs else c ∷ cs) ≤ length (c ∷ cs)
     cases true h = omega arith
     cases false h = omega arith
 
@@ -30,7 +31,8 @@ blanks_off : (cs : List ℕ) → length (skip_blanks cs) ≤ length cs
 blanks_off [] = omega arith
 blanks_off (c ∷ cs) = cases (is_blank c) (blanks_off cs)
   where
-    cases : (b : Bool) → length (skip_blanks cs) ≤ length cs → length (if b then skip_blanks cs else c ∷ cs) ≤ length (c ∷ cs)
+    cases : (b : Bool) → length (skip_blanks cs) ≤ length cs
+        → length (if b then skip_blanks cs else c ∷ cs) ≤ length (c ∷ cs)
     cases true h = omega arith
     cases false h = omega arith
 
@@ -71,7 +73,8 @@ is_equals [] = false
 is_equals (c ∷ cs) = c == 61
 
 -- what a bare word ends before
-first_room : (is_name : Bool) (c : ℕ) (cs : List ℕ) → ends_word is_name (c ∷ cs) ≡ true → (is_name && (c == 61)) ≡ false → after_room (c ∷ cs) ≤ length (c ∷ cs)
+first_room : (is_name : Bool) (c : ℕ) (cs : List ℕ) → ends_word is_name (c ∷ cs) ≡ true → (is_name && (c == 61)) ≡ false
+    → after_room (c ∷ cs) ≤ length (c ∷ cs)
 first_room is_name c cs e h = separated (is_separator c) refl
   where
     separated : (b : Bool) → is_separator c ≡ b → after_room (c ∷ cs) ≤ length (c ∷ cs)
@@ -79,7 +82,8 @@ first_room is_name c cs e h = separated (is_separator c) refl
     separated false s = omega (arith, comment_room c cs (grind (arith, common_steps, nat_tests)))
 
 -- a bare word that no equals sign ends
-bare_room : (is_name : Bool) (cs : List ℕ) → (is_name && is_equals (drop (word_len is_name cs) cs)) ≡ false → after_room (drop (word_len is_name cs) cs) + word_len is_name cs ≤ length cs
+bare_room : (is_name : Bool) (cs : List ℕ) → (is_name && is_equals (drop (word_len is_name cs) cs)) ≡ false
+    → after_room (drop (word_len is_name cs) cs) + word_len is_name cs ≤ length cs
 unfolding after_room
 bare_room is_name [] h = omega arith
 bare_room is_name (c ∷ cs) h = cases (λ h. bare_room is_name cs h) (ends_word is_name (c ∷ cs)) refl h
@@ -88,7 +92,8 @@ bare_room is_name (c ∷ cs) h = cases (λ h. bare_room is_name cs h) (ends_word
     len b = if b then 0 else word_len is_name cs + 1
 
     cases : ((is_name && is_equals (drop (word_len is_name cs) cs)) ≡ false → after_room (drop (word_len is_name cs) cs) + word_len is_name cs ≤ length cs)
-        → (b : Bool) → ends_word is_name (c ∷ cs) ≡ b → (is_name && is_equals (drop (len b) (c ∷ cs))) ≡ false → after_room (drop (len b) (c ∷ cs)) + len b ≤ length (c ∷ cs)
+        → (b : Bool) → ends_word is_name (c ∷ cs) ≡ b → (is_name && is_equals (drop (len b) (c ∷ cs))) ≡ false
+        → after_room (drop (len b) (c ∷ cs)) + len b ≤ length (c ∷ cs)
     cases rest true e h = omega (arith, first_room is_name c cs e h)
     cases rest false e h = let shorter : drop (word_len is_name cs + 1) (c ∷ cs) ≡ drop (word_len is_name cs) cs = rw add-one refl in rw shorter (let r = rest (rw shorter at h) in omega arith)
 
@@ -107,7 +112,8 @@ group_room k cs = cases (nat_lt (position_or_len (λ c. c == k) cs) (length cs))
     at : ℕ
     at = position_or_len (λ c. c == k) cs
 
-    cases : (b : Bool) → nat_lt at (length cs) ≡ b → value_sum (if b then Ok (record { text = take at cs; grouped = true }, drop (at + 1) cs) else Err lex.UnclosedGroup) ≤ length cs
+    cases : (b : Bool) → nat_lt at (length cs) ≡ b
+        → value_sum (if b then Ok (record { text = take at cs; grouped = true }, drop (at + 1) cs) else Err lex.UnclosedGroup) ≤ length cs
     cases true e = let inside : at < length cs = ltb-true _ _ e in omega (arith, within_room (drop (at + 1) cs), length-drop (at + 1) cs, take_most at cs)
     cases false e = omega arith
 
@@ -126,7 +132,8 @@ item_sum : Result (Pair × List ℕ) LexFault → ℕ
 item_sum (Ok x) = after_room x.1 + (length x.0.name + length x.0.value)
 item_sum (Err e) = 0
 
-named_value : (name : List ℕ) (r : Result (Value × List ℕ) LexFault) → item_sum (r >>= λ v. Ok (pair name v.0, v.1)) ≤ length name + value_sum r
+named_value : (name : List ℕ) (r : Result (Value × List ℕ) LexFault)
+    → item_sum (r >>= λ v. Ok (pair name v.0, v.1)) ≤ length name + value_sum r
 unfolding item_sum value_sum
 named_value name (Ok x) = omega arith
 named_value name (Err e) = omega arith
@@ -145,12 +152,15 @@ no_equals rest skipped e h = cases (is_equals rest) refl
     cases false k = k
     cases true k = let same : is_equals skipped ≡ true = ap is_equals (e ∙ equals_first rest k) ∙ k in absurd (cc)
 
-name_room : (name rest skipped : List ℕ) (n : ℕ) → skipped ≡ skip_blanks rest → (is_equals rest ≡ false → after_room rest + length name ≤ n) → length name + length rest ≤ n → item_sum (after_name name rest skipped) ≤ n
+name_room : (name rest skipped : List ℕ) (n : ℕ) → skipped ≡ skip_blanks rest
+    → (is_equals rest ≡ false → after_room rest + length name ≤ n) → length name + length rest ≤ n
+    → item_sum (after_name name rest skipped) ≤ n
 unfolding item_sum
 name_room name rest [] n e bare all = let less = bare (no_equals rest [] e refl) in omega arith
 name_room name rest (c ∷ cs) n e bare all = cases (c == 61) refl
   where
-    cases : (b : Bool) → (c == 61) ≡ b → item_sum (if b then (value_at (skip_blanks cs) >>= λ v. Ok (pair name v.0, v.1)) else Ok (pair [] (record { text = name; grouped = false }), rest)) ≤ n
+    cases : (b : Bool) → (c == 61) ≡ b
+        → item_sum (if b then (value_at (skip_blanks cs) >>= λ v. Ok (pair name v.0, v.1)) else Ok (pair [] (record { text = name; grouped = false }), rest)) ≤ n
     cases true k = omega (arith, named_value name (value_at (skip_blanks cs)), value_room (skip_blanks cs), blanks_off cs, blanks_off rest, ap (λ xs. length xs) e)
     cases false k = let less = bare (no_equals rest (c ∷ cs) e k) in omega arith
 
@@ -161,7 +171,8 @@ item_room cs = cases (is_group cs)
     rest : List ℕ
     rest = drop (word_len true cs) cs
 
-    cases : (b : Bool) → item_sum (if b then (value_at cs >>= λ v. Ok (pair [] v.0, v.1)) else after_name (take (word_len true cs) cs) rest (skip_blanks rest)) ≤ length cs
+    cases : (b : Bool)
+        → item_sum (if b then (value_at cs >>= λ v. Ok (pair [] v.0, v.1)) else after_name (take (word_len true cs) cs) rest (skip_blanks rest)) ≤ length cs
     cases true = omega (arith, named_value [] (value_at cs), value_room cs)
     cases false = name_room (take (word_len true cs) cs) rest (skip_blanks rest) (length cs) refl
         (λ bare. omega (arith, bare_room true cs bare, take_most (word_len true cs) cs))
@@ -172,12 +183,14 @@ total : Result (List Pair) LexFault → ℕ
 total (Ok pairs) = paid pairs
 total (Err e) = 0
 
-more_room : (p : Pair) (n : ℕ) (r : Result (List Pair) LexFault) → total r ≤ n → total (r >>= λ items. Ok (p ∷ items)) ≤ length p.name + length p.value + 1 + n
+more_room : (p : Pair) (n : ℕ) (r : Result (List Pair) LexFault) → total r ≤ n
+    → total (r >>= λ items. Ok (p ∷ items)) ≤ length p.name + length p.value + 1 + n
 unfolding total
 more_room p n (Ok items) h = omega arith
 more_room p n (Err e) h = omega arith
 
-next_room : (n k : ℕ) (r : Result (Pair × List ℕ) LexFault) → item_sum r ≤ k → ((rest : List ℕ) → total (items_of n rest) ≤ after_room rest)
+next_room : (n k : ℕ) (r : Result (Pair × List ℕ) LexFault) → item_sum r ≤ k
+    → ((rest : List ℕ) → total (items_of n rest) ≤ after_room rest)
     → total (r >>= λ item. items_of n item.1 >>= λ items. Ok (item.0 ∷ items)) ≤ k + 1
 unfolding total item_sum
 next_room n k (Ok x) h others = omega (arith, more_room x.0 (after_room x.1) (items_of n x.1) (others x.1))
@@ -192,7 +205,8 @@ items_room (suc n) cs = cases (λ rest. items_room n rest) (ends_line (skip_sepa
     text = skip_separators cs
 
     cases : ((rest : List ℕ) → total (items_of n rest) ≤ after_room rest)
-        → (b : Bool) → total (if b then Ok [] else (item_at text >>= λ item. items_of n item.1 >>= λ items. Ok (item.0 ∷ items))) ≤ (if b then 0 else length text + 1)
+        → (b : Bool)
+        → total (if b then Ok [] else (item_at text >>= λ item. items_of n item.1 >>= λ items. Ok (item.0 ∷ items))) ≤ (if b then 0 else length text + 1)
     cases others true = omega arith
     cases others false = next_room n (length text) (item_at text) (item_room text) others
 
@@ -200,14 +214,16 @@ all_room : (line : List ℕ) → total (pairs_of line) ≤ length line + 1
 unfolding pairs_of total
 all_room line = long (nat_lt 65536 (length line))
   where
-    text : (b : Bool) → is_utf8 line ≡ b → total (if not b then Err lex.NotText else items_of (length (chars line)) (chars line)) ≤ length line + 1
+    text : (b : Bool) → is_utf8 line ≡ b
+        → total (if not b then Err lex.NotText else items_of (length (chars line)) (chars line)) ≤ length line + 1
     text true u =
         let same = encodes-chars line (IsUtf8-from_is_utf8 line u) in
         let fewer : length (chars line) ≤ length line = omega (arith, length-le-encodes (chars line), ap (λ xs. length xs) same) in
         omega (arith, items_room (length (chars line)) (chars line), within_room (chars line))
     text false u = omega arith
 
-    long : (b : Bool) → total (if b then Err lex.LineTooLong else if not (is_utf8 line) then Err lex.NotText else items_of (length (chars line)) (chars line)) ≤ length line + 1
+    long : (b : Bool)
+        → total (if b then Err lex.LineTooLong else if not (is_utf8 line) then Err lex.NotText else items_of (length (chars line)) (chars line)) ≤ length line + 1
     long true = omega arith
     long false = text (is_utf8 line) refl
 

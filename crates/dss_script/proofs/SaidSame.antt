@@ -34,32 +34,40 @@ behind : (said : List Said) (left : Result Standing (Place × ScriptCause)) (nex
 behind said (Ok s) next go far same = ap (chained said) (same s) ∙ sym (chained-append said (next s).said (goes_on (next s).left go))
 behind said (Err refusal) next go far same = refl
 
-names_same : (names : List (List ℕ)) (p : Part) (go : Then) → asks_each names (told p go) ≡ told (says (map name names) p) go
+names_same : (names : List (List ℕ)) (p : Part) (go : Then)
+    → asks_each names (told p go) ≡ told (says (map name names) p) go
 names_same [] p go = refl
 names_same (n ∷ names) p go = ap (asks n) (names_same names p go)
 
-given_same : (place : Place) (filled : Result Verb ScriptCause) (s : Standing) (go : Then) → given place filled (go s) ≡ told (by_filled place filled s) go
+given_same : (place : Place) (filled : Result Verb ScriptCause) (s : Standing) (go : Then)
+    → given place filled (go s) ≡ told (by_filled place filled s) go
 given_same place (Ok verb) s go = refl
 given_same place (Err c) s go = refl
 
-command_same : (files : Files) (folder : List ℕ) (c : Command) (s : Standing) (go : Then) → command_says files folder c (go s) ≡ told (by_command files folder c s) go
+command_same : (files : Files) (folder : List ℕ) (c : Command) (s : Standing) (go : Then)
+    → command_says files folder c (go s) ≡ told (by_command files folder c s) go
 command_same files folder c s go =
     let f = verb_filled files folder c.verb in
     ap (asks_each f.names) (given_same c.place f.filled s go) ∙ names_same f.names (by_filled c.place f.filled s) go
 
-module _ (files : Files) (file : File) (reader : Reader) (same : (place : Place) (n : List ℕ) (s : Standing) (go : Then) → reader place n s go ≡ told (file place n s) go) (folder : List ℕ) where
-  meaning_same : (place : Place) (m : Meaning) (s : Standing) (go : Then) → meaning_says files reader folder place m s go ≡ told (by_meaning files file folder place m s) go
+module _ (files : Files) (file : File) (reader : Reader)
+    (same : (place : Place) (n : List ℕ) (s : Standing) (go : Then) → reader place n s go ≡ told (file place n s) go)
+    (folder : List ℕ) where
+  meaning_same : (place : Place) (m : Meaning) (s : Standing) (go : Then)
+      → meaning_says files reader folder place m s go ≡ told (by_meaning files file folder place m s) go
   meaning_same place the.Nothing s go = refl
   meaning_same place (the.Refused c) s go = refl
   meaning_same place (the.Reads named) s go = same place (joined folder named) s go
   meaning_same place (the.Does verb change) s go =
       command_same files folder (record { place = place; verb = verb }) (record { target = target_after s.target change; read = s.read }) go
 
-  line_same : (place : Place) (r : Result (List Pair) LexFault) (s : Standing) (go : Then) → line_says files reader folder place r s go ≡ told (by_line files file folder place r s) go
+  line_same : (place : Place) (r : Result (List Pair) LexFault) (s : Standing) (go : Then)
+      → line_says files reader folder place r s go ≡ told (by_line files file folder place r s) go
   line_same place (Err e) s go = refl
   line_same place (Ok pairs) s go = meaning_same place (meaning_of s.target pairs) s go
 
-  lines_same : (at : List ℕ) (n : ℕ) (ls : List (List ℕ)) (s : Standing) (go : Then) → lines_say files reader folder at n ls s go ≡ told (by_lines files file folder at n ls s) go
+  lines_same : (at : List ℕ) (n : ℕ) (ls : List (List ℕ)) (s : Standing) (go : Then)
+      → lines_say files reader folder at n ls s go ≡ told (by_lines files file folder at n ls s) go
   lines_same at n [] s go = refl
   lines_same at n (line ∷ rest) s go =
       let place : Place = record { file = at; line = n + 1 } in
@@ -72,7 +80,8 @@ module _ (files : Files) (file : File) (reader : Reader) (same : (place : Place)
   within_same true place ours theirs go e = refl
   within_same false place ours theirs go e = e
 
-  found_same : (o : Option (List ℕ)) (place : Place) (at : List ℕ) (s : Standing) (go : Then) → found_says files reader folder o place at s go ≡ told (by_found files file folder o place at s) go
+  found_same : (o : Option (List ℕ)) (place : Place) (at : List ℕ) (s : Standing) (go : Then)
+      → found_says files reader folder o place at s go ≡ told (by_found files file folder o place at s) go
   found_same None place at s go = refl
   found_same (Some bs) place at s go =
       let t : Standing = record { target = s.target; read = s.read + length bs } in
@@ -90,13 +99,15 @@ chain_same files master = file_same files (folder_of master) 9 (record { file = 
 
 -- ---- back
 
-said_again : (said : List Said) (left : Result Standing (Place × ScriptCause)) → said_in (chained said (goes_on left (λ s. finished))) ≡ said
+said_again : (said : List Said) (left : Result Standing (Place × ScriptCause))
+    → said_in (chained said (goes_on left (λ s. finished))) ≡ said
 said_again [] (Ok standing) = refl
 said_again [] (Err refusal) = refl
 said_again (name n ∷ said) left = ap (λ (l : List Said). name n ∷ l) (said_again said left)
 said_again (command c ∷ said) left = ap (λ (l : List Said). command c ∷ l) (said_again said left)
 
-end_again : (said : List Said) (left : Result Standing (Place × ScriptCause)) → end_in (chained said (goes_on left (λ s. finished))) ≡ ended_by left
+end_again : (said : List Said) (left : Result Standing (Place × ScriptCause))
+    → end_in (chained said (goes_on left (λ s. finished))) ≡ ended_by left
 end_again [] (Ok standing) = refl
 end_again [] (Err refusal) = refl
 end_again (name n ∷ said) left = end_again said left

@@ -41,18 +41,21 @@ with_files state files = record { waiting = state.waiting; folder = state.folder
 abbrev pub after_line : State → State
 after_line state = with_files state (files_after state.files)
 
-open_says : (files : Files) (state : State) → state.waiting ≡ None → remaining files state ≡ files_say files state.folder state.files state.standing
+open_says : (files : Files) (state : State) → state.waiting ≡ None
+    → remaining files state ≡ files_say files state.folder state.files state.standing
 unfolding remaining
 open_says files state h = ap (λ w. waiting_says files w state) h
 
-pub over_says : (files : Files) (state : State) → state.waiting ≡ None → length state.files ≡ 0 → remaining files state ≡ finished
+pub over_says : (files : Files) (state : State) → state.waiting ≡ None → length state.files ≡ 0
+    → remaining files state ≡ finished
 over_says files state w h = open_says files state w ∙ none state.files h
   where
     none : (rs : List Reading) → length rs ≡ 0 → files_say files state.folder rs state.standing ≡ finished
     none [] h = refl
     none (r ∷ rs) h = absurd (omega arith)
 
-line_is : (files : Files) (folder : List ℕ) (r : Reading) (outer : List Reading) (standing : Standing) → (ls : List (List ℕ)) → r.lines ≡ ls → 0 < length ls
+line_is : (files : Files) (folder : List ℕ) (r : Reading) (outer : List Reading) (standing : Standing)
+    → (ls : List (List ℕ)) → r.lines ≡ ls → 0 < length ls
     → files_say files folder (r ∷ outer) standing
     ≡ line_says files (λ p n s g. file_says files folder (deeper (r ∷ outer)) p n s g) folder (next_place r) (pairs_of (next_line r)) standing (λ s. files_say files folder (advanced r ∷ outer) s)
 line_is files folder r outer standing [] e h = absurd (omega arith)
@@ -67,7 +70,8 @@ unfolding taken_says remaining_by
 cut_says files state place (Ok pairs) = refl
 cut_says files state place (Err e) = refl
 
-closed_says : (files : Files) (folder : List ℕ) (r : Reading) (outer : List Reading) (standing : Standing) → (ls : List (List ℕ)) → r.lines ≡ ls → length ls ≡ 0
+closed_says : (files : Files) (folder : List ℕ) (r : Reading) (outer : List Reading) (standing : Standing)
+    → (ls : List (List ℕ)) → r.lines ≡ ls → length ls ≡ 0
     → files_say files folder (r ∷ outer) standing ≡ files_say files folder outer standing
 closed_says files folder r outer standing [] e h = ap (λ ls. files_say files folder (record { file = r.file; line = r.line; lines = ls } ∷ outer) standing) e
 closed_says files folder r outer standing (line ∷ rest) e h = absurd (omega arith)
@@ -92,18 +96,22 @@ taken_by files state w (r ∷ outer) e = cases (eqb (length r.lines) 0) refl
     cases true h = subst Goal (sym h) (closed_says files state.folder r outer state.standing r.lines refl (eqb-true (length r.lines) 0 h) ∙ sym (open_says files (after true) w))
     cases false h = subst Goal (sym h) (line_is files state.folder r outer state.standing r.lines refl (positive (length r.lines) (eqb-false (length r.lines) 0 h)) ∙ cut_says files (after false) (next_place r) (pairs_of (next_line r)))
 
-pub taken_is : (files : Files) (state : State) → state.waiting ≡ None → remaining files state ≡ taken_says files (taken_of state.files) (after_line state)
+pub taken_is : (files : Files) (state : State) → state.waiting ≡ None
+    → remaining files state ≡ taken_says files (taken_of state.files) (after_line state)
 taken_is files state h = open_says files state h ∙ taken_by files state h state.files refl
 
-pub says_nothing : (files : Files) (state : State) (place : Place) → state.waiting ≡ None → remaining_by files place the.Nothing state ≡ remaining files state
+pub says_nothing : (files : Files) (state : State) (place : Place) → state.waiting ≡ None
+    → remaining_by files place the.Nothing state ≡ remaining files state
 unfolding remaining_by
 says_nothing files state place w = sym (open_says files state w)
 
-pub says_refused : (files : Files) (state : State) (place : Place) (c : ScriptCause) → remaining_by files place (the.Refused c) state ≡ refused place c
+pub says_refused : (files : Files) (state : State) (place : Place) (c : ScriptCause)
+    → remaining_by files place (the.Refused c) state ≡ refused place c
 unfolding remaining_by
 says_refused files state place c = refl
 
-pub says_command : (files : Files) (state new : State) (place : Place) (verb : Verb) (change : Change) → new.waiting ≡ None → new.folder ≡ state.folder → new.files ≡ state.files
+pub says_command : (files : Files) (state new : State) (place : Place) (verb : Verb) (change : Change)
+    → new.waiting ≡ None → new.folder ≡ state.folder → new.files ≡ state.files
     → new.standing ≡ record { target = target_after state.standing.target change; read = state.standing.read }
     → remaining_by files place (the.Does verb change) state ≡ command_says files new.folder (record { place = place; verb = verb }) (remaining files new)
 unfolding remaining_by
@@ -113,7 +121,8 @@ says_command files state new place verb change w f g h =
     (ap (files_say files state.folder state.files) (sym h) ∙ ap (λ rs. files_say files state.folder rs new.standing) (sym g) ∙ ap (λ d. files_say files d new.files new.standing) (sym f) ∙ sym (open_says files new w))
 
 -- a file's name, where so many files may be open within those that are
-found_is : (files : Files) (state : State) (place : Place) (name : List ℕ) (n : ℕ) (found : Option (List ℕ)) → state.waiting ≡ None → deeper state.files ≡ suc n
+found_is : (files : Files) (state : State) (place : Place) (name : List ℕ) (n : ℕ) (found : Option (List ℕ))
+    → state.waiting ≡ None → deeper state.files ≡ suc n
     → found_says files (λ p m s g. file_says files state.folder n p m s g) state.folder found place name state.standing (λ s. files_say files state.folder state.files s)
     ≡ remaining_with files found place name state
 unfolding remaining_with
@@ -129,14 +138,16 @@ depth : (rs : List Reading) → deeper rs ≡ 9 - length rs
 depth [] = refl
 depth (r ∷ rs) = omega (arith, depth rs)
 
-reader_is : (files : Files) (state : State) (place : Place) (name : List ℕ) (n : ℕ) → state.waiting ≡ None → deeper state.files ≡ suc n
+reader_is : (files : Files) (state : State) (place : Place) (name : List ℕ) (n : ℕ) → state.waiting ≡ None
+    → deeper state.files ≡ suc n
     → file_says files state.folder (deeper state.files) place name state.standing (λ s. files_say files state.folder state.files s)
     ≡ asks name (remaining_with files (held files (bytes name)) place name state)
 reader_is files state place name n w h =
     ap (λ d. file_says files state.folder d place name state.standing (λ s. files_say files state.folder state.files s)) h
     ∙ ap (asks name) (found_is files state place name n (held files (bytes name)) w h)
 
-pub deep_enough : (files : Files) (state : State) (place : Place) (name full : List ℕ) → state.waiting ≡ None → nat_lt 8 (length state.files) ≡ false → full ≡ joined state.folder name
+pub deep_enough : (files : Files) (state : State) (place : Place) (name full : List ℕ) → state.waiting ≡ None
+    → nat_lt 8 (length state.files) ≡ false → full ≡ joined state.folder name
     → remaining_by files place (the.Reads name) state ≡ asks full (remaining_with files (held files (bytes full)) place full state)
 unfolding remaining_by
 deep_enough files state place name full w h e =
@@ -144,14 +155,17 @@ deep_enough files state place name full w h e =
     ap (λ f. file_says files state.folder (deeper state.files) place f state.standing (λ s. files_say files state.folder state.files s)) (sym e)
     ∙ reader_is files state place full (8 - length state.files) w (omega (arith, depth state.files))
 
-pub too_deep_for : (files : Files) (state : State) (place : Place) (name : List ℕ) → nat_lt 8 (length state.files) ≡ true → remaining_by files place (the.Reads name) state ≡ refused place cause.TooDeep
+pub too_deep_for : (files : Files) (state : State) (place : Place) (name : List ℕ)
+    → nat_lt 8 (length state.files) ≡ true
+    → remaining_by files place (the.Reads name) state ≡ refused place cause.TooDeep
 unfolding remaining_by
 too_deep_for files state place name h =
     let none : deeper state.files ≡ 0 = (let over : 8 < length state.files = ltb-true _ _ h in omega (arith, depth state.files)) in
     ap (λ d. file_says files state.folder d place (joined state.folder name) state.standing (λ s. files_say files state.folder state.files s)) none
 
 -- MASTER is read first, in a session without open files
-pub master_says : (files : Files) (state : State) (master : List ℕ) → state.waiting ≡ Some master → length state.files ≡ 0
+pub master_says : (files : Files) (state : State) (master : List ℕ) → state.waiting ≡ Some master
+    → length state.files ≡ 0
     → remaining files state ≡ asks master (remaining_with files (held files (bytes master)) (record { file = master; line = 0 }) master
     (record { waiting = None; folder = state.folder; files = state.files; standing = state.standing; ended = state.ended }))
 unfolding remaining
@@ -160,7 +174,8 @@ master_says files state master w h =
     ∙ reader_is files (record { waiting = None; folder = state.folder; files = state.files; standing = state.standing; ended = state.ended }) (record { file = master; line = 0 }) master 8 refl (omega (arith, depth state.files))
 
 -- a line takes at least the room of its words and pairs
-pays_cut : (place : Place) (line : List ℕ) (said : Result (List Pair) LexFault) → pairs_of line ≡ said → pays (cut_into place said) ≤ length line + 1
+pays_cut : (place : Place) (line : List ℕ) (said : Result (List Pair) LexFault) → pairs_of line ≡ said
+    → pays (cut_into place said) ≤ length line + 1
 pays_cut place line (Err e) h = omega arith
 pays_cut place line (Ok pairs) h = omega (arith, pairs_room line pairs h)
 
@@ -178,7 +193,8 @@ closes_none : (place : Place) (said : Result (List Pair) LexFault) → closes (c
 closes_none place (Ok pairs) = refl
 closes_none place (Err e) = refl
 
-spends : (rs : List Reading) → 0 < length rs → (files_room (files_after rs) + pays (taken_of rs) ≤ files_room rs) × (length (files_after rs) + closes (taken_of rs) ≤ length rs)
+spends : (rs : List Reading) → 0 < length rs
+    → (files_room (files_after rs) + pays (taken_of rs) ≤ files_room rs) × (length (files_after rs) + closes (taken_of rs) ≤ length rs)
 spends [] h = absurd (omega arith)
 spends (r ∷ outer) h = cases (eqb (length r.lines) 0) refl
   where
@@ -186,7 +202,8 @@ spends (r ∷ outer) h = cases (eqb (length r.lines) 0) refl
     Goal b = (files_room (if b then outer else advanced r ∷ outer) + pays (if b then taken.Closed else cut_into (next_place r) (pairs_of (next_line r))) ≤ files_room (r ∷ outer))
         × (length (if b then outer else advanced r ∷ outer) + closes (if b then taken.Closed else cut_into (next_place r) (pairs_of (next_line r))) ≤ length (r ∷ outer))
 
-    some : (ls : List (List ℕ)) → (length ls ≡ 0 → ⊥) → lines_room ls ≡ length (first_of ls) + 1 + lines_room (rest_of ls)
+    some : (ls : List (List ℕ)) → (length ls ≡ 0 → ⊥)
+        → lines_room ls ≡ length (first_of ls) + 1 + lines_room (rest_of ls)
     some [] h = absurd (h refl)
     some (line ∷ rest) h = refl
 
@@ -197,7 +214,8 @@ spends (r ∷ outer) h = cases (eqb (length r.lines) 0) refl
       (let none = closes_none (next_place r) (pairs_of (next_line r)) in omega arith),
     )
 
-pub line_spends : (state : State) → 0 < length state.files → (room (after_line state) + pays (taken_of state.files) ≤ room state) × (left (after_line state) + 2 * pays (taken_of state.files) + closes (taken_of state.files) ≤ left state)
+pub line_spends : (state : State) → 0 < length state.files
+    → (room (after_line state) + pays (taken_of state.files) ≤ room state) × (left (after_line state) + 2 * pays (taken_of state.files) + closes (taken_of state.files) ≤ left state)
 line_spends state h = let s = spends state.files h in (omega (arith, s.0), omega (arith, s.0, s.1))
 
 parts_room : (parts : List (List ℕ)) → lines_room (lines_of_parts parts) ≤ lines_room parts
@@ -209,7 +227,8 @@ parts_room (x ∷ []) = cases (eqb (length x) 0)
     cases false = omega arith
 parts_room (x ∷ y ∷ more) = omega (arith, parts_room (y ∷ more), stripped x)
 
-onto_room : (x : ℕ) (parts : List (List ℕ)) → 0 < lines_room parts → lines_room (onto_first x parts) ≡ lines_room parts + 1
+onto_room : (x : ℕ) (parts : List (List ℕ)) → 0 < lines_room parts
+    → lines_room (onto_first x parts) ≡ lines_room parts + 1
 onto_room x [] h = absurd (omega arith)
 onto_room x (part ∷ parts) h = omega arith
 
@@ -217,7 +236,8 @@ split_room : (bs : List ℕ) → lines_room (slice_split is_line_feed bs) ≡ le
 split_room [] = refl
 split_room (b ∷ bs) = cases (is_line_feed b) (split_room bs)
   where
-    cases : (t : Bool) → lines_room (slice_split is_line_feed bs) ≡ length bs + 1 → lines_room (if t then [] ∷ slice_split is_line_feed bs else onto_first b (slice_split is_line_feed bs)) ≡ length (b ∷ bs) + 1
+    cases : (t : Bool) → lines_room (slice_split is_line_feed bs) ≡ length bs + 1
+        → lines_room (if t then [] ∷ slice_split is_line_feed bs else onto_first b (slice_split is_line_feed bs)) ≡ length (b ∷ bs) + 1
     cases true e = omega arith
     cases false e = omega (arith, onto_room b (slice_split is_line_feed bs) (omega arith))
 
@@ -225,7 +245,8 @@ pub file_room : (bs : List ℕ) → lines_room (lines bs) ≤ length bs + 1
 file_room bs = omega (arith, parts_room (slice_split is_line_feed bs), split_room bs)
 
 -- what a step takes of less room
-pub spends_more : (space todo more later : ℕ) (new : State) (r : Result Turn SessionFault) → space ≤ more → todo ≤ later → Spends space todo new r → Spends more later new r
+pub spends_more : (space todo more later : ℕ) (new : State) (r : Result Turn SessionFault) → space ≤ more → todo ≤ later
+    → Spends space todo new r → Spends more later new r
 spends_more space todo more later new (Ok (turn.Gives command)) h k s = omega arith
 spends_more space todo more later new (Ok turn.Goes) h k s = (omega (arith, s.0), omega (arith, s.1))
 spends_more space todo more later new (Ok (turn.Reads place name)) h k s = (omega (arith, s.0), omega (arith, s.1))
@@ -233,14 +254,16 @@ spends_more space todo more later new (Ok turn.Ends) h k s = omega arith
 spends_more space todo more later new (Err e) h k s = tt
 
 -- where MASTER waits, no file is open
-pub fresh_files : {Y : Type 0} (waiting : Option (List ℕ)) (files : List Y) → is_fresh waiting files ≡ true → IsSome waiting → length (reverse files) ≡ 0
+pub fresh_files : {Y : Type 0} (waiting : Option (List ℕ)) (files : List Y) → is_fresh waiting files ≡ true
+    → IsSome waiting → length (reverse files) ≡ 0
 fresh_files None files h k = absurd (cc)
 fresh_files (Some master) files h k = length-reverse files ∙ eqb-true (length files) 0 h
 
 pub opened_same : (state : State) → state.waiting ≡ None → opened state ≡ state
 opened_same state h = ap (λ w. record { waiting = w; folder = state.folder; files = state.files; standing = state.standing; ended = state.ended }) (sym h)
 
-pub master_step : (files : Files) (old new : State) (master copy : List ℕ) → Some master ≡ old.waiting → length old.files ≡ 0 → copy ≡ master → new ≡ opened old
+pub master_step : (files : Files) (old new : State) (master copy : List ℕ) → Some master ≡ old.waiting
+    → length old.files ≡ 0 → copy ≡ master → new ≡ opened old
     → remaining files old ≡ asks master (remaining_with files (held files (bytes master)) (record { file = copy; line = 0 }) master new)
 master_step files old new master copy w h c n =
     master_says files old master (sym w) h
@@ -251,33 +274,42 @@ pub says_closed : (files : Files) (state : State) → taken_says files taken.Clo
 unfolding taken_says
 says_closed files state = refl
 
-pub says_bad : (files : Files) (state : State) (place : Place) (c : ScriptCause) → taken_says files (taken.Refused place c) state ≡ refused place c
+pub says_bad : (files : Files) (state : State) (place : Place) (c : ScriptCause)
+    → taken_says files (taken.Refused place c) state ≡ refused place c
 unfolding taken_says
 says_bad files state place c = refl
 
-pub says_cut : (files : Files) (state : State) (place : Place) (pairs : List Pair) (meaning : Meaning) → meaning ≡ meaning_of state.standing.target pairs
+pub says_cut : (files : Files) (state : State) (place : Place) (pairs : List Pair) (meaning : Meaning)
+    → meaning ≡ meaning_of state.standing.target pairs
     → remaining_by files place meaning state ≡ taken_says files (taken.Cut place pairs) state
 unfolding taken_says
 says_cut files state place pairs meaning e = ap (λ m. remaining_by files place m state) e
 
-pub lined : (files : Files) (old mid : State) (t : Taken) → old.waiting ≡ None → t ≡ taken_of old.files → mid ≡ after_line old → taken_says files t mid ≡ remaining files old
+pub lined : (files : Files) (old mid : State) (t : Taken) → old.waiting ≡ None → t ≡ taken_of old.files
+    → mid ≡ after_line old → taken_says files t mid ≡ remaining files old
 lined files old mid t w e m = ap (λ u. taken_says files u mid) e ∙ ap (taken_says files (taken_of old.files)) m ∙ sym (taken_is files old w)
 
-pub lined_spends : (old mid : State) (t : Taken) (new : State) (r : Result Turn SessionFault) → 0 < length old.files → t ≡ taken_of old.files → mid ≡ after_line old
+pub lined_spends : (old mid : State) (t : Taken) (new : State) (r : Result Turn SessionFault) → 0 < length old.files
+    → t ≡ taken_of old.files → mid ≡ after_line old
     → Spends (room mid + pays t) (left mid + 2 * pays t + closes t) new r → Spends (room old) (left old) new r
 lined_spends old mid t new r some e m s =
     let spent = line_spends old some in
     spends_more (room mid + pays t) (left mid + 2 * pays t + closes t) (room old) (left old) new r (rw (m, e) spent.0) (rw (m, e) spent.1) s
 
-pub says_absent : (files : Files) (state : State) (place : Place) (name : List ℕ) → remaining_with files None place name state ≡ refused place cause.AbsentFile
+pub says_absent : (files : Files) (state : State) (place : Place) (name : List ℕ)
+    → remaining_with files None place name state ≡ refused place cause.AbsentFile
 unfolding remaining_with
 says_absent files state place name = refl
 
-pub says_long : (files : Files) (state : State) (place : Place) (name bs : List ℕ) → 1_048_576 < state.standing.read + length bs → remaining_with files (Some bs) place name state ≡ refused place cause.TooLong
+pub says_long : (files : Files) (state : State) (place : Place) (name bs : List ℕ)
+    → 1_048_576 < state.standing.read + length bs
+    → remaining_with files (Some bs) place name state ≡ refused place cause.TooLong
 unfolding remaining_with
 says_long files state place name bs h = ap (λ b. if b then refused place cause.TooLong else remaining files (entered state name bs)) (lt-ltb _ _ h)
 
-pub says_entered : (files : Files) (state : State) (place : Place) (name bs : List ℕ) → state.standing.read + length bs ≤ 1_048_576 → remaining_with files (Some bs) place name state ≡ remaining files (entered state name bs)
+pub says_entered : (files : Files) (state : State) (place : Place) (name bs : List ℕ)
+    → state.standing.read + length bs ≤ 1_048_576
+    → remaining_with files (Some bs) place name state ≡ remaining files (entered state name bs)
 unfolding remaining_with
 says_entered files state place name bs h = ap (λ b. if b then refused place cause.TooLong else remaining files (entered state name bs)) (le-ltb _ _ h)
 
@@ -287,7 +319,8 @@ placed state files read = record { waiting = state.waiting; folder = state.folde
 abbrev pub with_ended : State → Bool → State
 with_ended state b = record { waiting = state.waiting; folder = state.folder; files = state.files; standing = state.standing; ended = b }
 
-remaining_ended : (files : Files) (state : State) (b : Bool) → remaining files (with_ended state b) ≡ remaining files state
+remaining_ended : (files : Files) (state : State) (b : Bool)
+    → remaining files (with_ended state b) ≡ remaining files state
 unfolding remaining
 remaining_ended files state b = cases state.waiting
   where
@@ -296,7 +329,8 @@ remaining_ended files state b = cases state.waiting
     cases (Some master) = refl
 
 -- whether a session has ended says nothing of the script that is left
-pub tells_ended : (files : Files) (said : Script) (state new : State) (b : Bool) (r : Result (Option Command) SessionFault) → new ≡ with_ended state b → Tells files said state r → Tells files said new r
+pub tells_ended : (files : Files) (said : Script) (state new : State) (b : Bool) (r : Result (Option Command) SessionFault)
+    → new ≡ with_ended state b → Tells files said state r → Tells files said new r
 tells_ended files said state new b (Ok (Some command)) e h = h ∙ ap (gives command) (sym (ap (remaining files) e ∙ remaining_ended files state b))
 tells_ended files said state new b (Ok None) e h = (h.0, ap (remaining files) e ∙ remaining_ended files state b ∙ h.1)
 tells_ended files said state new b (Err (fault.Script place c)) e h = h
@@ -305,6 +339,7 @@ tells_ended files said state new b (Err fault.Ended) e h = tt
 tells_ended files said state new b (Err fault.NoMemory) e h = tt
 
 -- at the start all of the script is left
-pub start_says : (files : Files) (master : List ℕ) (state : State) → state ≡ start master → remaining files state ≡ script_of files master
+pub start_says : (files : Files) (master : List ℕ) (state : State) → state ≡ start master
+    → remaining files state ≡ script_of files master
 unfolding remaining
 start_says files master state e = ap (remaining files) e

@@ -221,7 +221,8 @@ pub record FailsAt (old new : Option (List (List ℕ))) (names : List (List ℕ)
 
 -- a call asks for these names; where a read fails, for the first of them up to the name that failed, and for the first of
 -- them where memory runs out
-abbrev pub Asks : {X : Type 0} → Option (List (List ℕ)) → Option (List (List ℕ)) → List (List ℕ) → Result X SessionFault → Type 0
+abbrev pub Asks : {X : Type 0} → Option (List (List ℕ)) → Option (List (List ℕ)) → List (List ℕ) → Result X SessionFault
+    → Type 0
 Asks old new names (Err (fault.Read name)) = FailsAt old new names name
 Asks old new names (Err fault.NoMemory) = GrowsUpTo old new names
 Asks old new names (Err fault.Ended) = new ≡ old

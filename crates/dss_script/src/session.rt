@@ -85,9 +85,11 @@ impl Session {
         lib: &mut L,
     ) -> Result<Option<Command>, SessionFault>
         // Where the library tells what it holds, the next command or the end is the one that the script says.
-        ensures told { (files : Files) → L.holds lib.old ≡ Some files → Tells files (after_names (remaining files self.old)) self.new result }
+        ensures told { (files : Files) → L.holds lib.old ≡ Some files →
+            Tells files (after_names (remaining files self.old)) self.new result }
         // And the names that are asked are those that the script asks for before it, up to the one whose read failed.
-        ensures asked { (files : Files) → L.holds lib.old ≡ Some files → Asks (L.asked lib.old) (L.asked lib.new) (names_first (remaining files self.old)) result }
+        ensures asked { (files : Files) → L.holds lib.old ≡ Some files →
+            Asks (L.asked lib.old) (L.asked lib.new) (names_first (remaining files self.old)) result }
         // Whatever it tells of what it holds, names are only added, and a failed read's is the last.
         ensures grows { GrowsSome (L.asked lib.old) (L.asked lib.new) }
         ensures last { ReadsLast (L.asked lib.old) (L.asked lib.new) result }
@@ -113,8 +115,10 @@ impl Session {
         alloc: Global,
         lib: &mut L,
     ) -> Result<Option<Command>, SessionFault>
-        ensures told { (files : Files) → L.holds lib.old ≡ Some files → Tells files (after_names (remaining files self.old)) self.new result }
-        ensures asked { (files : Files) → L.holds lib.old ≡ Some files → Asks (L.asked lib.old) (L.asked lib.new) (names_first (remaining files self.old)) result }
+        ensures told { (files : Files) → L.holds lib.old ≡ Some files →
+            Tells files (after_names (remaining files self.old)) self.new result }
+        ensures asked { (files : Files) → L.holds lib.old ≡ Some files →
+            Asks (L.asked lib.old) (L.asked lib.new) (names_first (remaining files self.old)) result }
         ensures grows { GrowsSome (L.asked lib.old) (L.asked lib.new) }
         ensures last { ReadsLast (L.asked lib.old) (L.asked lib.new) result }
         ensures holds { L.holds lib.new ≡ L.holds lib.old }
@@ -284,7 +288,8 @@ impl Session {
         name: Text,
     ) -> Result<(), SessionFault>
         requires { self.old.waiting ≡ None }
-        ensures told { (files : Files) → L.holds lib.old ≡ Some files → Enters files (remaining_with files (held files (bytes name)) place name self.old) self.new result }
+        ensures told { (files : Files) → L.holds lib.old ≡ Some files →
+            Enters files (remaining_with files (held files (bytes name)) place name self.old) self.new result }
         ensures room { OnOk result ((room self.new ≤ room self.old + 1) × (left self.new ≤ left self.old + 3)) }
         ensures open { self.new.waiting ≡ None }
         ensures holds { L.holds lib.new ≡ L.holds lib.old }
@@ -303,7 +308,8 @@ impl Session {
     // A file was found, or isn't there. Needs no library.
     fn supply(&mut self, place: Place, name: Text, found: Found) -> Result<(), SessionFault>
         requires { self.old.waiting ≡ None }
-        ensures enters { (files : Files) → Enters files (remaining_with files (found_bytes found) place name self.old) self.new result }
+        ensures enters { (files : Files) →
+            Enters files (remaining_with files (found_bytes found) place name self.old) self.new result }
         ensures room { OnOk result ((room self.new ≤ room self.old + 1) × (left self.new ≤ left self.old + 3)) }
         ensures open { self.new.waiting ≡ None }
         ensures reads_nothing { IsRead result → ⊥ }
@@ -318,7 +324,8 @@ impl Session {
     #[tactic(auto, using(crate::proofs::Steps::file_room))]
     fn stand_at(&mut self, place: Place, name: Text, bytes: Vec<u8>) -> Result<(), SessionFault>
         requires { self.old.waiting ≡ None }
-        ensures enters { (files : Files) → Enters files (remaining_with files (Some bytes.items) place name self.old) self.new result }
+        ensures enters { (files : Files) →
+            Enters files (remaining_with files (Some bytes.items) place name self.old) self.new result }
         ensures room { OnOk result ((room self.new ≤ room self.old + 1) × (left self.new ≤ left self.old + 3)) }
         ensures open { self.new.waiting ≡ None }
         ensures reads_nothing { IsRead result → ⊥ }

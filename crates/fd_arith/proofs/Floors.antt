@@ -7,13 +7,15 @@ use Rattle.std.proofs.lemmas.Nat.{div-mul-add}
 use Rattle.fd_exact.specs.Rounding.{floor_div, ceil_nat}
 use Rattle.fd_exact.specs.Quotients.{floor-neg, ceil_nat_is, ceil_nat_least}
 
-negative_by : (n : ℤ) (f d : ℕ) → n <ℤ pos 0 → 0 < d → neg_ℤ (pos (ceil_nat (nat_abs n * f) d)) ≡ floor_div (n *ℤ pos f) d
+negative_by : (n : ℤ) (f d : ℕ) → n <ℤ pos 0 → 0 < d
+    → neg_ℤ (pos (ceil_nat (nat_abs n * f) d)) ≡ floor_div (n *ℤ pos f) d
 negative_by (pos a) f d h k = absurd (omega (arith, ints))
 negative_by (negsuc a) f d h k =
     let z : negsuc a *ℤ pos f ≡ neg_ℤ (pos (suc a * f)) = omega (arith, ints) in
     rw z (sym (floor-neg (pos (suc a * f)) d ∙ ap neg_ℤ (ceil_nat_is (suc a * f) d k)))
 
-pub negative_floor : (n : ℤ) (s f d : ℕ) → n <ℤ pos 0 → s ≡ nat_abs n → 0 < d → neg_ℤ (pos (ceil_nat (s * f) d)) ≡ floor_div (n *ℤ pos f) d
+pub negative_floor : (n : ℤ) (s f d : ℕ) → n <ℤ pos 0 → s ≡ nat_abs n → 0 < d
+    → neg_ℤ (pos (ceil_nat (s * f) d)) ≡ floor_div (n *ℤ pos f) d
 negative_floor n s f d h e k = ap (λ t. neg_ℤ (pos (ceil_nat (t * f) d))) e ∙ negative_by n f d h k
 
 -- the code's negation of a natural

@@ -62,10 +62,12 @@ capped-IsBounds lo hi h = cases (fits lo && fits hi) refl
 pub outward-IsBounds : (z : ℤ) (d : ℕ) → 0 < d → IsBounds (outward z d)
 outward-IsBounds z d h = capped-IsBounds _ _ (floor-ceil z d h)
 
-pub floor_positive : (q r d : ℕ) → r < d → (t : Bool) (z : ℤ) → t ≡ false → z ≡ pos q → z ≡ floor_div (signed t (q * d + r)) d
+pub floor_positive : (q r d : ℕ) → r < d → (t : Bool) (z : ℤ) → t ≡ false → z ≡ pos q
+    → z ≡ floor_div (signed t (q * d + r)) d
 floor_positive q r d h t z w e = e ∙ sym (ap (λ b. floor_div (signed b (q * d + r)) d) w ∙ floor_from q r d h)
 
-pub ceil_negative : (q r d : ℕ) → r < d → (t : Bool) (z : ℤ) → t ≡ true → z ≡ neg_ℤ (pos q) → z ≡ ceil_div (signed t (q * d + r)) d
+pub ceil_negative : (q r d : ℕ) → r < d → (t : Bool) (z : ℤ) → t ≡ true → z ≡ neg_ℤ (pos q)
+    → z ≡ ceil_div (signed t (q * d + r)) d
 ceil_negative q r d h t z w e = e ∙ sym (ap (λ b. ceil_div (signed b (q * d + r)) d) w ∙ ceil-neg (pos (q * d + r)) d ∙ ap neg_ℤ (floor_from q r d h))
 
 module _ (q r d up : ℕ) (h : r < d) (e : r ≡ 0 → up ≡ q) (f : 0 < r → up ≡ q + 1) where
@@ -92,10 +94,12 @@ module _ (q r d up : ℕ) (h : r < d) (e : r ≡ 0 → up ≡ q) (f : 0 < r → 
       elim_r zero k = omega (arith, e (sym k))
       elim_r (suc s) k = omega (arith, f (omega arith))
 
-  pub outward_negative : (t : Bool) (l k : ℤ) → up ≤ 2 ^ 120 → t ≡ true → l ≡ neg_ℤ (pos up) → k ≡ neg_ℤ (pos q) → Some (l, k) ≡ outward (signed t (q * d + r)) d
+  pub outward_negative : (t : Bool) (l k : ℤ) → up ≤ 2 ^ 120 → t ≡ true → l ≡ neg_ℤ (pos up) → k ≡ neg_ℤ (pos q)
+      → Some (l, k) ≡ outward (signed t (q * d + r)) d
   outward_negative t l k p w u v = sym (ap (λ b. outward (signed b (q * d + r)) d) w ∙ outward_up ∙ capped-within (neg_ℤ (pos up)) (neg_ℤ (pos q)) (omega (arith, ints, near_up)) (omega (arith, ints, near_up)) ∙ sym (λ i. Some (u i, v i)))
 
-  pub outward_positive : (t : Bool) (l k : ℤ) → up ≤ 2 ^ 120 → t ≡ false → l ≡ pos q → k ≡ pos up → Some (l, k) ≡ outward (signed t (q * d + r)) d
+  pub outward_positive : (t : Bool) (l k : ℤ) → up ≤ 2 ^ 120 → t ≡ false → l ≡ pos q → k ≡ pos up
+      → Some (l, k) ≡ outward (signed t (q * d + r)) d
   outward_positive t l k p w u v = sym (ap (λ b. outward (signed b (q * d + r)) d) w ∙ outward_down ∙ capped-within (pos q) (pos up) (omega (arith, ints, near_up)) (omega (arith, ints, near_up)) ∙ sym (λ i. Some (u i, v i)))
 
 pub outward_large : (t : Bool) (m d : ℕ) → 0 < d → (2 ^ 120 + 1) * d ≤ m → outward (signed t m) d ≡ None

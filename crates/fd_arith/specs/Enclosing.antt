@@ -42,7 +42,8 @@ HoldsCoef-same a x y s h = same_between a (x.top *ℤ pos (2 ^ 40)) (y.top *ℤ 
 
 -- ---- sums
 
-sum-between : (a b : Bounds) (n m : ℤ) (d e : ℕ) → Between a n d → Between b m e → Between (sum a b) ((n *ℤ pos e) +ℤ (m *ℤ pos d)) (d * e)
+sum-between : (a b : Bounds) (n m : ℤ) (d e : ℕ) → Between a n d → Between b m e
+    → Between (sum a b) ((n *ℤ pos e) +ℤ (m *ℤ pos d)) (d * e)
 sum-between (Some a) (Some b) n m d e h k = capped-holds (a.0 +ℤ b.0) (a.1 +ℤ b.1) ((n *ℤ pos e) +ℤ (m *ℤ pos d)) (d * e)
     (rw (common a.0 b.0 d e) (omega (arith, ints, scale _ _ e h.0, scale _ _ d k.0)))
     (rw (common a.1 b.1 d e) (omega (arith, ints, scale _ _ e h.1, scale _ _ d k.1)))
@@ -100,7 +101,8 @@ clip_high lo hi e n d h = ⊎_elim
     omega (arith, ints, clamps))
     (≤ℤ_total hi (int_max e lo))
 
-pub clamped-holds : (a : Bounds) (lo hi : ℤ) → lo ≤ℤ hi → (x : Fraction) → Holds a x → Holds (clamped a lo hi) (clipped lo hi x)
+pub clamped-holds : (a : Bounds) (lo hi : ℤ) → lo ≤ℤ hi → (x : Fraction) → Holds a x
+    → Holds (clamped a lo hi) (clipped lo hi x)
 clamped-holds (Some a) lo hi o x h = capped-holds (clip lo hi a.0) (clip lo hi a.1) (clip (lo *ℤ pos x.over) (hi *ℤ pos x.over) x.top) x.over (clip_low lo hi a.0 x.top x.over h.0) (clip_high lo hi a.1 x.top x.over h.1)
 clamped-holds None lo hi o x h =
     let s = scale lo hi x.over o in
@@ -127,19 +129,24 @@ pub ruleset operators = (sum_lem, difference_lem, negation_lem, hull_lem)
 
 -- ---- what a body that makes the ends one by one has to show
 
-pub sum_from : {a b r : Bounds} {lo hi low high l h : ℤ} → Some (lo, hi) ≡ a → Some (low, high) ≡ b → r ≡ capped l h → l ≡ (lo +ℤ low) → h ≡ (hi +ℤ high) → IsSum a b r
+pub sum_from : {a b r : Bounds} {lo hi low high l h : ℤ} → Some (lo, hi) ≡ a → Some (low, high) ≡ b → r ≡ capped l h
+    → l ≡ (lo +ℤ low) → h ≡ (hi +ℤ high) → IsSum a b r
 sum_from p q e u v = subst (IsSum _ _) (sym (e ∙ (λ i. capped (u i) (v i)) ∙ (λ i. sum (p i) (q i)))) (sum_lem _ _)
 
-pub difference_from : {a b r : Bounds} {lo hi low high l h : ℤ} → Some (lo, hi) ≡ a → Some (low, high) ≡ b → r ≡ capped l h → l ≡ (lo -ℤ high) → h ≡ (hi -ℤ low) → IsDifference a b r
+pub difference_from : {a b r : Bounds} {lo hi low high l h : ℤ} → Some (lo, hi) ≡ a → Some (low, high) ≡ b
+    → r ≡ capped l h → l ≡ (lo -ℤ high) → h ≡ (hi -ℤ low) → IsDifference a b r
 difference_from p q e u v = subst (IsDifference _ _) (sym (e ∙ (λ i. capped (u i) (v i)) ∙ (λ i. difference (p i) (q i)))) (difference_lem _ _)
 
-pub negation_from : {a r : Bounds} {lo hi l h : ℤ} → Some (lo, hi) ≡ a → r ≡ Some (l, h) → l ≡ neg_ℤ hi → h ≡ neg_ℤ lo → IsNegation a r
+pub negation_from : {a r : Bounds} {lo hi l h : ℤ} → Some (lo, hi) ≡ a → r ≡ Some (l, h) → l ≡ neg_ℤ hi → h ≡ neg_ℤ lo
+    → IsNegation a r
 negation_from p e u v = subst (IsNegation _) (sym (e ∙ (λ i. Some (u i, v i)) ∙ (λ i. negation (p i)))) (negation_lem _)
 
-pub hull_from : {a b r : Bounds} {lo hi low high l h : ℤ} → Some (lo, hi) ≡ a → Some (low, high) ≡ b → r ≡ Some (l, h) → l ≡ int_min lo low → h ≡ int_max hi high → IsHull a b r
+pub hull_from : {a b r : Bounds} {lo hi low high l h : ℤ} → Some (lo, hi) ≡ a → Some (low, high) ≡ b → r ≡ Some (l, h)
+    → l ≡ int_min lo low → h ≡ int_max hi high → IsHull a b r
 hull_from p q e u v = subst (IsHull _ _) (sym (e ∙ (λ i. Some (u i, v i)) ∙ (λ i. hull_of (p i) (q i)))) (hull_lem _ _)
 
-pub clamped_from : {a r : Bounds} {lo hi l h : ℤ} (low high : ℤ) → low ≤ℤ high → Some (lo, hi) ≡ a → r ≡ capped l h → l ≡ clip low high lo → h ≡ clip low high hi → IsClamped a low high r
+pub clamped_from : {a r : Bounds} {lo hi l h : ℤ} (low high : ℤ) → low ≤ℤ high → Some (lo, hi) ≡ a → r ≡ capped l h
+    → l ≡ clip low high lo → h ≡ clip low high hi → IsClamped a low high r
 clamped_from low high o p e u v = subst (IsClamped _ low high) (sym (e ∙ (λ i. capped (u i) (v i)) ∙ (λ i. clamped (p i) low high))) (clamped_lem _ low high o)
 
 pub clamped_all : {a r : Bounds} (low high : ℤ) → low ≤ℤ high → a ≡ None → r ≡ capped low high → IsClamped a low high r

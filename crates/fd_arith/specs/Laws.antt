@@ -40,7 +40,8 @@ pub record IsSquare (a r : Bounds) : Type 0 where
 -- the quotient of x by m / q, in units of 2^-40
 pub record IsQuotient (a d r : Bounds) : Type 0 where
   pub ends : IsQuotientOf a d r
-  pub holds : (x : Fraction) (m q : ℕ) → Holds a x → Holds d (fraction (pos m) q) → HoldsCoef r (fraction (x.top *ℤ pos q) (x.over * m))
+  pub holds : (x : Fraction) (m q : ℕ) → Holds a x → Holds d (fraction (pos m) q)
+      → HoldsCoef r (fraction (x.top *ℤ pos q) (x.over * m))
 
 -- each number from 0 up whose square is held is held; a root that is no fraction lies between the ends
 -- since its square lies between theirs

@@ -69,14 +69,17 @@ module _ (q r d up : ℕ) (h : r < d) (e : 2 * r < d → up ≡ q) (f : d ≤ 2 
   near_positive t z w v = v ∙ sym (ap (λ b. near_div (signed b (q * d + r)) d) w ∙ near_from q r d up h e f false)
 
 -- what a body that found no quotient has to show
-pub scaled_outward_past : (n d : ℤ) (a b : ℕ) → a ≡ unsigned_abs n → b ≡ unsigned_abs d → 0 < b → 2 ^ 126 * b ≤ a * 2 ^ 40 → None ≡ outward (n *ℤ pos (2 ^ 40)) (unsigned_abs d)
+pub scaled_outward_past : (n d : ℤ) (a b : ℕ) → a ≡ unsigned_abs n → b ≡ unsigned_abs d → 0 < b
+    → 2 ^ 126 * b ≤ a * 2 ^ 40 → None ≡ outward (n *ℤ pos (2 ^ 40)) (unsigned_abs d)
 scaled_outward_past n d a b e f h k = sym (ap (λ z. outward z (unsigned_abs d)) (scaled_sign n) ∙ outward_large (is_below n) (unsigned_abs n * 2 ^ 40) (unsigned_abs d) (omega arith) (omega arith))
 
-pub scaled_nearest_past : (n d : ℤ) (a b : ℕ) → a ≡ unsigned_abs n → b ≡ unsigned_abs d → 0 < b → 2 ^ 126 * b ≤ a * 2 ^ 40 → None ≡ nearest (n *ℤ pos (2 ^ 40)) (unsigned_abs d)
+pub scaled_nearest_past : (n d : ℤ) (a b : ℕ) → a ≡ unsigned_abs n → b ≡ unsigned_abs d → 0 < b
+    → 2 ^ 126 * b ≤ a * 2 ^ 40 → None ≡ nearest (n *ℤ pos (2 ^ 40)) (unsigned_abs d)
 scaled_nearest_past n d a b e f h k = sym (ap (λ z. nearest z (unsigned_abs d)) (scaled_sign n) ∙ nearest_large (is_below n) (unsigned_abs n * 2 ^ 40) (unsigned_abs d) (omega arith) (omega arith))
 
 -- what the bodies of `Wide` have to show
-pub product_past : {x y r : Option ℤ} {a b : ℤ} → Some a ≡ x → Some b ≡ y → ¬ (FitsSigned w128 (a *ℤ b)) → r ≡ None → r ≡ wide_product x y
+pub product_past : {x y r : Option ℤ} {a b : ℤ} → Some a ≡ x → Some b ≡ y → ¬ (FitsSigned w128 (a *ℤ b)) → r ≡ None
+    → r ≡ wide_product x y
 product_past {a = a} {b = b} p q f e = e ∙ sym ((λ i. wide_product (sym p i) (sym q i)) ∙ within-past (a *ℤ b) (λ w. f (omega (arith, ints, w.0, w.1))))
 
 euclid_is : (z d : ℤ) → pos 0 <ℤ d → int_div_euclid z d ≡ floor_div z (unsigned_abs d)
@@ -84,7 +87,8 @@ euclid_is (pos a) (pos d) h = refl
 euclid_is (negsuc a) (pos d) h = refl
 euclid_is z (negsuc d) h = absurd (omega (arith, ints))
 
-pub ceil_by_euclid : (a d z q r : ℤ) → pos 0 <ℤ d → z ≡ neg_ℤ a → q ≡ int_div_euclid z d → r ≡ neg_ℤ q → r ≡ ceil_div a (unsigned_abs d)
+pub ceil_by_euclid : (a d z q r : ℤ) → pos 0 <ℤ d → z ≡ neg_ℤ a → q ≡ int_div_euclid z d → r ≡ neg_ℤ q
+    → r ≡ ceil_div a (unsigned_abs d)
 ceil_by_euclid a d z q r h e f g = g ∙ ap neg_ℤ (f ∙ ap (λ x. int_div_euclid x d) e ∙ euclid_is (neg_ℤ a) d h)
 
 pub quotient_fits : (z d : ℤ) → Fits z → pos 0 <ℤ d → Fits (int_div_euclid z d)
@@ -119,5 +123,6 @@ bounded_some z h = some_by (int_le (neg_ℤ (pos (2 ^ 100))) z && int_le z (pos 
 pub near_size : (n : ℤ) (d k : ℕ) → 0 < d → nat_abs n * 2 ^ 40 ≤ k * d → nat_abs (near_div (n *ℤ pos (2 ^ 40)) d) ≤ k
 near_size n d k p h = near_within (n *ℤ pos (2 ^ 40)) d k p (rw (unsigned_abs-mul n (pos (2 ^ 40))) h)
 
-pub near_some : (n : ℤ) (d : ℕ) → 0 < d → nat_abs n * 2 ^ 40 ≤ 2 ^ 100 * d → bounded (near_div (n *ℤ pos (2 ^ 40)) d) ≡ Some (near_div (n *ℤ pos (2 ^ 40)) d)
+pub near_some : (n : ℤ) (d : ℕ) → 0 < d → nat_abs n * 2 ^ 40 ≤ 2 ^ 100 * d
+    → bounded (near_div (n *ℤ pos (2 ^ 40)) d) ≡ Some (near_div (n *ℤ pos (2 ^ 40)) d)
 near_some n d p h = bounded_some (near_div (n *ℤ pos (2 ^ 40)) d) (near_size n d (2 ^ 100) p h)

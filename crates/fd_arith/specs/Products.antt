@@ -16,7 +16,8 @@ use Rattle.fd_arith.specs.Enclosing.{capped-holds, rescaled}
 use Rattle.fd_arith.specs.Capping.{fits-true, true-fits, same_bool, both, and-true, capped-within, capped-past}
 
 -- the hull of ends that may have passed the limit
-in_both : (l h m k : ℤ) → l ≤ℤ h → m ≤ℤ k → (fits (int_min l m) && fits (int_max h k)) ≡ ((fits l && fits h) && (fits m && fits k))
+in_both : (l h m k : ℤ) → l ≤ℤ h → m ≤ℤ k
+    → (fits (int_min l m) && fits (int_max h k)) ≡ ((fits l && fits h) && (fits m && fits k))
 in_both l h m k p q = same_bool _ _
     (λ e. let w = both (fits (int_min l m)) (fits (int_max h k)) e in let v = fits-true (int_min l m) w.0 in let u = fits-true (int_max h k) w.1 in
     and-true _ _ (and-true _ _ (true-fits l (omega (arith, ints, clamps))) (true-fits h (omega (arith, ints, clamps)))) (and-true _ _ (true-fits m (omega (arith, ints, clamps))) (true-fits k (omega (arith, ints, clamps)))))
@@ -24,32 +25,37 @@ in_both l h m k p q = same_bool _ _
     let fl = fits-true l v.0 in let fh = fits-true h v.1 in let fm = fits-true m u.0 in let fk = fits-true k u.1 in
     and-true _ _ (true-fits (int_min l m) (omega (arith, ints, clamps))) (true-fits (int_max h k) (omega (arith, ints, clamps))))
 
-merge : (t u : Bool) (l h m k : ℤ) → hull_of (cond t (Some (l, h)) None) (cond u (Some (m, k)) None) ≡ cond (t && u) (Some (int_min l m, int_max h k)) None
+merge : (t u : Bool) (l h m k : ℤ)
+    → hull_of (cond t (Some (l, h)) None) (cond u (Some (m, k)) None) ≡ cond (t && u) (Some (int_min l m, int_max h k)) None
 merge true true l h m k = refl
 merge true false l h m k = refl
 merge false u l h m k = refl
 
-pub hull-capped : (l h m k : ℤ) → l ≤ℤ h → m ≤ℤ k → hull_of (capped l h) (capped m k) ≡ capped (int_min l m) (int_max h k)
+pub hull-capped : (l h m k : ℤ) → l ≤ℤ h → m ≤ℤ k
+    → hull_of (capped l h) (capped m k) ≡ capped (int_min l m) (int_max h k)
 unfolding capped
 hull-capped l h m k p q = merge (fits l && fits h) (fits m && fits k) l h m k ∙ ap (λ t. cond t (Some (int_min l m, int_max h k)) None) (sym (in_both l h m k p q))
 
 -- ---- products lie between the least and the greatest product of ends
 
-low_between : (a f : ℤ × ℤ) (n m : ℤ) (d e : ℕ) → Between (Some a) n d → Between (Some f) m e → (least a f *ℤ pos (d * e)) ≤ℤ (n *ℤ m)
+low_between : (a f : ℤ × ℤ) (n m : ℤ) (d e : ℕ) → Between (Some a) n d → Between (Some f) m e
+    → (least a f *ℤ pos (d * e)) ≤ℤ (n *ℤ m)
 low_between a f n m d e h k = lower_product n (a.0 *ℤ pos d) (a.1 *ℤ pos d) m (f.0 *ℤ pos e) (f.1 *ℤ pos e) (least a f *ℤ pos (d * e)) h.0 h.1 k.0 k.1
     (rw (exchange a.0 f.0 d e) (scale _ _ (d * e) (omega (arith, ints, clamps))))
     (rw (exchange a.0 f.1 d e) (scale _ _ (d * e) (omega (arith, ints, clamps))))
     (rw (exchange a.1 f.0 d e) (scale _ _ (d * e) (omega (arith, ints, clamps))))
     (rw (exchange a.1 f.1 d e) (scale _ _ (d * e) (omega (arith, ints, clamps))))
 
-high_between : (a f : ℤ × ℤ) (n m : ℤ) (d e : ℕ) → Between (Some a) n d → Between (Some f) m e → (n *ℤ m) ≤ℤ (greatest a f *ℤ pos (d * e))
+high_between : (a f : ℤ × ℤ) (n m : ℤ) (d e : ℕ) → Between (Some a) n d → Between (Some f) m e
+    → (n *ℤ m) ≤ℤ (greatest a f *ℤ pos (d * e))
 high_between a f n m d e h k = upper_product n (a.0 *ℤ pos d) (a.1 *ℤ pos d) m (f.0 *ℤ pos e) (f.1 *ℤ pos e) (greatest a f *ℤ pos (d * e)) h.0 h.1 k.0 k.1
     (rw (exchange a.0 f.0 d e) (scale _ _ (d * e) (omega (arith, ints, clamps))))
     (rw (exchange a.0 f.1 d e) (scale _ _ (d * e) (omega (arith, ints, clamps))))
     (rw (exchange a.1 f.0 d e) (scale _ _ (d * e) (omega (arith, ints, clamps))))
     (rw (exchange a.1 f.1 d e) (scale _ _ (d * e) (omega (arith, ints, clamps))))
 
-product-between : (a f : ℤ × ℤ) (n m : ℤ) (d e : ℕ) → Between (Some a) n d → Between (Some f) m e → Between (product (Some a) (Some f)) (n *ℤ m) (d * e * 2 ^ 40)
+product-between : (a f : ℤ × ℤ) (n m : ℤ) (d e : ℕ) → Between (Some a) n d → Between (Some f) m e
+    → Between (product (Some a) (Some f)) (n *ℤ m) (d * e * 2 ^ 40)
 product-between a f n m d e h k =
     let L = least a f in
     let U = greatest a f in
@@ -71,11 +77,13 @@ area-holds (Some a) (Some b) x y h k = capped-holds (least a b) (greatest a b) (
 area-holds (Some a) None x y h k = tt
 area-holds None b x y h k = tt
 
-hull-rounded : (x y : ℤ) → hull_of (rounded x) (rounded y) ≡ capped (int_min (floor_div x (2 ^ 40)) (floor_div y (2 ^ 40))) (int_max (ceil_div x (2 ^ 40)) (ceil_div y (2 ^ 40)))
+hull-rounded : (x y : ℤ)
+    → hull_of (rounded x) (rounded y) ≡ capped (int_min (floor_div x (2 ^ 40)) (floor_div y (2 ^ 40))) (int_max (ceil_div x (2 ^ 40)) (ceil_div y (2 ^ 40)))
 hull-rounded x y = hull-capped _ _ _ _ (floor-ceil x (2 ^ 40) (lit< tt)) (floor-ceil y (2 ^ 40) (lit< tt))
 
 -- the hull of the four products' own ends
-pub hull-four : (p q r s : ℤ) → hull_of (hull_of (rounded p) (rounded q)) (hull_of (rounded r) (rounded s)) ≡ capped (floor_div (int_min (int_min p q) (int_min r s)) (2 ^ 40)) (ceil_div (int_max (int_max p q) (int_max r s)) (2 ^ 40))
+pub hull-four : (p q r s : ℤ)
+    → hull_of (hull_of (rounded p) (rounded q)) (hull_of (rounded r) (rounded s)) ≡ capped (floor_div (int_min (int_min p q) (int_min r s)) (2 ^ 40)) (ceil_div (int_max (int_max p q) (int_max r s)) (2 ^ 40))
 hull-four p q r s =
     let fp = floor-ceil p (2 ^ 40) (lit< tt) in
     let fq = floor-ceil q (2 ^ 40) (lit< tt) in
@@ -95,10 +103,12 @@ pub product_lem : (a f : Bounds) → IsProduct a f (product a f)
 product_lem a f = record { ends = refl; holds = product-holds a f }
 
 -- the hull of the four rounded products
-pub four_products : (lo hi low high : ℤ) → hull_of (hull_of (rounded (lo *ℤ low)) (rounded (lo *ℤ high))) (hull_of (rounded (hi *ℤ low)) (rounded (hi *ℤ high))) ≡ product (Some (lo, hi)) (Some (low, high))
+pub four_products : (lo hi low high : ℤ)
+    → hull_of (hull_of (rounded (lo *ℤ low)) (rounded (lo *ℤ high))) (hull_of (rounded (hi *ℤ low)) (rounded (hi *ℤ high))) ≡ product (Some (lo, hi)) (Some (low, high))
 four_products lo hi low high = hull-four (lo *ℤ low) (lo *ℤ high) (hi *ℤ low) (hi *ℤ high)
 
-pub hull-four-capped : (l1 h1 l2 h2 l3 h3 l4 h4 : ℤ) → l1 ≤ℤ h1 → l2 ≤ℤ h2 → l3 ≤ℤ h3 → l4 ≤ℤ h4 → hull_of (hull_of (capped l1 h1) (capped l2 h2)) (hull_of (capped l3 h3) (capped l4 h4)) ≡ capped (int_min (int_min l1 l2) (int_min l3 l4)) (int_max (int_max h1 h2) (int_max h3 h4))
+pub hull-four-capped : (l1 h1 l2 h2 l3 h3 l4 h4 : ℤ) → l1 ≤ℤ h1 → l2 ≤ℤ h2 → l3 ≤ℤ h3 → l4 ≤ℤ h4
+    → hull_of (hull_of (capped l1 h1) (capped l2 h2)) (hull_of (capped l3 h3) (capped l4 h4)) ≡ capped (int_min (int_min l1 l2) (int_min l3 l4)) (int_max (int_max h1 h2) (int_max h3 h4))
 hull-four-capped l1 h1 l2 h2 l3 h3 l4 h4 p1 p2 p3 p4 =
     (λ i. hull_of (hull-capped l1 h1 l2 h2 p1 p2 i) (hull-capped l3 h3 l4 h4 p3 p4 i))
     ∙ hull-capped (int_min l1 l2) (int_max h1 h2) (int_min l3 l4) (int_max h3 h4) (omega (arith, ints, clamps)) (omega (arith, ints, clamps))
@@ -148,17 +158,23 @@ pub ceil_small : (z : ℤ) → IsSmallProduct z → Fits (ceil_div z (2 ^ 40))
 ceil_small z h = let f = floor_small (neg_ℤ z) (omega (arith, ints, h.0, h.1)) in omega (arith, ints, f.0, f.1)
 
 -- what a body has to show that makes the two ends
-pub small_from : {r : Bounds} (lo hi low high l h : ℤ) → IsSmallProduct (least (lo, hi) (low, high)) → IsSmallProduct (greatest (lo, hi) (low, high)) → r ≡ Some (l, h) → l ≡ floor_div (least (lo, hi) (low, high)) (2 ^ 40) → h ≡ ceil_div (greatest (lo, hi) (low, high)) (2 ^ 40) → r ≡ product (Some (lo, hi)) (Some (low, high))
+pub small_from : {r : Bounds} (lo hi low high l h : ℤ) → IsSmallProduct (least (lo, hi) (low, high))
+    → IsSmallProduct (greatest (lo, hi) (low, high)) → r ≡ Some (l, h)
+    → l ≡ floor_div (least (lo, hi) (low, high)) (2 ^ 40) → h ≡ ceil_div (greatest (lo, hi) (low, high)) (2 ^ 40)
+    → r ≡ product (Some (lo, hi)) (Some (low, high))
 small_from lo hi low high l h p q e u v = e ∙ (λ i. Some (u i, v i)) ∙ sym (capped-within _ _ (floor_small _ p) (ceil_small _ q))
 
-pub product_known : {a f r : Bounds} {lo hi low high : ℤ} → Some (lo, hi) ≡ a → Some (low, high) ≡ f → r ≡ product (Some (lo, hi)) (Some (low, high)) → IsProduct a f r
+pub product_known : {a f r : Bounds} {lo hi low high : ℤ} → Some (lo, hi) ≡ a → Some (low, high) ≡ f
+    → r ≡ product (Some (lo, hi)) (Some (low, high)) → IsProduct a f r
 product_known p q e = subst (IsProduct _ _) (sym (e ∙ (λ i. product (p i) (q i)))) (product_lem _ _)
 
 pub area_lem : (a b : Bounds) → IsArea a b (area_of a b)
 area_lem a b = record { ends = refl; holds = area-holds a b }
 
 -- what a body that hulls the four products has to show
-pub area_from : {a b r : Bounds} {lo hi low high : ℤ} → Some (lo, hi) ≡ a → Some (low, high) ≡ b → r ≡ hull_of (hull_of (capped (lo *ℤ low) (lo *ℤ low)) (capped (lo *ℤ high) (lo *ℤ high))) (hull_of (capped (hi *ℤ low) (hi *ℤ low)) (capped (hi *ℤ high) (hi *ℤ high))) → IsArea a b r
+pub area_from : {a b r : Bounds} {lo hi low high : ℤ} → Some (lo, hi) ≡ a → Some (low, high) ≡ b
+    → r ≡ hull_of (hull_of (capped (lo *ℤ low) (lo *ℤ low)) (capped (lo *ℤ high) (lo *ℤ high))) (hull_of (capped (hi *ℤ low) (hi *ℤ low)) (capped (hi *ℤ high) (hi *ℤ high)))
+    → IsArea a b r
 area_from {lo = lo} {hi = hi} {low = low} {high = high} p q e = subst (IsArea _ _) (sym (e ∙ hull-four-capped _ _ _ _ _ _ _ _ (omega (arith, ints)) (omega (arith, ints)) (omega (arith, ints)) (omega (arith, ints)) ∙ (λ i. area_of (p i) (q i)))) (area_lem _ _)
 
 -- a product that passes 128 bits passes the limit
@@ -187,7 +203,8 @@ square_below n h p q = ≤ℤ_trans (mul-le_flip n h h p q) (rw (comm n h) (mul-
 apart_zero : (lo hi : ℤ) → (int_le lo (pos 0) && int_le (pos 0) hi) ≡ false → (pos 0 <ℤ lo) ⊎ (hi <ℤ pos 0)
 apart_zero lo hi e = grind (arith, ints)
 
-least_square_by : (t : Bool) (lo hi n : ℤ) (d : ℕ) → (t ≡ false → (pos 0 <ℤ lo) ⊎ (hi <ℤ pos 0)) → (lo *ℤ pos d) ≤ℤ n → n ≤ℤ (hi *ℤ pos d) → (cond t (pos 0) (int_min (lo *ℤ lo) (hi *ℤ hi)) *ℤ pos (d * d)) ≤ℤ (n *ℤ n)
+least_square_by : (t : Bool) (lo hi n : ℤ) (d : ℕ) → (t ≡ false → (pos 0 <ℤ lo) ⊎ (hi <ℤ pos 0)) → (lo *ℤ pos d) ≤ℤ n
+    → n ≤ℤ (hi *ℤ pos d) → (cond t (pos 0) (int_min (lo *ℤ lo) (hi *ℤ hi)) *ℤ pos (d * d)) ≤ℤ (n *ℤ n)
 least_square_by true lo hi n d f p q = ≤ℤ_trans (none d) (square_up n)
   where
     none : (d : ℕ) → (pos 0 *ℤ pos (d * d)) ≤ℤ pos 0
@@ -218,11 +235,15 @@ square-holds None x h = tt
 square_lem : (a : Bounds) → IsSquare a (square_of a)
 square_lem a = record { ends = refl; holds = square-holds a }
 
-squares_ends : (lo hi : ℤ) → hull_of (capped (lo *ℤ lo) (lo *ℤ lo)) (capped (hi *ℤ hi) (hi *ℤ hi)) ≡ capped (int_min (lo *ℤ lo) (hi *ℤ hi)) (int_max (lo *ℤ lo) (hi *ℤ hi))
+squares_ends : (lo hi : ℤ)
+    → hull_of (capped (lo *ℤ lo) (lo *ℤ lo)) (capped (hi *ℤ hi) (hi *ℤ hi)) ≡ capped (int_min (lo *ℤ lo) (hi *ℤ hi)) (int_max (lo *ℤ lo) (hi *ℤ hi))
 squares_ends lo hi = hull-capped (lo *ℤ lo) (lo *ℤ lo) (hi *ℤ hi) (hi *ℤ hi) (omega (arith, ints)) (omega (arith, ints))
 
 -- what a body has to show where 0 lies between the ends, and where it doesn't
-pub square_about : {a r : Bounds} {lo hi : ℤ} (t : Bool) → Some (lo, hi) ≡ a → t ≡ (int_le lo (pos 0) && int_le (pos 0) hi) → t ≡ true → r ≡ hull_of (hull_of (capped (lo *ℤ lo) (lo *ℤ lo)) (capped (hi *ℤ hi) (hi *ℤ hi))) (capped (pos 0) (pos 0)) → IsSquare a r
+pub square_about : {a r : Bounds} {lo hi : ℤ} (t : Bool) → Some (lo, hi) ≡ a
+    → t ≡ (int_le lo (pos 0) && int_le (pos 0) hi) → t ≡ true
+    → r ≡ hull_of (hull_of (capped (lo *ℤ lo) (lo *ℤ lo)) (capped (hi *ℤ hi) (hi *ℤ hi))) (capped (pos 0) (pos 0))
+    → IsSquare a r
 square_about {lo = lo} {hi = hi} t p w u e = subst (IsSquare _) (sym (e
     ∙ ap (λ b. hull_of b (capped (pos 0) (pos 0))) (squares_ends lo hi)
     ∙ hull-capped (int_min (lo *ℤ lo) (hi *ℤ hi)) (int_max (lo *ℤ lo) (hi *ℤ hi)) (pos 0) (pos 0) (omega (arith, ints, clamps)) (omega (arith, ints))
@@ -241,7 +262,9 @@ square_about {lo = lo} {hi = hi} t p w u e = subst (IsSquare _) (sym (e
         above : (x y : ℤ) → pos 0 ≤ℤ x → pos 0 ≤ℤ y → int_max (int_max x y) (pos 0) ≡ int_max x y
         above x y h k = omega (arith, ints, clamps)
 
-pub square_apart : {a r : Bounds} {lo hi : ℤ} (t : Bool) → Some (lo, hi) ≡ a → t ≡ (int_le lo (pos 0) && int_le (pos 0) hi) → t ≡ false → r ≡ hull_of (capped (lo *ℤ lo) (lo *ℤ lo)) (capped (hi *ℤ hi) (hi *ℤ hi)) → IsSquare a r
+pub square_apart : {a r : Bounds} {lo hi : ℤ} (t : Bool) → Some (lo, hi) ≡ a
+    → t ≡ (int_le lo (pos 0) && int_le (pos 0) hi) → t ≡ false
+    → r ≡ hull_of (capped (lo *ℤ lo) (lo *ℤ lo)) (capped (hi *ℤ hi) (hi *ℤ hi)) → IsSquare a r
 square_apart {lo = lo} {hi = hi} t p w u e = subst (IsSquare _) (sym (e
     ∙ squares_ends lo hi
     ∙ (λ i. capped (down i) (int_max (lo *ℤ lo) (hi *ℤ hi)))

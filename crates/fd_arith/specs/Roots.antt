@@ -51,7 +51,8 @@ by_test : (t : Bool) (x y : ℤ) → pos 0 ≤ℤ x → cond t (pos 0) (int_min 
 by_test true x y h = h
 by_test false x y h = omega (arith, ints, clamps)
 
-squares_of : (lo hi n : ℕ) (d : ℕ) → lo * lo * d ≤ n → n ≤ hi * hi * d → Between (square_of (Some (pos lo, pos hi))) (pos n) d
+squares_of : (lo hi n : ℕ) (d : ℕ) → lo * lo * d ≤ n → n ≤ hi * hi * d
+    → Between (square_of (Some (pos lo, pos hi))) (pos n) d
 squares_of lo hi n d l h = capped-holds (least_square (pos lo, pos hi)) (int_max (pos lo *ℤ pos lo) (pos hi *ℤ pos hi)) (pos n) d
     (≤ℤ_trans (scale (least_square (pos lo, pos hi)) (pos (lo * lo)) d (by_test (int_le (pos lo) (pos 0) && int_le (pos 0) (pos hi)) (pos lo *ℤ pos lo) (pos hi *ℤ pos hi) (omega (arith, ints)))) (omega (arith, ints)))
     (≤ℤ_trans (upper n (hi * hi) d h) (scale (pos (hi * hi)) (int_max (pos lo *ℤ pos lo) (pos hi *ℤ pos hi)) d (omega (arith, ints, clamps))))
@@ -66,7 +67,8 @@ squares-between (Some s) r (lo, (hi, (is, (low, high)))) n d h =
     let u = above_non_negative s.1 d n h.1 in
     subst (λ (x : Bounds). Between (square_of x) (pos n) d) (sym is) (squares_of lo hi n d (omega (arith, l, mul-le-mul_right d low.0)) (omega (arith, u, mul-le-mul_right d high.0)))
 
-squares_from_up : (s r : Bounds) → IsRootOf s r → (t : ℤ) (d : ℕ) → pos 0 ≤ℤ t → Between s t d → Between (square_of r) t d
+squares_from_up : (s r : Bounds) → IsRootOf s r → (t : ℤ) (d : ℕ) → pos 0 ≤ℤ t → Between s t d
+    → Between (square_of r) t d
 squares_from_up s r w (pos n) d p h = squares-between s r w n d h
 squares_from_up s r w (negsuc n) d p h = absurd (omega (arith, ints))
 
@@ -78,10 +80,12 @@ non_negative-mono (pos x) (pos y) h = omega (arith, ints)
 non_negative-mono (pos x) (negsuc y) h = absurd (omega (arith, ints))
 non_negative-mono (negsuc x) y h = omega arith
 
-pub roots_in_order : (x y : ℤ) (lo hi : ℕ) → x ≤ℤ y → IsRoot (non_negative x) lo → IsRootUp (non_negative y) hi → lo ≤ hi
+pub roots_in_order : (x y : ℤ) (lo hi : ℕ) → x ≤ℤ y → IsRoot (non_negative x) lo → IsRootUp (non_negative y) hi
+    → lo ≤ hi
 roots_in_order x y lo hi h low high = le_of_square lo hi (omega (arith, low.0, high.0, non_negative-mono x y h))
 
-pub root_from : {s r : Bounds} {lo hi : ℤ} (low high : ℕ) (l k : ℤ) → Some (lo, hi) ≡ s → r ≡ Some (l, k) → l ≡ pos low → k ≡ pos high → IsRoot (non_negative lo) low → IsRootUp (non_negative hi) high → IsRootEnds s r
+pub root_from : {s r : Bounds} {lo hi : ℤ} (low high : ℕ) (l k : ℤ) → Some (lo, hi) ≡ s → r ≡ Some (l, k) → l ≡ pos low
+    → k ≡ pos high → IsRoot (non_negative lo) low → IsRootUp (non_negative hi) high → IsRootEnds s r
 root_from {s} {r} {lo} {hi} low high l k p e u v a b =
     let w : IsRootOf (Some (lo, hi)) r = (low, (high, (e ∙ (λ i. Some (u i, v i)), (a, b)))) in
     subst (λ (x : Bounds). IsRootEnds x r) p (root_of w)

@@ -60,8 +60,10 @@ impl<T: Enclose> Cx<T> {
     pub fn times(self, re: T::Factor, im: T::Factor) -> Cx<T>
         ensures real { result.re ≡ T.minus (T.scaled self.re re) (T.scaled self.im im) }
         ensures imaginary { result.im ≡ T.plus (T.scaled self.re im) (T.scaled self.im re) }
-        ensures encloses_real { (x y a b : Fraction) → T.Encloses self.re x → T.Encloses self.im y → T.FactorEncloses re a → T.FactorEncloses im b → T.Encloses result.re ((x ⊗ a) ⊖ (y ⊗ b)) }
-        ensures encloses_imaginary { (x y a b : Fraction) → T.Encloses self.re x → T.Encloses self.im y → T.FactorEncloses re a → T.FactorEncloses im b → T.Encloses result.im ((x ⊗ b) ⊕ (y ⊗ a)) }
+        ensures encloses_real { (x y a b : Fraction) → T.Encloses self.re x → T.Encloses self.im y →
+            T.FactorEncloses re a → T.FactorEncloses im b → T.Encloses result.re ((x ⊗ a) ⊖ (y ⊗ b)) }
+        ensures encloses_imaginary { (x y a b : Fraction) → T.Encloses self.re x → T.Encloses self.im y →
+            T.FactorEncloses re a → T.FactorEncloses im b → T.Encloses result.im ((x ⊗ b) ⊕ (y ⊗ a)) }
     {
         Cx {
             re: self.re.times(re) - self.im.times(im),

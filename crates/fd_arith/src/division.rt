@@ -113,7 +113,8 @@ pub fn rounded_near(division: &Division, d: u128) -> u128
 /// The two ends of a quotient with a sign, rounded outward, or none past the limit.
 pub fn outward(division: Division, negative: bool) -> Option<(i128, i128)>
     requires { division.quotient ≤ 2 ^ 127 }
-    ensures ends { (d : ℕ) → division.rest < d → result ≡ outward (signed negative (division.quotient * d + division.rest)) d }
+    ensures ends { (d : ℕ) → division.rest < d →
+        result ≡ outward (signed negative (division.quotient * d + division.rest)) d }
     ensures valid { IsBounds result }
 {
     let down = division.quotient;

@@ -38,7 +38,8 @@ pub fn ceil_at(n: i128, d: i128) -> Option<i128>
 // A quotient with a sign, rounded down.
 fn floor_of(division: &Division, negative: bool) -> i128
     requires { division.now.quotient < 2 ^ 126 + 2 ^ 40 }
-    ensures { (d : ℕ) → division.now.rest < d → result ≡ floor_div (signed negative (division.now.quotient * d + division.now.rest)) d }
+    ensures { (d : ℕ) → division.now.rest < d →
+        result ≡ floor_div (signed negative (division.now.quotient * d + division.now.rest)) d }
 {
     if negative {
         -(rounded_up(division) as i128)
@@ -50,7 +51,8 @@ fn floor_of(division: &Division, negative: bool) -> i128
 // A quotient with a sign, rounded up.
 fn ceil_of(division: &Division, negative: bool) -> i128
     requires { division.now.quotient < 2 ^ 126 + 2 ^ 40 }
-    ensures { (d : ℕ) → division.now.rest < d → result ≡ ceil_div (signed negative (division.now.quotient * d + division.now.rest)) d }
+    ensures { (d : ℕ) → division.now.rest < d →
+        result ≡ ceil_div (signed negative (division.now.quotient * d + division.now.rest)) d }
 {
     if negative {
         -(division.quotient as i128)

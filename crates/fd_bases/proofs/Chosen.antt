@@ -34,7 +34,8 @@ alone : (nominal : Nominal) (a : ℤ) → IsChosen nominal (a ∷ []) a
 alone nominal a = record { among = Contains-get_or (a ∷ []) 0 a (omega arith); before = All-cons (IsBefore nominal a) a [] (itself nominal a) (All-nil (IsBefore nominal a)) }
 
 -- of two one that comes before both stands for both
-one_of_two : (nominal : Nominal) (a b r z : ℤ) (rest : List ℤ) → (r ≡ b) ⊎ (r ≡ a) → IsBefore nominal r b → IsBefore nominal r a
+one_of_two : (nominal : Nominal) (a b r z : ℤ) (rest : List ℤ) → (r ≡ b) ⊎ (r ≡ a) → IsBefore nominal r b
+    → IsBefore nominal r a
     → IsChosen nominal (r ∷ rest) z → IsChosen nominal (a ∷ b ∷ rest) z
 one_of_two nominal a b r z rest one before_b before_a h =
     let first : IsBefore nominal z r = All-head (IsBefore nominal z) r rest h.before in
@@ -56,7 +57,8 @@ pub either : (P : ℤ → Type 0) (a b r : ℤ) → (r ≡ b) ⊎ (r ≡ a) → 
 either P a b r (inl e) at_b at_a = subst P (sym e) at_b
 either P a b r (inr e) at_b at_a = subst P (sym e) at_a
 
-pub next_best : (nominal : Nominal) (all others : List ℤ) (i : ℕ) (a b r : ℤ) → i < length others → b ≡ get_or others i (pos 0)
+pub next_best : (nominal : Nominal) (all others : List ℤ) (i : ℕ) (a b r : ℤ) → i < length others
+    → b ≡ get_or others i (pos 0)
     → (r ≡ b) ⊎ (r ≡ a) → IsBefore nominal r b → IsBefore nominal r a
     → ((z : ℤ) → IsChosen nominal (a ∷ drop i others) z → IsChosen nominal all z)
     → (z : ℤ) → IsChosen nominal (r ∷ drop (i + 1) others) z → IsChosen nominal all z
@@ -77,7 +79,8 @@ contains_filter p (y ∷ ys) x h e = by (p y) refl (Contains-append_cases (y ∷
     is_first (zero, low, is) = is
     is_first (suc k, low, is) = absurd (omega arith)
 
-    by : (b : Bool) → p y ≡ b → Contains (y ∷ []) x ⊎ Contains ys x → (Contains ys x → Contains (filter p ys) x) → Contains (cond (p y) (y ∷ filter p ys) (filter p ys)) x
+    by : (b : Bool) → p y ≡ b → Contains (y ∷ []) x ⊎ Contains ys x → (Contains ys x → Contains (filter p ys) x)
+        → Contains (cond (p y) (y ∷ filter p ys) (filter p ys)) x
     by true is (inl here) rest = rw is (Contains-append_left (y ∷ []) (filter p ys) x here)
     by false is (inl here) rest = absurd (let same : p y ≡ p x = ap p (is_first here) in cc)
     by true is (inr there) rest = rw is (Contains-append_right (y ∷ []) (filter p ys) x (rest there))

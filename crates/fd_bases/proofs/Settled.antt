@@ -18,19 +18,23 @@ use Rattle.fd_bases.proofs.Walking.{Grows, chain, reach_grows, taken_grows, pass
 abbrev has : Reached → List ℕ → Bool
 has r bus = is_some (nominal_at r bus)
 
-found_more : (test : List ℕ → Bool) (r more : Reached) → is_some (lookup test r) ≡ true → is_some (lookup test (r ++ more)) ≡ true
+found_more : (test : List ℕ → Bool) (r more : Reached) → is_some (lookup test r) ≡ true
+    → is_some (lookup test (r ++ more)) ≡ true
 found_more test [] more h = absurd (let e : false ≡ true = h in cc)
 found_more test (e ∷ es) more h = by (test e.0) refl (found_more test es more)
   where
-    by : (b : Bool) → test e.0 ≡ b → (is_some (lookup test es) ≡ true → is_some (lookup test (es ++ more)) ≡ true) → is_some (cond (test e.0) (Some e.1) (lookup test (es ++ more))) ≡ true
+    by : (b : Bool) → test e.0 ≡ b → (is_some (lookup test es) ≡ true → is_some (lookup test (es ++ more)) ≡ true)
+        → is_some (cond (test e.0) (Some e.1) (lookup test (es ++ more))) ≡ true
     by true is rest = rw is refl
     by false is rest = rw is (rest (rw is at h))
 
-found_last : (bus : List ℕ) (nominal : Nominal) (r : Reached) → is_some (lookup (text_eq bus) (r ++ (bus, nominal) ∷ [])) ≡ true
+found_last : (bus : List ℕ) (nominal : Nominal) (r : Reached)
+    → is_some (lookup (text_eq bus) (r ++ (bus, nominal) ∷ [])) ≡ true
 found_last bus nominal [] = rw (nat_list_eq_equiv.refl bus) refl
 found_last bus nominal (e ∷ es) = by (text_eq bus e.0) refl (found_last bus nominal es)
   where
-    by : (b : Bool) → text_eq bus e.0 ≡ b → is_some (lookup (text_eq bus) (es ++ (bus, nominal) ∷ [])) ≡ true → is_some (cond (text_eq bus e.0) (Some e.1) (lookup (text_eq bus) (es ++ (bus, nominal) ∷ []))) ≡ true
+    by : (b : Bool) → text_eq bus e.0 ≡ b → is_some (lookup (text_eq bus) (es ++ (bus, nominal) ∷ [])) ≡ true
+        → is_some (cond (text_eq bus e.0) (Some e.1) (lookup (text_eq bus) (es ++ (bus, nominal) ∷ []))) ≡ true
     by true is rest = rw is refl
     by false is rest = rw is rest
 
@@ -40,7 +44,8 @@ has_more r s bus grown h = ap (λ x. is_some (lookup (text_eq bus) x)) grown.is 
 has_reached : (r : Reached) (bus : List ℕ) (nominal : Nominal) → has (reach bus nominal r) bus ≡ true
 has_reached r bus nominal = by (nominal_at r bus) refl
   where
-    by : (found : Option Nominal) → nominal_at r bus ≡ found → is_some (nominal_at (reach_where found bus nominal r) bus) ≡ true
+    by : (found : Option Nominal) → nominal_at r bus ≡ found
+        → is_some (nominal_at (reach_where found bus nominal r) bus) ≡ true
     by None e = found_last bus nominal r
     by (Some there) e = ap is_some e
 
@@ -102,7 +107,8 @@ done_same (the.RegControl k) r h = refl
 done_same (the.CapControl k) r h = refl
 done_same (the.Loadshape s) r h = refl
 
-both_kept : (first second : Option Bus) (r s : Reached) → Grows r s → both first second r ≡ true → both first second s ≡ true
+both_kept : (first second : Option Bus) (r s : Reached) → Grows r s → both first second r ≡ true
+    → both first second s ≡ true
 both_kept (Some a) (Some b) r s grown h =
     and_both (has s a.name) (has s b.name)
     (has_more r s a.name grown (and_left (has r a.name) (has r b.name) h))
@@ -122,7 +128,8 @@ done_kept (the.CapControl k) r s grown h = refl
 done_kept (the.Loadshape x) r s grown h = refl
 
 -- where one of two buses is reached, both are afterwards
-carried_both : (a b : List ℕ) (own : Option Nominal) (r : Reached) → (carried a b own r ≡ r) ⊎ ((has (carried a b own r) a ≡ true) × (has (carried a b own r) b ≡ true))
+carried_both : (a b : List ℕ) (own : Option Nominal) (r : Reached)
+    → (carried a b own r ≡ r) ⊎ ((has (carried a b own r) a ≡ true) × (has (carried a b own r) b ≡ true))
 carried_both a b own r = by (nominal_at r a) refl
   where
     by : (found : Option Nominal) → nominal_at r a ≡ found
@@ -140,7 +147,8 @@ joined_both (Some a) at_a (Some b) at_b r = by (carried_both a.name b.name at_b 
     t : Reached
     t = carried b.name a.name at_a s
 
-    behind : s ≡ r → (t ≡ s) ⊎ ((has t b.name ≡ true) × (has t a.name ≡ true)) → (t ≡ r) ⊎ ((has t a.name && has t b.name) ≡ true)
+    behind : s ≡ r → (t ≡ s) ⊎ ((has t b.name ≡ true) × (has t a.name ≡ true))
+        → (t ≡ r) ⊎ ((has t a.name && has t b.name) ≡ true)
     behind e (inl f) = inl (f ∙ e)
     behind e (inr f) = inr (and_both (has t a.name) (has t b.name) f.1 f.0)
 
@@ -193,7 +201,8 @@ count_kept (e ∷ es) r s grown = omega (arith, one_kept (is_done e.1 r) (is_don
 first_time : (e : Element) (r : Reached) → (taken e r ≡ r) ⊎ ((is_done e r ≡ false) × (is_done e (taken e r) ≡ true))
 first_time e r = by (is_done e r) refl (once e r)
   where
-    by : (b : Bool) → is_done e r ≡ b → (taken e r ≡ r) ⊎ (is_done e (taken e r) ≡ true) → (taken e r ≡ r) ⊎ ((is_done e r ≡ false) × (is_done e (taken e r) ≡ true))
+    by : (b : Bool) → is_done e r ≡ b → (taken e r ≡ r) ⊎ (is_done e (taken e r) ≡ true)
+        → (taken e r ≡ r) ⊎ ((is_done e r ≡ false) × (is_done e (taken e r) ≡ true))
     by true is h = inl (done_same e r is)
     by false is (inl h) = inl h
     by false is (inr h) = inr (is, h)
@@ -215,11 +224,14 @@ pass_counts (e ∷ es) r = by (first_time e.1 r) (pass_counts es r)
     kept_first : one (is_done e.1 r) ≤ one (is_done e.1 t)
     kept_first = one_kept (is_done e.1 r) (is_done e.1 t) (done_kept e.1 r t grown)
 
-    unchanged : s ≡ r → (pass es r ≡ r) ⊎ (done_count es r < done_count es (pass es r)) → (t ≡ r) ⊎ (done_count (e ∷ es) r < done_count (e ∷ es) t)
+    unchanged : s ≡ r → (pass es r ≡ r) ⊎ (done_count es r < done_count es (pass es r))
+        → (t ≡ r) ⊎ (done_count (e ∷ es) r < done_count (e ∷ es) t)
     unchanged f (inl h) = inl (ap (pass es) f ∙ h)
     unchanged f (inr h) = inr (let more : done_count es r < done_count es t = subst (λ x. done_count es r < done_count es (pass es x)) (sym f) h in omega (arith, kept_first, more))
 
-    by : (s ≡ r) ⊎ ((is_done e.1 r ≡ false) × (is_done e.1 s ≡ true)) → (pass es r ≡ r) ⊎ (done_count es r < done_count es (pass es r)) → (t ≡ r) ⊎ (done_count (e ∷ es) r < done_count (e ∷ es) t)
+    by : (s ≡ r) ⊎ ((is_done e.1 r ≡ false) × (is_done e.1 s ≡ true))
+        → (pass es r ≡ r) ⊎ (done_count es r < done_count es (pass es r))
+        → (t ≡ r) ⊎ (done_count (e ∷ es) r < done_count (e ∷ es) t)
     by (inl f) h = unchanged f h
     by (inr f) h =
         let before : one (is_done e.1 r) ≡ 0 = ap one f.0 in
@@ -227,7 +239,8 @@ pass_counts (e ∷ es) r = by (first_time e.1 r) (pass_counts es r)
         inr (omega (arith, before, after, count_kept es r t grown))
 
 -- as many passes as there are elements that aren't done are enough
-settles : (n : ℕ) (es : Elements) (r : Reached) → length es ≤ n + done_count es r → pass es (passes n es r) ≡ passes n es r
+settles : (n : ℕ) (es : Elements) (r : Reached) → length es ≤ n + done_count es r
+    → pass es (passes n es r) ≡ passes n es r
 settles zero es r h = by (pass_counts es r)
   where
     by : (pass es r ≡ r) ⊎ (done_count es r < done_count es (pass es r)) → pass es r ≡ r
@@ -235,7 +248,8 @@ settles zero es r h = by (pass_counts es r)
     by (inr more) = absurd (omega (arith, h, more, done_most es (pass es r)))
 settles (suc n) es r h = by (pass_counts es r) (λ enough. settles n es (pass es r) enough)
   where
-    by : (pass es r ≡ r) ⊎ (done_count es r < done_count es (pass es r)) → (length es ≤ n + done_count es (pass es r) → pass es (passes n es (pass es r)) ≡ passes n es (pass es r))
+    by : (pass es r ≡ r) ⊎ (done_count es r < done_count es (pass es r))
+        → (length es ≤ n + done_count es (pass es r) → pass es (passes n es (pass es r)) ≡ passes n es (pass es r))
         → pass es (passes n es (pass es r)) ≡ passes n es (pass es r)
     by (inl e) rest = let whole : passes n es (pass es r) ≡ r = ap (passes n es) e ∙ stays n es r e in ap (pass es) whole ∙ e ∙ sym whole
     by (inr more) rest = rest (omega (arith, h, more))

@@ -21,7 +21,8 @@ use Rattle.fd_cap.proofs.Bounds.{phases_few, squared_positive, squared_most}
 -- ---- one phase
 
 module _ (d : CapData) (p : NodePair) (over : 0 < volts_squared d) (x : State) (o : 0 < x.over) (l : ℕ) where
-  times : (r n : NodeAt) → Same (row_sum l (stamp r n (pos 0) (cap_power d) (pos (volts_squared d))) x) (side l r (admittance d ⊠ unknown x n))
+  times : (r n : NodeAt)
+      → Same (row_sum l (stamp r n (pos 0) (cap_power d) (pos (volts_squared d))) x) (side l r (admittance d ⊠ unknown x n))
   times r n = stamp_row r n (pos 0) (cap_power d) (pos (volts_squared d)) x l over o
 
   minus_times : (r n : NodeAt) → Same (row_sum l (stamp r n (pos 0) (neg_ℤ (cap_power d)) (pos (volts_squared d))) x)
@@ -42,7 +43,8 @@ module _ (d : CapData) (p : NodePair) (over : 0 < volts_squared d) (x : State) (
       let given = subst (λ z. Same (row_sum l back x) (side l p.second z)) (sym (negative-minus (y ⊠ u) (y ⊠ v))) turned in
       row-append _ _ x l _ _ drawn (single _ _ (rewritten _ l p.second _ (negative (y ⊠ (u ⊟ v))) (SameComplex-negative same) given))
 
-cap_adds_up : (d : CapData) (closed : Bool) (at : Ends) → IsCap d → AddsUp (cap_list d closed at) (cap_parts d closed at)
+cap_adds_up : (d : CapData) (closed : Bool) (at : Ends) → IsCap d
+    → AddsUp (cap_list d closed at) (cap_parts d closed at)
 cap_adds_up d true at h x o l = each_row (list_at d at) x l (parts_at d at x) d.phases (λ k q. phase_adds d (cap_pair d at k) (squared_positive d h) x o l)
 cap_adds_up d false at h x o l = Same-nothing
 

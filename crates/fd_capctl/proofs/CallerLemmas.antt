@@ -12,6 +12,7 @@ pub bank_decided : (b : Bank) (closed : Bool) → IsOfAll (bank_verdict b closed
 bank_decided b closed = decided_everywhere (bank_verdict b closed) (bank_monotone b closed)
 
 -- the edge of its undecided interval
-pub bank_edged : (b : Bank) (closed : Bool) (low high : Quantity) → bank_verdict b closed low ≢ bank_verdict b closed high →
+pub bank_edged : (b : Bank) (closed : Bool) (low high : Quantity)
+    → bank_verdict b closed low ≢ bank_verdict b closed high →
     IsEdge (bank_verdict b closed) low high (bank_edge b closed)
 bank_edged b closed low high d = bank_edges b closed low high d

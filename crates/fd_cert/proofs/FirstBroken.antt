@@ -24,7 +24,8 @@ module _ (v : NetworkView) (x : List ℤ) (r e : List ℕ) (c : List (List ℤ))
         ap (first_place (λ l. is_untrue (number_at own l) (number_at e l))) (ap length is ∙ length-mismatches v x)
         ∙ first_same (λ l. is_untrue (number_at own l) (number_at e l)) (λ l. is_untrue (mismatch_at v x l) (number_at e l)) v.size (λ l h. ap (λ m. is_untrue m (number_at e l)) (numbers_at v x c own is l h))
 
-    pub untrue_first : (place : ℕ) → Some place ≡ first_place (λ l. is_untrue (number_at own l) (number_at e l)) (length own)
+    pub untrue_first : (place : ℕ)
+        → Some place ≡ first_place (λ l. is_untrue (number_at own l) (number_at e l)) (length own)
         → first_at_point v x r e c ≡ Some (record { rule = Mismatch; place = place })
     unfolding first_at_point
     untrue_first place h = ap (λ o. broken_at Mismatch o (broken_at Bound (place_named (refusal_of v x e c)) (broken_at Radius (first_place (is_narrow v x r e c) v.size) None))) (sym (h ∙ untrue_same))
@@ -37,10 +38,12 @@ module _ (v : NetworkView) (x : List ℤ) (r e : List ℕ) (c : List (List ℤ))
       unfolding first_at_point
       past_mismatch = ap (λ o. broken_at Mismatch o (broken_at Bound (place_named (refusal_of v x e c)) (broken_at Radius (first_place (is_narrow v x r e c) v.size) None))) (sym (none ∙ untrue_same))
 
-      pub bound_first : (place : ℕ) (sum : Option ℤ) → refusal_of v x e c ≡ Some (place, sum) → first_at_point v x r e c ≡ Some (record { rule = Bound; place = place })
+      pub bound_first : (place : ℕ) (sum : Option ℤ) → refusal_of v x e c ≡ Some (place, sum)
+          → first_at_point v x r e c ≡ Some (record { rule = Bound; place = place })
       bound_first place sum h = past_mismatch ∙ ap (λ o. broken_at Bound (place_named o) (broken_at Radius (first_place (is_narrow v x r e c) v.size) None)) h
 
-      module _ (certain : refusal_of v x e c ≡ None) (least : List ℕ) (all : least ≡ list_of v.size (radius_in v x c e)) where
+      module _ (certain : refusal_of v x e c ≡ None) (least : List ℕ)
+          (all : least ≡ list_of v.size (radius_in v x c e)) where
         pub least_long : length least ≡ v.size
         least_long = ap length all ∙ length-list_of v.size (radius_in v x c e)
 
@@ -52,10 +55,13 @@ module _ (v : NetworkView) (x : List ℤ) (r e : List ℕ) (c : List (List ℤ))
         past_bound : first_at_point v x r e c ≡ broken_at Radius (first_place (is_narrow v x r e c) v.size) None
         past_bound = past_mismatch ∙ ap (λ o. broken_at Bound (place_named o) (broken_at Radius (first_place (is_narrow v x r e c) v.size) None)) certain
 
-        pub radius_first : (place : ℕ) → Some place ≡ first_place (λ i. nat_lt (number_at r i) (number_at least i)) (length least) → first_at_point v x r e c ≡ Some (record { rule = Radius; place = place })
+        pub radius_first : (place : ℕ)
+            → Some place ≡ first_place (λ i. nat_lt (number_at r i) (number_at least i)) (length least)
+            → first_at_point v x r e c ≡ Some (record { rule = Radius; place = place })
         radius_first place h = past_bound ∙ ap (λ o. broken_at Radius o None) (sym (h ∙ narrow_same))
 
-        pub none_first : None ≡ first_place (λ i. nat_lt (number_at r i) (number_at least i)) (length least) → first_at_point v x r e c ≡ None
+        pub none_first : None ≡ first_place (λ i. nat_lt (number_at r i) (number_at least i)) (length least)
+            → first_at_point v x r e c ≡ None
         none_first h = past_bound ∙ ap (λ o. broken_at Radius o None) (sym (h ∙ narrow_same))
 
   -- ---- before
@@ -64,24 +70,30 @@ module _ (v : NetworkView) (x : List ℤ) (r e : List ℕ) (c : List (List ℤ))
   unfolding first_broken
   size_first h = ap (λ b. cond b (broken_at Range (first_place (is_out_of_range v.size x r c) v.size) (first_at_point v x r e c)) (Some (record { rule = Size; place = 0 }))) h
 
-  past_size : has_size v.size x r e c ≡ true → first_broken v x r e c ≡ broken_at Range (first_place (is_out_of_range v.size x r c) v.size) (first_at_point v x r e c)
+  past_size : has_size v.size x r e c ≡ true
+      → first_broken v x r e c ≡ broken_at Range (first_place (is_out_of_range v.size x r c) v.size) (first_at_point v x r e c)
   unfolding first_broken
   past_size h = ap (λ b. cond b (broken_at Range (first_place (is_out_of_range v.size x r c) v.size) (first_at_point v x r e c)) (Some (record { rule = Size; place = 0 }))) h
 
   module _ (sized : has_size v.size x r e c ≡ true) where
-    pub range_same : (o : Option ℕ) → o ≡ first_place (is_out_of_range (length x) x r c) (length x) → first_place (is_out_of_range v.size x r c) v.size ≡ o
+    pub range_same : (o : Option ℕ) → o ≡ first_place (is_out_of_range (length x) x r c) (length x)
+        → first_place (is_out_of_range v.size x r c) v.size ≡ o
     range_same o h = sym (h ∙ ap (λ (n : ℕ). first_place (is_out_of_range n x r c) n) (sized_parts v.size x r e c sized).centre)
 
-    pub range_first : (place : ℕ) → Some place ≡ first_place (is_out_of_range (length x) x r c) (length x) → first_broken v x r e c ≡ Some (record { rule = Range; place = place })
+    pub range_first : (place : ℕ) → Some place ≡ first_place (is_out_of_range (length x) x r c) (length x)
+        → first_broken v x r e c ≡ Some (record { rule = Range; place = place })
     range_first place h = past_size sized ∙ ap (λ o. broken_at Range o (first_at_point v x r e c)) (range_same (Some place) h)
 
-    pub past_range : None ≡ first_place (is_out_of_range (length x) x r c) (length x) → first_broken v x r e c ≡ first_at_point v x r e c
+    pub past_range : None ≡ first_place (is_out_of_range (length x) x r c) (length x)
+        → first_broken v x r e c ≡ first_at_point v x r e c
     past_range h = past_size sized ∙ ap (λ o. broken_at Range o (first_at_point v x r e c)) (range_same None h)
 
 -- an answer says exactly whether the claim is sound
-pub says_sound : (v : NetworkView) (m : Claim) → HasItsBoxes v m → (b : Option Broken) → b ≡ first_unsound v m → (b ≡ None) ↔ IsSound v m
+pub says_sound : (v : NetworkView) (m : Claim) → HasItsBoxes v m → (b : Option Broken) → b ≡ first_unsound v m
+    → (b ≡ None) ↔ IsSound v m
 says_sound v m boxes b h = let s = sound_exactly v m boxes in (λ e. s.0 (sym h ∙ e), λ i. h ∙ s.1 i)
 
 -- the same lists break the same
-pub broken_same : (v : NetworkView) (x y : List ℤ) (r s e f : List ℕ) (c : List (List ℤ)) → x ≡ y → r ≡ s → e ≡ f → first_broken v x r e c ≡ first_broken v y s f c
+pub broken_same : (v : NetworkView) (x y : List ℤ) (r s e f : List ℕ) (c : List (List ℤ)) → x ≡ y → r ≡ s → e ≡ f
+    → first_broken v x r e c ≡ first_broken v y s f c
 broken_same v x y r s e f c p q t = λ i. first_broken v (p i) (q i) (t i) c

@@ -48,7 +48,9 @@ list_z-map : {X Y : Type 0} (f : Y → ℤ) (g : X → Y) (xs : List X) → list
 list_z-map f g [] = refl
 list_z-map f g (x ∷ xs) = ap (λ z. f (g x) +ℤ z) (list_z-map f g xs)
 
-row_sum : (size row j : ℕ) (at : ℕ × ℕ → Amount) (cells : List Cell) (factor : ℕ → ℤ) (J : ℕ → ℕ → ℤ) → IsRowOf size at row cells → ((l j : ℕ) → (at (l, j)).units ≡ J l j) → j < size → list_z (entry_term factor j) (map (entry_of row) cells) ≡ (factor row *ℤ J row j)
+row_sum : (size row j : ℕ) (at : ℕ × ℕ → Amount) (cells : List Cell) (factor : ℕ → ℤ) (J : ℕ → ℕ → ℤ)
+    → IsRowOf size at row cells → ((l j : ℕ) → (at (l, j)).units ≡ J l j) → j < size
+    → list_z (entry_term factor j) (map (entry_of row) cells) ≡ (factor row *ℤ J row j)
 row_sum size row j at cells factor J h e l =
     list_z-map (entry_term factor j) (entry_of row) cells
     ∙ walk_sums size at row cells (λ col z. cond (eqb col j) (factor row *ℤ z) (pos 0)) h (λ col. nothing (eqb col j) (factor row))
@@ -60,7 +62,8 @@ row_sum size row j at cells factor J h e l =
     nothing false z = refl
 
 -- an entry of a row whose cells are short
-row_small : (cells : List Cell) (at : ℕ → ℤ) → HasSmallUnits cells (length cells) → IsRow cells at → (j : ℕ) → nat_abs (at j) ≤ 2 ^ 48
+row_small : (cells : List Cell) (at : ℕ → ℤ) → HasSmallUnits cells (length cells) → IsRow cells at → (j : ℕ)
+    → nat_abs (at j) ≤ 2 ^ 48
 row_small cells at h r j = elim (find cells j (length cells)) [
   | inl (k, l, e) ↦ subst (λ m. nat_abs (at m) ≤ 2 ^ 48) e (subst (λ z. nat_abs z ≤ 2 ^ 48) (r.each k l) (h k l))
   | inr none ↦ subst (λ z. nat_abs z ≤ 2 ^ 48) (sym (r.all j none)) (omega arith)
@@ -69,8 +72,11 @@ row_small cells at h r j = elim (find cells j (length cells)) [
 pub flat_start : (m : MatrixView) → IsFlat m [] 0
 flat_start m = record { each = All-nil (IsShort m.size); sums = λ J h factor j l. refl; small = λ J h l j k. absurd (omega arith) }
 
-pub flat_more : (m : MatrixView) (es new : List Entry) (row : ℕ) (cells : List Cell) → row < m.size → ((at : ℕ × ℕ → Amount) → AreCells m.places m.cells at → IsNothingElsewhere m.places at → IsRowOf m.size at row cells) → (J : ℕ → ℕ → ℤ) → HasEntries m J
-    → HasSmallUnits cells (length cells) → new ≡ es ++ map (entry_of row) cells → IsFlat m es row → IsFlat m new (row + 1)
+pub flat_more : (m : MatrixView) (es new : List Entry) (row : ℕ) (cells : List Cell) → row < m.size
+    → ((at : ℕ × ℕ → Amount) → AreCells m.places m.cells at → IsNothingElsewhere m.places at → IsRowOf m.size at row cells)
+    → (J : ℕ → ℕ → ℤ) → HasEntries m J
+    → HasSmallUnits cells (length cells) → new ≡ es ++ map (entry_of row) cells → IsFlat m es row
+    → IsFlat m new (row + 1)
 flat_more m es new row cells inside is J has units e h = subst (λ xs. IsFlat m xs (row + 1)) (sym e) (record {
   each = All-append (IsShort m.size) es (map (entry_of row) cells) h.each (All-map (IsShort m.size) (entry_of row) cells
       (All-from_get_or (λ c. IsShort m.size (entry_of row c)) cells empty (λ k l. let r = is has.at has.cells has.nothing in record { row = inside; col = r.inside k l; small = units k l })));
@@ -97,8 +103,10 @@ pub record AreAdded (factors : List ℤ) (es : List Entry) (old new : List ℤ) 
   pub sums : (j : ℕ) → part new j ≡ list_z (entry_term (part factors) j) (take k es)
   pub small : (j : ℕ) → nat_abs (part new j) ≤ k * 2 ^ 104
 
-pub added_more : (factors : List ℤ) (es : List Entry) (old new : List ℤ) (k : ℕ) (d : Entry) (value : ℤ) → k < length es → AreAdded factors es old new k → (get_or es k d).col < length old
-    → value ≡ (part new (get_or es k d).col +ℤ (part factors (get_or es k d).row *ℤ (get_or es k d).units)) → nat_abs (part factors (get_or es k d).row *ℤ (get_or es k d).units) ≤ 2 ^ 104
+pub added_more : (factors : List ℤ) (es : List Entry) (old new : List ℤ) (k : ℕ) (d : Entry) (value : ℤ) → k < length es
+    → AreAdded factors es old new k → (get_or es k d).col < length old
+    → value ≡ (part new (get_or es k d).col +ℤ (part factors (get_or es k d).row *ℤ (get_or es k d).units))
+    → nat_abs (part factors (get_or es k d).row *ℤ (get_or es k d).units) ≤ 2 ^ 104
     → AreAdded factors es old (set new (get_or es k d).col value) (k + 1)
 added_more factors es old new k d value l h inside is small =
     let e = get_or es k d in
@@ -117,7 +125,8 @@ added_more factors es old new k d value l h inside is small =
     plain : (z : ℤ) → z ≡ (z +ℤ pos 0)
     plain z = omega (arith, ints)
 
-    grown : (b : Bool) (x y : ℤ) → nat_abs x ≤ k * 2 ^ 104 → nat_abs y ≤ 2 ^ 104 → nat_abs (x +ℤ cond b y (pos 0)) ≤ (k + 1) * 2 ^ 104
+    grown : (b : Bool) (x y : ℤ) → nat_abs x ≤ k * 2 ^ 104 → nat_abs y ≤ 2 ^ 104
+        → nat_abs (x +ℤ cond b y (pos 0)) ≤ (k + 1) * 2 ^ 104
     grown true x y h g = omega (arith, ints)
     grown false x y h g = omega (arith, ints)
 
@@ -128,14 +137,17 @@ sum_small g zero h = omega arith
 sum_small g (suc n) h = let s = sum_small g n (λ l m. h l (omega arith)) in let t = h n (omega arith) in omega (arith, ints)
 
 -- short products never pass the limit
-exact_sum : (g : ℕ → ℤ) (n : ℕ) → n ≤ 2 ^ 11 → ((l : ℕ) → l < n → nat_abs (g l) ≤ 2 ^ 104) → wide_sums (λ l. within (g l)) n ≡ Some (sum_z g n)
+exact_sum : (g : ℕ → ℤ) (n : ℕ) → n ≤ 2 ^ 11 → ((l : ℕ) → l < n → nat_abs (g l) ≤ 2 ^ 104)
+    → wide_sums (λ l. within (g l)) n ≡ Some (sum_z g n)
 exact_sum g zero few h = refl
 exact_sum g (suc n) few h =
     let t = h n (omega arith) in
     let s = sum_small g (suc n) h in
     (λ i. wide_sum (exact_sum g n (omega arith) (λ l m. h l (omega arith)) i) (within_small (g n) (omega arith) i)) ∙ within_small (sum_z g n +ℤ g n) (omega arith)
 
-module _ (m : MatrixView) (es : List Entry) (factors sums : List ℤ) (flat : IsFlatOf m es) (few : m.size ≤ 2 ^ 11) (row : IsRowOfInverse m.size factors) (added : (j : ℕ) → part sums j ≡ list_z (entry_term (part factors) j) es) (J : ℕ → ℕ → ℤ) (has : HasEntries m J) where
+module _ (m : MatrixView) (es : List Entry) (factors sums : List ℤ) (flat : IsFlatOf m es) (few : m.size ≤ 2 ^ 11)
+    (row : IsRowOfInverse m.size factors) (added : (j : ℕ) → part sums j ≡ list_z (entry_term (part factors) j) es)
+    (J : ℕ → ℕ → ℤ) (has : HasEntries m J) where
   each_small : (j l : ℕ) → l < m.size → nat_abs (part factors l *ℤ J l j) ≤ 2 ^ 104
   each_small j l h = product_small (part factors l) (J l j) (row.small l h) (flat.flat.small J has l j h)
 
@@ -155,7 +167,8 @@ abbrev pub no_entry : Entry
 no_entry = record { row = 0; col = 0; units = pos 0 }
 
 -- a sum with a product more, as it was computed in 128 bits
-pub sum_value : (s t p : ℤ) (k : ℕ) → t ≡ p → nat_abs p ≤ 2 ^ 104 → nat_abs s ≤ k * 2 ^ 104 → k ≤ 2 ^ 22 → to_z w128 (of_z w128 (to_z w128 (of_z w128 s) +ℤ to_z w128 (of_z w128 t))) ≡ (s +ℤ p)
+pub sum_value : (s t p : ℤ) (k : ℕ) → t ≡ p → nat_abs p ≤ 2 ^ 104 → nat_abs s ≤ k * 2 ^ 104 → k ≤ 2 ^ 22
+    → to_z w128 (of_z w128 (to_z w128 (of_z w128 s) +ℤ to_z w128 (of_z w128 t))) ≡ (s +ℤ p)
 sum_value s t p k e small h few =
     let wide : nat_abs s ≤ 2 ^ 126 = omega arith in
     let both : nat_abs (s +ℤ p) ≤ 2 ^ 126 + 2 ^ 104 = omega (arith, ints) in
@@ -163,10 +176,12 @@ sum_value s t p k e small h few =
     ∙ to_z-of_z w128 (s +ℤ p) (fits_signed_from_abs w128 (s +ℤ p) (omega arith))
 
 -- it fits
-pub sum_room : (s t : ℤ) (k : ℕ) → nat_abs t ≤ 2 ^ 104 → nat_abs s ≤ k * 2 ^ 104 → k ≤ 2 ^ 22 → FitsSigned w128 (to_z w128 (of_z w128 s) +ℤ to_z w128 (of_z w128 t))
+pub sum_room : (s t : ℤ) (k : ℕ) → nat_abs t ≤ 2 ^ 104 → nat_abs s ≤ k * 2 ^ 104 → k ≤ 2 ^ 22
+    → FitsSigned w128 (to_z w128 (of_z w128 s) +ℤ to_z w128 (of_z w128 t))
 sum_room s t k small h few =
     let wide : nat_abs s ≤ 2 ^ 126 = omega arith in
     rw (kept_by s wide, kept_by t (omega arith)) (fits_signed_from_abs w128 (s +ℤ t) (omega (arith, ints)))
 
-pub added_all : (factors : List ℤ) (es : List Entry) (old new : List ℤ) (k : ℕ) → length es ≤ k → AreAdded factors es old new k → (j : ℕ) → part new j ≡ list_z (entry_term (part factors) j) es
+pub added_all : (factors : List ℤ) (es : List Entry) (old new : List ℤ) (k : ℕ) → length es ≤ k
+    → AreAdded factors es old new k → (j : ℕ) → part new j ≡ list_z (entry_term (part factors) j) es
 added_all factors es old new k l h j = h.sums j ∙ ap (list_z (entry_term (part factors) j)) (take_all k es l)

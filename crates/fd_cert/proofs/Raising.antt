@@ -24,7 +24,8 @@ module _ (ps : List (ℕ × ℕ)) where
   pub raised_as : (a b : List ℕ) (f g : ℕ × ℕ → ℕ) → AreRaised ps a b f → ((p : ℕ × ℕ) → f p ≡ g p) → AreRaised ps a b g
   raised_as a b f g h e = record { long = h.long; each = λ k l. h.each k l ∙ ap (λ n. number_at a k + n) (e (key ps k)) }
 
-  pub raised_then : (a b c : List ℕ) (f g h : ℕ × ℕ → ℕ) → AreRaised ps a b f → AreRaised ps b c g → ((p : ℕ × ℕ) → f p + g p ≡ h p) → AreRaised ps a c h
+  pub raised_then : (a b c : List ℕ) (f g h : ℕ × ℕ → ℕ) → AreRaised ps a b f → AreRaised ps b c g
+      → ((p : ℕ × ℕ) → f p + g p ≡ h p) → AreRaised ps a c h
   raised_then a b c f g h x y e = record {
     long = y.long ∙ x.long;
     each = λ k l. let s = x.each k l in let t = y.each k l in let u = e (key ps k) in omega arith;
@@ -33,10 +34,12 @@ module _ (ps : List (ℕ × ℕ)) where
   pub room_none : (a : List ℕ) (n : ℕ) → RaisesRoom ps a a n
   room_none a n k l = omega arith
 
-  pub room_then : (a b c : List ℕ) (m n k : ℕ) → RaisesRoom ps a b m → RaisesRoom ps b c n → m + n ≤ k → RaisesRoom ps a c k
+  pub room_then : (a b c : List ℕ) (m n k : ℕ) → RaisesRoom ps a b m → RaisesRoom ps b c n → m + n ≤ k
+      → RaisesRoom ps a c k
   room_then a b c m n k x y e j l = let s = x j l in let t = y j l in omega arith
 
-  pub room_after : (a b : List ℕ) (n most more : ℕ) → HaveRoom ps a most → RaisesRoom ps a b n → most + n * 2 ^ 100 ≤ more → HaveRoom ps b more
+  pub room_after : (a b : List ℕ) (n most more : ℕ) → HaveRoom ps a most → RaisesRoom ps a b n
+      → most + n * 2 ^ 100 ≤ more → HaveRoom ps b more
   room_after a b n most more h x e k l = let s = x k l in let t = h k l in omega arith
 
 -- ---- one more at a place
@@ -58,7 +61,8 @@ abbrev pub radius_at : ℕ → ℕ → ℕ → ℕ × ℕ → ℕ
 radius_at row col value p = cond (eqb row p.0 && eqb col p.1) value 0
 
 module _ (ps : List (ℕ × ℕ)) (xs : List ℕ) (row col value : ℕ) where
-  pub raised_at : (k new : ℕ) → length xs ≡ length ps → IsSlot ps row col k → ((j : ℕ) → IsSlot ps row col j → j ≡ k) → new ≡ number_at xs k + value → AreRaised ps xs (set xs k new) (radius_at row col value)
+  pub raised_at : (k new : ℕ) → length xs ≡ length ps → IsSlot ps row col k → ((j : ℕ) → IsSlot ps row col j → j ≡ k)
+      → new ≡ number_at xs k + value → AreRaised ps xs (set xs k new) (radius_at row col value)
   raised_at k new long at only is = record {
     long = length-set xs k new;
     each = λ j l. elim (cases_eq j k) [
@@ -92,12 +96,14 @@ small_cond : (b : Bool) (v m : ℕ) → v ≤ m → cond b v 0 ≤ m
 small_cond true v m h = h
 small_cond false v m h = omega arith
 
-pub room_at : (ps : List (ℕ × ℕ)) (a b : List ℕ) (row col value : ℕ) → value ≤ 2 ^ 100 → AreRaised ps a b (radius_at row col value) → RaisesRoom ps a b 1
+pub room_at : (ps : List (ℕ × ℕ)) (a b : List ℕ) (row col value : ℕ) → value ≤ 2 ^ 100
+    → AreRaised ps a b (radius_at row col value) → RaisesRoom ps a b 1
 room_at ps a b row col value h r k l = let s = r.each k l in let t = small_cond (is_at row col (key ps k)) value (2 ^ 100) h in omega arith
 
 -- ---- a node, a row
 
-pub node_in_row : (row k re im : ℕ) (p : ℕ × ℕ) → radius_at row (2 * k) re p + radius_at row (2 * k + 1) im p ≡ cond (eqb row p.0) (spread_node p.1 (Node k) re im) 0
+pub node_in_row : (row k re im : ℕ) (p : ℕ × ℕ)
+    → radius_at row (2 * k) re p + radius_at row (2 * k + 1) im p ≡ cond (eqb row p.0) (spread_node p.1 (Node k) re im) 0
 node_in_row row k re im p = by_row (eqb row p.0) (eqb (2 * k) p.1) (eqb (2 * k + 1) p.1)
   where
     by_row : (r a b : Bool) → cond (r && a) re 0 + cond (r && b) im 0 ≡ cond r (cond a re 0 + cond b im 0) 0
@@ -108,17 +114,20 @@ pub nothing_in_row : (b : Bool) → ◌≡◌ {A = ℕ} (cond b 0 0) 0
 nothing_in_row true = refl
 nothing_in_row false = refl
 
-pub magnitude_in_row : (row place value : ℕ) (p : ℕ × ℕ) → radius_at row place value p ≡ cond (eqb row p.0) (spread_magnitude p.1 (Some place) value) 0
+pub magnitude_in_row : (row place value : ℕ) (p : ℕ × ℕ)
+    → radius_at row place value p ≡ cond (eqb row p.0) (spread_magnitude p.1 (Some place) value) 0
 magnitude_in_row row place value p = by_row (eqb row p.0) (eqb place p.1)
   where
     by_row : (r a : Bool) → cond (r && a) value 0 ≡ cond r (cond a value 0) 0
     by_row true a = refl
     by_row false a = refl
 
-pub two_in_row : (row : ℕ) (u : LoadAt) (r : RadiusRow) (p : ℕ × ℕ) → cond (eqb row p.0) (spread_node p.1 u.first r.p r.q) 0 + cond (eqb row p.0) (spread_node p.1 u.second r.p r.q) 0 ≡ cond (eqb row p.0) (spread_node p.1 u.first r.p r.q + spread_node p.1 u.second r.p r.q) 0
+pub two_in_row : (row : ℕ) (u : LoadAt) (r : RadiusRow) (p : ℕ × ℕ)
+    → cond (eqb row p.0) (spread_node p.1 u.first r.p r.q) 0 + cond (eqb row p.0) (spread_node p.1 u.second r.p r.q) 0 ≡ cond (eqb row p.0) (spread_node p.1 u.first r.p r.q + spread_node p.1 u.second r.p r.q) 0
 two_in_row row u r p = by_row (eqb row p.0)
   where
-    by_row : (b : Bool) → cond b (spread_node p.1 u.first r.p r.q) 0 + cond b (spread_node p.1 u.second r.p r.q) 0 ≡ cond b (spread_node p.1 u.first r.p r.q + spread_node p.1 u.second r.p r.q) 0
+    by_row : (b : Bool)
+        → cond b (spread_node p.1 u.first r.p r.q) 0 + cond b (spread_node p.1 u.second r.p r.q) 0 ≡ cond b (spread_node p.1 u.first r.p r.q + spread_node p.1 u.second r.p r.q) 0
     by_row true = refl
     by_row false = refl
 
@@ -127,17 +136,20 @@ pub three_in_row : (row : ℕ) (u : LoadAt) (r : RadiusRow) (p : ℕ × ℕ)
 unfolding spread
 three_in_row row u r p = by_row (eqb row p.0)
   where
-    by_row : (b : Bool) → cond b (spread_node p.1 u.first r.p r.q + spread_node p.1 u.second r.p r.q) 0 + cond b (spread_magnitude p.1 u.magnitude r.m) 0 ≡ cond b ((spread_node p.1 u.first r.p r.q + spread_node p.1 u.second r.p r.q) + spread_magnitude p.1 u.magnitude r.m) 0
+    by_row : (b : Bool)
+        → cond b (spread_node p.1 u.first r.p r.q + spread_node p.1 u.second r.p r.q) 0 + cond b (spread_magnitude p.1 u.magnitude r.m) 0 ≡ cond b ((spread_node p.1 u.first r.p r.q + spread_node p.1 u.second r.p r.q) + spread_magnitude p.1 u.magnitude r.m) 0
     by_row true = refl
     by_row false = refl
 
 -- ---- a part load
 
-pub all_rows : (u : LoadAt) (p : ℕ × ℕ) (re im m : ℕ) → (spread_node p.0 u.first re im + spread_node p.0 u.second re im) + spread_magnitude p.0 u.magnitude m ≡ spread p.0 u re im m
+pub all_rows : (u : LoadAt) (p : ℕ × ℕ) (re im m : ℕ)
+    → (spread_node p.0 u.first re im + spread_node p.0 u.second re im) + spread_magnitude p.0 u.magnitude m ≡ spread p.0 u re im m
 unfolding spread
 all_rows u p re im m = refl
 
-pub load_other : (u : LoadAt) (r : Radii) (p : ℕ × ℕ) → u.load.model ≢ 2 → spread p.0 u (radius_in p.1 u r.real) (radius_in p.1 u r.imaginary) (radius_in p.1 u r.magnitude) ≡ load_radius u r p.0 p.1
+pub load_other : (u : LoadAt) (r : Radii) (p : ℕ × ℕ) → u.load.model ≢ 2
+    → spread p.0 u (radius_in p.1 u r.real) (radius_in p.1 u r.imaginary) (radius_in p.1 u r.magnitude) ≡ load_radius u r p.0 p.1
 unfolding load_radius
 load_other u r p ne = ap (λ b. cond b 0 (spread p.0 u (radius_in p.1 u r.real) (radius_in p.1 u r.imaginary) (radius_in p.1 u r.magnitude))) (sym (ne_eqb u.load.model 2 ne))
 
@@ -147,7 +159,8 @@ load_linear u r p e = ap (λ b. cond b 0 (spread p.0 u (radius_in p.1 u r.real) 
 
 -- ---- part loads so far
 
-pub record IsSoFar (ps : List (ℕ × ℕ)) (old new : List ℕ) (box : ℕ → ℕ) (x : List ℤ) (us : List LoadAt) (k : ℕ) : Type 0 where
+pub record IsSoFar (ps : List (ℕ × ℕ)) (old new : List ℕ) (box : ℕ → ℕ) (x : List ℤ) (us : List LoadAt)
+    (k : ℕ) : Type 0 where
   pub raised : AreRaised ps old new (loads_radius box x (take k us))
   pub room : HaveRoom ps new (k * 25 * 2 ^ 100)
 
@@ -155,7 +168,9 @@ module _ (ps : List (ℕ × ℕ)) (old : List ℕ) (box : ℕ → ℕ) (x : List
   pub none_yet : HaveRoom ps old 0 → IsSoFar ps old old box x us 0
   none_yet h = record { raised = raised_none ps old (loads_radius box x (take 0 us)) (λ p. refl); room = h }
 
-  pub next_load : (new later : List ℕ) (k : ℕ) (d : LoadAt) (r : Radii) → k < length us → IsSoFar ps old new box x us k → r ≡ radii_in box x (get_or us k d) → AreRaised ps new later (λ p. load_radius (get_or us k d) r p.0 p.1) → RaisesRoom ps new later 25
+  pub next_load : (new later : List ℕ) (k : ℕ) (d : LoadAt) (r : Radii) → k < length us → IsSoFar ps old new box x us k
+      → r ≡ radii_in box x (get_or us k d) → AreRaised ps new later (λ p. load_radius (get_or us k d) r p.0 p.1)
+      → RaisesRoom ps new later 25
       → IsSoFar ps old later box x us (k + 1)
   next_load new later k d r l h e raised room = record {
     raised = raised_then ps old new later (loads_radius box x (take k us)) (λ p. load_radius (get_or us k d) r p.0 p.1) (loads_radius box x (take (k + 1) us)) h.raised raised
@@ -166,5 +181,6 @@ module _ (ps : List (ℕ × ℕ)) (old : List ℕ) (box : ℕ → ℕ) (x : List
   pub room_yet : (new : List ℕ) (k : ℕ) → k ≤ 2 ^ 21 → IsSoFar ps old new box x us k → HaveRoom ps new (2 ^ 126)
   room_yet new k few h j l = let r = h.room j l in omega arith
 
-  pub loads_raised : (new : List ℕ) (k : ℕ) → length us ≤ k → IsSoFar ps old new box x us k → AreRaised ps old new (loads_radius box x us)
+  pub loads_raised : (new : List ℕ) (k : ℕ) → length us ≤ k → IsSoFar ps old new box x us k
+      → AreRaised ps old new (loads_radius box x us)
   loads_raised new k e h = subst (λ vs. AreRaised ps old new (loads_radius box x vs)) (take_all k us e) h.raised

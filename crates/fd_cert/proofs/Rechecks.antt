@@ -34,11 +34,13 @@ use Rattle.fd_cert.proofs.Verdict.{below_one, not_past}
 pub none_holds : (p : ℕ → Bool) (n k : ℕ) → first_place p n ≡ None → k < n → p k ≡ false
 none_holds p n k e h = false_from_ne_true (p k) (λ t. let s : is_some (first_place p n) ≡ true = found p n k h t in let no : ⊥ = cc in no)
 
-later_none : (rule : Rule) (o : Option ℕ) (later : Option Broken) → broken_at rule o later ≡ None → (o ≡ None) × (later ≡ None)
+later_none : (rule : Rule) (o : Option ℕ) (later : Option Broken) → broken_at rule o later ≡ None
+    → (o ≡ None) × (later ≡ None)
 later_none rule None later e = (refl, e)
 later_none rule (Some k) later e = let no : ⊥ = cc in absurd no
 
-none_later : (rule : Rule) (o : Option ℕ) (later : Option Broken) → o ≡ None → later ≡ None → broken_at rule o later ≡ None
+none_later : (rule : Rule) (o : Option ℕ) (later : Option Broken) → o ≡ None → later ≡ None
+    → broken_at rule o later ≡ None
 none_later rule o later a b = ap (λ p. broken_at rule p later) a ∙ b
 
 unnamed : (o : Option (ℕ × Option ℤ)) → place_named o ≡ None → o ≡ None
@@ -61,7 +63,8 @@ pub record AreSized (n : ℕ) (x : List ℤ) (r e : List ℕ) (c : List (List �
   pub mismatches : length e ≡ n
   pub inverse : length c ≡ n
 
-pub sized_parts : (n : ℕ) (x : List ℤ) (r e : List ℕ) (c : List (List ℤ)) → has_size n x r e c ≡ true → AreSized n x r e c
+pub sized_parts : (n : ℕ) (x : List ℤ) (r e : List ℕ) (c : List (List ℤ)) → has_size n x r e c ≡ true
+    → AreSized n x r e c
 sized_parts n x r e c h =
     let a = and_parts (length x == n) _ h in
     let b = and_parts (length r == n) _ a.1 in
@@ -131,7 +134,9 @@ small_product p b h k =
     let products : ceil_nat p (2 ^ 20 * d) * (2 ^ 20 * d) ≤ 2 ^ 40 * 2 ^ 60 = mul-le-mul k divisor in
     omega (arith, covers, products)
 
-module _ (n : ℕ) (C J : ℕ → ℕ → ℤ) (R : ℕ → ℕ → ℕ) (w e : ℕ → ℕ) (some : (i : ℕ) → 0 < w i) (bounded : (i : ℕ) → i < n → is_bounded n C J R w i ≡ true) (narrow : (i : ℕ) → i < n → radius_at n C J R w e i ≤ 2 ^ 40) where
+module _ (n : ℕ) (C J : ℕ → ℕ → ℤ) (R : ℕ → ℕ → ℕ) (w e : ℕ → ℕ) (some : (i : ℕ) → 0 < w i)
+    (bounded : (i : ℕ) → i < n → is_bounded n C J R w i ≡ true)
+    (narrow : (i : ℕ) → i < n → radius_at n C J R w e i ≤ 2 ^ 40) where
   size_below : (i : ℕ) → i < n → bound_size (bound_at n C J R w i) < 2 ^ 40
   size_below i l = (below_one true (bound_at n C J R w i) (bound_positive n C J R w i (some i)) (ap not (bounded i l))).small
 

@@ -77,8 +77,10 @@ module _ (n : ℕ) (C J : ℕ → ℕ → ℤ) (R : ℕ → ℕ → ℕ) (w : �
   no_product j l e = sym (bound_none j l (ap (λ o. wide_sum (wide_size (wide_difference (Some (unit_at i j)) o)) (added_at n C J R w i j)) e))
 
 -- the bound of a row from its total
-pub bound_is : (n : ℕ) (C J : ℕ → ℕ → ℤ) (R : ℕ → ℕ → ℕ) (w : ℕ → ℕ) (i : ℕ) (sums : List ℤ) (rows : List ℕ) (ws : List ℤ) {d : ℕ} → ((j : ℕ) → j < n → column_sum (C i) J j n ≡ Some (part sums j)) → AreWeighted n R w rows → HasWeights n ws w
-    → ((j : ℕ) → j < n → 0 < w j) → d ≡ w i → wide_quotient (within (pos (left_total n i ws sums + sum_n (λ l. nat_abs (C i l) * number_at rows l) n))) (d * 2 ^ 40) ≡ bound_at n C J R w i
+pub bound_is : (n : ℕ) (C J : ℕ → ℕ → ℤ) (R : ℕ → ℕ → ℕ) (w : ℕ → ℕ) (i : ℕ) (sums : List ℤ) (rows : List ℕ) (ws : List ℤ) {d : ℕ}
+    → ((j : ℕ) → j < n → column_sum (C i) J j n ≡ Some (part sums j)) → AreWeighted n R w rows → HasWeights n ws w
+    → ((j : ℕ) → j < n → 0 < w j) → d ≡ w i
+    → wide_quotient (within (pos (left_total n i ws sums + sum_n (λ l. nat_abs (C i l) * number_at rows l) n))) (d * 2 ^ 40) ≡ bound_at n C J R w i
 unfolding bound_at
 bound_is n C J R w i sums rows ws column radii h p e = λ k. wide_quotient (total_is n C J R w i sums column rows radii ws h p k) (e k * 2 ^ 40)
 
@@ -90,12 +92,14 @@ unit_small i j = by_test (eqb i j)
     by_test false = omega arith
 
 -- a bound reads its own row of the inverse alone
-pub bound_row : (n : ℕ) (C J : ℕ → ℕ → ℤ) (R : ℕ → ℕ → ℕ) (w : ℕ → ℕ) (i : ℕ) (row : List ℤ) → ((l : ℕ) → part row l ≡ C i l) → bound_at n (λ _. part row) J R w i ≡ bound_at n C J R w i
+pub bound_row : (n : ℕ) (C J : ℕ → ℕ → ℤ) (R : ℕ → ℕ → ℕ) (w : ℕ → ℕ) (i : ℕ) (row : List ℤ)
+    → ((l : ℕ) → part row l ≡ C i l) → bound_at n (λ _. part row) J R w i ≡ bound_at n C J R w i
 unfolding bound_at
 bound_row n C J R w i row h = ap (λ f. bound_at n (λ _. f) J R w i) (λ k l. h l k)
 
 -- no bound of the list is negative
-pub signs_of : (n : ℕ) (C J : ℕ → ℕ → ℤ) (R : ℕ → ℕ → ℕ) (w : ℕ → ℕ) (bounds : List (Option ℤ)) (ws : List ℤ) → bounds ≡ list_of n (bound_at n C J R w) → AreWeights n ws → HasWeights n ws w → AreBounds bounds
+pub signs_of : (n : ℕ) (C J : ℕ → ℕ → ℤ) (R : ℕ → ℕ → ℕ) (w : ℕ → ℕ) (bounds : List (Option ℤ)) (ws : List ℤ)
+    → bounds ≡ list_of n (bound_at n C J R w) → AreWeights n ws → HasWeights n ws w → AreBounds bounds
 signs_of n C J R w bounds ws e a h i l =
     let inside : i < n = subst (λ m. i < m) (ap length e ∙ length-list_of n (bound_at n C J R w)) l in
     let least : pos (10 ^ 6) ≤ℤ pos (w i) = subst (λ z. pos (10 ^ 6) ≤ℤ z) (h i inside) (a.least i inside) in
@@ -103,14 +107,17 @@ signs_of n C J R w bounds ws e a h i l =
     subst (λ o. IfSome o (λ k. pos 0 ≤ℤ k)) (sym (ap (λ xs. bound_in xs i) e ∙ get_or-list_of n (bound_at n C J R w) i None inside)) (bound_positive n C J R w i some)
 
 -- the divisor of a bound, as it was computed in 128 bits
-pub divisor_is : (z : ℤ) (w : ℕ) → z ≡ pos w → w ≤ 2 ^ 66 → nat_abs (to_z w128 (of_z w128 (to_z w128 (of_z w128 z) *ℤ pos (2 ^ 40)))) ≡ w * 2 ^ 40
+pub divisor_is : (z : ℤ) (w : ℕ) → z ≡ pos w → w ≤ 2 ^ 66
+    → nat_abs (to_z w128 (of_z w128 (to_z w128 (of_z w128 z) *ℤ pos (2 ^ 40)))) ≡ w * 2 ^ 40
 divisor_is z w e h =
     let small : nat_abs z ≤ 2 ^ 66 = subst (λ y. nat_abs y ≤ 2 ^ 66) (sym e) h in
     let whole : nat_abs (pos w *ℤ pos (2 ^ 40)) ≡ w * 2 ^ 40 = omega (arith, ints) in
     ap nat_abs (ap (λ y. to_z w128 (of_z w128 (y *ℤ pos (2 ^ 40)))) (kept_by z (omega arith) ∙ e) ∙ kept_by (pos w *ℤ pos (2 ^ 40)) (omega (arith, whole))) ∙ whole
 
 -- what is left of an entry of the unit matrix, as it was computed in 128 bits
-pub left_read : (r : ℕ) (u : ℤ) (i j : ℕ) (p : ℤ) → u ≡ unit_at i j → nat_abs p ≤ 2 ^ 120 → r ≡ unsigned_abs (to_z w128 (of_z w128 (to_z w128 (of_z w128 u) -ℤ to_z w128 (of_z w128 p)))) → r ≡ nat_abs (unit_at i j -ℤ p)
+pub left_read : (r : ℕ) (u : ℤ) (i j : ℕ) (p : ℤ) → u ≡ unit_at i j → nat_abs p ≤ 2 ^ 120
+    → r ≡ unsigned_abs (to_z w128 (of_z w128 (to_z w128 (of_z w128 u) -ℤ to_z w128 (of_z w128 p))))
+    → r ≡ nat_abs (unit_at i j -ℤ p)
 left_read r u i j p e h is =
     let few : nat_abs (unit_at i j) ≤ 2 ^ 120 = unit_small i j in
     let both : nat_abs (unit_at i j -ℤ p) ≤ 2 ^ 121 = less (unit_at i j) p few h in
@@ -119,7 +126,8 @@ left_read r u i j p e h is =
     less : (a b : ℤ) → nat_abs a ≤ 2 ^ 120 → nat_abs b ≤ 2 ^ 120 → nat_abs (a -ℤ b) ≤ 2 ^ 121
     less a b h k = omega (arith, ints)
 
-pub divisor_positive : (z : ℤ) → pos (10 ^ 6) ≤ℤ z → z ≤ℤ pos (2 ^ 66) → pos 0 <ℤ to_z w128 (of_z w128 (to_z w128 (of_z w128 z) *ℤ pos (2 ^ 40)))
+pub divisor_positive : (z : ℤ) → pos (10 ^ 6) ≤ℤ z → z ≤ℤ pos (2 ^ 66)
+    → pos 0 <ℤ to_z w128 (of_z w128 (to_z w128 (of_z w128 z) *ℤ pos (2 ^ 40)))
 divisor_positive z h k =
     let small : nat_abs z ≤ 2 ^ 66 = omega (arith, ints) in
     let whole : nat_abs (z *ℤ pos (2 ^ 40)) ≤ 2 ^ 126 = omega (arith, ints) in

@@ -69,7 +69,8 @@ size_within z = elim (cases_lt (2 ^ 120) (nat_abs z)) [
   | inr p ↦ ap wide_size (within_small z p)
 ]
 
-sums_within : (f : ℕ → Option ℤ) (g : ℕ → ℕ) (n : ℕ) → ((j : ℕ) → j < n → f j ≡ within (pos (g j))) → wide_sums f n ≡ within (pos (sum_n g n))
+sums_within : (f : ℕ → Option ℤ) (g : ℕ → ℕ) (n : ℕ) → ((j : ℕ) → j < n → f j ≡ within (pos (g j)))
+    → wide_sums f n ≡ within (pos (sum_n g n))
 sums_within f g zero h = sym (total_kept 0 (omega arith))
 sums_within f g (suc n) h = (λ i. wide_sum (sums_within f g n (λ j l. h j (omega arith)) i) (h n (omega arith) i)) ∙ plus_within (sum_n g n) (g n)
 
@@ -86,7 +87,8 @@ same_times (suc a) total m h = sym (times_within (suc a) m (omega arith)) ∙ ap
 
 -- ---- a row
 
-module _ (n : ℕ) (C J : ℕ → ℕ → ℤ) (R : ℕ → ℕ → ℕ) (w : ℕ → ℕ) (i : ℕ) (sums : List ℤ) (column : (j : ℕ) → j < n → column_sum (C i) J j n ≡ Some (part sums j)) where
+module _ (n : ℕ) (C J : ℕ → ℕ → ℤ) (R : ℕ → ℕ → ℕ) (w : ℕ → ℕ) (i : ℕ) (sums : List ℤ)
+    (column : (j : ℕ) → j < n → column_sum (C i) J j n ≡ Some (part sums j)) where
   abbrev left_size : ℕ → ℕ
   left_size j = nat_abs (unit_at i j -ℤ part sums j)
 
@@ -102,7 +104,8 @@ module _ (n : ℕ) (C J : ℕ → ℕ → ℤ) (R : ℕ → ℕ → ℕ) (w : �
   left_over_is : (j : ℕ) → j < n → left_over n C J R w i j ≡ within (pos (left_size j + added_size j))
   left_over_is j l = (λ k. wide_sum (left_is j l k) (added_is j k)) ∙ plus_within (left_size j) (added_size j)
 
-  weighted_is : ((j : ℕ) → j < n → 0 < w j) → wide_sums (λ j. wide_product (Some (pos (w j))) (left_over n C J R w i j)) n ≡ within (pos (sum_n (λ j. w j * (left_size j + added_size j)) n))
+  weighted_is : ((j : ℕ) → j < n → 0 < w j)
+      → wide_sums (λ j. wide_product (Some (pos (w j))) (left_over n C J R w i j)) n ≡ within (pos (sum_n (λ j. w j * (left_size j + added_size j)) n))
   weighted_is p = sums_within (λ j. wide_product (Some (pos (w j))) (left_over n C J R w i j)) (λ j. w j * (left_size j + added_size j)) n
       (λ j l. ap (wide_product (Some (pos (w j)))) (left_over_is j l) ∙ times_within (w j) (left_size j + added_size j) (p j l))
 
@@ -155,7 +158,8 @@ sum_pos f zero = refl
 sum_pos f (suc n) = ap (λ z. z +ℤ pos (f n)) (sum_pos f n) ∙ omega (arith, ints)
 
 -- the cells of a row give what its columns give
-pub row_weighted : (size row : ℕ) (at : ℕ × ℕ → Amount) (cells : List Cell) (R : ℕ → ℕ → ℕ) (w : ℕ → ℕ) (ws : List ℤ) → IsRowOf size at row cells → ((l j : ℕ) → (at (l, j)).units ≡ pos (R l j)) → HasWeights size ws w
+pub row_weighted : (size row : ℕ) (at : ℕ × ℕ → Amount) (cells : List Cell) (R : ℕ → ℕ → ℕ) (w : ℕ → ℕ) (ws : List ℤ)
+    → IsRowOf size at row cells → ((l j : ℕ) → (at (l, j)).units ≡ pos (R l j)) → HasWeights size ws w
     → list_n (λ c. nat_abs c.units * nat_abs (part ws c.col)) cells ≡ weighted_radius size R w row
 row_weighted size row at cells R w ws h e is = ap nat_abs (
     sym (list_pos (λ c. nat_abs c.units * nat_abs (part ws c.col)) cells)
@@ -167,13 +171,15 @@ row_weighted size row at cells R w ws h e is = ap nat_abs (
     none k = omega arith
 
 -- a total that is past the limit on the way is past it at the end
-pub past_front : (f : ℕ → ℕ) (k n from total : ℕ) → k < n → total ≡ from + sum_n f k → 2 ^ 120 < total + f k → 2 ^ 120 < from + sum_n f n
+pub past_front : (f : ℕ → ℕ) (k n from total : ℕ) → k < n → total ≡ from + sum_n f k → 2 ^ 120 < total + f k
+    → 2 ^ 120 < from + sum_n f n
 past_front f k n from total l e h = let s = front_le f (suc k) n (omega arith) in omega arith
 
 pub past_sum : (f : ℕ → ℕ) (k n total : ℕ) → k < n → total ≡ sum_n f k → 2 ^ 120 < total + f k → 2 ^ 120 < sum_n f n
 past_sum f k n total l e h = let s = front_le f (suc k) n (omega arith) in omega arith
 
-pub past_take : {X : Type 0} (f : X → ℕ) (xs : List X) (k : ℕ) (d : X) (total : ℕ) → k < length xs → total ≡ list_n f (take k xs) → 2 ^ 120 < total + f (get_or xs k d) → 2 ^ 120 < list_n f xs
+pub past_take : {X : Type 0} (f : X → ℕ) (xs : List X) (k : ℕ) (d : X) (total : ℕ) → k < length xs
+    → total ≡ list_n f (take k xs) → 2 ^ 120 < total + f (get_or xs k d) → 2 ^ 120 < list_n f xs
 past_take f xs k d total l e h = let s = take_le f (k + 1) xs in let m = list_n_more f xs k d l in omega arith
 
 pub front_more : (f : ℕ → ℕ) (k from total : ℕ) → total ≡ from + sum_n f k → total + f k ≡ from + sum_n f (k + 1)
@@ -183,7 +189,8 @@ front_more f k from total h =
     more ∙ ap (λ n. from + sum_n f n) next
 
 -- what sums leave of a row of the unit matrix, where the row has been taken off them
-pub left_is_weighted : (n i : ℕ) (ws sums : List ℤ) → i < length sums → left_total n i ws sums ≡ weighted_total n ws (set sums i (part sums i -ℤ pos (2 ^ 80)))
+pub left_is_weighted : (n i : ℕ) (ws sums : List ℤ) → i < length sums
+    → left_total n i ws sums ≡ weighted_total n ws (set sums i (part sums i -ℤ pos (2 ^ 80)))
 left_is_weighted n i ws sums l =
     sum_n-same (λ j. nat_abs (part ws j) * nat_abs (unit_at i j -ℤ part sums j)) (λ j. nat_abs (part ws j) * nat_abs (part (set sums i (part sums i -ℤ pos (2 ^ 80))) j)) n
     (λ j m. ap (λ k. nat_abs (part ws j) * k) (size j))

@@ -56,7 +56,8 @@ module _ (n : ℕ) (f g : ℕ → ℕ) (same : (i : ℕ) → i < n → f i ≡ g
   radii_same x u c = λ i. radii_of u.load (centre_re x u) (centre_im x u) (centre_magnitude x u)
       (re_same u.first c.first i + re_same u.second c.second i) (im_same u.first c.first i + im_same u.second c.second i) (magnitude_same u.magnitude c.magnitude i)
 
-  pub loads_same : (x : List ℤ) (us : List LoadAt) (p : ℕ × ℕ) → All (IsConnected n) us → loads_radius f x us p ≡ loads_radius g x us p
+  pub loads_same : (x : List ℤ) (us : List LoadAt) (p : ℕ × ℕ) → All (IsConnected n) us
+      → loads_radius f x us p ≡ loads_radius g x us p
   loads_same x [] p h = refl
   loads_same x (u ∷ us) p h = λ i. load_radius u (radii_same x u (All-head (IsConnected n) u us h) i) p.0 p.1 + loads_same x us p (All-tail (IsConnected n) u us h) i
 
@@ -114,7 +115,8 @@ no_product zero b h = inl refl
 no_product (suc a) zero h = inr refl
 no_product (suc a) (suc b) h = absurd (omega arith)
 
-rows_none : (u : LoadAt) (r : Radii) (row col : ℕ) → count_terminal row u * count_terminal col u ≡ 0 → spread row u (radius_in col u r.real) (radius_in col u r.imaginary) (radius_in col u r.magnitude) ≡ 0
+rows_none : (u : LoadAt) (r : Radii) (row col : ℕ) → count_terminal row u * count_terminal col u ≡ 0
+    → spread row u (radius_in col u r.real) (radius_in col u r.imaginary) (radius_in col u r.magnitude) ≡ 0
 rows_none u r row col h = elim (no_product (count_terminal row u) (count_terminal col u) h) [
   | inl e ↦ spread_none row u (radius_in col u r.real) (radius_in col u r.imaginary) (radius_in col u r.magnitude) e
   | inr e ↦
@@ -126,11 +128,13 @@ load_none : (u : LoadAt) (r : Radii) (row col : ℕ) → slope_count row col u �
 unfolding slope_count load_radius
 load_none u r row col h = by_test (eqb u.load.model 2) h
   where
-    by_test : (b : Bool) → cond b 0 (count_terminal row u * count_terminal col u) ≡ 0 → cond b 0 (spread row u (radius_in col u r.real) (radius_in col u r.imaginary) (radius_in col u r.magnitude)) ≡ 0
+    by_test : (b : Bool) → cond b 0 (count_terminal row u * count_terminal col u) ≡ 0
+        → cond b 0 (spread row u (radius_in col u r.real) (radius_in col u r.imaginary) (radius_in col u r.magnitude)) ≡ 0
     by_test true h = refl
     by_test false h = rows_none u r row col h
 
-loads_none : (box : ℕ → ℕ) (x : List ℤ) (us : List LoadAt) (row col : ℕ) → slope_counts us row col ≡ 0 → loads_radius box x us (row, col) ≡ 0
+loads_none : (box : ℕ → ℕ) (x : List ℤ) (us : List LoadAt) (row col : ℕ) → slope_counts us row col ≡ 0
+    → loads_radius box x us (row, col) ≡ 0
 loads_none box x [] row col h = refl
 loads_none box x (u ∷ us) row col h =
     let a = load_none u (radii_in box x u) row col (omega arith) in
@@ -143,7 +147,8 @@ loads_none box x (u ∷ us) row col h =
 abbrev radius_amount : NetworkView → List ℤ → ℕ × ℕ → Amount
 radius_amount v x p = amount (pos (slope_radius v x p.0 p.1)) (count_at v.share.terms p.0 p.1) (slope_counts v.share.loads p.0 p.1)
 
-radius_is : (v : NetworkView) (x : List ℤ) (row col : ℕ) → loads_radius (half_width v x) x v.share.loads (row, col) + 4 * (count_at v.share.terms row col + slope_counts v.share.loads row col) ≡ slope_radius v x row col
+radius_is : (v : NetworkView) (x : List ℤ) (row col : ℕ)
+    → loads_radius (half_width v x) x v.share.loads (row, col) + 4 * (count_at v.share.terms row col + slope_counts v.share.loads row col) ≡ slope_radius v x row col
 unfolding slope_radius
 radius_is v x row col = refl
 
@@ -156,7 +161,8 @@ module _ (v : NetworkView) (x : List ℤ) (j : MatrixView) (is : IsMatrix v.size
 
   module _ (boxes : List ℕ) (box : HasNumbers v.size boxes (half_width v x)) (connected : All (IsConnected v.size) v.share.loads) (radii : List ℕ) (made : List Cell)
       (of_loads : (k : ℕ) → k < length j.places → number_at radii k ≡ loads_radius (number_at boxes) x v.share.loads (key j.places k)) (cells : AreRadiusCells j.cells radii made) where
-    radius_at_place : (k : ℕ) → k < length j.places → cell_at made k ≡ cell_of (key j.places k).1 (radius_amount v x (key j.places k))
+    radius_at_place : (k : ℕ) → k < length j.places
+        → cell_at made k ≡ cell_of (key j.places k).1 (radius_amount v x (key j.places k))
     radius_at_place k l =
         let p = key j.places k in
         let inside : k < length j.cells = subst (λ n. k < n) (sym is.cells.long) l in
@@ -171,7 +177,8 @@ module _ (v : NetworkView) (x : List ℤ) (j : MatrixView) (is : IsMatrix v.size
         let r : slope_radius v x p.0 p.1 ≡ 0 = sym (radius_is v x p.0 p.1) ∙ (λ i. loads_none (half_width v x) x v.share.loads p.0 p.1 s i + 4 * (c i + s i)) in
         λ i. amount (pos (r i)) (c i) (s i)
 
-    pub radii_made : (m : MatrixView) → m ≡ (record { size = j.size; places = j.places; cells = made }) → HasRadii m (slope_radius v x)
+    pub radii_made : (m : MatrixView) → m ≡ (record { size = j.size; places = j.places; cells = made })
+        → HasRadii m (slope_radius v x)
     radii_made m e = subst (λ w. HasRadii w (slope_radius v x)) (sym e) (record {
       at = radius_amount v x;
       cells = record { long = cells.long ∙ is.cells.long; each = radius_at_place };
@@ -190,7 +197,8 @@ part_small x i h = elim (cases_lt i (length x)) [
 narrow : (n : ℕ) → n ≤ 2 ^ 41 → ceil_nat n 200 ≤ 2 ^ 40
 narrow n h = ceil_nat_least n 200 (2 ^ 40) (omega arith) (omega arith)
 
-width_by : (k : PlaceKind) (v : NetworkView) (x : List ℤ) (i : ℕ) → All IsPart x → half_width_by k (weight_by k v.draw x i) ≤ 2 ^ 40
+width_by : (k : PlaceKind) (v : NetworkView) (x : List ℤ) (i : ℕ) → All IsPart x
+    → half_width_by k (weight_by k v.draw x i) ≤ 2 ^ 40
 width_by NodePlace v x i h =
     let a = part_small x (2 * (i / 2)) h in
     let b = part_small x (2 * (i / 2) + 1) h in
@@ -208,13 +216,15 @@ module _ (v : NetworkView) (x : List ℤ) (boxes : List ℕ) (is : boxes ≡ box
     small = λ i l. subst (λ n. n ≤ 2 ^ 40) (sym (boxes_at i (subst (λ n. i < n) p.long l))) (width_by (kind_of v i) v x i p.parts);
   }
 
-pub boxes_are : (v : NetworkView) (x ws : List ℤ) (boxes : List ℕ) → HasWeights v.size ws (weight_at v x) → boxes ≡ list_of v.size (λ i. half_width_by (kind_of v i) (nat_abs (part ws i))) → boxes ≡ boxes_of v x
+pub boxes_are : (v : NetworkView) (x ws : List ℤ) (boxes : List ℕ) → HasWeights v.size ws (weight_at v x)
+    → boxes ≡ list_of v.size (λ i. half_width_by (kind_of v i) (nat_abs (part ws i))) → boxes ≡ boxes_of v x
 boxes_are v x ws boxes h e = e ∙ map-same (λ i. half_width_by (kind_of v i) (nat_abs (part ws i))) (half_width v x) v.size 0 (λ i l. ap (λ z. half_width_by (kind_of v i) (nat_abs z)) (h i l))
 
 pub weights_at : (v : NetworkView) (x ws : List ℤ) → ws ≡ weights_of v x → HasWeights v.size ws (weight_at v x)
 weights_at v x ws e i l = ap (λ xs. part xs i) e ∙ get_or-list_of v.size (λ place. pos (weight_at v x place)) i (pos 0) l
 
-pub are_weights : (v : NetworkView) (x ws : List ℤ) → ws ≡ weights_of v x → ((l : ℕ) → l < v.size → (pos (10 ^ 6) ≤ℤ part ws l) × (part ws l ≤ℤ pos (2 ^ 66))) → AreWeights v.size ws
+pub are_weights : (v : NetworkView) (x ws : List ℤ) → ws ≡ weights_of v x
+    → ((l : ℕ) → l < v.size → (pos (10 ^ 6) ≤ℤ part ws l) × (part ws l ≤ℤ pos (2 ^ 66))) → AreWeights v.size ws
 are_weights v x ws e h = record {
   long = ap length e ∙ length-list_of v.size (λ place. pos (weight_at v x place));
   least = λ i l. let r = h i l in r.0;

@@ -72,11 +72,13 @@ nothing_more s factor h =
 pub record IsPartly (cells : List Cell) (factor : ℤ) (old new : List ℤ) (k : ℕ) : Type 0 where
   pub long : length new ≡ length old
   pub units : AreUnits new
-  pub done : (i : ℕ) → i < k → sum_more (part old (cell_at cells i).col) factor (cell_at cells i).units ≡ Some (part new (cell_at cells i).col)
+  pub done : (i : ℕ) → i < k
+      → sum_more (part old (cell_at cells i).col) factor (cell_at cells i).units ≡ Some (part new (cell_at cells i).col)
   pub left : (j : ℕ) → ((i : ℕ) → i < k → (cell_at cells i).col ≢ j) → part new j ≡ part old j
 
 -- a cell stands in the column, or none of the first n does
-pub find : (cells : List Cell) (j n : ℕ) → ((k : ℕ) × (k < n) × ((cell_at cells k).col ≡ j)) ⊎ ((k : ℕ) → k < n → (cell_at cells k).col ≢ j)
+pub find : (cells : List Cell) (j n : ℕ)
+    → ((k : ℕ) × (k < n) × ((cell_at cells k).col ≡ j)) ⊎ ((k : ℕ) → k < n → (cell_at cells k).col ≢ j)
 find cells j zero = inr (λ k l. absurd (omega arith))
 find cells j (suc n) = elim (cases_eq (cell_at cells n).col j) [
   | inl e ↦ inl (n, omega arith, e)
@@ -91,10 +93,13 @@ module _ (cells : List Cell) (factor : ℤ) (old : List ℤ) where
   partly_start h = record { long = refl; units = h; done = λ i l. absurd (omega arith); left = λ j away. refl }
 
   -- where the next cell stands nothing was added yet
-  pub not_yet : (new : List ℤ) (k width : ℕ) → AreColumns width cells → k < length cells → IsPartly cells factor old new k → part new (cell_at cells k).col ≡ part old (cell_at cells k).col
+  pub not_yet : (new : List ℤ) (k width : ℕ) → AreColumns width cells → k < length cells
+      → IsPartly cells factor old new k → part new (cell_at cells k).col ≡ part old (cell_at cells k).col
   not_yet new k width c l h = h.left (cell_at cells k).col (λ i m. let r = c.rising i k m l in omega arith)
 
-  pub partly_more : (new : List ℤ) (k : ℕ) (sum : ℤ) → AreColumns (length old) cells → k < length cells → IsPartly cells factor old new k → sum_more (part new (cell_at cells k).col) factor (cell_at cells k).units ≡ Some sum → nat_abs sum ≤ 2 ^ 120
+  pub partly_more : (new : List ℤ) (k : ℕ) (sum : ℤ) → AreColumns (length old) cells → k < length cells
+      → IsPartly cells factor old new k
+      → sum_more (part new (cell_at cells k).col) factor (cell_at cells k).units ≡ Some sum → nat_abs sum ≤ 2 ^ 120
       → IsPartly cells factor old (set new (cell_at cells k).col sum) (k + 1)
   partly_more new k sum c l h e small =
       let at = (cell_at cells k).col in
@@ -121,12 +126,16 @@ module _ (cells : List Cell) (factor : ℤ) (old : List ℤ) where
       }
 
   -- the cell at which the sum passes the limit
-  pub partly_past : (new : List ℤ) (k : ℕ) (at : ℕ → ℤ) → AreColumns (length old) cells → k < length cells → IsPartly cells factor old new k → sum_more (part new (cell_at cells k).col) factor (cell_at cells k).units ≡ None → IsRow cells at
+  pub partly_past : (new : List ℤ) (k : ℕ) (at : ℕ → ℤ) → AreColumns (length old) cells → k < length cells
+      → IsPartly cells factor old new k
+      → sum_more (part new (cell_at cells k).col) factor (cell_at cells k).units ≡ None → IsRow cells at
       → ((cell_at cells k).col < length old) × (sum_more (part old (cell_at cells k).col) factor (at (cell_at cells k).col) ≡ None)
   partly_past new k at c l h e r =
       (c.inside k l, ap (λ z. sum_more z factor (at (cell_at cells k).col)) (sym (not_yet new k (length old) c l h)) ∙ ap (sum_more (part new (cell_at cells k).col) factor) (sym (r.each k l)) ∙ e)
 
-  pub partly_all : (new : List ℤ) (k : ℕ) (at : ℕ → ℤ) → AreUnits old → length cells ≡ k → IsPartly cells factor old new k → IsRow cells at → (j : ℕ) → sum_more (part old j) factor (at j) ≡ Some (part new j)
+  pub partly_all : (new : List ℤ) (k : ℕ) (at : ℕ → ℤ) → AreUnits old → length cells ≡ k
+      → IsPartly cells factor old new k → IsRow cells at → (j : ℕ)
+      → sum_more (part old j) factor (at j) ≡ Some (part new j)
   partly_all new k at units e h r j = elim (find cells j (length cells)) [
     | inl (i, l, is) ↦
         subst (λ m. sum_more (part old m) factor (at m) ≡ Some (part new m)) is (ap (sum_more (part old (cell_at cells i).col) factor) (sym (r.each i l)) ∙ h.done i (omega arith))
@@ -140,7 +149,8 @@ module _ (cells : List Cell) (factor : ℤ) (old : List ℤ) where
 pub row_columns : (n row : ℕ) (at : ℕ × ℕ → Amount) (cells : List Cell) → IsRowOf n at row cells → AreColumns n cells
 row_columns n row at cells h = record { inside = h.inside; rising = h.rising }
 
-pub row_entries : (n row : ℕ) (at : ℕ × ℕ → Amount) (cells : List Cell) (J : ℕ → ℕ → ℤ) → IsRowOf n at row cells → ((l j : ℕ) → (at (l, j)).units ≡ J l j) → IsRow cells (J row)
+pub row_entries : (n row : ℕ) (at : ℕ × ℕ → Amount) (cells : List Cell) (J : ℕ → ℕ → ℤ) → IsRowOf n at row cells
+    → ((l j : ℕ) → (at (l, j)).units ≡ J l j) → IsRow cells (J row)
 row_entries n row at cells J h e = record {
   each = λ k l. ap (λ (c : Cell). c.units) (h.each k l) ∙ e row (cell_at cells k).col;
   all = λ col away. sym (e row col) ∙ ap (λ (a : Amount). a.units) (h.all col away);
@@ -153,15 +163,19 @@ pub record IsSummed (m : MatrixView) (factors sums : List ℤ) (row : ℕ) : Typ
   pub sums_are : (J : ℕ → ℕ → ℤ) → HasEntries m J → (j : ℕ) → column_sum (part factors) J j row ≡ Some (part sums j)
 
 module _ (m : MatrixView) (factors : List ℤ) where
-  pub summed_start : (sums : List ℤ) → length sums ≡ m.size → ((j : ℕ) → part sums j ≡ pos 0) → IsSummed m factors sums 0
+  pub summed_start : (sums : List ℤ) → length sums ≡ m.size → ((j : ℕ) → part sums j ≡ pos 0)
+      → IsSummed m factors sums 0
   summed_start sums e z = record {
     long = e;
     units = λ j. subst (λ n. nat_abs n ≤ 2 ^ 120) (sym (z j)) (omega arith);
     sums_are = λ J h j. ap Some (sym (z j));
   }
 
-  pub summed_more : (sums new : List ℤ) (row : ℕ) (factor : ℤ) (cells : List Cell) → factor ≡ part factors row → ((at : ℕ × ℕ → Amount) → AreCells m.places m.cells at → IsNothingElsewhere m.places at → IsRowOf m.size at row cells)
-      → IsSummed m factors sums row → length new ≡ length sums → AreUnits new → ((at : ℕ → ℤ) → IsRow cells at → (j : ℕ) → sum_more (part sums j) factor (at j) ≡ Some (part new j)) → IsSummed m factors new (row + 1)
+  pub summed_more : (sums new : List ℤ) (row : ℕ) (factor : ℤ) (cells : List Cell) → factor ≡ part factors row
+      → ((at : ℕ × ℕ → Amount) → AreCells m.places m.cells at → IsNothingElsewhere m.places at → IsRowOf m.size at row cells)
+      → IsSummed m factors sums row → length new ≡ length sums → AreUnits new
+      → ((at : ℕ → ℤ) → IsRow cells at → (j : ℕ) → sum_more (part sums j) factor (at j) ≡ Some (part new j))
+      → IsSummed m factors new (row + 1)
   summed_more sums new row factor cells f is h e units g = record {
     long = e ∙ h.long;
     units = units;
@@ -173,22 +187,28 @@ module _ (m : MatrixView) (factors : List ℤ) where
   }
 
   -- a column that passes the limit in a row
-  pub summed_past : (sums : List ℤ) (row : ℕ) (factor : ℤ) (cells : List Cell) (j : ℕ) (J : ℕ → ℕ → ℤ) → factor ≡ part factors row → ((at : ℕ × ℕ → Amount) → AreCells m.places m.cells at → IsNothingElsewhere m.places at → IsRowOf m.size at row cells)
-      → IsSummed m factors sums row → row < m.size → HasEntries m J → sum_more (part sums j) factor (J row j) ≡ None → column_sum (part factors) J j m.size ≡ None
+  pub summed_past : (sums : List ℤ) (row : ℕ) (factor : ℤ) (cells : List Cell) (j : ℕ) (J : ℕ → ℕ → ℤ)
+      → factor ≡ part factors row
+      → ((at : ℕ × ℕ → Amount) → AreCells m.places m.cells at → IsNothingElsewhere m.places at → IsRowOf m.size at row cells)
+      → IsSummed m factors sums row → row < m.size → HasEntries m J → sum_more (part sums j) factor (J row j) ≡ None
+      → column_sum (part factors) J j m.size ≡ None
   summed_past sums row factor cells j J f is h l has g =
       sums_stay (λ k. wide_product (Some (part factors k)) (Some (J k j))) (suc row) m.size (omega arith)
       ((λ i. wide_sum (h.sums_are J has j i) (wide_product (Some (sym f i)) (Some (J row j))))
       ∙ g)
 
-  pub summed_all : (sums : List ℤ) (row : ℕ) → row ≡ m.size → IsSummed m factors sums row → (J : ℕ → ℕ → ℤ) → HasEntries m J → (j : ℕ) → column_sum (part factors) J j m.size ≡ Some (part sums j)
+  pub summed_all : (sums : List ℤ) (row : ℕ) → row ≡ m.size → IsSummed m factors sums row → (J : ℕ → ℕ → ℤ)
+      → HasEntries m J → (j : ℕ) → column_sum (part factors) J j m.size ≡ Some (part sums j)
   summed_all sums row e h J has j = ap (column_sum (part factors) J j) (sym e) ∙ h.sums_are J has j
 
 -- ---- sums in 128 bits
 
-pub sum_fits : (a b : ℤ) → nat_abs a ≤ 2 ^ 120 → nat_abs b ≤ 2 ^ 120 → FitsSigned w128 (to_z w128 (of_z w128 a) +ℤ to_z w128 (of_z w128 b))
+pub sum_fits : (a b : ℤ) → nat_abs a ≤ 2 ^ 120 → nat_abs b ≤ 2 ^ 120
+    → FitsSigned w128 (to_z w128 (of_z w128 a) +ℤ to_z w128 (of_z w128 b))
 sum_fits a b h k = rw (kept_by a (omega arith), kept_by b (omega arith)) (fits_signed_from_abs w128 (a +ℤ b) (omega (arith, ints)))
 
-pub sum_kept : (a b : ℤ) → nat_abs a ≤ 2 ^ 120 → nat_abs b ≤ 2 ^ 120 → to_z w128 (of_z w128 (to_z w128 (of_z w128 a) +ℤ to_z w128 (of_z w128 b))) ≡ (a +ℤ b)
+pub sum_kept : (a b : ℤ) → nat_abs a ≤ 2 ^ 120 → nat_abs b ≤ 2 ^ 120
+    → to_z w128 (of_z w128 (to_z w128 (of_z w128 a) +ℤ to_z w128 (of_z w128 b))) ≡ (a +ℤ b)
 sum_kept a b h k = rw (kept_by a (omega arith), kept_by b (omega arith)) (kept_by (a +ℤ b) (omega (arith, ints)))
 
 -- ---- what an option says
@@ -201,19 +221,25 @@ pub weaker_some : {X : Type 0} (o : Option X) (P Q : X → Type 0) → ((x : X) 
 weaker_some None P Q f h = tt
 weaker_some (Some x) P Q f h = f x h
 
-pub when_some : {X : Type 0} (o : Option X) (P : X → Type 0) {Q : Type 0} → ((x : X) → P x → Q) → IfSome o P → is_some o ≡ true → Q
+pub when_some : {X : Type 0} (o : Option X) (P : X → Type 0) {Q : Type 0} → ((x : X) → P x → Q) → IfSome o P
+    → is_some o ≡ true → Q
 when_some None P f h e = absurd cc
 when_some (Some x) P f h e = f x h
 
 -- what a sum is, whose parts were read from 128 bits
-pub sum_read : (r : Option ℤ) (s f u : ℤ) → nat_abs s ≤ 2 ^ 120 → FitsSigned w128 f → FitsSigned w128 u → r ≡ sum_more (to_z w128 (of_z w128 s)) (to_z w128 (of_z w128 f)) (to_z w128 (of_z w128 u)) → r ≡ sum_more s f u
+pub sum_read : (r : Option ℤ) (s f u : ℤ) → nat_abs s ≤ 2 ^ 120 → FitsSigned w128 f → FitsSigned w128 u
+    → r ≡ sum_more (to_z w128 (of_z w128 s)) (to_z w128 (of_z w128 f)) (to_z w128 (of_z w128 u)) → r ≡ sum_more s f u
 sum_read r s f u h k l e = e ∙ (λ i. sum_more (kept_by s (omega arith) i) (to_z-of_z w128 f k i) (to_z-of_z w128 u l i))
 
 -- a product that was found small
-pub product_size : (o : Option ℤ) (f u p : ℤ) → FitsSigned w128 f → FitsSigned w128 u → o ≡ wide_product (Some (to_z w128 (of_z w128 f))) (Some (to_z w128 (of_z w128 u))) → o ≡ Some p → nat_abs p ≤ 2 ^ 120
+pub product_size : (o : Option ℤ) (f u p : ℤ) → FitsSigned w128 f → FitsSigned w128 u
+    → o ≡ wide_product (Some (to_z w128 (of_z w128 f))) (Some (to_z w128 (of_z w128 u))) → o ≡ Some p
+    → nat_abs p ≤ 2 ^ 120
 product_size o f u p k l e g = within_size (f *ℤ u) p (sym (e ∙ (λ i. wide_product (Some (to_z-of_z w128 f k i)) (Some (to_z-of_z w128 u l i)))) ∙ g)
 
-pub product_read : (o : Option ℤ) (f u : ℤ) → FitsSigned w128 f → FitsSigned w128 u → o ≡ wide_product (Some (to_z w128 (of_z w128 f))) (Some (to_z w128 (of_z w128 u))) → o ≡ wide_product (Some f) (Some u)
+pub product_read : (o : Option ℤ) (f u : ℤ) → FitsSigned w128 f → FitsSigned w128 u
+    → o ≡ wide_product (Some (to_z w128 (of_z w128 f))) (Some (to_z w128 (of_z w128 u)))
+    → o ≡ wide_product (Some f) (Some u)
 product_read o f u k l e = e ∙ (λ i. wide_product (Some (to_z-of_z w128 f k i)) (Some (to_z-of_z w128 u l i)))
 
 pub none_of : {X : Type 0} (o : Option X) → ((x : X) → ¬ (o ≡ Some x)) → o ≡ None

@@ -36,7 +36,8 @@ pub record IsBelow (t : Bool) (o : Option ℤ) : Type 0 where
   pub within : t ≡ true
   pub small : bound_size o < 2 ^ 40
 
-pub below_one : (t : Bool) (o : Option ℤ) → IfSome o (λ k. pos 0 ≤ℤ k) → not (is_below_one (cond t o None)) ≡ false → IsBelow t o
+pub below_one : (t : Bool) (o : Option ℤ) → IfSome o (λ k. pos 0 ≤ℤ k) → not (is_below_one (cond t o None)) ≡ false
+    → IsBelow t o
 below_one true (Some k) h e = by_test (int_lt k (pos (2 ^ 40))) refl e
   where
     by_test : (b : Bool) → int_lt k (pos (2 ^ 40)) ≡ b → not b ≡ false → IsBelow true (Some k)
@@ -46,7 +47,8 @@ below_one true None h e = absurd cc
 below_one false o h e = absurd cc
 
 -- what holds of each row where none reaches one
-module _ (ws : List ℤ) (bounds : List (Option ℤ)) (reach : ℕ) (signs : AreBounds bounds) (all : (i : ℕ) → i < length bounds → is_unbounded ws reach bounds i ≡ false) where
+module _ (ws : List ℤ) (bounds : List (Option ℤ)) (reach : ℕ) (signs : AreBounds bounds)
+    (all : (i : ℕ) → i < length bounds → is_unbounded ws reach bounds i ≡ false) where
   below_at : (i : ℕ) → i < length bounds → IsBelow (nat_le (nat_abs (part ws i) * reach) (2 ^ 120)) (bound_in bounds i)
   below_at i l = below_one (nat_le (nat_abs (part ws i) * reach) (2 ^ 120)) (bound_in bounds i) (signs i l) (all i l)
 
@@ -56,11 +58,13 @@ module _ (ws : List ℤ) (bounds : List (Option ℤ)) (reach : ℕ) (signs : Are
   pub bound_below : greatest (λ i. bound_size (bound_in bounds i)) (length bounds) < 2 ^ 40
   bound_below = let g = greatest_le (λ i. bound_size (bound_in bounds i)) (length bounds) (2 ^ 40 - 1) (λ i l. let s = (below_at i l).small in omega arith) in omega arith
 
-module _ (n : ℕ) (C J : ℕ → ℕ → ℤ) (R : ℕ → ℕ → ℕ) (w e : ℕ → ℕ) (ws : List ℤ) (bounds : List (Option ℤ)) (reach : ℕ) (b : bounds ≡ list_of n (bound_at n C J R w)) (h : HasWeights n ws w) (r : reach ≡ reach_of n C J R w e) where
+module _ (n : ℕ) (C J : ℕ → ℕ → ℤ) (R : ℕ → ℕ → ℕ) (w e : ℕ → ℕ) (ws : List ℤ) (bounds : List (Option ℤ)) (reach : ℕ)
+    (b : bounds ≡ list_of n (bound_at n C J R w)) (h : HasWeights n ws w) (r : reach ≡ reach_of n C J R w e) where
   bound_read : (i : ℕ) → i < n → bound_in bounds i ≡ bound_at n C J R w i
   bound_read i l = ap (λ xs. bound_in xs i) b ∙ get_or-list_of n (bound_at n C J R w) i None l
 
-  named_same : (i : ℕ) → i < n → named_bound (nat_abs (part ws i)) reach (bound_in bounds i) ≡ refused_bound n C J R w e i
+  named_same : (i : ℕ) → i < n
+      → named_bound (nat_abs (part ws i)) reach (bound_in bounds i) ≡ refused_bound n C J R w e i
   named_same i l = λ k. cond (nat_le (nat_abs (h i l k) * r k) (2 ^ 120)) (bound_read i l k) None
 
   unbounded_same : first_place (is_unbounded ws reach bounds) (length bounds) ≡ first_unbounded n C J R w e
@@ -68,7 +72,9 @@ module _ (n : ℕ) (C J : ℕ → ℕ → ℤ) (R : ℕ → ℕ → ℕ) (w e : 
       ap (first_place (is_unbounded ws reach bounds)) (ap length b ∙ length-list_of n (bound_at n C J R w))
       ∙ first_same (is_unbounded ws reach bounds) (λ i. not (is_below_one (refused_bound n C J R w e i))) n (λ i l. ap (λ o. not (is_below_one o)) (named_same i l))
 
-  pub refused : (place : ℕ) (sum : Option ℤ) → Some place ≡ first_place (is_unbounded ws reach bounds) (length bounds) → place < n → sum ≡ named_bound (nat_abs (part ws place)) reach (bound_in bounds place) → IsRefused n C J R w e place sum
+  pub refused : (place : ℕ) (sum : Option ℤ) → Some place ≡ first_place (is_unbounded ws reach bounds) (length bounds)
+      → place < n → sum ≡ named_bound (nat_abs (part ws place)) reach (bound_in bounds place)
+      → IsRefused n C J R w e place sum
   unfolding refusal
   refused place sum f l s = record {
     refusal = ap (unless_unbounded n C J R w e) (sym (f ∙ unbounded_same)) ∙ ap (λ o. Some (place, o)) (sym (s ∙ named_same place l));
@@ -76,7 +82,9 @@ module _ (n : ℕ) (C J : ℕ → ℕ → ℤ) (R : ℕ → ℕ → ℕ) (w e : 
   }
 
   -- the radii, as a list
-  module _ (none : None ≡ first_place (is_unbounded ws reach bounds) (length bounds)) (rs : List ℕ) (k : ℕ) (g : k ≡ greatest (λ i. bound_size (bound_in bounds i)) (length bounds)) (m : ℕ) (q : m ≡ n) (is : rs ≡ list_of m (λ i. radius_of (nat_abs (part ws i)) reach k)) where
+  module _ (none : None ≡ first_place (is_unbounded ws reach bounds) (length bounds)) (rs : List ℕ) (k : ℕ)
+      (g : k ≡ greatest (λ i. bound_size (bound_in bounds i)) (length bounds)) (m : ℕ) (q : m ≡ n)
+      (is : rs ≡ list_of m (λ i. radius_of (nat_abs (part ws i)) reach k)) where
     bound_same : k ≡ bound_of n C J R w
     bound_same =
         g ∙ ap (greatest (λ i. bound_size (bound_in bounds i))) (ap length b ∙ length-list_of n (bound_at n C J R w))
@@ -94,7 +102,8 @@ module _ (n : ℕ) (C J : ℕ → ℕ → ℤ) (R : ℕ → ℕ → ℕ) (w e : 
         ap (first_place (λ i. nat_lt (2 ^ 40) (number_at rs i))) (ap length radii_same ∙ length-list_of n (radius_at n C J R w e))
         ∙ first_same (λ i. nat_lt (2 ^ 40) (number_at rs i)) (λ i. nat_lt (2 ^ 40) (radius_at n C J R w e i)) n (λ i l. ap (nat_lt (2 ^ 40)) (ap (λ xs. number_at xs i) radii_same ∙ get_or-list_of n (radius_at n C J R w e) i 0 l))
 
-    pub too_wide : (place : ℕ) → Some place ≡ first_place (λ i. nat_lt (2 ^ 40) (number_at rs i)) (length rs) → place < n → IsRefused n C J R w e place None
+    pub too_wide : (place : ℕ) → Some place ≡ first_place (λ i. nat_lt (2 ^ 40) (number_at rs i)) (length rs)
+        → place < n → IsRefused n C J R w e place None
     unfolding refusal
     too_wide place f l = record {
       refusal = ap (unless_unbounded n C J R w e) (sym (none ∙ unbounded_same)) ∙ ap (unless_wide n C J R w e) (sym (f ∙ wide_same));
@@ -115,12 +124,14 @@ pub is_past : (limit n : ℕ) → limit < n → nat_lt limit n ≡ true
 is_past limit n h = grind arith
 
 -- a row's reach, as it was computed from lists
-pub reach_is : (n : ℕ) (C : ℕ → ℕ → ℤ) (w e : ℕ → ℕ) (i : ℕ) (row : List ℤ) (ms : List ℕ) (weight : ℕ) → ((l : ℕ) → part row l ≡ C i l) → HasNumbers n ms e → weight ≡ w i
+pub reach_is : (n : ℕ) (C : ℕ → ℕ → ℤ) (w e : ℕ → ℕ) (i : ℕ) (row : List ℤ) (ms : List ℕ) (weight : ℕ)
+    → ((l : ℕ) → part row l ≡ C i l) → HasNumbers n ms e → weight ≡ w i
     → ceil_nat (sum_n (λ l. nat_abs (part row l) * (2 * number_at ms l)) n * 2 ^ 20) weight ≡ reach_in n C w e i
 reach_is n C w e i row ms weight r h f = λ k. ceil_nat (sum_same (λ l. nat_abs (part row l) * (2 * number_at ms l)) (λ l. nat_abs (C i l) * (2 * e l)) n (λ l m. (λ j. nat_abs (r l j) * (2 * h l m j))) k * 2 ^ 20) (f k)
 
 -- a test of a row's bound, as it was computed
-pub tested_is : (r : Bool) (o b : Option ℤ) (m reach : ℕ) (w : ℤ) → r ≡ is_below_one o → o ≡ named_bound m reach b → m ≡ nat_abs w → not r ≡ not (is_below_one (named_bound (nat_abs w) reach b))
+pub tested_is : (r : Bool) (o b : Option ℤ) (m reach : ℕ) (w : ℤ) → r ≡ is_below_one o → o ≡ named_bound m reach b
+    → m ≡ nat_abs w → not r ≡ not (is_below_one (named_bound (nat_abs w) reach b))
 tested_is r o b m reach w e f g = ap not (e ∙ ap is_below_one (f ∙ ap (λ n. named_bound n reach b) g))
 
 -- a product of an entry of an inverse and twice a mismatch

@@ -31,7 +31,8 @@ pub record AreShort (n : ℕ) (es : List Entry) : Type 0 where
 -- the entries of the first rows of a matrix
 pub record IsFlat (m : MatrixView) (es : List Entry) (rows : ℕ) : Type 0 where
   pub each : All (IsShort m.size) es
-  pub sums : (J : ℕ → ℕ → ℤ) → HasEntries m J → (factor : ℕ → ℤ) (j : ℕ) → j < m.size → list_z (entry_term factor j) es ≡ sum_z (λ l. factor l *ℤ J l j) rows
+  pub sums : (J : ℕ → ℕ → ℤ) → HasEntries m J → (factor : ℕ → ℤ) (j : ℕ) → j < m.size
+      → list_z (entry_term factor j) es ≡ sum_z (λ l. factor l *ℤ J l j) rows
   pub small : (J : ℕ → ℕ → ℤ) → HasEntries m J → (l j : ℕ) → l < rows → nat_abs (J l j) ≤ 2 ^ 48
 
 -- those of all its rows, at most 2^22

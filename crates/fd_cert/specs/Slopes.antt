@@ -16,7 +16,8 @@ pub record AreSlopes (m : MatrixView) (rows : List ℕ) (ws : List ℤ) : Type 0
   pub weights : AreWeights m.size ws
 
 -- they have these entries, radii by weight, and weights
-pub record HasSlopes (m : MatrixView) (rows : List ℕ) (ws : List ℤ) (J : ℕ → ℕ → ℤ) (R : ℕ → ℕ → ℕ) (w : ℕ → ℕ) : Type 0 where
+pub record HasSlopes (m : MatrixView) (rows : List ℕ) (ws : List ℤ) (J : ℕ → ℕ → ℤ) (R : ℕ → ℕ → ℕ)
+    (w : ℕ → ℕ) : Type 0 where
   pub jacobian : HasEntries m J
   pub radii : AreWeighted m.size R w rows
   pub weights : HasWeights m.size ws w

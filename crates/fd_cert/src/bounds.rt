@@ -199,7 +199,9 @@ fn bound(slopes: &Slopes, row: u32, factors: &[i128], sums: &mut [i128]) -> Opti
     requires factors { IsRowOfInverse slopes.now.jacobian.matrix.now.size factors.now }
     requires sums { length sums.old ≡ slopes.now.jacobian.matrix.now.size }
     ensures sums { length sums.new ≡ length sums.old }
-    ensures bound { (J : ℕ → ℕ → ℤ) (R : ℕ → ℕ → ℕ) (w : ℕ → ℕ) → HasSlopes slopes.now.jacobian.matrix.now slopes.now.radii.items slopes.now.weights.now J R w → result ≡ bound_at slopes.now.jacobian.matrix.now.size (λ _. part factors.now) J R w row }
+    ensures bound { (J : ℕ → ℕ → ℤ) (R : ℕ → ℕ → ℕ) (w : ℕ → ℕ) →
+        HasSlopes slopes.now.jacobian.matrix.now slopes.now.radii.items slopes.now.weights.now J R w →
+        result ≡ bound_at slopes.now.jacobian.matrix.now.size (λ _. part factors.now) J R w row }
 {
     clear(sums);
     if slopes.jacobian.sums(sums, factors).is_some() {
@@ -217,9 +219,13 @@ fn bound_of_sums(slopes: &Slopes, row: u32, factors: &[i128], sums: &mut [i128])
     requires factors { IsRowOfInverse slopes.now.jacobian.matrix.now.size factors.now }
     requires long { length sums.old ≡ slopes.now.jacobian.matrix.now.size }
     requires units { AreUnits sums.old }
-    requires sums { (J : ℕ → ℕ → ℤ) → HasEntries slopes.now.jacobian.matrix.now J → (j : ℕ) → j < slopes.now.jacobian.matrix.now.size → column_sum (part factors.now) J j slopes.now.jacobian.matrix.now.size ≡ Some (part sums.old j) }
+    requires sums { (J : ℕ → ℕ → ℤ) → HasEntries slopes.now.jacobian.matrix.now J → (j : ℕ) →
+        j < slopes.now.jacobian.matrix.now.size →
+        column_sum (part factors.now) J j slopes.now.jacobian.matrix.now.size ≡ Some (part sums.old j) }
     ensures long { length sums.new ≡ length sums.old }
-    ensures bound { (J : ℕ → ℕ → ℤ) (R : ℕ → ℕ → ℕ) (w : ℕ → ℕ) → HasSlopes slopes.now.jacobian.matrix.now slopes.now.radii.items slopes.now.weights.now J R w → result ≡ bound_at slopes.now.jacobian.matrix.now.size (λ _. part factors.now) J R w row }
+    ensures bound { (J : ℕ → ℕ → ℤ) (R : ℕ → ℕ → ℕ) (w : ℕ → ℕ) →
+        HasSlopes slopes.now.jacobian.matrix.now slopes.now.radii.items slopes.now.weights.now J R w →
+        result ≡ bound_at slopes.now.jacobian.matrix.now.size (λ _. part factors.now) J R w row }
 {
     take_unit(sums, row as usize);
     let total = row_total(slopes, factors, sums);
@@ -300,8 +306,12 @@ fn two_bounds(
     requires others { length others.old ≡ slopes.now.jacobian.matrix.now.size }
     ensures sums { length sums.new ≡ length sums.old }
     ensures others { length others.new ≡ length others.old }
-    ensures first { (J : ℕ → ℕ → ℤ) (R : ℕ → ℕ → ℕ) (w : ℕ → ℕ) → HasSlopes slopes.now.jacobian.matrix.now slopes.now.radii.items slopes.now.weights.now J R w → result.0 ≡ bound_at slopes.now.jacobian.matrix.now.size (λ _. part first.now) J R w row }
-    ensures second { (J : ℕ → ℕ → ℤ) (R : ℕ → ℕ → ℕ) (w : ℕ → ℕ) → HasSlopes slopes.now.jacobian.matrix.now slopes.now.radii.items slopes.now.weights.now J R w → result.1 ≡ bound_at slopes.now.jacobian.matrix.now.size (λ _. part second.now) J R w (row + 1) }
+    ensures first { (J : ℕ → ℕ → ℤ) (R : ℕ → ℕ → ℕ) (w : ℕ → ℕ) →
+        HasSlopes slopes.now.jacobian.matrix.now slopes.now.radii.items slopes.now.weights.now J R w →
+        result.0 ≡ bound_at slopes.now.jacobian.matrix.now.size (λ _. part first.now) J R w row }
+    ensures second { (J : ℕ → ℕ → ℤ) (R : ℕ → ℕ → ℕ) (w : ℕ → ℕ) →
+        HasSlopes slopes.now.jacobian.matrix.now slopes.now.radii.items slopes.now.weights.now J R w →
+        result.1 ≡ bound_at slopes.now.jacobian.matrix.now.size (λ _. part second.now) J R w (row + 1) }
 {
     // read for its bound alone
     let _size = slopes.jacobian.size();

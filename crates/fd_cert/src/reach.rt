@@ -71,7 +71,9 @@ pub fn greatest_reach(inverse: &Dense, mismatch: &[u128], weights: &[i128]) -> u
     requires few { length mismatch.now ≤ 2 ^ 11 }
     requires tight { AreTight mismatch.now }
     requires weights { AreWeights (length mismatch.now) weights.now }
-    ensures { (w e : ℕ → ℕ) → HasWeights (length mismatch.now) weights.now w → HasNumbers (length mismatch.now) mismatch.now e → result ≡ greatest (reach_in (length mismatch.now) (entry inverse.now) w e) (length mismatch.now) }
+    ensures { (w e : ℕ → ℕ) → HasWeights (length mismatch.now) weights.now w →
+        HasNumbers (length mismatch.now) mismatch.now e →
+        result ≡ greatest (reach_in (length mismatch.now) (entry inverse.now) w e) (length mismatch.now) }
 {
     let mut greatest = 0;
     for place in 0..inverse.size() {

@@ -55,8 +55,10 @@ fn add_products(sums: &mut [i128], cells: &[Cell], factor: i128) -> Option<u32>
     requires units { AreUnits sums.old }
     ensures long { length sums.new ≡ length sums.old }
     ensures units { AreUnits sums.new }
-    ensures sums { (at : ℕ → ℤ) → IsRow cells.now at → IfNone result ((j : ℕ) → more (part sums.old j) factor (at j) ≡ Some (part sums.new j)) }
-    ensures past { (at : ℕ → ℤ) → IsRow cells.now at → IfSome result (λ j. (j < length sums.old) × (more (part sums.old j) factor (at j) ≡ None)) }
+    ensures sums { (at : ℕ → ℤ) → IsRow cells.now at →
+        IfNone result ((j : ℕ) → more (part sums.old j) factor (at j) ≡ Some (part sums.new j)) }
+    ensures past { (at : ℕ → ℤ) → IsRow cells.now at →
+        IfSome result (λ j. (j < length sums.old) × (more (part sums.old j) factor (at j) ≡ None)) }
 {
     for cell in cells {
         let col = cell.col as usize;
@@ -77,8 +79,10 @@ fn column_sums(sums: &mut [i128], matrix: &Matrix, factors: &[i128]) -> Option<u
     requires zero { (j : ℕ) → part sums.old j ≡ pos 0 }
     ensures long { length sums.new ≡ length sums.old }
     ensures units { AreUnits sums.new }
-    ensures sums { (J : ℕ → ℕ → ℤ) → HasEntries matrix.now J → IfNone result ((j : ℕ) → column_sum (part factors.now) J j matrix.now.size ≡ Some (part sums.new j)) }
-    ensures past { (J : ℕ → ℕ → ℤ) → HasEntries matrix.now J → IfSome result (λ j. (j < matrix.now.size) × (column_sum (part factors.now) J j matrix.now.size ≡ None)) }
+    ensures sums { (J : ℕ → ℕ → ℤ) → HasEntries matrix.now J →
+        IfNone result ((j : ℕ) → column_sum (part factors.now) J j matrix.now.size ≡ Some (part sums.new j)) }
+    ensures past { (J : ℕ → ℕ → ℤ) → HasEntries matrix.now J →
+        IfSome result (λ j. (j < matrix.now.size) × (column_sum (part factors.now) J j matrix.now.size ≡ None)) }
 {
     for row in 0..matrix.size() {
         let past = add_products(sums, matrix.row(row), factors[row as usize]);
@@ -123,8 +127,10 @@ impl<'a> Walk<'a> {
         requires zero { (j : ℕ) → part sums.old j ≡ pos 0 }
         ensures long { length sums.new ≡ length sums.old }
         ensures units { AreUnits sums.new }
-        ensures sums { (J : ℕ → ℕ → ℤ) → HasEntries self.now.matrix.now J → IfNone result ((j : ℕ) → j < self.now.matrix.now.size → column_sum (part factors.now) J j self.now.matrix.now.size ≡ Some (part sums.new j)) }
-        ensures past { (J : ℕ → ℕ → ℤ) → HasEntries self.now.matrix.now J → IfSome result (λ j. (j < self.now.matrix.now.size) × (column_sum (part factors.now) J j self.now.matrix.now.size ≡ None)) }
+        ensures sums { (J : ℕ → ℕ → ℤ) → HasEntries self.now.matrix.now J →
+            IfNone result ((j : ℕ) → j < self.now.matrix.now.size → column_sum (part factors.now) J j self.now.matrix.now.size ≡ Some (part sums.new j)) }
+        ensures past { (J : ℕ → ℕ → ℤ) → HasEntries self.now.matrix.now J →
+            IfSome result (λ j. (j < self.now.matrix.now.size) × (column_sum (part factors.now) J j self.now.matrix.now.size ≡ None)) }
     {
         match &self.entries {
             Some(entries) => {

@@ -59,7 +59,8 @@ module _ (v : Version) (number hour round size : ℤ) (lines : List Line) where
     count = omega (arith, f.count);
   }
 
-  module _ (parts : List Part) (mid : List Line) (read : numbered_at part_at (count_of size) 0 lines ≡ Ok (parts, mid)) where
+  module _ (parts : List Part) (mid : List Line)
+      (read : numbered_at part_at (count_of size) 0 lines ≡ Ok (parts, mid)) where
     pub parts_lines : length lines ≡ count_of size + length mid
     parts_lines =
         let f = numbered_found part_at part_line Anything part_found (count_of size) 0 lines (parts, mid) read in

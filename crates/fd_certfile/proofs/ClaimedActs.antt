@@ -35,7 +35,8 @@ nothing_left made i l = none (drop i made) (omega (arith, l, length-drop i made)
     none [] e = refl
     none (m ∷ ms) e = absurd (omega (arith, e))
 
-module _ (made : List Made) (all : List Act) (i : ℕ) (rest : List Act) (s : are_same made all ≡ are_same (drop i made) rest) where
+module _ (made : List Made) (all : List Act) (i : ℕ) (rest : List Act)
+    (s : are_same made all ≡ are_same (drop i made) rest) where
   module _ (l : i < length made) (e : Made) where
     here : (a : Act) (more : List Act) → rest ≡ a ∷ more
         → are_same made all ≡ (same_act (act_of (get_or made i e)) a && are_same (drop (i + 1) made) more)

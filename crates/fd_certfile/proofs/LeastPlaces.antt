@@ -9,7 +9,8 @@ use Rattle.fd_exact.specs.States.{part}
 use Rattle.fd_certfile.specs.Rules.{is_within, least_from}
 use Rattle.fd_certfile.proofs.RuleOrder.{Decides-all, Decides-within, least_none, least_some}
 
-pub least_is : (n : ℕ) (test bad : ℕ → Bool) → ((i : ℕ) → i < n → bad i ≡ not (test i)) → least_from 0 n test ≡ first_place bad n
+pub least_is : (n : ℕ) (test bad : ℕ → Bool) → ((i : ℕ) → i < n → bad i ≡ not (test i))
+    → least_from 0 n test ≡ first_place bad n
 least_is n test bad h = by (least_from 0 n test) refl
   where
     by : (o : Option ℕ) → least_from 0 n test ≡ o → o ≡ first_place bad n
@@ -49,12 +50,14 @@ opposite false false f g = let no : ⊥ = let e = g refl in cc in absurd no
 
 -- ---- entries
 
-pub all_at : {X : Type 0} (P : X → Type 0) (d : X) (xs : List X) (i : ℕ) → AllByRecursion P xs → i < length xs → P (get_or xs i d)
+pub all_at : {X : Type 0} (P : X → Type 0) (d : X) (xs : List X) (i : ℕ) → AllByRecursion P xs → i < length xs
+    → P (get_or xs i d)
 all_at P d [] i a l = absurd (omega (arith, l))
 all_at P d (x ∷ xs) zero a l = a.0
 all_at P d (x ∷ xs) (suc i) a l = all_at P d xs i a.1 (omega (arith, l))
 
-all_from : {X : Type 0} (P : X → Type 0) (d : X) (xs : List X) → ((i : ℕ) → i < length xs → P (get_or xs i d)) → AllByRecursion P xs
+all_from : {X : Type 0} (P : X → Type 0) (d : X) (xs : List X) → ((i : ℕ) → i < length xs → P (get_or xs i d))
+    → AllByRecursion P xs
 all_from P d [] h = tt
 all_from P d (x ∷ xs) h = (h 0 (omega arith), all_from P d xs (λ i l. h (suc i) (omega (arith, l))))
 
@@ -62,12 +65,14 @@ pub is_wide : (n : ℕ) (row : List ℤ) → length row ≡ n
     → is_some (first_place (λ col. nat_lt (2 ^ 56) (nat_abs (part row col))) n) ≡ not (list_all (is_within (2 ^ 56)) row)
 is_wide n row long = opposite (list_all (is_within (2 ^ 56)) row) (is_some (first_place (λ col. nat_lt (2 ^ 56) (nat_abs (part row col))) n)) from_all to_all
   where
-    from_all : list_all (is_within (2 ^ 56)) row ≡ true → is_some (first_place (λ col. nat_lt (2 ^ 56) (nat_abs (part row col))) n) ≡ false
+    from_all : list_all (is_within (2 ^ 56)) row ≡ true
+        → is_some (first_place (λ col. nat_lt (2 ^ 56) (nat_abs (part row col))) n) ≡ false
     from_all e =
         let all = (Decides-all (is_within (2 ^ 56)) (λ z. nat_abs z ≤ 2 ^ 56) (Decides-within (2 ^ 56)) row).0 e in
         ap is_some (first_none (λ col. nat_lt (2 ^ 56) (nat_abs (part row col))) n (λ col l. not_past (2 ^ 56) (nat_abs (part row col)) (all_at (λ z. nat_abs z ≤ 2 ^ 56) (pos 0) row col all (omega (arith, l, long)))))
 
-    to_all : is_some (first_place (λ col. nat_lt (2 ^ 56) (nat_abs (part row col))) n) ≡ false → list_all (is_within (2 ^ 56)) row ≡ true
+    to_all : is_some (first_place (λ col. nat_lt (2 ^ 56) (nat_abs (part row col))) n) ≡ false
+        → list_all (is_within (2 ^ 56)) row ≡ true
     to_all e =
         let none = none_found (first_place (λ col. nat_lt (2 ^ 56) (nat_abs (part row col))) n) e in
         (Decides-all (is_within (2 ^ 56)) (λ z. nat_abs z ≤ 2 ^ 56) (Decides-within (2 ^ 56)) row).1

@@ -132,7 +132,8 @@ module _ (r : ReaderView) (n : ℕ) (x : Ahead) (h : HasAhead r n x) where
   ahead_square = ap (square n) h.cells ∙ square-cells n h.block.inverse (spelled.sized.rows ∙ counted) widths
 
 -- what a reader passes over
-module _ (r : ReaderView) (n : ℕ) (acts : List Act) (rest : List Line) (count : ℕ) (h : IsAheadOf r n acts rest count) where
+module _ (r : ReaderView) (n : ℕ) (acts : List Act) (rest : List Line) (count : ℕ)
+    (h : IsAheadOf r n acts rest count) where
   pub passed_lines : length r.lines ≡ count + length rest
   passed_lines = omega (arith, ap length (block_found Whole r.lines h.block rest h.same).lines_are, length-append (block_lines Whole h.block) rest, length-block Whole h.block, h.count_is)
 
@@ -149,7 +150,8 @@ module _ (r : ReaderView) (n : ℕ) (acts : List Act) (rest : List Line) (count 
 -- the reader behind a block, by its fields
 pub after_is : (lines : List Line) (line number hour round : ℕ) (given : List GivenBlock) (b : Block) (rest : List Line)
     (n next : ℕ) (now : List GivenBlock) (acts : List Act)
-    → b.size ≡ pos n → next ≡ line + lines_count b → acts ≡ b.acts → now ≡ given ++ record { acts = acts; rule_line = line + 1 + 2 * n } ∷ []
+    → b.size ≡ pos n → next ≡ line + lines_count b → acts ≡ b.acts
+    → now ≡ given ++ record { acts = acts; rule_line = line + 1 + 2 * n } ∷ []
     → behind (record { version = Whole; lines = lines; line = line; number = number; hour = hour; round = round; given = given }) b rest
     ≡ record { version = Whole; lines = rest; line = next; number = number; hour = hour; round = round + 1; given = now }
 after_is lines line number hour round given b rest n next now acts s l a g =

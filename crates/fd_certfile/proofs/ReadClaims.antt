@@ -53,7 +53,8 @@ radius_test : (z : ℤ) → nat_lt (2 ^ 40) (read_radius z) ≡ not (is_within (
 radius_test (pos k) = lt_not (2 ^ 40) k ∙ ap not (sym (and_some (nat_le k (2 ^ 40)) (int_le (pos 0) (pos k)) (le-leb 0 k (omega arith))))
 radius_test (negsuc k) = lt-ltb (2 ^ 40) 1099511627777 (omega arith) ∙ ap not (sym (and_none (is_within (2 ^ 40) (negsuc k))))
 
-range_test : (z y : ℤ) (t : Bool) → (nat_lt (2 ^ 40) (nat_abs z) || (nat_lt (2 ^ 40) (read_radius y) || not t)) ≡ not (is_within (2 ^ 40) z && (is_within (2 ^ 40) y && (int_le (pos 0) y && t)))
+range_test : (z y : ℤ) (t : Bool)
+    → (nat_lt (2 ^ 40) (nat_abs z) || (nat_lt (2 ^ 40) (read_radius y) || not t)) ≡ not (is_within (2 ^ 40) z && (is_within (2 ^ 40) y && (int_le (pos 0) y && t)))
 range_test z y t =
     ap (λ (a : Bool). a || (nat_lt (2 ^ 40) (read_radius y) || not t)) (lt_not (2 ^ 40) (nat_abs z))
     ∙ ap (λ (a : Bool). not (is_within (2 ^ 40) z) || (a || not t)) (radius_test y)
@@ -83,12 +84,14 @@ mismatch_size own (negsuc k) e = let t = untrue_below own k in let no : ⊥ = cc
 abbrev pub at_place : Found → Broken
 at_place f = record { rule = f.rule; place = at_part f.place }
 
-step : (rule : Rule) (o : Option ℕ) (os : List (Option Broken)) (later : Option Found) → (o ≡ None → first_some os ≡ option_map at_place later)
+step : (rule : Rule) (o : Option ℕ) (os : List (Option Broken)) (later : Option Found)
+    → (o ≡ None → first_some os ≡ option_map at_place later)
     → first_some (broken_by rule o ∷ os) ≡ option_map at_place (broken_at rule o later)
 step rule None os later h = h refl
 step rule (Some i) os later h = refl
 
-later_none : (rule : Rule) (o : Option ℕ) (later : Option Found) → broken_at rule o later ≡ None → (o ≡ None) × (later ≡ None)
+later_none : (rule : Rule) (o : Option ℕ) (later : Option Found) → broken_at rule o later ≡ None
+    → (o ≡ None) × (later ≡ None)
 later_none rule None later e = (refl, e)
 later_none rule (Some k) later e = let no : ⊥ = cc in absurd no
 
@@ -97,7 +100,8 @@ later_none rule (Some k) later e = let no : ⊥ = cc in absurd no
 abbrev no_part : Part
 no_part = record { centre = pos 0; radius = pos 0; mismatch = pos 0 }
 
-module _ (v : NetworkView) (number hour round : ℕ) (sampled : Ball → Sampled) (b : Block) (s : IsSized b) (sized : b.size ≡ pos v.size) where
+module _ (v : NetworkView) (number hour round : ℕ) (sampled : Ball → Sampled) (b : Block) (s : IsSized b)
+    (sized : b.size ≡ pos v.size) where
   many : length b.parts ≡ v.size
   many = s.parts ∙ ap count_of sized
 
@@ -121,7 +125,8 @@ module _ (v : NetworkView) (number hour round : ℕ) (sampled : Ball → Sampled
   wide_at : (i : ℕ) → i < v.size → has_wide_entry v.size (row_of b i) ≡ not (list_all (is_within (2 ^ 56)) (row_of b i))
   wide_at i l = is_wide v.size (row_of b i) (all_at (λ (r : List ℤ). length r ≡ count_of b.size) [] b.inverse i s.entries (omega (arith, l, rows)) ∙ ap count_of sized)
 
-  range_at : (i : ℕ) → i < v.size → is_out_of_range v.size (claim_of b).centre (radii_read b) b.inverse i ≡ not (is_in_range b i)
+  range_at : (i : ℕ) → i < v.size
+      → is_out_of_range v.size (claim_of b).centre (radii_read b) b.inverse i ≡ not (is_in_range b i)
   range_at i l =
       ap (λ (z : ℤ). nat_lt (2 ^ 40) (nat_abs z) || (nat_lt (2 ^ 40) (number_at (radii_read b) i) || has_wide_entry v.size (row_of b i))) (centre_at i)
       ∙ ap (λ (k : ℕ). nat_lt (2 ^ 40) (nat_abs (part_of b i).centre) || (nat_lt (2 ^ 40) k || has_wide_entry v.size (row_of b i))) (radius_at i)
@@ -156,7 +161,8 @@ module _ (v : NetworkView) (number hour round : ℕ) (sampled : Ball → Sampled
         ∙ sym (mismatch_size (mismatch_at v (claim_of b).centre i) (part_of b i).mismatch (sym (ap (is_untrue (mismatch_at v (claim_of b).centre i)) (mismatch_here i)) ∙ fine))
         ∙ sym (get_or-map nat_abs (claim_of b).mismatch i (pos 0) ∙ ap nat_abs (get_or-map (λ (p : Part). p.mismatch) b.parts i no_part)))
 
-    named_is : (o : Option (ℕ × Option ℤ)) → refusal_in v (claim_of b) ≡ o → least_from 0 v.size (λ i. not (names i o)) ≡ place_named o
+    named_is : (o : Option (ℕ × Option ℤ)) → refusal_in v (claim_of b) ≡ o
+        → least_from 0 v.size (λ i. not (names i o)) ≡ place_named o
     named_is None e = least_all v.size 0 (λ i. not (names i None)) (λ j l m. refl)
     named_is (Some r) e =
         let below : r.0 < v.size = refusal_below v.size (entry b.inverse) (jacobian_entry v (claim_of b).centre) (slope_radius v (claim_of b).centre) (weight_at v (claim_of b).centre) (number_at (sizes_of (claim_of b).mismatch)) r e in
@@ -186,7 +192,8 @@ module _ (v : NetworkView) (number hour round : ℕ) (sampled : Ball → Sampled
   at_point = refl
 
   -- the rules before the acts come to those of the claim
-  pub rules_same : is_due (judge_of v number hour round sampled) b ≡ true → first_some (claim_rules (judge_of v number hour round sampled) b) ≡ option_map at_place (first_unsound v (claim_read v b))
+  pub rules_same : is_due (judge_of v number hour round sampled) b ≡ true
+      → first_some (claim_rules (judge_of v number hour round sampled) b) ≡ option_map at_place (first_unsound v (claim_read v b))
   rules_same due =
       let judge = judge_of v number hour round sampled in
       let x = (claim_of b).centre in

@@ -75,7 +75,8 @@ module _ {X : Type 0} (read : ℕ → Line → Option X) (n : ℕ) (lines : List
 
 -- ---- numbered lines of which what flat makes of them is kept, or nothing
 
-module _ {X Y : Type 0} (read : ℕ → Line → Option X) (flat : List X → List Y) (keep : Bool) (n : ℕ) (lines : List Line) where
+module _ {X Y : Type 0} (read : ℕ → Line → Option X) (flat : List X → List Y) (keep : Bool) (n : ℕ)
+    (lines : List Line) where
   pub kept_start : (found : List Y) → found ≡ [] → [] ≡ flat [] → IsKeptSoFar read flat keep n lines 0 found lines
   kept_start found empty e = record { front = []; so_far = so_far_start read n lines; keeps = empty ∙ none keep }
     where

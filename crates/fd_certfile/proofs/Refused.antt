@@ -16,7 +16,8 @@ bind_err (Err c) f d P e at_err at_ok = at_err cc
 made_ok : {B : Type 0} (x : B) (d : List Line) (P : Type 0) → (let r : Result B (List Line) = Ok x in r ≡ Err d) → P
 made_ok x d P e = absurd cc
 
-record Cut {X : Type 0} (read : ℕ → Line → Option X) (line : ℕ → X → Line) (IsRight : X → Type 0) (n i : ℕ) (lines rest : List Line) : Type 0 where
+record Cut {X : Type 0} (read : ℕ → Line → Option X) (line : ℕ → X → Line) (IsRight : X → Type 0) (n i : ℕ)
+    (lines rest : List Line) : Type 0 where
   xs : List X
   lines_are : lines ≡ numbered_lines line i xs ++ rest
   short : length xs < n
@@ -264,5 +265,6 @@ solution_kept v number hour round size lines rest e =
     (λ rows made g. made_ok _ rest _ g))
 
 -- else it is the first
-pub first_kept : (v : Version) (lines rest : List Line) → IsNoSolution lines → block_at v lines ≡ Err rest → lines ≡ rest
+pub first_kept : (v : Version) (lines rest : List Line) → IsNoSolution lines → block_at v lines ≡ Err rest
+    → lines ≡ rest
 first_kept v lines rest h e = same_err (no_solution v lines h) e

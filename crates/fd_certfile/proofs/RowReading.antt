@@ -34,7 +34,8 @@ pub kept_append : {X : Type 0} (keep : Bool) (xs ys : List X) → kept keep (xs 
 kept_append true xs ys = refl
 kept_append false xs ys = refl
 
-module _ (keep : Bool) (old new : List ℤ) (all : List (List ℕ)) (i : ℕ) (rest : List (List ℕ)) (t : IsTaken keep old new all i rest) where
+module _ (keep : Bool) (old new : List ℤ) (all : List (List ℕ)) (i : ℕ) (rest : List (List ℕ))
+    (t : IsTaken keep old new all i rest) where
   joined : (z : ℤ) (o : Option (List ℤ))
       → option_map (λ zs. t.taken ++ zs) (option_map (λ zs. z ∷ zs) o) ≡ option_map (λ zs. (t.taken ++ z ∷ []) ++ zs) o
   joined z None = refl

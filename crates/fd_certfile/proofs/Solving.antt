@@ -32,8 +32,10 @@ pub record IsNextOf (r : ReaderView) (n : ℕ) (b : Block) (w : ReaderView) : Ty
   pub numbered : is_numbered r.number r.hour r.round n b ≡ true
   pub reader : w ≡ behind r b rest
 
-by_other : (r : ReaderView) (n : ℕ) (b : Block) (w : ReaderView) (next : Block × List Line) (t : Bool) → starts_with_end r.lines ≡ false
-    → block_at r.version r.lines ≡ Ok next → is_numbered r.number r.hour r.round n next.0 ≡ t → unless_other r next t ≡ Ok (b, w) → IsNextOf r n b w
+by_other : (r : ReaderView) (n : ℕ) (b : Block) (w : ReaderView) (next : Block × List Line) (t : Bool)
+    → starts_with_end r.lines ≡ false
+    → block_at r.version r.lines ≡ Ok next → is_numbered r.number r.hour r.round n next.0 ≡ t
+    → unless_other r next t ≡ Ok (b, w) → IsNextOf r n b w
 by_other r n b w next true s e f h =
     let same : (next.0, behind r next.0 next.1) ≡ (b, w) = cc in
     let block : next.0 ≡ b = ap (λ (p : Block × ReaderView). p.0) same in
@@ -46,7 +48,8 @@ by_other r n b w next true s e f h =
     }
 by_other r n b w next false s e f h = let no : ⊥ = cc in absurd no
 
-by_read : (r : ReaderView) (n : ℕ) (b : Block) (w : ReaderView) (t : Bool) (read : Result (Block × List Line) (List Line)) → starts_with_end r.lines ≡ t
+by_read : (r : ReaderView) (n : ℕ) (b : Block) (w : ReaderView) (t : Bool) (read : Result (Block × List Line) (List Line))
+    → starts_with_end r.lines ≡ t
     → block_at r.version r.lines ≡ read → by_head r n t read ≡ Ok (b, w) → IsNextOf r n b w
 by_read r n b w true read s e h = let no : ⊥ = cc in absurd no
 by_read r n b w false (Err rest) s e h = let no : ⊥ = cc in absurd no
@@ -71,10 +74,12 @@ module _ (v : NetworkView) (r : ReaderView) (b : Block) (w : ReaderView) (next :
   pub of_size : b.size ≡ pos v.size
   of_size = place_is v.size b.size (and_parts _ _ (and_parts _ _ (and_parts (is_place r.number b.number) _ given.numbered).1).1).1
 
-  pub rules_are : (sampled : Ball → Sampled) → first_some (claim_rules (judge_in v r sampled) b) ≡ option_map at_place (first_unsound v (claim_read v b))
+  pub rules_are : (sampled : Ball → Sampled)
+      → first_some (claim_rules (judge_in v r sampled) b) ≡ option_map at_place (first_unsound v (claim_read v b))
   rules_are sampled = rules_same v r.number r.hour r.round sampled b sized of_size (due sampled)
 
-  solved_by : (o : Option Broken) → first_some (claim_rules (judge_in v r no_acts) b) ≡ o → solved_of v r ≡ unless_unsound r.line (b, w) o
+  solved_by : (o : Option Broken) → first_some (claim_rules (judge_in v r no_acts) b) ≡ o
+      → solved_of v r ≡ unless_unsound r.line (b, w) o
   unfolding solved_of
   solved_by o h = ap (by_claim v r) next ∙ ap (unless_unsound r.line (b, w)) h
 
@@ -84,20 +89,24 @@ module _ (v : NetworkView) (r : ReaderView) (b : Block) (w : ReaderView) (next :
   pub solved_claim : first_unsound v (claim_read v b) ≡ None → claim_read v b ≡ claim_on v b
   solved_claim h = claim_same v r.number r.hour r.round no_acts b sized of_size h
 
-  pub solved_broken : (k : Found) → first_unsound v (claim_read v b) ≡ Some k → solved_of v r ≡ Err (r.line + 1 + k.place, k.rule)
+  pub solved_broken : (k : Found) → first_unsound v (claim_read v b) ≡ Some k
+      → solved_of v r ≡ Err (r.line + 1 + k.place, k.rule)
   solved_broken k h = solved_by (Some (at_place k)) (rules_are no_acts ∙ ap (option_map at_place) h)
 
-pub solved_refused : (v : NetworkView) (r : ReaderView) (line : ℕ) (rule : Rule) → next_of r v.size ≡ Err (line, rule) → solved_of v r ≡ Err (line, rule)
+pub solved_refused : (v : NetworkView) (r : ReaderView) (line : ℕ) (rule : Rule) → next_of r v.size ≡ Err (line, rule)
+    → solved_of v r ≡ Err (line, rule)
 unfolding solved_of
 solved_refused v r line rule h = ap (by_claim v r) h
 
-pub gives_refused : (v : NetworkView) (r : ReaderView) (n : ℕ) (f : CertFileFault) → n ≡ v.size → FindsAhead r n (Err f) → GivesSolved v r (Err f) r
+pub gives_refused : (v : NetworkView) (r : ReaderView) (n : ℕ) (f : CertFileFault) → n ≡ v.size → FindsAhead r n (Err f)
+    → GivesSolved v r (Err f) r
 gives_refused v r n (fault.Refused line rule) e h = (solved_refused v r line rule (ap (next_of r) (sym e) ∙ h), refl)
 gives_refused v r n fault.NoMemory e h = refl
 
 -- ---- what the code reads
 
-pub read_is : (v : NetworkView) (parts : List Read) (rows : List (List ℤ)) (b : Block) → map part parts ≡ b.parts → rows ≡ b.inverse
+pub read_is : (v : NetworkView) (parts : List Read) (rows : List (List ℤ)) (b : Block) → map part parts ≡ b.parts
+    → rows ≡ b.inverse
     → boxed_claim v (map centre_in parts) (map radius_in parts) (map mismatch_in parts) rows ≡ claim_read v b
 read_is v parts rows b h e =
     let centres : map centre_in parts ≡ (claim_of b).centre = sym (map-map (λ (p : blocks.Part). p.centre) part parts) ∙ ap (map (λ (p : blocks.Part). p.centre)) h in

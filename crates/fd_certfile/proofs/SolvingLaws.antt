@@ -27,11 +27,13 @@ before_some [] ps x e = let no : ⊥ = cc in absurd no
 before_some (None ∷ os) ps x e = before_some os ps x e
 before_some (Some y ∷ os) ps x e = e
 
-acts_left : (judge : Judge) (b : Block) → first_some (claim_rules judge b) ≡ None → first_broken judge b ≡ first_some (act_rules judge b)
+acts_left : (judge : Judge) (b : Block) → first_some (claim_rules judge b) ≡ None
+    → first_broken judge b ≡ first_some (act_rules judge b)
 unfolding first_broken
 acts_left judge b e = behind_none (claim_rules judge b) (act_rules judge b) e
 
-broken_first : (judge : Judge) (b : Block) (k : Broken) → first_some (claim_rules judge b) ≡ Some k → first_broken judge b ≡ Some k
+broken_first : (judge : Judge) (b : Block) (k : Broken) → first_some (claim_rules judge b) ≡ Some k
+    → first_broken judge b ≡ Some k
 unfolding first_broken
 broken_first judge b k e = before_some (claim_rules judge b) (act_rules judge b) k e
 
@@ -44,7 +46,8 @@ later_rules judge b =
     ∷ unless_at Radius judge.size (is_radius judge b)
     ∷ []
 
-size_first : (judge : Judge) (b : Block) → is_due judge b ≡ false → first_broken judge b ≡ Some (record { rule = Size; place = at_solution })
+size_first : (judge : Judge) (b : Block) → is_due judge b ≡ false
+    → first_broken judge b ≡ Some (record { rule = Size; place = at_solution })
 size_first judge b e = broken_first judge b (record { rule = Size; place = at_solution }) (ap (λ (t : Bool). first_some (unless Size at_solution t ∷ later_rules judge b)) e)
 
 -- ---- what is given
@@ -54,14 +57,16 @@ record IsSolvedNext (v : NetworkView) (r : ReaderView) (b : Block) (w : ReaderVi
   holds : first_some (claim_rules (judge_in v r no_acts) b) ≡ None
 
 module _ (v : NetworkView) (r : ReaderView) (b : Block) (w : ReaderView) where
-  by_rules : (next : Block × ReaderView) (o : Option Broken) → next_of r v.size ≡ Ok next → first_some (claim_rules (judge_in v r no_acts) next.0) ≡ o
+  by_rules : (next : Block × ReaderView) (o : Option Broken) → next_of r v.size ≡ Ok next
+      → first_some (claim_rules (judge_in v r no_acts) next.0) ≡ o
       → unless_unsound r.line next o ≡ Ok (b, w) → IsSolvedNext v r b w
   by_rules next None f g h =
       let same : next ≡ (b, w) = cc in
       record { next = f ∙ ap Ok same; holds = ap (λ (p : Block × ReaderView). first_some (claim_rules (judge_in v r no_acts) p.0)) (sym same) ∙ g }
   by_rules next (Some k) f g h = let no : ⊥ = cc in absurd no
 
-  by_next : (o : Result (Block × ReaderView) (ℕ × Rule)) → next_of r v.size ≡ o → by_claim v r o ≡ Ok (b, w) → IsSolvedNext v r b w
+  by_next : (o : Result (Block × ReaderView) (ℕ × Rule)) → next_of r v.size ≡ o → by_claim v r o ≡ Ok (b, w)
+      → IsSolvedNext v r b w
   by_next (Err e) f h = let no : ⊥ = cc in absurd no
   by_next (Ok next) f h = by_rules next (first_some (claim_rules (judge_in v r no_acts) next.0)) f refl h
 
@@ -88,7 +93,8 @@ no_end_starts (end ∷ lines) h = absurd h
 no_end_starts (other ∷ lines) h = refl
 
 module _ (v : NetworkView) (r : ReaderView) where
-  next_by : (t : Bool) (read : Result (Block × List Line) (List Line)) → starts_with_end r.lines ≡ t → block_at r.version r.lines ≡ read
+  next_by : (t : Bool) (read : Result (Block × List Line) (List Line)) → starts_with_end r.lines ≡ t
+      → block_at r.version r.lines ≡ read
       → next_of r v.size ≡ by_head r v.size t read
   unfolding next_of
   next_by t read e f = ap (λ c. by_head r v.size c (block_at r.version r.lines)) e ∙ ap (by_head r v.size t) f
@@ -112,7 +118,8 @@ module _ (v : NetworkView) (r : ReaderView) where
     misnumbered : is_numbered r.number r.hour r.round v.size b ≡ false → solved_of v r ≡ Err (r.line, Size)
     misnumbered f = solved_by (Err (r.line, Size)) (next_by false (Ok (b, rest)) starts e ∙ ap (unless_other r (b, rest)) f)
 
-    numbered : is_numbered r.number r.hour r.round v.size b ≡ true → solved_of v r ≡ unless_unsound r.line (b, behind r b rest) (first_some (claim_rules (judge_in v r no_acts) b))
+    numbered : is_numbered r.number r.hour r.round v.size b ≡ true
+        → solved_of v r ≡ unless_unsound r.line (b, behind r b rest) (first_some (claim_rules (judge_in v r no_acts) b))
     numbered f = solved_by (Ok (b, behind r b rest)) (next_by false (Ok (b, rest)) starts e ∙ ap (unless_other r (b, rest)) f)
 
     record Breaks (line : ℕ) (rule : Rule) (sampled : Ball → Sampled) : Type 0 where
@@ -121,7 +128,8 @@ module _ (v : NetworkView) (r : ReaderView) where
       line_is : line_at r.line b broken.place ≡ line
       rule_is : broken.rule ≡ rule
 
-    by_broken : (o : Option Broken) (line : ℕ) (rule : Rule) (sampled : Ball → Sampled) → first_some (claim_rules (judge_in v r no_acts) b) ≡ o
+    by_broken : (o : Option Broken) (line : ℕ) (rule : Rule) (sampled : Ball → Sampled)
+        → first_some (claim_rules (judge_in v r no_acts) b) ≡ o
         → unless_unsound r.line (b, behind r b rest) o ≡ Err (line, rule) → Breaks line rule sampled
     by_broken None line rule sampled f h = let no : ⊥ = cc in absurd no
     by_broken (Some k) line rule sampled f h =
@@ -133,7 +141,8 @@ module _ (v : NetworkView) (r : ReaderView) where
           rule_is = ap (λ (p : ℕ × Rule). p.1) same;
         }
 
-    by_number : (t : Bool) (line : ℕ) (rule : Rule) (sampled : Ball → Sampled) → is_numbered r.number r.hour r.round v.size b ≡ t → solved_of v r ≡ Err (line, rule)
+    by_number : (t : Bool) (line : ℕ) (rule : Rule) (sampled : Ball → Sampled)
+        → is_numbered r.number r.hour r.round v.size b ≡ t → solved_of v r ≡ Err (line, rule)
         → Breaks line rule sampled
     by_number true line rule sampled f h = by_broken (first_some (claim_rules (judge_in v r no_acts) b)) line rule sampled refl (sym (numbered f) ∙ h)
     by_number false line rule sampled f h =
@@ -146,7 +155,8 @@ module _ (v : NetworkView) (r : ReaderView) where
           rule_is = ap (λ (p : ℕ × Rule). p.1) same;
         }
 
-    breaks : (line : ℕ) (rule : Rule) (sampled : Ball → Sampled) → solved_of v r ≡ Err (line, rule) → Breaks line rule sampled
+    breaks : (line : ℕ) (rule : Rule) (sampled : Ball → Sampled) → solved_of v r ≡ Err (line, rule)
+        → Breaks line rule sampled
     breaks line rule sampled h = by_number (is_numbered r.number r.hour r.round v.size b) line rule sampled refl h
 
 err_is : (x y : ℕ × Rule) (o : Result (Block × ReaderView) (ℕ × Rule)) → o ≡ Err x → o ≡ Err y → x ≡ y
@@ -157,7 +167,8 @@ not_ok x p o e f = let both = sym e ∙ f in cc
 
 -- ---- what is finished
 
-at_other : (v : Version) (lines : List Line) (line n : ℕ) → RefusedBehind v lines zero → finished lines line n ≡ Err (line, Grammar)
+at_other : (v : Version) (lines : List Line) (line n : ℕ) → RefusedBehind v lines zero
+    → finished lines line n ≡ Err (line, Grammar)
 at_other v [] line n h = refl
 at_other v (header k ∷ lines) line n h = refl
 at_other v (solution m a k p ∷ lines) line n h = absurd (omega (arith, h.behind, solution_kept v m a k p lines h.rest h.refused))
@@ -167,7 +178,8 @@ at_other v (act t k p ∷ lines) line n h = refl
 at_other v (end ∷ lines) line n h = absurd h.no_end
 at_other v (other ∷ lines) line n h = refl
 
-at_block : (v : Version) (lines : List Line) (line n k : ℕ) → RefusedBehind v lines (suc k) → finished lines line n ≡ Err (line, Count)
+at_block : (v : Version) (lines : List Line) (line n k : ℕ) → RefusedBehind v lines (suc k)
+    → finished lines line n ≡ Err (line, Count)
 at_block v (solution m a o p ∷ lines) line n k h = refl
 at_block v [] line n k h = absurd (omega (arith, h.behind, ap length (first_kept v [] h.rest tt h.refused)))
 at_block v (header z ∷ lines) line n k h = absurd (omega (arith, h.behind, ap length (first_kept v (header z ∷ lines) h.rest tt h.refused)))
@@ -208,7 +220,8 @@ module _ {S F : Type 0} (due : S → Due F) (after : S → Block → S) where
       ∙ ap (refused line) k.rule_is
 
   came : (v : NetworkView) (r : ReaderView) (b : Block) (rest : List Line) (more : Certificate) (sampled : Ball → Sampled) (s : S) (count : ℕ)
-      → first_some (claim_rules (judge_in v r sampled) b) ≡ None → Reads r.version rest more → due s ≡ asks (judge_in v r sampled)
+      → first_some (claim_rules (judge_in v r sampled) b) ≡ None → Reads r.version rest more
+      → due s ≡ asks (judge_in v r sampled)
       → ComesAfter due after v r b (behind r b rest) (gives b more) sampled s count
   came v r b rest more sampled s count h reads d = record {
     rest = more;

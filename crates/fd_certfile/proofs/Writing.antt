@@ -99,7 +99,8 @@ module _ (size number hour round : ℕ) (made : Round) (is : IsRoundOf size made
     number_is (pos k) n h l = omega (arith, h, l)
     number_is (negsuc k) n h l = omega (arith, h, l)
 
-    row_numbers : (i : ℕ) → i < length made.certified.inverse → AllByRecursion IsNumber (row_of made.certified.inverse i)
+    row_numbers : (i : ℕ) → i < length made.certified.inverse
+        → AllByRecursion IsNumber (row_of made.certified.inverse i)
     row_numbers i l = all_by IsNumber (pos 0) (row_of made.certified.inverse i)
         (λ j m. number_is (entry made.certified.inverse i j) (2 ^ 56) (is.inverse.small i j l (omega (arith, m, wide i l))) (omega arith))
 
@@ -144,7 +145,8 @@ lines_left acts = map line_bytes (map act_line (map act_of acts))
 
 pub acts_pushed : (base now next : List (List ℕ)) (acts : List Made) (i : ℕ) (e : Made) (b : List ℕ)
     → now ++ lines_left (drop i acts) ≡ base ++ lines_left acts → next ≡ now ++ b ∷ []
-    → b ≡ line_bytes (act_line (act_of (get_or acts i e))) → i < length acts → next ++ lines_left (drop (i + 1) acts) ≡ base ++ lines_left acts
+    → b ≡ line_bytes (act_line (act_of (get_or acts i e))) → i < length acts
+    → next ++ lines_left (drop (i + 1) acts) ≡ base ++ lines_left acts
 acts_pushed base now next acts i e b so_far p q l =
     ap (λ t. t ++ lines_left (drop (i + 1) acts)) p ∙ append_assoc now (b ∷ []) (lines_left (drop (i + 1) acts))
     ∙ ap (λ c. now ++ c ∷ lines_left (drop (i + 1) acts)) q

@@ -16,13 +16,15 @@ use Rattle.fd_check.specs.Checking.{Checking, Settling, after, done, due, due_in
 use Rattle.fd_check.specs.Laws.{AcceptedLaw, AreOfRounds, IsOfRound}
 
 -- what would follow a rule that is broken
-none_broken : (line n : ℕ) (b : Block) (o : Option Broken) (more : Answer Blame) → unless_broken line b o more ≡ accepted n → (o ≡ None) × (more ≡ accepted n)
+none_broken : (line n : ℕ) (b : Block) (o : Option Broken) (more : Answer Blame)
+    → unless_broken line b o more ≡ accepted n → (o ≡ None) × (more ≡ accepted n)
 none_broken line n b None more h = (refl, h)
 none_broken line n b (Some k) more h = absurd (let no : ⊥ = cc in no)
 
 module _ (rules : RuleLaw) (block : BlockLaw) (sound : SoundLaw) where
   of_round : (s : Settling) (b : Block) → IsSized b → (plant_at s.circuit s.hour).blame s.machine.at ≡ None
-      → Holds (judge_of ((plant_at s.circuit s.hour).network s.machine.at) s.number s.hour s.round (λ ball. sampled_by (outcome_in s.circuit s.machine ball))) b → IsOfRound s b
+      → Holds (judge_of ((plant_at s.circuit s.hour).network s.machine.at) s.number s.hour s.round (λ ball. sampled_by (outcome_in s.circuit s.machine ball))) b
+      → IsOfRound s b
   of_round s b sized in_range h = record {
     number = h.due.number;
     hour = h.due.hour;
@@ -33,8 +35,10 @@ module _ (rules : RuleLaw) (block : BlockLaw) (sound : SoundLaw) where
   }
 
   -- a block that is due, unless the network is out of range
-  by_blame : (s : Settling) (o : Option Blame) → (plant_at s.circuit s.hour).blame s.machine.at ≡ o → (b : Block) → IsSized b → (line n : ℕ) (otherwise more : Answer Blame)
-      → by_due (due_in s o) otherwise (λ judge. unless_broken line b (first_broken judge b) more) ≡ accepted n → IsOfRound s b × (more ≡ accepted n)
+  by_blame : (s : Settling) (o : Option Blame) → (plant_at s.circuit s.hour).blame s.machine.at ≡ o → (b : Block)
+      → IsSized b → (line n : ℕ) (otherwise more : Answer Blame)
+      → by_due (due_in s o) otherwise (λ judge. unless_broken line b (first_broken judge b) more) ≡ accepted n
+      → IsOfRound s b × (more ≡ accepted n)
   by_blame s None in_range b sized line n otherwise more h =
       let judge : Judge = judge_of ((plant_at s.circuit s.hour).network s.machine.at) s.number s.hour s.round (λ ball. sampled_by (outcome_in s.circuit s.machine ball)) in
       let both = none_broken line n b (first_broken judge b) more h in
@@ -42,14 +46,16 @@ module _ (rules : RuleLaw) (block : BlockLaw) (sound : SoundLaw) where
   by_blame s (Some blame) in_range b sized line n otherwise more h = absurd (let no : ⊥ = cc in no)
 
   -- nothing else is accepted where a block is due
-  never_by : (s : Settling) (o : Option Blame) (n : ℕ) (otherwise other : Answer Blame) → (other ≡ accepted n → ⊥) → by_due (due_in s o) otherwise (λ judge. other) ≡ accepted n → ⊥
+  never_by : (s : Settling) (o : Option Blame) (n : ℕ) (otherwise other : Answer Blame) → (other ≡ accepted n → ⊥)
+      → by_due (due_in s o) otherwise (λ judge. other) ≡ accepted n → ⊥
   never_by s None n otherwise other never h = never h
   never_by s (Some blame) n otherwise other never h = cc
 
   not_refused : (line n : ℕ) (k : Rule) → (let a : Answer Blame = refused line k in a ≡ accepted n) → ⊥
   not_refused line n k h = cc
 
-  accepted_blocks : (c : Certificate) (v : Version) (lines : List Line) (line count n : ℕ) (s : Checking) → Reads v lines c → verdict due after line count c s ≡ accepted n → AreOfRounds c s
+  accepted_blocks : (c : Certificate) (v : Version) (lines : List Line) (line count n : ℕ) (s : Checking)
+      → Reads v lines c → verdict due after line count c s ≡ accepted n → AreOfRounds c s
   accepted_blocks (gives b c) v lines line count n done reads h = absurd (not_refused line n rule.Count h)
   accepted_blocks (gives b c) v lines line count n (under_way s) reads h =
       let sized : IsSized b = (block.found v lines b reads.0 reads.1).sized in

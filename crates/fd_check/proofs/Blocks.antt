@@ -29,7 +29,8 @@ use Rattle.fd_check.specs.Checking.{Checking, Settling, act_due, after, behind_r
 use Rattle.fd_check.specs.Comes.{Comes, Leads}
 
 -- a certificate's samples are those of a settle over its claims
-pub same_outcome : (c : CircuitView) (v : NetworkView) (m : Machine) (b : Block) → outcome_of (setup_of c) m (look_over (controls_in c) m.at (claim_on v b)) ≡ outcome_in c m (ball_of b)
+pub same_outcome : (c : CircuitView) (v : NetworkView) (m : Machine) (b : Block)
+    → outcome_of (setup_of c) m (look_over (controls_in c) m.at (claim_on v b)) ≡ outcome_in c m (ball_of b)
 same_outcome c v m b =
     let radii : map (λ (p : blocks.Part). nat_abs p.radius) b.parts ≡ map nat_abs (ball_of b).radii = sym (map-map nat_abs (λ (p : blocks.Part). p.radius) b.parts) in
     ap (λ (rs : List ℕ). outcome_of (setup_of c) m (sampling_of 0 (map (λ p. sample_over p m.at (ball_of b).centre rs) (controls_in c)))) radii
@@ -42,16 +43,20 @@ broken_by sampled acts = first_some (unless rule.Undecided behind_rows (not (is_
 abbrev broken : Rule → Option Broken
 broken r = Some (record { rule = r; place = behind_rows })
 
-moves_alike : (due_acts acts : List blocks.Act) → pointwise same_act due_acts acts ≡ true → broken_by (moves due_acts) acts ≡ None
+moves_alike : (due_acts acts : List blocks.Act) → pointwise same_act due_acts acts ≡ true
+    → broken_by (moves due_acts) acts ≡ None
 moves_alike due_acts acts h = ap (λ (t : Bool). first_some (None ∷ unless rule.Acts behind_rows t ∷ None ∷ [])) h
 
-moves_unlike : (due_acts acts : List blocks.Act) → pointwise same_act due_acts acts ≡ false → broken_by (moves due_acts) acts ≡ broken rule.Acts
+moves_unlike : (due_acts acts : List blocks.Act) → pointwise same_act due_acts acts ≡ false
+    → broken_by (moves due_acts) acts ≡ broken rule.Acts
 moves_unlike due_acts acts h = ap (λ (t : Bool). first_some (None ∷ unless rule.Acts behind_rows t ∷ None ∷ [])) h
 
-limit_alike : (acts : List blocks.Act) → pointwise same_act [] acts ≡ true → broken_by at_limit acts ≡ broken rule.ControlLimit
+limit_alike : (acts : List blocks.Act) → pointwise same_act [] acts ≡ true
+    → broken_by at_limit acts ≡ broken rule.ControlLimit
 limit_alike acts h = ap (λ (t : Bool). first_some (None ∷ unless rule.Acts behind_rows t ∷ unless rule.ControlLimit behind_rows false ∷ [])) h
 
-limit_unlike : (acts : List blocks.Act) → pointwise same_act [] acts ≡ false → broken_by at_limit acts ≡ broken rule.Acts
+limit_unlike : (acts : List blocks.Act) → pointwise same_act [] acts ≡ false
+    → broken_by at_limit acts ≡ broken rule.Acts
 limit_unlike acts h = ap (λ (t : Bool). first_some (None ∷ unless rule.Acts behind_rows t ∷ unless rule.ControlLimit behind_rows false ∷ [])) h
 
 -- ---- a certificate that begins with the block
@@ -75,7 +80,10 @@ some_answer law r s =
     let some = law.some r.version r.lines in
     record { answer = verdict due after r.line (length r.given) some.0 s; comes = record { certificate = some.0; reads = some.1; answer_is = refl } }
 
-module _ (law : CertificateLaw) (given_law : GivenLaw) (solving : SolvingLaw due after) (s : Settling) (r : ReaderView) (b : Block) (w : ReaderView) (number : r.number ≡ s.number) (hour : r.hour ≡ s.hour) (round : r.round ≡ s.round) (in_range : (plant_at s.circuit s.hour).blame s.machine.at ≡ None) (solved : solved_of ((plant_at s.circuit s.hour).network s.machine.at) r ≡ Ok (b, w)) where
+module _ (law : CertificateLaw) (given_law : GivenLaw) (solving : SolvingLaw due after) (s : Settling) (r : ReaderView)
+    (b : Block) (w : ReaderView) (number : r.number ≡ s.number) (hour : r.hour ≡ s.hour) (round : r.round ≡ s.round)
+    (in_range : (plant_at s.circuit s.hour).blame s.machine.at ≡ None)
+    (solved : solved_of ((plant_at s.circuit s.hour).network s.machine.at) r ≡ Ok (b, w)) where
   abbrev net : NetworkView
   net = (plant_at s.circuit s.hour).network s.machine.at
 
@@ -101,7 +109,8 @@ module _ (law : CertificateLaw) (given_law : GivenLaw) (solving : SolvingLaw due
   next = behind_round s (outcome_in s.circuit s.machine (ball_of b))
 
   -- what follows the block comes to this, unless a rule on its acts is broken
-  comes_by : (answer : Answer Blame) → Comes w next answer → Comes r (under_way s) (unless_broken r.line b (broken_by (samples (ball_of b)) b.acts) answer)
+  comes_by : (answer : Answer Blame) → Comes w next answer
+      → Comes r (under_way s) (unless_broken r.line b (broken_by (samples (ball_of b)) b.acts) answer)
   comes_by answer h =
       let c : Certificate = gives b h.certificate in
       let reads : Reads r.version r.lines c = (is.rest, is.block, subst (λ (u : ReaderView). Reads u.version u.lines h.certificate) is.reader h.reads) in
@@ -120,35 +129,46 @@ module _ (law : CertificateLaw) (given_law : GivenLaw) (solving : SolvingLaw due
   leads_by none answer h = subst (λ (o : Option Broken). Comes r (under_way s) (unless_broken r.line b o answer)) none (comes_by answer h)
 
   -- one of them is broken
-  refused_by : (k : Rule) → broken_by (samples (ball_of b)) b.acts ≡ broken k → Comes r (under_way s) (refused given_so.rule_line k)
+  refused_by : (k : Rule) → broken_by (samples (ball_of b)) b.acts ≡ broken k
+      → Comes r (under_way s) (refused given_so.rule_line k)
   refused_by k some =
       let any = some_answer law w next in
       subst (λ (o : Option Broken). Comes r (under_way s) (unless_broken r.line b o any.answer)) some (comes_by any.answer any.comes)
 
   -- ---- by what the round comes to
 
-  pub moved_alike : (acts : List Act) (m : Machine) → outcome_in s.circuit s.machine (ball_of b) ≡ Moves acts m → pointwise same_act (map act_due acts) b.acts ≡ true → Leads r (under_way s) w (under_way (record s { round = s.round + 1; machine = m }))
+  pub moved_alike : (acts : List Act) (m : Machine) → outcome_in s.circuit s.machine (ball_of b) ≡ Moves acts m
+      → pointwise same_act (map act_due acts) b.acts ≡ true
+      → Leads r (under_way s) w (under_way (record s { round = s.round + 1; machine = m }))
   moved_alike acts m is_so alike =
       subst (λ (o : Outcome). Leads r (under_way s) w (behind_round s o)) is_so
       (leads_by (ap (λ (o : Outcome). broken_by (sampled_by o) b.acts) is_so ∙ moves_alike (map act_due acts) b.acts alike))
 
-  pub moved_unlike : (acts : List Act) (m : Machine) → outcome_in s.circuit s.machine (ball_of b) ≡ Moves acts m → pointwise same_act (map act_due acts) b.acts ≡ false → Comes r (under_way s) (refused given_so.rule_line rule.Acts)
+  pub moved_unlike : (acts : List Act) (m : Machine) → outcome_in s.circuit s.machine (ball_of b) ≡ Moves acts m
+      → pointwise same_act (map act_due acts) b.acts ≡ false
+      → Comes r (under_way s) (refused given_so.rule_line rule.Acts)
   moved_unlike acts m is_so unlike = refused_by rule.Acts (ap (λ (o : Outcome). broken_by (sampled_by o) b.acts) is_so ∙ moves_unlike (map act_due acts) b.acts unlike)
 
-  pub settled_alike : (m : Machine) → outcome_in s.circuit s.machine (ball_of b) ≡ Ends Settled m → pointwise same_act [] b.acts ≡ true
+  pub settled_alike : (m : Machine) → outcome_in s.circuit s.machine (ball_of b) ≡ Ends Settled m
+      → pointwise same_act [] b.acts ≡ true
       → Leads r (under_way s) w (open_hours s.circuit s.more s.hours m.at m.opened s.number (λ left count. open_solves s.more left count))
   settled_alike m is_so alike =
       subst (λ (o : Outcome). Leads r (under_way s) w (behind_round s o)) is_so
       (leads_by (ap (λ (o : Outcome). broken_by (sampled_by o) b.acts) is_so ∙ moves_alike [] b.acts alike))
 
-  pub settled_unlike : (m : Machine) → outcome_in s.circuit s.machine (ball_of b) ≡ Ends Settled m → pointwise same_act [] b.acts ≡ false → Comes r (under_way s) (refused given_so.rule_line rule.Acts)
+  pub settled_unlike : (m : Machine) → outcome_in s.circuit s.machine (ball_of b) ≡ Ends Settled m
+      → pointwise same_act [] b.acts ≡ false → Comes r (under_way s) (refused given_so.rule_line rule.Acts)
   settled_unlike m is_so unlike = refused_by rule.Acts (ap (λ (o : Outcome). broken_by (sampled_by o) b.acts) is_so ∙ moves_unlike [] b.acts unlike)
 
-  pub limited_alike : (m : Machine) → outcome_in s.circuit s.machine (ball_of b) ≡ Ends Limited m → pointwise same_act [] b.acts ≡ true → Comes r (under_way s) (refused given_so.rule_line rule.ControlLimit)
+  pub limited_alike : (m : Machine) → outcome_in s.circuit s.machine (ball_of b) ≡ Ends Limited m
+      → pointwise same_act [] b.acts ≡ true → Comes r (under_way s) (refused given_so.rule_line rule.ControlLimit)
   limited_alike m is_so alike = refused_by rule.ControlLimit (ap (λ (o : Outcome). broken_by (sampled_by o) b.acts) is_so ∙ limit_alike b.acts alike)
 
-  pub limited_unlike : (m : Machine) → outcome_in s.circuit s.machine (ball_of b) ≡ Ends Limited m → pointwise same_act [] b.acts ≡ false → Comes r (under_way s) (refused given_so.rule_line rule.Acts)
+  pub limited_unlike : (m : Machine) → outcome_in s.circuit s.machine (ball_of b) ≡ Ends Limited m
+      → pointwise same_act [] b.acts ≡ false → Comes r (under_way s) (refused given_so.rule_line rule.Acts)
   limited_unlike m is_so unlike = refused_by rule.Acts (ap (λ (o : Outcome). broken_by (sampled_by o) b.acts) is_so ∙ limit_unlike b.acts unlike)
 
-  pub undecided_there : (k : ℕ) (u : Undecided) (m : Machine) → outcome_in s.circuit s.machine (ball_of b) ≡ Ends (Undecidable k u) m → Comes r (under_way s) (refused given_so.rule_line rule.Undecided)
+  pub undecided_there : (k : ℕ) (u : Undecided) (m : Machine)
+      → outcome_in s.circuit s.machine (ball_of b) ≡ Ends (Undecidable k u) m
+      → Comes r (under_way s) (refused given_so.rule_line rule.Undecided)
   undecided_there k u m is_so = refused_by rule.Undecided (ap (λ (o : Outcome). broken_by (sampled_by o) b.acts) is_so)

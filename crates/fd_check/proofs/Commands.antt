@@ -18,7 +18,8 @@ use Rattle.fd_check.specs.declared.fault.CheckFault.{CheckFault}
 use Rattle.fd_check.specs.declared.fault.CheckFault.TheVariants as fault
 
 -- a fault that tells of one place tells of another that it leads to
-pub tells_before : (r w : ReaderView) (s t : Checking) (e : CheckFault) → Leads r s w t → Tells e (Comes w t) → Tells e (Comes r s)
+pub tells_before : (r w : ReaderView) (s t : Checking) (e : CheckFault) → Leads r s w t → Tells e (Comes w t)
+    → Tells e (Comes r s)
 tells_before r w s t (fault.Refused line rule) leads h = leads _ h
 tells_before r w s t (fault.Range blame) leads h = leads _ h
 tells_before r w s t fault.NoMemory leads h = tt
@@ -30,22 +31,27 @@ pub behind_is : (x : Command) (old new : CircuitView) → applied x old ≡ Ok n
 behind_is x old new is = ap (λ (r : Result CircuitView ModelFault). circuit_by r old) is
 
 -- a Solve's circuit is the only one
-pub solve_alone : (x : Command) (old new : CircuitView) (pairs : List Pair) → x.verb ≡ verb.Solve pairs → applied x old ≡ Ok new → solve_in x old ≡ new ∷ []
+pub solve_alone : (x : Command) (old new : CircuitView) (pairs : List Pair) → x.verb ≡ verb.Solve pairs
+    → applied x old ≡ Ok new → solve_in x old ≡ new ∷ []
 solve_alone x old new pairs is done = ap (λ (v : Verb). solve_by v (behind_one x old)) is ∙ ap (λ (c : CircuitView). c ∷ []) (behind_is x old new done)
 
 -- ---- the commands that are left begin with the next
 
-all_behind : (c : CircuitView) (more : List Command) (x : Command) → AreAccepted c (x ∷ more) → AreAccepted (behind_one x c) more
+all_behind : (c : CircuitView) (more : List Command) (x : Command) → AreAccepted c (x ∷ more)
+    → AreAccepted (behind_one x c) more
 all_behind c more x (room, is, all) = all
 
-pub accepted_behind : (c : CircuitView) (left more : List Command) (x : Command) → left ≡ x ∷ more → AreAccepted c left → AreAccepted (behind_one x c) more
+pub accepted_behind : (c : CircuitView) (left more : List Command) (x : Command) → left ≡ x ∷ more → AreAccepted c left
+    → AreAccepted (behind_one x c) more
 accepted_behind c left more x is h = all_behind c more x (subst (AreAccepted c) is h)
 
-pub left_solves : (c : CircuitView) (left more : List Command) (x : Command) → left ≡ x ∷ more → solves_in c left ≡ solve_in x c ++ solves_in (behind_one x c) more
+pub left_solves : (c : CircuitView) (left more : List Command) (x : Command) → left ≡ x ∷ more
+    → solves_in c left ≡ solve_in x c ++ solves_in (behind_one x c) more
 left_solves c left more x is = ap (solves_in c) is
 
 -- the item of a loop
-pub next_item : (commands : List Command) (i : ℕ) (x : Command) → i < length commands → x ≡ get_or commands i x → drop i commands ≡ x ∷ drop (i + 1) commands
+pub next_item : (commands : List Command) (i : ℕ) (x : Command) → i < length commands → x ≡ get_or commands i x
+    → drop i commands ≡ x ∷ drop (i + 1) commands
 next_item commands i x within is = drop_more commands i x within ∙ ap (λ (y : Command). y ∷ drop (i + 1) commands) (sym is)
 
 -- ---- a refusal at the end

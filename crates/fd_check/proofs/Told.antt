@@ -47,24 +47,29 @@ before_last_map f xs = sym (take-map f (length xs - 1) xs) ∙ ap (λ (n : ℕ).
 
 -- ---- a fault of the script
 
-stopped_by : (blame : Blame) (d : Due Blame) → d ≡ stops blame → (otherwise : Answer Blame) (more : _ → Answer Blame) → by_due d otherwise more ≡ stopped blame
+stopped_by : (blame : Blame) (d : Due Blame) → d ≡ stops blame → (otherwise : Answer Blame) (more : _ → Answer Blame)
+    → by_due d otherwise more ≡ stopped blame
 stopped_by blame d h otherwise more = ap (λ (k : Due Blame). by_due k otherwise more) h
 
-stopped_verdict : (blame : Blame) (s : Checking) → due s ≡ stops blame → (line count : ℕ) (c : Certificate) → verdict due after line count c s ≡ stopped blame
+stopped_verdict : (blame : Blame) (s : Checking) → due s ≡ stops blame → (line count : ℕ) (c : Certificate)
+    → verdict due after line count c s ≡ stopped blame
 stopped_verdict blame s h line count (gives b c) = stopped_by blame (due s) h _ _
 stopped_verdict blame s h line count ends = stopped_by blame (due s) h _ _
 stopped_verdict blame s h line count trails = stopped_by blame (due s) h _ _
 stopped_verdict blame s h line count (refuses zero) = stopped_by blame (due s) h _ _
 stopped_verdict blame s h line count (refuses (suc k)) = stopped_by blame (due s) h _ _
 
-pub stopped_there : CertificateLaw → (r : ReaderView) (s : Checking) (blame : Blame) → due s ≡ stops blame → Comes r s (stopped blame)
+pub stopped_there : CertificateLaw → (r : ReaderView) (s : Checking) (blame : Blame) → due s ≡ stops blame
+    → Comes r s (stopped blame)
 stopped_there law r s blame h =
     let some = law.some r.version r.lines in
     record { certificate = some.0; reads = some.1; answer_is = sym (stopped_verdict blame s h r.line (length r.given) some.0) }
 
 -- ---- a refusal of the reader
 
-module _ (law : CertificateLaw) (solving : SolvingLaw due after) (s : Settling) (r : ReaderView) (number : r.number ≡ s.number) (hour : r.hour ≡ s.hour) (round : r.round ≡ s.round) (in_range : (plant_in s).blame s.machine.at ≡ None) where
+module _ (law : CertificateLaw) (solving : SolvingLaw due after) (s : Settling) (r : ReaderView)
+    (number : r.number ≡ s.number) (hour : r.hour ≡ s.hour) (round : r.round ≡ s.round)
+    (in_range : (plant_in s).blame s.machine.at ≡ None) where
   samples_in : Ball → Sampled
   samples_in ball = sampled_by (outcome_in s.circuit s.machine ball)
 
@@ -72,7 +77,8 @@ module _ (law : CertificateLaw) (solving : SolvingLaw due after) (s : Settling) 
   unfolding samples_in
   asked = ap (due_in s) in_range ∙ (λ i. asks (judge_of ((plant_in s).network s.machine.at) (sym number i) (sym hour i) (sym round i) (λ ball. sampled_by (outcome_in s.circuit s.machine ball))))
 
-  refused_there : (line : ℕ) (k : Rule) → solved_of ((plant_in s).network s.machine.at) r ≡ Err (line, k) → Comes r (under_way s) (refused line k)
+  refused_there : (line : ℕ) (k : Rule) → solved_of ((plant_in s).network s.machine.at) r ≡ Err (line, k)
+      → Comes r (under_way s) (refused line k)
   refused_there line k h =
       let some = law.some r.version r.lines in
       record { certificate = some.0; reads = some.1; answer_is = sym (solving.refused_so ((plant_in s).network s.machine.at) r line k some.0 samples_in (under_way s) (length r.given) h some.1 asked) }
@@ -84,7 +90,9 @@ abbrev pub HourSays : Settling → ReaderView → ReaderView → Machine → Res
 HourSays s r w m (Ok t) = Leads r (under_way s) w (open_hours s.circuit s.more s.hours m.at m.opened s.number (λ left count. open_solves s.more left count))
 HourSays s r w m (Err e) = Tells e (λ answer. Comes r (under_way s) answer)
 
-says : (s : Settling) (r w : ReaderView) (m : Machine) (end : End) (otherwise : Result (Unit {0}) CheckFault) → (ByEnd s r w m end → HourSays s r w m otherwise) → (o : Option ℕ) → ByActs s r w m end o → HourSays s r w m (unless_unlike o otherwise)
+says : (s : Settling) (r w : ReaderView) (m : Machine) (end : End) (otherwise : Result (Unit {0}) CheckFault)
+    → (ByEnd s r w m end → HourSays s r w m otherwise) → (o : Option ℕ) → ByActs s r w m end o
+    → HourSays s r w m (unless_unlike o otherwise)
 says s r w m end otherwise f None h = f h
 says s r w m end otherwise f (Some line) h = h
 
@@ -118,12 +126,14 @@ module _ (law : CertificateLaw) (given_law : GivenLaw) (solving : SolvingLaw due
 
   -- a settle that ended so
   module _ (w : ReaderView) (calls : Calls w) where
-    comes : (end : End) → made.end ≡ end → ByActs s r w made.machine end (first_unlike (acts_due_in (decided end made.rounds)) (drop (length r.given) w.given))
+    comes : (end : End) → made.end ≡ end
+        → ByActs s r w made.machine end (first_unlike (acts_due_in (decided end made.rounds)) (drop (length r.given) w.given))
     comes end e =
         subst (λ (l : List GivenBlock). ByActs s r w made.machine end (first_unlike (acts_due_in (decided end made.rounds)) l)) (sym (blocks_left w calls))
         (subst (λ (k : End). ByActs s r w made.machine k (first_unlike (acts_due_in (decided k made.rounds)) (way w calls).blocks)) e (way w calls).comes)
 
-    told_all : (end : End) (otherwise : Result (Unit {0}) CheckFault) → decided end made.rounds ≡ made.rounds → made.end ≡ end → (ByEnd s r w made.machine end → HourSays s r w made.machine otherwise)
+    told_all : (end : End) (otherwise : Result (Unit {0}) CheckFault) → decided end made.rounds ≡ made.rounds
+        → made.end ≡ end → (ByEnd s r w made.machine end → HourSays s r w made.machine otherwise)
         → HourSays s r w made.machine (unless_unlike (first_unlike (map acts_made rounds) (drop (length r.given) w.given)) otherwise)
     told_all end otherwise all e f =
         let same : acts_due_in (decided end made.rounds) ≡ map acts_made rounds = ap acts_due_in all ∙ sym all_due in
@@ -137,16 +147,20 @@ module _ (law : CertificateLaw) (given_law : GivenLaw) (solving : SolvingLaw due
         says s r w made.machine (Undecidable k u) (Err (fault.Refused (last_line w) rule.Undecided)) (λ h. h) _ (subst (λ (l : List (List blocks.Act)). ByActs s r w made.machine (Undecidable k u) (first_unlike l (drop (length r.given) w.given))) same (comes (Undecidable k u) e))
 
     -- the settle goes on, and the network of the next round is out of range
-    range_there : (blame : Blame) → (plant_in s).blame made.machine.at ≡ Some blame → ByEnd s r w made.machine Open → HourSays s r w made.machine (Err (fault.Range blame))
+    range_there : (blame : Blame) → (plant_in s).blame made.machine.at ≡ Some blame → ByEnd s r w made.machine Open
+        → HourSays s r w made.machine (Err (fault.Range blame))
     range_there blame h leads =
         leads (stopped blame) (stopped_there law w (under_way (record s { round = w.round; machine = made.machine })) blame (ap (due_in (record s { round = w.round; machine = made.machine })) h))
 
     -- or the reader refuses its block
-    solver_there : (line : ℕ) (k : Rule) → (plant_in s).blame made.machine.at ≡ None → solved_of ((plant_in s).network made.machine.at) w ≡ Err (line, k) → ByEnd s r w made.machine Open → HourSays s r w made.machine (Err (fault.Refused line k))
+    solver_there : (line : ℕ) (k : Rule) → (plant_in s).blame made.machine.at ≡ None
+        → solved_of ((plant_in s).network made.machine.at) w ≡ Err (line, k) → ByEnd s r w made.machine Open
+        → HourSays s r w made.machine (Err (fault.Refused line k))
     solver_there line k in_range h leads =
         leads (refused line k) (refused_there law solving (record s { round = w.round; machine = made.machine }) w (way w calls).number (way w calls).hour refl in_range line k h)
 
-  pub hour_says : (ended : Result (Unit {0}) (SettleFault CertFileFault)) (w : ReaderView) → CallsAs gives_solved (plant_in s) r s.machine rounds ended w → EndsAs (plant_in s) ended made.end made.machine
+  pub hour_says : (ended : Result (Unit {0}) (SettleFault CertFileFault)) (w : ReaderView)
+      → CallsAs gives_solved (plant_in s) r s.machine rounds ended w → EndsAs (plant_in s) ended made.end made.machine
       → HourSays s r w made.machine (hour_told w ended (Found w ended))
   hour_says (Ok t) w calls end = told_all w calls Settled (Ok t) refl end (λ h. h)
   hour_says (Err (settle.Undecided control low high edge)) w calls end = told_undecided w calls control (record { low = low; high = high; edge = edge }) end

@@ -60,13 +60,15 @@ never_open s n (Unclear k u) m h = cc
 
 -- ---- one round more
 
-decided_end : (acts made : List Act) (rounds : List (List Act)) (end : End) → decided end (acts ∷ made ∷ rounds) ≡ acts ∷ decided end (made ∷ rounds)
+decided_end : (acts made : List Act) (rounds : List (List Act)) (end : End)
+    → decided end (acts ∷ made ∷ rounds) ≡ acts ∷ decided end (made ∷ rounds)
 decided_end acts made rounds Open = refl
 decided_end acts made rounds Settled = refl
 decided_end acts made rounds Limited = refl
 decided_end acts made rounds (Undecidable k u) = before_more acts made rounds
 
-decided_by : (acts : List Act) (o : Outcome) (rest : Machine → Settle) → decided (before_rest o rest).end (acts ∷ (before_rest o rest).rounds) ≡ acts ∷ decided (before_rest o rest).end (before_rest o rest).rounds
+decided_by : (acts : List Act) (o : Outcome) (rest : Machine → Settle)
+    → decided (before_rest o rest).end (acts ∷ (before_rest o rest).rounds) ≡ acts ∷ decided (before_rest o rest).end (before_rest o rest).rounds
 decided_by acts (Ends end m) rest = decided_end acts [] [] end
 decided_by acts (Moves made m) rest = decided_end acts made (rest m).rounds (rest m).end
 
@@ -89,7 +91,9 @@ abbrev pub ByActs : Settling → ReaderView → ReaderView → Machine → End �
 ByActs s r w m end None = ByEnd s r w m end
 ByActs s r w m end (Some line) = Comes r (under_way s) (refused line rule.Acts)
 
-carry : (s : Settling) (r u : ReaderView) (n : ℕ) (k : Machine) → Leads r (under_way s) u (under_way (record s { round = n; machine = k })) → (w : ReaderView) (m : Machine) (end : End) (o : Option ℕ)
+carry : (s : Settling) (r u : ReaderView) (n : ℕ) (k : Machine)
+    → Leads r (under_way s) u (under_way (record s { round = n; machine = k }))
+    → (w : ReaderView) (m : Machine) (end : End) (o : Option ℕ)
     → ByActs (record s { round = n; machine = k }) u w m end o → ByActs s r w m end o
 carry s r u n k leads w m end (Some line) h = leads (refused line rule.Acts) h
 carry s r u n k leads w m Open None h = λ answer x. leads answer (h answer x)
@@ -137,7 +141,8 @@ module _ (law : CertificateLaw) (given_law : GivenLaw) (solving : SolvingLaw due
     abbrev g : GivenBlock
     g = given_so law given_law solving s r b u number hour round in_range one.solved
 
-    here : (o : Outcome) → outcome_of p.setup s.machine (p.look s.machine.at x) ≡ o → outcome_in s.circuit s.machine (ball_of b) ≡ o
+    here : (o : Outcome) → outcome_of p.setup s.machine (p.look s.machine.at x) ≡ o
+        → outcome_in s.circuit s.machine (ball_of b) ≡ o
     here o e = sym (same_outcome s.circuit (p.network s.machine.at) s.machine b) ∙ ap (λ (k : Claim). outcome_of p.setup s.machine (p.look s.machine.at k)) (sym one.claim) ∙ e
 
     found : IsGiven (p.network s.machine.at) r b u
@@ -155,15 +160,18 @@ module _ (law : CertificateLaw) (given_law : GivenLaw) (solving : SolvingLaw due
     grown_there : u.given ≡ r.given ++ g ∷ []
     grown_there = grown law given_law solving s r b u number hour round in_range one.solved
 
-    module _ (acts : List Act) (n : Machine) (e : outcome_of p.setup s.machine (p.look s.machine.at x) ≡ Moves acts n) (more : Walk (record s { round = s.round + 1; machine = n }) u w (length xs) (rest n)) where
-      moved_by : (t : Bool) → pointwise same_act (map act_due acts) b.acts ≡ t → ByActs s r w (rest n).machine (rest n).end (first_unlike (acts_due_in (decided (rest n).end (acts ∷ (rest n).rounds))) (g ∷ more.blocks))
+    module _ (acts : List Act) (n : Machine) (e : outcome_of p.setup s.machine (p.look s.machine.at x) ≡ Moves acts n)
+        (more : Walk (record s { round = s.round + 1; machine = n }) u w (length xs) (rest n)) where
+      moved_by : (t : Bool) → pointwise same_act (map act_due acts) b.acts ≡ t
+          → ByActs s r w (rest n).machine (rest n).end (first_unlike (acts_due_in (decided (rest n).end (acts ∷ (rest n).rounds))) (g ∷ more.blocks))
       moved_by t h =
           let first : first_unlike (acts_due_in (decided (rest n).end (acts ∷ (rest n).rounds))) (g ∷ more.blocks) ≡ (if t then first_unlike (acts_due_in (decided (rest n).end (rest n).rounds)) more.blocks else Some g.rule_line) =
           ap (λ (l : List (List Act)). first_unlike (acts_due_in l) (g ∷ more.blocks)) (decided_more p.setup p.look n xs acts)
           ∙ ap (λ (y : Bool). if y then first_unlike (acts_due_in (decided (rest n).end (rest n).rounds)) more.blocks else Some g.rule_line) h in
           subst (ByActs s r w (rest n).machine (rest n).end) (sym first) (by t h)
         where
-          by : (t : Bool) → pointwise same_act (map act_due acts) b.acts ≡ t → ByActs s r w (rest n).machine (rest n).end (if t then first_unlike (acts_due_in (decided (rest n).end (rest n).rounds)) more.blocks else Some g.rule_line)
+          by : (t : Bool) → pointwise same_act (map act_due acts) b.acts ≡ t
+              → ByActs s r w (rest n).machine (rest n).end (if t then first_unlike (acts_due_in (decided (rest n).end (rest n).rounds)) more.blocks else Some g.rule_line)
           by true alike = carry s r u (s.round + 1) n (moved_alike law given_law solving s r b u number hour round in_range one.solved acts n (here (Moves acts n) e) alike) w (rest n).machine (rest n).end
               (first_unlike (acts_due_in (decided (rest n).end (rest n).rounds)) more.blocks) more.comes
           by false unlike = moved_unlike law given_law solving s r b u number hour round in_range one.solved acts n (here (Moves acts n) e) unlike
@@ -185,7 +193,9 @@ module _ (law : CertificateLaw) (given_law : GivenLaw) (solving : SolvingLaw due
       last_is : last_line w ≡ g.rule_line
       last_is = last_given r w g grown_last
 
-      ended_walk : 1 ≡ length (x ∷ xs) → ByActs s r w n end (first_unlike (acts_due_in (decided end ([] ∷ []))) (g ∷ [])) → Walk s r w (length (x ∷ xs)) (before_rest (Ends end n) rest)
+      ended_walk : 1 ≡ length (x ∷ xs)
+          → ByActs s r w n end (first_unlike (acts_due_in (decided end ([] ∷ []))) (g ∷ []))
+          → Walk s r w (length (x ∷ xs)) (before_rest (Ends end n) rest)
       ended_walk long comes = record {
         blocks = g ∷ [];
         grown = grown_last;
@@ -195,28 +205,33 @@ module _ (law : CertificateLaw) (given_law : GivenLaw) (solving : SolvingLaw due
         comes = comes;
       }
 
-    ended_by : (end : End) (n : Machine) → w ≡ u → outcome_of p.setup s.machine (p.look s.machine.at x) ≡ Ends end n → ByActs s r w n end (first_unlike (acts_due_in (decided end ([] ∷ []))) (g ∷ []))
+    ended_by : (end : End) (n : Machine) → w ≡ u → outcome_of p.setup s.machine (p.look s.machine.at x) ≡ Ends end n
+        → ByActs s r w n end (first_unlike (acts_due_in (decided end ([] ∷ []))) (g ∷ []))
     ended_by Open n none e = absurd (never_open p.setup s.machine (p.look s.machine.at x) n e)
     ended_by Settled n none e = by (pointwise same_act [] b.acts) refl
       where
-        by : (t : Bool) → pointwise same_act [] b.acts ≡ t → ByActs s r w n Settled (if t then None else Some g.rule_line)
+        by : (t : Bool) → pointwise same_act [] b.acts ≡ t
+            → ByActs s r w n Settled (if t then None else Some g.rule_line)
         by true alike = subst (λ (k : ReaderView). Leads r (under_way s) k (open_hours s.circuit s.more s.hours n.at n.opened s.number (λ left count. open_solves s.more left count))) (sym none)
             (settled_alike law given_law solving s r b u number hour round in_range one.solved n (here (Ends Settled n) e) alike)
         by false unlike = settled_unlike law given_law solving s r b u number hour round in_range one.solved n (here (Ends Settled n) e) unlike
     ended_by Limited n none e = by (pointwise same_act [] b.acts) refl
       where
-        by : (t : Bool) → pointwise same_act [] b.acts ≡ t → ByActs s r w n Limited (if t then None else Some g.rule_line)
+        by : (t : Bool) → pointwise same_act [] b.acts ≡ t
+            → ByActs s r w n Limited (if t then None else Some g.rule_line)
         by true alike = subst (λ (line : ℕ). Comes r (under_way s) (refused line rule.ControlLimit)) (sym (last_is Limited n none)) (limited_alike law given_law solving s r b u number hour round in_range one.solved n (here (Ends Limited n) e) alike)
         by false unlike = limited_unlike law given_law solving s r b u number hour round in_range one.solved n (here (Ends Limited n) e) unlike
     ended_by (Undecidable k i) n none e =
         subst (λ (line : ℕ). Comes r (under_way s) (refused line rule.Undecided)) (sym (last_is (Undecidable k i) n none)) (undecided_there law given_law solving s r b u number hour round in_range one.solved k i n (here (Ends (Undecidable k i) n) e))
 
   -- no call comes behind the round with which a settle ends
-  end_calls : (plant : Plant) (u w : ReaderView) (n : Machine) (x : Claim) (xs : List Claim) → 1 ≡ length (x ∷ xs) → AreCalls gives_solved plant u n xs w → w ≡ u
+  end_calls : (plant : Plant) (u w : ReaderView) (n : Machine) (x : Claim) (xs : List Claim) → 1 ≡ length (x ∷ xs)
+      → AreCalls gives_solved plant u n xs w → w ≡ u
   end_calls plant u w n x [] long calls = calls
   end_calls plant u w n x (y ∷ ys) long calls = absurd (omega (arith, long))
 
-  walk_nothing : (s : Settling) (r w : ReaderView) → r.number ≡ s.number → r.hour ≡ s.hour → r.round ≡ s.round → w ≡ r → Walk s r w 0 (record { rounds = []; end = Open; machine = s.machine })
+  walk_nothing : (s : Settling) (r w : ReaderView) → r.number ≡ s.number → r.hour ≡ s.hour → r.round ≡ s.round → w ≡ r
+      → Walk s r w 0 (record { rounds = []; end = Open; machine = s.machine })
   walk_nothing s r w number hour round none = record {
     blocks = [];
     grown = ap (λ (k : ReaderView). k.given) none ∙ sym (append-nil r.given);
@@ -227,12 +242,15 @@ module _ (law : CertificateLaw) (given_law : GivenLaw) (solving : SolvingLaw due
         (subst (λ (n : ℕ). Leads r (under_way s) r (under_way (record s { round = n }))) (sym round) (λ answer h. h));
   }
 
-  pub walk : (xs : List Claim) (s : Settling) (r w : ReaderView) → r.number ≡ s.number → r.hour ≡ s.hour → r.round ≡ s.round → AreCalls gives_solved (plant_in s) r s.machine xs w → length (settle_from s xs s.machine).rounds ≡ length xs
+  pub walk : (xs : List Claim) (s : Settling) (r w : ReaderView) → r.number ≡ s.number → r.hour ≡ s.hour
+      → r.round ≡ s.round → AreCalls gives_solved (plant_in s) r s.machine xs w
+      → length (settle_from s xs s.machine).rounds ≡ length xs
       → Walk s r w (length xs) (settle_from s xs s.machine)
   walk [] s r w number hour round calls long = walk_nothing s r w number hour round calls
   walk (x ∷ xs) s r w number hour round calls long = by (outcome_of (plant_in s).setup s.machine ((plant_in s).look s.machine.at x)) refl calls.1.1.1 long (λ t v a b c d e. walk xs t v w a b c d e)
     where
-      by : (o : Outcome) → outcome_of (plant_in s).setup s.machine ((plant_in s).look s.machine.at x) ≡ o → AreCalls gives_solved (plant_in s) calls.0 (left_by o) xs w
+      by : (o : Outcome) → outcome_of (plant_in s).setup s.machine ((plant_in s).look s.machine.at x) ≡ o
+          → AreCalls gives_solved (plant_in s) calls.0 (left_by o) xs w
           → length (before_rest o (λ n. settle_from s xs n)).rounds ≡ length (x ∷ xs)
           → ((t : Settling) (v : ReaderView) → v.number ≡ t.number → v.hour ≡ t.hour → v.round ≡ t.round → AreCalls gives_solved (plant_in t) v t.machine xs w → length (settle_from t xs t.machine).rounds ≡ length xs
           → Walk t v w (length xs) (settle_from t xs t.machine))

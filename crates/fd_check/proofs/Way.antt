@@ -24,18 +24,22 @@ use Rattle.fd_check.proofs.Told.{stopped_there}
 
 -- ---- a result with whatever comes behind
 
-pub each_ok : {T F X : Type 0} (result : Result T F) (P : X → Type 0) → ((x : X) → OnOk result (P x)) → OnOk result ((x : X) → P x)
+pub each_ok : {T F X : Type 0} (result : Result T F) (P : X → Type 0) → ((x : X) → OnOk result (P x))
+    → OnOk result ((x : X) → P x)
 each_ok (Ok t) P h = h
 each_ok (Err f) P h = tt
 
-pub each_err : {T F X : Type 0} (result : Result T F) (P : X → F → Type 0) → ((x : X) → IfErr result (P x)) → IfErr result (λ f. (x : X) → P x f)
+pub each_err : {T F X : Type 0} (result : Result T F) (P : X → F → Type 0) → ((x : X) → IfErr result (P x))
+    → IfErr result (λ f. (x : X) → P x f)
 each_err (Ok t) P h = tt
 each_err (Err f) P h = h
 
 -- ---- a network that is refused
 
 -- before hours of which the first has a network that is refused
-pub refused_first : CertificateLaw → (now : ReaderView) (c : CircuitView) (more : List CircuitView) (hours : List ℕ) (at : Positions) (opened : List (Option ℕ)) (n : ℕ)
+pub refused_first : CertificateLaw
+    → (now : ReaderView) (c : CircuitView) (more : List CircuitView) (hours : List ℕ) (at : Positions)
+    (opened : List (Option ℕ)) (n : ℕ)
     (behind : Positions → ℕ → Checking) (f : BuildFault) → IsRefusedAt c hours at f → Tells (by_network f) (Comes now (open_hours c more hours at opened n behind))
 refused_first law now c more [] at opened n behind (build_fault.Range blame) h = absurd (cc h)
 refused_first law now c more (hour ∷ hours) at opened n behind (build_fault.Range blame) h =
@@ -53,7 +57,8 @@ refused_first law now c more hours at opened n behind build_fault.NoMemory h = t
 
 -- ---- from hour to hour
 
-opened_by : (c : CircuitView) (more : List CircuitView) (at : CodePositions) (d : DayView) (n : ℕ) (hours : List ℕ) → hours_left d ≡ hour_in d ∷ hours
+opened_by : (c : CircuitView) (more : List CircuitView) (at : CodePositions) (d : DayView) (n : ℕ) (hours : List ℕ)
+    → hours_left d ≡ hour_in d ∷ hours
     → hours_open c at d n more ≡ hour_open c at d (n + 1) hours more
 opened_by c more at d n hours h = ap (λ (l : List ℕ). open_hours c more l (positions_in at) d.opened n (λ left count. open_solves more left count)) h
 
@@ -73,21 +78,24 @@ module _ (c : CircuitView) (r : ReaderView) (s : List CircuitView → Checking) 
   }
 
   -- in an hour that is refused
-  pub way_refused : (now : ReaderView) (at : CodePositions) (d : DayView) (n : ℕ) → IsWay now at d n → IsDayOf c d → IsSome d.hour → (e : CheckFault)
+  pub way_refused : (now : ReaderView) (at : CodePositions) (d : DayView) (n : ℕ) → IsWay now at d n → IsDayOf c d
+      → IsSome d.hour → (e : CheckFault)
       → ((hours : List ℕ) → TellsForAll now (hour_open c at d (n + 1) hours) e) → TellsForAll r s e
   way_refused now at d n way is some e h more =
       tells_before r now (s more) (hours_open c at d n more) e (way.leads more)
       (subst (λ (x : Checking). Tells e (Comes now x)) (sym (opened_by c more at d n (hours_behind d) (next_first c d is some))) (h (hours_behind d) more))
 
   -- before an hour whose network is refused
-  pub way_range : CertificateLaw → (now : ReaderView) (at : CodePositions) (d : DayView) (n : ℕ) → IsWay now at d n → (f : BuildFault)
+  pub way_range : CertificateLaw → (now : ReaderView) (at : CodePositions) (d : DayView) (n : ℕ) → IsWay now at d n
+      → (f : BuildFault)
       → IsRefusedAt c (hours_left d) (positions_in at) f → TellsForAll r s (by_network f)
   way_range law now at d n way f h more =
       tells_before r now (s more) (hours_open c at d n more) (by_network f) (way.leads more)
       (refused_first law now c more (hours_left d) (positions_in at) d.opened n (λ left count. open_solves more left count) f h)
 
   -- behind the last hour
-  pub way_done : (now : ReaderView) (at : CodePositions) (d : DayView) (n : ℕ) → IsWay now at d n → hours_left d ≡ [] → LeadsForAll r s now (solves_open [] at n)
+  pub way_done : (now : ReaderView) (at : CodePositions) (d : DayView) (n : ℕ) → IsWay now at d n → hours_left d ≡ []
+      → LeadsForAll r s now (solves_open [] at n)
   way_done now at d n way none more answer h =
       way.leads more answer (subst (λ (l : List ℕ). Comes now (open_hours c more l (positions_in at) d.opened n (λ left count. open_solves more left count)) answer) (sym none) h)
 

@@ -67,7 +67,8 @@ pub data Checking : Type 0 where
 
 -- The first round of the next hour of a Solve, which starts at these positions, with these opening times and behind so
 -- many settles; where no hour is left, what comes behind the Solve.
-abbrev pub open_hours : CircuitView → List CircuitView → List ℕ → Positions → List (Option ℕ) → ℕ → (Positions → ℕ → Checking) → Checking
+abbrev pub open_hours : CircuitView → List CircuitView → List ℕ → Positions → List (Option ℕ) → ℕ
+    → (Positions → ℕ → Checking) → Checking
 open_hours c more [] at opened n behind = behind at n
 open_hours c more (hour ∷ hours) at opened n behind = under_way (record {
   circuit = c;

@@ -21,7 +21,8 @@ abbrev pub Leads : ReaderView → Checking → ReaderView → Checking → Type 
 Leads r s w t = (answer : Answer Blame) → Comes w t answer → Comes r s answer
 
 -- so with whatever Solves behind
-abbrev pub LeadsForAll : ReaderView → (List CircuitView → Checking) → ReaderView → (List CircuitView → Checking) → Type 0
+abbrev pub LeadsForAll : ReaderView → (List CircuitView → Checking) → ReaderView → (List CircuitView → Checking)
+    → Type 0
 LeadsForAll r s w t = (more : List CircuitView) → Leads r (s more) w (t more)
 
 -- a fault as an answer; want of memory tells nothing

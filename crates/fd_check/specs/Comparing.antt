@@ -47,7 +47,8 @@ unless_unlike (Some line) otherwise = Err (fault.Refused line rule.Acts)
 
 -- What an hour comes to, by how its settle ended and by a block that claims other acts. A refusal of the rules on what a
 -- block claims comes behind the acts of the blocks before, and so does a network that is out of range.
-abbrev pub hour_told : ReaderView → Result (Unit {0}) (SettleFault CertFileFault) → Option ℕ → Result (Unit {0}) CheckFault
+abbrev pub hour_told : ReaderView → Result (Unit {0}) (SettleFault CertFileFault) → Option ℕ
+    → Result (Unit {0}) CheckFault
 hour_told r (Ok t) unlike = unless_unlike unlike (Ok t)
 hour_told r (Err (settle.Undecided control low high edge)) unlike = unless_unlike unlike (Err (fault.Refused (last_line r) rule.Undecided))
 hour_told r (Err (settle.ControlLimit acts)) unlike = unless_unlike unlike (Err (fault.Refused (last_line r) rule.ControlLimit))

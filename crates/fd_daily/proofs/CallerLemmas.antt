@@ -25,7 +25,8 @@ abbrev pub hours_behind : DayView → List ℕ
 hours_behind d = range_with_len (hour_in d + 1) (d.last - hour_in d)
 
 -- an hour that comes next is the first of those that are left
-pub next_first : (c : CircuitView) (d : DayView) → IsDayOf c d → IsSome d.hour → hours_left d ≡ hour_in d ∷ hours_behind d
+pub next_first : (c : CircuitView) (d : DayView) → IsDayOf c d → IsSome d.hour
+    → hours_left d ≡ hour_in d ∷ hours_behind d
 next_first c d is some = open_by d.hour d.last some is.hour
 
 within_by : (o : Option ℕ) (last : ℕ) → IfSome o (λ k. k ≤ last) → last ≤ 8760 → unwrap_or o 0 ≤ 8760

@@ -6,7 +6,8 @@ use Rattle.fd_settle.specs.Sampling.{Sampling}
 use Rattle.fd_settle.specs.Settle.{Settle, settle_of}
 use Rattle.fd_daily.specs.Run.{AreWell, Hour, is_settled, left_by_run, run_of}
 
-no_more : {C X : Type 0} (look : C → Positions → X → Sampling) (hs : List (Hour C)) (m : Machine) → run_of look hs m [] ≡ []
+no_more : {C X : Type 0} (look : C → Positions → X → Sampling) (hs : List (Hour C)) (m : Machine)
+    → run_of look hs m [] ≡ []
 no_more look [] m = refl
 no_more look (h ∷ hs) m = refl
 
@@ -23,7 +24,8 @@ first_settle : {C X : Type 0} (look : C → Positions → X → Sampling) (h : H
 first_settle look h rest m xs = let s = settle_of h.setup (look h.circuit) (h.start m) xs in alone (is_settled s.end) s (run_of look rest s.machine []) (no_more look rest s.machine)
 
 -- an hour that ended well, before others
-well_before : {C X : Type 0} (look : C → Positions → X → Sampling) (h : Hour C) (hs : List (Hour C)) (m : Machine) (xs : List X) (xss : List (List X)) → (s : Settle) → settle_of h.setup (look h.circuit) (h.start m) xs ≡ s →
+well_before : {C X : Type 0} (look : C → Positions → X → Sampling) (h : Hour C) (hs : List (Hour C)) (m : Machine) (xs : List X) (xss : List (List X))
+    → (s : Settle) → settle_of h.setup (look h.circuit) (h.start m) xs ≡ s →
     IsTrue (is_settled s.end) → run_of look (h ∷ hs) m (xs ∷ xss) ≡ s ∷ run_of look hs s.machine xss
 well_before look h hs m xs xss s e settled =
     ap (λ (t : Settle). t ∷ cond (is_settled t.end) (run_of look hs t.machine xss) []) e ∙ ap (λ (ss : List Settle). s ∷ ss) (well (is_settled s.end) settled (run_of look hs s.machine xss))

@@ -9,7 +9,8 @@ use Rattle.fd_settle.specs.Laws.{HistoryLaw, WholeLaw}
 use Rattle.fd_daily.specs.Run.{Hour, is_settled, run_of}
 use Rattle.fd_daily.specs.Chosen.{AreChosenRun, first_rounds}
 
-run_of_none : {C X : Type 0} (look : C → Positions → X → Sampling) (hs : List (Hour C)) (m : Machine) → run_of look hs m [] ≡ []
+run_of_none : {C X : Type 0} (look : C → Positions → X → Sampling) (hs : List (Hour C)) (m : Machine)
+    → run_of look hs m [] ≡ []
 run_of_none look [] m = refl
 run_of_none look (h ∷ hs) m = refl
 
@@ -17,7 +18,8 @@ ends_there : (t : Bool) (ss : List Settle) → ss ≡ [] → map (λ (s : Settle
 ends_there true ss e = ap (map (λ (s : Settle). s.rounds)) e
 ends_there false ss e = refl
 
-goes_on : {X : Type 0} (t : Bool) (ss others : List Settle) (xss : List (List X)) → t ≡ true → map (λ (s : Settle). s.rounds) ss ≡ first_rounds xss (map (λ (s : Settle). s.rounds) others) →
+goes_on : {X : Type 0} (t : Bool) (ss others : List Settle) (xss : List (List X)) → t ≡ true
+    → map (λ (s : Settle). s.rounds) ss ≡ first_rounds xss (map (λ (s : Settle). s.rounds) others) →
     map (λ (s : Settle). s.rounds) (cond t ss []) ≡ first_rounds xss (map (λ (s : Settle). s.rounds) (cond t others []))
 goes_on true ss others xss e h = h
 goes_on false ss others xss e h = absurd (cc)

@@ -47,7 +47,8 @@ module _ (c : CircuitView) (before : Positions) (at : CodePositions) (taps : at.
 -- ---- each hour
 
 -- positions of a circuit have the counts of its elements with the powers of whatever hour
-pub other_settings : (c : CircuitView) (at : CodePositions) (others : List LoadPower) (powers : Powers) (hour : ℕ) → powers.loads ≡ hour_powers c.elements hour
+pub other_settings : (c : CircuitView) (at : CodePositions) (others : List LoadPower) (powers : Powers) (hour : ℕ)
+    → powers.loads ≡ hour_powers c.elements hour
     → HoursLaw → ArePositions c others (positions_in at) → AreSettings c.elements (settings_of at powers)
 other_settings c at others powers hour loads hours p = record {
   taps = p.counts.taps;
@@ -57,7 +58,8 @@ other_settings c at others powers hour loads hours p = record {
 
 module _ (c : CircuitView) (at : CodePositions) (powers : Powers) where
   pub network_there : (net : BuiltView) → IsBuiltOf net c → net.rows ≡ circuit_network c (settings_of at powers)
-      → range_blame c.elements (devices_of c (settings_of at powers)) ≡ None → AgreesWith net.rows.share (circuit_parts c (settings_of at powers))
+      → range_blame c.elements (devices_of c (settings_of at powers)) ≡ None
+      → AgreesWith net.rows.share (circuit_parts c (settings_of at powers))
       → IsNetworkAt c powers.loads (positions_in at) net
   unfolding blame_at network_at
   network_there net built rows none agrees = record {
@@ -72,8 +74,10 @@ module _ (c : CircuitView) (at : CodePositions) (powers : Powers) where
   blame_here = refl
 
   -- a refused network is that of the first of these hours
-  pub refused_at : (hour : ℕ) (more hours : List ℕ) (start : Positions) → positions_in at ≡ start → hours ≡ hour ∷ more → powers.loads ≡ hour_powers c.elements hour
-      → (f : BuildFault) → IsFaultOf (range_blame c.elements (devices_of c (settings_of at powers))) f → IsRefusedAt c hours start f
+  pub refused_at : (hour : ℕ) (more hours : List ℕ) (start : Positions) → positions_in at ≡ start → hours ≡ hour ∷ more
+      → powers.loads ≡ hour_powers c.elements hour
+      → (f : BuildFault) → IsFaultOf (range_blame c.elements (devices_of c (settings_of at powers))) f
+      → IsRefusedAt c hours start f
   refused_at hour more hours start there first loads (build_fault.Range blame) h =
       subst (λ (hs : List ℕ). IsRefusedAt c hs start (build_fault.Range blame)) (sym first)
       (subst (λ (p : Positions). IsRefusedAt c (hour ∷ more) p (build_fault.Range blame)) there

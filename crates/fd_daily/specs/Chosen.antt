@@ -19,7 +19,8 @@ pub record IsWhole {Y X : Type 0} (ys : List Y) (xs : List X) (s : Settle) (P : 
   pub rest : P s.machine
 
 -- states for the first rounds of a run over these balls, each held by the ball of its round
-abbrev pub AreChosenRun : {C Y X : Type 0} → (C → Positions → Y → X → Type 0) → (C → Positions → Y → Sampling) → List (Hour C) → Machine → List (List Y) → List (List X) → Type 0
+abbrev pub AreChosenRun : {C Y X : Type 0} → (C → Positions → Y → X → Type 0) → (C → Positions → Y → Sampling)
+    → List (Hour C) → Machine → List (List Y) → List (List X) → Type 0
 AreChosenRun holds of_ball hs m yss [] = Unit {0}
 AreChosenRun holds of_ball [] m yss (xs ∷ xss) = ⊥
 AreChosenRun holds of_ball (h ∷ hs) m [] (xs ∷ xss) = ⊥

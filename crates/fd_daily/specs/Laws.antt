@@ -9,7 +9,8 @@ use Rattle.fd_daily.specs.Run.{AreWell, Hour, left_by_run, run_of}
 use Rattle.fd_daily.specs.Chosen.{AreChosenRun, first_rounds}
 
 -- any states in the balls give the acts of their rounds, over all hours
-abbrev pub RunLaw : {C Y X : Type 0} → (C → Positions → Y → X → Type 0) → (C → Positions → Y → Sampling) → (C → Positions → X → Sampling) → Type 0
+abbrev pub RunLaw : {C Y X : Type 0} → (C → Positions → Y → X → Type 0) → (C → Positions → Y → Sampling)
+    → (C → Positions → X → Sampling) → Type 0
 RunLaw {C} {Y} {X} holds of_ball of_state = ((c : C) → AreOfHeld (holds c) (of_ball c) (of_state c)) →
     (hs : List (Hour C)) (m : Machine) (yss : List (List Y)) (xss : List (List X)) → AreChosenRun holds of_ball hs m yss xss →
     map (λ s. s.rounds) (run_of of_state hs m xss) ≡ first_rounds xss (map (λ s. s.rounds) (run_of of_ball hs m yss))

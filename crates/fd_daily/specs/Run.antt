@@ -23,7 +23,8 @@ is_settled Limited = false
 is_settled (Undecidable k u) = false
 
 -- one hour after the other, with the items of each hour's solves, up to the first settle that doesn't end well
-abbrev pub run_of : {C X : Type 0} → (C → Positions → X → Sampling) → List (Hour C) → Machine → List (List X) → List Settle
+abbrev pub run_of : {C X : Type 0} → (C → Positions → X → Sampling) → List (Hour C) → Machine → List (List X)
+    → List Settle
 run_of look [] m xss = []
 run_of look (h ∷ hs) m [] = []
 run_of look (h ∷ hs) m (xs ∷ xss) =

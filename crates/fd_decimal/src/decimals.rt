@@ -90,37 +90,16 @@ pub fn fixed_text(alloc: Global, places: u32, n: u128) -> Result<Vec<u8>, AllocE
     Ok(text)
 }
 
-// Adds the same of a number of units: a minus stands before what isn't zero alone.
+// The text of so many units: a minus stands before what isn't zero alone.
 #[tactic(auto, unfolding(crate::specs::Decimals::signed_text))]
-fn push_signed(text: &mut Vec<u8>, places: u32, value: i128) -> Result<(), AllocError>
-    requires { places ≤ 9 }
-    ensures { OnOk result (text.new.items ≡ text.old.items ++ signed_text places value) }
-{
-    text.extend_from_slice(sign(value))?;
-    push_fixed(text, places, value.unsigned_abs())
-}
-
 fn signed_text(alloc: Global, places: u32, value: i128) -> Result<Vec<u8>, AllocError>
     requires { places ≤ 9 }
     ensures { IfOk result (λ v. v.items ≡ signed_text places value) }
 {
     let mut text = Vec::with_capacity(alloc, USUAL_LENGTH)?;
-    push_signed(&mut text, places, value)?;
+    text.extend_from_slice(sign(value))?;
+    push_fixed(&mut text, places, value.unsigned_abs())?;
     Ok(text)
-}
-
-/// Adds the text of so many micro-units: six decimals.
-pub fn push_size(text: &mut Vec<u8>, size: u128) -> Result<(), AllocError>
-    ensures { OnOk result (text.new.items ≡ text.old.items ++ size_text size) }
-{
-    push_fixed(text, 6, size)
-}
-
-/// Adds the text of a number of micro-units: six decimals, and a minus before what isn't zero alone.
-pub fn push_micro(text: &mut Vec<u8>, value: i128) -> Result<(), AllocError>
-    ensures { OnOk result (text.new.items ≡ text.old.items ++ micro_text value) }
-{
-    push_signed(text, 6, value)
 }
 
 /// The text of so many micro-units: six decimals.

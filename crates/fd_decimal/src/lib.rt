@@ -6,4 +6,4 @@
 
 mod decimals;
 
-pub use decimals::{fixed_text, micro_text, nano_text, push_micro, push_size, size_text};
+pub use decimals::{fixed_text, micro_text, nano_text, size_text};

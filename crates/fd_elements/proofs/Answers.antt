@@ -26,11 +26,13 @@ same_reactive p pf a b h k =
     let e : nat_abs a ≡ nat_abs b = omega (arith, u, v) in
     h.sign ∙ ap (signed (differ p pf)) e ∙ sym k.sign
 
-same_q : (f : ReactiveRule) (load : Load) (point p a b : ℤ) → IsReactive f load point p a → IsReactive f load point p b → a ≡ b
+same_q : (f : ReactiveRule) (load : Load) (point p a b : ℤ) → IsReactive f load point p a → IsReactive f load point p b
+    → a ≡ b
 same_q rule.PowerFactor load point p a b h k = same_reactive p load.pf a b h k
 same_q rule.Kvar load point p a b h k = h ∙ sym k
 
-pub same_power : (load : Load) (point : ℤ) (a b : LoadPower) → IsLoadPower load point a → IsLoadPower load point b → a ≡ b
+pub same_power : (load : Load) (point : ℤ) (a b : LoadPower) → IsLoadPower load point a → IsLoadPower load point b
+    → a ≡ b
 same_power load point a b h k =
     let p = h.p ∙ sym k.p in
     let q = same_q load.reactive load point b.p a.q b.q (subst (λ (t : ℤ). IsReactive load.reactive load point t a.q) p h.q) k.q in

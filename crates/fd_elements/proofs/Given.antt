@@ -20,5 +20,6 @@ entries : (n b : ℕ) (m : Option (List ℤ)) → IfSome m (All (Within b)) → 
 entries n b None h = All-replicate (Within b) (n * n) (pos 0) (zero_within b)
 entries n b (Some xs) h = h
 
-pub is_matrix_given : (n b : ℕ) (m : Option (List ℤ)) → is_size_wrong n m ≡ false → IfSome m (All (Within b)) → IsMatrix n b (matrix_or_zero n m)
+pub is_matrix_given : (n b : ℕ) (m : Option (List ℤ)) → is_size_wrong n m ≡ false → IfSome m (All (Within b))
+    → IsMatrix n b (matrix_or_zero n m)
 is_matrix_given n b m h k = record { count = sized n m h; within = entries n b m k }

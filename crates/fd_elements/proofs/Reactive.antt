@@ -28,7 +28,8 @@ quotient_of_parts n f d h =
 
 -- ---- signs
 
-pub negative_q : (p pf : ℤ) (s : ℕ) → beq (lt_z p (pos 0)) (lt_z pf (pos 0)) ≡ false → neg_ℤ (pos s) ≡ signed (differ p pf) s
+pub negative_q : (p pf : ℤ) (s : ℕ) → beq (lt_z p (pos 0)) (lt_z pf (pos 0)) ≡ false
+    → neg_ℤ (pos s) ≡ signed (differ p pf) s
 negative_q (pos a) (pos b) s h = grind (arith, ints)
 negative_q (pos a) (negsuc b) s h = refl
 negative_q (negsuc a) (pos b) s h = refl
@@ -38,7 +39,8 @@ signed_size : (t : Bool) (s : ℕ) → nat_abs (signed t s) ≡ s
 signed_size true s = omega (arith, ints)
 signed_size false s = refl
 
-pub by_sign : (p pf q : ℤ) (s : ℕ) → q ≡ signed (differ p pf) s → s * s * square pf ≤ square p * (10 ^ 18 - square pf) → square p * (10 ^ 18 - square pf) < (s + 1) * (s + 1) * square pf → IsByPowerFactor p pf q
+pub by_sign : (p pf q : ℤ) (s : ℕ) → q ≡ signed (differ p pf) s → s * s * square pf ≤ square p * (10 ^ 18 - square pf)
+    → square p * (10 ^ 18 - square pf) < (s + 1) * (s + 1) * square pf → IsByPowerFactor p pf q
 by_sign p pf q s e l m =
     let size : nat_abs q ≡ s = ap nat_abs e ∙ signed_size (differ p pf) s in
     record {

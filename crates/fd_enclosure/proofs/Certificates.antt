@@ -44,7 +44,8 @@ module _ (n : ℕ) (C J : ℕ → ℕ → ℤ) (R : ℕ → ℕ → ℕ) (w : �
   -- ---- what isn't refused
 
   module _ (e : ℕ → ℕ) where
-    unbounded_none : (o : Option ℕ) → unless_unbounded n C J R w e o ≡ None → (o ≡ None) × (unless_wide n C J R w e (first_wide n C J R w e) ≡ None)
+    unbounded_none : (o : Option ℕ) → unless_unbounded n C J R w e o ≡ None
+        → (o ≡ None) × (unless_wide n C J R w e (first_wide n C J R w e) ≡ None)
     unbounded_none None h = (refl, h)
     unbounded_none (Some i) h = let no : ⊥ = cc in absurd no
 
@@ -76,11 +77,13 @@ module _ (v : NetworkView) (x : List ℤ) (c : List (List ℤ)) where
   abbrev refused : Option (ℕ × Option ℤ)
   refused = refusal v.size (entry c) (jacobian_entry v x) (slope_radius v x) (weight_at v x) (mismatch_at v x)
 
-  not_loose : (o : Option ℕ) (m : Claim) → unless_loose v x c o ≡ Ok m → (o ≡ None) × (unless_uncertain v x c refused ≡ Ok m)
+  not_loose : (o : Option ℕ) (m : Claim) → unless_loose v x c o ≡ Ok m
+      → (o ≡ None) × (unless_uncertain v x c refused ≡ Ok m)
   not_loose None m e = (refl, e)
   not_loose (Some row) m e = let no : ⊥ = cc in absurd no
 
-  not_uncertain : (o : Option (ℕ × Option ℤ)) (m : Claim) → unless_uncertain v x c o ≡ Ok m → (o ≡ None) × (claim_of v x c ≡ m)
+  not_uncertain : (o : Option (ℕ × Option ℤ)) (m : Claim) → unless_uncertain v x c o ≡ Ok m
+      → (o ≡ None) × (claim_of v x c ≡ m)
   not_uncertain None m e = (refl, cc)
   not_uncertain (Some r) m e = let no : ⊥ = cc in absurd no
 

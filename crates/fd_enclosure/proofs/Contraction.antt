@@ -18,27 +18,31 @@ diagonal q i j = cond (eqb i j) q (pos 0)
 abbrev pub left_in : ℤ → (ℕ → ℕ → ℤ) → (ℕ → ℕ → ℤ) → (ℕ → ℕ → ℕ) → ℕ → ℕ → ℕ → ℕ
 left_in q C J R n i j = unsigned_abs (diagonal q i j -ℤ sum_z (λ l. C i l *ℤ J l j) n) + sum_n (λ l. unsigned_abs (C i l) * R l j) n
 
-pub split_row : (q : ℤ) (A y : ℕ → ℤ) (i n : ℕ) → i < n → sum_z (λ j. (diagonal q i j -ℤ A j) *ℤ y j) n ≡ q *ℤ y i -ℤ sum_z (λ j. A j *ℤ y j) n
+pub split_row : (q : ℤ) (A y : ℕ → ℤ) (i n : ℕ) → i < n
+    → sum_z (λ j. (diagonal q i j -ℤ A j) *ℤ y j) n ≡ q *ℤ y i -ℤ sum_z (λ j. A j *ℤ y j) n
 split_row q A y i n h =
     sum_z-same _ _ n (λ j p. sub-mul (diagonal q i j) (A j) (y j))
     ∙ sum_z-add (λ j. diagonal q i j *ℤ y j) (λ j. neg_ℤ (A j *ℤ y j)) n
     ∙ rw (single_moved y q i n h, sum_z-neg (λ j. A j *ℤ y j) n) refl
 
 -- the product of a row with a matrix and then with a vector
-pub product_row : (C : ℕ → ℤ) (J : ℕ → ℕ → ℤ) (y : ℕ → ℤ) (n : ℕ) → sum_z (λ j. sum_z (λ l. C l *ℤ J l j) n *ℤ y j) n ≡ sum_z (λ l. C l *ℤ sum_z (λ j. J l j *ℤ y j) n) n
+pub product_row : (C : ℕ → ℤ) (J : ℕ → ℕ → ℤ) (y : ℕ → ℤ) (n : ℕ)
+    → sum_z (λ j. sum_z (λ l. C l *ℤ J l j) n *ℤ y j) n ≡ sum_z (λ l. C l *ℤ sum_z (λ j. J l j *ℤ y j) n) n
 product_row C J y n =
     sum_z-same _ _ n (λ j p. sym (sum_z-times_right (λ l. C l *ℤ J l j) (y j) n))
     ∙ sum_z-swap (λ j l. C l *ℤ J l j *ℤ y j) n n
     ∙ sum_z-same _ _ n (λ l p. sum_z-same _ _ n (λ j s. assoc (C l) (J l j) (y j)) ∙ sum_z-times (C l) (λ j. J l j *ℤ y j) n)
 
-pub identity : (q : ℤ) (C : ℕ → ℤ) (J : ℕ → ℕ → ℤ) (y : ℕ → ℤ) (i n : ℕ) → i < n → q *ℤ y i ≡ sum_z (λ j. (diagonal q i j -ℤ sum_z (λ l. C l *ℤ J l j) n) *ℤ y j) n +ℤ sum_z (λ l. C l *ℤ sum_z (λ j. J l j *ℤ y j) n) n
+pub identity : (q : ℤ) (C : ℕ → ℤ) (J : ℕ → ℕ → ℤ) (y : ℕ → ℤ) (i n : ℕ) → i < n
+    → q *ℤ y i ≡ sum_z (λ j. (diagonal q i j -ℤ sum_z (λ l. C l *ℤ J l j) n) *ℤ y j) n +ℤ sum_z (λ l. C l *ℤ sum_z (λ j. J l j *ℤ y j) n) n
 identity q C J y i n h =
     let a = split_row q (λ j. sum_z (λ l. C l *ℤ J l j) n) y i n h in
     let b = product_row C J y n in
     omega (arith, ints)
 
 -- what a row of the inverse makes of y
-pub spread : (q : ℤ) (C : ℕ → ℤ) (J : ℕ → ℕ → ℤ) (y : ℕ → ℤ) (i n : ℕ) → i < n → unsigned_abs q * unsigned_abs (y i) ≤ sum_n (λ j. unsigned_abs (diagonal q i j -ℤ sum_z (λ l. C l *ℤ J l j) n) * unsigned_abs (y j)) n + sum_n (λ l. unsigned_abs (C l) * unsigned_abs (sum_z (λ j. J l j *ℤ y j) n)) n
+pub spread : (q : ℤ) (C : ℕ → ℤ) (J : ℕ → ℕ → ℤ) (y : ℕ → ℤ) (i n : ℕ) → i < n
+    → unsigned_abs q * unsigned_abs (y i) ≤ sum_n (λ j. unsigned_abs (diagonal q i j -ℤ sum_z (λ l. C l *ℤ J l j) n) * unsigned_abs (y j)) n + sum_n (λ l. unsigned_abs (C l) * unsigned_abs (sum_z (λ j. J l j *ℤ y j) n)) n
 spread q C J y i n h =
     let e = ap unsigned_abs (identity q C J y i n h) in
     let p = abs_add (sum_z (λ j. (diagonal q i j -ℤ sum_z (λ l. C l *ℤ J l j) n) *ℤ y j) n) (sum_z (λ l. C l *ℤ sum_z (λ j. J l j *ℤ y j) n) n) in
@@ -50,7 +54,9 @@ spread q C J y i n h =
     omega arith
 
 -- over naturals: c for the sizes of a row of the inverse, v for what the rows allow
-pub rows_bound : (c : ℕ → ℕ) (R : ℕ → ℕ → ℕ) (a g v : ℕ → ℕ) (n : ℕ) → ((l : ℕ) → l < n → v l ≤ sum_n (λ j. R l j * a j) n + g l) → sum_n (λ l. c l * v l) n ≤ sum_n (λ j. sum_n (λ l. c l * R l j) n * a j) n + sum_n (λ l. c l * g l) n
+pub rows_bound : (c : ℕ → ℕ) (R : ℕ → ℕ → ℕ) (a g v : ℕ → ℕ) (n : ℕ)
+    → ((l : ℕ) → l < n → v l ≤ sum_n (λ j. R l j * a j) n + g l)
+    → sum_n (λ l. c l * v l) n ≤ sum_n (λ j. sum_n (λ l. c l * R l j) n * a j) n + sum_n (λ l. c l * g l) n
 rows_bound c R a g v n h =
     let one = sum_n-le (λ l. c l * v l) (λ l. sum_n (λ j. c l * R l j * a j) n + c l * g l) n (λ l p. let s = h l p in let t = sum_n-times (c l) (λ j. R l j * a j) n in let t2 = sum_n-same (λ j. c l * R l j * a j) (λ j. c l * (R l j * a j)) n (λ j q. omega arith) in omega (arith, mul-le-mul_left (c l) s)) in
     let two = sum_n-add (λ l. sum_n (λ j. c l * R l j * a j) n) (λ l. c l * g l) n in
@@ -66,7 +72,8 @@ chain aj wj ak wk an wn pos_k p q =
     le_of_mul-le-mul_right g pos_k
 
 -- the last step at the place k of the greatest ratio. s for 2^40, u for 2^20, t for what K leaves of s
-at_greatest : (s u d ak wk sum_t bk K B t : ℕ) → 0 < s → 0 < wk → s * s * ak * wk ≤ ak * sum_t + bk * (d * s) * wk → sum_t ≤ K * (wk * s) → bk * u ≤ B * wk → s ≡ t + K → u * t * ak ≤ d * B * wk
+at_greatest : (s u d ak wk sum_t bk K B t : ℕ) → 0 < s → 0 < wk → s * s * ak * wk ≤ ak * sum_t + bk * (d * s) * wk
+    → sum_t ≤ K * (wk * s) → bk * u ≤ B * wk → s ≡ t + K → u * t * ak ≤ d * B * wk
 at_greatest s u d ak wk sum_t bk K B t s_pos w_pos h hk hb e =
     let x = mul-le-mul_left ak hk in
     let g : (s * ak) * (s * wk) ≤ (K * ak + bk * d) * (s * wk) = omega arith in
@@ -77,7 +84,8 @@ at_greatest s u d ak wk sum_t bk K B t s_pos w_pos h hk hb e =
     let z = mul-le-mul_left u g3 in
     omega arith
 
-rest : (f d ak wk ai wi r B : ℕ) → 0 < f → 0 < wk → f * ak ≤ d * B * wk → ai * wk ≤ ak * wi → wi * B ≤ r * f → ai ≤ d * r
+rest : (f d ak wk ai wi r B : ℕ) → 0 < f → 0 < wk → f * ak ≤ d * B * wk → ai * wk ≤ ak * wi → wi * B ≤ r * f
+    → ai ≤ d * r
 rest f d ak wk ai wi r B f_pos w_pos h p hr =
     let x = mul-le-mul_left f p in
     let y = mul-le-mul_right wi h in
@@ -86,7 +94,8 @@ rest f d ak wk ai wi r B f_pos w_pos h p hr =
     le_of_mul-le-mul_right g (mul-pos f_pos w_pos)
 
 -- row i of T times a, with the weights
-weighted : (T a w : ℕ → ℕ) (n k : ℕ) → ((j : ℕ) → j < n → a j * w k ≤ a k * w j) → sum_n (λ j. T j * a j) n * w k ≤ a k * sum_n (λ j. w j * T j) n
+weighted : (T a w : ℕ → ℕ) (n k : ℕ) → ((j : ℕ) → j < n → a j * w k ≤ a k * w j)
+    → sum_n (λ j. T j * a j) n * w k ≤ a k * sum_n (λ j. w j * T j) n
 weighted T a w n k best =
     let p = sum_n-times_right (λ j. T j * a j) (w k) n in
     let q = sum_n-times (a k) (λ j. w j * T j) n in

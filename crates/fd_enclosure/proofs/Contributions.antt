@@ -18,7 +18,8 @@ use Rattle.fd_enclosure.proofs.Rows.{RowNear, row_list, row_more, row_single, ro
 -- ---- one contribution
 
 -- what a contribution num / D changes, where s is a number of units and k of them are one
-value_change : (num p q s : ℤ) (D d k : ℕ) → (((((num *ℤ p) *ℤ pos (D * 1)) -ℤ ((num *ℤ q) *ℤ pos (D * d))) *ℤ pos (d * k)) -ℤ ((s *ℤ (p -ℤ (pos d *ℤ q))) *ℤ pos (D * d * (D * 1))))
+value_change : (num p q s : ℤ) (D d k : ℕ)
+    → (((((num *ℤ p) *ℤ pos (D * 1)) -ℤ ((num *ℤ q) *ℤ pos (D * d))) *ℤ pos (d * k)) -ℤ ((s *ℤ (p -ℤ (pos d *ℤ q))) *ℤ pos (D * d * (D * 1))))
     ≡ (((p -ℤ (pos d *ℤ q)) *ℤ ((num *ℤ pos k) -ℤ (s *ℤ pos D))) *ℤ pos (D * d))
 value_change num p q s D d k = rw (as_val num, as_val p, as_val q, as_val s) (simp vals (val-same _ _ _ _ (omega arith)))
 
@@ -59,7 +60,8 @@ module _ (c : List ℤ) (x : State) (n l : ℕ) where
   count_four j [] = omega arith
   count_four j (t ∷ ts) = omega (arith, count_four j ts)
 
-  pub terms_near : {P : Term → Type 0} (ts : List Term) → All P ts → ((t : Term) → P t → (0 < unsigned_abs t.den) × (t.col < n))
+  pub terms_near : {P : Term → Type 0} (ts : List Term) → All P ts
+      → ((t : Term) → P t → (0 < unsigned_abs t.den) × (t.col < n))
       → RowNear (away c x) n (x.over * 2 ^ 40) (row_sum l ts x) (row_sum l ts (whole_state c)) (λ j. linear_entry ts l j) (λ j. 4 * count_at ts l j)
   terms_near {P} ts all h =
       row_more (away c x) n (x.over * 2 ^ 40) (row_sum l ts x) (row_sum l ts (whole_state c)) (λ j. linear_entry ts l j) (λ j. linear_entry ts l j)

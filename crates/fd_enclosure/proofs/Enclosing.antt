@@ -121,7 +121,8 @@ module _ (v : NetworkView) (m : Claim) (net : IsNetwork v) (sound : IsSound v m)
   centre_meets_all l p = centre_meets v net m.centre l (e l) (sound.mismatches_least l p) (sound.mismatches_most l p)
 
   -- a state that meets the mismatches, and whose rows follow the Jacobian, is within the radii
-  pub follower_within : (x : State) → 0 < x.over → ((l : ℕ) → l < unknowns → RowFollows v m.centre x l) → Meets (residual_of v.share) e unknowns x → IsWithinRadii v m.centre m.radii x
+  pub follower_within : (x : State) → 0 < x.over → ((l : ℕ) → l < unknowns → RowFollows v m.centre x l)
+      → Meets (residual_of v.share) e unknowns x → IsWithinRadii v m.centre m.radii x
   follower_within x over follows meets =
       enclosed (2 ^ 40) (2 ^ 20) x.over K B C J R (away m.centre x) e w r unknowns (lit< tt) (lit< tt) (λ j p. heavy j)
       (λ l p. row_from_fractions (residual_of v.share x l) (residual_of v.share (whole_state m.centre) l) (sum_z (λ j. J l j *ℤ away m.centre x j) unknowns) (sum_n (λ j. R l j * unsigned_abs (away m.centre x j)) unknowns) (e l) (x.over * 2 ^ 40)

@@ -22,7 +22,8 @@ use Rattle.fd_enclosure.proofs.Terminals.{BothNear, alone_near, both_negative, c
 -- ---- what a row sees
 
 -- parts of a list of loads, one load after another
-pub equation_loads : (l : ℕ) (f : LoadAt → List Part) (us : List LoadAt) → equation l (flat_map f us) ≡ sum_of (λ u. equation l (f u)) us
+pub equation_loads : (l : ℕ) (f : LoadAt → List Part) (us : List LoadAt)
+    → equation l (flat_map f us) ≡ sum_of (λ u. equation l (f u)) us
 equation_loads l f [] = refl
 equation_loads l f (u ∷ us) = sum_of-append (seen l) (f u) (flat_map f us) ∙ ap (λ s. equation l (f u) ⊕ s) (equation_loads l f us)
 
@@ -38,7 +39,8 @@ module _ (box : ℕ → ℕ) (c : List ℤ) (x : State) (n l : ℕ) where
   with_nothing : (t : Bool) (z : ℤ) → (cond t z (pos 0) +ℤ pos 0) ≡ cond t z (pos 0)
   with_nothing t z = omega (arith, ints)
 
-  magnitude_near : (u : LoadAt) (place : Option ℕ) (J : ℕ → ℤ) (R ct : ℕ → ℕ) → (is_some place ≡ true → Near_in (row_of_magnitude u x place) (row_of_magnitude u (whole_state c) place) J (λ j. R j + 4 * ct j))
+  magnitude_near : (u : LoadAt) (place : Option ℕ) (J : ℕ → ℤ) (R ct : ℕ → ℕ)
+      → (is_some place ≡ true → Near_in (row_of_magnitude u x place) (row_of_magnitude u (whole_state c) place) J (λ j. R j + 4 * ct j))
       → Near_in (sum_of (seen l) (magnitude_parts u x place)) (sum_of (seen l) (magnitude_parts u (whole_state c) place)) (λ j. at_magnitude l place (J j)) (λ j. spread_magnitude l place (R j) + 4 * (count_magnitude l place * ct j))
   magnitude_near u None J R ct h =
       row_more (away c x) n (x.over * 2 ^ 40) nothing nothing (λ j. pos 0) (λ j. pos 0) (λ j. 0) (λ j. 0 + 4 * (0 * ct j)) (λ j p. refl) (λ j p. omega arith) (row_still (away c x) n (x.over * 2 ^ 40) nothing)
@@ -56,14 +58,17 @@ module _ (box : ℕ → ℕ) (c : List ℤ) (x : State) (n l : ℕ) where
   three_z : (a b m : ℤ) → (a +ℤ (b +ℤ m)) ≡ ((a +ℤ b) +ℤ m)
   three_z a b m = omega (arith, ints)
 
-  three_n : (a b m r s t k : ℕ) → (a + 4 * (r * k)) + ((b + 4 * (s * k)) + (m + 4 * (t * k))) ≤ ((a + b) + m) + 4 * (((r + s) + t) * k)
+  three_n : (a b m r s t k : ℕ)
+      → (a + 4 * (r * k)) + ((b + 4 * (s * k)) + (m + 4 * (t * k))) ≤ ((a + b) + m) + 4 * (((r + s) + t) * k)
   three_n a b m r s t k = omega arith
 
-  module _ (u : LoadAt) (first : IsPlace n u.first) (second : IsPlace n u.second) (third : IfSome u.magnitude (λ k. k < n)) (own : is_some u.magnitude ≡ true → eqb u.load.model 1 ≡ false) where
+  module _ (u : LoadAt) (first : IsPlace n u.first) (second : IsPlace n u.second)
+      (third : IfSome u.magnitude (λ k. k < n)) (own : is_some u.magnitude ≡ true → eqb u.load.model 1 ≡ false) where
     abbrev ct : ℕ → ℕ
     ct j = count_terminal j u
 
-    drawn_near : RowsFollow box c x u → Near_in (equation l (load_parts u x)) (equation l (load_parts u (whole_state c)))
+    drawn_near : RowsFollow box c x u
+        → Near_in (equation l (load_parts u x)) (equation l (load_parts u (whole_state c)))
         (λ j. at_terminal l u (slope_in j u (slopes_there c u).real) (slope_in j u (slopes_there c u).imaginary) (slope_in j u (slopes_there c u).magnitude))
         (λ j. spread l u (radius_in j u (radii_in box c u).real) (radius_in j u (radii_in box c u).imaginary) (radius_in j u (radii_in box c u).magnitude) + 4 * (count_terminal l u * count_terminal j u))
     unfolding at_terminal spread count_terminal slopes_there
@@ -92,7 +97,8 @@ module _ (box : ℕ → ℕ) (c : List ℤ) (x : State) (n l : ℕ) where
         (λ j p. three_n (spread_node l u.first (Rr j) (Ri j)) (spread_node l u.second (Rr j) (Ri j)) (spread_magnitude l u.magnitude (Rm j)) (count_node l u.first) (count_node l u.second) (count_magnitude l u.magnitude) (ct j))
         (row_plus y n k _ _ _ _ _ _ _ _ A (row_plus y n k _ _ _ _ _ _ _ _ B M))
 
-    by_model : (t : Bool) → (t ≡ false → RowsFollow box c x u) → Near_in (equation l (cond t [] (load_parts u x))) (equation l (cond t [] (load_parts u (whole_state c))))
+    by_model : (t : Bool) → (t ≡ false → RowsFollow box c x u)
+        → Near_in (equation l (cond t [] (load_parts u x))) (equation l (cond t [] (load_parts u (whole_state c))))
         (λ j. cond t (pos 0) (at_terminal l u (slope_in j u (slopes_there c u).real) (slope_in j u (slopes_there c u).imaginary) (slope_in j u (slopes_there c u).magnitude)))
         (λ j. cond t 0 (spread l u (radius_in j u (radii_in box c u).real) (radius_in j u (radii_in box c u).imaginary) (radius_in j u (radii_in box c u).magnitude)) + 4 * cond t 0 (count_terminal l u * count_terminal j u))
     by_model true f = row_more (away c x) n (x.over * 2 ^ 40) nothing nothing (λ j. pos 0) (λ j. pos 0) (λ j. 0) (λ j. 0 + 4 * 0) (λ j p. refl) (λ j p. omega arith) (row_still (away c x) n (x.over * 2 ^ 40) nothing)

@@ -49,7 +49,8 @@ module _ (v : NetworkView) (c : List ℤ) (x : State) (net : IsNetwork v) (box :
       let size = net.unknowns in
       box place (omega arith) (not_branch (nat_lt place (2 * v.nodes)) (nat_lt place (2 * v.complexes)) (lt-ltb place (2 * v.nodes) h))
 
-  magnitude_in : (place : ℕ) → 2 * v.complexes ≤ place → place < v.size → nat_abs (away c x place) ≤ x.over * half_width v c place
+  magnitude_in : (place : ℕ) → 2 * v.complexes ≤ place → place < v.size
+      → nat_abs (away c x place) ≤ x.over * half_width v c place
   magnitude_in place h g =
       let nodes = net.nodes in
       box place g (not_branch_either (nat_lt place (2 * v.nodes)) (nat_lt place (2 * v.complexes)) (le-ltb place (2 * v.nodes) (omega arith)) (le-ltb place (2 * v.complexes) h))
@@ -62,7 +63,8 @@ module _ (v : NetworkView) (c : List ℤ) (x : State) (net : IsNetwork v) (box :
   im_in at.Ground h = omega arith
   im_in (at.Node k) h = node_in (2 * k + 1) (omega arith)
 
-  own_in : (model : ℕ) (place : Option ℕ) → HasMagnitude v.complexes v.size model place → nat_abs (magnitude_away c x place) ≤ x.over * magnitude_width (half_width v c) place
+  own_in : (model : ℕ) (place : Option ℕ) → HasMagnitude v.complexes v.size model place
+      → nat_abs (magnitude_away c x place) ≤ x.over * magnitude_width (half_width v c) place
   own_in model None h = omega arith
   own_in model (Some k) h = magnitude_in k h.1.0 h.1.1
 
@@ -85,11 +87,13 @@ node_inside v net (at.Node k) h =
     let small = net.small in
     (omega arith, omega arith)
 
-magnitude_inside : (n size model : ℕ) (place : Option ℕ) → HasMagnitude n size model place → IfSome place (λ k. k < size)
+magnitude_inside : (n size model : ℕ) (place : Option ℕ) → HasMagnitude n size model place
+    → IfSome place (λ k. k < size)
 magnitude_inside n size model None h = tt
 magnitude_inside n size model (Some k) h = h.1.1
 
-own_model : (n size model : ℕ) (place : Option ℕ) → HasMagnitude n size model place → is_some place ≡ true → eqb model 1 ≡ false
+own_model : (n size model : ℕ) (place : Option ℕ) → HasMagnitude n size model place → is_some place ≡ true
+    → eqb model 1 ≡ false
 own_model n size model None h e = let no : ⊥ = cc in absurd no
 own_model n size model (Some k) h e = let m : model ≡ 5 = h.0 in rw m refl
 
@@ -112,7 +116,8 @@ RowFollows v c x l = RowNear (away c x) v.size (x.over * 2 ^ 40) (residual_of v.
 abbrev pub LoadFollows : NetworkView → List ℤ → State → LoadAt → Type 0
 LoadFollows v c x u = IsServed v.nodes v.complexes v.size u × (eqb u.load.model 2 ≡ false → RowsFollow (half_width v c) c x u)
 
-pub row_follows : (v : NetworkView) (c : List ℤ) (x : State) (l : ℕ) → IsNetwork v → All (LoadFollows v c x) v.share.loads → RowFollows v c x l
+pub row_follows : (v : NetworkView) (c : List ℤ) (x : State) (l : ℕ) → IsNetwork v
+    → All (LoadFollows v c x) v.share.loads → RowFollows v c x l
 unfolding slope_radius
 row_follows v c x l net all =
     let us = v.share.loads in
@@ -145,12 +150,14 @@ network_changes follow v c x l net long over box inside =
     row_follows v c x l net (All-weaker (IsServed v.nodes v.complexes v.size) (LoadFollows v c x) (λ u s. (s, λ e. follow (half_width v c) c x u s.phase e over (load_in v c x net box u s))) v.share.loads net.loads)
 
 -- where each is of constant impedance they follow everywhere
-impedances : (v : NetworkView) (c : List ℤ) (x : State) (us : List LoadAt) → All (IsServed v.nodes v.complexes v.size) us → All IsImpedance us → All (LoadFollows v c x) us
+impedances : (v : NetworkView) (c : List ℤ) (x : State) (us : List LoadAt)
+    → All (IsServed v.nodes v.complexes v.size) us → All IsImpedance us → All (LoadFollows v c x) us
 impedances v c x [] h g = All-nil (LoadFollows v c x)
 impedances v c x (u ∷ us) h g =
     let model : u.load.model ≡ 2 = All-head IsImpedance u us g in
     All-cons (LoadFollows v c x) u us (All-head (IsServed v.nodes v.complexes v.size) u us h, λ e. let no : ⊥ = cc in absurd no)
     (impedances v c x us (All-tail (IsServed v.nodes v.complexes v.size) u us h) (All-tail IsImpedance u us g))
 
-pub linear_changes : (v : NetworkView) (c : List ℤ) (x : State) (l : ℕ) → IsNetwork v → All IsImpedance v.share.loads → RowFollows v c x l
+pub linear_changes : (v : NetworkView) (c : List ℤ) (x : State) (l : ℕ) → IsNetwork v → All IsImpedance v.share.loads
+    → RowFollows v c x l
 linear_changes v c x l net all = row_follows v c x l net (impedances v c x v.share.loads net.loads all)

@@ -23,7 +23,8 @@ use Rattle.fd_enclosure.specs.Ties.{BallLaw, HasOneBall, IsTied, TieLaw}
 greater_by : (a b o m : ℕ) → a * o ≤ m → b * o ≤ m → max a b * o ≤ m
 greater_by a b o m h k = grind arith
 
-size_tied : (row : Bounds) (f : Fraction) (n : ℕ) → EndsWithin row f (4 * n + 4) → IsTied f n (mismatch_size (greater_size row))
+size_tied : (row : Bounds) (f : Fraction) (n : ℕ) → EndsWithin row f (4 * n + 4)
+    → IsTied f n (mismatch_size (greater_size row))
 size_tied None f n h = absurd h
 size_tied (Some e) f n h = greater_by (nat_abs e.0) (nat_abs e.1) f.over (nat_abs f.top + (4 * n + 4) * f.over) h.0 h.1
 
@@ -56,18 +57,21 @@ kind_at v k h = rw (test_holds k v.complexes h) refl
 kind_same : (v : NetworkView) (k : ℕ) → kind_of v (2 * k) ≡ kind_of v (2 * k + 1)
 kind_same v k = rw (test_same k v.nodes, test_same k v.complexes) refl
 
-weight_by_same : (t : Bool) (draw : ℕ) (x : List ℤ) (k : ℕ) → weight_by (kind_by t) draw x (2 * k) ≡ weight_by (kind_by t) draw x (2 * k + 1)
+weight_by_same : (t : Bool) (draw : ℕ) (x : List ℤ) (k : ℕ)
+    → weight_by (kind_by t) draw x (2 * k) ≡ weight_by (kind_by t) draw x (2 * k + 1)
 weight_by_same true draw x k = ap (max (10 ^ 6)) (both_same x k)
 weight_by_same false draw x k = refl
 
-weight_same : (v : NetworkView) (x : List ℤ) (k : ℕ) → k < v.complexes → weight_at v x (2 * k) ≡ weight_at v x (2 * k + 1)
+weight_same : (v : NetworkView) (x : List ℤ) (k : ℕ) → k < v.complexes
+    → weight_at v x (2 * k) ≡ weight_at v x (2 * k + 1)
 weight_same v x k h =
     let kind = kind_at v k h in
     ap (λ t. weight_by t v.draw x (2 * k)) kind ∙ weight_by_same (nat_lt (2 * k) (2 * v.nodes)) v.draw x k
     ∙ ap (λ t. weight_by t v.draw x (2 * k + 1)) (sym kind ∙ kind_same v k)
 
 -- a radius depends on its unknown by the weight alone
-radius_same : (v : NetworkView) (x : List ℤ) (c : List (List ℤ)) (e : List ℕ) (i j : ℕ) → weight_at v x i ≡ weight_at v x j → radius_in v x c e i ≡ radius_in v x c e j
+radius_same : (v : NetworkView) (x : List ℤ) (c : List (List ℤ)) (e : List ℕ) (i j : ℕ)
+    → weight_at v x i ≡ weight_at v x j → radius_in v x c e i ≡ radius_in v x c e j
 unfolding radius_at
 radius_same v x c e i j same = ap (λ w. ceil_nat (w * reach_of v.size (entry c) (jacobian_entry v x) (slope_radius v x) (weight_at v x) (number_at e)) (2 ^ 20 * (2 ^ 40 - bound_of v.size (entry c) (jacobian_entry v x) (slope_radius v x) (weight_at v x)))) same
 

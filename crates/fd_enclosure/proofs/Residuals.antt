@@ -25,7 +25,8 @@ use Rattle.fd_enclosure.specs.Sound.{greatest_mismatch, mismatch_at, mismatch_si
 
 -- ---- denominators
 
-sum_positive : {A : Type 0} {P : A → Type 0} (f : A → Fraction) (xs : List A) → All P xs → ((a : A) → P a → 0 < (f a).over) → 0 < (sum_of f xs).over
+sum_positive : {A : Type 0} {P : A → Type 0} (f : A → Fraction) (xs : List A) → All P xs
+    → ((a : A) → P a → 0 < (f a).over) → 0 < (sum_of f xs).over
 unfolding ◌⊕◌
 sum_positive f [] all h = nothing-pos
 sum_positive {A} {P} f (a ∷ xs) all h = mul-pos (h a (All-head P a xs all)) (sum_positive f xs (All-tail P a xs all) h)
@@ -54,7 +55,8 @@ constant_positive l c = by (eqb c.row l)
 term_positive : (l : ℕ) (x : State) (t : Term) → 0 < x.over → 0 < unsigned_abs t.den → 0 < (given l t x).over
 term_positive l x t h g = by (eqb t.row l)
   where
-    by : (b : Bool) → 0 < (cond b (record { top = t.num *ℤ part x.parts t.col; over = unsigned_abs t.den * x.over }) nothing).over
+    by : (b : Bool)
+        → 0 < (cond b (record { top = t.num *ℤ part x.parts t.col; over = unsigned_abs t.den * x.over }) nothing).over
     by true = mul-pos g h
     by false = nothing-pos
 
@@ -102,12 +104,14 @@ module _ (v : NetworkView) (net : IsNetwork v) where
       let dens = All-weaker (IsLinear v.size) HasDen (den_of v.size) v.share.terms net.terms.each in
       residual_holds v.share c l dens (each_positive (seen l) (nonlinear_of v.share.loads (whole_state c)) (loads_positive (whole_state c) l (omega arith)))
 
-  met_by : (row : Bounds) (f : Fraction) (o : Option ℤ) (e : ℕ) → Some o ≡ Some (greater_size row) → Holds row f → mismatch_size o ≤ e → e ≤ greatest_mismatch → SizeWithin f e
+  met_by : (row : Bounds) (f : Fraction) (o : Option ℤ) (e : ℕ) → Some o ≡ Some (greater_size row) → Holds row f
+      → mismatch_size o ≤ e → e ≤ greatest_mismatch → SizeWithin f e
   met_by row f None e same holds least most = absurd (omega arith)
   met_by row f (Some m) e same holds least most =
       let is : Some m ≡ greater_size row = cc in
       le_trans (greater_size_held row m is f holds) (mul-le-mul_right f.over least)
 
   -- numbers that are at least the mismatches, and at most the greatest, are met
-  pub centre_meets : (c : List ℤ) (l e : ℕ) → mismatch_at v c l ≤ e → e ≤ greatest_mismatch → SizeWithin (residual_of v.share (whole_state c) l) e
+  pub centre_meets : (c : List ℤ) (l e : ℕ) → mismatch_at v c l ≤ e → e ≤ greatest_mismatch
+      → SizeWithin (residual_of v.share (whole_state c) l) e
   centre_meets c l e least most = met_by (residual_interval v.share c l) (residual_of v.share (whole_state c) l) (greater_size (residual_interval v.share c l)) e refl (residual_held c l) least most

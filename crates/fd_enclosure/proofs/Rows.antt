@@ -96,17 +96,20 @@ pub near_more : (f : Fraction) (t s : ℤ) (n m k : ℕ) → t ≡ s → n ≤ m
 near_more f t s n m k e h near = subst (λ z. unsigned_abs ((f.top *ℤ pos k) -ℤ (z *ℤ pos f.over)) ≤ m * f.over) e (le_trans near (mul-le-mul_right f.over h))
 
 module _ (y : ℕ → ℤ) (n k : ℕ) where
-  pub row_more : (a b : Fraction) (J K : ℕ → ℤ) (R S : ℕ → ℕ) → ((j : ℕ) → j < n → J j ≡ K j) → ((j : ℕ) → j < n → R j ≤ S j) → RowNear y n k a b J R → RowNear y n k a b K S
+  pub row_more : (a b : Fraction) (J K : ℕ → ℤ) (R S : ℕ → ℕ) → ((j : ℕ) → j < n → J j ≡ K j)
+      → ((j : ℕ) → j < n → R j ≤ S j) → RowNear y n k a b J R → RowNear y n k a b K S
   row_more a b J K R S e h near = near_more (minus a b) (moved y n J) (moved y n K) (spanned y n R) (spanned y n S) k (moved-same y n J K e) (spanned-le y n R S h) near
 
-  pub row_plus : (a b c d : Fraction) (J K : ℕ → ℤ) (R S : ℕ → ℕ) → RowNear y n k a b J R → RowNear y n k c d K S → RowNear y n k (a ⊕ c) (b ⊕ d) (λ j. J j +ℤ K j) (λ j. R j + S j)
+  pub row_plus : (a b c d : Fraction) (J K : ℕ → ℤ) (R S : ℕ → ℕ) → RowNear y n k a b J R → RowNear y n k c d K S
+      → RowNear y n k (a ⊕ c) (b ⊕ d) (λ j. J j +ℤ K j) (λ j. R j + S j)
   unfolding ◌⊕◌
   row_plus a b c d J K R S h g =
       near_more (minus (a ⊕ c) (b ⊕ d)) (moved y n J +ℤ moved y n K) (moved y n (λ j. J j +ℤ K j)) (spanned y n R + spanned y n S) (spanned y n (λ j. R j + S j)) k
       (sym (moved-add y n J K)) (omega (arith, spanned-add y n R S))
       (near_plus a b c d (moved y n J) (moved y n K) (spanned y n R) (spanned y n S) k h g)
 
-  still : (t : ℤ) (o : ℕ) → unsigned_abs ((((t *ℤ pos o) -ℤ (t *ℤ pos o)) *ℤ pos k) -ℤ (pos 0 *ℤ pos (o * o))) ≤ 0 * (o * o)
+  still : (t : ℤ) (o : ℕ)
+      → unsigned_abs ((((t *ℤ pos o) -ℤ (t *ℤ pos o)) *ℤ pos k) -ℤ (pos 0 *ℤ pos (o * o))) ≤ 0 * (o * o)
   still t o =
       let e : ((((t *ℤ pos o) -ℤ (t *ℤ pos o)) *ℤ pos k) -ℤ (pos 0 *ℤ pos (o * o))) ≡ pos 0 = gone (t *ℤ pos o) (o * o) in
       rw e (omega arith)
@@ -118,7 +121,8 @@ module _ (y : ℕ → ℤ) (n k : ℕ) where
   pub row_still : (a : Fraction) → RowNear y n k a a (λ j. pos 0) (λ j. 0)
   row_still a = near_more (minus a a) (pos 0) (moved y n (λ j. pos 0)) 0 (spanned y n (λ j. 0)) k (sym (moved-zero y n)) (omega (arith, spanned-zero y n)) (still a.top a.over)
 
-  turned : (s t v : ℤ) (a b m : ℕ) → unsigned_abs ((((s *ℤ pos b) -ℤ (t *ℤ pos a)) *ℤ pos k) -ℤ (v *ℤ pos (a * b))) ≤ m → unsigned_abs ((((neg_ℤ s *ℤ pos b) -ℤ (neg_ℤ t *ℤ pos a)) *ℤ pos k) -ℤ (neg_ℤ v *ℤ pos (a * b))) ≤ m
+  turned : (s t v : ℤ) (a b m : ℕ) → unsigned_abs ((((s *ℤ pos b) -ℤ (t *ℤ pos a)) *ℤ pos k) -ℤ (v *ℤ pos (a * b))) ≤ m
+      → unsigned_abs ((((neg_ℤ s *ℤ pos b) -ℤ (neg_ℤ t *ℤ pos a)) *ℤ pos k) -ℤ (neg_ℤ v *ℤ pos (a * b))) ≤ m
   turned s t v a b m h =
       let e : ((((neg_ℤ s *ℤ pos b) -ℤ (neg_ℤ t *ℤ pos a)) *ℤ pos k) -ℤ (neg_ℤ v *ℤ pos (a * b))) ≡ neg_ℤ ((((s *ℤ pos b) -ℤ (t *ℤ pos a)) *ℤ pos k) -ℤ (v *ℤ pos (a * b))) = rw (as_val s, as_val t, as_val v) (simp vals (val-same _ _ _ _ (omega arith))) in
       rw e (flipped ((((s *ℤ pos b) -ℤ (t *ℤ pos a)) *ℤ pos k) -ℤ (v *ℤ pos (a * b))) h)
@@ -126,20 +130,23 @@ module _ (y : ℕ → ℤ) (n k : ℕ) where
       flipped : (z : ℤ) → unsigned_abs z ≤ m → unsigned_abs (neg_ℤ z) ≤ m
       flipped z l = omega (arith, ints)
 
-  pub row_opposite : (a b : Fraction) (J : ℕ → ℤ) (R : ℕ → ℕ) → RowNear y n k a b J R → RowNear y n k (opposite a) (opposite b) (λ j. neg_ℤ (J j)) R
+  pub row_opposite : (a b : Fraction) (J : ℕ → ℤ) (R : ℕ → ℕ) → RowNear y n k a b J R
+      → RowNear y n k (opposite a) (opposite b) (λ j. neg_ℤ (J j)) R
   unfolding opposite
   row_opposite a b J R h =
       near_more (minus (opposite a) (opposite b)) (neg_ℤ (moved y n J)) (moved y n (λ j. neg_ℤ (J j))) (spanned y n R) (spanned y n R) k (sym (moved-neg y n J)) (omega arith)
       (turned a.top b.top (moved y n J) a.over b.over (spanned y n R * (a.over * b.over)) h)
 
   -- a row that one place moves
-  pub row_single : (a b : Fraction) (s : ℤ) (r c : ℕ) → c < n → Near (minus a b) (s *ℤ y c) (r * unsigned_abs (y c)) k → RowNear y n k a b (λ j. cond (eqb c j) s (pos 0)) (λ j. cond (eqb c j) r 0)
+  pub row_single : (a b : Fraction) (s : ℤ) (r c : ℕ) → c < n → Near (minus a b) (s *ℤ y c) (r * unsigned_abs (y c)) k
+      → RowNear y n k a b (λ j. cond (eqb c j) s (pos 0)) (λ j. cond (eqb c j) r 0)
   row_single a b s r c h near =
       near_more (minus a b) (s *ℤ y c) (moved y n (λ j. cond (eqb c j) s (pos 0))) (r * unsigned_abs (y c)) (spanned y n (λ j. cond (eqb c j) r 0)) k
       (sym (single_moved y s c n h)) (omega (arith, single_spanned y r c n h)) near
 
   -- summands of a list
-  pub row_list : {A : Type 0} (P : A → Type 0) (f g : A → Fraction) (J : A → ℕ → ℤ) (R : A → ℕ → ℕ) (xs : List A) → All P xs → ((a : A) → P a → RowNear y n k (f a) (g a) (J a) (R a))
+  pub row_list : {A : Type 0} (P : A → Type 0) (f g : A → Fraction) (J : A → ℕ → ℤ) (R : A → ℕ → ℕ) (xs : List A)
+      → All P xs → ((a : A) → P a → RowNear y n k (f a) (g a) (J a) (R a))
       → RowNear y n k (sum_of f xs) (sum_of g xs) (λ j. list_z (λ a. J a j) xs) (λ j. list_n (λ a. R a j) xs)
   row_list P f g J R [] all h = row_still nothing
   row_list P f g J R (a ∷ xs) all h =

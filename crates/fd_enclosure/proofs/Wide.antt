@@ -55,7 +55,8 @@ pub quotient_exact : (a : Option ℤ) (x : ℤ) (d : ℕ) → Exactly a x → Ex
 quotient_exact (Some a) x d h = within_as (ceil_div a d) (ceil_div x d) (ap (λ z. ceil_div z d) (h a refl))
 quotient_exact None x d h = none_exact _
 
-pub sums_exact : (f : ℕ → Option ℤ) (g : ℕ → ℤ) (n : ℕ) → ((l : ℕ) → l < n → Exactly (f l) (g l)) → Exactly (wide_sums f n) (sum_z g n)
+pub sums_exact : (f : ℕ → Option ℤ) (g : ℕ → ℤ) (n : ℕ) → ((l : ℕ) → l < n → Exactly (f l) (g l))
+    → Exactly (wide_sums f n) (sum_z g n)
 sums_exact f g zero h = some_exact (pos 0)
 sums_exact f g (suc n) h = sum_exact (wide_sums f n) (f n) (sum_z g n) (g n) (sums_exact f g n (λ l p. h l (omega arith))) (h n (omega arith))
 
@@ -77,10 +78,12 @@ pos_product a b = omega (arith, ints)
 natural_sum : (a b : ℕ) → (pos a +ℤ pos b) ≡ pos (a + b)
 natural_sum a b = omega (arith, ints)
 
-pub natural_product : (b : Option ℤ) (x y : ℕ) → Exactly b (pos y) → Exactly (wide_product (Some (pos x)) b) (pos (x * y))
+pub natural_product : (b : Option ℤ) (x y : ℕ) → Exactly b (pos y)
+    → Exactly (wide_product (Some (pos x)) b) (pos (x * y))
 natural_product b x y h = as_exact _ (pos x *ℤ pos y) (pos (x * y)) (pos_product x y) (product_exact (Some (pos x)) b (pos x) (pos y) (some_exact (pos x)) h)
 
-pub natural_sums : (f : ℕ → Option ℤ) (g : ℕ → ℕ) (n : ℕ) → ((l : ℕ) → l < n → Exactly (f l) (pos (g l))) → Exactly (wide_sums f n) (pos (sum_n g n))
+pub natural_sums : (f : ℕ → Option ℤ) (g : ℕ → ℕ) (n : ℕ) → ((l : ℕ) → l < n → Exactly (f l) (pos (g l)))
+    → Exactly (wide_sums f n) (pos (sum_n g n))
 natural_sums f g n h = as_exact _ (sum_z (λ l. pos (g l)) n) (pos (sum_n g n)) (pos_sum g n) (sums_exact f (λ l. pos (g l)) n h)
 
 -- ---- the bound of a row

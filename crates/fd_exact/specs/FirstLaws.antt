@@ -15,7 +15,8 @@ first_none p zero h = refl
 first_none p (suc n) h = rw (first_none p n (λ k l. h k (omega arith)), h n (omega arith)) refl
 
 -- it is the one before which the test holds of none
-pub first_some : (p : ℕ → Bool) (n k : ℕ) → k < n → ((j : ℕ) → j < k → p j ≡ false) → p k ≡ true → first_place p n ≡ Some k
+pub first_some : (p : ℕ → Bool) (n k : ℕ) → k < n → ((j : ℕ) → j < k → p j ≡ false) → p k ≡ true
+    → first_place p n ≡ Some k
 first_some p zero k h before here = absurd (omega arith)
 first_some p (suc n) k h before here = ⊎_elim
     (λ (l : k < n). ap (λ o. option_or o (cond (p n) (Some n) None)) (first_some p n k l before here))
@@ -61,7 +62,8 @@ module _ {A : Type 0} (p : A → Bool) where
       ∙ ap (option_map suc) (such_none xs (All-tail (λ x. p x ≡ false) x xs h))
 
   -- it is the one after those of which the test doesn't hold
-  pub such_at : (xs : List A) (place : ℕ) (x : A) (rest : List A) → All (λ x. p x ≡ false) (take place xs) → drop place xs ≡ x ∷ rest → p x ≡ true → first_such p xs ≡ Some place
+  pub such_at : (xs : List A) (place : ℕ) (x : A) (rest : List A) → All (λ x. p x ≡ false) (take place xs)
+      → drop place xs ≡ x ∷ rest → p x ≡ true → first_such p xs ≡ Some place
   such_at [] zero x rest h e t = cc
   such_at [] (suc place) x rest h e t = cc
   such_at (y ∷ xs) zero x rest h e t =
@@ -76,7 +78,8 @@ module _ {A : Type 0} (p : A → Bool) where
   such_below [] place h = let no : ⊥ = cc in absurd no
   such_below (x ∷ xs) place h = by (p x) (first_such p xs) h (such_below xs)
     where
-      by : (b : Bool) (o : Option ℕ) → cond b (Some zero) (option_map suc o) ≡ Some place → ((k : ℕ) → o ≡ Some k → k < length xs) → place < length (x ∷ xs)
+      by : (b : Bool) (o : Option ℕ) → cond b (Some zero) (option_map suc o) ≡ Some place
+          → ((k : ℕ) → o ≡ Some k → k < length xs) → place < length (x ∷ xs)
       by false None e rest = let no : ⊥ = cc in absurd no
       by false (Some k) e rest =
           let is : suc k ≡ place = cc in

@@ -12,10 +12,12 @@ step first n m x is e = rw e (ap next is)
 first_draw : (first k x : ℕ) → 1 ≤ k → x ≡ number_after first (3 * (k - 1)) → next x ≡ number_after first (3 * k - 2)
 first_draw first k x some is = step first (3 * (k - 1)) (3 * k - 2) x is (omega arith)
 
-second_draw : (first k x : ℕ) → 1 ≤ k → x ≡ number_after first (3 * (k - 1)) → next (next x) ≡ number_after first (3 * k - 1)
+second_draw : (first k x : ℕ) → 1 ≤ k → x ≡ number_after first (3 * (k - 1))
+    → next (next x) ≡ number_after first (3 * k - 1)
 second_draw first k x some is = step first (3 * k - 2) (3 * k - 1) (next x) (first_draw first k x some is) (omega arith)
 
-pub third_draw : (first k x : ℕ) → 1 ≤ k → x ≡ number_after first (3 * (k - 1)) → next (next (next x)) ≡ number_after first (3 * k)
+pub third_draw : (first k x : ℕ) → 1 ≤ k → x ≡ number_after first (3 * (k - 1))
+    → next (next (next x)) ≡ number_after first (3 * k)
 third_draw first k x some is = step first (3 * k - 1) (3 * k) (next (next x)) (second_draw first k x some is) (omega arith)
 
 -- a section by the draws behind those of the sections before it is the section by its number
@@ -30,7 +32,8 @@ range_more : (a n : ℕ) → range_with_len a (suc n) ≡ range_with_len a n ++ 
 range_more a zero = ap (λ k. k ∷ []) (sym (add-zero a))
 range_more a (suc n) = ap (λ l. a ∷ l) (range_more (a + 1) n ∙ ap (λ k. range_with_len (a + 1) n ++ k ∷ []) (omega arith))
 
-flat_map-one_more : {X : Type 0} (f : ℕ → List X) (xs : List ℕ) (x : ℕ) → flat_map f (xs ++ x ∷ []) ≡ flat_map f xs ++ f x
+flat_map-one_more : {X : Type 0} (f : ℕ → List X) (xs : List ℕ) (x : ℕ)
+    → flat_map f (xs ++ x ∷ []) ≡ flat_map f xs ++ f x
 flat_map-one_more f [] x = append-nil (f x)
 flat_map-one_more f (y ∷ ys) x = ap (λ l. f y ++ l) (flat_map-one_more f ys x) ∙ sym (append_assoc (f y) (flat_map f ys) (f x))
 
@@ -55,12 +58,14 @@ lines_more first k x some is all before old so_far now =
     ∙ ap (λ l. old ++ l) (sym (map-append ended (sections_of first (k - 1)) (section first k)) ∙ ap (λ l. map ended l) (sym more))
 
 -- a line is pushed
-pub pushed : (before after : List (List ℕ)) (bytes line : List ℕ) → after ≡ before ++ ended bytes ∷ [] → bytes ≡ line → after ≡ before ++ ended line ∷ []
+pub pushed : (before after : List (List ℕ)) (bytes line : List ℕ) → after ≡ before ++ ended bytes ∷ [] → bytes ≡ line
+    → after ≡ before ++ ended line ∷ []
 pushed before after bytes line e same = e ∙ ap (λ t. before ++ ended t ∷ []) same
 
 -- lines that are pushed one by one stand in order
 pub two_pushed : (a b c : List (List ℕ)) (x y : List ℕ) → b ≡ a ++ x ∷ [] → c ≡ b ++ y ∷ [] → c ≡ a ++ x ∷ y ∷ []
 two_pushed a b c x y first second = second ∙ ap (λ l. l ++ y ∷ []) first ∙ append_assoc a (x ∷ []) (y ∷ [])
 
-pub three_pushed : (a b c d : List (List ℕ)) (x y z : List ℕ) → b ≡ a ++ x ∷ [] → c ≡ b ++ y ∷ [] → d ≡ c ++ z ∷ [] → d ≡ a ++ x ∷ y ∷ z ∷ []
+pub three_pushed : (a b c d : List (List ℕ)) (x y z : List ℕ) → b ≡ a ++ x ∷ [] → c ≡ b ++ y ∷ [] → d ≡ c ++ z ∷ []
+    → d ≡ a ++ x ∷ y ∷ z ∷ []
 three_pushed a b c d x y z first second third = third ∙ ap (λ l. l ++ z ∷ []) (two_pushed a b c x y first second) ∙ append_assoc a (x ∷ y ∷ []) (z ∷ [])

@@ -36,14 +36,16 @@ is_past limit n h = grind arith
 pub past_none : (limit : ℕ) (xs : List ℤ) → SizesWithin limit xs → first_past limit xs ≡ None
 past_none limit xs h = first_none (λ k. nat_lt limit (nat_abs (part xs k))) (length xs) (λ k l. not_past limit (nat_abs (part xs k)) (h k l))
 
-pub past_some : (limit : ℕ) (xs : List ℤ) (k : ℕ) → k < length xs → ((j : ℕ) → j < k → nat_abs (part xs j) ≤ limit) → limit < nat_abs (part xs k) → first_past limit xs ≡ Some k
+pub past_some : (limit : ℕ) (xs : List ℤ) (k : ℕ) → k < length xs → ((j : ℕ) → j < k → nat_abs (part xs j) ≤ limit)
+    → limit < nat_abs (part xs k) → first_past limit xs ≡ Some k
 past_some limit xs k l before here = first_some (λ k. nat_lt limit (nat_abs (part xs k))) (length xs) k l (λ j m. not_past limit (nat_abs (part xs j)) (before j m)) (is_past limit (nat_abs (part xs k)) here)
 
 pub range_ok : (limit step : ℕ) (xs : List ℤ) → first_past limit xs ≡ None → in_range limit step xs ≡ Ok xs
 unfolding in_range
 range_ok limit step xs e = ap (unless_past xs step) e
 
-pub range_err : (limit step : ℕ) (xs : List ℤ) (place : ℕ) → first_past limit xs ≡ Some place → in_range limit step xs ≡ Err (OutOfRange place step)
+pub range_err : (limit step : ℕ) (xs : List ℤ) (place : ℕ) → first_past limit xs ≡ Some place
+    → in_range limit step xs ≡ Err (OutOfRange place step)
 unfolding in_range
 range_err limit step xs place e = ap (unless_past xs step) e
 
@@ -53,10 +55,12 @@ pub inverse_ok : (m c : List (List ℤ)) → EntriesWithin m (2 ^ 62) → invers
 unfolding inverse_at
 inverse_ok m c h e = ap (inverse_unless m) (no_column_past (2 ^ 62) m h) ∙ ap without_inverse e
 
-pub inverse_err : (m : List (List ℤ)) (col : ℕ) (cause : Stop) → EntriesWithin m (2 ^ 62) → inverse_of m ≡ Err (col, cause) → inverse_at m ≡ Err (NoInverse col cause)
+pub inverse_err : (m : List (List ℤ)) (col : ℕ) (cause : Stop) → EntriesWithin m (2 ^ 62)
+    → inverse_of m ≡ Err (col, cause) → inverse_at m ≡ Err (NoInverse col cause)
 unfolding inverse_at
 inverse_err m col cause h e = ap (inverse_unless m) (no_column_past (2 ^ 62) m h) ∙ ap without_inverse e
 
-pub inverse_past : (m : List (List ℤ)) (col : ℕ) → Some col ≡ first_column_past (2 ^ 62) m → inverse_at m ≡ Err (NoInverse col Range)
+pub inverse_past : (m : List (List ℤ)) (col : ℕ) → Some col ≡ first_column_past (2 ^ 62) m
+    → inverse_at m ≡ Err (NoInverse col Range)
 unfolding inverse_at
 inverse_past m col h = ap (inverse_unless m) (sym h)

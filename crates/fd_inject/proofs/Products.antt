@@ -16,25 +16,30 @@ use Rattle.fd_inject.specs.Ranges.{SizesWithin, in_range}
 use Rattle.fd_inject.specs.Updates.{moved, update_at, update_for, update_of}
 use Rattle.fd_inject.specs.declared.fault.SolveFault.{SolveFault}
 
-pub update_done : (c : List (List ℤ)) (step : ℕ) (r : List ℤ) → in_range (2 ^ 58) step r ≡ Ok r → update_for c step r ≡ Ok (update_of c r)
+pub update_done : (c : List (List ℤ)) (step : ℕ) (r : List ℤ) → in_range (2 ^ 58) step r ≡ Ok r
+    → update_for c step r ≡ Ok (update_of c r)
 unfolding update_for
 update_done c step r e = ap (λ o. and_then o (λ r. Ok (update_of c r))) e
 
-pub update_past : (c : List (List ℤ)) (step : ℕ) (r : List ℤ) (f : SolveFault) → in_range (2 ^ 58) step r ≡ Err f → update_for c step r ≡ Err f
+pub update_past : (c : List (List ℤ)) (step : ℕ) (r : List ℤ) (f : SolveFault) → in_range (2 ^ 58) step r ≡ Err f
+    → update_for c step r ≡ Err f
 unfolding update_for
 update_past c step r f e = ap (λ o. and_then o (λ r. Ok (update_of c r))) e
 
-pub update_is : (c : List (List ℤ)) (r u : List ℤ) (n : ℕ) → n ≡ length c → u ≡ list_of n (update_at c r) → u ≡ update_of c r
+pub update_is : (c : List (List ℤ)) (r u : List ℤ) (n : ℕ) → n ≡ length c → u ≡ list_of n (update_at c r)
+    → u ≡ update_of c r
 unfolding update_of
 update_is c r u n e is = is ∙ ap (λ n. list_of n (update_at c r)) e
 
-pub row_small : (c : List (List ℤ)) (row : ℕ) (limit : ℕ) (xs : List ℤ) → EntriesWithin c limit → row < length c → xs ≡ row_of c row → length xs ≡ length c → SizesWithin limit xs
+pub row_small : (c : List (List ℤ)) (row : ℕ) (limit : ℕ) (xs : List ℤ) → EntriesWithin c limit → row < length c
+    → xs ≡ row_of c row → length xs ≡ length c → SizesWithin limit xs
 row_small c row limit xs h l e long = λ k m. subst (λ ys. nat_abs (part ys k) ≤ limit) (sym e) (h row k l (subst (λ n. k < n) long m))
 
 pub small_none : (limit : ℕ) → SizesWithin limit []
 small_none limit = λ k l. absurd (omega arith)
 
-pub small_more : (limit : ℕ) (xs ys : List ℤ) (z : ℤ) → ys ≡ xs ++ z ∷ [] → nat_abs z ≤ limit → SizesWithin limit xs → SizesWithin limit ys
+pub small_more : (limit : ℕ) (xs ys : List ℤ) (z : ℤ) → ys ≡ xs ++ z ∷ [] → nat_abs z ≤ limit → SizesWithin limit xs
+    → SizesWithin limit ys
 small_more limit xs ys z e h small = λ k l. subst (λ ys. nat_abs (part ys k) ≤ limit) (sym e) (grown k (subst (λ ys. k < length ys) e l))
   where
     grown : (k : ℕ) → k < length (xs ++ z ∷ []) → nat_abs (part (xs ++ z ∷ []) k) ≤ limit
@@ -46,7 +51,8 @@ small_more limit xs ys z e h small = λ k l. subst (λ ys. nat_abs (part ys k) �
 
 -- ---- an iterate with an update added
 
-pub moved_is : (old new update : List ℤ) (n : ℕ) → length new ≡ length old → length old ≡ n → ((k : ℕ) → k < n → part new k ≡ (part old k +ℤ part update k)) → new ≡ moved old update
+pub moved_is : (old new update : List ℤ) (n : ℕ) → length new ≡ length old → length old ≡ n
+    → ((k : ℕ) → k < n → part new k ≡ (part old k +ℤ part update k)) → new ≡ moved old update
 unfolding moved
 moved_is old new update n e long h = list_of-ext new (length old) (λ k. part old k +ℤ part update k) (pos 0) e (λ i l. h i (subst (λ m. i < m) long l))
 

@@ -15,10 +15,12 @@ pub sum_size : (a b : ℤ) (k : ℕ) → nat_abs a ≤ k * 2 ^ 114 → nat_abs b
 sum_size a b k h j = omega (arith, ints)
 
 -- a sum that grows by one product
-pub sum_kept : (s p : ℤ) (k : ℕ) → nat_abs s ≤ k * 2 ^ 114 → k < 2 ^ 11 → nat_abs p ≤ 2 ^ 114 → to_z w128 (of_z w128 (s +ℤ to_z w128 (of_z w128 p))) ≡ (s +ℤ p)
+pub sum_kept : (s p : ℤ) (k : ℕ) → nat_abs s ≤ k * 2 ^ 114 → k < 2 ^ 11 → nat_abs p ≤ 2 ^ 114
+    → to_z w128 (of_z w128 (s +ℤ to_z w128 (of_z w128 p))) ≡ (s +ℤ p)
 sum_kept s p k h few j = rw (kept_by p (omega arith)) (kept_by (s +ℤ p) (omega (arith, sum_size s p k h j)))
 
-pub added_kept : (a b : ℤ) → nat_abs a ≤ 2 ^ 40 → nat_abs b ≤ 2 ^ 86 → to_z w128 (of_z w128 (to_z w128 (of_z w128 a) +ℤ to_z w128 (of_z w128 b))) ≡ (a +ℤ b)
+pub added_kept : (a b : ℤ) → nat_abs a ≤ 2 ^ 40 → nat_abs b ≤ 2 ^ 86
+    → to_z w128 (of_z w128 (to_z w128 (of_z w128 a) +ℤ to_z w128 (of_z w128 b))) ≡ (a +ℤ b)
 added_kept a b h k = rw (kept_by a (omega arith), kept_by b (omega arith)) (kept_by (a +ℤ b) (omega (arith, ints)))
 
 pub negated_kept : (a : ℤ) → nat_abs a ≤ 2 ^ 86 → to_z w128 (of_z w128 (pos 0 -ℤ to_z w128 (of_z w128 a))) ≡ neg_ℤ a

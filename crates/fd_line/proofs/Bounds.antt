@@ -6,7 +6,8 @@ regrouped : (q over grid code : ℕ) → q * (over * (grid * code)) ≡ q * grid
 regrouped q over grid code = ap (λ t. q * t) (mul_left_comm over grid code) ∙ sym (mul_assoc q grid (over * code))
 
 -- an entry times the length and the unit, over the divisor of a line
-pub along_most : (n f over grid code q : ℕ) → n ≤ over * 10 ^ 15 → f ≤ 16093440 * 10 ^ 15 → 100 ≤ code → 16093440 * 10 ^ 28 ≤ q * grid → n * f ≤ q * (over * (grid * code))
+pub along_most : (n f over grid code q : ℕ) → n ≤ over * 10 ^ 15 → f ≤ 16093440 * 10 ^ 15 → 100 ≤ code
+    → 16093440 * 10 ^ 28 ≤ q * grid → n * f ≤ q * (over * (grid * code))
 along_most n f over grid code q h j k m =
     let p : n * f ≤ over * 10 ^ 15 * (16093440 * 10 ^ 15) = mul-le-mul h j in
     let s : over * 100 ≤ over * code = mul-le-mul_left over k in

@@ -26,7 +26,8 @@ module _ (l : LineData) (at : Ends) (x : State) (o : 0 < x.over) (k row : ℕ) w
       (same_place _ _ x row r _ _ (plain_stamp r (node_of at.first k) x row o) (minus_stamp r (node_of at.second k) x row o))
       (drops_add (resistance_of l) (reactance_of l) at.branch l.phases k x row o)
 
-  charge_adds : (ns : List NodeAt) → Same (row_sum row (each (charge_at l ns k) l.phases) x) (side row (node_of ns k) (charge_of l ns x k))
+  charge_adds : (ns : List NodeAt)
+      → Same (row_sum row (each (charge_at l ns k) l.phases) x) (side row (node_of ns k) (charge_of l ns x k))
   charge_adds ns = same_place_each (charge_at l ns k) x row (node_of ns k) (λ m. half_charge l k m ⊠ unknown x (node_of ns m)) l.phases
       (λ m p. stamp_row (node_of ns k) (node_of ns m) (pos 0) (susceptance_of l k m) (pos (2 * 10 ^ 27)) x row (lit< tt) o)
 

@@ -27,7 +27,8 @@ abs_of_three a b c = unsigned_abs-mul (a *ℤ b) c ∙ ap (λ n. n * unsigned_ab
 
 -- ---- one quotient
 
-one_off : (a g : ℤ) (d : ℕ) → 2 * unsigned_abs ((g *ℤ pos d) -ℤ (a *ℤ pos (2 ^ 40))) ≤ d → Near (fraction a d) g 1 (2 ^ 40)
+one_off : (a g : ℤ) (d : ℕ) → 2 * unsigned_abs ((g *ℤ pos d) -ℤ (a *ℤ pos (2 ^ 40))) ≤ d
+    → Near (fraction a d) g 1 (2 ^ 40)
 one_off a g d h = omega (arith, ints)
 
 quotient_near : (a : ℤ) (d : ℕ) → 0 < d → Near (fraction a d) (near_units a d) 1 (2 ^ 40)
@@ -146,17 +147,20 @@ nominal_positive w h = omega (arith, ints, h.nominal_least)
 turned_sum : (x y c : ℕ) → x + y ≡ c → y + x ≡ c
 turned_sum x y c e = omega arith
 
-by_p : (w : LoadPhase) (p q n a : ℤ) → IsLoadPhase w → Near (power_slope w p q n a p) (near_units a (clamped_square w p q) -ℤ by_square w p q n p) 2 (2 ^ 40)
+by_p : (w : LoadPhase) (p q n a : ℤ) → IsLoadPhase w
+    → Near (power_slope w p q n a p) (near_units a (clamped_square w p q) -ℤ by_square w p q n p) 2 (2 ^ 40)
 by_p w p q n a h = power_by (square_is_inside w p q) a p n (clamped_square w p q) (unsigned_abs q * unsigned_abs q) (square_large w p q h) (inside_is w p q)
 
-by_q : (w : LoadPhase) (p q n a : ℤ) → IsLoadPhase w → Near (power_slope w p q n a q) (near_units a (clamped_square w p q) -ℤ by_square w p q n q) 2 (2 ^ 40)
+by_q : (w : LoadPhase) (p q n a : ℤ) → IsLoadPhase w
+    → Near (power_slope w p q n a q) (near_units a (clamped_square w p q) -ℤ by_square w p q n q) 2 (2 ^ 40)
 by_q w p q n a h = power_by (square_is_inside w p q) a q n (clamped_square w p q) (unsigned_abs p * unsigned_abs p) (square_large w p q h)
     (λ e. turned_sum (unsigned_abs p * unsigned_abs p) (unsigned_abs q * unsigned_abs q) _ (inside_is w p q e))
 
 opposite_units : (a : ℤ) (d : ℕ) → near_units (neg_ℤ a) d ≡ neg_ℤ (near_units a d)
 opposite_units a d = ap (λ z. near_div z d) (neg-mul a (pos (2 ^ 40))) ∙ near-neg (a *ℤ pos (2 ^ 40)) d
 
-power_near : (w : LoadPhase) (p q : ℤ) → IsLoadPhase w → AreNear 2 (exact_constant_power w p q) (constant_power_slopes w p q)
+power_near : (w : LoadPhase) (p q : ℤ) → IsLoadPhase w
+    → AreNear 2 (exact_constant_power w p q) (constant_power_slopes w p q)
 power_near w p q h =
     let a = pos (10 ^ 9) *ℤ w.p in
     let b = pos (10 ^ 9) *ℤ w.q in
@@ -179,7 +183,8 @@ round_magnitude : (n i s : ℤ) (v c u : ℕ) → ((s *ℤ pos (v * c * c)) -ℤ
 round_magnitude n i s v c u = rw (as_val n, as_val i, as_val s) (simp vals (val-same _ _ _ _ (omega arith)))
 
 -- i for the rounded current, s for the rounded i / c
-magnitude_off : (n i s : ℤ) (v c u : ℕ) → 0 < u → u ≤ c → 2 * unsigned_abs ((i *ℤ pos (v * c)) -ℤ (n *ℤ pos u)) ≤ v * c → 2 * unsigned_abs ((s *ℤ pos (u * c)) -ℤ (i *ℤ pos (u * u))) ≤ u * c
+magnitude_off : (n i s : ℤ) (v c u : ℕ) → 0 < u → u ≤ c → 2 * unsigned_abs ((i *ℤ pos (v * c)) -ℤ (n *ℤ pos u)) ≤ v * c
+    → 2 * unsigned_abs ((s *ℤ pos (u * c)) -ℤ (i *ℤ pos (u * u))) ≤ u * c
     → unsigned_abs ((s *ℤ pos (v * c * c)) -ℤ (n *ℤ pos (u * u))) ≤ v * c * c
 magnitude_off n i s v c u u_pos small hi hs =
     let x : ℤ = (s *ℤ pos (u * c)) -ℤ (i *ℤ pos (u * u)) in
@@ -199,7 +204,8 @@ magnitude_off n i s v c u u_pos small hi hs =
 both_turned : (n s : ℤ) (d k : ℕ) → ((neg_ℤ n *ℤ pos k) -ℤ (neg_ℤ s *ℤ pos d)) ≡ ((s *ℤ pos d) -ℤ (n *ℤ pos k))
 both_turned n s d k = rw (as_val n, as_val s) (simp vals (val-same _ _ _ _ (omega arith)))
 
-within_magnitude : (n : ℤ) (v c : ℕ) → 0 < v → 2 ^ 20 ≤ c → Near (fraction (neg_ℤ n) (v * c * c)) (neg_ℤ (near_units (fine_current n (v * c)) (2 ^ 20 * c))) 1 (2 ^ 40)
+within_magnitude : (n : ℤ) (v c : ℕ) → 0 < v → 2 ^ 20 ≤ c
+    → Near (fraction (neg_ℤ n) (v * c * c)) (neg_ℤ (near_units (fine_current n (v * c)) (2 ^ 20 * c))) 1 (2 ^ 40)
 within_magnitude n v c v_pos big =
     let u : ℕ = 2 ^ 20 in
     let i : ℤ = fine_current n (v * c) in
@@ -216,7 +222,8 @@ magnitude_by false n v c h big = level_near 1
 by_m : (w : LoadPhase) (n m : ℤ) → IsLoadPhase w → Near (current_slope w n m) (by_magnitude w n m) 1 (2 ^ 40)
 by_m w n m h = magnitude_by (magnitude_is_inside w m) n (nat_abs w.vn) (clamped_magnitude w m) (nominal_positive w h) (magnitude_large w m h)
 
-current_near : (w : LoadPhase) (p q m : ℤ) → IsLoadPhase w → AreNear 1 (exact_constant_current w p q m) (constant_current_slopes w p q m)
+current_near : (w : LoadPhase) (p q m : ℤ) → IsLoadPhase w
+    → AreNear 1 (exact_constant_current w p q m) (constant_current_slopes w p q m)
 current_near w p q m h =
     let a = pos (10 ^ 9) *ℤ w.p in
     let b = pos (10 ^ 9) *ℤ w.q in

@@ -6,14 +6,16 @@ use Rattle.fd_load.specs.Current.{largest}
 use Rattle.std.proofs.Math.Nat.{mul-le-mul, mul-le-mul_right}
 
 -- the power z over d, where the powers are at most g and the lower limit allows 2^12 siemens
-pub admittance_most : (z : ℤ) (g l d : ℕ) → nat_abs z ≤ g → g * 10 ^ 9 ≤ 2 ^ 12 * l → l ≤ d → nat_abs (pos (10 ^ 9) *ℤ z) * 2 ^ 40 ≤ 2 ^ 52 * d
+pub admittance_most : (z : ℤ) (g l d : ℕ) → nat_abs z ≤ g → g * 10 ^ 9 ≤ 2 ^ 12 * l → l ≤ d
+    → nat_abs (pos (10 ^ 9) *ℤ z) * 2 ^ 40 ≤ 2 ^ 52 * d
 admittance_most z g l d h k m = omega (arith, unsigned_abs-mul (pos (10 ^ 9)) z)
 
 pub nominal_most : (v : ℤ) (vn : ℕ) → nat_abs v ≤ 2 ^ 41 → 5 * 10 ^ 6 ≤ vn → nat_abs (pos 2 *ℤ v) * 2 ^ 40 ≤ 2 ^ 60 * vn
 nominal_most v vn h k = omega (arith, unsigned_abs-mul (pos 2) v)
 
 -- the current n / d at voltages of size a, in 2^-20
-pub current_most : (n g a l d : ℕ) → n ≤ 10 ^ 9 * (g * a) → g * 10 ^ 9 ≤ 2 ^ 12 * l → l ≤ d → n * 2 ^ 20 ≤ 2 ^ 32 * a * d
+pub current_most : (n g a l d : ℕ) → n ≤ 10 ^ 9 * (g * a) → g * 10 ^ 9 ≤ 2 ^ 12 * l → l ≤ d
+    → n * 2 ^ 20 ≤ 2 ^ 32 * a * d
 current_most n g a l d h k m =
     let f : g * 10 ^ 9 ≤ 2 ^ 12 * d = omega arith in
     let e = mul-le-mul_right a f in
@@ -39,7 +41,8 @@ part_most v i c h =
     omega arith
 
 -- the slope of the current in the magnitude
-pub magnitude_most : (i lo : ℤ) (k : ℕ) → nat_abs i ≤ 2 ^ 73 → pos (2 * 10 ^ 6) ≤ℤ lo → nat_abs lo ≤ k → nat_abs i * 2 ^ 40 ≤ 2 ^ 73 * (2 ^ 20 * k)
+pub magnitude_most : (i lo : ℤ) (k : ℕ) → nat_abs i ≤ 2 ^ 73 → pos (2 * 10 ^ 6) ≤ℤ lo → nat_abs lo ≤ k
+    → nat_abs i * 2 ^ 40 ≤ 2 ^ 73 * (2 ^ 20 * k)
 magnitude_most i lo k h l m = omega (arith, ints)
 
 -- ---- within the limits

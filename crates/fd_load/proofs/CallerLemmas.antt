@@ -18,5 +18,6 @@ slope_is_near = slopes_near
 pub in_phase_is : (w : LoadPhase) (p q : ℤ) → (pos (10 ^ 9) *ℤ w.p *ℤ p +ℤ pos (10 ^ 9) *ℤ w.q *ℤ q) ≡ in_phase w p q
 in_phase_is w p q = phase_top (10 ^ 9) w.p w.q p q
 
-pub quadrature_is : (w : LoadPhase) (p q : ℤ) → (neg_ℤ (pos (10 ^ 9) *ℤ w.q) *ℤ p +ℤ pos (10 ^ 9) *ℤ w.p *ℤ q) ≡ quadrature w p q
+pub quadrature_is : (w : LoadPhase) (p q : ℤ)
+    → (neg_ℤ (pos (10 ^ 9) *ℤ w.q) *ℤ p +ℤ pos (10 ^ 9) *ℤ w.p *ℤ q) ≡ quadrature w p q
 quadrature_is w p q = quadrature_top (10 ^ 9) w.p w.q p q

@@ -32,10 +32,12 @@ by_model true t n z u lo hi vn l h m e = let f : (n *ℤ pos 1) ≡ z = whole n 
 by_model false true n z u lo hi vn l h m e = (λ i. fraction (e i) (one (vn * vn) i))
 by_model false false n z u lo hi vn l h m e = (λ i. fraction (e i) (vn * clamp m (one l i) (one h i)))
 
-drawn_in_phase : (w : LoadPhase) (p q m : ℤ) → drawn w (pos (10 ^ 9) *ℤ w.p) (pos (10 ^ 9) *ℤ w.q) p q m 1 ≡ fraction (in_phase w p q) (divisor w p q m)
+drawn_in_phase : (w : LoadPhase) (p q m : ℤ)
+    → drawn w (pos (10 ^ 9) *ℤ w.p) (pos (10 ^ 9) *ℤ w.q) p q m 1 ≡ fraction (in_phase w p q) (divisor w p q m)
 drawn_in_phase w p q m = by_model (eqb w.model 1) (eqb w.model 2) _ _ (square_of p q) _ _ (nat_abs w.vn) _ _ (non_negative m) (phase_top (10 ^ 9) w.p w.q p q)
 
-drawn_in_quadrature : (w : LoadPhase) (p q m : ℤ) → drawn w (neg_ℤ (pos (10 ^ 9) *ℤ w.q)) (pos (10 ^ 9) *ℤ w.p) p q m 1 ≡ fraction (quadrature w p q) (divisor w p q m)
+drawn_in_quadrature : (w : LoadPhase) (p q m : ℤ)
+    → drawn w (neg_ℤ (pos (10 ^ 9) *ℤ w.q)) (pos (10 ^ 9) *ℤ w.p) p q m 1 ≡ fraction (quadrature w p q) (divisor w p q m)
 drawn_in_quadrature w p q m = by_model (eqb w.model 1) (eqb w.model 2) _ _ (square_of p q) _ _ (nat_abs w.vn) _ _ (non_negative m) (quadrature_top (10 ^ 9) w.p w.q p q)
 
 pub current_is : CurrentLaw

@@ -8,7 +8,8 @@ use Rattle.fd_load.specs.Current.{AreLoadVoltages, IsLoadPhase, IsPast, is_past,
 abbrev siemens_limit : LoadPhase → ℕ
 siemens_limit w = 2 ^ 12 * (nat_abs w.vlo * nat_abs w.vlo)
 
-past_decides : (w : LoadPhase) → Decides (is_past w) ((10 ^ 11 < power_sum w) ⊎ (siemens_limit w < power_sum w * 10 ^ 9))
+past_decides : (w : LoadPhase)
+    → Decides (is_past w) ((10 ^ 11 < power_sum w) ⊎ (siemens_limit w < power_sum w * 10 ^ 9))
 past_decides w = Decides-or _ _ (Decides-ltb (10 ^ 11) (power_sum w)) (Decides-ltb (siemens_limit w) (power_sum w * 10 ^ 9))
 
 pub within_limit : (w : LoadPhase) → AreLoadVoltages w → ¬ (IsPast w) → IsLoadPhase w

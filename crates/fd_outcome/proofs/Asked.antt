@@ -24,7 +24,8 @@ module _ (style : Style) (fits : AsksNames style) where
       ap (λ (names : List (List ℕ)). (map reads names ++ map writes (style.texts_in (asked n))) ++ body style es) (fits.asks n)
       ∙ ap (λ (texts : List (List ℕ)). ((reads n ∷ []) ++ map writes texts) ++ body style es) (fits.silent n)
 
-  last_asked : (n : List ℕ) (begun : Bool) (es : List Event) (end : Option Fault) → last_calls style begun (asked n ∷ es) end ≡ reads n ∷ last_calls style begun es end
+  last_asked : (n : List ℕ) (begun : Bool) (es : List Event) (end : Option Fault)
+      → last_calls style begun (asked n ∷ es) end ≡ reads n ∷ last_calls style begun es end
   last_asked n true es None = ap (λ (l : List Call). l ++ map writes style.closing) (body_asked n es)
   last_asked n false es None = ap (λ (l : List Call). opened style.opening (l ++ map writes style.closing)) (body_asked n es)
   last_asked n true es (Some f) = ap (λ (l : List Call). l ++ writes (fault_text f) ∷ []) (body_asked n es)
@@ -38,16 +39,21 @@ module _ (style : Style) (fits : AsksNames style) where
     abbrev Ends : S → S → ℕ → Type 0
     Ends old new code = Finishes style good P faults asked_of taken calls lib_old lib_new old new begun code
 
-    grown_by : (m : Made) → names_read m.calls ≡ [] → Becomes (asked_of lib_old) (asked_of lib_new) (λ ns. ns ++ bytes n ∷ []) → Becomes (asked_of lib_old) (asked_of lib_new) (λ ns. ns ++ names_read (reads n ∷ m.calls))
+    grown_by : (m : Made) → names_read m.calls ≡ []
+        → Becomes (asked_of lib_old) (asked_of lib_new) (λ ns. ns ++ bytes n ∷ [])
+        → Becomes (asked_of lib_old) (asked_of lib_new) (λ ns. ns ++ names_read (reads n ∷ m.calls))
     grown_by m none grown = grown_as (asked_of lib_old) (asked_of lib_new) grown
       where
-        grown_as : (a b : Option (List (List ℕ))) → Becomes a b (λ ns. ns ++ bytes n ∷ []) → Becomes a b (λ ns. ns ++ names_read (reads n ∷ m.calls))
+        grown_as : (a b : Option (List (List ℕ))) → Becomes a b (λ ns. ns ++ bytes n ∷ [])
+            → Becomes a b (λ ns. ns ++ names_read (reads n ∷ m.calls))
         grown_as None b h = tt
         grown_as (Some ns) b h = h ∙ ap (λ (l : List (List ℕ)). Some (ns ++ bytes n ∷ l)) (sym none)
 
     -- what comes behind the name is printed
-    pub finishes_asked : (old new : S) (code : ℕ) → Becomes (asked_of lib_old) (asked_of lib_new) (λ ns. ns ++ bytes n ∷ [])
-        → Printed taken calls old new (record { calls = last_calls style begun more.events more.end; end = more.end }) code → Ends old new code
+    pub finishes_asked : (old new : S) (code : ℕ)
+        → Becomes (asked_of lib_old) (asked_of lib_new) (λ ns. ns ++ bytes n ∷ [])
+        → Printed taken calls old new (record { calls = last_calls style begun more.events more.end; end = more.end }) code
+        → Ends old new code
     finishes_asked old new code grown p = record {
       history = before (asked n ∷ []) more;
       right = is;
@@ -77,7 +83,9 @@ module _ (style : Style) (fits : AsksNames style) where
     }
 
     -- the read of the file fails
-    pub finishes_unread : (old new : S) (code : ℕ) → Becomes (asked_of lib_old) (asked_of lib_new) (λ ns. ns ++ bytes n ∷ []) → Rose (faults lib_old) (faults lib_new)
+    pub finishes_unread : (old new : S) (code : ℕ)
+        → Becomes (asked_of lib_old) (asked_of lib_new) (λ ns. ns ++ bytes n ∷ [])
+        → Rose (faults lib_old) (faults lib_new)
         → Printed taken calls old new (fault_doing (fault.Read n)) code → Ends old new code
     finishes_unread old new code grown rose p = record {
       history = before (asked n ∷ []) more;

@@ -54,14 +54,16 @@ module _ {T : Type 0} (is_step : Command → T → Step T → Type 0) (last_name
   abbrev pub RunsTo : L → S → ℕ → Type 0
   RunsTo lib out code = Runs faults asked_of taken calls lib_first lib out_first out (λ h. IsFrom is_step last_name is_last held p h) style good code
 
-  sees_wrote : (lib : L) (old new : S) (m : Made) → Wrote taken calls old new m → Sees asked_of taken calls lib lib old new m
+  sees_wrote : (lib : L) (old new : S) (m : Made) → Wrote taken calls old new m
+      → Sees asked_of taken calls lib lib old new m
   sees_wrote lib old new m w = record {
     names = becomes_same (asked_of lib) _ (λ ns. sym (ap (λ l. ns ++ l) w.names ∙ append-nil ns));
     bytes = w.bytes_are;
     writes = w.writes_are;
   }
 
-  pub at_start : (left : List Said) (end : ScriptEnd) (s : T) → p ≡ record { left = left; end = end; state = s } → At false left end s lib_first out_first
+  pub at_start : (left : List Said) (end : ScriptEnd) (s : T) → p ≡ record { left = left; end = end; state = s }
+      → At false left end s lib_first out_first
   at_start left end s e = record {
     way = record {
       events = [];
@@ -72,13 +74,17 @@ module _ {T : Type 0} (is_step : Command → T → Step T → Type 0) (last_name
     begun_is = refl;
   }
 
-  module _ (one_step : (c : Command) (s : T) → ExactlyOne (is_step c s)) (one_last : (s : T) (found : Option (List ℕ)) → ExactlyOne (is_last s found)) (fits : AsksNames style) where
+  module _ (one_step : (c : Command) (s : T) → ExactlyOne (is_step c s))
+      (one_last : (s : T) (found : Option (List ℕ)) → ExactlyOne (is_last s found)) (fits : AsksNames style) where
     -- some history goes on from here
-    goes_from : (left : List Said) (end : ScriptEnd) (s : T) → ExactlyOne (IsHistory is_step last_name is_last held left end s)
+    goes_from : (left : List Said) (end : ScriptEnd) (s : T)
+        → ExactlyOne (IsHistory is_step last_name is_last held left end s)
     goes_from left end s = one_history is_step last_name is_last one_step one_last held left end s
 
-    at_names : (begun : Bool) (names : List (List ℕ)) (more : List Said) (end : ScriptEnd) (s : T) (lib lib_new : L) (out : S) → At begun (map name names ++ more) end s lib out
-        → Becomes (asked_of lib) (asked_of lib_new) (λ before. before ++ map bytes names) → At begun more end s lib_new out
+    at_names : (begun : Bool) (names : List (List ℕ)) (more : List Said) (end : ScriptEnd) (s : T) (lib lib_new : L) (out : S)
+        → At begun (map name names ++ more) end s lib out
+        → Becomes (asked_of lib) (asked_of lib_new) (λ before. before ++ map bytes names)
+        → At begun more end s lib_new out
     at_names begun names more end s lib lib_new out a grown = record {
       way = goes_on is_step last_name is_last good held faults asked_of taken calls style p (record { left = map name names ++ more; end = end; state = s }) (record { left = more; end = end; state = s })
           lib_first lib lib_new out_first out out (map asked names) a.way (names_lead is_step last_name is_last good held faults asked_of taken calls style names more end s) (names_good good names)
@@ -86,12 +92,14 @@ module _ {T : Type 0} (is_step : Command → T → Step T → Type 0) (last_name
       begun_is = a.begun_is ∙ sym (still style fits a.way.events names);
     }
 
-    pub at_asked : (begun : Bool) (left rest : List Said) (end : ScriptEnd) (s : T) (lib lib_new : L) (out : S) → At begun left end s lib out → Asked left rest (asked_of lib) (asked_of lib_new)
+    pub at_asked : (begun : Bool) (left rest : List Said) (end : ScriptEnd) (s : T) (lib lib_new : L) (out : S)
+        → At begun left end s lib out → Asked left rest (asked_of lib) (asked_of lib_new)
         → At begun rest end s lib_new out
     at_asked begun left rest end s lib lib_new out a names =
         at_names begun names.names rest end s lib lib_new out (subst (λ l. At begun l end s lib out) names.left_is a) names.grown
 
-    pub at_command : (begun now : Bool) (c : Command) (more : List Said) (end : ScriptEnd) (s t : T) (lib : L) (out out_new : S) → At begun (command c ∷ more) end s lib out
+    pub at_command : (begun now : Bool) (c : Command) (more : List Said) (end : ScriptEnd) (s t : T) (lib : L) (out out_new : S)
+        → At begun (command c ∷ more) end s lib out
         → GoesOn style good (is_step c s) t taken calls out out_new begun now → At now more end t lib out_new
     at_command begun now c more end s t lib out out_new a g = record {
       way = goes_on is_step last_name is_last good held faults asked_of taken calls style p (record { left = command c ∷ more; end = end; state = s }) (record { left = more; end = end; state = t })
@@ -104,7 +112,8 @@ module _ {T : Type 0} (is_step : Command → T → Step T → Type 0) (last_name
     -- ---- ends
 
     -- events behind others, of which the first are shown: all calls are those so far, those of the shown, and more
-    split_at : (a shown hidden : List Event) (end : Option Fault) → (rest : List Call) × (calls_of style (a ++ (shown ++ hidden)) end ≡ so_far style a ++ (behind style (has_text (body style a)) shown ++ rest))
+    split_at : (a shown hidden : List Event) (end : Option Fault)
+        → (rest : List Call) × (calls_of style (a ++ (shown ++ hidden)) end ≡ so_far style a ++ (behind style (has_text (body style a)) shown ++ rest))
     split_at a shown hidden end =
         let f = front_is style (a ++ shown) (record { events = hidden; end = end }) in (
           f.0,
@@ -119,9 +128,11 @@ module _ {T : Type 0} (is_step : Command → T → Step T → Type 0) (last_name
     ]
 
     -- cut short behind some of the events of a history that goes on
-    cut_at : (left : List Said) (end : ScriptEnd) (s : T) (lib lib_new : L) (out out_new : S) (h : History) (shown hidden : List Event) (code : ℕ) (m : Made) → (w : WayAt left end s lib out)
+    cut_at : (left : List Said) (end : ScriptEnd) (s : T) (lib lib_new : L) (out out_new : S) (h : History) (shown hidden : List Event) (code : ℕ) (m : Made)
+        → (w : WayAt left end s lib out)
         → IsHistory is_step last_name is_last held left end s h → h.events ≡ shown ++ hidden → AllSettles good shown
-        → IsFrontOf (behind style (has_text (body style w.events)) shown) code m → Sees asked_of taken calls lib lib_new out out_new m → RunsTo lib_new out_new code
+        → IsFrontOf (behind style (has_text (body style w.events)) shown) code m
+        → Sees asked_of taken calls lib lib_new out out_new m → RunsTo lib_new out_new code
     cut_at left end s lib lib_new out out_new h shown hidden code m w is events_are all front sees =
         let t = has_text (body style w.events) in
         let f = split_at w.events shown hidden h.end in
@@ -132,9 +143,11 @@ module _ {T : Type 0} (is_step : Command → T → Step T → Type 0) (last_name
         (inr (longer (behind style t shown) g.0 code m front)) sees
 
     -- ended with a fault behind these events
-    fault_at : (left : List Said) (end : ScriptEnd) (s : T) (lib lib_new : L) (out out_new : S) (events : List Event) (f : Fault) (code : ℕ) (m : Made) → (w : WayAt left end s lib out)
+    fault_at : (left : List Said) (end : ScriptEnd) (s : T) (lib lib_new : L) (out out_new : S) (events : List Event) (f : Fault) (code : ℕ) (m : Made)
+        → (w : WayAt left end s lib out)
         → IsHistory is_step last_name is_last held left end s (ended events f) → AllSettles good events
-        → IsDone (record { calls = behind style (has_text (body style w.events)) events ++ writes (fault_text f) ∷ []; end = Some f }) code m → Sees asked_of taken calls lib lib_new out out_new m → RunsTo lib_new out_new code
+        → IsDone (record { calls = behind style (has_text (body style w.events)) events ++ writes (fault_text f) ∷ []; end = Some f }) code m
+        → Sees asked_of taken calls lib lib_new out out_new m → RunsTo lib_new out_new code
     fault_at left end s lib lib_new out out_new events f code m w is all done sees =
         let last = writes (fault_text f) ∷ [] in
         let calls_are : calls_of style (w.events ++ events) (Some f) ≡ so_far style w.events ++ (behind style (has_text (body style w.events)) events ++ last) =
@@ -143,8 +156,11 @@ module _ {T : Type 0} (is_step : Command → T → Step T → Type 0) (last_name
         (behind style (has_text (body style w.events)) events ++ last) code m w is calls_are done
         events [] (Some f) (behind style (has_text (body style w.events)) events ++ last) (sym (append-nil events)) all calls_are done sees
 
-    pub ends_refused : (begun : Bool) (left : List Said) (end : ScriptEnd) (s : T) (lib lib_new : L) (out out_new : S) (place : Place) (c : ScriptCause) (code : ℕ) → At begun left end s lib out
-        → Asked left [] (asked_of lib) (asked_of lib_new) × (end ≡ refused_at place c) → Printed taken calls out out_new (fault_doing (fault.Script place (cause.Script c))) code → RunsTo lib_new out_new code
+    pub ends_refused : (begun : Bool) (left : List Said) (end : ScriptEnd) (s : T) (lib lib_new : L) (out out_new : S) (place : Place) (c : ScriptCause) (code : ℕ)
+        → At begun left end s lib out
+        → Asked left [] (asked_of lib) (asked_of lib_new) × (end ≡ refused_at place c)
+        → Printed taken calls out out_new (fault_doing (fault.Script place (cause.Script c))) code
+        → RunsTo lib_new out_new code
     ends_refused begun left end s lib lib_new out out_new place c code a r printed =
         let f = fault.Script place (cause.Script c) in
         let b = at_asked begun left [] end s lib lib_new out a r.0 in
@@ -153,7 +169,8 @@ module _ {T : Type 0} (is_step : Command → T → Step T → Type 0) (last_name
         fault_at [] (refused_at place c) s lib_new lib_new out out_new [] f code printed.made w refl (All-nil (IfSettle good))
         (subst D (sym (nothing_behind style (has_text (body style w.events)))) printed.done) (sees_wrote lib_new out out_new printed.made printed.wrote)
 
-    pub ends_short : (begun : Bool) (left : List Said) (end : ScriptEnd) (s : T) (lib lib_new : L) (out : S) → At begun left end s lib out
+    pub ends_short : (begun : Bool) (left : List Said) (end : ScriptEnd) (s : T) (lib lib_new : L) (out : S)
+        → At begun left end s lib out
         → IsCutShort left (asked_of lib) (asked_of lib_new) → RunsTo lib_new out 1
     ends_short begun left end s lib lib_new out a c =
         let b = at_asked begun left c.rest end s lib lib_new out a c.asked in
@@ -163,14 +180,18 @@ module _ {T : Type 0} (is_step : Command → T → Step T → Type 0) (last_name
         (subst F (sym (nothing_behind style (has_text (body style b.way.events)))) (inl (record { rest = []; calls = refl; torn = refl; status_is = refl }))) (sees_nothing asked_of taken calls lib_new out)
 
     -- memory runs out before anything is asked
-    pub ends_first : (left : List Said) (end : ScriptEnd) (s : T) → p ≡ record { left = left; end = end; state = s } → RunsTo lib_first out_first 1
+    pub ends_first : (left : List Said) (end : ScriptEnd) (s : T) → p ≡ record { left = left; end = end; state = s }
+        → RunsTo lib_first out_first 1
     ends_first left end s e = ends_short false left end s lib_first lib_first out_first (at_start left end s e) (record {
       rest = left;
       asked = record { names = []; left_is = refl; grown = becomes_same (asked_of lib_first) _ (λ ns. sym (append-nil ns)) };
     })
 
-    pub ends_unread : (begun : Bool) (left : List Said) (end : ScriptEnd) (s : T) (lib lib_new : L) (out out_new : S) (unread : List ℕ) (code : ℕ) → At begun left end s lib out
-        → IsUnread left (asked_of lib) (asked_of lib_new) unread → Printed taken calls out out_new (fault_doing (fault.Read unread)) code → Rose (faults lib_first) (faults lib_new)
+    pub ends_unread : (begun : Bool) (left : List Said) (end : ScriptEnd) (s : T) (lib lib_new : L) (out out_new : S) (unread : List ℕ) (code : ℕ)
+        → At begun left end s lib out
+        → IsUnread left (asked_of lib) (asked_of lib_new) unread
+        → Printed taken calls out out_new (fault_doing (fault.Read unread)) code
+        → Rose (faults lib_first) (faults lib_new)
         → RunsTo lib_new out_new code
     ends_unread begun left end s lib lib_new out out_new unread code a r printed rose =
         let w : WayAt (map name r.names ++ name unread ∷ r.more) end s lib out = subst (λ l. WayAt l end s lib out) r.left_is a.way in
@@ -194,7 +215,8 @@ module _ {T : Type 0} (is_step : Command → T → Step T → Type 0) (last_name
       rest : List Event
       events_are : history.events ≡ events_in step ++ rest
 
-    continued : (c : Command) (more : List Said) (end : ScriptEnd) (s : T) (step : Step T) → is_step c s step → Continued c more end s step
+    continued : (c : Command) (more : List Said) (end : ScriptEnd) (s : T) (step : Step T) → is_step c s step
+        → Continued c more end s step
     continued c more end s (goes events t) right =
         let one = goes_from more end t in
         record {
@@ -210,23 +232,28 @@ module _ {T : Type 0} (is_step : Command → T → Step T → Type 0) (last_name
       events_are = sym (append-nil events);
     }
 
-    cut_in_step : (c : Command) (more : List Said) (end : ScriptEnd) (s : T) (lib : L) (out out_new : S) (step : Step T) (shown hidden : List Event) (code : ℕ) (m : Made) → is_step c s step
-        → (w : WayAt (command c ∷ more) end s lib out) → events_in step ≡ shown ++ hidden → AllSettles good shown → IsFrontOf (behind style (has_text (body style w.events)) shown) code m
+    cut_in_step : (c : Command) (more : List Said) (end : ScriptEnd) (s : T) (lib : L) (out out_new : S) (step : Step T) (shown hidden : List Event) (code : ℕ) (m : Made)
+        → is_step c s step
+        → (w : WayAt (command c ∷ more) end s lib out) → events_in step ≡ shown ++ hidden → AllSettles good shown
+        → IsFrontOf (behind style (has_text (body style w.events)) shown) code m
         → Wrote taken calls out out_new m → RunsTo lib out_new code
     cut_in_step c more end s lib out out_new step shown hidden code m right w events_are all front wrote =
         let k = continued c more end s step right in
         cut_at (command c ∷ more) end s lib lib out out_new k.history shown (hidden ++ k.rest) code m w k.is
         (k.events_are ∙ ap (λ l. l ++ k.rest) events_are ∙ append_assoc shown hidden k.rest) all front (sees_wrote lib out out_new m wrote)
 
-    end_of_step : (c : Command) (more : List Said) (end : ScriptEnd) (s : T) (lib : L) (out out_new : S) (step : Step T) (code : ℕ) (m : Made) → is_step c s step
-        → (w : WayAt (command c ∷ more) end s lib out) → AllSettles good (events_in step) → EndsSo style (has_text (body style w.events)) step code m
+    end_of_step : (c : Command) (more : List Said) (end : ScriptEnd) (s : T) (lib : L) (out out_new : S) (step : Step T) (code : ℕ) (m : Made)
+        → is_step c s step
+        → (w : WayAt (command c ∷ more) end s lib out) → AllSettles good (events_in step)
+        → EndsSo style (has_text (body style w.events)) step code m
         → Wrote taken calls out out_new m → RunsTo lib out_new code
     end_of_step c more end s lib out out_new (goes events t) code m right w all done wrote =
         cut_in_step c more end s lib out out_new (goes events t) events [] code m right w (sym (append-nil events)) all done wrote
     end_of_step c more end s lib out out_new (ends events f) code m right w all done wrote =
         fault_at (command c ∷ more) end s lib lib out out_new events f code m w (record { step = ends events f; right = right; goes_on = refl }) all done (sees_wrote lib out out_new m wrote)
 
-    pub ends_command : (begun : Bool) (c : Command) (more : List Said) (end : ScriptEnd) (s : T) (lib : L) (out out_new : S) (code : ℕ) → At begun (command c ∷ more) end s lib out
+    pub ends_command : (begun : Bool) (c : Command) (more : List Said) (end : ScriptEnd) (s : T) (lib : L) (out out_new : S) (code : ℕ)
+        → At begun (command c ∷ more) end s lib out
         → EndsAt style good (is_step c s) taken calls out out_new begun code → RunsTo lib out_new code
     ends_command begun c more end s lib out out_new code a e = elim e.done [
       | inl all ↦ (
@@ -241,7 +268,8 @@ module _ {T : Type 0} (is_step : Command → T → Step T → Type 0) (last_name
     -- ---- the end of the script
 
     -- a history of the end, behind the events so far
-    last_behind : (a events : List Event) (end : Option Fault) → calls_of style (a ++ events) end ≡ so_far style a ++ last_calls style (has_text (body style a)) events end
+    last_behind : (a events : List Event) (end : Option Fault)
+        → calls_of style (a ++ events) end ≡ so_far style a ++ last_calls style (has_text (body style a)) events end
     last_behind a events None =
         ap (λ l. opened style.opening (l ++ map writes style.closing)) (body-append style a events)
         ∙ ap (opened style.opening) (append_assoc (body style a) (body style events) (map writes style.closing))
@@ -249,9 +277,11 @@ module _ {T : Type 0} (is_step : Command → T → Step T → Type 0) (last_name
     last_behind a events (Some f) =
         ap (λ l. l ++ writes (fault_text f) ∷ []) (append_is style a events) ∙ append_assoc (so_far style a) (behind style (has_text (body style a)) events) (writes (fault_text f) ∷ [])
 
-    pub ends_finished : (begun : Bool) (left : List Said) (end : ScriptEnd) (s : T) (lib mid lib_new : L) (out out_new : S) (code : ℕ) → At begun left end s lib out
+    pub ends_finished : (begun : Bool) (left : List Said) (end : ScriptEnd) (s : T) (lib mid lib_new : L) (out out_new : S) (code : ℕ)
+        → At begun left end s lib out
         → Asked left [] (asked_of lib) (asked_of mid) × (end ≡ at_its_end) → faults lib_first ≤ faults mid
-        → Finishes style good (λ h. IsLast is_step last_name is_last held (last_name s) s h) faults asked_of taken calls mid lib_new out out_new begun code → RunsTo lib_new out_new code
+        → Finishes style good (λ h. IsLast is_step last_name is_last held (last_name s) s h) faults asked_of taken calls mid lib_new out out_new begun code
+        → RunsTo lib_new out_new code
     ends_finished begun left end s lib mid lib_new out out_new code before_names finished later f =
         let a = at_asked begun left [] end s lib mid out before_names finished.0 in
         let w : WayAt [] end s mid out = a.way in
@@ -314,7 +344,8 @@ grows_none names = record { names = []; grown = becomes_same names _ (λ ns. sym
 
 module _ {S : Type 0} (taken : S → Option (List ℕ)) (calls : S → Option ℕ) where
   -- all calls of a fault behind others are made, so its record is the last text
-  fault_last : (old new : S) (made : List Call) (m : Made) (f : Fault) (code : ℕ) → m.calls ≡ made ++ writes (fault_text f) ∷ [] → m.torn ≡ None → code ≡ status f → Wrote taken calls old new m
+  fault_last : (old new : S) (made : List Call) (m : Made) (f : Fault) (code : ℕ)
+      → m.calls ≡ made ++ writes (fault_text f) ∷ [] → m.torn ≡ None → code ≡ status f → Wrote taken calls old new m
       → EndsAtFault taken calls old new code
   fault_last old new made m f code e none is wrote =
       let w : Wrote taken calls old new (whole (made ++ writes (fault_text f) ∷ [])) =
@@ -326,7 +357,9 @@ module _ {S : Type 0} (taken : S → Option (List ℕ)) (calls : S → Option �
         takes = subst (λ l. Takes taken calls old new l) (texts-append made (writes (fault_text f) ∷ [])) (takes_wrote taken calls old new (made ++ writes (fault_text f) ∷ []) w);
       }
 
-  done_answers : (old new : S) (made : List Call) (f : Fault) (code : ℕ) (m : Made) → IsDone (record { calls = made ++ writes (fault_text f) ∷ []; end = Some f }) code m → Wrote taken calls old new m
+  done_answers : (old new : S) (made : List Call) (f : Fault) (code : ℕ) (m : Made)
+      → IsDone (record { calls = made ++ writes (fault_text f) ∷ []; end = Some f }) code m
+      → Wrote taken calls old new m
       → CutsShort code ⊎ EndsAtFault taken calls old new code
   done_answers old new made f code m done wrote = elim done [
     | inl all ↦ inr (fault_last old new made m f code all.calls all.torn all.status_is wrote)
@@ -334,12 +367,14 @@ module _ {S : Type 0} (taken : S → Option (List ℕ)) (calls : S → Option �
   ]
 
   -- a command ends the run with a fault's record, or is cut short
-  step_answers : {T : Type 0} (style : Style) (begun : Bool) (step : Step T) (old new : S) (code : ℕ) (m : Made) → EndsSo style begun step code m → Wrote taken calls old new m
+  step_answers : {T : Type 0} (style : Style) (begun : Bool) (step : Step T) (old new : S) (code : ℕ) (m : Made)
+      → EndsSo style begun step code m → Wrote taken calls old new m
       → CutsShort code ⊎ EndsAtFault taken calls old new code
   step_answers style begun (goes events s) old new code m front wrote = inl (cut_code _ code m front)
   step_answers style begun (ends events f) old new code m done wrote = done_answers old new (behind style begun events) f code m done wrote
 
-  pub command_answers : {T : Type 0} (style : Style) (good : Settle → Type 0) (is_step : Step T → Type 0) (old new : S) (begun : Bool) (code : ℕ) → EndsAt style good is_step taken calls old new begun code
+  pub command_answers : {T : Type 0} (style : Style) (good : Settle → Type 0) (is_step : Step T → Type 0) (old new : S) (begun : Bool) (code : ℕ)
+      → EndsAt style good is_step taken calls old new begun code
       → CutsShort code ⊎ EndsAtFault taken calls old new code
   command_answers style good is_step old new begun code e = elim e.done [
     | inl all ↦ step_answers style begun e.step old new code e.made all.1 e.wrote
@@ -347,17 +382,20 @@ module _ {S : Type 0} (taken : S → Option (List ℕ)) (calls : S → Option �
   ]
 
   -- the record of a fault is printed, or cut short
-  pub fault_answers : (old new : S) (f : Fault) (code : ℕ) → Printed taken calls old new (fault_doing f) code → CutsShort code ⊎ EndsAtFault taken calls old new code
+  pub fault_answers : (old new : S) (f : Fault) (code : ℕ) → Printed taken calls old new (fault_doing f) code
+      → CutsShort code ⊎ EndsAtFault taken calls old new code
   fault_answers old new f code p = done_answers old new [] f code p.made p.done p.wrote
 
-  pub fault_code : (old new : S) (f : Fault) (code : ℕ) → Printed taken calls old new (fault_doing f) code → (code ≡ status f) ⊎ CutsShort code
+  pub fault_code : (old new : S) (f : Fault) (code : ℕ) → Printed taken calls old new (fault_doing f) code
+      → (code ≡ status f) ⊎ CutsShort code
   fault_code old new f code p = elim p.done [
     | inl all ↦ inl all.status_is
     | inr front ↦ inr (cut_code _ code p.made front)
   ]
 
   -- what was taken before
-  pub fault_behind : (old mid new : S) (texts : List (List ℕ)) (code : ℕ) → Takes taken calls old mid texts → CutsShort code ⊎ EndsAtFault taken calls mid new code → CutsShort code ⊎ EndsAtFault taken calls old new code
+  pub fault_behind : (old mid new : S) (texts : List (List ℕ)) (code : ℕ) → Takes taken calls old mid texts
+      → CutsShort code ⊎ EndsAtFault taken calls mid new code → CutsShort code ⊎ EndsAtFault taken calls old new code
   fault_behind old mid new texts code takes is = elim is [
     | inl cut ↦ inl cut
     | inr e ↦ inr (record {
@@ -368,10 +406,12 @@ module _ {S : Type 0} (taken : S → Option (List ℕ)) (calls : S → Option �
     })
   ]
 
-  pub answers_behind : (old mid new : S) (texts : List (List ℕ)) (code : ℕ) → Takes taken calls old mid texts → Answers taken calls mid new code → Answers taken calls old new code
+  pub answers_behind : (old mid new : S) (texts : List (List ℕ)) (code : ℕ) → Takes taken calls old mid texts
+      → Answers taken calls mid new code → Answers taken calls old new code
   answers_behind old mid new texts code takes is = elim is [ inl a ↦ inl a | inr a ↦ inr (fault_behind old mid new texts code takes a) ]
 
-  pub takes_more : (old mid new : S) (texts : List (List ℕ)) (made : List Call) → Takes taken calls old mid texts → Wrote taken calls mid new (whole made) → Takes taken calls old new (texts ++ texts_written made)
+  pub takes_more : (old mid new : S) (texts : List (List ℕ)) (made : List Call) → Takes taken calls old mid texts
+      → Wrote taken calls mid new (whole made) → Takes taken calls old new (texts ++ texts_written made)
   takes_more old mid new texts made takes wrote = takes_then taken calls old mid new texts (texts_written made) takes (takes_wrote taken calls mid new made wrote)
 
   -- ---- the record of a failed read is the last
@@ -379,7 +419,8 @@ module _ {S : Type 0} (taken : S → Option (List ℕ)) (calls : S → Option �
   record IsRecord (old new : S) (f : Fault) : Type 0 where
     takes : Takes taken calls old new (fault_text f ∷ [])
 
-  read_record : (old new : S) (n : List ℕ) (code : ℕ) → Printed taken calls old new (fault_doing (fault.Read n)) code → code ≡ 4 → IsRecord old new (fault.Read n)
+  read_record : (old new : S) (n : List ℕ) (code : ℕ) → Printed taken calls old new (fault_doing (fault.Read n)) code
+      → code ≡ 4 → IsRecord old new (fault.Read n)
   read_record old new n code p four = elim p.done [
     | inl all ↦ (
         let w : Wrote taken calls old new (whole (writes (fault_text (fault.Read n)) ∷ [])) =
@@ -389,8 +430,10 @@ module _ {S : Type 0} (taken : S → Option (List ℕ)) (calls : S → Option �
     | inr front ↦ absurd (not_cut code four (cut_code _ code p.made front))
   ]
 
-  pub ends_at_read : {L : Type 0} (asked_of : L → Option (List (List ℕ))) (lib_old mid lib_new : L) (old now new : S) (texts : List (List ℕ)) (n : List ℕ) (code : ℕ) → GrowsSome (asked_of lib_old) (asked_of mid) → GrowsLast (asked_of mid) (asked_of lib_new) n
-      → Takes taken calls old now texts → Printed taken calls now new (fault_doing (fault.Read n)) code → code ≡ 4 → EndsAtRead asked_of lib_old lib_new taken calls old new
+  pub ends_at_read : {L : Type 0} (asked_of : L → Option (List (List ℕ))) (lib_old mid lib_new : L) (old now new : S) (texts : List (List ℕ)) (n : List ℕ) (code : ℕ)
+      → GrowsSome (asked_of lib_old) (asked_of mid) → GrowsLast (asked_of mid) (asked_of lib_new) n
+      → Takes taken calls old now texts → Printed taken calls now new (fault_doing (fault.Read n)) code → code ≡ 4
+      → EndsAtRead asked_of lib_old lib_new taken calls old new
   ends_at_read asked_of lib_old mid lib_new old now new texts n code some last takes printed four =
       let end : List (List ℕ) = bytes n ∷ [] in
       record {
@@ -405,27 +448,32 @@ module _ {S : Type 0} (taken : S → Option (List ℕ)) (calls : S → Option �
 -- ---- texts handed to a sink
 
 module _ {S : Type 0} (taken : S → Option (List ℕ)) (calls : S → Option ℕ) where
-  wrote_texts : (old new : S) (texts : List (List ℕ)) (torn : Option (List ℕ)) → Becomes (taken old) (taken new) (λ bs. bs ++ (concat texts ++ torn_bytes torn))
-      → Becomes (calls old) (calls new) (λ n. n + (length texts + torn_writes torn)) → Wrote taken calls old new (record { calls = map writes texts; torn = torn })
+  wrote_texts : (old new : S) (texts : List (List ℕ)) (torn : Option (List ℕ))
+      → Becomes (taken old) (taken new) (λ bs. bs ++ (concat texts ++ torn_bytes torn))
+      → Becomes (calls old) (calls new) (λ n. n + (length texts + torn_writes torn))
+      → Wrote taken calls old new (record { calls = map writes texts; torn = torn })
   wrote_texts old new texts torn bytes_are writes_are = record {
     names = names_of_writes texts;
     bytes_are = subst (λ l. Becomes (taken old) (taken new) (λ bs. bs ++ (concat l ++ torn_bytes torn))) (sym (texts_of_writes texts)) bytes_are;
     writes_are = subst (λ (l : List (List ℕ)). Becomes (calls old) (calls new) (λ n. n + (length l + torn_writes torn))) (sym (texts_of_writes texts)) writes_are;
   }
 
-  pub wrote_all : (old new : S) (texts : List (List ℕ)) → Takes taken calls old new texts → Wrote taken calls old new (whole (map writes texts))
+  pub wrote_all : (old new : S) (texts : List (List ℕ)) → Takes taken calls old new texts
+      → Wrote taken calls old new (whole (map writes texts))
   wrote_all old new texts takes = wrote_texts old new texts None
       (becomes_as (taken old) (taken new) _ _ (λ bs. ap (λ l. bs ++ l) (sym (append-nil (concat texts)))) takes.bytes)
       (becomes_as (calls old) (calls new) _ _ (λ n. omega arith) takes.writes)
 
-  pub cut_by_memory : (old new : S) (texts : List (List ℕ)) → TakesFirst taken calls old new texts → IsCutIn taken calls old new (map writes texts) 1
+  pub cut_by_memory : (old new : S) (texts : List (List ℕ)) → TakesFirst taken calls old new texts
+      → IsCutIn taken calls old new (map writes texts) 1
   cut_by_memory old new texts f = record {
     made = whole (map writes f.whole);
     front = inl (record { rest = map writes f.rest; calls = ap (map writes) f.parts ∙ map-append writes f.whole f.rest; torn = refl; status_is = refl });
     wrote = wrote_all old new f.whole f.takes;
   }
 
-  pub cut_by_fault : (old new : S) (texts : List (List ℕ)) → TakesTorn taken calls old new texts → IsCutIn taken calls old new (map writes texts) 5
+  pub cut_by_fault : (old new : S) (texts : List (List ℕ)) → TakesTorn taken calls old new texts
+      → IsCutIn taken calls old new (map writes texts) 5
   cut_by_fault old new texts f = record {
     made = record { calls = map writes f.whole; torn = Some f.front };
     front = inr (record {
@@ -448,23 +496,27 @@ module _ {S : Type 0} (taken : S → Option (List ℕ)) (calls : S → Option �
   }
 
   -- a fault's record, by what the sink took of it
-  pub fault_whole : (old new : S) (f : Fault) (code : ℕ) → code ≡ status f → Takes taken calls old new (fault_text f ∷ []) → Printed taken calls old new (fault_doing f) code
+  pub fault_whole : (old new : S) (f : Fault) (code : ℕ) → code ≡ status f
+      → Takes taken calls old new (fault_text f ∷ []) → Printed taken calls old new (fault_doing f) code
   fault_whole old new f code is takes = record {
     made = whole (writes (fault_text f) ∷ []);
     done = inl (record { calls = refl; torn = refl; status_is = is });
     wrote = wrote_all old new (fault_text f ∷ []) takes;
   }
 
-  pub fault_cut : (old new : S) (f : Fault) (code : ℕ) → IsCutIn taken calls old new (writes (fault_text f) ∷ []) code → Printed taken calls old new (fault_doing f) code
+  pub fault_cut : (old new : S) (f : Fault) (code : ℕ) → IsCutIn taken calls old new (writes (fault_text f) ∷ []) code
+      → Printed taken calls old new (fault_doing f) code
   fault_cut old new f code c = record { made = c.made; done = inr c.front; wrote = c.wrote }
 
 -- ---- writes behind others
 
 module _ {S : Type 0} (taken : S → Option (List ℕ)) (calls : S → Option ℕ) where
-  seen_by : (old new : S) (m : Made) → Wrote taken calls old new m → Sees {L = Unit {0}} (λ u. None) taken calls tt tt old new m
+  seen_by : (old new : S) (m : Made) → Wrote taken calls old new m
+      → Sees {L = Unit {0}} (λ u. None) taken calls tt tt old new m
   seen_by old new m w = record { names = tt; bytes = w.bytes_are; writes = w.writes_are }
 
-  pub wrote_then : (old mid new : S) (a : List Call) (m : Made) → Wrote taken calls old mid (whole a) → Wrote taken calls mid new m → Wrote taken calls old new (made_after a m)
+  pub wrote_then : (old mid new : S) (a : List Call) (m : Made) → Wrote taken calls old mid (whole a)
+      → Wrote taken calls mid new m → Wrote taken calls old new (made_after a m)
   wrote_then old mid new a m first second =
       let both = sees_then {L = Unit {0}} (λ u. None) taken calls tt tt tt old mid new a m (seen_by old mid (whole a) first) (seen_by mid new m second) in
       record {
@@ -474,7 +526,8 @@ module _ {S : Type 0} (taken : S → Option (List ℕ)) (calls : S → Option �
       }
 
   -- what is done of these calls is done of those before and these
-  pub printed_then : (old mid new : S) (a rest : List Call) (end : Option Fault) (code : ℕ) → Wrote taken calls old mid (whole a) → Printed taken calls mid new (record { calls = rest; end = end }) code
+  pub printed_then : (old mid new : S) (a rest : List Call) (end : Option Fault) (code : ℕ)
+      → Wrote taken calls old mid (whole a) → Printed taken calls mid new (record { calls = rest; end = end }) code
       → Printed taken calls old new (record { calls = a ++ rest; end = end }) code
   printed_then old mid new a rest end code first p = record {
     made = made_after a p.made;
@@ -482,7 +535,8 @@ module _ {S : Type 0} (taken : S → Option (List ℕ)) (calls : S → Option �
     wrote = wrote_then old mid new a p.made first p.wrote;
   }
 
-  pub cut_then : (old mid new : S) (a rest : List Call) (code : ℕ) → Wrote taken calls old mid (whole a) → IsCutIn taken calls mid new rest code → IsCutIn taken calls old new (a ++ rest) code
+  pub cut_then : (old mid new : S) (a rest : List Call) (code : ℕ) → Wrote taken calls old mid (whole a)
+      → IsCutIn taken calls mid new rest code → IsCutIn taken calls old new (a ++ rest) code
   cut_then old mid new a rest code first c = record {
     made = made_after a c.made;
     front = front_after a rest code c.made c.front;
@@ -492,22 +546,27 @@ module _ {S : Type 0} (taken : S → Option (List ℕ)) (calls : S → Option �
 -- ---- a run whatever a library tells
 
 -- what was taken and asked so far
-pub record Shown {L S : Type 0} (asked_of : L → Option (List (List ℕ))) (taken : S → Option (List ℕ)) (calls : S → Option ℕ) (lib_old lib_now : L) (old now : S) : Type 0 where
+pub record Shown {L S : Type 0} (asked_of : L → Option (List (List ℕ))) (taken : S → Option (List ℕ))
+    (calls : S → Option ℕ) (lib_old lib_now : L) (old now : S) : Type 0 where
   pub texts : List (List ℕ)
   pub takes : Takes taken calls old now texts
   pub grows : GrowsSome (asked_of lib_old) (asked_of lib_now)
 
-not_status : (f : Fault) (code n : ℕ) → (status f ≡ n → ⊥) → (1 ≡ n → ⊥) → (5 ≡ n → ⊥) → (code ≡ status f) ⊎ CutsShort code → code ≡ n → ⊥
+not_status : (f : Fault) (code n : ℕ) → (status f ≡ n → ⊥) → (1 ≡ n → ⊥) → (5 ≡ n → ⊥)
+    → (code ≡ status f) ⊎ CutsShort code → code ≡ n → ⊥
 not_status f code n a b c is e = elim is [
   | inl x ↦ a (sym x ∙ e)
   | inr cut ↦ elim cut [ inl x ↦ b (sym x ∙ e) | inr x ↦ c (sym x ∙ e) ]
 ]
 
-module _ {L S : Type 0} (faults : L → ℕ) (asked_of : L → Option (List (List ℕ))) (sink_faults : S → ℕ) (taken : S → Option (List ℕ)) (calls : S → Option ℕ) where
+module _ {L S : Type 0} (faults : L → ℕ) (asked_of : L → Option (List (List ℕ))) (sink_faults : S → ℕ)
+    (taken : S → Option (List ℕ)) (calls : S → Option ℕ) where
   pub shown_nothing : (lib : L) (out : S) → Shown asked_of taken calls lib lib out out
   shown_nothing lib out = record { texts = []; takes = takes_none taken calls out; grows = grows_none (asked_of lib) }
 
-  pub shown_more : (lib_old lib lib_new : L) (old now new : S) (made : List Call) → Shown asked_of taken calls lib_old lib old now → GrowsSome (asked_of lib) (asked_of lib_new) → Wrote taken calls now new (whole made)
+  pub shown_more : (lib_old lib lib_new : L) (old now new : S) (made : List Call)
+      → Shown asked_of taken calls lib_old lib old now → GrowsSome (asked_of lib) (asked_of lib_new)
+      → Wrote taken calls now new (whole made)
       → Shown asked_of taken calls lib_old lib_new old new
   shown_more lib_old lib lib_new old now new made shown grows wrote = record {
     texts = shown.texts ++ texts_written made;
@@ -516,8 +575,10 @@ module _ {L S : Type 0} (faults : L → ℕ) (asked_of : L → Option (List (Lis
   }
 
   -- ended with a fault's record or cut short, and neither usage nor a failed read
-  pub untold_fault : (lib_old lib lib_new : L) (old now new : S) (code : ℕ) → Shown asked_of taken calls lib_old lib old now → GrowsSome (asked_of lib) (asked_of lib_new)
-      → CutsShort code ⊎ EndsAtFault taken calls now new code → (code ≡ 2 → ⊥) → (code ≡ 4 → ⊥) → (code ≡ 5 → Rose (sink_faults old) (sink_faults new))
+  pub untold_fault : (lib_old lib lib_new : L) (old now new : S) (code : ℕ)
+      → Shown asked_of taken calls lib_old lib old now → GrowsSome (asked_of lib) (asked_of lib_new)
+      → CutsShort code ⊎ EndsAtFault taken calls now new code → (code ≡ 2 → ⊥) → (code ≡ 4 → ⊥)
+      → (code ≡ 5 → Rose (sink_faults old) (sink_faults new))
       → IsUntold faults asked_of sink_faults taken calls lib_old lib_new old new code
   untold_fault lib_old lib lib_new old now new code shown grows is not_usage not_read write = record {
     answers = inr (fault_behind taken calls old now new shown.texts code shown.takes is);
@@ -528,8 +589,10 @@ module _ {L S : Type 0} (faults : L → ℕ) (asked_of : L → Option (List (Lis
     write = write;
   }
 
-  pub untold_refused : (lib_old lib lib_new : L) (old now new : S) (place : Place) (c : ScriptCause) (code : ℕ) → Shown asked_of taken calls lib_old lib old now → GrowsSome (asked_of lib) (asked_of lib_new)
-      → Printed taken calls now new (fault_doing (fault.Script place (cause.Script c))) code → (code ≡ 5 → Rose (sink_faults old) (sink_faults new))
+  pub untold_refused : (lib_old lib lib_new : L) (old now new : S) (place : Place) (c : ScriptCause) (code : ℕ)
+      → Shown asked_of taken calls lib_old lib old now → GrowsSome (asked_of lib) (asked_of lib_new)
+      → Printed taken calls now new (fault_doing (fault.Script place (cause.Script c))) code
+      → (code ≡ 5 → Rose (sink_faults old) (sink_faults new))
       → IsUntold faults asked_of sink_faults taken calls lib_old lib_new old new code
   untold_refused lib_old lib lib_new old now new place c code shown grows printed write =
       let f = fault.Script place (cause.Script c) in
@@ -538,8 +601,11 @@ module _ {L S : Type 0} (faults : L → ℕ) (asked_of : L → Option (List (Lis
       (not_status f code 2 (λ e. omega (arith, e)) (λ e. omega (arith, e)) (λ e. omega (arith, e)) is)
       (not_status f code 4 (λ e. omega (arith, e)) (λ e. omega (arith, e)) (λ e. omega (arith, e)) is) write
 
-  pub untold_read : (lib_old lib lib_new : L) (old now new : S) (n : List ℕ) (code : ℕ) → Shown asked_of taken calls lib_old lib old now → GrowsSome (asked_of lib) (asked_of lib_new) → GrowsLast (asked_of lib) (asked_of lib_new) n
-      → Printed taken calls now new (fault_doing (fault.Read n)) code → Rose (faults lib_old) (faults lib_new) → (code ≡ 5 → Rose (sink_faults old) (sink_faults new))
+  pub untold_read : (lib_old lib lib_new : L) (old now new : S) (n : List ℕ) (code : ℕ)
+      → Shown asked_of taken calls lib_old lib old now → GrowsSome (asked_of lib) (asked_of lib_new)
+      → GrowsLast (asked_of lib) (asked_of lib_new) n
+      → Printed taken calls now new (fault_doing (fault.Read n)) code → Rose (faults lib_old) (faults lib_new)
+      → (code ≡ 5 → Rose (sink_faults old) (sink_faults new))
       → IsUntold faults asked_of sink_faults taken calls lib_old lib_new old new code
   untold_read lib_old lib lib_new old now new n code shown grows last printed rose write = record {
     answers = inr (fault_behind taken calls old now new shown.texts code shown.takes (fault_answers taken calls now new (fault.Read n) code printed));
@@ -550,7 +616,8 @@ module _ {L S : Type 0} (faults : L → ℕ) (asked_of : L → Option (List (Lis
     write = write;
   }
 
-  pub untold_short : (lib_old lib lib_new : L) (old now : S) → Shown asked_of taken calls lib_old lib old now → GrowsSome (asked_of lib) (asked_of lib_new)
+  pub untold_short : (lib_old lib lib_new : L) (old now : S) → Shown asked_of taken calls lib_old lib old now
+      → GrowsSome (asked_of lib) (asked_of lib_new)
       → IsUntold faults asked_of sink_faults taken calls lib_old lib_new old now 1
   untold_short lib_old lib lib_new old now shown grows = record {
     answers = inr (inl (inl refl));
@@ -566,7 +633,9 @@ module _ {L S : Type 0} (faults : L → ℕ) (asked_of : L → Option (List (Lis
   untold_first lib out = untold_short lib lib lib out out (shown_nothing lib out) (grows_none (asked_of lib))
 
   -- done to its end with these last texts, or cut short
-  pub untold_last : (lib : L) (old new : S) (last : List Call) (code : ℕ) → Printed taken calls old new (record { calls = last; end = None }) code → (code ≡ 5 → Rose (sink_faults old) (sink_faults new))
+  pub untold_last : (lib : L) (old new : S) (last : List Call) (code : ℕ)
+      → Printed taken calls old new (record { calls = last; end = None }) code
+      → (code ≡ 5 → Rose (sink_faults old) (sink_faults new))
       → IsUntold faults asked_of sink_faults taken calls lib lib old new code
   untold_last lib old new last code p write = elim p.done [
     | inl all ↦ record {
@@ -588,7 +657,8 @@ module _ {L S : Type 0} (faults : L → ℕ) (asked_of : L → Option (List (Lis
   ]
 
   -- and behind the last command of a command line that does nothing there
-  pub finishes_last : (style : Style) (good : Settle → Type 0) (lib : L) (old new : S) (begun : Bool) (code : ℕ) → Printed taken calls old new (record { calls = last_calls style begun [] None; end = None }) code
+  pub finishes_last : (style : Style) (good : Settle → Type 0) (lib : L) (old new : S) (begun : Bool) (code : ℕ)
+      → Printed taken calls old new (record { calls = last_calls style begun [] None; end = None }) code
       → Finishes style good (λ h. h ≡ finishes []) faults asked_of taken calls lib lib old new begun code
   finishes_last style good lib old new begun code p = record {
     history = finishes [];
@@ -615,8 +685,10 @@ module _ {L S : Type 0} (faults : L → ℕ) (asked_of : L → Option (List (Lis
     write = λ e. absurd (omega (arith, e));
   }
 
-  pub untold_finished : (lib_old lib mid lib_new : L) (old now new : S) (code : ℕ) → Shown asked_of taken calls lib_old lib old now → GrowsSome (asked_of lib) (asked_of mid)
-      → faults lib_old ≤ faults mid → sink_faults old ≤ sink_faults now → IsUntold faults asked_of sink_faults taken calls mid lib_new now new code
+  pub untold_finished : (lib_old lib mid lib_new : L) (old now new : S) (code : ℕ)
+      → Shown asked_of taken calls lib_old lib old now → GrowsSome (asked_of lib) (asked_of mid)
+      → faults lib_old ≤ faults mid → sink_faults old ≤ sink_faults now
+      → IsUntold faults asked_of sink_faults taken calls mid lib_new now new code
       → IsUntold faults asked_of sink_faults taken calls lib_old lib_new old new code
   untold_finished lib_old lib mid lib_new old now new code shown grows later sink u =
       let some = grows_then (asked_of lib_old) (asked_of lib) (asked_of mid) shown.grows grows in
@@ -629,7 +701,8 @@ module _ {L S : Type 0} (faults : L → ℕ) (asked_of : L → Option (List (Lis
         write = λ five. rose_since (sink_faults old) (sink_faults now) (sink_faults new) sink (u.write five);
       }
     where
-      last_behind : EndsAtRead asked_of mid lib_new taken calls now new → EndsAtRead asked_of lib_old lib_new taken calls old new
+      last_behind : EndsAtRead asked_of mid lib_new taken calls now new
+          → EndsAtRead asked_of lib_old lib_new taken calls old new
       last_behind e =
           let all = grows_then (asked_of lib_old) (asked_of lib) (asked_of mid) shown.grows grows in
           record {
@@ -644,15 +717,19 @@ module _ {L S : Type 0} (faults : L → ℕ) (asked_of : L → Option (List (Lis
 
 -- ---- the status of a run
 
-module _ {L S : Type 0} (faults : L → ℕ) (asked_of : L → Option (List (List ℕ))) (taken : S → Option (List ℕ)) (calls : S → Option ℕ) where
+module _ {L S : Type 0} (faults : L → ℕ) (asked_of : L → Option (List (List ℕ))) (taken : S → Option (List ℕ))
+    (calls : S → Option ℕ) where
   pub run_due : (is_history : History → Type 0) (style : Style) (good : Settle → Type 0) (lib_old lib_new : L) (old new : S) (code : ℕ) (one : ExactlyOne is_history)
-      → Runs faults asked_of taken calls lib_old lib_new old new is_history style good code → IsDue one.some.end code (faults lib_old) (faults lib_new)
+      → Runs faults asked_of taken calls lib_old lib_new old new is_history style good code
+      → IsDue one.some.end code (faults lib_old) (faults lib_new)
   run_due is_history style good lib_old lib_new old new code one runs = due_of faults asked_of taken calls is_history style good lib_old lib_new old new code one runs
 
 -- ---- a fault alone
 
-module _ {L S : Type 0} (faults : L → ℕ) (asked_of : L → Option (List (List ℕ))) (taken : S → Option (List ℕ)) (calls : S → Option ℕ) where
-  pub fault_alone : (style : Style) (good : Settle → Type 0) (lib : L) (old new : S) (f : Fault) (code : ℕ) → Printed taken calls old new (fault_doing f) code
+module _ {L S : Type 0} (faults : L → ℕ) (asked_of : L → Option (List (List ℕ))) (taken : S → Option (List ℕ))
+    (calls : S → Option ℕ) where
+  pub fault_alone : (style : Style) (good : Settle → Type 0) (lib : L) (old new : S) (f : Fault) (code : ℕ)
+      → Printed taken calls old new (fault_doing f) code
       → Runs faults asked_of taken calls lib lib old new (λ h. h ≡ ended [] f) style good code
   fault_alone style good lib old new f code p = record {
     history = ended [] f;
@@ -672,7 +749,8 @@ module _ {L S : Type 0} (faults : L → ℕ) (asked_of : L → Option (List (Lis
 -- ---- exactly one
 
 -- there is exactly one history, where each command comes to exactly one thing and so does the end
-pub exactly_one_history : {S : Type 0} (is_step : Command → S → Step S → Type 0) (last_name : S → Option (List ℕ)) (is_last : S → Option (List ℕ) → History → Type 0) → HistoryLaw is_step last_name is_last
+pub exactly_one_history : {S : Type 0} (is_step : Command → S → Step S → Type 0) (last_name : S → Option (List ℕ)) (is_last : S → Option (List ℕ) → History → Type 0)
+    → HistoryLaw is_step last_name is_last
 exactly_one_history is_step last_name is_last = one_history is_step last_name is_last
 
 pub exactly_this : {X : Type 0} (x : X) → ExactlyOne (λ (y : X). y ≡ x)

@@ -29,7 +29,8 @@ use Rattle.fd_outcome.proofs.Ways.{body_reads, sees_nothing}
 -- ---- what a session gives
 
 module _ (law : SaidLaw) (files : Files) where
-  asked_first : (script rest : Script) (old new : Option (List (List ℕ))) → after_names script ≡ rest → Becomes old new (λ ns. ns ++ map bytes (names_first script)) → Asked (said_in script) (said_in rest) old new
+  asked_first : (script rest : Script) (old new : Option (List (List ℕ))) → after_names script ≡ rest
+      → Becomes old new (λ ns. ns ++ map bytes (names_first script)) → Asked (said_in script) (said_in rest) old new
   asked_first script rest old new e grown = record {
     names = names_first script;
     left_is = law.names script ∙ ap (λ r. map name (names_first script) ++ said_in r) e;
@@ -40,7 +41,8 @@ module _ (law : SaidLaw) (files : Files) where
   end_first script rest e = sym (law.after script) ∙ ap end_in e
 
   pub gives_next : (script : Script) (state : State) (old new : Option (List (List ℕ))) (result : Result (Option Command) SessionFault)
-      → Tells files (after_names script) state result → Asks old new (names_first script) result → Gives (said_in script) (end_in script) (said_in (remaining files state)) (end_in (remaining files state)) old new result
+      → Tells files (after_names script) state result → Asks old new (names_first script) result
+      → Gives (said_in script) (end_in script) (said_in (remaining files state)) (end_in (remaining files state)) old new result
   gives_next script state old new (Ok (Some c)) tells asks = (asked_first script _ old new tells asks, sym (end_first script _ tells))
   gives_next script state old new (Ok None) tells asks = (asked_first script _ old new tells.0 asks, end_first script _ tells.0)
   gives_next script state old new (Err (session.Script place c)) tells asks = (asked_first script _ old new tells asks, end_first script _ tells)
@@ -81,13 +83,15 @@ module _ {S : Type 0} (taken : S → Option (List ℕ)) (calls : S → Option �
     writes_are = becomes_same (calls out) _ (λ n. omega arith);
   }
 
-  pub takes_wrote : (old new : S) (made : List Call) → Wrote taken calls old new (whole made) → Takes taken calls old new (texts_written made)
+  pub takes_wrote : (old new : S) (made : List Call) → Wrote taken calls old new (whole made)
+      → Takes taken calls old new (texts_written made)
   takes_wrote old new made w = record {
     bytes = becomes_as (taken old) (taken new) _ _ (λ bs. ap (λ l. bs ++ l) (append-nil (concat (texts_written made)))) w.bytes_are;
     writes = becomes_as (calls old) (calls new) _ _ (λ n. omega arith) w.writes_are;
   }
 
-pub sees_none : {L S : Type 0} (asked_of : L → Option (List (List ℕ))) (taken : S → Option (List ℕ)) (calls : S → Option ℕ) (lib : L) (out : S) → Sees asked_of taken calls lib lib out out (whole [])
+pub sees_none : {L S : Type 0} (asked_of : L → Option (List (List ℕ))) (taken : S → Option (List ℕ)) (calls : S → Option ℕ) (lib : L) (out : S)
+    → Sees asked_of taken calls lib lib out out (whole [])
 sees_none asked_of taken calls lib out = sees_nothing asked_of taken calls lib out
 
 -- ---- whether a text was written
@@ -102,12 +106,14 @@ has_text-append (reads n ∷ a) b = has_text-append a b
 has_text-append (writes text ∷ a) b = refl
 
 -- events behind others
-pub behind-append : (style : Style) (t : Bool) (a b : List Event) → behind style t (a ++ b) ≡ behind style t a ++ behind style (t || has_text (body style a)) b
+pub behind-append : (style : Style) (t : Bool) (a b : List Event)
+    → behind style t (a ++ b) ≡ behind style t a ++ behind style (t || has_text (body style a)) b
 behind-append style true a b = body-append style a b
 behind-append style false a b = append_is style a b
 
 -- whether a text was written, with one event more
-pub text_behind : (style : Style) (t : Bool) (a b : List Event) → ((t || has_text (body style a)) || has_text (body style b)) ≡ (t || has_text (body style (a ++ b)))
+pub text_behind : (style : Style) (t : Bool) (a b : List Event)
+    → ((t || has_text (body style a)) || has_text (body style b)) ≡ (t || has_text (body style (a ++ b)))
 text_behind style true a b = refl
 text_behind style false a b = sym (has_text-append (body style a) (body style b)) ∙ ap has_text (sym (body-append style a b))
 
@@ -119,7 +125,8 @@ no_text : (names : List (List ℕ)) → has_text (map reads names) ≡ false
 no_text [] = refl
 no_text (n ∷ names) = no_text names
 
-pub still : (style : Style) → AsksNames style → (events : List Event) (names : List (List ℕ)) → has_text (body style (events ++ map asked names)) ≡ has_text (body style events)
+pub still : (style : Style) → AsksNames style → (events : List Event) (names : List (List ℕ))
+    → has_text (body style (events ++ map asked names)) ≡ has_text (body style events)
 still style fits events names =
     ap has_text (body-append style events (map asked names))
     ∙ has_text-append (body style events) (body style (map asked names))
@@ -131,7 +138,8 @@ still style fits events names =
 abbrev pub called_all : List Call → Doing → Doing
 called_all a d = record { calls = a ++ d.calls; end = d.end }
 
-read_behind : (a : List Call) (n k : ℕ) (rest : List Call) (end : Option Fault) → k ≡ length (names_read a) + n → read_failing k (a ++ rest) end ≡ called_all a (read_failing n rest end)
+read_behind : (a : List Call) (n k : ℕ) (rest : List Call) (end : Option Fault) → k ≡ length (names_read a) + n
+    → read_failing k (a ++ rest) end ≡ called_all a (read_failing n rest end)
 read_behind [] n k rest end e = ap (λ (j : ℕ). read_failing j rest end) (let f : k ≡ n = omega (arith, e) in f)
 read_behind (writes text ∷ a) n k rest end e = ap (called_first (writes text)) (read_behind a n k rest end e)
 read_behind (reads m ∷ a) n zero rest end e = absurd (omega (arith, e))
@@ -149,6 +157,7 @@ failing_behind a (Some n) rest end = read_behind a n (length (names_read a) + n)
 pub rose_since : (first mid now : ℕ) → first ≤ mid → Rose mid now → Rose first now
 rose_since first mid now le rose = omega (arith, le, rose)
 
-pub cause_after : (first mid now : ℕ) (names : List (List ℕ)) (fails : Option ℕ) → first ≤ mid → HasReadCause mid now fails → HasReadCause first now (reads_after names fails)
+pub cause_after : (first mid now : ℕ) (names : List (List ℕ)) (fails : Option ℕ) → first ≤ mid
+    → HasReadCause mid now fails → HasReadCause first now (reads_after names fails)
 cause_after first mid now names None le cause = inl refl
 cause_after first mid now names (Some n) le cause = elim cause [ inl none ↦ absurd (let e : Some n ≡ None = none in cc e) | inr rose ↦ inr (rose_since first mid now le rose) ]

@@ -40,11 +40,13 @@ one_after events rest o = record {
   only = λ h a. a.h_is ∙ ap (before events) (o.only a.more a.right);
 }
 
-one_step : {S : Type 0} (step : Step S) (rest : S → History → Type 0) → ((s : S) → ExactlyOne (rest s)) → ExactlyOne (AfterStep step rest)
+one_step : {S : Type 0} (step : Step S) (rest : S → History → Type 0) → ((s : S) → ExactlyOne (rest s))
+    → ExactlyOne (AfterStep step rest)
 one_step (goes events s) rest o = one_after events (λ more. rest s more) (o s)
 one_step (ends events fault) rest o = one_value (ended events fault)
 
-one_command : {S : Type 0} (is_step : Step S → Type 0) (rest : S → History → Type 0) → ExactlyOne is_step → ((s : S) → ExactlyOne (rest s)) → ExactlyOne (AfterCommand is_step rest)
+one_command : {S : Type 0} (is_step : Step S → Type 0) (rest : S → History → Type 0) → ExactlyOne is_step
+    → ((s : S) → ExactlyOne (rest s)) → ExactlyOne (AfterCommand is_step rest)
 one_command is_step rest step o =
     let then = one_step step.some rest o in
     record {
@@ -53,7 +55,8 @@ one_command is_step rest step o =
       only = λ h a. then.only h (subst (λ (s : Step _). AfterStep s rest h) (step.only a.step a.right) a.goes_on);
     }
 
-module _ {S : Type 0} (is_step : Command → S → Step S → Type 0) (last_name : S → Option (List ℕ)) (is_last : S → Option (List ℕ) → History → Type 0) where
+module _ {S : Type 0} (is_step : Command → S → Step S → Type 0) (last_name : S → Option (List ℕ))
+    (is_last : S → Option (List ℕ) → History → Type 0) where
   module _ (steps : (c : Command) (s : S) → ExactlyOne (is_step c s)) (lasts : (s : S) (found : Option (List ℕ)) → ExactlyOne (is_last s found))
       (held : List ℕ → Option (List ℕ)) where
     one_last : (o : Option (List ℕ)) (s : S) → ExactlyOne (IsLast is_step last_name is_last held o s)
@@ -64,7 +67,8 @@ module _ {S : Type 0} (is_step : Command → S → Step S → Type 0) (last_name
     one_end at_its_end s = one_last (last_name s) s
     one_end (refused_at place c) s = one_value (ended [] (fault.Script place (cause.Script c)))
 
-    one_from : (said : List Said) (end : ScriptEnd) (s : S) → ExactlyOne (IsHistory is_step last_name is_last held said end s)
+    one_from : (said : List Said) (end : ScriptEnd) (s : S)
+        → ExactlyOne (IsHistory is_step last_name is_last held said end s)
     one_from [] end s = one_end end s
     one_from (name n ∷ more) end s = one_after (asked n ∷ []) (λ x. IsHistory is_step last_name is_last held more end s x) (one_from more end s)
     one_from (command c ∷ more) end s = one_command (λ step. is_step c s step) (λ t x. IsHistory is_step last_name is_last held more end t x) (steps c s) (λ t. one_from more end t)
@@ -75,7 +79,9 @@ module _ {S : Type 0} (is_step : Command → S → Step S → Type 0) (last_name
   -- ---- points
 
   module _ (held : List ℕ → Option (List ℕ)) where
-    joined : (p : Point S) (a b : List Event) (h : History) → IsFrom is_step last_name is_last held p (before a (before b h)) → IsFrom is_step last_name is_last held p (before (a ++ b) h)
+    joined : (p : Point S) (a b : List Event) (h : History)
+        → IsFrom is_step last_name is_last held p (before a (before b h))
+        → IsFrom is_step last_name is_last held p (before (a ++ b) h)
     joined p a b h is =
         subst (λ (events : List Event). let x : History = record { events = events; end = h.end } in IsFrom is_step last_name is_last held p x) (sym (append_assoc a b h.events)) is
 
@@ -85,12 +91,15 @@ module _ {S : Type 0} (is_step : Command → S → Step S → Type 0) (last_name
     pub stays : (p : Point S) → LeadsTo is_step last_name is_last held p [] p
     stays p h is = is
 
-    pub joins : (p q r : Point S) (a b : List Event) → LeadsTo is_step last_name is_last held p a q → LeadsTo is_step last_name is_last held q b r → LeadsTo is_step last_name is_last held p (a ++ b) r
+    pub joins : (p q r : Point S) (a b : List Event) → LeadsTo is_step last_name is_last held p a q
+        → LeadsTo is_step last_name is_last held q b r → LeadsTo is_step last_name is_last held p (a ++ b) r
     joins p q r a b pq qr h is = joined p a b h (pq (before b h) (qr h is))
 
-    pub asks_name : (n : List ℕ) (more : List Said) (end : ScriptEnd) (s : S) → LeadsTo is_step last_name is_last held (At (name n ∷ more) end s) (asked n ∷ []) (At more end s)
+    pub asks_name : (n : List ℕ) (more : List Said) (end : ScriptEnd) (s : S)
+        → LeadsTo is_step last_name is_last held (At (name n ∷ more) end s) (asked n ∷ []) (At more end s)
     asks_name n more end s h is = record { more = h; right = is; h_is = refl }
 
-    pub does_command : (c : Command) (more : List Said) (end : ScriptEnd) (s t : S) (events : List Event) → is_step c s (goes events t)
+    pub does_command : (c : Command) (more : List Said) (end : ScriptEnd) (s t : S) (events : List Event)
+        → is_step c s (goes events t)
         → LeadsTo is_step last_name is_last held (At (command c ∷ more) end s) events (At more end t)
     does_command c more end s t events step h is = record { step = goes events t; right = step; goes_on = record { more = h; right = is; h_is = refl } }

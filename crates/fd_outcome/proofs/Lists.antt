@@ -10,12 +10,14 @@ use Rattle.fd_outcome.specs.Behind.{has_text, behind, opened_unless}
 
 -- ---- what opens the texts
 
-pub opened-append : (first : List (List ℕ)) (a b : List Call) → opened first (a ++ b) ≡ opened first a ++ opened_unless (has_text a) first b
+pub opened-append : (first : List (List ℕ)) (a b : List Call)
+    → opened first (a ++ b) ≡ opened first a ++ opened_unless (has_text a) first b
 opened-append first [] b = refl
 opened-append first (reads name ∷ a) b = ap (λ (l : List Call). reads name ∷ l) (opened-append first a b)
 opened-append first (writes text ∷ a) b = sym (append_assoc (map writes first) (writes text ∷ a) b)
 
-pub opened_behind : (style : Style) (t : Bool) (b : List Event) → opened_unless t style.opening (body style b) ≡ behind style t b
+pub opened_behind : (style : Style) (t : Bool) (b : List Event)
+    → opened_unless t style.opening (body style b) ≡ behind style t b
 opened_behind style true b = refl
 opened_behind style false b = refl
 
@@ -55,7 +57,8 @@ names_of_event style e =
     ∙ append-nil (names_read (map reads (style.asked_in e)))
     ∙ names_of_reads (style.asked_in e)
 
-pub names_of_body : (style : Style) (events : List Event) → names_read (body style events) ≡ map bytes (flat_map (λ e. style.asked_in e) events)
+pub names_of_body : (style : Style) (events : List Event)
+    → names_read (body style events) ≡ map bytes (flat_map (λ e. style.asked_in e) events)
 names_of_body style [] = refl
 names_of_body style (e ∷ events) =
     names-append (calls_in style e) (body style events)

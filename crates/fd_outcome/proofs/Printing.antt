@@ -22,13 +22,15 @@ use Rattle.fd_outcome.proofs.Lists.{opened-append, opened_behind, body-append, n
 
 -- ---- events that follow others
 
-pub append_is : (style : Style) (a b : List Event) → so_far style (a ++ b) ≡ so_far style a ++ behind style (has_text (body style a)) b
+pub append_is : (style : Style) (a b : List Event)
+    → so_far style (a ++ b) ≡ so_far style a ++ behind style (has_text (body style a)) b
 append_is style a b =
     ap (opened (style.opening)) (body-append style a b)
     ∙ opened-append (style.opening) (body style a) (body style b)
     ∙ ap (λ l. so_far style a ++ l) (opened_behind style (has_text (body style a)) b)
 
-front_by : (style : Style) (a events : List Event) (end : Option Fault) → (rest : List Call) × (calls_of style (a ++ events) end ≡ so_far style a ++ rest)
+front_by : (style : Style) (a events : List Event) (end : Option Fault)
+    → (rest : List Call) × (calls_of style (a ++ events) end ≡ so_far style a ++ rest)
 front_by style a events None =
     let last = map writes (style.closing) in (
       opened_unless (has_text (body style a)) (style.opening) (body style events ++ last),
@@ -41,12 +43,14 @@ front_by style a events (Some f) =
     let more = behind style (has_text (body style a)) events in
     (more ++ last, ap (λ l. l ++ last) (append_is style a events) ∙ append_assoc (so_far style a) more last)
 
-pub front_is : (style : Style) (a : List Event) (h : History) → (rest : List Call) × ((doing style (before a h)).calls ≡ so_far style a ++ rest)
+pub front_is : (style : Style) (a : List Event) (h : History)
+    → (rest : List Call) × ((doing style (before a h)).calls ≡ so_far style a ++ rest)
 front_is style a h = front_by style a h.events h.end
 
 -- ---- names
 
-names_by : (style : Style) (events : List Event) (end : Option Fault) → names_read (calls_of style events end) ≡ map bytes (flat_map (λ e. style.asked_in e) events)
+names_by : (style : Style) (events : List Event) (end : Option Fault)
+    → names_read (calls_of style events end) ≡ map bytes (flat_map (λ e. style.asked_in e) events)
 names_by style events None =
     let last = map writes style.closing in
     names_of_opened style.opening (body style events ++ last)
@@ -110,17 +114,20 @@ read_is n d = read_by n d.calls d.end
 whole_front : (xs ys : List (List ℕ)) → IsFront (xs ++ ys) (length xs + 0) (concat xs ++ [])
 whole_front xs ys = front_after xs ys 0 [] (front_none ys)
 
-torn_front : (xs : List (List ℕ)) (text : List ℕ) (ys : List (List ℕ)) (front : List ℕ) → Begins front text → IsFront (xs ++ text ∷ ys) (length xs + 1) (concat xs ++ front)
+torn_front : (xs : List (List ℕ)) (text : List ℕ) (ys : List (List ℕ)) (front : List ℕ) → Begins front text
+    → IsFront (xs ++ text ∷ ys) (length xs + 1) (concat xs ++ front)
 torn_front xs text ys front begins = front_after xs (text ∷ ys) 1 front (front_more (text ∷ []) ys 1 front (front_one text front begins))
 
 abbrev FrontAt : List (List ℕ) → List (List ℕ) → Option (List ℕ) → Type 0
 FrontAt texts xs torn = IsFront texts (length xs + torn_writes torn) (concat xs ++ torn_bytes torn)
 
-front_with : (texts xs ys : List (List ℕ)) (torn : Option (List ℕ)) → texts ≡ xs ++ ys → torn ≡ None → FrontAt texts xs torn
+front_with : (texts xs ys : List (List ℕ)) (torn : Option (List ℕ)) → texts ≡ xs ++ ys → torn ≡ None
+    → FrontAt texts xs torn
 front_with texts xs ys torn e none =
     subst (λ t. FrontAt texts xs t) (sym none) (subst (λ l. FrontAt l xs None) (sym e) (whole_front xs ys))
 
-rest_names : (d : Doing) (calls rest : List Call) → d.calls ≡ calls ++ rest → (more : List (List ℕ)) × (names_read d.calls ≡ names_read calls ++ more)
+rest_names : (d : Doing) (calls rest : List Call) → d.calls ≡ calls ++ rest
+    → (more : List (List ℕ)) × (names_read d.calls ≡ names_read calls ++ more)
 rest_names d calls rest e = (names_read rest, ap names_read e ∙ names-append calls rest)
 
 all_cut : (d : Doing) (status : ℕ) (m : Made) → IsAll d status m → IsCut d status m
@@ -167,7 +174,8 @@ cut_is d status m is = elim is [
 pub Answered : Option Fault → Option ℕ → ℕ → Type 0
 Answered end fails code = (code ≡ status_of end) ⊎ ((code ≡ want_of_memory) ⊎ ((code ≡ write_fault) ⊎ ((fails ≡ None → ⊥) × (code ≡ 4))))
 
-by_end : (style : Style) (h : History) (fails : Option ℕ) (code : ℕ) → code ≡ status_of (failing fails (doing style h)).end → Answered h.end fails code
+by_end : (style : Style) (h : History) (fails : Option ℕ) (code : ℕ)
+    → code ≡ status_of (failing fails (doing style h)).end → Answered h.end fails code
 unfolding Answered
 by_end style h None code e = inl e
 by_end style h (Some n) code e = elim (read_is n (doing style h)) [
@@ -175,7 +183,8 @@ by_end style h (Some n) code e = elim (read_is n (doing style h)) [
   | inr r ↦ inr (inr (inr (λ none. cc none, e ∙ ap status_of r.end_now)))
 ]
 
-pub answer_is : (style : Style) (h : History) (fails : Option ℕ) (code : ℕ) (m : Made) → IsDone (failing fails (doing style h)) code m → Answered h.end fails code
+pub answer_is : (style : Style) (h : History) (fails : Option ℕ) (code : ℕ) (m : Made)
+    → IsDone (failing fails (doing style h)) code m → Answered h.end fails code
 unfolding Answered
 answer_is style h fails code m is = elim is [
   | inl a ↦ by_end style h fails code a.status_is
@@ -196,7 +205,8 @@ rose before now fails cause fails_not = elim cause [
 DueAt : Option Fault → ℕ → ℕ → ℕ → Type 0
 DueAt end code before now = (code ≡ status_of end) ⊎ ((code ≡ want_of_memory) ⊎ ((code ≡ write_fault) ⊎ (Rose before now × (code ≡ 4))))
 
-due_at : (end : Option Fault) (fails : Option ℕ) (code before now : ℕ) → HasReadCause before now fails → Answered end fails code → DueAt end code before now
+due_at : (end : Option Fault) (fails : Option ℕ) (code before now : ℕ) → HasReadCause before now fails
+    → Answered end fails code → DueAt end code before now
 unfolding Answered DueAt
 due_at end fails code before now cause is = elim is [
   | inl a ↦ inl a
@@ -209,7 +219,8 @@ due_at end fails code before now cause is = elim is [
   ]
 ]
 
-completes : (end : Option Fault) (code before now : ℕ) → DueAt end code before now → (Rose before now → ⊥) → (code ≡ write_fault → ⊥) → (code ≡ status_of end) ⊎ (code ≡ want_of_memory)
+completes : (end : Option Fault) (code before now : ℕ) → DueAt end code before now → (Rose before now → ⊥)
+    → (code ≡ write_fault → ⊥) → (code ≡ status_of end) ⊎ (code ≡ want_of_memory)
 unfolding DueAt
 completes end code before now is not_read not_written = elim is [
   | inl a ↦ inl a
@@ -226,9 +237,11 @@ is_due : (end : Option Fault) (code before now : ℕ) → DueAt end code before 
 unfolding DueAt
 is_due end code before now at = record { is_due = at; complete = completes end code before now at }
 
-module _ {L S : Type 0} (faults : L → ℕ) (asked : L → Option (List (List ℕ))) (taken : S → Option (List ℕ)) (calls : S → Option ℕ) where
+module _ {L S : Type 0} (faults : L → ℕ) (asked : L → Option (List (List ℕ))) (taken : S → Option (List ℕ))
+    (calls : S → Option ℕ) where
   pub due_of : (is_history : History → Type 0) (style : Style) (good : Settle → Type 0) (lib_old lib_new : L) (old new : S) (code : ℕ) (one : ExactlyOne is_history)
-      → Runs faults asked taken calls lib_old lib_new old new is_history style good code → IsDue one.some.end code (faults lib_old) (faults lib_new)
+      → Runs faults asked taken calls lib_old lib_new old new is_history style good code
+      → IsDue one.some.end code (faults lib_old) (faults lib_new)
   due_of is_history style good lib_old lib_new old new code one runs =
       let same : runs.history ≡ one.some = one.only runs.history runs.right in
       let here = due_at runs.history.end runs.fails code (faults lib_old) (faults lib_new) runs.cause (answer_is style runs.history runs.fails code runs.made runs.done) in

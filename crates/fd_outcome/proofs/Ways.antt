@@ -38,7 +38,8 @@ bytes_join bs a b torn =
     ∙ append_assoc bs x (y ++ torn)
     ∙ ap (λ l. bs ++ l) (sym (append_assoc x y torn) ∙ ap (λ l. l ++ torn) (sym (ap concat (texts-append a b) ∙ concat-append (texts_written a) (texts_written b))))
 
-count_join : (n : ℕ) (a b : List Call) (k : ℕ) → n + (length (texts_written a) + 0) + (length (texts_written b) + k) ≡ n + (length (texts_written (a ++ b)) + k)
+count_join : (n : ℕ) (a b : List Call) (k : ℕ)
+    → n + (length (texts_written a) + 0) + (length (texts_written b) + k) ≡ n + (length (texts_written (a ++ b)) + k)
 count_join n a b k =
     let e : length (texts_written (a ++ b)) ≡ length (texts_written a) + length (texts_written b) = ap length (texts-append a b) ∙ length-append (texts_written a) (texts_written b) in
     omega (arith, e)
@@ -49,7 +50,8 @@ texts_of_reads (n ∷ names) = texts_of_reads names
 
 module _ {L S : Type 0} (asked : L → Option (List (List ℕ))) (taken : S → Option (List ℕ)) (calls : S → Option ℕ) where
   pub sees_then : (lib_old lib_mid lib_new : L) (old mid new : S) (a : List Call) (m : Made)
-      → Sees asked taken calls lib_old lib_mid old mid (whole a) → Sees asked taken calls lib_mid lib_new mid new m → Sees asked taken calls lib_old lib_new old new (made_after a m)
+      → Sees asked taken calls lib_old lib_mid old mid (whole a) → Sees asked taken calls lib_mid lib_new mid new m
+      → Sees asked taken calls lib_old lib_new old new (made_after a m)
   sees_then lib_old lib_mid lib_new old mid new a m first second = record {
     names = becomes_then (asked lib_old) (asked lib_mid) (asked lib_new) _ _ _ first.names second.names
         (λ ns. append_assoc ns (names_read a) (names_read m.calls) ∙ ap (λ l. ns ++ l) (sym (names-append a m.calls)));
@@ -64,14 +66,18 @@ module _ {L S : Type 0} (asked : L → Option (List (List ℕ))) (taken : S → 
     writes = becomes_same (calls out) _ (λ n. omega arith);
   }
 
-  pub sees_names : (lib lib_new : L) (out : S) (names : List (List ℕ)) → Becomes (asked lib) (asked lib_new) (λ before. before ++ map bytes names) → Sees asked taken calls lib lib_new out out (whole (map reads names))
+  pub sees_names : (lib lib_new : L) (out : S) (names : List (List ℕ))
+      → Becomes (asked lib) (asked lib_new) (λ before. before ++ map bytes names)
+      → Sees asked taken calls lib lib_new out out (whole (map reads names))
   sees_names lib lib_new out names grown = record {
     names = subst (λ (l : List (List ℕ)). Becomes (asked lib) (asked lib_new) (λ before. before ++ l)) (sym (names_of_reads names)) grown;
     bytes = becomes_same (taken out) _ (λ bs. sym (ap (λ l. bs ++ (concat l ++ [])) (texts_of_reads names) ∙ append-nil bs));
     writes = becomes_same (calls out) _ (λ n. let e : length (texts_written (map reads names)) ≡ 0 = ap length (texts_of_reads names) in omega (arith, e));
   }
 
-  pub sees_as : (lib_old lib_new : L) (old new : S) (a b : List Call) → a ≡ b → Sees asked taken calls lib_old lib_new old new (whole a) → Sees asked taken calls lib_old lib_new old new (whole b)
+  pub sees_as : (lib_old lib_new : L) (old new : S) (a b : List Call) → a ≡ b
+      → Sees asked taken calls lib_old lib_new old new (whole a)
+      → Sees asked taken calls lib_old lib_new old new (whole b)
   sees_as lib_old lib_new old new a b e = subst (λ (l : List Call). Sees asked taken calls lib_old lib_new old new (whole l)) e
 
 -- names alone are reads
@@ -84,11 +90,13 @@ event_reads style fits n =
     ap (λ l. map reads l ++ map writes (style.texts_in (asked n))) (fits.asks n)
     ∙ ap (λ l. map reads (n ∷ []) ++ map writes l) (fits.silent n)
 
-pub body_reads : (style : Style) → AsksNames style → (names : List (List ℕ)) → body style (map asked names) ≡ map reads names
+pub body_reads : (style : Style) → AsksNames style → (names : List (List ℕ))
+    → body style (map asked names) ≡ map reads names
 body_reads style h [] = refl
 body_reads style h (n ∷ names) = ap (λ l. l ++ body style (map asked names)) (event_reads style h n) ∙ ap (λ (l : List Call). reads n ∷ l) (body_reads style h names)
 
-pub reads_alone : (style : Style) → AsksNames style → (t : Bool) (names : List (List ℕ)) → behind style t (map asked names) ≡ map reads names
+pub reads_alone : (style : Style) → AsksNames style → (t : Bool) (names : List (List ℕ))
+    → behind style t (map asked names) ≡ map reads names
 reads_alone style h true names = body_reads style h names
 reads_alone style h false names = ap (opened style.opening) (body_reads style h names) ∙ reads_opened style.opening names
 
@@ -99,7 +107,8 @@ names_good good (n ∷ names) = All-cons (IfSettle good) (asked n) (map asked na
 
 -- ---- fronts of calls behind others
 
-pub front_after : (a rest : List Call) (status : ℕ) (m : Made) → IsFrontOf rest status m → IsFrontOf (a ++ rest) status (made_after a m)
+pub front_after : (a rest : List Call) (status : ℕ) (m : Made) → IsFrontOf rest status m
+    → IsFrontOf (a ++ rest) status (made_after a m)
 front_after a rest status m front = elim front [
   | inl x ↦ inl (record { rest = x.rest; calls = ap (λ l. a ++ l) x.calls ∙ sym (append_assoc a m.calls x.rest); torn = x.torn; status_is = x.status_is })
   | inr x ↦ inr (record {
@@ -114,7 +123,8 @@ front_after a rest status m front = elim front [
 ]
 
 pub done_after : (a rest : List Call) (all : List Call) (end : Option Fault) (status : ℕ) (m : Made) → all ≡ a ++ rest
-    → IsDone (record { calls = rest; end = end }) status m → IsDone (record { calls = all; end = end }) status (made_after a m)
+    → IsDone (record { calls = rest; end = end }) status m
+    → IsDone (record { calls = all; end = end }) status (made_after a m)
 done_after a rest all end status m e is = elim is [
   | inl x ↦ inl (record { calls = ap (λ l. a ++ l) x.calls ∙ sym e; torn = x.torn; status_is = x.status_is })
   | inr front ↦ inr (subst (λ l. IsFrontOf l status (made_after a m)) (sym e) (front_after a rest status m front))
@@ -138,8 +148,10 @@ module _ {T : Type 0} (is_step : Command → T → Step T → Type 0) (last_name
   abbrev pub At : List Said → ScriptEnd → T → Point T
   At left end s = record { left = left; end = end; state = s }
 
-  abbrev pub goes_on : (p q r : Point T) (lib_first lib lib_new : L) (out_first out out_new : S) (events : List Event) → (w : WayTo p lib_first out_first q lib out)
-      → LeadsTo is_step last_name is_last held q events r → AllSettles good events → Sees asked_of taken calls lib lib_new out out_new (whole (behind style (has_text (body style w.events)) events))
+  abbrev pub goes_on : (p q r : Point T) (lib_first lib lib_new : L) (out_first out out_new : S) (events : List Event)
+      → (w : WayTo p lib_first out_first q lib out)
+      → LeadsTo is_step last_name is_last held q events r → AllSettles good events
+      → Sees asked_of taken calls lib lib_new out out_new (whole (behind style (has_text (body style w.events)) events))
       → WayTo p lib_first out_first r lib_new out_new
   goes_on p q r lib_first lib lib_new out_first out out_new events w leads all sees = record {
     events = w.events ++ events;
@@ -151,10 +163,13 @@ module _ {T : Type 0} (is_step : Command → T → Step T → Type 0) (last_name
 
   -- Of the calls that are left from here, all are made or a front; and so of those of the events that were shown and an end.
   pub ended_at : (p q : Point T) (lib_first lib lib_new : L) (out_first out out_new : S) (h : History) (rest : List Call) (code : ℕ) (m : Made)
-      → (w : WayTo p lib_first out_first q lib out) → IsFrom is_step last_name is_last held q h → (doing style (before w.events h)).calls ≡ so_far style w.events ++ rest
+      → (w : WayTo p lib_first out_first q lib out) → IsFrom is_step last_name is_last held q h
+      → (doing style (before w.events h)).calls ≡ so_far style w.events ++ rest
       → IsDone (record { calls = rest; end = h.end }) code m
-      → (shown hidden : List Event) (end : Option Fault) (part : List Call) → h.events ≡ shown ++ hidden → AllSettles good shown
-      → calls_of style (w.events ++ shown) end ≡ so_far style w.events ++ part → IsDone (record { calls = part; end = end }) code m
+      → (shown hidden : List Event) (end : Option Fault) (part : List Call) → h.events ≡ shown ++ hidden
+      → AllSettles good shown
+      → calls_of style (w.events ++ shown) end ≡ so_far style w.events ++ part
+      → IsDone (record { calls = part; end = end }) code m
       → Sees asked_of taken calls lib lib_new out out_new m
       → Runs faults asked_of taken calls lib_first lib_new out_first out_new (IsFrom is_step last_name is_last held p) style good code
   ended_at p q lib_first lib lib_new out_first out out_new h rest code m w is rest_is done shown hidden end part events_are all part_is part_done sees = record {
@@ -183,7 +198,8 @@ module _ {T : Type 0} (is_step : Command → T → Step T → Type 0) (last_name
       (asks_name is_step last_name is_last held n (map name names ++ more) end s) (names_lead names more end s)
 
   -- where these events end with a name and its read fails, what was made of them is done
-  unread_done : (events : List Event) (b : List Call) (n : List ℕ) (h : History) (code : ℕ) (m : Made) → so_far style events ≡ b ++ reads n ∷ []
+  unread_done : (events : List Event) (b : List Call) (n : List ℕ) (h : History) (code : ℕ) (m : Made)
+      → so_far style events ≡ b ++ reads n ∷ []
       → IsDone (record { calls = b ++ reads n ∷ writes (fault_text (fault.Read n)) ∷ []; end = Some (fault.Read n) }) code m
       → IsDone (failing (Some (length (names_read b))) (doing style (before events h))) code m
   unread_done events b n h code m first at =
@@ -193,7 +209,9 @@ module _ {T : Type 0} (is_step : Command → T → Step T → Type 0) (last_name
       ap (λ (l : List Call). read_failing (length (names_read b)) l h.end) split ∙ fails_there b n f.0 h.end in
       subst (λ (d : Doing). IsDone d code m) (sym cut) at
 
-  pub ended_at_read : (p : Point T) (lib_first lib lib_new : L) (out_first out out_new : S) → AsksNames style → (names : List (List ℕ)) (n : List ℕ) (more : List Said) (end : ScriptEnd) (s : T) (h : History) (code : ℕ) (m : Made)
+  pub ended_at_read : (p : Point T) (lib_first lib lib_new : L) (out_first out out_new : S) → AsksNames style
+      → (names : List (List ℕ)) (n : List ℕ) (more : List Said) (end : ScriptEnd) (s : T) (h : History) (code : ℕ)
+      (m : Made)
       → WayTo p lib_first out_first (At (map name names ++ name n ∷ more) end s) lib out
       → IsFrom is_step last_name is_last held (At more end s) h → Rose (faults lib_first) (faults lib_new)
       → IsDone (record { calls = map reads names ++ reads n ∷ writes (fault_text (fault.Read n)) ∷ []; end = Some (fault.Read n) }) code m

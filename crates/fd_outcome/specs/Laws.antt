@@ -34,7 +34,8 @@ StatusLaw = (f : Fault) → IsFaultStatus (status f)
 -- ---- one history
 
 -- where each command comes to exactly one thing and each end too, there is exactly one history
-abbrev pub HistoryLaw : {S : Type 0} → (Command → S → Step S → Type 0) → (S → Option (List ℕ)) → (S → Option (List ℕ) → History → Type 0) → Type 0
+abbrev pub HistoryLaw : {S : Type 0} → (Command → S → Step S → Type 0) → (S → Option (List ℕ))
+    → (S → Option (List ℕ) → History → Type 0) → Type 0
 HistoryLaw {S} is_step last_name is_last =
     ((c : Command) (s : S) → ExactlyOne (is_step c s)) → ((s : S) (found : Option (List ℕ)) → ExactlyOne (is_last s found)) →
     (held : List ℕ → Option (List ℕ)) (said : List Said) (end : ScriptEnd) (s : S) → ExactlyOne (IsHistory is_step last_name is_last held said end s)

@@ -19,19 +19,22 @@ use Rattle.fd_outcome.specs.Behind.{behind, has_text, last_calls}
 -- ---- a sink
 
 -- the sink has taken what is made, in which nothing is asked
-pub record Wrote {S : Type 0} (taken : S → Option (List ℕ)) (calls : S → Option ℕ) (old new : S) (m : Made) : Type 0 where
+pub record Wrote {S : Type 0} (taken : S → Option (List ℕ)) (calls : S → Option ℕ) (old new : S)
+    (m : Made) : Type 0 where
   pub names : names_read m.calls ≡ []
   pub bytes_are : Becomes (taken old) (taken new) (λ bs. bs ++ (concat (texts_written m.calls) ++ torn_bytes m.torn))
   pub writes_are : Becomes (calls old) (calls new) (λ n. n + (length (texts_written m.calls) + torn_writes m.torn))
 
 -- all of it or a front is made, and the sink has taken that
-pub record Printed {S : Type 0} (taken : S → Option (List ℕ)) (calls : S → Option ℕ) (old new : S) (d : Doing) (code : ℕ) : Type 0 where
+pub record Printed {S : Type 0} (taken : S → Option (List ℕ)) (calls : S → Option ℕ) (old new : S) (d : Doing)
+    (code : ℕ) : Type 0 where
   pub made : Made
   pub done : IsDone d code made
   pub wrote : Wrote taken calls old new made
 
 -- a front of these calls is made, and the sink has taken that
-pub record IsCutIn {S : Type 0} (taken : S → Option (List ℕ)) (calls : S → Option ℕ) (old new : S) (all : List Call) (code : ℕ) : Type 0 where
+pub record IsCutIn {S : Type 0} (taken : S → Option (List ℕ)) (calls : S → Option ℕ) (old new : S) (all : List Call)
+    (code : ℕ) : Type 0 where
   pub made : Made
   pub front : IsFrontOf all code made
   pub wrote : Wrote taken calls old new made
@@ -61,7 +64,8 @@ pub record IsCutShort (left : List Said) (old new : Option (List (List ℕ))) : 
   pub rest : List Said
   pub asked : Asked left rest old new
 
-abbrev pub Gives : List Said → ScriptEnd → List Said → ScriptEnd → Option (List (List ℕ)) → Option (List (List ℕ)) → Result (Option Command) SessionFault → Type 0
+abbrev pub Gives : List Said → ScriptEnd → List Said → ScriptEnd → Option (List (List ℕ)) → Option (List (List ℕ))
+    → Result (Option Command) SessionFault → Type 0
 Gives left end rest last old new (Ok (Some c)) = Asked left (command c ∷ rest) old new × (last ≡ end)
 Gives left end rest last old new (Ok None) = Asked left [] old new × (end ≡ at_its_end)
 Gives left end rest last old new (Err (session.Script place c)) = Asked left [] old new × (end ≡ refused_at place c)

@@ -8,7 +8,8 @@ use Rattle.fd_outcome.specs.Done.{failing, Made, IsDone, Sees, HasReadCause}
 
 -- The run came so far in its history: what was made is done of these first events and an end, and each of their settles
 -- is good. So a settle of which a record was handed over is good.
-pub record Reached (style : Style) (good : Settle → Type 0) (history : History) (fails : Option ℕ) (code : ℕ) (made : Made) : Type 0 where
+pub record Reached (style : Style) (good : Settle → Type 0) (history : History) (fails : Option ℕ) (code : ℕ)
+    (made : Made) : Type 0 where
   pub front : List Event
   pub rest : List Event
   pub events_are : history.events ≡ front ++ rest

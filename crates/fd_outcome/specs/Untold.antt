@@ -15,7 +15,8 @@ abbrev pub CutsShort : ℕ → Type 0
 CutsShort code = (code ≡ want_of_memory) ⊎ (code ≡ write_fault)
 
 -- the status is a fault's, and its record is the last text that was taken
-pub record EndsAtFault {S : Type 0} (taken : S → Option (List ℕ)) (calls : S → Option ℕ) (old new : S) (code : ℕ) : Type 0 where
+pub record EndsAtFault {S : Type 0} (taken : S → Option (List ℕ)) (calls : S → Option ℕ) (old new : S)
+    (code : ℕ) : Type 0 where
   pub which : Fault
   pub code_is : code ≡ status which
   pub texts : List (List ℕ)

@@ -17,7 +17,8 @@ module _ {T : Type 0} (is_step : Command → T → Step T → Type 0) (last_name
   -- These events lead from the first point to where the run stands: whatever follows here, it is the history of the
   -- rest behind them. The outside has seen them whole: each name was asked and each text written, in order, and nothing
   -- else. And their settles are good.
-  pub record Way (first : Point T) (lib_first : L) (out_first : S) (now : Point T) (lib_now : L) (out_now : S) : Type 0 where
+  pub record Way (first : Point T) (lib_first : L) (out_first : S) (now : Point T) (lib_now : L)
+      (out_now : S) : Type 0 where
     pub events : List Event
     pub leads : LeadsTo is_step last_name is_last held first events now
     pub seen : Sees asked taken calls lib_first lib_now out_first out_now (whole (so_far style events))

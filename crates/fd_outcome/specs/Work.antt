@@ -26,7 +26,8 @@ AfterStep (goes events s) rest h = After events (λ more. rest s more) h
 AfterStep (ends events fault) rest h = h ≡ ended events fault
 
 -- a history that begins with what a command comes to
-pub record AfterCommand {S : Type 0} (is_step : Step S → Type 0) (rest : S → History → Type 0) (h : History) : Type 0 where
+pub record AfterCommand {S : Type 0} (is_step : Step S → Type 0) (rest : S → History → Type 0)
+    (h : History) : Type 0 where
   pub step : Step S
   pub right : is_step step
   pub goes_on : AfterStep step rest h

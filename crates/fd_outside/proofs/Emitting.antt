@@ -15,24 +15,30 @@ pub handed_on : {T : Type 0} (r : Result T SinkFault) (e : SinkFault) → IsErrA
 handed_on (Ok x) e is = absurd is
 handed_on (Err x) e is = ap Err (sym is)
 
-next_piece_suc : (records : List Record) (i : ℕ) (d : Record) → i < length records → pieces_of (take (suc i) records) ≡ pieces_of (take i records) ++ (get_or records i d).bytes ∷ []
+next_piece_suc : (records : List Record) (i : ℕ) (d : Record) → i < length records
+    → pieces_of (take (suc i) records) ≡ pieces_of (take i records) ++ (get_or records i d).bytes ∷ []
 next_piece_suc [] i d lt = absurd (omega arith)
 next_piece_suc (r ∷ rs) zero d lt = refl
 next_piece_suc (r ∷ rs) (suc i) d lt = ap (λ l. r.bytes ∷ l) (next_piece_suc rs i d (omega arith))
 
 -- the pieces after one more record
-pub next_piece : (records : List Record) (i : ℕ) (r : Record) (bytes : List ℕ) → i < length records → r ≡ get_or records i r → bytes ≡ r.bytes → pieces_of (take (i + 1) records) ≡ pieces_of (take i records) ++ bytes ∷ []
+pub next_piece : (records : List Record) (i : ℕ) (r : Record) (bytes : List ℕ) → i < length records
+    → r ≡ get_or records i r → bytes ≡ r.bytes
+    → pieces_of (take (i + 1) records) ≡ pieces_of (take i records) ++ bytes ∷ []
 next_piece records i r bytes lt is same =
     let one : i + 1 ≡ suc i = add-one i in
     ap (λ k. pieces_of (take k records)) one ∙ next_piece_suc records i r lt ∙ ap (λ x. pieces_of (take i records) ++ x ∷ []) (ap (λ (x : Record). x.bytes) (sym is) ∙ sym same)
 
-pub rest_of_pieces : (records : List Record) (i : ℕ) → pieces_of (take i records) ++ pieces_of (drop i records) ≡ pieces_of records
+pub rest_of_pieces : (records : List Record) (i : ℕ)
+    → pieces_of (take i records) ++ pieces_of (drop i records) ≡ pieces_of records
 rest_of_pieces records i = sym (map-append (λ r. r.bytes) (take i records) (drop i records)) ∙ ap pieces_of (take-append-drop i records)
 
 module _ {S : Type 0} (taken : S → Option (List ℕ)) (calls : S → Option ℕ) where
   -- pieces that were taken whole, and then a write that took less than its piece
-  pub stops : (old mid new : S) (whole rest : List (List ℕ)) (piece : List ℕ) (e : SinkFault) → Takes taken calls old mid whole
-      → WritesPiece (taken mid) (taken new) piece (Err e) → Becomes (calls mid) (calls new) (λ n. calls_after n (Err e)) → Emits taken calls old new (whole ++ piece ∷ rest) (Err e)
+  pub stops : (old mid new : S) (whole rest : List (List ℕ)) (piece : List ℕ) (e : SinkFault)
+      → Takes taken calls old mid whole
+      → WritesPiece (taken mid) (taken new) piece (Err e) → Becomes (calls mid) (calls new) (λ n. calls_after n (Err e))
+      → Emits taken calls old new (whole ++ piece ∷ rest) (Err e)
   stops old mid new whole rest piece fault.Failed takes bytes count = record {
     whole = whole;
     piece = piece;
@@ -54,7 +60,8 @@ module _ {S : Type 0} (taken : S → Option (List ℕ)) (calls : S → Option �
   }
 
   -- some of the pieces were taken
-  pub some_taken : (old new : S) (pieces : List (List ℕ)) (r : Result Unit SinkFault) → Emits taken calls old new pieces r → OnErr r (TakesFront taken calls old new pieces)
+  pub some_taken : (old new : S) (pieces : List (List ℕ)) (r : Result Unit SinkFault)
+      → Emits taken calls old new pieces r → OnErr r (TakesFront taken calls old new pieces)
   some_taken old new pieces (Ok x) h = tt
   some_taken old new pieces (Err fault.Failed) h = front_of_torn taken calls old new pieces h
   some_taken old new pieces (Err fault.NoMemory) h = front_of_short taken calls old new pieces h

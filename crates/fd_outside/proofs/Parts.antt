@@ -26,28 +26,32 @@ kept (Some xs) (Some ys) h = ap Some h
 pub nothing_written : (old : Option (List ℕ)) (bytes : List ℕ) → HasWritten old old bytes bytes
 nothing_written old bytes = record { front = []; parts = refl; told = becomes_same old _ (λ bs. sym (append-nil bs)) }
 
-pub written_more : (old mid now : Option (List ℕ)) (bytes rest : List ℕ) (n : ℕ) → HasWritten old mid bytes rest → Appends mid now (take n rest) → HasWritten old now bytes (drop n rest)
+pub written_more : (old mid now : Option (List ℕ)) (bytes rest : List ℕ) (n : ℕ) → HasWritten old mid bytes rest
+    → Appends mid now (take n rest) → HasWritten old now bytes (drop n rest)
 written_more old mid now bytes rest n so_far more = record {
   front = so_far.front ++ take n rest;
   parts = so_far.parts ∙ ap (λ l. so_far.front ++ l) (sym (take-append-drop n rest)) ∙ sym (append_assoc so_far.front (take n rest) (drop n rest));
   told = becomes_then old mid now _ _ _ so_far.told (appended mid now (take n rest) more) (λ bs. append_assoc bs so_far.front (take n rest));
 }
 
-pub written_same : (old mid now : Option (List ℕ)) (bytes rest : List ℕ) → HasWritten old mid bytes rest → Keeps mid now → HasWritten old now bytes rest
+pub written_same : (old mid now : Option (List ℕ)) (bytes rest : List ℕ) → HasWritten old mid bytes rest → Keeps mid now
+    → HasWritten old now bytes rest
 written_same old mid now bytes rest so_far same = record {
   front = so_far.front;
   parts = so_far.parts;
   told = becomes_then old mid now _ _ _ so_far.told (kept mid now same) (λ bs. refl);
 }
 
-pub all_written : (old now : Option (List ℕ)) (bytes rest : List ℕ) → HasWritten old now bytes rest → length rest ≡ 0 → Becomes old now (λ bs. bs ++ bytes)
+pub all_written : (old now : Option (List ℕ)) (bytes rest : List ℕ) → HasWritten old now bytes rest → length rest ≡ 0
+    → Becomes old now (λ bs. bs ++ bytes)
 all_written old now bytes [] so_far none =
     let whole : so_far.front ≡ bytes = sym (append-nil so_far.front) ∙ sym so_far.parts in
     let P : List ℕ → Type 0 = λ l. Becomes old now (λ bs. bs ++ l) in
     subst P whole so_far.told
 all_written old now bytes (x ∷ rest) so_far none = absurd (omega (arith, none))
 
-pub part_written : (old now : Option (List ℕ)) (bytes rest : List ℕ) → HasWritten old now bytes rest → 0 < length rest → (front : List ℕ) × IsCut front bytes × Becomes old now (λ bs. bs ++ front)
+pub part_written : (old now : Option (List ℕ)) (bytes rest : List ℕ) → HasWritten old now bytes rest → 0 < length rest
+    → (front : List ℕ) × IsCut front bytes × Becomes old now (λ bs. bs ++ front)
 part_written old now bytes rest so_far some =
     let size : length bytes ≡ length so_far.front + length rest = ap length so_far.parts ∙ length-append so_far.front rest in
     (so_far.front, record { begins = (rest, so_far.parts); shorter = omega (arith, size, some) }, so_far.told)

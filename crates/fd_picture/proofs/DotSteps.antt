@@ -24,7 +24,8 @@ before_ends c cs e = rw e refl
 behind_ends : (c : ℕ) (cs : List ℕ) → (c == 46) ≡ true → behind_dot (c ∷ cs) ≡ cs
 behind_ends c cs e = rw e refl
 
-pub dot_later : (name : List ℕ) (i : ℕ) → i < length name → (get_or name i 0 == 46) ≡ false → NoDot name i → NoDot name (i + 1)
+pub dot_later : (name : List ℕ) (i : ℕ) → i < length name → (get_or name i 0 == 46) ≡ false → NoDot name i
+    → NoDot name (i + 1)
 dot_later name i h e so = record {
   before = so.before
       ∙ ap (λ rest. take i name ++ before_dot rest) (byte_next name i h)
@@ -34,12 +35,14 @@ dot_later name i h e so = record {
   behind = so.behind ∙ ap behind_dot (byte_next name i h) ∙ behind_goes (get_or name i 0) (drop (i + 1) name) e;
 }
 
-pub before_here : (name : List ℕ) (i : ℕ) → i < length name → (get_or name i 0 == 46) ≡ true → NoDot name i → take i name ≡ before_dot name
+pub before_here : (name : List ℕ) (i : ℕ) → i < length name → (get_or name i 0 == 46) ≡ true → NoDot name i
+    → take i name ≡ before_dot name
 before_here name i h e so =
     sym (so.before ∙ ap (λ rest. take i name ++ before_dot rest) (byte_next name i h) ∙ ap (λ rest. take i name ++ rest) (before_ends (get_or name i 0) (drop (i + 1) name) e)
     ∙ append-nil (take i name))
 
-pub behind_here : (name : List ℕ) (i : ℕ) → i < length name → (get_or name i 0 == 46) ≡ true → NoDot name i → take (length name - (i + 1)) (drop (i + 1) name) ≡ behind_dot name
+pub behind_here : (name : List ℕ) (i : ℕ) → i < length name → (get_or name i 0 == 46) ≡ true → NoDot name i
+    → take (length name - (i + 1)) (drop (i + 1) name) ≡ behind_dot name
 behind_here name i h e so =
     whole_tail name (i + 1) ∙ sym (so.behind ∙ ap behind_dot (byte_next name i h) ∙ behind_ends (get_or name i 0) (drop (i + 1) name) e)
 

@@ -60,7 +60,8 @@ by_ordered : (base : Option ℕ) (node : Node) → node.low ≤ node.high → Is
 by_ordered None node h = tt
 by_ordered (Some base) node h = per_unit_ordered base node h
 
-or_ordered : (found : Option Span) (span : Span) → IsOrdered found → span.low ≤ span.high → (unwrap_or found span).low ≤ (unwrap_or found span).high
+or_ordered : (found : Option Span) (span : Span) → IsOrdered found → span.low ≤ span.high
+    → (unwrap_or found span).low ≤ (unwrap_or found span).high
 or_ordered None span f h = h
 or_ordered (Some s) span f h = f
 
@@ -84,14 +85,16 @@ now_covered : (axis : Option Span) (span : Span) → Covers (Some (widened axis 
 now_covered None span = (omega arith, omega arith)
 now_covered (Some axis) span = (omega arith, omega arith)
 
-nodes_keep : (bases : List Base) (per_unit : Bool) (nodes : List Node) (axis : Option Span) (span : Span) → Covers axis span
+nodes_keep : (bases : List Base) (per_unit : Bool) (nodes : List Node) (axis : Option Span) (span : Span)
+    → Covers axis span
     → Covers (widened_by bases per_unit axis nodes) span
 unfolding widened_by
 nodes_keep bases per_unit [] axis span h = h
 nodes_keep bases per_unit (n ∷ nodes) axis span h =
     nodes_keep bases per_unit nodes (Some (widened axis (span_of bases per_unit n))) span (still_covered axis (span_of bases per_unit n) span h)
 
-nodes_cover : (bases : List Base) (per_unit : Bool) (nodes : List Node) (axis : Option Span) (k : ℕ) (node : Node) → slice_get nodes k ≡ Some node
+nodes_cover : (bases : List Base) (per_unit : Bool) (nodes : List Node) (axis : Option Span) (k : ℕ) (node : Node)
+    → slice_get nodes k ≡ Some node
     → Covers (widened_by bases per_unit axis nodes) (span_of bases per_unit node)
 unfolding widened_by
 nodes_cover bases per_unit [] axis k node e = cc e
@@ -106,7 +109,8 @@ nodes_cover bases per_unit (n ∷ nodes) axis (suc k) node e =
 abbrev pub over : List Base → Bool → Option Span → List Panel → Option Span
 over bases per_unit axis panels = fold (λ axis panel. widened_by bases per_unit axis panel.nodes) axis panels
 
-panels_keep : (bases : List Base) (per_unit : Bool) (panels : List Panel) (axis : Option Span) (span : Span) → Covers axis span
+panels_keep : (bases : List Base) (per_unit : Bool) (panels : List Panel) (axis : Option Span) (span : Span)
+    → Covers axis span
     → Covers (over bases per_unit axis panels) span
 panels_keep bases per_unit [] axis span h = h
 panels_keep bases per_unit (p ∷ panels) axis span h =
@@ -246,11 +250,13 @@ fit (suc q) w h =
     let same : max (suc q) 1 ≡ suc q = omega arith in
     rw same (omega (arith, h))
 
-columns_fit : (panels : List Panel) → (grid_of panels).columns * (grid_of panels).width ≤ max (grid_of panels).width 1000
+columns_fit : (panels : List Panel)
+    → (grid_of panels).columns * (grid_of panels).width ≤ max (grid_of panels).width 1000
 unfolding grid_of
 columns_fit panels = fit (1000 / (110 + 20 * most_nodes panels)) (110 + 20 * most_nodes panels) (div-mul-le_self 1000 (110 + 20 * most_nodes panels))
 
-pub within_page : (r : ReportView) (k : ℕ) → panel_left (page_grid r) k + (page_grid r).width ≤ page_width (page_grid r) r
+pub within_page : (r : ReportView) (k : ℕ)
+    → panel_left (page_grid r) k + (page_grid r).width ≤ page_width (page_grid r) r
 within_page r k =
     let g = page_grid r in
     let column = rows_apart (k % g.columns) g.columns g.width (mod-lt k (some_columns (drawn r.panels))) in

@@ -5,7 +5,8 @@ use Rattle.std.specs.Str.{bytes_eq}
 use Rattle.fd_picture.specs.Bases.{base_of}
 use Rattle.fd_picture.specs.declared.report.Base.{Base}
 
-pub base_of_more : (bases : List Base) (i : ℕ) (base : Base) (bus : List ℕ) → i < length bases → base ≡ get_or bases i base
+pub base_of_more : (bases : List Base) (i : ℕ) (base : Base) (bus : List ℕ) → i < length bases
+    → base ≡ get_or bases i base
     → base_of (take (i + 1) bases) bus ≡ (if bytes_eq base.bus bus then Some base.micro_kilovolts else base_of (take i bases) bus)
 base_of_more bases i base bus h e =
     let step = λ (found : Option ℕ) (b : Base). if bytes_eq b.bus bus then Some b.micro_kilovolts else found in

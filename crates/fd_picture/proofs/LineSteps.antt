@@ -10,11 +10,13 @@ abbrev pub before : List ℕ → List (List ℕ) → List (List ℕ)
 before [] lines = lines
 before (c ∷ cs) lines = onto_first c (before cs lines)
 
-pub before_push : (cs : List ℕ) (c : ℕ) (lines : List (List ℕ)) → before (cs ++ c ∷ []) lines ≡ before cs (onto_first c lines)
+pub before_push : (cs : List ℕ) (c : ℕ) (lines : List (List ℕ))
+    → before (cs ++ c ∷ []) lines ≡ before cs (onto_first c lines)
 before_push [] c lines = refl
 before_push (d ∷ cs) c lines = ap (onto_first d) (before_push cs c lines)
 
-pub before_line : (cs : List ℕ) (line : List ℕ) (lines : List (List ℕ)) → before cs (line ∷ lines) ≡ (cs ++ line) ∷ lines
+pub before_line : (cs : List ℕ) (line : List ℕ) (lines : List (List ℕ))
+    → before cs (line ∷ lines) ≡ (cs ++ line) ∷ lines
 before_line [] line lines = refl
 before_line (c ∷ cs) line lines = ap (onto_first c) (before_line cs line lines)
 
@@ -22,7 +24,8 @@ pub before_none : (c : ℕ) (cs : List ℕ) → before (c ∷ cs) [] ≡ (c ∷ 
 before_none c [] = refl
 before_none c (d ∷ cs) = ap (onto_first c) (before_none d cs)
 
-pub line_ends : (c : ℕ) (cs : List ℕ) (quoted : Bool) → ((c == 10) && not quoted) ≡ true → lines_from quoted (c ∷ cs) ≡ [] ∷ lines_from false cs
+pub line_ends : (c : ℕ) (cs : List ℕ) (quoted : Bool) → ((c == 10) && not quoted) ≡ true
+    → lines_from quoted (c ∷ cs) ≡ [] ∷ lines_from false cs
 line_ends c cs quoted e = rw e refl
 
 pub line_goes_on : (c : ℕ) (cs : List ℕ) (quoted : Bool) → ((c == 10) && not quoted) ≡ false
@@ -36,12 +39,15 @@ none_read bytes = refl
 pub byte_next : (bytes : List ℕ) (i : ℕ) → i < length bytes → drop i bytes ≡ get_or bytes i 0 ∷ drop (i + 1) bytes
 byte_next bytes i h = rw add-one (drop-cons bytes i 0 h)
 
-pub taken_next : (bytes : List ℕ) (i : ℕ) → i < length bytes → take (i + 1) bytes ≡ take i bytes ++ get_or bytes i 0 ∷ []
+pub taken_next : (bytes : List ℕ) (i : ℕ) → i < length bytes
+    → take (i + 1) bytes ≡ take i bytes ++ get_or bytes i 0 ∷ []
 taken_next bytes i h = rw add-one (take-suc bytes i 0 h)
 
 -- a byte that ends no line
-pub byte_read : (bytes : List ℕ) (i : ℕ) (quoted next : Bool) (lines : List (List ℕ)) → i < length bytes → ((get_or bytes i 0 == 10) && not quoted) ≡ false
-    → next ≡ is_quoted_after (get_or bytes i 0) quoted → lines ≡ before (take i bytes) (lines_from quoted (drop i bytes))
+pub byte_read : (bytes : List ℕ) (i : ℕ) (quoted next : Bool) (lines : List (List ℕ)) → i < length bytes
+    → ((get_or bytes i 0 == 10) && not quoted) ≡ false
+    → next ≡ is_quoted_after (get_or bytes i 0) quoted
+    → lines ≡ before (take i bytes) (lines_from quoted (drop i bytes))
     → lines ≡ before (take (i + 1) bytes) (lines_from next (drop (i + 1) bytes))
 byte_read bytes i quoted next lines h goes e so =
     so
@@ -55,8 +61,10 @@ pub whole_tail : (bytes : List ℕ) (k : ℕ) → take (length bytes - k) (drop 
 whole_tail bytes k = ap (λ n. take n (drop k bytes)) (sym (length-drop k bytes)) ∙ take-length (drop k bytes)
 
 -- a byte that ends a line
-pub line_read : (bytes : List ℕ) (i : ℕ) (quoted : Bool) (lines : List (List ℕ)) → i < length bytes → ((get_or bytes i 0 == 10) && not quoted) ≡ true
-    → lines ≡ before (take i bytes) (lines_from quoted (drop i bytes)) → lines ≡ take i bytes ∷ lines_of (take (length bytes - (i + 1)) (drop (i + 1) bytes))
+pub line_read : (bytes : List ℕ) (i : ℕ) (quoted : Bool) (lines : List (List ℕ)) → i < length bytes
+    → ((get_or bytes i 0 == 10) && not quoted) ≡ true
+    → lines ≡ before (take i bytes) (lines_from quoted (drop i bytes))
+    → lines ≡ take i bytes ∷ lines_of (take (length bytes - (i + 1)) (drop (i + 1) bytes))
 unfolding lines_of
 line_read bytes i quoted lines h ends so =
     so

@@ -10,7 +10,8 @@ count_by : {A B : Type 0} (f : ℕ × A → B) (k : ℕ) (xs : List A) → lengt
 count_by f k [] = refl
 count_by f k (x ∷ xs) = ap suc (count_by f (k + 1) xs)
 
-each_by : {A B : Type 0} (f : ℕ × A → B) (n : ℕ) (xs : List A) (k : ℕ) (x : A) → slice_get xs k ≡ Some x → slice_get (map f (enumerate_from n xs)) k ≡ Some (f (n + k, x))
+each_by : {A B : Type 0} (f : ℕ × A → B) (n : ℕ) (xs : List A) (k : ℕ) (x : A) → slice_get xs k ≡ Some x
+    → slice_get (map f (enumerate_from n xs)) k ≡ Some (f (n + k, x))
 each_by f n [] k x e = cc e
 each_by f n (y ∷ ys) zero x e =
     let same : y ≡ x = cc e in
@@ -20,7 +21,8 @@ each_by f n (y ∷ ys) (suc k) x e =
     let place : n + 1 + k ≡ n + suc k = omega arith in
     each_by f (n + 1) ys k x e ∙ ap (λ m. Some (f (m, x))) place
 
-numbered_is : {A : Type 0} (text : ℕ → A → List ℕ) (k : ℕ) (xs : List A) → numbered text k xs ≡ flat_map (λ p. text p.0 p.1) (enumerate_from k xs)
+numbered_is : {A : Type 0} (text : ℕ → A → List ℕ) (k : ℕ) (xs : List A)
+    → numbered text k xs ≡ flat_map (λ p. text p.0 p.1) (enumerate_from k xs)
 numbered_is text k [] = refl
 numbered_is text k (x ∷ xs) = ap (λ rest. text k x ++ rest) (numbered_is text (k + 1) xs)
 

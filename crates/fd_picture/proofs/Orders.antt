@@ -55,7 +55,8 @@ nodes_more : (nodes : List Node) (node : Node) → InOrder nodes → node.low �
 nodes_more [] node h le = (le, tt)
 nodes_more (n ∷ nodes) node h le = (h.0, nodes_more nodes node h.1 le)
 
-panels_more : (panels : List Panel) (panel : Panel) → AllInOrder panels → InOrder panel.nodes → AllInOrder (panels ++ panel ∷ [])
+panels_more : (panels : List Panel) (panel : Panel) → AllInOrder panels → InOrder panel.nodes
+    → AllInOrder (panels ++ panel ∷ [])
 panels_more [] panel h one = (one, tt)
 panels_more (p ∷ panels) panel h one = (h.0, panels_more panels panel h.1 one)
 
@@ -77,7 +78,8 @@ round_kept d (Some settle) None round h = tt
 round_kept d (Some settle) (Some hour) None h = tt
 round_kept d (Some settle) (Some hour) (Some round) h = (kept_in_order d.done d.current settle hour h.0 h.1, tt)
 
-node_kept : (d : DraftView) (panel : Panel) (node : Option Node) → Holds d → InOrder panel.nodes → Keeps (with_open d (with_node panel node))
+node_kept : (d : DraftView) (panel : Panel) (node : Option Node) → Holds d → InOrder panel.nodes
+    → Keeps (with_open d (with_node panel node))
 unfolding Keeps
 node_kept d panel None h o = tt
 node_kept d panel (Some node) h o = cases (nat_lt node.high node.low) refl
@@ -145,14 +147,16 @@ abbrev pub ReadInOrder : Result ReportView Bad → Type 0
 ReadInOrder (Ok r) = AllInOrder r.panels
 ReadInOrder (Err e) = ⊤
 
-fit_in_order : (unfit : Option ℕ) (n : ℕ) (answer : Result ReportView Bad) → ReadInOrder answer → ReadInOrder (unless_unfit unfit n answer)
+fit_in_order : (unfit : Option ℕ) (n : ℕ) (answer : Result ReportView Bad) → ReadInOrder answer
+    → ReadInOrder (unless_unfit unfit n answer)
 fit_in_order unfit n answer h = cases (is_at unfit n)
   where
     cases : (b : Bool) → ReadInOrder (if b then Err (record { line = n; cause = cause.NotOneRecord }) else answer)
     cases true = tt
     cases false = h
 
-finished_in_order : (done : List Panel) (current : Option Panel) → AllInOrder done → OpenInOrder current → AllInOrder (done ++ option_to_list current)
+finished_in_order : (done : List Panel) (current : Option Panel) → AllInOrder done → OpenInOrder current
+    → AllInOrder (done ++ option_to_list current)
 finished_in_order [] None h o = tt
 finished_in_order [] (Some panel) h o = (o, tt)
 finished_in_order (p ∷ done) current h o = (h.0, finished_in_order done current h.1 o)
@@ -164,7 +168,8 @@ unfolding Keeps
 next_in_order (Ok d) n read k f = f d k
 next_in_order (Err e) n read k f = tt
 
-read_in_order : (unfit : Option ℕ) (n : ℕ) (d : DraftView) (rows : List (List (List ℕ))) → Holds d → ReadInOrder (read_from unfit n d rows)
+read_in_order : (unfit : Option ℕ) (n : ℕ) (d : DraftView) (rows : List (List (List ℕ))) → Holds d
+    → ReadInOrder (read_from unfit n d rows)
 read_in_order unfit n d [] h = fit_in_order unfit n (Ok (finished d)) (finished_in_order d.done d.current h.0 h.1)
 read_in_order unfit n d (row ∷ rows) h =
     fit_in_order unfit n _
@@ -204,14 +209,16 @@ drawn_in_order : (panels : List Panel) → AllInOrder panels → AllInOrder (dra
 drawn_in_order [] h = tt
 drawn_in_order (panel ∷ panels) h = joined_in_order (strips_of panel) (drawn panels) (strips_in_order panel h.0) (drawn_in_order panels h.1)
 
-node_of : (nodes : List Node) (k : ℕ) (node : Node) → InOrder nodes → slice_get nodes k ≡ Some node → node.low ≤ node.high
+node_of : (nodes : List Node) (k : ℕ) (node : Node) → InOrder nodes → slice_get nodes k ≡ Some node
+    → node.low ≤ node.high
 node_of [] k node h e = cc e
 node_of (n ∷ nodes) zero node h e =
     let same : n ≡ node = cc e in
     subst (λ (m : Node). m.low ≤ m.high) same h.0
 node_of (n ∷ nodes) (suc k) node h e = node_of nodes k node h.1 e
 
-strip_in : (strips : List Panel) (j : ℕ) (strip : Panel) → AllInOrder strips → slice_get strips j ≡ Some strip → InOrder strip.nodes
+strip_in : (strips : List Panel) (j : ℕ) (strip : Panel) → AllInOrder strips → slice_get strips j ≡ Some strip
+    → InOrder strip.nodes
 strip_in [] j strip h e = cc e
 strip_in (s ∷ strips) zero strip h e =
     let same : s ≡ strip = cc e in

@@ -7,7 +7,8 @@ use Rattle.csv.specs.declared.reader.Trim.TheVariants as trim
 use Rattle.csv.proofs.ReadFacts.{rows-end, rows-more}
 use Rattle.fd_picture.specs.Readers.{IsPlain, Reads}
 
-pub none_left : (old new : Reader (Bor (List ℕ))) (fields : List (List ℕ)) (left : List ℕ) → IsPlain old left → Reads old new false fields
+pub none_left : (old new : Reader (Bor (List ℕ))) (fields : List (List ℕ)) (left : List ℕ) → IsPlain old left
+    → Reads old new false fields
     → next_record default_config (reader_state old) [] [] left ≡ None
 unfolding Reads
 none_left old new fields left plain read =
@@ -21,7 +22,8 @@ pub record Took (old new : Reader (Bor (List ℕ))) (fields : List (List ℕ)) (
   pub state_is : next.1 ≡ reader_state new
   pub plain : IsPlain new next.2
 
-pub takes : (old new : Reader (Bor (List ℕ))) (fields : List (List ℕ)) (left : List ℕ) → IsPlain old left → Reads old new true fields
+pub takes : (old new : Reader (Bor (List ℕ))) (fields : List (List ℕ)) (left : List ℕ) → IsPlain old left
+    → Reads old new true fields
     → ((reader_trim old ≡ trim.None) → took_first new ≡ true) → Took old new fields left
 unfolding Reached Reads
 takes old new fields left plain read first =
@@ -37,12 +39,14 @@ takes old new fields left plain read first =
     }
 
 -- the records that are left, so many at most, of which this is the first
-pub rows_more : (old new : Reader (Bor (List ℕ))) (fields : List (List ℕ)) (left : List ℕ) (n : ℕ) → (took : Took old new fields left)
+pub rows_more : (old new : Reader (Bor (List ℕ))) (fields : List (List ℕ)) (left : List ℕ) (n : ℕ)
+    → (took : Took old new fields left)
     → records_from default_config (suc n) (reader_state old) left ≡ fields ∷ records_from default_config n (reader_state new) took.next.2
 unfolding records_from
 rows_more old new fields left n took = rw (took.is, took.state_is, took.fields_are) refl
 
-pub rows_none : (old new : Reader (Bor (List ℕ))) (fields : List (List ℕ)) (left : List ℕ) (n : ℕ) → IsPlain old left → Reads old new false fields
+pub rows_none : (old new : Reader (Bor (List ℕ))) (fields : List (List ℕ)) (left : List ℕ) (n : ℕ) → IsPlain old left
+    → Reads old new false fields
     → records_from default_config (suc n) (reader_state old) left ≡ []
 unfolding records_from
 rows_none old new fields left n plain read = rw (none_left old new fields left plain read) refl

@@ -32,21 +32,24 @@ rows_most panel (suc more) nodes (suc j) strip h e =
     let left : length (drop 42 nodes) ≤ 42 * more + 42 = omega (arith, h, length-drop 42 nodes) in
     rows_most panel more (drop 42 nodes) j strip left e
 
-panel_most : (panel : Panel) (j : ℕ) (strip : Panel) → slice_get (strips_of panel) j ≡ Some strip → length strip.nodes ≤ 42
+panel_most : (panel : Panel) (j : ℕ) (strip : Panel) → slice_get (strips_of panel) j ≡ Some strip
+    → length strip.nodes ≤ 42
 unfolding strips_of
 panel_most panel j strip e =
     let enough : length panel.nodes ≤ 42 * ((length panel.nodes - 1) / 42) + 42 = omega arith in
     rows_most panel ((length panel.nodes - 1) / 42) panel.nodes j strip enough e
 
 -- what holds of the elements of both parts holds of the whole
-within : {A : Type 0} (P : A → Type 0) (xs ys : List A) (j : ℕ) (x : A) → ((i : ℕ) (y : A) → slice_get xs i ≡ Some y → P y)
+within : {A : Type 0} (P : A → Type 0) (xs ys : List A) (j : ℕ) (x : A)
+    → ((i : ℕ) (y : A) → slice_get xs i ≡ Some y → P y)
     → ((i : ℕ) (y : A) → slice_get ys i ≡ Some y → P y)
     → slice_get (xs ++ ys) j ≡ Some x → P x
 within P [] ys j x first second e = second j x e
 within P (z ∷ xs) ys zero x first second e = first 0 x e
 within P (z ∷ xs) ys (suc j) x first second e = within P xs ys j x (λ i y h. first (suc i) y h) second e
 
-pub strips_most : (panels : List Panel) (j : ℕ) (strip : Panel) → slice_get (drawn panels) j ≡ Some strip → length strip.nodes ≤ 42
+pub strips_most : (panels : List Panel) (j : ℕ) (strip : Panel) → slice_get (drawn panels) j ≡ Some strip
+    → length strip.nodes ≤ 42
 strips_most [] j strip e = cc e
 strips_most (panel ∷ panels) j strip e =
     within (λ (s : Panel). length s.nodes ≤ 42) (strips_of panel) (drawn panels) j strip
@@ -67,7 +70,8 @@ rows_next full i nodes h =
     (drop-drop 42 (42 * i) nodes ∙ ap (λ n. drop n nodes) next)
 
 -- the strips so far with the next one, before the rest
-pub strips_next : (panel : Panel) (full i : ℕ) (nodes : List Node) (before after : List Panel) (strip : Panel) → i < full
+pub strips_next : (panel : Panel) (full i : ℕ) (nodes : List Node) (before after : List Panel) (strip : Panel)
+    → i < full
     → strip ≡ strip_by panel (take (42 * (i + 1) - 42 * i) (drop (42 * i) nodes)) → after ≡ before ++ strip ∷ []
     → after ++ map (λ nodes. strip_by panel nodes) (rows_from (full - (i + 1)) (drop (42 * (i + 1)) nodes))
     ≡ before ++ map (λ nodes. strip_by panel nodes) (rows_from (full - i) (drop (42 * i) nodes))

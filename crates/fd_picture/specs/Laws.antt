@@ -27,12 +27,15 @@ marks_of bases scale nodes = map (λ p. mark_at bases scale p.0 p.1) (enumerate_
 
 pub record MarksLaw : Type 0 where
   -- a panel has as many marks as nodes
-  pub count : (bases : List Base) (scale : Scale) (nodes : List Node) → length (marks_of bases scale nodes) ≡ length nodes
+  pub count : (bases : List Base) (scale : Scale) (nodes : List Node)
+      → length (marks_of bases scale nodes) ≡ length nodes
   -- and its k-th mark is that of its k-th node
-  pub each : (bases : List Base) (scale : Scale) (nodes : List Node) (k : ℕ) (node : Node) → slice_get nodes k ≡ Some node
+  pub each : (bases : List Base) (scale : Scale) (nodes : List Node) (k : ℕ) (node : Node)
+      → slice_get nodes k ≡ Some node
       → slice_get (marks_of bases scale nodes) k ≡ Some (mark_at bases scale k node)
   -- which reaches from the level of the node's high down to that of its low, and is at least one unit high
-  pub top : (axis span : Span) (per_unit : Bool) (k : ℕ) (node : Node) → (mark_of axis per_unit k node span).top ≡ level axis span.high
+  pub top : (axis span : Span) (per_unit : Bool) (k : ℕ) (node : Node)
+      → (mark_of axis per_unit k node span).top ≡ level axis span.high
   pub height : (axis span : Span) (per_unit : Bool) (k : ℕ) (node : Node)
       → (mark_of axis per_unit k node span).height ≡ max (level axis span.low - level axis span.high) 1
   -- the text of the marks is that of each node with its place, and nothing else
@@ -70,7 +73,8 @@ pub record IsDrawn (r : ReportView) (j k : ℕ) (strip : Panel) (node : Node) : 
 pub record FrameLaw : Type 0 where
   -- what is drawn of a panel are its nodes in order, in strips of at most 42
   pub nodes : (panel : Panel) → flat_map (λ (strip : Panel). strip.nodes) (strips_of panel) ≡ panel.nodes
-  pub most : (r : ReportView) (j : ℕ) (strip : Panel) → slice_get (drawn r.panels) j ≡ Some strip → length strip.nodes ≤ 42
+  pub most : (r : ReportView) (j : ℕ) (strip : Panel) → slice_get (drawn r.panels) j ≡ Some strip
+      → length strip.nodes ≤ 42
   -- in a report that is read no node's low is above its high
   pub order : (bytes : List ℕ) (r : ReportView) (j k : ℕ) (strip : Panel) (node : Node)
       → report_of bytes ≡ Ok r → IsDrawn r j k strip node → node.low ≤ node.high

@@ -34,14 +34,16 @@ use Rattle.fd_sample.proofs.Samples.{ends_differ, root_of_all, value_of_all}
 
 -- ---- magnitudes
 
-ratio_held : (node : NodeAt) (ratio : ℕ) (c : List ℤ) (r : List ℕ) (x : State) → IsPlace (length c) node → IsRatio ratio → IsInBall c r x →
+ratio_held : (node : NodeAt) (ratio : ℕ) (c : List ℤ) (r : List ℕ) (x : State) → IsPlace (length c) node → IsRatio ratio
+    → IsInBall c r x →
     IsHeld (ratio_interval node ratio c r) (square_size (scaled_by (unknown x node) (fraction (pos (10 ^ 9)) ratio)))
 ratio_held node ratio c r x h k b =
     let f = factor_held (pos (10 ^ 9)) ratio (omega (arith, k.least)) in
     square_size_held (scaled_interval (interval_at c r node) (factor (pos (10 ^ 9)) ratio)) (scaled_by (unknown x node) (fraction (pos (10 ^ 9)) ratio))
     (scaled_held (interval_at c r node) (factor (pos (10 ^ 9)) ratio) (unknown x node) (fraction (pos (10 ^ 9)) ratio) (node_held c r x node b h) f)
 
-with_size : (s : Bounds) (z : Complex) → IsHeld s (square_size z) → Holds s (fraction (pos (nat_abs (square_size z).top)) (square_size z).over)
+with_size : (s : Bounds) (z : Complex) → IsHeld s (square_size z)
+    → Holds s (fraction (pos (nat_abs (square_size z).top)) (square_size z).over)
 with_size s z h = subst (λ (n : ℤ). Holds s (fraction n (square_size z).over)) (square_top z) h.holds
 
 -- ---- reactive power
@@ -55,11 +57,13 @@ node_in n ns k h = ⊎_elim
     inside_or_past : (a b : ℕ) → (a < b) ⊎ (b ≤ a)
     inside_or_past a b = grind arith
 
-entering_by : (t : Bool) (b c : Cx Bounds) (y z : Complex) → AreHeld b y → AreHeld c z → AreHeld (cond t b c) (cond t y z)
+entering_by : (t : Bool) (b c : Cx Bounds) (y z : Complex) → AreHeld b y → AreHeld c z
+    → AreHeld (cond t b c) (cond t y z)
 entering_by true b c y z h k = h
 entering_by false b c y z h k = k
 
-entering_held : (e : LineEnd) (c : List ℤ) (r : List ℕ) (x : State) (k : ℕ) → IsLineEnd (length c) e → k < e.phases → IsInBall c r x →
+entering_held : (e : LineEnd) (c : List ℤ) (r : List ℕ) (x : State) (k : ℕ) → IsLineEnd (length c) e → k < e.phases
+    → IsInBall c r x →
     AreHeld (entering_interval e c r k) (entering e x k)
 entering_held e c r x k h in_k b =
     let branch = node_held c r x (Node (e.branch + k)) b (h.branches k in_k) in
@@ -67,7 +71,8 @@ entering_held e c r x k h in_k b =
     (negative (unknown x (Node (e.branch + k)))) (unknown x (Node (e.branch + k)))
     (negative_held (interval_at c r (Node (e.branch + k))) (unknown x (Node (e.branch + k))) branch) branch
 
-reactive_held : (e : LineEnd) (c : List ℤ) (r : List ℕ) (x : State) (k : ℕ) → IsLineEnd (length c) e → k < e.phases → IsInBall c r x →
+reactive_held : (e : LineEnd) (c : List ℤ) (r : List ℕ) (x : State) (k : ℕ) → IsLineEnd (length c) e → k < e.phases
+    → IsInBall c r x →
     IsHeld (reactive_interval e c r k) (reactive e x k)
 reactive_held e c r x k h in_k b =
     let at = interval_at c r (node_of e.nodes k) in
@@ -79,7 +84,8 @@ reactive_held e c r x k h in_k b =
     (area_held at.re (negation i.im) (unknown x (node_of e.nodes k)).re (opposite (entering e x k).im) v.re (negation_held i.im (entering e x k).im z.im))
     (area_held at.im i.re (unknown x (node_of e.nodes k)).im (entering e x k).re v.im z.re)
 
-total_held : (e : LineEnd) (c : List ℤ) (r : List ℕ) (x : State) (n : ℕ) → IsLineEnd (length c) e → n ≤ e.phases → IsInBall c r x →
+total_held : (e : LineEnd) (c : List ℤ) (r : List ℕ) (x : State) (n : ℕ) → IsLineEnd (length c) e → n ≤ e.phases
+    → IsInBall c r x →
     IsHeld (reactive_total e c r n) (sum_f (reactive e x) n)
 unfolding ◌⊕◌
 total_held e c r x zero h few b = record { over = lit< tt; holds = point-holds (pos 0) }
@@ -98,7 +104,8 @@ magnitude_of_all p closed node ratio c r x v h k b e =
     root_of_all (cap_decision p closed) (ratio_interval node ratio c r) (nat_abs (square_size z).top) (square_size z).over v
     (bank_decided (bank_of p) closed) held.over (with_size (ratio_interval node ratio c r) z held) e
 
-power_of_all : (p : CapProbe) (closed : Bool) (end : LineEnd) (c : List ℤ) (r : List ℕ) (x : State) (v : Decision) → IsLineEnd (length c) end → IsInBall c r x →
+power_of_all : (p : CapProbe) (closed : Bool) (end : LineEnd) (c : List ℤ) (r : List ℕ) (x : State) (v : Decision)
+    → IsLineEnd (length c) end → IsInBall c r x →
     agreed (reactive_total end c r end.phases) (cap_decision p closed (least_value (reactive_total end c r end.phases))) (cap_decision p closed (greatest_value (reactive_total end c r end.phases))) ≡ Some v →
     cap_decision p closed (cap_quantity (measured.Kvar end) x) ≡ v
 power_of_all p closed end c r x v h b e =
@@ -106,7 +113,8 @@ power_of_all p closed end c r x v h b e =
     value_of_all (cap_decision p closed) (reactive_total end c r end.phases) (sum_f (reactive end x) end.phases).top (sum_f (reactive end x) end.phases).over v
     (bank_decided (bank_of p) closed) held.over held.holds e
 
-pub cap_of_agreed : (p : CapProbe) (closed : Bool) (m : Measured) (c : List ℤ) (r : List ℕ) (x : State) (v : Decision) → IsMeasured (length c) m →
+pub cap_of_agreed : (p : CapProbe) (closed : Bool) (m : Measured) (c : List ℤ) (r : List ℕ) (x : State) (v : Decision)
+    → IsMeasured (length c) m →
     IsInBall c r x → agreed (cap_interval m c r) (cap_decision p closed (least_of (kind_of m) (cap_interval m c r))) (cap_decision p closed (greatest_of (kind_of m) (cap_interval m c r))) ≡ Some v →
     cap_decision p closed (cap_quantity m x) ≡ v
 unfolding cap_interval
@@ -114,7 +122,8 @@ cap_of_agreed p closed (measured.Voltage node ratio) c r x v h b e = magnitude_o
 cap_of_agreed p closed (measured.Current branch ratio) c r x v h b e = magnitude_of_all p closed (Node branch) ratio c r x v h.0 h.1 b e
 cap_of_agreed p closed (measured.Kvar end) c r x v h b e = power_of_all p closed end c r x v h b e
 
-pub cap_of_all : (p : CapProbe) (closed : Bool) (m : Measured) (c : List ℤ) (r : List ℕ) (x : State) (w : Verdict) (v : Decision) → IsMeasured (length c) m →
+pub cap_of_all : (p : CapProbe) (closed : Bool) (m : Measured) (c : List ℤ) (r : List ℕ) (x : State) (w : Verdict) (v : Decision)
+    → IsMeasured (length c) m →
     IsInBall c r x → IsCapSample (kind_of m) (cap_decision p closed) (cap_edge p closed) (cap_interval m c r) w → decision_of w ≡ Some v →
     cap_decision p closed (cap_quantity m x) ≡ v
 unfolding cap_interval
@@ -124,9 +133,11 @@ cap_of_all p closed (measured.Kvar end) c r x w v h b s e = let d = s.decides in
 
 -- ---- the sample by what is measured
 
-pub record IsSampled (p : CapProbe) (closed : Bool) (c : List ℤ) (r : List ℕ) (w : Verdict) (m : Measured) : Type 0 where
+pub record IsSampled (p : CapProbe) (closed : Bool) (c : List ℤ) (r : List ℕ) (w : Verdict)
+    (m : Measured) : Type 0 where
   pub sample : IsCapSample (kind_of m) (cap_decision p closed) (cap_edge p closed) (cap_interval m c r) w
-  pub edge : IsSome (cap_interval m c r) → TellsEdge (cap_decision p closed) (least_of (kind_of m) (cap_interval m c r)) (greatest_of (kind_of m) (cap_interval m c r)) w
+  pub edge : IsSome (cap_interval m c r)
+      → TellsEdge (cap_decision p closed) (least_of (kind_of m) (cap_interval m c r)) (greatest_of (kind_of m) (cap_interval m c r)) w
 
 pub of_voltage : (p : CapProbe) (closed : Bool) (c : List ℤ) (r : List ℕ) (w : Verdict) (node : NodeAt) (ratio : ℕ) →
     IsRootSample (cap_decision p closed) (λ d. cap_edge p closed) (ratio_interval node ratio c r) w →
@@ -157,12 +168,14 @@ cap_edged p closed s least greatest some e = bank_edged (bank_of p) closed least
     (ends_differ s (cap_decision p closed least) (cap_decision p closed greatest) some e)
 
 -- what is wanted at the ends that an interval has
-pub least_at : (p : CapProbe) (closed : Bool) (s : Bounds) (v : Verdict) (lo hi : ℤ) → IfSome s (λ e. (lo ≡ e.0) × (hi ≡ e.1)) →
+pub least_at : (p : CapProbe) (closed : Bool) (s : Bounds) (v : Verdict) (lo hi : ℤ)
+    → IfSome s (λ e. (lo ≡ e.0) × (hi ≡ e.1)) →
     decision v ≡ cap_decision p closed (value lo (10 ^ 6)) → IsSome s → decision v ≡ cap_decision p closed (least_value s)
 least_at p closed None v lo hi h e some = absurd (cc)
 least_at p closed (Some b) v lo hi h e some = e ∙ ap (λ (z : ℤ). cap_decision p closed (value z (10 ^ 6))) h.0
 
-pub greatest_at : (p : CapProbe) (closed : Bool) (s : Bounds) (v : Verdict) (lo hi : ℤ) → IfSome s (λ e. (lo ≡ e.0) × (hi ≡ e.1)) →
+pub greatest_at : (p : CapProbe) (closed : Bool) (s : Bounds) (v : Verdict) (lo hi : ℤ)
+    → IfSome s (λ e. (lo ≡ e.0) × (hi ≡ e.1)) →
     decision v ≡ cap_decision p closed (value hi (10 ^ 6)) → IsSome s → decision v ≡ cap_decision p closed (greatest_value s)
 greatest_at p closed None v lo hi h e some = absurd (cc)
 greatest_at p closed (Some b) v lo hi h e some = e ∙ ap (λ (z : ℤ). cap_decision p closed (value z (10 ^ 6))) h.1

@@ -20,7 +20,8 @@ pub record IsRegSample (p : RegProbe) (t : TapPair) (c : List ℤ) (r : List ℕ
 
 pub record IsBankSample (p : CapProbe) (closed : Bool) (c : List ℤ) (r : List ℕ) (v : Verdict) : Type 0 where
   pub sample : IsCapSample (kind_of p.measured) (cap_decision p closed) (cap_edge p closed) (cap_interval p.measured c r) v
-  pub edge : IsSome (cap_interval p.measured c r) → TellsEdge (cap_decision p closed) (least_of (kind_of p.measured) (cap_interval p.measured c r)) (greatest_of (kind_of p.measured) (cap_interval p.measured c r)) v
+  pub edge : IsSome (cap_interval p.measured c r)
+      → TellsEdge (cap_decision p closed) (least_of (kind_of p.measured) (cap_interval p.measured c r)) (greatest_of (kind_of p.measured) (cap_interval p.measured c r)) v
   pub every_state : AgreesAtEveryState p closed c r v
 
 pub record IsSampledAt (at : Positions) (c : List ℤ) (r : List ℕ) (v : Verdict) (p : Probe) : Type 0 where
@@ -28,10 +29,12 @@ pub record IsSampledAt (at : Positions) (c : List ℤ) (r : List ℕ) (v : Verdi
   pub edge : TellsChange p at (interval_over p at c r) v
   pub each : IsOfEachState p at c r v
 
-pub of_regulator : (at : Positions) (c : List ℤ) (r : List ℕ) (v : Verdict) (p : RegProbe) → IsRegSample p (pair_at at p.transformer) c r v →
+pub of_regulator : (at : Positions) (c : List ℤ) (r : List ℕ) (v : Verdict) (p : RegProbe)
+    → IsRegSample p (pair_at at p.transformer) c r v →
     IsSampledAt at c r v (probe.Regulator p)
 of_regulator at c r v p h = record { sample = h.sample; edge = h.edge; each = h.every_state }
 
-pub of_bank : (at : Positions) (c : List ℤ) (r : List ℕ) (v : Verdict) (p : CapProbe) → IsBankSample p (is_closed at (switch_of p)) c r v →
+pub of_bank : (at : Positions) (c : List ℤ) (r : List ℕ) (v : Verdict) (p : CapProbe)
+    → IsBankSample p (is_closed at (switch_of p)) c r v →
     IsSampledAt at c r v (probe.Bank p)
 of_bank at c r v p h = record { sample = h.sample; edge = h.edge; each = h.every_state }

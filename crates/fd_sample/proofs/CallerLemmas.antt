@@ -52,7 +52,8 @@ pub probe_is : (es : Elements) (e : Element) (o : Option Probe) → IsProbeOf es
 probe_is = probe_of
 
 -- what holds of the probe of each element holds of all
-pub all_probes : (P : Probe → Type 0) (es : Elements) → ((place : ℕ) (e : ElementName × Element) → slice_get es place ≡ Some e → IfSome (probe_in es e.1) P) →
+pub all_probes : (P : Probe → Type 0) (es : Elements)
+    → ((place : ℕ) (e : ElementName × Element) → slice_get es place ≡ Some e → IfSome (probe_in es e.1) P) →
     All P (probes_of es)
 all_probes = each_probe
 
@@ -61,7 +62,8 @@ pub probes_kept : ProbesLaw
 probes_kept = are_probes
 
 -- two controls of banks at two places switch two banks
-pub apart_at : (ps : List Probe) → InPairs AreApart ps → (i j : ℕ) (p q : CapProbe) → slice_get ps i ≡ Some (probe.Bank p) →
+pub apart_at : (ps : List Probe) → InPairs AreApart ps → (i j : ℕ) (p q : CapProbe)
+    → slice_get ps i ≡ Some (probe.Bank p) →
     slice_get ps j ≡ Some (probe.Bank q) → i ≢ j → p.bank ≢ q.bank
 apart_at ps h i j p q at_i at_j differ = ⊎_elim
     (λ less. pairs_at AreApart ps i j (probe.Bank p) (probe.Bank q) h less at_i at_j)

@@ -40,19 +40,22 @@ told (verdict.Undecided low high at) o ends edge d h =
     (λ i. let u : Undecided = record { low = h.0 i; high = h.1.0 i; edge = h.1.1 i } in let r : Result Decision Undecided = Err u in r)
     ∙ ap (λ (x : Option Decision). decided_or x (told_as ends edge)) d
 
-weaker : {P Q : ℤ → ℤ → ℤ → Type 0} (v : Verdict) → ((low high at : ℤ) → P low high at → Q low high at) → IfUndecided v P → IfUndecided v Q
+weaker : {P Q : ℤ → ℤ → ℤ → Type 0} (v : Verdict) → ((low high at : ℤ) → P low high at → Q low high at)
+    → IfUndecided v P → IfUndecided v Q
 weaker (verdict.Raise n) f h = tt
 weaker verdict.Hold f h = tt
 weaker (verdict.Lower n) f h = tt
 weaker (verdict.Undecided low high at) f h = f low high at h
 
-root_ends_are : (s : Bounds) (low high : ℤ) → AreRootEnds s low high → (low ≡ (root_ends s).0) × (high ≡ (root_ends s).1)
+root_ends_are : (s : Bounds) (low high : ℤ) → AreRootEnds s low high
+    → (low ≡ (root_ends s).0) × (high ≡ (root_ends s).1)
 root_ends_are None low high h = h
 root_ends_are (Some e) low high h =
     let same = some_pair_parts low (pos h.0) high (pos h.1.0) h.1.1.0 in
     (same.0 ∙ ap pos (root_of (non_negative e.0) h.0 h.1.1.1.0), same.1 ∙ ap pos (root_up_of (non_negative e.1) h.1.0 h.1.1.1.1))
 
-value_ends_are : (s : Bounds) (low high : ℤ) → AreValueEnds s low high → (low ≡ (value_ends s).0) × (high ≡ (value_ends s).1)
+value_ends_are : (s : Bounds) (low high : ℤ) → AreValueEnds s low high
+    → (low ≡ (value_ends s).0) × (high ≡ (value_ends s).1)
 value_ends_are None low high h = h
 value_ends_are (Some e) low high h = h
 
@@ -61,7 +64,8 @@ root_told : (f : Quantity → Decision) (edge_of : Decision → ℤ) (s : Bounds
 root_told f edge_of s v h = told v (agreed s (f (least_root s)) (f (greatest_root s))) (root_ends s) (edge_of (f (least_root s))) h.decides
     (weaker v (λ low high at r. let ends = root_ends_are s low high r.ends in (ends.0, (ends.1, r.edge))) h.reports)
 
-value_told : (f : Quantity → Decision) (edge_of : Decision → ℤ) (s : Bounds) (v : Verdict) → IsValueSample f edge_of s v →
+value_told : (f : Quantity → Decision) (edge_of : Decision → ℤ) (s : Bounds) (v : Verdict)
+    → IsValueSample f edge_of s v →
     sample_of v ≡ decided_or (agreed s (f (least_value s)) (f (greatest_value s))) (told_as (value_ends s) (edge_of (f (least_value s))))
 value_told f edge_of s v h = told v (agreed s (f (least_value s)) (f (greatest_value s))) (value_ends s) (edge_of (f (least_value s))) h.decides
     (weaker v (λ low high at r. let ends = value_ends_are s low high r.ends in (ends.0, (ends.1, r.edge))) h.reports)
@@ -76,7 +80,8 @@ told_in : (p : Probe) (at : Positions) (s : Bounds) (v : Verdict) → IsSampleOf
 told_in (probe.Regulator p) at s v h = root_told (decision_at (probe.Regulator p) at) (reg_edge p (pair_at at p.transformer)) s v h
 told_in (probe.Bank p) at s v h = cap_told _ (decision_at (probe.Bank p) at) (cap_edge p (is_closed at (switch_of p))) s v h
 
-pub sample_told : (p : Probe) (at : Positions) (c : List ℤ) (r : List ℕ) (v : Verdict) → IsSampleOf p at (interval_over p at c r) v →
+pub sample_told : (p : Probe) (at : Positions) (c : List ℤ) (r : List ℕ) (v : Verdict)
+    → IsSampleOf p at (interval_over p at c r) v →
     sample_of v ≡ sample_over p at c r
 unfolding sample_over
 sample_told p at c r v h = told_in p at (interval_over p at c r) v h
@@ -87,7 +92,8 @@ decided : (o : Option Decision) (u : Undecided) (d : Decision) → decided_or o 
 decided (Some x) u d e = cc
 decided None u d e = absurd (cc)
 
-wanted : (p : Probe) (at : Positions) (c : List ℤ) (r : List ℕ) (x : State) (d : Decision) → IsProbe (length c) p → HasDevice at p →
+wanted : (p : Probe) (at : Positions) (c : List ℤ) (r : List ℕ) (x : State) (d : Decision) → IsProbe (length c) p
+    → HasDevice at p →
     All AreTaps at.taps → IsInBall c r x → sample_in p at (interval_over p at c r) ≡ Ok d → decision_at p at (quantity_at p at x) ≡ d
 wanted (probe.Regulator p) at c r x d h device taps b e =
     reg_of_all p (pair_at at p.transformer) c r x d h (All-get_or AreTaps at.taps p.transformer no_taps device taps) b (decided _ _ d e)

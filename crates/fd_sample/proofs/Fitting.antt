@@ -36,12 +36,14 @@ step_least w h step = (le-div_iff_mul-le (omega (arith, h.numtaps.least))).1 (om
 step_most : (w : Winding) → WindingInRange w → step_of w ≤ 200000
 step_most w h = omega (arith, div-le_self (w.maxtap - w.mintap) w.numtaps, h.maxtap.most)
 
-step_within : (t : Bool) (xfmr : Transformer) → TransformerInRange xfmr → xfmr.first.mintap + xfmr.first.numtaps ≤ xfmr.first.maxtap →
+step_within : (t : Bool) (xfmr : Transformer) → TransformerInRange xfmr
+    → xfmr.first.mintap + xfmr.first.numtaps ≤ xfmr.first.maxtap →
     xfmr.second.mintap + xfmr.second.numtaps ≤ xfmr.second.maxtap → (1 ≤ step_of (winding_of t xfmr)) × (step_of (winding_of t xfmr) ≤ 200000)
 step_within true xfmr h first second = (step_least xfmr.second h.second second, step_most xfmr.second h.second)
 step_within false xfmr h first second = (step_least xfmr.first h.first first, step_most xfmr.first h.first)
 
-reg_settings : (control : RegControl) (t : Transformer) (at : Ends) (number : ℕ) → RegControlInRange control → TransformerInRange t →
+reg_settings : (control : RegControl) (t : Transformer) (at : Ends) (number : ℕ) → RegControlInRange control
+    → TransformerInRange t →
     t.first.mintap + t.first.numtaps ≤ t.first.maxtap → t.second.mintap + t.second.numtaps ≤ t.second.maxtap →
     AreRegSettings (reg_probe control t at number)
 reg_settings control t at number own range first second =
@@ -71,8 +73,10 @@ reg_settings control t at number own range first second =
 
 -- ---- places
 
-module _ (circuit : CircuitView) (h : HasPassed circuit) (range : All (λ e. ElementInRange e.1) circuit.elements) (keys : All IsEntry circuit.elements) where
-  pub reg_fit : (control : RegControl) (p : RegProbe) → IsRegControlIn circuit.elements control → IsRegProbeIn circuit.elements control p →
+module _ (circuit : CircuitView) (h : HasPassed circuit) (range : All (λ e. ElementInRange e.1) circuit.elements)
+    (keys : All IsEntry circuit.elements) where
+  pub reg_fit : (control : RegControl) (p : RegProbe) → IsRegControlIn circuit.elements control
+      → IsRegProbeIn circuit.elements control p →
       IsRegProbe (size_of (layout_of circuit.elements)) p
   reg_fit control p c r =
       let es = circuit.elements in
@@ -85,7 +89,8 @@ module _ (circuit : CircuitView) (h : HasPassed circuit) (range : All (λ e. Ele
       let settings = reg_settings control t at number c.in_range xfmr.in_range xfmr.first_step xfmr.second_step in
       reg_places control t at number (complex_count layout) (size_of layout) p r.probe (subst AreRegSettings (sym r.probe) settings) xfmr.phase xfmr.stands
 
-  pub cap_fit : (control : CapControl) (p : CapProbe) → IsCapControlIn circuit.elements control → IsCapProbeIn circuit.elements control p →
+  pub cap_fit : (control : CapControl) (p : CapProbe) → IsCapControlIn circuit.elements control
+      → IsCapProbeIn circuit.elements control p →
       IsCapProbe (size_of (layout_of circuit.elements)) p
   cap_fit control p c r =
       let es = circuit.elements in

@@ -70,13 +70,15 @@ square_held a x h = record { over = over_product x x h.over h.over; holds = squa
 pub negative_held : (b : Cx Bounds) (z : Complex) → AreHeld b z → AreHeld (negative_interval b) (negative z)
 negative_held b z h = record { re = negation_held b.re z.re h.re; im = negation_held b.im z.im h.im }
 
-pub less_held : (a b : Cx Bounds) (y z : Complex) → AreHeld a y → AreHeld b z → AreHeld (difference_interval a b) (y ⊟ z)
+pub less_held : (a b : Cx Bounds) (y z : Complex) → AreHeld a y → AreHeld b z
+    → AreHeld (difference_interval a b) (y ⊟ z)
 less_held a b y z h k = record {
   re = difference_held a.re b.re y.re z.re h.re k.re;
   im = difference_held a.im b.im y.im z.im h.im k.im;
 }
 
-pub scaled_held : (b : Cx Bounds) (f : Bounds) (z : Complex) (x : Fraction) → AreHeld b z → IsFactor f x → AreHeld (scaled_interval b f) (scaled_by z x)
+pub scaled_held : (b : Cx Bounds) (f : Bounds) (z : Complex) (x : Fraction) → AreHeld b z → IsFactor f x
+    → AreHeld (scaled_interval b f) (scaled_by z x)
 scaled_held b f z x h k = record { re = product_held b.re f z.re x h.re k; im = product_held b.im f z.im x h.im k }
 
 pub times_held : (b : Cx Bounds) (r x : Bounds) (z w : Complex) → AreHeld b z → IsFactor r w.re → IsFactor x w.im →

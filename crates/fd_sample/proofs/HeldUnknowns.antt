@@ -38,7 +38,8 @@ node_held c r x (Node k) b h = record {
   im = record { over = b.over; holds = place_holds c r x (2 * k + 1) b h.0 };
 }
 
-pub across_held : (c : List ℤ) (r : List ℕ) (x : State) (p : NodePair) → IsInBall c r x → IsPlace (length c) p.first → IsPlace (length c) p.second →
+pub across_held : (c : List ℤ) (r : List ℕ) (x : State) (p : NodePair) → IsInBall c r x → IsPlace (length c) p.first
+    → IsPlace (length c) p.second →
     AreHeld (interval_across c r p) (across x p)
 across_held c r x p b h k = less_held (interval_at c r p.first) (interval_at c r p.second) (unknown x p.first) (unknown x p.second)
     (node_held c r x p.first b h) (node_held c r x p.second b k)

@@ -43,11 +43,13 @@ winding_range true xfmr h = h.second
 winding_range false xfmr h = h.first
 
 -- a bank that this control switches is that of this name
-switches : (x : Element) (control : CapControl) (name : List ℕ) → x ≡ the.CapControl control → control.capacitor ≡ Some name → controls_bank name x ≡ true
+switches : (x : Element) (control : CapControl) (name : List ℕ) → x ≡ the.CapControl control
+    → control.capacitor ≡ Some name → controls_bank name x ≡ true
 switches x control name is given = ap (controls_bank name) is ∙ (ap (gives_name name) given ∙ (bytes_decides name name).1 refl)
 
 -- a control of this winding of this transformer
-regulates : (x : Element) (control : RegControl) (name : List ℕ) (winding : ℕ) → x ≡ the.RegControl control → control.transformer ≡ Some name →
+regulates : (x : Element) (control : RegControl) (name : List ℕ) (winding : ℕ) → x ≡ the.RegControl control
+    → control.transformer ≡ Some name →
     control.winding ≡ winding → controls_winding name winding x ≡ true
 regulates x control name winding is given same =
     ap (controls_winding name winding) is
@@ -60,7 +62,8 @@ same_winding a b l m n o h = grind (arith, nat_tests)
 
 -- ---- the probes of the elements before a place
 
-pub probes_next : (es : Elements) (k : ℕ) (o : Option Probe) (ps qs : List Probe) → ps ≡ filter_map (λ e. probe_in es e.1) (take k es) →
+pub probes_next : (es : Elements) (k : ℕ) (o : Option Probe) (ps qs : List Probe)
+    → ps ≡ filter_map (λ e. probe_in es e.1) (take k es) →
     IsProbeOf es (element_at es k) o → qs ≡ ps ++ option_to_list o → qs ≡ filter_map (λ e. probe_in es e.1) (take (k + 1) es)
 probes_next es k o ps qs made own more = by (slice_get es k) refl own
   where
@@ -72,32 +75,37 @@ probes_next es k o ps qs made own more = by (slice_get es k) refl own
         ∙ ap (λ (w : Option Probe). filter_map (λ e. probe_in es e.1) (take k es) ++ option_to_list w) (probe_of es x.1 o own)
         ∙ sym (listed_next (λ (e : ElementName × Element). probe_in es e.1) es k x at)
 
-pub probes_end : (es : Elements) (k : ℕ) (ps : List Probe) → ps ≡ filter_map (λ e. probe_in es e.1) (take k es) → length es ≤ k → ps ≡ probes_of es
+pub probes_end : (es : Elements) (k : ℕ) (ps : List Probe) → ps ≡ filter_map (λ e. probe_in es e.1) (take k es)
+    → length es ≤ k → ps ≡ probes_of es
 unfolding probes_of
 probes_end es k ps made h = made ∙ ap (filter_map (λ e. probe_in es e.1)) (take_all k es h)
 
 -- what holds of the probe of each element
-pub each_probe : (P : Probe → Type 0) (es : Elements) → ((k : ℕ) (x : ElementName × Element) → slice_get es k ≡ Some x → IfSome (probe_in es x.1) P) →
+pub each_probe : (P : Probe → Type 0) (es : Elements)
+    → ((k : ℕ) (x : ElementName × Element) → slice_get es k ≡ Some x → IfSome (probe_in es x.1) P) →
     All P (probes_of es)
 unfolding probes_of
 each_probe P es h = all_listed P (λ (e : ElementName × Element). probe_in es e.1) es h
 
 -- ---- what they keep to
 
-module _ (circuit : CircuitView) (h : HasPassed circuit) (range : All (λ e. ElementInRange e.1) circuit.elements) (keys : All IsEntry circuit.elements) where
+module _ (circuit : CircuitView) (h : HasPassed circuit) (range : All (λ e. ElementInRange e.1) circuit.elements)
+    (keys : All IsEntry circuit.elements) where
   at_place : (k : ℕ) (x : ElementName × Element) → slice_get circuit.elements k ≡ Some x → ElementInRange x.1
   at_place k x at = all_at (λ (e : ElementName × Element). ElementInRange e.1) circuit.elements k x range at
 
   -- ---- of one control
 
-  places : (k : ℕ) (x : ElementName × Element) → slice_get circuit.elements k ≡ Some x → IfSome (probe_in circuit.elements x.1) (IsProbe (size_of (layout_of circuit.elements)))
+  places : (k : ℕ) (x : ElementName × Element) → slice_get circuit.elements k ≡ Some x
+      → IfSome (probe_in circuit.elements x.1) (IsProbe (size_of (layout_of circuit.elements)))
   places k x at =
       let there = ap (option_map (λ (e : ElementName × Element). e.1)) at in
       by_kind circuit.elements (IsProbe (size_of (layout_of circuit.elements))) x.1
       (λ control p is r. reg_fit circuit h range keys control p (regcontrol_in circuit h range k x.1 control there is) r)
       (λ control p is r. cap_fit circuit h range keys control p (capcontrol_in circuit h range k x.1 control there is) r)
 
-  times : (k : ℕ) (x : ElementName × Element) → slice_get circuit.elements k ≡ Some x → IfSome (probe_in circuit.elements x.1) HasTimes
+  times : (k : ℕ) (x : ElementName × Element) → slice_get circuit.elements k ≡ Some x
+      → IfSome (probe_in circuit.elements x.1) HasTimes
   times k x at = by_kind circuit.elements HasTimes x.1
       (λ control p is r.
       let own = subst ElementInRange is (at_place k x at) in
@@ -111,7 +119,8 @@ module _ (circuit : CircuitView) (h : HasPassed circuit) (range : All (λ e. Ele
       let deadtime = ap (λ (q : CapProbe). q.deadtime) r.probe in
       (omega (arith, delay, own.delay), (omega (arith, delayoff, own.delayoff), omega (arith, deadtime, own.deadtime))))
 
-  ranges : (k : ℕ) (x : ElementName × Element) → slice_get circuit.elements k ≡ Some x → IfSome (probe_in circuit.elements x.1) HasRange
+  ranges : (k : ℕ) (x : ElementName × Element) → slice_get circuit.elements k ≡ Some x
+      → IfSome (probe_in circuit.elements x.1) HasRange
   ranges k x at = by_kind circuit.elements HasRange x.1
       (λ control p is r.
       let entry = entry_of (slice_get circuit.elements r.place) (the.Transformer r.transformer) r.there in
@@ -121,7 +130,8 @@ module _ (circuit : CircuitView) (h : HasPassed circuit) (range : All (λ e. Ele
       (omega (arith, least, winding.mintap.least), omega (arith, most, winding.maxtap.most)))
       (λ control p is r. tt)
 
-  devices : (at : Positions) → length at.taps ≡ list_n (λ e. tap_count e.1) circuit.elements → length at.closed ≡ list_n (λ e. bank_count e.1) circuit.elements →
+  devices : (at : Positions) → length at.taps ≡ list_n (λ e. tap_count e.1) circuit.elements
+      → length at.closed ≡ list_n (λ e. bank_count e.1) circuit.elements →
       (k : ℕ) (x : ElementName × Element) → slice_get circuit.elements k ≡ Some x → IfSome (probe_in circuit.elements x.1) (HasDevice at)
   devices at taps closed k x there = by_kind circuit.elements (HasDevice at) x.1
       (λ control p is r.
@@ -136,7 +146,8 @@ module _ (circuit : CircuitView) (h : HasPassed circuit) (range : All (λ e. Ele
   -- ---- of two controls
 
   -- two controls of one bank: the second would be one too many
-  two_of_one : (i j : ℕ) (x y : ElementName × Element) → i < j → slice_get circuit.elements i ≡ Some x → slice_get circuit.elements j ≡ Some y →
+  two_of_one : (i j : ℕ) (x y : ElementName × Element) → i < j → slice_get circuit.elements i ≡ Some x
+      → slice_get circuit.elements j ≡ Some y →
       (first second : CapControl) → x.1 ≡ the.CapControl first → y.1 ≡ the.CapControl second → (name : List ℕ) → first.capacitor ≡ Some name →
       second.capacitor ≡ Some name → ⊥
   two_of_one i j x y less at_x at_y first second is_x is_y name given_x given_y =
@@ -146,7 +157,8 @@ module _ (circuit : CircuitView) (h : HasPassed circuit) (range : All (λ e. Ele
       let does = switches x.1 first name is_x given_x in
       absurd (cc)
 
-  bank_apart : (i j : ℕ) (x y : ElementName × Element) → i < j → slice_get circuit.elements i ≡ Some x → slice_get circuit.elements j ≡ Some y →
+  bank_apart : (i j : ℕ) (x y : ElementName × Element) → i < j → slice_get circuit.elements i ≡ Some x
+      → slice_get circuit.elements j ≡ Some y →
       (first second : CapControl) → x.1 ≡ the.CapControl first → y.1 ≡ the.CapControl second → (p q : CapProbe) → IsCapProbeIn circuit.elements first p →
       IsCapProbeIn circuit.elements second q → p.bank ≢ q.bank
   bank_apart i j x y less at_x at_y first second is_x is_y p q r s same =
@@ -162,7 +174,8 @@ module _ (circuit : CircuitView) (h : HasPassed circuit) (range : All (λ e. Ele
       two_of_one i j x y less at_x at_y first second is_x is_y other.name (own.given_is ∙ ap Some name) other.given_is
 
   -- two controls of one winding likewise
-  two_of_winding : (i j : ℕ) (x y : ElementName × Element) → i < j → slice_get circuit.elements i ≡ Some x → slice_get circuit.elements j ≡ Some y →
+  two_of_winding : (i j : ℕ) (x y : ElementName × Element) → i < j → slice_get circuit.elements i ≡ Some x
+      → slice_get circuit.elements j ≡ Some y →
       (first second : RegControl) → x.1 ≡ the.RegControl first → y.1 ≡ the.RegControl second → (name : List ℕ) → first.transformer ≡ Some name →
       second.transformer ≡ Some name → first.winding ≡ second.winding → ⊥
   two_of_winding i j x y less at_x at_y first second is_x is_y name given_x given_y winding =
@@ -173,7 +186,8 @@ module _ (circuit : CircuitView) (h : HasPassed circuit) (range : All (λ e. Ele
       let does = regulates x.1 first name second.winding is_x given_x winding in
       absurd (cc)
 
-  winding_apart : (i j : ℕ) (x y : ElementName × Element) → i < j → slice_get circuit.elements i ≡ Some x → slice_get circuit.elements j ≡ Some y →
+  winding_apart : (i j : ℕ) (x y : ElementName × Element) → i < j → slice_get circuit.elements i ≡ Some x
+      → slice_get circuit.elements j ≡ Some y →
       (first second : RegControl) → x.1 ≡ the.RegControl first → y.1 ≡ the.RegControl second → (p q : RegProbe) → IsRegProbeIn circuit.elements first p →
       IsRegProbeIn circuit.elements second q → p.transformer ≡ q.transformer → p.is_second ≢ q.is_second
   winding_apart i j x y less at_x at_y first second is_x is_y p q r s same winding =
@@ -193,7 +207,8 @@ module _ (circuit : CircuitView) (h : HasPassed circuit) (range : All (λ e. Ele
       two_of_winding i j x y less at_x at_y first second is_x is_y other.name (own.given_is ∙ ap Some name) other.given_is
       (same_winding first.winding second.winding a.least a.most b.least b.most tests)
 
-  apart : (i j : ℕ) (x y : ElementName × Element) → i < j → slice_get circuit.elements i ≡ Some x → slice_get circuit.elements j ≡ Some y →
+  apart : (i j : ℕ) (x y : ElementName × Element) → i < j → slice_get circuit.elements i ≡ Some x
+      → slice_get circuit.elements j ≡ Some y →
       IfSome (probe_in circuit.elements x.1) (λ p. IfSome (probe_in circuit.elements y.1) (AreApart p))
   apart i j x y less at_x at_y = by_kind circuit.elements (λ p. IfSome (probe_in circuit.elements y.1) (AreApart p)) x.1
       (λ first p is_x r. by_kind circuit.elements (AreApart (probe.Regulator p)) y.1

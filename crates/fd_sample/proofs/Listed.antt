@@ -25,11 +25,13 @@ slice_get_take (x ∷ xs) (suc n) zero h = refl
 slice_get_take (x ∷ xs) (suc n) (suc k) h = slice_get_take xs n k (omega arith)
 
 -- one element more
-take_place : {A : Type 0} (xs : List A) (k : ℕ) (x : A) → slice_get xs k ≡ Some x → take (k + 1) xs ≡ take k xs ++ x ∷ []
+take_place : {A : Type 0} (xs : List A) (k : ℕ) (x : A) → slice_get xs k ≡ Some x
+    → take (k + 1) xs ≡ take k xs ++ x ∷ []
 take_place xs k x h = take_more xs k x (slice_get_within xs k x h) ∙ ap (λ y. take k xs ++ y ∷ []) (get_or_from_slice_get xs k x x h)
 
 -- a test that no element passes
-pub none_at : {A : Type 0} (p : A → Bool) (xs : List A) (k : ℕ) (x : A) → list_any p xs ≡ false → slice_get xs k ≡ Some x → p x ≡ false
+pub none_at : {A : Type 0} (p : A → Bool) (xs : List A) (k : ℕ) (x : A) → list_any p xs ≡ false
+    → slice_get xs k ≡ Some x → p x ≡ false
 none_at p [] k x h e = absurd (cc)
 none_at p (y ∷ ys) zero x h e = let same : y ≡ x = cc in subst (λ z. p z ≡ false) same (or_parts (p y) (list_any p ys) h).0
 none_at p (y ∷ ys) (suc k) x h e = none_at p ys k x (or_parts (p y) (list_any p ys) h).1 e
@@ -40,7 +42,8 @@ front_least f n xs =
     let whole = sym (list_n-append f (take n xs) (drop n xs)) ∙ ap (list_n f) (take-append-drop n xs) in
     omega (arith, whole)
 
-pub fronts_in_order : {A : Type 0} (f : A → ℕ) (m n : ℕ) (xs : List A) → m ≤ n → list_n f (take m xs) ≤ list_n f (take n xs)
+pub fronts_in_order : {A : Type 0} (f : A → ℕ) (m n : ℕ) (xs : List A) → m ≤ n
+    → list_n f (take m xs) ≤ list_n f (take n xs)
 fronts_in_order f m n xs h = subst (λ ys. list_n f ys ≤ list_n f (take n xs)) (take-take m n xs h) (front_least f m (take n xs))
 
 -- ---- what is there for some elements of a list
@@ -55,7 +58,8 @@ pub listed_next : {A B : Type 0} (g : A → Option B) (xs : List A) (k : ℕ) (x
 listed_next g xs k x h =
     ap (filter_map g) (take_place xs k x h) ∙ filter_map-append g (take k xs) (x ∷ []) ∙ ap (λ r. filter_map g (take k xs) ++ r) (own_listed (g x))
 
-first_of_all : {B : Type 0} (P : B → Type 0) (o : Option B) (ys : List B) → IfSome o P → All P ys → All P (cons_option o ys)
+first_of_all : {B : Type 0} (P : B → Type 0) (o : Option B) (ys : List B) → IfSome o P → All P ys
+    → All P (cons_option o ys)
 first_of_all P None ys h all = all
 first_of_all P (Some b) ys h all = All-cons P b ys h all
 
@@ -75,7 +79,8 @@ few_listed g [] = omega arith
 few_listed g (x ∷ xs) = one_more (g x) (filter_map g xs) (length xs) (few_listed g xs)
 
 -- what holds of each and each later one
-first_pairs : {B : Type 0} (R : B → B → Type 0) (o : Option B) (ys : List B) → IfSome o (λ p. All (R p) ys) → InPairs R ys → InPairs R (cons_option o ys)
+first_pairs : {B : Type 0} (R : B → B → Type 0) (o : Option B) (ys : List B) → IfSome o (λ p. All (R p) ys)
+    → InPairs R ys → InPairs R (cons_option o ys)
 first_pairs R None ys h k = k
 first_pairs R (Some p) ys h k = (recursion_from_All (R p) ys h, k)
 
@@ -94,7 +99,8 @@ pairs_listed R g (x ∷ xs) h = first_pairs R (g x) (filter_map g xs)
 
 -- ---- elements in pairs
 
-pub pairs_at : {A : Type 0} (R : A → A → Type 0) (xs : List A) (i j : ℕ) (x y : A) → InPairs R xs → i < j → slice_get xs i ≡ Some x → slice_get xs j ≡ Some y → R x y
+pub pairs_at : {A : Type 0} (R : A → A → Type 0) (xs : List A) (i j : ℕ) (x y : A) → InPairs R xs → i < j
+    → slice_get xs i ≡ Some x → slice_get xs j ≡ Some y → R x y
 pairs_at R [] i j x y h less at_i at_j = absurd (cc)
 pairs_at R (z ∷ zs) i zero x y h less at_i at_j = absurd (omega arith)
 pairs_at R (z ∷ zs) zero (suc j) x y h less at_i at_j =

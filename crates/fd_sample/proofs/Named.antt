@@ -34,7 +34,8 @@ use Rattle.fd_sample.proofs.Standing.{line_back, transformer_back}
 -- ---- the element at the place that a property names
 
 -- the first that passes a test is the one that is looked up
-first_found : (p : ElementName → Bool) (es : Elements) (place : ℕ) (e : ElementName × Element) → slice_get es place ≡ Some e → p e.0 ≡ true →
+first_found : (p : ElementName → Bool) (es : Elements) (place : ℕ) (e : ElementName × Element)
+    → slice_get es place ≡ Some e → p e.0 ≡ true →
     ((k : ℕ) (x : ElementName × Element) → k < place → slice_get es k ≡ Some x → p x.0 ≡ false) → lookup p es ≡ Some e.1
 first_found p [] place e at own before = absurd (cc)
 first_found p (x ∷ es) zero e at own before =
@@ -49,7 +50,8 @@ record HasName (o : Option (ElementName × Element)) (name : ElementName) : Type
   is : o ≡ Some entry
   name_is : entry.0 ≡ name
 
-name_of : (o : Option (ElementName × Element)) (name : ElementName) → option_map (λ x. x.0) o ≡ Some name → HasName o name
+name_of : (o : Option (ElementName × Element)) (name : ElementName) → option_map (λ x. x.0) o ≡ Some name
+    → HasName o name
 name_of None name h = absurd (cc)
 name_of (Some x) name h = record { entry = x; is = refl; name_is = cc }
 
@@ -62,7 +64,8 @@ pub record IsPlaced (es : Elements) (kind : Class) (given : Option (List ℕ)) (
   pub class : kind ≡ class_of entry.1
   pub found : element_given es kind given ≡ Some entry.1
 
-pub placed : (es : Elements) (kind : Class) (given : Option (List ℕ)) (place : ℕ) → All IsEntry es → place_given es kind given ≡ Some place → IsPlaced es kind given place
+pub placed : (es : Elements) (kind : Class) (given : Option (List ℕ)) (place : ℕ) → All IsEntry es
+    → place_given es kind given ≡ Some place → IsPlaced es kind given place
 placed es kind None place keys h = absurd (cc)
 placed es kind (Some name) place keys h =
     let own : ElementName = record { class = kind; name = name } in
@@ -86,7 +89,8 @@ placed es kind (Some name) place keys h =
     }
 
 -- it is the one that the property names
-pub found_at : (es : Elements) (kind : Class) (given : Option (List ℕ)) (place : ℕ) → All IsEntry es → place_given es kind given ≡ Some place →
+pub found_at : (es : Elements) (kind : Class) (given : Option (List ℕ)) (place : ℕ) → All IsEntry es
+    → place_given es kind given ≡ Some place →
     element_at es place ≡ element_given es kind given
 found_at es kind given place keys h =
     let own = placed es kind given place keys h in
@@ -114,15 +118,18 @@ one_transformer (the.RegControl c) h = absurd (cc)
 one_transformer (the.CapControl c) h = absurd (cc)
 one_transformer (the.Loadshape s) h = absurd (cc)
 
-pub transformer_placed : (es : Elements) (given : Option (List ℕ)) (place : ℕ) (p : IsPlaced es class.Transformer given place) → tap_count p.entry.1 ≡ 1
+pub transformer_placed : (es : Elements) (given : Option (List ℕ)) (place : ℕ) (p : IsPlaced es class.Transformer given place)
+    → tap_count p.entry.1 ≡ 1
 transformer_placed es given place p = one_transformer p.entry.1 p.class
 
-pub bank_placed : (es : Elements) (given : Option (List ℕ)) (place : ℕ) (p : IsPlaced es class.Capacitor given place) → bank_count p.entry.1 ≡ 1
+pub bank_placed : (es : Elements) (given : Option (List ℕ)) (place : ℕ) (p : IsPlaced es class.Capacitor given place)
+    → bank_count p.entry.1 ≡ 1
 bank_placed es given place p = one_bank p.entry.1 p.class
 
 -- ---- numbers among their kind
 
-pub transformer_below : (es : Elements) (k : ℕ) (e : ElementName × Element) → slice_get es k ≡ Some e → tap_count e.1 ≡ 1 →
+pub transformer_below : (es : Elements) (k : ℕ) (e : ElementName × Element) → slice_get es k ≡ Some e
+    → tap_count e.1 ≡ 1 →
     transformers_before es k < list_n (λ x. tap_count x.1) es
 transformer_below es k e h one =
     let most : transformers_before es (k + 1) ≤ list_n (λ x. tap_count x.1) es = front_least (λ (x : ElementName × Element). tap_count x.1) (k + 1) es in
@@ -134,7 +141,8 @@ bank_below es k e h one =
     let most : banks_before es (k + 1) ≤ list_n (λ x. bank_count x.1) es = front_least (λ (x : ElementName × Element). bank_count x.1) (k + 1) es in
     omega (arith, count_next bank_count es k e h, one, most)
 
-bank_less : (es : Elements) (a b : ℕ) (e : ElementName × Element) → slice_get es a ≡ Some e → bank_count e.1 ≡ 1 → a < b → banks_before es a < banks_before es b
+bank_less : (es : Elements) (a b : ℕ) (e : ElementName × Element) → slice_get es a ≡ Some e → bank_count e.1 ≡ 1 → a < b
+    → banks_before es a < banks_before es b
 bank_less es a b e h one less =
     let most : banks_before es (a + 1) ≤ banks_before es b = fronts_in_order (λ (x : ElementName × Element). bank_count x.1) (a + 1) b es (omega arith) in
     omega (arith, count_next bank_count es a e h, one, most)
@@ -149,14 +157,16 @@ one_place es a b x y h one k two same = ⊎_elim (λ less. absurd (omega (arith,
     (λ rest. ⊎_elim (λ e. e) (λ less. absurd (omega (arith, bank_less es b a y k two less, same))) rest)
     (in_order a b)
 
-transformer_less : (es : Elements) (a b : ℕ) (e : ElementName × Element) → slice_get es a ≡ Some e → tap_count e.1 ≡ 1 → a < b →
+transformer_less : (es : Elements) (a b : ℕ) (e : ElementName × Element) → slice_get es a ≡ Some e → tap_count e.1 ≡ 1
+    → a < b →
     transformers_before es a < transformers_before es b
 transformer_less es a b e h one less =
     let most : transformers_before es (a + 1) ≤ transformers_before es b = fronts_in_order (λ (x : ElementName × Element). tap_count x.1) (a + 1) b es (omega arith) in
     omega (arith, count_next tap_count es a e h, one, most)
 
 -- transformers at two places have two numbers
-pub one_transformer_place : (es : Elements) (a b : ℕ) (x y : ElementName × Element) → slice_get es a ≡ Some x → tap_count x.1 ≡ 1 →
+pub one_transformer_place : (es : Elements) (a b : ℕ) (x y : ElementName × Element) → slice_get es a ≡ Some x
+    → tap_count x.1 ≡ 1 →
     slice_get es b ≡ Some y → tap_count y.1 ≡ 1 → transformers_before es a ≡ transformers_before es b → a ≡ b
 one_transformer_place es a b x y h one k two same = ⊎_elim (λ less. absurd (omega (arith, transformer_less es a b x h one less, same)))
     (λ rest. ⊎_elim (λ e. e) (λ less. absurd (omega (arith, transformer_less es b a y k two less, same))) rest)
@@ -164,7 +174,8 @@ one_transformer_place es a b x y h one k two same = ⊎_elim (λ less. absurd (o
 
 -- ---- the probe of a control
 
-reg_by : (es : Elements) (control : RegControl) (p : RegProbe) (place : ℕ) → place_given es class.Transformer control.transformer ≡ Some place →
+reg_by : (es : Elements) (control : RegControl) (p : RegProbe) (place : ℕ)
+    → place_given es class.Transformer control.transformer ≡ Some place →
     (o : Option Transformer) → option_and_then transformer_in (element_at es place) ≡ o → reg_probe_at es control place o ≡ Some p → IsRegProbeIn es control p
 reg_by es control p place found None at h = absurd (cc)
 reg_by es control p place found (Some t) at h = option_and_then_some transformer_in (element_at es place) t at (λ e there back. record {
@@ -175,12 +186,14 @@ reg_by es control p place found (Some t) at h = option_and_then_some transformer
   probe = sym (same_Some _ _ h);
 })
 
-pub reg_back : (es : Elements) (control : RegControl) (p : RegProbe) → reg_probe_in es control ≡ Some p → IsRegProbeIn es control p
+pub reg_back : (es : Elements) (control : RegControl) (p : RegProbe) → reg_probe_in es control ≡ Some p
+    → IsRegProbeIn es control p
 reg_back es control p h = option_and_then_some (λ place. reg_probe_at es control place (option_and_then transformer_in (element_at es place)))
     (place_given es class.Transformer control.transformer) p h
     (λ place found made. reg_by es control p place found (option_and_then transformer_in (element_at es place)) refl made)
 
-cap_by : (es : Elements) (control : CapControl) (p : CapProbe) (place : ℕ) → place_given es class.Line control.element ≡ Some place →
+cap_by : (es : Elements) (control : CapControl) (p : CapProbe) (place : ℕ)
+    → place_given es class.Line control.element ≡ Some place →
     (o : Option Line) → option_and_then line_in (element_at es place) ≡ o → (bank : Option ℕ) → place_given es class.Capacitor control.capacitor ≡ bank →
     cap_probe_at es control place o bank ≡ Some p → IsCapProbeIn es control p
 cap_by es control p place found None at bank bank_found h = absurd (cc)
@@ -195,19 +208,22 @@ cap_by es control p place found (Some l) at (Some bank) bank_found h = option_an
   probe = sym (same_Some _ _ h);
 })
 
-pub cap_back : (es : Elements) (control : CapControl) (p : CapProbe) → cap_probe_in es control ≡ Some p → IsCapProbeIn es control p
+pub cap_back : (es : Elements) (control : CapControl) (p : CapProbe) → cap_probe_in es control ≡ Some p
+    → IsCapProbeIn es control p
 cap_back es control p h = option_and_then_some
     (λ place. cap_probe_at es control place (option_and_then line_in (element_at es place)) (place_given es class.Capacitor control.capacitor))
     (place_given es class.Line control.element) p h
     (λ place found made. cap_by es control p place found (option_and_then line_in (element_at es place)) refl (place_given es class.Capacitor control.capacitor) refl made)
 
-reg_forth : (es : Elements) (control : RegControl) (p : RegProbe) → IsRegProbeIn es control p → Some p ≡ reg_probe_in es control
+reg_forth : (es : Elements) (control : RegControl) (p : RegProbe) → IsRegProbeIn es control p
+    → Some p ≡ reg_probe_in es control
 reg_forth es control p r =
     ap Some r.probe
     ∙ ap (λ (o : Option Element). reg_probe_at es control r.place (option_and_then transformer_in o)) (sym r.there)
     ∙ ap (option_and_then (λ place. reg_probe_at es control place (option_and_then transformer_in (element_at es place)))) (sym r.found)
 
-cap_forth : (es : Elements) (control : CapControl) (p : CapProbe) → IsCapProbeIn es control p → Some p ≡ cap_probe_in es control
+cap_forth : (es : Elements) (control : CapControl) (p : CapProbe) → IsCapProbeIn es control p
+    → Some p ≡ cap_probe_in es control
 cap_forth es control p r =
     ap Some r.probe
     ∙ ap (λ (o : Option ℕ). cap_probe_at es control r.place (Some r.line) o) (sym r.bank_found)
@@ -249,7 +265,8 @@ module _ (es : Elements) (P : Probe → Type 0) where
   some_bank control None e h = tt
   some_bank control (Some p) e h = h p (cap_back es control p e)
 
-  pub by_kind : (e : Element) → ((control : RegControl) (p : RegProbe) → e ≡ the.RegControl control → IsRegProbeIn es control p → P (probe.Regulator p)) →
+  pub by_kind : (e : Element)
+      → ((control : RegControl) (p : RegProbe) → e ≡ the.RegControl control → IsRegProbeIn es control p → P (probe.Regulator p)) →
       ((control : CapControl) (p : CapProbe) → e ≡ the.CapControl control → IsCapProbeIn es control p → P (probe.Bank p)) → IfSome (probe_in es e) P
   by_kind (the.RegControl control) f g = some_regulator control (reg_probe_in es control) refl (λ p r. f control p refl r)
   by_kind (the.CapControl control) f g = some_bank control (cap_probe_in es control) refl (λ p r. g control p refl r)

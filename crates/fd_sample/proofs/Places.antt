@@ -12,14 +12,16 @@ use Rattle.dss_layout.specs.Layout.{Elements, sums_before}
 use Rattle.dss_layout.proofs.CallerLemmas.{length-sums_before}
 use Rattle.fd_sample.specs.Circuits.{element_at}
 
-pub there_by : (o : Option ℕ) (es : Elements) (v w : Option Element) → v ≡ w → IfSome o (λ i. slice_get (map (λ e. e.1) es) i ≡ v) → IfSome o (λ i. element_at es i ≡ w)
+pub there_by : (o : Option ℕ) (es : Elements) (v w : Option Element) → v ≡ w
+    → IfSome o (λ i. slice_get (map (λ e. e.1) es) i ≡ v) → IfSome o (λ i. element_at es i ≡ w)
 there_by None es v w e h = tt
 there_by (Some i) es v w e h = sym (slice_get-map (λ (x : ElementName × Element). x.1) es i) ∙ (h ∙ e)
 
 -- ---- how many stand before a place
 
 -- the sums before the elements up to a place and before those behind it are all, with one element more
-pub sums_next : (f : Element → ℕ) (es : Elements) (k s n : ℕ) (e : ElementName × Element) (made more all : List ℕ) → slice_get es k ≡ Some e →
+pub sums_next : (f : Element → ℕ) (es : Elements) (k s n : ℕ) (e : ElementName × Element) (made more all : List ℕ)
+    → slice_get es k ≡ Some e →
     n ≡ f e.1 → more ≡ made ++ s ∷ [] → made ++ sums_before f s (drop k es) ≡ all → more ++ sums_before f (s + n) (drop (k + 1) es) ≡ all
 sums_next f es k s n e made more all here count items h =
     let next : drop k es ≡ e ∷ drop (k + 1) es =
@@ -29,16 +31,19 @@ sums_next f es k s n e made more all here count items h =
     ∙ (append_assoc made (s ∷ []) (sums_before f (s + f e.1) (drop (k + 1) es)) ∙ (sym (ap (λ (xs : Elements). made ++ sums_before f s xs) next) ∙ h)))
 
 -- what stands at a place
-sum_at : (f : Element → ℕ) (s : ℕ) (es : Elements) (i : ℕ) → i < length es → slice_index (sums_before f s es) i ≡ s + list_n (λ e. f e.1) (take i es)
+sum_at : (f : Element → ℕ) (s : ℕ) (es : Elements) (i : ℕ) → i < length es
+    → slice_index (sums_before f s es) i ≡ s + list_n (λ e. f e.1) (take i es)
 sum_at f s [] i h = absurd (omega arith)
 sum_at f s (e ∷ es) zero h = omega arith
 sum_at f s (e ∷ es) (suc i) h = omega (arith, sum_at f (s + f e.1) es i (omega arith))
 
-pub number_at : (f : Element → ℕ) (numbers : List ℕ) (es : Elements) (i : ℕ) → numbers ≡ sums_before f 0 es → i < length es →
+pub number_at : (f : Element → ℕ) (numbers : List ℕ) (es : Elements) (i : ℕ) → numbers ≡ sums_before f 0 es
+    → i < length es →
     slice_index numbers i ≡ list_n (λ e. f e.1) (take i es)
 number_at f numbers es i is h = ap (λ (ns : List ℕ). slice_index ns i) is ∙ (sum_at f 0 es i h ∙ zero-add _)
 
-pub numbers_inside : (f : Element → ℕ) (numbers : List ℕ) (es : Elements) (i : ℕ) → numbers ≡ sums_before f 0 es → i < length es → i < length numbers
+pub numbers_inside : (f : Element → ℕ) (numbers : List ℕ) (es : Elements) (i : ℕ) → numbers ≡ sums_before f 0 es
+    → i < length es → i < length numbers
 numbers_inside f numbers es i is h = let count = ap length is ∙ length-sums_before f 0 es in omega arith
 
 last_one : (f : ElementName × Element → ℕ) (e : ElementName × Element) → list_n f (e ∷ []) ≡ f e

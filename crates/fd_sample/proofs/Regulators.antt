@@ -30,11 +30,13 @@ use Rattle.fd_sample.proofs.Samples.{all_differ, root_of_all}
 
 -- ---- the phasor
 
-delivered_by : (t : Bool) (b c : Cx Bounds) (y z : Complex) → AreHeld b y → AreHeld c z → AreHeld (cond t b c) (cond t y z)
+delivered_by : (t : Bool) (b c : Cx Bounds) (y z : Complex) → AreHeld b y → AreHeld c z
+    → AreHeld (cond t b c) (cond t y z)
 delivered_by true b c y z h k = h
 delivered_by false b c y z h k = k
 
-delivered_held : (p : RegProbe) (t : TapPair) (c : List ℤ) (r : List ℕ) (x : State) → IsRegProbe (length c) p → AreTaps t → IsInBall c r x →
+delivered_held : (p : RegProbe) (t : TapPair) (c : List ℤ) (r : List ℕ) (x : State) → IsRegProbe (length c) p
+    → AreTaps t → IsInBall c r x →
     AreHeld (delivered_interval p t c r) (delivered p t x)
 delivered_held p t c r x h taps b =
     let branch = node_held c r x (Node p.branch) b h.branch in
@@ -45,7 +47,8 @@ delivered_held p t c r x h taps b =
     (negative_held (scaled_interval (interval_at c r (Node p.branch)) (turns_interval p t)) (scaled_by (unknown x (Node p.branch)) (turns_of p t))
     (scaled_held (interval_at c r (Node p.branch)) (turns_interval p t) (unknown x (Node p.branch)) (turns_of p t) branch turns))
 
-relay_held : (p : RegProbe) (t : TapPair) (c : List ℤ) (r : List ℕ) (x : State) → IsRegProbe (length c) p → AreTaps t → IsInBall c r x →
+relay_held : (p : RegProbe) (t : TapPair) (c : List ℤ) (r : List ℕ) (x : State) → IsRegProbe (length c) p → AreTaps t
+    → IsInBall c r x →
     AreHeld (relay_interval p t c r) (relay_voltage p t x)
 relay_held p t c r x h taps b =
     let volts = factor_held (pos (10 ^ 9)) p.ptratio (omega (arith, h.settings.ptratio_least)) in
@@ -58,16 +61,19 @@ relay_held p t c r x h taps b =
     (times_held (delivered_interval p t c r) (factor p.r p.ctprim) (factor p.x p.ctprim) (delivered p t x) (compensation p) (delivered_held p t c r x h taps b) re im)
 
 -- the interval of squares holds the square at each state
-squares_held : (p : RegProbe) (t : TapPair) (c : List ℤ) (r : List ℕ) (x : State) → IsRegProbe (length c) p → AreTaps t → IsInBall c r x →
+squares_held : (p : RegProbe) (t : TapPair) (c : List ℤ) (r : List ℕ) (x : State) → IsRegProbe (length c) p → AreTaps t
+    → IsInBall c r x →
     IsHeld (reg_interval p t c r) (square_size (relay_voltage p t x))
 unfolding reg_interval
 squares_held p t c r x h taps b = square_size_held (relay_interval p t c r) (relay_voltage p t x) (relay_held p t c r x h taps b)
 
-with_size : (s : Bounds) (z : Complex) → IsHeld s (square_size z) → Holds s (fraction (pos (nat_abs (square_size z).top)) (square_size z).over)
+with_size : (s : Bounds) (z : Complex) → IsHeld s (square_size z)
+    → Holds s (fraction (pos (nat_abs (square_size z).top)) (square_size z).over)
 with_size s z h = subst (λ (n : ℤ). Holds s (fraction n (square_size z).over)) (square_top z) h.holds
 
 -- what is decided over the ball is so at each of its states
-pub reg_of_all : (p : RegProbe) (t : TapPair) (c : List ℤ) (r : List ℕ) (x : State) (v : Decision) → IsRegProbe (length c) p → AreTaps t → IsInBall c r x →
+pub reg_of_all : (p : RegProbe) (t : TapPair) (c : List ℤ) (r : List ℕ) (x : State) (v : Decision)
+    → IsRegProbe (length c) p → AreTaps t → IsInBall c r x →
     agreed (reg_interval p t c r) (reg_decision p t (least_root (reg_interval p t c r))) (reg_decision p t (greatest_root (reg_interval p t c r))) ≡ Some v →
     reg_decision p t (reg_quantity p t x) ≡ v
 reg_of_all p t c r x v h taps b e =
@@ -96,7 +102,8 @@ not_lower : (t : Bool) (a b : ℕ) → cond t (Raise a) Hold ≢ Lower b
 not_lower true a b e = cc
 not_lower false a b e = cc
 
-differs : (r : Regulator) (b : ℕ) → root_above 0 1 r.hi ≡ false → root_below b 1 r.lo ≡ false → root_above b 1 r.hi ≡ true →
+differs : (r : Regulator) (b : ℕ) → root_above 0 1 r.hi ≡ false → root_below b 1 r.lo ≡ false
+    → root_above b 1 r.hi ≡ true →
     regulator_verdict r (magnitude 0 1) ≢ regulator_verdict r (magnitude b 1)
 differs r b low lo hi e =
     let left : regulator_verdict r (magnitude 0 1) ≡ cond (root_below 0 1 r.lo) (Raise (steps_up r (magnitude 0 1))) Hold =
@@ -112,13 +119,15 @@ low_size v b h k = omega (arith, ints)
 high_size : (v b : ℕ) → v ≤ 10 ^ 15 → b ≤ 10 ^ 12 → nat_abs (pos (2 * v) +ℤ pos b) ≤ 2 ^ 60 * 2000
 high_size v b h k = omega (arith, ints)
 
-pub reg_differs : (p : RegProbe) (tap : ℕ) → AreRegSettings p → wanted_at p tap (least_root None) ≢ wanted_at p tap (greatest_root None)
+pub reg_differs : (p : RegProbe) (tap : ℕ) → AreRegSettings p
+    → wanted_at p tap (least_root None) ≢ wanted_at p tap (greatest_root None)
 reg_differs p tap h = differs (regulator_at (settings_of p) tap) (2 ^ 240) (above_nothing _)
     (below_large (regulator_at (settings_of p) tap).lo (2 ^ 240) (near_within (pos (2 * p.vreg) -ℤ pos p.band) 2000 (2 ^ 60) (lit< tt) (low_size p.vreg p.band h.vreg h.band)) (lit< tt))
     (above_large (regulator_at (settings_of p) tap).hi (2 ^ 240) (near_within (pos (2 * p.vreg) +ℤ pos p.band) 2000 (2 ^ 60) (lit< tt) (high_size p.vreg p.band h.vreg h.band)) (lit< tt))
 
 -- where nothing is decided, the edge is where the decision changes
-all_of : (p : RegProbe) (tap : ℕ) (s : Bounds) → AreRegSettings p → s ≡ None → wanted_at p tap (least_root s) ≢ wanted_at p tap (greatest_root s)
+all_of : (p : RegProbe) (tap : ℕ) (s : Bounds) → AreRegSettings p → s ≡ None
+    → wanted_at p tap (least_root s) ≢ wanted_at p tap (greatest_root s)
 all_of p tap s h e = subst (λ (b : Bounds). wanted_at p tap (least_root b) ≢ wanted_at p tap (greatest_root b)) (sym e) (reg_differs p tap h)
 
 pub reg_edged : (p : RegProbe) (tap : ℕ) (s : Bounds) → AreRegSettings p →

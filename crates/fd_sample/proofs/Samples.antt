@@ -34,11 +34,13 @@ pub all_differ : (s : Bounds) (v w : Decision) → (s ≡ None → v ≢ w) → 
 all_differ None v w all e = all refl
 all_differ (Some b) v w all e = ends_differ (Some b) v w refl e
 
-agreed_same : (s : Bounds) (low high v w : Decision) → (IsSome s → low ≡ v) → (IsSome s → high ≡ w) → agreed s low high ≡ agreed s v w
+agreed_same : (s : Bounds) (low high v w : Decision) → (IsSome s → low ≡ v) → (IsSome s → high ≡ w)
+    → agreed s low high ≡ agreed s v w
 agreed_same None low high v w e h = refl
 agreed_same (Some b) low high v w e h = let j = e refl in let k = h refl in cc
 
-both_of : {P Q R : ℤ → ℤ → ℤ → Type 0} (v : Verdict) → ((lo hi at : ℤ) → P lo hi at → Q lo hi at → R lo hi at) → IfUndecided v P →
+both_of : {P Q R : ℤ → ℤ → ℤ → Type 0} (v : Verdict) → ((lo hi at : ℤ) → P lo hi at → Q lo hi at → R lo hi at)
+    → IfUndecided v P →
     IfUndecided v Q → IfUndecided v R
 both_of (verdict.Raise n) f p q = tt
 both_of verdict.Hold f p q = tt
@@ -86,7 +88,8 @@ some_by true v w e = (refl, cc)
 some_by false v w e = absurd (cc)
 
 -- what is decided over an interval of squares is so at every magnitude whose square it holds
-pub root_of_all : (f : Quantity → Decision) (s : Bounds) (m d : ℕ) (v : Decision) → IsOfAll f → 0 < d → Holds s (record { top = pos m; over = d }) →
+pub root_of_all : (f : Quantity → Decision) (s : Bounds) (m d : ℕ) (v : Decision) → IsOfAll f → 0 < d
+    → Holds s (record { top = pos m; over = d }) →
     agreed s (f (least_root s)) (f (greatest_root s)) ≡ Some v → f (magnitude m d) ≡ v
 root_of_all f None m d v all p h e = absurd (cc)
 root_of_all f (Some b) m d v all p h e = all (least_root (Some b)) (magnitude m d) (greatest_root (Some b)) v
@@ -95,7 +98,8 @@ root_of_all f (Some b) m d v all p h e = all (least_root (Some b)) (magnitude m 
     e
 
 -- and over an interval of values
-pub value_of_all : (f : Quantity → Decision) (s : Bounds) (n : ℤ) (d : ℕ) (v : Decision) → IsOfAll f → 0 < d → Holds s (record { top = n; over = d }) →
+pub value_of_all : (f : Quantity → Decision) (s : Bounds) (n : ℤ) (d : ℕ) (v : Decision) → IsOfAll f → 0 < d
+    → Holds s (record { top = n; over = d }) →
     agreed s (f (least_value s)) (f (greatest_value s)) ≡ Some v → f (value n (d * 10 ^ 6)) ≡ v
 value_of_all f None n d v all p h e = absurd (cc)
 value_of_all f (Some b) n d v all p h e = all (least_value (Some b)) (value n (d * 10 ^ 6)) (greatest_value (Some b)) v

@@ -4,16 +4,20 @@ use Rattle.std.specs.Int.{w32, w128}
 use Rattle.std.proofs.lemmas.Int.{ints, to_z-of_z}
 use Rattle.fd_exact.specs.Ranges.{IsBetween}
 
-fits_wide : (low high z : ℤ) → low ≤ℤ z → z ≤ℤ high → neg_ℤ (pos (2 ^ 126)) ≤ℤ low → high ≤ℤ pos (2 ^ 126) → FitsSigned w128 z
+fits_wide : (low high z : ℤ) → low ≤ℤ z → z ≤ℤ high → neg_ℤ (pos (2 ^ 126)) ≤ℤ low → high ≤ℤ pos (2 ^ 126)
+    → FitsSigned w128 z
 fits_wide low high z l h p q = omega (arith, ints)
 
-pub back : (low high z : ℤ) → IsBetween low high z → neg_ℤ (pos (2 ^ 126)) ≤ℤ low → high ≤ℤ pos (2 ^ 126) → to_z w128 (of_z w128 z) ≡ z
+pub back : (low high z : ℤ) → IsBetween low high z → neg_ℤ (pos (2 ^ 126)) ≤ℤ low → high ≤ℤ pos (2 ^ 126)
+    → to_z w128 (of_z w128 z) ≡ z
 back low high z h p q = to_z-of_z w128 z (fits_wide low high z h.least h.most p q)
 
-fits_narrow : (low high z : ℤ) → low ≤ℤ z → z ≤ℤ high → neg_ℤ (pos (2 ^ 30)) ≤ℤ low → high ≤ℤ pos (2 ^ 30) → FitsSigned w32 z
+fits_narrow : (low high z : ℤ) → low ≤ℤ z → z ≤ℤ high → neg_ℤ (pos (2 ^ 30)) ≤ℤ low → high ≤ℤ pos (2 ^ 30)
+    → FitsSigned w32 z
 fits_narrow low high z l h p q = omega (arith, ints)
 
-pub back_narrow : (low high z : ℤ) → IsBetween low high z → neg_ℤ (pos (2 ^ 30)) ≤ℤ low → high ≤ℤ pos (2 ^ 30) → to_z w32 (of_z w32 z) ≡ z
+pub back_narrow : (low high z : ℤ) → IsBetween low high z → neg_ℤ (pos (2 ^ 30)) ≤ℤ low → high ≤ℤ pos (2 ^ 30)
+    → to_z w32 (of_z w32 z) ≡ z
 back_narrow low high z h p q = to_z-of_z w32 z (fits_narrow low high z h.least h.most p q)
 
 -- ---- sizes

@@ -53,20 +53,23 @@ record ArePlaces (places : ℕ) (p : NodePair) : Type 0 where
   first : IsPlace places p.first
   second : IsPlace places p.second
 
-pair_places : (n places : ℕ) (p : PhasePairs) (ns : List NodeAt) (k : ℕ) → n ≤ 2 ^ 29 → 2 * n ≤ places → All (IsAmong n) ns → ArePlaces places (pair_of p ns k)
+pair_places : (n places : ℕ) (p : PhasePairs) (ns : List NodeAt) (k : ℕ) → n ≤ 2 ^ 29 → 2 * n ≤ places
+    → All (IsAmong n) ns → ArePlaces places (pair_of p ns k)
 pair_places n places p ns k few room h = record {
   first = place_among n places (node_of ns k) few room (node_among n ns k h);
   second = place_among n places (second_node p ns k) few room (second_among n p ns k h);
 }
 
-either_pair : (t : Bool) (places : ℕ) (p q : NodePair) → ArePlaces places p → ArePlaces places q → ArePlaces places (cond t p q)
+either_pair : (t : Bool) (places : ℕ) (p q : NodePair) → ArePlaces places p → ArePlaces places q
+    → ArePlaces places (cond t p q)
 either_pair true places p q h k = h
 either_pair false places p q h k = k
 
 index_below : (phases : ℕ) (phase : ℤ) → IsPhase phases phase → phase_index phase < phases
 index_below phases phase h = omega (arith, ints, h.least, h.most)
 
-pub branch_place : (n places m phases : ℕ) (at : Ends) (k : ℕ) → IsAt n places m phases at → k < phases → IsPlace places (Node (at.branch + k))
+pub branch_place : (n places m phases : ℕ) (at : Ends) (k : ℕ) → IsAt n places m phases at → k < phases
+    → IsPlace places (Node (at.branch + k))
 branch_place n places m phases at k h less =
     let below : at.branch + phases ≤ n = h.branches.below in
     let few = h.few in
@@ -74,7 +77,8 @@ branch_place n places m phases at k h less =
     (omega arith, omega arith)
 
 -- the probe of a regulator's control at a transformer that stands among the unknowns
-pub reg_places : (control : RegControl) (t : Transformer) (at : Ends) (number n places : ℕ) (p : RegProbe) → p ≡ reg_probe control t at number →
+pub reg_places : (control : RegControl) (t : Transformer) (at : Ends) (number n places : ℕ) (p : RegProbe)
+    → p ≡ reg_probe control t at number →
     AreRegSettings p → IsPhase t.phases control.ptphase → IsXfmrAt n places t.phases at → IsRegProbe places p
 reg_places control t at number n places p is settings phase h =
     let k = phase_index control.ptphase in
@@ -95,7 +99,8 @@ side_among false n m places phases at h = h.first.below
 ratio_of : (z : ℤ) → IsBetween (pos 1_000_000) (pos (1_000_000 * 1_000_000_000)) z → IsRatio (nat_abs z)
 ratio_of z h = let w = size_between 1_000_000 (1_000_000 * 1_000_000_000) z h in record { least = w.0; most = w.1 }
 
-end_places : (t : Bool) (l : Line) (at : Ends) (n places : ℕ) → l.phases ≤ 3 → IsLineAt n places l.phases at → IsLineEnd places (line_end t l at)
+end_places : (t : Bool) (l : Line) (at : Ends) (n places : ℕ) → l.phases ≤ 3 → IsLineAt n places l.phases at
+    → IsLineEnd places (line_end t l at)
 end_places t l at n places few h =
     let node : (k : ℕ) → IsPlace places (node_of (side_of t at) k) = λ k. place_among n places (node_of (side_of t at) k) h.few h.room (node_among n (side_of t at) k (side_among t n l.phases places l.phases at h)) in
     record {
@@ -106,7 +111,8 @@ end_places t l at n places few h =
       branches = λ k less. branch_place n places l.phases l.phases at k h less;
     }
 
-measured_places : (q : ControlQuantity) (control : CapControl) (l : Line) (at : Ends) (n places : ℕ) → CapControlInRange control → l.phases ≤ 3 →
+measured_places : (q : ControlQuantity) (control : CapControl) (l : Line) (at : Ends) (n places : ℕ)
+    → CapControlInRange control → l.phases ≤ 3 →
     IsPhase l.phases control.ctphase → IsLineAt n places l.phases at → IsMeasured places (measured_by q control l at)
 measured_places quantity.Voltage control l at n places range few phase h =
     let t = nat_eq control.terminal 2 in
@@ -116,7 +122,8 @@ measured_places quantity.Current control l at n places range few phase h =
     (branch_place n places l.phases l.phases at (phase_index control.ctphase) h (index_below l.phases control.ctphase phase), ratio_of control.ctratio range.ctratio)
 measured_places quantity.Kvar control l at n places range few phase h = end_places (nat_eq control.terminal 2) l at n places few h
 
-pub cap_places : (control : CapControl) (l : Line) (at : Ends) (number n places : ℕ) (p : CapProbe) → p ≡ cap_probe control l at number →
+pub cap_places : (control : CapControl) (l : Line) (at : Ends) (number n places : ℕ) (p : CapProbe)
+    → p ≡ cap_probe control l at number →
     CapControlInRange control → l.phases ≤ 3 → IsPhase l.phases control.ctphase → IsLineAt n places l.phases at → IsCapProbe places p
 cap_places control l at number n places p is range few phase h = subst (IsCapProbe places) (sym is) (record {
   measured = measured_places control.kind control l at n places range few phase h;

@@ -13,7 +13,8 @@ le_of_squares x y h = grind arith
 same_root : (n a b : ℕ) → IsRoot n a → IsRoot n b → a ≡ b
 same_root n a b h k = let x = le_of_squares a b (omega (arith, h.0, k.1)) in let y = le_of_squares b a (omega (arith, k.0, h.1)) in omega arith
 
-next_by : (t : Bool) (n r : ℕ) → (t ≡ true → (r + 1) * (r + 1) ≤ suc n) → (t ≡ false → suc n < (r + 1) * (r + 1)) → IsRoot n r → IsRoot (suc n) (cond t (r + 1) r)
+next_by : (t : Bool) (n r : ℕ) → (t ≡ true → (r + 1) * (r + 1) ≤ suc n) → (t ≡ false → suc n < (r + 1) * (r + 1))
+    → IsRoot n r → IsRoot (suc n) (cond t (r + 1) r)
 next_by true n r up low h = (up refl, let k = h.1 in omega arith)
 next_by false n r up low h = (let k = h.0 in omega arith, low refl)
 
@@ -48,7 +49,8 @@ same_root_up n a b h k = let x = not_below n a b h.0 k.1 in let y = not_below n 
 differ : (a b : ℕ) → eqb a b ≡ false → a ≤ b → a < b
 differ a b e h = grind (arith, nat_tests)
 
-up_by : (t : Bool) (n r : ℕ) → (t ≡ true → r * r ≡ n) → (t ≡ false → r * r < n) → IsRoot n r → IsRootUp n (cond t r (r + 1))
+up_by : (t : Bool) (n r : ℕ) → (t ≡ true → r * r ≡ n) → (t ≡ false → r * r < n) → IsRoot n r
+    → IsRootUp n (cond t r (r + 1))
 up_by true n r same less h = (let e = same refl in omega arith, λ s below. let e = same refl in let k = squares_in_order (s + 1) r (omega arith) in omega arith)
 up_by false n r same less h = (let k = h.1 in omega arith, λ s below. let e = less refl in let k = squares_in_order s r (omega arith) in omega arith)
 

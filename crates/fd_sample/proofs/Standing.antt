@@ -42,7 +42,8 @@ use Rattle.fd_sample.specs.declared.probe.RegProbe.{RegProbe}
 
 -- ---- the class of an element that is there
 
-found_class : (name : ElementName) (es : Elements) → All IsEntry es → IfSome (lookup (same_element name) es) (λ e. name.class ≡ class_of e)
+found_class : (name : ElementName) (es : Elements) → All IsEntry es
+    → IfSome (lookup (same_element name) es) (λ e. name.class ≡ class_of e)
 found_class name [] h = tt
 found_class name (e ∷ es) h = by (same_element name e.0) refl (found_class name es (All-tail IsEntry e es h))
   where
@@ -51,7 +52,8 @@ found_class name (e ∷ es) h = by (same_element name e.0) refl (found_class nam
     by true t rest = ap (λ (n : ElementName). n.class) ((equal name e.0).0 t) ∙ (All-head IsEntry e es h).class
     by false t rest = rest
 
-given_class : (es : Elements) (kind : Class) (given : Option (List ℕ)) (e : Element) → All IsEntry es → element_given es kind given ≡ Some e → kind ≡ class_of e
+given_class : (es : Elements) (kind : Class) (given : Option (List ℕ)) (e : Element) → All IsEntry es
+    → element_given es kind given ≡ Some e → kind ≡ class_of e
 given_class es kind None e h is = absurd (cc)
 given_class es kind (Some name) e h is =
     let found = found_class (record { class = kind; name = name }) es h in
@@ -68,7 +70,8 @@ as_transformer (the.RegControl c) h = absurd (cc)
 as_transformer (the.CapControl c) h = absurd (cc)
 as_transformer (the.Loadshape s) h = absurd (cc)
 
-pub is_transformer : (es : Elements) (given : Option (List ℕ)) (e : Element) → All IsEntry es → element_given es class.Transformer given ≡ Some e → IsSome (transformer_in e)
+pub is_transformer : (es : Elements) (given : Option (List ℕ)) (e : Element) → All IsEntry es
+    → element_given es class.Transformer given ≡ Some e → IsSome (transformer_in e)
 is_transformer es given e h is = as_transformer e (given_class es class.Transformer given e h is)
 
 -- ---- where it stands
@@ -84,7 +87,8 @@ among_small n (Node k) few h = omega arith
 side_more : (nodes n m : ℕ) (ns : List NodeAt) → nodes ≤ n → IsSideOf nodes m ns → IsSideOf n m ns
 side_more nodes n m ns le h = record { count = h.count; below = λ k d w. among_more nodes n (get_or ns k d) le (h.below k d w) }
 
-pub xfmr_in : (circuit : CircuitView) → HasPassed circuit → All (λ e. ElementInRange e.1) circuit.elements → (control : RegControl) →
+pub xfmr_in : (circuit : CircuitView) → HasPassed circuit → All (λ e. ElementInRange e.1) circuit.elements
+    → (control : RegControl) →
     IsRegControlIn circuit.elements control → (place : ℕ) (n : ElementName) (t : Transformer) →
     slice_get circuit.elements place ≡ Some (n, the.Transformer t) →
     element_at circuit.elements place ≡ element_given circuit.elements class.Transformer control.transformer → IsXfmrOf (layout_of circuit.elements) place control t
@@ -134,7 +138,8 @@ transformer_back (the.Loadshape s) t h = absurd (cc)
 pub at_some : (P : ℕ → Type 0) (o : Option ℕ) (place : ℕ) → o ≡ Some place → IfSome o P → P place
 at_some P o place e h = subst (λ (x : Option ℕ). IfSome x P) e h
 
-pub record IsFound (circuit : CircuitView) (control : RegControl) (place : ℕ) (e : Element) (t : Transformer) : Type 0 where
+pub record IsFound (circuit : CircuitView) (control : RegControl) (place : ℕ) (e : Element)
+    (t : Transformer) : Type 0 where
   pub stands : IsXfmrOf (layout_of circuit.elements) place control t
   pub is : e ≡ the.Transformer t
   pub there : element_at circuit.elements place ≡ Some (the.Transformer t)
@@ -180,7 +185,8 @@ some_of : (o : Option Transformer) → IsSome o → HasTransformer o
 some_of None h = absurd (cc)
 some_of (Some t) h = record { transformer = t; is = refl }
 
-pub xfmr_for : (circuit : CircuitView) → HasPassed circuit → All (λ e. ElementInRange e.1) circuit.elements → All IsEntry circuit.elements →
+pub xfmr_for : (circuit : CircuitView) → HasPassed circuit → All (λ e. ElementInRange e.1) circuit.elements
+    → All IsEntry circuit.elements →
     (control : RegControl) → IsRegControlIn circuit.elements control → (place : ℕ) (e : Element) → element_at circuit.elements place ≡ Some e →
     element_at circuit.elements place ≡ element_given circuit.elements class.Transformer control.transformer →
     IsXfmrFor (layout_of circuit.elements) place control e
@@ -196,7 +202,8 @@ own_transformer : (layout : LayoutView) (place : ℕ) (control : RegControl) (e 
     Some t ≡ transformer_in e → f.transformer ≡ t
 own_transformer layout place control e f t is = let back = ap transformer_in f.is in cc
 
-pub stands_of : (layout : LayoutView) (place : ℕ) (control : RegControl) (e : Element) (t : Transformer) (at : Ends) → IsXfmrFor layout place control e →
+pub stands_of : (layout : LayoutView) (place : ℕ) (control : RegControl) (e : Element) (t : Transformer) (at : Ends)
+    → IsXfmrFor layout place control e →
     Some t ≡ transformer_in e → at ≡ ends_of layout place e → IsXfmrAt (complex_count layout) (size_of layout) t.phases at
 stands_of layout place control e t at f is ends =
     let same = own_transformer layout place control e f t is in
@@ -217,7 +224,8 @@ probe_in circuit control place layout e number p same f at found count h = recor
       ∙ (λ i. reg_probe control f.transformer (ends_of (same i) place (the.Transformer f.transformer)) (count i));
 }
 
-pub place_inside : (es : Elements) (layout : LayoutView) (place : ℕ) → layout ≡ layout_of es → place < length es → place < length layout.branches_before
+pub place_inside : (es : Elements) (layout : LayoutView) (place : ℕ) → layout ≡ layout_of es → place < length es
+    → place < length layout.branches_before
 place_inside es layout place same h =
     let count = ap (λ (l : LayoutView). length l.branches_before) same ∙ length-sums_before branch_phases 0 es in
     subst (λ (n : ℕ). place < n) (sym count) h
@@ -254,7 +262,8 @@ some_line : (o : Option Line) → IsSome o → HasLine o
 some_line None h = absurd (cc)
 some_line (Some l) h = record { line = l; is = refl }
 
-pub line_at : (circuit : CircuitView) → HasPassed circuit → All (λ e. ElementInRange e.1) circuit.elements → (control : CapControl) →
+pub line_at : (circuit : CircuitView) → HasPassed circuit → All (λ e. ElementInRange e.1) circuit.elements
+    → (control : CapControl) →
     IsCapControlIn circuit.elements control → (place : ℕ) (n : ElementName) (l : Line) →
     slice_get circuit.elements place ≡ Some (n, the.Line l) →
     element_at circuit.elements place ≡ element_given circuit.elements class.Line control.element → IsLineOf (layout_of circuit.elements) place control l
@@ -282,7 +291,8 @@ line_at circuit h range control r place n l is same =
       stands = record { first = first; second = second; branches = branches; few = few; room = omega arith };
     }
 
-pub line_for : (circuit : CircuitView) → HasPassed circuit → All (λ e. ElementInRange e.1) circuit.elements → All IsEntry circuit.elements →
+pub line_for : (circuit : CircuitView) → HasPassed circuit → All (λ e. ElementInRange e.1) circuit.elements
+    → All IsEntry circuit.elements →
     (control : CapControl) → IsCapControlIn circuit.elements control → (place : ℕ) (e : Element) → element_at circuit.elements place ≡ Some e →
     element_at circuit.elements place ≡ element_given circuit.elements class.Line control.element →
     IsLineFor (layout_of circuit.elements) place control e
@@ -295,10 +305,12 @@ line_for circuit h range keys control r place e at same =
     let there : slice_get circuit.elements place ≡ Some (entry.name, the.Line some.line) = entry.is ∙ ap (λ (x : Element). let pair : ElementName × Element = (entry.name, x) in Some pair) back in
     record { line = some.line; is = back; fit = line_at circuit h range control r place entry.name some.line there same }
 
-own_line : (layout : LayoutView) (place : ℕ) (control : CapControl) (e : Element) (f : IsLineFor layout place control e) (l : Line) → Some l ≡ line_in e → f.line ≡ l
+own_line : (layout : LayoutView) (place : ℕ) (control : CapControl) (e : Element) (f : IsLineFor layout place control e) (l : Line)
+    → Some l ≡ line_in e → f.line ≡ l
 own_line layout place control e f l is = let back = ap line_in f.is in cc
 
-pub line_stands : (layout : LayoutView) (place : ℕ) (control : CapControl) (e : Element) (l : Line) (at : Ends) → IsLineFor layout place control e →
+pub line_stands : (layout : LayoutView) (place : ℕ) (control : CapControl) (e : Element) (l : Line) (at : Ends)
+    → IsLineFor layout place control e →
     Some l ≡ line_in e → at ≡ ends_of layout place e → IsLineAt (complex_count layout) (size_of layout) l.phases at
 line_stands layout place control e l at f is ends =
     let same = own_line layout place control e f l is in
@@ -328,7 +340,8 @@ record AtPlace (circuit : CircuitView) (place : ℕ) (e : Element) : Type 0 wher
   fit : IsFit circuit before (name, e)
   in_range : ElementInRange e
 
-at_place : (circuit : CircuitView) → HasPassed circuit → All (λ e. ElementInRange e.1) circuit.elements → (place : ℕ) (e : Element) →
+at_place : (circuit : CircuitView) → HasPassed circuit → All (λ e. ElementInRange e.1) circuit.elements
+    → (place : ℕ) (e : Element) →
     element_at circuit.elements place ≡ Some e → AtPlace circuit place e
 at_place circuit h range place e at =
     let entry = entry_of (slice_get circuit.elements place) e at in
@@ -341,14 +354,16 @@ at_place circuit h range place e at =
       in_range = subst (λ (x : ElementName × Element). ElementInRange x.1) (get_or_from_slice_get circuit.elements place pair pair entry.is) (range place pair within);
     }
 
-pub regcontrol_in : (circuit : CircuitView) → HasPassed circuit → All (λ e. ElementInRange e.1) circuit.elements → (place : ℕ) (e : Element)
+pub regcontrol_in : (circuit : CircuitView) → HasPassed circuit → All (λ e. ElementInRange e.1) circuit.elements
+    → (place : ℕ) (e : Element)
     (control : RegControl) → element_at circuit.elements place ≡ Some e → e ≡ the.RegControl control → IsRegControlIn circuit.elements control
 regcontrol_in circuit h range place e control at is =
     let here = at_place circuit h range place (the.RegControl control) (at ∙ ap Some is) in
     let fit = here.fit.values in
     record { in_range = here.in_range; transformer = fit.transformer; there = fit.there; phase = fit.phase }
 
-pub capcontrol_in : (circuit : CircuitView) → HasPassed circuit → All (λ e. ElementInRange e.1) circuit.elements → (place : ℕ) (e : Element)
+pub capcontrol_in : (circuit : CircuitView) → HasPassed circuit → All (λ e. ElementInRange e.1) circuit.elements
+    → (place : ℕ) (e : Element)
     (control : CapControl) → element_at circuit.elements place ≡ Some e → e ≡ the.CapControl control → IsCapControlIn circuit.elements control
 capcontrol_in circuit h range place e control at is =
     let here = at_place circuit h range place (the.CapControl control) (at ∙ ap Some is) in

@@ -202,7 +202,8 @@ AreApart (probe.Regulator p) (probe.Regulator q) = p.transformer ≡ q.transform
 -- the probes of a circuit that passed the tests of Solve
 pub record AreProbes (elements : Elements) (ps : List Probe) : Type 0 where
   pub places : All (IsProbe (size_of (layout_of elements))) ps
-  pub devices : (at : Positions) → length at.taps ≡ list_n (λ e. tap_count e.1) elements → length at.closed ≡ list_n (λ e. bank_count e.1) elements → All (HasDevice at) ps
+  pub devices : (at : Positions) → length at.taps ≡ list_n (λ e. tap_count e.1) elements
+      → length at.closed ≡ list_n (λ e. bank_count e.1) elements → All (HasDevice at) ps
   pub times : All HasTimes ps
   pub ranges : All HasRange ps
   pub apart : InPairs AreApart ps

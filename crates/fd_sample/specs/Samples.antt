@@ -81,7 +81,8 @@ abbrev pub AreValueEnds : Bounds → ℤ → ℤ → Type 0
 AreValueEnds None low high = (low ≡ neg_ℤ limit) × (high ≡ limit)
 AreValueEnds (Some e) low high = (low ≡ floor_div e.0 (10 ^ 6)) × (high ≡ ceil_div e.1 (10 ^ 6))
 
-pub record IsValueReport (f : Quantity → Decision) (edge_of : Decision → ℤ) (s : Bounds) (low high at : ℤ) : Type 0 where
+pub record IsValueReport (f : Quantity → Decision) (edge_of : Decision → ℤ) (s : Bounds)
+    (low high at : ℤ) : Type 0 where
   pub ends : AreValueEnds s low high
   pub edge : at ≡ edge_of (f (least_value s))
 

@@ -19,7 +19,8 @@ pub fn bank_verdict(probe: &CapProbe, closed: bool, centre: &[i128], radii: &[u1
     requires probe { IsCapProbe (length centre.now) probe.now }
     requires ball { IsBall centre.now radii.now }
     ensures sample { IsCapSample (kind_of probe.now.measured) (cap_decision probe.now closed) (cap_edge probe.now closed) (cap_interval probe.now.measured centre.now radii.now) result }
-    ensures edge { IsSome (cap_interval probe.now.measured centre.now radii.now) → TellsEdge (cap_decision probe.now closed) (least_of (kind_of probe.now.measured) (cap_interval probe.now.measured centre.now radii.now)) (greatest_of (kind_of probe.now.measured) (cap_interval probe.now.measured centre.now radii.now)) result }
+    ensures edge { IsSome (cap_interval probe.now.measured centre.now radii.now) →
+        TellsEdge (cap_decision probe.now closed) (least_of (kind_of probe.now.measured) (cap_interval probe.now.measured centre.now radii.now)) (greatest_of (kind_of probe.now.measured) (cap_interval probe.now.measured centre.now radii.now)) result }
     ensures every_state { AgreesAtEveryState probe.now closed centre.now radii.now result }
 {
     match probe.measured {
@@ -39,7 +40,8 @@ fn over_squares(probe: &CapProbe, closed: bool, squares: Interval<Square>) -> Ve
     requires on { nat_abs probe.now.on ≤ 10 ^ 15 }
     requires off { nat_abs probe.now.off ≤ 10 ^ 15 }
     ensures sample { IsRootSample (cap_decision probe.now closed) (λ d. cap_edge probe.now closed) squares result }
-    ensures edge { IsSome squares → TellsEdge (cap_decision probe.now closed) (least_root squares) (greatest_root squares) result }
+    ensures edge { IsSome squares →
+        TellsEdge (cap_decision probe.now closed) (least_root squares) (greatest_root squares) result }
 {
     let (least, greatest) = square_ends(squares);
     let low = wanted_at_root(probe, closed, least);
@@ -52,7 +54,8 @@ fn over_values(probe: &CapProbe, closed: bool, values: Interval<Square>) -> Verd
     requires on { nat_abs probe.now.on ≤ 10 ^ 15 }
     requires off { nat_abs probe.now.off ≤ 10 ^ 15 }
     ensures sample { IsValueSample (cap_decision probe.now closed) (λ d. cap_edge probe.now closed) values result }
-    ensures edge { IsSome values → TellsEdge (cap_decision probe.now closed) (least_value values) (greatest_value values) result }
+    ensures edge { IsSome values →
+        TellsEdge (cap_decision probe.now closed) (least_value values) (greatest_value values) result }
 {
     let (least, greatest) = value_ends(values);
     let low = wanted_at_value(probe, closed, least);

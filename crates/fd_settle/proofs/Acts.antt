@@ -127,7 +127,8 @@ same_verdict : (time : ℕ) (s : ControlState) → verdict_in (acted_state time 
 same_verdict time (state.Regulator p s) = refl
 same_verdict time (state.Bank p s) = refl
 
-pub same_probes : (time k : ℕ) (ss : List ControlState) (d : ControlState) → map probe_in (set ss k (acted_state time (get_or ss k d))) ≡ map probe_in ss
+pub same_probes : (time k : ℕ) (ss : List ControlState) (d : ControlState)
+    → map probe_in (set ss k (acted_state time (get_or ss k d))) ≡ map probe_in ss
 same_probes time k ss d = map-set_same probe_in ss k (acted_state time (get_or ss k d)) d (same_after time (get_or ss k d))
 
 pub same_verdicts : (time k : ℕ) (ss : List ControlState) (d : ControlState) →
@@ -135,14 +136,16 @@ pub same_verdicts : (time k : ℕ) (ss : List ControlState) (d : ControlState) �
 same_verdicts time k ss d = map-set_same verdict_in ss k (acted_state time (get_or ss k d)) d (same_verdict time (get_or ss k d))
 
 -- the control itself
-own_state : (opened : List (Option ℕ)) (taps : List TapPair) (closed : List Bool) (time k : ℕ) (s : ControlState) → IsStateOf opened k s →
+own_state : (opened : List (Option ℕ)) (taps : List TapPair) (closed : List Bool) (time k : ℕ) (s : ControlState)
+    → IsStateOf opened k s →
     HasPlace taps closed opened s → IsStateOf (acted_opened time s opened) k (acted_state time s)
 own_state opened taps closed time k (state.Regulator p s) h l = h
 own_state opened taps closed time k (state.Bank p s) h l =
     (h.0, (h.1.0, (h.1.1.0, (h.1.1.1.0, sym (get_or-set_same opened p.bank (opened_at time (is_raise s.verdict) s.opened) None l.1)))))
 
 -- another control
-other_state : (opened : List (Option ℕ)) (time j : ℕ) (s x : ControlState) → AreApart (probe_in s) (probe_in x) → IsStateOf opened j x →
+other_state : (opened : List (Option ℕ)) (time j : ℕ) (s x : ControlState) → AreApart (probe_in s) (probe_in x)
+    → IsStateOf opened j x →
     IsStateOf (acted_opened time s opened) j x
 other_state opened time j (state.Regulator p s) x a h = h
 other_state opened time j (state.Bank p s) (state.Regulator q x) a h = h
@@ -167,7 +170,8 @@ apart_flip (probe.Bank p) (probe.Regulator q) h = tt
 apart_flip (probe.Bank p) (probe.Bank q) h = λ e. h (sym e)
 
 -- two controls of different numbers
-pub two_apart : (ss : List ControlState) (i j : ℕ) (d e : ControlState) → InPairs AreApart (map probe_in ss) → i ≢ j → i < length ss → j < length ss →
+pub two_apart : (ss : List ControlState) (i j : ℕ) (d e : ControlState) → InPairs AreApart (map probe_in ss) → i ≢ j
+    → i < length ss → j < length ss →
     AreApart (probe_in (get_or ss i d)) (probe_in (get_or ss j e))
 two_apart ss i j d e h n l m =
     let n₁ = length-map ss probe_in in
@@ -175,7 +179,8 @@ two_apart ss i j d e h n l m =
     (subst (λ p. AreApart (get_or (map probe_in ss) i (probe_in d)) p) (get_or-map probe_in ss j e (probe_in e) m)
     (pair_at AreApart apart_flip (map probe_in ss) i j (probe_in d) (probe_in e) h n (omega (arith, n₁)) (omega (arith, n₁))))
 
-states_by : (opened opened' : List (Option ℕ)) (ss : List ControlState) (k j : ℕ) (new d : ControlState) → (j ≡ k) ⊎ (j ≢ k) →
+states_by : (opened opened' : List (Option ℕ)) (ss : List ControlState) (k j : ℕ) (new d : ControlState)
+    → (j ≡ k) ⊎ (j ≢ k) →
     IsStateOf opened' k new → (j ≢ k → j < length ss → IsStateOf opened' j (get_or ss j d)) → k < length ss → j < length ss →
     IsStateOf opened' j (get_or (set ss k new) j d)
 states_by opened opened' ss k j new d (inl e) own others l m =
@@ -196,7 +201,8 @@ acted_states opened taps closed ss time k d are apart l place = λ j e m.
 
 -- ---- what an act leaves of the devices
 
-pub place_of : (taps : List TapPair) (closed : List Bool) (opened : List (Option ℕ)) (s : ControlState) → length opened ≡ length closed →
+pub place_of : (taps : List TapPair) (closed : List Bool) (opened : List (Option ℕ)) (s : ControlState)
+    → length opened ≡ length closed →
     HasDevice (record { taps = taps; closed = closed }) (probe_in s) → HasPlace taps closed opened s
 place_of taps closed opened (state.Regulator p s) e h = h
 place_of taps closed opened (state.Bank p s) e h = (h, omega arith)
@@ -209,25 +215,30 @@ pub same_closed : (s : ControlState) (closed : List Bool) → length (acted_clos
 same_closed (state.Regulator p s) closed = refl
 same_closed (state.Bank p s) closed = length-set closed p.bank (is_raise s.verdict)
 
-pub same_opened : (time : ℕ) (s : ControlState) (opened : List (Option ℕ)) → length (acted_opened time s opened) ≡ length opened
+pub same_opened : (time : ℕ) (s : ControlState) (opened : List (Option ℕ))
+    → length (acted_opened time s opened) ≡ length opened
 same_opened time (state.Regulator p s) opened = refl
 same_opened time (state.Bank p s) opened = length-set opened p.bank (opened_at time (is_raise s.verdict) s.opened)
 
-has_device : (taps taps' : List TapPair) (closed closed' : List Bool) (p : Probe) → length taps' ≡ length taps → length closed' ≡ length closed →
+has_device : (taps taps' : List TapPair) (closed closed' : List Bool) (p : Probe) → length taps' ≡ length taps
+    → length closed' ≡ length closed →
     HasDevice (record { taps = taps; closed = closed }) p → HasDevice (record { taps = taps'; closed = closed' }) p
 has_device taps taps' closed closed' (probe.Regulator p) e f h = omega arith
 has_device taps taps' closed closed' (probe.Bank p) e f h = omega arith
 
 -- a pair of which one tap moved within the range
-pair_within : (is_second : Bool) (pair : TapPair) (tap : ℕ) → AreTaps pair → 50000 ≤ tap → tap ≤ 200000 → AreTaps (set_tap is_second tap pair)
+pair_within : (is_second : Bool) (pair : TapPair) (tap : ℕ) → AreTaps pair → 50000 ≤ tap → tap ≤ 200000
+    → AreTaps (set_tap is_second tap pair)
 pair_within true pair tap h l m = record { first_least = h.first_least; first_most = h.first_most; second_least = l; second_most = m }
 pair_within false pair tap h l m = record { first_least = l; first_most = m; second_least = h.second_least; second_most = h.second_most }
 
-tap_within : (is_second : Bool) (pair : TapPair) → AreTaps pair → (50000 ≤ tap_of is_second pair) × (tap_of is_second pair ≤ 200000)
+tap_within : (is_second : Bool) (pair : TapPair) → AreTaps pair
+    → (50000 ≤ tap_of is_second pair) × (tap_of is_second pair ≤ 200000)
 tap_within true pair h = (h.second_least, h.second_most)
 tap_within false pair h = (h.first_least, h.first_most)
 
-moved_within : (is_second : Bool) (pair : TapPair) (d : Decision) (step : ℕ) → AreTaps pair → MovesWithin (tap_of is_second pair) step d →
+moved_within : (is_second : Bool) (pair : TapPair) (d : Decision) (step : ℕ) → AreTaps pair
+    → MovesWithin (tap_of is_second pair) step d →
     AreTaps (set_tap is_second (moved_tap (is_raise d) (tap_of is_second pair) (steps_of d * step)) pair)
 moved_within is_second pair (Raise n) step h m =
     let t = tap_within is_second pair h in pair_within is_second pair (tap_of is_second pair + n * step) h (omega (arith, t.0)) m
@@ -235,17 +246,20 @@ moved_within is_second pair Hold step h m = absurd m
 moved_within is_second pair (Lower n) step h m =
     let t = tap_within is_second pair h in pair_within is_second pair (tap_of is_second pair - n * step) h (omega (arith, m)) (omega (arith, t.1))
 
-pub acted_within : (s : ControlState) (taps : List TapPair) (closed : List Bool) (opened : List (Option ℕ)) → All AreTaps taps → HasPlace taps closed opened s →
+pub acted_within : (s : ControlState) (taps : List TapPair) (closed : List Bool) (opened : List (Option ℕ))
+    → All AreTaps taps → HasPlace taps closed opened s →
     FitsDevice taps s → All AreTaps (acted_taps s taps)
 acted_within (state.Regulator p s) taps closed opened h l f = All-set AreTaps taps p.transformer (moved_pair s (get_or taps p.transformer no_taps))
     (moved_within s.is_second (get_or taps p.transformer no_taps) s.verdict s.tap_step (h p.transformer no_taps l) f.1) h
 acted_within (state.Bank p s) taps closed opened h l f = h
 
-early_by : (time : ℕ) (up : Bool) (o : Option ℕ) → IsEarly o → (up ≡ false → time < 2 ^ 62) → IsEarly (opened_at time up o)
+early_by : (time : ℕ) (up : Bool) (o : Option ℕ) → IsEarly o → (up ≡ false → time < 2 ^ 62)
+    → IsEarly (opened_at time up o)
 early_by time true o h l = h
 early_by time false o h l = l refl
 
-pub acted_early : (s : ControlState) (e : Entry) (opened : List (Option ℕ)) → IsStateOf opened e.control s → way_of (verdict_in s) ≡ Some e.up →
+pub acted_early : (s : ControlState) (e : Entry) (opened : List (Option ℕ)) → IsStateOf opened e.control s
+    → way_of (verdict_in s) ≡ Some e.up →
     OpensEarly e → All IsEarly opened → All IsEarly (acted_opened e.time s opened)
 acted_early (state.Regulator p s) e opened h w o early = early
 acted_early (state.Bank p s) e opened h w o early =
@@ -284,13 +298,15 @@ acted_standing taps closed opened ss e d h l can o =
 -- ---- the entries after it
 
 -- a tap of another winding
-other_tap : (is_second : Bool) (other : Bool) (tap : ℕ) (pair : TapPair) → is_second ≢ other → tap_of other (set_tap is_second tap pair) ≡ tap_of other pair
+other_tap : (is_second : Bool) (other : Bool) (tap : ℕ) (pair : TapPair) → is_second ≢ other
+    → tap_of other (set_tap is_second tap pair) ≡ tap_of other pair
 other_tap true true tap pair n = absurd (n refl)
 other_tap true false tap pair n = refl
 other_tap false true tap pair n = refl
 other_tap false false tap pair n = absurd (n refl)
 
-tap_by : (taps : List TapPair) (i j : ℕ) (is_second other : Bool) (tap : ℕ) → i < length taps → (i ≡ j) ⊎ (i ≢ j) → (i ≡ j → is_second ≢ other) →
+tap_by : (taps : List TapPair) (i j : ℕ) (is_second other : Bool) (tap : ℕ) → i < length taps → (i ≡ j) ⊎ (i ≢ j)
+    → (i ≡ j → is_second ≢ other) →
     tap_of other (get_or (set taps i (set_tap is_second tap (get_or taps i no_taps))) j no_taps) ≡ tap_of other (get_or taps j no_taps)
 tap_by taps i j is_second other tap l (inl e) n =
     let pair = get_or taps i no_taps in
@@ -299,7 +315,8 @@ tap_by taps i j is_second other tap l (inl e) n =
 tap_by taps i j is_second other tap l (inr d) n =
     ap (tap_of other) (get_or-set_other taps i j (set_tap is_second tap (get_or taps i no_taps)) no_taps (λ e. d (sym e)))
 
-other_fits : (taps : List TapPair) (closed : List Bool) (opened : List (Option ℕ)) (i j : ℕ) (s x : ControlState) → IsStateOf opened i s → IsStateOf opened j x →
+other_fits : (taps : List TapPair) (closed : List Bool) (opened : List (Option ℕ)) (i j : ℕ) (s x : ControlState)
+    → IsStateOf opened i s → IsStateOf opened j x →
     HasPlace taps closed opened s → AreApart (probe_in s) (probe_in x) → FitsDevice taps x → FitsDevice (acted_taps s taps) x
 other_fits taps closed opened i j (state.Bank p s) x h k l a f = f
 other_fits taps closed opened i j (state.Regulator p s) (state.Bank q x) h k l a f = f
@@ -338,7 +355,8 @@ others_can taps closed opened ss e (x ∷ es) d h l m n can =
 
 -- ---- one entry more of the machine
 
-acts_first : (s : Setup) (vs : List Decision) (m : Machine) (e : Entry) (es : List Entry) → acts_of s vs m (take 1 (e ∷ es))
+acts_first : (s : Setup) (vs : List Decision) (m : Machine) (e : Entry) (es : List Entry)
+    → acts_of s vs m (take 1 (e ∷ es))
     ≡ acted s.rule (get_or s.controls e.control no_control) (get_or vs e.control Hold) m e ∷ []
 acts_first s vs m e es = refl
 
@@ -353,7 +371,8 @@ acts_more s vs m (e ∷ es) (suc k) d l =
     ∙ ap (λ xs. acted s.rule (get_or s.controls e.control no_control) (get_or vs e.control Hold) m e ∷ xs) (acts_more s vs (moved s vs m e) es k d (omega arith))
 
 -- the control of an entry and its decision, as the machine names them
-names_control : (ss₀ ss : List ControlState) (opened : List (Option ℕ)) (k : ℕ) (d : ControlState) → map probe_in ss ≡ map probe_in ss₀ → k < length ss →
+names_control : (ss₀ ss : List ControlState) (opened : List (Option ℕ)) (k : ℕ) (d : ControlState)
+    → map probe_in ss ≡ map probe_in ss₀ → k < length ss →
     IsStateOf opened k (get_or ss k d) → get_or (controls_of ss₀) k no_control ≡ control_in (get_or ss k d)
 names_control ss₀ ss opened k d probes l h =
     let n = length-map ss probe_in in
@@ -361,7 +380,8 @@ names_control ss₀ ss opened k d probes l h =
     ∙ get_or-map control_of (map probe_in ss) k (probe_in d) no_control (omega (arith, n))
     ∙ ap control_of (get_or-map probe_in ss k d (probe_in d) l) ∙ sym (same_control opened k (get_or ss k d) h)
 
-names_verdict : (ss₀ ss : List ControlState) (k : ℕ) (d : ControlState) → map verdict_in ss ≡ map verdict_in ss₀ → k < length ss →
+names_verdict : (ss₀ ss : List ControlState) (k : ℕ) (d : ControlState) → map verdict_in ss ≡ map verdict_in ss₀
+    → k < length ss →
     get_or (map verdict_in ss₀) k Hold ≡ verdict_in (get_or ss k d)
 names_verdict ss₀ ss k d verdicts l = ap (λ (vs : List Decision). get_or vs k Hold) (sym verdicts) ∙ get_or-map verdict_in ss k d Hold l
 
@@ -406,7 +426,8 @@ pairs_drop (e ∷ es) (suc k) d h l =
     let next : suc k + 1 ≡ suc (k + 1) = omega arith in
     subst (λ n. AllByRecursion (λ x. (get_or es k d).control ≢ x.control) (drop n (e ∷ es))) (sym next) (pairs_drop es k d h.1 (omega arith))
 
-pub can_now : (due : List Entry) (taps : List TapPair) (ss : List ControlState) (k : ℕ) (d : Entry) → AllCanAct taps ss (drop k due) → k < length due →
+pub can_now : (due : List Entry) (taps : List TapPair) (ss : List ControlState) (k : ℕ) (d : Entry)
+    → AllCanAct taps ss (drop k due) → k < length due →
     AllCanAct taps ss (get_or due k d ∷ drop (k + 1) due)
 can_now due taps ss k d h l = subst (AllCanAct taps ss) (drop_more due k d l) h
 

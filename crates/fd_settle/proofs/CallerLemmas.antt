@@ -16,5 +16,6 @@ pub has_one_computation : ComputationLaw
 has_one_computation = one_computation counted
 
 -- a round that goes on is one act more, of those that are allowed
-pub round_counted : (s : Setup) (m : Machine) (w : Sampling) (acts : List Act) (after : Machine) → outcome_of s m w ≡ Moves acts after → IsCounted s m after
+pub round_counted : (s : Setup) (m : Machine) (w : Sampling) (acts : List Act) (after : Machine)
+    → outcome_of s m w ≡ Moves acts after → IsCounted s m after
 round_counted = round_counts counted

@@ -7,7 +7,8 @@ use Rattle.fd_enclosure.specs.Sound.{Claim, certificate_of, claim_of}
 use Rattle.fd_enclosure.proofs.CallerLemmas.{claim_is}
 use Rattle.fd_settle.specs.Compute.{IsComputed}
 
-pub computed_of : (limits : Limits) (v : NetworkView) (x : List ℤ) (inverse : List (List ℤ)) (m : Claim) → solution_of v limits ≡ Ok (x, inverse) → certificate_of v x inverse ≡ Ok m → IsComputed limits v m
+pub computed_of : (limits : Limits) (v : NetworkView) (x : List ℤ) (inverse : List (List ℤ)) (m : Claim)
+    → solution_of v limits ≡ Ok (x, inverse) → certificate_of v x inverse ≡ Ok m → IsComputed limits v m
 computed_of limits v x inverse m reached certified =
     let what : claim_of v x inverse ≡ m = claim_is v x inverse m certified in
     record {

@@ -41,14 +41,16 @@ starts_with d (Unclear k u) ds h = absurd (cc)
 
 pub record AreDecisions (samples : List (Result Decision Undecided)) (ds : List Decision) : Type 0 where
   pub each : length ds ≡ length samples
-  pub decided : (k : ℕ) (x : Result Decision Undecided) → k < length samples → get_or samples k x ≡ Ok (get_or ds k Hold)
+  pub decided : (k : ℕ) (x : Result Decision Undecided) → k < length samples
+      → get_or samples k x ≡ Ok (get_or ds k Hold)
 
 first_decided : (k : ℕ) (d : Decision) (rest : List Decision) (samples : List (Result Decision Undecided)) (ds : List Decision) (x : Result Decision Undecided) →
     ds ≡ d ∷ rest → AreDecisions samples rest → k < suc (length samples) → get_or (Ok d ∷ samples) k x ≡ Ok (get_or ds k Hold)
 first_decided zero d rest samples ds x e h l = ap (λ xs. Ok (get_or xs 0 Hold)) (sym e)
 first_decided (suc k) d rest samples ds x e h l = h.decided k x (omega arith) ∙ ap (λ xs. Ok (get_or xs (suc k) Hold)) (sym e)
 
-pub decided_each : (j : ℕ) (samples : List (Result Decision Undecided)) (ds : List Decision) → sampling_of j samples ≡ Decided ds → AreDecisions samples ds
+pub decided_each : (j : ℕ) (samples : List (Result Decision Undecided)) (ds : List Decision)
+    → sampling_of j samples ≡ Decided ds → AreDecisions samples ds
 decided_each j [] [] h = record { each = refl; decided = λ k x l. absurd (omega arith) }
 decided_each j [] (d ∷ ds) h = absurd (cc)
 decided_each j (Err u ∷ samples) ds h = absurd (cc)
@@ -77,19 +79,23 @@ wants_in p at (Some e) d h = record {
   wants = low_by (same_decision (decision_at p at (least_in p (Some e))) (decision_at p at (greatest_in p (Some e)))) _ d _ h;
 }
 
-pub sample_wants : (p : Probe) (at : Positions) (centre : List ℤ) (radii : List ℕ) (d : Decision) → sample_over p at centre radii ≡ Ok d → Wants p at d
+pub sample_wants : (p : Probe) (at : Positions) (centre : List ℤ) (radii : List ℕ) (d : Decision)
+    → sample_over p at centre radii ≡ Ok d → Wants p at d
 unfolding sample_over
 sample_wants p at centre radii d h = wants_in p at (interval_over p at centre radii) d h
 
 -- ---- it fits the device
 
-up_within : (s : RegSettings) (tap n : ℕ) → StepsUp s tap (suc n) → s.max_tap ≤ 200000 → tap + suc n * s.changer.tap_step ≤ 200000
+up_within : (s : RegSettings) (tap n : ℕ) → StepsUp s tap (suc n) → s.max_tap ≤ 200000
+    → tap + suc n * s.changer.tap_step ≤ 200000
 up_within s tap n h l = ⊎_elim (λ less. omega (arith, h.within (omega (arith, less)), l)) (λ more. absurd (omega (arith, h.none more))) (cases_lt tap s.max_tap)
 
-down_within : (s : RegSettings) (tap n : ℕ) → StepsDown s tap (suc n) → 50000 ≤ s.min_tap → 50000 + suc n * s.changer.tap_step ≤ tap
+down_within : (s : RegSettings) (tap n : ℕ) → StepsDown s tap (suc n) → 50000 ≤ s.min_tap
+    → 50000 + suc n * s.changer.tap_step ≤ tap
 down_within s tap n h l = ⊎_elim (λ less. omega (arith, h.within (omega (arith, less)), l)) (λ more. absurd (omega (arith, h.none more))) (cases_lt s.min_tap tap)
 
-moves_within : (s : RegSettings) (tap : ℕ) (d : Decision) (up : Bool) → StaysWithin s tap d → way_of d ≡ Some up → 50000 ≤ s.min_tap → s.max_tap ≤ 200000 →
+moves_within : (s : RegSettings) (tap : ℕ) (d : Decision) (up : Bool) → StaysWithin s tap d → way_of d ≡ Some up
+    → 50000 ≤ s.min_tap → s.max_tap ≤ 200000 →
     MovesWithin tap s.changer.tap_step d
 moves_within s tap (Raise zero) up h w l m = absurd (cc)
 moves_within s tap (Raise (suc n)) up h w l m = up_within s tap n h m
@@ -102,7 +108,9 @@ few_steps s tap (Raise n) h l = omega (arith, h.few)
 few_steps s tap Hold h l = omega arith
 few_steps s tap (Lower n) h l = omega (arith, h.few)
 
-pub fits_device : TapLaw → AwayLaw → (n k : ℕ) (opened : List (Option ℕ)) (at : Positions) (s : ControlState) (d : Decision) (up : Bool) → IsStateOf opened k s →
+pub fits_device : TapLaw → AwayLaw
+    → (n k : ℕ) (opened : List (Option ℕ)) (at : Positions) (s : ControlState) (d : Decision) (up : Bool)
+    → IsStateOf opened k s →
     IsProbe n (probe_in s) → HasRange (probe_in s) → Wants (probe_in s) at d → way_of d ≡ Some up → FitsDevice at.taps (with_verdict d s)
 fits_device taps away n k opened at (state.Regulator p s) d up h is range wants way =
     let tap = tap_of p.is_second (pair_at at p.transformer) in
@@ -116,7 +124,8 @@ fits_device taps away n k opened at (state.Bank p s) d up h is range wants way =
 
 -- ---- states by their verdicts
 
-pub judged_own : (ss : List ControlState) (vs : List Decision) (k : ℕ) (d : ControlState) → k < length vs → k < length ss →
+pub judged_own : (ss : List ControlState) (vs : List Decision) (k : ℕ) (d : ControlState) → k < length vs
+    → k < length ss →
     get_or (judged ss vs) k d ≡ with_verdict (get_or vs k Hold) (get_or ss k d)
 judged_own [] vs k d l m = absurd (omega arith)
 judged_own (s ∷ ss) [] k d l m = absurd (omega arith)
@@ -127,19 +136,23 @@ own_verdict : (v : Decision) (s : ControlState) → verdict_in (with_verdict v s
 own_verdict v (state.Regulator p s) = refl
 own_verdict v (state.Bank p s) = refl
 
-pub judged_verdicts : (ss : List ControlState) (vs : List Decision) → length vs ≡ length ss → map verdict_in (judged ss vs) ≡ vs
+pub judged_verdicts : (ss : List ControlState) (vs : List Decision) → length vs ≡ length ss
+    → map verdict_in (judged ss vs) ≡ vs
 judged_verdicts [] [] h = refl
 judged_verdicts [] (v ∷ vs) h = absurd (omega arith)
 judged_verdicts (s ∷ ss) [] h = absurd (omega arith)
 judged_verdicts (s ∷ ss) (v ∷ vs) h = ap (λ x. x ∷ map verdict_in (judged ss vs)) (own_verdict v s) ∙ ap (λ xs. v ∷ xs) (judged_verdicts ss vs (omega arith))
 
-pub state_same : (opened : List (Option ℕ)) (k : ℕ) (v : Decision) (s : ControlState) → IsStateOf opened k s → IsStateOf opened k (with_verdict v s)
+pub state_same : (opened : List (Option ℕ)) (k : ℕ) (v : Decision) (s : ControlState) → IsStateOf opened k s
+    → IsStateOf opened k (with_verdict v s)
 state_same opened k v (state.Regulator p s) h = h
 state_same opened k v (state.Bank p s) h = h
 
 -- ---- each entry's control can act
 
-entry_can : TapLaw → AwayLaw → (n : ℕ) (opened : List (Option ℕ)) (at : Positions) (ss : List ControlState) (vs : List Decision) (e : Entry) → AreStates opened ss →
+entry_can : TapLaw → AwayLaw
+    → (n : ℕ) (opened : List (Option ℕ)) (at : Positions) (ss : List ControlState) (vs : List Decision) (e : Entry)
+    → AreStates opened ss →
     All (IsProbe n) (map probe_in ss) → All HasRange (map probe_in ss) → length vs ≡ length ss →
     ((k : ℕ) (d : ControlState) → k < length ss → Wants (probe_in (get_or ss k d)) at (get_or vs k Hold)) →
     e.control < length ss → way_of (get_or vs e.control Hold) ≡ Some e.up → (d : ControlState) → CanAct at.taps (get_or (judged ss vs) e.control d) e
@@ -157,7 +170,10 @@ entry_can taps away n opened at ss vs e are places ranges each wants l way d =
           (wants k d l) way;
     })
 
-pub entries_can : TapLaw → AwayLaw → (n : ℕ) (opened : List (Option ℕ)) (at : Positions) (ss : List ControlState) (vs : List Decision) (es : List Entry) → AreStates opened ss →
+pub entries_can : TapLaw → AwayLaw
+    → (n : ℕ) (opened : List (Option ℕ)) (at : Positions) (ss : List ControlState) (vs : List Decision)
+    (es : List Entry)
+    → AreStates opened ss →
     All (IsProbe n) (map probe_in ss) → All HasRange (map probe_in ss) → length vs ≡ length ss →
     ((k : ℕ) (d : ControlState) → k < length ss → Wants (probe_in (get_or ss k d)) at (get_or vs k Hold)) →
     AllByRecursion (λ e. e.control < length ss) es → AllByRecursion (λ e. way_of (get_or vs e.control Hold) ≡ Some e.up) es → AllCanAct at.taps (judged ss vs) es
@@ -173,7 +189,8 @@ moves d = is_some (way_of d)
 any_by : (t u : Bool) (a b : Bool) → a ≡ t → b ≡ u → (a || b) ≡ (t || u)
 any_by t u a b e f = cc
 
-none_moves : (ds : List Decision) → ((k : ℕ) → k < length ds → way_of (get_or ds k Hold) ≡ None) → list_any moves ds ≡ false
+none_moves : (ds : List Decision) → ((k : ℕ) → k < length ds → way_of (get_or ds k Hold) ≡ None)
+    → list_any moves ds ≡ false
 unfolding moves
 none_moves [] h = refl
 none_moves (d ∷ ds) h = any_by false false (moves d) (list_any moves ds) (ap is_some (h 0 (omega arith))) (none_moves ds (λ k l. h (suc k) (omega arith)))
@@ -189,12 +206,14 @@ one_moves (d ∷ ds) zero up h = any_by true (list_any moves ds) (moves d) (list
 one_moves (d ∷ ds) (suc k) up h = or_true (moves d) (list_any moves ds) (one_moves ds k up h)
 
 -- exactly where the queue has an entry
-pub moves_waits : (ds : List Decision) (es : List Entry) → AllByRecursion (λ e. way_of (get_or ds e.control Hold) ≡ Some e.up) es →
+pub moves_waits : (ds : List Decision) (es : List Entry)
+    → AllByRecursion (λ e. way_of (get_or ds e.control Hold) ≡ Some e.up) es →
     ((k : ℕ) → k < length ds → entry_way k es ≡ way_of (get_or ds k Hold)) → list_any (λ d. is_some (way_of d)) ds ≡ list_any (λ e. true) es
 unfolding moves
 moves_waits ds [] own has = none_moves ds (λ k l. sym (has k l))
 moves_waits ds (e ∷ es) own has = one_moves ds e.control e.up own.0
 
-pub any_map : {A B : Type 0} (f : A → B) (p : B → Bool) (xs : List A) → list_any (λ x. p (f x)) xs ≡ list_any p (map f xs)
+pub any_map : {A B : Type 0} (f : A → B) (p : B → Bool) (xs : List A)
+    → list_any (λ x. p (f x)) xs ≡ list_any p (map f xs)
 any_map f p [] = refl
 any_map f p (x ∷ xs) = ap (λ t. p (f x) || t) (any_map f p xs)

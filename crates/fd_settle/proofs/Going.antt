@@ -22,7 +22,8 @@ abbrev pub with_round : Settle → Outcome → Settle
 with_round s (Ends end m) = record { rounds = s.rounds ++ [] ∷ []; end = end; machine = m }
 with_round s (Moves acts m) = record { rounds = s.rounds ++ acts ∷ []; end = Open; machine = m }
 
-one_round : (o : Outcome) (m : Machine) → before_rest o (λ n. record { rounds = []; end = Open; machine = n }) ≡ with_round (record { rounds = []; end = Open; machine = m }) o
+one_round : (o : Outcome) (m : Machine)
+    → before_rest o (λ n. record { rounds = []; end = Open; machine = n }) ≡ with_round (record { rounds = []; end = Open; machine = m }) o
 one_round (Ends end n) m = refl
 one_round (Moves acts n) m = refl
 
@@ -32,22 +33,26 @@ never_open (Quiet n) end m e o = cc
 never_open (AtLimit n) end m e o = cc
 never_open (Acts n acts) end m e o = cc
 
-pub round_ends : (s : Setup) (m : Machine) (w : Sampling) (end : End) (n : Machine) → outcome_of s m w ≡ Ends end n → end ≡ Open → ⊥
+pub round_ends : (s : Setup) (m : Machine) (w : Sampling) (end : End) (n : Machine) → outcome_of s m w ≡ Ends end n
+    → end ≡ Open → ⊥
 round_ends s m (Decided ds) end n e o = never_open (step_of s ds m) end n e o
 round_ends s m (Unclear k u) end n e o = cc
 
-joined_by : (s : Settle) (o : Outcome) (acts : List Act) → (let after = with_round s o in record after { rounds = acts ∷ after.rounds }) ≡ with_round (record s { rounds = acts ∷ s.rounds }) o
+joined_by : (s : Settle) (o : Outcome) (acts : List Act)
+    → (let after = with_round s o in record after { rounds = acts ∷ after.rounds }) ≡ with_round (record s { rounds = acts ∷ s.rounds }) o
 joined_by s (Ends end m) acts = refl
 joined_by s (Moves more m) acts = refl
 
 -- where a settle is open, one item more adds one round
-more_by : (r : Outcome) (f g : Machine → Settle) (next : Machine → Outcome) → ((end : End) (m : Machine) → r ≡ Ends end m → end ≡ Open → ⊥) →
+more_by : (r : Outcome) (f g : Machine → Settle) (next : Machine → Outcome)
+    → ((end : End) (m : Machine) → r ≡ Ends end m → end ≡ Open → ⊥) →
     ((n : Machine) → (f n).end ≡ Open → g n ≡ with_round (f n) (next (f n).machine)) →
     (before_rest r f).end ≡ Open → before_rest r g ≡ with_round (before_rest r f) (next (before_rest r f).machine)
 more_by (Ends end m) f g next never h o = absurd (never end m refl o)
 more_by (Moves acts m) f g next never h o = ap (λ (after : Settle). record after { rounds = acts ∷ after.rounds }) (h m o) ∙ joined_by (f m) (next (f m).machine) acts
 
-pub settle_more : {X : Type 0} (s : Setup) (look : Positions → X → Sampling) (m : Machine) (xs : List X) (x : X) → (settle_of s look m xs).end ≡ Open →
+pub settle_more : {X : Type 0} (s : Setup) (look : Positions → X → Sampling) (m : Machine) (xs : List X) (x : X)
+    → (settle_of s look m xs).end ≡ Open →
     settle_of s look m (xs ++ x ∷ []) ≡ with_round (settle_of s look m xs) (outcome_of s (settle_of s look m xs).machine (look (settle_of s look m xs).machine.at x))
 settle_more s look m [] x o = one_round (outcome_of s m (look m.at x)) m
 settle_more s look m (y ∷ ys) x o = more_by (outcome_of s m (look m.at y)) (λ n. settle_of s look n ys) (λ n. settle_of s look n (ys ++ x ∷ [])) (λ n. outcome_of s n (look n.at x))
@@ -56,7 +61,9 @@ settle_more s look m (y ∷ ys) x o = more_by (outcome_of s m (look m.at y)) (λ
 -- ---- a settle so far
 
 -- these rounds are those of a settle that ends so, with the solver and the machine that they leave
-pub record IsStanding {V F : Type 0} (gives : V → NetworkView → Result Claim F → V → Type 0) (P : Positions → Claim → Type 0) (p : Plant) (v : V) (m : Machine) (rounds : List Round) (end : End) (n : Machine) (w : V) : Type 0 where
+pub record IsStanding {V F : Type 0} (gives : V → NetworkView → Result Claim F → V → Type 0)
+    (P : Positions → Claim → Type 0) (p : Plant) (v : V) (m : Machine) (rounds : List Round) (end : End) (n : Machine)
+    (w : V) : Type 0 where
   pub is_settle : settled p m rounds ≡ record { rounds = acts_in rounds; end = end; machine = n }
   pub calls : AreCalls gives p v m (claims_in rounds) w
   pub each : AtEach P p m (claims_in rounds)
@@ -69,7 +76,8 @@ abbrev pub acts_of : Outcome → List Act
 acts_of (Ends end m) = []
 acts_of (Moves acts m) = acts
 
-with_round_is : (s : Settle) (o : Outcome) → with_round s o ≡ record { rounds = s.rounds ++ acts_of o ∷ []; end = end_of o; machine = left_by o }
+with_round_is : (s : Settle) (o : Outcome)
+    → with_round s o ≡ record { rounds = s.rounds ++ acts_of o ∷ []; end = end_of o; machine = left_by o }
 with_round_is s (Ends end m) = refl
 with_round_is s (Moves acts m) = refl
 
@@ -78,7 +86,8 @@ record IsRest (s t : Settle) : Type 0 where
   machine : s.machine ≡ t.machine
   open' : t.end ≡ Open
 
-rest_by : (o : Outcome) (f : Machine → Settle) → ((end : End) (m : Machine) → o ≡ Ends end m → end ≡ Open → ⊥) → (before_rest o f).end ≡ Open → IsRest (before_rest o f) (f (left_by o))
+rest_by : (o : Outcome) (f : Machine → Settle) → ((end : End) (m : Machine) → o ≡ Ends end m → end ≡ Open → ⊥)
+    → (before_rest o f).end ≡ Open → IsRest (before_rest o f) (f (left_by o))
 rest_by (Ends end m) f never o = absurd (never end m refl o)
 rest_by (Moves acts m) f never o = record { machine = refl; open' = o }
 
@@ -93,7 +102,8 @@ calls_more {V} {F} gives p v m (d ∷ ds) w c u h o b k =
     let rest = rest_of p m d ds o in
     (h.0, (h.1.0, (h.1.1.0, calls_more gives p h.0 (after_round p m d) ds w c u h.1.1.1 rest.open' (subst (λ (n : Machine). p.blame n.at ≡ None) rest.machine b) (subst (λ (n : Machine). gives w (p.network n.at) (Ok c) u) rest.machine k))))
 
-each_more : (P : Positions → Claim → Type 0) (p : Plant) (m : Machine) (cs : List Claim) (c : Claim) → AtEach P p m cs → (settle_of p.setup p.look m cs).end ≡ Open → P (settle_of p.setup p.look m cs).machine.at c →
+each_more : (P : Positions → Claim → Type 0) (p : Plant) (m : Machine) (cs : List Claim) (c : Claim) → AtEach P p m cs
+    → (settle_of p.setup p.look m cs).end ≡ Open → P (settle_of p.setup p.look m cs).machine.at c →
     AtEach P p m (cs ++ c ∷ [])
 each_more P p m [] c h o k = (k, tt)
 each_more P p m (d ∷ ds) c h o k =
@@ -138,12 +148,14 @@ pub nothing_appended : (old : List Round) → appended old old ≡ []
 nothing_appended [] = refl
 nothing_appended (r ∷ rs) = nothing_appended rs
 
-pub appended_more : (old mid new : List Round) (r : Round) → mid ≡ old ++ appended old mid → new ≡ mid ++ r ∷ [] → appended old new ≡ appended old mid ++ r ∷ []
+pub appended_more : (old mid new : List Round) (r : Round) → mid ≡ old ++ appended old mid → new ≡ mid ++ r ∷ []
+    → appended old new ≡ appended old mid ++ r ∷ []
 appended_more old mid new r h e =
     let whole : new ≡ old ++ (appended old mid ++ r ∷ []) = e ∙ ap (λ (rs : List Round). rs ++ r ∷ []) h ∙ append_assoc old (appended old mid) (r ∷ []) in
     ap (drop (length old)) whole ∙ drop-append_seam old (appended old mid ++ r ∷ [])
 
-pub kept_more : (old mid new : List Round) (r : Round) → mid ≡ old ++ appended old mid → new ≡ mid ++ r ∷ [] → new ≡ old ++ appended old new
+pub kept_more : (old mid new : List Round) (r : Round) → mid ≡ old ++ appended old mid → new ≡ mid ++ r ∷ []
+    → new ≡ old ++ appended old new
 kept_more old mid new r h e = e ∙ ap (λ (rs : List Round). rs ++ r ∷ []) h ∙ append_assoc old (appended old mid) (r ∷ []) ∙ ap (λ (rs : List Round). old ++ rs) (sym (appended_more old mid new r h e))
 
 -- ---- the last call
@@ -157,11 +169,13 @@ last_by gives P p v m rs end n w answer u h b k =
 
 -- ---- the acts that are left fall with each round that goes on
 
-counted_by : (s : Setup) (m : Machine) (step : Step) (acts : List Act) (after : Machine) → CountsActs s m step → outcome_after step ≡ Moves acts after → IsCounted s m after
+counted_by : (s : Setup) (m : Machine) (step : Step) (acts : List Act) (after : Machine) → CountsActs s m step
+    → outcome_after step ≡ Moves acts after → IsCounted s m after
 counted_by s m (Quiet n) acts after h e = absurd (cc)
 counted_by s m (AtLimit n) acts after h e = absurd (cc)
 counted_by s m (Acts n more) acts after h e = let same : n ≡ after = cc in subst (IsCounted s m) same h
 
-pub round_counts : CountLaw → (s : Setup) (m : Machine) (w : Sampling) (acts : List Act) (after : Machine) → outcome_of s m w ≡ Moves acts after → IsCounted s m after
+pub round_counts : CountLaw → (s : Setup) (m : Machine) (w : Sampling) (acts : List Act) (after : Machine)
+    → outcome_of s m w ≡ Moves acts after → IsCounted s m after
 round_counts law s m (Decided ds) acts after e = counted_by s m (step_of s ds m) acts after (law s ds m) e
 round_counts law s m (Unclear k u) acts after e = absurd (cc)

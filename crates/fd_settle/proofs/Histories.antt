@@ -17,7 +17,8 @@ agree_weaker : (o : Outcome) (P Q : Machine → Type 0) → ((n : Machine) → P
 agree_weaker (Ends end m) P Q f h = tt
 agree_weaker (Moves acts m) P Q f h = f m h
 
-pub agreeing : {X Y : Type 0} (s : Setup) (f : Positions → X → Sampling) (g : Positions → Y → Sampling) (m : Machine) (xs : List X) (ys : List Y) → Agree s f g m xs ys → settle_of s f m xs ≡ settle_of s g m ys
+pub agreeing : {X Y : Type 0} (s : Setup) (f : Positions → X → Sampling) (g : Positions → Y → Sampling) (m : Machine) (xs : List X) (ys : List Y)
+    → Agree s f g m xs ys → settle_of s f m xs ≡ settle_of s g m ys
 agreeing s f g m [] [] h = refl
 agreeing s f g m [] (y ∷ ys) h = absurd h
 agreeing s f g m (x ∷ xs) [] h = absurd h
@@ -27,7 +28,8 @@ agreeing s f g m (x ∷ xs) (y ∷ ys) h =
     ∙ ap (λ (w : Sampling). before_rest (outcome_of s m w) (λ n. settle_of s g n ys)) h.0
 
 -- a ball's sampling after which the settle goes on, or ends well, is decided, so it is that of a state
-held_sampling : {X : Type 0} (s : Setup) (m : Machine) (w v : Sampling) (xs : List X) (P : Machine → Type 0) → ((ds : List Decision) → w ≡ Decided ds → v ≡ Decided ds) → GoesOn (outcome_of s m w) xs P → v ≡ w
+held_sampling : {X : Type 0} (s : Setup) (m : Machine) (w v : Sampling) (xs : List X) (P : Machine → Type 0)
+    → ((ds : List Decision) → w ≡ Decided ds → v ≡ Decided ds) → GoesOn (outcome_of s m w) xs P → v ≡ w
 held_sampling s m (Decided ds) v xs P h k = h ds refl
 held_sampling s m (Unclear k u) v xs P h never = absurd never
 
@@ -47,7 +49,8 @@ no_acts rounds = [] ∷ rounds
 one_round : (n : ℕ) → no_acts none ≡ no_acts (take n none)
 one_round n = ap no_acts (sym (none_left n))
 
-front_of_rest : {X : Type 0} (o : Outcome) (x : X) (xs : List X) (P : Machine → Type 0) (f g : Machine → Settle) → GoesOn o xs P →
+front_of_rest : {X : Type 0} (o : Outcome) (x : X) (xs : List X) (P : Machine → Type 0) (f g : Machine → Settle)
+    → GoesOn o xs P →
     ((n : Machine) → P n → (f n).rounds ≡ take (length xs) (g n).rounds) → (before_rest o f).rounds ≡ take (length (x ∷ xs)) (before_rest o g).rounds
 unfolding none no_acts
 front_of_rest (Moves acts m) x xs P f g h k = ap (λ (rounds : List (List Act)). acts ∷ rounds) (k m h)
@@ -56,7 +59,8 @@ front_of_rest (Ends Open m) x xs P f g h k = one_round (length xs)
 front_of_rest (Ends Settled m) x xs P f g h k = one_round (length xs)
 front_of_rest (Ends Limited m) x xs P f g h k = one_round (length xs)
 
-pub history : {Y X : Type 0} (holds : Positions → Y → X → Type 0) (of_ball : Positions → Y → Sampling) (of_state : Positions → X → Sampling) → AreOfHeld holds of_ball of_state →
+pub history : {Y X : Type 0} (holds : Positions → Y → X → Type 0) (of_ball : Positions → Y → Sampling) (of_state : Positions → X → Sampling)
+    → AreOfHeld holds of_ball of_state →
     (s : Setup) (m : Machine) (ys : List Y) (xs : List X) → AreChosen s holds of_ball m ys xs → (settle_of s of_state m xs).rounds ≡ take (length xs) (settle_of s of_ball m ys).rounds
 history holds of_ball of_state h s m ys [] k = refl
 history holds of_ball of_state h s m [] (x ∷ xs) k = absurd k
@@ -68,11 +72,13 @@ history holds of_ball of_state h s m (y ∷ ys) (x ∷ xs) k =
 
 -- ---- a state for each solve
 
-whole_rest : {X : Type 0} (o : Outcome) (xs : List X) (P : Machine → Type 0) (f g : Machine → Settle) → GoesOn o xs P → ((n : Machine) → P n → f n ≡ g n) → before_rest o f ≡ before_rest o g
+whole_rest : {X : Type 0} (o : Outcome) (xs : List X) (P : Machine → Type 0) (f g : Machine → Settle) → GoesOn o xs P
+    → ((n : Machine) → P n → f n ≡ g n) → before_rest o f ≡ before_rest o g
 whole_rest (Moves acts m) xs P f g h k = ap (λ (after : Settle). record after { rounds = acts ∷ after.rounds }) (k m h)
 whole_rest (Ends end m) xs P f g h k = refl
 
-pub whole : {Y X : Type 0} (holds : Positions → Y → X → Type 0) (of_ball : Positions → Y → Sampling) (of_state : Positions → X → Sampling) → AreOfHeld holds of_ball of_state →
+pub whole : {Y X : Type 0} (holds : Positions → Y → X → Type 0) (of_ball : Positions → Y → Sampling) (of_state : Positions → X → Sampling)
+    → AreOfHeld holds of_ball of_state →
     (s : Setup) (m : Machine) (ys : List Y) (xs : List X) → AreChosen s holds of_ball m ys xs → length xs ≡ length ys → settle_of s of_state m xs ≡ settle_of s of_ball m ys
 whole holds of_ball of_state h s m [] [] k e = refl
 whole holds of_ball of_state h s m (y ∷ ys) [] k e = absurd (omega arith)

@@ -24,7 +24,8 @@ use Rattle.std.proofs.lemmas.List.{get_or-map, length-map, length-take-le, take_
 -- ---- the states
 
 -- at the place of a control that has not reacted yet stands its state as it was
-pub judged_at : (ss : List ControlState) (vs : List Decision) (k : ℕ) (d : ControlState) → length vs ≤ k → get_or (judged ss vs) k d ≡ get_or ss k d
+pub judged_at : (ss : List ControlState) (vs : List Decision) (k : ℕ) (d : ControlState) → length vs ≤ k
+    → get_or (judged ss vs) k d ≡ get_or ss k d
 judged_at [] vs k d l = refl
 judged_at (s ∷ ss) [] k d l = refl
 judged_at (s ∷ ss) (v ∷ vs) zero d l = absurd (omega arith)
@@ -39,7 +40,8 @@ pub judged_none : (ss : List ControlState) → judged ss [] ≡ ss
 judged_none [] = refl
 judged_none (s ∷ ss) = refl
 
-pub judged_more : (ss : List ControlState) (vs : List Decision) (v : Decision) (d : ControlState) → length vs < length ss →
+pub judged_more : (ss : List ControlState) (vs : List Decision) (v : Decision) (d : ControlState)
+    → length vs < length ss →
     set (judged ss vs) (length vs) (with_verdict v (get_or ss (length vs) d)) ≡ judged ss (vs ++ v ∷ [])
 judged_more [] vs v d l = absurd (omega arith)
 judged_more (s ∷ ss) [] v d l = ap (λ (xs : List ControlState). with_verdict v s ∷ xs) (sym (judged_none ss))
@@ -47,7 +49,8 @@ judged_more (s ∷ ss) (w ∷ vs) v d l = ap (λ (xs : List ControlState). with_
 
 -- ---- the machine
 
-asked_by : (t : Bool) (m n : Machine) → m ≡ record m { queue = m.queue; next = m.next } → n ≡ record m { queue = n.queue; next = n.next } →
+asked_by : (t : Bool) (m n : Machine) → m ≡ record m { queue = m.queue; next = m.next }
+    → n ≡ record m { queue = n.queue; next = n.next } →
     cond t m n ≡ record m { queue = (cond t m n).queue; next = (cond t m n).next }
 asked_by true m n h i = h
 asked_by false m n h i = i
@@ -63,7 +66,8 @@ reacted_alone : (c : Control) (k : ℕ) (v : Decision) (m : Machine) →
     reacted c k v m ≡ record m { queue = (reacted c k v m).queue; next = (reacted c k v m).next }
 reacted_alone c k v m = asked_alone c k (way_of v) (record m { queue = kept k v m.queue })
 
-shown_by : (m n : Machine) (q : QueueView) (now : ℕ) → n ≡ record m { queue = n.queue; next = n.next } → ShowsQueue n q now →
+shown_by : (m n : Machine) (q : QueueView) (now : ℕ) → n ≡ record m { queue = n.queue; next = n.next }
+    → ShowsQueue n q now →
     n ≡ record m { queue = q.entries; next = q.next }
 shown_by m n q now e h =
     let entries : n.queue ≡ q.entries = h.entries in
@@ -75,7 +79,8 @@ sampled_none j [] m = refl
 sampled_none j (c ∷ cs) m = refl
 
 -- the controls from number j on, one more
-sampled_more : (j : ℕ) (cs : List Control) (vs : List Decision) (v : Decision) (c : Control) (m : Machine) → length vs < length cs →
+sampled_more : (j : ℕ) (cs : List Control) (vs : List Decision) (v : Decision) (c : Control) (m : Machine)
+    → length vs < length cs →
     sampled j cs (vs ++ v ∷ []) m ≡ reacted (get_or cs (length vs) c) (j + length vs) v (sampled j cs vs m)
 sampled_more j [] vs v c m l = absurd (omega arith)
 sampled_more j (x ∷ cs) [] v c m l =
@@ -89,7 +94,8 @@ sampled_more j (x ∷ cs) (w ∷ vs) v c m l =
 -- ---- one control
 
 -- the control of a state, by its settings and by its probe
-pub same_control : (opened : List (Option ℕ)) (k : ℕ) (s : ControlState) → IsStateOf opened k s → control_in s ≡ control_of (probe_in s)
+pub same_control : (opened : List (Option ℕ)) (k : ℕ) (s : ControlState) → IsStateOf opened k s
+    → control_in s ≡ control_of (probe_in s)
 same_control opened k (state.Regulator p s) h =
     let second = h.1.0 in let step = h.1.1.0 in let delay = h.1.1.1.0 in let tap_delay = h.1.1.1.1 in cc
 same_control opened k (state.Bank p s) h =
@@ -99,7 +105,8 @@ pub same_number : (opened : List (Option ℕ)) (k : ℕ) (s : ControlState) → 
 same_number opened k (state.Regulator p s) h = h.0
 same_number opened k (state.Bank p s) h = h.0
 
-pub early_by : (opened : List (Option ℕ)) (k now : ℕ) (s : ControlState) → IsStateOf opened k s → HasTimes (probe_in s) → All IsEarly opened →
+pub early_by : (opened : List (Option ℕ)) (k now : ℕ) (s : ControlState) → IsStateOf opened k s → HasTimes (probe_in s)
+    → All IsEarly opened →
     now < 2 ^ 60 → HasEarlyTimes s now
 early_by opened k now (state.Regulator p s) h t o l =
     (omega arith, omega (arith, h.1.1.1.0, t.0), omega (arith, h.1.1.1.1, t.1))
@@ -168,7 +175,8 @@ none_due : (es : List Entry) → list_any (λ e. false) es ≡ false
 none_due [] = refl
 none_due (e ∷ es) = none_due es
 
-quiet_by : (P : Machine → Type 0) (t : Bool) (m : Machine) (other : Step) → t ≡ false → Leaves P (cond (not t) (Quiet m) other) → P m
+quiet_by : (P : Machine → Type 0) (t : Bool) (m : Machine) (other : Step) → t ≡ false
+    → Leaves P (cond (not t) (Quiet m) other) → P m
 quiet_by P true m other e h = absurd (cc)
 quiet_by P false m other e h = h
 
@@ -184,7 +192,8 @@ sampled_keeps law cs vs m h =
 pub controls_length : (ss : List ControlState) → length (controls_of ss) ≡ length ss
 controls_length ss = omega (arith, length-map (map probe_in ss) control_of, length-map ss probe_in)
 
-pub waits_keeps : QueueLaw → (at : Positions) (made : ℕ) (clock : Clock) (ss : List ControlState) (vs : List Decision) (q₀ q : QueueView) →
+pub waits_keeps : QueueLaw
+    → (at : Positions) (made : ℕ) (clock : Clock) (ss : List ControlState) (vs : List Decision) (q₀ q : QueueView) →
     IsQueueOf (length ss) q₀.next q₀.entries →
     sampled 0 (controls_of ss) vs (waiting at made clock ss q₀) ≡ waiting at made clock ss q → IsQueueOf (length ss) q.next q.entries
 waits_keeps law at made clock ss vs q₀ q h so_far =
@@ -194,7 +203,8 @@ waits_keeps law at made clock ss vs q₀ q h so_far =
     subst (λ k. IsQueueOf k q.next q.entries) n (subst (λ m. KeepsQueue (length (controls_of ss)) m) so_far after)
 
 -- there is room for the entry of a control that has none
-pub one_room : SpareLaw → (n k spare : ℕ) (q : QueueView) → IsQueueOf n q.next q.entries → k < n → n ≤ q.spare + length q.entries →
+pub one_room : SpareLaw → (n k spare : ℕ) (q : QueueView) → IsQueueOf n q.next q.entries → k < n
+    → n ≤ q.spare + length q.entries →
     has_entry k q.entries ≡ false → 0 < q.spare
 one_room law n k spare q h l room none = omega (arith, law n q.next k q.entries h l none)
 
@@ -204,20 +214,24 @@ one_room law n k spare q h l room none = omega (arith, law n q.next k q.entries 
 LowTime : Machine → ℕ → Control → Type 0
 LowTime m k c = entry_time m k c false < 2 ^ 62
 
-queued_early : (e : Entry) (es : List Entry) → OpensEarly e → AllByRecursion OpensEarly es → AllByRecursion OpensEarly (queued e es)
+queued_early : (e : Entry) (es : List Entry) → OpensEarly e → AllByRecursion OpensEarly es
+    → AllByRecursion OpensEarly (queued e es)
 queued_early e es h k = each_append OpensEarly (filter (λ x. nat_le x.time e.time) es) (e ∷ filter (λ x. nat_lt e.time x.time) es)
     (each_filter OpensEarly (λ x. nat_le x.time e.time) es k) (h, each_filter OpensEarly (λ x. nat_lt e.time x.time) es k)
 
-entry_early : (m : Machine) (k : ℕ) (c : Control) (up : Bool) → LowTime m k c → OpensEarly (record { time = entry_time m k c up; seq = m.next; control = k; up = up })
+entry_early : (m : Machine) (k : ℕ) (c : Control) (up : Bool) → LowTime m k c
+    → OpensEarly (record { time = entry_time m k c up; seq = m.next; control = k; up = up })
 unfolding LowTime
 entry_early m k c true h = λ e. absurd (cc)
 entry_early m k c false h = λ e. h
 
-early_either : (t : Bool) (m n : Machine) → AllByRecursion OpensEarly m.queue → AllByRecursion OpensEarly n.queue → AllByRecursion OpensEarly (cond t m n).queue
+early_either : (t : Bool) (m n : Machine) → AllByRecursion OpensEarly m.queue → AllByRecursion OpensEarly n.queue
+    → AllByRecursion OpensEarly (cond t m n).queue
 early_either true m n h k = h
 early_either false m n h k = k
 
-asked_early : (c : Control) (k : ℕ) (o : Option Bool) (m : Machine) → LowTime m k c → AllByRecursion OpensEarly m.queue →
+asked_early : (c : Control) (k : ℕ) (o : Option Bool) (m : Machine) → LowTime m k c
+    → AllByRecursion OpensEarly m.queue →
     AllByRecursion OpensEarly (asked c k o m).queue
 asked_early c k None m l h = h
 asked_early c k (Some up) m l h = early_either (has_entry k m.queue) m
@@ -263,14 +277,17 @@ one_opens at made clock ss vs v q q' d l are times now reacts h =
 -- ---- the loop over the controls
 
 -- the first k controls have reacted by these decisions, from this queue to that one
-pub record IsReacting (clock : Clock) (ss : List ControlState) (vs : List Decision) (k : ℕ) (q₀ q : QueueView) (now : List ControlState) : Type 0 where
+pub record IsReacting (clock : Clock) (ss : List ControlState) (vs : List Decision) (k : ℕ) (q₀ q : QueueView)
+    (now : List ControlState) : Type 0 where
   pub states : now ≡ judged ss (take k vs)
-  pub sampled : (at : Positions) (made : ℕ) → sampled 0 (controls_of ss) (take k vs) (waiting at made clock ss q₀) ≡ waiting at made clock ss q
+  pub sampled : (at : Positions) (made : ℕ)
+      → sampled 0 (controls_of ss) (take k vs) (waiting at made clock ss q₀) ≡ waiting at made clock ss q
   pub openings : AllByRecursion OpensEarly q.entries
   pub numbers : q.next ≤ q₀.next + k
   pub room : q.spare + length q.entries ≡ q₀.spare + length q₀.entries
 
-pub none_reacted : (clock : Clock) (ss : List ControlState) (vs : List Decision) (q : QueueView) → AllByRecursion OpensEarly q.entries →
+pub none_reacted : (clock : Clock) (ss : List ControlState) (vs : List Decision) (q : QueueView)
+    → AllByRecursion OpensEarly q.entries →
     IsReacting clock ss vs 0 q q ss
 none_reacted clock ss vs q h = record {
   states = sym (judged_none ss);
@@ -325,7 +342,8 @@ next_early clock ss vs k q₀ q now d h l each are times early before =
     subst (λ (x : ControlState). HasEarlyTimes x clock.now) (sym (next_same clock ss vs k q₀ q now d h (omega arith)))
     (early_by clock.opened.items k clock.now s (are k d (omega arith)) has early before)
 
-pub next_room : QueueLaw → SpareLaw → (clock : Clock) (ss : List ControlState) (vs : List Decision) (k : ℕ) (q₀ q : QueueView) (now : List ControlState)
+pub next_room : QueueLaw → SpareLaw
+    → (clock : Clock) (ss : List ControlState) (vs : List Decision) (k : ℕ) (q₀ q : QueueView) (now : List ControlState)
     (d : ControlState) → IsReacting clock ss vs k q₀ q now → k < length vs → length vs ≡ length ss → AreStates clock.opened.items ss →
     IsQueueOf (length ss) q₀.next q₀.entries → length ss ≤ q₀.spare + length q₀.entries → has_entry (number_in (get_or now k d)) q.entries ≡ false → 0 < q.spare
 next_room law spare clock ss vs k q₀ q now d h l each are queue room none =

@@ -42,16 +42,19 @@ decided_sample verdict.Hold h = refl
 decided_sample (verdict.Lower n) h = refl
 decided_sample (verdict.Undecided low high edge) h = absurd (cc)
 
-at_first : (k : ℕ) (ss : List ControlState) (at : Positions) (centre : List ℤ) (radii : List ℕ) (d : ControlState) → k < length ss →
+at_first : (k : ℕ) (ss : List ControlState) (at : Positions) (centre : List ℤ) (radii : List ℕ) (d : ControlState)
+    → k < length ss →
     sampling_of k (samples_of (drop k ss) at centre radii)
     ≡ sampling_of k (sample_over (probe_in (get_or ss k d)) at centre radii ∷ samples_of (drop (k + 1) ss) at centre radii)
 at_first k ss at centre radii d l = ap (λ (xs : List ControlState). sampling_of k (samples_of xs at centre radii)) (drop_more ss k d l)
 
-by_decided : (k : ℕ) (o : Result Decision Undecided) (d : Decision) (rest : List (Result Decision Undecided)) → o ≡ Ok d →
+by_decided : (k : ℕ) (o : Result Decision Undecided) (d : Decision) (rest : List (Result Decision Undecided))
+    → o ≡ Ok d →
     sampling_of k (o ∷ rest) ≡ with_first d (sampling_of (k + 1) rest)
 by_decided k o d rest h = ap (λ (x : Result Decision Undecided). sampling_of k (x ∷ rest)) h
 
-by_unclear : (k : ℕ) (o : Result Decision Undecided) (u : Undecided) (rest : List (Result Decision Undecided)) → o ≡ Err u →
+by_unclear : (k : ℕ) (o : Result Decision Undecided) (u : Undecided) (rest : List (Result Decision Undecided))
+    → o ≡ Err u →
     sampling_of k (o ∷ rest) ≡ Unclear k u
 by_unclear k o u rest h = ap (λ (x : Result Decision Undecided). sampling_of k (x ∷ rest)) h
 
@@ -82,7 +85,8 @@ one_unclear k ss at centre radii vs u s l is sample so_far =
     sym so_far ∙ ap (before (map decision vs)) first ∙ before_unclear (map decision vs) k u
 
 -- all are
-pub all_decided : (k : ℕ) (ss : List ControlState) (at : Positions) (centre : List ℤ) (radii : List ℕ) (vs : List Verdict) → length ss ≤ k →
+pub all_decided : (k : ℕ) (ss : List ControlState) (at : Positions) (centre : List ℤ) (radii : List ℕ) (vs : List Verdict)
+    → length ss ≤ k →
     before (map decision vs) (sampling_of k (samples_of (drop k ss) at centre radii)) ≡ sampled_over ss at centre radii →
     sampled_over ss at centre radii ≡ Decided (map decision vs)
 all_decided k ss at centre radii vs l so_far =
@@ -90,7 +94,8 @@ all_decided k ss at centre radii vs l so_far =
     ∙ before_decided (map decision vs)
 
 -- P of each control's probe
-pub at_control : (P : Probe → Type 0) (ss : List ControlState) (k : ℕ) (s : ControlState) → All P (map probe_in ss) → k < length ss →
+pub at_control : (P : Probe → Type 0) (ss : List ControlState) (k : ℕ) (s : ControlState) → All P (map probe_in ss)
+    → k < length ss →
     s ≡ get_or ss k s → P (probe_in s)
 at_control P ss k s h l is =
     let there : k < length (map probe_in ss) = rw length-map l in

@@ -39,7 +39,8 @@ judged_probes (s ∷ ss) (v ∷ vs) =
     ap (λ p. p ∷ map probe_in (judged ss vs)) (probe_same v s) ∙ ap (λ ps. probe_in s ∷ ps) (judged_probes ss vs)
 
 -- the machine with the same moves
-pub waits_same : (at : Positions) (made : ℕ) (clock : Clock) (ss new : List ControlState) (q : QueueView) → map moved_in new ≡ map moved_in ss →
+pub waits_same : (at : Positions) (made : ℕ) (clock : Clock) (ss new : List ControlState) (q : QueueView)
+    → map moved_in new ≡ map moved_in ss →
     waiting at made clock ss q ≡ waiting at made clock new q
 waits_same at made clock ss new q e = ap (λ os. record {
   at = at;
@@ -119,13 +120,15 @@ all_acted_shows limit at at' made clock clock' ss new q q' acts h entries next n
 pub due_each : (due es : List Entry) (next : ℕ) → due ≡ nearest es → IsQueue next es → HaveOneEach due
 due_each due es next e h = subst HaveOneEach (sym e) (pairs_filter (λ a b. a.control ≢ b.control) (λ x. x.time == least_time es) es h.one_each)
 
-pub due_controls : (due es : List Entry) (ss ss₂ : List ControlState) → due ≡ nearest es → ss₂ ≡ ss → AllByRecursion (λ e. e.control < length ss) es →
+pub due_controls : (due es : List Entry) (ss ss₂ : List ControlState) → due ≡ nearest es → ss₂ ≡ ss
+    → AllByRecursion (λ e. e.control < length ss) es →
     AllByRecursion (λ e. e.control < length ss₂) due
 due_controls due es ss ss₂ e f h =
     subst (λ xs. AllByRecursion (λ x. x.control < length xs) due) (sym f)
     (subst (AllByRecursion (λ x. x.control < length ss)) (sym e) (each_filter (λ x. x.control < length ss) (λ x. x.time == least_time es) es h))
 
-pub due_acts : (due es : List Entry) (ss ss₂ : List ControlState) (taps taps₂ : List TapPair) → due ≡ nearest es → ss₂ ≡ ss → taps₂ ≡ taps →
+pub due_acts : (due es : List Entry) (ss ss₂ : List ControlState) (taps taps₂ : List TapPair) → due ≡ nearest es
+    → ss₂ ≡ ss → taps₂ ≡ taps →
     AllCanAct taps ss es → AllCanAct taps₂ ss₂ due
 due_acts due es ss ss₂ taps taps₂ e f g h =
     subst (λ ts. AllCanAct ts ss₂ due) (sym g) (subst (λ xs. AllCanAct taps xs due) (sym f) (subst (AllCanAct taps ss) (sym e)

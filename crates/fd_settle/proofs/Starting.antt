@@ -32,7 +32,8 @@ fresh_more opened k (q ∷ ps) p =
     (fresh_more opened (suc k) ps p ∙ ap (λ i. fresh_from opened (suc k) ps ++ fresh i (opened_for opened p) p ∷ []) next)
 
 -- a control more
-pub fresh_push : (opened : List (Option ℕ)) (ps : List Probe) (k : ℕ) (p : Probe) (ss : List ControlState) → k < length ps →
+pub fresh_push : (opened : List (Option ℕ)) (ps : List Probe) (k : ℕ) (p : Probe) (ss : List ControlState)
+    → k < length ps →
     ss ≡ fresh_from opened 0 (take k ps) → ss ++ fresh k (opened_for opened (get_or ps k p)) (get_or ps k p) ∷ [] ≡ fresh_from opened 0 (take (k + 1) ps)
 fresh_push opened ps k p ss l h =
     let x = get_or ps k p in
@@ -56,7 +57,8 @@ fresh_move : (k : ℕ) (o : Option ℕ) (p : Probe) → moved_in (fresh k o p) �
 fresh_move k o (probe.Regulator p) = refl
 fresh_move k o (probe.Bank p) = refl
 
-pub fresh_moves : (opened : List (Option ℕ)) (k : ℕ) (ps : List Probe) → map moved_in (fresh_from opened k ps) ≡ replicate (length ps) None
+pub fresh_moves : (opened : List (Option ℕ)) (k : ℕ) (ps : List Probe)
+    → map moved_in (fresh_from opened k ps) ≡ replicate (length ps) None
 fresh_moves opened k [] = refl
 fresh_moves opened k (p ∷ ps) =
     ap (λ x. x ∷ map moved_in (fresh_from opened (suc k) ps)) (fresh_move k (opened_for opened p) p) ∙ ap (λ xs. None ∷ xs) (fresh_moves opened (suc k) ps)
@@ -69,7 +71,8 @@ fresh_state : (opened : List (Option ℕ)) (k : ℕ) (p : Probe) → IsStateOf o
 fresh_state opened k (probe.Regulator p) = (refl, (refl, (refl, (refl, refl))))
 fresh_state opened k (probe.Bank p) = (refl, (refl, (refl, (refl, refl))))
 
-fresh_states : (opened : List (Option ℕ)) (j k : ℕ) (ps : List Probe) (d : ControlState) → k < length ps → IsStateOf opened (j + k) (get_or (fresh_from opened j ps) k d)
+fresh_states : (opened : List (Option ℕ)) (j k : ℕ) (ps : List Probe) (d : ControlState) → k < length ps
+    → IsStateOf opened (j + k) (get_or (fresh_from opened j ps) k d)
 fresh_states opened j k [] d l = absurd (omega arith)
 fresh_states opened j zero (p ∷ ps) d l =
     let here : j ≡ j + 0 = omega arith in
@@ -96,7 +99,8 @@ pub record IsStarted (circuit : CircuitView) (clock : Clock) (c : Controls) : Ty
   pub made : c.made ≡ 0
   pub limit : c.limit ≡ circuit.options.maxcontroliter
 
-pub started_machine : (circuit : CircuitView) (clock : Clock) (c : Controls) (at : CodePositions) → IsStarted circuit clock c →
+pub started_machine : (circuit : CircuitView) (clock : Clock) (c : Controls) (at : CodePositions)
+    → IsStarted circuit clock c →
     machine_of at clock c ≡ started circuit (positions_in at) clock.now clock.opened.items
 started_machine circuit clock c at h =
     let moves : map moved_in c.states.items ≡ replicate (length (controls_in circuit)) None =
@@ -107,10 +111,12 @@ started_machine circuit clock c at h =
     ∙ ap (λ k. record { at = positions_in at; now = clock.now; opened = clock.opened.items; moves = replicate (length (controls_in circuit)) None; queue = []; next = k; made = c.made }) h.next
     ∙ ap (λ k. record { at = positions_in at; now = clock.now; opened = clock.opened.items; moves = replicate (length (controls_in circuit)) None; queue = []; next = 0; made = k }) h.made
 
-pub started_probes : (circuit : CircuitView) (clock : Clock) (c : Controls) → IsStarted circuit clock c → probes_in c ≡ controls_in circuit
+pub started_probes : (circuit : CircuitView) (clock : Clock) (c : Controls) → IsStarted circuit clock c
+    → probes_in c ≡ controls_in circuit
 started_probes circuit clock c h = ap (map probe_in) h.states ∙ fresh_probes clock.opened.items 0 (controls_in circuit)
 
-pub started_controls : (circuit : CircuitView) (clock : Clock) (c : Controls) (at : CodePositions) (powers : List LoadPower) → IsStarted circuit clock c →
+pub started_controls : (circuit : CircuitView) (clock : Clock) (c : Controls) (at : CodePositions) (powers : List LoadPower)
+    → IsStarted circuit clock c →
     IsClock circuit clock → ArePositions circuit powers (positions_in at) → AreProbes circuit.elements (controls_in circuit) → length circuit.elements ≤ 2 ^ 17 →
     circuit.options.maxcontroliter ≤ 100 → AreControls (size_of (layout_of circuit.elements)) at clock c
 started_controls circuit clock c at powers h times positions fit few most =

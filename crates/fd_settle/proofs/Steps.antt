@@ -35,7 +35,8 @@ use Rattle.fd_settle.proofs.Shown.{judged_probes}
 -- ---- the samples
 
 -- each control wants what its sample decides
-pub all_want : (ss : List ControlState) (at : Positions) (centre : List ℤ) (radii : List ℕ) (vs : List Decision) → sampled_over ss at centre radii ≡ Decided vs →
+pub all_want : (ss : List ControlState) (at : Positions) (centre : List ℤ) (radii : List ℕ) (vs : List Decision)
+    → sampled_over ss at centre radii ≡ Decided vs →
     (k : ℕ) (d : ControlState) → k < length ss → Wants (probe_in (get_or ss k d)) at (get_or vs k Hold)
 all_want ss at centre radii vs h k d l =
     let f : Probe → Result Decision Undecided = λ p. sample_over p at centre radii in
@@ -47,12 +48,14 @@ all_want ss at centre radii vs h k d l =
 
 -- ---- the controls after they have reacted
 
-judged_states : (opened : List (Option ℕ)) (ss : List ControlState) (vs : List Decision) → AreStates opened ss → length vs ≡ length ss → AreStates opened (judged ss vs)
+judged_states : (opened : List (Option ℕ)) (ss : List ControlState) (vs : List Decision) → AreStates opened ss
+    → length vs ≡ length ss → AreStates opened (judged ss vs)
 judged_states opened ss vs h e = λ k d l.
     let m : k < length ss = omega (arith, judged_length ss vs) in
     subst (IsStateOf opened k) (sym (judged_own ss vs k d (omega arith) m)) (state_same opened k (get_or vs k Hold) (get_or ss k d) (h k d m))
 
-same_machine : (at : CodePositions) (clock : Clock) (c looked : Controls) → looked.states ≡ c.states → looked.queue ≡ c.queue → looked.made ≡ c.made →
+same_machine : (at : CodePositions) (clock : Clock) (c looked : Controls) → looked.states ≡ c.states
+    → looked.queue ≡ c.queue → looked.made ≡ c.made →
     machine_of at clock looked ≡ machine_of at clock c
 same_machine at clock c looked e f g =
     let moves : map moved_in looked.states.items ≡ map moved_in c.states.items = ap (λ v. map moved_in v.items) e in
@@ -61,7 +64,8 @@ same_machine at clock c looked e f g =
     cc
 
 -- what a step knows once the controls have reacted to these verdicts
-pub record IsAfterReactions (n : ℕ) (at : CodePositions) (clock : Clock) (c new : Controls) (vs : List Verdict) : Type 0 where
+pub record IsAfterReactions (n : ℕ) (at : CodePositions) (clock : Clock) (c new : Controls)
+    (vs : List Verdict) : Type 0 where
   pub machine : sampled 0 (controls_of c.states.items) (map decision vs) (machine_of at clock c) ≡ machine_of at clock new
   pub verdicts : map verdict_in new.states.items ≡ map decision vs
   pub probes : probes_in new ≡ probes_in c
@@ -73,7 +77,8 @@ pub record IsAfterReactions (n : ℕ) (at : CodePositions) (clock : Clock) (c ne
   pub made : new.made ≡ c.made
   pub limit : new.limit ≡ c.limit
 
-module _ (queue_law : QueueLaw) (own_law : OwnLaw) (sampled_law : SampledLaw) (tap_law : TapLaw) (away_law : AwayLaw) where
+module _ (queue_law : QueueLaw) (own_law : OwnLaw) (sampled_law : SampledLaw) (tap_law : TapLaw)
+    (away_law : AwayLaw) where
   pub after_reactions : (n : ℕ) (at : CodePositions) (clock : Clock) (c looked new : Controls) (centre : List ℤ) (radii : List ℕ) →
       AreControls n at clock c → HasNumbers c → looked.states ≡ c.states → looked.queue ≡ c.queue → looked.due ≡ c.due → looked.made ≡ c.made → looked.limit ≡ c.limit →
       length c.states.items ≤ vec_capacity looked.verdicts → length looked.verdicts.items ≡ length c.states.items →
@@ -139,11 +144,13 @@ module _ (queue_law : QueueLaw) (own_law : OwnLaw) (sampled_law : SampledLaw) (t
 -- ---- how it ends
 
 -- P of none of the verdicts
-none_by : (t : Bool) (a : Outcome) (m : Machine) (b : Step) → t ≡ false → outcome_after (cond (not t) (Quiet m) b) ≡ Ends Settled m
+none_by : (t : Bool) (a : Outcome) (m : Machine) (b : Step) → t ≡ false
+    → outcome_after (cond (not t) (Quiet m) b) ≡ Ends Settled m
 none_by true a m b h = absurd (cc)
 none_by false a m b h = refl
 
-pub settles : (n : ℕ) (at : CodePositions) (clock : Clock) (c new : Controls) (vs : List Verdict) (look : Sampling) → IsAfterReactions n at clock c new vs →
+pub settles : (n : ℕ) (at : CodePositions) (clock : Clock) (c new : Controls) (vs : List Verdict) (look : Sampling)
+    → IsAfterReactions n at clock c new vs →
     look ≡ Decided (map decision vs) → list_any (λ v. is_some (way_of (decision v))) vs ≡ false →
     outcome_of (setup_in c) (machine_of at clock c) look ≡ Ends Settled (machine_of at clock new)
 unfolding step_of
@@ -152,12 +159,14 @@ settles n at clock c new vs look h is none =
     ∙ ap (λ m. outcome_after (due_step (setup_in c) (map decision vs) m)) h.machine
     ∙ none_by (list_any (λ e. true) new.queue.entries) (Ends Settled (machine_of at clock new)) (machine_of at clock new) _ (sym h.waits ∙ none)
 
-limit_by : (t u : Bool) (m : Machine) (b : Step) → t ≡ true → u ≡ true → outcome_after (cond (not t) (Quiet m) (cond u (AtLimit m) b)) ≡ Ends Limited m
+limit_by : (t u : Bool) (m : Machine) (b : Step) → t ≡ true → u ≡ true
+    → outcome_after (cond (not t) (Quiet m) (cond u (AtLimit m) b)) ≡ Ends Limited m
 limit_by true true m b h i = refl
 limit_by true false m b h i = absurd (cc)
 limit_by false u m b h i = absurd (cc)
 
-pub limits : (n : ℕ) (at : CodePositions) (clock : Clock) (c new : Controls) (vs : List Verdict) (look : Sampling) → IsAfterReactions n at clock c new vs →
+pub limits : (n : ℕ) (at : CodePositions) (clock : Clock) (c new : Controls) (vs : List Verdict) (look : Sampling)
+    → IsAfterReactions n at clock c new vs →
     look ≡ Decided (map decision vs) → list_any (λ v. is_some (way_of (decision v))) vs ≡ true → new.made ≡ new.limit →
     outcome_of (setup_in c) (machine_of at clock c) look ≡ Ends Limited (machine_of at clock new)
 unfolding step_of
@@ -198,7 +207,8 @@ moves_on n at at' clock clock' c new last vs look acts h is some differs a =
 
 -- ---- the controls after an act
 
-pub can_act_now : RoomLaw → (n : ℕ) (at : CodePositions) (clock : Clock) (c : Controls) → AreControls n at clock c → AllCanAct at.taps c.states.items c.queue.entries →
+pub can_act_now : RoomLaw → (n : ℕ) (at : CodePositions) (clock : Clock) (c : Controls) → AreControls n at clock c
+    → AllCanAct at.taps c.states.items c.queue.entries →
     CanActNow at clock c
 can_act_now law n at clock c h can = record {
   standing = record {
@@ -227,7 +237,8 @@ queue_later n next es h = record {
   controls = each_filter (λ e. e.control < n) (λ e. not (e.time == least_time es)) es h.controls;
 }
 
-pub acted_controls : (n : ℕ) (at at' : CodePositions) (clock clock' : Clock) (c new : Controls) (acts : List Act) → AreControls n at clock c →
+pub acted_controls : (n : ℕ) (at at' : CodePositions) (clock clock' : Clock) (c new : Controls) (acts : List Act)
+    → AreControls n at clock c →
     HaveActed at at' clock clock' c new acts → c.made ≢ c.limit → AreControls n at' clock' new
 acted_controls n at at' clock clock' c new acts h a differs =
     let each : length new.states.items ≡ length c.states.items = sym (length-map new.states.items probe_in) ∙ ap length a.probes ∙ length-map c.states.items probe_in in
@@ -254,7 +265,8 @@ acted_controls n at at' clock clock' c new acts h a differs =
       made = omega (arith, a.limit, a.made, h.made, differs);
     }
 
-pub acted_numbers : (n : ℕ) (at at' : CodePositions) (clock clock' : Clock) (c new last : Controls) (vs : List Verdict) (acts : List Act) → IsAfterReactions n at clock c new vs →
+pub acted_numbers : (n : ℕ) (at at' : CodePositions) (clock clock' : Clock) (c new last : Controls) (vs : List Verdict) (acts : List Act)
+    → IsAfterReactions n at clock c new vs →
     HaveActed at at' clock clock' new last acts → HasNumbers last
 acted_numbers n at at' clock clock' c new last vs acts h a =
     let each : length last.states.items ≡ length c.states.items =

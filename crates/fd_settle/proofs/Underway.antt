@@ -46,20 +46,25 @@ use Rattle.fd_settle.proofs.Going.{IsStanding, acts_of, end_of, kept_more, appen
 
 -- ---- the network at positions
 
-pub network_is : (c : CircuitView) (powers : Powers) (at : CodePositions) → network_at c powers.loads (positions_in at) ≡ circuit_network c (settings_of at powers)
+pub network_is : (c : CircuitView) (powers : Powers) (at : CodePositions)
+    → network_at c powers.loads (positions_in at) ≡ circuit_network c (settings_of at powers)
 unfolding network_at
 network_is c powers at = refl
 
-pub blame_is : (c : CircuitView) (powers : Powers) (at : CodePositions) → blame_at c powers.loads (positions_in at) ≡ range_blame c.elements (devices_of c (settings_of at powers))
+pub blame_is : (c : CircuitView) (powers : Powers) (at : CodePositions)
+    → blame_at c powers.loads (positions_in at) ≡ range_blame c.elements (devices_of c (settings_of at powers))
 unfolding blame_at
 blame_is c powers at = refl
 
-network_size : (c : CircuitView) (powers : List LoadPower) (at : Positions) → (network_at c powers at).size ≡ size_of (layout_of c.elements)
+network_size : (c : CircuitView) (powers : List LoadPower) (at : Positions)
+    → (network_at c powers at).size ≡ size_of (layout_of c.elements)
 unfolding network_at
 network_size c powers at = refl
 
 -- what an update of the network gives
-pub updated : (c : CircuitView) (powers : Powers) (at : CodePositions) (net : BuiltView) → IsBuiltOf net c → net.rows ≡ circuit_network c (settings_of at powers) → range_blame c.elements (devices_of c (settings_of at powers)) ≡ None →
+pub updated : (c : CircuitView) (powers : Powers) (at : CodePositions) (net : BuiltView) → IsBuiltOf net c
+    → net.rows ≡ circuit_network c (settings_of at powers)
+    → range_blame c.elements (devices_of c (settings_of at powers)) ≡ None →
     AgreesWith net.rows.share (circuit_parts c (settings_of at powers)) → IsNetworkAt c powers.loads (positions_in at) net
 updated c powers at net built rows in_range agrees =
     let is : net.rows ≡ network_at c powers.loads (positions_in at) = rows ∙ sym (network_is c powers at) in
@@ -72,10 +77,12 @@ updated c powers at net built rows in_range agrees =
 
 -- ---- the ball of a sound claim
 
-pub centre_long : (c : CircuitView) (powers : List LoadPower) (at : Positions) (v : NetworkView) (m : Certified) → v ≡ network_at c powers at → IsSound v (claim_in m) → length m.ball.centre.items ≡ size_of (layout_of c.elements)
+pub centre_long : (c : CircuitView) (powers : List LoadPower) (at : Positions) (v : NetworkView) (m : Certified)
+    → v ≡ network_at c powers at → IsSound v (claim_in m) → length m.ball.centre.items ≡ size_of (layout_of c.elements)
 centre_long c powers at v m is s = s.centre.long ∙ ap (λ (w : NetworkView). w.size) is ∙ network_size c powers at
 
-pub ball_of : (v : NetworkView) (m : Certified) → IsSound v (claim_in m) → IsBall m.ball.centre.items m.ball.radius.items
+pub ball_of : (v : NetworkView) (m : Certified) → IsSound v (claim_in m)
+    → IsBall m.ball.centre.items m.ball.radius.items
 ball_of v m s =
     let long : length m.ball.radius.items ≡ v.size = s.radii_long in
     record {
@@ -87,7 +94,9 @@ ball_of v m s =
 -- ---- what a settle leaves
 
 -- The rounds that were appended are those of a settle that is open or ends so, and positions, clock and solver are what it leaves.
-pub record IsLeft {V F : Type 0} (gives : V → NetworkView → Result Claim F → V → Type 0) (c : CircuitView) (powers : List LoadPower) (v : V) (m : Machine) (old new : List Round) (end : End) (n : Machine) (there : CodePositions) (times : Clock) (w : V) : Type 0 where
+pub record IsLeft {V F : Type 0} (gives : V → NetworkView → Result Claim F → V → Type 0) (c : CircuitView)
+    (powers : List LoadPower) (v : V) (m : Machine) (old new : List Round) (end : End) (n : Machine)
+    (there : CodePositions) (times : Clock) (w : V) : Type 0 where
   pub kept : new ≡ old ++ appended old new
   pub stands : IsStanding gives (IsSoundAt c powers) (plant_of c powers) v m (appended old new) end n w
   pub at : positions_in there ≡ n.at
@@ -97,7 +106,8 @@ pub record IsLeft {V F : Type 0} (gives : V → NetworkView → Result Claim F �
   pub clock : IsClock c times
 
 -- before the first round
-pub left_first : {V F : Type 0} (gives : V → NetworkView → Result Claim F → V → Type 0) (c : CircuitView) (powers : List LoadPower) (v : V) (old new : List Round) (at : CodePositions) (clock : Clock) → new ≡ old → ArePositions c powers (positions_in at) → IsClock c clock →
+pub left_first : {V F : Type 0} (gives : V → NetworkView → Result Claim F → V → Type 0) (c : CircuitView) (powers : List LoadPower) (v : V) (old new : List Round) (at : CodePositions) (clock : Clock)
+    → new ≡ old → ArePositions c powers (positions_in at) → IsClock c clock →
     IsLeft gives c powers v (begun c at clock) old new Open (begun c at clock) at clock v
 left_first gives c powers v old new at clock same positions times =
     let none : appended old new ≡ [] = ap (appended old) same ∙ nothing_appended old in
@@ -112,13 +122,16 @@ left_first gives c powers v old new at clock same positions times =
     }
 
 -- The controls at work between the rounds of a settle.
-pub record IsUnderway {V F : Type 0} (gives : V → NetworkView → Result Claim F → V → Type 0) (c : CircuitView) (powers : List LoadPower) (v : V) (m : Machine) (old new : List Round) (end : End) (at : CodePositions) (clock : Clock) (controls : Controls) (w : V) : Type 0 where
+pub record IsUnderway {V F : Type 0} (gives : V → NetworkView → Result Claim F → V → Type 0) (c : CircuitView)
+    (powers : List LoadPower) (v : V) (m : Machine) (old new : List Round) (end : End) (at : CodePositions)
+    (clock : Clock) (controls : Controls) (w : V) : Type 0 where
   pub left : IsLeft gives c powers v m old new end (machine_of at clock controls) at clock w
   pub probes : probes_in controls ≡ controls_in c
   pub limit : controls.limit ≡ c.options.maxcontroliter
   pub keeps : AreControls (size_of (layout_of c.elements)) at clock controls
 
-pub underway_first : {V F : Type 0} (gives : V → NetworkView → Result Claim F → V → Type 0) (c : CircuitView) (powers : List LoadPower) (v : V) (old new : List Round) (at : CodePositions) (clock : Clock) (controls : Controls) → new ≡ old → ArePositions c powers (positions_in at) → IsClock c clock →
+pub underway_first : {V F : Type 0} (gives : V → NetworkView → Result Claim F → V → Type 0) (c : CircuitView) (powers : List LoadPower) (v : V) (old new : List Round) (at : CodePositions) (clock : Clock) (controls : Controls)
+    → new ≡ old → ArePositions c powers (positions_in at) → IsClock c clock →
     probes_in controls ≡ controls_in c → controls.limit ≡ c.options.maxcontroliter → machine_of at clock controls ≡ begun c at clock → AreControls (size_of (layout_of c.elements)) at clock controls →
     IsUnderway gives c powers v (begun c at clock) old new Open at clock controls v
 underway_first gives c powers v old new at clock controls same positions times probes limit machine keeps = record {
@@ -148,21 +161,24 @@ left_shown progress.Settled acts m = refl
 left_shown (progress.Limited made) acts m = refl
 left_shown (progress.Undecided control low high edge) acts m = refl
 
-acts_shown : (q : Progress) (acts : List Made) (m : Machine) → TellsActs q acts m → map seen acts ≡ acts_of (shown q (map seen acts) m)
+acts_shown : (q : Progress) (acts : List Made) (m : Machine) → TellsActs q acts m
+    → map seen acts ≡ acts_of (shown q (map seen acts) m)
 acts_shown progress.Moved acts m h = refl
 acts_shown progress.Settled acts m h = ap (map seen) h
 acts_shown (progress.Limited made) acts m h = ap (map seen) h.0
 acts_shown (progress.Undecided control low high edge) acts m h = ap (map seen) h
 
 -- the controls' own setup and samples are the circuit's
-same_round : (c : CircuitView) (ps : List Probe) (limit : ℕ) (n : Machine) (x : Claim) (o : Outcome) → ps ≡ controls_in c → limit ≡ c.options.maxcontroliter →
+same_round : (c : CircuitView) (ps : List Probe) (limit : ℕ) (n : Machine) (x : Claim) (o : Outcome)
+    → ps ≡ controls_in c → limit ≡ c.options.maxcontroliter →
     outcome_of (record { rule = settle_rule; controls = map control_of ps; limit = limit }) n (look_over ps n.at x) ≡ o → outcome_of (setup_of c) n (look_over (controls_in c) n.at x) ≡ o
 same_round c ps limit n x o probes most h =
     subst (λ (k : ℕ). outcome_of (record { rule = settle_rule; controls = map control_of (controls_in c); limit = k }) n (look_over (controls_in c) n.at x) ≡ o) most
     (subst (λ (qs : List Probe). outcome_of (record { rule = settle_rule; controls = map control_of qs; limit = limit }) n (look_over qs n.at x) ≡ o) probes h)
 
 -- What a step of the controls says, in the words of its contract.
-pub record IsStep (at : CodePositions) (clock : Clock) (controls : Controls) (m : Certified) (q : Progress) (made : List Made) (to : CodePositions) (then' : Clock) (after : Controls) : Type 0 where
+pub record IsStep (at : CodePositions) (clock : Clock) (controls : Controls) (m : Certified) (q : Progress)
+    (made : List Made) (to : CodePositions) (then' : Clock) (after : Controls) : Type 0 where
   pub probes : probes_in after ≡ probes_in controls
   pub limit : after.limit ≡ controls.limit
   pub round : outcome_of (setup_in controls) (machine_of at clock controls) (look_over (probes_in controls) (positions_in at) (claim_in m)) ≡ shown q (map seen made) (machine_of to then' after)
@@ -172,20 +188,26 @@ pub record IsStep (at : CodePositions) (clock : Clock) (controls : Controls) (m 
   pub closed : length to.closed ≡ length at.closed
   pub time : then'.now ≡ clock.now
 
-pub stepped_positions : (c : CircuitView) (powers : List LoadPower) (n : ℕ) (at to : CodePositions) (clock : Clock) (controls : Controls) → ArePositions c powers (positions_in at) → AreControls n to clock controls → length to.taps ≡ length at.taps → length to.closed ≡ length at.closed →
+pub stepped_positions : (c : CircuitView) (powers : List LoadPower) (n : ℕ) (at to : CodePositions) (clock : Clock) (controls : Controls)
+    → ArePositions c powers (positions_in at) → AreControls n to clock controls → length to.taps ≡ length at.taps
+    → length to.closed ≡ length at.closed →
     ArePositions c powers (positions_in to)
 stepped_positions c powers n at to clock controls h k taps closed = record {
   counts = record { taps = taps ∙ h.counts.taps; closed = closed ∙ h.counts.closed; powers = h.counts.powers };
   taps = k.taps;
 }
 
-stepped_clock : (c : CircuitView) (powers : List LoadPower) (n : ℕ) (at : CodePositions) (clock : Clock) (controls : Controls) → ArePositions c powers (positions_in at) → AreControls n at clock controls → IsClock c clock
+stepped_clock : (c : CircuitView) (powers : List LoadPower) (n : ℕ) (at : CodePositions) (clock : Clock) (controls : Controls)
+    → ArePositions c powers (positions_in at) → AreControls n at clock controls → IsClock c clock
 stepped_clock c powers n at clock controls h k = record { now = k.now; each = k.opened_each ∙ h.counts.closed; early = k.early }
 
 -- ---- the acts that are left
 
 -- fall with each round that goes on
-pub fewer_left : CountLaw → (at to : CodePositions) (clock then' : Clock) (controls after : Controls) (m : Certified) (q : Progress) (acts : List Made) (limit : ℕ) → IsStep at clock controls m q acts to then' after → q ≡ progress.Moved → controls.limit ≡ limit →
+pub fewer_left : CountLaw
+    → (at to : CodePositions) (clock then' : Clock) (controls after : Controls) (m : Certified) (q : Progress)
+    (acts : List Made) (limit : ℕ)
+    → IsStep at clock controls m q acts to then' after → q ≡ progress.Moved → controls.limit ≡ limit →
     limit - after.made < limit - controls.made
 fewer_left law at to clock then' controls after m q acts limit s moved is =
     let n = machine_of at clock controls in
@@ -218,7 +240,8 @@ numbers_kept progress.Settled P e h = absurd (cc)
 numbers_kept (progress.Limited made) P e h = absurd (cc)
 numbers_kept (progress.Undecided control low high edge) P e h = absurd (cc)
 
-pub ends_told : {F : Type 0} (p : Plant) (q : Progress) (r : Result Unit (SettleFault F)) (acts : List Made) (n : Machine) → end_told q ≡ Some r → TellsActs q acts n → EndsAs p r (end_by q) n
+pub ends_told : {F : Type 0} (p : Plant) (q : Progress) (r : Result Unit (SettleFault F)) (acts : List Made) (n : Machine)
+    → end_told q ≡ Some r → TellsActs q acts n → EndsAs p r (end_by q) n
 ends_told p progress.Moved r acts n e h = absurd (cc)
 ends_told {F} p progress.Settled r acts n e h = let is : Ok tt ≡ r = cc in subst (λ (x : Result Unit (SettleFault F)). EndsAs p x Settled n) is refl
 ends_told {F} p (progress.Limited made) r acts n e h = let is : Err (fault.ControlLimit made) ≡ r = cc in subst (λ (x : Result Unit (SettleFault F)). EndsAs p x Limited n) is (refl, h.1)
@@ -226,7 +249,8 @@ ends_told {F} p (progress.Undecided control low high edge) r acts n e h =
     let is : Err (fault.Undecided control low high edge) ≡ r = cc in
     subst (λ (x : Result Unit (SettleFault F)). EndsAs p x (Undecidable control (record { low = low; high = high; edge = edge })) n) is refl
 
-pub calls_told : {V F : Type 0} (gives : V → NetworkView → Result Claim F → V → Type 0) (p : Plant) (v : V) (m : Machine) (rs : List Round) (q : Progress) (r : Result Unit (SettleFault F)) (w : V) → end_told q ≡ Some r → AreCalls gives p v m (claims_in rs) w → CallsAs gives p v m rs r w
+pub calls_told : {V F : Type 0} (gives : V → NetworkView → Result Claim F → V → Type 0) (p : Plant) (v : V) (m : Machine) (rs : List Round) (q : Progress) (r : Result Unit (SettleFault F)) (w : V)
+    → end_told q ≡ Some r → AreCalls gives p v m (claims_in rs) w → CallsAs gives p v m rs r w
 calls_told gives p v m rs progress.Moved r w e h = absurd (cc)
 calls_told {V} {F} gives p v m rs progress.Settled r w e h = let is : Ok tt ≡ r = cc in subst (λ (x : Result Unit (SettleFault F)). CallsAs gives p v m rs x w) is h
 calls_told {V} {F} gives p v m rs (progress.Limited made) r w e h = let is : Err (fault.ControlLimit made) ≡ r = cc in subst (λ (x : Result Unit (SettleFault F)). CallsAs gives p v m rs x w) is h
@@ -234,18 +258,22 @@ calls_told {V} {F} gives p v m rs (progress.Undecided control low high edge) r w
     let is : Err (fault.Undecided control low high edge) ≡ r = cc in subst (λ (x : Result Unit (SettleFault F)). CallsAs gives p v m rs x w) is h
 
 -- the network is refused
-pub ends_refused : (T F : Type 0) (p : Plant) (f : BuildFault) (n : Machine) → IsFaultOf (p.blame n.at) f → EndsAs {T = T} {F = F} p (Err (refused f)) Open n
+pub ends_refused : (T F : Type 0) (p : Plant) (f : BuildFault) (n : Machine) → IsFaultOf (p.blame n.at) f
+    → EndsAs {T = T} {F = F} p (Err (refused f)) Open n
 ends_refused T F p (build_fault.Range blame) n h = (refl, h)
 ends_refused T F p build_fault.NoMemory n h = refl
 
-pub calls_refused : (T : Type 0) {V F : Type 0} (gives : V → NetworkView → Result Claim F → V → Type 0) (p : Plant) (v : V) (m : Machine) (rs : List Round) (f : BuildFault) (w : V) → AreCalls gives p v m (claims_in rs) w → CallsAs {V = V} {T = T} {F = F} gives p v m rs (Err (refused f)) w
+pub calls_refused : (T : Type 0) {V F : Type 0} (gives : V → NetworkView → Result Claim F → V → Type 0) (p : Plant) (v : V) (m : Machine) (rs : List Round) (f : BuildFault) (w : V)
+    → AreCalls gives p v m (claims_in rs) w → CallsAs {V = V} {T = T} {F = F} gives p v m rs (Err (refused f)) w
 calls_refused T gives p v m rs (build_fault.Range blame) w h = h
 calls_refused T gives p v m rs build_fault.NoMemory w h = inl h
 
 -- ---- what `settle` says
 
 -- its clauses, in their order
-pub record IsOver {V T F : Type 0} (gives : V → NetworkView → Result Claim F → V → Type 0) (c : CircuitView) (powers : Powers) (from' : CodePositions) (start : Clock) (v : V) (old new : List Round) (there : CodePositions) (times : Clock) (result : Result T (SettleFault F)) (w : V) : Type 0 where
+pub record IsOver {V T F : Type 0} (gives : V → NetworkView → Result Claim F → V → Type 0) (c : CircuitView)
+    (powers : Powers) (from' : CodePositions) (start : Clock) (v : V) (old new : List Round) (there : CodePositions)
+    (times : Clock) (result : Result T (SettleFault F)) (w : V) : Type 0 where
   pub kept : new ≡ old ++ appended old new
   pub acts : acts_in (appended old new) ≡ (settled_in c powers from' start old new).rounds
   pub at : positions_in there ≡ (settled_in c powers from' start old new).machine.at
@@ -280,7 +308,11 @@ over gives c powers from' start v old new end n at clock result u w h e k =
 module _ {V F : Type 0} (gives : V → NetworkView → Result Claim F → V → Type 0) (c : CircuitView) (powers : Powers) (from' : CodePositions) (start : Clock) (v : V) (old mid : List Round) (at : CodePositions) (clock : Clock) (controls : Controls) (net : BuiltView) (w : V)
     (h : IsUnderway gives c powers.loads v (begun c from' start) old mid Open at clock controls w) (here : IsNetworkAt c powers.loads (positions_in at) net) where
   -- a round more
-  pub underway_more : IsNetwork net.rows → (view : NetworkView) (r : Round) (u : V) (new : List Round) (q : Progress) (to : CodePositions) (then' : Clock) (after : Controls) → view ≡ net.rows → gives w view (Ok (claim_in r.certified)) u → IsSound view (claim_in r.certified) → new ≡ mid ++ r ∷ [] →
+  pub underway_more : IsNetwork net.rows
+      → (view : NetworkView) (r : Round) (u : V) (new : List Round) (q : Progress) (to : CodePositions) (then' : Clock)
+      (after : Controls)
+      → view ≡ net.rows → gives w view (Ok (claim_in r.certified)) u → IsSound view (claim_in r.certified)
+      → new ≡ mid ++ r ∷ [] →
       IsStep at clock controls r.certified q r.acts.items to then' after → IsUnderway gives c powers.loads v (begun c from' start) old new (end_by q) to then' after u
   underway_more valid view r u new q to then' after is gave sound more s =
       let n = machine_of at clock controls in
@@ -312,24 +344,32 @@ module _ {V F : Type 0} (gives : V → NetworkView → Result Claim F → V → 
       }
 
   -- the call of which nothing was appended
-  pub last_call : (view : NetworkView) (answer : Result Claim F) (u : V) → view ≡ net.rows → gives w view answer u → IsLast gives (plant_of c powers.loads) v (begun c from' start) (appended old mid) answer u
+  pub last_call : (view : NetworkView) (answer : Result Claim F) (u : V) → view ≡ net.rows → gives w view answer u
+      → IsLast gives (plant_of c powers.loads) v (begun c from' start) (appended old mid) answer u
   last_call view answer u is gave = last_by gives (IsSoundAt c powers.loads) (plant_of c powers.loads) v (begun c from' start) (appended old mid) Open (machine_of at clock controls) w answer u h.left.stands here.in_range
       (subst (λ (x : NetworkView). gives w x answer u) (is ∙ here.rows) gave)
 
   -- the solver answers a fault
-  pub over_solver : (view : NetworkView) (f : F) (u : V) → view ≡ net.rows → gives w view (Err f) u → IsOver {T = Unit} gives c powers from' start v old mid at clock (Err (fault.Solver f)) u
+  pub over_solver : (view : NetworkView) (f : F) (u : V) → view ≡ net.rows → gives w view (Err f) u
+      → IsOver {T = Unit} gives c powers from' start v old mid at clock (Err (fault.Solver f)) u
   over_solver view f u is gave = over {T = Unit} gives c powers from' start v old mid Open (machine_of at clock controls) at clock (Err (fault.Solver f)) w u h.left refl (last_call view (Err f) u is gave)
 
   -- there is no room for the round
-  pub over_memory : (view : NetworkView) (m : Claim) (u : V) (result : Result Unit (SettleFault F)) → view ≡ net.rows → gives w view (Ok m) u → result ≡ Err fault.NoMemory → IsOver gives c powers from' start v old mid at clock result u
+  pub over_memory : (view : NetworkView) (m : Claim) (u : V) (result : Result Unit (SettleFault F)) → view ≡ net.rows
+      → gives w view (Ok m) u → result ≡ Err fault.NoMemory
+      → IsOver gives c powers from' start v old mid at clock result u
   over_memory view m u result is gave same =
       over gives c powers from' start v old mid Open (machine_of at clock controls) at clock result w u h.left
       (subst (λ (x : Result Unit (SettleFault F)). EndsAs (plant_of c powers.loads) x Open (machine_of at clock controls)) (sym same) refl)
       (subst (λ (x : Result Unit (SettleFault F)). CallsAs gives (plant_of c powers.loads) v (begun c from' start) (appended old mid) x u) (sym same) (inr (record { missing = m; call = last_call view (Ok m) u is gave })))
 
-module _ {V F : Type 0} (gives : V → NetworkView → Result Claim F → V → Type 0) (c : CircuitView) (powers : Powers) (from' : CodePositions) (start : Clock) (v : V) (old new : List Round) (at : CodePositions) (clock : Clock) (controls : Controls) (w : V) where
+module _ {V F : Type 0} (gives : V → NetworkView → Result Claim F → V → Type 0) (c : CircuitView) (powers : Powers)
+    (from' : CodePositions) (start : Clock) (v : V) (old new : List Round) (at : CodePositions) (clock : Clock)
+    (controls : Controls) (w : V) where
   -- a round ends the settle
-  pub over_told : (q : Progress) (result : Result Unit (SettleFault F)) (acts : List Made) → IsUnderway gives c powers.loads v (begun c from' start) old new (end_by q) at clock controls w → end_told q ≡ Some result → TellsActs q acts (machine_of at clock controls) →
+  pub over_told : (q : Progress) (result : Result Unit (SettleFault F)) (acts : List Made)
+      → IsUnderway gives c powers.loads v (begun c from' start) old new (end_by q) at clock controls w
+      → end_told q ≡ Some result → TellsActs q acts (machine_of at clock controls) →
       IsOver gives c powers from' start v old new at clock result w
   over_told q result acts h e t =
       over gives c powers from' start v old new (end_by q) (machine_of at clock controls) at clock result w w h.left
@@ -337,7 +377,9 @@ module _ {V F : Type 0} (gives : V → NetworkView → Result Claim F → V → 
       (calls_told gives (plant_of c powers.loads) v (begun c from' start) (appended old new) q result w e h.left.stands.calls)
 
   -- the network at the positions behind a round is refused
-  pub over_refused : (f : BuildFault) (result : Result Unit (SettleFault F)) → IsUnderway gives c powers.loads v (begun c from' start) old new Open at clock controls w → IsFaultOf (range_blame c.elements (devices_of c (settings_of at powers))) f → result ≡ Err (refused f) →
+  pub over_refused : (f : BuildFault) (result : Result Unit (SettleFault F))
+      → IsUnderway gives c powers.loads v (begun c from' start) old new Open at clock controls w
+      → IsFaultOf (range_blame c.elements (devices_of c (settings_of at powers))) f → result ≡ Err (refused f) →
       IsOver gives c powers from' start v old new at clock result w
   over_refused f result h k same =
       let fault_of = subst (λ (b : Option Blame). IsFaultOf b f) (sym (blame_is c powers at)) k in

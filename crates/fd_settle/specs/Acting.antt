@@ -204,7 +204,8 @@ abbrev pub AllCanAct : List TapPair → List ControlState → List Entry → Typ
 AllCanAct taps ss es = AllByRecursion (λ e. (d : ControlState) → CanAct taps (get_or ss e.control d) e) es
 
 -- the controls and what they move: each device is there, taps are in range, and no two controls move one device
-pub record AreStanding (taps : List TapPair) (closed : List Bool) (opened : List (Option ℕ)) (ss : List ControlState) : Type 0 where
+pub record AreStanding (taps : List TapPair) (closed : List Bool) (opened : List (Option ℕ))
+    (ss : List ControlState) : Type 0 where
   pub states : AreStates opened ss
   pub devices : All (HasDevice (record { taps = taps; closed = closed })) (map probe_in ss)
   pub ranges : All HasRange (map probe_in ss)
@@ -225,7 +226,8 @@ pub record ActsLeadTo (due : List Entry) (ss : List ControlState) (taps : List T
     (new : List ControlState) (taps' : List TapPair) (closed' : List Bool) (opened' : List (Option ℕ)) (made : List Act) : Type 0 where
   pub machine : (limit : ℕ) (m : Machine) →
       fold (moved (setup_of_states limit ss) (map verdict_in ss)) (acting taps closed opened ss m) due ≡ acting taps' closed' opened' new m
-  pub acts : (limit : ℕ) (m : Machine) → acts_of (setup_of_states limit ss) (map verdict_in ss) (acting taps closed opened ss m) due ≡ made
+  pub acts : (limit : ℕ) (m : Machine)
+      → acts_of (setup_of_states limit ss) (map verdict_in ss) (acting taps closed opened ss m) due ≡ made
 
 -- what a reaction of all controls asks for
 pub record CanReact (clock : Clock) (c : Controls) : Type 0 where
@@ -244,7 +246,8 @@ pub record CanReact (clock : Clock) (c : Controls) : Type 0 where
 -- what it leaves
 pub record HaveReacted (clock : Clock) (c new : Controls) : Type 0 where
   pub states : new.states.items ≡ judged c.states.items (map decision c.verdicts.items)
-  pub machine : (at : CodePositions) → sampled 0 (controls_of c.states.items) (map decision c.verdicts.items) (machine_of at clock c) ≡ machine_of at clock new
+  pub machine : (at : CodePositions)
+      → sampled 0 (controls_of c.states.items) (map decision c.verdicts.items) (machine_of at clock c) ≡ machine_of at clock new
   pub openings : AllByRecursion OpensEarly new.queue.entries
   pub numbers : new.queue.next ≤ c.queue.next + length c.states.items
   pub room : new.queue.spare + length new.queue.entries ≡ c.queue.spare + length c.queue.entries
@@ -264,8 +267,10 @@ pub record CanActNow (at : CodePositions) (clock : Clock) (c : Controls) : Type 
 
 -- what it leaves
 pub record HaveActed (at at' : CodePositions) (clock clock' : Clock) (c new : Controls) (acts : List Act) : Type 0 where
-  pub machine : (limit : ℕ) → all_acted (setup_of_states limit c.states.items) (map verdict_in c.states.items) (machine_of at clock c) ≡ machine_of at' clock' new
-  pub made_acts : (limit : ℕ) → acts_of (setup_of_states limit c.states.items) (map verdict_in c.states.items) (machine_of at clock c) (nearest c.queue.entries) ≡ acts
+  pub machine : (limit : ℕ)
+      → all_acted (setup_of_states limit c.states.items) (map verdict_in c.states.items) (machine_of at clock c) ≡ machine_of at' clock' new
+  pub made_acts : (limit : ℕ)
+      → acts_of (setup_of_states limit c.states.items) (map verdict_in c.states.items) (machine_of at clock c) (nearest c.queue.entries) ≡ acts
   pub standing : AreStanding at'.taps at'.closed clock'.opened.items new.states.items
   pub probes : probes_in new ≡ probes_in c
   pub each_tap : length at'.taps ≡ length at.taps

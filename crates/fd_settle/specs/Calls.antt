@@ -16,18 +16,21 @@ answer_in (Err f) = Err f
 
 -- The solver answered these claims in order, each call made on the solver that the call before left, with the network
 -- at the positions that the acts before left, which is in range.
-abbrev pub AreCalls : {V F : Type 0} → (V → NetworkView → Result Claim F → V → Type 0) → Plant → V → Machine → List Claim → V → Type 0
+abbrev pub AreCalls : {V F : Type 0} → (V → NetworkView → Result Claim F → V → Type 0) → Plant → V → Machine
+    → List Claim → V → Type 0
 AreCalls gives p v m [] w = w ≡ v
 AreCalls {V} gives p v m (c ∷ cs) w = (u : V) × ((p.blame m.at ≡ None) × (gives v (p.network m.at) (Ok c) u × AreCalls gives p u (after_round p m c) cs w))
 
 -- one call more, which answered so
-pub record IsLast {V F : Type 0} (gives : V → NetworkView → Result Claim F → V → Type 0) (p : Plant) (v : V) (m : Machine) (rounds : List Round) (answer : Result Claim F) (w : V) : Type 0 where
+pub record IsLast {V F : Type 0} (gives : V → NetworkView → Result Claim F → V → Type 0) (p : Plant) (v : V)
+    (m : Machine) (rounds : List Round) (answer : Result Claim F) (w : V) : Type 0 where
   pub before : V
   pub calls : AreCalls gives p v m (claims_in rounds) before
   pub in_range : p.blame (settled p m rounds).machine.at ≡ None
   pub last : gives before (p.network (settled p m rounds).machine.at) answer w
 
 -- the same, for some state that was not appended
-pub record IsMissing {V F : Type 0} (gives : V → NetworkView → Result Claim F → V → Type 0) (p : Plant) (v : V) (m : Machine) (rounds : List Round) (w : V) : Type 0 where
+pub record IsMissing {V F : Type 0} (gives : V → NetworkView → Result Claim F → V → Type 0) (p : Plant) (v : V)
+    (m : Machine) (rounds : List Round) (w : V) : Type 0 where
   pub missing : Claim
   pub call : IsLast gives p v m rounds (Ok missing) w

@@ -45,7 +45,8 @@ EndsAs p (Err fault.NoMemory) end m = end ≡ Open
 
 -- The solver's calls are those of the appended rounds; the solver's own fault is its last answer; after want of memory
 -- the last state may be missing.
-abbrev pub CallsAs : {V T F : Type 0} → (V → NetworkView → Result Claim F → V → Type 0) → Plant → V → Machine → List Round → Result T (SettleFault F) → V → Type 0
+abbrev pub CallsAs : {V T F : Type 0} → (V → NetworkView → Result Claim F → V → Type 0) → Plant → V → Machine
+    → List Round → Result T (SettleFault F) → V → Type 0
 CallsAs gives p v m rounds (Err (fault.Solver f)) w = IsLast gives p v m rounds (Err f) w
 CallsAs gives p v m rounds (Err fault.NoMemory) w = AreCalls gives p v m (claims_in rounds) w ⊎ IsMissing gives p v m rounds w
 CallsAs gives p v m rounds (Err (fault.Undecided control low high edge)) w = AreCalls gives p v m (claims_in rounds) w

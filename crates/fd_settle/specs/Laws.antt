@@ -12,7 +12,8 @@ abbrev pub ThenAgree : Outcome → (Machine → Type 0) → Type 0
 ThenAgree (Moves acts m) P = P m
 ThenAgree (Ends end m) P = Unit {0}
 
-abbrev pub Agree : {X Y : Type 0} → Setup → (Positions → X → Sampling) → (Positions → Y → Sampling) → Machine → List X → List Y → Type 0
+abbrev pub Agree : {X Y : Type 0} → Setup → (Positions → X → Sampling) → (Positions → Y → Sampling) → Machine → List X
+    → List Y → Type 0
 Agree s f g m [] [] = Unit {0}
 Agree s f g m [] (y ∷ ys) = ⊥
 Agree s f g m (x ∷ xs) [] = ⊥
@@ -26,13 +27,15 @@ AgreeLaw X Y = (s : Setup) (f : Positions → X → Sampling) (g : Positions →
 -- ---- any states in the balls
 
 -- they give the acts of their rounds
-abbrev pub HistoryLaw : {Y X : Type 0} → (Positions → Y → X → Type 0) → (Positions → Y → Sampling) → (Positions → X → Sampling) → Type 0
+abbrev pub HistoryLaw : {Y X : Type 0} → (Positions → Y → X → Type 0) → (Positions → Y → Sampling)
+    → (Positions → X → Sampling) → Type 0
 HistoryLaw {Y} {X} holds of_ball of_state = AreOfHeld holds of_ball of_state →
     (s : Setup) (m : Machine) (ys : List Y) (xs : List X) → AreChosen s holds of_ball m ys xs →
     (settle_of s of_state m xs).rounds ≡ take (length xs) (settle_of s of_ball m ys).rounds
 
 -- one for each solve gives the end too, and what is left
-abbrev pub WholeLaw : {Y X : Type 0} → (Positions → Y → X → Type 0) → (Positions → Y → Sampling) → (Positions → X → Sampling) → Type 0
+abbrev pub WholeLaw : {Y X : Type 0} → (Positions → Y → X → Type 0) → (Positions → Y → Sampling)
+    → (Positions → X → Sampling) → Type 0
 WholeLaw {Y} {X} holds of_ball of_state = AreOfHeld holds of_ball of_state →
     (s : Setup) (m : Machine) (ys : List Y) (xs : List X) → AreChosen s holds of_ball m ys xs → length xs ≡ length ys →
     settle_of s of_state m xs ≡ settle_of s of_ball m ys

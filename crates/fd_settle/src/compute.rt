@@ -1,4 +1,5 @@
 // The solver that computes.
+ghost use Rattle.std.specs.Prelude.{◌≡◌};
 ghost use Rattle.fd_settle.specs.Compute.{ComputeGives};
 
 use crate::solver::Solver;
@@ -22,7 +23,9 @@ pub enum ComputeFault {
 pub struct Compute;
 
 impl Compute {
-    pub fn new() -> Compute {
+    pub fn new() -> Compute
+        ensures { result ≡ record {} }
+    {
         Compute
     }
 }

@@ -30,7 +30,8 @@ Reads old new found fields = (reader_trim old ≡ trim.None) → Ready old → R
 abbrev Behind : State → List ℕ → List (List ℕ) → Reader (Bor (List ℕ)) → Type 0
 Behind s ys fields new = (records_after s ys ≡ fields ∷ records_left new) × (ends_at_end (reader_state new) ≡ false) × (zs : List ℕ) × (bytes_left new ≡ Some zs)
 
-behind_record : (s : State) (ys : List ℕ) (fields : List (List ℕ)) (new : Reader (Bor (List ℕ))) (p : Read) → ends_at_end s ≡ false → next_record default_config s [] [] ys ≡ Some p
+behind_record : (s : State) (ys : List ℕ) (fields : List (List ℕ)) (new : Reader (Bor (List ℕ))) (p : Read)
+    → ends_at_end s ≡ false → next_record default_config s [] [] ys ≡ Some p
     → fields ≡ p.0 → p.1 ≡ reader_state new → bytes_left new ≡ Some p.2 → Behind s ys fields new
 unfolding records_left
 behind_record s ys fields new p between e same at left =
@@ -38,7 +39,8 @@ behind_record s ys fields new p between e same at left =
     let rows : records_after s ys ≡ fields ∷ records_in (reader_state new) (bytes_left new) = rw (left, same, sym at) one.1 in
     (rows, rw (sym at) one.0, p.2, left)
 
-behind : (old new : Reader (Bor (List ℕ))) (fields : List (List ℕ)) (ys : List ℕ) → ends_at_end (reader_state old) ≡ false → reader_config old ≡ default_config → bytes_left old ≡ Some ys
+behind : (old new : Reader (Bor (List ℕ))) (fields : List (List ℕ)) (ys : List ℕ)
+    → ends_at_end (reader_state old) ≡ false → reader_config old ≡ default_config → bytes_left old ≡ Some ys
     → ReadRecord (λ bytes. Some bytes.now) old new true fields → Behind (reader_state old) ys fields new
 unfolding Reached
 behind old new fields ys between config source read =
@@ -46,7 +48,8 @@ behind old new fields ys between config source read =
     let (p, e, same, at) = reached in
     behind_record (reader_state old) ys fields new p between e same at.0 (rw at.1 left)
 
-pub reads : (old new : Reader (Bor (List ℕ))) (found : Bool) (fields : List (List ℕ)) → IsPlain old → Reads old new found fields
+pub reads : (old new : Reader (Bor (List ℕ))) (found : Bool) (fields : List (List ℕ)) → IsPlain old
+    → Reads old new found fields
     → records_left old ≡ (if found then fields ∷ records_left new else [])
 unfolding IsPlain records_left
 reads old new true fields plain read =
@@ -56,8 +59,10 @@ reads old new false fields plain read =
     let (trim, ready, flexible, config, between, ys, source) = plain in
     rw source (records_none (reader_state old) ys (rows-end (λ (bytes : Bor (List ℕ)). Some bytes.now) old new fields default_config ys config source (read trim ready)))
 
-pub plain_after : (old new : Reader (Bor (List ℕ))) (found : Bool) (fields : List (List ℕ)) → IsPlain old → Reads old new found fields
-    → ((reader_trim old ≡ trim.None) → took_first new ≡ true) → is_flexible new ≡ is_flexible old → found ≡ true → IsPlain new
+pub plain_after : (old new : Reader (Bor (List ℕ))) (found : Bool) (fields : List (List ℕ)) → IsPlain old
+    → Reads old new found fields
+    → ((reader_trim old ≡ trim.None) → took_first new ≡ true) → is_flexible new ≡ is_flexible old → found ≡ true
+    → IsPlain new
 unfolding IsPlain
 plain_after old new true fields plain read first keeps is_found =
     let (trim, ready, flexible, config, between, ys, source) = plain in

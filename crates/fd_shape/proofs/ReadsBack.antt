@@ -120,7 +120,8 @@ no_mark : (p : ℕ → Bool) (xs : List ℕ) → NonePass p xs → position_or_l
 no_mark p [] h = refl
 no_mark p (x ∷ xs) h = rw h.0 (omega (arith, no_mark p xs h.1))
 
-mark_at : (p : ℕ → Bool) (xs : List ℕ) (y : ℕ) (ys : List ℕ) → NonePass p xs → p y ≡ true → position_or_len p (xs ++ y ∷ ys) ≡ length xs
+mark_at : (p : ℕ → Bool) (xs : List ℕ) (y : ℕ) (ys : List ℕ) → NonePass p xs → p y ≡ true
+    → position_or_len p (xs ++ y ∷ ys) ≡ length xs
 mark_at p [] y ys h e = rw e refl
 mark_at p (x ∷ xs) y ys h e = rw h.0 (omega (arith, mark_at p xs y ys h.1 e))
 
@@ -128,10 +129,12 @@ drop_seam : (xs : List ℕ) (y : ℕ) (ys : List ℕ) → drop (length xs + 1) (
 drop_seam [] y ys = refl
 drop_seam (x ∷ xs) y ys = let e : length (x ∷ xs) + 1 ≡ suc (length xs + 1) = omega arith in ap (λ n. drop n (x ∷ (xs ++ y ∷ ys))) e ∙ drop_seam xs y ys
 
-before_mark : (p : ℕ → Bool) (xs : List ℕ) (y : ℕ) (ys : List ℕ) → NonePass p xs → p y ≡ true → before_first p (xs ++ y ∷ ys) ≡ xs
+before_mark : (p : ℕ → Bool) (xs : List ℕ) (y : ℕ) (ys : List ℕ) → NonePass p xs → p y ≡ true
+    → before_first p (xs ++ y ∷ ys) ≡ xs
 before_mark p xs y ys h e = ap (λ n. take n (xs ++ y ∷ ys)) (mark_at p xs y ys h e) ∙ take-append_seam xs (y ∷ ys)
 
-after_mark : (p : ℕ → Bool) (xs : List ℕ) (y : ℕ) (ys : List ℕ) → NonePass p xs → p y ≡ true → after_first p (xs ++ y ∷ ys) ≡ ys
+after_mark : (p : ℕ → Bool) (xs : List ℕ) (y : ℕ) (ys : List ℕ) → NonePass p xs → p y ≡ true
+    → after_first p (xs ++ y ∷ ys) ≡ ys
 after_mark p xs y ys h e = ap (λ n. drop (n + 1) (xs ++ y ∷ ys)) (mark_at p xs y ys h e) ∙ drop_seam xs y ys
 
 before_none : (p : ℕ → Bool) (xs : List ℕ) → NonePass p xs → before_first p xs ≡ xs
@@ -145,7 +148,8 @@ no_shift text h = rw (no_mark is_exponent_mark text h, le-ltb (length text) (len
 whole_digits : (n : ℕ) → n < 1_000_000_000_000_000_000 → AreDigits (decimal (n / 1_000_000_000))
 whole_digits n h = digits_from _ (decimal_is_IsNumeral_wide (n / 1_000_000_000) (omega arith)).0.1
 
-value_is : (n : ℕ) → n < 1_000_000_000_000_000_000 → value (decimal (n / 1_000_000_000) ++ last_digits 9 (n % 1_000_000_000)) ≡ n
+value_is : (n : ℕ) → n < 1_000_000_000_000_000_000
+    → value (decimal (n / 1_000_000_000) ++ last_digits 9 (n % 1_000_000_000)) ≡ n
 value_is n h =
     let w : ℕ = n / 1_000_000_000 in
     let numeral = decimal_is_IsNumeral_wide w (omega arith) in
@@ -157,7 +161,8 @@ value_is n h =
 near_whole : (n : ℕ) → near_div (pos (n * 1_000_000_000)) 1_000_000_000 ≡ pos n
 near_whole n = ap pos (let e : (2 * (n * 1_000_000_000) + 1_000_000_000) / 2_000_000_000 ≡ n = omega arith in e)
 
-is_within : (negative : Bool) (n : ℕ) → n < 1_000_000_000_000_000_000 → within_limit (with_sign negative (pos n)) ≡ Ok (with_sign negative (pos n))
+is_within : (negative : Bool) (n : ℕ) → n < 1_000_000_000_000_000_000
+    → within_limit (with_sign negative (pos n)) ≡ Ok (with_sign negative (pos n))
 is_within true n h = let e : unsigned_abs (neg_ℤ (pos n)) ≡ n = omega (arith, ints) in rw (e, lt-ltb n 1_000_000_000_000_000_000 h) refl
 is_within false n h = rw (lt-ltb n 1_000_000_000_000_000_000 h) refl
 
@@ -170,7 +175,8 @@ parts_read negative n h =
     rw (are_digits_are whole (whole_digits n h), are_digits_are rest (last_are 9 (n % 1_000_000_000)), lt-ltb 0 (length whole + length rest) (omega arith), units_are) (is_within negative n h)
 
 -- a text of digits, a point and digits, behind its sign
-body_reads : (negative : Bool) (n : ℕ) → n < 1_000_000_000_000_000_000 → (body : List ℕ) → body ≡ decimal (n / 1_000_000_000) ++ 46 ∷ last_digits 9 (n % 1_000_000_000)
+body_reads : (negative : Bool) (n : ℕ) → n < 1_000_000_000_000_000_000 → (body : List ℕ)
+    → body ≡ decimal (n / 1_000_000_000) ++ 46 ∷ last_digits 9 (n % 1_000_000_000)
     → number_from negative (before_first is_point (before_first is_exponent_mark body)) (after_first is_point (before_first is_exponent_mark body)) (shift_of body) ≡ Ok (with_sign negative (pos n))
 body_reads negative n h body is =
     let whole = decimal (n / 1_000_000_000) in
@@ -186,7 +192,8 @@ body_reads negative n h body is =
     ∙ parts_read negative n h
 
 -- a digit in front is no sign
-front_plain : (ds rest : List ℕ) → 0 < length ds → AreDigits ds → (is_negative (ds ++ rest) ≡ false) × (unsigned (ds ++ rest) ≡ ds ++ rest)
+front_plain : (ds rest : List ℕ) → 0 < length ds → AreDigits ds
+    → (is_negative (ds ++ rest) ≡ false) × (unsigned (ds ++ rest) ≡ ds ++ rest)
 front_plain [] rest some h = absurd (omega arith)
 front_plain (d ∷ ds) rest some h = (no_minus d h.0 h.1, rw (no_sign d h.0 h.1) refl)
 

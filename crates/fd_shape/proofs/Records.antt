@@ -50,7 +50,8 @@ behind_more : (n m : ℕ) (o : Option Read) → n ≤ m → Behind n o → Behin
 behind_more n m None h b = tt
 behind_more n m (Some p) h b = ((let left = b.0 in omega arith), b.1)
 
-behind : (s : State) (fields : List (List ℕ)) (field xs : List ℕ) → Behind (suc (length xs)) (next_record default_config s fields field xs)
+behind : (s : State) (fields : List (List ℕ)) (field xs : List ℕ)
+    → Behind (suc (length xs)) (next_record default_config s fields field xs)
 unfolding next_record
 behind s fields field [] = elim (cases_Bool (ends_at_end s)) [
   | inl ends ↦ rw ends (omega arith, refl)
@@ -62,7 +63,8 @@ behind s fields field (c ∷ rest) = elim (cases_Bool (is_end (step default_conf
 ]
 
 -- a record takes one byte at least
-behind_record : (s : State) (xs : List ℕ) → ends_at_end s ≡ false → Behind (length xs) (next_record default_config s [] [] xs)
+behind_record : (s : State) (xs : List ℕ) → ends_at_end s ≡ false
+    → Behind (length xs) (next_record default_config s [] [] xs)
 unfolding next_record
 behind_record s [] between = rw between tt
 behind_record s (c ∷ rest) between = elim (cases_Bool (is_end (step default_config s c).1)) [
@@ -80,7 +82,8 @@ enough (suc n) (suc m) s xs between h k =
     cases (λ p fewer at. enough n m p.1 p.2 at (omega arith) (omega arith)) (next_record default_config s [] [] xs) (behind_record s xs between)
   where
     cases : ((p : Read) → length p.2 < length xs → ends_at_end p.1 ≡ false → records_from default_config n p.1 p.2 ≡ records_from default_config m p.1 p.2)
-        → (o : Option Read) → Behind (length xs) o → records_next (records_from default_config n) o ≡ records_next (records_from default_config m) o
+        → (o : Option Read) → Behind (length xs) o
+        → records_next (records_from default_config n) o ≡ records_next (records_from default_config m) o
     cases more None b = refl
     cases more (Some p) b = ap (λ rows. p.0 ∷ rows) (more p b.0 b.1)
 
@@ -88,7 +91,8 @@ pub records_none : (s : State) (xs : List ℕ) → next_record default_config s 
 unfolding records_after records_from
 records_none s xs e = rw (add-one (length xs), e) refl
 
-pub records_one : (s : State) (xs : List ℕ) (p : Read) → ends_at_end s ≡ false → next_record default_config s [] [] xs ≡ Some p
+pub records_one : (s : State) (xs : List ℕ) (p : Read) → ends_at_end s ≡ false
+    → next_record default_config s [] [] xs ≡ Some p
     → (ends_at_end p.1 ≡ false) × (records_after s xs ≡ p.0 ∷ records_after p.1 p.2)
 unfolding records_after records_from
 records_one s xs p between e =

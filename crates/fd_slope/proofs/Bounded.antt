@@ -20,7 +20,8 @@ natural_some : (n : ℕ) → n ≤ 2 ^ 100 → bounded (pos n) ≡ Some (pos n)
 natural_some n h = some_by (int_le (neg_ℤ (pos (2 ^ 100))) (pos n) && int_le (pos n) (pos (2 ^ 100))) (pos n) (is_small n h)
 
 -- a quotient of naturals, rounded up, is within the limit
-pub quotient_some : (n d : ℕ) → 0 < d → n * 2 ^ 40 ≤ 2 ^ 99 * d → bounded (ceil_div (pos n *ℤ pos (2 ^ 40)) d) ≡ Some (pos (ceil_nat (n * 2 ^ 40) d))
+pub quotient_some : (n d : ℕ) → 0 < d → n * 2 ^ 40 ≤ 2 ^ 99 * d
+    → bounded (ceil_div (pos n *ℤ pos (2 ^ 40)) d) ≡ Some (pos (ceil_nat (n * 2 ^ 40) d))
 quotient_some n d p h =
     let most = ceil_nat_least (n * 2 ^ 40) d (2 ^ 99) p h in
     ap bounded (ceil_nat_is (n * 2 ^ 40) d p) ∙ natural_some (ceil_nat (n * 2 ^ 40) d) (omega arith)
@@ -49,7 +50,8 @@ pub product_most : (x y : ℕ) → x ≤ 2 ^ 61 → y ≤ 2 ^ 98 → x * y ≤ 2
 product_most x y h k = omega (arith, mul-le-mul h k)
 
 -- the product of two points
-pub product_is : (x y : ℕ) → x * y ≤ 2 ^ 119 * 2 ^ 40 → product (Some (pos x, pos x)) (Some (pos y, pos y)) ≡ Some (floor_div (pos (x * y)) (2 ^ 40), pos (ceil_nat (x * y) (2 ^ 40)))
+pub product_is : (x y : ℕ) → x * y ≤ 2 ^ 119 * 2 ^ 40
+    → product (Some (pos x, pos x)) (Some (pos y, pos y)) ≡ Some (floor_div (pos (x * y)) (2 ^ 40), pos (ceil_nat (x * y) (2 ^ 40)))
 product_is x y h =
     let z = pos x *ℤ pos y in
     let low : int_min (int_min z z) (int_min z z) ≡ z = (λ i. int_min (same_min z i) (same_min z i)) ∙ same_min z in

@@ -61,14 +61,16 @@ far x z d = omega (arith, ints)
 far_neg : (x z d : ℕ) → unsigned_abs (pos z -ℤ pos d *ℤ negsuc x) ≡ z + d * suc x
 far_neg x z d = omega (arith, ints)
 
-by_signs : (P Z : ℤ) (d m k : ℕ) → (unsigned_abs (P *ℤ pos m -ℤ Z *ℤ pos k) ≤ max (unsigned_abs P * m) (unsigned_abs Z * k))
+by_signs : (P Z : ℤ) (d m k : ℕ)
+    → (unsigned_abs (P *ℤ pos m -ℤ Z *ℤ pos k) ≤ max (unsigned_abs P * m) (unsigned_abs Z * k))
     ⊎ ((unsigned_abs (P *ℤ pos m -ℤ Z *ℤ pos k) ≤ unsigned_abs P * m + unsigned_abs Z * k) × (unsigned_abs (Z -ℤ pos d *ℤ P) ≡ unsigned_abs Z + d * unsigned_abs P))
 by_signs (pos x) (pos z) d m k = inl (same_sign x z m k)
 by_signs (negsuc x) (negsuc z) d m k = inl (same_sign_neg x z m k)
 by_signs (pos x) (negsuc z) d m k = inr (apart x z m k, far x z d)
 by_signs (negsuc x) (pos z) d m k = inr (apart_neg x z m k, far_neg x z d)
 
-same_case : (x P Z A2 W n c D d : ℕ) → x ≤ max (P * D) (Z * (d * c)) → P ≤ A2 → A2 ≤ W → Z ≤ d * W → d * d * n ≤ D → n ≤ c → n * x ≤ W * (c * D)
+same_case : (x P Z A2 W n c D d : ℕ) → x ≤ max (P * D) (Z * (d * c)) → P ≤ A2 → A2 ≤ W → Z ≤ d * W → d * d * n ≤ D
+    → n ≤ c → n * x ≤ W * (c * D)
 same_case x P Z A2 W n c D d h hP hA hZ hD hn =
     let a = mul-le-mul hn (mul-le-mul_right D (le_trans hP hA)) in
     let b = mul-le-mul_left (n * d * c) hZ in
@@ -78,7 +80,8 @@ same_case x P Z A2 W n c D d h hP hA hZ hD hn =
       | inr s ↦ let e : x ≤ P * D = omega arith in let f = mul-le-mul_left n e in omega arith
     ]
 
-apart_case : (x P Z W s n c D d : ℕ) → 0 < d → x ≤ P * D + Z * (d * c) → Z + d * P ≤ d * s → s ≤ W → d * d * n ≤ D → n ≤ c → n * x ≤ W * (c * D)
+apart_case : (x P Z W s n c D d : ℕ) → 0 < d → x ≤ P * D + Z * (d * c) → Z + d * P ≤ d * s → s ≤ W → d * d * n ≤ D
+    → n ≤ c → n * x ≤ W * (c * D)
 apart_case x P Z W s n c D d d_pos h hs hW hD hn =
     let a = mul-le-mul_left (n * d) h in
     let b = mul-le-mul_left (d * P * D) hn in
@@ -91,7 +94,8 @@ apart_case x P Z W s n c D d d_pos h hs hW hD hn =
 less_itself : (d : ℕ) (P a : ℤ) → (pos d *ℤ P +ℤ a) -ℤ pos d *ℤ P ≡ a
 less_itself d P a = omega (arith, ints)
 
-pub column_straddle : (P a : ℤ) (A2 W s n c D d : ℕ) → 0 < d → unsigned_abs a ≤ d * s → unsigned_abs P ≤ A2 → A2 + s ≤ W → d * d * n ≤ D → n ≤ c
+pub column_straddle : (P a : ℤ) (A2 W s n c D d : ℕ) → 0 < d → unsigned_abs a ≤ d * s → unsigned_abs P ≤ A2 → A2 + s ≤ W
+    → d * d * n ≤ D → n ≤ c
     → n * unsigned_abs (P *ℤ pos D -ℤ (pos d *ℤ P +ℤ a) *ℤ pos (d * c)) ≤ W * (c * D)
 column_straddle P a A2 W s n c D d d_pos ha hP hW hD hn =
     let Z : ℤ = pos d *ℤ P +ℤ a in
@@ -102,7 +106,8 @@ column_straddle P a A2 W s n c D d d_pos ha hP hW hD hn =
     ]
 
 -- the radius
-pub radius_straddle : (k G g c E y n B x r : ℕ) → 0 < k → G * k ≤ g * c → E * k ≤ y * n → B * k ≤ x * n → g * (y + x) ≤ r * k → k * (G * (E + B)) ≤ r * (c * n)
+pub radius_straddle : (k G g c E y n B x r : ℕ) → 0 < k → G * k ≤ g * c → E * k ≤ y * n → B * k ≤ x * n
+    → g * (y + x) ≤ r * k → k * (G * (E + B)) ≤ r * (c * n)
 radius_straddle k G g c E y n B x r k_pos h1 h2 h3 h4 =
     let one : (E + B) * k ≤ (y + x) * n = omega arith in
     let two = mul-le-mul h1 one in
@@ -111,7 +116,8 @@ radius_straddle k G g c E y n B x r k_pos h1 h2 h3 h4 =
     le_of_mul-le-mul_right g4 k_pos
 
 -- what is left where the slopes subtract, with w for the clamped change of the square
-pub change_c : (N M l w : ℤ) (c d : ℕ) → pos d *ℤ ((M *ℤ pos (d * c) -ℤ N *ℤ w) *ℤ pos c) -ℤ (M *ℤ pos c -ℤ N *ℤ l) *ℤ (pos c *ℤ pos d *ℤ pos d +ℤ w)
+pub change_c : (N M l w : ℤ) (c d : ℕ)
+    → pos d *ℤ ((M *ℤ pos (d * c) -ℤ N *ℤ w) *ℤ pos c) -ℤ (M *ℤ pos c -ℤ N *ℤ l) *ℤ (pos c *ℤ pos d *ℤ pos d +ℤ w)
     ≡ N *ℤ (l *ℤ (pos c *ℤ pos d *ℤ pos d +ℤ w) -ℤ w *ℤ pos (d * c)) -ℤ M *ℤ w *ℤ pos c
 change_c N M l w c d = rw (as_val N, as_val M, as_val l, as_val w) (simp vals (val-same _ _ _ _ (omega arith)))
 
@@ -141,11 +147,13 @@ pub between_times : (w y : ℤ) (k : ℕ) → Between w y → Between (w *ℤ po
 between_times w y k (n, m, inl (e, f)) = (n * k, m * k, inl (rw e refl, rw f (ap pos (omega arith))))
 between_times w y k (n, m, inr (e, f)) = (n * k, m * k, inr (rw e (simp vals (val-same _ _ _ _ (omega arith))), rw f (simp vals (val-same _ _ _ _ (omega arith)))))
 
-cross : (p q a b : ℤ) (D d c : ℕ) → (pos 2 *ℤ p *ℤ a +ℤ pos 2 *ℤ q *ℤ b) *ℤ pos D -ℤ (pos d *ℤ (pos 2 *ℤ p *ℤ a +ℤ pos 2 *ℤ q *ℤ b) +ℤ (a *ℤ a +ℤ b *ℤ b)) *ℤ pos (d * c)
+cross : (p q a b : ℤ) (D d c : ℕ)
+    → (pos 2 *ℤ p *ℤ a +ℤ pos 2 *ℤ q *ℤ b) *ℤ pos D -ℤ (pos d *ℤ (pos 2 *ℤ p *ℤ a +ℤ pos 2 *ℤ q *ℤ b) +ℤ (a *ℤ a +ℤ b *ℤ b)) *ℤ pos (d * c)
     ≡ (pos 2 *ℤ p *ℤ pos D -ℤ (pos d *ℤ (pos 2 *ℤ p) +ℤ a) *ℤ pos (d * c)) *ℤ a +ℤ (pos 2 *ℤ q *ℤ pos D -ℤ (pos d *ℤ (pos 2 *ℤ q) +ℤ b) *ℤ pos (d * c)) *ℤ b
 cross p q a b D d c = rw (as_val p, as_val q, as_val a, as_val b) (simp vals (val-same _ _ _ _ (omega arith)))
 
-pub cross_bound : (p q a b : ℤ) (A s n c D d : ℕ) → 0 < d → unsigned_abs a ≤ d * s → unsigned_abs b ≤ d * s → unsigned_abs p ≤ A → unsigned_abs q ≤ A → d * d * n ≤ D → n ≤ c
+pub cross_bound : (p q a b : ℤ) (A s n c D d : ℕ) → 0 < d → unsigned_abs a ≤ d * s → unsigned_abs b ≤ d * s
+    → unsigned_abs p ≤ A → unsigned_abs q ≤ A → d * d * n ≤ D → n ≤ c
     → n * unsigned_abs ((pos 2 *ℤ p *ℤ a +ℤ pos 2 *ℤ q *ℤ b) *ℤ pos D -ℤ (pos d *ℤ (pos 2 *ℤ p *ℤ a +ℤ pos 2 *ℤ q *ℤ b) +ℤ (a *ℤ a +ℤ b *ℤ b)) *ℤ pos (d * c)) ≤ (2 * A + s) * (unsigned_abs a + unsigned_abs b) * (c * D)
 cross_bound p q a b A s n c D d d_pos ha hb hp hq hD hn =
     let x : ℤ = pos 2 *ℤ p *ℤ pos D -ℤ (pos d *ℤ (pos 2 *ℤ p) +ℤ a) *ℤ pos (d * c) in
@@ -172,7 +180,8 @@ across_f l v w A s n c D d h bet hl hn hv =
     hv
 
 -- where they do not
-pub flat_f : (w : ℤ) (W n c D d h : ℕ) → unsigned_abs w ≤ d * W * h → d * d * n ≤ D → n * unsigned_abs (pos 0 -ℤ w *ℤ pos (d * c)) ≤ W * h * (c * D)
+pub flat_f : (w : ℤ) (W n c D d h : ℕ) → unsigned_abs w ≤ d * W * h → d * d * n ≤ D
+    → n * unsigned_abs (pos 0 -ℤ w *ℤ pos (d * c)) ≤ W * h * (c * D)
 flat_f w W n c D d h hw hD =
     let e : unsigned_abs (pos 0 -ℤ w *ℤ pos (d * c)) ≡ unsigned_abs (w *ℤ pos (d * c)) = omega (arith, ints) in
     let e2 = unsigned_abs-mul w (pos (d * c)) in
@@ -181,14 +190,16 @@ flat_f w W n c D d h hw hD =
     rw (e, e2) (omega arith)
 
 -- the change of the square, by the largest size of a part
-pub v_linear : (p q a b d A s l t v h : ℕ) → p * a + q * b ≤ A * h → l ≤ 2 * p * a + 2 * q * b → t ≤ d * s * h → v ≤ d * l + t → v ≤ d * (2 * A + s) * h
+pub v_linear : (p q a b d A s l t v h : ℕ) → p * a + q * b ≤ A * h → l ≤ 2 * p * a + 2 * q * b → t ≤ d * s * h
+    → v ≤ d * l + t → v ≤ d * (2 * A + s) * h
 v_linear p q a b d A s l t v h hm hl ht hv = let m = mul-le-mul_left d hl in let m2 = mul-le-mul_left (2 * d) hm in omega arith
 
 pub zero_times : (z y : ℤ) → pos 0 *ℤ z -ℤ y ≡ pos 0 -ℤ y
 zero_times z y = omega (arith, ints)
 
 -- a slope that subtracts nothing
-pub flat_off : (α p g : ℤ) (c k : ℕ) → unsigned_abs (α *ℤ pos k -ℤ g *ℤ pos c) ≤ 2 * c → unsigned_abs ((α *ℤ pos c -ℤ pos 2 *ℤ p *ℤ pos 0) *ℤ pos k -ℤ g *ℤ pos (c * c)) ≤ 2 * (c * c)
+pub flat_off : (α p g : ℤ) (c k : ℕ) → unsigned_abs (α *ℤ pos k -ℤ g *ℤ pos c) ≤ 2 * c
+    → unsigned_abs ((α *ℤ pos c -ℤ pos 2 *ℤ p *ℤ pos 0) *ℤ pos k -ℤ g *ℤ pos (c * c)) ≤ 2 * (c * c)
 flat_off α p g c k h =
     let e : (α *ℤ pos c -ℤ pos 2 *ℤ p *ℤ pos 0) *ℤ pos k -ℤ g *ℤ pos (c * c) ≡ (α *ℤ pos k -ℤ g *ℤ pos c) *ℤ pos c = rw (as_val α, as_val p, as_val g) (simp vals (val-same _ _ _ _ (omega arith))) in
     let f2 = unsigned_abs-mul (α *ℤ pos k -ℤ g *ℤ pos c) (pos c) in

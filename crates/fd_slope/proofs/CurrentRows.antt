@@ -33,14 +33,16 @@ exact_5 : (N M l w : ℤ) (c d D : ℕ) → pos D ≡ pos c *ℤ pos d +ℤ w
 exact_5 N M l w c d D e = rw (e, as_val N, as_val M, as_val l, as_val w) (simp vals (val-same _ _ _ _ (omega arith)))
 
 -- the radius in the columns of the voltage
-radius_voltage : (k G g v c rm y n r : ℕ) → 0 < k → G * k ≤ g * (v * c) → rm * k ≤ y * n → g * y ≤ r * k → k * (G * rm) ≤ r * (v * c * n)
+radius_voltage : (k G g v c rm y n r : ℕ) → 0 < k → G * k ≤ g * (v * c) → rm * k ≤ y * n → g * y ≤ r * k
+    → k * (G * rm) ≤ r * (v * c * n)
 radius_voltage k G g v c rm y n r k_pos h1 h2 h3 =
     let two = mul-le-mul h1 h2 in
     let three = mul-le-mul_right (v * c * n) h3 in
     let g4 : k * (G * rm) * k ≤ r * (v * c * n) * k = omega arith in
     le_of_mul-le-mul_right g4 k_pos
 
-radius_magnitude_inside : (k G g v c A z rm y n x r : ℕ) → 0 < k → G * k ≤ g * (v * c) → A * k ≤ z * c → rm * k ≤ y * n → z * y ≤ x * k → g * x ≤ r * k → k * (G * A * rm) ≤ r * (v * c * c * n)
+radius_magnitude_inside : (k G g v c A z rm y n x r : ℕ) → 0 < k → G * k ≤ g * (v * c) → A * k ≤ z * c → rm * k ≤ y * n
+    → z * y ≤ x * k → g * x ≤ r * k → k * (G * A * rm) ≤ r * (v * c * c * n)
 radius_magnitude_inside k G g v c A z rm y n x r k_pos h1 h2 h3 h4 h5 =
     let one = mul-le-mul h2 h3 in
     let one2 = mul-le-mul_right (c * n) h4 in
@@ -64,7 +66,8 @@ parts_bound k r r' v c D h e N M f w h1 h2 =
     let a5 = mul-le-mul_left k a4 in
     omega arith
 
-voltage_part : (k G g v c rm y n r h d D M w : ℕ) → 0 < k → G * k ≤ g * (v * c) → rm * k ≤ y * n → g * y ≤ r * k → M ≤ G * h → w ≤ d * rm → d * n ≤ D
+voltage_part : (k G g v c rm y n r h d D M w : ℕ) → 0 < k → G * k ≤ g * (v * c) → rm * k ≤ y * n → g * y ≤ r * k
+    → M ≤ G * h → w ≤ d * rm → d * n ≤ D
     → k * (M * w * c) ≤ r * h * (v * c * c * D)
 voltage_part k G g v c rm y n r h d D M w k_pos h1 h2 h3 hM hw hD =
     let rad = radius_voltage k G g v c rm y n r k_pos h1 h2 h3 in
@@ -73,7 +76,8 @@ voltage_part k G g v c rm y n r h d D M w k_pos h1 h2 h3 hM hw hD =
     let b2 = mul-le-mul_left (r * h * (v * c * c)) hD in
     omega arith
 
-magnitude_inside : (k G g v c A z rm y n x r e d D N f : ℕ) → 0 < k → G * k ≤ g * (v * c) → A * k ≤ z * c → rm * k ≤ y * n → z * y ≤ x * k → g * x ≤ r * k → N ≤ G * A → f ≤ e * (d * rm) → d * n ≤ D
+magnitude_inside : (k G g v c A z rm y n x r e d D N f : ℕ) → 0 < k → G * k ≤ g * (v * c) → A * k ≤ z * c
+    → rm * k ≤ y * n → z * y ≤ x * k → g * x ≤ r * k → N ≤ G * A → f ≤ e * (d * rm) → d * n ≤ D
     → k * (N * f) ≤ r * e * (v * c * c * D)
 magnitude_inside k G g v c A z rm y n x r e d D N f k_pos h1 h2 h3 h4 h5 hN hf hD =
     let rad = radius_magnitude_inside k G g v c A z rm y n x r k_pos h1 h2 h3 h4 h5 in
@@ -82,7 +86,8 @@ magnitude_inside k G g v c A z rm y n x r e d D N f k_pos h1 h2 h3 h4 h5 hN hf h
     let b2 = mul-le-mul_left (r * e * (v * c * c)) hD in
     omega arith
 
-magnitude_across : (k G g v c A n x r e D N f : ℕ) → 0 < k → 0 < n → G * k ≤ g * (v * c) → A * k ≤ x * n → g * x ≤ r * k → N ≤ G * A → n * f ≤ e * (c * D)
+magnitude_across : (k G g v c A n x r e D N f : ℕ) → 0 < k → 0 < n → G * k ≤ g * (v * c) → A * k ≤ x * n → g * x ≤ r * k
+    → N ≤ G * A → n * f ≤ e * (c * D)
     → k * (N * f) ≤ r * e * (v * c * c * D)
 magnitude_across k G g v c A n x r e D N f k_pos n_pos h1 h2 h3 hN hf =
     let rad : k * (G * A) ≤ r * (v * c * n) = radius_voltage k G g v c A x n r k_pos h1 h2 h3 in
@@ -107,7 +112,8 @@ further w (negsuc j) k (n, m, inl (e, f)) =
 further w (negsuc j) k (n, m, inr (e, f)) = (n, m + suc j, inr (e, omega (arith, ints)))
 
 -- the roundings
-round_voltage : (α g : ℤ) (v c k : ℕ) → unsigned_abs (α *ℤ pos k -ℤ g *ℤ pos (v * c)) ≤ 1 * (v * c) → unsigned_abs (α *ℤ pos (c * k) -ℤ g *ℤ pos (v * c * c)) ≤ v * c * c
+round_voltage : (α g : ℤ) (v c k : ℕ) → unsigned_abs (α *ℤ pos k -ℤ g *ℤ pos (v * c)) ≤ 1 * (v * c)
+    → unsigned_abs (α *ℤ pos (c * k) -ℤ g *ℤ pos (v * c * c)) ≤ v * c * c
 round_voltage α g v c k h =
     let e : α *ℤ pos (c * k) -ℤ g *ℤ pos (v * c * c) ≡ (α *ℤ pos k -ℤ g *ℤ pos (v * c)) *ℤ pos c = rw (as_val α, as_val g) (simp vals (val-same _ _ _ _ (omega arith))) in
     let f = unsigned_abs-mul (α *ℤ pos k -ℤ g *ℤ pos (v * c)) (pos c) in
@@ -115,12 +121,15 @@ round_voltage α g v c k h =
     rw e (omega arith)
 
 -- the three columns together
-row_5 : (α β a b N e g1 g2 s : ℤ) (v c k : ℕ) → ((α *ℤ a +ℤ β *ℤ b) *ℤ pos c -ℤ N *ℤ e) *ℤ pos k -ℤ (g1 *ℤ a +ℤ g2 *ℤ b +ℤ s *ℤ e) *ℤ pos (v * c * c)
+row_5 : (α β a b N e g1 g2 s : ℤ) (v c k : ℕ)
+    → ((α *ℤ a +ℤ β *ℤ b) *ℤ pos c -ℤ N *ℤ e) *ℤ pos k -ℤ (g1 *ℤ a +ℤ g2 *ℤ b +ℤ s *ℤ e) *ℤ pos (v * c * c)
     ≡ (α *ℤ pos (c * k) -ℤ g1 *ℤ pos (v * c * c)) *ℤ a +ℤ (β *ℤ pos (c * k) -ℤ g2 *ℤ pos (v * c * c)) *ℤ b +ℤ (neg_ℤ N *ℤ pos k -ℤ s *ℤ pos (v * c * c)) *ℤ e
 row_5 α β a b N e g1 g2 s v c k = rw (as_val α, as_val β, as_val a, as_val b, as_val N, as_val e, as_val g1, as_val g2, as_val s) (simp vals (val-same _ _ _ _ (omega arith)))
 
 row_5_off : (α β a b N e g1 g2 s : ℤ) (v c k m : ℕ)
-    → unsigned_abs (α *ℤ pos (c * k) -ℤ g1 *ℤ pos (v * c * c)) ≤ m → unsigned_abs (β *ℤ pos (c * k) -ℤ g2 *ℤ pos (v * c * c)) ≤ m → unsigned_abs (neg_ℤ N *ℤ pos k -ℤ s *ℤ pos (v * c * c)) ≤ m
+    → unsigned_abs (α *ℤ pos (c * k) -ℤ g1 *ℤ pos (v * c * c)) ≤ m
+    → unsigned_abs (β *ℤ pos (c * k) -ℤ g2 *ℤ pos (v * c * c)) ≤ m
+    → unsigned_abs (neg_ℤ N *ℤ pos k -ℤ s *ℤ pos (v * c * c)) ≤ m
     → unsigned_abs (((α *ℤ a +ℤ β *ℤ b) *ℤ pos c -ℤ N *ℤ e) *ℤ pos k -ℤ (g1 *ℤ a +ℤ g2 *ℤ b +ℤ s *ℤ e) *ℤ pos (v * c * c)) ≤ m * (unsigned_abs a + unsigned_abs b + unsigned_abs e)
 row_5_off α β a b N e g1 g2 s v c k m h1 h2 h3 =
     let x : ℤ = α *ℤ pos (c * k) -ℤ g1 *ℤ pos (v * c * c) in
@@ -134,7 +143,8 @@ row_5_off α β a b N e g1 g2 s v c k m h1 h2 h3 =
     let m3 = mul-le-mul_right (unsigned_abs e) h3 in
     rw (row_5 α β a b N e g1 g2 s v c k) (omega arith)
 
-both_5_a : (T X J : ℤ) (v c d k D : ℕ) → (T *ℤ pos (d * k) -ℤ J *ℤ pos (v * D * c)) *ℤ pos c ≡ (pos d *ℤ (T *ℤ pos c) -ℤ X *ℤ pos D) *ℤ pos k +ℤ (X *ℤ pos k -ℤ J *ℤ pos (v * c * c)) *ℤ pos D
+both_5_a : (T X J : ℤ) (v c d k D : ℕ)
+    → (T *ℤ pos (d * k) -ℤ J *ℤ pos (v * D * c)) *ℤ pos c ≡ (pos d *ℤ (T *ℤ pos c) -ℤ X *ℤ pos D) *ℤ pos k +ℤ (X *ℤ pos k -ℤ J *ℤ pos (v * c * c)) *ℤ pos D
 both_5_a T X J v c d k D = rw (as_val T, as_val X, as_val J) (simp vals (val-same _ _ _ _ (omega arith)))
 
 -- q for the radii times the changes, q' for what the roundings add
@@ -156,10 +166,12 @@ both_5 T X J v c d k D q q' c_pos h1 h2 =
     le_of_mul-le-mul_right g c_pos
 
 -- times v: the fraction has v in both denominators
-times_v_a : (T J : ℤ) (v c d k D : ℕ) → T *ℤ pos v *ℤ pos (d * k) -ℤ J *ℤ pos (v * D * (v * c)) ≡ (T *ℤ pos (d * k) -ℤ J *ℤ pos (v * D * c)) *ℤ pos v
+times_v_a : (T J : ℤ) (v c d k D : ℕ)
+    → T *ℤ pos v *ℤ pos (d * k) -ℤ J *ℤ pos (v * D * (v * c)) ≡ (T *ℤ pos (d * k) -ℤ J *ℤ pos (v * D * c)) *ℤ pos v
 times_v_a T J v c d k D = rw (as_val T, as_val J) (simp vals (val-same _ _ _ _ (omega arith)))
 
-times_v : (T J : ℤ) (v c d k D q : ℕ) → unsigned_abs (T *ℤ pos (d * k) -ℤ J *ℤ pos (v * D * c)) ≤ q * (v * D * c) → unsigned_abs (T *ℤ pos v *ℤ pos (d * k) -ℤ J *ℤ pos (v * D * (v * c))) ≤ q * (v * D * (v * c))
+times_v : (T J : ℤ) (v c d k D q : ℕ) → unsigned_abs (T *ℤ pos (d * k) -ℤ J *ℤ pos (v * D * c)) ≤ q * (v * D * c)
+    → unsigned_abs (T *ℤ pos v *ℤ pos (d * k) -ℤ J *ℤ pos (v * D * (v * c))) ≤ q * (v * D * (v * c))
 times_v T J v c d k D q h =
     let e = unsigned_abs-mul (T *ℤ pos (d * k) -ℤ J *ℤ pos (v * D * c)) (pos v) in
     let m = mul-le-mul_right v h in
@@ -169,7 +181,8 @@ drop_zero : (N m l : ℤ) → m -ℤ pos 0 *ℤ l ≡ m -ℤ N *ℤ pos 0
 drop_zero N m l = omega (arith, ints)
 
 -- a slope within one unit of none
-flat_fits : (s : ℤ) (v c k : ℕ) → unsigned_abs s ≤ 1 → unsigned_abs (neg_ℤ (pos 0) *ℤ pos k -ℤ s *ℤ pos (v * c * c)) ≤ v * c * c
+flat_fits : (s : ℤ) (v c k : ℕ) → unsigned_abs s ≤ 1
+    → unsigned_abs (neg_ℤ (pos 0) *ℤ pos k -ℤ s *ℤ pos (v * c * c)) ≤ v * c * c
 flat_fits s v c k h =
     let e : neg_ℤ (pos 0) *ℤ pos k -ℤ s *ℤ pos (v * c * c) ≡ neg_ℤ (s *ℤ pos (v * c * c)) = rw (as_val s) (simp vals (val-same _ _ _ _ (omega arith))) in
     let f : unsigned_abs (neg_ℤ (s *ℤ pos (v * c * c))) ≡ unsigned_abs (s *ℤ pos (v * c * c)) = omega (arith, ints) in
@@ -190,7 +203,8 @@ room_5 D c d w lo rm h1 h2 h3 =
       | inr s ↦ let e : max lo (c - rm) ≡ lo = omega arith in rw e (omega arith)
     ]
 
-shifted_by : (lo hi rm m d : ℕ) (z : ℤ) → lo ≤ hi → unsigned_abs (z -ℤ pos d *ℤ pos m) ≤ d * rm → (w : ℤ) × Shifted lo hi rm m d z w
+shifted_by : (lo hi rm m d : ℕ) (z : ℤ) → lo ≤ hi → unsigned_abs (z -ℤ pos d *ℤ pos m) ≤ d * rm
+    → (w : ℤ) × Shifted lo hi rm m d z w
 shifted_by lo hi rm m d z lim hz =
     let c : ℕ = clamp m lo hi in
     let D : ℕ = clamp (non_negative z) (lo * d) (hi * d) in
@@ -202,7 +216,8 @@ shifted_by lo hi rm m d z lim hz =
     let at_least : c * d ≤ D + unsigned_abs w = omega (arith, ints) in
     (w, record { is_divisor = rejoin (pos D) (pos (c * d)); lies = bet; size = small; room = room_5 D c d (unsigned_abs w) lo rm at_least small (omega arith) })
 
-core_5 : (α β p q x y z : ℤ) (G v lo hi rm m d r' : ℕ) (w l J : ℤ) → 0 < v → 0 < lo → lo ≤ hi → unsigned_abs α + unsigned_abs β ≤ G → Shifted lo hi rm m d z w
+core_5 : (α β p q x y z : ℤ) (G v lo hi rm m d r' : ℕ) (w l J : ℤ) → 0 < v → 0 < lo → lo ≤ hi
+    → unsigned_abs α + unsigned_abs β ≤ G → Shifted lo hi rm m d z w
     → (let a = x -ℤ pos d *ℤ p in let b = y -ℤ pos d *ℤ q in let e = z -ℤ pos d *ℤ pos m in
     let c = clamp m lo hi in let N = α *ℤ p +ℤ β *ℤ q in let M = α *ℤ a +ℤ β *ℤ b in let h = unsigned_abs a + unsigned_abs b in
     let D = clamp (non_negative z) (lo * d) (hi * d) in
@@ -249,12 +264,14 @@ abbrev pub IsNearMagnitude : ℤ → ℕ → ℕ → ℤ → Type 0
 IsNearMagnitude N v c S = unsigned_abs (neg_ℤ N *ℤ pos (2 ^ 40) -ℤ S *ℤ pos (v * c * c)) ≤ 1 * (v * c * c)
 
 -- the roundings of the row, with and without the slope of the magnitude
-rounds_with : (α β a b e N g1 g2 s : ℤ) (v c : ℕ) → IsNearVoltage α v c g1 → IsNearVoltage β v c g2 → IsNearMagnitude N v c s
+rounds_with : (α β a b e N g1 g2 s : ℤ) (v c : ℕ) → IsNearVoltage α v c g1 → IsNearVoltage β v c g2
+    → IsNearMagnitude N v c s
     → unsigned_abs (((α *ℤ a +ℤ β *ℤ b) *ℤ pos c -ℤ N *ℤ e) *ℤ pos (2 ^ 40) -ℤ (g1 *ℤ a +ℤ g2 *ℤ b +ℤ s *ℤ e) *ℤ pos (v * c * c)) ≤ v * c * c * (unsigned_abs a + unsigned_abs b + unsigned_abs e)
 rounds_with α β a b e N g1 g2 s v c h1 h2 h3 =
     row_5_off α β a b N e g1 g2 s v c (2 ^ 40) (v * c * c) (round_voltage α g1 v c (2 ^ 40) h1) (round_voltage β g2 v c (2 ^ 40) h2) (omega arith)
 
-rounds_without : (α β a b e N g1 g2 s : ℤ) (v c : ℕ) → IsNearVoltage α v c g1 → IsNearVoltage β v c g2 → unsigned_abs s ≤ 1
+rounds_without : (α β a b e N g1 g2 s : ℤ) (v c : ℕ) → IsNearVoltage α v c g1 → IsNearVoltage β v c g2
+    → unsigned_abs s ≤ 1
     → unsigned_abs (((α *ℤ a +ℤ β *ℤ b) *ℤ pos c -ℤ N *ℤ pos 0) *ℤ pos (2 ^ 40) -ℤ (g1 *ℤ a +ℤ g2 *ℤ b +ℤ s *ℤ e) *ℤ pos (v * c * c)) ≤ v * c * c * (unsigned_abs a + unsigned_abs b + unsigned_abs e)
 rounds_without α β a b e N g1 g2 s v c h1 h2 h3 =
     let k : ℕ = 2 ^ 40 in
@@ -268,19 +285,23 @@ CurrentRow α β p q x y z v lo hi m d g1 g2 s r r' =
     (g1 *ℤ (x -ℤ pos d *ℤ p) +ℤ g2 *ℤ (y -ℤ pos d *ℤ q) +ℤ s *ℤ (z -ℤ pos d *ℤ pos m))
     ((r + 4) * (unsigned_abs (x -ℤ pos d *ℤ p) + unsigned_abs (y -ℤ pos d *ℤ q)) + (r' + 4) * unsigned_abs (z -ℤ pos d *ℤ pos m)) (d * 2 ^ 40)
 
-size_N : (α β p q : ℤ) (G : ℕ) → unsigned_abs α + unsigned_abs β ≤ G → unsigned_abs (α *ℤ p +ℤ β *ℤ q) ≤ G * max (unsigned_abs p) (unsigned_abs q)
+size_N : (α β p q : ℤ) (G : ℕ) → unsigned_abs α + unsigned_abs β ≤ G
+    → unsigned_abs (α *ℤ p +ℤ β *ℤ q) ≤ G * max (unsigned_abs p) (unsigned_abs q)
 size_N α β p q G h = le_trans (le_trans (abs_pair α β p q) (pair_by_sum (unsigned_abs α) (unsigned_abs β) (unsigned_abs p) (unsigned_abs q) (max (unsigned_abs p) (unsigned_abs q)) (omega arith) (omega arith))) (mul-le-mul_right (max (unsigned_abs p) (unsigned_abs q)) h)
 
 -- f where the box is inside
 factored : (e : ℤ) (D k : ℕ) → e *ℤ pos D -ℤ e *ℤ pos k ≡ e *ℤ (pos D -ℤ pos k)
 factored e D k = rw (as_val e) (simp (vals, pos_val) (val-same _ _ _ _ (omega arith)))
 
-not_below : (z : ℤ) (g rm lo : ℕ) → lo + rm ≤ g → unsigned_abs (z -ℤ pos g) ≤ rm → (pos (non_negative z) ≡ z) × (lo ≤ non_negative z) × (non_negative z ≤ g + rm)
+not_below : (z : ℤ) (g rm lo : ℕ) → lo + rm ≤ g → unsigned_abs (z -ℤ pos g) ≤ rm
+    → (pos (non_negative z) ≡ z) × (lo ≤ non_negative z) × (non_negative z ≤ g + rm)
 not_below (pos n) g rm lo h k = (refl, omega (arith, ints), omega (arith, ints))
 not_below (negsuc n) g rm lo h k = absurd (omega (arith, ints))
 
-inside_5 : (α β p q x y z g1 g2 s : ℤ) (G v lo hi rm m d : ℕ) → 0 < v → 0 < lo → unsigned_abs α + unsigned_abs β ≤ G → lo + rm ≤ m → m + rm ≤ hi → unsigned_abs (z -ℤ pos d *ℤ pos m) ≤ d * rm
-    → IsNearVoltage α v (clamp m lo hi) g1 → IsNearVoltage β v (clamp m lo hi) g2 → IsNearMagnitude (α *ℤ p +ℤ β *ℤ q) v (clamp m lo hi) s
+inside_5 : (α β p q x y z g1 g2 s : ℤ) (G v lo hi rm m d : ℕ) → 0 < v → 0 < lo → unsigned_abs α + unsigned_abs β ≤ G
+    → lo + rm ≤ m → m + rm ≤ hi → unsigned_abs (z -ℤ pos d *ℤ pos m) ≤ d * rm
+    → IsNearVoltage α v (clamp m lo hi) g1 → IsNearVoltage β v (clamp m lo hi) g2
+    → IsNearMagnitude (α *ℤ p +ℤ β *ℤ q) v (clamp m lo hi) s
     → CurrentRow α β p q x y z v lo hi m d g1 g2 s (steady_radius_of G v lo (clamp m lo hi) rm) (magnitude_inside_of G v lo (clamp m lo hi) p q rm)
 inside_5 α β p q x y z g1 g2 s G v lo hi rm m d v_pos lo_pos hG low high hz h1 h2 h3 =
     let k : ℕ = 2 ^ 40 in
@@ -325,13 +346,15 @@ at_end e n c D d h1 h2 =
       | inr s ↦ let o : max D (d * c) ≡ D = omega arith in let m = mul-le-mul_left (e * D) h1 in rw o (omega arith)
     ]
 
-f_with : (e w : ℤ) (n c D d : ℕ) → Between w e → n ≤ c → d * n ≤ D → n * unsigned_abs (e *ℤ pos D -ℤ w *ℤ pos (d * c)) ≤ unsigned_abs e * (c * D)
+f_with : (e w : ℤ) (n c D d : ℕ) → Between w e → n ≤ c → d * n ≤ D
+    → n * unsigned_abs (e *ℤ pos D -ℤ w *ℤ pos (d * c)) ≤ unsigned_abs e * (c * D)
 f_with e w n c D d bet h1 h2 =
     max_of n _ _ _ _ (between_abs (e *ℤ pos D) (w *ℤ pos (d * c)) (e *ℤ pos (d * c)) (between_times w e (d * c) bet))
     (let a = unsigned_abs-mul e (pos D) in let m = mul-le-mul_right (unsigned_abs e * D) h1 in rw a (omega arith))
     (let a = mul-le-mul_left n (mul-le-mul_left (unsigned_abs e) (apart_size D (d * c))) in rw (factored e D (d * c), unsigned_abs-mul e (pos D -ℤ pos (d * c))) (le_trans a (at_end (unsigned_abs e) n c D d h1 h2)))
 
-f_without : (e w : ℤ) (n c D d : ℕ) → unsigned_abs w ≤ unsigned_abs e → d * n ≤ D → n * unsigned_abs (pos 0 *ℤ pos D -ℤ w *ℤ pos (d * c)) ≤ unsigned_abs e * (c * D)
+f_without : (e w : ℤ) (n c D d : ℕ) → unsigned_abs w ≤ unsigned_abs e → d * n ≤ D
+    → n * unsigned_abs (pos 0 *ℤ pos D -ℤ w *ℤ pos (d * c)) ≤ unsigned_abs e * (c * D)
 f_without e w n c D d h1 h2 =
     let o : unsigned_abs (pos 0 *ℤ pos D -ℤ w *ℤ pos (d * c)) ≡ unsigned_abs (w *ℤ pos (d * c)) = omega (arith, ints) in
     let m = mul-le-mul_left (n * (d * c)) h1 in
@@ -339,8 +362,10 @@ f_without e w n c D d h1 h2 =
     rw (o, unsigned_abs-mul w (pos (d * c))) (omega arith)
 
 -- across: with the slope of the magnitude, and without it
-with_5 : (α β p q x y z g1 g2 s : ℤ) (G v lo hi rm m d : ℕ) → 0 < v → 0 < lo → lo ≤ hi → unsigned_abs α + unsigned_abs β ≤ G → unsigned_abs (z -ℤ pos d *ℤ pos m) ≤ d * rm
-    → IsNearVoltage α v (clamp m lo hi) g1 → IsNearVoltage β v (clamp m lo hi) g2 → IsNearMagnitude (α *ℤ p +ℤ β *ℤ q) v (clamp m lo hi) s
+with_5 : (α β p q x y z g1 g2 s : ℤ) (G v lo hi rm m d : ℕ) → 0 < v → 0 < lo → lo ≤ hi
+    → unsigned_abs α + unsigned_abs β ≤ G → unsigned_abs (z -ℤ pos d *ℤ pos m) ≤ d * rm
+    → IsNearVoltage α v (clamp m lo hi) g1 → IsNearVoltage β v (clamp m lo hi) g2
+    → IsNearMagnitude (α *ℤ p +ℤ β *ℤ q) v (clamp m lo hi) s
     → CurrentRow α β p q x y z v lo hi m d g1 g2 s (steady_radius_of G v lo (clamp m lo hi) rm) (magnitude_across_of G v lo (clamp m lo hi) p q rm)
 with_5 α β p q x y z g1 g2 s G v lo hi rm m d v_pos lo_pos lim hG hz h1 h2 h3 =
     let k : ℕ = 2 ^ 40 in
@@ -361,7 +386,8 @@ with_5 α β p q x y z g1 g2 s G v lo hi rm m d v_pos lo_pos lim hG hz h1 h2 h3 
     core_5 α β p q x y z G v lo hi rm m d (magnitude_across_of G v lo c p q rm) w e _ v_pos lo_pos lim hG sh hf
     (rounds_with α β (x -ℤ pos d *ℤ p) (y -ℤ pos d *ℤ q) e N g1 g2 s v c h1 h2 h3)
 
-pub without_5 : (α β p q x y z g1 g2 s : ℤ) (G v lo hi rm m d : ℕ) → 0 < v → 0 < lo → lo ≤ hi → unsigned_abs α + unsigned_abs β ≤ G → unsigned_abs (z -ℤ pos d *ℤ pos m) ≤ d * rm
+pub without_5 : (α β p q x y z g1 g2 s : ℤ) (G v lo hi rm m d : ℕ) → 0 < v → 0 < lo → lo ≤ hi
+    → unsigned_abs α + unsigned_abs β ≤ G → unsigned_abs (z -ℤ pos d *ℤ pos m) ≤ d * rm
     → IsNearVoltage α v (clamp m lo hi) g1 → IsNearVoltage β v (clamp m lo hi) g2 → unsigned_abs s ≤ 1
     → CurrentRow α β p q x y z v lo hi m d g1 g2 s (steady_radius_of G v lo (clamp m lo hi) rm) (magnitude_across_of G v lo (clamp m lo hi) p q rm)
 without_5 α β p q x y z g1 g2 s G v lo hi rm m d v_pos lo_pos lim hG hz h1 h2 h3 =
@@ -383,17 +409,20 @@ without_5 α β p q x y z g1 g2 s G v lo hi rm m d v_pos lo_pos lim hG hz h1 h2 
     (rounds_without α β (x -ℤ pos d *ℤ p) (y -ℤ pos d *ℤ q) e N g1 g2 s v c h1 h2 h3)
 
 -- outside
-still_5 : (z : ℤ) (m lo hi rm d : ℕ) → lo ≤ hi → unsigned_abs (z -ℤ pos d *ℤ pos m) ≤ d * rm → (m + rm ≤ lo) ⊎ (hi + rm ≤ m)
+still_5 : (z : ℤ) (m lo hi rm d : ℕ) → lo ≤ hi → unsigned_abs (z -ℤ pos d *ℤ pos m) ≤ d * rm
+    → (m + rm ≤ lo) ⊎ (hi + rm ≤ m)
     → clamp (non_negative z) (lo * d) (hi * d) ≡ clamp m lo hi * d
 still_5 (pos n) m lo hi rm d lim hz (inl h) = let a = mul-le-mul_left d h in let b = mul-le-mul_left d lim in let o : clamp m lo hi ≡ lo = omega arith in rw o (omega (arith, ints))
 still_5 (pos n) m lo hi rm d lim hz (inr h) = let a = mul-le-mul_left d h in let b = mul-le-mul_left d lim in let o : clamp m lo hi ≡ hi = omega arith in rw o (omega (arith, ints))
 still_5 (negsuc n) m lo hi rm d lim hz (inl h) = let b = mul-le-mul_left d lim in let o : clamp m lo hi ≡ lo = omega arith in rw o (omega arith)
 still_5 (negsuc n) m lo hi rm d lim hz (inr h) = let a = mul-le-mul_left d h in absurd (omega (arith, ints))
 
-nothing_5 : (N M : ℤ) (c d : ℕ) → pos d *ℤ (((pos d *ℤ N +ℤ M) *ℤ pos c -ℤ N *ℤ pos (c * d)) *ℤ pos c) -ℤ (M *ℤ pos c -ℤ N *ℤ pos 0) *ℤ pos (c * d) ≡ pos 0
+nothing_5 : (N M : ℤ) (c d : ℕ)
+    → pos d *ℤ (((pos d *ℤ N +ℤ M) *ℤ pos c -ℤ N *ℤ pos (c * d)) *ℤ pos c) -ℤ (M *ℤ pos c -ℤ N *ℤ pos 0) *ℤ pos (c * d) ≡ pos 0
 nothing_5 N M c d = rw (as_val N, as_val M) (simp vals (val-same _ _ _ _ (omega arith) ∙ sym (pos_val 0)))
 
-pub outside_5 : (α β p q x y z g1 g2 s : ℤ) (v lo hi rm m d : ℕ) → 0 < v → 0 < lo → lo ≤ hi → unsigned_abs (z -ℤ pos d *ℤ pos m) ≤ d * rm → (m + rm ≤ lo) ⊎ (hi + rm ≤ m)
+pub outside_5 : (α β p q x y z g1 g2 s : ℤ) (v lo hi rm m d : ℕ) → 0 < v → 0 < lo → lo ≤ hi
+    → unsigned_abs (z -ℤ pos d *ℤ pos m) ≤ d * rm → (m + rm ≤ lo) ⊎ (hi + rm ≤ m)
     → IsNearVoltage α v (clamp m lo hi) g1 → IsNearVoltage β v (clamp m lo hi) g2 → unsigned_abs s ≤ 1
     → CurrentRow α β p q x y z v lo hi m d g1 g2 s 0 0
 outside_5 α β p q x y z g1 g2 s v lo hi rm m d v_pos lo_pos lim hz out h1 h2 h3 =
@@ -439,7 +468,8 @@ magnitude_radius_of t1 t3 G v lo c p q rm = cond t1 (magnitude_inside_of G v lo 
 pub current_by : (α β p q x y z g1 g2 s : ℤ) (G v lo hi rm m d : ℕ) (t1 t2 t3 : Bool)
     → stays_inside m rm lo hi ≡ t1 → lies_inside m lo hi ≡ t2 → stays_outside m rm lo hi ≡ t3
     → 0 < v → 0 < lo → lo ≤ hi → unsigned_abs α + unsigned_abs β ≤ G → unsigned_abs (z -ℤ pos d *ℤ pos m) ≤ d * rm
-    → IsNearVoltage α v (clamp m lo hi) g1 → IsNearVoltage β v (clamp m lo hi) g2 → IsRoundedMagnitude t2 (α *ℤ p +ℤ β *ℤ q) v (clamp m lo hi) s
+    → IsNearVoltage α v (clamp m lo hi) g1 → IsNearVoltage β v (clamp m lo hi) g2
+    → IsRoundedMagnitude t2 (α *ℤ p +ℤ β *ℤ q) v (clamp m lo hi) s
     → CurrentRow α β p q x y z v lo hi m d g1 g2 s (voltage_radius_of t1 t3 G v lo (clamp m lo hi) rm) (magnitude_radius_of t1 t3 G v lo (clamp m lo hi) p q rm)
 current_by α β p q x y z g1 g2 s G v lo hi rm m d true true t3 e1 e2 e3 v_pos lo_pos lim hG hz h1 h2 h3 =
     let f = inside_facts m rm lo hi e1 in

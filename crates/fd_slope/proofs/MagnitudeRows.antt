@@ -11,11 +11,13 @@ use Rattle.fd_slope.specs.Radii.{at_scale}
 use Rattle.fd_slope.proofs.Quotients.{abs_of_three, near_by, rejoin}
 
 -- one square: m at the centre, e the change, s the rounded slope
-one_square_a : (m e s : ℤ) (d v k : ℕ) → ((pos d *ℤ m +ℤ e) *ℤ (pos d *ℤ m +ℤ e) -ℤ m *ℤ m *ℤ pos (d * d)) *ℤ pos k -ℤ s *ℤ e *ℤ pos (d * v)
+one_square_a : (m e s : ℤ) (d v k : ℕ)
+    → ((pos d *ℤ m +ℤ e) *ℤ (pos d *ℤ m +ℤ e) -ℤ m *ℤ m *ℤ pos (d * d)) *ℤ pos k -ℤ s *ℤ e *ℤ pos (d * v)
     ≡ e *ℤ e *ℤ pos k +ℤ (pos 2 *ℤ m *ℤ pos k -ℤ s *ℤ pos v) *ℤ e *ℤ pos d
 one_square_a m e s d v k = rw (as_val m, as_val e, as_val s) (simp vals (val-same _ _ _ _ (omega arith)))
 
-one_square : (m e s : ℤ) (d v k r y : ℕ) → unsigned_abs (pos 2 *ℤ m *ℤ pos k -ℤ s *ℤ pos v) ≤ 1 * v → unsigned_abs e ≤ d * r → r * k ≤ y * v
+one_square : (m e s : ℤ) (d v k r y : ℕ) → unsigned_abs (pos 2 *ℤ m *ℤ pos k -ℤ s *ℤ pos v) ≤ 1 * v
+    → unsigned_abs e ≤ d * r → r * k ≤ y * v
     → unsigned_abs (((pos d *ℤ m +ℤ e) *ℤ (pos d *ℤ m +ℤ e) -ℤ m *ℤ m *ℤ pos (d * d)) *ℤ pos k -ℤ s *ℤ e *ℤ pos (d * v)) ≤ (y + 4) * unsigned_abs e * (d * v)
 one_square m e s d v k r y hs he hr =
     let t : ℤ = pos 2 *ℤ m *ℤ pos k -ℤ s *ℤ pos v in
@@ -28,7 +30,8 @@ one_square m e s d v k r y hs he hr =
     rw (one_square_a m e s d v k) (omega arith)
 
 -- sb and sc are the slopes in p and in q, which are below 0 where these are above
-three_a : (A B C a b c sa sb sc : ℤ) (v d k : ℕ) → ((A -ℤ B -ℤ C) *ℤ pos v -ℤ (a -ℤ b -ℤ c) *ℤ pos (v * (d * d))) *ℤ pos (d * k) -ℤ (sb +ℤ sc +ℤ sa) *ℤ pos (v * (d * d) * v)
+three_a : (A B C a b c sa sb sc : ℤ) (v d k : ℕ)
+    → ((A -ℤ B -ℤ C) *ℤ pos v -ℤ (a -ℤ b -ℤ c) *ℤ pos (v * (d * d))) *ℤ pos (d * k) -ℤ (sb +ℤ sc +ℤ sa) *ℤ pos (v * (d * d) * v)
     ≡ (((A -ℤ a *ℤ pos (d * d)) *ℤ pos k -ℤ sa *ℤ pos (d * v)) -ℤ ((B -ℤ b *ℤ pos (d * d)) *ℤ pos k -ℤ neg_ℤ sb *ℤ pos (d * v)) -ℤ ((C -ℤ c *ℤ pos (d * d)) *ℤ pos k -ℤ neg_ℤ sc *ℤ pos (d * v))) *ℤ pos (v * d)
 three_a A B C a b c sa sb sc v d k = rw (as_val A, as_val B, as_val C, as_val a, as_val b, as_val c, as_val sa, as_val sb, as_val sc) (simp vals (val-same _ _ _ _ (omega arith)))
 
@@ -56,7 +59,8 @@ opposite_times : (s a : ℤ) → neg_ℤ s *ℤ a ≡ neg_ℤ (s *ℤ a)
 opposite_times s a = rw (as_val s, as_val a) (simp vals (val-same _ _ _ _ (omega arith)))
 
 pub magnitude_follows : (p q m x y z s1 s2 s3 : ℤ) (v rp rq rm d : ℕ) → 0 < v
-    → unsigned_abs (x -ℤ pos d *ℤ p) ≤ d * rp → unsigned_abs (y -ℤ pos d *ℤ q) ≤ d * rq → unsigned_abs (z -ℤ pos d *ℤ m) ≤ d * rm
+    → unsigned_abs (x -ℤ pos d *ℤ p) ≤ d * rp → unsigned_abs (y -ℤ pos d *ℤ q) ≤ d * rq
+    → unsigned_abs (z -ℤ pos d *ℤ m) ≤ d * rm
     → IsNearOpposite p v s1 → IsNearOpposite q v s2 → IsNearDouble m v s3
     → Near (minus (magnitude_row v x y z d) (magnitude_row v p q m 1))
     (s1 *ℤ (x -ℤ pos d *ℤ p) +ℤ s2 *ℤ (y -ℤ pos d *ℤ q) +ℤ s3 *ℤ (z -ℤ pos d *ℤ m))

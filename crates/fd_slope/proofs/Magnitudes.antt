@@ -27,14 +27,17 @@ high_is w h = omega (arith, ints, h.low_least, h.low_most, h.high_least)
 plus_is : (z : ℤ) (n k : ℕ) → z ≡ pos n → (z +ℤ pos k) ≡ pos (n + k)
 plus_is z n k e = omega (arith, ints)
 
-lies_same : (w : LoadPhase) (k : ℕ) → IsLoadPhase w → (nat_le (nat_abs w.vlo) k && nat_le k (nat_abs w.vhi)) ≡ magnitude_is_inside w (pos k)
+lies_same : (w : LoadPhase) (k : ℕ) → IsLoadPhase w
+    → (nat_le (nat_abs w.vlo) k && nat_le k (nat_abs w.vhi)) ≡ magnitude_is_inside w (pos k)
 lies_same w k h = (λ i. same_test w.vlo (pos k) (nat_abs w.vlo) k (low_is w h) refl i && same_test (pos k) w.vhi k (nat_abs w.vhi) refl (high_is w h) i)
 
-inside_same : (w : LoadPhase) (k rm : ℕ) → IsLoadPhase w → (nat_le (nat_abs w.vlo + rm) k && nat_le (k + rm) (nat_abs w.vhi)) ≡ magnitude_stays_inside w (pos k) rm
+inside_same : (w : LoadPhase) (k rm : ℕ) → IsLoadPhase w
+    → (nat_le (nat_abs w.vlo + rm) k && nat_le (k + rm) (nat_abs w.vhi)) ≡ magnitude_stays_inside w (pos k) rm
 inside_same w k rm h = (λ i. same_test (w.vlo +ℤ pos rm) (pos k) (nat_abs w.vlo + rm) k (plus_is w.vlo (nat_abs w.vlo) rm (low_is w h)) refl i
     && same_test (pos k +ℤ pos rm) w.vhi (k + rm) (nat_abs w.vhi) (plus_is (pos k) k rm refl) (high_is w h) i)
 
-outside_same : (w : LoadPhase) (k rm : ℕ) → IsLoadPhase w → (nat_le (k + rm) (nat_abs w.vlo) || nat_le (nat_abs w.vhi + rm) k) ≡ magnitude_stays_outside w (pos k) rm
+outside_same : (w : LoadPhase) (k rm : ℕ) → IsLoadPhase w
+    → (nat_le (k + rm) (nat_abs w.vlo) || nat_le (nat_abs w.vhi + rm) k) ≡ magnitude_stays_outside w (pos k) rm
 outside_same w k rm h = (λ i. same_test (pos k +ℤ pos rm) w.vlo (k + rm) (nat_abs w.vlo) (plus_is (pos k) k rm refl) (low_is w h) i
     || same_test (w.vhi +ℤ pos rm) (pos k) (nat_abs w.vhi + rm) k (plus_is w.vhi (nat_abs w.vhi) rm (high_is w h)) refl i)
 
@@ -57,7 +60,8 @@ negative_inside : (w : LoadPhase) (k rm : ℕ) → IsLoadPhase w → magnitude_s
 negative_inside w k rm h = and_first (int_le (w.vlo +ℤ pos rm) (negsuc k)) (int_le (negsuc k +ℤ pos rm) w.vhi) (above_ℤ (w.vlo +ℤ pos rm) (negsuc k) (λ l. omega (arith, ints, h.low_least, l)))
 
 -- a box outside reaches at most the lower limit
-negative_outside : (w : LoadPhase) (k rm : ℕ) → IsLoadPhase w → magnitude_stays_outside w (negsuc k) rm ≡ true → rm ≤ nat_abs w.vlo + suc k
+negative_outside : (w : LoadPhase) (k rm : ℕ) → IsLoadPhase w → magnitude_stays_outside w (negsuc k) rm ≡ true
+    → rm ≤ nat_abs w.vlo + suc k
 negative_outside w k rm h e =
     elim (or_cases (int_le (negsuc k +ℤ pos rm) w.vlo) (int_le (w.vhi +ℤ pos rm) (negsuc k)) e) [
       | inl s ↦ let l = at_most_ℤ (negsuc k +ℤ pos rm) w.vlo s in omega (arith, ints, h.low_least, l)
@@ -65,11 +69,13 @@ negative_outside w k rm h e =
     ]
 
 -- what is left of z above 0 is no further from 0 than z from the centre
-nearer : (z : ℤ) (k d : ℕ) → unsigned_abs (pos (non_negative z) -ℤ pos d *ℤ pos 0) ≤ unsigned_abs (z -ℤ pos d *ℤ negsuc k)
+nearer : (z : ℤ) (k d : ℕ)
+    → unsigned_abs (pos (non_negative z) -ℤ pos d *ℤ pos 0) ≤ unsigned_abs (z -ℤ pos d *ℤ negsuc k)
 nearer (pos n) k d = omega (arith, ints)
 nearer (negsuc n) k d = omega (arith, ints)
 
-up_to : (z : ℤ) (k d rm lo : ℕ) → rm ≤ lo + suc k → unsigned_abs (z -ℤ pos d *ℤ negsuc k) ≤ d * rm → unsigned_abs (pos (non_negative z) -ℤ pos d *ℤ pos 0) ≤ d * lo
+up_to : (z : ℤ) (k d rm lo : ℕ) → rm ≤ lo + suc k → unsigned_abs (z -ℤ pos d *ℤ negsuc k) ≤ d * rm
+    → unsigned_abs (pos (non_negative z) -ℤ pos d *ℤ pos 0) ≤ d * lo
 up_to (pos n) k d rm lo h hz = let m = mul-le-mul_left d h in omega (arith, ints)
 up_to (negsuc n) k d rm lo h hz = omega (arith, ints)
 
@@ -103,7 +109,8 @@ negative_by α β p q x y z g1 g2 G v lo hi rm k d false out v_pos lo_pos lim hG
 
 -- ---- any magnitude
 
-current_sizes : (r r' a b e ha hb he : ℕ) → a ≤ ha → b ≤ hb → e ≤ he → (r + 4) * (a + b) + (r' + 4) * e ≤ (r + 4) * ha + (r + 4) * hb + (r' + 4) * he
+current_sizes : (r r' a b e ha hb he : ℕ) → a ≤ ha → b ≤ hb → e ≤ he
+    → (r + 4) * (a + b) + (r' + 4) * e ≤ (r + 4) * ha + (r + 4) * hb + (r' + 4) * he
 current_sizes r r' a b e ha hb he h k l = omega (arith, mul-le-mul_left (r + 4) h, mul-le-mul_left (r + 4) k, mul-le-mul_left (r' + 4) l)
 
 negative_slope : (t : Bool) (s n : ℤ) → t ≡ false → cond t s n ≡ n
@@ -114,10 +121,12 @@ case_false : (t : Bool) (n m : ℕ) → t ≡ false → cond t n m ≡ m
 case_false true n m e = absurd cc
 case_false false n m e = refl
 
-pub current_row : (w : LoadPhase) (α β p q m x y z g1 g2 s : ℤ) (rm ha hb he d : ℕ) → IsLoadPhase w → unsigned_abs α + unsigned_abs β ≤ full_draw w
+pub current_row : (w : LoadPhase) (α β p q m x y z g1 g2 s : ℤ) (rm ha hb he d : ℕ) → IsLoadPhase w
+    → unsigned_abs α + unsigned_abs β ≤ full_draw w
     → unsigned_abs (z -ℤ pos d *ℤ m) ≤ d * rm
     → unsigned_abs (x -ℤ pos d *ℤ p) ≤ ha → unsigned_abs (y -ℤ pos d *ℤ q) ≤ hb → unsigned_abs (z -ℤ pos d *ℤ m) ≤ he
-    → IsNearVoltage α (nat_abs w.vn) (clamped_magnitude w m) g1 → IsNearVoltage β (nat_abs w.vn) (clamped_magnitude w m) g2
+    → IsNearVoltage α (nat_abs w.vn) (clamped_magnitude w m) g1
+    → IsNearVoltage β (nat_abs w.vn) (clamped_magnitude w m) g2
     → IsRoundedMagnitude (magnitude_is_inside w m) (α *ℤ p +ℤ β *ℤ q) (nat_abs w.vn) (clamped_magnitude w m) s
     → (magnitude_is_inside w m ≡ false → s ≡ pos 0)
     → Row (constant_current α β (nat_abs w.vn) (nat_abs w.vlo) (nat_abs w.vhi) x y z d) (constant_current α β (nat_abs w.vn) (nat_abs w.vlo) (nat_abs w.vhi) p q m 1)

@@ -37,10 +37,12 @@ with_nothing s t e = omega (arith, ints)
 power_sizes : (r a b ha hb he : ℕ) → a ≤ ha → b ≤ hb → (r + 4) * (a + b) ≤ (r + 4) * ha + (r + 4) * hb + (0 + 4) * he
 power_sizes r a b ha hb he h k = omega (arith, mul-le-mul_left (r + 4) h, mul-le-mul_left (r + 4) k)
 
-pub power_row : (w : LoadPhase) (α β p q x y e S1 S2 : ℤ) (rp rq ha hb he d : ℕ) → IsLoadPhase w → 0 < d → unsigned_abs α + unsigned_abs β ≤ full_draw w
+pub power_row : (w : LoadPhase) (α β p q x y e S1 S2 : ℤ) (rp rq ha hb he d : ℕ) → IsLoadPhase w → 0 < d
+    → unsigned_abs α + unsigned_abs β ≤ full_draw w
     → unsigned_abs (x -ℤ pos d *ℤ p) ≤ d * rp → unsigned_abs (y -ℤ pos d *ℤ q) ≤ d * rq
     → unsigned_abs (x -ℤ pos d *ℤ p) ≤ ha → unsigned_abs (y -ℤ pos d *ℤ q) ≤ hb
-    → IsRounded (square_is_inside w p q) α p (α *ℤ p +ℤ β *ℤ q) (clamped_square w p q) S1 → IsRounded (square_is_inside w p q) β q (α *ℤ p +ℤ β *ℤ q) (clamped_square w p q) S2
+    → IsRounded (square_is_inside w p q) α p (α *ℤ p +ℤ β *ℤ q) (clamped_square w p q) S1
+    → IsRounded (square_is_inside w p q) β q (α *ℤ p +ℤ β *ℤ q) (clamped_square w p q) S2
     → Row (constant_power α β (nat_abs w.vlo * nat_abs w.vlo) (nat_abs w.vhi * nat_abs w.vhi) x y d) (constant_power α β (nat_abs w.vlo * nat_abs w.vlo) (nat_abs w.vhi * nat_abs w.vhi) p q 1)
     (slope_row S1 S2 (pos 0)) (radius_row (power_radius w p q rp rq) (power_radius w p q rp rq) 0) (x -ℤ pos d *ℤ p) (y -ℤ pos d *ℤ q) e ha hb he d
 power_row w α β p q x y e S1 S2 rp rq ha hb he d h d_pos hG hx hy ka kb h1 h2 =
@@ -63,5 +65,6 @@ real_draw w = omega (arith, scaled_size w.p, scaled_size w.q)
 negated_size : (z : ℤ) → unsigned_abs (neg_ℤ z) ≡ unsigned_abs z
 negated_size z = omega (arith, ints)
 
-pub imaginary_draw : (w : LoadPhase) → unsigned_abs (neg_ℤ (pos (10 ^ 9) *ℤ w.q)) + unsigned_abs (pos (10 ^ 9) *ℤ w.p) ≤ full_draw w
+pub imaginary_draw : (w : LoadPhase)
+    → unsigned_abs (neg_ℤ (pos (10 ^ 9) *ℤ w.q)) + unsigned_abs (pos (10 ^ 9) *ℤ w.p) ≤ full_draw w
 imaginary_draw w = omega (arith, negated_size (pos (10 ^ 9) *ℤ w.q), scaled_size w.p, scaled_size w.q)

@@ -78,7 +78,8 @@ exact_w : (N M l w : ℤ) (c d D : ℕ) → pos D ≡ pos c *ℤ pos d *ℤ pos 
 exact_w N M l w c d D e = rw (e, change_a N M w c d) (change_c N M l w c d)
 
 -- the change of a load's row, from what is known of the linear part and of the rounded slopes
-across_core : (α β p q a b : ℤ) (G lo hi rp rq d : ℕ) (w l J : ℤ) → 0 < d → 0 < lo → unsigned_abs α + unsigned_abs β ≤ G → lo ≤ hi → Moved p q a b lo hi rp rq d w
+across_core : (α β p q a b : ℤ) (G lo hi rp rq d : ℕ) (w l J : ℤ) → 0 < d → 0 < lo → unsigned_abs α + unsigned_abs β ≤ G
+    → lo ≤ hi → Moved p q a b lo hi rp rq d w
     → (let u = square_of p q in let c = clamp u lo hi in let N = α *ℤ p +ℤ β *ℤ q in let M = α *ℤ a +ℤ β *ℤ b in let h = unsigned_abs a + unsigned_abs b in
     let D = clamp (square_of (pos d *ℤ p +ℤ a) (pos d *ℤ q +ℤ b)) (lo * (d * d)) (hi * (d * d)) in
     let A = max (unsigned_abs p) (unsigned_abs q) in
@@ -153,7 +154,8 @@ rounds_flat α β a b N S1 S2 c h1 h2 =
     subst (λ (m : ℤ). unsigned_abs (m *ℤ pos k -ℤ (S1 *ℤ a +ℤ S2 *ℤ b) *ℤ pos (c * c)) ≤ 2 * (c * c) * (unsigned_abs a + unsigned_abs b)) (drop_zero N (M *ℤ pos c) (pos 2 *ℤ pos 0 *ℤ a +ℤ pos 2 *ℤ pos 0 *ℤ b)) h
 
 -- where the box straddles a limit, with the slopes of the clamped square
-pub power_across : (α β p q x y S1 S2 : ℤ) (G lo hi rp rq d : ℕ) → 0 < d → 0 < lo → unsigned_abs α + unsigned_abs β ≤ G → lo ≤ hi
+pub power_across : (α β p q x y S1 S2 : ℤ) (G lo hi rp rq d : ℕ) → 0 < d → 0 < lo → unsigned_abs α + unsigned_abs β ≤ G
+    → lo ≤ hi
     → unsigned_abs (x -ℤ pos d *ℤ p) ≤ d * rp → unsigned_abs (y -ℤ pos d *ℤ q) ≤ d * rq
     → (let c = clamp (square_of p q) lo hi in
     IsNearSlope α p (α *ℤ p +ℤ β *ℤ q) c S1 → IsNearSlope β q (α *ℤ p +ℤ β *ℤ q) c S2
@@ -183,7 +185,8 @@ power_across α β p q x y S1 S2 G lo hi rp rq d d_pos lo_pos hG lim ha hb col1 
     (across_core α β p q a b G lo hi rp rq d w l (S1 *ℤ a +ℤ S2 *ℤ b) d_pos lo_pos hG lim m f rounds)
 
 -- with the slopes over a constant
-pub power_across_flat : (α β p q x y S1 S2 : ℤ) (G lo hi rp rq d : ℕ) → 0 < d → 0 < lo → unsigned_abs α + unsigned_abs β ≤ G → lo ≤ hi
+pub power_across_flat : (α β p q x y S1 S2 : ℤ) (G lo hi rp rq d : ℕ) → 0 < d → 0 < lo
+    → unsigned_abs α + unsigned_abs β ≤ G → lo ≤ hi
     → unsigned_abs (x -ℤ pos d *ℤ p) ≤ d * rp → unsigned_abs (y -ℤ pos d *ℤ q) ≤ d * rq
     → (let c = clamp (square_of p q) lo hi in
     IsNearFlat α c S1 → IsNearFlat β c S2
@@ -219,7 +222,8 @@ still p q a b lo hi rp rq d lim ha hb (inr out) =
     let e : clamp (square_of p q) lo hi ≡ hi = omega arith in
     rw e (omega arith)
 
-nothing : (N M : ℤ) (c d : ℕ) → pos d *ℤ (((pos d *ℤ N +ℤ M) *ℤ pos d *ℤ pos c -ℤ N *ℤ pos (c * d * d)) *ℤ pos c) -ℤ (M *ℤ pos c -ℤ N *ℤ pos 0) *ℤ pos (c * d * d) ≡ pos 0
+nothing : (N M : ℤ) (c d : ℕ)
+    → pos d *ℤ (((pos d *ℤ N +ℤ M) *ℤ pos d *ℤ pos c -ℤ N *ℤ pos (c * d * d)) *ℤ pos c) -ℤ (M *ℤ pos c -ℤ N *ℤ pos 0) *ℤ pos (c * d * d) ≡ pos 0
 nothing N M c d = rw (as_val N, as_val M) (simp vals (val-same _ _ _ _ (omega arith) ∙ sym (pos_val 0)))
 
 pub power_outside : (α β p q x y S1 S2 : ℤ) (lo hi rp rq d : ℕ) → 0 < d → 0 < lo → lo ≤ hi

@@ -10,7 +10,8 @@ use Rattle.fd_slope.specs.Radii.{square_moves}
 
 -- the radius of a slope where the box is inside the limits, as an inequality of naturals. k for 2^40
 pub radius_inside : (k G g c E y n A s x1 z x2 r : ℕ) → 0 < k
-    → G * k ≤ g * c → E * k ≤ y * n → A * s * k ≤ x1 * n → A * A * k ≤ z * c → 2 * z * y ≤ x2 * k → g * (y + (x1 + x2)) ≤ r * k
+    → G * k ≤ g * c → E * k ≤ y * n → A * s * k ≤ x1 * n → A * A * k ≤ z * c → 2 * z * y ≤ x2 * k
+    → g * (y + (x1 + x2)) ≤ r * k
     → k * (G * (E * c + 2 * (A * A) * E + A * s * c)) ≤ r * (c * c * n)
 radius_inside k G g c E y n A s x1 z x2 r k_pos h1 h2 h3 h4 h5 h6 =
     let a = mul-le-mul_right (c * k) h2 in
@@ -24,10 +25,12 @@ radius_inside k G g c E y n A s x1 z x2 r k_pos h1 h2 h3 h4 h5 h6 =
     let g4 : (k * (G * (E * c + 2 * (A * A) * E + A * s * c))) * (k * k) ≤ (r * (c * c * n)) * (k * k) = omega arith in
     le_of_mul-le-mul_right g4 (mul-pos k_pos k_pos)
 
-pub change_a : (N M v : ℤ) (c d : ℕ) → (pos d *ℤ N +ℤ M) *ℤ pos d *ℤ pos c -ℤ N *ℤ (pos c *ℤ pos d *ℤ pos d +ℤ v) ≡ M *ℤ pos (d * c) -ℤ N *ℤ v
+pub change_a : (N M v : ℤ) (c d : ℕ)
+    → (pos d *ℤ N +ℤ M) *ℤ pos d *ℤ pos c -ℤ N *ℤ (pos c *ℤ pos d *ℤ pos d +ℤ v) ≡ M *ℤ pos (d * c) -ℤ N *ℤ v
 change_a N M v c d = rw (as_val N, as_val M, as_val v) (simp vals (val-same _ _ _ _ (omega arith)))
 
-change_b : (N M l v : ℤ) (c d : ℕ) → pos d *ℤ ((M *ℤ pos (d * c) -ℤ N *ℤ v) *ℤ pos c) -ℤ (M *ℤ pos c -ℤ N *ℤ l) *ℤ (pos c *ℤ pos d *ℤ pos d +ℤ v)
+change_b : (N M l v : ℤ) (c d : ℕ)
+    → pos d *ℤ ((M *ℤ pos (d * c) -ℤ N *ℤ v) *ℤ pos c) -ℤ (M *ℤ pos c -ℤ N *ℤ l) *ℤ (pos c *ℤ pos d *ℤ pos d +ℤ v)
     ≡ N *ℤ l *ℤ v -ℤ M *ℤ v *ℤ pos c -ℤ N *ℤ (v -ℤ pos d *ℤ l) *ℤ pos (d * c)
 change_b N M l v c d = rw (as_val N, as_val M, as_val l, as_val v) (simp vals (val-same _ _ _ _ (omega arith)))
 
@@ -46,8 +49,10 @@ products N M l v t c d G A E s h hM hv hN hl ht =
     omega arith
 
 pub change_bound : (k G g c E y n A s x1 z x2 r h d D : ℕ) (N M l v t : ℤ) → 0 < k
-    → G * k ≤ g * c → E * k ≤ y * n → A * s * k ≤ x1 * n → A * A * k ≤ z * c → 2 * z * y ≤ x2 * k → g * (y + (x1 + x2)) ≤ r * k
-    → unsigned_abs M ≤ G * h → unsigned_abs v ≤ d * d * E → unsigned_abs N ≤ G * A → unsigned_abs l ≤ 2 * A * h → unsigned_abs t ≤ d * s * h
+    → G * k ≤ g * c → E * k ≤ y * n → A * s * k ≤ x1 * n → A * A * k ≤ z * c → 2 * z * y ≤ x2 * k
+    → g * (y + (x1 + x2)) ≤ r * k
+    → unsigned_abs M ≤ G * h → unsigned_abs v ≤ d * d * E → unsigned_abs N ≤ G * A → unsigned_abs l ≤ 2 * A * h
+    → unsigned_abs t ≤ d * s * h
     → d * d * n ≤ D
     → k * unsigned_abs (N *ℤ l *ℤ v -ℤ M *ℤ v *ℤ pos c -ℤ N *ℤ t *ℤ pos (d * c)) ≤ r * h * (c * c * D)
 change_bound k G g c E y n A s x1 z x2 r h d D N M l v t k_pos h1 h2 h3 h4 h5 h6 hM hv hN hl ht hD =
@@ -63,7 +68,8 @@ change_bound k G g c E y n A s x1 z x2 r h d D N M l v t k_pos h1 h2 h3 h4 h5 h6
     let w2 = mul-le-mul_left k w in
     omega arith
 
-row_a : (α β a b N p q S1 S2 : ℤ) (c k : ℕ) → ((α *ℤ a +ℤ β *ℤ b) *ℤ pos c -ℤ N *ℤ (pos 2 *ℤ p *ℤ a +ℤ pos 2 *ℤ q *ℤ b)) *ℤ pos k -ℤ (S1 *ℤ a +ℤ S2 *ℤ b) *ℤ pos (c * c)
+row_a : (α β a b N p q S1 S2 : ℤ) (c k : ℕ)
+    → ((α *ℤ a +ℤ β *ℤ b) *ℤ pos c -ℤ N *ℤ (pos 2 *ℤ p *ℤ a +ℤ pos 2 *ℤ q *ℤ b)) *ℤ pos k -ℤ (S1 *ℤ a +ℤ S2 *ℤ b) *ℤ pos (c * c)
     ≡ ((α *ℤ pos c -ℤ pos 2 *ℤ p *ℤ N) *ℤ pos k -ℤ S1 *ℤ pos (c * c)) *ℤ a +ℤ ((β *ℤ pos c -ℤ pos 2 *ℤ q *ℤ N) *ℤ pos k -ℤ S2 *ℤ pos (c * c)) *ℤ b
 row_a α β a b N p q S1 S2 c k = rw (as_val α, as_val β, as_val a, as_val b, as_val N, as_val p, as_val q, as_val S1, as_val S2) (simp vals (val-same _ _ _ _ (omega arith)))
 
@@ -83,7 +89,8 @@ row_off α β a b N p q S1 S2 c k m h1 h2 =
     omega arith
 
 -- the exact change and its rounded slopes: what is left, times c
-both_a : (T X J : ℤ) (c d k D : ℕ) → (T *ℤ pos (d * k) -ℤ J *ℤ pos (D * c)) *ℤ pos c ≡ (pos d *ℤ (T *ℤ pos c) -ℤ X *ℤ pos D) *ℤ pos k +ℤ (X *ℤ pos k -ℤ J *ℤ pos (c * c)) *ℤ pos D
+both_a : (T X J : ℤ) (c d k D : ℕ)
+    → (T *ℤ pos (d * k) -ℤ J *ℤ pos (D * c)) *ℤ pos c ≡ (pos d *ℤ (T *ℤ pos c) -ℤ X *ℤ pos D) *ℤ pos k +ℤ (X *ℤ pos k -ℤ J *ℤ pos (c * c)) *ℤ pos D
 both_a T X J c d k D = rw (as_val T, as_val X, as_val J) (simp vals (val-same _ _ _ _ (omega arith)))
 
 pub both : (T X J : ℤ) (c d k D r m h : ℕ) → 0 < c
@@ -117,21 +124,25 @@ self (negsuc n) = refl
 square_is : (p q : ℤ) → pos (square_of p q) ≡ p *ℤ p +ℤ q *ℤ q
 square_is p q = rw (← self p, ← self q) refl
 
-moved_a : (p a : ℤ) (d : ℕ) → (pos d *ℤ p +ℤ a) *ℤ (pos d *ℤ p +ℤ a) ≡ p *ℤ p *ℤ pos d *ℤ pos d +ℤ (pos d *ℤ (pos 2 *ℤ p *ℤ a) +ℤ a *ℤ a)
+moved_a : (p a : ℤ) (d : ℕ)
+    → (pos d *ℤ p +ℤ a) *ℤ (pos d *ℤ p +ℤ a) ≡ p *ℤ p *ℤ pos d *ℤ pos d +ℤ (pos d *ℤ (pos 2 *ℤ p *ℤ a) +ℤ a *ℤ a)
 moved_a p a d = rw (as_val p, as_val a) (simp vals (val-same _ _ _ _ (omega arith)))
 
-moved_b : (s1 s2 l1 l2 t1 t2 : ℤ) (d : ℕ) → s1 *ℤ pos d *ℤ pos d +ℤ (pos d *ℤ l1 +ℤ t1) +ℤ (s2 *ℤ pos d *ℤ pos d +ℤ (pos d *ℤ l2 +ℤ t2)) ≡ (s1 +ℤ s2) *ℤ pos d *ℤ pos d +ℤ (pos d *ℤ (l1 +ℤ l2) +ℤ (t1 +ℤ t2))
+moved_b : (s1 s2 l1 l2 t1 t2 : ℤ) (d : ℕ)
+    → s1 *ℤ pos d *ℤ pos d +ℤ (pos d *ℤ l1 +ℤ t1) +ℤ (s2 *ℤ pos d *ℤ pos d +ℤ (pos d *ℤ l2 +ℤ t2)) ≡ (s1 +ℤ s2) *ℤ pos d *ℤ pos d +ℤ (pos d *ℤ (l1 +ℤ l2) +ℤ (t1 +ℤ t2))
 moved_b s1 s2 l1 l2 t1 t2 d = rw (as_val s1, as_val s2, as_val l1, as_val l2, as_val t1, as_val t2) (simp vals (val-same _ _ _ _ (omega arith)))
 
 pub rejoin : (x y : ℤ) → x ≡ y +ℤ (x -ℤ y)
 rejoin x y = omega (arith, ints)
 
-pub square_moved : (p q a b : ℤ) (d : ℕ) → pos (square_of (pos d *ℤ p +ℤ a) (pos d *ℤ q +ℤ b)) ≡ pos (square_of p q) *ℤ pos d *ℤ pos d +ℤ (pos d *ℤ (pos 2 *ℤ p *ℤ a +ℤ pos 2 *ℤ q *ℤ b) +ℤ (a *ℤ a +ℤ b *ℤ b))
+pub square_moved : (p q a b : ℤ) (d : ℕ)
+    → pos (square_of (pos d *ℤ p +ℤ a) (pos d *ℤ q +ℤ b)) ≡ pos (square_of p q) *ℤ pos d *ℤ pos d +ℤ (pos d *ℤ (pos 2 *ℤ p *ℤ a +ℤ pos 2 *ℤ q *ℤ b) +ℤ (a *ℤ a +ℤ b *ℤ b))
 square_moved p q a b d =
     rw (square_is (pos d *ℤ p +ℤ a) (pos d *ℤ q +ℤ b), moved_a p a d, moved_a q b d) (moved_b (p *ℤ p) (q *ℤ q) (pos 2 *ℤ p *ℤ a) (pos 2 *ℤ q *ℤ b) (a *ℤ a) (b *ℤ b) d)
     ∙ ap (λ (z : ℤ). z *ℤ pos d *ℤ pos d +ℤ (pos d *ℤ (pos 2 *ℤ p *ℤ a +ℤ pos 2 *ℤ q *ℤ b) +ℤ (a *ℤ a +ℤ b *ℤ b))) (sym (square_is p q))
 
-pub abs_pair : (x y a b : ℤ) → unsigned_abs (x *ℤ a +ℤ y *ℤ b) ≤ unsigned_abs x * unsigned_abs a + unsigned_abs y * unsigned_abs b
+pub abs_pair : (x y a b : ℤ)
+    → unsigned_abs (x *ℤ a +ℤ y *ℤ b) ≤ unsigned_abs x * unsigned_abs a + unsigned_abs y * unsigned_abs b
 abs_pair x y a b = omega (arith, abs_add (x *ℤ a) (y *ℤ b), unsigned_abs-mul x a, unsigned_abs-mul y b)
 
 -- x a + y b is at most the sum of x and y, times a bound on a and b; and the other way round
@@ -145,10 +156,12 @@ pair_by_most x y a b m h1 h2 = omega (arith, mul-le-mul_right a h1, mul-le-mul_r
 pub double : (p : ℤ) → unsigned_abs (pos 2 *ℤ p) ≡ 2 * unsigned_abs p
 double p = unsigned_abs-mul (pos 2) p
 
-pub l_size : (p q a b : ℤ) → unsigned_abs (pos 2 *ℤ p *ℤ a +ℤ pos 2 *ℤ q *ℤ b) ≤ 2 * unsigned_abs p * unsigned_abs a + 2 * unsigned_abs q * unsigned_abs b
+pub l_size : (p q a b : ℤ)
+    → unsigned_abs (pos 2 *ℤ p *ℤ a +ℤ pos 2 *ℤ q *ℤ b) ≤ 2 * unsigned_abs p * unsigned_abs a + 2 * unsigned_abs q * unsigned_abs b
 l_size p q a b = let h = abs_pair (pos 2 *ℤ p) (pos 2 *ℤ q) a b in rw (double p, double q) at h
 
-pub v_natural : (p q a b d rp rq l t v : ℕ) → a ≤ d * rp → b ≤ d * rq → l ≤ 2 * p * a + 2 * q * b → t ≤ a * a + b * b → v ≤ d * l + t
+pub v_natural : (p q a b d rp rq l t v : ℕ) → a ≤ d * rp → b ≤ d * rq → l ≤ 2 * p * a + 2 * q * b → t ≤ a * a + b * b
+    → v ≤ d * l + t
     → v ≤ d * d * ((2 * p + rp) * rp + (2 * q + rq) * rq)
 v_natural p q a b d rp rq l t v ha hb hl ht hv =
     let m1 = mul-le-mul_left d hl in
@@ -179,7 +192,8 @@ pub near_by : (fx f0 : Fraction) (t x0 z0 : ℤ) (D c n b : ℕ) → fx.top ≡ 
     → unsigned_abs ((x0 *ℤ pos c -ℤ z0 *ℤ pos D) *ℤ pos b -ℤ t *ℤ pos (D * c)) ≤ n * (D * c) → Near (minus fx f0) t n b
 near_by fx f0 t x0 z0 D c n b e1 e2 e3 e4 h = rw (e1, e2, e3, e4) h
 
-pub top_is : (α β p q x y : ℤ) (d : ℕ) → α *ℤ x +ℤ β *ℤ y ≡ pos d *ℤ (α *ℤ p +ℤ β *ℤ q) +ℤ (α *ℤ (x -ℤ pos d *ℤ p) +ℤ β *ℤ (y -ℤ pos d *ℤ q))
+pub top_is : (α β p q x y : ℤ) (d : ℕ)
+    → α *ℤ x +ℤ β *ℤ y ≡ pos d *ℤ (α *ℤ p +ℤ β *ℤ q) +ℤ (α *ℤ (x -ℤ pos d *ℤ p) +ℤ β *ℤ (y -ℤ pos d *ℤ q))
 top_is α β p q x y d = rw (as_val α, as_val β, as_val p, as_val q, as_val x, as_val y) (simp vals (val-same _ _ _ _ (omega arith)))
 
 pub times_one : (z : ℤ) → z *ℤ pos 1 ≡ z

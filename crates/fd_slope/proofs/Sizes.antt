@@ -19,7 +19,8 @@ part_square a b =
     ]
 
 -- where the square stays inside, the square of the greater part is at most the clamped square
-pub inside_part : (w : LoadPhase) (p q : ℤ) (rp rq : ℕ) → square_stays_inside w p q rp rq ≡ true → largest p q * largest p q ≤ clamped_square w p q
+pub inside_part : (w : LoadPhase) (p q : ℤ) (rp rq : ℕ) → square_stays_inside w p q rp rq ≡ true
+    → largest p q * largest p q ≤ clamped_square w p q
 inside_part w p q rp rq e =
     let f = inside_facts (square_of p q) (square_moves p q rp rq) (nat_abs w.vlo * nat_abs w.vlo) (nat_abs w.vhi * nat_abs w.vhi) e in
     let low = f.0 in

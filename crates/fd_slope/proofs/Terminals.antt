@@ -63,7 +63,8 @@ level_slope : (t : Bool) (s : ℤ) → t ≡ false → cond t s (pos 0) ≡ pos 
 level_slope true s e = absurd cc
 level_slope false s e = refl
 
-real_row : (s t : Bool) (w : LoadPhase) (p q m x y z : ℤ) (rp rq rm ha hb he d : ℕ) → t ≡ false → AreNear (cond s 2 1) (exact_by s t w p q m) (slopes_by s t w p q m) → Moves w p q m x y z rp rq rm ha hb he d
+real_row : (s t : Bool) (w : LoadPhase) (p q m x y z : ℤ) (rp rq rm ha hb he d : ℕ) → t ≡ false
+    → AreNear (cond s 2 1) (exact_by s t w p q m) (slopes_by s t w p q m) → Moves w p q m x y z rp rq rm ha hb he d
     → Row (drawn_by s t w (pos (10 ^ 9) *ℤ w.p) (pos (10 ^ 9) *ℤ w.q) x y z d) (drawn_by s t w (pos (10 ^ 9) *ℤ w.p) (pos (10 ^ 9) *ℤ w.q) p q m 1)
     (slopes_by s t w p q m).real (radii_by s t w p q m rp rq rm).real (x -ℤ pos d *ℤ p) (y -ℤ pos d *ℤ q) (z -ℤ pos d *ℤ m) ha hb he d
 real_row true t w p q m x y z rp rq rm ha hb he d e near moves =
@@ -78,7 +79,8 @@ real_row false false w p q m x y z rp rq rm ha hb he d e near moves =
     (subst (λ n. IsRoundedMagnitude (magnitude_is_inside w m) n (nat_abs w.vn) (clamped_magnitude w m) (constant_current_slopes w p q m).real.m) (sym (in_phase_is w p q)) near.real.m)
     (level_slope (magnitude_is_inside w m) _)
 
-imaginary_row : (s t : Bool) (w : LoadPhase) (p q m x y z : ℤ) (rp rq rm ha hb he d : ℕ) → t ≡ false → AreNear (cond s 2 1) (exact_by s t w p q m) (slopes_by s t w p q m) → Moves w p q m x y z rp rq rm ha hb he d
+imaginary_row : (s t : Bool) (w : LoadPhase) (p q m x y z : ℤ) (rp rq rm ha hb he d : ℕ) → t ≡ false
+    → AreNear (cond s 2 1) (exact_by s t w p q m) (slopes_by s t w p q m) → Moves w p q m x y z rp rq rm ha hb he d
     → Row (drawn_by s t w (neg_ℤ (pos (10 ^ 9) *ℤ w.q)) (pos (10 ^ 9) *ℤ w.p) x y z d) (drawn_by s t w (neg_ℤ (pos (10 ^ 9) *ℤ w.q)) (pos (10 ^ 9) *ℤ w.p) p q m 1)
     (slopes_by s t w p q m).imaginary (radii_by s t w p q m rp rq rm).imaginary (x -ℤ pos d *ℤ p) (y -ℤ pos d *ℤ q) (z -ℤ pos d *ℤ m) ha hb he d
 imaginary_row true t w p q m x y z rp rq rm ha hb he d e near moves =
@@ -93,10 +95,12 @@ imaginary_row false false w p q m x y z rp rq rm ha hb he d e near moves =
     (subst (λ n. IsRoundedMagnitude (magnitude_is_inside w m) n (nat_abs w.vn) (clamped_magnitude w m) (constant_current_slopes w p q m).imaginary.m) (sym (quadrature_is w p q)) near.imaginary.m)
     (level_slope (magnitude_is_inside w m) _)
 
-own_sizes : (r s t a b e ha hb he : ℕ) → a ≤ ha → b ≤ hb → e ≤ he → (r + 4) * a + (s + 4) * b + (t + 4) * e ≤ (r + 4) * ha + (s + 4) * hb + (t + 4) * he
+own_sizes : (r s t a b e ha hb he : ℕ) → a ≤ ha → b ≤ hb → e ≤ he
+    → (r + 4) * a + (s + 4) * b + (t + 4) * e ≤ (r + 4) * ha + (s + 4) * hb + (t + 4) * he
 own_sizes r s t a b e ha hb he h k l = omega (arith, mul-le-mul_left (r + 4) h, mul-le-mul_left (s + 4) k, mul-le-mul_left (t + 4) l)
 
-own_row : (s t : Bool) (w : LoadPhase) (p q m x y z : ℤ) (rp rq rm ha hb he d : ℕ) → t ≡ false → s ≡ false → AreNear (cond s 2 1) (exact_by s t w p q m) (slopes_by s t w p q m) → Moves w p q m x y z rp rq rm ha hb he d
+own_row : (s t : Bool) (w : LoadPhase) (p q m x y z : ℤ) (rp rq rm ha hb he d : ℕ) → t ≡ false → s ≡ false
+    → AreNear (cond s 2 1) (exact_by s t w p q m) (slopes_by s t w p q m) → Moves w p q m x y z rp rq rm ha hb he d
     → Row (magnitude_row (nat_abs w.vn) x y z d) (magnitude_row (nat_abs w.vn) p q m 1)
     (slopes_by s t w p q m).magnitude (radii_by s t w p q m rp rq rm).magnitude (x -ℤ pos d *ℤ p) (y -ℤ pos d *ℤ q) (z -ℤ pos d *ℤ m) ha hb he d
 own_row true t w p q m x y z rp rq rm ha hb he d e f near moves = absurd cc
@@ -115,20 +119,24 @@ im_moves : (c : List ℤ) (x : State) (n : NodeAt) → (im_of x n -ℤ pos x.ove
 im_moves c x Ground = omega (arith, ints)
 im_moves c x (Node k) = refl
 
-magnitude_moves : (c : List ℤ) (x : State) (l : Option ℕ) → (magnitude_of x l -ℤ pos x.over *ℤ magnitude_of (whole_state c) l) ≡ magnitude_away c x l
+magnitude_moves : (c : List ℤ) (x : State) (l : Option ℕ)
+    → (magnitude_of x l -ℤ pos x.over *ℤ magnitude_of (whole_state c) l) ≡ magnitude_away c x l
 magnitude_moves c x None = omega (arith, ints)
 magnitude_moves c x (Some l) = refl
 
 between : (x1 x2 c1 c2 : ℤ) (d : ℕ) → ((x1 -ℤ x2) -ℤ pos d *ℤ (c1 -ℤ c2)) ≡ ((x1 -ℤ pos d *ℤ c1) -ℤ (x2 -ℤ pos d *ℤ c2))
 between x1 x2 c1 c2 d = rw (as_val x1, as_val x2, as_val c1, as_val c2) (simp vals (val-same _ _ _ _ (omega arith)))
 
-re_change : (c : List ℤ) (x : State) (u : LoadAt) → ((re_of x u.first -ℤ re_of x u.second) -ℤ pos x.over *ℤ centre_re c u) ≡ (re_away c x u.first -ℤ re_away c x u.second)
+re_change : (c : List ℤ) (x : State) (u : LoadAt)
+    → ((re_of x u.first -ℤ re_of x u.second) -ℤ pos x.over *ℤ centre_re c u) ≡ (re_away c x u.first -ℤ re_away c x u.second)
 re_change c x u = between (re_of x u.first) (re_of x u.second) (re_of (whole_state c) u.first) (re_of (whole_state c) u.second) x.over ∙ (λ i. re_moves c x u.first i -ℤ re_moves c x u.second i)
 
-im_change : (c : List ℤ) (x : State) (u : LoadAt) → ((im_of x u.first -ℤ im_of x u.second) -ℤ pos x.over *ℤ centre_im c u) ≡ (im_away c x u.first -ℤ im_away c x u.second)
+im_change : (c : List ℤ) (x : State) (u : LoadAt)
+    → ((im_of x u.first -ℤ im_of x u.second) -ℤ pos x.over *ℤ centre_im c u) ≡ (im_away c x u.first -ℤ im_away c x u.second)
 im_change c x u = between (im_of x u.first) (im_of x u.second) (im_of (whole_state c) u.first) (im_of (whole_state c) u.second) x.over ∙ (λ i. im_moves c x u.first i -ℤ im_moves c x u.second i)
 
-both_widths : (a b : ℤ) (d r s : ℕ) → unsigned_abs a ≤ d * r → unsigned_abs b ≤ d * s → unsigned_abs (a -ℤ b) ≤ d * (r + s)
+both_widths : (a b : ℤ) (d r s : ℕ) → unsigned_abs a ≤ d * r → unsigned_abs b ≤ d * s
+    → unsigned_abs (a -ℤ b) ≤ d * (r + s)
 both_widths a b d r s h k = omega (arith, abs_sub a b)
 
 moved_by : (box : ℕ → ℕ) (c : List ℤ) (x : State) (u : LoadAt) → IsLoadPhase u.load → 0 < x.over → IsInBox box c x u

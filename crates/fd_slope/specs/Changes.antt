@@ -99,7 +99,8 @@ magnitude_value u x = magnitude_row (nat_abs u.load.vn) (re_of x u.first -ℤ re
 pub record RowsFollow (box : ℕ → ℕ) (c : List ℤ) (x : State) (u : LoadAt) : Type 0 where
   pub real : Follows (load_current u x).re (load_current u (whole_state c)).re c x u (slopes_at c u).real (radii_in box c u).real
   pub imaginary : Follows (load_current u x).im (load_current u (whole_state c)).im c x u (slopes_at c u).imaginary (radii_in box c u).imaginary
-  pub magnitude : eqb u.load.model 1 ≡ false → Follows (magnitude_value u x) (magnitude_value u (whole_state c)) c x u (slopes_at c u).magnitude (radii_in box c u).magnitude
+  pub magnitude : eqb u.load.model 1 ≡ false
+      → Follows (magnitude_value u x) (magnitude_value u (whole_state c)) c x u (slopes_at c u).magnitude (radii_in box c u).magnitude
 
 -- every state in the box, of every denominator; places may coincide or be ground, and magnitudes may be negative
 abbrev pub ChangeLaw : Type 0

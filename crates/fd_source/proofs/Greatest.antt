@@ -14,7 +14,8 @@ greatest_most holds (suc n) m t h = by (holds (suc n)) refl (greatest_most holds
     smaller : (m ≡ suc n → ⊥) → m ≤ n
     smaller k = omega arith
 
-    by : (b : Bool) → holds (suc n) ≡ b → (m ≤ n → m ≤ greatest_such holds n) → m ≤ (if b then suc n else greatest_such holds n)
+    by : (b : Bool) → holds (suc n) ≡ b → (m ≤ n → m ≤ greatest_such holds n)
+        → m ≤ (if b then suc n else greatest_such holds n)
     by true e below = h
     by false e below = below (smaller (λ s. let f : true ≡ false = sym t ∙ ap holds s ∙ e in cc))
 
@@ -23,7 +24,8 @@ unfolding greatest_such
 greatest_holds holds zero = inr refl
 greatest_holds holds (suc n) = by (holds (suc n)) refl (greatest_holds holds n)
   where
-    by : (b : Bool) → holds (suc n) ≡ b → (holds (greatest_such holds n) ≡ true) ⊎ (greatest_such holds n ≡ 0) → (holds (if b then suc n else greatest_such holds n) ≡ true) ⊎ ((if b then suc n else greatest_such holds n) ≡ 0)
+    by : (b : Bool) → holds (suc n) ≡ b → (holds (greatest_such holds n) ≡ true) ⊎ (greatest_such holds n ≡ 0)
+        → (holds (if b then suc n else greatest_such holds n) ≡ true) ⊎ ((if b then suc n else greatest_such holds n) ≡ 0)
     by true e below = inl e
     by false e below = below
 

@@ -14,7 +14,8 @@ shown n h = omega (arith, ints)
 abbrev of_parts : ℕ → ℕ → ℕ → ℕ → Ohms
 of_parts a b d e = record { r1 = pos a; x1 = pos b; r0 = pos d; x0 = pos e }
 
-pub ohms_are : (s : ShortCircuit) (three one : ℕ) (x y : ℤ) (a b d e : ℕ) → three ≡ three_phase_size s → one ≡ one_phase_size s → x ≡ s.x1r1 → y ≡ s.x0r0
+pub ohms_are : (s : ShortCircuit) (three one : ℕ) (x y : ℤ) (a b d e : ℕ) → three ≡ three_phase_size s
+    → one ≡ one_phase_size s → x ≡ s.x1r1 → y ≡ s.x0r0
     → IsGreatest (KeepsSize 0 0 (ratio_of x) three) a → b ≡ reactance_by (ratio_of x) a
     → IsGreatest (KeepsSize (2 * a) (2 * b) (ratio_of y) (3 * one)) d → e ≡ reactance_by (ratio_of y) d
     → of_parts a b d e ≡ ohms_of s
@@ -35,7 +36,8 @@ ohms_are s three one x y a b d e ht ho hx hy g1 e1 g0 e0 =
     let ee : e ≡ zero_reactance s = e0 ∙ (λ i. reactance_by (ratio_of (hy i)) (ed i)) in
     λ i. record { r1 = pos (ea i); x1 = pos (eb i); r0 = pos (ed i); x0 = pos (ee i) }
 
-pub are_within : (a b d e : ℕ) → a ≤ 3 * 10 ^ 13 → b ≤ 3 * 10 ^ 13 → d ≤ 3 * 10 ^ 13 → e ≤ 3 * 10 ^ 13 → AreWithin (of_parts a b d e)
+pub are_within : (a b d e : ℕ) → a ≤ 3 * 10 ^ 13 → b ≤ 3 * 10 ^ 13 → d ≤ 3 * 10 ^ 13 → e ≤ 3 * 10 ^ 13
+    → AreWithin (of_parts a b d e)
 are_within a b d e ha hb hd he = record {
   r1 = record { least = omega (arith, ints); most = omega (arith, ints) };
   x1 = record { least = omega (arith, ints); most = omega (arith, ints) };
@@ -44,7 +46,8 @@ are_within a b d e ha hb hd he = record {
 }
 
 -- the same in the code's signed type
-pub shown_parts : (P : Ohms → Type 0) (a b d e : ℕ) → a ≤ 10 ^ 14 → b ≤ 10 ^ 14 → d ≤ 10 ^ 14 → e ≤ 10 ^ 14 → P (of_parts a b d e)
+pub shown_parts : (P : Ohms → Type 0) (a b d e : ℕ) → a ≤ 10 ^ 14 → b ≤ 10 ^ 14 → d ≤ 10 ^ 14 → e ≤ 10 ^ 14
+    → P (of_parts a b d e)
     → P (record { r1 = cast_signed w128 a; x1 = cast_signed w128 b; r0 = cast_signed w128 d; x0 = cast_signed w128 e })
 shown_parts P a b d e ha hb hd he p =
     let pa = shown a ha in

@@ -24,7 +24,8 @@ use Rattle.fd_source.specs.Laws.{SourceLaw}
 
 -- ---- constants of rows that follow one another
 
-from-append : (row : ℕ) (xs ys : List ℤ) → constants_from row (xs ++ ys) ≡ constants_from row xs ++ constants_from (row + length xs) ys
+from-append : (row : ℕ) (xs ys : List ℤ)
+    → constants_from row (xs ++ ys) ≡ constants_from row xs ++ constants_from (row + length xs) ys
 from-append row [] ys = ap (λ r. constants_from r ys) (omega arith)
 from-append row (x ∷ xs) ys =
     let e : row + 1 + length xs ≡ row + length (x ∷ xs) = omega arith in
@@ -46,18 +47,21 @@ module _ (s : SourceData) (at : Ends) where
       from-append (2 * at.branch) (each (phase_constants s) n) (phase_constants s n) ∙ (λ i. placed n i ++ constants_from (e i) (phase_constants s n))
 
 -- two constants are one complex number at a place
-constant_by : (b d : Bool) (e f : Fraction) → (b ≡ true → d ≡ false) → cond b e nothing ⊕ (cond d f nothing ⊕ nothing) ≡ cond b e (cond d f nothing)
+constant_by : (b d : Bool) (e f : Fraction) → (b ≡ true → d ≡ false)
+    → cond b e nothing ⊕ (cond d f nothing ⊕ nothing) ≡ cond b e (cond d f nothing)
 constant_by true d e f h = rw (h refl, nothing-plus nothing, plus-nothing e) refl
 constant_by false d e f h = nothing-plus _ ∙ plus-nothing _
 
 -- a constant beside what stands at its place
-merged : (l : ℕ) (r : NodeAt) (e v w : Complex) (s : Fraction) → side l r e ⊕ (side l r (v ⊞ w) ⊕ s) ≡ side l r ((e ⊞ v) ⊞ w) ⊕ s
+merged : (l : ℕ) (r : NodeAt) (e v w : Complex) (s : Fraction)
+    → side l r e ⊕ (side l r (v ⊞ w) ⊕ s) ≡ side l r ((e ⊞ v) ⊞ w) ⊕ s
 merged l r e v w s =
     let p = plus_assoc e.re v.re w.re in
     let q = plus_assoc e.im v.im w.im in
     sym (plus_assoc _ _ s) ∙ ap (λ t. t ⊕ s) (side-plus l r e (v ⊞ w) ∙ (λ i. side l r (record { re = sym p i; im = sym q i })))
 
-phase_row : (s : SourceData) (at : Ends) (x : State) (o : 0 < x.over) (k l : ℕ) → Same (linear_of (at_phase s at k) (phase_list s at k) x l) (equation l (source_phase s at x k))
+phase_row : (s : SourceData) (at : Ends) (x : State) (o : 0 < x.over) (k l : ℕ)
+    → Same (linear_of (at_phase s at k) (phase_list s at k) x l) (equation l (source_phase s at x k))
 phase_row s at x o k l =
     let r = branch_of at.branch k in
     let p = node_of at.first k in
@@ -72,17 +76,21 @@ phase_row s at x o k l =
     let u = subst (Same (side l r e ⊕ row_sum l (phase_list s at k) x)) (merged l r e (negative v) (negative d) (side l p (negative i) ⊕ nothing)) q in
     subst (λ f. Same (f ⊕ row_sum l (phase_list s at k) x) (equation l (source_phase s at x k))) (sym c) u
 
-linear-append : (cs ds : List Constant) (ts us : List Term) (x : State) (l : ℕ) → linear_of (cs ++ ds) (ts ++ us) x l ≡ linear_of cs ts x l ⊕ linear_of ds us x l
+linear-append : (cs ds : List Constant) (ts us : List Term) (x : State) (l : ℕ)
+    → linear_of (cs ++ ds) (ts ++ us) x l ≡ linear_of cs ts x l ⊕ linear_of ds us x l
 linear-append cs ds ts us x l =
     let e = sum_of-append (constant_given l) cs ds in
     let f = row_sum-append l ts us x in
     (λ i. e i ⊕ f i) ∙ plus_swap _ _ _ _
 
-each_linear : (c : ℕ → List Constant) (t : ℕ → List Term) (p : ℕ → List Part) (x : State) (l n : ℕ) → ((m : ℕ) → Same (linear_of (c m) (t m) x l) (equation l (p m))) → Same (linear_of (each c n) (each t n) x l) (equation l (each p n))
+each_linear : (c : ℕ → List Constant) (t : ℕ → List Term) (p : ℕ → List Part) (x : State) (l n : ℕ)
+    → ((m : ℕ) → Same (linear_of (c m) (t m) x l) (equation l (p m)))
+    → Same (linear_of (each c n) (each t n) x l) (equation l (each p n))
 each_linear c t p x l zero h = subst (λ s. Same s nothing) (sym (nothing-plus nothing)) Same-nothing
 each_linear c t p x l (suc n) h = rw (linear-append (each c n) (c n) (each t n) (t n) x l, equation-append l (each p n) (p n)) (Same-plus (each_linear c t p x l n h) (h n))
 
-source_represents : (s : SourceData) (at : Ends) → Represents (share_of at (source_constants s) (source_list s at)) (source_parts s at)
+source_represents : (s : SourceData) (at : Ends)
+    → Represents (share_of at (source_constants s) (source_list s at)) (source_parts s at)
 source_represents s at x o l =
     let r = each_linear (at_phase s at) (phase_list s at) (source_phase s at x) x l s.phases (λ m. phase_row s at x o m l) in
     linear_row _ _ x l (source_parts s at x) (subst (λ c. Same (linear_of c (source_list s at) x l) (equation l (source_parts s at x))) (sym (placed s at s.phases)) r)

@@ -12,7 +12,8 @@ use Rattle.fd_system.proofs.Divided.{stamp_divided, each_divided}
 use Rattle.fd_system.proofs.StampRows.{same_place_each, negative_stamp, total-negative}
 
 module _ (r x : ℕ → ℕ → ℤ) (branch n k : ℕ) where
-  pub drops_add : (s : State) (row : ℕ) → 0 < s.over → Same (row_sum row (drop_list r x branch n k) s) (side row (branch_of branch k) (negative (drop_of r x branch n s k)))
+  pub drops_add : (s : State) (row : ℕ) → 0 < s.over
+      → Same (row_sum row (drop_list r x branch n k) s) (side row (branch_of branch k) (negative (drop_of r x branch n s k)))
   drops_add s row o =
       let z = λ (m : ℕ). ohms r x k m ⊠ unknown s (branch_of branch m) in
       let drops = same_place_each (drop_at r x branch k) s row (branch_of branch k) (λ m. negative (z m)) n

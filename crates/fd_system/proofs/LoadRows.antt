@@ -45,7 +45,8 @@ minus_same : (p q : ℤ) (d : ℕ) → 0 < d → Same (fraction p d ⊕ opposite
 unfolding ◌⊕◌ opposite
 minus_same p q d h = record { left = mul-pos h h; right = h; cross = minus_cross p q d }
 
-terminal_same : (x : State) (c e : NodeAt) → 0 < x.over → SameComplex (unknown x c ⊟ unknown x e) (complex (re_of x c -ℤ re_of x e) (im_of x c -ℤ im_of x e) x.over)
+terminal_same : (x : State) (c e : NodeAt) → 0 < x.over
+    → SameComplex (unknown x c ⊟ unknown x e) (complex (re_of x c -ℤ re_of x e) (im_of x c -ℤ im_of x e) x.over)
 terminal_same x c e h = record {
   re = Same-trans (Same-plus (re_same x c h) (Same-opposite (re_same x e h))) (minus_same _ _ x.over h);
   im = Same-trans (Same-plus (im_same x c h) (Same-opposite (im_same x e h))) (minus_same _ _ x.over h);
@@ -57,13 +58,16 @@ times_same z u v w s = record {
   im = Same-plus (Same-times (Same-refl z.re w.re) s.im) (Same-times (Same-refl z.im w.im) s.re);
 }
 
-re_cross : (a b p q : ℤ) (n d : ℕ) → ((a *ℤ p) *ℤ pos (n * d) +ℤ neg_ℤ (neg_ℤ b *ℤ q) *ℤ pos (n * d)) *ℤ pos (n * d) ≡ (a *ℤ p +ℤ b *ℤ q) *ℤ pos (n * d * (n * d))
+re_cross : (a b p q : ℤ) (n d : ℕ)
+    → ((a *ℤ p) *ℤ pos (n * d) +ℤ neg_ℤ (neg_ℤ b *ℤ q) *ℤ pos (n * d)) *ℤ pos (n * d) ≡ (a *ℤ p +ℤ b *ℤ q) *ℤ pos (n * d * (n * d))
 re_cross a b p q n d = rw (as_val a, as_val b, as_val p, as_val q) (simp vals (val-same _ _ _ _ (omega arith)))
 
-im_cross : (a b p q : ℤ) (n d : ℕ) → ((a *ℤ q) *ℤ pos (n * d) +ℤ (neg_ℤ b *ℤ p) *ℤ pos (n * d)) *ℤ pos (n * d) ≡ (neg_ℤ b *ℤ p +ℤ a *ℤ q) *ℤ pos (n * d * (n * d))
+im_cross : (a b p q : ℤ) (n d : ℕ)
+    → ((a *ℤ q) *ℤ pos (n * d) +ℤ (neg_ℤ b *ℤ p) *ℤ pos (n * d)) *ℤ pos (n * d) ≡ (neg_ℤ b *ℤ p +ℤ a *ℤ q) *ℤ pos (n * d * (n * d))
 im_cross a b p q n d = rw (as_val a, as_val b, as_val p, as_val q) (simp vals (val-same _ _ _ _ (omega arith)))
 
-admittance_times : (a b p q : ℤ) (n d : ℕ) → 0 < n → 0 < d → SameComplex (complex a (neg_ℤ b) n ⊠ complex p q d) (complex (a *ℤ p +ℤ b *ℤ q) (neg_ℤ b *ℤ p +ℤ a *ℤ q) (n * d))
+admittance_times : (a b p q : ℤ) (n d : ℕ) → 0 < n → 0 < d
+    → SameComplex (complex a (neg_ℤ b) n ⊠ complex p q d) (complex (a *ℤ p +ℤ b *ℤ q) (neg_ℤ b *ℤ p +ℤ a *ℤ q) (n * d))
 unfolding ◌⊕◌ ◌⊗◌ opposite
 admittance_times a b p q n d h o =
     let k = mul-pos h o in
@@ -72,7 +76,8 @@ admittance_times a b p q n d h o =
       im = record { left = mul-pos k k; right = k; cross = im_cross a b p q n d };
     }
 
-drawn_linear : (w : LoadPhase) (a b p q m : ℤ) (d : ℕ) → eqb w.model 2 ≡ true → drawn w a b p q m d ≡ constant_impedance a b (unsigned_abs w.vn) p q d
+drawn_linear : (w : LoadPhase) (a b p q m : ℤ) (d : ℕ) → eqb w.model 2 ≡ true
+    → drawn w a b p q m d ≡ constant_impedance a b (unsigned_abs w.vn) p q d
 drawn_linear w a b p q m d e = let k : w.model ≡ 2 = eqb-true _ _ e in rw k refl
 
 pub SameComplex-trans : {z w v : Complex} → SameComplex z w → SameComplex w v → SameComplex z v
@@ -81,7 +86,8 @@ SameComplex-trans h k = record { re = Same-trans h.re k.re; im = Same-trans h.im
 pub SameComplex-negative : {z w : Complex} → SameComplex z w → SameComplex (negative z) (negative w)
 SameComplex-negative h = record { re = Same-opposite h.re; im = Same-opposite h.im }
 
-module _ (u : LoadAt) (e : eqb u.load.model 2 ≡ true) (vn : 0 < unsigned_abs u.load.vn) (x : State) (o : 0 < x.over) where
+module _ (u : LoadAt) (e : eqb u.load.model 2 ≡ true) (vn : 0 < unsigned_abs u.load.vn) (x : State)
+    (o : 0 < x.over) where
   square : unsigned_abs (u.load.vn *ℤ u.load.vn) ≡ unsigned_abs u.load.vn * unsigned_abs u.load.vn
   square = unsigned_abs-mul u.load.vn u.load.vn
 
@@ -110,7 +116,8 @@ module _ (u : LoadAt) (e : eqb u.load.model 2 ≡ true) (vn : 0 < unsigned_abs u
       let h = admittance_times (pos (10 ^ 9) *ℤ u.load.p) (pos (10 ^ 9) *ℤ u.load.q) (re_of x u.first -ℤ re_of x u.second) (im_of x u.first -ℤ im_of x u.second) _ x.over square_pos o in
       subst (SameComplex (admittance ⊠ unknown x u.first ⊟ admittance ⊠ unknown x u.second)) (sym drawn_current) (SameComplex-trans f (SameComplex-trans g h))
 
-  impedance_row : (l : ℕ) → Same (row_sum l (impedance_list u) x) (equation l (both u.first (load_current u x) ∷ both u.second (negative (load_current u x)) ∷ []))
+  impedance_row : (l : ℕ)
+      → Same (row_sum l (impedance_list u) x) (equation l (both u.first (load_current u x) ∷ both u.second (negative (load_current u x)) ∷ []))
   impedance_row l =
       let a = pos (10 ^ 9) *ℤ u.load.p in
       let b = pos (10 ^ 9) *ℤ u.load.q in
@@ -129,22 +136,26 @@ module _ (u : LoadAt) (e : eqb u.load.model 2 ≡ true) (vn : 0 < unsigned_abs u
 clamp-pos : (u lo hi : ℕ) → 0 < lo → 0 < hi → 0 < clamp u lo hi
 clamp-pos u lo hi h k = omega arith
 
-drawn-pos : (w : LoadPhase) (a b p q m : ℤ) (d : ℕ) → 0 < unsigned_abs w.vn → 0 < unsigned_abs w.vlo → unsigned_abs w.vlo ≤ unsigned_abs w.vhi → 0 < d → 0 < (drawn w a b p q m d).over
+drawn-pos : (w : LoadPhase) (a b p q m : ℤ) (d : ℕ) → 0 < unsigned_abs w.vn → 0 < unsigned_abs w.vlo
+    → unsigned_abs w.vlo ≤ unsigned_abs w.vhi → 0 < d → 0 < (drawn w a b p q m d).over
 drawn-pos w a b p q m d vn lo order o = by_model (eqb w.model 1) (eqb w.model 2)
   where
     hi : 0 < unsigned_abs w.vhi
     hi = omega arith
 
-    by_model : (s t : Bool) → 0 < (cond s (constant_power a b (unsigned_abs w.vlo * unsigned_abs w.vlo) (unsigned_abs w.vhi * unsigned_abs w.vhi) p q d) (cond t (constant_impedance a b (unsigned_abs w.vn) p q d) (constant_current a b (unsigned_abs w.vn) (unsigned_abs w.vlo) (unsigned_abs w.vhi) p q m d))).over
+    by_model : (s t : Bool)
+        → 0 < (cond s (constant_power a b (unsigned_abs w.vlo * unsigned_abs w.vlo) (unsigned_abs w.vhi * unsigned_abs w.vhi) p q d) (cond t (constant_impedance a b (unsigned_abs w.vn) p q d) (constant_current a b (unsigned_abs w.vn) (unsigned_abs w.vlo) (unsigned_abs w.vhi) p q m d))).over
     by_model true t = clamp-pos (square_of p q) _ _ (mul-pos (mul-pos lo lo) (mul-pos o o)) (mul-pos (mul-pos hi hi) (mul-pos o o))
     by_model false true = mul-pos (mul-pos vn vn) o
     by_model false false = mul-pos vn (clamp-pos (non_negative m) _ _ (mul-pos lo o) (mul-pos hi o))
 
-magnitude-pos : (u : LoadAt) (x : State) (l : ℕ) (m : Option ℕ) → 0 < unsigned_abs u.load.vn → 0 < x.over → 0 < (sum_of (seen l) (magnitude_parts u x m)).over
+magnitude-pos : (u : LoadAt) (x : State) (l : ℕ) (m : Option ℕ) → 0 < unsigned_abs u.load.vn → 0 < x.over
+    → 0 < (sum_of (seen l) (magnitude_parts u x m)).over
 magnitude-pos u x l None h o = nothing-pos
 magnitude-pos u x l (Some k) h o = plus-pos _ _ (by_test (eqb k l)) nothing-pos
   where
-    by_test : (b : Bool) → 0 < (cond b (magnitude_row (unsigned_abs u.load.vn) (re_of x u.first -ℤ re_of x u.second) (im_of x u.first -ℤ im_of x u.second) (part x.parts k) x.over) nothing).over
+    by_test : (b : Bool)
+        → 0 < (cond b (magnitude_row (unsigned_abs u.load.vn) (re_of x u.first -ℤ re_of x u.second) (im_of x u.first -ℤ im_of x u.second) (part x.parts k) x.over) nothing).over
     by_test true = mul-pos h (mul-pos o o)
     by_test false = nothing-pos
 
@@ -186,18 +197,21 @@ no_magnitude u x (Some l) h = absurd h
 abbrev share_row : (u : LoadAt) (x : State) (l : ℕ) (t : Bool) → Fraction
 share_row u x l t = (nothing ⊕ row_sum l (cond t (impedance_list u) []) x) ⊕ equation l (cond t [] (load_parts u x) ++ [])
 
-linear_row_of : (u : LoadAt) (x : State) (l : ℕ) → IsLoad u → 0 < x.over → eqb u.load.model 2 ≡ true → IsPlain u.magnitude → Same (share_row u x l true) (equation l (load_parts u x))
+linear_row_of : (u : LoadAt) (x : State) (l : ℕ) → IsLoad u → 0 < x.over → eqb u.load.model 2 ≡ true
+    → IsPlain u.magnitude → Same (share_row u x l true) (equation l (load_parts u x))
 linear_row_of u x l h o e p =
     let r = impedance_row u e h.vn x o l in
     let q : equation l (load_parts u x) ≡ equation l (both u.first (load_current u x) ∷ both u.second (negative (load_current u x)) ∷ []) = ap (λ ps. equation l (both u.first (load_current u x) ∷ both u.second (negative (load_current u x)) ∷ ps)) (no_magnitude u x u.magnitude p) in
     rw (q, plus-nothing (nothing ⊕ row_sum l (impedance_list u) x), nothing-plus (row_sum l (impedance_list u) x)) r
 
-other_row_of : (u : LoadAt) (x : State) (l : ℕ) → IsLoad u → 0 < x.over → Same (share_row u x l false) (equation l (load_parts u x))
+other_row_of : (u : LoadAt) (x : State) (l : ℕ) → IsLoad u → 0 < x.over
+    → Same (share_row u x l false) (equation l (load_parts u x))
 other_row_of u x l h o =
     let e : share_row u x l false ≡ equation l (load_parts u x) = ap (λ s. s ⊕ equation l (load_parts u x ++ [])) (nothing-plus nothing) ∙ nothing-plus _ ∙ ap (equation l) (append-nil (load_parts u x)) in
     subst (λ s. Same s (equation l (load_parts u x))) (sym e) (Same-refl _ (load-pos u x l h o))
 
-load_row : (u : LoadAt) (x : State) (l : ℕ) → IsLoad u → 0 < x.over → (t : Bool) → eqb u.load.model 2 ≡ t → cond t (IsPlain u.magnitude) (Unit {0}) → Same (share_row u x l t) (equation l (load_parts u x))
+load_row : (u : LoadAt) (x : State) (l : ℕ) → IsLoad u → 0 < x.over → (t : Bool) → eqb u.load.model 2 ≡ t
+    → cond t (IsPlain u.magnitude) (Unit {0}) → Same (share_row u x l t) (equation l (load_parts u x))
 load_row u x l h o true e p = linear_row_of u x l h o e p
 load_row u x l h o false e p = other_row_of u x l h o
 
@@ -205,7 +219,8 @@ pub load_represents : (u : LoadAt) → IsLoad u → Represents (load_share u) (l
 load_represents u h x o l = load_row u x l h o (eqb u.load.model 2) refl (plain u.load.model u.magnitude h.model)
 
 -- the part loads of an element
-pub loads_represent : (us : List LoadAt) → All IsLoad us → Represents (loads_share us) (λ x. flat_map (λ u. load_parts u x) us)
+pub loads_represent : (us : List LoadAt) → All IsLoad us
+    → Represents (loads_share us) (λ x. flat_map (λ u. load_parts u x) us)
 loads_represent [] h = λ x o l. no_parts
 loads_represent (u ∷ us) h = λ x o l. beside_row (load_share u) (loads_share us) x l (load_parts u x) (flat_map (λ d. load_parts d x) us)
     (load_represents u (All-head IsLoad u us h) x o l) (loads_represent us (All-tail IsLoad u us h) x o l)

@@ -21,23 +21,28 @@ use Rattle.fd_exact.specs.FractionLaws.{sum_of-append, Same-nothing, nothing-plu
 use Rattle.fd_system.proofs.StampRows.{equation-append}
 
 -- an element that has constants and contributions alone
-pub linear_row : (cs : List Constant) (ts : List Term) (x : State) (l : ℕ) (ps : List Part) → Same (linear_of cs ts x l) (equation l ps) → Same (residual_of (record { constants = cs; terms = ts; loads = [] }) x l) (equation l ps)
+pub linear_row : (cs : List Constant) (ts : List Term) (x : State) (l : ℕ) (ps : List Part)
+    → Same (linear_of cs ts x l) (equation l ps)
+    → Same (residual_of (record { constants = cs; terms = ts; loads = [] }) x l) (equation l ps)
 linear_row cs ts x l ps h = subst (λ s. Same s (equation l ps)) (sym (plus-nothing _)) h
 
-pub term_share : (ts : List Term) (ps : State → List Part) → AddsUp ts ps → Represents (record { constants = []; terms = ts; loads = [] }) ps
+pub term_share : (ts : List Term) (ps : State → List Part) → AddsUp ts ps
+    → Represents (record { constants = []; terms = ts; loads = [] }) ps
 term_share ts ps h x o l = linear_row [] ts x l (ps x) (subst (λ s. Same s (equation l (ps x))) (sym (nothing-plus _)) (h x o l))
 
 abbrev pub beside : Share → Share → Share
 beside s t = record { constants = s.constants ++ t.constants; terms = s.terms ++ t.terms; loads = s.loads ++ t.loads }
 
-pub residual-beside : (s t : Share) (x : State) (l : ℕ) → residual_of (beside s t) x l ≡ residual_of s x l ⊕ residual_of t x l
+pub residual-beside : (s t : Share) (x : State) (l : ℕ)
+    → residual_of (beside s t) x l ≡ residual_of s x l ⊕ residual_of t x l
 residual-beside s t x l =
     let e = sum_of-append (constant_given l) s.constants t.constants in
     let f = sum_of-append (λ (u : Term). given l u x) s.terms t.terms in
     let g = ap (equation l) (flat_map-append (λ (u : LoadAt). nonlinear_parts u x) s.loads t.loads) ∙ equation-append l (flat_map (λ u. nonlinear_parts u x) s.loads) (flat_map (λ u. nonlinear_parts u x) t.loads) in
     (λ i. (e i ⊕ f i) ⊕ g i) ∙ ap (λ r. r ⊕ (equation l (flat_map (λ u. nonlinear_parts u x) s.loads) ⊕ equation l (flat_map (λ u. nonlinear_parts u x) t.loads))) (plus_swap _ _ _ _) ∙ plus_swap _ _ _ _
 
-pub beside_row : (s t : Share) (x : State) (l : ℕ) (ps qs : List Part) → Same (residual_of s x l) (equation l ps) → Same (residual_of t x l) (equation l qs) → Same (residual_of (beside s t) x l) (equation l (ps ++ qs))
+pub beside_row : (s t : Share) (x : State) (l : ℕ) (ps qs : List Part) → Same (residual_of s x l) (equation l ps)
+    → Same (residual_of t x l) (equation l qs) → Same (residual_of (beside s t) x l) (equation l (ps ++ qs))
 beside_row s t x l ps qs h j = rw (residual-beside s t x l, equation-append l ps qs) (Same-plus h j)
 
 pub no_parts : Same ((nothing ⊕ nothing) ⊕ nothing) nothing
@@ -45,7 +50,8 @@ no_parts = subst (λ v. Same v nothing) (sym (plus-nothing (nothing ⊕ nothing)
 
 -- a circuit: each element has a share and parts, and the two agree
 pub Represents-joined : {E : Type 0} (share : E → Share) (parts : E → State → List Part) (es : List E)
-    → All (λ e. Represents (share e) (parts e)) es → Represents (joined (map share es)) (λ x. flat_map (λ e. parts e x) es)
+    → All (λ e. Represents (share e) (parts e)) es
+    → Represents (joined (map share es)) (λ x. flat_map (λ e. parts e x) es)
 Represents-joined share parts [] h = λ x o l. no_parts
 Represents-joined share parts (e ∷ es) h = λ x o l. beside_row (share e) (joined (map share es)) x l (parts e x) (flat_map (λ d. parts d x) es)
     (All-head (λ d. Represents (share d) (parts d)) e es h x o l) (Represents-joined share parts es (All-tail (λ d. Represents (share d) (parts d)) e es h) x o l)
@@ -64,5 +70,6 @@ within_other t u d f e h c w =
 pub SizeWithin-Same : {a b : Fraction} (e : ℕ) → Same a b → SizeWithin a e → SizeWithin b e
 SizeWithin-Same {a} {b} e s h = within_other a.top b.top a.over b.over e s.left s.cross h
 
-pub Meets-Same : (F G : State → ℕ → Fraction) (e : ℕ → ℕ) (n : ℕ) (x : State) → ((l : ℕ) → Same (F x l) (G x l)) → Meets F e n x → Meets G e n x
+pub Meets-Same : (F G : State → ℕ → Fraction) (e : ℕ → ℕ) (n : ℕ) (x : State) → ((l : ℕ) → Same (F x l) (G x l))
+    → Meets F e n x → Meets G e n x
 Meets-Same F G e n x h m l l_in = SizeWithin-Same (e l) (h l) (m l l_in)

@@ -48,14 +48,16 @@ one_sum l r c n d x h = one_by (int_eq n (pos 0)) l r c n d x h (λ e. (Decides-
 pub apart : (r l : ℕ) → eqb (2 * r) l ≡ true → eqb (2 * r + 1) l ≡ false
 apart r l e = ne_eqb _ _ (λ p. let q = eqb-true (2 * r) l e in omega arith)
 
-four : (l : ℕ) (a b c d : List Term) (x : State) → row_sum l (a ++ (b ++ (c ++ d))) x ≡ row_sum l a x ⊕ (row_sum l b x ⊕ (row_sum l c x ⊕ row_sum l d x))
+four : (l : ℕ) (a b c d : List Term) (x : State)
+    → row_sum l (a ++ (b ++ (c ++ d))) x ≡ row_sum l a x ⊕ (row_sum l b x ⊕ (row_sum l c x ⊕ row_sum l d x))
 four l a b c d x = row_sum-append l a _ x ∙ ap (λ s. row_sum l a x ⊕ s) (row_sum-append l b _ x ∙ ap (λ s. row_sum l b x ⊕ s) (row_sum-append l c d x))
 
 pub plus-pos : (v w : Fraction) → 0 < v.over → 0 < w.over → 0 < (v ⊕ w).over
 unfolding ◌⊕◌
 plus-pos v w h k = mul-pos h k
 
-four_by : (b d : Bool) (v v' w w' u u' t t' : Fraction) → (b ≡ true → d ≡ false) → v ≡ v' → w ≡ w' → u ≡ u' → t ≡ t' → 0 < v.over → 0 < w.over → 0 < u.over → 0 < t.over
+four_by : (b d : Bool) (v v' w w' u u' t t' : Fraction) → (b ≡ true → d ≡ false) → v ≡ v' → w ≡ w' → u ≡ u' → t ≡ t'
+    → 0 < v.over → 0 < w.over → 0 < u.over → 0 < t.over
     → Same (cond b v nothing ⊕ (cond b w nothing ⊕ (cond d u nothing ⊕ cond d t nothing))) (cond b (v' ⊕ w') (cond d (t' ⊕ u') nothing))
 four_by true d v v' w w' u u' t t' x e f g h i j k m = rw (x refl, nothing-plus nothing, plus-nothing w, ← e, ← f) (Same-refl (v ⊕ w) (plus-pos v w i j))
 four_by false true v v' w w' u u' t t' x e f g h i j k m = rw (nothing-plus (u ⊕ t), nothing-plus (u ⊕ t), plus_comm u t, ← g, ← h) (Same-refl (t ⊕ u) (plus-pos t u m k))
@@ -99,7 +101,8 @@ zero_side l (Node r) z h j = by_two (eqb (2 * r) l) (eqb (2 * r + 1) l)
     by_two false true = j
     by_two false false = Same-nothing
 
-pub stamp_row : (r c : NodeAt) (a b d : ℤ) (x : State) (l : ℕ) → 0 < unsigned_abs d → 0 < x.over → Same (row_sum l (stamp r c a b d) x) (side l r (complex a b (unsigned_abs d) ⊠ unknown x c))
+pub stamp_row : (r c : NodeAt) (a b d : ℤ) (x : State) (l : ℕ) → 0 < unsigned_abs d → 0 < x.over
+    → Same (row_sum l (stamp r c a b d) x) (side l r (complex a b (unsigned_abs d) ⊠ unknown x c))
 stamp_row (Node r) (Node c) a b d x l h o = stamp_side r c l a b d x (mul-pos h o)
 stamp_row (Node r) Ground a b d x l h o =
     let D = unsigned_abs d in
@@ -114,7 +117,8 @@ pub cond-plus : (b : Bool) (p q : Fraction) → cond b p nothing ⊕ cond b q no
 cond-plus true p q = refl
 cond-plus false p q = nothing-plus nothing
 
-cond-plus_two : (b d : Bool) (p q s t : Fraction) → cond b p (cond d q nothing) ⊕ cond b s (cond d t nothing) ≡ cond b (p ⊕ s) (cond d (q ⊕ t) nothing)
+cond-plus_two : (b d : Bool) (p q s t : Fraction)
+    → cond b p (cond d q nothing) ⊕ cond b s (cond d t nothing) ≡ cond b (p ⊕ s) (cond d (q ⊕ t) nothing)
 cond-plus_two true d p q s t = refl
 cond-plus_two false d p q s t = cond-plus d q t
 
@@ -122,19 +126,25 @@ pub side-plus : (l : ℕ) (r : NodeAt) (z w : Complex) → side l r z ⊕ side l
 side-plus l Ground z w = nothing-plus nothing
 side-plus l (Node r) z w = cond-plus_two (eqb (2 * r) l) (eqb (2 * r + 1) l) z.re z.im w.re w.im
 
-pub row-append : (ts us : List Term) (x : State) (l : ℕ) (v w : Fraction) → Same (row_sum l ts x) v → Same (row_sum l us x) w → Same (row_sum l (ts ++ us) x) (v ⊕ w)
+pub row-append : (ts us : List Term) (x : State) (l : ℕ) (v w : Fraction) → Same (row_sum l ts x) v
+    → Same (row_sum l us x) w → Same (row_sum l (ts ++ us) x) (v ⊕ w)
 row-append ts us x l v w h k = rw (row_sum-append l ts us x) (Same-plus h k)
 
 -- two at one place
-pub same_place : (ts us : List Term) (x : State) (l : ℕ) (r : NodeAt) (z w : Complex) → Same (row_sum l ts x) (side l r z) → Same (row_sum l us x) (side l r w) → Same (row_sum l (ts ++ us) x) (side l r (z ⊞ w))
+pub same_place : (ts us : List Term) (x : State) (l : ℕ) (r : NodeAt) (z w : Complex)
+    → Same (row_sum l ts x) (side l r z) → Same (row_sum l us x) (side l r w)
+    → Same (row_sum l (ts ++ us) x) (side l r (z ⊞ w))
 same_place ts us x l r z w h j = subst (Same (row_sum l (ts ++ us) x)) (side-plus l r z w) (row-append ts us x l _ _ h j)
 
-pub same_place_each : (f : ℕ → List Term) (x : State) (l : ℕ) (r : NodeAt) (z : ℕ → Complex) (n : ℕ) → ((m : ℕ) → m < n → Same (row_sum l (f m) x) (side l r (z m))) → Same (row_sum l (each f n) x) (side l r (total z n))
+pub same_place_each : (f : ℕ → List Term) (x : State) (l : ℕ) (r : NodeAt) (z : ℕ → Complex) (n : ℕ)
+    → ((m : ℕ) → m < n → Same (row_sum l (f m) x) (side l r (z m)))
+    → Same (row_sum l (each f n) x) (side l r (total z n))
 same_place_each f x l r z zero h = zero_side l r none Same-nothing Same-nothing
 same_place_each f x l r z (suc n) h = same_place (each f n) (f n) x l r (total z n) (z n) (same_place_each f x l r z n (λ m p. h m (omega arith))) (h n (omega arith))
 
 -- the number may be written in another way
-pub rewritten : (p : Fraction) (l : ℕ) (r : NodeAt) (z w : Complex) → SameComplex z w → Same p (side l r z) → Same p (side l r w)
+pub rewritten : (p : Fraction) (l : ℕ) (r : NodeAt) (z w : Complex) → SameComplex z w → Same p (side l r z)
+    → Same p (side l r w)
 rewritten p l Ground z w e h = h
 rewritten p l (Node r) z w e h = by_two (eqb (2 * r) l) (eqb (2 * r + 1) l) h
   where
@@ -146,7 +156,9 @@ rewritten p l (Node r) z w e h = by_two (eqb (2 * r) l) (eqb (2 * r + 1) l) h
 pub equation-append : (l : ℕ) (ps qs : List Part) → equation l (ps ++ qs) ≡ equation l ps ⊕ equation l qs
 equation-append l ps qs = sum_of-append (seen l) ps qs
 
-pub each_row : (f : ℕ → List Term) (x : State) (l : ℕ) (p : ℕ → List Part) (n : ℕ) → ((m : ℕ) → m < n → Same (row_sum l (f m) x) (equation l (p m))) → Same (row_sum l (each f n) x) (equation l (each p n))
+pub each_row : (f : ℕ → List Term) (x : State) (l : ℕ) (p : ℕ → List Part) (n : ℕ)
+    → ((m : ℕ) → m < n → Same (row_sum l (f m) x) (equation l (p m)))
+    → Same (row_sum l (each f n) x) (equation l (each p n))
 each_row f x l p zero h = Same-nothing
 each_row f x l p (suc n) h = rw (equation-append l (each p n) (p n)) (row-append (each f n) (f n) x l _ _ (each_row f x l p n (λ m q. h m (omega arith))) (h n (omega arith)))
 
@@ -184,24 +196,29 @@ pub opposite-pos : (p : Fraction) → 0 < p.over → 0 < (opposite p).over
 unfolding opposite
 opposite-pos p h = h
 
-times_one : (p q : Fraction) → 0 < p.over → 0 < q.over → Same (fraction (pos 1) 1 ⊗ p ⊕ opposite (fraction (pos 0) 1 ⊗ q)) p
+times_one : (p q : Fraction) → 0 < p.over → 0 < q.over
+    → Same (fraction (pos 1) 1 ⊗ p ⊕ opposite (fraction (pos 0) 1 ⊗ q)) p
 times_one p q h k = rw (one_times p) (plus-zero p _ h (zero_opposite (zero_left q k)))
 
 times_one_im : (p q : Fraction) → 0 < p.over → 0 < q.over → Same (fraction (pos 1) 1 ⊗ q ⊕ fraction (pos 0) 1 ⊗ p) q
 times_one_im p q h k = rw (one_times q) (plus-zero q _ k (zero_left p h))
 
-times_minus : (p q : Fraction) → 0 < p.over → 0 < q.over → Same (fraction (negsuc 0) 1 ⊗ p ⊕ opposite (fraction (pos 0) 1 ⊗ q)) (opposite p)
+times_minus : (p q : Fraction) → 0 < p.over → 0 < q.over
+    → Same (fraction (negsuc 0) 1 ⊗ p ⊕ opposite (fraction (pos 0) 1 ⊗ q)) (opposite p)
 times_minus p q h k = rw (minus_times p) (plus-zero (opposite p) _ (opposite-pos p h) (zero_opposite (zero_left q k)))
 
-times_minus_im : (p q : Fraction) → 0 < p.over → 0 < q.over → Same (fraction (negsuc 0) 1 ⊗ q ⊕ fraction (pos 0) 1 ⊗ p) (opposite q)
+times_minus_im : (p q : Fraction) → 0 < p.over → 0 < q.over
+    → Same (fraction (negsuc 0) 1 ⊗ q ⊕ fraction (pos 0) 1 ⊗ p) (opposite q)
 times_minus_im p q h k = rw (minus_times q) (plus-zero (opposite q) _ (opposite-pos q k) (zero_left p h))
 
-pub plain_stamp : (r c : NodeAt) (x : State) (l : ℕ) → 0 < x.over → Same (row_sum l (stamp r c (pos 1) (pos 0) (pos 1)) x) (side l r (unknown x c))
+pub plain_stamp : (r c : NodeAt) (x : State) (l : ℕ) → 0 < x.over
+    → Same (row_sum l (stamp r c (pos 1) (pos 0) (pos 1)) x) (side l r (unknown x c))
 plain_stamp r c x l h =
     let u = unknown-pos x c h in
     rewritten _ l r _ (unknown x c) (record { re = times_one _ _ u.re u.im; im = times_one_im _ _ u.re u.im }) (stamp_row r c (pos 1) (pos 0) (pos 1) x l (lit< tt) h)
 
-pub minus_stamp : (r c : NodeAt) (x : State) (l : ℕ) → 0 < x.over → Same (row_sum l (stamp r c (negsuc 0) (pos 0) (pos 1)) x) (side l r (negative (unknown x c)))
+pub minus_stamp : (r c : NodeAt) (x : State) (l : ℕ) → 0 < x.over
+    → Same (row_sum l (stamp r c (negsuc 0) (pos 0) (pos 1)) x) (side l r (negative (unknown x c)))
 minus_stamp r c x l h =
     let u = unknown-pos x c h in
     rewritten _ l r _ (negative (unknown x c)) (record { re = times_minus _ _ u.re u.im; im = times_minus_im _ _ u.re u.im }) (stamp_row r c (negsuc 0) (pos 0) (pos 1) x l (lit< tt) h)
@@ -216,7 +233,8 @@ negative_re a b d z =
     let v = sym (opposite-plus (fraction a d ⊗ z.im) (fraction b d ⊗ z.re)) in
     (λ i. record { re = p i ⊕ opposite (q i); im = s i ⊕ t i }) ∙ (λ i. record { re = u i; im = v i })
 
-pub negative_stamp : (r c : NodeAt) (a b d : ℤ) (x : State) (l : ℕ) → 0 < unsigned_abs d → 0 < x.over → Same (row_sum l (stamp r c (neg_ℤ a) (neg_ℤ b) d) x) (side l r (negative (complex a b (unsigned_abs d) ⊠ unknown x c)))
+pub negative_stamp : (r c : NodeAt) (a b d : ℤ) (x : State) (l : ℕ) → 0 < unsigned_abs d → 0 < x.over
+    → Same (row_sum l (stamp r c (neg_ℤ a) (neg_ℤ b) d) x) (side l r (negative (complex a b (unsigned_abs d) ⊠ unknown x c)))
 negative_stamp r c a b d x l h o = subst (λ z. Same (row_sum l (stamp r c (neg_ℤ a) (neg_ℤ b) d) x) (side l r z)) (negative_re a b (unsigned_abs d) (unknown x c)) (stamp_row r c (neg_ℤ a) (neg_ℤ b) d x l h o)
 
 pub total-negative : (f : ℕ → Complex) (n : ℕ) → total (λ m. negative (f m)) n ≡ negative (total f n)
@@ -229,7 +247,8 @@ total-negative f (suc n) =
 
 -- ---- products and differences
 
-distrib_cross : (a b c : ℤ) (o p q : ℕ) → (a *ℤ (b *ℤ pos q +ℤ c *ℤ pos p)) *ℤ pos (o * p * (o * q)) ≡ ((a *ℤ b) *ℤ pos (o * q) +ℤ (a *ℤ c) *ℤ pos (o * p)) *ℤ pos (o * (p * q))
+distrib_cross : (a b c : ℤ) (o p q : ℕ)
+    → (a *ℤ (b *ℤ pos q +ℤ c *ℤ pos p)) *ℤ pos (o * p * (o * q)) ≡ ((a *ℤ b) *ℤ pos (o * q) +ℤ (a *ℤ c) *ℤ pos (o * p)) *ℤ pos (o * (p * q))
 distrib_cross a b c o p q = rw (as_val a, as_val b, as_val c) (simp vals (val-same _ _ _ _ (omega arith)))
 
 distrib : (a b c : Fraction) → 0 < a.over → 0 < b.over → 0 < c.over → Same (a ⊗ (b ⊕ c)) (a ⊗ b ⊕ a ⊗ c)
@@ -244,7 +263,8 @@ times-opposite : (a b : Fraction) → a ⊗ opposite b ≡ opposite (a ⊗ b)
 unfolding ◌⊗◌ opposite
 times-opposite a b = pair_of _ _ (mul-neg a.top b.top) refl
 
-distrib_minus : (a b c : Fraction) → 0 < a.over → 0 < b.over → 0 < c.over → Same (a ⊗ (b ⊕ opposite c)) (a ⊗ b ⊕ opposite (a ⊗ c))
+distrib_minus : (a b c : Fraction) → 0 < a.over → 0 < b.over → 0 < c.over
+    → Same (a ⊗ (b ⊕ opposite c)) (a ⊗ b ⊕ opposite (a ⊗ c))
 distrib_minus a b c h j k = subst (λ s. Same (a ⊗ (b ⊕ opposite c)) (a ⊗ b ⊕ s)) (times-opposite a c) (distrib a b (opposite c) h j (opposite-pos c k))
 
 -- z (u - v) and z u - z v
@@ -276,10 +296,12 @@ pub negative-minus : (u v : Complex) → negative (u ⊟ v) ≡ negative u ⊞ v
 negative-minus u v = λ i. record { re = (opposite-plus u.re (opposite v.re) ∙ ap (λ s. opposite u.re ⊕ s) (opposite-opposite v.re)) i; im = (opposite-plus u.im (opposite v.im) ∙ ap (λ s. opposite u.im ⊕ s) (opposite-opposite v.im)) i }
 
 -- what a row sees of a complex number is what two real rows see: for code that adds the two parts one after the other
-pub side-split : (l r : ℕ) (z : Complex) → side l (Node r) z ≡ cond (eqb (2 * r) l) z.re nothing ⊕ cond (eqb (2 * r + 1) l) z.im nothing
+pub side-split : (l r : ℕ) (z : Complex)
+    → side l (Node r) z ≡ cond (eqb (2 * r) l) z.re nothing ⊕ cond (eqb (2 * r + 1) l) z.im nothing
 side-split l r z = by_two (eqb (2 * r) l) (eqb (2 * r + 1) l) (apart r l)
   where
-    by_two : (b d : Bool) → (b ≡ true → d ≡ false) → cond b z.re (cond d z.im nothing) ≡ cond b z.re nothing ⊕ cond d z.im nothing
+    by_two : (b d : Bool) → (b ≡ true → d ≡ false)
+        → cond b z.re (cond d z.im nothing) ≡ cond b z.re nothing ⊕ cond d z.im nothing
     by_two true d h = rw (h refl) (sym (plus-nothing z.re))
     by_two false d h = sym (nothing-plus _)
 
@@ -293,5 +315,6 @@ side-pos l (Node r) z h = by_two (eqb (2 * r) l) (eqb (2 * r + 1) l)
     by_two false false = nothing-pos
 
 -- what the code negates
-pub negated : (im : ℤ) → FitsSigned w128 im → FitsSigned w128 (neg_ℤ im) → cast_signed w128 (cast_unsigned w128 (pos 0 -ℤ cast_signed w128 (cast_unsigned w128 im))) ≡ neg_ℤ im
+pub negated : (im : ℤ) → FitsSigned w128 im → FitsSigned w128 (neg_ℤ im)
+    → cast_signed w128 (cast_unsigned w128 (pos 0 -ℤ cast_signed w128 (cast_unsigned w128 im))) ≡ neg_ℤ im
 negated im h k = omega (arith, ints)

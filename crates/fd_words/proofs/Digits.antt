@@ -26,7 +26,8 @@ true_lt : (m n : ℕ) → nat_lt m n ≡ true → m < n
 true_lt m n h = grind (arith, nat_tests)
 
 -- digits are a number that is small enough, or none
-value_by : (n : ℕ) (b c : Bool) → nat_lt n (2 ^ 64) ≡ c → n < 2 ^ 64 → b ≡ true → (if b && c then Some n else None) ≡ Some n
+value_by : (n : ℕ) (b c : Bool) → nat_lt n (2 ^ 64) ≡ c → n < 2 ^ 64 → b ≡ true
+    → (if b && c then Some n else None) ≡ Some n
 value_by n b true e h is = ap (λ (d : Bool). (let x : Option ℕ = if d && true then Some n else None in x)) is
 value_by n b false e h is = let no : nat_lt n (2 ^ 64) ≡ true = grind (arith, nat_tests) in absurd (cc (sym e ∙ no))
 
@@ -35,12 +36,15 @@ none_by n false c e h = refl
 none_by n true true e h = absurd (h (true_lt n (2 ^ 64) e))
 none_by n true false e h = refl
 
-by_value : {E : Type 0} (most : ℕ) (word : List ℕ) → are_digits most word ≡ true → (s : Result ℕ E) → OkIff s ((0 < length word) × (digits_value 10 word < 2 ^ 64)) (digits_value 10 word) → 0 < length word → result_ok s ≡ value_of most word
+by_value : {E : Type 0} (most : ℕ) (word : List ℕ) → are_digits most word ≡ true → (s : Result ℕ E)
+    → OkIff s ((0 < length word) × (digits_value 10 word < 2 ^ 64)) (digits_value 10 word) → 0 < length word
+    → result_ok s ≡ value_of most word
 unfolding value_of
 by_value most word digits (Ok x) h some = ap Some h.1 ∙ sym (value_by (digits_value 10 word) (are_digits most word) _ refl h.0.1 digits)
 by_value most word digits (Err e) h some = sym (none_by (digits_value 10 word) (are_digits most word) _ refl (λ small. h (some, small)))
 
-pub read : {E : Type 0} (most : ℕ) (word : List ℕ) (r : Result ℕ E) → are_digits most word ≡ true → ParsesUnsigned 64 10 word r → result_ok r ≡ value_of most word
+pub read : {E : Type 0} (most : ℕ) (word : List ℕ) (r : Result ℕ E) → are_digits most word ≡ true
+    → ParsesUnsigned 64 10 word r → result_ok r ≡ value_of most word
 read most word r digits parses =
     let here = last_true (nat_lt 0 (length word)) (nat_le (length word) most) (all_digits word) digits in
     let some = true_lt 0 (length word) here.0 in

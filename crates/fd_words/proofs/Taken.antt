@@ -119,7 +119,8 @@ both_read word script certificate false also w n a some = absurd (cc some)
 both_read word script certificate true false w n a some = absurd (cc some)
 both_read word script certificate true true w n a some = at_name (codes "check") word (script ∷ certificate ∷ []) _ w (check_read script certificate n a)
 
-sections_named : (word : Text) (value : Option ℕ) (m : ℕ) → value_of 2 word ≡ value → option_and_then within_sections value ≡ Some m
+sections_named : (word : Text) (value : Option ℕ) (m : ℕ) → value_of 2 word ≡ value
+    → option_and_then within_sections value ≡ Some m
     → names_file word ≡ true
 sections_named word None m e some = absurd (cc some)
 sections_named word (Some k) m e some = number_named 2 word k e
@@ -127,7 +128,8 @@ sections_named word (Some k) m e some = number_named 2 word k e
 feeder_read : (word second third : Text) (number sections : Option ℕ) (gen bench : Bool)
     → number_of second ≡ number → sections_of third ≡ sections
     → pointwise nat_eq word (codes "gen") ≡ gen → pointwise nat_eq word (codes "bench") ≡ bench
-    → is_some (feeder_form word number sections) ≡ true → IsReadAs (word ∷ second ∷ third ∷ []) (feeder_form word number sections)
+    → is_some (feeder_form word number sections) ≡ true
+    → IsReadAs (word ∷ second ∷ third ∷ []) (feeder_form word number sections)
 feeder_read word second third None sections gen bench n s g b some = absurd (cc some)
 feeder_read word second third (Some number) None gen bench n s g b some = absurd (cc some)
 feeder_read word second third (Some number) (Some sections) true bench n s g b some =
@@ -160,5 +162,6 @@ form_read (word ∷ second ∷ third ∷ fourth ∷ words) some = absurd (cc som
 pub is_taken : (words : List Text) → is_some (form_of words) ≡ true → takes lines_app words ≡ true
 is_taken words some = (form_read words some).0
 
-pub is_read : (words : List Text) → is_some (form_of words) ≡ true → read (subcommand_of lines_app words) ≡ form_of words
+pub is_read : (words : List Text) → is_some (form_of words) ≡ true
+    → read (subcommand_of lines_app words) ≡ form_of words
 is_read words some = (form_read words some).1

@@ -22,7 +22,8 @@ over_fits c w = let l = w.over_least in let m = w.over_most in omega (arith, int
 
 -- ---- lists that are added one after another
 
-module _ (c : Coefficients) (p : PhaseAt) (ratio minus over : ℤ) (e : ratio ≡ c.ratio) (f : minus ≡ neg_ℤ c.ratio) (g : over ≡ c.ratio_over) where
+module _ (c : Coefficients) (p : PhaseAt) (ratio minus over : ℤ) (e : ratio ≡ c.ratio) (f : minus ≡ neg_ℤ c.ratio)
+    (g : over ≡ c.ratio_over) where
   pub branch_added : (o n1 n2 n3 n4 n5 : List Term) (r x : ℤ)
       → n1 ≡ o ++ stamp p.branch p.winding1.first ratio (pos 0) over
       → n2 ≡ n1 ++ stamp p.branch p.winding1.second minus (pos 0) over

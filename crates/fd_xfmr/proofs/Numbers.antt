@@ -17,7 +17,8 @@ volts_size v h = omega (arith, ints, h.least, h.most)
 quotient_most : (n d q : ℕ) → 0 < d → n ≤ q * d → n / d ≤ q
 quotient_most n d q h k = let below : n / d < q + 1 = (div-lt_iff_lt-mul h).1 (omega arith) in omega arith
 
-leakage_small : (d : XfmrData) (percent : ℤ) → IsXfmr d → UpTo (2 * 10 ^ 11) percent → nat_abs (nominal_leakage d percent) ≤ 6 * 10 ^ 24
+leakage_small : (d : XfmrData) (percent : ℤ) → IsXfmr d → UpTo (2 * 10 ^ 11) percent
+    → nat_abs (nominal_leakage d percent) ≤ 6 * 10 ^ 24
 leakage_small d (pos m) h u =
     let v = nat_abs (second_volts d) in
     let size = volts_size (second_volts d) (phase_volts_between d.phases (conn2 d) (kv2 d) h.kv2) in
@@ -31,7 +32,8 @@ leakage_small d (negsuc m) h u = absurd (omega (arith, ints, u.least))
 squared_tap : (t : ℕ) → t ≤ 200000 → t * t ≤ 4 * 10 ^ 10
 squared_tap t h = let m : t * t ≤ 200000 * 200000 = mul-le-mul h h in omega arith
 
-at_tap : (d : XfmrData) (percent : ℤ) (t : ℕ) → IsXfmr d → UpTo (2 * 10 ^ 11) percent → t ≤ 200000 → nat_abs (nominal_leakage d percent *ℤ pos (t * t)) ≤ 10 ^ 36
+at_tap : (d : XfmrData) (percent : ℤ) (t : ℕ) → IsXfmr d → UpTo (2 * 10 ^ 11) percent → t ≤ 200000
+    → nat_abs (nominal_leakage d percent *ℤ pos (t * t)) ≤ 10 ^ 36
 at_tap d percent t h u k =
     let m = times_most (nominal_leakage d percent) (t * t) (6 * 10 ^ 24) (4 * 10 ^ 10) (leakage_small d percent h u) (squared_tap t k) in
     omega (arith, m)

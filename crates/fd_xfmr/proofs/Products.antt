@@ -44,7 +44,8 @@ shown m h = omega (arith, ints)
 pub read : (z : ℤ) → nat_abs z ≤ 10 ^ 36 → to_z w128 (of_z w128 z) ≡ z
 read z h = to_z-of_z w128 z (fits_of z h)
 
-pub product_is : (r z n : ℤ) (k m : ℕ) → r ≡ (z *ℤ pos k) → z ≡ n → k ≡ m → nat_abs r ≤ 10 ^ 36 → to_z w128 (of_z w128 r) ≡ (n *ℤ pos m)
+pub product_is : (r z n : ℤ) (k m : ℕ) → r ≡ (z *ℤ pos k) → z ≡ n → k ≡ m → nat_abs r ≤ 10 ^ 36
+    → to_z w128 (of_z w128 r) ≡ (n *ℤ pos m)
 product_is r z n k m e f g h = read r h ∙ e ∙ (λ i. f i *ℤ pos (g i))
 
 -- ---- sizes

@@ -23,10 +23,12 @@ use Rattle.fd_xfmr.proofs.Products.{phases_few}
 -- ---- one phase
 
 module _ (c : Coefficients) (p : PhaseAt) (over : 0 < nat_abs c.ratio_over) (x : State) (o : 0 < x.over) (l : ℕ) where
-  times_ratio : (r n : NodeAt) → Same (row_sum l (stamp r n c.ratio (pos 0) c.ratio_over) x) (side l r (turns_ratio c ⊠ unknown x n))
+  times_ratio : (r n : NodeAt)
+      → Same (row_sum l (stamp r n c.ratio (pos 0) c.ratio_over) x) (side l r (turns_ratio c ⊠ unknown x n))
   times_ratio r n = stamp_row r n c.ratio (pos 0) c.ratio_over x l over o
 
-  minus_ratio : (r n : NodeAt) → Same (row_sum l (stamp r n (neg_ℤ c.ratio) (pos 0) c.ratio_over) x) (side l r (negative (turns_ratio c ⊠ unknown x n)))
+  minus_ratio : (r n : NodeAt)
+      → Same (row_sum l (stamp r n (neg_ℤ c.ratio) (pos 0) c.ratio_over) x) (side l r (negative (turns_ratio c ⊠ unknown x n)))
   minus_ratio r n = negative_stamp r n c.ratio (pos 0) c.ratio_over x l over o
 
   -- a w1

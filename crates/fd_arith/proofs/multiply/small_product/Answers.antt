@@ -9,7 +9,8 @@ use Rattle.fd_arith.specs.Interval.{least, greatest}
 use Rattle.fd_arith.specs.Products.{IsSmallProduct, small_product, small_signed, least_small, greatest_small, least_greatest, floor_small, ceil_small, small_from}
 use Rattle.fd_arith.proofs.multiply.small_product.Goals as goal
 
-lower : (g : _) (c : goal.After-ceil_over_coef g) → c.floor_over_coef.result ≡ floor_div (least (c.args.lo, c.args.hi) (c.args.low, c.args.high)) (2 ^ 40)
+lower : (g : _) (c : goal.After-ceil_over_coef g)
+    → c.floor_over_coef.result ≡ floor_div (least (c.args.lo, c.args.hi) (c.args.low, c.args.high)) (2 ^ 40)
 lower g c =
     let lo : FitsSigned w128 c.args.lo = c.ranges.lo in
     let hi : FitsSigned w128 c.args.hi = c.ranges.hi in
@@ -24,7 +25,8 @@ lower g c =
     let f = simp to_z-of_z at c.floor_over_coef.ensures in
     f ∙ ap (λ z. floor_div z (2 ^ 40)) e
 
-highest_is : (g : _) (c : goal.After-highest g) → c.highest.result ≡ greatest (c.args.lo, c.args.hi) (c.args.low, c.args.high)
+highest_is : (g : _) (c : goal.After-highest g)
+    → c.highest.result ≡ greatest (c.args.lo, c.args.hi) (c.args.low, c.args.high)
 highest_is g c =
     let lo : FitsSigned w128 c.args.lo = c.ranges.lo in
     let hi : FitsSigned w128 c.args.hi = c.ranges.hi in
@@ -44,7 +46,8 @@ ceil_over_coef-requires g c =
     let t : FitsSigned w128 c.highest.result = small_signed _ (highest_small g c) in
     rw (to_z-of_z w128 c.highest.result t) (highest_small g c)
 
-upper : (g : _) (c : goal.After-ceil_over_coef g) → c.ceil_over_coef.result ≡ ceil_div (greatest (c.args.lo, c.args.hi) (c.args.low, c.args.high)) (2 ^ 40)
+upper : (g : _) (c : goal.After-ceil_over_coef g)
+    → c.ceil_over_coef.result ≡ ceil_div (greatest (c.args.lo, c.args.hi) (c.args.low, c.args.high)) (2 ^ 40)
 upper g c =
     let t : FitsSigned w128 c.highest.result = small_signed _ (highest_small g c.before) in
     let f = simp to_z-of_z at c.ceil_over_coef.ensures in

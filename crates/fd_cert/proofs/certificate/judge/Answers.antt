@@ -12,7 +12,9 @@ use Rattle.fd_cert.proofs.SlopeRadii.{are_weights, boxes_are, weights_at}
 use Rattle.fd_cert.proofs.certificate.judge.Goals as goal
 
 -- weights that were read through a slice
-read_weights : (n : ℕ) (ws xs : List ℤ) → xs ≡ ws → ((l : ℕ) → l < n → (pos (10 ^ 6) ≤ℤ part ws l) × (part ws l ≤ℤ pos (2 ^ 66))) → (l : ℕ) → l < n → (pos (10 ^ 6) ≤ℤ part xs l) × (part xs l ≤ℤ pos (2 ^ 66))
+read_weights : (n : ℕ) (ws xs : List ℤ) → xs ≡ ws
+    → ((l : ℕ) → l < n → (pos (10 ^ 6) ≤ℤ part ws l) × (part ws l ≤ℤ pos (2 ^ 66))) → (l : ℕ) → l < n
+    → (pos (10 ^ 6) ≤ℤ part xs l) × (part xs l ≤ℤ pos (2 ^ 66))
 read_weights n ws xs e h = subst (λ ys. (l : ℕ) → l < n → (pos (10 ^ 6) ≤ℤ part ys l) × (part ys l ≤ℤ pos (2 ^ 66))) (sym e) h
 
 pub boxes-requires-clause-long : goal.boxes-requires-clause-long

@@ -15,17 +15,21 @@ use Rattle.fd_check.proofs.Way.{each_err, each_ok}
 use Rattle.fd_check.proofs.hours.check_hour.Goals as goal
 
 -- the reader before the hour's settle, which it was told of
-begun_by : (r begun : ReaderView) (number hour h : ℕ) → begun ≡ record r { number = number; hour = hour; round = 0 } → hour ≡ h → begun ≡ record r { number = number; hour = h; round = 0 }
+begun_by : (r begun : ReaderView) (number hour h : ℕ) → begun ≡ record r { number = number; hour = hour; round = 0 }
+    → hour ≡ h → begun ≡ record r { number = number; hour = h; round = 0 }
 begun_by r begun number hour h is same = is ∙ ap (λ (k : ℕ). record r { number = number; hour = k; round = 0 }) same
 
-begun_is : (c : goal.After-judge_hour) → c.begin.new.self ≡ record c.args.reader.now { number = c.args.number; hour = hour_in c.args.underway.now.day; round = 0 }
+begun_is : (c : goal.After-judge_hour)
+    → c.begin.new.self ≡ record c.args.reader.now { number = c.args.number; hour = hour_in c.args.underway.now.day; round = 0 }
 begun_is c = begun_by c.args.reader.now c.begin.new.self c.args.number c.hour-hour.result (hour_in c.args.underway.now.day) c.begin.ensures c.hour-hour.ensures
 
-run_is : (c : goal.After-judge_hour) → IsRun (plant_at c.args.circuit.now (hour_in c.args.underway.now.day)) (begun_hour c.args.circuit.now c.args.at.now c.args.underway.now.day)
+run_is : (c : goal.After-judge_hour)
+    → IsRun (plant_at c.args.circuit.now (hour_in c.args.underway.now.day)) (begun_hour c.args.circuit.now c.args.at.now c.args.underway.now.day)
     c.daily_run-ended.new.underway.rounds.items c.daily_run-ended.result c.begin.new.self c.daily_run-ended.new.solver
 run_is c = let e = c.daily_run-ended.ensures in record { acts = e.acts; ends = e.ends; calls = e.calls }
 
-told_is : (c : goal.After-judge_hour) → c.judge_hour.result ≡ hour_told c.daily_run-ended.new.solver c.daily_run-ended.result
+told_is : (c : goal.After-judge_hour)
+    → c.judge_hour.result ≡ hour_told c.daily_run-ended.new.solver c.daily_run-ended.result
     (first_unlike (map acts_made (with_acts c.daily_run-ended.result c.daily_run-ended.new.underway.rounds.items)) (drop (length c.begin.new.self.given) c.daily_run-ended.new.solver.given))
 told_is c =
     let w = c.daily_run-ended.new.solver in

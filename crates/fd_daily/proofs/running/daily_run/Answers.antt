@@ -15,7 +15,8 @@ use Rattle.fd_settle.specs.declared.round.Round.{Round}
 use Rattle.fd_daily.proofs.running.daily_run.Goals as goal
 
 calls_by : {V T F : Type 0} (gives : V → NetworkView → Result Claim F → V → Type 0) (p q : Plant) (v w : V) (m n : Machine) (old rounds : List Round) (result : Result T (SettleFault F))
-    → p ≡ q → m ≡ n → old ≡ [] → CallsAs gives p v m (appended old rounds) result w → CallsAs gives q v n rounds result w
+    → p ≡ q → m ≡ n → old ≡ [] → CallsAs gives p v m (appended old rounds) result w
+    → CallsAs gives q v n rounds result w
 calls_by gives p q v w m n old rounds result plant machine none h =
     subst (λ (xs : List Round). CallsAs gives q v n (appended xs rounds) result w) none
     (subst (λ (k : Machine). CallsAs gives q v k (appended old rounds) result w) machine (subst (λ (x : Plant). CallsAs gives x v m (appended old rounds) result w) plant h))

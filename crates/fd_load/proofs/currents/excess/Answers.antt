@@ -14,7 +14,8 @@ square_fits z h = fits_signed_from_abs w128 (z *ℤ z) (omega (arith, square_mos
 first_fits : (m p : ℤ) → nat_abs m ≤ 2 ^ 41 → nat_abs p ≤ 2 ^ 41 → FitsSigned w128 (m *ℤ m -ℤ p *ℤ p)
 first_fits m p h k = fits_signed_from_abs w128 (m *ℤ m -ℤ p *ℤ p) (omega (arith, abs_sub (m *ℤ m) (p *ℤ p), square_most m h, square_most p k))
 
-last_fits : (m p q : ℤ) → nat_abs m ≤ 2 ^ 41 → nat_abs p ≤ 2 ^ 41 → nat_abs q ≤ 2 ^ 41 → FitsSigned w128 (m *ℤ m -ℤ p *ℤ p -ℤ q *ℤ q)
+last_fits : (m p q : ℤ) → nat_abs m ≤ 2 ^ 41 → nat_abs p ≤ 2 ^ 41 → nat_abs q ≤ 2 ^ 41
+    → FitsSigned w128 (m *ℤ m -ℤ p *ℤ p -ℤ q *ℤ q)
 last_fits m p q h k l = fits_signed_from_abs w128 (m *ℤ m -ℤ p *ℤ p -ℤ q *ℤ q)
     (omega (arith, abs_sub (m *ℤ m -ℤ p *ℤ p) (q *ℤ q), abs_sub (m *ℤ m) (p *ℤ p), square_most m h, square_most p k, square_most q l))
 

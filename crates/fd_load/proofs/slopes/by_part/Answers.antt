@@ -5,7 +5,8 @@ use Rattle.fd_load.proofs.Bounds.{part_most}
 use Rattle.fd_exact.specs.ReadBack.{read_back}
 use Rattle.fd_load.proofs.slopes.by_part.Goals as goal
 
-module _ (v i : ℤ) (k : ℕ) (hv : nat_abs v ≤ 2 ^ 41) (hk : k ≤ 4 * 10 ^ 24) (h : nat_abs v * nat_abs i ≤ 2 ^ 32 * k) where
+module _ (v i : ℤ) (k : ℕ) (hv : nat_abs v ≤ 2 ^ 41) (hk : k ≤ 4 * 10 ^ 24)
+    (h : nat_abs v * nat_abs i ≤ 2 ^ 32 * k) where
   double_fits : FitsSigned w128 (pos 2 *ℤ v)
   double_fits = fits_signed_from_abs w128 (pos 2 *ℤ v) (omega (arith, unsigned_abs-mul (pos 2) v))
 

@@ -9,7 +9,8 @@ use Rattle.fd_slope.proofs.Bounded.{point_is, product_is, product_most, read_nat
 use Rattle.fd_slope.proofs.rounding.product_up.Goals as goal
 use Rattle.fd_slope.proofs.rounding.product_up.Goals.{After-ends, After-struct_told-1}
 
-found : (c : After-ends) → c.ends.result ≡ Some (floor_div (pos (c.args.x * c.args.y)) (2 ^ 40), pos (product_up c.args.x c.args.y))
+found : (c : After-ends)
+    → c.ends.result ≡ Some (floor_div (pos (c.args.x * c.args.y)) (2 ^ 40), pos (product_up c.args.x c.args.y))
 found c =
     let x = to_z_pos w128 c.args.x (omega (arith, c.requires.first)) in
     let y = to_z_pos w128 c.args.y (omega (arith, c.requires.second)) in

@@ -12,7 +12,8 @@ some_by true (Some u) z e = cc
 some_by false (Some u) z e = absurd cc
 some_by t None z e = tt
 
-none_by : (t : Bool) (o : Option ℤ) (z : ℤ) → o ≡ cond t (Some z) None → (AreSmall z → t ≡ true) → IfNone o (AreSmall z → ⊥)
+none_by : (t : Bool) (o : Option ℤ) (z : ℤ) → o ≡ cond t (Some z) None → (AreSmall z → t ≡ true)
+    → IfNone o (AreSmall z → ⊥)
 none_by t (Some u) z e h = tt
 none_by true None z e h = absurd cc
 none_by false None z e h = λ s. let f = h s in absurd cc

@@ -8,7 +8,8 @@ use Rattle.fd_system.proofs.StampRows.{negated}
 use Rattle.fd_system.proofs.stamps.add_four.Goals as goal
 
 four_more : (o n1 n2 n3 n4 : List Term) (r c : ℕ) (re re' im im' minus den den' : ℤ)
-    → n1 ≡ o ++ one (2 * r) (2 * c) re' den' → n2 ≡ n1 ++ one (2 * r) (2 * c + 1) minus den' → n3 ≡ n2 ++ one (2 * r + 1) (2 * c) im' den' → n4 ≡ n3 ++ one (2 * r + 1) (2 * c + 1) re' den'
+    → n1 ≡ o ++ one (2 * r) (2 * c) re' den' → n2 ≡ n1 ++ one (2 * r) (2 * c + 1) minus den'
+    → n3 ≡ n2 ++ one (2 * r + 1) (2 * c) im' den' → n4 ≡ n3 ++ one (2 * r + 1) (2 * c + 1) re' den'
     → re' ≡ re → im' ≡ im → minus ≡ neg_ℤ im → den' ≡ den
     → n4 ≡ o ++ stamp (Node r) (Node c) re im den
 four_more o n1 n2 n3 n4 r c re re' im im' minus den den' e1 e2 e3 e4 p q s t =

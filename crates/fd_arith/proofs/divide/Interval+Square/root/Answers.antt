@@ -5,7 +5,8 @@ use Rattle.fd_arith.specs.Limits.{IsRoot, IsRootUp, non_negative}
 use Rattle.fd_arith.specs.Roots.{roots_in_order, root_from}
 use Rattle.fd_arith.proofs.divide.Interval+Square.root.Goals as goal
 
-roots : (c : goal.After-root_up-high) → IsRoot (non_negative c.in-Some.lo) c.isqrt-low.result × IsRootUp (non_negative c.in-Some.hi) c.root_up-high.result
+roots : (c : goal.After-root_up-high)
+    → IsRoot (non_negative c.in-Some.lo) c.isqrt-low.result × IsRootUp (non_negative c.in-Some.hi) c.root_up-high.result
 roots c =
     let lo : FitsSigned w128 c.in-Some.lo = omega (arith, ints, c.in-Some.ensures) in
     let hi : FitsSigned w128 c.in-Some.hi = omega (arith, ints, c.in-Some.ensures) in

@@ -6,7 +6,8 @@ use Rattle.fd_settle.proofs.Starting.{IsStarted, fresh_length, started_controls,
 use Rattle.fd_settle.proofs.controls.Controls.start.Goals.{After-len-count, After-options}
 use Rattle.fd_settle.proofs.controls.Controls.start.Goals as goal
 
-fresh : (c : After-len-count) → c.in_ok-states.states.items ≡ fresh_from c.args.clock.now.opened.items 0 (controls_in c.args.circuit.now)
+fresh : (c : After-len-count)
+    → c.in_ok-states.states.items ≡ fresh_from c.args.clock.now.opened.items 0 (controls_in c.args.circuit.now)
 fresh c = c.in_ok-states.ensures ∙ ap (λ os. fresh_from os 0 c.deref.result.now) c.deref-2.ensures.value
     ∙ ap (fresh_from c.args.clock.now.opened.items 0) (c.deref.ensures.value ∙ c.in_ok-probes.ensures.probes)
 

@@ -13,7 +13,8 @@ use Rattle.fd_settle.proofs.Steps.{IsAfterReactions, acted_controls, acted_numbe
 use Rattle.fd_settle.proofs.controls.Controls.step.Goals.{After-some_moves}
 use Rattle.fd_settle.proofs.controls.Controls.step.Goals as goal
 
-sampled : (c : After-some_moves) → sampled_over c.args.self.now.states.items (positions_in c.args.at.now) c.args.certified.now.ball.centre.items c.args.certified.now.ball.radius.items
+sampled : (c : After-some_moves)
+    → sampled_over c.args.self.now.states.items (positions_in c.args.at.now) c.args.certified.now.ball.centre.items c.args.certified.now.ball.radius.items
     ≡ Decided (map decision c.sample_all-undecided.new.verdicts.items)
 sampled c =
     let at = positions_in c.args.at.now in
@@ -22,11 +23,13 @@ sampled c =
     ∙ ap (λ xs. sampled_over c.deref.result.now at c.deref-2.result.now xs) (sym c.deref-3.ensures.value)
     ∙ c.in_default.ensures.sampled.0
 
-looked : (c : After-some_moves) → look_over (probes_in c.args.self.now) (positions_in c.args.at.now) (claim_in c.args.certified.now)
+looked : (c : After-some_moves)
+    → look_over (probes_in c.args.self.now) (positions_in c.args.at.now) (claim_in c.args.certified.now)
     ≡ Decided (map decision c.sample_all-undecided.new.verdicts.items)
 looked c = sampled c
 
-here_reacted : (c : After-some_moves) → IsAfterReactions (length c.args.certified.now.ball.centre.items) c.args.at.now c.args.clock.now c.args.self.now c.react.new.self
+here_reacted : (c : After-some_moves)
+    → IsAfterReactions (length c.args.certified.now.ball.centre.items) c.args.at.now c.args.clock.now c.args.self.now c.react.new.self
     c.sample_all-undecided.new.verdicts.items
 here_reacted c =
     let before = c.args.self.now in
@@ -44,7 +47,8 @@ here_reacted c =
     (c.in_default.ensures.each refl ∙ ap length c.deref.ensures.value) (sampled c) c.react.ensures
 
 -- whether a control wants to move
-some : (c : After-some_moves) → c.some_moves.result ≡ list_any (λ v. is_some (way_of (decision v))) c.sample_all-undecided.new.verdicts.items
+some : (c : After-some_moves)
+    → c.some_moves.result ≡ list_any (λ v. is_some (way_of (decision v))) c.sample_all-undecided.new.verdicts.items
 some c = c.some_moves.ensures
     ∙ ap (list_any (λ v. is_some (way_of (decision v)))) (c.deref-4.ensures.value ∙ ap (λ v. v.items) c.react.ensures.verdicts)
 
