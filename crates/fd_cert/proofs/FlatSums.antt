@@ -1,11 +1,12 @@
 -- Sums over lists of short entries.
-use Rattle.std.proofs.Common.{◌≡◌, ◌≢◌, ◌∙◌, ℕ, zero, suc, ◌+◌, ◌*◌, ◌<◌, ◌≤◌, ◌^◌, ℤ, pos, ◌+ℤ◌, ◌*ℤ◌, nat_abs, Bool, true, false, cond, eqb, List, [], ◌∷◌, ◌++◌, map, length, take, get_or, set, Some, to_z, of_z, FitsSigned, arith, ap, refl, sym, subst, inl, inr}
+use Rattle.std.proofs.Common.{◌≡◌, ◌≢◌, ◌∙◌, ℕ, zero, suc, ◌+◌, ◌*◌, ◌<◌, ◌≤◌, ◌^◌, ℤ, pos, ◌+ℤ◌, ◌*ℤ◌, nat_abs, Bool, true, false, not, cond, eqb, List, [], ◌∷◌, ◌++◌, map, length, take, get_or, set, Some, to_z, of_z, FitsSigned, arith, ap, refl, sym, subst, inl, inr}
 use Rattle.std.proofs.Math.Nat.{mul-le-mul}
 use Rattle.std.proofs.lemmas.Bool.{cases_eq, cases_lt, eq-eqb, ne_eqb}
 use Rattle.std.specs.Int.{w128}
+use Rattle.std.specs.List.{filter}
 use Rattle.std.proofs.lemmas.Int.{fits_signed_from_abs, ints, to_z-of_z, unsigned_abs-mul}
 use Rattle.std.proofs.lemmas.List.{get_or-set_same, get_or-set_other, get_or_past, length-set, take_all}
-use Rattle.std.proofs.lemmas.List.Elements.{All-append, All-from_get_or, All-map, All-nil}
+use Rattle.std.proofs.lemmas.List.Elements.{All-append, All-filter, All-from_get_or, All-map, All-nil}
 use Rattle.fd_exact.specs.States.{part}
 use Rattle.fd_exact.specs.SumLaws.{list_z-append, sum_z-same, sum_z-zero}
 use Rattle.fd_exact.specs.Sums.{list_z, sum_z}
@@ -18,7 +19,7 @@ use Rattle.fd_equations.specs.WalkLaws.{walk_sums}
 use Rattle.fd_equations.specs.declared.cells.Cell.{Cell}
 use Rattle.fd_enclosure.specs.Bounds.{wide_sums}
 use Rattle.fd_cert.specs.Columns.{AreUnits, HasEntries, IsRow, IsRowOfInverse, column_sum}
-use Rattle.fd_cert.specs.Entries.{HasSmallUnits, IsFlat, IsFlatOf, IsShort, entry_of, entry_term}
+use Rattle.fd_cert.specs.Entries.{HasSmallUnits, IsFlat, IsFlatOf, IsShort, entry_of, entry_term, has_units}
 use Rattle.fd_cert.specs.declared.flat.Entry.{Entry}
 use Rattle.fd_cert.proofs.Units.{find, kept_by, row_entries, within_small}
 
@@ -48,11 +49,33 @@ list_z-map : {X Y : Type 0} (f : Y → ℤ) (g : X → Y) (xs : List X) → list
 list_z-map f g [] = refl
 list_z-map f g (x ∷ xs) = ap (λ z. f (g x) +ℤ z) (list_z-map f g xs)
 
+-- what a test leaves out adds nothing
+list_z-filter : {X : Type 0} (f : X → ℤ) (p : X → Bool) → ((x : X) → p x ≡ false → f x ≡ pos 0) → (xs : List X)
+    → list_z f (filter p xs) ≡ list_z f xs
+list_z-filter {X} f p none [] = refl
+list_z-filter {X} f p none (x ∷ xs) = by (p x) x xs (none x) (list_z-filter f p none xs)
+  where
+    nothing_more : (y z : ℤ) → y ≡ pos 0 → z ≡ (y +ℤ z)
+    nothing_more y z e = omega (arith, ints)
+
+    by : (b : Bool) (x : X) (xs : List X) → (b ≡ false → f x ≡ pos 0) → list_z f (filter p xs) ≡ list_z f xs
+        → list_z f (cond b (x ∷ filter p xs) (filter p xs)) ≡ list_z f (x ∷ xs)
+    by true x xs none h = ap (λ z. f x +ℤ z) h
+    by false x xs none h = h ∙ nothing_more (f x) (list_z f xs) (none refl)
+
+-- a cell has no units, or some
+no_units : (z : ℤ) → not (eqb (nat_abs z) 0) ≡ false → z ≡ pos 0
+no_units z h = elim (cases_eq (nat_abs z) 0) [
+  | inl e ↦ omega (arith, ints, e)
+  | inr ne ↦ let both : true ≡ false = ap not (sym (ne_eqb (nat_abs z) 0 ne)) ∙ h in absurd (cc)
+]
+
 row_sum : (size row j : ℕ) (at : ℕ × ℕ → Amount) (cells : List Cell) (factor : ℕ → ℤ) (J : ℕ → ℕ → ℤ)
     → IsRowOf size at row cells → ((l j : ℕ) → (at (l, j)).units ≡ J l j) → j < size
-    → list_z (entry_term factor j) (map (entry_of row) cells) ≡ (factor row *ℤ J row j)
+    → list_z (entry_term factor j) (map (entry_of row) (filter has_units cells)) ≡ (factor row *ℤ J row j)
 row_sum size row j at cells factor J h e l =
-    list_z-map (entry_term factor j) (entry_of row) cells
+    list_z-map (entry_term factor j) (entry_of row) (filter has_units cells)
+    ∙ list_z-filter (λ c. entry_term factor j (entry_of row c)) has_units none cells
     ∙ walk_sums size at row cells (λ col z. cond (eqb col j) (factor row *ℤ z) (pos 0)) h (λ col. nothing (eqb col j) (factor row))
     ∙ only_at (λ col. factor row *ℤ (at (row, col)).units) size j l
     ∙ ap (λ z. factor row *ℤ z) (e row j)
@@ -60,6 +83,9 @@ row_sum size row j at cells factor J h e l =
     nothing : (b : Bool) (z : ℤ) → cond b (z *ℤ pos 0) (pos 0) ≡ pos 0
     nothing true z = omega (arith, ints)
     nothing false z = refl
+
+    none : (c : Cell) → has_units c ≡ false → entry_term factor j (entry_of row c) ≡ pos 0
+    none c q = ap (λ z. cond (eqb c.col j) (factor row *ℤ z) (pos 0)) (no_units c.units q) ∙ nothing (eqb c.col j) (factor row)
 
 -- an entry of a row whose cells are short
 row_small : (cells : List Cell) (at : ℕ → ℤ) → HasSmallUnits cells (length cells) → IsRow cells at → (j : ℕ)
@@ -75,14 +101,14 @@ flat_start m = record { each = All-nil (IsShort m.size); sums = λ J h factor j 
 pub flat_more : (m : MatrixView) (es new : List Entry) (row : ℕ) (cells : List Cell) → row < m.size
     → ((at : ℕ × ℕ → Amount) → AreCells m.places m.cells at → IsNothingElsewhere m.places at → IsRowOf m.size at row cells)
     → (J : ℕ → ℕ → ℤ) → HasEntries m J
-    → HasSmallUnits cells (length cells) → new ≡ es ++ map (entry_of row) cells → IsFlat m es row
+    → HasSmallUnits cells (length cells) → new ≡ es ++ map (entry_of row) (filter has_units cells) → IsFlat m es row
     → IsFlat m new (row + 1)
 flat_more m es new row cells inside is J has units e h = subst (λ xs. IsFlat m xs (row + 1)) (sym e) (record {
-  each = All-append (IsShort m.size) es (map (entry_of row) cells) h.each (All-map (IsShort m.size) (entry_of row) cells
-      (All-from_get_or (λ c. IsShort m.size (entry_of row c)) cells empty (λ k l. let r = is has.at has.cells has.nothing in record { row = inside; col = r.inside k l; small = units k l })));
+  each = All-append (IsShort m.size) es (map (entry_of row) (filter has_units cells)) h.each (All-map (IsShort m.size) (entry_of row) (filter has_units cells)
+      (All-filter has_units (λ c. IsShort m.size (entry_of row c)) cells (All-from_get_or (λ c. IsShort m.size (entry_of row c)) cells empty (λ k l. let r = is has.at has.cells has.nothing in record { row = inside; col = r.inside k l; small = units k l }))));
   sums = λ K k factor j l.
       let next : suc row ≡ row + 1 = omega arith in
-      list_z-append (entry_term factor j) es (map (entry_of row) cells)
+      list_z-append (entry_term factor j) es (map (entry_of row) (filter has_units cells))
       ∙ (λ i. h.sums K k factor j l i +ℤ row_sum m.size row j k.at cells factor K (is k.at k.cells k.nothing) k.entries l i)
       ∙ ap (sum_z (λ l. factor l *ℤ K l j)) next;
   small = λ K k l j b. elim (cases_lt l row) [

@@ -1,5 +1,5 @@
 -- Short entries of a matrix, in a list with their rows and columns.
-use Rattle.std.specs.Prelude.{◌≡◌, ℕ, ◌^◌, ◌<◌, ◌≤◌, ℤ, pos, ◌*ℤ◌, nat_abs, cond, eqb, List, length, All}
+use Rattle.std.specs.Prelude.{◌≡◌, ℕ, ◌^◌, ◌<◌, ◌≤◌, ℤ, pos, ◌*ℤ◌, nat_abs, Bool, not, cond, eqb, List, length, All}
 use Rattle.fd_exact.specs.Sums.{list_z, sum_z}
 use Rattle.fd_equations.specs.Amounts.{cell_at}
 use Rattle.fd_equations.specs.Matrices.{MatrixView}
@@ -9,6 +9,10 @@ use Rattle.fd_cert.specs.declared.flat.Entry.{Entry}
 
 abbrev pub entry_of : ℕ → Cell → Entry
 entry_of row c = record { row = row; col = c.col; units = c.units }
+
+-- whether a cell has units: one without adds nothing to any sum
+abbrev pub has_units : Cell → Bool
+has_units c = not (eqb (nat_abs c.units) 0)
 
 -- what an entry adds to the sum of column j, with a factor for each row
 abbrev pub entry_term : (ℕ → ℤ) → ℕ → Entry → ℤ

@@ -7,6 +7,7 @@
 //
 // Where the Jacobian's entries are short, two rows of the inverse meet them at once, and an entry is read once for both.
 ghost use Rattle.std.specs.Prelude.{◌≡◌, ℕ, ◌+◌, ◌*◌, ◌<◌, ◌≤◌, ◌^◌, ℤ, pos, ◌≤ℤ◌, ◌-ℤ◌, nat_abs, set, true, IfOk, IfSome, length, Some, []};
+ghost use Rattle.fd_exact.specs.Greatest.{greatest};
 ghost use Rattle.fd_exact.specs.States.{entry, part};
 ghost use Rattle.fd_exact.specs.Sums.{list_n};
 ghost use Rattle.fd_arith.specs.Limits.{within};
@@ -23,7 +24,8 @@ ghost use Rattle.fd_cert.specs.Totals.{AreLight, AreShortWeights, AreWeighted, I
 use crate::flat::{Entry, add_entries_of_two};
 use crate::sums::{Walk, clear};
 use crate::totals::{
-    PAST, plus_entry, plus_light, plus_product, plus_short, short_size, short_weight, up_to_limit,
+    HALF, PAST, plus_entry, plus_light, plus_product, plus_short, short_size, short_weight,
+    up_to_limit,
 };
 use fd_arith::Wide;
 use fd_equations::{Cell, Matrix};
@@ -35,8 +37,8 @@ const ONE: i128 = 0x1_0000_0000_0000_0000_0000;
 
 const BOUND_UNITS: i128 = 0x100_0000_0000;
 
-// The greatest light number, 2^70.
-const LIGHT: u128 = 0x40_0000_0000_0000_0000;
+// The greatest product of the greatest light number and how many there are, 2^71.
+const LIGHT: u128 = 0x80_0000_0000_0000_0000;
 
 // The weights in 64 bits, if all are short.
 pub fn short_weights(alloc: Global, weights: &[i128]) -> Result<Option<Vec<u64>>, AllocError>
@@ -96,21 +98,28 @@ fn plus_sizes(total: u128, factors: &[i128], numbers: &[u128]) -> Option<u128>
     Some(sum)
 }
 
-// Whether each number is at most 2^70: its product with the size of an entry of the inverse is then at most 2^126.
+fn greatest_of(numbers: &[u128]) -> u128
+    ensures { result ≡ greatest (number_at numbers.now) (length numbers.now) }
+{
+    let mut greatest = 0;
+    for number in numbers {
+        greatest = greatest.max(*number);
+    }
+    greatest
+}
+
+// Whether each number has 64 bits, and their products with the sizes of the entries of a row of the inverse add up to
+// at most 2^127.
 pub fn are_light(numbers: &[u128]) -> bool
     ensures { result ≡ true → AreLight numbers.now }
 {
-    for number in numbers {
-        if *number > LIGHT {
-            return false;
-        }
-    }
-    true
+    let greatest = greatest_of(numbers);
+    greatest <= HALF && greatest * numbers.len() as u128 <= LIGHT
 }
 
 // The sizes of numbers, each times its weight, and the sizes of the entries of a row of the inverse, each times a
 // radius, added up in one walk, where the weights are short and the radii light. None where a number has more than 64
-// bits, or where the second sum passes 2^127 on the way.
+// bits.
 //
 // Never inlined, for the same reason.
 #[inline(never)]
@@ -135,11 +144,8 @@ fn short_row_total(
         let Some(size) = short_size(numbers[place]) else {
             return None;
         };
-        let Some(next) = plus_light(sizes, factors[place], radii[place]) else {
-            return None;
-        };
         total = plus_short(total, shorts[place], size);
-        sizes = next;
+        sizes = plus_light(sizes, factors[place], radii[place]);
     }
     Some(total + sizes)
 }

@@ -1,10 +1,11 @@
 // Entries of a matrix that are so short that their sums need no tests.
 ghost use Rattle.std.specs.Prelude.{◌≡◌, ℕ, ◌<◌, ◌≤◌, ◌^◌, ◌*ℤ◌, ◌++◌, ℤ, pos, nat_abs, map, true, IfOk, IfSome, All, length};
+ghost use Rattle.std.specs.List.{filter};
 ghost use Rattle.fd_exact.specs.States.{part};
 ghost use Rattle.fd_exact.specs.Sums.{list_z};
 ghost use Rattle.fd_equations.specs.Amounts.{cell_at};
 ghost use Rattle.fd_cert.specs.Columns.{AreColumns, IsMade, IsRowOfInverse};
-ghost use Rattle.fd_cert.specs.Entries.{AreShort, HasSmallUnits, IsFlatOf, IsShort, entry_of, entry_term};
+ghost use Rattle.fd_cert.specs.Entries.{AreShort, HasSmallUnits, IsFlatOf, IsShort, entry_of, entry_term, has_units};
 
 use fd_equations::{Cell, Matrix};
 use std::alloc::{AllocError, Global};
@@ -38,12 +39,23 @@ fn short_entry(row: u32, cell: &Cell) -> Option<Entry>
     }
 }
 
-// Adds the entries of a row. Tells whether all are short.
+// Whether a cell has units: one without adds nothing to any sum.
+fn has_units(cell: &Cell) -> bool
+    ensures { result ≡ has_units cell.now }
+{
+    cell.units != 0
+}
+
+// Adds the entries of a row that have units. Tells whether all are short.
 fn push_row(entries: &mut Vec<Entry>, row: u32, cells: &[Cell]) -> Result<bool, AllocError>
-    ensures made { IfOk result (λ all. all ≡ true → entries.new.items ≡ entries.old.items ++ map (entry_of row) cells.now) }
+    ensures made { IfOk result (λ all. all ≡ true →
+        entries.new.items ≡ entries.old.items ++ map (entry_of row) (filter has_units cells.now)) }
     ensures small { IfOk result (λ all. all ≡ true → HasSmallUnits cells.now (length cells.now)) }
 {
     for cell in cells {
+        if !has_units(cell) {
+            continue;
+        }
         let Some(entry) = short_entry(row, cell) else {
             return Ok(false);
         };
@@ -52,7 +64,7 @@ fn push_row(entries: &mut Vec<Entry>, row: u32, cells: &[Cell]) -> Result<bool, 
     Ok(true)
 }
 
-// The entries of a matrix, if all are short.
+// The entries of a matrix that have units, if all are short.
 pub fn entries_of(alloc: Global, matrix: &Matrix) -> Result<Option<Vec<Entry>>, AllocError>
     requires { IsMade matrix.now }
     ensures { IfOk result (λ o. IfSome o (λ entries. IsFlatOf matrix.now entries.items)) }

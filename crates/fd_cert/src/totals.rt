@@ -11,16 +11,13 @@ pub const PAST: u128 = LIMIT + 1;
 // The greatest short weight, 2^40: 2^11 of its products with numbers of 64 bits are at most 2^115.
 const SHORT_WEIGHT: u128 = 0x100_0000_0000;
 
-// The greatest number below 2^127.
-const TOP: u128 = 0x7fff_ffff_ffff_ffff_ffff_ffff_ffff_ffff;
-
 // The least and the greatest number of 64 bits with a sign.
 const LEAST: i128 = -0x8000_0000_0000_0000;
 
 const GREATEST: i128 = 0x7fff_ffff_ffff_ffff;
 
 // The greatest number of 64 bits.
-const HALF: u128 = 0xffff_ffff_ffff_ffff;
+pub const HALF: u128 = 0xffff_ffff_ffff_ffff;
 
 // A total, if it is at most 2^120.
 pub fn up_to_limit(total: u128) -> Option<u128>
@@ -104,29 +101,12 @@ pub fn plus_short(total: u128, short: u64, number: u64) -> u128
     total + short_product(short, number)
 }
 
-// The product of the size of an entry of an inverse and a number of at most 2^70: one multiplication of two numbers of
-// 64 bits, and one of 64 bits alone.
-fn entry_product(entry: i128, number: u128) -> u128
+// The total with the product of the size of an entry of an inverse and a number of 64 bits more: one multiplication.
+pub fn plus_light(total: u128, entry: i128, number: u128) -> u128
+    requires total { total ≤ 2 ^ 127 }
     requires entry { nat_abs entry ≤ 2 ^ 56 }
-    requires number { number ≤ 2 ^ 70 }
-    ensures product { result ≡ nat_abs entry * number }
-    ensures small { result ≤ 2 ^ 126 }
+    requires number { number < 2 ^ 64 }
+    ensures { result ≡ total + nat_abs entry * number }
 {
-    entry_size(entry) as u128 * number
-}
-
-// The total with such a product more; none where the total itself passes 2^127.
-pub fn plus_light(total: u128, entry: i128, number: u128) -> Option<u128>
-    requires total { total ≤ 2 ^ 127 + 2 ^ 126 }
-    requires entry { nat_abs entry ≤ 2 ^ 56 }
-    requires number { number ≤ 2 ^ 70 }
-    ensures some { IfSome result (λ t. t ≡ total + nat_abs entry * number) }
-    ensures none { IfNone result (2 ^ 120 < total) }
-    ensures small { IfSome result (λ t. t ≤ 2 ^ 127 + 2 ^ 126) }
-{
-    if total <= TOP {
-        Some(total + entry_product(entry, number))
-    } else {
-        None
-    }
+    total + short_product(entry_size(entry), number as u64)
 }

@@ -1,4 +1,4 @@
-use Rattle.std.proofs.Common.{◌≡◌, ◌+◌, ◌*◌, ◌≤◌, ◌^◌}
+use Rattle.std.proofs.Common.{◌≡◌, ◌*◌, ◌≤◌, ◌^◌}
 use Rattle.fd_cert.specs.Totals.{short_total, sizes_total}
 use Rattle.fd_cert.proofs.bounds.short_row_total.Given as goal
 
@@ -7,5 +7,5 @@ invariant-loop-place l = record {
   sum : l.total ≡ short_total l.place l.shorts l.numbers;
   small : l.total ≤ l.place * 2 ^ 104;
   sizes : l.sizes ≡ sizes_total l.place l.factors l.radii;
-  below : l.sizes ≤ 2 ^ 127 + 2 ^ 126;
+  below : l.sizes ≤ 2 ^ 127;
 }
