@@ -32,14 +32,12 @@ mod settings;
 mod snapshot;
 mod writers;
 
-pub use data::{cap_data, xfmr_data};
+pub use data::xfmr_data;
 pub use devices::{device_law, reach_law};
 pub use fault::BuildFault;
 pub use hours::{hours_law, powers_at};
 pub use kept::{Kept, kept_of, most_constants, most_loads, most_terms, piece_into};
-pub use pieces::{
-    Piece, capacitor_piece, line_piece, load_piece, piece_of, source_piece, transformer_piece,
-};
+pub use pieces::Piece;
 pub use places::ends_of;
 pub use positions::next_law;
 pub use settings::{BankStates, LoadPowers, OwnSettings, Positions, Powers, Taps};

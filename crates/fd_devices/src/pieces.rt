@@ -1,5 +1,5 @@
 // What each device adds to a network.
-ghost use Rattle.std.specs.Prelude.{◌≡◌, ℕ, ◌+◌, ◌*◌, ◌<◌, ◌≤◌, ◌^◌, false, [], ◌∷◌, IfOk, IsSome, OnOk, All, length};
+ghost use Rattle.std.specs.Prelude.{◌≡◌, ℕ, ◌+◌, ◌*◌, ◌<◌, ◌≤◌, ◌^◌, false, [], ◌∷◌, IfOk, IsSome, All, length};
 ghost use Rattle.dss_profile.specs.Ranges.{IsOneOf};
 ghost use Rattle.dss_profile.specs.InRange.{CapacitorInRange, ElementInRange, LineInRange, LoadInRange, TransformerInRange, VsourceInRange};
 ghost use Rattle.dss_layout.specs.Limits.{most_complex};
@@ -14,7 +14,7 @@ ghost use Rattle.fd_xfmr.specs.Leakage.{AreTaps, IsXfmr};
 ghost use Rattle.fd_xfmr.specs.Transformer.{IsBetween as IsXfmrBetween};
 ghost use Rattle.fd_cap.specs.Capacitor.{IsCap};
 ghost use Rattle.fd_elements.specs.Lines.{line_data_of};
-ghost use Rattle.fd_devices.specs.Devices.{added_by, added_by_all, added_of, beside, capacitor as capacitor_device, line as line_device, loads as load_device, source as source_device, transformer as transformer_device};
+ghost use Rattle.fd_devices.specs.Devices.{added_by, added_by_all, added_of, capacitor as capacitor_device, line as line_device, loads as load_device, source as source_device, transformer as transformer_device};
 ghost use Rattle.fd_devices.specs.Data.{cap_data_of, xfmr_data_of};
 ghost use Rattle.fd_elements.specs.Sources.{source_data_of};
 ghost use Rattle.fd_devices.specs.Settings.{AreOwn, settings_in};
@@ -56,21 +56,6 @@ impl Piece {
             loads: Vec::new(alloc),
             draw: 0,
         }
-    }
-
-    /// Adds what further devices add.
-    ///
-    /// # Errors
-    /// `AllocError` where the memory is refused.
-    pub fn append(&mut self, more: &Piece) -> Result<(), AllocError>
-        requires { self.old.draw + more.now.draw < 2 ^ 128 }
-        ensures { OnOk result (added_of self.new ≡ beside (added_of self.old) (added_of more.now)) }
-    {
-        self.constants.extend_from_slice(&more.constants)?;
-        self.terms.extend_from_slice(&more.terms)?;
-        self.loads.extend_from_slice(&more.loads)?;
-        self.draw += more.draw;
-        Ok(())
     }
 }
 

@@ -162,13 +162,6 @@ impl Network {
         &self.layout
     }
 
-    /// Gives the layout up.
-    pub fn into_layout(self) -> Layout
-        ensures { result ≡ self.layout }
-    {
-        self.layout
-    }
-
     /// How many real unknowns there are, and how many rows.
     pub fn size(&self) -> u32
         ensures rows { result ≡ self.now.rows.size }
