@@ -18,10 +18,10 @@ use Rattle.fd_system.specs.Contributions.{IsSmall}
 use Rattle.fd_system.specs.Terminals.{branch_of}
 use Rattle.fd_system.specs.declared.loads.LoadAt.{LoadAt}
 use Rattle.fd_equations.specs.Conditions.{HasMagnitude, IsAmong, IsServed}
-use Rattle.fd_equations.specs.PatternPlaces.{load_places, magnitude_places, node_places, place_of, terminal_places}
+use Rattle.fd_equations.specs.PatternPlaces.{cross, load_places, magnitude_places, node_places, place_of, terminal_places}
 use Rattle.fd_equations.specs.Patterns.{IsInside}
 use Rattle.fd_equations.specs.Rounded.{list_of}
-use Rattle.fd_equations.proofs.CallerLemmas.{list_of-more}
+use Rattle.fd_equations.proofs.CallerLemmas.{cross_inside, list_of-more}
 use Rattle.fd_devices.specs.Building.{IsInside as IsTermInside, IsSettled}
 use Rattle.dss_profile.specs.declared.transformer.Transformer.{Transformer}
 use Rattle.dss_profile.specs.declared.capacitor.Capacitor.{Capacitor}
@@ -30,7 +30,7 @@ use Rattle.fd_devices.specs.Devices.{Added, added_by, added_by_all, beside}
 use Rattle.fd_devices.specs.declared.kept.Kept.{Kept}
 use Rattle.fd_devices.specs.declared.pieces.Piece.{Piece}
 use Rattle.fd_devices.specs.Kept.{AreFewOf, AreSmallEnds, IsKeptOf, IsRoomSame, is_moved, reach_of}
-use Rattle.fd_devices.specs.Reach.{branch_places, cross, device_places, unknowns_of}
+use Rattle.fd_devices.specs.Reach.{branch_places, device_places, unknowns_of}
 use Rattle.fd_devices.specs.Scripted.{device_of, load_at}
 use Rattle.fd_devices.specs.Settings.{Settings}
 use Rattle.fd_devices.specs.Sound.{IsSited}
@@ -99,15 +99,6 @@ module _ (size : ℕ) where
   abbrev IsUnknown : ℕ → Type 0
   IsUnknown l = l < size
 
-  row_inside : (row : ℕ) (cols : List ℕ) → row < size → All IsUnknown cols → All (IsInside size) (map (λ col. (row, col)) cols)
-  row_inside row [] h a = All-nil (IsInside size)
-  row_inside row (c ∷ cols) h a = All-cons (IsInside size) (row, c) (map (λ col. (row, col)) cols) (record { row = h; col = All-head IsUnknown c cols a }) (row_inside row cols h (All-tail IsUnknown c cols a))
-
-  cross_inside : (rows cols : List ℕ) → All IsUnknown rows → All IsUnknown cols → All (IsInside size) (cross rows cols)
-  cross_inside [] cols h a = All-nil (IsInside size)
-  cross_inside (r ∷ rows) cols h a =
-      All-append (IsInside size) (map (λ col. (r, col)) cols) (cross rows cols) (row_inside r cols (All-head IsUnknown r rows h) a) (cross_inside rows cols (All-tail IsUnknown r rows h) a)
-
   terms_inside : (n : ℕ) (ts : List Term) → 2 * n ≤ size → All (IsTermInside n) ts → All (IsInside size) (map place_of ts)
   terms_inside n [] few h = All-nil (IsInside size)
   terms_inside n (t ∷ ts) few h =
@@ -143,7 +134,7 @@ module _ (size : ℕ) where
       All-append IsUnknown (node_places u.first ++ node_places u.second) (magnitude_places u.magnitude)
       (All-append IsUnknown (node_places u.first) (node_places u.second) (node_inside m u.first few s.first) (node_inside m u.second few s.second))
       (magnitude_inside n u.load.model u.magnitude s.magnitude) in
-      All-append (IsInside size) (load_places u) (flat_map load_places us) (cross_inside (terminal_places u) (terminal_places u) at at) (loads_inside m n us few (All-tail (IsServed m n size) u us h))
+      All-append (IsInside size) (load_places u) (flat_map load_places us) (cross_inside size (terminal_places u) (terminal_places u) at at) (loads_inside m n us few (All-tail (IsServed m n size) u us h))
 
 -- the places that the device of an element reaches are among the rows and columns
 pub places_inside : (layout : LayoutView) (hertz place : ℕ) (e : Element) (s : Settings)

@@ -7,7 +7,7 @@ use Rattle.fd_system.specs.Contributions.{each}
 use Rattle.fd_system.specs.Terminals.{branch_of}
 use Rattle.fd_line.specs.Line.{line_list}
 use Rattle.fd_source.specs.Equations.{source_list}
-use Rattle.fd_equations.specs.PatternPlaces.{load_places, node_places, place_of, places_of}
+use Rattle.fd_equations.specs.PatternPlaces.{cross, load_places, node_places, place_of, places_of}
 use Rattle.fd_devices.specs.Devices.{Device, capacitor, device_share, line, loads, other, source, transformer}
 
 -- the real unknowns of nodes, and of m branches from the first one on
@@ -16,10 +16,6 @@ unknowns_of ns = flat_map node_places ns
 
 abbrev pub branch_places : ℕ → ℕ → List ℕ
 branch_places branch m = each (λ k. node_places (branch_of branch k)) m
-
--- each of these rows in each of these columns
-abbrev pub cross : List ℕ → List ℕ → List (ℕ × ℕ)
-cross rows cols = flat_map (λ row. map (λ col. (row, col)) cols) rows
 
 -- a transformer's branches meet its nodes and one another
 abbrev pub transformer_places : ℕ → Ends → List (ℕ × ℕ)

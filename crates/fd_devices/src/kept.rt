@@ -15,12 +15,13 @@ ghost use Rattle.fd_devices.specs.Settings.{AreOwn, settings_in};
 ghost use Rattle.fd_devices.specs.Sound.{IsSited, IsSound};
 
 use crate::pieces::{Piece, piece_of};
-use crate::reached::{add_bank_places, add_load_places, add_term_places, add_transformer_places};
+use crate::reached::{add_bank_places, add_transformer_places};
 use crate::settings::OwnSettings;
 use crate::writers::{capacitor_into, load_into, transformer_into};
 use dss_layout::Layout;
 use dss_profile::Element;
 use fd_arith::{Ends, TermFault};
+use fd_equations::{add_load_places, add_term_places};
 use std::alloc::{AllocError, Global};
 
 /// What is the same of an element at all settings: where it stands, and, if it has no settings, what it adds.

@@ -12,10 +12,10 @@
 //
 // Modules: `data` has the data of transformers and capacitor banks, `devices` is the law, `phase_loads` has the part
 // loads of a load's phases, `pieces` what each element adds, `writers` the same written without memory, `kept` what is
-// kept of an element for that, `reached` the places that it can reach, `places` the nodes and branches at which an
-// element stands, `settings` the positions of taps and banks and the powers of loads with which a circuit is taken,
-// `snapshot` those that the script gives, `hours` the powers at an hour of a day, `positions` those with which a later
-// Solve starts, `fault` why there is no network.
+// kept of an element for that, `reached` the places that a transformer or a bank can reach, `places` the nodes and
+// branches at which an element stands, `settings` the positions of taps and banks and the powers of loads with which a
+// circuit is taken, `snapshot` those that the script gives, `hours` the powers at an hour of a day, `positions` those
+// with which a later Solve starts, `fault` why there is no network.
 #![tactic(auto)]
 
 mod data;

@@ -6,6 +6,7 @@ use Rattle.std.proofs.lemmas.List.Elements.{All-weaker}
 use Rattle.fd_arith.specs.declared.terms.NodeAt.{NodeAt}
 use Rattle.fd_arith.specs.declared.terms.NodeAt.TheVariants.{Ground, Node}
 use Rattle.fd_system.specs.declared.loads.LoadAt.{LoadAt}
+use Rattle.fd_system.specs.Contributions.{IsSmall}
 use Rattle.fd_system.specs.Residual.{IsPlace}
 use Rattle.fd_equations.specs.Conditions.{HasMagnitude, IsAmong, IsServed}
 use Rattle.fd_equations.specs.Terminals.{IsConnected, at_magnitude, at_node, at_terminal}
@@ -142,3 +143,15 @@ connected_wide size n u h c = record {
 -- part loads between nodes, whose magnitudes stand behind the complex unknowns, are connected to the real ones
 pub all_connected : (m n size : ℕ) (us : List LoadAt) → m ≤ n → 2 * n ≤ size → size ≤ 2 ^ 11 → All (IsServed m n size) us → All (IsConnected size) us
 all_connected m n size us among h few a = All-weaker (IsServed m n size) (IsConnected size) (λ u s. connected m n size u among h few s) us a
+
+-- ---- what has a place is small
+
+node_few : (n : ℕ) (node : NodeAt) → IsPlace n node → IsSmall node
+node_few n Ground h = tt
+node_few n (Node k) h = h.1
+
+pub firsts_few : (n : ℕ) (us : List LoadAt) → All (IsConnected n) us → All (λ u. IsSmall u.first) us
+firsts_few n us h = All-weaker (IsConnected n) (λ u. IsSmall u.first) (λ u c. node_few n u.first c.first) us h
+
+pub seconds_few : (n : ℕ) (us : List LoadAt) → All (IsConnected n) us → All (λ u. IsSmall u.second) us
+seconds_few n us h = All-weaker (IsConnected n) (λ u. IsSmall u.second) (λ u c. node_few n u.second c.second) us h

@@ -17,7 +17,7 @@ use Rattle.fd_equations.specs.Conditions.{AreLinear, IsLinear}
 use Rattle.fd_equations.specs.Holding.{AreRows, CanHold}
 use Rattle.fd_equations.specs.Matrices.{IsMatrix, MatrixView, matrix_with}
 use Rattle.fd_equations.specs.PartLoads.{load_entry, no_slopes, slope_count, slope_counts, slope_in}
-use Rattle.fd_equations.specs.PatternPlaces.{load_places, magnitude_places, node_places, place_of, places_of, terminal_places}
+use Rattle.fd_equations.specs.PatternPlaces.{cross, load_places, magnitude_places, node_places, place_of, places_of, terminal_places}
 use Rattle.fd_equations.specs.Patterns.{IsInside, PatternView}
 use Rattle.fd_equations.specs.Terminals.{IsConnected, at_magnitude, at_node, at_terminal, count_magnitude, count_node, count_terminal}
 use Rattle.fd_equations.proofs.AtTerminals.{connected_wide}
@@ -82,16 +82,16 @@ module _ (n : ℕ) where
   row_inside row [] h a = All-nil (IsInside n)
   row_inside row (c ∷ at) h a = All-cons (IsInside n) (row, c) (map (λ col. (row, col)) at) (record { row = h; col = All-head IsUnknown c at a }) (row_inside row at h (All-tail IsUnknown c at a))
 
-  rows_inside : (rows at : List ℕ) → All IsUnknown rows → All IsUnknown at → All (IsInside n) (flat_map (λ row. map (λ col. (row, col)) at) rows)
-  rows_inside [] at h a = All-nil (IsInside n)
-  rows_inside (r ∷ rows) at h a =
-      All-append (IsInside n) (map (λ col. (r, col)) at) (flat_map (λ row. map (λ col. (row, col)) at) rows) (row_inside r at (All-head IsUnknown r rows h) a) (rows_inside rows at (All-tail IsUnknown r rows h) a)
+  pub cross_inside : (rows cols : List ℕ) → All (λ l. l < n) rows → All (λ l. l < n) cols → All (IsInside n) (cross rows cols)
+  cross_inside [] cols h a = All-nil (IsInside n)
+  cross_inside (r ∷ rows) cols h a =
+      All-append (IsInside n) (map (λ col. (r, col)) cols) (cross rows cols) (row_inside r cols (All-head IsUnknown r rows h) a) (cross_inside rows cols (All-tail IsUnknown r rows h) a)
 
   loads_inside : (us : List LoadAt) → All (IsConnected n) us → All (IsInside n) (flat_map load_places us)
   loads_inside [] h = All-nil (IsInside n)
   loads_inside (u ∷ us) h =
       let at = terminal_inside u (All-head (IsConnected n) u us h) in
-      All-append (IsInside n) (load_places u) (flat_map load_places us) (rows_inside (terminal_places u) (terminal_places u) at at) (loads_inside us (All-tail (IsConnected n) u us h))
+      All-append (IsInside n) (load_places u) (flat_map load_places us) (cross_inside (terminal_places u) (terminal_places u) at at) (loads_inside us (All-tail (IsConnected n) u us h))
 
   pub all_inside : (ts : List Term) (us : List LoadAt) → All (IsLinear n) ts → All (IsConnected n) us → All (IsInside n) (places_of ts us)
   all_inside ts us h k = All-append (IsInside n) (map place_of ts) (flat_map load_places us) (terms_inside ts h) (loads_inside us k)

@@ -22,11 +22,12 @@ abbrev pub terminal_places : LoadAt → List ℕ
 terminal_places u = (node_places u.first ++ node_places u.second) ++ magnitude_places u.magnitude
 
 -- each of these rows in each of these columns
-abbrev pub square : List ℕ → List (ℕ × ℕ)
-square at = flat_map (λ row. map (λ col. (row, col)) at) at
+abbrev pub cross : List ℕ → List ℕ → List (ℕ × ℕ)
+cross rows cols = flat_map (λ row. map (λ col. (row, col)) cols) rows
 
+-- the unknowns of its terminal meet one another
 abbrev pub load_places : LoadAt → List (ℕ × ℕ)
-load_places u = square (terminal_places u)
+load_places u = cross (terminal_places u) (terminal_places u)
 
 abbrev pub places_of : List Term → List LoadAt → List (ℕ × ℕ)
 places_of ts us = map place_of ts ++ flat_map load_places us

@@ -42,6 +42,7 @@ pub use layout::{Layout, PlaceKind};
 pub use matrix::Matrix;
 pub use network::Network;
 pub use pattern::Pattern;
+pub use places::{add_cross, add_load_places, add_node_places, add_term_places};
 pub use point::Point;
 pub use sparse::Rows;
 pub use terminals::{Voltage, voltage_of};
