@@ -64,7 +64,8 @@ counted f n h (e ∷ es) before =
 
 -- ---- one element more
 
-first_left : {A : Type 0} (xs : List A) (k : ℕ) → slice_get (drop k xs) 0 ≡ slice_get xs k
+-- what a list has at a place is the first of what is left there
+pub first_left : {A : Type 0} (xs : List A) (k : ℕ) → slice_get (drop k xs) 0 ≡ slice_get xs k
 first_left xs zero = refl
 first_left [] (suc k) = refl
 first_left (x ∷ xs) (suc k) = first_left xs k

@@ -10,7 +10,7 @@ use Rattle.dss_profile.specs.declared.element.Element.{Element}
 use Rattle.dss_profile.specs.declared.names.ElementName.{ElementName}
 use Rattle.dss_layout.specs.Limits.{most_complex, most_magnitudes}
 use Rattle.dss_layout.specs.Layout.{Elements, LayoutView, branch_phases, complex_count, size_of}
-use Rattle.dss_layout.proofs.CallerLemmas.{both_parts}
+use Rattle.dss_layout.proofs.CallerLemmas.{both_parts, take-more}
 use Rattle.fd_system.specs.System.{Share}
 use Rattle.fd_equations.specs.Amounts.{RowsView}
 use Rattle.fd_equations.specs.Conditions.{AreLinear}
@@ -18,22 +18,17 @@ use Rattle.fd_equations.specs.Holding.{CanHold}
 use Rattle.fd_equations.specs.PatternPlaces.{load_places, place_of, places_of}
 use Rattle.fd_equations.specs.Terminals.{IsConnected}
 use Rattle.fd_equations.proofs.CallerLemmas.{all_connected}
-use Rattle.fd_devices.specs.declared.pieces.Piece.{Piece}
 use Rattle.fd_devices.specs.Building.{AreCollected}
 use Rattle.fd_devices.specs.Devices.{Added, Device, beside, device_share, share_of_all}
-use Rattle.fd_devices.specs.Kept.{AreFewOf, IsRoomSame, most_constants, most_loads, most_terms}
+use Rattle.fd_devices.specs.Kept.{AreFewOf, most_constants, most_loads, most_terms}
 use Rattle.fd_devices.specs.Reach.{ReachLaw, device_places}
 use Rattle.fd_devices.specs.Scripted.{devices_from}
 use Rattle.fd_devices.specs.Settings.{Settings, after, own}
 use Rattle.fd_devices.proofs.CallerLemmas.{list_n-more, same_places}
 use Rattle.fd_network.specs.Keeping.{Reaches}
 use Rattle.fd_network.proofs.Assembling.{are_linear}
-use Rattle.fd_network.proofs.Taking.{drop_next, take_more}
 
 -- ---- room
-
-pub room_then : (p q r : Piece) → IsRoomSame p q → IsRoomSame q r → IsRoomSame p r
-room_then p q r h k = record { terms = k.terms ∙ h.terms; loads = k.loads ∙ h.loads; constants = k.constants ∙ h.constants }
 
 -- the first of a list have no more than all
 pub part_within : {A : Type 0} (f : A → ℕ) (xs : List A) (k : ℕ) → list_n f (take k xs) ≤ list_n f xs
@@ -56,7 +51,7 @@ pub record FitsBeside (es : Elements) (a p : Added) : Type 0 where
 
 module _ (es : Elements) (k : ℕ) (e : ElementName × Element) (here : slice_get es k ≡ Some e) where
   pub one_more : (f : ElementName × Element → ℕ) → list_n f (take (k + 1) es) ≡ list_n f (take k es) + f e
-  one_more f = ap (list_n f) (take_more es k e _ (drop_next es k e here)) ∙ list_n-more f (take k es) e
+  one_more f = ap (list_n f) (take-more es k e here) ∙ list_n-more f (take k es) e
 
   pub fits_beside : (a p : Added) → IsFewFor es k a → AreFewOf e.1 p → FitsBeside es a p
   fits_beside a p h f = record {

@@ -5,11 +5,13 @@ use Rattle.std.proofs.lemmas.List.Elements.{All-drop, All-take}
 use Rattle.dss_profile.specs.declared.element.Element.{Element}
 use Rattle.dss_profile.specs.declared.names.ElementName.{ElementName}
 use Rattle.dss_layout.specs.Layout.{Elements, LayoutView}
+use Rattle.dss_layout.proofs.CallerLemmas.{drop-more}
 use Rattle.fd_xfmr.specs.Leakage.{AreTaps}
 use Rattle.fd_devices.specs.Building.{IsModest}
 use Rattle.fd_devices.specs.Devices.{Device}
 use Rattle.fd_devices.specs.Scripted.{device_of, devices_from}
 use Rattle.fd_devices.specs.Settings.{AreOwn, Settings, after, bank_count, own, power_count, tap_count}
+use Rattle.fd_devices.proofs.CallerLemmas.{first_left}
 use Rattle.fd_network.specs.Collecting.{AreTakenFrom, HasPlace, IsTakenAt}
 
 -- ---- the first of the rest
@@ -62,28 +64,13 @@ pub record IsAt (layout : LayoutView) (hertz : ℕ) (es : Elements) (ds : List D
   pub taken : AreTakenFrom layout hertz place (drop place es) left
   pub rest : devices_from layout hertz place (drop place es) left ≡ drop place ds
 
--- the next of a list
-pub drop_next : {A : Type 0} (xs : List A) (k : ℕ) (x : A) → slice_get xs k ≡ Some x → drop k xs ≡ x ∷ drop (k + 1) xs
-drop_next [] k x h = cc
-drop_next (y ∷ ys) zero x h = cc
-drop_next (y ∷ ys) (suc k) x h = drop_next ys k x h ∙ ap (λ n. x ∷ drop n (y ∷ ys)) (let e : suc (k + 1) ≡ suc k + 1 = omega arith in e)
-
--- a list, of which the rest is known
-pub drop_more : {A : Type 0} (xs : List A) (k : ℕ) (x : A) (rest : List A) → drop k xs ≡ x ∷ rest → rest ≡ drop (k + 1) xs
-drop_more [] zero x rest h = cc
-drop_more [] (suc k) x rest h = cc
-drop_more (y ∷ ys) zero x rest h = cc
-drop_more (y ∷ ys) (suc k) x rest h = drop_more ys k x rest h ∙ ap (λ n. drop n (y ∷ ys)) (let e : suc (k + 1) ≡ suc k + 1 = omega arith in e)
-
-pub take_more : {A : Type 0} (xs : List A) (k : ℕ) (x : A) (rest : List A) → drop k xs ≡ x ∷ rest → take (k + 1) xs ≡ take k xs ++ x ∷ []
-take_more [] zero x rest h = cc
-take_more [] (suc k) x rest h = cc
-take_more (y ∷ ys) zero x rest h = cc
-take_more (y ∷ ys) (suc k) x rest h = ap (λ n. take n (y ∷ ys)) (let e : suc k + 1 ≡ suc (k + 1) = omega arith in e) ∙ ap (λ zs. y ∷ zs) (take_more ys k x rest h)
+-- what stands at a place from which on the rest is known
+pub here_from : {A : Type 0} (xs : List A) (k : ℕ) (x : A) (rest : List A) → drop k xs ≡ x ∷ rest → slice_get xs k ≡ Some x
+here_from xs k x rest h = sym (first_left xs k) ∙ ap (λ ys. slice_get ys 0) h
 
 module _ (layout : LayoutView) (hertz : ℕ) (es : Elements) (ds : List Device) (place : ℕ) (left : Settings) (e : ElementName × Element) (here : slice_get es place ≡ Some e) (at : IsAt layout hertz es ds place left) where
   taken_here : AreTakenFrom layout hertz place (e ∷ drop (place + 1) es) left
-  taken_here = subst (λ r. AreTakenFrom layout hertz place r left) (drop_next es place e here) at.taken
+  taken_here = subst (λ r. AreTakenFrom layout hertz place r left) (drop-more es place e here) at.taken
 
   -- the element at the place is taken
   pub taken_at : IsTakenAt layout hertz place e.1 left
@@ -91,13 +78,13 @@ module _ (layout : LayoutView) (hertz : ℕ) (es : Elements) (ds : List Device) 
 
   -- its device is the next
   pub device_next : drop place ds ≡ device_of layout hertz place e.1 (own e.1 left) ∷ devices_from layout hertz (place + 1) (drop (place + 1) es) (after e.1 left)
-  device_next = sym at.rest ∙ ap (λ r. devices_from layout hertz place r left) (drop_next es place e here)
+  device_next = sym at.rest ∙ ap (λ r. devices_from layout hertz place r left) (drop-more es place e here)
 
   -- and the walk goes on
   pub next_at : IsAt layout hertz es ds (place + 1) (after e.1 left)
   next_at = record {
     taken = rest_taken layout hertz place e (drop (place + 1) es) left taken_here;
-    rest = drop_more ds place (device_of layout hertz place e.1 (own e.1 left)) _ device_next;
+    rest = ap (drop 1) (sym device_next ∙ drop-more ds place _ (here_from ds place _ _ device_next));
   }
 
 -- a walk begins

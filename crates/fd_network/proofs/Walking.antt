@@ -8,11 +8,12 @@ use Rattle.std.proofs.lemmas.Option.{slice_get-get_or}
 use Rattle.dss_profile.specs.declared.element.Element.{Element}
 use Rattle.dss_profile.specs.declared.names.ElementName.{ElementName}
 use Rattle.dss_layout.specs.Layout.{Elements, LayoutView}
+use Rattle.dss_layout.proofs.CallerLemmas.{take-more}
 use Rattle.fd_devices.specs.declared.kept.Kept.{Kept}
 use Rattle.fd_devices.specs.Devices.{Device}
 use Rattle.fd_devices.specs.Kept.{IsKeptOf}
 use Rattle.fd_devices.specs.Reach.{device_places}
-use Rattle.fd_network.proofs.Taking.{take_more}
+use Rattle.fd_network.proofs.Taking.{here_from}
 
 -- what is kept of the first n elements
 pub record AreKeptTo (layout : LayoutView) (hertz : ℕ) (es : Elements) (n : ℕ) (ks : List Kept) : Type 0 where
@@ -47,7 +48,7 @@ stands_at xs k x l e = slice_get-get_or xs k x l ∙ ap Some (sym e)
 pub places_more : (ds : List Device) (k : ℕ) (d : Device) (rest : List Device) (ps : List (ℕ × ℕ)) → drop k ds ≡ d ∷ rest → ps ≡ flat_map device_places (take k ds) → ps ++ device_places d ≡ flat_map device_places (take (k + 1) ds)
 places_more ds k d rest ps h e =
     let one = append-nil (device_places d) in
-    let more = ap (flat_map device_places) (take_more ds k d rest h) ∙ flat_map-append device_places (take k ds) (d ∷ []) in
+    let more = ap (flat_map device_places) (take-more ds k d (here_from ds k d rest h)) ∙ flat_map-append device_places (take k ds) (d ∷ []) in
     sym (more ∙ (λ i. sym e i ++ one i))
 
 module _ (layout : LayoutView) (hertz : ℕ) (es : Elements) where

@@ -6,6 +6,7 @@ use Rattle.std.proofs.lemmas.List.{take_all}
 use Rattle.std.proofs.lemmas.List.Elements.{All-append, All-cons, All-nil}
 use Rattle.std.proofs.lemmas.Result.{err_from_is_err_and}
 use Rattle.dss_layout.specs.Layout.{size_of}
+use Rattle.dss_layout.proofs.CallerLemmas.{take-more}
 use Rattle.fd_equations.specs.Patterns.{IsInside}
 use Rattle.fd_devices.specs.Building.{Fits}
 use Rattle.fd_devices.specs.Reach.{device_places}
@@ -14,7 +15,7 @@ use Rattle.fd_devices.specs.Settings.{own}
 use Rattle.fd_devices.proofs.CallerLemmas.{devices_length}
 use Rattle.fd_network.specs.Collecting.{settings_left}
 use Rattle.fd_network.proofs.Faulty.{misfit_first}
-use Rattle.fd_network.proofs.Taking.{IsAt, device_next, next_at, taken_at, take_more}
+use Rattle.fd_network.proofs.Taking.{IsAt, device_next, here_from, next_at, taken_at}
 use Rattle.fd_network.proofs.Walking.{AreKeptTo, kept_next, places_more}
 use Rattle.fd_network.proofs.keeping.keep.Goals as goal
 
@@ -75,7 +76,7 @@ loop-place-preserved c =
       at = subst (IsAt layout hertz es ds (place + 1)) (sym c.after-left.ensures) (next_at layout hertz es ds place left e here c.loop-place.invariant.at);
       kept = subst (AreKeptTo layout hertz es (place + 1)) (sym c.push_reserved.ensures.items) (kept_next layout hertz es place c.loop-place.kept.items e c.in_ok-one.one c.loop-place.invariant.kept here c.in_ok-one.ensures.kept);
       capacity = omega (arith, c.loop-place.invariant.capacity, c.push_reserved.ensures.capacity);
-      fits = subst (All Fits) (sym (take_more ds place d _ next)) (All-append Fits (take place ds) (d ∷ []) c.loop-place.invariant.fits (All-cons Fits d [] c.in_ok-one.ensures.settled.fits (All-nil Fits)));
+      fits = subst (All Fits) (sym (take-more ds place d (here_from ds place d _ next))) (All-append Fits (take place ds) (d ∷ []) c.loop-place.invariant.fits (All-cons Fits d [] c.in_ok-one.ensures.settled.fits (All-nil Fits)));
       places = more ∙ places_more ds place d _ c.loop-place.places.items next c.loop-place.invariant.places;
       inside = subst (All (IsInside size)) (sym more) (All-append (IsInside size) c.loop-place.places.items (device_places d) c.loop-place.invariant.inside c.in_ok-one.ensures.inside);
     }

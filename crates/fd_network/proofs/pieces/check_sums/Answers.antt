@@ -4,17 +4,17 @@ use Rattle.std.specs.Option.{option_map}
 use Rattle.std.specs.Map.Iter.{deref_pair}
 use Rattle.std.proofs.lemmas.List.{take_all}
 use Rattle.std.proofs.lemmas.List.Elements.{All-append, All-cons, All-nil}
+use Rattle.dss_layout.proofs.CallerLemmas.{take-more}
 use Rattle.fd_devices.specs.Building.{Fits, HasSmallSums}
 use Rattle.fd_devices.specs.Devices.{Added}
 use Rattle.fd_devices.specs.Scripted.{device_of, devices_from}
 use Rattle.fd_devices.specs.Settings.{own}
-use Rattle.fd_devices.proofs.CallerLemmas.{devices_length}
+use Rattle.fd_devices.proofs.CallerLemmas.{devices_length, room_then}
 use Rattle.fd_network.specs.Collecting.{settings_left}
 use Rattle.fd_network.specs.Faults.{has_small_sums}
 use Rattle.fd_network.proofs.Faulty.{first_at, holds_next, sums_decide}
-use Rattle.fd_network.proofs.Filling.{room_then}
 use Rattle.fd_network.proofs.Sums.{IsSmallAt}
-use Rattle.fd_network.proofs.Taking.{IsAt, device_next, next_at, taken_at, take_more}
+use Rattle.fd_network.proofs.Taking.{IsAt, device_next, here_from, next_at, taken_at}
 use Rattle.fd_network.proofs.Walking.{stands_at}
 use Rattle.fd_network.proofs.pieces.check_sums.Goals as goal
 
@@ -106,7 +106,7 @@ loop-place-preserved c =
     let here_small = subst (All (IsSmallAt all)) terms (c.have_small_sums.ensures.0 c.if-not-have_small_sums.false) in
     record {
       at = subst (IsAt layout hertz es ds (place + 1)) (sym c.after-left.ensures) (next_at layout hertz es ds place left e here c.loop-place.invariant.at);
-      small = subst (All P) (sym (take_more ds place d _ next)) (All-append P (take place ds) (d ∷ []) c.loop-place.invariant.small (All-cons P d [] here_small (All-nil P)));
+      small = subst (All P) (sym (take-more ds place d (here_from ds place d _ next))) (All-append P (take place ds) (d ∷ []) c.loop-place.invariant.small (All-cons P d [] here_small (All-nil P)));
       one = room_then c.args.one.now c.loop-place.one c.piece_at.new.into c.loop-place.invariant.one c.piece_at.ensures.room;
     }
 

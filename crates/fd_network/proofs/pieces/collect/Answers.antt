@@ -4,16 +4,17 @@ use Rattle.std.specs.Map.Iter.{deref_pair}
 use Rattle.std.proofs.lemmas.List.{take_all}
 use Rattle.std.proofs.lemmas.Result.{err_from_is_err_and}
 use Rattle.dss_layout.specs.Layout.{complex_count, size_of}
+use Rattle.dss_layout.proofs.CallerLemmas.{take-more}
 use Rattle.fd_devices.specs.Building.{AreCollected, Fits}
 use Rattle.fd_devices.specs.Devices.{added_of}
 use Rattle.fd_devices.specs.Scripted.{device_of, devices_from}
 use Rattle.fd_devices.specs.Settings.{own}
-use Rattle.fd_devices.proofs.CallerLemmas.{collected_more, devices_length}
+use Rattle.fd_devices.proofs.CallerLemmas.{collected_more, devices_length, room_then}
 use Rattle.fd_network.specs.Collecting.{settings_left}
 use Rattle.fd_network.specs.Faults.{fits}
 use Rattle.fd_network.proofs.Faulty.{first_at, fits_decides}
-use Rattle.fd_network.proofs.Filling.{few_next, fits_beside, room_then}
-use Rattle.fd_network.proofs.Taking.{IsAt, device_next, drop_next, next_at, taken_at, take_more}
+use Rattle.fd_network.proofs.Filling.{few_next, fits_beside}
+use Rattle.fd_network.proofs.Taking.{IsAt, device_next, here_from, next_at, taken_at}
 use Rattle.fd_network.proofs.Walking.{stands_at}
 use Rattle.fd_network.proofs.pieces.collect.Goals as goal
 
@@ -128,8 +129,8 @@ loop-place-preserved c =
     c.loop-place.invariant.made c.in_ok-piece_at.ensures.settled c.in_ok-piece_at.ensures.added c.append_reserved.ensures.added in
     record {
       at = subst (IsAt layout hertz es ds (place + 1)) (sym c.after-left.ensures) (next_at layout hertz es ds place left e here c.loop-place.invariant.at);
-      made = subst (λ xs. AreCollected m n size xs (take (place + 1) ds) (added_of c.append_reserved.new.self)) (sym (take_more es place e _ (drop_next es place e here)))
-          (subst (λ xs. AreCollected m n size (take place es ++ e ∷ []) xs (added_of c.append_reserved.new.self)) (sym (take_more ds place d _ next)) more);
+      made = subst (λ xs. AreCollected m n size xs (take (place + 1) ds) (added_of c.append_reserved.new.self)) (sym (take-more es place e here))
+          (subst (λ xs. AreCollected m n size (take place es ++ e ∷ []) xs (added_of c.append_reserved.new.self)) (sym (take-more ds place d (here_from ds place d _ next))) more);
       few = few_next es place e here (added_of c.loop-place.all) (added_of c.piece_at.new.into) (added_of c.append_reserved.new.self) c.loop-place.invariant.few c.in_ok-piece_at.ensures.few c.append_reserved.ensures.added;
       room = room_then c.clear.new.self c.loop-place.all c.append_reserved.new.self c.loop-place.invariant.room c.append_reserved.ensures.room;
       one = room_then c.args.one.now c.loop-place.one c.piece_at.new.into c.loop-place.invariant.one c.piece_at.ensures.room;
