@@ -1,5 +1,5 @@
 // The part loads of a load's phases, their contributions and what they draw.
-ghost use Rattle.std.specs.Prelude.{◌≡◌, ℕ, ◌+◌, ◌*◌, ◌<◌, ◌≤◌, ◌++◌, ◌^◌, ◌↔◌, [], ◌∷◌, pos, neg_ℤ, ◌*ℤ◌, nat_abs, IfOk, OnOk, IsTrue, All, length, vec_capacity};
+ghost use Rattle.std.specs.Prelude.{◌≡◌, ℕ, ◌+◌, ◌*◌, ◌<◌, ◌≤◌, ◌++◌, ◌^◌, ◌↔◌, [], ◌∷◌, pos, neg_ℤ, ◌*ℤ◌, nat_abs, IsTrue, All, length, vec_capacity};
 ghost use Rattle.std.specs.List.{flat_map};
 ghost use Rattle.fd_exact.specs.Sums.{list_n};
 ghost use Rattle.dss_profile.specs.InRange.{LoadInRange};
@@ -16,33 +16,12 @@ use fd_arith::{Nodes, Term};
 use fd_elements::{LoadPower, conn_of, load_phase};
 use fd_load::is_load_past;
 use fd_system::{LoadAt, NodePair, add_shunt, phase_pair, phase_pairs};
-use std::alloc::{AllocError, Global};
 
 // powers are in 10^-3 VA and voltages in microvolts, so a power over a voltage is in 10^9 microamperes
 const PER_UNIT: i128 = 1_000_000_000;
 
-/// The part loads of a load's phases at these nodes, with the powers of its phases.
-pub fn load_phases(
-    alloc: Global,
-    load: &Load,
-    nodes: &Nodes,
-    magnitude: u32,
-    powers: &[LoadPower],
-) -> Result<Vec<LoadAt>, AllocError>
-    requires range { LoadInRange load.now }
-    requires nodes { IsSide (node_count load.now.phases) nodes.now }
-    requires magnitude { magnitude < 2 ^ 31 }
-    requires powers { length powers.now ≡ load.now.phases }
-    requires modest { All IsModest powers.now }
-    ensures phases { IfOk result (λ us. us.items ≡ phases_of load.now nodes.now magnitude powers.now) }
-    ensures usable { IfOk result (λ us. All IsUsable us.items) }
-{
-    let mut phases = Vec::with_capacity(alloc, load.phases as usize)?;
-    load_phases_into(load, nodes, magnitude, powers, &mut phases);
-    Ok(phases)
-}
-
-/// Puts the part loads of `load_phases` into an empty list with room for them. Takes no memory.
+/// Puts the part loads of a load's phases at these nodes, with the powers of its phases, into an empty list with room
+/// for them. Takes no memory.
 pub fn load_phases_into(
     load: &Load,
     nodes: &Nodes,
@@ -109,19 +88,8 @@ fn is_in_limit(phase: &LoadAt) -> bool
     !is_load_past(&phase.load)
 }
 
-/// The contributions of phases of constant impedance; phases of constant power or current have none.
-pub fn linear_terms(alloc: Global, phases: &[LoadAt]) -> Result<Vec<Term>, AllocError>
-    requires usable { All IsUsable phases.now }
-    requires few { length phases.now ≤ 3 }
-    ensures terms { IfOk result (λ ts. ts.items ≡ flat_map linear_list phases.now) }
-    ensures divided { IfOk result (λ ts. All IsDivided ts.items) }
-{
-    let mut terms = Vec::with_capacity(alloc, 16 * phases.len())?;
-    linear_terms_into(phases, &mut terms);
-    Ok(terms)
-}
-
-/// Puts the contributions of `linear_terms` into an empty list with room for 16 of each phase. Takes no memory.
+/// Puts the contributions of phases of constant impedance into an empty list with room for 16 of each phase; phases of
+/// constant power or current have none. Takes no memory.
 pub fn linear_terms_into(phases: &[LoadAt], into: &mut Vec<Term>)
     requires usable { All IsUsable phases.now }
     requires empty { into.old.items ≡ [] }

@@ -10,30 +10,26 @@ ghost use Rattle.fd_system.specs.Terminals.{IsSide, node_count};
 ghost use Rattle.fd_line.specs.Line.{IsBetween};
 ghost use Rattle.fd_line.specs.Totals.{IsLine};
 ghost use Rattle.fd_source.specs.Equations.{IsPlaced, IsSource, constants_from};
-ghost use Rattle.fd_xfmr.specs.Leakage.{AreTaps, IsXfmr};
+ghost use Rattle.fd_xfmr.specs.Leakage.{AreTaps};
 ghost use Rattle.fd_xfmr.specs.Transformer.{IsBetween as IsXfmrBetween};
-ghost use Rattle.fd_cap.specs.Capacitor.{IsCap};
 ghost use Rattle.fd_elements.specs.Lines.{line_data_of};
 ghost use Rattle.fd_devices.specs.Devices.{added_by, added_by_all, added_of, capacitor as capacitor_device, line as line_device, loads as load_device, source as source_device, transformer as transformer_device};
 ghost use Rattle.fd_devices.specs.Data.{cap_data_of, xfmr_data_of};
 ghost use Rattle.fd_elements.specs.Sources.{source_data_of};
 ghost use Rattle.fd_devices.specs.Settings.{AreOwn, settings_in};
 ghost use Rattle.fd_devices.specs.Scripted.{device_of, phases_of};
-ghost use Rattle.fd_devices.specs.Building.{Fits, IsModest, IsSettled, IsUsable};
+ghost use Rattle.fd_devices.specs.Building.{Fits, IsModest, IsSettled};
 ghost use Rattle.fd_devices.specs.Sound.{HasBranches, HasMagnitudes, IsSideOf, IsSited, IsSound};
 
-use crate::data::{cap_data, xfmr_data};
-use crate::phase_loads::{are_in_limits, linear_terms, load_phases, total_draw};
 use crate::settings::OwnSettings;
+use crate::writers::{capacitor_into, load_into, transformer_into};
 use dss_layout::Layout;
 use dss_profile::{Capacitor, Element, Line, Load, Transformer, Vsource};
 use fd_arith::{Ends, Nodes, TapPair, Term, TermFault};
-use fd_cap::{CapData, cap_draw, cap_terms};
 use fd_elements::{LoadPower, line_data, source_data};
 use fd_line::{LineData, line_terms};
 use fd_source::{SourceData, SourceTerms, source_terms};
-use fd_system::{Constant, LoadAt, all_within};
-use fd_xfmr::{XfmrData, xfmr_terms};
+use fd_system::{Constant, LoadAt};
 use std::alloc::{AllocError, Global};
 
 /// The constants, contributions and part loads of devices, in order, and what they draw at nominal voltage in whole microamperes.
@@ -147,28 +143,9 @@ pub fn transformer_piece(
     ensures settled { IfOk result (λ p. (m n size : ℕ) → IsSideOf n (node_count xfmr.now.phases) at.now.first → IsSideOf n (node_count xfmr.now.phases) at.now.second → HasBranches n xfmr.now.phases at.now → IsSettled m n size xfmr.now.phases (transformer_device (xfmr_data_of xfmr.now) taps at.now)) }
     ensures range { result ≡ Err TermFault.Range → ¬ (Fits (transformer_device (xfmr_data_of xfmr.now) taps at.now)) }
 {
-    transformer_at(alloc, &xfmr_data(xfmr), taps, at)
-}
-
-fn transformer_at(
-    alloc: Global,
-    xfmr: &XfmrData,
-    taps: TapPair,
-    at: &Ends,
-) -> Result<Piece, TermFault>
-    requires xfmr { IsXfmr xfmr.now }
-    requires taps { AreTaps taps }
-    requires at { IsXfmrBetween xfmr.now.phases at.now }
-    ensures added { IfOk result (λ p. added_of p ≡ added_by (transformer_device xfmr.now taps at.now)) }
-    ensures settled { IfOk result (λ p. (m n size : ℕ) → IsSideOf n (node_count xfmr.now.phases) at.now.first → IsSideOf n (node_count xfmr.now.phases) at.now.second → HasBranches n xfmr.now.phases at.now → IsSettled m n size xfmr.now.phases (transformer_device xfmr.now taps at.now)) }
-    ensures range { result ≡ Err TermFault.Range → ¬ (Fits (transformer_device xfmr.now taps at.now)) }
-{
-    Ok(Piece {
-        constants: Vec::new(alloc),
-        terms: xfmr_terms(alloc, xfmr, taps, at)?,
-        loads: Vec::new(alloc),
-        draw: 0,
-    })
+    let mut piece = Piece::with_room(alloc, 64, 0, 0)?;
+    transformer_into(&mut piece, xfmr, taps, at)?;
+    Ok(piece)
 }
 
 /// What a capacitor bank adds at its nodes, closed or open. Range exactly where a contribution is past 2^54 in units of 2^-40.
@@ -184,22 +161,9 @@ pub fn capacitor_piece(
     ensures settled { IfOk result (λ p. (m n size : ℕ) → IsSideOf n (node_count bank.now.phases) at.now.first → IsSettled m n size 0 (capacitor_device (cap_data_of bank.now) closed at.now)) }
     ensures range { result ≡ Err TermFault.Range → ¬ (Fits (capacitor_device (cap_data_of bank.now) closed at.now)) }
 {
-    capacitor_at(alloc, &cap_data(bank), closed, at)
-}
-
-fn capacitor_at(alloc: Global, bank: &CapData, closed: bool, at: &Ends) -> Result<Piece, TermFault>
-    requires bank { IsCap bank.now }
-    requires at { IsSide (node_count bank.now.phases) at.now.first }
-    ensures added { IfOk result (λ p. added_of p ≡ added_by (capacitor_device bank.now closed at.now)) }
-    ensures settled { IfOk result (λ p. (m n size : ℕ) → IsSideOf n (node_count bank.now.phases) at.now.first → IsSettled m n size 0 (capacitor_device bank.now closed at.now)) }
-    ensures range { result ≡ Err TermFault.Range → ¬ (Fits (capacitor_device bank.now closed at.now)) }
-{
-    Ok(Piece {
-        constants: Vec::new(alloc),
-        terms: cap_terms(alloc, bank, closed, at)?,
-        loads: Vec::new(alloc),
-        draw: cap_draw(bank, closed),
-    })
+    let mut piece = Piece::with_room(alloc, 64, 0, 0)?;
+    capacitor_into(&mut piece, bank, closed, at)?;
+    Ok(piece)
 }
 
 /// What a load adds at its nodes, with the powers of its phases; the first magnitude of a load of constant current stands at the place
@@ -220,31 +184,9 @@ pub fn load_piece(
     ensures settled { IfOk result (λ p. (m n size : ℕ) → m ≤ n → IsSideOf m (node_count load.now.phases) nodes.now → (load.now.model ≡ 5 → HasMagnitudes n size load.now.phases magnitude) → IsSettled m n size 0 (load_device (phases_of load.now nodes.now magnitude powers.now))) }
     ensures range { result ≡ Err TermFault.Range → ¬ (Fits (load_device (phases_of load.now nodes.now magnitude powers.now))) }
 {
-    let phases = load_phases(alloc, load, nodes, magnitude, powers)?;
-    phases_at(alloc, phases)
-}
-
-fn phases_at(alloc: Global, phases: Vec<LoadAt>) -> Result<Piece, TermFault>
-    requires usable { All IsUsable phases.items }
-    requires few { length phases.items ≤ 3 }
-    ensures added { IfOk result (λ p. added_of p ≡ added_by (load_device phases.items)) }
-    ensures fits { IfOk result (λ p. Fits (load_device phases.items)) }
-    ensures range { result ≡ Err TermFault.Range → ¬ (Fits (load_device phases.items)) }
-{
-    if !are_in_limits(&phases) {
-        return Err(TermFault::Range);
-    }
-    let terms = linear_terms(alloc, &phases)?;
-    if !all_within(&terms) {
-        return Err(TermFault::Range);
-    }
-    let draw = total_draw(&phases);
-    Ok(Piece {
-        constants: Vec::new(alloc),
-        terms,
-        loads: phases,
-        draw,
-    })
+    let mut piece = Piece::with_room(alloc, 48, 3, 0)?;
+    load_into(&mut piece, load, nodes, magnitude, powers)?;
+    Ok(piece)
 }
 
 /// What an element adds that stands at a place in order, at the circuit's frequency in hertz and with its own settings.
