@@ -6,14 +6,14 @@ use Rattle.fd_system.specs.Contributions.{IsSmall}
 use Rattle.fd_equations.specs.PatternPlaces.{load_places, place_of}
 use Rattle.dss_profile.specs.declared.element.Element.{Element}
 use Rattle.dss_profile.specs.declared.element.Element.TheVariants as the
-use Rattle.dss_layout.specs.Layout.{LayoutView, branch_phases, complex_count, ends_of, size_of}
+use Rattle.dss_layout.specs.Layout.{LayoutView, ends_of}
 use Rattle.fd_devices.specs.declared.kept.Kept.{Kept}
 use Rattle.fd_devices.specs.declared.pieces.Piece.{Piece}
-use Rattle.fd_devices.specs.Building.{IsSettled}
 use Rattle.fd_devices.specs.Devices.{Added, added_by, added_of}
 use Rattle.fd_devices.specs.Reach.{bank_places, transformer_places}
 use Rattle.fd_devices.specs.Scripted.{device_of}
 use Rattle.fd_devices.specs.Settings.{Settings}
+use Rattle.fd_devices.specs.Standing.{IsSettledAt}
 
 -- ---- room
 
@@ -70,7 +70,7 @@ is_moved e = false
 pub record IsKeptOf (layout : LayoutView) (hertz place : ℕ) (e : Element) (k : Kept) : Type 0 where
   pub at : k.at ≡ ends_of layout place e
   pub added : is_moved e ≡ false → (s : Settings) → added_of k.piece ≡ added_by (device_of layout hertz place e s)
-  pub settled : is_moved e ≡ false → (s : Settings) → IsSettled (length layout.nodes) (complex_count layout) (size_of layout) (branch_phases e) (device_of layout hertz place e s)
+  pub settled : is_moved e ≡ false → (s : Settings) → IsSettledAt layout hertz place e s
 
 -- the places that it can reach, at these ends and by what it adds at any settings
 abbrev pub reach_of : Element → Ends → Added → List (ℕ × ℕ)

@@ -4,6 +4,7 @@ pub mod Settings
 pub mod Scripted
 pub mod Sound
 pub mod Building
+pub mod Standing
 pub mod Snapshot
 pub mod Hours
 pub mod Places

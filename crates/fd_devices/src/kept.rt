@@ -2,9 +2,8 @@
 ghost use Rattle.std.specs.Prelude.{◌≡◌, ◌+◌, ◌*◌, ◌<◌, ◌≤◌, ◌^◌, ◌++◌, [], ◌∷◌, IfOk, IfErr, OnOk, All, Err, length};
 ghost use Rattle.dss_profile.specs.Ranges.{IsOneOf};
 ghost use Rattle.dss_profile.specs.InRange.{ElementInRange};
-ghost use Rattle.dss_layout.specs.Limits.{most_complex};
-ghost use Rattle.dss_layout.specs.Layout.{branch_phases, complex_count, ends_of, first_magnitude, size_of};
-ghost use Rattle.fd_devices.specs.Building.{Fits, IsModest, IsSettled};
+ghost use Rattle.dss_layout.specs.Layout.{size_of};
+ghost use Rattle.fd_devices.specs.Building.{Fits, IsModest};
 ghost use Rattle.fd_devices.specs.Devices.{added_by, added_of};
 ghost use Rattle.fd_system.specs.Contributions.{IsSmall};
 ghost use Rattle.fd_equations.specs.Patterns.{IsInside};
@@ -12,7 +11,7 @@ ghost use Rattle.fd_devices.specs.Kept.{AreFewOf, AreSmallEnds, HasRoom, IsKeptO
 ghost use Rattle.fd_devices.specs.Reach.{device_places};
 ghost use Rattle.fd_devices.specs.Scripted.{device_of};
 ghost use Rattle.fd_devices.specs.Settings.{AreOwn, settings_in};
-ghost use Rattle.fd_devices.specs.Sound.{IsSited, IsSound};
+ghost use Rattle.fd_devices.specs.Standing.{HasPlace, IsReadyAt, IsSettledAt, KnowsMagnitudes};
 
 use crate::pieces::{Piece, piece_of};
 use crate::reached::{add_bank_places, add_transformer_places};
@@ -95,21 +94,19 @@ pub fn kept_of(
     element: &Element,
     own: &OwnSettings,
 ) -> Result<Kept, TermFault>
-    requires place { place < length layout.now.branches_before }
-    requires magnitudes { place < length layout.now.magnitudes_before }
-    requires few { complex_count layout.now ≤ most_complex }
-    requires magnitude { first_magnitude layout.now place < 2 ^ 31 }
+    requires place { HasPlace layout.now place }
+    requires ready { IsReadyAt layout.now place element.now }
     requires frequency { IsOneOf (50 ∷ 60 ∷ []) hertz }
-    requires range { ElementInRange element.now }
-    requires sound { IsSound element.now }
-    requires sited { IsSited (length layout.now.nodes) (complex_count layout.now) (size_of layout.now) (first_magnitude layout.now place) (ends_of layout.now place element.now) element.now }
     requires own { AreOwn element.now (settings_in own.now) }
     requires modest { All IsModest own.now.powers.now }
     ensures kept { IfOk result (λ k. IsKeptOf layout.now hertz place element.now k) }
-    ensures settled { IfOk result (λ k. IsSettled (length layout.now.nodes) (complex_count layout.now) (size_of layout.now) (branch_phases element.now) (device_of layout.now hertz place element.now (settings_in own.now))) }
-    ensures places { IfOk result (λ k. places.new.items ≡ places.old.items ++ device_places (device_of layout.now hertz place element.now (settings_in own.now))) }
-    ensures inside { IfOk result (λ k. All (IsInside (size_of layout.now)) (device_places (device_of layout.now hertz place element.now (settings_in own.now)))) }
-    ensures range { result ≡ Err TermFault.Range → ¬ (Fits (device_of layout.now hertz place element.now (settings_in own.now))) }
+    ensures settled { IfOk result (λ k. IsSettledAt layout.now hertz place element.now (settings_in own.now)) }
+    ensures places { IfOk result (λ k. places.new.items
+        ≡ places.old.items ++ device_places (device_of layout.now hertz place element.now (settings_in own.now))) }
+    ensures inside { IfOk result (λ k. All (IsInside (size_of layout.now))
+        (device_places (device_of layout.now hertz place element.now (settings_in own.now)))) }
+    ensures range { result ≡ Err TermFault.Range
+        → ¬ (Fits (device_of layout.now hertz place element.now (settings_in own.now))) }
 {
     let piece = piece_of(alloc, layout, hertz, place, element, own)?;
     let at = layout.ends(alloc, place, element)?;
@@ -158,20 +155,18 @@ pub fn piece_into(
     own: &OwnSettings,
     kept: &Kept,
 ) -> Result<(), TermFault>
-    requires place { place < length layout.now.magnitudes_before }
-    requires few { complex_count layout.now ≤ most_complex }
-    requires magnitude { first_magnitude layout.now place < 2 ^ 31 }
-    requires range { ElementInRange element.now }
-    requires sound { IsSound element.now }
-    requires sited { IsSited (length layout.now.nodes) (complex_count layout.now) (size_of layout.now) (first_magnitude layout.now place) (ends_of layout.now place element.now) element.now }
+    requires place { KnowsMagnitudes layout.now place }
+    requires ready { IsReadyAt layout.now place element.now }
     requires own { AreOwn element.now (settings_in own.now) }
     requires modest { All IsModest own.now.powers.now }
     requires kept { IsKeptOf layout.now hertz place element.now kept.now }
     requires room { HasRoom into.old 256 9 6 }
-    ensures added { OnOk result (added_of into.new ≡ added_by (device_of layout.now hertz place element.now (settings_in own.now))) }
-    ensures settled { OnOk result (IsSettled (length layout.now.nodes) (complex_count layout.now) (size_of layout.now) (branch_phases element.now) (device_of layout.now hertz place element.now (settings_in own.now))) }
+    ensures added { OnOk result (added_of into.new
+        ≡ added_by (device_of layout.now hertz place element.now (settings_in own.now))) }
+    ensures settled { OnOk result (IsSettledAt layout.now hertz place element.now (settings_in own.now)) }
     ensures few { OnOk result (AreFewOf element.now (added_of into.new)) }
-    ensures range { IfErr result (λ e. (e ≡ TermFault.Range) × ¬ (Fits (device_of layout.now hertz place element.now (settings_in own.now)))) }
+    ensures range { IfErr result (λ e. (e ≡ TermFault.Range)
+        × ¬ (Fits (device_of layout.now hertz place element.now (settings_in own.now)))) }
     ensures room { IsRoomSame into.old into.new }
 {
     // it counts in what is kept of a line

@@ -1,9 +1,7 @@
 // What each device adds to a network.
 ghost use Rattle.std.specs.Prelude.{◌≡◌, ℕ, ◌+◌, ◌*◌, ◌<◌, ◌≤◌, ◌^◌, false, [], ◌∷◌, IfOk, IsSome, All, length};
 ghost use Rattle.dss_profile.specs.Ranges.{IsOneOf};
-ghost use Rattle.dss_profile.specs.InRange.{CapacitorInRange, ElementInRange, LineInRange, LoadInRange, TransformerInRange, VsourceInRange};
-ghost use Rattle.dss_layout.specs.Limits.{most_complex};
-ghost use Rattle.dss_layout.specs.Layout.{branch_phases, complex_count, ends_of, first_magnitude, size_of};
+ghost use Rattle.dss_profile.specs.InRange.{CapacitorInRange, LineInRange, LoadInRange, TransformerInRange, VsourceInRange};
 ghost use Rattle.dss_profile.specs.Sound.{are_matrices_wrong};
 ghost use Rattle.dss_profile.specs.Sound.{is_source_outside};
 ghost use Rattle.fd_system.specs.Terminals.{IsSide, node_count};
@@ -18,8 +16,8 @@ ghost use Rattle.fd_devices.specs.Data.{cap_data_of, xfmr_data_of};
 ghost use Rattle.fd_elements.specs.Sources.{source_data_of};
 ghost use Rattle.fd_devices.specs.Settings.{AreOwn, settings_in};
 ghost use Rattle.fd_devices.specs.Scripted.{device_of, phases_of};
-ghost use Rattle.fd_devices.specs.Building.{Fits, IsModest, IsSettled};
-ghost use Rattle.fd_devices.specs.Sound.{HasBranches, HasMagnitudes, IsSideOf, IsSited, IsSound};
+ghost use Rattle.fd_devices.specs.Building.{Fits, IsModest};
+ghost use Rattle.fd_devices.specs.Standing.{HasPlace, IsReadyAt, IsSettledAt, SettlesAsLoad, SettlesBehind, SettlesBetween, SettlesOn};
 
 use crate::settings::OwnSettings;
 use crate::writers::{capacitor_into, load_into, transformer_into};
@@ -61,7 +59,8 @@ pub fn source_piece(alloc: Global, source: &Vsource, at: &Ends) -> Result<Piece,
     requires sound { is_source_outside source.now ≡ false }
     requires at { IsPlaced source.now.phases at.now }
     ensures added { IfOk result (λ p. added_of p ≡ added_by (source_device (source_data_of source.now) at.now)) }
-    ensures settled { IfOk result (λ p. (m n size : ℕ) → IsSideOf n source.now.phases at.now.first → HasBranches n source.now.phases at.now → IsSettled m n size source.now.phases (source_device (source_data_of source.now) at.now)) }
+    ensures settled { IfOk result
+        (λ p. SettlesBehind source.now.phases at.now (source_device (source_data_of source.now) at.now)) }
     ensures range { result ≡ Err TermFault.Range → ¬ (Fits (source_device (source_data_of source.now) at.now)) }
 {
     let data = source_data(source)?;
@@ -72,7 +71,7 @@ fn source_at(alloc: Global, source: &SourceData, at: &Ends) -> Result<Piece, Ter
     requires source { IsSource source.now }
     requires at { IsPlaced source.now.phases at.now }
     ensures added { IfOk result (λ p. added_of p ≡ added_by (source_device source.now at.now)) }
-    ensures settled { IfOk result (λ p. (m n size : ℕ) → IsSideOf n source.now.phases at.now.first → HasBranches n source.now.phases at.now → IsSettled m n size source.now.phases (source_device source.now at.now)) }
+    ensures settled { IfOk result (λ p. SettlesBehind source.now.phases at.now (source_device source.now at.now)) }
     ensures range { result ≡ Err TermFault.Range → ¬ (Fits (source_device source.now at.now)) }
 {
     let SourceTerms { terms, constants } = source_terms(alloc, source, at)?;
@@ -107,7 +106,8 @@ pub fn line_piece(alloc: Global, line: &Line, hertz: u32, at: &Ends) -> Result<P
     requires frequency { IsOneOf (50 ∷ 60 ∷ []) hertz }
     requires at { IsBetween line.now.phases at.now }
     ensures added { IfOk result (λ p. added_of p ≡ added_by (line_device (line_data_of line.now hertz) at.now)) }
-    ensures settled { IfOk result (λ p. (m n size : ℕ) → IsSideOf n line.now.phases at.now.first → IsSideOf n line.now.phases at.now.second → HasBranches n line.now.phases at.now → IsSettled m n size line.now.phases (line_device (line_data_of line.now hertz) at.now)) }
+    ensures settled { IfOk result (λ p. SettlesBetween line.now.phases line.now.phases at.now
+        (line_device (line_data_of line.now hertz) at.now)) }
     ensures range { result ≡ Err TermFault.Range → ¬ (Fits (line_device (line_data_of line.now hertz) at.now)) }
 {
     let data = line_data(alloc, line, hertz)?;
@@ -118,7 +118,8 @@ fn line_at(alloc: Global, line: &LineData, at: &Ends) -> Result<Piece, TermFault
     requires line { IsLine line.now }
     requires at { IsBetween line.now.phases at.now }
     ensures added { IfOk result (λ p. added_of p ≡ added_by (line_device line.now at.now)) }
-    ensures settled { IfOk result (λ p. (m n size : ℕ) → IsSideOf n line.now.phases at.now.first → IsSideOf n line.now.phases at.now.second → HasBranches n line.now.phases at.now → IsSettled m n size line.now.phases (line_device line.now at.now)) }
+    ensures settled { IfOk result
+        (λ p. SettlesBetween line.now.phases line.now.phases at.now (line_device line.now at.now)) }
     ensures range { result ≡ Err TermFault.Range → ¬ (Fits (line_device line.now at.now)) }
 {
     Ok(Piece {
@@ -140,7 +141,8 @@ pub fn transformer_piece(
     requires taps { AreTaps taps }
     requires at { IsXfmrBetween xfmr.now.phases at.now }
     ensures added { IfOk result (λ p. added_of p ≡ added_by (transformer_device (xfmr_data_of xfmr.now) taps at.now)) }
-    ensures settled { IfOk result (λ p. (m n size : ℕ) → IsSideOf n (node_count xfmr.now.phases) at.now.first → IsSideOf n (node_count xfmr.now.phases) at.now.second → HasBranches n xfmr.now.phases at.now → IsSettled m n size xfmr.now.phases (transformer_device (xfmr_data_of xfmr.now) taps at.now)) }
+    ensures settled { IfOk result (λ p. SettlesBetween (node_count xfmr.now.phases) xfmr.now.phases at.now
+        (transformer_device (xfmr_data_of xfmr.now) taps at.now)) }
     ensures range { result ≡ Err TermFault.Range → ¬ (Fits (transformer_device (xfmr_data_of xfmr.now) taps at.now)) }
 {
     let mut piece = Piece::with_room(alloc, 64, 0, 0)?;
@@ -158,7 +160,8 @@ pub fn capacitor_piece(
     requires range { CapacitorInRange bank.now }
     requires at { IsSide (node_count bank.now.phases) at.now.first }
     ensures added { IfOk result (λ p. added_of p ≡ added_by (capacitor_device (cap_data_of bank.now) closed at.now)) }
-    ensures settled { IfOk result (λ p. (m n size : ℕ) → IsSideOf n (node_count bank.now.phases) at.now.first → IsSettled m n size 0 (capacitor_device (cap_data_of bank.now) closed at.now)) }
+    ensures settled { IfOk result (λ p. SettlesOn (node_count bank.now.phases) at.now.first
+        (capacitor_device (cap_data_of bank.now) closed at.now)) }
     ensures range { result ≡ Err TermFault.Range → ¬ (Fits (capacitor_device (cap_data_of bank.now) closed at.now)) }
 {
     let mut piece = Piece::with_room(alloc, 64, 0, 0)?;
@@ -180,9 +183,12 @@ pub fn load_piece(
     requires magnitude { magnitude < 2 ^ 31 }
     requires powers { length powers.now ≡ load.now.phases }
     requires modest { All IsModest powers.now }
-    ensures added { IfOk result (λ p. added_of p ≡ added_by (load_device (phases_of load.now nodes.now magnitude powers.now))) }
-    ensures settled { IfOk result (λ p. (m n size : ℕ) → m ≤ n → IsSideOf m (node_count load.now.phases) nodes.now → (load.now.model ≡ 5 → HasMagnitudes n size load.now.phases magnitude) → IsSettled m n size 0 (load_device (phases_of load.now nodes.now magnitude powers.now))) }
-    ensures range { result ≡ Err TermFault.Range → ¬ (Fits (load_device (phases_of load.now nodes.now magnitude powers.now))) }
+    ensures added { IfOk result (λ p. added_of p
+        ≡ added_by (load_device (phases_of load.now nodes.now magnitude powers.now))) }
+    ensures settled { IfOk result (λ p. SettlesAsLoad load.now nodes.now magnitude
+        (load_device (phases_of load.now nodes.now magnitude powers.now))) }
+    ensures range { result ≡ Err TermFault.Range
+        → ¬ (Fits (load_device (phases_of load.now nodes.now magnitude powers.now))) }
 {
     let mut piece = Piece::with_room(alloc, 48, 3, 0)?;
     load_into(&mut piece, load, nodes, magnitude, powers)?;
@@ -199,19 +205,16 @@ pub fn piece_of(
     element: &Element,
     own: &OwnSettings,
 ) -> Result<Piece, TermFault>
-    requires place { place < length layout.now.branches_before }
-    requires magnitudes { place < length layout.now.magnitudes_before }
-    requires few { complex_count layout.now ≤ most_complex }
-    requires magnitude { first_magnitude layout.now place < 2 ^ 31 }
+    requires place { HasPlace layout.now place }
+    requires ready { IsReadyAt layout.now place element.now }
     requires frequency { IsOneOf (50 ∷ 60 ∷ []) hertz }
-    requires range { ElementInRange element.now }
-    requires sound { IsSound element.now }
-    requires sited { IsSited (length layout.now.nodes) (complex_count layout.now) (size_of layout.now) (first_magnitude layout.now place) (ends_of layout.now place element.now) element.now }
     requires own { AreOwn element.now (settings_in own.now) }
     requires modest { All IsModest own.now.powers.now }
-    ensures added { IfOk result (λ p. added_of p ≡ added_by (device_of layout.now hertz place element.now (settings_in own.now))) }
-    ensures settled { IfOk result (λ p. IsSettled (length layout.now.nodes) (complex_count layout.now) (size_of layout.now) (branch_phases element.now) (device_of layout.now hertz place element.now (settings_in own.now))) }
-    ensures range { result ≡ Err TermFault.Range → ¬ (Fits (device_of layout.now hertz place element.now (settings_in own.now))) }
+    ensures added { IfOk result (λ p. added_of p
+        ≡ added_by (device_of layout.now hertz place element.now (settings_in own.now))) }
+    ensures settled { IfOk result (λ p. IsSettledAt layout.now hertz place element.now (settings_in own.now)) }
+    ensures range { result ≡ Err TermFault.Range
+        → ¬ (Fits (device_of layout.now hertz place element.now (settings_in own.now))) }
 {
     match element {
         Element::Vsource(source) => {

@@ -5,12 +5,12 @@ ghost use Rattle.fd_system.specs.Terminals.{IsSide, node_count};
 ghost use Rattle.fd_xfmr.specs.Leakage.{AreTaps, IsXfmr};
 ghost use Rattle.fd_xfmr.specs.Transformer.{IsBetween as IsXfmrBetween};
 ghost use Rattle.fd_cap.specs.Capacitor.{IsCap};
-ghost use Rattle.fd_devices.specs.Building.{Fits, IsModest, IsSettled, IsUsable};
+ghost use Rattle.fd_devices.specs.Building.{Fits, IsModest, IsUsable};
 ghost use Rattle.fd_devices.specs.Data.{cap_data_of, xfmr_data_of};
 ghost use Rattle.fd_devices.specs.Devices.{added_by, added_by_all, added_of, beside, capacitor as capacitor_device, loads as load_device, transformer as transformer_device};
 ghost use Rattle.fd_devices.specs.Kept.{HasRoom, IsRoomSame};
 ghost use Rattle.fd_devices.specs.Scripted.{phases_of};
-ghost use Rattle.fd_devices.specs.Sound.{HasBranches, HasMagnitudes, IsSideOf};
+ghost use Rattle.fd_devices.specs.Standing.{SettlesAsLoad, SettlesBetween, SettlesOn};
 
 use crate::data::{cap_data, xfmr_data};
 use crate::phase_loads::{are_in_limits, linear_terms_into, load_phases_into, total_draw};
@@ -61,7 +61,8 @@ impl Piece {
         requires draw { self.old.draw + more.now.draw < 2 ^ 128 }
         requires terms { length self.old.terms.items + length more.now.terms.items ≤ vec_capacity self.old.terms }
         requires loads { length self.old.loads.items + length more.now.loads.items ≤ vec_capacity self.old.loads }
-        requires constants { length self.old.constants.items + length more.now.constants.items ≤ vec_capacity self.old.constants }
+        requires constants { length self.old.constants.items + length more.now.constants.items
+            ≤ vec_capacity self.old.constants }
         ensures added { added_of self.new ≡ beside (added_of self.old) (added_of more.now) }
         ensures room { IsRoomSame self.old self.new }
     {
@@ -95,10 +96,13 @@ pub fn transformer_into(
     requires taps { AreTaps taps }
     requires at { IsXfmrBetween xfmr.now.phases at.now }
     requires room { 64 ≤ vec_capacity into.old.terms }
-    ensures added { OnOk result (added_of into.new ≡ added_by (transformer_device (xfmr_data_of xfmr.now) taps at.now)) }
-    ensures settled { OnOk result ((m n size : ℕ) → IsSideOf n (node_count xfmr.now.phases) at.now.first → IsSideOf n (node_count xfmr.now.phases) at.now.second → HasBranches n xfmr.now.phases at.now → IsSettled m n size xfmr.now.phases (transformer_device (xfmr_data_of xfmr.now) taps at.now)) }
+    ensures added { OnOk result (added_of into.new
+        ≡ added_by (transformer_device (xfmr_data_of xfmr.now) taps at.now)) }
+    ensures settled { OnOk result (SettlesBetween (node_count xfmr.now.phases) xfmr.now.phases at.now
+        (transformer_device (xfmr_data_of xfmr.now) taps at.now)) }
     ensures few { OnOk result (length into.new.terms.items ≤ 60) }
-    ensures range { IfErr result (λ e. (e ≡ TermFault.Range) × ¬ (Fits (transformer_device (xfmr_data_of xfmr.now) taps at.now))) }
+    ensures range { IfErr result (λ e. (e ≡ TermFault.Range)
+        × ¬ (Fits (transformer_device (xfmr_data_of xfmr.now) taps at.now))) }
     ensures room { IsRoomSame into.old into.new }
 {
     transformer_data_into(into, &xfmr_data(xfmr), taps, at)
@@ -115,7 +119,8 @@ fn transformer_data_into(
     requires at { IsXfmrBetween xfmr.now.phases at.now }
     requires room { 64 ≤ vec_capacity into.old.terms }
     ensures added { OnOk result (added_of into.new ≡ added_by (transformer_device xfmr.now taps at.now)) }
-    ensures settled { OnOk result ((m n size : ℕ) → IsSideOf n (node_count xfmr.now.phases) at.now.first → IsSideOf n (node_count xfmr.now.phases) at.now.second → HasBranches n xfmr.now.phases at.now → IsSettled m n size xfmr.now.phases (transformer_device xfmr.now taps at.now)) }
+    ensures settled { OnOk result (SettlesBetween (node_count xfmr.now.phases) xfmr.now.phases at.now
+        (transformer_device xfmr.now taps at.now)) }
     ensures few { OnOk result (length into.new.terms.items ≤ 60) }
     ensures range { IfErr result (λ e. (e ≡ TermFault.Range) × ¬ (Fits (transformer_device xfmr.now taps at.now))) }
     ensures room { IsRoomSame into.old into.new }
@@ -137,9 +142,11 @@ pub fn capacitor_into(
     requires at { IsSide (node_count bank.now.phases) at.now.first }
     requires room { 64 ≤ vec_capacity into.old.terms }
     ensures added { OnOk result (added_of into.new ≡ added_by (capacitor_device (cap_data_of bank.now) closed at.now)) }
-    ensures settled { OnOk result ((m n size : ℕ) → IsSideOf n (node_count bank.now.phases) at.now.first → IsSettled m n size 0 (capacitor_device (cap_data_of bank.now) closed at.now)) }
+    ensures settled { OnOk result (SettlesOn (node_count bank.now.phases) at.now.first
+        (capacitor_device (cap_data_of bank.now) closed at.now)) }
     ensures few { OnOk result (length into.new.terms.items ≤ 24) }
-    ensures range { IfErr result (λ e. (e ≡ TermFault.Range) × ¬ (Fits (capacitor_device (cap_data_of bank.now) closed at.now))) }
+    ensures range { IfErr result (λ e. (e ≡ TermFault.Range)
+        × ¬ (Fits (capacitor_device (cap_data_of bank.now) closed at.now))) }
     ensures room { IsRoomSame into.old into.new }
 {
     capacitor_data_into(into, &cap_data(bank), closed, at)
@@ -155,7 +162,8 @@ fn capacitor_data_into(
     requires at { IsSide (node_count bank.now.phases) at.now.first }
     requires room { 64 ≤ vec_capacity into.old.terms }
     ensures added { OnOk result (added_of into.new ≡ added_by (capacitor_device bank.now closed at.now)) }
-    ensures settled { OnOk result ((m n size : ℕ) → IsSideOf n (node_count bank.now.phases) at.now.first → IsSettled m n size 0 (capacitor_device bank.now closed at.now)) }
+    ensures settled { OnOk result
+        (SettlesOn (node_count bank.now.phases) at.now.first (capacitor_device bank.now closed at.now)) }
     ensures few { OnOk result (length into.new.terms.items ≤ 24) }
     ensures range { IfErr result (λ e. (e ≡ TermFault.Range) × ¬ (Fits (capacitor_device bank.now closed at.now))) }
     ensures room { IsRoomSame into.old into.new }
@@ -184,11 +192,14 @@ pub fn load_into(
     requires modest { All IsModest powers.now }
     requires term_room { 48 ≤ vec_capacity into.old.terms }
     requires load_room { 3 ≤ vec_capacity into.old.loads }
-    ensures added { OnOk result (added_of into.new ≡ added_by (load_device (phases_of load.now nodes.now magnitude powers.now))) }
-    ensures settled { OnOk result ((m n size : ℕ) → m ≤ n → IsSideOf m (node_count load.now.phases) nodes.now → (load.now.model ≡ 5 → HasMagnitudes n size load.now.phases magnitude) → IsSettled m n size 0 (load_device (phases_of load.now nodes.now magnitude powers.now))) }
+    ensures added { OnOk result (added_of into.new
+        ≡ added_by (load_device (phases_of load.now nodes.now magnitude powers.now))) }
+    ensures settled { OnOk result (SettlesAsLoad load.now nodes.now magnitude
+        (load_device (phases_of load.now nodes.now magnitude powers.now))) }
     ensures few_terms { OnOk result (length into.new.terms.items ≤ 16 * load.now.phases) }
     ensures few_loads { OnOk result (length into.new.loads.items ≤ load.now.phases) }
-    ensures range { IfErr result (λ e. (e ≡ TermFault.Range) × ¬ (Fits (load_device (phases_of load.now nodes.now magnitude powers.now)))) }
+    ensures range { IfErr result (λ e. (e ≡ TermFault.Range)
+        × ¬ (Fits (load_device (phases_of load.now nodes.now magnitude powers.now)))) }
     ensures room { IsRoomSame into.old into.new }
 {
     into.clear();

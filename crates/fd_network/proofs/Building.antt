@@ -13,7 +13,8 @@ use Rattle.fd_devices.specs.Devices.{Device, share_of_all}
 use Rattle.fd_devices.specs.Scripted.{devices_from}
 use Rattle.fd_devices.specs.declared.kept.Kept.{Kept}
 use Rattle.fd_devices.specs.Settings.{AreSettings, Settings}
-use Rattle.fd_network.specs.Collecting.{AreTakenFrom, HasPlace}
+use Rattle.fd_devices.specs.Standing.{HasPlace}
+use Rattle.fd_network.specs.Collecting.{AreTakenFrom}
 use Rattle.fd_network.specs.Faults.{IsFaultOf, first_out_of_range, first_without, fits, has_small_sums, range_blame}
 use Rattle.fd_network.specs.Keeping.{AreKept, Reaches}
 use Rattle.fd_network.specs.Places.{AreReadyFrom}
@@ -26,9 +27,11 @@ use Rattle.fd_network.proofs.Ready.{branches_within, magnitudes_within, small_fi
 has_place : (es : Elements) (place : ℕ) → first_too_many es ≡ None → place < length es → HasPlace (layout_of es) place
 has_place es place few low = record {
   branches = branches_within es place low;
-  magnitudes = magnitudes_within es place low;
-  few = few_complex es few;
-  magnitude = small_first_magnitude es place few low;
+  magnitudes = record {
+    known = magnitudes_within es place low;
+    few = few_complex es few;
+    first = small_first_magnitude es place few low;
+  };
 }
 
 -- the elements of a circuit, with all its settings

@@ -6,7 +6,7 @@ use Rattle.dss_profile.specs.declared.names.ElementName.{ElementName}
 use Rattle.dss_layout.specs.Layout.{layout_of}
 use Rattle.dss_circuit.specs.Circuit.{CircuitView}
 use Rattle.dss_ready.specs.Ready.{HasPassed}
-use Rattle.fd_network.specs.Places.{IsReadyAt}
+use Rattle.fd_devices.specs.Standing.{IsReadyAt}
 use Rattle.fd_network.proofs.Ready.{ready_at}
 
 -- an element of a circuit that passed the tests of Solve is ready at its place

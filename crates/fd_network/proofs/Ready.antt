@@ -14,7 +14,8 @@ use Rattle.dss_ready.specs.Passed.{AreValuesFit}
 use Rattle.dss_ready.specs.Ready.{HasPassed}
 use Rattle.dss_ready.proofs.CallerLemmas.{passed}
 use Rattle.fd_devices.specs.Sound.{AreValuesSound, IsSound}
-use Rattle.fd_network.specs.Places.{AreReadyFrom, IsReadyAt}
+use Rattle.fd_devices.specs.Standing.{IsReadyAt}
+use Rattle.fd_network.specs.Places.{AreReadyFrom}
 use Rattle.fd_network.proofs.ReadyPlaces.{StandsAmong, sited, stands_among}
 use Rattle.fd_network.proofs.ReadySides.{side_counts}
 

@@ -1,5 +1,5 @@
 -- Elements taken one after another, each with its own settings.
-use Rattle.std.proofs.Common.{◌≡◌, ◌∙◌, ℕ, zero, suc, ◌+◌, ◌≤◌, List, [], ◌∷◌, ◌++◌, length, length-drop, take, drop, slice_get, Some, add-zero, arith, ap, sym, subst}
+use Rattle.std.proofs.Common.{◌≡◌, ◌∙◌, ℕ, suc, ◌+◌, ◌≤◌, List, ◌∷◌, length, length-drop, drop, slice_get, Some, add-zero, arith, ap, sym, subst}
 use Rattle.std.proofs.lemmas.List.{length-take-le}
 use Rattle.std.proofs.lemmas.List.Elements.{All-drop, All-take}
 use Rattle.dss_profile.specs.declared.element.Element.{Element}
@@ -12,7 +12,8 @@ use Rattle.fd_devices.specs.Devices.{Device}
 use Rattle.fd_devices.specs.Scripted.{device_of, devices_from}
 use Rattle.fd_devices.specs.Settings.{AreOwn, Settings, after, bank_count, own, power_count, tap_count}
 use Rattle.fd_devices.proofs.CallerLemmas.{first_left}
-use Rattle.fd_network.specs.Collecting.{AreTakenFrom, HasPlace, IsTakenAt}
+use Rattle.fd_devices.specs.Standing.{HasPlace}
+use Rattle.fd_network.specs.Collecting.{AreTakenFrom, IsTakenAt}
 
 -- ---- the first of the rest
 

@@ -1,17 +1,18 @@
 -- What elements in a layout must be so that what they add can be collected, and where they are out of range.
-use Rattle.std.specs.Prelude.{◌≡◌, ℕ, ◌+◌, ◌<◌, ◌≤◌, ◌^◌, [], ◌∷◌, length, All, Option, Some}
+use Rattle.std.specs.Prelude.{◌≡◌, ℕ, ◌+◌, ◌<◌, ◌≤◌, [], ◌∷◌, List, length, All, Option, Some}
 use Rattle.dss_profile.specs.Ranges.{IsOneOf}
 use Rattle.dss_profile.specs.declared.element.Element.{Element}
-use Rattle.dss_layout.specs.Limits.{most_complex}
-use Rattle.dss_layout.specs.Layout.{Elements, LayoutView, complex_count, first_magnitude}
+use Rattle.dss_layout.specs.Layout.{Elements, LayoutView}
 use Rattle.fd_xfmr.specs.Leakage.{AreTaps}
 use Rattle.fd_devices.specs.Building.{Fits, IsModest}
 use Rattle.fd_devices.specs.Devices.{Device}
-use Rattle.fd_devices.specs.Settings.{AreSettings, Settings, bank_count, power_count, tap_count}
+use Rattle.fd_devices.specs.Scripted.{device_of, devices_from}
+use Rattle.fd_devices.specs.Settings.{AreSettings, Settings, bank_count, own, power_count, tap_count}
+use Rattle.fd_devices.specs.Standing.{HasPlace, IsReadyAt}
 use Rattle.fd_network.specs.declared.fault.PlaceFault.{PlaceFault}
 use Rattle.fd_network.specs.declared.fault.PlaceFault.TheVariants as place_fault
 use Rattle.fd_network.specs.declared.settings.SettingsLeft.{SettingsLeft}
-use Rattle.fd_network.specs.Places.{AreReadyFrom, IsReadyAt}
+use Rattle.fd_network.specs.Places.{AreReadyFrom}
 
 -- ---- settings
 
@@ -26,13 +27,6 @@ pub record HasOwn (e : Element) (s : Settings) : Type 0 where
   pub powers : power_count e ≤ length s.powers
 
 -- ---- elements
-
--- at this place the layout of few unknowns knows the element's branches and magnitudes
-pub record HasPlace (layout : LayoutView) (place : ℕ) : Type 0 where
-  pub branches : place < length layout.branches_before
-  pub magnitudes : place < length layout.magnitudes_before
-  pub few : complex_count layout ≤ most_complex
-  pub magnitude : first_magnitude layout place < 2 ^ 31
 
 -- an element, ready at its place, with settings of which its own come first
 pub record IsTakenAt (layout : LayoutView) (hertz place : ℕ) (e : Element) (s : Settings) : Type 0 where
@@ -51,6 +45,16 @@ pub record AreTakenFrom (layout : LayoutView) (hertz place : ℕ) (elements : El
   pub settings : AreSettings elements s
   pub within : All AreTaps s.taps
   pub modest : All IsModest s.powers
+
+-- ---- devices
+
+-- that of an element at a place, with the first of the settings that are left
+abbrev pub device_at : LayoutView → ℕ → ℕ → Element → SettingsLeft → Device
+device_at layout hertz place e left = device_of layout hertz place e (own e (settings_left left))
+
+-- those of all elements, with all settings
+abbrev pub all_devices : LayoutView → ℕ → Elements → SettingsLeft → List Device
+all_devices layout hertz es left = devices_from layout hertz 0 es (settings_left left)
 
 -- ---- faults
 

@@ -1,17 +1,9 @@
--- An element of a circuit that passed the tests of Solve, at its place in order.
-use Rattle.std.specs.Prelude.{◌≡◌, ℕ, ◌+◌, [], ◌∷◌, length}
-use Rattle.dss_profile.specs.declared.element.Element.{Element}
-use Rattle.dss_profile.specs.InRange.{ElementInRange}
-use Rattle.dss_layout.specs.Layout.{Elements, LayoutView, complex_count, ends_of, first_magnitude, magnitude_phases, size_of}
-use Rattle.fd_devices.specs.Sound.{IsSited, IsSound}
+-- The elements of a circuit that passed the tests of Solve, at their places in order.
+use Rattle.std.specs.Prelude.{◌≡◌, ℕ, ◌+◌, [], ◌∷◌}
+use Rattle.dss_layout.specs.Layout.{Elements, LayoutView, first_magnitude, magnitude_phases}
+use Rattle.fd_devices.specs.Standing.{IsReadyAt}
 
--- its values are in range and sound, and its nodes, branches and magnitudes are among the unknowns of the layout
-pub record IsReadyAt (layout : LayoutView) (place : ℕ) (e : Element) : Type 0 where
-  pub in_range : ElementInRange e
-  pub sound : IsSound e
-  pub sited : IsSited (length layout.nodes) (complex_count layout) (size_of layout) (first_magnitude layout place) (ends_of layout place e) e
-
--- the same of elements of which the first stands at a place in order
+-- elements of which the first stands at a place in order, each ready at its place
 abbrev pub AreReadyFrom : LayoutView → ℕ → Elements → Type 0
 AreReadyFrom layout place [] = Unit {0}
 AreReadyFrom layout place (e ∷ es) = IsReadyAt layout place e.1 × AreReadyFrom layout (place + 1) es

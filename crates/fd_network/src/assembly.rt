@@ -10,9 +10,9 @@ ghost use Rattle.fd_equations.specs.Patterns.{IsInside};
 ghost use Rattle.fd_devices.specs.Building.{AreInRange, Fits};
 ghost use Rattle.fd_devices.specs.Devices.{AgreesWith, parts_of_all, share_of_all};
 ghost use Rattle.fd_devices.specs.Kept.{HasRoom, IsRoomSame};
-ghost use Rattle.fd_devices.specs.Scripted.{devices_from, devices_network};
+ghost use Rattle.fd_devices.specs.Scripted.{devices_network};
 ghost use Rattle.fd_network.specs.Assembled.{AreExchanged, CanTake, HaveListsRoom, HavePartsRoom, HaveRoom, IsAsBefore, parts_network};
-ghost use Rattle.fd_network.specs.Collecting.{AreTakenFrom, settings_left};
+ghost use Rattle.fd_network.specs.Collecting.{AreTakenFrom, all_devices, settings_left};
 ghost use Rattle.fd_network.specs.Faults.{first_out_of_range, first_without, has_small_sums};
 ghost use Rattle.fd_network.specs.Keeping.{AreKept, Reaches, room_for};
 ghost use Rattle.fd_network.specs.Places.{AreMagnitudesFrom};
@@ -70,12 +70,16 @@ pub fn assemble(
     requires kept { AreKept layout.now hertz elements.now.entries kept.now }
     requires room { HaveRoom (room_for elements.now.entries) parts.old lists.old }
     requires reaches { Reaches layout.now hertz elements.now.entries parts.old.rows.places }
-    ensures network { OnOk result (parts_network layout.now parts.new ≡ devices_network layout.now (devices_from layout.now hertz 0 elements.now.entries (settings_left settings.now))) }
+    ensures network { OnOk result (parts_network layout.now parts.new
+        ≡ devices_network layout.now (all_devices layout.now hertz elements.now.entries settings.now)) }
     ensures valid { OnOk result (IsNetwork (parts_network layout.now parts.new)) }
-    ensures agrees { OnOk result (AgreesWith (parts_network layout.now parts.new).share (parts_of_all (devices_from layout.now hertz 0 elements.now.entries (settings_left settings.now)))) }
-    ensures in_range { OnOk result (AreInRange (devices_from layout.now hertz 0 elements.now.entries (settings_left settings.now))) }
-    ensures no_fault { OnOk result (first_out_of_range (devices_from layout.now hertz 0 elements.now.entries (settings_left settings.now)) ≡ None) }
-    ensures fault { IfErr result (λ f. first_out_of_range (devices_from layout.now hertz 0 elements.now.entries (settings_left settings.now)) ≡ Some f.0) }
+    ensures agrees { OnOk result (AgreesWith (parts_network layout.now parts.new).share
+        (parts_of_all (all_devices layout.now hertz elements.now.entries settings.now))) }
+    ensures in_range { OnOk result (AreInRange (all_devices layout.now hertz elements.now.entries settings.now)) }
+    ensures no_fault { OnOk result (first_out_of_range (all_devices layout.now hertz elements.now.entries settings.now)
+        ≡ None) }
+    ensures fault { IfErr result
+        (λ f. first_out_of_range (all_devices layout.now hertz elements.now.entries settings.now) ≡ Some f.0) }
     ensures as_before { IfErr result (λ f. IsAsBefore parts.old parts.new) }
     ensures size { parts.new.rows.size ≡ parts.old.rows.size }
     ensures places { parts.new.rows.places ≡ parts.old.rows.places }
@@ -161,10 +165,12 @@ fn check_entries(
     requires taken { AreTakenFrom layout.now hertz 0 elements.now.entries (settings_left settings.now) }
     requires kept { AreKept layout.now hertz elements.now.entries kept.now }
     requires one { HasRoom one.old 256 9 6 }
-    requires fits { All Fits (devices_from layout.now hertz 0 elements.now.entries (settings_left settings.now)) }
-    requires terms { rows.now.terms ≡ (share_of_all (devices_from layout.now hertz 0 elements.now.entries (settings_left settings.now))).terms }
-    ensures small { OnOk result (AreInRange (devices_from layout.now hertz 0 elements.now.entries (settings_left settings.now))) }
-    ensures fault { IfErr result (λ f. first_without (has_small_sums rows.now.terms) (devices_from layout.now hertz 0 elements.now.entries (settings_left settings.now)) ≡ Some f.0) }
+    requires fits { All Fits (all_devices layout.now hertz elements.now.entries settings.now) }
+    requires terms { rows.now.terms
+        ≡ (share_of_all (all_devices layout.now hertz elements.now.entries settings.now)).terms }
+    ensures small { OnOk result (AreInRange (all_devices layout.now hertz elements.now.entries settings.now)) }
+    ensures fault { IfErr result (λ f. first_without (has_small_sums rows.now.terms)
+        (all_devices layout.now hertz elements.now.entries settings.now) ≡ Some f.0) }
     ensures one { IsRoomSame one.old one.new }
 {
     if rows.are_within() {

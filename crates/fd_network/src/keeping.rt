@@ -1,15 +1,15 @@
 // What is kept of the elements of a circuit, for its updates.
 ghost use Rattle.std.specs.Prelude.{◌≡◌, ◌≤◌, ◌++◌, All, IfErr, IfOk, length};
 ghost use Rattle.std.specs.List.{flat_map};
-ghost use Rattle.dss_layout.specs.Layout.{branch_phases, complex_count, size_of};
+ghost use Rattle.dss_layout.specs.Layout.{size_of};
 ghost use Rattle.dss_circuit.specs.Limits.{most_elements};
+ghost use Rattle.fd_devices.specs.Standing.{IsSettledAt};
 ghost use Rattle.fd_equations.specs.Patterns.{IsInside};
-ghost use Rattle.fd_devices.specs.Building.{Fits, IsSettled};
+ghost use Rattle.fd_devices.specs.Building.{Fits};
 ghost use Rattle.fd_devices.specs.Kept.{IsKeptOf};
 ghost use Rattle.fd_devices.specs.Reach.{device_places};
-ghost use Rattle.fd_devices.specs.Scripted.{device_of, devices_from};
 ghost use Rattle.fd_devices.specs.Settings.{own};
-ghost use Rattle.fd_network.specs.Collecting.{AreTakenFrom, IsMisfit, IsTakenAt, NamesPlace, settings_left};
+ghost use Rattle.fd_network.specs.Collecting.{AreTakenFrom, IsMisfit, IsTakenAt, NamesPlace, all_devices, device_at, settings_left};
 ghost use Rattle.fd_network.specs.Faults.{first_without, fits};
 ghost use Rattle.fd_network.specs.Keeping.{AreKept};
 
@@ -44,10 +44,12 @@ pub fn keep(
     requires taken { AreTakenFrom layout.now hertz 0 elements.now.entries (settings_left settings.now) }
     requires few { length elements.now.entries ≤ most_elements }
     ensures kept { IfOk result (λ m. AreKept layout.now hertz elements.now.entries m.kept.items) }
-    ensures places { IfOk result (λ m. m.places.items ≡ flat_map device_places (devices_from layout.now hertz 0 elements.now.entries (settings_left settings.now))) }
+    ensures places { IfOk result (λ m. m.places.items
+        ≡ flat_map device_places (all_devices layout.now hertz elements.now.entries settings.now)) }
     ensures inside { IfOk result (λ m. All (IsInside (size_of layout.now)) m.places.items) }
-    ensures fits { IfOk result (λ m. All Fits (devices_from layout.now hertz 0 elements.now.entries (settings_left settings.now))) }
-    ensures fault { IfErr result (NamesPlace (first_without fits (devices_from layout.now hertz 0 elements.now.entries (settings_left settings.now)))) }
+    ensures fits { IfOk result (λ m. All Fits (all_devices layout.now hertz elements.now.entries settings.now)) }
+    ensures fault { IfErr result
+        (NamesPlace (first_without fits (all_devices layout.now hertz elements.now.entries settings.now))) }
 {
     let entries = elements.as_slice();
     let mut kept = Vec::with_capacity(alloc, entries.len())?;
@@ -74,10 +76,13 @@ fn kept_at(
 ) -> Result<Kept, PlaceFault>
     requires { IsTakenAt layout.now hertz place element.now (settings_left left.now) }
     ensures kept { IfOk result (λ k. IsKeptOf layout.now hertz place element.now k) }
-    ensures settled { IfOk result (λ k. IsSettled (length layout.now.nodes) (complex_count layout.now) (size_of layout.now) (branch_phases element.now) (device_of layout.now hertz place element.now (own element.now (settings_left left.now)))) }
-    ensures places { IfOk result (λ k. places.new.items ≡ places.old.items ++ device_places (device_of layout.now hertz place element.now (own element.now (settings_left left.now)))) }
-    ensures inside { IfOk result (λ k. All (IsInside (size_of layout.now)) (device_places (device_of layout.now hertz place element.now (own element.now (settings_left left.now))))) }
-    ensures fault { IfErr result (IsMisfit place (device_of layout.now hertz place element.now (own element.now (settings_left left.now)))) }
+    ensures settled { IfOk result
+        (λ k. IsSettledAt layout.now hertz place element.now (own element.now (settings_left left.now))) }
+    ensures places { IfOk result (λ k. places.new.items
+        ≡ places.old.items ++ device_places (device_at layout.now hertz place element.now left.now)) }
+    ensures inside { IfOk result (λ k. All (IsInside (size_of layout.now))
+        (device_places (device_at layout.now hertz place element.now left.now))) }
+    ensures fault { IfErr result (IsMisfit place (device_at layout.now hertz place element.now left.now)) }
 {
     let own = left.own(element);
     match kept_of(alloc, places, layout, hertz, place, element, &own) {

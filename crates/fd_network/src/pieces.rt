@@ -1,15 +1,15 @@
 // What the elements of a circuit add, one after another.
 ghost use Rattle.std.specs.Prelude.{◌≡◌, ◌+◌, ◌*◌, ◌≤◌, ◌^◌, ◌↔◌, All, IfErr, IfOk, IsTrue, OnOk, length};
-ghost use Rattle.dss_layout.specs.Layout.{branch_phases, complex_count, size_of};
+ghost use Rattle.dss_layout.specs.Layout.{complex_count, size_of};
 ghost use Rattle.dss_circuit.specs.Limits.{most_elements};
+ghost use Rattle.fd_devices.specs.Standing.{IsSettledAt};
 ghost use Rattle.fd_system.specs.Contributions.{AreSmall};
 ghost use Rattle.fd_equations.specs.Coefficients.{linear_entry};
-ghost use Rattle.fd_devices.specs.Building.{AreCollected, Fits, HasSmallSums, IsSettled};
+ghost use Rattle.fd_devices.specs.Building.{AreCollected, Fits, HasSmallSums};
 ghost use Rattle.fd_devices.specs.Devices.{added_by, added_of, share_of_all};
 ghost use Rattle.fd_devices.specs.Kept.{AreFewOf, HasRoom, IsKeptOf, IsRoomSame};
-ghost use Rattle.fd_devices.specs.Scripted.{device_of, devices_from};
 ghost use Rattle.fd_devices.specs.Settings.{own};
-ghost use Rattle.fd_network.specs.Collecting.{AreTakenFrom, IsTakenAt, settings_left};
+ghost use Rattle.fd_network.specs.Collecting.{AreTakenFrom, IsTakenAt, all_devices, device_at, settings_left};
 ghost use Rattle.fd_network.specs.Faults.{first_without, fits, has_small_sums};
 ghost use Rattle.fd_network.specs.Keeping.{AreKept, HasRoomOf, room_for};
 
@@ -35,10 +35,12 @@ fn piece_at(
     requires taken { IsTakenAt layout.now hertz place element.now (settings_left left.now) }
     requires kept { IsKeptOf layout.now hertz place element.now kept.now }
     requires room { HasRoom into.old 256 9 6 }
-    ensures added { OnOk result (added_of into.new ≡ added_by (device_of layout.now hertz place element.now (own element.now (settings_left left.now)))) }
-    ensures settled { OnOk result (IsSettled (length layout.now.nodes) (complex_count layout.now) (size_of layout.now) (branch_phases element.now) (device_of layout.now hertz place element.now (own element.now (settings_left left.now)))) }
+    ensures added { OnOk result (added_of into.new ≡ added_by (device_at layout.now hertz place element.now left.now)) }
+    ensures settled { OnOk result
+        (IsSettledAt layout.now hertz place element.now (own element.now (settings_left left.now))) }
     ensures few { OnOk result (AreFewOf element.now (added_of into.new)) }
-    ensures fault { IfErr result (λ f. (f.0 ≡ place) × ¬ (Fits (device_of layout.now hertz place element.now (own element.now (settings_left left.now))))) }
+    ensures fault { IfErr result (λ f. (f.0 ≡ place)
+        × ¬ (Fits (device_at layout.now hertz place element.now left.now))) }
     ensures room { IsRoomSame into.old into.new }
 {
     let own = left.own(element);
@@ -68,8 +70,11 @@ pub fn collect(
     requires kept { AreKept layout.now hertz elements.now.entries kept.now }
     requires room { HasRoomOf (room_for elements.now.entries) all.old }
     requires one { HasRoom one.old 256 9 6 }
-    ensures collected { OnOk result (AreCollected (length layout.now.nodes) (complex_count layout.now) (size_of layout.now) elements.now.entries (devices_from layout.now hertz 0 elements.now.entries (settings_left settings.now)) (added_of all.new)) }
-    ensures fault { IfErr result (λ f. first_without fits (devices_from layout.now hertz 0 elements.now.entries (settings_left settings.now)) ≡ Some f.0) }
+    ensures collected { OnOk result
+        (AreCollected (length layout.now.nodes) (complex_count layout.now) (size_of layout.now)
+        elements.now.entries (all_devices layout.now hertz elements.now.entries settings.now) (added_of all.new)) }
+    ensures fault { IfErr result
+        (λ f. first_without fits (all_devices layout.now hertz elements.now.entries settings.now) ≡ Some f.0) }
     ensures room { IsRoomSame all.old all.new }
     ensures one { IsRoomSame one.old one.new }
 {
@@ -103,10 +108,13 @@ pub fn check_sums(
     requires taken { AreTakenFrom layout.now hertz 0 elements.now.entries (settings_left settings.now) }
     requires kept { AreKept layout.now hertz elements.now.entries kept.now }
     requires one { HasRoom one.old 256 9 6 }
-    requires fits { All Fits (devices_from layout.now hertz 0 elements.now.entries (settings_left settings.now)) }
-    requires terms { rows.now.terms ≡ (share_of_all (devices_from layout.now hertz 0 elements.now.entries (settings_left settings.now))).terms }
-    ensures small { OnOk result (All (HasSmallSums rows.now.terms) (devices_from layout.now hertz 0 elements.now.entries (settings_left settings.now))) }
-    ensures fault { IfErr result (λ f. first_without (has_small_sums rows.now.terms) (devices_from layout.now hertz 0 elements.now.entries (settings_left settings.now)) ≡ Some f.0) }
+    requires fits { All Fits (all_devices layout.now hertz elements.now.entries settings.now) }
+    requires terms { rows.now.terms
+        ≡ (share_of_all (all_devices layout.now hertz elements.now.entries settings.now)).terms }
+    ensures small { OnOk result
+        (All (HasSmallSums rows.now.terms) (all_devices layout.now hertz elements.now.entries settings.now)) }
+    ensures fault { IfErr result (λ f. first_without (has_small_sums rows.now.terms)
+        (all_devices layout.now hertz elements.now.entries settings.now) ≡ Some f.0) }
     ensures one { IsRoomSame one.old one.new }
 {
     let mut left = *settings;

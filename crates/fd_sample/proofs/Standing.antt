@@ -34,7 +34,7 @@ use Rattle.dss_ready.specs.Passed.{IsFit, IsPhaseOf}
 use Rattle.dss_ready.specs.Ready.{HasPassed}
 use Rattle.dss_ready.proofs.CallerLemmas.{passed}
 use Rattle.fd_devices.specs.Sound.{IsSideOf}
-use Rattle.fd_network.specs.Places.{IsReadyAt}
+use Rattle.fd_devices.specs.Standing.{IsReadyAt}
 use Rattle.fd_network.proofs.CallerLemmas.{element_ready}
 use Rattle.fd_sample.specs.Circuits.{IsCapControlIn, IsCapProbeAt, IsCapProbeIn, IsLineFor, IsLineOf, banks_before, line_in, IsXfmrOf, IsXfmrFor, IsRegControlIn, IsRegProbeAt, IsRegProbeIn, element_at, place_given, transformer_in, transformers_before}
 use Rattle.fd_sample.specs.Scripted.{IsLineAt, IsXfmrAt, cap_probe, reg_probe}

@@ -7,32 +7,32 @@ use Rattle.fd_devices.proofs.Settling.{source_here, line_here, transformer_here,
 use Rattle.fd_devices.proofs.pieces.piece_of.Goals as goal
 
 pub load_piece-requires-clause-magnitude : goal.load_piece-requires-clause-magnitude
-load_piece-requires-clause-magnitude c = subst (λ m. m < 2 ^ 31) (sym c.first_magnitude.ensures) c.requires.magnitude
+load_piece-requires-clause-magnitude c = subst (λ m. m < 2 ^ 31) (sym c.first_magnitude.ensures) c.requires.place.magnitudes.first
 
 pub returns-in_ok-at-in-Vsource-clause-settled : goal.returns-in_ok-at-in-Vsource-clause-settled
 returns-in_ok-at-in-Vsource-clause-settled c =
-    IfOk-weaker c.source_piece.result _ _ (λ p. source_here c.args.layout.now c.args.hertz c.args.place c.args.element.now (settings_in c.args.own.now) c.in_ok-at-in-Vsource.at c.in_ok-at-in-Vsource.ensures c.requires.sited c.in-Vsource.source c.in-Vsource.is) c.source_piece.ensures.settled
+    IfOk-weaker c.source_piece.result _ _ (λ p. source_here c.args.layout.now c.args.hertz c.args.place c.args.element.now (settings_in c.args.own.now) c.in_ok-at-in-Vsource.at c.in_ok-at-in-Vsource.ensures c.requires.ready.sited c.in-Vsource.source c.in-Vsource.is) c.source_piece.ensures.settled
 
 pub returns-in_ok-at-in-Line-clause-settled : goal.returns-in_ok-at-in-Line-clause-settled
 returns-in_ok-at-in-Line-clause-settled c =
-    IfOk-weaker c.line_piece.result _ _ (λ p. line_here c.args.layout.now c.args.hertz c.args.place c.args.element.now (settings_in c.args.own.now) c.in_ok-at-in-Line.at c.in_ok-at-in-Line.ensures c.requires.sited c.in-Line.line c.in-Line.is) c.line_piece.ensures.settled
+    IfOk-weaker c.line_piece.result _ _ (λ p. line_here c.args.layout.now c.args.hertz c.args.place c.args.element.now (settings_in c.args.own.now) c.in_ok-at-in-Line.at c.in_ok-at-in-Line.ensures c.requires.ready.sited c.in-Line.line c.in-Line.is) c.line_piece.ensures.settled
 
 pub returns-in_ok-at-in-Load-clause-settled : goal.returns-in_ok-at-in-Load-clause-settled
 returns-in_ok-at-in-Load-clause-settled c =
-    IfOk-weaker c.load_piece.result _ _ (λ p. load_here c.args.layout.now c.args.hertz c.args.place c.args.element.now (settings_in c.args.own.now) c.in_ok-at-in-Load.at c.in_ok-at-in-Load.ensures c.requires.sited c.in-Load.load c.in_ok-at-in-Load.at.first c.first_magnitude.result c.in-Load.is refl c.first_magnitude.ensures) c.load_piece.ensures.settled
+    IfOk-weaker c.load_piece.result _ _ (λ p. load_here c.args.layout.now c.args.hertz c.args.place c.args.element.now (settings_in c.args.own.now) c.in_ok-at-in-Load.at c.in_ok-at-in-Load.ensures c.requires.ready.sited c.in-Load.load c.in_ok-at-in-Load.at.first c.first_magnitude.result c.in-Load.is refl c.first_magnitude.ensures) c.load_piece.ensures.settled
 
 pub returns-in_ok-at-in-Load-clause-added : goal.returns-in_ok-at-in-Load-clause-added
 returns-in_ok-at-in-Load-clause-added c =
-    let is = load_is c.args.layout.now c.args.hertz c.args.place c.args.element.now (settings_in c.args.own.now) c.in_ok-at-in-Load.at c.in_ok-at-in-Load.ensures c.requires.sited c.in-Load.load c.in_ok-at-in-Load.at.first c.first_magnitude.result c.in-Load.is refl c.first_magnitude.ensures in
+    let is = load_is c.args.layout.now c.args.hertz c.args.place c.args.element.now (settings_in c.args.own.now) c.in_ok-at-in-Load.at c.in_ok-at-in-Load.ensures c.requires.ready.sited c.in-Load.load c.in_ok-at-in-Load.at.first c.first_magnitude.result c.in-Load.is refl c.first_magnitude.ensures in
     subst (λ d. IfOk c.load_piece.result (λ p. added_of p ≡ added_by d)) is c.load_piece.ensures.added
 
 pub returns-in_ok-at-in-Transformer-clause-settled : goal.returns-in_ok-at-in-Transformer-clause-settled
 returns-in_ok-at-in-Transformer-clause-settled c =
-    IfOk-weaker c.transformer_piece.result _ _ (λ p. transformer_here c.args.layout.now c.args.hertz c.args.place c.args.element.now (settings_in c.args.own.now) c.in_ok-at-in-Transformer.at c.in_ok-at-in-Transformer.ensures c.requires.sited c.in-Transformer.xfmr _ c.in-Transformer.is refl) c.transformer_piece.ensures.settled
+    IfOk-weaker c.transformer_piece.result _ _ (λ p. transformer_here c.args.layout.now c.args.hertz c.args.place c.args.element.now (settings_in c.args.own.now) c.in_ok-at-in-Transformer.at c.in_ok-at-in-Transformer.ensures c.requires.ready.sited c.in-Transformer.xfmr _ c.in-Transformer.is refl) c.transformer_piece.ensures.settled
 
 pub returns-in_ok-at-in-Capacitor-clause-settled : goal.returns-in_ok-at-in-Capacitor-clause-settled
 returns-in_ok-at-in-Capacitor-clause-settled c =
-    IfOk-weaker c.capacitor_piece.result _ _ (λ p. capacitor_here c.args.layout.now c.args.hertz c.args.place c.args.element.now (settings_in c.args.own.now) c.in_ok-at-in-Capacitor.at c.in_ok-at-in-Capacitor.ensures c.requires.sited c.in-Capacitor.bank _ c.in-Capacitor.is refl) c.capacitor_piece.ensures.settled
+    IfOk-weaker c.capacitor_piece.result _ _ (λ p. capacitor_here c.args.layout.now c.args.hertz c.args.place c.args.element.now (settings_in c.args.own.now) c.in_ok-at-in-Capacitor.at c.in_ok-at-in-Capacitor.ensures c.requires.ready.sited c.in-Capacitor.bank _ c.in-Capacitor.is refl) c.capacitor_piece.ensures.settled
 
 pub returns-in_default-clause-settled : goal.returns-in_default-clause-settled
 returns-in_default-clause-settled c = other_here c.args.layout.now c.args.hertz c.args.place (settings_in c.args.own.now) c.args.element.now c.in_default.not-Vsource c.in_default.not-Line c.in_default.not-Transformer c.in_default.not-Capacitor c.in_default.not-Load
