@@ -169,8 +169,6 @@ pub fn piece_into(
         × ¬ (Fits (device_of layout.now hertz place element.now (settings_in own.now)))) }
     ensures room { IsRoomSame into.old into.new }
 {
-    // it counts in what is kept of a line
-    let _frequency = hertz;
     match element {
         Element::Transformer(xfmr) => transformer_into(into, xfmr, own.taps[0], &kept.at),
         Element::Capacitor(bank) => capacitor_into(into, bank, own.closed[0], &kept.at),
