@@ -44,7 +44,7 @@ table = subprocess.run(["callgrind_annotate", "--inclusive=yes", "--threshold=10
 def of(function):
     return max(int(n.replace(",", "")) for n in re.findall(rf"^\s*([\d,]+) .*{re.escape(function)}", table, re.M))
 
-settle, solves = of("fd_app::hours::run_hours"), of("fd_settle::compute::ComputeSolver::solve")
+settle, solves = of("fd_solving::hours::run_hours"), of("fd_settle::compute::ComputeSolver::solve")
 rounds = len(re.findall(r"^solution,", text, re.M))
 print(f"a hundred regulators, {rounds} rounds: {settle - solves} of {settle} instructions outside solves and certificates, records among them, {(settle - solves) / settle:.2%}")
 P

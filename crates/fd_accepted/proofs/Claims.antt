@@ -71,11 +71,13 @@ module _ (n : ℕ) (C J : ℕ → ℕ → ℤ) (R : ℕ → ℕ → ℕ) (w : �
 
 -- ---- lists
 
-all_by : {X : Type 0} (P : X → Type 0) (d : X) (xs : List X) → ((i : ℕ) → i < length xs → P (get_or xs i d)) → AllByRecursion P xs
+all_by : {X : Type 0} (P : X → Type 0) (d : X) (xs : List X) → ((i : ℕ) → i < length xs → P (get_or xs i d))
+    → AllByRecursion P xs
 all_by P d [] h = tt
 all_by P d (x ∷ xs) h = (h 0 (omega arith), all_by P d xs (λ i l. h (suc i) (omega (arith, l))))
 
-all_of : {X : Type 0} (P : X → Type 0) (f : ℕ → X) (a n : ℕ) → ((i : ℕ) → i < a + n → P (f i)) → AllByRecursion P (map f (range_with_len a n))
+all_of : {X : Type 0} (P : X → Type 0) (f : ℕ → X) (a n : ℕ) → ((i : ℕ) → i < a + n → P (f i))
+    → AllByRecursion P (map f (range_with_len a n))
 all_of P f a zero h = tt
 all_of P f a (suc n) h = (h a (omega arith), all_of P f (a + 1) n (λ i l. h i (omega (arith, l))))
 
@@ -93,7 +95,8 @@ number_is (negsuc k) n h l = omega (arith, h, l)
 
 -- ---- a claim that is the certificate of a point
 
-module _ (v : NetworkView) (m : Claim) (at : IsSolutionPoint v m.centre m.inverse) (certificate : certificate_of v m.centre m.inverse ≡ Ok m) where
+module _ (v : NetworkView) (m : Claim) (at : IsSolutionPoint v m.centre m.inverse)
+    (certificate : certificate_of v m.centre m.inverse ≡ Ok m) where
   abbrev x : List ℤ
   x = m.centre
 
@@ -106,7 +109,8 @@ module _ (v : NetworkView) (m : Claim) (at : IsSolutionPoint v m.centre m.invers
   what : claim_of v x m.inverse ≡ m
   what = claim_is v x m.inverse m certificate
 
-  none_loose : (o : Option ℕ) → unless_loose v x m.inverse o ≡ Ok m → (o ≡ None) × (unless_uncertain v x m.inverse (refused_by (mismatch_at v x)) ≡ Ok m)
+  none_loose : (o : Option ℕ) → unless_loose v x m.inverse o ≡ Ok m
+      → (o ≡ None) × (unless_uncertain v x m.inverse (refused_by (mismatch_at v x)) ≡ Ok m)
   none_loose None e = (refl, e)
   none_loose (Some row) e = absurd (let no : ⊥ = cc in no)
 
@@ -219,7 +223,8 @@ module _ (v : NetworkView) (m : Claim) (at : IsSolutionPoint v m.centre m.invers
         ap (λ y. radius_in v y m.inverse (sizes_of (map (λ (p : Part). p.mismatch) parts_for)) i) centres_are
         ∙ ap (λ es. radius_in v x m.inverse es i) sizes_back ∙ sym (radius_is i p)
 
-    claimed_mismatch : (l : ℕ) → l < v.size → mismatch_at v (map (λ (p : Part). p.centre) parts_for) l ≡ number_at m.mismatches l
+    claimed_mismatch : (l : ℕ) → l < v.size
+        → mismatch_at v (map (λ (p : Part). p.centre) parts_for) l ≡ number_at m.mismatches l
     claimed_mismatch l p = ap (λ y. mismatch_at v y l) centres_are ∙ sym (mismatch_is l p)
 
     same_order : (a k : ℕ) → a ≡ k → pos a ≤ℤ pos k
@@ -229,7 +234,8 @@ module _ (v : NetworkView) (m : Claim) (at : IsSolutionPoint v m.centre m.invers
     within a k e l = (omega (arith, ints, e), omega (arith, ints, l))
 
     -- all rules hold, where the acts are those of the samples of its ball
-    pub holds : (sampled : Ball → Sampled) → sampled (ball_of b) ≡ moves acts → Holds (judge_of v number hour round sampled) b
+    pub holds : (sampled : Ball → Sampled) → sampled (ball_of b) ≡ moves acts
+        → Holds (judge_of v number hour round sampled) b
     holds sampled due_acts = record {
       due = record { number = refl; hour = refl; round = refl; size = refl };
       range = λ i p. record {

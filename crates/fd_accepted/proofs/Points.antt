@@ -32,7 +32,8 @@ use Rattle.fd_inject.specs.declared.limits.Limits.{Limits}
 
 -- ---- steps that went well
 
-pub and_ok : {A B E : Type 0} (r : Result A E) (f : A → Result B E) (y : B) → and_then r f ≡ Ok y → (x : A) × (r ≡ Ok x) × (f x ≡ Ok y)
+pub and_ok : {A B E : Type 0} (r : Result A E) (f : A → Result B E) (y : B) → and_then r f ≡ Ok y
+    → (x : A) × (r ≡ Ok x) × (f x ≡ Ok y)
 and_ok (Ok x) f y h = (x, refl, h)
 and_ok (Err e) f y h = absurd (let no : ⊥ = cc in no)
 
@@ -63,7 +64,8 @@ length-moved : (x u : List ℤ) → length (moved x u) ≡ length x
 unfolding moved
 length-moved x u = length-list_of (length x) _
 
-stepped_ok : (v : NetworkView) (c : List (List ℤ)) (number : ℕ) (x : List ℤ) (s : List ℤ × List ℤ) → stepped v c number x ≡ Ok s → IsReached (length x) s.0
+stepped_ok : (v : NetworkView) (c : List (List ℤ)) (number : ℕ) (x : List ℤ) (s : List ℤ × List ℤ)
+    → stepped v c number x ≡ Ok s → IsReached (length x) s.0
 unfolding stepped
 stepped_ok v c number x s h =
     let a = and_ok (update_for c number (rounded_residual_of v x)) (λ u. and_then (in_range (2 ^ 40) (number + 1) (moved x u)) (λ y. Ok (y, u))) s h in
@@ -73,7 +75,8 @@ stepped_ok v c number x s h =
     let same : moved x a.0 ≡ s.0 = r.0 ∙ ap (λ (q : List ℤ × List ℤ). q.0) pair in
     subst (IsReached (length x)) same (length-moved x a.0, r.1)
 
-judged_ok : (limits : Limits) (number : ℕ) (s : List ℤ × List ℤ) (o : Option ℕ) (i : Iterate) → judged limits number s o ≡ Ok i → i.x ≡ s.0
+judged_ok : (limits : Limits) (number : ℕ) (s : List ℤ × List ℤ) (o : Option ℕ) (i : Iterate)
+    → judged limits number s o ≡ Ok i → i.x ≡ s.0
 judged_ok limits number s None i h = let e : record { number = number; x = s.0; is_last = true } ≡ i = cc in sym (ap (λ (k : Iterate). k.x) e)
 judged_ok limits number s (Some place) i h = by (nat_lt number limits.max_iterations) h
   where
@@ -89,21 +92,24 @@ next_ok v limits c number x i h =
     let a = and_ok (stepped v c number x) (λ s. judged limits (number + 1) s (first_moving v limits s.0 s.1)) i h in
     ap length (judged_ok limits (number + 1) a.0 (first_moving v limits a.0.0 a.0.1) i a.2) ∙ (stepped_ok v c number x a.0 a.1).0
 
-after_ok : (v : NetworkView) (limits : Limits) (c : List (List ℤ)) (i j : Iterate) → after v limits c i ≡ Ok j → length j.x ≡ length i.x
+after_ok : (v : NetworkView) (limits : Limits) (c : List (List ℤ)) (i j : Iterate) → after v limits c i ≡ Ok j
+    → length j.x ≡ length i.x
 after_ok v limits c i j h = by i.is_last h
   where
     by : (b : Bool) → (if b then Ok i else next_iterate v limits c i.number i.x) ≡ Ok j → length j.x ≡ length i.x
     by true e = let k : i ≡ j = cc in ap (λ (q : Iterate). length q.x) (sym k)
     by false e = next_ok v limits c i.number i.x j e
 
-iterated_ok : (v : NetworkView) (limits : Limits) (c : List (List ℤ)) (x : List ℤ) (n : ℕ) (i : Iterate) → iterated v limits c x n ≡ Ok i
+iterated_ok : (v : NetworkView) (limits : Limits) (c : List (List ℤ)) (x : List ℤ) (n : ℕ) (i : Iterate)
+    → iterated v limits c x n ≡ Ok i
     → length i.x ≡ length x
 iterated_ok v limits c x zero i h = let k : record { number = 0; x = x; is_last = false } ≡ i = cc in ap (λ (q : Iterate). length q.x) (sym k)
 iterated_ok v limits c x (suc n) i h =
     let a = and_ok (iterated v limits c x n) (after v limits c) i h in
     after_ok v limits c a.0 i a.2 ∙ iterated_ok v limits c x n a.0 a.1
 
-last_ok : (v : NetworkView) (limits : Limits) (c : List (List ℤ)) (x : List ℤ) (i : ℕ × List ℤ) → last_from v limits c x ≡ Ok i → length i.1 ≡ length x
+last_ok : (v : NetworkView) (limits : Limits) (c : List (List ℤ)) (x : List ℤ) (i : ℕ × List ℤ)
+    → last_from v limits c x ≡ Ok i → length i.1 ≡ length x
 unfolding last_from
 last_ok v limits c x i h =
     let a = and_ok (iterated v limits c x limits.max_iterations) (λ k. Ok (k.number, k.x)) i h in
@@ -152,7 +158,8 @@ each_holds p (suc n) k h l =
 abbrev pub if_fits : ℕ → Bool → List (List ℤ) → Result (List (List ℤ)) (ℕ × Stop)
 if_fits row fits inverse = if fits then Ok inverse else Err (row, Range)
 
-if_ok : (row : ℕ) (fits : Bool) (inverse c : List (List ℤ)) → if_fits row fits inverse ≡ Ok c → (fits ≡ true) × (inverse ≡ c)
+if_ok : (row : ℕ) (fits : Bool) (inverse c : List (List ℤ)) → if_fits row fits inverse ≡ Ok c
+    → (fits ≡ true) × (inverse ≡ c)
 if_ok row true inverse c e = (refl, cc)
 if_ok row false inverse c e = absurd (let no : ⊥ = cc in no)
 
@@ -235,7 +242,8 @@ part_within z h = (omega (arith, ints, h), omega (arith, ints, h))
 reached_point : (v : NetworkView) (x : List ℤ) → IsReached v.size x → IsPoint v x
 reached_point v x h = record { long = h.0; parts = All-from_get_or IsPart x (pos 0) (λ i l. part_within (part x i) (h.1 i l)) }
 
-polished_ok : (v : NetworkView) (number : ℕ) (x : List ℤ) (c : List (List ℤ)) (p : List ℤ × List (List ℤ)) → length x ≡ v.size
+polished_ok : (v : NetworkView) (number : ℕ) (x : List ℤ) (c : List (List ℤ)) (p : List ℤ × List (List ℤ))
+    → length x ≡ v.size
     → polished v number x c ≡ Ok p → IsPoint v p.0 × (c ≡ p.1)
 unfolding polished
 polished_ok v number x c p long h =
@@ -251,7 +259,8 @@ pub record IsSolutionPoint (v : NetworkView) (x : List ℤ) (c : List (List ℤ)
   pub point : IsPoint v x
   pub square : IsSquare v.size c
 
-pub solution_point : (v : NetworkView) (limits : Limits) (x : List ℤ) (c : List (List ℤ)) → solution_of v limits ≡ Ok (x, c) → IsSolutionPoint v x c
+pub solution_point : (v : NetworkView) (limits : Limits) (x : List ℤ) (c : List (List ℤ))
+    → solution_of v limits ≡ Ok (x, c) → IsSolutionPoint v x c
 unfolding solution_of
 solution_point v limits x c h =
     let a = and_ok (last_of v limits) (λ i. and_then (inverse_at (jacobian_of v i.1)) (polished v i.0 i.1)) (x, c) h in

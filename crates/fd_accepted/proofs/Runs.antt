@@ -21,7 +21,7 @@ use Rattle.fd_outcome.specs.Laws.{ReadLaw, StatusLaw}
 use Rattle.fd_outcome.specs.Runs.{Reached}
 use Rattle.fd_outcome.specs.Settles.{Settle}
 use Rattle.fd_outcome.specs.Statuses.{status_of}
-use Rattle.fd_app.specs.Headline.{IsSolved}
+use Rattle.fd_solving.specs.Headline.{IsSolved}
 use Rattle.fd_app.specs.Run.{FormsLaw, IsFormHistory}
 use Rattle.fd_words.specs.Words.{Cert, Form}
 use Rattle.fd_accepted.specs.Laws.{HaveTaken, RoundTripLaw, RunsWell, WrittenLaw}
@@ -53,7 +53,8 @@ all_done law d m done = elim done [
 ]
 
 -- then no read failed
-none_failed : StatusLaw → ReadLaw → (fails : Option ℕ) (d : Doing) (m : Made) → IsDone (failing fails d) 0 m → IsWhole d m
+none_failed : StatusLaw → ReadLaw → (fails : Option ℕ) (d : Doing) (m : Made) → IsDone (failing fails d) 0 m
+    → IsWhole d m
 none_failed law read None d m done = all_done law d m done
 none_failed law read (Some n) d m done =
     let all = all_done law (failing (Some n) d) m done in
@@ -62,7 +63,8 @@ none_failed law read (Some n) d m done =
       | inr cut ↦ absurd (let e = sym cut.end_now ∙ all.end in let no : ⊥ = cc in no)
     ]
 
-becomes_by : (old new : Option (List ℕ)) (a b : List ℕ) → a ≡ b → Becomes old new (λ bytes. bytes ++ a) → Becomes old new (λ bytes. bytes ++ b)
+becomes_by : (old new : Option (List ℕ)) (a b : List ℕ) → a ≡ b → Becomes old new (λ bytes. bytes ++ a)
+    → Becomes old new (λ bytes. bytes ++ b)
 becomes_by None new a b e h = tt
 becomes_by (Some before) new a b e h = h ∙ ap (λ (bs : List ℕ). Some (before ++ bs)) e
 
@@ -82,7 +84,8 @@ opened_long first (writes t ∷ calls) last =
     let same : length (map writes first) + suc (length (calls ++ writes last ∷ [])) ≡ suc (length calls) + (length first + 1) = omega (arith, length-map first writes, one) in
     length-append (map writes first) (writes t ∷ (calls ++ writes last ∷ [])) ∙ same
 
-unprinted : (front rest : List Event) → calls_of certificate (front ++ rest) None ≡ calls_of certificate front None → length (body certificate rest) ≡ 0
+unprinted : (front rest : List Event) → calls_of certificate (front ++ rest) None ≡ calls_of certificate front None
+    → length (body certificate rest) ≡ 0
 unprinted front rest same =
     let first = certificate.opening in
     let long : length (body certificate (front ++ rest)) + (length first + 1) ≡ length (body certificate front) + (length first + 1) =
@@ -99,7 +102,8 @@ no_blocks : (s : Settle) (bs : List Block) → blocks_of s ≡ bs → length (bl
 no_blocks s [] is none = inl is
 no_blocks s (b ∷ bs) is none = absurd (some_item (blocks_texts (b ∷ bs)) _ _ refl none)
 
-unprinted_written : (events : List Event) → length (body certificate events) ≡ 0 → AllByRecursion (IfSettle CanBeWritten) events
+unprinted_written : (events : List Event) → length (body certificate events) ≡ 0
+    → AllByRecursion (IfSettle CanBeWritten) events
 unprinted_written [] h = tt
 unprinted_written (settle s ∷ events) h =
     let texts : List (List ℕ) = blocks_texts (blocks_of s) in
@@ -112,7 +116,8 @@ unprinted_written (row fields ∷ events) h = (tt, unprinted_written events h)
 unprinted_written (line t ∷ events) h = absurd (some_item (body certificate (line t ∷ events)) _ _ refl h)
 
 -- all settles can be written where the run came so far and wrote all
-all_written : StatusLaw → ReadLaw → (h : History) (fails : Option ℕ) (made : Made) → IsWhole (doing certificate h) made → Reached certificate IsSolved h fails 0 made
+all_written : StatusLaw → ReadLaw → (h : History) (fails : Option ℕ) (made : Made) → IsWhole (doing certificate h) made
+    → Reached certificate IsSolved h fails 0 made
     → AllByRecursion (IfSettle CanBeWritten) h.events
 all_written law read h fails made all reached =
     let part : History = record { events = reached.front; end = reached.end } in
@@ -133,7 +138,9 @@ module _ (law : StatusLaw) (read : ReadLaw) (forms : FormsLaw) (rules : RuleLaw)
     pub have_taken : HaveTaken (bytes_by certificate h) (solves_of (said_of files (chars file))) (length (all_rounds h.events)) (taken old) (taken new)
 
   of_cert : (files : Files) (file : List ℕ) (h : History) (lib_old lib_new : L) (old new : S)
-      → IsFormHistory files (Some (Cert file)) h → RunsWell faults asked_of taken calls files (Some (Cert file)) lib_old lib_new old new → IsWritten files file h old new
+      → IsFormHistory files (Some (Cert file)) h
+      → RunsWell faults asked_of taken calls files (Some (Cert file)) lib_old lib_new old new
+      → IsWritten files file h old new
   of_cert files file h lib_old lib_new old new right r =
       let one = forms files (Some (Cert file)) in
       let same : r.history ≡ h = one.only r.history r.right ∙ sym (one.only h right) in
@@ -156,7 +163,8 @@ module _ (law : StatusLaw) (read : ReadLaw) (forms : FormsLaw) (rules : RuleLaw)
   Writes files file h lib_old lib_new old new form =
       IsFormHistory files form h → RunsWell faults asked_of taken calls files form lib_old lib_new old new → IsWritten files file h old new
 
-  of_form : (files : Files) (form : Option Form) (file : List ℕ) (h : History) (lib_old lib_new : L) (old new : S) → form ≡ Some (Cert file)
+  of_form : (files : Files) (form : Option Form) (file : List ℕ) (h : History) (lib_old lib_new : L) (old new : S)
+      → form ≡ Some (Cert file)
       → Writes files file h lib_old lib_new old new form
   of_form files form file h lib_old lib_new old new is =
       subst (Writes files file h lib_old lib_new old new) (sym is) (of_cert files file h lib_old lib_new old new)

@@ -31,12 +31,13 @@ use Rattle.fd_outcome.specs.Events.{Event, History, IfSettle, asked, settle, row
 use Rattle.fd_outcome.specs.History.{IsHistory}
 use Rattle.fd_outcome.specs.Work as work
 use Rattle.fd_outcome.specs.Work.{AfterStep, Step, goes}
-use Rattle.fd_app.specs.Commands.{Applied, nothing_left, solve_left, bases_left, IsByTests, IsSolve, IsStep, IsStepOf, IsTested, base_events, tried}
-use Rattle.fd_app.specs.Commands as commands
-use Rattle.fd_app.specs.Headline.{IsSolved}
-use Rattle.fd_app.specs.Run.{IsDoneThere, IsScriptHistory, first_standing, no_name}
-use Rattle.fd_app.specs.Solving.{IsSolutionStep, kept_first}
-use Rattle.fd_app.specs.Steps.{StandingView, standing}
+use Rattle.fd_pages.specs.Bases.{base_events}
+use Rattle.fd_solving.specs.Commands.{Applied, nothing_left, solve_left, bases_left, IsByTests, IsSolve, IsStep, IsStepOf, IsTested, tried}
+use Rattle.fd_solving.specs.Commands as commands
+use Rattle.fd_solving.specs.Headline.{IsSolved}
+use Rattle.fd_solving.specs.Scripts.{IsDoneThere, IsScriptHistory, first_standing, no_name}
+use Rattle.fd_solving.specs.Solving.{IsSolutionStep, kept_first}
+use Rattle.fd_solving.specs.Steps.{StandingView, standing}
 use Rattle.fd_accepted.specs.Laws.{AreAccepted, CertLaw}
 use Rattle.fd_accepted.specs.Printed.{all_rounds, bytes_by}
 use Rattle.fd_accepted.specs.Solves.{behind_command, solves_from, solves_of}
@@ -66,7 +67,8 @@ module _ (passed : PassedLaw) where
 
   solve_holds : (d : CircuitView) (at : Positions) (settled : ℕ) (more : CircuitView → List CircuitView) (step : Step StandingView)
       → HasPassed d → IsSolutionStep (standing d at settled) step
-      → (events : List Event) (t : StandingView) → step ≡ goes events t → CommandHolds (solve_left d) at settled more events t
+      → (events : List Event) (t : StandingView) → step ≡ goes events t
+      → CommandHolds (solve_left d) at settled more events t
   unfolding IsSolutionStep
   solve_holds d at settled more step ready h events t e =
       let size = few_unknowns d ready in
@@ -78,7 +80,8 @@ module _ (passed : PassedLaw) where
       }
 
   -- a Solve leaves its circuit as it is
-  pub solve_circuit : (d : CircuitView) (at : Positions) (settled : ℕ) (step : Step StandingView) → HasPassed d → IsSolutionStep (standing d at settled) step
+  pub solve_circuit : (d : CircuitView) (at : Positions) (settled : ℕ) (step : Step StandingView) → HasPassed d
+      → IsSolutionStep (standing d at settled) step
       → (events : List Event) (t : StandingView) → step ≡ goes events t → t.circuit ≡ d
   unfolding IsSolutionStep
   solve_circuit d at settled step ready h events t e =
@@ -120,14 +123,16 @@ module _ (passed : PassedLaw) where
     abbrev IsHistoryFrom : List Said → ScriptEnd → StandingView → History → Type 0
     IsHistoryFrom said end s h = IsHistory IsStep no_name IsDoneThere (λ n. held files (bytes n)) said end s h
 
-    at_end : (end : ScriptEnd) (s : StandingView) (h : History) → IsHistoryFrom [] end s h → h.end ≡ None → ScriptHolds [] s h
+    at_end : (end : ScriptEnd) (s : StandingView) (h : History) → IsHistoryFrom [] end s h → h.end ≡ None
+        → ScriptHolds [] s h
     at_end at_its_end s h is none = subst (ScriptHolds [] s) (sym is) (record { printed = none_printed; hold = refl })
     at_end (refused_at place c) s h is none = absurd (let some = ap (λ (x : History). x.end) is in let no : ⊥ = cc in no)
 
     -- behind a step that goes on
     behind_step : (c : Command) (more : List Said) (end : ScriptEnd) (s : StandingView) (h : History) (step : Step StandingView)
         → IsStep c s step → AfterStep step (λ t x. IsHistoryFrom more end t x) h → h.end ≡ None
-        → ((t : StandingView) (x : History) → IsHistoryFrom more end t x → x.end ≡ None → ScriptHolds more t x) → ScriptHolds (command c ∷ more) s h
+        → ((t : StandingView) (x : History) → IsHistoryFrom more end t x → x.end ≡ None → ScriptHolds more t x)
+        → ScriptHolds (command c ∷ more) s h
     behind_step c more end s h (goes events t) right goes_on none again =
         let x : History = goes_on.more in
         let rest : ScriptHolds more t x = again t x goes_on.right (sym (ap (λ (y : History). y.end) goes_on.h_is) ∙ none) in
@@ -142,7 +147,8 @@ module _ (passed : PassedLaw) where
         })
     behind_step c more end s h (work.ends events f) right goes_on none again = absurd (let some = ap (λ (x : History). x.end) goes_on in let no : ⊥ = cc in no)
 
-    script_holds : (said : List Said) (end : ScriptEnd) (s : StandingView) (h : History) → IsHistoryFrom said end s h → h.end ≡ None → ScriptHolds said s h
+    script_holds : (said : List Said) (end : ScriptEnd) (s : StandingView) (h : History) → IsHistoryFrom said end s h
+        → h.end ≡ None → ScriptHolds said s h
     script_holds [] end s h is none = at_end end s h is none
     script_holds (name n ∷ more) end s h is none =
         let rest : ScriptHolds more s is.more = script_holds more end s is.more is.right (sym (ap (λ (y : History). y.end) is.h_is) ∙ none) in
@@ -164,7 +170,8 @@ is_whole [] h = tt
 is_whole (b ∷ bs) h = (h.0.0, h.0.1, is_whole bs h.1)
 
 -- each solved settle can
-pub can_be_written : (events : List Event) → AllByRecursion (IfSettle IsSolved) events → AllByRecursion (IfSettle CanBeWritten) events
+pub can_be_written : (events : List Event) → AllByRecursion (IfSettle IsSolved) events
+    → AllByRecursion (IfSettle CanBeWritten) events
 can_be_written [] h = tt
 can_be_written (settle s ∷ events) h = (inr h.0.numbers, can_be_written events h.1)
 can_be_written (asked n ∷ events) h = (tt, can_be_written events h.1)
@@ -185,7 +192,8 @@ module _ (rules : RuleLaw) where
   accepts (refuses k) s line count h = absurd h
 
   -- bytes of blocks that hold are accepted
-  bytes_accepted : CertificateLaw → (bs : List Block) (s : Checking) → AllByRecursion IsFit bs → AllHold due after (before bs ends) s
+  bytes_accepted : CertificateLaw → (bs : List Block) (s : Checking) → AllByRecursion IsFit bs
+      → AllHold due after (before bs ends) s
       → IsAnswer due after (Some (certificate_bytes Whole bs)) s (accepted (length bs))
   bytes_accepted law bs s fit h =
       let c : Certificate = before bs ends in
@@ -203,8 +211,10 @@ module _ (rules : RuleLaw) where
       subst (λ (q : List Block). IsAnswer due after (Some (certificate_bytes Whole q)) s (accepted (length q))) (whole_blocks bs) read
 
   -- where its settles can be written
-  pub written_accepted : PassedLaw → CertificateLaw → (files : Files) (p : Part) (h : History) → IsScriptHistory files p h → h.end ≡ None
-      → AllByRecursion (IfSettle CanBeWritten) h.events → AreAccepted (bytes_by certificate h) (solves_of p) (length (all_rounds h.events))
+  pub written_accepted : PassedLaw → CertificateLaw → (files : Files) (p : Part) (h : History)
+      → IsScriptHistory files p h → h.end ≡ None
+      → AllByRecursion (IfSettle CanBeWritten) h.events
+      → AreAccepted (bytes_by certificate h) (solves_of p) (length (all_rounds h.events))
   written_accepted passed law files p h is none written =
       let s : Checking = open_solves (solves_of p) no_positions 0 in
       let holds : ScriptHolds passed p.said first_standing h = script_holds passed files p.said (ended_by p.left) first_standing h is none in

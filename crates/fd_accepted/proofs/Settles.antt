@@ -27,7 +27,7 @@ use Rattle.fd_daily.specs.Underway.{plant_at}
 use Rattle.fd_check.specs.Checking.{Checking, Settling, after, behind_round, due, due_in, open_hours, open_solves, outcome_in, sampled_by, under_way}
 use Rattle.fd_outcome.specs.Certificates.{act_in, block_in, blocks_from}
 use Rattle.fd_outcome.specs.Settles.{Round, Settle, round_of}
-use Rattle.fd_app.specs.Solving.{rounds_of}
+use Rattle.fd_solving.specs.Solving.{rounds_of}
 use Rattle.fd_accepted.proofs.Claims as claims
 use Rattle.fd_accepted.proofs.Points.{IsSolutionPoint, solution_point}
 
@@ -49,7 +49,8 @@ size_in c hour at = refl
 
 -- ---- one round
 
-module _ (x : Settle) (limits : Limits) (at : Positions) (m : Claim) (computed : IsComputed limits (network_in x.circuit x.hour at) m) where
+module _ (x : Settle) (limits : Limits) (at : Positions) (m : Claim)
+    (computed : IsComputed limits (network_in x.circuit x.hour at) m) where
   abbrev v : NetworkView
   v = network_in x.circuit x.hour at
 
@@ -83,7 +84,8 @@ module _ (x : Settle) (limits : Limits) (at : Positions) (m : Claim) (computed :
     all_within [] h = tt
     all_within (a ∷ rest) h = ((omega (arith, h.0.time), (omega (arith, h.0.control), (omega (arith, h.0.steps), tt))), all_within rest h.1)
 
-    pub round_writable : x.number < 2 ^ 127 → x.hour < 2 ^ 127 → k < 2 ^ 127 → size_of (layout_of x.circuit.elements) < 2 ^ 127
+    pub round_writable : x.number < 2 ^ 127 → x.hour < 2 ^ 127 → k < 2 ^ 127
+        → size_of (layout_of x.circuit.elements) < 2 ^ 127
         → AllByRecursion HasActNumbers acts → IsWritable (block_in x k (round_of m acts))
     round_writable n h r s each =
         subst IsWritable block_is (claims.writable v m there computed.certificate x.number x.hour k (map act_in acts) n h r
@@ -112,7 +114,8 @@ module _ (x : Settle) (hours : List ℕ) (more : List CircuitView) where
   abbrev pub behind_it : Machine → Checking
   behind_it n = open_hours x.circuit more hours n.at n.opened x.number (λ left count. open_solves more left count)
 
-  module _ (limits : Limits) (n : Machine) (last : Certificate) (last_holds : AllHold due after last (behind_it n)) where
+  module _ (limits : Limits) (n : Machine) (last : Certificate)
+      (last_holds : AllHold due after last (behind_it n)) where
     abbrev Computed : Machine → List (Claim × List Act) → Type 0
     Computed machine rounds = IsComputedFrom limits (plant_at x.circuit x.hour) machine rounds (ended Settled) n
 
@@ -137,7 +140,8 @@ module _ (x : Settle) (hours : List ℕ) (more : List CircuitView) where
     by_outcome k machine r rest (Moves made j) e f go =
         (ap (λ (q : List Act). moves (map act_in q)) (sym f.0), go j f.1)
 
-    pub rounds_hold : (rounds : List (Claim × List Act)) (k : ℕ) (machine : Machine) → Computed machine rounds → HoldFrom k machine rounds
+    pub rounds_hold : (rounds : List (Claim × List Act)) (k : ℕ) (machine : Machine) → Computed machine rounds
+        → HoldFrom k machine rounds
     rounds_hold [] k machine h = absurd h
     rounds_hold (r ∷ rest) k machine h =
         let s : Settling = at_round k machine in
@@ -165,8 +169,10 @@ module _ (x : Settle) (hours : List ℕ) (more : List CircuitView) where
     fit_behind (Ends end j) r rest k f go = subst (λ (q : List (Claim × List Act)). AllByRecursion IsFit (blocks_from x (k + 1) (rounds_of q))) (sym f.1.0) tt
     fit_behind (Moves made j) r rest k f go = go j f.1
 
-    pub rounds_fit : (rounds : List (Claim × List Act)) (k : ℕ) (machine : Machine) → IsComputedFrom limits (plant_at x.circuit x.hour) machine rounds ending n
-        → k + length rounds < 2 ^ 127 → AllByRecursion (λ (r : Round). AllByRecursion HasActNumbers r.acts) (rounds_of rounds)
+    pub rounds_fit : (rounds : List (Claim × List Act)) (k : ℕ) (machine : Machine)
+        → IsComputedFrom limits (plant_at x.circuit x.hour) machine rounds ending n
+        → k + length rounds < 2 ^ 127
+        → AllByRecursion (λ (r : Round). AllByRecursion HasActNumbers r.acts) (rounds_of rounds)
         → AllByRecursion IsFit (blocks_from x k (rounds_of rounds))
     rounds_fit [] k machine h few acts = tt
     rounds_fit (r ∷ rest) k machine h few acts = (

@@ -19,9 +19,10 @@ use Rattle.fd_outcome.specs.Events.{Event, IfSettle, settle}
 use Rattle.fd_outcome.specs.Settles.{Round, Settle, SettleEnd, settled, failed, without_certificate}
 use Rattle.fd_outcome.specs.Work.{Step, goes, ends}
 use Rattle.fd_daily.specs.Underway.{plant_at}
-use Rattle.fd_app.specs.Solving.{IsBehind, IsEndBy, IsHour, IsHoursStep, hour_begun, kept_by, rounds_of}
-use Rattle.fd_app.specs.Steps.{Kept, StandingView, behind_events, hour_settle, standing}
-use Rattle.fd_app.specs.Headline.{HasModestNumbers}
+use Rattle.fd_pages.specs.Hours.{Kept, hour_settle}
+use Rattle.fd_solving.specs.Solving.{IsBehind, IsEndBy, IsHour, IsHoursStep, hour_begun, kept_by, rounds_of}
+use Rattle.fd_solving.specs.Steps.{StandingView, behind_events, standing}
+use Rattle.fd_solving.specs.Headline.{HasModestNumbers}
 use Rattle.fd_accepted.specs.Printed.{all_rounds, rounds_in}
 use Rattle.fd_accepted.proofs.Settles.{before, rounds_fit, rounds_hold}
 use Rattle.fd_accepted.proofs.Texts.{IsNoLine, all_blocks, blocks_in}
@@ -32,7 +33,8 @@ pub before_both : (a b : List Block) (last : Certificate) → before (a ++ b) la
 before_both [] b last = refl
 before_both (x ∷ a) b last = ap (gives x) (before_both a b last)
 
-pub both_all : {X : Type 0} (P : X → Type 0) (xs ys : List X) → AllByRecursion P xs → AllByRecursion P ys → AllByRecursion P (xs ++ ys)
+pub both_all : {X : Type 0} (P : X → Type 0) (xs ys : List X) → AllByRecursion P xs → AllByRecursion P ys
+    → AllByRecursion P (xs ++ ys)
 both_all P [] ys a b = b
 both_all P (x ∷ xs) ys a b = (a.0, both_all P xs ys a.1 b)
 
@@ -91,7 +93,8 @@ both_printed a b p q = record {
 
 module _ (c : CircuitView) where
   -- a settle that ended well was computed to its end
-  ended_well : (hour : ℕ) (ending : Ending) (n : Machine) (end : SettleEnd) → IsEndBy c hour ending n end → end ≡ settled → ending ≡ ended Settled
+  ended_well : (hour : ℕ) (ending : Ending) (n : Machine) (end : SettleEnd) → IsEndBy c hour ending n end
+      → end ≡ settled → ending ≡ ended Settled
   ended_well hour (ended Open) n end h e = absurd h
   ended_well hour (ended Settled) n end h e = refl
   ended_well hour (ended Limited) n end h e = absurd (let no : ⊥ = cc in no)
@@ -149,8 +152,10 @@ module _ (c : CircuitView) where
             (rounds_hold x hours more (limits_of c.options) n (before (blocks_in events) last) (rest.hold last h) rounds 0 (hour_begun c hour l) computed);
       }
 
-    hour_goes : (hour : ℕ) (hours : List ℕ) (l : Kept) (made : Settle) (kept : Kept) → IsHour c hour l made kept → made.end ≡ settled
-        → (events : List Event) (t : StandingView) → HoursHold hours kept events t → HoursHold (hour ∷ hours) l (settle made ∷ events) t
+    hour_goes : (hour : ℕ) (hours : List ℕ) (l : Kept) (made : Settle) (kept : Kept) → IsHour c hour l made kept
+        → made.end ≡ settled
+        → (events : List Event) (t : StandingView) → HoursHold hours kept events t
+        → HoursHold (hour ∷ hours) l (settle made ∷ events) t
     hour_goes hour hours l made kept is well events t rest =
         let end_is : is.end ≡ settled = sym (ap (λ (s : Settle). s.end) is.settle_is) ∙ well in
         let ending : is.ending ≡ ended Settled = ended_well hour is.ending is.machine is.end is.end_is end_is in
@@ -188,7 +193,8 @@ module _ (c : CircuitView) where
             (hour_goes hour hours l h.made h.kept h.is well es u (again (goes es u) right es u refl)))
         behind well (ends es f) right is again = absurd (let no : ⊥ = cc in no)
 
-        by : (end : SettleEnd) → h.made.end ≡ end → IsBehind h.made end (λ s. IsHoursStep c hours h.kept s) step → Again hours h.kept
+        by : (end : SettleEnd) → h.made.end ≡ end → IsBehind h.made end (λ s. IsHoursStep c hours h.kept s) step
+            → Again hours h.kept
             → HoursHold (hour ∷ hours) l events t
         by settled well goes_on again = behind well goes_on.more goes_on.right goes_on.step_is again
         by (failed f) well goes_on again = absurd (let no : ⊥ = cc in no)

@@ -30,11 +30,13 @@ all_blocks (e ∷ a) b = ap (λ (bs : List Block). blocks_at e ++ bs) (all_block
 
 -- ---- texts among calls
 
-names_aside : (names : List (List ℕ)) (calls : List Call) → texts_written (map reads names ++ calls) ≡ texts_written calls
+names_aside : (names : List (List ℕ)) (calls : List Call)
+    → texts_written (map reads names ++ calls) ≡ texts_written calls
 names_aside [] calls = refl
 names_aside (n ∷ names) calls = names_aside names calls
 
-texts_first : (texts : List (List ℕ)) (calls : List Call) → texts_written (map writes texts ++ calls) ≡ texts ++ texts_written calls
+texts_first : (texts : List (List ℕ)) (calls : List Call)
+    → texts_written (map writes texts ++ calls) ≡ texts ++ texts_written calls
 texts_first [] calls = refl
 texts_first (t ∷ texts) calls = ap (λ (ts : List (List ℕ)). t ∷ ts) (texts_first texts calls)
 
@@ -63,11 +65,13 @@ lines_together : (a b : List Line) → bytes_of (a ++ b) ≡ bytes_of a ++ bytes
 lines_together [] b = refl
 lines_together (l ∷ a) b = ap (λ (bs : List ℕ). line_bytes l ++ bs) (lines_together a b) ∙ sym (append_assoc (line_bytes l) (bytes_of a) (bytes_of b))
 
-lines_written : (ls : List Line) (rest : List (List ℕ)) → concat (map line_bytes ls ++ rest) ≡ bytes_of ls ++ concat rest
+lines_written : (ls : List Line) (rest : List (List ℕ))
+    → concat (map line_bytes ls ++ rest) ≡ bytes_of ls ++ concat rest
 lines_written [] rest = refl
 lines_written (l ∷ ls) rest = ap (λ (bs : List ℕ). line_bytes l ++ bs) (lines_written ls rest) ∙ sym (append_assoc (line_bytes l) (bytes_of ls) (concat rest))
 
-blocks_written : (bs : List Block) (rest : List (List ℕ)) (later : List Block) → concat rest ≡ bytes_of (lines_behind Whole later)
+blocks_written : (bs : List Block) (rest : List (List ℕ)) (later : List Block)
+    → concat rest ≡ bytes_of (lines_behind Whole later)
     → concat (blocks_texts bs ++ rest) ≡ bytes_of (lines_behind Whole (bs ++ later))
 blocks_written [] rest later h = h
 blocks_written (b ∷ bs) rest later h =
@@ -99,5 +103,6 @@ by_end events end e h =
     ∙ ap (λ (bs : List ℕ). first ++ bs) (events_written events h)
 
 -- a history without a fault is printed as the bytes of a certificate of its blocks
-pub bytes_are : (h : History) → h.end ≡ None → AllByRecursion IsNoLine h.events → bytes_by certificate h ≡ certificate_bytes Whole (blocks_in h.events)
+pub bytes_are : (h : History) → h.end ≡ None → AllByRecursion IsNoLine h.events
+    → bytes_by certificate h ≡ certificate_bytes Whole (blocks_in h.events)
 bytes_are h e none = by_end h.events h.end e none

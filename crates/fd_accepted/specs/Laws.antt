@@ -12,8 +12,9 @@ use Rattle.fd_outcome.specs.Calls.{certificate}
 use Rattle.fd_report.specs.Accepted.{accepted_fields}
 use Rattle.fd_outcome.specs.Events.{AllSettles, History, asked, finishes, row}
 use Rattle.fd_outcome.specs.Runs.{Runs}
-use Rattle.fd_app.specs.Headline.{IsSolved}
-use Rattle.fd_app.specs.Run.{IsFormHistory, IsScriptHistory, style_of}
+use Rattle.fd_solving.specs.Headline.{IsSolved}
+use Rattle.fd_solving.specs.Scripts.{IsScriptHistory}
+use Rattle.fd_app.specs.Run.{IsFormHistory, style_of}
 use Rattle.fd_check.specs.Checking.{no_positions}
 use Rattle.fd_words.specs.Words.{Cert, Check, Form}
 use Rattle.fd_accepted.specs.Printed.{all_rounds, bytes_by}
@@ -30,7 +31,8 @@ CertLaw = (files : Files) (p : Part) (h : History) → IsScriptHistory files p h
     → AreAccepted (bytes_by certificate h) (solves_of p) (length (all_rounds h.events))
 
 -- a sink took these bytes, which are accepted
-pub record HaveTaken (written : List ℕ) (circuits : List CircuitView) (count : ℕ) (old new : Option (List ℕ)) : Type 0 where
+pub record HaveTaken (written : List ℕ) (circuits : List CircuitView) (count : ℕ)
+    (old new : Option (List ℕ)) : Type 0 where
   pub taken : Becomes old new (λ bytes. bytes ++ written)
   pub are_accepted : AreAccepted written circuits count
 
@@ -40,7 +42,8 @@ pub record HasAccepted (count : ℕ) (h : History) : Type 0 where
   pub h_is : h ≡ finishes (map asked names ++ row (accepted_fields count) ∷ [])
 
 -- over a library and a sink that tell what they see
-module _ {L S : Type 0} (faults : L → ℕ) (asked_of : L → Option (List (List ℕ))) (taken : S → Option (List ℕ)) (calls : S → Option ℕ) where
+module _ {L S : Type 0} (faults : L → ℕ) (asked_of : L → Option (List (List ℕ))) (taken : S → Option (List ℕ))
+    (calls : S → Option ℕ) where
   -- a run of a form that answers 0
   abbrev pub RunsWell : Files → Option Form → L → L → S → S → Type 0
   RunsWell files form lib_old lib_new old new =
@@ -57,5 +60,6 @@ module _ {L S : Type 0} (faults : L → ℕ) (asked_of : L → Option (List (Lis
   abbrev pub RoundTripLaw : Type 0
   RoundTripLaw = (files there : Files) (form : Option Form) (file name : List ℕ) (h g : History) (lib_old lib_new : L) (old new : S) → form ≡ Some (Cert file)
       → IsFormHistory files form h → RunsWell files form lib_old lib_new old new
-      → said_of there (chars file) ≡ said_of files (chars file) → held there (bytes (chars name)) ≡ Some (bytes_by certificate h)
+      → said_of there (chars file) ≡ said_of files (chars file)
+      → held there (bytes (chars name)) ≡ Some (bytes_by certificate h)
       → IsFormHistory there (Some (Check file name)) g → HasAccepted (length (all_rounds h.events)) g

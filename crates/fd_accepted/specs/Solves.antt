@@ -2,7 +2,7 @@
 use Rattle.std.specs.Prelude.{List, [], ◌∷◌}
 use Rattle.dss_circuit.specs.Circuit.{CircuitView, empty_circuit}
 use Rattle.dss_script.specs.Said.{Part, Said, name, command}
-use Rattle.fd_app.specs.Commands.{Applied, nothing_left, solve_left, bases_left, refused_at, tried}
+use Rattle.fd_solving.specs.Commands.{Applied, nothing_left, solve_left, bases_left, refused_at, tried}
 
 -- the circuit of a command that is a Solve, and those that come behind it; none behind a refusal
 abbrev pub behind_command : Applied → (CircuitView → List CircuitView) → List CircuitView

@@ -13,8 +13,10 @@ use Rattle.fd_app.specs.Alone.{RunsAlone}
 
 -- ---- any library
 
-module _ {L S : Type 0} (faults : L → ℕ) (asked_of : L → Option (List (List ℕ))) (taken : S → Option (List ℕ)) (calls : S → Option ℕ) (lib : L) (old new : S) where
-  pub alone_runs : (is_history : History → Type 0) (style : Style) (good : Settle → Type 0) (code : ℕ) → RunsAlone taken calls old new is_history style good code
+module _ {L S : Type 0} (faults : L → ℕ) (asked_of : L → Option (List (List ℕ))) (taken : S → Option (List ℕ))
+    (calls : S → Option ℕ) (lib : L) (old new : S) where
+  pub alone_runs : (is_history : History → Type 0) (style : Style) (good : Settle → Type 0) (code : ℕ)
+      → RunsAlone taken calls old new is_history style good code
       → Runs faults asked_of taken calls lib lib old new is_history style good code
   alone_runs is_history style good code r = record {
     history = r.history;
@@ -32,7 +34,8 @@ module _ {L S : Type 0} (faults : L → ℕ) (asked_of : L → Option (List (Lis
   }
 
 -- a history that is printed
-pub printed_alone : {S : Type 0} (taken : S → Option (List ℕ)) (calls : S → Option ℕ) (old new : S) (h : History) (style : Style) (good : Settle → Type 0) (code : ℕ) → AllSettles good h.events
+pub printed_alone : {S : Type 0} (taken : S → Option (List ℕ)) (calls : S → Option ℕ) (old new : S) (h : History) (style : Style) (good : Settle → Type 0) (code : ℕ)
+    → AllSettles good h.events
     → Printed taken calls old new (doing style h) code → RunsAlone taken calls old new (λ x. x ≡ h) style good code
 printed_alone taken calls old new h style good code all p = record {
   history = h;
@@ -59,7 +62,8 @@ lines_good good [] = All-nil (IfSettle good)
 lines_good good (text ∷ lines) = All-cons (IfSettle good) (line text) (map line lines) tt (lines_good good lines)
 
 -- a script's lines with their ends are what is written
-pub script_calls : (number sections : ℕ) → map writes (lines_of number sections) ≡ calls_of report (map line (script_of number sections)) None
+pub script_calls : (number sections : ℕ)
+    → map writes (lines_of number sections) ≡ calls_of report (map line (script_of number sections)) None
 script_calls number sections =
     let lines = script_of number sections in
     sym (opened_none (body report (map line lines) ++ []) ∙ append-nil (body report (map line lines)) ∙ lines_body lines)

@@ -1,7 +1,7 @@
 -- `bench` at work: its steps are those of `solve`, its history is what it makes of that of `solve`, and nothing is asked of the
 -- library.
 use Rattle.std.proofs.Common.{◌≡◌, ◌∙◌, ℕ, ◌+◌, Bool, true, false, List, [], ◌∷◌, ◌++◌, map, length, Option, Some, None, refl, sym, ap, subst, inl, inr}
-use Rattle.std.specs.List.{concat, flat_map}
+use Rattle.std.specs.List.{concat}
 use Rattle.std.specs.Str.{chars}
 use Rattle.std.proofs.lemmas.List.{append_assoc, append-nil}
 use Rattle.std.proofs.lemmas.List.Elements.{All-cons, All-nil}
@@ -14,8 +14,6 @@ use Rattle.dss_profile.specs.declared.command.Command.{Command}
 use Rattle.dss_script.specs.Said.{Said, ScriptEnd, at_its_end, command, end_in, ended_by, name, refused_at, said_in, said_of}
 use Rattle.dss_script.specs.SaidLaws.{SaidLaw}
 use Rattle.dss_script.specs.Script.{Script, script_of}
-use Rattle.fd_bases.specs.declared.bus_base.BusBase.{BusBase}
-use Rattle.fd_report.specs.Bases.{base_fields}
 use Rattle.fd_report.specs.declared.faults.Cause.TheVariants as cause
 use Rattle.fd_report.specs.declared.faults.Fault.{Fault}
 use Rattle.fd_report.specs.declared.faults.Fault.TheVariants as fault
@@ -29,16 +27,19 @@ use Rattle.fd_outcome.specs.Runs.{Runs}
 use Rattle.fd_outcome.specs.Way.{whole}
 use Rattle.fd_outcome.specs.Work.{AfterStep, ExactlyOne, Step, ends, goes}
 use Rattle.fd_outcome.proofs.CallerLemmas.{wrote_nothing}
+use Rattle.fd_pages.specs.Lines.{lines_of_text}
+use Rattle.fd_solving.specs.Tallies.{no_rounds, tallied, tally_of, GoesOnTallied}
+use Rattle.fd_solving.specs.Commands.{IsStep}
+use Rattle.fd_solving.specs.Headline.{IsSolved}
+use Rattle.fd_solving.specs.Scripts.{IsDoneThere, first_standing, no_name}
+use Rattle.fd_solving.specs.Steps.{StandingView}
+use Rattle.fd_solving.specs.declared.tally.Tally.{Tally}
 use Rattle.fd_app.specs.Alone.{RunsAlone}
-use Rattle.fd_app.specs.Bench.{bench_behind, feeder_files, feeder_name, line_texts, lines_alone, no_rounds, tallied, tally_of, tally_text}
-use Rattle.fd_app.specs.Benching.{BenchView, GoesOnTallied, IsBenchLast, IsBenchStep, bench_at, lines_of_text, no_bench_name, with_tally}
-use Rattle.fd_app.specs.Commands.{IsStep}
-use Rattle.fd_app.specs.Headline.{IsSolved}
-use Rattle.fd_app.specs.Run.{IsBenchHistory, IsDoneThere, first_standing, no_name}
-use Rattle.fd_app.specs.Steps.{StandingView}
-use Rattle.fd_app.specs.declared.tally.Tally.{Tally}
+use Rattle.fd_app.specs.Bench.{bench_behind, feeder_files, feeder_name, lines_alone, tally_text}
+use Rattle.fd_app.specs.Benching.{BenchView, IsBenchLast, IsBenchStep, bench_at, no_bench_name, with_tally}
+use Rattle.fd_app.specs.Run.{IsBenchHistory}
+use Rattle.fd_solving.proofs.CallerLemmas.{one_step}
 use Rattle.fd_app.proofs.Alone.{opened_none}
-use Rattle.fd_app.proofs.Tests.{one_step}
 
 -- ---- a step
 
@@ -51,16 +52,19 @@ one_bench_step c s =
       only = λ step h. h.step_is ∙ ap (with_tally s.sections s.tally) (one.only h.solving h.right);
     }
 
-same_events : (sections : ℕ) (t : Tally) (step : Step StandingView) → events_in (with_tally sections t step) ≡ events_in step
+same_events : (sections : ℕ) (t : Tally) (step : Step StandingView)
+    → events_in (with_tally sections t step) ≡ events_in step
 same_events sections t (goes events s) = refl
 same_events sections t (ends events f) = refl
 
-ends_so : (sections : ℕ) (t : Tally) (style : Style) (begun : Bool) (step : Step StandingView) (code : ℕ) (m : Made) → EndsSo style begun step code m → EndsSo style begun (with_tally sections t step) code m
+ends_so : (sections : ℕ) (t : Tally) (style : Style) (begun : Bool) (step : Step StandingView) (code : ℕ) (m : Made)
+    → EndsSo style begun step code m → EndsSo style begun (with_tally sections t step) code m
 ends_so sections t style begun (goes events s) code m h = h
 ends_so sections t style begun (ends events f) code m h = h
 
 module _ {S : Type 0} (taken : S → Option (List ℕ)) (calls : S → Option ℕ) (c : Command) (s : BenchView) where
-  pub bench_goes : (now : StandingView) (t : Tally) (old new : S) (begun after : Bool) → GoesOnTallied lines_of_text (IsStep c s.standing) now taken calls old new begun after s.tally t
+  pub bench_goes : (now : StandingView) (t : Tally) (old new : S) (begun after : Bool)
+      → GoesOnTallied lines_of_text (IsStep c s.standing) now taken calls old new begun after s.tally t
       → GoesOn lines_of_text IsSolved (IsBenchStep c s) (bench_at s.sections t now) taken calls old new begun after
   bench_goes now t old new begun after h = record {
     events = h.on.events;
@@ -70,7 +74,9 @@ module _ {S : Type 0} (taken : S → Option (List ℕ)) (calls : S → Option �
     begun_is = h.on.begun_is;
   }
 
-  pub bench_ends : (old new : S) (begun : Bool) (code : ℕ) → EndsAt lines_of_text IsSolved (IsStep c s.standing) taken calls old new begun code → EndsAt lines_of_text IsSolved (IsBenchStep c s) taken calls old new begun code
+  pub bench_ends : (old new : S) (begun : Bool) (code : ℕ)
+      → EndsAt lines_of_text IsSolved (IsStep c s.standing) taken calls old new begun code
+      → EndsAt lines_of_text IsSolved (IsBenchStep c s) taken calls old new begun code
   bench_ends old new begun code h = record {
     step = with_tally s.sections s.tally h.step;
     right = record { solving = h.step; right = h.right; step_is = refl };
@@ -83,19 +89,17 @@ module _ {S : Type 0} (taken : S → Option (List ℕ)) (calls : S → Option �
     wrote = h.wrote;
   }
 
--- bases have no text
-pub no_base_texts : (bases : List BusBase) → [] ≡ flat_map line_texts (map (λ b. row (base_fields b.bus b.kv)) bases)
-no_base_texts [] = refl
-no_base_texts (b ∷ bases) = no_base_texts bases
-
 -- ---- the end
 
-pub last_line : (begun : Bool) (text : List ℕ) → map writes ((text ++ 10 ∷ []) ∷ []) ≡ last_calls lines_of_text begun (line text ∷ []) None
+pub last_line : (begun : Bool) (text : List ℕ)
+    → map writes ((text ++ 10 ∷ []) ∷ []) ≡ last_calls lines_of_text begun (line text ∷ []) None
 last_line true text = refl
 last_line false text = refl
 
-module _ {L S : Type 0} (faults : L → ℕ) (asked_of : L → Option (List (List ℕ))) (taken : S → Option (List ℕ)) (calls : S → Option ℕ) where
-  pub bench_finishes : (lib : L) (old new : S) (begun : Bool) (text : List ℕ) (code : ℕ) → Printed taken calls old new (record { calls = last_calls lines_of_text begun (line text ∷ []) None; end = None }) code
+module _ {L S : Type 0} (faults : L → ℕ) (asked_of : L → Option (List (List ℕ))) (taken : S → Option (List ℕ))
+    (calls : S → Option ℕ) where
+  pub bench_finishes : (lib : L) (old new : S) (begun : Bool) (text : List ℕ) (code : ℕ)
+      → Printed taken calls old new (record { calls = last_calls lines_of_text begun (line text ∷ []) None; end = None }) code
       → Finishes lines_of_text IsSolved (λ h. h ≡ finishes (line text ∷ [])) faults asked_of taken calls lib lib old new begun code
   bench_finishes lib old new begun text code p = record {
     history = finishes (line text ∷ []);
@@ -114,7 +118,8 @@ module _ {L S : Type 0} (faults : L → ℕ) (asked_of : L → Option (List (Lis
 
 -- ---- the history of `solve` behind it
 
-behind_more : (sections : ℕ) (t : Tally) (front events : List Event) (end : Option Fault) → before front (bench_behind sections (tally_of t front) events end) ≡ bench_behind sections t (front ++ events) end
+behind_more : (sections : ℕ) (t : Tally) (front events : List Event) (end : Option Fault)
+    → before front (bench_behind sections (tally_of t front) events end) ≡ bench_behind sections t (front ++ events) end
 behind_more sections t front events None =
     ap (λ (l : List Event). finishes l) (sym (append_assoc front events (line (tally_text sections (tally_of (tally_of t front) events)) ∷ [])))
     ∙ ap (λ (u : Tally). finishes ((front ++ events) ++ line (tally_text sections u) ∷ [])) (sym (fold-append tallied t front events))
@@ -129,9 +134,11 @@ module _ (there : List ℕ → Option (List ℕ)) (sections : ℕ) where
   abbrev IsBench : List Said → ScriptEnd → BenchView → History → Type 0
   IsBench left end s h = IsHistory IsBenchStep no_bench_name IsBenchLast there left end s h
 
-  by_step : (c : Command) (more : List Said) (end : ScriptEnd) (s : StandingView) (t : Tally) (h : History) (step : Step StandingView) → IsStep c s step
+  by_step : (c : Command) (more : List Said) (end : ScriptEnd) (s : StandingView) (t : Tally) (h : History) (step : Step StandingView)
+      → IsStep c s step
       → ((next : StandingView) (u : Tally) (x : History) → IsBench more end (bench_at sections u next) x → Solving more end next u x)
-      → AfterStep (with_tally sections t step) (λ next x. IsBench more end next x) h → Solving (command c ∷ more) end s t h
+      → AfterStep (with_tally sections t step) (λ next x. IsBench more end next x) h
+      → Solving (command c ∷ more) end s t h
   by_step c more end s t h (goes events next) right go after =
       let rest = go next (tally_of t events) after.more after.right in
       record {
@@ -141,7 +148,8 @@ module _ (there : List ℕ → Option (List ℕ)) (sections : ℕ) where
       }
   by_step c more end s t h (ends events f) right go after = record { solving = ended events f; right = record { step = ends events f; right = right; goes_on = refl }; h_is = after }
 
-  solving_of : (left : List Said) (end : ScriptEnd) (s : StandingView) (t : Tally) (h : History) → IsBench left end (bench_at sections t s) h → Solving left end s t h
+  solving_of : (left : List Said) (end : ScriptEnd) (s : StandingView) (t : Tally) (h : History)
+      → IsBench left end (bench_at sections t s) h → Solving left end s t h
   solving_of [] at_its_end s t h is = record { solving = finishes []; right = refl; h_is = is }
   solving_of [] (refused_at place c) s t h is = record { solving = ended [] (fault.Script place (cause.Script c)); right = refl; h_is = is }
   solving_of (name n ∷ more) end s t h is =
@@ -156,8 +164,12 @@ module _ (there : List ℕ → Option (List ℕ)) (sections : ℕ) where
       (subst (λ step. AfterStep step (λ next x. IsBench more end next x) h) is.right.step_is is.goes_on)
 
 -- a run over what is held comes to the history of `bench`
-pub bench_history : (law : SaidLaw) (number sections : ℕ) (script : Script) (state : BenchView) → script ≡ script_of (feeder_files number sections) (chars feeder_name) → state ≡ bench_at sections no_rounds first_standing
-    → (h : History) → IsHistory IsBenchStep no_bench_name IsBenchLast (λ n. held (feeder_files number sections) (bytes n)) (said_in script) (end_in script) state h → IsBenchHistory number sections h
+pub bench_history : (law : SaidLaw) (number sections : ℕ) (script : Script) (state : BenchView)
+    → script ≡ script_of (feeder_files number sections) (chars feeder_name)
+    → state ≡ bench_at sections no_rounds first_standing
+    → (h : History)
+    → IsHistory IsBenchStep no_bench_name IsBenchLast (λ n. held (feeder_files number sections) (bytes n)) (said_in script) (end_in script) state h
+    → IsBenchHistory number sections h
 bench_history law number sections script state is empty h right =
     let files = feeder_files number sections in
     let p = said_of files (chars feeder_name) in
@@ -208,7 +220,8 @@ kept_body (e ∷ events) =
     ∙ ap (λ l. l ++ kept (body lines_of_text events)) (kept_event e)
     ∙ ap (λ l. calls_in lines_alone e ++ l) (kept_body events)
 
-kept_calls : (events : List Event) (end : Option Fault) → kept (calls_of lines_of_text events end) ≡ calls_of lines_alone events end
+kept_calls : (events : List Event) (end : Option Fault)
+    → kept (calls_of lines_of_text events end) ≡ calls_of lines_alone events end
 unfolding kept
 kept_calls events None =
     ap kept (opened_none (body lines_of_text events ++ []))
@@ -237,7 +250,8 @@ front_kept all code m front = elim front [
   })
 ]
 
-done_kept : (h : History) (code : ℕ) (m : Made) → IsDone (doing lines_of_text h) code m → IsDone (doing lines_alone h) code (kept_made m)
+done_kept : (h : History) (code : ℕ) (m : Made) → IsDone (doing lines_of_text h) code m
+    → IsDone (doing lines_alone h) code (kept_made m)
 done_kept h code m done =
     let same = kept_calls h.events h.end in
     elim done [
@@ -245,8 +259,10 @@ done_kept h code m done =
       | inr front ↦ inr (subst (λ l. IsFrontOf l code (kept_made m)) same (front_kept (calls_of lines_of_text h.events h.end) code m front))
     ]
 
-module _ {L S : Type 0} (faults : L → ℕ) (asked_of : L → Option (List (List ℕ))) (taken : S → Option (List ℕ)) (calls : S → Option ℕ) (lib_old lib_new : L) (old new : S) where
-  wrote_kept : (m : Made) → Sees asked_of taken calls lib_old lib_new old new m → Wrote taken calls old new (kept_made m)
+module _ {L S : Type 0} (faults : L → ℕ) (asked_of : L → Option (List (List ℕ))) (taken : S → Option (List ℕ))
+    (calls : S → Option ℕ) (lib_old lib_new : L) (old new : S) where
+  wrote_kept : (m : Made) → Sees asked_of taken calls lib_old lib_new old new m
+      → Wrote taken calls old new (kept_made m)
   wrote_kept m sees = record {
     names = kept_names m.calls;
     bytes_are = subst (λ (texts : List (List ℕ)). Becomes (taken old) (taken new) (λ bs. bs ++ (concat texts ++ torn_bytes m.torn))) (sym (kept_texts m.calls)) sees.bytes;
@@ -254,7 +270,9 @@ module _ {L S : Type 0} (faults : L → ℕ) (asked_of : L → Option (List (Lis
   }
 
   -- where no read fails, it is what is done without the calls to the library
-  pub without_library : (P Q : History → Type 0) → ((h : History) → P h → Q h) → (code : ℕ) → (Rose (faults lib_old) (faults lib_new) → ⊥) → Runs faults asked_of taken calls lib_old lib_new old new P lines_of_text IsSolved code
+  pub without_library : (P Q : History → Type 0) → ((h : History) → P h → Q h) → (code : ℕ)
+      → (Rose (faults lib_old) (faults lib_new) → ⊥)
+      → Runs faults asked_of taken calls lib_old lib_new old new P lines_of_text IsSolved code
       → RunsAlone taken calls old new Q lines_alone IsSolved code
   without_library P Q weaker code never r =
       let none : r.fails ≡ None = elim r.cause [ inl e ↦ e | inr rose ↦ absurd (never rose) ] in
@@ -277,7 +295,8 @@ module _ {L S : Type 0} (faults : L → ℕ) (asked_of : L → Option (List (Lis
 
 -- ---- memory runs out before anything is done
 
-pub short_alone : {S : Type 0} (taken : S → Option (List ℕ)) (calls : S → Option ℕ) (out : S) (P : History → Type 0) (style : Style) → ExactlyOne P → RunsAlone taken calls out out P style IsSolved 1
+pub short_alone : {S : Type 0} (taken : S → Option (List ℕ)) (calls : S → Option ℕ) (out : S) (P : History → Type 0) (style : Style)
+    → ExactlyOne P → RunsAlone taken calls out out P style IsSolved 1
 short_alone taken calls out P style one = record {
   history = one.some;
   right = one.is;

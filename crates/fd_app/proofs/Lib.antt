@@ -1,20 +1,3 @@
-mod Weaker
-mod Unsolved
-mod Computations
-mod Solutions
-mod Steadiness
-mod Settled
-pub mod Tests
-mod Recorded
-mod Hourly
-mod Handed
-mod Weights
 mod Runs
-mod Days
-mod Tried
-mod Blocks
-mod Gathering
-mod Judging
-mod Checked
 mod Alone
 mod Benched

@@ -1,23 +1,13 @@
 -- `bench` at work: what stands between two commands, and what is printed while files are asked for by name.
-use Rattle.std.specs.Prelude.{◌≡◌, ◌≤◌, ◌*◌, ◌^◌, ℕ, Bool, List, [], ◌∷◌, Option, None}
+use Rattle.std.specs.Prelude.{◌≡◌, ℕ, List, [], ◌∷◌, Option, None}
 use Rattle.dss_profile.specs.declared.command.Command.{Command}
-use Rattle.fd_outcome.specs.Calls.{Style}
-use Rattle.fd_outcome.specs.Events.{History, finishes, line, name_in}
-use Rattle.fd_outcome.specs.Parts.{GoesOn}
+use Rattle.fd_outcome.specs.Events.{History, finishes, line}
 use Rattle.fd_outcome.specs.Work.{Step, ends, goes}
-use Rattle.fd_app.specs.Bench.{line_texts, tally_of, tally_text}
-use Rattle.fd_app.specs.Commands.{IsStep}
-use Rattle.fd_app.specs.Headline.{IsSolved}
-use Rattle.fd_app.specs.Steps.{StandingView}
-use Rattle.fd_app.specs.declared.tally.Tally.{Tally}
-
--- lines of text are printed, and files are asked for
-abbrev pub lines_of_text : Style
-lines_of_text = record { asked_in = name_in; texts_in = line_texts; opening = []; closing = [] }
-
--- a number of 64 bits has room for the rounds of so many settles
-abbrev pub HasRoom : Tally → ℕ → Type 0
-HasRoom t settled = t.solutions ≤ 2 ^ 32 * settled
+use Rattle.fd_solving.specs.Tallies.{tally_of}
+use Rattle.fd_solving.specs.Commands.{IsStep}
+use Rattle.fd_solving.specs.Steps.{StandingView}
+use Rattle.fd_solving.specs.declared.tally.Tally.{Tally}
+use Rattle.fd_app.specs.Bench.{tally_text}
 
 -- what stands, the rounds so far, and the sections of the feeder
 pub record BenchView : Type 0 where
@@ -44,9 +34,3 @@ no_bench_name s = None
 
 abbrev pub IsBenchLast : BenchView → Option (List ℕ) → History → Type 0
 IsBenchLast s found h = h ≡ finishes (line (tally_text s.sections s.tally) ∷ [])
-
--- the step goes on, and its rounds are added to those before
-pub record GoesOnTallied {T S : Type 0} (style : Style) (is_step : Step T → Type 0) (state : T)
-    (taken : S → Option (List ℕ)) (calls : S → Option ℕ) (old new : S) (begun now : Bool) (before after : Tally) : Type 0 where
-  pub on : GoesOn style IsSolved is_step state taken calls old new begun now
-  pub added : after ≡ tally_of before on.events

@@ -1,17 +1,4 @@
-pub mod Steps
-pub mod Solving
-pub mod Commands
-pub mod Headline
-pub mod Answered
 pub mod Run
-pub mod Weights
-pub mod Endings
-pub mod Printing
-pub mod Places
-pub mod Days
-pub mod Checks
-pub mod Gathered
-pub mod Judged
 pub mod Alone
 pub mod Bench
 pub mod Benching

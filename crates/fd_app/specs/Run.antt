@@ -1,21 +1,16 @@
 -- The history of a command line over the files that its library holds.
-use Rattle.std.specs.Prelude.{◌≡◌, ℕ, List, [], map, Option, Some, None}
+use Rattle.std.specs.Prelude.{◌≡◌, ℕ, [], map, Option, Some, None}
 use Rattle.std.specs.Str.{chars}
-use Rattle.fd_outside.specs.Files.{Files, held}
-use Rattle.dss_values.specs.Names.{bytes}
-use Rattle.dss_circuit.specs.Circuit.{empty_circuit}
-use Rattle.dss_script.specs.Said.{Part, said_of, ended_by}
+use Rattle.fd_outside.specs.Files.{Files}
+use Rattle.dss_script.specs.Said.{said_of}
 use Rattle.fd_gen.specs.Script.{script_of}
 use Rattle.fd_words.specs.Words.{Form, Solve, Cert, Check, Gen, Bench}
 use Rattle.fd_report.specs.declared.faults.Fault.TheVariants as fault
 use Rattle.fd_outcome.specs.Calls.{Style, certificate, report}
 use Rattle.fd_outcome.specs.Events.{History, ended, finishes, line}
-use Rattle.fd_outcome.specs.History.{IsHistory}
 use Rattle.fd_outcome.specs.Work.{ExactlyOne}
-use Rattle.fd_check.specs.Checking.{no_positions}
-use Rattle.fd_app.specs.Checks.{IsCheckStep, IsJudged, certificate_name, first_gathered}
-use Rattle.fd_app.specs.Commands.{IsStep}
-use Rattle.fd_app.specs.Steps.{StandingView, standing}
+use Rattle.fd_solving.specs.Scripts.{IsScriptHistory}
+use Rattle.fd_checking.specs.Checks.{IsCheckHistory}
 use Rattle.fd_app.specs.Bench.{bench_of, feeder_files, feeder_name, lines_alone}
 
 -- what must be told of the files: nothing where none is asked for
@@ -34,24 +29,6 @@ style_of (Some (Cert file)) = certificate
 style_of (Some (Check script name)) = report
 style_of (Some (Gen number sections)) = report
 style_of (Some (Bench number sections)) = lines_alone
-
--- `solve` and `cert` ask for no name behind the last command, and do nothing there
-abbrev pub no_name : StandingView → Option (List ℕ)
-no_name s = None
-
-abbrev pub IsDoneThere : StandingView → Option (List ℕ) → History → Type 0
-IsDoneThere s found h = h ≡ finishes []
-
-abbrev pub first_standing : StandingView
-first_standing = standing empty_circuit no_positions 0
-
--- the history of the commands of a script, which begins with no circuit
-abbrev pub IsScriptHistory : Files → Part → History → Type 0
-IsScriptHistory files p h = IsHistory IsStep no_name IsDoneThere (λ n. held files (bytes n)) p.said (ended_by p.left) first_standing h
-
--- the history of the commands of a script for `check`, with the certificate of this name behind them
-abbrev pub IsCheckHistory : Files → Part → List ℕ → History → Type 0
-IsCheckHistory files p name h = IsHistory IsCheckStep certificate_name IsJudged (λ n. held files (bytes n)) p.said (ended_by p.left) (first_gathered name) h
 
 -- the history of `gen`: the lines of the script
 abbrev pub script_written : ℕ → ℕ → History

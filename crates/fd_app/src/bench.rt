@@ -2,25 +2,23 @@
 ghost use Rattle.std.specs.Prelude.{◌≡◌, ◌++◌, ◌∷◌, ◌≤◌, [], IfOk};
 ghost use Rattle.fd_outside.specs.Causes.{Rose};
 ghost use Rattle.fd_outcome.specs.Untold.{Answers};
+ghost use Rattle.fd_pages.specs.Lines.{lines_of_text};
+ghost use Rattle.fd_solving.specs.Tallies.{no_rounds};
+ghost use Rattle.fd_solving.specs.Headline.{IsSolved};
+ghost use Rattle.fd_solving.specs.Scripts.{first_standing};
+ghost use Rattle.fd_solving.specs.Weights.{weight};
 ghost use Rattle.fd_app.specs.Alone.{RunsAlone};
-ghost use Rattle.fd_app.specs.Bench.{lines_alone, no_rounds, tally_text};
-ghost use Rattle.fd_app.specs.Benching.{IsBenchLast, IsBenchStep, bench_at, lines_of_text, no_bench_name};
-ghost use Rattle.fd_app.specs.Headline.{IsSolved};
-ghost use Rattle.fd_app.specs.Run.{IsBenchHistory, first_standing};
-ghost use Rattle.fd_app.specs.Weights.{weight};
+ghost use Rattle.fd_app.specs.Bench.{lines_alone, tally_text};
+ghost use Rattle.fd_app.specs.Benching.{IsBenchLast, IsBenchStep, bench_at, no_bench_name};
+ghost use Rattle.fd_app.specs.Run.{IsBenchHistory};
 
 use crate::feeder::{FEEDER_NAME, feeder_files};
-use crate::line::Line;
-use crate::print::{WANT_OF_MEMORY, print_end};
-use crate::script::run_script;
-use crate::solve::take_command;
-use crate::standing::Standing;
-use crate::summary::Summary;
-use crate::tally::Tally;
 use dss_circuit::Command;
 use dss_script::{Session, said_law};
 use fd_decimal::size_text;
 use fd_outside::{Bytes, Library, NeverFails, Record, Sink};
+use fd_pages::Summary;
+use fd_solving::{Line, Standing, Tally, WANT_OF_MEMORY, print_end, run_script, take_command};
 use std::alloc::{AllocError, Global};
 use std::marker::Model;
 
@@ -33,7 +31,8 @@ struct BenchState {
 }
 
 impl Model for BenchState {
-    ghost use Rattle.fd_app.specs.Benching.{BenchView, HasRoom};
+    ghost use Rattle.fd_solving.specs.Tallies.{HasRoom};
+    ghost use Rattle.fd_app.specs.Benching.{BenchView};
 
     ghost Value = { BenchView };
 

@@ -9,9 +9,9 @@ ghost use Rattle.fd_outcome.specs.Parts.{Printed};
 ghost use Rattle.fd_app.specs.Bench.{feeder_entries};
 ghost use Rattle.fd_app.specs.Run.{script_written};
 
-use crate::print::{WANT_OF_MEMORY, print_end};
 use fd_gen::generate;
 use fd_outside::{Bytes, FileEntry, Record, Sink};
+use fd_solving::{WANT_OF_MEMORY, print_end};
 use std::alloc::{AllocError, Global};
 
 /// The name under which the script of a feeder is held.

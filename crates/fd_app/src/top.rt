@@ -1,76 +1,25 @@
 // The top call.
-ghost use Rattle.std.specs.Prelude.{◌≡◌, List, None, Some, map, string_bytes, ℕ};
-ghost use Rattle.std.specs.Str.{chars};
+ghost use Rattle.std.specs.Prelude.{◌≡◌, List, None, map, string_bytes, ℕ};
 ghost use Rattle.fd_outside.specs.Causes.{Rose};
 ghost use Rattle.fd_outside.specs.Files.{Files};
-ghost use Rattle.dss_script.specs.Said.{said_of};
 ghost use Rattle.dss_script.specs.Sessions.{GrowsSome};
-ghost use Rattle.fd_outcome.specs.Calls.{report};
 ghost use Rattle.fd_outcome.specs.Events.{History};
 ghost use Rattle.fd_outcome.specs.Laws.{IsDue};
 ghost use Rattle.fd_outcome.specs.Runs.{Runs};
-ghost use Rattle.fd_outcome.specs.Untold.{Answers, EndsAtRead, IsUntold};
-ghost use Rattle.fd_app.specs.Checks.{CheckedLaw};
-ghost use Rattle.fd_app.specs.Days.{DaysLaw};
-ghost use Rattle.fd_app.specs.Headline.{IsSolved};
-ghost use Rattle.fd_app.specs.Run.{FormsLaw, IsCheckHistory, IsFormHistory, IsScriptHistory, Knows, style_of};
+ghost use Rattle.fd_outcome.specs.Untold.{Answers, EndsAtRead};
+ghost use Rattle.fd_solving.specs.Headline.{IsSolved};
+ghost use Rattle.fd_app.specs.Run.{FormsLaw, IsFormHistory, Knows, style_of};
 ghost use Rattle.fd_words.specs.Words.{form_of};
 
 use crate::bench::bench;
-use crate::certificate::Certificate;
 use crate::feeder::write_script;
-use crate::gathered::Gathered;
-use crate::page::Page;
-use crate::print::{WANT_OF_MEMORY, print_fault};
-use crate::report::Report;
-use crate::script::run_script;
-use crate::standing::Standing;
-use dss_script::{Session, said_law};
-use fd_check::accepted_law;
+use fd_checking::check;
 use fd_outside::{Library, Sink};
+use fd_pages::{Certificate, Report};
 use fd_report::Fault;
+use fd_solving::{WANT_OF_MEMORY, print_fault, solve};
 use fd_words::{Form, form_of};
 use std::alloc::Global;
-
-// Reads the script of this name, does its commands, and prints their settles so.
-fn solve<P: Page, L: Library, S: Sink>(alloc: Global, file: &str, lib: &mut L, out: &mut S) -> u8
-    ensures run { (files : Files) → L.holds lib.old ≡ Some files →
-        Runs L.faults L.asked S.taken S.calls lib.old lib.new out.old out.new
-        (λ h. IsScriptHistory files (said_of files (chars file.now)) h) P.style IsSolved result }
-    ensures untold { IsUntold L.faults L.asked S.faults S.taken S.calls lib.old lib.new out.old out.new result }
-{
-    said_law();
-    P::law();
-    let Ok(mut session) = Session::open(alloc, file) else {
-        return WANT_OF_MEMORY;
-    };
-    let mut standing: Standing<P> = Standing::new(alloc);
-    run_script(alloc, &mut session, &mut standing, lib, out)
-}
-
-// Reads the script of this name, gathers its commands, and judges the certificate of this name on the networks of its
-// Solves.
-fn check<L: Library, S: Sink>(
-    alloc: Global,
-    script: &str,
-    certificate: &str,
-    lib: &mut L,
-    out: &mut S,
-) -> u8
-    ensures run { (files : Files) → L.holds lib.old ≡ Some files →
-        Runs L.faults L.asked S.taken S.calls lib.old lib.new out.old out.new
-        (λ h. IsCheckHistory files (said_of files (chars script.now)) (chars certificate.now) h) report IsSolved result }
-    ensures untold { IsUntold L.faults L.asked S.faults S.taken S.calls lib.old lib.new out.old out.new result }
-{
-    said_law();
-    let Ok(mut session) = Session::open(alloc, script) else {
-        return WANT_OF_MEMORY;
-    };
-    let Ok(mut gathered) = Gathered::new(alloc, certificate) else {
-        return WANT_OF_MEMORY;
-    };
-    run_script(alloc, &mut session, &mut gathered, lib, out)
-}
 
 /// Does what the words say, and answers the exit status:
 ///
@@ -159,18 +108,3 @@ pub fn due_law<L: Library, S: Sink>()
         Runs L.faults L.asked S.taken S.calls lib_old lib_new old new (λ x. IsFormHistory files (form_of words) x) (style_of (form_of words)) IsSolved code →
         IsDue h.end code (L.faults lib_old) (L.faults lib_new) }
 {}
-
-/// A law: whatever states are chosen for the rounds of a Solve, each in its trust box and meeting its mismatches, its acts
-/// are those of the queue machine over them, through all its hours. Does nothing.
-#[tactic(auto, using(crate::proofs::Days::days_alike))]
-pub fn days_law()
-    ensures { DaysLaw }
-{}
-
-/// A law: where `check` accepts a certificate, its blocks are those of the rounds of the script's Solves; what each claims is
-/// sound in the network of its round, and its acts are those of the queue machine. Does nothing.
-pub fn checked_law()
-    ensures { CheckedLaw }
-{
-    accepted_law();
-}

@@ -6,7 +6,7 @@ ghost use Rattle.fd_outside.specs.Causes.{Rose};
 ghost use Rattle.fd_outside.specs.Files.{Files};
 ghost use Rattle.fd_outcome.specs.Runs.{Runs};
 ghost use Rattle.fd_outcome.specs.Untold.{Answers};
-ghost use Rattle.fd_app.specs.Headline.{IsSolved};
+ghost use Rattle.fd_solving.specs.Headline.{IsSolved};
 ghost use Rattle.fd_app.specs.Run.{IsFormHistory, Knows, style_of};
 ghost use Rattle.fd_words.specs.Words.{form_of};
 ghost use Rattle.feeder.specs.Given.{IsWithoutMemory, given};

@@ -2,8 +2,8 @@ use Rattle.std.proofs.Common.{◌∙◌, None, map, ap}
 use Rattle.fd_outside.specs.Emitted.{pieces_of}
 use Rattle.fd_outcome.specs.Calls.{writes}
 use Rattle.fd_outcome.proofs.CallerLemmas.{cut_before}
+use Rattle.fd_solving.proofs.CallerLemmas.{printed_as, printed_cut}
 use Rattle.fd_app.proofs.Alone.{script_calls}
-use Rattle.fd_app.proofs.Handed.{printed_as, printed_cut}
 use Rattle.fd_app.proofs.feeder.write_script.Goals as goal
 
 pub returns-in_default-clause-prints : goal.returns-in_default-clause-prints

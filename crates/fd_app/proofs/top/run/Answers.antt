@@ -5,8 +5,8 @@ use Rattle.fd_outcome.specs.Calls.{report}
 use Rattle.fd_outcome.specs.Untold.{CutsShort}
 use Rattle.fd_gen.specs.Script.{script_of}
 use Rattle.fd_outcome.proofs.CallerLemmas.{fault_alone, fault_answers, fault_code, grows_none, untold_last}
+use Rattle.fd_solving.specs.Headline.{IsSolved}
 use Rattle.fd_app.specs.Bench.{lines_alone}
-use Rattle.fd_app.specs.Headline.{IsSolved}
 use Rattle.fd_app.specs.Run.{IsBenchHistory, IsFormHistory, script_written, style_of}
 use Rattle.fd_words.specs.declared.words.Form.{Form as Words}
 use Rattle.fd_words.specs.Words.{Cert, Check, Solve, form_in, form_of, Bench, Gen}

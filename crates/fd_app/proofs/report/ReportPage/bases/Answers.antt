@@ -1,8 +1,0 @@
-use Rattle.std.proofs.Common.{◌∙◌}
-use Rattle.fd_bases.specs.Bases.{bases_of}
-use Rattle.fd_app.proofs.Blocks.{base_lines}
-use Rattle.fd_app.proofs.Weaker.{if_ok_weaker}
-use Rattle.fd_app.proofs.report.ReportPage.bases.Goals as goal
-
-pub returns : goal.returns
-returns c = if_ok_weaker c.base_records.result _ _ (λ r is. is ∙ base_lines (bases_of c.args.circuit.now)) c.base_records.ensures

@@ -1,0 +1,2 @@
+-- Lemmas that callers cite.
+pub use Rattle.fd_checking.proofs.Gathering.{one_check}

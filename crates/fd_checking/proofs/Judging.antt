@@ -1,0 +1,216 @@
+-- What `check` does behind the last command.
+use Rattle.std.proofs.Common.{◌≡◌, ◌∙◌, ℕ, ◌≤◌, Bool, true, false, List, [], ◌∷◌, ◌++◌, Option, Some, None, Result, Ok, Err, refl, sym, ap, subst, arith}
+use Rattle.std.specs.Prelude.{IfErr, IfOk}
+use Rattle.std.proofs.lemmas.List.{append-nil}
+use Rattle.std.proofs.lemmas.List.Elements.{All-cons, All-nil}
+use Rattle.fd_outside.specs.Causes.{Becomes, Rose}
+use Rattle.fd_outside.specs.Files.{AnswersHeld, Files, IsHeld, asked_after, held}
+use Rattle.fd_outside.specs.declared.library.Found.{Found}
+use Rattle.fd_outside.specs.declared.library.Found.TheVariants as was
+use Rattle.fd_outside.specs.declared.library.LibFault.{LibFault}
+use Rattle.fd_outside.specs.declared.library.LibFault.TheVariants as lib_fault
+use Rattle.dss_values.specs.Names.{bytes}
+use Rattle.dss_script.specs.Sessions.{GrowsLast, GrowsSome, found_bytes}
+use Rattle.dss_profile.specs.declared.command.Blame.{Blame}
+use Rattle.fd_certfile.specs.Verdict.{Answer, IsAnswer, accepted, refused, stopped}
+use Rattle.fd_check.specs.Checking.{after, due, no_positions, open_solves}
+use Rattle.fd_check.specs.Comes.{Tells as Told}
+use Rattle.fd_cert.specs.declared.rule.Rule.TheVariants as rule
+use Rattle.fd_check.specs.declared.fault.CheckFault.{CheckFault}
+use Rattle.fd_check.specs.declared.fault.CheckFault.TheVariants as check
+use Rattle.fd_report.specs.declared.faults.Cause.TheVariants as cause
+use Rattle.fd_report.specs.Accepted.{accepted_fields}
+use Rattle.fd_report.specs.declared.faults.Fault.TheVariants as fault
+use Rattle.fd_outcome.specs.Calls.{Call, calls_of, doing, report}
+use Rattle.fd_outcome.specs.Behind.{last_calls}
+use Rattle.fd_outcome.specs.Events.{AllSettles, History, IfSettle, asked, before, row}
+use Rattle.fd_outcome.specs.History.{IsLast}
+use Rattle.fd_outcome.specs.Parts.{Finishes, Printed, fault_doing}
+use Rattle.fd_outcome.specs.Untold.{IsUntold}
+use Rattle.fd_outcome.proofs.CallerLemmas.{cut_before, fault_answers, finishes_asked, finishes_short, finishes_unread, shown_nothing, untold_fault, untold_finished, untold_last, untold_read, untold_short}
+use Rattle.fd_solving.specs.Headline.{IsSolved}
+use Rattle.fd_checking.specs.Checks.{GatheredView, IsCheckStep, IsJudged, certificate_name, judged_as}
+use Rattle.fd_checking.specs.Judged.{IsAnsweredSo, IsJudgedBy, IsOfCheck, history_in}
+use Rattle.fd_checking.specs.declared.judged.Judged.{Judged}
+use Rattle.fd_checking.specs.declared.judged.Judged.TheVariants as judged
+use Rattle.fd_solving.proofs.CallerLemmas.{never_read, never_usage, printed_cut, report_asks}
+use Rattle.fd_checking.proofs.Gathering.{one_judged}
+
+-- ---- the answer of the check
+
+judged_so : (g : GatheredView) (found : Option (List ℕ)) (answer : Answer Blame) (j : Judged) (other : Judged)
+    → IsAnswer due after found (open_solves g.solved no_positions 0) answer → j ≡ other
+    → history_in other ≡ judged_as answer → IsJudged g found (history_in j)
+judged_so g found answer j other right is same = record { answer = answer; right = right; h_is = ap history_in is ∙ same }
+
+-- it is the one that the certificate comes to
+pub judged_is : (g : GatheredView) (found : Option (List ℕ)) (answer : Result ℕ CheckFault) (j : Judged)
+    → IfOk answer (λ count. IsAnswer due after found (open_solves g.solved no_positions 0) (accepted count))
+    → IfErr answer (λ f. Told f (IsAnswer due after found (open_solves g.solved no_positions 0))) → IsJudgedBy answer j
+    → IsJudged g found (history_in j)
+judged_is g found (Ok blocks) j ok err is = judged_so g found (accepted blocks) j (judged.Accepted blocks) ok is refl
+judged_is g found (Err (check.Refused line rule)) j ok err is = judged_so g found (refused line rule) j (judged.Refused (fault.Certificate line rule)) err is refl
+judged_is g found (Err (check.Range blame)) j ok err is = judged_so g found (stopped blame) j (judged.Refused (fault.Script blame.place (cause.Model blame.cause))) err is refl
+judged_is g found (Err check.NoMemory) j ok err is = absurd is
+
+-- no certificate
+pub absent_is : (g : GatheredView) (found : Option (List ℕ)) (j : Judged) → found ≡ None
+    → j ≡ judged.Refused (fault.Certificate 0 rule.Absent) → IsJudged g found (history_in j)
+absent_is g found j none is = subst (λ (f : Option (List ℕ)). IsJudged g f (history_in j)) (sym none) (judged_so g None (refused 0 rule.Absent) j (judged.Refused (fault.Certificate 0 rule.Absent)) refl is refl)
+
+-- some answer comes of what is found, though memory runs out before it is printed
+abbrev judged_in : Answer Blame → Judged
+judged_in (accepted blocks) = judged.Accepted blocks
+judged_in (refused line rule) = judged.Refused (fault.Certificate line rule)
+judged_in (stopped blame) = judged.Refused (fault.Script blame.place (cause.Model blame.cause))
+
+in_so : (answer : Answer Blame) → judged_as answer ≡ history_in (judged_in answer)
+in_so (accepted blocks) = refl
+in_so (refused line rule) = refl
+in_so (stopped blame) = refl
+
+of_check_in : (answer : Answer Blame) → IsOfCheck (judged_in answer)
+of_check_in (accepted blocks) = tt
+of_check_in (refused line rule) = tt
+of_check_in (stopped blame) = tt
+
+pub answered_short : {S : Type 0} (taken : S → Option (List ℕ)) (calls : S → Option ℕ) (out : S) (g : GatheredView) (found : Option (List ℕ))
+    → IsAnsweredSo taken calls out out g found 1
+answered_short taken calls out g found =
+    let one = one_judged g found in
+    let j = judged_in one.is.answer in
+    record {
+      judged = j;
+      right = record { answer = one.is.answer; right = one.is.right; h_is = sym (in_so one.is.answer) };
+      of_check = of_check_in one.is.answer;
+      prints = printed_cut taken calls out out _ (history_in j).end 1 (cut_before taken calls out _);
+    }
+
+-- ---- the names that were asked
+
+pub asked_for : (a b : Option (List (List ℕ))) (name n : List ℕ) (r : Result Found LibFault)
+    → (r ≡ Err lib_fault.NoMemory → ⊥) → name ≡ bytes n → Becomes a b (λ ns. asked_after ns name r)
+    → Becomes a b (λ ns. ns ++ bytes n ∷ [])
+asked_for None b name n r answered same h = tt
+asked_for (Some ns) b name n (Ok found) answered same h = h ∙ ap (λ (x : List ℕ). Some (ns ++ x ∷ [])) same
+asked_for (Some ns) b name n (Err lib_fault.Failed) answered same h = h ∙ ap (λ (x : List ℕ). Some (ns ++ x ∷ [])) same
+asked_for (Some ns) b name n (Err lib_fault.NoMemory) answered same h = absurd (answered refl)
+
+pub asked_none : (a b : Option (List (List ℕ))) (name : List ℕ) (r : Result Found LibFault) → r ≡ Err lib_fault.NoMemory
+    → Becomes a b (λ ns. asked_after ns name r) → Becomes a b (λ ns. ns ++ [])
+asked_none None b name r none h = tt
+asked_none (Some ns) b name r none h = h ∙ ap (λ (x : Result Found LibFault). Some (asked_after ns name x)) none ∙ ap Some (sym (append-nil ns))
+
+pub grows_nothing : (a b : Option (List (List ℕ))) → Becomes a b (λ ns. ns ++ []) → GrowsSome a b
+grows_nothing a b h = record { names = []; grown = h }
+
+-- what the library holds is what was found
+pub held_is : (holds : Option Files) (files : Files) (name bs : List ℕ) (found : Found) → holds ≡ Some files → name ≡ bs
+    → AnswersHeld holds name (Ok found) → held files bs ≡ found_bytes found
+held_is holds files name bs found told same h = ap (held files) (sym same) ∙ found_is (held files name) found (subst (λ (x : Option Files). AnswersHeld x name (Ok found)) told h)
+  where
+    found_is : (there : Option (List ℕ)) (f : Found) → IsHeld there f → there ≡ found_bytes f
+    found_is there (was.Bytes bytes) is = is
+    found_is there was.Absent is = is
+
+grows_by : (a b : Option (List (List ℕ))) (n : List ℕ) → Becomes a b (λ ns. ns ++ bytes n ∷ []) → GrowsSome a b
+grows_by a b n h = record { names = bytes n ∷ []; grown = h }
+
+last_by : (a b : Option (List (List ℕ))) (n : List ℕ) → Becomes a b (λ ns. ns ++ bytes n ∷ []) → GrowsLast a b n
+last_by None b n h = record { front = []; grown = tt }
+last_by (Some ns) b n h = record { front = []; grown = h ∙ ap (λ (l : List (List ℕ)). Some (l ++ bytes n ∷ [])) (sym (append-nil ns)) }
+
+-- ---- what is printed
+
+same_calls : (begun : Bool) (j : Judged)
+    → calls_of report (history_in j).events (history_in j).end ≡ last_calls report begun (history_in j).events (history_in j).end
+same_calls true (judged.Accepted blocks) = refl
+same_calls false (judged.Accepted blocks) = refl
+same_calls true (judged.Refused f) = refl
+same_calls false (judged.Refused f) = refl
+
+no_settle : (j : Judged) → AllSettles IsSolved (history_in j).events
+no_settle (judged.Accepted blocks) = All-cons (IfSettle IsSolved) (row (accepted_fields blocks)) [] tt (All-nil (IfSettle IsSolved))
+no_settle (judged.Refused f) = All-nil (IfSettle IsSolved)
+
+no_settle_as : (answer : Answer Blame) → AllSettles IsSolved (judged_as answer).events
+no_settle_as (accepted blocks) = All-cons (IfSettle IsSolved) (row (accepted_fields blocks)) [] tt (All-nil (IfSettle IsSolved))
+no_settle_as (refused line rule) = All-nil (IfSettle IsSolved)
+no_settle_as (stopped blame) = All-nil (IfSettle IsSolved)
+
+no_settle_by : (g : GatheredView) (found : Option (List ℕ)) (h : History) → IsJudged g found h
+    → AllSettles IsSolved h.events
+no_settle_by g found h is = subst (λ (x : History). AllSettles IsSolved x.events) (sym is.h_is) (no_settle_as is.answer)
+
+module _ {L S : Type 0} (faults : L → ℕ) (asked_of : L → Option (List (List ℕ))) (sink_faults : S → ℕ)
+    (taken : S → Option (List ℕ)) (calls : S → Option ℕ) (g : GatheredView) (lib_old lib_new : L) where
+  abbrev Asks : Type 0
+  Asks = Becomes (asked_of lib_old) (asked_of lib_new) (λ ns. ns ++ bytes g.certificate ∷ [])
+
+  module _ (there : List ℕ → Option (List ℕ)) (begun : Bool) where
+    abbrev IsEnd : History → Type 0
+    IsEnd h = IsLast IsCheckStep certificate_name IsJudged there (certificate_name g) g h
+
+    abbrev Tells : S → S → ℕ → Type 0
+    Tells old new code = Finishes report IsSolved IsEnd faults asked_of taken calls lib_old lib_new old new begun code
+
+    behind_name : (more : History) → IsJudged g (there g.certificate) more
+        → IsEnd (before (asked g.certificate ∷ []) more)
+    behind_name more is = record { more = more; right = is; h_is = refl }
+
+    pub judged_told : (j : Judged) → IsJudged g (there g.certificate) (history_in j) → (old new : S) (code : ℕ) → Asks
+        → Printed taken calls old new (doing report (history_in j)) code → Tells old new code
+    judged_told j is old new code asks printed =
+        let h = history_in j in
+        finishes_asked report report_asks faults asked_of taken calls IsSolved IsEnd g.certificate h (behind_name h is) (no_settle j) lib_old lib_new begun old new code asks
+        (subst (λ (l : List Call). Printed taken calls old new (record { calls = l; end = h.end }) code) (same_calls begun j) printed)
+
+    -- some answer comes of what is held
+    abbrev some_end : History
+    some_end = (one_judged g (there g.certificate)).some
+
+    no_settle_in : AllSettles IsSolved some_end.events
+    no_settle_in = no_settle_by g (there g.certificate) some_end (one_judged g (there g.certificate)).is
+
+    pub unasked_told : (out : S) → Becomes (asked_of lib_old) (asked_of lib_new) (λ ns. ns ++ []) → Tells out out 1
+    unasked_told out same = finishes_short report report_asks faults asked_of taken calls IsSolved IsEnd g.certificate some_end (behind_name some_end (one_judged g (there g.certificate)).is) no_settle_in lib_old lib_new begun out same
+
+    pub unread_told : (old new : S) (code : ℕ) → Asks → Rose (faults lib_old) (faults lib_new)
+        → Printed taken calls old new (fault_doing (fault.Read g.certificate)) code → Tells old new code
+    unread_told old new code asks rose printed =
+        finishes_unread report report_asks faults asked_of taken calls IsSolved IsEnd g.certificate some_end (behind_name some_end (one_judged g (there g.certificate)).is) no_settle_in lib_old lib_new begun old new code asks rose printed
+
+  -- ---- whatever the library tells
+
+  abbrev Untold : S → S → ℕ → Type 0
+  Untold old new code = IsUntold faults asked_of sink_faults taken calls lib_old lib_new old new code
+
+  pub judged_untold : (j : Judged) → IsOfCheck j → (old new : S) (code : ℕ) → Asks → faults lib_old ≤ faults lib_new
+      → Printed taken calls old new (doing report (history_in j)) code
+      → (code ≡ 5 → Rose (sink_faults old) (sink_faults new)) → Untold old new code
+  judged_untold (judged.Accepted blocks) of_check old new code asks later printed write =
+      untold_finished faults asked_of sink_faults taken calls lib_old lib_old lib_new lib_new old old new code (shown_nothing faults asked_of sink_faults taken calls lib_old old) (grows_by (asked_of lib_old) (asked_of lib_new) g.certificate asks)
+      later (omega arith) (untold_last faults asked_of sink_faults taken calls lib_new old new _ code printed write)
+  judged_untold (judged.Refused f) of_check old new code asks later printed write =
+      untold_fault faults asked_of sink_faults taken calls lib_old lib_old lib_new old old new code (shown_nothing faults asked_of sink_faults taken calls lib_old old) (grows_by (asked_of lib_old) (asked_of lib_new) g.certificate asks)
+      (fault_answers taken calls old new f code printed) (never_usage taken calls old new _ f code of_check printed) (never_read taken calls old new _ f code of_check printed) write
+
+  pub short_untold : (out : S) → GrowsSome (asked_of lib_old) (asked_of lib_new) → Untold out out 1
+  short_untold out grows = untold_short faults asked_of sink_faults taken calls lib_old lib_old lib_new out out (shown_nothing faults asked_of sink_faults taken calls lib_old out) grows
+
+  pub unread_untold : (old new : S) (code : ℕ) → Asks → Rose (faults lib_old) (faults lib_new)
+      → Printed taken calls old new (fault_doing (fault.Read g.certificate)) code
+      → (code ≡ 5 → Rose (sink_faults old) (sink_faults new)) → Untold old new code
+  unread_untold old new code asks rose printed write =
+      untold_read faults asked_of sink_faults taken calls lib_old lib_old lib_new old old new g.certificate code (shown_nothing faults asked_of sink_faults taken calls lib_old old) (grows_by (asked_of lib_old) (asked_of lib_new) g.certificate asks)
+      (last_by (asked_of lib_old) (asked_of lib_new) g.certificate asks) printed rose write
+
+-- ---- a state as contracts see it
+
+module _ {L S : Type 0} (faults : L → ℕ) (asked_of : L → Option (List (List ℕ))) (taken : S → Option (List ℕ))
+    (calls : S → Option ℕ) (there : List ℕ → Option (List ℕ)) (lib_old lib_new : L) (begun : Bool) where
+  abbrev pub TellsOf : GatheredView → S → S → ℕ → Type 0
+  TellsOf g old new code = Finishes report IsSolved (λ h. IsLast IsCheckStep certificate_name IsJudged there (certificate_name g) g h) faults asked_of taken calls lib_old lib_new old new begun code
+
+  pub told_as : (s g : GatheredView) (old new : S) (code : ℕ) → s ≡ g → TellsOf s old new code → TellsOf g old new code
+  told_as s g old new code same told = subst (λ (x : GatheredView). TellsOf x old new code) same told

@@ -1,0 +1,4 @@
+pub mod Gathering
+mod Judging
+mod Checked
+pub mod CallerLemmas

@@ -1,0 +1,8 @@
+use Rattle.fd_checking.proofs.Gathering.{one_check_step, one_judged}
+use Rattle.fd_checking.proofs.checking.GatheredLine.law.Goals as goal
+
+pub returns-clause-one_step : goal.returns-clause-one_step
+returns-clause-one_step c command state = one_check_step command state
+
+pub returns-clause-one_last : goal.returns-clause-one_last
+returns-clause-one_last c state found = one_judged state found

@@ -1,0 +1,14 @@
+use Rattle.std.proofs.Common.{◌≡◌, ◌++◌, List, length, map, subst}
+use Rattle.std.specs.Prelude.{OnOk}
+use Rattle.fd_cert.specs.Claims.{claim_in}
+use Rattle.fd_outside.specs.Emitted.{pieces_of}
+use Rattle.fd_settle.specs.Rounds.{seen}
+use Rattle.fd_settle.specs.declared.round.Act.{Act}
+use Rattle.fd_outcome.specs.Certificates.{block_in, block_texts}
+use Rattle.fd_outcome.specs.Settles.{round_of}
+use Rattle.fd_pages.proofs.certificate.add_tried.Goals as goal
+
+pub returns : goal.returns
+returns c s at =
+    subst (λ (acts : List Act). OnOk c.add_block.result (pieces_of c.add_block.new.into.items ≡ pieces_of c.args.into.now.items ++ block_texts (block_in s (length c.args.made.now.rounds.now) (round_of (claim_in c.args.tried) (map seen acts)))))
+    c.new.ensures.items (c.add_block.ensures s at)

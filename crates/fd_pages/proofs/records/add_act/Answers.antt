@@ -1,0 +1,33 @@
+use Rattle.std.proofs.Common.{◌≡◌, ◌∙◌, ◌++◌, ap, length, refl, slice_get, subst, sym}
+use Rattle.std.specs.Prelude.{OnOk}
+use Rattle.std.specs.Map.Iter.{deref_pair}
+use Rattle.std.specs.Option.{option_map}
+use Rattle.std.proofs.lemmas.Option.{slice_get_past, slice_get_read}
+use Rattle.fd_outside.specs.Emitted.{pieces_of}
+use Rattle.fd_report.specs.Lines.{lines_of}
+use Rattle.fd_settle.specs.Rounds.{seen}
+use Rattle.fd_outcome.specs.Pages.{act_rows_by}
+use Rattle.fd_pages.proofs.Recorded.{control_at, is_found, no_control, no_rows}
+use Rattle.fd_pages.proofs.records.add_act.Goals as goal
+
+pub unwrap-requires : goal.unwrap-requires
+unwrap-requires c =
+    let look = c.in-Some.ensures.lookup in
+    let at = slice_get_read c.args.controls.now (length c.args.controls.now) c.args.act.now.control c.in-Some.place.now refl look.3.0 look.1 in
+    let entries = c.as_slice-entries.ensures.entries ∙ c.elements.ensures.entries in
+    is_found c.args.circuit.now.elements c.args.controls.now c.args.act.now.control c.in-Some.place.now deref_pair _ c.requires at (c.get_index.ensures.entry ∙ ap (λ es. slice_get es c.in-Some.place.now) entries)
+
+pub returns-in-None : goal.returns-in-None
+returns-in-None c =
+    let look = c.in-None.ensures.lookup in
+    let none = no_control c.args.circuit.now.elements c.args.controls.now c.args.act.now.control c.requires (slice_get_past c.args.controls.now c.args.act.now.control look.3) in
+    no_rows (pieces_of c.args.into.now.items) _ (ap (λ o. act_rows_by o (seen c.args.act.now)) none)
+
+pub returns-in-Some : goal.returns-in-Some
+returns-in-Some c =
+    let look = c.in-Some.ensures.lookup in
+    let at = slice_get_read c.args.controls.now (length c.args.controls.now) c.args.act.now.control c.in-Some.place.now refl look.3.0 look.1 in
+    let entries = c.as_slice-entries.ensures.entries ∙ c.elements.ensures.entries in
+    let here = ap (λ es. slice_get es c.in-Some.place.now) (sym entries) ∙ sym c.get_index.ensures.entry ∙ ap (option_map deref_pair) c.unwrap.ensures in
+    let control = control_at c.args.circuit.now.elements c.args.controls.now c.args.act.now.control c.in-Some.place.now c.requires at ∙ here in
+    subst (λ o. OnOk c.push_act.result (pieces_of c.push_act.new.into.items ≡ pieces_of c.args.into.now.items ++ lines_of (act_rows_by o (seen c.args.act.now)))) (sym control) c.push_act.ensures

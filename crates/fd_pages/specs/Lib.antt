@@ -1,0 +1,4 @@
+pub mod Hours
+pub mod Places
+pub mod Bases
+pub mod Lines

@@ -1,0 +1,27 @@
+//! How the settles of a run are printed: as the records of a report, as the blocks of a certificate, or not at all.
+//!
+//! A way to print is a `Page`, with the style that it prints in. It gives the texts of an hour's settle, as the code
+//! made it, and of the voltage bases of a circuit's buses, which are exactly those of the style; what opens them; and
+//! what stands last. Nothing is written here.
+//!
+//! Specs: `Hours`: the settle of an hour, as the code made it, and what of it can be printed; `Bases`: voltage bases
+//! as events; `Lines`: the style of lines of text alone; `Places`: where controls stand among a circuit's elements.
+//!
+//! - `page`: a way to print settles
+//! - `controls`: the controls of a circuit
+//! - `records`: the records of a settle
+//! - `report`, `certificate`, `summary`: settles as records, as blocks of a certificate, not at all
+#![tactic(auto)]
+
+mod certificate;
+mod controls;
+mod page;
+mod records;
+mod report;
+mod summary;
+
+pub use certificate::Certificate;
+pub use controls::is_control;
+pub use page::{Page, SolvedHour};
+pub use report::Report;
+pub use summary::Summary;

@@ -1,0 +1,84 @@
+// How the settles of a command line are printed.
+ghost use Rattle.std.specs.Prelude.{◌≡◌, ◌+◌, ℕ, List, [], IfOk};
+ghost use Rattle.std.specs.List.{flat_map};
+ghost use Rattle.fd_outside.specs.Emitted.{pieces_of};
+ghost use Rattle.fd_network.specs.Built.{IsBuiltOf};
+ghost use Rattle.fd_report.specs.declared.faults.Fault.{Fault as FaultView};
+ghost use Rattle.fd_sample.specs.Probes.{positions_in};
+ghost use Rattle.fd_outcome.specs.Behind.{AsksNames};
+ghost use Rattle.fd_outcome.specs.Calls.{Style};
+ghost use Rattle.fd_outcome.specs.Events.{row, settle};
+ghost use Rattle.fd_outcome.specs.Settles.{Settle, failed, settled};
+ghost use Rattle.fd_pages.specs.Hours.{IsPrintable, IsTriedOf, settle_made, end_with, Kept};
+ghost use Rattle.fd_pages.specs.Bases.{base_events};
+ghost use Rattle.dss_layout.specs.Layout.{layout_of, size_of};
+
+use dss_circuit::Circuit;
+use fd_cert::Certified;
+use fd_devices::Positions;
+use fd_network::Network;
+use fd_outside::Record;
+use fd_settle::Round;
+use std::alloc::{AllocError, Global};
+
+/// An hour of a circuit that was solved, in a network of the circuit: the number of its settle in the run, from 1, the
+/// hour, and its rounds, in order.
+#[derive(Clone, Copy, Drop)]
+pub struct SolvedHour<'a> {
+    pub circuit: &'a Circuit,
+    pub net: &'a Network,
+    pub number: u32,
+    pub hour: u32,
+    pub rounds: &'a [Round],
+}
+
+/// A way to print settles.
+pub trait Page {
+    ghost style: { Style };
+
+    /// What stands before the first text.
+    fn opening(alloc: Global) -> Result<Vec<Record>, AllocError>
+        ensures { IfOk result (λ r. pieces_of r.items ≡ style.opening) };
+
+    /// What stands last where there is no fault.
+    fn closing(alloc: Global) -> Result<Vec<Record>, AllocError>
+        ensures { IfOk result (λ r. pieces_of r.items ≡ style.closing) };
+
+    /// A law: the names of events are asked, and a settle asks for none; a settle of no round that ended with a fault has
+    /// no text. Does nothing.
+    fn law()
+        ensures names { AsksNames style }
+        ensures silent { (s : Settle) → style.asked_in (settle s) ≡ [] }
+        ensures silent_rows { (fields : List (List ℕ)) → style.asked_in (row fields) ≡ [] }
+        ensures unshown { (s : Settle) (f : FaultView) → s.rounds ≡ [] → s.end ≡ failed f →
+            style.texts_in (settle s) ≡ [] };
+
+    /// The texts of the voltage bases of a circuit's buses.
+    fn bases(alloc: Global, circuit: &Circuit) -> Result<Vec<Record>, AllocError>
+        ensures { IfOk result (λ r. pieces_of r.items ≡ flat_map style.texts_in (base_events circuit.now)) };
+
+    /// The texts of an hour's settle that ended well, at these positions.
+    fn settled(
+        alloc: Global,
+        made: &SolvedHour<'_>,
+        at: &Positions,
+    ) -> Result<Vec<Record>, AllocError>
+        requires network { IsBuiltOf made.now.net.now made.now.circuit.now }
+        requires printable { IsPrintable made.now.circuit.now made.now.hour made.now.rounds.now (positions_in at.now) }
+        ensures { (l : Kept) → made.now.number ≡ l.settled + 1 →
+            IfOk result (λ r. pieces_of r.items ≡ style.texts_in (settle (settle_made made.now.circuit.now made.now.hour l made.now.rounds.now settled (positions_in at.now)))) };
+
+    /// The texts of an hour's settle that ended with a fault, before the fault's; where the last state has no
+    /// certificate, with that state.
+    fn failed(
+        alloc: Global,
+        made: &SolvedHour<'_>,
+        tried: Option<Certified>,
+        at: &Positions,
+    ) -> Result<Vec<Record>, AllocError>
+        requires network { IsBuiltOf made.now.net.now made.now.circuit.now }
+        requires printable { IsPrintable made.now.circuit.now made.now.hour made.now.rounds.now (positions_in at.now) }
+        requires tried { IsTriedOf (size_of (layout_of made.now.circuit.now.elements)) tried }
+        ensures { (l : Kept) (f : FaultView) → made.now.number ≡ l.settled + 1 →
+            IfOk result (λ r. pieces_of r.items ≡ style.texts_in (settle (settle_made made.now.circuit.now made.now.hour l made.now.rounds.now (end_with f tried) (positions_in at.now)))) };
+}

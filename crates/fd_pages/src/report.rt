@@ -1,0 +1,48 @@
+// Settles printed as a report.
+ghost use Rattle.fd_outcome.specs.Calls.{report};
+
+use crate::page::{Page, SolvedHour};
+use crate::records::{base_records, failed_records, settled_records};
+use dss_circuit::Circuit;
+use fd_cert::Certified;
+use fd_devices::Positions;
+use fd_outside::Record;
+use std::alloc::{AllocError, Global};
+
+/// A record for each fact.
+pub struct Report;
+
+impl Page for Report {
+    ghost style = { report };
+
+    fn opening(alloc: Global) -> Result<Vec<Record>, AllocError> {
+        Ok(Vec::new(alloc))
+    }
+
+    fn closing(alloc: Global) -> Result<Vec<Record>, AllocError> {
+        Ok(Vec::new(alloc))
+    }
+
+    fn law() {}
+
+    fn bases(alloc: Global, circuit: &Circuit) -> Result<Vec<Record>, AllocError> {
+        base_records(alloc, circuit)
+    }
+
+    fn settled(
+        alloc: Global,
+        made: &SolvedHour<'_>,
+        at: &Positions,
+    ) -> Result<Vec<Record>, AllocError> {
+        settled_records(alloc, made, at)
+    }
+
+    fn failed(
+        alloc: Global,
+        made: &SolvedHour<'_>,
+        _tried: Option<Certified>,
+        _at: &Positions,
+    ) -> Result<Vec<Record>, AllocError> {
+        failed_records(alloc, made)
+    }
+}

@@ -1,0 +1,47 @@
+// Settles of which nothing is printed.
+ghost use Rattle.fd_pages.specs.Lines.{lines_of_text};
+
+use crate::page::{Page, SolvedHour};
+use dss_circuit::Circuit;
+use fd_cert::Certified;
+use fd_devices::Positions;
+use fd_outside::Record;
+use std::alloc::{AllocError, Global};
+
+/// Lines of text alone: no text of a settle or of voltage bases.
+pub struct Summary;
+
+impl Page for Summary {
+    ghost style = { lines_of_text };
+
+    fn opening(alloc: Global) -> Result<Vec<Record>, AllocError> {
+        Ok(Vec::new(alloc))
+    }
+
+    fn closing(alloc: Global) -> Result<Vec<Record>, AllocError> {
+        Ok(Vec::new(alloc))
+    }
+
+    fn law() {}
+
+    fn bases(alloc: Global, _circuit: &Circuit) -> Result<Vec<Record>, AllocError> {
+        Ok(Vec::new(alloc))
+    }
+
+    fn settled(
+        alloc: Global,
+        _made: &SolvedHour<'_>,
+        _at: &Positions,
+    ) -> Result<Vec<Record>, AllocError> {
+        Ok(Vec::new(alloc))
+    }
+
+    fn failed(
+        alloc: Global,
+        _made: &SolvedHour<'_>,
+        _tried: Option<Certified>,
+        _at: &Positions,
+    ) -> Result<Vec<Record>, AllocError> {
+        Ok(Vec::new(alloc))
+    }
+}

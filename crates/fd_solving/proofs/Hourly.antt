@@ -1,0 +1,294 @@
+-- Where the loop over a Solve's hours stands, how it goes on and how it ends.
+use Rattle.std.proofs.Common.{◌≡◌, ◌∙◌, ℕ, Bool, true, false, List, [], ◌∷◌, ◌++◌, map, Option, Some, None, refl, sym, ap, subst, arith, length, inl, inr}
+use Rattle.std.specs.Prelude.{◌||◌, ◌+◌, ◌<◌, ◌≤◌, ◌^◌}
+use Rattle.std.proofs.lemmas.List.{append_assoc, append-nil}
+use Rattle.std.proofs.lemmas.List.Elements.{All-nil, All-cons, All-append}
+use Rattle.std.proofs.lemmas.List.Sums.{fold-append}
+use Rattle.dss_profile.specs.declared.command.Blame.{Blame}
+use Rattle.dss_circuit.specs.Circuit.{CircuitView}
+use Rattle.fd_daily.specs.Day.{DayView, hours_left, no_openings}
+use Rattle.fd_daily.specs.Hours.{AreHours, hours_of}
+use Rattle.fd_report.specs.declared.faults.Cause.TheVariants as cause
+use Rattle.fd_report.specs.declared.faults.Fault.{Fault}
+use Rattle.fd_report.specs.declared.faults.Fault.TheVariants as fault
+use Rattle.fd_devices.specs.declared.settings.Positions.{Positions as CodePositions}
+use Rattle.fd_queue.specs.Controls.{Positions}
+use Rattle.fd_sample.specs.Probes.{positions_in}
+use Rattle.fd_settle.specs.Computed.{range, stopped}
+use Rattle.fd_settle.specs.declared.round.Round.{Round as Made}
+use Rattle.fd_outcome.specs.Behind.{behind, has_text}
+use Rattle.fd_outcome.specs.Calls.{Call, Style, body, calls_in, fault_text, opened, reads, writes}
+use Rattle.fd_outcome.specs.Done.{IsDone, IsFrontOf}
+use Rattle.fd_outcome.specs.Events.{AllSettles, Event, IfSettle, settle}
+use Rattle.fd_outcome.specs.Parts.{EndsAt, IsCutIn, Printed, Wrote, events_in, fault_doing}
+use Rattle.fd_outcome.specs.Settles.{Settle, SettleEnd, settled, failed, without_certificate}
+use Rattle.fd_outcome.specs.Way.{whole}
+use Rattle.fd_outcome.specs.Work.{Step, goes, ends}
+use Rattle.fd_outcome.proofs.CallerLemmas.{behind-append, cut_then, nothing_behind, or_false, printed_then, text_behind, wrote_nothing, wrote_then}
+use Rattle.fd_solving.specs.Answered.{IsMadeHour, kept_in}
+use Rattle.fd_solving.specs.Tallies.{tallied, tally_of, GoesOnTallied}
+use Rattle.fd_solving.specs.Headline.{IsSolved, IsSteady}
+use Rattle.fd_solving.specs.Printing.{EndsInHour, IsPrintedHour, begun_behind, fault_of, settle_calls}
+use Rattle.fd_daily.specs.Underway.{blame_first, plant_at, start_from}
+use Rattle.fd_pages.specs.Hours.{Kept, hour_settle}
+use Rattle.fd_solving.specs.Solving.{IsBehind, IsHour, IsHoursStep, IsSolutionStep, hour_begun, kept_by, kept_first}
+use Rattle.fd_solving.specs.Steps.{StandingView, behind_events, standing}
+use Rattle.fd_solving.specs.declared.faults.Failure.{Failure}
+use Rattle.fd_solving.specs.declared.tally.Tally.{Tally}
+use Rattle.fd_solving.proofs.Tests.{one_hours}
+
+-- ---- events before a step
+
+behind_none : (step : Step StandingView) → behind_events [] step ≡ step
+behind_none (goes events s) = refl
+behind_none (ends events f) = refl
+
+behind_both : (a b : List Event) (step : Step StandingView)
+    → behind_events a (behind_events b step) ≡ behind_events (a ++ b) step
+behind_both a b (goes events s) = ap (λ l. goes l s) (sym (append_assoc a b events))
+behind_both a b (ends events f) = ap (λ l. ends l f) (sym (append_assoc a b events))
+
+pub events_behind : (a : List Event) (step : Step StandingView) → events_in (behind_events a step) ≡ a ++ events_in step
+events_behind a (goes events s) = refl
+events_behind a (ends events f) = refl
+
+-- ---- calls
+
+-- the calls of events, and then of a settle
+behind_more : (style : Style) (begun b : Bool) (events : List Event) (x : Settle)
+    → b ≡ (begun || has_text (body style events))
+    → behind style begun events ++ settle_calls style b x ≡ behind style begun (events ++ settle x ∷ [])
+behind_more style begun b events x is = ap (λ (t : Bool). behind style begun events ++ behind style t (settle x ∷ [])) is ∙ sym (behind-append style begun events (settle x ∷ []))
+
+-- nothing of a settle without a text
+no_calls : (style : Style) (b : Bool) (x : Settle) → style.asked_in (settle x) ≡ [] → style.texts_in (settle x) ≡ []
+    → settle_calls style b x ≡ []
+no_calls style b x silent none = by b
+  where
+    no_body : body style (settle x ∷ []) ≡ []
+    no_body = append-nil (calls_in style (settle x)) ∙ ap (λ l. map reads l ++ map writes (style.texts_in (settle x))) silent ∙ ap (map writes) none
+
+    by : (t : Bool) → settle_calls style t x ≡ []
+    by true = no_body
+    by false = ap (opened style.opening) no_body
+
+good_more : (events : List Event) (x : Settle) → AllSettles IsSolved events → IsSolved x
+    → AllSettles IsSolved (events ++ settle x ∷ [])
+good_more events x all is = All-append (IfSettle IsSolved) events (settle x ∷ []) all (All-cons (IfSettle IsSolved) (settle x) [] is (All-nil (IfSettle IsSolved)))
+
+-- no state can be chosen for a settle of no round
+unsampled : (c : CircuitView) (hour : ℕ) (k : Kept) (f : Fault) → IsSteady (hour_settle c hour k [] (failed f) k.at)
+unsampled c hour k f [] chosen = refl
+unsampled c hour k f (x ∷ xs) chosen = absurd chosen
+
+-- a settle that ended with this fault ends the step
+behind_failed : (x : Settle) (end : SettleEnd) (f : Fault) (rest : Step StandingView → Type 0) → fault_of end ≡ Some f
+    → IsBehind x end rest (ends (settle x ∷ []) f)
+behind_failed x settled f rest h = absurd (let no : None ≡ Some f = h in cc no)
+behind_failed x (failed e) f rest h = ap (λ (k : Fault). (let s : Step StandingView = ends (settle x ∷ []) k in s)) (let same : Some e ≡ Some f = h in let is : f ≡ e = cc same in is)
+behind_failed x (without_certificate r e) f rest h = ap (λ (k : Fault). (let s : Step StandingView = ends (settle x ∷ []) k in s)) (let same : Some e ≡ Some f = h in let is : f ≡ e = cc same in is)
+
+-- ---- the loop
+
+module _ (style : Style) (c : CircuitView) (first : List ℕ) (l : Kept) {S : Type 0} (taken : S → Option (List ℕ))
+    (calls : S → Option ℕ) (old : S) (begun : Bool) (none_yet : Tally) where
+  abbrev IsFirst : Step StandingView → Type 0
+  IsFirst step = IsHoursStep c first l step
+
+  -- These events lead from the first hour to the hours that are left, and what is kept for them: whatever step follows
+  -- here, the Solve's is that step behind these events. Their texts are written, their settles are solved, and their
+  -- rounds are added to those before.
+  pub record HourWay (left : List ℕ) (k : Kept) (now : S) (b : Bool) (t : Tally) : Type 0 where
+    pub events : List Event
+    pub leads : (step : Step StandingView) → IsHoursStep c left k step
+        → IsHoursStep c first l (behind_events events step)
+    pub wrote : Wrote taken calls old now (whole (behind style begun events))
+    pub all_good : AllSettles IsSolved events
+    pub begun_is : b ≡ (begun || has_text (body style events))
+    pub added : t ≡ tally_of none_yet events
+
+  pub way_start : HourWay first l old begun none_yet
+  way_start = record {
+    events = [];
+    leads = λ step is. subst IsFirst (sym (behind_none step)) is;
+    wrote = subst (λ cs. Wrote taken calls old old (whole cs)) (sym (nothing_behind style begun)) (wrote_nothing taken calls old);
+    all_good = All-nil (IfSettle IsSolved);
+    begun_is = sym (or_false begun);
+    added = refl;
+  }
+
+  -- memory runs out between two texts
+  pub way_short : (left : List ℕ) (k : Kept) (now : S) (b : Bool) (t : Tally) → HourWay left k now b t
+      → (new : S) (code : ℕ) → Wrote taken calls now new (whole []) → code ≡ 1
+      → EndsAt style IsSolved IsFirst taken calls old new begun code
+  way_short left k now b t way new code none is =
+      let rest = one_hours c left k in
+      let nothing : IsCutIn taken calls now new [] code = record { made = whole []; front = inl (record { rest = []; calls = refl; torn = refl; status_is = is }); wrote = none } in
+      let cut = cut_then taken calls old now new (behind style begun way.events) [] code way.wrote nothing in
+      record {
+        step = behind_events way.events rest.some;
+        right = way.leads rest.some rest.is;
+        made = cut.made;
+        shown = way.events;
+        hidden = events_in rest.some;
+        events_are = events_behind way.events rest.some;
+        all_good = way.all_good;
+        done = inr (subst (λ cs. IsFrontOf cs code cut.made) (append-nil (behind style begun way.events)) cut.front);
+        wrote = cut.wrote;
+      }
+
+  module _ (hour : ℕ) (left : List ℕ) (k : Kept) (now : S) (b : Bool) (t : Tally)
+      (way : HourWay (hour ∷ left) k now b t) (x : Settle) (kept : Kept) (is : IsHour c hour k x kept)
+      (good : IsSolved x) where
+    abbrev more : List Event
+    more = way.events ++ settle x ∷ []
+
+    calls_more : behind style begun way.events ++ settle_calls style b x ≡ behind style begun more
+    calls_more = behind_more style begun b way.events x way.begun_is
+
+    -- whatever follows an hour that ended well
+    leads_on : x.end ≡ settled → (step : Step StandingView) → IsHoursStep c left kept step
+        → IsFirst (behind_events more step)
+    leads_on well step h =
+        let next : IsBehind x settled (λ s. IsHoursStep c left kept s) (behind_events (settle x ∷ []) step) = record { more = step; right = h; step_is = refl } in
+        let here : IsBehind x x.end (λ s. IsHoursStep c left kept s) (behind_events (settle x ∷ []) step) = subst (λ e. IsBehind x e (λ s. IsHoursStep c left kept s) (behind_events (settle x ∷ []) step)) (sym well) next in
+        subst IsFirst (behind_both way.events (settle x ∷ []) step) (way.leads (behind_events (settle x ∷ []) step) (record { made = x; kept = kept; is = is; goes_on = here }))
+
+    way_more : x.end ≡ settled → (new : S) (after : Bool) → Wrote taken calls now new (whole (settle_calls style b x))
+        → after ≡ begun_behind style b x → (u : Tally) → u ≡ tallied t (settle x) → HourWay left kept new after u
+    way_more well new after wrote now_begun u more_rounds = record {
+      events = more;
+      leads = leads_on well;
+      wrote = subst (λ cs. Wrote taken calls old new (whole cs)) calls_more (wrote_then taken calls old now new (behind style begun way.events) (whole (settle_calls style b x)) way.wrote wrote);
+      all_good = good_more way.events x way.all_good good;
+      begun_is = now_begun ∙ ap (λ y. y || has_text (body style (settle x ∷ []))) way.begun_is ∙ text_behind style begun way.events (settle x ∷ []);
+      added = more_rounds ∙ ap (λ (y : Tally). tallied y (settle x)) way.added ∙ sym (fold-append tallied none_yet way.events (settle x ∷ []));
+    }
+
+    -- cut short within its texts
+    way_cut : x.end ≡ settled → (new : S) (code : ℕ) → IsCutIn taken calls now new (settle_calls style b x) code
+        → EndsAt style IsSolved IsFirst taken calls old new begun code
+    way_cut well new code cut =
+        let rest = one_hours c left kept in
+        let all = cut_then taken calls old now new (behind style begun way.events) (settle_calls style b x) code way.wrote cut in
+        record {
+          step = behind_events more rest.some;
+          right = leads_on well rest.some rest.is;
+          made = all.made;
+          shown = more;
+          hidden = events_in rest.some;
+          events_are = events_behind more rest.some;
+          all_good = good_more way.events x way.all_good good;
+          done = inr (subst (λ cs. IsFrontOf cs code all.made) calls_more all.front);
+          wrote = all.wrote;
+        }
+
+    way_failed : (f : Fault) → fault_of x.end ≡ Some f → (new : S) (code : ℕ)
+        → Printed taken calls now new (record { calls = settle_calls style b x ++ writes (fault_text f) ∷ []; end = Some f }) code
+        → EndsAt style IsSolved IsFirst taken calls old new begun code
+    way_failed f ill new code printed =
+        let last : List Call = writes (fault_text f) ∷ [] in
+        let all = printed_then taken calls old now new (behind style begun way.events) (settle_calls style b x ++ last) (Some f) code way.wrote printed in
+        let step : Step StandingView = ends (settle x ∷ []) f in
+        record {
+          step = ends more f;
+          right = way.leads step (record { made = x; kept = kept; is = is; goes_on = behind_failed x x.end f (λ s. IsHoursStep c left kept s) ill });
+          made = all.made;
+          shown = more;
+          hidden = [];
+          events_are = sym (append-nil more);
+          all_good = good_more way.events x way.all_good good;
+          done = inl (
+            refl,
+            subst (λ cs. IsDone (record { calls = cs; end = Some f }) code all.made) (sym (append_assoc (behind style begun way.events) (settle_calls style b x) last) ∙ ap (λ cs. cs ++ last) calls_more) all.done,
+          );
+          wrote = all.wrote;
+        }
+
+  module _ (hour : ℕ) (left : List ℕ) (k : Kept) (now : S) (b : Bool) (t : Tally)
+      (way : HourWay (hour ∷ left) k now b t) where
+    -- behind an hour that is printed
+    pub way_printed : (kept : Kept) (new : S) (after : Bool) (u : Tally)
+        → IsPrintedHour style taken calls now new b c hour k kept after t u → HourWay left kept new after u
+    way_printed kept new after u p = way_more hour left k now b t way p.made kept p.is p.good p.well new after p.wrote p.begun_is u p.added
+
+    -- the run ends in an hour
+    pub way_ended : (new : S) (code : ℕ) → EndsInHour style taken calls now new b c hour k code
+        → EndsAt style IsSolved IsFirst taken calls old new begun code
+    way_ended new code e = elim e [
+      | inl short ↦ way_short (hour ∷ left) k now b t way new code short.wrote short.code_is
+      | inr more ↦ elim more [
+        | inl p ↦ way_cut hour left k now b t way p.made p.kept p.is p.good p.well new code p.cut
+        | inr p ↦ way_failed hour left k now b t way p.made p.kept p.is p.good p.fault p.ill new code p.printed
+      ]
+    ]
+
+    -- the network with which it starts is out of range
+    range_there : k.settled + 1 < 2 ^ 32 → hour ≤ 8760 → ((s : Settle) → style.asked_in (settle s) ≡ [])
+        → ((s : Settle) (f : Fault) → s.rounds ≡ [] → s.end ≡ failed f → style.texts_in (settle s) ≡ []) →
+        (blame : Blame) → (plant_at c hour).blame k.at ≡ Some blame → (new : S) (code : ℕ)
+        → Printed taken calls now new (fault_doing (fault.Script blame.place (cause.Model blame.cause))) code
+        → EndsAt style IsSolved IsFirst taken calls old new begun code
+    range_there number within silent unshown blame here new code printed =
+        let f : Fault = fault.Script blame.place (cause.Model blame.cause) in
+        let none : Settle = hour_settle c hour k [] (failed f) k.at in
+        let nothing : settle_calls style b none ≡ [] = no_calls style b none (silent none) (unshown none f refl refl) in
+        way_failed hour left k now b t way none (kept_by k (hour_begun c hour k))
+        (record { rounds = []; ending = stopped (range blame); machine = hour_begun c hour k; computed = (here, refl); end = failed f; end_is = refl; settle_is = refl; kept = refl })
+        (record {
+          solutions = tt;
+          alike = tt;
+          steady = unsampled c hour k f;
+          numbers = record { number = number; hour = omega (arith, within); few = omega arith; acts = tt };
+        }) f refl new code
+        (subst (λ cs. Printed taken calls now new (record { calls = cs ++ writes (fault_text f) ∷ []; end = Some f }) code) (sym nothing) printed)
+
+  -- the network of the first of the hours that are left is out of range
+  pub way_range : ((s : Settle) → style.asked_in (settle s) ≡ [])
+      → ((s : Settle) (f : Fault) → s.rounds ≡ [] → s.end ≡ failed f → style.texts_in (settle s) ≡ []) →
+      (left : List ℕ) (k : Kept) (now : S) (b : Bool) (t : Tally) → HourWay left k now b t → AreHours left → k.settled + length left < 2 ^ 32
+      → (blame : Blame) → blame_first c left k.at ≡ Some blame → (new : S) (code : ℕ)
+      → Printed taken calls now new (fault_doing (fault.Script blame.place (cause.Model blame.cause))) code
+      → EndsAt style IsSolved IsFirst taken calls old new begun code
+  way_range silent unshown [] k now b t way are room blame here new code printed = absurd (cc here)
+  way_range silent unshown (hour ∷ left) k now b t way are room blame here new code printed =
+      range_there hour left k now b t way (omega (arith, room)) are.each.0 silent unshown blame here new code printed
+
+  -- all hours are done
+  pub way_done : (left : List ℕ) (k : Kept) (now : S) (b : Bool) (t : Tally) → left ≡ [] → HourWay left k now b t
+      → GoesOnTallied style IsFirst (standing c k.at k.settled) taken calls old now begun b none_yet t
+  way_done left k now b t none way =
+      let last : Step StandingView = goes [] (standing c k.at k.settled) in
+      record {
+        on = record {
+          events = way.events;
+          right = subst (λ events. IsFirst (goes events (standing c k.at k.settled))) (append-nil way.events) (way.leads last (subst (λ hours. IsHoursStep c hours k last) (sym none) refl));
+          all_good = way.all_good;
+          wrote = way.wrote;
+          begun_is = way.begun_is;
+        };
+        added = way.added;
+      }
+
+-- ---- an hour as the code has it
+
+pub made_as : (c : CircuitView) (hour h : ℕ) (l : Kept) (rounds rs : List Made) (f : Option Failure) (k : Kept)
+    → hour ≡ h → rs ≡ rounds → IsMadeHour c hour l rounds f k → IsMadeHour c h l rs f k
+made_as c hour h l rounds rs f k same_hour same made = subst (λ (x : List Made). IsMadeHour c h l x f k) (sym same) (subst (λ (n : ℕ). IsMadeHour c n l rounds f k) same_hour made)
+
+-- the hours of a Solve are its step
+pub first_step : (s : StandingView) (step : Step StandingView)
+    → IsHoursStep s.circuit (hours_of s.circuit.options) (kept_first s) step → IsSolutionStep s step
+unfolding IsSolutionStep
+first_step s step h = h
+
+pub solution_step : (c : CircuitView) (before : Positions) (n : ℕ) (at : CodePositions) (day : DayView)
+    → positions_in at ≡ start_from c before → day.opened ≡ no_openings c
+    → hours_left day ≡ hours_of c.options → (step : Step StandingView)
+    → IsHoursStep c (hours_left day) (kept_in at day n) step → IsSolutionStep (standing c before n) step
+solution_step c before n at day start opened left step h =
+    let kept : kept_in at day n ≡ kept_first (standing c before n) =
+    ap (λ (p : Positions). (let k : Kept = record { at = p; opened = day.opened; settled = n } in k)) start
+    ∙ ap (λ (o : List (Option ℕ)). (let k : Kept = record { at = start_from c before; opened = o; settled = n } in k)) opened in
+    first_step (standing c before n) step
+    (subst (λ (hs : List ℕ). IsHoursStep c hs (kept_first (standing c before n)) step) left (subst (λ (l : Kept). IsHoursStep c (hours_left day) l step) kept h))

@@ -1,0 +1,14 @@
+pub mod Weaker
+mod Unsolved
+mod Computations
+mod Solutions
+mod Steadiness
+mod Settled
+pub mod Tests
+mod Hourly
+pub mod Handed
+pub mod Weights
+pub mod Scripts
+mod Days
+mod Tried
+pub mod CallerLemmas

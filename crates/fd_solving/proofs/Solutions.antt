@@ -1,0 +1,149 @@
+-- The certified state of a round is a solution of the circuit at the positions of its round.
+use Rattle.std.proofs.Common.{◌≡◌, ◌∙◌, ◌^◌, ◌+◌, ◌*◌, ◌<◌, ◌≤◌, ℕ, ℤ, nat_abs, List, length, ap, refl, sym, subst, arith}
+use Rattle.std.proofs.Math.Nat.{mul-le-mul_right, le_of_mul-le-mul_right}
+use Rattle.std.proofs.lemmas.Int.{ints, unsigned_abs-mul}
+use Rattle.std.proofs.lemmas.List.Elements.{All-get_or}
+use Rattle.std.proofs.lemmas.List.FromFn.{get_or-map-range_with_len, length-map-range_with_len}
+use Rattle.std.specs.Prelude.{pos, ◌*ℤ◌}
+use Rattle.fd_exact.specs.Fractions.{Fraction, Same}
+use Rattle.fd_exact.specs.States.{State, part}
+use Rattle.fd_system.specs.Meets.{Meets}
+use Rattle.fd_system.specs.Residual.{whole_state}
+use Rattle.fd_system.specs.System.{residual_of}
+use Rattle.fd_elements.specs.declared.powers.LoadPower.{LoadPower}
+use Rattle.fd_equations.specs.Conditions.{IsPart}
+use Rattle.fd_equations.specs.Enclosure.{addend_count}
+use Rattle.dss_layout.specs.Layout.{complex_count, layout_of, size_of}
+use Rattle.dss_circuit.specs.Circuit.{CircuitView}
+use Rattle.fd_enclosure.specs.Boxes.{half_width}
+use Rattle.fd_enclosure.specs.Encloses.{EnclosureLaw, IsAlternative, IsEnclosure}
+use Rattle.fd_enclosure.specs.Sound.{Claim, claim_of, mismatch_at, mismatches_of, number_at, radii_of, radius_in}
+use Rattle.fd_enclosure.specs.Ties.{BallLaw, IsTied, TieLaw}
+use Rattle.fd_enclosure.proofs.CallerLemmas.{claim_is}
+use Rattle.fd_queue.specs.Controls.{Positions}
+use Rattle.fd_report.specs.Solutions.{IsOfSize, solution_of}
+use Rattle.fd_report.proofs.CallerLemmas.{sizes}
+use Rattle.fd_settle.specs.Compute.{IsComputed}
+use Rattle.fd_settle.specs.Contract.{limits_of}
+use Rattle.fd_settle.specs.Plant.{network_at}
+use Rattle.fd_settle.specs.Start.{IsSoundAt}
+use Rattle.fd_outcome.specs.Pages.{solution_in}
+use Rattle.fd_devices.specs.Hours.{hour_powers}
+use Rattle.fd_solving.specs.Headline.{EnclosesOthers, EnclosesSizes, IsOtherState, IsSolution, equation_count, equations_of, hour_network}
+use Rattle.fd_outcome.specs.Settles.{round_of}
+use Rattle.fd_queue.specs.Machine.{Act}
+
+pub part_size : (z : ℤ) → IsPart z → nat_abs z ≤ 2 ^ 40
+part_size z h = let a = h.0 in let b = h.1 in omega (arith, ints)
+
+-- a tie holds of a number however it is written
+tied_other : (t u : ℤ) (d f n e : ℕ) → 0 < d → t *ℤ pos f ≡ u *ℤ pos d → e * d ≤ nat_abs t + (4 * n + 4) * d
+    → e * f ≤ nat_abs u + (4 * n + 4) * f
+tied_other t u d f n e h c w =
+    let p = unsigned_abs-mul t (pos f) in
+    let q = unsigned_abs-mul u (pos d) in
+    let r = ap nat_abs c in
+    let m = mul-le-mul_right f w in
+    let g : e * f * d ≤ (nat_abs u + (4 * n + 4) * f) * d = omega arith in
+    le_of_mul-le-mul_right g h
+
+tied_same : {f g : Fraction} → Same f g → (n e : ℕ) → IsTied f n e → IsTied g n e
+tied_same {f} {g} s n e h = tied_other f.top g.top f.over g.over n e s.left s.cross h
+
+-- ---- the network of a circuit
+
+pub network_size : (c : CircuitView) (powers : List LoadPower) (at : Positions)
+    → (network_at c powers at).size ≡ size_of (layout_of c.elements)
+unfolding network_at
+network_size c powers at = refl
+
+network_complexes : (c : CircuitView) (powers : List LoadPower) (at : Positions)
+    → (network_at c powers at).complexes ≡ complex_count (layout_of c.elements)
+unfolding network_at
+network_complexes c powers at = refl
+
+-- ---- a round
+
+module _ (c : CircuitView) (hour : ℕ) (at : Positions) (m : Claim)
+    (here : IsSoundAt c (hour_powers c.elements hour) at m) where
+  -- a state meets numbers in the equations of the circuit where it does in the rows of its network, and the other way round
+  up : (e : ℕ → ℕ) (y : State) → 0 < y.over
+      → Meets (residual_of (hour_network c hour at).share) e (hour_network c hour at).size y
+      → Meets (equations_of c hour at) e (equation_count c hour at) y
+  up e y h meets = let P : ℕ → Type 0 = λ n. Meets (equations_of c hour at) e n y in subst P (network_size c (hour_powers c.elements hour) at) (here.agrees.up e (hour_network c hour at).size y h meets)
+
+  down : (e : ℕ → ℕ) (y : State) → 0 < y.over → Meets (equations_of c hour at) e (equation_count c hour at) y
+      → Meets (residual_of (hour_network c hour at).share) e (hour_network c hour at).size y
+  down e y h meets = let P : ℕ → Type 0 = λ n. Meets (equations_of c hour at) e n y in here.agrees.down e (hour_network c hour at).size y h (subst P (sym (network_size c (hour_powers c.elements hour) at)) meets)
+
+  enclosed : EnclosureLaw → IsEnclosure (hour_network c hour at) m
+  enclosed law = law (hour_network c hour at) m here.network here.sound
+
+  -- a state of the round's ball that meets its mismatches is one that the certificate speaks of
+  alternative : (y : State) → IsOtherState c hour at m y
+      → IsAlternative (hour_network c hour at) m.centre m.mismatches y
+  alternative y a = record { over = a.over; inside = a.inside; meets = down (number_at m.mismatches) y a.over a.meets }
+
+  pub others : EnclosureLaw → EnclosesOthers c hour at m
+  others law y a = (enclosed law).encloses y (alternative y a)
+
+  pub is_of_size : (acts : List Act) → IsOfSize (size_of (layout_of c.elements)) (solution_in (round_of m acts))
+  is_of_size acts =
+      subst (λ n. IsOfSize n (solution_in (round_of m acts))) (network_size c (hour_powers c.elements hour) at) (record {
+        centre = here.sound.centre.long;
+        radii = here.sound.radii_long;
+        boxes = ap length here.sound.boxes ∙ length-map-range_with_len (half_width (hour_network c hour at) m.centre) 0 (hour_network c hour at).size;
+        mismatches = here.sound.mismatches_long;
+        parts_small = λ i h. part_size (part m.centre i) (All-get_or IsPart m.centre i (pos 0) (subst (λ n. i < n) (sym here.sound.centre.long) h) here.sound.centre.parts);
+        radii_small = here.sound.radii_most;
+      })
+
+  module _ (computed : IsComputed (limits_of c.options) (hour_network c hour at) m) where
+    what : m ≡ claim_of (hour_network c hour at) m.centre m.inverse
+    what = sym (claim_is (hour_network c hour at) m.centre m.inverse m computed.certificate)
+
+    own_mismatch : (l : ℕ) → l < (hour_network c hour at).size
+        → number_at m.mismatches l ≡ mismatch_at (hour_network c hour at) m.centre l
+    unfolding mismatches_of
+    own_mismatch l h = ap (λ k. number_at k.mismatches l) what ∙ get_or-map-range_with_len (mismatch_at (hour_network c hour at) m.centre) 0 (hour_network c hour at).size l l 0 h (omega arith)
+
+    own_radius : (i : ℕ) → i < (hour_network c hour at).size
+        → number_at m.radii i ≡ radius_in (hour_network c hour at) m.centre m.inverse (mismatches_of (hour_network c hour at) m.centre) i
+    unfolding radii_of
+    own_radius i h =
+        ap (λ k. number_at k.radii i) what
+        ∙ get_or-map-range_with_len (radius_in (hour_network c hour at) m.centre m.inverse (mismatches_of (hour_network c hour at) m.centre)) 0 (hour_network c hour at).size i i 0 h (omega arith)
+
+    row_tied : TieLaw → (l : ℕ) → l < equation_count c hour at
+        → IsTied (equations_of c hour at (whole_state m.centre) l) (addend_count (hour_network c hour at).share l) (number_at m.mismatches l)
+    row_tied tie l h =
+        let within : l < (hour_network c hour at).size = omega (arith, h, network_size c (hour_powers c.elements hour) at) in
+        let tied : IsTied (equations_of c hour at (whole_state m.centre) l) (addend_count (hour_network c hour at).share l) (mismatch_at (hour_network c hour at) m.centre l) =
+        tied_same (here.agrees.same (whole_state m.centre) (omega arith) l) (addend_count (hour_network c hour at).share l) (mismatch_at (hour_network c hour at) m.centre l) (tie (hour_network c hour at) m.centre l here.network here.sound.centre within) in
+        subst (λ e. IsTied (equations_of c hour at (whole_state m.centre) l) (addend_count (hour_network c hour at).share l) e) (sym (own_mismatch l within)) tied
+
+    pair : BallLaw → (k : ℕ) → k < complex_count (layout_of c.elements)
+        → number_at m.radii (2 * k) ≡ number_at m.radii (2 * k + 1)
+    pair ball k h =
+        let inside : k < (hour_network c hour at).complexes = omega (arith, h, network_complexes c (hour_powers c.elements hour) at) in
+        own_radius (2 * k) (omega (arith, inside, here.network.unknowns)) ∙ (ball (hour_network c hour at) m.centre m.inverse (mismatches_of (hour_network c hour at) m.centre) k here.network.nodes inside).radius
+        ∙ sym (own_radius (2 * k + 1) (omega (arith, inside, here.network.unknowns)))
+
+    sizes_of_others : EnclosureLaw → EnclosesSizes c hour at m
+    sizes_of_others law y k other h =
+        let inside : k < (hour_network c hour at).complexes = omega (arith, h, network_complexes c (hour_powers c.elements hour) at) in
+        let near = others law y other in
+        sizes (solution_of m.centre m.radii m.boxes m.mismatches) y k
+        (near (2 * k) (omega (arith, inside, here.network.unknowns))) (near (2 * k + 1) (omega (arith, inside, here.network.unknowns)))
+
+    pub is_solution : EnclosureLaw → TieLaw → BallLaw → IsSolution c hour at m
+    is_solution law tie ball = record {
+      state = computed.point;
+      certificate = computed.certificate;
+      sound = here.sound;
+      meets = up (number_at m.mismatches) (whole_state m.centre) (omega arith) (enclosed law).meets;
+      encloses = others law;
+      sizes = sizes_of_others law;
+      tied = row_tied tie;
+      one_radius = pair ball;
+    }

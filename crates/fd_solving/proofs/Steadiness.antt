@@ -1,0 +1,135 @@
+-- Whatever states are chosen in the balls of a settle's rounds, the acts are those of the settle.
+use Rattle.std.proofs.Common.{◌≡◌, ◌∙◌, ℕ, ◌+◌, ◌<◌, ◌≤◌, ◌^◌, List, [], ◌∷◌, map, take, length, get_or, Result, Ok, Err, ap, refl, sym, subst, arith}
+use Rattle.std.specs.Prelude.{All}
+use Rattle.std.proofs.lemmas.List.Elements.{All-from_get_or, All-head, All-tail}
+use Rattle.dss_values.specs.declared.words.ControlMode.{ControlMode}
+use Rattle.dss_values.specs.declared.words.ControlMode.TheVariants as control_mode
+use Rattle.dss_layout.specs.Layout.{layout_of, size_of}
+use Rattle.dss_ready.specs.Ready.{HasPassed}
+use Rattle.dss_circuit.specs.Circuit.{CircuitView}
+use Rattle.dss_circuit.specs.InRange.{AllInRange}
+use Rattle.dss_circuit.specs.WellFormed.{IsEntry}
+use Rattle.fd_exact.specs.States.{State}
+use Rattle.fd_devices.specs.Hours.{hour_powers}
+use Rattle.fd_enclosure.specs.Encloses.{EnclosureLaw}
+use Rattle.fd_enclosure.specs.Sound.{Claim}
+use Rattle.fd_queue.specs.Controls.{Positions}
+use Rattle.fd_queue.specs.Decisions.{Decision}
+use Rattle.fd_queue.specs.Machine.{Machine}
+use Rattle.fd_sample.specs.Balls.{IsBall, IsInBall}
+use Rattle.fd_sample.specs.Circuits.{probes_of}
+use Rattle.fd_sample.specs.Decided.{Undecided, sample_over}
+use Rattle.fd_sample.specs.Probes.{IsProbe, decision_at, quantity_at}
+use Rattle.fd_sample.specs.declared.probe.Probe.{Probe}
+use Rattle.fd_sample.proofs.CallerLemmas.{probes_kept, sample_wanted}
+use Rattle.fd_settle.specs.Chosen.{AreChosen, AreOfHeld, GoesOn}
+use Rattle.fd_settle.specs.Plant.{Plant, controls_in, plant_of, setup_of, taking_part}
+use Rattle.fd_settle.specs.Rounds.{AtEach, after_round, left_by}
+use Rattle.fd_settle.specs.Sampling.{Sampling, Decided, Unclear, look_at, look_over, sampling_of, with_first}
+use Rattle.fd_settle.specs.Settle.{Open, Settled, Limited, Undecidable, Outcome, Ends, Moves, outcome_of, settle_of}
+use Rattle.fd_settle.specs.Start.{IsSoundAt}
+use Rattle.fd_settle.proofs.CallerLemmas.{history}
+use Rattle.fd_solving.specs.Headline.{DecidesAlike, IsOtherState}
+use Rattle.fd_solving.proofs.Solutions.{network_size, others}
+
+-- ---- decided samples
+
+-- a decision before samples that are decided
+after_first : (d e : Decision) (w : Sampling) (ds : List Decision) (es : List Decision) → d ≡ e
+    → ((fs : List Decision) → w ≡ Decided fs → es ≡ fs) → with_first d w ≡ Decided ds → e ∷ es ≡ ds
+after_first d e (Decided fs) ds es first rest is =
+    let later : es ≡ fs = rest fs refl in
+    let whole : d ∷ fs ≡ ds = cc is in
+    cc
+after_first d e (Unclear k u) ds es first rest is = absurd (cc)
+
+-- samples that are decided say what each control wants, where each sample does
+decided_each : (k : ℕ) (ps : List Probe) (f : Probe → Result Decision Undecided) (g : Probe → Decision) (ds : List Decision)
+    → All (λ p. (d : Decision) → f p ≡ Ok d → g p ≡ d) ps → sampling_of k (map f ps) ≡ Decided ds → map g ps ≡ ds
+decided_each k [] f g ds each is = cc
+decided_each k (p ∷ ps) f g ds each is = cases (λ fs rest. decided_each (k + 1) ps f g fs (All-tail (λ q. (d : Decision) → f q ≡ Ok d → g q ≡ d) p ps each) rest) (f p) refl is
+  where
+    W : Probe → Type 0
+    W = λ q. (d : Decision) → f q ≡ Ok d → g q ≡ d
+
+    cases : ((fs : List Decision) → sampling_of (k + 1) (map f ps) ≡ Decided fs → map g ps ≡ fs)
+        → (r : Result Decision Undecided) → f p ≡ r → sampling_of k (r ∷ map f ps) ≡ Decided ds → g p ∷ map g ps ≡ ds
+    cases later (Ok d) e h = after_first d (g p) (sampling_of (k + 1) (map f ps)) ds (map g ps) (sym (All-head W p ps each d e)) later h
+    cases later (Err u) e h = absurd (cc)
+
+part_taken : (mode : ControlMode) (P : Probe → Type 0) (ps : List Probe) → All P ps → All P (taking_part mode ps)
+part_taken control_mode.Off P ps h = λ i x lt. absurd (omega (arith, lt))
+part_taken control_mode.Static P ps h = h
+
+-- ---- states that may be chosen
+
+-- states that may be chosen, where something holds of each round besides
+module _ (p : Plant) (P : Positions → Claim → State → Type 0) (Q : Positions → Claim → Type 0) where
+  abbrev pub Both : Positions → Claim → State → Type 0
+  Both at m x = P at m x × Q at m
+
+  on_both : (o : Outcome) (ys : List Claim) (xs : List State)
+      → ((n : Machine) → AtEach Q p n ys → AreChosen p.setup P p.look n ys xs → AreChosen p.setup Both p.look n ys xs)
+      → AtEach Q p (left_by o) ys
+      → GoesOn o xs (λ n. AreChosen p.setup P p.look n ys xs) → GoesOn o xs (λ n. AreChosen p.setup Both p.look n ys xs)
+  on_both (Moves acts n) ys xs go each h = go n each h
+  on_both (Ends (Undecidable k u) n) ys xs go each h = h
+  on_both (Ends Open n) ys xs go each h = h
+  on_both (Ends Settled n) ys xs go each h = h
+  on_both (Ends Limited n) ys xs go each h = h
+
+  pub both : (m : Machine) (ys : List Claim) (xs : List State) → AtEach Q p m ys → AreChosen p.setup P p.look m ys xs
+      → AreChosen p.setup Both p.look m ys xs
+  both m ys [] each h = tt
+  both m [] (x ∷ xs) each h = absurd h
+  both m (y ∷ ys) (x ∷ xs) each h = ((h.0, each.0), on_both (outcome_of p.setup m (p.look m.at y)) ys xs (λ n e k. both n ys xs e k) each.1 h.1)
+
+module _ (c : CircuitView) (hour : ℕ) where
+  -- a state that may be chosen for a round, where the round is sound
+  abbrev IsHeld : Positions → Claim → State → Type 0
+  IsHeld at m x = IsOtherState c hour at m x × IsSoundAt c (hour_powers c.elements hour) at m
+
+  abbrev chosen_by : (Positions → Claim → State → Type 0) → Machine → List Claim → List State → Type 0
+  chosen_by holds m ys xs = AreChosen (setup_of c) holds (look_over (controls_in c)) m ys xs
+
+  ball_of : (at : Positions) (m : Claim) → IsSoundAt c (hour_powers c.elements hour) at m → IsBall m.centre m.radii
+  ball_of at m here = record {
+    long = here.sound.radii_long ∙ sym here.sound.centre.long;
+    centre = here.sound.centre.parts;
+    radii = All-from_get_or (λ n. n ≤ 2 ^ 40) m.radii 0 (λ i h. here.sound.radii_most i (subst (λ n. i < n) here.sound.radii_long h));
+  }
+
+  in_ball : EnclosureLaw → (at : Positions) (m : Claim) (x : State) → IsHeld at m x → IsInBall m.centre m.radii x
+  in_ball law at m x h = record { over = h.0.over; within = λ i lt. others c hour at m h.1 law x h.0 i (subst (λ n. i < n) h.1.sound.centre.long lt) }
+
+  module _ (ready : HasPassed c) (range : AllInRange c.elements) (keys : All IsEntry c.elements)
+      (law : EnclosureLaw) where
+    -- a decided sample over a round's ball is what its control wants at each state that may be chosen
+    wanted : (at : Positions) (m : Claim) (x : State) → IsHeld at m x
+        → All (λ p. (d : Decision) → sample_over p at m.centre m.radii ≡ Ok d → decision_at p at (quantity_at p at x) ≡ d) (probes_of c.elements)
+    wanted at m x h i p lt d is =
+        let kept = probes_kept c ready range keys in
+        let long : length m.centre ≡ size_of (layout_of c.elements) = h.1.sound.centre.long ∙ network_size c (hour_powers c.elements hour) at in
+        let q = get_or (probes_of c.elements) i p in
+        sample_wanted q at m.centre m.radii x d (subst (λ n. IsProbe n q) (sym long) (kept.places i p lt)) (kept.devices at h.1.positions.counts.taps h.1.positions.counts.closed i p lt) h.1.positions.taps
+        (ball_of at m h.1) (in_ball law at m x h) is
+
+    of_held : AreOfHeld IsHeld (look_over (controls_in c)) (look_at (controls_in c))
+    of_held at m x ds h is =
+        ap Decided (decided_each 0 (controls_in c) (λ p. sample_over p at m.centre m.radii) (λ p. decision_at p at (quantity_at p at x)) ds
+        (part_taken c.options.controlmode (λ p. (d : Decision) → sample_over p at m.centre m.radii ≡ Ok d → decision_at p at (quantity_at p at x) ≡ d) (probes_of c.elements) (wanted at m x h)) is)
+
+    pub alike : (at : Positions) (m : Claim) → IsSoundAt c (hour_powers c.elements hour) at m → DecidesAlike c hour at m
+    alike at m here x ds other is = of_held at m x ds (other, here) is
+
+    pub each_alike : (m : Machine) (ys : List Claim)
+        → AtEach (IsSoundAt c (hour_powers c.elements hour)) (plant_of c (hour_powers c.elements hour)) m ys
+        → AtEach (DecidesAlike c hour) (plant_of c (hour_powers c.elements hour)) m ys
+    each_alike m [] sound = tt
+    each_alike m (y ∷ ys) sound = (alike m.at y sound.0, each_alike (after_round (plant_of c (hour_powers c.elements hour)) m y) ys sound.1)
+
+    pub steady : (m : Machine) (ys : List Claim) (xs : List State)
+        → AtEach (IsSoundAt c (hour_powers c.elements hour)) (plant_of c (hour_powers c.elements hour)) m ys
+        → chosen_by (IsOtherState c hour) m ys xs →
+        (settle_of (setup_of c) (look_at (controls_in c)) m xs).rounds ≡ take (length xs) (settle_of (setup_of c) (look_over (controls_in c)) m ys).rounds
+    steady m ys xs sound h = history IsHeld (look_over (controls_in c)) (look_at (controls_in c)) of_held (setup_of c) m ys xs (both (plant_of c (hour_powers c.elements hour)) (IsOtherState c hour) (IsSoundAt c (hour_powers c.elements hour)) m ys xs sound h)

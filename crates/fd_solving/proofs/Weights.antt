@@ -1,0 +1,310 @@
+-- A command adds no more elements and Solves than its room in the script pays for.
+use Rattle.std.proofs.Common.{◌≡◌, ◌∙◌, ◌+◌, ◌≤◌, ◌&&◌, ℕ, Bool, true, false, List, [], ◌∷◌, length, Option, Some, None, Result, Ok, Err, refl, sym, ap, subst, arith, cond, inl, inr, ◌⊎◌, nat_eq, nat_le, if◌then◌else◌}
+use Rattle.std.specs.Prelude.{codes}
+use Rattle.std.specs.Char.{to_ascii_lowercase}
+use Rattle.std.specs.Cmp.Lexicographic.{pointwise}
+use Rattle.std.specs.List.{list_all}
+use Rattle.std.specs.Map.{lookup}
+use Rattle.std.proofs.lemmas.Bool.{leb-true}
+use Rattle.std.proofs.lemmas.List.{length-map}
+use Rattle.std.proofs.lemmas.Str.{encodes_same}
+use Rattle.indexmap.specs.IndexMap.{insert_entry}
+use Rattle.dss_lexer.specs.declared.pair.Pair.{Pair}
+use Rattle.dss_lexer.proofs.CallerLemmas.{same_from}
+use Rattle.dss_values.specs.Answers.{◌>>=◌, or_fault}
+use Rattle.dss_values.specs.Names.{bytes, lower, named}
+use Rattle.dss_values.specs.declared.fault.ModelFault.{ModelFault}
+use Rattle.dss_values.specs.declared.fault.ModelFault.TheVariants as fault
+use Rattle.dss_profile.specs.Names.{classes}
+use Rattle.dss_profile.specs.Options.{default_options, with_options}
+use Rattle.dss_profile.specs.declared.command.Command.{Command}
+use Rattle.dss_profile.specs.declared.command.Place.{Place}
+use Rattle.dss_profile.specs.declared.command.Verb.{Verb}
+use Rattle.dss_profile.specs.declared.command.Verb.TheVariants as verb
+use Rattle.dss_profile.specs.declared.element.Element.{Element}
+use Rattle.dss_profile.specs.declared.names.ElementName.{ElementName}
+use Rattle.dss_profile.specs.SameElement.{same_element}
+use Rattle.dss_profile.specs.declared.options.Options.{Options}
+use Rattle.dss_circuit.specs.Circuit.{CircuitView, Elements, applied, applied_verb, edit, has_circuit, make, make_where, put, with_pairs}
+use Rattle.dss_circuit.specs.Keys.{edit_key, element_key, made_key, needed, new_key, source_name, written}
+use Rattle.dss_script.specs.Sessions.{cost}
+use Rattle.dss_profile.specs.declared.command.Blame.{Blame}
+use Rattle.fd_report.specs.declared.faults.Cause.{Cause}
+use Rattle.fd_report.specs.declared.faults.Cause.TheVariants as cause
+use Rattle.fd_daily.specs.Hours.{hours_of}
+use Rattle.fd_outcome.specs.Events.{Event, settle}
+use Rattle.fd_outcome.specs.Settles.{Settle, SettleEnd, settled, failed, without_certificate}
+use Rattle.fd_outcome.specs.Work.{Step, goes, ends}
+use Rattle.fd_pages.specs.Bases.{base_events}
+use Rattle.fd_pages.specs.Hours.{Kept}
+use Rattle.fd_solving.specs.Answered.{solve_count}
+use Rattle.fd_solving.specs.Commands.{Applied, bases_left, IsByTests, IsStep, IsStepOf, left_of, nothing_left, refused_at, solve_left, tried}
+use Rattle.fd_solving.specs.Solving.{IsBehind, IsHoursStep, IsSolutionStep, kept_first}
+use Rattle.fd_solving.specs.Steps.{StandingView, behind_events, changes, refuses, standing}
+use Rattle.fd_queue.specs.Controls.{Positions}
+use Rattle.fd_solving.specs.Weights.{weight}
+
+-- ---- a class of the profile has four letters or more
+
+abbrev is_long : {T : Type 0} → List ℕ × T → Bool
+is_long row = pointwise nat_eq (bytes row.0) row.0 && nat_le 4 (length row.0)
+
+both : (a b : Bool) → (a && b) ≡ true → (a ≡ true) × (b ≡ true)
+both true true h = (refl, refl)
+both true false h = cc h
+both false true h = cc h
+both false false h = cc h
+
+long_name : (name v : List ℕ) → pointwise nat_eq (bytes name) name ≡ true → nat_le 4 (length name) ≡ true
+    → pointwise nat_eq name (bytes (lower v)) ≡ true → 4 ≤ length v
+long_name name v plain long is =
+    let same : name ≡ lower v = encodes_same name (lower v) (same_from (bytes name) name plain ∙ same_from name (bytes (lower v)) is) in
+    let four : 4 ≤ length name = leb-true _ _ long in
+    omega (arith, four, ap (λ xs. length xs) same, length-map v to_ascii_lowercase)
+
+named_long : {T : Type 0} (table : List (List ℕ × T)) (v : List ℕ) (found : T) → list_all is_long table ≡ true
+    → named table (bytes (lower v)) ≡ Some found → 4 ≤ length v
+named_long [] v found h is = cc is
+named_long {T} (row ∷ rows) v found h is =
+    let fits = both (is_long row) (list_all is_long rows) h in
+    cases fits (λ e. named_long rows v found fits.1 e) (pointwise nat_eq row.0 (bytes (lower v))) refl is
+  where
+    cases : ((is_long row ≡ true) × (list_all is_long rows ≡ true))
+        → (named rows (bytes (lower v)) ≡ Some found → 4 ≤ length v) → (b : Bool)
+        → pointwise nat_eq row.0 (bytes (lower v)) ≡ b
+        → (if b then Some row.1 else named rows (bytes (lower v))) ≡ Some found → 4 ≤ length v
+    cases fits rest true e is =
+        let row_fits = both (pointwise nat_eq (bytes row.0) row.0) (nat_le 4 (length row.0)) fits.0 in
+        long_name row.0 v row_fits.0 row_fits.1 e
+    cases fits rest false e is = rest is
+
+-- ---- what follows where nothing is refused
+
+record Through {A B : Type 0} (r : Result A ModelFault) (f : A → Result B ModelFault) (b : B) : Type 0 where
+  value : A
+  first : r ≡ Ok value
+  next : f value ≡ Ok b
+
+through : {A B : Type 0} (r : Result A ModelFault) (f : A → Result B ModelFault) (b : B) → (r >>= f) ≡ Ok b
+    → Through r f b
+through (Ok a) f b h = record { value = a; first = refl; next = h }
+through (Err e) f b h = cc h
+
+found_named : {A : Type 0} (e : ModelFault) (o : Option A) (a : A) → or_fault e o ≡ Ok a → o ≡ Some a
+found_named e None a h = cc h
+found_named e (Some x) a h = let f : x ≡ a = cc h in ap Some f
+
+long_key : (kind name : List ℕ) (begun : Bool) (key : ElementName)
+    → element_key (bytes (lower kind)) name begun ≡ Ok key → 4 ≤ length kind
+unfolding lib.Utf8.encode
+long_key kind name begun key h =
+    let t = through _ _ key h in
+    named_long classes kind t.value refl (found_named fault.UnknownClass _ t.value t.first)
+
+long_made : (kind name : List ℕ) (begun : Bool) (key : ElementName) → made_key (bytes (lower kind)) name begun ≡ Ok key
+    → 4 ≤ length kind
+unfolding lib.Utf8.encode
+long_made kind name begun key h = cases (pointwise nat_eq (bytes (lower kind)) (codes "circuit")) refl h
+  where
+    cases : (b : Bool) → pointwise nat_eq (bytes (lower kind)) (codes "circuit") ≡ b
+        → (if b then Ok source_name else element_key (bytes (lower kind)) name begun) ≡ Ok key → 4 ≤ length kind
+    cases true e is =
+        let turned : codes "circuit" ≡ bytes (lower kind) = sym (same_from (bytes (lower kind)) (codes "circuit") e) in
+        let plain : bytes (codes "circuit") ≡ codes "circuit" = refl in
+        let same : codes "circuit" ≡ lower kind = encodes_same (codes "circuit") (lower kind) (plain ∙ turned) in
+        let seven : length (codes "circuit") ≡ 7 = refl in
+        omega (arith, seven, ap (λ xs. length xs) same, length-map kind to_ascii_lowercase)
+    cases false e is = long_key kind name begun key is
+
+long_new : (kind name : List ℕ) (begun : Bool) (key : ElementName) → new_key kind name begun ≡ Ok key → 4 ≤ length kind
+long_new kind name begun key h = let t = through (written kind name) (λ done. made_key (bytes (lower kind)) name begun) key h in long_made kind name begun key t.next
+
+-- ---- elements are as many, or one more
+
+inserted : (elements : Elements) (name : ElementName) (element : Element)
+    → length (insert_entry same_element elements name element) ≤ 1 + length elements
+inserted [] name element = omega arith
+inserted (e ∷ es) name element = cases (same_element name e.0) (inserted es name element)
+  where
+    cases : (b : Bool) → length (insert_entry same_element es name element) ≤ 1 + length es
+        → length (if b then (e.0, element) ∷ es else e ∷ insert_entry same_element es name element) ≤ 1 + length (e ∷ es)
+    cases true rest = omega arith
+    cases false rest = omega (arith, rest)
+
+replaced : (elements : Elements) (name : ElementName) (element there : Element)
+    → lookup (same_element name) elements ≡ Some there
+    → length (insert_entry same_element elements name element) ≤ length elements
+replaced [] name element there is = cc is
+replaced (e ∷ es) name element there is = cases (same_element name e.0) (replaced es name element there) is
+  where
+    cases : (b : Bool)
+        → (lookup (same_element name) es ≡ Some there → length (insert_entry same_element es name element) ≤ length es)
+        → cond b (Some e.1) (lookup (same_element name) es) ≡ Some there
+        → length (if b then (e.0, element) ∷ es else e ∷ insert_entry same_element es name element) ≤ length (e ∷ es)
+    cases true rest h = omega arith
+    cases false rest h = omega (arith, rest h)
+
+put_more : (count : ℕ) (name : ElementName) (element : Element) (pairs : List Pair) (elements new : Elements)
+    → put count name element pairs elements ≡ Ok new → length new ≤ 1 + length elements
+unfolding put
+put_more count name element pairs elements new h =
+    let t = through (with_pairs count elements name.class pairs element) (λ e. Ok (insert_entry same_element elements name e)) new h in
+    let is : insert_entry same_element elements name t.value ≡ new = cc t.next in
+    omega (arith, ap (λ xs. length xs) is, inserted elements name t.value)
+
+put_same : (count : ℕ) (name : ElementName) (element there : Element) (pairs : List Pair) (elements new : Elements)
+    → lookup (same_element name) elements ≡ Some there → put count name element pairs elements ≡ Ok new
+    → length new ≤ length elements
+unfolding put
+put_same count name element there pairs elements new found h =
+    let t = through (with_pairs count elements name.class pairs element) (λ e. Ok (insert_entry same_element elements name e)) new h in
+    let is : insert_entry same_element elements name t.value ≡ new = cc t.next in
+    omega (arith, ap (λ xs. length xs) is, replaced elements name t.value there found)
+
+make_where_more : (count : ℕ) (there : Option Element) (place : Place) (name : ElementName) (pairs : List Pair) (elements new : Elements)
+    → make_where count there place name pairs elements ≡ Ok new → length new ≤ 1 + length elements
+make_where_more count None place name pairs elements new h = put_more count name _ pairs elements new h
+make_where_more count (Some there) place name pairs elements new h = cc h
+
+make_more : (count : ℕ) (place : Place) (name : ElementName) (pairs : List Pair) (elements new : Elements)
+    → make count place name pairs elements ≡ Ok new → length new ≤ 1 + length elements
+unfolding make
+make_more count place name pairs elements new h = make_where_more count (lookup (same_element name) elements) place name pairs elements new h
+
+edit_same : (count : ℕ) (name : ElementName) (pairs : List Pair) (elements new : Elements)
+    → edit count name pairs elements ≡ Ok new → length new ≤ length elements
+unfolding edit
+edit_same count name pairs elements new h =
+    let t = through _ _ new h in
+    put_same count name t.value t.value pairs elements new (found_named fault.UnknownName _ t.value t.first) t.next
+
+-- ---- a command that is applied takes its room
+
+-- a command takes its room, and counts a Solve
+pub record Takes (v : Verb) (circuit new : CircuitView) : Type 0 where
+  pub room : weight new ≤ weight circuit + cost v
+  pub count : circuit.solves + solve_count v ≤ new.solves
+
+pub verb_takes : (place : Place) (v : Verb) (circuit new : CircuitView) → applied_verb place v circuit ≡ Ok new
+    → Takes v circuit new
+verb_takes place (verb.New kind name pairs) circuit new h =
+    let keep : Elements → Result CircuitView ModelFault = λ es. Ok (record circuit { elements = es }) in
+    let t = through (new_key kind name (has_circuit circuit.elements)) (λ key. make circuit.solves place key pairs circuit.elements >>= keep) new h in
+    let u = through (make circuit.solves place t.value pairs circuit.elements) keep new t.next in
+    let is : record circuit { elements = u.value } ≡ new = cc u.next in
+    let long = long_new kind name (has_circuit circuit.elements) t.value t.first in
+    let more = make_more circuit.solves place t.value pairs circuit.elements u.value u.first in
+    let elements : length u.value ≡ length new.elements = ap (λ c. length c.elements) is in
+    let count : circuit.solves ≡ new.solves = ap (λ c. c.solves) is in
+    record { room = omega (arith, long, more, elements, count); count = omega (arith, count) }
+verb_takes place (verb.Edit kind name pairs) circuit new h =
+    let keep : Elements → Result CircuitView ModelFault = λ es. Ok (record circuit { elements = es }) in
+    let t = through (edit_key kind name (has_circuit circuit.elements)) (λ key. edit circuit.solves key pairs circuit.elements >>= keep) new h in
+    let u = through (edit circuit.solves t.value pairs circuit.elements) keep new t.next in
+    let is : record circuit { elements = u.value } ≡ new = cc u.next in
+    let more = edit_same circuit.solves t.value pairs circuit.elements u.value u.first in
+    let elements : length u.value ≡ length new.elements = ap (λ c. length c.elements) is in
+    let count : circuit.solves ≡ new.solves = ap (λ c. c.solves) is in
+    record { room = omega (arith, more, elements, count); count = omega (arith, count) }
+verb_takes place (verb.Set pairs) circuit new h =
+    let t = through (with_options pairs circuit.options) (λ o. Ok (record circuit { options = o })) new h in
+    let is : record circuit { options = t.value } ≡ new = cc t.next in
+    let elements : length circuit.elements ≡ length new.elements = ap (λ c. length c.elements) is in
+    let count : circuit.solves ≡ new.solves = ap (λ c. c.solves) is in
+    record { room = omega (arith, elements, count); count = omega (arith, count) }
+verb_takes place (verb.Solve pairs) circuit new h =
+    let keep : Options → Result CircuitView ModelFault = λ o. Ok (record circuit { options = o; solves = circuit.solves + 1 }) in
+    let t = through (needed (has_circuit circuit.elements)) (λ done. with_options pairs circuit.options >>= keep) new h in
+    let u = through (with_options pairs circuit.options) keep new t.next in
+    let is : record circuit { options = u.value; solves = circuit.solves + 1 } ≡ new = cc u.next in
+    let elements : length circuit.elements ≡ length new.elements = ap (λ c. length c.elements) is in
+    let count : circuit.solves + 1 ≡ new.solves = ap (λ c. c.solves) is in
+    record { room = omega (arith, elements, count); count = omega (arith, count) }
+verb_takes place verb.Clear circuit new h =
+    let is : record circuit { elements = []; options = default_options } ≡ new = cc h in
+    let elements : 0 ≡ length new.elements = ap (λ c. length c.elements) is in
+    let count : circuit.solves ≡ new.solves = ap (λ c. c.solves) is in
+    record { room = omega (arith, elements, count); count = omega (arith, count) }
+verb_takes place verb.Bases circuit new h =
+    let t = through (needed (has_circuit circuit.elements)) (λ done. Ok circuit) new h in
+    let is : circuit ≡ new = cc t.next in
+    let elements : length circuit.elements ≡ length new.elements = ap (λ c. length c.elements) is in
+    let count : circuit.solves ≡ new.solves = ap (λ c. c.solves) is in
+    record { room = omega (arith, elements, count); count = omega (arith, count) }
+
+-- ---- so does a command after which the run goes on
+
+abbrev Reaches : Applied → CircuitView → Type 0
+Reaches left now = (left ≡ nothing_left now) ⊎ ((left ≡ solve_left now) ⊎ (left ≡ bases_left now))
+
+solve_reaches : (circuit now : CircuitView) → Reaches (solve_left circuit) now → circuit ≡ now
+solve_reaches circuit now h = elim h [ inl is ↦ cc is | inr more ↦ elim more [ inl is ↦ cc is | inr is ↦ cc is ] ]
+
+bases_reaches : (circuit now : CircuitView) → Reaches (bases_left circuit) now → circuit ≡ now
+bases_reaches circuit now h = elim h [ inl is ↦ cc is | inr more ↦ elim more [ inl is ↦ cc is | inr is ↦ cc is ] ]
+
+refused_reaches : (place : Place) (c : Cause) (now : CircuitView) → Reaches (refused_at place c) now → ⊥
+refused_reaches place c now h = elim h [ inl is ↦ cc is | inr more ↦ elim more [ inl is ↦ cc is | inr is ↦ cc is ] ]
+
+nothing_reaches : (circuit now : CircuitView) → Reaches (nothing_left circuit) now → circuit ≡ now
+nothing_reaches circuit now h = elim h [ inl is ↦ cc is | inr more ↦ elim more [ inl is ↦ cc is | inr is ↦ cc is ] ]
+
+left_reaches : (place : Place) (v : Verb) (r : Result CircuitView ModelFault) (now : CircuitView)
+    → Reaches (left_of place v r) now → r ≡ Ok now
+left_reaches place v (Err f) now h = absurd (refused_reaches place (cause.Model f) now h)
+left_reaches place verb.Bases (Ok circuit) now h = ap Ok (bases_reaches circuit now h)
+left_reaches place (verb.Solve pairs) (Ok circuit) now h = ap Ok (solve_reaches circuit now h)
+left_reaches place (verb.New kind name pairs) (Ok circuit) now h = ap Ok (nothing_reaches circuit now h)
+left_reaches place (verb.Edit kind name pairs) (Ok circuit) now h = ap Ok (nothing_reaches circuit now h)
+left_reaches place (verb.Set pairs) (Ok circuit) now h = ap Ok (nothing_reaches circuit now h)
+left_reaches place verb.Clear (Ok circuit) now h = ap Ok (nothing_reaches circuit now h)
+
+-- the circuit that stands behind a step after which the run goes on
+abbrev Leaves : Step StandingView → CircuitView → Type 0
+Leaves (goes events s) now = s.circuit ≡ now
+Leaves (ends events f) now = ⊥
+
+-- a step that is this one leaves what it leaves
+left_by : (now : CircuitView) (step other : Step StandingView) → step ≡ other → Leaves step now → Leaves other now
+left_by now step other is leaves = subst (λ s. Leaves s now) is leaves
+
+-- events before a step leave what it leaves
+behind_leaves : (now : CircuitView) (events : List Event) (step : Step StandingView)
+    → Leaves (behind_events events step) now → Leaves step now
+behind_leaves now events (goes more s) h = h
+behind_leaves now events (ends more f) h = h
+
+hour_leaves : (c now : CircuitView) (x : Settle) (end : SettleEnd) (rest : Step StandingView → Type 0) (step : Step StandingView)
+    → ((more : Step StandingView) → rest more → Leaves more now → c ≡ now) → IsBehind x end rest step → Leaves step now
+    → c ≡ now
+hour_leaves c now x settled rest step go is h = go is.more is.right (behind_leaves now (settle x ∷ []) is.more (left_by now step _ is.step_is h))
+hour_leaves c now x (failed f) rest step go is h = absurd (left_by now step _ is h)
+hour_leaves c now x (without_certificate r f) rest step go is h = absurd (left_by now step _ is h)
+
+hours_leave : (c now : CircuitView) (hours : List ℕ) (l : Kept) (step : Step StandingView) → IsHoursStep c hours l step
+    → Leaves step now → c ≡ now
+hours_leave c now [] l step is h = left_by now step _ is h
+hours_leave c now (hour ∷ hours) l step is h = hour_leaves c now is.made is.made.end (λ s. IsHoursStep c hours is.kept s) step (λ more right later. hours_leave c now hours is.kept more right later) is.goes_on h
+
+solution_leaves : (s : StandingView) (now : CircuitView) (step : Step StandingView) → IsSolutionStep s step
+    → Leaves step now → s.circuit ≡ now
+unfolding IsSolutionStep
+solution_leaves s now step is h = hours_leave s.circuit now (hours_of s.circuit.options) (kept_first s) step is h
+
+tests_leave : (s : StandingView) (now : CircuitView) (r : Result Unit Blame) (step : Step StandingView)
+    → IsByTests s r step → Leaves step now → s.circuit ≡ now
+tests_leave s now (Ok done) step is h = solution_leaves s now step is h
+tests_leave s now (Err blame) step is h = absurd (left_by now step _ is h)
+
+step_reaches : (at : Positions) (n : ℕ) (left : Applied) (step : Step StandingView) (now : CircuitView)
+    → IsStepOf at n left step → Leaves step now → Reaches left now
+step_reaches at n (nothing_left circuit) step now is leaves = inl (ap nothing_left (left_by now step (changes (standing circuit at n)) is leaves))
+step_reaches at n (refused_at place c) step now is leaves = absurd (left_by now step (refuses place c) is leaves)
+step_reaches at n (solve_left circuit) step now is leaves = inr (inl (ap solve_left (tests_leave (standing circuit at n) now is.answer step is.step_is leaves)))
+step_reaches at n (bases_left circuit) step now is leaves = inr (inr (ap bases_left (left_by now step (goes (base_events circuit) (standing circuit at n)) is leaves)))
+
+pub command_takes : (command : Command) (s now : StandingView) (events : List Event)
+    → IsStep command s (goes events now) → weight now.circuit ≤ weight s.circuit + cost command.verb
+command_takes command s now events is =
+    (verb_takes command.place command.verb s.circuit now.circuit
+    (left_reaches command.place command.verb (applied command s.circuit) now.circuit (step_reaches s.at s.settled (tried command s.circuit) (goes events now) now.circuit is refl))).room

@@ -1,0 +1,79 @@
+use Rattle.std.proofs.Common.{◌≡◌, ◌∙◌, ◌+◌, List, Ok, Err, ap, refl, subst}
+use Rattle.dss_circuit.specs.Circuit.{CircuitView}
+use Rattle.fd_daily.specs.Day.{begun_hour, hour_in}
+use Rattle.fd_daily.specs.Underway.{plant_at}
+use Rattle.fd_daily.proofs.CallerLemmas.{hour_within}
+use Rattle.fd_devices.specs.Hours.{hour_powers}
+use Rattle.fd_devices.specs.declared.settings.Powers.{Powers}
+use Rattle.fd_elements.specs.declared.powers.LoadPower.{LoadPower}
+use Rattle.fd_queue.specs.Controls.{Positions}
+use Rattle.fd_sample.specs.Probes.{positions_in}
+use Rattle.fd_settle.specs.Contract.{limits_of}
+use Rattle.fd_settle.specs.Start.{ArePositions}
+use Rattle.fd_settle.proofs.CallerLemmas.{computed}
+use Rattle.fd_solving.specs.Answered.{kept_in}
+use Rattle.fd_solving.proofs.Settled.{IsMade, ended_by_fault, ended_well, within}
+use Rattle.fd_solving.proofs.Tried.{tried_by_calls}
+use Rattle.fd_solving.proofs.hour.solve_hour.Goals as goal
+
+-- the positions with the powers of the hour
+of_hour : (c : CircuitView) (hour : _) (at : Positions) (now before : Powers) → now ≡ before
+    → before.loads ≡ hour_powers c.elements hour → ArePositions c now.loads at
+    → ArePositions c (hour_powers c.elements hour) at
+of_hour c hour at now before kept powers h = subst (λ (x : List LoadPower). ArePositions c x at) (ap (λ (p : Powers). p.loads) kept ∙ powers) h
+
+pub returns-in-Ok-clause-made : goal.returns-in-Ok-clause-made
+returns-in-Ok-clause-made c n number =
+    let circuit = c.args.circuit.now in
+    let u = c.args.underway.now in
+    let hour = hour_in u.day in
+    let m = begun_hour circuit c.args.at.now u.day in
+    let new = c.daily_run-ended.new in
+    let rs = new.underway.rounds.items in
+    let k = kept_in new.at new.underway.day (n + 1) in
+    let e = c.in-Ok.ensures in
+    let made : IsMade circuit (hour_powers circuit.elements hour) m rs (Ok tt) k = record {
+      acts = e.acts;
+      at_is = e.at;
+      opened_is = e.opened;
+      ends = e.ends;
+      computed = computed {T = Unit {0}} (limits_of circuit.options) (plant_at circuit hour) c.new-solver.result m rs (Ok tt) new.solver e.acts e.ends e.calls;
+      sound = e.sound;
+      positions = of_hour circuit hour (positions_in new.at) new.underway.powers u.powers e.powers c.requires.underway.powers e.positions;
+      tried = tt;
+    } in
+    ended_well circuit hour (kept_in c.args.at.now u.day n) rs k c.requires.ready c.elements-elements.ensures.in_range c.elements-elements.ensures.keys
+    c.enclosure_law.ensures c.tie_law.ensures c.ball_law.ensures c.options-options.ensures.in_range.maxcontroliter refl number
+    (hour_within circuit u.day c.requires.underway.day) tt made
+
+pub failure_of-requires-clause-within : goal.failure_of-requires-clause-within
+failure_of-requires-clause-within c =
+    let circuit = c.args.circuit.now in
+    let u = c.args.underway.now in
+    within (limits_of circuit.options) circuit (hour_powers circuit.elements (hour_in u.day)) c.new-solver.result (begun_hour circuit c.args.at.now u.day)
+    c.daily_run-ended.new.underway.rounds.items c.in-Err.fault c.daily_run-ended.new.solver c.layout.result.now (c.layout.ensures ∙ c.in-Err.ensures.built.layout) c.in-Err.ensures.calls
+
+pub returns-in_ok-failure-in-Err-clause-made : goal.returns-in_ok-failure-in-Err-clause-made
+returns-in_ok-failure-in-Err-clause-made c n number =
+    let circuit = c.args.circuit.now in
+    let u = c.args.underway.now in
+    let hour = hour_in u.day in
+    let m = begun_hour circuit c.args.at.now u.day in
+    let new = c.daily_run-ended.new in
+    let rs = new.underway.rounds.items in
+    let k = kept_in new.at new.underway.day (n + 1) in
+    let e = c.in-Err.ensures in
+    let made : IsMade circuit (hour_powers circuit.elements hour) m rs (Err c.in-Err.fault) k = record {
+      acts = e.acts;
+      at_is = e.at;
+      opened_is = e.opened;
+      ends = e.ends;
+      computed = computed {T = Unit {0}} (limits_of circuit.options) (plant_at circuit hour) c.new-solver.result m rs (Err c.in-Err.fault) new.solver e.acts e.ends e.calls;
+      sound = e.sound;
+      positions = of_hour circuit hour (positions_in new.at) new.underway.powers u.powers e.powers c.requires.underway.powers e.positions;
+      tried = tried_by_calls (limits_of circuit.options) (plant_at circuit hour) c.new-solver.result m rs (Err c.in-Err.fault) new.solver e.calls;
+    } in
+    ended_by_fault circuit hour (kept_in c.args.at.now u.day n) rs k c.requires.ready c.elements-elements.ensures.in_range c.elements-elements.ensures.keys
+    c.enclosure_law.ensures c.tie_law.ensures c.ball_law.ensures c.options-options.ensures.in_range.maxcontroliter refl number
+    (hour_within circuit u.day c.requires.underway.day) c.in-Err.fault c.in_ok-failure-in-Err.failure
+    made c.in_ok-failure-in-Err.ensures.of_command c.in_ok-failure-in-Err.ensures.tried (c.in_ok-failure-in-Err.ensures.tells hour)

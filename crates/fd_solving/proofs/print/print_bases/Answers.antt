@@ -1,0 +1,31 @@
+use Rattle.std.proofs.Common.{◌∙◌, List, subst}
+use Rattle.std.specs.Prelude.{IfNone, IfSome}
+use Rattle.fd_bases.specs.Bases.{bases_of}
+use Rattle.fd_outside.specs.Emitted.{pieces_of}
+use Rattle.fd_outcome.specs.Calls.{Call}
+use Rattle.fd_outcome.specs.Parts.{IsCutIn, Wrote}
+use Rattle.fd_outcome.specs.Way.{whole}
+use Rattle.fd_outcome.proofs.CallerLemmas.{cut_before}
+use Rattle.fd_pages.specs.Bases.{base_events}
+use Rattle.fd_solving.proofs.Handed.{bases_silent, silent_begun, silent_calls}
+use Rattle.fd_solving.proofs.print.print_bases.Goals as goal
+
+pub returns-in_default-clause-ends : goal.returns-in_default-clause-ends
+returns-in_default-clause-ends g c = cut_before g.S.Sink.taken g.S.Sink.calls c.args.out.now _
+
+pub returns-clause-goes : goal.returns-clause-goes
+returns-clause-goes g c =
+    let circuit = c.args.circuit.now in
+    let same = silent_calls g.P.Page.style c.args.begun.now (base_events circuit) (pieces_of c.in-Ok.texts.items) (bases_silent g.P.Page.style (bases_of circuit) c.law.ensures.silent_rows) c.in-Ok.ensures in
+    subst (λ (l : List Call). IfNone c.print_texts.result (Wrote g.S.Sink.taken g.S.Sink.calls c.args.out.now c.print_texts.new.out (whole l))) same c.print_texts.ensures.goes
+
+pub returns-clause-begun : goal.returns-clause-begun
+returns-clause-begun g c none =
+    let circuit = c.args.circuit.now in
+    c.print_texts.ensures.begun none ∙ silent_begun g.P.Page.style c.args.begun.now (base_events circuit) (pieces_of c.in-Ok.texts.items) (bases_silent g.P.Page.style (bases_of circuit) c.law.ensures.silent_rows) c.in-Ok.ensures
+
+pub returns-clause-ends : goal.returns-clause-ends
+returns-clause-ends g c =
+    let circuit = c.args.circuit.now in
+    let same = silent_calls g.P.Page.style c.args.begun.now (base_events circuit) (pieces_of c.in-Ok.texts.items) (bases_silent g.P.Page.style (bases_of circuit) c.law.ensures.silent_rows) c.in-Ok.ensures in
+    subst (λ (l : List Call). IfSome c.print_texts.result (λ code. IsCutIn g.S.Sink.taken g.S.Sink.calls c.args.out.now c.print_texts.new.out l code)) same c.print_texts.ensures.ends

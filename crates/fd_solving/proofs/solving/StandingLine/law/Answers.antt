@@ -1,0 +1,11 @@
+use Rattle.std.proofs.Common.{[]}
+use Rattle.fd_outcome.specs.Events.{finishes}
+use Rattle.fd_outcome.proofs.CallerLemmas.{exactly_this}
+use Rattle.fd_solving.proofs.Tests.{one_step}
+use Rattle.fd_solving.proofs.solving.StandingLine.law.Goals as goal
+
+pub returns-clause-one_step : goal.returns-clause-one_step
+returns-clause-one_step g c command state = one_step command state
+
+pub returns-clause-one_last : goal.returns-clause-one_last
+returns-clause-one_last g c state found = exactly_this (finishes [])

@@ -1,0 +1,11 @@
+pub mod Steps
+pub mod Solving
+pub mod Commands
+pub mod Headline
+pub mod Answered
+pub mod Weights
+pub mod Endings
+pub mod Printing
+pub mod Tallies
+pub mod Scripts
+pub mod Days

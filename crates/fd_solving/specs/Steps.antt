@@ -1,0 +1,30 @@
+-- What a command comes to for `solve`: a change of the circuit, the settles of a Solve's hours, or the end of the run.
+use Rattle.std.specs.Prelude.{ℕ, List, [], ◌++◌, ◌+◌}
+use Rattle.dss_profile.specs.declared.command.Place.{Place}
+use Rattle.dss_circuit.specs.Circuit.{CircuitView}
+use Rattle.fd_queue.specs.Controls.{Positions}
+use Rattle.fd_report.specs.declared.faults.Cause.{Cause}
+use Rattle.fd_report.specs.declared.faults.Fault.TheVariants as fault
+use Rattle.fd_outcome.specs.Events.{Event}
+use Rattle.fd_outcome.specs.Work.{Step, goes, ends}
+
+-- between two commands: the circuit, the positions of taps and banks that its last Solve left, none before the first,
+-- and how many settles there were so far
+pub record StandingView : Type 0 where
+  pub circuit : CircuitView
+  pub at : Positions
+  pub settled : ℕ
+
+abbrev pub standing : CircuitView → Positions → ℕ → StandingView
+standing circuit at settled = record { circuit = circuit; at = at; settled = settled }
+
+abbrev pub changes : StandingView → Step StandingView
+changes s = goes [] s
+
+abbrev pub refuses : Place → Cause → Step StandingView
+refuses place c = ends [] (fault.Script place c)
+
+-- these events, and then those of a step
+abbrev pub behind_events : List Event → Step StandingView → Step StandingView
+behind_events front (goes events s) = goes (front ++ events) s
+behind_events front (ends events f) = ends (front ++ events) f

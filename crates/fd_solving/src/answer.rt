@@ -1,0 +1,29 @@
+// What a command comes to.
+ghost use Rattle.std.specs.Prelude.{◌≡◌, IfOk};
+ghost use Rattle.fd_report.specs.declared.faults.Fault.TheVariants.{Script};
+
+use dss_circuit::Place;
+use fd_report::{Cause, Fault};
+use std::alloc::AllocError;
+
+/// What a command comes to before the hours of a Solve: a change of the circuit, the end of the run, the voltage bases, or
+/// a Solve that passed the tests.
+#[derive(Drop)]
+pub enum Answer {
+    /// Nothing is left to do.
+    Done,
+    /// The script is refused.
+    Refuses(Fault),
+    /// The voltage bases of buses are asked for.
+    Bases,
+    /// The hours of a Solve are left to do.
+    Solves,
+}
+
+/// The fault of a script that is refused at this place.
+pub(crate) fn refused(place: &Place, cause: Cause) -> Result<Fault, AllocError>
+    ensures { IfOk result (λ fault. fault ≡ Script place.now cause) }
+{
+    let place = place.clone()?;
+    Ok(Fault::Script { place, cause })
+}

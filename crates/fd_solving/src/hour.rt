@@ -1,0 +1,51 @@
+// One hour of a Solve.
+ghost use Rattle.std.specs.Prelude.{◌≡◌, ℕ, ◌+◌, ◌^◌, ◌<◌, IfOk, is_none};
+ghost use Rattle.dss_ready.specs.Ready.{HasPassed};
+ghost use Rattle.fd_daily.specs.Day.{IsDayOf, hour_in, hours_done, hours_left};
+ghost use Rattle.fd_daily.specs.Underway.{IsUnderway};
+ghost use Rattle.fd_network.specs.Built.{IsBuiltOf};
+ghost use Rattle.fd_sample.specs.Probes.{positions_in};
+ghost use Rattle.fd_settle.specs.Start.{ArePositions};
+ghost use Rattle.fd_solving.specs.Answered.{IsMadeHour, kept_in};
+
+use crate::faults::{Failure, failure_of};
+use dss_circuit::Circuit;
+use fd_daily::{Underway, daily_run};
+use fd_devices::Positions;
+use fd_enclosure::{ball_law, enclosure_law, tie_law};
+use fd_settle::Compute;
+use std::alloc::{AllocError, Global};
+
+/// Solves the next hour of a Solve that is under way, and gives the failure in which it ends, where it doesn't end well. The
+/// rounds are those of this hour alone.
+pub(crate) fn solve_hour(
+    alloc: Global,
+    circuit: &Circuit,
+    underway: &mut Underway,
+    at: &mut Positions,
+) -> Result<Option<Failure>, AllocError>
+    requires ready { HasPassed circuit.now }
+    requires underway { IsUnderway circuit.now at.old underway.old }
+    ensures made { (n : ℕ) → n + 1 < 2 ^ 32 → IfOk result (λ f. IsMadeHour circuit.now (hour_in underway.old.day)
+        (kept_in at.old underway.old.day n) underway.new.rounds.items f (kept_in at.new underway.new.day (n + 1))) }
+    ensures left { IfOk result (λ f. hours_left underway.old.day ≡ hours_done (is_none f) (hour_in underway.old.day) (hours_left underway.new.day)) }
+    ensures positions { ArePositions circuit.now underway.new.powers.loads (positions_in at.new) }
+    ensures day { IsDayOf circuit.now underway.new.day }
+    ensures built { IsBuiltOf underway.new.net circuit.now }
+{
+    // read for what the elements are, and how many acts are allowed
+    let _elements = circuit.elements();
+    let _options = circuit.options();
+    enclosure_law();
+    tie_law();
+    ball_law();
+    let mut solver = Compute::new();
+    let ended = daily_run(alloc, circuit, underway, at, &mut solver);
+    match ended {
+        Ok(()) => Ok(None),
+        Err(fault) => {
+            let failure = failure_of(alloc, circuit, underway.net.layout(), fault)?;
+            Ok(Some(failure))
+        }
+    }
+}

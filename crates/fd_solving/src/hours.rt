@@ -1,0 +1,185 @@
+// The hours of a Solve, each printed before the next is solved.
+ghost use Rattle.std.specs.Prelude.{◌≡◌, ◌+◌, ◌^◌, ◌<◌, ◌≤◌, All, IfSome, None};
+ghost use Rattle.fd_outside.specs.Causes.{Rose};
+ghost use Rattle.dss_ready.specs.Ready.{HasPassed};
+ghost use Rattle.fd_daily.specs.Day.{hour_in, hours_left};
+ghost use Rattle.fd_daily.specs.Underway.{IsLeftBehind, IsUnderway};
+ghost use Rattle.fd_sample.specs.Probes.{positions_in};
+ghost use Rattle.fd_settle.specs.Start.{ArePositions};
+ghost use Rattle.fd_xfmr.specs.Leakage.{AreTaps};
+ghost use Rattle.fd_report.specs.declared.faults.Cause.TheVariants.{Model};
+ghost use Rattle.fd_report.specs.declared.faults.Fault.TheVariants.{Script};
+ghost use Rattle.fd_outcome.specs.Parts.{EndsAt, Printed, fault_doing};
+ghost use Rattle.fd_solving.specs.Answered.{kept_in};
+ghost use Rattle.fd_solving.specs.Tallies.{GoesOnTallied, HasRoom};
+ghost use Rattle.fd_solving.specs.Headline.{IsSolved};
+ghost use Rattle.fd_solving.specs.Printing.{EndsInHour, IsPrintedHour};
+ghost use Rattle.fd_solving.specs.Solving.{IsHoursStep, IsSolutionStep};
+ghost use Rattle.fd_solving.specs.Steps.{standing};
+
+use crate::answer::refused;
+use crate::hour::solve_hour;
+use crate::print::{WANT_OF_MEMORY, print_failed, print_fault, print_settled};
+use crate::tally::Tally;
+use dss_circuit::{Blame, Circuit};
+use fd_daily::Underway;
+use fd_devices::{BuildFault, Positions};
+use fd_outside::Sink;
+use fd_pages::{Page, SolvedHour};
+use fd_report::Cause;
+use std::alloc::Global;
+
+/// Solves the hours of a Solve of a circuit that passed the tests, where its last Solve left these positions, and prints
+/// the records of each before the next is solved. The rounds of each are added to the tally. An answer ends the run.
+pub(crate) fn solve_hours<P: Page, S: Sink>(
+    alloc: Global,
+    circuit: &Circuit,
+    at: &mut Positions,
+    settled: &mut u32,
+    tally: &mut Tally,
+    begun: &mut bool,
+    out: &mut S,
+) -> Option<u8>
+    requires ready { HasPassed circuit.now }
+    requires taps { All AreTaps at.old.taps }
+    requires settles { settled.old + 8761 < 2 ^ 32 }
+    requires room { HasRoom tally.old settled.old }
+    ensures goes { result ≡ None →
+        GoesOnTallied P.style (IsSolutionStep (standing circuit.now (positions_in at.old) settled.old)) (standing circuit.now (positions_in at.new) settled.new) S.taken S.calls out.old out.new begun.old begun.new tally.old tally.new }
+    ensures ends { IfSome result (EndsAt P.style IsSolved (IsSolutionStep (standing circuit.now (positions_in at.old) settled.old)) S.taken S.calls out.old out.new begun.old) }
+    ensures taps { All AreTaps at.new.taps }
+    ensures settles { settled.new ≤ settled.old + 8761 }
+    ensures room { HasRoom tally.new settled.new }
+    ensures later { S.faults out.old ≤ S.faults out.new }
+    ensures write { IfSome result (λ code. code ≡ 5 → Rose (S.faults out.old) (S.faults out.new)) }
+    ensures usage { IfSome result (λ code. code ≡ 2 → ⊥) }
+    ensures read { IfSome result (λ code. code ≡ 4 → ⊥) }
+{
+    // read for how many hours there can be
+    let _options = circuit.options();
+    P::law();
+    match Underway::start(alloc, circuit, at) {
+        Ok(underway) => {
+            let mut underway = underway;
+            run_hours::<P, S>(
+                alloc,
+                circuit,
+                &mut underway,
+                at,
+                settled,
+                tally,
+                begun,
+                out,
+            )
+        }
+        Err(BuildFault::Range(blame)) => Some(print_range(alloc, &blame, out)),
+        Err(BuildFault::NoMemory) => Some(WANT_OF_MEMORY),
+    }
+}
+
+// Prints the fault of a network that is out of range.
+fn print_range<S: Sink>(alloc: Global, blame: &Blame, out: &mut S) -> u8
+    ensures prints { Printed S.taken S.calls out.old out.new (fault_doing (Script blame.now.place (Model blame.now.cause))) result }
+    ensures later { S.faults out.old ≤ S.faults out.new }
+    ensures write { result ≡ 5 → Rose (S.faults out.old) (S.faults out.new) }
+{
+    match refused(&blame.place, Cause::Model(blame.cause)) {
+        Ok(fault) => print_fault(alloc, &fault, out),
+        Err(_) => WANT_OF_MEMORY,
+    }
+}
+
+// Solves and prints the next hour. An answer ends the run.
+fn do_hour<P: Page, S: Sink>(
+    alloc: Global,
+    circuit: &Circuit,
+    underway: &mut Underway,
+    at: &mut Positions,
+    settled: &mut u32,
+    tally: &mut Tally,
+    begun: &mut bool,
+    out: &mut S,
+) -> Option<u8>
+    requires ready { HasPassed circuit.now }
+    requires underway { IsUnderway circuit.now at.old underway.old }
+    requires settles { settled.old + 1 < 2 ^ 32 }
+    requires room { HasRoom tally.old settled.old }
+    ensures goes { result ≡ None →
+        IsPrintedHour P.style S.taken S.calls out.old out.new begun.old circuit.now (hour_in underway.old.day) (kept_in at.old underway.old.day settled.old) (kept_in at.new underway.new.day settled.new) begun.new tally.old tally.new }
+    ensures ends { IfSome result (EndsInHour P.style S.taken S.calls out.old out.new begun.old circuit.now (hour_in underway.old.day) (kept_in at.old underway.old.day settled.old)) }
+    ensures left { result ≡ None → IsLeftBehind circuit.now at.new underway.old underway.new }
+    ensures positions { ArePositions circuit.now underway.new.powers.loads (positions_in at.new) }
+    ensures settles { settled.new ≤ settled.old + 1 }
+    ensures room { HasRoom tally.new settled.new }
+    ensures later { S.faults out.old ≤ S.faults out.new }
+    ensures write { IfSome result (λ code. code ≡ 5 → Rose (S.faults out.old) (S.faults out.new)) }
+    ensures usage { IfSome result (λ code. code ≡ 2 → ⊥) }
+    ensures read { IfSome result (λ code. code ≡ 4 → ⊥) }
+{
+    let hour = underway.hour();
+    let number = *settled + 1;
+    let Ok(failure) = solve_hour(alloc, circuit, underway, at) else {
+        return Some(WANT_OF_MEMORY);
+    };
+    let made = SolvedHour {
+        circuit,
+        net: &underway.net,
+        number,
+        hour,
+        rounds: &underway.rounds,
+    };
+    match failure {
+        Some(failure) => Some(print_failed::<P, S>(alloc, &made, failure, at, *begun, out)),
+        None => {
+            let printed = print_settled::<P, S>(alloc, &made, at, begun, out);
+            if printed.is_none() {
+                *settled = number;
+                tally.add(made.net.layout(), made.rounds);
+            }
+            printed
+        }
+    }
+}
+
+// Solves and prints the hours that are left.
+fn run_hours<P: Page, S: Sink>(
+    alloc: Global,
+    circuit: &Circuit,
+    underway: &mut Underway,
+    at: &mut Positions,
+    settled: &mut u32,
+    tally: &mut Tally,
+    begun: &mut bool,
+    out: &mut S,
+) -> Option<u8>
+    requires ready { HasPassed circuit.now }
+    requires underway { IsUnderway circuit.now at.old underway.old }
+    requires settles { settled.old + 8761 < 2 ^ 32 }
+    requires room { HasRoom tally.old settled.old }
+    ensures goes { result ≡ None →
+        GoesOnTallied P.style (IsHoursStep circuit.now (hours_left underway.old.day) (kept_in at.old underway.old.day settled.old)) (standing circuit.now (positions_in at.new) settled.new) S.taken S.calls out.old out.new begun.old begun.new tally.old tally.new }
+    ensures ends { IfSome result (EndsAt P.style IsSolved (IsHoursStep circuit.now (hours_left underway.old.day) (kept_in at.old underway.old.day settled.old)) S.taken S.calls out.old out.new begun.old) }
+    ensures taps { All AreTaps at.new.taps }
+    ensures settles { settled.new ≤ settled.old + 8761 }
+    ensures room { HasRoom tally.new settled.new }
+    ensures later { S.faults out.old ≤ S.faults out.new }
+    ensures write { IfSome result (λ code. code ≡ 5 → Rose (S.faults out.old) (S.faults out.new)) }
+    ensures usage { IfSome result (λ code. code ≡ 2 → ⊥) }
+    ensures read { IfSome result (λ code. code ≡ 4 → ⊥) }
+{
+    P::law();
+    loop {
+        let ended = do_hour::<P, S>(alloc, circuit, underway, at, settled, tally, begun, out);
+        if ended.is_some() {
+            return ended;
+        }
+        if underway.day.next_hour().is_none() {
+            return None;
+        }
+        match underway.next_network(alloc, circuit, at) {
+            Ok(()) => {}
+            Err(BuildFault::Range(blame)) => return Some(print_range(alloc, &blame, out)),
+            Err(BuildFault::NoMemory) => return Some(WANT_OF_MEMORY),
+        }
+    }
+}

@@ -1,0 +1,251 @@
+// Records handed to the sink.
+ghost use Rattle.std.specs.Prelude.{◌≡◌, ◌++◌, ◌∷◌, [], ◌||◌, ◌+◌, ◌≤◌, IfNone, IfOk, IfSome, None, Some, map};
+ghost use Rattle.fd_outside.specs.Causes.{Rose};
+ghost use Rattle.fd_outside.specs.Emitted.{pieces_of};
+ghost use Rattle.dss_layout.specs.Layout.{layout_of, size_of};
+ghost use Rattle.fd_network.specs.Built.{IsBuiltOf};
+ghost use Rattle.fd_sample.specs.Probes.{positions_in};
+ghost use Rattle.fd_outcome.specs.Behind.{behind, has_text, last_calls, opened_unless};
+ghost use Rattle.fd_outcome.specs.Calls.{body, fault_text, opened, writes};
+ghost use Rattle.fd_outcome.specs.Parts.{IsCutIn, Printed, Wrote, fault_doing};
+ghost use Rattle.fd_outcome.specs.Way.{whole};
+ghost use Rattle.fd_outcome.specs.Settles.{settled};
+ghost use Rattle.fd_pages.specs.Hours.{IsPrintable, IsTriedOf, settle_made, end_with, Kept};
+ghost use Rattle.fd_pages.specs.Bases.{base_events};
+ghost use Rattle.fd_solving.specs.Endings.{end_by};
+ghost use Rattle.fd_solving.specs.Printing.{begun_behind, settle_calls};
+
+use crate::faults::Failure;
+use dss_circuit::Circuit;
+use fd_cert::Certified;
+use fd_devices::Positions;
+use fd_outside::{Record, Sink, SinkFault, emit};
+use fd_pages::{Page, SolvedHour};
+use fd_report::{Fault, record, status};
+use std::alloc::{AllocError, Global};
+
+/// The exit status where memory runs out.
+pub const WANT_OF_MEMORY: u8 = 1;
+
+// The exit status where a write fails.
+const WRITE_FAULT: u8 = 5;
+
+/// Prints the record of a fault that ends the run, and answers the exit status.
+pub fn print_fault<S: Sink>(alloc: Global, fault: &Fault, out: &mut S) -> u8
+    ensures prints { Printed S.taken S.calls out.old out.new (fault_doing fault.now) result }
+    ensures later { S.faults out.old ≤ S.faults out.new }
+    ensures write { result ≡ 5 → Rose (S.faults out.old) (S.faults out.new) }
+{
+    let Ok(text) = record(alloc, fault) else {
+        return WANT_OF_MEMORY;
+    };
+    match emit(alloc, &[text], out) {
+        Ok(()) => status(fault),
+        Err(SinkFault::Failed) => WRITE_FAULT,
+        Err(SinkFault::NoMemory) => WANT_OF_MEMORY,
+    }
+}
+
+// Whether a text was written before, or is among these.
+#[tactic(auto, using(crate::proofs::Handed::some_text))]
+fn now_begun(begun: bool, records: &[Record]) -> bool
+    ensures { result ≡ (begun || has_text (map writes (pieces_of records.now))) }
+{
+    if begun {
+        return true;
+    }
+    match records {
+        [] => false,
+        [_, ..] => true,
+    }
+}
+
+// Puts what stands before the first text in front of these, where there are any.
+fn opened<P: Page>(alloc: Global, texts: Vec<Record>) -> Result<Vec<Record>, AllocError>
+    ensures { IfOk result (λ r. map writes (pieces_of r.items) ≡ opened P.style.opening (map writes (pieces_of texts.items))) }
+{
+    if now_begun(false, texts.as_slice()) {
+        let mut texts = texts;
+        let mut all = P::opening(alloc)?;
+        all.append(&mut texts)?;
+        Ok(all)
+    } else {
+        Ok(texts)
+    }
+}
+
+// Puts what stands before the first text in front of these, unless a text was written before.
+fn with_opening<P: Page>(
+    alloc: Global,
+    begun: bool,
+    texts: Vec<Record>,
+) -> Result<Vec<Record>, AllocError>
+    ensures { IfOk result (λ r. map writes (pieces_of r.items) ≡ opened_unless begun P.style.opening (map writes (pieces_of texts.items))) }
+{
+    if begun {
+        Ok(texts)
+    } else {
+        opened::<P>(alloc, texts)
+    }
+}
+
+// Prints texts, with what opens them. An answer ends the run. `begun` tells whether a text was written before.
+fn print_texts<P: Page, S: Sink>(
+    alloc: Global,
+    texts: Vec<Record>,
+    begun: &mut bool,
+    out: &mut S,
+) -> Option<u8>
+    ensures goes { IfNone result (Wrote S.taken S.calls out.old out.new (whole (opened_unless begun.old P.style.opening (map writes (pieces_of texts.items))))) }
+    ensures begun { result ≡ None → begun.new ≡ (begun.old || has_text (map writes (pieces_of texts.items))) }
+    ensures ends { IfSome result (IsCutIn S.taken S.calls out.old out.new (opened_unless begun.old P.style.opening (map writes (pieces_of texts.items)))) }
+    ensures later { S.faults out.old ≤ S.faults out.new }
+    ensures write { IfSome result (λ code. code ≡ 5 → Rose (S.faults out.old) (S.faults out.new)) }
+{
+    let now = now_begun(*begun, texts.as_slice());
+    let Ok(texts) = with_opening::<P>(alloc, *begun, texts) else {
+        return Some(WANT_OF_MEMORY);
+    };
+    match emit(alloc, texts.as_slice(), out) {
+        Ok(()) => {
+            *begun = now;
+            None
+        }
+        Err(SinkFault::Failed) => Some(WRITE_FAULT),
+        Err(SinkFault::NoMemory) => Some(WANT_OF_MEMORY),
+    }
+}
+
+/// Prints the voltage bases of a circuit's buses. An answer ends the run. `begun` tells whether a text was written before.
+pub(crate) fn print_bases<P: Page, S: Sink>(
+    alloc: Global,
+    circuit: &Circuit,
+    begun: &mut bool,
+    out: &mut S,
+) -> Option<u8>
+    ensures goes { IfNone result (Wrote S.taken S.calls out.old out.new (whole (behind P.style begun.old (base_events circuit.now)))) }
+    ensures begun { result ≡ None → begun.new ≡ (begun.old || has_text (body P.style (base_events circuit.now))) }
+    ensures ends { IfSome result (IsCutIn S.taken S.calls out.old out.new (behind P.style begun.old (base_events circuit.now))) }
+    ensures later { S.faults out.old ≤ S.faults out.new }
+    ensures write { IfSome result (λ code. code ≡ 5 → Rose (S.faults out.old) (S.faults out.new)) }
+{
+    P::law();
+    let Ok(texts) = P::bases(alloc, circuit) else {
+        return Some(WANT_OF_MEMORY);
+    };
+    print_texts::<P, S>(alloc, texts, begun, out)
+}
+
+/// Prints an hour's settle that ended well, at these positions. An answer ends the run. `begun` tells whether a text was
+/// written before.
+pub(crate) fn print_settled<P: Page, S: Sink>(
+    alloc: Global,
+    made: &SolvedHour<'_>,
+    at: &Positions,
+    begun: &mut bool,
+    out: &mut S,
+) -> Option<u8>
+    requires network { IsBuiltOf made.now.net.now made.now.circuit.now }
+    requires printable { IsPrintable made.now.circuit.now made.now.hour made.now.rounds.now (positions_in at.now) }
+    ensures goes { (l : Kept) → made.now.number ≡ l.settled + 1 →
+        IfNone result (Wrote S.taken S.calls out.old out.new (whole (settle_calls P.style begun.old (settle_made made.now.circuit.now made.now.hour l made.now.rounds.now settled (positions_in at.now))))) }
+    ensures begun { (l : Kept) → made.now.number ≡ l.settled + 1 → result ≡ None →
+        begun.new ≡ begun_behind P.style begun.old (settle_made made.now.circuit.now made.now.hour l made.now.rounds.now settled (positions_in at.now)) }
+    ensures ends { (l : Kept) → made.now.number ≡ l.settled + 1 →
+        IfSome result (IsCutIn S.taken S.calls out.old out.new (settle_calls P.style begun.old (settle_made made.now.circuit.now made.now.hour l made.now.rounds.now settled (positions_in at.now)))) }
+    ensures later { S.faults out.old ≤ S.faults out.new }
+    ensures write { IfSome result (λ code. code ≡ 5 → Rose (S.faults out.old) (S.faults out.new)) }
+{
+    P::law();
+    let Ok(texts) = P::settled(alloc, made, at) else {
+        return Some(WANT_OF_MEMORY);
+    };
+    print_texts::<P, S>(alloc, texts, begun, out)
+}
+
+// The texts of an hour's settle that ended with a fault, with what opens them, and the fault's record.
+fn failed_texts<P: Page>(
+    alloc: Global,
+    made: &SolvedHour<'_>,
+    tried: Option<Certified>,
+    fault: &Fault,
+    at: &Positions,
+    begun: bool,
+) -> Result<Vec<Record>, AllocError>
+    requires network { IsBuiltOf made.now.net.now made.now.circuit.now }
+    requires printable { IsPrintable made.now.circuit.now made.now.hour made.now.rounds.now (positions_in at.now) }
+    requires tried { IsTriedOf (size_of (layout_of made.now.circuit.now.elements)) tried }
+    ensures { (l : Kept) → made.now.number ≡ l.settled + 1 →
+        IfOk result (λ r. map writes (pieces_of r.items) ≡ settle_calls P.style begun (settle_made made.now.circuit.now made.now.hour l made.now.rounds.now (end_with fault.now tried) (positions_in at.now)) ++ writes (fault_text fault.now) ∷ []) }
+{
+    P::law();
+    let texts = P::failed(alloc, made, tried, at)?;
+    let mut texts = with_opening::<P>(alloc, begun, texts)?;
+    texts.push(record(alloc, fault)?)?;
+    Ok(texts)
+}
+
+/// Prints an hour's settle that ended with a failure, and then its fault, and answers the exit status. `begun` tells
+/// whether a text was written before.
+pub(crate) fn print_failed<P: Page, S: Sink>(
+    alloc: Global,
+    made: &SolvedHour<'_>,
+    failure: Failure,
+    at: &Positions,
+    begun: bool,
+    out: &mut S,
+) -> u8
+    requires network { IsBuiltOf made.now.net.now made.now.circuit.now }
+    requires printable { IsPrintable made.now.circuit.now made.now.hour made.now.rounds.now (positions_in at.now) }
+    requires tried { IsTriedOf (size_of (layout_of made.now.circuit.now.elements)) failure.tried }
+    ensures prints { (l : Kept) → made.now.number ≡ l.settled + 1 → Printed S.taken S.calls out.old out.new (record {
+      calls = settle_calls P.style begun (settle_made made.now.circuit.now made.now.hour l made.now.rounds.now (end_by (Some failure)) (positions_in at.now)) ++ writes (fault_text failure.fault) ∷ [];
+      end = Some failure.fault;
+    }) result }
+    ensures later { S.faults out.old ≤ S.faults out.new }
+    ensures write { result ≡ 5 → Rose (S.faults out.old) (S.faults out.new) }
+{
+    let Failure { fault, tried } = failure;
+    let Ok(texts) = failed_texts::<P>(alloc, made, tried, &fault, at, begun) else {
+        return WANT_OF_MEMORY;
+    };
+    match emit(alloc, texts.as_slice(), out) {
+        Ok(()) => status(&fault),
+        Err(SinkFault::Failed) => WRITE_FAULT,
+        Err(SinkFault::NoMemory) => WANT_OF_MEMORY,
+    }
+}
+
+// The texts that stand last, with what opens them.
+fn last_texts<P: Page>(alloc: Global, begun: bool) -> Result<Vec<Record>, AllocError>
+    ensures { IfOk result (λ r. map writes (pieces_of r.items) ≡ opened_unless begun P.style.opening (map writes P.style.closing)) }
+{
+    let texts = P::closing(alloc)?;
+    with_opening::<P>(alloc, begun, texts)
+}
+
+/// Prints the last texts where there is no fault, and answers the exit status.
+pub fn print_end<S: Sink>(alloc: Global, texts: &[Record], out: &mut S) -> u8
+    ensures prints { Printed S.taken S.calls out.old out.new (record { calls = map writes (pieces_of texts.now); end = None }) result }
+    ensures later { S.faults out.old ≤ S.faults out.new }
+    ensures write { result ≡ 5 → Rose (S.faults out.old) (S.faults out.new) }
+{
+    match emit(alloc, texts, out) {
+        Ok(()) => 0,
+        Err(SinkFault::Failed) => WRITE_FAULT,
+        Err(SinkFault::NoMemory) => WANT_OF_MEMORY,
+    }
+}
+
+/// Prints what stands last where there is no fault, and answers the exit status. `begun` tells whether a text was
+/// written before.
+pub(crate) fn print_last<P: Page, S: Sink>(alloc: Global, begun: bool, out: &mut S) -> u8
+    ensures prints { Printed S.taken S.calls out.old out.new (record { calls = last_calls P.style begun [] None; end = None }) result }
+    ensures later { S.faults out.old ≤ S.faults out.new }
+    ensures write { result ≡ 5 → Rose (S.faults out.old) (S.faults out.new) }
+{
+    let Ok(texts) = last_texts::<P>(alloc, begun) else {
+        return WANT_OF_MEMORY;
+    };
+    print_end(alloc, texts.as_slice(), out)
+}

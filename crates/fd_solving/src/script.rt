@@ -1,0 +1,56 @@
+// The loop over a script's commands: each is done, and what it gives is handed over, before the next is read.
+ghost use Rattle.std.specs.Prelude.{◌≡◌, ◌+◌, ◌≤◌, Some};
+ghost use Rattle.fd_outside.specs.Files.{Files, held};
+ghost use Rattle.dss_values.specs.Names.{bytes};
+ghost use Rattle.dss_script.specs.Said.{end_in, said_in};
+ghost use Rattle.dss_script.specs.Sessions.{remaining, room};
+ghost use Rattle.fd_outcome.specs.History.{IsFrom};
+ghost use Rattle.fd_outcome.specs.Runs.{Runs};
+ghost use Rattle.fd_outcome.specs.Untold.{IsUntold};
+
+use crate::line::Line;
+use crate::print::{WANT_OF_MEMORY, print_fault};
+use dss_script::{Session, SessionFault, said_law};
+use fd_outside::{Library, Sink};
+use fd_report::{Cause, Fault};
+use std::alloc::Global;
+
+/// Does the commands of a script and what a command line does behind them, prints what each gives in the command line's
+/// style, and answers the exit status.
+pub fn run_script<T: Line, L: Library, S: Sink>(
+    alloc: Global,
+    session: &mut Session,
+    line: &mut T,
+    lib: &mut L,
+    out: &mut S,
+) -> u8
+    requires { T.weight line.old + room session.old ≤ 1_048_578 }
+    ensures run { (files : Files) → L.holds lib.old ≡ Some files →
+        Runs L.faults L.asked S.taken S.calls lib.old lib.new out.old out.new
+        (λ h. IsFrom T.is_step T.last_name T.is_last (λ name. held files (bytes name)) (record { left = said_in (remaining files session.old); end = end_in (remaining files session.old); state = line.old }) h)
+        T.style T.good result }
+    ensures untold { IsUntold L.faults L.asked S.faults S.taken S.calls lib.old lib.new out.old out.new result }
+{
+    T::law();
+    said_law();
+    let mut begun = false;
+    loop {
+        match session.next(alloc, lib) {
+            Ok(Some(command)) => {
+                if let Some(status) = line.take(alloc, command, &mut begun, out) {
+                    return status;
+                }
+            }
+            Ok(None) => return line.finish(alloc, lib, begun, out),
+            Err(SessionFault::Script { place, cause }) => {
+                let cause = Cause::Script(cause);
+                return print_fault(alloc, &Fault::Script { place, cause }, out);
+            }
+            Err(SessionFault::Read { name }) => {
+                return print_fault(alloc, &Fault::Read { name }, out);
+            }
+            Err(SessionFault::Ended) => return WANT_OF_MEMORY,
+            Err(SessionFault::NoMemory) => return WANT_OF_MEMORY,
+        }
+    }
+}
