@@ -2,6 +2,7 @@ pub mod Raising
 pub mod RowTotals
 pub mod Units
 pub mod FlatSums
+pub mod PartSums
 pub mod RowBounds
 pub mod Verdict
 pub mod Certificates

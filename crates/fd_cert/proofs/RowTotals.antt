@@ -1,10 +1,9 @@
 -- Totals up to 2^120, and the weighted sum of a row by them.
 use Rattle.std.proofs.Common.{◌≡◌, ◌∙◌, ℕ, zero, suc, ◌+◌, ◌*◌, ◌<◌, ◌≤◌, ◌^◌, ℤ, pos, ◌+ℤ◌, ◌-ℤ◌, ◌*ℤ◌, nat_abs, List, [], ◌∷◌, take, length, get_or, set, cond, Option, Some, None, arith, ap, refl, sym, subst, inl, inr}
-use Rattle.std.proofs.Math.Nat.{mul-le-mul, mul-le-mul_right}
+use Rattle.std.proofs.Math.Nat.{mul-le-mul}
 use Rattle.std.proofs.lemmas.Bool.{cases_eq, cases_lt, eq-eqb, ne_eqb}
 use Rattle.std.proofs.lemmas.Int.{ints}
 use Rattle.std.proofs.lemmas.List.{get_or-set_other, get_or-set_same}
-use Rattle.fd_exact.specs.Greatest.{greatest, le_greatest}
 use Rattle.fd_exact.specs.States.{part}
 use Rattle.fd_exact.specs.SumLaws.{sum_n-add, sum_n-same, sum_n-swap, sum_n-times}
 use Rattle.fd_exact.specs.Sums.{list_n, list_z, sum_n, sum_z}
@@ -18,7 +17,7 @@ use Rattle.fd_arith.specs.Wide.{wide_difference, wide_product, wide_size, wide_s
 use Rattle.fd_enclosure.specs.Bounds.{added_at, left_at, left_over, unit_at, wide_sums}
 use Rattle.fd_enclosure.specs.Sound.{number_at}
 use Rattle.fd_cert.specs.Columns.{HasWeights, column_sum}
-use Rattle.fd_cert.specs.Totals.{AreLight, AreWeighted, IsUpTo, left_total, sizes_total, weighted_radius, weighted_total}
+use Rattle.fd_cert.specs.Totals.{AreWeighted, IsUpTo, left_total, weighted_radius, weighted_total}
 use Rattle.fd_cert.proofs.Units.{within_small}
 
 -- ---- fronts of a sum
@@ -211,24 +210,3 @@ left_is_weighted n i ws sums l =
           ap (λ b. nat_abs (cond b (pos (2 ^ 80)) (pos 0) -ℤ part sums j)) (ne_eqb i j ne) ∙ none (part sums j)
           ∙ ap nat_abs (sym (get_or-set_other sums i j (part sums i -ℤ pos (2 ^ 80)) (pos 0) (λ q. ne (sym q))))
     ]
-
--- ---- light numbers
-
-sum_up_to : (f : ℕ → ℕ) (b n : ℕ) → ((l : ℕ) → l < n → f l ≤ b) → sum_n f n ≤ n * b
-sum_up_to f b zero h = omega arith
-sum_up_to f b (suc n) h = let s = sum_up_to f b n (λ l m. h l (omega arith)) in let t = h n (omega arith) in omega arith
-
-pub light_short : (numbers : List ℕ) → AreLight numbers → (l : ℕ) → l < length numbers → number_at numbers l < 2 ^ 64
-light_short numbers h l m = let each = le_greatest (number_at numbers) (length numbers) l m in let most = h.short in omega arith
-
-pub light_total : (factors : List ℤ) (numbers : List ℕ)
-    → ((l : ℕ) → l < length numbers → nat_abs (part factors l) ≤ 2 ^ 56) → AreLight numbers → (k : ℕ)
-    → k ≤ length numbers → sizes_total k factors numbers ≤ 2 ^ 127
-light_total factors numbers small light k inside =
-    let most = greatest (number_at numbers) (length numbers) in
-    let each : (l : ℕ) → l < k → nat_abs (part factors l) * number_at numbers l ≤ 2 ^ 56 * most
-    = λ l m. mul-le-mul (small l (omega arith)) (le_greatest (number_at numbers) (length numbers) l (omega arith)) in
-    let sum = sum_up_to (λ l. nat_abs (part factors l) * number_at numbers l) (2 ^ 56 * most) k each in
-    let front : k * most ≤ length numbers * most = mul-le-mul_right most inside in
-    let few = light.few in
-    omega arith

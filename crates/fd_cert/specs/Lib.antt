@@ -3,6 +3,7 @@ pub mod Claims
 pub mod Columns
 pub mod Entries
 pub mod Totals
+pub mod Parts
 pub mod Slopes
 pub mod Reaches
 pub mod Verdicts

@@ -1,6 +1,5 @@
 -- Totals of natural numbers up to 2^120.
 use Rattle.std.specs.Prelude.{◌≡◌, ℕ, ◌*◌, ◌^◌, ◌<◌, ◌≤◌, ℤ, ◌-ℤ◌, nat_abs, List, length, Option, Some, None}
-use Rattle.fd_exact.specs.Greatest.{greatest}
 use Rattle.fd_exact.specs.States.{part}
 use Rattle.fd_exact.specs.Sums.{sum_n}
 use Rattle.fd_enclosure.specs.Bounds.{unit_at}
@@ -35,11 +34,6 @@ short_total n shorts zs = sum_n (λ j. number_at shorts j * nat_abs (part zs j))
 -- the sizes of the entries of a row of the inverse, each times a number
 abbrev pub sizes_total : ℕ → List ℤ → List ℕ → ℕ
 sizes_total n row numbers = sum_n (λ l. nat_abs (part row l) * number_at numbers l) n
-
--- numbers of 64 bits whose products with as many numbers up to 2^56 add up to at most 2^127
-pub record AreLight (numbers : List ℕ) : Type 0 where
-  pub short : greatest (number_at numbers) (length numbers) < 2 ^ 64
-  pub few : greatest (number_at numbers) (length numbers) * length numbers ≤ 2 ^ 71
 
 -- for each of n rows its radii by weight
 pub record AreWeighted (n : ℕ) (R : ℕ → ℕ → ℕ) (w : ℕ → ℕ) (rows : List ℕ) : Type 0 where

@@ -7,7 +7,6 @@
 //
 // Where the Jacobian's entries are short, two rows of the inverse meet them at once, and an entry is read once for both.
 ghost use Rattle.std.specs.Prelude.{◌≡◌, ℕ, ◌+◌, ◌*◌, ◌<◌, ◌≤◌, ◌^◌, ℤ, pos, ◌≤ℤ◌, ◌-ℤ◌, nat_abs, set, true, IfOk, IfSome, length, Some, []};
-ghost use Rattle.fd_exact.specs.Greatest.{greatest};
 ghost use Rattle.fd_exact.specs.States.{entry, part};
 ghost use Rattle.fd_exact.specs.Sums.{list_n};
 ghost use Rattle.fd_arith.specs.Limits.{within};
@@ -19,13 +18,14 @@ ghost use Rattle.fd_mat.specs.Rows.{EntriesWithin};
 ghost use Rattle.fd_cert.specs.Slopes.{AreSlopes, HasRadii, HasSlopes};
 ghost use Rattle.fd_cert.specs.Entries.{IsFlatOf};
 ghost use Rattle.fd_cert.specs.Columns.{AreColumns, AreUnits, HasEntries, HasWeights, IsMade, IsRowOfInverse, column_sum};
-ghost use Rattle.fd_cert.specs.Totals.{AreLight, AreShortWeights, AreWeighted, IsTotal, IsUpTo, short_total, sizes_total, weighted_total};
+ghost use Rattle.fd_cert.specs.Parts.{AreHigh, AreLow, AreParts, high_sum};
+ghost use Rattle.fd_cert.specs.Totals.{AreShortWeights, AreWeighted, IsTotal, IsUpTo, short_total, sizes_total, weighted_total};
 
 use crate::flat::{Entry, add_entries_of_two};
+use crate::parted::{High, Parted, high_total};
 use crate::sums::{Walk, clear};
 use crate::totals::{
-    HALF, PAST, plus_entry, plus_light, plus_product, plus_short, short_size, short_weight,
-    up_to_limit,
+    PAST, plus_entry, plus_low, plus_product, plus_short, short_size, short_weight, up_to_limit,
 };
 use fd_arith::Wide;
 use fd_equations::{Cell, Matrix};
@@ -37,8 +37,8 @@ const ONE: i128 = 0x1_0000_0000_0000_0000_0000;
 
 const BOUND_UNITS: i128 = 0x100_0000_0000;
 
-// The greatest product of the greatest light number and how many there are, 2^71.
-const LIGHT: u128 = 0x80_0000_0000_0000_0000;
+// 2^60, and how often it may stand in a total, 2^60 times.
+const UNIT: u128 = 0x1000_0000_0000_0000;
 
 // The weights in 64 bits, if all are short.
 pub fn short_weights(alloc: Global, weights: &[i128]) -> Result<Option<Vec<u64>>, AllocError>
@@ -98,28 +98,9 @@ fn plus_sizes(total: u128, factors: &[i128], numbers: &[u128]) -> Option<u128>
     Some(sum)
 }
 
-fn greatest_of(numbers: &[u128]) -> u128
-    ensures { result ≡ greatest (number_at numbers.now) (length numbers.now) }
-{
-    let mut greatest = 0;
-    for number in numbers {
-        greatest = greatest.max(*number);
-    }
-    greatest
-}
-
-// Whether each number has 64 bits, and their products with the sizes of the entries of a row of the inverse add up to
-// at most 2^127.
-pub fn are_light(numbers: &[u128]) -> bool
-    ensures { result ≡ true → AreLight numbers.now }
-{
-    let greatest = greatest_of(numbers);
-    greatest <= HALF && greatest * numbers.len() as u128 <= LIGHT
-}
-
 // The sizes of numbers, each times its weight, and the sizes of the entries of a row of the inverse, each times a
-// radius, added up in one walk, where the weights are short and the radii light. None where a number has more than 64
-// bits.
+// radius, added up in one walk, where the weights are short and the radii are given in two parts. None where a number
+// has more than 64 bits, or where the second sum is far past 2^120.
 //
 // Never inlined, for the same reason.
 #[inline(never)]
@@ -127,16 +108,19 @@ fn short_row_total(
     numbers: &[i128],
     shorts: &[u64],
     factors: &[i128],
-    radii: &[u128],
+    lows: &[u64],
+    highs: &[High],
 ) -> Option<u128>
     requires few { length numbers.now ≤ 2 ^ 11 }
     requires shorts { length shorts.now ≡ length numbers.now }
     requires small { (j : ℕ) → j < length numbers.now → number_at shorts.now j ≤ 2 ^ 40 }
-    requires radii { length radii.now ≡ length numbers.now }
-    requires light { AreLight radii.now }
+    requires lows { length lows.now ≡ length numbers.now }
+    requires low { AreLow (length numbers.now) lows.now }
+    requires highs { AreHigh (length numbers.now) highs.now }
     requires factors { IsRowOfInverse (length numbers.now) factors.now }
-    ensures { IfSome result (λ t. t
-        ≡ short_total (length numbers.now) shorts.now numbers.now + sizes_total (length numbers.now) factors.now radii.now) }
+    ensures { IfSome result (λ t. t ≡ short_total (length numbers.now) shorts.now numbers.now
+        + (sizes_total (length numbers.now) factors.now lows.now
+        + 2 ^ 60 * high_sum (λ l. nat_abs (part factors.now l)) highs.now)) }
 {
     let mut total = 0;
     let mut sizes = 0;
@@ -145,9 +129,13 @@ fn short_row_total(
             return None;
         };
         total = plus_short(total, shorts[place], size);
-        sizes = plus_light(sizes, factors[place], radii[place]);
+        sizes = plus_low(sizes, factors[place], lows[place]);
     }
-    Some(total + sizes)
+    let high = high_total(factors, highs);
+    if high > UNIT {
+        return None;
+    }
+    Some(total + (sizes + UNIT * high))
 }
 
 // The entries of a row, each size times the weight of its column, added up; a number above 2^120 where that passes it.
@@ -185,12 +173,12 @@ pub fn rows_by_weight(
 }
 
 // The Jacobian at a point in units of 2^-40, for each of its rows the radii of its slopes by weight, and the weight of
-// each unknown, also in 64 bits where all are short. `light` where the radii by weight are light.
+// each unknown, also in 64 bits where all are short; and the parts of the radii by weight, if each is at most 2^70.
 #[derive(Drop)]
 pub struct Slopes<'a, 'b> {
     pub jacobian: Walk<'a>,
     pub radii: Vec<u128>,
-    pub light: bool,
+    pub parts: Option<Parted>,
     pub weights: &'b [i128],
     pub shorts: Option<Vec<u64>>,
 }
@@ -199,7 +187,7 @@ pub struct Slopes<'a, 'b> {
 fn bound(slopes: &Slopes, row: u32, factors: &[i128], sums: &mut [i128]) -> Option<i128>
     requires slopes { AreSlopes slopes.now.jacobian.matrix.now slopes.now.radii.items slopes.now.weights.now }
     requires shorts { IfSome slopes.now.shorts (λ s. AreShortWeights slopes.now.weights.now s.items) }
-    requires light { slopes.now.light ≡ true → AreLight slopes.now.radii.items }
+    requires parts { IfSome slopes.now.parts (λ p. AreParts slopes.now.radii.items p.lows.items p.highs.items) }
     requires jacobian { IfSome slopes.now.jacobian.entries (λ es. IsFlatOf slopes.now.jacobian.matrix.now es.items) }
     requires row { row < slopes.now.jacobian.matrix.now.size }
     requires factors { IsRowOfInverse slopes.now.jacobian.matrix.now.size factors.now }
@@ -220,7 +208,7 @@ fn bound(slopes: &Slopes, row: u32, factors: &[i128], sums: &mut [i128]) -> Opti
 fn bound_of_sums(slopes: &Slopes, row: u32, factors: &[i128], sums: &mut [i128]) -> Option<i128>
     requires slopes { AreSlopes slopes.now.jacobian.matrix.now slopes.now.radii.items slopes.now.weights.now }
     requires shorts { IfSome slopes.now.shorts (λ s. AreShortWeights slopes.now.weights.now s.items) }
-    requires light { slopes.now.light ≡ true → AreLight slopes.now.radii.items }
+    requires parts { IfSome slopes.now.parts (λ p. AreParts slopes.now.radii.items p.lows.items p.highs.items) }
     requires row { row < slopes.now.jacobian.matrix.now.size }
     requires factors { IsRowOfInverse slopes.now.jacobian.matrix.now.size factors.now }
     requires long { length sums.old ≡ slopes.now.jacobian.matrix.now.size }
@@ -239,21 +227,24 @@ fn bound_of_sums(slopes: &Slopes, row: u32, factors: &[i128], sums: &mut [i128])
 }
 
 // What is left of a row of the unit matrix and what the radii add, by weight, where the weights are short, the radii
-// light, and what is left has 64 bits.
+// have parts, and what is left has 64 bits.
 fn usual_row_total(slopes: &Slopes, factors: &[i128], left: &[i128]) -> Option<u128>
     requires few { length left.now ≤ 2 ^ 11 }
     requires weights { length slopes.now.weights.now ≡ length left.now }
     requires radii { length slopes.now.radii.items ≡ length left.now }
     requires shorts { IfSome slopes.now.shorts (λ s. AreShortWeights slopes.now.weights.now s.items) }
-    requires light { slopes.now.light ≡ true → AreLight slopes.now.radii.items }
+    requires parts { IfSome slopes.now.parts (λ p. AreParts slopes.now.radii.items p.lows.items p.highs.items) }
     requires factors { IsRowOfInverse (length left.now) factors.now }
     ensures { IfSome result (λ t. t ≡ weighted_total (length left.now) slopes.now.weights.now left.now
         + sizes_total (length left.now) factors.now slopes.now.radii.items) }
 {
-    match &slopes.shorts {
-        Some(shorts) if slopes.light => short_row_total(left, shorts, factors, &slopes.radii),
-        _ => None,
-    }
+    let Some(shorts) = &slopes.shorts else {
+        return None;
+    };
+    let Some(radii) = &slopes.parts else {
+        return None;
+    };
+    short_row_total(left, shorts, factors, &radii.lows, &radii.highs)
 }
 
 // What is left of a row of the unit matrix and what the radii add, by weight.
@@ -262,7 +253,7 @@ fn row_total(slopes: &Slopes, factors: &[i128], left: &[i128]) -> Option<u128>
     requires weights { length slopes.now.weights.now ≡ length left.now }
     requires radii { length slopes.now.radii.items ≡ length left.now }
     requires shorts { IfSome slopes.now.shorts (λ s. AreShortWeights slopes.now.weights.now s.items) }
-    requires light { slopes.now.light ≡ true → AreLight slopes.now.radii.items }
+    requires parts { IfSome slopes.now.parts (λ p. AreParts slopes.now.radii.items p.lows.items p.highs.items) }
     requires factors { IsRowOfInverse (length slopes.now.radii.items) factors.now }
     ensures { IsTotal (weighted_total (length left.now) slopes.now.weights.now left.now + sizes_total (length slopes.now.radii.items) factors.now slopes.now.radii.items) result }
 {
@@ -303,7 +294,7 @@ fn two_bounds(
 ) -> (Option<i128>, Option<i128>)
     requires slopes { AreSlopes slopes.now.jacobian.matrix.now slopes.now.radii.items slopes.now.weights.now }
     requires shorts { IfSome slopes.now.shorts (λ s. AreShortWeights slopes.now.weights.now s.items) }
-    requires light { slopes.now.light ≡ true → AreLight slopes.now.radii.items }
+    requires parts { IfSome slopes.now.parts (λ p. AreParts slopes.now.radii.items p.lows.items p.highs.items) }
     requires entries { IsFlatOf slopes.now.jacobian.matrix.now entries.now }
     requires row { row + 1 < slopes.now.jacobian.matrix.now.size }
     requires first { IsRowOfInverse slopes.now.jacobian.matrix.now.size first.now }
@@ -338,7 +329,7 @@ fn push_by_twos(
 ) -> Result<u32, AllocError>
     requires slopes { AreSlopes slopes.now.jacobian.matrix.now slopes.now.radii.items slopes.now.weights.now }
     requires shorts { IfSome slopes.now.shorts (λ s. AreShortWeights slopes.now.weights.now s.items) }
-    requires light { slopes.now.light ≡ true → AreLight slopes.now.radii.items }
+    requires parts { IfSome slopes.now.parts (λ p. AreParts slopes.now.radii.items p.lows.items p.highs.items) }
     requires jacobian { IfSome slopes.now.jacobian.entries (λ es. IsFlatOf slopes.now.jacobian.matrix.now es.items) }
     requires size { length inverse.now ≡ slopes.now.jacobian.matrix.now.size }
     requires entries { EntriesWithin inverse.now (2 ^ 56) }
@@ -371,7 +362,7 @@ pub fn bounds(
 ) -> Result<Vec<Option<i128>>, AllocError>
     requires slopes { AreSlopes slopes.now.jacobian.matrix.now slopes.now.radii.items slopes.now.weights.now }
     requires shorts { IfSome slopes.now.shorts (λ s. AreShortWeights slopes.now.weights.now s.items) }
-    requires light { slopes.now.light ≡ true → AreLight slopes.now.radii.items }
+    requires parts { IfSome slopes.now.parts (λ p. AreParts slopes.now.radii.items p.lows.items p.highs.items) }
     requires jacobian { IfSome slopes.now.jacobian.entries (λ es. IsFlatOf slopes.now.jacobian.matrix.now es.items) }
     requires size { length inverse.now ≡ slopes.now.jacobian.matrix.now.size }
     requires entries { EntriesWithin inverse.now (2 ^ 56) }

@@ -17,10 +17,11 @@ ghost use Rattle.fd_cert.specs.Slopes.{HasRadii};
 ghost use Rattle.fd_cert.specs.Verdicts.{IsWidths};
 
 use crate::ball::{Ball, Certified};
-use crate::bounds::{Slopes, are_light, bounds, rows_by_weight, short_weights};
+use crate::bounds::{Slopes, bounds, rows_by_weight, short_weights};
 use crate::boxes::boxes;
 use crate::fault::CertFault;
 use crate::mismatches::{first_loose, mismatches};
+use crate::parted::parts_of;
 use crate::radii::{load_radii, with_radii};
 use crate::reach::{first_unbounded, first_wide, greatest_bound, greatest_reach, named, radii};
 use crate::sums::Walk;
@@ -67,7 +68,7 @@ fn bounds_at(
     let walk = Walk::of(alloc, &jacobian)?;
     let slopes = Slopes {
         jacobian: walk,
-        light: are_light(&rows),
+        parts: parts_of(alloc, &rows)?,
         radii: rows,
         weights,
         shorts: short_weights(alloc, weights)?,

@@ -8,7 +8,8 @@
 //
 // Modules: `ball`, what is certified; `fault`, why there is no certificate; `mismatches` of rows, and the first loose
 // one; `boxes`, the half-widths; `radii`, by how much slopes may be off, by non-zeros; `flat`, lists of short entries,
-// whose sums need no tests; `sums` of columns; `totals` of products, up to 2^120; `bounds`, how far the inverse times
+// whose sums need no tests; `sums` of columns; `totals` of products, up to 2^120; `parted`, numbers in two parts, whose
+// sums need none either; `bounds`, how far the inverse times
 // the Jacobian is from the unit matrix; `reach`, the radii of unknowns; `rounding`, quotients rounded up;
 // `certificate` over them; `rule`, the rules of certificates; `range`, the size and the range of a claim's numbers; and
 // `rechecking`, the rules on a claim.
@@ -21,6 +22,7 @@ mod certificate;
 mod fault;
 mod flat;
 mod mismatches;
+mod parted;
 mod radii;
 mod range;
 mod reach;

@@ -17,7 +17,7 @@ const LEAST: i128 = -0x8000_0000_0000_0000;
 const GREATEST: i128 = 0x7fff_ffff_ffff_ffff;
 
 // The greatest number of 64 bits.
-pub const HALF: u128 = 0xffff_ffff_ffff_ffff;
+const HALF: u128 = 0xffff_ffff_ffff_ffff;
 
 // A total, if it is at most 2^120.
 pub fn up_to_limit(total: u128) -> Option<u128>
@@ -101,12 +101,13 @@ pub fn plus_short(total: u128, short: u64, number: u64) -> u128
     total + short_product(short, number)
 }
 
-// The total with the product of the size of an entry of an inverse and a number of 64 bits more: one multiplication.
-pub fn plus_light(total: u128, entry: i128, number: u128) -> u128
+// The total with the product of the size of an entry of an inverse and a number below 2^60 more: one multiplication.
+pub fn plus_low(total: u128, entry: i128, low: u64) -> u128
     requires total { total ≤ 2 ^ 127 }
     requires entry { nat_abs entry ≤ 2 ^ 56 }
-    requires number { number < 2 ^ 64 }
-    ensures { result ≡ total + nat_abs entry * number }
+    requires low { low < 2 ^ 60 }
+    ensures sum { result ≡ total + nat_abs entry * low }
+    ensures small { (k : ℕ) → total ≤ k * 2 ^ 116 → result ≤ (k + 1) * 2 ^ 116 }
 {
-    total + short_product(entry_size(entry), number as u64)
+    total + short_product(entry_size(entry), low)
 }

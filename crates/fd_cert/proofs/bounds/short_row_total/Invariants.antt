@@ -6,6 +6,6 @@ abbrev pub invariant-loop-place : goal.invariant-loop-place
 invariant-loop-place l = record {
   sum : l.total ≡ short_total l.place l.shorts l.numbers;
   small : l.total ≤ l.place * 2 ^ 104;
-  sizes : l.sizes ≡ sizes_total l.place l.factors l.radii;
-  below : l.sizes ≤ 2 ^ 127;
+  sizes : l.sizes ≡ sizes_total l.place l.factors l.lows;
+  below : l.sizes ≤ l.place * 2 ^ 116;
 }
