@@ -1,27 +1,18 @@
 -- The history of a command line, and the status of its run.
-use Rattle.std.proofs.Common.{◌∙◌, ℕ, List, [], Option, Some, None, refl, sym, ap, subst}
+use Rattle.std.proofs.Common.{ℕ, List, [], Option, Some, None, sym, subst}
 use Rattle.fd_outside.specs.Files.{Files}
 use Rattle.fd_report.specs.declared.faults.Fault.TheVariants as fault
 use Rattle.fd_outcome.specs.Events.{History, ended}
 use Rattle.fd_outcome.specs.Laws.{IsDue}
 use Rattle.fd_outcome.specs.Runs.{Runs}
-use Rattle.fd_outcome.specs.Work.{ExactlyOne}
 use Rattle.fd_outcome.proofs.CallerLemmas.{exactly_this, run_due}
 use Rattle.fd_solving.specs.Headline.{IsSolved}
-use Rattle.fd_app.specs.Run.{FormsLaw, IsFormHistory, style_of, IsBenchHistory, script_written}
 use Rattle.fd_solving.proofs.CallerLemmas.{one_script}
 use Rattle.fd_checking.proofs.CallerLemmas.{one_check}
+use Rattle.fd_bench.specs.Bench.{script_written}
+use Rattle.fd_bench.proofs.CallerLemmas.{one_bench}
 use Rattle.fd_words.specs.Words.{Form, Solve, Cert, Check, Gen, Bench}
-use Rattle.fd_app.specs.Bench.{bench_of, feeder_files, feeder_name}
-
-pub one_bench : (number sections : ℕ) → ExactlyOne (λ h. IsBenchHistory number sections h)
-one_bench number sections =
-    let one = one_script (feeder_files number sections) feeder_name in
-    record {
-      some = bench_of sections one.some;
-      is = record { solving = one.some; right = one.is; h_is = refl };
-      only = λ h is. is.h_is ∙ ap (bench_of sections) (one.only is.solving is.right);
-    }
+use Rattle.fd_app.specs.Run.{FormsLaw, IsFormHistory, style_of}
 
 pub forms : FormsLaw
 forms files None = exactly_this (ended [] fault.Usage)

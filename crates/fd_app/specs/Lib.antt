@@ -1,4 +1,1 @@
 pub mod Run
-pub mod Alone
-pub mod Bench
-pub mod Benching

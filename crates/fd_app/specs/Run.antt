@@ -1,17 +1,16 @@
 -- The history of a command line over the files that its library holds.
-use Rattle.std.specs.Prelude.{◌≡◌, ℕ, [], map, Option, Some, None}
+use Rattle.std.specs.Prelude.{◌≡◌, [], Option, Some, None}
 use Rattle.std.specs.Str.{chars}
 use Rattle.fd_outside.specs.Files.{Files}
 use Rattle.dss_script.specs.Said.{said_of}
-use Rattle.fd_gen.specs.Script.{script_of}
 use Rattle.fd_words.specs.Words.{Form, Solve, Cert, Check, Gen, Bench}
 use Rattle.fd_report.specs.declared.faults.Fault.TheVariants as fault
 use Rattle.fd_outcome.specs.Calls.{Style, certificate, report}
-use Rattle.fd_outcome.specs.Events.{History, ended, finishes, line}
+use Rattle.fd_outcome.specs.Events.{History, ended}
 use Rattle.fd_outcome.specs.Work.{ExactlyOne}
 use Rattle.fd_solving.specs.Scripts.{IsScriptHistory}
 use Rattle.fd_checking.specs.Checks.{IsCheckHistory}
-use Rattle.fd_app.specs.Bench.{bench_of, feeder_files, feeder_name, lines_alone}
+use Rattle.fd_bench.specs.Bench.{IsBenchHistory, lines_alone, script_written}
 
 -- what must be told of the files: nothing where none is asked for
 abbrev pub Knows : Option Form → Option Files → Files → Type 0
@@ -29,16 +28,6 @@ style_of (Some (Cert file)) = certificate
 style_of (Some (Check script name)) = report
 style_of (Some (Gen number sections)) = report
 style_of (Some (Bench number sections)) = lines_alone
-
--- the history of `gen`: the lines of the script
-abbrev pub script_written : ℕ → ℕ → History
-script_written number sections = finishes (map line (script_of number sections))
-
--- the history of `bench`: what `solve` comes to over the script, and the record of its rounds
-pub record IsBenchHistory (number sections : ℕ) (h : History) : Type 0 where
-  pub solving : History
-  pub right : IsScriptHistory (feeder_files number sections) (said_of (feeder_files number sections) (chars feeder_name)) solving
-  pub h_is : h ≡ bench_of sections solving
 
 -- the history of a command line; words that are no form are a fault
 abbrev pub IsFormHistory : Files → Option Form → History → Type 0

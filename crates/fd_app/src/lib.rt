@@ -8,13 +8,9 @@
 //! through all hours of a Solve its acts are those of any such states (`days_law` of `fd_solving`), and each block of
 //! a certificate that `check` accepts is sound (`checked_law` of `fd_checking`).
 //!
-//! - `feeder`: the script of a feeder from a number, which `gen` writes
-//! - `bench`: the command line that prints what the rounds of such a script come to
 //! - `top`: the call itself
 #![tactic(auto)]
 
-mod bench;
-mod feeder;
 mod top;
 
 pub use fd_checking::checked_law;

@@ -11,8 +11,7 @@ ghost use Rattle.fd_solving.specs.Headline.{IsSolved};
 ghost use Rattle.fd_app.specs.Run.{FormsLaw, IsFormHistory, Knows, style_of};
 ghost use Rattle.fd_words.specs.Words.{form_of};
 
-use crate::bench::bench;
-use crate::feeder::write_script;
+use fd_bench::{bench, write_script};
 use fd_checking::check;
 use fd_outside::{Library, Sink};
 use fd_pages::{Certificate, Report};

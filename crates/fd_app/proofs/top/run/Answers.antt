@@ -6,12 +6,11 @@ use Rattle.fd_outcome.specs.Untold.{CutsShort}
 use Rattle.fd_gen.specs.Script.{script_of}
 use Rattle.fd_outcome.proofs.CallerLemmas.{fault_alone, fault_answers, fault_code, grows_none, untold_last}
 use Rattle.fd_solving.specs.Headline.{IsSolved}
-use Rattle.fd_app.specs.Bench.{lines_alone}
-use Rattle.fd_app.specs.Run.{IsBenchHistory, IsFormHistory, script_written, style_of}
+use Rattle.fd_bench.specs.Bench.{IsBenchHistory, lines_alone, script_written}
+use Rattle.fd_bench.proofs.CallerLemmas.{alone_runs, lines_good, printed_alone, short_alone}
+use Rattle.fd_app.specs.Run.{IsFormHistory, style_of}
 use Rattle.fd_words.specs.declared.words.Form.{Form as Words}
 use Rattle.fd_words.specs.Words.{Cert, Check, Solve, form_in, form_of, Bench, Gen}
-use Rattle.fd_app.proofs.Alone.{alone_runs, lines_good, printed_alone}
-use Rattle.fd_app.proofs.Benched.{short_alone}
 use Rattle.fd_app.proofs.Runs.{forms}
 use Rattle.fd_app.proofs.top.run.Goals as goal
 

@@ -5,12 +5,10 @@ use Rattle.dss_values.specs.Names.{bytes}
 use Rattle.dss_script.specs.Said.{end_in, said_in}
 use Rattle.dss_script.specs.Sessions.{remaining}
 use Rattle.fd_outcome.specs.History.{IsFrom}
-use Rattle.fd_app.specs.Bench.{feeder_files, lines_alone}
-use Rattle.fd_app.specs.Benching.{IsBenchLast, IsBenchStep, no_bench_name}
-use Rattle.fd_app.specs.Run.{IsBenchHistory}
-use Rattle.fd_app.proofs.Benched.{bench_history, short_alone, without_library}
-use Rattle.fd_app.proofs.Runs.{one_bench}
-use Rattle.fd_app.proofs.bench.bench.Goals as goal
+use Rattle.fd_bench.specs.Bench.{feeder_files, lines_alone, IsBenchHistory}
+use Rattle.fd_bench.specs.Benching.{IsBenchLast, IsBenchStep, no_bench_name}
+use Rattle.fd_bench.proofs.Benched.{bench_history, short_alone, without_library, one_bench}
+use Rattle.fd_bench.proofs.benching.bench.Goals as goal
 
 pub returns-in_default-clause-run : goal.returns-in_default-clause-run
 returns-in_default-clause-run g c = short_alone g.S.Sink.taken g.S.Sink.calls c.args.out.now (λ h. IsBenchHistory c.args.number c.args.sections h) lines_alone (one_bench c.args.number c.args.sections)

@@ -6,11 +6,11 @@ use Rattle.fd_outcome.specs.Parts.{Finishes}
 use Rattle.fd_outcome.proofs.CallerLemmas.{cut_before, untold_first, untold_last}
 use Rattle.fd_pages.specs.Lines.{lines_of_text}
 use Rattle.fd_solving.specs.Headline.{IsSolved}
-use Rattle.fd_app.specs.Bench.{tally_text}
-use Rattle.fd_app.specs.Benching.{BenchView}
+use Rattle.fd_bench.specs.Bench.{tally_text}
+use Rattle.fd_bench.specs.Benching.{BenchView}
 use Rattle.fd_solving.proofs.CallerLemmas.{printed_as, printed_cut}
-use Rattle.fd_app.proofs.Benched.{bench_finishes, last_line}
-use Rattle.fd_app.proofs.bench.BenchStateLine.finish.Goals as goal
+use Rattle.fd_bench.proofs.Benched.{bench_finishes, last_line}
+use Rattle.fd_bench.proofs.benching.BenchStateLine.finish.Goals as goal
 
 pub returns-in_default-clause-told : goal.returns-in_default-clause-told
 returns-in_default-clause-told g c files told =

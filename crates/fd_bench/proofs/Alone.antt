@@ -9,7 +9,7 @@ use Rattle.fd_outcome.specs.Events.{AllSettles, History, IfSettle, line}
 use Rattle.fd_outcome.specs.Parts.{Printed}
 use Rattle.fd_outcome.specs.Runs.{Runs}
 use Rattle.fd_outcome.specs.Settles.{Settle}
-use Rattle.fd_app.specs.Alone.{RunsAlone}
+use Rattle.fd_bench.specs.Alone.{RunsAlone}
 
 -- ---- any library
 

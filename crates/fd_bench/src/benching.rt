@@ -7,10 +7,9 @@ ghost use Rattle.fd_solving.specs.Tallies.{no_rounds};
 ghost use Rattle.fd_solving.specs.Headline.{IsSolved};
 ghost use Rattle.fd_solving.specs.Scripts.{first_standing};
 ghost use Rattle.fd_solving.specs.Weights.{weight};
-ghost use Rattle.fd_app.specs.Alone.{RunsAlone};
-ghost use Rattle.fd_app.specs.Bench.{lines_alone, tally_text};
-ghost use Rattle.fd_app.specs.Benching.{IsBenchLast, IsBenchStep, bench_at, no_bench_name};
-ghost use Rattle.fd_app.specs.Run.{IsBenchHistory};
+ghost use Rattle.fd_bench.specs.Alone.{RunsAlone};
+ghost use Rattle.fd_bench.specs.Bench.{lines_alone, tally_text, IsBenchHistory};
+ghost use Rattle.fd_bench.specs.Benching.{IsBenchLast, IsBenchStep, bench_at, no_bench_name};
 
 use crate::feeder::{FEEDER_NAME, feeder_files};
 use dss_circuit::Command;
@@ -32,7 +31,7 @@ struct BenchState {
 
 impl Model for BenchState {
     ghost use Rattle.fd_solving.specs.Tallies.{HasRoom};
-    ghost use Rattle.fd_app.specs.Benching.{BenchView};
+    ghost use Rattle.fd_bench.specs.Benching.{BenchView};
 
     ghost Value = { BenchView };
 
@@ -121,7 +120,7 @@ impl Line for BenchState {
 
 /// Solves the script of a feeder of so many sections from a number, prints one record of what its rounds come to, or
 /// that of its fault, and answers the exit status.
-pub(crate) fn bench<S: Sink>(alloc: Global, number: u64, sections: u32, out: &mut S) -> u8
+pub fn bench<S: Sink>(alloc: Global, number: u64, sections: u32, out: &mut S) -> u8
     requires { 1 ≤ sections }
     ensures run { RunsAlone S.taken S.calls out.old out.new (λ h. IsBenchHistory number sections h) lines_alone IsSolved result }
     ensures answers { Answers S.taken S.calls out.old out.new result }

@@ -1,9 +1,9 @@
 use Rattle.std.proofs.Common.{[], ◌∷◌, refl}
 use Rattle.fd_outcome.specs.Events.{finishes, line}
 use Rattle.fd_outcome.proofs.CallerLemmas.{exactly_this}
-use Rattle.fd_app.specs.Bench.{tally_text}
-use Rattle.fd_app.proofs.Benched.{one_bench_step}
-use Rattle.fd_app.proofs.bench.BenchStateLine.law.Goals as goal
+use Rattle.fd_bench.specs.Bench.{tally_text}
+use Rattle.fd_bench.proofs.Benched.{one_bench_step}
+use Rattle.fd_bench.proofs.benching.BenchStateLine.law.Goals as goal
 
 pub returns-clause-one_step : goal.returns-clause-one_step
 returns-clause-one_step c command state = one_bench_step command state

@@ -2,10 +2,10 @@ use Rattle.std.proofs.Common.{subst}
 use Rattle.fd_outcome.specs.Parts.{EndsAt, GoesOn}
 use Rattle.fd_pages.specs.Lines.{lines_of_text}
 use Rattle.fd_solving.specs.Headline.{IsSolved}
-use Rattle.fd_app.specs.Benching.{BenchView, IsBenchStep, bench_at}
+use Rattle.fd_bench.specs.Benching.{BenchView, IsBenchStep, bench_at}
 use Rattle.fd_solving.proofs.CallerLemmas.{if_some_weaker}
-use Rattle.fd_app.proofs.Benched.{bench_ends, bench_goes}
-use Rattle.fd_app.proofs.bench.BenchStateLine.take.Goals as goal
+use Rattle.fd_bench.proofs.Benched.{bench_ends, bench_goes}
+use Rattle.fd_bench.proofs.benching.BenchStateLine.take.Goals as goal
 
 pub returns-clause-goes : goal.returns-clause-goes
 returns-clause-goes g c none =

@@ -3,8 +3,8 @@ use Rattle.fd_outside.specs.Emitted.{pieces_of}
 use Rattle.fd_outcome.specs.Calls.{writes}
 use Rattle.fd_outcome.proofs.CallerLemmas.{cut_before}
 use Rattle.fd_solving.proofs.CallerLemmas.{printed_as, printed_cut}
-use Rattle.fd_app.proofs.Alone.{script_calls}
-use Rattle.fd_app.proofs.feeder.write_script.Goals as goal
+use Rattle.fd_bench.proofs.Alone.{script_calls}
+use Rattle.fd_bench.proofs.feeder.write_script.Goals as goal
 
 pub returns-in_default-clause-prints : goal.returns-in_default-clause-prints
 returns-in_default-clause-prints g c = printed_cut g.S.Sink.taken g.S.Sink.calls c.args.out.now c.args.out.now _ None 1 (cut_before g.S.Sink.taken g.S.Sink.calls c.args.out.now _)

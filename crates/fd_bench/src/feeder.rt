@@ -6,8 +6,7 @@ ghost use Rattle.fd_outside.specs.Emitted.{pieces_of};
 ghost use Rattle.fd_outside.specs.Entries.{entries_of};
 ghost use Rattle.fd_outcome.specs.Calls.{doing, report};
 ghost use Rattle.fd_outcome.specs.Parts.{Printed};
-ghost use Rattle.fd_app.specs.Bench.{feeder_entries};
-ghost use Rattle.fd_app.specs.Run.{script_written};
+ghost use Rattle.fd_bench.specs.Bench.{feeder_entries, script_written};
 
 use fd_gen::generate;
 use fd_outside::{Bytes, FileEntry, Record, Sink};
@@ -19,7 +18,7 @@ pub(crate) const FEEDER_NAME: &str = "gen.dss";
 
 /// Prints the script of a feeder of so many sections from a number, by one write for each line, and answers the exit
 /// status.
-pub(crate) fn write_script<S: Sink>(alloc: Global, number: u64, sections: u32, out: &mut S) -> u8
+pub fn write_script<S: Sink>(alloc: Global, number: u64, sections: u32, out: &mut S) -> u8
     requires { 1 ≤ sections }
     ensures prints { Printed S.taken S.calls out.old out.new (doing report (script_written number sections)) result }
     ensures write { result ≡ 5 → Rose (S.faults out.old) (S.faults out.new) }

@@ -1,15 +1,18 @@
--- What `bench` does: it solves the script of a feeder, and gives one record of what its rounds come to.
-use Rattle.std.specs.Prelude.{ℕ, ◌+◌, List, [], ◌∷◌, ◌++◌, codes, Option, Some, None}
+-- What `gen` and `bench` do: the lines of the script of a feeder, and one record of what its rounds come to.
+use Rattle.std.specs.Prelude.{◌≡◌, ℕ, List, [], ◌∷◌, ◌++◌, codes, map, Option, Some, None}
 use Rattle.std.specs.FinMap.{from_entries}
 use Rattle.std.specs.Fmt.{decimal}
 use Rattle.std.specs.List.{concat}
+use Rattle.std.specs.Str.{chars}
 use Rattle.fd_decimal.specs.Decimals.{size_text}
-use Rattle.fd_gen.specs.Script.{lines_of}
+use Rattle.fd_gen.specs.Script.{lines_of, script_of}
 use Rattle.fd_outside.specs.Files.{Files}
+use Rattle.dss_script.specs.Said.{said_of}
 use Rattle.fd_report.specs.declared.faults.Fault.{Fault}
 use Rattle.fd_outcome.specs.Calls.{Style}
 use Rattle.fd_outcome.specs.Events.{Event, History, ended, finishes, line}
 use Rattle.fd_pages.specs.Lines.{line_texts}
+use Rattle.fd_solving.specs.Scripts.{IsScriptHistory}
 use Rattle.fd_solving.specs.Tallies.{no_rounds, tally_of}
 use Rattle.fd_solving.specs.declared.tally.Tally.{Tally}
 
@@ -23,6 +26,10 @@ feeder_entries number sections = (feeder_name, concat (lines_of number sections)
 
 abbrev pub feeder_files : ℕ → ℕ → Files
 feeder_files number sections = from_entries (feeder_entries number sections)
+
+-- the history of `gen`: the lines of the script
+abbrev pub script_written : ℕ → ℕ → History
+script_written number sections = finishes (map line (script_of number sections))
 
 -- ---- the record of what rounds come to
 
@@ -40,6 +47,12 @@ bench_behind sections t events (Some fault) = ended events fault
 
 abbrev pub bench_of : ℕ → History → History
 bench_of sections h = bench_behind sections no_rounds h.events h.end
+
+-- the history of `bench`: what `solve` comes to over the script, and the record of its rounds
+pub record IsBenchHistory (number sections : ℕ) (h : History) : Type 0 where
+  pub solving : History
+  pub right : IsScriptHistory (feeder_files number sections) (said_of (feeder_files number sections) (chars feeder_name)) solving
+  pub h_is : h ≡ bench_of sections solving
 
 -- ---- the style
 

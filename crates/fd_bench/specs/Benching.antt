@@ -7,7 +7,7 @@ use Rattle.fd_solving.specs.Tallies.{tally_of}
 use Rattle.fd_solving.specs.Commands.{IsStep}
 use Rattle.fd_solving.specs.Steps.{StandingView}
 use Rattle.fd_solving.specs.declared.tally.Tally.{Tally}
-use Rattle.fd_app.specs.Bench.{tally_text}
+use Rattle.fd_bench.specs.Bench.{tally_text}
 
 -- what stands, the rounds so far, and the sections of the feeder
 pub record BenchView : Type 0 where

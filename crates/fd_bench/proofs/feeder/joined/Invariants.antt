@@ -1,7 +1,7 @@
 use Rattle.std.proofs.Common.{◌≡◌, ◌++◌, drop}
 use Rattle.std.specs.List.{concat}
 use Rattle.fd_outside.specs.Emitted.{pieces_of}
-use Rattle.fd_app.proofs.feeder.joined.Given as goal
+use Rattle.fd_bench.proofs.feeder.joined.Given as goal
 
 -- the bytes so far, and those of the records that are left
 abbrev pub invariant-loop-record : goal.invariant-loop-record

@@ -34,12 +34,11 @@ use Rattle.fd_solving.specs.Headline.{IsSolved}
 use Rattle.fd_solving.specs.Scripts.{IsDoneThere, first_standing, no_name}
 use Rattle.fd_solving.specs.Steps.{StandingView}
 use Rattle.fd_solving.specs.declared.tally.Tally.{Tally}
-use Rattle.fd_app.specs.Alone.{RunsAlone}
-use Rattle.fd_app.specs.Bench.{bench_behind, feeder_files, feeder_name, lines_alone, tally_text}
-use Rattle.fd_app.specs.Benching.{BenchView, IsBenchLast, IsBenchStep, bench_at, no_bench_name, with_tally}
-use Rattle.fd_app.specs.Run.{IsBenchHistory}
-use Rattle.fd_solving.proofs.CallerLemmas.{one_step}
-use Rattle.fd_app.proofs.Alone.{opened_none}
+use Rattle.fd_bench.specs.Alone.{RunsAlone}
+use Rattle.fd_bench.specs.Bench.{bench_behind, bench_of, feeder_files, feeder_name, lines_alone, tally_text, IsBenchHistory}
+use Rattle.fd_bench.specs.Benching.{BenchView, IsBenchLast, IsBenchStep, bench_at, no_bench_name, with_tally}
+use Rattle.fd_solving.proofs.CallerLemmas.{one_script, one_step}
+use Rattle.fd_bench.proofs.Alone.{opened_none}
 
 -- ---- a step
 
@@ -162,6 +161,16 @@ module _ (there : List ℕ → Option (List ℕ)) (sections : ℕ) where
   solving_of (command c ∷ more) end s t h is =
       by_step c more end s t h is.right.solving is.right.right (λ next u x there. solving_of more end next u x there)
       (subst (λ step. AfterStep step (λ next x. IsBench more end next x) h) is.right.step_is is.goes_on)
+
+-- there is exactly one
+pub one_bench : (number sections : ℕ) → ExactlyOne (λ h. IsBenchHistory number sections h)
+one_bench number sections =
+    let one = one_script (feeder_files number sections) feeder_name in
+    record {
+      some = bench_of sections one.some;
+      is = record { solving = one.some; right = one.is; h_is = refl };
+      only = λ h is. is.h_is ∙ ap (bench_of sections) (one.only is.solving is.right);
+    }
 
 -- a run over what is held comes to the history of `bench`
 pub bench_history : (law : SaidLaw) (number sections : ℕ) (script : Script) (state : BenchView)
