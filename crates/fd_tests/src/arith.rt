@@ -1,3 +1,4 @@
+// Worked numbers, intervals and terminals.
 ghost use Rattle.std.specs.Prelude.{◌≡◌, pos};
 ghost use Rattle.std.specs.List.{fold};
 ghost use Rattle.fd_exact.specs.Fractions.{Fraction, ◌⊖◌, ◌⊗◌};
@@ -13,7 +14,10 @@ const MOST: i128 = 0x100_0000_0000_0000_0000_0000_0000_0000;
 // The real part of a voltage drop times a coefficient, in either arithmetic.
 fn current<T: Enclose>(from: Cx<T>, to: Cx<T>, re: T::Factor, im: T::Factor) -> T
     ensures value { result ≡ T.minus (T.scaled (T.minus from.re to.re) re) (T.scaled (T.minus from.im to.im) im) }
-    ensures encloses { (a b c d g h : Fraction) → T.Encloses from.re a → T.Encloses to.re b → T.Encloses from.im c → T.Encloses to.im d → T.FactorEncloses re g → T.FactorEncloses im h → T.Encloses result (((a ⊖ b) ⊗ g) ⊖ ((c ⊖ d) ⊗ h)) }
+    ensures encloses { (a b c d g h : Fraction)
+        → T.Encloses from.re a → T.Encloses to.re b → T.Encloses from.im c → T.Encloses to.im d
+        → T.FactorEncloses re g → T.FactorEncloses im h
+        → T.Encloses result (((a ⊖ b) ⊗ g) ⊖ ((c ⊖ d) ⊗ h)) }
 {
     (from - to).times(re, im).re
 }

@@ -1,11 +1,7 @@
 // Small feeders with their bases.
-use dss_circuit::{Circuit, Command, ModelError, ModelFault, Place, Verb};
-use dss_lexer::{PairList, Text, pairs};
+use crate::circuits::{Row, circuit, set};
+use dss_circuit::ModelError;
 use fd_bases::{BusBase, bases};
-use std::alloc::Global;
-
-// The class, the name and the pairs of a New.
-type Row<'a> = (&'a str, &'a str, &'a str);
 
 // A source of one phase at 1 kV: 1.73 over root three is nearer to that than 4.16 over root three.
 const ONE_PHASE: [Row<'static>; 2] = [
@@ -36,39 +32,6 @@ const WALK: [Row<'static>; 7] = [
     ),
     ("Line", "y", "bus1=nowhere bus2=else"),
 ];
-
-fn text(alloc: Global, of: &str) -> Result<Text, ModelError> {
-    Ok(Text::new(String::from_str(alloc, of)?))
-}
-
-fn apply(alloc: Global, circuit: &mut Circuit, verb: Verb) -> Result<(), ModelError> {
-    let place = Place {
-        file: text(alloc, "m.dss")?,
-        line: 1,
-    };
-    if circuit.solves() > 0 || circuit.elements().len() > 100 {
-        return Err(ModelError::Fault(ModelFault::TooMany));
-    }
-    circuit.apply(alloc, &Command { place, verb })
-}
-
-fn circuit(alloc: Global, rows: &[Row]) -> Result<Circuit, ModelError> {
-    let mut circuit = Circuit::empty(alloc);
-    for (class, name, rest) in rows {
-        let verb = Verb::New {
-            class: text(alloc, class)?,
-            name: text(alloc, name)?,
-            pairs: PairList::new(pairs(alloc, rest.as_bytes())?),
-        };
-        apply(alloc, &mut circuit, verb)?;
-    }
-    Ok(circuit)
-}
-
-fn set(alloc: Global, circuit: &mut Circuit, options: &str) -> Result<(), ModelError> {
-    let pairs = PairList::new(pairs(alloc, options.as_bytes())?);
-    apply(alloc, circuit, Verb::Set { pairs })
-}
 
 fn are(found: &[BusBase], due: &[(&str, i128)]) -> bool {
     for (base, (bus, kv)) in found.iter().zip(due) {

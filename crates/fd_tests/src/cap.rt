@@ -1,25 +1,36 @@
-ghost use Rattle.std.specs.Prelude.{◌≡◌};
+// Worked banks.
+ghost use Rattle.fd_system.specs.Terminals.{IsSide, node_count};
+ghost use Rattle.fd_cap.specs.Capacitor.{IsCap};
 
-use fd_arith::{Conn, Ends, NodeAt, Nodes, Term, TermFault};
+use crate::contributions::{GIGA, THREE, ends, numbers};
+use fd_arith::{Conn, NodeAt, TermFault};
 use fd_cap::{CapData, cap_draw, cap_terms};
 use std::alloc::Global;
+use std::process::Abort;
 use std::test::Fail;
 
-const GIGA: i128 = 1_000_000_000;
+const TWO: [NodeAt; 2] = [NodeAt::Node(0), NodeAt::Node(1)];
 
-// the ends of a bank at these nodes: a bank has no second side
-fn ends_at(alloc: Global, nodes: Vec<NodeAt>) -> Ends
-    ensures { result.first ≡ nodes.items }
+// Asserts how many contributions a closed bank has at its nodes, and the numbers of the last ones over a denominator.
+fn check(
+    rt: &impl Abort,
+    alloc: Global,
+    bank: &CapData,
+    nodes: &[NodeAt],
+    count: usize,
+    last: &[(u32, u32, i128)],
+    denominator: i128,
+) -> Result<(), TermFault>
+    requires bank { IsCap bank.now }
+    requires nodes { IsSide (node_count bank.now.phases) nodes.now }
 {
-    Ends {
-        first: Nodes::new(nodes),
-        second: Nodes::new(Vec::new(alloc)),
-        branch: 0,
+    let terms = cap_terms(alloc, bank, true, &ends(alloc, nodes, &[], 0)?)?;
+    assert_eq!(rt; terms.len(), count);
+    for (term, due) in terms.iter().rev().zip(last.iter().rev()) {
+        assert_eq!(rt; numbers(term), *due);
+        assert_eq!(rt; term.den, denominator);
     }
-}
-
-fn numbers(term: &Term) -> (u32, u32, i128) {
-    (term.row, term.col, term.num)
+    Ok(())
 }
 
 // 200 kvar a phase over the square of 2401.77712 volt: 0.034670857983 siemens, and 83.271673434878 ampere
@@ -36,25 +47,20 @@ const WYE: [(u32, u32, i128); 6] = [
 
 #[test]
 fn three_phases_in_wye(rt: HostRuntime) -> Result<(), Fail> {
-    let alloc = rt.alloc();
-    let cap = CapData {
+    let bank = CapData {
         phases: 3,
         conn: Conn::Wye,
         kvar: 600 * GIGA,
         kv: 4_160_000_000,
     };
-    let nodes = vec![in alloc; NodeAt::Node(0), NodeAt::Node(1), NodeAt::Node(2)]?;
-    let terms = cap_terms(alloc, &cap, true, &ends_at(alloc, nodes))?;
-    assert_eq!(rt; terms.len(), WYE.len());
-    for (term, number) in terms.iter().zip(WYE) {
-        assert_eq!(rt; numbers(term), number);
-        assert_eq!(rt; term.den, 17_305_600_002_466_483_200);
-    }
-    assert_eq!(rt; cap_draw(&cap, true), 249_815_022);
+    let denominator = 17_305_600_002_466_483_200;
+    check(&rt, rt.alloc(), &bank, &THREE, 6, &WYE, denominator)?;
+    assert_eq!(rt; cap_draw(&bank, true), 249_815_022);
     Ok(())
 }
 
-// 200 kvar a phase over the square of 4160 volt: 0.011556952663 siemens, and 48.076923076923 ampere; phase 3 joins nodes 3 and 1
+// 200 kvar a phase over the square of 4160 volt: 0.011556952663 siemens, and 48.076923076923 ampere; phase 3 joins
+// nodes 3 and 1
 const DELTA_PHASE: [(u32, u32, i128); 8] = [
     (4, 5, -WYE_POWER),
     (5, 4, WYE_POWER),
@@ -68,21 +74,23 @@ const DELTA_PHASE: [(u32, u32, i128); 8] = [
 
 #[test]
 fn three_phases_in_delta(rt: HostRuntime) -> Result<(), Fail> {
-    let alloc = rt.alloc();
-    let cap = CapData {
+    let bank = CapData {
         phases: 3,
         conn: Conn::Delta,
         kvar: 600 * GIGA,
         kv: 4_160_000_000,
     };
-    let nodes = vec![in alloc; NodeAt::Node(0), NodeAt::Node(1), NodeAt::Node(2)]?;
-    let terms = cap_terms(alloc, &cap, true, &ends_at(alloc, nodes))?;
-    assert_eq!(rt; terms.len(), 24);
-    for (term, number) in terms.iter().skip(16).zip(DELTA_PHASE) {
-        assert_eq!(rt; numbers(term), number);
-        assert_eq!(rt; term.den, 51_916_800_000_000_000_000);
-    }
-    assert_eq!(rt; cap_draw(&cap, true), 144_230_772);
+    let denominator = 51_916_800_000_000_000_000;
+    check(
+        &rt,
+        rt.alloc(),
+        &bank,
+        &THREE,
+        24,
+        &DELTA_PHASE,
+        denominator,
+    )?;
+    assert_eq!(rt; cap_draw(&bank, true), 144_230_772);
     Ok(())
 }
 
@@ -103,23 +111,25 @@ const ONE_PHASE: [(u32, u32, i128); 8] = [
 #[test]
 fn one_phase(rt: HostRuntime) -> Result<(), Fail> {
     let alloc = rt.alloc();
-    let cap = CapData {
+    let bank = CapData {
         phases: 1,
         conn: Conn::Wye,
         kvar: 100 * GIGA,
         kv: 2_400_000_000,
     };
-    let nodes = vec![in alloc; NodeAt::Node(0), NodeAt::Node(1)]?;
-    let at = ends_at(alloc, nodes);
-    let terms = cap_terms(alloc, &cap, true, &at)?;
-    assert_eq!(rt; terms.len(), ONE_PHASE.len());
-    for (term, number) in terms.iter().zip(ONE_PHASE) {
-        assert_eq!(rt; numbers(term), number);
-        assert_eq!(rt; term.den, 5_760_000_000_000_000_000);
-    }
-    assert_eq!(rt; cap_draw(&cap, true), 41_666_667);
-    assert_eq!(rt; cap_terms(alloc, &cap, false, &at)?.len(), 0);
-    assert_eq!(rt; cap_draw(&cap, false), 0);
+    check(
+        &rt,
+        alloc,
+        &bank,
+        &TWO,
+        8,
+        &ONE_PHASE,
+        5_760_000_000_000_000_000,
+    )?;
+    assert_eq!(rt; cap_draw(&bank, true), 41_666_667);
+    let at = ends(alloc, &TWO, &[], 0)?;
+    assert_eq!(rt; cap_terms(alloc, &bank, false, &at)?.len(), 0);
+    assert_eq!(rt; cap_draw(&bank, false), 0);
     Ok(())
 }
 
@@ -127,15 +137,17 @@ fn one_phase(rt: HostRuntime) -> Result<(), Fail> {
 #[test]
 fn out_of_range(rt: HostRuntime) -> Result<(), Fail> {
     let alloc = rt.alloc();
-    let cap = CapData {
+    let bank = CapData {
         phases: 1,
         conn: Conn::Delta,
         kvar: 100_000 * GIGA,
         kv: 10_000_000,
     };
-    let nodes = vec![in alloc; NodeAt::Node(0), NodeAt::Node(1)]?;
-    let fault = cap_terms(alloc, &cap, true, &ends_at(alloc, nodes)).err();
-    assert_eq!(rt; fault, Some(TermFault::Range));
-    assert_eq!(rt; cap_draw(&cap, true), 10_000_000_000_000);
+    let at = ends(alloc, &TWO, &[], 0)?;
+    assert_eq!(rt;
+        cap_terms(alloc, &bank, true, &at).err(),
+        Some(TermFault::Range)
+    );
+    assert_eq!(rt; cap_draw(&bank, true), 10_000_000_000_000);
     Ok(())
 }

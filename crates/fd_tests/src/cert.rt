@@ -1,11 +1,11 @@
-ghost use Rattle.std.specs.Prelude.{◌≡◌, [], IfOk};
+// Certificates of the network of a siemens into which 100 ampere flow.
+ghost use Rattle.std.specs.Prelude.{◌≡◌, IfOk, length};
 ghost use Rattle.fd_equations.specs.Conditions.{IsPart};
 
-use fd_arith::Term;
+use crate::one_node::{INFLOW, network, siemens};
 use fd_cert::{Ball, CertFault, Certified, Rule, boxed, certify};
-use fd_equations::{Layout, Network, Point, Rows};
+use fd_equations::Point;
 use fd_mat::Dense;
-use fd_system::Constant;
 use std::alloc::{AllocError, Global};
 use std::process::Abort;
 use std::test::Fail;
@@ -14,46 +14,14 @@ const ONE: i128 = 0x100_0000_0000;
 
 const GREATEST_ENTRY: u128 = 0x100_0000_0000_0000;
 
-const CONSTANTS: [Constant; 1] = [Constant {
-    row: 0,
-    value: -100_000_000,
-}];
-
-// A siemens from a node to ground.
-fn siemens(alloc: Global) -> Result<Rows, AllocError>
-    ensures size { IfOk result (λ r. r.size ≡ 2) }
-    ensures loads { IfOk result (λ r. r.loads ≡ []) }
+// A multiple of the unit matrix.
+fn multiple(alloc: Global, diagonal: i128) -> Result<Dense, AllocError>
+    ensures { IfOk result (λ m. length m ≡ 2) }
 {
-    let terms = vec![in alloc;
-        Term {
-            row: 0,
-            col: 0,
-            num: 1,
-            den: 1
-        },
-        Term {
-            row: 1,
-            col: 1,
-            num: 1,
-            den: 1
-        },
-    ]?;
-    Rows::of(alloc, 2, terms, Vec::new(alloc))
-}
-
-// It takes 100 ampere: 100 volt.
-fn network<'a>(rows: &'a Rows, rt: &impl Abort) -> Network<'a>
-    requires size { rows.now.size ≡ 2 }
-    requires loads { rows.now.loads ≡ [] }
-    ensures { result.size ≡ 2 }
-{
-    assert!(rt; rows.are_within());
-    let layout = Layout {
-        nodes: 1,
-        branches: 0,
-        magnitudes: 0,
-    };
-    Network::new(layout, rows, &CONSTANTS, 0)
+    let mut matrix = Dense::zero(alloc, 2)?;
+    matrix.set(0, 0, diagonal);
+    matrix.set(1, 1, diagonal);
+    Ok(matrix)
 }
 
 // A state with a multiple of the unit matrix as its inverse.
@@ -61,12 +29,9 @@ fn answer(alloc: Global, rt: &impl Abort, re: i128, diagonal: i128) -> Result<Ce
     requires { IsPart re }
 {
     let rows = siemens(alloc)?;
-    let net = network(&rows, rt);
-    let mut inverse = Dense::zero(alloc, 2)?;
-    inverse.set(0, 0, diagonal);
-    inverse.set(1, 1, diagonal);
+    let net = network(rt, &rows, &INFLOW, 0);
+    let inverse = multiple(alloc, diagonal)?;
     let x = vec![in alloc; re, 0]?;
-    assert!(rt; inverse.size() == net.size());
     match inverse.first_column_past(GREATEST_ENTRY) {
         Some(_) => Err(CertFault::NoMemory),
         None => certify(alloc, &net, Point { x, inverse }),
@@ -89,16 +54,12 @@ fn uncertain(answer: &Result<Certified, CertFault>) -> Option<(u32, Option<i128>
 
 #[test]
 fn certified(rt: HostRuntime) -> Result<(), Fail> {
-    match answer(rt.alloc(), &rt, 100_001_000, ONE) {
-        Ok(m) => {
-            assert_eq!(rt; m.ball.centre.as_slice(), [100_001_000, 0].as_slice());
-            assert_eq!(rt; m.ball.radius.as_slice(), [2_001, 2_001].as_slice());
-            assert_eq!(rt; m.mismatch.as_slice(), [1_000, 0].as_slice());
-            assert_eq!(rt; m.boxes.as_slice(), [500_005, 500_005].as_slice());
-            assert_eq!(rt; m.inverse.size(), 2);
-        }
-        Err(_) => assert!(rt; false),
-    }
+    let made = answer(rt.alloc(), &rt, 100_001_000, ONE)?;
+    assert_eq!(rt; made.ball.centre.as_slice(), [100_001_000, 0].as_slice());
+    assert_eq!(rt; made.ball.radius.as_slice(), [2_001, 2_001].as_slice());
+    assert_eq!(rt; made.mismatch.as_slice(), [1_000, 0].as_slice());
+    assert_eq!(rt; made.boxes.as_slice(), [500_005, 500_005].as_slice());
+    assert_eq!(rt; made.inverse.size(), 2);
     Ok(())
 }
 
@@ -121,16 +82,13 @@ fn broken(
     diagonal: i128,
 ) -> Result<Option<(Rule, u32)>, AllocError> {
     let rows = siemens(alloc)?;
-    let net = network(&rows, rt);
-    let mut inverse = Dense::zero(alloc, 2)?;
-    inverse.set(0, 0, diagonal);
-    inverse.set(1, 1, diagonal);
+    let net = network(rt, &rows, &INFLOW, 0);
     let ball = Ball {
         centre: vec![in alloc; re, 0]?,
         radius: vec![in alloc; radius, radius]?,
     };
     let mismatch = vec![in alloc; mismatch, 0]?;
-    match boxed(alloc, &net, ball, mismatch, inverse)? {
+    match boxed(alloc, &net, ball, mismatch, multiple(alloc, diagonal)?)? {
         Ok(_certified) => Ok(None),
         Err(broken) => Ok(Some((broken.rule, broken.place))),
     }

@@ -1,12 +1,8 @@
 // A certificate that an independent exact model wrote, whole and with one line changed, with its answers.
-ghost use Rattle.std.specs.Prelude.{◌≡◌, [], IfOk};
-
-use fd_arith::Term;
+use crate::one_node::{INFLOW, network, siemens};
 use fd_certfile::{CertFileFault, CertReader, Claimed, Rule};
-use fd_equations::{Layout, Network, Rows};
 use fd_inject::Limits;
 use fd_settle::{Act, Solver};
-use fd_system::Constant;
 use std::alloc::{AllocError, Global};
 use std::process::Abort;
 
@@ -135,47 +131,6 @@ fn refuses_lines(rt: HostRuntime) -> Result<(), CertFileFault> {
     Ok(())
 }
 
-const CONSTANTS: [Constant; 1] = [Constant {
-    row: 0,
-    value: -100_000_000,
-}];
-
-// A siemens from a node to ground.
-fn siemens(alloc: Global) -> Result<Rows, AllocError>
-    ensures size { IfOk result (λ r. r.size ≡ 2) }
-    ensures loads { IfOk result (λ r. r.loads ≡ []) }
-{
-    let terms = vec![in alloc;
-        Term {
-            row: 0,
-            col: 0,
-            num: 1,
-            den: 1
-        },
-        Term {
-            row: 1,
-            col: 1,
-            num: 1,
-            den: 1
-        },
-    ]?;
-    Rows::of(alloc, 2, terms, Vec::new(alloc))
-}
-
-// It takes 100 ampere: 100 volt.
-fn network<'a>(rows: &'a Rows, rt: &impl Abort) -> Network<'a>
-    requires size { rows.now.size ≡ 2 }
-    requires loads { rows.now.loads ≡ [] }
-{
-    assert!(rt; rows.are_within());
-    let layout = Layout {
-        nodes: 1,
-        branches: 0,
-        magnitudes: 0,
-    };
-    Network::new(layout, rows, &CONSTANTS, 0)
-}
-
 // The centre of the first unknown in a certificate of this network with these lines of unknowns, or the refusal; and
 // the blocks that were given.
 fn solved(
@@ -190,7 +145,7 @@ fn solved(
     text.push_str(second)?;
     text.push_str("c 0 1099511627776 0\nc 1 0 1099511627776\nend\n")?;
     let rows = siemens(alloc)?;
-    let net = network(&rows, rt);
+    let net = network(rt, &rows, &INFLOW, 0);
     let limits = Limits {
         max_iterations: 15,
         tolerance: 100_000,

@@ -1,17 +1,15 @@
-ghost use Rattle.std.specs.Prelude.{◌≡◌, None, true};
-ghost use Rattle.dss_layout.specs.Layout.{first_too_many};
-
-use dss_circuit::{Circuit, Command, ModelError, ModelFault, Place, Verb};
-use dss_lexer::{PairList, Text, pairs};
-use dss_ready::ready;
+// Positions, powers and ends of the elements of small circuits.
+use crate::circuits::{Row, circuit, edit, is_ready, make, positions, solve};
+use dss_circuit::{Circuit, ModelError};
 use fd_arith::{NodeAt, TapPair};
-use fd_devices::{BankStates, Positions, Taps, ends_of, powers_at};
+use fd_devices::{Positions, ends_of, powers_at};
 use fd_elements::LoadPower;
-use std::alloc::Global;
+use std::alloc::{AllocError, Global};
+use std::process::Abort;
 use std::test::Fail;
 
 // Three phases of 160 kilowatt at a power factor of 0.8, a bank that is open, and a transformer at its taps.
-const COMMANDS: [(&str, &str, &str); 4] = [
+const ELEMENTS: [Row<'static>; 4] = [
     ("Circuit", "h", "basekv=12.47"),
     ("Load", "d", "bus1=sourcebus kv=12.47 kw=160 pf=0.8"),
     (
@@ -27,7 +25,7 @@ const COMMANDS: [(&str, &str, &str); 4] = [
 ];
 
 // A load of 120 kilowatt and 60 kilovar that follows a shape, and one of 7 kilowatt that follows none.
-const SHAPED: [(&str, &str, &str); 4] = [
+const SHAPED: [Row<'static>; 4] = [
     ("Circuit", "h", "basekv=12.47"),
     ("Loadshape", "s", "npts=2 mult=[0.25 1.5 9]"),
     (
@@ -43,77 +41,11 @@ const UNSHAPED: LoadPower = LoadPower {
     q: -2_000_000,
 };
 
-fn text(alloc: Global, of: &str) -> Result<Text, ModelError> {
-    Ok(Text::new(String::from_str(alloc, of)?))
-}
-
-fn place(alloc: Global) -> Result<Place, ModelError> {
-    Ok(Place {
-        file: text(alloc, "m.dss")?,
-        line: 1,
-    })
-}
-
-fn circuit(alloc: Global) -> Result<Circuit, ModelError> {
-    let mut circuit = Circuit::empty(alloc);
-    for (class, name, rest) in &COMMANDS {
-        add(alloc, &mut circuit, class, name, rest)?;
-    }
-    Ok(circuit)
-}
-
-fn add(
-    alloc: Global,
-    circuit: &mut Circuit,
-    class: &str,
-    name: &str,
-    rest: &str,
-) -> Result<(), ModelError> {
-    let verb = Verb::New {
-        class: text(alloc, class)?,
-        name: text(alloc, name)?,
-        pairs: pair_list(alloc, rest)?,
-    };
-    apply(alloc, circuit, verb)
-}
-
-fn pair_list(alloc: Global, of: &str) -> Result<PairList, ModelError> {
-    Ok(PairList::new(pairs(alloc, of.as_bytes())?))
-}
-
-fn apply(alloc: Global, circuit: &mut Circuit, verb: Verb) -> Result<(), ModelError> {
-    let place = place(alloc)?;
-    if circuit.solves() > 100 || circuit.elements().len() > 100 {
-        return Err(ModelError::Fault(ModelFault::TooMany));
-    }
-    circuit.apply(alloc, &Command { place, verb })
-}
-
-fn edit(
-    alloc: Global,
-    circuit: &mut Circuit,
-    class: &str,
-    name: &str,
-    rest: &str,
-) -> Result<(), ModelError> {
-    let verb = Verb::Edit {
-        class: text(alloc, class)?,
-        name: text(alloc, name)?,
-        pairs: pair_list(alloc, rest)?,
-    };
-    apply(alloc, circuit, verb)
-}
-
-fn solve(alloc: Global, circuit: &mut Circuit) -> Result<(), ModelError> {
-    let pairs = pair_list(alloc, "")?;
-    apply(alloc, circuit, Verb::Solve { pairs })
-}
-
 // P is rounded before Q is taken from it: three quarters of 53,333,333 are 39,999,999.75
 #[test]
 fn snapshot(rt: HostRuntime) -> Result<(), Fail> {
     let alloc = rt.alloc();
-    let circuit = circuit(alloc)?;
+    let circuit = circuit(alloc, &ELEMENTS)?;
     let powers = powers_at(alloc, &circuit, 0)?;
     let (p, q) = (53_333_333, 39_999_999);
     let phase = LoadPower { p, q };
@@ -132,10 +64,7 @@ fn snapshot(rt: HostRuntime) -> Result<(), Fail> {
 #[test]
 fn hours(rt: HostRuntime) -> Result<(), Fail> {
     let alloc = rt.alloc();
-    let mut circuit = Circuit::empty(alloc);
-    for (class, name, rest) in &SHAPED {
-        add(alloc, &mut circuit, class, name, rest)?;
-    }
+    let circuit = circuit(alloc, &SHAPED)?;
     for (hour, p) in [
         (0, 120_000_000),
         (1, 30_000_000),
@@ -149,35 +78,44 @@ fn hours(rt: HostRuntime) -> Result<(), Fail> {
     Ok(())
 }
 
-// The circuit with a second transformer, after a Solve.
-fn solved(alloc: Global) -> Result<Circuit, ModelError> {
-    let mut circuit = circuit(alloc)?;
-    let rest = "buses=[sourcebus c] kvs=[12.47 4.16] taps=[0.95 1.025]";
-    add(alloc, &mut circuit, "Transformer", "u", rest)?;
+// A second transformer.
+const SECOND: Row<'static> = (
+    "Transformer",
+    "u",
+    "buses=[sourcebus c] kvs=[12.47 4.16] taps=[0.95 1.025]",
+);
+
+// The circuit with a second transformer, after a Solve, and where an element was edited then, after a second one.
+fn solved(alloc: Global, edited: Option<&Row>) -> Result<Circuit, ModelError> {
+    let mut circuit = circuit(alloc, &ELEMENTS)?;
+    make(alloc, &mut circuit, 5, &SECOND)?;
     solve(alloc, &mut circuit)?;
+    if let Some(row) = edited {
+        edit(alloc, &mut circuit, row)?;
+        solve(alloc, &mut circuit)?;
+    }
     Ok(circuit)
 }
 
-// The same after these values of an element were set, and a second Solve.
-fn solved_again(alloc: Global, class: &str, name: &str, rest: &str) -> Result<Circuit, ModelError> {
-    let mut circuit = solved(alloc)?;
-    edit(alloc, &mut circuit, class, name, rest)?;
-    solve(alloc, &mut circuit)?;
-    Ok(circuit)
+fn tap_pair(first: u32, second: u32) -> TapPair {
+    TapPair { first, second }
 }
 
-// The taps and the state of the bank with which a Solve starts; before, the bank was closed.
-fn started(
+// Asserts the taps and the state of the bank with which a Solve starts. Before, the taps were these, and the bank was
+// closed.
+fn check_start(
+    rt: &impl Abort,
     alloc: Global,
     circuit: &Circuit,
+    before: &[TapPair],
     taps: &[TapPair],
-) -> Result<(Vec<TapPair>, Vec<bool>), ModelError> {
-    let before = Positions {
-        taps: Taps::new(Vec::from_slice(alloc, taps)?),
-        closed: BankStates::new(vec![in alloc; true]?),
-    };
+    closed: bool,
+) -> Result<(), AllocError> {
+    let before = positions(alloc, before, &[true])?;
     let next = Positions::next(alloc, circuit, &before)?;
-    Ok((next.taps.into_vec(), next.closed.into_vec()))
+    assert_eq!(rt; next.taps.as_slice(), taps);
+    assert_eq!(rt; next.closed.as_slice(), [closed].as_slice());
+    Ok(())
 }
 
 const BEFORE: [TapPair; 2] = [
@@ -194,64 +132,38 @@ const BEFORE: [TapPair; 2] = [
 // All is of the script at the first Solve
 #[test]
 fn first_solve(rt: HostRuntime) -> Result<(), Fail> {
-    let alloc = rt.alloc();
-    let circuit = solved(alloc)?;
-    let (taps, closed) = started(alloc, &circuit, &BEFORE)?;
-    assert_eq!(rt;
-        taps.as_slice(),
-        [tap_pair(105_000, 98_750), tap_pair(95_000, 102_500)].as_slice()
-    );
-    assert_eq!(rt; closed.as_slice(), [false].as_slice());
+    let circuit = solved(rt.alloc(), None)?;
+    let taps = [tap_pair(105_000, 98_750), tap_pair(95_000, 102_500)];
+    check_start(&rt, rt.alloc(), &circuit, &BEFORE, &taps, false)?;
     Ok(())
 }
 
 // One tap is set: it alone is of the script
 #[test]
 fn tap_set(rt: HostRuntime) -> Result<(), Fail> {
-    let alloc = rt.alloc();
-    let circuit = solved_again(alloc, "Transformer", "t", "wdg=2 tap=1.0125")?;
-    let (taps, closed) = started(alloc, &circuit, &BEFORE)?;
-    assert_eq!(rt;
-        taps.as_slice(),
-        [tap_pair(101_250, 101_250), tap_pair(98_125, 96_875)].as_slice()
-    );
-    assert_eq!(rt; closed.as_slice(), [true].as_slice());
+    let row = ("Transformer", "t", "wdg=2 tap=1.0125");
+    let circuit = solved(rt.alloc(), Some(&row))?;
+    let taps = [tap_pair(101_250, 101_250), tap_pair(98_125, 96_875)];
+    check_start(&rt, rt.alloc(), &circuit, &BEFORE, &taps, true)?;
     Ok(())
 }
 
 // The bank is set; and where there were taps of one transformer alone, those of the other are of the script
 #[test]
 fn state_set(rt: HostRuntime) -> Result<(), Fail> {
-    let alloc = rt.alloc();
-    let circuit = solved_again(alloc, "Capacitor", "k", "states=[0]")?;
-    let (taps, closed) = started(alloc, &circuit, &BEFORE[..1])?;
-    assert_eq!(rt;
-        taps.as_slice(),
-        [tap_pair(101_250, 102_500), tap_pair(95_000, 102_500)].as_slice()
-    );
-    assert_eq!(rt; closed.as_slice(), [false].as_slice());
+    let row = ("Capacitor", "k", "states=[0]");
+    let circuit = solved(rt.alloc(), Some(&row))?;
+    let taps = [tap_pair(101_250, 102_500), tap_pair(95_000, 102_500)];
+    check_start(&rt, rt.alloc(), &circuit, &BEFORE[..1], &taps, false)?;
     Ok(())
 }
 
-fn tap_pair(first: u32, second: u32) -> TapPair {
-    TapPair { first, second }
-}
-
-// Whether the circuit passes the tests of Solve, and so no limit on its unknowns.
-fn is_ready(alloc: Global, circuit: &Circuit) -> bool
-    ensures { result ≡ true → first_too_many circuit.now.elements ≡ None }
-{
-    match ready(alloc, circuit) {
-        Ok(()) => true,
-        Err(_) => false,
-    }
-}
-
-// The nodes of sourcebus come first, those of b after them; the branches of the source come before those of the transformer.
+// The nodes of sourcebus come first, those of b after them; the branches of the source come before those of the
+// transformer.
 #[test]
 fn ends(rt: HostRuntime) -> Result<(), Fail> {
     let alloc = rt.alloc();
-    let circuit = circuit(alloc)?;
+    let circuit = circuit(alloc, &ELEMENTS)?;
     assert!(rt; circuit.elements().len() > 3 && is_ready(alloc, &circuit));
     let ends = ends_of(alloc, &circuit, 3)?;
     let at = [NodeAt::Node(3), NodeAt::Node(4), NodeAt::Node(5)];

@@ -1,10 +1,12 @@
+// Worked networks of one node and of two loads.
 ghost use Rattle.std.specs.Prelude.{◌≡◌, [], All, IfOk, None};
 ghost use Rattle.fd_equations.specs.Conditions.{AreApart, IsServed};
 ghost use Rattle.fd_equations.specs.Terminals.{IsConnected};
 
+use crate::matrices::entry;
+use crate::one_node::network;
 use fd_arith::{NodeAt, Term};
 use fd_equations::{Layout, Network, PlaceKind, Rows};
-use fd_mat::Dense;
 use fd_system::{Constant, LoadAt, LoadPhase};
 use std::alloc::{AllocError, Global};
 use std::process::Abort;
@@ -41,25 +43,10 @@ fn sample(alloc: Global) -> Result<Rows, AllocError>
     Rows::of(alloc, 2, terms, Vec::new(alloc))
 }
 
-// The network of these contributions and a constant: two parts of a node.
-fn sample_network<'a>(rows: &'a Rows, rt: &impl Abort) -> Network<'a>
-    requires size { rows.now.size ≡ 2 }
-    requires loads { rows.now.loads ≡ [] }
-    ensures { result.size ≡ 2 }
-{
-    assert!(rt; rows.are_within());
-    let layout = Layout {
-        nodes: 1,
-        branches: 0,
-        magnitudes: 0,
-    };
-    Network::new(layout, rows, &CONSTANTS, 2_000_000)
-}
-
 // The ends of the residual of the first row at 30 and -0.000041 volt.
 fn first_residual(alloc: Global, rt: &impl Abort) -> Result<Option<(i128, i128)>, AllocError> {
     let rows = sample(alloc)?;
-    let network = sample_network(&rows, rt);
+    let network = network(rt, &rows, &CONSTANTS, 2_000_000);
     let residual = network.residual(alloc, &[30_000_000, -41])?;
     match residual.first() {
         Some(row) => Ok(row.ends()),
@@ -70,7 +57,7 @@ fn first_residual(alloc: Global, rt: &impl Abort) -> Result<Option<(i128, i128)>
 // The constants, the rounded residual and the weights there.
 fn lists(alloc: Global, rt: &impl Abort) -> Result<[Vec<i128>; 3], AllocError> {
     let rows = sample(alloc)?;
-    let network = sample_network(&rows, rt);
+    let network = network(rt, &rows, &CONSTANTS, 2_000_000);
     let x = [30_000_000, -41];
     Ok([
         network.constants(alloc)?,
@@ -103,7 +90,7 @@ fn sparse_rows(rt: HostRuntime) -> Result<(), Fail> {
 #[test]
 fn networks(rt: HostRuntime) -> Result<(), Fail> {
     let rows = sample(rt.alloc())?;
-    let network = sample_network(&rows, &rt);
+    let network = network(&rt, &rows, &CONSTANTS, 2_000_000);
     assert_eq!(rt; (network.size(), network.kind(1)), (2, PlaceKind::Node));
     assert_eq!(rt;
         (
@@ -208,14 +195,6 @@ const AT: [i128; 5] = [
 ];
 
 const LOW: [i128; 5] = [200_000_000, 0, 0, 0, 300_000_000];
-
-fn entry(matrix: &Dense, row: u32, col: u32) -> i128 {
-    if row < matrix.size() && col < matrix.size() {
-        matrix.get(row, col)
-    } else {
-        0
-    }
-}
 
 fn load_rows(alloc: Global, rt: &impl Abort) -> Result<[Vec<i128>; 2], AllocError> {
     let rows = both_loads(alloc)?;

@@ -1,3 +1,4 @@
+// Generated scripts.
 use fd_gen::*;
 use std::test::Fail;
 

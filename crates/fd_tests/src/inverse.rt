@@ -1,4 +1,4 @@
-// Tests: worked values, and the same elimination written plainly on a list of rows.
+// Worked values, and the same elimination written plainly on a list of rows.
 
 use fd_inverse::{InverseFault, Stop, invert};
 use fd_mat::Dense;

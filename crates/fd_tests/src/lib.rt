@@ -1,8 +1,10 @@
-// Unit tests of the libraries: worked values, corners of inputs, and calls compared with the same work written plainly, for what the cases of
-// the top call don't reach.
+// Unit tests of the libraries: worked values, corners of inputs, and calls compared with the same work written plainly,
+// for what the cases of the top call don't reach.
 //
-// They stand in a crate of their own, since a crate with tests is proved twice: once as it is, once with its tests. Each module has the
-// tests of the library that it is named for.
+// They stand in a crate of their own, since a crate with tests is proved twice: once as it is, and once with its tests.
+// Each module has the tests of the library that it is named for. What several of them stand on has modules of its own:
+// `circuits` makes small circuits, `contributions` the ends of elements, `matrices` reads entries, and `one_node` has the
+// networks of one node.
 #![tactic(auto)]
 
 #[cfg(test)]
@@ -18,6 +20,10 @@ mod cert;
 #[cfg(test)]
 mod certfile;
 #[cfg(test)]
+mod circuits;
+#[cfg(test)]
+mod contributions;
+#[cfg(test)]
 mod devices;
 #[cfg(test)]
 mod equations;
@@ -30,7 +36,11 @@ mod lexer;
 #[cfg(test)]
 mod mat;
 #[cfg(test)]
+mod matrices;
+#[cfg(test)]
 mod network;
+#[cfg(test)]
+mod one_node;
 #[cfg(test)]
 mod outside;
 #[cfg(test)]

@@ -1,3 +1,4 @@
+// Files, readers, writers and records in memory.
 use fd_outside::*;
 use std::alloc::{AllocError, Global};
 use std::io::{ErrorKind, Read, Write};

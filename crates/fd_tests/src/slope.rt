@@ -1,3 +1,4 @@
+// Worked radii of slopes.
 ghost use Rattle.std.specs.Prelude.{◌≡◌, pos};
 
 use fd_slope::load_slope;
@@ -8,7 +9,14 @@ const VOLT: i128 = 1_000_000;
 
 // 9 kilowatt and 3 kilovar at 1000 volt, with limits of 850 and 1100 volt
 fn load(model: u8) -> LoadPhase
-    ensures { result ≡ record { model = model; p = pos 9000000; q = pos 3000000; vn = pos 1000000000; vlo = pos 850000000; vhi = pos 1100000000 } }
+    ensures { result ≡ record {
+      model = model;
+      p = pos 9000000;
+      q = pos 3000000;
+      vn = pos 1000000000;
+      vlo = pos 850000000;
+      vhi = pos 1100000000;
+    } }
 {
     LoadPhase {
         model,

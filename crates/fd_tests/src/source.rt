@@ -1,13 +1,19 @@
+// Worked sources.
 ghost use Rattle.std.specs.Prelude.{◌≡◌, pos};
 
-use fd_arith::{Ends, NodeAt, Nodes, TermFault};
+use crate::contributions::{GIGA, THREE, ends, numbers};
+use fd_arith::{NodeAt, TermFault};
 use fd_source::{Ohms, ShortCircuit, SourceData, source_ohms, source_terms};
 use std::test::Fail;
 
-const GIGA: i128 = 1_000_000_000;
-
 fn short_circuit(mvasc3: i128, mvasc1: i128) -> ShortCircuit
-    ensures { result ≡ record { basekv = pos 115000000000; mvasc3 = mvasc3; mvasc1 = mvasc1; x1r1 = pos 4000000000; x0r0 = pos 3000000000 } }
+    ensures { result ≡ record {
+      basekv = pos 115000000000;
+      mvasc3 = mvasc3;
+      mvasc1 = mvasc1;
+      x1r1 = pos 4000000000;
+      x0r0 = pos 3000000000;
+    } }
 {
     ShortCircuit {
         basekv: 115 * GIGA,
@@ -18,8 +24,8 @@ fn short_circuit(mvasc3: i128, mvasc1: i128) -> ShortCircuit
     }
 }
 
-// 115 kilovolt and 20,000 megavolt-ampere; with ten times the power to ground there is no zero sequence resistance; and below
-// 1.3225 megavolt-ampere the impedance is above 10^4 ohm
+// 115 kilovolt and 20,000 megavolt-ampere; with ten times the power to ground there is no zero sequence resistance; and
+// below 1.3225 megavolt-ampere the impedance is above 10^4 ohm
 #[test]
 fn impedances(rt: HostRuntime) -> Result<(), Fail> {
     let ohms = source_ohms(&short_circuit(20_000 * GIGA, 21_000 * GIGA))?;
@@ -40,12 +46,7 @@ fn impedances(rt: HostRuntime) -> Result<(), Fail> {
 #[test]
 fn three_phases(rt: HostRuntime) -> Result<(), Fail> {
     let alloc = rt.alloc();
-    let nodes = vec![in alloc; NodeAt::Node(0), NodeAt::Node(1), NodeAt::Node(2)]?;
-    let at = Ends {
-        first: Nodes::new(nodes),
-        second: Nodes::new(Vec::new(alloc)),
-        branch: 3,
-    };
+    let at = ends(alloc, &THREE, &[], 3)?;
     let source = SourceData {
         phases: 3,
         volts: GIGA,
@@ -62,12 +63,9 @@ fn three_phases(rt: HostRuntime) -> Result<(), Fail> {
     let voltages = [866_025_404, half, 0, -GIGA, -866_025_404, half];
     assert_eq!(rt; added.constants.as_slice(), voltages.as_slice());
     assert_eq!(rt; added.terms.len(), 30);
-    let (own, mutual) = (added.terms[2], added.terms[4]);
-    assert_eq!(rt; (own.row, own.col, own.num), (6, 6, -500_000_000_000));
-    assert_eq!(rt;
-        (mutual.row, mutual.col, mutual.num),
-        (6, 8, -200_000_000_000)
-    );
+    let (own, mutual) = (numbers(&added.terms[2]), numbers(&added.terms[4]));
+    assert_eq!(rt; own, (6, 6, -500_000_000_000));
+    assert_eq!(rt; mutual, (6, 8, -200_000_000_000));
     Ok(())
 }
 
@@ -75,11 +73,7 @@ fn three_phases(rt: HostRuntime) -> Result<(), Fail> {
 #[test]
 fn out_of_range(rt: HostRuntime) -> Result<(), Fail> {
     let alloc = rt.alloc();
-    let at = Ends {
-        first: Nodes::new(vec![in alloc; NodeAt::Node(0)]?),
-        second: Nodes::new(Vec::new(alloc)),
-        branch: 1,
-    };
+    let at = ends(alloc, &[NodeAt::Node(0)], &[], 1)?;
     let (r1, r0) = (30_000 * GIGA, 30_000 * GIGA);
     let source = SourceData {
         phases: 1,

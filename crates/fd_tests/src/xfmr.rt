@@ -1,8 +1,18 @@
-use fd_arith::{Conn, Ends, NodeAt, Nodes, TapPair, TermFault};
+// Worked transformers.
+use crate::contributions::{GIGA, THREE, ends, numbers};
+use fd_arith::{Conn, NodeAt, TapPair, TermFault};
 use fd_xfmr::{XfmrData, xfmr_terms};
 use std::test::Fail;
 
-const GIGA: i128 = 1_000_000_000;
+// One phase between a node and ground on each side.
+const FIRST: [NodeAt; 2] = [NodeAt::Node(0), NodeAt::Ground];
+
+const SECOND: [NodeAt; 2] = [NodeAt::Node(1), NodeAt::Ground];
+
+const NOMINAL: TapPair = TapPair {
+    first: 100_000,
+    second: 100_000,
+};
 
 // 2.4 kilovolt, 1000 kilovolt-ampere, 0.4 + j 1 percent: 0.02304 + j 0.0576 ohm, times the square of the tap 1.0375
 const RATIO: i128 = 249_000_000_000_000;
@@ -29,11 +39,7 @@ const NUMBERS: [(u32, u32, i128); 12] = [
 #[test]
 fn one_phase(rt: HostRuntime) -> Result<(), Fail> {
     let alloc = rt.alloc();
-    let at = Ends {
-        first: Nodes::new(vec![in alloc; NodeAt::Node(0), NodeAt::Ground]?),
-        second: Nodes::new(vec![in alloc; NodeAt::Node(1), NodeAt::Ground]?),
-        branch: 2,
-    };
+    let at = ends(alloc, &FIRST, &SECOND, 2)?;
     let xfmr = XfmrData {
         phases: 1,
         conn: [Conn::Wye, Conn::Wye],
@@ -48,8 +54,8 @@ fn one_phase(rt: HostRuntime) -> Result<(), Fail> {
     };
     let terms = xfmr_terms(alloc, &xfmr, taps, &at)?;
     assert_eq!(rt; terms.len(), NUMBERS.len());
-    for (term, number) in terms.iter().zip(NUMBERS) {
-        assert_eq!(rt; (term.row, term.col, term.num), number);
+    for (term, due) in terms.iter().zip(&NUMBERS) {
+        assert_eq!(rt; numbers(term), *due);
     }
     assert_eq!(rt; terms[0].den, 240_000_000_000_000);
     Ok(())
@@ -60,13 +66,8 @@ fn one_phase(rt: HostRuntime) -> Result<(), Fail> {
 #[test]
 fn delta_wye(rt: HostRuntime) -> Result<(), Fail> {
     let alloc = rt.alloc();
-    let first = vec![in alloc; NodeAt::Node(0), NodeAt::Node(1), NodeAt::Node(2)]?;
-    let second = vec![in alloc; NodeAt::Node(3), NodeAt::Node(4), NodeAt::Node(5)]?;
-    let at = Ends {
-        first: Nodes::new(first),
-        second: Nodes::new(second),
-        branch: 6,
-    };
+    let second = [NodeAt::Node(3), NodeAt::Node(4), NodeAt::Node(5)];
+    let at = ends(alloc, &THREE, &second, 6)?;
     let xfmr = XfmrData {
         phases: 3,
         conn: [Conn::Delta, Conn::Wye],
@@ -75,19 +76,12 @@ fn delta_wye(rt: HostRuntime) -> Result<(), Fail> {
         pct_r: [500_000, 500_000],
         xhl: 8_000_000,
     };
-    let taps = TapPair {
-        first: 100_000,
-        second: 100_000,
-    };
-    let terms = xfmr_terms(alloc, &xfmr, taps, &at)?;
+    let terms = xfmr_terms(alloc, &xfmr, NOMINAL, &at)?;
     assert_eq!(rt; terms.len(), 48);
-    let (own, before) = (terms[0], terms[2]);
-    assert_eq!(rt; (own.row, own.col, own.num), (12, 0, 240_177_712_000_000));
-    assert_eq!(rt; own.den, 11_500_000_000_000_000);
-    assert_eq!(rt;
-        (before.row, before.col, before.num),
-        (12, 4, -240_177_712_000_000)
-    );
+    let (own, before) = (numbers(&terms[0]), numbers(&terms[2]));
+    assert_eq!(rt; own, (12, 0, 240_177_712_000_000));
+    assert_eq!(rt; terms[0].den, 11_500_000_000_000_000);
+    assert_eq!(rt; before, (12, 4, -240_177_712_000_000));
     let (r, x) = (terms[6], terms[7]);
     assert_eq!(rt; r.num, -346_112_000_000_000_000);
     assert_eq!(rt; (x.col, x.num), (13, 2_768_896_000_000_000_000));
@@ -98,11 +92,7 @@ fn delta_wye(rt: HostRuntime) -> Result<(), Fail> {
 #[test]
 fn out_of_range(rt: HostRuntime) -> Result<(), Fail> {
     let alloc = rt.alloc();
-    let at = Ends {
-        first: Nodes::new(vec![in alloc; NodeAt::Node(0), NodeAt::Ground]?),
-        second: Nodes::new(vec![in alloc; NodeAt::Node(1), NodeAt::Ground]?),
-        branch: 2,
-    };
+    let at = ends(alloc, &FIRST, &SECOND, 2)?;
     let xfmr = XfmrData {
         phases: 1,
         conn: [Conn::Wye, Conn::Wye],
@@ -111,11 +101,7 @@ fn out_of_range(rt: HostRuntime) -> Result<(), Fail> {
         pct_r: [0, 0],
         xhl: GIGA,
     };
-    let taps = TapPair {
-        first: 100_000,
-        second: 100_000,
-    };
-    let fault = xfmr_terms(alloc, &xfmr, taps, &at).err();
+    let fault = xfmr_terms(alloc, &xfmr, NOMINAL, &at).err();
     assert_eq!(rt; fault, Some(TermFault::Range));
     Ok(())
 }
