@@ -1,7 +1,10 @@
 // Small feeders with their bases.
+use crate::checks::same;
 use crate::circuits::{Row, circuit, set};
 use dss_circuit::ModelError;
-use fd_bases::{BusBase, bases};
+use fd_bases::bases;
+use std::alloc::Global;
+use std::process::Abort;
 
 // A source of one phase at 1 kV: 1.73 over root three is nearer to that than 4.16 over root three.
 const ONE_PHASE: [Row<'static>; 2] = [
@@ -33,47 +36,44 @@ const WALK: [Row<'static>; 7] = [
     ("Line", "y", "bus1=nowhere bus2=else"),
 ];
 
-fn are(found: &[BusBase], due: &[(&str, i128)]) -> bool {
+// Asserts the bases of a feeder, of which it has none before these options are set.
+fn check(
+    rt: &impl Abort,
+    alloc: Global,
+    rows: &[Row],
+    options: &str,
+    due: &[(&str, i128)],
+) -> Result<(), ModelError> {
+    let mut feeder = circuit(alloc, rows)?;
+    same(rt, bases(alloc, &feeder)?.len(), 0);
+    set(alloc, &mut feeder, options)?;
+    let found = bases(alloc, &feeder)?;
+    same(rt, found.len(), due.len());
     for (base, (bus, kv)) in found.iter().zip(due) {
-        if base.bus.as_str() != *bus || base.kv != *kv {
-            return false;
-        }
+        same(rt, (base.bus.as_str(), base.kv), (*bus, *kv));
     }
-    found.len() == due.len()
+    Ok(())
 }
+
+const NEAREST: [(&str, i128); 2] = [("sourcebus", 1_730_000_000), ("b", 1_730_000_000)];
 
 #[test]
 fn finds_the_nearest_base(rt: HostRuntime) -> Result<(), ModelError> {
-    let alloc = rt.alloc();
-    let mut feeder = circuit(alloc, &ONE_PHASE)?;
-    assert!(rt; bases(alloc, &feeder)?.is_empty());
-    set(alloc, &mut feeder, "voltagebases=[4.16 1.73]")?;
-    assert!(rt;
-        are(
-            &bases(alloc, &feeder)?,
-            &[("sourcebus", 1_730_000_000), ("b", 1_730_000_000)]
-        )
-    );
-    Ok(())
+    let options = "voltagebases=[4.16 1.73]";
+    check(&rt, rt.alloc(), &ONE_PHASE, options, &NEAREST)
 }
+
+const WALKED: [(&str, i128); 6] = [
+    ("sourcebus", 4_160_000_000),
+    ("m", 4_160_000_000),
+    ("n", 480_000_000),
+    ("o", 208_000_000),
+    ("p", 480_000_000),
+    ("far", 4_160_000_000),
+];
 
 #[test]
 fn walks_to_every_bus(rt: HostRuntime) -> Result<(), ModelError> {
-    let alloc = rt.alloc();
-    let mut feeder = circuit(alloc, &WALK)?;
-    set(alloc, &mut feeder, "voltagebases=[0.208 4.16 0.48]")?;
-    assert!(rt;
-        are(
-            &bases(alloc, &feeder)?,
-            &[
-                ("sourcebus", 4_160_000_000),
-                ("m", 4_160_000_000),
-                ("n", 480_000_000),
-                ("o", 208_000_000),
-                ("p", 480_000_000),
-                ("far", 4_160_000_000),
-            ]
-        )
-    );
-    Ok(())
+    let options = "voltagebases=[0.208 4.16 0.48]";
+    check(&rt, rt.alloc(), &WALK, options, &WALKED)
 }

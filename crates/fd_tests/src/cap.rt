@@ -2,6 +2,7 @@
 ghost use Rattle.fd_system.specs.Terminals.{IsSide, node_count};
 ghost use Rattle.fd_cap.specs.Capacitor.{IsCap};
 
+use crate::checks::same;
 use crate::contributions::{GIGA, THREE, ends, numbers};
 use fd_arith::{Conn, NodeAt, TermFault};
 use fd_cap::{CapData, cap_draw, cap_terms};
@@ -25,10 +26,10 @@ fn check(
     requires nodes { IsSide (node_count bank.now.phases) nodes.now }
 {
     let terms = cap_terms(alloc, bank, true, &ends(alloc, nodes, &[], 0)?)?;
-    assert_eq!(rt; terms.len(), count);
+    same(rt, terms.len(), count);
     for (term, due) in terms.iter().rev().zip(last.iter().rev()) {
-        assert_eq!(rt; numbers(term), *due);
-        assert_eq!(rt; term.den, denominator);
+        same(rt, numbers(term), *due);
+        same(rt, term.den, denominator);
     }
     Ok(())
 }
@@ -55,7 +56,7 @@ fn three_phases_in_wye(rt: HostRuntime) -> Result<(), Fail> {
     };
     let denominator = 17_305_600_002_466_483_200;
     check(&rt, rt.alloc(), &bank, &THREE, 6, &WYE, denominator)?;
-    assert_eq!(rt; cap_draw(&bank, true), 249_815_022);
+    same(&rt, cap_draw(&bank, true), 249_815_022);
     Ok(())
 }
 
@@ -90,7 +91,7 @@ fn three_phases_in_delta(rt: HostRuntime) -> Result<(), Fail> {
         &DELTA_PHASE,
         denominator,
     )?;
-    assert_eq!(rt; cap_draw(&bank, true), 144_230_772);
+    same(&rt, cap_draw(&bank, true), 144_230_772);
     Ok(())
 }
 
@@ -126,10 +127,10 @@ fn one_phase(rt: HostRuntime) -> Result<(), Fail> {
         &ONE_PHASE,
         5_760_000_000_000_000_000,
     )?;
-    assert_eq!(rt; cap_draw(&bank, true), 41_666_667);
+    same(&rt, cap_draw(&bank, true), 41_666_667);
     let at = ends(alloc, &TWO, &[], 0)?;
-    assert_eq!(rt; cap_terms(alloc, &bank, false, &at)?.len(), 0);
-    assert_eq!(rt; cap_draw(&bank, false), 0);
+    same(&rt, cap_terms(alloc, &bank, false, &at)?.len(), 0);
+    same(&rt, cap_draw(&bank, false), 0);
     Ok(())
 }
 
@@ -144,10 +145,8 @@ fn out_of_range(rt: HostRuntime) -> Result<(), Fail> {
         kv: 10_000_000,
     };
     let at = ends(alloc, &TWO, &[], 0)?;
-    assert_eq!(rt;
-        cap_terms(alloc, &bank, true, &at).err(),
-        Some(TermFault::Range)
-    );
-    assert_eq!(rt; cap_draw(&bank, true), 10_000_000_000_000);
+    let fault = cap_terms(alloc, &bank, true, &at).err();
+    same(&rt, fault, Some(TermFault::Range));
+    same(&rt, cap_draw(&bank, true), 10_000_000_000_000);
     Ok(())
 }

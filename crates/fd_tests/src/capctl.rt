@@ -1,4 +1,6 @@
 // Worked banks.
+use crate::checks::same;
+use crate::queue::entry;
 use fd_capctl::CapState;
 use fd_queue::{Queue, Verdict};
 use std::test::Fail;
@@ -11,11 +13,11 @@ fn a_bank_waits_for_its_dead_time(rt: HostRuntime) -> Result<(), Fail> {
     let mut second = Queue::with_room(rt.alloc(), 1)?;
     let mut closed = true;
     state.react(Verdict::Lower { steps: 1 }, 3_600_000, &mut first);
-    assert_eq!(rt; first.find(0).map(|entry| entry.time), Some(3_615_000));
-    assert_eq!(rt; state.act(3_615_000, &mut closed), -1);
-    assert_eq!(rt; closed, false);
-    assert_eq!(rt; state.opened(), Some(3_615_000));
+    same(&rt, first.find(0), Some(entry(3_615_000, 0, 0, false)));
+    same(&rt, state.act(3_615_000, &mut closed), -1);
+    same(&rt, closed, false);
+    same(&rt, state.opened(), Some(3_615_000));
     state.react(Verdict::Raise { steps: 1 }, 7_200_000, &mut second);
-    assert_eq!(rt; second.find(0).map(|entry| entry.time), Some(7_615_000));
+    same(&rt, second.find(0), Some(entry(7_615_000, 0, 0, true)));
     Ok(())
 }

@@ -1,4 +1,5 @@
 // A certificate that an independent exact model wrote, whole and with one line changed, with its answers.
+use crate::checks::{holds, same, same_at};
 use crate::one_node::{INFLOW, network, siemens};
 use fd_certfile::{CertFileFault, CertReader, Claimed, Rule};
 use fd_inject::Limits;
@@ -42,7 +43,8 @@ fn with_line(alloc: Global, at: usize, line: &str) -> Result<String, AllocError>
     Ok(text)
 }
 
-// The sum of the centres, of each radius times its number, and of each entry times its row and its column.
+// The sum of the centres, of each radius times its number, and of each entry times its row and its column, which are
+// counted from 1 and from 2.
 fn sums(claimed: &Claimed) -> (i128, i128, i128) {
     let (mut centres, mut radii, mut entries): (i128, i128, i128) = (0, 0, 0);
     let mut number: i128 = 0;
@@ -76,18 +78,17 @@ fn act(time: u64, control: u32, steps: i32) -> Act {
 fn reads_a_certificate(rt: HostRuntime) -> Result<(), CertFileFault> {
     let alloc = rt.alloc();
     let text = with_line(alloc, 100, "")?;
+    let acts = [act(15000, 0, -6), act(15000, 1, 16)];
+    let others = [act(15000, 0, -6), act(15000, 1, 15)];
     let mut reader = CertReader::open(alloc, text.as_bytes())?;
     let claimed = reader.next_block(alloc, 8)?;
-    assert_eq!(rt; sums(&claimed), (1550000000, 995, 10555311626464));
-    assert_eq!(rt; reader.finish()?, 1);
-    let acts = [act(15000, 0, -6), act(15000, 1, 16)];
-    assert_eq!(rt; reader.given(), 1);
-    if reader.given() == 1 {
-        assert_eq!(rt; reader.rule_line(0), 19);
-        assert!(rt; reader.acts_hold(0, &acts));
-        assert!(rt; !reader.acts_hold(0, &acts[..1]));
-        assert!(rt; !reader.acts_hold(0, &[act(15000, 0, -6), act(15000, 1, 15)]));
-    }
+    same(&rt, sums(&claimed), (1550000000, 995, 10555311626464));
+    same(&rt, reader.finish()?, 1);
+    holds(&rt, reader.given() == 1);
+    same(&rt, reader.rule_line(0), 19);
+    holds(&rt, reader.acts_hold(0, &acts));
+    holds(&rt, !reader.acts_hold(0, &acts[..1]));
+    holds(&rt, !reader.acts_hold(0, &others));
     Ok(())
 }
 
@@ -106,27 +107,29 @@ fn read_all(alloc: Global, text: &str) -> Result<u64, CertFileFault> {
     reader.finish()
 }
 
+// A line by its number, what stands there instead, and the line and the rule of the refusal.
+const CHANGED: [(usize, &str, (u64, Option<Rule>)); 14] = [
+    (1, "cert 2", (1, Some(Rule::Grammar))),
+    (2, "solution 1 0 0", (2, Some(Rule::Grammar))),
+    (2, "solution 1 0 0 9", (11, Some(Rule::Grammar))),
+    (2, "solution 2 0 0 8", (2, Some(Rule::Size))),
+    (2, "end", (2, Some(Rule::Count))),
+    (5, "x 3 500000000 11 1", (5, Some(Rule::Grammar))),
+    (4, "x 1 0 020 0", (4, Some(Rule::Grammar))),
+    (10, "x 7 0 33 -0", (10, Some(Rule::Grammar))),
+    (11, "c 0 1 2 3 4 5 6 7", (11, Some(Rule::Grammar))),
+    (11, "c 0 1 2 3 4 5 6 7 8 9", (11, Some(Rule::Grammar))),
+    (20, "act 15000 1", (20, Some(Rule::Grammar))),
+    (20, "end", (21, Some(Rule::Grammar))),
+    (21, "solution 1 0 1 8", (21, Some(Rule::Count))),
+    (100, "", (1, None)),
+];
+
 #[test]
 fn refuses_lines(rt: HostRuntime) -> Result<(), CertFileFault> {
-    let alloc = rt.alloc();
-    for (at, line, want) in [
-        (1, "cert 2", (1, Some(Rule::Grammar))),
-        (2, "solution 1 0 0", (2, Some(Rule::Grammar))),
-        (2, "solution 1 0 0 9", (11, Some(Rule::Grammar))),
-        (2, "solution 2 0 0 8", (2, Some(Rule::Size))),
-        (2, "end", (2, Some(Rule::Count))),
-        (5, "x 3 500000000 11 1", (5, Some(Rule::Grammar))),
-        (4, "x 1 0 020 0", (4, Some(Rule::Grammar))),
-        (10, "x 7 0 33 -0", (10, Some(Rule::Grammar))),
-        (11, "c 0 1 2 3 4 5 6 7", (11, Some(Rule::Grammar))),
-        (11, "c 0 1 2 3 4 5 6 7 8 9", (11, Some(Rule::Grammar))),
-        (20, "act 15000 1", (20, Some(Rule::Grammar))),
-        (20, "end", (21, Some(Rule::Grammar))),
-        (21, "solution 1 0 1 8", (21, Some(Rule::Count))),
-        (100, "", (1, None)),
-    ] {
-        let text = with_line(alloc, at, line)?;
-        assert!(rt; refusal(alloc, &text)? == want);
+    for (number, line, due) in &CHANGED {
+        let text = with_line(rt.alloc(), *number, line)?;
+        same_at(&rt, line, refusal(rt.alloc(), &text)?, *due);
     }
     Ok(())
 }
@@ -162,33 +165,36 @@ fn solved(
     Ok((answer, reader.given()))
 }
 
+// The line of the first unknown and that of the second, and what is solved by them.
+const UNKNOWNS: [(&str, &str, ((i128, u64, Option<Rule>), u64)); 4] = [
+    (
+        "x 0 100001000 2001 1000\n",
+        SECOND,
+        ((100001000, 0, None), 1),
+    ),
+    (
+        "x 0 100001000 -2001 1000\n",
+        SECOND,
+        ((0, 3, Some(Rule::Range)), 0),
+    ),
+    (
+        "x 0 100001000 2001 -1\n",
+        SECOND,
+        ((0, 3, Some(Rule::Mismatch)), 0),
+    ),
+    (
+        "x 0 100001000 2001 1000\n",
+        "x 1 0 2000 0\n",
+        ((0, 4, Some(Rule::Radius)), 0),
+    ),
+];
+
+const SECOND: &str = "x 1 0 2001 0\n";
+
 #[test]
 fn solves(rt: HostRuntime) -> Result<(), CertFileFault> {
-    let alloc = rt.alloc();
-    let second = "x 1 0 2001 0\n";
-    for (first, second, want) in [
-        (
-            "x 0 100001000 2001 1000\n",
-            second,
-            ((100001000, 0, None), 1),
-        ),
-        (
-            "x 0 100001000 -2001 1000\n",
-            second,
-            ((0, 3, Some(Rule::Range)), 0),
-        ),
-        (
-            "x 0 100001000 2001 -1\n",
-            second,
-            ((0, 3, Some(Rule::Mismatch)), 0),
-        ),
-        (
-            "x 0 100001000 2001 1000\n",
-            "x 1 0 2000 0\n",
-            ((0, 4, Some(Rule::Radius)), 0),
-        ),
-    ] {
-        assert!(rt; solved(alloc, &rt, first, second)? == want);
+    for (first, second, due) in &UNKNOWNS {
+        same_at(&rt, first, solved(rt.alloc(), &rt, first, second)?, *due);
     }
     Ok(())
 }

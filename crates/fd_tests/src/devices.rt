@@ -1,10 +1,11 @@
 // Positions, powers and ends of the elements of small circuits.
+use crate::checks::{holds, same};
 use crate::circuits::{Row, circuit, edit, is_ready, make, positions, solve};
 use dss_circuit::{Circuit, ModelError};
 use fd_arith::{NodeAt, TapPair};
 use fd_devices::{Positions, ends_of, powers_at};
 use fd_elements::LoadPower;
-use std::alloc::{AllocError, Global};
+use std::alloc::Global;
 use std::process::Abort;
 use std::test::Fail;
 
@@ -42,38 +43,51 @@ const UNSHAPED: LoadPower = LoadPower {
 };
 
 // P is rounded before Q is taken from it: three quarters of 53,333,333 are 39,999,999.75
+const PHASE: LoadPower = LoadPower {
+    p: 53_333_333,
+    q: 39_999_999,
+};
+
 #[test]
 fn snapshot(rt: HostRuntime) -> Result<(), Fail> {
     let alloc = rt.alloc();
     let circuit = circuit(alloc, &ELEMENTS)?;
     let powers = powers_at(alloc, &circuit, 0)?;
-    let (p, q) = (53_333_333, 39_999_999);
-    let phase = LoadPower { p, q };
-    assert_eq!(rt; powers.loads.as_slice(), [phase, phase, phase].as_slice());
+    same(&rt, powers.loads.as_slice(), &[PHASE, PHASE, PHASE]);
     let positions = Positions::of(alloc, &circuit)?;
-    let (first, second) = (105_000, 98_750);
-    assert_eq!(rt;
-        positions.taps.as_slice(),
-        [TapPair { first, second }].as_slice()
-    );
-    assert_eq!(rt; positions.closed.as_slice(), [false].as_slice());
+    check_positions(&rt, &positions, &[(105_000, 98_750)], false);
     Ok(())
 }
 
-// A shape of two points, 0.25 and 1.5, of three numbers: P is 120 kilowatt in all times the point, and Q is half of it.
+// Asserts the taps of transformers and the state of a bank.
+fn check_positions(rt: &impl Abort, found: &Positions, taps: &[(u32, u32)], closed: bool) {
+    same(rt, found.taps.as_slice().len(), taps.len());
+    for (found, due) in found.taps.as_slice().iter().zip(taps) {
+        same(rt, (found.first, found.second), *due);
+    }
+    same(rt, found.closed.as_slice(), &[closed]);
+}
+
+// P of the first load at hours: its shape has two points, 0.25 and 1.5, of three numbers, and P is 120 kilowatt in all
+// times the point. Q is half of P.
+const HOURS: [(u32, i128); 4] = [
+    (0, 120_000_000),
+    (1, 30_000_000),
+    (2, 180_000_000),
+    (3, 30_000_000),
+];
+
 #[test]
 fn hours(rt: HostRuntime) -> Result<(), Fail> {
-    let alloc = rt.alloc();
-    let circuit = circuit(alloc, &SHAPED)?;
-    for (hour, p) in [
-        (0, 120_000_000),
-        (1, 30_000_000),
-        (2, 180_000_000),
-        (3, 30_000_000),
-    ] {
-        let powers = powers_at(alloc, &circuit, hour)?;
-        let phase = LoadPower { p, q: p / 2 };
-        assert_eq!(rt; powers.loads.as_slice(), [phase, UNSHAPED].as_slice());
+    let circuit = circuit(rt.alloc(), &SHAPED)?;
+    for (hour, p) in &HOURS {
+        let powers = powers_at(rt.alloc(), &circuit, *hour)?;
+        let (p, q) = (*p, *p / 2);
+        same(
+            &rt,
+            powers.loads.as_slice(),
+            &[LoadPower { p, q }, UNSHAPED],
+        );
     }
     Ok(())
 }
@@ -86,7 +100,7 @@ const SECOND: Row<'static> = (
 );
 
 // The circuit with a second transformer, after a Solve, and where an element was edited then, after a second one.
-fn solved(alloc: Global, edited: Option<&Row>) -> Result<Circuit, ModelError> {
+fn solved(alloc: Global, edited: &Option<Row>) -> Result<Circuit, ModelError> {
     let mut circuit = circuit(alloc, &ELEMENTS)?;
     make(alloc, &mut circuit, 5, &SECOND)?;
     solve(alloc, &mut circuit)?;
@@ -95,27 +109,6 @@ fn solved(alloc: Global, edited: Option<&Row>) -> Result<Circuit, ModelError> {
         solve(alloc, &mut circuit)?;
     }
     Ok(circuit)
-}
-
-fn tap_pair(first: u32, second: u32) -> TapPair {
-    TapPair { first, second }
-}
-
-// Asserts the taps and the state of the bank with which a Solve starts. Before, the taps were these, and the bank was
-// closed.
-fn check_start(
-    rt: &impl Abort,
-    alloc: Global,
-    circuit: &Circuit,
-    before: &[TapPair],
-    taps: &[TapPair],
-    closed: bool,
-) -> Result<(), AllocError> {
-    let before = positions(alloc, before, &[true])?;
-    let next = Positions::next(alloc, circuit, &before)?;
-    assert_eq!(rt; next.taps.as_slice(), taps);
-    assert_eq!(rt; next.closed.as_slice(), [closed].as_slice());
-    Ok(())
 }
 
 const BEFORE: [TapPair; 2] = [
@@ -129,32 +122,38 @@ const BEFORE: [TapPair; 2] = [
     },
 ];
 
-// All is of the script at the first Solve
-#[test]
-fn first_solve(rt: HostRuntime) -> Result<(), Fail> {
-    let circuit = solved(rt.alloc(), None)?;
-    let taps = [tap_pair(105_000, 98_750), tap_pair(95_000, 102_500)];
-    check_start(&rt, rt.alloc(), &circuit, &BEFORE, &taps, false)?;
-    Ok(())
-}
+// What is edited before the second Solve, for how many transformers there were taps before, and the taps and the state
+// of the bank with which the Solve starts.
+type Start<'a> = (Option<Row<'a>>, usize, [(u32, u32); 2], bool);
 
-// One tap is set: it alone is of the script
-#[test]
-fn tap_set(rt: HostRuntime) -> Result<(), Fail> {
-    let row = ("Transformer", "t", "wdg=2 tap=1.0125");
-    let circuit = solved(rt.alloc(), Some(&row))?;
-    let taps = [tap_pair(101_250, 101_250), tap_pair(98_125, 96_875)];
-    check_start(&rt, rt.alloc(), &circuit, &BEFORE, &taps, true)?;
-    Ok(())
-}
+// All is of the script at the first Solve. One tap is set: it alone is of the script. The bank is set; and where there
+// were taps of one transformer alone, those of the other are of the script.
+const STARTS: [Start<'static>; 3] = [
+    (None, 2, [(105_000, 98_750), (95_000, 102_500)], false),
+    (
+        Some(("Transformer", "t", "wdg=2 tap=1.0125")),
+        2,
+        [(101_250, 101_250), (98_125, 96_875)],
+        true,
+    ),
+    (
+        Some(("Capacitor", "k", "states=[0]")),
+        1,
+        [(101_250, 102_500), (95_000, 102_500)],
+        false,
+    ),
+];
 
-// The bank is set; and where there were taps of one transformer alone, those of the other are of the script
+// The bank was closed before.
 #[test]
-fn state_set(rt: HostRuntime) -> Result<(), Fail> {
-    let row = ("Capacitor", "k", "states=[0]");
-    let circuit = solved(rt.alloc(), Some(&row))?;
-    let taps = [tap_pair(101_250, 102_500), tap_pair(95_000, 102_500)];
-    check_start(&rt, rt.alloc(), &circuit, &BEFORE[..1], &taps, false)?;
+fn starts(rt: HostRuntime) -> Result<(), Fail> {
+    let alloc = rt.alloc();
+    for (edited, count, taps, closed) in &STARTS {
+        let circuit = solved(alloc, edited)?;
+        let before = positions(alloc, BEFORE.get(..*count).unwrap_or(&BEFORE), &[true])?;
+        let next = Positions::next(alloc, &circuit, &before)?;
+        check_positions(&rt, &next, taps, *closed);
+    }
     Ok(())
 }
 
@@ -164,10 +163,11 @@ fn state_set(rt: HostRuntime) -> Result<(), Fail> {
 fn ends(rt: HostRuntime) -> Result<(), Fail> {
     let alloc = rt.alloc();
     let circuit = circuit(alloc, &ELEMENTS)?;
-    assert!(rt; circuit.elements().len() > 3 && is_ready(alloc, &circuit));
+    holds(&rt, circuit.elements().len() > 3);
+    holds(&rt, is_ready(alloc, &circuit));
     let ends = ends_of(alloc, &circuit, 3)?;
     let at = [NodeAt::Node(3), NodeAt::Node(4), NodeAt::Node(5)];
-    assert_eq!(rt; ends.second.as_slice(), at.as_slice());
-    assert_eq!(rt; ends.branch, 9);
+    same(&rt, ends.second.as_slice(), at.as_slice());
+    same(&rt, ends.branch, 9);
     Ok(())
 }

@@ -3,7 +3,8 @@ ghost use Rattle.std.specs.Prelude.{◌≡◌, [], All, IfOk, None};
 ghost use Rattle.fd_equations.specs.Conditions.{AreApart, IsServed};
 ghost use Rattle.fd_equations.specs.Terminals.{IsConnected};
 
-use crate::matrices::entry;
+use crate::checks::{holds, same};
+use crate::matrices::check_entries;
 use crate::one_node::network;
 use fd_arith::{NodeAt, Term};
 use fd_equations::{Layout, Network, PlaceKind, Rows};
@@ -43,47 +44,19 @@ fn sample(alloc: Global) -> Result<Rows, AllocError>
     Rows::of(alloc, 2, terms, Vec::new(alloc))
 }
 
-// The ends of the residual of the first row at 30 and -0.000041 volt.
-fn first_residual(alloc: Global, rt: &impl Abort) -> Result<Option<(i128, i128)>, AllocError> {
-    let rows = sample(alloc)?;
-    let network = network(rt, &rows, &CONSTANTS, 2_000_000);
-    let residual = network.residual(alloc, &[30_000_000, -41])?;
-    match residual.first() {
-        Some(row) => Ok(row.ends()),
-        None => Ok(None),
-    }
-}
-
-// The constants, the rounded residual and the weights there.
-fn lists(alloc: Global, rt: &impl Abort) -> Result<[Vec<i128>; 3], AllocError> {
-    let rows = sample(alloc)?;
-    let network = network(rt, &rows, &CONSTANTS, 2_000_000);
-    let x = [30_000_000, -41];
-    Ok([
-        network.constants(alloc)?,
-        network.rounded_residual(alloc, &x)?,
-        network.weights(alloc, &x)?,
-    ])
-}
-
-// The products of the sample's entries with 20 and -7, added to 5 and 0.
-fn products(alloc: Global, rt: &impl Abort) -> Result<[i128; 2], AllocError> {
-    let all = sample(alloc)?;
-    assert!(rt; all.are_within());
-    let mut rows = [5, 0];
-    all.add_products(&mut rows, &[20, -7]);
-    Ok(rows)
-}
-
 #[test]
 fn sparse_rows(rt: HostRuntime) -> Result<(), Fail> {
     let all = sample(rt.alloc())?;
-    assert_eq!(rt; (all.size(), all.terms().len()), (2, 3));
-    assert_eq!(rt; (all.count(0, 0), all.count(1, 0)), (2, 0));
-    assert_eq!(rt; all.entry(0, 0), 733_007_751_850);
-    assert!(rt; all.is_within(0, 1));
-    assert_eq!(rt; (all.row(0).len(), all.row(1).len()), (2, 0));
-    assert_eq!(rt; products(rt.alloc(), &rt)?, [20, 0]);
+    same(&rt, (all.size(), all.terms().len()), (2, 3));
+    same(&rt, (all.count(0, 0), all.count(1, 0)), (2, 0));
+    same(&rt, all.entry(0, 0), 733_007_751_850);
+    same(&rt, (all.row(0).len(), all.row(1).len()), (2, 0));
+    holds(&rt, all.is_within(0, 1));
+    holds(&rt, all.are_within());
+    // The products of the entries with 20 and -7, added to 5 and 0
+    let mut sums = [5, 0];
+    all.add_products(&mut sums, &[20, -7]);
+    same(&rt, sums, [20, 0]);
     Ok(())
 }
 
@@ -91,31 +64,43 @@ fn sparse_rows(rt: HostRuntime) -> Result<(), Fail> {
 fn networks(rt: HostRuntime) -> Result<(), Fail> {
     let rows = sample(rt.alloc())?;
     let network = network(&rt, &rows, &CONSTANTS, 2_000_000);
-    assert_eq!(rt; (network.size(), network.kind(1)), (2, PlaceKind::Node));
-    assert_eq!(rt;
-        (
-            network.count(0, 0),
-            network.terms().len(),
-            network.loads().len()
-        ),
-        (2, 3, 0)
-    );
-    assert_eq!(rt; network.start_matrix(rt.alloc())?.size(), 2);
-    assert_eq!(rt; network.rounded_jacobian(rt.alloc(), &[0, 0])?.size(), 2);
+    same(&rt, (network.size(), network.kind(1)), (2, PlaceKind::Node));
+    same(&rt, (network.count(0, 0), network.terms().len()), (2, 3));
+    same(&rt, network.loads().len(), 0);
+    same(&rt, network.start_matrix(rt.alloc())?.size(), 2);
+    let jacobian = network.rounded_jacobian(rt.alloc(), &[0, 0])?;
+    same(&rt, jacobian.size(), 2);
     Ok(())
 }
 
+// 30 and -0.000041 volt.
+const POINT: [i128; 2] = [30_000_000, -41];
+
 #[test]
 fn rows(rt: HostRuntime) -> Result<(), Fail> {
-    assert_eq!(rt;
-        first_residual(rt.alloc(), &rt)?,
-        Some((20_000_709, 20_000_714))
+    let alloc = rt.alloc();
+    let rows = sample(alloc)?;
+    let network = network(&rt, &rows, &CONSTANTS, 2_000_000);
+    let residual = network.residual(alloc, &POINT)?;
+    holds(&rt, residual.len() == 2);
+    same(&rt, residual[0].ends(), Some((20_000_709, 20_000_714)));
+    check_numbers(&rt, network.constants(alloc), &[700, 0]);
+    let rounded = network.rounded_residual(alloc, &POINT);
+    check_numbers(&rt, rounded, &[20_000_712, 0]);
+    check_numbers(
+        &rt,
+        network.weights(alloc, &POINT),
+        &[30_000_041, 30_000_041],
     );
-    let [constants, rounded, weights] = lists(rt.alloc(), &rt)?;
-    assert_eq!(rt; constants.as_slice(), [700, 0].as_slice());
-    assert_eq!(rt; rounded.as_slice(), [20_000_712, 0].as_slice());
-    assert_eq!(rt; weights.as_slice(), [30_000_041, 30_000_041].as_slice());
     Ok(())
+}
+
+// Asserts the numbers of a list for which there was memory.
+fn check_numbers(rt: &impl Abort, list: Result<Vec<i128>, AllocError>, due: &[i128]) {
+    match list {
+        Ok(list) => same(rt, list.as_slice(), due),
+        Err(_) => holds(rt, false),
+    }
 }
 
 // 50 kilowatt and 20 kilovar of constant power at 240 volt, from the first node to ground.
@@ -196,126 +181,84 @@ const AT: [i128; 5] = [
 
 const LOW: [i128; 5] = [200_000_000, 0, 0, 0, 300_000_000];
 
-fn load_rows(alloc: Global, rt: &impl Abort) -> Result<[Vec<i128>; 2], AllocError> {
-    let rows = both_loads(alloc)?;
-    let network = load_network(&rows, rt);
-    Ok([
-        network.rounded_residual(alloc, &AT)?,
-        network.rounded_residual(alloc, &LOW)?,
-    ])
-}
+const RESIDUAL_AT: [i128; 5] = [
+    280_301_956,
+    -107_547_153,
+    -78_116_187,
+    13_233_842,
+    -16_156_786,
+];
 
-fn load_ends(alloc: Global, rt: &impl Abort) -> Result<Vec<Option<(i128, i128)>>, AllocError> {
-    let rows = both_loads(alloc)?;
-    let network = load_network(&rows, rt);
-    let residual = network.residual(alloc, &AT)?;
-    let mut ends = Vec::new(alloc);
-    for row in &residual {
-        ends.push(row.ends())?;
-    }
-    Ok(ends)
-}
+const RESIDUAL_LOW: [i128; 5] = [
+    228_916_590,
+    -62_326_870,
+    -36_549_708,
+    -14_619_883,
+    120_281_306,
+];
 
-// Entries of the Jacobian within the limits.
-fn jacobian_at(alloc: Global, rt: &impl Abort) -> Result<[i128; 6], AllocError> {
-    let rows = both_loads(alloc)?;
-    let network = load_network(&rows, rt);
-    let matrix = network.rounded_jacobian(alloc, &AT)?;
-    Ok([
-        entry(&matrix, 0, 0),
-        entry(&matrix, 0, 1),
-        entry(&matrix, 2, 0),
-        entry(&matrix, 3, 4),
-        entry(&matrix, 4, 1),
-        entry(&matrix, 4, 2),
-    ])
-}
-
-// Entries of the Jacobian below them.
-fn jacobian_low(alloc: Global, rt: &impl Abort) -> Result<[i128; 2], AllocError> {
-    let rows = both_loads(alloc)?;
-    let network = load_network(&rows, rt);
-    let matrix = network.rounded_jacobian(alloc, &LOW)?;
-    Ok([entry(&matrix, 0, 4), entry(&matrix, 4, 4)])
-}
-
-// Entries of the start matrix.
-fn start_entries(alloc: Global, rt: &impl Abort) -> Result<[i128; 4], AllocError> {
-    let rows = both_loads(alloc)?;
-    let network = load_network(&rows, rt);
-    let matrix = network.start_matrix(alloc)?;
-    Ok([
-        entry(&matrix, 0, 0),
-        entry(&matrix, 3, 0),
-        entry(&matrix, 4, 4),
-        entry(&matrix, 0, 4),
-    ])
-}
+const ENDS_AT: [(i128, i128); 5] = [
+    (280_301_954, 280_301_956),
+    (-107_547_154, -107_547_152),
+    (-78_116_187, -78_116_186),
+    (13_233_842, 13_233_843),
+    (-16_156_787, -16_156_786),
+];
 
 #[test]
 fn loads(rt: HostRuntime) -> Result<(), Fail> {
-    let [at, low] = load_rows(rt.alloc(), &rt)?;
-    let at_want = [
-        280_301_956,
-        -107_547_153,
-        -78_116_187,
-        13_233_842,
-        -16_156_786,
-    ];
-    assert_eq!(rt; at.as_slice(), at_want.as_slice());
-    let low_want = [
-        228_916_590,
-        -62_326_870,
-        -36_549_708,
-        -14_619_883,
-        120_281_306,
-    ];
-    assert_eq!(rt; low.as_slice(), low_want.as_slice());
-    let ends = load_ends(rt.alloc(), &rt)?;
-    let ends_want = [
-        Some((280_301_954, 280_301_956)),
-        Some((-107_547_154, -107_547_152)),
-        Some((-78_116_187, -78_116_186)),
-        Some((13_233_842, 13_233_843)),
-        Some((-16_156_787, -16_156_786)),
-    ];
-    assert_eq!(rt; ends.as_slice(), ends_want.as_slice());
+    let alloc = rt.alloc();
+    let rows = both_loads(alloc)?;
+    let network = load_network(&rows, &rt);
+    check_numbers(&rt, network.rounded_residual(alloc, &AT), &RESIDUAL_AT);
+    check_numbers(&rt, network.rounded_residual(alloc, &LOW), &RESIDUAL_LOW);
+    let residual = network.residual(alloc, &AT)?;
+    holds(&rt, residual.len() == ENDS_AT.len());
+    for (row, due) in residual.iter().zip(&ENDS_AT) {
+        same(&rt, row.ends(), Some(*due));
+    }
     Ok(())
 }
 
+// Entries by their row and their column: of the Jacobian within the limits and below them, and of the start matrix.
+const JACOBIAN_AT: [(u32, u32, i128); 6] = [
+    (0, 0, -704_310_984_803),
+    (0, 1, 403_966_046_899),
+    (2, 0, -191_205_823_492),
+    (3, 4, -35_062_079_922),
+    (4, 1, 1_166_451_126_213),
+    (4, 2, 1_909_700_029_764),
+];
+
+const JACOBIAN_LOW: [(u32, u32, i128); 2] = [(0, 4, 0), (4, 4, 1_587_008_334_984)];
+
+const START: [(u32, u32, i128); 4] = [
+    (0, 0, 1_145_324_612_098),
+    (3, 0, -76_354_974_084),
+    (4, 4, 2_199_023_255_552),
+    (0, 4, 0),
+];
+
 #[test]
 fn slopes(rt: HostRuntime) -> Result<(), Fail> {
-    assert_eq!(rt;
-        jacobian_at(rt.alloc(), &rt)?,
-        [
-            -704_310_984_803,
-            403_966_046_899,
-            -191_205_823_492,
-            -35_062_079_922,
-            1_166_451_126_213,
-            1_909_700_029_764
-        ]
-    );
-    assert_eq!(rt; jacobian_low(rt.alloc(), &rt)?, [0, 1_587_008_334_984]);
-    assert_eq!(rt;
-        start_entries(rt.alloc(), &rt)?,
-        [1_145_324_612_098, -76_354_974_084, 2_199_023_255_552, 0]
-    );
+    let alloc = rt.alloc();
+    let rows = both_loads(alloc)?;
+    let network = load_network(&rows, &rt);
+    check_entries(&rt, &network.rounded_jacobian(alloc, &AT)?, &JACOBIAN_AT);
+    check_entries(&rt, &network.rounded_jacobian(alloc, &LOW)?, &JACOBIAN_LOW);
+    check_entries(&rt, &network.start_matrix(alloc)?, &START);
     Ok(())
 }
+
+// How many summands stand at a row and a column.
+const COUNTS: [(u32, u32, u32); 5] = [(0, 1, 2), (0, 2, 1), (4, 0, 1), (4, 4, 1), (5, 5, 0)];
 
 #[test]
 fn load_counts(rt: HostRuntime) -> Result<(), Fail> {
     let rows = both_loads(rt.alloc())?;
     let network = load_network(&rows, &rt);
-    assert_eq!(rt;
-        (
-            network.count(0, 1),
-            network.count(0, 2),
-            network.count(4, 0)
-        ),
-        (2, 1, 1)
-    );
-    assert_eq!(rt; (network.count(4, 4), network.count(5, 5)), (1, 0));
+    for (row, column, due) in &COUNTS {
+        same(&rt, network.count(*row, *column), *due);
+    }
     Ok(())
 }

@@ -1,10 +1,10 @@
 // Worked values, and the same elimination written plainly on a list of rows.
 
+use crate::checks::{holds, same};
 use fd_inverse::{InverseFault, Stop, invert};
 use fd_mat::Dense;
 use std::alloc::{AllocError, Global};
 use std::process::Abort;
-use std::test::Fail;
 
 const ONE: i128 = 0x100_0000_0000;
 
@@ -139,7 +139,7 @@ fn inverse_cells(
             }
         }
     }
-    assert!(rt; a.first_column_past(ENTRY_LIMIT).is_none());
+    holds(rt, a.first_column_past(ENTRY_LIMIT).is_none());
     let c = invert(alloc, &a)?;
     let mut inverse = Vec::new(alloc);
     for row in 0..c.size() {
@@ -148,27 +148,43 @@ fn inverse_cells(
     Ok(inverse)
 }
 
-#[test]
-fn inverts_the_worked_matrices(rt: HostRuntime) -> Result<(), Fail> {
-    let alloc = rt.alloc();
-    assert_eq!(rt;
-        inverse_cells(&rt, alloc, 1, &[3 * ONE])?.as_slice(),
-        [366_503_875_925].as_slice()
-    );
-    assert_eq!(rt;
-        inverse_cells(&rt, alloc, 1, &[255]).err(),
-        Some(no_inverse(0, Stop::Pivot))
-    );
-    let largest = inverse_cells(&rt, alloc, 1, &[0x100_0000])?;
-    assert_eq!(rt; largest.as_slice(), [0x100_0000_0000_0000].as_slice());
-    assert_eq!(rt;
-        inverse_cells(&rt, alloc, 1, &[0xff_ffff]).err(),
-        Some(no_inverse(0, Stop::Range))
-    );
-    let triangle = inverse_cells(&rt, alloc, 2, &[ONE, 0, ONE / 2, ONE])?;
-    assert_eq!(rt; triangle.as_slice(), [ONE, 0, -ONE / 2, ONE].as_slice());
-    Ok(())
+// Asserts the inverse of these rows, or why there is none.
+fn check(
+    rt: &impl Abort,
+    alloc: Global,
+    n: u32,
+    cells: &[i128],
+    due: Result<&[i128], InverseFault>,
+) {
+    let inverse = inverse_cells(rt, alloc, n, cells);
+    let found = match &inverse {
+        Ok(cells) => Ok(cells.as_slice()),
+        Err(fault) => Err(*fault),
+    };
+    same(rt, found, due);
 }
+
+#[test]
+fn inverts_the_worked_matrices(rt: HostRuntime) {
+    let alloc = rt.alloc();
+    check(&rt, alloc, 1, &[3 * ONE], Ok(&[366_503_875_925]));
+    check(&rt, alloc, 1, &[255], Err(no_inverse(0, Stop::Pivot)));
+    check(&rt, alloc, 1, &[0x100_0000], Ok(&[0x100_0000_0000_0000]));
+    check(&rt, alloc, 1, &[0xff_ffff], Err(no_inverse(0, Stop::Range)));
+    check(&rt, alloc, 2, &TRIANGLE, Ok(&INVERSE_OF_TRIANGLE));
+}
+
+#[rattlefmt::skip]
+const TRIANGLE: [i128; 4] = [
+    ONE, 0,
+    ONE / 2, ONE,
+];
+
+#[rattlefmt::skip]
+const INVERSE_OF_TRIANGLE: [i128; 4] = [
+    ONE, 0,
+    -ONE / 2, ONE,
+];
 
 // Its inverse was computed apart from this program, in exact whole numbers.
 #[rattlefmt::skip]
@@ -225,33 +241,36 @@ const LARGE_INVERSE: [i128; 9] = [
     0, 0, 0x80_0000,
 ];
 
+const MATRICES: [(u32, &[i128]); 6] = [
+    (3, &FULL),
+    (4, &TIES),
+    (3, &DEPENDENT),
+    (3, &LARGE_FACTOR),
+    (3, &LARGE_INVERSE),
+    (2, &LONG_PRODUCT),
+];
+
 #[test]
-fn agrees_with_the_plain_elimination(rt: HostRuntime) -> Result<(), Fail> {
+fn agrees_with_the_plain_elimination(rt: HostRuntime) {
     let alloc = rt.alloc();
-    let cases: [(u32, &[i128]); 6] = [
-        (3, &FULL),
-        (4, &TIES),
-        (3, &DEPENDENT),
-        (3, &LARGE_FACTOR),
-        (3, &LARGE_INVERSE),
-        (2, &LONG_PRODUCT),
-    ];
-    for (n, cells) in cases {
-        match (inverse_cells(&rt, alloc, n, cells), plain(alloc, n, cells)) {
-            (Ok(got), Ok(want)) => assert_eq!(rt; got.as_slice(), want.as_slice()),
-            (Err(got), Err(want)) => assert_eq!(rt; got, want),
-            _ => assert!(rt; false, "one has an inverse and the other has none"),
-        }
+    for (n, cells) in &MATRICES {
+        let inverse = inverse_cells(&rt, alloc, *n, cells);
+        same(&rt, inverse, plain(alloc, *n, cells));
     }
-    let full = inverse_cells(&rt, alloc, 3, &FULL)?;
-    assert_eq!(rt; full.as_slice(), INVERSE_OF_FULL.as_slice());
-    for (cells, column, cause) in [
-        (&DEPENDENT, 2, Stop::Pivot),
-        (&LARGE_FACTOR, 1, Stop::Range),
-        (&LARGE_INVERSE, 2, Stop::Range),
-    ] {
-        let got = inverse_cells(&rt, alloc, 3, cells).err();
-        assert_eq!(rt; got, Some(no_inverse(column, cause)));
-    }
-    Ok(())
+    check(&rt, alloc, 3, &FULL, Ok(&INVERSE_OF_FULL));
+    check(&rt, alloc, 3, &DEPENDENT, Err(no_inverse(2, Stop::Pivot)));
+    check(
+        &rt,
+        alloc,
+        3,
+        &LARGE_FACTOR,
+        Err(no_inverse(1, Stop::Range)),
+    );
+    check(
+        &rt,
+        alloc,
+        3,
+        &LARGE_INVERSE,
+        Err(no_inverse(2, Stop::Range)),
+    );
 }

@@ -20,6 +20,8 @@ mod cert;
 #[cfg(test)]
 mod certfile;
 #[cfg(test)]
+mod checks;
+#[cfg(test)]
 mod circuits;
 #[cfg(test)]
 mod contributions;

@@ -6,6 +6,7 @@ ghost use Rattle.fd_devices.specs.Building.{IsModest};
 ghost use Rattle.fd_devices.specs.Settings.{AreSettings, settings_of};
 ghost use Rattle.fd_network.specs.Built.{IsBuiltOf};
 
+use crate::checks::{holds, same};
 use crate::circuits::{Row, circuit, is_ready, positions};
 use crate::matrices::entry;
 use dss_circuit::Circuit;
@@ -98,12 +99,12 @@ fn check_settings(
     let script = script_settings(alloc, circuit)?;
     let (taps, closed) = (settings.at.taps.as_slice(), settings.at.closed.as_slice());
     let loads = settings.powers.loads.as_slice();
-    assert!(rt; is_ready(alloc, circuit));
-    assert!(rt; taps.len() == script.at.taps.as_slice().len());
-    assert!(rt; closed.len() == script.at.closed.as_slice().len());
-    assert!(rt; loads.len() == script.powers.loads.as_slice().len());
-    assert!(rt; taps.iter().all(|taps| is_tap(taps)));
-    assert!(rt; loads.iter().all(|power| is_modest(power)));
+    holds(rt, is_ready(alloc, circuit));
+    holds(rt, taps.len() == script.at.taps.as_slice().len());
+    holds(rt, closed.len() == script.at.closed.as_slice().len());
+    holds(rt, loads.len() == script.powers.loads.as_slice().len());
+    holds(rt, taps.iter().all(|taps| is_tap(taps)));
+    holds(rt, loads.iter().all(|power| is_modest(power)));
     Ok(())
 }
 
@@ -161,7 +162,7 @@ fn size(ends: Option<(i128, i128)>) -> u128 {
 // The sizes of the residuals in that state, in whole micro-units.
 fn sizes(rt: &impl Abort, alloc: Global, net: &Network) -> Result<Vec<u128>, AllocError> {
     let net = net.rows();
-    assert!(rt; net.size() == 8);
+    holds(rt, net.size() == 8);
     let residual = net.residual(alloc, &STATE)?;
     let mut sizes = Vec::new(alloc);
     for row in &residual {
@@ -187,7 +188,7 @@ fn worked(
     let before = Settings::new(alloc, &[], &[], &[before])?;
     let after = Settings::new(alloc, &[], &[], &[LoadPower { p, q: 0 }])?;
     let mut net = built(rt, alloc, circuit, &before)?;
-    assert_eq!(rt; sizes(rt, alloc, &net)?.as_slice(), MISMATCH.as_slice());
+    same(rt, sizes(rt, alloc, &net)?.as_slice(), &MISMATCH);
     let is_refused = update(rt, alloc, &mut net, circuit, &after)?;
     Ok((sizes(rt, alloc, &net)?, is_refused))
 }
@@ -197,11 +198,8 @@ fn twice_the_power(rt: HostRuntime) -> Result<(), Fail> {
     let circuit = circuit(rt.alloc(), &WORKED)?;
     let (sizes, is_refused) = worked(&rt, rt.alloc(), &circuit, 200_000_000)?;
     // 5 ohm at 500 volt draw 100 ampere, 50 more than come
-    assert_eq!(rt;
-        sizes.as_slice(),
-        [0, 0, 50_000_001, 0, 0, 0, 0, 0].as_slice()
-    );
-    assert!(rt; !is_refused);
+    same(&rt, sizes.as_slice(), &[0, 0, 50_000_001, 0, 0, 0, 0, 0]);
+    holds(&rt, !is_refused);
     Ok(())
 }
 
@@ -209,8 +207,8 @@ fn twice_the_power(rt: HostRuntime) -> Result<(), Fail> {
 fn refused_power(rt: HostRuntime) -> Result<(), Fail> {
     let circuit = circuit(rt.alloc(), &WORKED)?;
     let (sizes, is_refused) = worked(&rt, rt.alloc(), &circuit, 100_000_000_001)?;
-    assert_eq!(rt; sizes.as_slice(), MISMATCH.as_slice());
-    assert!(rt; is_refused);
+    same(&rt, sizes.as_slice(), &MISMATCH);
+    holds(&rt, is_refused);
     Ok(())
 }
 
@@ -312,7 +310,7 @@ fn add_ends(numbers: &mut Vec<i128>, rows: &[Interval<Micro>]) -> Result<(), All
 // The weights, the entries, the numbers of summands and there the ends of the residuals.
 fn numbers(rt: &impl Abort, alloc: Global, net: &Network) -> Result<Vec<i128>, AllocError> {
     let net = net.rows();
-    assert!(rt; net.size() == 9);
+    holds(rt, net.size() == 9);
     let mut numbers = net.weights(alloc, &THERE)?;
     let start = net.start_matrix(alloc)?;
     add_cells(&mut numbers, &net, &start)?;
@@ -341,7 +339,7 @@ fn numbers_updated(
 ) -> Result<Vec<i128>, AllocError> {
     let mut net = built(rt, alloc, circuit, &settings_at(alloc, &SETTINGS[0])?)?;
     let is_refused = update(rt, alloc, &mut net, circuit, &settings_at(alloc, setting)?)?;
-    assert!(rt; !is_refused);
+    holds(rt, !is_refused);
     numbers(rt, alloc, &net)
 }
 
@@ -354,8 +352,8 @@ fn updates(rt: HostRuntime) -> Result<(), Fail> {
     for setting in &SETTINGS[1..] {
         let anew = numbers_built(&rt, alloc, &circuit, setting)?;
         let moved = numbers_updated(&rt, alloc, &circuit, setting)?;
-        assert!(rt; moved.as_slice() != before.as_slice());
-        assert_eq!(rt; moved.as_slice(), anew.as_slice());
+        holds(&rt, moved.as_slice() != before.as_slice());
+        same(&rt, moved.as_slice(), anew.as_slice());
     }
     Ok(())
 }

@@ -1,7 +1,9 @@
 // Files, readers, writers and records in memory.
+use crate::checks::{same, same_at};
 use fd_outside::*;
 use std::alloc::{AllocError, Global};
 use std::io::{ErrorKind, Read, Write};
+use std::process::Abort;
 use std::test::Fail;
 use std::{fs, io};
 
@@ -12,12 +14,19 @@ fn entry(alloc: Global, name: &[u8], text: &[u8]) -> Result<FileEntry, AllocErro
     })
 }
 
-// Whether the answer is these bytes.
-fn gives(answer: &Result<Found, LibFault>, text: &[u8]) -> bool {
-    match answer {
-        Ok(Found::Bytes(bytes)) => bytes.as_slice() == text,
-        _ => false,
-    }
+// Asserts what a library answers of a name: bytes, none, or a fault.
+fn check_answer(
+    rt: &impl Abort,
+    name: &str,
+    answer: Result<Found, LibFault>,
+    due: Result<Option<&[u8]>, LibFault>,
+) {
+    let found = match &answer {
+        Ok(Found::Bytes(bytes)) => Ok(Some(bytes.as_slice())),
+        Ok(Found::Absent) => Ok(None),
+        Err(fault) => Err(*fault),
+    };
+    same_at(rt, name, found, due);
 }
 
 const TEXT: &[u8] = b"New Circuit.c basekv=1";
@@ -85,85 +94,86 @@ impl Write for Sip {
 
 #[test]
 fn a_folder_gives_its_files_whole(rt: HostRuntime) -> Result<(), Fail> {
-    let mut text = Vec::new(rt.alloc());
+    let alloc = rt.alloc();
+    let mut text = Vec::new(alloc);
     for i in 0..10_000u32 {
         text.push((i % 251) as u8)?;
     }
     fs::write(&rt, "m.dss", text.as_slice())?;
     let mut lib = FolderLibrary::new(rt);
-    assert!(rt; gives(&lib.read(rt.alloc(), "m.dss"), text.as_slice()));
-    match lib.read(rt.alloc(), "n.dss") {
-        Ok(Found::Absent) => {}
-        _ => assert!(rt; false, "n.dss is there"),
-    }
+    check_answer(&rt, "m.dss", lib.read(alloc, "m.dss"), Ok(Some(&text)));
+    check_answer(&rt, "n.dss", lib.read(alloc, "n.dss"), Ok(None));
     for name in [".", "m.dss/x"] {
-        match lib.read(rt.alloc(), name) {
-            Err(LibFault::Failed) => {}
-            _ => assert!(rt; false, "{name} is read as a file"),
-        }
+        check_answer(&rt, name, lib.read(alloc, name), Err(LibFault::Failed));
     }
     Ok(())
 }
 
 #[test]
-fn readers_and_writers_go_on_in_parts(rt: HostRuntime) -> Result<(), Fail> {
+fn readers_go_on_in_parts(rt: HostRuntime) {
+    let whole = read_opened(rt.alloc(), Ok(drip_until(0)));
+    check_answer(&rt, "the whole", whole, Ok(Some(TEXT)));
+    let part = read_opened(rt.alloc(), Ok(drip_until(9)));
+    check_answer(&rt, "a part", part, Err(LibFault::Failed));
+}
+
+// What a Sip whose write of this number fails answers to TEXT, and what it has taken.
+fn sipped(alloc: Global, failing: u32) -> (Result<(), SinkFault>, Vec<u8>) {
+    let mut sip = Sip {
+        taken: Vec::new(alloc),
+        writes: 0,
+        failing,
+    };
+    let answer = StdSink::new(&mut sip).write(alloc, TEXT);
+    (answer, sip.taken)
+}
+
+#[test]
+fn writers_go_on_in_parts(rt: HostRuntime) {
     let alloc = rt.alloc();
-    assert!(rt; gives(&read_opened(alloc, Ok(drip_until(0))), TEXT));
-    match read_opened(alloc, Ok(drip_until(9))) {
-        Err(LibFault::Failed) => {}
-        _ => assert!(rt; false, "a read that fails in mid-stream is no fault"),
-    }
-    let mut whole = Sip {
-        taken: Vec::new(alloc),
-        writes: 0,
-        failing: 0,
-    };
-    assert_eq!(rt; StdSink::new(&mut whole).write(alloc, TEXT), Ok(()));
-    assert_eq!(rt; whole.taken.as_slice(), TEXT);
-    let mut part = Sip {
-        taken: Vec::new(alloc),
-        writes: 0,
-        failing: 5,
-    };
-    assert_eq!(rt;
-        StdSink::new(&mut part).write(alloc, TEXT),
-        Err(SinkFault::Failed)
-    );
-    assert_eq!(rt; part.taken.as_slice(), &TEXT[..6]);
-    assert_eq!(rt; StdSink::new(rt.stdout()).write(alloc, b""), Ok(()));
-    Ok(())
+    let (whole, taken) = sipped(alloc, 0);
+    same(&rt, whole, Ok(()));
+    same(&rt, taken.as_slice(), TEXT);
+    let (part, taken) = sipped(alloc, 5);
+    same(&rt, part, Err(SinkFault::Failed));
+    same(&rt, taken.as_slice(), &TEXT[..6]);
+    same(&rt, StdSink::new(rt.stdout()).write(alloc, b""), Ok(()));
 }
 
 #[test]
-fn memory_fails_where_it_is_told(rt: HostRuntime) -> Result<(), Fail> {
+fn reads_fail_where_they_are_told(rt: HostRuntime) -> Result<(), Fail> {
     let alloc = rt.alloc();
     let mut plain = NeverFails::new(alloc, vec![in alloc; entry(alloc, b"m.dss", b"Clear\n")?]?);
-    assert!(rt; gives(&plain.read(alloc, "m.dss"), b"Clear\n"));
+    check_answer(
+        &rt,
+        "m.dss",
+        plain.read(alloc, "m.dss"),
+        Ok(Some(b"Clear\n")),
+    );
     let files = vec![in alloc;
         entry(alloc, b"a", b"first")?,
         entry(alloc, b"a", b"second")?,
     ]?;
     let mut lib = MemLibrary::new(alloc, files, vec![in alloc; 2]?);
-    assert!(rt; gives(&lib.read(alloc, "a"), b"first"));
-    match lib.read(alloc, "a") {
-        Err(LibFault::Failed) => {}
-        _ => assert!(rt; false, "the second read doesn't fail"),
-    }
-    let records = vec![in alloc;
-        Record {
-            bytes: Bytes::new(b"one".to_vec(alloc)?)
-        },
-        Record {
-            bytes: Bytes::new(b"two".to_vec(alloc)?)
-        },
-    ]?;
+    check_answer(&rt, "a", lib.read(alloc, "a"), Ok(Some(b"first")));
+    check_answer(&rt, "a", lib.read(alloc, "a"), Err(LibFault::Failed));
+    Ok(())
+}
+
+fn record(alloc: Global, text: &[u8]) -> Result<Record, AllocError> {
+    Ok(Record {
+        bytes: Bytes::new(text.to_vec(alloc)?),
+    })
+}
+
+#[test]
+fn writes_fail_where_they_are_told(rt: HostRuntime) -> Result<(), Fail> {
+    let alloc = rt.alloc();
+    let records = vec![in alloc; record(alloc, b"one")?, record(alloc, b"two")?]?;
     let mut out = MemSink::new(alloc, vec![in alloc; 4]?);
-    assert_eq!(rt; emit(alloc, records.as_slice(), &mut out), Ok(()));
-    assert_eq!(rt;
-        emit(alloc, records.as_slice(), &mut out),
-        Err(SinkFault::Failed)
-    );
-    assert_eq!(rt; out.bytes(), b"onetwoone".as_slice());
-    assert_eq!(rt; out.ends(), [3, 6, 9, 9].as_slice());
+    same(&rt, emit(alloc, &records, &mut out), Ok(()));
+    same(&rt, emit(alloc, &records, &mut out), Err(SinkFault::Failed));
+    same(&rt, out.bytes(), b"onetwoone".as_slice());
+    same(&rt, out.ends(), &[3, 6, 9, 9]);
     Ok(())
 }

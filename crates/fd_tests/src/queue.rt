@@ -1,4 +1,5 @@
 // Worked queues.
+use crate::checks::{holds, same};
 use fd_queue::{Entry, Queue, Verdict};
 use std::test::Fail;
 
@@ -10,18 +11,19 @@ fn entries_of_the_least_time_leave_together(rt: HostRuntime) -> Result<(), Fail>
     queue.push(2000, 3, true);
     queue.push(2000, 2, false);
     queue.push(2000, 1, true);
-    assert!(rt; !queue.keep(1, Verdict::Hold.way()));
-    assert!(rt; queue.keep(2, Verdict::Lower { steps: 4 }.way()));
+    holds(&rt, !queue.keep(1, Verdict::Hold.way()));
+    holds(&rt, queue.keep(2, Verdict::Lower { steps: 4 }.way()));
     let mut taken = Vec::with_capacity(rt.alloc(), 4)?;
     queue.take_nearest(&mut taken);
     let expected = [entry(2000, 1, 3, true), entry(2000, 2, 2, false)];
-    assert_eq!(rt; taken.as_slice(), expected.as_slice());
-    assert_eq!(rt; queue.cancel(0), Some(entry(15000, 0, 0, true)));
-    assert_eq!(rt; queue.find(0), None);
+    same(&rt, taken.as_slice(), expected.as_slice());
+    same(&rt, queue.cancel(0), Some(entry(15000, 0, 0, true)));
+    same(&rt, queue.find(0), None);
     Ok(())
 }
 
-fn entry(time: u64, seq: u64, control: u32, up: bool) -> Entry {
+/// An entry by its numbers.
+pub fn entry(time: u64, seq: u64, control: u32, up: bool) -> Entry {
     Entry {
         time,
         seq,

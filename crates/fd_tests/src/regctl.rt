@@ -1,4 +1,6 @@
 // Worked regulators.
+use crate::checks::same;
+use crate::queue::entry;
 use fd_arith::TapPair;
 use fd_queue::{Queue, Verdict};
 use fd_regctl::RegState;
@@ -15,10 +17,10 @@ fn a_regulator_moves_its_winding(rt: HostRuntime) -> Result<(), Fail> {
         second: 100_000,
     };
     state.react(Verdict::Raise { steps: 6 }, 0, &mut first);
-    assert_eq!(rt; first.find(0).map(|entry| entry.time), Some(15000));
-    assert_eq!(rt; state.act(&mut taps), 6);
-    assert_eq!(rt; (taps.first, taps.second), (100_000, 103_750));
+    same(&rt, first.find(0), Some(entry(15000, 0, 0, true)));
+    same(&rt, state.act(&mut taps), 6);
+    same(&rt, (taps.first, taps.second), (100_000, 103_750));
     state.react(Verdict::Raise { steps: 1 }, 0, &mut second);
-    assert_eq!(rt; second.find(0).map(|entry| entry.time), Some(2000));
+    same(&rt, second.find(0), Some(entry(2000, 0, 0, true)));
     Ok(())
 }

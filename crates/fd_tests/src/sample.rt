@@ -1,4 +1,5 @@
 // Worked samples.
+use crate::checks::same;
 use fd_arith::{NodeAt, TapPair};
 use fd_queue::Verdict;
 use fd_sample::{CapProbe, Measured, RegProbe, bank_verdict, regulator_verdict};
@@ -42,15 +43,16 @@ fn a_regulator_is_sampled(rt: HostRuntime) -> Result<(), Fail> {
     let probe = REGULATOR;
     let radii = [0, 0, 0, 0];
     let low = regulator_verdict(&probe, NOMINAL, &[2_340_000_000, 0, 0, 0], &radii);
-    assert_eq!(rt; low, Verdict::Raise { steps: 6 });
+    same(&rt, low, Verdict::Raise { steps: 6 });
     let edge = regulator_verdict(&probe, NOMINAL, &[2_420_000_000, 0, 0, 0], &[20, 0, 0, 0]);
-    assert_eq!(rt;
+    same(
+        &rt,
         edge,
         Verdict::Undecided {
             low: 120_999_998,
             high: 121_000_002,
-            edge: 121_000_000
-        }
+            edge: 121_000_000,
+        },
     );
     Ok(())
 }
@@ -64,7 +66,7 @@ fn a_regulator_compensates(rt: HostRuntime) -> Result<(), Fail> {
         &[2_500_000_000, 180_000_000, 700_000_000, 0],
         &[0, 0, 0, 0],
     );
-    assert_eq!(rt; verdict, Verdict::Hold);
+    same(&rt, verdict, Verdict::Hold);
     Ok(())
 }
 
@@ -84,6 +86,6 @@ fn a_bank_is_sampled(rt: HostRuntime) -> Result<(), Fail> {
         deadtime: 300_000,
     };
     let verdict = bank_verdict(&probe, true, &[1_040_000_000, 0], &[1, 1]);
-    assert_eq!(rt; verdict, Verdict::Lower { steps: 1 });
+    same(&rt, verdict, Verdict::Lower { steps: 1 });
     Ok(())
 }

@@ -1,9 +1,9 @@
 // Worked radii of slopes.
 ghost use Rattle.std.specs.Prelude.{◌≡◌, pos};
 
+use crate::checks::same;
 use fd_slope::load_slope;
 use fd_system::LoadPhase;
-use std::test::Fail;
 
 const VOLT: i128 = 1_000_000;
 
@@ -28,43 +28,44 @@ fn load(model: u8) -> LoadPhase
     }
 }
 
-// constant power: inside, across the lower limit, outside, and across the upper limit; half-widths of 5 volt
+// half-widths of 5 volt
+const WIDTH: u128 = 5_000_000;
+
+// constant power: inside, across the lower limit, outside, and across the upper limit
+const POWERS: [(i128, i128, u128); 4] = [
+    (950, -40, 564_141_506),
+    (852, 0, 36_846_337_805),
+    (800, 10, 0),
+    (-1_099, 30, 22_175_768_731),
+];
+
 #[test]
-fn radii_of_power(rt: HostRuntime) -> Result<(), Fail> {
-    let width = 5_000_000;
-    let cases = [
-        (950, -40, 564_141_506),
-        (852, 0, 36_846_337_805),
-        (800, 10, 0),
-        (-1_099, 30, 22_175_768_731),
-    ];
-    for (p, q, radius) in cases {
-        let slope = load_slope(&load(1), p * VOLT, q * VOLT, 0, width, width, 0);
-        assert_eq!(rt; slope.radius.real.p, radius);
-        assert_eq!(rt; slope.radius.imaginary.q, radius);
-        assert_eq!(rt; slope.radius.real.m, 0);
+fn radii_of_power(rt: HostRuntime) {
+    for (p, q, due) in &POWERS {
+        let slope = load_slope(&load(1), *p * VOLT, *q * VOLT, 0, WIDTH, WIDTH, 0);
+        let (real, imaginary) = (slope.radius.real, slope.radius.imaginary);
+        same(&rt, (real.p, imaginary.q, real.m), (*due, *due, 0));
     }
-    Ok(())
 }
 
+// The parts of the voltage and its magnitude, the half-width of the magnitude, and the radii by voltage and by magnitude.
+type Current = ((i128, i128, i128), u128, (u128, u128));
+
 // constant current: inside, across the lower limit, outside, and a magnitude below 0 outside and across the lower limit
+const CURRENTS: [Current; 5] = [
+    ((950, -40, 951), WIDTH, (73_329_619, 73_252_511)),
+    ((852, 0, 852), WIDTH, (91_094_584, 15_522_517_099)),
+    ((840, 1, 840), WIDTH, (0, 0)),
+    ((900, 0, -2), WIDTH, (0, 0)),
+    ((900, 0, -2), 860_000_000, (15_705_134_948, 16_435_606_341)),
+];
+
 #[test]
-fn radii_of_current(rt: HostRuntime) -> Result<(), Fail> {
-    let width = 5_000_000;
-    let cases = [
-        ((950, -40, 951), width, (73_329_619, 73_252_511)),
-        ((852, 0, 852), width, (91_094_584, 15_522_517_099)),
-        ((840, 1, 840), width, (0, 0)),
-        ((900, 0, -2), width, (0, 0)),
-        ((900, 0, -2), 860_000_000, (15_705_134_948, 16_435_606_341)),
-    ];
-    for ((p, q, m), rm, (voltage, magnitude)) in cases {
-        let slope = load_slope(&load(5), p * VOLT, q * VOLT, m * VOLT, width, width, rm);
-        assert_eq!(rt;
-            (slope.radius.real.p, slope.radius.imaginary.m),
-            (voltage, magnitude)
-        );
-        assert_eq!(rt; slope.radius.magnitude.p, 5_497_558_139);
+fn radii_of_current(rt: HostRuntime) {
+    for ((p, q, m), rm, due) in &CURRENTS {
+        let (p, q, m) = (*p * VOLT, *q * VOLT, *m * VOLT);
+        let radius = load_slope(&load(5), p, q, m, WIDTH, WIDTH, *rm).radius;
+        same(&rt, (radius.real.p, radius.imaginary.m), *due);
+        same(&rt, radius.magnitude.p, 5_497_558_139);
     }
-    Ok(())
 }

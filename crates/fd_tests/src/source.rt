@@ -1,6 +1,7 @@
 // Worked sources.
 ghost use Rattle.std.specs.Prelude.{◌≡◌, pos};
 
+use crate::checks::{holds, same};
 use crate::contributions::{GIGA, THREE, ends, numbers};
 use fd_arith::{NodeAt, TermFault};
 use fd_source::{Ohms, ShortCircuit, SourceData, source_ohms, source_terms};
@@ -31,14 +32,14 @@ fn impedances(rt: HostRuntime) -> Result<(), Fail> {
     let ohms = source_ohms(&short_circuit(20_000 * GIGA, 21_000 * GIGA))?;
     let (r1, x1) = (160_376_682, 641_506_728);
     let (r0, x0) = (179_603_582, 538_810_746);
-    assert_eq!(rt; ohms, Ohms { r1, x1, r0, x0 });
+    same(&rt, ohms, Ohms { r1, x1, r0, x0 });
     let ohms = source_ohms(&short_circuit(20_000 * GIGA, 200_000 * GIGA))?;
     let (r0, x0) = (0, 0);
-    assert_eq!(rt; ohms, Ohms { r1, x1, r0, x0 });
+    same(&rt, ohms, Ohms { r1, x1, r0, x0 });
     let most = source_ohms(&short_circuit(1_322_500_000, 21_000 * GIGA));
-    assert!(rt; most.is_ok());
+    holds(&rt, most.is_ok());
     let past = source_ohms(&short_circuit(21_000 * GIGA, 1_322_499_999)).err();
-    assert_eq!(rt; past, Some(TermFault::Range));
+    same(&rt, past, Some(TermFault::Range));
     Ok(())
 }
 
@@ -61,11 +62,10 @@ fn three_phases(rt: HostRuntime) -> Result<(), Fail> {
     let added = source_terms(alloc, &source, &at)?;
     let half = 500_000_000;
     let voltages = [866_025_404, half, 0, -GIGA, -866_025_404, half];
-    assert_eq!(rt; added.constants.as_slice(), voltages.as_slice());
-    assert_eq!(rt; added.terms.len(), 30);
-    let (own, mutual) = (numbers(&added.terms[2]), numbers(&added.terms[4]));
-    assert_eq!(rt; own, (6, 6, -500_000_000_000));
-    assert_eq!(rt; mutual, (6, 8, -200_000_000_000));
+    same(&rt, added.constants.as_slice(), voltages.as_slice());
+    holds(&rt, added.terms.len() == 30);
+    same(&rt, numbers(&added.terms[2]), (6, 6, -500_000_000_000));
+    same(&rt, numbers(&added.terms[4]), (6, 8, -200_000_000_000));
     Ok(())
 }
 
@@ -87,6 +87,6 @@ fn out_of_range(rt: HostRuntime) -> Result<(), Fail> {
         },
     };
     let refused = source_terms(alloc, &source, &at).err();
-    assert_eq!(rt; refused, Some(TermFault::Range));
+    same(&rt, refused, Some(TermFault::Range));
     Ok(())
 }

@@ -1,4 +1,5 @@
 // Worked transformers.
+use crate::checks::{holds, same};
 use crate::contributions::{GIGA, THREE, ends, numbers};
 use fd_arith::{Conn, NodeAt, TapPair, TermFault};
 use fd_xfmr::{XfmrData, xfmr_terms};
@@ -53,16 +54,19 @@ fn one_phase(rt: HostRuntime) -> Result<(), Fail> {
         second: 103_750,
     };
     let terms = xfmr_terms(alloc, &xfmr, taps, &at)?;
-    assert_eq!(rt; terms.len(), NUMBERS.len());
+    holds(&rt, terms.len() == NUMBERS.len());
     for (term, due) in terms.iter().zip(&NUMBERS) {
-        assert_eq!(rt; numbers(term), *due);
+        same(&rt, numbers(term), *due);
     }
-    assert_eq!(rt; terms[0].den, 240_000_000_000_000);
+    same(&rt, terms[0].den, 240_000_000_000_000);
     Ok(())
 }
 
 // 115 kilovolt in delta and 4.16 kilovolt in wye, 5000 kilovolt-ampere, 0.001 + j 0.008 percent: 2401.77712 volt and
 // 0.0000346112 + j 0.0002768896 ohm in a phase, and phase 1 joins nodes 1 and 3 of the higher side
+// The denominator of the ratio, and the numerator of the resistance
+const DELTA_WYE: (i128, i128) = (11_500_000_000_000_000, -346_112_000_000_000_000);
+
 #[test]
 fn delta_wye(rt: HostRuntime) -> Result<(), Fail> {
     let alloc = rt.alloc();
@@ -77,14 +81,15 @@ fn delta_wye(rt: HostRuntime) -> Result<(), Fail> {
         xhl: 8_000_000,
     };
     let terms = xfmr_terms(alloc, &xfmr, NOMINAL, &at)?;
-    assert_eq!(rt; terms.len(), 48);
-    let (own, before) = (numbers(&terms[0]), numbers(&terms[2]));
-    assert_eq!(rt; own, (12, 0, 240_177_712_000_000));
-    assert_eq!(rt; terms[0].den, 11_500_000_000_000_000);
-    assert_eq!(rt; before, (12, 4, -240_177_712_000_000));
-    let (r, x) = (terms[6], terms[7]);
-    assert_eq!(rt; r.num, -346_112_000_000_000_000);
-    assert_eq!(rt; (x.col, x.num), (13, 2_768_896_000_000_000_000));
+    holds(&rt, terms.len() == 48);
+    same(&rt, numbers(&terms[0]), (12, 0, 240_177_712_000_000));
+    same(&rt, numbers(&terms[2]), (12, 4, -240_177_712_000_000));
+    same(&rt, (terms[0].den, terms[6].num), DELTA_WYE);
+    same(
+        &rt,
+        (terms[7].col, terms[7].num),
+        (13, 2_768_896_000_000_000_000),
+    );
     Ok(())
 }
 
@@ -102,6 +107,6 @@ fn out_of_range(rt: HostRuntime) -> Result<(), Fail> {
         xhl: GIGA,
     };
     let fault = xfmr_terms(alloc, &xfmr, NOMINAL, &at).err();
-    assert_eq!(rt; fault, Some(TermFault::Range));
+    same(&rt, fault, Some(TermFault::Range));
     Ok(())
 }
