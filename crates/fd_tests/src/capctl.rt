@@ -14,8 +14,8 @@ fn a_bank_waits_for_its_dead_time(rt: HostRuntime) -> Result<(), Fail> {
     let mut closed = true;
     state.react(Verdict::Lower { steps: 1 }, 3_600_000, &mut first);
     same(&rt, first.find(0), Some(entry(3_615_000, 0, 0, false)));
-    same(&rt, state.act(3_615_000, &mut closed), -1);
-    same(&rt, closed, false);
+    let steps = state.act(3_615_000, &mut closed);
+    same(&rt, (steps, closed), (-1, false));
     same(&rt, state.opened(), Some(3_615_000));
     state.react(Verdict::Raise { steps: 1 }, 7_200_000, &mut second);
     same(&rt, second.find(0), Some(entry(7_615_000, 0, 0, true)));

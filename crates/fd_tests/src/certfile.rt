@@ -5,6 +5,7 @@ use fd_certfile::{CertFileFault, CertReader, Claimed, Rule};
 use fd_inject::Limits;
 use fd_settle::{Act, Solver};
 use std::alloc::{AllocError, Global};
+use std::fmt::Write;
 use std::process::Abort;
 
 const LINES: [&str; 21] = [
@@ -32,13 +33,13 @@ const LINES: [&str; 21] = [
 ];
 
 // The lines with the one of this number changed, counted from 1.
-fn with_line(alloc: Global, at: usize, line: &str) -> Result<String, AllocError> {
+fn with_line(alloc: Global, number: u32, line: &str) -> Result<String, AllocError> {
     let mut text = String::new(alloc);
-    let mut number: usize = 1;
+    let mut place: u32 = 1;
     for old in &LINES {
-        text.push_str(if number == at { line } else { old })?;
+        text.push_str(if place == number { line } else { old })?;
         text.push_str("\n")?;
-        number = number.wrapping_add(1);
+        place = place.wrapping_add(1);
     }
     Ok(text)
 }
@@ -108,7 +109,7 @@ fn read_all(alloc: Global, text: &str) -> Result<u64, CertFileFault> {
 }
 
 // A line by its number, what stands there instead, and the line and the rule of the refusal.
-const CHANGED: [(usize, &str, (u64, Option<Rule>)); 14] = [
+const CHANGED: [(u32, &str, (u64, Option<Rule>)); 14] = [
     (1, "cert 2", (1, Some(Rule::Grammar))),
     (2, "solution 1 0 0", (2, Some(Rule::Grammar))),
     (2, "solution 1 0 0 9", (11, Some(Rule::Grammar))),
@@ -134,39 +135,41 @@ fn refuses_lines(rt: HostRuntime) -> Result<(), CertFileFault> {
     Ok(())
 }
 
-// The centre of the first unknown in a certificate of this network with these lines of unknowns, or the refusal; and
-// the blocks that were given.
-fn solved(
-    alloc: Global,
-    rt: &impl Abort,
-    first: &str,
-    second: &str,
-) -> Result<((i128, u64, Option<Rule>), u64), CertFileFault> {
+// A certificate of a network of one node, with these lines of its unknowns.
+fn certificate(alloc: Global, first: &str, second: &str) -> Result<String, AllocError> {
     let mut text = String::new(alloc);
-    text.push_str("cert 1\nsolution 1 0 0 2\n")?;
-    text.push_str(first)?;
-    text.push_str(second)?;
+    write!(text, "cert 1\nsolution 1 0 0 2\n{first}{second}")?;
     text.push_str("c 0 1099511627776 0\nc 1 0 1099511627776\nend\n")?;
+    Ok(text)
+}
+
+const LIMITS: Limits = Limits {
+    max_iterations: 15,
+    tolerance: 100_000,
+};
+
+// The centre of the first unknown, or the refusal; and the blocks that were given.
+type Solved = ((i128, u64, Option<Rule>), u64);
+
+// What a certificate says of the network of a siemens.
+fn solved(alloc: Global, rt: &impl Abort, text: &str) -> Result<Solved, CertFileFault> {
     let rows = siemens(alloc)?;
     let net = network(rt, &rows, &INFLOW, 0);
-    let limits = Limits {
-        max_iterations: 15,
-        tolerance: 100_000,
-    };
     let mut reader = CertReader::open(alloc, text.as_bytes())?;
-    let answer = match reader.solve(alloc, &net, &limits) {
-        Ok(certified) => match certified.ball.centre.first() {
-            Some(centre) => (*centre, 0, None),
-            None => (0, 0, None),
-        },
+    let answer = match reader.solve(alloc, &net, &LIMITS) {
+        Ok(certified) => (first(&certified.ball.centre), 0, None),
         Err(CertFileFault::Refused { line, rule }) => (0, line, Some(rule)),
         Err(CertFileFault::NoMemory) => return Err(CertFileFault::NoMemory),
     };
     Ok((answer, reader.given()))
 }
 
+fn first(centre: &[i128]) -> i128 {
+    centre.first().copied().unwrap_or(0)
+}
+
 // The line of the first unknown and that of the second, and what is solved by them.
-const UNKNOWNS: [(&str, &str, ((i128, u64, Option<Rule>), u64)); 4] = [
+const UNKNOWNS: [(&str, &str, Solved); 4] = [
     (
         "x 0 100001000 2001 1000\n",
         SECOND,
@@ -194,7 +197,8 @@ const SECOND: &str = "x 1 0 2001 0\n";
 #[test]
 fn solves(rt: HostRuntime) -> Result<(), CertFileFault> {
     for (first, second, due) in &UNKNOWNS {
-        same_at(&rt, first, solved(rt.alloc(), &rt, first, second)?, *due);
+        let text = certificate(rt.alloc(), first, second)?;
+        same_at(&rt, first, solved(rt.alloc(), &rt, &text)?, *due);
     }
     Ok(())
 }

@@ -3,9 +3,9 @@ use crate::checks::{holds, same};
 use crate::circuits::{Row, circuit, edit, is_ready, make, positions, solve};
 use dss_circuit::{Circuit, ModelError};
 use fd_arith::{NodeAt, TapPair};
-use fd_devices::{Positions, ends_of, powers_at};
+use fd_devices::{Positions, Powers, ends_of, powers_at};
 use fd_elements::LoadPower;
-use std::alloc::Global;
+use std::alloc::{AllocError, Global};
 use std::process::Abort;
 use std::test::Fail;
 
@@ -48,13 +48,23 @@ const PHASE: LoadPower = LoadPower {
     q: 39_999_999,
 };
 
+// The powers of the loads of these elements at an hour.
+fn powers(alloc: Global, rows: &[Row], hour: u32) -> Result<Powers, ModelError> {
+    let circuit = circuit(alloc, rows)?;
+    Ok(powers_at(alloc, &circuit, hour)?)
+}
+
+// The positions of the script.
+fn script_positions(alloc: Global) -> Result<Positions, ModelError> {
+    let circuit = circuit(alloc, &ELEMENTS)?;
+    Ok(Positions::of(alloc, &circuit)?)
+}
+
 #[test]
 fn snapshot(rt: HostRuntime) -> Result<(), Fail> {
-    let alloc = rt.alloc();
-    let circuit = circuit(alloc, &ELEMENTS)?;
-    let powers = powers_at(alloc, &circuit, 0)?;
+    let powers = powers(rt.alloc(), &ELEMENTS, 0)?;
     same(&rt, powers.loads.as_slice(), &[PHASE, PHASE, PHASE]);
-    let positions = Positions::of(alloc, &circuit)?;
+    let positions = script_positions(rt.alloc())?;
     check_positions(&rt, &positions, &[(105_000, 98_750)], false);
     Ok(())
 }
@@ -79,15 +89,10 @@ const HOURS: [(u32, i128); 4] = [
 
 #[test]
 fn hours(rt: HostRuntime) -> Result<(), Fail> {
-    let circuit = circuit(rt.alloc(), &SHAPED)?;
     for (hour, p) in &HOURS {
-        let powers = powers_at(rt.alloc(), &circuit, *hour)?;
-        let (p, q) = (*p, *p / 2);
-        same(
-            &rt,
-            powers.loads.as_slice(),
-            &[LoadPower { p, q }, UNSHAPED],
-        );
+        let powers = powers(rt.alloc(), &SHAPED, *hour)?;
+        let phase = LoadPower { p: *p, q: *p / 2 };
+        same(&rt, powers.loads.as_slice(), &[phase, UNSHAPED]);
     }
     Ok(())
 }
@@ -99,15 +104,19 @@ const SECOND: Row<'static> = (
     "buses=[sourcebus c] kvs=[12.47 4.16] taps=[0.95 1.025]",
 );
 
-// The circuit with a second transformer, after a Solve, and where an element was edited then, after a second one.
-fn solved(alloc: Global, edited: &Option<Row>) -> Result<Circuit, ModelError> {
+// The circuit with a second transformer, after a Solve.
+fn solved(alloc: Global) -> Result<Circuit, ModelError> {
     let mut circuit = circuit(alloc, &ELEMENTS)?;
     make(alloc, &mut circuit, 5, &SECOND)?;
     solve(alloc, &mut circuit)?;
-    if let Some(row) = edited {
-        edit(alloc, &mut circuit, row)?;
-        solve(alloc, &mut circuit)?;
-    }
+    Ok(circuit)
+}
+
+// The same after an element was edited, and a second Solve.
+fn solved_again(alloc: Global, row: &Row) -> Result<Circuit, ModelError> {
+    let mut circuit = solved(alloc)?;
+    edit(alloc, &mut circuit, row)?;
+    solve(alloc, &mut circuit)?;
     Ok(circuit)
 }
 
@@ -144,15 +153,26 @@ const STARTS: [Start<'static>; 3] = [
     ),
 ];
 
-// The bank was closed before.
+// The positions with which a Solve starts where there were taps of so many transformers, and the bank was closed.
+fn started(alloc: Global, circuit: &Circuit, count: usize) -> Result<Positions, AllocError> {
+    let taps = BEFORE.get(..count).unwrap_or(&BEFORE);
+    let before = positions(alloc, taps, &[true])?;
+    Positions::next(alloc, circuit, &before)
+}
+
+fn start(alloc: Global, edited: &Option<Row>, count: usize) -> Result<Positions, ModelError> {
+    let circuit = match edited {
+        Some(row) => solved_again(alloc, row)?,
+        None => solved(alloc)?,
+    };
+    Ok(started(alloc, &circuit, count)?)
+}
+
 #[test]
 fn starts(rt: HostRuntime) -> Result<(), Fail> {
-    let alloc = rt.alloc();
     for (edited, count, taps, closed) in &STARTS {
-        let circuit = solved(alloc, edited)?;
-        let before = positions(alloc, BEFORE.get(..*count).unwrap_or(&BEFORE), &[true])?;
-        let next = Positions::next(alloc, &circuit, &before)?;
-        check_positions(&rt, &next, taps, *closed);
+        let found = start(rt.alloc(), edited, *count)?;
+        check_positions(&rt, &found, taps, *closed);
     }
     Ok(())
 }

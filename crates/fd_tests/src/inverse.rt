@@ -105,20 +105,30 @@ fn divided(
 ) -> Result<Vec<i128>, InverseFault> {
     let mut inverse = Vec::new(alloc);
     for (column, place) in (0..n).zip(pivots) {
-        let row = match rows.get(*place) {
-            Some(row) => row,
+        match rows.get(*place) {
+            Some(row) => add_divided(&mut inverse, row, column, n)?,
             None => return Err(no_inverse(column, Stop::Pivot)),
-        };
-        for k in 0..n {
-            let right = at(row, (n as usize).wrapping_add(k as usize));
-            let entry = nearest(right.wrapping_mul(ONE), at(row, column as usize));
-            if entry.unsigned_abs() > INVERSE_LIMIT {
-                return Err(no_inverse(column, Stop::Range));
-            }
-            inverse.push(entry)?;
         }
     }
     Ok(inverse)
+}
+
+fn add_divided(
+    inverse: &mut Vec<i128>,
+    row: &[i128],
+    column: u32,
+    n: u32,
+) -> Result<(), InverseFault> {
+    let pivot = at(row, column as usize);
+    for k in 0..n as usize {
+        let right = at(row, k.wrapping_add(n as usize));
+        let entry = nearest(right.wrapping_mul(ONE), pivot);
+        if entry.unsigned_abs() > INVERSE_LIMIT {
+            return Err(no_inverse(column, Stop::Range));
+        }
+        inverse.push(entry)?;
+    }
+    Ok(())
 }
 
 // The entries of the inverse of these rows, row by row.
@@ -128,17 +138,8 @@ fn inverse_cells(
     n: u32,
     cells: &[i128],
 ) -> Result<Vec<i128>, InverseFault> {
-    let mut a = Dense::zero(alloc, n)?;
-    for row in 0..n {
-        for col in 0..n {
-            if row < a.size() && col < a.size() {
-                let place = (row as usize)
-                    .wrapping_mul(n as usize)
-                    .wrapping_add(col as usize);
-                a.set(row, col, at(cells, place));
-            }
-        }
-    }
+    holds(rt, cells.len() == n as usize * n as usize);
+    let a = Dense::from_cells(n, Vec::from_slice(alloc, cells)?);
     holds(rt, a.first_column_past(ENTRY_LIMIT).is_none());
     let c = invert(alloc, &a)?;
     let mut inverse = Vec::new(alloc);

@@ -134,13 +134,14 @@ fn evaluates_expressions(rt: HostRuntime) {
     }
 }
 
+const MATRIX: [&[i128]; 2] = [&[300_000_000], &[100_000_000, 400_000_000]];
+
 #[test]
 fn reads_matrices(rt: HostRuntime) -> Result<(), LexError> {
     let rows = matrix(rt.alloc(), "0.3|0.1, 0.4")?;
-    let want = [&[300_000_000][..], &[100_000_000, 400_000_000]];
-    same(&rt, rows.len(), want.len());
-    for (row, want) in rows.iter().zip(&want) {
-        same(&rt, row.as_slice(), *want);
+    same(&rt, rows.len(), MATRIX.len());
+    for (row, due) in rows.iter().zip(&MATRIX) {
+        same(&rt, row.as_slice(), *due);
     }
     let none: Vec<Row> = matrix(rt.alloc(), "")?;
     same(&rt, none.len(), 1);

@@ -1,6 +1,7 @@
 // Matrices by their entries.
-use crate::checks::same;
+use crate::checks::{holds, same};
 use fd_mat::Dense;
+use std::alloc::AllocError;
 use std::process::Abort;
 
 /// An entry, and 0 where there is none.
@@ -12,9 +13,20 @@ pub fn entry(matrix: &Dense, row: u32, column: u32) -> i128 {
     }
 }
 
-/// Asserts entries, each with its row and its column.
-pub fn check_entries(rt: &impl Abort, matrix: &Dense, due: &[(u32, u32, i128)]) {
-    for (row, column, due) in due {
-        same(rt, entry(matrix, *row, *column), *due);
+/// Asserts the size of a matrix for which there was memory, and entries, each with its row and its column.
+pub fn check_matrix(
+    rt: &impl Abort,
+    matrix: Result<Dense, AllocError>,
+    size: u32,
+    due: &[(u32, u32, i128)],
+) {
+    match matrix {
+        Ok(matrix) => {
+            same(rt, matrix.size(), size);
+            for (row, column, due) in due {
+                same(rt, entry(&matrix, *row, *column), *due);
+            }
+        }
+        Err(_) => holds(rt, false),
     }
 }

@@ -137,7 +137,11 @@ fn update(
     requires { IsBuiltOf net.old circuit.now }
 {
     check_settings(rt, alloc, circuit, settings)?;
-    match net.update(circuit, &settings.at, &settings.powers) {
+    is_refusal(net.update(circuit, &settings.at, &settings.powers))
+}
+
+fn is_refusal(answer: Result<(), BuildFault>) -> Result<bool, AllocError> {
+    match answer {
         Ok(()) => Ok(false),
         Err(BuildFault::Range(_)) => Ok(true),
         Err(BuildFault::NoMemory) => Err(AllocError),
@@ -159,56 +163,85 @@ fn size(ends: Option<(i128, i128)>) -> u128 {
     }
 }
 
-// The sizes of the residuals in that state, in whole micro-units.
-fn sizes(rt: &impl Abort, alloc: Global, net: &Network) -> Result<Vec<u128>, AllocError> {
+// Asserts the sizes of the residuals in that state, in whole micro-units.
+fn check_sizes(
+    rt: &impl Abort,
+    alloc: Global,
+    net: &Network,
+    due: &[u128; 8],
+) -> Result<(), AllocError> {
     let net = net.rows();
     holds(rt, net.size() == 8);
     let residual = net.residual(alloc, &STATE)?;
-    let mut sizes = Vec::new(alloc);
-    for row in &residual {
-        sizes.push(size(row.ends()))?;
+    same(rt, residual.len(), due.len());
+    for (row, due) in residual.iter().zip(due) {
+        same(rt, size(row.ends()), *due);
     }
-    Ok(sizes)
+    Ok(())
+}
+
+// Its load has this power.
+fn worked_settings(alloc: Global, p: i128) -> Result<Settings, AllocError> {
+    Settings::new(alloc, &[], &[], &[LoadPower { p, q: 0 }])
+}
+
+// Its load has 100 kilowatt.
+fn worked(rt: &impl Abort, alloc: Global, circuit: &Circuit) -> Result<Network, AllocError>
+    ensures { IfOk result (λ net. IsBuiltOf net circuit.now) }
+{
+    let settings = worked_settings(alloc, 100_000_000)?;
+    built(rt, alloc, circuit, &settings)
+}
+
+// Gives its load this power; whether that is refused.
+fn update_worked(
+    rt: &impl Abort,
+    alloc: Global,
+    net: &mut Network,
+    circuit: &Circuit,
+    p: i128,
+) -> Result<bool, AllocError>
+    requires { IsBuiltOf net.old circuit.now }
+{
+    let settings = worked_settings(alloc, p)?;
+    update(rt, alloc, net, circuit, &settings)
 }
 
 // 1000 volt and 20 ohm in all make 50 ampere. The load has a tenth of a siemens, which is no whole number of 2^-40.
 const MISMATCH: [u128; 8] = [0, 0, 1, 0, 0, 0, 0, 0];
 
-// The sizes after the load has this power in place of 100 kilowatt, and whether it is refused.
-fn worked(
+// Asserts the sizes, those after its load has this power, and whether that is refused.
+fn check_worked(
     rt: &impl Abort,
     alloc: Global,
     circuit: &Circuit,
     p: i128,
-) -> Result<(Vec<u128>, bool), AllocError> {
-    let before = LoadPower {
-        p: 100_000_000,
-        q: 0,
-    };
-    let before = Settings::new(alloc, &[], &[], &[before])?;
-    let after = Settings::new(alloc, &[], &[], &[LoadPower { p, q: 0 }])?;
-    let mut net = built(rt, alloc, circuit, &before)?;
-    same(rt, sizes(rt, alloc, &net)?.as_slice(), &MISMATCH);
-    let is_refused = update(rt, alloc, &mut net, circuit, &after)?;
-    Ok((sizes(rt, alloc, &net)?, is_refused))
+    due: &[u128; 8],
+    is_refused: bool,
+) -> Result<(), AllocError> {
+    let mut net = worked(rt, alloc, circuit)?;
+    check_sizes(rt, alloc, &net, &MISMATCH)?;
+    same(
+        rt,
+        update_worked(rt, alloc, &mut net, circuit, p)?,
+        is_refused,
+    );
+    check_sizes(rt, alloc, &net, due)
 }
 
+// 5 ohm at 500 volt draw 100 ampere, 50 more than come
 #[test]
 fn twice_the_power(rt: HostRuntime) -> Result<(), Fail> {
     let circuit = circuit(rt.alloc(), &WORKED)?;
-    let (sizes, is_refused) = worked(&rt, rt.alloc(), &circuit, 200_000_000)?;
-    // 5 ohm at 500 volt draw 100 ampere, 50 more than come
-    same(&rt, sizes.as_slice(), &[0, 0, 50_000_001, 0, 0, 0, 0, 0]);
-    holds(&rt, !is_refused);
+    let due = [0, 0, 50_000_001, 0, 0, 0, 0, 0];
+    check_worked(&rt, rt.alloc(), &circuit, 200_000_000, &due, false)?;
     Ok(())
 }
 
 #[test]
 fn refused_power(rt: HostRuntime) -> Result<(), Fail> {
     let circuit = circuit(rt.alloc(), &WORKED)?;
-    let (sizes, is_refused) = worked(&rt, rt.alloc(), &circuit, 100_000_000_001)?;
-    same(&rt, sizes.as_slice(), &MISMATCH);
-    holds(&rt, is_refused);
+    check_worked(&rt, rt.alloc(), &circuit, 100_000_000_001, &MISMATCH, true)?;
     Ok(())
 }
 
@@ -238,14 +271,16 @@ const MOVABLE: [Row<'static>; 5] = [
 // The taps, whether the bank is closed, and the active and reactive power of each load.
 type Setting = (u32, u32, bool, [(i128, i128); 2]);
 
-// As it was built; then other taps, the bank open, other powers (of one load none), and all of these.
-const SETTINGS: [Setting; 5] = [
-    (
-        100_000,
-        100_000,
-        true,
-        [(100_000_000, 20_000_000), (50_000_000, 10_000_000)],
-    ),
+// As it was built.
+const FIRST: Setting = (
+    100_000,
+    100_000,
+    true,
+    [(100_000_000, 20_000_000), (50_000_000, 10_000_000)],
+);
+
+// Other taps, the bank open, other powers (of one load none), and all of these.
+const OTHERS: [Setting; 4] = [
     (
         102_500,
         98_750,
@@ -337,23 +372,33 @@ fn numbers_updated(
     circuit: &Circuit,
     setting: &Setting,
 ) -> Result<Vec<i128>, AllocError> {
-    let mut net = built(rt, alloc, circuit, &settings_at(alloc, &SETTINGS[0])?)?;
+    let mut net = built(rt, alloc, circuit, &settings_at(alloc, &FIRST)?)?;
     let is_refused = update(rt, alloc, &mut net, circuit, &settings_at(alloc, setting)?)?;
     holds(rt, !is_refused);
     numbers(rt, alloc, &net)
 }
 
-// An update moves a number, and gives those of the network that is built there.
+// Asserts that an update moves a number, and gives those of the network that is built there.
+fn check_update(
+    rt: &impl Abort,
+    alloc: Global,
+    circuit: &Circuit,
+    before: &[i128],
+    setting: &Setting,
+) -> Result<(), AllocError> {
+    let anew = numbers_built(rt, alloc, circuit, setting)?;
+    let moved = numbers_updated(rt, alloc, circuit, setting)?;
+    holds(rt, moved.as_slice() != before);
+    same(rt, moved.as_slice(), anew.as_slice());
+    Ok(())
+}
+
 #[test]
 fn updates(rt: HostRuntime) -> Result<(), Fail> {
-    let alloc = rt.alloc();
-    let circuit = circuit(alloc, &MOVABLE)?;
-    let before = numbers_built(&rt, alloc, &circuit, &SETTINGS[0])?;
-    for setting in &SETTINGS[1..] {
-        let anew = numbers_built(&rt, alloc, &circuit, setting)?;
-        let moved = numbers_updated(&rt, alloc, &circuit, setting)?;
-        holds(&rt, moved.as_slice() != before.as_slice());
-        same(&rt, moved.as_slice(), anew.as_slice());
+    let circuit = circuit(rt.alloc(), &MOVABLE)?;
+    let before = numbers_built(&rt, rt.alloc(), &circuit, &FIRST)?;
+    for setting in &OTHERS {
+        check_update(&rt, rt.alloc(), &circuit, &before, setting)?;
     }
     Ok(())
 }

@@ -1,5 +1,4 @@
-use Rattle.std.proofs.Common.{pos, negsuc, List, [], ◌∷◌, sym, subst, arith, lit<}
-use Rattle.std.specs.List.{All}
+use Rattle.std.proofs.Common.{pos, negsuc, [], ◌∷◌, sym, subst, arith, lit<}
 use Rattle.std.proofs.lemmas.Int.{ints}
 use Rattle.std.proofs.lemmas.List.Elements.{All-cons, All-nil}
 use Rattle.fd_arith.specs.declared.terms.Term.{Term}
