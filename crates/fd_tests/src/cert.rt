@@ -84,8 +84,8 @@ fn refused(rt: HostRuntime) -> Result<(), Fail> {
     Ok(())
 }
 
-// A point, its radius and its mismatch, the multiple of the unit matrix that is claimed as the inverse, and the rule that
-// the claim breaks, and where.
+// A point, its radius and its mismatch, the multiple of the unit matrix that is claimed as the inverse, and the rule
+// that the claim breaks, and where.
 type Claim = (i128, u128, u128, i128, Option<(Rule, u32)>);
 
 const CLAIMS: [Claim; 6] = [

@@ -1,10 +1,10 @@
 // Unit tests of the libraries: worked values, corners of inputs, and calls compared with the same work written plainly,
 // for what the cases of the top call don't reach.
 //
-// They stand in a crate of their own, since a crate with tests is proved twice: once as it is, and once with its tests.
+// They stand in a crate of their own, since a crate with tests is proved twice: as it is, and with its tests.
 // Each module has the tests of the library that it is named for. What several of them stand on has modules of its own:
-// `circuits` makes small circuits, `contributions` the ends of elements, `matrices` reads entries, and `one_node` has the
-// networks of one node.
+// `checks` has what they assert, `circuits` makes small circuits, `contributions` the ends of elements, `matrices`
+// reads entries, and `one_node` has the networks of one node.
 #![tactic(auto)]
 
 #[cfg(test)]

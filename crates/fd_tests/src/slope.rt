@@ -48,7 +48,8 @@ fn radii_of_power(rt: HostRuntime) {
     }
 }
 
-// The parts of the voltage and its magnitude, the half-width of the magnitude, and the radii by voltage and by magnitude.
+// The parts of the voltage and its magnitude, the half-width of the magnitude, and the radii by voltage and by
+// magnitude.
 type Current = ((i128, i128, i128), u128, (u128, u128));
 
 // constant current: inside, across the lower limit, outside, and a magnitude below 0 outside and across the lower limit
