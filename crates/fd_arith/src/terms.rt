@@ -1,8 +1,6 @@
 // The words in which the crates of the elements and of the network speak of contributions and of terminals.
-ghost use Rattle.std.specs.Prelude.{◌≡◌, List};
-
+use fd_items::Items;
 use std::alloc::AllocError;
-use std::marker::Model;
 
 /// One linear contribution: the coefficient num / den, with 0 < den <= 10^32, of the unknown `col` in the row `row`.
 #[derive(Clone, Copy, PartialEq, Eq, Debug)]
@@ -20,43 +18,8 @@ pub enum NodeAt {
     Node(u32),
 }
 
-/// The nodes of a terminal in order of its phases, which contracts see as a list.
-#[derive(Drop, Debug)]
-pub struct Nodes {
-    kept: Vec<NodeAt>,
-}
-
-impl Model for Nodes {
-    ghost use Rattle.std.specs.Prelude.{List};
-    ghost use Rattle.fd_arith.specs.declared.terms.NodeAt.{NodeAt};
-
-    ghost Value = { List NodeAt };
-
-    ghost view = { λ n. n.kept.items };
-}
-
-impl Nodes {
-    /// These nodes; takes no memory.
-    pub fn new(nodes: Vec<NodeAt>) -> Self
-        ensures { result ≡ nodes.items }
-    {
-        Nodes { kept: nodes }
-    }
-
-    /// Gives the nodes back; takes no memory.
-    pub fn into_vec(self) -> Vec<NodeAt>
-        ensures { result.items ≡ self }
-    {
-        self.kept
-    }
-
-    /// The nodes in order.
-    pub fn as_slice(&self) -> &[NodeAt]
-        ensures { result.now ≡ self.now }
-    {
-        self.kept.as_slice()
-    }
-}
+/// The nodes of a terminal in order of its phases.
+pub type Nodes = Items<NodeAt>;
 
 /// Where an element stands: the nodes of its first and of its second side, one for each phase, and the number of its
 /// first branch among the complex unknowns.

@@ -146,7 +146,7 @@ fn matrix(alloc: Global, phases: u32, given: &Option<Numbers>) -> Result<Entries
     ensures { IfOk result (λ m. m ≡ matrix_or_zero phases given.now) }
 {
     match given {
-        Some(numbers) => Ok(Entries::new(numbers.copied()?.into_vec())),
+        Some(numbers) => numbers.copied(),
         None => Ok(Entries::new(vec![in alloc; 0; (phases * phases) as usize]?)),
     }
 }

@@ -1,6 +1,7 @@
 // Items in order, which contracts see as a list.
-ghost use Rattle.std.specs.Prelude.{◌≡◌};
+ghost use Rattle.std.specs.Prelude.{◌≡◌, IfOk};
 
+use std::alloc::AllocError;
 use std::marker::Model;
 
 /// Items in order, which contracts see as a list. None is added or changed.
@@ -37,5 +38,19 @@ impl<T> Items<T> {
         ensures { result.now ≡ self.now }
     {
         self.kept.as_slice()
+    }
+}
+
+impl<T: Copy> Items<T> {
+    /// The same items.
+    ///
+    /// # Errors
+    /// `AllocError` where the memory is refused.
+    pub fn copied(&self) -> Result<Items<T>, AllocError>
+        ensures { IfOk result (λ items. items ≡ self.now) }
+    {
+        let mut items = Vec::with_capacity(*self.kept.allocator(), self.kept.len())?;
+        items.extend_from_slice(&self.kept)?;
+        Ok(Items::new(items))
     }
 }

@@ -1,44 +1,8 @@
 // The data of a line.
-ghost use Rattle.std.specs.Prelude.{◌≡◌, List, ℤ};
+use fd_items::Items;
 
-use std::marker::Model;
-
-/// The entries of a square matrix, row by row, which contracts see as a list.
-#[derive(Drop, Debug)]
-pub struct Entries {
-    kept: Vec<i128>,
-}
-
-impl Model for Entries {
-    ghost use Rattle.std.specs.Prelude.{List, ℤ};
-
-    ghost Value = { List ℤ };
-
-    ghost view = { λ e. e.kept.items };
-}
-
-impl Entries {
-    /// These entries; takes no memory.
-    pub fn new(entries: Vec<i128>) -> Self
-        ensures { result ≡ entries.items }
-    {
-        Entries { kept: entries }
-    }
-
-    /// Gives the entries back; takes no memory.
-    pub fn into_vec(self) -> Vec<i128>
-        ensures { result.items ≡ self }
-    {
-        self.kept
-    }
-
-    /// The entries in order.
-    pub fn as_slice(&self) -> &[i128]
-        ensures { result.now ≡ self.now }
-    {
-        self.kept.as_slice()
-    }
-}
+/// The entries of a square matrix, row by row.
+pub type Entries = Items<i128>;
 
 /// The series impedance of a line per unit of length, in whole 10^-9 ohm: the positive and the zero sequence (OpenDSS manual,
 /// properties R1, X1, R0, X0), or the whole matrices (properties RMatrix, XMatrix).
