@@ -20,7 +20,7 @@ use Rattle.fd_equations.proofs.Counting.{count_size, entry_size}
 pub same_cell : (a b : Cell) → a.col ≡ b.col → a.count ≡ b.count → a.slopes ≡ b.slopes → a.units ≡ b.units → a ≡ b
 same_cell a b e f g h = λ i. record { col = e i; count = f i; slopes = g i; units = h i }
 
-more_nothing : (c : Cell) → more c nothing ≡ c
+pub more_nothing : (c : Cell) → more c nothing ≡ c
 more_nothing c = same_cell (more c nothing) c refl (omega arith) (omega arith) (omega (arith, ints))
 
 -- an amount is the sum of two
@@ -29,7 +29,7 @@ pub record IsBoth (a b both : Amount) : Type 0 where
   pub count : both.count ≡ a.count + b.count
   pub slopes : both.slopes ≡ a.slopes + b.slopes
 
-more_twice : (c : Cell) (a b both : Amount) → IsBoth a b both → more (more c a) b ≡ more c both
+pub more_twice : (c : Cell) (a b both : Amount) → IsBoth a b both → more (more c a) b ≡ more c both
 more_twice c a b both h = same_cell (more (more c a) b) (more c both) refl (omega (arith, h.count)) (omega (arith, h.slopes)) (omega (arith, ints, h.units))
 
 pub grown_then : (ps : List (ℕ × ℕ)) (a b c : List Cell) (f g h : ℕ × ℕ → Amount) → AreGrown ps a b f → AreGrown ps b c g → ((p : ℕ × ℕ) → IsBoth (f p) (g p) (h p)) → AreGrown ps a c h
@@ -57,13 +57,13 @@ same_amount a b e f g = λ i. record { units = e i; count = f i; slopes = g i }
 
 -- ---- one more at a place
 
-abbrev is_at : ℕ × ℕ → ℕ × ℕ → Bool
+abbrev pub is_at : ℕ × ℕ → ℕ × ℕ → Bool
 is_at q p = eqb q.0 p.0 && eqb q.1 p.1
 
-here : (q p : ℕ × ℕ) → q.0 ≡ p.0 → q.1 ≡ p.1 → is_at q p ≡ true
+pub here : (q p : ℕ × ℕ) → q.0 ≡ p.0 → q.1 ≡ p.1 → is_at q p ≡ true
 here q p e f = ap (λ b. b && eqb q.1 p.1) (eq-eqb q.0 p.0 e) ∙ eq-eqb q.1 p.1 f
 
-elsewhere : (q p : ℕ × ℕ) → ((q.0 ≡ p.0) × (q.1 ≡ p.1) → ⊥) → is_at q p ≡ false
+pub elsewhere : (q p : ℕ × ℕ) → ((q.0 ≡ p.0) × (q.1 ≡ p.1) → ⊥) → is_at q p ≡ false
 elsewhere q p h = by_test (is_at q p) refl
   where
     by_test : (b : Bool) → is_at q p ≡ b → is_at q p ≡ false
@@ -71,7 +71,7 @@ elsewhere q p h = by_test (is_at q p) refl
     by_test false e = e
 
 -- so much at q, and nothing elsewhere
-abbrev only_at : ℕ × ℕ → Amount → ℕ × ℕ → Amount
+abbrev pub only_at : ℕ × ℕ → Amount → ℕ × ℕ → Amount
 only_at q a p = amount (cond (is_at q p) a.units (pos 0)) (cond (is_at q p) a.count 0) (cond (is_at q p) a.slopes 0)
 
 module _ (ps : List (ℕ × ℕ)) (cells : List Cell) (q : ℕ × ℕ) (a : Amount) where
@@ -99,7 +99,7 @@ cond_zero : (b : Bool) → ◌≡◌ {A = ℕ} (cond b 0 0) 0
 cond_zero true = refl
 cond_zero false = refl
 
-term_amount : (t : Term) (p : ℕ × ℕ) → only_at (t.row, t.col) (amount (units_of t) 1 0) p ≡ of_term t p
+pub term_amount : (t : Term) (p : ℕ × ℕ) → only_at (t.row, t.col) (amount (units_of t) 1 0) p ≡ of_term t p
 term_amount t p = λ i. amount (cond (is_at (t.row, t.col) p) (units_of t) (pos 0)) (cond (is_at (t.row, t.col) p) 1 0) (cond_zero (is_at (t.row, t.col) p) i)
 
 abbrev pub slope_at : ℕ → ℕ → ℤ → ℕ × ℕ → Amount
@@ -142,7 +142,7 @@ loads_more f us k d h p = record {
 
 -- ---- there is room
 
-pub cells_room : (ps : List (ℕ × ℕ)) (cells : List Cell) (n : ℕ) (ts : List Term) (k : ℕ) → AreLinear n ts → AreCells ps cells (of_terms (take k ts)) → HaveTermRoom ps cells (2 ^ 78) (2 ^ 24)
+pub cells_room : (ps : List (ℕ × ℕ)) (cells : List Cell) (n : ℕ) (ts : List Term) (k : ℕ) → AreLinear n ts → AreCells ps cells (of_terms (take k ts)) → HaveTermRoom ps cells (2 ^ 81) (2 ^ 26)
 cells_room ps cells n ts k linear are j l =
     let p = key ps j in
     let a = entry_size n (take k ts) p.0 p.1 (All-take (IsLinear n) k ts linear.each) in
@@ -152,7 +152,7 @@ cells_room ps cells n ts k linear are j l =
     let cell = are.each j l in
     let units : (cell_at cells j).units ≡ linear_entry (take k ts) p.0 p.1 = ap (λ (c : Cell). c.units) cell in
     let count : (cell_at cells j).count ≡ count_at (take k ts) p.0 p.1 = ap (λ (c : Cell). c.count) cell in
-    (subst (λ z. nat_abs z ≤ 2 ^ 78) (sym units) (omega arith), omega arith)
+    (subst (λ z. nat_abs z ≤ 2 ^ 81) (sym units) (omega arith), omega arith)
 
 pub slopes_room : (ps : List (ℕ × ℕ)) (cells : List Cell) (n : ℕ) (ts : List Term) → AreLinear n ts → AreCells ps cells (of_terms ts) → HaveSlopeRoom ps cells (2 ^ 78) 0
 slopes_room ps cells n ts linear are j l =

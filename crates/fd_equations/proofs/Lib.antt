@@ -18,4 +18,5 @@ pub mod AtTerminals
 pub mod CallerLemmas
 pub mod DrawnSizes
 pub mod LoadSums
+pub mod Exchanging
 pub mod DrawnIntervals

@@ -73,6 +73,14 @@ more c a = record { col = c.col; count = c.count + a.count; slopes = c.slopes + 
 abbrev pub AreGrown : List (ℕ × ℕ) → List Cell → List Cell → (ℕ × ℕ → Amount) → Type 0
 AreGrown ps old new add = (k : ℕ) → k < length ps → cell_at new k ≡ more (cell_at old k) (add (key ps k))
 
+-- the cell at each place has lost what is said of the place by the one, and has what is said by the other more
+abbrev pub AreExchanged : List (ℕ × ℕ) → List Cell → List Cell → (ℕ × ℕ → Amount) → (ℕ × ℕ → Amount) → Type 0
+AreExchanged ps old new less add = (k : ℕ) → k < length ps → more (cell_at new k) (less (key ps k)) ≡ more (cell_at old k) (add (key ps k))
+
+-- the cell at each place has at least so many contributions
+abbrev pub HaveCounts : List (ℕ × ℕ) → List Cell → (ℕ × ℕ → ℕ) → Type 0
+HaveCounts ps cells least = (k : ℕ) → k < length ps → least (key ps k) ≤ (cell_at cells k).count
+
 -- no sum and no number of contributions, and no sum and no number of slopes, is past these
 abbrev pub HaveTermRoom : List (ℕ × ℕ) → List Cell → ℕ → ℕ → Type 0
 HaveTermRoom ps cells units count = (k : ℕ) → k < length ps → (nat_abs (cell_at cells k).units ≤ units) × ((cell_at cells k).count ≤ count)

@@ -68,11 +68,12 @@ pub fn add_terms(pattern: &Pattern, cells: &mut [Cell], terms: &[Term])
     }
 }
 
-fn add_term(pattern: &Pattern, cells: &mut [Cell], term: &Term)
+/// Adds a contribution at its place.
+pub fn add_term(pattern: &Pattern, cells: &mut [Cell], term: &Term)
     requires long { length cells.old ≡ length pattern.now.places }
     requires divided { IsDivided term.now }
     requires within { IsWithin term.now }
-    requires room { HaveTermRoom pattern.now.places cells.old (2 ^ 78) (2 ^ 24) }
+    requires room { HaveTermRoom pattern.now.places cells.old (2 ^ 81) (2 ^ 26) }
     ensures { AreGrown pattern.now.places cells.old cells.new (of_term term.now) }
 {
     if let Some(k) = pattern.find(term.row, term.col) {
@@ -82,8 +83,8 @@ fn add_term(pattern: &Pattern, cells: &mut [Cell], term: &Term)
 
 fn with_term(cell: Cell, units: i128) -> Cell
     requires units { nat_abs units ≤ 2 ^ 54 }
-    requires sum { nat_abs cell.units ≤ 2 ^ 78 }
-    requires count { cell.count ≤ 2 ^ 24 }
+    requires sum { nat_abs cell.units ≤ 2 ^ 81 }
+    requires count { cell.count ≤ 2 ^ 26 }
     ensures { result ≡ more cell (amount units 1 0) }
 {
     Cell {
@@ -94,8 +95,8 @@ fn with_term(cell: Cell, units: i128) -> Cell
     }
 }
 
-// A contribution in units of 2^-40, to the nearest.
-fn units(term: &Term) -> i128
+/// A contribution in units of 2^-40, to the nearest.
+pub fn units(term: &Term) -> i128
     requires divided { IsDivided term.now }
     requires within { IsWithin term.now }
     ensures units { result ≡ units_of term.now }

@@ -17,6 +17,7 @@ ghost use Rattle.fd_equations.specs.Terminals.{IsConnected};
 
 use crate::Pattern;
 use crate::cells::{Cell, add_terms, are_small, blank, cell_in, clear, row_in};
+use crate::exchange::{exchange_terms, stand_alike};
 use crate::load_cells::{add_slopes, add_start_slopes, count_slopes};
 use crate::matrix::Matrix;
 use crate::places::places_of;
@@ -104,8 +105,8 @@ impl Rows {
         })
     }
 
-    /// Puts contributions and part loads in place of those that stand there, and gives these back. The sums are made anew at the places
-    /// that are kept; takes no memory.
+    /// Puts contributions and part loads in place of those that stand there, and gives these back. Where there are as many, and the
+    /// part loads stand where they stood, the sums change by the contributions that differ; else they are made anew. Takes no memory.
     pub fn replace(&mut self, terms: &mut Vec<Term>, loads: &mut Vec<LoadAt>)
         requires held { CanHold self.old terms.old.items loads.old.items }
         ensures size { self.new.size ≡ self.old.size }
@@ -122,7 +123,14 @@ impl Rows {
     {
         mem::swap(&mut self.terms, terms);
         mem::swap(&mut self.loads, loads);
-        sum_up(&self.pattern, &mut self.cells, &self.terms, &self.loads);
+        renew(
+            &self.pattern,
+            &mut self.cells,
+            terms,
+            loads,
+            &self.terms,
+            &self.loads,
+        );
     }
 
     /// How many rows there are, and how many columns.
@@ -225,6 +233,30 @@ impl Rows {
         let mut cells = without_slopes(alloc, &self.cells)?;
         add_slopes(&self.pattern, &mut cells, &self.loads, x);
         Ok(Matrix::new(&self.pattern, cells))
+    }
+}
+
+// Makes cells that have the sums of contributions and the numbers of slopes of part loads those of others.
+fn renew(
+    pattern: &Pattern,
+    cells: &mut [Cell],
+    old_terms: &[Term],
+    old_loads: &[LoadAt],
+    terms: &[Term],
+    loads: &[LoadAt],
+)
+    requires small { pattern.now.size ≤ 2 ^ 11 }
+    requires old_linear { AreLinear pattern.now.size old_terms.now }
+    requires sums { AreCells pattern.now.places cells.old (of_rows old_terms.now old_loads.now) }
+    requires linear { AreLinear pattern.now.size terms.now }
+    requires loads { All (IsConnected pattern.now.size) loads.now }
+    requires few { length loads.now < 2 ^ 21 }
+    ensures { AreCells pattern.now.places cells.new (of_rows terms.now loads.now) }
+{
+    if old_terms.len() == terms.len() && stand_alike(old_loads, loads) {
+        exchange_terms(pattern, cells, old_terms, terms);
+    } else {
+        sum_up(pattern, cells, terms, loads);
     }
 }
 
