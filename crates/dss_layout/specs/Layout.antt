@@ -7,6 +7,7 @@ use Rattle.dss_profile.specs.declared.names.ElementName.{ElementName}
 use Rattle.dss_layout.specs.declared.nodes.NodeName.{NodeName}
 use Rattle.dss_layout.specs.declared.nodes.PhaseName.{PhaseName}
 use Rattle.fd_exact.specs.First.{first_place}
+use Rattle.fd_exact.specs.Answers as answers
 use Rattle.fd_arith.specs.declared.terms.Ends.{Ends}
 use Rattle.dss_layout.specs.declared.limits.LayoutFault.{LayoutFault}
 use Rattle.dss_layout.specs.declared.limits.LayoutFault.TheVariants.{TooMany, NoMemory}
@@ -98,11 +99,14 @@ laid_out_unless (Some k) elements = Err (TooMany k)
 abbrev pub laid_out : Elements → Result LayoutView LayoutFault
 laid_out elements = laid_out_unless (first_too_many elements) elements
 
--- an answer is what is said, unless memory ran out
+-- the fault of an answer, unless memory ran out
+abbrev pub fault_of : LayoutFault → Option LayoutFault
+fault_of (TooMany k) = Some (TooMany k)
+fault_of NoMemory = None
+
+-- an answer is what is said
 abbrev pub LaysOut : Result LayoutView LayoutFault → Result LayoutView LayoutFault → Type 0
-LaysOut (Ok layout) said = said ≡ Ok layout
-LaysOut (Err (TooMany k)) said = said ≡ Err (TooMany k)
-LaysOut (Err NoMemory) said = Unit {0}
+LaysOut = answers.Gives fault_of (λ layout. layout)
 
 -- the number of real unknowns
 abbrev pub size_of : LayoutView → ℕ

@@ -1,5 +1,6 @@
 -- The node numbers of a bus as the code holds them.
-use Rattle.std.specs.Prelude.{◌≡◌, ℕ, List, [], Result, Ok, Err}
+use Rattle.std.specs.Prelude.{ℕ, List, [], Some, Result, Ok, Err}
+use Rattle.fd_exact.specs.Answers as answers
 use Rattle.dss_layout.specs.declared.numbers.PhaseNumbers.{PhaseNumbers}
 use Rattle.dss_layout.specs.declared.numbers.PhaseNumbers.TheVariants.{Zero, One, Two, Three}
 use Rattle.dss_layout.specs.declared.numbers.TerminalFault.{TerminalFault}
@@ -20,6 +21,6 @@ abbrev pub seen : {X Y : Type 0} → (X → Y) → Result X TerminalFault → Re
 seen view (Ok x) = Ok (view x)
 seen view (Err e) = Err e
 
--- an answer, seen by view, is what is said
+-- an answer, seen by view, is what is said; memory is never wanted
 abbrev pub Gives : {X Y : Type 0} → (X → Y) → Result X TerminalFault → Result Y TerminalFault → Type 0
-Gives view answer said = said ≡ seen view answer
+Gives = answers.Gives Some

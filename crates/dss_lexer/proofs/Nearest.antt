@@ -6,7 +6,7 @@ use Rattle.std.proofs.lemmas.Bool.{cases_lt, le-ltb}
 use Rattle.std.specs.Int.RustNames.{unsigned_abs}
 use Rattle.std.proofs.lemmas.Int.{ints}
 use Rattle.dss_lexer.specs.declared.numbers.Shift.{Shift}
-use Rattle.dss_lexer.specs.declared.fault.LexFault.TheVariants.{NumberTooLarge}
+use Rattle.dss_lexer.specs.declared.fault.NumberFault.TheVariants.{NumberTooLarge}
 use Rattle.fd_exact.specs.Rounding.{near_div}
 use Rattle.dss_lexer.specs.Number.{within_limit, with_sign, units, value}
 

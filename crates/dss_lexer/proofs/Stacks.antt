@@ -6,7 +6,7 @@ use Rattle.std.specs.Int.RustNames.{unsigned_abs}
 use Rattle.std.proofs.lemmas.List.{reverse-append}
 use Rattle.fd_exact.specs.Rounding.{near_div, near_over}
 use Rattle.dss_lexer.specs.declared.expressions.Operator.{Operator}
-use Rattle.dss_lexer.specs.declared.fault.LexFault.{LexFault}
+use Rattle.dss_lexer.specs.declared.fault.NumberFault.{NumberFault}
 use Rattle.dss_lexer.specs.Answers.{◌>>=◌}
 use Rattle.dss_lexer.specs.Number.{with_sign}
 use Rattle.dss_lexer.specs.Postfix.{reduce, operate}
@@ -26,7 +26,7 @@ module _ (op : Operator) (all more rest : List ℤ) (left right : ℤ) (e₁ : a
       reduced ∙ ap (λ r. r >>= λ n. Ok (n ∷ reverse rest)) (ap (operate op left) (sym q) ∙ ap (λ z. operate op z r) (sym p) ∙ h)
       ∙ ap (λ z. Ok (z ∷ reverse rest)) (sym s) ∙ ap Ok (sym (reverse_push rest new m e))
 
-  pub reduce_fault : (l r : ℤ) (e : LexFault) → operate op l r ≡ Err e → l ≡ left → r ≡ right
+  pub reduce_fault : (l r : ℤ) (e : NumberFault) → operate op l r ≡ Err e → l ≡ left → r ≡ right
       → reduce op (reverse all) ≡ Err e
   reduce_fault l r e h p q = reduced ∙ ap (λ r. r >>= λ n. Ok (n ∷ reverse rest)) (ap (operate op left) (sym q) ∙ ap (λ z. operate op z r) (sym p) ∙ h)
 

@@ -3,8 +3,8 @@ use Rattle.std.proofs.Common.{◌≡◌, ◌∙◌, ℕ, zero, suc, ◌+◌, ◌
 use Rattle.std.specs.Str.{IsUtf8, is_utf8}
 use Rattle.std.proofs.lemmas.Str.{IsUtf8-from_is_utf8, is_utf8-from_IsUtf8}
 use Rattle.dss_lexer.specs.declared.pair.Pair.{Pair}
-use Rattle.dss_lexer.specs.declared.fault.LexFault.{LexFault}
-use Rattle.dss_lexer.specs.declared.fault.LexFault.TheVariants as fault
+use Rattle.dss_lexer.specs.declared.fault.LineFault.{LineFault}
+use Rattle.dss_lexer.specs.declared.fault.LineFault.TheVariants as fault
 use Rattle.dss_lexer.specs.Answers.{◌>>=◌}
 use Rattle.dss_lexer.proofs.Each.{after, joined}
 use Rattle.dss_lexer.specs.Line.{word_len, ends_word, skip_separators, ends_line, item_at, items_of}
@@ -30,7 +30,7 @@ word_over is_name (c ∷ cs) zero h = absurd (omega arith)
 word_over is_name (c ∷ cs) (suc i) h = word_over is_name cs i (omega arith)
 
 pub read_text : (line text : List ℕ) → (text ≡ line) × IsUtf8 line
-    → ◌≡◌ {A = Result (List ℕ) LexFault} (if is_utf8 line then Ok line else Err fault.NotText) (Ok text)
+    → ◌≡◌ {A = Result (List ℕ) LineFault} (if is_utf8 line then Ok line else Err fault.NotText) (Ok text)
 read_text line text h = ap (λ b. if b then Ok line else Err fault.NotText) (is_utf8-from_IsUtf8 line h.1) ∙ ap Ok (sym h.0)
 
 not_true : (b : Bool) → ¬ (b ≡ true) → b ≡ false
@@ -38,7 +38,7 @@ not_true true h = absurd (h refl)
 not_true false h = refl
 
 pub read_no_text : (line : List ℕ) → ¬ (IsUtf8 line)
-    → ◌≡◌ {A = Result (List ℕ) LexFault} (if is_utf8 line then Ok line else Err fault.NotText) (Err fault.NotText)
+    → ◌≡◌ {A = Result (List ℕ) LineFault} (if is_utf8 line then Ok line else Err fault.NotText) (Err fault.NotText)
 read_no_text line h = ap (λ b. if b then Ok line else Err fault.NotText) (not_true (is_utf8 line) (λ e. h (IsUtf8-from_is_utf8 line e)))
 
 -- no text holds nothing
@@ -57,7 +57,7 @@ pub items_more : (n : ℕ) (cs rest : List ℕ) (pair : Pair) (front : List Pair
 unfolding items_of
 items_more n cs rest pair front h e = rw (h, e) (joined front pair (items_of n rest))
 
-pub items_fault : (n : ℕ) (cs : List ℕ) (front : List Pair) (e : LexFault) → ends_line (skip_separators cs) ≡ false
+pub items_fault : (n : ℕ) (cs : List ℕ) (front : List Pair) (e : LineFault) → ends_line (skip_separators cs) ≡ false
     → item_at (skip_separators cs) ≡ Err e
     → after front (items_of (suc n) cs) ≡ Err e
 unfolding items_of

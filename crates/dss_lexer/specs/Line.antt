@@ -3,8 +3,8 @@ use Rattle.std.specs.Prelude.{◌≡◌, ℕ, suc, zero, ◌+◌, ◌==◌, nat_
 use Rattle.std.specs.Str.{chars, is_utf8}
 use Rattle.std.specs.List.{position_or_len, before_first, after_first}
 use Rattle.dss_lexer.specs.declared.pair.Pair.{Pair}
-use Rattle.dss_lexer.specs.declared.fault.LexFault.{LexFault}
-use Rattle.dss_lexer.specs.declared.fault.LexFault.TheVariants as fault
+use Rattle.dss_lexer.specs.declared.fault.LineFault.{LineFault}
+use Rattle.dss_lexer.specs.declared.fault.LineFault.TheVariants as fault
 use Rattle.dss_lexer.specs.Answers.{◌>>=◌}
 
 abbrev pub is_blank : ℕ → Bool
@@ -46,7 +46,7 @@ pub record Value : Type 0 where
   pub grouped : Bool
 
 -- what stands before the closer, and what comes after it
-unfoldable pub group_at : ℕ → List ℕ → Result (Value × List ℕ) LexFault
+unfoldable pub group_at : ℕ → List ℕ → Result (Value × List ℕ) LineFault
 group_at closer cs = if nat_lt (position_or_len (λ c. c == closer) cs) (length cs)
     then Ok (record { text = before_first (λ c. c == closer) cs; grouped = true }, after_first (λ c. c == closer) cs)
     else Err fault.UnclosedGroup
@@ -54,11 +54,11 @@ group_at closer cs = if nat_lt (position_or_len (λ c. c == closer) cs) (length 
 abbrev pub bare_at : Bool → List ℕ → Value × List ℕ
 bare_at is_name cs = (record { text = take (word_len is_name cs) cs; grouped = false }, drop (word_len is_name cs) cs)
 
-abbrev pub value_by : Option ℕ → List ℕ → List ℕ → Result (Value × List ℕ) LexFault
+abbrev pub value_by : Option ℕ → List ℕ → List ℕ → Result (Value × List ℕ) LineFault
 value_by None cs rest = Ok (bare_at false cs)
 value_by (Some closer) cs rest = group_at closer rest
 
-unfoldable pub value_at : List ℕ → Result (Value × List ℕ) LexFault
+unfoldable pub value_at : List ℕ → Result (Value × List ℕ) LineFault
 value_at [] = Ok (record { text = []; grouped = false }, [])
 value_at (c ∷ cs) = value_by (closer_of c) (c ∷ cs) cs
 
@@ -66,7 +66,7 @@ abbrev pub pair : List ℕ → Value → Pair
 pair name value = record { name = name; value = value.text; grouped = value.grouped }
 
 -- after a name: an equals sign, blanks round it, makes it a pair
-abbrev pub after_name : List ℕ → List ℕ → List ℕ → Result (Pair × List ℕ) LexFault
+abbrev pub after_name : List ℕ → List ℕ → List ℕ → Result (Pair × List ℕ) LineFault
 after_name name rest [] = Ok (pair [] (record { text = name; grouped = false }), rest)
 after_name name rest (c ∷ cs) = if c == 61 then (value_at (skip_blanks cs) >>= λ v. Ok (pair name v.0, v.1)) else Ok (pair [] (record { text = name; grouped = false }), rest)
 
@@ -75,7 +75,7 @@ is_group [] = false
 is_group (c ∷ cs) = elim (closer_of c) [ None ↦ false | Some k ↦ true ]
 
 -- one word or pair, and the text after it
-unfoldable pub item_at : List ℕ → Result (Pair × List ℕ) LexFault
+unfoldable pub item_at : List ℕ → Result (Pair × List ℕ) LineFault
 item_at cs = if is_group cs then (value_at cs >>= λ v. Ok (pair [] v.0, v.1))
     else let rest = drop (word_len true cs) cs in after_name (take (word_len true cs) cs) rest (skip_blanks rest)
 
@@ -85,14 +85,14 @@ ends_line [] = true
 ends_line (c ∷ cs) = starts_comment (c ∷ cs)
 
 -- at most so many words and pairs
-unfoldable pub items_of : ℕ → List ℕ → Result (List Pair) LexFault
+unfoldable pub items_of : ℕ → List ℕ → Result (List Pair) LineFault
 items_of zero cs = Ok []
 items_of (suc n) cs = let text = skip_separators cs in
     if ends_line text then Ok []
     else (item_at text >>= λ item. items_of n item.1 >>= λ items. Ok (item.0 ∷ items))
 
 -- a line has no more of them than characters
-unfoldable pub pairs_of : List ℕ → Result (List Pair) LexFault
+unfoldable pub pairs_of : List ℕ → Result (List Pair) LineFault
 pairs_of line = if nat_lt 65536 (length line) then Err fault.LineTooLong
     else if not (is_utf8 line) then Err fault.NotText
     else items_of (length (chars line)) (chars line)

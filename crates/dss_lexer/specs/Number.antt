@@ -4,8 +4,8 @@ use Rattle.std.specs.Char.{is_ascii_digit}
 use Rattle.std.specs.Int.RustNames.{unsigned_abs}
 use Rattle.std.specs.List.{list_all, position_or_len, before_first, after_first}
 use Rattle.dss_lexer.specs.declared.numbers.Shift.{Shift}
-use Rattle.dss_lexer.specs.declared.fault.LexFault.{LexFault}
-use Rattle.dss_lexer.specs.declared.fault.LexFault.TheVariants.{BadNumber, NumberTooLarge}
+use Rattle.dss_lexer.specs.declared.fault.NumberFault.{NumberFault}
+use Rattle.dss_lexer.specs.declared.fault.NumberFault.TheVariants.{BadNumber, NumberTooLarge}
 use Rattle.fd_exact.specs.Rounding.{near_div}
 
 abbrev pub is_plus : ℕ → Bool
@@ -63,14 +63,14 @@ abbrev pub with_sign : Bool → ℤ → ℤ
 with_sign negative z = if negative then neg_ℤ z else z
 
 -- a number, already rounded, is below 10^9 in size
-abbrev pub within_limit : ℤ → Result ℤ LexFault
+abbrev pub within_limit : ℤ → Result ℤ NumberFault
 within_limit z = if nat_lt (unsigned_abs z) 1_000_000_000_000_000_000 then Ok z else Err NumberTooLarge
 
-abbrev pub number_from : Bool → List ℕ → List ℕ → Option Shift → Result ℤ LexFault
+abbrev pub number_from : Bool → List ℕ → List ℕ → Option Shift → Result ℤ NumberFault
 number_from negative whole decimals None = Err BadNumber
 number_from negative whole decimals (Some shift) = if are_mantissa whole decimals then within_limit (with_sign negative (units whole decimals shift)) else Err BadNumber
 
 -- a sign, digits with at most one point, and an exponent
-unfoldable pub number_of : List ℕ → Result ℤ LexFault
+unfoldable pub number_of : List ℕ → Result ℤ NumberFault
 number_of text = let mantissa = before_first is_exponent_mark (unsigned text) in
     number_from (is_negative text) (before_first is_point mantissa) (after_first is_point mantissa) (shift_of (unsigned text))

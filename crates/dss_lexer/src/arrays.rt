@@ -9,7 +9,7 @@ ghost use Rattle.dss_lexer.specs.Number.{number_of};
 ghost use Rattle.dss_lexer.specs.Arrays.{words_of, word_in, is_bar, row_of, matrix_of};
 
 use crate::text::characters_of;
-use crate::{LexError, Text, number};
+use crate::{NumberError, Text, number};
 use std::alloc::{AllocError, Global};
 use std::marker::Model;
 
@@ -112,7 +112,7 @@ pub fn cells(alloc: Global, text: &str) -> Result<Vec<Text>, AllocError>
 }
 
 /// The number that a word spells.
-pub fn number_of_word(alloc: Global, word: &[char]) -> Result<i128, LexError>
+pub fn number_of_word(alloc: Global, word: &[char]) -> Result<i128, NumberError>
     ensures value { Gives (λ n. n) result (number_of word.now) }
     ensures size { IfOk result (λ n. unsigned_abs n < 1_000_000_000_000_000_000) }
 {
@@ -120,7 +120,7 @@ pub fn number_of_word(alloc: Global, word: &[char]) -> Result<i128, LexError>
     Ok(number(text.as_str())?)
 }
 
-fn numbers(alloc: Global, words: &[&[char]]) -> Result<Vec<i128>, LexError>
+fn numbers(alloc: Global, words: &[&[char]]) -> Result<Vec<i128>, NumberError>
     ensures { Gives (λ v. v.items) result (each number_of (map (λ word. word.now) words.now)) }
 {
     let mut numbers = Vec::new(alloc);
@@ -130,14 +130,14 @@ fn numbers(alloc: Global, words: &[&[char]]) -> Result<Vec<i128>, LexError>
     Ok(numbers)
 }
 
-fn row_numbers(alloc: Global, text: &[char]) -> Result<Row, LexError>
+fn row_numbers(alloc: Global, text: &[char]) -> Result<Row, NumberError>
     ensures { Gives (λ row. row) result (row_of text.now) }
 {
     let words = words(alloc, text)?;
     Ok(Row::new(numbers(alloc, &words)?))
 }
 
-fn rows(alloc: Global, parts: &[&[char]]) -> Result<Vec<Row>, LexError>
+fn rows(alloc: Global, parts: &[&[char]]) -> Result<Vec<Row>, NumberError>
     ensures { Gives (λ v. v.items) result (each row_of (map (λ part. part.now) parts.now)) }
 {
     let mut rows = Vec::new(alloc);
@@ -151,7 +151,7 @@ fn rows(alloc: Global, parts: &[&[char]]) -> Result<Vec<Row>, LexError>
 ///
 /// Each row holds its numbers in whole units of 10^-9, which blanks, tabs and commas part; an empty row holds none.
 /// Errors: those of `number` for the first word that isn't one, NoMemory.
-pub fn matrix(alloc: Global, text: &str) -> Result<Vec<Row>, LexError>
+pub fn matrix(alloc: Global, text: &str) -> Result<Vec<Row>, NumberError>
     ensures { Gives (λ v. v.items) result (matrix_of (chars text.now)) }
 {
     let characters = characters_of(alloc, text)?;

@@ -6,7 +6,7 @@ ghost use Rattle.dss_lexer.specs.Answers.{Gives};
 ghost use Rattle.dss_lexer.specs.Line.{is_blank, is_separator, closer_of, starts_comment, ends_line, ends_word, word_len, group_at, value_at, item_at, items_of, pairs_of, is_group, skip_blanks, skip_separators};
 
 use crate::text::characters_of;
-use crate::{LexError, LexFault, Pair, Text};
+use crate::{LineError, LineFault, Pair, Text};
 use std::alloc::{AllocError, Global};
 
 fn without_blanks(text: &[char]) -> &[char]
@@ -74,12 +74,12 @@ fn length_of_word(text: &[char], is_name: bool) -> usize
 
 // What stands before the end of a group, and what comes after it.
 #[tactic(auto, unfolding(crate::specs::Line::group_at))]
-fn group(text: &[char], closer: char) -> Result<(&[char], &[char]), LexError>
+fn group(text: &[char], closer: char) -> Result<(&[char], &[char]), LineError>
     ensures { Gives (λ x. (record { text = x.0.now; grouped = true }, x.1.now)) result (group_at closer text.now) }
 {
     match find_closer(text, closer) {
         Some(end) => Ok((&text[..end], &text[end + 1..])),
-        None => Err(LexError::Fault(LexFault::UnclosedGroup)),
+        None => Err(LineError::Fault(LineFault::UnclosedGroup)),
     }
 }
 
@@ -97,7 +97,7 @@ struct Found<'a> {
 }
 
 #[tactic(auto, unfolding(crate::specs::Line::value_at))]
-fn value(text: &[char]) -> Result<(Found<'_>, &[char]), LexError>
+fn value(text: &[char]) -> Result<(Found<'_>, &[char]), LineError>
     ensures { Gives (λ x. (record { text = x.0.text.now; grouped = x.0.grouped }, x.1.now)) result (value_at text.now) }
 {
     let Some(first) = text.first() else {
@@ -135,7 +135,7 @@ fn value(text: &[char]) -> Result<(Found<'_>, &[char]), LexError>
 
 // One word or pair, and the text after it.
 #[tactic(auto, unfolding(crate::specs::Line::item_at))]
-fn item(alloc: Global, text: &[char]) -> Result<(Pair, &[char]), LexError>
+fn item(alloc: Global, text: &[char]) -> Result<(Pair, &[char]), LineError>
     ensures { Gives (λ x. (x.0, x.1.now)) result (item_at text.now) }
 {
     if starts_group(text) {
@@ -192,7 +192,7 @@ fn is_line_end(text: &[char]) -> bool
 }
 
 // The words and pairs of a text.
-fn items(alloc: Global, text: &[char]) -> Result<Vec<Pair>, LexError>
+fn items(alloc: Global, text: &[char]) -> Result<Vec<Pair>, LineError>
     ensures { Gives (λ v. v.items) result (items_of (length text.now) text.now) }
 {
     let mut found = Vec::new(alloc);
@@ -210,12 +210,12 @@ fn items(alloc: Global, text: &[char]) -> Result<Vec<Pair>, LexError>
 }
 
 #[tactic(auto, using(crate::proofs::Words::read_text, crate::proofs::Words::read_no_text))]
-fn text_of(line: &[u8]) -> Result<&str, LexError>
-    ensures { Gives (λ text. text.now) result (if is_utf8 line.now then Ok line.now else Err LexFault.NotText) }
+fn text_of(line: &[u8]) -> Result<&str, LineError>
+    ensures { Gives (λ text. text.now) result (if is_utf8 line.now then Ok line.now else Err LineFault.NotText) }
 {
     match str::from_utf8(line) {
         Ok(text) => Ok(text),
-        Err(_) => Err(LexError::Fault(LexFault::NotText)),
+        Err(_) => Err(LineError::Fault(LineFault::NotText)),
     }
 }
 
@@ -226,11 +226,11 @@ fn text_of(line: &[u8]) -> Result<&str, LexError>
 /// The length (65,536 bytes) is tested first, then that the line is UTF-8, then the line is cut.
 /// Errors: LineTooLong, NotText, UnclosedGroup, NoMemory.
 #[tactic(auto, unfolding(crate::specs::Line::pairs_of))]
-pub fn pairs(alloc: Global, line: &[u8]) -> Result<Vec<Pair>, LexError>
+pub fn pairs(alloc: Global, line: &[u8]) -> Result<Vec<Pair>, LineError>
     ensures { Gives (λ v. v.items) result (pairs_of line.now) }
 {
     if line.len() > 65_536 {
-        return Err(LexError::Fault(LexFault::LineTooLong));
+        return Err(LineError::Fault(LineFault::LineTooLong));
     }
     let text = characters_of(alloc, text_of(line)?)?;
     items(alloc, &text)

@@ -11,7 +11,7 @@ ghost use Rattle.fd_exact.specs.Rounding.{near_div};
 use crate::arrays::{number_of_word, words};
 use crate::numbers::limited;
 use crate::text::characters_of;
-use crate::{LexError, LexFault};
+use crate::{NumberError, NumberFault};
 use std::alloc::Global;
 
 #[derive(Clone, Copy, Debug, PartialEq, Eq)]
@@ -59,16 +59,16 @@ fn dividend(left: i64, right: i64) -> i128
 }
 
 #[tactic(auto, using(crate::proofs::Stacks::near_over_size))]
-fn divided(left: i64, right: i64) -> Result<i128, LexFault>
+fn divided(left: i64, right: i64) -> Result<i128, NumberFault>
     ensures { result ≡ quotient left right }
 {
     if right == 0 {
-        return Err(LexFault::DivideByZero);
+        return Err(NumberFault::DivideByZero);
     }
     Ok(nearest(dividend(left, right), u128::from(right.unsigned_abs())))
 }
 
-fn exact_result(operator: Operator, left: i64, right: i64) -> Result<i128, LexFault>
+fn exact_result(operator: Operator, left: i64, right: i64) -> Result<i128, NumberFault>
     ensures { result ≡ exact operator left right }
 {
     match operator {
@@ -80,7 +80,7 @@ fn exact_result(operator: Operator, left: i64, right: i64) -> Result<i128, LexFa
 }
 
 // The result, rounded and within the limit of numbers.
-fn result_of(operator: Operator, left: i64, right: i64) -> Result<i64, LexFault>
+fn result_of(operator: Operator, left: i64, right: i64) -> Result<i64, NumberFault>
     ensures { result ≡ operate operator left right }
 {
     let exact = exact_result(operator, left, right)?;
@@ -88,20 +88,20 @@ fn result_of(operator: Operator, left: i64, right: i64) -> Result<i64, LexFault>
 }
 
 // The last two operands give way to their result.
-fn reduce_stack(stack: &mut Vec<i64>, operator: Operator) -> Result<(), LexError>
+fn reduce_stack(stack: &mut Vec<i64>, operator: Operator) -> Result<(), NumberError>
     ensures { Makes (reverse stack.new.items) result (reduce operator (reverse stack.old.items)) }
 {
     let Some(right) = stack.pop() else {
-        return Err(LexError::Fault(LexFault::BadPostfix));
+        return Err(NumberError::Fault(NumberFault::BadPostfix));
     };
     let Some(left) = stack.pop() else {
-        return Err(LexError::Fault(LexFault::BadPostfix));
+        return Err(NumberError::Fault(NumberFault::BadPostfix));
     };
     stack.push(result_of(operator, left, right)?)?;
     Ok(())
 }
 
-fn push_number(alloc: Global, stack: &mut Vec<i64>, word: &[char]) -> Result<(), LexError>
+fn push_number(alloc: Global, stack: &mut Vec<i64>, word: &[char]) -> Result<(), NumberError>
     ensures { Makes (reverse stack.new.items) result (read_by None (reverse stack.old.items) word.now) }
 {
     let number = number_of_word(alloc, word)?;
@@ -110,7 +110,7 @@ fn push_number(alloc: Global, stack: &mut Vec<i64>, word: &[char]) -> Result<(),
 }
 
 // The operands after one more word.
-fn take_word(alloc: Global, stack: &mut Vec<i64>, word: &[char]) -> Result<(), LexError>
+fn take_word(alloc: Global, stack: &mut Vec<i64>, word: &[char]) -> Result<(), NumberError>
     ensures { Makes (reverse stack.new.items) result (read_word (reverse stack.old.items) word.now) }
 {
     match operator_for(word) {
@@ -119,16 +119,16 @@ fn take_word(alloc: Global, stack: &mut Vec<i64>, word: &[char]) -> Result<(), L
     }
 }
 
-fn sole_operand(stack: &[i64]) -> Result<i128, LexFault>
+fn sole_operand(stack: &[i64]) -> Result<i128, NumberFault>
     ensures { result ≡ sole (reverse stack.now) }
 {
     match stack {
         [number] => Ok(i128::from(*number)),
-        _ => Err(LexFault::BadPostfix),
+        _ => Err(NumberFault::BadPostfix),
     }
 }
 
-fn value_of_words(alloc: Global, words: &[&[char]]) -> Result<i128, LexError>
+fn value_of_words(alloc: Global, words: &[&[char]]) -> Result<i128, NumberError>
     ensures { Gives (λ n. n) result (value_after [] (map (λ word. word.now) words.now)) }
 {
     let mut stack = Vec::new(alloc);
@@ -147,7 +147,7 @@ fn value_of_words(alloc: Global, words: &[&[char]]) -> Result<i128, LexError>
 /// of 10^9 or more in size, DivideByZero, BadPostfix where an operator lacks operands or not exactly one result is
 /// left, NoMemory.
 #[tactic(auto, unfolding(crate::specs::Postfix::postfix_of))]
-pub fn postfix(alloc: Global, text: &str) -> Result<i128, LexError>
+pub fn postfix(alloc: Global, text: &str) -> Result<i128, NumberError>
     ensures { Gives (λ n. n) result (postfix_of (chars text.now)) }
 {
     let characters = characters_of(alloc, text)?;

@@ -1,13 +1,25 @@
 // Why a text isn't read.
 use std::alloc::{AllocError, AllocFailed};
+use std::fmt::{Debug, Display};
 use thiserror::Error;
 
-/// Why a text isn't read. Each comes where this profile of the script language says.
+/// Why a line isn't cut into words and pairs.
 #[derive(Clone, Copy, Debug, PartialEq, Eq, Error)]
-pub enum LexFault {
+pub enum LineFault {
     /// A group isn't closed in its line.
     #[error("unclosed group")]
     UnclosedGroup,
+    /// The line has more than 65,536 bytes.
+    #[error("line too long")]
+    LineTooLong,
+    /// The line isn't UTF-8.
+    #[error("not text")]
+    NotText,
+}
+
+/// Why a text gives no number.
+#[derive(Clone, Copy, Debug, PartialEq, Eq, Error)]
+pub enum NumberFault {
     /// A text isn't a number.
     #[error("bad number")]
     BadNumber,
@@ -20,37 +32,49 @@ pub enum LexFault {
     /// A quotient by 0.
     #[error("divide by zero")]
     DivideByZero,
-    /// A line has more than 65,536 bytes.
-    #[error("line too long")]
-    LineTooLong,
-    /// A line isn't UTF-8.
-    #[error("not text")]
-    NotText,
 }
 
-/// Why a call doesn't read a text.
+/// Why a call doesn't read a text, with the faults that the text may have.
 #[derive(Clone, Copy, Debug, PartialEq, Eq, Error)]
-pub enum LexError {
+#[error_bound(F: Debug + Display)]
+pub enum LexError<F> {
     /// The text is at fault.
     #[error("{0}")]
-    Fault(LexFault),
+    Fault(F),
     /// Memory was refused.
     #[error("no memory")]
     NoMemory,
 }
 
-impl From<LexFault> for LexError {
+/// Why a call doesn't cut a line.
+pub type LineError = LexError<LineFault>;
+
+/// Why a call gives no number.
+pub type NumberError = LexError<NumberFault>;
+
+impl From<LineFault> for LexError<LineFault> {
     ghost use Rattle.std.specs.Prelude.{◌≡◌};
     ghost use Rattle.dss_lexer.specs.declared.fault.LexError.TheVariants.{Fault};
 
     ghost from_gives = { λ fault e. e ≡ Fault fault };
 
-    fn from(fault: LexFault) -> Self {
+    fn from(fault: LineFault) -> Self {
         LexError::Fault(fault)
     }
 }
 
-impl From<AllocError> for LexError {
+impl From<NumberFault> for LexError<NumberFault> {
+    ghost use Rattle.std.specs.Prelude.{◌≡◌};
+    ghost use Rattle.dss_lexer.specs.declared.fault.LexError.TheVariants.{Fault};
+
+    ghost from_gives = { λ fault e. e ≡ Fault fault };
+
+    fn from(fault: NumberFault) -> Self {
+        LexError::Fault(fault)
+    }
+}
+
+impl<F: Drop> From<AllocError> for LexError<F> {
     ghost use Rattle.std.specs.Prelude.{◌≡◌};
     ghost use Rattle.dss_lexer.specs.declared.fault.LexError.TheVariants.{NoMemory};
 
@@ -61,7 +85,7 @@ impl From<AllocError> for LexError {
     }
 }
 
-impl<T: Drop> From<AllocFailed<T>> for LexError {
+impl<F: Drop, T: Drop> From<AllocFailed<T>> for LexError<F> {
     ghost use Rattle.std.specs.Prelude.{◌≡◌};
     ghost use Rattle.dss_lexer.specs.declared.fault.LexError.TheVariants.{NoMemory};
 

@@ -5,7 +5,8 @@
 //! Want of memory is the only free answer.
 //!
 //! - `text`: `Text`, which contracts see as its characters
-//! - `fault`: `LexFault`, why a text isn't read, and `LexError`, which a call answers: such a fault, or want of memory
+//! - `fault`: `LineFault` and `NumberFault`, why a line isn't cut and why a text gives no number, and `LexError`, which
+//!   a call answers: such a fault, or want of memory
 //! - `pair`: `Pair` and `PairList`
 //! - `cutting`: `pairs`, a line's words and pairs
 //! - `numbers`: `number`, in units of 10^-9
@@ -24,7 +25,7 @@ mod text;
 pub use arrays::{Row, cells, matrix};
 pub use cutting::pairs;
 pub use expressions::postfix;
-pub use fault::{LexError, LexFault};
+pub use fault::{LexError, LineError, LineFault, NumberError, NumberFault};
 pub use numbers::number;
 pub use pair::{Pair, PairList};
 pub use text::Text;

@@ -6,7 +6,7 @@ ghost use Rattle.std.specs.Str.{chars};
 ghost use Rattle.std.specs.Int.RustNames.{unsigned_abs};
 ghost use Rattle.dss_lexer.specs.Number.{number_of, with_sign, unsigned, is_negative, are_digits, is_exponent_mark, is_point, exponent_of, shift_of, value, units, are_mantissa, within_limit, number_from};
 
-use crate::LexFault;
+use crate::NumberFault;
 
 // Past every number that is allowed, ten times over.
 const MOST: u64 = 10_000_000_000_000_000_000;
@@ -200,12 +200,12 @@ fn signed(negative: bool, size: u64) -> i128
 }
 
 /// The number, where it is below 10^9 in size.
-pub fn limited(number: i128) -> Result<i128, LexFault>
+pub fn limited(number: i128) -> Result<i128, NumberFault>
     ensures value { result ≡ within_limit number }
     ensures size { IfOk result (λ n. unsigned_abs n < LIMIT) }
 {
     if number.unsigned_abs() >= u128::from(LIMIT) {
-        return Err(LexFault::NumberTooLarge);
+        return Err(NumberFault::NumberTooLarge);
     }
     Ok(number)
 }
@@ -217,7 +217,7 @@ fn number_of_parts(
     whole: &[u8],
     decimals: &[u8],
     shift: Option<Shift>,
-) -> Result<i128, LexFault>
+) -> Result<i128, NumberFault>
     requires { ForSome shift (λ s. (s.left < 100) × (s.right < 100)) }
     ensures value { result ≡ number_from negative whole.now decimals.now shift }
     ensures size { IfOk result (λ n. unsigned_abs n < LIMIT) }
@@ -226,12 +226,12 @@ fn number_of_parts(
         Some(shift) if is_mantissa(whole, decimals) => {
             limited(signed(negative, size_of(whole, decimals, shift)))
         }
-        _ => Err(LexFault::BadNumber),
+        _ => Err(NumberFault::BadNumber),
     }
 }
 
 #[tactic(auto, unfolding(crate::specs::Number::number_of))]
-fn number_of_bytes(text: &[u8]) -> Result<i128, LexFault>
+fn number_of_bytes(text: &[u8]) -> Result<i128, NumberFault>
     ensures value { result ≡ number_of text.now }
     ensures size { IfOk result (λ n. unsigned_abs n < LIMIT) }
 {
@@ -247,12 +247,12 @@ fn number_of_bytes(text: &[u8]) -> Result<i128, LexFault>
 /// to the nearest unit, ties away from zero; the limit is tested after that.
 /// Errors: BadNumber for any other text, NumberTooLarge at 10^9 and above in size. Takes no memory.
 #[tactic(auto, using(crate::proofs::AsciiNumbers::number_ascii, crate::proofs::AsciiNumbers::number_not_ascii))]
-pub fn number(text: &str) -> Result<i128, LexFault>
+pub fn number(text: &str) -> Result<i128, NumberFault>
     ensures value { result ≡ number_of (chars text.now) }
     ensures size { IfOk result (λ n. unsigned_abs n < 1_000_000_000_000_000_000) }
 {
     if !text.is_ascii() {
-        return Err(LexFault::BadNumber);
+        return Err(NumberFault::BadNumber);
     }
     number_of_bytes(text.as_bytes())
 }

@@ -8,6 +8,7 @@ use Rattle.dss_profile.specs.declared.element.Element.{Element}
 use Rattle.dss_profile.specs.declared.names.ElementName.{ElementName}
 use Rattle.dss_ready.specs.declared.fault.ReadyFault.{ReadyFault}
 use Rattle.dss_ready.specs.declared.fault.ReadyFault.TheVariants as ready_fault
+use Rattle.fd_exact.specs.Answers as answers
 use Rattle.dss_profile.specs.Element.{place_of}
 use Rattle.dss_layout.specs.Terminals.{terminal_numbers, tested}
 use Rattle.dss_circuit.specs.Circuit.{Elements}
@@ -16,11 +17,14 @@ use Rattle.dss_ready.specs.Ranges.{is_outside_by}
 use Rattle.dss_ready.specs.Counts.{is_count_fault, is_part_wrong}
 use Rattle.dss_ready.specs.Support.{is_support_fault, are_powers_unequal, differs_from, frequency_of, lacks_impedance}
 
--- a refusal is the one that is said, unless memory ran out
+-- the blame of a refusal, unless memory ran out
+abbrev pub fault_of : ReadyFault → Option Blame
+fault_of (ready_fault.Blame blame) = Some blame
+fault_of ready_fault.NoMemory = None
+
+-- a refusal is the one that is said
 abbrev pub Answers : Result Unit ReadyFault → Result Unit Blame → Type 0
-Answers (Ok done) said = said ≡ Ok tt
-Answers (Err (ready_fault.Blame blame)) said = said ≡ Err blame
-Answers (Err ready_fault.NoMemory) said = Unit {0}
+Answers = answers.Makes fault_of tt
 
 -- a cause is blamed on its element, and without one the rest is looked at
 abbrev pub blamed_or : Option ModelFault → Place → Result Unit Blame → Result Unit Blame

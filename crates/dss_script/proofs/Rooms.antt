@@ -8,8 +8,8 @@ use Rattle.std.proofs.lemmas.Bool.{eqb-true, ltb-true}
 use Rattle.std.proofs.lemmas.Bool.Decides.{nat_tests}
 use Rattle.std.proofs.lemmas.Grind.{common_steps}
 use Rattle.dss_lexer.specs.declared.pair.Pair.{Pair}
-use Rattle.dss_lexer.specs.declared.fault.LexFault.{LexFault}
-use Rattle.dss_lexer.specs.declared.fault.LexFault.TheVariants as lex
+use Rattle.dss_lexer.specs.declared.fault.LineFault.{LineFault}
+use Rattle.dss_lexer.specs.declared.fault.LineFault.TheVariants as lex
 use Rattle.dss_lexer.specs.Answers.{◌>>=◌}
 use Rattle.dss_lexer.specs.Line.{Value, is_blank, is_separator, skip_blanks, skip_separators, starts_comment, ends_line, ends_word, word_len, closer_of, group_at, value_at, value_by, item_at, items_of, pairs_of, after_name, pair, is_group}
 use Rattle.dss_script.specs.Sessions.{paid}
@@ -98,7 +98,7 @@ bare_room is_name (c ∷ cs) h = cases (λ h. bare_room is_name cs h) (ends_word
     cases rest false e h = let shorter : drop (word_len is_name cs + 1) (c ∷ cs) ≡ drop (word_len is_name cs) cs = rw add-one refl in rw shorter (let r = rest (rw shorter at h) in omega arith)
 
 -- what a value and what comes after it take
-value_sum : Result (Value × List ℕ) LexFault → ℕ
+value_sum : Result (Value × List ℕ) LineFault → ℕ
 value_sum (Ok x) = after_room x.1 + length x.0.text
 value_sum (Err e) = 0
 
@@ -128,11 +128,11 @@ value_room [] = omega arith
 value_room (c ∷ cs) = by_room (closer_of c) (c ∷ cs) cs (omega arith)
 
 -- what a word or pair and what comes after it take
-item_sum : Result (Pair × List ℕ) LexFault → ℕ
+item_sum : Result (Pair × List ℕ) LineFault → ℕ
 item_sum (Ok x) = after_room x.1 + (length x.0.name + length x.0.value)
 item_sum (Err e) = 0
 
-named_value : (name : List ℕ) (r : Result (Value × List ℕ) LexFault)
+named_value : (name : List ℕ) (r : Result (Value × List ℕ) LineFault)
     → item_sum (r >>= λ v. Ok (pair name v.0, v.1)) ≤ length name + value_sum r
 unfolding item_sum value_sum
 named_value name (Ok x) = omega arith
@@ -179,17 +179,17 @@ item_room cs = cases (is_group cs)
         (omega (arith, length-take (word_len true cs) cs, length-drop (word_len true cs) cs))
 
 -- what all words and pairs take
-total : Result (List Pair) LexFault → ℕ
+total : Result (List Pair) LineFault → ℕ
 total (Ok pairs) = paid pairs
 total (Err e) = 0
 
-more_room : (p : Pair) (n : ℕ) (r : Result (List Pair) LexFault) → total r ≤ n
+more_room : (p : Pair) (n : ℕ) (r : Result (List Pair) LineFault) → total r ≤ n
     → total (r >>= λ items. Ok (p ∷ items)) ≤ length p.name + length p.value + 1 + n
 unfolding total
 more_room p n (Ok items) h = omega arith
 more_room p n (Err e) h = omega arith
 
-next_room : (n k : ℕ) (r : Result (Pair × List ℕ) LexFault) → item_sum r ≤ k
+next_room : (n k : ℕ) (r : Result (Pair × List ℕ) LineFault) → item_sum r ≤ k
     → ((rest : List ℕ) → total (items_of n rest) ≤ after_room rest)
     → total (r >>= λ item. items_of n item.1 >>= λ items. Ok (item.0 ∷ items)) ≤ k + 1
 unfolding total item_sum

@@ -3,7 +3,7 @@ use Rattle.std.proofs.Common.{◌≡◌, ◌∙◌, ℕ, suc, zero, ◌+◌, Boo
 use Rattle.std.specs.Prelude.{nat_lt, if◌then◌else◌}
 use Rattle.std.specs.Str.Lines.{lines}
 use Rattle.dss_lexer.specs.declared.pair.Pair.{Pair}
-use Rattle.dss_lexer.specs.declared.fault.LexFault.{LexFault}
+use Rattle.dss_lexer.specs.declared.fault.LineFault.{LineFault}
 use Rattle.dss_lexer.specs.Line.{pairs_of}
 use Rattle.dss_values.specs.Names.{bytes}
 use Rattle.dss_profile.specs.declared.command.Place.{Place}
@@ -61,7 +61,7 @@ module _ (files : Files) (file : File) (reader : Reader)
   meaning_same place (the.Does verb change) s go =
       command_same files folder (record { place = place; verb = verb }) (record { target = target_after s.target change; read = s.read }) go
 
-  line_same : (place : Place) (r : Result (List Pair) LexFault) (s : Standing) (go : Then)
+  line_same : (place : Place) (r : Result (List Pair) LineFault) (s : Standing) (go : Then)
       → line_says files reader folder place r s go ≡ told (by_line files file folder place r s) go
   line_same place (Err e) s go = refl
   line_same place (Ok pairs) s go = meaning_same place (meaning_of s.target pairs) s go

@@ -8,7 +8,7 @@ use Rattle.std.proofs.lemmas.List.{length-reverse}
 use Rattle.std.proofs.lemmas.Bool.{eqb-true, eqb-false, ltb-true, ltb-false, lt-ltb, le-ltb}
 use Rattle.fd_outside.specs.Files.{Files, held}
 use Rattle.dss_lexer.specs.declared.pair.Pair.{Pair}
-use Rattle.dss_lexer.specs.declared.fault.LexFault.{LexFault}
+use Rattle.dss_lexer.specs.declared.fault.LineFault.{LineFault}
 use Rattle.dss_script.proofs.Rooms.{pairs_room}
 use Rattle.dss_lexer.specs.Line.{pairs_of}
 use Rattle.dss_values.specs.Names.{bytes}
@@ -64,7 +64,7 @@ line_is files folder r outer standing (line ∷ rest) e h =
     ∙ ap (λ ls. line_says files (λ p n s g. file_says files folder (deeper (r ∷ outer)) p n s g) folder (next_place r) (pairs_of (first_of ls)) standing
     (λ s. files_say files folder (record { file = r.file; line = r.line + 1; lines = rest_of ls } ∷ outer) s)) (sym e)
 
-cut_says : (files : Files) (state : State) (place : Place) (said : Result (List Pair) LexFault)
+cut_says : (files : Files) (state : State) (place : Place) (said : Result (List Pair) LineFault)
     → line_says files (λ p n s g. file_says files state.folder (deeper state.files) p n s g) state.folder place said state.standing (λ s. files_say files state.folder state.files s) ≡ taken_says files (cut_into place said) state
 unfolding taken_says remaining_by
 cut_says files state place (Ok pairs) = refl
@@ -174,7 +174,7 @@ master_says files state master w h =
     ∙ reader_is files (record { waiting = None; folder = state.folder; files = state.files; standing = state.standing; ended = state.ended }) (record { file = master; line = 0 }) master 8 refl (omega (arith, depth state.files))
 
 -- a line takes at least the room of its words and pairs
-pays_cut : (place : Place) (line : List ℕ) (said : Result (List Pair) LexFault) → pairs_of line ≡ said
+pays_cut : (place : Place) (line : List ℕ) (said : Result (List Pair) LineFault) → pairs_of line ≡ said
     → pays (cut_into place said) ≤ length line + 1
 pays_cut place line (Err e) h = omega arith
 pays_cut place line (Ok pairs) h = omega (arith, pairs_room line pairs h)
@@ -189,7 +189,7 @@ stripped x = cases (slice_index x (length x - 1) == 13)
     cases true = omega (arith, length-take (length x - 1) x)
     cases false = omega arith
 
-closes_none : (place : Place) (said : Result (List Pair) LexFault) → closes (cut_into place said) ≡ 0
+closes_none : (place : Place) (said : Result (List Pair) LineFault) → closes (cut_into place said) ≡ 0
 closes_none place (Ok pairs) = refl
 closes_none place (Err e) = refl
 

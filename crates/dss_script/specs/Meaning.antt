@@ -2,8 +2,8 @@
 use Rattle.std.specs.Prelude.{ℕ, ◌==◌, Bool, true, false, ◌||◌, ◌&&◌, not, List, [], ◌∷◌, Option, Some, None, if◌then◌else◌, codes}
 use Rattle.std.specs.List.{slice_split, before_first, after_first}
 use Rattle.dss_lexer.specs.declared.pair.Pair.{Pair}
-use Rattle.dss_lexer.specs.declared.fault.LexFault.{LexFault}
-use Rattle.dss_lexer.specs.declared.fault.LexFault.TheVariants as lex
+use Rattle.dss_lexer.specs.declared.fault.LineFault.{LineFault}
+use Rattle.dss_lexer.specs.declared.fault.LineFault.TheVariants as line
 use Rattle.dss_lexer.specs.Texts.{is_empty, text_eq}
 use Rattle.dss_values.specs.Names.{named, bytes, lower, is_name}
 use Rattle.dss_profile.specs.declared.command.Verb.TheVariants as verb
@@ -39,15 +39,11 @@ command_words =
     ∷ (codes "buscoords", word.Ignored)
     ∷ []
 
--- the cause that stands for a fault of a line; the last four are faults of values, which no line has
-abbrev pub cause_of : LexFault → ScriptCause
-cause_of lex.UnclosedGroup = cause.UnclosedGroup
-cause_of lex.LineTooLong = cause.LineTooLong
-cause_of lex.NotText = cause.NotText
-cause_of lex.BadNumber = cause.BadValue
-cause_of lex.NumberTooLarge = cause.BadValue
-cause_of lex.BadPostfix = cause.BadValue
-cause_of lex.DivideByZero = cause.BadValue
+-- the cause that stands for a fault of a line
+abbrev pub cause_of : LineFault → ScriptCause
+cause_of line.UnclosedGroup = cause.UnclosedGroup
+cause_of line.LineTooLong = cause.LineTooLong
+cause_of line.NotText = cause.NotText
 
 abbrev pub is_dot : ℕ → Bool
 is_dot c = c == 46

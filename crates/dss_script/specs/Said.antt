@@ -2,7 +2,7 @@
 use Rattle.std.specs.Prelude.{ℕ, suc, zero, ◌+◌, nat_lt, List, [], ◌∷◌, ◌++◌, length, map, Option, Some, None, Result, Ok, Err, if◌then◌else◌}
 use Rattle.std.specs.Str.Lines.{lines}
 use Rattle.dss_lexer.specs.declared.pair.Pair.{Pair}
-use Rattle.dss_lexer.specs.declared.fault.LexFault.{LexFault}
+use Rattle.dss_lexer.specs.declared.fault.LineFault.{LineFault}
 use Rattle.dss_lexer.specs.Line.{pairs_of}
 use Rattle.dss_values.specs.Names.{bytes}
 use Rattle.dss_profile.specs.declared.command.Place.{Place}
@@ -66,7 +66,7 @@ by_meaning files file folder place (the.Does verb change) standing =
     by_command files folder (record { place = place; verb = verb })
     (record { target = target_after standing.target change; read = standing.read })
 
-abbrev pub by_line : Files → File → List ℕ → Place → Result (List Pair) LexFault → Standing → Part
+abbrev pub by_line : Files → File → List ℕ → Place → Result (List Pair) LineFault → Standing → Part
 by_line files file folder place (Err e) standing = stops place (cause_of e)
 by_line files file folder place (Ok pairs) standing =
     by_meaning files file folder place (meaning_of standing.target pairs) standing

@@ -2,7 +2,7 @@
 use Rattle.std.specs.Prelude.{ℕ, suc, zero, ◌+◌, nat_lt, List, [], ◌∷◌, length, Option, Some, None, Result, Ok, Err, if◌then◌else◌}
 use Rattle.std.specs.Str.Lines.{lines}
 use Rattle.dss_lexer.specs.declared.pair.Pair.{Pair}
-use Rattle.dss_lexer.specs.declared.fault.LexFault.{LexFault}
+use Rattle.dss_lexer.specs.declared.fault.LineFault.{LineFault}
 use Rattle.dss_lexer.specs.Line.{pairs_of}
 use Rattle.dss_values.specs.Names.{bytes}
 use Rattle.dss_profile.specs.declared.command.Place.{Place}
@@ -62,7 +62,7 @@ meaning_says files reader folder place (the.Does verb change) standing go =
     command_says files folder (record { place = place; verb = verb })
     (go (record { target = target_after standing.target change; read = standing.read }))
 
-abbrev pub line_says : Files → Reader → List ℕ → Place → Result (List Pair) LexFault → Standing → Then → Script
+abbrev pub line_says : Files → Reader → List ℕ → Place → Result (List Pair) LineFault → Standing → Then → Script
 line_says files reader folder place (Err e) standing go = refused place (cause_of e)
 line_says files reader folder place (Ok pairs) standing go =
     meaning_says files reader folder place (meaning_of standing.target pairs) standing go

@@ -14,7 +14,7 @@ use Rattle.dss_script.specs.declared.fault.SessionFault.TheVariants as fault
 use Rattle.dss_script.specs.declared.session.Turn.{Turn}
 use Rattle.dss_script.specs.declared.session.Turn.TheVariants as turn
 use Rattle.dss_lexer.specs.declared.pair.Pair.{Pair}
-use Rattle.dss_lexer.specs.declared.fault.LexFault.{LexFault}
+use Rattle.dss_lexer.specs.declared.fault.LineFault.{LineFault}
 use Rattle.dss_lexer.specs.Line.{pairs_of}
 use Rattle.dss_profile.specs.declared.command.Verb.{Verb}
 use Rattle.dss_profile.specs.declared.command.Verb.TheVariants as verb
@@ -83,7 +83,7 @@ remaining_with files (Some bs) place name state = if nat_lt 1_048_576 (state.sta
 abbrev pub next_place : Reading → Place
 next_place r = record { file = r.file; line = r.line + 1 }
 
-abbrev pub cut_into : Place → Result (List Pair) LexFault → Taken
+abbrev pub cut_into : Place → Result (List Pair) LineFault → Taken
 cut_into place (Err e) = taken.Refused place (cause_of e)
 cut_into place (Ok pairs) = taken.Cut place pairs
 

@@ -6,7 +6,7 @@ ghost use Rattle.dss_values.specs.Names.{named, bytes, lower};
 ghost use Rattle.dss_script.specs.Meaning.{command_words, cause_of, is_dot, is_word, subject, others, element_of, is_circuit, made, new_element, edited_element, continued, file_in, command_of, property_set, property_of, meaning_of, target_after};
 
 use crate::ScriptCause;
-use dss_lexer::{LexFault, Pair, PairList, Text};
+use dss_lexer::{LineFault, Pair, PairList, Text};
 use dss_profile::Verb;
 use dss_values::{find_named, is_legal_name};
 use std::alloc::{AllocError, Global};
@@ -75,17 +75,13 @@ fn command_word(word: &str) -> Option<CommandWord>
 }
 
 /// The cause that stands for a fault of a line.
-pub fn line_cause(fault: LexFault) -> ScriptCause
+pub fn line_cause(fault: LineFault) -> ScriptCause
     ensures { result ≡ cause_of fault }
 {
     match fault {
-        LexFault::UnclosedGroup => ScriptCause::UnclosedGroup,
-        LexFault::LineTooLong => ScriptCause::LineTooLong,
-        LexFault::NotText => ScriptCause::NotText,
-        LexFault::BadNumber
-        | LexFault::NumberTooLarge
-        | LexFault::BadPostfix
-        | LexFault::DivideByZero => ScriptCause::BadValue,
+        LineFault::UnclosedGroup => ScriptCause::UnclosedGroup,
+        LineFault::LineTooLong => ScriptCause::LineTooLong,
+        LineFault::NotText => ScriptCause::NotText,
     }
 }
 

@@ -10,7 +10,7 @@ ghost use Rattle.dss_script.specs.Sessions.{next_place, taken_of, files_after};
 
 use crate::ScriptCause;
 use crate::meaning::line_cause;
-use dss_lexer::{LexError, Pair, PairList, Text, pairs};
+use dss_lexer::{LineError, Pair, PairList, Text, pairs};
 use dss_profile::Place;
 use std::alloc::{AllocError, Global};
 use std::marker::Model;
@@ -103,7 +103,7 @@ impl Frame {
 
     /// The words and pairs of the next line.
     #[tactic(auto, using(crate::proofs::Lines::next_is))]
-    pub fn pairs(&self, alloc: Global) -> Result<Vec<Pair>, LexError>
+    pub fn pairs(&self, alloc: Global) -> Result<Vec<Pair>, LineError>
         requires { 0 < length self.now.lines }
         ensures { Gives (λ v. v.items) result (pairs_of (next_line self.now)) }
     {
@@ -173,7 +173,7 @@ pub fn take_line(alloc: Global, frames: &mut Vec<Frame>) -> Result<Taken, AllocE
     push_frame(frames, frame)?;
     match pairs {
         Ok(pairs) => Ok(Taken::Cut(place, PairList::new(pairs))),
-        Err(LexError::Fault(fault)) => Ok(Taken::Refused(place, line_cause(fault))),
-        Err(LexError::NoMemory) => Err(AllocError),
+        Err(LineError::Fault(fault)) => Ok(Taken::Refused(place, line_cause(fault))),
+        Err(LineError::NoMemory) => Err(AllocError),
     }
 }

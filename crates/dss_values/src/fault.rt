@@ -1,5 +1,5 @@
 // Why a command is refused.
-use dss_lexer::{LexError, LexFault};
+use dss_lexer::{NumberError, NumberFault};
 use std::alloc::{AllocError, AllocFailed};
 
 /// The cause for which a command is refused.
@@ -50,22 +50,18 @@ pub enum ModelError {
     NoMemory,
 }
 
-impl From<LexFault> for ModelFault {
+impl From<NumberFault> for ModelFault {
     ghost use Rattle.std.specs.Prelude.{◌≡◌};
     ghost use Rattle.dss_values.specs.Causes.{cause_of};
 
     ghost from_gives = { λ fault cause. cause ≡ cause_of fault };
 
-    fn from(fault: LexFault) -> Self {
+    fn from(fault: NumberFault) -> Self {
         match fault {
-            LexFault::BadNumber => ModelFault::BadNumber,
-            LexFault::NumberTooLarge => ModelFault::NumberTooLarge,
-            LexFault::BadPostfix => ModelFault::BadPostfix,
-            LexFault::DivideByZero => ModelFault::DivideByZero,
-            // Faults of lines, which no value has.
-            LexFault::UnclosedGroup | LexFault::LineTooLong | LexFault::NotText => {
-                ModelFault::BadValue
-            }
+            NumberFault::BadNumber => ModelFault::BadNumber,
+            NumberFault::NumberTooLarge => ModelFault::NumberTooLarge,
+            NumberFault::BadPostfix => ModelFault::BadPostfix,
+            NumberFault::DivideByZero => ModelFault::DivideByZero,
         }
     }
 }
@@ -81,28 +77,28 @@ impl From<ModelFault> for ModelError {
     }
 }
 
-impl From<LexFault> for ModelError {
+impl From<NumberFault> for ModelError {
     ghost use Rattle.std.specs.Prelude.{◌≡◌};
     ghost use Rattle.dss_values.specs.declared.fault.ModelError.TheVariants.{Fault};
     ghost use Rattle.dss_values.specs.Causes.{cause_of};
 
     ghost from_gives = { λ fault e. e ≡ Fault (cause_of fault) };
 
-    fn from(fault: LexFault) -> Self {
+    fn from(fault: NumberFault) -> Self {
         ModelError::Fault(ModelFault::from(fault))
     }
 }
 
-impl From<LexError> for ModelError {
+impl From<NumberError> for ModelError {
     ghost use Rattle.std.specs.Prelude.{◌≡◌};
     ghost use Rattle.dss_values.specs.Answers.{error_of};
 
     ghost from_gives = { λ error e. e ≡ error_of error };
 
-    fn from(error: LexError) -> Self {
+    fn from(error: NumberError) -> Self {
         match error {
-            LexError::Fault(fault) => ModelError::from(fault),
-            LexError::NoMemory => ModelError::NoMemory,
+            NumberError::Fault(fault) => ModelError::from(fault),
+            NumberError::NoMemory => ModelError::NoMemory,
         }
     }
 }

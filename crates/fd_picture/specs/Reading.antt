@@ -1,6 +1,7 @@
 -- What a report's lines come to. A line is a list of bytes, and a record a list of fields.
-use Rattle.std.specs.Prelude.{◌≡◌, ⊤, ℕ, ◌+◌, ◌-◌, ◌^◌, ◌==◌, ◌&&◌, nat_lt, Bool, true, false, List, [], ◌∷◌, ◌++◌, length, Option, Some, None, Result, Ok, Err, is_some, option_to_list, if◌then◌else◌, codes}
+use Rattle.std.specs.Prelude.{◌≡◌, ℕ, ◌+◌, ◌-◌, ◌^◌, ◌==◌, ◌&&◌, nat_lt, Bool, true, false, List, [], ◌∷◌, ◌++◌, length, Option, Some, None, Result, Ok, Err, is_some, option_to_list, if◌then◌else◌, codes}
 use Rattle.std.specs.Str.{is_utf8}
+use Rattle.fd_exact.specs.Answers as answers
 use Rattle.fd_picture.specs.Drafts.{DraftView, ReportView, empty_draft}
 use Rattle.csv.specs.Reading.{default_config, records_from, strip_bom}
 use Rattle.csv.specs.declared.parser.State.TheVariants as st
@@ -194,21 +195,22 @@ report_of bytes = read_from (unfit_in bytes) 1 empty_draft (records_from default
 
 -- ---- answers
 
--- what is answered is what is said, unless memory ran out
-abbrev pub Gives : Result DraftView Stop → Result DraftView Cause → Type 0
-Gives (Ok d) said = said ≡ Ok d
-Gives (Err (stop.Refused cause)) said = said ≡ Err cause
-Gives (Err stop.NoMemory) said = ⊤
+-- the cause of a stop, unless memory ran out
+abbrev pub cause_of : Stop → Option Cause
+cause_of (stop.Refused cause) = Some cause
+cause_of stop.NoMemory = None
+
+-- the cause of a fault with its line, unless memory ran out
+abbrev pub bad_of : ReportFault → Option Bad
+bad_of (fault.Refused line cause) = Some (record { line = line; cause = cause })
+bad_of fault.NoMemory = None
+
+-- what is answered is what is said
+abbrev pub Gives : {X : Type 0} → Result X Stop → Result X Cause → Type 0
+Gives = answers.Gives cause_of (λ x. x)
 
 abbrev pub Reads : Result ReportView ReportFault → Result ReportView Bad → Type 0
-Reads (Ok report) said = said ≡ Ok report
-Reads (Err (fault.Refused line cause)) said = said ≡ Err (record { line = line; cause = cause })
-Reads (Err fault.NoMemory) said = ⊤
-
-abbrev pub NodeGives : Result Panel Stop → Result Panel Cause → Type 0
-NodeGives (Ok panel) said = said ≡ Ok panel
-NodeGives (Err (stop.Refused cause)) said = said ≡ Err cause
-NodeGives (Err stop.NoMemory) said = ⊤
+Reads = answers.Gives bad_of (λ report. report)
 
 abbrev pub CountGives : Result Unit Stop → Bool → Type 0
 CountGives (Ok _) right = right ≡ true

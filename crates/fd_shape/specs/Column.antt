@@ -1,8 +1,9 @@
 -- The numbers of a load shape's file: the first fields of its records.
-use Rattle.std.specs.Prelude.{◌≡◌, ⊤, ℕ, ℤ, ◌+◌, List, [], ◌∷◌, reverse, Option, Some, None, Result, Ok, Err, if◌then◌else◌}
+use Rattle.std.specs.Prelude.{ℕ, ℤ, ◌+◌, List, [], ◌∷◌, reverse, Option, Some, None, Result, Ok, Err, if◌then◌else◌}
 use Rattle.std.specs.Result.{result_ok}
 use Rattle.std.specs.Str.{chars, is_utf8}
 use Rattle.csv.specs.Reading.{default_config, records, strip_bom}
+use Rattle.fd_exact.specs.Answers as answers
 use Rattle.dss_lexer.specs.Answers.{◌>>=◌}
 use Rattle.dss_lexer.specs.Line.{skip_blanks}
 use Rattle.dss_lexer.specs.Number.{number_of}
@@ -36,7 +37,10 @@ column_from n (row ∷ rows) = elim (first_number row) [
 unfoldable pub column_of : List ℕ → Result (List ℤ) ℕ
 column_of bytes = column_from 1 (records default_config (strip_bom bytes))
 
--- a fault is the one that is said, unless memory ran out
+-- the number of the record at fault, unless memory ran out
+abbrev pub fault_of : ShapeFault → Option ℕ
+fault_of (fault.BadValue number) = Some number
+fault_of fault.NoMemory = None
+
 abbrev pub Fails : ShapeFault → Result (List ℤ) ℕ → Type 0
-Fails (fault.BadValue number) said = said ≡ Err number
-Fails fault.NoMemory said = ⊤
+Fails = answers.Fails fault_of

@@ -1,13 +1,14 @@
 // Corners of the script language, with values worked out by hand.
 use crate::checks::{holds, same, same_at};
 use dss_lexer::{
-    LexError, LexFault, Pair, PairList, Row, Text, cells, matrix, number, pairs, postfix,
+    LineError, LineFault, NumberError, NumberFault, Pair, PairList, Row, Text, cells, matrix,
+    number, pairs, postfix,
 };
 use std::alloc::{AllocError, Global};
 use std::fmt::Write;
 
 // Each pair as `name=value`, or `name=(value)` for a group, with a semicolon behind it.
-fn shown(alloc: Global, line: &[u8]) -> Result<String, LexError> {
+fn shown(alloc: Global, line: &[u8]) -> Result<String, LineError> {
     let list = PairList::new(pairs(alloc, line)?);
     let mut text = String::new(alloc);
     for pair in list.as_slice() {
@@ -44,7 +45,7 @@ const LINES: [(&str, &str); 14] = [
 ];
 
 #[test]
-fn cuts_lines(rt: HostRuntime) -> Result<(), LexError> {
+fn cuts_lines(rt: HostRuntime) -> Result<(), LineError> {
     for (line, want) in &LINES {
         let found = shown(rt.alloc(), line.as_bytes())?;
         same_at(&rt, line, found.as_str(), *want);
@@ -52,12 +53,12 @@ fn cuts_lines(rt: HostRuntime) -> Result<(), LexError> {
     Ok(())
 }
 
-fn fault(alloc: Global, line: &[u8]) -> Option<LexError> {
+fn fault(alloc: Global, line: &[u8]) -> Option<LineError> {
     pairs(alloc, line).err()
 }
 
 #[test]
-fn refuses_lines(rt: HostRuntime) -> Result<(), LexError> {
+fn refuses_lines(rt: HostRuntime) -> Result<(), LineError> {
     let alloc = rt.alloc();
     let blanks = vec![in alloc; b' '; 65_536]?;
     holds(&rt, pairs(alloc, &blanks)?.is_empty());
@@ -65,22 +66,22 @@ fn refuses_lines(rt: HostRuntime) -> Result<(), LexError> {
     same(
         &rt,
         fault(alloc, &long),
-        Some(LexError::Fault(LexFault::LineTooLong)),
+        Some(LineError::Fault(LineFault::LineTooLong)),
     );
     same(
         &rt,
         fault(alloc, &[255]),
-        Some(LexError::Fault(LexFault::NotText)),
+        Some(LineError::Fault(LineFault::NotText)),
     );
     same(
         &rt,
         fault(alloc, b"bus1='b.1"),
-        Some(LexError::Fault(LexFault::UnclosedGroup)),
+        Some(LineError::Fault(LineFault::UnclosedGroup)),
     );
     Ok(())
 }
 
-const NUMBERS: [(&str, Result<i128, LexFault>); 18] = [
+const NUMBERS: [(&str, Result<i128, NumberFault>); 18] = [
     ("+.5", Ok(500_000_000)),
     ("5.e-1", Ok(500_000_000)),
     ("0.05E+1", Ok(500_000_000)),
@@ -91,14 +92,14 @@ const NUMBERS: [(&str, Result<i128, LexFault>); 18] = [
     ("-0.0000000005", Ok(-1)),
     ("0.00000000049999999999999999999999", Ok(0)),
     ("999999999.9999999994", Ok(999_999_999_999_999_999)),
-    ("999999999.9999999999", Err(LexFault::NumberTooLarge)),
-    ("1e123", Err(LexFault::BadNumber)),
-    ("1e", Err(LexFault::BadNumber)),
-    ("--1", Err(LexFault::BadNumber)),
-    ("1.2.3", Err(LexFault::BadNumber)),
-    (".", Err(LexFault::BadNumber)),
-    ("", Err(LexFault::BadNumber)),
-    ("\u{663}", Err(LexFault::BadNumber)),
+    ("999999999.9999999999", Err(NumberFault::NumberTooLarge)),
+    ("1e123", Err(NumberFault::BadNumber)),
+    ("1e", Err(NumberFault::BadNumber)),
+    ("--1", Err(NumberFault::BadNumber)),
+    ("1.2.3", Err(NumberFault::BadNumber)),
+    (".", Err(NumberFault::BadNumber)),
+    ("", Err(NumberFault::BadNumber)),
+    ("\u{663}", Err(NumberFault::BadNumber)),
 ];
 
 #[test]
@@ -108,23 +109,23 @@ fn reads_numbers(rt: HostRuntime) {
     }
 }
 
-const EXPRESSIONS: [(&str, Result<i128, LexError>); 10] = [
+const EXPRESSIONS: [(&str, Result<i128, NumberError>); 10] = [
     ("8 1000 /", Ok(8_000_000)),
     ("100, 1 3 / 3 * 10 * -", Ok(90_000_000_010)),
     ("17 -20 / -1 *", Ok(850_000_000)),
     ("-5 +95 +", Ok(90_000_000_000)),
-    ("+ 1 2", Err(LexError::Fault(LexFault::BadPostfix))),
-    ("1 2", Err(LexError::Fault(LexFault::BadPostfix))),
-    ("", Err(LexError::Fault(LexFault::BadPostfix))),
+    ("+ 1 2", Err(NumberError::Fault(NumberFault::BadPostfix))),
+    ("1 2", Err(NumberError::Fault(NumberFault::BadPostfix))),
+    ("", Err(NumberError::Fault(NumberFault::BadPostfix))),
     (
         "1 0.0000000004 /",
-        Err(LexError::Fault(LexFault::DivideByZero)),
+        Err(NumberError::Fault(NumberFault::DivideByZero)),
     ),
     (
         "100000 100000 *",
-        Err(LexError::Fault(LexFault::NumberTooLarge)),
+        Err(NumberError::Fault(NumberFault::NumberTooLarge)),
     ),
-    ("1 x +", Err(LexError::Fault(LexFault::BadNumber))),
+    ("1 x +", Err(NumberError::Fault(NumberFault::BadNumber))),
 ];
 
 #[test]
@@ -137,7 +138,7 @@ fn evaluates_expressions(rt: HostRuntime) {
 const MATRIX: [&[i128]; 2] = [&[300_000_000], &[100_000_000, 400_000_000]];
 
 #[test]
-fn reads_matrices(rt: HostRuntime) -> Result<(), LexError> {
+fn reads_matrices(rt: HostRuntime) -> Result<(), NumberError> {
     let rows = matrix(rt.alloc(), "0.3|0.1, 0.4")?;
     same(&rt, rows.len(), MATRIX.len());
     for (row, due) in rows.iter().zip(&MATRIX) {
@@ -149,7 +150,7 @@ fn reads_matrices(rt: HostRuntime) -> Result<(), LexError> {
 }
 
 #[test]
-fn reads_cells(rt: HostRuntime) -> Result<(), LexError> {
+fn reads_cells(rt: HostRuntime) -> Result<(), NumberError> {
     let alloc = rt.alloc();
     let words: Vec<Text> = cells(alloc, " B.1,\tb.2 ")?;
     holds(&rt, words.len() == 2);
