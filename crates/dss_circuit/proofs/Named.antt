@@ -21,8 +21,6 @@ use Rattle.dss_profile.specs.declared.names.Class.{Class}
 use Rattle.dss_profile.specs.declared.names.Class.TheVariants as class
 use Rattle.dss_profile.specs.declared.names.ElementName.{ElementName}
 use Rattle.dss_profile.specs.declared.linecode.Linecode.{Linecode}
-use Rattle.dss_profile.specs.declared.linecode.DataProperty.{DataProperty}
-use Rattle.dss_profile.specs.declared.linecode.DataProperty.TheVariants as of_data
 use Rattle.dss_profile.specs.declared.line.Line.{Line}
 use Rattle.dss_profile.specs.declared.line.LineProperty.{LineProperty}
 use Rattle.dss_profile.specs.declared.line.LineProperty.TheVariants as of_line
@@ -37,7 +35,7 @@ use Rattle.dss_profile.specs.declared.capcontrol.CapControlProperty.{CapControlP
 use Rattle.dss_profile.specs.declared.capcontrol.CapControlProperty.TheVariants as of_capcontrol
 use Rattle.dss_profile.specs.Element.{class_of, code_found, fresh, reference, reference_to, references, named_in, with_named, with_pair}
 use Rattle.dss_profile.specs.SameElement.{same_element}
-use Rattle.dss_profile.specs.Line.{line_properties, switched, with_code, with_line, with_line_data}
+use Rattle.dss_profile.specs.Line.{line_properties, switched, with_code, with_line}
 use Rattle.dss_profile.specs.Load.{load_properties, with_load}
 use Rattle.dss_profile.specs.RegControl.{regcontrol_properties, with_regcontrol}
 use Rattle.dss_profile.specs.CapControl.{capcontrol_properties, with_capcontrol}
@@ -206,18 +204,6 @@ module _ (elements : Elements) (found : Option Element) (pair : Pair) where
   abbrev LineNames : Line → Type 0
   LineNames line = NamesAreThere elements (the.Line line)
 
-  line_data_names : (property : DataProperty) (line : Line) → LineNames line
-      → IfOk (with_line_data property pair line) LineNames
-  line_data_names of_data.Rmatrix line h = kept_ok LineNames _ _ (λ v. h)
-  line_data_names of_data.Xmatrix line h = kept_ok LineNames _ _ (λ v. h)
-  line_data_names of_data.Cmatrix line h = kept_ok LineNames _ _ (λ v. h)
-  line_data_names of_data.R1 line h = kept_ok LineNames _ _ (λ v. h)
-  line_data_names of_data.X1 line h = kept_ok LineNames _ _ (λ v. h)
-  line_data_names of_data.R0 line h = kept_ok LineNames _ _ (λ v. h)
-  line_data_names of_data.X0 line h = kept_ok LineNames _ _ (λ v. h)
-  line_data_names of_data.C1 line h = kept_ok LineNames _ _ (λ v. h)
-  line_data_names of_data.C0 line h = kept_ok LineNames _ _ (λ v. h)
-
   switch_names : (on : Bool) (line : Line) → LineNames line → LineNames (switched on line)
   switch_names true line h = h
   switch_names false line h = h
@@ -231,7 +217,7 @@ module _ (elements : Elements) (found : Option Element) (pair : Pair) where
   line_names of_line.Phases line t r h = kept_ok LineNames _ _ (λ v. h)
   line_names of_line.Length line t r h = kept_ok LineNames _ _ (λ v. h)
   line_names of_line.Units line t r h = kept_ok LineNames _ _ (λ v. h)
-  line_names (of_line.Data property) line t r h = line_data_names property line h
+  line_names (of_line.Data property) line t r h = kept_ok LineNames _ _ (λ v. h)
   line_names of_line.Switch line t r h = kept_ok LineNames _ _ (λ on. switch_names on line h)
   line_names of_line.Basefreq line t r h = kept_ok LineNames _ _ (λ v. h)
   line_names of_line.Ignored line t r h = h

@@ -3,31 +3,23 @@ use Rattle.std.specs.Prelude.{ℕ, ◌-◌, ◌*◌, ◌/◌, ◌%◌, ◌==◌,
 use Rattle.std.specs.Option.{option_map}
 use Rattle.std.specs.Str.{chars}
 use Rattle.std.specs.Fmt.{decimal}
-use Rattle.dss_profile.specs.declared.names.Class.{Class}
-use Rattle.dss_profile.specs.declared.names.Class.TheVariants as class
+use Rattle.dss_profile.specs.declared.names.ElementName.{ElementName}
+use Rattle.dss_profile.specs.Names.{class_word}
 use Rattle.dss_layout.specs.declared.nodes.NodeName.{NodeName}
 use Rattle.dss_layout.specs.declared.nodes.PhaseName.{PhaseName}
 use Rattle.dss_layout.specs.Layout.{LayoutView, complex_count}
-
--- a class, as it is written in lower case
-abbrev pub class_word : Class → List ℕ
-class_word class.Vsource = codes "vsource"
-class_word class.Linecode = codes "linecode"
-class_word class.Line = codes "line"
-class_word class.Transformer = codes "transformer"
-class_word class.Capacitor = codes "capacitor"
-class_word class.Load = codes "load"
-class_word class.RegControl = codes "regcontrol"
-class_word class.CapControl = codes "capcontrol"
-class_word class.Loadshape = codes "loadshape"
 
 -- bus and number, parted by a dot
 abbrev pub node_text : NodeName → List ℕ
 node_text node = node.bus ++ 46 ∷ decimal node.number
 
--- class and name, parted by a dot, and the phase after a blank
+-- class and name, parted by a dot
+abbrev pub element_text : ElementName → List ℕ
+element_text element = chars (class_word element.class) ++ 46 ∷ element.name
+
+-- an element, and the phase after a blank
 abbrev pub phase_text : PhaseName → List ℕ
-phase_text phase = chars (class_word phase.element.class) ++ 46 ∷ (phase.element.name ++ 32 ∷ decimal phase.phase)
+phase_text phase = element_text phase.element ++ 32 ∷ decimal phase.phase
 
 -- the real part of a complex unknown has an even place, and the imaginary part the odd one after it
 abbrev pub part_word : ℕ → List ℕ

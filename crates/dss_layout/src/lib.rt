@@ -11,7 +11,7 @@
 //! - `limits`: the limits on the unknowns
 //! - `unknowns`: the unknowns while elements are added one by one
 //! - `layout`: the unknowns of a circuit, by number
-//! - `names`: the names of the unknowns
+//! - `names`: the names of nodes, elements and unknowns as text
 //! - `feeding`: the first element that isn't fed
 #![tactic(auto)]
 
@@ -27,7 +27,7 @@ mod unknowns;
 pub use feeding::first_isolated;
 pub use layout::Layout;
 pub use limits::LayoutFault;
-pub use names::class_word;
+pub use names::{element_text, node_text};
 pub use nodes::{NodeName, NodeNames, PhaseName};
 pub use numbers::{PhaseNumbers, TerminalFault, bus_at, line_bus_at, source_at};
 pub use terminals::{Terminals, check_terminals, terminal_nodes};

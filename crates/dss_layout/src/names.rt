@@ -1,13 +1,14 @@
 // The names of the unknowns.
-ghost use Rattle.std.specs.Prelude.{◌≡◌, ◌++◌, ◌<◌, ◌+◌, ◌*◌, [], ◌∷◌, Some, codes, IfOk, OnOk, length};
+ghost use Rattle.std.specs.Prelude.{◌≡◌, ◌++◌, ◌<◌, ◌*◌, Some, IfOk, OnOk};
 ghost use Rattle.std.specs.Str.{chars};
 ghost use Rattle.std.specs.Fmt.{decimal};
 ghost use Rattle.dss_layout.specs.Layout.{size_of, complex_count};
-ghost use Rattle.dss_layout.specs.UnknownNames.{class_word, part_word, node_text, phase_text, complex_name, unknown_name};
+ghost use Rattle.dss_layout.specs.UnknownNames.{part_word, node_text, element_text, phase_text, complex_name, unknown_name};
 
 use crate::{Layout, NodeName, PhaseName};
 use dss_lexer::Text;
-use dss_profile::Class;
+use dss_profile::ElementName;
+use itoa::Buffer;
 use std::alloc::{AllocError, Global};
 
 fn characters(alloc: Global, text: &str) -> Result<Vec<char>, AllocError>
@@ -24,41 +25,11 @@ fn push_text(alloc: Global, name: &mut Vec<char>, text: &str) -> Result<(), Allo
     Ok(())
 }
 
-fn push_digit(name: &mut Vec<char>, digit: u32) -> Result<(), AllocError>
-    requires { digit < 10 }
-    ensures { OnOk result (name.new.items ≡ name.old.items ++ (48 + digit) ∷ []) }
-{
-    name.push((b'0' + digit as u8) as char)?;
-    Ok(())
-}
-
-fn push_decimal(name: &mut Vec<char>, number: u32) -> Result<(), AllocError>
+fn push_number(alloc: Global, name: &mut Vec<char>, number: u32) -> Result<(), AllocError>
     ensures { OnOk result (name.new.items ≡ name.old.items ++ decimal number) }
 {
-    if number < 10 {
-        push_digit(name, number)?;
-        return Ok(());
-    }
-    push_decimal(name, number / 10)?;
-    push_digit(name, number % 10)?;
-    Ok(())
-}
-
-/// The word of a class, in lower case.
-pub fn class_word(class: Class) -> &'static str
-    ensures { result.now ≡ class_word class }
-{
-    match class {
-        Class::Vsource => "vsource",
-        Class::Linecode => "linecode",
-        Class::Line => "line",
-        Class::Transformer => "transformer",
-        Class::Capacitor => "capacitor",
-        Class::Load => "load",
-        Class::RegControl => "regcontrol",
-        Class::CapControl => "capcontrol",
-        Class::Loadshape => "loadshape",
-    }
+    let mut digits = Buffer::new();
+    push_text(alloc, name, digits.format(number))
 }
 
 fn part(place: usize) -> &'static str
@@ -72,19 +43,42 @@ fn node_name(alloc: Global, node: &NodeName) -> Result<Vec<char>, AllocError>
 {
     let mut name = characters(alloc, node.bus.as_str())?;
     name.push('.')?;
-    push_decimal(&mut name, u32::from(node.number))?;
+    push_number(alloc, &mut name, u32::from(node.number))?;
+    Ok(name)
+}
+
+fn element_name(alloc: Global, element: &ElementName) -> Result<Vec<char>, AllocError>
+    ensures { IfOk result (λ name. name.items ≡ element_text element.now) }
+{
+    let mut name = characters(alloc, element.class.word())?;
+    name.push('.')?;
+    push_text(alloc, &mut name, element.name.as_str())?;
     Ok(name)
 }
 
 fn phase_name(alloc: Global, phase: &PhaseName) -> Result<Vec<char>, AllocError>
     ensures { IfOk result (λ name. name.items ≡ phase_text phase.now) }
 {
-    let mut name = characters(alloc, class_word(phase.element.class))?;
-    name.push('.')?;
-    push_text(alloc, &mut name, phase.element.name.as_str())?;
+    let mut name = element_name(alloc, &phase.element)?;
     name.push(' ')?;
-    push_decimal(&mut name, phase.phase)?;
+    push_number(alloc, &mut name, phase.phase)?;
     Ok(name)
+}
+
+/// `BUS.NUMBER`
+pub fn node_text(alloc: Global, node: &NodeName) -> Result<Text, AllocError>
+    ensures { IfOk result (λ text. text ≡ node_text node.now) }
+{
+    let name = node_name(alloc, node)?;
+    Text::of(alloc, &name)
+}
+
+/// `CLASS.NAME`
+pub fn element_text(alloc: Global, element: &ElementName) -> Result<Text, AllocError>
+    ensures { IfOk result (λ text. text ≡ element_text element.now) }
+{
+    let name = element_name(alloc, element)?;
+    Text::of(alloc, &name)
 }
 
 impl Layout {

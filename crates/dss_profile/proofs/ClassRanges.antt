@@ -9,9 +9,10 @@ use Rattle.dss_values.specs.Forms.{ones, half, name_in, whole_between, supported
 use Rattle.dss_profile.specs.declared.vsource.Vsource.{Vsource}
 use Rattle.dss_profile.specs.declared.vsource.VsourceProperty.{VsourceProperty}
 use Rattle.dss_profile.specs.declared.vsource.VsourceProperty.TheVariants as of_source
+use Rattle.dss_profile.specs.declared.line_constants.LineConstants.{LineConstants}
+use Rattle.dss_profile.specs.declared.line_constants.DataProperty.{DataProperty}
+use Rattle.dss_profile.specs.declared.line_constants.DataProperty.TheVariants as of_data
 use Rattle.dss_profile.specs.declared.linecode.Linecode.{Linecode}
-use Rattle.dss_profile.specs.declared.linecode.DataProperty.{DataProperty}
-use Rattle.dss_profile.specs.declared.linecode.DataProperty.TheVariants as of_data
 use Rattle.dss_profile.specs.declared.linecode.LinecodeProperty.{LinecodeProperty}
 use Rattle.dss_profile.specs.declared.linecode.LinecodeProperty.TheVariants as of_code
 use Rattle.dss_profile.specs.declared.line.Line.{Line}
@@ -41,10 +42,11 @@ use Rattle.dss_profile.specs.declared.loadshape.Loadshape.{Loadshape}
 use Rattle.dss_profile.specs.declared.loadshape.LoadshapeProperty.{LoadshapeProperty}
 use Rattle.dss_profile.specs.declared.loadshape.LoadshapeProperty.TheVariants as of_shape
 use Rattle.dss_profile.specs.Ranges.{IsBetween, IsRating, IsImpedance, IsImpedanceEntry, IsCapacitance, IsCapacitanceEntry}
-use Rattle.dss_profile.specs.InRange.{VsourceInRange, LinecodeInRange, LineInRange, WindingInRange, TransformerInRange, CapacitorInRange, LoadInRange, RegControlInRange, CapControlInRange, LoadshapeInRange}
+use Rattle.dss_profile.specs.InRange.{VsourceInRange, LineConstantsInRange, LinecodeInRange, LineInRange, WindingInRange, TransformerInRange, CapacitorInRange, LoadInRange, RegControlInRange, CapControlInRange, LoadshapeInRange}
 use Rattle.dss_profile.specs.Vsource.{with_vsource}
-use Rattle.dss_profile.specs.Linecode.{impedance_matrix_in, capacitance_matrix_in, with_code_data, with_linecode}
-use Rattle.dss_profile.specs.Line.{with_code, with_code_in, switched, with_line_data, with_line}
+use Rattle.dss_profile.specs.LineConstants.{impedance_matrix_in, capacitance_matrix_in, with_constant, with_switch}
+use Rattle.dss_profile.specs.Linecode.{with_linecode}
+use Rattle.dss_profile.specs.Line.{with_code, with_code_in, switched, with_line}
 use Rattle.dss_profile.specs.Transformer.{with_winding, with_chosen, with_kvas, with_pct_rs, with_losses, zero_in, with_both, with_transformer}
 use Rattle.dss_profile.specs.Capacitor.{with_capacitor}
 use Rattle.dss_profile.specs.Load.{with_load}
@@ -72,7 +74,7 @@ vsource_in_range of_source.R0 pair source h = made_ok _ VsourceInRange _ _ (numb
 vsource_in_range of_source.X0 pair source h = made_ok _ VsourceInRange _ _ (number_ok _ _ pair) (λ n r. assumption (h, r))
 vsource_in_range of_source.Basefreq pair source h = kept_ok VsourceInRange _ _ (λ n. assumption h)
 
--- ---- line codes
+-- ---- impedance and charging
 
 impedance_ok : (pair : Pair) → IfOk (impedance_matrix_in pair) (All IsImpedanceEntry)
 unfolding impedance_matrix_in
@@ -82,43 +84,41 @@ capacitance_ok : (pair : Pair) → IfOk (capacitance_matrix_in pair) (All IsCapa
 unfolding capacitance_matrix_in
 capacitance_ok pair = matrix_ok _ _ pair (record { least = omega (arith, ints); most = omega (arith, ints) })
 
-code_data_in_range : (property : DataProperty) (pair : Pair) (code : Linecode) → LinecodeInRange code
-    → IfOk (with_code_data property pair code) LinecodeInRange
-code_data_in_range of_data.Rmatrix pair code h = made_ok _ LinecodeInRange _ _ (impedance_ok pair) (λ v r. assumption (h, r))
-code_data_in_range of_data.Xmatrix pair code h = made_ok _ LinecodeInRange _ _ (impedance_ok pair) (λ v r. assumption (h, r))
-code_data_in_range of_data.Cmatrix pair code h = made_ok _ LinecodeInRange _ _ (capacitance_ok pair) (λ v r. assumption (h, r))
-code_data_in_range of_data.R1 pair code h = made_ok _ LinecodeInRange _ _ (number_ok _ _ pair) (λ v r. assumption (h, r))
-code_data_in_range of_data.X1 pair code h = made_ok _ LinecodeInRange _ _ (number_ok _ _ pair) (λ v r. assumption (h, r))
-code_data_in_range of_data.R0 pair code h = made_ok _ LinecodeInRange _ _ (number_ok _ _ pair) (λ v r. assumption (h, r))
-code_data_in_range of_data.X0 pair code h = made_ok _ LinecodeInRange _ _ (number_ok _ _ pair) (λ v r. assumption (h, r))
-code_data_in_range of_data.C1 pair code h = made_ok _ LinecodeInRange _ _ (number_ok _ _ pair) (λ v r. assumption (h, r))
-code_data_in_range of_data.C0 pair code h = made_ok _ LinecodeInRange _ _ (number_ok _ _ pair) (λ v r. assumption (h, r))
+constants_in_range : (property : DataProperty) (pair : Pair) (constants : LineConstants)
+    → LineConstantsInRange constants → IfOk (with_constant property pair constants) LineConstantsInRange
+constants_in_range of_data.Rmatrix pair constants h = made_ok _ LineConstantsInRange _ _ (impedance_ok pair) (λ v r. assumption (h, r))
+constants_in_range of_data.Xmatrix pair constants h = made_ok _ LineConstantsInRange _ _ (impedance_ok pair) (λ v r. assumption (h, r))
+constants_in_range of_data.Cmatrix pair constants h = made_ok _ LineConstantsInRange _ _ (capacitance_ok pair) (λ v r. assumption (h, r))
+constants_in_range of_data.R1 pair constants h = made_ok _ LineConstantsInRange _ _ (number_ok _ _ pair) (λ v r. assumption (h, r))
+constants_in_range of_data.X1 pair constants h = made_ok _ LineConstantsInRange _ _ (number_ok _ _ pair) (λ v r. assumption (h, r))
+constants_in_range of_data.R0 pair constants h = made_ok _ LineConstantsInRange _ _ (number_ok _ _ pair) (λ v r. assumption (h, r))
+constants_in_range of_data.X0 pair constants h = made_ok _ LineConstantsInRange _ _ (number_ok _ _ pair) (λ v r. assumption (h, r))
+constants_in_range of_data.C1 pair constants h = made_ok _ LineConstantsInRange _ _ (number_ok _ _ pair) (λ v r. assumption (h, r))
+constants_in_range of_data.C0 pair constants h = made_ok _ LineConstantsInRange _ _ (number_ok _ _ pair) (λ v r. assumption (h, r))
+
+switch_constants : (constants : LineConstants) → LineConstantsInRange constants
+    → LineConstantsInRange (with_switch constants)
+switch_constants constants h =
+    let one : IsImpedance (ones 1) = record { least = omega (arith, ints); most = omega (arith, ints) } in
+    let c1 : IsCapacitance (pos 1_100_000_000) = record { least = omega (arith, ints); most = omega (arith, ints) } in
+    let c0 : IsCapacitance (ones 1) = record { least = omega (arith, ints); most = omega (arith, ints) } in
+    record { rmatrix = h.rmatrix; xmatrix = h.xmatrix; cmatrix = h.cmatrix; r1 = one; x1 = one; r0 = one; x0 = one; c1 = c1; c0 = c0 }
+
+-- ---- line codes
 
 pub linecode_in_range : (property : LinecodeProperty) (pair : Pair) (code : Linecode) → LinecodeInRange code
     → IfOk (with_linecode property pair code) LinecodeInRange
-linecode_in_range of_code.Nphases pair code h = made_ok _ LinecodeInRange _ _ (whole_ok _ _ pair) (λ v r. assumption (h, r))
-linecode_in_range (of_code.Data property) pair code h = code_data_in_range property pair code h
-linecode_in_range of_code.Units pair code h = kept_ok LinecodeInRange _ _ (λ v. assumption h)
-linecode_in_range of_code.Basefreq pair code h = kept_ok LinecodeInRange _ _ (λ v. assumption h)
+linecode_in_range of_code.Nphases pair code h = made_ok _ LinecodeInRange _ _ (whole_ok _ _ pair) (λ v r. record { nphases = r; constants = h.constants })
+linecode_in_range (of_code.Data property) pair code h = made_ok _ LinecodeInRange _ _ (constants_in_range property pair code.constants h.constants) (λ v r. record { nphases = h.nphases; constants = r })
+linecode_in_range of_code.Units pair code h = kept_ok LinecodeInRange _ _ (λ v. record { nphases = h.nphases; constants = h.constants })
+linecode_in_range of_code.Basefreq pair code h = kept_ok LinecodeInRange _ _ (λ v. record { nphases = h.nphases; constants = h.constants })
 linecode_in_range of_code.Ignored pair code h = h
 
 -- ---- lines
 
-line_data_in_range : (property : DataProperty) (pair : Pair) (line : Line) → LineInRange line
-    → IfOk (with_line_data property pair line) LineInRange
-line_data_in_range of_data.Rmatrix pair line h = made_ok _ LineInRange _ _ (impedance_ok pair) (λ v r. assumption (h, r))
-line_data_in_range of_data.Xmatrix pair line h = made_ok _ LineInRange _ _ (impedance_ok pair) (λ v r. assumption (h, r))
-line_data_in_range of_data.Cmatrix pair line h = made_ok _ LineInRange _ _ (capacitance_ok pair) (λ v r. assumption (h, r))
-line_data_in_range of_data.R1 pair line h = made_ok _ LineInRange _ _ (number_ok _ _ pair) (λ v r. assumption (h, r))
-line_data_in_range of_data.X1 pair line h = made_ok _ LineInRange _ _ (number_ok _ _ pair) (λ v r. assumption (h, r))
-line_data_in_range of_data.R0 pair line h = made_ok _ LineInRange _ _ (number_ok _ _ pair) (λ v r. assumption (h, r))
-line_data_in_range of_data.X0 pair line h = made_ok _ LineInRange _ _ (number_ok _ _ pair) (λ v r. assumption (h, r))
-line_data_in_range of_data.C1 pair line h = made_ok _ LineInRange _ _ (number_ok _ _ pair) (λ v r. assumption (h, r))
-line_data_in_range of_data.C0 pair line h = made_ok _ LineInRange _ _ (number_ok _ _ pair) (λ v r. assumption (h, r))
-
 copied_in_range : (name : List ℕ) (code : Linecode) (line : Line) → LinecodeInRange code → LineInRange line
     → LineInRange (with_code name code line)
-copied_in_range name code line c h = record { bus1 = h.bus1; bus2 = h.bus2; phases = c.nphases; length = h.length; rmatrix = c.rmatrix; xmatrix = c.xmatrix; cmatrix = c.cmatrix; r1 = c.r1; x1 = c.x1; r0 = c.r0; x0 = c.x0; c1 = c.c1; c0 = c.c0 }
+copied_in_range name code line c h = record { bus1 = h.bus1; bus2 = h.bus2; phases = c.nphases; length = h.length; constants = c.constants }
 
 code_in_range : (code : Option Linecode) (pair : Pair) (line : Line) → IfSome code LinecodeInRange → LineInRange line
     → IfOk (with_code_in code pair line) LineInRange
@@ -128,11 +128,8 @@ code_in_range None pair line c h = any_ok LineInRange (name_in pair) _ (λ name.
 switch_in_range : (on : Bool) (line : Line) → LineInRange line → LineInRange (switched on line)
 switch_in_range false line h = assumption h
 switch_in_range true line h =
-    let one : IsImpedance (ones 1) = record { least = omega (arith, ints); most = omega (arith, ints) } in
-    let c1 : IsCapacitance (pos 1_100_000_000) = record { least = omega (arith, ints); most = omega (arith, ints) } in
-    let c0 : IsCapacitance (ones 1) = record { least = omega (arith, ints); most = omega (arith, ints) } in
     let short : IsBetween (pos 0) (ones 1_000_000) (pos 1_000_000) = record { least = omega (arith, ints); most = omega (arith, ints) } in
-    record { bus1 = h.bus1; bus2 = h.bus2; phases = h.phases; length = short; rmatrix = h.rmatrix; xmatrix = h.xmatrix; cmatrix = h.cmatrix; r1 = one; x1 = one; r0 = one; x0 = one; c1 = c1; c0 = c0 }
+    record { bus1 = h.bus1; bus2 = h.bus2; phases = h.phases; length = short; constants = switch_constants line.constants h.constants }
 
 -- `code` is the line code that the pair names
 pub line_in_range : (code : Option Linecode) (property : LineProperty) (pair : Pair) (line : Line)
@@ -143,7 +140,7 @@ line_in_range code of_line.Phases pair line c h = made_ok _ LineInRange _ _ (who
 line_in_range code of_line.Linecode pair line c h = code_in_range code pair line c h
 line_in_range code of_line.Length pair line c h = made_ok _ LineInRange _ _ (number_ok _ _ pair) (λ v r. assumption (h, r))
 line_in_range code of_line.Units pair line c h = kept_ok LineInRange _ _ (λ v. assumption h)
-line_in_range code (of_line.Data property) pair line c h = line_data_in_range property pair line h
+line_in_range code (of_line.Data property) pair line c h = made_ok _ LineInRange _ _ (constants_in_range property pair line.constants h.constants) (λ v r. record { bus1 = h.bus1; bus2 = h.bus2; phases = h.phases; length = h.length; constants = r })
 line_in_range code of_line.Switch pair line c h = kept_ok LineInRange _ _ (λ on. switch_in_range on line h)
 line_in_range code of_line.Basefreq pair line c h = kept_ok LineInRange _ _ (λ v. assumption h)
 line_in_range code of_line.Ignored pair line c h = h

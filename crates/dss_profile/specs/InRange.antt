@@ -3,6 +3,7 @@ use Rattle.std.specs.Prelude.{◌≡◌, ◌≤◌, length, pos, [], ◌∷◌, 
 use Rattle.dss_values.specs.Forms.{ones}
 use Rattle.dss_values.specs.declared.bus.Bus.{Bus}
 use Rattle.dss_profile.specs.declared.vsource.Vsource.{Vsource}
+use Rattle.dss_profile.specs.declared.line_constants.LineConstants.{LineConstants}
 use Rattle.dss_profile.specs.declared.linecode.Linecode.{Linecode}
 use Rattle.dss_profile.specs.declared.line.Line.{Line}
 use Rattle.dss_profile.specs.declared.transformer.Winding.{Winding}
@@ -38,32 +39,27 @@ pub record VsourceInRange (source : Vsource) : Type 0 where
   pub x0 : IfSome source.x0 IsImpedance
 
 -- how many rows a matrix has is a test of Solve
+pub record LineConstantsInRange (constants : LineConstants) : Type 0 where
+  pub rmatrix : IfSome constants.rmatrix (All IsImpedanceEntry)
+  pub xmatrix : IfSome constants.xmatrix (All IsImpedanceEntry)
+  pub cmatrix : IfSome constants.cmatrix (All IsCapacitanceEntry)
+  pub r1 : IfSome constants.r1 IsImpedance
+  pub x1 : IfSome constants.x1 IsImpedance
+  pub r0 : IfSome constants.r0 IsImpedance
+  pub x0 : IfSome constants.x0 IsImpedance
+  pub c1 : IfSome constants.c1 IsCapacitance
+  pub c0 : IfSome constants.c0 IsCapacitance
+
 pub record LinecodeInRange (code : Linecode) : Type 0 where
   pub nphases : IsCountBetween 1 3 code.nphases
-  pub rmatrix : IfSome code.rmatrix (All IsImpedanceEntry)
-  pub xmatrix : IfSome code.xmatrix (All IsImpedanceEntry)
-  pub cmatrix : IfSome code.cmatrix (All IsCapacitanceEntry)
-  pub r1 : IfSome code.r1 IsImpedance
-  pub x1 : IfSome code.x1 IsImpedance
-  pub r0 : IfSome code.r0 IsImpedance
-  pub x0 : IfSome code.x0 IsImpedance
-  pub c1 : IfSome code.c1 IsCapacitance
-  pub c0 : IfSome code.c0 IsCapacitance
+  pub constants : LineConstantsInRange code.constants
 
 pub record LineInRange (line : Line) : Type 0 where
   pub bus1 : IfSome line.bus1 BusInRange
   pub bus2 : IfSome line.bus2 BusInRange
   pub phases : IsCountBetween 1 3 line.phases
   pub length : IsBetween (pos 0) (ones 1_000_000) line.length
-  pub rmatrix : IfSome line.rmatrix (All IsImpedanceEntry)
-  pub xmatrix : IfSome line.xmatrix (All IsImpedanceEntry)
-  pub cmatrix : IfSome line.cmatrix (All IsCapacitanceEntry)
-  pub r1 : IfSome line.r1 IsImpedance
-  pub x1 : IfSome line.x1 IsImpedance
-  pub r0 : IfSome line.r0 IsImpedance
-  pub x0 : IfSome line.x0 IsImpedance
-  pub c1 : IfSome line.c1 IsCapacitance
-  pub c0 : IfSome line.c0 IsCapacitance
+  pub constants : LineConstantsInRange line.constants
 
 pub record WindingInRange (winding : Winding) : Type 0 where
   pub bus : IfSome winding.bus BusInRange

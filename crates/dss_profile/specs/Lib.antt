@@ -1,5 +1,6 @@
 pub mod Names
 pub mod Vsource
+pub mod LineConstants
 pub mod Linecode
 pub mod Line
 pub mod Transformer

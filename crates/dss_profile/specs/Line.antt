@@ -1,21 +1,19 @@
 -- The properties of a Line: the form, range and default of each, and the field that it sets.
-use Rattle.std.specs.Prelude.{ℕ, List, [], ◌∷◌, Bool, true, false, codes, pos, Option, Some, None, Result, Ok}
+use Rattle.std.specs.Prelude.{ℕ, List, [], ◌∷◌, Bool, true, false, codes, pos, Option, Some, None, Result, Ok, if◌then◌else◌}
 use Rattle.dss_lexer.specs.declared.pair.Pair.{Pair}
 use Rattle.dss_values.specs.declared.fault.ModelFault.{ModelFault}
 use Rattle.dss_profile.specs.declared.command.Place.{Place}
 use Rattle.dss_profile.specs.declared.line.Line.{Line}
 use Rattle.dss_profile.specs.declared.line.LineProperty.{LineProperty}
 use Rattle.dss_profile.specs.declared.line.LineProperty.TheVariants as the
-use Rattle.dss_profile.specs.declared.linecode.DataProperty.{DataProperty}
-use Rattle.dss_profile.specs.declared.linecode.DataProperty.TheVariants as data_property
+use Rattle.dss_profile.specs.declared.line_constants.DataProperty.{DataProperty}
+use Rattle.dss_profile.specs.declared.line_constants.DataProperty.TheVariants as data_property
 use Rattle.dss_profile.specs.declared.linecode.Linecode.{Linecode}
-use Rattle.dss_values.specs.declared.words.DataForm.{DataForm}
-use Rattle.dss_values.specs.declared.words.DataForm.TheVariants as data_form
 use Rattle.dss_values.specs.declared.words.Units.TheVariants as unit
 use Rattle.dss_values.specs.Answers.{◌>>=◌, or_fault}
 use Rattle.dss_values.specs.declared.fault.ModelFault.TheVariants as fault
 use Rattle.dss_values.specs.Forms.{ones, number_in, number_between, whole_between, choice_in, name_in, bus_in}
-use Rattle.dss_profile.specs.Linecode.{impedance_matrix_in, capacitance_matrix_in}
+use Rattle.dss_profile.specs.LineConstants.{fresh_constants, is_impedance, with_constant, with_switch}
 use Rattle.dss_values.specs.Words.{units, truths}
 
 abbrev pub line_properties : List (List ℕ × LineProperty)
@@ -53,19 +51,9 @@ fresh_line place = record {
   linecode = None;
   length = ones 1;
   units = unit.None;
-  rmatrix = None;
-  xmatrix = None;
-  cmatrix = None;
-  r1 = None;
-  x1 = None;
-  r0 = None;
-  x0 = None;
-  c1 = None;
-  c0 = None;
+  constants = fresh_constants;
   switch = false;
   basefreq = None;
-  form = None;
-  charge_form = None;
   code_units = unit.None;
 }
 
@@ -74,17 +62,7 @@ abbrev pub with_code : List ℕ → Linecode → Line → Line
 with_code name code line = record line {
   linecode = Some name;
   phases = code.nphases;
-  rmatrix = code.rmatrix;
-  xmatrix = code.xmatrix;
-  cmatrix = code.cmatrix;
-  r1 = code.r1;
-  x1 = code.x1;
-  r0 = code.r0;
-  x0 = code.x0;
-  c1 = code.c1;
-  c0 = code.c0;
-  form = code.form;
-  charge_form = code.charge_form;
+  constants = code.constants;
   code_units = code.units;
 }
 
@@ -97,33 +75,15 @@ abbrev pub switched : Bool → Line → Line
 switched false line = record line { switch = false }
 switched true line = record line {
   switch = true;
-  r1 = Some (ones 1);
-  x1 = Some (ones 1);
-  r0 = Some (ones 1);
-  x0 = Some (ones 1);
-  c1 = Some (pos 1_100_000_000);
-  c0 = Some (ones 1);
+  constants = with_switch line.constants;
   length = pos 1_000_000;
   units = unit.None;
-  form = Some data_form.Sequence;
-  charge_form = Some data_form.Sequence;
   code_units = unit.None;
 }
 
--- the impedance is the line's own, in this form; it has no unit
-abbrev pub with_own : DataForm → Line → Line
-with_own form line = record line { form = Some form; code_units = unit.None }
-
+-- an impedance of the line's own has no unit
 abbrev pub with_line_data : DataProperty → Pair → Line → Result Line ModelFault
-with_line_data data_property.Rmatrix pair line = impedance_matrix_in pair >>= λ m. Ok (with_own data_form.Matrix (record line { rmatrix = Some m }))
-with_line_data data_property.Xmatrix pair line = impedance_matrix_in pair >>= λ m. Ok (with_own data_form.Matrix (record line { xmatrix = Some m }))
-with_line_data data_property.Cmatrix pair line = capacitance_matrix_in pair >>= λ m. Ok (record line { cmatrix = Some m; charge_form = Some data_form.Matrix })
-with_line_data data_property.R1 pair line = number_between (pos 0) (ones 10_000) pair >>= λ n. Ok (with_own data_form.Sequence (record line { r1 = Some n }))
-with_line_data data_property.X1 pair line = number_between (pos 0) (ones 10_000) pair >>= λ n. Ok (with_own data_form.Sequence (record line { x1 = Some n }))
-with_line_data data_property.R0 pair line = number_between (pos 0) (ones 10_000) pair >>= λ n. Ok (with_own data_form.Sequence (record line { r0 = Some n }))
-with_line_data data_property.X0 pair line = number_between (pos 0) (ones 10_000) pair >>= λ n. Ok (with_own data_form.Sequence (record line { x0 = Some n }))
-with_line_data data_property.C1 pair line = number_between (pos 0) (ones 1_000_000) pair >>= λ n. Ok (record line { c1 = Some n; charge_form = Some data_form.Sequence })
-with_line_data data_property.C0 pair line = number_between (pos 0) (ones 1_000_000) pair >>= λ n. Ok (record line { c0 = Some n; charge_form = Some data_form.Sequence })
+with_line_data property pair line = with_constant property pair line.constants >>= λ c. Ok (record line { constants = c; code_units = if is_impedance property then unit.None else line.code_units })
 
 abbrev pub with_line : Option Linecode → LineProperty → Pair → Line → Result Line ModelFault
 with_line code the.Bus1 pair line = bus_in pair >>= λ b. Ok (record line { bus1 = Some b })

@@ -28,5 +28,6 @@ is_matrix other = false
 -- only the matrices of the form that holds are tested
 abbrev pub are_matrices_wrong : Line → Bool
 are_matrices_wrong line =
-    (is_matrix line.form && (is_size_wrong line.phases line.rmatrix || is_size_wrong line.phases line.xmatrix))
-    || (is_matrix line.charge_form && is_size_wrong line.phases line.cmatrix)
+    let constants = line.constants in
+    (is_matrix constants.form && (is_size_wrong line.phases constants.rmatrix || is_size_wrong line.phases constants.xmatrix))
+    || (is_matrix constants.charge_form && is_size_wrong line.phases constants.cmatrix)

@@ -7,8 +7,9 @@
 //! Numbers of scripts are whole 10^-9 of their unit, taps are whole 10^-5, times are whole milliseconds.
 //!
 //! - `command`: places, verbs and commands
-//! - `names`: classes, names of elements, and words by name
+//! - `names`: classes with their words, and names of elements
 //! - a module for each class, and `element` for all of them
+//! - `line_constants`: impedance and charging, which lines and line codes have alike
 //! - `options`: the settings of a circuit
 #![tactic(auto)]
 
@@ -17,6 +18,7 @@ mod capcontrol;
 mod command;
 mod element;
 mod line;
+mod line_constants;
 mod linecode;
 mod load;
 mod loadshape;
@@ -36,7 +38,8 @@ pub use dss_values::{
 };
 pub use element::{Element, referred_element};
 pub use line::{Line, LineProperty, line_property};
-pub use linecode::{DataProperty, Linecode, LinecodeProperty, linecode_property};
+pub use line_constants::{DataProperty, LineConstants};
+pub use linecode::{Linecode, LinecodeProperty, linecode_property};
 pub use load::{Load, LoadProperty, load_property};
 pub use loadshape::{Loadshape, LoadshapeProperty, file_named, loadshape_property};
 pub use names::{Class, ElementName, class_named, name_law};

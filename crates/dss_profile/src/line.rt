@@ -2,20 +2,18 @@
 ghost use Rattle.std.specs.Prelude.{◌≡◌, IfErr, IfOk, OnOk};
 ghost use Rattle.dss_profile.specs.Changes.{Becomes};
 ghost use Rattle.dss_values.specs.Names.{named};
-ghost use Rattle.dss_profile.specs.Line.{line_properties, fresh_line, with_code, with_code_in, switched, with_own, with_line_data, with_line};
+ghost use Rattle.dss_profile.specs.Line.{line_properties, fresh_line, with_code, with_code_in, switched, with_line_data, with_line};
 ghost use Rattle.std.specs.Option.{option_copied};
 
-use crate::linecode::{DataProperty, capacitance_matrix, copied_numbers, impedance_matrix};
-use crate::{Linecode, Place};
+use crate::{DataProperty, LineConstants, Linecode, Place};
 use dss_lexer::{Pair, Text};
 use dss_values::{
-    Bus, DataForm, ModelError, ModelFault, Numbers, ONE, Units, bus_value, find_named, length_unit,
-    name, number_value, number_within, truth, whole_within,
+    Bus, ModelError, ModelFault, ONE, Units, bus_value, find_named, length_unit, name,
+    number_value, number_within, truth, whole_within,
 };
 use std::alloc::{AllocError, Global};
 
-/// A line between two buses. Numbers are whole 10^-9, impedances in ohm and capacitances in nF for each unit of
-/// length.
+/// A line between two buses. Numbers are whole 10^-9.
 #[derive(Drop)]
 pub struct Line {
     /// Where its New stands.
@@ -29,27 +27,12 @@ pub struct Line {
     pub length: i128,
     /// The unit of the length.
     pub units: Units,
-    /// Series resistance: a whole square matrix, row by row, where it was given.
-    pub rmatrix: Option<Numbers>,
-    /// Series reactance, as rmatrix.
-    pub xmatrix: Option<Numbers>,
-    /// Capacitance, as rmatrix.
-    pub cmatrix: Option<Numbers>,
-    /// Sequence values, where they were given.
-    pub r1: Option<i128>,
-    pub x1: Option<i128>,
-    pub r0: Option<i128>,
-    pub x0: Option<i128>,
-    pub c1: Option<i128>,
-    pub c0: Option<i128>,
+    /// Impedance and charging.
+    pub constants: LineConstants,
     /// Whether it was last said to be a switch.
     pub switch: bool,
     /// The frequency in hertz, where it was given.
     pub basefreq: Option<i128>,
-    /// Which impedance holds; none where none was given.
-    pub form: Option<DataForm>,
-    /// Which charging holds; none where none was given, and then there is none.
-    pub charge_form: Option<DataForm>,
     /// The unit of length of the data, the line code's as it was when they were copied. It is none where the line
     /// has an impedance of its own. Where it or `units` is none, the ratio of the two is 1.
     pub code_units: Units,
@@ -136,19 +119,9 @@ impl Line {
             linecode: None,
             length: ONE,
             units: Units::None,
-            rmatrix: None,
-            xmatrix: None,
-            cmatrix: None,
-            r1: None,
-            x1: None,
-            r0: None,
-            x0: None,
-            c1: None,
-            c0: None,
+            constants: LineConstants::fresh(),
             switch: false,
             basefreq: None,
-            form: None,
-            charge_form: None,
             code_units: Units::None,
         }
     }
@@ -158,22 +131,10 @@ impl Line {
         ensures taken { OnOk result (self.new ≡ with_code name code.now self.old) }
         ensures as_before { IfErr result (λ _. self.new ≡ self.old) }
     {
-        let rmatrix = copied_numbers(&code.rmatrix)?;
-        let xmatrix = copied_numbers(&code.xmatrix)?;
-        let cmatrix = copied_numbers(&code.cmatrix)?;
+        let constants = code.constants.copied()?;
         self.linecode = Some(name);
         self.phases = code.nphases;
-        self.rmatrix = rmatrix;
-        self.xmatrix = xmatrix;
-        self.cmatrix = cmatrix;
-        self.r1 = code.r1;
-        self.x1 = code.x1;
-        self.r0 = code.r0;
-        self.x0 = code.x0;
-        self.c1 = code.c1;
-        self.c0 = code.c0;
-        self.form = code.form;
-        self.charge_form = code.charge_form;
+        self.constants = constants;
         self.code_units = code.units;
         Ok(())
     }
@@ -198,16 +159,9 @@ impl Line {
     {
         self.switch = on;
         if on {
-            self.r1 = Some(ONE);
-            self.x1 = Some(ONE);
-            self.r0 = Some(ONE);
-            self.x0 = Some(ONE);
-            self.c1 = Some(1_100_000_000);
-            self.c0 = Some(ONE);
+            self.constants.set_switch();
             self.length = 1_000_000;
             self.units = Units::None;
-            self.form = Some(DataForm::Sequence);
-            self.charge_form = Some(DataForm::Sequence);
             self.code_units = Units::None;
         }
     }
@@ -221,53 +175,11 @@ impl Line {
     ) -> Result<(), ModelError>
         ensures { Becomes self.old self.new result (with_line_data property pair.now self.old) }
     {
-        match property {
-            DataProperty::Rmatrix => {
-                self.rmatrix = Some(impedance_matrix(alloc, pair)?);
-                self.take_own(DataForm::Matrix);
-            }
-            DataProperty::Xmatrix => {
-                self.xmatrix = Some(impedance_matrix(alloc, pair)?);
-                self.take_own(DataForm::Matrix);
-            }
-            DataProperty::Cmatrix => {
-                self.cmatrix = Some(capacitance_matrix(alloc, pair)?);
-                self.charge_form = Some(DataForm::Matrix);
-            }
-            DataProperty::R1 => {
-                self.r1 = Some(number_within(alloc, pair, 0, 10_000 * ONE)?);
-                self.take_own(DataForm::Sequence);
-            }
-            DataProperty::X1 => {
-                self.x1 = Some(number_within(alloc, pair, 0, 10_000 * ONE)?);
-                self.take_own(DataForm::Sequence);
-            }
-            DataProperty::R0 => {
-                self.r0 = Some(number_within(alloc, pair, 0, 10_000 * ONE)?);
-                self.take_own(DataForm::Sequence);
-            }
-            DataProperty::X0 => {
-                self.x0 = Some(number_within(alloc, pair, 0, 10_000 * ONE)?);
-                self.take_own(DataForm::Sequence);
-            }
-            DataProperty::C1 => {
-                self.c1 = Some(number_within(alloc, pair, 0, 1_000_000 * ONE)?);
-                self.charge_form = Some(DataForm::Sequence);
-            }
-            DataProperty::C0 => {
-                self.c0 = Some(number_within(alloc, pair, 0, 1_000_000 * ONE)?);
-                self.charge_form = Some(DataForm::Sequence);
-            }
+        self.constants.set(alloc, property, pair)?;
+        if property.is_impedance() {
+            self.code_units = Units::None;
         }
         Ok(())
-    }
-
-    // The impedance is the line's own, in this form.
-    fn take_own(&mut self, form: DataForm)
-        ensures { self.new ≡ with_own form self.old }
-    {
-        self.form = Some(form);
-        self.code_units = Units::None;
     }
 
     /// Sets one property. After an `Err` it is as before.
@@ -308,19 +220,9 @@ impl Line {
             linecode: copied_text(&self.linecode)?,
             length: self.length,
             units: self.units,
-            rmatrix: copied_numbers(&self.rmatrix)?,
-            xmatrix: copied_numbers(&self.xmatrix)?,
-            cmatrix: copied_numbers(&self.cmatrix)?,
-            r1: self.r1,
-            x1: self.x1,
-            r0: self.r0,
-            x0: self.x0,
-            c1: self.c1,
-            c0: self.c0,
+            constants: self.constants.copied()?,
             switch: self.switch,
             basefreq: self.basefreq,
-            form: self.form,
-            charge_form: self.charge_form,
             code_units: self.code_units,
         })
     }

@@ -1,7 +1,7 @@
 // Classes and names of elements.
 ghost use Rattle.std.specs.Prelude.{◌≡◌};
 ghost use Rattle.dss_values.specs.Names.{named};
-ghost use Rattle.dss_profile.specs.Names.{classes};
+ghost use Rattle.dss_profile.specs.Names.{class_word, classes};
 ghost use Rattle.dss_profile.specs.SameElement.{SameElementIsEqual, same_element};
 
 use dss_lexer::Text;
@@ -35,22 +35,46 @@ pub fn name_law()
     ensures equal { SameElementIsEqual }
 {}
 
-/// The classes by their names in lower case.
-pub const CLASSES: [(&str, Class); 9] = [
-    ("vsource", Class::Vsource),
-    ("linecode", Class::Linecode),
-    ("line", Class::Line),
-    ("transformer", Class::Transformer),
-    ("capacitor", Class::Capacitor),
-    ("load", Class::Load),
-    ("regcontrol", Class::RegControl),
-    ("capcontrol", Class::CapControl),
-    ("loadshape", Class::Loadshape),
-];
+impl Class {
+    /// The word of the class, in lower case.
+    pub fn word(self) -> &'static str
+        ensures { result.now ≡ class_word self }
+    {
+        match self {
+            Class::Vsource => "vsource",
+            Class::Linecode => "linecode",
+            Class::Line => "line",
+            Class::Transformer => "transformer",
+            Class::Capacitor => "capacitor",
+            Class::Load => "load",
+            Class::RegControl => "regcontrol",
+            Class::CapControl => "capcontrol",
+            Class::Loadshape => "loadshape",
+        }
+    }
+}
 
-/// The class of a name in lower case.
+fn with_word(class: Class) -> (&'static str, Class)
+    ensures word { result.0.now ≡ class_word class }
+    ensures class { result.1 ≡ class }
+{
+    (class.word(), class)
+}
+
+/// The class of a word in lower case.
 pub fn class_named(name: &str) -> Option<Class>
     ensures { result ≡ named classes name.now }
 {
-    find_named(&CLASSES, name)
+    let classes = [
+        with_word(Class::Vsource),
+        with_word(Class::Linecode),
+        with_word(Class::Line),
+        with_word(Class::Transformer),
+        with_word(Class::Capacitor),
+        with_word(Class::Load),
+        with_word(Class::RegControl),
+        with_word(Class::CapControl),
+        with_word(Class::Loadshape),
+    ];
+    find_named(&classes, name)
 }

@@ -6,6 +6,7 @@ use Rattle.dss_values.specs.declared.words.DataForm.TheVariants as data_form
 use Rattle.dss_values.specs.declared.words.Units.{Units}
 use Rattle.dss_values.specs.declared.words.Units.TheVariants as unit
 use Rattle.dss_profile.specs.declared.line.Line.{Line}
+use Rattle.dss_profile.specs.declared.line_constants.LineConstants.{LineConstants}
 use Rattle.fd_line.specs.declared.data.LineData.{LineData}
 use Rattle.fd_line.specs.declared.data.LineForm.{LineForm}
 use Rattle.fd_line.specs.declared.data.LineForm.TheVariants as line_form
@@ -37,38 +38,38 @@ units_of line = units_by (tenths_of line.units) (tenths_of line.code_units)
 -- ---- impedance and charging
 
 -- positive sequence values that aren't given are 0, and zero sequence values are those of the positive sequence
-abbrev pub series_by_sequence : Line → LineForm
-series_by_sequence line =
-    let r1 = unwrap_or line.r1 (pos 0) in
-    let x1 = unwrap_or line.x1 (pos 0) in
-    line_form.Sequence r1 x1 (unwrap_or line.r0 r1) (unwrap_or line.x0 x1)
+abbrev pub series_by_sequence : LineConstants → LineForm
+series_by_sequence constants =
+    let r1 = unwrap_or constants.r1 (pos 0) in
+    let x1 = unwrap_or constants.x1 (pos 0) in
+    line_form.Sequence r1 x1 (unwrap_or constants.r0 r1) (unwrap_or constants.x0 x1)
 
-abbrev pub charge_by_sequence : Line → ChargeForm
-charge_by_sequence line =
-    let c1 = unwrap_or line.c1 (pos 0) in
-    charge_form.Sequence c1 (unwrap_or line.c0 c1)
+abbrev pub charge_by_sequence : LineConstants → ChargeForm
+charge_by_sequence constants =
+    let c1 = unwrap_or constants.c1 (pos 0) in
+    charge_form.Sequence c1 (unwrap_or constants.c0 c1)
 
 -- a matrix that isn't given is zero
 abbrev pub matrix_or_zero : ℕ → Option (List ℤ) → List ℤ
 matrix_or_zero phases matrix = unwrap_or matrix (replicate (phases * phases) (pos 0))
 
 abbrev pub series_of : Option DataForm → Line → LineForm
-series_of (Some data_form.Matrix) line = line_form.Matrix (matrix_or_zero line.phases line.rmatrix) (matrix_or_zero line.phases line.xmatrix)
-series_of other line = series_by_sequence line
+series_of (Some data_form.Matrix) line = line_form.Matrix (matrix_or_zero line.phases line.constants.rmatrix) (matrix_or_zero line.phases line.constants.xmatrix)
+series_of other line = series_by_sequence line.constants
 
 -- with no form there is no charging
 abbrev pub charge_of : Option DataForm → Line → ChargeForm
 charge_of None line = charge_form.Sequence (pos 0) (pos 0)
-charge_of (Some data_form.Sequence) line = charge_by_sequence line
-charge_of (Some data_form.Matrix) line = charge_form.Matrix (matrix_or_zero line.phases line.cmatrix)
+charge_of (Some data_form.Sequence) line = charge_by_sequence line.constants
+charge_of (Some data_form.Matrix) line = charge_form.Matrix (matrix_or_zero line.phases line.constants.cmatrix)
 
 -- ---- the line
 
 abbrev pub line_data_of : Line → ℕ → LineData
 line_data_of line hertz = record {
   phases = line.phases;
-  form = series_of line.form line;
-  charge = charge_of line.charge_form line;
+  form = series_of line.constants.form line;
+  charge = charge_of line.constants.charge_form line;
   length = line.length;
   line_unit = (units_of line).0;
   code_unit = (units_of line).1;

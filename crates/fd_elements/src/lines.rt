@@ -2,12 +2,12 @@
 ghost use Rattle.std.specs.Prelude.{◌≡◌, ◌≤◌, [], ◌∷◌, false, IfOk, IfSome, IsSome};
 ghost use Rattle.std.specs.Option.{unwrap_or};
 ghost use Rattle.dss_profile.specs.Ranges.{IsOneOf};
-ghost use Rattle.dss_profile.specs.InRange.{LineInRange};
+ghost use Rattle.dss_profile.specs.InRange.{LineConstantsInRange, LineInRange};
 ghost use Rattle.dss_profile.specs.Sound.{are_matrices_wrong, is_size_wrong};
 ghost use Rattle.fd_line.specs.Totals.{IsCharge, IsForm, IsLine};
 ghost use Rattle.fd_elements.specs.Lines.{charge_by_sequence as charge_by_sequence_values, charge_of, line_data_of, matrix_or_zero, series_by_sequence as series_by_sequence_values, series_of, tenths_of, units_by};
 
-use dss_profile::{DataForm, Line, Numbers, Units};
+use dss_profile::{DataForm, Line, LineConstants, Numbers, Units};
 use fd_line::{ChargeForm, Entries, LineData, LineForm};
 use std::alloc::{AllocError, Global};
 
@@ -20,7 +20,7 @@ const METRE: u32 = 10_000;
 /// The line's values are in their ranges, it has an impedance, and the matrices that hold have a row and a column for each phase.
 pub fn line_data(alloc: Global, line: &Line, hertz: u32) -> Result<LineData, AllocError>
     requires range { LineInRange line.now }
-    requires impedance { IsSome line.now.form }
+    requires impedance { IsSome line.now.constants.form }
     requires matrices { are_matrices_wrong line.now ≡ false }
     requires frequency { IsOneOf (50 ∷ 60 ∷ []) hertz }
     ensures value { IfOk result (λ d. d ≡ line_data_of line.now hertz) }
@@ -77,66 +77,66 @@ fn units(line: Option<u32>, code: Option<u32>) -> (u32, u32)
 fn series(alloc: Global, line: &Line) -> Result<LineForm, AllocError>
     requires range { LineInRange line.now }
     requires matrices { are_matrices_wrong line.now ≡ false }
-    ensures value { IfOk result (λ f. f ≡ series_of line.now.form line.now) }
+    ensures value { IfOk result (λ f. f ≡ series_of line.now.constants.form line.now) }
     ensures within { IfOk result (λ f. IsForm line.now.phases f) }
 {
-    match line.form {
+    match line.constants.form {
         Some(DataForm::Matrix) => series_by_matrices(alloc, line),
-        _ => Ok(series_by_sequence(line)),
+        _ => Ok(series_by_sequence(line.phases, &line.constants)),
     }
 }
 
 fn series_by_matrices(alloc: Global, line: &Line) -> Result<LineForm, AllocError>
     requires range { LineInRange line.now }
-    requires r { is_size_wrong line.now.phases line.now.rmatrix ≡ false }
-    requires x { is_size_wrong line.now.phases line.now.xmatrix ≡ false }
-    ensures value { IfOk result (λ f. f ≡ LineForm.Matrix (matrix_or_zero line.now.phases line.now.rmatrix) (matrix_or_zero line.now.phases line.now.xmatrix)) }
+    requires r { is_size_wrong line.now.phases line.now.constants.rmatrix ≡ false }
+    requires x { is_size_wrong line.now.phases line.now.constants.xmatrix ≡ false }
+    ensures value { IfOk result (λ f. f ≡ LineForm.Matrix (matrix_or_zero line.now.phases line.now.constants.rmatrix) (matrix_or_zero line.now.phases line.now.constants.xmatrix)) }
     ensures within { IfOk result (λ f. IsForm line.now.phases f) }
 {
-    let r = matrix(alloc, line.phases, &line.rmatrix)?;
-    let x = matrix(alloc, line.phases, &line.xmatrix)?;
+    let r = matrix(alloc, line.phases, &line.constants.rmatrix)?;
+    let x = matrix(alloc, line.phases, &line.constants.xmatrix)?;
     Ok(LineForm::Matrix { r, x })
 }
 
-fn series_by_sequence(line: &Line) -> LineForm
-    requires { LineInRange line.now }
-    ensures value { result ≡ series_by_sequence_values line.now }
-    ensures within { IsForm line.now.phases result }
+fn series_by_sequence(phases: u32, constants: &LineConstants) -> LineForm
+    requires { LineConstantsInRange constants.now }
+    ensures value { result ≡ series_by_sequence_values constants.now }
+    ensures within { IsForm phases result }
 {
-    let r1 = line.r1.unwrap_or(0);
-    let x1 = line.x1.unwrap_or(0);
+    let r1 = constants.r1.unwrap_or(0);
+    let x1 = constants.x1.unwrap_or(0);
     LineForm::Sequence {
         r1,
         x1,
-        r0: line.r0.unwrap_or(r1),
-        x0: line.x0.unwrap_or(x1),
+        r0: constants.r0.unwrap_or(r1),
+        x0: constants.x0.unwrap_or(x1),
     }
 }
 
 fn charge(alloc: Global, line: &Line) -> Result<ChargeForm, AllocError>
     requires range { LineInRange line.now }
     requires matrices { are_matrices_wrong line.now ≡ false }
-    ensures value { IfOk result (λ f. f ≡ charge_of line.now.charge_form line.now) }
+    ensures value { IfOk result (λ f. f ≡ charge_of line.now.constants.charge_form line.now) }
     ensures within { IfOk result (λ f. IsCharge line.now.phases f) }
 {
-    match line.charge_form {
+    match line.constants.charge_form {
         None => Ok(ChargeForm::Sequence { c1: 0, c0: 0 }),
-        Some(DataForm::Sequence) => Ok(charge_by_sequence(line)),
+        Some(DataForm::Sequence) => Ok(charge_by_sequence(line.phases, &line.constants)),
         Some(DataForm::Matrix) => Ok(ChargeForm::Matrix {
-            c: matrix(alloc, line.phases, &line.cmatrix)?,
+            c: matrix(alloc, line.phases, &line.constants.cmatrix)?,
         }),
     }
 }
 
-fn charge_by_sequence(line: &Line) -> ChargeForm
-    requires { LineInRange line.now }
-    ensures value { result ≡ charge_by_sequence_values line.now }
-    ensures within { IsCharge line.now.phases result }
+fn charge_by_sequence(phases: u32, constants: &LineConstants) -> ChargeForm
+    requires { LineConstantsInRange constants.now }
+    ensures value { result ≡ charge_by_sequence_values constants.now }
+    ensures within { IsCharge phases result }
 {
-    let c1 = line.c1.unwrap_or(0);
+    let c1 = constants.c1.unwrap_or(0);
     ChargeForm::Sequence {
         c1,
-        c0: line.c0.unwrap_or(c1),
+        c0: constants.c0.unwrap_or(c1),
     }
 }
 

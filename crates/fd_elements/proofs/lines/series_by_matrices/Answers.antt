@@ -8,6 +8,6 @@ returns-clause-within c =
     let l = c.args.line.now in
     let n = l.phases in
     let range = c.requires.range in (
-      subst (IsMatrix n (10 ^ 13)) (sym c.in_ok-r.ensures) (is_matrix_given n (10 ^ 13) l.rmatrix c.requires.r range.rmatrix),
-      subst (IsMatrix n (10 ^ 13)) (sym c.in_ok-x.ensures) (is_matrix_given n (10 ^ 13) l.xmatrix c.requires.x range.xmatrix),
+      subst (IsMatrix n (10 ^ 13)) (sym c.in_ok-r.ensures) (is_matrix_given n (10 ^ 13) l.constants.rmatrix c.requires.r range.constants.rmatrix),
+      subst (IsMatrix n (10 ^ 13)) (sym c.in_ok-x.ensures) (is_matrix_given n (10 ^ 13) l.constants.xmatrix c.requires.x range.constants.xmatrix),
     )
