@@ -9,6 +9,7 @@ use Rattle.dss_layout.specs.declared.nodes.PhaseName.{PhaseName}
 use Rattle.fd_exact.specs.First.{first_place}
 use Rattle.fd_exact.specs.Answers as answers
 use Rattle.fd_arith.specs.declared.terms.Ends.{Ends}
+use Rattle.fd_arith.specs.LoadModels.{has_magnitude}
 use Rattle.dss_layout.specs.declared.limits.LayoutFault.{LayoutFault}
 use Rattle.dss_layout.specs.declared.limits.LayoutFault.TheVariants.{TooMany, NoMemory}
 use Rattle.dss_layout.specs.Limits.{most_complex, most_magnitudes}
@@ -28,7 +29,7 @@ branch_phases other = 0
 
 -- the phases of which each has a voltage magnitude of its own: those of a load of constant current
 abbrev pub magnitude_phases : Element → ℕ
-magnitude_phases (the.Load l) = if l.model == 5 then l.phases else 0
+magnitude_phases (the.Load l) = if has_magnitude l.model then l.phases else 0
 magnitude_phases other = 0
 
 -- all nodes, in order of first mention

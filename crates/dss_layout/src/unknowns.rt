@@ -55,7 +55,7 @@ pub fn magnitudes_of(element: &Element) -> u32
     ensures { result ≡ magnitude_phases element.now }
 {
     match element {
-        Element::Load(l) if l.model == 5 => l.phases,
+        Element::Load(l) if l.model.has_magnitude() => l.phases,
         _ => 0,
     }
 }

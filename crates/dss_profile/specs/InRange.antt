@@ -96,7 +96,6 @@ pub record LoadInRange (load : Load) : Type 0 where
   pub kw : IsPower load.kw
   pub pf : IsPowerFactor load.pf
   pub kvar : IfSome load.kvar IsPower
-  pub model : IsOneOf (1 ∷ 2 ∷ 5 ∷ []) load.model
   pub vminpu : IsBetween (pos 400_000_000) (ones 1) load.vminpu
   pub vmaxpu : IsBetween (ones 1) (ones 2) load.vmaxpu
 

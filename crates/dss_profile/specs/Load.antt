@@ -1,5 +1,7 @@
 -- The properties of a Load: the form, range and default of each, and the field that it sets.
-use Rattle.std.specs.Prelude.{ℕ, Bool, List, [], ◌∷◌, codes, pos, neg_ℤ, Some, None, Result, Ok}
+use Rattle.std.specs.Prelude.{ℕ, ◌==◌, Bool, List, [], ◌∷◌, codes, pos, neg_ℤ, Some, None, Result, Ok, if◌then◌else◌}
+use Rattle.fd_arith.specs.declared.terms.LoadModel.{LoadModel}
+use Rattle.fd_arith.specs.declared.terms.LoadModel.TheVariants.{ConstantPower, ConstantImpedance, ConstantCurrent}
 use Rattle.dss_lexer.specs.declared.pair.Pair.{Pair}
 use Rattle.dss_values.specs.declared.fault.ModelFault.{ModelFault}
 use Rattle.dss_profile.specs.declared.command.Place.{Place}
@@ -40,7 +42,7 @@ fresh_load place = record {
   kw = ones 10;
   pf = pos 880_000_000;
   kvar = None;
-  model = 1;
+  model = ConstantPower;
   conn = connection.Wye;
   vminpu = pos 950_000_000;
   vmaxpu = pos 1_050_000_000;
@@ -48,6 +50,10 @@ fresh_load place = record {
   basefreq = None;
   reactive = rule.PowerFactor;
 }
+
+-- constant power is 1, constant impedance 2, constant current 5, and there is no other number
+abbrev pub model_of : ℕ → LoadModel
+model_of number = if number == 1 then ConstantPower else if number == 2 then ConstantImpedance else ConstantCurrent
 
 -- the last of pf and kvar rules; `found` says whether the load shape that the pair names is there
 abbrev pub with_load : Bool → LoadProperty → Pair → Load → Result Load ModelFault
@@ -57,7 +63,7 @@ with_load found the.Kv pair load = number_between (pos 10_000_000) (ones 1000) p
 with_load found the.Kw pair load = number_between (neg_ℤ (ones 300_000)) (ones 300_000) pair >>= λ n. Ok (record load { kw = n })
 with_load found the.Pf pair load = power_factor_in pair >>= λ n. Ok (record load { pf = n; reactive = rule.PowerFactor })
 with_load found the.Kvar pair load = number_between (neg_ℤ (ones 300_000)) (ones 300_000) pair >>= λ n. Ok (record load { kvar = Some n; reactive = rule.Kvar })
-with_load found the.Model pair load = supported_among (1 ∷ 2 ∷ 5 ∷ []) pair >>= λ n. Ok (record load { model = n })
+with_load found the.Model pair load = supported_among (1 ∷ 2 ∷ 5 ∷ []) pair >>= λ n. Ok (record load { model = model_of n })
 with_load found the.Conn pair load = choice_in fault.BadValue connections pair >>= λ c. Ok (record load { conn = c })
 with_load found the.Vminpu pair load = number_between (pos 400_000_000) (ones 1) pair >>= λ n. Ok (record load { vminpu = n })
 with_load found the.Vmaxpu pair load = number_between (ones 1) (ones 2) pair >>= λ n. Ok (record load { vmaxpu = n })

@@ -2,7 +2,7 @@
 ghost use Rattle.std.specs.Prelude.{◌≡◌, IfOk};
 ghost use Rattle.dss_profile.specs.Changes.{Becomes};
 ghost use Rattle.dss_values.specs.Names.{named};
-ghost use Rattle.dss_profile.specs.Load.{load_properties, fresh_load, with_load};
+ghost use Rattle.dss_profile.specs.Load.{load_properties, fresh_load, model_of as model_by_number, with_load};
 
 use crate::Place;
 use crate::line::{copied_bus, copied_text};
@@ -11,6 +11,7 @@ use dss_values::{
     Bus, Connection, ModelError, ONE, ReactiveRule, bus_value, connection, find_named, found_name,
     number_value, number_within, power_factor, supported_of, whole_of,
 };
+use fd_arith::LoadModel;
 use std::alloc::{AllocError, Global};
 
 /// A load. Numbers are whole 10^-9.
@@ -29,8 +30,7 @@ pub struct Load {
     pub pf: i128,
     /// The reactive power in kvar, of all phases, where it was given.
     pub kvar: Option<i128>,
-    /// Constant power is 1, constant impedance 2, constant current 5.
-    pub model: u32,
+    pub model: LoadModel,
     pub conn: Connection,
     /// The lowest voltage, as a part of the nominal one, at which the model holds.
     pub vminpu: i128,
@@ -86,6 +86,17 @@ pub fn load_property(name: &str) -> Option<LoadProperty>
     find_named(&LOAD_PROPERTIES, name)
 }
 
+// The model of one of its numbers: constant power is 1, constant impedance 2, constant current 5.
+fn model_of(number: u32) -> LoadModel
+    ensures { result ≡ model_by_number number }
+{
+    match number {
+        1 => LoadModel::ConstantPower,
+        2 => LoadModel::ConstantImpedance,
+        _ => LoadModel::ConstantCurrent,
+    }
+}
+
 impl Load {
     /// A load with its defaults.
     pub fn fresh(place: Place) -> Self
@@ -99,7 +110,7 @@ impl Load {
             kw: 10 * ONE,
             pf: 880_000_000,
             kvar: None,
-            model: 1,
+            model: LoadModel::ConstantPower,
             conn: Connection::Wye,
             vminpu: 950_000_000,
             vmaxpu: 1_050_000_000,
@@ -135,7 +146,7 @@ impl Load {
                 self.kvar = Some(number_within(alloc, pair, -300_000 * ONE, 300_000 * ONE)?);
                 self.reactive = ReactiveRule::Kvar;
             }
-            LoadProperty::Model => self.model = supported_of(alloc, pair, &[1, 2, 5])?,
+            LoadProperty::Model => self.model = model_of(supported_of(alloc, pair, &[1, 2, 5])?),
             LoadProperty::Conn => self.conn = connection(alloc, pair)?,
             LoadProperty::Vminpu => self.vminpu = number_within(alloc, pair, 400_000_000, ONE)?,
             LoadProperty::Vmaxpu => self.vmaxpu = number_within(alloc, pair, ONE, 2 * ONE)?,

@@ -10,3 +10,4 @@ pub mod Quotients
 pub mod Roots
 pub mod Nearest
 pub mod ShortCircuit
+pub mod LoadModels

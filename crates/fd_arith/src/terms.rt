@@ -1,4 +1,7 @@
-// The words in which the crates of the elements and of the network speak of contributions and of terminals.
+// The words in which the crates of the elements and of the network speak of contributions, of terminals and of loads.
+ghost use Rattle.std.specs.Prelude.{◌≡◌};
+ghost use Rattle.fd_arith.specs.LoadModels.{has_magnitude as model_has_magnitude, is_linear as is_linear_model};
+
 use fd_items::Items;
 use std::alloc::AllocError;
 
@@ -42,6 +45,36 @@ pub struct TapPair {
 pub enum Conn {
     Wye,
     Delta,
+}
+
+/// What a load draws at a voltage (OpenDSS manual, property Model: 1, 2, 5).
+#[derive(Clone, Copy, PartialEq, Eq, Debug)]
+pub enum LoadModel {
+    ConstantPower,
+    ConstantImpedance,
+    ConstantCurrent,
+}
+
+impl LoadModel {
+    /// Whether its current is linear in the voltage, as that of constant impedance alone is.
+    pub fn is_linear(self) -> bool
+        ensures { result ≡ is_linear_model self }
+    {
+        match self {
+            LoadModel::ConstantPower | LoadModel::ConstantCurrent => false,
+            LoadModel::ConstantImpedance => true,
+        }
+    }
+
+    /// Whether each phase has a voltage magnitude among the unknowns, as those of constant current alone have.
+    pub fn has_magnitude(self) -> bool
+        ensures { result ≡ model_has_magnitude self }
+    {
+        match self {
+            LoadModel::ConstantPower | LoadModel::ConstantImpedance => false,
+            LoadModel::ConstantCurrent => true,
+        }
+    }
 }
 
 /// Why an element gives no contributions: a coefficient past 2^54, or want of memory.

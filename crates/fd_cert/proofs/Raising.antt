@@ -5,6 +5,7 @@ use Rattle.std.proofs.lemmas.Bool.{cases_eq, eq-eqb, ne_eqb}
 use Rattle.std.proofs.lemmas.List.{get_or-set_same, get_or-set_other, length-set, take_all}
 use Rattle.std.proofs.lemmas.List.Elements.{Contains-get_or}
 use Rattle.fd_arith.specs.declared.terms.NodeAt.TheVariants.{Node}
+use Rattle.fd_arith.specs.LoadModels.{is_linear}
 use Rattle.fd_system.specs.declared.loads.LoadAt.{LoadAt}
 use Rattle.fd_equations.specs.Patterns.{IsSlot, key}
 use Rattle.fd_equations.proofs.CallerLemmas.{list_n_more}
@@ -148,14 +149,14 @@ pub all_rows : (u : LoadAt) (p : ℕ × ℕ) (re im m : ℕ)
 unfolding spread
 all_rows u p re im m = refl
 
-pub load_other : (u : LoadAt) (r : Radii) (p : ℕ × ℕ) → u.load.model ≢ 2
+pub load_other : (u : LoadAt) (r : Radii) (p : ℕ × ℕ) → is_linear u.load.model ≡ false
     → spread p.0 u (radius_in p.1 u r.real) (radius_in p.1 u r.imaginary) (radius_in p.1 u r.magnitude) ≡ load_radius u r p.0 p.1
 unfolding load_radius
-load_other u r p ne = ap (λ b. cond b 0 (spread p.0 u (radius_in p.1 u r.real) (radius_in p.1 u r.imaginary) (radius_in p.1 u r.magnitude))) (sym (ne_eqb u.load.model 2 ne))
+load_other u r p ne = ap (λ b. cond b 0 (spread p.0 u (radius_in p.1 u r.real) (radius_in p.1 u r.imaginary) (radius_in p.1 u r.magnitude))) (sym ne)
 
-pub load_linear : (u : LoadAt) (r : Radii) (p : ℕ × ℕ) → u.load.model ≡ 2 → load_radius u r p.0 p.1 ≡ 0
+pub load_linear : (u : LoadAt) (r : Radii) (p : ℕ × ℕ) → is_linear u.load.model ≡ true → load_radius u r p.0 p.1 ≡ 0
 unfolding load_radius
-load_linear u r p e = ap (λ b. cond b 0 (spread p.0 u (radius_in p.1 u r.real) (radius_in p.1 u r.imaginary) (radius_in p.1 u r.magnitude))) (eq-eqb u.load.model 2 e)
+load_linear u r p e = ap (λ b. cond b 0 (spread p.0 u (radius_in p.1 u r.real) (radius_in p.1 u r.imaginary) (radius_in p.1 u r.magnitude))) e
 
 -- ---- part loads so far
 

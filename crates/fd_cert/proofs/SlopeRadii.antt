@@ -12,6 +12,7 @@ use Rattle.fd_exact.specs.Tables.{map-same}
 use Rattle.fd_arith.specs.declared.terms.NodeAt.{NodeAt}
 use Rattle.fd_arith.specs.declared.terms.NodeAt.TheVariants.{Ground, Node}
 use Rattle.fd_system.specs.Residual.{IsPlace}
+use Rattle.fd_arith.specs.LoadModels.{is_linear}
 use Rattle.fd_system.specs.declared.loads.LoadAt.{LoadAt}
 use Rattle.fd_equations.specs.Amounts.{Amount, amount, cell_at, cell_of, nothing}
 use Rattle.fd_equations.proofs.CallerLemmas.{all_connected, get_or-list_of, length-list_of}
@@ -126,7 +127,7 @@ rows_none u r row col h = elim (no_product (count_terminal row u) (count_termina
 
 load_none : (u : LoadAt) (r : Radii) (row col : ℕ) → slope_count row col u ≡ 0 → load_radius u r row col ≡ 0
 unfolding slope_count load_radius
-load_none u r row col h = by_test (eqb u.load.model 2) h
+load_none u r row col h = by_test (is_linear u.load.model) h
   where
     by_test : (b : Bool) → cond b 0 (count_terminal row u * count_terminal col u) ≡ 0
         → cond b 0 (spread row u (radius_in col u r.real) (radius_in col u r.imaginary) (radius_in col u r.magnitude)) ≡ 0

@@ -145,7 +145,7 @@ fn add_load(pattern: &Pattern, radii: &mut [u128], load: &LoadAt, slopes: &Radii
     ensures raised { AreRaised pattern.now.places radii.old radii.new (λ p. load_radius load.now slopes.now p.0 p.1) }
     ensures room { RaisesRoom pattern.now.places radii.old radii.new 25 }
 {
-    if load.load.model != 2 {
+    if !load.load.model.is_linear() {
         add_all_rows(pattern, radii, load, slopes);
     }
 }

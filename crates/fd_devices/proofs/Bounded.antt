@@ -13,6 +13,8 @@ use Rattle.fd_arith.specs.declared.terms.Term.{Term}
 use Rattle.fd_arith.specs.declared.terms.Ends.{Ends}
 use Rattle.fd_arith.specs.declared.terms.NodeAt.{NodeAt}
 use Rattle.fd_arith.specs.declared.terms.NodeAt.TheVariants.{Ground, Node}
+use Rattle.fd_arith.specs.declared.terms.LoadModel.{LoadModel}
+use Rattle.fd_arith.specs.LoadModels.{is_linear}
 use Rattle.fd_system.specs.declared.loads.LoadAt.{LoadAt}
 use Rattle.fd_system.specs.Contributions.{IsDivided, IsWithin, each, stamp}
 use Rattle.fd_system.specs.Loads.{FitsModel, IsLoad, impedance_list, linear_list}
@@ -133,7 +135,7 @@ source_settled m n size s at g first branches w =
 
 -- ---- loads
 
-fits_model : (n size model : ℕ) (place : Option ℕ) → HasMagnitude n size model place → FitsModel model place
+fits_model : (n size : ℕ) (model : LoadModel) (place : Option ℕ) → HasMagnitude n size model place → FitsModel model place
 fits_model n size model None h = h
 fits_model n size model (Some l) h = h.0
 
@@ -229,7 +231,7 @@ linear_divided u h false = All-nil IsDivided
 
 pub loads_divided : (us : List LoadAt) → All IsUsable us → All IsDivided (flat_map linear_list us)
 loads_divided [] h = All-nil IsDivided
-loads_divided (u ∷ us) h = All-append IsDivided (linear_list u) (flat_map linear_list us) (linear_divided u (All-head IsUsable u us h) (eqb u.load.model 2)) (loads_divided us (All-tail IsUsable u us h))
+loads_divided (u ∷ us) h = All-append IsDivided (linear_list u) (flat_map linear_list us) (linear_divided u (All-head IsUsable u us h) (is_linear u.load.model)) (loads_divided us (All-tail IsUsable u us h))
 
 pub loads_settled : (m n size : ℕ) (us : List LoadAt) → m ≤ n → All IsUsable us → length us ≤ 3 → All (StandsInside m n size) us → Fits (loads us) → IsSettled m n size 0 (loads us)
 loads_settled m n size us among h few inside f =

@@ -16,6 +16,7 @@ use Rattle.fd_arith.specs.declared.terms.NodeAt.{NodeAt}
 use Rattle.fd_arith.specs.declared.terms.NodeAt.TheVariants.{Ground, Node}
 use Rattle.fd_system.specs.Contributions.{IsSmall}
 use Rattle.fd_system.specs.Terminals.{branch_of}
+use Rattle.fd_arith.specs.declared.terms.LoadModel.{LoadModel}
 use Rattle.fd_system.specs.declared.loads.LoadAt.{LoadAt}
 use Rattle.fd_equations.specs.Conditions.{HasMagnitude, IsAmong, IsServed}
 use Rattle.fd_equations.specs.PatternPlaces.{cross, load_places, magnitude_places, node_places, place_of, terminal_places}
@@ -122,7 +123,7 @@ module _ (size : ℕ) where
       let low : branch + m < n = omega arith in
       All-append IsUnknown (branch_places branch m) (node_places (branch_of branch m)) (branches_inside n branch m few (omega arith)) (node_inside n (branch_of branch m) few low)
 
-  magnitude_inside : (n model : ℕ) (place : Option ℕ) → HasMagnitude n size model place → All IsUnknown (magnitude_places place)
+  magnitude_inside : (n : ℕ) (model : LoadModel) (place : Option ℕ) → HasMagnitude n size model place → All IsUnknown (magnitude_places place)
   magnitude_inside n model None h = All-nil IsUnknown
   magnitude_inside n model (Some k) h = All-cons IsUnknown k [] h.1.1 (All-nil IsUnknown)
 

@@ -9,6 +9,7 @@ use Rattle.fd_arith.specs.declared.terms.Term.{Term}
 use Rattle.fd_arith.specs.declared.terms.Ends.{Ends}
 use Rattle.fd_arith.specs.declared.terms.NodeAt.{NodeAt}
 use Rattle.fd_arith.specs.declared.terms.NodeAt.TheVariants.{Ground, Node}
+use Rattle.fd_arith.specs.LoadModels.{is_linear}
 use Rattle.fd_system.specs.declared.loads.LoadAt.{LoadAt}
 use Rattle.fd_system.specs.declared.terminals.PhasePairs.{PhasePairs}
 use Rattle.fd_system.specs.declared.terminals.PhasePairs.TheVariants as pairs
@@ -170,7 +171,7 @@ module _ (ps : List (ℕ × ℕ)) where
   -- ---- part loads
 
   load_stands : (u : LoadAt) → All (Contains ps) (load_places u) → All Stands (linear_list u)
-  load_stands u h = by_model (eqb u.load.model 2)
+  load_stands u h = by_model (is_linear u.load.model)
     where
       by_model : (b : Bool) → All Stands (cond b (impedance_list u) [])
       by_model true = shunt_stands (terminal_places u) u.first u.second (pos (10 ^ 9) *ℤ u.load.p) (neg_ℤ (pos (10 ^ 9) *ℤ u.load.q)) (u.load.vn *ℤ u.load.vn) h

@@ -1,8 +1,11 @@
 -- The devices of a load and of an element at its place are settled.
-use Rattle.std.proofs.Common.{◌≡◌, ◌∙◌, ℕ, zero, suc, ◌+◌, ◌*◌, ◌<◌, ◌≤◌, inl, inr, Bool, List, [], ◌∷◌, ◌++◌, length, add-one, arith, ap, refl, sym, subst}
+use Rattle.std.proofs.Common.{◌≡◌, IsTrue, ◌∙◌, ℕ, zero, suc, ◌+◌, ◌*◌, ◌<◌, ◌≤◌, inl, inr, Bool, List, [], ◌∷◌, ◌++◌, length, add-one, arith, ap, refl, sym, subst}
 use Rattle.std.specs.List.{All}
 use Rattle.std.proofs.lemmas.List.Elements.{All-nil, All-cons, All-append, All-weaker}
 use Rattle.fd_arith.specs.declared.terms.NodeAt.{NodeAt}
+use Rattle.fd_arith.specs.declared.terms.LoadModel.{LoadModel}
+use Rattle.fd_arith.specs.declared.terms.LoadModel.TheVariants.{ConstantPower, ConstantImpedance, ConstantCurrent}
+use Rattle.fd_arith.specs.LoadModels.{has_magnitude}
 use Rattle.fd_arith.specs.declared.terms.Ends.{Ends}
 use Rattle.fd_arith.specs.declared.terms.TapPair.{TapPair}
 use Rattle.fd_system.specs.Terminals.{node_count, pairs_of}
@@ -45,19 +48,19 @@ few_phases phases (inl h) = omega arith
 few_phases phases (inr h) = omega arith
 
 -- the magnitude of phase k
-magnitude_inside : (n size phases first k model : ℕ) → IsOneOf (1 ∷ 2 ∷ 5 ∷ []) model → (model ≡ 5 → HasMagnitudes n size phases first) → k < phases → HasMagnitude n size model (magnitude_place model first k)
-magnitude_inside n size phases first k model (inl e) h p = subst (λ m. HasMagnitude n size m (magnitude_place m first k)) (sym e) (inl refl)
-magnitude_inside n size phases first k model (inr (inl e)) h p = subst (λ m. HasMagnitude n size m (magnitude_place m first k)) (sym e) (inr refl)
-magnitude_inside n size phases first k model (inr (inr e)) h p =
-    let m = h e in
+magnitude_inside : (n size phases first k : ℕ) (model : LoadModel) → (IsTrue (has_magnitude model) → HasMagnitudes n size phases first) → k < phases → HasMagnitude n size model (magnitude_place model first k)
+magnitude_inside n size phases first k ConstantPower h p = refl
+magnitude_inside n size phases first k ConstantImpedance h p = refl
+magnitude_inside n size phases first k ConstantCurrent h p =
+    let m = h refl in
     let behind = m.behind in
     let below = m.below in
     let least : 2 * n ≤ first + k = omega arith in
     let most : first + k < size = omega arith in
-    subst (λ j. HasMagnitude n size j (magnitude_place j first k)) (sym e) (refl, (least, most))
+    (refl, (least, most))
 
 pub phases_settled : (load : Load) (ns : List NodeAt) (magnitude : ℕ) (powers : List LoadPower) → LoadInRange load → All IsUsable (phases_of load ns magnitude powers) → Fits (loads (phases_of load ns magnitude powers))
-    → (m n size : ℕ) → m ≤ n → IsSideOf m (node_count load.phases) ns → (load.model ≡ 5 → HasMagnitudes n size load.phases magnitude) → IsSettled m n size 0 (loads (phases_of load ns magnitude powers))
+    → (m n size : ℕ) → m ≤ n → IsSideOf m (node_count load.phases) ns → (IsTrue (has_magnitude load.model) → HasMagnitudes n size load.phases magnitude) → IsSettled m n size 0 (loads (phases_of load ns magnitude powers))
 phases_settled load ns magnitude powers range usable fits m n size among side places =
     let count = length-list_of load.phases (load_at load ns magnitude powers) in
     let few = few_phases load.phases range.phases in
@@ -65,7 +68,7 @@ phases_settled load ns magnitude powers range usable fits m n size among side pl
     (all_listed (StandsInside m n size) load.phases (load_at load ns magnitude powers)
     (λ k p. record {
       nodes = let below = pair_below m (pairs_of load.phases (conn_of load.conn)) ns k side.below in record { first = below.first; second = below.second };
-      magnitude = magnitude_inside n size load.phases magnitude k load.model range.model places p;
+      magnitude = magnitude_inside n size load.phases magnitude k load.model places p;
     })) fits
 
 -- ---- elements at their places
@@ -126,12 +129,12 @@ module _ (layout : LayoutView) (hertz place : ℕ) (e : Element) (s : Settings) 
       (λ i. loads (phases_of l (nodes_are i) (m i) s.powers)) ∙ ap (λ (x : Element). device_of layout hertz place x s) (sym is)
 
   pub load_here : (l : Load) (nodes : List NodeAt) (magnitude : ℕ) → e ≡ the.Load l → nodes ≡ at.first → magnitude ≡ first_magnitude layout place
-      → ((m n size : ℕ) → m ≤ n → IsSideOf m (node_count l.phases) nodes → (l.model ≡ 5 → HasMagnitudes n size l.phases magnitude) → IsSettled m n size 0 (loads (phases_of l nodes magnitude s.powers))) → Settled e
+      → ((m n size : ℕ) → m ≤ n → IsSideOf m (node_count l.phases) nodes → (IsTrue (has_magnitude l.model) → HasMagnitudes n size l.phases magnitude) → IsSettled m n size 0 (loads (phases_of l nodes magnitude s.powers))) → Settled e
   load_here l nodes magnitude is ns m h =
       let side = subst (λ (x : Element). Stands at x) is stands in
       let a = subst (λ (x : Element). at ≡ ends_of layout place x) is here in
       let nodes_are = ns ∙ ap (λ (t : Ends). t.first) a in
-      let places : l.model ≡ 5 → HasMagnitudes (complex_count layout) (size_of layout) l.phases magnitude = λ five. subst (HasMagnitudes (complex_count layout) (size_of layout) l.phases) (sym m) (side.1 five) in
+      let places : IsTrue (has_magnitude l.model) → HasMagnitudes (complex_count layout) (size_of layout) l.phases magnitude = λ has. subst (HasMagnitudes (complex_count layout) (size_of layout) l.phases) (sym m) (side.1 has) in
       let settled = h (length layout.nodes) (complex_count layout) (size_of layout) all_nodes (subst (IsSideOf (length layout.nodes) (node_count l.phases)) (sym ns) side.0) places in
       subst Settled (sym is) (subst (λ k. IsSettled (length layout.nodes) (complex_count layout) (size_of layout) 0 (loads (phases_of l (ends_of layout place (the.Load l)).first k s.powers))) m
       (subst (λ us. IsSettled (length layout.nodes) (complex_count layout) (size_of layout) 0 (loads (phases_of l us magnitude s.powers))) nodes_are settled))

@@ -1,8 +1,10 @@
 -- The devices of a scripted circuit, and its network.
-use Rattle.std.specs.Prelude.{ℕ, ◌+◌, ◌==◌, pos, Bool, false, List, [], ◌∷◌, length, get_or, Option, Some, None, if◌then◌else◌}
+use Rattle.std.specs.Prelude.{ℕ, ◌+◌, pos, Bool, false, List, [], ◌∷◌, length, get_or, Option, Some, None, if◌then◌else◌}
 use Rattle.fd_exact.specs.States.{State}
 use Rattle.fd_arith.specs.declared.terms.NodeAt.{NodeAt}
 use Rattle.fd_arith.specs.declared.terms.TapPair.{TapPair}
+use Rattle.fd_arith.specs.declared.terms.LoadModel.{LoadModel}
+use Rattle.fd_arith.specs.LoadModels.{has_magnitude}
 use Rattle.fd_system.specs.declared.loads.LoadAt.{LoadAt}
 use Rattle.fd_system.specs.Equations.{Part}
 use Rattle.fd_system.specs.declared.terminals.NodePair.{NodePair}
@@ -31,8 +33,8 @@ abbrev pub load_pair : Load → List NodeAt → ℕ → NodePair
 load_pair load ns k = pair_of (pairs_of load.phases (conn_of load.conn)) ns k
 
 -- the place of the magnitude of phase k, which a load of constant current has; the first one's place is given
-abbrev pub magnitude_place : ℕ → ℕ → ℕ → Option ℕ
-magnitude_place model first k = if model == 5 then Some (first + k) else None
+abbrev pub magnitude_place : LoadModel → ℕ → ℕ → Option ℕ
+magnitude_place model first k = if has_magnitude model then Some (first + k) else None
 
 abbrev pub power_at : List LoadPower → ℕ → LoadPower
 power_at powers k = get_or powers k (record { p = pos 0; q = pos 0 })

@@ -1,6 +1,7 @@
 -- What the tests of Solve say of an element that takes part in the equations, and where it stands.
-use Rattle.std.specs.Prelude.{◌≡◌, ℕ, ◌+◌, ◌*◌, ◌≤◌, false, Ok, IsSome, List, length, All}
+use Rattle.std.specs.Prelude.{◌≡◌, IsTrue, ℕ, ◌+◌, ◌*◌, ◌≤◌, false, Ok, IsSome, List, length, All}
 use Rattle.fd_arith.specs.declared.terms.NodeAt.{NodeAt}
+use Rattle.fd_arith.specs.LoadModels.{has_magnitude}
 use Rattle.fd_arith.specs.declared.terms.Ends.{Ends}
 use Rattle.fd_system.specs.Terminals.{node_count}
 use Rattle.dss_profile.specs.declared.element.Element.{Element}
@@ -46,5 +47,5 @@ IsSited nodes n size magnitude at (the.Vsource v) = IsSideOf nodes v.phases at.f
 IsSited nodes n size magnitude at (the.Line l) = IsSideOf nodes l.phases at.first × IsSideOf nodes l.phases at.second × HasBranches n l.phases at
 IsSited nodes n size magnitude at (the.Transformer t) = IsSideOf nodes (node_count t.phases) at.first × IsSideOf nodes (node_count t.phases) at.second × HasBranches n t.phases at
 IsSited nodes n size magnitude at (the.Capacitor c) = IsSideOf nodes (node_count c.phases) at.first
-IsSited nodes n size magnitude at (the.Load l) = IsSideOf nodes (node_count l.phases) at.first × (l.model ≡ 5 → HasMagnitudes n size l.phases magnitude)
+IsSited nodes n size magnitude at (the.Load l) = IsSideOf nodes (node_count l.phases) at.first × (IsTrue (has_magnitude l.model) → HasMagnitudes n size l.phases magnitude)
 IsSited nodes n size magnitude at e = Unit {0}

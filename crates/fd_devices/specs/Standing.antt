@@ -1,5 +1,6 @@
 -- An element where a layout has it, and when its device is settled there.
-use Rattle.std.specs.Prelude.{◌≡◌, ℕ, ◌<◌, ◌≤◌, ◌^◌, List, length}
+use Rattle.std.specs.Prelude.{◌≡◌, IsTrue, ℕ, ◌<◌, ◌≤◌, ◌^◌, List, length}
+use Rattle.fd_arith.specs.LoadModels.{has_magnitude}
 use Rattle.fd_arith.specs.declared.terms.Ends.{Ends}
 use Rattle.fd_arith.specs.declared.terms.NodeAt.{NodeAt}
 use Rattle.fd_system.specs.Terminals.{node_count}
@@ -54,4 +55,4 @@ SettlesOn count nodes d = (m n size : ℕ) → IsSideOf n count nodes → IsSett
 -- of which the nodes of a load come first, and the magnitudes of one of constant current last
 abbrev pub SettlesAsLoad : Load → List NodeAt → ℕ → Device → Type 0
 SettlesAsLoad load nodes magnitude d =
-    (m n size : ℕ) → m ≤ n → IsSideOf m (node_count load.phases) nodes → (load.model ≡ 5 → HasMagnitudes n size load.phases magnitude) → IsSettled m n size 0 d
+    (m n size : ℕ) → m ≤ n → IsSideOf m (node_count load.phases) nodes → (IsTrue (has_magnitude load.model) → HasMagnitudes n size load.phases magnitude) → IsSettled m n size 0 d

@@ -12,7 +12,7 @@ ghost use Rattle.fd_devices.specs.Scripted.{load_at, magnitude_place as place_of
 ghost use Rattle.fd_devices.specs.Building.{IsModest, IsUsable};
 
 use dss_profile::Load;
-use fd_arith::{Nodes, Term};
+use fd_arith::{LoadModel, Nodes, Term};
 use fd_elements::{LoadPower, conn_of, load_phase};
 use fd_load::is_load_past;
 use fd_system::{LoadAt, NodePair, add_shunt, phase_pair, phase_pairs};
@@ -66,11 +66,15 @@ fn phase_at(load: &Load, nodes: &Nodes, magnitude: u32, powers: &[LoadPower], k:
 }
 
 // The place of the magnitude of phase k, which a load of constant current has.
-fn magnitude_place(model: u32, first: u32, k: u32) -> Option<u32>
+fn magnitude_place(model: LoadModel, first: u32, k: u32) -> Option<u32>
     requires { first + k < 2 ^ 32 }
     ensures { result ≡ place_of_magnitude model first k }
 {
-    if model == 5 { Some(first + k) } else { None }
+    if model.has_magnitude() {
+        Some(first + k)
+    } else {
+        None
+    }
 }
 
 /// Whether no phase is past its limit.
@@ -112,7 +116,7 @@ fn add_linear(terms: &mut Vec<Term>, phase: &LoadAt)
     ensures capacity { vec_capacity terms.new ≡ vec_capacity terms.old }
     ensures few { length terms.new.items ≤ length terms.old.items + 16 }
 {
-    if phase.load.model == 2 {
+    if phase.load.model.is_linear() {
         add_impedance(terms, phase);
     }
 }

@@ -24,7 +24,7 @@ pub fn load_phase(load: &Load, power: &LoadPower) -> LoadPhase
 {
     let vn = phase_volts(load.phases, conn_of(load.conn), load.kv);
     LoadPhase {
-        model: load.model as u8,
+        model: load.model,
         p: power.p,
         q: power.q,
         vn,

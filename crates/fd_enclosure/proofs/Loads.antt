@@ -6,6 +6,7 @@ use Rattle.fd_exact.specs.FractionLaws.{sum_of-append}
 use Rattle.fd_exact.specs.Fractions.{Fraction, nothing, ◌⊕◌}
 use Rattle.fd_exact.specs.States.{State, away}
 use Rattle.fd_exact.specs.Sums.{list_n, list_z, sum_of}
+use Rattle.fd_arith.specs.LoadModels.{has_magnitude, is_linear}
 use Rattle.fd_system.specs.declared.loads.LoadAt.{LoadAt}
 use Rattle.fd_system.specs.Complex.{negative}
 use Rattle.fd_system.specs.Equations.{Part, equation, seen}
@@ -63,7 +64,7 @@ module _ (box : ℕ → ℕ) (c : List ℤ) (x : State) (n l : ℕ) where
   three_n a b m r s t k = omega arith
 
   module _ (u : LoadAt) (first : IsPlace n u.first) (second : IsPlace n u.second)
-      (third : IfSome u.magnitude (λ k. k < n)) (own : is_some u.magnitude ≡ true → eqb u.load.model 1 ≡ false) where
+      (third : IfSome u.magnitude (λ k. k < n)) (own : is_some u.magnitude ≡ true → has_magnitude u.load.model ≡ true) where
     abbrev ct : ℕ → ℕ
     ct j = count_terminal j u
 
@@ -104,10 +105,10 @@ module _ (box : ℕ → ℕ) (c : List ℤ) (x : State) (n l : ℕ) where
     by_model true f = row_more (away c x) n (x.over * 2 ^ 40) nothing nothing (λ j. pos 0) (λ j. pos 0) (λ j. 0) (λ j. 0 + 4 * 0) (λ j p. refl) (λ j p. omega arith) (row_still (away c x) n (x.over * 2 ^ 40) nothing)
     by_model false f = drawn_near (f refl)
 
-    pub load_near : (eqb u.load.model 2 ≡ false → RowsFollow box c x u)
+    pub load_near : (is_linear u.load.model ≡ false → RowsFollow box c x u)
         → Near_in (equation l (nonlinear_parts u x)) (equation l (nonlinear_parts u (whole_state c))) (λ j. load_entry u (slopes_there c u) l j) (λ j. load_radius u (radii_in box c u) l j + 4 * slope_count l j u)
     unfolding load_entry load_radius slope_count
-    load_near f = by_model (eqb u.load.model 2) f
+    load_near f = by_model (is_linear u.load.model) f
 
   -- ---- all part loads
 

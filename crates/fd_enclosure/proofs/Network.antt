@@ -11,6 +11,8 @@ use Rattle.fd_exact.specs.Sums.{list_n, list_z, sum_of}
 use Rattle.fd_arith.specs.declared.terms.NodeAt.{NodeAt}
 use Rattle.fd_arith.specs.declared.terms.NodeAt.TheVariants as at
 use Rattle.fd_arith.specs.declared.terms.Term.{Term}
+use Rattle.fd_arith.specs.declared.terms.LoadModel.{LoadModel}
+use Rattle.fd_arith.specs.LoadModels.{has_magnitude, is_linear}
 use Rattle.fd_system.specs.declared.loads.LoadAt.{LoadAt}
 use Rattle.fd_system.specs.Contributions.{row_sum}
 use Rattle.fd_system.specs.Equations.{equation}
@@ -63,7 +65,7 @@ module _ (v : NetworkView) (c : List ℤ) (x : State) (net : IsNetwork v) (box :
   im_in at.Ground h = omega arith
   im_in (at.Node k) h = node_in (2 * k + 1) (omega arith)
 
-  own_in : (model : ℕ) (place : Option ℕ) → HasMagnitude v.complexes v.size model place
+  own_in : (model : LoadModel) (place : Option ℕ) → HasMagnitude v.complexes v.size model place
       → nat_abs (magnitude_away c x place) ≤ x.over * magnitude_width (half_width v c) place
   own_in model None h = omega arith
   own_in model (Some k) h = magnitude_in k h.1.0 h.1.1
@@ -87,15 +89,15 @@ node_inside v net (at.Node k) h =
     let small = net.small in
     (omega arith, omega arith)
 
-magnitude_inside : (n size model : ℕ) (place : Option ℕ) → HasMagnitude n size model place
+magnitude_inside : (n size : ℕ) (model : LoadModel) (place : Option ℕ) → HasMagnitude n size model place
     → IfSome place (λ k. k < size)
 magnitude_inside n size model None h = tt
 magnitude_inside n size model (Some k) h = h.1.1
 
-own_model : (n size model : ℕ) (place : Option ℕ) → HasMagnitude n size model place → is_some place ≡ true
-    → eqb model 1 ≡ false
+own_model : (n size : ℕ) (model : LoadModel) (place : Option ℕ) → HasMagnitude n size model place → is_some place ≡ true
+    → has_magnitude model ≡ true
 own_model n size model None h e = let no : ⊥ = cc in absurd no
-own_model n size model (Some k) h e = let m : model ≡ 5 = h.0 in rw m refl
+own_model n size model (Some k) h e = h.0
 
 den_positive : (size : ℕ) (t : Term) → IsLinear size t → (0 < unsigned_abs t.den) × (t.col < size)
 den_positive size t h = let p = h.term.positive in (omega (arith, ints), h.term.col)
@@ -114,7 +116,7 @@ RowFollows v c x l = RowNear (away c x) v.size (x.over * 2 ^ 40) (residual_of v.
 
 -- a part load whose rows follow its slopes; one of constant impedance has none beside the contributions
 abbrev pub LoadFollows : NetworkView → List ℤ → State → LoadAt → Type 0
-LoadFollows v c x u = IsServed v.nodes v.complexes v.size u × (eqb u.load.model 2 ≡ false → RowsFollow (half_width v c) c x u)
+LoadFollows v c x u = IsServed v.nodes v.complexes v.size u × (is_linear u.load.model ≡ false → RowsFollow (half_width v c) c x u)
 
 pub row_follows : (v : NetworkView) (c : List ℤ) (x : State) (l : ℕ) → IsNetwork v
     → All (LoadFollows v c x) v.share.loads → RowFollows v c x l
@@ -154,7 +156,7 @@ impedances : (v : NetworkView) (c : List ℤ) (x : State) (us : List LoadAt)
     → All (IsServed v.nodes v.complexes v.size) us → All IsImpedance us → All (LoadFollows v c x) us
 impedances v c x [] h g = All-nil (LoadFollows v c x)
 impedances v c x (u ∷ us) h g =
-    let model : u.load.model ≡ 2 = All-head IsImpedance u us g in
+    let linear : is_linear u.load.model ≡ true = All-head IsImpedance u us g in
     All-cons (LoadFollows v c x) u us (All-head (IsServed v.nodes v.complexes v.size) u us h, λ e. let no : ⊥ = cc in absurd no)
     (impedances v c x us (All-tail (IsServed v.nodes v.complexes v.size) u us h) (All-tail IsImpedance u us g))
 

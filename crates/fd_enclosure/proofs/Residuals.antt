@@ -12,6 +12,7 @@ use Rattle.fd_exact.specs.Sums.{sum_of}
 use Rattle.fd_arith.specs.Interval.{Bounds, Holds}
 use Rattle.fd_arith.specs.declared.terms.Term.{Term}
 use Rattle.fd_system.specs.declared.constants.Constant.{Constant}
+use Rattle.fd_arith.specs.declared.terms.LoadModel.{LoadModel}
 use Rattle.fd_system.specs.declared.loads.LoadAt.{LoadAt}
 use Rattle.fd_system.specs.Contributions.{given, row_sum}
 use Rattle.fd_system.specs.Equations.{equation, seen}
@@ -60,7 +61,7 @@ term_positive l x t h g = by (eqb t.row l)
     by true = mul-pos g h
     by false = nothing-pos
 
-fits_model : (n size model : ℕ) (place : Option ℕ) → HasMagnitude n size model place → FitsModel model place
+fits_model : (n size : ℕ) (model : LoadModel) (place : Option ℕ) → HasMagnitude n size model place → FitsModel model place
 fits_model n size model None h = h
 fits_model n size model (Some k) h = h.0
 

@@ -1,9 +1,10 @@
 -- What a sound claim says of other states.
-use Rattle.std.specs.Prelude.{◌≡◌, ℕ, ◌*◌, ◌^◌, ◌<◌, ◌≤◌, ℤ, ◌*ℤ◌, nat_abs, List, length, Ok}
+use Rattle.std.specs.Prelude.{◌≡◌, ℕ, ◌*◌, ◌^◌, ◌<◌, ◌≤◌, ℤ, ◌*ℤ◌, nat_abs, IsTrue, List, length, Ok}
 use Rattle.std.specs.List.{All}
 use Rattle.fd_exact.specs.Fractions.{Near, minus}
 use Rattle.fd_exact.specs.States.{State, away}
 use Rattle.fd_exact.specs.Sums.{sum_n, sum_z}
+use Rattle.fd_arith.specs.LoadModels.{is_linear}
 use Rattle.fd_system.specs.declared.loads.LoadAt.{LoadAt}
 use Rattle.fd_system.specs.Meets.{Meets}
 use Rattle.fd_system.specs.Residual.{whole_state}
@@ -37,7 +38,7 @@ EnclosesAll v c r e = (x : State) → 0 < x.over → Meets (residual_of v.share)
 
 -- a part load of constant impedance, whose current is linear
 abbrev pub IsImpedance : LoadAt → Type 0
-IsImpedance u = u.load.model ≡ 2
+IsImpedance u = IsTrue (is_linear u.load.model)
 
 -- ---- laws
 

@@ -3,6 +3,7 @@ use Rattle.std.specs.Prelude.{ℕ, ◌+◌, ◌*◌, ℤ, cond, eqb, List, Optio
 use Rattle.fd_exact.specs.Sums.{list_n}
 use Rattle.fd_arith.specs.declared.terms.NodeAt.{NodeAt}
 use Rattle.fd_arith.specs.declared.terms.NodeAt.TheVariants.{Ground, Node}
+use Rattle.fd_arith.specs.LoadModels.{is_linear}
 use Rattle.fd_system.specs.declared.loads.LoadAt.{LoadAt}
 use Rattle.fd_slope.specs.Changes.{radii_in}
 use Rattle.fd_slope.specs.declared.radii.Radii.{Radii}
@@ -35,7 +36,7 @@ radius_in col u r = spread col u r.p r.q r.m
 
 -- what a part load with these radii adds in a row and a column; one of constant impedance stands in the contributions
 unfoldable pub load_radius : LoadAt → Radii → ℕ → ℕ → ℕ
-load_radius u r row col = cond (eqb u.load.model 2) 0 (spread row u (radius_in col u r.real) (radius_in col u r.imaginary) (radius_in col u r.magnitude))
+load_radius u r row col = cond (is_linear u.load.model) 0 (spread row u (radius_in col u r.real) (radius_in col u r.imaginary) (radius_in col u r.magnitude))
 
 -- ---- a network
 

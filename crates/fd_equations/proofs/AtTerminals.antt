@@ -5,6 +5,7 @@ use Rattle.std.proofs.lemmas.Int.{ints}
 use Rattle.std.proofs.lemmas.List.Elements.{All-weaker}
 use Rattle.fd_arith.specs.declared.terms.NodeAt.{NodeAt}
 use Rattle.fd_arith.specs.declared.terms.NodeAt.TheVariants.{Ground, Node}
+use Rattle.fd_arith.specs.declared.terms.LoadModel.{LoadModel}
 use Rattle.fd_system.specs.declared.loads.LoadAt.{LoadAt}
 use Rattle.fd_system.specs.Contributions.{IsSmall}
 use Rattle.fd_system.specs.Residual.{IsPlace}
@@ -112,7 +113,7 @@ node_inside : (m n size : ℕ) (node : NodeAt) → m ≤ n → 2 * n ≤ size �
 node_inside m n size Ground among h few k = tt
 node_inside m n size (Node r) among h few k = (omega arith, omega arith)
 
-magnitude_inside : (n size model : ℕ) (place : Option ℕ) → HasMagnitude n size model place → IfSome place (λ k. k < size)
+magnitude_inside : (n size : ℕ) (model : LoadModel) (place : Option ℕ) → HasMagnitude n size model place → IfSome place (λ k. k < size)
 magnitude_inside n size model None h = tt
 magnitude_inside n size model (Some k) h = h.1.1
 

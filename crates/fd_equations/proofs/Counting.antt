@@ -8,6 +8,7 @@ use Rattle.fd_arith.specs.declared.terms.Term.{Term}
 use Rattle.fd_arith.specs.declared.terms.NodeAt.{NodeAt}
 use Rattle.fd_arith.specs.declared.terms.NodeAt.TheVariants.{Ground, Node}
 use Rattle.fd_exact.specs.SumLaws.{list_n-bound}
+use Rattle.fd_arith.specs.LoadModels.{is_linear}
 use Rattle.fd_system.specs.declared.loads.LoadAt.{LoadAt}
 use Rattle.fd_system.specs.Contributions.{AreSmall}
 use Rattle.fd_equations.specs.Coefficients.{count_at, linear_entry, stands_at, units_of}
@@ -56,7 +57,7 @@ product_few a b m k h l = mul-le-mul h l
 
 pub slope_few : (row col : ℕ) (u : LoadAt) → slope_count row col u ≤ 25
 unfolding slope_count
-slope_few row col u = by_test (eqb u.load.model 2)
+slope_few row col u = by_test (is_linear u.load.model)
   where
     by_test : (b : Bool) → cond b 0 (count_terminal row u * count_terminal col u) ≤ 25
     by_test true = omega arith

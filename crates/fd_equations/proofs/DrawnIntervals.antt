@@ -1,7 +1,6 @@
 -- What part loads add to the intervals of the rows: the parts of the system, their width, and their positive denominators.
-use Rattle.std.proofs.Common.{◌≡◌, ◌∙◌, ℕ, suc, ◌+◌, ◌*◌, ◌<◌, ◌≤◌, ◌≢◌, ◌^◌, ℤ, pos, neg_ℤ, nat_abs, Bool, true, false, cond, eqb, ◌&&◌, List, [], ◌∷◌, ◌++◌, length, take, get_or, Option, Some, None, arith, ap, sym, refl, subst, lit≤, append-nil}
+use Rattle.std.proofs.Common.{◌≡◌, ◌∙◌, ℕ, suc, ◌+◌, ◌*◌, ◌<◌, ◌≤◌, ◌^◌, ℤ, pos, neg_ℤ, nat_abs, Bool, true, false, cond, eqb, ◌&&◌, List, [], ◌∷◌, ◌++◌, length, take, get_or, Option, Some, None, arith, ap, sym, refl, subst, lit≤, append-nil}
 use Rattle.std.specs.List.{fold, All}
-use Rattle.std.proofs.lemmas.Bool.{eq-eqb, ne_eqb, true≢false}
 use Rattle.std.proofs.lemmas.Grind.{flat_map-append}
 use Rattle.std.proofs.lemmas.Int.{ints}
 use Rattle.std.proofs.lemmas.List.{take_more}
@@ -19,6 +18,7 @@ use Rattle.fd_arith.specs.declared.terms.NodeAt.{NodeAt}
 use Rattle.fd_arith.specs.declared.terms.NodeAt.TheVariants.{Ground, Node}
 use Rattle.fd_load.specs.Current.{AreVoltages, IsLoadPhase, divisor, excess, in_phase, quadrature}
 use Rattle.fd_load.proofs.CallerLemmas.{current_is, divisor-positive, magnitude_is}
+use Rattle.fd_arith.specs.LoadModels.{is_linear}
 use Rattle.fd_system.specs.declared.loads.LoadAt.{LoadAt}
 use Rattle.fd_system.specs.Complex.{Complex, negative}
 use Rattle.fd_system.specs.Equations.{alone, both, seen}
@@ -78,7 +78,7 @@ magnitude_of_part l a u x (Some k) e =
     magnitude_here x None = pos 0
     magnitude_here x (Some k) = part x k
 
-pub parts_are : (l : ℕ) (a : Bounds) (u : LoadAt) (x : List ℤ) → u.load.model ≢ 2 → with_drawn l a u (real_of x u) (imaginary_of x u) (magnitude_in x u) ≡ fold (with_part l) a (nonlinear_parts u (whole_state x))
+pub parts_are : (l : ℕ) (a : Bounds) (u : LoadAt) (x : List ℤ) → is_linear u.load.model ≡ false → with_drawn l a u (real_of x u) (imaginary_of x u) (magnitude_in x u) ≡ fold (with_part l) a (nonlinear_parts u (whole_state x))
 unfolding with_drawn
 parts_are l a u x ne =
     let w = u.load in
@@ -90,12 +90,12 @@ parts_are l a u x ne =
     let im : fraction_interval c.im ≡ outward (quadrature w p q) (divisor w p q m) = ap (λ z. fraction_interval z.im) (current_is u x) in
     let first = part_current l a u.first c ∙ (λ i. with_current l a u.first (re i) (im i)) in
     let second = part_negative l (with_part l a (both u.first c)) u.second c ∙ (λ i. with_current l (first i) u.second (negation (re i)) (negation (im i))) in
-    sym (ap (λ b. fold (with_part l) a (cond b [] (load_parts u (whole_state x)))) (ne_eqb w.model 2 ne)
+    sym (ap (λ b. fold (with_part l) a (cond b [] (load_parts u (whole_state x)))) ne
     ∙ magnitude_of_part l (with_part l (with_part l a (both u.first c)) (both u.second (negative c))) u x u.magnitude refl
     ∙ ap (λ b. with_magnitude l b u.magnitude (outward (excess p q m) (nat_abs w.vn))) second)
 
-pub parts_none : (l : ℕ) (a : Bounds) (u : LoadAt) (s : State) → u.load.model ≡ 2 → a ≡ fold (with_part l) a (nonlinear_parts u s)
-parts_none l a u s e = sym (ap (λ b. fold (with_part l) a (cond b [] (load_parts u s))) (eq-eqb u.load.model 2 e))
+pub parts_none : (l : ℕ) (a : Bounds) (u : LoadAt) (s : State) → is_linear u.load.model ≡ true → a ≡ fold (with_part l) a (nonlinear_parts u s)
+parts_none l a u s e = sym (ap (λ b. fold (with_part l) a (cond b [] (load_parts u s))) e)
 
 pub drawn_some : (l : ℕ) (a : Bounds) (u : LoadAt) (p q m : ℤ) (place : ℕ) → u.magnitude ≡ Some place
     → with_magnitude l (with_current l (with_current l a u.first (outward (in_phase u.load p q) (divisor u.load p q m)) (outward (quadrature u.load p q) (divisor u.load p q m))) u.second (negation (outward (in_phase u.load p q) (divisor u.load p q m))) (negation (outward (quadrature u.load p q) (divisor u.load p q m)))) (Some place) (outward (excess p q m) (nat_abs u.load.vn)) ≡ with_drawn l a u p q m
@@ -166,13 +166,12 @@ narrow_drawn l a u p q m w s h v few n =
 
 narrow_load : (l : ℕ) (a : Bounds) (u : LoadAt) (x : List ℤ) (w s : ℕ) → All IsPart x → IsConnected (length x) u → s + 3 * 2 ^ 63 ≤ 2 ^ 120 → Narrow a w s → Narrow (fold (with_part l) a (nonlinear_parts u (whole_state x))) (w + current_count l u) (s + 3 * 2 ^ 63)
 unfolding current_count
-narrow_load l a u x w s parts h few n = by_model (eqb u.load.model 2) refl
+narrow_load l a u x w s parts h few n = by_model (is_linear u.load.model) refl
   where
-    by_model : (b : Bool) → eqb u.load.model 2 ≡ b → Narrow (fold (with_part l) a (cond b [] (load_parts u (whole_state x)))) (w + cond b 0 (count_terminal l u)) (s + 3 * 2 ^ 63)
+    by_model : (b : Bool) → is_linear u.load.model ≡ b → Narrow (fold (with_part l) a (cond b [] (load_parts u (whole_state x)))) (w + cond b 0 (count_terminal l u)) (s + 3 * 2 ^ 63)
     by_model true e = wider a w (w + 0) s (s + 3 * 2 ^ 63) (omega arith) (omega arith) n
     by_model false e =
-        let ne : u.load.model ≢ 2 = λ f. true≢false (sym (eq-eqb u.load.model 2 f) ∙ e) in
-        let is : with_drawn l a u (real_of x u) (imaginary_of x u) (magnitude_in x u) ≡ fold (with_part l) a (load_parts u (whole_state x)) = parts_are l a u x ne ∙ ap (λ b. fold (with_part l) a (cond b [] (load_parts u (whole_state x)))) e in
+        let is : with_drawn l a u (real_of x u) (imaginary_of x u) (magnitude_in x u) ≡ fold (with_part l) a (load_parts u (whole_state x)) = parts_are l a u x e ∙ ap (λ b. fold (with_part l) a (cond b [] (load_parts u (whole_state x)))) e in
         subst (λ b. Narrow b (w + count_terminal l u) (s + 3 * 2 ^ 63)) is (narrow_drawn l a u (real_of x u) (imaginary_of x u) (magnitude_in x u) w s h.phase (voltages x parts u h) few n)
 
 pub narrow_loads : (l : ℕ) (a : Bounds) (us : List LoadAt) (x : List ℤ) (w s : ℕ) → All IsPart x → All (IsConnected (length x)) us → s + length us * (3 * 2 ^ 63) ≤ 2 ^ 120 → Narrow a w s → Narrow (fold (with_part l) a (nonlinear_of us (whole_state x))) (w + current_counts us l) (s + length us * (3 * 2 ^ 63))
@@ -199,7 +198,7 @@ magnitude_positive l u x (Some k) h =
     All-cons (λ q. 0 < (seen l q).over) (alone k f) [] (alone_positive l k f (omega arith)) (All-nil (λ q. 0 < (seen l q).over))
 
 load_positive : (l : ℕ) (u : LoadAt) (x : List ℤ) → IsLoadPhase u.load → HasParts l (nonlinear_parts u (whole_state x))
-load_positive l u x h = by_model (eqb u.load.model 2)
+load_positive l u x h = by_model (is_linear u.load.model)
   where
     current : IsWhole (load_current u (whole_state x))
     current = let d = divisor-positive u.load (real_of x u) (imaginary_of x u) (magnitude_in x u) h in subst IsWhole (sym (current_is u x)) (record { re = d; im = d })

@@ -1,5 +1,5 @@
 -- The sizes of what a part load draws, to the nearest.
-use Rattle.std.proofs.Common.{◌≡◌, ◌∙◌, ℕ, ◌*◌, ◌≤◌, ◌^◌, ℤ, pos, ◌+ℤ◌, ◌-ℤ◌, ◌*ℤ◌, nat_abs, Bool, true, false, cond, eqb, Option, Some, None, to_z, of_z, arith, ap}
+use Rattle.std.proofs.Common.{◌≡◌, ◌∙◌, ℕ, ◌*◌, ◌≤◌, ◌^◌, ℤ, pos, ◌+ℤ◌, ◌-ℤ◌, ◌*ℤ◌, nat_abs, cond, Option, Some, None, to_z, of_z, arith, ap}
 use Rattle.std.specs.Int.{w128}
 use Rattle.fd_arith.specs.Limits.{within}
 use Rattle.fd_arith.specs.Capping.{true-fits}
@@ -7,6 +7,9 @@ use Rattle.std.proofs.lemmas.Int.{ints, unsigned_abs-mul}
 use Rattle.std.proofs.Math.Nat.{mul-le-mul, mul-le-mul_right}
 use Rattle.fd_exact.specs.Integers.{abs_sub}
 use Rattle.fd_exact.specs.Rounding.{near_div}
+use Rattle.fd_arith.specs.declared.terms.LoadModel.{LoadModel}
+use Rattle.fd_arith.specs.declared.terms.LoadModel.TheVariants.{ConstantPower, ConstantImpedance, ConstantCurrent}
+use Rattle.fd_arith.specs.LoadModels.{by_model}
 use Rattle.fd_system.specs.declared.loads.LoadPhase.{LoadPhase}
 use Rattle.fd_system.specs.Loads.{clamp, non_negative, square_of}
 use Rattle.fd_load.specs.Current.{AreVoltages, IsLoadPhase, divisor, excess, in_phase, largest, power_sum, quadrature}
@@ -16,10 +19,10 @@ use Rattle.fd_load.proofs.CallerLemmas.{current_most, divisor-positive, sum_most
 
 -- ---- the denominator is at least the square of the lower limit
 
-one_least : (s t : Bool) (l a b c : ℕ) → l ≤ a → l ≤ b → l ≤ c → l ≤ cond s a (cond t b c)
-one_least true t l a b c h k j = h
-one_least false true l a b c h k j = k
-one_least false false l a b c h k j = j
+one_least : (model : LoadModel) (l a b c : ℕ) → l ≤ a → l ≤ b → l ≤ c → l ≤ by_model model a b c
+one_least ConstantPower l a b c h k j = h
+one_least ConstantImpedance l a b c h k j = k
+one_least ConstantCurrent l a b c h k j = j
 
 clamp_least : (u lo hi : ℕ) → lo ≤ hi → lo ≤ clamp u lo hi
 clamp_least u lo hi h = omega arith
@@ -28,7 +31,7 @@ divisor_least : (w : LoadPhase) (p q m : ℤ) → IsLoadPhase w → nat_abs w.vl
 divisor_least w p q m h =
     let low : nat_abs w.vlo ≤ nat_abs w.vn = omega (arith, ints, h.low_least, h.low_most) in
     let high : nat_abs w.vlo ≤ nat_abs w.vhi = omega (arith, ints, h.low_least, h.low_most, h.high_least) in
-    one_least (eqb w.model 1) (eqb w.model 2) (nat_abs w.vlo * nat_abs w.vlo) _ _ _
+    one_least w.model (nat_abs w.vlo * nat_abs w.vlo) _ _ _
     (clamp_least (square_of p q) (nat_abs w.vlo * nat_abs w.vlo) (nat_abs w.vhi * nat_abs w.vhi) (mul-le-mul high high))
     (mul-le-mul low low)
     (mul-le-mul low (clamp_least (non_negative m) (nat_abs w.vlo) (nat_abs w.vhi) high))

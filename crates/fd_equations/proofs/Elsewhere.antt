@@ -8,6 +8,7 @@ use Rattle.std.proofs.lemmas.List.Elements.{All-cons, All-head, All-nil, All-tai
 use Rattle.fd_arith.specs.declared.terms.Term.{Term}
 use Rattle.fd_arith.specs.declared.terms.NodeAt.{NodeAt}
 use Rattle.fd_arith.specs.declared.terms.NodeAt.TheVariants.{Ground, Node}
+use Rattle.fd_arith.specs.LoadModels.{is_linear}
 use Rattle.fd_system.specs.declared.loads.LoadAt.{LoadAt}
 use Rattle.fd_system.specs.Contributions.{AreSmall}
 use Rattle.fd_equations.specs.declared.cells.Cell.{Cell}
@@ -138,7 +139,7 @@ module _ (ps : List (ℕ × ℕ)) (row col : ℕ) (none : Contains ps (row, col)
 
   no_slope : (u : LoadAt) → All (Contains ps) (load_places u) → slope_count row col u ≡ 0
   unfolding slope_count
-  no_slope u h = by_model (eqb u.load.model 2)
+  no_slope u h = by_model (is_linear u.load.model)
     where
       by_model : (b : Bool) → cond b 0 (count_terminal row u * count_terminal col u) ≡ 0
       by_model true = refl

@@ -9,6 +9,7 @@ use Rattle.fd_arith.specs.declared.terms.Term.{Term}
 use Rattle.fd_arith.specs.declared.terms.NodeAt.{NodeAt}
 use Rattle.fd_arith.specs.declared.terms.NodeAt.TheVariants.{Ground, Node}
 use Rattle.fd_load.specs.declared.slopes.Slopes.{Slopes}
+use Rattle.fd_arith.specs.LoadModels.{is_linear}
 use Rattle.fd_system.specs.declared.loads.LoadAt.{LoadAt}
 use Rattle.fd_system.specs.Residual.{IsPlace}
 use Rattle.fd_equations.specs.declared.cells.Cell.{Cell}
@@ -44,7 +45,7 @@ zero_terminal l u = λ i. (zero_node l u.first i +ℤ zero_node l u.second i) +�
 
 zero_entry : (u : LoadAt) (row col : ℕ) → load_entry u no_slopes row col ≡ pos 0
 unfolding load_entry no_slopes
-zero_entry u row col = ap (λ z. cond (eqb u.load.model 2) (pos 0) z) (ap (λ z. at_terminal row u z z z) (zero_terminal col u) ∙ zero_terminal row u) ∙ zero_z (eqb u.load.model 2)
+zero_entry u row col = ap (λ z. cond (is_linear u.load.model) (pos 0) z) (ap (λ z. at_terminal row u z z z) (zero_terminal col u) ∙ zero_terminal row u) ∙ zero_z (is_linear u.load.model)
 
 zero_sum : (us : List LoadAt) (row col : ℕ) → list_z (λ u. load_entry u no_slopes row col) us ≡ pos 0
 zero_sum [] row col = refl
@@ -143,7 +144,7 @@ one_none (suc a) (suc b) h =
 
 entry_none : (u : LoadAt) (s : Slopes) (row col : ℕ) → slope_count row col u ≡ 0 → load_entry u s row col ≡ pos 0
 unfolding load_entry slope_count
-entry_none u s row col h = by (eqb u.load.model 2) h
+entry_none u s row col h = by (is_linear u.load.model) h
   where
     by : (b : Bool) → cond b 0 (count_terminal row u * count_terminal col u) ≡ 0
         → cond b (pos 0) (at_terminal row u (slope_in col u s.real) (slope_in col u s.imaginary) (slope_in col u s.magnitude)) ≡ pos 0

@@ -1,6 +1,5 @@
 -- What a part load adds to the cells at the places of its terminal, step by step.
-use Rattle.std.proofs.Common.{◌≡◌, ◌∙◌, ℕ, ◌+◌, ◌*◌, ◌<◌, ◌≤◌, ◌≢◌, ◌^◌, ℤ, pos, neg_ℤ, ◌+ℤ◌, nat_abs, Bool, true, false, cond, eqb, ◌&&◌, List, length, take, get_or, Option, Some, None, arith, ap, sym, refl, subst}
-use Rattle.std.proofs.lemmas.Bool.{eq-eqb, ne_eqb}
+use Rattle.std.proofs.Common.{◌≡◌, ◌∙◌, ℕ, ◌+◌, ◌*◌, ◌<◌, ◌≤◌, ◌^◌, ℤ, pos, neg_ℤ, ◌+ℤ◌, nat_abs, Bool, true, false, cond, eqb, ◌&&◌, List, length, take, get_or, Option, Some, None, arith, ap, sym, refl, subst}
 use Rattle.std.proofs.lemmas.List.{take_all}
 use Rattle.fd_arith.specs.declared.terms.NodeAt.{NodeAt}
 use Rattle.fd_arith.specs.declared.terms.NodeAt.TheVariants.{Ground, Node}
@@ -8,6 +7,7 @@ use Rattle.fd_load.specs.Slopes.{admittance, slope_row, slopes_of}
 use Rattle.fd_load.specs.declared.slopes.Slopes.{Slopes}
 use Rattle.fd_load.specs.declared.slopes.SlopeRow.{SlopeRow}
 use Rattle.fd_system.specs.declared.loads.LoadPhase.{LoadPhase}
+use Rattle.fd_arith.specs.LoadModels.{is_linear}
 use Rattle.fd_system.specs.declared.loads.LoadAt.{LoadAt}
 use Rattle.fd_equations.specs.declared.cells.Cell.{Cell}
 use Rattle.fd_equations.specs.Amounts.{Amount, AreGrown, HaveSlopeRoom, amount, nothing, of_load, of_loads}
@@ -185,13 +185,13 @@ module _ (u : LoadAt) (s : Slopes) (n m : SlopeRow) (e : n ≡ slope_row (neg_�
 
 -- ---- a part load
 
-pub load_other : (u : LoadAt) (s : Slopes) (p : ℕ × ℕ) → u.load.model ≢ 2 → all_rows u s p ≡ of_load u s p
+pub load_other : (u : LoadAt) (s : Slopes) (p : ℕ × ℕ) → is_linear u.load.model ≡ false → all_rows u s p ≡ of_load u s p
 unfolding load_entry slope_count
-load_other u s p ne = ap (λ b. amount (cond b (pos 0) (at_terminal p.0 u (slope_in p.1 u s.real) (slope_in p.1 u s.imaginary) (slope_in p.1 u s.magnitude))) 0 (cond b 0 (count_terminal p.0 u * count_terminal p.1 u))) (sym (ne_eqb u.load.model 2 ne))
+load_other u s p ne = ap (λ b. amount (cond b (pos 0) (at_terminal p.0 u (slope_in p.1 u s.real) (slope_in p.1 u s.imaginary) (slope_in p.1 u s.magnitude))) 0 (cond b 0 (count_terminal p.0 u * count_terminal p.1 u))) (sym ne)
 
-pub load_linear : (u : LoadAt) (s : Slopes) (p : ℕ × ℕ) → u.load.model ≡ 2 → nothing ≡ of_load u s p
+pub load_linear : (u : LoadAt) (s : Slopes) (p : ℕ × ℕ) → is_linear u.load.model ≡ true → nothing ≡ of_load u s p
 unfolding load_entry slope_count
-load_linear u s p e = ap (λ b. amount (cond b (pos 0) (at_terminal p.0 u (slope_in p.1 u s.real) (slope_in p.1 u s.imaginary) (slope_in p.1 u s.magnitude))) 0 (cond b 0 (count_terminal p.0 u * count_terminal p.1 u))) (sym (eq-eqb u.load.model 2 e))
+load_linear u s p e = ap (λ b. amount (cond b (pos 0) (at_terminal p.0 u (slope_in p.1 u s.real) (slope_in p.1 u s.imaginary) (slope_in p.1 u s.magnitude))) 0 (cond b 0 (count_terminal p.0 u * count_terminal p.1 u))) (sym e)
 
 -- ---- sizes
 
@@ -205,7 +205,7 @@ all_small row col u s h =
 
 entry_small : (u : LoadAt) (s : Slopes) (row col : ℕ) → AreSlopes s → nat_abs (load_entry u s row col) ≤ 2 ^ 78
 unfolding load_entry
-entry_small u s row col h = by_test (eqb u.load.model 2)
+entry_small u s row col h = by_test (is_linear u.load.model)
   where
     by_test : (b : Bool) → nat_abs (cond b (pos 0) (at_terminal row u (slope_in col u s.real) (slope_in col u s.imaginary) (slope_in col u s.magnitude))) ≤ 2 ^ 78
     by_test true = omega arith

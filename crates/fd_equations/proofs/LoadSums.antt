@@ -1,7 +1,6 @@
 -- Sums over part loads, and what each adds.
-use Rattle.std.proofs.Common.{◌≡◌, ℕ, ◌+◌, ◌*◌, ◌<◌, ◌≤◌, ◌≢◌, ◌^◌, ℤ, pos, ◌+ℤ◌, ◌-ℤ◌, nat_abs, Bool, true, false, cond, eqb, List, [], ◌∷◌, length, take, Option, Some, None, IfSome, arith, ap}
+use Rattle.std.proofs.Common.{◌≡◌, ℕ, ◌+◌, ◌*◌, ◌<◌, ◌≤◌, ◌^◌, ℤ, pos, ◌+ℤ◌, ◌-ℤ◌, nat_abs, Bool, true, false, cond, List, [], ◌∷◌, length, take, Option, Some, None, IfSome, arith, ap}
 use Rattle.std.specs.List.{All}
-use Rattle.std.proofs.lemmas.Bool.{eq-eqb, ne_eqb}
 use Rattle.std.proofs.lemmas.Int.{ints}
 use Rattle.std.proofs.lemmas.List.{length-take}
 use Rattle.std.proofs.lemmas.List.Elements.{All-get_or, All-head, All-tail, All-take, All-weaker}
@@ -11,6 +10,8 @@ use Rattle.fd_exact.specs.Sums.{list_z}
 use Rattle.fd_arith.specs.declared.terms.NodeAt.{NodeAt}
 use Rattle.fd_arith.specs.declared.terms.NodeAt.TheVariants.{Ground, Node}
 use Rattle.fd_load.specs.Current.{AreVoltages, divisor, excess, in_phase, quadrature}
+use Rattle.fd_arith.specs.declared.terms.LoadModel.TheVariants.{ConstantPower}
+use Rattle.fd_arith.specs.LoadModels.{is_linear}
 use Rattle.fd_system.specs.declared.loads.LoadAt.{LoadAt}
 use Rattle.fd_system.specs.Loads.{re_of, im_of, magnitude_of}
 use Rattle.fd_system.specs.Residual.{IsPlace, whole_state}
@@ -23,7 +24,7 @@ use Rattle.fd_equations.proofs.Sizes.{part_size}
 
 -- a part load for places outside a list
 abbrev pub no_load : LoadAt
-no_load = record { load = record { model = 0; p = pos 0; q = pos 0; vn = pos 0; vlo = pos 0; vhi = pos 0 }; first = Ground; second = Ground; magnitude = None }
+no_load = record { load = record { model = ConstantPower; p = pos 0; q = pos 0; vn = pos 0; vlo = pos 0; vhi = pos 0 }; first = Ground; second = Ground; magnitude = None }
 
 -- ---- the size of a sum
 
@@ -70,13 +71,13 @@ drawn_row x l u = at_terminal l u
     (near_div (quadrature u.load (real_of x u) (imaginary_of x u)) (divisor u.load (real_of x u) (imaginary_of x u) (magnitude_in x u)))
     (near_div (excess (real_of x u) (imaginary_of x u) (magnitude_in x u)) (nat_abs u.load.vn))
 
-pub row_other : (x : List ℤ) (l : ℕ) (u : LoadAt) → u.load.model ≢ 2 → load_row x l u ≡ drawn_row x l u
+pub row_other : (x : List ℤ) (l : ℕ) (u : LoadAt) → is_linear u.load.model ≡ false → load_row x l u ≡ drawn_row x l u
 unfolding load_row
-row_other x l u ne = ap (λ b. cond b (pos 0) (drawn_row x l u)) (ne_eqb u.load.model 2 ne)
+row_other x l u ne = ap (λ b. cond b (pos 0) (drawn_row x l u)) ne
 
-pub row_linear : (x : List ℤ) (l : ℕ) (u : LoadAt) → u.load.model ≡ 2 → load_row x l u ≡ pos 0
+pub row_linear : (x : List ℤ) (l : ℕ) (u : LoadAt) → is_linear u.load.model ≡ true → load_row x l u ≡ pos 0
 unfolding load_row
-row_linear x l u e = ap (λ b. cond b (pos 0) (drawn_row x l u)) (eq-eqb u.load.model 2 e)
+row_linear x l u e = ap (λ b. cond b (pos 0) (drawn_row x l u)) e
 
 pub row_small : (x : List ℤ) (l : ℕ) (u : LoadAt) → All IsPart x → IsConnected (length x) u → nat_abs (load_row x l u) ≤ 2 ^ 64
 unfolding load_row
@@ -87,7 +88,7 @@ row_small x l u parts h =
     let m = magnitude_in x u in
     let t = terminal_least l u (near_div (in_phase u.load p q) (divisor u.load p q m)) (near_div (quadrature u.load p q) (divisor u.load p q m)) (near_div (excess p q m) (nat_abs u.load.vn)) (2 ^ 62)
     (in_phase_small u.load p q m h.phase v) (quadrature_small u.load p q m h.phase v) (excess_small u.load p q m h.phase v) in
-    by_test (eqb u.load.model 2) (omega arith)
+    by_test (is_linear u.load.model) (omega arith)
   where
     by_test : (b : Bool) → nat_abs (drawn_row x l u) ≤ 2 ^ 64 → nat_abs (cond b (pos 0) (drawn_row x l u)) ≤ 2 ^ 64
     by_test true k = omega arith

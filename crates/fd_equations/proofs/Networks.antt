@@ -10,6 +10,7 @@ use Rattle.fd_exact.specs.States.{part}
 use Rattle.fd_exact.specs.Sums.{sum_z}
 use Rattle.fd_exact.specs.SumLaws.{abs_sum, sum_n-bound}
 use Rattle.fd_arith.specs.Interval.{Bounds, Holds}
+use Rattle.fd_arith.specs.LoadModels.{is_linear}
 use Rattle.fd_arith.specs.declared.terms.Term.{Term}
 use Rattle.fd_system.specs.declared.constants.Constant.{Constant}
 use Rattle.fd_system.specs.declared.loads.LoadAt.{LoadAt}
@@ -43,7 +44,7 @@ den_positive size t h = let p = h.term.positive in omega (arith, ints)
 -- beside its currents a part load has at most the row of its magnitude
 with_magnitude : (l : ℕ) (u : LoadAt) → current_count l u ≤ load_current_count l u + count_magnitude l u.magnitude
 unfolding current_count load_current_count count_terminal
-with_magnitude l u = by_model (eqb u.load.model 2)
+with_magnitude l u = by_model (is_linear u.load.model)
   where
     by_model : (b : Bool) → cond b 0 ((count_node l u.first + count_node l u.second) + count_magnitude l u.magnitude) ≤ cond b 0 (count_node l u.first + count_node l u.second) + count_magnitude l u.magnitude
     by_model true = omega arith

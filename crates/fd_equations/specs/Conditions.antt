@@ -1,5 +1,5 @@
 -- What a network asks of its parts, and its calls of a point.
-use Rattle.std.specs.Prelude.{◌≡◌, ℕ, ◌+◌, ◌*◌, ◌^◌, ◌<◌, ◌≤◌, ℤ, pos, neg_ℤ, ◌≤ℤ◌, nat_abs, List, length, ◌⊎◌, Option, Some, None}
+use Rattle.std.specs.Prelude.{◌≡◌, ℕ, ◌+◌, ◌*◌, ◌^◌, ◌<◌, ◌≤◌, ℤ, pos, neg_ℤ, ◌≤ℤ◌, nat_abs, false, true, List, length, Option, Some, None}
 use Rattle.fd_exact.specs.States.{part}
 use Rattle.fd_exact.specs.Sums.{list_n}
 use Rattle.std.specs.List.{All}
@@ -7,6 +7,8 @@ use Rattle.fd_arith.specs.declared.terms.Term.{Term}
 use Rattle.fd_arith.specs.declared.terms.NodeAt.{NodeAt}
 use Rattle.fd_arith.specs.declared.terms.NodeAt.TheVariants.{Ground, Node}
 use Rattle.fd_system.specs.declared.constants.Constant.{Constant}
+use Rattle.fd_arith.specs.declared.terms.LoadModel.{LoadModel}
+use Rattle.fd_arith.specs.LoadModels.{has_magnitude}
 use Rattle.fd_system.specs.declared.loads.LoadAt.{LoadAt}
 use Rattle.fd_system.specs.Contributions.{AreSmall, IsWithin}
 use Rattle.fd_system.specs.Residual.{IsTerm}
@@ -36,13 +38,13 @@ abbrev pub IsAmong : ℕ → NodeAt → Type 0
 IsAmong n Ground = Unit {0}
 IsAmong n (Node k) = k < n
 
--- a load of constant current has its magnitude behind the first n complex unknowns, and no other load has one
-abbrev pub HasMagnitude : ℕ → ℕ → ℕ → Option ℕ → Type 0
-HasMagnitude n size model None = (model ≡ 1) ⊎ (model ≡ 2)
-HasMagnitude n size model (Some place) = (model ≡ 5) × ((2 * n ≤ place) × (place < size))
+-- a load whose model has a magnitude has it behind the first n complex unknowns, and no other load has one
+abbrev pub HasMagnitude : ℕ → ℕ → LoadModel → Option ℕ → Type 0
+HasMagnitude n size model None = has_magnitude model ≡ false
+HasMagnitude n size model (Some place) = (has_magnitude model ≡ true) × ((2 * n ≤ place) × (place < size))
 
--- a part load of a network whose first complex unknowns are its nodes and whose others are its branches: of constant power (1),
--- impedance (2) or current (5), within the ranges of the profile, between nodes, and never at a branch
+-- a part load of a network whose first complex unknowns are its nodes and whose others are its branches: within the ranges of the
+-- profile, between nodes, and never at a branch
 pub record IsServed (nodes complexes size : ℕ) (u : LoadAt) : Type 0 where
   pub phase : IsLoadPhase u.load
   pub first : IsAmong nodes u.first

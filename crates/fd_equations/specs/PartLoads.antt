@@ -1,9 +1,10 @@
 -- What part loads of constant power (1) and of constant current (5) add beside the contributions. A part load of constant impedance (2)
 -- stands in the contributions, and adds nothing here.
-use Rattle.std.specs.Prelude.{ℕ, ◌+◌, ◌*◌, ◌^◌, ℤ, pos, neg_ℤ, nat_abs, cond, eqb, List}
+use Rattle.std.specs.Prelude.{ℕ, ◌+◌, ◌*◌, ◌^◌, ℤ, pos, neg_ℤ, nat_abs, cond, List}
 use Rattle.fd_exact.specs.Rounding.{near_div}
 use Rattle.fd_exact.specs.Sums.{list_z, list_n}
 use Rattle.fd_system.specs.declared.loads.LoadPhase.{LoadPhase}
+use Rattle.fd_arith.specs.LoadModels.{is_linear}
 use Rattle.fd_system.specs.declared.loads.LoadAt.{LoadAt}
 use Rattle.fd_load.specs.Current.{divisor, excess, in_phase, quadrature}
 use Rattle.fd_load.specs.Slopes.{admittance, slope_row, slopes_of}
@@ -20,7 +21,7 @@ load_row x l u =
     let p = real_of x u in
     let q = imaginary_of x u in
     let m = magnitude_in x u in
-    cond (eqb u.load.model 2) (pos 0) (at_terminal l u
+    cond (is_linear u.load.model) (pos 0) (at_terminal l u
     (near_div (in_phase u.load p q) (divisor u.load p q m))
     (near_div (quadrature u.load p q) (divisor u.load p q m))
     (near_div (excess p q m) (nat_abs u.load.vn)))
@@ -37,7 +38,7 @@ slope_in col u r = at_terminal col u r.p r.q r.m
 
 -- what a part load with these slopes adds in a row and a column
 unfoldable pub load_entry : LoadAt → Slopes → ℕ → ℕ → ℤ
-load_entry u s row col = cond (eqb u.load.model 2) (pos 0) (at_terminal row u (slope_in col u s.real) (slope_in col u s.imaginary) (slope_in col u s.magnitude))
+load_entry u s row col = cond (is_linear u.load.model) (pos 0) (at_terminal row u (slope_in col u s.real) (slope_in col u s.imaginary) (slope_in col u s.magnitude))
 
 -- at the start its current is linear, with the admittance (P - j Q) 10^9 / Vn^2, and the row of its magnitude grows by 2 with the magnitude
 unfoldable pub start_slopes : LoadPhase → Slopes
@@ -68,15 +69,15 @@ slope_sum us x row col = list_z (λ u. load_entry u (slopes_there x u) row col) 
 
 -- the currents and magnitude rows of a part load in row l
 unfoldable pub current_count : ℕ → LoadAt → ℕ
-current_count l u = cond (eqb u.load.model 2) 0 (count_terminal l u)
+current_count l u = cond (is_linear u.load.model) 0 (count_terminal l u)
 
 -- the currents alone
 unfoldable pub load_current_count : ℕ → LoadAt → ℕ
-load_current_count l u = cond (eqb u.load.model 2) 0 (count_node l u.first + count_node l u.second)
+load_current_count l u = cond (is_linear u.load.model) 0 (count_node l u.first + count_node l u.second)
 
 -- the slopes of a part load in a row and a column: each of its rows has one in each of its columns
 unfoldable pub slope_count : ℕ → ℕ → LoadAt → ℕ
-slope_count row col u = cond (eqb u.load.model 2) 0 (count_terminal row u * count_terminal col u)
+slope_count row col u = cond (is_linear u.load.model) 0 (count_terminal row u * count_terminal col u)
 
 abbrev pub current_counts : List LoadAt → ℕ → ℕ
 current_counts us l = list_n (current_count l) us

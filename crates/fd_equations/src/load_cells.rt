@@ -66,7 +66,7 @@ fn add_load(pattern: &Pattern, cells: &mut [Cell], load: &LoadAt, slopes: &Slope
     requires room { HaveSlopeRoom pattern.now.places cells.old (2 ^ 120) (2 ^ 27) }
     ensures { AreGrown pattern.now.places cells.old cells.new (of_load load.now slopes.now) }
 {
-    if load.load.model != 2 {
+    if !load.load.model.is_linear() {
         add_all_rows(pattern, cells, load, slopes);
     }
 }

@@ -34,7 +34,7 @@ fn add_load(rows: &mut [Interval<Micro>], load: &LoadAt, x: &[i128])
     requires parts { All IsPart x.now }
     ensures { (l : ℕ) → l < length rows.old → get_or rows.new l None ≡ fold (with_part l) (get_or rows.old l None) (nonlinear_parts load.now (whole_state x.now)) }
 {
-    if load.load.model != 2 {
+    if !load.load.model.is_linear() {
         add_drawn(rows, load, voltage_of(load, x));
     }
 }

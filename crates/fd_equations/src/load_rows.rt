@@ -42,7 +42,7 @@ fn add_load(rows: &mut [i128], load: &LoadAt, x: &[i128])
     requires room { (l : ℕ) → nat_abs (part rows.old l) ≤ 2 ^ 123 }
     ensures { (l : ℕ) → part rows.new l ≡ part rows.old l +ℤ load_row x.now l load.now }
 {
-    if load.load.model != 2 {
+    if !load.load.model.is_linear() {
         let drawn = draw(&load.load, voltage_of(load, x));
         add_terminal(rows, load, drawn.re, drawn.im, drawn.magnitude);
     }

@@ -1,5 +1,5 @@
 -- How far rounded slopes are from the exact ones.
-use Rattle.std.proofs.Common.{◌≡◌, ◌∙◌, ℕ, ◌+◌, ◌*◌, ◌<◌, ◌≤◌, ◌^◌, ℤ, pos, neg_ℤ, ◌+ℤ◌, ◌-ℤ◌, ◌*ℤ◌, nat_abs, Bool, true, false, cond, eqb, nat_le, subst, arith, ap, sym, refl, lit<, inl, inr}
+use Rattle.std.proofs.Common.{◌≡◌, ◌∙◌, ℕ, ◌+◌, ◌*◌, ◌<◌, ◌≤◌, ◌^◌, ℤ, pos, neg_ℤ, ◌+ℤ◌, ◌-ℤ◌, ◌*ℤ◌, nat_abs, Bool, true, false, cond, nat_le, subst, arith, ap, sym, refl, lit<, inl, inr}
 use Rattle.std.specs.Int.RustNames.{unsigned_abs}
 use Rattle.std.proofs.lemmas.Bool.{and_parts, cases_lt}
 use Rattle.std.proofs.lemmas.Int.{ints, unsigned_abs-mul}
@@ -8,6 +8,9 @@ use Rattle.fd_exact.specs.Fractions.{Near, fraction}
 use Rattle.fd_exact.specs.Integers.{abs_add, abs_sub, as_val, neg-mul, vals, val-same}
 use Rattle.fd_exact.specs.Nearest.{near_nearest, near-neg}
 use Rattle.fd_exact.specs.Rounding.{near_div}
+use Rattle.fd_arith.specs.declared.terms.LoadModel.{LoadModel}
+use Rattle.fd_arith.specs.declared.terms.LoadModel.TheVariants.{ConstantPower, ConstantImpedance, ConstantCurrent}
+use Rattle.fd_arith.specs.LoadModels.{by_model}
 use Rattle.fd_system.specs.declared.loads.LoadPhase.{LoadPhase}
 use Rattle.fd_system.specs.Loads.{square_of}
 use Rattle.fd_load.specs.Current.{IsLoadPhase, clamped_magnitude, clamped_square, in_phase, quadrature}
@@ -247,11 +250,11 @@ current_near w p q m h =
 level_row : IsNearRow 1 (exact_row level level level) (slope_row (pos 0) (pos 0) (pos 0))
 level_row = record { p = level_near 1; q = level_near 1; m = level_near 1 }
 
-by_model : (s t : Bool) (e f g : ExactSlopes) (a b c : Slopes) → AreNear 2 e a → AreNear 1 f b → AreNear 1 g c
-    → AreNear (cond s 2 1) (cond s e (cond t f g)) (cond s a (cond t b c))
-by_model true t e f g a b c h i j = h
-by_model false true e f g a b c h i j = i
-by_model false false e f g a b c h i j = j
+in_each : (model : LoadModel) (e f g : ExactSlopes) (a b c : Slopes) → AreNear 2 e a → AreNear 1 f b → AreNear 1 g c
+    → AreNear (by_model model 2 1 1) (by_model model e f g) (by_model model a b c)
+in_each ConstantPower e f g a b c h i j = h
+in_each ConstantImpedance e f g a b c h i j = i
+in_each ConstantCurrent e f g a b c h i j = j
 
 pub slopes_near : SlopeLaw
-slopes_near w p q m h = by_model (eqb w.model 1) (eqb w.model 2) _ _ _ _ _ _ (power_near w p q h) (record { real = level_row; imaginary = level_row; magnitude = level_row }) (current_near w p q m h)
+slopes_near w p q m h = in_each w.model _ _ _ _ _ _ (power_near w p q h) (record { real = level_row; imaginary = level_row; magnitude = level_row }) (current_near w p q m h)

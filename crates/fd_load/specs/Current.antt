@@ -1,6 +1,7 @@
 -- The current of a load phase at a terminal voltage p + j q and a magnitude m, all in whole microvolts, as one fraction in microamperes.
-use Rattle.std.specs.Prelude.{◌≡◌, ℕ, ◌+◌, ◌*◌, ◌^◌, ◌≤◌, max, ℤ, pos, ◌+ℤ◌, ◌-ℤ◌, ◌*ℤ◌, ◌≤ℤ◌, nat_abs, nat_lt, Bool, IsTrue, ◌||◌, cond, eqb, List}
+use Rattle.std.specs.Prelude.{◌≡◌, ℕ, ◌+◌, ◌*◌, ◌^◌, ◌≤◌, max, ℤ, pos, ◌+ℤ◌, ◌-ℤ◌, ◌*ℤ◌, ◌≤ℤ◌, nat_abs, nat_lt, Bool, IsTrue, ◌||◌, List}
 use Rattle.fd_exact.specs.Fractions.{Fraction, fraction}
+use Rattle.fd_arith.specs.LoadModels.{by_model}
 use Rattle.fd_system.specs.declared.loads.LoadPhase.{LoadPhase}
 use Rattle.fd_system.specs.declared.loads.LoadAt.{LoadAt}
 use Rattle.fd_system.specs.Complex.{Complex, complex}
@@ -25,13 +26,13 @@ clamped_square w p q = clamp (square_of p q) (nat_abs w.vlo * nat_abs w.vlo) (na
 abbrev pub clamped_magnitude : LoadPhase → ℤ → ℕ
 clamped_magnitude w m = clamp (non_negative m) (nat_abs w.vlo) (nat_abs w.vhi)
 
--- constant power (1) divides by the clamped square, constant impedance (2) by the square of the nominal voltage, constant current (5) by
--- the nominal voltage times the clamped magnitude
+-- constant power divides by the clamped square, constant impedance by the square of the nominal voltage, constant current by the nominal
+-- voltage times the clamped magnitude
 abbrev pub divisor : LoadPhase → ℤ → ℤ → ℤ → ℕ
 divisor w p q m =
-    cond (eqb w.model 1) (clamped_square w p q)
-    (cond (eqb w.model 2) (nat_abs w.vn * nat_abs w.vn)
-    (nat_abs w.vn * clamped_magnitude w m))
+    by_model w.model (clamped_square w p q)
+    (nat_abs w.vn * nat_abs w.vn)
+    (nat_abs w.vn * clamped_magnitude w m)
 
 -- ---- the exact current
 

@@ -1,6 +1,7 @@
 -- The exact slopes of a load phase's rows, as fractions, and how far the rounded ones are from them.
-use Rattle.std.specs.Prelude.{ℕ, ◌*◌, ◌^◌, ℤ, pos, neg_ℤ, ◌-ℤ◌, ◌*ℤ◌, nat_abs, cond, eqb}
+use Rattle.std.specs.Prelude.{ℕ, ◌*◌, ◌^◌, ℤ, pos, neg_ℤ, ◌-ℤ◌, ◌*ℤ◌, nat_abs, cond}
 use Rattle.fd_exact.specs.Fractions.{Fraction, Near, fraction}
+use Rattle.fd_arith.specs.LoadModels.{by_model}
 use Rattle.fd_system.specs.declared.loads.LoadPhase.{LoadPhase}
 use Rattle.fd_load.specs.declared.slopes.Slopes.{Slopes}
 use Rattle.fd_load.specs.declared.slopes.SlopeRow.{SlopeRow}
@@ -69,9 +70,9 @@ exact_constant_current w p q m =
 
 abbrev pub exact_slopes : LoadPhase → ℤ → ℤ → ℤ → ExactSlopes
 exact_slopes w p q m =
-    cond (eqb w.model 1) (exact_constant_power w p q)
-    (cond (eqb w.model 2) (record { real = exact_row level level level; imaginary = exact_row level level level; magnitude = exact_row level level level })
-    (exact_constant_current w p q m))
+    by_model w.model (exact_constant_power w p q)
+    (record { real = exact_row level level level; imaginary = exact_row level level level; magnitude = exact_row level level level })
+    (exact_constant_current w p q m)
 
 -- ---- how far the rounded slopes are from them
 
@@ -88,4 +89,4 @@ pub record AreNear (n : ℕ) (e : ExactSlopes) (s : Slopes) : Type 0 where
 
 -- at any voltage and magnitude the rounded slopes of constant power are at most two units away, and those of the other models one
 abbrev pub SlopeLaw : Type 0
-SlopeLaw = (w : LoadPhase) (p q m : ℤ) → IsLoadPhase w → AreNear (cond (eqb w.model 1) 2 1) (exact_slopes w p q m) (slopes_of w p q m)
+SlopeLaw = (w : LoadPhase) (p q m : ℤ) → IsLoadPhase w → AreNear (by_model w.model 2 1 1) (exact_slopes w p q m) (slopes_of w p q m)

@@ -1,6 +1,7 @@
 -- The slopes of a load phase's rows in the parts p, q of its terminal voltage and in its magnitude m, rounded to whole numbers of 2^-40.
-use Rattle.std.specs.Prelude.{ℕ, ◌*◌, ◌^◌, ◌≤◌, ℤ, pos, neg_ℤ, ◌-ℤ◌, ◌*ℤ◌, nat_abs, cond, eqb, Bool, ◌&&◌, int_le, nat_le}
+use Rattle.std.specs.Prelude.{ℕ, ◌*◌, ◌^◌, ◌≤◌, ℤ, pos, neg_ℤ, ◌-ℤ◌, ◌*ℤ◌, nat_abs, cond, Bool, ◌&&◌, int_le, nat_le}
 use Rattle.fd_exact.specs.Rounding.{near_div}
+use Rattle.fd_arith.specs.LoadModels.{by_model}
 use Rattle.fd_system.specs.declared.loads.LoadPhase.{LoadPhase}
 use Rattle.fd_system.specs.Loads.{square_of}
 use Rattle.fd_load.specs.declared.slopes.Slopes.{Slopes}
@@ -82,9 +83,9 @@ no_slopes = record { real = slope_row (pos 0) (pos 0) (pos 0); imaginary = slope
 
 abbrev pub slopes_of : LoadPhase → ℤ → ℤ → ℤ → Slopes
 slopes_of w p q m =
-    cond (eqb w.model 1) (constant_power_slopes w p q)
-    (cond (eqb w.model 2) no_slopes
-    (constant_current_slopes w p q m))
+    by_model w.model (constant_power_slopes w p q)
+    no_slopes
+    (constant_current_slopes w p q m)
 
 -- ---- sizes
 

@@ -9,9 +9,9 @@ use fd_arith::{Cx, Enclose};
 use fd_system::LoadPhase;
 
 /// The current in microamperes that a load phase draws at a terminal voltage p + j q and a magnitude m, in whole microvolts:
-/// 10^9 ((P p + Q q) + j (P q - Q p)) / D, where D is the square of the voltage between the squares of the limits (model 1), the
-/// square of the nominal voltage (2), or the nominal voltage times the magnitude between the limits (5). Each part is
-/// rounded once, as `T` rounds a quotient.
+/// 10^9 ((P p + Q q) + j (P q - Q p)) / D, where D is the square of the voltage between the squares of the limits (constant power),
+/// the square of the nominal voltage (constant impedance), or the nominal voltage times the magnitude between the limits
+/// (constant current). Each part is rounded once, as `T` rounds a quotient.
 ///
 /// The voltages are at most 2^41 in size; the load is within the ranges of the script profile.
 pub fn current<T: Enclose>(load: &LoadPhase, p: i128, q: i128, m: i128) -> Cx<T>

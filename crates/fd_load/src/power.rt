@@ -3,6 +3,7 @@ ghost use Rattle.std.specs.Prelude.{◌≡◌, ℕ, ◌+◌, ◌*◌, ◌^◌, �
 ghost use Rattle.fd_system.specs.Loads.{clamp, non_negative, square_of};
 ghost use Rattle.fd_load.specs.Current.{AreVoltages, IsLoadPhase, clamped_magnitude as magnitude_within, clamped_square as square_within, divisor as divisor_by_model, in_phase as numerator_in_phase, largest, power_sum, quadrature as numerator_in_quadrature};
 
+use fd_arith::LoadModel;
 use fd_system::LoadPhase;
 
 // microamperes in units of a thousandth of a volt-ampere times a microvolt over a squared microvolt
@@ -130,9 +131,9 @@ pub fn divisor(load: &LoadPhase, p: i128, q: i128, m: i128) -> i128
     ensures most { divisor_by_model load.now p q m ≤ 4 * 10 ^ 24 }
 {
     match load.model {
-        1 => clamped_square(load, p, q) as i128,
-        2 => nominal_square(load) as i128,
-        _ => nominal_times_magnitude(load, m) as i128,
+        LoadModel::ConstantPower => clamped_square(load, p, q) as i128,
+        LoadModel::ConstantImpedance => nominal_square(load) as i128,
+        LoadModel::ConstantCurrent => nominal_times_magnitude(load, m) as i128,
     }
 }
 

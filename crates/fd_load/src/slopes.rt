@@ -8,7 +8,7 @@ use crate::power::{
     clamped_magnitude, clamped_square, in_phase, nominal_times_magnitude, quadrature, square,
 };
 use crate::rounding::fine_current;
-use fd_arith::near_units;
+use fd_arith::{LoadModel, near_units};
 use fd_system::LoadPhase;
 
 /// The slopes of one row in the parts p and q of the terminal voltage and in the magnitude m, in whole 2^-40.
@@ -44,13 +44,13 @@ pub fn rounded_slopes(load: &LoadPhase, p: i128, q: i128, m: i128) -> Slopes
     ensures magnitude { IsMagnitudeRow result.magnitude }
 {
     match load.model {
-        1 => constant_power(load, p, q),
-        2 => Slopes {
+        LoadModel::ConstantPower => constant_power(load, p, q),
+        LoadModel::ConstantImpedance => Slopes {
             real: LEVEL,
             imaginary: LEVEL,
             magnitude: LEVEL,
         },
-        _ => constant_current(load, p, q, m),
+        LoadModel::ConstantCurrent => constant_current(load, p, q, m),
     }
 }
 

@@ -7,6 +7,7 @@ use Rattle.fd_exact.specs.SumLaws.{list_n-append}
 use Rattle.dss_profile.specs.declared.element.Element.{Element}
 use Rattle.dss_profile.specs.declared.element.Element.TheVariants as the
 use Rattle.dss_layout.specs.Layout.{Elements, LayoutView, complex_count, ends_of, first_magnitude, layout_of, magnitude_phases, sums_before}
+use Rattle.fd_arith.specs.LoadModels.{has_magnitude}
 use Rattle.fd_system.specs.declared.loads.LoadAt.{LoadAt}
 use Rattle.fd_system.specs.System.{Share}
 use Rattle.fd_equations.specs.Conditions.{AreApart, magnitude_count}
@@ -99,7 +100,7 @@ element_in layout hertz place first (the.Transformer t) s h = no_loads first (fi
 element_in layout hertz place first (the.Capacitor c) s h = no_loads first (first + 0)
 element_in layout hertz place first (the.Load l) s h =
     subst (λ m. StandIn m (m + magnitude_phases (the.Load l)) (device_share (device_of layout hertz place (the.Load l) s)).loads) h
-    (phases_in (load_at l (ends_of layout place (the.Load l)).first (first_magnitude layout place) s.powers) (first_magnitude layout place) (l.model == 5) (λ k. refl) l.phases)
+    (phases_in (load_at l (ends_of layout place (the.Load l)).first (first_magnitude layout place) s.powers) (first_magnitude layout place) (has_magnitude l.model) (λ k. refl) l.phases)
 element_in layout hertz place first (the.Linecode c) s h = no_loads first (first + 0)
 element_in layout hertz place first (the.RegControl c) s h = no_loads first (first + 0)
 element_in layout hertz place first (the.CapControl c) s h = no_loads first (first + 0)

@@ -1,6 +1,7 @@
 -- Where the nodes, the branches and the magnitudes of an element stand among the unknowns of the layout.
-use Rattle.std.proofs.Common.{◌≡◌, ℕ, ◌+◌, ◌≤◌, ◌==◌, Bool, true, false, inl, inr, if◌then◌else◌, [], ◌∷◌, length, slice_index, All, subst, ◌∙◌, arith}
+use Rattle.std.proofs.Common.{◌≡◌, IsTrue, ℕ, ◌+◌, ◌≤◌, ◌==◌, Bool, true, false, inl, inr, if◌then◌else◌, [], ◌∷◌, length, slice_index, All, subst, ◌∙◌, arith}
 use Rattle.std.proofs.lemmas.List.{length-map}
+use Rattle.fd_arith.specs.LoadModels.{has_magnitude}
 use Rattle.fd_arith.specs.declared.terms.Ends.{Ends}
 use Rattle.dss_profile.specs.Ranges.{IsOneOf}
 use Rattle.dss_profile.specs.InRange.{ElementInRange}
@@ -52,8 +53,8 @@ pub has_branches : (nodes n size magnitude : ℕ) (at : Ends) (e : Element) → 
 has_branches nodes n size magnitude at e some p = record { some = some; below = p.branches }
 
 -- the magnitudes of a load of constant current
-load_magnitudes : (n size magnitude : ℕ) (l : Load) → HasMagnitudes n size (magnitude_phases (the.Load l)) magnitude → l.model ≡ 5 → HasMagnitudes n size l.phases magnitude
-load_magnitudes n size magnitude l h five = subst (λ model. HasMagnitudes n size (if model == 5 then l.phases else 0) magnitude) five h
+load_magnitudes : (n size magnitude : ℕ) (l : Load) → HasMagnitudes n size (magnitude_phases (the.Load l)) magnitude → IsTrue (has_magnitude l.model) → HasMagnitudes n size l.phases magnitude
+load_magnitudes n size magnitude l h has = subst (λ b. HasMagnitudes n size (if b then l.phases else 0) magnitude) has h
 
 pub sited : (nodes n size magnitude : ℕ) (at : Ends) (e : Element) → ElementInRange e → StandsAmong nodes n size magnitude at e → IsSited nodes n size magnitude at e
 sited nodes n size magnitude at (the.Vsource v) r p = (p.first, has_branches nodes n size magnitude at (the.Vsource v) (some_phases v.phases r.phases) p)

@@ -1,5 +1,5 @@
 -- The rows of a part load at its terminal.
-use Rattle.std.proofs.Common.{◌≡◌, ◌∙◌, ℕ, ◌+◌, ◌*◌, ◌<◌, ◌≤◌, ◌^◌, ℤ, pos, ◌+ℤ◌, ◌-ℤ◌, ◌*ℤ◌, neg_ℤ, nat_abs, Bool, true, false, cond, eqb, List, Option, Some, None, arith, sym, refl, subst}
+use Rattle.std.proofs.Common.{◌≡◌, ◌∙◌, ℕ, ◌+◌, ◌*◌, ◌<◌, ◌≤◌, ◌^◌, ℤ, pos, ◌+ℤ◌, ◌-ℤ◌, ◌*ℤ◌, neg_ℤ, nat_abs, Bool, true, false, cond, List, Option, Some, None, arith, sym, refl, subst}
 use Rattle.std.specs.Int.RustNames.{unsigned_abs}
 use Rattle.std.proofs.Math.Nat.{mul-le-mul_left}
 use Rattle.std.proofs.lemmas.Int.{ints}
@@ -8,6 +8,9 @@ use Rattle.fd_exact.specs.Integers.{abs_sub, as_val, vals, val-same}
 use Rattle.fd_exact.specs.States.{State}
 use Rattle.fd_arith.specs.declared.terms.NodeAt.{NodeAt}
 use Rattle.fd_arith.specs.declared.terms.NodeAt.TheVariants.{Ground, Node}
+use Rattle.fd_arith.specs.declared.terms.LoadModel.{LoadModel}
+use Rattle.fd_arith.specs.declared.terms.LoadModel.TheVariants.{ConstantPower, ConstantImpedance, ConstantCurrent}
+use Rattle.fd_arith.specs.LoadModels.{by_model, has_magnitude, is_linear}
 use Rattle.fd_system.specs.declared.loads.LoadPhase.{LoadPhase}
 use Rattle.fd_system.specs.declared.loads.LoadAt.{LoadAt}
 use Rattle.fd_system.specs.Loads.{constant_current, constant_impedance, constant_power, im_of, magnitude_of, magnitude_row, re_of}
@@ -28,7 +31,7 @@ use Rattle.fd_slope.proofs.Magnitudes.{current_row}
 use Rattle.fd_slope.proofs.Phases.{Row, imaginary_draw, near_more, nominal_positive, power_row, real_draw}
 use Rattle.fd_slope.proofs.PowerCases.{IsRounded}
 
--- ---- one load phase, by the model: s says that it is 1, and t that it is 2
+-- ---- one load phase, by the model
 
 -- how p, q and m become x, y and z over d
 pub record Moves (w : LoadPhase) (p q m x y z : ℤ) (rp rq rm ha hb he d : ℕ) : Type 0 where
@@ -41,55 +44,55 @@ pub record Moves (w : LoadPhase) (p q m x y z : ℤ) (rp rq rm ha hb he d : ℕ)
   pub im_size : unsigned_abs (y -ℤ pos d *ℤ q) ≤ hb
   pub magnitude_size : unsigned_abs (z -ℤ pos d *ℤ m) ≤ he
 
-abbrev drawn_by : Bool → Bool → LoadPhase → ℤ → ℤ → ℤ → ℤ → ℤ → ℕ → Fraction
-drawn_by s t w a b p q m d =
-    cond s (constant_power a b (nat_abs w.vlo * nat_abs w.vlo) (nat_abs w.vhi * nat_abs w.vhi) p q d)
-    (cond t (constant_impedance a b (nat_abs w.vn) p q d)
-    (constant_current a b (nat_abs w.vn) (nat_abs w.vlo) (nat_abs w.vhi) p q m d))
+abbrev drawn_by : LoadModel → LoadPhase → ℤ → ℤ → ℤ → ℤ → ℤ → ℕ → Fraction
+drawn_by model w a b p q m d =
+    by_model model (constant_power a b (nat_abs w.vlo * nat_abs w.vlo) (nat_abs w.vhi * nat_abs w.vhi) p q d)
+    (constant_impedance a b (nat_abs w.vn) p q d)
+    (constant_current a b (nat_abs w.vn) (nat_abs w.vlo) (nat_abs w.vhi) p q m d)
 
-abbrev exact_by : Bool → Bool → LoadPhase → ℤ → ℤ → ℤ → ExactSlopes
-exact_by s t w p q m =
-    cond s (exact_constant_power w p q)
-    (cond t (record { real = exact_row level level level; imaginary = exact_row level level level; magnitude = exact_row level level level })
-    (exact_constant_current w p q m))
+abbrev exact_by : LoadModel → LoadPhase → ℤ → ℤ → ℤ → ExactSlopes
+exact_by model w p q m =
+    by_model model (exact_constant_power w p q)
+    (record { real = exact_row level level level; imaginary = exact_row level level level; magnitude = exact_row level level level })
+    (exact_constant_current w p q m)
 
-abbrev slopes_by : Bool → Bool → LoadPhase → ℤ → ℤ → ℤ → Slopes
-slopes_by s t w p q m = cond s (constant_power_slopes w p q) (cond t no_slopes (constant_current_slopes w p q m))
+abbrev slopes_by : LoadModel → LoadPhase → ℤ → ℤ → ℤ → Slopes
+slopes_by model w p q m = by_model model (constant_power_slopes w p q) no_slopes (constant_current_slopes w p q m)
 
-abbrev radii_by : Bool → Bool → LoadPhase → ℤ → ℤ → ℤ → ℕ → ℕ → ℕ → Radii
-radii_by s t w p q m rp rq rm = cond s (power_radii w p q rp rq) (cond t no_radii (current_radii w p q m rp rq rm))
+abbrev radii_by : LoadModel → LoadPhase → ℤ → ℤ → ℤ → ℕ → ℕ → ℕ → Radii
+radii_by model w p q m rp rq rm = by_model model (power_radii w p q rp rq) no_radii (current_radii w p q m rp rq rm)
 
 level_slope : (t : Bool) (s : ℤ) → t ≡ false → cond t s (pos 0) ≡ pos 0
 level_slope true s e = absurd cc
 level_slope false s e = refl
 
-real_row : (s t : Bool) (w : LoadPhase) (p q m x y z : ℤ) (rp rq rm ha hb he d : ℕ) → t ≡ false
-    → AreNear (cond s 2 1) (exact_by s t w p q m) (slopes_by s t w p q m) → Moves w p q m x y z rp rq rm ha hb he d
-    → Row (drawn_by s t w (pos (10 ^ 9) *ℤ w.p) (pos (10 ^ 9) *ℤ w.q) x y z d) (drawn_by s t w (pos (10 ^ 9) *ℤ w.p) (pos (10 ^ 9) *ℤ w.q) p q m 1)
-    (slopes_by s t w p q m).real (radii_by s t w p q m rp rq rm).real (x -ℤ pos d *ℤ p) (y -ℤ pos d *ℤ q) (z -ℤ pos d *ℤ m) ha hb he d
-real_row true t w p q m x y z rp rq rm ha hb he d e near moves =
+real_row : (model : LoadModel) (w : LoadPhase) (p q m x y z : ℤ) (rp rq rm ha hb he d : ℕ) → is_linear model ≡ false
+    → AreNear (by_model model 2 1 1) (exact_by model w p q m) (slopes_by model w p q m) → Moves w p q m x y z rp rq rm ha hb he d
+    → Row (drawn_by model w (pos (10 ^ 9) *ℤ w.p) (pos (10 ^ 9) *ℤ w.q) x y z d) (drawn_by model w (pos (10 ^ 9) *ℤ w.p) (pos (10 ^ 9) *ℤ w.q) p q m 1)
+    (slopes_by model w p q m).real (radii_by model w p q m rp rq rm).real (x -ℤ pos d *ℤ p) (y -ℤ pos d *ℤ q) (z -ℤ pos d *ℤ m) ha hb he d
+real_row ConstantPower w p q m x y z rp rq rm ha hb he d e near moves =
     let top = sym (in_phase_is w p q) in
     power_row w (pos (10 ^ 9) *ℤ w.p) (pos (10 ^ 9) *ℤ w.q) p q x y (z -ℤ pos d *ℤ m) _ _ rp rq ha hb he d moves.phase moves.over (real_draw w) moves.re moves.im moves.re_size moves.im_size
     (subst (λ n. IsRounded (square_is_inside w p q) (pos (10 ^ 9) *ℤ w.p) p n (clamped_square w p q) (constant_power_slopes w p q).real.p) top near.real.p)
     (subst (λ n. IsRounded (square_is_inside w p q) (pos (10 ^ 9) *ℤ w.q) q n (clamped_square w p q) (constant_power_slopes w p q).real.q) top near.real.q)
-real_row false true w p q m x y z rp rq rm ha hb he d e near moves = absurd cc
-real_row false false w p q m x y z rp rq rm ha hb he d e near moves =
+real_row ConstantImpedance w p q m x y z rp rq rm ha hb he d e near moves = absurd cc
+real_row ConstantCurrent w p q m x y z rp rq rm ha hb he d e near moves =
     current_row w (pos (10 ^ 9) *ℤ w.p) (pos (10 ^ 9) *ℤ w.q) p q m x y z _ _ _ rm ha hb he d moves.phase (real_draw w) moves.magnitude moves.re_size moves.im_size moves.magnitude_size
     near.real.p near.real.q
     (subst (λ n. IsRoundedMagnitude (magnitude_is_inside w m) n (nat_abs w.vn) (clamped_magnitude w m) (constant_current_slopes w p q m).real.m) (sym (in_phase_is w p q)) near.real.m)
     (level_slope (magnitude_is_inside w m) _)
 
-imaginary_row : (s t : Bool) (w : LoadPhase) (p q m x y z : ℤ) (rp rq rm ha hb he d : ℕ) → t ≡ false
-    → AreNear (cond s 2 1) (exact_by s t w p q m) (slopes_by s t w p q m) → Moves w p q m x y z rp rq rm ha hb he d
-    → Row (drawn_by s t w (neg_ℤ (pos (10 ^ 9) *ℤ w.q)) (pos (10 ^ 9) *ℤ w.p) x y z d) (drawn_by s t w (neg_ℤ (pos (10 ^ 9) *ℤ w.q)) (pos (10 ^ 9) *ℤ w.p) p q m 1)
-    (slopes_by s t w p q m).imaginary (radii_by s t w p q m rp rq rm).imaginary (x -ℤ pos d *ℤ p) (y -ℤ pos d *ℤ q) (z -ℤ pos d *ℤ m) ha hb he d
-imaginary_row true t w p q m x y z rp rq rm ha hb he d e near moves =
+imaginary_row : (model : LoadModel) (w : LoadPhase) (p q m x y z : ℤ) (rp rq rm ha hb he d : ℕ) → is_linear model ≡ false
+    → AreNear (by_model model 2 1 1) (exact_by model w p q m) (slopes_by model w p q m) → Moves w p q m x y z rp rq rm ha hb he d
+    → Row (drawn_by model w (neg_ℤ (pos (10 ^ 9) *ℤ w.q)) (pos (10 ^ 9) *ℤ w.p) x y z d) (drawn_by model w (neg_ℤ (pos (10 ^ 9) *ℤ w.q)) (pos (10 ^ 9) *ℤ w.p) p q m 1)
+    (slopes_by model w p q m).imaginary (radii_by model w p q m rp rq rm).imaginary (x -ℤ pos d *ℤ p) (y -ℤ pos d *ℤ q) (z -ℤ pos d *ℤ m) ha hb he d
+imaginary_row ConstantPower w p q m x y z rp rq rm ha hb he d e near moves =
     let top = sym (quadrature_is w p q) in
     power_row w (neg_ℤ (pos (10 ^ 9) *ℤ w.q)) (pos (10 ^ 9) *ℤ w.p) p q x y (z -ℤ pos d *ℤ m) _ _ rp rq ha hb he d moves.phase moves.over (imaginary_draw w) moves.re moves.im moves.re_size moves.im_size
     (subst (λ n. IsRounded (square_is_inside w p q) (neg_ℤ (pos (10 ^ 9) *ℤ w.q)) p n (clamped_square w p q) (constant_power_slopes w p q).imaginary.p) top near.imaginary.p)
     (subst (λ n. IsRounded (square_is_inside w p q) (pos (10 ^ 9) *ℤ w.p) q n (clamped_square w p q) (constant_power_slopes w p q).imaginary.q) top near.imaginary.q)
-imaginary_row false true w p q m x y z rp rq rm ha hb he d e near moves = absurd cc
-imaginary_row false false w p q m x y z rp rq rm ha hb he d e near moves =
+imaginary_row ConstantImpedance w p q m x y z rp rq rm ha hb he d e near moves = absurd cc
+imaginary_row ConstantCurrent w p q m x y z rp rq rm ha hb he d e near moves =
     current_row w (neg_ℤ (pos (10 ^ 9) *ℤ w.q)) (pos (10 ^ 9) *ℤ w.p) p q m x y z _ _ _ rm ha hb he d moves.phase (imaginary_draw w) moves.magnitude moves.re_size moves.im_size moves.magnitude_size
     near.imaginary.p near.imaginary.q
     (subst (λ n. IsRoundedMagnitude (magnitude_is_inside w m) n (nat_abs w.vn) (clamped_magnitude w m) (constant_current_slopes w p q m).imaginary.m) (sym (quadrature_is w p q)) near.imaginary.m)
@@ -99,13 +102,13 @@ own_sizes : (r s t a b e ha hb he : ℕ) → a ≤ ha → b ≤ hb → e ≤ he
     → (r + 4) * a + (s + 4) * b + (t + 4) * e ≤ (r + 4) * ha + (s + 4) * hb + (t + 4) * he
 own_sizes r s t a b e ha hb he h k l = omega (arith, mul-le-mul_left (r + 4) h, mul-le-mul_left (s + 4) k, mul-le-mul_left (t + 4) l)
 
-own_row : (s t : Bool) (w : LoadPhase) (p q m x y z : ℤ) (rp rq rm ha hb he d : ℕ) → t ≡ false → s ≡ false
-    → AreNear (cond s 2 1) (exact_by s t w p q m) (slopes_by s t w p q m) → Moves w p q m x y z rp rq rm ha hb he d
+own_row : (model : LoadModel) (w : LoadPhase) (p q m x y z : ℤ) (rp rq rm ha hb he d : ℕ) → has_magnitude model ≡ true
+    → AreNear (by_model model 2 1 1) (exact_by model w p q m) (slopes_by model w p q m) → Moves w p q m x y z rp rq rm ha hb he d
     → Row (magnitude_row (nat_abs w.vn) x y z d) (magnitude_row (nat_abs w.vn) p q m 1)
-    (slopes_by s t w p q m).magnitude (radii_by s t w p q m rp rq rm).magnitude (x -ℤ pos d *ℤ p) (y -ℤ pos d *ℤ q) (z -ℤ pos d *ℤ m) ha hb he d
-own_row true t w p q m x y z rp rq rm ha hb he d e f near moves = absurd cc
-own_row false true w p q m x y z rp rq rm ha hb he d e f near moves = absurd cc
-own_row false false w p q m x y z rp rq rm ha hb he d e f near moves =
+    (slopes_by model w p q m).magnitude (radii_by model w p q m rp rq rm).magnitude (x -ℤ pos d *ℤ p) (y -ℤ pos d *ℤ q) (z -ℤ pos d *ℤ m) ha hb he d
+own_row ConstantPower w p q m x y z rp rq rm ha hb he d e near moves = absurd cc
+own_row ConstantImpedance w p q m x y z rp rq rm ha hb he d e near moves = absurd cc
+own_row ConstantCurrent w p q m x y z rp rq rm ha hb he d e near moves =
     near_more _ _ _ _ _ (d * 2 ^ 40) refl (own_sizes _ _ _ _ _ _ ha hb he moves.re_size moves.im_size moves.magnitude_size)
     (magnitude_follows p q m x y z _ _ _ (nat_abs w.vn) rp rq rm d (nominal_positive w moves.phase) moves.re moves.im moves.magnitude near.magnitude.p near.magnitude.q near.magnitude.m)
 
@@ -178,7 +181,7 @@ rows_follow box c x u phase linear over b =
     let near = slope_is_near w p q m phase in
     let moves = moved_by box c x u phase over b in
     record {
-      real = at_terminal _ _ c x u (slopes_at c u).real (radii_in box c u).real (real_row (eqb w.model 1) (eqb w.model 2) w p q m _ _ _ _ _ _ _ _ _ x.over linear near moves);
-      imaginary = at_terminal _ _ c x u (slopes_at c u).imaginary (radii_in box c u).imaginary (imaginary_row (eqb w.model 1) (eqb w.model 2) w p q m _ _ _ _ _ _ _ _ _ x.over linear near moves);
-      magnitude = λ e. at_terminal _ _ c x u (slopes_at c u).magnitude (radii_in box c u).magnitude (own_row (eqb w.model 1) (eqb w.model 2) w p q m _ _ _ _ _ _ _ _ _ x.over linear e near moves);
+      real = at_terminal _ _ c x u (slopes_at c u).real (radii_in box c u).real (real_row w.model w p q m _ _ _ _ _ _ _ _ _ x.over linear near moves);
+      imaginary = at_terminal _ _ c x u (slopes_at c u).imaginary (radii_in box c u).imaginary (imaginary_row w.model w p q m _ _ _ _ _ _ _ _ _ x.over linear near moves);
+      magnitude = λ e. at_terminal _ _ c x u (slopes_at c u).magnitude (radii_in box c u).magnitude (own_row w.model w p q m _ _ _ _ _ _ _ _ _ x.over e near moves);
     }

@@ -1,9 +1,10 @@
 -- What slopes and radii at a centre say of the rows of a part load at every state in a box.
-use Rattle.std.specs.Prelude.{◌≡◌, ℕ, ◌+◌, ◌*◌, ◌^◌, ◌<◌, ◌≤◌, ℤ, pos, ◌+ℤ◌, ◌-ℤ◌, ◌*ℤ◌, nat_abs, false, eqb, List, Option, Some, None}
+use Rattle.std.specs.Prelude.{◌≡◌, ℕ, ◌+◌, ◌*◌, ◌^◌, ◌<◌, ◌≤◌, ℤ, pos, ◌+ℤ◌, ◌-ℤ◌, ◌*ℤ◌, nat_abs, false, true, List, Option, Some, None}
 use Rattle.fd_exact.specs.Fractions.{Fraction, Near, minus}
 use Rattle.fd_exact.specs.States.{State, away}
 use Rattle.fd_arith.specs.declared.terms.NodeAt.{NodeAt}
 use Rattle.fd_arith.specs.declared.terms.NodeAt.TheVariants.{Ground, Node}
+use Rattle.fd_arith.specs.LoadModels.{has_magnitude, is_linear}
 use Rattle.fd_system.specs.declared.loads.LoadAt.{LoadAt}
 use Rattle.fd_system.specs.Loads.{im_of, load_current, magnitude_of, magnitude_row, re_of}
 use Rattle.fd_system.specs.Residual.{whole_state}
@@ -95,14 +96,14 @@ radii_in box c u =
 abbrev pub magnitude_value : LoadAt → State → Fraction
 magnitude_value u x = magnitude_row (nat_abs u.load.vn) (re_of x u.first -ℤ re_of x u.second) (im_of x u.first -ℤ im_of x u.second) (magnitude_of x u.magnitude) x.over
 
--- the row of the magnitude is only one of constant current, which is neither of the models 1 and 2
+-- only constant current has a row of the magnitude
 pub record RowsFollow (box : ℕ → ℕ) (c : List ℤ) (x : State) (u : LoadAt) : Type 0 where
   pub real : Follows (load_current u x).re (load_current u (whole_state c)).re c x u (slopes_at c u).real (radii_in box c u).real
   pub imaginary : Follows (load_current u x).im (load_current u (whole_state c)).im c x u (slopes_at c u).imaginary (radii_in box c u).imaginary
-  pub magnitude : eqb u.load.model 1 ≡ false
+  pub magnitude : has_magnitude u.load.model ≡ true
       → Follows (magnitude_value u x) (magnitude_value u (whole_state c)) c x u (slopes_at c u).magnitude (radii_in box c u).magnitude
 
 -- every state in the box, of every denominator; places may coincide or be ground, and magnitudes may be negative
 abbrev pub ChangeLaw : Type 0
 ChangeLaw = (box : ℕ → ℕ) (c : List ℤ) (x : State) (u : LoadAt)
-    → IsLoadPhase u.load → eqb u.load.model 2 ≡ false → 0 < x.over → IsInBox box c x u → RowsFollow box c x u
+    → IsLoadPhase u.load → is_linear u.load.model ≡ false → 0 < x.over → IsInBox box c x u → RowsFollow box c x u

@@ -1,7 +1,8 @@
 -- The radii of a load phase's slopes in a box: how far the change of a row may be from what the slopes at the centre say. They are whole
 -- numbers of 2^-40, each quotient and each product rounded up.
-use Rattle.std.specs.Prelude.{ℕ, ◌+◌, ◌*◌, ◌-◌, ◌^◌, ◌≤◌, max, ℤ, pos, ◌+ℤ◌, nat_abs, Bool, ◌&&◌, ◌||◌, nat_le, int_le, cond, eqb}
+use Rattle.std.specs.Prelude.{ℕ, ◌+◌, ◌*◌, ◌-◌, ◌^◌, ◌≤◌, max, ℤ, pos, ◌+ℤ◌, nat_abs, Bool, ◌&&◌, ◌||◌, nat_le, int_le, cond}
 use Rattle.fd_exact.specs.Rounding.{ceil_nat}
+use Rattle.fd_arith.specs.LoadModels.{by_model}
 use Rattle.fd_system.specs.declared.loads.LoadPhase.{LoadPhase}
 use Rattle.fd_system.specs.Loads.{square_of}
 use Rattle.fd_load.specs.Current.{clamped_magnitude, clamped_square, largest, power_sum}
@@ -122,9 +123,9 @@ no_radii = record { real = radius_row 0 0 0; imaginary = radius_row 0 0 0; magni
 
 abbrev pub radii_of : LoadPhase → ℤ → ℤ → ℤ → ℕ → ℕ → ℕ → Radii
 radii_of w p q m rp rq rm =
-    cond (eqb w.model 1) (power_radii w p q rp rq)
-    (cond (eqb w.model 2) no_radii
-    (current_radii w p q m rp rq rm))
+    by_model w.model (power_radii w p q rp rq)
+    no_radii
+    (current_radii w p q m rp rq rm)
 
 -- ---- conditions and sizes
 

@@ -9,6 +9,7 @@ use crate::around::Around;
 use crate::current::{magnitude_radius, row_radii, voltage_radius};
 use crate::power::power_radius;
 use crate::radii::{LEVEL, NO_RADII, Radii, RadiusRow};
+use fd_arith::LoadModel;
 use fd_load::{Slopes, rounded_slopes};
 use fd_system::LoadPhase;
 
@@ -63,9 +64,9 @@ fn radii(load: &LoadPhase, b: &Around) -> Radii
     ensures most { AreRadii result }
 {
     match load.model {
-        1 => power_radii(load, b),
-        2 => NO_RADII,
-        _ => current_radii(load, b),
+        LoadModel::ConstantPower => power_radii(load, b),
+        LoadModel::ConstantImpedance => NO_RADII,
+        LoadModel::ConstantCurrent => current_radii(load, b),
     }
 }
 

@@ -4,7 +4,6 @@ use Rattle.std.specs.List.{All, flat_map}
 use Rattle.std.specs.Int.RustNames.{unsigned_abs}
 use Rattle.std.proofs.Math.Nat.{mul-pos}
 use Rattle.std.proofs.lemmas.Int.{ints, unsigned_abs-mul}
-use Rattle.std.proofs.lemmas.Bool.{eqb-true}
 use Rattle.std.proofs.lemmas.List.{append-nil}
 use Rattle.std.proofs.lemmas.List.Elements.{All-head, All-tail}
 use Rattle.fd_exact.specs.Integers.{as_val, vals, val-same}
@@ -14,6 +13,9 @@ use Rattle.fd_exact.specs.Sums.{sum_of}
 use Rattle.fd_exact.specs.States.{State, part}
 use Rattle.fd_arith.specs.declared.terms.NodeAt.{NodeAt}
 use Rattle.fd_arith.specs.declared.terms.NodeAt.TheVariants.{Ground, Node}
+use Rattle.fd_arith.specs.declared.terms.LoadModel.{LoadModel}
+use Rattle.fd_arith.specs.declared.terms.LoadModel.TheVariants.{ConstantPower, ConstantImpedance, ConstantCurrent}
+use Rattle.fd_arith.specs.LoadModels.{by_model, is_linear}
 use Rattle.fd_system.specs.declared.loads.LoadPhase.{LoadPhase}
 use Rattle.fd_system.specs.declared.loads.LoadAt.{LoadAt}
 use Rattle.fd_system.specs.Complex.{Complex, complex, ◌⊟◌, ◌⊠◌, negative, SameComplex}
@@ -76,9 +78,14 @@ admittance_times a b p q n d h o =
       im = record { left = mul-pos k k; right = k; cross = im_cross a b p q n d };
     }
 
-drawn_linear : (w : LoadPhase) (a b p q m : ℤ) (d : ℕ) → eqb w.model 2 ≡ true
+middle_of : {A : Type 0} (model : LoadModel) (f g h : A) → is_linear model ≡ true → by_model model f g h ≡ g
+middle_of ConstantPower f g h e = absurd cc
+middle_of ConstantImpedance f g h e = refl
+middle_of ConstantCurrent f g h e = absurd cc
+
+drawn_linear : (w : LoadPhase) (a b p q m : ℤ) (d : ℕ) → is_linear w.model ≡ true
     → drawn w a b p q m d ≡ constant_impedance a b (unsigned_abs w.vn) p q d
-drawn_linear w a b p q m d e = let k : w.model ≡ 2 = eqb-true _ _ e in rw k refl
+drawn_linear w a b p q m d e = middle_of w.model _ _ _ e
 
 pub SameComplex-trans : {z w v : Complex} → SameComplex z w → SameComplex w v → SameComplex z v
 SameComplex-trans h k = record { re = Same-trans h.re k.re; im = Same-trans h.im k.im }
@@ -86,7 +93,7 @@ SameComplex-trans h k = record { re = Same-trans h.re k.re; im = Same-trans h.im
 pub SameComplex-negative : {z w : Complex} → SameComplex z w → SameComplex (negative z) (negative w)
 SameComplex-negative h = record { re = Same-opposite h.re; im = Same-opposite h.im }
 
-module _ (u : LoadAt) (e : eqb u.load.model 2 ≡ true) (vn : 0 < unsigned_abs u.load.vn) (x : State)
+module _ (u : LoadAt) (e : is_linear u.load.model ≡ true) (vn : 0 < unsigned_abs u.load.vn) (x : State)
     (o : 0 < x.over) where
   square : unsigned_abs (u.load.vn *ℤ u.load.vn) ≡ unsigned_abs u.load.vn * unsigned_abs u.load.vn
   square = unsigned_abs-mul u.load.vn u.load.vn
@@ -138,16 +145,16 @@ clamp-pos u lo hi h k = omega arith
 
 drawn-pos : (w : LoadPhase) (a b p q m : ℤ) (d : ℕ) → 0 < unsigned_abs w.vn → 0 < unsigned_abs w.vlo
     → unsigned_abs w.vlo ≤ unsigned_abs w.vhi → 0 < d → 0 < (drawn w a b p q m d).over
-drawn-pos w a b p q m d vn lo order o = by_model (eqb w.model 1) (eqb w.model 2)
+drawn-pos w a b p q m d vn lo order o = in_each w.model
   where
     hi : 0 < unsigned_abs w.vhi
     hi = omega arith
 
-    by_model : (s t : Bool)
-        → 0 < (cond s (constant_power a b (unsigned_abs w.vlo * unsigned_abs w.vlo) (unsigned_abs w.vhi * unsigned_abs w.vhi) p q d) (cond t (constant_impedance a b (unsigned_abs w.vn) p q d) (constant_current a b (unsigned_abs w.vn) (unsigned_abs w.vlo) (unsigned_abs w.vhi) p q m d))).over
-    by_model true t = clamp-pos (square_of p q) _ _ (mul-pos (mul-pos lo lo) (mul-pos o o)) (mul-pos (mul-pos hi hi) (mul-pos o o))
-    by_model false true = mul-pos (mul-pos vn vn) o
-    by_model false false = mul-pos vn (clamp-pos (non_negative m) _ _ (mul-pos lo o) (mul-pos hi o))
+    in_each : (model : LoadModel)
+        → 0 < (by_model model (constant_power a b (unsigned_abs w.vlo * unsigned_abs w.vlo) (unsigned_abs w.vhi * unsigned_abs w.vhi) p q d) (constant_impedance a b (unsigned_abs w.vn) p q d) (constant_current a b (unsigned_abs w.vn) (unsigned_abs w.vlo) (unsigned_abs w.vhi) p q m d)).over
+    in_each ConstantPower = clamp-pos (square_of p q) _ _ (mul-pos (mul-pos lo lo) (mul-pos o o)) (mul-pos (mul-pos hi hi) (mul-pos o o))
+    in_each ConstantImpedance = mul-pos (mul-pos vn vn) o
+    in_each ConstantCurrent = mul-pos vn (clamp-pos (non_negative m) _ _ (mul-pos lo o) (mul-pos hi o))
 
 magnitude-pos : (u : LoadAt) (x : State) (l : ℕ) (m : Option ℕ) → 0 < unsigned_abs u.load.vn → 0 < x.over
     → 0 < (sum_of (seen l) (magnitude_parts u x m)).over
@@ -181,13 +188,11 @@ IsPlain None = Unit {0}
 IsPlain (Some l) = ⊥
 
 -- a constant impedance has no magnitude
-plain : (model : ℕ) (m : Option ℕ) → FitsModel model m → cond (eqb model 2) (IsPlain m) (Unit {0})
-plain model None h = by (eqb model 2)
-  where
-    by : (b : Bool) → cond b (Unit {0}) (Unit {0})
-    by true = tt
-    by false = tt
-plain model (Some l) h = subst (λ m. cond (eqb m 2) (IsPlain (Some l)) (Unit {0})) (sym h) tt
+plain : (model : LoadModel) (m : Option ℕ) → FitsModel model m → cond (is_linear model) (IsPlain m) (Unit {0})
+plain ConstantPower m h = tt
+plain ConstantImpedance None h = tt
+plain ConstantImpedance (Some l) h = absurd cc
+plain ConstantCurrent m h = tt
 
 no_magnitude : (u : LoadAt) (x : State) (m : Option ℕ) → IsPlain m → magnitude_parts u x m ≡ []
 no_magnitude u x None h = refl
@@ -197,7 +202,7 @@ no_magnitude u x (Some l) h = absurd h
 abbrev share_row : (u : LoadAt) (x : State) (l : ℕ) (t : Bool) → Fraction
 share_row u x l t = (nothing ⊕ row_sum l (cond t (impedance_list u) []) x) ⊕ equation l (cond t [] (load_parts u x) ++ [])
 
-linear_row_of : (u : LoadAt) (x : State) (l : ℕ) → IsLoad u → 0 < x.over → eqb u.load.model 2 ≡ true
+linear_row_of : (u : LoadAt) (x : State) (l : ℕ) → IsLoad u → 0 < x.over → is_linear u.load.model ≡ true
     → IsPlain u.magnitude → Same (share_row u x l true) (equation l (load_parts u x))
 linear_row_of u x l h o e p =
     let r = impedance_row u e h.vn x o l in
@@ -210,13 +215,13 @@ other_row_of u x l h o =
     let e : share_row u x l false ≡ equation l (load_parts u x) = ap (λ s. s ⊕ equation l (load_parts u x ++ [])) (nothing-plus nothing) ∙ nothing-plus _ ∙ ap (equation l) (append-nil (load_parts u x)) in
     subst (λ s. Same s (equation l (load_parts u x))) (sym e) (Same-refl _ (load-pos u x l h o))
 
-load_row : (u : LoadAt) (x : State) (l : ℕ) → IsLoad u → 0 < x.over → (t : Bool) → eqb u.load.model 2 ≡ t
+load_row : (u : LoadAt) (x : State) (l : ℕ) → IsLoad u → 0 < x.over → (t : Bool) → is_linear u.load.model ≡ t
     → cond t (IsPlain u.magnitude) (Unit {0}) → Same (share_row u x l t) (equation l (load_parts u x))
 load_row u x l h o true e p = linear_row_of u x l h o e p
 load_row u x l h o false e p = other_row_of u x l h o
 
 pub load_represents : (u : LoadAt) → IsLoad u → Represents (load_share u) (load_parts u)
-load_represents u h x o l = load_row u x l h o (eqb u.load.model 2) refl (plain u.load.model u.magnitude h.model)
+load_represents u h x o l = load_row u x l h o (is_linear u.load.model) refl (plain u.load.model u.magnitude h.model)
 
 -- the part loads of an element
 pub loads_represent : (us : List LoadAt) → All IsLoad us

@@ -1,10 +1,12 @@
 -- A part load at a terminal: the current that it draws, the row of its magnitude, and the contributions of constant impedance.
-use Rattle.std.specs.Prelude.{◌≡◌, ◌⊎◌, ℕ, ◌+◌, ◌*◌, ◌^◌, ◌<◌, ◌≤◌, min, max, ℤ, pos, negsuc, neg_ℤ, ◌+ℤ◌, ◌-ℤ◌, ◌*ℤ◌, nat_abs, cond, eqb, List, [], ◌∷◌, ◌++◌, Option, Some, None}
+use Rattle.std.specs.Prelude.{◌≡◌, ℕ, ◌+◌, ◌*◌, ◌^◌, ◌<◌, ◌≤◌, min, max, ℤ, pos, negsuc, neg_ℤ, ◌+ℤ◌, ◌-ℤ◌, ◌*ℤ◌, nat_abs, false, true, cond, List, [], ◌∷◌, Option, Some, None}
 use Rattle.fd_exact.specs.Fractions.{Fraction, fraction}
 use Rattle.fd_exact.specs.States.{State, part}
 use Rattle.fd_arith.specs.declared.terms.Term.{Term}
 use Rattle.fd_arith.specs.declared.terms.NodeAt.{NodeAt}
 use Rattle.fd_arith.specs.declared.terms.NodeAt.TheVariants.{Ground, Node}
+use Rattle.fd_arith.specs.declared.terms.LoadModel.{LoadModel}
+use Rattle.fd_arith.specs.LoadModels.{by_model, has_magnitude, is_linear}
 use Rattle.fd_system.specs.declared.loads.LoadPhase.{LoadPhase}
 use Rattle.fd_system.specs.declared.loads.LoadAt.{LoadAt}
 use Rattle.fd_system.specs.Complex.{Complex, negative}
@@ -38,16 +40,16 @@ abbrev pub non_negative : ℤ → ℕ
 non_negative (pos n) = n
 non_negative (negsuc n) = 0
 
--- model 1: D is the square of the voltage, clamped between the squares lo and hi of the limits
+-- constant power: D is the square of the voltage, clamped between the squares lo and hi of the limits
 abbrev pub constant_power : ℤ → ℤ → ℕ → ℕ → ℤ → ℤ → ℕ → Fraction
 constant_power a b lo hi p q d =
     fraction ((a *ℤ p +ℤ b *ℤ q) *ℤ pos d) (clamp (square_of p q) (lo * (d * d)) (hi * (d * d)))
 
--- model 2: D is the square of the nominal voltage
+-- constant impedance: D is the square of the nominal voltage
 abbrev pub constant_impedance : ℤ → ℤ → ℕ → ℤ → ℤ → ℕ → Fraction
 constant_impedance a b vn p q d = fraction (a *ℤ p +ℤ b *ℤ q) (vn * vn * d)
 
--- model 5: D is the nominal voltage times the magnitude, clamped between the limits lo and hi
+-- constant current: D is the nominal voltage times the magnitude, clamped between the limits lo and hi
 abbrev pub constant_current : ℤ → ℤ → ℕ → ℕ → ℕ → ℤ → ℤ → ℤ → ℕ → Fraction
 constant_current a b vn lo hi p q m d =
     fraction (a *ℤ p +ℤ b *ℤ q) (vn * clamp (non_negative m) (lo * d) (hi * d))
@@ -57,9 +59,9 @@ drawn w a b p q m d =
     let vn = nat_abs w.vn in
     let lo = nat_abs w.vlo in
     let hi = nat_abs w.vhi in
-    cond (eqb w.model 1) (constant_power a b (lo * lo) (hi * hi) p q d)
-    (cond (eqb w.model 2) (constant_impedance a b vn p q d)
-    (constant_current a b vn lo hi p q m d))
+    by_model w.model (constant_power a b (lo * lo) (hi * hi) p q d)
+    (constant_impedance a b vn p q d)
+    (constant_current a b vn lo hi p q m d)
 
 -- ((P p + Q q) + j (P q - Q p)) 10^9 / D microamperes
 abbrev pub load_current : LoadAt → State → Complex
@@ -87,19 +89,19 @@ magnitude_parts u x (Some l) =
 abbrev pub load_parts : LoadAt → State → List Part
 load_parts u x = both u.first (load_current u x) ∷ both u.second (negative (load_current u x)) ∷ magnitude_parts u x u.magnitude
 
--- constant power (1) and constant impedance (2) have no magnitude, constant current (5) has one, and there is no other model
-abbrev pub FitsModel : ℕ → Option ℕ → Type 0
-FitsModel model None = (model ≡ 1) ⊎ (model ≡ 2)
-FitsModel model (Some l) = model ≡ 5
+-- there is a magnitude exactly where the model has one
+abbrev pub FitsModel : LoadModel → Option ℕ → Type 0
+FitsModel model None = has_magnitude model ≡ false
+FitsModel model (Some l) = has_magnitude model ≡ true
 
--- voltages are positive, the limits are in order, and there is a magnitude where the model has one
+-- voltages are positive, the limits are in order, and the magnitude fits the model
 pub record IsLoad (u : LoadAt) : Type 0 where
   pub vn : 0 < nat_abs u.load.vn
   pub low : 0 < nat_abs u.load.vlo
   pub order : nat_abs u.load.vlo ≤ nat_abs u.load.vhi
   pub model : FitsModel u.load.model u.magnitude
 
--- ---- in the system: contributions in model 2, and what isn't linear in models 1 and 5
+-- ---- in the system: contributions of constant impedance, and what isn't linear of the other models
 
 -- (P - j Q) 10^9 / Vn^2 at the terminal
 abbrev pub impedance_list : LoadAt → List Term
@@ -109,7 +111,7 @@ impedance_list u =
     shunt_list u.first u.second a (neg_ℤ b) (u.load.vn *ℤ u.load.vn)
 
 abbrev pub linear_list : LoadAt → List Term
-linear_list u = cond (eqb u.load.model 2) (impedance_list u) []
+linear_list u = cond (is_linear u.load.model) (impedance_list u) []
 
 abbrev pub nonlinear_parts : LoadAt → State → List Part
-nonlinear_parts u x = cond (eqb u.load.model 2) [] (load_parts u x)
+nonlinear_parts u x = cond (is_linear u.load.model) [] (load_parts u x)

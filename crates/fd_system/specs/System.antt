@@ -11,7 +11,7 @@ use Rattle.fd_system.specs.Contributions.{row_sum}
 use Rattle.fd_exact.specs.Sums.{sum_of}
 use Rattle.fd_system.specs.Equations.{Part, equation}
 
--- what an element, or a whole circuit, adds to the rows; a part load of model 2 stands in the contributions too
+-- what an element, or a whole circuit, adds to the rows; a part load of constant impedance stands in the contributions too
 pub record Share : Type 0 where
   pub constants : List Constant
   pub terms : List Term

@@ -1,11 +1,10 @@
 // Part loads.
-use fd_arith::NodeAt;
+use fd_arith::{LoadModel, NodeAt};
 
-/// A part load: powers in thousandths of a volt-ampere, the nominal voltage and its limits in microvolts. The models are those
-/// of OpenDSS: 1 for constant power, 2 for constant impedance, 5 for constant current magnitude.
+/// A part load: powers in thousandths of a volt-ampere, the nominal voltage and its limits in microvolts.
 #[derive(Clone, Copy)]
 pub struct LoadPhase {
-    pub model: u8,
+    pub model: LoadModel,
     pub p: i128,
     pub q: i128,
     pub vn: i128,

@@ -6,7 +6,7 @@ ghost use Rattle.fd_equations.specs.Terminals.{IsConnected};
 use crate::checks::{holds, same};
 use crate::matrices::check_matrix;
 use crate::one_node::network;
-use fd_arith::{NodeAt, Term};
+use fd_arith::{LoadModel, NodeAt, Term};
 use fd_equations::{Layout, Network, PlaceKind, Rows};
 use fd_system::{Constant, LoadAt, LoadPhase};
 use std::alloc::{AllocError, Global};
@@ -110,7 +110,7 @@ fn constant_power() -> LoadAt
 {
     LoadAt {
         load: LoadPhase {
-            model: 1,
+            model: LoadModel::ConstantPower,
             p: 50_000_000,
             q: 20_000_000,
             vn: 240_000_000,
@@ -130,7 +130,7 @@ fn constant_current() -> LoadAt
 {
     LoadAt {
         load: LoadPhase {
-            model: 5,
+            model: LoadModel::ConstantCurrent,
             p: 30_000_000,
             q: -12_000_000,
             vn: 415_692_194,

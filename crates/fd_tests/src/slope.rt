@@ -2,13 +2,14 @@
 ghost use Rattle.std.specs.Prelude.{◌≡◌, pos};
 
 use crate::checks::same;
+use fd_arith::LoadModel;
 use fd_slope::load_slope;
 use fd_system::LoadPhase;
 
 const VOLT: i128 = 1_000_000;
 
 // 9 kilowatt and 3 kilovar at 1000 volt, with limits of 850 and 1100 volt
-fn load(model: u8) -> LoadPhase
+fn load(model: LoadModel) -> LoadPhase
     ensures { result ≡ record {
       model = model;
       p = pos 9000000;
@@ -42,7 +43,7 @@ const POWERS: [(i128, i128, u128); 4] = [
 #[test]
 fn radii_of_power(rt: HostRuntime) {
     for (p, q, due) in &POWERS {
-        let slope = load_slope(&load(1), *p * VOLT, *q * VOLT, 0, WIDTH, WIDTH, 0);
+        let slope = load_slope(&load(LoadModel::ConstantPower), *p * VOLT, *q * VOLT, 0, WIDTH, WIDTH, 0);
         let (real, imaginary) = (slope.radius.real, slope.radius.imaginary);
         same(&rt, (real.p, imaginary.q, real.m), (*due, *due, 0));
     }
@@ -65,7 +66,7 @@ const CURRENTS: [Current; 5] = [
 fn radii_of_current(rt: HostRuntime) {
     for ((p, q, m), rm, due) in &CURRENTS {
         let (p, q, m) = (*p * VOLT, *q * VOLT, *m * VOLT);
-        let radius = load_slope(&load(5), p, q, m, WIDTH, WIDTH, *rm).radius;
+        let radius = load_slope(&load(LoadModel::ConstantCurrent), p, q, m, WIDTH, WIDTH, *rm).radius;
         same(&rt, (radius.real.p, radius.imaginary.m), *due);
         same(&rt, radius.magnitude.p, 5_497_558_139);
     }

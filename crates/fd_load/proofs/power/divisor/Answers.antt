@@ -1,11 +1,11 @@
 use Rattle.fd_load.proofs.Drawn.{divisor-positive}
 use Rattle.fd_load.proofs.power.divisor.Goals as goal
 
-pub returns-in-1-clause-positive : goal.returns-in-1-clause-positive
-returns-in-1-clause-positive c = divisor-positive c.args.load.now c.args.p c.args.q c.args.m c.requires.load
+pub returns-in-ConstantPower-clause-positive : goal.returns-in-ConstantPower-clause-positive
+returns-in-ConstantPower-clause-positive c = divisor-positive c.args.load.now c.args.p c.args.q c.args.m c.requires.load
 
-pub returns-in-2-clause-positive : goal.returns-in-2-clause-positive
-returns-in-2-clause-positive c = divisor-positive c.args.load.now c.args.p c.args.q c.args.m c.requires.load
+pub returns-in-ConstantImpedance-clause-positive : goal.returns-in-ConstantImpedance-clause-positive
+returns-in-ConstantImpedance-clause-positive c = divisor-positive c.args.load.now c.args.p c.args.q c.args.m c.requires.load
 
-pub returns-in_default-clause-positive : goal.returns-in_default-clause-positive
-returns-in_default-clause-positive c = divisor-positive c.args.load.now c.args.p c.args.q c.args.m c.requires.load
+pub returns-in-ConstantCurrent-clause-positive : goal.returns-in-ConstantCurrent-clause-positive
+returns-in-ConstantCurrent-clause-positive c = divisor-positive c.args.load.now c.args.p c.args.q c.args.m c.requires.load
