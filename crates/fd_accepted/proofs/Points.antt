@@ -140,9 +140,9 @@ update_long c step r u h =
 start_long : (v : NetworkView) (c : List (List ℤ)) (x : List ℤ) → start_of v c ≡ Ok x → length x ≡ length c
 unfolding start_of
 start_long v c x h =
-    let a = and_ok (update_for c 0 (constants_of v)) (λ u. in_range (2 ^ 40) 0 (fold with_nominal u v.share.loads)) x h in
-    let r = range_ok (2 ^ 40) 0 (fold with_nominal a.0 v.share.loads) x a.2 in
-    ap length (sym r.0) ∙ all_nominal v.share.loads a.0 ∙ update_long c 0 (constants_of v) a.0 a.1
+    let a = and_ok (update_for c 0 (constants_of v)) (λ u. in_range (2 ^ 40) 0 (fold with_nominal u v.stamp.loads)) x h in
+    let r = range_ok (2 ^ 40) 0 (fold with_nominal a.0 v.stamp.loads) x a.2 in
+    ap length (sym r.0) ∙ all_nominal v.stamp.loads a.0 ∙ update_long c 0 (constants_of v) a.0 a.1
 
 -- ---- an inverse
 

@@ -68,9 +68,9 @@ pub sizes_are : (v : NetworkView) (x : List ℤ) (ms : List ℕ) (rows : List Bo
     → ms ≡ map (λ a. mismatch_size (greater_size a)) rows → ms ≡ mismatches_of v x
 unfolding mismatches_of
 sizes_are v x ms rows e f = f ∙ ap (map (λ a. mismatch_size (greater_size a))) e ∙ list_of-ext (map (λ a. mismatch_size (greater_size a)) (interval_residual_of v x)) v.size (mismatch_at v x) 0
-    (length-map (interval_residual_of v x) (λ a. mismatch_size (greater_size a)) ∙ length-list_of v.size (residual_interval v.share x))
-    (λ i h. get_or-map (λ a. mismatch_size (greater_size a)) (interval_residual_of v x) i None 0 (subst (λ n. i < n) (sym (length-list_of v.size (residual_interval v.share x))) h)
-    ∙ ap (λ a. mismatch_size (greater_size a)) (get_or-list_of v.size (residual_interval v.share x) i None h))
+    (length-map (interval_residual_of v x) (λ a. mismatch_size (greater_size a)) ∙ length-list_of v.size (residual_interval v.stamp x))
+    (λ i h. get_or-map (λ a. mismatch_size (greater_size a)) (interval_residual_of v x) i None 0 (subst (λ n. i < n) (sym (length-list_of v.size (residual_interval v.stamp x))) h)
+    ∙ ap (λ a. mismatch_size (greater_size a)) (get_or-list_of v.size (residual_interval v.stamp x) i None h))
 
 -- the lists of a certified state, as the claims name them
 pub claim_is : (v : NetworkView) (x : List ℤ) (c : List (List ℤ)) (m : Claim) (rs ms bs : List ℕ)

@@ -237,7 +237,7 @@ module _ (v : NetworkView) (m : Claim) where
         point = record {
           mismatches = first_none (λ l. is_untrue (mismatch_at v x l) (number_at e l)) n (λ l p.
               or_from (nat_lt (number_at e l) (mismatch_at v x l)) (nat_lt greatest_mismatch (number_at e l)) (not_past (number_at e l) (mismatch_at v x l) (h.mismatches_least l p)) (not_past greatest_mismatch (number_at e l) (h.mismatches_most l p)));
-          bound = not_refused n (entry c) (jacobian_entry v x) (slope_radius v x) (weight_at v x) (number_at e) (λ i. weight_some (kind_of v i) v.draw x i) h.bounded
+          bound = not_refused n (entry c) (jacobian_entry v x) (slope_radius v x) (weight_at v x) (number_at e) (λ i. weight_some (kind_of v i) v.stamp.draw x i) h.bounded
               (λ i p. let least = h.radii_least i p in let most = h.radii_most i p in omega (arith, least, most));
           radii = first_none (is_narrow v x m.radii e c) n (λ i p. not_past (number_at m.radii i) (radius_in v x c e i) (h.radii_least i p));
         };

@@ -146,10 +146,10 @@ loads_none box x (u ∷ us) row col h =
 
 -- a radius with the numbers of summands of the Jacobian
 abbrev radius_amount : NetworkView → List ℤ → ℕ × ℕ → Amount
-radius_amount v x p = amount (pos (slope_radius v x p.0 p.1)) (count_at v.share.terms p.0 p.1) (slope_counts v.share.loads p.0 p.1)
+radius_amount v x p = amount (pos (slope_radius v x p.0 p.1)) (count_at v.stamp.terms p.0 p.1) (slope_counts v.stamp.loads p.0 p.1)
 
 radius_is : (v : NetworkView) (x : List ℤ) (row col : ℕ)
-    → loads_radius (half_width v x) x v.share.loads (row, col) + 4 * (count_at v.share.terms row col + slope_counts v.share.loads row col) ≡ slope_radius v x row col
+    → loads_radius (half_width v x) x v.stamp.loads (row, col) + 4 * (count_at v.stamp.terms row col + slope_counts v.stamp.loads row col) ≡ slope_radius v x row col
 unfolding slope_radius
 radius_is v x row col = refl
 
@@ -160,22 +160,22 @@ module _ (v : NetworkView) (x : List ℤ) (j : MatrixView) (is : IsMatrix v.size
   pub is_made : IsMade j
   is_made = record { long = is.cells.long; J = jacobian_entry v x; has = jacobian_made }
 
-  module _ (boxes : List ℕ) (box : HasNumbers v.size boxes (half_width v x)) (connected : All (IsConnected v.size) v.share.loads) (radii : List ℕ) (made : List Cell)
-      (of_loads : (k : ℕ) → k < length j.places → number_at radii k ≡ loads_radius (number_at boxes) x v.share.loads (key j.places k)) (cells : AreRadiusCells j.cells radii made) where
+  module _ (boxes : List ℕ) (box : HasNumbers v.size boxes (half_width v x)) (connected : All (IsConnected v.size) v.stamp.loads) (radii : List ℕ) (made : List Cell)
+      (of_loads : (k : ℕ) → k < length j.places → number_at radii k ≡ loads_radius (number_at boxes) x v.stamp.loads (key j.places k)) (cells : AreRadiusCells j.cells radii made) where
     radius_at_place : (k : ℕ) → k < length j.places
         → cell_at made k ≡ cell_of (key j.places k).1 (radius_amount v x (key j.places k))
     radius_at_place k l =
         let p = key j.places k in
         let inside : k < length j.cells = subst (λ n. k < n) (sym is.cells.long) l in
-        let radius = of_loads k l ∙ loads_same v.size (number_at boxes) (half_width v x) box x v.share.loads p connected in
-        cells.each k inside ∙ (λ i. radius_cell (is.cells.each k l i) (radius i)) ∙ (λ i. cell_of p.1 (amount (pos (radius_is v x p.0 p.1 i)) (count_at v.share.terms p.0 p.1) (slope_counts v.share.loads p.0 p.1)))
+        let radius = of_loads k l ∙ loads_same v.size (number_at boxes) (half_width v x) box x v.stamp.loads p connected in
+        cells.each k inside ∙ (λ i. radius_cell (is.cells.each k l i) (radius i)) ∙ (λ i. cell_of p.1 (amount (pos (radius_is v x p.0 p.1 i)) (count_at v.stamp.terms p.0 p.1) (slope_counts v.stamp.loads p.0 p.1)))
 
     nothing_there : (p : ℕ × ℕ) → ¬ (Contains j.places p) → radius_amount v x p ≡ nothing
     nothing_there p away =
         let none = is.nothing p away in
-        let c : count_at v.share.terms p.0 p.1 ≡ 0 = ap (λ (a : Amount). a.count) none in
-        let s : slope_counts v.share.loads p.0 p.1 ≡ 0 = ap (λ (a : Amount). a.slopes) none in
-        let r : slope_radius v x p.0 p.1 ≡ 0 = sym (radius_is v x p.0 p.1) ∙ (λ i. loads_none (half_width v x) x v.share.loads p.0 p.1 s i + 4 * (c i + s i)) in
+        let c : count_at v.stamp.terms p.0 p.1 ≡ 0 = ap (λ (a : Amount). a.count) none in
+        let s : slope_counts v.stamp.loads p.0 p.1 ≡ 0 = ap (λ (a : Amount). a.slopes) none in
+        let r : slope_radius v x p.0 p.1 ≡ 0 = sym (radius_is v x p.0 p.1) ∙ (λ i. loads_none (half_width v x) x v.stamp.loads p.0 p.1 s i + 4 * (c i + s i)) in
         λ i. amount (pos (r i)) (c i) (s i)
 
     pub radii_made : (m : MatrixView) → m ≡ (record { size = j.size; places = j.places; cells = made })
@@ -199,7 +199,7 @@ narrow : (n : ℕ) → n ≤ 2 ^ 41 → ceil_nat n 200 ≤ 2 ^ 40
 narrow n h = ceil_nat_least n 200 (2 ^ 40) (omega arith) (omega arith)
 
 width_by : (k : PlaceKind) (v : NetworkView) (x : List ℤ) (i : ℕ) → All IsPart x
-    → half_width_by k (weight_by k v.draw x i) ≤ 2 ^ 40
+    → half_width_by k (weight_by k v.stamp.draw x i) ≤ 2 ^ 40
 width_by NodePlace v x i h =
     let a = part_small x (2 * (i / 2)) h in
     let b = part_small x (2 * (i / 2) + 1) h in
@@ -232,5 +232,5 @@ are_weights v x ws e h = record {
   most = λ i l. let r = h i l in r.1;
 }
 
-pub loads_connected : (v : NetworkView) → IsNetwork v → All (IsConnected v.size) v.share.loads
-loads_connected v n = all_connected v.nodes v.complexes v.size v.share.loads n.nodes (omega (arith, n.unknowns)) n.small n.loads
+pub loads_connected : (v : NetworkView) → IsNetwork v → All (IsConnected v.size) v.stamp.loads
+loads_connected v n = all_connected v.nodes v.complexes v.size v.stamp.loads n.nodes (omega (arith, n.unknowns)) n.small n.loads

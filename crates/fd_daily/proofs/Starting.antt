@@ -59,14 +59,14 @@ other_settings c at others powers hour loads hours p = record {
 module _ (c : CircuitView) (at : CodePositions) (powers : Powers) where
   pub network_there : (net : BuiltView) → IsBuiltOf net c → net.rows ≡ circuit_network c (settings_of at powers)
       → range_blame c.elements (devices_of c (settings_of at powers)) ≡ None
-      → AgreesWith net.rows.share (circuit_parts c (settings_of at powers))
+      → AgreesWith net.rows.stamp (circuit_parts c (settings_of at powers))
       → IsNetworkAt c powers.loads (positions_in at) net
   unfolding blame_at network_at
   network_there net built rows none agrees = record {
     built = built;
     rows = rows;
     in_range = none;
-    agrees = subst (λ (v : NetworkView). AgreesWith v.share (circuit_parts c (settings_of at powers))) rows agrees;
+    agrees = subst (λ (v : NetworkView). AgreesWith v.stamp (circuit_parts c (settings_of at powers))) rows agrees;
   }
 
   blame_here : blame_at c powers.loads (positions_in at) ≡ range_blame c.elements (devices_of c (settings_of at powers))

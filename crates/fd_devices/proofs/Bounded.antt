@@ -17,7 +17,7 @@ use Rattle.fd_arith.specs.declared.terms.LoadModel.{LoadModel}
 use Rattle.fd_arith.specs.LoadModels.{is_linear}
 use Rattle.fd_system.specs.declared.loads.LoadAt.{LoadAt}
 use Rattle.fd_system.specs.Contributions.{IsDivided, IsWithin, each, stamp}
-use Rattle.fd_system.specs.Loads.{FitsModel, IsLoad, impedance_list, linear_list}
+use Rattle.fd_system.specs.Loads.{FitsModel, IsLoad, draw_of, impedance_list, linear_list}
 use Rattle.fd_system.proofs.CallerLemmas.{stamp_divided}
 use Rattle.fd_line.specs.declared.data.LineData.{LineData}
 use Rattle.fd_line.specs.Totals.{IsLine}
@@ -31,7 +31,7 @@ use Rattle.fd_exact.specs.Nearest.{near_most}
 use Rattle.fd_load.specs.Current.{IsPast, power_sum}
 use Rattle.fd_load.proofs.CallerLemmas.{within_limit}
 use Rattle.fd_equations.specs.Conditions.{HasMagnitude, IsAmong, IsKnown, IsServed}
-use Rattle.fd_devices.specs.Devices.{source, line, loads, other, draw_of}
+use Rattle.fd_devices.specs.Devices.{source, line, loads, other}
 use Rattle.fd_devices.specs.Building.{AreContributions, Fits, IsSettled, IsUsable}
 use Rattle.fd_devices.specs.Sound.{HasBranches, IsSideOf}
 use Rattle.fd_devices.proofs.Counting.{AreInside, StandsBelow, line_inside, loads_inside, more_room, none_inside, source_inside}

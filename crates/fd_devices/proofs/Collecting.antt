@@ -2,17 +2,17 @@
 use Rattle.std.proofs.Common.{◌≡◌, ◌∙◌, ℕ, suc, ◌+◌, ◌*◌, List, [], ◌∷◌, ◌++◌, length, length-append, map, arith, ap, sym, refl, subst}
 use Rattle.std.specs.List.{flat_map}
 use Rattle.std.proofs.lemmas.Grind.{flat_map-append}
-use Rattle.std.proofs.lemmas.List.{append-nil}
+use Rattle.std.proofs.lemmas.List.{append-nil, map-append}
 use Rattle.std.proofs.lemmas.List.Elements.{All-nil, All-cons, All-append}
 use Rattle.fd_exact.specs.Sums.{list_n}
 use Rattle.fd_exact.specs.SumLaws.{list_n-append}
 use Rattle.fd_system.specs.Contributions.{IsDivided, IsWithin}
-use Rattle.fd_system.specs.System.{Share}
+use Rattle.fd_system.specs.System.{StampView, beside, joined}
 use Rattle.fd_equations.specs.Conditions.{IsKnown, IsServed}
 use Rattle.dss_profile.specs.declared.element.Element.{Element}
 use Rattle.dss_profile.specs.declared.names.ElementName.{ElementName}
 use Rattle.dss_layout.specs.Layout.{Elements, LayoutView, branch_phases}
-use Rattle.fd_devices.specs.Devices.{Added, Device, IsGood, added_by, added_by_all, beside, device_draw, device_share}
+use Rattle.fd_devices.specs.Devices.{Device, IsGood, device_stamp, stamp_of_all}
 use Rattle.fd_devices.specs.Settings.{Settings, after}
 use Rattle.fd_devices.specs.Scripted.{devices_from}
 use Rattle.fd_devices.specs.Building.{AreCollected, Fits, IsBounded, IsInside, IsSettled}
@@ -30,31 +30,27 @@ list_n-more f xs x = let all = list_n-append f xs (x ∷ []) in omega arith
 
 -- ---- one device more
 
-one_more : {A : Type 0} (f : Device → List A) (ds : List Device) (d : Device) → flat_map f (ds ++ d ∷ []) ≡ flat_map f ds ++ f d
-one_more f ds d = flat_map-append f ds (d ∷ []) ∙ ap (λ r. flat_map f ds ++ r) (append-nil (f d))
+one_more : {A B : Type 0} (f : A → List B) (xs : List A) (x : A) → flat_map f (xs ++ x ∷ []) ≡ flat_map f xs ++ f x
+one_more f xs x = flat_map-append f xs (x ∷ []) ∙ ap (λ r. flat_map f xs ++ r) (append-nil (f x))
 
-mapped : {A : Type 0} (f : Share → List A) (ds : List Device) → flat_map f (map device_share ds) ≡ flat_map (λ d. f (device_share d)) ds
-mapped f [] = refl
-mapped f (d ∷ ds) = ap (λ r. f (device_share d) ++ r) (mapped f ds)
+joined_more : (ss : List StampView) (s : StampView) → joined (ss ++ s ∷ []) ≡ beside (joined ss) s
+joined_more ss s =
+    let c = one_more (λ (x : StampView). x.constants) ss s in
+    let t = one_more (λ (x : StampView). x.terms) ss s in
+    let l = one_more (λ (x : StampView). x.loads) ss s in
+    let d = list_n-more (λ (x : StampView). x.draw) ss s in
+    λ i. record { constants = c i; terms = t i; loads = l i; draw = d i }
 
-mapped_more : {A : Type 0} (f : Share → List A) (ds : List Device) (d : Device) → flat_map f (map device_share (ds ++ d ∷ [])) ≡ flat_map f (map device_share ds) ++ f (device_share d)
-mapped_more f ds d = mapped f (ds ++ d ∷ []) ∙ one_more (λ e. f (device_share e)) ds d ∙ ap (λ r. r ++ f (device_share d)) (sym (mapped f ds))
+pub stamp_more : (ds : List Device) (d : Device) → stamp_of_all (ds ++ d ∷ []) ≡ beside (stamp_of_all ds) (device_stamp d)
+stamp_more ds d = ap joined (map-append device_stamp ds (d ∷ [])) ∙ joined_more (map device_stamp ds) (device_stamp d)
 
-pub added_more : (ds : List Device) (d : Device) → added_by_all (ds ++ d ∷ []) ≡ beside (added_by_all ds) (added_by d)
-added_more ds d =
-    let c = mapped_more (λ (s : Share). s.constants) ds d in
-    let t = mapped_more (λ (s : Share). s.terms) ds d in
-    let l = mapped_more (λ (s : Share). s.loads) ds d in
-    let w = list_n-more device_draw ds d in
-    λ i. record { share = record { constants = c i; terms = t i; loads = l i }; draw = w i }
-
-bounded_more : (nodes n size m k b c : ℕ) (a p : Added) → IsBounded nodes n size m b a → IsBounded nodes n size k c p → IsBounded nodes n size (m + k) (b + c) (beside a p)
+bounded_more : (nodes n size m k b c : ℕ) (a p : StampView) → IsBounded nodes n size m b a → IsBounded nodes n size k c p → IsBounded nodes n size (m + k) (b + c) (beside a p)
 bounded_more nodes n size m k b c a p h g =
-    let terms = length-append a.share.terms p.share.terms in
-    let constants = length-append a.share.constants p.share.constants in
+    let terms = length-append a.terms p.terms in
+    let constants = length-append a.constants p.constants in
     let few = h.terms.few in
     let few' = g.terms.few in
-    let loads = length-append a.share.loads p.share.loads in
+    let loads = length-append a.loads p.loads in
     let served = h.few_loads in
     let served' = g.few_loads in
     let known = h.few_constants in
@@ -63,31 +59,31 @@ bounded_more nodes n size m k b c a p h g =
     let draw' = g.draw in
     record {
       terms = record {
-        inside = All-append (IsInside n) a.share.terms p.share.terms h.terms.inside g.terms.inside;
-        divided = All-append IsDivided a.share.terms p.share.terms h.terms.divided g.terms.divided;
-        within = All-append IsWithin a.share.terms p.share.terms h.terms.within g.terms.within;
+        inside = All-append (IsInside n) a.terms p.terms h.terms.inside g.terms.inside;
+        divided = All-append IsDivided a.terms p.terms h.terms.divided g.terms.divided;
+        within = All-append IsWithin a.terms p.terms h.terms.within g.terms.within;
         few = omega arith;
       };
-      constants = All-append (IsKnown (2 * n)) a.share.constants p.share.constants h.constants g.constants;
+      constants = All-append (IsKnown (2 * n)) a.constants p.constants h.constants g.constants;
       few_constants = omega arith;
-      loads = All-append (IsServed nodes n size) a.share.loads p.share.loads h.loads g.loads;
+      loads = All-append (IsServed nodes n size) a.loads p.loads h.loads g.loads;
       few_loads = omega arith;
       draw = omega arith;
     }
 
 -- one element and its device more
-pub collected_more : (nodes n size : ℕ) (es : Elements) (e : ElementName × Element) (ds : List Device) (d : Device) (a p b : Added)
-    → AreCollected nodes n size es ds a → IsSettled nodes n size (branch_phases e.1) d → p ≡ added_by d → b ≡ beside a p → AreCollected nodes n size (es ++ e ∷ []) (ds ++ d ∷ []) b
+pub collected_more : (nodes n size : ℕ) (es : Elements) (e : ElementName × Element) (ds : List Device) (d : Device) (a p b : StampView)
+    → AreCollected nodes n size es ds a → IsSettled nodes n size (branch_phases e.1) d → p ≡ device_stamp d → b ≡ beside a p → AreCollected nodes n size (es ++ e ∷ []) (ds ++ d ∷ []) b
 collected_more nodes n size es e ds d a p b h s pe be =
-    let more : b ≡ beside a (added_by d) = be ∙ ap (beside a) pe in
+    let more : b ≡ beside a (device_stamp d) = be ∙ ap (beside a) pe in
     let count : length (es ++ e ∷ []) ≡ length es + 1 = length-append es (e ∷ []) in
     let branches = list_n-more (λ (x : ElementName × Element). branch_phases x.1) es e in
-    let bounded = bounded_more nodes n size (length es) 1 (list_n (λ (x : ElementName × Element). branch_phases x.1) es) (branch_phases e.1) a (added_by d) h.bounded s.bounded in
+    let bounded = bounded_more nodes n size (length es) 1 (list_n (λ (x : ElementName × Element). branch_phases x.1) es) (branch_phases e.1) a (device_stamp d) h.bounded s.bounded in
     record {
-      added = more ∙ ap (λ x. beside x (added_by d)) h.added ∙ sym (added_more ds d);
+      stamp = more ∙ ap (λ x. beside x (device_stamp d)) h.stamp ∙ sym (stamp_more ds d);
       fits = All-append Fits ds (d ∷ []) h.fits (All-cons Fits d [] s.fits (All-nil Fits));
       good = All-append IsGood ds (d ∷ []) h.good (All-cons IsGood d [] s.good (All-nil IsGood));
       bounded = subst (IsBounded nodes n size (length (es ++ e ∷ [])) (list_n (λ (x : ElementName × Element). branch_phases x.1) (es ++ e ∷ []))) (sym more)
-          (subst (λ m. IsBounded nodes n size m (list_n (λ (x : ElementName × Element). branch_phases x.1) (es ++ e ∷ [])) (beside a (added_by d))) (sym count)
-          (subst (λ m. IsBounded nodes n size (length es + 1) m (beside a (added_by d))) (sym branches) bounded));
+          (subst (λ m. IsBounded nodes n size m (list_n (λ (x : ElementName × Element). branch_phases x.1) (es ++ e ∷ [])) (beside a (device_stamp d))) (sym count)
+          (subst (λ m. IsBounded nodes n size (length es + 1) m (beside a (device_stamp d))) (sym branches) bounded));
     }

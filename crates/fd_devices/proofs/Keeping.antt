@@ -1,5 +1,5 @@
 -- What is kept of an element is the same at all its settings.
-use Rattle.std.proofs.Common.{◌≡◌, ◌∙◌, ℕ, zero, suc, ◌+◌, ◌*◌, ◌<◌, ◌≤◌, false, inl, inr, List, [], ◌∷◌, ◌++◌, length, map, Option, Some, None, arith, ap, refl, sym, subst, zero-add}
+use Rattle.std.proofs.Common.{◌≡◌, ◌∙◌, ℕ, zero, suc, ◌+◌, ◌*◌, ◌<◌, ◌≤◌, false, inl, inr, List, [], ◌∷◌, ◌++◌, length, map, Option, Some, None, arith, ap, refl, sym, subst}
 use Rattle.std.specs.List.{All, flat_map}
 use Rattle.std.proofs.lemmas.Grind.{flat_map-append}
 use Rattle.std.proofs.lemmas.List.{append-nil}
@@ -18,6 +18,8 @@ use Rattle.fd_system.specs.Contributions.{IsSmall}
 use Rattle.fd_system.specs.Terminals.{branch_of}
 use Rattle.fd_arith.specs.declared.terms.LoadModel.{LoadModel}
 use Rattle.fd_system.specs.declared.loads.LoadAt.{LoadAt}
+use Rattle.fd_system.specs.declared.stamps.Stamp.{Stamp}
+use Rattle.fd_system.specs.System.{StampView}
 use Rattle.fd_equations.specs.Conditions.{HasMagnitude, IsAmong, IsServed}
 use Rattle.fd_equations.specs.PatternPlaces.{cross, load_places, magnitude_places, node_places, place_of, terminal_places}
 use Rattle.fd_equations.specs.Patterns.{IsInside}
@@ -27,10 +29,9 @@ use Rattle.fd_devices.specs.Building.{IsInside as IsTermInside, IsSettled}
 use Rattle.dss_profile.specs.declared.transformer.Transformer.{Transformer}
 use Rattle.dss_profile.specs.declared.capacitor.Capacitor.{Capacitor}
 use Rattle.dss_profile.specs.declared.load.Load.{Load}
-use Rattle.fd_devices.specs.Devices.{Added, added_by, added_by_all, beside}
+use Rattle.fd_devices.specs.Devices.{device_stamp}
 use Rattle.fd_devices.specs.declared.kept.Kept.{Kept}
-use Rattle.fd_devices.specs.declared.pieces.Piece.{Piece}
-use Rattle.fd_devices.specs.Kept.{AreFewOf, AreSmallEnds, IsKeptOf, IsRoomSame, is_moved, reach_of}
+use Rattle.fd_devices.specs.Kept.{AreFewOf, AreSmallEnds, IsKeptOf, is_moved, reach_of}
 use Rattle.fd_devices.specs.Reach.{branch_places, device_places, unknowns_of}
 use Rattle.fd_devices.specs.Scripted.{device_of, load_at}
 use Rattle.fd_devices.specs.Settings.{Settings}
@@ -79,7 +80,7 @@ same_places layout hertz place (the.RegControl c) s t = refl
 same_places layout hertz place (the.CapControl c) s t = refl
 same_places layout hertz place (the.Loadshape c) s t = refl
 
-reached : (layout : LayoutView) (hertz place : ℕ) (e : Element) (s : Settings) → reach_of e (ends_of layout place e) (added_by (device_of layout hertz place e s)) ≡ device_places (device_of layout hertz place e s)
+reached : (layout : LayoutView) (hertz place : ℕ) (e : Element) (s : Settings) → reach_of e (ends_of layout place e) (device_stamp (device_of layout hertz place e s)) ≡ device_places (device_of layout hertz place e s)
 reached layout hertz place (the.Vsource v) s = refl
 reached layout hertz place (the.Line l) s = refl
 reached layout hertz place (the.Linecode c) s = refl
@@ -90,8 +91,8 @@ reached layout hertz place (the.RegControl c) s = refl
 reached layout hertz place (the.CapControl c) s = refl
 reached layout hertz place (the.Loadshape c) s = refl
 
--- what is read off the ends and the piece of an element is what its device reaches
-pub reach_is : (layout : LayoutView) (hertz place : ℕ) (e : Element) (s : Settings) (at : Ends) (a : Added) → at ≡ ends_of layout place e → a ≡ added_by (device_of layout hertz place e s) → reach_of e at a ≡ device_places (device_of layout hertz place e s)
+-- what is read off the ends and the stamp of an element is what its device reaches
+pub reach_is : (layout : LayoutView) (hertz place : ℕ) (e : Element) (s : Settings) (at : Ends) (a : StampView) → at ≡ ends_of layout place e → a ≡ device_stamp (device_of layout hertz place e s) → reach_of e at a ≡ device_places (device_of layout hertz place e s)
 reach_is layout hertz place e s at a p q = (λ i. reach_of e (p i) (q i)) ∙ reached layout hertz place e s
 
 -- ---- places are among the rows and columns
@@ -227,7 +228,7 @@ few_branches (the.Loadshape c) h = omega arith
 -- ---- few
 
 pub fixed_few : (layout : LayoutView) (hertz place : ℕ) (e : Element) (s : Settings) → is_moved e ≡ false → IsSettled (length layout.nodes) (complex_count layout) (size_of layout) (branch_phases e) (device_of layout hertz place e s)
-    → AreFewOf e (added_by (device_of layout hertz place e s))
+    → AreFewOf e (device_stamp (device_of layout hertz place e s))
 fixed_few layout hertz place (the.Vsource v) s h k = let t = k.bounded.terms.few in let c = k.bounded.few_constants in record { terms = omega arith; loads = omega arith; constants = omega arith }
 fixed_few layout hertz place (the.Line l) s h k = let t = k.bounded.terms.few in record { terms = omega arith; loads = omega arith; constants = omega arith }
 fixed_few layout hertz place (the.Linecode c) s h k = record { terms = omega arith; loads = omega arith; constants = omega arith }
@@ -251,31 +252,25 @@ unmoved (the.RegControl k) a b c = refl
 unmoved (the.CapControl k) a b c = refl
 unmoved (the.Loadshape k) a b c = refl
 
--- a kept piece is small
-pub record IsSmallPiece (p : Piece) : Type 0 where
-  pub terms : length p.terms.items ≤ 256
-  pub loads : length p.loads.items ≤ 9
-  pub constants : length p.constants.items ≤ 6
-  pub draw : p.draw ≤ 17_500_000_000_000
+-- a kept stamp is small
+pub record IsSmallStamp (s : Stamp) : Type 0 where
+  pub terms : length s.terms.items ≤ 256
+  pub loads : length s.loads.items ≤ 9
+  pub constants : length s.constants.items ≤ 6
+  pub draw : s.draw ≤ 17_500_000_000_000
 
-pub kept_small : (layout : LayoutView) (hertz place : ℕ) (e : Element) (s : Settings) (k : Kept) → IsKeptOf layout hertz place e k → is_moved e ≡ false → ElementInRange e → IsSmallPiece k.piece
+pub kept_small : (layout : LayoutView) (hertz place : ℕ) (e : Element) (s : Settings) (k : Kept) → IsKeptOf layout hertz place e k → is_moved e ≡ false → ElementInRange e → IsSmallStamp k.stamp
 kept_small layout hertz place e s k h none range =
-    let same = h.added none s in
+    let same = h.stamp none s in
     let b = (h.settled none s).bounded in
     let few = few_branches e range in
-    let terms = ap (λ (a : Added). length a.share.terms) same in
-    let loads = ap (λ (a : Added). length a.share.loads) same in
-    let constants = ap (λ (a : Added). length a.share.constants) same in
-    let draw = ap (λ (a : Added). a.draw) same in
+    let terms = ap (λ (a : StampView). length a.terms) same in
+    let loads = ap (λ (a : StampView). length a.loads) same in
+    let constants = ap (λ (a : StampView). length a.constants) same in
+    let draw = ap (λ (a : StampView). a.draw) same in
     record {
       terms = omega (arith, terms, b.terms.few, few);
       loads = omega (arith, loads, b.few_loads);
       constants = omega (arith, constants, b.few_constants);
       draw = omega (arith, draw, b.draw);
     }
-
-pub first_beside : (a b : Added) → a ≡ added_by_all [] → beside a b ≡ b
-first_beside a b e = ap (λ x. beside x b) e ∙ (λ i. record { share = b.share; draw = zero-add b.draw i })
-
-pub room_then : (p q r : Piece) → IsRoomSame p q → IsRoomSame q r → IsRoomSame p r
-room_then p q r h k = record { terms = k.terms ∙ h.terms; loads = k.loads ∙ h.loads; constants = k.constants ∙ h.constants }

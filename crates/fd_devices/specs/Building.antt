@@ -5,29 +5,30 @@ use Rattle.fd_exact.specs.Sums.{list_n}
 use Rattle.fd_arith.specs.declared.terms.Term.{Term}
 use Rattle.fd_system.specs.declared.loads.LoadAt.{LoadAt}
 use Rattle.fd_system.specs.Contributions.{AreSmall, IsDivided, IsSmall, IsWithin}
+use Rattle.fd_system.specs.System.{StampView}
 use Rattle.fd_elements.specs.declared.powers.LoadPower.{LoadPower}
 use Rattle.fd_load.specs.Current.{AreLoadVoltages, IsPast}
 use Rattle.fd_equations.specs.Coefficients.{linear_entry}
 use Rattle.fd_equations.specs.Conditions.{IsKnown, IsServed}
-use Rattle.fd_devices.specs.Devices.{Added, Device, IsGood, added_by, added_by_all, device_share, share_of_all}
+use Rattle.fd_devices.specs.Devices.{Device, IsGood, device_stamp, stamp_of_all}
 
 -- ---- one device
 
 -- no contribution of a device is past 2^54 in units of 2^-40, and none of its part loads is past its limit
 pub record Fits (d : Device) : Type 0 where
-  pub terms : All IsWithin (device_share d).terms
-  pub loads : All (λ u. ¬ (IsPast u.load)) (device_share d).loads
+  pub terms : All IsWithin (device_stamp d).terms
+  pub loads : All (λ u. ¬ (IsPast u.load)) (device_stamp d).loads
 
 -- where a device has a contribution, the sum of all is at most 2^54 in units of 2^-40
 abbrev pub HasSmallSums : List Term → Device → Type 0
-HasSmallSums all d = All (λ t. AreSmall (linear_entry all t.row t.col)) (device_share d).terms
+HasSmallSums all d = All (λ t. AreSmall (linear_entry all t.row t.col)) (device_stamp d).terms
 
 -- ---- all devices
 
 -- each device fits, and the sum at each place is small
 pub record AreInRange (ds : List Device) : Type 0 where
   pub each : All Fits ds
-  pub sums : (row col : ℕ) → AreSmall (linear_entry (share_of_all ds).terms row col)
+  pub sums : (row col : ℕ) → AreSmall (linear_entry (stamp_of_all ds).terms row col)
 
 -- ---- conditions
 
@@ -60,23 +61,23 @@ pub record AreContributions (n b : ℕ) (ts : List Term) : Type 0 where
 
 -- what m elements with b branches add, of n complex unknowns, the nodes first, and `size` real ones; each element has at most nine part
 -- loads and draws at most 17.5 megaampere
-pub record IsBounded (nodes n size m b : ℕ) (a : Added) : Type 0 where
-  pub terms : AreContributions n (64 * (m + b)) a.share.terms
-  pub constants : All (IsKnown (2 * n)) a.share.constants
-  pub few_constants : length a.share.constants ≤ 6 * m
-  pub loads : All (IsServed nodes n size) a.share.loads
-  pub few_loads : length a.share.loads ≤ 9 * m
+pub record IsBounded (nodes n size m b : ℕ) (a : StampView) : Type 0 where
+  pub terms : AreContributions n (64 * (m + b)) a.terms
+  pub constants : All (IsKnown (2 * n)) a.constants
+  pub few_constants : length a.constants ≤ 6 * m
+  pub loads : All (IsServed nodes n size) a.loads
+  pub few_loads : length a.loads ≤ 9 * m
   pub draw : a.draw ≤ 17_500_000_000_000 * m
 
 -- a device with good data that fits, with b branches, of n complex unknowns, the nodes first, and `size` real ones
 pub record IsSettled (nodes n size b : ℕ) (d : Device) : Type 0 where
   pub fits : Fits d
   pub good : IsGood d
-  pub bounded : IsBounded nodes n size 1 b (added_by d)
+  pub bounded : IsBounded nodes n size 1 b (device_stamp d)
 
 -- what the devices of these elements add, of n complex unknowns, the nodes first, and `size` real ones
-pub record AreCollected (nodes n size : ℕ) (elements : Elements) (ds : List Device) (a : Added) : Type 0 where
-  pub added : a ≡ added_by_all ds
+pub record AreCollected (nodes n size : ℕ) (elements : Elements) (ds : List Device) (a : StampView) : Type 0 where
+  pub stamp : a ≡ stamp_of_all ds
   pub fits : All Fits ds
   pub good : All IsGood ds
   pub bounded : IsBounded nodes n size (length elements) (list_n (λ e. branch_phases e.1) elements) a

@@ -1,28 +1,25 @@
 -- Devices: elements of a circuit with the data of their equations, at their nodes and branches. Their complex equations, their
--- system, and that the two have the same rows.
-use Rattle.std.specs.Prelude.{ℕ, ◌+◌, ◌*◌, ◌^◌, ◌<◌, nat_abs, Bool, List, [], ◌++◌, map, All}
+-- stamps, and that the two have the same rows.
+use Rattle.std.specs.Prelude.{ℕ, ◌<◌, Bool, List, [], map, All}
 use Rattle.std.specs.List.{flat_map}
-use Rattle.fd_exact.specs.Rounding.{ceil_nat}
 use Rattle.fd_exact.specs.States.{State}
-use Rattle.fd_exact.specs.Sums.{list_n}
 use Rattle.fd_arith.specs.declared.terms.Ends.{Ends}
 use Rattle.fd_arith.specs.declared.terms.TapPair.{TapPair}
 use Rattle.fd_system.specs.declared.loads.LoadAt.{LoadAt}
 use Rattle.fd_system.specs.Equations.{Part, equation}
 use Rattle.fd_system.specs.Loads.{load_parts, IsLoad}
-use Rattle.fd_system.specs.System.{Share, residual_of, joined, loads_share, Represents}
+use Rattle.fd_system.specs.System.{StampView, residual_of, joined, loads_stamp, Represents}
 use Rattle.fd_system.specs.Meets.{Meets}
 use Rattle.fd_line.specs.declared.data.LineData.{LineData}
 use Rattle.fd_line.specs.Line.{line_list, line_parts}
 use Rattle.fd_source.specs.declared.data.SourceData.{SourceData}
-use Rattle.fd_source.specs.Equations.{share_of, source_constants, source_list, source_parts}
+use Rattle.fd_source.specs.Equations.{stamp_from, source_constants, source_list, source_parts}
 use Rattle.fd_xfmr.specs.declared.data.XfmrData.{XfmrData}
 use Rattle.fd_xfmr.specs.Leakage.{AreTaps, IsXfmr}
 use Rattle.fd_xfmr.specs.Transformer.{xfmr_list, xfmr_parts}
 use Rattle.fd_cap.specs.declared.data.CapData.{CapData}
 use Rattle.fd_cap.specs.Capacitor.{IsCap, cap_draw_of, cap_list, cap_parts}
-use Rattle.fd_equations.specs.Views.{share_with}
-use Rattle.fd_devices.specs.declared.pieces.Piece.{Piece}
+use Rattle.fd_equations.specs.Views.{stamp_with}
 
 -- a transformer stands at its taps, a capacitor bank is closed or not, and a load is the part loads of its phases; `other` takes no part in the equations
 pub data Device : Type 0 where
@@ -42,27 +39,14 @@ device_parts (capacitor c closed at) x = cap_parts c closed at x
 device_parts (loads us) x = flat_map (λ u. load_parts u x) us
 device_parts other x = []
 
--- its constants, contributions and part loads
-abbrev pub device_share : Device → Share
-device_share (source s at) = share_of at (source_constants s) (source_list s at)
-device_share (line l at) = share_with [] (line_list l at) []
-device_share (transformer t taps at) = share_with [] (xfmr_list t taps at) []
-device_share (capacitor c closed at) = share_with [] (cap_list c closed at) []
-device_share (loads us) = loads_share us
-device_share other = share_with [] [] []
-
--- what a part load draws at its nominal voltage, (abs P + abs Q) / Vn, in whole microamperes and rounded up
-abbrev pub draw_of : LoadAt → ℕ
-draw_of u = ceil_nat ((nat_abs u.load.p + nat_abs u.load.q) * 10 ^ 9) (nat_abs u.load.vn)
-
--- what a device draws at its nominal voltage
-abbrev pub device_draw : Device → ℕ
-device_draw (loads us) = list_n draw_of us
-device_draw (source s at) = 0
-device_draw (line l at) = 0
-device_draw (transformer t taps at) = 0
-device_draw (capacitor c closed at) = cap_draw_of c closed
-device_draw other = 0
+-- its constants, contributions and part loads, and what it draws
+abbrev pub device_stamp : Device → StampView
+device_stamp (source s at) = stamp_from at (source_constants s) (source_list s at)
+device_stamp (line l at) = stamp_with [] (line_list l at) [] 0
+device_stamp (transformer t taps at) = stamp_with [] (xfmr_list t taps at) [] 0
+device_stamp (capacitor c closed at) = stamp_with [] (cap_list c closed at) [] (cap_draw_of c closed)
+device_stamp (loads us) = loads_stamp us
+device_stamp other = stamp_with [] [] [] 0
 
 -- the condition on a device's data
 abbrev pub IsGood : Device → Type 0
@@ -78,39 +62,14 @@ IsGood other = Unit {0}
 abbrev pub parts_of_all : List Device → State → List Part
 parts_of_all ds x = flat_map (λ d. device_parts d x) ds
 
-abbrev pub share_of_all : List Device → Share
-share_of_all ds = joined (map device_share ds)
-
-abbrev pub draw_of_all : List Device → ℕ
-draw_of_all ds = list_n device_draw ds
-
--- what devices add to a network: their share, and what they draw
-pub record Added : Type 0 where
-  pub share : Share
-  pub draw : ℕ
-
-abbrev pub added_by : Device → Added
-added_by d = record { share = device_share d; draw = device_draw d }
-
-abbrev pub added_by_all : List Device → Added
-added_by_all ds = record { share = share_of_all ds; draw = draw_of_all ds }
-
--- the constants, contributions and part loads of a piece, with what it draws
-abbrev pub added_of : Piece → Added
-added_of p = record { share = share_with p.constants.items p.terms.items p.loads.items; draw = p.draw }
-
--- one after the other
-abbrev pub beside : Added → Added → Added
-beside a b = record {
-  share = share_with (a.share.constants ++ b.share.constants) (a.share.terms ++ b.share.terms) (a.share.loads ++ b.share.loads);
-  draw = a.draw + b.draw;
-}
+abbrev pub stamp_of_all : List Device → StampView
+stamp_of_all ds = joined (map device_stamp ds)
 
 -- the two levels give the same number in every row at every state, so a state meets numbers in one where it does in the other
-pub record AgreesWith (s : Share) (ps : State → List Part) : Type 0 where
+pub record AgreesWith (s : StampView) (ps : State → List Part) : Type 0 where
   pub same : Represents s ps
   pub up : (e : ℕ → ℕ) (n : ℕ) (x : State) → 0 < x.over → Meets (residual_of s) e n x → Meets (λ y l. equation l (ps y)) e n x
   pub down : (e : ℕ → ℕ) (n : ℕ) (x : State) → 0 < x.over → Meets (λ y l. equation l (ps y)) e n x → Meets (residual_of s) e n x
 
 abbrev pub DeviceLaw : Type 0
-DeviceLaw = (ds : List Device) → All IsGood ds → AgreesWith (share_of_all ds) (parts_of_all ds)
+DeviceLaw = (ds : List Device) → All IsGood ds → AgreesWith (stamp_of_all ds) (parts_of_all ds)

@@ -1,33 +1,20 @@
 -- What is kept of elements, so that they can be taken at other settings without memory.
-use Rattle.std.specs.Prelude.{◌≡◌, ℕ, ◌+◌, ◌*◌, ◌<◌, ◌≤◌, ◌^◌, Bool, true, false, vec_capacity, length, List, map, All}
+use Rattle.std.specs.Prelude.{◌≡◌, ℕ, ◌+◌, ◌*◌, ◌<◌, ◌≤◌, ◌^◌, Bool, true, false, length, List, map, All}
 use Rattle.std.specs.List.{flat_map}
 use Rattle.fd_arith.specs.declared.terms.Ends.{Ends}
 use Rattle.fd_system.specs.Contributions.{IsSmall}
+use Rattle.fd_system.specs.Stamps.{stamp_of}
+use Rattle.fd_system.specs.System.{StampView}
 use Rattle.fd_equations.specs.PatternPlaces.{load_places, place_of}
 use Rattle.dss_profile.specs.declared.element.Element.{Element}
 use Rattle.dss_profile.specs.declared.element.Element.TheVariants as the
 use Rattle.dss_layout.specs.Layout.{LayoutView, ends_of}
 use Rattle.fd_devices.specs.declared.kept.Kept.{Kept}
-use Rattle.fd_devices.specs.declared.pieces.Piece.{Piece}
-use Rattle.fd_devices.specs.Devices.{Added, added_by, added_of}
+use Rattle.fd_devices.specs.Devices.{device_stamp}
 use Rattle.fd_devices.specs.Reach.{bank_places, transformer_places}
 use Rattle.fd_devices.specs.Scripted.{device_of}
 use Rattle.fd_devices.specs.Settings.{Settings}
 use Rattle.fd_devices.specs.Standing.{IsSettledAt}
-
--- ---- room
-
--- the lists of a piece have room for so many contributions, part loads and constants
-pub record HasRoom (p : Piece) (most few some : ℕ) : Type 0 where
-  pub terms : most ≤ vec_capacity p.terms
-  pub loads : few ≤ vec_capacity p.loads
-  pub constants : some ≤ vec_capacity p.constants
-
--- they have the room that they had
-pub record IsRoomSame (old new : Piece) : Type 0 where
-  pub terms : vec_capacity new.terms ≡ vec_capacity old.terms
-  pub loads : vec_capacity new.loads ≡ vec_capacity old.loads
-  pub constants : vec_capacity new.constants ≡ vec_capacity old.constants
 
 -- ---- one element
 
@@ -54,10 +41,10 @@ abbrev pub most_constants : Element → ℕ
 most_constants (the.Vsource v) = 6
 most_constants e = 0
 
-pub record AreFewOf (e : Element) (a : Added) : Type 0 where
-  pub terms : length a.share.terms ≤ most_terms e
-  pub loads : length a.share.loads ≤ most_loads e
-  pub constants : length a.share.constants ≤ most_constants e
+pub record AreFewOf (e : Element) (a : StampView) : Type 0 where
+  pub terms : length a.terms ≤ most_terms e
+  pub loads : length a.loads ≤ most_loads e
+  pub constants : length a.constants ≤ most_constants e
 
 -- it has settings
 abbrev pub is_moved : Element → Bool
@@ -69,12 +56,12 @@ is_moved e = false
 -- where it stands, and what it adds if it has no settings
 pub record IsKeptOf (layout : LayoutView) (hertz place : ℕ) (e : Element) (k : Kept) : Type 0 where
   pub at : k.at ≡ ends_of layout place e
-  pub added : is_moved e ≡ false → (s : Settings) → added_of k.piece ≡ added_by (device_of layout hertz place e s)
+  pub stamp : is_moved e ≡ false → (s : Settings) → stamp_of k.stamp ≡ device_stamp (device_of layout hertz place e s)
   pub settled : is_moved e ≡ false → (s : Settings) → IsSettledAt layout hertz place e s
 
 -- the places that it can reach, at these ends and by what it adds at any settings
-abbrev pub reach_of : Element → Ends → Added → List (ℕ × ℕ)
+abbrev pub reach_of : Element → Ends → StampView → List (ℕ × ℕ)
 reach_of (the.Transformer t) at a = transformer_places t.phases at
 reach_of (the.Capacitor c) at a = bank_places at
-reach_of (the.Load l) at a = flat_map load_places a.share.loads
-reach_of e at a = map place_of a.share.terms
+reach_of (the.Load l) at a = flat_map load_places a.loads
+reach_of e at a = map place_of a.terms

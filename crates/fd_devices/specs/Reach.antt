@@ -8,7 +8,7 @@ use Rattle.fd_system.specs.Terminals.{branch_of}
 use Rattle.fd_line.specs.Line.{line_list}
 use Rattle.fd_source.specs.Equations.{source_list}
 use Rattle.fd_equations.specs.PatternPlaces.{cross, load_places, node_places, place_of, places_of}
-use Rattle.fd_devices.specs.Devices.{Device, capacitor, device_share, line, loads, other, source, transformer}
+use Rattle.fd_devices.specs.Devices.{Device, capacitor, device_stamp, line, loads, other, source, transformer}
 
 -- the real unknowns of nodes, and of m branches from the first one on
 abbrev pub unknowns_of : List NodeAt → List ℕ
@@ -39,4 +39,6 @@ device_places other = []
 
 -- what a device adds stands at places that it can reach
 abbrev pub ReachLaw : Type 0
-ReachLaw = (ps : List (ℕ × ℕ)) (d : Device) → All (Contains ps) (device_places d) → All (Contains ps) (places_of (device_share d).terms (device_share d).loads)
+ReachLaw =
+    (ps : List (ℕ × ℕ)) (d : Device) → All (Contains ps) (device_places d)
+    → All (Contains ps) (places_of (device_stamp d).terms (device_stamp d).loads)

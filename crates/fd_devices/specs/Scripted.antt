@@ -22,7 +22,7 @@ use Rattle.fd_equations.specs.declared.layout.Layout.{Layout}
 use Rattle.fd_equations.specs.Rounded.{list_of}
 use Rattle.fd_equations.specs.Views.{NetworkView, network_of}
 use Rattle.fd_devices.specs.Data.{cap_data_of, xfmr_data_of}
-use Rattle.fd_devices.specs.Devices.{Device, source, line, transformer, capacitor, loads, other, draw_of_all, parts_of_all, share_of_all}
+use Rattle.fd_devices.specs.Devices.{Device, source, line, transformer, capacitor, loads, other, parts_of_all, stamp_of_all}
 use Rattle.fd_devices.specs.Settings.{Settings, own, after}
 use Rattle.fd_elements.specs.Sources.{source_data_of}
 
@@ -87,9 +87,9 @@ circuit_parts c s x = parts_of_all (devices_of c s) x
 abbrev pub layout_counts : LayoutView → Layout
 layout_counts l = record { nodes = length l.nodes; branches = length l.branches; magnitudes = length l.magnitudes }
 
--- the network of devices in a layout: their constants, contributions and part loads in order
+-- the network of devices in a layout: their stamps in order
 abbrev pub devices_network : LayoutView → List Device → NetworkView
-devices_network layout ds = network_of (layout_counts layout) (share_of_all ds) (draw_of_all ds)
+devices_network layout ds = network_of (layout_counts layout) (stamp_of_all ds)
 
 -- its network
 abbrev pub circuit_network : CircuitView → Settings → NetworkView

@@ -4,30 +4,32 @@ ghost use Rattle.dss_profile.specs.Ranges.{IsOneOf};
 ghost use Rattle.dss_profile.specs.InRange.{ElementInRange};
 ghost use Rattle.dss_layout.specs.Layout.{size_of};
 ghost use Rattle.fd_devices.specs.Building.{Fits, IsModest};
-ghost use Rattle.fd_devices.specs.Devices.{added_by, added_of};
+ghost use Rattle.fd_devices.specs.Devices.{device_stamp};
 ghost use Rattle.fd_system.specs.Contributions.{IsSmall};
+ghost use Rattle.fd_system.specs.Stamps.{HasRoom, IsRoomSame, stamp_of};
 ghost use Rattle.fd_equations.specs.Patterns.{IsInside};
-ghost use Rattle.fd_devices.specs.Kept.{AreFewOf, AreSmallEnds, HasRoom, IsKeptOf, IsRoomSame, is_moved as has_settings, most_constants as most_constants_of, most_loads as most_loads_of, most_terms as most_terms_of, reach_of};
+ghost use Rattle.fd_devices.specs.Kept.{AreFewOf, AreSmallEnds, IsKeptOf, is_moved as has_settings, most_constants as most_constants_of, most_loads as most_loads_of, most_terms as most_terms_of, reach_of};
 ghost use Rattle.fd_devices.specs.Reach.{device_places};
 ghost use Rattle.fd_devices.specs.Scripted.{device_of};
 ghost use Rattle.fd_devices.specs.Settings.{AreOwn, settings_in};
 ghost use Rattle.fd_devices.specs.Standing.{HasPlace, IsReadyAt, IsSettledAt, KnowsMagnitudes};
 
-use crate::pieces::{Piece, piece_of};
 use crate::reached::{add_bank_places, add_transformer_places};
 use crate::settings::OwnSettings;
+use crate::stamps::element_stamp;
 use crate::writers::{capacitor_into, load_into, transformer_into};
 use dss_layout::Layout;
 use dss_profile::Element;
 use fd_arith::{Ends, TermFault};
 use fd_equations::{add_load_places, add_term_places};
+use fd_system::Stamp;
 use std::alloc::{AllocError, Global};
 
 /// What is the same of an element at all settings: where it stands, and, if it has no settings, what it adds.
 #[derive(Drop)]
 pub struct Kept {
     pub at: Ends,
-    pub piece: Piece,
+    pub stamp: Stamp,
 }
 
 /// Whether an element has settings: taps, a state, or powers.
@@ -108,46 +110,46 @@ pub fn kept_of(
     ensures range { result ≡ Err TermFault.Range
         → ¬ (Fits (device_of layout.now hertz place element.now (settings_in own.now))) }
 {
-    let piece = piece_of(alloc, layout, hertz, place, element, own)?;
+    let stamp = element_stamp(alloc, layout, hertz, place, element, own)?;
     let at = layout.ends(alloc, place, element)?;
-    add_places(alloc, places, element, &at, &piece)?;
-    let piece = if is_moved(element) {
-        Piece::empty(alloc)
+    add_places(alloc, places, element, &at, &stamp)?;
+    let stamp = if is_moved(element) {
+        Stamp::empty(alloc)
     } else {
-        piece
+        stamp
     };
-    Ok(Kept { at, piece })
+    Ok(Kept { at, stamp })
 }
 
-// Adds the places that an element can reach, which stands at these ends and adds this piece with its settings.
+// Adds the places that an element can reach, which stands at these ends and adds this stamp with its settings.
 fn add_places(
     alloc: Global,
     places: &mut Vec<(u32, u32)>,
     element: &Element,
     at: &Ends,
-    piece: &Piece,
+    stamp: &Stamp,
 ) -> Result<(), AllocError>
     requires ends { AreSmallEnds element.now at.now }
-    requires first { All (λ u. IsSmall u.first) piece.now.loads.items }
-    requires second { All (λ u. IsSmall u.second) piece.now.loads.items }
-    ensures { OnOk result (places.new.items ≡ places.old.items ++ reach_of element.now at.now (added_of piece.now)) }
+    requires first { All (λ u. IsSmall u.first) stamp.now.loads.items }
+    requires second { All (λ u. IsSmall u.second) stamp.now.loads.items }
+    ensures { OnOk result (places.new.items ≡ places.old.items ++ reach_of element.now at.now (stamp_of stamp.now)) }
 {
     match element {
         Element::Transformer(xfmr) => add_transformer_places(alloc, places, xfmr.phases, at),
         Element::Capacitor(_) => add_bank_places(alloc, places, at),
-        Element::Load(_) => add_load_places(alloc, places, &piece.loads),
-        _ => add_term_places(places, &piece.terms),
+        Element::Load(_) => add_load_places(alloc, places, &stamp.loads),
+        _ => add_term_places(places, &stamp.terms),
     }
 }
 
-/// Puts what an element adds in place of what a piece has, which has room for 256 contributions, nine part loads and
+/// Puts what an element adds in place of what a stamp has, which has room for 256 contributions, nine part loads and
 /// six constants. Takes no memory.
 ///
 /// # Errors
 /// Range alone, exactly where a contribution of the element is past 2^54 in units of 2^-40 or a load phase past its
 /// limit.
-pub fn piece_into(
-    into: &mut Piece,
+pub fn stamp_into(
+    into: &mut Stamp,
     layout: &Layout,
     hertz: u32,
     place: usize,
@@ -161,10 +163,10 @@ pub fn piece_into(
     requires modest { All IsModest own.now.powers.now }
     requires kept { IsKeptOf layout.now hertz place element.now kept.now }
     requires room { HasRoom into.old 256 9 6 }
-    ensures added { OnOk result (added_of into.new
-        ≡ added_by (device_of layout.now hertz place element.now (settings_in own.now))) }
+    ensures stamp { OnOk result (stamp_of into.new
+        ≡ device_stamp (device_of layout.now hertz place element.now (settings_in own.now))) }
     ensures settled { OnOk result (IsSettledAt layout.now hertz place element.now (settings_in own.now)) }
-    ensures few { OnOk result (AreFewOf element.now (added_of into.new)) }
+    ensures few { OnOk result (AreFewOf element.now (stamp_of into.new)) }
     ensures range { IfErr result (λ e. (e ≡ TermFault.Range)
         × ¬ (Fits (device_of layout.now hertz place element.now (settings_in own.now)))) }
     ensures room { IsRoomSame into.old into.new }
@@ -181,7 +183,7 @@ pub fn piece_into(
         ),
         _ => {
             into.clear();
-            into.append_reserved(&kept.piece);
+            into.append_reserved(&kept.stamp);
             Ok(())
         }
     }

@@ -3,15 +3,15 @@
 // It promises that a device adds to the rows exactly the constants, contributions and part loads that `specs/Devices.antt` states, by
 // the element's values in the script, and that all devices' system has the rows of their complex equations at every state
 // (`device_law`). Range is the answer exactly where a contribution of the device is past 2^54 units of 2^-40 or a part load past its limit.
-// What an element adds is also written without memory into lists with room for it (`piece_into`), by what is kept of it
-// (`kept_of`); it is then at most 60 contributions of a transformer and 24 of a bank.
+// What an element adds is also written without memory into a stamp with room for it (`stamp_into`), by what is kept
+// of it (`kept_of`); it is then at most 60 contributions of a transformer and 24 of a bank.
 // The settings of a script are exactly its taps, states and powers, as many as its elements have (`snapshot_law`).
 // A later Solve starts with exactly the taps and states that the script set since the Solve before, and else with those of before; they
 // too are as many as the elements have, and in range (`next_law`).
 // The powers of loads at an hour of a day follow their shapes exactly (`powers_at`); those of hour 0 are the snapshot's (`hours_law`).
 //
 // Modules: `data` has the data of transformers and capacitor banks, `devices` is the law, `phase_loads` has the part
-// loads of a load's phases, `pieces` what each element adds, `writers` the same written without memory, `kept` what is
+// loads of a load's phases, `stamps` what each element adds, `writers` the same written without memory, `kept` what is
 // kept of an element for that, `reached` the places that a transformer or a bank can reach, `places` the nodes and
 // branches at which an element stands, `settings` the positions of taps and banks and the powers of loads with which a
 // circuit is taken, `snapshot` those that the script gives, `hours` the powers at an hour of a day, `positions` those
@@ -24,20 +24,19 @@ mod fault;
 mod hours;
 mod kept;
 mod phase_loads;
-mod pieces;
 mod places;
 mod positions;
 mod reached;
 mod settings;
 mod snapshot;
+mod stamps;
 mod writers;
 
 pub use data::xfmr_data;
 pub use devices::{device_law, reach_law};
 pub use fault::BuildFault;
 pub use hours::{hours_law, powers_at};
-pub use kept::{Kept, kept_of, most_constants, most_loads, most_terms, piece_into};
-pub use pieces::Piece;
+pub use kept::{Kept, kept_of, most_constants, most_loads, most_terms, stamp_into};
 pub use places::ends_of;
 pub use positions::next_law;
 pub use settings::{BankStates, LoadPowers, OwnSettings, Positions, Powers, Taps};

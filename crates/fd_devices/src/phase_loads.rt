@@ -4,10 +4,9 @@ ghost use Rattle.std.specs.List.{flat_map};
 ghost use Rattle.fd_exact.specs.Sums.{list_n};
 ghost use Rattle.dss_profile.specs.InRange.{LoadInRange};
 ghost use Rattle.fd_system.specs.Contributions.{IsDivided};
-ghost use Rattle.fd_system.specs.Loads.{impedance_list, linear_list};
+ghost use Rattle.fd_system.specs.Loads.{draw_of as phase_draw, impedance_list, linear_list};
 ghost use Rattle.fd_system.specs.Terminals.{IsSide, node_count};
 ghost use Rattle.fd_load.specs.Current.{IsPast};
-ghost use Rattle.fd_devices.specs.Devices.{draw_of as phase_draw};
 ghost use Rattle.fd_devices.specs.Scripted.{load_at, magnitude_place as place_of_magnitude, phases_of};
 ghost use Rattle.fd_devices.specs.Building.{IsModest, IsUsable};
 

@@ -35,7 +35,7 @@ weight_positive_by Branch draw x place = omega arith
 weight_positive_by Magnitude draw x place = omega arith
 
 pub weight_positive : (v : NetworkView) (x : List ℤ) (place : ℕ) → 0 < weight_at v x place
-weight_positive v x place = weight_positive_by (kind_of v place) v.draw x place
+weight_positive v x place = weight_positive_by (kind_of v place) v.stamp.draw x place
 
 -- ---- bounds
 
@@ -117,15 +117,15 @@ module _ (v : NetworkView) (m : Claim) (net : IsNetwork v) (sound : IsSound v m)
   unfolding radius_at
   radii_cover i p = covered (w i * B) (2 ^ 20 * (2 ^ 40 - K)) (r i) (mul-pos (lit< tt) (gap K (2 ^ 40) small)) (sound.radii_least i p)
 
-  pub centre_meets_all : Meets (residual_of v.share) e unknowns (whole_state m.centre)
+  pub centre_meets_all : Meets (residual_of v.stamp) e unknowns (whole_state m.centre)
   centre_meets_all l p = centre_meets v net m.centre l (e l) (sound.mismatches_least l p) (sound.mismatches_most l p)
 
   -- a state that meets the mismatches, and whose rows follow the Jacobian, is within the radii
   pub follower_within : (x : State) → 0 < x.over → ((l : ℕ) → l < unknowns → RowFollows v m.centre x l)
-      → Meets (residual_of v.share) e unknowns x → IsWithinRadii v m.centre m.radii x
+      → Meets (residual_of v.stamp) e unknowns x → IsWithinRadii v m.centre m.radii x
   follower_within x over follows meets =
       enclosed (2 ^ 40) (2 ^ 20) x.over K B C J R (away m.centre x) e w r unknowns (lit< tt) (lit< tt) (λ j p. heavy j)
-      (λ l p. row_from_fractions (residual_of v.share x l) (residual_of v.share (whole_state m.centre) l) (sum_z (λ j. J l j *ℤ away m.centre x j) unknowns) (sum_n (λ j. R l j * unsigned_abs (away m.centre x j)) unknowns) (e l) (x.over * 2 ^ 40)
+      (λ l p. row_from_fractions (residual_of v.stamp x l) (residual_of v.stamp (whole_state m.centre) l) (sum_z (λ j. J l j *ℤ away m.centre x j) unknowns) (sum_n (λ j. R l j * unsigned_abs (away m.centre x j)) unknowns) (e l) (x.over * 2 ^ 40)
       (residual_positive v net x l over) (residual_positive v net (whole_state m.centre) l (lit< tt)) (follows l p) (meets l p) (centre_meets_all l p))
       bounds_cover small reach_covers radii_cover
 

@@ -112,25 +112,25 @@ radius_three a b r = omega arith
 
 -- the network's row l at the state x follows the Jacobian at the centre c
 abbrev pub RowFollows : NetworkView → List ℤ → State → ℕ → Type 0
-RowFollows v c x l = RowNear (away c x) v.size (x.over * 2 ^ 40) (residual_of v.share x l) (residual_of v.share (whole_state c) l) (λ j. jacobian_entry v c l j) (λ j. slope_radius v c l j)
+RowFollows v c x l = RowNear (away c x) v.size (x.over * 2 ^ 40) (residual_of v.stamp x l) (residual_of v.stamp (whole_state c) l) (λ j. jacobian_entry v c l j) (λ j. slope_radius v c l j)
 
 -- a part load whose rows follow its slopes; one of constant impedance has none beside the contributions
 abbrev pub LoadFollows : NetworkView → List ℤ → State → LoadAt → Type 0
 LoadFollows v c x u = IsServed v.nodes v.complexes v.size u × (is_linear u.load.model ≡ false → RowsFollow (half_width v c) c x u)
 
 pub row_follows : (v : NetworkView) (c : List ℤ) (x : State) (l : ℕ) → IsNetwork v
-    → All (LoadFollows v c x) v.share.loads → RowFollows v c x l
+    → All (LoadFollows v c x) v.stamp.loads → RowFollows v c x l
 unfolding slope_radius
 row_follows v c x l net all =
-    let us = v.share.loads in
-    let ts = v.share.terms in
+    let us = v.stamp.loads in
+    let ts = v.stamp.terms in
     let y = away c x in
     let n = v.size in
     let k = x.over * 2 ^ 40 in
     let half = half_width v c in
     let Ju : ℕ → ℤ = λ j. list_z (λ u. load_entry u (slopes_there c u) l j) us in
     let Ru : ℕ → ℕ = λ j. list_n (λ u. load_radius u (radii_in half c u) l j) us + 4 * slope_counts us l j in
-    let a = sum_of (constant_given l) v.share.constants in
+    let a = sum_of (constant_given l) v.stamp.constants in
     let b = row_sum l ts x in
     let b0 = row_sum l ts (whole_state c) in
     let d = equation l (nonlinear_of us x) in
@@ -140,7 +140,7 @@ row_follows v c x l net all =
     let D = loads_near half c x n l (LoadFollows v c x) us all (λ u h. let s = h.0 in
     load_near half c x n l u (node_inside v net u.first s.first) (node_inside v net u.second s.second) (magnitude_inside v.complexes n u.load.model u.magnitude s.magnitude) (own_model v.complexes n u.load.model u.magnitude s.magnitude) h.1) in
     let linear = row_plus y n k a a b b0 (λ j. pos 0) (λ j. linear_entry ts l j) (λ j. 0) (λ j. 4 * count_at ts l j) A B in
-    row_more y n k (residual_of v.share x l) (residual_of v.share (whole_state c) l)
+    row_more y n k (residual_of v.stamp x l) (residual_of v.stamp (whole_state c) l)
     (λ j. (pos 0 +ℤ linear_entry ts l j) +ℤ Ju j) (λ j. jacobian_entry v c l j) (λ j. (0 + 4 * count_at ts l j) + Ru j) (λ j. slope_radius v c l j)
     (λ j p. sum_three (linear_entry ts l j) (slope_sum us c l j))
     (λ j p. radius_three (count_at ts l j) (slope_counts us l j) (list_n (λ u. load_radius u (radii_in half c u) l j) us))
@@ -149,7 +149,7 @@ row_follows v c x l net all =
 -- in the box each part load follows
 pub network_changes : slope.ChangeLaw → ChangeLaw
 network_changes follow v c x l net long over box inside =
-    row_follows v c x l net (All-weaker (IsServed v.nodes v.complexes v.size) (LoadFollows v c x) (λ u s. (s, λ e. follow (half_width v c) c x u s.phase e over (load_in v c x net box u s))) v.share.loads net.loads)
+    row_follows v c x l net (All-weaker (IsServed v.nodes v.complexes v.size) (LoadFollows v c x) (λ u s. (s, λ e. follow (half_width v c) c x u s.phase e over (load_in v c x net box u s))) v.stamp.loads net.loads)
 
 -- where each is of constant impedance they follow everywhere
 impedances : (v : NetworkView) (c : List ℤ) (x : State) (us : List LoadAt)
@@ -160,6 +160,6 @@ impedances v c x (u ∷ us) h g =
     All-cons (LoadFollows v c x) u us (All-head (IsServed v.nodes v.complexes v.size) u us h, λ e. let no : ⊥ = cc in absurd no)
     (impedances v c x us (All-tail (IsServed v.nodes v.complexes v.size) u us h) (All-tail IsImpedance u us g))
 
-pub linear_changes : (v : NetworkView) (c : List ℤ) (x : State) (l : ℕ) → IsNetwork v → All IsImpedance v.share.loads
+pub linear_changes : (v : NetworkView) (c : List ℤ) (x : State) (l : ℕ) → IsNetwork v → All IsImpedance v.stamp.loads
     → RowFollows v c x l
-linear_changes v c x l net all = row_follows v c x l net (impedances v c x v.share.loads net.loads all)
+linear_changes v c x l net all = row_follows v c x l net (impedances v c x v.stamp.loads net.loads all)

@@ -30,9 +30,9 @@ size_tied (Some e) f n h = greater_by (nat_abs e.0) (nat_abs e.1) f.over (nat_ab
 
 pub tied : TieLaw
 tied v x l network point inside =
-    let row : get_or (interval_residual_of v x) l None ≡ residual_interval v.share x l = get_or-list_of v.size (residual_interval v.share x) l None inside in
-    let P : Bounds → Type 0 = λ r. EndsWithin r (residual_of v.share (whole_state x) l) (4 * addend_count v.share l + 4) in
-    size_tied (residual_interval v.share x l) (residual_of v.share (whole_state x) l) (addend_count v.share l) (subst P row (row_tie v x network point (interval_residual_of v x) refl l inside))
+    let row : get_or (interval_residual_of v x) l None ≡ residual_interval v.stamp x l = get_or-list_of v.size (residual_interval v.stamp x) l None inside in
+    let P : Bounds → Type 0 = λ r. EndsWithin r (residual_of v.stamp (whole_state x) l) (4 * addend_count v.stamp l + 4) in
+    size_tied (residual_interval v.stamp x l) (residual_of v.stamp (whole_state x) l) (addend_count v.stamp l) (subst P row (row_tie v x network point (interval_residual_of v x) refl l inside))
 
 -- ---- both parts of a complex unknown
 
@@ -66,8 +66,8 @@ weight_same : (v : NetworkView) (x : List ℤ) (k : ℕ) → k < v.complexes
     → weight_at v x (2 * k) ≡ weight_at v x (2 * k + 1)
 weight_same v x k h =
     let kind = kind_at v k h in
-    ap (λ t. weight_by t v.draw x (2 * k)) kind ∙ weight_by_same (nat_lt (2 * k) (2 * v.nodes)) v.draw x k
-    ∙ ap (λ t. weight_by t v.draw x (2 * k + 1)) (sym kind ∙ kind_same v k)
+    ap (λ t. weight_by t v.stamp.draw x (2 * k)) kind ∙ weight_by_same (nat_lt (2 * k) (2 * v.nodes)) v.stamp.draw x k
+    ∙ ap (λ t. weight_by t v.stamp.draw x (2 * k + 1)) (sym kind ∙ kind_same v k)
 
 -- a radius depends on its unknown by the weight alone
 radius_same : (v : NetworkView) (x : List ℤ) (c : List (List ℤ)) (e : List ℕ) (i j : ℕ)

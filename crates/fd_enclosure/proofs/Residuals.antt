@@ -85,25 +85,25 @@ den_of : (size : ℕ) (t : Term) → IsLinear size t → 0 < unsigned_abs t.den
 den_of size t h = let p = h.term.positive in omega (arith, ints)
 
 module _ (v : NetworkView) (net : IsNetwork v) where
-  loads_positive : (x : State) (l : ℕ) → 0 < x.over → 0 < (equation l (nonlinear_of v.share.loads x)).over
+  loads_positive : (x : State) (l : ℕ) → 0 < x.over → 0 < (equation l (nonlinear_of v.stamp.loads x)).over
   loads_positive x l h =
-      let all = All-weaker (IsServed v.nodes v.complexes v.size) IsLoad (served_load v.nodes v.complexes v.size) v.share.loads net.loads in
-      let same = loads_represent v.share.loads all x h l in
-      plus_right_positive (linear_of [] (flat_map linear_list v.share.loads) x l) (equation l (nonlinear_of v.share.loads x)) same.left
+      let all = All-weaker (IsServed v.nodes v.complexes v.size) IsLoad (served_load v.nodes v.complexes v.size) v.stamp.loads net.loads in
+      let same = loads_represent v.stamp.loads all x h l in
+      plus_right_positive (linear_of [] (flat_map linear_list v.stamp.loads) x l) (equation l (nonlinear_of v.stamp.loads x)) same.left
 
-  pub residual_positive : (x : State) (l : ℕ) → 0 < x.over → 0 < (residual_of v.share x l).over
+  pub residual_positive : (x : State) (l : ℕ) → 0 < x.over → 0 < (residual_of v.stamp x l).over
   residual_positive x l h =
-      let constants = sum_of-pos (constant_given l) v.share.constants (constant_positive l) in
-      let terms = sum_positive {P = IsLinear v.size} (λ t. given l t x) v.share.terms net.terms.each (λ t g. term_positive l x t h (den_of v.size t g)) in
-      plus_positive (linear_of v.share.constants v.share.terms x l) (equation l (nonlinear_of v.share.loads x))
-      (plus_positive (sum_of (constant_given l) v.share.constants) (row_sum l v.share.terms x) constants terms) (loads_positive x l h)
+      let constants = sum_of-pos (constant_given l) v.stamp.constants (constant_positive l) in
+      let terms = sum_positive {P = IsLinear v.size} (λ t. given l t x) v.stamp.terms net.terms.each (λ t g. term_positive l x t h (den_of v.size t g)) in
+      plus_positive (linear_of v.stamp.constants v.stamp.terms x l) (equation l (nonlinear_of v.stamp.loads x))
+      (plus_positive (sum_of (constant_given l) v.stamp.constants) (row_sum l v.stamp.terms x) constants terms) (loads_positive x l h)
 
   -- ---- mismatches
 
-  residual_held : (c : List ℤ) (l : ℕ) → Holds (residual_interval v.share c l) (residual_of v.share (whole_state c) l)
+  residual_held : (c : List ℤ) (l : ℕ) → Holds (residual_interval v.stamp c l) (residual_of v.stamp (whole_state c) l)
   residual_held c l =
-      let dens = All-weaker (IsLinear v.size) HasDen (den_of v.size) v.share.terms net.terms.each in
-      residual_holds v.share c l dens (each_positive (seen l) (nonlinear_of v.share.loads (whole_state c)) (loads_positive (whole_state c) l (omega arith)))
+      let dens = All-weaker (IsLinear v.size) HasDen (den_of v.size) v.stamp.terms net.terms.each in
+      residual_holds v.stamp c l dens (each_positive (seen l) (nonlinear_of v.stamp.loads (whole_state c)) (loads_positive (whole_state c) l (omega arith)))
 
   met_by : (row : Bounds) (f : Fraction) (o : Option ℤ) (e : ℕ) → Some o ≡ Some (greater_size row) → Holds row f
       → mismatch_size o ≤ e → e ≤ greatest_mismatch → SizeWithin f e
@@ -114,5 +114,5 @@ module _ (v : NetworkView) (net : IsNetwork v) where
 
   -- numbers that are at least the mismatches, and at most the greatest, are met
   pub centre_meets : (c : List ℤ) (l e : ℕ) → mismatch_at v c l ≤ e → e ≤ greatest_mismatch
-      → SizeWithin (residual_of v.share (whole_state c) l) e
-  centre_meets c l e least most = met_by (residual_interval v.share c l) (residual_of v.share (whole_state c) l) (greater_size (residual_interval v.share c l)) e refl (residual_held c l) least most
+      → SizeWithin (residual_of v.stamp (whole_state c) l) e
+  centre_meets c l e least most = met_by (residual_interval v.stamp c l) (residual_of v.stamp (whole_state c) l) (greater_size (residual_interval v.stamp c l)) e refl (residual_held c l) least most

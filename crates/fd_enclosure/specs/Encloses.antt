@@ -22,7 +22,7 @@ use Rattle.fd_enclosure.specs.Sound.{Claim, IsInverse, IsSound, certificate_of, 
 pub record IsAlternative (v : NetworkView) (c : List ℤ) (e : List ℕ) (x : State) : Type 0 where
   pub over : 0 < x.over
   pub inside : IsInTrustBox v c x
-  pub meets : Meets (residual_of v.share) (number_at e) v.size x
+  pub meets : Meets (residual_of v.stamp) (number_at e) v.size x
 
 -- each unknown of it is within its radius of the centre
 abbrev pub IsWithinRadii : NetworkView → List ℤ → List ℕ → State → Type 0
@@ -34,7 +34,8 @@ Encloses v c r e = (x : State) → IsAlternative v c e x → IsWithinRadii v c r
 
 -- the same of states that need not be in the box
 abbrev pub EnclosesAll : NetworkView → List ℤ → List ℕ → List ℕ → Type 0
-EnclosesAll v c r e = (x : State) → 0 < x.over → Meets (residual_of v.share) (number_at e) v.size x → IsWithinRadii v c r x
+EnclosesAll v c r e =
+    (x : State) → 0 < x.over → Meets (residual_of v.stamp) (number_at e) v.size x → IsWithinRadii v c r x
 
 -- a part load of constant impedance, whose current is linear
 abbrev pub IsImpedance : LoadAt → Type 0
@@ -45,14 +46,14 @@ IsImpedance u = IsTrue (is_linear u.load.model)
 -- the change of a row from the centre to a state in the box is what the Jacobian at the centre says, up to the radii of the slopes
 abbrev pub ChangeLaw : Type 0
 ChangeLaw = (v : NetworkView) (c : List ℤ) (x : State) (l : ℕ) → IsNetwork v → length c ≡ v.size → 0 < x.over → IsInTrustBox v c x → l < v.size →
-    Near (minus (residual_of v.share x l) (residual_of v.share (whole_state c) l))
+    Near (minus (residual_of v.stamp x l) (residual_of v.stamp (whole_state c) l))
     (sum_z (λ j. jacobian_entry v c l j *ℤ away c x j) v.size)
     (sum_n (λ j. slope_radius v c l j * nat_abs (away c x j)) v.size)
     (x.over * 2 ^ 40)
 
 -- the centre of a sound claim meets the mismatches, and every state in its box that meets them is within the radii
 pub record IsEnclosure (v : NetworkView) (m : Claim) : Type 0 where
-  pub meets : Meets (residual_of v.share) (number_at m.mismatches) v.size (whole_state m.centre)
+  pub meets : Meets (residual_of v.stamp) (number_at m.mismatches) v.size (whole_state m.centre)
   pub encloses : Encloses v m.centre m.radii m.mismatches
 
 abbrev pub EnclosureLaw : Type 0
@@ -64,4 +65,6 @@ CertificateLaw = (v : NetworkView) (x : List ℤ) (c : List (List ℤ)) (m : Cla
 
 -- where each part load is of constant impedance the rows are linear, and every state that meets the mismatches is within the radii
 abbrev pub LinearLaw : Type 0
-LinearLaw = (v : NetworkView) (m : Claim) → IsNetwork v → All IsImpedance v.share.loads → IsSound v m → EnclosesAll v m.centre m.radii m.mismatches
+LinearLaw =
+    (v : NetworkView) (m : Claim) → IsNetwork v → All IsImpedance v.stamp.loads → IsSound v m
+    → EnclosesAll v m.centre m.radii m.mismatches

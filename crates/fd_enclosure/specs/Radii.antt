@@ -43,4 +43,5 @@ load_radius u r row col = cond (is_linear u.load.model) 0 (spread row u (radius_
 -- The radius at a place of row and column, in units of 2^-40: those of the slopes of part loads in the box around c, and 4 units for each
 -- summand of the Jacobian there, which covers its rounding.
 unfoldable pub slope_radius : NetworkView → List ℤ → ℕ → ℕ → ℕ
-slope_radius v c row col = list_n (λ u. load_radius u (radii_in (half_width v c) c u) row col) v.share.loads + 4 * jacobian_count v row col
+slope_radius v c row col =
+    list_n (λ u. load_radius u (radii_in (half_width v c) c u) row col) v.stamp.loads + 4 * jacobian_count v row col

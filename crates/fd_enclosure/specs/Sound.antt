@@ -26,7 +26,7 @@ mismatch_size (Some m) = nat_abs m
 -- the mismatch of a row at a state: the greater size of the ends of its residual in intervals. At a point of a network that interval
 -- has ends in every row
 abbrev pub mismatch_at : NetworkView → List ℤ → ℕ → ℕ
-mismatch_at v x l = mismatch_size (mismatch_of v.share x l)
+mismatch_at v x l = mismatch_size (mismatch_of v.stamp x l)
 
 unfoldable pub mismatches_of : NetworkView → List ℤ → List ℕ
 mismatches_of v x = list_of v.size (mismatch_at v x)

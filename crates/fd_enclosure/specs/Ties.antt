@@ -17,7 +17,7 @@ IsTied f n e = e * f.over ≤ nat_abs f.top + (4 * n + 4) * f.over
 -- the mismatch of each row is so
 abbrev pub TieLaw : Type 0
 TieLaw = (v : NetworkView) (x : List ℤ) (l : ℕ) → IsNetwork v → IsPoint v x → l < v.size →
-    IsTied (residual_of v.share (whole_state x) l) (addend_count v.share l) (mismatch_at v x l)
+    IsTied (residual_of v.stamp (whole_state x) l) (addend_count v.stamp l) (mismatch_at v x l)
 
 -- both parts of a complex unknown have one radius, and one box
 pub record HasOneBall (v : NetworkView) (x : List ℤ) (c : List (List ℤ)) (e : List ℕ) (k : ℕ) : Type 0 where

@@ -1,10 +1,11 @@
 -- Cells in which contributions are exchanged for others.
-use Rattle.std.proofs.Common.{◌≡◌, ◌∙◌, ℕ, ◌+◌, ◌*◌, ◌<◌, ◌≤◌, ◌^◌, ℤ, pos, ◌+ℤ◌, nat_abs, Bool, true, false, cond, eqb, List, length, take, drop, set, get_or, arith, ap, sym, refl, subst, inl, inr}
+use Rattle.std.proofs.Common.{◌≡◌, ◌∙◌, ℕ, ◌+◌, ◌*◌, ◌<◌, ◌≤◌, ◌^◌, ℤ, pos, ◌+ℤ◌, nat_abs, Bool, true, false, cond, List, length, take, drop, set, get_or, arith, ap, sym, refl, subst, inl, inr}
 use Rattle.std.proofs.lemmas.Int.{ints}
 use Rattle.std.proofs.lemmas.Bool.{cases_eq}
 use Rattle.std.proofs.lemmas.List.{get_or-set_same, get_or-set_other, length-take, take-append-drop}
 use Rattle.std.proofs.lemmas.List.Elements.{All-take}
 use Rattle.fd_arith.specs.declared.terms.Term.{Term}
+use Rattle.fd_arith.specs.LoadModels.{is_linear}
 use Rattle.fd_exact.specs.SumLaws.{list_n-append}
 use Rattle.fd_system.specs.declared.loads.LoadAt.{LoadAt}
 use Rattle.fd_equations.specs.declared.cells.Cell.{Cell}
@@ -153,7 +154,7 @@ rows_counts ps cells ts us are j l =
 slope_same : (row col : ℕ) (u v : LoadAt) → u.load.model ≡ v.load.model → u.first ≡ v.first → u.second ≡ v.second → u.magnitude ≡ v.magnitude → slope_count row col u ≡ slope_count row col v
 unfolding slope_count count_terminal
 slope_same row col u v model first second magnitude = λ i.
-    cond (eqb (model i) 2) 0 (((count_node row (first i) + count_node row (second i)) + count_magnitude row (magnitude i)) * ((count_node col (first i) + count_node col (second i)) + count_magnitude col (magnitude i)))
+    cond (is_linear (model i)) 0 (((count_node row (first i) + count_node row (second i)) + count_magnitude row (magnitude i)) * ((count_node col (first i) + count_node col (second i)) + count_magnitude col (magnitude i)))
 
 pub alike_more : (us vs : List LoadAt) (k : ℕ) → k < length us → k < length vs → ((row col : ℕ) → slope_counts (take k us) row col ≡ slope_counts (take k vs) row col)
     → (get_or us k no_load).load.model ≡ (get_or vs k no_load).load.model → (get_or us k no_load).first ≡ (get_or vs k no_load).first

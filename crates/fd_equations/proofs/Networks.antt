@@ -58,51 +58,51 @@ complexes_inside : (v : NetworkView) → IsNetwork v → 2 * v.complexes ≤ v.s
 complexes_inside v n = let u = n.unknowns in omega arith
 
 module _ (v : NetworkView) (x : List ℤ) (n : IsNetwork v) (p : IsPoint v x) where
-  pub loads_inside : All (IsConnected (length x)) v.share.loads
-  loads_inside = subst (λ k. All (IsConnected k) v.share.loads) (sym p.long) (all_connected v.nodes v.complexes v.size v.share.loads n.nodes (complexes_inside v n) n.small n.loads)
+  pub loads_inside : All (IsConnected (length x)) v.stamp.loads
+  loads_inside = subst (λ k. All (IsConnected k) v.stamp.loads) (sym p.long) (all_connected v.nodes v.complexes v.size v.stamp.loads n.nodes (complexes_inside v n) n.small n.loads)
 
   -- the linear rows, with what the part loads add
-  pub rows_done : (linear rows : List Bounds) → linear ≡ list_of v.size (linear_interval v.share.constants v.share.terms x) → length rows ≡ length linear
-      → ((l : ℕ) → l < length linear → get_or rows l None ≡ fold (with_part l) (get_or linear l None) (nonlinear_of v.share.loads (whole_state x))) → rows ≡ interval_residual_of v x
+  pub rows_done : (linear rows : List Bounds) → linear ≡ list_of v.size (linear_interval v.stamp.constants v.stamp.terms x) → length rows ≡ length linear
+      → ((l : ℕ) → l < length linear → get_or rows l None ≡ fold (with_part l) (get_or linear l None) (nonlinear_of v.stamp.loads (whole_state x))) → rows ≡ interval_residual_of v x
   rows_done linear rows e long grown =
-      let size = ap length e ∙ length-list_of v.size (linear_interval v.share.constants v.share.terms x) in
-      list_of-ext rows v.size (residual_interval v.share x) None (long ∙ size) (λ l h.
+      let size = ap length e ∙ length-list_of v.size (linear_interval v.stamp.constants v.stamp.terms x) in
+      list_of-ext rows v.size (residual_interval v.stamp x) None (long ∙ size) (λ l h.
       grown l (subst (λ k. l < k) (sym size) h)
-      ∙ ap (λ a. fold (with_part l) a (nonlinear_of v.share.loads (whole_state x))) (ap (λ rs. get_or rs l None) e ∙ get_or-list_of v.size (linear_interval v.share.constants v.share.terms x) l None h))
+      ∙ ap (λ a. fold (with_part l) a (nonlinear_of v.stamp.loads (whole_state x))) (ap (λ rs. get_or rs l None) e ∙ get_or-list_of v.size (linear_interval v.stamp.constants v.stamp.terms x) l None h))
 
-  pub row_holds : (rows : List Bounds) → rows ≡ interval_residual_of v x → (l : ℕ) → l < v.size → Holds (get_or rows l None) (residual_of v.share (whole_state x) l)
+  pub row_holds : (rows : List Bounds) → rows ≡ interval_residual_of v x → (l : ℕ) → l < v.size → Holds (get_or rows l None) (residual_of v.stamp (whole_state x) l)
   row_holds rows e l h =
-      let dens = All-weaker (IsLinear v.size) HasDen (den_positive v.size) v.share.terms n.terms.each in
-      let parts = loads_positive l v.share.loads x loads_inside in
-      let is = ap (λ rs. get_or rs l None) e ∙ get_or-list_of v.size (residual_interval v.share x) l None h in
-      subst (λ a. Holds a (residual_of v.share (whole_state x) l)) (sym is) (residual_holds v.share x l dens parts)
+      let dens = All-weaker (IsLinear v.size) HasDen (den_positive v.size) v.stamp.terms n.terms.each in
+      let parts = loads_positive l v.stamp.loads x loads_inside in
+      let is = ap (λ rs. get_or rs l None) e ∙ get_or-list_of v.size (residual_interval v.stamp x) l None h in
+      subst (λ a. Holds a (residual_of v.stamp (whole_state x) l)) (sym is) (residual_holds v.stamp x l dens parts)
 
-  row_narrow : (l : ℕ) → Narrow (residual_interval v.share x l) (2 * summand_count v.share l) (2 ^ 100)
+  row_narrow : (l : ℕ) → Narrow (residual_interval v.stamp x l) (2 * summand_count v.stamp l) (2 ^ 100)
   row_narrow l =
-      let linear = narrow_row v.size l x v.share.constants v.share.terms p.long p.parts n.constants n.few_constants n.terms.each n.terms.few in
+      let linear = narrow_row v.size l x v.stamp.constants v.stamp.terms p.long p.parts n.constants n.few_constants n.terms.each n.terms.few in
       let few = n.few_loads in
-      let all = narrow_loads l (linear_interval v.share.constants v.share.terms x l) v.share.loads x (2 * row_count v.share.terms l) (2 ^ 85) p.parts loads_inside (omega arith) linear in
-      wider (residual_interval v.share x l) (2 * row_count v.share.terms l + current_counts v.share.loads l) (2 * (row_count v.share.terms l + current_counts v.share.loads l)) (2 ^ 85 + length v.share.loads * (3 * 2 ^ 63)) (2 ^ 100) (omega arith) (omega arith) all
+      let all = narrow_loads l (linear_interval v.stamp.constants v.stamp.terms x l) v.stamp.loads x (2 * row_count v.stamp.terms l) (2 ^ 85) p.parts loads_inside (omega arith) linear in
+      wider (residual_interval v.stamp x l) (2 * row_count v.stamp.terms l + current_counts v.stamp.loads l) (2 * (row_count v.stamp.terms l + current_counts v.stamp.loads l)) (2 ^ 85 + length v.stamp.loads * (3 * 2 ^ 63)) (2 ^ 100) (omega arith) (omega arith) all
 
-  pub row_near : (rows : List Bounds) → rows ≡ interval_residual_of v x → (l : ℕ) → l < v.size → EndsWithin (get_or rows l None) (residual_of v.share (whole_state x) l) (2 * summand_count v.share l)
+  pub row_near : (rows : List Bounds) → rows ≡ interval_residual_of v x → (l : ℕ) → l < v.size → EndsWithin (get_or rows l None) (residual_of v.stamp (whole_state x) l) (2 * summand_count v.stamp l)
   row_near rows e l h =
-      let is = ap (λ rs. get_or rs l None) e ∙ get_or-list_of v.size (residual_interval v.share x) l None h in
-      let holds = subst (λ a. Holds a (residual_of v.share (whole_state x) l)) is (row_holds rows e l h) in
-      subst (λ a. EndsWithin a (residual_of v.share (whole_state x) l) (2 * summand_count v.share l)) (sym is) (ends_within (residual_interval v.share x l) (2 * summand_count v.share l) (2 ^ 100) (residual_of v.share (whole_state x) l) (row_narrow l) holds)
+      let is = ap (λ rs. get_or rs l None) e ∙ get_or-list_of v.size (residual_interval v.stamp x) l None h in
+      let holds = subst (λ a. Holds a (residual_of v.stamp (whole_state x) l)) is (row_holds rows e l h) in
+      subst (λ a. EndsWithin a (residual_of v.stamp (whole_state x) l) (2 * summand_count v.stamp l)) (sym is) (ends_within (residual_interval v.stamp x l) (2 * summand_count v.stamp l) (2 ^ 100) (residual_of v.stamp (whole_state x) l) (row_narrow l) holds)
 
   -- the same by contributions and load currents alone: at most one magnitude row stands in a row
-  pub row_tie : (rows : List Bounds) → rows ≡ interval_residual_of v x → (l : ℕ) → l < v.size → EndsWithin (get_or rows l None) (residual_of v.share (whole_state x) l) (4 * addend_count v.share l + 4)
+  pub row_tie : (rows : List Bounds) → rows ≡ interval_residual_of v x → (l : ℕ) → l < v.size → EndsWithin (get_or rows l None) (residual_of v.stamp (whole_state x) l) (4 * addend_count v.stamp l + 4)
   row_tie rows e l h =
-      let is = ap (λ rs. get_or rs l None) e ∙ get_or-list_of v.size (residual_interval v.share x) l None h in
-      let holds = subst (λ a. Holds a (residual_of v.share (whole_state x) l)) is (row_holds rows e l h) in
-      let narrow = wider (residual_interval v.share x l) (2 * summand_count v.share l) (4 * addend_count v.share l + 4) (2 ^ 100) (2 ^ 100) (omega (arith, with_magnitudes l v.share.loads, n.apart l)) (lit≤ tt) (row_narrow l) in
-      subst (λ a. EndsWithin a (residual_of v.share (whole_state x) l) (4 * addend_count v.share l + 4)) (sym is) (ends_within (residual_interval v.share x l) (4 * addend_count v.share l + 4) (2 ^ 100) (residual_of v.share (whole_state x) l) narrow holds)
+      let is = ap (λ rs. get_or rs l None) e ∙ get_or-list_of v.size (residual_interval v.stamp x) l None h in
+      let holds = subst (λ a. Holds a (residual_of v.stamp (whole_state x) l)) is (row_holds rows e l h) in
+      let narrow = wider (residual_interval v.stamp x l) (2 * summand_count v.stamp l) (4 * addend_count v.stamp l + 4) (2 ^ 100) (2 ^ 100) (omega (arith, with_magnitudes l v.stamp.loads, n.apart l)) (lit≤ tt) (row_narrow l) in
+      subst (λ a. EndsWithin a (residual_of v.stamp (whole_state x) l) (4 * addend_count v.stamp l + 4)) (sym is) (ends_within (residual_interval v.stamp x l) (4 * addend_count v.stamp l + 4) (2 ^ 100) (residual_of v.stamp (whole_state x) l) narrow holds)
 
-  pub constants_inside : All (IsConstant (length x)) v.share.constants
-  constants_inside = All-weaker (IsKnown v.size) (IsConstant (length x)) (λ c h. subst (λ k. c.row < k) (sym p.long) h.row) v.share.constants n.constants
+  pub constants_inside : All (IsConstant (length x)) v.stamp.constants
+  constants_inside = All-weaker (IsKnown v.size) (IsConstant (length x)) (λ c h. subst (λ k. c.row < k) (sym p.long) h.row) v.stamp.constants n.constants
 
-  pub terms_inside : All (IsTerm (length x)) v.share.terms
-  terms_inside = All-weaker (IsLinear v.size) (IsTerm (length x)) (λ t h. subst (λ k. IsTerm k t) (sym p.long) h.term) v.share.terms n.terms.each
+  pub terms_inside : All (IsTerm (length x)) v.stamp.terms
+  terms_inside = All-weaker (IsLinear v.size) (IsTerm (length x)) (λ t h. subst (λ k. IsTerm k t) (sym p.long) h.term) v.stamp.terms n.terms.each
 
 -- ---- sums of constants
 
@@ -118,7 +118,7 @@ sum_size size (c ∷ cs) row h = by_test (eqb c.row row) (sum_size size cs row (
     by_test false e w = omega (arith, ints)
 
 pub constants_small : (v : NetworkView) → IsNetwork v → (rows : List ℤ) → rows ≡ constants_of v → AreKnown rows
-constants_small v n rows e = λ row. subst (λ rs. nat_abs (part rs row) ≤ 2 ^ 84) (sym e) (part-list_of-small v.size (constant_sum v.share.constants) (2 ^ 84) (λ i l. let s = sum_size v.size v.share.constants i n.constants in let few = n.few_constants in omega arith) row)
+constants_small v n rows e = λ row. subst (λ rs. nat_abs (part rs row) ≤ 2 ^ 84) (sym e) (part-list_of-small v.size (constant_sum v.stamp.constants) (2 ^ 84) (λ i l. let s = sum_size v.size v.stamp.constants i n.constants in let few = n.few_constants in omega arith) row)
 
 -- ---- products
 
@@ -132,34 +132,34 @@ row_size at x row n few long parts small =
 
 -- a row of the rounded residual without the part loads
 abbrev linear_row : NetworkView → List ℤ → ℕ → ℤ
-linear_row v x row = constant_sum v.share.constants row +ℤ sum_z (entry_product (linear_entry v.share.terms) x row) v.size
+linear_row v x row = constant_sum v.stamp.constants row +ℤ sum_z (entry_product (linear_entry v.stamp.terms) x row) v.size
 
-pub linear_is : (v : NetworkView) (x rows : List ℤ) → rows ≡ constants_of v → products_added v.size (linear_entry v.share.terms) rows x ≡ linear_residual_of v x
-linear_is v x rows e = list_of-ext (products_added v.size (linear_entry v.share.terms) rows x) v.size (linear_row v x) (pos 0) (length-list_of v.size _) (λ i l.
-    get_or-list_of v.size (λ row. part rows row +ℤ sum_z (entry_product (linear_entry v.share.terms) x row) v.size) i (pos 0) l
-    ∙ ap (λ z. z +ℤ sum_z (entry_product (linear_entry v.share.terms) x i) v.size) (ap (λ rs. part rs i) e ∙ get_or-list_of v.size (constant_sum v.share.constants) i (pos 0) l))
+pub linear_is : (v : NetworkView) (x rows : List ℤ) → rows ≡ constants_of v → products_added v.size (linear_entry v.stamp.terms) rows x ≡ linear_residual_of v x
+linear_is v x rows e = list_of-ext (products_added v.size (linear_entry v.stamp.terms) rows x) v.size (linear_row v x) (pos 0) (length-list_of v.size _) (λ i l.
+    get_or-list_of v.size (λ row. part rows row +ℤ sum_z (entry_product (linear_entry v.stamp.terms) x row) v.size) i (pos 0) l
+    ∙ ap (λ z. z +ℤ sum_z (entry_product (linear_entry v.stamp.terms) x i) v.size) (ap (λ rs. part rs i) e ∙ get_or-list_of v.size (constant_sum v.stamp.constants) i (pos 0) l))
 
 pub linear_small : (v : NetworkView) (x rows : List ℤ) → IsNetwork v → IsPoint v x → rows ≡ linear_residual_of v x → (l : ℕ) → nat_abs (part rows l) ≤ 2 ^ 85
 linear_small v x rows n p e = λ row. subst (λ rs. nat_abs (part rs row) ≤ 2 ^ 85) (sym e) (part-list_of-small v.size (linear_row v x) (2 ^ 85) (λ i l.
-    let s = sum_size v.size v.share.constants i n.constants in
+    let s = sum_size v.size v.stamp.constants i n.constants in
     let few = n.few_constants in
-    let r = row_size (linear_entry v.share.terms) x i v.size n.small p.long p.parts n.entries in
-    both_small (constant_sum v.share.constants i) (sum_z (entry_product (linear_entry v.share.terms) x i) v.size) (length v.share.constants) s few r) row)
+    let r = row_size (linear_entry v.stamp.terms) x i v.size n.small p.long p.parts n.entries in
+    both_small (constant_sum v.stamp.constants i) (sum_z (entry_product (linear_entry v.stamp.terms) x i) v.size) (length v.stamp.constants) s few r) row)
   where
     both_small : (a b : ℤ) (k : ℕ) → nat_abs a ≤ k * 2 ^ 60 → k < 2 ^ 24 → nat_abs b ≤ 2 ^ 65 → nat_abs (a +ℤ b) ≤ 2 ^ 85
     both_small a b k h few j = omega (arith, ints)
 
 -- the rounded residual: the linear rows, with what the part loads add
-module _ (v : NetworkView) (x linear rows : List ℤ) (e : linear ≡ linear_residual_of v x) (grown : (l : ℕ) → part rows l ≡ part linear l +ℤ loads_row v.share.loads x l) where
+module _ (v : NetworkView) (x linear rows : List ℤ) (e : linear ≡ linear_residual_of v x) (grown : (l : ℕ) → part rows l ≡ part linear l +ℤ loads_row v.stamp.loads x l) where
   pub rounded_is : length rows ≡ length linear → rows ≡ rounded_residual_of v x
   rounded_is long = list_of-ext rows v.size (rounded_row v x) (pos 0) (long ∙ ap length e ∙ length-list_of v.size (linear_row v x)) (λ l h.
-      grown l ∙ ap (λ z. z +ℤ loads_row v.share.loads x l) (ap (λ rs. part rs l) e ∙ get_or-list_of v.size (linear_row v x) l (pos 0) h))
+      grown l ∙ ap (λ z. z +ℤ loads_row v.stamp.loads x l) (ap (λ rs. part rs l) e ∙ get_or-list_of v.size (linear_row v x) l (pos 0) h))
 
   pub rounded_small : IsNetwork v → IsPoint v x → ((l : ℕ) → nat_abs (part linear l) ≤ 2 ^ 85) → (l : ℕ) → nat_abs (part rows l) ≤ 2 ^ 86
   rounded_small n p small l =
       let few = n.few_loads in
-      let all = rows_small x l v.share.loads p.parts (loads_inside v x n p) in
-      rw (grown l) (sum (part linear l) (loads_row v.share.loads x l) (small l) (omega arith))
+      let all = rows_small x l v.stamp.loads p.parts (loads_inside v x n p) in
+      rw (grown l) (sum (part linear l) (loads_row v.stamp.loads x l) (small l) (omega arith))
     where
       sum : (a b : ℤ) → nat_abs a ≤ 2 ^ 85 → nat_abs b ≤ 2 ^ 85 → nat_abs (a +ℤ b) ≤ 2 ^ 86
       sum a b h k = omega (arith, ints)
@@ -167,11 +167,11 @@ module _ (v : NetworkView) (x linear rows : List ℤ) (e : linear ≡ linear_res
 -- ---- matrices
 
 -- how many summands of the Jacobian stand at a place
-pub counts_small : (v : NetworkView) (row col : ℕ) → IsNetwork v → count_at v.share.terms row col + slope_counts v.share.loads row col ≤ 2 ^ 27
+pub counts_small : (v : NetworkView) (row col : ℕ) → IsNetwork v → count_at v.stamp.terms row col + slope_counts v.stamp.loads row col ≤ 2 ^ 27
 counts_small v row col n =
     let few = n.terms.few in
     let loads = n.few_loads in
-    omega (arith, count_size v.share.terms row col, slopes_few v.share.loads row col)
+    omega (arith, count_size v.stamp.terms row col, slopes_few v.stamp.loads row col)
 
 -- ---- weights
 
@@ -198,7 +198,7 @@ weight_range Magnitude draw x place d h = one_in (nat_abs (part x place)) (part_
 pub weights_range : (v : NetworkView) (x ws : List ℤ) → IsNetwork v → IsPoint v x → ws ≡ weights_of v x → (l : ℕ) → l < v.size → (pos (10 ^ 6) ≤ℤ part ws l) × (part ws l ≤ℤ pos (2 ^ 66))
 weights_range v x ws n p e l h =
     let is = ap (λ xs. part xs l) e ∙ get_or-list_of v.size (λ place. pos (weight_at v x place)) l (pos 0) h in
-    let r = weight_range (kind_of v l) v.draw x l n.draw p.parts in
+    let r = weight_range (kind_of v l) v.stamp.draw x l n.draw p.parts in
     (subst (λ z. pos (10 ^ 6) ≤ℤ z) (sym is) (raised (10 ^ 6) (weight_at v x l) r.0), subst (λ z. z ≤ℤ pos (2 ^ 66)) (sym is) (raised (weight_at v x l) (2 ^ 66) r.1))
   where
     raised : (a b : ℕ) → a ≤ b → pos a ≤ℤ pos b

@@ -65,15 +65,15 @@ pub record IsNetwork (v : NetworkView) : Type 0 where
   -- the nodes are complex unknowns, and the magnitudes stand behind these
   pub nodes : v.nodes ≤ v.complexes
   pub unknowns : v.size ≡ 2 * v.complexes + v.magnitudes
-  pub terms : AreLinear v.size v.share.terms
+  pub terms : AreLinear v.size v.stamp.terms
   -- the sum at each place is at most 2^54 in units of 2^-40
-  pub entries : (row col : ℕ) → AreSmall (linear_entry v.share.terms row col)
-  pub constants : All (IsKnown v.size) v.share.constants
-  pub few_constants : length v.share.constants < 2 ^ 24
-  pub loads : All (IsServed v.nodes v.complexes v.size) v.share.loads
-  pub few_loads : length v.share.loads < 2 ^ 21
-  pub apart : AreApart v.share.loads
-  pub draw : 16 * v.draw + 10 ^ 6 ≤ 2 ^ 65
+  pub entries : (row col : ℕ) → AreSmall (linear_entry v.stamp.terms row col)
+  pub constants : All (IsKnown v.size) v.stamp.constants
+  pub few_constants : length v.stamp.constants < 2 ^ 24
+  pub loads : All (IsServed v.nodes v.complexes v.size) v.stamp.loads
+  pub few_loads : length v.stamp.loads < 2 ^ 21
+  pub apart : AreApart v.stamp.loads
+  pub draw : 16 * v.stamp.draw + 10 ^ 6 ≤ 2 ^ 65
 
 -- a part of a point is at most 2^40 in size
 abbrev pub IsPart : ℤ → Type 0

@@ -6,7 +6,7 @@ use Rattle.fd_arith.specs.declared.terms.NodeAt.{NodeAt}
 use Rattle.fd_arith.specs.declared.terms.NodeAt.TheVariants.{Ground, Node}
 use Rattle.fd_load.specs.Current.{divisor, excess, in_phase, quadrature}
 use Rattle.fd_system.specs.declared.loads.LoadAt.{LoadAt}
-use Rattle.fd_system.specs.System.{Share}
+use Rattle.fd_system.specs.System.{StampView}
 use Rattle.fd_system.specs.Residual.{residual_interval}
 use Rattle.fd_equations.specs.Views.{NetworkView}
 use Rattle.fd_equations.specs.Coefficients.{row_count}
@@ -15,7 +15,7 @@ use Rattle.fd_equations.specs.Rounded.{list_of}
 
 -- the interval residual of each row at the point x
 abbrev pub interval_residual_of : NetworkView → List ℤ → List Bounds
-interval_residual_of v x = list_of v.size (residual_interval v.share x)
+interval_residual_of v x = list_of v.size (residual_interval v.stamp x)
 
 -- ---- what a part load adds to the interval a of row l
 
@@ -40,11 +40,11 @@ with_drawn l a u p q m =
 -- ---- how narrow it is
 
 -- the contributions, load currents and magnitude rows in row l
-abbrev pub summand_count : Share → ℕ → ℕ
+abbrev pub summand_count : StampView → ℕ → ℕ
 summand_count s l = row_count s.terms l + current_counts s.loads l
 
 -- the contributions and load currents in row l
-abbrev pub addend_count : Share → ℕ → ℕ
+abbrev pub addend_count : StampView → ℕ → ℕ
 addend_count s l = row_count s.terms l + load_current_counts s.loads l
 
 -- both ends are at most the size of f and n more

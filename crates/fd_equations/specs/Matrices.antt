@@ -26,4 +26,5 @@ pub record IsMatrix (n : ℕ) (m : MatrixView) (at : ℕ × ℕ → Amount) : Ty
 
 -- the Jacobian of a network at the point x: its entry, the contributions and the slopes of part loads in it
 abbrev pub jacobian_amount : NetworkView → List ℤ → ℕ × ℕ → Amount
-jacobian_amount v x p = amount (jacobian_entry v x p.0 p.1) (count_at v.share.terms p.0 p.1) (slope_counts v.share.loads p.0 p.1)
+jacobian_amount v x p =
+    amount (jacobian_entry v x p.0 p.1) (count_at v.stamp.terms p.0 p.1) (slope_counts v.stamp.loads p.0 p.1)

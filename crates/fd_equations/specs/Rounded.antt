@@ -32,29 +32,33 @@ products_added size at rows x = list_of size (λ row. part rows row +ℤ sum_z (
 -- a row of the rounded residual: its constants, the products of the row's entries, and what the part loads of constant power and of
 -- constant current add, each to the nearest
 abbrev pub rounded_row : NetworkView → List ℤ → ℕ → ℤ
-rounded_row v x row = (constant_sum v.share.constants row +ℤ sum_z (entry_product (linear_entry v.share.terms) x row) v.size) +ℤ loads_row v.share.loads x row
+rounded_row v x row =
+    (constant_sum v.stamp.constants row +ℤ sum_z (entry_product (linear_entry v.stamp.terms) x row) v.size)
+    +ℤ loads_row v.stamp.loads x row
 
 -- the sums of the constants, which are the rounded residual at 0
 abbrev pub constants_of : NetworkView → List ℤ
-constants_of v = list_of v.size (constant_sum v.share.constants)
+constants_of v = list_of v.size (constant_sum v.stamp.constants)
 
 -- the same without the part loads
 abbrev pub linear_residual_of : NetworkView → List ℤ → List ℤ
-linear_residual_of v x = list_of v.size (λ row. constant_sum v.share.constants row +ℤ sum_z (entry_product (linear_entry v.share.terms) x row) v.size)
+linear_residual_of v x =
+    list_of v.size
+    (λ row. constant_sum v.stamp.constants row +ℤ sum_z (entry_product (linear_entry v.stamp.terms) x row) v.size)
 
 abbrev pub rounded_residual_of : NetworkView → List ℤ → List ℤ
 rounded_residual_of v x = list_of v.size (rounded_row v x)
 
 -- an entry of the matrix of the first inverse: the linear rows, and part loads with their slopes at the start
 abbrev pub start_entry : NetworkView → ℕ → ℕ → ℤ
-start_entry v row col = linear_entry v.share.terms row col +ℤ start_sum v.share.loads row col
+start_entry v row col = linear_entry v.stamp.terms row col +ℤ start_sum v.stamp.loads row col
 
 abbrev pub start_matrix_of : NetworkView → List (List ℤ)
 start_matrix_of v = table v.size v.size (start_entry v)
 
 -- an entry of the rounded Jacobian at x: the linear rows, and part loads with their slopes at x
 abbrev pub jacobian_entry : NetworkView → List ℤ → ℕ → ℕ → ℤ
-jacobian_entry v x row col = linear_entry v.share.terms row col +ℤ slope_sum v.share.loads x row col
+jacobian_entry v x row col = linear_entry v.stamp.terms row col +ℤ slope_sum v.stamp.loads x row col
 
 abbrev pub jacobian_of : NetworkView → List ℤ → List (List ℤ)
 jacobian_of v x = table v.size v.size (jacobian_entry v x)
@@ -62,4 +66,4 @@ jacobian_of v x = table v.size v.size (jacobian_entry v x)
 -- how many summands of the Jacobian stand in a row and a column: contributions, and slopes of part loads of constant power and of constant
 -- current
 abbrev pub jacobian_count : NetworkView → ℕ → ℕ → ℕ
-jacobian_count v row col = count_at v.share.terms row col + slope_counts v.share.loads row col
+jacobian_count v row col = count_at v.stamp.terms row col + slope_counts v.stamp.loads row col

@@ -3,34 +3,32 @@ use Rattle.std.specs.Prelude.{ℕ, ◌+◌, ◌*◌, nat_lt, if◌then◌else◌
 use Rattle.fd_arith.specs.declared.terms.Term.{Term}
 use Rattle.fd_system.specs.declared.constants.Constant.{Constant}
 use Rattle.fd_system.specs.declared.loads.LoadAt.{LoadAt}
-use Rattle.fd_system.specs.System.{Share}
+use Rattle.fd_system.specs.System.{StampView}
 use Rattle.fd_equations.specs.declared.layout.Layout.{Layout}
 use Rattle.fd_equations.specs.declared.layout.PlaceKind.{PlaceKind}
 use Rattle.fd_equations.specs.declared.layout.PlaceKind.TheVariants.{Node, Branch, Magnitude}
 
 -- `size` real unknowns: two parts for each of the complex ones, of which the first are nodes and the others branches, then the
--- magnitudes of part loads. `draw` is what load and capacitor phases draw at nominal voltage, in whole microamperes
+-- magnitudes of part loads; with the stamp of all elements
 pub record NetworkView : Type 0 where
   pub size : ℕ
   pub complexes : ℕ
   pub nodes : ℕ
   pub magnitudes : ℕ
-  pub share : Share
-  pub draw : ℕ
+  pub stamp : StampView
 
--- the share of these lists
-abbrev pub share_with : List Constant → List Term → List LoadAt → Share
-share_with cs ts us = record { constants = cs; terms = ts; loads = us }
+-- the stamp of these lists, and of what is drawn
+abbrev pub stamp_with : List Constant → List Term → List LoadAt → ℕ → StampView
+stamp_with cs ts us draw = record { constants = cs; terms = ts; loads = us; draw = draw }
 
 -- the network of a layout
-abbrev pub network_of : Layout → Share → ℕ → NetworkView
-network_of l s d = record {
+abbrev pub network_of : Layout → StampView → NetworkView
+network_of l s = record {
   size = 2 * (l.nodes + l.branches) + l.magnitudes;
   complexes = l.nodes + l.branches;
   nodes = l.nodes;
   magnitudes = l.magnitudes;
-  share = s;
-  draw = d;
+  stamp = s;
 }
 
 -- what the unknown at a place is, where branches begin at one place and magnitudes at another

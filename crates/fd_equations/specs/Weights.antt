@@ -18,7 +18,7 @@ weight_by Branch draw x place = 16 * draw + 10 ^ 6
 weight_by Magnitude draw x place = max (10 ^ 6) (nat_abs (part x place))
 
 abbrev pub weight_at : NetworkView → List ℤ → ℕ → ℕ
-weight_at v x place = weight_by (kind_of v place) v.draw x place
+weight_at v x place = weight_by (kind_of v place) v.stamp.draw x place
 
 abbrev pub weights_of : NetworkView → List ℤ → List ℤ
 weights_of v x = list_of v.size (λ place. pos (weight_at v x place))

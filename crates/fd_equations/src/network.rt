@@ -11,7 +11,7 @@ ghost use Rattle.fd_equations.specs.Conditions.{AreApart, IsKnown, IsNetwork, Is
 ghost use Rattle.fd_equations.specs.Enclosure.{EndsWithin, addend_count, interval_residual_of, summand_count};
 ghost use Rattle.fd_equations.specs.Matrices.{IsMatrix, jacobian_amount};
 ghost use Rattle.fd_equations.specs.Rounded.{constants_of, jacobian_count, jacobian_of, linear_residual_of, rounded_residual_of, start_matrix_of};
-ghost use Rattle.fd_equations.specs.Views.{kind_of, network_of, share_with};
+ghost use Rattle.fd_equations.specs.Views.{kind_of, network_of, stamp_with};
 ghost use Rattle.fd_equations.specs.Weights.{weights_of};
 
 use crate::constants::constant_sums;
@@ -40,13 +40,14 @@ pub struct Network<'a> {
 impl<'a> Model for Network<'a> {
     ghost use Rattle.std.specs.Prelude.{◌≡◌};
     ghost use Rattle.fd_equations.specs.Conditions.{IsNetwork};
-    ghost use Rattle.fd_equations.specs.Views.{NetworkView, network_of, share_with};
+    ghost use Rattle.fd_equations.specs.Views.{NetworkView, network_of, stamp_with};
 
     ghost Value = { NetworkView };
 
-    ghost view = { λ n. network_of n.layout (share_with n.constants.now n.rows.now.terms n.rows.now.loads) n.draw };
+    ghost view = { λ n. network_of n.layout (stamp_with n.constants.now n.rows.now.terms n.rows.now.loads n.draw) };
 
-    ghost invariant = { λ n. IsNetwork (network_of n.layout (share_with n.constants.now n.rows.now.terms n.rows.now.loads) n.draw) × (n.rows.now.size ≡ (network_of n.layout (share_with n.constants.now n.rows.now.terms n.rows.now.loads) n.draw).size) };
+    ghost invariant = { λ n. IsNetwork (network_of n.layout (stamp_with n.constants.now n.rows.now.terms n.rows.now.loads n.draw))
+        × (n.rows.now.size ≡ (network_of n.layout (stamp_with n.constants.now n.rows.now.terms n.rows.now.loads n.draw)).size) };
 }
 
 impl<'a> Network<'a> {
@@ -62,7 +63,7 @@ impl<'a> Network<'a> {
         requires loads { All (IsServed layout.nodes (layout.nodes + layout.branches) rows.now.size) rows.now.loads }
         requires apart { AreApart rows.now.loads }
         requires draw { 16 * draw + 10 ^ 6 ≤ 2 ^ 65 }
-        ensures { result ≡ network_of layout (share_with constants.now rows.now.terms rows.now.loads) draw }
+        ensures { result ≡ network_of layout (stamp_with constants.now rows.now.terms rows.now.loads draw) }
     {
         let _terms = rows.terms();
         let _loads = rows.loads();
@@ -101,14 +102,14 @@ impl<'a> Network<'a> {
 
     /// The contributions in order.
     pub fn terms(&self) -> &[Term]
-        ensures { result.now ≡ self.now.share.terms }
+        ensures { result.now ≡ self.now.stamp.terms }
     {
         self.rows.terms()
     }
 
     /// The part loads in order.
     pub fn loads(&self) -> &[LoadAt]
-        ensures { result.now ≡ self.now.share.loads }
+        ensures { result.now ≡ self.now.stamp.loads }
     {
         self.rows.loads()
     }
@@ -122,9 +123,14 @@ impl<'a> Network<'a> {
     pub fn residual(&self, alloc: Global, x: &[i128]) -> Result<Vec<Interval<Micro>>, AllocError>
         requires { IsPoint self.now x.now }
         ensures rows { IfOk result (λ rows. rows.items ≡ interval_residual_of self.now x.now) }
-        ensures holds { IfOk result (λ rows. (l : ℕ) → l < self.now.size → Holds (get_or rows.items l None) (residual_of self.now.share (whole_state x.now) l)) }
-        ensures near { IfOk result (λ rows. (l : ℕ) → l < self.now.size → EndsWithin (get_or rows.items l None) (residual_of self.now.share (whole_state x.now) l) (2 * summand_count self.now.share l)) }
-        ensures tie { IfOk result (λ rows. (l : ℕ) → l < self.now.size → EndsWithin (get_or rows.items l None) (residual_of self.now.share (whole_state x.now) l) (4 * addend_count self.now.share l + 4)) }
+        ensures holds { IfOk result (λ rows. (l : ℕ) → l < self.now.size
+            → Holds (get_or rows.items l None) (residual_of self.now.stamp (whole_state x.now) l)) }
+        ensures near { IfOk result (λ rows. (l : ℕ) → l < self.now.size
+            → EndsWithin (get_or rows.items l None) (residual_of self.now.stamp (whole_state x.now) l)
+            (2 * summand_count self.now.stamp l)) }
+        ensures tie { IfOk result (λ rows. (l : ℕ) → l < self.now.size
+            → EndsWithin (get_or rows.items l None) (residual_of self.now.stamp (whole_state x.now) l)
+            (4 * addend_count self.now.stamp l + 4)) }
     {
         let mut rows = linear_rows(alloc, self.constants, self.rows.terms(), x)?;
         add_load_intervals(&mut rows, self.rows.loads(), x);

@@ -121,9 +121,9 @@ module _ (v : NetworkView) where
   start_inside : (c : List (List ℤ)) → length c ≡ v.size
       → MatchResult (start_of v c) (λ x. length x ≡ v.size) (IsInside v.size)
   unfolding start_of
-  start_inside c long = then_match _ _ _ (update_for c 0 (constants_of v)) (λ x. in_range (2 ^ 40) 0 (fold with_nominal x v.share.loads))
+  start_inside c long = then_match _ _ _ (update_for c 0 (constants_of v)) (λ x. in_range (2 ^ 40) 0 (fold with_nominal x v.stamp.loads))
       (update_inside v.size c 0 (constants_of v) (constants_long v (constants_of v) refl))
-      (λ u l. range_inside (2 ^ 40) 0 v.size (fold with_nominal u v.share.loads) (length-started u v.share.loads ∙ l ∙ long))
+      (λ u l. range_inside (2 ^ 40) 0 v.size (fold with_nominal u v.stamp.loads) (length-started u v.stamp.loads ∙ l ∙ long))
 
   last_of_inside : (limits : Limits) → MatchResult (last_of v limits) (λ i. length i.1 ≡ v.size) (IsInside v.size)
   unfolding last_of

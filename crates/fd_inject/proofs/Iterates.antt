@@ -58,7 +58,7 @@ pub residual_long : (v : NetworkView) (x rs : List ℤ) → rs ≡ rounded_resid
 residual_long v x rs e = ap length e ∙ length-list_of v.size (rounded_row v x)
 
 pub constants_long : (v : NetworkView) (rs : List ℤ) → rs ≡ constants_of v → length rs ≡ v.size
-constants_long v rs e = ap length e ∙ length-list_of v.size (constant_sum v.share.constants)
+constants_long v rs e = ap length e ∙ length-list_of v.size (constant_sum v.stamp.constants)
 
 pub weights_long : (v : NetworkView) (x ws : List ℤ) → ws ≡ weights_of v x → length ws ≡ v.size
 weights_long v x ws e = ap length e ∙ length-list_of v.size (λ place. pos (weight_at v x place))
@@ -176,19 +176,19 @@ length-started x [] = refl
 length-started x (u ∷ us) = length-started (with_nominal x u) us ∙ length-nominal x u
 
 module _ (v : NetworkView) (c : List (List ℤ)) where
-  pub start_ok : (u x : List ℤ) → update_for c 0 (constants_of v) ≡ Ok u → x ≡ fold with_nominal u v.share.loads
+  pub start_ok : (u x : List ℤ) → update_for c 0 (constants_of v) ≡ Ok u → x ≡ fold with_nominal u v.stamp.loads
       → in_range (2 ^ 40) 0 x ≡ Ok x → start_of v c ≡ Ok x
   unfolding start_of
-  start_ok u x e is r = then_ok (update_for c 0 (constants_of v)) (λ x. in_range (2 ^ 40) 0 (fold with_nominal x v.share.loads)) u (Ok x) e (ap (in_range (2 ^ 40) 0) (sym is) ∙ r)
+  start_ok u x e is r = then_ok (update_for c 0 (constants_of v)) (λ x. in_range (2 ^ 40) 0 (fold with_nominal x v.stamp.loads)) u (Ok x) e (ap (in_range (2 ^ 40) 0) (sym is) ∙ r)
 
   pub start_past : (u x : List ℤ) (f : SolveFault) → update_for c 0 (constants_of v) ≡ Ok u
-      → x ≡ fold with_nominal u v.share.loads → in_range (2 ^ 40) 0 x ≡ Err f → start_of v c ≡ Err f
+      → x ≡ fold with_nominal u v.stamp.loads → in_range (2 ^ 40) 0 x ≡ Err f → start_of v c ≡ Err f
   unfolding start_of
-  start_past u x f e is r = then_ok (update_for c 0 (constants_of v)) (λ x. in_range (2 ^ 40) 0 (fold with_nominal x v.share.loads)) u (Err f) e (ap (in_range (2 ^ 40) 0) (sym is) ∙ r)
+  start_past u x f e is r = then_ok (update_for c 0 (constants_of v)) (λ x. in_range (2 ^ 40) 0 (fold with_nominal x v.stamp.loads)) u (Err f) e (ap (in_range (2 ^ 40) 0) (sym is) ∙ r)
 
   pub start_fault : (f : SolveFault) → update_for c 0 (constants_of v) ≡ Err f → start_of v c ≡ Err f
   unfolding start_of
-  start_fault f e = then_err (update_for c 0 (constants_of v)) (λ x. in_range (2 ^ 40) 0 (fold with_nominal x v.share.loads)) f e
+  start_fault f e = then_err (update_for c 0 (constants_of v)) (λ x. in_range (2 ^ 40) 0 (fold with_nominal x v.stamp.loads)) f e
 
 -- ---- the whole
 

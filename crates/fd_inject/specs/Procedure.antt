@@ -33,7 +33,7 @@ with_nominal x u = option_map_or (λ place. set x place u.load.vn) u.magnitude x
 
 -- iterate 0: what the inverse gives for the constants, which are the residual of the state 0, and the magnitudes at nominal voltage
 unfoldable pub start_of : NetworkView → List (List ℤ) → Result (List ℤ) SolveFault
-start_of v c = and_then (update_for c 0 (constants_of v)) (λ x. in_range (2 ^ 40) 0 (fold with_nominal x v.share.loads))
+start_of v c = and_then (update_for c 0 (constants_of v)) (λ x. in_range (2 ^ 40) 0 (fold with_nominal x v.stamp.loads))
 
 -- ---- steps
 

@@ -9,12 +9,12 @@ use Rattle.dss_profile.specs.declared.element.Element.TheVariants as the
 use Rattle.dss_layout.specs.Layout.{Elements, LayoutView, complex_count, ends_of, first_magnitude, layout_of, magnitude_phases, sums_before}
 use Rattle.fd_arith.specs.LoadModels.{has_magnitude}
 use Rattle.fd_system.specs.declared.loads.LoadAt.{LoadAt}
-use Rattle.fd_system.specs.System.{Share}
+use Rattle.fd_system.specs.System.{StampView}
 use Rattle.fd_equations.specs.Conditions.{AreApart, magnitude_count}
 use Rattle.fd_equations.specs.Rounded.{list_of}
 use Rattle.fd_equations.specs.Terminals.{count_magnitude}
 use Rattle.fd_equations.proofs.CallerLemmas.{list_of-more}
-use Rattle.fd_devices.specs.Devices.{device_share, share_of_all}
+use Rattle.fd_devices.specs.Devices.{device_stamp, stamp_of_all}
 use Rattle.fd_devices.specs.Scripted.{device_of, devices_from, load_at}
 use Rattle.fd_devices.specs.Settings.{Settings, after, own}
 use Rattle.fd_network.specs.Places.{AreMagnitudesFrom}
@@ -93,13 +93,13 @@ module _ (f : ℕ → LoadAt) (first : ℕ) where
 -- ---- elements
 
 -- the part loads of an element, of which the first magnitude stands at a place
-element_in : (layout : LayoutView) (hertz place first : ℕ) (e : Element) (s : Settings) → first_magnitude layout place ≡ first → StandIn first (first + magnitude_phases e) (device_share (device_of layout hertz place e s)).loads
+element_in : (layout : LayoutView) (hertz place first : ℕ) (e : Element) (s : Settings) → first_magnitude layout place ≡ first → StandIn first (first + magnitude_phases e) (device_stamp (device_of layout hertz place e s)).loads
 element_in layout hertz place first (the.Vsource v) s h = no_loads first (first + 0)
 element_in layout hertz place first (the.Line l) s h = no_loads first (first + 0)
 element_in layout hertz place first (the.Transformer t) s h = no_loads first (first + 0)
 element_in layout hertz place first (the.Capacitor c) s h = no_loads first (first + 0)
 element_in layout hertz place first (the.Load l) s h =
-    subst (λ m. StandIn m (m + magnitude_phases (the.Load l)) (device_share (device_of layout hertz place (the.Load l) s)).loads) h
+    subst (λ m. StandIn m (m + magnitude_phases (the.Load l)) (device_stamp (device_of layout hertz place (the.Load l) s)).loads) h
     (phases_in (load_at l (ends_of layout place (the.Load l)).first (first_magnitude layout place) s.powers) (first_magnitude layout place) (has_magnitude l.model) (λ k. refl) l.phases)
 element_in layout hertz place first (the.Linecode c) s h = no_loads first (first + 0)
 element_in layout hertz place first (the.RegControl c) s h = no_loads first (first + 0)
@@ -107,16 +107,16 @@ element_in layout hertz place first (the.CapControl c) s h = no_loads first (fir
 element_in layout hertz place first (the.Loadshape c) s h = no_loads first (first + 0)
 
 elements_in : (layout : LayoutView) (hertz place first : ℕ) (es : Elements) (s : Settings) → AreMagnitudesFrom layout first place es
-    → StandIn first (first + list_n (λ e. magnitude_phases e.1) es) (flat_map (λ (x : Share). x.loads) (map device_share (devices_from layout hertz place es s)))
+    → StandIn first (first + list_n (λ e. magnitude_phases e.1) es) (flat_map (λ (x : StampView). x.loads) (map device_stamp (devices_from layout hertz place es s)))
 elements_in layout hertz place first [] s h = no_loads first (first + 0)
 elements_in layout hertz place first (e ∷ es) s h =
     let m = magnitude_phases e.1 in
     let end : first + m + list_n (λ x. magnitude_phases x.1) es ≡ first + list_n (λ x. magnitude_phases x.1) (e ∷ es) = omega arith in
-    subst (λ b. StandIn first b (flat_map (λ (x : Share). x.loads) (map device_share (devices_from layout hertz place (e ∷ es) s)))) end
+    subst (λ b. StandIn first b (flat_map (λ (x : StampView). x.loads) (map device_stamp (devices_from layout hertz place (e ∷ es) s)))) end
     (joined_in first (first + m) (first + m + list_n (λ x. magnitude_phases x.1) es) _ _ (omega arith) (omega arith)
     (element_in layout hertz place first e.1 (own e.1 s) h.0) (elements_in layout hertz (place + 1) (first + m) es (after e.1 s) h.1))
 
-pub apart : (layout : LayoutView) (hertz first : ℕ) (es : Elements) (s : Settings) → AreMagnitudesFrom layout first 0 es → AreApart (share_of_all (devices_from layout hertz 0 es s)).loads
+pub apart : (layout : LayoutView) (hertz first : ℕ) (es : Elements) (s : Settings) → AreMagnitudesFrom layout first 0 es → AreApart (stamp_of_all (devices_from layout hertz 0 es s)).loads
 apart layout hertz first es s h = (elements_in layout hertz 0 first es s h).single
 
 -- ---- the layout of a circuit

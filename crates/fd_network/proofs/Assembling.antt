@@ -10,11 +10,12 @@ use Rattle.fd_exact.specs.Sums.{list_n}
 use Rattle.fd_arith.specs.declared.terms.Term.{Term}
 use Rattle.fd_system.specs.declared.constants.Constant.{Constant}
 use Rattle.fd_system.specs.Contributions.{AreSmall, IsDivided, IsWithin}
+use Rattle.fd_system.specs.System.{StampView}
 use Rattle.fd_equations.specs.Coefficients.{linear_entry}
 use Rattle.fd_equations.specs.Conditions.{AreApart, AreLinear, IsKnown, IsLinear, IsNetwork}
 use Rattle.fd_equations.specs.Views.{network_of}
 use Rattle.fd_devices.specs.Building.{AreCollected, AreContributions, AreInRange, Fits, HasSmallSums, IsInside}
-use Rattle.fd_devices.specs.Devices.{Added, Device, share_of_all}
+use Rattle.fd_devices.specs.Devices.{Device, stamp_of_all}
 use Rattle.fd_devices.specs.Scripted.{layout_counts}
 use Rattle.fd_network.specs.declared.fault.PlaceFault.{PlaceFault}
 use Rattle.fd_network.specs.declared.fault.PlaceFault.TheVariants as place_fault
@@ -50,32 +51,32 @@ module _ (n size : ℕ) (room : 2 * n ≤ size) where
 
 -- a device out of range by itself comes first
 pub own_first : (ds : List Device) (place : ℕ) → first_without fits ds ≡ Some place → first_out_of_range ds ≡ Some place
-own_first ds place h = ap (λ o. option_or o (first_without (has_small_sums (share_of_all ds).terms) ds)) h
+own_first ds place h = ap (λ o. option_or o (first_without (has_small_sums (stamp_of_all ds).terms) ds)) h
 
 pub own_fault : (ds : List Device) (f : PlaceFault) → NamesPlace (first_without fits ds) f → NamesPlace (first_out_of_range ds) f
 own_fault ds (place_fault.OutOfRange k) h = own_first ds k h
 own_fault ds place_fault.NoMemory h = tt
 
-fit_then_sums : (ds : List Device) → All Fits ds → first_out_of_range ds ≡ first_without (has_small_sums (share_of_all ds).terms) ds
-fit_then_sums ds h = ap (λ o. option_or o (first_without (has_small_sums (share_of_all ds).terms) ds)) (none_without fits Fits fits_decides ds h)
+fit_then_sums : (ds : List Device) → All Fits ds → first_out_of_range ds ≡ first_without (has_small_sums (stamp_of_all ds).terms) ds
+fit_then_sums ds h = ap (λ o. option_or o (first_without (has_small_sums (stamp_of_all ds).terms) ds)) (none_without fits Fits fits_decides ds h)
 
 -- where each fits, the first with a large sum is the first out of range
-pub sum_first : (ds : List Device) (place : ℕ) → All Fits ds → first_without (has_small_sums (share_of_all ds).terms) ds ≡ Some place → first_out_of_range ds ≡ Some place
+pub sum_first : (ds : List Device) (place : ℕ) → All Fits ds → first_without (has_small_sums (stamp_of_all ds).terms) ds ≡ Some place → first_out_of_range ds ≡ Some place
 sum_first ds place fit h = fit_then_sums ds fit ∙ h
 
 -- no device in range is out of range
 pub no_fault : (ds : List Device) → AreInRange ds → first_out_of_range ds ≡ None
 no_fault ds h =
     fit_then_sums ds h.each
-    ∙ none_without (has_small_sums (share_of_all ds).terms) (HasSmallSums (share_of_all ds).terms) (sums_decide (share_of_all ds).terms) ds (small_at_devices (share_of_all ds).terms ds h.sums)
+    ∙ none_without (has_small_sums (stamp_of_all ds).terms) (HasSmallSums (stamp_of_all ds).terms) (sums_decide (stamp_of_all ds).terms) ds (small_at_devices (stamp_of_all ds).terms ds h.sums)
 
 -- ---- the network
 
 -- what elements add is a network, where the sums are small and no two magnitudes stand at one place
-pub is_network : (layout : LayoutView) (es : Elements) (ds : List Device) (a : Added) → AreCollected (length layout.nodes) (complex_count layout) (size_of layout) es ds a
-    → ((row col : ℕ) → AreSmall (linear_entry a.share.terms row col)) → AreApart a.share.loads
+pub is_network : (layout : LayoutView) (es : Elements) (ds : List Device) (a : StampView) → AreCollected (length layout.nodes) (complex_count layout) (size_of layout) es ds a
+    → ((row col : ℕ) → AreSmall (linear_entry a.terms row col)) → AreApart a.loads
     → length es ≤ most_elements → list_n (λ e. branch_phases e.1) es ≤ most_complex → complex_count layout ≤ most_complex → length layout.magnitudes ≤ most_magnitudes
-    → IsNetwork (network_of (layout_counts layout) a.share a.draw)
+    → IsNetwork (network_of (layout_counts layout) a)
 is_network layout es ds a h small apart few branches complexes magnitudes =
     let b = h.bounded in
     let few_constants = b.few_constants in
@@ -85,9 +86,9 @@ is_network layout es ds a h small apart few branches complexes magnitudes =
       small = omega arith;
       nodes = omega arith;
       unknowns = refl;
-      terms = are_linear (complex_count layout) (size_of layout) (omega arith) (64 * (length es + list_n (λ e. branch_phases e.1) es)) a.share.terms (omega arith) b.terms;
+      terms = are_linear (complex_count layout) (size_of layout) (omega arith) (64 * (length es + list_n (λ e. branch_phases e.1) es)) a.terms (omega arith) b.terms;
       entries = small;
-      constants = all_known (complex_count layout) (size_of layout) (omega arith) a.share.constants b.constants;
+      constants = all_known (complex_count layout) (size_of layout) (omega arith) a.constants b.constants;
       few_constants = omega arith;
       loads = b.loads;
       few_loads = omega arith;

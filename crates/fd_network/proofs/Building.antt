@@ -9,7 +9,7 @@ use Rattle.dss_ready.specs.Ready.{blame_at}
 use Rattle.fd_xfmr.specs.Leakage.{AreTaps}
 use Rattle.fd_devices.specs.Building.{IsModest}
 use Rattle.fd_devices.specs.declared.fault.BuildFault.{BuildFault}
-use Rattle.fd_devices.specs.Devices.{Device, share_of_all}
+use Rattle.fd_devices.specs.Devices.{Device, stamp_of_all}
 use Rattle.fd_devices.specs.Scripted.{devices_from}
 use Rattle.fd_devices.specs.declared.kept.Kept.{Kept}
 use Rattle.fd_devices.specs.Settings.{AreSettings, Settings}
@@ -68,8 +68,8 @@ either_within (Some k) q n place hp hq e = hp place e
 -- the first device out of range is one of them
 pub out_of_range_within : (ds : List Device) (place : ℕ) → first_out_of_range ds ≡ Some place → place < length ds
 out_of_range_within ds place e =
-    either_within (first_without fits ds) (first_without (has_small_sums (share_of_all ds).terms) ds) (length ds) place
-    (λ k. first_within fits ds k) (λ k. first_within (has_small_sums (share_of_all ds).terms) ds k) e
+    either_within (first_without fits ds) (first_without (has_small_sums (stamp_of_all ds).terms) ds) (length ds) place
+    (λ k. first_within fits ds k) (λ k. first_within (has_small_sums (stamp_of_all ds).terms) ds k) e
 
 -- the fault that names the element at the place of the first device out of range is the one that is due
 pub fault_named : (es es' : Elements) (ds : List Device) (place : ℕ) (f : BuildFault) → es' ≡ es → first_out_of_range ds ≡ Some place → IsFaultOf (blame_at cause.Range es' place) f → IsFaultOf (range_blame es ds) f

@@ -13,7 +13,7 @@ use Rattle.fd_system.specs.Contributions.{AreSmall, IsWithin}
 use Rattle.fd_load.specs.Current.{IsPast, is_past}
 use Rattle.fd_equations.specs.Coefficients.{linear_entry, units_of}
 use Rattle.fd_devices.specs.Building.{Fits, HasSmallSums}
-use Rattle.fd_devices.specs.Devices.{Device, device_share}
+use Rattle.fd_devices.specs.Devices.{Device, device_stamp}
 use Rattle.fd_network.specs.declared.fault.PlaceFault.{PlaceFault}
 use Rattle.fd_network.specs.declared.fault.PlaceFault.TheVariants as place_fault
 use Rattle.fd_network.specs.Collecting.{IsMisfit, NamesPlace}
@@ -32,14 +32,14 @@ past_decides w = (λ h. h, λ h. h)
 
 pub fits_decides : (d : Device) → Decides (fits d) (Fits d)
 fits_decides d =
-    let terms = Decides-by_and (λ (t : Term). is_small (units_of t)) IsWithin (list_all (λ (t : Term). is_small (units_of t))) (λ t. small_decides (units_of t)) refl (λ _ _. refl) (device_share d).terms in
-    let loads = Decides-by_and (λ (u : LoadAt). not (is_past u.load)) (λ (u : LoadAt). ¬ (IsPast u.load)) (list_all (λ (u : LoadAt). not (is_past u.load))) (λ u. Decides-not (is_past u.load) (past_decides u.load)) refl (λ _ _. refl) (device_share d).loads in
+    let terms = Decides-by_and (λ (t : Term). is_small (units_of t)) IsWithin (list_all (λ (t : Term). is_small (units_of t))) (λ t. small_decides (units_of t)) refl (λ _ _. refl) (device_stamp d).terms in
+    let loads = Decides-by_and (λ (u : LoadAt). not (is_past u.load)) (λ (u : LoadAt). ¬ (IsPast u.load)) (list_all (λ (u : LoadAt). not (is_past u.load))) (λ u. Decides-not (is_past u.load) (past_decides u.load)) refl (λ _ _. refl) (device_stamp d).loads in
     Decides-like (fits d) (λ p. record { terms = p.0; loads = p.1 }) (λ f. (f.terms, f.loads)) (Decides-and _ _ terms loads)
 
 pub sums_decide : (all : List Term) (d : Device) → Decides (has_small_sums all d) (HasSmallSums all d)
 sums_decide all d =
     Decides-by_and (λ (t : Term). is_small (linear_entry all t.row t.col)) (λ (t : Term). AreSmall (linear_entry all t.row t.col)) (list_all (λ (t : Term). is_small (linear_entry all t.row t.col)))
-    (λ t. small_decides (linear_entry all t.row t.col)) refl (λ _ _. refl) (device_share d).terms
+    (λ t. small_decides (linear_entry all t.row t.col)) refl (λ _ _. refl) (device_stamp d).terms
 
 -- ---- the first device
 

@@ -6,10 +6,10 @@ use Rattle.std.proofs.lemmas.Bool.{and_parts, eqb-true}
 use Rattle.std.proofs.lemmas.List.Elements.{All-nil, All-cons, All-append, All-head, All-tail}
 use Rattle.fd_arith.specs.declared.terms.Term.{Term}
 use Rattle.fd_system.specs.Contributions.{AreSmall}
-use Rattle.fd_system.specs.System.{Share}
+use Rattle.fd_system.specs.System.{StampView}
 use Rattle.fd_equations.specs.Coefficients.{linear_entry, stands_at, units_of}
 use Rattle.fd_devices.specs.Building.{HasSmallSums}
-use Rattle.fd_devices.specs.Devices.{Device, device_share, share_of_all}
+use Rattle.fd_devices.specs.Devices.{Device, device_stamp, stamp_of_all}
 
 abbrev pub IsSmallAt : List Term → Term → Type 0
 IsSmallAt all t = AreSmall (linear_entry all t.row t.col)
@@ -32,14 +32,14 @@ sum_at all row col (t ∷ ts) h = by (stands_at row col t) refl (sum_at all row 
 pub each_sum_small : (all : List Term) → All (IsSmallAt all) all → (row col : ℕ) → AreSmall (linear_entry all row col)
 each_sum_small all h row col = ⊎_elim (λ e. subst AreSmall (sym e) (omega (arith, ints), omega (arith, ints))) (λ s. s) (sum_at all row col all h)
 
-all_terms : (all : List Term) (ds : List Device) → All (HasSmallSums all) ds → All (IsSmallAt all) (flat_map (λ (s : Share). s.terms) (map device_share ds))
+all_terms : (all : List Term) (ds : List Device) → All (HasSmallSums all) ds → All (IsSmallAt all) (flat_map (λ (s : StampView). s.terms) (map device_stamp ds))
 all_terms all [] h = All-nil (IsSmallAt all)
 all_terms all (d ∷ ds) h =
-    All-append (IsSmallAt all) (device_share d).terms (flat_map (λ (s : Share). s.terms) (map device_share ds)) (All-head (HasSmallSums all) d ds h) (all_terms all ds (All-tail (HasSmallSums all) d ds h))
+    All-append (IsSmallAt all) (device_stamp d).terms (flat_map (λ (s : StampView). s.terms) (map device_stamp ds)) (All-head (HasSmallSums all) d ds h) (all_terms all ds (All-tail (HasSmallSums all) d ds h))
 
 -- where each device has small sums at its places, the sum at each place is small
-pub sums_small : (ds : List Device) → All (HasSmallSums (share_of_all ds).terms) ds → (row col : ℕ) → AreSmall (linear_entry (share_of_all ds).terms row col)
-sums_small ds h = each_sum_small (share_of_all ds).terms (all_terms (share_of_all ds).terms ds h)
+pub sums_small : (ds : List Device) → All (HasSmallSums (stamp_of_all ds).terms) ds → (row col : ℕ) → AreSmall (linear_entry (stamp_of_all ds).terms row col)
+sums_small ds h = each_sum_small (stamp_of_all ds).terms (all_terms (stamp_of_all ds).terms ds h)
 
 all_of : {A : Type 0} (P : A → Type 0) (xs : List A) → ((x : A) → P x) → All P xs
 all_of P [] h = All-nil P
@@ -47,4 +47,4 @@ all_of P (x ∷ xs) h = All-cons P x xs (h x) (all_of P xs h)
 
 -- where each sum is small, each device has small sums
 pub small_at_devices : (all : List Term) (ds : List Device) → ((row col : ℕ) → AreSmall (linear_entry all row col)) → All (HasSmallSums all) ds
-small_at_devices all ds h = all_of (HasSmallSums all) ds (λ d. all_of (IsSmallAt all) (device_share d).terms (λ t. h t.row t.col))
+small_at_devices all ds h = all_of (HasSmallSums all) ds (λ d. all_of (IsSmallAt all) (device_stamp d).terms (λ t. h t.row t.col))

@@ -1,17 +1,18 @@
 -- The network of what elements in a layout add, and the lists in which it is made.
 use Rattle.std.specs.Prelude.{◌≡◌, ◌≤◌, vec_capacity}
 use Rattle.dss_layout.specs.Layout.{LayoutView}
+use Rattle.fd_system.specs.declared.stamps.Stamp.{Stamp}
+use Rattle.fd_system.specs.Stamps.{HasRoom}
 use Rattle.fd_equations.specs.Holding.{CanHold}
-use Rattle.fd_equations.specs.Views.{NetworkView, network_of, share_with}
-use Rattle.fd_devices.specs.declared.pieces.Piece.{Piece}
-use Rattle.fd_devices.specs.Kept.{HasRoom}
+use Rattle.fd_equations.specs.Views.{NetworkView, network_of, stamp_with}
 use Rattle.fd_devices.specs.Scripted.{layout_counts}
 use Rattle.fd_network.specs.declared.assembly.Lists.{Lists}
 use Rattle.fd_network.specs.declared.assembly.Parts.{Parts}
 use Rattle.fd_network.specs.declared.room.Room.{Room}
 
 abbrev pub parts_network : LayoutView → Parts → NetworkView
-parts_network layout p = network_of (layout_counts layout) (share_with p.constants.items p.rows.terms p.rows.loads) p.draw
+parts_network layout p =
+    network_of (layout_counts layout) (stamp_with p.constants.items p.rows.terms p.rows.loads p.draw)
 
 -- the parts have room for so much
 pub record HavePartsRoom (r : Room) (p : Parts) : Type 0 where
@@ -29,12 +30,12 @@ pub record HaveRoom (r : Room) (p : Parts) (l : Lists) : Type 0 where
   pub parts : HavePartsRoom r p
   pub lists : HaveListsRoom r l
 
--- the rows can hold what a piece has
-abbrev pub CanTake : Parts → Piece → Type 0
+-- the rows can hold what a stamp has
+abbrev pub CanTake : Parts → Stamp → Type 0
 CanTake p q = CanHold p.rows q.terms.items q.loads.items
 
 -- each has what the other had
-pub record AreExchanged (p : Parts) (q : Piece) (p2 : Parts) (q2 : Piece) : Type 0 where
+pub record AreExchanged (p : Parts) (q : Stamp) (p2 : Parts) (q2 : Stamp) : Type 0 where
   pub size : p2.rows.size ≡ p.rows.size
   pub places : p2.rows.places ≡ p.rows.places
   pub terms : p2.rows.terms ≡ q.terms.items

@@ -4,7 +4,7 @@ use Rattle.dss_layout.specs.Layout.{LayoutView, layout_of, size_of}
 use Rattle.dss_circuit.specs.Circuit.{CircuitView}
 use Rattle.fd_equations.specs.declared.layout.Layout.{Layout}
 use Rattle.fd_equations.specs.Conditions.{IsNetwork}
-use Rattle.fd_equations.specs.Views.{NetworkView, network_of, share_with}
+use Rattle.fd_equations.specs.Views.{NetworkView, network_of, stamp_with}
 use Rattle.fd_devices.specs.declared.kept.Kept.{Kept}
 use Rattle.fd_network.specs.declared.assembly.Parts.{Parts}
 use Rattle.fd_network.specs.declared.room.Room.{Room}
@@ -22,7 +22,7 @@ pub record BuiltView : Type 0 where
 abbrev pub built_of : LayoutView → Layout → Parts → List Kept → Room → BuiltView
 built_of layout counts parts kept room = record {
   layout = layout;
-  rows = network_of counts (share_with parts.constants.items parts.rows.terms parts.rows.loads) parts.draw;
+  rows = network_of counts (stamp_with parts.constants.items parts.rows.terms parts.rows.loads parts.draw);
   kept = kept;
   places = parts.rows.places;
   room = room;

@@ -5,11 +5,11 @@ ghost use Rattle.fd_exact.specs.Sums.{list_n};
 ghost use Rattle.dss_layout.specs.Limits.{most_complex, most_magnitudes};
 ghost use Rattle.dss_layout.specs.Layout.{branch_phases, complex_count, size_of};
 ghost use Rattle.dss_circuit.specs.Limits.{most_elements};
+ghost use Rattle.fd_system.specs.Stamps.{HasRoom, IsRoomSame};
 ghost use Rattle.fd_equations.specs.Conditions.{IsNetwork};
 ghost use Rattle.fd_equations.specs.Patterns.{IsInside};
 ghost use Rattle.fd_devices.specs.Building.{AreInRange, Fits};
-ghost use Rattle.fd_devices.specs.Devices.{AgreesWith, parts_of_all, share_of_all};
-ghost use Rattle.fd_devices.specs.Kept.{HasRoom, IsRoomSame};
+ghost use Rattle.fd_devices.specs.Devices.{AgreesWith, parts_of_all, stamp_of_all};
 ghost use Rattle.fd_devices.specs.Scripted.{devices_network};
 ghost use Rattle.fd_network.specs.Assembled.{AreExchanged, CanTake, HaveListsRoom, HavePartsRoom, HaveRoom, IsAsBefore, parts_network};
 ghost use Rattle.fd_network.specs.Collecting.{AreTakenFrom, all_devices, settings_left};
@@ -18,14 +18,14 @@ ghost use Rattle.fd_network.specs.Keeping.{AreKept, Reaches, room_for};
 ghost use Rattle.fd_network.specs.Places.{AreMagnitudesFrom};
 
 use crate::fault::OutOfRange;
-use crate::pieces::{check_sums, collect};
 use crate::room::Room;
 use crate::settings::SettingsLeft;
+use crate::stamps::{check_sums, collect};
 use dss_layout::Layout;
 use dss_profile::{Element, ElementName};
-use fd_devices::{Kept, Piece, device_law, reach_law};
+use fd_devices::{Kept, device_law, reach_law};
 use fd_equations::Rows;
-use fd_system::Constant;
+use fd_system::{Constant, Stamp};
 use indexmap::IndexMap;
 use std::alloc::{AllocError, Global};
 use std::mem;
@@ -41,8 +41,8 @@ pub struct Parts {
 /// The lists in which what elements add is written: `all` for all elements, `one` for each in turn.
 #[derive(Drop)]
 pub struct Lists {
-    pub all: Piece,
-    pub one: Piece,
+    pub all: Stamp,
+    pub one: Stamp,
 }
 
 /// Makes the parts those of the network of elements in a layout, at the circuit's frequency in hertz and with these settings. Takes no
@@ -73,7 +73,7 @@ pub fn assemble(
     ensures network { OnOk result (parts_network layout.now parts.new
         ≡ devices_network layout.now (all_devices layout.now hertz elements.now.entries settings.now)) }
     ensures valid { OnOk result (IsNetwork (parts_network layout.now parts.new)) }
-    ensures agrees { OnOk result (AgreesWith (parts_network layout.now parts.new).share
+    ensures agrees { OnOk result (AgreesWith (parts_network layout.now parts.new).stamp
         (parts_of_all (all_devices layout.now hertz elements.now.entries settings.now))) }
     ensures in_range { OnOk result (AreInRange (all_devices layout.now hertz elements.now.entries settings.now)) }
     ensures no_fault { OnOk result (first_out_of_range (all_devices layout.now hertz elements.now.entries settings.now)
@@ -136,25 +136,25 @@ impl Lists {
         ensures { IfOk result (HaveListsRoom room) }
     {
         Ok(Lists {
-            all: Piece::with_room(alloc, room.terms, room.loads, room.constants)?,
-            one: Piece::with_room(alloc, 256, 9, 6)?,
+            all: Stamp::with_room(alloc, room.terms, room.loads, room.constants)?,
+            one: Stamp::with_room(alloc, 256, 9, 6)?,
         })
     }
 }
 
-// Exchanges the parts with what a piece has. Takes no memory.
-fn exchange(parts: &mut Parts, piece: &mut Piece)
-    requires { CanTake parts.old piece.old }
-    ensures exchanged { AreExchanged parts.old piece.old parts.new piece.new }
+// Exchanges the parts with what a stamp has. Takes no memory.
+fn exchange(parts: &mut Parts, stamp: &mut Stamp)
+    requires { CanTake parts.old stamp.old }
+    ensures exchanged { AreExchanged parts.old stamp.old parts.new stamp.new }
 {
-    parts.rows.replace(&mut piece.terms, &mut piece.loads);
-    mem::swap(&mut parts.constants, &mut piece.constants);
-    mem::swap(&mut parts.draw, &mut piece.draw);
+    parts.rows.replace(&mut stamp.terms, &mut stamp.loads);
+    mem::swap(&mut parts.constants, &mut stamp.constants);
+    mem::swap(&mut parts.draw, &mut stamp.draw);
 }
 
 // Whether each entry is small. The elements are walked again only where one isn't, to name the first that has a part in it.
 fn check_entries(
-    one: &mut Piece,
+    one: &mut Stamp,
     layout: &Layout,
     hertz: u32,
     elements: &IndexMap<ElementName, Element>,
@@ -167,7 +167,7 @@ fn check_entries(
     requires one { HasRoom one.old 256 9 6 }
     requires fits { All Fits (all_devices layout.now hertz elements.now.entries settings.now) }
     requires terms { rows.now.terms
-        ≡ (share_of_all (all_devices layout.now hertz elements.now.entries settings.now)).terms }
+        ≡ (stamp_of_all (all_devices layout.now hertz elements.now.entries settings.now)).terms }
     ensures small { OnOk result (AreInRange (all_devices layout.now hertz elements.now.entries settings.now)) }
     ensures fault { IfErr result (λ f. first_without (has_small_sums rows.now.terms)
         (all_devices layout.now hertz elements.now.entries settings.now) ≡ Some f.0) }

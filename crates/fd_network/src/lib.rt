@@ -7,9 +7,10 @@
 // takes no memory, since the lists have room, and the rows places, for all that the elements add at any settings. A network keeps the layout
 // of its unknowns, with their names, and hands on its rows (`rows`) to the solver and the certificate.
 //
-// Modules: `network` has the type, `assembly` makes its parts those of what the elements add, `pieces` collects that and names the element
-// out of range by its place, `keeping` has what is kept of the elements for updates, `room` how much room the lists need, `settings` are the
-// positions and powers of elements in turn, `fault` why elements have no rows, `blame` the element to blame.
+// Modules: `network` has the type, `assembly` makes its parts those of what the elements add, `stamps` collects that and
+// names the element out of range by its place, `keeping` has what is kept of the elements for updates, `room` how much
+// room the lists need, `settings` are the positions and powers of elements in turn, `fault` why elements have no rows,
+// `blame` the element to blame.
 #![tactic(auto)]
 
 mod assembly;
@@ -17,8 +18,8 @@ mod blame;
 mod fault;
 mod keeping;
 mod network;
-mod pieces;
 mod room;
 mod settings;
+mod stamps;
 
 pub use network::Network;

@@ -85,7 +85,8 @@ impl Network {
         requires modest { All IsModest powers.now.loads }
         ensures network { IfOk result (λ n. n.rows ≡ circuit_network circuit.now (settings_of at.now powers.now)) }
         ensures built { IfOk result (λ n. IsBuiltOf n circuit.now) }
-        ensures agrees { IfOk result (λ n. AgreesWith n.rows.share (circuit_parts circuit.now (settings_of at.now powers.now))) }
+        ensures agrees { IfOk result (λ n. AgreesWith n.rows.stamp
+            (circuit_parts circuit.now (settings_of at.now powers.now))) }
         ensures in_range { IfOk result (λ n. AreInRange (devices_of circuit.now (settings_of at.now powers.now))) }
         ensures no_blame { IfOk result (λ n. range_blame circuit.now.elements (devices_of circuit.now (settings_of at.now powers.now)) ≡ None) }
         ensures fault { IfErr result (λ f. IsFaultOf (range_blame circuit.now.elements (devices_of circuit.now (settings_of at.now powers.now))) f) }
@@ -125,7 +126,8 @@ impl Network {
         requires built { IsBuiltOf self.old circuit.now }
         ensures network { IfOk result (λ _. self.new.rows ≡ circuit_network circuit.now (settings_of at.now powers.now)) }
         ensures built { IsBuiltOf self.new circuit.now }
-        ensures agrees { IfOk result (λ _. AgreesWith self.new.rows.share (circuit_parts circuit.now (settings_of at.now powers.now))) }
+        ensures agrees { IfOk result (λ _. AgreesWith self.new.rows.stamp
+            (circuit_parts circuit.now (settings_of at.now powers.now))) }
         ensures in_range { IfOk result (λ _. AreInRange (devices_of circuit.now (settings_of at.now powers.now))) }
         ensures no_blame { IfOk result (λ _. range_blame circuit.now.elements (devices_of circuit.now (settings_of at.now powers.now)) ≡ None) }
         ensures fault { IfErr result (λ f. IsFaultOf (range_blame circuit.now.elements (devices_of circuit.now (settings_of at.now powers.now))) f) }
@@ -252,7 +254,8 @@ fn fill(
     requires room { HaveRoom (room_for circuit.now.elements) parts.old lists.old }
     ensures network { IfOk result (λ _. parts_network layout.now parts.new ≡ circuit_network circuit.now (settings_of at.now powers.now)) }
     ensures valid { IfOk result (λ _. IsNetwork (parts_network layout.now parts.new)) }
-    ensures agrees { IfOk result (λ _. AgreesWith (parts_network layout.now parts.new).share (circuit_parts circuit.now (settings_of at.now powers.now))) }
+    ensures agrees { IfOk result (λ _. AgreesWith (parts_network layout.now parts.new).stamp
+        (circuit_parts circuit.now (settings_of at.now powers.now))) }
     ensures in_range { IfOk result (λ _. AreInRange (devices_of circuit.now (settings_of at.now powers.now))) }
     ensures no_blame { IfOk result (λ _. range_blame circuit.now.elements (devices_of circuit.now (settings_of at.now powers.now)) ≡ None) }
     ensures fault { IfErr result (λ f. IsFaultOf (range_blame circuit.now.elements (devices_of circuit.now (settings_of at.now powers.now))) f) }

@@ -65,14 +65,14 @@ network_size c powers at = refl
 pub updated : (c : CircuitView) (powers : Powers) (at : CodePositions) (net : BuiltView) → IsBuiltOf net c
     → net.rows ≡ circuit_network c (settings_of at powers)
     → range_blame c.elements (devices_of c (settings_of at powers)) ≡ None →
-    AgreesWith net.rows.share (circuit_parts c (settings_of at powers)) → IsNetworkAt c powers.loads (positions_in at) net
+    AgreesWith net.rows.stamp (circuit_parts c (settings_of at powers)) → IsNetworkAt c powers.loads (positions_in at) net
 updated c powers at net built rows in_range agrees =
     let is : net.rows ≡ network_at c powers.loads (positions_in at) = rows ∙ sym (network_is c powers at) in
     record {
       built = built;
       rows = is;
       in_range = blame_is c powers at ∙ in_range;
-      agrees = subst (λ (v : NetworkView). AgreesWith v.share (circuit_parts c (settings_of at powers))) is agrees;
+      agrees = subst (λ (v : NetworkView). AgreesWith v.stamp (circuit_parts c (settings_of at powers))) is agrees;
     }
 
 -- ---- the ball of a sound claim

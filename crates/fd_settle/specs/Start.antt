@@ -31,12 +31,12 @@ pub record IsNetworkAt (c : CircuitView) (powers : List LoadPower) (at : Positio
   pub built : IsBuiltOf net c
   pub rows : net.rows ≡ network_at c powers at
   pub in_range : blame_at c powers at ≡ None
-  pub agrees : AgreesWith (network_at c powers at).share (circuit_parts c (settings_at powers at))
+  pub agrees : AgreesWith (network_at c powers at).stamp (circuit_parts c (settings_at powers at))
 
 -- what holds of a round: its positions are the circuit's, its rows are a network's and have the circuit's equations,
 -- and its certified state is sound there
 pub record IsSoundAt (c : CircuitView) (powers : List LoadPower) (at : Positions) (m : Claim) : Type 0 where
   pub positions : ArePositions c powers at
-  pub agrees : AgreesWith (network_at c powers at).share (circuit_parts c (settings_at powers at))
+  pub agrees : AgreesWith (network_at c powers at).stamp (circuit_parts c (settings_at powers at))
   pub network : IsNetwork (network_at c powers at)
   pub sound : IsSound (network_at c powers at) m

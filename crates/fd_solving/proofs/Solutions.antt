@@ -68,12 +68,12 @@ module _ (c : CircuitView) (hour : ℕ) (at : Positions) (m : Claim)
     (here : IsSoundAt c (hour_powers c.elements hour) at m) where
   -- a state meets numbers in the equations of the circuit where it does in the rows of its network, and the other way round
   up : (e : ℕ → ℕ) (y : State) → 0 < y.over
-      → Meets (residual_of (hour_network c hour at).share) e (hour_network c hour at).size y
+      → Meets (residual_of (hour_network c hour at).stamp) e (hour_network c hour at).size y
       → Meets (equations_of c hour at) e (equation_count c hour at) y
   up e y h meets = let P : ℕ → Type 0 = λ n. Meets (equations_of c hour at) e n y in subst P (network_size c (hour_powers c.elements hour) at) (here.agrees.up e (hour_network c hour at).size y h meets)
 
   down : (e : ℕ → ℕ) (y : State) → 0 < y.over → Meets (equations_of c hour at) e (equation_count c hour at) y
-      → Meets (residual_of (hour_network c hour at).share) e (hour_network c hour at).size y
+      → Meets (residual_of (hour_network c hour at).stamp) e (hour_network c hour at).size y
   down e y h meets = let P : ℕ → Type 0 = λ n. Meets (equations_of c hour at) e n y in here.agrees.down e (hour_network c hour at).size y h (subst P (sym (network_size c (hour_powers c.elements hour) at)) meets)
 
   enclosed : EnclosureLaw → IsEnclosure (hour_network c hour at) m
@@ -115,12 +115,12 @@ module _ (c : CircuitView) (hour : ℕ) (at : Positions) (m : Claim)
         ∙ get_or-map-range_with_len (radius_in (hour_network c hour at) m.centre m.inverse (mismatches_of (hour_network c hour at) m.centre)) 0 (hour_network c hour at).size i i 0 h (omega arith)
 
     row_tied : TieLaw → (l : ℕ) → l < equation_count c hour at
-        → IsTied (equations_of c hour at (whole_state m.centre) l) (addend_count (hour_network c hour at).share l) (number_at m.mismatches l)
+        → IsTied (equations_of c hour at (whole_state m.centre) l) (addend_count (hour_network c hour at).stamp l) (number_at m.mismatches l)
     row_tied tie l h =
         let within : l < (hour_network c hour at).size = omega (arith, h, network_size c (hour_powers c.elements hour) at) in
-        let tied : IsTied (equations_of c hour at (whole_state m.centre) l) (addend_count (hour_network c hour at).share l) (mismatch_at (hour_network c hour at) m.centre l) =
-        tied_same (here.agrees.same (whole_state m.centre) (omega arith) l) (addend_count (hour_network c hour at).share l) (mismatch_at (hour_network c hour at) m.centre l) (tie (hour_network c hour at) m.centre l here.network here.sound.centre within) in
-        subst (λ e. IsTied (equations_of c hour at (whole_state m.centre) l) (addend_count (hour_network c hour at).share l) e) (sym (own_mismatch l within)) tied
+        let tied : IsTied (equations_of c hour at (whole_state m.centre) l) (addend_count (hour_network c hour at).stamp l) (mismatch_at (hour_network c hour at) m.centre l) =
+        tied_same (here.agrees.same (whole_state m.centre) (omega arith) l) (addend_count (hour_network c hour at).stamp l) (mismatch_at (hour_network c hour at) m.centre l) (tie (hour_network c hour at) m.centre l here.network here.sound.centre within) in
+        subst (λ e. IsTied (equations_of c hour at (whole_state m.centre) l) (addend_count (hour_network c hour at).stamp l) e) (sym (own_mismatch l within)) tied
 
     pair : BallLaw → (k : ℕ) → k < complex_count (layout_of c.elements)
         → number_at m.radii (2 * k) ≡ number_at m.radii (2 * k + 1)

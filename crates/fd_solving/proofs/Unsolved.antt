@@ -90,7 +90,7 @@ from_told v limits c x = followed (iterated v limits c x limits.max_iterations) 
 start_told : (v : NetworkView) (c : List (List ℤ)) → Told (start_of v c)
 unfolding start_of
 start_told v c =
-    followed (update_for c 0 (constants_of v)) (λ x. in_range (2 ^ 40) 0 (fold with_nominal x v.share.loads)) (updated c 0 (constants_of v)) (λ x. ranged (2 ^ 40) 0 (fold with_nominal x v.share.loads))
+    followed (update_for c 0 (constants_of v)) (λ x. in_range (2 ^ 40) 0 (fold with_nominal x v.stamp.loads)) (updated c 0 (constants_of v)) (λ x. ranged (2 ^ 40) 0 (fold with_nominal x v.stamp.loads))
 
 last_told : (v : NetworkView) (limits : Limits) → Told (last_of v limits)
 unfolding last_of

@@ -76,7 +76,9 @@ module _ (circuit : CircuitView) (hour : ℕ) (at : Positions) where
 
   -- the mismatch of each equation is tied to its residual
   abbrev pub AreTied : Claim → Type 0
-  AreTied m = (l : ℕ) → l < equation_count → IsTied (equations_of (whole_state m.centre) l) (addend_count hour_network.share l) (number_at m.mismatches l)
+  AreTied m =
+      (l : ℕ) → l < equation_count
+      → IsTied (equations_of (whole_state m.centre) l) (addend_count hour_network.stamp l) (number_at m.mismatches l)
 
   -- both parts of a voltage and of a current have one radius
   abbrev pub HaveOneRadius : Claim → Type 0

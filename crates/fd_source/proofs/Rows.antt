@@ -19,7 +19,7 @@ use Rattle.fd_system.specs.Series.{drop_at, drop_list, drop_of}
 use Rattle.fd_system.proofs.CallerLemmas.{same_place, row-append, row_sum-append, equation-append, minus_stamp, single, side-plus, side-pos, apart, linear_row, stamp_divided, each_divided, drops_add, drops_divided, joined_few, each_few, stamp_few, real_few}
 use Rattle.fd_source.specs.declared.data.SourceData.{SourceData}
 use Rattle.fd_source.specs.Phasors.{volts_im, volts_re}
-use Rattle.fd_source.specs.Equations.{constants_from, phase_constants, phase_list, reactance_of, resistance_of, share_of, source_constants, source_list, source_parts, source_phase}
+use Rattle.fd_source.specs.Equations.{constants_from, phase_constants, phase_list, reactance_of, resistance_of, stamp_from, source_constants, source_list, source_parts, source_phase}
 use Rattle.fd_source.specs.Laws.{SourceLaw}
 
 -- ---- constants of rows that follow one another
@@ -90,10 +90,10 @@ each_linear c t p x l zero h = subst (λ s. Same s nothing) (sym (nothing-plus n
 each_linear c t p x l (suc n) h = rw (linear-append (each c n) (c n) (each t n) (t n) x l, equation-append l (each p n) (p n)) (Same-plus (each_linear c t p x l n h) (h n))
 
 source_represents : (s : SourceData) (at : Ends)
-    → Represents (share_of at (source_constants s) (source_list s at)) (source_parts s at)
+    → Represents (stamp_from at (source_constants s) (source_list s at)) (source_parts s at)
 source_represents s at x o l =
     let r = each_linear (at_phase s at) (phase_list s at) (source_phase s at x) x l s.phases (λ m. phase_row s at x o m l) in
-    linear_row _ _ x l (source_parts s at x) (subst (λ c. Same (linear_of c (source_list s at) x l) (equation l (source_parts s at x))) (sym (placed s at s.phases)) r)
+    linear_row _ _ 0 x l (source_parts s at x) (subst (λ c. Same (linear_of c (source_list s at) x l) (equation l (source_parts s at x))) (sym (placed s at s.phases)) r)
 
 -- ---- the denominators
 

@@ -9,7 +9,7 @@ use Rattle.fd_system.specs.declared.constants.Constant.{Constant}
 use Rattle.fd_system.specs.Complex.{complex, ◌⊟◌, negative}
 use Rattle.fd_system.specs.Contributions.{stamp, each}
 use Rattle.fd_system.specs.Equations.{unknown, Part, both}
-use Rattle.fd_system.specs.System.{Share}
+use Rattle.fd_system.specs.System.{StampView}
 use Rattle.fd_system.specs.Terminals.{IsSide, branch_of, node_of}
 use Rattle.fd_system.specs.Series.{drop_list, drop_of, three_times}
 use Rattle.fd_source.specs.declared.data.SourceData.{SourceData}
@@ -65,9 +65,10 @@ abbrev pub constants_from : ℕ → List ℤ → List Constant
 constants_from row [] = []
 constants_from row (v ∷ vs) = record { row = row; value = v } ∷ constants_from (row + 1) vs
 
--- constants of the branches' rows and contributions, as what an element adds to the rows
-abbrev pub share_of : Ends → List ℤ → List Term → Share
-share_of at constants terms = record { constants = constants_from (2 * at.branch) constants; terms = terms; loads = [] }
+-- the stamp of constants of the branches' rows and of contributions
+abbrev pub stamp_from : Ends → List ℤ → List Term → StampView
+stamp_from at constants terms =
+    record { constants = constants_from (2 * at.branch) constants; terms = terms; loads = []; draw = 0 }
 
 -- ---- conditions
 

@@ -7,11 +7,11 @@ use Rattle.fd_system.specs.System.{Represents}
 use Rattle.fd_source.specs.declared.data.SourceData.{SourceData}
 use Rattle.fd_source.specs.declared.data.ShortCircuit.{ShortCircuit}
 use Rattle.fd_source.specs.Powers.{IsGreatest, KeepsSize, one_phase_size, positive_reactance, positive_resistance, ratio_of, three_phase_size, zero_resistance}
-use Rattle.fd_source.specs.Equations.{share_of, source_constants, source_list, source_parts}
+use Rattle.fd_source.specs.Equations.{stamp_from, source_constants, source_list, source_parts}
 
 -- they add up to the equations, have denominators in range and are at most 16 a phase
 pub record AreSourceTerms (s : SourceData) (at : Ends) : Type 0 where
-  pub represents : Represents (share_of at (source_constants s) (source_list s at)) (source_parts s at)
+  pub represents : Represents (stamp_from at (source_constants s) (source_list s at)) (source_parts s at)
   pub divided : All IsDivided (source_list s at)
   pub few : s.phases ≤ 3 → length (source_list s at) ≤ 16 * s.phases
 

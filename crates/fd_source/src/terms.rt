@@ -4,7 +4,7 @@ ghost use Rattle.fd_system.specs.Contributions.{each, IsDivided, IsWithin};
 ghost use Rattle.fd_system.specs.System.{Represents};
 ghost use Rattle.fd_system.specs.Series.{drop_list};
 ghost use Rattle.fd_exact.specs.Ranges.{UpTo};
-ghost use Rattle.fd_source.specs.Equations.{IsPlaced, IsSource, ohms_by, phase_constants, phase_list, reactance_of, resistance_of, share_of, source_constants, source_list, source_parts};
+ghost use Rattle.fd_source.specs.Equations.{IsPlaced, IsSource, ohms_by, phase_constants, phase_list, reactance_of, resistance_of, stamp_from, source_constants, source_list, source_parts};
 
 use crate::data::{SourceData, SourceTerms};
 use crate::voltage::phase_voltage;
@@ -26,7 +26,8 @@ pub fn source_terms(alloc: Global, source: &SourceData, at: &Ends) -> Result<Sou
     requires at { IsPlaced source.now.phases at.now }
     ensures terms { IfOk result (λ s. s.terms.items ≡ source_list source.now at.now) }
     ensures constants { IfOk result (λ s. s.constants.items ≡ source_constants source.now) }
-    ensures represents { IfOk result (λ s. Represents (share_of at.now s.constants.items s.terms.items) (source_parts source.now at.now)) }
+    ensures represents { IfOk result
+        (λ s. Represents (stamp_from at.now s.constants.items s.terms.items) (source_parts source.now at.now)) }
     ensures divided { IfOk result (λ s. All IsDivided s.terms.items) }
     ensures few { IfOk result (λ s. length s.terms.items ≤ 16 * source.now.phases) }
     ensures within { IfOk result (λ s. All IsWithin s.terms.items) }

@@ -21,7 +21,7 @@ use Rattle.fd_arith.specs.declared.terms.NodeAt.TheVariants.{Ground, Node}
 use Rattle.fd_system.specs.declared.constants.Constant.{Constant}
 use Rattle.fd_system.specs.Contributions.{value_of, given, row_sum}
 use Rattle.fd_system.specs.Equations.{Part, both, alone, seen, equation}
-use Rattle.fd_system.specs.System.{Share, constant_given, linear_of, nonlinear_of, residual_of}
+use Rattle.fd_system.specs.System.{StampView, constant_given, linear_of, nonlinear_of, residual_of}
 use Rattle.fd_system.specs.Residual.{HasDen, HasParts, whole_state, term_interval, fraction_interval, with_constant, with_term, with_part, linear_interval, residual_interval, greater_size, constant_added, term_added}
 
 -- ---- what an interval holds
@@ -104,7 +104,7 @@ linear_holds cs ts x l d =
     let c = subst (Holds (fold (with_constant l) (capped (pos 0) (pos 0)) cs)) (nothing-plus (sum_of (constant_given l) cs)) (constants_held l (capped (pos 0) (pos 0)) nothing cs zero_held) in
     terms_held l x _ (sum_of (constant_given l) cs) ts d c
 
-pub residual_holds : (s : Share) (x : List ℤ) (l : ℕ) → All HasDen s.terms
+pub residual_holds : (s : StampView) (x : List ℤ) (l : ℕ) → All HasDen s.terms
     → HasParts l (nonlinear_of s.loads (whole_state x))
     → Holds (residual_interval s x l) (residual_of s (whole_state x) l)
 residual_holds s x l d o = parts_held l _ (linear_of s.constants s.terms (whole_state x) l) (nonlinear_of s.loads (whole_state x)) o (linear_holds s.constants s.terms x l d)

@@ -1,5 +1,5 @@
 pub mod StampRows
-pub mod Shares
+pub mod Joining
 pub mod Divided
 pub mod LoadRows
 pub mod Intervals

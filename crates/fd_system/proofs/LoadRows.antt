@@ -22,9 +22,9 @@ use Rattle.fd_system.specs.Complex.{Complex, complex, ◌⊟◌, ◌⊠◌, nega
 use Rattle.fd_system.specs.Contributions.{stamp, row_sum}
 use Rattle.fd_system.specs.Equations.{unknown, both, side, seen, equation}
 use Rattle.fd_system.specs.Loads.{FitsModel, re_of, im_of, magnitude_of, clamp, square_of, non_negative, constant_power, constant_impedance, constant_current, drawn, load_current, magnitude_row, magnitude_parts, load_parts, IsLoad, impedance_list}
-use Rattle.fd_system.specs.System.{Represents, load_share, loads_share}
+use Rattle.fd_system.specs.System.{Represents, load_stamp, loads_stamp}
 use Rattle.fd_system.proofs.StampRows.{stamp_row, negative_stamp, same_place, row-append, rewritten, single, difference_times, negative-minus, unknown-pos, IsWhole, SameComplex-sym, plus-pos, opposite-pos, side-pos}
-use Rattle.fd_system.proofs.Shares.{beside_row, no_parts}
+use Rattle.fd_system.proofs.Joining.{beside_row, no_parts}
 
 -- ---- constant impedance
 
@@ -198,34 +198,34 @@ no_magnitude : (u : LoadAt) (x : State) (m : Option ℕ) → IsPlain m → magni
 no_magnitude u x None h = refl
 no_magnitude u x (Some l) h = absurd h
 
--- what the share adds to a row, by whether the model is linear
-abbrev share_row : (u : LoadAt) (x : State) (l : ℕ) (t : Bool) → Fraction
-share_row u x l t = (nothing ⊕ row_sum l (cond t (impedance_list u) []) x) ⊕ equation l (cond t [] (load_parts u x) ++ [])
+-- what the stamp adds to a row, by whether the model is linear
+abbrev stamped_row : (u : LoadAt) (x : State) (l : ℕ) (t : Bool) → Fraction
+stamped_row u x l t = (nothing ⊕ row_sum l (cond t (impedance_list u) []) x) ⊕ equation l (cond t [] (load_parts u x) ++ [])
 
 linear_row_of : (u : LoadAt) (x : State) (l : ℕ) → IsLoad u → 0 < x.over → is_linear u.load.model ≡ true
-    → IsPlain u.magnitude → Same (share_row u x l true) (equation l (load_parts u x))
+    → IsPlain u.magnitude → Same (stamped_row u x l true) (equation l (load_parts u x))
 linear_row_of u x l h o e p =
     let r = impedance_row u e h.vn x o l in
     let q : equation l (load_parts u x) ≡ equation l (both u.first (load_current u x) ∷ both u.second (negative (load_current u x)) ∷ []) = ap (λ ps. equation l (both u.first (load_current u x) ∷ both u.second (negative (load_current u x)) ∷ ps)) (no_magnitude u x u.magnitude p) in
     rw (q, plus-nothing (nothing ⊕ row_sum l (impedance_list u) x), nothing-plus (row_sum l (impedance_list u) x)) r
 
 other_row_of : (u : LoadAt) (x : State) (l : ℕ) → IsLoad u → 0 < x.over
-    → Same (share_row u x l false) (equation l (load_parts u x))
+    → Same (stamped_row u x l false) (equation l (load_parts u x))
 other_row_of u x l h o =
-    let e : share_row u x l false ≡ equation l (load_parts u x) = ap (λ s. s ⊕ equation l (load_parts u x ++ [])) (nothing-plus nothing) ∙ nothing-plus _ ∙ ap (equation l) (append-nil (load_parts u x)) in
+    let e : stamped_row u x l false ≡ equation l (load_parts u x) = ap (λ s. s ⊕ equation l (load_parts u x ++ [])) (nothing-plus nothing) ∙ nothing-plus _ ∙ ap (equation l) (append-nil (load_parts u x)) in
     subst (λ s. Same s (equation l (load_parts u x))) (sym e) (Same-refl _ (load-pos u x l h o))
 
 load_row : (u : LoadAt) (x : State) (l : ℕ) → IsLoad u → 0 < x.over → (t : Bool) → is_linear u.load.model ≡ t
-    → cond t (IsPlain u.magnitude) (Unit {0}) → Same (share_row u x l t) (equation l (load_parts u x))
+    → cond t (IsPlain u.magnitude) (Unit {0}) → Same (stamped_row u x l t) (equation l (load_parts u x))
 load_row u x l h o true e p = linear_row_of u x l h o e p
 load_row u x l h o false e p = other_row_of u x l h o
 
-pub load_represents : (u : LoadAt) → IsLoad u → Represents (load_share u) (load_parts u)
+pub load_represents : (u : LoadAt) → IsLoad u → Represents (load_stamp u) (load_parts u)
 load_represents u h x o l = load_row u x l h o (is_linear u.load.model) refl (plain u.load.model u.magnitude h.model)
 
 -- the part loads of an element
 pub loads_represent : (us : List LoadAt) → All IsLoad us
-    → Represents (loads_share us) (λ x. flat_map (λ u. load_parts u x) us)
+    → Represents (loads_stamp us) (λ x. flat_map (λ u. load_parts u x) us)
 loads_represent [] h = λ x o l. no_parts
-loads_represent (u ∷ us) h = λ x o l. beside_row (load_share u) (loads_share us) x l (load_parts u x) (flat_map (λ d. load_parts d x) us)
+loads_represent (u ∷ us) h = λ x o l. beside_row (load_stamp u) (loads_stamp us) x l (load_parts u x) (flat_map (λ d. load_parts d x) us)
     (load_represents u (All-head IsLoad u us h) x o l) (loads_represent us (All-tail IsLoad u us h) x o l)

@@ -1,4 +1,5 @@
--- The laws of systems: what contributions add up to, what a load's share is, and what the interval residual holds.
+-- The laws of systems: what contributions add up to, what the stamp of part loads is, and what the interval residual
+-- holds.
 use Rattle.std.specs.Prelude.{ℕ, ◌<◌, ℤ, nat_abs, List}
 use Rattle.std.specs.List.{All, flat_map}
 use Rattle.fd_exact.specs.Fractions.{Same}
@@ -10,17 +11,19 @@ use Rattle.fd_system.specs.Complex.{complex, ◌⊠◌}
 use Rattle.fd_system.specs.Contributions.{row_sum, stamp}
 use Rattle.fd_system.specs.Equations.{unknown, side}
 use Rattle.fd_system.specs.Loads.{IsLoad, load_parts}
-use Rattle.fd_system.specs.System.{Share, Represents, loads_share, nonlinear_of, residual_of}
+use Rattle.fd_system.specs.System.{StampView, Represents, loads_stamp, nonlinear_of, residual_of}
 use Rattle.fd_system.specs.Residual.{HasDen, HasParts, residual_interval, whole_state}
 
 -- in every row, the contributions of a complex number add up to its product with the unknown of its column
 abbrev pub StampLaw : Type 0
 StampLaw = (r c : NodeAt) (a b d : ℤ) (x : State) (l : ℕ) → 0 < nat_abs d → 0 < x.over → Same (row_sum l (stamp r c a b d) x) (side l r (complex a b (nat_abs d) ⊠ unknown x c))
 
--- the share of part loads has the rows of their currents and magnitudes, at every state
+-- the stamp of part loads has the rows of their currents and magnitudes, at every state
 abbrev pub LoadLaw : Type 0
-LoadLaw = (us : List LoadAt) → All IsLoad us → Represents (loads_share us) (λ x. flat_map (λ u. load_parts u x) us)
+LoadLaw = (us : List LoadAt) → All IsLoad us → Represents (loads_stamp us) (λ x. flat_map (λ u. load_parts u x) us)
 
 -- the interval residual of a row holds its residual
 abbrev pub ResidualLaw : Type 0
-ResidualLaw = (s : Share) (x : List ℤ) (l : ℕ) → All HasDen s.terms → HasParts l (nonlinear_of s.loads (whole_state x)) → Holds (residual_interval s x l) (residual_of s (whole_state x) l)
+ResidualLaw =
+    (s : StampView) (x : List ℤ) (l : ℕ) → All HasDen s.terms → HasParts l (nonlinear_of s.loads (whole_state x))
+    → Holds (residual_interval s x l) (residual_of s (whole_state x) l)

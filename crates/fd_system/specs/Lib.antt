@@ -5,6 +5,7 @@ pub mod Terminals
 pub mod Series
 pub mod Loads
 pub mod System
+pub mod Stamps
 pub mod Meets
 pub mod Residual
 pub mod Laws

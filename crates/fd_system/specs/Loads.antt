@@ -1,6 +1,7 @@
 -- A part load at a terminal: the current that it draws, the row of its magnitude, and the contributions of constant impedance.
 use Rattle.std.specs.Prelude.{◌≡◌, ℕ, ◌+◌, ◌*◌, ◌^◌, ◌<◌, ◌≤◌, min, max, ℤ, pos, negsuc, neg_ℤ, ◌+ℤ◌, ◌-ℤ◌, ◌*ℤ◌, nat_abs, false, true, cond, List, [], ◌∷◌, Option, Some, None}
 use Rattle.fd_exact.specs.Fractions.{Fraction, fraction}
+use Rattle.fd_exact.specs.Rounding.{ceil_nat}
 use Rattle.fd_exact.specs.States.{State, part}
 use Rattle.fd_arith.specs.declared.terms.Term.{Term}
 use Rattle.fd_arith.specs.declared.terms.NodeAt.{NodeAt}
@@ -115,3 +116,9 @@ linear_list u = cond (is_linear u.load.model) (impedance_list u) []
 
 abbrev pub nonlinear_parts : LoadAt → State → List Part
 nonlinear_parts u x = cond (is_linear u.load.model) [] (load_parts u x)
+
+-- ---- at nominal voltage
+
+-- what it draws there, (abs P + abs Q) / Vn, in whole microamperes and rounded up
+abbrev pub draw_of : LoadAt → ℕ
+draw_of u = ceil_nat ((nat_abs u.load.p + nat_abs u.load.q) * 10 ^ 9) (nat_abs u.load.vn)

@@ -9,7 +9,7 @@ use Rattle.fd_arith.specs.declared.terms.NodeAt.{NodeAt}
 use Rattle.fd_arith.specs.declared.terms.NodeAt.TheVariants.{Ground, Node}
 use Rattle.fd_system.specs.declared.constants.Constant.{Constant}
 use Rattle.fd_system.specs.Equations.{Part, both, alone, seen}
-use Rattle.fd_system.specs.System.{Share, nonlinear_of}
+use Rattle.fd_system.specs.System.{StampView, nonlinear_of}
 
 -- the state whose parts are these whole numbers
 abbrev pub whole_state : List ℤ → State
@@ -39,7 +39,7 @@ with_part l a (alone m f) = cond (eqb m l) (sum a (fraction_interval f)) a
 abbrev pub linear_interval : List Constant → List Term → List ℤ → ℕ → Bounds
 linear_interval cs ts x l = fold (with_term x l) (fold (with_constant l) (capped (pos 0) (pos 0)) cs) ts
 
-abbrev pub residual_interval : Share → List ℤ → ℕ → Bounds
+abbrev pub residual_interval : StampView → List ℤ → ℕ → Bounds
 residual_interval s x l = fold (with_part l) (linear_interval s.constants s.terms x l) (nonlinear_of s.loads (whole_state x))
 
 -- ---- the mismatch
@@ -49,7 +49,7 @@ abbrev pub greater_size : Bounds → Option ℤ
 greater_size None = None
 greater_size (Some e) = Some (pos (max (nat_abs e.0) (nat_abs e.1)))
 
-abbrev pub mismatch_of : Share → List ℤ → ℕ → Option ℤ
+abbrev pub mismatch_of : StampView → List ℤ → ℕ → Option ℤ
 mismatch_of s x l = greater_size (residual_interval s x l)
 
 -- ---- the rows of a table of intervals

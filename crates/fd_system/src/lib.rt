@@ -1,12 +1,12 @@
 // The network as a system of real rows, with no circuit in it: constants, contributions at places of row and column,
-// and part loads. It says what complex equations mean in real rows (`Equations`), what a part load draws (`Loads`), what
-// the residual of a row is (`System`), when a state meets mismatches (`Meets`) and what the interval residual is (`Residual`);
-// and what several elements share: the nodes, branches and nominal voltages of their phases (`Terminals`), and series impedances
-// (`Series`).
+// and part loads, which with what they draw are a stamp. It says what complex equations mean in real rows
+// (`Equations`), what a part load draws (`Loads`), what a stamp and the residual of a row are (`System`), when a state
+// meets mismatches (`Meets`) and what the interval residual is (`Residual`); and what several elements share: the
+// nodes, branches and nominal voltages of their phases (`Terminals`), and series impedances (`Series`).
 //
-// Modules: `constants` and `loads` hold the types, `terminals` the nodes and nominal voltages of phases, `stamps` makes contributions
-// of complex numbers, `series` those of series impedances, `range` tests their size, `rows` has the intervals of rows, `laws` says
-// what contributions add up to.
+// Modules: `constants` and `loads` hold the types, `terminals` the nodes and nominal voltages of phases, `stamps` the
+// stamp of an element or a circuit, and makes contributions of complex numbers, `series` those of series impedances,
+// `range` tests their size, `rows` has the intervals of rows, `laws` says what contributions add up to.
 #![tactic(auto)]
 
 mod constants;
@@ -24,5 +24,5 @@ pub use loads::{LoadAt, LoadPhase};
 pub use range::{all_within, is_small, is_within};
 pub use rows::{add_constant, add_term, greater_size};
 pub use series::{add_drop, thirds};
-pub use stamps::{add_imaginary, add_one, add_real, add_shunt, add_stamp};
+pub use stamps::{Stamp, add_imaginary, add_one, add_real, add_shunt, add_stamp};
 pub use terminals::{NodePair, PhasePairs, node, phase_pair, phase_pairs, phase_volts};

@@ -1,11 +1,99 @@
-// Contributions of complex numbers, which are added in room that a list has.
-ghost use Rattle.std.specs.Prelude.{◌≡◌, ◌-◌, ◌+◌, ◌*◌, ◌<◌, ◌≤◌, ◌++◌, ℤ, pos, ◌≤ℤ◌, neg_ℤ, ◌^◌, length, vec_capacity};
+// Stamps, what elements add to the rows, and contributions of complex numbers, which are added in room that a list has.
+ghost use Rattle.std.specs.Prelude.{◌≡◌, ◌-◌, ◌+◌, ◌*◌, ◌<◌, ◌≤◌, ◌++◌, ℤ, pos, ◌≤ℤ◌, neg_ℤ, ◌^◌, [], IfOk, length, vec_capacity};
 ghost use Rattle.fd_exact.specs.Ranges.{Within};
 ghost use Rattle.fd_arith.specs.declared.terms.NodeAt.TheVariants.{Node};
 ghost use Rattle.fd_system.specs.Contributions.{one, shunt_list, stamp, IsSmall};
+ghost use Rattle.fd_system.specs.Stamps.{HasRoom, IsRoomSame, stamp_of};
+ghost use Rattle.fd_system.specs.System.{beside, joined};
 
 use crate::terminals::NodePair;
+use crate::{Constant, LoadAt};
 use fd_arith::{NodeAt, Term};
+use std::alloc::{AllocError, Global};
+
+/// What an element or a whole circuit adds to the rows of a network: constants, contributions and part loads, in order,
+/// and what it draws at nominal voltage, in whole microamperes. Part loads of constant impedance stand in the
+/// contributions too.
+#[derive(Drop)]
+pub struct Stamp {
+    pub constants: Vec<Constant>,
+    pub terms: Vec<Term>,
+    pub loads: Vec<LoadAt>,
+    pub draw: u128,
+}
+
+impl Stamp {
+    /// What no element adds.
+    pub fn empty(alloc: Global) -> Self
+        ensures { stamp_of result ≡ joined [] }
+    {
+        Stamp {
+            constants: Vec::new(alloc),
+            terms: Vec::new(alloc),
+            loads: Vec::new(alloc),
+            draw: 0,
+        }
+    }
+
+    /// What no element adds, with room for so many contributions, part loads and constants.
+    ///
+    /// # Errors
+    /// `AllocError` where the memory is refused.
+    pub fn with_room(
+        alloc: Global,
+        terms: usize,
+        loads: usize,
+        constants: usize,
+    ) -> Result<Self, AllocError>
+        ensures stamp { IfOk result (λ s. stamp_of s ≡ joined []) }
+        ensures room { IfOk result (λ s. HasRoom s terms loads constants) }
+    {
+        Ok(Stamp {
+            constants: Vec::with_capacity(alloc, constants)?,
+            terms: Vec::with_capacity(alloc, terms)?,
+            loads: Vec::with_capacity(alloc, loads)?,
+            draw: 0,
+        })
+    }
+
+    /// Takes out what was added. The lists keep their room.
+    pub fn clear(&mut self)
+        ensures stamp { stamp_of self.new ≡ joined [] }
+        ensures room { IsRoomSame self.old self.new }
+    {
+        self.constants.clear();
+        self.terms.clear();
+        self.loads.clear();
+        self.draw = 0;
+    }
+
+    /// Adds what further elements add, for which the lists have room. Takes no memory.
+    pub fn append_reserved(&mut self, more: &Stamp)
+        requires draw { self.old.draw + more.now.draw < 2 ^ 128 }
+        requires terms { length self.old.terms.items + length more.now.terms.items ≤ vec_capacity self.old.terms }
+        requires loads { length self.old.loads.items + length more.now.loads.items ≤ vec_capacity self.old.loads }
+        requires constants { length self.old.constants.items + length more.now.constants.items
+            ≤ vec_capacity self.old.constants }
+        ensures stamp { stamp_of self.new ≡ beside (stamp_of self.old) (stamp_of more.now) }
+        ensures room { IsRoomSame self.old self.new }
+    {
+        extend_reserved(&mut self.constants, &more.constants);
+        extend_reserved(&mut self.terms, &more.terms);
+        extend_reserved(&mut self.loads, &more.loads);
+        self.draw += more.draw;
+    }
+}
+
+// Adds these items, for which the list has room.
+fn extend_reserved<T: Copy>(list: &mut Vec<T>, more: &[T])
+    requires room { length list.old.items + length more.now ≤ vec_capacity list.old }
+    ensures items { list.new.items ≡ list.old.items ++ more.now }
+    ensures capacity { vec_capacity list.new ≡ vec_capacity list.old }
+{
+    for item in more {
+        list.push_reserved(*item);
+    }
+}
 
 /// Adds the contribution num / den at a real row and column, unless it is 0. Takes no memory.
 pub fn add_one(terms: &mut Vec<Term>, row: u32, col: u32, num: i128, den: i128)

@@ -43,7 +43,15 @@ const POWERS: [(i128, i128, u128); 4] = [
 #[test]
 fn radii_of_power(rt: HostRuntime) {
     for (p, q, due) in &POWERS {
-        let slope = load_slope(&load(LoadModel::ConstantPower), *p * VOLT, *q * VOLT, 0, WIDTH, WIDTH, 0);
+        let slope = load_slope(
+            &load(LoadModel::ConstantPower),
+            *p * VOLT,
+            *q * VOLT,
+            0,
+            WIDTH,
+            WIDTH,
+            0,
+        );
         let (real, imaginary) = (slope.radius.real, slope.radius.imaginary);
         same(&rt, (real.p, imaginary.q, real.m), (*due, *due, 0));
     }
@@ -66,7 +74,16 @@ const CURRENTS: [Current; 5] = [
 fn radii_of_current(rt: HostRuntime) {
     for ((p, q, m), rm, due) in &CURRENTS {
         let (p, q, m) = (*p * VOLT, *q * VOLT, *m * VOLT);
-        let radius = load_slope(&load(LoadModel::ConstantCurrent), p, q, m, WIDTH, WIDTH, *rm).radius;
+        let radius = load_slope(
+            &load(LoadModel::ConstantCurrent),
+            p,
+            q,
+            m,
+            WIDTH,
+            WIDTH,
+            *rm,
+        )
+        .radius;
         same(&rt, (radius.real.p, radius.imaginary.m), *due);
         same(&rt, radius.magnitude.p, 5_497_558_139);
     }

@@ -12,7 +12,7 @@ pub load_radii-requires-clause-size : goal.load_radii-requires-clause-size
 load_radii-requires-clause-size c = omega (arith, c.requires.point.long, c.size-size.ensures.small, c.size-size.ensures.size)
 
 pub load_radii-requires-clause-loads : goal.load_radii-requires-clause-loads
-load_radii-requires-clause-loads c = subst (All (IsConnected (length c.args.x.now))) (sym c.loads.ensures) (subst (λ n. All (IsConnected n) c.args.net.now.share.loads) (sym c.requires.point.long) (loads_connected c.args.net.now c.size-size.ensures.valid))
+load_radii-requires-clause-loads c = subst (All (IsConnected (length c.args.x.now))) (sym c.loads.ensures) (subst (λ n. All (IsConnected n) c.args.net.now.stamp.loads) (sym c.requires.point.long) (loads_connected c.args.net.now c.size-size.ensures.valid))
 
 pub load_radii-requires-clause-few : goal.load_radii-requires-clause-few
 load_radii-requires-clause-few c = let n = c.size-size.ensures.valid in omega (arith, ap length c.loads.ensures, n.few_loads)

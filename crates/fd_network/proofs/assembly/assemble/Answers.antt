@@ -1,10 +1,12 @@
 use Rattle.std.proofs.Common.{◌≡◌, ◌∙◌, ℕ, ◌*◌, Some, ap, subst, sym}
 use Rattle.dss_layout.specs.Layout.{complex_count}
 use Rattle.fd_system.specs.Contributions.{AreSmall}
+use Rattle.fd_system.specs.Stamps.{stamp_of}
+use Rattle.fd_system.specs.System.{StampView}
 use Rattle.fd_equations.specs.Coefficients.{linear_entry}
 use Rattle.fd_equations.specs.Conditions.{AreApart, IsNetwork}
-use Rattle.fd_equations.specs.Views.{network_of, share_with}
-use Rattle.fd_devices.specs.Devices.{AgreesWith, Added, added_of, parts_of_all, share_of_all}
+use Rattle.fd_equations.specs.Views.{network_of, stamp_with}
+use Rattle.fd_devices.specs.Devices.{AgreesWith, parts_of_all, stamp_of_all}
 use Rattle.fd_devices.specs.Scripted.{devices_from, layout_counts}
 use Rattle.fd_network.specs.Collecting.{settings_left}
 use Rattle.fd_network.specs.Faults.{first_without, has_small_sums}
@@ -16,7 +18,7 @@ use Rattle.fd_network.proofs.assembly.assemble.Goals as goal
 pub exchange-requires : goal.exchange-requires
 exchange-requires c =
     let ds = devices_from c.args.layout.now c.args.hertz 0 c.args.elements.now.entries (settings_left c.args.settings.now) in
-    can_hold c.args.layout.now c.args.elements.now.entries ds (added_of c.collect.new.all) c.args.parts.now.rows c.requires.size
+    can_hold c.args.layout.now c.args.elements.now.entries ds (stamp_of c.collect.new.all) c.args.parts.now.rows c.requires.size
     c.in_ok-collect.ensures.collected c.reach_law.ensures (c.requires.reaches (settings_left c.args.settings.now)) c.requires.few c.requires.few_branches c.requires.few_complexes c.requires.few_magnitudes
 
 pub returns-in-Ok-clause-valid : goal.returns-in-Ok-clause-valid
@@ -24,17 +26,16 @@ returns-in-Ok-clause-valid c =
     let layout = c.args.layout.now in
     let ds = devices_from layout c.args.hertz 0 c.args.elements.now.entries (settings_left c.args.settings.now) in
     let collected = c.in_ok-collect.ensures.collected in
-    let piece = c.collect.new.all in
-    let a = added_of piece in
+    let a = stamp_of c.collect.new.all in
     let x = c.exchange.ensures.exchanged in
-    let sums = subst (λ s. (row col : ℕ) → AreSmall (linear_entry s row col)) (sym (ap (λ (x : Added). x.share.terms) collected.added)) c.in-Ok.ensures.small.sums in
-    let far = subst AreApart (sym (ap (λ (x : Added). x.share.loads) collected.added)) (apart layout c.args.hertz (2 * complex_count layout) c.args.elements.now.entries (settings_left c.args.settings.now) c.requires.magnitudes) in
+    let sums = subst (λ s. (row col : ℕ) → AreSmall (linear_entry s row col)) (sym (ap (λ (x : StampView). x.terms) collected.stamp)) c.in-Ok.ensures.small.sums in
+    let far = subst AreApart (sym (ap (λ (x : StampView). x.loads) collected.stamp)) (apart layout c.args.hertz (2 * complex_count layout) c.args.elements.now.entries (settings_left c.args.settings.now) c.requires.magnitudes) in
     let net = is_network layout c.args.elements.now.entries ds a collected sums far c.requires.few c.requires.few_branches c.requires.few_complexes c.requires.few_magnitudes in
     let constants = sym x.constants in
     let terms = sym x.terms in
     let loads = sym x.loads in
     let draw = sym x.draw in
-    subst IsNetwork (λ i. network_of (layout_counts layout) (share_with (constants i).items (terms i) (loads i)) (draw i)) net
+    subst IsNetwork (λ i. network_of (layout_counts layout) (stamp_with (constants i).items (terms i) (loads i) (draw i))) net
 
 pub returns-in-Ok-clause-agrees : goal.returns-in-Ok-clause-agrees
 returns-in-Ok-clause-agrees c =
@@ -44,9 +45,10 @@ returns-in-Ok-clause-agrees c =
     let constants = x.constants in
     let terms = x.terms in
     let loads = x.loads in
-    let share : share_with c.exchange.new.parts.constants.items c.exchange.new.parts.rows.terms c.exchange.new.parts.rows.loads ≡ share_of_all ds =
-    (λ i. share_with (constants i).items (terms i) (loads i)) ∙ ap (λ (a : Added). a.share) collected.added in
-    subst (λ s. AgreesWith s (parts_of_all ds)) (sym share) (c.device_law.ensures ds collected.good)
+    let draw = x.draw in
+    let stamp : stamp_with c.exchange.new.parts.constants.items c.exchange.new.parts.rows.terms c.exchange.new.parts.rows.loads c.exchange.new.parts.draw ≡ stamp_of_all ds =
+    (λ i. stamp_with (constants i).items (terms i) (loads i) (draw i)) ∙ collected.stamp in
+    subst (λ s. AgreesWith s (parts_of_all ds)) (sym stamp) (c.device_law.ensures ds collected.good)
 
 pub returns-in-Ok-clause-no_fault : goal.returns-in-Ok-clause-no_fault
 returns-in-Ok-clause-no_fault c =
@@ -57,5 +59,5 @@ pub returns-in-Err-clause-fault : goal.returns-in-Err-clause-fault
 returns-in-Err-clause-fault c =
     let ds = devices_from c.args.layout.now c.args.hertz 0 c.args.elements.now.entries (settings_left c.args.settings.now) in
     let collected = c.in_ok-collect.ensures.collected in
-    let terms = c.exchange.ensures.exchanged.terms ∙ ap (λ (a : Added). a.share.terms) collected.added in
+    let terms = c.exchange.ensures.exchanged.terms ∙ ap (λ (a : StampView). a.terms) collected.stamp in
     sum_first ds c.in-Err.fault.0 collected.fits (subst (λ ts. first_without (has_small_sums ts) ds ≡ Some c.in-Err.fault.0) terms c.in-Err.ensures.fault)

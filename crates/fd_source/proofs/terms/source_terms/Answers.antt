@@ -1,6 +1,6 @@
 use Rattle.std.proofs.Common.{sym, subst}
 use Rattle.fd_system.specs.System.{Represents}
-use Rattle.fd_source.specs.Equations.{share_of, source_constants, source_parts}
+use Rattle.fd_source.specs.Equations.{stamp_from, source_constants, source_parts}
 use Rattle.fd_source.proofs.Rows.{source_is}
 use Rattle.fd_source.proofs.terms.source_terms.Goals as goal
 
@@ -10,5 +10,5 @@ returns-clause-represents c =
     let at = c.args.at.now in
     let terms = c.in_ok-terms.ensures.list in
     let constants = c.in_ok-constants.ensures in
-    let r = subst (λ ts. Represents (share_of at (source_constants s) ts) (source_parts s at)) (sym terms) (source_is s at).represents in
-    subst (λ cs. Represents (share_of at cs c.in_ok-terms.terms.items) (source_parts s at)) (sym constants) r
+    let r = subst (λ ts. Represents (stamp_from at (source_constants s) ts) (source_parts s at)) (sym terms) (source_is s at).represents in
+    subst (λ cs. Represents (stamp_from at cs c.in_ok-terms.terms.items) (source_parts s at)) (sym constants) r

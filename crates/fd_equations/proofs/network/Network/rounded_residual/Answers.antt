@@ -11,8 +11,8 @@ use Rattle.fd_equations.proofs.network.Network.rounded_residual.Goals.{After-add
 pub add_loads-requires-clause-long : goal.add_loads-requires-clause-long
 add_loads-requires-clause-long c = ap length (c.deref_mut.ensures.value ∙ c.in_ok-rows.ensures.rows) ∙ length-list_of c.args.self.now.size _ ∙ sym c.requires.long
 
-grown : (c : After-add_loads) → (l : ℕ) → part c.add_loads.new.rows l ≡ part c.deref_mut.result.now l +ℤ loads_row c.args.self.now.share.loads c.args.x.now l
-grown c l = c.add_loads.ensures l ∙ ap (λ us. part c.deref_mut.result.now l +ℤ loads_row us c.args.x.now l) (c.loads.ensures.loads ∙ ap (λ v. v.share.loads) c.self.view_is)
+grown : (c : After-add_loads) → (l : ℕ) → part c.add_loads.new.rows l ≡ part c.deref_mut.result.now l +ℤ loads_row c.args.self.now.stamp.loads c.args.x.now l
+grown c l = c.add_loads.ensures l ∙ ap (λ us. part c.deref_mut.result.now l +ℤ loads_row us c.args.x.now l) (c.loads.ensures.loads ∙ ap (λ v. v.stamp.loads) c.self.view_is)
 
 linear : (c : After-add_loads) → c.deref_mut.result.now ≡ linear_residual_of c.args.self.now c.args.x.now
 linear c = c.deref_mut.ensures.value ∙ c.in_ok-rows.ensures.rows

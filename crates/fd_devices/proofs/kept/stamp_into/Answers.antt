@@ -1,11 +1,12 @@
 use Rattle.std.proofs.Common.{◌∙◌, ◌<◌, ◌^◌, length, arith, ap, refl, sym, subst}
-use Rattle.fd_devices.specs.Devices.{Added}
+use Rattle.fd_system.specs.System.{StampView}
+use Rattle.fd_system.proofs.CallerLemmas.{first_beside, room_then}
 use Rattle.fd_devices.specs.Kept.{AreFewOf}
-use Rattle.fd_devices.proofs.Keeping.{first_beside, fixed_few, kept_small, room_then, unmoved}
+use Rattle.fd_devices.proofs.Keeping.{fixed_few, kept_small, unmoved}
 use Rattle.std.proofs.lemmas.Result.{on_ok_weaker}
 use Rattle.fd_devices.specs.Settings.{settings_in}
 use Rattle.fd_devices.proofs.Settling.{transformer_here, capacitor_here, load_here}
-use Rattle.fd_devices.proofs.kept.piece_into.Goals as goal
+use Rattle.fd_devices.proofs.kept.stamp_into.Goals as goal
 
 pub load_into-requires-clause-magnitude : goal.load_into-requires-clause-magnitude
 load_into-requires-clause-magnitude c = subst (λ m. m < 2 ^ 31) (sym c.first_magnitude.ensures) c.requires.place.first
@@ -26,11 +27,11 @@ pub append_reserved-requires : goal.append_reserved-requires
 append_reserved-requires c =
     let none = unmoved c.args.element.now c.in_default.not-Transformer c.in_default.not-Capacitor c.in_default.not-Load in
     let small = kept_small c.args.layout.now c.args.hertz c.args.place c.args.element.now (settings_in c.args.own.now) c.args.kept.now c.requires.kept none c.requires.ready.in_range in
-    let a = c.clear.ensures.added in
-    let t = ap (λ (x : Added). length x.share.terms) a in
-    let l = ap (λ (x : Added). length x.share.loads) a in
-    let k = ap (λ (x : Added). length x.share.constants) a in
-    let d = ap (λ (x : Added). x.draw) a in
+    let a = c.clear.ensures.stamp in
+    let t = ap (λ (x : StampView). length x.terms) a in
+    let l = ap (λ (x : StampView). length x.loads) a in
+    let k = ap (λ (x : StampView). length x.constants) a in
+    let d = ap (λ (x : StampView). x.draw) a in
     let room = c.clear.ensures.room in
     record {
       draw = omega (arith, d, small.draw);
@@ -43,12 +44,12 @@ pub returns-in_default : goal.returns-in_default
 returns-in_default c =
     let none = unmoved c.args.element.now c.in_default.not-Transformer c.in_default.not-Capacitor c.in_default.not-Load in
     let s = settings_in c.args.own.now in
-    let added = c.append_reserved.ensures.added ∙ first_beside _ _ c.clear.ensures.added ∙ c.requires.kept.added none s in
+    let stamp = c.append_reserved.ensures.stamp ∙ first_beside _ _ c.clear.ensures.stamp ∙ c.requires.kept.stamp none s in
     let settled = c.requires.kept.settled none s in
     record {
-      added = added;
+      stamp = stamp;
       settled = settled;
-      few = subst (AreFewOf c.args.element.now) (sym added) (fixed_few c.args.layout.now c.args.hertz c.args.place c.args.element.now s none settled);
+      few = subst (AreFewOf c.args.element.now) (sym stamp) (fixed_few c.args.layout.now c.args.hertz c.args.place c.args.element.now s none settled);
       range = tt;
       room = room_then _ _ _ c.clear.ensures.room c.append_reserved.ensures.room;
     }

@@ -3,7 +3,7 @@ use Rattle.std.specs.Prelude.{IfOk}
 use Rattle.fd_devices.specs.Devices.{line}
 use Rattle.fd_devices.specs.Building.{IsSettled}
 use Rattle.fd_devices.specs.Sound.{HasBranches, IsSideOf}
-use Rattle.fd_devices.proofs.pieces.line_piece.Goals as goal
+use Rattle.fd_devices.proofs.stamps.line_stamp.Goals as goal
 
 pub returns-clause-settled : goal.returns-clause-settled
 returns-clause-settled c =

@@ -1,5 +1,5 @@
 use Rattle.std.proofs.Common.{◌≡◌, ◌++◌, vec_capacity, take}
-use Rattle.fd_devices.proofs.writers.extend_reserved.Given as goal
+use Rattle.fd_system.proofs.stamps.extend_reserved.Given as goal
 
 abbrev pub invariant-loop-item : goal.invariant-loop-item
 invariant-loop-item g l = record {

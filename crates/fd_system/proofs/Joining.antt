@@ -1,5 +1,5 @@
--- Shares are put together, and what meets one level meets the other.
-use Rattle.std.proofs.Common.{◌≡◌, ◌∙◌, ℕ, ◌*◌, ◌<◌, ◌≤◌, ℤ, pos, ◌*ℤ◌, List, [], ◌∷◌, ◌++◌, map, arith, ap, sym, subst}
+-- Stamps are put together, and what meets one level meets the other.
+use Rattle.std.proofs.Common.{◌≡◌, ◌∙◌, ℕ, ◌*◌, ◌<◌, ◌≤◌, ℤ, pos, ◌*ℤ◌, List, [], ◌∷◌, ◌++◌, map, arith, ap, sym, subst, zero-add}
 use Rattle.std.specs.List.{flat_map, All}
 use Rattle.std.specs.Int.RustNames.{unsigned_abs}
 use Rattle.std.proofs.Math.Nat.{mul-le-mul_right, le_of_mul-le-mul_right}
@@ -11,29 +11,29 @@ use Rattle.fd_system.specs.Meets.{Meets}
 use Rattle.fd_arith.specs.declared.terms.Term.{Term}
 use Rattle.fd_system.specs.declared.constants.Constant.{Constant}
 use Rattle.fd_system.specs.declared.loads.LoadAt.{LoadAt}
+use Rattle.fd_system.specs.declared.stamps.Stamp.{Stamp}
 use Rattle.fd_system.specs.Loads.{nonlinear_parts}
 use Rattle.std.proofs.lemmas.Grind.{flat_map-append}
 use Rattle.fd_exact.specs.Fractions.{◌⊕◌, nothing, Same}
 use Rattle.fd_system.specs.Contributions.{given}
 use Rattle.fd_system.specs.Equations.{Part, equation, AddsUp}
-use Rattle.fd_system.specs.System.{Share, constant_given, linear_of, residual_of, joined, Represents}
+use Rattle.fd_system.specs.Stamps.{IsRoomSame}
+use Rattle.fd_system.specs.System.{StampView, beside, constant_given, linear_of, residual_of, joined, Represents}
 use Rattle.fd_exact.specs.FractionLaws.{sum_of-append, Same-nothing, nothing-plus, plus-nothing, plus_swap, Same-plus}
 use Rattle.fd_system.proofs.StampRows.{equation-append}
 
 -- an element that has constants and contributions alone
-pub linear_row : (cs : List Constant) (ts : List Term) (x : State) (l : ℕ) (ps : List Part)
+pub linear_row : (cs : List Constant) (ts : List Term) (draw : ℕ) (x : State) (l : ℕ) (ps : List Part)
     → Same (linear_of cs ts x l) (equation l ps)
-    → Same (residual_of (record { constants = cs; terms = ts; loads = [] }) x l) (equation l ps)
-linear_row cs ts x l ps h = subst (λ s. Same s (equation l ps)) (sym (plus-nothing _)) h
+    → Same (residual_of (record { constants = cs; terms = ts; loads = []; draw = draw }) x l) (equation l ps)
+linear_row cs ts draw x l ps h = subst (λ s. Same s (equation l ps)) (sym (plus-nothing _)) h
 
-pub term_share : (ts : List Term) (ps : State → List Part) → AddsUp ts ps
-    → Represents (record { constants = []; terms = ts; loads = [] }) ps
-term_share ts ps h x o l = linear_row [] ts x l (ps x) (subst (λ s. Same s (equation l (ps x))) (sym (nothing-plus _)) (h x o l))
+pub term_stamp : (ts : List Term) (draw : ℕ) (ps : State → List Part) → AddsUp ts ps
+    → Represents (record { constants = []; terms = ts; loads = []; draw = draw }) ps
+term_stamp ts draw ps h x o l =
+    linear_row [] ts draw x l (ps x) (subst (λ s. Same s (equation l (ps x))) (sym (nothing-plus _)) (h x o l))
 
-abbrev pub beside : Share → Share → Share
-beside s t = record { constants = s.constants ++ t.constants; terms = s.terms ++ t.terms; loads = s.loads ++ t.loads }
-
-pub residual-beside : (s t : Share) (x : State) (l : ℕ)
+pub residual-beside : (s t : StampView) (x : State) (l : ℕ)
     → residual_of (beside s t) x l ≡ residual_of s x l ⊕ residual_of t x l
 residual-beside s t x l =
     let e = sum_of-append (constant_given l) s.constants t.constants in
@@ -41,20 +41,30 @@ residual-beside s t x l =
     let g = ap (equation l) (flat_map-append (λ (u : LoadAt). nonlinear_parts u x) s.loads t.loads) ∙ equation-append l (flat_map (λ u. nonlinear_parts u x) s.loads) (flat_map (λ u. nonlinear_parts u x) t.loads) in
     (λ i. (e i ⊕ f i) ⊕ g i) ∙ ap (λ r. r ⊕ (equation l (flat_map (λ u. nonlinear_parts u x) s.loads) ⊕ equation l (flat_map (λ u. nonlinear_parts u x) t.loads))) (plus_swap _ _ _ _) ∙ plus_swap _ _ _ _
 
-pub beside_row : (s t : Share) (x : State) (l : ℕ) (ps qs : List Part) → Same (residual_of s x l) (equation l ps)
+pub beside_row : (s t : StampView) (x : State) (l : ℕ) (ps qs : List Part) → Same (residual_of s x l) (equation l ps)
     → Same (residual_of t x l) (equation l qs) → Same (residual_of (beside s t) x l) (equation l (ps ++ qs))
 beside_row s t x l ps qs h j = rw (residual-beside s t x l, equation-append l ps qs) (Same-plus h j)
 
 pub no_parts : Same ((nothing ⊕ nothing) ⊕ nothing) nothing
 no_parts = subst (λ v. Same v nothing) (sym (plus-nothing (nothing ⊕ nothing) ∙ nothing-plus nothing)) Same-nothing
 
--- a circuit: each element has a share and parts, and the two agree
-pub Represents-joined : {E : Type 0} (share : E → Share) (parts : E → State → List Part) (es : List E)
-    → All (λ e. Represents (share e) (parts e)) es
-    → Represents (joined (map share es)) (λ x. flat_map (λ e. parts e x) es)
-Represents-joined share parts [] h = λ x o l. no_parts
-Represents-joined share parts (e ∷ es) h = λ x o l. beside_row (share e) (joined (map share es)) x l (parts e x) (flat_map (λ d. parts d x) es)
-    (All-head (λ d. Represents (share d) (parts d)) e es h x o l) (Represents-joined share parts es (All-tail (λ d. Represents (share d) (parts d)) e es h) x o l)
+-- a circuit: each element has a stamp and parts, and the two agree
+pub Represents-joined : {E : Type 0} (stamp : E → StampView) (parts : E → State → List Part) (es : List E)
+    → All (λ e. Represents (stamp e) (parts e)) es
+    → Represents (joined (map stamp es)) (λ x. flat_map (λ e. parts e x) es)
+Represents-joined stamp parts [] h = λ x o l. no_parts
+Represents-joined stamp parts (e ∷ es) h = λ x o l. beside_row (stamp e) (joined (map stamp es)) x l (parts e x) (flat_map (λ d. parts d x) es)
+    (All-head (λ d. Represents (stamp d) (parts d)) e es h x o l) (Represents-joined stamp parts es (All-tail (λ d. Represents (stamp d) (parts d)) e es h) x o l)
+
+-- ---- stamps one after the other
+
+pub first_beside : (s t : StampView) → s ≡ joined [] → beside s t ≡ t
+first_beside s t e =
+    ap (λ x. beside x t) e ∙ (λ i. record { constants = t.constants; terms = t.terms; loads = t.loads; draw = zero-add t.draw i })
+
+-- room that stays the same twice
+pub room_then : (s t u : Stamp) → IsRoomSame s t → IsRoomSame t u → IsRoomSame s u
+room_then s t u h k = record { terms = k.terms ∙ h.terms; loads = k.loads ∙ h.loads; constants = k.constants ∙ h.constants }
 
 -- ---- meets
 

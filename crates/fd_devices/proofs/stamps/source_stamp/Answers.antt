@@ -1,15 +1,16 @@
 use Rattle.std.proofs.Common.{◌≡◌, ℕ, Err, subst}
 use Rattle.std.specs.Prelude.{IfOk}
 use Rattle.fd_arith.specs.declared.terms.TermFault.TheVariants as fault
-use Rattle.fd_devices.specs.Devices.{added_by, added_of, source}
+use Rattle.fd_system.specs.Stamps.{stamp_of}
+use Rattle.fd_devices.specs.Devices.{device_stamp, source}
 use Rattle.fd_devices.specs.Building.{Fits, IsSettled}
 use Rattle.fd_devices.specs.Sound.{HasBranches, IsSideOf}
-use Rattle.fd_devices.proofs.pieces.source_piece.Goals as goal
+use Rattle.fd_devices.proofs.stamps.source_stamp.Goals as goal
 
-pub returns-clause-added : goal.returns-clause-added
-returns-clause-added c =
+pub returns-clause-stamp : goal.returns-clause-stamp
+returns-clause-stamp c =
     let is = c.in_ok-data.ensures.value in
-    subst (λ d. IfOk c.source_at.result (λ p. added_of p ≡ added_by (source d c.args.at.now))) is c.source_at.ensures.added
+    subst (λ d. IfOk c.source_at.result (λ s. stamp_of s ≡ device_stamp (source d c.args.at.now))) is c.source_at.ensures.stamp
 
 pub returns-clause-settled : goal.returns-clause-settled
 returns-clause-settled c =

@@ -1,10 +1,10 @@
 use Rattle.std.proofs.Common.{take, All}
 use Rattle.fd_devices.specs.Building.{HasSmallSums}
-use Rattle.fd_devices.specs.Kept.{IsRoomSame}
+use Rattle.fd_system.specs.Stamps.{IsRoomSame}
 use Rattle.fd_devices.specs.Scripted.{devices_from}
 use Rattle.fd_network.specs.Collecting.{settings_left}
 use Rattle.fd_network.proofs.Taking.{IsAt}
-use Rattle.fd_network.proofs.pieces.check_sums.Given as goal
+use Rattle.fd_network.proofs.stamps.check_sums.Given as goal
 
 abbrev pub invariant-loop-place : goal.invariant-loop-place
 invariant-loop-place l = record {

@@ -4,19 +4,19 @@ use Rattle.fd_arith.specs.declared.terms.TermFault.TheVariants as fault
 use Rattle.fd_system.specs.Contributions.{IsWithin}
 use Rattle.fd_source.specs.Equations.{constants_from}
 use Rattle.fd_devices.proofs.Bounded.{source_settled}
-use Rattle.fd_devices.proofs.pieces.source_at.Goals as goal
+use Rattle.fd_devices.proofs.stamps.source_at.Goals as goal
 
 pub returns-in_err-terms-clause-range : goal.returns-in_err-terms-clause-range
 returns-in_err-terms-clause-range c = λ e f.
     let r : c.source_terms.result ≡ Err fault.Range = search rules in
     c.source_terms.ensures.range r f.terms
 
-pub returns-clause-added : goal.returns-clause-added
-returns-clause-added c =
+pub returns-clause-stamp : goal.returns-clause-stamp
+returns-clause-stamp c =
     let rows = c.in_ok-rows_from.ensures ∙ ap (constants_from (2 * c.args.at.now.branch)) (c.deref.ensures.value ∙ c.in_ok-terms.ensures.constants) in
     let terms = c.in_ok-terms.ensures.terms in
     let none = c.new.ensures.items in
-    λ i. record { share = record { constants = rows i; terms = terms i; loads = none i }; draw = 0 }
+    λ i. record { constants = rows i; terms = terms i; loads = none i; draw = 0 }
 
 pub returns-clause-settled : goal.returns-clause-settled
 returns-clause-settled c = λ m n size first branches.

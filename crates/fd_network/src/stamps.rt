@@ -4,10 +4,11 @@ ghost use Rattle.dss_layout.specs.Layout.{complex_count, size_of};
 ghost use Rattle.dss_circuit.specs.Limits.{most_elements};
 ghost use Rattle.fd_devices.specs.Standing.{IsSettledAt};
 ghost use Rattle.fd_system.specs.Contributions.{AreSmall};
+ghost use Rattle.fd_system.specs.Stamps.{HasRoom, IsRoomSame, stamp_of};
 ghost use Rattle.fd_equations.specs.Coefficients.{linear_entry};
 ghost use Rattle.fd_devices.specs.Building.{AreCollected, Fits, HasSmallSums};
-ghost use Rattle.fd_devices.specs.Devices.{added_by, added_of, share_of_all};
-ghost use Rattle.fd_devices.specs.Kept.{AreFewOf, HasRoom, IsKeptOf, IsRoomSame};
+ghost use Rattle.fd_devices.specs.Devices.{device_stamp, stamp_of_all};
+ghost use Rattle.fd_devices.specs.Kept.{AreFewOf, IsKeptOf};
 ghost use Rattle.fd_devices.specs.Settings.{own};
 ghost use Rattle.fd_network.specs.Collecting.{AreTakenFrom, IsTakenAt, all_devices, device_at, settings_left};
 ghost use Rattle.fd_network.specs.Faults.{first_without, fits, has_small_sums};
@@ -18,13 +19,15 @@ use crate::settings::SettingsLeft;
 use dss_layout::Layout;
 use dss_profile::{Element, ElementName};
 use fd_arith::Term;
-use fd_devices::{Kept, Piece, piece_into};
+use fd_devices::{Kept, stamp_into};
 use fd_equations::Rows;
+use fd_system::Stamp;
 use indexmap::IndexMap;
 
-// Puts what the element at a place in order adds, with the first of the settings that are left, in place of what a piece has.
-fn piece_at(
-    into: &mut Piece,
+// Puts what the element at a place in order adds, with the first of the settings that are left, in place of what a
+// stamp has.
+fn stamp_at(
+    into: &mut Stamp,
     layout: &Layout,
     hertz: u32,
     place: usize,
@@ -35,16 +38,17 @@ fn piece_at(
     requires taken { IsTakenAt layout.now hertz place element.now (settings_left left.now) }
     requires kept { IsKeptOf layout.now hertz place element.now kept.now }
     requires room { HasRoom into.old 256 9 6 }
-    ensures added { OnOk result (added_of into.new ≡ added_by (device_at layout.now hertz place element.now left.now)) }
+    ensures stamp { OnOk result (stamp_of into.new
+        ≡ device_stamp (device_at layout.now hertz place element.now left.now)) }
     ensures settled { OnOk result
         (IsSettledAt layout.now hertz place element.now (own element.now (settings_left left.now))) }
-    ensures few { OnOk result (AreFewOf element.now (added_of into.new)) }
+    ensures few { OnOk result (AreFewOf element.now (stamp_of into.new)) }
     ensures fault { IfErr result (λ f. (f.0 ≡ place)
         × ¬ (Fits (device_at layout.now hertz place element.now left.now))) }
     ensures room { IsRoomSame into.old into.new }
 {
     let own = left.own(element);
-    match piece_into(into, layout, hertz, place, element, &own, kept) {
+    match stamp_into(into, layout, hertz, place, element, &own, kept) {
         Ok(()) => Ok(()),
         Err(_) => Err(OutOfRange(place)),
     }
@@ -57,8 +61,8 @@ fn piece_at(
 /// `OutOfRange` exactly where an element has a contribution past 2^54 in units of 2^-40 or a load phase past its limit, with the place of the
 /// first.
 pub fn collect(
-    all: &mut Piece,
-    one: &mut Piece,
+    all: &mut Stamp,
+    one: &mut Stamp,
     layout: &Layout,
     hertz: u32,
     elements: &IndexMap<ElementName, Element>,
@@ -72,7 +76,7 @@ pub fn collect(
     requires one { HasRoom one.old 256 9 6 }
     ensures collected { OnOk result
         (AreCollected (length layout.now.nodes) (complex_count layout.now) (size_of layout.now)
-        elements.now.entries (all_devices layout.now hertz elements.now.entries settings.now) (added_of all.new)) }
+        elements.now.entries (all_devices layout.now hertz elements.now.entries settings.now) (stamp_of all.new)) }
     ensures fault { IfErr result
         (λ f. first_without fits (all_devices layout.now hertz elements.now.entries settings.now) ≡ Some f.0) }
     ensures room { IsRoomSame all.old all.new }
@@ -83,7 +87,7 @@ pub fn collect(
     let entries = elements.as_slice();
     for place in 0..entries.len() {
         let (_, element) = entries.get_index(place).unwrap();
-        piece_at(one, layout, hertz, place, element, &left, &kept[place])?;
+        stamp_at(one, layout, hertz, place, element, &left, &kept[place])?;
         all.append_reserved(one);
         left = left.after(element);
     }
@@ -97,7 +101,7 @@ pub fn collect(
 /// # Errors
 /// `OutOfRange` with the place of that element.
 pub fn check_sums(
-    one: &mut Piece,
+    one: &mut Stamp,
     layout: &Layout,
     hertz: u32,
     elements: &IndexMap<ElementName, Element>,
@@ -110,7 +114,7 @@ pub fn check_sums(
     requires one { HasRoom one.old 256 9 6 }
     requires fits { All Fits (all_devices layout.now hertz elements.now.entries settings.now) }
     requires terms { rows.now.terms
-        ≡ (share_of_all (all_devices layout.now hertz elements.now.entries settings.now)).terms }
+        ≡ (stamp_of_all (all_devices layout.now hertz elements.now.entries settings.now)).terms }
     ensures small { OnOk result
         (All (HasSmallSums rows.now.terms) (all_devices layout.now hertz elements.now.entries settings.now)) }
     ensures fault { IfErr result (λ f. first_without (has_small_sums rows.now.terms)
@@ -121,7 +125,7 @@ pub fn check_sums(
     let entries = elements.as_slice();
     for place in 0..entries.len() {
         let (_, element) = entries.get_index(place).unwrap();
-        piece_at(one, layout, hertz, place, element, &left, &kept[place])?;
+        stamp_at(one, layout, hertz, place, element, &left, &kept[place])?;
         if !have_small_sums(rows, &one.terms) {
             return Err(OutOfRange(place));
         }

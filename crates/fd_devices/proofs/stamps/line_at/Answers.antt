@@ -2,7 +2,7 @@ use Rattle.std.proofs.Common.{subst}
 use Rattle.std.specs.List.{All}
 use Rattle.fd_system.specs.Contributions.{IsWithin}
 use Rattle.fd_devices.proofs.Bounded.{line_settled}
-use Rattle.fd_devices.proofs.pieces.line_at.Goals as goal
+use Rattle.fd_devices.proofs.stamps.line_at.Goals as goal
 
 pub returns-clause-settled : goal.returns-clause-settled
 returns-clause-settled c = λ m n size first second branches.

@@ -1,6 +1,6 @@
 use Rattle.std.proofs.Common.{◌≡◌, ◌+◌, ◌++◌, drop}
 use Rattle.fd_source.specs.Equations.{constants_from}
-use Rattle.fd_devices.proofs.pieces.rows_from.Given as goal
+use Rattle.fd_devices.proofs.stamps.rows_from.Given as goal
 
 abbrev pub invariant-loop-k : goal.invariant-loop-k
 invariant-loop-k l = l.rows.items ++ constants_from (l.first + l.k) (drop l.k l.values) ≡ constants_from l.first l.values

@@ -6,20 +6,21 @@ use Rattle.std.proofs.lemmas.Result.{err_from_is_err_and}
 use Rattle.dss_layout.specs.Layout.{complex_count, size_of}
 use Rattle.dss_layout.proofs.CallerLemmas.{take-more}
 use Rattle.fd_devices.specs.Building.{AreCollected, Fits}
-use Rattle.fd_devices.specs.Devices.{added_of}
+use Rattle.fd_system.specs.Stamps.{stamp_of}
+use Rattle.fd_system.proofs.CallerLemmas.{room_then}
 use Rattle.fd_devices.specs.Scripted.{device_of, devices_from}
 use Rattle.fd_devices.specs.Settings.{own}
-use Rattle.fd_devices.proofs.CallerLemmas.{collected_more, devices_length, room_then}
+use Rattle.fd_devices.proofs.CallerLemmas.{collected_more, devices_length}
 use Rattle.fd_network.specs.Collecting.{settings_left}
 use Rattle.fd_network.specs.Faults.{fits}
 use Rattle.fd_network.proofs.Faulty.{first_at, fits_decides}
 use Rattle.fd_network.proofs.Filling.{few_next, fits_beside}
 use Rattle.fd_network.proofs.Taking.{IsAt, device_next, here_from, next_at, taken_at}
 use Rattle.fd_network.proofs.Walking.{stands_at}
-use Rattle.fd_network.proofs.pieces.collect.Goals as goal
+use Rattle.fd_network.proofs.stamps.collect.Goals as goal
 
-pub piece_at-requires-clause-taken : goal.piece_at-requires-clause-taken
-piece_at-requires-clause-taken c =
+pub stamp_at-requires-clause-taken : goal.stamp_at-requires-clause-taken
+stamp_at-requires-clause-taken c =
     let es = c.args.elements.now.entries in
     let layout = c.args.layout.now in
     let hertz = c.args.hertz in
@@ -30,8 +31,8 @@ piece_at-requires-clause-taken c =
     let here = ap (λ es. slice_get es c.loop-place.place) (sym c.as_slice-entries.ensures.entries) ∙ sym c.get_index.ensures.entry ∙ ap (option_map deref_pair) c.unwrap.ensures in
     taken_at layout hertz es ds place left e here c.loop-place.invariant.at
 
-pub piece_at-requires-clause-kept : goal.piece_at-requires-clause-kept
-piece_at-requires-clause-kept c =
+pub stamp_at-requires-clause-kept : goal.stamp_at-requires-clause-kept
+stamp_at-requires-clause-kept c =
     let es = c.args.elements.now.entries in
     let layout = c.args.layout.now in
     let hertz = c.args.hertz in
@@ -43,8 +44,8 @@ piece_at-requires-clause-kept c =
     c.requires.kept.each place e c.index-kept-place.result here
     (stands_at c.args.kept.now place c.index-kept-place.result (omega (arith, c.requires.kept.count, ap length c.as_slice-entries.ensures.entries, c.len-place-end.ensures, c.loop-place-test.true, c.loop-place.auto.place-end)) c.index-kept-place.is)
 
-pub returns-in_err-piece_at-clause-fault : goal.returns-in_err-piece_at-clause-fault
-returns-in_err-piece_at-clause-fault c =
+pub returns-in_err-stamp_at-clause-fault : goal.returns-in_err-stamp_at-clause-fault
+returns-in_err-stamp_at-clause-fault c =
     let es = c.args.elements.now.entries in
     let layout = c.args.layout.now in
     let hertz = c.args.hertz in
@@ -55,7 +56,7 @@ returns-in_err-piece_at-clause-fault c =
     let here = ap (λ es. slice_get es c.loop-place.place) (sym c.as_slice-entries.ensures.entries) ∙ sym c.get_index.ensures.entry ∙ ap (option_map deref_pair) c.unwrap.ensures in
     let next = device_next layout hertz es ds place left e here c.loop-place.invariant.at in
     let p = err_from_is_err_and c.from_residual.result c.from_residual.ensures.1 in
-    let fault = c.in_err-piece_at.ensures.fault in
+    let fault = c.in_err-stamp_at.ensures.fault in
     rw (p.1, p.2) (first_at fits Fits fits_decides ds place _ _ c.loop-place.invariant.made.fits next fault.1 ∙ ap Some (sym fault.0))
 
 pub append_reserved-requires-clause-terms : goal.append_reserved-requires-clause-terms
@@ -68,7 +69,7 @@ append_reserved-requires-clause-terms c =
     let e = deref_pair c.unwrap.result in
     let ds = devices_from layout hertz 0 es (settings_left c.args.settings.now) in
     let here = ap (λ es. slice_get es c.loop-place.place) (sym c.as_slice-entries.ensures.entries) ∙ sym c.get_index.ensures.entry ∙ ap (option_map deref_pair) c.unwrap.ensures in
-    let beside = fits_beside es place e here (added_of c.loop-place.all) (added_of c.piece_at.new.into) c.loop-place.invariant.few c.in_ok-piece_at.ensures.few in
+    let beside = fits_beside es place e here (stamp_of c.loop-place.all) (stamp_of c.stamp_at.new.into) c.loop-place.invariant.few c.in_ok-stamp_at.ensures.few in
     omega (arith, beside.terms, c.requires.room.terms, c.loop-place.invariant.room.terms)
 
 pub append_reserved-requires-clause-loads : goal.append_reserved-requires-clause-loads
@@ -81,7 +82,7 @@ append_reserved-requires-clause-loads c =
     let e = deref_pair c.unwrap.result in
     let ds = devices_from layout hertz 0 es (settings_left c.args.settings.now) in
     let here = ap (λ es. slice_get es c.loop-place.place) (sym c.as_slice-entries.ensures.entries) ∙ sym c.get_index.ensures.entry ∙ ap (option_map deref_pair) c.unwrap.ensures in
-    let beside = fits_beside es place e here (added_of c.loop-place.all) (added_of c.piece_at.new.into) c.loop-place.invariant.few c.in_ok-piece_at.ensures.few in
+    let beside = fits_beside es place e here (stamp_of c.loop-place.all) (stamp_of c.stamp_at.new.into) c.loop-place.invariant.few c.in_ok-stamp_at.ensures.few in
     omega (arith, beside.loads, c.requires.room.loads, c.loop-place.invariant.room.loads)
 
 pub append_reserved-requires-clause-constants : goal.append_reserved-requires-clause-constants
@@ -94,7 +95,7 @@ append_reserved-requires-clause-constants c =
     let e = deref_pair c.unwrap.result in
     let ds = devices_from layout hertz 0 es (settings_left c.args.settings.now) in
     let here = ap (λ es. slice_get es c.loop-place.place) (sym c.as_slice-entries.ensures.entries) ∙ sym c.get_index.ensures.entry ∙ ap (option_map deref_pair) c.unwrap.ensures in
-    let beside = fits_beside es place e here (added_of c.loop-place.all) (added_of c.piece_at.new.into) c.loop-place.invariant.few c.in_ok-piece_at.ensures.few in
+    let beside = fits_beside es place e here (stamp_of c.loop-place.all) (stamp_of c.stamp_at.new.into) c.loop-place.invariant.few c.in_ok-stamp_at.ensures.few in
     omega (arith, beside.constants, c.requires.room.constants, c.loop-place.invariant.room.constants)
 
 pub after-left-requires : goal.after-left-requires
@@ -125,15 +126,15 @@ loop-place-preserved c =
     let m = length layout.nodes in
     let n = complex_count layout in
     let size = size_of layout in
-    let more = collected_more m n size (take place es) e (take place ds) d (added_of c.loop-place.all) (added_of c.piece_at.new.into) (added_of c.append_reserved.new.self)
-    c.loop-place.invariant.made c.in_ok-piece_at.ensures.settled c.in_ok-piece_at.ensures.added c.append_reserved.ensures.added in
+    let more = collected_more m n size (take place es) e (take place ds) d (stamp_of c.loop-place.all) (stamp_of c.stamp_at.new.into) (stamp_of c.append_reserved.new.self)
+    c.loop-place.invariant.made c.in_ok-stamp_at.ensures.settled c.in_ok-stamp_at.ensures.stamp c.append_reserved.ensures.stamp in
     record {
       at = subst (IsAt layout hertz es ds (place + 1)) (sym c.after-left.ensures) (next_at layout hertz es ds place left e here c.loop-place.invariant.at);
-      made = subst (λ xs. AreCollected m n size xs (take (place + 1) ds) (added_of c.append_reserved.new.self)) (sym (take-more es place e here))
-          (subst (λ xs. AreCollected m n size (take place es ++ e ∷ []) xs (added_of c.append_reserved.new.self)) (sym (take-more ds place d (here_from ds place d _ next))) more);
-      few = few_next es place e here (added_of c.loop-place.all) (added_of c.piece_at.new.into) (added_of c.append_reserved.new.self) c.loop-place.invariant.few c.in_ok-piece_at.ensures.few c.append_reserved.ensures.added;
+      made = subst (λ xs. AreCollected m n size xs (take (place + 1) ds) (stamp_of c.append_reserved.new.self)) (sym (take-more es place e here))
+          (subst (λ xs. AreCollected m n size (take place es ++ e ∷ []) xs (stamp_of c.append_reserved.new.self)) (sym (take-more ds place d (here_from ds place d _ next))) more);
+      few = few_next es place e here (stamp_of c.loop-place.all) (stamp_of c.stamp_at.new.into) (stamp_of c.append_reserved.new.self) c.loop-place.invariant.few c.in_ok-stamp_at.ensures.few c.append_reserved.ensures.stamp;
       room = room_then c.clear.new.self c.loop-place.all c.append_reserved.new.self c.loop-place.invariant.room c.append_reserved.ensures.room;
-      one = room_then c.args.one.now c.loop-place.one c.piece_at.new.into c.loop-place.invariant.one c.piece_at.ensures.room;
+      one = room_then c.args.one.now c.loop-place.one c.stamp_at.new.into c.loop-place.invariant.one c.stamp_at.ensures.room;
     }
 
 pub returns-clause-collected : goal.returns-clause-collected
@@ -148,5 +149,5 @@ returns-clause-collected c =
     let m = length layout.nodes in
     let n = complex_count layout in
     let size = size_of layout in
-    subst (λ xs. AreCollected m n size xs ds (added_of c.loop-place.all)) (take_all place es all)
-    (subst (λ xs. AreCollected m n size (take place es) xs (added_of c.loop-place.all)) (take_all place ds devices) c.loop-place.invariant.made)
+    subst (λ xs. AreCollected m n size xs ds (stamp_of c.loop-place.all)) (take_all place es all)
+    (subst (λ xs. AreCollected m n size (take place es) xs (stamp_of c.loop-place.all)) (take_all place ds devices) c.loop-place.invariant.made)
