@@ -1,10 +1,10 @@
 // Items in order, which contracts see as a list.
-ghost use Rattle.std.specs.Prelude.{◌≡◌, IfOk};
+ghost use Rattle.std.specs.Prelude.{◌≡◌, ◌∷◌, ◌++◌, [], IfOk, OnOk};
 
 use std::alloc::AllocError;
 use std::marker::Model;
 
-/// Items in order, which contracts see as a list. None is added or changed.
+/// Items in order, which contracts see as a list. None is taken out or changed.
 #[derive(Drop, Debug)]
 pub struct Items<T> {
     kept: Vec<T>,
@@ -38,6 +38,18 @@ impl<T> Items<T> {
         ensures { result.now ≡ self.now }
     {
         self.kept.as_slice()
+    }
+}
+
+impl<T: Drop> Items<T> {
+    /// Adds an item behind the others.
+    ///
+    /// # Errors
+    /// `AllocError` where the memory is refused.
+    pub fn push(&mut self, item: T) -> Result<(), AllocError>
+        ensures { OnOk result (self.new ≡ self.old ++ item ∷ []) }
+    {
+        Ok(self.kept.push(item)?)
     }
 }
 

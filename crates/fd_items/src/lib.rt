@@ -1,4 +1,4 @@
-//! A list of items that is kept as it is and seen as a list.
+//! A list of items that contracts see as a list.
 //!
 //! - `items`: the type
 #![tactic(auto)]

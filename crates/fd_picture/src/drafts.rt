@@ -145,7 +145,7 @@ fn solution_to(alloc: Global, draft: Draft, row: &ByteRecord) -> Result<Draft, S
                 settle,
                 hour,
                 round,
-                nodes: Nodes::new(alloc),
+                nodes: Nodes::new(Vec::new(alloc)),
             });
             Ok(draft)
         }

@@ -1,9 +1,6 @@
 // A report as data.
-ghost use Rattle.std.specs.Prelude.{◌≡◌, ◌∷◌, [], ◌++◌, OnOk};
-ghost use Rattle.fd_picture.specs.Drafts.{DraftView, ReportView};
-
+use fd_items::Items;
 use fd_outside::Bytes;
-use std::alloc::{AllocError, Global};
 use std::marker::Model;
 
 /// A node of a round: the name of its bus, its number there, and its low and high in microvolts.
@@ -15,44 +12,8 @@ pub struct Node {
     pub high: u64,
 }
 
-/// Nodes in the order of the report. Contracts see the list.
-#[derive(Drop)]
-pub struct Nodes {
-    kept: Vec<Node>,
-}
-
-impl Model for Nodes {
-    ghost use Rattle.std.specs.Prelude.{List};
-    ghost use Rattle.fd_picture.specs.declared.report.Node.{Node};
-
-    ghost Value = { List Node };
-
-    ghost view = { λ n. n.kept.items };
-}
-
-impl Nodes {
-    pub(crate) fn new(alloc: Global) -> Nodes
-        ensures { result ≡ [] }
-    {
-        Nodes {
-            kept: Vec::new(alloc),
-        }
-    }
-
-    pub(crate) fn push(&mut self, node: Node) -> Result<(), AllocError>
-        ensures { OnOk result (self.new ≡ self.old ++ node ∷ []) }
-    {
-        self.kept.push(node)?;
-        Ok(())
-    }
-
-    /// The nodes as a slice.
-    pub fn as_slice(&self) -> &[Node]
-        ensures { result.now ≡ self.now }
-    {
-        self.kept.as_slice()
-    }
-}
+/// Nodes in the order of the report.
+pub type Nodes = Items<Node>;
 
 /// The last round of a settle: the number of the settle, its hour, the round, and its nodes.
 #[derive(Drop)]
