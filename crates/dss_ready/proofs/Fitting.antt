@@ -151,7 +151,7 @@ module _ (elements before : Elements) where
       → is_part_wrong elements name e ≡ false → are_powers_unequal e ≡ false
       → is_second_control before e ≡ false → lacks_impedance e ≡ false → AreValuesFit elements before name e
   values_fit name (the.Vsource v) inside parts powers second impedance = record { below = inside }
-  values_fit name (the.Line l) inside parts powers second impedance = record { matrices = parts; impedance = is_true (is_some l.form) impedance }
+  values_fit name (the.Line l) inside parts powers second impedance = record { matrices = parts; impedance = is_true (is_some l.constants.form) impedance }
   values_fit name (the.Transformer t) inside parts powers second impedance = transformer_fit elements name.name t inside powers
   values_fit name (the.RegControl c) inside parts powers second impedance = regcontrol_fit c inside parts second
   values_fit name (the.CapControl c) inside parts powers second impedance = capcontrol_fit c inside parts second

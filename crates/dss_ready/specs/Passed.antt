@@ -37,7 +37,7 @@ pub record IsVsourceFit (source : Vsource) : Type 0 where
 -- the matrices that hold have a row and a column for each phase, and the line has an impedance
 pub record IsLineFit (line : Line) : Type 0 where
   pub matrices : are_matrices_wrong line ≡ false
-  pub impedance : IsSome line.form
+  pub impedance : IsSome line.constants.form
 
 -- a step of the tap is at least 10^-5, and the tap of a winding that a RegControl controls is from mintap to maxtap
 pub record IsWindingFit (elements : Elements) (name : List ℕ) (number : ℕ) (winding : Winding) : Type 0 where

@@ -34,5 +34,5 @@ is_support_fault other = false
 
 -- a line has an impedance of its own, from its line code or by switch
 abbrev pub lacks_impedance : Element → Bool
-lacks_impedance (the.Line line) = is_none line.form
+lacks_impedance (the.Line line) = is_none line.constants.form
 lacks_impedance other = false

@@ -29,11 +29,12 @@ fn is_given_by_matrices(form: Option<DataForm>) -> bool
 fn is_line_count_fault(line: &Line) -> bool
     ensures { result ≡ are_matrices_wrong line.now }
 {
-    let series = is_matrix_size_fault(line.phases, &line.rmatrix)
-        || is_matrix_size_fault(line.phases, &line.xmatrix);
-    let charging = is_matrix_size_fault(line.phases, &line.cmatrix);
-    (is_given_by_matrices(line.form) && series)
-        || (is_given_by_matrices(line.charge_form) && charging)
+    let constants = &line.constants;
+    let series = is_matrix_size_fault(line.phases, &constants.rmatrix)
+        || is_matrix_size_fault(line.phases, &constants.xmatrix);
+    let charging = is_matrix_size_fault(line.phases, &constants.cmatrix);
+    (is_given_by_matrices(constants.form) && series)
+        || (is_given_by_matrices(constants.charge_form) && charging)
 }
 
 fn has_few_values(shape: &Loadshape) -> bool

@@ -43,7 +43,7 @@ pub fn has_no_impedance(element: &Element) -> bool
     ensures { result ≡ lacks_impedance element.now }
 {
     match element {
-        Element::Line(line) => line.form.is_none(),
+        Element::Line(line) => line.constants.form.is_none(),
         _ => false,
     }
 }

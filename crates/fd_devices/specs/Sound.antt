@@ -16,7 +16,7 @@ use Rattle.fd_equations.specs.Conditions.{IsAmong}
 -- a source isn't past its limit, a line has an impedance, and the matrices that hold have a row for each phase
 abbrev pub AreValuesSound : Element → Type 0
 AreValuesSound (the.Vsource v) = is_source_outside v ≡ false
-AreValuesSound (the.Line l) = (are_matrices_wrong l ≡ false) × IsSome l.form
+AreValuesSound (the.Line l) = (are_matrices_wrong l ≡ false) × IsSome l.constants.form
 AreValuesSound e = Unit {0}
 
 pub record IsSound (e : Element) : Type 0 where

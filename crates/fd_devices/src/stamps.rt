@@ -79,7 +79,7 @@ fn rows_from(alloc: Global, first: u32, values: &[i128]) -> Result<Vec<Constant>
 /// What a line adds between its ends, at a frequency in hertz. Range exactly where a contribution is past 2^54 in units of 2^-40.
 pub fn line_stamp(alloc: Global, line: &Line, hertz: u32, at: &Ends) -> Result<Stamp, TermFault>
     requires range { LineInRange line.now }
-    requires impedance { IsSome line.now.form }
+    requires impedance { IsSome line.now.constants.form }
     requires matrices { are_matrices_wrong line.now ≡ false }
     requires frequency { IsOneOf (50 ∷ 60 ∷ []) hertz }
     requires at { IsBetween line.now.phases at.now }

@@ -1,4 +1,4 @@
--- What part loads of constant power (1) and of constant current (5) add beside the contributions. A part load of constant impedance (2)
+-- What part loads of constant power and of constant current add beside the contributions. A part load of constant impedance
 -- stands in the contributions, and adds nothing here.
 use Rattle.std.specs.Prelude.{ℕ, ◌+◌, ◌*◌, ◌^◌, ℤ, pos, neg_ℤ, nat_abs, cond, List}
 use Rattle.fd_exact.specs.Rounding.{near_div}

@@ -1,19 +1,18 @@
 -- The names of nodes, elements and unknowns, as records have them. A field is a list of bytes.
-use Rattle.std.specs.Prelude.{ℕ, List, [], ◌∷◌, ◌++◌, unwrap_or}
-use Rattle.std.specs.Fmt.{decimal}
+use Rattle.std.specs.Prelude.{ℕ, List, [], unwrap_or}
 use Rattle.dss_values.specs.Names.{bytes}
 use Rattle.dss_profile.specs.declared.names.ElementName.{ElementName}
 use Rattle.dss_layout.specs.declared.nodes.NodeName.{NodeName}
 use Rattle.dss_layout.specs.Layout.{LayoutView}
-use Rattle.dss_layout.specs.UnknownNames.{class_word, unknown_name}
+use Rattle.dss_layout.specs.UnknownNames.{element_text, node_text, unknown_name}
 
 -- bus and number, parted by a dot
 abbrev pub node_field : NodeName → List ℕ
-node_field node = bytes node.bus ++ 46 ∷ decimal node.number
+node_field node = bytes (node_text node)
 
 -- class and name, parted by a dot
 abbrev pub element_field : ElementName → List ℕ
-element_field element = class_word element.class ++ 46 ∷ bytes element.name
+element_field element = bytes (element_text element)
 
 -- the name of the real unknown at a place, which is that of its row; the place is below the layout's size
 unfoldable pub name_at : LayoutView → ℕ → List ℕ
