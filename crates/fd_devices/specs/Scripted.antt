@@ -19,7 +19,7 @@ use Rattle.fd_elements.specs.Connections.{conn_of}
 use Rattle.fd_elements.specs.Lines.{line_data_of}
 use Rattle.fd_elements.specs.Loads.{load_phase_of}
 use Rattle.fd_equations.specs.declared.layout.Layout.{Layout}
-use Rattle.fd_equations.specs.Rounded.{list_of}
+use Rattle.fd_system.specs.Contributions.{each}
 use Rattle.fd_equations.specs.Views.{NetworkView, network_of}
 use Rattle.fd_devices.specs.Data.{cap_data_of, xfmr_data_of}
 use Rattle.fd_devices.specs.Devices.{Device, source, line, transformer, capacitor, loads, other, parts_of_all, stamp_of_all}
@@ -48,8 +48,13 @@ load_at load ns magnitude powers k = record {
   magnitude = magnitude_place load.model magnitude k;
 }
 
+-- the part loads of phase k: each phase has one
+abbrev pub phase_loads : Load → List NodeAt → ℕ → List LoadPower → ℕ → List LoadAt
+phase_loads load ns magnitude powers k = load_at load ns magnitude powers k ∷ []
+
+-- those of all phases in order
 abbrev pub phases_of : Load → List NodeAt → ℕ → List LoadPower → List LoadAt
-phases_of load ns magnitude powers = list_of load.phases (load_at load ns magnitude powers)
+phases_of load ns magnitude powers = each (phase_loads load ns magnitude powers) load.phases
 
 -- ---- devices
 

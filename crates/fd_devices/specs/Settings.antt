@@ -7,7 +7,7 @@ use Rattle.dss_profile.specs.declared.element.Element.{Element}
 use Rattle.dss_profile.specs.declared.element.Element.TheVariants as the
 use Rattle.dss_layout.specs.Layout.{Elements}
 use Rattle.fd_xfmr.specs.Leakage.{AreTaps}
-use Rattle.fd_devices.specs.declared.settings.OwnSettings.{OwnSettings}
+use Rattle.fd_devices.specs.declared.settings.SettingSlices.{SettingSlices}
 use Rattle.fd_devices.specs.declared.settings.Positions.{Positions}
 use Rattle.fd_devices.specs.declared.settings.Powers.{Powers}
 
@@ -20,8 +20,8 @@ pub record Settings : Type 0 where
 abbrev pub settings_of : Positions → Powers → Settings
 settings_of at powers = record { taps = at.taps; closed = at.closed; powers = powers.loads }
 
--- those of one element
-abbrev pub settings_in : OwnSettings → Settings
+-- those of some elements
+abbrev pub settings_in : SettingSlices → Settings
 settings_in s = record { taps = s.taps.now; closed = s.closed.now; powers = s.powers.now }
 
 -- ---- how many of each kind an element has
@@ -52,6 +52,12 @@ pub record AreOwn (e : Element) (s : Settings) : Type 0 where
   pub within : All AreTaps s.taps
 
 -- ---- those of the elements in turn
+
+-- there are as many of each kind as an element has
+pub record HasOwn (e : Element) (s : Settings) : Type 0 where
+  pub taps : tap_count e ≤ length s.taps
+  pub closed : bank_count e ≤ length s.closed
+  pub powers : power_count e ≤ length s.powers
 
 -- those of the first element
 abbrev pub own : Element → Settings → Settings

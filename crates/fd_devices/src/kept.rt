@@ -15,7 +15,7 @@ ghost use Rattle.fd_devices.specs.Settings.{AreOwn, settings_in};
 ghost use Rattle.fd_devices.specs.Standing.{HasPlace, IsReadyAt, IsSettledAt, KnowsMagnitudes};
 
 use crate::reached::{add_bank_places, add_transformer_places};
-use crate::settings::OwnSettings;
+use crate::settings::SettingSlices;
 use crate::stamps::element_stamp;
 use crate::writers::{capacitor_into, load_into, transformer_into};
 use dss_layout::Layout;
@@ -94,7 +94,7 @@ pub fn kept_of(
     hertz: u32,
     place: usize,
     element: &Element,
-    own: &OwnSettings,
+    own: &SettingSlices,
 ) -> Result<Kept, TermFault>
     requires place { HasPlace layout.now place }
     requires ready { IsReadyAt layout.now place element.now }
@@ -154,7 +154,7 @@ pub fn stamp_into(
     hertz: u32,
     place: usize,
     element: &Element,
-    own: &OwnSettings,
+    own: &SettingSlices,
     kept: &Kept,
 ) -> Result<(), TermFault>
     requires place { KnowsMagnitudes layout.now place }

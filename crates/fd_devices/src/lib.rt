@@ -12,10 +12,9 @@
 //
 // Modules: `data` has the data of transformers and capacitor banks, `devices` is the law, `phase_loads` has the part
 // loads of a load's phases, `stamps` what each element adds, `writers` the same written without memory, `kept` what is
-// kept of an element for that, `reached` the places that a transformer or a bank can reach, `places` the nodes and
-// branches at which an element stands, `settings` the positions of taps and banks and the powers of loads with which a
-// circuit is taken, `snapshot` those that the script gives, `hours` the powers at an hour of a day, `positions` those
-// with which a later Solve starts, `fault` why there is no network.
+// kept of an element for that, `reached` the places that a transformer or a bank can reach, `settings` the positions of
+// taps and banks and the powers of loads with which a circuit is taken, `snapshot` those that the script gives, `hours`
+// the powers at an hour of a day, `positions` those with which a later Solve starts, `fault` why there is no network.
 #![tactic(auto)]
 
 mod data;
@@ -24,7 +23,6 @@ mod fault;
 mod hours;
 mod kept;
 mod phase_loads;
-mod places;
 mod positions;
 mod reached;
 mod settings;
@@ -37,7 +35,6 @@ pub use devices::{device_law, reach_law};
 pub use fault::BuildFault;
 pub use hours::{hours_law, powers_at};
 pub use kept::{Kept, kept_of, most_constants, most_loads, most_terms, stamp_into};
-pub use places::ends_of;
 pub use positions::next_law;
-pub use settings::{BankStates, LoadPowers, OwnSettings, Positions, Powers, Taps};
+pub use settings::{BankStates, LoadPowers, Positions, Powers, SettingSlices, Taps};
 pub use snapshot::snapshot_law;

@@ -1,4 +1,8 @@
 // What is set of a circuit beside its script: positions and powers.
+ghost use Rattle.std.specs.Prelude.{◌≡◌, ◌≤◌};
+ghost use Rattle.fd_devices.specs.Settings.{HasOwn, after, bank_count, own, power_count, settings_in, settings_of, tap_count};
+
+use dss_profile::Element;
 use fd_arith::TapPair;
 use fd_elements::LoadPower;
 use fd_items::Items;
@@ -25,10 +29,78 @@ pub struct Powers {
     pub loads: LoadPowers,
 }
 
-/// The settings of one element: the taps of a Transformer, whether a Capacitor is closed, a power for each phase of a Load.
+/// The settings of some elements, each kind in order of definition: the taps of each Transformer, whether each Capacitor
+/// is closed, a power for each phase of each Load.
 #[derive(Clone, Copy)]
-pub struct OwnSettings<'a> {
+pub struct SettingSlices<'a> {
     pub taps: &'a [TapPair],
     pub closed: &'a [bool],
     pub powers: &'a [LoadPower],
+}
+
+impl<'a> SettingSlices<'a> {
+    /// The settings of all elements.
+    pub fn of(at: &'a Positions, powers: &'a Powers) -> Self
+        ensures { settings_in result ≡ settings_of at.now powers.now }
+    {
+        SettingSlices {
+            taps: at.taps.as_slice(),
+            closed: at.closed.as_slice(),
+            powers: powers.loads.as_slice(),
+        }
+    }
+
+    /// Those of the first element.
+    pub fn own(&self, element: &Element) -> SettingSlices<'a>
+        requires { HasOwn element.now (settings_in self.now) }
+        ensures { settings_in result ≡ own element.now (settings_in self.now) }
+    {
+        SettingSlices {
+            taps: &self.taps[..tap_count(element)],
+            closed: &self.closed[..bank_count(element)],
+            powers: &self.powers[..power_count(element)],
+        }
+    }
+
+    /// Those of the elements after it.
+    pub fn after(&self, element: &Element) -> Self
+        requires { HasOwn element.now (settings_in self.now) }
+        ensures { settings_in result ≡ after element.now (settings_in self.now) }
+    {
+        SettingSlices {
+            taps: &self.taps[tap_count(element)..],
+            closed: &self.closed[bank_count(element)..],
+            powers: &self.powers[power_count(element)..],
+        }
+    }
+}
+
+// How many pairs of taps an element has.
+fn tap_count(element: &Element) -> usize
+    ensures { result ≡ tap_count element.now }
+{
+    match element {
+        Element::Transformer(_) => 1,
+        _ => 0,
+    }
+}
+
+// How many banks an element has.
+fn bank_count(element: &Element) -> usize
+    ensures { result ≡ bank_count element.now }
+{
+    match element {
+        Element::Capacitor(_) => 1,
+        _ => 0,
+    }
+}
+
+// How many load phases an element has.
+fn power_count(element: &Element) -> usize
+    ensures { result ≡ power_count element.now }
+{
+    match element {
+        Element::Load(load) => load.phases as usize,
+        _ => 0,
+    }
 }

@@ -20,7 +20,7 @@ ghost use Rattle.fd_devices.specs.Scripted.{device_of, phases_of};
 ghost use Rattle.fd_devices.specs.Building.{Fits, IsModest};
 ghost use Rattle.fd_devices.specs.Standing.{HasPlace, IsReadyAt, IsSettledAt, SettlesAsLoad, SettlesBehind, SettlesBetween, SettlesOn};
 
-use crate::settings::OwnSettings;
+use crate::settings::SettingSlices;
 use crate::writers::{capacitor_into, load_into, transformer_into};
 use dss_layout::Layout;
 use dss_profile::{Capacitor, Element, Line, Load, Transformer, Vsource};
@@ -183,7 +183,7 @@ pub fn element_stamp(
     hertz: u32,
     place: usize,
     element: &Element,
-    own: &OwnSettings,
+    own: &SettingSlices,
 ) -> Result<Stamp, TermFault>
     requires place { HasPlace layout.now place }
     requires ready { IsReadyAt layout.now place element.now }

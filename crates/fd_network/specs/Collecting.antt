@@ -7,24 +7,12 @@ use Rattle.fd_xfmr.specs.Leakage.{AreTaps}
 use Rattle.fd_devices.specs.Building.{Fits, IsModest}
 use Rattle.fd_devices.specs.Devices.{Device}
 use Rattle.fd_devices.specs.Scripted.{device_of, devices_from}
-use Rattle.fd_devices.specs.Settings.{AreSettings, Settings, bank_count, own, power_count, tap_count}
+use Rattle.fd_devices.specs.Settings.{AreSettings, HasOwn, Settings, own, settings_in}
 use Rattle.fd_devices.specs.Standing.{HasPlace, IsReadyAt}
 use Rattle.fd_network.specs.declared.fault.PlaceFault.{PlaceFault}
 use Rattle.fd_network.specs.declared.fault.PlaceFault.TheVariants as place_fault
-use Rattle.fd_network.specs.declared.settings.SettingsLeft.{SettingsLeft}
+use Rattle.fd_devices.specs.declared.settings.SettingSlices.{SettingSlices}
 use Rattle.fd_network.specs.Places.{AreReadyFrom}
-
--- ---- settings
-
--- those that are left of all elements'
-abbrev pub settings_left : SettingsLeft → Settings
-settings_left s = record { taps = s.taps.now; closed = s.closed.now; powers = s.powers.now }
-
--- there are as many of each kind as an element has
-pub record HasOwn (e : Element) (s : Settings) : Type 0 where
-  pub taps : tap_count e ≤ length s.taps
-  pub closed : bank_count e ≤ length s.closed
-  pub powers : power_count e ≤ length s.powers
 
 -- ---- elements
 
@@ -49,12 +37,12 @@ pub record AreTakenFrom (layout : LayoutView) (hertz place : ℕ) (elements : El
 -- ---- devices
 
 -- that of an element at a place, with the first of the settings that are left
-abbrev pub device_at : LayoutView → ℕ → ℕ → Element → SettingsLeft → Device
-device_at layout hertz place e left = device_of layout hertz place e (own e (settings_left left))
+abbrev pub device_at : LayoutView → ℕ → ℕ → Element → SettingSlices → Device
+device_at layout hertz place e left = device_of layout hertz place e (own e (settings_in left))
 
 -- those of all elements, with all settings
-abbrev pub all_devices : LayoutView → ℕ → Elements → SettingsLeft → List Device
-all_devices layout hertz es left = devices_from layout hertz 0 es (settings_left left)
+abbrev pub all_devices : LayoutView → ℕ → Elements → SettingSlices → List Device
+all_devices layout hertz es left = devices_from layout hertz 0 es (settings_in left)
 
 -- ---- faults
 

@@ -12,18 +12,18 @@ ghost use Rattle.fd_devices.specs.Building.{AreInRange, Fits};
 ghost use Rattle.fd_devices.specs.Devices.{AgreesWith, parts_of_all, stamp_of_all};
 ghost use Rattle.fd_devices.specs.Scripted.{devices_network};
 ghost use Rattle.fd_network.specs.Assembled.{AreExchanged, CanTake, HaveListsRoom, HavePartsRoom, HaveRoom, IsAsBefore, parts_network};
-ghost use Rattle.fd_network.specs.Collecting.{AreTakenFrom, all_devices, settings_left};
+ghost use Rattle.fd_devices.specs.Settings.{settings_in};
+ghost use Rattle.fd_network.specs.Collecting.{AreTakenFrom, all_devices};
 ghost use Rattle.fd_network.specs.Faults.{first_out_of_range, first_without, has_small_sums};
 ghost use Rattle.fd_network.specs.Keeping.{AreKept, Reaches, room_for};
 ghost use Rattle.fd_network.specs.Places.{AreMagnitudesFrom};
 
 use crate::fault::OutOfRange;
 use crate::room::Room;
-use crate::settings::SettingsLeft;
 use crate::stamps::{check_sums, collect};
 use dss_layout::Layout;
 use dss_profile::{Element, ElementName};
-use fd_devices::{Kept, device_law, reach_law};
+use fd_devices::{Kept, SettingSlices, device_law, reach_law};
 use fd_equations::Rows;
 use fd_system::{Constant, Stamp};
 use indexmap::IndexMap;
@@ -57,10 +57,10 @@ pub fn assemble(
     layout: &Layout,
     hertz: u32,
     elements: &IndexMap<ElementName, Element>,
-    settings: &SettingsLeft,
+    settings: &SettingSlices,
     kept: &[Kept],
 ) -> Result<(), OutOfRange>
-    requires taken { AreTakenFrom layout.now hertz 0 elements.now.entries (settings_left settings.now) }
+    requires taken { AreTakenFrom layout.now hertz 0 elements.now.entries (settings_in settings.now) }
     requires magnitudes { AreMagnitudesFrom layout.now (2 * complex_count layout.now) 0 elements.now.entries }
     requires few { length elements.now.entries ≤ most_elements }
     requires few_branches { list_n (λ e. branch_phases e.1) elements.now.entries ≤ most_complex }
@@ -158,11 +158,11 @@ fn check_entries(
     layout: &Layout,
     hertz: u32,
     elements: &IndexMap<ElementName, Element>,
-    settings: &SettingsLeft,
+    settings: &SettingSlices,
     kept: &[Kept],
     rows: &Rows,
 ) -> Result<(), OutOfRange>
-    requires taken { AreTakenFrom layout.now hertz 0 elements.now.entries (settings_left settings.now) }
+    requires taken { AreTakenFrom layout.now hertz 0 elements.now.entries (settings_in settings.now) }
     requires kept { AreKept layout.now hertz elements.now.entries kept.now }
     requires one { HasRoom one.old 256 9 6 }
     requires fits { All Fits (all_devices layout.now hertz elements.now.entries settings.now) }

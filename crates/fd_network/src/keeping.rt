@@ -8,17 +8,16 @@ ghost use Rattle.fd_equations.specs.Patterns.{IsInside};
 ghost use Rattle.fd_devices.specs.Building.{Fits};
 ghost use Rattle.fd_devices.specs.Kept.{IsKeptOf};
 ghost use Rattle.fd_devices.specs.Reach.{device_places};
-ghost use Rattle.fd_devices.specs.Settings.{own};
-ghost use Rattle.fd_network.specs.Collecting.{AreTakenFrom, IsMisfit, IsTakenAt, NamesPlace, all_devices, device_at, settings_left};
+ghost use Rattle.fd_devices.specs.Settings.{own, settings_in};
+ghost use Rattle.fd_network.specs.Collecting.{AreTakenFrom, IsMisfit, IsTakenAt, NamesPlace, all_devices, device_at};
 ghost use Rattle.fd_network.specs.Faults.{first_without, fits};
 ghost use Rattle.fd_network.specs.Keeping.{AreKept};
 
 use crate::fault::PlaceFault;
-use crate::settings::SettingsLeft;
 use dss_layout::Layout;
 use dss_profile::{Element, ElementName};
 use fd_arith::TermFault;
-use fd_devices::{Kept, kept_of};
+use fd_devices::{Kept, SettingSlices, kept_of};
 use indexmap::IndexMap;
 use std::alloc::Global;
 
@@ -39,9 +38,9 @@ pub fn keep(
     layout: &Layout,
     hertz: u32,
     elements: &IndexMap<ElementName, Element>,
-    settings: &SettingsLeft,
+    settings: &SettingSlices,
 ) -> Result<Made, PlaceFault>
-    requires taken { AreTakenFrom layout.now hertz 0 elements.now.entries (settings_left settings.now) }
+    requires taken { AreTakenFrom layout.now hertz 0 elements.now.entries (settings_in settings.now) }
     requires few { length elements.now.entries ≤ most_elements }
     ensures kept { IfOk result (λ m. AreKept layout.now hertz elements.now.entries m.kept.items) }
     ensures places { IfOk result (λ m. m.places.items
@@ -72,12 +71,12 @@ fn kept_at(
     hertz: u32,
     place: usize,
     element: &Element,
-    left: &SettingsLeft,
+    left: &SettingSlices,
 ) -> Result<Kept, PlaceFault>
-    requires { IsTakenAt layout.now hertz place element.now (settings_left left.now) }
+    requires { IsTakenAt layout.now hertz place element.now (settings_in left.now) }
     ensures kept { IfOk result (λ k. IsKeptOf layout.now hertz place element.now k) }
     ensures settled { IfOk result
-        (λ k. IsSettledAt layout.now hertz place element.now (own element.now (settings_left left.now))) }
+        (λ k. IsSettledAt layout.now hertz place element.now (own element.now (settings_in left.now))) }
     ensures places { IfOk result (λ k. places.new.items
         ≡ places.old.items ++ device_places (device_at layout.now hertz place element.now left.now)) }
     ensures inside { IfOk result (λ k. All (IsInside (size_of layout.now))

@@ -9,8 +9,7 @@
 //
 // Modules: `network` has the type, `assembly` makes its parts those of what the elements add, `stamps` collects that and
 // names the element out of range by its place, `keeping` has what is kept of the elements for updates, `room` how much
-// room the lists need, `settings` are the positions and powers of elements in turn, `fault` why elements have no rows,
-// `blame` the element to blame.
+// room the lists need, `fault` why elements have no rows, `blame` the element to blame.
 #![tactic(auto)]
 
 mod assembly;
@@ -19,7 +18,6 @@ mod fault;
 mod keeping;
 mod network;
 mod room;
-mod settings;
 mod stamps;
 
 pub use network::Network;

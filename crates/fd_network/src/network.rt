@@ -25,13 +25,12 @@ use crate::blame::blame_range;
 use crate::fault::PlaceFault;
 use crate::keeping::{Made, keep};
 use crate::room::{Room, room_of};
-use crate::settings::SettingsLeft;
 use dss_circuit::Circuit;
 use dss_layout::Layout;
 use dss_lexer::Text;
 use dss_profile::{Element, ElementName};
 use fd_arith::Ends;
-use fd_devices::{BuildFault, Kept, Positions, Powers};
+use fd_devices::{BuildFault, Kept, Positions, Powers, SettingSlices};
 use fd_equations::{Layout as Counts, Network as NetworkRows};
 use indexmap::IndexMap;
 use std::alloc::{AllocError, Global};
@@ -222,7 +221,7 @@ fn kept_in(
     ensures inside { IfOk result (λ m. All (IsInside (size_of layout.now)) m.places.items) }
     ensures fault { IfErr result (λ f. IsFaultOf (range_blame circuit.now.elements (devices_of circuit.now (settings_of at.now powers.now))) f) }
 {
-    let settings = SettingsLeft::of(at, powers);
+    let settings = SettingSlices::of(at, powers);
     let elements = circuit.elements();
     let hertz = circuit.options().defaultbasefrequency;
     match keep(alloc, layout, hertz, elements, &settings) {
@@ -265,7 +264,7 @@ fn fill(
     ensures places { parts.new.rows.places ≡ parts.old.rows.places }
     ensures room { HaveRoom (room_for circuit.now.elements) parts.new lists.new }
 {
-    let settings = SettingsLeft::of(at, powers);
+    let settings = SettingSlices::of(at, powers);
     let elements = circuit.elements();
     let hertz = circuit.options().defaultbasefrequency;
     match assemble(parts, lists, layout, hertz, elements, &settings, kept) {

@@ -9,17 +9,16 @@ ghost use Rattle.fd_equations.specs.Coefficients.{linear_entry};
 ghost use Rattle.fd_devices.specs.Building.{AreCollected, Fits, HasSmallSums};
 ghost use Rattle.fd_devices.specs.Devices.{device_stamp, stamp_of_all};
 ghost use Rattle.fd_devices.specs.Kept.{AreFewOf, IsKeptOf};
-ghost use Rattle.fd_devices.specs.Settings.{own};
-ghost use Rattle.fd_network.specs.Collecting.{AreTakenFrom, IsTakenAt, all_devices, device_at, settings_left};
+ghost use Rattle.fd_devices.specs.Settings.{own, settings_in};
+ghost use Rattle.fd_network.specs.Collecting.{AreTakenFrom, IsTakenAt, all_devices, device_at};
 ghost use Rattle.fd_network.specs.Faults.{first_without, fits, has_small_sums};
 ghost use Rattle.fd_network.specs.Keeping.{AreKept, HasRoomOf, room_for};
 
 use crate::fault::OutOfRange;
-use crate::settings::SettingsLeft;
 use dss_layout::Layout;
 use dss_profile::{Element, ElementName};
 use fd_arith::Term;
-use fd_devices::{Kept, stamp_into};
+use fd_devices::{Kept, SettingSlices, stamp_into};
 use fd_equations::Rows;
 use fd_system::Stamp;
 use indexmap::IndexMap;
@@ -32,16 +31,16 @@ fn stamp_at(
     hertz: u32,
     place: usize,
     element: &Element,
-    left: &SettingsLeft,
+    left: &SettingSlices,
     kept: &Kept,
 ) -> Result<(), OutOfRange>
-    requires taken { IsTakenAt layout.now hertz place element.now (settings_left left.now) }
+    requires taken { IsTakenAt layout.now hertz place element.now (settings_in left.now) }
     requires kept { IsKeptOf layout.now hertz place element.now kept.now }
     requires room { HasRoom into.old 256 9 6 }
     ensures stamp { OnOk result (stamp_of into.new
         ≡ device_stamp (device_at layout.now hertz place element.now left.now)) }
     ensures settled { OnOk result
-        (IsSettledAt layout.now hertz place element.now (own element.now (settings_left left.now))) }
+        (IsSettledAt layout.now hertz place element.now (own element.now (settings_in left.now))) }
     ensures few { OnOk result (AreFewOf element.now (stamp_of into.new)) }
     ensures fault { IfErr result (λ f. (f.0 ≡ place)
         × ¬ (Fits (device_at layout.now hertz place element.now left.now))) }
@@ -66,10 +65,10 @@ pub fn collect(
     layout: &Layout,
     hertz: u32,
     elements: &IndexMap<ElementName, Element>,
-    settings: &SettingsLeft,
+    settings: &SettingSlices,
     kept: &[Kept],
 ) -> Result<(), OutOfRange>
-    requires taken { AreTakenFrom layout.now hertz 0 elements.now.entries (settings_left settings.now) }
+    requires taken { AreTakenFrom layout.now hertz 0 elements.now.entries (settings_in settings.now) }
     requires few { length elements.now.entries ≤ most_elements }
     requires kept { AreKept layout.now hertz elements.now.entries kept.now }
     requires room { HasRoomOf (room_for elements.now.entries) all.old }
@@ -105,11 +104,11 @@ pub fn check_sums(
     layout: &Layout,
     hertz: u32,
     elements: &IndexMap<ElementName, Element>,
-    settings: &SettingsLeft,
+    settings: &SettingSlices,
     kept: &[Kept],
     rows: &Rows,
 ) -> Result<(), OutOfRange>
-    requires taken { AreTakenFrom layout.now hertz 0 elements.now.entries (settings_left settings.now) }
+    requires taken { AreTakenFrom layout.now hertz 0 elements.now.entries (settings_in settings.now) }
     requires kept { AreKept layout.now hertz elements.now.entries kept.now }
     requires one { HasRoom one.old 256 9 6 }
     requires fits { All Fits (all_devices layout.now hertz elements.now.entries settings.now) }

@@ -1,9 +1,9 @@
-// Positions, powers and ends of the elements of small circuits.
-use crate::checks::{holds, same};
-use crate::circuits::{Row, circuit, edit, is_ready, make, positions, solve};
+// Positions and powers of the elements of small circuits.
+use crate::checks::same;
+use crate::circuits::{Row, circuit, edit, make, positions, solve};
 use dss_circuit::{Circuit, ModelError};
-use fd_arith::{NodeAt, TapPair};
-use fd_devices::{Positions, Powers, ends_of, powers_at};
+use fd_arith::TapPair;
+use fd_devices::{Positions, Powers, powers_at};
 use fd_elements::LoadPower;
 use std::alloc::{AllocError, Global};
 use std::process::Abort;
@@ -174,20 +174,5 @@ fn starts(rt: HostRuntime) -> Result<(), Fail> {
         let found = start(rt.alloc(), edited, *count)?;
         check_positions(&rt, &found, taps, *closed);
     }
-    Ok(())
-}
-
-// The nodes of sourcebus come first, those of b after them; the branches of the source come before those of the
-// transformer.
-#[test]
-fn ends(rt: HostRuntime) -> Result<(), Fail> {
-    let alloc = rt.alloc();
-    let circuit = circuit(alloc, &ELEMENTS)?;
-    holds(&rt, circuit.elements().len() > 3);
-    holds(&rt, is_ready(alloc, &circuit));
-    let ends = ends_of(alloc, &circuit, 3)?;
-    let at = [NodeAt::Node(3), NodeAt::Node(4), NodeAt::Node(5)];
-    same(&rt, ends.second.as_slice(), at.as_slice());
-    same(&rt, ends.branch, 9);
     Ok(())
 }

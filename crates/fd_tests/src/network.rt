@@ -10,7 +10,7 @@ use crate::checks::{holds, same};
 use crate::circuits::{Row, circuit, is_ready, positions};
 use crate::matrices::entry;
 use dss_circuit::Circuit;
-use fd_arith::{Interval, Micro, TapPair};
+use fd_arith::{Interval, Micro, NodeAt, TapPair};
 use fd_devices::{BuildFault, LoadPowers, Positions, Powers, hours_law, powers_at, snapshot_law};
 use fd_elements::LoadPower;
 use fd_equations::Network as NetworkRows;
@@ -191,6 +191,20 @@ fn worked(rt: &impl Abort, alloc: Global, circuit: &Circuit) -> Result<Network, 
 {
     let settings = worked_settings(alloc, 100_000_000)?;
     built(rt, alloc, circuit, &settings)
+}
+
+// The nodes come first, and the branch of the source before that of the line.
+#[test]
+fn ends_of_the_line(rt: HostRuntime) -> Result<(), Fail> {
+    let alloc = rt.alloc();
+    let circuit = circuit(alloc, &WORKED)?;
+    let net = worked(&rt, alloc, &circuit)?;
+    holds(&rt, circuit.elements().len() > 1);
+    let ends = net.ends_of(alloc, &circuit, 1)?;
+    same(&rt, ends.first.as_slice(), [NodeAt::Node(0)].as_slice());
+    same(&rt, ends.second.as_slice(), [NodeAt::Node(1)].as_slice());
+    same(&rt, ends.branch, 3);
+    Ok(())
 }
 
 // Gives its load this power; whether that is refused.

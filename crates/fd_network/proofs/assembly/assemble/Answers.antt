@@ -8,7 +8,7 @@ use Rattle.fd_equations.specs.Conditions.{AreApart, IsNetwork}
 use Rattle.fd_equations.specs.Views.{network_of, stamp_with}
 use Rattle.fd_devices.specs.Devices.{AgreesWith, parts_of_all, stamp_of_all}
 use Rattle.fd_devices.specs.Scripted.{devices_from, layout_counts}
-use Rattle.fd_network.specs.Collecting.{settings_left}
+use Rattle.fd_devices.specs.Settings.{settings_in}
 use Rattle.fd_network.specs.Faults.{first_without, has_small_sums}
 use Rattle.fd_network.proofs.Apart.{apart}
 use Rattle.fd_network.proofs.Assembling.{is_network, no_fault, sum_first}
@@ -17,19 +17,19 @@ use Rattle.fd_network.proofs.assembly.assemble.Goals as goal
 
 pub exchange-requires : goal.exchange-requires
 exchange-requires c =
-    let ds = devices_from c.args.layout.now c.args.hertz 0 c.args.elements.now.entries (settings_left c.args.settings.now) in
+    let ds = devices_from c.args.layout.now c.args.hertz 0 c.args.elements.now.entries (settings_in c.args.settings.now) in
     can_hold c.args.layout.now c.args.elements.now.entries ds (stamp_of c.collect.new.all) c.args.parts.now.rows c.requires.size
-    c.in_ok-collect.ensures.collected c.reach_law.ensures (c.requires.reaches (settings_left c.args.settings.now)) c.requires.few c.requires.few_branches c.requires.few_complexes c.requires.few_magnitudes
+    c.in_ok-collect.ensures.collected c.reach_law.ensures (c.requires.reaches (settings_in c.args.settings.now)) c.requires.few c.requires.few_branches c.requires.few_complexes c.requires.few_magnitudes
 
 pub returns-in-Ok-clause-valid : goal.returns-in-Ok-clause-valid
 returns-in-Ok-clause-valid c =
     let layout = c.args.layout.now in
-    let ds = devices_from layout c.args.hertz 0 c.args.elements.now.entries (settings_left c.args.settings.now) in
+    let ds = devices_from layout c.args.hertz 0 c.args.elements.now.entries (settings_in c.args.settings.now) in
     let collected = c.in_ok-collect.ensures.collected in
     let a = stamp_of c.collect.new.all in
     let x = c.exchange.ensures.exchanged in
     let sums = subst (λ s. (row col : ℕ) → AreSmall (linear_entry s row col)) (sym (ap (λ (x : StampView). x.terms) collected.stamp)) c.in-Ok.ensures.small.sums in
-    let far = subst AreApart (sym (ap (λ (x : StampView). x.loads) collected.stamp)) (apart layout c.args.hertz (2 * complex_count layout) c.args.elements.now.entries (settings_left c.args.settings.now) c.requires.magnitudes) in
+    let far = subst AreApart (sym (ap (λ (x : StampView). x.loads) collected.stamp)) (apart layout c.args.hertz (2 * complex_count layout) c.args.elements.now.entries (settings_in c.args.settings.now) c.requires.magnitudes) in
     let net = is_network layout c.args.elements.now.entries ds a collected sums far c.requires.few c.requires.few_branches c.requires.few_complexes c.requires.few_magnitudes in
     let constants = sym x.constants in
     let terms = sym x.terms in
@@ -39,7 +39,7 @@ returns-in-Ok-clause-valid c =
 
 pub returns-in-Ok-clause-agrees : goal.returns-in-Ok-clause-agrees
 returns-in-Ok-clause-agrees c =
-    let ds = devices_from c.args.layout.now c.args.hertz 0 c.args.elements.now.entries (settings_left c.args.settings.now) in
+    let ds = devices_from c.args.layout.now c.args.hertz 0 c.args.elements.now.entries (settings_in c.args.settings.now) in
     let collected = c.in_ok-collect.ensures.collected in
     let x = c.exchange.ensures.exchanged in
     let constants = x.constants in
@@ -52,12 +52,12 @@ returns-in-Ok-clause-agrees c =
 
 pub returns-in-Ok-clause-no_fault : goal.returns-in-Ok-clause-no_fault
 returns-in-Ok-clause-no_fault c =
-    let ds = devices_from c.args.layout.now c.args.hertz 0 c.args.elements.now.entries (settings_left c.args.settings.now) in
+    let ds = devices_from c.args.layout.now c.args.hertz 0 c.args.elements.now.entries (settings_in c.args.settings.now) in
     no_fault ds c.in-Ok.ensures.small
 
 pub returns-in-Err-clause-fault : goal.returns-in-Err-clause-fault
 returns-in-Err-clause-fault c =
-    let ds = devices_from c.args.layout.now c.args.hertz 0 c.args.elements.now.entries (settings_left c.args.settings.now) in
+    let ds = devices_from c.args.layout.now c.args.hertz 0 c.args.elements.now.entries (settings_in c.args.settings.now) in
     let collected = c.in_ok-collect.ensures.collected in
     let terms = c.exchange.ensures.exchanged.terms ∙ ap (λ (a : StampView). a.terms) collected.stamp in
     sum_first ds c.in-Err.fault.0 collected.fits (subst (λ ts. first_without (has_small_sums ts) ds ≡ Some c.in-Err.fault.0) terms c.in-Err.ensures.fault)

@@ -13,7 +13,7 @@ use Rattle.fd_devices.specs.Reach.{device_places}
 use Rattle.fd_devices.specs.Scripted.{device_of, devices_from}
 use Rattle.fd_devices.specs.Settings.{own}
 use Rattle.fd_devices.proofs.CallerLemmas.{devices_length}
-use Rattle.fd_network.specs.Collecting.{settings_left}
+use Rattle.fd_devices.specs.Settings.{settings_in}
 use Rattle.fd_network.proofs.Faulty.{misfit_first}
 use Rattle.fd_network.proofs.Taking.{IsAt, device_next, here_from, next_at, taken_at}
 use Rattle.fd_network.proofs.Walking.{AreKeptTo, kept_next, places_more}
@@ -25,9 +25,9 @@ kept_at-requires c =
     let layout = c.args.layout.now in
     let hertz = c.args.hertz in
     let place = c.loop-place.place in
-    let left = settings_left c.loop-place.left in
+    let left = settings_in c.loop-place.left in
     let e = deref_pair c.unwrap.result in
-    let ds = devices_from layout hertz 0 es (settings_left c.args.settings.now) in
+    let ds = devices_from layout hertz 0 es (settings_in c.args.settings.now) in
     let here = ap (λ es. slice_get es c.loop-place.place) (sym c.as_slice-entries.ensures.entries) ∙ sym c.get_index.ensures.entry ∙ ap (option_map deref_pair) c.unwrap.ensures in
     taken_at layout hertz es ds place left e here c.loop-place.invariant.at
 
@@ -37,9 +37,9 @@ returns-in_err-one-clause-fault c =
     let layout = c.args.layout.now in
     let hertz = c.args.hertz in
     let place = c.loop-place.place in
-    let left = settings_left c.loop-place.left in
+    let left = settings_in c.loop-place.left in
     let e = deref_pair c.unwrap.result in
-    let ds = devices_from layout hertz 0 es (settings_left c.args.settings.now) in
+    let ds = devices_from layout hertz 0 es (settings_in c.args.settings.now) in
     let here = ap (λ es. slice_get es c.loop-place.place) (sym c.as_slice-entries.ensures.entries) ∙ sym c.get_index.ensures.entry ∙ ap (option_map deref_pair) c.unwrap.ensures in
     let next = device_next layout hertz es ds place left e here c.loop-place.invariant.at in
     let p = err_from_is_err_and c.from_residual-in_err-one.result c.from_residual-in_err-one.ensures.1 in
@@ -51,9 +51,9 @@ after-left-requires c =
     let layout = c.args.layout.now in
     let hertz = c.args.hertz in
     let place = c.loop-place.place in
-    let left = settings_left c.loop-place.left in
+    let left = settings_in c.loop-place.left in
     let e = deref_pair c.unwrap.result in
-    let ds = devices_from layout hertz 0 es (settings_left c.args.settings.now) in
+    let ds = devices_from layout hertz 0 es (settings_in c.args.settings.now) in
     let here = ap (λ es. slice_get es c.loop-place.place) (sym c.as_slice-entries.ensures.entries) ∙ sym c.get_index.ensures.entry ∙ ap (option_map deref_pair) c.unwrap.ensures in
     let taken = taken_at layout hertz es ds place left e here c.loop-place.invariant.at in
     taken.own
@@ -64,9 +64,9 @@ loop-place-preserved c =
     let layout = c.args.layout.now in
     let hertz = c.args.hertz in
     let place = c.loop-place.place in
-    let left = settings_left c.loop-place.left in
+    let left = settings_in c.loop-place.left in
     let e = deref_pair c.unwrap.result in
-    let ds = devices_from layout hertz 0 es (settings_left c.args.settings.now) in
+    let ds = devices_from layout hertz 0 es (settings_in c.args.settings.now) in
     let here = ap (λ es. slice_get es c.loop-place.place) (sym c.as_slice-entries.ensures.entries) ∙ sym c.get_index.ensures.entry ∙ ap (option_map deref_pair) c.unwrap.ensures in
     let d = device_of layout hertz place e.1 (own e.1 left) in
     let next = device_next layout hertz es ds place left e here c.loop-place.invariant.at in
@@ -86,10 +86,10 @@ returns-clause-places c =
     let es = c.args.elements.now.entries in
     let layout = c.args.layout.now in
     let place = c.loop-place.place in
-    let ds = devices_from layout c.args.hertz 0 es (settings_left c.args.settings.now) in
+    let ds = devices_from layout c.args.hertz 0 es (settings_in c.args.settings.now) in
     let count = ap length c.as_slice-entries.ensures.entries in
     let all : length es ≤ place = omega (arith, count, c.len-place-end.ensures, c.loop-place-test.false) in
-    let devices : length ds ≤ place = omega (arith, all, devices_length layout c.args.hertz 0 es (settings_left c.args.settings.now)) in
+    let devices : length ds ≤ place = omega (arith, all, devices_length layout c.args.hertz 0 es (settings_in c.args.settings.now)) in
     c.loop-place.invariant.places ∙ ap (flat_map device_places) (take_all place ds devices)
 
 pub returns-clause-fits : goal.returns-clause-fits
@@ -97,8 +97,8 @@ returns-clause-fits c =
     let es = c.args.elements.now.entries in
     let layout = c.args.layout.now in
     let place = c.loop-place.place in
-    let ds = devices_from layout c.args.hertz 0 es (settings_left c.args.settings.now) in
+    let ds = devices_from layout c.args.hertz 0 es (settings_in c.args.settings.now) in
     let count = ap length c.as_slice-entries.ensures.entries in
     let all : length es ≤ place = omega (arith, count, c.len-place-end.ensures, c.loop-place-test.false) in
-    let devices : length ds ≤ place = omega (arith, all, devices_length layout c.args.hertz 0 es (settings_left c.args.settings.now)) in
+    let devices : length ds ≤ place = omega (arith, all, devices_length layout c.args.hertz 0 es (settings_in c.args.settings.now)) in
     subst (All Fits) (take_all place ds devices) c.loop-place.invariant.fits

@@ -6,7 +6,7 @@ use Rattle.fd_devices.specs.Settings.{settings_of}
 use Rattle.fd_devices.proofs.CallerLemmas.{devices_length}
 use Rattle.fd_network.specs.Assembled.{HaveRoom, parts_network}
 use Rattle.fd_network.specs.Keeping.{room_for}
-use Rattle.fd_network.specs.Collecting.{settings_left}
+use Rattle.fd_devices.specs.Settings.{settings_in}
 use Rattle.fd_network.specs.Faults.{first_out_of_range}
 use Rattle.dss_layout.specs.Limits.{most_complex, most_magnitudes}
 use Rattle.dss_layout.specs.Layout.{LayoutView, complex_count, layout_of}
@@ -28,7 +28,7 @@ assemble-requires-clause-taken c =
     let hertz = circuit.options.defaultbasefrequency in
     let is_ready = ready circuit c.requires.ready c.elements-elements.ensures.in_range in
     let taken = are_taken hertz circuit.elements (settings_of c.args.at.now c.args.powers.now) c.options.ensures.in_range.defaultbasefrequency c.requires.ready.not_many is_ready c.requires.settings c.requires.within c.requires.modest in
-    taken_as c.args.layout.now _ c.options.result.now.defaultbasefrequency hertz c.elements-elements.result.now.entries circuit.elements (settings_left c.of-settings.result) _
+    taken_as c.args.layout.now _ c.options.result.now.defaultbasefrequency hertz c.elements-elements.result.now.entries circuit.elements (settings_in c.of-settings.result) _
     c.requires.layout (ap (λ (o : Options). o.defaultbasefrequency) c.options.ensures.value) c.elements-elements.ensures.entries c.of-settings.ensures taken
 
 pub assemble-requires-clause-magnitudes : goal.assemble-requires-clause-magnitudes
@@ -47,14 +47,14 @@ assemble-requires-clause-few_branches c = rw c.elements-elements.ensures.entries
 pub returns-in-Ok-clause-agrees : goal.returns-in-Ok-clause-agrees
 returns-in-Ok-clause-agrees c =
     let hertz = ap (λ (o : Options). o.defaultbasefrequency) c.options.ensures.value in
-    let same = same_devices c.args.layout.now _ c.options.result.now.defaultbasefrequency _ c.elements-elements.result.now.entries _ (settings_left c.of-settings.result) _ c.requires.layout hertz c.elements-elements.ensures.entries c.of-settings.ensures in
+    let same = same_devices c.args.layout.now _ c.options.result.now.defaultbasefrequency _ c.elements-elements.result.now.entries _ (settings_in c.of-settings.result) _ c.requires.layout hertz c.elements-elements.ensures.entries c.of-settings.ensures in
     subst (λ ds. AgreesWith (parts_network c.args.layout.now c.assemble.new.parts).stamp (parts_of_all ds)) same c.in-Ok.ensures.agrees
 
 pub returns-in-Ok-clause-no_blame : goal.returns-in-Ok-clause-no_blame
 returns-in-Ok-clause-no_blame c =
     let circuit = c.args.circuit.now in
     let hertz = ap (λ (o : Options). o.defaultbasefrequency) c.options.ensures.value in
-    let same = same_devices c.args.layout.now _ c.options.result.now.defaultbasefrequency _ c.elements-elements.result.now.entries _ (settings_left c.of-settings.result) _ c.requires.layout hertz c.elements-elements.ensures.entries c.of-settings.ensures in
+    let same = same_devices c.args.layout.now _ c.options.result.now.defaultbasefrequency _ c.elements-elements.result.now.entries _ (settings_in c.of-settings.result) _ c.requires.layout hertz c.elements-elements.ensures.entries c.of-settings.ensures in
     no_blame circuit.elements (devices_of circuit (settings_of c.args.at.now c.args.powers.now)) (ap first_out_of_range (sym same) ∙ c.in-Ok.ensures.no_fault)
 
 pub blamed-requires : goal.blamed-requires
@@ -62,7 +62,7 @@ blamed-requires c =
     let es = c.elements-elements.result.now.entries in
     let layout = c.args.layout.now in
     let hertz = c.options.result.now.defaultbasefrequency in
-    let settings = settings_left c.of-settings.result in
+    let settings = settings_in c.of-settings.result in
     let low = out_of_range_within (devices_from layout hertz 0 es settings) c.in-Err.fault.0 c.in-Err.ensures.fault in
     subst (λ n. c.in-Err.fault.0 < n) (devices_length layout hertz 0 es settings) low
 
@@ -70,7 +70,7 @@ pub returns-in-Err-clause-fault : goal.returns-in-Err-clause-fault
 returns-in-Err-clause-fault c =
     let circuit = c.args.circuit.now in
     let hertz = ap (λ (o : Options). o.defaultbasefrequency) c.options.ensures.value in
-    let same = same_devices c.args.layout.now _ c.options.result.now.defaultbasefrequency _ c.elements-elements.result.now.entries _ (settings_left c.of-settings.result) _ c.requires.layout hertz c.elements-elements.ensures.entries c.of-settings.ensures in
+    let same = same_devices c.args.layout.now _ c.options.result.now.defaultbasefrequency _ c.elements-elements.result.now.entries _ (settings_in c.of-settings.result) _ c.requires.layout hertz c.elements-elements.ensures.entries c.of-settings.ensures in
     fault_named circuit.elements c.elements-elements.result.now.entries (devices_of circuit (settings_of c.args.at.now c.args.powers.now)) c.in-Err.fault.0 c.blamed.result
     c.elements-elements.ensures.entries (ap first_out_of_range (sym same) ∙ c.in-Err.ensures.fault) c.blamed.ensures
 
@@ -78,7 +78,7 @@ pub returns-in-Err-clause-ok : goal.returns-in-Err-clause-ok
 returns-in-Err-clause-ok c =
     let circuit = c.args.circuit.now in
     let hertz = ap (λ (o : Options). o.defaultbasefrequency) c.options.ensures.value in
-    let same = same_devices c.args.layout.now _ c.options.result.now.defaultbasefrequency _ c.elements-elements.result.now.entries _ (settings_left c.of-settings.result) _ c.requires.layout hertz c.elements-elements.ensures.entries c.of-settings.ensures in
+    let same = same_devices c.args.layout.now _ c.options.result.now.defaultbasefrequency _ c.elements-elements.result.now.entries _ (settings_in c.of-settings.result) _ c.requires.layout hertz c.elements-elements.ensures.entries c.of-settings.ensures in
     λ in_range. absurd (none_or_some _ c.in-Err.fault.0 (no_fault (devices_of circuit (settings_of c.args.at.now c.args.powers.now)) in_range) (ap first_out_of_range (sym same) ∙ c.in-Err.ensures.fault))
 
 pub assemble-requires-clause-kept : goal.assemble-requires-clause-kept

@@ -11,7 +11,7 @@ use Rattle.fd_system.proofs.CallerLemmas.{room_then}
 use Rattle.fd_devices.specs.Scripted.{device_of, devices_from}
 use Rattle.fd_devices.specs.Settings.{own}
 use Rattle.fd_devices.proofs.CallerLemmas.{devices_length}
-use Rattle.fd_network.specs.Collecting.{settings_left}
+use Rattle.fd_devices.specs.Settings.{settings_in}
 use Rattle.fd_network.specs.Faults.{has_small_sums}
 use Rattle.fd_network.proofs.Faulty.{first_at, holds_next, sums_decide}
 use Rattle.fd_network.proofs.Sums.{IsSmallAt}
@@ -28,9 +28,9 @@ stamp_at-requires-clause-taken c =
     let layout = c.args.layout.now in
     let hertz = c.args.hertz in
     let place = c.loop-place.place in
-    let left = settings_left c.loop-place.left in
+    let left = settings_in c.loop-place.left in
     let e = deref_pair c.unwrap.result in
-    let ds = devices_from layout hertz 0 es (settings_left c.args.settings.now) in
+    let ds = devices_from layout hertz 0 es (settings_in c.args.settings.now) in
     let here = ap (λ es. slice_get es c.loop-place.place) (sym c.as_slice-entries.ensures.entries) ∙ sym c.get_index.ensures.entry ∙ ap (option_map deref_pair) c.unwrap.ensures in
     taken_at layout hertz es ds place left e here c.loop-place.invariant.at
 
@@ -40,9 +40,9 @@ stamp_at-requires-clause-kept c =
     let layout = c.args.layout.now in
     let hertz = c.args.hertz in
     let place = c.loop-place.place in
-    let left = settings_left c.loop-place.left in
+    let left = settings_in c.loop-place.left in
     let e = deref_pair c.unwrap.result in
-    let ds = devices_from layout hertz 0 es (settings_left c.args.settings.now) in
+    let ds = devices_from layout hertz 0 es (settings_in c.args.settings.now) in
     let here = ap (λ es. slice_get es c.loop-place.place) (sym c.as_slice-entries.ensures.entries) ∙ sym c.get_index.ensures.entry ∙ ap (option_map deref_pair) c.unwrap.ensures in
     c.requires.kept.each place e c.index-kept-place.result here
     (stands_at c.args.kept.now place c.index-kept-place.result (omega (arith, c.requires.kept.count, ap length c.as_slice-entries.ensures.entries, c.len-place-end.ensures, c.loop-place-test.true, c.loop-place.auto.place-end)) c.index-kept-place.is)
@@ -53,9 +53,9 @@ returns-in_err-stamp_at-clause-fault c =
     let layout = c.args.layout.now in
     let hertz = c.args.hertz in
     let place = c.loop-place.place in
-    let left = settings_left c.loop-place.left in
+    let left = settings_in c.loop-place.left in
     let e = deref_pair c.unwrap.result in
-    let ds = devices_from layout hertz 0 es (settings_left c.args.settings.now) in
+    let ds = devices_from layout hertz 0 es (settings_in c.args.settings.now) in
     let here = ap (λ es. slice_get es c.loop-place.place) (sym c.as_slice-entries.ensures.entries) ∙ sym c.get_index.ensures.entry ∙ ap (option_map deref_pair) c.unwrap.ensures in
     let next = device_next layout hertz es ds place left e here c.loop-place.invariant.at in
     absurd (c.in_err-stamp_at.ensures.fault.1 (holds_next Fits ds place _ _ c.requires.fits next))
@@ -66,9 +66,9 @@ returns-then-not-have_small_sums-clause-fault c =
     let layout = c.args.layout.now in
     let hertz = c.args.hertz in
     let place = c.loop-place.place in
-    let left = settings_left c.loop-place.left in
+    let left = settings_in c.loop-place.left in
     let e = deref_pair c.unwrap.result in
-    let ds = devices_from layout hertz 0 es (settings_left c.args.settings.now) in
+    let ds = devices_from layout hertz 0 es (settings_in c.args.settings.now) in
     let here = ap (λ es. slice_get es c.loop-place.place) (sym c.as_slice-entries.ensures.entries) ∙ sym c.get_index.ensures.entry ∙ ap (option_map deref_pair) c.unwrap.ensures in
     let next = device_next layout hertz es ds place left e here c.loop-place.invariant.at in
     let all = c.args.rows.now.terms in
@@ -82,9 +82,9 @@ after-left-requires c =
     let layout = c.args.layout.now in
     let hertz = c.args.hertz in
     let place = c.loop-place.place in
-    let left = settings_left c.loop-place.left in
+    let left = settings_in c.loop-place.left in
     let e = deref_pair c.unwrap.result in
-    let ds = devices_from layout hertz 0 es (settings_left c.args.settings.now) in
+    let ds = devices_from layout hertz 0 es (settings_in c.args.settings.now) in
     let here = ap (λ es. slice_get es c.loop-place.place) (sym c.as_slice-entries.ensures.entries) ∙ sym c.get_index.ensures.entry ∙ ap (option_map deref_pair) c.unwrap.ensures in
     let taken = taken_at layout hertz es ds place left e here c.loop-place.invariant.at in
     taken.own
@@ -95,9 +95,9 @@ loop-place-preserved c =
     let layout = c.args.layout.now in
     let hertz = c.args.hertz in
     let place = c.loop-place.place in
-    let left = settings_left c.loop-place.left in
+    let left = settings_in c.loop-place.left in
     let e = deref_pair c.unwrap.result in
-    let ds = devices_from layout hertz 0 es (settings_left c.args.settings.now) in
+    let ds = devices_from layout hertz 0 es (settings_in c.args.settings.now) in
     let here = ap (λ es. slice_get es c.loop-place.place) (sym c.as_slice-entries.ensures.entries) ∙ sym c.get_index.ensures.entry ∙ ap (option_map deref_pair) c.unwrap.ensures in
     let d = device_of layout hertz place e.1 (own e.1 left) in
     let next = device_next layout hertz es ds place left e here c.loop-place.invariant.at in
@@ -116,8 +116,8 @@ returns-clause-small c =
     let es = c.args.elements.now.entries in
     let layout = c.args.layout.now in
     let place = c.loop-place.place in
-    let ds = devices_from layout c.args.hertz 0 es (settings_left c.args.settings.now) in
+    let ds = devices_from layout c.args.hertz 0 es (settings_in c.args.settings.now) in
     let count = ap length c.as_slice-entries.ensures.entries in
     let all : length es ≤ place = omega (arith, count, c.len-place-end.ensures, c.loop-place-test.false) in
-    let devices : length ds ≤ place = omega (arith, all, devices_length layout c.args.hertz 0 es (settings_left c.args.settings.now)) in
+    let devices : length ds ≤ place = omega (arith, all, devices_length layout c.args.hertz 0 es (settings_in c.args.settings.now)) in
     subst (All (HasSmallSums c.args.rows.now.terms)) (take_all place ds devices) c.loop-place.invariant.small

@@ -11,7 +11,7 @@ use Rattle.fd_system.proofs.CallerLemmas.{room_then}
 use Rattle.fd_devices.specs.Scripted.{device_of, devices_from}
 use Rattle.fd_devices.specs.Settings.{own}
 use Rattle.fd_devices.proofs.CallerLemmas.{collected_more, devices_length}
-use Rattle.fd_network.specs.Collecting.{settings_left}
+use Rattle.fd_devices.specs.Settings.{settings_in}
 use Rattle.fd_network.specs.Faults.{fits}
 use Rattle.fd_network.proofs.Faulty.{first_at, fits_decides}
 use Rattle.fd_network.proofs.Filling.{few_next, fits_beside}
@@ -25,9 +25,9 @@ stamp_at-requires-clause-taken c =
     let layout = c.args.layout.now in
     let hertz = c.args.hertz in
     let place = c.loop-place.place in
-    let left = settings_left c.loop-place.left in
+    let left = settings_in c.loop-place.left in
     let e = deref_pair c.unwrap.result in
-    let ds = devices_from layout hertz 0 es (settings_left c.args.settings.now) in
+    let ds = devices_from layout hertz 0 es (settings_in c.args.settings.now) in
     let here = ap (λ es. slice_get es c.loop-place.place) (sym c.as_slice-entries.ensures.entries) ∙ sym c.get_index.ensures.entry ∙ ap (option_map deref_pair) c.unwrap.ensures in
     taken_at layout hertz es ds place left e here c.loop-place.invariant.at
 
@@ -37,9 +37,9 @@ stamp_at-requires-clause-kept c =
     let layout = c.args.layout.now in
     let hertz = c.args.hertz in
     let place = c.loop-place.place in
-    let left = settings_left c.loop-place.left in
+    let left = settings_in c.loop-place.left in
     let e = deref_pair c.unwrap.result in
-    let ds = devices_from layout hertz 0 es (settings_left c.args.settings.now) in
+    let ds = devices_from layout hertz 0 es (settings_in c.args.settings.now) in
     let here = ap (λ es. slice_get es c.loop-place.place) (sym c.as_slice-entries.ensures.entries) ∙ sym c.get_index.ensures.entry ∙ ap (option_map deref_pair) c.unwrap.ensures in
     c.requires.kept.each place e c.index-kept-place.result here
     (stands_at c.args.kept.now place c.index-kept-place.result (omega (arith, c.requires.kept.count, ap length c.as_slice-entries.ensures.entries, c.len-place-end.ensures, c.loop-place-test.true, c.loop-place.auto.place-end)) c.index-kept-place.is)
@@ -50,9 +50,9 @@ returns-in_err-stamp_at-clause-fault c =
     let layout = c.args.layout.now in
     let hertz = c.args.hertz in
     let place = c.loop-place.place in
-    let left = settings_left c.loop-place.left in
+    let left = settings_in c.loop-place.left in
     let e = deref_pair c.unwrap.result in
-    let ds = devices_from layout hertz 0 es (settings_left c.args.settings.now) in
+    let ds = devices_from layout hertz 0 es (settings_in c.args.settings.now) in
     let here = ap (λ es. slice_get es c.loop-place.place) (sym c.as_slice-entries.ensures.entries) ∙ sym c.get_index.ensures.entry ∙ ap (option_map deref_pair) c.unwrap.ensures in
     let next = device_next layout hertz es ds place left e here c.loop-place.invariant.at in
     let p = err_from_is_err_and c.from_residual.result c.from_residual.ensures.1 in
@@ -65,9 +65,9 @@ append_reserved-requires-clause-terms c =
     let layout = c.args.layout.now in
     let hertz = c.args.hertz in
     let place = c.loop-place.place in
-    let left = settings_left c.loop-place.left in
+    let left = settings_in c.loop-place.left in
     let e = deref_pair c.unwrap.result in
-    let ds = devices_from layout hertz 0 es (settings_left c.args.settings.now) in
+    let ds = devices_from layout hertz 0 es (settings_in c.args.settings.now) in
     let here = ap (λ es. slice_get es c.loop-place.place) (sym c.as_slice-entries.ensures.entries) ∙ sym c.get_index.ensures.entry ∙ ap (option_map deref_pair) c.unwrap.ensures in
     let beside = fits_beside es place e here (stamp_of c.loop-place.all) (stamp_of c.stamp_at.new.into) c.loop-place.invariant.few c.in_ok-stamp_at.ensures.few in
     omega (arith, beside.terms, c.requires.room.terms, c.loop-place.invariant.room.terms)
@@ -78,9 +78,9 @@ append_reserved-requires-clause-loads c =
     let layout = c.args.layout.now in
     let hertz = c.args.hertz in
     let place = c.loop-place.place in
-    let left = settings_left c.loop-place.left in
+    let left = settings_in c.loop-place.left in
     let e = deref_pair c.unwrap.result in
-    let ds = devices_from layout hertz 0 es (settings_left c.args.settings.now) in
+    let ds = devices_from layout hertz 0 es (settings_in c.args.settings.now) in
     let here = ap (λ es. slice_get es c.loop-place.place) (sym c.as_slice-entries.ensures.entries) ∙ sym c.get_index.ensures.entry ∙ ap (option_map deref_pair) c.unwrap.ensures in
     let beside = fits_beside es place e here (stamp_of c.loop-place.all) (stamp_of c.stamp_at.new.into) c.loop-place.invariant.few c.in_ok-stamp_at.ensures.few in
     omega (arith, beside.loads, c.requires.room.loads, c.loop-place.invariant.room.loads)
@@ -91,9 +91,9 @@ append_reserved-requires-clause-constants c =
     let layout = c.args.layout.now in
     let hertz = c.args.hertz in
     let place = c.loop-place.place in
-    let left = settings_left c.loop-place.left in
+    let left = settings_in c.loop-place.left in
     let e = deref_pair c.unwrap.result in
-    let ds = devices_from layout hertz 0 es (settings_left c.args.settings.now) in
+    let ds = devices_from layout hertz 0 es (settings_in c.args.settings.now) in
     let here = ap (λ es. slice_get es c.loop-place.place) (sym c.as_slice-entries.ensures.entries) ∙ sym c.get_index.ensures.entry ∙ ap (option_map deref_pair) c.unwrap.ensures in
     let beside = fits_beside es place e here (stamp_of c.loop-place.all) (stamp_of c.stamp_at.new.into) c.loop-place.invariant.few c.in_ok-stamp_at.ensures.few in
     omega (arith, beside.constants, c.requires.room.constants, c.loop-place.invariant.room.constants)
@@ -104,9 +104,9 @@ after-left-requires c =
     let layout = c.args.layout.now in
     let hertz = c.args.hertz in
     let place = c.loop-place.place in
-    let left = settings_left c.loop-place.left in
+    let left = settings_in c.loop-place.left in
     let e = deref_pair c.unwrap.result in
-    let ds = devices_from layout hertz 0 es (settings_left c.args.settings.now) in
+    let ds = devices_from layout hertz 0 es (settings_in c.args.settings.now) in
     let here = ap (λ es. slice_get es c.loop-place.place) (sym c.as_slice-entries.ensures.entries) ∙ sym c.get_index.ensures.entry ∙ ap (option_map deref_pair) c.unwrap.ensures in
     let taken = taken_at layout hertz es ds place left e here c.loop-place.invariant.at in
     taken.own
@@ -117,9 +117,9 @@ loop-place-preserved c =
     let layout = c.args.layout.now in
     let hertz = c.args.hertz in
     let place = c.loop-place.place in
-    let left = settings_left c.loop-place.left in
+    let left = settings_in c.loop-place.left in
     let e = deref_pair c.unwrap.result in
-    let ds = devices_from layout hertz 0 es (settings_left c.args.settings.now) in
+    let ds = devices_from layout hertz 0 es (settings_in c.args.settings.now) in
     let here = ap (λ es. slice_get es c.loop-place.place) (sym c.as_slice-entries.ensures.entries) ∙ sym c.get_index.ensures.entry ∙ ap (option_map deref_pair) c.unwrap.ensures in
     let d = device_of layout hertz place e.1 (own e.1 left) in
     let next = device_next layout hertz es ds place left e here c.loop-place.invariant.at in
@@ -142,10 +142,10 @@ returns-clause-collected c =
     let es = c.args.elements.now.entries in
     let layout = c.args.layout.now in
     let place = c.loop-place.place in
-    let ds = devices_from layout c.args.hertz 0 es (settings_left c.args.settings.now) in
+    let ds = devices_from layout c.args.hertz 0 es (settings_in c.args.settings.now) in
     let count = ap length c.as_slice-entries.ensures.entries in
     let all : length es ≤ place = omega (arith, count, c.len-place-end.ensures, c.loop-place-test.false) in
-    let devices : length ds ≤ place = omega (arith, all, devices_length layout c.args.hertz 0 es (settings_left c.args.settings.now)) in
+    let devices : length ds ≤ place = omega (arith, all, devices_length layout c.args.hertz 0 es (settings_in c.args.settings.now)) in
     let m = length layout.nodes in
     let n = complex_count layout in
     let size = size_of layout in
