@@ -1,6 +1,5 @@
 -- A number has ASCII characters alone, so its characters are its bytes.
-use Rattle.std.proofs.Common.{◌≡◌, ◌∙◌, ℕ, zero, suc, ◌<◌, ◌≤◌, ◌+◌, List, [], ◌∷◌, length, take, drop, Bool, true, false, not, ◌&&◌, ◌||◌, Option, Some, None, is_some, Result, Ok, Err, refl, sym, ap, subst, arith, nat_lt, nat_le, cond, ◌⊎◌, inl, inr, ⊎_elim, if◌then◌else◌}
-use Rattle.std.specs.Prelude.{encode_utf8_all}
+use Rattle.std.proofs.Common.{◌≡◌, ◌∙◌, ℕ, suc, ◌≤◌, ◌+◌, List, [], ◌∷◌, length, take, drop, Bool, true, false, not, ◌&&◌, ◌||◌, Option, Some, None, is_some, Err, refl, sym, ap, subst, arith, nat_lt, nat_le, cond, ◌⊎◌, inl, inr, ⊎_elim, if◌then◌else◌}
 use Rattle.std.specs.Str.{chars, IsUtf8, IsAscii, IsNotAscii}
 use Rattle.std.specs.List.{list_all, before_first, after_first, position_or_len, prefix_len}
 use Rattle.std.specs.Char.{is_ascii_digit}
@@ -10,7 +9,6 @@ use Rattle.std.proofs.lemmas.Bool.{ltb-true, ltb-false}
 use Rattle.std.proofs.lemmas.Bool.Decides.{nat_tests}
 use Rattle.std.proofs.lemmas.Grind.{common_steps}
 use Rattle.dss_lexer.specs.declared.numbers.Shift.{Shift}
-use Rattle.dss_lexer.specs.declared.fault.NumberFault.{NumberFault}
 use Rattle.dss_lexer.specs.declared.fault.NumberFault.TheVariants.{BadNumber}
 use Rattle.dss_lexer.specs.Number.{number_of, number_from, are_digits, are_mantissa, unsigned, is_plus, is_minus, is_exponent_mark, is_point, shift_of, exponent_of, is_negative, value, units, with_sign, within_limit}
 use Rattle.dss_lexer.proofs.Values.{both}

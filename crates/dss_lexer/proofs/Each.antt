@@ -1,5 +1,5 @@
 -- Steps along a list whose elements are read one by one.
-use Rattle.std.proofs.Common.{◌≡◌, ◌∙◌, ℕ, zero, suc, ◌+◌, ◌<◌, ◌≤◌, Bool, true, false, List, [], ◌∷◌, ◌++◌, length, drop, get_or, map, refl, sym, ap, arith, Ok, Err, Result, add-one, drop-cons, append_assoc, append-nil}
+use Rattle.std.proofs.Common.{◌≡◌, ◌∙◌, ℕ, zero, suc, ◌+◌, ◌<◌, ◌≤◌, List, [], ◌∷◌, ◌++◌, length, drop, get_or, map, refl, sym, ap, arith, Ok, Err, Result, add-one, drop-cons, append_assoc, append-nil}
 use Rattle.dss_lexer.specs.declared.fault.LexError.{LexError}
 use Rattle.dss_lexer.specs.declared.fault.LexError.TheVariants as error
 use Rattle.dss_lexer.specs.Answers.{Fails, ◌>>=◌, each}

@@ -1,5 +1,5 @@
 -- Digits that are dropped, and what the nearest number is.
-use Rattle.std.proofs.Common.{◌≡◌, ℕ, ℤ, pos, neg_ℤ, List, ◌++◌, length, ◌+◌, ◌-◌, ◌*◌, ◌/◌, ◌%◌, ◌^◌, ◌<◌, ◌≤◌, refl, sym, true, false, Err, ◌∙◌, ap, arith, min, Bool, ⊎_elim}
+use Rattle.std.proofs.Common.{◌≡◌, ℕ, pos, neg_ℤ, List, ◌++◌, length, ◌+◌, ◌-◌, ◌*◌, ◌/◌, ◌%◌, ◌^◌, ◌<◌, ◌≤◌, refl, sym, true, false, Err, ◌∙◌, ap, arith, min, Bool, ⊎_elim}
 use Rattle.std.proofs.Math.Nat.{one-le-pow, mul-le-mul_left}
 use Rattle.std.proofs.lemmas.Nat.{pow-add, div-mul-add, div-add-mod'}
 use Rattle.std.proofs.lemmas.Bool.{cases_lt, le-ltb}
@@ -7,7 +7,6 @@ use Rattle.std.specs.Int.RustNames.{unsigned_abs}
 use Rattle.std.proofs.lemmas.Int.{ints}
 use Rattle.dss_lexer.specs.declared.numbers.Shift.{Shift}
 use Rattle.dss_lexer.specs.declared.fault.NumberFault.TheVariants.{NumberTooLarge}
-use Rattle.fd_exact.specs.Rounding.{near_div}
 use Rattle.dss_lexer.specs.Number.{within_limit, with_sign, units, value}
 
 -- n over d, nearest, a half going up

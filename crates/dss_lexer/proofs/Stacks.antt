@@ -1,5 +1,5 @@
 -- Operands on a stack, whose last element comes first in the definitions.
-use Rattle.std.proofs.Common.{◌≡◌, ◌∙◌, ℕ, ℤ, pos, negsuc, List, [], ◌∷◌, ◌++◌, reverse, refl, sym, ap, Ok, Err, Result, arith}
+use Rattle.std.proofs.Common.{◌≡◌, ◌∙◌, ℤ, pos, negsuc, List, [], ◌∷◌, ◌++◌, reverse, refl, sym, ap, Ok, Err, arith}
 use Rattle.std.proofs.lemmas.Bool.{le-ltb}
 use Rattle.std.specs.Prelude.{int_lt}
 use Rattle.std.specs.Int.RustNames.{unsigned_abs}

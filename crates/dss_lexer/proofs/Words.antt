@@ -1,11 +1,10 @@
 -- Steps along a word and along a line.
-use Rattle.std.proofs.Common.{◌≡◌, ◌∙◌, ℕ, zero, suc, ◌+◌, ◌<◌, ◌≤◌, Bool, true, false, List, [], ◌∷◌, ◌++◌, length, drop, get_or, refl, sym, ap, arith, Ok, Err, Result, if◌then◌else◌, add-one, drop-cons, append_assoc, append-nil}
+use Rattle.std.proofs.Common.{◌≡◌, ◌∙◌, ℕ, zero, suc, ◌+◌, ◌<◌, ◌≤◌, Bool, true, false, List, [], ◌∷◌, ◌++◌, length, drop, get_or, refl, sym, ap, arith, Ok, Err, Result, if◌then◌else◌, add-one, drop-cons}
 use Rattle.std.specs.Str.{IsUtf8, is_utf8}
 use Rattle.std.proofs.lemmas.Str.{IsUtf8-from_is_utf8, is_utf8-from_IsUtf8}
 use Rattle.dss_lexer.specs.declared.pair.Pair.{Pair}
 use Rattle.dss_lexer.specs.declared.fault.LineFault.{LineFault}
 use Rattle.dss_lexer.specs.declared.fault.LineFault.TheVariants as fault
-use Rattle.dss_lexer.specs.Answers.{◌>>=◌}
 use Rattle.dss_lexer.proofs.Each.{after, joined}
 use Rattle.dss_lexer.specs.Line.{word_len, ends_word, skip_separators, ends_line, item_at, items_of}
 

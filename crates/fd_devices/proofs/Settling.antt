@@ -1,5 +1,5 @@
 -- The devices of a load and of an element at its place are settled.
-use Rattle.std.proofs.Common.{◌≡◌, IsTrue, ◌∙◌, ℕ, zero, suc, ◌+◌, ◌*◌, ◌<◌, ◌≤◌, inl, inr, Bool, List, [], ◌∷◌, ◌++◌, length, add-one, arith, ap, refl, sym, subst}
+use Rattle.std.proofs.Common.{◌≡◌, IsTrue, ◌∙◌, ℕ, zero, suc, ◌+◌, ◌*◌, ◌<◌, ◌≤◌, inl, inr, Bool, List, [], ◌∷◌, length, length-append, add-one, arith, ap, refl, sym, subst}
 use Rattle.std.specs.List.{All}
 use Rattle.std.proofs.lemmas.List.Elements.{All-nil, All-cons, All-append, All-weaker}
 use Rattle.fd_arith.specs.declared.terms.NodeAt.{NodeAt}

@@ -1,5 +1,5 @@
 -- What is set of a circuit beside its script: taps, states of banks and powers of loads, each in order of definition.
-use Rattle.std.specs.Prelude.{◌≡◌, ℕ, Bool, List, length, take, drop, All}
+use Rattle.std.specs.Prelude.{◌≡◌, ℕ, ◌≤◌, Bool, List, length, take, drop, All}
 use Rattle.fd_exact.specs.Sums.{list_n}
 use Rattle.fd_arith.specs.declared.terms.TapPair.{TapPair}
 use Rattle.fd_elements.specs.declared.powers.LoadPower.{LoadPower}

@@ -1,5 +1,5 @@
 -- An element where a layout has it, and when its device is settled there.
-use Rattle.std.specs.Prelude.{◌≡◌, IsTrue, ℕ, ◌<◌, ◌≤◌, ◌^◌, List, length}
+use Rattle.std.specs.Prelude.{IsTrue, ℕ, ◌<◌, ◌≤◌, ◌^◌, List, length}
 use Rattle.fd_arith.specs.LoadModels.{has_magnitude}
 use Rattle.fd_arith.specs.declared.terms.Ends.{Ends}
 use Rattle.fd_arith.specs.declared.terms.NodeAt.{NodeAt}

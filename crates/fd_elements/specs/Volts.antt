@@ -1,5 +1,5 @@
 -- Voltages of elements, in whole microvolts: a voltage in 10^-9 kV is one in microvolts.
-use Rattle.std.specs.Prelude.{ℕ, ◌^◌, ℤ, pos, ◌*ℤ◌}
+use Rattle.std.specs.Prelude.{◌^◌, ℤ, pos, ◌*ℤ◌}
 use Rattle.fd_exact.specs.Rounding.{near_div}
 use Rattle.fd_system.specs.Terminals.{root_three}
 

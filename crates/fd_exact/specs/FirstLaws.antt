@@ -1,5 +1,5 @@
 -- Laws of the first number and of the first element of which a test holds.
-use Rattle.std.proofs.Common.{◌≡◌, ℕ, zero, suc, ◌+◌, ◌<◌, ◌≤◌, Bool, true, false, cond, Option, Some, None, is_some, option_map, List, [], ◌∷◌, length, take, drop, All, arith, refl, ap, sym, ◌∙◌, ◌⊎◌, ⊎_elim}
+use Rattle.std.proofs.Common.{◌≡◌, ℕ, zero, suc, ◌<◌, Bool, true, false, cond, Option, Some, None, is_some, option_map, List, [], ◌∷◌, length, take, drop, All, arith, refl, ap, sym, ◌∙◌, ◌⊎◌, ⊎_elim}
 use Rattle.std.specs.Option.{option_or}
 use Rattle.std.proofs.lemmas.List.Elements.{All-head, All-tail}
 use Rattle.fd_exact.specs.First.{first_place, first_such}

@@ -1,11 +1,9 @@
 -- Quotients to the nearest over a multiple of the divisor.
-use Rattle.std.proofs.Common.{◌≡◌, ◌∙◌, ℕ, suc, ◌+◌, ◌*◌, ◌/◌, ◌<◌, ◌≤◌, ◌^◌, ℤ, pos, negsuc, neg_ℤ, ◌*ℤ◌, ◌≤ℤ◌, nat_abs, Some, None, Bool, true, false, cond, ◌&&◌, int_le, arith, refl, ap, sym}
-use Rattle.std.proofs.lemmas.Int.{ints, unsigned_abs-mul}
-use Rattle.std.proofs.Math.Nat.{mul-le-mul_right, mul-div-mul_left}
+use Rattle.std.proofs.Common.{◌≡◌, ◌∙◌, ℕ, suc, ◌+◌, ◌*◌, ◌/◌, ◌<◌, ◌≤◌, ◌^◌, ℤ, pos, negsuc, neg_ℤ, ◌*ℤ◌, arith, ap, sym}
+use Rattle.std.proofs.Math.Nat.{mul-div-mul_left}
 use Rattle.fd_exact.specs.Integers.{neg-mul}
 use Rattle.fd_exact.specs.Rounding.{near_div}
 use Rattle.fd_exact.specs.Nearest.{near-neg}
-use Rattle.fd_arith.specs.Limits.{bounded}
 
 -- ---- a factor of the number and of the divisor may be left out
 

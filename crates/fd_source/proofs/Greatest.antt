@@ -1,7 +1,6 @@
 -- The greatest resistance up to a size is the greatest of all that keep it.
 use Rattle.std.proofs.Common.{◌≡◌, ◌∙◌, ℕ, zero, suc, ◌*◌, ◌≤◌, ◌⊎◌, inl, inr, Bool, true, false, if◌then◌else◌, arith, ap, sym, refl}
 use Rattle.std.proofs.lemmas.Bool.{leb-true, le-leb}
-use Rattle.fd_source.specs.declared.data.ShortCircuit.{ShortCircuit}
 use Rattle.fd_source.specs.Powers.{IsGreatest, KeepsSize, greatest_resistance, greatest_such, keeps_size, one_phase_size, positive_reactance, positive_resistance, ratio_of, three_phase_size}
 use Rattle.fd_source.specs.Laws.{OhmsLaw}
 use Rattle.fd_source.proofs.Squares.{keeps_within}

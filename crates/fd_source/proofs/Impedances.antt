@@ -1,5 +1,5 @@
 -- The impedances of a source from its parts.
-use Rattle.std.proofs.Common.{◌≡◌, ℕ, ◌*◌, ◌≤◌, ◌^◌, ℤ, pos, ap, arith, subst, sym, ◌∙◌}
+use Rattle.std.proofs.Common.{◌≡◌, ℕ, ◌*◌, ◌≤◌, ◌^◌, ℤ, pos, arith, subst, sym, ◌∙◌}
 use Rattle.std.specs.Int.{w128, cast_signed}
 use Rattle.std.proofs.lemmas.Int.{ints}
 use Rattle.fd_source.specs.declared.data.Ohms.{Ohms}

@@ -1,4 +1,4 @@
-use Rattle.std.proofs.Common.{◌≡◌, sym, reverse, arith}
+use Rattle.std.proofs.Common.{sym, arith}
 use Rattle.std.proofs.lemmas.Int.{ints}
 use Rattle.std.proofs.lemmas.Result.{err_from_is_err_and}
 use Rattle.dss_lexer.proofs.Stacks.{reduce_to, reduce_fault}

@@ -1,4 +1,4 @@
-use Rattle.std.proofs.Common.{◌∙◌, ◌++◌, ◌^◌, ap, pos, neg_ℤ, FitsSigned, rules, arith}
+use Rattle.std.proofs.Common.{◌∙◌, ◌++◌, ◌^◌, pos, neg_ℤ, FitsSigned, arith}
 use Rattle.std.specs.Int.{w128}
 use Rattle.std.proofs.lemmas.Int.{ints}
 use Rattle.fd_system.specs.Contributions.{stamp}

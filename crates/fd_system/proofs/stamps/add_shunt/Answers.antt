@@ -1,4 +1,4 @@
-use Rattle.std.proofs.Common.{◌∙◌, ◌++◌, ◌^◌, neg_ℤ, FitsSigned, arith}
+use Rattle.std.proofs.Common.{◌∙◌, ◌++◌, neg_ℤ, FitsSigned, arith}
 use Rattle.std.specs.Int.{w128}
 use Rattle.std.proofs.lemmas.Int.{to_z-of_z, ints}
 use Rattle.fd_system.specs.Contributions.{stamp}
