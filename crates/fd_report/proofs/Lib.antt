@@ -2,3 +2,4 @@ mod Newton
 mod Rows
 pub mod CallerLemmas
 mod Enclosed
+mod NameBytes

@@ -4,7 +4,7 @@ ghost use Rattle.dss_layout.specs.Layout.{first_too_many};
 ghost use Rattle.dss_ready.specs.Ready.{HasPassed};
 
 use dss_circuit::{Circuit, Command, ModelError, ModelFault, Place, Verb};
-use dss_lexer::{PairList, Text, pairs};
+use dss_lexer::{LineError, PairList, Text, pairs};
 use dss_ready::ready;
 use fd_arith::TapPair;
 use fd_devices::{BankStates, Positions, Taps};
@@ -80,7 +80,11 @@ fn text(alloc: Global, of: &str) -> Result<Text, ModelError> {
 }
 
 fn pair_list(alloc: Global, of: &str) -> Result<PairList, ModelError> {
-    Ok(PairList::new(pairs(alloc, of.as_bytes())?))
+    match pairs(alloc, of.as_bytes()) {
+        Ok(pairs) => Ok(PairList::new(pairs)),
+        Err(LineError::Fault(_)) => Err(ModelError::Fault(ModelFault::BadValue)),
+        Err(LineError::NoMemory) => Err(ModelError::NoMemory),
+    }
 }
 
 // Does a command that stands in this line, where the circuit is small.
