@@ -9,7 +9,7 @@ work=$(mktemp -d)
 trap 'rm -rf "$work"' EXIT
 
 program=certificate_timing
-libraries="fd_exact fd_arith fd_mat fd_system fd_load fd_equations fd_slope fd_inverse fd_enclosure fd_cert"
+libraries="fd_exact fd_items fd_arith fd_mat fd_system fd_load fd_equations fd_slope fd_inverse fd_enclosure fd_cert"
 mkdir -p "$work/crates/$program/src"
 for crate in $libraries; do
   mkdir "$work/crates/$crate"

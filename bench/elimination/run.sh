@@ -10,14 +10,15 @@ work=$(mktemp -d)
 trap 'rm -rf "$work"' EXIT
 
 mkdir -p "$work/crates/elimination_timing/src"
-for crate in fd_exact fd_arith fd_mat fd_inverse; do
+for crate in fd_exact fd_items fd_arith fd_mat fd_inverse; do
   mkdir "$work/crates/$crate"
   (cd "$top/crates/$crate" && tar cf - --exclude=./out .) | (cd "$work/crates/$crate" && tar xf -)
 done
 cp "$here/main.rt.txt" "$work/crates/elimination_timing/src/main.rt"
 cat > "$work/crates.txt" <<'LINES'
 fd_exact:
-fd_arith: fd_exact
+fd_items:
+fd_arith: fd_items fd_exact
 fd_mat: fd_exact
 fd_inverse: fd_exact fd_arith fd_mat
 elimination_timing: fd_mat fd_inverse

@@ -7,11 +7,11 @@ top=$(cd "$here/../.." && pwd)
 work=$(mktemp -d)
 trap 'rm -rf "$work"' EXIT
 mkdir -p "$work/crates"
-cp -r "$top/crates/fd_exact" "$top/crates/fd_arith" "$work/crates/"
+cp -r "$top/crates/fd_exact" "$top/crates/fd_items" "$top/crates/fd_arith" "$work/crates/"
 cd "$work"
 mkdir -p crates/bench_interval/src
 cp "$here/main.rt.txt" crates/bench_interval/src/main.rt
-printf 'fd_exact:\nfd_arith: fd_exact\nbench_interval: fd_arith fd_exact\n' >crates.txt
+printf 'fd_exact:\nfd_items:\nfd_arith: fd_items fd_exact\nbench_interval: fd_arith fd_exact\n' >crates.txt
 (cd crates/bench_interval && rt run) >rattle.log 2>&1 || { cat rattle.log; exit 1; }
 rustc -O -o plain "$here/plain.rs" 2>/dev/null
 for _ in 1 2 3 4 5; do
