@@ -6,7 +6,7 @@ use Rattle.fd_exact.specs.Ranges.{Between, UpTo}
 use Rattle.fd_arith.specs.declared.terms.Term.{Term}
 use Rattle.fd_arith.specs.declared.terms.Ends.{Ends}
 use Rattle.fd_system.specs.Complex.{Complex, complex, ◌⊟◌, ◌⊠◌, negative}
-use Rattle.fd_system.specs.Contributions.{shunt_list, each}
+use Rattle.fd_system.specs.Contributions.{shunt_list, concat_below}
 use Rattle.fd_system.specs.Equations.{unknown, Part, both}
 use Rattle.fd_system.specs.declared.terminals.NodePair.{NodePair}
 use Rattle.fd_system.specs.Terminals.{pair_of, pairs_of, phase_volts}
@@ -47,7 +47,7 @@ parts_at d at x k = phase_parts d (cap_pair d at k) x
 
 -- all phases of a closed bank, and nothing of an open one
 abbrev pub cap_parts : CapData → Bool → Ends → State → List Part
-cap_parts d closed at x = cond closed (each (parts_at d at x) d.phases) []
+cap_parts d closed at x = cond closed (concat_below (parts_at d at x) d.phases) []
 
 -- ---- its contributions, in order
 
@@ -58,7 +58,7 @@ abbrev pub list_at : CapData → Ends → ℕ → List Term
 list_at d at k = phase_list d (cap_pair d at k)
 
 abbrev pub cap_list : CapData → Bool → Ends → List Term
-cap_list d closed at = cond closed (each (list_at d at) d.phases) []
+cap_list d closed at = cond closed (concat_below (list_at d at) d.phases) []
 
 -- ---- what it draws
 

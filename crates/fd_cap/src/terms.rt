@@ -1,7 +1,7 @@
 // The contributions of a capacitor bank.
 ghost use Rattle.std.specs.Prelude.{◌≡◌, ◌+◌, ◌*◌, ◌<◌, ◌≤◌, ◌^◌, ◌++◌, ◌↔◌, [], ℤ, pos, ◌<ℤ◌, ◌≤ℤ◌, OnOk, IfOk, IfErr, All, length, vec_capacity};
 ghost use Rattle.fd_exact.specs.Ranges.{UpTo};
-ghost use Rattle.fd_system.specs.Contributions.{IsDivided, IsSmall, IsWithin, each};
+ghost use Rattle.fd_system.specs.Contributions.{IsDivided, IsSmall, IsWithin, concat_below};
 ghost use Rattle.fd_system.specs.Equations.{AddsUp};
 ghost use Rattle.fd_system.specs.Terminals.{IsSide, node_count};
 ghost use Rattle.fd_cap.specs.Capacitor.{IsCap, cap_list, cap_pair, cap_parts, cap_power, list_at, phase_list, volts_squared as squared_volts};
@@ -105,7 +105,7 @@ fn add_phases(terms: &mut Vec<Term>, cap: &CapData, at: &Ends)
     requires at { IsSide (node_count cap.now.phases) at.now.first }
     requires empty { terms.old.items ≡ [] }
     requires room { 64 ≤ vec_capacity terms.old }
-    ensures list { terms.new.items ≡ each (list_at cap.now at.now) cap.now.phases }
+    ensures list { terms.new.items ≡ concat_below (list_at cap.now at.now) cap.now.phases }
     ensures capacity { vec_capacity terms.new ≡ vec_capacity terms.old }
 {
     for k in 0..cap.phases {

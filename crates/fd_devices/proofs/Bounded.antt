@@ -16,9 +16,9 @@ use Rattle.fd_arith.specs.declared.terms.NodeAt.TheVariants.{Ground, Node}
 use Rattle.fd_arith.specs.declared.terms.LoadModel.{LoadModel}
 use Rattle.fd_arith.specs.LoadModels.{is_linear}
 use Rattle.fd_system.specs.declared.loads.LoadAt.{LoadAt}
-use Rattle.fd_system.specs.Contributions.{IsDivided, IsWithin, each, stamp}
+use Rattle.fd_system.specs.Contributions.{IsDivided, IsWithin, concat_below, complex_terms}
 use Rattle.fd_system.specs.Loads.{FitsModel, IsLoad, draw_of, impedance_list, linear_list}
-use Rattle.fd_system.proofs.CallerLemmas.{stamp_divided}
+use Rattle.fd_system.proofs.CallerLemmas.{complex_divided}
 use Rattle.fd_line.specs.declared.data.LineData.{LineData}
 use Rattle.fd_line.specs.Totals.{IsLine}
 use Rattle.fd_line.specs.Line.{line_list}
@@ -94,14 +94,14 @@ volts_small v k h =
 abbrev IsSmallVoltage : ℤ → Type 0
 IsSmallVoltage z = nat_abs z ≤ 2 * 10 ^ 12
 
-constants_small : (s : SourceData) → UpTo (2 * 10 ^ 12) s.volts → (n : ℕ) → All IsSmallVoltage (each (phase_constants s) n)
+constants_small : (s : SourceData) → UpTo (2 * 10 ^ 12) s.volts → (n : ℕ) → All IsSmallVoltage (concat_below (phase_constants s) n)
 constants_small s h zero = All-nil IsSmallVoltage
-constants_small s h (suc n) = All-append IsSmallVoltage (each (phase_constants s) n) (phase_constants s n) (constants_small s h n)
+constants_small s h (suc n) = All-append IsSmallVoltage (concat_below (phase_constants s) n) (phase_constants s n) (constants_small s h n)
     (All-cons IsSmallVoltage (volts_re s n) (volts_im s n ∷ []) (volts_small s.volts (steps_of s n) h) (All-cons IsSmallVoltage (volts_im s n) [] (volts_small s.volts (steps_of s n + 9) h) (All-nil IsSmallVoltage)))
 
-constants_length : (s : SourceData) (n : ℕ) → length (each (phase_constants s) n) ≡ 2 * n
+constants_length : (s : SourceData) (n : ℕ) → length (concat_below (phase_constants s) n) ≡ 2 * n
 constants_length s zero = refl
-constants_length s (suc n) = length-append (each (phase_constants s) n) (phase_constants s n) ∙ omega (arith, constants_length s n)
+constants_length s (suc n) = length-append (concat_below (phase_constants s) n) (phase_constants s n) ∙ omega (arith, constants_length s n)
 
 from_length : (row : ℕ) (vs : List ℤ) → length (constants_from row vs) ≡ length vs
 from_length row [] = refl
@@ -219,11 +219,11 @@ impedance_divided u h =
     let between = square_between u.load.vn v.nominal_least v.nominal_most in
     stamps a b d between.0 between.1
   where
-    stamps : (a b d : ℤ) → pos 0 <ℤ d → d ≤ℤ pos (10 ^ 32) → All IsDivided ((stamp u.first u.first a (neg_ℤ b) d ++ stamp u.first u.second (neg_ℤ a) (neg_ℤ (neg_ℤ b)) d) ++ (stamp u.second u.first (neg_ℤ a) (neg_ℤ (neg_ℤ b)) d ++ stamp u.second u.second a (neg_ℤ b) d))
+    stamps : (a b d : ℤ) → pos 0 <ℤ d → d ≤ℤ pos (10 ^ 32) → All IsDivided ((complex_terms u.first u.first a (neg_ℤ b) d ++ complex_terms u.first u.second (neg_ℤ a) (neg_ℤ (neg_ℤ b)) d) ++ (complex_terms u.second u.first (neg_ℤ a) (neg_ℤ (neg_ℤ b)) d ++ complex_terms u.second u.second a (neg_ℤ b) d))
     stamps a b d p m =
-        All-append IsDivided (stamp u.first u.first a (neg_ℤ b) d ++ stamp u.first u.second (neg_ℤ a) (neg_ℤ (neg_ℤ b)) d) _
-        (All-append IsDivided (stamp u.first u.first a (neg_ℤ b) d) _ (stamp_divided d p m u.first u.first a (neg_ℤ b)) (stamp_divided d p m u.first u.second (neg_ℤ a) (neg_ℤ (neg_ℤ b))))
-        (All-append IsDivided (stamp u.second u.first (neg_ℤ a) (neg_ℤ (neg_ℤ b)) d) _ (stamp_divided d p m u.second u.first (neg_ℤ a) (neg_ℤ (neg_ℤ b))) (stamp_divided d p m u.second u.second a (neg_ℤ b)))
+        All-append IsDivided (complex_terms u.first u.first a (neg_ℤ b) d ++ complex_terms u.first u.second (neg_ℤ a) (neg_ℤ (neg_ℤ b)) d) _
+        (All-append IsDivided (complex_terms u.first u.first a (neg_ℤ b) d) _ (complex_divided d p m u.first u.first a (neg_ℤ b)) (complex_divided d p m u.first u.second (neg_ℤ a) (neg_ℤ (neg_ℤ b))))
+        (All-append IsDivided (complex_terms u.second u.first (neg_ℤ a) (neg_ℤ (neg_ℤ b)) d) _ (complex_divided d p m u.second u.first (neg_ℤ a) (neg_ℤ (neg_ℤ b))) (complex_divided d p m u.second u.second a (neg_ℤ b)))
 
 linear_divided : (u : LoadAt) → IsUsable u → (b : Bool) → All IsDivided (cond b (impedance_list u) [])
 linear_divided u h true = impedance_divided u h

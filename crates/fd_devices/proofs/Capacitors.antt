@@ -18,7 +18,7 @@ use Rattle.fd_equations.specs.Conditions.{IsAmong, IsKnown, IsServed}
 use Rattle.fd_devices.specs.Devices.{capacitor}
 use Rattle.fd_devices.specs.Building.{IsSettled}
 use Rattle.fd_devices.specs.Sound.{IsSideOf}
-use Rattle.fd_devices.proofs.Counting.{AreInside, each_inside, more_room, none_inside, shunt_inside}
+use Rattle.fd_devices.proofs.Counting.{AreInside, concat_inside, more_room, none_inside, shunt_inside}
 use Rattle.fd_devices.proofs.Bounded.{contributions}
 use Rattle.fd_devices.proofs.Transformers.{IsPairBelow, pair_below}
 
@@ -30,7 +30,7 @@ module _ (n : ℕ) where
 
   cap_inside : (d : CapData) (closed : Bool) (at : Ends) → d.phases ≤ 3 → All (IsAmong n) at.first → AreInside n 64 (cap_list d closed at)
   cap_inside d true at few below = more_room n (d.phases * 16) 64 (cap_list d true at) (omega arith)
-      (each_inside n 16 (list_at d at) d.phases (λ k p. phase_inside d (cap_pair d at k) (pair_below n (pairs_of d.phases d.conn) at.first k below)))
+      (concat_inside n 16 (list_at d at) d.phases (λ k p. phase_inside d (cap_pair d at k) (pair_below n (pairs_of d.phases d.conn) at.first k below)))
   cap_inside d false at few below = more_room n 0 64 [] (omega arith) (none_inside n)
 
 -- ---- what it draws

@@ -8,7 +8,7 @@ use Rattle.fd_arith.specs.declared.terms.NodeAt.{NodeAt}
 use Rattle.fd_arith.specs.declared.terms.NodeAt.TheVariants.{Ground, Node}
 use Rattle.fd_arith.specs.declared.terms.Ends.{Ends}
 use Rattle.fd_system.specs.declared.loads.LoadAt.{LoadAt}
-use Rattle.fd_system.specs.Contributions.{one, stamp, shunt_list, each}
+use Rattle.fd_system.specs.Contributions.{one, complex_terms, shunt_list, concat_below}
 use Rattle.fd_system.specs.Terminals.{branch_of, node_of}
 use Rattle.fd_system.specs.Series.{drop_at, drop_list}
 use Rattle.fd_system.specs.Loads.{impedance_list, linear_list}
@@ -40,10 +40,10 @@ joined_inside n a b ts us h k =
     let e = length-append ts us in
     record { inside = All-append (IsInside n) ts us h.inside k.inside; few = omega arith }
 
-pub each_inside : (n b : ℕ) (f : ℕ → List Term) (m : ℕ) → ((k : ℕ) → k < m → AreInside n b (f k)) → AreInside n (m * b) (each f m)
-each_inside n b f zero h = more_room n 0 (0 * b) [] (omega arith) (none_inside n)
-each_inside n b f (suc m) h =
-    let j = joined_inside n (m * b) b (each f m) (f m) (each_inside n b f m (λ k p. h k (omega arith))) (h m (omega arith)) in
+pub concat_inside : (n b : ℕ) (f : ℕ → List Term) (m : ℕ) → ((k : ℕ) → k < m → AreInside n b (f k)) → AreInside n (m * b) (concat_below f m)
+concat_inside n b f zero h = more_room n 0 (0 * b) [] (omega arith) (none_inside n)
+concat_inside n b f (suc m) h =
+    let j = joined_inside n (m * b) b (concat_below f m) (f m) (concat_inside n b f m (λ k p. h k (omega arith))) (h m (omega arith)) in
     more_room n (m * b + b) (suc m * b) _ (omega arith) j
 
 module _ (n : ℕ) where
@@ -54,13 +54,13 @@ module _ (n : ℕ) where
   one_inside : (r c : ℕ) (a d : ℤ) → r < 2 * n → c < 2 * n → AreInside n 1 (one r c a d)
   one_inside r c a d p q = one_by (int_eq a (pos 0)) r c a d p q
 
-  pub stamp_inside : (r c : NodeAt) (a b d : ℤ) → IsAmong n r → IsAmong n c → AreInside n 4 (stamp r c a b d)
-  stamp_inside (Node r) (Node c) a b d p q =
+  pub complex_inside : (r c : NodeAt) (a b d : ℤ) → IsAmong n r → IsAmong n c → AreInside n 4 (complex_terms r c a b d)
+  complex_inside (Node r) (Node c) a b d p q =
       joined_inside n 1 3 (one (2 * r) (2 * c) a d) _ (one_inside (2 * r) (2 * c) a d (omega arith) (omega arith))
       (joined_inside n 1 2 (one (2 * r) (2 * c + 1) (neg_ℤ b) d) _ (one_inside (2 * r) (2 * c + 1) (neg_ℤ b) d (omega arith) (omega arith))
       (joined_inside n 1 1 (one (2 * r + 1) (2 * c) b d) _ (one_inside (2 * r + 1) (2 * c) b d (omega arith) (omega arith)) (one_inside (2 * r + 1) (2 * c + 1) a d (omega arith) (omega arith))))
-  stamp_inside (Node r) Ground a b d p q = more_room n 0 4 [] (omega arith) (none_inside n)
-  stamp_inside Ground c a b d p q = more_room n 0 4 [] (omega arith) (none_inside n)
+  complex_inside (Node r) Ground a b d p q = more_room n 0 4 [] (omega arith) (none_inside n)
+  complex_inside Ground c a b d p q = more_room n 0 4 [] (omega arith) (none_inside n)
 
   pub node_below : (ns : List NodeAt) (k : ℕ) → All (IsAmong n) ns → IsAmong n (node_of ns k)
   node_below [] k h = tt
@@ -68,8 +68,8 @@ module _ (n : ℕ) where
   node_below (m ∷ ns) (suc k) h = node_below ns k (All-tail (IsAmong n) m ns h)
 
   drops_inside : (r x : ℕ → ℕ → ℤ) (branch m k : ℕ) → branch + m ≤ n → k < m → AreInside n (m * 4) (drop_list r x branch m k)
-  drops_inside r x branch m k h p = each_inside n 4 (drop_at r x branch k) m
-      (λ j q. stamp_inside (branch_of branch k) (branch_of branch j) (neg_ℤ (r k j)) (neg_ℤ (x k j)) (pos (10 ^ 12)) (omega arith) (omega arith))
+  drops_inside r x branch m k h p = concat_inside n 4 (drop_at r x branch k) m
+      (λ j q. complex_inside (branch_of branch k) (branch_of branch j) (neg_ℤ (r k j)) (neg_ℤ (x k j)) (pos (10 ^ 12)) (omega arith) (omega arith))
 
   -- ---- lines
 
@@ -78,16 +78,16 @@ module _ (n : ℕ) where
     branch_inside k p =
         let r = branch_of at.branch k in
         joined_inside n 8 (l.phases * 4) _ (drop_list (resistance_of l) (reactance_of l) at.branch l.phases k)
-        (joined_inside n 4 4 (stamp r (node_of at.first k) (pos 1) (pos 0) (pos 1)) (stamp r (node_of at.second k) (negsuc 0) (pos 0) (pos 1))
-        (stamp_inside r (node_of at.first k) (pos 1) (pos 0) (pos 1) (omega arith) (node_below at.first k first))
-        (stamp_inside r (node_of at.second k) (negsuc 0) (pos 0) (pos 1) (omega arith) (node_below at.second k second)))
+        (joined_inside n 4 4 (complex_terms r (node_of at.first k) (pos 1) (pos 0) (pos 1)) (complex_terms r (node_of at.second k) (negsuc 0) (pos 0) (pos 1))
+        (complex_inside r (node_of at.first k) (pos 1) (pos 0) (pos 1) (omega arith) (node_below at.first k first))
+        (complex_inside r (node_of at.second k) (negsuc 0) (pos 0) (pos 1) (omega arith) (node_below at.second k second)))
         (drops_inside (resistance_of l) (reactance_of l) at.branch l.phases k room p)
 
     end_inside : (ns : List NodeAt) (sign : ℤ) (k : ℕ) → All (IsAmong n) ns → k < l.phases → AreInside n (4 + l.phases * 4) (end_row l at.branch ns sign k)
     end_inside ns sign k h p =
-        joined_inside n 4 (l.phases * 4) (stamp (node_of ns k) (branch_of at.branch k) sign (pos 0) (pos 1)) (each (charge_at l ns k) l.phases)
-        (stamp_inside (node_of ns k) (branch_of at.branch k) sign (pos 0) (pos 1) (node_below ns k h) (omega arith))
-        (each_inside n 4 (charge_at l ns k) l.phases (λ m q. stamp_inside (node_of ns k) (node_of ns m) (pos 0) (susceptance_of l k m) (pos (2 * 10 ^ 27)) (node_below ns k h) (node_below ns m h)))
+        joined_inside n 4 (l.phases * 4) (complex_terms (node_of ns k) (branch_of at.branch k) sign (pos 0) (pos 1)) (concat_below (charge_at l ns k) l.phases)
+        (complex_inside (node_of ns k) (branch_of at.branch k) sign (pos 0) (pos 1) (node_below ns k h) (omega arith))
+        (concat_inside n 4 (charge_at l ns k) l.phases (λ m q. complex_inside (node_of ns k) (node_of ns m) (pos 0) (susceptance_of l k m) (pos (2 * 10 ^ 27)) (node_below ns k h) (node_below ns m h)))
 
     phase_inside : (k : ℕ) → k < l.phases → l.phases ≤ 3 → AreInside n 52 (phase_list l at k)
     phase_inside k p few = more_room n (8 + l.phases * 4 + (4 + l.phases * 4 + (4 + l.phases * 4))) 52 (phase_list l at k) (omega arith)
@@ -96,7 +96,7 @@ module _ (n : ℕ) where
 
     pub line_inside : l.phases ≤ 3 → AreInside n (l.phases * 64) (line_list l at)
     line_inside few = more_room n (l.phases * 52) (l.phases * 64) (line_list l at) (omega arith)
-        (each_inside n 52 (phase_list l at) l.phases (λ k p. phase_inside k p few))
+        (concat_inside n 52 (phase_list l at) l.phases (λ k p. phase_inside k p few))
 
   -- ---- sources
 
@@ -106,15 +106,15 @@ module _ (n : ℕ) where
         let r = branch_of at.branch k in
         let m = node_of at.first k in
         more_room n (4 + s.phases * 4 + 4) 20 (source_phase_list s at k) (omega arith)
-        (joined_inside n (4 + s.phases * 4) 4 _ (stamp m r (negsuc 0) (pos 0) (pos 1))
-        (joined_inside n 4 (s.phases * 4) (stamp r m (negsuc 0) (pos 0) (pos 1)) (drop_list (source_resistance s) (source_reactance s) at.branch s.phases k)
-        (stamp_inside r m (negsuc 0) (pos 0) (pos 1) (omega arith) (node_below at.first k first))
+        (joined_inside n (4 + s.phases * 4) 4 _ (complex_terms m r (negsuc 0) (pos 0) (pos 1))
+        (joined_inside n 4 (s.phases * 4) (complex_terms r m (negsuc 0) (pos 0) (pos 1)) (drop_list (source_resistance s) (source_reactance s) at.branch s.phases k)
+        (complex_inside r m (negsuc 0) (pos 0) (pos 1) (omega arith) (node_below at.first k first))
         (drops_inside (source_resistance s) (source_reactance s) at.branch s.phases k room p))
-        (stamp_inside m r (negsuc 0) (pos 0) (pos 1) (node_below at.first k first) (omega arith)))
+        (complex_inside m r (negsuc 0) (pos 0) (pos 1) (node_below at.first k first) (omega arith)))
 
     pub source_inside : s.phases ≤ 3 → AreInside n (s.phases * 64) (source_list s at)
     source_inside few = more_room n (s.phases * 20) (s.phases * 64) (source_list s at) (omega arith)
-        (each_inside n 20 (source_phase_list s at) s.phases (λ k p. source_phase_inside k p few))
+        (concat_inside n 20 (source_phase_list s at) s.phases (λ k p. source_phase_inside k p few))
 
   -- ---- loads
 
@@ -126,8 +126,8 @@ module _ (n : ℕ) where
   pub shunt_inside : (m k : NodeAt) (a b d : ℤ) → IsAmong n m → IsAmong n k → AreInside n 16 (shunt_list m k a b d)
   shunt_inside m k a b d p q =
       joined_inside n 8 8 _ _
-      (joined_inside n 4 4 (stamp m m a b d) (stamp m k (neg_ℤ a) (neg_ℤ b) d) (stamp_inside m m a b d p p) (stamp_inside m k (neg_ℤ a) (neg_ℤ b) d p q))
-      (joined_inside n 4 4 (stamp k m (neg_ℤ a) (neg_ℤ b) d) (stamp k k a b d) (stamp_inside k m (neg_ℤ a) (neg_ℤ b) d q p) (stamp_inside k k a b d q q))
+      (joined_inside n 4 4 (complex_terms m m a b d) (complex_terms m k (neg_ℤ a) (neg_ℤ b) d) (complex_inside m m a b d p p) (complex_inside m k (neg_ℤ a) (neg_ℤ b) d p q))
+      (joined_inside n 4 4 (complex_terms k m (neg_ℤ a) (neg_ℤ b) d) (complex_terms k k a b d) (complex_inside k m (neg_ℤ a) (neg_ℤ b) d q p) (complex_inside k k a b d q q))
 
   impedance_inside : (u : LoadAt) → StandsBelow u → AreInside n 16 (impedance_list u)
   impedance_inside u h = shunt_inside u.first u.second (pos (10 ^ 9) *ℤ u.load.p) (neg_ℤ (pos (10 ^ 9) *ℤ u.load.q)) (u.load.vn *ℤ u.load.vn) h.first h.second

@@ -23,7 +23,7 @@ use Rattle.fd_system.specs.System.{StampView}
 use Rattle.fd_equations.specs.Conditions.{HasMagnitude, IsAmong, IsServed}
 use Rattle.fd_equations.specs.PatternPlaces.{cross, load_places, magnitude_places, node_places, place_of, terminal_places}
 use Rattle.fd_equations.specs.Patterns.{IsInside}
-use Rattle.fd_system.specs.Contributions.{each}
+use Rattle.fd_system.specs.Contributions.{concat_below}
 use Rattle.fd_equations.proofs.CallerLemmas.{cross_inside}
 use Rattle.fd_devices.specs.Building.{IsInside as IsTermInside, IsSettled}
 use Rattle.dss_profile.specs.declared.transformer.Transformer.{Transformer}
@@ -56,10 +56,10 @@ same_device layout hertz place (the.Loadshape c) s t h = refl
 one_more : {A B : Type 0} (f : A → List B) (xs : List A) (x : A) → flat_map f (xs ++ x ∷ []) ≡ flat_map f xs ++ f x
 one_more f xs x = flat_map-append f xs (x ∷ []) ∙ ap (λ r. flat_map f xs ++ r) (append-nil (f x))
 
-listed_more : (f : ℕ → LoadAt) (n : ℕ) → flat_map load_places (each (λ k. f k ∷ []) (suc n)) ≡ flat_map load_places (each (λ k. f k ∷ []) n) ++ load_places (f n)
-listed_more f n = one_more load_places (each (λ k. f k ∷ []) n) (f n)
+listed_more : (f : ℕ → LoadAt) (n : ℕ) → flat_map load_places (concat_below (λ k. f k ∷ []) (suc n)) ≡ flat_map load_places (concat_below (λ k. f k ∷ []) n) ++ load_places (f n)
+listed_more f n = one_more load_places (concat_below (λ k. f k ∷ []) n) (f n)
 
-same_listed : (f g : ℕ → LoadAt) → ((k : ℕ) → load_places (f k) ≡ load_places (g k)) → (n : ℕ) → flat_map load_places (each (λ k. f k ∷ []) n) ≡ flat_map load_places (each (λ k. g k ∷ []) n)
+same_listed : (f g : ℕ → LoadAt) → ((k : ℕ) → load_places (f k) ≡ load_places (g k)) → (n : ℕ) → flat_map load_places (concat_below (λ k. f k ∷ []) n) ≡ flat_map load_places (concat_below (λ k. g k ∷ []) n)
 same_listed f g h zero = refl
 same_listed f g h (suc n) = listed_more f n ∙ (λ i. same_listed f g h n i ++ h n i) ∙ sym (listed_more g n)
 

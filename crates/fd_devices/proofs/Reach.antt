@@ -13,7 +13,7 @@ use Rattle.fd_arith.specs.LoadModels.{is_linear}
 use Rattle.fd_system.specs.declared.loads.LoadAt.{LoadAt}
 use Rattle.fd_system.specs.declared.terminals.PhasePairs.{PhasePairs}
 use Rattle.fd_system.specs.declared.terminals.PhasePairs.TheVariants as pairs
-use Rattle.fd_system.specs.Contributions.{each, one, shunt_list, stamp}
+use Rattle.fd_system.specs.Contributions.{concat_below, one, shunt_list, complex_terms}
 use Rattle.fd_system.specs.Loads.{impedance_list, linear_list}
 use Rattle.fd_system.specs.Terminals.{branch_of, node_of, pairs_of, second_node}
 use Rattle.fd_xfmr.specs.declared.data.XfmrData.{XfmrData}
@@ -106,8 +106,8 @@ module _ (ps : List (ℕ × ℕ)) where
     at_place : (row col : ℕ) → Contains rows row → Contains cols col → Contains ps (row, col)
     at_place row col h k = held (cross rows cols) (row, col) reach (cross_has rows cols row col h k)
 
-    stamp_stands : (r c : NodeAt) (a b d : ℤ) → Holds rows r → Holds cols c → All Stands (stamp r c a b d)
-    stamp_stands (Node r) (Node c) a b d h k =
+    complex_stands : (r c : NodeAt) (a b d : ℤ) → Holds rows r → Holds cols c → All Stands (complex_terms r c a b d)
+    complex_stands (Node r) (Node c) a b d h k =
         let r0 = All-head (Contains rows) (2 * r) ((2 * r + 1) ∷ []) h in
         let r1 = All-head (Contains rows) (2 * r + 1) [] (All-tail (Contains rows) (2 * r) ((2 * r + 1) ∷ []) h) in
         let c0 = All-head (Contains cols) (2 * c) ((2 * c + 1) ∷ []) k in
@@ -115,18 +115,18 @@ module _ (ps : List (ℕ × ℕ)) where
         All-append Stands (one (2 * r) (2 * c) a d) _ (one_stands (2 * r) (2 * c) a d (at_place (2 * r) (2 * c) r0 c0))
         (All-append Stands (one (2 * r) (2 * c + 1) (neg_ℤ b) d) _ (one_stands (2 * r) (2 * c + 1) (neg_ℤ b) d (at_place (2 * r) (2 * c + 1) r0 c1))
         (All-append Stands (one (2 * r + 1) (2 * c) b d) (one (2 * r + 1) (2 * c + 1) a d) (one_stands (2 * r + 1) (2 * c) b d (at_place (2 * r + 1) (2 * c) r1 c0)) (one_stands (2 * r + 1) (2 * c + 1) a d (at_place (2 * r + 1) (2 * c + 1) r1 c1))))
-    stamp_stands (Node r) Ground a b d h k = All-nil Stands
-    stamp_stands Ground c a b d h k = All-nil Stands
+    complex_stands (Node r) Ground a b d h k = All-nil Stands
+    complex_stands Ground c a b d h k = All-nil Stands
 
-  each_stands : (f : ℕ → List Term) (m : ℕ) → ((k : ℕ) → k < m → All Stands (f k)) → All Stands (each f m)
-  each_stands f zero h = All-nil Stands
-  each_stands f (suc m) h = All-append Stands (each f m) (f m) (each_stands f m (λ k l. h k (omega arith))) (h m (omega arith))
+  concat_stands : (f : ℕ → List Term) (m : ℕ) → ((k : ℕ) → k < m → All Stands (f k)) → All Stands (concat_below f m)
+  concat_stands f zero h = All-nil Stands
+  concat_stands f (suc m) h = All-append Stands (concat_below f m) (f m) (concat_stands f m (λ k l. h k (omega arith))) (h m (omega arith))
 
   shunt_stands : (at : List ℕ) (first second : NodeAt) (a b d : ℤ) → All (Contains ps) (cross at at) → Holds at first → Holds at second → All Stands (shunt_list first second a b d)
   shunt_stands at first second a b d reach f s =
-      All-append Stands (stamp first first a b d ++ stamp first second (neg_ℤ a) (neg_ℤ b) d) _
-      (All-append Stands (stamp first first a b d) (stamp first second (neg_ℤ a) (neg_ℤ b) d) (stamp_stands at at reach first first a b d f f) (stamp_stands at at reach first second (neg_ℤ a) (neg_ℤ b) d f s))
-      (All-append Stands (stamp second first (neg_ℤ a) (neg_ℤ b) d) (stamp second second a b d) (stamp_stands at at reach second first (neg_ℤ a) (neg_ℤ b) d s f) (stamp_stands at at reach second second a b d s s))
+      All-append Stands (complex_terms first first a b d ++ complex_terms first second (neg_ℤ a) (neg_ℤ b) d) _
+      (All-append Stands (complex_terms first first a b d) (complex_terms first second (neg_ℤ a) (neg_ℤ b) d) (complex_stands at at reach first first a b d f f) (complex_stands at at reach first second (neg_ℤ a) (neg_ℤ b) d f s))
+      (All-append Stands (complex_terms second first (neg_ℤ a) (neg_ℤ b) d) (complex_terms second second a b d) (complex_stands at at reach second first (neg_ℤ a) (neg_ℤ b) d s f) (complex_stands at at reach second second a b d s s))
 
   -- ---- a transformer
 
@@ -134,28 +134,28 @@ module _ (ps : List (ℕ × ℕ)) where
     phase_stands : (c : Coefficients) (p : PhaseAt) → Holds branches p.branch → Holds nodes p.winding1.first → Holds nodes p.winding1.second → Holds nodes p.winding2.first → Holds nodes p.winding2.second → All Stands (phase_list c p)
     phase_stands c p b f1 s1 f2 s2 =
         All-append Stands (branch_list c p) (current_list c p)
-        (All-append Stands _ (stamp p.branch p.branch (neg_ℤ c.r) (neg_ℤ c.x) (pos (10 ^ 22)))
+        (All-append Stands _ (complex_terms p.branch p.branch (neg_ℤ c.r) (neg_ℤ c.x) (pos (10 ^ 22)))
         (All-append Stands _ _
-        (All-append Stands (stamp p.branch p.winding1.first c.ratio (pos 0) c.ratio_over) (stamp p.branch p.winding1.second (neg_ℤ c.ratio) (pos 0) c.ratio_over)
-        (stamp_stands branches nodes bn p.branch p.winding1.first c.ratio (pos 0) c.ratio_over b f1) (stamp_stands branches nodes bn p.branch p.winding1.second (neg_ℤ c.ratio) (pos 0) c.ratio_over b s1))
-        (All-append Stands (stamp p.branch p.winding2.first (negsuc 0) (pos 0) (pos 1)) (stamp p.branch p.winding2.second (pos 1) (pos 0) (pos 1))
-        (stamp_stands branches nodes bn p.branch p.winding2.first (negsuc 0) (pos 0) (pos 1) b f2) (stamp_stands branches nodes bn p.branch p.winding2.second (pos 1) (pos 0) (pos 1) b s2)))
-        (stamp_stands branches branches bb p.branch p.branch (neg_ℤ c.r) (neg_ℤ c.x) (pos (10 ^ 22)) b b))
-        (All-append Stands (stamp p.winding1.first p.branch c.ratio (pos 0) c.ratio_over) _ (stamp_stands nodes branches nb p.winding1.first p.branch c.ratio (pos 0) c.ratio_over f1 b)
-        (All-append Stands (stamp p.winding1.second p.branch (neg_ℤ c.ratio) (pos 0) c.ratio_over) _ (stamp_stands nodes branches nb p.winding1.second p.branch (neg_ℤ c.ratio) (pos 0) c.ratio_over s1 b)
-        (All-append Stands (stamp p.winding2.first p.branch (negsuc 0) (pos 0) (pos 1)) (stamp p.winding2.second p.branch (pos 1) (pos 0) (pos 1))
-        (stamp_stands nodes branches nb p.winding2.first p.branch (negsuc 0) (pos 0) (pos 1) f2 b) (stamp_stands nodes branches nb p.winding2.second p.branch (pos 1) (pos 0) (pos 1) s2 b))))
+        (All-append Stands (complex_terms p.branch p.winding1.first c.ratio (pos 0) c.ratio_over) (complex_terms p.branch p.winding1.second (neg_ℤ c.ratio) (pos 0) c.ratio_over)
+        (complex_stands branches nodes bn p.branch p.winding1.first c.ratio (pos 0) c.ratio_over b f1) (complex_stands branches nodes bn p.branch p.winding1.second (neg_ℤ c.ratio) (pos 0) c.ratio_over b s1))
+        (All-append Stands (complex_terms p.branch p.winding2.first (negsuc 0) (pos 0) (pos 1)) (complex_terms p.branch p.winding2.second (pos 1) (pos 0) (pos 1))
+        (complex_stands branches nodes bn p.branch p.winding2.first (negsuc 0) (pos 0) (pos 1) b f2) (complex_stands branches nodes bn p.branch p.winding2.second (pos 1) (pos 0) (pos 1) b s2)))
+        (complex_stands branches branches bb p.branch p.branch (neg_ℤ c.r) (neg_ℤ c.x) (pos (10 ^ 22)) b b))
+        (All-append Stands (complex_terms p.winding1.first p.branch c.ratio (pos 0) c.ratio_over) _ (complex_stands nodes branches nb p.winding1.first p.branch c.ratio (pos 0) c.ratio_over f1 b)
+        (All-append Stands (complex_terms p.winding1.second p.branch (neg_ℤ c.ratio) (pos 0) c.ratio_over) _ (complex_stands nodes branches nb p.winding1.second p.branch (neg_ℤ c.ratio) (pos 0) c.ratio_over s1 b)
+        (All-append Stands (complex_terms p.winding2.first p.branch (negsuc 0) (pos 0) (pos 1)) (complex_terms p.winding2.second p.branch (pos 1) (pos 0) (pos 1))
+        (complex_stands nodes branches nb p.winding2.first p.branch (negsuc 0) (pos 0) (pos 1) f2 b) (complex_stands nodes branches nb p.winding2.second p.branch (pos 1) (pos 0) (pos 1) s2 b))))
 
   xfmr_stands : (d : XfmrData) (c : Coefficients) (at : Ends)
       → (let nodes = unknowns_of at.first ++ unknowns_of at.second in let branches = branch_places at.branch d.phases in All (Contains ps) (cross branches nodes ++ (cross nodes branches ++ cross branches branches)))
-      → All Stands (each (list_at c d at) d.phases)
+      → All Stands (concat_below (list_at c d at) d.phases)
   xfmr_stands d c at h =
       let one = unknowns_of at.first in
       let two = unknowns_of at.second in
       let nodes = one ++ two in
       let branches = branch_places at.branch d.phases in
       let rest = All-right (Contains ps) (cross branches nodes) (cross nodes branches ++ cross branches branches) h in
-      each_stands (list_at c d at) d.phases (λ k l.
+      concat_stands (list_at c d at) d.phases (λ k l.
       phase_stands nodes branches (All-left (Contains ps) (cross branches nodes) (cross nodes branches ++ cross branches branches) h) (All-left (Contains ps) (cross nodes branches) (cross branches branches) rest) (All-right (Contains ps) (cross nodes branches) (cross branches branches) rest)
       c (phase_at d at k) (branch_held at.branch d.phases k l)
       (holds_left one two (node_of at.first k) (node_held at.first k)) (holds_left one two (second_node (first_pairs d) at.first k) (second_held (first_pairs d) at.first k))
@@ -164,7 +164,7 @@ module _ (ps : List (ℕ × ℕ)) where
   -- ---- a capacitor bank
 
   cap_stands : (d : CapData) (closed : Bool) (at : Ends) → All (Contains ps) (cross (unknowns_of at.first) (unknowns_of at.first)) → All Stands (cap_list d closed at)
-  cap_stands d true at h = each_stands (cap_list_at d at) d.phases (λ k l.
+  cap_stands d true at h = concat_stands (cap_list_at d at) d.phases (λ k l.
       shunt_stands (unknowns_of at.first) (cap_pair d at k).first (cap_pair d at k).second (pos 0) (cap_power d) (pos (volts_squared d)) h (node_held at.first k) (second_held (pairs_of d.phases d.conn) at.first k))
   cap_stands d false at h = All-nil Stands
 

@@ -13,7 +13,7 @@ use Rattle.fd_elements.specs.Connections.{conn_of}
 use Rattle.fd_elements.specs.declared.powers.LoadPower.{LoadPower}
 use Rattle.fd_elements.specs.Lines.{line_data_of}
 use Rattle.fd_equations.specs.Conditions.{HasMagnitude, IsAmong}
-use Rattle.fd_system.specs.Contributions.{each}
+use Rattle.fd_system.specs.Contributions.{concat_below}
 use Rattle.dss_profile.specs.Ranges.{IsOneOf}
 use Rattle.dss_profile.specs.InRange.{LoadInRange}
 use Rattle.dss_profile.specs.declared.element.Element.{Element}
@@ -36,13 +36,13 @@ use Rattle.fd_devices.proofs.Bounded.{StandsInside, among_more, loads_settled, o
 
 -- ---- loads
 
-all_each : {X : Type 0} (P : X → Type 0) (n : ℕ) (f : ℕ → X) → ((k : ℕ) → k < n → P (f k)) → All P (each (λ k. f k ∷ []) n)
-all_each P zero f h = All-nil P
-all_each P (suc n) f h = All-append P (each (λ k. f k ∷ []) n) (f n ∷ []) (all_each P n f (λ k p. h k (omega arith))) (All-cons P (f n) [] (h n (omega arith)) (All-nil P))
+all_concat : {X : Type 0} (P : X → Type 0) (n : ℕ) (f : ℕ → X) → ((k : ℕ) → k < n → P (f k)) → All P (concat_below (λ k. f k ∷ []) n)
+all_concat P zero f h = All-nil P
+all_concat P (suc n) f h = All-append P (concat_below (λ k. f k ∷ []) n) (f n ∷ []) (all_concat P n f (λ k p. h k (omega arith))) (All-cons P (f n) [] (h n (omega arith)) (All-nil P))
 
-length-each : {X : Type 0} (n : ℕ) (f : ℕ → X) → length (each (λ k. f k ∷ []) n) ≡ n
-length-each zero f = refl
-length-each (suc n) f = length-append (each (λ k. f k ∷ []) n) (f n ∷ []) ∙ add-one (length (each (λ k. f k ∷ []) n)) ∙ ap suc (length-each n f)
+length-concat : {X : Type 0} (n : ℕ) (f : ℕ → X) → length (concat_below (λ k. f k ∷ []) n) ≡ n
+length-concat zero f = refl
+length-concat (suc n) f = length-append (concat_below (λ k. f k ∷ []) n) (f n ∷ []) ∙ add-one (length (concat_below (λ k. f k ∷ []) n)) ∙ ap suc (length-concat n f)
 
 few_phases : (phases : ℕ) → IsOneOf (1 ∷ 3 ∷ []) phases → phases ≤ 3
 few_phases phases (inl h) = omega arith
@@ -63,10 +63,10 @@ magnitude_inside n size phases first k ConstantCurrent h p =
 pub phases_settled : (load : Load) (ns : List NodeAt) (magnitude : ℕ) (powers : List LoadPower) → LoadInRange load → All IsUsable (phases_of load ns magnitude powers) → Fits (loads (phases_of load ns magnitude powers))
     → (m n size : ℕ) → m ≤ n → IsSideOf m (node_count load.phases) ns → (IsTrue (has_magnitude load.model) → HasMagnitudes n size load.phases magnitude) → IsSettled m n size 0 (loads (phases_of load ns magnitude powers))
 phases_settled load ns magnitude powers range usable fits m n size among side places =
-    let count = length-each load.phases (load_at load ns magnitude powers) in
+    let count = length-concat load.phases (load_at load ns magnitude powers) in
     let few = few_phases load.phases range.phases in
     loads_settled m n size (phases_of load ns magnitude powers) among usable (omega arith)
-    (all_each (StandsInside m n size) load.phases (load_at load ns magnitude powers)
+    (all_concat (StandsInside m n size) load.phases (load_at load ns magnitude powers)
     (λ k p. record {
       nodes = let below = pair_below m (pairs_of load.phases (conn_of load.conn)) ns k side.below in record { first = below.first; second = below.second };
       magnitude = magnitude_inside n size load.phases magnitude k load.model places p;

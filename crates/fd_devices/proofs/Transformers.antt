@@ -5,7 +5,7 @@ use Rattle.std.proofs.lemmas.List.Elements.{All-nil}
 use Rattle.fd_arith.specs.declared.terms.NodeAt.{NodeAt}
 use Rattle.fd_arith.specs.declared.terms.Ends.{Ends}
 use Rattle.fd_arith.specs.declared.terms.TapPair.{TapPair}
-use Rattle.fd_system.specs.Contributions.{IsWithin, stamp}
+use Rattle.fd_system.specs.Contributions.{IsWithin, complex_terms}
 use Rattle.fd_system.specs.declared.terminals.NodePair.{NodePair}
 use Rattle.fd_system.specs.declared.terminals.PhasePairs.{PhasePairs}
 use Rattle.fd_system.specs.declared.terminals.PhasePairs.TheVariants as pairs
@@ -22,7 +22,7 @@ use Rattle.fd_equations.specs.Conditions.{IsAmong, IsKnown, IsServed}
 use Rattle.fd_devices.specs.Devices.{transformer}
 use Rattle.fd_devices.specs.Building.{IsSettled}
 use Rattle.fd_devices.specs.Sound.{HasBranches, IsSideOf}
-use Rattle.fd_devices.proofs.Counting.{AreInside, each_inside, joined_inside, more_room, node_below, stamp_inside}
+use Rattle.fd_devices.proofs.Counting.{AreInside, concat_inside, joined_inside, more_room, node_below, complex_inside}
 use Rattle.fd_devices.proofs.Bounded.{contributions}
 
 -- ---- the places of its contributions
@@ -45,27 +45,27 @@ module _ (n : ℕ) where
   module _ (c : Coefficients) (p : PhaseAt) (one : IsPairBelow p.winding1) (two : IsPairBelow p.winding2) (branch : IsAmong n p.branch) where
     branch_inside : AreInside n 20 (branch_list c p)
     branch_inside =
-        joined_inside n 16 4 _ (stamp p.branch p.branch (neg_ℤ c.r) (neg_ℤ c.x) (pos (10 ^ 22)))
+        joined_inside n 16 4 _ (complex_terms p.branch p.branch (neg_ℤ c.r) (neg_ℤ c.x) (pos (10 ^ 22)))
         (joined_inside n 8 8 _ _
-        (joined_inside n 4 4 (stamp p.branch p.winding1.first c.ratio (pos 0) c.ratio_over) (stamp p.branch p.winding1.second (neg_ℤ c.ratio) (pos 0) c.ratio_over)
-        (stamp_inside n p.branch p.winding1.first c.ratio (pos 0) c.ratio_over branch one.first) (stamp_inside n p.branch p.winding1.second (neg_ℤ c.ratio) (pos 0) c.ratio_over branch one.second))
-        (joined_inside n 4 4 (stamp p.branch p.winding2.first (negsuc 0) (pos 0) (pos 1)) (stamp p.branch p.winding2.second (pos 1) (pos 0) (pos 1))
-        (stamp_inside n p.branch p.winding2.first (negsuc 0) (pos 0) (pos 1) branch two.first) (stamp_inside n p.branch p.winding2.second (pos 1) (pos 0) (pos 1) branch two.second)))
-        (stamp_inside n p.branch p.branch (neg_ℤ c.r) (neg_ℤ c.x) (pos (10 ^ 22)) branch branch)
+        (joined_inside n 4 4 (complex_terms p.branch p.winding1.first c.ratio (pos 0) c.ratio_over) (complex_terms p.branch p.winding1.second (neg_ℤ c.ratio) (pos 0) c.ratio_over)
+        (complex_inside n p.branch p.winding1.first c.ratio (pos 0) c.ratio_over branch one.first) (complex_inside n p.branch p.winding1.second (neg_ℤ c.ratio) (pos 0) c.ratio_over branch one.second))
+        (joined_inside n 4 4 (complex_terms p.branch p.winding2.first (negsuc 0) (pos 0) (pos 1)) (complex_terms p.branch p.winding2.second (pos 1) (pos 0) (pos 1))
+        (complex_inside n p.branch p.winding2.first (negsuc 0) (pos 0) (pos 1) branch two.first) (complex_inside n p.branch p.winding2.second (pos 1) (pos 0) (pos 1) branch two.second)))
+        (complex_inside n p.branch p.branch (neg_ℤ c.r) (neg_ℤ c.x) (pos (10 ^ 22)) branch branch)
 
     current_inside : AreInside n 16 (current_list c p)
     current_inside =
-        joined_inside n 4 12 (stamp p.winding1.first p.branch c.ratio (pos 0) c.ratio_over) _ (stamp_inside n p.winding1.first p.branch c.ratio (pos 0) c.ratio_over one.first branch)
-        (joined_inside n 4 8 (stamp p.winding1.second p.branch (neg_ℤ c.ratio) (pos 0) c.ratio_over) _ (stamp_inside n p.winding1.second p.branch (neg_ℤ c.ratio) (pos 0) c.ratio_over one.second branch)
-        (joined_inside n 4 4 (stamp p.winding2.first p.branch (negsuc 0) (pos 0) (pos 1)) (stamp p.winding2.second p.branch (pos 1) (pos 0) (pos 1))
-        (stamp_inside n p.winding2.first p.branch (negsuc 0) (pos 0) (pos 1) two.first branch) (stamp_inside n p.winding2.second p.branch (pos 1) (pos 0) (pos 1) two.second branch)))
+        joined_inside n 4 12 (complex_terms p.winding1.first p.branch c.ratio (pos 0) c.ratio_over) _ (complex_inside n p.winding1.first p.branch c.ratio (pos 0) c.ratio_over one.first branch)
+        (joined_inside n 4 8 (complex_terms p.winding1.second p.branch (neg_ℤ c.ratio) (pos 0) c.ratio_over) _ (complex_inside n p.winding1.second p.branch (neg_ℤ c.ratio) (pos 0) c.ratio_over one.second branch)
+        (joined_inside n 4 4 (complex_terms p.winding2.first p.branch (negsuc 0) (pos 0) (pos 1)) (complex_terms p.winding2.second p.branch (pos 1) (pos 0) (pos 1))
+        (complex_inside n p.winding2.first p.branch (negsuc 0) (pos 0) (pos 1) two.first branch) (complex_inside n p.winding2.second p.branch (pos 1) (pos 0) (pos 1) two.second branch)))
 
     phase_inside : AreInside n 36 (phase_list c p)
     phase_inside = joined_inside n 20 16 (branch_list c p) (current_list c p) branch_inside current_inside
 
   xfmr_inside : (d : XfmrData) (t : TapPair) (at : Ends) → All (IsAmong n) at.first → All (IsAmong n) at.second → at.branch + d.phases ≤ n → AreInside n (d.phases * 64) (xfmr_list d t at)
   xfmr_inside d t at first second room = more_room n (d.phases * 36) (d.phases * 64) (xfmr_list d t at) (omega arith)
-      (each_inside n 36 (list_at (coefficients_of d t) d at) d.phases
+      (concat_inside n 36 (list_at (coefficients_of d t) d at) d.phases
       (λ k p. phase_inside (coefficients_of d t) (phase_at d at k) (pair_below (first_pairs d) at.first k first) (pair_below (second_pairs d) at.second k second) (below k p)))
     where
       below : (k : ℕ) → k < d.phases → at.branch + k < n

@@ -3,7 +3,7 @@ use Rattle.std.specs.Prelude.{ℕ, List, [], ◌++◌, map, All}
 use Rattle.std.specs.List.{Contains, flat_map}
 use Rattle.fd_arith.specs.declared.terms.NodeAt.{NodeAt}
 use Rattle.fd_arith.specs.declared.terms.Ends.{Ends}
-use Rattle.fd_system.specs.Contributions.{each}
+use Rattle.fd_system.specs.Contributions.{concat_below}
 use Rattle.fd_system.specs.Terminals.{branch_of}
 use Rattle.fd_line.specs.Line.{line_list}
 use Rattle.fd_source.specs.Equations.{source_list}
@@ -15,7 +15,7 @@ abbrev pub unknowns_of : List NodeAt → List ℕ
 unknowns_of ns = flat_map node_places ns
 
 abbrev pub branch_places : ℕ → ℕ → List ℕ
-branch_places branch m = each (λ k. node_places (branch_of branch k)) m
+branch_places branch m = concat_below (λ k. node_places (branch_of branch k)) m
 
 -- a transformer's branches meet its nodes and one another
 abbrev pub transformer_places : ℕ → Ends → List (ℕ × ℕ)

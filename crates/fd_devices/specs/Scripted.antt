@@ -19,7 +19,7 @@ use Rattle.fd_elements.specs.Connections.{conn_of}
 use Rattle.fd_elements.specs.Lines.{line_data_of}
 use Rattle.fd_elements.specs.Loads.{load_phase_of}
 use Rattle.fd_equations.specs.declared.layout.Layout.{Layout}
-use Rattle.fd_system.specs.Contributions.{each}
+use Rattle.fd_system.specs.Contributions.{concat_below}
 use Rattle.fd_equations.specs.Views.{NetworkView, network_of}
 use Rattle.fd_devices.specs.Data.{cap_data_of, xfmr_data_of}
 use Rattle.fd_devices.specs.Devices.{Device, source, line, transformer, capacitor, loads, other, parts_of_all, stamp_of_all}
@@ -54,7 +54,7 @@ phase_loads load ns magnitude powers k = load_at load ns magnitude powers k ∷ 
 
 -- those of all phases in order
 abbrev pub phases_of : Load → List NodeAt → ℕ → List LoadPower → List LoadAt
-phases_of load ns magnitude powers = each (phase_loads load ns magnitude powers) load.phases
+phases_of load ns magnitude powers = concat_below (phase_loads load ns magnitude powers) load.phases
 
 -- ---- devices
 

@@ -5,7 +5,7 @@ use Rattle.fd_arith.specs.declared.terms.Term.{Term}
 use Rattle.fd_arith.specs.declared.terms.NodeAt.{NodeAt}
 use Rattle.fd_arith.specs.declared.terms.Ends.{Ends}
 use Rattle.fd_system.specs.Complex.{Complex, complex, ◌⊞◌, ◌⊟◌, ◌⊠◌, negative, total}
-use Rattle.fd_system.specs.Contributions.{stamp, each}
+use Rattle.fd_system.specs.Contributions.{complex_terms, concat_below}
 use Rattle.fd_system.specs.Equations.{unknown, Part, both}
 use Rattle.fd_line.specs.declared.data.LineData.{LineData}
 use Rattle.fd_system.specs.Terminals.{IsSide, branch_of, node_of}
@@ -39,28 +39,28 @@ line_phase l at x k =
     ∷ []
 
 abbrev pub line_parts : LineData → Ends → State → List Part
-line_parts l at x = each (line_phase l at x) l.phases
+line_parts l at x = concat_below (line_phase l at x) l.phases
 
 -- ---- its contributions, in order
 
 abbrev pub branch_row : LineData → Ends → ℕ → List Term
 branch_row l at k =
-    (stamp (branch_of at.branch k) (node_of at.first k) (pos 1) (pos 0) (pos 1)
-    ++ stamp (branch_of at.branch k) (node_of at.second k) (negsuc 0) (pos 0) (pos 1))
+    (complex_terms (branch_of at.branch k) (node_of at.first k) (pos 1) (pos 0) (pos 1)
+    ++ complex_terms (branch_of at.branch k) (node_of at.second k) (negsuc 0) (pos 0) (pos 1))
     ++ drop_list (resistance_of l) (reactance_of l) at.branch l.phases k
 
 abbrev pub charge_at : LineData → List NodeAt → ℕ → ℕ → List Term
-charge_at l ns k m = stamp (node_of ns k) (node_of ns m) (pos 0) (susceptance_of l k m) (pos (2 * 10 ^ 27))
+charge_at l ns k m = complex_terms (node_of ns k) (node_of ns m) (pos 0) (susceptance_of l k m) (pos (2 * 10 ^ 27))
 
 -- one end: the branch current with its sign, then the charging current
 abbrev pub end_row : LineData → ℕ → List NodeAt → ℤ → ℕ → List Term
-end_row l branch ns sign k = stamp (node_of ns k) (branch_of branch k) sign (pos 0) (pos 1) ++ each (charge_at l ns k) l.phases
+end_row l branch ns sign k = complex_terms (node_of ns k) (branch_of branch k) sign (pos 0) (pos 1) ++ concat_below (charge_at l ns k) l.phases
 
 abbrev pub phase_list : LineData → Ends → ℕ → List Term
 phase_list l at k = branch_row l at k ++ (end_row l at.branch at.first (pos 1) k ++ end_row l at.branch at.second (negsuc 0) k)
 
 abbrev pub line_list : LineData → Ends → List Term
-line_list l at = each (phase_list l at) l.phases
+line_list l at = concat_below (phase_list l at) l.phases
 
 -- ---- the condition on its places
 

@@ -1,6 +1,6 @@
 // The contributions of a line.
 ghost use Rattle.std.specs.Prelude.{◌≡◌, ◌+◌, ◌*◌, ◌<◌, ◌≤◌, ◌++◌, ℤ, pos, negsuc, neg_ℤ, nat_abs, ◌≤ℤ◌, ◌^◌, IfOk, length, vec_capacity, All};
-ghost use Rattle.fd_system.specs.Contributions.{each, IsDivided, IsWithin};
+ghost use Rattle.fd_system.specs.Contributions.{concat_below, IsDivided, IsWithin};
 ghost use Rattle.fd_system.specs.Equations.{AddsUp};
 ghost use Rattle.fd_system.specs.Terminals.{IsSide};
 ghost use Rattle.fd_system.specs.Series.{drop_list};
@@ -126,7 +126,7 @@ fn add_charges(terms: &mut Vec<Term>, line: &LineData, nodes: &Nodes, k: u32)
     requires side { IsSide line.now.phases nodes.now }
     requires k_in { k < line.now.phases }
     requires room { length terms.old.items + 6 ≤ vec_capacity terms.old }
-    ensures items { terms.new.items ≡ terms.old.items ++ each (charge_at line.now nodes.now k) line.now.phases }
+    ensures items { terms.new.items ≡ terms.old.items ++ concat_below (charge_at line.now nodes.now k) line.now.phases }
     ensures capacity { vec_capacity terms.new ≡ vec_capacity terms.old }
     ensures few { length terms.new.items ≤ length terms.old.items + 6 }
 {

@@ -11,7 +11,7 @@ use Rattle.fd_arith.specs.LoadModels.{has_magnitude}
 use Rattle.fd_system.specs.declared.loads.LoadAt.{LoadAt}
 use Rattle.fd_system.specs.System.{StampView}
 use Rattle.fd_equations.specs.Conditions.{AreApart, magnitude_count}
-use Rattle.fd_system.specs.Contributions.{each}
+use Rattle.fd_system.specs.Contributions.{concat_below}
 use Rattle.fd_equations.specs.Terminals.{count_magnitude}
 use Rattle.fd_devices.specs.Devices.{device_stamp, stamp_of_all}
 use Rattle.fd_devices.specs.Scripted.{device_of, devices_from, load_at}
@@ -60,16 +60,16 @@ one_in u m e = record {
     counted l = ap (count_magnitude l) e
 
 module _ (f : ℕ → LoadAt) (first : ℕ) where
-  with_places : ((k : ℕ) → (f k).magnitude ≡ Some (first + k)) → (n : ℕ) → StandIn first (first + n) (each (λ k. f k ∷ []) n)
+  with_places : ((k : ℕ) → (f k).magnitude ≡ Some (first + k)) → (n : ℕ) → StandIn first (first + n) (concat_below (λ k. f k ∷ []) n)
   with_places h zero = no_loads first (first + 0)
   with_places h (suc n) =
       let end : first + n + 1 ≡ first + suc n = omega arith in
-      subst (λ b. StandIn first b (each (λ k. f k ∷ []) n ++ f n ∷ [])) end
-      (joined_in first (first + n) (first + n + 1) (each (λ k. f k ∷ []) n) (f n ∷ []) (omega arith) (omega arith) (with_places h n) (one_in (f n) (first + n) (h n)))
+      subst (λ b. StandIn first b (concat_below (λ k. f k ∷ []) n ++ f n ∷ [])) end
+      (joined_in first (first + n) (first + n + 1) (concat_below (λ k. f k ∷ []) n) (f n ∷ []) (omega arith) (omega arith) (with_places h n) (one_in (f n) (first + n) (h n)))
 
-  without : ((k : ℕ) → (f k).magnitude ≡ None) → (n : ℕ) → StandIn first first (each (λ k. f k ∷ []) n)
+  without : ((k : ℕ) → (f k).magnitude ≡ None) → (n : ℕ) → StandIn first first (concat_below (λ k. f k ∷ []) n)
   without h zero = no_loads first first
-  without h (suc n) = joined_in first first first (each (λ k. f k ∷ []) n) (f n ∷ []) (omega arith) (omega arith) (without h n) (none_in (f n) (h n))
+  without h (suc n) = joined_in first first first (concat_below (λ k. f k ∷ []) n) (f n ∷ []) (omega arith) (omega arith) (without h n) (none_in (f n) (h n))
     where
       none_in : (u : LoadAt) → u.magnitude ≡ None → StandIn first first (u ∷ [])
       none_in u e = record {
@@ -78,9 +78,9 @@ module _ (f : ℕ → LoadAt) (first : ℕ) where
         single = λ l. let c = ap (count_magnitude l) e in omega (arith, c);
       }
 
-  phases_in : (b : Bool) → ((k : ℕ) → (f k).magnitude ≡ (if b then Some (first + k) else None)) → (n : ℕ) → StandIn first (first + (if b then n else 0)) (each (λ k. f k ∷ []) n)
+  phases_in : (b : Bool) → ((k : ℕ) → (f k).magnitude ≡ (if b then Some (first + k) else None)) → (n : ℕ) → StandIn first (first + (if b then n else 0)) (concat_below (λ k. f k ∷ []) n)
   phases_in true h n = with_places h n
-  phases_in false h n = subst (λ b. StandIn first b (each (λ k. f k ∷ []) n)) (sym (add-zero first)) (without h n)
+  phases_in false h n = subst (λ b. StandIn first b (concat_below (λ k. f k ∷ []) n)) (sym (add-zero first)) (without h n)
 
 -- ---- elements
 

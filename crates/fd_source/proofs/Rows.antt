@@ -11,12 +11,12 @@ use Rattle.fd_arith.specs.declared.terms.NodeAt.{NodeAt}
 use Rattle.fd_arith.specs.declared.terms.Ends.{Ends}
 use Rattle.fd_system.specs.declared.constants.Constant.{Constant}
 use Rattle.fd_system.specs.Complex.{Complex, complex, ◌⊞◌, negative}
-use Rattle.fd_system.specs.Contributions.{row_sum, stamp, each, IsDivided}
+use Rattle.fd_system.specs.Contributions.{row_sum, complex_terms, concat_below, IsDivided}
 use Rattle.fd_system.specs.Equations.{unknown, Part, side, equation}
 use Rattle.fd_system.specs.System.{constant_given, linear_of, Represents}
 use Rattle.fd_system.specs.Terminals.{branch_of, node_of}
 use Rattle.fd_system.specs.Series.{drop_at, drop_list, drop_of}
-use Rattle.fd_system.proofs.CallerLemmas.{same_place, row-append, row_sum-append, equation-append, minus_stamp, single, side-plus, side-pos, apart, linear_row, stamp_divided, each_divided, drops_add, drops_divided, joined_few, each_few, stamp_few, real_few}
+use Rattle.fd_system.proofs.CallerLemmas.{same_place, row-append, row_sum-append, equation-append, minus_complex, single, side-plus, side-pos, apart, linear_row, complex_divided, concat_divided, drops_add, drops_divided, joined_few, concat_few, complex_few, real_few}
 use Rattle.fd_source.specs.declared.data.SourceData.{SourceData}
 use Rattle.fd_source.specs.Phasors.{volts_im, volts_re}
 use Rattle.fd_source.specs.Equations.{constants_from, phase_constants, phase_list, reactance_of, resistance_of, stamp_from, source_constants, source_list, source_parts, source_phase}
@@ -36,15 +36,15 @@ module _ (s : SourceData) (at : Ends) where
   abbrev at_phase : ℕ → List Constant
   at_phase k = record { row = 2 * (at.branch + k); value = volts_re s k } ∷ record { row = 2 * (at.branch + k) + 1; value = volts_im s k } ∷ []
 
-  each_length : (n : ℕ) → length (each (phase_constants s) n) ≡ 2 * n
-  each_length zero = refl
-  each_length (suc n) = length-append (each (phase_constants s) n) (phase_constants s n) ∙ omega (arith, each_length n)
+  concat_length : (n : ℕ) → length (concat_below (phase_constants s) n) ≡ 2 * n
+  concat_length zero = refl
+  concat_length (suc n) = length-append (concat_below (phase_constants s) n) (phase_constants s n) ∙ omega (arith, concat_length n)
 
-  placed : (n : ℕ) → constants_from (2 * at.branch) (each (phase_constants s) n) ≡ each at_phase n
+  placed : (n : ℕ) → constants_from (2 * at.branch) (concat_below (phase_constants s) n) ≡ concat_below at_phase n
   placed zero = refl
   placed (suc n) =
-      let e : 2 * at.branch + length (each (phase_constants s) n) ≡ 2 * (at.branch + n) = omega (arith, each_length n) in
-      from-append (2 * at.branch) (each (phase_constants s) n) (phase_constants s n) ∙ (λ i. placed n i ++ constants_from (e i) (phase_constants s n))
+      let e : 2 * at.branch + length (concat_below (phase_constants s) n) ≡ 2 * (at.branch + n) = omega (arith, concat_length n) in
+      from-append (2 * at.branch) (concat_below (phase_constants s) n) (phase_constants s n) ∙ (λ i. placed n i ++ constants_from (e i) (phase_constants s n))
 
 -- two constants are one complex number at a place
 constant_by : (b d : Bool) (e f : Fraction) → (b ≡ true → d ≡ false)
@@ -70,7 +70,7 @@ phase_row s at x o k l =
     let d = drop_of (resistance_of s) (reactance_of s) at.branch s.phases x k in
     let e = complex (volts_re s k) (volts_im s k) 1 in
     let drops = drops_add (resistance_of s) (reactance_of s) at.branch s.phases k x l o in
-    let t = row-append _ _ x l _ _ (same_place _ _ x l r _ _ (minus_stamp r p x l o) drops) (single _ _ (minus_stamp p r x l o)) in
+    let t = row-append _ _ x l _ _ (same_place _ _ x l r _ _ (minus_complex r p x l o) drops) (single _ _ (minus_complex p r x l o)) in
     let c : sum_of (constant_given l) (at_phase s at k) ≡ side l r e = constant_by _ _ _ _ (apart (at.branch + k) l) in
     let q = Same-plus (Same-refl (side l r e) (side-pos l r e (record { re = lit< tt; im = lit< tt }))) t in
     let u = subst (Same (side l r e ⊕ row_sum l (phase_list s at k) x)) (merged l r e (negative v) (negative d) (side l p (negative i) ⊕ nothing)) q in
@@ -83,16 +83,16 @@ linear-append cs ds ts us x l =
     let f = row_sum-append l ts us x in
     (λ i. e i ⊕ f i) ∙ plus_swap _ _ _ _
 
-each_linear : (c : ℕ → List Constant) (t : ℕ → List Term) (p : ℕ → List Part) (x : State) (l n : ℕ)
+concat_linear : (c : ℕ → List Constant) (t : ℕ → List Term) (p : ℕ → List Part) (x : State) (l n : ℕ)
     → ((m : ℕ) → Same (linear_of (c m) (t m) x l) (equation l (p m)))
-    → Same (linear_of (each c n) (each t n) x l) (equation l (each p n))
-each_linear c t p x l zero h = subst (λ s. Same s nothing) (sym (nothing-plus nothing)) Same-nothing
-each_linear c t p x l (suc n) h = rw (linear-append (each c n) (c n) (each t n) (t n) x l, equation-append l (each p n) (p n)) (Same-plus (each_linear c t p x l n h) (h n))
+    → Same (linear_of (concat_below c n) (concat_below t n) x l) (equation l (concat_below p n))
+concat_linear c t p x l zero h = subst (λ s. Same s nothing) (sym (nothing-plus nothing)) Same-nothing
+concat_linear c t p x l (suc n) h = rw (linear-append (concat_below c n) (c n) (concat_below t n) (t n) x l, equation-append l (concat_below p n) (p n)) (Same-plus (concat_linear c t p x l n h) (h n))
 
 source_represents : (s : SourceData) (at : Ends)
     → Represents (stamp_from at (source_constants s) (source_list s at)) (source_parts s at)
 source_represents s at x o l =
-    let r = each_linear (at_phase s at) (phase_list s at) (source_phase s at x) x l s.phases (λ m. phase_row s at x o m l) in
+    let r = concat_linear (at_phase s at) (phase_list s at) (source_phase s at x) x l s.phases (λ m. phase_row s at x o m l) in
     linear_row _ _ 0 x l (source_parts s at x) (subst (λ c. Same (linear_of c (source_list s at) x l) (equation l (source_parts s at x))) (sym (placed s at s.phases)) r)
 
 -- ---- the denominators
@@ -101,15 +101,15 @@ phase_divided : (s : SourceData) (at : Ends) (k : ℕ) → All IsDivided (phase_
 phase_divided s at k =
     let r = branch_of at.branch k in
     let p = node_of at.first k in
-    All-append IsDivided (stamp r p (negsuc 0) (pos 0) (pos 1) ++ drop_list (resistance_of s) (reactance_of s) at.branch s.phases k) _
-    (All-append IsDivided (stamp r p (negsuc 0) (pos 0) (pos 1)) _ (whole r p) (drops_divided (resistance_of s) (reactance_of s) at.branch s.phases k))
+    All-append IsDivided (complex_terms r p (negsuc 0) (pos 0) (pos 1) ++ drop_list (resistance_of s) (reactance_of s) at.branch s.phases k) _
+    (All-append IsDivided (complex_terms r p (negsuc 0) (pos 0) (pos 1)) _ (whole r p) (drops_divided (resistance_of s) (reactance_of s) at.branch s.phases k))
     (whole p r)
   where
-    whole : (r c : NodeAt) → All IsDivided (stamp r c (negsuc 0) (pos 0) (pos 1))
-    whole r c = stamp_divided (pos 1) (record { lt = tt }) (record { le = tt }) r c (negsuc 0) (pos 0)
+    whole : (r c : NodeAt) → All IsDivided (complex_terms r c (negsuc 0) (pos 0) (pos 1))
+    whole r c = complex_divided (pos 1) (record { lt = tt }) (record { le = tt }) r c (negsuc 0) (pos 0)
 
 source_divided : (s : SourceData) (at : Ends) → All IsDivided (source_list s at)
-source_divided s at = each_divided (phase_list s at) s.phases (phase_divided s at)
+source_divided s at = concat_divided (phase_list s at) s.phases (phase_divided s at)
 
 -- ---- their number
 
@@ -118,15 +118,15 @@ module _ (s : SourceData) (at : Ends) (h : s.phases ≤ 3) where
   phase_few k =
       let r = branch_of at.branch k in
       let p = node_of at.first k in
-      let drops = each_few 4 (drop_at (resistance_of s) (reactance_of s) at.branch k) s.phases
-      (λ m. stamp_few r (branch_of at.branch m) (neg_ℤ (resistance_of s k m)) (neg_ℤ (reactance_of s k m)) (pos (10 ^ 12))) in
-      let all = joined_few (2 + s.phases * 4) 2 _ (stamp p r (negsuc 0) (pos 0) (pos 1))
-      (joined_few 2 (s.phases * 4) (stamp r p (negsuc 0) (pos 0) (pos 1)) (drop_list (resistance_of s) (reactance_of s) at.branch s.phases k) (real_few r p (negsuc 0) (pos 1)) drops)
+      let drops = concat_few 4 (drop_at (resistance_of s) (reactance_of s) at.branch k) s.phases
+      (λ m. complex_few r (branch_of at.branch m) (neg_ℤ (resistance_of s k m)) (neg_ℤ (reactance_of s k m)) (pos (10 ^ 12))) in
+      let all = joined_few (2 + s.phases * 4) 2 _ (complex_terms p r (negsuc 0) (pos 0) (pos 1))
+      (joined_few 2 (s.phases * 4) (complex_terms r p (negsuc 0) (pos 0) (pos 1)) (drop_list (resistance_of s) (reactance_of s) at.branch s.phases k) (real_few r p (negsuc 0) (pos 1)) drops)
       (real_few p r (negsuc 0) (pos 1)) in
       omega (arith, all)
 
   source_few : length (source_list s at) ≤ 16 * s.phases
-  source_few = let all = each_few 16 (phase_list s at) s.phases phase_few in omega (arith, all)
+  source_few = let all = concat_few 16 (phase_list s at) s.phases phase_few in omega (arith, all)
 
 pub source_is : SourceLaw
 source_is s at = record { represents = source_represents s at; divided = source_divided s at; few = source_few s at }

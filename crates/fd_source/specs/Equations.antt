@@ -7,7 +7,7 @@ use Rattle.fd_arith.specs.declared.terms.Term.{Term}
 use Rattle.fd_arith.specs.declared.terms.Ends.{Ends}
 use Rattle.fd_system.specs.declared.constants.Constant.{Constant}
 use Rattle.fd_system.specs.Complex.{complex, ◌⊟◌, negative}
-use Rattle.fd_system.specs.Contributions.{stamp, each}
+use Rattle.fd_system.specs.Contributions.{complex_terms, concat_below}
 use Rattle.fd_system.specs.Equations.{unknown, Part, both}
 use Rattle.fd_system.specs.System.{StampView}
 use Rattle.fd_system.specs.Terminals.{IsSide, branch_of, node_of}
@@ -41,7 +41,7 @@ source_phase s at x k =
     ∷ []
 
 abbrev pub source_parts : SourceData → Ends → State → List Part
-source_parts s at x = each (source_phase s at x) s.phases
+source_parts s at x = concat_below (source_phase s at x) s.phases
 
 -- ---- its constants and contributions, in order
 
@@ -49,16 +49,16 @@ abbrev pub phase_constants : SourceData → ℕ → List ℤ
 phase_constants s k = volts_re s k ∷ volts_im s k ∷ []
 
 abbrev pub source_constants : SourceData → List ℤ
-source_constants s = each (phase_constants s) s.phases
+source_constants s = concat_below (phase_constants s) s.phases
 
 abbrev pub phase_list : SourceData → Ends → ℕ → List Term
 phase_list s at k =
-    (stamp (branch_of at.branch k) (node_of at.first k) (negsuc 0) (pos 0) (pos 1)
+    (complex_terms (branch_of at.branch k) (node_of at.first k) (negsuc 0) (pos 0) (pos 1)
     ++ drop_list (resistance_of s) (reactance_of s) at.branch s.phases k)
-    ++ stamp (node_of at.first k) (branch_of at.branch k) (negsuc 0) (pos 0) (pos 1)
+    ++ complex_terms (node_of at.first k) (branch_of at.branch k) (negsuc 0) (pos 0) (pos 1)
 
 abbrev pub source_list : SourceData → Ends → List Term
-source_list s at = each (phase_list s at) s.phases
+source_list s at = concat_below (phase_list s at) s.phases
 
 -- constants of rows that follow one another
 abbrev pub constants_from : ℕ → List ℤ → List Constant

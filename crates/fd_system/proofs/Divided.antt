@@ -6,7 +6,7 @@ use Rattle.std.proofs.lemmas.List.Elements.{All-nil, All-cons, All-append}
 use Rattle.fd_arith.specs.declared.terms.Term.{Term}
 use Rattle.fd_arith.specs.declared.terms.NodeAt.{NodeAt}
 use Rattle.fd_arith.specs.declared.terms.NodeAt.TheVariants.{Ground, Node}
-use Rattle.fd_system.specs.Contributions.{one, stamp, each, IsDivided}
+use Rattle.fd_system.specs.Contributions.{one, complex_terms, concat_below, IsDivided}
 
 module _ (d : ℤ) (p : pos 0 <ℤ d) (m : d ≤ℤ pos (10 ^ 32)) where
   one_by : (t : Bool) (r c : ℕ) (n : ℤ) → All IsDivided (cond t [] (record { row = r; col = c; num = n; den = d } ∷ []))
@@ -16,14 +16,14 @@ module _ (d : ℤ) (p : pos 0 <ℤ d) (m : d ≤ℤ pos (10 ^ 32)) where
   one_divided : (r c : ℕ) (n : ℤ) → All IsDivided (one r c n d)
   one_divided r c n = one_by (int_eq n (pos 0)) r c n
 
-  pub stamp_divided : (r c : NodeAt) (a b : ℤ) → All IsDivided (stamp r c a b d)
-  stamp_divided (Node r) (Node c) a b =
+  pub complex_divided : (r c : NodeAt) (a b : ℤ) → All IsDivided (complex_terms r c a b d)
+  complex_divided (Node r) (Node c) a b =
       All-append IsDivided (one (2 * r) (2 * c) a d) _ (one_divided (2 * r) (2 * c) a)
       (All-append IsDivided (one (2 * r) (2 * c + 1) (neg_ℤ b) d) _ (one_divided (2 * r) (2 * c + 1) (neg_ℤ b))
       (All-append IsDivided (one (2 * r + 1) (2 * c) b d) _ (one_divided (2 * r + 1) (2 * c) b) (one_divided (2 * r + 1) (2 * c + 1) a)))
-  stamp_divided (Node r) Ground a b = All-nil IsDivided
-  stamp_divided Ground c a b = All-nil IsDivided
+  complex_divided (Node r) Ground a b = All-nil IsDivided
+  complex_divided Ground c a b = All-nil IsDivided
 
-pub each_divided : (f : ℕ → List Term) (n : ℕ) → ((k : ℕ) → All IsDivided (f k)) → All IsDivided (each f n)
-each_divided f zero h = All-nil IsDivided
-each_divided f (suc n) h = All-append IsDivided (each f n) (f n) (each_divided f n h) (h n)
+pub concat_divided : (f : ℕ → List Term) (n : ℕ) → ((k : ℕ) → All IsDivided (f k)) → All IsDivided (concat_below f n)
+concat_divided f zero h = All-nil IsDivided
+concat_divided f (suc n) h = All-append IsDivided (concat_below f n) (f n) (concat_divided f n h) (h n)

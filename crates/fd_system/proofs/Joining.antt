@@ -20,7 +20,7 @@ use Rattle.fd_system.specs.Equations.{Part, equation, AddsUp}
 use Rattle.fd_system.specs.Stamps.{IsRoomSame}
 use Rattle.fd_system.specs.System.{StampView, beside, constant_given, linear_of, residual_of, joined, Represents}
 use Rattle.fd_exact.specs.FractionLaws.{sum_of-append, Same-nothing, nothing-plus, plus-nothing, plus_swap, Same-plus}
-use Rattle.fd_system.proofs.StampRows.{equation-append}
+use Rattle.fd_system.proofs.ComplexRows.{equation-append}
 
 -- an element that has constants and contributions alone
 pub linear_row : (cs : List Constant) (ts : List Term) (draw : ℕ) (x : State) (l : ℕ) (ps : List Part)

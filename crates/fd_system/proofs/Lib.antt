@@ -1,4 +1,4 @@
-pub mod StampRows
+pub mod ComplexRows
 pub mod Joining
 pub mod Divided
 pub mod LoadRows

@@ -19,11 +19,11 @@ use Rattle.fd_arith.specs.LoadModels.{by_model, is_linear}
 use Rattle.fd_system.specs.declared.loads.LoadPhase.{LoadPhase}
 use Rattle.fd_system.specs.declared.loads.LoadAt.{LoadAt}
 use Rattle.fd_system.specs.Complex.{Complex, complex, ◌⊟◌, ◌⊠◌, negative, SameComplex}
-use Rattle.fd_system.specs.Contributions.{stamp, row_sum}
+use Rattle.fd_system.specs.Contributions.{complex_terms, row_sum}
 use Rattle.fd_system.specs.Equations.{unknown, both, side, seen, equation}
 use Rattle.fd_system.specs.Loads.{FitsModel, re_of, im_of, magnitude_of, clamp, square_of, non_negative, constant_power, constant_impedance, constant_current, drawn, load_current, magnitude_row, magnitude_parts, load_parts, IsLoad, impedance_list}
 use Rattle.fd_system.specs.System.{Represents, load_stamp, loads_stamp}
-use Rattle.fd_system.proofs.StampRows.{stamp_row, negative_stamp, same_place, row-append, rewritten, single, difference_times, negative-minus, unknown-pos, IsWhole, SameComplex-sym, plus-pos, opposite-pos, side-pos}
+use Rattle.fd_system.proofs.ComplexRows.{complex_row, negative_complex, same_place, row-append, rewritten, single, difference_times, negative-minus, unknown-pos, IsWhole, SameComplex-sym, plus-pos, opposite-pos, side-pos}
 use Rattle.fd_system.proofs.Joining.{beside_row, no_parts}
 
 -- ---- constant impedance
@@ -132,10 +132,10 @@ module _ (u : LoadAt) (e : is_linear u.load.model ≡ true) (vn : 0 < unsigned_a
       let v = unknown x u.first in
       let w = unknown x u.second in
       let one = rewritten _ l u.first _ (load_current u x) current_same
-      (same_place (stamp u.first u.first a (neg_ℤ b) d) (stamp u.first u.second (neg_ℤ a) (neg_ℤ (neg_ℤ b)) d) x l u.first _ _ (stamp_row u.first u.first a (neg_ℤ b) d x l square_pos o) (negative_stamp u.first u.second a (neg_ℤ b) d x l square_pos o)) in
-      let two = same_place (stamp u.second u.first (neg_ℤ a) (neg_ℤ (neg_ℤ b)) d) (stamp u.second u.second a (neg_ℤ b) d) x l u.second _ _ (negative_stamp u.second u.first a (neg_ℤ b) d x l square_pos o) (stamp_row u.second u.second a (neg_ℤ b) d x l square_pos o) in
+      (same_place (complex_terms u.first u.first a (neg_ℤ b) d) (complex_terms u.first u.second (neg_ℤ a) (neg_ℤ (neg_ℤ b)) d) x l u.first _ _ (complex_row u.first u.first a (neg_ℤ b) d x l square_pos o) (negative_complex u.first u.second a (neg_ℤ b) d x l square_pos o)) in
+      let two = same_place (complex_terms u.second u.first (neg_ℤ a) (neg_ℤ (neg_ℤ b)) d) (complex_terms u.second u.second a (neg_ℤ b) d) x l u.second _ _ (negative_complex u.second u.first a (neg_ℤ b) d x l square_pos o) (complex_row u.second u.second a (neg_ℤ b) d x l square_pos o) in
       let back = sym (negative-minus (admittance ⊠ v) (admittance ⊠ w)) in
-      let three = subst (λ z. Same (row_sum l (stamp u.second u.first (neg_ℤ a) (neg_ℤ (neg_ℤ b)) d ++ stamp u.second u.second a (neg_ℤ b) d) x) (side l u.second z)) back two in
+      let three = subst (λ z. Same (row_sum l (complex_terms u.second u.first (neg_ℤ a) (neg_ℤ (neg_ℤ b)) d ++ complex_terms u.second u.second a (neg_ℤ b) d) x) (side l u.second z)) back two in
       row-append _ _ x l _ _ one (single _ _ (rewritten _ l u.second _ (negative (load_current u x)) (SameComplex-negative current_same) three))
 
 -- ---- positive denominators

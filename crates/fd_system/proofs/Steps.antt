@@ -1,13 +1,13 @@
 -- Contributions that are added one after another.
 use Rattle.std.proofs.Common.{◌≡◌, ◌∙◌, ℕ, ◌+◌, List, ◌++◌, append_assoc, add-one, ap}
 use Rattle.fd_arith.specs.declared.terms.Term.{Term}
-use Rattle.fd_system.specs.Contributions.{each}
+use Rattle.fd_system.specs.Contributions.{concat_below}
 
 -- what was added so far, and what this step of a loop adds
-pub one_more : (old loop new s : List Term) (f : ℕ → List Term) (m : ℕ) → new ≡ loop ++ s → loop ≡ old ++ each f m
-    → s ≡ f m → new ≡ old ++ each f (m + 1)
+pub one_more : (old loop new s : List Term) (f : ℕ → List Term) (m : ℕ) → new ≡ loop ++ s → loop ≡ old ++ concat_below f m
+    → s ≡ f m → new ≡ old ++ concat_below f (m + 1)
 one_more old loop new s f m e h p =
-    rw (add-one m) (e ∙ ap (λ t. t ++ s) h ∙ append_assoc old (each f m) s ∙ ap (λ t. old ++ (each f m ++ t)) p)
+    rw (add-one m) (e ∙ ap (λ t. t ++ s) h ∙ append_assoc old (concat_below f m) s ∙ ap (λ t. old ++ (concat_below f m ++ t)) p)
 
 -- two steps, and four
 pub joined_two : (o n1 n2 a b : List Term) → n1 ≡ o ++ a → n2 ≡ n1 ++ b → n2 ≡ o ++ (a ++ b)

@@ -28,23 +28,23 @@ abbrev pub one : ℕ → ℕ → ℤ → ℤ → List Term
 one row col num den = cond (int_eq num (pos 0)) [] (record { row = row; col = col; num = num; den = den } ∷ [])
 
 -- (re + j im) / den at a complex row and column: four real ones, and none at ground
-abbrev pub stamp : NodeAt → NodeAt → ℤ → ℤ → ℤ → List Term
-stamp (Node r) (Node c) re im den =
+abbrev pub complex_terms : NodeAt → NodeAt → ℤ → ℤ → ℤ → List Term
+complex_terms (Node r) (Node c) re im den =
     one (2 * r) (2 * c) re den ++ (one (2 * r) (2 * c + 1) (neg_ℤ im) den
     ++ (one (2 * r + 1) (2 * c) im den ++ one (2 * r + 1) (2 * c + 1) re den))
-stamp (Node r) Ground re im den = []
-stamp Ground c re im den = []
+complex_terms (Node r) Ground re im den = []
+complex_terms Ground c re im den = []
 
 -- the admittance (re + j im) / den between two nodes: the current that leaves the first enters the second
 abbrev pub shunt_list : NodeAt → NodeAt → ℤ → ℤ → ℤ → List Term
 shunt_list first second re im den =
-    (stamp first first re im den ++ stamp first second (neg_ℤ re) (neg_ℤ im) den)
-    ++ (stamp second first (neg_ℤ re) (neg_ℤ im) den ++ stamp second second re im den)
+    (complex_terms first first re im den ++ complex_terms first second (neg_ℤ re) (neg_ℤ im) den)
+    ++ (complex_terms second first (neg_ℤ re) (neg_ℤ im) den ++ complex_terms second second re im den)
 
 -- f 0 ++ .. ++ f (n - 1)
-abbrev pub each : {A : Type 0} → (ℕ → List A) → ℕ → List A
-each f zero = []
-each f (suc n) = each f n ++ f n
+abbrev pub concat_below : {A : Type 0} → (ℕ → List A) → ℕ → List A
+concat_below f zero = []
+concat_below f (suc n) = concat_below f n ++ f n
 
 -- ---- their conditions and their range
 

@@ -8,15 +8,15 @@ use Rattle.fd_arith.specs.Interval.{Holds}
 use Rattle.fd_arith.specs.declared.terms.NodeAt.{NodeAt}
 use Rattle.fd_system.specs.declared.loads.LoadAt.{LoadAt}
 use Rattle.fd_system.specs.Complex.{complex, ◌⊠◌}
-use Rattle.fd_system.specs.Contributions.{row_sum, stamp}
+use Rattle.fd_system.specs.Contributions.{row_sum, complex_terms}
 use Rattle.fd_system.specs.Equations.{unknown, side}
 use Rattle.fd_system.specs.Loads.{IsLoad, load_parts}
 use Rattle.fd_system.specs.System.{StampView, Represents, loads_stamp, nonlinear_of, residual_of}
 use Rattle.fd_system.specs.Residual.{HasDen, HasParts, residual_interval, whole_state}
 
 -- in every row, the contributions of a complex number add up to its product with the unknown of its column
-abbrev pub StampLaw : Type 0
-StampLaw = (r c : NodeAt) (a b d : ℤ) (x : State) (l : ℕ) → 0 < nat_abs d → 0 < x.over → Same (row_sum l (stamp r c a b d) x) (side l r (complex a b (nat_abs d) ⊠ unknown x c))
+abbrev pub ComplexLaw : Type 0
+ComplexLaw = (r c : NodeAt) (a b d : ℤ) (x : State) (l : ℕ) → 0 < nat_abs d → 0 < x.over → Same (row_sum l (complex_terms r c a b d) x) (side l r (complex a b (nat_abs d) ⊠ unknown x c))
 
 -- the stamp of part loads has the rows of their currents and magnitudes, at every state
 abbrev pub LoadLaw : Type 0

@@ -4,7 +4,7 @@ use Rattle.fd_exact.specs.Fractions.{Fraction, fraction}
 use Rattle.fd_exact.specs.States.{State}
 use Rattle.fd_arith.specs.declared.terms.Term.{Term}
 use Rattle.fd_system.specs.Complex.{Complex, complex, ◌⊠◌, total}
-use Rattle.fd_system.specs.Contributions.{stamp, each}
+use Rattle.fd_system.specs.Contributions.{complex_terms, concat_below}
 use Rattle.fd_system.specs.Equations.{unknown}
 use Rattle.fd_system.specs.Terminals.{branch_of}
 
@@ -29,11 +29,11 @@ abbrev pub drop_of : (ℕ → ℕ → ℤ) → (ℕ → ℕ → ℤ) → ℕ →
 drop_of r x branch n s k = total (λ m. ohms r x k m ⊠ unknown s (branch_of branch m)) n
 
 -- the contributions of its opposite: those of one entry r + j x, and all of them
-abbrev pub drop_stamp : ℕ → ℕ → ℕ → ℤ → ℤ → List Term
-drop_stamp branch k m r x = stamp (branch_of branch k) (branch_of branch m) (neg_ℤ r) (neg_ℤ x) (pos (10 ^ 12))
+abbrev pub drop_terms : ℕ → ℕ → ℕ → ℤ → ℤ → List Term
+drop_terms branch k m r x = complex_terms (branch_of branch k) (branch_of branch m) (neg_ℤ r) (neg_ℤ x) (pos (10 ^ 12))
 
 abbrev pub drop_at : (ℕ → ℕ → ℤ) → (ℕ → ℕ → ℤ) → ℕ → ℕ → ℕ → List Term
-drop_at r x branch k m = drop_stamp branch k m (r k m) (x k m)
+drop_at r x branch k m = drop_terms branch k m (r k m) (x k m)
 
 abbrev pub drop_list : (ℕ → ℕ → ℤ) → (ℕ → ℕ → ℤ) → ℕ → ℕ → ℕ → List Term
-drop_list r x branch n k = each (drop_at r x branch k) n
+drop_list r x branch n k = concat_below (drop_at r x branch k) n

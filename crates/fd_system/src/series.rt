@@ -1,9 +1,9 @@
 // The series impedance between the phases of an element.
 ghost use Rattle.std.specs.Prelude.{◌≡◌, ◌++◌, ◌+◌, ◌*◌, ◌<◌, ◌≤◌, ◌^◌, ℤ, pos, neg_ℤ, ◌≤ℤ◌, ◌+ℤ◌, ◌*ℤ◌, nat_abs, length, vec_capacity};
 ghost use Rattle.fd_exact.specs.Ranges.{UpTo};
-ghost use Rattle.fd_system.specs.Series.{drop_stamp, three_times};
+ghost use Rattle.fd_system.specs.Series.{drop_terms, three_times};
 
-use crate::stamps::add_stamp;
+use crate::stamps::add_complex;
 use fd_arith::{NodeAt, Term};
 
 /// Impedances are in whole numbers of this part of an ohm.
@@ -30,10 +30,10 @@ pub fn add_drop(terms: &mut Vec<Term>, branch: u32, k: u32, m: u32, r: i128, x: 
     requires r { nat_abs r ≤ 10 ^ 30 }
     requires x { nat_abs x ≤ 10 ^ 30 }
     requires room { length terms.old.items + 4 ≤ vec_capacity terms.old }
-    ensures items { terms.new.items ≡ terms.old.items ++ drop_stamp branch k m r x }
+    ensures items { terms.new.items ≡ terms.old.items ++ drop_terms branch k m r x }
     ensures capacity { vec_capacity terms.new ≡ vec_capacity terms.old }
     ensures few { length terms.new.items ≤ length terms.old.items + 4 }
 {
     let (row, col) = (NodeAt::Node(branch + k), NodeAt::Node(branch + m));
-    add_stamp(terms, row, col, -r, -x, PICO_PER_OHM);
+    add_complex(terms, row, col, -r, -x, PICO_PER_OHM);
 }

@@ -2,7 +2,7 @@
 ghost use Rattle.std.specs.Prelude.{◌≡◌, ◌-◌, ◌+◌, ◌*◌, ◌<◌, ◌≤◌, ◌++◌, ℤ, pos, ◌≤ℤ◌, neg_ℤ, ◌^◌, [], IfOk, length, vec_capacity};
 ghost use Rattle.fd_exact.specs.Ranges.{Within};
 ghost use Rattle.fd_arith.specs.declared.terms.NodeAt.TheVariants.{Node};
-ghost use Rattle.fd_system.specs.Contributions.{one, shunt_list, stamp, IsSmall};
+ghost use Rattle.fd_system.specs.Contributions.{one, shunt_list, complex_terms, IsSmall};
 ghost use Rattle.fd_system.specs.Stamps.{HasRoom, IsRoomSame, stamp_of};
 ghost use Rattle.fd_system.specs.System.{beside, joined};
 
@@ -109,12 +109,12 @@ pub fn add_one(terms: &mut Vec<Term>, row: u32, col: u32, num: i128, den: i128)
 
 /// Adds the complex number (re + j im) / den at a complex row and column: four contributions, less those that are 0, and
 /// nothing at ground. Takes no memory.
-pub fn add_stamp(terms: &mut Vec<Term>, row: NodeAt, col: NodeAt, re: i128, im: i128, den: i128)
+pub fn add_complex(terms: &mut Vec<Term>, row: NodeAt, col: NodeAt, re: i128, im: i128, den: i128)
     requires row_small { IsSmall row }
     requires col_small { IsSmall col }
     requires im_fits { neg_ℤ (pos (2 ^ 126)) ≤ℤ im }
     requires room { length terms.old.items + 4 ≤ vec_capacity terms.old }
-    ensures items { terms.new.items ≡ terms.old.items ++ stamp row col re im den }
+    ensures items { terms.new.items ≡ terms.old.items ++ complex_terms row col re im den }
     ensures capacity { vec_capacity terms.new ≡ vec_capacity terms.old }
     ensures few { length terms.new.items ≤ length terms.old.items + 4 }
 {
@@ -130,7 +130,7 @@ fn add_four(terms: &mut Vec<Term>, r: u32, c: u32, re: i128, im: i128, den: i128
     requires col_small { c < 2 ^ 31 - 1 }
     requires im_fits { neg_ℤ (pos (2 ^ 126)) ≤ℤ im }
     requires room { length terms.old.items + 4 ≤ vec_capacity terms.old }
-    ensures items { terms.new.items ≡ terms.old.items ++ stamp (Node r) (Node c) re im den }
+    ensures items { terms.new.items ≡ terms.old.items ++ complex_terms (Node r) (Node c) re im den }
     ensures capacity { vec_capacity terms.new ≡ vec_capacity terms.old }
     ensures few { length terms.new.items ≤ length terms.old.items + 4 }
 {
@@ -146,7 +146,7 @@ pub fn add_real(terms: &mut Vec<Term>, row: NodeAt, col: NodeAt, num: i128, den:
     requires row_small { IsSmall row }
     requires col_small { IsSmall col }
     requires room { length terms.old.items + 2 ≤ vec_capacity terms.old }
-    ensures items { terms.new.items ≡ terms.old.items ++ stamp row col num (pos 0) den }
+    ensures items { terms.new.items ≡ terms.old.items ++ complex_terms row col num (pos 0) den }
     ensures capacity { vec_capacity terms.new ≡ vec_capacity terms.old }
     ensures few { length terms.new.items ≤ length terms.old.items + 2 }
 {
@@ -161,7 +161,7 @@ fn add_both_parts(terms: &mut Vec<Term>, r: u32, c: u32, num: i128, den: i128)
     requires row_small { r < 2 ^ 31 - 1 }
     requires col_small { c < 2 ^ 31 - 1 }
     requires room { length terms.old.items + 2 ≤ vec_capacity terms.old }
-    ensures items { terms.new.items ≡ terms.old.items ++ stamp (Node r) (Node c) num (pos 0) den }
+    ensures items { terms.new.items ≡ terms.old.items ++ complex_terms (Node r) (Node c) num (pos 0) den }
     ensures capacity { vec_capacity terms.new ≡ vec_capacity terms.old }
     ensures few { length terms.new.items ≤ length terms.old.items + 2 }
 {
@@ -176,7 +176,7 @@ pub fn add_imaginary(terms: &mut Vec<Term>, row: NodeAt, col: NodeAt, num: i128,
     requires col_small { IsSmall col }
     requires num_fits { neg_ℤ (pos (2 ^ 126)) ≤ℤ num }
     requires room { length terms.old.items + 2 ≤ vec_capacity terms.old }
-    ensures items { terms.new.items ≡ terms.old.items ++ stamp row col (pos 0) num den }
+    ensures items { terms.new.items ≡ terms.old.items ++ complex_terms row col (pos 0) num den }
     ensures capacity { vec_capacity terms.new ≡ vec_capacity terms.old }
     ensures few { length terms.new.items ≤ length terms.old.items + 2 }
 {
@@ -192,7 +192,7 @@ fn add_cross_parts(terms: &mut Vec<Term>, r: u32, c: u32, num: i128, den: i128)
     requires col_small { c < 2 ^ 31 - 1 }
     requires num_fits { neg_ℤ (pos (2 ^ 126)) ≤ℤ num }
     requires room { length terms.old.items + 2 ≤ vec_capacity terms.old }
-    ensures items { terms.new.items ≡ terms.old.items ++ stamp (Node r) (Node c) (pos 0) num den }
+    ensures items { terms.new.items ≡ terms.old.items ++ complex_terms (Node r) (Node c) (pos 0) num den }
     ensures capacity { vec_capacity terms.new ≡ vec_capacity terms.old }
     ensures few { length terms.new.items ≤ length terms.old.items + 2 }
 {
@@ -213,8 +213,8 @@ pub fn add_shunt(terms: &mut Vec<Term>, pair: &NodePair, re: i128, im: i128, den
     ensures few { length terms.new.items ≤ length terms.old.items + 16 }
 {
     let (first, second) = (pair.first, pair.second);
-    add_stamp(terms, first, first, re, im, den);
-    add_stamp(terms, first, second, -re, -im, den);
-    add_stamp(terms, second, first, -re, -im, den);
-    add_stamp(terms, second, second, re, im, den);
+    add_complex(terms, first, first, re, im, den);
+    add_complex(terms, first, second, -re, -im, den);
+    add_complex(terms, second, first, -re, -im, den);
+    add_complex(terms, second, second, re, im, den);
 }

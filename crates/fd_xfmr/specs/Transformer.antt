@@ -5,7 +5,7 @@ use Rattle.fd_arith.specs.declared.terms.Term.{Term}
 use Rattle.fd_arith.specs.declared.terms.Ends.{Ends}
 use Rattle.fd_arith.specs.declared.terms.TapPair.{TapPair}
 use Rattle.fd_system.specs.Complex.{Complex, complex, ◌⊟◌, ◌⊠◌, negative}
-use Rattle.fd_system.specs.Contributions.{stamp, each, IsSmall}
+use Rattle.fd_system.specs.Contributions.{complex_terms, concat_below, IsSmall}
 use Rattle.fd_system.specs.Equations.{unknown, Part, both}
 use Rattle.fd_system.specs.declared.terminals.NodePair.{NodePair}
 use Rattle.fd_system.specs.Terminals.{IsSide, branch_of, node_count, pair_of}
@@ -55,7 +55,7 @@ abbrev pub parts_at : Coefficients → XfmrData → Ends → State → ℕ → L
 parts_at c d at x k = phase_parts c (phase_at d at k) x
 
 abbrev pub parts_by : Coefficients → XfmrData → Ends → State → List Part
-parts_by c d at x = each (parts_at c d at x) d.phases
+parts_by c d at x = concat_below (parts_at c d at x) d.phases
 
 abbrev pub xfmr_parts : XfmrData → TapPair → Ends → State → List Part
 xfmr_parts d t at x = parts_by (coefficients_of d t) d at x
@@ -64,16 +64,16 @@ xfmr_parts d t at x = parts_by (coefficients_of d t) d at x
 
 abbrev pub branch_list : Coefficients → PhaseAt → List Term
 branch_list c p =
-    ((stamp p.branch p.winding1.first c.ratio (pos 0) c.ratio_over ++ stamp p.branch p.winding1.second (neg_ℤ c.ratio) (pos 0) c.ratio_over)
-    ++ (stamp p.branch p.winding2.first (negsuc 0) (pos 0) (pos 1) ++ stamp p.branch p.winding2.second (pos 1) (pos 0) (pos 1)))
-    ++ stamp p.branch p.branch (neg_ℤ c.r) (neg_ℤ c.x) (pos (10 ^ 22))
+    ((complex_terms p.branch p.winding1.first c.ratio (pos 0) c.ratio_over ++ complex_terms p.branch p.winding1.second (neg_ℤ c.ratio) (pos 0) c.ratio_over)
+    ++ (complex_terms p.branch p.winding2.first (negsuc 0) (pos 0) (pos 1) ++ complex_terms p.branch p.winding2.second (pos 1) (pos 0) (pos 1)))
+    ++ complex_terms p.branch p.branch (neg_ℤ c.r) (neg_ℤ c.x) (pos (10 ^ 22))
 
 abbrev pub current_list : Coefficients → PhaseAt → List Term
 current_list c p =
-    stamp p.winding1.first p.branch c.ratio (pos 0) c.ratio_over
-    ++ (stamp p.winding1.second p.branch (neg_ℤ c.ratio) (pos 0) c.ratio_over
-    ++ (stamp p.winding2.first p.branch (negsuc 0) (pos 0) (pos 1)
-    ++ stamp p.winding2.second p.branch (pos 1) (pos 0) (pos 1)))
+    complex_terms p.winding1.first p.branch c.ratio (pos 0) c.ratio_over
+    ++ (complex_terms p.winding1.second p.branch (neg_ℤ c.ratio) (pos 0) c.ratio_over
+    ++ (complex_terms p.winding2.first p.branch (negsuc 0) (pos 0) (pos 1)
+    ++ complex_terms p.winding2.second p.branch (pos 1) (pos 0) (pos 1)))
 
 abbrev pub phase_list : Coefficients → PhaseAt → List Term
 phase_list c p = branch_list c p ++ current_list c p
@@ -82,7 +82,7 @@ abbrev pub list_at : Coefficients → XfmrData → Ends → ℕ → List Term
 list_at c d at k = phase_list c (phase_at d at k)
 
 abbrev pub list_by : Coefficients → XfmrData → Ends → List Term
-list_by c d at = each (list_at c d at) d.phases
+list_by c d at = concat_below (list_at c d at) d.phases
 
 abbrev pub xfmr_list : XfmrData → TapPair → Ends → List Term
 xfmr_list d t at = list_by (coefficients_of d t) d at

@@ -9,7 +9,7 @@ use crate::data::XfmrData;
 use crate::leakage::{Coefficients, coefficients_at};
 use crate::pairs::winding_pairs;
 use fd_arith::{Ends, NodeAt, TapPair, Term, TermFault};
-use fd_system::{NodePair, add_real, add_stamp, all_within, phase_pair};
+use fd_system::{NodePair, add_real, add_complex, all_within, phase_pair};
 use std::alloc::Global;
 
 /// Leakage impedances at the taps are in whole numbers of this part of an ohm.
@@ -161,7 +161,7 @@ fn add_branch(terms: &mut Vec<Term>, numbers: &Coefficients, phase: &PhaseAt)
     add_real(terms, row, phase.winding1.second, -ratio, over);
     add_real(terms, row, phase.winding2.first, -1, 1);
     add_real(terms, row, phase.winding2.second, 1, 1);
-    add_stamp(terms, row, row, -numbers.r, -numbers.x, PER_OHM);
+    add_complex(terms, row, row, -numbers.r, -numbers.x, PER_OHM);
 }
 
 // The currents that leave the nodes of a phase.

@@ -1,7 +1,7 @@
 use Rattle.std.proofs.Common.{rules, arith, ◌∙◌, FitsSigned}
 use Rattle.std.specs.Int.{w128}
 use Rattle.std.proofs.lemmas.Int.{to_z-of_z}
-use Rattle.fd_system.specs.Series.{drop_at, drop_stamp}
+use Rattle.fd_system.specs.Series.{drop_at, drop_terms}
 use Rattle.fd_system.proofs.CallerLemmas.{one_more}
 use Rattle.fd_source.specs.Equations.{reactance_of, resistance_of}
 use Rattle.fd_source.proofs.terms.add_drops.Goals as goal
@@ -18,7 +18,7 @@ loop-m-preserved c =
     let q = to_z-of_z w128 z.result.1 fx ∙ z.ensures.x in
     record {
       items = one_more _ _ _ _ (drop_at (resistance_of s) (reactance_of s) c.args.branch c.args.k) c.loop-m.m d.items i.items
-          (λ j. drop_stamp c.args.branch c.args.k c.loop-m.m (p j) (q j));
+          (λ j. drop_terms c.args.branch c.args.k c.loop-m.m (p j) (q j));
       capacity = d.capacity ∙ i.capacity;
       few = omega (arith, d.few, i.few);
     }

@@ -3,7 +3,7 @@ use Rattle.std.specs.Int.{w128}
 use Rattle.std.proofs.lemmas.Int.{to_z-of_z}
 use Rattle.std.proofs.lemmas.List.{append-nil}
 use Rattle.fd_system.specs.Contributions.{one}
-use Rattle.fd_system.proofs.StampRows.{negated}
+use Rattle.fd_system.proofs.ComplexRows.{negated}
 use Rattle.fd_system.proofs.Steps.{joined_two}
 use Rattle.fd_system.proofs.stamps.add_cross_parts.Goals as goal
 

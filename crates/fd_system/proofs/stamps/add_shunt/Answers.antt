@@ -1,8 +1,8 @@
 use Rattle.std.proofs.Common.{◌∙◌, ◌++◌, neg_ℤ, FitsSigned, arith}
 use Rattle.std.specs.Int.{w128}
 use Rattle.std.proofs.lemmas.Int.{to_z-of_z, ints}
-use Rattle.fd_system.specs.Contributions.{stamp}
-use Rattle.fd_system.proofs.StampRows.{negated}
+use Rattle.fd_system.specs.Contributions.{complex_terms}
+use Rattle.fd_system.proofs.ComplexRows.{negated}
 use Rattle.fd_system.proofs.Steps.{joined_four}
 use Rattle.fd_system.proofs.stamps.add_shunt.Goals as goal
 
@@ -22,6 +22,6 @@ returns-clause-items c =
     let u = to_z-of_z w128 a.den c.ranges.den in
     let t = negated a.re c.ranges.re nr in
     let v = negated a.im c.ranges.im ni in
-    joined_four _ _ _ _ _ _ _ _ _ c.add_stamp.ensures.items c.add_stamp-2.ensures.items c.add_stamp-3.ensures.items c.add_stamp-4.ensures.items
+    joined_four _ _ _ _ _ _ _ _ _ c.add_complex.ensures.items c.add_complex-2.ensures.items c.add_complex-3.ensures.items c.add_complex-4.ensures.items
     ∙ (λ i. a.terms.now.items
-    ++ ((stamp f f (p i) (q i) (u i) ++ stamp f s (t i) (v i) (u i)) ++ (stamp s f (t i) (v i) (u i) ++ stamp s s (p i) (q i) (u i))))
+    ++ ((complex_terms f f (p i) (q i) (u i) ++ complex_terms f s (t i) (v i) (u i)) ++ (complex_terms s f (t i) (v i) (u i) ++ complex_terms s s (p i) (q i) (u i))))

@@ -14,7 +14,7 @@ use Rattle.fd_arith.specs.declared.terms.NodeAt.{NodeAt}
 use Rattle.fd_arith.specs.declared.terms.NodeAt.TheVariants.{Ground, Node}
 use Rattle.fd_exact.specs.Fractions.{Fraction, fraction, ◌⊕◌, ◌⊗◌, opposite, nothing, Same}
 use Rattle.fd_system.specs.Complex.{Complex, complex, none, ◌⊞◌, ◌⊟◌, ◌⊠◌, negative, total, SameComplex}
-use Rattle.fd_system.specs.Contributions.{row_sum, one, stamp, each}
+use Rattle.fd_system.specs.Contributions.{row_sum, one, complex_terms, concat_below}
 use Rattle.fd_system.specs.Equations.{unknown, Part, side, seen, equation}
 use Rattle.fd_exact.specs.FractionLaws.{sum_of-append, nothing-pos, Same-nothing, plus_comm, opposite-plus, nothing-plus, plus-nothing, opposite-times, opposite-nothing, pair_of, Same-refl, Same-sym, Same-trans, Same-plus, Same-opposite, plus_swap}
 
@@ -68,7 +68,7 @@ unfolding ◌⊗◌
 value-times n p d o = refl
 
 module _ (r c l : ℕ) (a b d : ℤ) (x : State) (h : 0 < unsigned_abs d * x.over) where
-  stamp_side : Same (row_sum l (stamp (Node r) (Node c) a b d) x) (side l (Node r) (complex a b (unsigned_abs d) ⊠ unknown x (Node c)))
+  stamp_side : Same (row_sum l (complex_terms (Node r) (Node c) a b d) x) (side l (Node r) (complex a b (unsigned_abs d) ⊠ unknown x (Node c)))
   stamp_side =
       let D = unsigned_abs d in
       let X = part x.parts (2 * c) in
@@ -101,15 +101,15 @@ zero_side l (Node r) z h j = by_two (eqb (2 * r) l) (eqb (2 * r + 1) l)
     by_two false true = j
     by_two false false = Same-nothing
 
-pub stamp_row : (r c : NodeAt) (a b d : ℤ) (x : State) (l : ℕ) → 0 < unsigned_abs d → 0 < x.over
-    → Same (row_sum l (stamp r c a b d) x) (side l r (complex a b (unsigned_abs d) ⊠ unknown x c))
-stamp_row (Node r) (Node c) a b d x l h o = stamp_side r c l a b d x (mul-pos h o)
-stamp_row (Node r) Ground a b d x l h o =
+pub complex_row : (r c : NodeAt) (a b d : ℤ) (x : State) (l : ℕ) → 0 < unsigned_abs d → 0 < x.over
+    → Same (row_sum l (complex_terms r c a b d) x) (side l r (complex a b (unsigned_abs d) ⊠ unknown x c))
+complex_row (Node r) (Node c) a b d x l h o = stamp_side r c l a b d x (mul-pos h o)
+complex_row (Node r) Ground a b d x l h o =
     let D = unsigned_abs d in
     let p = zero_times (fraction a D) h in
     let q = zero_times (fraction b D) h in
     zero_side l (Node r) (complex a b D ⊠ none) (zero_sum p (zero_opposite q)) (zero_sum p q)
-stamp_row Ground c a b d x l h o = Same-nothing
+complex_row Ground c a b d x l h o = Same-nothing
 
 -- ---- rows are put together
 
@@ -136,11 +136,11 @@ pub same_place : (ts us : List Term) (x : State) (l : ℕ) (r : NodeAt) (z w : C
     → Same (row_sum l (ts ++ us) x) (side l r (z ⊞ w))
 same_place ts us x l r z w h j = subst (Same (row_sum l (ts ++ us) x)) (side-plus l r z w) (row-append ts us x l _ _ h j)
 
-pub same_place_each : (f : ℕ → List Term) (x : State) (l : ℕ) (r : NodeAt) (z : ℕ → Complex) (n : ℕ)
+pub same_place_concat : (f : ℕ → List Term) (x : State) (l : ℕ) (r : NodeAt) (z : ℕ → Complex) (n : ℕ)
     → ((m : ℕ) → m < n → Same (row_sum l (f m) x) (side l r (z m)))
-    → Same (row_sum l (each f n) x) (side l r (total z n))
-same_place_each f x l r z zero h = zero_side l r none Same-nothing Same-nothing
-same_place_each f x l r z (suc n) h = same_place (each f n) (f n) x l r (total z n) (z n) (same_place_each f x l r z n (λ m p. h m (omega arith))) (h n (omega arith))
+    → Same (row_sum l (concat_below f n) x) (side l r (total z n))
+same_place_concat f x l r z zero h = zero_side l r none Same-nothing Same-nothing
+same_place_concat f x l r z (suc n) h = same_place (concat_below f n) (f n) x l r (total z n) (z n) (same_place_concat f x l r z n (λ m p. h m (omega arith))) (h n (omega arith))
 
 -- the number may be written in another way
 pub rewritten : (p : Fraction) (l : ℕ) (r : NodeAt) (z w : Complex) → SameComplex z w → Same p (side l r z)
@@ -156,11 +156,11 @@ rewritten p l (Node r) z w e h = by_two (eqb (2 * r) l) (eqb (2 * r + 1) l) h
 pub equation-append : (l : ℕ) (ps qs : List Part) → equation l (ps ++ qs) ≡ equation l ps ⊕ equation l qs
 equation-append l ps qs = sum_of-append (seen l) ps qs
 
-pub each_row : (f : ℕ → List Term) (x : State) (l : ℕ) (p : ℕ → List Part) (n : ℕ)
+pub concat_row : (f : ℕ → List Term) (x : State) (l : ℕ) (p : ℕ → List Part) (n : ℕ)
     → ((m : ℕ) → m < n → Same (row_sum l (f m) x) (equation l (p m)))
-    → Same (row_sum l (each f n) x) (equation l (each p n))
-each_row f x l p zero h = Same-nothing
-each_row f x l p (suc n) h = rw (equation-append l (each p n) (p n)) (row-append (each f n) (f n) x l _ _ (each_row f x l p n (λ m q. h m (omega arith))) (h n (omega arith)))
+    → Same (row_sum l (concat_below f n) x) (equation l (concat_below p n))
+concat_row f x l p zero h = Same-nothing
+concat_row f x l p (suc n) h = rw (equation-append l (concat_below p n) (p n)) (row-append (concat_below f n) (f n) x l _ _ (concat_row f x l p n (λ m q. h m (omega arith))) (h n (omega arith)))
 
 -- the last of the parts
 pub single : (p v : Fraction) → Same p v → Same p (v ⊕ nothing)
@@ -211,17 +211,17 @@ times_minus_im : (p q : Fraction) → 0 < p.over → 0 < q.over
     → Same (fraction (negsuc 0) 1 ⊗ q ⊕ fraction (pos 0) 1 ⊗ p) (opposite q)
 times_minus_im p q h k = rw (minus_times q) (plus-zero (opposite q) _ (opposite-pos q k) (zero_left p h))
 
-pub plain_stamp : (r c : NodeAt) (x : State) (l : ℕ) → 0 < x.over
-    → Same (row_sum l (stamp r c (pos 1) (pos 0) (pos 1)) x) (side l r (unknown x c))
-plain_stamp r c x l h =
+pub plain_complex : (r c : NodeAt) (x : State) (l : ℕ) → 0 < x.over
+    → Same (row_sum l (complex_terms r c (pos 1) (pos 0) (pos 1)) x) (side l r (unknown x c))
+plain_complex r c x l h =
     let u = unknown-pos x c h in
-    rewritten _ l r _ (unknown x c) (record { re = times_one _ _ u.re u.im; im = times_one_im _ _ u.re u.im }) (stamp_row r c (pos 1) (pos 0) (pos 1) x l (lit< tt) h)
+    rewritten _ l r _ (unknown x c) (record { re = times_one _ _ u.re u.im; im = times_one_im _ _ u.re u.im }) (complex_row r c (pos 1) (pos 0) (pos 1) x l (lit< tt) h)
 
-pub minus_stamp : (r c : NodeAt) (x : State) (l : ℕ) → 0 < x.over
-    → Same (row_sum l (stamp r c (negsuc 0) (pos 0) (pos 1)) x) (side l r (negative (unknown x c)))
-minus_stamp r c x l h =
+pub minus_complex : (r c : NodeAt) (x : State) (l : ℕ) → 0 < x.over
+    → Same (row_sum l (complex_terms r c (negsuc 0) (pos 0) (pos 1)) x) (side l r (negative (unknown x c)))
+minus_complex r c x l h =
     let u = unknown-pos x c h in
-    rewritten _ l r _ (negative (unknown x c)) (record { re = times_minus _ _ u.re u.im; im = times_minus_im _ _ u.re u.im }) (stamp_row r c (negsuc 0) (pos 0) (pos 1) x l (lit< tt) h)
+    rewritten _ l r _ (negative (unknown x c)) (record { re = times_minus _ _ u.re u.im; im = times_minus_im _ _ u.re u.im }) (complex_row r c (negsuc 0) (pos 0) (pos 1) x l (lit< tt) h)
 
 negative_re : (a b : ℤ) (d : ℕ) (z : Complex) → complex (neg_ℤ a) (neg_ℤ b) d ⊠ z ≡ negative (complex a b d ⊠ z)
 negative_re a b d z =
@@ -233,9 +233,9 @@ negative_re a b d z =
     let v = sym (opposite-plus (fraction a d ⊗ z.im) (fraction b d ⊗ z.re)) in
     (λ i. record { re = p i ⊕ opposite (q i); im = s i ⊕ t i }) ∙ (λ i. record { re = u i; im = v i })
 
-pub negative_stamp : (r c : NodeAt) (a b d : ℤ) (x : State) (l : ℕ) → 0 < unsigned_abs d → 0 < x.over
-    → Same (row_sum l (stamp r c (neg_ℤ a) (neg_ℤ b) d) x) (side l r (negative (complex a b (unsigned_abs d) ⊠ unknown x c)))
-negative_stamp r c a b d x l h o = subst (λ z. Same (row_sum l (stamp r c (neg_ℤ a) (neg_ℤ b) d) x) (side l r z)) (negative_re a b (unsigned_abs d) (unknown x c)) (stamp_row r c (neg_ℤ a) (neg_ℤ b) d x l h o)
+pub negative_complex : (r c : NodeAt) (a b d : ℤ) (x : State) (l : ℕ) → 0 < unsigned_abs d → 0 < x.over
+    → Same (row_sum l (complex_terms r c (neg_ℤ a) (neg_ℤ b) d) x) (side l r (negative (complex a b (unsigned_abs d) ⊠ unknown x c)))
+negative_complex r c a b d x l h o = subst (λ z. Same (row_sum l (complex_terms r c (neg_ℤ a) (neg_ℤ b) d) x) (side l r z)) (negative_re a b (unsigned_abs d) (unknown x c)) (complex_row r c (neg_ℤ a) (neg_ℤ b) d x l h o)
 
 pub total-negative : (f : ℕ → Complex) (n : ℕ) → total (λ m. negative (f m)) n ≡ negative (total f n)
 total-negative f zero = λ i. record { re = sym opposite-nothing i; im = sym opposite-nothing i }
