@@ -32,8 +32,9 @@ use Rattle.fd_load.specs.Current.{IsPast, power_sum}
 use Rattle.fd_load.proofs.CallerLemmas.{within_limit}
 use Rattle.fd_equations.specs.Conditions.{HasMagnitude, IsAmong, IsKnown, IsServed}
 use Rattle.fd_devices.specs.Devices.{source, line, loads, other}
-use Rattle.fd_devices.specs.Building.{AreContributions, Fits, IsSettled, IsUsable}
+use Rattle.fd_devices.specs.Building.{AreContributions, DeviceFits, IsSettled, IsUsable}
 use Rattle.fd_devices.specs.Sound.{HasBranches, IsSideOf}
+use Rattle.fd_devices.proofs.Fitting.{fit_loads, fit_terms, fits_by}
 use Rattle.fd_devices.proofs.Counting.{AreInside, StandsBelow, line_inside, loads_inside, more_room, none_inside, source_inside}
 
 pub contributions : (n b : ℕ) (ts : List Term) → AreInside n b ts → All IsDivided ts → All IsWithin ts → AreContributions n b ts
@@ -43,7 +44,7 @@ contributions n b ts h d w = record { inside = h.inside; divided = d; within = w
 
 pub line_settled : (m n size : ℕ) (l : LineData) (at : Ends) → IsLine l → IsSideOf n l.phases at.first → IsSideOf n l.phases at.second → HasBranches n l.phases at → All IsWithin (line_list l at) → IsSettled m n size l.phases (line l at)
 line_settled m n size l at g first second branches w = record {
-  fits = record { terms = w; loads = All-nil (λ u. ¬ (IsPast u.load)) };
+  fits = fits_by (line l at) w (All-nil (λ u. ¬ (IsPast u.load)));
   good = tt;
   bounded = record {
     terms = contributions n (64 * (1 + l.phases)) (line_list l at) (more_room n (l.phases * 64) (64 * (1 + l.phases)) (line_list l at) (omega arith) (line_inside n l at first.below second.below branches.below g.few)) (line_is l at).divided w;
@@ -121,7 +122,7 @@ source_settled m n size s at g first branches w =
     let below = branches.below in
     let few = g.few in
     record {
-      fits = record { terms = w; loads = All-nil (λ u. ¬ (IsPast u.load)) };
+      fits = fits_by (source s at) w (All-nil (λ u. ¬ (IsPast u.load)));
       good = tt;
       bounded = record {
         terms = contributions n (64 * (1 + s.phases)) (source_list s at) (more_room n (s.phases * 64) (64 * (1 + s.phases)) (source_list s at) (omega arith) (source_inside n s at first.below branches.below g.few)) (source_is s at).divided w;
@@ -233,17 +234,19 @@ pub loads_divided : (us : List LoadAt) → All IsUsable us → All IsDivided (fl
 loads_divided [] h = All-nil IsDivided
 loads_divided (u ∷ us) h = All-append IsDivided (linear_list u) (flat_map linear_list us) (linear_divided u (All-head IsUsable u us h) (is_linear u.load.model)) (loads_divided us (All-tail IsUsable u us h))
 
-pub loads_settled : (m n size : ℕ) (us : List LoadAt) → m ≤ n → All IsUsable us → length us ≤ 3 → All (StandsInside m n size) us → Fits (loads us) → IsSettled m n size 0 (loads us)
+pub loads_settled : (m n size : ℕ) (us : List LoadAt) → m ≤ n → All IsUsable us → length us ≤ 3 → All (StandsInside m n size) us → DeviceFits (loads us) → IsSettled m n size 0 (loads us)
 loads_settled m n size us among h few inside f =
-    let draws = draws_small us h f.loads in
+    let within = fit_terms (loads us) f in
+    let below = fit_loads (loads us) f in
+    let draws = draws_small us h below in
     record {
       fits = f;
       good = all_loads m n size us h inside;
       bounded = record {
-        terms = contributions n 64 (flat_map linear_list us) (more_room n (length us * 16) 64 (flat_map linear_list us) (omega arith) (loads_inside n us (all_below m n size among us inside))) (loads_divided us h) f.terms;
+        terms = contributions n 64 (flat_map linear_list us) (more_room n (length us * 16) 64 (flat_map linear_list us) (omega arith) (loads_inside n us (all_below m n size among us inside))) (loads_divided us h) within;
         constants = All-nil (IsKnown (2 * n));
         few_constants = omega arith;
-        loads = all_served m n size us h f.loads inside;
+        loads = all_served m n size us h below inside;
         few_loads = omega arith;
         draw = omega arith;
       };
@@ -251,7 +254,7 @@ loads_settled m n size us among h few inside f =
 
 pub other_settled : (m n size : ℕ) → IsSettled m n size 0 other
 other_settled m n size = record {
-  fits = record { terms = All-nil IsWithin; loads = All-nil (λ u. ¬ (IsPast u.load)) };
+  fits = refl;
   good = tt;
   bounded = record {
     terms = contributions n 64 [] (more_room n 0 64 [] (omega arith) (none_inside n)) (All-nil IsDivided) (All-nil IsWithin);

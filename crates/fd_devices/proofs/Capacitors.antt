@@ -20,6 +20,7 @@ use Rattle.fd_devices.specs.Building.{IsSettled}
 use Rattle.fd_devices.specs.Sound.{IsSideOf}
 use Rattle.fd_devices.proofs.Counting.{AreInside, concat_inside, more_room, none_inside, shunt_inside}
 use Rattle.fd_devices.proofs.Bounded.{contributions}
+use Rattle.fd_devices.proofs.Fitting.{fits_by}
 use Rattle.fd_devices.proofs.Transformers.{IsPairBelow, pair_below}
 
 -- ---- the places of its contributions
@@ -64,7 +65,7 @@ draw_small d false h = omega arith
 
 pub capacitor_settled : (m n size : ℕ) (d : CapData) (closed : Bool) (at : Ends) → IsCap d → IsSideOf n (node_count d.phases) at.first → All IsWithin (cap_list d closed at) → IsSettled m n size 0 (capacitor d closed at)
 capacitor_settled m n size d closed at h side w = record {
-  fits = record { terms = w; loads = All-nil (λ u. ¬ (IsPast u.load)) };
+  fits = fits_by (capacitor d closed at) w (All-nil (λ u. ¬ (IsPast u.load)));
   good = h;
   bounded = record {
     terms = contributions n 64 (cap_list d closed at) (cap_inside n d closed at (few_phases d.phases h.phases) side.below) (cap_is d closed at h).divided w;

@@ -15,7 +15,7 @@ use Rattle.dss_layout.specs.Layout.{Elements, LayoutView, branch_phases}
 use Rattle.fd_devices.specs.Devices.{Device, IsGood, device_stamp, stamp_of_all}
 use Rattle.fd_devices.specs.Settings.{Settings, after}
 use Rattle.fd_devices.specs.Scripted.{devices_from}
-use Rattle.fd_devices.specs.Building.{AreCollected, Fits, IsBounded, IsInside, IsSettled}
+use Rattle.fd_devices.specs.Building.{AreCollected, DeviceFits, IsBounded, IsInside, IsSettled}
 
 -- ---- devices in order
 
@@ -81,7 +81,7 @@ collected_more nodes n size es e ds d a p b h s pe be =
     let bounded = bounded_more nodes n size (length es) 1 (list_n (λ (x : ElementName × Element). branch_phases x.1) es) (branch_phases e.1) a (device_stamp d) h.bounded s.bounded in
     record {
       stamp = more ∙ ap (λ x. beside x (device_stamp d)) h.stamp ∙ sym (stamp_more ds d);
-      fits = All-append Fits ds (d ∷ []) h.fits (All-cons Fits d [] s.fits (All-nil Fits));
+      fits = All-append DeviceFits ds (d ∷ []) h.fits (All-cons DeviceFits d [] s.fits (All-nil DeviceFits));
       good = All-append IsGood ds (d ∷ []) h.good (All-cons IsGood d [] s.good (All-nil IsGood));
       bounded = subst (IsBounded nodes n size (length (es ++ e ∷ [])) (list_n (λ (x : ElementName × Element). branch_phases x.1) (es ++ e ∷ []))) (sym more)
           (subst (λ m. IsBounded nodes n size m (list_n (λ (x : ElementName × Element). branch_phases x.1) (es ++ e ∷ [])) (beside a (device_stamp d))) (sym count)

@@ -1,4 +1,5 @@
 pub mod DeviceRows
+pub mod Fitting
 pub mod PowerOf
 pub mod SnapshotCounts
 pub mod HourPowers

@@ -30,7 +30,7 @@ use Rattle.fd_devices.specs.Settings.{Settings}
 use Rattle.fd_elements.specs.Sources.{source_data_of}
 use Rattle.fd_devices.specs.Scripted.{device_of, first_state, first_taps, load_at, magnitude_place, phases_of}
 use Rattle.fd_devices.specs.Sound.{HasBranches, HasMagnitudes, IsSideOf, IsSited}
-use Rattle.fd_devices.specs.Building.{Fits, IsSettled, IsUsable}
+use Rattle.fd_devices.specs.Building.{DeviceFits, IsSettled, IsUsable}
 use Rattle.fd_devices.proofs.Transformers.{pair_below}
 use Rattle.fd_devices.proofs.Bounded.{StandsInside, among_more, loads_settled, other_settled}
 
@@ -60,7 +60,7 @@ magnitude_inside n size phases first k ConstantCurrent h p =
     let most : first + k < size = omega arith in
     (refl, (least, most))
 
-pub phases_settled : (load : Load) (ns : List NodeAt) (magnitude : ℕ) (powers : List LoadPower) → LoadInRange load → All IsUsable (phases_of load ns magnitude powers) → Fits (loads (phases_of load ns magnitude powers))
+pub phases_settled : (load : Load) (ns : List NodeAt) (magnitude : ℕ) (powers : List LoadPower) → LoadInRange load → All IsUsable (phases_of load ns magnitude powers) → DeviceFits (loads (phases_of load ns magnitude powers))
     → (m n size : ℕ) → m ≤ n → IsSideOf m (node_count load.phases) ns → (IsTrue (has_magnitude load.model) → HasMagnitudes n size load.phases magnitude) → IsSettled m n size 0 (loads (phases_of load ns magnitude powers))
 phases_settled load ns magnitude powers range usable fits m n size among side places =
     let count = length-concat load.phases (load_at load ns magnitude powers) in

@@ -24,6 +24,7 @@ use Rattle.fd_devices.specs.Building.{IsSettled}
 use Rattle.fd_devices.specs.Sound.{HasBranches, IsSideOf}
 use Rattle.fd_devices.proofs.Counting.{AreInside, concat_inside, joined_inside, more_room, node_below, complex_inside}
 use Rattle.fd_devices.proofs.Bounded.{contributions}
+use Rattle.fd_devices.proofs.Fitting.{fits_by}
 
 -- ---- the places of its contributions
 
@@ -76,7 +77,7 @@ module _ (n : ℕ) where
 pub transformer_settled : (m n size : ℕ) (d : XfmrData) (t : TapPair) (at : Ends) → IsXfmr d → AreTaps t → IsSideOf n (node_count d.phases) at.first → IsSideOf n (node_count d.phases) at.second → HasBranches n d.phases at
     → All IsWithin (xfmr_list d t at) → IsSettled m n size d.phases (transformer d t at)
 transformer_settled m n size d t at h k first second branches w = record {
-  fits = record { terms = w; loads = All-nil (λ u. ¬ (IsPast u.load)) };
+  fits = fits_by (transformer d t at) w (All-nil (λ u. ¬ (IsPast u.load)));
   good = (h, k);
   bounded = record {
     terms = contributions n (64 * (1 + d.phases)) (xfmr_list d t at) (more_room n (d.phases * 64) (64 * (1 + d.phases)) (xfmr_list d t at) (omega arith) (xfmr_inside n d t at first.below second.below branches.below)) (xfmr_is d t at h k).divided w;

@@ -1,33 +1,41 @@
 -- When a circuit's network is in range, what its elements must be, and what their devices add.
-use Rattle.std.specs.Prelude.{◌≡◌, ℕ, ◌+◌, ◌*◌, ◌<◌, ◌≤◌, ◌^◌, nat_abs, List, length, All}
+use Rattle.std.specs.Prelude.{◌≡◌, ℕ, ◌+◌, ◌*◌, ◌<◌, ◌≤◌, ◌^◌, nat_abs, List, length, Bool, IsTrue, not, ◌&&◌, All}
+use Rattle.std.specs.List.{list_all}
 use Rattle.dss_layout.specs.Layout.{Elements, branch_phases}
 use Rattle.fd_exact.specs.Sums.{list_n}
 use Rattle.fd_arith.specs.declared.terms.Term.{Term}
 use Rattle.fd_system.specs.declared.loads.LoadAt.{LoadAt}
-use Rattle.fd_system.specs.Contributions.{AreSmall, IsDivided, IsSmall, IsWithin}
+use Rattle.fd_system.specs.Contributions.{AreSmall, IsDivided, IsSmall, IsWithin, are_small}
 use Rattle.fd_system.specs.System.{StampView}
 use Rattle.fd_elements.specs.declared.powers.LoadPower.{LoadPower}
-use Rattle.fd_load.specs.Current.{AreLoadVoltages, IsPast}
-use Rattle.fd_equations.specs.Coefficients.{linear_entry}
+use Rattle.fd_load.specs.Current.{AreLoadVoltages, is_past}
+use Rattle.fd_equations.specs.Coefficients.{linear_entry, units_of}
 use Rattle.fd_equations.specs.Conditions.{IsKnown, IsServed}
 use Rattle.fd_devices.specs.Devices.{Device, IsGood, device_stamp, stamp_of_all}
 
 -- ---- one device
 
 -- no contribution of a device is past 2^54 in units of 2^-40, and none of its part loads is past its limit
-pub record Fits (d : Device) : Type 0 where
-  pub terms : All IsWithin (device_stamp d).terms
-  pub loads : All (λ u. ¬ (IsPast u.load)) (device_stamp d).loads
+abbrev pub device_fits : Device → Bool
+device_fits d =
+    list_all (λ t. are_small (units_of t)) (device_stamp d).terms
+    && list_all (λ u. not (is_past u.load)) (device_stamp d).loads
 
--- where a device has a contribution, the sum of all is at most 2^54 in units of 2^-40
+abbrev pub DeviceFits : Device → Type 0
+DeviceFits d = IsTrue (device_fits d)
+
+-- at each place where a device has a contribution, the sum of all contributions is at most 2^54 in units of 2^-40
+abbrev pub has_small_sums : List Term → Device → Bool
+has_small_sums all d = list_all (λ t. are_small (linear_entry all t.row t.col)) (device_stamp d).terms
+
 abbrev pub HasSmallSums : List Term → Device → Type 0
-HasSmallSums all d = All (λ t. AreSmall (linear_entry all t.row t.col)) (device_stamp d).terms
+HasSmallSums all d = IsTrue (has_small_sums all d)
 
 -- ---- all devices
 
 -- each device fits, and the sum at each place is small
 pub record AreInRange (ds : List Device) : Type 0 where
-  pub each : All Fits ds
+  pub each : All DeviceFits ds
   pub sums : (row col : ℕ) → AreSmall (linear_entry (stamp_of_all ds).terms row col)
 
 -- ---- conditions
@@ -71,13 +79,13 @@ pub record IsBounded (nodes n size m b : ℕ) (a : StampView) : Type 0 where
 
 -- a device with good data that fits, with b branches, of n complex unknowns, the nodes first, and `size` real ones
 pub record IsSettled (nodes n size b : ℕ) (d : Device) : Type 0 where
-  pub fits : Fits d
+  pub fits : DeviceFits d
   pub good : IsGood d
   pub bounded : IsBounded nodes n size 1 b (device_stamp d)
 
 -- what the devices of these elements add, of n complex unknowns, the nodes first, and `size` real ones
 pub record AreCollected (nodes n size : ℕ) (elements : Elements) (ds : List Device) (a : StampView) : Type 0 where
   pub stamp : a ≡ stamp_of_all ds
-  pub fits : All Fits ds
+  pub fits : All DeviceFits ds
   pub good : All IsGood ds
   pub bounded : IsBounded nodes n size (length elements) (list_n (λ e. branch_phases e.1) elements) a

@@ -3,7 +3,7 @@ ghost use Rattle.std.specs.Prelude.{◌≡◌, ◌+◌, ◌*◌, ◌<◌, ◌≤
 ghost use Rattle.dss_profile.specs.Ranges.{IsOneOf};
 ghost use Rattle.dss_profile.specs.InRange.{ElementInRange};
 ghost use Rattle.dss_layout.specs.Layout.{size_of};
-ghost use Rattle.fd_devices.specs.Building.{Fits, IsModest};
+ghost use Rattle.fd_devices.specs.Building.{DeviceFits, IsModest};
 ghost use Rattle.fd_devices.specs.Devices.{device_stamp};
 ghost use Rattle.fd_system.specs.Contributions.{IsSmall};
 ghost use Rattle.fd_system.specs.Stamps.{HasRoom, IsRoomSame, stamp_of};
@@ -108,7 +108,7 @@ pub fn kept_of(
     ensures inside { IfOk result (λ k. All (IsInside (size_of layout.now))
         (device_places (device_of layout.now hertz place element.now (settings_in own.now)))) }
     ensures range { result ≡ Err TermFault.Range
-        → ¬ (Fits (device_of layout.now hertz place element.now (settings_in own.now))) }
+        → ¬ (DeviceFits (device_of layout.now hertz place element.now (settings_in own.now))) }
 {
     let stamp = element_stamp(alloc, layout, hertz, place, element, own)?;
     let at = layout.ends(alloc, place, element)?;
@@ -168,7 +168,7 @@ pub fn stamp_into(
     ensures settled { OnOk result (IsSettledAt layout.now hertz place element.now (settings_in own.now)) }
     ensures few { OnOk result (AreFewOf element.now (stamp_of into.new)) }
     ensures range { IfErr result (λ e. (e ≡ TermFault.Range)
-        × ¬ (Fits (device_of layout.now hertz place element.now (settings_in own.now)))) }
+        × ¬ (DeviceFits (device_of layout.now hertz place element.now (settings_in own.now)))) }
     ensures room { IsRoomSame into.old into.new }
 {
     match element {

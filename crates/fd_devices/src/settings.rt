@@ -1,11 +1,12 @@
 // What is set of a circuit beside its script: positions and powers.
-ghost use Rattle.std.specs.Prelude.{◌≡◌, ◌≤◌};
+ghost use Rattle.std.specs.Prelude.{◌≡◌, ◌≤◌, IfOk};
 ghost use Rattle.fd_devices.specs.Settings.{HasOwn, after, bank_count, own, power_count, settings_in, settings_of, tap_count};
 
 use dss_profile::Element;
 use fd_arith::TapPair;
 use fd_elements::LoadPower;
 use fd_items::Items;
+use std::alloc::AllocError;
 
 /// The taps of transformers in order.
 pub type Taps = Items<TapPair>;
@@ -27,6 +28,35 @@ pub struct Positions {
 #[derive(Drop, Debug)]
 pub struct Powers {
     pub loads: LoadPowers,
+}
+
+impl Positions {
+    /// The same positions.
+    ///
+    /// # Errors
+    /// `AllocError` where the memory is refused.
+    pub fn copied(&self) -> Result<Positions, AllocError>
+        ensures { IfOk result (λ p. p ≡ self.now) }
+    {
+        Ok(Positions {
+            taps: self.taps.copied()?,
+            closed: self.closed.copied()?,
+        })
+    }
+}
+
+impl Powers {
+    /// The same powers.
+    ///
+    /// # Errors
+    /// `AllocError` where the memory is refused.
+    pub fn copied(&self) -> Result<Powers, AllocError>
+        ensures { IfOk result (λ p. p ≡ self.now) }
+    {
+        Ok(Powers {
+            loads: self.loads.copied()?,
+        })
+    }
 }
 
 /// The settings of some elements, each kind in order of definition: the taps of each Transformer, whether each Capacitor

@@ -17,7 +17,7 @@ ghost use Rattle.fd_devices.specs.Data.{cap_data_of, xfmr_data_of};
 ghost use Rattle.fd_elements.specs.Sources.{source_data_of};
 ghost use Rattle.fd_devices.specs.Settings.{AreOwn, settings_in};
 ghost use Rattle.fd_devices.specs.Scripted.{device_of, phases_of};
-ghost use Rattle.fd_devices.specs.Building.{Fits, IsModest};
+ghost use Rattle.fd_devices.specs.Building.{DeviceFits, IsModest};
 ghost use Rattle.fd_devices.specs.Standing.{HasPlace, IsReadyAt, IsSettledAt, SettlesAsLoad, SettlesBehind, SettlesBetween, SettlesOn};
 
 use crate::settings::SettingSlices;
@@ -39,7 +39,7 @@ pub fn source_stamp(alloc: Global, source: &Vsource, at: &Ends) -> Result<Stamp,
     ensures stamp { IfOk result (λ s. stamp_of s ≡ device_stamp (source_device (source_data_of source.now) at.now)) }
     ensures settled { IfOk result
         (λ s. SettlesBehind source.now.phases at.now (source_device (source_data_of source.now) at.now)) }
-    ensures range { result ≡ Err TermFault.Range → ¬ (Fits (source_device (source_data_of source.now) at.now)) }
+    ensures range { result ≡ Err TermFault.Range → ¬ (DeviceFits (source_device (source_data_of source.now) at.now)) }
 {
     let data = source_data(source)?;
     source_at(alloc, &data, at)
@@ -50,7 +50,7 @@ fn source_at(alloc: Global, source: &SourceData, at: &Ends) -> Result<Stamp, Ter
     requires at { IsPlaced source.now.phases at.now }
     ensures stamp { IfOk result (λ s. stamp_of s ≡ device_stamp (source_device source.now at.now)) }
     ensures settled { IfOk result (λ s. SettlesBehind source.now.phases at.now (source_device source.now at.now)) }
-    ensures range { result ≡ Err TermFault.Range → ¬ (Fits (source_device source.now at.now)) }
+    ensures range { result ≡ Err TermFault.Range → ¬ (DeviceFits (source_device source.now at.now)) }
 {
     let SourceTerms { terms, constants } = source_terms(alloc, source, at)?;
     Ok(Stamp {
@@ -86,7 +86,7 @@ pub fn line_stamp(alloc: Global, line: &Line, hertz: u32, at: &Ends) -> Result<S
     ensures stamp { IfOk result (λ s. stamp_of s ≡ device_stamp (line_device (line_data_of line.now hertz) at.now)) }
     ensures settled { IfOk result (λ s. SettlesBetween line.now.phases line.now.phases at.now
         (line_device (line_data_of line.now hertz) at.now)) }
-    ensures range { result ≡ Err TermFault.Range → ¬ (Fits (line_device (line_data_of line.now hertz) at.now)) }
+    ensures range { result ≡ Err TermFault.Range → ¬ (DeviceFits (line_device (line_data_of line.now hertz) at.now)) }
 {
     let data = line_data(alloc, line, hertz)?;
     line_at(alloc, &data, at)
@@ -98,7 +98,7 @@ fn line_at(alloc: Global, line: &LineData, at: &Ends) -> Result<Stamp, TermFault
     ensures stamp { IfOk result (λ s. stamp_of s ≡ device_stamp (line_device line.now at.now)) }
     ensures settled { IfOk result
         (λ s. SettlesBetween line.now.phases line.now.phases at.now (line_device line.now at.now)) }
-    ensures range { result ≡ Err TermFault.Range → ¬ (Fits (line_device line.now at.now)) }
+    ensures range { result ≡ Err TermFault.Range → ¬ (DeviceFits (line_device line.now at.now)) }
 {
     Ok(Stamp {
         constants: Vec::new(alloc),
@@ -122,7 +122,7 @@ pub fn transformer_stamp(
         ≡ device_stamp (transformer_device (xfmr_data_of xfmr.now) taps at.now)) }
     ensures settled { IfOk result (λ s. SettlesBetween (node_count xfmr.now.phases) xfmr.now.phases at.now
         (transformer_device (xfmr_data_of xfmr.now) taps at.now)) }
-    ensures range { result ≡ Err TermFault.Range → ¬ (Fits (transformer_device (xfmr_data_of xfmr.now) taps at.now)) }
+    ensures range { result ≡ Err TermFault.Range → ¬ (DeviceFits (transformer_device (xfmr_data_of xfmr.now) taps at.now)) }
 {
     let mut stamp = Stamp::with_room(alloc, 64, 0, 0)?;
     transformer_into(&mut stamp, xfmr, taps, at)?;
@@ -142,7 +142,7 @@ pub fn capacitor_stamp(
         ≡ device_stamp (capacitor_device (cap_data_of bank.now) closed at.now)) }
     ensures settled { IfOk result (λ s. SettlesOn (node_count bank.now.phases) at.now.first
         (capacitor_device (cap_data_of bank.now) closed at.now)) }
-    ensures range { result ≡ Err TermFault.Range → ¬ (Fits (capacitor_device (cap_data_of bank.now) closed at.now)) }
+    ensures range { result ≡ Err TermFault.Range → ¬ (DeviceFits (capacitor_device (cap_data_of bank.now) closed at.now)) }
 {
     let mut stamp = Stamp::with_room(alloc, 64, 0, 0)?;
     capacitor_into(&mut stamp, bank, closed, at)?;
@@ -168,7 +168,7 @@ pub fn load_stamp(
     ensures settled { IfOk result (λ s. SettlesAsLoad load.now nodes.now magnitude
         (load_device (phases_of load.now nodes.now magnitude powers.now))) }
     ensures range { result ≡ Err TermFault.Range
-        → ¬ (Fits (load_device (phases_of load.now nodes.now magnitude powers.now))) }
+        → ¬ (DeviceFits (load_device (phases_of load.now nodes.now magnitude powers.now))) }
 {
     let mut stamp = Stamp::with_room(alloc, 48, 3, 0)?;
     load_into(&mut stamp, load, nodes, magnitude, powers)?;
@@ -194,7 +194,7 @@ pub fn element_stamp(
         ≡ device_stamp (device_of layout.now hertz place element.now (settings_in own.now))) }
     ensures settled { IfOk result (λ s. IsSettledAt layout.now hertz place element.now (settings_in own.now)) }
     ensures range { result ≡ Err TermFault.Range
-        → ¬ (Fits (device_of layout.now hertz place element.now (settings_in own.now))) }
+        → ¬ (DeviceFits (device_of layout.now hertz place element.now (settings_in own.now))) }
 {
     match element {
         Element::Vsource(source) => {

@@ -6,7 +6,7 @@ ghost use Rattle.fd_system.specs.Terminals.{IsSide, node_count};
 ghost use Rattle.fd_xfmr.specs.Leakage.{AreTaps, IsXfmr};
 ghost use Rattle.fd_xfmr.specs.Transformer.{IsBetween as IsXfmrBetween};
 ghost use Rattle.fd_cap.specs.Capacitor.{IsCap};
-ghost use Rattle.fd_devices.specs.Building.{Fits, IsModest, IsUsable};
+ghost use Rattle.fd_devices.specs.Building.{DeviceFits, IsModest, IsUsable};
 ghost use Rattle.fd_devices.specs.Data.{cap_data_of, xfmr_data_of};
 ghost use Rattle.fd_devices.specs.Devices.{device_stamp, capacitor as capacitor_device, loads as load_device, transformer as transformer_device};
 ghost use Rattle.fd_devices.specs.Scripted.{phases_of};
@@ -39,7 +39,7 @@ pub fn transformer_into(
         (transformer_device (xfmr_data_of xfmr.now) taps at.now)) }
     ensures few { OnOk result (length into.new.terms.items ≤ 60) }
     ensures range { IfErr result (λ e. (e ≡ TermFault.Range)
-        × ¬ (Fits (transformer_device (xfmr_data_of xfmr.now) taps at.now))) }
+        × ¬ (DeviceFits (transformer_device (xfmr_data_of xfmr.now) taps at.now))) }
     ensures room { IsRoomSame into.old into.new }
 {
     transformer_data_into(into, &xfmr_data(xfmr), taps, at)
@@ -59,7 +59,7 @@ fn transformer_data_into(
     ensures settled { OnOk result (SettlesBetween (node_count xfmr.now.phases) xfmr.now.phases at.now
         (transformer_device xfmr.now taps at.now)) }
     ensures few { OnOk result (length into.new.terms.items ≤ 60) }
-    ensures range { IfErr result (λ e. (e ≡ TermFault.Range) × ¬ (Fits (transformer_device xfmr.now taps at.now))) }
+    ensures range { IfErr result (λ e. (e ≡ TermFault.Range) × ¬ (DeviceFits (transformer_device xfmr.now taps at.now))) }
     ensures room { IsRoomSame into.old into.new }
 {
     into.clear();
@@ -84,7 +84,7 @@ pub fn capacitor_into(
         (capacitor_device (cap_data_of bank.now) closed at.now)) }
     ensures few { OnOk result (length into.new.terms.items ≤ 24) }
     ensures range { IfErr result (λ e. (e ≡ TermFault.Range)
-        × ¬ (Fits (capacitor_device (cap_data_of bank.now) closed at.now))) }
+        × ¬ (DeviceFits (capacitor_device (cap_data_of bank.now) closed at.now))) }
     ensures room { IsRoomSame into.old into.new }
 {
     capacitor_data_into(into, &cap_data(bank), closed, at)
@@ -103,7 +103,7 @@ fn capacitor_data_into(
     ensures settled { OnOk result
         (SettlesOn (node_count bank.now.phases) at.now.first (capacitor_device bank.now closed at.now)) }
     ensures few { OnOk result (length into.new.terms.items ≤ 24) }
-    ensures range { IfErr result (λ e. (e ≡ TermFault.Range) × ¬ (Fits (capacitor_device bank.now closed at.now))) }
+    ensures range { IfErr result (λ e. (e ≡ TermFault.Range) × ¬ (DeviceFits (capacitor_device bank.now closed at.now))) }
     ensures room { IsRoomSame into.old into.new }
 {
     into.clear();
@@ -137,7 +137,7 @@ pub fn load_into(
     ensures few_terms { OnOk result (length into.new.terms.items ≤ 16 * load.now.phases) }
     ensures few_loads { OnOk result (length into.new.loads.items ≤ load.now.phases) }
     ensures range { IfErr result (λ e. (e ≡ TermFault.Range)
-        × ¬ (Fits (load_device (phases_of load.now nodes.now magnitude powers.now)))) }
+        × ¬ (DeviceFits (load_device (phases_of load.now nodes.now magnitude powers.now)))) }
     ensures room { IsRoomSame into.old into.new }
 {
     into.clear();
@@ -153,10 +153,10 @@ fn write_loads(into: &mut Stamp) -> Result<(), TermFault>
     requires constants { into.old.constants.items ≡ [] }
     requires room { 48 ≤ vec_capacity into.old.terms }
     ensures stamp { OnOk result (stamp_of into.new ≡ device_stamp (load_device into.old.loads.items)) }
-    ensures fits { OnOk result (Fits (load_device into.old.loads.items)) }
+    ensures fits { OnOk result (DeviceFits (load_device into.old.loads.items)) }
     ensures few { OnOk result (length into.new.terms.items ≤ 16 * length into.old.loads.items) }
     ensures loads { into.new.loads.items ≡ into.old.loads.items }
-    ensures range { IfErr result (λ e. (e ≡ TermFault.Range) × ¬ (Fits (load_device into.old.loads.items))) }
+    ensures range { IfErr result (λ e. (e ≡ TermFault.Range) × ¬ (DeviceFits (load_device into.old.loads.items))) }
     ensures room { IsRoomSame into.old into.new }
 {
     if !are_in_limits(&into.loads) {

@@ -164,7 +164,7 @@ nothing_elsewhere ps ts us h p away =
 -- ---- whether each sum is small
 
 small_none : AreSmall (pos 0)
-small_none = (omega (arith, ints), omega (arith, ints))
+small_none = refl
 
 module _ (ps : List (ℕ × ℕ)) (cells : List Cell) (ts : List Term) (us : List LoadAt) (are : AreCells ps cells (of_rows ts us)) where
   pub all_sums : IsNothingElsewhere ps (of_rows ts us) → All (λ c. AreSmall c.units) cells → (row col : ℕ) → AreSmall (linear_entry ts row col)

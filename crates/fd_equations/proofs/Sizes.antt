@@ -2,6 +2,7 @@
 use Rattle.std.proofs.Common.{◌≡◌, ℕ, ◌≤◌, ◌^◌, ℤ, pos, neg_ℤ, ◌+ℤ◌, ◌-ℤ◌, ◌*ℤ◌, nat_abs, to_z, of_z, ◌∙◌, arith, lit<}
 use Rattle.std.specs.Int.{w128}
 use Rattle.std.proofs.Math.Nat.{mul-le-mul}
+use Rattle.std.proofs.lemmas.Bool.{leb-true}
 use Rattle.std.proofs.lemmas.Int.{ints, unsigned_abs-mul, to_z-of_z, fits_signed_from_abs}
 use Rattle.fd_exact.specs.Rounding.{near_div}
 use Rattle.fd_exact.specs.Nearest.{near_nearest}
@@ -12,7 +13,7 @@ pub near_size : (z : ℤ) → nat_abs z ≤ 2 ^ 94 → nat_abs (near_div z (2 ^ 
 near_size z h = let n = near_nearest z (2 ^ 40) (lit< tt) in omega (arith, ints, n.close)
 
 pub small_size : (z : ℤ) → AreSmall z → nat_abs z ≤ 2 ^ 54
-small_size z h = omega (arith, ints, h.0, h.1)
+small_size z h = leb-true (nat_abs z) (2 ^ 54) h
 
 pub part_size : (z : ℤ) → IsPart z → nat_abs z ≤ 2 ^ 40
 part_size z h = omega (arith, ints, h.0, h.1)

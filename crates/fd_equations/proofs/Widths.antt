@@ -21,6 +21,7 @@ use Rattle.fd_system.specs.Residual.{term_interval, with_constant, with_term, li
 use Rattle.fd_equations.specs.Coefficients.{row_count}
 use Rattle.fd_equations.specs.Conditions.{IsLinear, IsKnown, IsPart}
 use Rattle.fd_equations.specs.Enclosure.{EndsWithin}
+use Rattle.fd_equations.proofs.Sizes.{part_size, small_size}
 
 -- two ends at most w apart and at most m in size
 pub record Narrow (a : Bounds) (w m : ℕ) : Type 0 where
@@ -135,16 +136,13 @@ narrow_product v f g h o a j k =
     (floor_small (least (v, v) (f, g)) (least_small (v *ℤ f) (v *ℤ g) (2 ^ 40 * (2 ^ 54 + 1)) p r))
     (ceil_small (greatest (v, v) (f, g)) (most_small (v *ℤ f) (v *ℤ g) (2 ^ 40 * (2 ^ 54 + 1)) p r))
 
-part_size : (v : ℤ) → IsPart v → nat_abs v ≤ 2 ^ 40
-part_size v h = omega (arith, ints, h.0, h.1)
-
 pub narrow_term : (size : ℕ) (t : Term) (x : List ℤ) → IsLinear size t → IsPart (part x t.col) → Narrow (term_interval t x) 2 (2 ^ 55)
 narrow_term size t x h k =
     let v = part x t.col in
     let s = part_size v k in
-    let within = h.within in
+    let size = small_size (near_div (t.num *ℤ pos (2 ^ 40)) (nat_abs t.den)) h.within in
     let positive = h.term.positive in
-    let f = narrow_outward (t.num *ℤ pos (2 ^ 40)) (nat_abs t.den) (omega (arith, ints)) (2 ^ 54) (lit≤ tt) (omega (arith, ints, within.0, within.1)) in
+    let f = narrow_outward (t.num *ℤ pos (2 ^ 40)) (nat_abs t.den) (omega (arith, ints)) (2 ^ 54) (lit≤ tt) size in
     let point = capped-within v v (fits_of v (omega arith)) (fits_of v (omega arith)) in
     narrow_as (product (Some (part x t.col, part x t.col)) (Some (f.low, f.high))) (term_interval t x) 2 (2 ^ 55) (λ i. product (point i) (f.ends i)) (narrow_product v f.low f.high s f.order f.apart f.low_small f.high_small)
 

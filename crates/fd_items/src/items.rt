@@ -1,10 +1,10 @@
 // Items in order, which contracts see as a list.
-ghost use Rattle.std.specs.Prelude.{◌≡◌, ◌∷◌, ◌++◌, [], IfOk, OnOk};
+ghost use Rattle.std.specs.Prelude.{◌≡◌, ◌∷◌, ◌++◌, [], IfOk, OnOk, length};
 
 use std::alloc::AllocError;
 use std::marker::Model;
 
-/// Items in order, which contracts see as a list. None is taken out or changed.
+/// Items in order, which contracts see as a list. None is taken out.
 #[derive(Drop, Debug)]
 pub struct Items<T> {
     kept: Vec<T>,
@@ -64,5 +64,13 @@ impl<T: Copy> Items<T> {
         let mut items = Vec::with_capacity(*self.kept.allocator(), self.kept.len())?;
         items.extend_from_slice(&self.kept)?;
         Ok(Items::new(items))
+    }
+
+    /// Puts these items in place of as many. It takes no memory.
+    pub fn replace(&mut self, items: &[T])
+        requires { length items.now ≡ length self.old }
+        ensures { self.new ≡ items.now }
+    {
+        self.kept.copy_from_slice(items);
     }
 }

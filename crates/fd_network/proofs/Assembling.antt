@@ -14,14 +14,14 @@ use Rattle.fd_system.specs.System.{StampView}
 use Rattle.fd_equations.specs.Coefficients.{linear_entry}
 use Rattle.fd_equations.specs.Conditions.{AreApart, AreLinear, IsKnown, IsLinear, IsNetwork}
 use Rattle.fd_equations.specs.Views.{network_of}
-use Rattle.fd_devices.specs.Building.{AreCollected, AreContributions, AreInRange, Fits, HasSmallSums, IsInside}
+use Rattle.fd_devices.specs.Building.{AreCollected, AreContributions, AreInRange, DeviceFits, IsInside, device_fits, has_small_sums}
 use Rattle.fd_devices.specs.Devices.{Device, stamp_of_all}
 use Rattle.fd_devices.specs.Scripted.{layout_counts}
 use Rattle.fd_network.specs.declared.fault.PlaceFault.{PlaceFault}
 use Rattle.fd_network.specs.declared.fault.PlaceFault.TheVariants as place_fault
 use Rattle.fd_network.specs.Collecting.{NamesPlace}
-use Rattle.fd_network.specs.Faults.{first_out_of_range, first_without, fits, has_small_sums}
-use Rattle.fd_network.proofs.Faulty.{fits_decides, none_without, sums_decide}
+use Rattle.fd_network.specs.Faults.{first_out_of_range, first_without}
+use Rattle.fd_network.proofs.Faulty.{none_without}
 use Rattle.fd_network.proofs.Sums.{small_at_devices}
 
 -- ---- rows
@@ -50,25 +50,25 @@ module _ (n size : ℕ) (room : 2 * n ≤ size) where
 -- ---- faults
 
 -- a device out of range by itself comes first
-pub own_first : (ds : List Device) (place : ℕ) → first_without fits ds ≡ Some place → first_out_of_range ds ≡ Some place
+pub own_first : (ds : List Device) (place : ℕ) → first_without device_fits ds ≡ Some place → first_out_of_range ds ≡ Some place
 own_first ds place h = ap (λ o. option_or o (first_without (has_small_sums (stamp_of_all ds).terms) ds)) h
 
-pub own_fault : (ds : List Device) (f : PlaceFault) → NamesPlace (first_without fits ds) f → NamesPlace (first_out_of_range ds) f
+pub own_fault : (ds : List Device) (f : PlaceFault) → NamesPlace (first_without device_fits ds) f → NamesPlace (first_out_of_range ds) f
 own_fault ds (place_fault.OutOfRange k) h = own_first ds k h
 own_fault ds place_fault.NoMemory h = tt
 
-fit_then_sums : (ds : List Device) → All Fits ds → first_out_of_range ds ≡ first_without (has_small_sums (stamp_of_all ds).terms) ds
-fit_then_sums ds h = ap (λ o. option_or o (first_without (has_small_sums (stamp_of_all ds).terms) ds)) (none_without fits Fits fits_decides ds h)
+fit_then_sums : (ds : List Device) → All DeviceFits ds → first_out_of_range ds ≡ first_without (has_small_sums (stamp_of_all ds).terms) ds
+fit_then_sums ds h = ap (λ o. option_or o (first_without (has_small_sums (stamp_of_all ds).terms) ds)) (none_without device_fits ds h)
 
 -- where each fits, the first with a large sum is the first out of range
-pub sum_first : (ds : List Device) (place : ℕ) → All Fits ds → first_without (has_small_sums (stamp_of_all ds).terms) ds ≡ Some place → first_out_of_range ds ≡ Some place
+pub sum_first : (ds : List Device) (place : ℕ) → All DeviceFits ds → first_without (has_small_sums (stamp_of_all ds).terms) ds ≡ Some place → first_out_of_range ds ≡ Some place
 sum_first ds place fit h = fit_then_sums ds fit ∙ h
 
 -- no device in range is out of range
 pub no_fault : (ds : List Device) → AreInRange ds → first_out_of_range ds ≡ None
 no_fault ds h =
     fit_then_sums ds h.each
-    ∙ none_without (has_small_sums (stamp_of_all ds).terms) (HasSmallSums (stamp_of_all ds).terms) (sums_decide (stamp_of_all ds).terms) ds (small_at_devices (stamp_of_all ds).terms ds h.sums)
+    ∙ none_without (has_small_sums (stamp_of_all ds).terms) ds (small_at_devices (stamp_of_all ds).terms ds h.sums)
 
 -- ---- the network
 

@@ -15,7 +15,8 @@ use Rattle.fd_devices.specs.declared.kept.Kept.{Kept}
 use Rattle.fd_devices.specs.Settings.{AreSettings, Settings}
 use Rattle.fd_devices.specs.Standing.{HasPlace}
 use Rattle.fd_network.specs.Collecting.{AreTakenFrom}
-use Rattle.fd_network.specs.Faults.{IsFaultOf, first_out_of_range, first_without, fits, has_small_sums, range_blame}
+use Rattle.fd_devices.specs.Building.{device_fits, has_small_sums}
+use Rattle.fd_network.specs.Faults.{IsFaultOf, first_out_of_range, first_without, range_blame}
 use Rattle.fd_network.specs.Keeping.{AreKept, Reaches}
 use Rattle.fd_network.specs.Places.{AreReadyFrom}
 use Rattle.fd_network.proofs.Faulty.{first_within}
@@ -68,8 +69,8 @@ either_within (Some k) q n place hp hq e = hp place e
 -- the first device out of range is one of them
 pub out_of_range_within : (ds : List Device) (place : ℕ) → first_out_of_range ds ≡ Some place → place < length ds
 out_of_range_within ds place e =
-    either_within (first_without fits ds) (first_without (has_small_sums (stamp_of_all ds).terms) ds) (length ds) place
-    (λ k. first_within fits ds k) (λ k. first_within (has_small_sums (stamp_of_all ds).terms) ds k) e
+    either_within (first_without device_fits ds) (first_without (has_small_sums (stamp_of_all ds).terms) ds) (length ds) place
+    (λ k. first_within device_fits ds k) (λ k. first_within (has_small_sums (stamp_of_all ds).terms) ds k) e
 
 -- the fault that names the element at the place of the first device out of range is the one that is due
 pub fault_named : (es es' : Elements) (ds : List Device) (place : ℕ) (f : BuildFault) → es' ≡ es → first_out_of_range ds ≡ Some place → IsFaultOf (blame_at cause.Range es' place) f → IsFaultOf (range_blame es ds) f

@@ -9,5 +9,6 @@ pub mod Walking
 pub mod ReadyNodes
 pub mod ReadySides
 pub mod ReadyPlaces
+pub mod Parting
 pub mod Ready
 pub mod CallerLemmas

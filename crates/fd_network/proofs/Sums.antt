@@ -4,8 +4,9 @@ use Rattle.std.specs.List.{All, flat_map}
 use Rattle.std.proofs.lemmas.Int.{ints}
 use Rattle.std.proofs.lemmas.Bool.{and_parts, eqb-true}
 use Rattle.std.proofs.lemmas.List.Elements.{All-nil, All-cons, All-append, All-head, All-tail}
+use Rattle.std.proofs.lemmas.List.Sums.{AllPass-from_list_all, list_all-from_AllPass}
 use Rattle.fd_arith.specs.declared.terms.Term.{Term}
-use Rattle.fd_system.specs.Contributions.{AreSmall}
+use Rattle.fd_system.specs.Contributions.{AreSmall, are_small}
 use Rattle.fd_system.specs.System.{StampView}
 use Rattle.fd_equations.specs.Coefficients.{linear_entry, stands_at, units_of}
 use Rattle.fd_devices.specs.Building.{HasSmallSums}
@@ -30,12 +31,20 @@ sum_at all row col (t ∷ ts) h = by (stands_at row col t) refl (sum_at all row 
     by false e (inl zero) = inl (λ i. cond (e i) (units_of t) (pos 0) +ℤ zero i)
 
 pub each_sum_small : (all : List Term) → All (IsSmallAt all) all → (row col : ℕ) → AreSmall (linear_entry all row col)
-each_sum_small all h row col = ⊎_elim (λ e. subst AreSmall (sym e) (omega (arith, ints), omega (arith, ints))) (λ s. s) (sum_at all row col all h)
+each_sum_small all h row col = ⊎_elim (λ e. subst AreSmall (sym e) refl) (λ s. s) (sum_at all row col all h)
+
+-- what the test of a device says of its contributions
+pub small_at : (all : List Term) (d : Device) → HasSmallSums all d → All (IsSmallAt all) (device_stamp d).terms
+small_at all d = AllPass-from_list_all (λ t. are_small (linear_entry all t.row t.col)) (device_stamp d).terms
+
+pub at_small : (all : List Term) (d : Device) → All (IsSmallAt all) (device_stamp d).terms → HasSmallSums all d
+at_small all d = list_all-from_AllPass (λ t. are_small (linear_entry all t.row t.col)) (device_stamp d).terms
 
 all_terms : (all : List Term) (ds : List Device) → All (HasSmallSums all) ds → All (IsSmallAt all) (flat_map (λ (s : StampView). s.terms) (map device_stamp ds))
 all_terms all [] h = All-nil (IsSmallAt all)
 all_terms all (d ∷ ds) h =
-    All-append (IsSmallAt all) (device_stamp d).terms (flat_map (λ (s : StampView). s.terms) (map device_stamp ds)) (All-head (HasSmallSums all) d ds h) (all_terms all ds (All-tail (HasSmallSums all) d ds h))
+    All-append (IsSmallAt all) (device_stamp d).terms (flat_map (λ (s : StampView). s.terms) (map device_stamp ds))
+    (small_at all d (All-head (HasSmallSums all) d ds h)) (all_terms all ds (All-tail (HasSmallSums all) d ds h))
 
 -- where each device has small sums at its places, the sum at each place is small
 pub sums_small : (ds : List Device) → All (HasSmallSums (stamp_of_all ds).terms) ds → (row col : ℕ) → AreSmall (linear_entry (stamp_of_all ds).terms row col)
@@ -47,4 +56,4 @@ all_of P (x ∷ xs) h = All-cons P x xs (h x) (all_of P xs h)
 
 -- where each sum is small, each device has small sums
 pub small_at_devices : (all : List Term) (ds : List Device) → ((row col : ℕ) → AreSmall (linear_entry all row col)) → All (HasSmallSums all) ds
-small_at_devices all ds h = all_of (HasSmallSums all) ds (λ d. all_of (IsSmallAt all) (device_stamp d).terms (λ t. h t.row t.col))
+small_at_devices all ds h = all_of (HasSmallSums all) ds (λ d. at_small all d (all_of (IsSmallAt all) (device_stamp d).terms (λ t. h t.row t.col)))

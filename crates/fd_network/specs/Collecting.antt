@@ -4,7 +4,7 @@ use Rattle.dss_profile.specs.Ranges.{IsOneOf}
 use Rattle.dss_profile.specs.declared.element.Element.{Element}
 use Rattle.dss_layout.specs.Layout.{Elements, LayoutView}
 use Rattle.fd_xfmr.specs.Leakage.{AreTaps}
-use Rattle.fd_devices.specs.Building.{Fits, IsModest}
+use Rattle.fd_devices.specs.Building.{DeviceFits, IsModest}
 use Rattle.fd_devices.specs.Devices.{Device}
 use Rattle.fd_devices.specs.Scripted.{device_of, devices_from}
 use Rattle.fd_devices.specs.Settings.{AreSettings, HasOwn, Settings, own, settings_in}
@@ -48,7 +48,7 @@ all_devices layout hertz es left = devices_from layout hertz 0 es (settings_in l
 
 -- a fault is that of the device at a place, which doesn't fit; want of memory is free
 abbrev pub IsMisfit : ℕ → Device → PlaceFault → Type 0
-IsMisfit place d (place_fault.OutOfRange k) = (k ≡ place) × ¬ (Fits d)
+IsMisfit place d (place_fault.OutOfRange k) = (k ≡ place) × ¬ (DeviceFits d)
 IsMisfit place d place_fault.NoMemory = Unit {0}
 
 -- a fault names the place that is said; want of memory is free

@@ -1,32 +1,15 @@
 -- Which element is to blame where a circuit's network is out of range.
-use Rattle.std.specs.Prelude.{◌≡◌, ℕ, ◌^◌, ℤ, nat_abs, nat_le, Bool, not, ◌&&◌, List, Option, Some}
-use Rattle.std.specs.List.{list_all}
+use Rattle.std.specs.Prelude.{◌≡◌, ℕ, Bool, not, List, Option, Some}
 use Rattle.std.specs.Option.{option_and_then, option_or}
 use Rattle.dss_values.specs.declared.fault.ModelFault.TheVariants as fault
 use Rattle.dss_profile.specs.declared.command.Blame.{Blame}
 use Rattle.dss_layout.specs.Layout.{Elements}
 use Rattle.dss_ready.specs.Ready.{blame_at}
 use Rattle.fd_exact.specs.First.{first_such}
-use Rattle.fd_arith.specs.declared.terms.Term.{Term}
-use Rattle.fd_load.specs.Current.{is_past}
-use Rattle.fd_equations.specs.Coefficients.{linear_entry, units_of}
 use Rattle.fd_devices.specs.declared.fault.BuildFault.{BuildFault}
 use Rattle.fd_devices.specs.declared.fault.BuildFault.TheVariants as build_fault
-use Rattle.fd_devices.specs.Devices.{Device, device_stamp, stamp_of_all}
-
--- at most 2^54 in size
-abbrev pub is_small : ℤ → Bool
-is_small units = nat_le (nat_abs units) (2 ^ 54)
-
--- no contribution of a device is past 2^54 in units of 2^-40, and none of its load phases is past its limit
-abbrev pub fits : Device → Bool
-fits d =
-    list_all (λ t. is_small (units_of t)) (device_stamp d).terms
-    && list_all (λ u. not (is_past u.load)) (device_stamp d).loads
-
--- at each place where a device has a contribution, the sum of all contributions is at most 2^54 in units of 2^-40
-abbrev pub has_small_sums : List Term → Device → Bool
-has_small_sums all d = list_all (λ t. is_small (linear_entry all t.row t.col)) (device_stamp d).terms
+use Rattle.fd_devices.specs.Building.{device_fits, has_small_sums}
+use Rattle.fd_devices.specs.Devices.{Device, stamp_of_all}
 
 -- the place in order of the first device of which it doesn't hold
 abbrev pub first_without : (Device → Bool) → List Device → Option ℕ
@@ -34,7 +17,7 @@ first_without holds = first_such (λ d. not (holds d))
 
 -- the first device that doesn't fit; where each fits, the first with a contribution at a place with a large sum
 abbrev pub first_out_of_range : List Device → Option ℕ
-first_out_of_range ds = option_or (first_without fits ds) (first_without (has_small_sums (stamp_of_all ds).terms) ds)
+first_out_of_range ds = option_or (first_without device_fits ds) (first_without (has_small_sums (stamp_of_all ds).terms) ds)
 
 -- the element to blame, where there is one: that of the first device out of range
 abbrev pub range_blame : Elements → List Device → Option Blame

@@ -8,8 +8,6 @@ use Rattle.dss_profile.specs.declared.element.Element.{Element}
 use Rattle.dss_profile.specs.declared.names.ElementName.{ElementName}
 use Rattle.dss_layout.specs.Layout.{Elements, LayoutView}
 use Rattle.fd_exact.specs.Sums.{list_n}
-use Rattle.fd_system.specs.declared.stamps.Stamp.{Stamp}
-use Rattle.fd_system.specs.Stamps.{HasRoom}
 use Rattle.fd_devices.specs.declared.kept.Kept.{Kept}
 use Rattle.fd_devices.specs.Kept.{IsKeptOf, most_constants, most_loads, most_terms}
 use Rattle.fd_network.specs.declared.room.Room.{Room}
@@ -21,10 +19,12 @@ pub record AreKept (layout : LayoutView) (hertz : ℕ) (es : Elements) (ks : Lis
 
 -- room for all that elements add, at any settings
 abbrev pub room_for : Elements → Room
-room_for es = record { terms = list_n (λ e. most_terms e.1) es; loads = list_n (λ e. most_loads e.1) es; constants = list_n (λ e. most_constants e.1) es }
-
-abbrev pub HasRoomOf : Room → Stamp → Type 0
-HasRoomOf r s = HasRoom s r.terms r.loads r.constants
+room_for es = record {
+  elements = length es;
+  terms = list_n (λ e. most_terms e.1) es;
+  loads = list_n (λ e. most_loads e.1) es;
+  constants = list_n (λ e. most_constants e.1) es;
+}
 
 -- the places of row and column that elements can reach, at any settings, are among these
 abbrev pub Reaches : LayoutView → ℕ → Elements → List (ℕ × ℕ) → Type 0

@@ -4,3 +4,4 @@ pub mod Collecting
 pub mod Faults
 pub mod Keeping
 pub mod Places
+pub mod Stamps

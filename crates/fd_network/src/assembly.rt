@@ -8,16 +8,18 @@ ghost use Rattle.dss_circuit.specs.Limits.{most_elements};
 ghost use Rattle.fd_system.specs.Stamps.{HasRoom, IsRoomSame};
 ghost use Rattle.fd_equations.specs.Conditions.{IsNetwork};
 ghost use Rattle.fd_equations.specs.Patterns.{IsInside};
-ghost use Rattle.fd_devices.specs.Building.{AreInRange, Fits};
+ghost use Rattle.fd_devices.specs.Building.{AreInRange, DeviceFits, has_small_sums};
 ghost use Rattle.fd_devices.specs.Devices.{AgreesWith, parts_of_all, stamp_of_all};
 ghost use Rattle.fd_devices.specs.Scripted.{devices_network};
 ghost use Rattle.fd_network.specs.Assembled.{AreExchanged, CanTake, HaveListsRoom, HavePartsRoom, HaveRoom, IsAsBefore, parts_network};
 ghost use Rattle.fd_devices.specs.Settings.{settings_in};
 ghost use Rattle.fd_network.specs.Collecting.{AreTakenFrom, all_devices};
-ghost use Rattle.fd_network.specs.Faults.{first_out_of_range, first_without, has_small_sums};
+ghost use Rattle.fd_network.specs.Faults.{first_out_of_range, first_without};
 ghost use Rattle.fd_network.specs.Keeping.{AreKept, Reaches, room_for};
 ghost use Rattle.fd_network.specs.Places.{AreMagnitudesFrom};
+ghost use Rattle.fd_network.specs.Stamps.{extents_of};
 
+use crate::extents::{Extent, Stamps};
 use crate::fault::OutOfRange;
 use crate::room::Room;
 use crate::stamps::{check_sums, collect};
@@ -30,18 +32,19 @@ use indexmap::IndexMap;
 use std::alloc::{AllocError, Global};
 use std::mem;
 
-/// What elements in a layout add to the rows of a network, with the sums.
+/// What elements in a layout add to the rows of a network, with the sums, and how much of it each element has.
 #[derive(Drop)]
 pub struct Parts {
     pub rows: Rows,
     pub constants: Vec<Constant>,
     pub draw: u128,
+    pub extents: Vec<Extent>,
 }
 
-/// The lists in which what elements add is written: `all` for all elements, `one` for each in turn.
+/// The lists in which what elements add is written: `stamps` for all elements, `one` for each in turn.
 #[derive(Drop)]
 pub struct Lists {
-    pub all: Stamp,
+    pub stamps: Stamps,
     pub one: Stamp,
 }
 
@@ -73,6 +76,8 @@ pub fn assemble(
     ensures network { OnOk result (parts_network layout.now parts.new
         ≡ devices_network layout.now (all_devices layout.now hertz elements.now.entries settings.now)) }
     ensures valid { OnOk result (IsNetwork (parts_network layout.now parts.new)) }
+    ensures extents { OnOk result (parts.new.extents.items
+        ≡ extents_of (all_devices layout.now hertz elements.now.entries settings.now)) }
     ensures agrees { OnOk result (AgreesWith (parts_network layout.now parts.new).stamp
         (parts_of_all (all_devices layout.now hertz elements.now.entries settings.now))) }
     ensures in_range { OnOk result (AreInRange (all_devices layout.now hertz elements.now.entries settings.now)) }
@@ -85,17 +90,17 @@ pub fn assemble(
     ensures places { parts.new.rows.places ≡ parts.old.rows.places }
     ensures room { HaveRoom (room_for elements.now.entries) parts.new lists.new }
 {
-    let Lists { all, one } = lists;
-    collect(all, one, layout, hertz, elements, settings, kept)?;
+    let Lists { stamps, one } = lists;
+    collect(stamps, one, layout, hertz, elements, settings, kept)?;
     reach_law();
-    exchange(parts, all);
+    exchange(parts, stamps);
     match check_entries(one, layout, hertz, elements, settings, kept, &parts.rows) {
         Ok(()) => {
             device_law();
             Ok(())
         }
         Err(fault) => {
-            exchange(parts, all);
+            exchange(parts, stamps);
             Err(fault)
         }
     }
@@ -123,6 +128,7 @@ impl Parts {
             rows: Rows::reaching(alloc, layout.size(), places, room.terms, room.loads)?,
             constants: Vec::with_capacity(alloc, room.constants)?,
             draw: 0,
+            extents: Vec::with_capacity(alloc, room.elements)?,
         })
     }
 }
@@ -136,20 +142,22 @@ impl Lists {
         ensures { IfOk result (HaveListsRoom room) }
     {
         Ok(Lists {
-            all: Stamp::with_room(alloc, room.terms, room.loads, room.constants)?,
+            stamps: Stamps::with_room(alloc, room)?,
             one: Stamp::with_room(alloc, 256, 9, 6)?,
         })
     }
 }
 
-// Exchanges the parts with what a stamp has. Takes no memory.
-fn exchange(parts: &mut Parts, stamp: &mut Stamp)
-    requires { CanTake parts.old stamp.old }
-    ensures exchanged { AreExchanged parts.old stamp.old parts.new stamp.new }
+// Exchanges the parts with what stamps have. Takes no memory.
+fn exchange(parts: &mut Parts, stamps: &mut Stamps)
+    requires { CanTake parts.old stamps.old }
+    ensures exchanged { AreExchanged parts.old stamps.old parts.new stamps.new }
 {
-    parts.rows.replace(&mut stamp.terms, &mut stamp.loads);
-    mem::swap(&mut parts.constants, &mut stamp.constants);
-    mem::swap(&mut parts.draw, &mut stamp.draw);
+    let Stamps { all, extents } = stamps;
+    parts.rows.replace(&mut all.terms, &mut all.loads);
+    mem::swap(&mut parts.constants, &mut all.constants);
+    mem::swap(&mut parts.draw, &mut all.draw);
+    mem::swap(&mut parts.extents, extents);
 }
 
 // Whether each entry is small. The elements are walked again only where one isn't, to name the first that has a part in it.
@@ -165,7 +173,7 @@ fn check_entries(
     requires taken { AreTakenFrom layout.now hertz 0 elements.now.entries (settings_in settings.now) }
     requires kept { AreKept layout.now hertz elements.now.entries kept.now }
     requires one { HasRoom one.old 256 9 6 }
-    requires fits { All Fits (all_devices layout.now hertz elements.now.entries settings.now) }
+    requires fits { All DeviceFits (all_devices layout.now hertz elements.now.entries settings.now) }
     requires terms { rows.now.terms
         ≡ (stamp_of_all (all_devices layout.now hertz elements.now.entries settings.now)).terms }
     ensures small { OnOk result (AreInRange (all_devices layout.now hertz elements.now.entries settings.now)) }

@@ -5,12 +5,12 @@ ghost use Rattle.dss_layout.specs.Layout.{size_of};
 ghost use Rattle.dss_circuit.specs.Limits.{most_elements};
 ghost use Rattle.fd_devices.specs.Standing.{IsSettledAt};
 ghost use Rattle.fd_equations.specs.Patterns.{IsInside};
-ghost use Rattle.fd_devices.specs.Building.{Fits};
+ghost use Rattle.fd_devices.specs.Building.{DeviceFits, device_fits};
 ghost use Rattle.fd_devices.specs.Kept.{IsKeptOf};
 ghost use Rattle.fd_devices.specs.Reach.{device_places};
 ghost use Rattle.fd_devices.specs.Settings.{own, settings_in};
 ghost use Rattle.fd_network.specs.Collecting.{AreTakenFrom, IsMisfit, IsTakenAt, NamesPlace, all_devices, device_at};
-ghost use Rattle.fd_network.specs.Faults.{first_without, fits};
+ghost use Rattle.fd_network.specs.Faults.{first_without};
 ghost use Rattle.fd_network.specs.Keeping.{AreKept};
 
 use crate::fault::PlaceFault;
@@ -46,9 +46,9 @@ pub fn keep(
     ensures places { IfOk result (λ m. m.places.items
         ≡ flat_map device_places (all_devices layout.now hertz elements.now.entries settings.now)) }
     ensures inside { IfOk result (λ m. All (IsInside (size_of layout.now)) m.places.items) }
-    ensures fits { IfOk result (λ m. All Fits (all_devices layout.now hertz elements.now.entries settings.now)) }
+    ensures fits { IfOk result (λ m. All DeviceFits (all_devices layout.now hertz elements.now.entries settings.now)) }
     ensures fault { IfErr result
-        (NamesPlace (first_without fits (all_devices layout.now hertz elements.now.entries settings.now))) }
+        (NamesPlace (first_without device_fits (all_devices layout.now hertz elements.now.entries settings.now))) }
 {
     let entries = elements.as_slice();
     let mut kept = Vec::with_capacity(alloc, entries.len())?;

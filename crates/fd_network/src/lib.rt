@@ -7,13 +7,17 @@
 // takes no memory, since the lists have room, and the rows places, for all that the elements add at any settings. A network keeps the layout
 // of its unknowns, with their names, and hands on its rows (`rows`) to the solver and the certificate.
 //
+// A network is seen as the stamps of its elements in order, with the settings at which they stand: the taps, the states of banks and the
+// powers of load phases.
+//
 // Modules: `network` has the type, `assembly` makes its parts those of what the elements add, `stamps` collects that and
-// names the element out of range by its place, `keeping` has what is kept of the elements for updates, `room` how much
-// room the lists need, `fault` why elements have no rows, `blame` the element to blame.
+// names the element out of range by its place, `extents` has how much of it each element has, `keeping` what is kept of the
+// elements for updates, `room` how much room the lists need, `fault` why elements have no rows, `blame` the element to blame.
 #![tactic(auto)]
 
 mod assembly;
 mod blame;
+mod extents;
 mod fault;
 mod keeping;
 mod network;

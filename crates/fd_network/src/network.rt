@@ -19,6 +19,7 @@ ghost use Rattle.fd_network.specs.Assembled.{HaveRoom, IsAsBefore, parts_network
 ghost use Rattle.fd_network.specs.Built.{IsBuilt, IsBuiltOf};
 ghost use Rattle.fd_network.specs.Faults.{IsFaultOf, range_blame};
 ghost use Rattle.fd_network.specs.Keeping.{AreKept, Reaches, room_for};
+ghost use Rattle.fd_network.specs.Stamps.{extents_of};
 
 use crate::assembly::{Lists, Parts, assemble};
 use crate::blame::blame_range;
@@ -36,7 +37,8 @@ use indexmap::IndexMap;
 use std::alloc::{AllocError, Global};
 use std::marker::Model;
 
-/// The network of a circuit with positions of its taps and banks and powers of its load phases. Its unknowns and rows are in the order
+/// The network of a circuit: the stamps of its elements, with the positions of taps and banks and the powers of load phases at which they
+/// stand. Its unknowns and rows are in the order
 /// of its layout: nodes in order of first mention, then branch phases, then the magnitudes of loads of constant current.
 #[derive(Drop)]
 pub struct Network {
@@ -46,20 +48,24 @@ pub struct Network {
     kept: Vec<Kept>,
     room: Room,
     lists: Lists,
+    at: Positions,
+    powers: Powers,
 }
 
 impl Model for Network {
     ghost use Rattle.std.specs.Prelude.{◌≡◌};
     ghost use Rattle.dss_layout.specs.Layout.{size_of};
     ghost use Rattle.fd_devices.specs.Scripted.{layout_counts};
+    ghost use Rattle.fd_devices.specs.Settings.{settings_of};
     ghost use Rattle.fd_network.specs.Assembled.{HaveRoom};
     ghost use Rattle.fd_network.specs.Built.{BuiltView, IsBuilt, built_of};
 
     ghost Value = { BuiltView };
 
-    ghost view = { λ n. built_of n.layout n.counts n.parts n.kept.items n.room };
+    ghost view = { λ n. built_of n.layout n.counts n.parts (settings_of n.at n.powers) n.kept.items n.room };
 
-    ghost invariant = { λ n. IsBuilt (built_of n.layout n.counts n.parts n.kept.items n.room) × (n.parts.rows.size ≡ size_of n.layout) × (n.counts ≡ layout_counts n.layout) × HaveRoom n.room n.parts n.lists };
+    ghost invariant = { λ n. IsBuilt (built_of n.layout n.counts n.parts (settings_of n.at n.powers) n.kept.items n.room)
+        × (n.parts.rows.size ≡ size_of n.layout) × (n.counts ≡ layout_counts n.layout) × HaveRoom n.room n.parts n.lists };
 }
 
 impl Network {
@@ -83,6 +89,7 @@ impl Network {
         requires within { All AreTaps at.now.taps }
         requires modest { All IsModest powers.now.loads }
         ensures network { IfOk result (λ n. n.rows ≡ circuit_network circuit.now (settings_of at.now powers.now)) }
+        ensures settings { IfOk result (λ n. n.settings ≡ settings_of at.now powers.now) }
         ensures built { IfOk result (λ n. IsBuiltOf n circuit.now) }
         ensures agrees { IfOk result (λ n. AgreesWith n.rows.stamp
             (circuit_parts circuit.now (settings_of at.now powers.now))) }
@@ -90,12 +97,15 @@ impl Network {
         ensures no_blame { IfOk result (λ n. range_blame circuit.now.elements (devices_of circuit.now (settings_of at.now powers.now)) ≡ None) }
         ensures fault { IfErr result (λ f. IsFaultOf (range_blame circuit.now.elements (devices_of circuit.now (settings_of at.now powers.now))) f) }
     {
+        let own_at = at.copied()?;
+        let own_powers = powers.copied()?;
         let layout = layout(alloc, circuit)?;
-        let Made { kept, places } = kept_in(alloc, &layout, circuit, at, powers)?;
-        let room = room_of(circuit.elements());
-        let mut parts = Parts::reaching(alloc, &layout, places, room)?;
-        let mut lists = Lists::with_room(alloc, room)?;
-        fill(&mut parts, &mut lists, &layout, &kept, circuit, at, powers)?;
+        let Assembly {
+            parts,
+            kept,
+            room,
+            lists,
+        } = assembled(alloc, &layout, circuit, at, powers)?;
         let counts = counts(&layout);
         Ok(Network {
             layout,
@@ -104,6 +114,8 @@ impl Network {
             kept,
             room,
             lists,
+            at: own_at,
+            powers: own_powers,
         })
     }
 
@@ -124,6 +136,7 @@ impl Network {
         requires modest { All IsModest powers.now.loads }
         requires built { IsBuiltOf self.old circuit.now }
         ensures network { IfOk result (λ _. self.new.rows ≡ circuit_network circuit.now (settings_of at.now powers.now)) }
+        ensures settings { IfOk result (λ _. self.new.settings ≡ settings_of at.now powers.now) }
         ensures built { IsBuiltOf self.new circuit.now }
         ensures agrees { IfOk result (λ _. AgreesWith self.new.rows.stamp
             (circuit_parts circuit.now (settings_of at.now powers.now))) }
@@ -133,7 +146,7 @@ impl Network {
         ensures ok { AreInRange (devices_of circuit.now (settings_of at.now powers.now)) → IsOk result }
         ensures as_before { IfErr result (λ f. self.new ≡ self.old) }
     {
-        fill(
+        let filled = fill(
             &mut self.parts,
             &mut self.lists,
             &self.layout,
@@ -141,7 +154,16 @@ impl Network {
             circuit,
             at,
             powers,
-        )
+        );
+        match filled {
+            Ok(()) => {
+                self.at.taps.replace(at.taps.as_slice());
+                self.at.closed.replace(at.closed.as_slice());
+                self.powers.loads.replace(powers.loads.as_slice());
+                Ok(())
+            }
+            Err(fault) => Err(fault),
+        }
     }
 
     /// Its rows, as the solver and the certificate ask for them. Takes no memory.
@@ -203,6 +225,55 @@ impl Network {
     }
 }
 
+// The parts of a network, with what is kept of its elements and the lists in which the parts are made anew.
+#[derive(Drop)]
+struct Assembly {
+    parts: Parts,
+    kept: Vec<Kept>,
+    room: Room,
+    lists: Lists,
+}
+
+// The parts of the network of a circuit in its layout.
+fn assembled(
+    alloc: Global,
+    layout: &Layout,
+    circuit: &Circuit,
+    at: &Positions,
+    powers: &Powers,
+) -> Result<Assembly, BuildFault>
+    requires layout { layout.now ≡ layout_of circuit.now.elements }
+    requires ready { HasPassed circuit.now }
+    requires settings { AreSettings circuit.now.elements (settings_of at.now powers.now) }
+    requires within { All AreTaps at.now.taps }
+    requires modest { All IsModest powers.now.loads }
+    ensures network { IfOk result (λ a. parts_network layout.now a.parts ≡ circuit_network circuit.now (settings_of at.now powers.now)) }
+    ensures valid { IfOk result (λ a. IsNetwork (parts_network layout.now a.parts)) }
+    ensures agrees { IfOk result (λ a. AgreesWith (parts_network layout.now a.parts).stamp
+        (circuit_parts circuit.now (settings_of at.now powers.now))) }
+    ensures extents { IfOk result (λ a. a.parts.extents.items ≡ extents_of (devices_of circuit.now (settings_of at.now powers.now))) }
+    ensures in_range { IfOk result (λ _. AreInRange (devices_of circuit.now (settings_of at.now powers.now))) }
+    ensures no_blame { IfOk result (λ _. range_blame circuit.now.elements (devices_of circuit.now (settings_of at.now powers.now)) ≡ None) }
+    ensures fault { IfErr result (λ f. IsFaultOf (range_blame circuit.now.elements (devices_of circuit.now (settings_of at.now powers.now))) f) }
+    ensures size { IfOk result (λ a. a.parts.rows.size ≡ size_of layout.now) }
+    ensures kept { IfOk result (λ a. AreKept (layout_of circuit.now.elements) circuit.now.options.defaultbasefrequency circuit.now.elements a.kept.items) }
+    ensures reach { IfOk result (λ a. Reaches (layout_of circuit.now.elements) circuit.now.options.defaultbasefrequency circuit.now.elements a.parts.rows.places) }
+    ensures room { IfOk result (λ a. a.room ≡ room_for circuit.now.elements) }
+    ensures roomy { IfOk result (λ a. HaveRoom a.room a.parts a.lists) }
+{
+    let Made { kept, places } = kept_in(alloc, layout, circuit, at, powers)?;
+    let room = room_of(circuit.elements());
+    let mut parts = Parts::reaching(alloc, layout, places, room)?;
+    let mut lists = Lists::with_room(alloc, room)?;
+    fill(&mut parts, &mut lists, layout, &kept, circuit, at, powers)?;
+    Ok(Assembly {
+        parts,
+        kept,
+        room,
+        lists,
+    })
+}
+
 // What is kept of the elements of a circuit in its layout, with the places that they can reach.
 fn kept_in(
     alloc: Global,
@@ -255,6 +326,8 @@ fn fill(
     ensures valid { IfOk result (λ _. IsNetwork (parts_network layout.now parts.new)) }
     ensures agrees { IfOk result (λ _. AgreesWith (parts_network layout.now parts.new).stamp
         (circuit_parts circuit.now (settings_of at.now powers.now))) }
+    ensures extents { IfOk result (λ _. parts.new.extents.items
+        ≡ extents_of (devices_of circuit.now (settings_of at.now powers.now))) }
     ensures in_range { IfOk result (λ _. AreInRange (devices_of circuit.now (settings_of at.now powers.now))) }
     ensures no_blame { IfOk result (λ _. range_blame circuit.now.elements (devices_of circuit.now (settings_of at.now powers.now)) ≡ None) }
     ensures fault { IfErr result (λ f. IsFaultOf (range_blame circuit.now.elements (devices_of circuit.now (settings_of at.now powers.now))) f) }

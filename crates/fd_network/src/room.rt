@@ -8,9 +8,10 @@ use dss_profile::{Element, ElementName};
 use fd_devices::{most_constants, most_loads, most_terms};
 use indexmap::IndexMap;
 
-/// How many contributions, part loads and constants lists have room for.
+/// How many elements, and how many of their contributions, part loads and constants, lists have room for.
 #[derive(Clone, Copy, Debug)]
 pub struct Room {
+    pub elements: usize,
     pub terms: usize,
     pub loads: usize,
     pub constants: usize,
@@ -22,12 +23,13 @@ pub fn room_of(elements: &IndexMap<ElementName, Element>) -> Room
     requires in_range { All (λ e. ElementInRange e.1) elements.now.entries }
     ensures { result ≡ room_for elements.now.entries }
 {
+    let entries = elements.as_slice();
     let mut room = Room {
+        elements: entries.len(),
         terms: 0,
         loads: 0,
         constants: 0,
     };
-    let entries = elements.as_slice();
     for place in 0..entries.len() {
         let (_, element) = entries.get_index(place).unwrap();
         room.terms += most_terms(element);

@@ -6,14 +6,16 @@ ghost use Rattle.fd_devices.specs.Standing.{IsSettledAt};
 ghost use Rattle.fd_system.specs.Contributions.{AreSmall};
 ghost use Rattle.fd_system.specs.Stamps.{HasRoom, IsRoomSame, stamp_of};
 ghost use Rattle.fd_equations.specs.Coefficients.{linear_entry};
-ghost use Rattle.fd_devices.specs.Building.{AreCollected, Fits, HasSmallSums};
+ghost use Rattle.fd_devices.specs.Building.{AreCollected, DeviceFits, HasSmallSums, device_fits, has_small_sums};
 ghost use Rattle.fd_devices.specs.Devices.{device_stamp, stamp_of_all};
 ghost use Rattle.fd_devices.specs.Kept.{AreFewOf, IsKeptOf};
 ghost use Rattle.fd_devices.specs.Settings.{own, settings_in};
 ghost use Rattle.fd_network.specs.Collecting.{AreTakenFrom, IsTakenAt, all_devices, device_at};
-ghost use Rattle.fd_network.specs.Faults.{first_without, fits, has_small_sums};
-ghost use Rattle.fd_network.specs.Keeping.{AreKept, HasRoomOf, room_for};
+ghost use Rattle.fd_network.specs.Faults.{first_without};
+ghost use Rattle.fd_network.specs.Keeping.{AreKept, room_for};
+ghost use Rattle.fd_network.specs.Stamps.{HaveStampsRoom, IsStampsRoomSame, extents_of};
 
+use crate::extents::Stamps;
 use crate::fault::OutOfRange;
 use dss_layout::Layout;
 use dss_profile::{Element, ElementName};
@@ -43,7 +45,7 @@ fn stamp_at(
         (IsSettledAt layout.now hertz place element.now (own element.now (settings_in left.now))) }
     ensures few { OnOk result (AreFewOf element.now (stamp_of into.new)) }
     ensures fault { IfErr result (λ f. (f.0 ≡ place)
-        × ¬ (Fits (device_at layout.now hertz place element.now left.now))) }
+        × ¬ (DeviceFits (device_at layout.now hertz place element.now left.now))) }
     ensures room { IsRoomSame into.old into.new }
 {
     let own = left.own(element);
@@ -53,14 +55,14 @@ fn stamp_at(
     }
 }
 
-/// Puts what all elements add, in order, at the circuit's frequency in hertz, in place of what `all` has; `one` is written for each in turn.
+/// Puts what all elements add, in order, at the circuit's frequency in hertz, in place of what `stamps` have; `one` is written for each in turn.
 /// Takes no memory.
 ///
 /// # Errors
 /// `OutOfRange` exactly where an element has a contribution past 2^54 in units of 2^-40 or a load phase past its limit, with the place of the
 /// first.
 pub fn collect(
-    all: &mut Stamp,
+    stamps: &mut Stamps,
     one: &mut Stamp,
     layout: &Layout,
     hertz: u32,
@@ -71,23 +73,25 @@ pub fn collect(
     requires taken { AreTakenFrom layout.now hertz 0 elements.now.entries (settings_in settings.now) }
     requires few { length elements.now.entries ≤ most_elements }
     requires kept { AreKept layout.now hertz elements.now.entries kept.now }
-    requires room { HasRoomOf (room_for elements.now.entries) all.old }
+    requires room { HaveStampsRoom (room_for elements.now.entries) stamps.old }
     requires one { HasRoom one.old 256 9 6 }
     ensures collected { OnOk result
         (AreCollected (length layout.now.nodes) (complex_count layout.now) (size_of layout.now)
-        elements.now.entries (all_devices layout.now hertz elements.now.entries settings.now) (stamp_of all.new)) }
+        elements.now.entries (all_devices layout.now hertz elements.now.entries settings.now) (stamp_of stamps.new.all)) }
+    ensures extents { OnOk result (stamps.new.extents.items
+        ≡ extents_of (all_devices layout.now hertz elements.now.entries settings.now)) }
     ensures fault { IfErr result
-        (λ f. first_without fits (all_devices layout.now hertz elements.now.entries settings.now) ≡ Some f.0) }
-    ensures room { IsRoomSame all.old all.new }
+        (λ f. first_without device_fits (all_devices layout.now hertz elements.now.entries settings.now) ≡ Some f.0) }
+    ensures room { IsStampsRoomSame stamps.old stamps.new }
     ensures one { IsRoomSame one.old one.new }
 {
-    all.clear();
+    stamps.clear();
     let mut left = *settings;
     let entries = elements.as_slice();
     for place in 0..entries.len() {
         let (_, element) = entries.get_index(place).unwrap();
         stamp_at(one, layout, hertz, place, element, &left, &kept[place])?;
-        all.append_reserved(one);
+        stamps.push_reserved(one);
         left = left.after(element);
     }
     Ok(())
@@ -111,7 +115,7 @@ pub fn check_sums(
     requires taken { AreTakenFrom layout.now hertz 0 elements.now.entries (settings_in settings.now) }
     requires kept { AreKept layout.now hertz elements.now.entries kept.now }
     requires one { HasRoom one.old 256 9 6 }
-    requires fits { All Fits (all_devices layout.now hertz elements.now.entries settings.now) }
+    requires fits { All DeviceFits (all_devices layout.now hertz elements.now.entries settings.now) }
     requires terms { rows.now.terms
         ≡ (stamp_of_all (all_devices layout.now hertz elements.now.entries settings.now)).terms }
     ensures small { OnOk result

@@ -1,5 +1,5 @@
 -- Contributions: one number at one place of row and column, and what they add up to at a state.
-use Rattle.std.specs.Prelude.{ℕ, ◌<◌, ◌^◌, ◌-◌, ◌<ℤ◌, ◌≤ℤ◌, zero, suc, ◌+◌, ◌*◌, ℤ, pos, neg_ℤ, ◌*ℤ◌, nat_abs, nat_le, Bool, cond, eqb, List, [], ◌∷◌, ◌++◌}
+use Rattle.std.specs.Prelude.{ℕ, ◌<◌, ◌^◌, ◌-◌, ◌<ℤ◌, ◌≤ℤ◌, zero, suc, ◌+◌, ◌*◌, ℤ, pos, neg_ℤ, ◌*ℤ◌, nat_abs, nat_le, Bool, IsTrue, cond, eqb, List, [], ◌∷◌, ◌++◌}
 use Rattle.std.specs.Ordering.{int_eq}
 use Rattle.fd_exact.specs.Fractions.{Fraction, fraction, nothing}
 use Rattle.fd_exact.specs.States.{State, part}
@@ -59,12 +59,11 @@ pub record IsDivided (t : Term) : Type 0 where
   pub most : t.den ≤ℤ pos (10 ^ 32)
 
 -- a number of units of 2^-40 is at most 2^54 in size
-abbrev pub AreSmall : ℤ → Type 0
-AreSmall units = (neg_ℤ (pos (2 ^ 54)) ≤ℤ units) × (units ≤ℤ pos (2 ^ 54))
-
--- the same as a test
 abbrev pub are_small : ℤ → Bool
 are_small units = nat_le (nat_abs units) (2 ^ 54)
+
+abbrev pub AreSmall : ℤ → Type 0
+AreSmall units = IsTrue (are_small units)
 
 -- a contribution, nearest to a whole number of 2^-40, is at most 2^54 in size
 abbrev pub IsWithin : Term → Type 0

@@ -19,10 +19,10 @@ mod stamps;
 mod terminals;
 
 pub use constants::Constant;
-pub use laws::{load_law, residual_law, complex_law};
+pub use laws::{complex_law, load_law, residual_law};
 pub use loads::{LoadAt, LoadPhase};
 pub use range::{all_within, is_small, is_within};
 pub use rows::{add_constant, add_term, greater_size};
 pub use series::{add_drop, thirds};
-pub use stamps::{Stamp, add_imaginary, add_one, add_real, add_shunt, add_complex};
+pub use stamps::{Stamp, add_complex, add_imaginary, add_one, add_real, add_shunt};
 pub use terminals::{NodePair, PhasePairs, node, phase_pair, phase_pairs, phase_volts};

@@ -25,13 +25,13 @@ pub fn all_within(terms: &[Term]) -> bool
 }
 
 // 2^54
-const MOST: i128 = 18_014_398_509_481_984;
+const MOST: u128 = 18_014_398_509_481_984;
 
 /// Whether a number of units of 2^-40 is at most 2^54 in size.
 pub fn is_small(units: i128) -> bool
     ensures { IsTrue result ↔ AreSmall units }
 {
-    -MOST <= units && units <= MOST
+    units.unsigned_abs() <= MOST
 }
 
 // num / den in units of 2^-40, where it is not far too large

@@ -3,13 +3,15 @@ use Rattle.std.specs.List.{All}
 use Rattle.fd_arith.specs.declared.terms.TermFault.TheVariants as fault
 use Rattle.fd_system.specs.Contributions.{IsWithin}
 use Rattle.fd_source.specs.Equations.{constants_from}
+use Rattle.fd_devices.specs.Devices.{source}
 use Rattle.fd_devices.proofs.Bounded.{source_settled}
+use Rattle.fd_devices.proofs.Fitting.{fit_terms}
 use Rattle.fd_devices.proofs.stamps.source_at.Goals as goal
 
 pub returns-in_err-terms-clause-range : goal.returns-in_err-terms-clause-range
 returns-in_err-terms-clause-range c = λ e f.
     let r : c.source_terms.result ≡ Err fault.Range = search rules in
-    c.source_terms.ensures.range r f.terms
+    c.source_terms.ensures.range r (fit_terms (source c.args.source.now c.args.at.now) f)
 
 pub returns-clause-stamp : goal.returns-clause-stamp
 returns-clause-stamp c =

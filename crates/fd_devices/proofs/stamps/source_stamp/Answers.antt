@@ -3,7 +3,7 @@ use Rattle.std.specs.Prelude.{IfOk}
 use Rattle.fd_arith.specs.declared.terms.TermFault.TheVariants as fault
 use Rattle.fd_system.specs.Stamps.{stamp_of}
 use Rattle.fd_devices.specs.Devices.{device_stamp, source}
-use Rattle.fd_devices.specs.Building.{Fits, IsSettled}
+use Rattle.fd_devices.specs.Building.{DeviceFits, IsSettled}
 use Rattle.fd_devices.specs.Sound.{HasBranches, IsSideOf}
 use Rattle.fd_devices.proofs.stamps.source_stamp.Goals as goal
 
@@ -20,4 +20,4 @@ returns-clause-settled c =
 pub returns-clause-range : goal.returns-clause-range
 returns-clause-range c =
     let is = c.in_ok-data.ensures.value in
-    subst (λ d. c.source_at.result ≡ Err fault.Range → ¬ (Fits (source d c.args.at.now))) is c.source_at.ensures.range
+    subst (λ d. c.source_at.result ≡ Err fault.Range → ¬ (DeviceFits (source d c.args.at.now))) is c.source_at.ensures.range

@@ -9,7 +9,8 @@ use Rattle.fd_equations.specs.Views.{network_of, stamp_with}
 use Rattle.fd_devices.specs.Devices.{AgreesWith, parts_of_all, stamp_of_all}
 use Rattle.fd_devices.specs.Scripted.{devices_from, layout_counts}
 use Rattle.fd_devices.specs.Settings.{settings_in}
-use Rattle.fd_network.specs.Faults.{first_without, has_small_sums}
+use Rattle.fd_devices.specs.Building.{has_small_sums}
+use Rattle.fd_network.specs.Faults.{first_without}
 use Rattle.fd_network.proofs.Apart.{apart}
 use Rattle.fd_network.proofs.Assembling.{is_network, no_fault, sum_first}
 use Rattle.fd_network.proofs.Filling.{can_hold}
@@ -18,7 +19,7 @@ use Rattle.fd_network.proofs.assembly.assemble.Goals as goal
 pub exchange-requires : goal.exchange-requires
 exchange-requires c =
     let ds = devices_from c.args.layout.now c.args.hertz 0 c.args.elements.now.entries (settings_in c.args.settings.now) in
-    can_hold c.args.layout.now c.args.elements.now.entries ds (stamp_of c.collect.new.all) c.args.parts.now.rows c.requires.size
+    can_hold c.args.layout.now c.args.elements.now.entries ds (stamp_of c.collect.new.stamps.all) c.args.parts.now.rows c.requires.size
     c.in_ok-collect.ensures.collected c.reach_law.ensures (c.requires.reaches (settings_in c.args.settings.now)) c.requires.few c.requires.few_branches c.requires.few_complexes c.requires.few_magnitudes
 
 pub returns-in-Ok-clause-valid : goal.returns-in-Ok-clause-valid
@@ -26,7 +27,7 @@ returns-in-Ok-clause-valid c =
     let layout = c.args.layout.now in
     let ds = devices_from layout c.args.hertz 0 c.args.elements.now.entries (settings_in c.args.settings.now) in
     let collected = c.in_ok-collect.ensures.collected in
-    let a = stamp_of c.collect.new.all in
+    let a = stamp_of c.collect.new.stamps.all in
     let x = c.exchange.ensures.exchanged in
     let sums = subst (λ s. (row col : ℕ) → AreSmall (linear_entry s row col)) (sym (ap (λ (x : StampView). x.terms) collected.stamp)) c.in-Ok.ensures.small.sums in
     let far = subst AreApart (sym (ap (λ (x : StampView). x.loads) collected.stamp)) (apart layout c.args.hertz (2 * complex_count layout) c.args.elements.now.entries (settings_in c.args.settings.now) c.requires.magnitudes) in

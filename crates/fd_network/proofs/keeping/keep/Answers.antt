@@ -8,7 +8,7 @@ use Rattle.std.proofs.lemmas.Result.{err_from_is_err_and}
 use Rattle.dss_layout.specs.Layout.{size_of}
 use Rattle.dss_layout.proofs.CallerLemmas.{take-more}
 use Rattle.fd_equations.specs.Patterns.{IsInside}
-use Rattle.fd_devices.specs.Building.{Fits}
+use Rattle.fd_devices.specs.Building.{DeviceFits}
 use Rattle.fd_devices.specs.Reach.{device_places}
 use Rattle.fd_devices.specs.Scripted.{device_of, devices_from}
 use Rattle.fd_devices.specs.Settings.{own}
@@ -76,7 +76,7 @@ loop-place-preserved c =
       at = subst (IsAt layout hertz es ds (place + 1)) (sym c.after-left.ensures) (next_at layout hertz es ds place left e here c.loop-place.invariant.at);
       kept = subst (AreKeptTo layout hertz es (place + 1)) (sym c.push_reserved.ensures.items) (kept_next layout hertz es place c.loop-place.kept.items e c.in_ok-one.one c.loop-place.invariant.kept here c.in_ok-one.ensures.kept);
       capacity = omega (arith, c.loop-place.invariant.capacity, c.push_reserved.ensures.capacity);
-      fits = subst (All Fits) (sym (take-more ds place d (here_from ds place d _ next))) (All-append Fits (take place ds) (d ∷ []) c.loop-place.invariant.fits (All-cons Fits d [] c.in_ok-one.ensures.settled.fits (All-nil Fits)));
+      fits = subst (All DeviceFits) (sym (take-more ds place d (here_from ds place d _ next))) (All-append DeviceFits (take place ds) (d ∷ []) c.loop-place.invariant.fits (All-cons DeviceFits d [] c.in_ok-one.ensures.settled.fits (All-nil DeviceFits)));
       places = more ∙ places_more ds place d _ c.loop-place.places.items next c.loop-place.invariant.places;
       inside = subst (All (IsInside size)) (sym more) (All-append (IsInside size) c.loop-place.places.items (device_places d) c.loop-place.invariant.inside c.in_ok-one.ensures.inside);
     }
@@ -101,4 +101,4 @@ returns-clause-fits c =
     let count = ap length c.as_slice-entries.ensures.entries in
     let all : length es ≤ place = omega (arith, count, c.len-place-end.ensures, c.loop-place-test.false) in
     let devices : length ds ≤ place = omega (arith, all, devices_length layout c.args.hertz 0 es (settings_in c.args.settings.now)) in
-    subst (All Fits) (take_all place ds devices) c.loop-place.invariant.fits
+    subst (All DeviceFits) (take_all place ds devices) c.loop-place.invariant.fits

@@ -6,6 +6,7 @@ use Rattle.fd_devices.specs.Settings.{settings_of}
 use Rattle.fd_devices.proofs.CallerLemmas.{devices_length}
 use Rattle.fd_network.specs.Assembled.{HaveRoom, parts_network}
 use Rattle.fd_network.specs.Keeping.{room_for}
+use Rattle.fd_network.specs.Stamps.{extents_of}
 use Rattle.fd_devices.specs.Settings.{settings_in}
 use Rattle.fd_network.specs.Faults.{first_out_of_range}
 use Rattle.dss_layout.specs.Limits.{most_complex, most_magnitudes}
@@ -49,6 +50,13 @@ returns-in-Ok-clause-agrees c =
     let hertz = ap (λ (o : Options). o.defaultbasefrequency) c.options.ensures.value in
     let same = same_devices c.args.layout.now _ c.options.result.now.defaultbasefrequency _ c.elements-elements.result.now.entries _ (settings_in c.of-settings.result) _ c.requires.layout hertz c.elements-elements.ensures.entries c.of-settings.ensures in
     subst (λ ds. AgreesWith (parts_network c.args.layout.now c.assemble.new.parts).stamp (parts_of_all ds)) same c.in-Ok.ensures.agrees
+
+pub returns-in-Ok-clause-extents : goal.returns-in-Ok-clause-extents
+returns-in-Ok-clause-extents c =
+    let hertz = ap (λ (o : Options). o.defaultbasefrequency) c.options.ensures.value in
+    let same = same_devices c.args.layout.now _ c.options.result.now.defaultbasefrequency _ c.elements-elements.result.now.entries _
+    (settings_in c.of-settings.result) _ c.requires.layout hertz c.elements-elements.ensures.entries c.of-settings.ensures in
+    c.in-Ok.ensures.extents ∙ ap extents_of same
 
 pub returns-in-Ok-clause-no_blame : goal.returns-in-Ok-clause-no_blame
 returns-in-Ok-clause-no_blame c =

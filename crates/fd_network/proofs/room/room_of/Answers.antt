@@ -33,6 +33,7 @@ loop-place-preserved c =
     let here = ap (λ es. slice_get es c.loop-place.place) (sym c.as_slice-entries.ensures.entries) ∙ sym c.get_index.ensures.entry ∙ ap (option_map deref_pair) c.unwrap.ensures in
     let more = one_more es place e here in
     record {
+      elements = c.loop-place.invariant.elements;
       terms = omega (arith, c.loop-place.invariant.terms, c.most_terms.ensures.value, more (λ x. most_terms x.1));
       loads = omega (arith, c.loop-place.invariant.loads, c.most_loads.ensures.value, more (λ x. most_loads x.1));
       constants = omega (arith, c.loop-place.invariant.constants, c.most_constants.ensures.value, more (λ x. most_constants x.1));

@@ -5,16 +5,15 @@ use Rattle.std.specs.Map.Iter.{deref_pair}
 use Rattle.std.proofs.lemmas.List.{take_all}
 use Rattle.std.proofs.lemmas.List.Elements.{All-append, All-cons, All-nil}
 use Rattle.dss_layout.proofs.CallerLemmas.{take-more}
-use Rattle.fd_devices.specs.Building.{Fits, HasSmallSums}
+use Rattle.fd_devices.specs.Building.{DeviceFits, HasSmallSums, has_small_sums}
 use Rattle.fd_system.specs.System.{StampView}
 use Rattle.fd_system.proofs.CallerLemmas.{room_then}
 use Rattle.fd_devices.specs.Scripted.{device_of, devices_from}
 use Rattle.fd_devices.specs.Settings.{own}
 use Rattle.fd_devices.proofs.CallerLemmas.{devices_length}
 use Rattle.fd_devices.specs.Settings.{settings_in}
-use Rattle.fd_network.specs.Faults.{has_small_sums}
-use Rattle.fd_network.proofs.Faulty.{first_at, holds_next, sums_decide}
-use Rattle.fd_network.proofs.Sums.{IsSmallAt}
+use Rattle.fd_network.proofs.Faulty.{first_at, holds_next}
+use Rattle.fd_network.proofs.Sums.{IsSmallAt, at_small, small_at}
 use Rattle.fd_network.proofs.Taking.{IsAt, device_next, here_from, next_at, taken_at}
 use Rattle.fd_network.proofs.Walking.{stands_at}
 use Rattle.fd_network.proofs.stamps.check_sums.Goals as goal
@@ -58,7 +57,7 @@ returns-in_err-stamp_at-clause-fault c =
     let ds = devices_from layout hertz 0 es (settings_in c.args.settings.now) in
     let here = ap (λ es. slice_get es c.loop-place.place) (sym c.as_slice-entries.ensures.entries) ∙ sym c.get_index.ensures.entry ∙ ap (option_map deref_pair) c.unwrap.ensures in
     let next = device_next layout hertz es ds place left e here c.loop-place.invariant.at in
-    absurd (c.in_err-stamp_at.ensures.fault.1 (holds_next Fits ds place _ _ c.requires.fits next))
+    absurd (c.in_err-stamp_at.ensures.fault.1 (holds_next DeviceFits ds place _ _ c.requires.fits next))
 
 pub returns-then-not-have_small_sums-clause-fault : goal.returns-then-not-have_small_sums-clause-fault
 returns-then-not-have_small_sums-clause-fault c =
@@ -72,9 +71,11 @@ returns-then-not-have_small_sums-clause-fault c =
     let here = ap (λ es. slice_get es c.loop-place.place) (sym c.as_slice-entries.ensures.entries) ∙ sym c.get_index.ensures.entry ∙ ap (option_map deref_pair) c.unwrap.ensures in
     let next = device_next layout hertz es ds place left e here c.loop-place.invariant.at in
     let all = c.args.rows.now.terms in
+    let d = device_of layout hertz place e.1 (own e.1 left) in
     let terms = c.deref.ensures.value ∙ ap (λ (a : StampView). a.terms) c.in_ok-stamp_at.ensures.stamp in
-    first_at (has_small_sums all) (HasSmallSums all) (sums_decide all) ds place _ _ c.loop-place.invariant.small next
-    (λ h. not_both c.have_small_sums.result c.if-not-have_small_sums.true (c.have_small_sums.ensures.1 (subst (All (IsSmallAt all)) (sym terms) h)))
+    first_at (has_small_sums all) ds place _ _ c.loop-place.invariant.small next
+    (λ h. not_both c.have_small_sums.result c.if-not-have_small_sums.true
+    (c.have_small_sums.ensures.1 (subst (All (IsSmallAt all)) (sym terms) (small_at all d h))))
 
 pub after-left-requires : goal.after-left-requires
 after-left-requires c =
@@ -104,7 +105,7 @@ loop-place-preserved c =
     let all = c.args.rows.now.terms in
     let P = HasSmallSums all in
     let terms = c.deref.ensures.value ∙ ap (λ (a : StampView). a.terms) c.in_ok-stamp_at.ensures.stamp in
-    let here_small = subst (All (IsSmallAt all)) terms (c.have_small_sums.ensures.0 c.if-not-have_small_sums.false) in
+    let here_small = at_small all d (subst (All (IsSmallAt all)) terms (c.have_small_sums.ensures.0 c.if-not-have_small_sums.false)) in
     record {
       at = subst (IsAt layout hertz es ds (place + 1)) (sym c.after-left.ensures) (next_at layout hertz es ds place left e here c.loop-place.invariant.at);
       small = subst (All P) (sym (take-more ds place d (here_from ds place d _ next))) (All-append P (take place ds) (d ∷ []) c.loop-place.invariant.small (All-cons P d [] here_small (All-nil P)));

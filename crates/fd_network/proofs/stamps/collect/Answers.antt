@@ -5,19 +5,24 @@ use Rattle.std.proofs.lemmas.List.{take_all}
 use Rattle.std.proofs.lemmas.Result.{err_from_is_err_and}
 use Rattle.dss_layout.specs.Layout.{complex_count, size_of}
 use Rattle.dss_layout.proofs.CallerLemmas.{take-more}
-use Rattle.fd_devices.specs.Building.{AreCollected, Fits}
+use Rattle.fd_devices.specs.Building.{AreCollected, device_fits}
 use Rattle.fd_system.specs.Stamps.{stamp_of}
 use Rattle.fd_system.proofs.CallerLemmas.{room_then}
 use Rattle.fd_devices.specs.Scripted.{device_of, devices_from}
 use Rattle.fd_devices.specs.Settings.{own}
 use Rattle.fd_devices.proofs.CallerLemmas.{collected_more, devices_length}
 use Rattle.fd_devices.specs.Settings.{settings_in}
-use Rattle.fd_network.specs.Faults.{fits}
-use Rattle.fd_network.proofs.Faulty.{first_at, fits_decides}
+use Rattle.fd_network.proofs.Faulty.{first_at}
+use Rattle.fd_network.specs.Stamps.{IsStampsRoomSame, extent_of, extents_of}
+use Rattle.fd_network.specs.declared.extents.Stamps.{Stamps}
 use Rattle.fd_network.proofs.Filling.{few_next, fits_beside}
+use Rattle.fd_network.proofs.Parting.{extents_few, extents_more}
 use Rattle.fd_network.proofs.Taking.{IsAt, device_next, here_from, next_at, taken_at}
 use Rattle.fd_network.proofs.Walking.{stands_at}
 use Rattle.fd_network.proofs.stamps.collect.Goals as goal
+
+room_both : (s t u : Stamps) → IsStampsRoomSame s t → IsStampsRoomSame t u → IsStampsRoomSame s u
+room_both s t u h k = record { all = room_then s.all t.all u.all h.all k.all; extents = k.extents ∙ h.extents }
 
 pub stamp_at-requires-clause-taken : goal.stamp_at-requires-clause-taken
 stamp_at-requires-clause-taken c =
@@ -57,10 +62,10 @@ returns-in_err-stamp_at-clause-fault c =
     let next = device_next layout hertz es ds place left e here c.loop-place.invariant.at in
     let p = err_from_is_err_and c.from_residual.result c.from_residual.ensures.1 in
     let fault = c.in_err-stamp_at.ensures.fault in
-    rw (p.1, p.2) (first_at fits Fits fits_decides ds place _ _ c.loop-place.invariant.made.fits next fault.1 ∙ ap Some (sym fault.0))
+    rw (p.1, p.2) (first_at device_fits ds place _ _ c.loop-place.invariant.made.fits next fault.1 ∙ ap Some (sym fault.0))
 
-pub append_reserved-requires-clause-terms : goal.append_reserved-requires-clause-terms
-append_reserved-requires-clause-terms c =
+pub push_reserved-requires-clause-terms : goal.push_reserved-requires-clause-terms
+push_reserved-requires-clause-terms c =
     let es = c.args.elements.now.entries in
     let layout = c.args.layout.now in
     let hertz = c.args.hertz in
@@ -69,11 +74,11 @@ append_reserved-requires-clause-terms c =
     let e = deref_pair c.unwrap.result in
     let ds = devices_from layout hertz 0 es (settings_in c.args.settings.now) in
     let here = ap (λ es. slice_get es c.loop-place.place) (sym c.as_slice-entries.ensures.entries) ∙ sym c.get_index.ensures.entry ∙ ap (option_map deref_pair) c.unwrap.ensures in
-    let beside = fits_beside es place e here (stamp_of c.loop-place.all) (stamp_of c.stamp_at.new.into) c.loop-place.invariant.few c.in_ok-stamp_at.ensures.few in
-    omega (arith, beside.terms, c.requires.room.terms, c.loop-place.invariant.room.terms)
+    let beside = fits_beside es place e here (stamp_of c.loop-place.stamps.all) (stamp_of c.stamp_at.new.into) c.loop-place.invariant.few c.in_ok-stamp_at.ensures.few in
+    omega (arith, beside.terms, c.requires.room.all.terms, c.loop-place.invariant.room.all.terms)
 
-pub append_reserved-requires-clause-loads : goal.append_reserved-requires-clause-loads
-append_reserved-requires-clause-loads c =
+pub push_reserved-requires-clause-loads : goal.push_reserved-requires-clause-loads
+push_reserved-requires-clause-loads c =
     let es = c.args.elements.now.entries in
     let layout = c.args.layout.now in
     let hertz = c.args.hertz in
@@ -82,11 +87,11 @@ append_reserved-requires-clause-loads c =
     let e = deref_pair c.unwrap.result in
     let ds = devices_from layout hertz 0 es (settings_in c.args.settings.now) in
     let here = ap (λ es. slice_get es c.loop-place.place) (sym c.as_slice-entries.ensures.entries) ∙ sym c.get_index.ensures.entry ∙ ap (option_map deref_pair) c.unwrap.ensures in
-    let beside = fits_beside es place e here (stamp_of c.loop-place.all) (stamp_of c.stamp_at.new.into) c.loop-place.invariant.few c.in_ok-stamp_at.ensures.few in
-    omega (arith, beside.loads, c.requires.room.loads, c.loop-place.invariant.room.loads)
+    let beside = fits_beside es place e here (stamp_of c.loop-place.stamps.all) (stamp_of c.stamp_at.new.into) c.loop-place.invariant.few c.in_ok-stamp_at.ensures.few in
+    omega (arith, beside.loads, c.requires.room.all.loads, c.loop-place.invariant.room.all.loads)
 
-pub append_reserved-requires-clause-constants : goal.append_reserved-requires-clause-constants
-append_reserved-requires-clause-constants c =
+pub push_reserved-requires-clause-constants : goal.push_reserved-requires-clause-constants
+push_reserved-requires-clause-constants c =
     let es = c.args.elements.now.entries in
     let layout = c.args.layout.now in
     let hertz = c.args.hertz in
@@ -95,8 +100,25 @@ append_reserved-requires-clause-constants c =
     let e = deref_pair c.unwrap.result in
     let ds = devices_from layout hertz 0 es (settings_in c.args.settings.now) in
     let here = ap (λ es. slice_get es c.loop-place.place) (sym c.as_slice-entries.ensures.entries) ∙ sym c.get_index.ensures.entry ∙ ap (option_map deref_pair) c.unwrap.ensures in
-    let beside = fits_beside es place e here (stamp_of c.loop-place.all) (stamp_of c.stamp_at.new.into) c.loop-place.invariant.few c.in_ok-stamp_at.ensures.few in
-    omega (arith, beside.constants, c.requires.room.constants, c.loop-place.invariant.room.constants)
+    let beside = fits_beside es place e here (stamp_of c.loop-place.stamps.all) (stamp_of c.stamp_at.new.into) c.loop-place.invariant.few c.in_ok-stamp_at.ensures.few in
+    omega (arith, beside.constants, c.requires.room.all.constants, c.loop-place.invariant.room.all.constants)
+
+pub push_reserved-requires-clause-extents : goal.push_reserved-requires-clause-extents
+push_reserved-requires-clause-extents c =
+    let ds = devices_from c.args.layout.now c.args.hertz 0 c.args.elements.now.entries (settings_in c.args.settings.now) in
+    let count = ap length c.as_slice-entries.ensures.entries in
+    let few = extents_few ds c.loop-place.place in
+    omega (
+      arith,
+      few,
+      ap length c.loop-place.invariant.extents,
+      count,
+      c.len-place-end.ensures,
+      c.loop-place-test.true,
+      c.loop-place.auto.place-end,
+      c.requires.room.extents,
+      c.loop-place.invariant.room.extents,
+    )
 
 pub after-left-requires : goal.after-left-requires
 after-left-requires c =
@@ -126,16 +148,30 @@ loop-place-preserved c =
     let m = length layout.nodes in
     let n = complex_count layout in
     let size = size_of layout in
-    let more = collected_more m n size (take place es) e (take place ds) d (stamp_of c.loop-place.all) (stamp_of c.stamp_at.new.into) (stamp_of c.append_reserved.new.self)
-    c.loop-place.invariant.made c.in_ok-stamp_at.ensures.settled c.in_ok-stamp_at.ensures.stamp c.append_reserved.ensures.stamp in
+    let more = collected_more m n size (take place es) e (take place ds) d (stamp_of c.loop-place.stamps.all) (stamp_of c.stamp_at.new.into) (stamp_of c.push_reserved.new.self.all)
+    c.loop-place.invariant.made c.in_ok-stamp_at.ensures.settled c.in_ok-stamp_at.ensures.stamp c.push_reserved.ensures.stamp in
     record {
       at = subst (IsAt layout hertz es ds (place + 1)) (sym c.after-left.ensures) (next_at layout hertz es ds place left e here c.loop-place.invariant.at);
-      made = subst (λ xs. AreCollected m n size xs (take (place + 1) ds) (stamp_of c.append_reserved.new.self)) (sym (take-more es place e here))
-          (subst (λ xs. AreCollected m n size (take place es ++ e ∷ []) xs (stamp_of c.append_reserved.new.self)) (sym (take-more ds place d (here_from ds place d _ next))) more);
-      few = few_next es place e here (stamp_of c.loop-place.all) (stamp_of c.stamp_at.new.into) (stamp_of c.append_reserved.new.self) c.loop-place.invariant.few c.in_ok-stamp_at.ensures.few c.append_reserved.ensures.stamp;
-      room = room_then c.clear.new.self c.loop-place.all c.append_reserved.new.self c.loop-place.invariant.room c.append_reserved.ensures.room;
+      made = subst (λ xs. AreCollected m n size xs (take (place + 1) ds) (stamp_of c.push_reserved.new.self.all)) (sym (take-more es place e here))
+          (subst (λ xs. AreCollected m n size (take place es ++ e ∷ []) xs (stamp_of c.push_reserved.new.self.all)) (sym (take-more ds place d (here_from ds place d _ next))) more);
+      few = few_next es place e here (stamp_of c.loop-place.stamps.all) (stamp_of c.stamp_at.new.into) (stamp_of c.push_reserved.new.self.all) c.loop-place.invariant.few c.in_ok-stamp_at.ensures.few c.push_reserved.ensures.stamp;
+      extents = c.push_reserved.ensures.extents
+          ∙ (λ i. c.loop-place.invariant.extents i ++ extent_of (c.in_ok-stamp_at.ensures.stamp i) ∷ [])
+          ∙ sym (extents_more (take place ds) d) ∙ ap extents_of (sym (take-more ds place d (here_from ds place d _ next)));
+      room = room_both c.clear.new.self c.loop-place.stamps c.push_reserved.new.self c.loop-place.invariant.room c.push_reserved.ensures.room;
       one = room_then c.args.one.now c.loop-place.one c.stamp_at.new.into c.loop-place.invariant.one c.stamp_at.ensures.room;
     }
+
+pub returns-clause-extents : goal.returns-clause-extents
+returns-clause-extents c =
+    let es = c.args.elements.now.entries in
+    let layout = c.args.layout.now in
+    let place = c.loop-place.place in
+    let ds = devices_from layout c.args.hertz 0 es (settings_in c.args.settings.now) in
+    let count = ap length c.as_slice-entries.ensures.entries in
+    let all : length es ≤ place = omega (arith, count, c.len-place-end.ensures, c.loop-place-test.false) in
+    let devices : length ds ≤ place = omega (arith, all, devices_length layout c.args.hertz 0 es (settings_in c.args.settings.now)) in
+    c.loop-place.invariant.extents ∙ ap extents_of (take_all place ds devices)
 
 pub returns-clause-collected : goal.returns-clause-collected
 returns-clause-collected c =
@@ -149,5 +185,5 @@ returns-clause-collected c =
     let m = length layout.nodes in
     let n = complex_count layout in
     let size = size_of layout in
-    subst (λ xs. AreCollected m n size xs ds (stamp_of c.loop-place.all)) (take_all place es all)
-    (subst (λ xs. AreCollected m n size (take place es) xs (stamp_of c.loop-place.all)) (take_all place ds devices) c.loop-place.invariant.made)
+    subst (λ xs. AreCollected m n size xs ds (stamp_of c.loop-place.stamps.all)) (take_all place es all)
+    (subst (λ xs. AreCollected m n size (take place es) xs (stamp_of c.loop-place.stamps.all)) (take_all place ds devices) c.loop-place.invariant.made)

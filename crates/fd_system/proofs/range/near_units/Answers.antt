@@ -1,6 +1,7 @@
 use Rattle.std.proofs.Common.{◌≡◌, ◌∙◌, ◌*ℤ◌, ◌^◌, ℤ, pos, neg_ℤ, nat_abs, Option, Some, None, Bool, true, false, cond, ◌&&◌, int_le, arith}
 use Rattle.std.specs.Int.{w128}
 use Rattle.std.specs.Option.{IfSome, IfNone}
+use Rattle.std.proofs.lemmas.Bool.{leb-true}
 use Rattle.std.proofs.lemmas.Int.{to_z-of_z, ints}
 use Rattle.fd_exact.specs.Rounding.{near_div}
 use Rattle.fd_arith.specs.Limits.{bounded}
@@ -19,7 +20,7 @@ none_by true None z e h = absurd cc
 none_by false None z e h = λ s. let f = h s in absurd cc
 
 small-true : (z : ℤ) → AreSmall z → (int_le (neg_ℤ (pos (2 ^ 100))) z && int_le z (pos (2 ^ 100))) ≡ true
-small-true z s = let a = s.0 in let b = s.1 in grind (arith, ints)
+small-true z s = let size = leb-true (nat_abs z) (2 ^ 54) s in grind (arith, ints)
 
 units_some : (o : Option ℤ) (z : ℤ) → o ≡ bounded z → IfSome o (λ u. u ≡ z)
 units_some o z e = some_by _ o z e
@@ -32,4 +33,5 @@ returns c =
     let n = to_z-of_z w128 c.args.num c.ranges.num in
     let d = to_z-of_z w128 c.args.den c.ranges.den in
     let e = c.near_at.ensures ∙ (λ i. bounded (near_div (n i *ℤ pos (2 ^ 40)) (nat_abs (d i)))) in
-    record { some = units_some _ _ e; none = units_none _ _ e }
+    let z = near_div (c.args.num *ℤ pos (2 ^ 40)) (nat_abs c.args.den) in
+    record { some = units_some _ z e; none = units_none _ z e }

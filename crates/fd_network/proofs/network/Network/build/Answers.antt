@@ -1,26 +1,41 @@
-use Rattle.std.proofs.Common.{◌∙◌, ap, subst, sym}
-use Rattle.dss_layout.specs.Layout.{layout_of}
-use Rattle.fd_devices.specs.Settings.{settings_of}
-use Rattle.fd_network.specs.Keeping.{Reaches, room_for}
-use Rattle.fd_network.proofs.Filling.{reaches}
+use Rattle.std.proofs.Common.{◌≡◌, ◌∙◌, map, ap, refl, subst, sym}
+use Rattle.dss_layout.specs.Layout.{size_of}
+use Rattle.fd_equations.specs.Conditions.{IsNetwork}
+use Rattle.fd_equations.specs.Views.{NetworkView, network_of, stamp_with}
+use Rattle.fd_devices.specs.Devices.{device_stamp}
+use Rattle.fd_devices.specs.Scripted.{devices_of}
+use Rattle.fd_devices.specs.Settings.{AreSettings, Settings, settings_of}
+use Rattle.fd_network.proofs.Parting.{joined_rows, stamps_again}
 use Rattle.fd_network.proofs.network.Network.build.Goals as goal
 
-pub fill-requires-clause-reach : goal.fill-requires-clause-reach
-fill-requires-clause-reach c =
-    let circuit = c.args.circuit.now in
-    reaches (layout_of circuit.elements) circuit.options.defaultbasefrequency circuit.elements (settings_of c.args.at.now c.args.powers.now) c.in_ok-parts.parts.rows.places
-    c.in_ok-kept.field-0.places.items c.in_ok-kept.ensures.places c.in_ok-parts.ensures.places
+pub invariant_of-result : goal.invariant_of-result
+invariant_of-result c =
+    let parts = c.in_ok-parts.field-0.parts in
+    let ds = devices_of c.args.circuit.now (settings_of c.args.at.now c.args.powers.now) in
+    let stamp = stamp_with parts.constants.items parts.rows.terms parts.rows.loads parts.draw in
+    let counts = c.counts-counts.ensures in (
+      record {
+        rows = joined_rows ds c.counts-counts.result _ parts counts c.in_ok-parts.ensures.extents (ap (λ (v : NetworkView). v.stamp) c.in_ok-parts.ensures.network);
+        network = subst (λ n. IsNetwork (network_of n stamp)) (sym counts) c.in_ok-parts.ensures.valid;
+        size = subst (λ n. (network_of n stamp).size ≡ size_of c.in_ok-layout.layout) (sym counts) refl;
+      },
+      c.in_ok-parts.ensures.size,
+      counts,
+      c.in_ok-parts.ensures.roomy,
+    )
 
 pub returns-clause-built : goal.returns-clause-built
 returns-clause-built c =
     let circuit = c.args.circuit.now in
-    let layout = layout_of circuit.elements in
-    let hertz = circuit.options.defaultbasefrequency in
+    let settings : settings_of c.in_ok-own_at.own_at c.in_ok-own_powers.own_powers ≡ settings_of c.args.at.now c.args.powers.now =
+    λ i. settings_of (c.in_ok-own_at.ensures i) (c.in_ok-own_powers.ensures i) in
     record {
       layout = c.in_ok-layout.ensures;
-      kept = c.in_ok-kept.ensures.kept;
-      reach = subst (Reaches layout hertz circuit.elements) (sym c.fill.ensures.places)
-          (reaches layout hertz circuit.elements (settings_of c.args.at.now c.args.powers.now) c.in_ok-parts.parts.rows.places
-          c.in_ok-kept.field-0.places.items c.in_ok-kept.ensures.places c.in_ok-parts.ensures.places);
-      room = c.room_of-room.ensures ∙ ap room_for c.elements.ensures.entries;
+      settings = subst (AreSettings circuit.elements) (sym settings) c.requires.settings;
+      stamps = stamps_again (devices_of circuit (settings_of c.args.at.now c.args.powers.now)) _ _ _ _ _
+          c.in_ok-parts.ensures.extents (ap (λ (v : NetworkView). v.stamp) c.in_ok-parts.ensures.network)
+          ∙ ap (λ (s : Settings). map device_stamp (devices_of circuit s)) (sym settings);
+      kept = c.in_ok-parts.ensures.kept;
+      reach = c.in_ok-parts.ensures.reach;
+      room = c.in_ok-parts.ensures.room;
     }

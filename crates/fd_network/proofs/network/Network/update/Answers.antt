@@ -1,23 +1,55 @@
-use Rattle.std.proofs.Common.{◌∙◌, ap, subst, sym}
+use Rattle.std.proofs.Common.{◌≡◌, ◌∙◌, map, ap, refl, subst, sym}
 use Rattle.dss_layout.specs.Layout.{layout_of}
+use Rattle.fd_system.specs.System.{joined}
+use Rattle.fd_equations.specs.Conditions.{IsNetwork}
+use Rattle.fd_equations.specs.Views.{NetworkView, network_of, stamp_with}
+use Rattle.fd_devices.specs.Devices.{device_stamp}
+use Rattle.fd_devices.specs.Scripted.{devices_of}
+use Rattle.fd_devices.specs.Settings.{AreSettings, Settings, settings_of}
+use Rattle.fd_network.specs.Assembled.{HaveRoom}
 use Rattle.fd_network.specs.Built.{BuiltView}
 use Rattle.fd_network.specs.Keeping.{AreKept, Reaches}
+use Rattle.fd_network.proofs.Parting.{joined_rows, stamps_again}
 use Rattle.fd_network.proofs.network.Network.update.Goals as goal
 
-pub fill-requires-clause-reach : goal.fill-requires-clause-reach
-fill-requires-clause-reach c =
+pub fill-filled-requires-clause-reach : goal.fill-filled-requires-clause-reach
+fill-filled-requires-clause-reach c =
     let circuit = c.args.circuit.now in
     subst (λ (v : BuiltView). Reaches (layout_of circuit.elements) circuit.options.defaultbasefrequency circuit.elements v.places) (sym c.self.view_is) c.requires.built.reach
 
-pub returns-clause-built : goal.returns-clause-built
-returns-clause-built c =
+pub invariant_of-self : goal.invariant_of-self
+invariant_of-self c =
+    let parts = c.fill-filled.new.parts in
+    let ds = devices_of c.args.circuit.now (settings_of c.args.at.now c.args.powers.now) in
+    let inv = c.self.invariant in (
+      record {
+        rows = joined_rows ds c.self.inside.counts _ parts inv.2 c.in-Ok.ensures.extents (ap (λ (v : NetworkView). v.stamp) c.in-Ok.ensures.network);
+        network = subst (λ n. IsNetwork (network_of n (stamp_with parts.constants.items parts.rows.terms parts.rows.loads parts.draw))) (sym inv.2) c.in-Ok.ensures.valid;
+        size = inv.0.size;
+      },
+      c.fill-filled.ensures.size,
+      inv.2,
+      subst (λ r. HaveRoom r parts c.fill-filled.new.lists) (sym (ap (λ (v : BuiltView). v.room) c.self.view_is ∙ c.requires.built.room)) c.fill-filled.ensures.room,
+    )
+
+pub returns-in-Ok-clause-built : goal.returns-in-Ok-clause-built
+returns-in-Ok-clause-built c =
     let circuit = c.args.circuit.now in
     let layout = layout_of circuit.elements in
     let hertz = circuit.options.defaultbasefrequency in
+    let taps = c.replace.ensures ∙ c.as_slice.ensures in
+    let closed = c.replace-in-Ok.ensures ∙ c.as_slice-in-Ok.ensures in
+    let loads = c.replace-in-Ok-2.ensures ∙ c.as_slice-in-Ok-2.ensures in
+    let settings : record { taps = c.replace.new.self; closed = c.replace-in-Ok.new.self; powers = c.replace-in-Ok-2.new.self } ≡ settings_of c.args.at.now c.args.powers.now =
+    λ i. record { taps = taps i; closed = closed i; powers = loads i } in
     record {
       layout = ap (λ (v : BuiltView). v.layout) c.self.view_is ∙ c.requires.built.layout;
+      settings = subst (AreSettings circuit.elements) (sym settings) c.requires.settings;
+      stamps = stamps_again (devices_of circuit (settings_of c.args.at.now c.args.powers.now)) _ _ _ _ _
+          c.in-Ok.ensures.extents (ap (λ (v : NetworkView). v.stamp) c.in-Ok.ensures.network)
+          ∙ ap (λ (s : Settings). map device_stamp (devices_of circuit s)) (sym settings);
       kept = subst (λ (v : BuiltView). AreKept layout hertz circuit.elements v.kept) (sym c.self.view_is) c.requires.built.kept;
-      reach = subst (Reaches layout hertz circuit.elements) (sym c.fill.ensures.places)
+      reach = subst (Reaches layout hertz circuit.elements) (sym c.fill-filled.ensures.places)
           (subst (λ (v : BuiltView). Reaches layout hertz circuit.elements v.places) (sym c.self.view_is) c.requires.built.reach);
       room = ap (λ (v : BuiltView). v.room) c.self.view_is ∙ c.requires.built.room;
     }

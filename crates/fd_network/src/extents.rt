@@ -1,0 +1,82 @@
+// What elements add, one after another in one list of each kind, with how much of it each has.
+ghost use Rattle.std.specs.Prelude.{◌≡◌, ◌+◌, ◌<◌, ◌≤◌, ◌^◌, ◌++◌, ◌∷◌, [], IfOk, length, vec_capacity};
+ghost use Rattle.fd_system.specs.Stamps.{stamp_of};
+ghost use Rattle.fd_system.specs.System.{beside, joined};
+ghost use Rattle.fd_network.specs.Stamps.{HaveStampsRoom, IsStampsRoomSame, extent_of};
+
+use crate::room::Room;
+use fd_system::Stamp;
+use std::alloc::{AllocError, Global};
+
+/// How many constants, contributions and part loads an element adds, and what it draws at nominal voltage, in whole microamperes.
+#[derive(Clone, Copy, Debug)]
+pub struct Extent {
+    pub constants: usize,
+    pub terms: usize,
+    pub loads: usize,
+    pub draw: u128,
+}
+
+impl Extent {
+    /// How much one element adds.
+    pub fn of(one: &Stamp) -> Self
+        ensures { result ≡ extent_of (stamp_of one.now) }
+    {
+        Extent {
+            constants: one.constants.len(),
+            terms: one.terms.len(),
+            loads: one.loads.len(),
+            draw: one.draw,
+        }
+    }
+}
+
+/// What elements add, one after another, and how much of it each has.
+#[derive(Drop)]
+pub struct Stamps {
+    pub all: Stamp,
+    pub extents: Vec<Extent>,
+}
+
+impl Stamps {
+    /// What no element adds, with this room.
+    ///
+    /// # Errors
+    /// `AllocError` where the memory is refused.
+    pub fn with_room(alloc: Global, room: Room) -> Result<Self, AllocError>
+        ensures { IfOk result (HaveStampsRoom room) }
+    {
+        Ok(Stamps {
+            all: Stamp::with_room(alloc, room.terms, room.loads, room.constants)?,
+            extents: Vec::with_capacity(alloc, room.elements)?,
+        })
+    }
+
+    /// Takes out what was added. The lists keep their room.
+    pub fn clear(&mut self)
+        ensures stamp { stamp_of self.new.all ≡ joined [] }
+        ensures extents { self.new.extents.items ≡ [] }
+        ensures room { IsStampsRoomSame self.old self.new }
+    {
+        self.all.clear();
+        self.extents.clear();
+    }
+
+    /// Adds what one more element adds, for which the lists have room. Takes no memory.
+    pub fn push_reserved(&mut self, one: &Stamp)
+        requires draw { self.old.all.draw + one.now.draw < 2 ^ 128 }
+        requires terms { length self.old.all.terms.items + length one.now.terms.items
+            ≤ vec_capacity self.old.all.terms }
+        requires loads { length self.old.all.loads.items + length one.now.loads.items
+            ≤ vec_capacity self.old.all.loads }
+        requires constants { length self.old.all.constants.items + length one.now.constants.items
+            ≤ vec_capacity self.old.all.constants }
+        requires extents { length self.old.extents.items + 1 ≤ vec_capacity self.old.extents }
+        ensures stamp { stamp_of self.new.all ≡ beside (stamp_of self.old.all) (stamp_of one.now) }
+        ensures extents { self.new.extents.items ≡ self.old.extents.items ++ extent_of (stamp_of one.now) ∷ [] }
+        ensures room { IsStampsRoomSame self.old self.new }
+    {
+        self.all.append_reserved(one);
+        self.extents.push_reserved(Extent::of(one));
+    }
+}
