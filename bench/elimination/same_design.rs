@@ -1,7 +1,8 @@
 // The elimination of crates/fd_inverse in plain Rust, in the same design: cells of 64 bits, the places of the pivot row that are not 0
-// listed once for each column, one multiplication a product, the same roundings and limits; nothing is proved. The list has the entry beside
-// each place, which is faster here than a copy of the pivot row, since it saves a test of an index. It reads matrices from standard input
-// and inverts two full ones besides. A line has the size, the microseconds and the exclusive or of all entries of the inverse.
+// listed once for each column, one multiplication a product, of which the upper half is taken where the factor is short, the same
+// roundings and limits; nothing is proved. The list has the entry beside each place, which is faster here than a copy of the pivot row,
+// since it saves a test of an index. It reads matrices from standard input and inverts two full ones besides. A line has the size, the
+// microseconds and the exclusive or of all entries of the inverse.
 use std::io::Read;
 use std::time::Instant;
 
@@ -10,6 +11,7 @@ const ENTRY_LIMIT: u128 = 1 << 62;
 const INVERSE_LIMIT: u128 = 1 << 56;
 const LEAST_PIVOT: u64 = 1 << 8;
 const SHORT_LIMIT: i128 = 1 << 101;
+const FACTOR_LIMIT: u64 = 1 << 39;
 
 fn quotient(n: i64, d: i64) -> i128 {
     let by = d.unsigned_abs() as u128;
@@ -22,8 +24,32 @@ fn nearest(z: i128) -> i128 {
     (z + half) >> 40
 }
 
+// The upper half of 128 bits, to the nearest.
+fn nearest_upper(z: i128) -> i64 {
+    let half = if z < 0 { (1 << 63) - 1 } else { 1 << 63 };
+    ((z + half) >> 64) as i64
+}
+
+fn is_entry(z: i64) -> bool {
+    -(1 << 62) <= z && z <= 1 << 62
+}
+
 #[inline(never)]
-fn reduce(row: &mut [i64], list: &[(u32, i64)], factor: i64) -> bool {
+fn reduce_short(row: &mut [i64], list: &[(u32, i64)], factor: i64) -> bool {
+    let scaled = factor << 24;
+    for (place, other) in list {
+        let entry = &mut row[*place as usize];
+        let left = *entry - nearest_upper(scaled as i128 * *other as i128);
+        if !is_entry(left) {
+            return false;
+        }
+        *entry = left;
+    }
+    true
+}
+
+#[inline(never)]
+fn reduce_long(row: &mut [i64], list: &[(u32, i64)], factor: i64) -> bool {
     for (place, other) in list {
         let entry = &mut row[*place as usize];
         let z = factor as i128 * *other as i128;
@@ -42,6 +68,14 @@ fn reduce(row: &mut [i64], list: &[(u32, i64)], factor: i64) -> bool {
         }
     }
     true
+}
+
+fn reduce(row: &mut [i64], list: &[(u32, i64)], factor: i64) -> bool {
+    if factor.unsigned_abs() < FACTOR_LIMIT {
+        reduce_short(row, list, factor)
+    } else {
+        reduce_long(row, list, factor)
+    }
 }
 
 fn clear_row(row: &mut [i64], pivot: i64, list: &[(u32, i64)], column: usize) -> bool {
@@ -68,7 +102,7 @@ fn pivot_row(cells: &[i64], used: &[bool], width: usize, column: usize) -> (usiz
     (best, most)
 }
 
-fn invert(matrix: &[i128], n: usize) -> Option<Vec<i128>> {
+fn invert(matrix: Vec<i128>, n: usize) -> Option<Vec<i128>> {
     let width = 2 * n;
     let mut cells = Vec::with_capacity(n * width);
     for row in 0..n {
@@ -95,6 +129,7 @@ fn invert(matrix: &[i128], n: usize) -> Option<Vec<i128>> {
         used[best] = true;
         pivots.push(best);
     }
+    drop(matrix);
     let mut inverse = Vec::with_capacity(n * n);
     for (column, best) in pivots.iter().enumerate() {
         for place in n..width {
@@ -120,7 +155,7 @@ fn full_matrix(n: usize) -> Vec<i128> {
     cells
 }
 
-fn time(n: usize, matrix: &[i128]) {
+fn time(n: usize, matrix: Vec<i128>) {
     let start = Instant::now();
     let inverse = invert(matrix, n);
     let took = start.elapsed();
@@ -148,9 +183,9 @@ fn main() {
     let mut text = String::new();
     std::io::stdin().read_to_string(&mut text).expect("matrices on standard input");
     for (n, cells) in matrices(&text) {
-        time(n, &cells);
+        time(n, cells);
     }
     for n in [168, 528] {
-        time(n, &full_matrix(n));
+        time(n, full_matrix(n));
     }
 }

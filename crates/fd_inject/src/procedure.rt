@@ -16,13 +16,26 @@ use crate::updates::update_for;
 use fd_equations::{Network, Point};
 use fd_mat::Dense;
 use fd_system::LoadAt;
-use std::alloc::Global;
+use std::alloc::{AllocError, Global};
+
+// The most matrices of the network's size that are in use at a time.
+const MATRICES: usize = 2;
 
 // An iterate and its number.
 #[derive(Drop)]
 struct Reached {
     number: u32,
     x: Vec<i128>,
+}
+
+// Takes memory for the matrices that are in use at a time and gives it back, if it is there. The C library's heap asks the system anew for a
+// block that is larger than each one it has given back, and clears its pages for it; after this it keeps a matrix's memory for the next one.
+fn keep_memory(alloc: Global, size: u32)
+    requires { size ≤ 2 ^ 11 }
+{
+    let width = size as usize;
+    let room: Result<Vec<i128>, AllocError> = Vec::with_capacity(alloc, MATRICES * (width * width));
+    drop(room);
 }
 
 // The inverse of the start matrix.
@@ -32,7 +45,7 @@ fn start_inverse(alloc: Global, net: &Network) -> Result<Dense, SolveFault>
     ensures small { IfOk result (λ c. EntriesWithin c (2 ^ 56)) }
 {
     let matrix = net.start_matrix(alloc)?;
-    inverse(alloc, &matrix)
+    inverse(alloc, matrix)
 }
 
 // The inverse of the rounded Jacobian at a point.
@@ -43,7 +56,7 @@ fn inverse_there(alloc: Global, net: &Network, x: &[i128]) -> Result<Dense, Solv
     ensures small { IfOk result (λ c. EntriesWithin c (2 ^ 56)) }
 {
     let matrix = net.rounded_jacobian(alloc, x)?;
-    inverse(alloc, &matrix)
+    inverse(alloc, matrix)
 }
 
 // Sets the magnitude of each load to the load's nominal voltage.
@@ -170,6 +183,7 @@ pub fn solve(alloc: Global, net: &Network, limits: &Limits) -> Result<Point, Sol
     ensures size { IfOk result (λ p. length p.inverse ≡ net.now.size) }
     ensures entries { IfOk result (λ p. EntriesWithin p.inverse (2 ^ 56)) }
 {
+    keep_memory(alloc, net.size());
     let last = last_iterate(alloc, net, limits)?;
     let number = last.number;
     let mut x = last.x;

@@ -39,9 +39,9 @@ pub fn test_range(xs: &[i128], limit: u128, step: u32) -> Result<(), SolveFault>
 }
 
 // The inverse of a matrix, in units of 2^-40.
-pub fn inverse(alloc: Global, a: &Dense) -> Result<Dense, SolveFault>
-    ensures inverse { MatchResult result (λ c. inverse_at a.now ≡ Ok c) (λ f. UnlessMemory f (inverse_at a.now ≡ Err f)) }
-    ensures size { IfOk result (λ c. length c ≡ length a.now) }
+pub fn inverse(alloc: Global, a: Dense) -> Result<Dense, SolveFault>
+    ensures inverse { MatchResult result (λ c. inverse_at a ≡ Ok c) (λ f. UnlessMemory f (inverse_at a ≡ Err f)) }
+    ensures size { IfOk result (λ c. length c ≡ length a) }
     ensures small { IfOk result (λ c. EntriesWithin c (2 ^ 56)) }
 {
     match a.first_column_past(ENTRY_LIMIT) {
@@ -54,10 +54,10 @@ pub fn inverse(alloc: Global, a: &Dense) -> Result<Dense, SolveFault>
 }
 
 // The inverse of a matrix whose entries are at most 2^62 in size.
-fn inverse_within(alloc: Global, a: &Dense) -> Result<Dense, SolveFault>
-    requires { EntriesWithin a.now (2 ^ 62) }
-    ensures inverse { MatchResult result (λ c. inverse_at a.now ≡ Ok c) (λ f. UnlessMemory f (inverse_at a.now ≡ Err f)) }
-    ensures size { IfOk result (λ c. length c ≡ length a.now) }
+fn inverse_within(alloc: Global, a: Dense) -> Result<Dense, SolveFault>
+    requires { EntriesWithin a (2 ^ 62) }
+    ensures inverse { MatchResult result (λ c. inverse_at a ≡ Ok c) (λ f. UnlessMemory f (inverse_at a ≡ Err f)) }
+    ensures size { IfOk result (λ c. length c ≡ length a) }
     ensures small { IfOk result (λ c. EntriesWithin c (2 ^ 56)) }
 {
     match invert(alloc, a) {

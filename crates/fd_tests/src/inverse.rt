@@ -141,7 +141,7 @@ fn inverse_cells(
     holds(rt, cells.len() == n as usize * n as usize);
     let a = Dense::from_cells(n, Vec::from_slice(alloc, cells)?);
     holds(rt, a.first_column_past(ENTRY_LIMIT).is_none());
-    let c = invert(alloc, &a)?;
+    let c = invert(alloc, a)?;
     let mut inverse = Vec::new(alloc);
     for row in 0..c.size() {
         inverse.extend_from_slice(c.row(row))?;
