@@ -4,4 +4,5 @@ pub mod Printing
 pub mod Ways
 pub mod Asked
 pub mod Given
+pub mod Handed
 pub mod CallerLemmas

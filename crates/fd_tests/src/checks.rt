@@ -5,12 +5,12 @@ use std::fmt::Debug;
 use std::process::Abort;
 
 /// Asserts that what was found is what is due.
-pub fn same<T: PartialEq + Debug + Drop>(rt: &impl Abort, found: T, due: T) {
+pub(crate) fn same<T: PartialEq + Debug + Drop>(rt: &impl Abort, found: T, due: T) {
     assert_eq!(rt; found, due);
 }
 
 /// Asserts that what was found at a text is what is due.
-pub fn same_at<T: PartialEq + Debug + Drop>(rt: &impl Abort, text: &str, found: T, due: T) {
+pub(crate) fn same_at<T: PartialEq + Debug + Drop>(rt: &impl Abort, text: &str, found: T, due: T) {
     assert_eq!(rt; found, due, "at {text}");
 }
 

@@ -14,7 +14,12 @@ use std::alloc::{AllocError, Global};
 pub type Row<'a> = (&'a str, &'a str, &'a str);
 
 /// Makes an element; its New stands in this line.
-pub fn make(alloc: Global, circuit: &mut Circuit, line: u32, row: &Row) -> Result<(), ModelError> {
+pub(crate) fn make(
+    alloc: Global,
+    circuit: &mut Circuit,
+    line: u32,
+    row: &Row,
+) -> Result<(), ModelError> {
     let (class, name, values) = *row;
     let verb = Verb::New {
         class: text(alloc, class)?,
@@ -25,7 +30,7 @@ pub fn make(alloc: Global, circuit: &mut Circuit, line: u32, row: &Row) -> Resul
 }
 
 /// Edits an element.
-pub fn edit(alloc: Global, circuit: &mut Circuit, row: &Row) -> Result<(), ModelError> {
+pub(crate) fn edit(alloc: Global, circuit: &mut Circuit, row: &Row) -> Result<(), ModelError> {
     let (class, name, values) = *row;
     let verb = Verb::Edit {
         class: text(alloc, class)?,
@@ -36,19 +41,19 @@ pub fn edit(alloc: Global, circuit: &mut Circuit, row: &Row) -> Result<(), Model
 }
 
 /// Sets options.
-pub fn set(alloc: Global, circuit: &mut Circuit, options: &str) -> Result<(), ModelError> {
+pub(crate) fn set(alloc: Global, circuit: &mut Circuit, options: &str) -> Result<(), ModelError> {
     let pairs = pair_list(alloc, options)?;
     apply(alloc, circuit, 1, Verb::Set { pairs })
 }
 
 /// Counts a Solve.
-pub fn solve(alloc: Global, circuit: &mut Circuit) -> Result<(), ModelError> {
+pub(crate) fn solve(alloc: Global, circuit: &mut Circuit) -> Result<(), ModelError> {
     let pairs = pair_list(alloc, "")?;
     apply(alloc, circuit, 1, Verb::Solve { pairs })
 }
 
 /// The circuit of these elements, of which the first has its New in line 1.
-pub fn circuit(alloc: Global, rows: &[Row]) -> Result<Circuit, ModelError> {
+pub(crate) fn circuit(alloc: Global, rows: &[Row]) -> Result<Circuit, ModelError> {
     let mut circuit = Circuit::empty(alloc);
     for (line, row) in (1..1000).zip(rows) {
         make(alloc, &mut circuit, line, row)?;

@@ -29,6 +29,6 @@ pub fn ends(
 }
 
 /// The row, the column and the numerator of a contribution.
-pub fn numbers(term: &Term) -> (u32, u32, i128) {
+pub(crate) fn numbers(term: &Term) -> (u32, u32, i128) {
     (term.row, term.col, term.num)
 }

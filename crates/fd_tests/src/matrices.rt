@@ -5,7 +5,7 @@ use std::alloc::AllocError;
 use std::process::Abort;
 
 /// An entry, and 0 where there is none.
-pub fn entry(matrix: &Dense, row: u32, column: u32) -> i128 {
+pub(crate) fn entry(matrix: &Dense, row: u32, column: u32) -> i128 {
     if row < matrix.size() && column < matrix.size() {
         matrix.get(row, column)
     } else {

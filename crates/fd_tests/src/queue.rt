@@ -23,7 +23,7 @@ fn entries_of_the_least_time_leave_together(rt: HostRuntime) -> Result<(), Fail>
 }
 
 /// An entry by its numbers.
-pub fn entry(time: u64, seq: u64, control: u32, up: bool) -> Entry {
+pub(crate) fn entry(time: u64, seq: u64, control: u32, up: bool) -> Entry {
     Entry {
         time,
         seq,
