@@ -1,8 +1,8 @@
 // The elimination of crates/fd_inverse in plain Rust, in the same design: cells of 64 bits, the places of the pivot row that are not 0
-// listed once for each column, one multiplication a product, of which the upper half is taken where the factor is short, the same
-// roundings and limits; nothing is proved. The list has the entry beside each place, which is faster here than a copy of the pivot row,
-// since it saves a test of an index. It reads matrices from standard input and inverts two full ones besides. A line has the size, the
-// microseconds and the exclusive or of all entries of the inverse.
+// listed once for each column, one multiplication a product, of which the upper half is taken where the factor is short, the sizes of what
+// such a factor leaves joined and tested once, the same roundings and limits; nothing is proved. The list has the entry beside each place,
+// which is faster here than a copy of the pivot row, since it saves a test of an index. It reads matrices from standard input and inverts
+// two full ones besides. A line has the size, the microseconds and the exclusive or of all entries of the inverse.
 use std::io::Read;
 use std::time::Instant;
 
@@ -30,22 +30,16 @@ fn nearest_upper(z: i128) -> i64 {
     ((z + half) >> 64) as i64
 }
 
-fn is_entry(z: i64) -> bool {
-    -(1 << 62) <= z && z <= 1 << 62
-}
-
 #[inline(never)]
 fn reduce_short(row: &mut [i64], list: &[(u32, i64)], factor: i64) -> bool {
     let scaled = factor << 24;
+    let mut sizes = 0;
     for (place, other) in list {
         let entry = &mut row[*place as usize];
-        let left = *entry - nearest_upper(scaled as i128 * *other as i128);
-        if !is_entry(left) {
-            return false;
-        }
-        *entry = left;
+        *entry -= nearest_upper(scaled as i128 * *other as i128);
+        sizes |= entry.unsigned_abs();
     }
-    true
+    sizes < 1 << 62 || row.iter().all(|entry| entry.unsigned_abs() as u128 <= ENTRY_LIMIT)
 }
 
 #[inline(never)]
