@@ -28,8 +28,9 @@ struct Reached {
     x: Vec<i128>,
 }
 
-// Takes memory for the matrices that are in use at a time and gives it back, if it is there. The C library's heap asks the system anew for a
-// block that is larger than each one it has given back, and clears its pages for it; after this it keeps a matrix's memory for the next one.
+// Takes memory for the matrices that are in use at a time, if it is there, and gives it back. For a block larger than
+// each that was freed so far, the C library's heap asks the system anew, which clears its pages; after this the heap
+// keeps a matrix's memory for the next one.
 fn keep_memory(alloc: Global, size: u32)
     requires { size ≤ 2 ^ 11 }
 {
