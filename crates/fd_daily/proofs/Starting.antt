@@ -7,8 +7,8 @@ use Rattle.dss_circuit.specs.Circuit.{CircuitView}
 use Rattle.fd_elements.specs.declared.powers.LoadPower.{LoadPower}
 use Rattle.fd_equations.specs.Views.{NetworkView}
 use Rattle.fd_devices.specs.Devices.{AgreesWith}
-use Rattle.fd_devices.specs.Hours.{HoursLaw, hour_powers}
-use Rattle.fd_devices.specs.Positions.{NextLaw, next_closed, next_taps}
+use Rattle.fd_settings.specs.Hours.{HoursLaw, hour_powers}
+use Rattle.fd_settings.specs.Positions.{NextLaw, next_closed, next_taps}
 use Rattle.fd_devices.specs.Scripted.{circuit_network, circuit_parts, devices_of}
 use Rattle.fd_devices.specs.Settings.{AreSettings, settings_of}
 use Rattle.fd_devices.specs.declared.fault.BuildFault.{BuildFault}

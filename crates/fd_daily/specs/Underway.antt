@@ -3,8 +3,8 @@ use Rattle.std.specs.Prelude.{◌≡◌, ℕ, All, IsSome, List, [], ◌∷◌, 
 use Rattle.dss_profile.specs.declared.command.Blame.{Blame}
 use Rattle.dss_circuit.specs.Circuit.{CircuitView}
 use Rattle.fd_devices.specs.Building.{IsModest}
-use Rattle.fd_devices.specs.Hours.{hour_powers}
-use Rattle.fd_devices.specs.Positions.{next_closed, next_taps}
+use Rattle.fd_settings.specs.Hours.{hour_powers}
+use Rattle.fd_settings.specs.Positions.{next_closed, next_taps}
 use Rattle.fd_devices.specs.declared.fault.BuildFault.{BuildFault}
 use Rattle.fd_devices.specs.declared.settings.Positions.{Positions as CodePositions}
 use Rattle.fd_network.specs.Built.{IsBuiltOf}

@@ -1,7 +1,7 @@
 // The settle of the next hour of a Solve.
 ghost use Rattle.std.specs.Prelude.{◌≡◌, is_ok};
 ghost use Rattle.dss_ready.specs.Ready.{HasPassed};
-ghost use Rattle.fd_devices.specs.Hours.{hour_powers};
+ghost use Rattle.fd_settings.specs.Hours.{hour_powers};
 ghost use Rattle.fd_network.specs.Built.{IsBuiltOf};
 ghost use Rattle.fd_sample.specs.Probes.{positions_in};
 ghost use Rattle.fd_settle.specs.Contract.{CallsAs, EndsAs, limits_of};

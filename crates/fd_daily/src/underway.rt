@@ -11,8 +11,9 @@ ghost use Rattle.fd_daily.specs.Underway.{IsRefusedAt, IsUnderway, start_from};
 
 use crate::day::Day;
 use dss_circuit::Circuit;
-use fd_devices::{BuildFault, Positions, Powers, hours_law, next_law, powers_at};
+use fd_devices::{BuildFault, Positions, Powers};
 use fd_network::Network;
+use fd_settings::{hours_law, next_law, next_positions, powers_at};
 use fd_settle::Round;
 use std::alloc::Global;
 
@@ -52,7 +53,7 @@ impl Underway {
         next_law();
         hours_law();
         let day = Day::start(alloc, circuit)?;
-        let start = Positions::next(alloc, circuit, at)?;
+        let start = next_positions(alloc, circuit, at)?;
         let hour = day.next_hour().unwrap();
         let powers = powers_at(alloc, circuit, hour)?;
         match Network::build(alloc, circuit, &start, &powers) {

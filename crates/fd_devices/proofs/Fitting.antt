@@ -1,9 +1,9 @@
 -- What the test of a device says of its contributions and its part loads.
-use Rattle.std.proofs.Common.{◌≡◌, Bool, IsTrue, true, false, not, List, [], refl}
-use Rattle.std.specs.List.{All, AllPass, list_all}
+use Rattle.std.proofs.Common.{◌≡◌, Bool, IsTrue, true, false, not, refl}
+use Rattle.std.specs.List.{All, list_all}
 use Rattle.std.specs.Cmp.Derive.{both_true}
 use Rattle.std.proofs.lemmas.Bool.{and_parts}
-use Rattle.std.proofs.lemmas.List.Elements.{All-nil, All-weaker}
+use Rattle.std.proofs.lemmas.List.Elements.{All-weaker}
 use Rattle.std.proofs.lemmas.List.Sums.{AllPass-from_list_all, list_all-from_AllPass}
 use Rattle.fd_arith.specs.declared.terms.Term.{Term}
 use Rattle.fd_system.specs.declared.loads.LoadAt.{LoadAt}

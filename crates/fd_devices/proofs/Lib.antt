@@ -1,8 +1,5 @@
 pub mod DeviceRows
 pub mod Fitting
-pub mod PowerOf
-pub mod SnapshotCounts
-pub mod HourPowers
 pub mod Counting
 pub mod Bounded
 pub mod Transformers
@@ -11,6 +8,5 @@ pub mod CallerLemmas
 pub mod Collecting
 pub mod Steps
 pub mod Settling
-pub mod Next
 pub mod Reach
 pub mod Keeping

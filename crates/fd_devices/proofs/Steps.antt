@@ -1,11 +1,9 @@
 -- One step of a walk over a list.
-use Rattle.std.proofs.Common.{◌≡◌, ◌∙◌, ℕ, ◌+◌, ◌<◌, ℤ, List, [], ◌∷◌, ◌++◌, length, take, drop, get_or, slice_get, Some, append_assoc, add-one, arith, ap, sym, subst}
-use Rattle.std.specs.List.{All, flat_map}
+use Rattle.std.proofs.Common.{◌≡◌, ◌∙◌, ℕ, zero, suc, ◌+◌, ◌<◌, ℤ, List, [], ◌∷◌, ◌++◌, length, take, drop, get_or, slice_get, append_assoc, add-one, arith, ap, sym, refl}
+use Rattle.std.specs.List.{flat_map}
 use Rattle.std.proofs.Math.Seq.{take-suc, drop-cons}
 use Rattle.std.proofs.lemmas.Grind.{flat_map-append}
 use Rattle.std.proofs.lemmas.List.{append-nil}
-use Rattle.std.proofs.lemmas.Option.{slice_get_within, get_or_from_slice_get}
-use Rattle.dss_layout.proofs.CallerLemmas.{take-more}
 use Rattle.fd_exact.specs.Sums.{list_n}
 use Rattle.fd_system.specs.declared.constants.Constant.{Constant}
 use Rattle.fd_source.specs.Equations.{constants_from}
@@ -22,14 +20,11 @@ pub flat_map_next : {A B : Type 0} (f : A → List B) (xs : List A) (k : ℕ) (d
 flat_map_next f xs k d h =
     ap (flat_map f) (take_next xs k d h) ∙ flat_map-append f (take k xs) (get_or xs k d ∷ []) ∙ ap (λ r. flat_map f (take k xs) ++ r) (append-nil (f (get_or xs k d)))
 
--- the same of the element that stands at a place
-pub flat_map_at : {A B : Type 0} (f : A → List B) (xs : List A) (k : ℕ) (x : A) → slice_get xs k ≡ Some x → flat_map f (take (k + 1) xs) ≡ flat_map f (take k xs) ++ f x
-flat_map_at f xs k x h =
-    ap (flat_map f) (take-more xs k x h) ∙ flat_map-append f (take k xs) (x ∷ []) ∙ ap (λ r. flat_map f (take k xs) ++ r) (append-nil (f x))
-
--- what holds of all holds of the element that stands at a place
-pub all_at : {A : Type 0} (P : A → Type 0) (xs : List A) (k : ℕ) (x : A) → All P xs → slice_get xs k ≡ Some x → P x
-all_at P xs k x h e = subst P (get_or_from_slice_get xs k x x e) (h k x (slice_get_within xs k x e))
+-- what a list has at a place is the first of what is left there
+pub first_left : {A : Type 0} (xs : List A) (k : ℕ) → slice_get (drop k xs) 0 ≡ slice_get xs k
+first_left xs zero = refl
+first_left [] (suc k) = refl
+first_left (x ∷ xs) (suc k) = first_left xs k
 
 -- one constant more
 pub constant_next : (row : ℕ) (vs : List ℤ) (k : ℕ) (d : ℤ) (made : List Constant) → k < length vs

@@ -5,9 +5,6 @@ pub mod Scripted
 pub mod Sound
 pub mod Building
 pub mod Standing
-pub mod Snapshot
-pub mod Hours
 pub mod Places
-pub mod Positions
 pub mod Reach
 pub mod Kept

@@ -5,36 +5,25 @@
 // (`device_law`). Range is the answer exactly where a contribution of the device is past 2^54 units of 2^-40 or a part load past its limit.
 // What an element adds is also written without memory into a stamp with room for it (`stamp_into`), by what is kept
 // of it (`kept_of`); it is then at most 60 contributions of a transformer and 24 of a bank.
-// The settings of a script are exactly its taps, states and powers, as many as its elements have (`snapshot_law`).
-// A later Solve starts with exactly the taps and states that the script set since the Solve before, and else with those of before; they
-// too are as many as the elements have, and in range (`next_law`).
-// The powers of loads at an hour of a day follow their shapes exactly (`powers_at`); those of hour 0 are the snapshot's (`hours_law`).
 //
 // Modules: `data` has the data of transformers and capacitor banks, `devices` is the law, `phase_loads` has the part
 // loads of a load's phases, `stamps` what each element adds, `writers` the same written without memory, `kept` what is
 // kept of an element for that, `reached` the places that a transformer or a bank can reach, `settings` the positions of
-// taps and banks and the powers of loads with which a circuit is taken, `snapshot` those that the script gives, `hours`
-// the powers at an hour of a day, `positions` those with which a later Solve starts, `fault` why there is no network.
+// taps and banks and the powers of loads with which a circuit is taken, `fault` why there is no network.
 #![tactic(auto)]
 
 mod data;
 mod devices;
 mod fault;
-mod hours;
 mod kept;
 mod phase_loads;
-mod positions;
 mod reached;
 mod settings;
-mod snapshot;
 mod stamps;
 mod writers;
 
 pub use data::xfmr_data;
 pub use devices::{device_law, reach_law};
 pub use fault::BuildFault;
-pub use hours::{hours_law, powers_at};
 pub use kept::{Kept, kept_of, most_constants, most_loads, most_terms, stamp_into};
-pub use positions::next_law;
 pub use settings::{BankStates, LoadPowers, Positions, Powers, SettingSlices, Taps};
-pub use snapshot::snapshot_law;

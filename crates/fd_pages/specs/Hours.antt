@@ -6,7 +6,7 @@ use Rattle.dss_ready.specs.Ready.{HasPassed}
 use Rattle.fd_cert.specs.Claims.{claim_in}
 use Rattle.fd_cert.specs.declared.ball.Certified.{Certified}
 use Rattle.fd_certfile.specs.Rounds.{IsClaimOf, IsRoundOf}
-use Rattle.fd_devices.specs.Hours.{hour_powers}
+use Rattle.fd_settings.specs.Hours.{hour_powers}
 use Rattle.fd_queue.specs.Controls.{Positions}
 use Rattle.fd_report.specs.Solutions.{IsOfSize}
 use Rattle.fd_report.specs.declared.faults.Fault.{Fault}

@@ -2,7 +2,7 @@
 ghost use Rattle.std.specs.Prelude.{◌≡◌, ◌+◌, ◌++◌, ◌∷◌, ◌<◌, ◌^◌, [], All, IfOk, OnOk, Option, Some, if◌then◌else◌, drop, length, map, slice_get};
 ghost use Rattle.dss_layout.specs.Layout.{layout_of, size_of};
 ghost use Rattle.dss_ready.specs.Ready.{HasPassed};
-ghost use Rattle.fd_devices.specs.Hours.{hour_powers};
+ghost use Rattle.fd_settings.specs.Hours.{hour_powers};
 ghost use Rattle.fd_outside.specs.Emitted.{pieces_of};
 ghost use Rattle.fd_queue.specs.Controls.{Positions as PositionsView, tap_at};
 ghost use Rattle.fd_report.specs.Lines.{lines_of};

@@ -18,7 +18,7 @@ use Rattle.fd_enclosure.specs.Sound.{Claim}
 use Rattle.fd_enclosure.specs.Ties.{BallLaw, TieLaw}
 use Rattle.fd_inject.specs.declared.fault.SolveFault.TheVariants as solving
 use Rattle.fd_inject.specs.declared.limits.Limits.{Limits}
-use Rattle.fd_devices.specs.Hours.{hour_powers}
+use Rattle.fd_settings.specs.Hours.{hour_powers}
 use Rattle.fd_elements.specs.declared.powers.LoadPower.{LoadPower}
 use Rattle.fd_queue.specs.Controls.{Positions}
 use Rattle.fd_queue.specs.Machine.{Act, Machine}

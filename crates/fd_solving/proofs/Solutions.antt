@@ -28,7 +28,7 @@ use Rattle.fd_settle.specs.Contract.{limits_of}
 use Rattle.fd_settle.specs.Plant.{network_at}
 use Rattle.fd_settle.specs.Start.{IsSoundAt}
 use Rattle.fd_outcome.specs.Pages.{solution_in}
-use Rattle.fd_devices.specs.Hours.{hour_powers}
+use Rattle.fd_settings.specs.Hours.{hour_powers}
 use Rattle.fd_solving.specs.Headline.{EnclosesOthers, EnclosesSizes, IsOtherState, IsSolution, equation_count, equations_of, hour_network}
 use Rattle.fd_outcome.specs.Settles.{round_of}
 use Rattle.fd_queue.specs.Machine.{Act}

@@ -10,7 +10,7 @@ use Rattle.dss_circuit.specs.Circuit.{CircuitView}
 use Rattle.dss_circuit.specs.InRange.{AllInRange}
 use Rattle.dss_circuit.specs.WellFormed.{IsEntry}
 use Rattle.fd_exact.specs.States.{State}
-use Rattle.fd_devices.specs.Hours.{hour_powers}
+use Rattle.fd_settings.specs.Hours.{hour_powers}
 use Rattle.fd_enclosure.specs.Encloses.{EnclosureLaw}
 use Rattle.fd_enclosure.specs.Sound.{Claim}
 use Rattle.fd_queue.specs.Controls.{Positions}

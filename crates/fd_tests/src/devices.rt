@@ -3,8 +3,9 @@ use crate::checks::same;
 use crate::circuits::{Row, circuit, edit, make, positions, solve};
 use dss_circuit::{Circuit, ModelError};
 use fd_arith::TapPair;
-use fd_devices::{Positions, Powers, powers_at};
+use fd_devices::{Positions, Powers};
 use fd_elements::LoadPower;
+use fd_settings::{next_positions, powers_at, script_positions};
 use std::alloc::{AllocError, Global};
 use std::process::Abort;
 use std::test::Fail;
@@ -55,16 +56,16 @@ fn powers(alloc: Global, rows: &[Row], hour: u32) -> Result<Powers, ModelError> 
 }
 
 // The positions of the script.
-fn script_positions(alloc: Global) -> Result<Positions, ModelError> {
+fn given_positions(alloc: Global) -> Result<Positions, ModelError> {
     let circuit = circuit(alloc, &ELEMENTS)?;
-    Ok(Positions::of(alloc, &circuit)?)
+    Ok(script_positions(alloc, &circuit)?)
 }
 
 #[test]
 fn snapshot(rt: HostRuntime) -> Result<(), Fail> {
     let powers = powers(rt.alloc(), &ELEMENTS, 0)?;
     same(&rt, powers.loads.as_slice(), &[PHASE, PHASE, PHASE]);
-    let positions = script_positions(rt.alloc())?;
+    let positions = given_positions(rt.alloc())?;
     check_positions(&rt, &positions, &[(105_000, 98_750)], false);
     Ok(())
 }
@@ -157,7 +158,7 @@ const STARTS: [Start<'static>; 3] = [
 fn started(alloc: Global, circuit: &Circuit, count: usize) -> Result<Positions, AllocError> {
     let taps = BEFORE.get(..count).unwrap_or(&BEFORE);
     let before = positions(alloc, taps, &[true])?;
-    Positions::next(alloc, circuit, &before)
+    next_positions(alloc, circuit, &before)
 }
 
 fn start(alloc: Global, edited: &Option<Row>, count: usize) -> Result<Positions, ModelError> {

@@ -11,11 +11,12 @@ use crate::circuits::{Row, circuit, is_ready, positions};
 use crate::matrices::entry;
 use dss_circuit::Circuit;
 use fd_arith::{Interval, Micro, NodeAt, TapPair};
-use fd_devices::{BuildFault, LoadPowers, Positions, Powers, hours_law, powers_at, snapshot_law};
+use fd_devices::{BuildFault, LoadPowers, Positions, Powers};
 use fd_elements::LoadPower;
 use fd_equations::Network as NetworkRows;
 use fd_mat::Dense;
 use fd_network::Network;
+use fd_settings::{hours_law, powers_at, script_positions, snapshot_law};
 use std::alloc::{AllocError, Global};
 use std::process::Abort;
 use std::test::Fail;
@@ -65,7 +66,7 @@ fn script_settings(alloc: Global, circuit: &Circuit) -> Result<Settings, AllocEr
     snapshot_law();
     hours_law();
     Ok(Settings {
-        at: Positions::of(alloc, circuit)?,
+        at: script_positions(alloc, circuit)?,
         powers: powers_at(alloc, circuit, 0)?,
     })
 }

@@ -3,7 +3,7 @@ use Rattle.dss_circuit.specs.Circuit.{CircuitView}
 use Rattle.fd_daily.specs.Day.{begun_hour, hour_in}
 use Rattle.fd_daily.specs.Underway.{plant_at}
 use Rattle.fd_daily.proofs.CallerLemmas.{hour_within}
-use Rattle.fd_devices.specs.Hours.{hour_powers}
+use Rattle.fd_settings.specs.Hours.{hour_powers}
 use Rattle.fd_devices.specs.declared.settings.Powers.{Powers}
 use Rattle.fd_elements.specs.declared.powers.LoadPower.{LoadPower}
 use Rattle.fd_queue.specs.Controls.{Positions}

@@ -1,5 +1,0 @@
-use Rattle.fd_devices.proofs.HourPowers.{hour_powers_are}
-use Rattle.fd_devices.proofs.hours.hours_law.Goals as goal
-
-pub returns : goal.returns
-returns c = hour_powers_are

@@ -1,0 +1,19 @@
+// The settings of a circuit: the positions of its taps and banks at the start of a Solve, and the powers of its loads at an hour.
+//
+// It promises that the positions of a script are exactly its taps and states (`script_positions`), as many as its elements have and in
+// range, and its powers as many (`snapshot_law`).
+// A later Solve starts with exactly the taps and states that the script set since the Solve before, and else with those of before
+// (`next_positions`); they too are as many as the elements have, and in range (`next_law`).
+// The powers of loads at an hour of a day follow their shapes exactly (`powers_at`); those of hour 0 are the snapshot's (`hours_law`).
+//
+// Modules: `snapshot` has the positions that the script gives, `positions` those with which a later Solve starts, `hours` the powers at
+// an hour of a day.
+#![tactic(auto)]
+
+mod hours;
+mod positions;
+mod snapshot;
+
+pub use hours::{hours_law, powers_at};
+pub use positions::{next_law, next_positions};
+pub use snapshot::{script_positions, snapshot_law};
