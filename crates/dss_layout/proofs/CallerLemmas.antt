@@ -1,5 +1,5 @@
 -- What a caller needs to know of a layout.
-use Rattle.std.proofs.Common.{◌≡◌, ℕ, zero, suc, ◌+◌, ◌<◌, ◌≤◌, nat_lt, Bool, true, false, [], ◌∷◌, length, take, slice_get, slice_index, sum_by, Contains, Option, is_some, Some, None, Ok, Err, refl, sym, ap, ◌∙◌, add-zero, arith}
+use Rattle.std.proofs.Common.{◌≡◌, ℕ, zero, suc, ◌+◌, ◌<◌, ◌≤◌, nat_lt, Bool, true, false, [], ◌∷◌, length, take, slice_index, sum_by, Option, is_some, Some, None, Ok, Err, refl, sym, ap, ◌∙◌, add-zero, arith}
 use Rattle.std.proofs.lemmas.Bool.{or_parts, ltb-false}
 use Rattle.std.proofs.lemmas.List.{take_all}
 use Rattle.std.proofs.lemmas.List.Sums.{sum_by-cons}
@@ -7,18 +7,12 @@ use Rattle.fd_exact.specs.First.{first_place}
 use Rattle.fd_exact.specs.FirstLaws.{found as first_found}
 use Rattle.dss_profile.specs.declared.element.Element.{Element}
 use Rattle.dss_profile.specs.declared.names.ElementName.{ElementName}
-use Rattle.dss_layout.specs.declared.nodes.NodeName.{NodeName}
 use Rattle.dss_layout.specs.declared.limits.LayoutFault.TheVariants.{TooMany}
-use Rattle.dss_layout.specs.Nodes.{number_in}
-use Rattle.dss_layout.specs.Terminals.{mentions}
 use Rattle.dss_layout.specs.Limits.{most_complex, most_magnitudes}
-use Rattle.dss_layout.specs.Layout.{Elements, LayoutView, complex_count, layout_of, nodes_of, laid_out, laid_out_unless, first_too_many, is_past_limit_at, passes_limit, sums_before}
-use Rattle.dss_layout.proofs.Membership.{in_from_contains, in_from_get}
-use Rattle.dss_layout.proofs.Noted.{found}
+use Rattle.dss_layout.specs.Layout.{Elements, LayoutView, complex_count, layout_of, laid_out, laid_out_unless, first_too_many, is_past_limit_at, passes_limit, sums_before}
 pub use Rattle.dss_layout.proofs.Among.{both_parts, mentions_among}
 pub use Rattle.dss_layout.proofs.Phases.{length-phases, sum_with_own, sum_within}
 pub use Rattle.dss_layout.proofs.Placing.{drop-more, take-more}
-pub use Rattle.dss_layout.proofs.Walk.{first_isolated_at, fed_up_to}
 
 by_first : (o : Option ℕ) (es : Elements) (v : LayoutView) → laid_out_unless o es ≡ Ok v
     → (v ≡ layout_of es) × (o ≡ None)
@@ -76,11 +70,6 @@ slice_index-sums_before f s (e ∷ es) (suc i) h =
     let rest = slice_index-sums_before f (s + f e.1) es i (omega arith) in
     let all = sum_by-cons (λ (x : ElementName × Element). f x.1) e (take i es) in
     omega (arith, rest, all)
-
--- a node that an element mentions has its number
-pub mentioned_at : (es : Elements) (i : ℕ) (e : ElementName × Element) (m : NodeName) → slice_get es i ≡ Some e
-    → Contains (mentions e.1) m → slice_get (nodes_of es) (number_in (nodes_of es) m) ≡ Some m
-mentioned_at es i e m h c = found es e m (in_from_get es i e h) (in_from_contains (mentions e.1) m c)
 
 limits_kept : (es : Elements) → first_too_many es ≡ None
     → (complex_count (layout_of es) ≤ most_complex) × (length (layout_of es).magnitudes ≤ most_magnitudes)

@@ -1,9 +1,7 @@
-//! The layout of a circuit: at which nodes each element joins its buses, how the unknowns are numbered, and which nodes
-//! a source feeds.
+//! The layout of a circuit: at which nodes each element joins its buses, and how the unknowns are numbered.
 //!
 //! A test of terminals answers exactly the fault of an element's buses. The layout is exactly that of the elements in
-//! order of definition, or names exactly the first element with which a limit is passed. The first element that mentions
-//! a node that no source feeds is found exactly where there is one.
+//! order of definition, or names exactly the first element with which a limit is passed.
 //!
 //! - `numbers`: the node numbers of one bus, with their defaults
 //! - `nodes`: names of nodes and of phases
@@ -12,10 +10,8 @@
 //! - `unknowns`: the unknowns while elements are added one by one
 //! - `layout`: the unknowns of a circuit, by number
 //! - `names`: the names of nodes, elements and unknowns as text
-//! - `feeding`: the first element that isn't fed
 #![tactic(auto)]
 
-mod feeding;
 mod layout;
 mod limits;
 mod names;
@@ -24,7 +20,6 @@ mod numbers;
 mod terminals;
 mod unknowns;
 
-pub use feeding::first_isolated;
 pub use layout::Layout;
 pub use limits::LayoutFault;
 pub use names::{element_text, node_text};

@@ -5,7 +5,7 @@ use Rattle.dss_profile.specs.declared.command.Blame.{Blame}
 use Rattle.dss_layout.specs.declared.limits.LayoutFault.{LayoutFault}
 use Rattle.dss_layout.specs.declared.limits.LayoutFault.TheVariants.{TooMany}
 use Rattle.dss_layout.specs.Layout.{LayoutView, LaysOut, first_too_many, laid_out}
-use Rattle.dss_layout.specs.Feeding.{IsFirstIsolated, FirstIsolated}
+use Rattle.dss_ready.specs.Feeding.{IsFirstIsolated, FirstIsolated}
 use Rattle.dss_ready.specs.declared.fault.ReadyFault.{ReadyFault}
 use Rattle.dss_ready.specs.declared.fault.ReadyFault.TheVariants as ready_fault
 use Rattle.dss_circuit.specs.Circuit.{Elements, CircuitView}

@@ -5,7 +5,7 @@ use Rattle.dss_profile.specs.declared.element.Element.{Element}
 use Rattle.dss_profile.specs.declared.names.ElementName.{ElementName}
 use Rattle.dss_circuit.specs.Circuit.{Elements}
 use Rattle.dss_layout.specs.Among.{IsAmong}
-use Rattle.dss_layout.specs.Feeding.{IsFed}
+use Rattle.dss_ready.specs.Feeding.{IsFed}
 use Rattle.dss_layout.specs.Layout.{nodes_of}
 use Rattle.dss_layout.specs.Terminals.{mentions, terminal_numbers, tested}
 use Rattle.dss_layout.proofs.CallerLemmas.{few_complex, few_magnitudes, mentions_among}
@@ -14,6 +14,7 @@ use Rattle.dss_ready.specs.Support.{frequency_of}
 use Rattle.dss_ready.proofs.Fitting.{same_frequency, values_fit, without_fault}
 use Rattle.dss_ready.proofs.Passing.{Passes, each_passes}
 pub use Rattle.dss_ready.proofs.Limits.{too_many_within}
+pub use Rattle.dss_ready.proofs.Labelled.{first_isolated_at, fed_up_to}
 
 -- what holds of all elements holds of the one at a place
 at_place : (P : ElementName × Element → Type 0) (elements : Elements) (place : ℕ) (entry : ElementName × Element)

@@ -1,3 +1,8 @@
+pub mod Membership
+pub mod Mentioned
+pub mod Together
+pub mod Joining
+pub mod Labelled
 pub mod Noted
 pub mod Blaming
 pub mod Limits

@@ -1,5 +1,5 @@
 -- The counts that are tested at Solve.
-use Rattle.std.specs.Prelude.{ℕ, ◌==◌, nat_lt, length, Bool, true, false, ◌&&◌, ◌||◌, is_none, Result, Err}
+use Rattle.std.specs.Prelude.{◌==◌, nat_lt, length, Bool, true, false, ◌&&◌, ◌||◌, is_none, Result, Err}
 use Rattle.dss_profile.specs.declared.loadshape.Loadshape.{Loadshape}
 use Rattle.dss_profile.specs.declared.regcontrol.RegControl.{RegControl}
 use Rattle.dss_profile.specs.declared.capcontrol.CapControl.{CapControl}

@@ -5,5 +5,7 @@ pub mod Ranges
 pub mod Counts
 pub mod Support
 pub mod Walk
+pub mod Feeding
+pub mod Labels
 pub mod Ready
 pub mod Passed

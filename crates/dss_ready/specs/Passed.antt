@@ -16,7 +16,7 @@ use Rattle.dss_profile.specs.declared.names.Class.TheVariants as class
 use Rattle.dss_profile.specs.declared.names.ElementName.{ElementName}
 use Rattle.dss_circuit.specs.Circuit.{CircuitView, Elements}
 use Rattle.dss_layout.specs.Among.{IsAmong}
-use Rattle.dss_layout.specs.Feeding.{Fed}
+use Rattle.dss_ready.specs.Feeding.{Fed}
 use Rattle.dss_layout.specs.Limits.{most_complex, most_magnitudes}
 use Rattle.dss_layout.specs.Layout.{complex_count, layout_of, nodes_of}
 use Rattle.dss_layout.specs.Terminals.{mentions, terminal_numbers, tested}

@@ -7,7 +7,7 @@ use Rattle.dss_profile.specs.declared.element.Element.{Element}
 use Rattle.dss_profile.specs.declared.names.ElementName.{ElementName}
 use Rattle.dss_profile.specs.Element.{place_of}
 use Rattle.dss_layout.specs.Layout.{first_too_many}
-use Rattle.dss_layout.specs.Feeding.{IsFirstIsolated, FirstIsolated}
+use Rattle.dss_ready.specs.Feeding.{IsFirstIsolated, FirstIsolated}
 use Rattle.dss_ready.specs.declared.fault.ReadyFault.{ReadyFault}
 use Rattle.dss_ready.specs.declared.fault.ReadyFault.TheVariants as ready_fault
 use Rattle.dss_circuit.specs.Circuit.{Elements, CircuitView}

@@ -5,10 +5,11 @@ ghost use Rattle.dss_ready.specs.Ready.{own_blame, blame_at, IsAnswer};
 ghost use Rattle.dss_ready.specs.Walk.{Answers};
 
 use crate::ReadyFault;
+use crate::feeding::first_isolated;
 use crate::mention::all_mentions;
 use crate::walk::{blame, find_blame};
 use dss_circuit::Circuit;
-use dss_layout::{Layout, LayoutFault, first_isolated};
+use dss_layout::{Layout, LayoutFault};
 use dss_profile::{Blame, ModelFault};
 use std::alloc::{AllocError, Global};
 

@@ -11,13 +11,12 @@ use Rattle.dss_profile.specs.declared.command.Blame.{Blame}
 use Rattle.dss_profile.specs.declared.command.Command.{Command}
 use Rattle.dss_profile.specs.declared.element.Element.{Element}
 use Rattle.dss_profile.specs.declared.names.ElementName.{ElementName}
-use Rattle.dss_layout.specs.Feeding.{Fed, IsFed, IsIsolated, IsFirstIsolated, FirstIsolated}
-use Rattle.dss_layout.specs.Labels.{labels_of, mentions_apart}
 use Rattle.dss_layout.specs.Layout.{first_too_many, nodes_of}
 use Rattle.dss_layout.specs.Terminals.{mentions}
-use Rattle.dss_layout.proofs.CallerLemmas.{first_isolated_at, fed_up_to}
+use Rattle.dss_ready.specs.Feeding.{Fed, IsFed, IsIsolated, IsFirstIsolated, FirstIsolated}
+use Rattle.dss_ready.specs.Labels.{labels_of, mentions_apart}
 use Rattle.dss_ready.specs.Ready.{HasPassed, IsToBlame, for_own, for_many, for_isolated, blame_at, blame_on, own_blame}
-use Rattle.dss_ready.proofs.CallerLemmas.{too_many_within}
+use Rattle.dss_ready.proofs.CallerLemmas.{fed_up_to, first_isolated_at, too_many_within}
 use Rattle.dss_circuit.specs.Circuit.{CircuitView, Elements}
 use Rattle.fd_enclosure.specs.Sound.{loose, uncertain}
 use Rattle.fd_inject.specs.declared.fault.SolveFault.TheVariants as solving

@@ -1,5 +1,5 @@
 use Rattle.std.proofs.Common.{subst}
-use Rattle.dss_layout.specs.Feeding.{FirstIsolated}
+use Rattle.dss_ready.specs.Feeding.{FirstIsolated}
 use Rattle.dss_circuit.specs.Circuit.{Elements}
 use Rattle.dss_ready.proofs.Answering.{isolated_blame}
 use Rattle.dss_ready.proofs.answer.check_fed.Goals as goal

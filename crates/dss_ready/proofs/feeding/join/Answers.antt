@@ -1,6 +1,6 @@
 use Rattle.std.proofs.Common.{ℕ, ◌==◌, ◌<◌, ◌++◌, length, ap, sym, ◌∙◌, set, get_or, map, take, drop, if◌then◌else◌, add-one, arith}
-use Rattle.dss_layout.proofs.Joining.{set-mapped, get_or-mapped}
-use Rattle.dss_layout.proofs.feeding.join.Goals as goal
+use Rattle.dss_ready.proofs.Joining.{set-mapped, get_or-mapped}
+use Rattle.dss_ready.proofs.feeding.join.Goals as goal
 
 pub loop-label-preserved : goal.loop-label-preserved
 loop-label-preserved c =

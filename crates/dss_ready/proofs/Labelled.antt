@@ -11,12 +11,12 @@ use Rattle.dss_layout.specs.declared.nodes.NodeName.{NodeName}
 use Rattle.dss_layout.specs.Nodes.{number_in}
 use Rattle.dss_layout.specs.Terminals.{mentions}
 use Rattle.dss_layout.specs.Layout.{Elements, nodes_of}
-use Rattle.dss_layout.specs.Feeding.{source_nodes, tied_nodes, Fed, IsFed, IsIsolated, IsFirstIsolated}
-use Rattle.dss_layout.specs.Feeding.Fed.{by_source, by_tie}
-use Rattle.dss_layout.specs.Labels.{pairs_with, group_pairs, element_pairs, all_pairs, own_labels, labels_of, mentions_apart}
-use Rattle.dss_layout.proofs.Membership.{In, IsPart, in_from_contains, contains_from_in, in_append_left, in_append_right, in_append_cases, in_map, in_map_from, in_flat_map, in_flat_map_from, in_from_list_any, none_from_list_any, in_index, in_from_get}
-use Rattle.dss_layout.proofs.Noted.{number_in-le, found, source_found, tied_found}
-use Rattle.dss_layout.proofs.Together.{AreBelow, Relation, Implies, label, pair_all, implied_all, length-joined_all}
+use Rattle.dss_ready.specs.Feeding.{source_nodes, tied_nodes, Fed, IsFed, IsIsolated, IsFirstIsolated}
+use Rattle.dss_ready.specs.Feeding.Fed.{by_source, by_tie}
+use Rattle.dss_ready.specs.Labels.{pairs_with, group_pairs, element_pairs, all_pairs, own_labels, labels_of, mentions_apart}
+use Rattle.dss_ready.proofs.Membership.{In, IsPart, in_from_contains, contains_from_in, in_append_left, in_append_right, in_append_cases, in_map, in_map_from, in_flat_map, in_flat_map_from, in_from_list_any, none_from_list_any, in_index, in_from_get}
+use Rattle.dss_ready.proofs.Mentioned.{number_in-le, found, source_found, tied_found}
+use Rattle.dss_ready.proofs.Together.{AreBelow, Relation, Implies, label, pair_all, implied_all, length-joined_all}
 
 abbrev sources : Elements → List NodeName
 sources es = flat_map (λ e. source_nodes e.1) es

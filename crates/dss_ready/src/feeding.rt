@@ -4,11 +4,10 @@ ghost use Rattle.std.specs.List.{flat_map, range_with_len};
 ghost use Rattle.dss_layout.specs.Nodes.{is_node};
 ghost use Rattle.dss_layout.specs.Terminals.{mentions};
 ghost use Rattle.dss_layout.specs.Layout.{layout_of};
-ghost use Rattle.dss_layout.specs.Feeding.{phase_ends, FirstIsolated};
-ghost use Rattle.dss_layout.specs.Labels.{joined, joined_all, pairs_with, group_pairs, element_pairs, all_pairs, labels_of, mentions_apart};
+ghost use Rattle.dss_ready.specs.Feeding.{phase_ends, FirstIsolated};
+ghost use Rattle.dss_ready.specs.Labels.{joined, joined_all, pairs_with, group_pairs, element_pairs, all_pairs, labels_of, mentions_apart};
 
-use crate::terminals::terminal_nodes;
-use crate::{Layout, NodeName, NodeNames, Terminals};
+use dss_layout::{Layout, NodeName, NodeNames, Terminals, terminal_nodes};
 use dss_profile::{Element, ElementName};
 use indexmap::IndexMap;
 use std::alloc::{AllocError, Global};

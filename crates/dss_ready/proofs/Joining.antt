@@ -7,9 +7,9 @@ use Rattle.dss_layout.specs.declared.nodes.NodeName.{NodeName}
 use Rattle.dss_layout.specs.declared.terminals.Terminals.{Terminals}
 use Rattle.dss_layout.specs.Nodes.{is_node}
 use Rattle.dss_layout.specs.Layout.{Elements}
-use Rattle.dss_layout.specs.Feeding.{phase_ends}
-use Rattle.dss_layout.specs.Labels.{joined, joined_all, group_pairs, element_pairs, all_pairs}
-use Rattle.dss_layout.proofs.Placing.{drop-more}
+use Rattle.dss_ready.specs.Feeding.{phase_ends}
+use Rattle.dss_ready.specs.Labels.{joined, joined_all, group_pairs, element_pairs, all_pairs}
+use Rattle.dss_layout.proofs.CallerLemmas.{drop-more}
 
 -- one more element of a list changed in place
 pub set-mapped : (f : ℕ → ℕ) (xs : List ℕ) (i : ℕ) → i < length xs

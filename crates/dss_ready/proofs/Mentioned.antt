@@ -13,8 +13,8 @@ use Rattle.dss_layout.specs.declared.terminals.Terminals.{Terminals}
 use Rattle.dss_layout.specs.Nodes.{same_node, is_node, new_nodes, number_in}
 use Rattle.dss_layout.specs.Terminals.{mentions, terminals_of}
 use Rattle.dss_layout.specs.Layout.{Elements, nodes_of}
-use Rattle.dss_layout.specs.Feeding.{source_nodes, tied_nodes, phase_ends}
-use Rattle.dss_layout.proofs.Membership.{In, in_append_left, in_append_right, in_map_from, in_flat_map, in_flat_map_from, in_filter, in_filter_from, in_zip_from, in_from_list_any}
+use Rattle.dss_ready.specs.Feeding.{source_nodes, tied_nodes, phase_ends}
+use Rattle.dss_ready.proofs.Membership.{In, in_append_left, in_append_right, in_map_from, in_flat_map, in_flat_map_from, in_filter, in_filter_from, in_zip_from, in_from_list_any}
 
 both_true : (x y : Bool) → (x && y) ≡ true → (x ≡ true) × (y ≡ true)
 both_true true y h = (refl, h)

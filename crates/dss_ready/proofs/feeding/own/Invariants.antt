@@ -1,6 +1,6 @@
 use Rattle.std.proofs.Common.{◌≡◌, vec_len}
 use Rattle.std.specs.List.{range_with_len}
-use Rattle.dss_layout.proofs.feeding.own.Given as goal
+use Rattle.dss_ready.proofs.feeding.own.Given as goal
 
 abbrev pub invariant-loop-place : goal.invariant-loop-place
 invariant-loop-place l = (l.labels.items ≡ range_with_len 0 l.place) × (vec_len l.labels ≡ l.place)

@@ -1,6 +1,6 @@
 use Rattle.std.proofs.Common.{arith}
-use Rattle.dss_layout.proofs.Joining.{joined_phases}
-use Rattle.dss_layout.proofs.feeding.join_phases.Goals as goal
+use Rattle.dss_ready.proofs.Joining.{joined_phases}
+use Rattle.dss_ready.proofs.feeding.join_phases.Goals as goal
 
 pub returns : goal.returns
 returns c =

@@ -1,8 +1,8 @@
 use Rattle.std.proofs.Common.{ap, sym, ◌∙◌, slice_get}
 use Rattle.std.specs.Option.{option_map}
 use Rattle.std.specs.Map.Iter.{deref_pair}
-use Rattle.dss_layout.proofs.Joining.{joined_next}
-use Rattle.dss_layout.proofs.feeding.join_elements.Goals as goal
+use Rattle.dss_ready.proofs.Joining.{joined_next}
+use Rattle.dss_ready.proofs.feeding.join_elements.Goals as goal
 
 pub loop-place-preserved : goal.loop-place-preserved
 loop-place-preserved c =

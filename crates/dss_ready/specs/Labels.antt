@@ -6,7 +6,7 @@ use Rattle.dss_layout.specs.declared.nodes.NodeName.{NodeName}
 use Rattle.dss_layout.specs.Nodes.{number_in}
 use Rattle.dss_layout.specs.Terminals.{mentions}
 use Rattle.dss_layout.specs.Layout.{Elements}
-use Rattle.dss_layout.specs.Feeding.{source_nodes, tied_nodes}
+use Rattle.dss_ready.specs.Feeding.{source_nodes, tied_nodes}
 
 -- the places with the label of the pair's second take that of its first
 abbrev pub joined : List ℕ → ℕ × ℕ → List ℕ

@@ -2,8 +2,8 @@
 use Rattle.std.proofs.Common.{◌≡◌, ℕ, ◌==◌, ◌<◌, Bool, true, false, if◌then◌else◌, List, [], ◌∷◌, length, get_or, ◌⊎◌, inl, inr, refl, sym, ap, subst, ◌∙◌, arith}
 use Rattle.std.proofs.lemmas.List.{get_or-map, length-map}
 use Rattle.std.proofs.lemmas.Bool.{eqb-true, eq-eqb}
-use Rattle.dss_layout.specs.Labels.{joined, joined_all}
-use Rattle.dss_layout.proofs.Membership.{In}
+use Rattle.dss_ready.specs.Labels.{joined, joined_all}
+use Rattle.dss_ready.proofs.Membership.{In}
 
 -- both places of each pair are below n
 abbrev pub AreBelow : ℕ → List (ℕ × ℕ) → Type 0

@@ -3,9 +3,9 @@ use Rattle.std.proofs.lemmas.List.{take_all}
 use Rattle.std.specs.Option.{option_map}
 use Rattle.std.specs.Map.Iter.{deref_pair}
 use Rattle.dss_layout.specs.Layout.{LayoutView}
-use Rattle.dss_layout.specs.Feeding.{IsFed}
-use Rattle.dss_layout.proofs.Walk.{first_isolated_at, fed_up_to}
-use Rattle.dss_layout.proofs.feeding.first_isolated.Goals as goal
+use Rattle.dss_ready.specs.Feeding.{IsFed}
+use Rattle.dss_ready.proofs.Labelled.{first_isolated_at, fed_up_to}
+use Rattle.dss_ready.proofs.feeding.first_isolated.Goals as goal
 
 pub returns-then-branch : goal.returns-then-branch
 returns-then-branch c =

@@ -1,7 +1,7 @@
 use Rattle.std.proofs.Common.{◌++◌, [], ◌∷◌, ap, sym, ◌∙◌, add-one, zero-add, arith}
 use Rattle.std.specs.List.{range_with_len}
-use Rattle.dss_layout.proofs.Joining.{range_with_len-more}
-use Rattle.dss_layout.proofs.feeding.own.Goals as goal
+use Rattle.dss_ready.proofs.Joining.{range_with_len-more}
+use Rattle.dss_ready.proofs.feeding.own.Goals as goal
 
 pub loop-place-preserved : goal.loop-place-preserved
 loop-place-preserved c =

@@ -1,8 +1,8 @@
 use Rattle.std.proofs.Common.{◌≡◌, drop}
 use Rattle.std.specs.List.{flat_map}
-use Rattle.dss_layout.specs.Feeding.{phase_ends}
-use Rattle.dss_layout.specs.Labels.{joined_all, group_pairs}
-use Rattle.dss_layout.proofs.feeding.join_phases.Given as goal
+use Rattle.dss_ready.specs.Feeding.{phase_ends}
+use Rattle.dss_ready.specs.Labels.{joined_all, group_pairs}
+use Rattle.dss_ready.proofs.feeding.join_phases.Given as goal
 
 abbrev pub invariant-loop-phase : goal.invariant-loop-phase
 invariant-loop-phase l =

@@ -1,7 +1,7 @@
 use Rattle.std.proofs.Common.{◌≡◌, ◌==◌, not, drop, length, slice_index}
 use Rattle.std.specs.List.{list_any}
 use Rattle.dss_layout.specs.Nodes.{number_in}
-use Rattle.dss_layout.proofs.feeding.is_apart.Given as goal
+use Rattle.dss_ready.proofs.feeding.is_apart.Given as goal
 
 abbrev pub invariant-loop-name : goal.invariant-loop-name
 invariant-loop-name l =

@@ -1,6 +1,6 @@
 use Rattle.std.proofs.Common.{◌≡◌, drop}
-use Rattle.dss_layout.specs.Labels.{joined_all, all_pairs}
-use Rattle.dss_layout.proofs.feeding.join_elements.Given as goal
+use Rattle.dss_ready.specs.Labels.{joined_all, all_pairs}
+use Rattle.dss_ready.proofs.feeding.join_elements.Given as goal
 
 abbrev pub invariant-loop-place : goal.invariant-loop-place
 invariant-loop-place l =

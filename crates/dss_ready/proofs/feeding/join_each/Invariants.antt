@@ -1,6 +1,6 @@
 use Rattle.std.proofs.Common.{◌≡◌, drop}
-use Rattle.dss_layout.specs.Labels.{joined_all, pairs_with}
-use Rattle.dss_layout.proofs.feeding.join_each.Given as goal
+use Rattle.dss_ready.specs.Labels.{joined_all, pairs_with}
+use Rattle.dss_ready.proofs.feeding.join_each.Given as goal
 
 abbrev pub invariant-loop-name : goal.invariant-loop-name
 invariant-loop-name l =
