@@ -2,7 +2,6 @@ pub mod Values
 pub mod Nearest
 pub mod Each
 pub mod Stacks
-pub mod Words
 pub mod SameText
 pub mod CallerLemmas
 pub mod AsciiNumbers

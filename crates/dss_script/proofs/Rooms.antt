@@ -11,7 +11,8 @@ use Rattle.dss_lexer.specs.declared.pair.Pair.{Pair}
 use Rattle.dss_lexer.specs.declared.fault.LineFault.{LineFault}
 use Rattle.dss_lexer.specs.declared.fault.LineFault.TheVariants as lex
 use Rattle.dss_lexer.specs.Answers.{◌>>=◌}
-use Rattle.dss_lexer.specs.Line.{Value, is_blank, is_separator, skip_blanks, skip_separators, starts_comment, ends_line, ends_word, word_len, closer_of, group_at, value_at, value_by, item_at, items_of, pairs_of, after_name, pair, is_group}
+use Rattle.dss_lexer.specs.Line.{is_blank, is_separator, skip_blanks}
+use Rattle.dss_script.specs.Cutting.{Value, skip_separators, starts_comment, ends_line, ends_word, word_len, closer_of, group_at, value_at, value_by, item_at, items_of, pairs_of, after_name, pair, is_group}
 use Rattle.dss_script.specs.Sessions.{paid}
 
 -- the room that words and pairs may take in what comes after a word

@@ -10,7 +10,7 @@ use Rattle.fd_outside.specs.Files.{Files, held}
 use Rattle.dss_lexer.specs.declared.pair.Pair.{Pair}
 use Rattle.dss_lexer.specs.declared.fault.LineFault.{LineFault}
 use Rattle.dss_script.proofs.Rooms.{pairs_room}
-use Rattle.dss_lexer.specs.Line.{pairs_of}
+use Rattle.dss_script.specs.Cutting.{pairs_of}
 use Rattle.dss_values.specs.Names.{bytes}
 use Rattle.dss_profile.specs.declared.command.Place.{Place}
 use Rattle.dss_profile.specs.declared.command.Verb.{Verb}

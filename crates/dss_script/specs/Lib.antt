@@ -1,3 +1,4 @@
+pub mod Cutting
 pub mod Readings
 pub mod Lines
 pub mod Meaning

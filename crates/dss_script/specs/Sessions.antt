@@ -15,7 +15,7 @@ use Rattle.dss_script.specs.declared.session.Turn.{Turn}
 use Rattle.dss_script.specs.declared.session.Turn.TheVariants as turn
 use Rattle.dss_lexer.specs.declared.pair.Pair.{Pair}
 use Rattle.dss_lexer.specs.declared.fault.LineFault.{LineFault}
-use Rattle.dss_lexer.specs.Line.{pairs_of}
+use Rattle.dss_script.specs.Cutting.{pairs_of}
 use Rattle.dss_profile.specs.declared.command.Verb.{Verb}
 use Rattle.dss_profile.specs.declared.command.Verb.TheVariants as verb
 use Rattle.dss_script.specs.declared.meaning.Meaning.{Meaning}

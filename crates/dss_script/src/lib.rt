@@ -7,6 +7,7 @@
 //! faults rose.
 //!
 //! - `bounds`: how many commands a session gives, as a law
+//! - `cutting`: `pairs`, a line's words and pairs
 //! - `fault`: the causes for which a script is refused, and why a session gives no command
 //! - `meaning`: what the words and pairs of a line ask for
 //! - `laws`: a script as a list of events
@@ -17,6 +18,7 @@
 #![tactic(auto)]
 
 mod bounds;
+mod cutting;
 mod fault;
 mod laws;
 mod meaning;
@@ -26,6 +28,7 @@ mod session;
 mod shapes;
 
 pub use bounds::commands_are_few;
+pub use cutting::pairs;
 pub use fault::{ScriptCause, SessionFault};
 pub use laws::said_law;
 pub use session::Session;

@@ -3,14 +3,15 @@ ghost use Rattle.std.specs.Prelude.{◌≡◌, ◌+◌, ◌<◌, ◌≤◌, ◌=
 ghost use Rattle.std.specs.List.{position, position_or_len, before_first, after_first};
 ghost use Rattle.std.specs.Str.Lines.{lines, strip_carriage_return};
 ghost use Rattle.dss_lexer.specs.Answers.{Gives};
-ghost use Rattle.dss_lexer.specs.Line.{pairs_of};
+ghost use Rattle.dss_script.specs.Cutting.{pairs_of};
 ghost use Rattle.dss_script.specs.Lines.{is_line_feed, first_line};
 ghost use Rattle.dss_script.specs.Readings.{advanced, next_line};
 ghost use Rattle.dss_script.specs.Sessions.{next_place, taken_of, files_after};
 
 use crate::ScriptCause;
+use crate::cutting::pairs;
 use crate::meaning::line_cause;
-use dss_lexer::{LineError, Pair, PairList, Text, pairs};
+use dss_lexer::{LineError, Pair, PairList, Text};
 use dss_profile::Place;
 use std::alloc::{AllocError, Global};
 use std::marker::Model;

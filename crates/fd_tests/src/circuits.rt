@@ -4,8 +4,9 @@ ghost use Rattle.dss_layout.specs.Layout.{first_too_many};
 ghost use Rattle.dss_ready.specs.Ready.{HasPassed};
 
 use dss_circuit::{Circuit, Command, ModelError, ModelFault, Place, Verb};
-use dss_lexer::{LineError, PairList, Text, pairs};
+use dss_lexer::{LineError, PairList, Text};
 use dss_ready::ready;
+use dss_script::pairs;
 use fd_arith::TapPair;
 use fd_devices::{BankStates, Positions, Taps};
 use std::alloc::{AllocError, Global};

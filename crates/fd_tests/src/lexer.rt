@@ -2,8 +2,9 @@
 use crate::checks::{holds, same, same_at};
 use dss_lexer::{
     LineError, LineFault, NumberError, NumberFault, Pair, PairList, Row, Text, cells, matrix,
-    number, pairs, postfix,
+    number, postfix,
 };
+use dss_script::pairs;
 use std::alloc::{AllocError, Global};
 use std::fmt::Write;
 

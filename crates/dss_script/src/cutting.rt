@@ -3,10 +3,10 @@ ghost use Rattle.std.specs.Prelude.{◌≡◌, Some, None, Option, length, take,
 ghost use Rattle.std.specs.List.{position};
 ghost use Rattle.std.specs.Str.{chars, is_utf8};
 ghost use Rattle.dss_lexer.specs.Answers.{Gives};
-ghost use Rattle.dss_lexer.specs.Line.{is_blank, is_separator, closer_of, starts_comment, ends_line, ends_word, word_len, group_at, value_at, item_at, items_of, pairs_of, is_group, skip_blanks, skip_separators};
+ghost use Rattle.dss_lexer.specs.Line.{is_blank, is_separator, skip_blanks};
+ghost use Rattle.dss_script.specs.Cutting.{closer_of, starts_comment, ends_line, ends_word, word_len, group_at, value_at, item_at, items_of, pairs_of, is_group, skip_separators};
 
-use crate::text::characters_of;
-use crate::{LineError, LineFault, Pair, Text};
+use dss_lexer::{LineError, LineFault, Pair, Text, characters_of};
 use std::alloc::{AllocError, Global};
 
 fn without_blanks(text: &[char]) -> &[char]
@@ -73,7 +73,7 @@ fn length_of_word(text: &[char], is_name: bool) -> usize
 }
 
 // What stands before the end of a group, and what comes after it.
-#[tactic(auto, unfolding(crate::specs::Line::group_at))]
+#[tactic(auto, unfolding(crate::specs::Cutting::group_at))]
 fn group(text: &[char], closer: char) -> Result<(&[char], &[char]), LineError>
     ensures { Gives (λ x. (record { text = x.0.now; grouped = true }, x.1.now)) result (group_at closer text.now) }
 {
@@ -96,7 +96,7 @@ struct Found<'a> {
     grouped: bool,
 }
 
-#[tactic(auto, unfolding(crate::specs::Line::value_at))]
+#[tactic(auto, unfolding(crate::specs::Cutting::value_at))]
 fn value(text: &[char]) -> Result<(Found<'_>, &[char]), LineError>
     ensures { Gives (λ x. (record { text = x.0.text.now; grouped = x.0.grouped }, x.1.now)) result (value_at text.now) }
 {
@@ -134,7 +134,7 @@ fn value(text: &[char]) -> Result<(Found<'_>, &[char]), LineError>
 }
 
 // One word or pair, and the text after it.
-#[tactic(auto, unfolding(crate::specs::Line::item_at))]
+#[tactic(auto, unfolding(crate::specs::Cutting::item_at))]
 fn item(alloc: Global, text: &[char]) -> Result<(Pair, &[char]), LineError>
     ensures { Gives (λ x. (x.0, x.1.now)) result (item_at text.now) }
 {
@@ -225,7 +225,7 @@ fn text_of(line: &[u8]) -> Result<&str, LineError>
 /// word or a group in brackets or quotes, without nesting. Outside a group `!` and `//` begin a comment.
 /// The length (65,536 bytes) is tested first, then that the line is UTF-8, then the line is cut.
 /// Errors: LineTooLong, NotText, UnclosedGroup, NoMemory.
-#[tactic(auto, unfolding(crate::specs::Line::pairs_of))]
+#[tactic(auto, unfolding(crate::specs::Cutting::pairs_of))]
 pub fn pairs(alloc: Global, line: &[u8]) -> Result<Vec<Pair>, LineError>
     ensures { Gives (λ v. v.items) result (pairs_of line.now) }
 {

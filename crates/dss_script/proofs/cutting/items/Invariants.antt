@@ -1,7 +1,7 @@
 use Rattle.std.proofs.Common.{◌≡◌, ◌-◌, length}
-use Rattle.dss_lexer.specs.Line.{items_of}
-use Rattle.dss_lexer.proofs.Each.{after}
-use Rattle.dss_lexer.proofs.cutting.items.Given as goal
+use Rattle.dss_script.specs.Cutting.{items_of}
+use Rattle.dss_lexer.proofs.CallerLemmas.{after}
+use Rattle.dss_script.proofs.cutting.items.Given as goal
 
 abbrev pub invariant-loop : goal.invariant-loop
 invariant-loop l = after l.found.items (items_of (length l.text - l.counter) l.rest) ≡ items_of (length l.text) l.text

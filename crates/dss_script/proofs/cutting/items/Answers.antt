@@ -1,9 +1,9 @@
 use Rattle.std.proofs.Common.{◌≡◌, ◌∙◌, suc, ◌+◌, ◌-◌, ap, sym, length, arith, false, true}
 use Rattle.std.proofs.lemmas.Result.{err_from_is_err_and}
-use Rattle.dss_lexer.specs.Line.{items_of, item_at, ends_line, skip_separators}
-use Rattle.dss_lexer.proofs.Each.{after, after-nil, fails_further}
-use Rattle.dss_lexer.proofs.Words.{items_none, items_end, items_more, items_fault}
-use Rattle.dss_lexer.proofs.cutting.items.Goals as goal
+use Rattle.dss_script.specs.Cutting.{items_of, item_at, ends_line, skip_separators}
+use Rattle.dss_lexer.proofs.CallerLemmas.{after, after-nil, fails_further}
+use Rattle.dss_script.proofs.Words.{items_none, items_end, items_more, items_fault}
+use Rattle.dss_script.proofs.cutting.items.Goals as goal
 
 pub returns-then-is_line_end : goal.returns-then-is_line_end
 returns-then-is_line_end c =
