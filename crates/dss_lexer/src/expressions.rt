@@ -119,6 +119,7 @@ fn take_word(alloc: Global, stack: &mut Vec<i64>, word: &[char]) -> Result<(), N
     }
 }
 
+#[tactic(auto, using(crate::proofs::Stacks::sole_many))]
 fn sole_operand(stack: &[i64]) -> Result<i128, NumberFault>
     ensures { result ≡ sole (reverse stack.now) }
 {
