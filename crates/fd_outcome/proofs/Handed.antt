@@ -15,7 +15,7 @@ use Rattle.fd_outcome.specs.Way.{whole}
 use Rattle.fd_outcome.specs.Parts.{Wrote, Printed, fault_doing, IsCutIn}
 use Rattle.fd_outcome.proofs.Lists.{names-append, names_of_writes, texts_of_writes}
 use Rattle.fd_outcome.proofs.Ways.{done_after, front_after, made_after, sees_then}
-use Rattle.fd_outcome.proofs.Given.{becomes_as}
+use Rattle.fd_outcome.proofs.Given.{becomes_as, wrote_nothing}
 
 -- ---- texts handed to a sink
 

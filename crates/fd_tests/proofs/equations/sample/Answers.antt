@@ -1,4 +1,4 @@
-use Rattle.std.proofs.Common.{pos, negsuc, [], ◌∷◌, sym, subst, arith, lit<}
+use Rattle.std.proofs.Common.{pos, negsuc, [], ◌∷◌, refl, sym, subst, arith, lit<}
 use Rattle.std.proofs.lemmas.Int.{ints}
 use Rattle.std.proofs.lemmas.List.Elements.{All-cons, All-nil}
 use Rattle.fd_arith.specs.declared.terms.Term.{Term}
@@ -15,14 +15,14 @@ third_linear : IsLinear 2 third
 unfolding third
 third_linear = record {
   term = record { row = lit< tt; col = lit< tt; positive = omega (arith, ints); most = omega (arith, ints) };
-  within = (omega (arith, ints), omega (arith, ints));
+  within = refl;
 }
 
 other_linear : IsLinear 2 other
 unfolding other
 other_linear = record {
   term = record { row = lit< tt; col = lit< tt; positive = omega (arith, ints); most = omega (arith, ints) };
-  within = (omega (arith, ints), omega (arith, ints));
+  within = refl;
 }
 
 all_linear : AreLinear 2 (third ∷ third ∷ other ∷ [])
