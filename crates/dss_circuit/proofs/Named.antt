@@ -66,7 +66,9 @@ stays k v (e ∷ es) name h = by (same_element k e.0) (stays k v es name)
         → (IsSome (lookup (same_element name) es) → IsSome (lookup (same_element name) (insert_entry same_element es k v)))
         → IsSome (lookup (same_element name) (if b then (e.0, v) ∷ es else e ∷ insert_entry same_element es k v))
     by true rest = first_there (same_element name e.0) e.1 v (lookup (same_element name) es) (lookup (same_element name) es) (λ r. r) h
-    by false rest = first_there (same_element name e.0) e.1 e.1 (lookup (same_element name) es) (lookup (same_element name) (insert_entry same_element es k v)) rest h
+    by false rest =
+        first_there (same_element name e.0) e.1 e.1 (lookup (same_element name) es)
+        (lookup (same_element name) (insert_entry same_element es k v)) rest h
 
 -- what is there in one circuit is there in another that has its elements
 module _ (es fs : Elements)
@@ -91,7 +93,9 @@ pub names_kept_by_all : (k : ElementName) (v : Element) (es : Elements) → Name
 names_kept_by_all k v es own h =
     let fs = insert_entry same_element es k v in
     let stay = names_stay es fs (stays k v es) in
-    of_inserted (NamesAreThere fs) same_element es k v (All-weaker (OfValue (NamesAreThere es)) (OfValue (NamesAreThere fs)) (λ entry r. stay entry.1 r) es h) (stay v own)
+    of_inserted (NamesAreThere fs) same_element es k v
+    (All-weaker (OfValue (NamesAreThere es)) (OfValue (NamesAreThere fs)) (λ entry r. stay entry.1 r) es h)
+    (stay v own)
 
 -- an element with its defaults names none
 pub fresh_names : (es : Elements) (solves : ℕ) (kind : Class) (place : Place)
@@ -165,7 +169,9 @@ module _ (elements : Elements) (found : Option Element) (pair : Pair) where
   answered to h = by (named_in to pair) h
     where
       by : (r : Result (List ℕ) ModelFault)
-          → ((r >>= λ name. Ok (Some (record { class = to; name = name }))) >>= λ n. Ok (option_and_then (λ name. lookup (same_element name) elements) n)) ≡ Ok found
+          → ((r >>= λ name. Ok (Some (record { class = to; name = name })))
+          >>= λ n. Ok (option_and_then (λ name. lookup (same_element name) elements) n))
+          ≡ Ok found
           → IfOk r (IsFound to)
       by (Ok name) h = sym (cc h)
       by (Err e) h = tt
@@ -303,22 +309,42 @@ module _ (elements : Elements) (found : Option Element) (pair : Pair) where
       → IfOk (with_named solves found property pair e) (NamesAreThere elements)
   unfolding with_named
   named_there solves (the.Line line) r h =
-      then_ok (λ p. IsTrue (line_named property p)) (NamesAreThere elements) (or_fault fault.UnknownProperty (named line_properties property)) _ (found_ok _ (named line_properties property) _ (row_passes line_named line_properties property refl))
+      then_ok (λ p. IsTrue (line_named property p)) (NamesAreThere elements)
+      (or_fault fault.UnknownProperty (named line_properties property)) _
+      (found_ok _ (named line_properties property) _ (row_passes line_named line_properties property refl))
       (λ p t. made_ok LineNames (NamesAreThere elements) _ the.Line (line_names p line t r h) (λ x q. q))
   named_there solves (the.Load load) r h =
-      then_ok (λ p. IsTrue (load_named property p)) (NamesAreThere elements) (or_fault fault.UnknownProperty (named load_properties property)) _ (found_ok _ (named load_properties property) _ (row_passes load_named load_properties property refl))
+      then_ok (λ p. IsTrue (load_named property p)) (NamesAreThere elements)
+      (or_fault fault.UnknownProperty (named load_properties property)) _
+      (found_ok _ (named load_properties property) _ (row_passes load_named load_properties property refl))
       (λ p t. made_ok LoadNames (NamesAreThere elements) _ the.Load (load_names p load t r h) (λ x q. q))
   named_there solves (the.RegControl control) r h =
-      then_ok (λ p. IsTrue (regcontrol_named property p)) (NamesAreThere elements) (or_fault fault.UnknownProperty (named regcontrol_properties property)) _ (found_ok _ (named regcontrol_properties property) _ (row_passes regcontrol_named regcontrol_properties property refl))
-      (λ p t. made_ok RegControlNames (NamesAreThere elements) _ the.RegControl (regcontrol_names p control t r h) (λ x q. q))
+      then_ok (λ p. IsTrue (regcontrol_named property p)) (NamesAreThere elements)
+      (or_fault fault.UnknownProperty (named regcontrol_properties property)) _ (found_ok _
+      (named regcontrol_properties property) _ (row_passes regcontrol_named regcontrol_properties property refl))
+      (λ p t.
+      made_ok RegControlNames (NamesAreThere elements) _ the.RegControl (regcontrol_names p control t r h) (λ x q. q))
   named_there solves (the.CapControl control) r h =
-      then_ok (λ p. IsTrue (capcontrol_named property p)) (NamesAreThere elements) (or_fault fault.UnknownProperty (named capcontrol_properties property)) _ (found_ok _ (named capcontrol_properties property) _ (row_passes capcontrol_named capcontrol_properties property refl))
-      (λ p t. made_ok CapControlNames (NamesAreThere elements) _ the.CapControl (capcontrol_names p control t r h) (λ x q. q))
-  named_there solves (the.Vsource source) r h = any_ok (NamesAreThere elements) _ _ (λ p. kept_ok (NamesAreThere elements) (with_vsource p pair source) the.Vsource (λ x. tt))
-  named_there solves (the.Linecode code) r h = any_ok (NamesAreThere elements) _ _ (λ p. kept_ok (NamesAreThere elements) (with_linecode p pair code) the.Linecode (λ x. tt))
-  named_there solves (the.Transformer xfmr) r h = any_ok (NamesAreThere elements) _ _ (λ p. kept_ok (NamesAreThere elements) (with_transformer solves p pair xfmr) the.Transformer (λ x. tt))
-  named_there solves (the.Capacitor bank) r h = any_ok (NamesAreThere elements) _ _ (λ p. kept_ok (NamesAreThere elements) (with_capacitor solves p pair bank) the.Capacitor (λ x. tt))
-  named_there solves (the.Loadshape shape) r h = any_ok (NamesAreThere elements) _ _ (λ p. kept_ok (NamesAreThere elements) (with_loadshape p pair shape) the.Loadshape (λ x. tt))
+      then_ok (λ p. IsTrue (capcontrol_named property p)) (NamesAreThere elements)
+      (or_fault fault.UnknownProperty (named capcontrol_properties property)) _ (found_ok _
+      (named capcontrol_properties property) _ (row_passes capcontrol_named capcontrol_properties property refl))
+      (λ p t.
+      made_ok CapControlNames (NamesAreThere elements) _ the.CapControl (capcontrol_names p control t r h) (λ x q. q))
+  named_there solves (the.Vsource source) r h =
+      any_ok (NamesAreThere elements) _ _ (λ p.
+      kept_ok (NamesAreThere elements) (with_vsource p pair source) the.Vsource (λ x. tt))
+  named_there solves (the.Linecode code) r h =
+      any_ok (NamesAreThere elements) _ _ (λ p.
+      kept_ok (NamesAreThere elements) (with_linecode p pair code) the.Linecode (λ x. tt))
+  named_there solves (the.Transformer xfmr) r h =
+      any_ok (NamesAreThere elements) _ _ (λ p.
+      kept_ok (NamesAreThere elements) (with_transformer solves p pair xfmr) the.Transformer (λ x. tt))
+  named_there solves (the.Capacitor bank) r h =
+      any_ok (NamesAreThere elements) _ _ (λ p.
+      kept_ok (NamesAreThere elements) (with_capacitor solves p pair bank) the.Capacitor (λ x. tt))
+  named_there solves (the.Loadshape shape) r h =
+      any_ok (NamesAreThere elements) _ _ (λ p.
+      kept_ok (NamesAreThere elements) (with_loadshape p pair shape) the.Loadshape (λ x. tt))
 
   -- a pair leaves each name as it was, or sets that of an element that is there
   pub pair_there : (solves : ℕ) (e : Element) → referred elements (class_of e) pair ≡ Ok found

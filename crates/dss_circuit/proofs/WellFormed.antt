@@ -55,7 +55,8 @@ unfolding is_name
 key_of class name h =
     let parts = and_parts (nat_lt 0 (length name)) (list_all is_name_character name) h in
     record {
-      legal = both (nat_lt 0 (length (lower name))) (list_all is_name_character (lower name)) (ap (nat_lt 0) (length-map name to_ascii_lowercase) ∙ parts.0) (all_stay name parts.1);
+      legal = both (nat_lt 0 (length (lower name))) (list_all is_name_character (lower name))
+          (ap (nat_lt 0) (length-map name to_ascii_lowercase) ∙ parts.0) (all_stay name parts.1);
       in_lower_case = lower_lower name;
     }
 

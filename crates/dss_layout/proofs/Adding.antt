@@ -40,8 +40,11 @@ new_nodes-append before (x ∷ xs) ys = by (list_any (same_node x) before) (new_
   where
     by : (b : Bool)
         → new_nodes before (xs ++ ys) ≡ new_nodes before xs ++ new_nodes (before ++ new_nodes before xs) ys
-        → new_nodes (before ++ x ∷ []) (xs ++ ys) ≡ new_nodes (before ++ x ∷ []) xs ++ new_nodes ((before ++ x ∷ []) ++ new_nodes (before ++ x ∷ []) xs) ys
-        → (if b then new_nodes before (xs ++ ys) else x ∷ new_nodes (before ++ x ∷ []) (xs ++ ys)) ≡ (if b then new_nodes before xs else x ∷ new_nodes (before ++ x ∷ []) xs) ++ new_nodes (before ++ (if b then new_nodes before xs else x ∷ new_nodes (before ++ x ∷ []) xs)) ys
+        → new_nodes (before ++ x ∷ []) (xs ++ ys)
+        ≡ new_nodes (before ++ x ∷ []) xs ++ new_nodes ((before ++ x ∷ []) ++ new_nodes (before ++ x ∷ []) xs) ys
+        → (if b then new_nodes before (xs ++ ys) else x ∷ new_nodes (before ++ x ∷ []) (xs ++ ys))
+        ≡ (if b then new_nodes before xs else x ∷ new_nodes (before ++ x ∷ []) xs)
+        ++ new_nodes (before ++ (if b then new_nodes before xs else x ∷ new_nodes (before ++ x ∷ []) xs)) ys
     by true here later = here
     by false here later =
         ap (λ l. x ∷ l) later
@@ -50,10 +53,14 @@ new_nodes-append before (x ∷ xs) ys = by (list_any (same_node x) before) (new_
 -- the nodes of two lists, one after the other
 pub noted_twice : (before xs ys : List NodeName)
     → (before ++ new_nodes before xs) ++ new_nodes (before ++ new_nodes before xs) ys ≡ before ++ new_nodes before (xs ++ ys)
-noted_twice before xs ys = append_assoc before (new_nodes before xs) (new_nodes (before ++ new_nodes before xs) ys) ∙ ap (λ l. before ++ l) (sym (new_nodes-append before xs ys))
+noted_twice before xs ys =
+    append_assoc before (new_nodes before xs) (new_nodes (before ++ new_nodes before xs) ys)
+    ∙ ap (λ l. before ++ l) (sym (new_nodes-append before xs ys))
 
 pub noted_filtered : (before xs ys : List NodeName)
-    → (before ++ new_nodes before (filter is_node xs)) ++ new_nodes (before ++ new_nodes before (filter is_node xs)) (filter is_node ys) ≡ before ++ new_nodes before (filter is_node (xs ++ ys))
+    → (before ++ new_nodes before (filter is_node xs))
+    ++ new_nodes (before ++ new_nodes before (filter is_node xs)) (filter is_node ys)
+    ≡ before ++ new_nodes before (filter is_node (xs ++ ys))
 noted_filtered before xs ys =
     noted_twice before (filter is_node xs) (filter is_node ys) ∙ ap (λ l. before ++ new_nodes before l) (sym (filter-append is_node xs ys))
 
@@ -67,12 +74,17 @@ passes_limit-added v name e nodes branches more magnitudes most n b bp m mp =
     length-append v.branches _ ∙ ap (λ k. length v.branches + k) (length-phase_names name (branch_phases e)) ∙ (λ i. sym b i + sym bp i) in
     let k : length (v.magnitudes ++ phase_names name (magnitude_phases e)) ≡ magnitudes + most =
     length-append v.magnitudes _ ∙ ap (λ k. length v.magnitudes + k) (length-phase_names name (magnitude_phases e)) ∙ (λ i. sym m i + sym mp i) in
-    let c : nodes + branches + more ≡ length (v.nodes ++ new_nodes v.nodes (mentions e)) + length (v.branches ++ phase_names name (branch_phases e)) = omega (arith, l, n) in
+    let c : nodes + branches + more
+    ≡ length (v.nodes ++ new_nodes v.nodes (mentions e)) + length (v.branches ++ phase_names name (branch_phases e)) =
+    omega (arith, l, n) in
     (λ i. nat_lt most_complex (c i) || nat_lt most_magnitudes (sym k i))
 
 -- the sums before one more element
-sums_before-push : (f : Element → ℕ) (names : ElementName → ℕ → List PhaseName) (same : (n : ElementName) (k : ℕ) → length (names n k) ≡ k) (s : ℕ) (es : Elements) (name : ElementName) (e : Element)
-    → sums_before f s (es ++ (name, e) ∷ []) ≡ sums_before f s es ++ (s + length (flat_map (λ x. names x.0 (f x.1)) es)) ∷ []
+sums_before-push : (f : Element → ℕ) (names : ElementName → ℕ → List PhaseName)
+    (same : (n : ElementName) (k : ℕ) → length (names n k) ≡ k) (s : ℕ) (es : Elements) (name : ElementName)
+    (e : Element)
+    → sums_before f s (es ++ (name, e) ∷ [])
+    ≡ sums_before f s es ++ (s + length (flat_map (λ x. names x.0 (f x.1)) es)) ∷ []
 sums_before-push f names same s [] name e = ap (λ n. n ∷ []) (omega arith)
 sums_before-push f names same s (x ∷ es) name e =
     let rest = flat_map (λ y. names y.0 (f y.1)) es in
@@ -85,9 +97,16 @@ pub layout_of-push : (es : Elements) (name : ElementName) (e : Element)
     → layout_of (es ++ (name, e) ∷ []) ≡ added (layout_of es) name e
 layout_of-push es name e =
     let one = (name, e) ∷ [] in
-    let nodes = ap (new_nodes []) (flat_map-append (λ x. mentions x.1) es one ∙ ap (λ l. flat_map (λ x. mentions x.1) es ++ l) (append-nil (mentions e))) ∙ new_nodes-append [] (flat_map (λ x. mentions x.1) es) (mentions e) in
-    let branches = flat_map-append (λ x. phase_names x.0 (branch_phases x.1)) es one ∙ ap (λ l. flat_map (λ x. phase_names x.0 (branch_phases x.1)) es ++ l) (append-nil (phase_names name (branch_phases e))) in
-    let magnitudes = flat_map-append (λ x. phase_names x.0 (magnitude_phases x.1)) es one ∙ ap (λ l. flat_map (λ x. phase_names x.0 (magnitude_phases x.1)) es ++ l) (append-nil (phase_names name (magnitude_phases e))) in
+    let nodes = ap (new_nodes []) (flat_map-append (λ x. mentions x.1) es one
+    ∙ ap (λ l. flat_map (λ x. mentions x.1) es ++ l) (append-nil (mentions e)))
+    ∙ new_nodes-append [] (flat_map (λ x. mentions x.1) es) (mentions e) in
+    let branches = flat_map-append (λ x. phase_names x.0 (branch_phases x.1)) es one
+    ∙ ap (λ l. flat_map (λ x. phase_names x.0 (branch_phases x.1)) es ++ l)
+    (append-nil (phase_names name (branch_phases e))) in
+    let magnitudes = flat_map-append (λ x. phase_names x.0 (magnitude_phases x.1)) es one
+    ∙ ap (λ l. flat_map (λ x. phase_names x.0 (magnitude_phases x.1)) es ++ l)
+    (append-nil (phase_names name (magnitude_phases e))) in
     let bs = sums_before-push branch_phases phase_names length-phase_names 0 es name e ∙ ap (λ k. sums_before branch_phases 0 es ++ k ∷ []) (zero-add _) in
-    let ms = sums_before-push magnitude_phases phase_names length-phase_names 0 es name e ∙ ap (λ k. sums_before magnitude_phases 0 es ++ k ∷ []) (zero-add _) in
+    let ms = sums_before-push magnitude_phases phase_names length-phase_names 0 es name e
+    ∙ ap (λ k. sums_before magnitude_phases 0 es ++ k ∷ []) (zero-add _) in
     (λ i. record { nodes = nodes i; branches = branches i; magnitudes = magnitudes i; branches_before = bs i; magnitudes_before = ms i })

@@ -47,7 +47,8 @@ pub too_many_at : (es : Elements) (k : ℕ) (name : ElementName) (e : Element) (
     → slice_get es k ≡ Some (name, e) → v ≡ layout_of (take k es)
     → IsPassedBy es k → b ≡ passes_limit (added v name e) → b ≡ true → laid_out es ≡ Err (TooMany k)
 too_many_at es k name e v b h so_far before passes is_true =
-    ap (λ o. laid_out_unless o es) (first_some (is_past_limit_at es) (length es) k (slice_get_within es k (name, e) h) before.below (decided es k name e v b h so_far passes ∙ is_true))
+    ap (λ o. laid_out_unless o es) (first_some (is_past_limit_at es) (length es) k (slice_get_within es k (name, e) h)
+    before.below (decided es k name e v b h so_far passes ∙ is_true))
 
 -- no limit is passed with the element at this place
 pub passed_more : (es : Elements) (k : ℕ) (name : ElementName) (e : Element) (v : LayoutView) (b : Bool)

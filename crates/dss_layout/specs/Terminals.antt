@@ -67,7 +67,9 @@ at_two_buses (Err Unsupported) second = Err Unsupported
 abbrev pub terminal_numbers : Element → Result (List ℕ × List ℕ) TerminalFault
 terminal_numbers (the.Vsource v) = at_one_bus (source_numbers v.phases v.bus1.nodes)
 terminal_numbers (the.Line l) = at_two_buses (bus_numbers (line_numbers l.phases) l.bus1) (bus_numbers (line_numbers l.phases) l.bus2)
-terminal_numbers (the.Transformer t) = at_two_buses (bus_numbers (phase_numbers t.phases t.first.conn) t.first.bus) (bus_numbers (phase_numbers t.phases t.second.conn) t.second.bus)
+terminal_numbers (the.Transformer t) =
+    at_two_buses (bus_numbers (phase_numbers t.phases t.first.conn) t.first.bus)
+    (bus_numbers (phase_numbers t.phases t.second.conn) t.second.bus)
 terminal_numbers (the.Capacitor c) = at_one_bus (bus_numbers (phase_numbers c.phases c.conn) c.bus1)
 terminal_numbers (the.Load l) = at_one_bus (bus_numbers (phase_numbers l.phases l.conn) l.bus1)
 terminal_numbers other = Ok ([], [])

@@ -27,7 +27,9 @@ part_word place = if place % 2 == 0 then codes " re" else codes " im"
 
 -- the name of a complex unknown: a node or a branch phase
 abbrev pub complex_name : LayoutView → ℕ → Option (List ℕ)
-complex_name layout k = if nat_lt k (length layout.nodes) then option_map node_text (slice_get layout.nodes k) else option_map phase_text (slice_get layout.branches (k - length layout.nodes))
+complex_name layout k =
+    if nat_lt k (length layout.nodes) then option_map node_text (slice_get layout.nodes k)
+    else option_map phase_text (slice_get layout.branches (k - length layout.nodes))
 
 -- the name of the real unknown at a place
 abbrev pub unknown_name : LayoutView → ℕ → Option (List ℕ)

@@ -86,7 +86,9 @@ exponent_plain cs h = cases (are_digits (unsigned cs) && (nat_lt 0 (length (unsi
     cases : (b : Bool)
         → (are_digits (unsigned cs) && (nat_lt 0 (length (unsigned cs)) && nat_le (length (unsigned cs)) 2)) ≡ b
         → are_plain cs ≡ true
-    cases true e = unsigned_plain cs (digits_plain (unsigned cs) (both (are_digits (unsigned cs)) (nat_lt 0 (length (unsigned cs)) && nat_le (length (unsigned cs)) 2) e).0)
+    cases true e =
+        unsigned_plain cs (digits_plain (unsigned cs)
+        (both (are_digits (unsigned cs)) (nat_lt 0 (length (unsigned cs)) && nat_le (length (unsigned cs)) 2) e).0)
     cases false e = let none : is_some (if false then shift else None) ≡ true = subst (λ b. is_some (if b then shift else None) ≡ true) e h in absurd (cc)
 
 shift_plain : (u : List ℕ) → is_some (shift_of u) ≡ true → are_plain (after_first is_exponent_mark u) ≡ true
@@ -98,7 +100,9 @@ shift_plain u h = cases (nat_lt (position_or_len is_exponent_mark u) (length u))
     cases : (b : Bool) → nat_lt (position_or_len is_exponent_mark u) (length u) ≡ b
         → are_plain (after_first is_exponent_mark u) ≡ true
     cases true e = exponent_plain (after_first is_exponent_mark u) (subst P e h)
-    cases false e = ap are_plain (drop_over u (position_or_len is_exponent_mark u + 1) (let h : length u ≤ position_or_len is_exponent_mark u = ltb-false _ _ e in omega arith))
+    cases false e =
+        ap are_plain (drop_over u (position_or_len is_exponent_mark u + 1)
+        (let h : length u ≤ position_or_len is_exponent_mark u = ltb-false _ _ e in omega arith))
 
 -- what is read is a mantissa with an exponent
 read_by : (negative : Bool) (whole decimals : List ℕ) (shift : Option Shift)
@@ -112,7 +116,9 @@ read_by negative whole decimals (Some shift) = cases (are_mantissa whole decimal
     cases false e = inl (ap (λ b. if b then within_limit (with_sign negative (units whole decimals shift)) else Err BadNumber) e)
 
 mantissa_plain : (cs : List ℕ) → is_some (shift_of (unsigned cs)) ≡ true
-    → are_mantissa (before_first is_point (before_first is_exponent_mark (unsigned cs))) (after_first is_point (before_first is_exponent_mark (unsigned cs))) ≡ true
+    → are_mantissa (before_first is_point (before_first is_exponent_mark (unsigned cs)))
+    (after_first is_point (before_first is_exponent_mark (unsigned cs)))
+    ≡ true
     → are_plain cs ≡ true
 mantissa_plain cs h k =
     let mantissa : List ℕ = before_first is_exponent_mark (unsigned cs) in
@@ -127,10 +133,9 @@ mantissa_plain cs h k =
 pub number_foreign : (cs : List ℕ) → are_plain cs ≡ false → number_of cs ≡ Err BadNumber
 unfolding number_of
 number_foreign cs h =
-    ⊎_elim
-    (λ bad. bad)
-    (λ read. let plain : are_plain cs ≡ true = mantissa_plain cs read.0 read.1 in absurd (cc))
-    (read_by (is_negative cs) (before_first is_point (before_first is_exponent_mark (unsigned cs))) (after_first is_point (before_first is_exponent_mark (unsigned cs))) (shift_of (unsigned cs)))
+    ⊎_elim (λ bad. bad) (λ read. let plain : are_plain cs ≡ true = mantissa_plain cs read.0 read.1 in absurd (cc))
+    (read_by (is_negative cs) (before_first is_point (before_first is_exponent_mark (unsigned cs)))
+    (after_first is_point (before_first is_exponent_mark (unsigned cs))) (shift_of (unsigned cs)))
 
 plain_ascii : (cs : List ℕ) → are_plain cs ≡ true → IsAscii cs
 plain_ascii [] h = IsAscii-nil

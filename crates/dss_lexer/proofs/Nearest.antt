@@ -31,7 +31,9 @@ pub nearest_none : (v n l r : ℕ) → v < 10 ^ n → n + r < l → nearest (v *
 nearest_none v n l r small h =
     let some : 1 ≤ 10 ^ r = one-le-pow r 10 (omega arith) in
     let more : 1 ≤ 10 ^ (l - (n + r + 1)) = one-le-pow (l - (n + r + 1)) 10 (omega arith) in
-    let split : 10 ^ l ≡ 10 ^ (n + r + 1) * 10 ^ (l - (n + r + 1)) = ap (λ k. 10 ^ k) (let e : l ≡ (n + r + 1) + (l - (n + r + 1)) = omega arith in e) ∙ pow-add 10 (n + r + 1) (l - (n + r + 1)) in
+    let split : 10 ^ l ≡ 10 ^ (n + r + 1) * 10 ^ (l - (n + r + 1)) =
+    ap (λ k. 10 ^ k) (let e : l ≡ (n + r + 1) + (l - (n + r + 1)) = omega arith in e)
+    ∙ pow-add 10 (n + r + 1) (l - (n + r + 1)) in
     let front : 10 ^ (n + r + 1) ≡ 10 ^ n * 10 ^ r * 10 = pow-add 10 (n + r) 1 ∙ ap (λ k. k * 10) (pow-add 10 n r) in
     let high : 10 ^ (n + r + 1) * 1 ≤ 10 ^ (n + r + 1) * 10 ^ (l - (n + r + 1)) = mul-le-mul_left (10 ^ (n + r + 1)) more in
     let low : 10 ^ r * (v + 1) ≤ 10 ^ r * 10 ^ n = mul-le-mul_left (10 ^ r) (let one : v + 1 ≤ 10 ^ n = omega arith in one) in
@@ -44,7 +46,8 @@ cut_by k p q v rest s t d some e h divided last scale =
     let low : k * (rest + 1) ≤ k * p = mul-le-mul_left k (let one : rest + 1 ≤ p = omega arith in one) in
     let digit : (k * p) * t ≤ (k * p) * 9 = mul-le-mul_left (k * p) last in
     let whole : v * k ≡ (q * p + rest) * k = ap (λ z. z * k) e in
-    nearest_is (v * k) d s (2 * ((k * p) * t) + 2 * (k * rest)) (let twice : s * (2 * d) ≡ s * (2 * (k * (p * 10))) = ap (λ z. s * (2 * z)) scale in omega arith) (omega arith)
+    nearest_is (v * k) d s (2 * ((k * p) * t) + 2 * (k * rest))
+    (let twice : s * (2 * d) ≡ s * (2 * (k * (p * 10))) = ap (λ z. s * (2 * z)) scale in omega arith) (omega arith)
 
 -- the first digit that is dropped decides
 pub nearest_cut : (v q rest m r : ℕ) → v ≡ q * 10 ^ m + rest → rest < 10 ^ m
@@ -81,7 +84,8 @@ pub size_up : (v front zeroed size l r : ℕ) → front ≡ min 10_000_000_000_0
     → l ≤ r
     → size ≡ min 1_000_000_000_000_000_000 (nearest (v * 10 ^ r) (10 ^ l))
 size_up v front zeroed size l r e₁ e₂ e₃ h =
-    let zeroed_is : zeroed ≡ min 10_000_000_000_000_000_000 (min 10_000_000_000_000_000_000 v * 10 ^ (r - l)) = e₂ ∙ ap (λ f. min 10_000_000_000_000_000_000 (f * 10 ^ (r - l))) e₁ in
+    let zeroed_is : zeroed ≡ min 10_000_000_000_000_000_000 (min 10_000_000_000_000_000_000 v * 10 ^ (r - l)) =
+    e₂ ∙ ap (λ f. min 10_000_000_000_000_000_000 (f * 10 ^ (r - l))) e₁ in
     omega (arith, zeros_cut v (r - l), nearest_whole v l r h)
 
 pub size_none : (v n l r : ℕ) → v < 10 ^ n → n + r < l
@@ -111,4 +115,6 @@ sized_cut negative size n e =
 pub within_limit_cut : (negative : Bool) (whole decimals : List ℕ) (shift : Shift) (size : ℕ)
     → size ≡ min 1_000_000_000_000_000_000 (unsigned_abs (units whole decimals shift))
     → within_limit (with_sign negative (pos size)) ≡ within_limit (with_sign negative (units whole decimals shift))
-within_limit_cut negative whole decimals shift size e = sized_cut negative size (nearest (value (whole ++ decimals) * 10 ^ (shift.right + 9)) (10 ^ (shift.left + length decimals))) e
+within_limit_cut negative whole decimals shift size e =
+    sized_cut negative size
+    (nearest (value (whole ++ decimals) * 10 ^ (shift.right + 9)) (10 ^ (shift.left + length decimals))) e

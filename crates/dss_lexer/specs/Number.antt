@@ -68,7 +68,9 @@ within_limit z = if nat_lt (unsigned_abs z) 1_000_000_000_000_000_000 then Ok z 
 
 abbrev pub number_from : Bool → List ℕ → List ℕ → Option Shift → Result ℤ NumberFault
 number_from negative whole decimals None = Err BadNumber
-number_from negative whole decimals (Some shift) = if are_mantissa whole decimals then within_limit (with_sign negative (units whole decimals shift)) else Err BadNumber
+number_from negative whole decimals (Some shift) =
+    if are_mantissa whole decimals then within_limit (with_sign negative (units whole decimals shift))
+    else Err BadNumber
 
 -- a sign, digits with at most one point, and an exponent
 unfoldable pub number_of : List ℕ → Result ℤ NumberFault

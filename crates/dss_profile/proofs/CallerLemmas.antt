@@ -45,7 +45,10 @@ pub compares : eq-value.it ≡ same_element
 compares = λ i a b. eqb (numbered a.class i) (numbered b.class i) && text_eq a.name b.name
 
 abbrev class_at : ℕ → Class
-class_at n = slice_index_or (the.Vsource ∷ the.Linecode ∷ the.Line ∷ the.Transformer ∷ the.Capacitor ∷ the.Load ∷ the.RegControl ∷ the.CapControl ∷ the.Loadshape ∷ []) n the.Vsource
+class_at n =
+    slice_index_or (the.Vsource ∷ the.Linecode
+    ∷ the.Line ∷ the.Transformer ∷ the.Capacitor ∷ the.Load ∷ the.RegControl ∷ the.CapControl ∷ the.Loadshape ∷ [])
+    n the.Vsource
 
 found : (a : Class) → class_at (class_number a) ≡ a
 found the.Vsource = refl
@@ -66,7 +69,12 @@ itself p q a b = λ i. a i && b i
 
 -- the same element is an equal one
 pub equal : SameElementIsEqual
-equal a b = (same, λ e. itself _ _ (eq-eqb _ _ (ap (λ (x : ElementName). class_number x.class) e)) ((bytes_decides a.name b.name).1 (ap (λ (x : ElementName). x.name) e)))
+equal a b = (
+  same,
+  λ e.
+      itself _ _ (eq-eqb _ _ (ap (λ (x : ElementName). class_number x.class) e))
+      ((bytes_decides a.name b.name).1 (ap (λ (x : ElementName). x.name) e)),
+)
   where
     same : IsTrue (same_element a b) → a ≡ b
     same h =
@@ -84,15 +92,33 @@ IsOf class e = class_of e ≡ class
 named_class : (solves : ℕ) (found : Option Element) (name : List ℕ) (pair : Pair) (e : Element)
     → IfOk (with_named solves found name pair e) (IsOf (class_of e))
 unfolding with_named
-named_class solves found name pair (the_element.Vsource source) = any_ok (IsOf the.Vsource) _ _ (λ p. kept_ok (IsOf the.Vsource) (with_vsource p pair source) the_element.Vsource (λ x. refl))
-named_class solves found name pair (the_element.Linecode code) = any_ok (IsOf the.Linecode) _ _ (λ p. kept_ok (IsOf the.Linecode) (with_linecode p pair code) the_element.Linecode (λ x. refl))
-named_class solves found name pair (the_element.Line line) = any_ok (IsOf the.Line) _ _ (λ p. kept_ok (IsOf the.Line) (with_line (code_found found) p pair line) the_element.Line (λ x. refl))
-named_class solves found name pair (the_element.Transformer xfmr) = any_ok (IsOf the.Transformer) _ _ (λ p. kept_ok (IsOf the.Transformer) (with_transformer solves p pair xfmr) the_element.Transformer (λ x. refl))
-named_class solves found name pair (the_element.Capacitor bank) = any_ok (IsOf the.Capacitor) _ _ (λ p. kept_ok (IsOf the.Capacitor) (with_capacitor solves p pair bank) the_element.Capacitor (λ x. refl))
-named_class solves found name pair (the_element.Load load) = any_ok (IsOf the.Load) _ _ (λ p. kept_ok (IsOf the.Load) (with_load (is_some found) p pair load) the_element.Load (λ x. refl))
-named_class solves found name pair (the_element.RegControl control) = any_ok (IsOf the.RegControl) _ _ (λ p. kept_ok (IsOf the.RegControl) (with_regcontrol (is_some found) p pair control) the_element.RegControl (λ x. refl))
-named_class solves found name pair (the_element.CapControl control) = any_ok (IsOf the.CapControl) _ _ (λ p. kept_ok (IsOf the.CapControl) (with_capcontrol (is_some found) p pair control) the_element.CapControl (λ x. refl))
-named_class solves found name pair (the_element.Loadshape shape) = any_ok (IsOf the.Loadshape) _ _ (λ p. kept_ok (IsOf the.Loadshape) (with_loadshape p pair shape) the_element.Loadshape (λ x. refl))
+named_class solves found name pair (the_element.Vsource source) =
+    any_ok (IsOf the.Vsource) _ _ (λ p.
+    kept_ok (IsOf the.Vsource) (with_vsource p pair source) the_element.Vsource (λ x. refl))
+named_class solves found name pair (the_element.Linecode code) =
+    any_ok (IsOf the.Linecode) _ _ (λ p.
+    kept_ok (IsOf the.Linecode) (with_linecode p pair code) the_element.Linecode (λ x. refl))
+named_class solves found name pair (the_element.Line line) =
+    any_ok (IsOf the.Line) _ _ (λ p.
+    kept_ok (IsOf the.Line) (with_line (code_found found) p pair line) the_element.Line (λ x. refl))
+named_class solves found name pair (the_element.Transformer xfmr) =
+    any_ok (IsOf the.Transformer) _ _ (λ p.
+    kept_ok (IsOf the.Transformer) (with_transformer solves p pair xfmr) the_element.Transformer (λ x. refl))
+named_class solves found name pair (the_element.Capacitor bank) =
+    any_ok (IsOf the.Capacitor) _ _ (λ p.
+    kept_ok (IsOf the.Capacitor) (with_capacitor solves p pair bank) the_element.Capacitor (λ x. refl))
+named_class solves found name pair (the_element.Load load) =
+    any_ok (IsOf the.Load) _ _ (λ p.
+    kept_ok (IsOf the.Load) (with_load (is_some found) p pair load) the_element.Load (λ x. refl))
+named_class solves found name pair (the_element.RegControl control) =
+    any_ok (IsOf the.RegControl) _ _ (λ p.
+    kept_ok (IsOf the.RegControl) (with_regcontrol (is_some found) p pair control) the_element.RegControl (λ x. refl))
+named_class solves found name pair (the_element.CapControl control) =
+    any_ok (IsOf the.CapControl) _ _ (λ p.
+    kept_ok (IsOf the.CapControl) (with_capcontrol (is_some found) p pair control) the_element.CapControl (λ x. refl))
+named_class solves found name pair (the_element.Loadshape shape) =
+    any_ok (IsOf the.Loadshape) _ _ (λ p.
+    kept_ok (IsOf the.Loadshape) (with_loadshape p pair shape) the_element.Loadshape (λ x. refl))
 
 -- a pair keeps an element's class
 pub class_kept : (solves : ℕ) (found : Option Element) (pair : Pair) (e new : Element)

@@ -109,7 +109,9 @@ switch_constants constants h =
 pub linecode_in_range : (property : LinecodeProperty) (pair : Pair) (code : Linecode) → LinecodeInRange code
     → IfOk (with_linecode property pair code) LinecodeInRange
 linecode_in_range of_code.Nphases pair code h = made_ok _ LinecodeInRange _ _ (whole_ok _ _ pair) (λ v r. record { nphases = r; constants = h.constants })
-linecode_in_range (of_code.Data property) pair code h = made_ok _ LinecodeInRange _ _ (constants_in_range property pair code.constants h.constants) (λ v r. record { nphases = h.nphases; constants = r })
+linecode_in_range (of_code.Data property) pair code h =
+    made_ok _ LinecodeInRange _ _ (constants_in_range property pair code.constants h.constants)
+    (λ v r. record { nphases = h.nphases; constants = r })
 linecode_in_range of_code.Units pair code h = kept_ok LinecodeInRange _ _ (λ v. record { nphases = h.nphases; constants = h.constants })
 linecode_in_range of_code.Basefreq pair code h = kept_ok LinecodeInRange _ _ (λ v. record { nphases = h.nphases; constants = h.constants })
 linecode_in_range of_code.Ignored pair code h = h
@@ -140,7 +142,9 @@ line_in_range code of_line.Phases pair line c h = made_ok _ LineInRange _ _ (who
 line_in_range code of_line.Linecode pair line c h = code_in_range code pair line c h
 line_in_range code of_line.Length pair line c h = made_ok _ LineInRange _ _ (number_ok _ _ pair) (λ v r. assumption (h, r))
 line_in_range code of_line.Units pair line c h = kept_ok LineInRange _ _ (λ v. assumption h)
-line_in_range code (of_line.Data property) pair line c h = made_ok _ LineInRange _ _ (constants_in_range property pair line.constants h.constants) (λ v r. record { bus1 = h.bus1; bus2 = h.bus2; phases = h.phases; length = h.length; constants = r })
+line_in_range code (of_line.Data property) pair line c h =
+    made_ok _ LineInRange _ _ (constants_in_range property pair line.constants h.constants)
+    (λ v r. record { bus1 = h.bus1; bus2 = h.bus2; phases = h.phases; length = h.length; constants = r })
 line_in_range code of_line.Switch pair line c h = kept_ok LineInRange _ _ (λ on. switch_in_range on line h)
 line_in_range code of_line.Basefreq pair line c h = kept_ok LineInRange _ _ (λ v. assumption h)
 line_in_range code of_line.Ignored pair line c h = h
@@ -160,7 +164,17 @@ winding_in_range solves of_winding.Numtaps pair winding h = made_ok _ WindingInR
 
 with_windings : (xfmr : Transformer) (first second : Winding) → TransformerInRange xfmr → WindingInRange first
     → WindingInRange second → TransformerInRange (record xfmr { first = first; second = second })
-with_windings xfmr first second h a b = record { phases = h.phases; windings = h.windings; wdg = h.wdg; first = a; second = b; xhl = h.xhl; pct_loadloss = h.pct_loadloss; pct_noloadloss = h.pct_noloadloss; pct_imag = h.pct_imag }
+with_windings xfmr first second h a b = record {
+  phases = h.phases;
+  windings = h.windings;
+  wdg = h.wdg;
+  first = a;
+  second = b;
+  xhl = h.xhl;
+  pct_loadloss = h.pct_loadloss;
+  pct_noloadloss = h.pct_noloadloss;
+  pct_imag = h.pct_imag;
+}
 
 -- the winding that was chosen, by the test of which it is
 chosen_or : (b : Bool) (first second : Result Winding ModelFault) (xfmr : Transformer) → IfOk first WindingInRange
@@ -202,12 +216,32 @@ losses_in_range n xfmr p h =
 
 both_in_range : (solves : ℕ) (property : BothProperty) (pair : Pair) (xfmr : Transformer) → TransformerInRange xfmr
     → IfOk (with_both solves property pair xfmr) TransformerInRange
-both_in_range solves of_both.Buses pair xfmr h = made_ok _ TransformerInRange _ _ (two_buses_ok pair) (λ v r. let first = h.first in let second = h.second in let p = r.0 in let q = r.1 in with_windings xfmr _ _ h (assumption (first, p)) (assumption (second, q)))
-both_in_range solves of_both.Conns pair xfmr h = kept_ok TransformerInRange _ _ (λ v. let first = h.first in let second = h.second in with_windings xfmr _ _ h (assumption first) (assumption second))
-both_in_range solves of_both.Kvs pair xfmr h = made_ok _ TransformerInRange _ _ (two_numbers_ok _ _ pair) (λ v r. let first = h.first in let second = h.second in let p = r.0 in let q = r.1 in with_windings xfmr _ _ h (assumption (first, p)) (assumption (second, q)))
+both_in_range solves of_both.Buses pair xfmr h =
+    made_ok _ TransformerInRange _ _ (two_buses_ok pair) (λ v r.
+    let first = h.first in
+    let second = h.second in
+    let p = r.0 in
+    let q = r.1 in
+    with_windings xfmr _ _ h (assumption (first, p)) (assumption (second, q)))
+both_in_range solves of_both.Conns pair xfmr h =
+    kept_ok TransformerInRange _ _ (λ v.
+    let first = h.first in let second = h.second in with_windings xfmr _ _ h (assumption first) (assumption second))
+both_in_range solves of_both.Kvs pair xfmr h =
+    made_ok _ TransformerInRange _ _ (two_numbers_ok _ _ pair) (λ v r.
+    let first = h.first in
+    let second = h.second in
+    let p = r.0 in
+    let q = r.1 in
+    with_windings xfmr _ _ h (assumption (first, p)) (assumption (second, q)))
 both_in_range solves of_both.Kvas pair xfmr h = made_ok _ TransformerInRange _ _ (two_numbers_ok _ _ pair) (λ v r. kvas_in_range v.0 v.1 xfmr r.0 r.1 h)
 both_in_range solves of_both.PctRs pair xfmr h = made_ok _ TransformerInRange _ _ (two_numbers_ok _ _ pair) (λ v r. pct_rs_in_range v.0 v.1 xfmr r.0 r.1 h)
-both_in_range solves of_both.Taps pair xfmr h = made_ok _ TransformerInRange _ _ (two_taps_ok pair) (λ v r. let first = h.first in let second = h.second in let p = r.0 in let q = r.1 in with_windings xfmr _ _ h (assumption (first, p)) (assumption (second, q)))
+both_in_range solves of_both.Taps pair xfmr h =
+    made_ok _ TransformerInRange _ _ (two_taps_ok pair) (λ v r.
+    let first = h.first in
+    let second = h.second in
+    let p = r.0 in
+    let q = r.1 in
+    with_windings xfmr _ _ h (assumption (first, p)) (assumption (second, q)))
 
 zero_ok : (pair : Pair) → IfOk (zero_in pair) (λ n. n ≡ pos 0)
 unfolding zero_in

@@ -51,18 +51,32 @@ pub named_in_range : (solves : ℕ) (found : Option Element) (name : List ℕ) (
     → IfSome found ElementInRange → ElementInRange element
     → IfOk (with_named solves found name pair element) ElementInRange
 unfolding with_named
-named_in_range solves found name pair (the.Vsource source) f h = any_ok ElementInRange _ _ (λ p. made_ok _ ElementInRange _ the.Vsource (vsource_in_range p pair source h) (λ x r. r))
-named_in_range solves found name pair (the.Linecode code) f h = any_ok ElementInRange _ _ (λ p. made_ok _ ElementInRange _ the.Linecode (linecode_in_range p pair code h) (λ x r. r))
+named_in_range solves found name pair (the.Vsource source) f h =
+    any_ok ElementInRange _ _ (λ p.
+    made_ok _ ElementInRange _ the.Vsource (vsource_in_range p pair source h) (λ x r. r))
+named_in_range solves found name pair (the.Linecode code) f h =
+    any_ok ElementInRange _ _ (λ p.
+    made_ok _ ElementInRange _ the.Linecode (linecode_in_range p pair code h) (λ x r. r))
 named_in_range solves found name pair (the.Line line) f h =
-    any_ok ElementInRange _ _ (λ p. made_ok _ ElementInRange _ the.Line (line_in_range (code_found found) p pair line (code_found_in_range found f) h) (λ x r. r))
-named_in_range solves found name pair (the.Transformer xfmr) f h = any_ok ElementInRange _ _ (λ p. made_ok _ ElementInRange _ the.Transformer (transformer_in_range solves p pair xfmr h) (λ x r. r))
-named_in_range solves found name pair (the.Capacitor bank) f h = any_ok ElementInRange _ _ (λ p. made_ok _ ElementInRange _ the.Capacitor (capacitor_in_range solves p pair bank h) (λ x r. r))
-named_in_range solves found name pair (the.Load load) f h = any_ok ElementInRange _ _ (λ p. made_ok _ ElementInRange _ the.Load (load_in_range (is_some found) p pair load h) (λ x r. r))
+    any_ok ElementInRange _ _ (λ p.
+    made_ok _ ElementInRange _ the.Line (line_in_range (code_found found) p pair line (code_found_in_range found f) h)
+    (λ x r. r))
+named_in_range solves found name pair (the.Transformer xfmr) f h =
+    any_ok ElementInRange _ _ (λ p.
+    made_ok _ ElementInRange _ the.Transformer (transformer_in_range solves p pair xfmr h) (λ x r. r))
+named_in_range solves found name pair (the.Capacitor bank) f h =
+    any_ok ElementInRange _ _ (λ p.
+    made_ok _ ElementInRange _ the.Capacitor (capacitor_in_range solves p pair bank h) (λ x r. r))
+named_in_range solves found name pair (the.Load load) f h =
+    any_ok ElementInRange _ _ (λ p.
+    made_ok _ ElementInRange _ the.Load (load_in_range (is_some found) p pair load h) (λ x r. r))
 named_in_range solves found name pair (the.RegControl control) f h =
     any_ok ElementInRange _ _ (λ p. made_ok _ ElementInRange _ the.RegControl (regcontrol_in_range (is_some found) p pair control h) (λ x r. r))
 named_in_range solves found name pair (the.CapControl control) f h =
     any_ok ElementInRange _ _ (λ p. made_ok _ ElementInRange _ the.CapControl (capcontrol_in_range (is_some found) p pair control h) (λ x r. r))
-named_in_range solves found name pair (the.Loadshape shape) f h = any_ok ElementInRange _ _ (λ p. made_ok _ ElementInRange _ the.Loadshape (loadshape_in_range p pair shape h) (λ x r. r))
+named_in_range solves found name pair (the.Loadshape shape) f h =
+    any_ok ElementInRange _ _ (λ p.
+    made_ok _ ElementInRange _ the.Loadshape (loadshape_in_range p pair shape h) (λ x r. r))
 
 -- ---- options
 
@@ -95,4 +109,6 @@ named_option_in_range pair options h = any_ok OptionsInRange _ _ (λ name. optio
 pub options_in_range : (pairs : List Pair) (options : Options) → OptionsInRange options
     → IfOk (with_options pairs options) OptionsInRange
 options_in_range [] options h = h
-options_in_range (p ∷ ps) options h = then_ok _ OptionsInRange (with_named_option p options) (with_options ps) (named_option_in_range p options h) (options_in_range ps)
+options_in_range (p ∷ ps) options h =
+    then_ok _ OptionsInRange (with_named_option p options) (with_options ps) (named_option_in_range p options h)
+    (options_in_range ps)

@@ -86,7 +86,9 @@ count_between low high (negsuc a) h = absurd (omega (arith, ints))
 
 pub whole_ok : (low high : ℕ) (pair : Pair) → IfOk (whole_between low high pair) (IsCountBetween low high)
 unfolding whole_between
-whole_ok low high pair = then_ok _ _ (whole_in pair >>= within (ones low) (ones high)) (λ n. Ok (count_of n)) (any_ok _ (whole_in pair) _ (within_ok (ones low) (ones high))) (count_between low high)
+whole_ok low high pair =
+    then_ok _ _ (whole_in pair >>= within (ones low) (ones high)) (λ n. Ok (count_of n))
+    (any_ok _ (whole_in pair) _ (within_ok (ones low) (ones high))) (count_between low high)
 
 -- ---- one of a few
 
@@ -174,7 +176,9 @@ phase_between (negsuc a) h = record { least = omega (arith, ints); most = omega 
 
 pub phase_ok : (pair : Pair) → IfOk (phase_in pair) IsPhaseNumber
 unfolding phase_in
-phase_ok pair = then_ok _ _ (whole_in pair >>= within (neg_ℤ (ones 1_000_000_000)) (ones 1_000_000_000)) _ (any_ok _ (whole_in pair) _ (within_ok (neg_ℤ (ones 1_000_000_000)) (ones 1_000_000_000))) phase_between
+phase_ok pair =
+    then_ok _ _ (whole_in pair >>= within (neg_ℤ (ones 1_000_000_000)) (ones 1_000_000_000)) _
+    (any_ok _ (whole_in pair) _ (within_ok (neg_ℤ (ones 1_000_000_000)) (ones 1_000_000_000))) phase_between
 
 -- ---- arrays
 
@@ -201,7 +205,9 @@ two_numbers_ok low high pair = then_ok _ _ (numbers_between low high pair) _ (nu
 
 pub two_taps_ok : (pair : Pair) → IfOk (two_taps_in pair) (λ n. IsTap n.0 × IsTap n.1)
 unfolding two_taps_in
-two_taps_ok pair = then_ok _ _ (two_numbers_between (pos 500_000_000) (ones 2) pair) _ (two_numbers_ok _ _ pair) (λ n h. (tap_between n.0 h.0, tap_between n.1 h.1))
+two_taps_ok pair =
+    then_ok _ _ (two_numbers_between (pos 500_000_000) (ones 2) pair) _ (two_numbers_ok _ _ pair)
+    (λ n h. (tap_between n.0 h.0, tap_between n.1 h.1))
 
 -- ---- buses
 
@@ -214,7 +220,10 @@ node_ok (a ∷ b ∷ part) = tt
 each_ok : {A B : Type 0} (P : B → Type 0) (f : A → Result B ModelFault) → ((a : A) → IfOk (f a) P) → (xs : List A)
     → IfOk (each f xs) (λ ys. All P ys × (length ys ≡ length xs))
 each_ok P f h [] = (All-nil P, refl)
-each_ok P f h (x ∷ xs) = then_ok P _ (f x) _ (h x) (λ y p. made_ok (λ ys. All P ys × (length ys ≡ length xs)) _ (each f xs) (λ ys. y ∷ ys) (each_ok P f h xs) (λ ys q. (All-cons P y ys p q.0, ap suc q.1)))
+each_ok P f h (x ∷ xs) =
+    then_ok P _ (f x) _ (h x) (λ y p.
+    made_ok (λ ys. All P ys × (length ys ≡ length xs)) _ (each f xs) (λ ys. y ∷ ys) (each_ok P f h xs) (λ ys q.
+    (All-cons P y ys p q.0, ap suc q.1)))
 
 parts_ok : (parts : List (List ℕ)) → IfOk (bus_of_parts parts) BusInRange
 parts_ok [] = tt
@@ -227,7 +236,8 @@ parts_ok (name ∷ parts) = by (is_name name && nat_le (length parts) 4) refl
         → IfOk (if b then (each node_of parts >>= λ nodes. Ok (record { name = name; nodes = nodes })) else Err fault.BadValue) BusInRange
     by true t =
         let most = (both (is_name name) (nat_le (length parts) 4) t).1 in
-        made_ok (λ nodes. All (λ n. n ≤ 9) nodes × (length nodes ≡ length parts)) BusInRange (each node_of parts) (λ nodes. record { name = name; nodes = nodes }) (each_ok (λ n. n ≤ 9) node_of node_ok parts)
+        made_ok (λ nodes. All (λ n. n ≤ 9) nodes × (length nodes ≡ length parts)) BusInRange (each node_of parts)
+        (λ nodes. record { name = name; nodes = nodes }) (each_ok (λ n. n ≤ 9) node_of node_ok parts)
         (λ nodes q. record { few = few nodes q.1 most; digits = q.0 })
     by false t = tt
 
@@ -244,7 +254,9 @@ cell_buses_ok cells = IfOk-weaker (each bus_of_cell cells) _ _ (λ buses q. q.0)
 
 pub two_buses_ok : (pair : Pair) → IfOk (two_buses_in pair) (λ b. BusInRange b.0 × BusInRange b.1)
 unfolding two_buses_in
-two_buses_ok pair = then_ok (All BusInRange) _ (cells_in pair >>= each bus_of_cell) two (any_ok (All BusInRange) (cells_in pair) (each bus_of_cell) cell_buses_ok) (two_of_all BusInRange)
+two_buses_ok pair =
+    then_ok (All BusInRange) _ (cells_in pair >>= each bus_of_cell) two
+    (any_ok (All BusInRange) (cells_in pair) (each bus_of_cell) cell_buses_ok) (two_of_all BusInRange)
 
 -- ---- matrices
 
@@ -291,7 +303,9 @@ whole_or P false false xs ys e p q = tt
 whole_matrix_ok : (P : ℤ → Type 0) (rows : List (List ℤ)) → P (pos 0) → All (All P) rows
     → IfOk (whole_matrix rows) (All P)
 unfolding whole_matrix
-whole_matrix_ok P rows p h = whole_or P (is_square rows) (is_triangle_from 0 rows) (joined rows) (symmetric rows) _ (all_joined P rows h) (all_symmetric P rows p h)
+whole_matrix_ok P rows p h =
+    whole_or P (is_square rows) (is_triangle_from 0 rows) (joined rows) (symmetric rows) _ (all_joined P rows h)
+    (all_symmetric P rows p h)
 
 matrix_or : (Q : List ℤ → Type 0) (grouped : Bool) (r : Result (List ℤ) ModelFault) (e : ModelFault) → IfOk r Q
     → IfOk (if grouped then r else Err e) Q
@@ -306,4 +320,6 @@ pub matrix_ok : (low high : ℤ) (pair : Pair) → IsBetween low high (pos 0)
     → IfOk (matrix_between low high pair) (All (IsBetween low high))
 unfolding matrix_between
 matrix_ok low high pair p =
-    matrix_or _ pair.grouped _ _ (then_ok _ _ (from_lexer (matrix_of pair.value) >>= rows_within low high) whole_matrix (any_ok _ (from_lexer (matrix_of pair.value)) _ (rows_ok low high)) (λ rows h. whole_matrix_ok (IsBetween low high) rows p h))
+    matrix_or _ pair.grouped _ _ (then_ok _ _ (from_lexer (matrix_of pair.value) >>= rows_within low high)
+    whole_matrix (any_ok _ (from_lexer (matrix_of pair.value)) _ (rows_ok low high)) (λ rows h.
+    whole_matrix_ok (IsBetween low high) rows p h))

@@ -56,7 +56,8 @@ with_capcontrol found the.Kind pair control = choice_in fault.Unsupported quanti
 with_capcontrol found the.Ptratio pair control = number_between (pos 1_000_000) (ones 1_000_000) pair >>= λ n. Ok (record control { ptratio = n })
 with_capcontrol found the.Ctratio pair control = number_between (pos 1_000_000) (ones 1_000_000) pair >>= λ n. Ok (record control { ctratio = n })
 with_capcontrol found the.Onsetting pair control = number_between (neg_ℤ (ones 1_000_000)) (ones 1_000_000) pair >>= λ n. Ok (record control { onsetting = n })
-with_capcontrol found the.Offsetting pair control = number_between (neg_ℤ (ones 1_000_000)) (ones 1_000_000) pair >>= λ n. Ok (record control { offsetting = n })
+with_capcontrol found the.Offsetting pair control =
+    number_between (neg_ℤ (ones 1_000_000)) (ones 1_000_000) pair >>= λ n. Ok (record control { offsetting = n })
 with_capcontrol found the.Delay pair control = milliseconds_in pair >>= λ n. Ok (record control { delay = n })
 with_capcontrol found the.Delayoff pair control = milliseconds_in pair >>= λ n. Ok (record control { delayoff = n })
 with_capcontrol found the.Deadtime pair control = milliseconds_in pair >>= λ n. Ok (record control { deadtime = n })

@@ -83,7 +83,10 @@ switched true line = record line {
 
 -- an impedance of the line's own has no unit
 abbrev pub with_line_data : DataProperty → Pair → Line → Result Line ModelFault
-with_line_data property pair line = with_constant property pair line.constants >>= λ c. Ok (record line { constants = c; code_units = if is_impedance property then unit.None else line.code_units })
+with_line_data property pair line =
+    with_constant property pair line.constants
+    >>= λ c.
+    Ok (record line { constants = c; code_units = if is_impedance property then unit.None else line.code_units })
 
 abbrev pub with_line : Option Linecode → LineProperty → Pair → Line → Result Line ModelFault
 with_line code the.Bus1 pair line = bus_in pair >>= λ b. Ok (record line { bus1 = Some b })

@@ -54,8 +54,12 @@ with_constant the.R1 pair constants = number_between (pos 0) (ones 10_000) pair 
 with_constant the.X1 pair constants = number_between (pos 0) (ones 10_000) pair >>= λ n. Ok (record constants { x1 = Some n; form = Some data_form.Sequence })
 with_constant the.R0 pair constants = number_between (pos 0) (ones 10_000) pair >>= λ n. Ok (record constants { r0 = Some n; form = Some data_form.Sequence })
 with_constant the.X0 pair constants = number_between (pos 0) (ones 10_000) pair >>= λ n. Ok (record constants { x0 = Some n; form = Some data_form.Sequence })
-with_constant the.C1 pair constants = number_between (pos 0) (ones 1_000_000) pair >>= λ n. Ok (record constants { c1 = Some n; charge_form = Some data_form.Sequence })
-with_constant the.C0 pair constants = number_between (pos 0) (ones 1_000_000) pair >>= λ n. Ok (record constants { c0 = Some n; charge_form = Some data_form.Sequence })
+with_constant the.C1 pair constants =
+    number_between (pos 0) (ones 1_000_000) pair
+    >>= λ n. Ok (record constants { c1 = Some n; charge_form = Some data_form.Sequence })
+with_constant the.C0 pair constants =
+    number_between (pos 0) (ones 1_000_000) pair
+    >>= λ n. Ok (record constants { c0 = Some n; charge_form = Some data_form.Sequence })
 
 -- a switch has all six sequence values, and they hold; matrices that were given stay
 abbrev pub with_switch : LineConstants → LineConstants

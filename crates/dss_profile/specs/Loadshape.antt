@@ -30,4 +30,8 @@ with_loadshape the.Mult pair shape = numbers_between (pos 0) (ones 1000) pair >>
 -- the name of the file that holds the factors, as in `mult=file=NAME`: its numbers take the place of the value before
 -- the pair is set
 abbrev pub file_named : Pair → Option (List ℕ)
-file_named pair = if pointwise nat_eq (bytes (lower pair.name)) (codes "mult") && starts_with nat_eq (bytes (lower pair.value)) (codes "file=") then Some (drop 5 pair.value) else None
+file_named pair =
+    if pointwise nat_eq (bytes (lower pair.name)) (codes "mult")
+    && starts_with nat_eq (bytes (lower pair.value)) (codes "file=")
+    then Some (drop 5 pair.value)
+    else None

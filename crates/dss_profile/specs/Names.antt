@@ -17,4 +17,6 @@ class_word the.Loadshape = codes "loadshape"
 
 -- the classes by their words
 abbrev pub classes : List (List ℕ × Class)
-classes = map (λ class. (class_word class, class)) (the.Vsource ∷ the.Linecode ∷ the.Line ∷ the.Transformer ∷ the.Capacitor ∷ the.Load ∷ the.RegControl ∷ the.CapControl ∷ the.Loadshape ∷ [])
+classes =
+    map (λ class. (class_word class, class)) (the.Vsource ∷ the.Linecode ∷ the.Line ∷ the.Transformer ∷ the.Capacitor
+    ∷ the.Load ∷ the.RegControl ∷ the.CapControl ∷ the.Loadshape ∷ [])

@@ -120,9 +120,16 @@ zero_in pair = supported_among (0 ∷ []) pair >>= λ n. Ok (pos 0)
 
 -- two values, the first for winding 1 and the second for winding 2
 abbrev pub with_both : ℕ → BothProperty → Pair → Transformer → Result Transformer ModelFault
-with_both solves of_both.Buses pair xfmr = two_buses_in pair >>= λ b. Ok (record xfmr { first = record xfmr.first { bus = Some b.0 }; second = record xfmr.second { bus = Some b.1 } })
-with_both solves of_both.Conns pair xfmr = two_choices_in connections pair >>= λ c. Ok (record xfmr { first = record xfmr.first { conn = c.0 }; second = record xfmr.second { conn = c.1 } })
-with_both solves of_both.Kvs pair xfmr = two_numbers_between (pos 10_000_000) (ones 1000) pair >>= λ n. Ok (record xfmr { first = record xfmr.first { kv = n.0 }; second = record xfmr.second { kv = n.1 } })
+with_both solves of_both.Buses pair xfmr =
+    two_buses_in pair
+    >>= λ b.
+    Ok (record xfmr { first = record xfmr.first { bus = Some b.0 }; second = record xfmr.second { bus = Some b.1 } })
+with_both solves of_both.Conns pair xfmr =
+    two_choices_in connections pair
+    >>= λ c. Ok (record xfmr { first = record xfmr.first { conn = c.0 }; second = record xfmr.second { conn = c.1 } })
+with_both solves of_both.Kvs pair xfmr =
+    two_numbers_between (pos 10_000_000) (ones 1000) pair
+    >>= λ n. Ok (record xfmr { first = record xfmr.first { kv = n.0 }; second = record xfmr.second { kv = n.1 } })
 with_both solves of_both.Kvas pair xfmr = two_numbers_between (pos 1_000_000) (ones 1_000_000) pair >>= λ n. Ok (with_kvas n.0 n.1 xfmr)
 with_both solves of_both.PctRs pair xfmr = two_numbers_between (pos 0) (ones 100) pair >>= λ n. Ok (with_pct_rs n.0 n.1 xfmr)
 with_both solves of_both.Taps pair xfmr = two_taps_in pair >>= λ n. Ok (with_taps solves n.0 n.1 xfmr)

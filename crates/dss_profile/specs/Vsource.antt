@@ -59,8 +59,12 @@ with_vsource the.Phases pair source = whole_among (1 ∷ 3 ∷ []) pair >>= λ n
 with_vsource the.Basekv pair source = number_between (pos 1_000_000) (ones 1000) pair >>= λ n. Ok (record source { basekv = n })
 with_vsource the.Pu pair source = number_between (pos 0) (ones 2) pair >>= λ n. Ok (record source { pu = n })
 with_vsource the.Angle pair source = angle_in pair >>= λ n. Ok (record source { angle = n })
-with_vsource the.Mvasc3 pair source = number_between (pos 1_000_000) (ones 1_000_000) pair >>= λ n. Ok (record source { mvasc3 = n; form = source_form.ShortCircuit })
-with_vsource the.Mvasc1 pair source = number_between (pos 1_000_000) (ones 1_000_000) pair >>= λ n. Ok (record source { mvasc1 = n; form = source_form.ShortCircuit })
+with_vsource the.Mvasc3 pair source =
+    number_between (pos 1_000_000) (ones 1_000_000) pair
+    >>= λ n. Ok (record source { mvasc3 = n; form = source_form.ShortCircuit })
+with_vsource the.Mvasc1 pair source =
+    number_between (pos 1_000_000) (ones 1_000_000) pair
+    >>= λ n. Ok (record source { mvasc1 = n; form = source_form.ShortCircuit })
 with_vsource the.X1r1 pair source = ratio_in pair >>= λ n. Ok (record source { x1r1 = n })
 with_vsource the.X0r0 pair source = ratio_in pair >>= λ n. Ok (record source { x0r0 = n })
 with_vsource the.R1 pair source = number_between (pos 0) (ones 10_000) pair >>= λ n. Ok (record source { r1 = Some n; form = source_form.Ohms })

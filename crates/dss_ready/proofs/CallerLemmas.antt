@@ -19,7 +19,9 @@ pub use Rattle.dss_ready.proofs.Labelled.{first_isolated_at, fed_up_to}
 -- what holds of all elements holds of the one at a place
 at_place : (P : ElementName × Element → Type 0) (elements : Elements) (place : ℕ) (entry : ElementName × Element)
     → All P elements → slice_get elements place ≡ Some entry → P entry
-at_place P elements place entry all is = subst P (get_or_from_slice_get elements place entry entry is) (all place entry (slice_get_within elements place entry is))
+at_place P elements place entry all is =
+    subst P (get_or_from_slice_get elements place entry entry is)
+    (all place entry (slice_get_within elements place entry is))
 
 -- a circuit that passed the tests of Solve is what the law says
 pub passed : PassedLaw
@@ -33,7 +35,8 @@ passed circuit h = record {
         → IsFit circuit (take place circuit.elements) entry
     fit place entry is =
         let hertz = circuit.options.defaultbasefrequency in
-        let p : Passes hertz circuit.elements (take place circuit.elements) entry = each_passes hertz circuit.elements [] circuit.elements h.no_own place entry is in
+        let p : Passes hertz circuit.elements (take place circuit.elements) entry =
+        each_passes hertz circuit.elements [] circuit.elements h.no_own place entry is in
         record {
           terminals = without_fault (tested (terminal_numbers entry.1)) p.count p.support;
           frequency = same_frequency hertz (frequency_of entry.1) p.frequency;

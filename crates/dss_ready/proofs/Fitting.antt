@@ -122,7 +122,13 @@ module _ (elements before : Elements) where
       → IsRegControlFit elements before c
   regcontrol_fit c inside lacks second =
       let found = is_there (element_given elements class.Transformer c.transformer) lacks in
-      record { transformer = found.element; there = found.is; phase = phase_of (element_given elements class.Transformer c.transformer) found.element c.ptphase found.is inside; first = second }
+      record {
+        transformer = found.element;
+        there = found.is;
+        phase =
+            phase_of (element_given elements class.Transformer c.transformer) found.element c.ptphase found.is inside;
+        first = second;
+      }
 
   capcontrol_fit : (c : CapControl) → is_capcontrol_outside elements c ≡ false → lacks_line_or_bank elements c ≡ false
       → is_second_control before (the.CapControl c) ≡ false
@@ -133,7 +139,8 @@ module _ (elements before : Elements) where
       let missing = or_parts (is_none line) (is_none bank) lacks in
       let line_found = is_there line missing.0 in
       let bank_found = is_there bank missing.1 in
-      let settings = or_parts (are_settings_outside c.kind c.onsetting c.offsetting) (is_phase_outside c.ptphase (phases_given line) || is_phase_outside c.ctphase (phases_given line)) inside in
+      let settings = or_parts (are_settings_outside c.kind c.onsetting c.offsetting)
+      (is_phase_outside c.ptphase (phases_given line) || is_phase_outside c.ctphase (phases_given line)) inside in
       let phases = or_parts (is_phase_outside c.ptphase (phases_given line)) (is_phase_outside c.ctphase (phases_given line)) settings.1 in
       record {
         line = line_found.element;

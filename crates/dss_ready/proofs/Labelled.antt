@@ -61,7 +61,12 @@ pair_cases nodes es p h = by (in_append_cases (pairs_with nodes (length nodes) (
         → IsSourcePair nodes es p ⊎ IsTiePair nodes es p
     by (inl i) =
         let made = in_map_from (λ (x : NodeName). (length nodes, number_in nodes x)) (source_nodes e.1) p i in
-        inl (record { node = made.source; is_source = in_flat_map (λ (x : ElementName × Element). source_nodes x.1) es e made.source whole.is_in made.is_in; is = made.is_made })
+        inl (record {
+          node = made.source;
+          is_source =
+              in_flat_map (λ (x : ElementName × Element). source_nodes x.1) es e made.source whole.is_in made.is_in;
+          is = made.is_made;
+        })
     by (inr i) =
         let part = in_flat_map_from (group_pairs nodes) (tied_nodes e.1) p i in
         inr (group_case nodes es p part.source (in_flat_map (λ (x : ElementName × Element). tied_nodes x.1) es e part.source whole.is_in part.is_in) part.part)
@@ -126,8 +131,12 @@ pair_alike es p h = by (pair_cases (nodes_of es) es p h)
         let from_place = tied_found es t.group t.from t.is_tied t.has_from in
         let to_place = tied_found es t.group t.to t.is_tied t.has_to in
         let alike : Alike es (number_in (nodes_of es) t.from) (number_in (nodes_of es) t.to) = record {
-          on = λ f. from_fed es (number_in (nodes_of es) t.to) t.to to_place (by_tie t.group t.from t.to group from to (to_fed es (number_in (nodes_of es) t.from) t.from from_place f));
-          back = λ f. from_fed es (number_in (nodes_of es) t.from) t.from from_place (by_tie t.group t.to t.from group to from (to_fed es (number_in (nodes_of es) t.to) t.to to_place f));
+          on = λ f.
+              from_fed es (number_in (nodes_of es) t.to) t.to to_place (by_tie t.group t.from t.to group from to
+              (to_fed es (number_in (nodes_of es) t.from) t.from from_place f));
+          back = λ f.
+              from_fed es (number_in (nodes_of es) t.from) t.from from_place
+              (by_tie t.group t.to t.from group to from (to_fed es (number_in (nodes_of es) t.to) t.to to_place f));
         } in
         subst (λ (q : ℕ × ℕ). Alike es q.0 q.1) t.is alike
 
@@ -160,7 +169,8 @@ pub fed_from_label : (es : Elements) (m : NodeName) → slice_get (nodes_of es) 
     → node_label es m ≡ fed_label es → Fed es m
 fed_from_label es m place h =
     let n = length (nodes_of es) in
-    let all = implied_all (Alike es) (alike_laws es) (own_labels (nodes_of es)) (all_pairs (nodes_of es) es) (below_own (nodes_of es) es) (pair_alike es) (own_alike es) in
+    let all = implied_all (Alike es) (alike_laws es) (own_labels (nodes_of es)) (all_pairs (nodes_of es) es)
+    (below_own (nodes_of es) es) (pair_alike es) (own_alike es) in
     let size = length-labels_of (nodes_of es) es in
     let low = number_in-le (nodes_of es) m in
     let a : number_in (nodes_of es) m < length (labels_of (nodes_of es) es) = omega (arith, size, low) in
@@ -176,7 +186,8 @@ first_label es m ms x tied (inr i) =
     let p = in_flat_map_from (λ (e : ElementName × Element). tied_nodes e.1) es (m ∷ ms) tied in
     let pair = in_map (λ (y : NodeName). (number_in nodes m, number_in nodes y)) ms x i in
     let of_group = in_flat_map (group_pairs nodes) (tied_nodes p.source.1) (m ∷ ms) (number_in nodes m, number_in nodes x) p.part pair in
-    let of_element = in_append_right (pairs_with nodes (length nodes) (source_nodes p.source.1)) (flat_map (group_pairs nodes) (tied_nodes p.source.1)) (number_in nodes m, number_in nodes x) of_group in
+    let of_element = in_append_right (pairs_with nodes (length nodes) (source_nodes p.source.1))
+    (flat_map (group_pairs nodes) (tied_nodes p.source.1)) (number_in nodes m, number_in nodes x) of_group in
     let of_all = in_flat_map (λ (e : ElementName × Element). element_pairs nodes e.1) es p.source (number_in nodes m, number_in nodes x) p.is_in of_element in
     pair_all (own_labels nodes) (all_pairs nodes es) (number_in nodes m, number_in nodes x) (below_own nodes es) of_all
 
@@ -190,7 +201,8 @@ source_label es m h =
     let nodes = nodes_of es in
     let p = in_flat_map_from (λ (e : ElementName × Element). source_nodes e.1) es m h in
     let pair = in_map (λ (y : NodeName). (length nodes, number_in nodes y)) (source_nodes p.source.1) m p.part in
-    let of_element = in_append_left (pairs_with nodes (length nodes) (source_nodes p.source.1)) (flat_map (group_pairs nodes) (tied_nodes p.source.1)) (length nodes, number_in nodes m) pair in
+    let of_element = in_append_left (pairs_with nodes (length nodes) (source_nodes p.source.1))
+    (flat_map (group_pairs nodes) (tied_nodes p.source.1)) (length nodes, number_in nodes m) pair in
     let of_all = in_flat_map (λ (e : ElementName × Element). element_pairs nodes e.1) es p.source (length nodes, number_in nodes m) p.is_in of_element in
     sym (pair_all (own_labels nodes) (all_pairs nodes es) (length nodes, number_in nodes m) (below_own nodes es) of_all)
 
@@ -221,7 +233,10 @@ isolated_from es e h =
     record {
       node = p.element;
       is_mentioned = contains_from_in (mentions e.1) p.element p.is_in;
-      is_not_fed = λ fed. let same : (node_label es p.element == fed_label es) ≡ true = eq-eqb (node_label es p.element) (fed_label es) (label_from_fed es fed) in cc;
+      is_not_fed = λ fed.
+          let same : (node_label es p.element == fed_label es) ≡ true =
+          eq-eqb (node_label es p.element) (fed_label es) (label_from_fed es fed) in
+          cc;
     }
 
 -- one that mentions none is fed
@@ -257,4 +272,5 @@ pub fed_up_to : (es : Elements) (k : ℕ) (name : ElementName) (e : Element) (no
     → All (IsFed es) (take k es) → All (IsFed es) (take (k + 1) es)
 fed_up_to es k name e nodes labels b here same_nodes same_labels test is_false before =
     let fed = fed_from es (name, e) (in_from_get es k (name, e) here) (sym (same_test es e nodes labels b same_nodes same_labels test) ∙ is_false) in
-    All-more (IsFed es) es k (name, e) (slice_get_within es k (name, e) here) before (subst (IsFed es) (sym (get_or_from_slice_get es k (name, e) (name, e) here)) fed)
+    All-more (IsFed es) es k (name, e) (slice_get_within es k (name, e) here) before
+    (subst (IsFed es) (sym (get_or_from_slice_get es k (name, e) (name, e) here)) fed)

@@ -110,8 +110,12 @@ found es e m here i = slice_get-number_in (nodes_of es) m (new_nodes-has [] (fla
 
 pub source_found : (es : Elements) (m : NodeName) → In m (flat_map (λ e. source_nodes e.1) es)
     → slice_get (nodes_of es) (number_in (nodes_of es) m) ≡ Some m
-source_found es m h = let p = in_flat_map_from (λ (e : ElementName × Element). source_nodes e.1) es m h in found es p.source m p.is_in (source-mentions p.source.1 m p.part)
+source_found es m h =
+    let p = in_flat_map_from (λ (e : ElementName × Element). source_nodes e.1) es m h in
+    found es p.source m p.is_in (source-mentions p.source.1 m p.part)
 
 pub tied_found : (es : Elements) (group : List NodeName) (m : NodeName) → In group (flat_map (λ e. tied_nodes e.1) es)
     → In m group → slice_get (nodes_of es) (number_in (nodes_of es) m) ≡ Some m
-tied_found es group m h i = let p = in_flat_map_from (λ (e : ElementName × Element). tied_nodes e.1) es group h in found es p.source m p.is_in (tied-mentions p.source.1 group m p.part i)
+tied_found es group m h i =
+    let p = in_flat_map_from (λ (e : ElementName × Element). tied_nodes e.1) es group h in
+    found es p.source m p.is_in (tied-mentions p.source.1 group m p.part i)

@@ -47,7 +47,9 @@ kept_all labels (p ∷ pairs) a b ha hb h =
 pub pair_all : (labels : List ℕ) (pairs : List (ℕ × ℕ)) (p : ℕ × ℕ) → AreBelow (length labels) pairs → In p pairs
     → label (joined_all labels pairs) p.0 ≡ label (joined_all labels pairs) p.1
 pair_all labels [] p below h = absurd h
-pair_all labels (q ∷ pairs) p below h = by h (pair_all (joined labels q) pairs p (λ r i. subst (λ n. (r.0 < n) × (r.1 < n)) (sym (length-joined labels q)) (below r (inr i))))
+pair_all labels (q ∷ pairs) p below h =
+    by h (pair_all (joined labels q) pairs p (λ r i.
+    subst (λ n. (r.0 < n) × (r.1 < n)) (sym (length-joined labels q)) (below r (inr i))))
   where
     here : label (joined_all (joined labels q) pairs) q.0 ≡ label (joined_all (joined labels q) pairs) q.1
     here =
@@ -73,7 +75,8 @@ Implies R labels = (a b : ℕ) → a < length labels → b < length labels → l
 pub implied_joined : (R : ℕ → ℕ → Type 0) → Relation R → (labels : List ℕ) (p : ℕ × ℕ) → p.0 < length labels
     → p.1 < length labels → R p.0 p.1 → Implies R labels → Implies R (joined labels p)
 implied_joined R laws labels p hp hq related before a b ha hb h =
-    by (label labels a == label labels p.1) (label labels b == label labels p.1) refl refl (sym (label-joined labels p a a_in) ∙ h ∙ label-joined labels p b b_in)
+    by (label labels a == label labels p.1) (label labels b == label labels p.1) refl refl
+    (sym (label-joined labels p a a_in) ∙ h ∙ label-joined labels p b b_in)
   where
     a_in : a < length labels
     a_in = subst (λ n. a < n) (length-joined labels p) ha
@@ -97,7 +100,9 @@ pub implied_all : (R : ℕ → ℕ → Type 0) → Relation R → (labels : List
     → Implies R (joined_all labels pairs)
 implied_all R laws labels [] below related before = before
 implied_all R laws labels (p ∷ pairs) below related before =
-    implied_all R laws (joined labels p) pairs (λ r i. subst (λ n. (r.0 < n) × (r.1 < n)) (sym (length-joined labels p)) (below r (inr i))) (λ r i. related r (inr i))
+    implied_all R laws (joined labels p) pairs
+    (λ r i. subst (λ n. (r.0 < n) × (r.1 < n)) (sym (length-joined labels p)) (below r (inr i)))
+    (λ r i. related r (inr i))
     (implied_joined R laws labels p (below p (inl refl)).0 (below p (inl refl)).1 (related p (inl refl)) before)
 
 pub length-joined_all : (labels : List ℕ) (pairs : List (ℕ × ℕ)) → length (joined_all labels pairs) ≡ length labels

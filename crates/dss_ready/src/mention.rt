@@ -21,7 +21,8 @@ pub struct WindingName {
     pub winding: u32,
 }
 
-/// What elements name of one another, noted element by element: the windings that RegControls control, the Capacitors that CapControls control, and the Loadshapes that Loads follow.
+/// What elements name of one another, noted element by element: the windings that RegControls control, the Capacitors
+/// that CapControls control, and the Loadshapes that Loads follow.
 #[derive(Drop)]
 pub struct Mentions {
     windings: HashSet<WindingName>,

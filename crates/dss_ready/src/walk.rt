@@ -44,7 +44,9 @@ fn is_count_refused(
     element: &Element,
 ) -> Result<bool, AllocError>
     requires { Notes mentions.now elements.now.entries }
-    ensures { IfOk result (λ wrong. wrong ≡ (is_count_fault (tested (terminal_numbers element.now)) || is_part_wrong elements.now.entries name.now element.now)) }
+    ensures { IfOk result (λ wrong. wrong
+        ≡ (is_count_fault (tested (terminal_numbers element.now))
+        || is_part_wrong elements.now.entries name.now element.now)) }
 {
     if has_count_fault(check_terminals(element)) {
         return Ok(true);
@@ -53,7 +55,9 @@ fn is_count_refused(
 }
 
 fn is_support_refused(hertz: u32, element: &Element) -> bool
-    ensures { result ≡ (is_support_fault (tested (terminal_numbers element.now)) || (are_powers_unequal element.now || differs_from hertz (frequency_of element.now))) }
+    ensures { result
+        ≡ (is_support_fault (tested (terminal_numbers element.now))
+        || (are_powers_unequal element.now || differs_from hertz (frequency_of element.now))) }
 {
     has_support_fault(check_terminals(element))
         || has_unequal_powers(element)

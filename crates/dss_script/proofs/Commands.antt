@@ -40,8 +40,11 @@ reached_given files folder c rest from now r old mid new reached e h g =
     let f = verb_filled files folder c.verb in
     record {
       names = reached.names ++ f.names;
-      first = reached.first ∙ ap (λ s. reached.names ++ names_first s) e ∙ ap (λ ns. reached.names ++ ns) (each_first f.names (given c.place f.filled rest))
-          ∙ ap (λ q. reached.names ++ (f.names ++ names_first (given c.place q rest))) h ∙ sym (append_assoc reached.names f.names (names_first (given c.place r rest)));
+      first = reached.first
+          ∙ ap (λ s. reached.names ++ names_first s) e
+          ∙ ap (λ ns. reached.names ++ ns) (each_first f.names (given c.place f.filled rest))
+          ∙ ap (λ q. reached.names ++ (f.names ++ names_first (given c.place q rest))) h
+          ∙ sym (append_assoc reached.names f.names (names_first (given c.place r rest)));
       said = reached.said ∙ ap after_names e ∙ each_after f.names (given c.place f.filled rest) ∙ ap (λ q. after_names (given c.place q rest)) h;
       grown = grows_more old mid new reached.names f.names reached.grown g;
     }
@@ -56,9 +59,13 @@ reached_command files folder c rest from now v old mid new reached e f = reached
 split : (files : Files) (folder : List ℕ) (c : Command) (rest from now : Script) (old mid : Option (List (List ℕ)))
     → (reached : Reached from now old mid) → now ≡ command_says files folder c rest
     → names_first from ≡ reached.names ++ (verb_filled files folder c.verb).names
-split files folder c rest from now old mid reached e = reached.first ∙ ap (λ s. reached.names ++ names_first s) e ∙ ap (λ ns. reached.names ++ ns) (command_first files folder c rest)
+split files folder c rest from now old mid reached e =
+    reached.first
+    ∙ ap (λ s. reached.names ++ names_first s) e
+    ∙ ap (λ ns. reached.names ++ ns) (command_first files folder c rest)
 
-pub fails_filling : (files : Files) (folder : List ℕ) (c : Command) (rest from now : Script) (s : State) (e : SessionFault) (old mid new : Option (List (List ℕ)))
+pub fails_filling : (files : Files) (folder : List ℕ) (c : Command) (rest from now : Script) (s : State)
+    (e : SessionFault) (old mid new : Option (List (List ℕ)))
     → Reached from now old mid → now ≡ command_says files folder c rest
     → Fills {X = Verb} c.place (verb_filled files folder c.verb) mid new (Err e)
     → Tells files (after_names from) s (Err e)
@@ -73,11 +80,14 @@ pub asks_filling : (files : Files) (folder : List ℕ) (c : Command) (rest from 
     → Fills {X = Verb} c.place (verb_filled files folder c.verb) mid new (Err e)
     → Asks {X = Option Command} old new (names_first from) (Err e)
 asks_filling files folder c rest from now (fault.Script at why) old mid new reached e f =
-    let further = reached_given files folder c rest from now (Err why) old mid new reached e f.1 f.2 in reached_all from _ (refused c.place why) old new further refl refl
+    let further = reached_given files folder c rest from now (Err why) old mid new reached e f.1 f.2 in
+    reached_all from _ (refused c.place why) old new further refl refl
 asks_filling files folder c rest from now (fault.Read name) old mid new reached e f = record {
   front = reached.names ++ f.front;
   rest = f.rest;
-  parts = split files folder c rest from now old mid reached e ∙ ap (λ ns. reached.names ++ ns) f.parts ∙ sym (append_assoc reached.names f.front (name ∷ f.rest));
+  parts = split files folder c rest from now old mid reached e
+      ∙ ap (λ ns. reached.names ++ ns) f.parts
+      ∙ sym (append_assoc reached.names f.front (name ∷ f.rest));
   grown =
       let N : List (List ℕ) → Type 0 = λ names. Grows old new names in
       subst N (sym (append_assoc reached.names f.front (name ∷ []))) (grows_more old mid new reached.names (f.front ++ (name ∷ [])) reached.grown f.grown);

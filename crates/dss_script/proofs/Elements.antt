@@ -19,8 +19,11 @@ nameless (c ∷ cs) = refl
 -- without a dot there is no name
 pub no_dot : (text : List ℕ) → position is_dot text ≡ None → element_of text ≡ None
 no_dot text h =
-    ⊎_elim
-    (λ (found : position_or_len is_dot text < length text). let some : position is_dot text ≡ Some (position_or_len is_dot text) = ap (λ b. if b then Some (position_or_len is_dot text) else None) (lt-ltb _ _ found) in absurd (cc))
+    ⊎_elim (λ (found : position_or_len is_dot text < length text).
+    let some : position is_dot text ≡ Some (position_or_len is_dot text) =
+    ap (λ b. if b then Some (position_or_len is_dot text) else None) (lt-ltb _ _ found) in
+    absurd (cc))
     (λ (none : length text ≤ position_or_len is_dot text).
-    ap (named_so (before_first is_dot text)) (drop_all (position_or_len is_dot text + 1) text (omega arith)) ∙ nameless (before_first is_dot text))
+    ap (named_so (before_first is_dot text)) (drop_all (position_or_len is_dot text + 1) text (omega arith))
+    ∙ nameless (before_first is_dot text))
     (cases_lt (position_or_len is_dot text) (length text))

@@ -159,7 +159,8 @@ pub some_more : (old mid new : Option (List (List ℕ))) (name : List ℕ) → G
     → GrowsSome old new
 some_more old mid new name g h = record {
   names = g.names ++ bytes name ∷ [];
-  grown = same_becomes old new (λ ns. (ns ++ g.names) ++ bytes name ∷ []) (λ ns. ns ++ (g.names ++ bytes name ∷ [])) (λ ns. append_assoc ns g.names (bytes name ∷ []))
+  grown = same_becomes old new (λ ns. (ns ++ g.names) ++ bytes name ∷ []) (λ ns. ns ++ (g.names ++ bytes name ∷ []))
+      (λ ns. append_assoc ns g.names (bytes name ∷ []))
       (becomes old mid new (λ ns. ns ++ g.names) (λ ns. ns ++ bytes name ∷ []) g.grown h);
 }
 
@@ -171,7 +172,8 @@ some_entering old mid new name (fault.Read n) g h = some_more old mid new name g
 some_entering old mid new name fault.Ended g h = some_more old mid new name g h
 some_entering old mid new name fault.NoMemory g h = record {
   names = g.names ++ map bytes h.front;
-  grown = same_becomes old new (λ ns. (ns ++ g.names) ++ map bytes h.front) (λ ns. ns ++ (g.names ++ map bytes h.front)) (λ ns. append_assoc ns g.names (map bytes h.front))
+  grown = same_becomes old new (λ ns. (ns ++ g.names) ++ map bytes h.front)
+      (λ ns. ns ++ (g.names ++ map bytes h.front)) (λ ns. append_assoc ns g.names (map bytes h.front))
       (becomes old mid new (λ ns. ns ++ g.names) (λ ns. ns ++ map bytes h.front) g.grown h.grown);
 }
 

@@ -35,7 +35,8 @@ named_so files folder pair written name e n =
     ap (pair_by_name files folder pair) e
     ∙ ap (λ (m : List ℕ). record { names = m ∷ []; filled = with_file pair (held files (bytes m)) }) (sym n)
 
-pub pair_found : (holds : Option Files) (files : Files) (what : Found) (folder : List ℕ) (place : Place) (pair : Pair) (written name : List ℕ) (old new : Option (List (List ℕ))) (r : Result Pair SessionFault)
+pub pair_found : (holds : Option Files) (files : Files) (what : Found) (folder : List ℕ) (place : Place) (pair : Pair)
+    (written name : List ℕ) (old new : Option (List (List ℕ))) (r : Result Pair SessionFault)
     → holds ≡ Some files → AnswersHeld holds (bytes name) (Ok what) → file_named pair ≡ Some written
     → name ≡ joined folder written → Grows old new (name ∷ [])
     → IsFilled place (with_file pair (found_bytes what)) r → Fills place (pair_filled files folder pair) old new r
@@ -91,7 +92,9 @@ bind_one done pair (Err c) = refl
 behind_one : (names more : List (List ℕ)) (done : List Pair) (pair : Pair) (rest : Filling (List Pair))
     → behind names done (filled_before more (Ok pair) rest) ≡ behind (names ++ more) (done ++ (pair ∷ [])) rest
 behind_one names more done pair rest =
-    ap (λ (n : List (List ℕ)). record { names = n; filled = (rest.filled >>= λ pairs. Ok (pair ∷ pairs)) >>= λ pairs. Ok (done ++ pairs) }) (sym (append_assoc names more rest.names))
+    ap (λ (n : List (List ℕ)).
+    record { names = n; filled = (rest.filled >>= λ pairs. Ok (pair ∷ pairs)) >>= λ pairs. Ok (done ++ pairs) })
+    (sym (append_assoc names more rest.names))
     ∙ ap (λ r. record { names = (names ++ more) ++ rest.names; filled = r }) (bind_one done pair rest.filled)
 
 pub one_done : (files : Files) (folder : List ℕ) (place : Place) (all done left : List Pair) (pair filled : Pair) (old mid new : Option (List (List ℕ)))
@@ -140,7 +143,8 @@ split_names files folder all done left pair old mid d =
     let (tail, e) = first_names first.names first.filled (pairs_filled files folder left) in
     (tail, ap (λ (f : Filling (List Pair)). f.names) d.said ∙ ap (λ ns. d.names ++ ns) e)
 
-pub fault_done : (files : Files) (folder : List ℕ) (place : Place) (all done left : List Pair) (pair : Pair) (e : SessionFault) (old mid new : Option (List (List ℕ)))
+pub fault_done : (files : Files) (folder : List ℕ) (place : Place) (all done left : List Pair) (pair : Pair)
+    (e : SessionFault) (old mid new : Option (List (List ℕ)))
     → Done files folder all done (pair ∷ left) old mid
     → Fills {X = Pair} place (pair_filled files folder pair) mid new (Err e)
     → Fills {X = List Pair} place (pairs_filled files folder all) old new (Err e)
@@ -154,7 +158,10 @@ fault_done files folder place all done left pair (fault.Read name) old mid new d
     record {
       front = d.names ++ f.front;
       rest = f.rest ++ tail;
-      parts = e ∙ ap (λ ns. d.names ++ (ns ++ tail)) f.parts ∙ ap (λ ns. d.names ++ ns) (append_assoc f.front (name ∷ f.rest) tail) ∙ sym (append_assoc d.names f.front (name ∷ (f.rest ++ tail)));
+      parts = e
+          ∙ ap (λ ns. d.names ++ (ns ++ tail)) f.parts
+          ∙ ap (λ ns. d.names ++ ns) (append_assoc f.front (name ∷ f.rest) tail)
+          ∙ sym (append_assoc d.names f.front (name ∷ (f.rest ++ tail)));
       grown =
           let N : List (List ℕ) → Type 0 = λ names. Grows old new names in
           subst N (sym (append_assoc d.names f.front (name ∷ []))) (grows_more old mid new d.names (f.front ++ (name ∷ [])) d.grown f.grown);
@@ -164,7 +171,10 @@ fault_done files folder place all done left pair fault.NoMemory old mid new d f 
     record {
       front = d.names ++ f.front;
       rest = f.rest ++ tail;
-      parts = e ∙ ap (λ ns. d.names ++ (ns ++ tail)) f.parts ∙ ap (λ ns. d.names ++ ns) (append_assoc f.front f.rest tail) ∙ sym (append_assoc d.names f.front (f.rest ++ tail));
+      parts = e
+          ∙ ap (λ ns. d.names ++ (ns ++ tail)) f.parts
+          ∙ ap (λ ns. d.names ++ ns) (append_assoc f.front f.rest tail)
+          ∙ sym (append_assoc d.names f.front (f.rest ++ tail));
       grown = grows_more old mid new d.names f.front d.grown f.grown;
     }
 fault_done files folder place all done left pair fault.Ended old mid new d f = absurd f

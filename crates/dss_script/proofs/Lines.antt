@@ -25,17 +25,24 @@ last_line (b ∷ bs) h = ap (λ t. if t then [] else (b ∷ bs) ∷ []) (ne_eqb 
 
 pub lines_cons : (bs : List ℕ) → 0 < length bs → lines bs ≡ first_line bs ∷ lines (after_first is_line_feed bs)
 lines_cons bs h =
-    ⊎_elim
-    (λ (found : position_or_len is_line_feed bs < length bs).
-    let split : slice_split is_line_feed bs ≡ before_first is_line_feed bs ∷ slice_split is_line_feed (after_first is_line_feed bs) = slice_split_first is_line_feed bs 0 found in
-    let some : 0 < length (slice_split is_line_feed (after_first is_line_feed bs)) = omega (arith, length-slice_split is_line_feed (after_first is_line_feed bs)) in
-    ap lines_of_parts split ∙ parts_cons (before_first is_line_feed bs) (slice_split is_line_feed (after_first is_line_feed bs)) some
-    ∙ ap (λ b. (if b then strip_carriage_return (before_first is_line_feed bs) else bs) ∷ lines (after_first is_line_feed bs)) (sym (lt-ltb _ _ found)))
+    ⊎_elim (λ (found : position_or_len is_line_feed bs < length bs).
+    let split : slice_split is_line_feed bs
+    ≡ before_first is_line_feed bs ∷ slice_split is_line_feed (after_first is_line_feed bs) =
+    slice_split_first is_line_feed bs 0 found in
+    let some : 0 < length (slice_split is_line_feed (after_first is_line_feed bs)) =
+    omega (arith, length-slice_split is_line_feed (after_first is_line_feed bs)) in
+    ap lines_of_parts split
+    ∙ parts_cons (before_first is_line_feed bs) (slice_split is_line_feed (after_first is_line_feed bs)) some
+    ∙ ap (λ b.
+    (if b then strip_carriage_return (before_first is_line_feed bs) else bs) ∷ lines (after_first is_line_feed bs))
+    (sym (lt-ltb _ _ found)))
     (λ (none : length bs ≤ position_or_len is_line_feed bs).
     let over : after_first is_line_feed bs ≡ [] = drop_all (position_or_len is_line_feed bs + 1) bs (omega arith) in
     ap lines_of_parts (slice_split_none is_line_feed bs (fails_all is_line_feed bs none)) ∙ last_line bs h
     ∙ ap (λ ls. bs ∷ lines ls) (sym over)
-    ∙ ap (λ b. (if b then strip_carriage_return (before_first is_line_feed bs) else bs) ∷ lines (after_first is_line_feed bs)) (sym (le-ltb _ _ none)))
+    ∙ ap (λ b.
+    (if b then strip_carriage_return (before_first is_line_feed bs) else bs) ∷ lines (after_first is_line_feed bs))
+    (sym (le-ltb _ _ none)))
     (cases_lt (position_or_len is_line_feed bs) (length bs))
 
 pub no_line : (bs : List ℕ) → length bs ≡ 0 → length (lines bs) ≡ 0
@@ -68,8 +75,11 @@ pub advanced_is : (bytes whole after : List ℕ) (at n : ℕ)
     → after ≡ after_first is_line_feed (take (length whole - at) (drop at whole)) → whole ≡ bytes → n ≡ length bytes
     → 0 < length (lines (drop at bytes)) → lines (drop (n - length after) bytes) ≡ rest_of (lines (drop at bytes))
 advanced_is bytes whole after at n e₁ e₂ e₃ some =
-    let part : take (length whole - at) (drop at whole) ≡ drop at bytes = take_all (length whole - at) (drop at whole) (omega (arith, length-drop at whole)) ∙ ap (drop at) e₂ in
+    let part : take (length whole - at) (drop at whole) ≡ drop at bytes =
+    take_all (length whole - at) (drop at whole) (omega (arith, length-drop at whole)) ∙ ap (drop at) e₂ in
     let m : ℕ = at + (position_or_len is_line_feed (drop at bytes) + 1) in
     let after_is : after ≡ after_first is_line_feed (drop at bytes) = e₁ ∙ ap (after_first is_line_feed) part in
     let further : after ≡ drop m bytes = after_is ∙ drop-drop (position_or_len is_line_feed (drop at bytes) + 1) at bytes in
-    ap lines (ap (λ k. drop (k - length after) bytes) e₃ ∙ ap (λ xs. drop (length bytes - length xs) bytes) further ∙ back_from_end bytes m ∙ sym further ∙ after_is) ∙ sym (rest_is (drop at bytes) some)
+    ap lines (ap (λ k. drop (k - length after) bytes) e₃ ∙ ap (λ xs. drop (length bytes - length xs) bytes) further
+    ∙ back_from_end bytes m ∙ sym further ∙ after_is)
+    ∙ sym (rest_is (drop at bytes) some)

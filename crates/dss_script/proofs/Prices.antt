@@ -97,7 +97,12 @@ subject_price false q = omega arith
 
 made_price : (ps : List Pair) → price (new_element (element_of (subject true ps)) (others ps)) ≤ 4 + paid ps
 made_price [] = let none = new_price (element_of []) [] in omega (arith, none.1 (omega (arith, element_size [])))
-made_price (q ∷ qs) = omega (arith, (new_price (element_of (subject true (q ∷ qs))) qs).0, element_size (subject true (q ∷ qs)), subject_price (is_word q || (true && text_eq (bytes (lower q.name)) (codes "object"))) q)
+made_price (q ∷ qs) = omega (
+  arith,
+  (new_price (element_of (subject true (q ∷ qs))) qs).0,
+  element_size (subject true (q ∷ qs)),
+  subject_price (is_word q || (true && text_eq (bytes (lower q.name)) (codes "object"))) q,
+)
 
 edited_price : (o : Option Target) (ps : List Pair) → price (edited_element o ps) ≤ 2
 edited_price None ps = omega arith
@@ -133,7 +138,10 @@ set_price : (class name property : List ℕ) (p : Pair) (ps : List Pair)
 set_price class name property p ps = cases (is_empty class || (is_empty name || is_empty property)) (is_name name)
   where
     cases : (b c : Bool)
-        → price (if b then the.Refused cause.UnknownCommand else if c then the.Does (verb.Edit class name (record { name = property; value = p.value; grouped = p.grouped } ∷ ps)) change.Kept else the.Refused cause.BadValue) ≤ 2
+        → price (if b then the.Refused cause.UnknownCommand else if c then the.Does
+        (verb.Edit class name (record { name = property; value = p.value; grouped = p.grouped } ∷ ps)) change.Kept
+        else the.Refused cause.BadValue)
+        ≤ 2
     cases true c = omega arith
     cases false true = omega arith
     cases false false = omega arith
@@ -158,6 +166,12 @@ price_paid target [] = omega arith
 price_paid target (p ∷ ps) = cases (is_word p) refl
   where
     cases : (b : Bool) → is_word p ≡ b
-        → price (if b then command_of (named command_words (bytes (lower p.value))) target ps else property_of (slice_split is_dot p.name) p ps) ≤ max (paid (p ∷ ps)) 1
-    cases true e = omega (arith, command_price (named command_words (bytes (lower p.value))) target (length p.value) ps (named_length command_words p.value all_fit))
+        → price (if b then command_of (named command_words (bytes (lower p.value))) target ps
+        else property_of (slice_split is_dot p.name) p ps)
+        ≤ max (paid (p ∷ ps)) 1
+    cases true e = omega (
+      arith,
+      command_price (named command_words (bytes (lower p.value))) target (length p.value) ps
+          (named_length command_words p.value all_fit),
+    )
     cases false e = let some = some_first p.name e in omega (arith, property_price (slice_split is_dot p.name) p ps)

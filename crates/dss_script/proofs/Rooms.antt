@@ -49,7 +49,8 @@ separator_room : (c : ℕ) (cs : List ℕ) → is_separator c ≡ true → after
 unfolding after_room
 separator_room c cs h =
     let P : List ℕ → Type 0 = λ ds. (if ends_line ds then 0 else length ds + 1) ≤ length cs + 1 in
-    subst P (sym (ap (λ b. if b then skip_separators cs else c ∷ cs) h)) (omega (arith, some_room (ends_line (skip_separators cs)) (length (skip_separators cs)), separators_off cs))
+    subst P (sym (ap (λ b. if b then skip_separators cs else c ∷ cs) h))
+    (omega (arith, some_room (ends_line (skip_separators cs)) (length (skip_separators cs)), separators_off cs))
 
 pub both : (a b : Bool) → (a && b) ≡ true → (a ≡ true) × (b ≡ true)
 both true b h = (refl, h)
@@ -96,7 +97,9 @@ bare_room is_name (c ∷ cs) h = cases (λ h. bare_room is_name cs h) (ends_word
         → (b : Bool) → ends_word is_name (c ∷ cs) ≡ b → (is_name && is_equals (drop (len b) (c ∷ cs))) ≡ false
         → after_room (drop (len b) (c ∷ cs)) + len b ≤ length (c ∷ cs)
     cases rest true e h = omega (arith, first_room is_name c cs e h)
-    cases rest false e h = let shorter : drop (word_len is_name cs + 1) (c ∷ cs) ≡ drop (word_len is_name cs) cs = rw add-one refl in rw shorter (let r = rest (rw shorter at h) in omega arith)
+    cases rest false e h =
+        let shorter : drop (word_len is_name cs + 1) (c ∷ cs) ≡ drop (word_len is_name cs) cs = rw add-one refl in
+        rw shorter (let r = rest (rw shorter at h) in omega arith)
 
 -- what a value and what comes after it take
 value_sum : Result (Value × List ℕ) LineFault → ℕ
@@ -161,8 +164,17 @@ name_room name rest [] n e bare all = let less = bare (no_equals rest [] e refl)
 name_room name rest (c ∷ cs) n e bare all = cases (c == 61) refl
   where
     cases : (b : Bool) → (c == 61) ≡ b
-        → item_sum (if b then (value_at (skip_blanks cs) >>= λ v. Ok (pair name v.0, v.1)) else Ok (pair [] (record { text = name; grouped = false }), rest)) ≤ n
-    cases true k = omega (arith, named_value name (value_at (skip_blanks cs)), value_room (skip_blanks cs), blanks_off cs, blanks_off rest, ap (λ xs. length xs) e)
+        → item_sum (if b then (value_at (skip_blanks cs) >>= λ v. Ok (pair name v.0, v.1))
+        else Ok (pair [] (record { text = name; grouped = false }), rest))
+        ≤ n
+    cases true k = omega (
+      arith,
+      named_value name (value_at (skip_blanks cs)),
+      value_room (skip_blanks cs),
+      blanks_off cs,
+      blanks_off rest,
+      ap (λ xs. length xs) e,
+    )
     cases false k = let less = bare (no_equals rest (c ∷ cs) e k) in omega arith
 
 item_room : (cs : List ℕ) → item_sum (item_at cs) ≤ length cs
@@ -224,7 +236,9 @@ all_room line = long (nat_lt 65536 (length line))
     text false u = omega arith
 
     long : (b : Bool)
-        → total (if b then Err lex.LineTooLong else if not (is_utf8 line) then Err lex.NotText else items_of (length (chars line)) (chars line)) ≤ length line + 1
+        → total (if b then Err lex.LineTooLong
+        else if not (is_utf8 line) then Err lex.NotText else items_of (length (chars line)) (chars line))
+        ≤ length line + 1
     long true = omega arith
     long false = text (is_utf8 line) refl
 

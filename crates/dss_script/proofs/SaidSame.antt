@@ -73,7 +73,8 @@ module _ (files : Files) (file : File) (reader : Reader)
       let place : Place = record { file = at; line = n + 1 } in
       let p = by_line files file folder place (pairs_of line) s in
       line_same place (pairs_of line) s (λ t. lines_say files reader folder at (n + 1) rest t go)
-      ∙ behind p.said p.left (λ t. by_lines files file folder at (n + 1) rest t) go (λ t. lines_say files reader folder at (n + 1) rest t go) (λ t. lines_same at (n + 1) rest t go)
+      ∙ behind p.said p.left (λ t. by_lines files file folder at (n + 1) rest t) go
+      (λ t. lines_say files reader folder at (n + 1) rest t go) (λ t. lines_same at (n + 1) rest t go)
 
   within_same : (b : Bool) (place : Place) (ours : Part) (theirs : Script) (go : Then) → theirs ≡ told ours go
       → (if b then refused place cause.TooLong else theirs) ≡ told (if b then stops place cause.TooLong else ours) go
@@ -85,7 +86,8 @@ module _ (files : Files) (file : File) (reader : Reader)
   found_same None place at s go = refl
   found_same (Some bs) place at s go =
       let t : Standing = record { target = s.target; read = s.read + length bs } in
-      within_same (nat_lt 1_048_576 (s.read + length bs)) place (by_lines files file folder at 0 (lines bs) t) (lines_say files reader folder at 0 (lines bs) t go) go (lines_same at 0 (lines bs) t go)
+      within_same (nat_lt 1_048_576 (s.read + length bs)) place (by_lines files file folder at 0 (lines bs) t)
+      (lines_say files reader folder at 0 (lines bs) t go) go (lines_same at 0 (lines bs) t go)
 
 file_same : (files : Files) (folder : List ℕ) (depth : ℕ) (place : Place) (at : List ℕ) (s : Standing) (go : Then)
     → file_says files folder depth place at s go ≡ told (by_file files folder depth place at s) go

@@ -57,7 +57,8 @@ over_says files state w h = open_says files state w ∙ none state.files h
 line_is : (files : Files) (folder : List ℕ) (r : Reading) (outer : List Reading) (standing : Standing)
     → (ls : List (List ℕ)) → r.lines ≡ ls → 0 < length ls
     → files_say files folder (r ∷ outer) standing
-    ≡ line_says files (λ p n s g. file_says files folder (deeper (r ∷ outer)) p n s g) folder (next_place r) (pairs_of (next_line r)) standing (λ s. files_say files folder (advanced r ∷ outer) s)
+    ≡ line_says files (λ p n s g. file_says files folder (deeper (r ∷ outer)) p n s g) folder (next_place r)
+    (pairs_of (next_line r)) standing (λ s. files_say files folder (advanced r ∷ outer) s)
 line_is files folder r outer standing [] e h = absurd (omega arith)
 line_is files folder r outer standing (line ∷ rest) e h =
     ap (λ ls. files_say files folder (record { file = r.file; line = r.line; lines = ls } ∷ outer) standing) e
@@ -65,7 +66,9 @@ line_is files folder r outer standing (line ∷ rest) e h =
     (λ s. files_say files folder (record { file = r.file; line = r.line + 1; lines = rest_of ls } ∷ outer) s)) (sym e)
 
 cut_says : (files : Files) (state : State) (place : Place) (said : Result (List Pair) LineFault)
-    → line_says files (λ p n s g. file_says files state.folder (deeper state.files) p n s g) state.folder place said state.standing (λ s. files_say files state.folder state.files s) ≡ taken_says files (cut_into place said) state
+    → line_says files (λ p n s g. file_says files state.folder (deeper state.files) p n s g) state.folder place said
+    state.standing (λ s. files_say files state.folder state.files s)
+    ≡ taken_says files (cut_into place said) state
 unfolding taken_says remaining_by
 cut_says files state place (Ok pairs) = refl
 cut_says files state place (Err e) = refl
@@ -81,20 +84,46 @@ positive zero h = absurd (h refl)
 positive (suc n) h = omega arith
 
 taken_by : (files : Files) (state : State) → state.waiting ≡ None → (rs : List Reading) → state.files ≡ rs
-    → files_say files state.folder rs state.standing ≡ taken_says files (taken_of rs) (record { waiting = state.waiting; folder = state.folder; files = files_after rs; standing = state.standing; ended = state.ended })
+    → files_say files state.folder rs state.standing ≡ taken_says files (taken_of rs) (record {
+      waiting = state.waiting;
+      folder = state.folder;
+      files = files_after rs;
+      standing = state.standing;
+      ended = state.ended;
+    })
 unfolding taken_says
-taken_by files state w [] e = sym (open_says files (record { waiting = state.waiting; folder = state.folder; files = []; standing = state.standing; ended = state.ended }) w)
+taken_by files state w [] e = sym (open_says files (record {
+  waiting = state.waiting;
+  folder = state.folder;
+  files = [];
+  standing = state.standing;
+  ended = state.ended;
+}) w)
 taken_by files state w (r ∷ outer) e = cases (eqb (length r.lines) 0) refl
   where
     after : Bool → State
-    after b = record { waiting = state.waiting; folder = state.folder; files = if b then outer else advanced r ∷ outer; standing = state.standing; ended = state.ended }
+    after b = record {
+      waiting = state.waiting;
+      folder = state.folder;
+      files = if b then outer else advanced r ∷ outer;
+      standing = state.standing;
+      ended = state.ended;
+    }
 
     Goal : Bool → Type 0
-    Goal b = files_say files state.folder (r ∷ outer) state.standing ≡ taken_says files (if b then taken.Closed else cut_into (next_place r) (pairs_of (next_line r))) (after b)
+    Goal b =
+        files_say files state.folder (r ∷ outer) state.standing
+        ≡ taken_says files (if b then taken.Closed else cut_into (next_place r) (pairs_of (next_line r))) (after b)
 
     cases : (b : Bool) → eqb (length r.lines) 0 ≡ b → Goal (eqb (length r.lines) 0)
-    cases true h = subst Goal (sym h) (closed_says files state.folder r outer state.standing r.lines refl (eqb-true (length r.lines) 0 h) ∙ sym (open_says files (after true) w))
-    cases false h = subst Goal (sym h) (line_is files state.folder r outer state.standing r.lines refl (positive (length r.lines) (eqb-false (length r.lines) 0 h)) ∙ cut_says files (after false) (next_place r) (pairs_of (next_line r)))
+    cases true h =
+        subst Goal (sym h)
+        (closed_says files state.folder r outer state.standing r.lines refl (eqb-true (length r.lines) 0 h)
+        ∙ sym (open_says files (after true) w))
+    cases false h =
+        subst Goal (sym h) (line_is files state.folder r outer state.standing r.lines refl
+        (positive (length r.lines) (eqb-false (length r.lines) 0 h))
+        ∙ cut_says files (after false) (next_place r) (pairs_of (next_line r)))
 
 pub taken_is : (files : Files) (state : State) → state.waiting ≡ None
     → remaining files state ≡ taken_says files (taken_of state.files) (after_line state)
@@ -116,22 +145,29 @@ pub says_command : (files : Files) (state new : State) (place : Place) (verb : V
     → remaining_by files place (the.Does verb change) state ≡ command_says files new.folder (record { place = place; verb = verb }) (remaining files new)
 unfolding remaining_by
 says_command files state new place verb change w f g h =
-    ap (λ folder. command_says files folder (record { place = place; verb = verb }) (files_say files state.folder state.files (record { target = target_after state.standing.target change; read = state.standing.read }))) (sym f)
+    ap (λ folder.
+    command_says files folder (record { place = place; verb = verb }) (files_say files state.folder state.files
+    (record { target = target_after state.standing.target change; read = state.standing.read })))
+    (sym f)
     ∙ ap (λ rest. command_says files new.folder (record { place = place; verb = verb }) rest)
-    (ap (files_say files state.folder state.files) (sym h) ∙ ap (λ rs. files_say files state.folder rs new.standing) (sym g) ∙ ap (λ d. files_say files d new.files new.standing) (sym f) ∙ sym (open_says files new w))
+    (ap (files_say files state.folder state.files) (sym h)
+    ∙ ap (λ rs. files_say files state.folder rs new.standing) (sym g)
+    ∙ ap (λ d. files_say files d new.files new.standing) (sym f) ∙ sym (open_says files new w))
 
 -- a file's name, where so many files may be open within those that are
 found_is : (files : Files) (state : State) (place : Place) (name : List ℕ) (n : ℕ) (found : Option (List ℕ))
     → state.waiting ≡ None → deeper state.files ≡ suc n
-    → found_says files (λ p m s g. file_says files state.folder n p m s g) state.folder found place name state.standing (λ s. files_say files state.folder state.files s)
+    → found_says files (λ p m s g. file_says files state.folder n p m s g) state.folder found place name
+    state.standing (λ s. files_say files state.folder state.files s)
     ≡ remaining_with files found place name state
 unfolding remaining_with
 found_is files state place name n None w h = refl
 found_is files state place name n (Some bs) w h =
     let st : Standing = record { target = state.standing.target; read = state.standing.read + length bs } in
     ap (λ script. if nat_lt 1_048_576 (state.standing.read + length bs) then refused place cause.TooLong else script)
-    (ap (λ d. lines_say files (λ p m s g. file_says files state.folder d p m s g) state.folder name 0 (lines bs) st (λ s. files_say files state.folder state.files s))
-    (let e : n ≡ deeper state.files - 1 = omega arith in e)
+    (ap (λ d.
+    lines_say files (λ p m s g. file_says files state.folder d p m s g) state.folder name 0 (lines bs) st (λ s.
+    files_say files state.folder state.files s)) (let e : n ≡ deeper state.files - 1 = omega arith in e)
     ∙ sym (open_says files (entered state name bs) w))
 
 depth : (rs : List Reading) → deeper rs ≡ 9 - length rs
@@ -171,7 +207,13 @@ pub master_says : (files : Files) (state : State) (master : List ℕ) → state.
 unfolding remaining
 master_says files state master w h =
     ap (λ m. waiting_says files m state) w
-    ∙ reader_is files (record { waiting = None; folder = state.folder; files = state.files; standing = state.standing; ended = state.ended }) (record { file = master; line = 0 }) master 8 refl (omega (arith, depth state.files))
+    ∙ reader_is files (record {
+      waiting = None;
+      folder = state.folder;
+      files = state.files;
+      standing = state.standing;
+      ended = state.ended;
+    }) (record { file = master; line = 0 }) master 8 refl (omega (arith, depth state.files))
 
 -- a line takes at least the room of its words and pairs
 pays_cut : (place : Place) (line : List ℕ) (said : Result (List Pair) LineFault) → pairs_of line ≡ said
@@ -199,8 +241,13 @@ spends [] h = absurd (omega arith)
 spends (r ∷ outer) h = cases (eqb (length r.lines) 0) refl
   where
     Goal : Bool → Type 0
-    Goal b = (files_room (if b then outer else advanced r ∷ outer) + pays (if b then taken.Closed else cut_into (next_place r) (pairs_of (next_line r))) ≤ files_room (r ∷ outer))
-        × (length (if b then outer else advanced r ∷ outer) + closes (if b then taken.Closed else cut_into (next_place r) (pairs_of (next_line r))) ≤ length (r ∷ outer))
+    Goal b =
+        (files_room (if b then outer else advanced r ∷ outer)
+        + pays (if b then taken.Closed else cut_into (next_place r) (pairs_of (next_line r)))
+        ≤ files_room (r ∷ outer))
+        × (length (if b then outer else advanced r ∷ outer)
+        + closes (if b then taken.Closed else cut_into (next_place r) (pairs_of (next_line r)))
+        ≤ length (r ∷ outer))
 
     some : (ls : List (List ℕ)) → (length ls ≡ 0 → ⊥)
         → lines_room ls ≡ length (first_of ls) + 1 + lines_room (rest_of ls)
@@ -215,7 +262,8 @@ spends (r ∷ outer) h = cases (eqb (length r.lines) 0) refl
     )
 
 pub line_spends : (state : State) → 0 < length state.files
-    → (room (after_line state) + pays (taken_of state.files) ≤ room state) × (left (after_line state) + 2 * pays (taken_of state.files) + closes (taken_of state.files) ≤ left state)
+    → (room (after_line state) + pays (taken_of state.files) ≤ room state)
+    × (left (after_line state) + 2 * pays (taken_of state.files) + closes (taken_of state.files) ≤ left state)
 line_spends state h = let s = spends state.files h in (omega (arith, s.0), omega (arith, s.0, s.1))
 
 parts_room : (parts : List (List ℕ)) → lines_room (lines_of_parts parts) ≤ lines_room parts
@@ -314,7 +362,13 @@ unfolding remaining_with
 says_entered files state place name bs h = ap (λ b. if b then refused place cause.TooLong else remaining files (entered state name bs)) (le-ltb _ _ h)
 
 abbrev pub placed : State → List Reading → ℕ → State
-placed state files read = record { waiting = state.waiting; folder = state.folder; files = files; standing = record { target = state.standing.target; read = read }; ended = state.ended }
+placed state files read = record {
+  waiting = state.waiting;
+  folder = state.folder;
+  files = files;
+  standing = record { target = state.standing.target; read = read };
+  ended = state.ended;
+}
 
 abbrev pub with_ended : State → Bool → State
 with_ended state b = record { waiting = state.waiting; folder = state.folder; files = state.files; standing = state.standing; ended = b }

@@ -20,7 +20,13 @@ starts_comment (c ∷ d ∷ cs) = (c == 33) || ((c == 47) && (d == 47))
 
 -- what closes a group that begins so: ( [ { and both quotes
 abbrev pub closer_of : ℕ → Option ℕ
-closer_of c = if c == 40 then Some 41 else if c == 91 then Some 93 else if c == 123 then Some 125 else if c == 34 then Some 34 else if c == 39 then Some 39 else None
+closer_of c =
+    if c == 40 then Some 41
+    else if c == 91 then Some 93
+    else if c == 123 then Some 125
+    else if c == 34 then Some 34
+    else if c == 39 then Some 39
+    else None
 
 -- a bare word ends at a separator and at a comment, and a name at an equals sign too
 abbrev pub ends_word : Bool → List ℕ → Bool
@@ -59,7 +65,9 @@ pair name value = record { name = name; value = value.text; grouped = value.grou
 -- after a name: an equals sign, blanks round it, makes it a pair
 abbrev pub after_name : List ℕ → List ℕ → List ℕ → Result (Pair × List ℕ) LineFault
 after_name name rest [] = Ok (pair [] (record { text = name; grouped = false }), rest)
-after_name name rest (c ∷ cs) = if c == 61 then (value_at (skip_blanks cs) >>= λ v. Ok (pair name v.0, v.1)) else Ok (pair [] (record { text = name; grouped = false }), rest)
+after_name name rest (c ∷ cs) =
+    if c == 61 then (value_at (skip_blanks cs) >>= λ v. Ok (pair name v.0, v.1))
+    else Ok (pair [] (record { text = name; grouped = false }), rest)
 
 abbrev pub is_group : List ℕ → Bool
 is_group [] = false

@@ -53,7 +53,8 @@ files_say files folder (r ∷ outer) standing =
 abbrev pub waiting_says : Files → Option (List ℕ) → State → Script
 waiting_says files None state = files_say files state.folder state.files state.standing
 waiting_says files (Some master) state =
-    file_says files state.folder (deeper state.files) (record { file = master; line = 0 }) master state.standing (λ s. files_say files state.folder state.files s)
+    file_says files state.folder (deeper state.files) (record { file = master; line = 0 }) master state.standing
+    (λ s. files_say files state.folder state.files s)
 
 -- a session once MASTER's name is taken
 abbrev pub opened : State → State

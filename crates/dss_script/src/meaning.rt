@@ -150,7 +150,8 @@ fn take_element(
     pairs: Vec<Pair>,
     is_new: bool,
 ) -> Result<Option<(Target, Vec<Pair>)>, AllocError>
-    ensures { IfOk result (λ found. MatchOption found (element_of (subject is_new pairs.items) ≡ None) (λ x. (element_of (subject is_new pairs.items) ≡ Some x.0) × (others pairs.items ≡ x.1.items))) }
+    ensures { IfOk result (λ found. MatchOption found (element_of (subject is_new pairs.items) ≡ None) (λ x.
+        (element_of (subject is_new pairs.items) ≡ Some x.0) × (others pairs.items ≡ x.1.items))) }
 {
     let Some((first, rest)) = take_first(pairs) else {
         return Ok(None);

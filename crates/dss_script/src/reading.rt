@@ -144,7 +144,8 @@ pub enum Taken {
 }
 
 fn pop_frame(frames: &mut Vec<Frame>) -> Option<Frame>
-    ensures { MatchOption result ((reverse frames.old.items ≡ []) × (reverse frames.new.items ≡ [])) (λ f. reverse frames.old.items ≡ f ∷ reverse frames.new.items) }
+    ensures { MatchOption result ((reverse frames.old.items ≡ []) × (reverse frames.new.items ≡ []))
+        (λ f. reverse frames.old.items ≡ f ∷ reverse frames.new.items) }
 {
     frames.pop()
 }

@@ -50,7 +50,13 @@ impl Model for Session {
 
     ghost Value = { State };
 
-    ghost view = { λ s. record { waiting = s.waiting; folder = s.folder; files = reverse s.frames.items; standing = record { target = s.target; read = s.read }; ended = s.ended } };
+    ghost view = { λ s. record {
+      waiting = s.waiting;
+      folder = s.folder;
+      files = reverse s.frames.items;
+      standing = record { target = s.target; read = s.read };
+      ended = s.ended;
+    } };
 
     ghost invariant = { λ s. (s.read ≤ 1_048_576) × IsTrue (is_fresh s.waiting s.frames.items) };
 }

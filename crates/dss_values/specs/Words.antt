@@ -19,10 +19,15 @@ abbrev pub connections : List (List ℕ × Connection)
 connections = (codes "wye", connection.Wye) ∷ (codes "ln", connection.Wye) ∷ (codes "delta", connection.Delta) ∷ (codes "ll", connection.Delta) ∷ []
 
 abbrev pub units : List (List ℕ × Units)
-units = (codes "mi", unit.Mile) ∷ (codes "kft", unit.Kilofoot) ∷ (codes "km", unit.Kilometre) ∷ (codes "m", unit.Metre) ∷ (codes "ft", unit.Foot) ∷ (codes "in", unit.Inch) ∷ (codes "cm", unit.Centimetre) ∷ (codes "none", unit.None) ∷ []
+units =
+    (codes "mi", unit.Mile) ∷ (codes "kft", unit.Kilofoot) ∷ (codes "km", unit.Kilometre) ∷ (codes "m", unit.Metre)
+    ∷ (codes "ft", unit.Foot) ∷ (codes "in", unit.Inch) ∷ (codes "cm", unit.Centimetre) ∷ (codes "none", unit.None)
+    ∷ []
 
 abbrev pub truths : List (List ℕ × Bool)
-truths = (codes "y", true) ∷ (codes "n", false) ∷ (codes "yes", true) ∷ (codes "no", false) ∷ (codes "t", true) ∷ (codes "f", false) ∷ (codes "true", true) ∷ (codes "false", false) ∷ []
+truths =
+    (codes "y", true) ∷ (codes "n", false) ∷ (codes "yes", true) ∷ (codes "no", false) ∷ (codes "t", true)
+    ∷ (codes "f", false) ∷ (codes "true", true) ∷ (codes "false", false) ∷ []
 
 abbrev pub quantities : List (List ℕ × ControlQuantity)
 quantities = (codes "voltage", quantity.Voltage) ∷ (codes "current", quantity.Current) ∷ (codes "kvar", quantity.Kvar) ∷ []

@@ -78,7 +78,9 @@ module _ (files there : Files) (certificate text : List ℕ) (count : ℕ)
 
   -- what is to come behind a command: `check` goes on with the circuit and the Solves so far
   abbrev GoesOnFrom : List Said → ScriptEnd → StandingView → Type 0
-  GoesOnFrom more end t = (now : List CircuitView) → AreAccepted text (now ++ solves_from more t.circuit) count → Accepts more end (gathered t.circuit now certificate)
+  GoesOnFrom more end t =
+      (now : List CircuitView) → AreAccepted text (now ++ solves_from more t.circuit) count
+      → Accepts more end (gathered t.circuit now certificate)
 
   -- with the circuit that a command left, and these Solves
   behind_left : (c : Command) (more : List Said) (end : ScriptEnd) (circuit d : CircuitView) (solved now : List CircuitView) (t : StandingView)
@@ -92,10 +94,11 @@ module _ (files there : Files) (certificate text : List ℕ) (count : ℕ)
       (go now (subst (λ (x : CircuitView). AreAccepted text (now ++ solves_from more x) count) (sym same) answer)))
 
   module _ (passed : PassedLaw) where
-    by_left : (c : Command) (more : List Said) (end : ScriptEnd) (circuit : CircuitView) (at : Positions) (settled : ℕ) (solved : List CircuitView) (left : Applied)
+    by_left : (c : Command) (more : List Said) (end : ScriptEnd) (circuit : CircuitView) (at : Positions)
+        (settled : ℕ) (solved : List CircuitView) (left : Applied)
         → tried c circuit ≡ left → (events : List Event) (t : StandingView) → IsStepOf at settled left (goes events t)
-        → AreAccepted text (solved ++ behind_command left (λ next. solves_from more next)) count → GoesOnFrom more end t
-        → Accepts (command c ∷ more) end (gathered circuit solved certificate)
+        → AreAccepted text (solved ++ behind_command left (λ next. solves_from more next)) count
+        → GoesOnFrom more end t → Accepts (command c ∷ more) end (gathered circuit solved certificate)
     by_left c more end circuit at settled solved (nothing_left d) of events t is answer go =
         let stands : t ≡ standing d at settled = cc in
         behind_left c more end circuit d solved solved t (ap (λ (u : StandingView). u.circuit) stands)
@@ -126,7 +129,8 @@ module _ (files there : Files) (certificate text : List ℕ) (count : ℕ)
     by_step c more end s h solved answer (goes events t) right goes_on none again =
         by_left c more end s.circuit s.at s.settled solved (tried c s.circuit) refl events t right answer
         (again t goes_on.more goes_on.right (sym (ap (λ (y : History). y.end) goes_on.h_is) ∙ none))
-    by_step c more end s h solved answer (work.ends events f) right goes_on none again = absurd (let some = ap (λ (x : History). x.end) goes_on in let no : ⊥ = cc in no)
+    by_step c more end s h solved answer (work.ends events f) right goes_on none again =
+        absurd (let some = ap (λ (x : History). x.end) goes_on in let no : ⊥ = cc in no)
 
     accepts : (said : List Said) (end : ScriptEnd) (s : StandingView) (h : History) → IsCertHistory said end s h
         → h.end ≡ None → (solved : List CircuitView)
@@ -135,7 +139,8 @@ module _ (files there : Files) (certificate text : List ℕ) (count : ℕ)
     accepts [] end s h is none solved answer =
         accepts_at_end end s h is none solved (subst (λ (cs : List CircuitView). AreAccepted text cs count) (append-nil solved) answer)
     accepts (name n ∷ more) end s h is none solved answer =
-        behind_name n more end (gathered s.circuit solved certificate) (accepts more end s is.more is.right (sym (ap (λ (y : History). y.end) is.h_is) ∙ none) solved answer)
+        behind_name n more end (gathered s.circuit solved certificate)
+        (accepts more end s is.more is.right (sym (ap (λ (y : History). y.end) is.h_is) ∙ none) solved answer)
     accepts (command c ∷ more) end s h is none solved answer =
         by_step c more end s h solved answer is.step is.right is.goes_on none (λ t x later k now a. accepts more end t x later k now a)
 
@@ -147,7 +152,8 @@ module _ (files there : Files) (certificate text : List ℕ) (count : ℕ)
         → (g : History) → IsFormHistory there (Some (Check script file)) g → HasAccepted count g
     script_accepted forms script file named h is none answer same g checks =
         let p : Part = said_of files (chars script) in
-        let all : Accepts p.said (ended_by p.left) (gathered empty_circuit [] certificate) = accepts p.said (ended_by p.left) first_standing h is none [] answer in
+        let all : Accepts p.said (ended_by p.left) (gathered empty_circuit [] certificate) =
+        accepts p.said (ended_by p.left) first_standing h is none [] answer in
         let found : IsCheckHistory there p certificate (accepting count all.names) = all.is in
         let form : IsFormHistory there (Some (Check script file)) (accepting count all.names) =
         subst (λ (q : Part). IsCheckHistory there q (chars file) (accepting count all.names)) (sym same)

@@ -81,7 +81,9 @@ opened_long first (reads n ∷ calls) last =
     ap suc (opened_long first calls last) ∙ same
 opened_long first (writes t ∷ calls) last =
     let one : length (calls ++ writes last ∷ []) ≡ length calls + 1 = length-append calls (writes last ∷ []) in
-    let same : length (map writes first) + suc (length (calls ++ writes last ∷ [])) ≡ suc (length calls) + (length first + 1) = omega (arith, length-map first writes, one) in
+    let same : length (map writes first) + suc (length (calls ++ writes last ∷ []))
+    ≡ suc (length calls) + (length first + 1) =
+    omega (arith, length-map first writes, one) in
     length-append (map writes first) (writes t ∷ (calls ++ writes last ∷ [])) ∙ same
 
 unprinted : (front rest : List Event) → calls_of certificate (front ++ rest) None ≡ calls_of certificate front None
@@ -107,7 +109,9 @@ unprinted_written : (events : List Event) → length (body certificate events) �
 unprinted_written [] h = tt
 unprinted_written (settle s ∷ events) h =
     let texts : List (List ℕ) = blocks_texts (blocks_of s) in
-    let both : length (body certificate (settle s ∷ events)) ≡ length (map writes texts) + length (body certificate events) = length-append (map writes texts) (body certificate events) in
+    let both : length (body certificate (settle s ∷ events))
+    ≡ length (map writes texts) + length (body certificate events) =
+    length-append (map writes texts) (body certificate events) in
     let sum : length (map writes texts) + length (body certificate events) ≡ 0 = sym both ∙ h in
     let none : length (blocks_texts (blocks_of s)) ≡ 0 = omega (arith, sum, length-map texts writes) in
     (no_blocks s (blocks_of s) refl none, unprinted_written events (omega (arith, sum)))
@@ -155,7 +159,8 @@ module _ (law : StatusLaw) (read : ReadLaw) (forms : FormsLaw) (rules : RuleLaw)
         end = all.end;
         have_taken = record {
           taken = becomes_by (taken old) (taken new) _ _ bytes r.sees.bytes;
-          are_accepted = written_accepted rules passed certificates files (said_of files (chars file)) h right all.end (all_written law read h r.fails r.made all reached);
+          are_accepted = written_accepted rules passed certificates files (said_of files (chars file)) h right all.end
+              (all_written law read h r.fails r.made all reached);
         };
       }
 

@@ -56,7 +56,10 @@ unfolding capped
 capped-IsBounds lo hi h = cases (fits lo && fits hi) refl
   where
     cases : (t : Bool) → (fits lo && fits hi) ≡ t → IsBounds (kept lo hi (fits lo && fits hi))
-    cases true e = let w = both (fits lo) (fits hi) e in let P : Bool → Type 0 = λ t. IsBounds (kept lo hi t) in subst P (sym e) (fits-true lo w.0, (fits-true hi w.1, h))
+    cases true e =
+        let w = both (fits lo) (fits hi) e in
+        let P : Bool → Type 0 = λ t. IsBounds (kept lo hi t) in
+        subst P (sym e) (fits-true lo w.0, (fits-true hi w.1, h))
     cases false e = let P : Bool → Type 0 = λ t. IsBounds (kept lo hi t) in subst P (sym e) tt
 
 pub outward-IsBounds : (z : ℤ) (d : ℕ) → 0 < d → IsBounds (outward z d)
@@ -75,7 +78,9 @@ module _ (q r d up : ℕ) (h : r < d) (e : r ≡ 0 → up ≡ q) (f : 0 < r → 
   outward_down = λ i. capped (floor_from q r d h i) (ceil_up q r d up h e f i)
 
   pub outward_up : outward (neg_ℤ (pos (q * d + r))) d ≡ capped (neg_ℤ (pos up)) (neg_ℤ (pos q))
-  outward_up = λ i. capped ((floor-neg (pos (q * d + r)) d ∙ ap neg_ℤ (ceil_up q r d up h e f)) i) ((ceil-neg (pos (q * d + r)) d ∙ ap neg_ℤ (floor_from q r d h)) i)
+  outward_up = λ i.
+      capped ((floor-neg (pos (q * d + r)) d ∙ ap neg_ℤ (ceil_up q r d up h e f)) i)
+      ((ceil-neg (pos (q * d + r)) d ∙ ap neg_ℤ (floor_from q r d h)) i)
 
   pub floor_negative : (t : Bool) (z : ℤ) → t ≡ true → z ≡ neg_ℤ (pos up) → z ≡ floor_div (signed t (q * d + r)) d
   floor_negative t z w e' = e' ∙ sym (ap (λ b. floor_div (signed b (q * d + r)) d) w ∙ floor-neg (pos (q * d + r)) d ∙ ap neg_ℤ (ceil_up q r d up h e f))
@@ -96,11 +101,17 @@ module _ (q r d up : ℕ) (h : r < d) (e : r ≡ 0 → up ≡ q) (f : 0 < r → 
 
   pub outward_negative : (t : Bool) (l k : ℤ) → up ≤ 2 ^ 120 → t ≡ true → l ≡ neg_ℤ (pos up) → k ≡ neg_ℤ (pos q)
       → Some (l, k) ≡ outward (signed t (q * d + r)) d
-  outward_negative t l k p w u v = sym (ap (λ b. outward (signed b (q * d + r)) d) w ∙ outward_up ∙ capped-within (neg_ℤ (pos up)) (neg_ℤ (pos q)) (omega (arith, ints, near_up)) (omega (arith, ints, near_up)) ∙ sym (λ i. Some (u i, v i)))
+  outward_negative t l k p w u v =
+      sym (ap (λ b. outward (signed b (q * d + r)) d) w ∙ outward_up
+      ∙ capped-within (neg_ℤ (pos up)) (neg_ℤ (pos q)) (omega (arith, ints, near_up)) (omega (arith, ints, near_up))
+      ∙ sym (λ i. Some (u i, v i)))
 
   pub outward_positive : (t : Bool) (l k : ℤ) → up ≤ 2 ^ 120 → t ≡ false → l ≡ pos q → k ≡ pos up
       → Some (l, k) ≡ outward (signed t (q * d + r)) d
-  outward_positive t l k p w u v = sym (ap (λ b. outward (signed b (q * d + r)) d) w ∙ outward_down ∙ capped-within (pos q) (pos up) (omega (arith, ints, near_up)) (omega (arith, ints, near_up)) ∙ sym (λ i. Some (u i, v i)))
+  outward_positive t l k p w u v =
+      sym (ap (λ b. outward (signed b (q * d + r)) d) w ∙ outward_down
+      ∙ capped-within (pos q) (pos up) (omega (arith, ints, near_up)) (omega (arith, ints, near_up))
+      ∙ sym (λ i. Some (u i, v i)))
 
 pub outward_large : (t : Bool) (m d : ℕ) → 0 < d → (2 ^ 120 + 1) * d ≤ m → outward (signed t m) d ≡ None
 outward_large t m d h big =
@@ -132,13 +143,27 @@ pub bounded-past : (z : ℤ) → ¬ ((neg_ℤ (pos (2 ^ 100)) ≤ℤ z) × (z �
 bounded-past z f = cases (near_limit z) refl
   where
     cases : (t : Bool) → near_limit z ≡ t → bounded z ≡ None
-    cases true e = let w = both (int_le (neg_ℤ (pos (2 ^ 100))) z) (int_le z (pos (2 ^ 100))) e in absurd (f (le-true (neg_ℤ (pos (2 ^ 100))) z w.0, le-true z (pos (2 ^ 100)) w.1))
+    cases true e =
+        let w = both (int_le (neg_ℤ (pos (2 ^ 100))) z) (int_le z (pos (2 ^ 100))) e in
+        absurd (f (le-true (neg_ℤ (pos (2 ^ 100))) z w.0, le-true z (pos (2 ^ 100)) w.1))
     cases false e = ap (λ t. cond t (Some z) None) e
 
 -- a quotient that passes the limit does so rounded either way
 pub floor_large : (t : Bool) (m d : ℕ) → 0 < d → (2 ^ 100 + 2) * d ≤ m → bounded (floor_div (signed t m) d) ≡ None
-floor_large true m d h big = bounded-past (floor_div (signed true m) d) (λ w. omega (arith, ints, scale (neg_ℤ (pos (2 ^ 100))) (floor_div (signed true m) d) d w.0, floor-low (signed true m) d h, neg-mul (pos (2 ^ 100)) (pos d)))
-floor_large false m d h big = bounded-past (floor_div (signed false m) d) (λ w. omega (arith, ints, scale (floor_div (signed false m) d) (pos (2 ^ 100)) d w.1, floor-high (signed false m) d h, next-mul (floor_div (signed false m) d) d))
+floor_large true m d h big = bounded-past (floor_div (signed true m) d) (λ w. omega (
+  arith,
+  ints,
+  scale (neg_ℤ (pos (2 ^ 100))) (floor_div (signed true m) d) d w.0,
+  floor-low (signed true m) d h,
+  neg-mul (pos (2 ^ 100)) (pos d),
+))
+floor_large false m d h big = bounded-past (floor_div (signed false m) d) (λ w. omega (
+  arith,
+  ints,
+  scale (floor_div (signed false m) d) (pos (2 ^ 100)) d w.1,
+  floor-high (signed false m) d h,
+  next-mul (floor_div (signed false m) d) d,
+))
 
 pub ceil_large : (t : Bool) (m d : ℕ) → 0 < d → (2 ^ 100 + 2) * d ≤ m → bounded (ceil_div (signed t m) d) ≡ None
 ceil_large t m d h big = bounded-past (ceil_div (signed t m) d) (λ w. by t w.0 w.1)

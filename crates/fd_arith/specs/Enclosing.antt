@@ -29,7 +29,9 @@ rescaled (Some a) n d k p h = (le_of_scale _ _ k p (rw (← spread a.0 d k) h.0)
 
 -- two ways to write one number
 same_between : (a : Bounds) (n m : ℤ) (d e : ℕ) → 0 < d → (n *ℤ pos e) ≡ (m *ℤ pos d) → Between a n d → Between a m e
-same_between a n m d e p c h = rescaled a m e d p (subst (λ (z : ℤ). Between a z (e * d)) c (subst (λ (k : ℕ). Between a (n *ℤ pos e) k) (turned d e) (rescale a n d e h)))
+same_between a n m d e p c h =
+    rescaled a m e d p (subst (λ (z : ℤ). Between a z (e * d)) c
+    (subst (λ (k : ℕ). Between a (n *ℤ pos e) k) (turned d e) (rescale a n d e h)))
   where
     turned : (d e : ℕ) → d * e ≡ e * d
     turned d e = omega arith
@@ -38,7 +40,9 @@ pub Holds-same : (a : Bounds) (x y : Fraction) → Same x y → Holds a x → Ho
 Holds-same a x y s h = same_between a x.top y.top x.over y.over s.left s.cross h
 
 pub HoldsCoef-same : (a : Bounds) (x y : Fraction) → Same x y → HoldsCoef a x → HoldsCoef a y
-HoldsCoef-same a x y s h = same_between a (x.top *ℤ pos (2 ^ 40)) (y.top *ℤ pos (2 ^ 40)) x.over y.over s.left (turn x.top (2 ^ 40) y.over ∙ ap (λ z. z *ℤ pos (2 ^ 40)) s.cross ∙ turn y.top x.over (2 ^ 40)) h
+HoldsCoef-same a x y s h =
+    same_between a (x.top *ℤ pos (2 ^ 40)) (y.top *ℤ pos (2 ^ 40)) x.over y.over s.left
+    (turn x.top (2 ^ 40) y.over ∙ ap (λ z. z *ℤ pos (2 ^ 40)) s.cross ∙ turn y.top x.over (2 ^ 40)) h
 
 -- ---- sums
 
@@ -78,7 +82,10 @@ hull-left (Some a) None x h = tt
 hull-left None b x h = tt
 
 pub hull-right : (a b : Bounds) (x : Fraction) → Holds b x → Holds (hull_of a b) x
-hull-right (Some a) (Some b) x h = (≤ℤ_trans (scale _ _ x.over (omega (arith, ints, clamps))) h.0, ≤ℤ_trans h.1 (scale _ _ x.over (omega (arith, ints, clamps))))
+hull-right (Some a) (Some b) x h = (
+  ≤ℤ_trans (scale _ _ x.over (omega (arith, ints, clamps))) h.0,
+  ≤ℤ_trans h.1 (scale _ _ x.over (omega (arith, ints, clamps))),
+)
 hull-right (Some a) None x h = tt
 hull-right None b x h = tt
 
@@ -103,7 +110,9 @@ clip_high lo hi e n d h = ⊎_elim
 
 pub clamped-holds : (a : Bounds) (lo hi : ℤ) → lo ≤ℤ hi → (x : Fraction) → Holds a x
     → Holds (clamped a lo hi) (clipped lo hi x)
-clamped-holds (Some a) lo hi o x h = capped-holds (clip lo hi a.0) (clip lo hi a.1) (clip (lo *ℤ pos x.over) (hi *ℤ pos x.over) x.top) x.over (clip_low lo hi a.0 x.top x.over h.0) (clip_high lo hi a.1 x.top x.over h.1)
+clamped-holds (Some a) lo hi o x h =
+    capped-holds (clip lo hi a.0) (clip lo hi a.1) (clip (lo *ℤ pos x.over) (hi *ℤ pos x.over) x.top) x.over
+    (clip_low lo hi a.0 x.top x.over h.0) (clip_high lo hi a.1 x.top x.over h.1)
 clamped-holds None lo hi o x h =
     let s = scale lo hi x.over o in
     capped-holds lo hi (clip (lo *ℤ pos x.over) (hi *ℤ pos x.over) x.top) x.over (omega (arith, ints, clamps)) (omega (arith, ints, clamps))

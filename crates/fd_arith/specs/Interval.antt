@@ -111,7 +111,9 @@ up_at x d = ceil_div (x *ℤ pos (2 ^ 40)) (unsigned_abs d)
 
 -- the least and the greatest quotient of ends in units of 2^-40, rounded outward
 unfoldable pub quotients : ℤ × ℤ → ℤ × ℤ → Bounds
-quotients a d = capped (int_min (int_min (down_at a.0 d.0) (down_at a.0 d.1)) (int_min (down_at a.1 d.0) (down_at a.1 d.1))) (int_max (int_max (up_at a.0 d.0) (up_at a.0 d.1)) (int_max (up_at a.1 d.0) (up_at a.1 d.1)))
+quotients a d =
+    capped (int_min (int_min (down_at a.0 d.0) (down_at a.0 d.1)) (int_min (down_at a.1 d.0) (down_at a.1 d.1)))
+    (int_max (int_max (up_at a.0 d.0) (up_at a.0 d.1)) (int_max (up_at a.1 d.0) (up_at a.1 d.1)))
 
 -- the quotient by a divisor whose lower end is positive and whose upper end is at most 10^32, and ALL for any other
 abbrev pub IsQuotientOf : Bounds → Bounds → Bounds → Type 0

@@ -71,11 +71,15 @@ module _ (q r d up : ℕ) (h : r < d) (e : 2 * r < d → up ≡ q) (f : d ≤ 2 
 -- what a body that found no quotient has to show
 pub scaled_outward_past : (n d : ℤ) (a b : ℕ) → a ≡ unsigned_abs n → b ≡ unsigned_abs d → 0 < b
     → 2 ^ 126 * b ≤ a * 2 ^ 40 → None ≡ outward (n *ℤ pos (2 ^ 40)) (unsigned_abs d)
-scaled_outward_past n d a b e f h k = sym (ap (λ z. outward z (unsigned_abs d)) (scaled_sign n) ∙ outward_large (is_below n) (unsigned_abs n * 2 ^ 40) (unsigned_abs d) (omega arith) (omega arith))
+scaled_outward_past n d a b e f h k =
+    sym (ap (λ z. outward z (unsigned_abs d)) (scaled_sign n)
+    ∙ outward_large (is_below n) (unsigned_abs n * 2 ^ 40) (unsigned_abs d) (omega arith) (omega arith))
 
 pub scaled_nearest_past : (n d : ℤ) (a b : ℕ) → a ≡ unsigned_abs n → b ≡ unsigned_abs d → 0 < b
     → 2 ^ 126 * b ≤ a * 2 ^ 40 → None ≡ nearest (n *ℤ pos (2 ^ 40)) (unsigned_abs d)
-scaled_nearest_past n d a b e f h k = sym (ap (λ z. nearest z (unsigned_abs d)) (scaled_sign n) ∙ nearest_large (is_below n) (unsigned_abs n * 2 ^ 40) (unsigned_abs d) (omega arith) (omega arith))
+scaled_nearest_past n d a b e f h k =
+    sym (ap (λ z. nearest z (unsigned_abs d)) (scaled_sign n)
+    ∙ nearest_large (is_below n) (unsigned_abs n * 2 ^ 40) (unsigned_abs d) (omega arith) (omega arith))
 
 -- what the bodies of `Wide` have to show
 pub product_past : {x y r : Option ℤ} {a b : ℤ} → Some a ≡ x → Some b ≡ y → ¬ (FitsSigned w128 (a *ℤ b)) → r ≡ None

@@ -18,12 +18,25 @@ use Rattle.fd_arith.specs.Capping.{fits-true, true-fits, same_bool, both, and-tr
 -- the hull of ends that may have passed the limit
 in_both : (l h m k : ℤ) → l ≤ℤ h → m ≤ℤ k
     → (fits (int_min l m) && fits (int_max h k)) ≡ ((fits l && fits h) && (fits m && fits k))
-in_both l h m k p q = same_bool _ _
-    (λ e. let w = both (fits (int_min l m)) (fits (int_max h k)) e in let v = fits-true (int_min l m) w.0 in let u = fits-true (int_max h k) w.1 in
-    and-true _ _ (and-true _ _ (true-fits l (omega (arith, ints, clamps))) (true-fits h (omega (arith, ints, clamps)))) (and-true _ _ (true-fits m (omega (arith, ints, clamps))) (true-fits k (omega (arith, ints, clamps)))))
-    (λ e. let w = both (fits l && fits h) (fits m && fits k) e in let v = both (fits l) (fits h) w.0 in let u = both (fits m) (fits k) w.1 in
-    let fl = fits-true l v.0 in let fh = fits-true h v.1 in let fm = fits-true m u.0 in let fk = fits-true k u.1 in
-    and-true _ _ (true-fits (int_min l m) (omega (arith, ints, clamps))) (true-fits (int_max h k) (omega (arith, ints, clamps))))
+in_both l h m k p q =
+    same_bool _ _ (λ e.
+    let w = both (fits (int_min l m)) (fits (int_max h k)) e in
+    let v = fits-true (int_min l m) w.0 in
+    let u = fits-true (int_max h k) w.1 in
+    and-true _ _ (and-true _ _ (true-fits l (omega (arith, ints, clamps))) (true-fits h (omega (
+      arith,
+      ints,
+      clamps,
+    )))) (and-true _ _ (true-fits m (omega (arith, ints, clamps))) (true-fits k (omega (arith, ints, clamps))))) (λ e.
+    let w = both (fits l && fits h) (fits m && fits k) e in
+    let v = both (fits l) (fits h) w.0 in
+    let u = both (fits m) (fits k) w.1 in
+    let fl = fits-true l v.0 in
+    let fh = fits-true h v.1 in
+    let fm = fits-true m u.0 in
+    let fk = fits-true k u.1 in
+    and-true _ _ (true-fits (int_min l m) (omega (arith, ints, clamps)))
+    (true-fits (int_max h k) (omega (arith, ints, clamps))))
 
 merge : (t u : Bool) (l h m k : ℤ)
     → hull_of (cond t (Some (l, h)) None) (cond u (Some (m, k)) None) ≡ cond (t && u) (Some (int_min l m, int_max h k)) None
@@ -34,7 +47,9 @@ merge false u l h m k = refl
 pub hull-capped : (l h m k : ℤ) → l ≤ℤ h → m ≤ℤ k
     → hull_of (capped l h) (capped m k) ≡ capped (int_min l m) (int_max h k)
 unfolding capped
-hull-capped l h m k p q = merge (fits l && fits h) (fits m && fits k) l h m k ∙ ap (λ t. cond t (Some (int_min l m, int_max h k)) None) (sym (in_both l h m k p q))
+hull-capped l h m k p q =
+    merge (fits l && fits h) (fits m && fits k) l h m k
+    ∙ ap (λ t. cond t (Some (int_min l m, int_max h k)) None) (sym (in_both l h m k p q))
 
 -- ---- products lie between the least and the greatest product of ends
 
@@ -73,7 +88,9 @@ product-holds None f x y h k = tt
 
 pub area-holds : (a b : Bounds) (x y : Fraction) → Holds a x → Holds b y → Holds (area_of a b) (x ⊗ y)
 unfolding ◌⊗◌
-area-holds (Some a) (Some b) x y h k = capped-holds (least a b) (greatest a b) (x.top *ℤ y.top) (x.over * y.over) (low_between a b x.top y.top x.over y.over h k) (high_between a b x.top y.top x.over y.over h k)
+area-holds (Some a) (Some b) x y h k =
+    capped-holds (least a b) (greatest a b) (x.top *ℤ y.top) (x.over * y.over)
+    (low_between a b x.top y.top x.over y.over h k) (high_between a b x.top y.top x.over y.over h k)
 area-holds (Some a) None x y h k = tt
 area-holds None b x y h k = tt
 
@@ -83,7 +100,9 @@ hull-rounded x y = hull-capped _ _ _ _ (floor-ceil x (2 ^ 40) (lit< tt)) (floor-
 
 -- the hull of the four products' own ends
 pub hull-four : (p q r s : ℤ)
-    → hull_of (hull_of (rounded p) (rounded q)) (hull_of (rounded r) (rounded s)) ≡ capped (floor_div (int_min (int_min p q) (int_min r s)) (2 ^ 40)) (ceil_div (int_max (int_max p q) (int_max r s)) (2 ^ 40))
+    → hull_of (hull_of (rounded p) (rounded q)) (hull_of (rounded r) (rounded s))
+    ≡ capped (floor_div (int_min (int_min p q) (int_min r s)) (2 ^ 40))
+    (ceil_div (int_max (int_max p q) (int_max r s)) (2 ^ 40))
 hull-four p q r s =
     let fp = floor-ceil p (2 ^ 40) (lit< tt) in
     let fq = floor-ceil q (2 ^ 40) (lit< tt) in
@@ -93,22 +112,33 @@ hull-four p q r s =
     ∙ hull-capped _ _ _ _ (omega (arith, ints, clamps)) (omega (arith, ints, clamps))
     ∙ (λ i. capped (lows i) (highs i))
   where
-    lows : int_min (int_min (floor_div p (2 ^ 40)) (floor_div q (2 ^ 40))) (int_min (floor_div r (2 ^ 40)) (floor_div s (2 ^ 40))) ≡ floor_div (int_min (int_min p q) (int_min r s)) (2 ^ 40)
-    lows = sym (floor-min (int_min p q) (int_min r s) (2 ^ 40) (lit< tt) ∙ (λ i. int_min (floor-min p q (2 ^ 40) (lit< tt) i) (floor-min r s (2 ^ 40) (lit< tt) i)))
+    lows : int_min (int_min (floor_div p (2 ^ 40)) (floor_div q (2 ^ 40)))
+        (int_min (floor_div r (2 ^ 40)) (floor_div s (2 ^ 40)))
+        ≡ floor_div (int_min (int_min p q) (int_min r s)) (2 ^ 40)
+    lows =
+        sym (floor-min (int_min p q) (int_min r s) (2 ^ 40) (lit< tt)
+        ∙ (λ i. int_min (floor-min p q (2 ^ 40) (lit< tt) i) (floor-min r s (2 ^ 40) (lit< tt) i)))
 
-    highs : int_max (int_max (ceil_div p (2 ^ 40)) (ceil_div q (2 ^ 40))) (int_max (ceil_div r (2 ^ 40)) (ceil_div s (2 ^ 40))) ≡ ceil_div (int_max (int_max p q) (int_max r s)) (2 ^ 40)
-    highs = sym (ceil-max (int_max p q) (int_max r s) (2 ^ 40) (lit< tt) ∙ (λ i. int_max (ceil-max p q (2 ^ 40) (lit< tt) i) (ceil-max r s (2 ^ 40) (lit< tt) i)))
+    highs : int_max (int_max (ceil_div p (2 ^ 40)) (ceil_div q (2 ^ 40)))
+        (int_max (ceil_div r (2 ^ 40)) (ceil_div s (2 ^ 40)))
+        ≡ ceil_div (int_max (int_max p q) (int_max r s)) (2 ^ 40)
+    highs =
+        sym (ceil-max (int_max p q) (int_max r s) (2 ^ 40) (lit< tt)
+        ∙ (λ i. int_max (ceil-max p q (2 ^ 40) (lit< tt) i) (ceil-max r s (2 ^ 40) (lit< tt) i)))
 
 pub product_lem : (a f : Bounds) → IsProduct a f (product a f)
 product_lem a f = record { ends = refl; holds = product-holds a f }
 
 -- the hull of the four rounded products
 pub four_products : (lo hi low high : ℤ)
-    → hull_of (hull_of (rounded (lo *ℤ low)) (rounded (lo *ℤ high))) (hull_of (rounded (hi *ℤ low)) (rounded (hi *ℤ high))) ≡ product (Some (lo, hi)) (Some (low, high))
+    → hull_of (hull_of (rounded (lo *ℤ low)) (rounded (lo *ℤ high)))
+    (hull_of (rounded (hi *ℤ low)) (rounded (hi *ℤ high)))
+    ≡ product (Some (lo, hi)) (Some (low, high))
 four_products lo hi low high = hull-four (lo *ℤ low) (lo *ℤ high) (hi *ℤ low) (hi *ℤ high)
 
 pub hull-four-capped : (l1 h1 l2 h2 l3 h3 l4 h4 : ℤ) → l1 ≤ℤ h1 → l2 ≤ℤ h2 → l3 ≤ℤ h3 → l4 ≤ℤ h4
-    → hull_of (hull_of (capped l1 h1) (capped l2 h2)) (hull_of (capped l3 h3) (capped l4 h4)) ≡ capped (int_min (int_min l1 l2) (int_min l3 l4)) (int_max (int_max h1 h2) (int_max h3 h4))
+    → hull_of (hull_of (capped l1 h1) (capped l2 h2)) (hull_of (capped l3 h3) (capped l4 h4))
+    ≡ capped (int_min (int_min l1 l2) (int_min l3 l4)) (int_max (int_max h1 h2) (int_max h3 h4))
 hull-four-capped l1 h1 l2 h2 l3 h3 l4 h4 p1 p2 p3 p4 =
     (λ i. hull_of (hull-capped l1 h1 l2 h2 p1 p2 i) (hull-capped l3 h3 l4 h4 p3 p4 i))
     ∙ hull-capped (int_min l1 l2) (int_max h1 h2) (int_min l3 l4) (int_max h3 h4) (omega (arith, ints, clamps)) (omega (arith, ints, clamps))
@@ -123,8 +153,11 @@ IsSmallProduct z = (neg_ℤ (pos (2 ^ 126)) ≤ℤ z) × (z ≤ℤ pos (2 ^ 126)
 
 pub small_product : (x y : ℤ) → IsSmall x → IsSmall y → IsSmallProduct (x *ℤ y)
 small_product x y h k = (
-  lower_product x (neg_ℤ (pos (2 ^ 63))) (pos (2 ^ 63)) y (neg_ℤ (pos (2 ^ 63))) (pos (2 ^ 63)) (neg_ℤ (pos (2 ^ 126))) h.0 h.1 k.0 k.1 (omega (arith, ints)) (omega (arith, ints)) (omega (arith, ints)) (omega (arith, ints)),
-  upper_product x (neg_ℤ (pos (2 ^ 63))) (pos (2 ^ 63)) y (neg_ℤ (pos (2 ^ 63))) (pos (2 ^ 63)) (pos (2 ^ 126)) h.0 h.1 k.0 k.1 (omega (arith, ints)) (omega (arith, ints)) (omega (arith, ints)) (omega (arith, ints)),
+  lower_product x (neg_ℤ (pos (2 ^ 63))) (pos (2 ^ 63)) y (neg_ℤ (pos (2 ^ 63))) (pos (2 ^ 63))
+      (neg_ℤ (pos (2 ^ 126))) h.0 h.1 k.0 k.1 (omega (arith, ints)) (omega (arith, ints)) (omega (arith, ints))
+      (omega (arith, ints)),
+  upper_product x (neg_ℤ (pos (2 ^ 63))) (pos (2 ^ 63)) y (neg_ℤ (pos (2 ^ 63))) (pos (2 ^ 63)) (pos (2 ^ 126)) h.0
+      h.1 k.0 k.1 (omega (arith, ints)) (omega (arith, ints)) (omega (arith, ints)) (omega (arith, ints)),
 )
 
 pub small_signed : (z : ℤ) → IsSmallProduct z → FitsSigned w128 z
@@ -173,9 +206,15 @@ area_lem a b = record { ends = refl; holds = area-holds a b }
 
 -- what a body that hulls the four products has to show
 pub area_from : {a b r : Bounds} {lo hi low high : ℤ} → Some (lo, hi) ≡ a → Some (low, high) ≡ b
-    → r ≡ hull_of (hull_of (capped (lo *ℤ low) (lo *ℤ low)) (capped (lo *ℤ high) (lo *ℤ high))) (hull_of (capped (hi *ℤ low) (hi *ℤ low)) (capped (hi *ℤ high) (hi *ℤ high)))
+    → r
+    ≡ hull_of (hull_of (capped (lo *ℤ low) (lo *ℤ low)) (capped (lo *ℤ high) (lo *ℤ high)))
+    (hull_of (capped (hi *ℤ low) (hi *ℤ low)) (capped (hi *ℤ high) (hi *ℤ high)))
     → IsArea a b r
-area_from {lo = lo} {hi = hi} {low = low} {high = high} p q e = subst (IsArea _ _) (sym (e ∙ hull-four-capped _ _ _ _ _ _ _ _ (omega (arith, ints)) (omega (arith, ints)) (omega (arith, ints)) (omega (arith, ints)) ∙ (λ i. area_of (p i) (q i)))) (area_lem _ _)
+area_from {lo = lo} {hi = hi} {low = low} {high = high} p q e =
+    subst (IsArea _ _) (sym (e ∙ hull-four-capped _ _ _ _ _ _ _ _ (omega (
+      arith,
+      ints,
+    )) (omega (arith, ints)) (omega (arith, ints)) (omega (arith, ints)) ∙ (λ i. area_of (p i) (q i)))) (area_lem _ _)
 
 -- a product that passes 128 bits passes the limit
 pub point_past : (z : ℤ) → ¬ (FitsSigned w128 z) → capped z z ≡ None
@@ -209,9 +248,13 @@ least_square_by true lo hi n d f p q = ≤ℤ_trans (none d) (square_up n)
   where
     none : (d : ℕ) → (pos 0 *ℤ pos (d * d)) ≤ℤ pos 0
     none d = omega (arith, ints)
-least_square_by false lo hi n d f p q = ⊎_elim
-    (λ up. ≤ℤ_trans (scale (int_min (lo *ℤ lo) (hi *ℤ hi)) (lo *ℤ lo) (d * d) (omega (arith, ints, clamps))) (rw (← exchange lo lo d d) (square_above (lo *ℤ pos d) n (rise lo d up) p)))
-    (λ low. ≤ℤ_trans (scale (int_min (lo *ℤ lo) (hi *ℤ hi)) (hi *ℤ hi) (d * d) (omega (arith, ints, clamps))) (rw (← exchange hi hi d d) (square_below n (hi *ℤ pos d) q (fall hi d low))))
+least_square_by false lo hi n d f p q =
+    ⊎_elim (λ up.
+    ≤ℤ_trans (scale (int_min (lo *ℤ lo) (hi *ℤ hi)) (lo *ℤ lo) (d * d) (omega (arith, ints, clamps)))
+    (rw (← exchange lo lo d d) (square_above (lo *ℤ pos d) n (rise lo d up) p)))
+    (λ low.
+    ≤ℤ_trans (scale (int_min (lo *ℤ lo) (hi *ℤ hi)) (hi *ℤ hi) (d * d) (omega (arith, ints, clamps)))
+    (rw (← exchange hi hi d d) (square_below n (hi *ℤ pos d) q (fall hi d low))))
     (f refl)
   where
     rise : (z : ℤ) (d : ℕ) → pos 0 <ℤ z → pos 0 ≤ℤ (z *ℤ pos d)

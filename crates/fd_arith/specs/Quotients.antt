@@ -41,13 +41,17 @@ turn x c q p = rw (as_val x) (simp vals (val-same _ _ _ _ (omega arith)))
 quotient_low : (l x d e n m : ℤ) (c p q : ℕ) → (l *ℤ d) ≤ℤ (x *ℤ pos c) → (l *ℤ e) ≤ℤ (x *ℤ pos c) → (d *ℤ pos q) ≤ℤ m
     → m ≤ℤ (e *ℤ pos q) → (x *ℤ pos p) ≤ℤ n → ((l *ℤ m) *ℤ pos p) ≤ℤ ((n *ℤ pos q) *ℤ pos c)
 quotient_low l x d e n m c p q f g h k low =
-    let at : (l *ℤ m) ≤ℤ ((x *ℤ pos c) *ℤ pos q) = between_ends l ((x *ℤ pos c) *ℤ pos q) (d *ℤ pos q) (e *ℤ pos q) m m (rw (← assoc l d (pos q)) (scale _ _ q f)) (rw (← assoc l e (pos q)) (scale _ _ q g)) h k in
+    let at : (l *ℤ m) ≤ℤ ((x *ℤ pos c) *ℤ pos q) =
+    between_ends l ((x *ℤ pos c) *ℤ pos q) (d *ℤ pos q) (e *ℤ pos q) m m (rw (← assoc l d (pos q)) (scale _ _ q f))
+    (rw (← assoc l e (pos q)) (scale _ _ q g)) h k in
     ≤ℤ_trans (scale _ _ p at) (rw (turn x c q p) (scale _ _ c (scale _ _ q low)))
 
 quotient_high : (u x d e n m : ℤ) (c p q : ℕ) → (x *ℤ pos c) ≤ℤ (u *ℤ d) → (x *ℤ pos c) ≤ℤ (u *ℤ e) → (d *ℤ pos q) ≤ℤ m
     → m ≤ℤ (e *ℤ pos q) → n ≤ℤ (x *ℤ pos p) → ((n *ℤ pos q) *ℤ pos c) ≤ℤ ((u *ℤ m) *ℤ pos p)
 quotient_high u x d e n m c p q f g h k high =
-    let at : ((x *ℤ pos c) *ℤ pos q) ≤ℤ (u *ℤ m) = above_ends u ((x *ℤ pos c) *ℤ pos q) (d *ℤ pos q) (e *ℤ pos q) m (rw (← assoc u d (pos q)) (scale _ _ q f)) (rw (← assoc u e (pos q)) (scale _ _ q g)) h k in
+    let at : ((x *ℤ pos c) *ℤ pos q) ≤ℤ (u *ℤ m) =
+    above_ends u ((x *ℤ pos c) *ℤ pos q) (d *ℤ pos q) (e *ℤ pos q) m (rw (← assoc u d (pos q)) (scale _ _ q f))
+    (rw (← assoc u e (pos q)) (scale _ _ q g)) h k in
     ≤ℤ_trans (scale _ _ c (scale _ _ q high)) (rw (← turn x c q p) (scale _ _ p at))
 
 quotients-between : (a d : ℤ × ℤ) → pos 0 <ℤ d.0 → d.0 ≤ℤ d.1 → (n : ℤ) (m p q : ℕ) → Between (Some a) n p
@@ -76,23 +80,31 @@ down_up x (negsuc d) h = absurd (omega (arith, ints))
 -- what a body that divides each end by each end has to show
 pub quotient_from : {a d r : Bounds} {lo hi low high : ℤ} → Some (lo, hi) ≡ a → Some (low, high) ≡ d → low ≤ℤ high
     → pos 0 <ℤ low → high ≤ℤ pos (10 ^ 32)
-    → r ≡ hull_of (hull_of (capped (down_at lo low) (up_at lo low)) (capped (down_at lo high) (up_at lo high))) (hull_of (capped (down_at hi low) (up_at hi low)) (capped (down_at hi high) (up_at hi high)))
+    → r
+    ≡ hull_of (hull_of (capped (down_at lo low) (up_at lo low)) (capped (down_at lo high) (up_at lo high)))
+    (hull_of (capped (down_at hi low) (up_at hi low)) (capped (down_at hi high) (up_at hi high)))
     → IsQuotient a d r
 unfolding quotients
 quotient_from {a} {d} {r} {lo} {hi} {low} {high} p q o z most e =
     let zz : pos 0 <ℤ high = omega (arith, ints) in
-    let is : r ≡ quotients (lo, hi) (low, high) = e ∙ hull-four-capped _ _ _ _ _ _ _ _ (down_up lo low z) (down_up lo high zz) (down_up hi low z) (down_up hi high zz) in
+    let is : r ≡ quotients (lo, hi) (low, high) =
+    e
+    ∙ hull-four-capped _ _ _ _ _ _ _ _ (down_up lo low z) (down_up lo high zz) (down_up hi low z)
+    (down_up hi high zz) in
     subst (λ (x : Bounds). IsQuotient x d r) p (subst (λ (y : Bounds). IsQuotient (Some (lo, hi)) y r) q (record {
       ends = ((λ u v. is), ((λ u. absurd (omega (arith, ints))), (λ u. absurd (omega (arith, ints)))));
-      holds = λ x m k h j. subst (λ (y : Bounds). HoldsCoef y (fraction (x.top *ℤ pos k) (x.over * m))) (sym is) (quotients-between (lo, hi) (low, high) z o x.top m x.over k h j);
+      holds = λ x m k h j.
+          subst (λ (y : Bounds). HoldsCoef y (fraction (x.top *ℤ pos k) (x.over * m))) (sym is)
+          (quotients-between (lo, hi) (low, high) z o x.top m x.over k h j);
     }))
 
 pub quotient_all : {a d r : Bounds} {lo hi low high : ℤ} → Some (lo, hi) ≡ a → Some (low, high) ≡ d
     → (low ≤ℤ pos 0) ⊎ (pos (10 ^ 32) <ℤ high) → r ≡ None → IsQuotient a d r
-quotient_all {a} {d} {r} {lo} {hi} {low} {high} p q w e = subst (λ (x : Bounds). IsQuotient x d r) p (subst (λ (y : Bounds). IsQuotient (Some (lo, hi)) y r) q (record {
-  ends = ((λ u v. absurd (neither w u v)), ((λ u. e), (λ u. e)));
-  holds = λ x m k h j. subst (λ (y : Bounds). HoldsCoef y (fraction (x.top *ℤ pos k) (x.over * m))) (sym e) tt;
-}))
+quotient_all {a} {d} {r} {lo} {hi} {low} {high} p q w e =
+    subst (λ (x : Bounds). IsQuotient x d r) p (subst (λ (y : Bounds). IsQuotient (Some (lo, hi)) y r) q (record {
+      ends = ((λ u v. absurd (neither w u v)), ((λ u. e), (λ u. e)));
+      holds = λ x m k h j. subst (λ (y : Bounds). HoldsCoef y (fraction (x.top *ℤ pos k) (x.over * m))) (sym e) tt;
+    }))
   where
     neither : (low ≤ℤ pos 0) ⊎ (pos (10 ^ 32) <ℤ high) → pos 0 <ℤ low → high ≤ℤ pos (10 ^ 32) → ⊥
     neither (inl x) u v = omega (arith, ints)

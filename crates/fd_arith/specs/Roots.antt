@@ -53,9 +53,12 @@ by_test false x y h = omega (arith, ints, clamps)
 
 squares_of : (lo hi n : ℕ) (d : ℕ) → lo * lo * d ≤ n → n ≤ hi * hi * d
     → Between (square_of (Some (pos lo, pos hi))) (pos n) d
-squares_of lo hi n d l h = capped-holds (least_square (pos lo, pos hi)) (int_max (pos lo *ℤ pos lo) (pos hi *ℤ pos hi)) (pos n) d
-    (≤ℤ_trans (scale (least_square (pos lo, pos hi)) (pos (lo * lo)) d (by_test (int_le (pos lo) (pos 0) && int_le (pos 0) (pos hi)) (pos lo *ℤ pos lo) (pos hi *ℤ pos hi) (omega (arith, ints)))) (omega (arith, ints)))
-    (≤ℤ_trans (upper n (hi * hi) d h) (scale (pos (hi * hi)) (int_max (pos lo *ℤ pos lo) (pos hi *ℤ pos hi)) d (omega (arith, ints, clamps))))
+squares_of lo hi n d l h =
+    capped-holds (least_square (pos lo, pos hi)) (int_max (pos lo *ℤ pos lo) (pos hi *ℤ pos hi)) (pos n) d
+    (≤ℤ_trans (scale (least_square (pos lo, pos hi)) (pos (lo * lo)) d (by_test (int_le (pos lo) (pos 0)
+    && int_le (pos 0) (pos hi)) (pos lo *ℤ pos lo) (pos hi *ℤ pos hi) (omega (arith, ints)))) (omega (arith, ints)))
+    (≤ℤ_trans (upper n (hi * hi) d h)
+    (scale (pos (hi * hi)) (int_max (pos lo *ℤ pos lo) (pos hi *ℤ pos hi)) d (omega (arith, ints, clamps))))
   where
     upper : (n k d : ℕ) → n ≤ k * d → pos n ≤ℤ (pos k *ℤ pos d)
     upper n k d h = omega (arith, ints)
@@ -65,7 +68,8 @@ squares-between None r w n d h = subst (λ (x : Bounds). Between (square_of x) (
 squares-between (Some s) r (lo, (hi, (is, (low, high)))) n d h =
     let l = below_non_negative s.0 d n h.0 in
     let u = above_non_negative s.1 d n h.1 in
-    subst (λ (x : Bounds). Between (square_of x) (pos n) d) (sym is) (squares_of lo hi n d (omega (arith, l, mul-le-mul_right d low.0)) (omega (arith, u, mul-le-mul_right d high.0)))
+    subst (λ (x : Bounds). Between (square_of x) (pos n) d) (sym is)
+    (squares_of lo hi n d (omega (arith, l, mul-le-mul_right d low.0)) (omega (arith, u, mul-le-mul_right d high.0)))
 
 squares_from_up : (s r : Bounds) → IsRootOf s r → (t : ℤ) (d : ℕ) → pos 0 ≤ℤ t → Between s t d
     → Between (square_of r) t d

@@ -31,7 +31,10 @@ chain nominal a b c h k = (
 -- ---- one base after another
 
 alone : (nominal : Nominal) (a : ℤ) → IsChosen nominal (a ∷ []) a
-alone nominal a = record { among = Contains-get_or (a ∷ []) 0 a (omega arith); before = All-cons (IsBefore nominal a) a [] (itself nominal a) (All-nil (IsBefore nominal a)) }
+alone nominal a = record {
+  among = Contains-get_or (a ∷ []) 0 a (omega arith);
+  before = All-cons (IsBefore nominal a) a [] (itself nominal a) (All-nil (IsBefore nominal a));
+}
 
 -- of two one that comes before both stands for both
 one_of_two : (nominal : Nominal) (a b r z : ℤ) (rest : List ℤ) → (r ≡ b) ⊎ (r ≡ a) → IsBefore nominal r b
@@ -108,14 +111,17 @@ true_le m n h = grind (arith, nat_tests)
 chosen_nearest : (nominal : Nominal) (bases : List ℤ) (z : ℤ) → IsChosen nominal bases z → nearest nominal bases ≡ z
 chosen_nearest nominal bases z h =
     let p : ℤ → Bool = is_nearest nominal bases in
-    let passes : p z ≡ true = list_all-from_AllPass (λ other. nat_le (distance nominal z) (distance nominal other)) bases (λ k d low. le_true _ _ (h.before k d low).0) in
+    let passes : p z ≡ true =
+    list_all-from_AllPass (λ other. nat_le (distance nominal z) (distance nominal other)) bases
+    (λ k d low. le_true _ _ (h.before k d low).0) in
     let low : All (λ x. z ≤ℤ x) (filter p bases) =
     λ k d low. (All-filter p (IsBefore nominal z) bases h.before k d low).1 (as_near (get_or (filter p bases) k d) (filter_passes p bases k d low)) in
     least_is (filter p bases) z (contains_filter p bases z h.among passes) low
   where
     as_near : (base : ℤ) → is_nearest nominal bases base ≡ true → distance nominal base ≤ distance nominal z
     as_near base e =
-        true_le _ _ (All-contains (λ other. nat_le (distance nominal base) (distance nominal other) ≡ true) bases z (AllPass-from_list_all (λ other. nat_le (distance nominal base) (distance nominal other)) bases e) h.among)
+        true_le _ _ (All-contains (λ other. nat_le (distance nominal base) (distance nominal other) ≡ true) bases z
+        (AllPass-from_list_all (λ other. nat_le (distance nominal base) (distance nominal other)) bases e) h.among)
 
 pub last_best : (nominal : Nominal) (all others : List ℤ) (i : ℕ) (a : ℤ) → length others ≤ i
     → ((z : ℤ) → IsChosen nominal (a ∷ drop i others) z → IsChosen nominal all z) → a ≡ nearest nominal all

@@ -100,7 +100,9 @@ done_same : (e : Element) (r : Reached) → is_done e r ≡ true → taken e r �
 done_same (the.Vsource v) r h = reached_before r v.bus1.name (source_nominal v) h
 done_same (the.Linecode l) r h = refl
 done_same (the.Line l) r h = joined_same l.bus1 None l.bus2 None r h
-done_same (the.Transformer t) r h = joined_same t.first.bus (Some (winding_nominal t.phases t.first)) t.second.bus (Some (winding_nominal t.phases t.second)) r h
+done_same (the.Transformer t) r h =
+    joined_same t.first.bus (Some (winding_nominal t.phases t.first)) t.second.bus
+    (Some (winding_nominal t.phases t.second)) r h
 done_same (the.Capacitor k) r h = refl
 done_same (the.Load l) r h = refl
 done_same (the.RegControl k) r h = refl
@@ -227,7 +229,10 @@ pass_counts (e ∷ es) r = by (first_time e.1 r) (pass_counts es r)
     unchanged : s ≡ r → (pass es r ≡ r) ⊎ (done_count es r < done_count es (pass es r))
         → (t ≡ r) ⊎ (done_count (e ∷ es) r < done_count (e ∷ es) t)
     unchanged f (inl h) = inl (ap (pass es) f ∙ h)
-    unchanged f (inr h) = inr (let more : done_count es r < done_count es t = subst (λ x. done_count es r < done_count es (pass es x)) (sym f) h in omega (arith, kept_first, more))
+    unchanged f (inr h) =
+        inr (let more : done_count es r < done_count es t =
+        subst (λ x. done_count es r < done_count es (pass es x)) (sym f) h in
+        omega (arith, kept_first, more))
 
     by : (s ≡ r) ⊎ ((is_done e.1 r ≡ false) × (is_done e.1 s ≡ true))
         → (pass es r ≡ r) ⊎ (done_count es r < done_count es (pass es r))

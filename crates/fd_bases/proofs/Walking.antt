@@ -37,7 +37,8 @@ carried_grows (Some there) to own r = reach_grows _ to _ r
 joined_grows : (first : Option Bus) (at_first : Option Nominal) (second : Option Bus) (at_second : Option Nominal) (r : Reached)
     → Grows r (joined first at_first second at_second r)
 joined_grows (Some a) at_a (Some b) at_b r =
-    chain (carried_grows (nominal_at r a.name) b.name at_b r) (carried_grows (nominal_at (carried a.name b.name at_b r) b.name) a.name at_a (carried a.name b.name at_b r))
+    chain (carried_grows (nominal_at r a.name) b.name at_b r)
+    (carried_grows (nominal_at (carried a.name b.name at_b r) b.name) a.name at_a (carried a.name b.name at_b r))
 joined_grows (Some a) at_a None at_b r = same r
 joined_grows None at_a b at_b r = same r
 

@@ -34,7 +34,8 @@ module _ {L S : Type 0} (faults : L → ℕ) (asked_of : L → Option (List (Lis
   }
 
 -- a history that is printed
-pub printed_alone : {S : Type 0} (taken : S → Option (List ℕ)) (calls : S → Option ℕ) (old new : S) (h : History) (style : Style) (good : Settle → Type 0) (code : ℕ)
+pub printed_alone : {S : Type 0} (taken : S → Option (List ℕ)) (calls : S → Option ℕ) (old new : S) (h : History)
+    (style : Style) (good : Settle → Type 0) (code : ℕ)
     → AllSettles good h.events
     → Printed taken calls old new (doing style h) code → RunsAlone taken calls old new (λ x. x ≡ h) style good code
 printed_alone taken calls old new h style good code all p = record {

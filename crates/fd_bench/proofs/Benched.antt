@@ -67,7 +67,12 @@ module _ {S : Type 0} (taken : S → Option (List ℕ)) (calls : S → Option �
       → GoesOn lines_of_text IsSolved (IsBenchStep c s) (bench_at s.sections t now) taken calls old new begun after
   bench_goes now t old new begun after h = record {
     events = h.on.events;
-    right = record { solving = goes h.on.events now; right = h.on.right; step_is = ap (λ (u : Tally). (let step : Step BenchView = goes h.on.events (bench_at s.sections u now) in step)) h.added };
+    right = record {
+      solving = goes h.on.events now;
+      right = h.on.right;
+      step_is = ap (λ (u : Tally). (let step : Step BenchView = goes h.on.events (bench_at s.sections u now) in step))
+          h.added;
+    };
     all_good = h.on.all_good;
     wrote = h.on.wrote;
     begun_is = h.on.begun_is;
@@ -145,7 +150,11 @@ module _ (there : List ℕ → Option (List ℕ)) (sections : ℕ) where
         right = record { step = goes events next; right = right; goes_on = record { more = rest.solving; right = rest.right; h_is = refl } };
         h_is = after.h_is ∙ ap (before events) rest.h_is ∙ behind_more sections t events rest.solving.events rest.solving.end;
       }
-  by_step c more end s t h (ends events f) right go after = record { solving = ended events f; right = record { step = ends events f; right = right; goes_on = refl }; h_is = after }
+  by_step c more end s t h (ends events f) right go after = record {
+    solving = ended events f;
+    right = record { step = ends events f; right = right; goes_on = refl };
+    h_is = after;
+  }
 
   solving_of : (left : List Said) (end : ScriptEnd) (s : StandingView) (t : Tally) (h : History)
       → IsBench left end (bench_at sections t s) h → Solving left end s t h
@@ -184,8 +193,12 @@ bench_history law number sections script state is empty h right =
     let p = said_of files (chars feeder_name) in
     let P : List Said → ScriptEnd → BenchView → Type 0 = λ l e s. IsHistory IsBenchStep no_bench_name IsBenchLast (λ n. held files (bytes n)) l e s h in
     let a : P (said_in script) (end_in script) (bench_at sections no_rounds first_standing) = subst (P (said_in script) (end_in script)) empty right in
-    let b : P p.said (end_in script) (bench_at sections no_rounds first_standing) = subst (λ l. P l (end_in script) (bench_at sections no_rounds first_standing)) (ap said_in is ∙ law.said files (chars feeder_name)) a in
-    let c : P p.said (ended_by p.left) (bench_at sections no_rounds first_standing) = subst (λ e. P p.said e (bench_at sections no_rounds first_standing)) (ap end_in is ∙ law.end files (chars feeder_name)) b in
+    let b : P p.said (end_in script) (bench_at sections no_rounds first_standing) =
+    subst (λ l. P l (end_in script) (bench_at sections no_rounds first_standing))
+    (ap said_in is ∙ law.said files (chars feeder_name)) a in
+    let c : P p.said (ended_by p.left) (bench_at sections no_rounds first_standing) =
+    subst (λ e. P p.said e (bench_at sections no_rounds first_standing))
+    (ap end_in is ∙ law.end files (chars feeder_name)) b in
     let all = solving_of (λ n. held files (bytes n)) sections p.said (ended_by p.left) first_standing no_rounds h c in
     record { solving = all.solving; right = all.right; h_is = all.h_is }
 
@@ -239,7 +252,8 @@ kept_calls events None =
     ∙ sym (opened_none (body lines_alone events ++ []))
 kept_calls events (Some f) =
     kept-append (so_far lines_of_text events) (writes (fault_text f) ∷ [])
-    ∙ ap (λ l. l ++ writes (fault_text f) ∷ []) (ap kept (opened_none (body lines_of_text events)) ∙ kept_body events ∙ sym (opened_none (body lines_alone events)))
+    ∙ ap (λ l. l ++ writes (fault_text f) ∷ []) (ap kept (opened_none (body lines_of_text events)) ∙ kept_body events
+    ∙ sym (opened_none (body lines_alone events)))
 
 abbrev kept_made : Made → Made
 kept_made m = record { calls = kept m.calls; torn = m.torn }
@@ -274,8 +288,12 @@ module _ {L S : Type 0} (faults : L → ℕ) (asked_of : L → Option (List (Lis
       → Wrote taken calls old new (kept_made m)
   wrote_kept m sees = record {
     names = kept_names m.calls;
-    bytes_are = subst (λ (texts : List (List ℕ)). Becomes (taken old) (taken new) (λ bs. bs ++ (concat texts ++ torn_bytes m.torn))) (sym (kept_texts m.calls)) sees.bytes;
-    writes_are = subst (λ (texts : List (List ℕ)). Becomes (calls old) (calls new) (λ n. n + (length texts + torn_writes m.torn))) (sym (kept_texts m.calls)) sees.writes;
+    bytes_are = subst (λ (texts : List (List ℕ)).
+        Becomes (taken old) (taken new) (λ bs. bs ++ (concat texts ++ torn_bytes m.torn)))
+        (sym (kept_texts m.calls)) sees.bytes;
+    writes_are = subst (λ (texts : List (List ℕ)).
+        Becomes (calls old) (calls new) (λ n. n + (length texts + torn_writes m.torn)))
+        (sym (kept_texts m.calls)) sees.writes;
   }
 
   -- where no read fails, it is what is done without the calls to the library

@@ -39,7 +39,9 @@ module _ (v : NetworkView) (x : List ℤ) (c : List (List ℤ)) (ms : List ℕ) 
   unfolding first_loose
   loose_same =
       ap (first_place (λ l. nat_lt greatest_mismatch (number_at ms l))) (ap length is ∙ length-mismatches v x)
-      ∙ first_same (λ l. nat_lt greatest_mismatch (number_at ms l)) (λ l. nat_lt greatest_mismatch (mismatch_at v x l)) v.size (λ l h. ap (nat_lt greatest_mismatch) (numbers_at l h))
+      ∙ first_same (λ l. nat_lt greatest_mismatch (number_at ms l))
+      (λ l. nat_lt greatest_mismatch (mismatch_at v x l)) v.size (λ l h.
+      ap (nat_lt greatest_mismatch) (numbers_at l h))
 
   pub is_loose : (row m : ℕ) → Some row ≡ first_place (λ l. nat_lt greatest_mismatch (number_at ms l)) (length ms)
       → row < v.size → m ≡ number_at ms row → certificate_of v x c ≡ Err (loose row m)
@@ -67,9 +69,13 @@ module _ (v : NetworkView) (x : List ℤ) (c : List (List ℤ)) (ms : List ℕ) 
 pub sizes_are : (v : NetworkView) (x : List ℤ) (ms : List ℕ) (rows : List Bounds) → rows ≡ interval_residual_of v x
     → ms ≡ map (λ a. mismatch_size (greater_size a)) rows → ms ≡ mismatches_of v x
 unfolding mismatches_of
-sizes_are v x ms rows e f = f ∙ ap (map (λ a. mismatch_size (greater_size a))) e ∙ list_of-ext (map (λ a. mismatch_size (greater_size a)) (interval_residual_of v x)) v.size (mismatch_at v x) 0
-    (length-map (interval_residual_of v x) (λ a. mismatch_size (greater_size a)) ∙ length-list_of v.size (residual_interval v.stamp x))
-    (λ i h. get_or-map (λ a. mismatch_size (greater_size a)) (interval_residual_of v x) i None 0 (subst (λ n. i < n) (sym (length-list_of v.size (residual_interval v.stamp x))) h)
+sizes_are v x ms rows e f =
+    f ∙ ap (map (λ a. mismatch_size (greater_size a))) e
+    ∙ list_of-ext (map (λ a. mismatch_size (greater_size a)) (interval_residual_of v x)) v.size (mismatch_at v x) 0
+    (length-map (interval_residual_of v x) (λ a. mismatch_size (greater_size a))
+    ∙ length-list_of v.size (residual_interval v.stamp x))
+    (λ i h. get_or-map (λ a. mismatch_size (greater_size a)) (interval_residual_of v x) i None 0
+    (subst (λ n. i < n) (sym (length-list_of v.size (residual_interval v.stamp x))) h)
     ∙ ap (λ a. mismatch_size (greater_size a)) (get_or-list_of v.size (residual_interval v.stamp x) i None h))
 
 -- the lists of a certified state, as the claims name them
@@ -84,4 +90,6 @@ pub tried_is : (v : NetworkView) (x : List ℤ) (c : List (List ℤ)) (m : Claim
 tried_is v x c m rs ms bs e f g h = e ∙ (λ i. record { centre = x; radii = h i; mismatches = f i; boxes = g i; inverse = c })
 
 pub zeros_are : (n m : ℕ) (rs : List ℕ) → rs ≡ replicate m 0 → m ≡ n → rs ≡ list_of n (λ _. 0)
-zeros_are n m rs e f = list_of-ext rs n (λ _. 0) 0 (ap length e ∙ length-replicate m 0 ∙ f) (λ i l. ap (λ xs. number_at xs i) e ∙ get_or-replicate m i 0 0 (omega arith))
+zeros_are n m rs e f =
+    list_of-ext rs n (λ _. 0) 0 (ap length e ∙ length-replicate m 0 ∙ f)
+    (λ i l. ap (λ xs. number_at xs i) e ∙ get_or-replicate m i 0 0 (omega arith))

@@ -19,24 +19,41 @@ module _ (v : NetworkView) (x : List ℤ) (r e : List ℕ) (c : List (List ℤ))
   -- ---- at a point
 
   module _ (own : List ℕ) (is : own ≡ mismatches_of v x) where
-    untrue_same : first_place (λ l. is_untrue (number_at own l) (number_at e l)) (length own) ≡ first_place (λ l. is_untrue (mismatch_at v x l) (number_at e l)) v.size
+    untrue_same : first_place (λ l. is_untrue (number_at own l) (number_at e l)) (length own)
+        ≡ first_place (λ l. is_untrue (mismatch_at v x l) (number_at e l)) v.size
     untrue_same =
         ap (first_place (λ l. is_untrue (number_at own l) (number_at e l))) (ap length is ∙ length-mismatches v x)
-        ∙ first_same (λ l. is_untrue (number_at own l) (number_at e l)) (λ l. is_untrue (mismatch_at v x l) (number_at e l)) v.size (λ l h. ap (λ m. is_untrue m (number_at e l)) (numbers_at v x c own is l h))
+        ∙ first_same (λ l. is_untrue (number_at own l) (number_at e l))
+        (λ l. is_untrue (mismatch_at v x l) (number_at e l)) v.size (λ l h.
+        ap (λ m. is_untrue m (number_at e l)) (numbers_at v x c own is l h))
 
     pub untrue_first : (place : ℕ)
         → Some place ≡ first_place (λ l. is_untrue (number_at own l) (number_at e l)) (length own)
         → first_at_point v x r e c ≡ Some (record { rule = Mismatch; place = place })
     unfolding first_at_point
-    untrue_first place h = ap (λ o. broken_at Mismatch o (broken_at Bound (place_named (refusal_of v x e c)) (broken_at Radius (first_place (is_narrow v x r e c) v.size) None))) (sym (h ∙ untrue_same))
+    untrue_first place h =
+        ap (λ o.
+        broken_at Mismatch o (broken_at Bound (place_named (refusal_of v x e c))
+        (broken_at Radius (first_place (is_narrow v x r e c) v.size) None)))
+        (sym (h ∙ untrue_same))
 
     module _ (none : None ≡ first_place (λ l. is_untrue (number_at own l) (number_at e l)) (length own)) where
       pub tight : length e ≡ v.size → AreTight e
-      tight long l h = ltb-false greatest_mismatch (number_at e l) (or_parts (nat_lt (number_at e l) (mismatch_at v x l)) (nat_lt greatest_mismatch (number_at e l)) (none_holds (λ l. is_untrue (mismatch_at v x l) (number_at e l)) v.size l (sym (none ∙ untrue_same)) (subst (λ n. l < n) long h))).1
+      tight long l h =
+          ltb-false greatest_mismatch (number_at e l)
+          (or_parts (nat_lt (number_at e l) (mismatch_at v x l)) (nat_lt greatest_mismatch (number_at e l))
+          (none_holds (λ l. is_untrue (mismatch_at v x l) (number_at e l)) v.size l (sym (none ∙ untrue_same))
+          (subst (λ n. l < n) long h))).1
 
-      past_mismatch : first_at_point v x r e c ≡ broken_at Bound (place_named (refusal_of v x e c)) (broken_at Radius (first_place (is_narrow v x r e c) v.size) None)
+      past_mismatch : first_at_point v x r e c
+          ≡ broken_at Bound (place_named (refusal_of v x e c))
+          (broken_at Radius (first_place (is_narrow v x r e c) v.size) None)
       unfolding first_at_point
-      past_mismatch = ap (λ o. broken_at Mismatch o (broken_at Bound (place_named (refusal_of v x e c)) (broken_at Radius (first_place (is_narrow v x r e c) v.size) None))) (sym (none ∙ untrue_same))
+      past_mismatch =
+          ap (λ o.
+          broken_at Mismatch o (broken_at Bound (place_named (refusal_of v x e c))
+          (broken_at Radius (first_place (is_narrow v x r e c) v.size) None)))
+          (sym (none ∙ untrue_same))
 
       pub bound_first : (place : ℕ) (sum : Option ℤ) → refusal_of v x e c ≡ Some (place, sum)
           → first_at_point v x r e c ≡ Some (record { rule = Bound; place = place })
@@ -50,7 +67,9 @@ module _ (v : NetworkView) (x : List ℤ) (r e : List ℕ) (c : List (List ℤ))
         narrow_same : first_place (λ i. nat_lt (number_at r i) (number_at least i)) (length least) ≡ first_place (is_narrow v x r e c) v.size
         narrow_same =
             ap (first_place (λ i. nat_lt (number_at r i) (number_at least i))) least_long
-            ∙ first_same (λ i. nat_lt (number_at r i) (number_at least i)) (is_narrow v x r e c) v.size (λ i h. ap (nat_lt (number_at r i)) (ap (λ xs. number_at xs i) all ∙ get_or-list_of v.size (radius_in v x c e) i 0 h))
+            ∙ first_same (λ i. nat_lt (number_at r i) (number_at least i)) (is_narrow v x r e c) v.size (λ i h.
+            ap (nat_lt (number_at r i))
+            (ap (λ xs. number_at xs i) all ∙ get_or-list_of v.size (radius_in v x c e) i 0 h))
 
         past_bound : first_at_point v x r e c ≡ broken_at Radius (first_place (is_narrow v x r e c) v.size) None
         past_bound = past_mismatch ∙ ap (λ o. broken_at Bound (place_named o) (broken_at Radius (first_place (is_narrow v x r e c) v.size) None)) certain
@@ -68,12 +87,20 @@ module _ (v : NetworkView) (x : List ℤ) (r e : List ℕ) (c : List (List ℤ))
 
   pub size_first : has_size v.size x r e c ≡ false → first_broken v x r e c ≡ Some (record { rule = Size; place = 0 })
   unfolding first_broken
-  size_first h = ap (λ b. cond b (broken_at Range (first_place (is_out_of_range v.size x r c) v.size) (first_at_point v x r e c)) (Some (record { rule = Size; place = 0 }))) h
+  size_first h =
+      ap (λ b.
+      cond b (broken_at Range (first_place (is_out_of_range v.size x r c) v.size) (first_at_point v x r e c))
+      (Some (record { rule = Size; place = 0 })))
+      h
 
   past_size : has_size v.size x r e c ≡ true
       → first_broken v x r e c ≡ broken_at Range (first_place (is_out_of_range v.size x r c) v.size) (first_at_point v x r e c)
   unfolding first_broken
-  past_size h = ap (λ b. cond b (broken_at Range (first_place (is_out_of_range v.size x r c) v.size) (first_at_point v x r e c)) (Some (record { rule = Size; place = 0 }))) h
+  past_size h =
+      ap (λ b.
+      cond b (broken_at Range (first_place (is_out_of_range v.size x r c) v.size) (first_at_point v x r e c))
+      (Some (record { rule = Size; place = 0 })))
+      h
 
   module _ (sized : has_size v.size x r e c ≡ true) where
     pub range_same : (o : Option ℕ) → o ≡ first_place (is_out_of_range (length x) x r c) (length x)

@@ -29,7 +29,9 @@ only_at : (f : ℕ → ℤ) (n j : ℕ) → j < n → sum_z (λ k. cond (eqb k j
 only_at f zero j h = absurd (omega arith)
 only_at f (suc n) j h = elim (cases_eq n j) [
   | inl e ↦
-      let none = sum_z-same (λ k. cond (eqb k j) (f k) (pos 0)) (λ _. pos 0) n (λ k l. let ne : k ≢ j = omega arith in ap (λ b. cond b (f k) (pos 0)) (ne_eqb k j ne)) ∙ sum_z-zero n in
+      let none = sum_z-same (λ k. cond (eqb k j) (f k) (pos 0)) (λ _. pos 0) n (λ k l.
+      let ne : k ≢ j = omega arith in ap (λ b. cond b (f k) (pos 0)) (ne_eqb k j ne))
+      ∙ sum_z-zero n in
       let here = ap (λ b. cond b (f n) (pos 0)) (eq-eqb n j e) ∙ ap f e in
       (λ i. none i +ℤ here i) ∙ first (f j)
   | inr ne ↦
@@ -104,8 +106,11 @@ pub flat_more : (m : MatrixView) (es new : List Entry) (row : ℕ) (cells : List
     → HasSmallUnits cells (length cells) → new ≡ es ++ map (entry_of row) (filter has_units cells) → IsFlat m es row
     → IsFlat m new (row + 1)
 flat_more m es new row cells inside is J has units e h = subst (λ xs. IsFlat m xs (row + 1)) (sym e) (record {
-  each = All-append (IsShort m.size) es (map (entry_of row) (filter has_units cells)) h.each (All-map (IsShort m.size) (entry_of row) (filter has_units cells)
-      (All-filter has_units (λ c. IsShort m.size (entry_of row c)) cells (All-from_get_or (λ c. IsShort m.size (entry_of row c)) cells empty (λ k l. let r = is has.at has.cells has.nothing in record { row = inside; col = r.inside k l; small = units k l }))));
+  each = All-append (IsShort m.size) es (map (entry_of row) (filter has_units cells)) h.each
+      (All-map (IsShort m.size) (entry_of row) (filter has_units cells)
+      (All-filter has_units (λ c. IsShort m.size (entry_of row c)) cells
+      (All-from_get_or (λ c. IsShort m.size (entry_of row c)) cells empty (λ k l.
+      let r = is has.at has.cells has.nothing in record { row = inside; col = r.inside k l; small = units k l }))));
   sums = λ K k factor j l.
       let next : suc row ≡ row + 1 = omega arith in
       list_z-append (entry_term factor j) es (map (entry_of row) (filter has_units cells))
@@ -139,13 +144,19 @@ added_more factors es old new k d value l h inside is small =
     let at : e.col < length new = subst (λ n. e.col < n) (sym h.long) inside in
     let add : (j : ℕ) → part (set new e.col value) j ≡ (part new j +ℤ entry_term (part factors) j e) = λ j. elim (cases_eq e.col j) [
       | inl q ↦ subst (λ n. part (set new e.col value) n ≡ (part new n +ℤ entry_term (part factors) n e)) q
-          (get_or-set_same new e.col value (pos 0) at ∙ is ∙ ap (λ b. part new e.col +ℤ cond b (part factors e.row *ℤ e.units) (pos 0)) (sym (eq-eqb e.col e.col refl)))
-      | inr ne ↦ get_or-set_other new e.col j value (pos 0) (λ q. ne (sym q)) ∙ plain (part new j) ∙ ap (λ b. part new j +ℤ cond b (part factors e.row *ℤ e.units) (pos 0)) (sym (ne_eqb e.col j ne))
+          (get_or-set_same new e.col value (pos 0) at ∙ is
+          ∙ ap (λ b. part new e.col +ℤ cond b (part factors e.row *ℤ e.units) (pos 0))
+          (sym (eq-eqb e.col e.col refl)))
+      | inr ne ↦ get_or-set_other new e.col j value (pos 0) (λ q. ne (sym q))
+          ∙ plain (part new j)
+          ∙ ap (λ b. part new j +ℤ cond b (part factors e.row *ℤ e.units) (pos 0)) (sym (ne_eqb e.col j ne))
     ] in
     record {
       long = length-set new e.col value ∙ h.long;
       sums = λ j. add j ∙ ap (λ z. z +ℤ entry_term (part factors) j e) (h.sums j) ∙ sym (list_z_more (entry_term (part factors) j) es k d l);
-      small = λ j. subst (λ z. nat_abs z ≤ (k + 1) * 2 ^ 104) (sym (add j)) (grown (eqb e.col j) (part new j) (part factors e.row *ℤ e.units) (h.small j) small);
+      small = λ j.
+          subst (λ z. nat_abs z ≤ (k + 1) * 2 ^ 104) (sym (add j))
+          (grown (eqb e.col j) (part new j) (part factors e.row *ℤ e.units) (h.small j) small);
     }
   where
     plain : (z : ℤ) → z ≡ (z +ℤ pos 0)
@@ -169,7 +180,8 @@ exact_sum g zero few h = refl
 exact_sum g (suc n) few h =
     let t = h n (omega arith) in
     let s = sum_small g (suc n) h in
-    (λ i. wide_sum (exact_sum g n (omega arith) (λ l m. h l (omega arith)) i) (within_small (g n) (omega arith) i)) ∙ within_small (sum_z g n +ℤ g n) (omega arith)
+    (λ i. wide_sum (exact_sum g n (omega arith) (λ l m. h l (omega arith)) i) (within_small (g n) (omega arith) i))
+    ∙ within_small (sum_z g n +ℤ g n) (omega arith)
 
 module _ (m : MatrixView) (es : List Entry) (factors sums : List ℤ) (flat : IsFlatOf m es) (few : m.size ≤ 2 ^ 11)
     (row : IsRowOfInverse m.size factors) (added : (j : ℕ) → part sums j ≡ list_z (entry_term (part factors) j) es)

@@ -71,11 +71,13 @@ front_more numbers k lows hs low times inside is small few h =
     parted z a b n e = ap (λ m. z * m) e ∙ omega arith
 
     next : (f : ℕ → ℕ)
-        → sum_n (λ l. f l * number_at numbers l) (k + 1) ≡ sum_n (λ l. f l * number_at (lows ++ low ∷ []) l) (k + 1) + 2 ^ 60 * high_sum f (with_high hs k times)
+        → sum_n (λ l. f l * number_at numbers l) (k + 1)
+        ≡ sum_n (λ l. f l * number_at (lows ++ low ∷ []) l) (k + 1) + 2 ^ 60 * high_sum f (with_high hs k times)
     next f =
         let new = lows ++ low ∷ [] in
         let step : k + 1 ≡ suc k = omega arith in
-        let same = sum_n-same (λ l. f l * number_at new l) (λ l. f l * number_at lows l) k (λ l m. ap (λ n. f l * n) (get_or_append_left lows (low ∷ []) 0 l (omega (arith, m, h.long)))) in
+        let same = sum_n-same (λ l. f l * number_at new l) (λ l. f l * number_at lows l) k (λ l m.
+        ap (λ n. f l * n) (get_or_append_left lows (low ∷ []) 0 l (omega (arith, m, h.long)))) in
         let here : f k * number_at new k ≡ f k * low = ap (λ n. f k * n) (get_or_push lows low 0 k h.long) in
         let more = by_sum hs k times f (eqb times 0) (none_at hs k times) in
         let of_it = parted (f k) low times (number_at numbers k) is in

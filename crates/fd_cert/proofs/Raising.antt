@@ -68,11 +68,15 @@ module _ (ps : List (ℕ × ℕ)) (xs : List ℕ) (row col value : ℕ) where
     long = length-set xs k new;
     each = λ j l. elim (cases_eq j k) [
       | inl e ↦
-          let hit : is_at row col (key ps j) ≡ true = subst (λ n. is_at row col (key ps n) ≡ true) (sym e) (here row col (key ps k) (sym at.row_is) (sym at.col_is)) in
+          let hit : is_at row col (key ps j) ≡ true =
+          subst (λ n. is_at row col (key ps n) ≡ true) (sym e)
+          (here row col (key ps k) (sym at.row_is) (sym at.col_is)) in
           let read : number_at (set xs k new) j ≡ new = ap (number_at (set xs k new)) e ∙ get_or-set_same xs k new 0 (omega (arith, at.in_range)) in
           read ∙ is ∙ ap (λ n. number_at xs n + value) (sym e) ∙ (λ i. number_at xs j + cond (sym hit i) value 0)
       | inr ne ↦
-          let miss : is_at row col (key ps j) ≡ false = elsewhere row col (key ps j) (λ (f, g). ne (only j (record { in_range = l; row_is = sym f; col_is = sym g }))) in
+          let miss : is_at row col (key ps j) ≡ false =
+          elsewhere row col (key ps j) (λ (f, g).
+          ne (only j (record { in_range = l; row_is = sym f; col_is = sym g }))) in
           let read : number_at (set xs k new) j ≡ number_at xs j = get_or-set_other xs k j new 0 ne in
           read ∙ plain (number_at xs j) ∙ (λ i. number_at xs j + cond (sym miss i) value 0)
     ];
@@ -124,21 +128,29 @@ magnitude_in_row row place value p = by_row (eqb row p.0) (eqb place p.1)
     by_row false a = refl
 
 pub two_in_row : (row : ℕ) (u : LoadAt) (r : RadiusRow) (p : ℕ × ℕ)
-    → cond (eqb row p.0) (spread_node p.1 u.first r.p r.q) 0 + cond (eqb row p.0) (spread_node p.1 u.second r.p r.q) 0 ≡ cond (eqb row p.0) (spread_node p.1 u.first r.p r.q + spread_node p.1 u.second r.p r.q) 0
+    → cond (eqb row p.0) (spread_node p.1 u.first r.p r.q) 0 + cond (eqb row p.0) (spread_node p.1 u.second r.p r.q) 0
+    ≡ cond (eqb row p.0) (spread_node p.1 u.first r.p r.q + spread_node p.1 u.second r.p r.q) 0
 two_in_row row u r p = by_row (eqb row p.0)
   where
     by_row : (b : Bool)
-        → cond b (spread_node p.1 u.first r.p r.q) 0 + cond b (spread_node p.1 u.second r.p r.q) 0 ≡ cond b (spread_node p.1 u.first r.p r.q + spread_node p.1 u.second r.p r.q) 0
+        → cond b (spread_node p.1 u.first r.p r.q) 0 + cond b (spread_node p.1 u.second r.p r.q) 0
+        ≡ cond b (spread_node p.1 u.first r.p r.q + spread_node p.1 u.second r.p r.q) 0
     by_row true = refl
     by_row false = refl
 
 pub three_in_row : (row : ℕ) (u : LoadAt) (r : RadiusRow) (p : ℕ × ℕ)
-    → cond (eqb row p.0) (spread_node p.1 u.first r.p r.q + spread_node p.1 u.second r.p r.q) 0 + cond (eqb row p.0) (spread_magnitude p.1 u.magnitude r.m) 0 ≡ cond (eqb row p.0) (radius_in p.1 u r) 0
+    → cond (eqb row p.0) (spread_node p.1 u.first r.p r.q + spread_node p.1 u.second r.p r.q) 0
+    + cond (eqb row p.0) (spread_magnitude p.1 u.magnitude r.m) 0
+    ≡ cond (eqb row p.0) (radius_in p.1 u r) 0
 unfolding spread
 three_in_row row u r p = by_row (eqb row p.0)
   where
     by_row : (b : Bool)
-        → cond b (spread_node p.1 u.first r.p r.q + spread_node p.1 u.second r.p r.q) 0 + cond b (spread_magnitude p.1 u.magnitude r.m) 0 ≡ cond b ((spread_node p.1 u.first r.p r.q + spread_node p.1 u.second r.p r.q) + spread_magnitude p.1 u.magnitude r.m) 0
+        → cond b (spread_node p.1 u.first r.p r.q + spread_node p.1 u.second r.p r.q) 0
+        + cond b (spread_magnitude p.1 u.magnitude r.m) 0
+        ≡ cond b
+        ((spread_node p.1 u.first r.p r.q + spread_node p.1 u.second r.p r.q) + spread_magnitude p.1 u.magnitude r.m)
+        0
     by_row true = refl
     by_row false = refl
 
@@ -174,8 +186,10 @@ module _ (ps : List (ℕ × ℕ)) (old : List ℕ) (box : ℕ → ℕ) (x : List
       → RaisesRoom ps new later 25
       → IsSoFar ps old later box x us (k + 1)
   next_load new later k d r l h e raised room = record {
-    raised = raised_then ps old new later (loads_radius box x (take k us)) (λ p. load_radius (get_or us k d) r p.0 p.1) (loads_radius box x (take (k + 1) us)) h.raised raised
-        (λ p. ap (λ s. loads_radius box x (take k us) p + load_radius (get_or us k d) s p.0 p.1) e ∙ sym (list_n_more (λ u. load_radius u (radii_in box x u) p.0 p.1) us k d l));
+    raised = raised_then ps old new later (loads_radius box x (take k us))
+        (λ p. load_radius (get_or us k d) r p.0 p.1) (loads_radius box x (take (k + 1) us)) h.raised raised (λ p.
+        ap (λ s. loads_radius box x (take k us) p + load_radius (get_or us k d) s p.0 p.1) e
+        ∙ sym (list_n_more (λ u. load_radius u (radii_in box x u) p.0 p.1) us k d l));
     room = room_after ps new later 25 (k * 25 * 2 ^ 100) ((k + 1) * 25 * 2 ^ 100) h.room room (omega arith);
   }
 

@@ -69,11 +69,18 @@ sized_parts n x r e c h =
     let a = and_parts (length x == n) _ h in
     let b = and_parts (length r == n) _ a.1 in
     let d = and_parts (length e == n) (length c == n) b.1 in
-    record { centre = eqb-true (length x) n a.0; radii = eqb-true (length r) n b.0; mismatches = eqb-true (length e) n d.0; inverse = eqb-true (length c) n d.1 }
+    record {
+      centre = eqb-true (length x) n a.0;
+      radii = eqb-true (length r) n b.0;
+      mismatches = eqb-true (length e) n d.0;
+      inverse = eqb-true (length c) n d.1;
+    }
 
 sized_from : (n : ℕ) (x : List ℤ) (r e : List ℕ) (c : List (List ℤ)) → AreSized n x r e c → has_size n x r e c ≡ true
 sized_from n x r e c h =
-    and_from (length x == n) _ (eq-eqb (length x) n h.centre) (and_from (length r == n) _ (eq-eqb (length r) n h.radii) (and_from (length e == n) (length c == n) (eq-eqb (length e) n h.mismatches) (eq-eqb (length c) n h.inverse)))
+    and_from (length x == n) _ (eq-eqb (length x) n h.centre)
+    (and_from (length r == n) _ (eq-eqb (length r) n h.radii)
+    (and_from (length e == n) (length c == n) (eq-eqb (length e) n h.mismatches) (eq-eqb (length c) n h.inverse)))
 
 -- ---- range
 
@@ -102,8 +109,10 @@ module _ (n : ℕ) (x : List ℤ) (r : List ℕ) (c : List (List ℤ)) where
   from_ranged : (i : ℕ) → IsRanged n x r c i → is_out_of_range n x r c i ≡ false
   from_ranged i h =
       or_from (nat_lt (2 ^ 40) (nat_abs (part x i))) _ (not_past (2 ^ 40) (nat_abs (part x i)) h.centre)
-      (or_from (nat_lt (2 ^ 40) (number_at r i)) (has_wide_entry n (row_of c i)) (not_past (2 ^ 40) (number_at r i) h.radius)
-      (ap is_some (first_none (λ col. nat_lt (2 ^ 56) (nat_abs (part (row_of c i) col))) n (λ col l. not_past (2 ^ 56) (nat_abs (entry c i col)) (h.entries col l)))))
+      (or_from (nat_lt (2 ^ 40) (number_at r i)) (has_wide_entry n (row_of c i))
+      (not_past (2 ^ 40) (number_at r i) h.radius)
+      (ap is_some (first_none (λ col. nat_lt (2 ^ 56) (nat_abs (part (row_of c i) col))) n (λ col l.
+      not_past (2 ^ 56) (nat_abs (entry c i col)) (h.entries col l)))))
 
   module _ (none : first_place (is_out_of_range n x r c) n ≡ None) where
     each : (i : ℕ) → i < n → IsRanged n x r c i
@@ -155,8 +164,10 @@ module _ (n : ℕ) (C J : ℕ → ℕ → ℤ) (R : ℕ → ℕ → ℕ) (w e : 
   pub not_refused : refusal n C J R w e ≡ None
   unfolding refusal
   not_refused =
-      ap (unless_unbounded n C J R w e) (first_none (λ i. not (is_below_one (refused_bound n C J R w e i))) n not_unbounded)
-      ∙ ap (unless_wide n C J R w e) (first_none (λ i. nat_lt (2 ^ 40) (radius_at n C J R w e i)) n (λ i l. not_past (2 ^ 40) (radius_at n C J R w e i) (narrow i l)))
+      ap (unless_unbounded n C J R w e)
+      (first_none (λ i. not (is_below_one (refused_bound n C J R w e i))) n not_unbounded)
+      ∙ ap (unless_wide n C J R w e) (first_none (λ i. nat_lt (2 ^ 40) (radius_at n C J R w e i)) n (λ i l.
+      not_past (2 ^ 40) (radius_at n C J R w e i) (narrow i l)))
 
 -- ---- the law
 
@@ -196,8 +207,11 @@ module _ (v : NetworkView) (x : List ℤ) (r e : List ℕ) (c : List (List ℤ))
   from_all : AtAll → first_broken v x r e c ≡ None
   unfolding first_broken
   from_all h =
-      ap (λ b. cond b (broken_at Range (first_place (is_out_of_range v.size x r c) v.size) (first_at_point v x r e c)) (Some (record { rule = Size; place = 0 }))) (sized_from v.size x r e c h.size)
-      ∙ none_later Range (first_place (is_out_of_range v.size x r c) v.size) (first_at_point v x r e c) h.range (from_point h.point)
+      ap (λ b. cond b (broken_at Range (first_place (is_out_of_range v.size x r c) v.size) (first_at_point v x r e c))
+      (Some (record { rule = Size; place = 0 })))
+      (sized_from v.size x r e c h.size)
+      ∙ none_later Range (first_place (is_out_of_range v.size x r c) v.size) (first_at_point v x r e c) h.range
+      (from_point h.point)
 
 module _ (v : NetworkView) (m : Claim) where
   sound_from : HasItsBoxes v m → first_unsound v m ≡ None → IsSound v m
@@ -207,7 +221,9 @@ module _ (v : NetworkView) (m : Claim) where
       let e = m.mismatches in
       let a = at_all v x m.radii e m.inverse h in
       let point : IsPoint v x = record { long = a.size.centre; parts = parts_within n x m.radii m.inverse a.range a.size.centre } in
-      let told = λ (l : ℕ) (p : l < n). or_parts (nat_lt (number_at e l) (mismatch_at v x l)) (nat_lt greatest_mismatch (number_at e l)) (none_holds (λ l. is_untrue (mismatch_at v x l) (number_at e l)) n l a.point.mismatches p) in
+      let told = λ (l : ℕ) (p : l < n).
+      or_parts (nat_lt (number_at e l) (mismatch_at v x l)) (nat_lt greatest_mismatch (number_at e l))
+      (none_holds (λ l. is_untrue (mismatch_at v x l) (number_at e l)) n l a.point.mismatches p) in
       record {
         centre = point;
         inverse = inverse_within n x m.radii m.inverse a.range a.size.inverse;
@@ -236,8 +252,11 @@ module _ (v : NetworkView) (m : Claim) where
         }));
         point = record {
           mismatches = first_none (λ l. is_untrue (mismatch_at v x l) (number_at e l)) n (λ l p.
-              or_from (nat_lt (number_at e l) (mismatch_at v x l)) (nat_lt greatest_mismatch (number_at e l)) (not_past (number_at e l) (mismatch_at v x l) (h.mismatches_least l p)) (not_past greatest_mismatch (number_at e l) (h.mismatches_most l p)));
-          bound = not_refused n (entry c) (jacobian_entry v x) (slope_radius v x) (weight_at v x) (number_at e) (λ i. weight_some (kind_of v i) v.stamp.draw x i) h.bounded
+              or_from (nat_lt (number_at e l) (mismatch_at v x l)) (nat_lt greatest_mismatch (number_at e l))
+              (not_past (number_at e l) (mismatch_at v x l) (h.mismatches_least l p))
+              (not_past greatest_mismatch (number_at e l) (h.mismatches_most l p)));
+          bound = not_refused n (entry c) (jacobian_entry v x) (slope_radius v x) (weight_at v x) (number_at e)
+              (λ i. weight_some (kind_of v i) v.stamp.draw x i) h.bounded
               (λ i p. let least = h.radii_least i p in let most = h.radii_most i p in omega (arith, least, most));
           radii = first_none (is_narrow v x m.radii e c) n (λ i p. not_past (number_at m.radii i) (radius_in v x c e i) (h.radii_least i p));
         };

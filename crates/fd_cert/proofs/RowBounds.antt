@@ -51,26 +51,36 @@ positive_sums f zero h = omega (arith, ints)
 positive_sums f (suc n) h = positive_sum (wide_sums f n) (f n) (positive_sums f n h) (h n)
 
 positive_quotient : (a : Option ℤ) (d : ℕ) → 0 < d → IsPositive a → IsPositive (wide_quotient a d)
-positive_quotient (Some (pos a)) d p h = subst (λ z. IsPositive (within z)) (sym (ceil_nat_is a d p)) (positive_within (pos (ceil_nat a d)) (omega (arith, ints)))
+positive_quotient (Some (pos a)) d p h =
+    subst (λ z. IsPositive (within z)) (sym (ceil_nat_is a d p))
+    (positive_within (pos (ceil_nat a d)) (omega (arith, ints)))
 positive_quotient (Some (negsuc a)) d p h = absurd (omega (arith, ints))
 positive_quotient None d p h = tt
 
 module _ (n : ℕ) (C J : ℕ → ℕ → ℤ) (R : ℕ → ℕ → ℕ) (w : ℕ → ℕ) (i : ℕ) where
   positive_left : (j : ℕ) → IsPositive (left_over n C J R w i j)
-  positive_left j = positive_sum (left_at n C J R w i j) (added_at n C J R w i j) (positive_size (wide_difference (Some (unit_at i j)) (column_sum (C i) J j n)))
-      (positive_sums (λ l. wide_product (Some (pos (nat_abs (C i l)))) (Some (pos (R l j)))) n (λ l. positive_product (nat_abs (C i l)) (Some (pos (R l j))) (omega (arith, ints))))
+  positive_left j =
+      positive_sum (left_at n C J R w i j) (added_at n C J R w i j)
+      (positive_size (wide_difference (Some (unit_at i j)) (column_sum (C i) J j n)))
+      (positive_sums (λ l. wide_product (Some (pos (nat_abs (C i l)))) (Some (pos (R l j)))) n (λ l.
+      positive_product (nat_abs (C i l)) (Some (pos (R l j))) (omega (arith, ints))))
 
   -- no bound is negative
   pub bound_positive : 0 < w i → IfSome (bound_at n C J R w i) (λ k. pos 0 ≤ℤ k)
   unfolding bound_at
-  bound_positive p = positive_quotient (wide_sums (λ j. wide_product (Some (pos (w j))) (left_over n C J R w i j)) n) (w i * 2 ^ 40) (omega arith)
-      (positive_sums (λ j. wide_product (Some (pos (w j))) (left_over n C J R w i j)) n (λ j. positive_product (w j) (left_over n C J R w i j) (positive_left j)))
+  bound_positive p =
+      positive_quotient (wide_sums (λ j. wide_product (Some (pos (w j))) (left_over n C J R w i j)) n) (w i * 2 ^ 40)
+      (omega arith) (positive_sums (λ j. wide_product (Some (pos (w j))) (left_over n C J R w i j)) n (λ j.
+      positive_product (w j) (left_over n C J R w i j) (positive_left j)))
 
   -- ---- none
 
   bound_none : (j : ℕ) → j < n → left_over n C J R w i j ≡ None → bound_at n C J R w i ≡ None
   unfolding bound_at
-  bound_none j l e = ap (λ o. wide_quotient o (w i * 2 ^ 40)) (sums_past (λ j. wide_product (Some (pos (w j))) (left_over n C J R w i j)) n j l (ap (wide_product (Some (pos (w j)))) e))
+  bound_none j l e =
+      ap (λ o. wide_quotient o (w i * 2 ^ 40))
+      (sums_past (λ j. wide_product (Some (pos (w j))) (left_over n C J R w i j)) n j l
+      (ap (wide_product (Some (pos (w j)))) e))
 
   -- where the Jacobian's column passes the limit
   pub no_product : (j : ℕ) → j < n → column_sum (C i) J j n ≡ None → None ≡ bound_at n C J R w i
@@ -104,7 +114,9 @@ signs_of n C J R w bounds ws e a h i l =
     let inside : i < n = subst (λ m. i < m) (ap length e ∙ length-list_of n (bound_at n C J R w)) l in
     let least : pos (10 ^ 6) ≤ℤ pos (w i) = subst (λ z. pos (10 ^ 6) ≤ℤ z) (h i inside) (a.least i inside) in
     let some : 0 < w i = omega (arith, ints, least) in
-    subst (λ o. IfSome o (λ k. pos 0 ≤ℤ k)) (sym (ap (λ xs. bound_in xs i) e ∙ get_or-list_of n (bound_at n C J R w) i None inside)) (bound_positive n C J R w i some)
+    subst (λ o. IfSome o (λ k. pos 0 ≤ℤ k))
+    (sym (ap (λ xs. bound_in xs i) e ∙ get_or-list_of n (bound_at n C J R w) i None inside))
+    (bound_positive n C J R w i some)
 
 -- the divisor of a bound, as it was computed in 128 bits
 pub divisor_is : (z : ℤ) (w : ℕ) → z ≡ pos w → w ≤ 2 ^ 66
@@ -112,7 +124,9 @@ pub divisor_is : (z : ℤ) (w : ℕ) → z ≡ pos w → w ≤ 2 ^ 66
 divisor_is z w e h =
     let small : nat_abs z ≤ 2 ^ 66 = subst (λ y. nat_abs y ≤ 2 ^ 66) (sym e) h in
     let whole : nat_abs (pos w *ℤ pos (2 ^ 40)) ≡ w * 2 ^ 40 = omega (arith, ints) in
-    ap nat_abs (ap (λ y. to_z w128 (of_z w128 (y *ℤ pos (2 ^ 40)))) (kept_by z (omega arith) ∙ e) ∙ kept_by (pos w *ℤ pos (2 ^ 40)) (omega (arith, whole))) ∙ whole
+    ap nat_abs (ap (λ y. to_z w128 (of_z w128 (y *ℤ pos (2 ^ 40)))) (kept_by z (omega arith) ∙ e)
+    ∙ kept_by (pos w *ℤ pos (2 ^ 40)) (omega (arith, whole)))
+    ∙ whole
 
 -- what is left of an entry of the unit matrix, as it was computed in 128 bits
 pub left_read : (r : ℕ) (u : ℤ) (i j : ℕ) (p : ℤ) → u ≡ unit_at i j → nat_abs p ≤ 2 ^ 120
@@ -121,7 +135,10 @@ pub left_read : (r : ℕ) (u : ℤ) (i j : ℕ) (p : ℤ) → u ≡ unit_at i j 
 left_read r u i j p e h is =
     let few : nat_abs (unit_at i j) ≤ 2 ^ 120 = unit_small i j in
     let both : nat_abs (unit_at i j -ℤ p) ≤ 2 ^ 121 = less (unit_at i j) p few h in
-    is ∙ ap nat_abs ((λ k. to_z w128 (of_z w128 ((ap (λ z. to_z w128 (of_z w128 z)) e ∙ kept_by (unit_at i j) (omega arith)) k -ℤ kept_by p (omega arith) k))) ∙ kept_by (unit_at i j -ℤ p) (omega arith))
+    is
+    ∙ ap nat_abs ((λ k. to_z w128 (of_z w128
+    ((ap (λ z. to_z w128 (of_z w128 z)) e ∙ kept_by (unit_at i j) (omega arith)) k -ℤ kept_by p (omega arith) k)))
+    ∙ kept_by (unit_at i j -ℤ p) (omega arith))
   where
     less : (a b : ℤ) → nat_abs a ≤ 2 ^ 120 → nat_abs b ≤ 2 ^ 120 → nat_abs (a -ℤ b) ≤ 2 ^ 121
     less a b h k = omega (arith, ints)

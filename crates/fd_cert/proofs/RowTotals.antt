@@ -59,7 +59,8 @@ product_is a b = refl
 
 times_within : (a b : ℕ) → 0 < a → wide_product (Some (pos a)) (within (pos b)) ≡ within (pos (a * b))
 times_within a b l = elim (cases_lt (2 ^ 120) b) [
-  | inl p ↦ ap (wide_product (Some (pos a))) (past_none b p) ∙ sym (past_none (a * b) (let one : 1 ≤ a = omega arith in let m = mul-le-mul one p in omega arith))
+  | inl p ↦ ap (wide_product (Some (pos a))) (past_none b p)
+      ∙ sym (past_none (a * b) (let one : 1 ≤ a = omega arith in let m = mul-le-mul one p in omega arith))
   | inr p ↦ ap (wide_product (Some (pos a))) (total_kept b p) ∙ ap within (product_is a b)
 ]
 
@@ -83,7 +84,10 @@ same_within total m h = elim (cases_lt (2 ^ 120) total) [
 
 same_times : (a total m : ℕ) → IsUpTo total m → within (pos (a * m)) ≡ within (pos (a * total))
 same_times zero total m h = let none : 0 * m ≡ 0 * total = omega arith in ap (λ k. within (pos k)) none
-same_times (suc a) total m h = sym (times_within (suc a) m (omega arith)) ∙ ap (wide_product (Some (pos (suc a)))) (same_within total m h) ∙ times_within (suc a) total (omega arith)
+same_times (suc a) total m h =
+    sym (times_within (suc a) m (omega arith))
+    ∙ ap (wide_product (Some (pos (suc a)))) (same_within total m h)
+    ∙ times_within (suc a) total (omega arith)
 
 -- ---- a row
 
@@ -99,7 +103,9 @@ module _ (n : ℕ) (C J : ℕ → ℕ → ℤ) (R : ℕ → ℕ → ℕ) (w : �
   left_is j l = ap (λ o. wide_size (wide_difference (Some (unit_at i j)) o)) (column j l) ∙ size_within (unit_at i j -ℤ part sums j)
 
   added_is : (j : ℕ) → added_at n C J R w i j ≡ within (pos (added_size j))
-  added_is j = sums_within (λ l. wide_product (Some (pos (nat_abs (C i l)))) (Some (pos (R l j)))) (λ l. nat_abs (C i l) * R l j) n (λ l m. ap within (product_is (nat_abs (C i l)) (R l j)))
+  added_is j =
+      sums_within (λ l. wide_product (Some (pos (nat_abs (C i l)))) (Some (pos (R l j))))
+      (λ l. nat_abs (C i l) * R l j) n (λ l m. ap within (product_is (nat_abs (C i l)) (R l j)))
 
   left_over_is : (j : ℕ) → j < n → left_over n C J R w i j ≡ within (pos (left_size j + added_size j))
   left_over_is j l = (λ k. wide_sum (left_is j l k) (added_is j k)) ∙ plus_within (left_size j) (added_size j)
@@ -112,7 +118,9 @@ module _ (n : ℕ) (C J : ℕ → ℕ → ℤ) (R : ℕ → ℕ → ℕ) (w : �
   -- by exchange of the two sums
   exchanged : sum_n (λ j. w j * added_size j) n ≡ sum_n (λ l. nat_abs (C i l) * weighted_radius n R w l) n
   exchanged =
-      sum_n-same (λ j. w j * added_size j) (λ j. sum_n (λ l. nat_abs (C i l) * (R l j * w j)) n) n (λ j l. sym (sum_n-times (w j) (λ l. nat_abs (C i l) * R l j) n) ∙ sum_n-same _ _ n (λ l m. turned (w j) (nat_abs (C i l)) (R l j)))
+      sum_n-same (λ j. w j * added_size j) (λ j. sum_n (λ l. nat_abs (C i l) * (R l j * w j)) n) n (λ j l.
+      sym (sum_n-times (w j) (λ l. nat_abs (C i l) * R l j) n)
+      ∙ sum_n-same _ _ n (λ l m. turned (w j) (nat_abs (C i l)) (R l j)))
       ∙ sum_n-swap (λ j l. nat_abs (C i l) * (R l j * w j)) n n
       ∙ sum_n-same _ _ n (λ l m. sum_n-times (nat_abs (C i l)) (λ j. R l j * w j) n)
     where
@@ -132,11 +140,15 @@ module _ (n : ℕ) (C J : ℕ → ℕ → ℤ) (R : ℕ → ℕ → ℕ) (w : �
   module _ (rows : List ℕ) (radii : AreWeighted n R w rows) where
     same_sizes : within (pos (sum_n (λ l. nat_abs (C i l) * number_at rows l) n)) ≡ within (pos (sum_n (λ l. nat_abs (C i l) * weighted_radius n R w l) n))
     same_sizes =
-        sym (sums_within (λ l. within (pos (nat_abs (C i l) * number_at rows l))) (λ l. nat_abs (C i l) * number_at rows l) n (λ l m. refl))
-        ∙ sums_within (λ l. within (pos (nat_abs (C i l) * number_at rows l))) (λ l. nat_abs (C i l) * weighted_radius n R w l) n (λ l m. same_times (nat_abs (C i l)) (weighted_radius n R w l) (number_at rows l) (radii.each l m))
+        sym (sums_within (λ l. within (pos (nat_abs (C i l) * number_at rows l)))
+        (λ l. nat_abs (C i l) * number_at rows l) n (λ l m. refl))
+        ∙ sums_within (λ l. within (pos (nat_abs (C i l) * number_at rows l)))
+        (λ l. nat_abs (C i l) * weighted_radius n R w l) n (λ l m.
+        same_times (nat_abs (C i l)) (weighted_radius n R w l) (number_at rows l) (radii.each l m))
 
     pub total_is : (ws : List ℤ) → HasWeights n ws w → ((j : ℕ) → j < n → 0 < w j)
-        → within (pos (left_total n i ws sums + sum_n (λ l. nat_abs (C i l) * number_at rows l) n)) ≡ wide_sums (λ j. wide_product (Some (pos (w j))) (left_over n C J R w i j)) n
+        → within (pos (left_total n i ws sums + sum_n (λ l. nat_abs (C i l) * number_at rows l) n))
+        ≡ wide_sums (λ j. wide_product (Some (pos (w j))) (left_over n C J R w i j)) n
     total_is ws h p =
         let a = left_total n i ws sums in
         let b = sum_n (λ j. w j * left_size j) n in
@@ -161,11 +173,13 @@ sum_pos f (suc n) = ap (λ z. z +ℤ pos (f n)) (sum_pos f n) ∙ omega (arith, 
 pub row_weighted : (size row : ℕ) (at : ℕ × ℕ → Amount) (cells : List Cell) (R : ℕ → ℕ → ℕ) (w : ℕ → ℕ) (ws : List ℤ)
     → IsRowOf size at row cells → ((l j : ℕ) → (at (l, j)).units ≡ pos (R l j)) → HasWeights size ws w
     → list_n (λ c. nat_abs c.units * nat_abs (part ws c.col)) cells ≡ weighted_radius size R w row
-row_weighted size row at cells R w ws h e is = ap nat_abs (
-    sym (list_pos (λ c. nat_abs c.units * nat_abs (part ws c.col)) cells)
-    ∙ walk_sums size at row cells (λ col z. pos (nat_abs z * nat_abs (part ws col))) h (λ col. ap pos (none (nat_abs (part ws col))))
+row_weighted size row at cells R w ws h e is =
+    ap nat_abs (sym (list_pos (λ c. nat_abs c.units * nat_abs (part ws c.col)) cells)
+    ∙ walk_sums size at row cells (λ col z. pos (nat_abs z * nat_abs (part ws col))) h (λ col.
+    ap pos (none (nat_abs (part ws col))))
     ∙ sum_pos (λ col. nat_abs (at (row, col)).units * nat_abs (part ws col)) size
-    ∙ ap pos (sum_n-same (λ col. nat_abs (at (row, col)).units * nat_abs (part ws col)) (λ col. R row col * w col) size (λ col l. λ i. nat_abs (e row col i) * nat_abs (is col l i))))
+    ∙ ap pos (sum_n-same (λ col. nat_abs (at (row, col)).units * nat_abs (part ws col)) (λ col. R row col * w col)
+    size (λ col l. λ i. nat_abs (e row col i) * nat_abs (is col l i))))
   where
     none : (k : ℕ) → 0 * k ≡ 0
     none k = omega arith
@@ -192,7 +206,8 @@ front_more f k from total h =
 pub left_is_weighted : (n i : ℕ) (ws sums : List ℤ) → i < length sums
     → left_total n i ws sums ≡ weighted_total n ws (set sums i (part sums i -ℤ pos (2 ^ 80)))
 left_is_weighted n i ws sums l =
-    sum_n-same (λ j. nat_abs (part ws j) * nat_abs (unit_at i j -ℤ part sums j)) (λ j. nat_abs (part ws j) * nat_abs (part (set sums i (part sums i -ℤ pos (2 ^ 80))) j)) n
+    sum_n-same (λ j. nat_abs (part ws j) * nat_abs (unit_at i j -ℤ part sums j))
+    (λ j. nat_abs (part ws j) * nat_abs (part (set sums i (part sums i -ℤ pos (2 ^ 80))) j)) n
     (λ j m. ap (λ k. nat_abs (part ws j) * k) (size j))
   where
     back : (u s : ℤ) → nat_abs (u -ℤ s) ≡ nat_abs (s -ℤ u)

@@ -54,13 +54,16 @@ module _ (n : ℕ) (f g : ℕ → ℕ) (same : (i : ℕ) → i < n → f i ≡ g
   magnitude_same (Some k) h = same k h
 
   radii_same : (x : List ℤ) (u : LoadAt) → IsConnected n u → radii_in f x u ≡ radii_in g x u
-  radii_same x u c = λ i. radii_of u.load (centre_re x u) (centre_im x u) (centre_magnitude x u)
-      (re_same u.first c.first i + re_same u.second c.second i) (im_same u.first c.first i + im_same u.second c.second i) (magnitude_same u.magnitude c.magnitude i)
+  radii_same x u c = λ i.
+      radii_of u.load (centre_re x u) (centre_im x u) (centre_magnitude x u)
+      (re_same u.first c.first i + re_same u.second c.second i)
+      (im_same u.first c.first i + im_same u.second c.second i) (magnitude_same u.magnitude c.magnitude i)
 
   pub loads_same : (x : List ℤ) (us : List LoadAt) (p : ℕ × ℕ) → All (IsConnected n) us
       → loads_radius f x us p ≡ loads_radius g x us p
   loads_same x [] p h = refl
-  loads_same x (u ∷ us) p h = λ i. load_radius u (radii_same x u (All-head (IsConnected n) u us h) i) p.0 p.1 + loads_same x us p (All-tail (IsConnected n) u us h) i
+  loads_same x (u ∷ us) p h = λ i. load_radius u (radii_same x u (All-head (IsConnected n) u us h) i) p.0 p.1
+      + loads_same x us p (All-tail (IsConnected n) u us h) i
 
 -- ---- where no slope stands there is no radius
 
@@ -121,7 +124,9 @@ rows_none : (u : LoadAt) (r : Radii) (row col : ℕ) → count_terminal row u * 
 rows_none u r row col h = elim (no_product (count_terminal row u) (count_terminal col u) h) [
   | inl e ↦ spread_none row u (radius_in col u r.real) (radius_in col u r.imaginary) (radius_in col u r.magnitude) e
   | inr e ↦
-      (λ i. spread row u (spread_none col u r.real.p r.real.q r.real.m e i) (spread_none col u r.imaginary.p r.imaginary.q r.imaginary.m e i) (spread_none col u r.magnitude.p r.magnitude.q r.magnitude.m e i))
+      (λ i. spread row u (spread_none col u r.real.p r.real.q r.real.m e i)
+      (spread_none col u r.imaginary.p r.imaginary.q r.imaginary.m e i)
+      (spread_none col u r.magnitude.p r.magnitude.q r.magnitude.m e i))
       ∙ spread_zero row u
 ]
 
@@ -149,7 +154,9 @@ abbrev radius_amount : NetworkView → List ℤ → ℕ × ℕ → Amount
 radius_amount v x p = amount (pos (slope_radius v x p.0 p.1)) (count_at v.stamp.terms p.0 p.1) (slope_counts v.stamp.loads p.0 p.1)
 
 radius_is : (v : NetworkView) (x : List ℤ) (row col : ℕ)
-    → loads_radius (half_width v x) x v.stamp.loads (row, col) + 4 * (count_at v.stamp.terms row col + slope_counts v.stamp.loads row col) ≡ slope_radius v x row col
+    → loads_radius (half_width v x) x v.stamp.loads (row, col)
+    + 4 * (count_at v.stamp.terms row col + slope_counts v.stamp.loads row col)
+    ≡ slope_radius v x row col
 unfolding slope_radius
 radius_is v x row col = refl
 
@@ -160,15 +167,20 @@ module _ (v : NetworkView) (x : List ℤ) (j : MatrixView) (is : IsMatrix v.size
   pub is_made : IsMade j
   is_made = record { long = is.cells.long; J = jacobian_entry v x; has = jacobian_made }
 
-  module _ (boxes : List ℕ) (box : HasNumbers v.size boxes (half_width v x)) (connected : All (IsConnected v.size) v.stamp.loads) (radii : List ℕ) (made : List Cell)
-      (of_loads : (k : ℕ) → k < length j.places → number_at radii k ≡ loads_radius (number_at boxes) x v.stamp.loads (key j.places k)) (cells : AreRadiusCells j.cells radii made) where
+  module _ (boxes : List ℕ) (box : HasNumbers v.size boxes (half_width v x))
+      (connected : All (IsConnected v.size) v.stamp.loads) (radii : List ℕ) (made : List Cell) (of_loads : (k : ℕ)
+      → k < length j.places → number_at radii k ≡ loads_radius (number_at boxes) x v.stamp.loads (key j.places k))
+      (cells : AreRadiusCells j.cells radii made) where
     radius_at_place : (k : ℕ) → k < length j.places
         → cell_at made k ≡ cell_of (key j.places k).1 (radius_amount v x (key j.places k))
     radius_at_place k l =
         let p = key j.places k in
         let inside : k < length j.cells = subst (λ n. k < n) (sym is.cells.long) l in
         let radius = of_loads k l ∙ loads_same v.size (number_at boxes) (half_width v x) box x v.stamp.loads p connected in
-        cells.each k inside ∙ (λ i. radius_cell (is.cells.each k l i) (radius i)) ∙ (λ i. cell_of p.1 (amount (pos (radius_is v x p.0 p.1 i)) (count_at v.stamp.terms p.0 p.1) (slope_counts v.stamp.loads p.0 p.1)))
+        cells.each k inside
+        ∙ (λ i. radius_cell (is.cells.each k l i) (radius i))
+        ∙ (λ i. cell_of p.1 (amount (pos (radius_is v x p.0 p.1 i)) (count_at v.stamp.terms p.0 p.1)
+        (slope_counts v.stamp.loads p.0 p.1)))
 
     nothing_there : (p : ℕ × ℕ) → ¬ (Contains j.places p) → radius_amount v x p ≡ nothing
     nothing_there p away =
@@ -219,7 +231,10 @@ module _ (v : NetworkView) (x : List ℤ) (boxes : List ℕ) (is : boxes ≡ box
 
 pub boxes_are : (v : NetworkView) (x ws : List ℤ) (boxes : List ℕ) → HasWeights v.size ws (weight_at v x)
     → boxes ≡ list_of v.size (λ i. half_width_by (kind_of v i) (nat_abs (part ws i))) → boxes ≡ boxes_of v x
-boxes_are v x ws boxes h e = e ∙ map-same (λ i. half_width_by (kind_of v i) (nat_abs (part ws i))) (half_width v x) v.size 0 (λ i l. ap (λ z. half_width_by (kind_of v i) (nat_abs z)) (h i l))
+boxes_are v x ws boxes h e =
+    e
+    ∙ map-same (λ i. half_width_by (kind_of v i) (nat_abs (part ws i))) (half_width v x) v.size 0
+    (λ i l. ap (λ z. half_width_by (kind_of v i) (nat_abs z)) (h i l))
 
 pub weights_at : (v : NetworkView) (x ws : List ℤ) → ws ≡ weights_of v x → HasWeights v.size ws (weight_at v x)
 weights_at v x ws e i l = ap (λ xs. part xs i) e ∙ get_or-list_of v.size (λ place. pos (weight_at v x place)) i (pos 0) l

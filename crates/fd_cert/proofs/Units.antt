@@ -130,15 +130,20 @@ module _ (cells : List Cell) (factor : ℤ) (old : List ℤ) where
       → IsPartly cells factor old new k
       → sum_more (part new (cell_at cells k).col) factor (cell_at cells k).units ≡ None → IsRow cells at
       → ((cell_at cells k).col < length old) × (sum_more (part old (cell_at cells k).col) factor (at (cell_at cells k).col) ≡ None)
-  partly_past new k at c l h e r =
-      (c.inside k l, ap (λ z. sum_more z factor (at (cell_at cells k).col)) (sym (not_yet new k (length old) c l h)) ∙ ap (sum_more (part new (cell_at cells k).col) factor) (sym (r.each k l)) ∙ e)
+  partly_past new k at c l h e r = (
+    c.inside k l,
+    ap (λ z. sum_more z factor (at (cell_at cells k).col)) (sym (not_yet new k (length old) c l h))
+        ∙ ap (sum_more (part new (cell_at cells k).col) factor) (sym (r.each k l))
+        ∙ e,
+  )
 
   pub partly_all : (new : List ℤ) (k : ℕ) (at : ℕ → ℤ) → AreUnits old → length cells ≡ k
       → IsPartly cells factor old new k → IsRow cells at → (j : ℕ)
       → sum_more (part old j) factor (at j) ≡ Some (part new j)
   partly_all new k at units e h r j = elim (find cells j (length cells)) [
     | inl (i, l, is) ↦
-        subst (λ m. sum_more (part old m) factor (at m) ≡ Some (part new m)) is (ap (sum_more (part old (cell_at cells i).col) factor) (sym (r.each i l)) ∙ h.done i (omega arith))
+        subst (λ m. sum_more (part old m) factor (at m) ≡ Some (part new m)) is
+        (ap (sum_more (part old (cell_at cells i).col) factor) (sym (r.each i l)) ∙ h.done i (omega arith))
     | inr none ↦
         let away : (i : ℕ) → i < k → (cell_at cells i).col ≢ j = λ i l. none i (omega arith) in
         ap (sum_more (part old j) factor) (r.all j none) ∙ nothing_more (part old j) factor (units j) ∙ ap Some (sym (h.left j away))

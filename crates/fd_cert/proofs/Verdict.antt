@@ -56,7 +56,10 @@ module _ (ws : List ℤ) (bounds : List (Option ℤ)) (reach : ℕ) (signs : Are
   product_at i l = leb-true (nat_abs (part ws i) * reach) (2 ^ 120) (below_at i l).within
 
   pub bound_below : greatest (λ i. bound_size (bound_in bounds i)) (length bounds) < 2 ^ 40
-  bound_below = let g = greatest_le (λ i. bound_size (bound_in bounds i)) (length bounds) (2 ^ 40 - 1) (λ i l. let s = (below_at i l).small in omega arith) in omega arith
+  bound_below =
+      let g = greatest_le (λ i. bound_size (bound_in bounds i)) (length bounds) (2 ^ 40 - 1) (λ i l.
+      let s = (below_at i l).small in omega arith) in
+      omega arith
 
 module _ (n : ℕ) (C J : ℕ → ℕ → ℤ) (R : ℕ → ℕ → ℕ) (w e : ℕ → ℕ) (ws : List ℤ) (bounds : List (Option ℤ)) (reach : ℕ)
     (b : bounds ≡ list_of n (bound_at n C J R w)) (h : HasWeights n ws w) (r : reach ≡ reach_of n C J R w e) where
@@ -70,7 +73,8 @@ module _ (n : ℕ) (C J : ℕ → ℕ → ℤ) (R : ℕ → ℕ → ℕ) (w e : 
   unbounded_same : first_place (is_unbounded ws reach bounds) (length bounds) ≡ first_unbounded n C J R w e
   unbounded_same =
       ap (first_place (is_unbounded ws reach bounds)) (ap length b ∙ length-list_of n (bound_at n C J R w))
-      ∙ first_same (is_unbounded ws reach bounds) (λ i. not (is_below_one (refused_bound n C J R w e i))) n (λ i l. ap (λ o. not (is_below_one o)) (named_same i l))
+      ∙ first_same (is_unbounded ws reach bounds) (λ i. not (is_below_one (refused_bound n C J R w e i))) n
+      (λ i l. ap (λ o. not (is_below_one o)) (named_same i l))
 
   pub refused : (place : ℕ) (sum : Option ℤ) → Some place ≡ first_place (is_unbounded ws reach bounds) (length bounds)
       → place < n → sum ≡ named_bound (nat_abs (part ws place)) reach (bound_in bounds place)
@@ -95,12 +99,18 @@ module _ (n : ℕ) (C J : ℕ → ℕ → ℤ) (R : ℕ → ℕ → ℕ) (w e : 
     radius_same i l = λ j. radius_of (nat_abs (h i l j)) (r j) (bound_same j)
 
     radii_same : rs ≡ list_of n (radius_at n C J R w e)
-    radii_same = is ∙ ap (λ m. list_of m (λ i. radius_of (nat_abs (part ws i)) reach k)) q ∙ map-same (λ i. radius_of (nat_abs (part ws i)) reach k) (radius_at n C J R w e) n 0 radius_same
+    radii_same =
+        is
+        ∙ ap (λ m. list_of m (λ i. radius_of (nat_abs (part ws i)) reach k)) q
+        ∙ map-same (λ i. radius_of (nat_abs (part ws i)) reach k) (radius_at n C J R w e) n 0 radius_same
 
     wide_same : first_place (λ i. nat_lt (2 ^ 40) (number_at rs i)) (length rs) ≡ first_wide n C J R w e
     wide_same =
-        ap (first_place (λ i. nat_lt (2 ^ 40) (number_at rs i))) (ap length radii_same ∙ length-list_of n (radius_at n C J R w e))
-        ∙ first_same (λ i. nat_lt (2 ^ 40) (number_at rs i)) (λ i. nat_lt (2 ^ 40) (radius_at n C J R w e i)) n (λ i l. ap (nat_lt (2 ^ 40)) (ap (λ xs. number_at xs i) radii_same ∙ get_or-list_of n (radius_at n C J R w e) i 0 l))
+        ap (first_place (λ i. nat_lt (2 ^ 40) (number_at rs i)))
+        (ap length radii_same ∙ length-list_of n (radius_at n C J R w e))
+        ∙ first_same (λ i. nat_lt (2 ^ 40) (number_at rs i)) (λ i. nat_lt (2 ^ 40) (radius_at n C J R w e i)) n
+        (λ i l.
+        ap (nat_lt (2 ^ 40)) (ap (λ xs. number_at xs i) radii_same ∙ get_or-list_of n (radius_at n C J R w e) i 0 l))
 
     pub too_wide : (place : ℕ) → Some place ≡ first_place (λ i. nat_lt (2 ^ 40) (number_at rs i)) (length rs)
         → place < n → IsRefused n C J R w e place None
@@ -127,7 +137,9 @@ is_past limit n h = grind arith
 pub reach_is : (n : ℕ) (C : ℕ → ℕ → ℤ) (w e : ℕ → ℕ) (i : ℕ) (row : List ℤ) (ms : List ℕ) (weight : ℕ)
     → ((l : ℕ) → part row l ≡ C i l) → HasNumbers n ms e → weight ≡ w i
     → ceil_nat (sum_n (λ l. nat_abs (part row l) * (2 * number_at ms l)) n * 2 ^ 20) weight ≡ reach_in n C w e i
-reach_is n C w e i row ms weight r h f = λ k. ceil_nat (sum_same (λ l. nat_abs (part row l) * (2 * number_at ms l)) (λ l. nat_abs (C i l) * (2 * e l)) n (λ l m. (λ j. nat_abs (r l j) * (2 * h l m j))) k * 2 ^ 20) (f k)
+reach_is n C w e i row ms weight r h f = λ k.
+    ceil_nat (sum_same (λ l. nat_abs (part row l) * (2 * number_at ms l)) (λ l. nat_abs (C i l) * (2 * e l)) n
+    (λ l m. (λ j. nat_abs (r l j) * (2 * h l m j))) k * 2 ^ 20) (f k)
 
 -- a test of a row's bound, as it was computed
 pub tested_is : (r : Bool) (o b : Option ℤ) (m reach : ℕ) (w : ℤ) → r ≡ is_below_one o → o ≡ named_bound m reach b

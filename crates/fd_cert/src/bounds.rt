@@ -163,7 +163,8 @@ pub fn rows_by_weight(
 ) -> Result<Vec<u128>, AllocError>
     requires radii { IsMade radii.now }
     requires weights { length weights.now ≡ radii.now.size }
-    ensures { IfOk result (λ rows. (R : ℕ → ℕ → ℕ) (w : ℕ → ℕ) → HasRadii radii.now R → HasWeights radii.now.size weights.now w → AreWeighted radii.now.size R w rows.items) }
+    ensures { IfOk result (λ rows. (R : ℕ → ℕ → ℕ) (w : ℕ → ℕ) → HasRadii radii.now R
+        → HasWeights radii.now.size weights.now w → AreWeighted radii.now.size R w rows.items) }
 {
     let mut rows = Vec::with_capacity(alloc, radii.size() as usize)?;
     for row in 0..radii.size() {
@@ -255,7 +256,9 @@ fn row_total(slopes: &Slopes, factors: &[i128], left: &[i128]) -> Option<u128>
     requires shorts { IfSome slopes.now.shorts (λ s. AreShortWeights slopes.now.weights.now s.items) }
     requires parts { IfSome slopes.now.parts (λ p. AreParts slopes.now.radii.items p.lows.items p.highs.items) }
     requires factors { IsRowOfInverse (length slopes.now.radii.items) factors.now }
-    ensures { IsTotal (weighted_total (length left.now) slopes.now.weights.now left.now + sizes_total (length slopes.now.radii.items) factors.now slopes.now.radii.items) result }
+    ensures { IsTotal (weighted_total (length left.now) slopes.now.weights.now left.now
+        + sizes_total (length slopes.now.radii.items) factors.now slopes.now.radii.items)
+        result }
 {
     if let Some(total) = usual_row_total(slopes, factors, left) {
         return up_to_limit(total);
@@ -337,7 +340,9 @@ fn push_by_twos(
     requires none { bounds.old.items ≡ [] }
     ensures sums { length sums.new ≡ length sums.old }
     ensures few { IfOk result (λ done. done ≤ slopes.now.jacobian.matrix.now.size) }
-    ensures bounds { IfOk result (λ done. (J : ℕ → ℕ → ℤ) (R : ℕ → ℕ → ℕ) (w : ℕ → ℕ) → HasSlopes slopes.now.jacobian.matrix.now slopes.now.radii.items slopes.now.weights.now J R w → bounds.new.items ≡ list_of done (bound_at slopes.now.jacobian.matrix.now.size (entry inverse.now) J R w)) }
+    ensures bounds { IfOk result (λ done. (J : ℕ → ℕ → ℤ) (R : ℕ → ℕ → ℕ) (w : ℕ → ℕ)
+        → HasSlopes slopes.now.jacobian.matrix.now slopes.now.radii.items slopes.now.weights.now J R w
+        → bounds.new.items ≡ list_of done (bound_at slopes.now.jacobian.matrix.now.size (entry inverse.now) J R w)) }
 {
     let Some(entries) = &slopes.jacobian.entries else {
         return Ok(0);
@@ -366,7 +371,11 @@ pub fn bounds(
     requires jacobian { IfSome slopes.now.jacobian.entries (λ es. IsFlatOf slopes.now.jacobian.matrix.now es.items) }
     requires size { length inverse.now ≡ slopes.now.jacobian.matrix.now.size }
     requires entries { EntriesWithin inverse.now (2 ^ 56) }
-    ensures { IfOk result (λ bounds. (J : ℕ → ℕ → ℤ) (R : ℕ → ℕ → ℕ) (w : ℕ → ℕ) → HasSlopes slopes.now.jacobian.matrix.now slopes.now.radii.items slopes.now.weights.now J R w → bounds.items ≡ list_of slopes.now.jacobian.matrix.now.size (bound_at slopes.now.jacobian.matrix.now.size (entry inverse.now) J R w)) }
+    ensures { IfOk result (λ bounds. (J : ℕ → ℕ → ℤ) (R : ℕ → ℕ → ℕ) (w : ℕ → ℕ)
+        → HasSlopes slopes.now.jacobian.matrix.now slopes.now.radii.items slopes.now.weights.now J R w
+        → bounds.items
+        ≡ list_of slopes.now.jacobian.matrix.now.size
+        (bound_at slopes.now.jacobian.matrix.now.size (entry inverse.now) J R w)) }
 {
     let size = slopes.jacobian.size();
     let mut sums = vec![in alloc; 0; size as usize]?;

@@ -58,7 +58,9 @@ fn bounds_at(
     requires boxes { boxes.now ≡ boxes_of net.now x.now }
     requires weights { AreWeights net.now.size weights.now }
     requires values { HasWeights net.now.size weights.now (weight_at net.now x.now) }
-    ensures { IfOk result (λ bounds. bounds.items ≡ list_of net.now.size (bound_at net.now.size (entry inverse.now) (jacobian_entry net.now x.now) (slope_radius net.now x.now) (weight_at net.now x.now))) }
+    ensures { IfOk result (λ bounds.
+        bounds.items ≡ list_of net.now.size (bound_at net.now.size (entry inverse.now) (jacobian_entry net.now x.now)
+        (slope_radius net.now x.now) (weight_at net.now x.now))) }
 {
     // read for its bound alone
     let _size = net.size();
@@ -114,7 +116,10 @@ fn verdict(
     requires weights { AreWeights (length mismatch.now) weights.now }
     requires long { length bounds.now ≡ length mismatch.now }
     requires signs { AreBounds bounds.now }
-    ensures { IfOk result (λ w. (J : ℕ → ℕ → ℤ) (R : ℕ → ℕ → ℕ) (f e : ℕ → ℕ) → bounds.now ≡ list_of (length mismatch.now) (bound_at (length mismatch.now) (entry inverse.now) J R f) → HasWeights (length mismatch.now) weights.now f → HasNumbers (length mismatch.now) mismatch.now e → IsWidths (length mismatch.now) (entry inverse.now) J R f e w) }
+    ensures { IfOk result (λ w. (J : ℕ → ℕ → ℤ) (R : ℕ → ℕ → ℕ) (f e : ℕ → ℕ)
+        → bounds.now ≡ list_of (length mismatch.now) (bound_at (length mismatch.now) (entry inverse.now) J R f)
+        → HasWeights (length mismatch.now) weights.now f → HasNumbers (length mismatch.now) mismatch.now e
+        → IsWidths (length mismatch.now) (entry inverse.now) J R f e w) }
 {
     let reach = greatest_reach(inverse, mismatch, weights);
     if let Some(place) = first_unbounded(bounds, reach, weights) {
@@ -145,7 +150,9 @@ pub(crate) fn judge(
     requires mismatch { length mismatch.now ≡ net.now.size }
     requires tight { AreTight mismatch.now }
     ensures boxes { IfOk result (λ j. j.boxes.items ≡ boxes_of net.now x.now) }
-    ensures widths { IfOk result (λ j. (e : ℕ → ℕ) → HasNumbers net.now.size mismatch.now e → IsWidths net.now.size (entry inverse.now) (jacobian_entry net.now x.now) (slope_radius net.now x.now) (weight_at net.now x.now) e j.widths) }
+    ensures widths { IfOk result (λ j. (e : ℕ → ℕ) → HasNumbers net.now.size mismatch.now e
+        → IsWidths net.now.size (entry inverse.now) (jacobian_entry net.now x.now) (slope_radius net.now x.now)
+        (weight_at net.now x.now) e j.widths) }
 {
     // read for its bound alone
     let _size = net.size();
@@ -201,7 +208,13 @@ pub fn certify(alloc: Global, net: &Network, point: Point) -> Result<Certified, 
 }
 
 fn certified(point: Point, radius: Vec<u128>, mismatch: Vec<u128>, boxes: Vec<u128>) -> Certified
-    ensures { claim_in result ≡ record { centre = point.x.items; radii = radius.items; mismatches = mismatch.items; boxes = boxes.items; inverse = point.inverse } }
+    ensures { claim_in result ≡ record {
+      centre = point.x.items;
+      radii = radius.items;
+      mismatches = mismatch.items;
+      boxes = boxes.items;
+      inverse = point.inverse;
+    } }
 {
     Certified {
         ball: Ball {

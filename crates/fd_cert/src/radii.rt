@@ -33,7 +33,8 @@ pub fn load_radii(
     requires parts { All IsPart x.now }
     requires boxes { HaveWidths (length x.now) boxes.now }
     ensures long { IfOk result (λ radii. length radii.items ≡ length pattern.now.places) }
-    ensures radii { IfOk result (λ radii. (k : ℕ) → k < length pattern.now.places → number_at radii.items k ≡ loads_radius (number_at boxes.now) x.now loads.now (key pattern.now.places k)) }
+    ensures radii { IfOk result (λ radii. (k : ℕ) → k < length pattern.now.places
+        → number_at radii.items k ≡ loads_radius (number_at boxes.now) x.now loads.now (key pattern.now.places k)) }
     ensures room { IfOk result (λ radii. HaveRoom pattern.now.places radii.items (2 ^ 126)) }
 {
     let mut radii = vec![in alloc; 0; pattern.places().len()]?;
@@ -156,7 +157,9 @@ fn add_all_rows(pattern: &Pattern, radii: &mut [u128], load: &LoadAt, slopes: &R
     requires load { IsConnected (2 ^ 11) load.now }
     requires slopes { AreRadii slopes.now }
     requires room { HaveRoom pattern.now.places radii.old (2 ^ 126) }
-    ensures raised { AreRaised pattern.now.places radii.old radii.new (λ p. spread p.0 load.now (radius_in p.1 load.now slopes.now.real) (radius_in p.1 load.now slopes.now.imaginary) (radius_in p.1 load.now slopes.now.magnitude)) }
+    ensures raised { AreRaised pattern.now.places radii.old radii.new (λ p.
+        spread p.0 load.now (radius_in p.1 load.now slopes.now.real) (radius_in p.1 load.now slopes.now.imaginary)
+        (radius_in p.1 load.now slopes.now.magnitude)) }
     ensures room { RaisesRoom pattern.now.places radii.old radii.new 25 }
 {
     let (real, imaginary) = (slopes.real, slopes.imaginary);
@@ -180,7 +183,8 @@ fn add_node_rows(
     requires real { IsRadiusRow real }
     requires imaginary { IsRadiusRow imaginary }
     requires room { HaveRoom pattern.now.places radii.old (2 ^ 126 + 10 * 2 ^ 100) }
-    ensures raised { AreRaised pattern.now.places radii.old radii.new (λ p. spread_node p.0 node (radius_in p.1 load.now real) (radius_in p.1 load.now imaginary)) }
+    ensures raised { AreRaised pattern.now.places radii.old radii.new
+        (λ p. spread_node p.0 node (radius_in p.1 load.now real) (radius_in p.1 load.now imaginary)) }
     ensures room { RaisesRoom pattern.now.places radii.old radii.new 10 }
 {
     if let NodeAt::Node(k) = node {

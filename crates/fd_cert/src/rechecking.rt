@@ -29,7 +29,9 @@ fn tested_at_point(
     requires radii { length radius.now ≡ net.now.size }
     requires mismatches { length mismatch.now ≡ net.now.size }
     requires inverse { IsInverse net.now.size inverse.now }
-    ensures { IfOk result (λ t. Tells (first_at_point net.now centre.now radius.now mismatch.now inverse.now) t (λ boxes. boxes.items ≡ boxes_of net.now centre.now)) }
+    ensures { IfOk result (λ t.
+        Tells (first_at_point net.now centre.now radius.now mismatch.now inverse.now) t (λ boxes.
+        boxes.items ≡ boxes_of net.now centre.now)) }
 {
     // read for its bound alone
     let _size = net.size();
@@ -66,7 +68,9 @@ fn tested(
     mismatch: &[u128],
     inverse: &Dense,
 ) -> Result<Result<Vec<u128>, Broken>, AllocError>
-    ensures { IfOk result (λ t. Tells (first_broken net.now centre.now radius.now mismatch.now inverse.now) t (λ boxes. boxes.items ≡ boxes_of net.now centre.now)) }
+    ensures { IfOk result (λ t.
+        Tells (first_broken net.now centre.now radius.now mismatch.now inverse.now) t (λ boxes.
+        boxes.items ≡ boxes_of net.now centre.now)) }
 {
     // read for its bound alone
     let _size = net.size();

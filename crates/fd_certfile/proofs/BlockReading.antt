@@ -181,6 +181,10 @@ module _ (due : ℕ) (x : Ahead) (lines : List Line) where
     parts = ps;
     cells = cs;
     acts = refl;
-    count = omega
-        (arith, n, numbered_long part_at (count_of x.head.size) 0 lines parts mid p, numbered_long (row_at Whole (count_of x.head.size)) (count_of x.head.size) 0 mid rows (lines_of x.acts.now) r);
+    count = omega (
+      arith,
+      n,
+      numbered_long part_at (count_of x.head.size) 0 lines parts mid p,
+      numbered_long (row_at Whole (count_of x.head.size)) (count_of x.head.size) 0 mid rows (lines_of x.acts.now) r,
+    );
   }

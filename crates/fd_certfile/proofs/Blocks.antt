@@ -141,15 +141,19 @@ unfolding block_at
 block_again v b rest h =
     let n = count_of b.size in
     let rows = numbered_lines (row_line v) 0 b.inverse in
-    let parts : numbered_at part_at n 0 (numbered_lines part_line 0 b.parts ++ (rows ++ (map act_line b.acts ++ rest)))
-    ≡ Ok (b.parts, rows ++ (map act_line b.acts ++ rest))
-    = subst
-    (λ (m : ℕ). numbered_at part_at m 0 (numbered_lines part_line 0 b.parts ++ (rows ++ (map act_line b.acts ++ rest))) ≡ Ok (b.parts, rows ++ (map act_line b.acts ++ rest)))
-    h.parts
-    (numbered_again part_at part_line Anything part_again 0 b.parts (rows ++ (map act_line b.acts ++ rest)) (anything b.parts)) in
-    let inverse : numbered_at (row_at v n) n 0 (rows ++ (map act_line b.acts ++ rest)) ≡ Ok (b.inverse, map act_line b.acts ++ rest)
-    = subst (λ (m : ℕ). numbered_at (row_at v n) m 0 (rows ++ (map act_line b.acts ++ rest)) ≡ Ok (b.inverse, map act_line b.acts ++ rest)) h.rows
-    (numbered_again (row_at v n) (row_line v) (IsWide n) (row_line_again v n) 0 b.inverse (map act_line b.acts ++ rest) h.entries) in
+    let parts :
+    numbered_at part_at n 0 (numbered_lines part_line 0 b.parts ++ (rows ++ (map act_line b.acts ++ rest)))
+    ≡ Ok (b.parts, rows ++ (map act_line b.acts ++ rest)) =
+    subst (λ (m : ℕ).
+    numbered_at part_at m 0 (numbered_lines part_line 0 b.parts ++ (rows ++ (map act_line b.acts ++ rest)))
+    ≡ Ok (b.parts, rows ++ (map act_line b.acts ++ rest)))
+    h.parts (numbered_again part_at part_line Anything part_again 0 b.parts (rows ++ (map act_line b.acts ++ rest))
+    (anything b.parts)) in
+    let inverse : numbered_at (row_at v n) n 0 (rows ++ (map act_line b.acts ++ rest))
+    ≡ Ok (b.inverse, map act_line b.acts ++ rest) =
+    subst (λ (m : ℕ). numbered_at (row_at v n) m 0 (rows ++ (map act_line b.acts ++ rest))
+    ≡ Ok (b.inverse, map act_line b.acts ++ rest)) h.rows (numbered_again (row_at v n) (row_line v) (IsWide n)
+    (row_line_again v n) 0 b.inverse (map act_line b.acts ++ rest) h.entries) in
     rw (lines_grouped (numbered_lines part_line 0 b.parts) rows (map act_line b.acts) rest, parts, inverse, acts_again b.acts rest) refl
 
 pub block_only : (v : Version) (b : Block) (rest : List Line) → IsSized b → IsBehindActs rest
@@ -165,10 +169,20 @@ solution_found : (v : Version) (number hour round size : ℤ) (lines : List Line
 unfolding block_at
 solution_found v number hour round size lines y e =
     let n = count_of size in
-    let rows_then : List Part → List (List ℤ) × List Line → Result (Block × List Line) (List Line) = λ parts rows. let
-    acts = acts_at rows.1 in Ok
-    (record { number = number; hour = hour; round = round; size = size; parts = parts; inverse = rows.0; acts = acts.0 }, acts.1)
-    in
+    let rows_then : List Part → List (List ℤ) × List Line → Result (Block × List Line) (List Line) = λ parts rows.
+    let acts = acts_at rows.1 in
+    Ok (
+      record {
+        number = number;
+        hour = hour;
+        round = round;
+        size = size;
+        parts = parts;
+        inverse = rows.0;
+        acts = acts.0;
+      },
+      acts.1,
+    ) in
     let a = bind_ok (numbered_at part_at n 0 lines) (λ parts. numbered_at (row_at v n) n 0 parts.1 >>= λ rows. rows_then parts.0 rows) y e in
     let b = bind_ok (numbered_at (row_at v n) n 0 a.0.1) (λ rows. rows_then a.0.0 rows) y a.2 in
     let parts = numbered_found part_at part_line Anything part_found n 0 lines a.0 a.1 in
@@ -176,12 +190,19 @@ solution_found v number hour round size lines y e =
     let acts = acts_found b.0.1 in
     let made : Block = record { number = number; hour = hour; round = round; size = size; parts = a.0.0; inverse = b.0.0; acts = (acts_at b.0.1).0 } in
     let same : (made, (acts_at b.0.1).1) ≡ y = (let c = b.2 in cc) in
-    let all : lines ≡ (numbered_lines part_line 0 a.0.0 ++ (numbered_lines (row_line v) 0 b.0.0 ++ map act_line (acts_at b.0.1).0)) ++ (acts_at b.0.1).1
-    = parts.0
-    ∙ ap (λ (ls : List Line). numbered_lines part_line 0 a.0.0 ++ ls) (rows.0 ∙ ap (λ (ls : List Line). numbered_lines (row_line v) 0 b.0.0 ++ ls) acts.0)
-    ∙ sym (lines_grouped (numbered_lines part_line 0 a.0.0) (numbered_lines (row_line v) 0 b.0.0) (map act_line (acts_at b.0.1).0) (acts_at b.0.1).1) in
-    subst (λ (z : Block × List Line). Spells v (solution number hour round size ∷ lines) z.0 z.1) same
-    (record { lines_are = ap (λ (ls : List Line). solution number hour round size ∷ ls) all; sized = record { parts = parts.1; rows = rows.1; entries = rows.2 }; behind = acts.1 })
+    let all : lines
+    ≡ (numbered_lines part_line 0 a.0.0 ++ (numbered_lines (row_line v) 0 b.0.0 ++ map act_line (acts_at b.0.1).0))
+    ++ (acts_at b.0.1).1 =
+    parts.0
+    ∙ ap (λ (ls : List Line). numbered_lines part_line 0 a.0.0 ++ ls)
+    (rows.0 ∙ ap (λ (ls : List Line). numbered_lines (row_line v) 0 b.0.0 ++ ls) acts.0)
+    ∙ sym (lines_grouped (numbered_lines part_line 0 a.0.0) (numbered_lines (row_line v) 0 b.0.0)
+    (map act_line (acts_at b.0.1).0) (acts_at b.0.1).1) in
+    subst (λ (z : Block × List Line). Spells v (solution number hour round size ∷ lines) z.0 z.1) same (record {
+      lines_are = ap (λ (ls : List Line). solution number hour round size ∷ ls) all;
+      sized = record { parts = parts.1; rows = rows.1; entries = rows.2 };
+      behind = acts.1;
+    })
 
 pub block_found : (v : Version) (lines : List Line) (b : Block) (rest : List Line) → block_at v lines ≡ Ok (b, rest)
     → Spells v lines b rest

@@ -41,8 +41,15 @@ at_refused v lines rest e =
     elim (ending lines) [
       | inl same ↦ (ends, same)
       | inr (inl t) ↦ (trails, (t.line, t.more, t.lines_are))
-      | inr (inr none) ↦
-          (refuses (length lines - length rest), record { rest = rest; refused = e; behind = omega (arith, ap length k.lines_are, length-append k.front rest); no_end = none })
+      | inr (inr none) ↦ (
+        refuses (length lines - length rest),
+        record {
+          rest = rest;
+          refused = e;
+          behind = omega (arith, ap length k.lines_are, length-append k.front rest);
+          no_end = none;
+        },
+      )
     ]
 
 some_within : (v : Version) (n : ℕ) (lines : List Line) → length lines < n → (c : Certificate) × Reads v lines c
@@ -126,13 +133,24 @@ nothing_left = refl
 pub again : (v : Version) (c : Certificate) → IsWhole c
     → (lines_of (certificate_bytes v (blocks_of c)) ≡ certificate_lines v (blocks_of c)) × Reads v (lines_behind v (blocks_of c)) c
 again v c h =
-    let ls = certificate_lines v (blocks_of c) in
-    (ap lines_of (sym (append-nil (bytes_of ls))) ∙ lines_again ls [] (fits_header v, fits_behind v c h) ∙ ap (λ (rest : List Line). ls ++ rest) nothing_left ∙ append-nil ls, read_again v c h)
+    let ls = certificate_lines v (blocks_of c) in (
+      ap lines_of (sym (append-nil (bytes_of ls)))
+          ∙ lines_again ls [] (fits_header v, fits_behind v c h)
+          ∙ ap (λ (rest : List Line). ls ++ rest) nothing_left
+          ∙ append-nil ls,
+      read_again v c h,
+    )
 
 length-behind : (a b : Version) (blocks : List Block) → length (lines_behind a blocks) ≡ length (lines_behind b blocks)
 length-behind a b [] = refl
-length-behind a b (x ∷ blocks) = omega
-    (arith, length-append (block_lines a x) (lines_behind a blocks), length-append (block_lines b x) (lines_behind b blocks), length-block a x, length-block b x, length-behind a b blocks)
+length-behind a b (x ∷ blocks) = omega (
+  arith,
+  length-append (block_lines a x) (lines_behind a blocks),
+  length-append (block_lines b x) (lines_behind b blocks),
+  length-block a x,
+  length-block b x,
+  length-behind a b blocks,
+)
 
 pub certificate_law : CertificateLaw
 certificate_law = record { some = some; one = one; again = again; as_long = λ a b c. ap suc (length-behind a b (blocks_of c)) }

@@ -33,8 +33,8 @@ opened_some lines line rest given b e f t g =
     let answer : Result ReaderView CertFileFault = Ok (record { version = Whole; lines = rest; line = 2; number = 1; hour = 0; round = 0; given = given }) in
     let named : Some Whole ≡ version_in (line ∷ rest) = ap (λ (c : Bool). if c then Some Whole else None) (sym t) ∙ f
     ∙ sym (first_alone line rest) in
-    subst (opens answer) (sym e)
-    (subst (λ o. IsOpened answer o rest) named (ap (λ (gs : List GivenBlock). record { version = Whole; lines = rest; line = 2; number = 1; hour = 0; round = 0; given = gs }) g))
+    subst (opens answer) (sym e) (subst (λ o. IsOpened answer o rest) named (ap (λ (gs : List GivenBlock).
+    record { version = Whole; lines = rest; line = 2; number = 1; hour = 0; round = 0; given = gs }) g))
 
 pub opened_none : (lines : List Line) (line : Line) (rest : List Line) (b : Bool) → lines ≡ line ∷ rest
     → (if b then Some Whole else None) ≡ version_in (line ∷ []) → b ≡ false

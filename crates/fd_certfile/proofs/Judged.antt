@@ -90,8 +90,9 @@ module _ (v : NetworkView) (number hour round : ℕ) (sampled : Ball → Sampled
   point : IsPoint v (claim_of b).centre
   point = record {
     long = length-map b.parts (λ (p : Part). p.centre) ∙ many;
-    parts = All-from_get_or IsPart (claim_of b).centre (pos 0)
-        (λ i l. subst IsPart (sym (centre_at i)) (abs_part (part_of b i).centre (h.range i (omega (arith, l, length-map b.parts (λ (p : Part). p.centre), many))).centre));
+    parts = All-from_get_or IsPart (claim_of b).centre (pos 0) (λ i l.
+        subst IsPart (sym (centre_at i)) (abs_part (part_of b i).centre
+        (h.range i (omega (arith, l, length-map b.parts (λ (p : Part). p.centre), many))).centre));
   }
 
   inverse : IsInverse v.size b.inverse

@@ -69,11 +69,15 @@ is_wide n row long = opposite (list_all (is_within (2 ^ 56)) row) (is_some (firs
         → is_some (first_place (λ col. nat_lt (2 ^ 56) (nat_abs (part row col))) n) ≡ false
     from_all e =
         let all = (Decides-all (is_within (2 ^ 56)) (λ z. nat_abs z ≤ 2 ^ 56) (Decides-within (2 ^ 56)) row).0 e in
-        ap is_some (first_none (λ col. nat_lt (2 ^ 56) (nat_abs (part row col))) n (λ col l. not_past (2 ^ 56) (nat_abs (part row col)) (all_at (λ z. nat_abs z ≤ 2 ^ 56) (pos 0) row col all (omega (arith, l, long)))))
+        ap is_some (first_none (λ col. nat_lt (2 ^ 56) (nat_abs (part row col))) n (λ col l.
+        not_past (2 ^ 56) (nat_abs (part row col))
+        (all_at (λ z. nat_abs z ≤ 2 ^ 56) (pos 0) row col all (omega (arith, l, long)))))
 
     to_all : is_some (first_place (λ col. nat_lt (2 ^ 56) (nat_abs (part row col))) n) ≡ false
         → list_all (is_within (2 ^ 56)) row ≡ true
     to_all e =
         let none = none_found (first_place (λ col. nat_lt (2 ^ 56) (nat_abs (part row col))) n) e in
         (Decides-all (is_within (2 ^ 56)) (λ z. nat_abs z ≤ 2 ^ 56) (Decides-within (2 ^ 56)) row).1
-        (all_from (λ z. nat_abs z ≤ 2 ^ 56) (pos 0) row (λ col l. ltb-false (2 ^ 56) (nat_abs (part row col)) (none_holds (λ k. nat_lt (2 ^ 56) (nat_abs (part row k))) n col none (omega (arith, l, long)))))
+        (all_from (λ z. nat_abs z ≤ 2 ^ 56) (pos 0) row (λ col l.
+        ltb-false (2 ^ 56) (nat_abs (part row col))
+        (none_holds (λ k. nat_lt (2 ^ 56) (nat_abs (part row k))) n col none (omega (arith, l, long)))))

@@ -80,7 +80,8 @@ by_found word numbers =
 
 with_found : (word : List ℕ) (fields : List (List ℕ)) (o : Option (List ℤ)) → numbers_of fields ≡ o
     → IsKnown (line_with word o)
-    → (word ∷ fields ≡ word_of (line_with word o) ∷ map signed_decimal (numbers_in (line_with word o))) × AllByRecursion IsNumber (numbers_in (line_with word o))
+    → (word ∷ fields ≡ word_of (line_with word o) ∷ map signed_decimal (numbers_in (line_with word o)))
+    × AllByRecursion IsNumber (numbers_in (line_with word o))
 with_found word fields None f h = absurd h
 with_found word fields (Some zs) f h =
     let a = numbers_found fields zs f in

@@ -135,7 +135,13 @@ module _ (r : ReaderView) (n : ℕ) (x : Ahead) (h : HasAhead r n x) where
 module _ (r : ReaderView) (n : ℕ) (acts : List Act) (rest : List Line) (count : ℕ)
     (h : IsAheadOf r n acts rest count) where
   pub passed_lines : length r.lines ≡ count + length rest
-  passed_lines = omega (arith, ap length (block_found Whole r.lines h.block rest h.same).lines_are, length-append (block_lines Whole h.block) rest, length-block Whole h.block, h.count_is)
+  passed_lines = omega (
+    arith,
+    ap length (block_found Whole r.lines h.block rest h.same).lines_are,
+    length-append (block_lines Whole h.block) rest,
+    length-block Whole h.block,
+    h.count_is,
+  )
 
   pub passed_some : 1 ≤ count
   passed_some = omega (arith, h.count_is)

@@ -54,7 +54,8 @@ radius_test (pos k) = lt_not (2 ^ 40) k ∙ ap not (sym (and_some (nat_le k (2 ^
 radius_test (negsuc k) = lt-ltb (2 ^ 40) 1099511627777 (omega arith) ∙ ap not (sym (and_none (is_within (2 ^ 40) (negsuc k))))
 
 range_test : (z y : ℤ) (t : Bool)
-    → (nat_lt (2 ^ 40) (nat_abs z) || (nat_lt (2 ^ 40) (read_radius y) || not t)) ≡ not (is_within (2 ^ 40) z && (is_within (2 ^ 40) y && (int_le (pos 0) y && t)))
+    → (nat_lt (2 ^ 40) (nat_abs z) || (nat_lt (2 ^ 40) (read_radius y) || not t))
+    ≡ not (is_within (2 ^ 40) z && (is_within (2 ^ 40) y && (int_le (pos 0) y && t)))
 range_test z y t =
     ap (λ (a : Bool). a || (nat_lt (2 ^ 40) (read_radius y) || not t)) (lt_not (2 ^ 40) (nat_abs z))
     ∙ ap (λ (a : Bool). not (is_within (2 ^ 40) z) || (a || not t)) (radius_test y)
@@ -118,12 +119,20 @@ module _ (v : NetworkView) (number hour round : ℕ) (sampled : Ball → Sampled
   mismatch_here i = get_or-map (λ (p : Part). read_mismatch p.mismatch) b.parts i no_part
 
   has : has_size v.size (claim_of b).centre (radii_read b) (mismatches_read b) b.inverse ≡ true
-  has = and_from (length (claim_of b).centre == v.size) _ (eq-eqb _ v.size (length-map b.parts (λ (p : Part). p.centre) ∙ many))
-      (and_from (length (radii_read b) == v.size) _ (eq-eqb _ v.size (length-map b.parts (λ (p : Part). read_radius p.radius) ∙ many))
-      (and_from (length (mismatches_read b) == v.size) (length b.inverse == v.size) (eq-eqb _ v.size (length-map b.parts (λ (p : Part). read_mismatch p.mismatch) ∙ many)) (eq-eqb (length b.inverse) v.size rows)))
+  has =
+      and_from (length (claim_of b).centre == v.size) _
+      (eq-eqb _ v.size (length-map b.parts (λ (p : Part). p.centre) ∙ many))
+      (and_from (length (radii_read b) == v.size) _
+      (eq-eqb _ v.size (length-map b.parts (λ (p : Part). read_radius p.radius) ∙ many))
+      (and_from (length (mismatches_read b) == v.size) (length b.inverse == v.size)
+      (eq-eqb _ v.size (length-map b.parts (λ (p : Part). read_mismatch p.mismatch) ∙ many))
+      (eq-eqb (length b.inverse) v.size rows)))
 
   wide_at : (i : ℕ) → i < v.size → has_wide_entry v.size (row_of b i) ≡ not (list_all (is_within (2 ^ 56)) (row_of b i))
-  wide_at i l = is_wide v.size (row_of b i) (all_at (λ (r : List ℤ). length r ≡ count_of b.size) [] b.inverse i s.entries (omega (arith, l, rows)) ∙ ap count_of sized)
+  wide_at i l =
+      is_wide v.size (row_of b i)
+      (all_at (λ (r : List ℤ). length r ≡ count_of b.size) [] b.inverse i s.entries (omega (arith, l, rows))
+      ∙ ap count_of sized)
 
   range_at : (i : ℕ) → i < v.size
       → is_out_of_range v.size (claim_of b).centre (radii_read b) b.inverse i ≡ not (is_in_range b i)
@@ -136,53 +145,89 @@ module _ (v : NetworkView) (number hour round : ℕ) (sampled : Ball → Sampled
   range_is : least_from 0 v.size (is_in_range b) ≡ first_place (is_out_of_range v.size (claim_of b).centre (radii_read b) b.inverse) v.size
   range_is = least_is v.size (is_in_range b) (is_out_of_range v.size (claim_of b).centre (radii_read b) b.inverse) range_at
 
-  mismatch_is : least_from 0 v.size (is_mismatch (judge_of v number hour round sampled) b) ≡ first_place (λ l. is_untrue (mismatch_at v (claim_of b).centre l) (number_at (mismatches_read b) l)) v.size
-  mismatch_is = least_is v.size (is_mismatch (judge_of v number hour round sampled) b) (λ l. is_untrue (mismatch_at v (claim_of b).centre l) (number_at (mismatches_read b) l)) (λ i l.
-      ap (is_untrue (mismatch_at v (claim_of b).centre i)) (mismatch_here i) ∙ mismatch_test (mismatch_at v (claim_of b).centre i) (part_of b i).mismatch)
+  mismatch_is : least_from 0 v.size (is_mismatch (judge_of v number hour round sampled) b)
+      ≡ first_place (λ l. is_untrue (mismatch_at v (claim_of b).centre l) (number_at (mismatches_read b) l)) v.size
+  mismatch_is =
+      least_is v.size (is_mismatch (judge_of v number hour round sampled) b)
+      (λ l. is_untrue (mismatch_at v (claim_of b).centre l) (number_at (mismatches_read b) l)) (λ i l.
+      ap (is_untrue (mismatch_at v (claim_of b).centre i)) (mismatch_here i)
+      ∙ mismatch_test (mismatch_at v (claim_of b).centre i) (part_of b i).mismatch)
 
   -- what holds where the rules before hold
   module _ (in_range : first_place (is_out_of_range v.size (claim_of b).centre (radii_read b) b.inverse) v.size ≡ None) where
     positive : (i : ℕ) → i < v.size → int_le (pos 0) (part_of b i).radius ≡ true
     positive i l =
-        let holds = not-false (is_in_range b i) (sym (range_at i l) ∙ none_holds (is_out_of_range v.size (claim_of b).centre (radii_read b) b.inverse) v.size i in_range l) in
+        let holds = not-false (is_in_range b i) (sym (range_at i l)
+        ∙ none_holds (is_out_of_range v.size (claim_of b).centre (radii_read b) b.inverse) v.size i in_range l) in
         (and_parts _ _ (and_parts _ _ (and_parts _ _ holds).1).1).0
 
     radii_same : radii_read b ≡ (claim_on v b).radii
-    radii_same = ext_get_or 0 (radii_read b) (claim_on v b).radii (length-map b.parts (λ (p : Part). read_radius p.radius) ∙ sym (length-map b.parts (λ (p : Part). nat_abs p.radius))) (λ i l.
-        radius_at i ∙ radius_size (part_of b i).radius (positive i (omega (arith, l, length-map b.parts (λ (p : Part). read_radius p.radius), many)))
+    radii_same =
+        ext_get_or 0 (radii_read b) (claim_on v b).radii (length-map b.parts (λ (p : Part). read_radius p.radius)
+        ∙ sym (length-map b.parts (λ (p : Part). nat_abs p.radius)))
+        (λ i l. radius_at i
+        ∙ radius_size (part_of b i).radius
+        (positive i (omega (arith, l, length-map b.parts (λ (p : Part). read_radius p.radius), many)))
         ∙ sym (get_or-map (λ (p : Part). nat_abs p.radius) b.parts i no_part))
 
   module _ (true_ones : first_place (λ l. is_untrue (mismatch_at v (claim_of b).centre l) (number_at (mismatches_read b) l)) v.size ≡ None) where
     sizes_same : mismatches_read b ≡ sizes_of (claim_of b).mismatch
-    sizes_same = ext_get_or 0 (mismatches_read b) (sizes_of (claim_of b).mismatch) (length-map b.parts (λ (p : Part). read_mismatch p.mismatch) ∙ sym (length-map (claim_of b).mismatch nat_abs ∙ length-map b.parts (λ (p : Part). p.mismatch))) (λ i l.
-        let below : i < v.size = omega (arith, l, length-map b.parts (λ (p : Part). read_mismatch p.mismatch), many) in
-        let fine = none_holds (λ l. is_untrue (mismatch_at v (claim_of b).centre l) (number_at (mismatches_read b) l)) v.size i true_ones below in
+    sizes_same =
+        ext_get_or 0 (mismatches_read b) (sizes_of (claim_of b).mismatch)
+        (length-map b.parts (λ (p : Part). read_mismatch p.mismatch)
+        ∙ sym (length-map (claim_of b).mismatch nat_abs ∙ length-map b.parts (λ (p : Part). p.mismatch)))
+        (λ i l.
+        let below : i < v.size =
+        omega (arith, l, length-map b.parts (λ (p : Part). read_mismatch p.mismatch), many) in
+        let fine = none_holds (λ l. is_untrue (mismatch_at v (claim_of b).centre l) (number_at (mismatches_read b) l))
+        v.size i true_ones below in
         mismatch_here i
-        ∙ sym (mismatch_size (mismatch_at v (claim_of b).centre i) (part_of b i).mismatch (sym (ap (is_untrue (mismatch_at v (claim_of b).centre i)) (mismatch_here i)) ∙ fine))
-        ∙ sym (get_or-map nat_abs (claim_of b).mismatch i (pos 0) ∙ ap nat_abs (get_or-map (λ (p : Part). p.mismatch) b.parts i no_part)))
+        ∙ sym (mismatch_size (mismatch_at v (claim_of b).centre i) (part_of b i).mismatch
+        (sym (ap (is_untrue (mismatch_at v (claim_of b).centre i)) (mismatch_here i)) ∙ fine))
+        ∙ sym (get_or-map nat_abs (claim_of b).mismatch i (pos 0)
+        ∙ ap nat_abs (get_or-map (λ (p : Part). p.mismatch) b.parts i no_part)))
 
     named_is : (o : Option (ℕ × Option ℤ)) → refusal_in v (claim_of b) ≡ o
         → least_from 0 v.size (λ i. not (names i o)) ≡ place_named o
     named_is None e = least_all v.size 0 (λ i. not (names i None)) (λ j l m. refl)
     named_is (Some r) e =
-        let below : r.0 < v.size = refusal_below v.size (entry b.inverse) (jacobian_entry v (claim_of b).centre) (slope_radius v (claim_of b).centre) (weight_at v (claim_of b).centre) (number_at (sizes_of (claim_of b).mismatch)) r e in
+        let below : r.0 < v.size =
+        refusal_below v.size (entry b.inverse) (jacobian_entry v (claim_of b).centre)
+        (slope_radius v (claim_of b).centre) (weight_at v (claim_of b).centre)
+        (number_at (sizes_of (claim_of b).mismatch)) r e in
         least_is v.size (λ i. not (names i (Some r))) (λ i. r.0 == i) (λ i l. twice (r.0 == i))
-        ∙ first_at (λ i. r.0 == i) v.size r.0 below (λ j l. false_from_ne_true (r.0 == j) (λ t. let same : r.0 ≡ j = eqb-true r.0 j t in absurd (omega (arith, l, same)))) (eq-eqb r.0 r.0 refl)
+        ∙ first_at (λ i. r.0 == i) v.size r.0 below (λ j l.
+        false_from_ne_true (r.0 == j) (λ t. let same : r.0 ≡ j = eqb-true r.0 j t in absurd (omega (arith, l, same))))
+        (eq-eqb r.0 r.0 refl)
 
-    bound_is : least_from 0 v.size (λ i. not (names i (refusal_in v (claim_of b)))) ≡ place_named (refusal_of v (claim_of b).centre (mismatches_read b) b.inverse)
+    bound_is : least_from 0 v.size (λ i. not (names i (refusal_in v (claim_of b))))
+        ≡ place_named (refusal_of v (claim_of b).centre (mismatches_read b) b.inverse)
     bound_is = named_is (refusal_in v (claim_of b)) refl
         ∙ ap (λ (e : List ℕ). place_named (refusal_of v (claim_of b).centre e b.inverse)) (sym sizes_same)
 
     radius_is : first_place (is_out_of_range v.size (claim_of b).centre (radii_read b) b.inverse) v.size ≡ None
-        → least_from 0 v.size (is_radius (judge_of v number hour round sampled) b) ≡ first_place (is_narrow v (claim_of b).centre (radii_read b) (mismatches_read b) b.inverse) v.size
-    radius_is h = least_is v.size (is_radius (judge_of v number hour round sampled) b) (is_narrow v (claim_of b).centre (radii_read b) (mismatches_read b) b.inverse) (λ i l.
+        → least_from 0 v.size (is_radius (judge_of v number hour round sampled) b)
+        ≡ first_place (is_narrow v (claim_of b).centre (radii_read b) (mismatches_read b) b.inverse) v.size
+    radius_is h =
+        least_is v.size (is_radius (judge_of v number hour round sampled) b)
+        (is_narrow v (claim_of b).centre (radii_read b) (mismatches_read b) b.inverse) (λ i l.
         ap (λ (k : ℕ). nat_lt k (radius_in v (claim_of b).centre b.inverse (mismatches_read b) i)) (radius_at i)
-        ∙ narrow_test (radius_in v (claim_of b).centre b.inverse (mismatches_read b) i) (part_of b i).radius (positive h i l)
-        ∙ ap (λ (e : List ℕ). not (int_le (pos (radius_in v (claim_of b).centre b.inverse e i)) (part_of b i).radius)) sizes_same)
+        ∙ narrow_test (radius_in v (claim_of b).centre b.inverse (mismatches_read b) i) (part_of b i).radius
+        (positive h i l)
+        ∙ ap (λ (e : List ℕ). not (int_le (pos (radius_in v (claim_of b).centre b.inverse e i)) (part_of b i).radius))
+        sizes_same)
 
-  past_size : first_unsound v (claim_read v b) ≡ broken_at Range (first_place (is_out_of_range v.size (claim_of b).centre (radii_read b) b.inverse) v.size) (first_at_point v (claim_of b).centre (radii_read b) (mismatches_read b) b.inverse)
+  past_size : first_unsound v (claim_read v b)
+      ≡ broken_at Range (first_place (is_out_of_range v.size (claim_of b).centre (radii_read b) b.inverse) v.size)
+      (first_at_point v (claim_of b).centre (radii_read b) (mismatches_read b) b.inverse)
   unfolding first_broken
-  past_size = ap (λ (t : Bool). cond t (broken_at Range (first_place (is_out_of_range v.size (claim_of b).centre (radii_read b) b.inverse) v.size) (first_at_point v (claim_of b).centre (radii_read b) (mismatches_read b) b.inverse)) (Some (record { rule = Size; place = 0 }))) has
+  past_size =
+      ap (λ (t : Bool).
+      cond t
+      (broken_at Range (first_place (is_out_of_range v.size (claim_of b).centre (radii_read b) b.inverse) v.size)
+      (first_at_point v (claim_of b).centre (radii_read b) (mismatches_read b) b.inverse))
+      (Some (record { rule = Size; place = 0 })))
+      has
 
   at_point : first_at_point v (claim_of b).centre (radii_read b) (mismatches_read b) b.inverse
       ≡ broken_at Mismatch (first_place (λ l. is_untrue (mismatch_at v (claim_of b).centre l) (number_at (mismatches_read b) l)) v.size)
@@ -217,4 +262,10 @@ module _ (v : NetworkView) (number hour round : ℕ) (sampled : Ball → Sampled
   claim_same h =
       let a = later_none Range _ _ (sym past_size ∙ h) in
       let d = later_none Mismatch _ _ (sym at_point ∙ a.1) in
-      λ i. record { centre = (claim_of b).centre; radii = radii_same a.0 i; mismatches = sizes_same d.0 i; boxes = boxes_of v (claim_of b).centre; inverse = b.inverse }
+      λ i. record {
+        centre = (claim_of b).centre;
+        radii = radii_same a.0 i;
+        mismatches = sizes_same d.0 i;
+        boxes = boxes_of v (claim_of b).centre;
+        inverse = b.inverse;
+      }

@@ -20,8 +20,12 @@ module _ {X : Type 0} (read : ℕ → Line → Option X) (n : ℕ) (lines : List
   nothing (Err rest) = refl
 
   pub so_far_start : IsSoFar read n lines 0 [] lines
-  so_far_start = record
-      { within = omega arith; same = nothing (numbered_at read n 0 lines) ∙ ap (λ (k : ℕ). behind_front [] (numbered_at read k 0 lines)) (omega arith); count = omega arith }
+  so_far_start = record {
+    within = omega arith;
+    same = nothing (numbered_at read n 0 lines)
+        ∙ ap (λ (k : ℕ). behind_front [] (numbered_at read k 0 lines)) (omega arith);
+    count = omega arith;
+  }
 
   pub all_read : (i : ℕ) (front : List X) (rest : List Line) → n ≤ i → IsSoFar read n lines i front rest
       → numbered_at read n 0 lines ≡ Ok (front, rest)

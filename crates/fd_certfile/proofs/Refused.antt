@@ -57,10 +57,13 @@ module _ {X : Type 0} (read : ℕ → Line → Option X) (line : ℕ → X → L
       (record { xs = []; lines_are = refl; short = omega arith; right = tt; refused = λ more. refl })
   numbered_refused again found (suc n) i (l ∷ lines) rest e =
       let below = λ (h : numbered_at read n (suc i) lines ≡ Err rest). numbered_refused again found n (suc i) lines rest h in
-      bind_err (or_refused (l ∷ lines) (read i l)) (λ x. numbered_at read n (suc i) lines >>= λ xs. Ok (x ∷ xs.0, xs.1)) rest _ e
-      (λ failed. let r = read_err (l ∷ lines) (read i l) rest failed in subst (λ (d : List Line). Cut read line IsRight (suc n) i (l ∷ lines) d) r.1 (refused_here n i l lines r.0))
-      (λ x done f. bind_err (numbered_at read n (suc i) lines) (λ xs. Ok (x ∷ xs.0, xs.1)) rest _ f
-      (λ failed. cut_more n i l lines rest x again (found i l x (read_ok (l ∷ lines) (read i l) x done)) (below failed))
+      bind_err (or_refused (l ∷ lines) (read i l))
+      (λ x. numbered_at read n (suc i) lines >>= λ xs. Ok (x ∷ xs.0, xs.1)) rest _ e (λ failed.
+      let r = read_err (l ∷ lines) (read i l) rest failed in
+      subst (λ (d : List Line). Cut read line IsRight (suc n) i (l ∷ lines) d) r.1 (refused_here n i l lines r.0))
+      (λ x done f.
+      bind_err (numbered_at read n (suc i) lines) (λ xs. Ok (x ∷ xs.0, xs.1)) rest _ f (λ failed.
+      cut_more n i l lines rest x again (found i l x (read_ok (l ∷ lines) (read i l) x done)) (below failed))
       (λ ys made g. made_ok (x ∷ ys.0, ys.1) rest _ g))
 
 -- ---- a front that is filled up to a block
@@ -101,11 +104,15 @@ module _ (v : Version) (number hour round size : ℤ) where
       let tail = numbered_lines (row_line v) 0 rows ++ [] in
       record {
         block = record { number = number; hour = hour; round = round; size = size; parts = ps ++ others; inverse = rows; acts = [] };
-        sized = record
-            { parts = filled ps nothing n h; rows = length-replicate n (zeros n); entries = right_replicate (IsWide n) n (zeros n) (length-replicate n (pos 0)) };
+        sized = record {
+          parts = filled ps nothing n h;
+          rows = length-replicate n (zeros n);
+          entries = right_replicate (IsWide n) n (zeros n) (length-replicate n (pos 0));
+        };
         more = numbered_lines part_line (0 + length ps) others ++ tail;
         lines_are = ap (λ (ls : List Line). solution number hour round size ∷ ls)
-            (ap (λ (ls : List Line). ls ++ tail) (enumerate-append part_line 0 ps others) ∙ append_assoc (numbered_lines part_line 0 ps) (numbered_lines part_line (0 + length ps) others) tail);
+            (ap (λ (ls : List Line). ls ++ tail) (enumerate-append part_line 0 ps others)
+            ∙ append_assoc (numbered_lines part_line 0 ps) (numbered_lines part_line (0 + length ps) others) tail);
       }
 
   begins_with_rows : (ps : List Part) (rs : List (List ℤ)) → length ps ≡ count_of size → length rs ≤ count_of size
@@ -247,22 +254,36 @@ pub solution_kept : (v : Version) (number hour round size : ℤ) (lines rest : L
 unfolding block_at
 solution_kept v number hour round size lines rest e =
     let n = count_of size in
-    let rows_then : List Part → List (List ℤ) × List Line → Result (Block × List Line) (List Line) = λ parts rows. let
-    acts = acts_at rows.1 in Ok
-    (record { number = number; hour = hour; round = round; size = size; parts = parts; inverse = rows.0; acts = acts.0 }, acts.1)
-    in
-    bind_err (numbered_at part_at n 0 lines) (λ parts. numbered_at (row_at v n) n 0 parts.1 >>= λ rows. rows_then parts.0 rows) rest _ e
-    (λ failed.
+    let rows_then : List Part → List (List ℤ) × List Line → Result (Block × List Line) (List Line) = λ parts rows.
+    let acts = acts_at rows.1 in
+    Ok (
+      record {
+        number = number;
+        hour = hour;
+        round = round;
+        size = size;
+        parts = parts;
+        inverse = rows.0;
+        acts = acts.0;
+      },
+      acts.1,
+    ) in
+    bind_err (numbered_at part_at n 0 lines)
+    (λ parts. numbered_at (row_at v n) n 0 parts.1 >>= λ rows. rows_then parts.0 rows) rest _ e (λ failed.
     let k = numbered_refused part_at part_line Anything part_again part_found n 0 lines rest failed in
     omega (arith, ap length k.lines_are, length-append (numbered_lines part_line 0 k.xs) rest))
     (λ parts done f.
     let found = numbered_found part_at part_line Anything part_found n 0 lines parts done in
-    bind_err (numbered_at (row_at v n) n 0 parts.1) (rows_then parts.0) rest _ f
-    (λ failed.
-    let k = numbered_refused (row_at v n) (row_line v) (IsWide n) (row_line_again v n) (row_line_found v n) n 0 parts.1 rest failed in
-    omega
-    (arith, ap length found.0, length-append (numbered_lines part_line 0 parts.0) parts.1, ap length k.lines_are, length-append (numbered_lines (row_line v) 0 k.xs) rest))
-    (λ rows made g. made_ok _ rest _ g))
+    bind_err (numbered_at (row_at v n) n 0 parts.1) (rows_then parts.0) rest _ f (λ failed.
+    let k = numbered_refused (row_at v n) (row_line v) (IsWide n) (row_line_again v n) (row_line_found v n) n 0
+    parts.1 rest failed in
+    omega (
+      arith,
+      ap length found.0,
+      length-append (numbered_lines part_line 0 parts.0) parts.1,
+      ap length k.lines_are,
+      length-append (numbered_lines (row_line v) 0 k.xs) rest,
+    )) (λ rows made g. made_ok _ rest _ g))
 
 -- else it is the first
 pub first_kept : (v : Version) (lines rest : List Line) → IsNoSolution lines → block_at v lines ≡ Err rest

@@ -65,8 +65,11 @@ entries_again j (e ∷ entries) =
 pub row_again : (v : Version) (n : ℕ) (entries : List ℤ) → length entries ≡ n
     → row_of v n (fields_of v entries) ≡ Some entries
 row_again Whole n entries h = cond-true (nat_eq (length entries) n) (Some entries) None (eq-eqb (length entries) n h)
-row_again Sparse n entries h = subst (λ (m : ℕ). row_of Sparse m (fields_of Sparse entries) ≡ Some entries) h
-    (ap (option_and_then (with_count (pos (count_by is_entry entries)))) (entries_again 0 entries) ∙ (cond-true (is_place (count_by is_entry entries) (pos (count_by is_entry entries))) (Some entries) None (is_place_self (count_by is_entry entries))))
+row_again Sparse n entries h =
+    subst (λ (m : ℕ). row_of Sparse m (fields_of Sparse entries) ≡ Some entries) h
+    (ap (option_and_then (with_count (pos (count_by is_entry entries)))) (entries_again 0 entries)
+    ∙ (cond-true (is_place (count_by is_entry entries) (pos (count_by is_entry entries))) (Some entries) None
+    (is_place_self (count_by is_entry entries))))
 
 -- ---- read and written
 
@@ -83,8 +86,11 @@ here_found n j p e fields entries here h rest_found =
       | inr some ↦
           let m = map_some (λ r. e ∷ r) (entries_at n (suc j) fields) entries (sym (cond-false (is_zero e) None _ some) ∙ h) in
           let rest = rest_found m in
-          subst (λ (r : List ℤ). (length r ≡ suc n) × (p ∷ e ∷ fields ≡ pairs_from j r)) m.2
-          (ap suc rest.0, rw (cond-false (is_zero e) [] (pos j ∷ e ∷ []) some, add-one) (ap (λ (q : ℤ). q ∷ e ∷ fields) (place_is j p here) ∙ ap (λ (f : List ℤ). pos j ∷ e ∷ f) rest.1))
+          subst (λ (r : List ℤ). (length r ≡ suc n) × (p ∷ e ∷ fields ≡ pairs_from j r)) m.2 (
+            ap suc rest.0,
+            rw (cond-false (is_zero e) [] (pos j ∷ e ∷ []) some, add-one)
+                (ap (λ (q : ℤ). q ∷ e ∷ fields) (place_is j p here) ∙ ap (λ (f : List ℤ). pos j ∷ e ∷ f) rest.1),
+          )
     ]
 
 entries_found : (n j : ℕ) (fields entries : List ℤ) → entries_at n j fields ≡ Some entries

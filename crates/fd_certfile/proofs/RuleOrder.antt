@@ -131,16 +131,22 @@ Decides-all test P h (x ∷ xs) = Decides-and (test x) (list_all test xs) (h x) 
 
 Decides-due : (judge : Judge) (b : Block) → Decides (is_due judge b) (IsDue judge b)
 Decides-due judge b =
-    Decides-like (is_due judge b) (λ h. record { number = h.0; hour = h.1.0; round = h.1.1.0; size = h.1.1.1 }) (λ h. (h.number, (h.hour, (h.round, h.size))))
-    (Decides-and _ _ (Decides-place judge.number b.number) (Decides-and _ _ (Decides-place judge.hour b.hour) (Decides-and _ _ (Decides-place judge.round b.round) (Decides-place judge.size b.size))))
+    Decides-like (is_due judge b) (λ h. record { number = h.0; hour = h.1.0; round = h.1.1.0; size = h.1.1.1 })
+    (λ h. (h.number, (h.hour, (h.round, h.size))))
+    (Decides-and _ _ (Decides-place judge.number b.number) (Decides-and _ _ (Decides-place judge.hour b.hour)
+    (Decides-and _ _ (Decides-place judge.round b.round) (Decides-place judge.size b.size))))
 
 Decides-range : (b : Block) (i : ℕ) → Decides (is_in_range b i) (IsInRange b i)
-Decides-range b i =
-    Decides-like (is_in_range b i)
-    (λ h. record { centre = h.0; radius = h.1.0; not_negative = h.1.1.0; entries = h.1.1.1 })
-    (λ h. (h.centre, (h.radius, (h.not_negative, h.entries))))
-    (Decides-and _ _ (Decides-within (2 ^ 40) (part_of b i).centre) (Decides-and _ _ (Decides-within (2 ^ 40) (part_of b i).radius)
-    (Decides-and _ _ (Decides-le (pos 0) (part_of b i).radius) (Decides-all (is_within (2 ^ 56)) (λ e. unsigned_abs e ≤ 2 ^ 56) (Decides-within (2 ^ 56)) (row_of b i)))))
+Decides-range b i = Decides-like (is_in_range b i) (λ h. record {
+  centre = h.0;
+  radius = h.1.0;
+  not_negative = h.1.1.0;
+  entries = h.1.1.1;
+}) (λ h. (h.centre, (h.radius, (h.not_negative, h.entries))))
+    (Decides-and _ _ (Decides-within (2 ^ 40) (part_of b i).centre)
+    (Decides-and _ _ (Decides-within (2 ^ 40) (part_of b i).radius)
+    (Decides-and _ _ (Decides-le (pos 0) (part_of b i).radius)
+    (Decides-all (is_within (2 ^ 56)) (λ e. unsigned_abs e ≤ 2 ^ 56) (Decides-within (2 ^ 56)) (row_of b i)))))
 
 act_same : (a b : Act) → a.time ≡ b.time → a.control ≡ b.control → a.steps ≡ b.steps → a ≡ b
 act_same a b t c s =

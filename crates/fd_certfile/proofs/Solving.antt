@@ -109,7 +109,8 @@ pub read_is : (v : NetworkView) (parts : List Read) (rows : List (List ℤ)) (b 
     → rows ≡ b.inverse
     → boxed_claim v (map centre_in parts) (map radius_in parts) (map mismatch_in parts) rows ≡ claim_read v b
 read_is v parts rows b h e =
-    let centres : map centre_in parts ≡ (claim_of b).centre = sym (map-map (λ (p : blocks.Part). p.centre) part parts) ∙ ap (map (λ (p : blocks.Part). p.centre)) h in
+    let centres : map centre_in parts ≡ (claim_of b).centre =
+    sym (map-map (λ (p : blocks.Part). p.centre) part parts) ∙ ap (map (λ (p : blocks.Part). p.centre)) h in
     let radii = sym (map-map (λ (p : blocks.Part). read_radius p.radius) part parts) ∙ ap (map (λ (p : blocks.Part). read_radius p.radius)) h in
     let mismatches = sym (map-map (λ (p : blocks.Part). read_mismatch p.mismatch) part parts) ∙ ap (map (λ (p : blocks.Part). read_mismatch p.mismatch)) h in
     λ i. boxed_claim v (centres i) (radii i) (mismatches i) (e i)

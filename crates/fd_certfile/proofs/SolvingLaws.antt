@@ -48,7 +48,9 @@ later_rules judge b =
 
 size_first : (judge : Judge) (b : Block) → is_due judge b ≡ false
     → first_broken judge b ≡ Some (record { rule = Size; place = at_solution })
-size_first judge b e = broken_first judge b (record { rule = Size; place = at_solution }) (ap (λ (t : Bool). first_some (unless Size at_solution t ∷ later_rules judge b)) e)
+size_first judge b e =
+    broken_first judge b (record { rule = Size; place = at_solution })
+    (ap (λ (t : Bool). first_some (unless Size at_solution t ∷ later_rules judge b)) e)
 
 -- ---- what is given
 
@@ -214,8 +216,14 @@ module _ {S F : Type 0} (due : S → Due F) (after : S → Block → S) where
       ∙ refused_same (r.line + suc k, Grammar) (line, rule) (err_is (r.line + suc k, Grammar) (line, rule) (solved_of v r) (not_read v r (suc k) reads) h)
   refused_so v r line rule (gives b more) sampled s count h reads d =
       let k = breaks v r b reads.0 reads.1 line rule sampled h in
-      ap (λ (x : Due F). by_due x (refused r.line Count) (λ judge. unless_broken r.line b (first_broken judge b) (verdict due after (r.line + lines_count b) (count + 1) more (after s b)))) d
-      ∙ ap (λ (o : Option Broken). unless_broken r.line b o (verdict due after (r.line + lines_count b) (count + 1) more (after s b))) k.first
+      ap (λ (x : Due F).
+      by_due x (refused r.line Count) (λ judge.
+      unless_broken r.line b (first_broken judge b)
+      (verdict due after (r.line + lines_count b) (count + 1) more (after s b))))
+      d
+      ∙ ap (λ (o : Option Broken).
+      unless_broken r.line b o (verdict due after (r.line + lines_count b) (count + 1) more (after s b)))
+      k.first
       ∙ ap (λ (n : ℕ). refused n k.broken.rule) k.line_is
       ∙ ap (refused line) k.rule_is
 
@@ -227,8 +235,14 @@ module _ {S F : Type 0} (due : S → Due F) (after : S → Block → S) where
     rest = more;
     gives_is = refl;
     reads = reads;
-    comes = ap (λ (x : Due F). by_due x (refused r.line Count) (λ judge. unless_broken r.line b (first_broken judge b) (verdict due after (r.line + lines_count b) (count + 1) more (after s b)))) d
-        ∙ ap (λ (o : Option Broken). unless_broken r.line b o (verdict due after (r.line + lines_count b) (count + 1) more (after s b))) (acts_left (judge_in v r sampled) b h);
+    comes = ap (λ (x : Due F).
+        by_due x (refused r.line Count) (λ judge.
+        unless_broken r.line b (first_broken judge b)
+        (verdict due after (r.line + lines_count b) (count + 1) more (after s b))))
+        d
+        ∙ ap (λ (o : Option Broken).
+        unless_broken r.line b o (verdict due after (r.line + lines_count b) (count + 1) more (after s b)))
+        (acts_left (judge_in v r sampled) b h);
   }
 
   solved : (v : NetworkView) (r : ReaderView) (b : Block) (w : ReaderView) (c : Certificate) (sampled : Ball → Sampled) (s : S) (count : ℕ)
@@ -243,7 +257,9 @@ module _ {S F : Type 0} (due : S → Due F) (after : S → Block → S) where
       let pair : (e, reads.0) ≡ (b, g.rest) = cc in
       let left : Reads r.version g.rest more = subst (λ (p : Block × List Line). Reads r.version p.1 more) pair reads.2 in
       subst (λ (q : ReaderView). ComesAfter due after v r b q (gives e more) sampled s count) (sym g.reader)
-      (subst (λ (p : Block × List Line). ComesAfter due after v r b (behind r b g.rest) (gives p.0 more) sampled s count) (sym pair) (came v r b g.rest more sampled s count (g.holds sampled) left d))
+      (subst (λ (p : Block × List Line).
+      ComesAfter due after v r b (behind r b g.rest) (gives p.0 more) sampled s count)
+      (sym pair) (came v r b g.rest more sampled s count (g.holds sampled) left d))
 
   finishes : (r : ReaderView) (c : Certificate) (s : S) → Reads r.version r.lines c → due s ≡ complete
       → verdict due after r.line (length r.given) c s ≡ answer_of (finish_of r)
@@ -260,8 +276,13 @@ module _ {S F : Type 0} (due : S → Due F) (after : S → Block → S) where
       ap (λ (x : Due F). by_due x (refused r.line Count) (λ judge. refused (r.line + suc k) Grammar)) d
       ∙ ap answer_of (sym (at_block r.version r.lines r.line (length r.given) k reads))
   finishes r (gives b more) s reads d =
-      ap (λ (x : Due F). by_due x (refused r.line Count) (λ judge. unless_broken r.line b (first_broken judge b) (verdict due after (r.line + lines_count b) (length r.given + 1) more (after s b)))) d
-      ∙ ap (λ (ls : List Line). answer_of (finished ls r.line (length r.given))) (sym (block_found r.version r.lines b reads.0 reads.1).lines_are)
+      ap (λ (x : Due F).
+      by_due x (refused r.line Count) (λ judge.
+      unless_broken r.line b (first_broken judge b)
+      (verdict due after (r.line + lines_count b) (length r.given + 1) more (after s b))))
+      d
+      ∙ ap (λ (ls : List Line). answer_of (finished ls r.line (length r.given)))
+      (sym (block_found r.version r.lines b reads.0 reads.1).lines_are)
 
   pub solving_law : SolvingLaw due after
   solving_law = record { solved = solved; refused_so = refused_so; finishes = finishes }

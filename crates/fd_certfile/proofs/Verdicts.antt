@@ -83,10 +83,14 @@ module _ {S F : Type 0} (due : S → Due F) (after : S → Block → S) where
   from_accepts (refuses k) line count s m h e = absurd h
   from_accepts (gives b more) line count s m h e =
       let rest = from_accepts more (line + lines_count b) (count + 1) (after s b) m h.3 (omega (arith, e)) in
-      ap
-      (λ (d : Due F). by_due d (refused line Count) (λ judge. unless_broken line b (first_broken judge b) (verdict due after (line + lines_count b) (count + 1) more (after s b))))
+      ap (λ (d : Due F).
+      by_due d (refused line Count) (λ judge.
+      unless_broken line b (first_broken judge b)
+      (verdict due after (line + lines_count b) (count + 1) more (after s b))))
       h.1
-      ∙ ap (λ (o : Option Broken). unless_broken line b o (verdict due after (line + lines_count b) (count + 1) more (after s b))) ((rule_law.none h.0 b).1 h.2)
+      ∙ ap (λ (o : Option Broken).
+      unless_broken line b o (verdict due after (line + lines_count b) (count + 1) more (after s b)))
+      ((rule_law.none h.0 b).1 h.2)
       ∙ rest
 
   accepts : (c : Certificate) (s : S) (count : ℕ)

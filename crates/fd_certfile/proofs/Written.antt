@@ -77,8 +77,11 @@ pub fits_block : (v : Version) (b : Block) → IsSized b → IsWritable b → Al
 fits_block v b s w =
     let small = count_fits b.size w.due.1.1.1.0 in (
       (tt, w.due),
-      all_append IsLine (numbered_lines part_line 0 b.parts) _ (fits_parts 0 b.parts (omega (arith, s.parts, small)) w.parts)
-          (all_append IsLine (numbered_lines (row_line v) 0 b.inverse) _ (fits_rows v (count_of b.size) 0 b.inverse small (omega (arith, s.rows, small)) s.entries w.inverse) (fits_acts b.acts w.acts)),
+      all_append IsLine (numbered_lines part_line 0 b.parts) _
+          (fits_parts 0 b.parts (omega (arith, s.parts, small)) w.parts)
+          (all_append IsLine (numbered_lines (row_line v) 0 b.inverse) _
+          (fits_rows v (count_of b.size) 0 b.inverse small (omega (arith, s.rows, small)) s.entries w.inverse)
+          (fits_acts b.acts w.acts)),
     )
 
 -- ---- bytes

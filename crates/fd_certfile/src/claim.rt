@@ -64,7 +64,9 @@ pub(crate) fn claimed(
     cells: Vec<i128>,
 ) -> Result<Result<Certified, Broken>, AllocError>
     requires { length cells.items ≡ size * size }
-    ensures first { IfOk result (λ t. IsBoxed net.now (boxed_claim net.now (map centre_in parts.now) (map radius_in parts.now) (map mismatch_in parts.now) (square size cells.items)) t) }
+    ensures first { IfOk result (λ t.
+        IsBoxed net.now (boxed_claim net.now (map centre_in parts.now) (map radius_in parts.now)
+        (map mismatch_in parts.now) (square size cells.items)) t) }
     ensures sound { IfOk result (λ t. IfOk t (λ m. IsSound net.now (claim_in m))) }
 {
     let ball = Ball {

@@ -35,7 +35,9 @@ fn push_entries(
     count: u128,
     fields: Fields<'_>,
 ) -> Result<bool, AllocError>
-    ensures { IfOk result (λ ok. PushesRow keep cells.old.items cells.new.items ok (row_in count (numbers_of (texts_of (option_map (λ t. t.now) fields.entry))))) }
+    ensures { IfOk result (λ ok.
+        PushesRow keep cells.old.items cells.new.items ok
+        (row_in count (numbers_of (texts_of (option_map (λ t. t.now) fields.entry))))) }
 {
     let mut rest = fields;
     for _place in 0..count {

@@ -30,7 +30,8 @@ module _ (rules : RuleLaw) (block : BlockLaw) (sound : SoundLaw) where
     hour = h.due.hour;
     round = h.due.round;
     in_range = in_range;
-    sound = sound ((plant_at s.circuit s.hour).network s.machine.at) s.number s.hour s.round (λ ball. sampled_by (outcome_in s.circuit s.machine ball)) b sized h;
+    sound = sound ((plant_at s.circuit s.hour).network s.machine.at) s.number s.hour s.round
+        (λ ball. sampled_by (outcome_in s.circuit s.machine ball)) b sized h;
     acts = h.acts;
   }
 
@@ -40,7 +41,9 @@ module _ (rules : RuleLaw) (block : BlockLaw) (sound : SoundLaw) where
       → by_due (due_in s o) otherwise (λ judge. unless_broken line b (first_broken judge b) more) ≡ accepted n
       → IsOfRound s b × (more ≡ accepted n)
   by_blame s None in_range b sized line n otherwise more h =
-      let judge : Judge = judge_of ((plant_at s.circuit s.hour).network s.machine.at) s.number s.hour s.round (λ ball. sampled_by (outcome_in s.circuit s.machine ball)) in
+      let judge : Judge =
+      judge_of ((plant_at s.circuit s.hour).network s.machine.at) s.number s.hour s.round
+      (λ ball. sampled_by (outcome_in s.circuit s.machine ball)) in
       let both = none_broken line n b (first_broken judge b) more h in
       (of_round s b sized in_range ((rules.none judge b).0 both.0), both.1)
   by_blame s (Some blame) in_range b sized line n otherwise more h = absurd (let no : ⊥ = cc in no)
@@ -62,14 +65,21 @@ module _ (rules : RuleLaw) (block : BlockLaw) (sound : SoundLaw) where
       let both = by_blame s ((plant_at s.circuit s.hour).blame s.machine.at) refl b sized line n _ _ h in
       (both.0, accepted_blocks c v reads.0 (line + lines_count b) (count + 1) n (after (under_way s) b) reads.2 both.1)
   accepted_blocks ends v lines line count n done reads h = refl
-  accepted_blocks ends v lines line count n (under_way s) reads h = absurd (never_by s ((plant_at s.circuit s.hour).blame s.machine.at) n (accepted count) (refused line rule.Count) (not_refused line n rule.Count) h)
+  accepted_blocks ends v lines line count n (under_way s) reads h =
+      absurd (never_by s ((plant_at s.circuit s.hour).blame s.machine.at) n (accepted count) (refused line rule.Count)
+      (not_refused line n rule.Count) h)
   accepted_blocks trails v lines line count n done reads h = absurd (not_refused (line + 1) n rule.Grammar h)
-  accepted_blocks trails v lines line count n (under_way s) reads h = absurd (never_by s ((plant_at s.circuit s.hour).blame s.machine.at) n (refused (line + 1) rule.Grammar) (refused line rule.Count) (not_refused line n rule.Count) h)
+  accepted_blocks trails v lines line count n (under_way s) reads h =
+      absurd (never_by s ((plant_at s.circuit s.hour).blame s.machine.at) n (refused (line + 1) rule.Grammar)
+      (refused line rule.Count) (not_refused line n rule.Count) h)
   accepted_blocks (refuses zero) v lines line count n done reads h = absurd (not_refused line n rule.Grammar h)
-  accepted_blocks (refuses zero) v lines line count n (under_way s) reads h = absurd (never_by s ((plant_at s.circuit s.hour).blame s.machine.at) n (refused line rule.Grammar) (refused line rule.Grammar) (not_refused line n rule.Grammar) h)
+  accepted_blocks (refuses zero) v lines line count n (under_way s) reads h =
+      absurd (never_by s ((plant_at s.circuit s.hour).blame s.machine.at) n (refused line rule.Grammar)
+      (refused line rule.Grammar) (not_refused line n rule.Grammar) h)
   accepted_blocks (refuses (suc k)) v lines line count n done reads h = absurd (not_refused line n rule.Count h)
   accepted_blocks (refuses (suc k)) v lines line count n (under_way s) reads h =
-      absurd (never_by s ((plant_at s.circuit s.hour).blame s.machine.at) n (refused line rule.Count) (refused (line + suc k) rule.Grammar) (not_refused (line + suc k) n rule.Grammar) h)
+      absurd (never_by s ((plant_at s.circuit s.hour).blame s.machine.at) n (refused line rule.Count)
+      (refused (line + suc k) rule.Grammar) (not_refused (line + suc k) n rule.Grammar) h)
 
   pub accepted_so : AcceptedLaw
   accepted_so v lines line count n c s reads h = accepted_blocks c v lines line count n s reads h

@@ -32,13 +32,17 @@ use Rattle.fd_check.specs.Comes.{Comes, Leads}
 pub same_outcome : (c : CircuitView) (v : NetworkView) (m : Machine) (b : Block)
     → outcome_of (setup_of c) m (look_over (controls_in c) m.at (claim_on v b)) ≡ outcome_in c m (ball_of b)
 same_outcome c v m b =
-    let radii : map (λ (p : blocks.Part). nat_abs p.radius) b.parts ≡ map nat_abs (ball_of b).radii = sym (map-map nat_abs (λ (p : blocks.Part). p.radius) b.parts) in
+    let radii : map (λ (p : blocks.Part). nat_abs p.radius) b.parts ≡ map nat_abs (ball_of b).radii =
+    sym (map-map nat_abs (λ (p : blocks.Part). p.radius) b.parts) in
     ap (λ (rs : List ℕ). outcome_of (setup_of c) m (sampling_of 0 (map (λ p. sample_over p m.at (ball_of b).centre rs) (controls_in c)))) radii
 
 -- ---- the rules on a block's acts, by its samples
 
 abbrev broken_by : Sampled → List blocks.Act → Option Broken
-broken_by sampled acts = first_some (unless rule.Undecided behind_rows (not (is_undecided sampled)) ∷ unless rule.Acts behind_rows (pointwise same_act (acts_due sampled) acts) ∷ unless rule.ControlLimit behind_rows (not (is_limit sampled)) ∷ [])
+broken_by sampled acts =
+    first_some (unless rule.Undecided behind_rows (not (is_undecided sampled))
+    ∷ unless rule.Acts behind_rows (pointwise same_act (acts_due sampled) acts)
+    ∷ unless rule.ControlLimit behind_rows (not (is_limit sampled)) ∷ [])
 
 abbrev broken : Rule → Option Broken
 broken r = Some (record { rule = r; place = behind_rows })
@@ -114,10 +118,12 @@ module _ (law : CertificateLaw) (given_law : GivenLaw) (solving : SolvingLaw due
   comes_by answer h =
       let c : Certificate = gives b h.certificate in
       let reads : Reads r.version r.lines c = (is.rest, is.block, subst (λ (u : ReaderView). Reads u.version u.lines h.certificate) is.reader h.reads) in
-      let from : ComesAfter due after net r b w c samples (under_way s) (length r.given) = solving.solved net r b w c samples (under_way s) (length r.given) solved reads asked in
+      let from : ComesAfter due after net r b w c samples (under_way s) (length r.given) =
+      solving.solved net r b w c samples (under_way s) (length r.given) solved reads asked in
       let rest : h.certificate ≡ from.rest = same_rest b b h.certificate from.rest from.gives_is in
       let there : answer ≡ verdict due after w.line (length r.given + 1) from.rest next =
-      h.answer_is ∙ ap (λ (n : ℕ). verdict due after w.line n h.certificate next) longer ∙ ap (λ (x : Certificate). verdict due after w.line (length r.given + 1) x next) rest in
+      h.answer_is ∙ ap (λ (n : ℕ). verdict due after w.line n h.certificate next) longer
+      ∙ ap (λ (x : Certificate). verdict due after w.line (length r.given + 1) x next) rest in
       record {
         certificate = c;
         reads = reads;
@@ -147,7 +153,9 @@ module _ (law : CertificateLaw) (given_law : GivenLaw) (solving : SolvingLaw due
   pub moved_unlike : (acts : List Act) (m : Machine) → outcome_in s.circuit s.machine (ball_of b) ≡ Moves acts m
       → pointwise same_act (map act_due acts) b.acts ≡ false
       → Comes r (under_way s) (refused given_so.rule_line rule.Acts)
-  moved_unlike acts m is_so unlike = refused_by rule.Acts (ap (λ (o : Outcome). broken_by (sampled_by o) b.acts) is_so ∙ moves_unlike (map act_due acts) b.acts unlike)
+  moved_unlike acts m is_so unlike =
+      refused_by rule.Acts
+      (ap (λ (o : Outcome). broken_by (sampled_by o) b.acts) is_so ∙ moves_unlike (map act_due acts) b.acts unlike)
 
   pub settled_alike : (m : Machine) → outcome_in s.circuit s.machine (ball_of b) ≡ Ends Settled m
       → pointwise same_act [] b.acts ≡ true

@@ -86,8 +86,10 @@ same_fault r begun number hour same s (fault.Refused line k) h = same_reader r b
 same_fault r begun number hour same s (fault.Range blame) h = same_reader r begun number hour same s (stopped blame) h
 same_fault r begun number hour same s fault.NoMemory h = tt
 
-module _ (law : CertificateLaw) (s : Settling) (r begun w : ReaderView) (same : begun ≡ record r { number = s.number; hour = s.hour; round = 0 }) (first : s.round ≡ 0)
-    (rounds : List Round) (ended : Result (Unit {0}) (SettleFault CertFileFault)) (run : IsRun (plant_in s) s.machine rounds ended begun w) where
+module _ (law : CertificateLaw) (s : Settling) (r begun w : ReaderView)
+    (same : begun ≡ record r { number = s.number; hour = s.hour; round = 0 }) (first : s.round ≡ 0)
+    (rounds : List Round) (ended : Result (Unit {0}) (SettleFault CertFileFault))
+    (run : IsRun (plant_in s) s.machine rounds ended begun w) where
   abbrev left : Machine
   left = (settled (plant_in s) s.machine rounds).machine
 
@@ -117,7 +119,10 @@ module _ (law : CertificateLaw) (s : Settling) (r begun w : ReaderView) (same : 
       where
         by : (x : Result (Unit {0}) CheckFault) → HourSays s begun w left x
             → OnOk x (Leads r (under_way s) w (Next at opened))
-        by (Ok t) h = λ answer k. same_reader r begun s.number s.hour same (under_way s) answer (h answer (subst (λ (o : List (Option ℕ)). Comes w (Next left.at o) answer) opened_is (subst (λ (x : Positions). Comes w (Next x opened) answer) at_is k)))
+        by (Ok t) h = λ answer k.
+            same_reader r begun s.number s.hour same (under_way s) answer
+            (h answer (subst (λ (o : List (Option ℕ)). Comes w (Next left.at o) answer) opened_is
+            (subst (λ (x : Positions). Comes w (Next x opened) answer) at_is k)))
         by (Err e) h = tt
 
     pub hour_refused : IfErr result (λ fault. Tells fault (λ answer. Comes r (under_way s) answer))
@@ -144,7 +149,10 @@ module _ (law : CertificateLaw) (s : Settling) (r w : ReaderView) (number : r.nu
       (counted run.acts run.calls, closed_rounds (plant_in s) s.machine rounds _ run.ends (not_undecided control _))
   are_given (Err (settle.ControlLimit n)) run = (counted run.acts run.calls, closed_rounds (plant_in s) s.machine rounds _ run.ends.0 not_limited)
   are_given (Err (settle.Range blame)) run = counted run.acts run.calls
-  are_given (Err (settle.Solver (file.Refused line k))) run = counted run.acts (subst (λ (x : ReaderView). AreCalls gives_solved (plant_in s) r s.machine (claims_in rounds) x) (sym run.calls.last.1) run.calls.calls)
+  are_given (Err (settle.Solver (file.Refused line k))) run =
+      counted run.acts
+      (subst (λ (x : ReaderView). AreCalls gives_solved (plant_in s) r s.machine (claims_in rounds) x)
+      (sym run.calls.last.1) run.calls.calls)
   are_given (Err (settle.Solver file.NoMemory)) run = tt
   are_given (Err settle.NoMemory) run = tt
 

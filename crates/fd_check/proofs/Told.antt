@@ -40,7 +40,8 @@ use Rattle.fd_check.proofs.Walks.{ByActs, ByEnd, Walk, acts_due_in, decided, giv
 pub made_due : (rounds : List Round) → map acts_made rounds ≡ acts_due_in (acts_in rounds)
 made_due rounds =
     let each : (r : Round) → acts_made r ≡ map act_due (map seen r.acts.items) = λ r. sym (map-map act_due seen r.acts.items) in
-    ap (λ (f : Round → List blocks.Act). map f rounds) (λ i r. each r i) ∙ sym (map-map (λ (acts : List Act). map act_due acts) (λ (r : Round). map seen r.acts.items) rounds)
+    ap (λ (f : Round → List blocks.Act). map f rounds) (λ i r. each r i)
+    ∙ sym (map-map (λ (acts : List Act). map act_due acts) (λ (r : Round). map seen r.acts.items) rounds)
 
 pub before_last_map : {X Y : Type 0} (f : X → Y) (xs : List X) → map f (before_last xs) ≡ before_last (map f xs)
 before_last_map f xs = sym (take-map f (length xs - 1) xs) ∙ ap (λ (n : ℕ). take (n - 1) (map f xs)) (sym (length-map xs f))
@@ -75,13 +76,22 @@ module _ (law : CertificateLaw) (solving : SolvingLaw due after) (s : Settling) 
 
   asked : due (under_way s) ≡ asks (judge_in ((plant_in s).network s.machine.at) r samples_in)
   unfolding samples_in
-  asked = ap (due_in s) in_range ∙ (λ i. asks (judge_of ((plant_in s).network s.machine.at) (sym number i) (sym hour i) (sym round i) (λ ball. sampled_by (outcome_in s.circuit s.machine ball))))
+  asked =
+      ap (due_in s) in_range
+      ∙ (λ i.
+      asks (judge_of ((plant_in s).network s.machine.at) (sym number i) (sym hour i) (sym round i) (λ ball.
+      sampled_by (outcome_in s.circuit s.machine ball))))
 
   refused_there : (line : ℕ) (k : Rule) → solved_of ((plant_in s).network s.machine.at) r ≡ Err (line, k)
       → Comes r (under_way s) (refused line k)
   refused_there line k h =
       let some = law.some r.version r.lines in
-      record { certificate = some.0; reads = some.1; answer_is = sym (solving.refused_so ((plant_in s).network s.machine.at) r line k some.0 samples_in (under_way s) (length r.given) h some.1 asked) }
+      record {
+        certificate = some.0;
+        reads = some.1;
+        answer_is = sym (solving.refused_so ((plant_in s).network s.machine.at) r line k some.0 samples_in
+            (under_way s) (length r.given) h some.1 asked);
+      }
 
 -- ---- an hour
 
@@ -96,8 +106,9 @@ says : (s : Settling) (r w : ReaderView) (m : Machine) (end : End) (otherwise : 
 says s r w m end otherwise f None h = f h
 says s r w m end otherwise f (Some line) h = h
 
-module _ (law : CertificateLaw) (given_law : GivenLaw) (solving : SolvingLaw due after) (s : Settling) (r : ReaderView) (number : r.number ≡ s.number) (hour : r.hour ≡ s.hour) (round : r.round ≡ s.round) (rounds : List Round)
-    (acts : acts_in rounds ≡ (settle_from s (claims_in rounds) s.machine).rounds) where
+module _ (law : CertificateLaw) (given_law : GivenLaw) (solving : SolvingLaw due after) (s : Settling)
+    (r : ReaderView) (number : r.number ≡ s.number) (hour : r.hour ≡ s.hour) (round : r.round ≡ s.round)
+    (rounds : List Round) (acts : acts_in rounds ≡ (settle_from s (claims_in rounds) s.machine).rounds) where
   abbrev made : Settle
   made = settle_from s (claims_in rounds) s.machine
 
@@ -137,27 +148,38 @@ module _ (law : CertificateLaw) (given_law : GivenLaw) (solving : SolvingLaw due
         → HourSays s r w made.machine (unless_unlike (first_unlike (map acts_made rounds) (drop (length r.given) w.given)) otherwise)
     told_all end otherwise all e f =
         let same : acts_due_in (decided end made.rounds) ≡ map acts_made rounds = ap acts_due_in all ∙ sym all_due in
-        says s r w made.machine end otherwise f _ (subst (λ (l : List (List blocks.Act)). ByActs s r w made.machine end (first_unlike l (drop (length r.given) w.given))) same (comes end e))
+        says s r w made.machine end otherwise f _
+        (subst (λ (l : List (List blocks.Act)).
+        ByActs s r w made.machine end (first_unlike l (drop (length r.given) w.given)))
+        same (comes end e))
 
     told_undecided : (k : ℕ) (u : _) → made.end ≡ Undecidable k u
-        → HourSays s r w made.machine (unless_unlike (first_unlike (map acts_made (before_last rounds)) (drop (length r.given) w.given)) (Err (fault.Refused (last_line w) rule.Undecided)))
+        → HourSays s r w made.machine
+        (unless_unlike (first_unlike (map acts_made (before_last rounds)) (drop (length r.given) w.given))
+        (Err (fault.Refused (last_line w) rule.Undecided)))
     told_undecided k u e =
         let same : acts_due_in (before_last made.rounds) ≡ map acts_made (before_last rounds) =
         before_last_map (λ (q : List Act). map act_due q) made.rounds ∙ ap before_last (sym all_due) ∙ sym (before_last_map acts_made rounds) in
-        says s r w made.machine (Undecidable k u) (Err (fault.Refused (last_line w) rule.Undecided)) (λ h. h) _ (subst (λ (l : List (List blocks.Act)). ByActs s r w made.machine (Undecidable k u) (first_unlike l (drop (length r.given) w.given))) same (comes (Undecidable k u) e))
+        says s r w made.machine (Undecidable k u) (Err (fault.Refused (last_line w) rule.Undecided)) (λ h. h) _
+        (subst (λ (l : List (List blocks.Act)).
+        ByActs s r w made.machine (Undecidable k u) (first_unlike l (drop (length r.given) w.given)))
+        same (comes (Undecidable k u) e))
 
     -- the settle goes on, and the network of the next round is out of range
     range_there : (blame : Blame) → (plant_in s).blame made.machine.at ≡ Some blame → ByEnd s r w made.machine Open
         → HourSays s r w made.machine (Err (fault.Range blame))
     range_there blame h leads =
-        leads (stopped blame) (stopped_there law w (under_way (record s { round = w.round; machine = made.machine })) blame (ap (due_in (record s { round = w.round; machine = made.machine })) h))
+        leads (stopped blame) (stopped_there law w (under_way (record s { round = w.round; machine = made.machine }))
+        blame (ap (due_in (record s { round = w.round; machine = made.machine })) h))
 
     -- or the reader refuses its block
     solver_there : (line : ℕ) (k : Rule) → (plant_in s).blame made.machine.at ≡ None
         → solved_of ((plant_in s).network made.machine.at) w ≡ Err (line, k) → ByEnd s r w made.machine Open
         → HourSays s r w made.machine (Err (fault.Refused line k))
-    solver_there line k in_range h leads =
-        leads (refused line k) (refused_there law solving (record s { round = w.round; machine = made.machine }) w (way w calls).number (way w calls).hour refl in_range line k h)
+    solver_there line k in_range h leads = leads (refused line k) (refused_there law solving (record s {
+      round = w.round;
+      machine = made.machine;
+    }) w (way w calls).number (way w calls).hour refl in_range line k h)
 
   pub hour_says : (ended : Result (Unit {0}) (SettleFault CertFileFault)) (w : ReaderView)
       → CallsAs gives_solved (plant_in s) r s.machine rounds ended w → EndsAs (plant_in s) ended made.end made.machine
@@ -168,7 +190,8 @@ module _ (law : CertificateLaw) (given_law : GivenLaw) (solving : SolvingLaw due
   hour_says (Err (settle.Range blame)) w calls end = told_all w calls Open (Err (fault.Range blame)) refl end.0 (range_there w calls blame end.1)
   hour_says (Err (settle.Solver (file.Refused line k))) w last end =
       let calls : Calls w = subst Calls (sym last.last.1) last.calls in
-      told_all w calls Open (Err (fault.Refused line k)) refl end
-      (solver_there w calls line k last.in_range (subst (λ (x : ReaderView). solved_of ((plant_in s).network made.machine.at) x ≡ Err (line, k)) (sym last.last.1) last.last.0))
+      told_all w calls Open (Err (fault.Refused line k)) refl end (solver_there w calls line k last.in_range
+      (subst (λ (x : ReaderView). solved_of ((plant_in s).network made.machine.at) x ≡ Err (line, k))
+      (sym last.last.1) last.last.0))
   hour_says (Err (settle.Solver file.NoMemory)) w calls end = tt
   hour_says (Err settle.NoMemory) w calls end = tt

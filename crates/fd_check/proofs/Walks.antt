@@ -113,7 +113,9 @@ pub record Walk (s : Settling) (r w : ReaderView) (count : ℕ) (x : Settle) : T
 last_given : (r w : ReaderView) (g : GivenBlock) → w.given ≡ r.given ++ g ∷ [] → last_line w ≡ g.rule_line
 last_given r w g h =
     let place : length w.given - 1 ≡ length r.given = omega (arith, ap length h, length-append r.given (g ∷ [])) in
-    ap (λ (k : GivenBlock). k.rule_line) (ap (λ (n : ℕ). get_or w.given n no_block) place ∙ ap (λ (l : List GivenBlock). get_or l (length r.given) no_block) h ∙ get_or-append_seam r.given g [] no_block)
+    ap (λ (k : GivenBlock). k.rule_line) (ap (λ (n : ℕ). get_or w.given n no_block) place
+    ∙ ap (λ (l : List GivenBlock). get_or l (length r.given) no_block) h
+    ∙ get_or-append_seam r.given g [] no_block)
 
 abbrev pub plant_in : Settling → Plant
 plant_in s = plant_at s.circuit s.hour
@@ -143,7 +145,10 @@ module _ (law : CertificateLaw) (given_law : GivenLaw) (solving : SolvingLaw due
 
     here : (o : Outcome) → outcome_of p.setup s.machine (p.look s.machine.at x) ≡ o
         → outcome_in s.circuit s.machine (ball_of b) ≡ o
-    here o e = sym (same_outcome s.circuit (p.network s.machine.at) s.machine b) ∙ ap (λ (k : Claim). outcome_of p.setup s.machine (p.look s.machine.at k)) (sym one.claim) ∙ e
+    here o e =
+        sym (same_outcome s.circuit (p.network s.machine.at) s.machine b)
+        ∙ ap (λ (k : Claim). outcome_of p.setup s.machine (p.look s.machine.at k)) (sym one.claim)
+        ∙ e
 
     found : IsGiven (p.network s.machine.at) r b u
     found = is law given_law solving s r b u number hour round in_range one.solved
@@ -165,14 +170,23 @@ module _ (law : CertificateLaw) (given_law : GivenLaw) (solving : SolvingLaw due
       moved_by : (t : Bool) → pointwise same_act (map act_due acts) b.acts ≡ t
           → ByActs s r w (rest n).machine (rest n).end (first_unlike (acts_due_in (decided (rest n).end (acts ∷ (rest n).rounds))) (g ∷ more.blocks))
       moved_by t h =
-          let first : first_unlike (acts_due_in (decided (rest n).end (acts ∷ (rest n).rounds))) (g ∷ more.blocks) ≡ (if t then first_unlike (acts_due_in (decided (rest n).end (rest n).rounds)) more.blocks else Some g.rule_line) =
-          ap (λ (l : List (List Act)). first_unlike (acts_due_in l) (g ∷ more.blocks)) (decided_more p.setup p.look n xs acts)
-          ∙ ap (λ (y : Bool). if y then first_unlike (acts_due_in (decided (rest n).end (rest n).rounds)) more.blocks else Some g.rule_line) h in
+          let first : first_unlike (acts_due_in (decided (rest n).end (acts ∷ (rest n).rounds))) (g ∷ more.blocks)
+          ≡ (if t then first_unlike (acts_due_in (decided (rest n).end (rest n).rounds)) more.blocks
+          else Some g.rule_line) =
+          ap (λ (l : List (List Act)). first_unlike (acts_due_in l) (g ∷ more.blocks))
+          (decided_more p.setup p.look n xs acts)
+          ∙ ap (λ (y : Bool). if y then first_unlike (acts_due_in (decided (rest n).end (rest n).rounds)) more.blocks
+          else Some g.rule_line) h in
           subst (ByActs s r w (rest n).machine (rest n).end) (sym first) (by t h)
         where
           by : (t : Bool) → pointwise same_act (map act_due acts) b.acts ≡ t
-              → ByActs s r w (rest n).machine (rest n).end (if t then first_unlike (acts_due_in (decided (rest n).end (rest n).rounds)) more.blocks else Some g.rule_line)
-          by true alike = carry s r u (s.round + 1) n (moved_alike law given_law solving s r b u number hour round in_range one.solved acts n (here (Moves acts n) e) alike) w (rest n).machine (rest n).end
+              → ByActs s r w (rest n).machine (rest n).end
+              (if t then first_unlike (acts_due_in (decided (rest n).end (rest n).rounds)) more.blocks
+              else Some g.rule_line)
+          by true alike =
+              carry s r u (s.round + 1) n (moved_alike law given_law solving s r b u number hour round in_range
+              one.solved acts n (here (Moves acts n) e) alike)
+              w (rest n).machine (rest n).end
               (first_unlike (acts_due_in (decided (rest n).end (rest n).rounds)) more.blocks) more.comes
           by false unlike = moved_unlike law given_law solving s r b u number hour round in_range one.solved acts n (here (Moves acts n) e) unlike
 
@@ -212,17 +226,26 @@ module _ (law : CertificateLaw) (given_law : GivenLaw) (solving : SolvingLaw due
       where
         by : (t : Bool) → pointwise same_act [] b.acts ≡ t
             → ByActs s r w n Settled (if t then None else Some g.rule_line)
-        by true alike = subst (λ (k : ReaderView). Leads r (under_way s) k (open_hours s.circuit s.more s.hours n.at n.opened s.number (λ left count. open_solves s.more left count))) (sym none)
-            (settled_alike law given_law solving s r b u number hour round in_range one.solved n (here (Ends Settled n) e) alike)
+        by true alike =
+            subst (λ (k : ReaderView).
+            Leads r (under_way s) k (open_hours s.circuit s.more s.hours n.at n.opened s.number (λ left count.
+            open_solves s.more left count)))
+            (sym none) (settled_alike law given_law solving s r b u number hour round in_range one.solved n
+            (here (Ends Settled n) e) alike)
         by false unlike = settled_unlike law given_law solving s r b u number hour round in_range one.solved n (here (Ends Settled n) e) unlike
     ended_by Limited n none e = by (pointwise same_act [] b.acts) refl
       where
         by : (t : Bool) → pointwise same_act [] b.acts ≡ t
             → ByActs s r w n Limited (if t then None else Some g.rule_line)
-        by true alike = subst (λ (line : ℕ). Comes r (under_way s) (refused line rule.ControlLimit)) (sym (last_is Limited n none)) (limited_alike law given_law solving s r b u number hour round in_range one.solved n (here (Ends Limited n) e) alike)
+        by true alike =
+            subst (λ (line : ℕ). Comes r (under_way s) (refused line rule.ControlLimit))
+            (sym (last_is Limited n none)) (limited_alike law given_law solving s r b u number hour round in_range
+            one.solved n (here (Ends Limited n) e) alike)
         by false unlike = limited_unlike law given_law solving s r b u number hour round in_range one.solved n (here (Ends Limited n) e) unlike
     ended_by (Undecidable k i) n none e =
-        subst (λ (line : ℕ). Comes r (under_way s) (refused line rule.Undecided)) (sym (last_is (Undecidable k i) n none)) (undecided_there law given_law solving s r b u number hour round in_range one.solved k i n (here (Ends (Undecidable k i) n) e))
+        subst (λ (line : ℕ). Comes r (under_way s) (refused line rule.Undecided))
+        (sym (last_is (Undecidable k i) n none)) (undecided_there law given_law solving s r b u number hour round
+        in_range one.solved k i n (here (Ends (Undecidable k i) n) e))
 
   -- no call comes behind the round with which a settle ends
   end_calls : (plant : Plant) (u w : ReaderView) (n : Machine) (x : Claim) (xs : List Claim) → 1 ≡ length (x ∷ xs)
@@ -247,19 +270,26 @@ module _ (law : CertificateLaw) (given_law : GivenLaw) (solving : SolvingLaw due
       → length (settle_from s xs s.machine).rounds ≡ length xs
       → Walk s r w (length xs) (settle_from s xs s.machine)
   walk [] s r w number hour round calls long = walk_nothing s r w number hour round calls
-  walk (x ∷ xs) s r w number hour round calls long = by (outcome_of (plant_in s).setup s.machine ((plant_in s).look s.machine.at x)) refl calls.1.1.1 long (λ t v a b c d e. walk xs t v w a b c d e)
+  walk (x ∷ xs) s r w number hour round calls long =
+      by (outcome_of (plant_in s).setup s.machine ((plant_in s).look s.machine.at x)) refl calls.1.1.1 long
+      (λ t v a b c d e. walk xs t v w a b c d e)
     where
       by : (o : Outcome) → outcome_of (plant_in s).setup s.machine ((plant_in s).look s.machine.at x) ≡ o
           → AreCalls gives_solved (plant_in s) calls.0 (left_by o) xs w
           → length (before_rest o (λ n. settle_from s xs n)).rounds ≡ length (x ∷ xs)
-          → ((t : Settling) (v : ReaderView) → v.number ≡ t.number → v.hour ≡ t.hour → v.round ≡ t.round → AreCalls gives_solved (plant_in t) v t.machine xs w → length (settle_from t xs t.machine).rounds ≡ length xs
+          → ((t : Settling) (v : ReaderView) → v.number ≡ t.number → v.hour ≡ t.hour → v.round ≡ t.round
+          → AreCalls gives_solved (plant_in t) v t.machine xs w
+          → length (settle_from t xs t.machine).rounds ≡ length xs
           → Walk t v w (length xs) (settle_from t xs t.machine))
           → Walk s r w (length (x ∷ xs)) (before_rest o (λ n. settle_from s xs n))
       by (Ends end n) e more long_so again =
           let none = end_calls (plant_in s) calls.0 w n x xs long_so more in
-          ended_walk s r calls.0 w x xs number hour round calls.1.0 calls.1.1.0 end n none long_so (ended_by s r calls.0 w x xs number hour round calls.1.0 calls.1.1.0 end n none e)
+          ended_walk s r calls.0 w x xs number hour round calls.1.0 calls.1.1.0 end n none long_so
+          (ended_by s r calls.0 w x xs number hour round calls.1.0 calls.1.1.0 end n none e)
       by (Moves acts n) e more long_so again =
-          moved_walk s r calls.0 w x xs number hour round calls.1.0 calls.1.1.0 acts n e
-          (again (record s { round = s.round + 1; machine = n }) calls.0
-          (number_there s r calls.0 w x xs number hour round calls.1.0 calls.1.1.0) (hour_there s r calls.0 w x xs number hour round calls.1.0 calls.1.1.0) (round_there s r calls.0 w x xs number hour round calls.1.0 calls.1.1.0)
-          more (omega (arith, long_so)))
+          moved_walk s r calls.0 w x xs number hour round calls.1.0 calls.1.1.0 acts n e (again (record s {
+            round = s.round + 1;
+            machine = n;
+          }) calls.0 (number_there s r calls.0 w x xs number hour round calls.1.0 calls.1.1.0)
+          (hour_there s r calls.0 w x xs number hour round calls.1.0 calls.1.1.0)
+          (round_there s r calls.0 w x xs number hour round calls.1.0 calls.1.1.0) more (omega (arith, long_so)))

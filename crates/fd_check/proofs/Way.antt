@@ -39,8 +39,8 @@ each_err (Err f) P h = h
 -- before hours of which the first has a network that is refused
 pub refused_first : CertificateLaw
     → (now : ReaderView) (c : CircuitView) (more : List CircuitView) (hours : List ℕ) (at : Positions)
-    (opened : List (Option ℕ)) (n : ℕ)
-    (behind : Positions → ℕ → Checking) (f : BuildFault) → IsRefusedAt c hours at f → Tells (by_network f) (Comes now (open_hours c more hours at opened n behind))
+    (opened : List (Option ℕ)) (n : ℕ) (behind : Positions → ℕ → Checking) (f : BuildFault)
+    → IsRefusedAt c hours at f → Tells (by_network f) (Comes now (open_hours c more hours at opened n behind))
 refused_first law now c more [] at opened n behind (build_fault.Range blame) h = absurd (cc h)
 refused_first law now c more (hour ∷ hours) at opened n behind (build_fault.Range blame) h =
     let s : Settling = record {
@@ -97,7 +97,9 @@ module _ (c : CircuitView) (r : ReaderView) (s : List CircuitView → Checking) 
   pub way_done : (now : ReaderView) (at : CodePositions) (d : DayView) (n : ℕ) → IsWay now at d n → hours_left d ≡ []
       → LeadsForAll r s now (solves_open [] at n)
   way_done now at d n way none more answer h =
-      way.leads more answer (subst (λ (l : List ℕ). Comes now (open_hours c more l (positions_in at) d.opened n (λ left count. open_solves more left count)) answer) (sym none) h)
+      way.leads more answer (subst (λ (l : List ℕ).
+      Comes now (open_hours c more l (positions_in at) d.opened n (λ left count. open_solves more left count)) answer)
+      (sym none) h)
 
 -- ---- the first hour
 

@@ -89,7 +89,9 @@ open_solves (c ∷ more) at n = open_hours c more (hours_of c.options) (start_fr
 
 -- where the network is in range a block, judged there; else the fault of the script
 abbrev pub due_in : Settling → Option Blame → Due Blame
-due_in s None = asks (judge_of ((plant_at s.circuit s.hour).network s.machine.at) s.number s.hour s.round (λ ball. sampled_by (outcome_in s.circuit s.machine ball)))
+due_in s None =
+    asks (judge_of ((plant_at s.circuit s.hour).network s.machine.at) s.number s.hour s.round
+    (λ ball. sampled_by (outcome_in s.circuit s.machine ball)))
 due_in s (Some blame) = stops blame
 
 abbrev pub due : Checking → Due Blame

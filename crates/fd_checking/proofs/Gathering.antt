@@ -130,7 +130,11 @@ solve_is : (place : Place) (v : Verb) (r : Result CircuitView ModelFault) (c : C
     → left_of place v r ≡ solve_left c → HasPassed c → IsLeft v r c (c ∷ [])
 solve_is place v (Err f) c h passed = absurd (let no : ⊥ = cc in no)
 solve_is place verb.Bases (Ok x) c h passed = absurd (let no : ⊥ = cc in no)
-solve_is place (verb.Solve pairs) (Ok x) c h passed = record { taken = ap Ok (same_solve x c h); accepted = subst HasPassed (sym (same_solve x c h)) passed; solves_are = refl }
+solve_is place (verb.Solve pairs) (Ok x) c h passed = record {
+  taken = ap Ok (same_solve x c h);
+  accepted = subst HasPassed (sym (same_solve x c h)) passed;
+  solves_are = refl;
+}
 solve_is place (verb.New class name pairs) (Ok x) c h passed = absurd (let no : ⊥ = cc in no)
 solve_is place (verb.Edit class name pairs) (Ok x) c h passed = absurd (let no : ⊥ = cc in no)
 solve_is place (verb.Set pairs) (Ok x) c h passed = absurd (let no : ⊥ = cc in no)
@@ -167,13 +171,16 @@ module _ (command : Command) (old new : CircuitView) where
       → GoesOn a → StepTo solved name (solved ++ solve_in command old)
   kept_step solved name answer.Done h on =
       with_solve solved name [] (nothing_is command.place command.verb (applied command old) new h)
-      (subst (λ (l : Applied). IsGatheredOf solved name l (goes [] (gathered new (solved ++ []) name))) (sym h) (ap (λ (l : List CircuitView). goes [] (gathered new l name)) (append-nil solved)))
+      (subst (λ (l : Applied). IsGatheredOf solved name l (goes [] (gathered new (solved ++ []) name))) (sym h)
+      (ap (λ (l : List CircuitView). goes [] (gathered new l name)) (append-nil solved)))
   kept_step solved name answer.Bases h on =
       with_solve solved name [] (bases_is command.place command.verb (applied command old) new h)
-      (subst (λ (l : Applied). IsGatheredOf solved name l (goes [] (gathered new (solved ++ []) name))) (sym h) (ap (λ (l : List CircuitView). goes [] (gathered new l name)) (append-nil solved)))
+      (subst (λ (l : Applied). IsGatheredOf solved name l (goes [] (gathered new (solved ++ []) name))) (sym h)
+      (ap (λ (l : List CircuitView). goes [] (gathered new l name)) (append-nil solved)))
   kept_step solved name answer.Solves h on =
       with_solve solved name (new ∷ []) (solve_is command.place command.verb (applied command old) new h.0 h.1)
-      (subst (λ (l : Applied). IsGatheredOf solved name l (goes [] (gathered new (solved ++ new ∷ []) name))) (sym h.0) (record { answer = Ok tt; right = h.1; step_is = refl }))
+      (subst (λ (l : Applied). IsGatheredOf solved name l (goes [] (gathered new (solved ++ new ∷ []) name)))
+      (sym h.0) (record { answer = Ok tt; right = h.1; step_is = refl }))
   kept_step solved name (answer.Refuses f) h on = absurd on
 
   -- the run ends with this fault
@@ -182,7 +189,10 @@ module _ (command : Command) (old new : CircuitView) where
   refused_by (nothing_left c) f h solved name = absurd h
   refused_by (bases_left c) f h solved name = absurd h
   refused_by (refused_at place x) f h solved name = (ap (λ (g : Fault). ends [] g) h, subst IsOfCommand (sym h) tt)
-  refused_by (solve_left c) f h solved name = (record { answer = Err h.blame; right = h.right; step_is = ap (λ (g : Fault). ends [] g) h.fault_is }, subst IsOfCommand (sym h.fault_is) tt)
+  refused_by (solve_left c) f h solved name = (
+    record { answer = Err h.blame; right = h.right; step_is = ap (λ (g : Fault). ends [] g) h.fault_is },
+    subst IsOfCommand (sym h.fault_is) tt,
+  )
 
   pub refused_step : (f : Fault) → IsAnswered (tried command old) new (answer.Refuses f)
       → (solved : List CircuitView) (name : List ℕ)
@@ -231,10 +241,12 @@ module _ (command : Command) (old new : CircuitView) where
           sym (ap (λ (r : Result CircuitView ModelFault). circuit_by r old) t.taken)
           ∙ ap (behind_one command) g.circuit_is
           ∙ sym (behind_more empty_circuit commands command);
-      accepted = accepted_more empty_circuit commands command g.accepted (subst HasRoom g.circuit_is (room_of room)) (subst (λ (c : CircuitView). IsAcceptedBy command.verb (applied command c)) g.circuit_is t.accepted);
-      solves =
-          let more : length (solved_by (commands ++ command ∷ [])) ≡ length (solved_by commands) + length (solve_in command (behind_all empty_circuit commands)) =
-          ap length (solves_more empty_circuit commands command) ∙ length-append (solved_by commands) (solve_in command (behind_all empty_circuit commands)) in
+      accepted = accepted_more empty_circuit commands command g.accepted (subst HasRoom g.circuit_is (room_of room))
+          (subst (λ (c : CircuitView). IsAcceptedBy command.verb (applied command c)) g.circuit_is t.accepted);
+      solves = let more : length (solved_by (commands ++ command ∷ []))
+          ≡ length (solved_by commands) + length (solve_in command (behind_all empty_circuit commands)) =
+          ap length (solves_more empty_circuit commands command)
+          ∙ length-append (solved_by commands) (solve_in command (behind_all empty_circuit commands)) in
           let one = few_solves command.verb (behind_one command (behind_all empty_circuit commands)) in
           omega (arith, more, one, g.solves, takes.count);
       room = omega (arith, room, takes.room);
@@ -251,7 +263,9 @@ module _ (command : Command) (old new : CircuitView) where
       where
         kept_at : IsFollowed command old new commands (commands ++ command ∷ []) None
         kept_at = record {
-          step = λ name. subst (λ (l : List CircuitView). StepTo (solved_by commands) name l) (sym solved_more) (kept_step (solved_by commands) name a answered on);
+          step = λ name.
+              subst (λ (l : List CircuitView). StepTo (solved_by commands) name l) (sym solved_more)
+              (kept_step (solved_by commands) name a answered on);
           of_command = tt;
           gathered_so = λ none. gathered_more;
           room = λ none. room_more;
@@ -259,7 +273,9 @@ module _ (command : Command) (old new : CircuitView) where
 
         kept_as : (after : List Command) (f : Option Fault) → f ≡ None → after ≡ commands ++ command ∷ []
             → IsFollowed command old new commands after f
-        kept_as after f none kept = subst (λ (g : Option Fault). IsFollowed command old new commands after g) (sym none) (subst (λ (l : List Command). IsFollowed command old new commands l None) (sym kept) kept_at)
+        kept_as after f none kept =
+            subst (λ (g : Option Fault). IsFollowed command old new commands after g) (sym none)
+            (subst (λ (l : List Command). IsFollowed command old new commands l None) (sym kept) kept_at)
 
   -- the run ends with its fault
   pub refused_follows : (f : Fault) → IsAnswered (tried command old) new (answer.Refuses f) → (commands : List Command)

@@ -49,14 +49,19 @@ pub judged_is : (g : GatheredView) (found : Option (List ℕ)) (answer : Result 
     → IfErr answer (λ f. Told f (IsAnswer due after found (open_solves g.solved no_positions 0))) → IsJudgedBy answer j
     → IsJudged g found (history_in j)
 judged_is g found (Ok blocks) j ok err is = judged_so g found (accepted blocks) j (judged.Accepted blocks) ok is refl
-judged_is g found (Err (check.Refused line rule)) j ok err is = judged_so g found (refused line rule) j (judged.Refused (fault.Certificate line rule)) err is refl
-judged_is g found (Err (check.Range blame)) j ok err is = judged_so g found (stopped blame) j (judged.Refused (fault.Script blame.place (cause.Model blame.cause))) err is refl
+judged_is g found (Err (check.Refused line rule)) j ok err is =
+    judged_so g found (refused line rule) j (judged.Refused (fault.Certificate line rule)) err is refl
+judged_is g found (Err (check.Range blame)) j ok err is =
+    judged_so g found (stopped blame) j (judged.Refused (fault.Script blame.place (cause.Model blame.cause))) err is
+    refl
 judged_is g found (Err check.NoMemory) j ok err is = absurd is
 
 -- no certificate
 pub absent_is : (g : GatheredView) (found : Option (List ℕ)) (j : Judged) → found ≡ None
     → j ≡ judged.Refused (fault.Certificate 0 rule.Absent) → IsJudged g found (history_in j)
-absent_is g found j none is = subst (λ (f : Option (List ℕ)). IsJudged g f (history_in j)) (sym none) (judged_so g None (refused 0 rule.Absent) j (judged.Refused (fault.Certificate 0 rule.Absent)) refl is refl)
+absent_is g found j none is =
+    subst (λ (f : Option (List ℕ)). IsJudged g f (history_in j)) (sym none)
+    (judged_so g None (refused 0 rule.Absent) j (judged.Refused (fault.Certificate 0 rule.Absent)) refl is refl)
 
 -- some answer comes of what is found, though memory runs out before it is printed
 abbrev judged_in : Answer Blame → Judged
@@ -107,7 +112,9 @@ grows_nothing a b h = record { names = []; grown = h }
 -- what the library holds is what was found
 pub held_is : (holds : Option Files) (files : Files) (name bs : List ℕ) (found : Found) → holds ≡ Some files → name ≡ bs
     → AnswersHeld holds name (Ok found) → held files bs ≡ found_bytes found
-held_is holds files name bs found told same h = ap (held files) (sym same) ∙ found_is (held files name) found (subst (λ (x : Option Files). AnswersHeld x name (Ok found)) told h)
+held_is holds files name bs found told same h =
+    ap (held files) (sym same)
+    ∙ found_is (held files name) found (subst (λ (x : Option Files). AnswersHeld x name (Ok found)) told h)
   where
     found_is : (there : Option (List ℕ)) (f : Found) → IsHeld there f → there ≡ found_bytes f
     found_is there (was.Bytes bytes) is = is
@@ -162,8 +169,10 @@ module _ {L S : Type 0} (faults : L → ℕ) (asked_of : L → Option (List (Lis
         → Printed taken calls old new (doing report (history_in j)) code → Tells old new code
     judged_told j is old new code asks printed =
         let h = history_in j in
-        finishes_asked report report_asks faults asked_of taken calls IsSolved IsEnd g.certificate h (behind_name h is) (no_settle j) lib_old lib_new begun old new code asks
-        (subst (λ (l : List Call). Printed taken calls old new (record { calls = l; end = h.end }) code) (same_calls begun j) printed)
+        finishes_asked report report_asks faults asked_of taken calls IsSolved IsEnd g.certificate h
+        (behind_name h is) (no_settle j) lib_old lib_new begun old new code asks
+        (subst (λ (l : List Call). Printed taken calls old new (record { calls = l; end = h.end }) code)
+        (same_calls begun j) printed)
 
     -- some answer comes of what is held
     abbrev some_end : History
@@ -173,12 +182,16 @@ module _ {L S : Type 0} (faults : L → ℕ) (asked_of : L → Option (List (Lis
     no_settle_in = no_settle_by g (there g.certificate) some_end (one_judged g (there g.certificate)).is
 
     pub unasked_told : (out : S) → Becomes (asked_of lib_old) (asked_of lib_new) (λ ns. ns ++ []) → Tells out out 1
-    unasked_told out same = finishes_short report report_asks faults asked_of taken calls IsSolved IsEnd g.certificate some_end (behind_name some_end (one_judged g (there g.certificate)).is) no_settle_in lib_old lib_new begun out same
+    unasked_told out same =
+        finishes_short report report_asks faults asked_of taken calls IsSolved IsEnd g.certificate some_end
+        (behind_name some_end (one_judged g (there g.certificate)).is) no_settle_in lib_old lib_new begun out same
 
     pub unread_told : (old new : S) (code : ℕ) → Asks → Rose (faults lib_old) (faults lib_new)
         → Printed taken calls old new (fault_doing (fault.Read g.certificate)) code → Tells old new code
     unread_told old new code asks rose printed =
-        finishes_unread report report_asks faults asked_of taken calls IsSolved IsEnd g.certificate some_end (behind_name some_end (one_judged g (there g.certificate)).is) no_settle_in lib_old lib_new begun old new code asks rose printed
+        finishes_unread report report_asks faults asked_of taken calls IsSolved IsEnd g.certificate some_end
+        (behind_name some_end (one_judged g (there g.certificate)).is) no_settle_in lib_old lib_new begun old new code
+        asks rose printed
 
   -- ---- whatever the library tells
 
@@ -189,20 +202,29 @@ module _ {L S : Type 0} (faults : L → ℕ) (asked_of : L → Option (List (Lis
       → Printed taken calls old new (doing report (history_in j)) code
       → (code ≡ 5 → Rose (sink_faults old) (sink_faults new)) → Untold old new code
   judged_untold (judged.Accepted blocks) of_check old new code asks later printed write =
-      untold_finished faults asked_of sink_faults taken calls lib_old lib_old lib_new lib_new old old new code (shown_nothing faults asked_of sink_faults taken calls lib_old old) (grows_by (asked_of lib_old) (asked_of lib_new) g.certificate asks)
-      later (omega arith) (untold_last faults asked_of sink_faults taken calls lib_new old new _ code printed write)
+      untold_finished faults asked_of sink_faults taken calls lib_old lib_old lib_new lib_new old old new code
+      (shown_nothing faults asked_of sink_faults taken calls lib_old old)
+      (grows_by (asked_of lib_old) (asked_of lib_new) g.certificate asks) later (omega arith)
+      (untold_last faults asked_of sink_faults taken calls lib_new old new _ code printed write)
   judged_untold (judged.Refused f) of_check old new code asks later printed write =
-      untold_fault faults asked_of sink_faults taken calls lib_old lib_old lib_new old old new code (shown_nothing faults asked_of sink_faults taken calls lib_old old) (grows_by (asked_of lib_old) (asked_of lib_new) g.certificate asks)
-      (fault_answers taken calls old new f code printed) (never_usage taken calls old new _ f code of_check printed) (never_read taken calls old new _ f code of_check printed) write
+      untold_fault faults asked_of sink_faults taken calls lib_old lib_old lib_new old old new code
+      (shown_nothing faults asked_of sink_faults taken calls lib_old old)
+      (grows_by (asked_of lib_old) (asked_of lib_new) g.certificate asks)
+      (fault_answers taken calls old new f code printed) (never_usage taken calls old new _ f code of_check printed)
+      (never_read taken calls old new _ f code of_check printed) write
 
   pub short_untold : (out : S) → GrowsSome (asked_of lib_old) (asked_of lib_new) → Untold out out 1
-  short_untold out grows = untold_short faults asked_of sink_faults taken calls lib_old lib_old lib_new out out (shown_nothing faults asked_of sink_faults taken calls lib_old out) grows
+  short_untold out grows =
+      untold_short faults asked_of sink_faults taken calls lib_old lib_old lib_new out out
+      (shown_nothing faults asked_of sink_faults taken calls lib_old out) grows
 
   pub unread_untold : (old new : S) (code : ℕ) → Asks → Rose (faults lib_old) (faults lib_new)
       → Printed taken calls old new (fault_doing (fault.Read g.certificate)) code
       → (code ≡ 5 → Rose (sink_faults old) (sink_faults new)) → Untold old new code
   unread_untold old new code asks rose printed write =
-      untold_read faults asked_of sink_faults taken calls lib_old lib_old lib_new old old new g.certificate code (shown_nothing faults asked_of sink_faults taken calls lib_old old) (grows_by (asked_of lib_old) (asked_of lib_new) g.certificate asks)
+      untold_read faults asked_of sink_faults taken calls lib_old lib_old lib_new old old new g.certificate code
+      (shown_nothing faults asked_of sink_faults taken calls lib_old old)
+      (grows_by (asked_of lib_old) (asked_of lib_new) g.certificate asks)
       (last_by (asked_of lib_old) (asked_of lib_new) g.certificate asks) printed rose write
 
 -- ---- a state as contracts see it
@@ -210,7 +232,9 @@ module _ {L S : Type 0} (faults : L → ℕ) (asked_of : L → Option (List (Lis
 module _ {L S : Type 0} (faults : L → ℕ) (asked_of : L → Option (List (List ℕ))) (taken : S → Option (List ℕ))
     (calls : S → Option ℕ) (there : List ℕ → Option (List ℕ)) (lib_old lib_new : L) (begun : Bool) where
   abbrev pub TellsOf : GatheredView → S → S → ℕ → Type 0
-  TellsOf g old new code = Finishes report IsSolved (λ h. IsLast IsCheckStep certificate_name IsJudged there (certificate_name g) g h) faults asked_of taken calls lib_old lib_new old new begun code
+  TellsOf g old new code =
+      Finishes report IsSolved (λ h. IsLast IsCheckStep certificate_name IsJudged there (certificate_name g) g h)
+      faults asked_of taken calls lib_old lib_new old new begun code
 
   pub told_as : (s g : GatheredView) (old new : S) (code : ℕ) → s ≡ g → TellsOf s old new code → TellsOf g old new code
   told_as s g old new code same told = subst (λ (x : GatheredView). TellsOf x old new code) same told

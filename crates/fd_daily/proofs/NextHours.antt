@@ -21,14 +21,17 @@ well false h ss = absurd (cc)
 
 first_settle : {C X : Type 0} (look : C → Positions → X → Sampling) (h : Hour C) (rest : List (Hour C)) (m : Machine) (xs : List X) →
     run_of look (h ∷ rest) m (xs ∷ []) ≡ settle_of h.setup (look h.circuit) (h.start m) xs ∷ []
-first_settle look h rest m xs = let s = settle_of h.setup (look h.circuit) (h.start m) xs in alone (is_settled s.end) s (run_of look rest s.machine []) (no_more look rest s.machine)
+first_settle look h rest m xs =
+    let s = settle_of h.setup (look h.circuit) (h.start m) xs in
+    alone (is_settled s.end) s (run_of look rest s.machine []) (no_more look rest s.machine)
 
 -- an hour that ended well, before others
 well_before : {C X : Type 0} (look : C → Positions → X → Sampling) (h : Hour C) (hs : List (Hour C)) (m : Machine) (xs : List X) (xss : List (List X))
     → (s : Settle) → settle_of h.setup (look h.circuit) (h.start m) xs ≡ s →
     IsTrue (is_settled s.end) → run_of look (h ∷ hs) m (xs ∷ xss) ≡ s ∷ run_of look hs s.machine xss
 well_before look h hs m xs xss s e settled =
-    ap (λ (t : Settle). t ∷ cond (is_settled t.end) (run_of look hs t.machine xss) []) e ∙ ap (λ (ss : List Settle). s ∷ ss) (well (is_settled s.end) settled (run_of look hs s.machine xss))
+    ap (λ (t : Settle). t ∷ cond (is_settled t.end) (run_of look hs t.machine xss) []) e
+    ∙ ap (λ (ss : List Settle). s ∷ ss) (well (is_settled s.end) settled (run_of look hs s.machine xss))
 
 first_well : (t : Bool) (s : Settle) (ss : List Settle) → AreWell (s ∷ cond t ss []) → IsTrue (is_settled s.end)
 first_well t s ss h = h.0
@@ -37,9 +40,12 @@ rest_well : (t : Bool) (s : Settle) (ss : List Settle) → IsTrue t → AreWell 
 rest_well true s ss e h = h.1
 rest_well false s ss e h = absurd (cc)
 
-pub next_hour : {C X : Type 0} (look : C → Positions → X → Sampling) (hs : List (Hour C)) (h : Hour C) (rest : List (Hour C)) (m : Machine) (xss : List (List X)) (xs : List X) →
-    length xss ≡ length hs → AreWell (run_of look (hs ++ h ∷ rest) m xss) →
-    run_of look (hs ++ h ∷ rest) m (xss ++ xs ∷ []) ≡ run_of look (hs ++ h ∷ rest) m xss ++ settle_of h.setup (look h.circuit) (h.start (left_by_run m (run_of look (hs ++ h ∷ rest) m xss))) xs ∷ []
+pub next_hour : {C X : Type 0} (look : C → Positions → X → Sampling) (hs : List (Hour C)) (h : Hour C)
+    (rest : List (Hour C)) (m : Machine) (xss : List (List X)) (xs : List X)
+    → length xss ≡ length hs → AreWell (run_of look (hs ++ h ∷ rest) m xss)
+    → run_of look (hs ++ h ∷ rest) m (xss ++ xs ∷ [])
+    ≡ run_of look (hs ++ h ∷ rest) m xss
+    ++ settle_of h.setup (look h.circuit) (h.start (left_by_run m (run_of look (hs ++ h ∷ rest) m xss))) xs ∷ []
 next_hour look [] h rest m [] xs each are = first_settle look h rest m xs
 next_hour look [] h rest m (ys ∷ yss) xs each are = absurd (omega arith)
 next_hour look (o ∷ hs) h rest m [] xs each are = absurd (omega arith)

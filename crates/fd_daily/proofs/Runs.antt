@@ -27,10 +27,15 @@ goes_on false ss others xss e h = absurd (cc)
 join : (a b : List (List Act)) (c d : List (List (List Act))) → a ≡ b → c ≡ d → a ∷ c ≡ b ∷ d
 join a b c d h k = cc
 
-pub run_history : {C Y X : Type 0} (holds : C → Positions → Y → X → Type 0) (of_ball : C → Positions → Y → Sampling) (of_state : C → Positions → X → Sampling) →
-    ((c : C) → HistoryLaw (holds c) (of_ball c) (of_state c)) → ((c : C) → WholeLaw (holds c) (of_ball c) (of_state c)) → ((c : C) → AreOfHeld (holds c) (of_ball c) (of_state c)) →
-    (hs : List (Hour C)) (m : Machine) (yss : List (List Y)) (xss : List (List X)) → AreChosenRun holds of_ball hs m yss xss →
-    map (λ s. s.rounds) (run_of of_state hs m xss) ≡ first_rounds xss (map (λ s. s.rounds) (run_of of_ball hs m yss))
+pub run_history : {C Y X : Type 0} (holds : C → Positions → Y → X → Type 0) (of_ball : C → Positions → Y → Sampling)
+    (of_state : C → Positions → X → Sampling)
+    → ((c : C) → HistoryLaw (holds c) (of_ball c) (of_state c))
+    → ((c : C) → WholeLaw (holds c) (of_ball c) (of_state c))
+    → ((c : C) → AreOfHeld (holds c) (of_ball c) (of_state c))
+    → (hs : List (Hour C)) (m : Machine) (yss : List (List Y)) (xss : List (List X))
+    → AreChosenRun holds of_ball hs m yss xss
+    → map (λ s. s.rounds) (run_of of_state hs m xss)
+    ≡ first_rounds xss (map (λ s. s.rounds) (run_of of_ball hs m yss))
 run_history holds of_ball of_state history whole h [] m yss [] k = refl
 run_history holds of_ball of_state history whole h (o ∷ hs) m yss [] k = refl
 run_history holds of_ball of_state history whole h [] m yss (xs ∷ xss) k = absurd k

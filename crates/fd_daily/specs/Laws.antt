@@ -17,6 +17,10 @@ RunLaw {C} {Y} {X} holds of_ball of_state = ((c : C) → AreOfHeld (holds c) (of
 
 -- a run whose settles so far all ended well goes on with the settle of the next hour, from what they left
 abbrev pub NextHourLaw : Type 0 → Type 0 → Type 0
-NextHourLaw C X = (look : C → Positions → X → Sampling) (hs : List (Hour C)) (h : Hour C) (rest : List (Hour C)) (m : Machine) (xss : List (List X)) (xs : List X) →
-    length xss ≡ length hs → AreWell (run_of look (hs ++ h ∷ rest) m xss) →
-    run_of look (hs ++ h ∷ rest) m (xss ++ xs ∷ []) ≡ run_of look (hs ++ h ∷ rest) m xss ++ settle_of h.setup (look h.circuit) (h.start (left_by_run m (run_of look (hs ++ h ∷ rest) m xss))) xs ∷ []
+NextHourLaw C X =
+    (look : C → Positions → X → Sampling) (hs : List (Hour C)) (h : Hour C) (rest : List (Hour C)) (m : Machine)
+    (xss : List (List X)) (xs : List X)
+    → length xss ≡ length hs → AreWell (run_of look (hs ++ h ∷ rest) m xss)
+    → run_of look (hs ++ h ∷ rest) m (xss ++ xs ∷ [])
+    ≡ run_of look (hs ++ h ∷ rest) m xss
+    ++ settle_of h.setup (look h.circuit) (h.start (left_by_run m (run_of look (hs ++ h ∷ rest) m xss))) xs ∷ []

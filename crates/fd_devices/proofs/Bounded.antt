@@ -42,12 +42,16 @@ contributions n b ts h d w = record { inside = h.inside; divided = d; within = w
 
 -- ---- lines
 
-pub line_settled : (m n size : ℕ) (l : LineData) (at : Ends) → IsLine l → IsSideOf n l.phases at.first → IsSideOf n l.phases at.second → HasBranches n l.phases at → All IsWithin (line_list l at) → IsSettled m n size l.phases (line l at)
+pub line_settled : (m n size : ℕ) (l : LineData) (at : Ends) → IsLine l → IsSideOf n l.phases at.first
+    → IsSideOf n l.phases at.second → HasBranches n l.phases at → All IsWithin (line_list l at)
+    → IsSettled m n size l.phases (line l at)
 line_settled m n size l at g first second branches w = record {
   fits = fits_by (line l at) w (All-nil (λ u. ¬ (IsPast u.load)));
   good = tt;
   bounded = record {
-    terms = contributions n (64 * (1 + l.phases)) (line_list l at) (more_room n (l.phases * 64) (64 * (1 + l.phases)) (line_list l at) (omega arith) (line_inside n l at first.below second.below branches.below g.few)) (line_is l at).divided w;
+    terms = contributions n (64 * (1 + l.phases)) (line_list l at) (more_room n (l.phases * 64) (64 * (1 + l.phases))
+        (line_list l at) (omega arith) (line_inside n l at first.below second.below branches.below g.few))
+        (line_is l at).divided w;
     constants = All-nil (IsKnown (2 * n));
     few_constants = omega arith;
     loads = All-nil (IsServed m n size);
@@ -97,8 +101,10 @@ IsSmallVoltage z = nat_abs z ≤ 2 * 10 ^ 12
 
 constants_small : (s : SourceData) → UpTo (2 * 10 ^ 12) s.volts → (n : ℕ) → All IsSmallVoltage (concat_below (phase_constants s) n)
 constants_small s h zero = All-nil IsSmallVoltage
-constants_small s h (suc n) = All-append IsSmallVoltage (concat_below (phase_constants s) n) (phase_constants s n) (constants_small s h n)
-    (All-cons IsSmallVoltage (volts_re s n) (volts_im s n ∷ []) (volts_small s.volts (steps_of s n) h) (All-cons IsSmallVoltage (volts_im s n) [] (volts_small s.volts (steps_of s n + 9) h) (All-nil IsSmallVoltage)))
+constants_small s h (suc n) =
+    All-append IsSmallVoltage (concat_below (phase_constants s) n) (phase_constants s n) (constants_small s h n)
+    (All-cons IsSmallVoltage (volts_re s n) (volts_im s n ∷ []) (volts_small s.volts (steps_of s n) h)
+    (All-cons IsSmallVoltage (volts_im s n) [] (volts_small s.volts (steps_of s n + 9) h) (All-nil IsSmallVoltage)))
 
 constants_length : (s : SourceData) (n : ℕ) → length (concat_below (phase_constants s) n) ≡ 2 * n
 constants_length s zero = refl
@@ -115,7 +121,8 @@ known_from m row (v ∷ vs) h k =
     All-cons (IsKnown m) _ (constants_from (row + 1) vs) (record { row = omega arith; least = omega (arith, ints, size); most = omega (arith, ints, size) })
     (known_from m (row + 1) vs (omega arith) (All-tail IsSmallVoltage v vs k))
 
-pub source_settled : (m n size : ℕ) (s : SourceData) (at : Ends) → IsSource s → IsSideOf n s.phases at.first → HasBranches n s.phases at → All IsWithin (source_list s at) → IsSettled m n size s.phases (source s at)
+pub source_settled : (m n size : ℕ) (s : SourceData) (at : Ends) → IsSource s → IsSideOf n s.phases at.first
+    → HasBranches n s.phases at → All IsWithin (source_list s at) → IsSettled m n size s.phases (source s at)
 source_settled m n size s at g first branches w =
     let count = constants_length s s.phases in
     let rows = from_length (2 * at.branch) (source_constants s) in
@@ -125,7 +132,10 @@ source_settled m n size s at g first branches w =
       fits = fits_by (source s at) w (All-nil (λ u. ¬ (IsPast u.load)));
       good = tt;
       bounded = record {
-        terms = contributions n (64 * (1 + s.phases)) (source_list s at) (more_room n (s.phases * 64) (64 * (1 + s.phases)) (source_list s at) (omega arith) (source_inside n s at first.below branches.below g.few)) (source_is s at).divided w;
+        terms = contributions n (64 * (1 + s.phases)) (source_list s at)
+            (more_room n (s.phases * 64) (64 * (1 + s.phases)) (source_list s at) (omega arith)
+            (source_inside n s at first.below branches.below g.few))
+            (source_is s at).divided w;
         constants = known_from (2 * n) (2 * at.branch) (source_constants s) (omega arith) (constants_small s g.volts s.phases);
         few_constants = omega arith;
         loads = All-nil (IsServed m n size);
@@ -186,7 +196,9 @@ module _ (m n size : ℕ) where
 
   all_loads : (us : List LoadAt) → All IsUsable us → All StandsInside us → All IsLoad us
   all_loads [] h i = All-nil IsLoad
-  all_loads (u ∷ us) h i = All-cons IsLoad u us (is_load n size u (All-head IsUsable u us h) (All-head StandsInside u us i).magnitude) (all_loads us (All-tail IsUsable u us h) (All-tail StandsInside u us i))
+  all_loads (u ∷ us) h i =
+      All-cons IsLoad u us (is_load n size u (All-head IsUsable u us h) (All-head StandsInside u us i).magnitude)
+      (all_loads us (All-tail IsUsable u us h) (All-tail StandsInside u us i))
 
   is_served : (u : LoadAt) → IsUsable u → ¬ (IsPast u.load) → StandsInside u → IsServed m n size u
   is_served u h p i = record { phase = within_limit u.load h.voltages p; first = i.nodes.first; second = i.nodes.second; magnitude = i.magnitude }
@@ -220,11 +232,20 @@ impedance_divided u h =
     let between = square_between u.load.vn v.nominal_least v.nominal_most in
     stamps a b d between.0 between.1
   where
-    stamps : (a b d : ℤ) → pos 0 <ℤ d → d ≤ℤ pos (10 ^ 32) → All IsDivided ((complex_terms u.first u.first a (neg_ℤ b) d ++ complex_terms u.first u.second (neg_ℤ a) (neg_ℤ (neg_ℤ b)) d) ++ (complex_terms u.second u.first (neg_ℤ a) (neg_ℤ (neg_ℤ b)) d ++ complex_terms u.second u.second a (neg_ℤ b) d))
+    stamps : (a b d : ℤ) → pos 0 <ℤ d → d ≤ℤ pos (10 ^ 32)
+        → All IsDivided
+        ((complex_terms u.first u.first a (neg_ℤ b) d ++ complex_terms u.first u.second (neg_ℤ a) (neg_ℤ (neg_ℤ b)) d)
+        ++ (complex_terms u.second u.first (neg_ℤ a) (neg_ℤ (neg_ℤ b)) d
+        ++ complex_terms u.second u.second a (neg_ℤ b) d))
     stamps a b d p m =
-        All-append IsDivided (complex_terms u.first u.first a (neg_ℤ b) d ++ complex_terms u.first u.second (neg_ℤ a) (neg_ℤ (neg_ℤ b)) d) _
-        (All-append IsDivided (complex_terms u.first u.first a (neg_ℤ b) d) _ (complex_divided d p m u.first u.first a (neg_ℤ b)) (complex_divided d p m u.first u.second (neg_ℤ a) (neg_ℤ (neg_ℤ b))))
-        (All-append IsDivided (complex_terms u.second u.first (neg_ℤ a) (neg_ℤ (neg_ℤ b)) d) _ (complex_divided d p m u.second u.first (neg_ℤ a) (neg_ℤ (neg_ℤ b))) (complex_divided d p m u.second u.second a (neg_ℤ b)))
+        All-append IsDivided
+        (complex_terms u.first u.first a (neg_ℤ b) d ++ complex_terms u.first u.second (neg_ℤ a) (neg_ℤ (neg_ℤ b)) d)
+        _ (All-append IsDivided (complex_terms u.first u.first a (neg_ℤ b) d) _
+        (complex_divided d p m u.first u.first a (neg_ℤ b))
+        (complex_divided d p m u.first u.second (neg_ℤ a) (neg_ℤ (neg_ℤ b))))
+        (All-append IsDivided (complex_terms u.second u.first (neg_ℤ a) (neg_ℤ (neg_ℤ b)) d) _
+        (complex_divided d p m u.second u.first (neg_ℤ a) (neg_ℤ (neg_ℤ b)))
+        (complex_divided d p m u.second u.second a (neg_ℤ b)))
 
 linear_divided : (u : LoadAt) → IsUsable u → (b : Bool) → All IsDivided (cond b (impedance_list u) [])
 linear_divided u h true = impedance_divided u h
@@ -232,9 +253,13 @@ linear_divided u h false = All-nil IsDivided
 
 pub loads_divided : (us : List LoadAt) → All IsUsable us → All IsDivided (flat_map linear_list us)
 loads_divided [] h = All-nil IsDivided
-loads_divided (u ∷ us) h = All-append IsDivided (linear_list u) (flat_map linear_list us) (linear_divided u (All-head IsUsable u us h) (is_linear u.load.model)) (loads_divided us (All-tail IsUsable u us h))
+loads_divided (u ∷ us) h =
+    All-append IsDivided (linear_list u) (flat_map linear_list us)
+    (linear_divided u (All-head IsUsable u us h) (is_linear u.load.model))
+    (loads_divided us (All-tail IsUsable u us h))
 
-pub loads_settled : (m n size : ℕ) (us : List LoadAt) → m ≤ n → All IsUsable us → length us ≤ 3 → All (StandsInside m n size) us → DeviceFits (loads us) → IsSettled m n size 0 (loads us)
+pub loads_settled : (m n size : ℕ) (us : List LoadAt) → m ≤ n → All IsUsable us → length us ≤ 3
+    → All (StandsInside m n size) us → DeviceFits (loads us) → IsSettled m n size 0 (loads us)
 loads_settled m n size us among h few inside f =
     let within = fit_terms (loads us) f in
     let below = fit_loads (loads us) f in
@@ -243,7 +268,9 @@ loads_settled m n size us among h few inside f =
       fits = f;
       good = all_loads m n size us h inside;
       bounded = record {
-        terms = contributions n 64 (flat_map linear_list us) (more_room n (length us * 16) 64 (flat_map linear_list us) (omega arith) (loads_inside n us (all_below m n size among us inside))) (loads_divided us h) within;
+        terms = contributions n 64 (flat_map linear_list us) (more_room n (length us * 16) 64
+            (flat_map linear_list us) (omega arith) (loads_inside n us (all_below m n size among us inside)))
+            (loads_divided us h) within;
         constants = All-nil (IsKnown (2 * n));
         few_constants = omega arith;
         loads = all_served m n size us h below inside;

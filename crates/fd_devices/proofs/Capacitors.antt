@@ -63,7 +63,9 @@ draw_small d false h = omega arith
 
 -- ---- what it adds
 
-pub capacitor_settled : (m n size : ℕ) (d : CapData) (closed : Bool) (at : Ends) → IsCap d → IsSideOf n (node_count d.phases) at.first → All IsWithin (cap_list d closed at) → IsSettled m n size 0 (capacitor d closed at)
+pub capacitor_settled : (m n size : ℕ) (d : CapData) (closed : Bool) (at : Ends) → IsCap d
+    → IsSideOf n (node_count d.phases) at.first → All IsWithin (cap_list d closed at)
+    → IsSettled m n size 0 (capacitor d closed at)
 capacitor_settled m n size d closed at h side w = record {
   fits = fits_by (capacitor d closed at) w (All-nil (λ u. ¬ (IsPast u.load)));
   good = h;

@@ -44,7 +44,8 @@ joined_more ss s =
 pub stamp_more : (ds : List Device) (d : Device) → stamp_of_all (ds ++ d ∷ []) ≡ beside (stamp_of_all ds) (device_stamp d)
 stamp_more ds d = ap joined (map-append device_stamp ds (d ∷ [])) ∙ joined_more (map device_stamp ds) (device_stamp d)
 
-bounded_more : (nodes n size m k b c : ℕ) (a p : StampView) → IsBounded nodes n size m b a → IsBounded nodes n size k c p → IsBounded nodes n size (m + k) (b + c) (beside a p)
+bounded_more : (nodes n size m k b c : ℕ) (a p : StampView) → IsBounded nodes n size m b a
+    → IsBounded nodes n size k c p → IsBounded nodes n size (m + k) (b + c) (beside a p)
 bounded_more nodes n size m k b c a p h g =
     let terms = length-append a.terms p.terms in
     let constants = length-append a.constants p.constants in
@@ -72,18 +73,24 @@ bounded_more nodes n size m k b c a p h g =
     }
 
 -- one element and its device more
-pub collected_more : (nodes n size : ℕ) (es : Elements) (e : ElementName × Element) (ds : List Device) (d : Device) (a p b : StampView)
-    → AreCollected nodes n size es ds a → IsSettled nodes n size (branch_phases e.1) d → p ≡ device_stamp d → b ≡ beside a p → AreCollected nodes n size (es ++ e ∷ []) (ds ++ d ∷ []) b
+pub collected_more : (nodes n size : ℕ) (es : Elements) (e : ElementName × Element) (ds : List Device) (d : Device)
+    (a p b : StampView)
+    → AreCollected nodes n size es ds a → IsSettled nodes n size (branch_phases e.1) d → p ≡ device_stamp d
+    → b ≡ beside a p → AreCollected nodes n size (es ++ e ∷ []) (ds ++ d ∷ []) b
 collected_more nodes n size es e ds d a p b h s pe be =
     let more : b ≡ beside a (device_stamp d) = be ∙ ap (beside a) pe in
     let count : length (es ++ e ∷ []) ≡ length es + 1 = length-append es (e ∷ []) in
     let branches = list_n-more (λ (x : ElementName × Element). branch_phases x.1) es e in
-    let bounded = bounded_more nodes n size (length es) 1 (list_n (λ (x : ElementName × Element). branch_phases x.1) es) (branch_phases e.1) a (device_stamp d) h.bounded s.bounded in
+    let bounded =
+    bounded_more nodes n size (length es) 1 (list_n (λ (x : ElementName × Element). branch_phases x.1) es)
+    (branch_phases e.1) a (device_stamp d) h.bounded s.bounded in
     record {
       stamp = more ∙ ap (λ x. beside x (device_stamp d)) h.stamp ∙ sym (stamp_more ds d);
       fits = All-append DeviceFits ds (d ∷ []) h.fits (All-cons DeviceFits d [] s.fits (All-nil DeviceFits));
       good = All-append IsGood ds (d ∷ []) h.good (All-cons IsGood d [] s.good (All-nil IsGood));
-      bounded = subst (IsBounded nodes n size (length (es ++ e ∷ [])) (list_n (λ (x : ElementName × Element). branch_phases x.1) (es ++ e ∷ []))) (sym more)
-          (subst (λ m. IsBounded nodes n size m (list_n (λ (x : ElementName × Element). branch_phases x.1) (es ++ e ∷ [])) (beside a (device_stamp d))) (sym count)
+      bounded = subst (IsBounded nodes n size (length (es ++ e ∷ []))
+          (list_n (λ (x : ElementName × Element). branch_phases x.1) (es ++ e ∷ [])))
+          (sym more) (subst (λ m. IsBounded nodes n size m (list_n (λ (x : ElementName × Element).
+          branch_phases x.1) (es ++ e ∷ [])) (beside a (device_stamp d))) (sym count)
           (subst (λ m. IsBounded nodes n size (length es + 1) m (beside a (device_stamp d))) (sym branches) bounded));
     }

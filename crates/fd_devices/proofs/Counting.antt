@@ -57,8 +57,10 @@ module _ (n : ℕ) where
   pub complex_inside : (r c : NodeAt) (a b d : ℤ) → IsAmong n r → IsAmong n c → AreInside n 4 (complex_terms r c a b d)
   complex_inside (Node r) (Node c) a b d p q =
       joined_inside n 1 3 (one (2 * r) (2 * c) a d) _ (one_inside (2 * r) (2 * c) a d (omega arith) (omega arith))
-      (joined_inside n 1 2 (one (2 * r) (2 * c + 1) (neg_ℤ b) d) _ (one_inside (2 * r) (2 * c + 1) (neg_ℤ b) d (omega arith) (omega arith))
-      (joined_inside n 1 1 (one (2 * r + 1) (2 * c) b d) _ (one_inside (2 * r + 1) (2 * c) b d (omega arith) (omega arith)) (one_inside (2 * r + 1) (2 * c + 1) a d (omega arith) (omega arith))))
+      (joined_inside n 1 2 (one (2 * r) (2 * c + 1) (neg_ℤ b) d) _
+      (one_inside (2 * r) (2 * c + 1) (neg_ℤ b) d (omega arith) (omega arith)) (joined_inside n 1 1
+      (one (2 * r + 1) (2 * c) b d) _ (one_inside (2 * r + 1) (2 * c) b d (omega arith) (omega arith))
+      (one_inside (2 * r + 1) (2 * c + 1) a d (omega arith) (omega arith))))
   complex_inside (Node r) Ground a b d p q = more_room n 0 4 [] (omega arith) (none_inside n)
   complex_inside Ground c a b d p q = more_room n 0 4 [] (omega arith) (none_inside n)
 
@@ -85,14 +87,19 @@ module _ (n : ℕ) where
 
     end_inside : (ns : List NodeAt) (sign : ℤ) (k : ℕ) → All (IsAmong n) ns → k < l.phases → AreInside n (4 + l.phases * 4) (end_row l at.branch ns sign k)
     end_inside ns sign k h p =
-        joined_inside n 4 (l.phases * 4) (complex_terms (node_of ns k) (branch_of at.branch k) sign (pos 0) (pos 1)) (concat_below (charge_at l ns k) l.phases)
+        joined_inside n 4 (l.phases * 4) (complex_terms (node_of ns k) (branch_of at.branch k) sign (pos 0) (pos 1))
+        (concat_below (charge_at l ns k) l.phases)
         (complex_inside (node_of ns k) (branch_of at.branch k) sign (pos 0) (pos 1) (node_below ns k h) (omega arith))
-        (concat_inside n 4 (charge_at l ns k) l.phases (λ m q. complex_inside (node_of ns k) (node_of ns m) (pos 0) (susceptance_of l k m) (pos (2 * 10 ^ 27)) (node_below ns k h) (node_below ns m h)))
+        (concat_inside n 4 (charge_at l ns k) l.phases (λ m q.
+        complex_inside (node_of ns k) (node_of ns m) (pos 0) (susceptance_of l k m) (pos (2 * 10 ^ 27))
+        (node_below ns k h) (node_below ns m h)))
 
     phase_inside : (k : ℕ) → k < l.phases → l.phases ≤ 3 → AreInside n 52 (phase_list l at k)
-    phase_inside k p few = more_room n (8 + l.phases * 4 + (4 + l.phases * 4 + (4 + l.phases * 4))) 52 (phase_list l at k) (omega arith)
+    phase_inside k p few =
+        more_room n (8 + l.phases * 4 + (4 + l.phases * 4 + (4 + l.phases * 4))) 52 (phase_list l at k) (omega arith)
         (joined_inside n (8 + l.phases * 4) _ (branch_row l at k) _ (branch_inside k p)
-        (joined_inside n (4 + l.phases * 4) (4 + l.phases * 4) (end_row l at.branch at.first (pos 1) k) _ (end_inside at.first (pos 1) k first p) (end_inside at.second (negsuc 0) k second p)))
+        (joined_inside n (4 + l.phases * 4) (4 + l.phases * 4) (end_row l at.branch at.first (pos 1) k) _
+        (end_inside at.first (pos 1) k first p) (end_inside at.second (negsuc 0) k second p)))
 
     pub line_inside : l.phases ≤ 3 → AreInside n (l.phases * 64) (line_list l at)
     line_inside few = more_room n (l.phases * 52) (l.phases * 64) (line_list l at) (omega arith)
@@ -107,7 +114,8 @@ module _ (n : ℕ) where
         let m = node_of at.first k in
         more_room n (4 + s.phases * 4 + 4) 20 (source_phase_list s at k) (omega arith)
         (joined_inside n (4 + s.phases * 4) 4 _ (complex_terms m r (negsuc 0) (pos 0) (pos 1))
-        (joined_inside n 4 (s.phases * 4) (complex_terms r m (negsuc 0) (pos 0) (pos 1)) (drop_list (source_resistance s) (source_reactance s) at.branch s.phases k)
+        (joined_inside n 4 (s.phases * 4) (complex_terms r m (negsuc 0) (pos 0) (pos 1))
+        (drop_list (source_resistance s) (source_reactance s) at.branch s.phases k)
         (complex_inside r m (negsuc 0) (pos 0) (pos 1) (omega arith) (node_below at.first k first))
         (drops_inside (source_resistance s) (source_reactance s) at.branch s.phases k room p))
         (complex_inside m r (negsuc 0) (pos 0) (pos 1) (node_below at.first k first) (omega arith)))
@@ -125,9 +133,10 @@ module _ (n : ℕ) where
 
   pub shunt_inside : (m k : NodeAt) (a b d : ℤ) → IsAmong n m → IsAmong n k → AreInside n 16 (shunt_list m k a b d)
   shunt_inside m k a b d p q =
-      joined_inside n 8 8 _ _
-      (joined_inside n 4 4 (complex_terms m m a b d) (complex_terms m k (neg_ℤ a) (neg_ℤ b) d) (complex_inside m m a b d p p) (complex_inside m k (neg_ℤ a) (neg_ℤ b) d p q))
-      (joined_inside n 4 4 (complex_terms k m (neg_ℤ a) (neg_ℤ b) d) (complex_terms k k a b d) (complex_inside k m (neg_ℤ a) (neg_ℤ b) d q p) (complex_inside k k a b d q q))
+      joined_inside n 8 8 _ _ (joined_inside n 4 4 (complex_terms m m a b d) (complex_terms m k (neg_ℤ a) (neg_ℤ b) d)
+      (complex_inside m m a b d p p) (complex_inside m k (neg_ℤ a) (neg_ℤ b) d p q))
+      (joined_inside n 4 4 (complex_terms k m (neg_ℤ a) (neg_ℤ b) d) (complex_terms k k a b d)
+      (complex_inside k m (neg_ℤ a) (neg_ℤ b) d q p) (complex_inside k k a b d q q))
 
   impedance_inside : (u : LoadAt) → StandsBelow u → AreInside n 16 (impedance_list u)
   impedance_inside u h = shunt_inside u.first u.second (pos (10 ^ 9) *ℤ u.load.p) (neg_ℤ (pos (10 ^ 9) *ℤ u.load.q)) (u.load.vn *ℤ u.load.vn) h.first h.second
@@ -138,5 +147,7 @@ module _ (n : ℕ) where
 
   pub loads_inside : (us : List LoadAt) → All StandsBelow us → AreInside n (length us * 16) (flat_map linear_list us)
   loads_inside [] h = more_room n 0 (0 * 16) [] (omega arith) (none_inside n)
-  loads_inside (u ∷ us) h = more_room n (16 + length us * 16) (length (u ∷ us) * 16) _ (omega arith)
-      (joined_inside n 16 (length us * 16) (linear_list u) (flat_map linear_list us) (linear_by _ u (All-head StandsBelow u us h)) (loads_inside us (All-tail StandsBelow u us h)))
+  loads_inside (u ∷ us) h =
+      more_room n (16 + length us * 16) (length (u ∷ us) * 16) _ (omega arith)
+      (joined_inside n 16 (length us * 16) (linear_list u) (flat_map linear_list us)
+      (linear_by _ u (All-head StandsBelow u us h)) (loads_inside us (All-tail StandsBelow u us h)))

@@ -26,7 +26,9 @@ device_represents other g = λ x o l. no_parts
 
 all_represent : (ds : List Device) → All IsGood ds → All (λ d. Represents (device_stamp d) (device_parts d)) ds
 all_represent [] h = All-nil (λ d. Represents (device_stamp d) (device_parts d))
-all_represent (d ∷ ds) h = All-cons (λ e. Represents (device_stamp e) (device_parts e)) d ds (device_represents d (All-head IsGood d ds h)) (all_represent ds (All-tail IsGood d ds h))
+all_represent (d ∷ ds) h =
+    All-cons (λ e. Represents (device_stamp e) (device_parts e)) d ds (device_represents d (All-head IsGood d ds h))
+    (all_represent ds (All-tail IsGood d ds h))
 
 -- what represents meets the same numbers
 agreeing : (s : StampView) (ps : State → List Part) → Represents s ps → AgreesWith s ps

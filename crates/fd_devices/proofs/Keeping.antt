@@ -40,7 +40,8 @@ use Rattle.fd_devices.specs.Sound.{IsSited}
 -- ---- without settings
 
 -- the device of an element without settings is the same at all
-pub same_device : (layout : LayoutView) (hertz place : ℕ) (e : Element) (s t : Settings) → is_moved e ≡ false → device_of layout hertz place e s ≡ device_of layout hertz place e t
+pub same_device : (layout : LayoutView) (hertz place : ℕ) (e : Element) (s t : Settings) → is_moved e ≡ false
+    → device_of layout hertz place e s ≡ device_of layout hertz place e t
 same_device layout hertz place (the.Vsource v) s t h = refl
 same_device layout hertz place (the.Line l) s t h = refl
 same_device layout hertz place (the.Linecode c) s t h = refl
@@ -56,15 +57,19 @@ same_device layout hertz place (the.Loadshape c) s t h = refl
 one_more : {A B : Type 0} (f : A → List B) (xs : List A) (x : A) → flat_map f (xs ++ x ∷ []) ≡ flat_map f xs ++ f x
 one_more f xs x = flat_map-append f xs (x ∷ []) ∙ ap (λ r. flat_map f xs ++ r) (append-nil (f x))
 
-listed_more : (f : ℕ → LoadAt) (n : ℕ) → flat_map load_places (concat_below (λ k. f k ∷ []) (suc n)) ≡ flat_map load_places (concat_below (λ k. f k ∷ []) n) ++ load_places (f n)
+listed_more : (f : ℕ → LoadAt) (n : ℕ)
+    → flat_map load_places (concat_below (λ k. f k ∷ []) (suc n))
+    ≡ flat_map load_places (concat_below (λ k. f k ∷ []) n) ++ load_places (f n)
 listed_more f n = one_more load_places (concat_below (λ k. f k ∷ []) n) (f n)
 
-same_listed : (f g : ℕ → LoadAt) → ((k : ℕ) → load_places (f k) ≡ load_places (g k)) → (n : ℕ) → flat_map load_places (concat_below (λ k. f k ∷ []) n) ≡ flat_map load_places (concat_below (λ k. g k ∷ []) n)
+same_listed : (f g : ℕ → LoadAt) → ((k : ℕ) → load_places (f k) ≡ load_places (g k)) → (n : ℕ)
+    → flat_map load_places (concat_below (λ k. f k ∷ []) n) ≡ flat_map load_places (concat_below (λ k. g k ∷ []) n)
 same_listed f g h zero = refl
 same_listed f g h (suc n) = listed_more f n ∙ (λ i. same_listed f g h n i ++ h n i) ∙ sym (listed_more g n)
 
 -- a device reaches the same places at all settings
-pub same_places : (layout : LayoutView) (hertz place : ℕ) (e : Element) (s t : Settings) → device_places (device_of layout hertz place e s) ≡ device_places (device_of layout hertz place e t)
+pub same_places : (layout : LayoutView) (hertz place : ℕ) (e : Element) (s t : Settings)
+    → device_places (device_of layout hertz place e s) ≡ device_places (device_of layout hertz place e t)
 same_places layout hertz place (the.Vsource v) s t = refl
 same_places layout hertz place (the.Line l) s t = refl
 same_places layout hertz place (the.Linecode c) s t = refl
@@ -78,7 +83,9 @@ same_places layout hertz place (the.RegControl c) s t = refl
 same_places layout hertz place (the.CapControl c) s t = refl
 same_places layout hertz place (the.Loadshape c) s t = refl
 
-reached : (layout : LayoutView) (hertz place : ℕ) (e : Element) (s : Settings) → reach_of e (ends_of layout place e) (device_stamp (device_of layout hertz place e s)) ≡ device_places (device_of layout hertz place e s)
+reached : (layout : LayoutView) (hertz place : ℕ) (e : Element) (s : Settings)
+    → reach_of e (ends_of layout place e) (device_stamp (device_of layout hertz place e s))
+    ≡ device_places (device_of layout hertz place e s)
 reached layout hertz place (the.Vsource v) s = refl
 reached layout hertz place (the.Line l) s = refl
 reached layout hertz place (the.Linecode c) s = refl
@@ -90,7 +97,9 @@ reached layout hertz place (the.CapControl c) s = refl
 reached layout hertz place (the.Loadshape c) s = refl
 
 -- what is read off the ends and the stamp of an element is what its device reaches
-pub reach_is : (layout : LayoutView) (hertz place : ℕ) (e : Element) (s : Settings) (at : Ends) (a : StampView) → at ≡ ends_of layout place e → a ≡ device_stamp (device_of layout hertz place e s) → reach_of e at a ≡ device_places (device_of layout hertz place e s)
+pub reach_is : (layout : LayoutView) (hertz place : ℕ) (e : Element) (s : Settings) (at : Ends) (a : StampView)
+    → at ≡ ends_of layout place e → a ≡ device_stamp (device_of layout hertz place e s)
+    → reach_of e at a ≡ device_places (device_of layout hertz place e s)
 reach_is layout hertz place e s at a p q = (λ i. reach_of e (p i) (q i)) ∙ reached layout hertz place e s
 
 -- ---- places are among the rows and columns
@@ -105,22 +114,28 @@ module _ (size : ℕ) where
       let one = All-head (IsTermInside n) t ts h in
       let r = one.row in
       let c = one.col in
-      All-cons (IsInside size) (place_of t) (map place_of ts) (record { row = omega arith; col = omega arith }) (terms_inside n ts few (All-tail (IsTermInside n) t ts h))
+      All-cons (IsInside size) (place_of t) (map place_of ts) (record { row = omega arith; col = omega arith })
+      (terms_inside n ts few (All-tail (IsTermInside n) t ts h))
 
   node_inside : (n : ℕ) (node : NodeAt) → 2 * n ≤ size → IsAmong n node → All IsUnknown (node_places node)
   node_inside n Ground few h = All-nil IsUnknown
-  node_inside n (Node k) few h = All-cons IsUnknown (2 * k) ((2 * k + 1) ∷ []) (omega arith) (All-cons IsUnknown (2 * k + 1) [] (omega arith) (All-nil IsUnknown))
+  node_inside n (Node k) few h =
+      All-cons IsUnknown (2 * k) ((2 * k + 1) ∷ []) (omega arith)
+      (All-cons IsUnknown (2 * k + 1) [] (omega arith) (All-nil IsUnknown))
 
   nodes_inside : (n : ℕ) (ns : List NodeAt) → 2 * n ≤ size → All (IsAmong n) ns → All IsUnknown (unknowns_of ns)
   nodes_inside n [] few h = All-nil IsUnknown
   nodes_inside n (node ∷ ns) few h =
-      All-append IsUnknown (node_places node) (unknowns_of ns) (node_inside n node few (All-head (IsAmong n) node ns h)) (nodes_inside n ns few (All-tail (IsAmong n) node ns h))
+      All-append IsUnknown (node_places node) (unknowns_of ns)
+      (node_inside n node few (All-head (IsAmong n) node ns h))
+      (nodes_inside n ns few (All-tail (IsAmong n) node ns h))
 
   branches_inside : (n branch m : ℕ) → 2 * n ≤ size → branch + m ≤ n → All IsUnknown (branch_places branch m)
   branches_inside n branch zero few h = All-nil IsUnknown
   branches_inside n branch (suc m) few h =
       let low : branch + m < n = omega arith in
-      All-append IsUnknown (branch_places branch m) (node_places (branch_of branch m)) (branches_inside n branch m few (omega arith)) (node_inside n (branch_of branch m) few low)
+      All-append IsUnknown (branch_places branch m) (node_places (branch_of branch m))
+      (branches_inside n branch m few (omega arith)) (node_inside n (branch_of branch m) few low)
 
   magnitude_inside : (n : ℕ) (model : LoadModel) (place : Option ℕ) → HasMagnitude n size model place → All IsUnknown (magnitude_places place)
   magnitude_inside n model None h = All-nil IsUnknown
@@ -134,7 +149,9 @@ module _ (size : ℕ) where
       All-append IsUnknown (node_places u.first ++ node_places u.second) (magnitude_places u.magnitude)
       (All-append IsUnknown (node_places u.first) (node_places u.second) (node_inside m u.first few s.first) (node_inside m u.second few s.second))
       (magnitude_inside n u.load.model u.magnitude s.magnitude) in
-      All-append (IsInside size) (load_places u) (flat_map load_places us) (cross_inside size (terminal_places u) (terminal_places u) at at) (loads_inside m n us few (All-tail (IsServed m n size) u us h))
+      All-append (IsInside size) (load_places u) (flat_map load_places us)
+      (cross_inside size (terminal_places u) (terminal_places u) at at)
+      (loads_inside m n us few (All-tail (IsServed m n size) u us h))
 
 -- the places that the device of an element reaches are among the rows and columns
 pub places_inside : (layout : LayoutView) (hertz place : ℕ) (e : Element) (s : Settings)
@@ -162,7 +179,8 @@ places_inside layout hertz place (the.Capacitor c) s at h =
     let ends = ends_of layout place (the.Capacitor c) in
     let one = nodes_inside size (length layout.nodes) ends.first (omega arith) at.below in
     cross_inside size (unknowns_of ends.first) (unknowns_of ends.first) one one
-places_inside layout hertz place (the.Load l) s at h = loads_inside (size_of layout) (length layout.nodes) (complex_count layout) _ (omega arith) h.bounded.loads
+places_inside layout hertz place (the.Load l) s at h =
+    loads_inside (size_of layout) (length layout.nodes) (complex_count layout) _ (omega arith) h.bounded.loads
 places_inside layout hertz place (the.RegControl c) s at h = All-nil (IsInside (size_of layout))
 places_inside layout hertz place (the.CapControl c) s at h = All-nil (IsInside (size_of layout))
 places_inside layout hertz place (the.Loadshape c) s at h = All-nil (IsInside (size_of layout))
@@ -178,7 +196,9 @@ all_small n ns few h = All-weaker (IsAmong n) IsSmall (λ node k. among_small n 
 
 -- the ends of an element at its place are small
 small_ends : (layout : LayoutView) (place : ℕ) (e : Element) → complex_count layout ≤ most_complex
-    → IsSited (length layout.nodes) (complex_count layout) (size_of layout) (first_magnitude layout place) (ends_of layout place e) e → AreSmallEnds e (ends_of layout place e)
+    → IsSited (length layout.nodes) (complex_count layout) (size_of layout) (first_magnitude layout place)
+    (ends_of layout place e) e
+    → AreSmallEnds e (ends_of layout place e)
 small_ends layout place (the.Vsource v) few h = tt
 small_ends layout place (the.Line l) few h = tt
 small_ends layout place (the.Linecode c) few h = tt
@@ -193,7 +213,9 @@ small_ends layout place (the.CapControl c) few h = tt
 small_ends layout place (the.Loadshape c) few h = tt
 
 pub small_ends_of : (layout : LayoutView) (place : ℕ) (e : Element) (at : Ends) → complex_count layout ≤ most_complex
-    → IsSited (length layout.nodes) (complex_count layout) (size_of layout) (first_magnitude layout place) (ends_of layout place e) e → at ≡ ends_of layout place e → AreSmallEnds e at
+    → IsSited (length layout.nodes) (complex_count layout) (size_of layout) (first_magnitude layout place)
+    (ends_of layout place e) e
+    → at ≡ ends_of layout place e → AreSmallEnds e at
 small_ends_of layout place e at few h same = subst (AreSmallEnds e) (sym same) (small_ends layout place e few h)
 
 -- part loads between nodes are small
@@ -225,9 +247,14 @@ few_branches (the.Loadshape c) h = omega arith
 
 -- ---- few
 
-pub fixed_few : (layout : LayoutView) (hertz place : ℕ) (e : Element) (s : Settings) → is_moved e ≡ false → IsSettled (length layout.nodes) (complex_count layout) (size_of layout) (branch_phases e) (device_of layout hertz place e s)
+pub fixed_few : (layout : LayoutView) (hertz place : ℕ) (e : Element) (s : Settings) → is_moved e ≡ false
+    → IsSettled (length layout.nodes) (complex_count layout) (size_of layout) (branch_phases e)
+    (device_of layout hertz place e s)
     → AreFewOf e (device_stamp (device_of layout hertz place e s))
-fixed_few layout hertz place (the.Vsource v) s h k = let t = k.bounded.terms.few in let c = k.bounded.few_constants in record { terms = omega arith; loads = omega arith; constants = omega arith }
+fixed_few layout hertz place (the.Vsource v) s h k =
+    let t = k.bounded.terms.few in
+    let c = k.bounded.few_constants in
+    record { terms = omega arith; loads = omega arith; constants = omega arith }
 fixed_few layout hertz place (the.Line l) s h k = let t = k.bounded.terms.few in record { terms = omega arith; loads = omega arith; constants = omega arith }
 fixed_few layout hertz place (the.Linecode c) s h k = record { terms = omega arith; loads = omega arith; constants = omega arith }
 fixed_few layout hertz place (the.Transformer x) s h k = cc
@@ -239,7 +266,8 @@ fixed_few layout hertz place (the.Loadshape c) s h k = record { terms = omega ar
 
 -- ---- what is kept, written again
 
-pub unmoved : (e : Element) → ((t : Transformer) → ¬ (e ≡ the.Transformer t)) → ((k : Capacitor) → ¬ (e ≡ the.Capacitor k)) → ((l : Load) → ¬ (e ≡ the.Load l)) → is_moved e ≡ false
+pub unmoved : (e : Element) → ((t : Transformer) → ¬ (e ≡ the.Transformer t))
+    → ((k : Capacitor) → ¬ (e ≡ the.Capacitor k)) → ((l : Load) → ¬ (e ≡ the.Load l)) → is_moved e ≡ false
 unmoved (the.Vsource v) a b c = refl
 unmoved (the.Line l) a b c = refl
 unmoved (the.Linecode k) a b c = refl
@@ -257,7 +285,8 @@ pub record IsSmallStamp (s : Stamp) : Type 0 where
   pub constants : length s.constants.items ≤ 6
   pub draw : s.draw ≤ 17_500_000_000_000
 
-pub kept_small : (layout : LayoutView) (hertz place : ℕ) (e : Element) (s : Settings) (k : Kept) → IsKeptOf layout hertz place e k → is_moved e ≡ false → ElementInRange e → IsSmallStamp k.stamp
+pub kept_small : (layout : LayoutView) (hertz place : ℕ) (e : Element) (s : Settings) (k : Kept)
+    → IsKeptOf layout hertz place e k → is_moved e ≡ false → ElementInRange e → IsSmallStamp k.stamp
 kept_small layout hertz place e s k h none range =
     let same = h.stamp none s in
     let b = (h.settled none s).bounded in

@@ -38,18 +38,25 @@ use Rattle.fd_devices.proofs.Bounded.{StandsInside, among_more, loads_settled, o
 
 all_concat : {X : Type 0} (P : X → Type 0) (n : ℕ) (f : ℕ → X) → ((k : ℕ) → k < n → P (f k)) → All P (concat_below (λ k. f k ∷ []) n)
 all_concat P zero f h = All-nil P
-all_concat P (suc n) f h = All-append P (concat_below (λ k. f k ∷ []) n) (f n ∷ []) (all_concat P n f (λ k p. h k (omega arith))) (All-cons P (f n) [] (h n (omega arith)) (All-nil P))
+all_concat P (suc n) f h =
+    All-append P (concat_below (λ k. f k ∷ []) n) (f n ∷ []) (all_concat P n f (λ k p. h k (omega arith)))
+    (All-cons P (f n) [] (h n (omega arith)) (All-nil P))
 
 length-concat : {X : Type 0} (n : ℕ) (f : ℕ → X) → length (concat_below (λ k. f k ∷ []) n) ≡ n
 length-concat zero f = refl
-length-concat (suc n) f = length-append (concat_below (λ k. f k ∷ []) n) (f n ∷ []) ∙ add-one (length (concat_below (λ k. f k ∷ []) n)) ∙ ap suc (length-concat n f)
+length-concat (suc n) f =
+    length-append (concat_below (λ k. f k ∷ []) n) (f n ∷ [])
+    ∙ add-one (length (concat_below (λ k. f k ∷ []) n))
+    ∙ ap suc (length-concat n f)
 
 few_phases : (phases : ℕ) → IsOneOf (1 ∷ 3 ∷ []) phases → phases ≤ 3
 few_phases phases (inl h) = omega arith
 few_phases phases (inr h) = omega arith
 
 -- the magnitude of phase k
-magnitude_inside : (n size phases first k : ℕ) (model : LoadModel) → (IsTrue (has_magnitude model) → HasMagnitudes n size phases first) → k < phases → HasMagnitude n size model (magnitude_place model first k)
+magnitude_inside : (n size phases first k : ℕ) (model : LoadModel)
+    → (IsTrue (has_magnitude model) → HasMagnitudes n size phases first) → k < phases
+    → HasMagnitude n size model (magnitude_place model first k)
 magnitude_inside n size phases first k ConstantPower h p = refl
 magnitude_inside n size phases first k ConstantImpedance h p = refl
 magnitude_inside n size phases first k ConstantCurrent h p =
@@ -60,8 +67,11 @@ magnitude_inside n size phases first k ConstantCurrent h p =
     let most : first + k < size = omega arith in
     (refl, (least, most))
 
-pub phases_settled : (load : Load) (ns : List NodeAt) (magnitude : ℕ) (powers : List LoadPower) → LoadInRange load → All IsUsable (phases_of load ns magnitude powers) → DeviceFits (loads (phases_of load ns magnitude powers))
-    → (m n size : ℕ) → m ≤ n → IsSideOf m (node_count load.phases) ns → (IsTrue (has_magnitude load.model) → HasMagnitudes n size load.phases magnitude) → IsSettled m n size 0 (loads (phases_of load ns magnitude powers))
+pub phases_settled : (load : Load) (ns : List NodeAt) (magnitude : ℕ) (powers : List LoadPower) → LoadInRange load
+    → All IsUsable (phases_of load ns magnitude powers) → DeviceFits (loads (phases_of load ns magnitude powers))
+    → (m n size : ℕ) → m ≤ n → IsSideOf m (node_count load.phases) ns
+    → (IsTrue (has_magnitude load.model) → HasMagnitudes n size load.phases magnitude)
+    → IsSettled m n size 0 (loads (phases_of load ns magnitude powers))
 phases_settled load ns magnitude powers range usable fits m n size among side places =
     let count = length-concat load.phases (load_at load ns magnitude powers) in
     let few = few_phases load.phases range.phases in
@@ -78,7 +88,9 @@ phases_settled load ns magnitude powers range usable fits m n size among side pl
 side_among : (m n count : ℕ) (ns : List NodeAt) → m ≤ n → IsSideOf m count ns → IsSideOf n count ns
 side_among m n count ns h s = record { count = s.count; below = All-weaker (IsAmong m) (IsAmong n) (λ node k. among_more m n node h k) ns s.below }
 
-module _ (layout : LayoutView) (hertz place : ℕ) (e : Element) (s : Settings) (at : Ends) (here : at ≡ ends_of layout place e) (sited : IsSited (length layout.nodes) (complex_count layout) (size_of layout) (first_magnitude layout place) (ends_of layout place e) e) where
+module _ (layout : LayoutView) (hertz place : ℕ) (e : Element) (s : Settings) (at : Ends)
+    (here : at ≡ ends_of layout place e) (sited : IsSited (length layout.nodes) (complex_count layout)
+    (size_of layout) (first_magnitude layout place) (ends_of layout place e) e) where
   abbrev Settled : Element → Type 0
   Settled x = IsSettled (length layout.nodes) (complex_count layout) (size_of layout) (branch_phases x) (device_of layout hertz place x s)
 
@@ -94,55 +106,92 @@ module _ (layout : LayoutView) (hertz place : ℕ) (e : Element) (s : Settings) 
   stands : Stands at e
   stands = subst (λ (t : Ends). Stands t e) (sym here) sited
 
-  pub source_here : (v : Vsource) → e ≡ the.Vsource v → ((m n size : ℕ) → IsSideOf n v.phases at.first → HasBranches n v.phases at → IsSettled m n size v.phases (source (source_data_of v) at)) → Settled e
+  pub source_here : (v : Vsource) → e ≡ the.Vsource v
+      → ((m n size : ℕ) → IsSideOf n v.phases at.first → HasBranches n v.phases at
+      → IsSettled m n size v.phases (source (source_data_of v) at))
+      → Settled e
   source_here v is h =
       let side = subst (λ (x : Element). Stands at x) is stands in
       let a = subst (λ (x : Element). at ≡ ends_of layout place x) is here in
-      subst Settled (sym is) (subst (λ (t : Ends). IsSettled (length layout.nodes) (complex_count layout) (size_of layout) v.phases (source (source_data_of v) t)) a (h (length layout.nodes) (complex_count layout) (size_of layout) (widened v.phases at.first side.0) side.1))
+      subst Settled (sym is) (subst (λ (t : Ends).
+      IsSettled (length layout.nodes) (complex_count layout) (size_of layout) v.phases (source (source_data_of v) t))
+      a (h (length layout.nodes) (complex_count layout) (size_of layout) (widened v.phases at.first side.0) side.1))
 
-  pub line_here : (l : Line) → e ≡ the.Line l → ((m n size : ℕ) → IsSideOf n l.phases at.first → IsSideOf n l.phases at.second → HasBranches n l.phases at → IsSettled m n size l.phases (line (line_data_of l hertz) at)) → Settled e
+  pub line_here : (l : Line) → e ≡ the.Line l
+      → ((m n size : ℕ) → IsSideOf n l.phases at.first → IsSideOf n l.phases at.second → HasBranches n l.phases at
+      → IsSettled m n size l.phases (line (line_data_of l hertz) at))
+      → Settled e
   line_here l is h =
       let side = subst (λ (x : Element). Stands at x) is stands in
       let a = subst (λ (x : Element). at ≡ ends_of layout place x) is here in
-      subst Settled (sym is) (subst (λ (t : Ends). IsSettled (length layout.nodes) (complex_count layout) (size_of layout) l.phases (line (line_data_of l hertz) t)) a (h (length layout.nodes) (complex_count layout) (size_of layout) (widened l.phases at.first side.0) (widened l.phases at.second side.1) side.2))
+      subst Settled (sym is) (subst (λ (t : Ends).
+      IsSettled (length layout.nodes) (complex_count layout) (size_of layout) l.phases
+      (line (line_data_of l hertz) t)) a (h (length layout.nodes) (complex_count layout) (size_of layout)
+      (widened l.phases at.first side.0) (widened l.phases at.second side.1) side.2))
 
   pub transformer_here : (t : Transformer) (taps : TapPair) → e ≡ the.Transformer t → taps ≡ first_taps s.taps
-      → ((m n size : ℕ) → IsSideOf n (node_count t.phases) at.first → IsSideOf n (node_count t.phases) at.second → HasBranches n t.phases at → IsSettled m n size t.phases (transformer (xfmr_data_of t) taps at)) → Settled e
+      → ((m n size : ℕ) → IsSideOf n (node_count t.phases) at.first → IsSideOf n (node_count t.phases) at.second
+      → HasBranches n t.phases at → IsSettled m n size t.phases (transformer (xfmr_data_of t) taps at))
+      → Settled e
   transformer_here t taps is own h =
       let side = subst (λ (x : Element). Stands at x) is stands in
       let a = subst (λ (x : Element). at ≡ ends_of layout place x) is here in
-      subst Settled (sym is) (subst (λ (u : TapPair). IsSettled (length layout.nodes) (complex_count layout) (size_of layout) t.phases (transformer (xfmr_data_of t) u (ends_of layout place (the.Transformer t)))) own
-      (subst (λ (u : Ends). IsSettled (length layout.nodes) (complex_count layout) (size_of layout) t.phases (transformer (xfmr_data_of t) taps u)) a (h (length layout.nodes) (complex_count layout) (size_of layout) (widened (node_count t.phases) at.first side.0) (widened (node_count t.phases) at.second side.1) side.2)))
+      subst Settled (sym is) (subst (λ (u : TapPair).
+      IsSettled (length layout.nodes) (complex_count layout) (size_of layout) t.phases
+      (transformer (xfmr_data_of t) u (ends_of layout place (the.Transformer t)))) own (subst (λ (u : Ends).
+      IsSettled (length layout.nodes) (complex_count layout) (size_of layout) t.phases
+      (transformer (xfmr_data_of t) taps u)) a (h (length layout.nodes) (complex_count layout) (size_of layout)
+      (widened (node_count t.phases) at.first side.0) (widened (node_count t.phases) at.second side.1) side.2)))
 
   pub capacitor_here : (k : Capacitor) (closed : Bool) → e ≡ the.Capacitor k → closed ≡ first_state s.closed
       → ((m n size : ℕ) → IsSideOf n (node_count k.phases) at.first → IsSettled m n size 0 (capacitor (cap_data_of k) closed at)) → Settled e
   capacitor_here k closed is own h =
       let side = subst (λ (x : Element). Stands at x) is stands in
       let a = subst (λ (x : Element). at ≡ ends_of layout place x) is here in
-      subst Settled (sym is) (subst (λ b. IsSettled (length layout.nodes) (complex_count layout) (size_of layout) 0 (capacitor (cap_data_of k) b (ends_of layout place (the.Capacitor k)))) own
-      (subst (λ (u : Ends). IsSettled (length layout.nodes) (complex_count layout) (size_of layout) 0 (capacitor (cap_data_of k) closed u)) a (h (length layout.nodes) (complex_count layout) (size_of layout) (widened (node_count k.phases) at.first side))))
+      subst Settled (sym is) (subst (λ b.
+      IsSettled (length layout.nodes) (complex_count layout) (size_of layout) 0
+      (capacitor (cap_data_of k) b (ends_of layout place (the.Capacitor k)))) own (subst (λ (u : Ends).
+      IsSettled (length layout.nodes) (complex_count layout) (size_of layout) 0 (capacitor (cap_data_of k) closed u))
+      a (h (length layout.nodes) (complex_count layout) (size_of layout)
+      (widened (node_count k.phases) at.first side))))
 
   -- the device of a load
-  pub load_is : (l : Load) (nodes : List NodeAt) (magnitude : ℕ) → e ≡ the.Load l → nodes ≡ at.first → magnitude ≡ first_magnitude layout place → loads (phases_of l nodes magnitude s.powers) ≡ device_of layout hertz place e s
+  pub load_is : (l : Load) (nodes : List NodeAt) (magnitude : ℕ) → e ≡ the.Load l → nodes ≡ at.first
+      → magnitude ≡ first_magnitude layout place
+      → loads (phases_of l nodes magnitude s.powers) ≡ device_of layout hertz place e s
   load_is l nodes magnitude is ns m =
       let a = subst (λ (x : Element). at ≡ ends_of layout place x) is here in
       let nodes_are = ns ∙ ap (λ (t : Ends). t.first) a in
       (λ i. loads (phases_of l (nodes_are i) (m i) s.powers)) ∙ ap (λ (x : Element). device_of layout hertz place x s) (sym is)
 
-  pub load_here : (l : Load) (nodes : List NodeAt) (magnitude : ℕ) → e ≡ the.Load l → nodes ≡ at.first → magnitude ≡ first_magnitude layout place
-      → ((m n size : ℕ) → m ≤ n → IsSideOf m (node_count l.phases) nodes → (IsTrue (has_magnitude l.model) → HasMagnitudes n size l.phases magnitude) → IsSettled m n size 0 (loads (phases_of l nodes magnitude s.powers))) → Settled e
+  pub load_here : (l : Load) (nodes : List NodeAt) (magnitude : ℕ) → e ≡ the.Load l → nodes ≡ at.first
+      → magnitude ≡ first_magnitude layout place
+      → ((m n size : ℕ) → m ≤ n → IsSideOf m (node_count l.phases) nodes
+      → (IsTrue (has_magnitude l.model) → HasMagnitudes n size l.phases magnitude)
+      → IsSettled m n size 0 (loads (phases_of l nodes magnitude s.powers)))
+      → Settled e
   load_here l nodes magnitude is ns m h =
       let side = subst (λ (x : Element). Stands at x) is stands in
       let a = subst (λ (x : Element). at ≡ ends_of layout place x) is here in
       let nodes_are = ns ∙ ap (λ (t : Ends). t.first) a in
-      let places : IsTrue (has_magnitude l.model) → HasMagnitudes (complex_count layout) (size_of layout) l.phases magnitude = λ has. subst (HasMagnitudes (complex_count layout) (size_of layout) l.phases) (sym m) (side.1 has) in
-      let settled = h (length layout.nodes) (complex_count layout) (size_of layout) all_nodes (subst (IsSideOf (length layout.nodes) (node_count l.phases)) (sym ns) side.0) places in
-      subst Settled (sym is) (subst (λ k. IsSettled (length layout.nodes) (complex_count layout) (size_of layout) 0 (loads (phases_of l (ends_of layout place (the.Load l)).first k s.powers))) m
-      (subst (λ us. IsSettled (length layout.nodes) (complex_count layout) (size_of layout) 0 (loads (phases_of l us magnitude s.powers))) nodes_are settled))
+      let places : IsTrue (has_magnitude l.model)
+      → HasMagnitudes (complex_count layout) (size_of layout) l.phases magnitude =
+      λ has. subst (HasMagnitudes (complex_count layout) (size_of layout) l.phases) (sym m) (side.1 has) in
+      let settled = h (length layout.nodes) (complex_count layout) (size_of layout) all_nodes
+      (subst (IsSideOf (length layout.nodes) (node_count l.phases)) (sym ns) side.0) places in
+      subst Settled (sym is) (subst (λ k.
+      IsSettled (length layout.nodes) (complex_count layout) (size_of layout) 0
+      (loads (phases_of l (ends_of layout place (the.Load l)).first k s.powers))) m
+      (subst (λ us. IsSettled (length layout.nodes) (complex_count layout) (size_of layout) 0
+      (loads (phases_of l us magnitude s.powers))) nodes_are settled))
 
 -- an element that takes no part in the equations
-pub other_here : (layout : LayoutView) (hertz place : ℕ) (s : Settings) (e : Element) → ((v : Vsource) → ¬ (e ≡ the.Vsource v)) → ((l : Line) → ¬ (e ≡ the.Line l)) → ((t : Transformer) → ¬ (e ≡ the.Transformer t))
-    → ((k : Capacitor) → ¬ (e ≡ the.Capacitor k)) → ((l : Load) → ¬ (e ≡ the.Load l)) → IsSettled (length layout.nodes) (complex_count layout) (size_of layout) (branch_phases e) (device_of layout hertz place e s)
+pub other_here : (layout : LayoutView) (hertz place : ℕ) (s : Settings) (e : Element)
+    → ((v : Vsource) → ¬ (e ≡ the.Vsource v)) → ((l : Line) → ¬ (e ≡ the.Line l))
+    → ((t : Transformer) → ¬ (e ≡ the.Transformer t))
+    → ((k : Capacitor) → ¬ (e ≡ the.Capacitor k)) → ((l : Load) → ¬ (e ≡ the.Load l))
+    → IsSettled (length layout.nodes) (complex_count layout) (size_of layout) (branch_phases e)
+    (device_of layout hertz place e s)
 other_here layout hertz place s (the.Vsource v) a b c d f = absurd (a v refl)
 other_here layout hertz place s (the.Linecode k) a b c d f = other_settled (length layout.nodes) (complex_count layout) (size_of layout)
 other_here layout hertz place s (the.Line l) a b c d f = absurd (b l refl)

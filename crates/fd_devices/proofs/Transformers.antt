@@ -48,39 +48,54 @@ module _ (n : ℕ) where
     branch_inside =
         joined_inside n 16 4 _ (complex_terms p.branch p.branch (neg_ℤ c.r) (neg_ℤ c.x) (pos (10 ^ 22)))
         (joined_inside n 8 8 _ _
-        (joined_inside n 4 4 (complex_terms p.branch p.winding1.first c.ratio (pos 0) c.ratio_over) (complex_terms p.branch p.winding1.second (neg_ℤ c.ratio) (pos 0) c.ratio_over)
-        (complex_inside n p.branch p.winding1.first c.ratio (pos 0) c.ratio_over branch one.first) (complex_inside n p.branch p.winding1.second (neg_ℤ c.ratio) (pos 0) c.ratio_over branch one.second))
-        (joined_inside n 4 4 (complex_terms p.branch p.winding2.first (negsuc 0) (pos 0) (pos 1)) (complex_terms p.branch p.winding2.second (pos 1) (pos 0) (pos 1))
-        (complex_inside n p.branch p.winding2.first (negsuc 0) (pos 0) (pos 1) branch two.first) (complex_inside n p.branch p.winding2.second (pos 1) (pos 0) (pos 1) branch two.second)))
+        (joined_inside n 4 4 (complex_terms p.branch p.winding1.first c.ratio (pos 0) c.ratio_over)
+        (complex_terms p.branch p.winding1.second (neg_ℤ c.ratio) (pos 0) c.ratio_over)
+        (complex_inside n p.branch p.winding1.first c.ratio (pos 0) c.ratio_over branch one.first)
+        (complex_inside n p.branch p.winding1.second (neg_ℤ c.ratio) (pos 0) c.ratio_over branch one.second))
+        (joined_inside n 4 4 (complex_terms p.branch p.winding2.first (negsuc 0) (pos 0) (pos 1))
+        (complex_terms p.branch p.winding2.second (pos 1) (pos 0) (pos 1))
+        (complex_inside n p.branch p.winding2.first (negsuc 0) (pos 0) (pos 1) branch two.first)
+        (complex_inside n p.branch p.winding2.second (pos 1) (pos 0) (pos 1) branch two.second)))
         (complex_inside n p.branch p.branch (neg_ℤ c.r) (neg_ℤ c.x) (pos (10 ^ 22)) branch branch)
 
     current_inside : AreInside n 16 (current_list c p)
     current_inside =
-        joined_inside n 4 12 (complex_terms p.winding1.first p.branch c.ratio (pos 0) c.ratio_over) _ (complex_inside n p.winding1.first p.branch c.ratio (pos 0) c.ratio_over one.first branch)
-        (joined_inside n 4 8 (complex_terms p.winding1.second p.branch (neg_ℤ c.ratio) (pos 0) c.ratio_over) _ (complex_inside n p.winding1.second p.branch (neg_ℤ c.ratio) (pos 0) c.ratio_over one.second branch)
-        (joined_inside n 4 4 (complex_terms p.winding2.first p.branch (negsuc 0) (pos 0) (pos 1)) (complex_terms p.winding2.second p.branch (pos 1) (pos 0) (pos 1))
-        (complex_inside n p.winding2.first p.branch (negsuc 0) (pos 0) (pos 1) two.first branch) (complex_inside n p.winding2.second p.branch (pos 1) (pos 0) (pos 1) two.second branch)))
+        joined_inside n 4 12 (complex_terms p.winding1.first p.branch c.ratio (pos 0) c.ratio_over) _
+        (complex_inside n p.winding1.first p.branch c.ratio (pos 0) c.ratio_over one.first branch)
+        (joined_inside n 4 8 (complex_terms p.winding1.second p.branch (neg_ℤ c.ratio) (pos 0) c.ratio_over) _
+        (complex_inside n p.winding1.second p.branch (neg_ℤ c.ratio) (pos 0) c.ratio_over one.second branch)
+        (joined_inside n 4 4 (complex_terms p.winding2.first p.branch (negsuc 0) (pos 0) (pos 1))
+        (complex_terms p.winding2.second p.branch (pos 1) (pos 0) (pos 1))
+        (complex_inside n p.winding2.first p.branch (negsuc 0) (pos 0) (pos 1) two.first branch)
+        (complex_inside n p.winding2.second p.branch (pos 1) (pos 0) (pos 1) two.second branch)))
 
     phase_inside : AreInside n 36 (phase_list c p)
     phase_inside = joined_inside n 20 16 (branch_list c p) (current_list c p) branch_inside current_inside
 
-  xfmr_inside : (d : XfmrData) (t : TapPair) (at : Ends) → All (IsAmong n) at.first → All (IsAmong n) at.second → at.branch + d.phases ≤ n → AreInside n (d.phases * 64) (xfmr_list d t at)
-  xfmr_inside d t at first second room = more_room n (d.phases * 36) (d.phases * 64) (xfmr_list d t at) (omega arith)
-      (concat_inside n 36 (list_at (coefficients_of d t) d at) d.phases
-      (λ k p. phase_inside (coefficients_of d t) (phase_at d at k) (pair_below (first_pairs d) at.first k first) (pair_below (second_pairs d) at.second k second) (below k p)))
+  xfmr_inside : (d : XfmrData) (t : TapPair) (at : Ends) → All (IsAmong n) at.first → All (IsAmong n) at.second
+      → at.branch + d.phases ≤ n → AreInside n (d.phases * 64) (xfmr_list d t at)
+  xfmr_inside d t at first second room =
+      more_room n (d.phases * 36) (d.phases * 64) (xfmr_list d t at) (omega arith)
+      (concat_inside n 36 (list_at (coefficients_of d t) d at) d.phases (λ k p.
+      phase_inside (coefficients_of d t) (phase_at d at k) (pair_below (first_pairs d) at.first k first)
+      (pair_below (second_pairs d) at.second k second) (below k p)))
     where
       below : (k : ℕ) → k < d.phases → at.branch + k < n
       below k p = omega arith
 
 -- ---- what it adds
 
-pub transformer_settled : (m n size : ℕ) (d : XfmrData) (t : TapPair) (at : Ends) → IsXfmr d → AreTaps t → IsSideOf n (node_count d.phases) at.first → IsSideOf n (node_count d.phases) at.second → HasBranches n d.phases at
-    → All IsWithin (xfmr_list d t at) → IsSettled m n size d.phases (transformer d t at)
+pub transformer_settled : (m n size : ℕ) (d : XfmrData) (t : TapPair) (at : Ends) → IsXfmr d → AreTaps t
+    → IsSideOf n (node_count d.phases) at.first → IsSideOf n (node_count d.phases) at.second
+    → HasBranches n d.phases at → All IsWithin (xfmr_list d t at) → IsSettled m n size d.phases (transformer d t at)
 transformer_settled m n size d t at h k first second branches w = record {
   fits = fits_by (transformer d t at) w (All-nil (λ u. ¬ (IsPast u.load)));
   good = (h, k);
   bounded = record {
-    terms = contributions n (64 * (1 + d.phases)) (xfmr_list d t at) (more_room n (d.phases * 64) (64 * (1 + d.phases)) (xfmr_list d t at) (omega arith) (xfmr_inside n d t at first.below second.below branches.below)) (xfmr_is d t at h k).divided w;
+    terms = contributions n (64 * (1 + d.phases)) (xfmr_list d t at)
+        (more_room n (d.phases * 64) (64 * (1 + d.phases)) (xfmr_list d t at) (omega arith)
+        (xfmr_inside n d t at first.below second.below branches.below))
+        (xfmr_is d t at h k).divided w;
     constants = All-nil (IsKnown (2 * n));
     few_constants = omega arith;
     loads = All-nil (IsServed m n size);

@@ -45,7 +45,12 @@ pub record HasMagnitudes (n size m first : ℕ) : Type 0 where
 abbrev pub IsSited : ℕ → ℕ → ℕ → ℕ → Ends → Element → Type 0
 IsSited nodes n size magnitude at (the.Vsource v) = IsSideOf nodes v.phases at.first × HasBranches n v.phases at
 IsSited nodes n size magnitude at (the.Line l) = IsSideOf nodes l.phases at.first × IsSideOf nodes l.phases at.second × HasBranches n l.phases at
-IsSited nodes n size magnitude at (the.Transformer t) = IsSideOf nodes (node_count t.phases) at.first × IsSideOf nodes (node_count t.phases) at.second × HasBranches n t.phases at
+IsSited nodes n size magnitude at (the.Transformer t) =
+    IsSideOf nodes (node_count t.phases) at.first
+    × IsSideOf nodes (node_count t.phases) at.second
+    × HasBranches n t.phases at
 IsSited nodes n size magnitude at (the.Capacitor c) = IsSideOf nodes (node_count c.phases) at.first
-IsSited nodes n size magnitude at (the.Load l) = IsSideOf nodes (node_count l.phases) at.first × (IsTrue (has_magnitude l.model) → HasMagnitudes n size l.phases magnitude)
+IsSited nodes n size magnitude at (the.Load l) =
+    IsSideOf nodes (node_count l.phases) at.first
+    × (IsTrue (has_magnitude l.model) → HasMagnitudes n size l.phases magnitude)
 IsSited nodes n size magnitude at e = Unit {0}

@@ -38,7 +38,9 @@ pub record IsReadyAt (layout : LayoutView) (place : ℕ) (e : Element) : Type 0 
 
 -- at its place in a layout, with these settings
 abbrev pub IsSettledAt : LayoutView → ℕ → ℕ → Element → Settings → Type 0
-IsSettledAt layout hertz place e s = IsSettled (length layout.nodes) (complex_count layout) (size_of layout) (branch_phases e) (device_of layout hertz place e s)
+IsSettledAt layout hertz place e s =
+    IsSettled (length layout.nodes) (complex_count layout) (size_of layout) (branch_phases e)
+    (device_of layout hertz place e s)
 
 -- among any unknowns, of which its first side and its branches are
 abbrev pub SettlesBehind : ℕ → Ends → Device → Type 0
@@ -46,7 +48,9 @@ SettlesBehind phases at d = (m n size : ℕ) → IsSideOf n phases at.first → 
 
 -- of which its sides, of so many nodes, and its branches are
 abbrev pub SettlesBetween : ℕ → ℕ → Ends → Device → Type 0
-SettlesBetween count phases at d = (m n size : ℕ) → IsSideOf n count at.first → IsSideOf n count at.second → HasBranches n phases at → IsSettled m n size phases d
+SettlesBetween count phases at d =
+    (m n size : ℕ) → IsSideOf n count at.first → IsSideOf n count at.second → HasBranches n phases at
+    → IsSettled m n size phases d
 
 -- of which its nodes are, so many, without branches
 abbrev pub SettlesOn : ℕ → List NodeAt → Device → Type 0
@@ -55,4 +59,5 @@ SettlesOn count nodes d = (m n size : ℕ) → IsSideOf n count nodes → IsSett
 -- of which the nodes of a load come first, and the magnitudes of one of constant current last
 abbrev pub SettlesAsLoad : Load → List NodeAt → ℕ → Device → Type 0
 SettlesAsLoad load nodes magnitude d =
-    (m n size : ℕ) → m ≤ n → IsSideOf m (node_count load.phases) nodes → (IsTrue (has_magnitude load.model) → HasMagnitudes n size load.phases magnitude) → IsSettled m n size 0 d
+    (m n size : ℕ) → m ≤ n → IsSideOf m (node_count load.phases) nodes
+    → (IsTrue (has_magnitude load.model) → HasMagnitudes n size load.phases magnitude) → IsSettled m n size 0 d

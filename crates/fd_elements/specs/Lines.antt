@@ -54,7 +54,9 @@ abbrev pub matrix_or_zero : ℕ → Option (List ℤ) → List ℤ
 matrix_or_zero phases matrix = unwrap_or matrix (replicate (phases * phases) (pos 0))
 
 abbrev pub series_of : Option DataForm → Line → LineForm
-series_of (Some data_form.Matrix) line = line_form.Matrix (matrix_or_zero line.phases line.constants.rmatrix) (matrix_or_zero line.phases line.constants.xmatrix)
+series_of (Some data_form.Matrix) line =
+    line_form.Matrix (matrix_or_zero line.phases line.constants.rmatrix)
+    (matrix_or_zero line.phases line.constants.xmatrix)
 series_of other line = series_by_sequence line.constants
 
 -- with no form there is no charging

@@ -90,7 +90,9 @@ fn series_by_matrices(alloc: Global, line: &Line) -> Result<LineForm, AllocError
     requires range { LineInRange line.now }
     requires r { is_size_wrong line.now.phases line.now.constants.rmatrix ≡ false }
     requires x { is_size_wrong line.now.phases line.now.constants.xmatrix ≡ false }
-    ensures value { IfOk result (λ f. f ≡ LineForm.Matrix (matrix_or_zero line.now.phases line.now.constants.rmatrix) (matrix_or_zero line.now.phases line.now.constants.xmatrix)) }
+    ensures value { IfOk result (λ f. f
+        ≡ LineForm.Matrix (matrix_or_zero line.now.phases line.now.constants.rmatrix)
+        (matrix_or_zero line.now.phases line.now.constants.xmatrix)) }
     ensures within { IfOk result (λ f. IsForm line.now.phases f) }
 {
     let r = matrix(alloc, line.phases, &line.constants.rmatrix)?;

@@ -35,11 +35,15 @@ none_holds p n k e h = false_from_ne_true (p k) (λ t. let s : is_some (first_pl
 module _ (n : ℕ) (C J : ℕ → ℕ → ℤ) (R : ℕ → ℕ → ℕ) (w : ℕ → ℕ) where
   module _ (e f : ℕ → ℕ) (same : (l : ℕ) → l < n → e l ≡ f l) where
     reach_same : (i : ℕ) → reach_at n C J R w e i ≡ reach_at n C J R w f i
-    reach_same i = ap (λ s. ceil_nat (s * 2 ^ 20) (w i)) (sum_n-same (λ l. unsigned_abs (C i l) * (2 * e l)) (λ l. unsigned_abs (C i l) * (2 * f l)) n (λ l p. ap (λ m. unsigned_abs (C i l) * (2 * m)) (same l p)))
+    reach_same i =
+        ap (λ s. ceil_nat (s * 2 ^ 20) (w i)) (sum_n-same (λ l. unsigned_abs (C i l) * (2 * e l))
+        (λ l. unsigned_abs (C i l) * (2 * f l)) n (λ l p. ap (λ m. unsigned_abs (C i l) * (2 * m)) (same l p)))
 
     radius_same : (i : ℕ) → radius_at n C J R w e i ≡ radius_at n C J R w f i
     unfolding radius_at
-    radius_same i = ap (λ b. ceil_nat (w i * b) (2 ^ 20 * (2 ^ 40 - bound_of n C J R w))) (greatest-same (reach_at n C J R w e) (reach_at n C J R w f) n (λ k p. reach_same k))
+    radius_same i =
+        ap (λ b. ceil_nat (w i * b) (2 ^ 20 * (2 ^ 40 - bound_of n C J R w)))
+        (greatest-same (reach_at n C J R w e) (reach_at n C J R w f) n (λ k p. reach_same k))
 
   -- ---- what isn't refused
 
@@ -129,7 +133,10 @@ module _ (v : NetworkView) (x : List ℤ) (c : List (List ℤ)) where
         bounded = all_bounded n (entry c) J R w (mismatch_at v x) certain;
         radii_long = radii_length e;
         radii_least = λ i p. subst (λ k. radius_in v x c e i ≤ k) (sym (radius_of_claim e i p)) (omega arith);
-        radii_most = λ i p. subst (λ k. k ≤ 2 ^ 40) (sym (radius_of_claim e i p ∙ radius_same n (entry c) J R w (number_at e) (mismatch_at v x) mismatch_of_claim i)) (all_narrow n (entry c) J R w (mismatch_at v x) certain i p);
+        radii_most = λ i p.
+            subst (λ k. k ≤ 2 ^ 40) (sym (radius_of_claim e i p
+            ∙ radius_same n (entry c) J R w (number_at e) (mismatch_at v x) mismatch_of_claim i))
+            (all_narrow n (entry c) J R w (mismatch_at v x) certain i p);
       }
 
 pub certificate_sound : CertificateLaw

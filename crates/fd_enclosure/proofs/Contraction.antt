@@ -42,14 +42,20 @@ identity q C J y i n h =
 
 -- what a row of the inverse makes of y
 pub spread : (q : ℤ) (C : ℕ → ℤ) (J : ℕ → ℕ → ℤ) (y : ℕ → ℤ) (i n : ℕ) → i < n
-    → unsigned_abs q * unsigned_abs (y i) ≤ sum_n (λ j. unsigned_abs (diagonal q i j -ℤ sum_z (λ l. C l *ℤ J l j) n) * unsigned_abs (y j)) n + sum_n (λ l. unsigned_abs (C l) * unsigned_abs (sum_z (λ j. J l j *ℤ y j) n)) n
+    → unsigned_abs q * unsigned_abs (y i)
+    ≤ sum_n (λ j. unsigned_abs (diagonal q i j -ℤ sum_z (λ l. C l *ℤ J l j) n) * unsigned_abs (y j)) n
+    + sum_n (λ l. unsigned_abs (C l) * unsigned_abs (sum_z (λ j. J l j *ℤ y j) n)) n
 spread q C J y i n h =
     let e = ap unsigned_abs (identity q C J y i n h) in
     let p = abs_add (sum_z (λ j. (diagonal q i j -ℤ sum_z (λ l. C l *ℤ J l j) n) *ℤ y j) n) (sum_z (λ l. C l *ℤ sum_z (λ j. J l j *ℤ y j) n) n) in
     let a = abs_sum (λ j. (diagonal q i j -ℤ sum_z (λ l. C l *ℤ J l j) n) *ℤ y j) n in
     let b = abs_sum (λ l. C l *ℤ sum_z (λ j. J l j *ℤ y j) n) n in
-    let a2 = sum_n-same (λ j. unsigned_abs ((diagonal q i j -ℤ sum_z (λ l. C l *ℤ J l j) n) *ℤ y j)) (λ j. unsigned_abs (diagonal q i j -ℤ sum_z (λ l. C l *ℤ J l j) n) * unsigned_abs (y j)) n (λ j s. unsigned_abs-mul (diagonal q i j -ℤ sum_z (λ l. C l *ℤ J l j) n) (y j)) in
-    let b2 = sum_n-same (λ l. unsigned_abs (C l *ℤ sum_z (λ j. J l j *ℤ y j) n)) (λ l. unsigned_abs (C l) * unsigned_abs (sum_z (λ j. J l j *ℤ y j) n)) n (λ l s. unsigned_abs-mul (C l) (sum_z (λ j. J l j *ℤ y j) n)) in
+    let a2 = sum_n-same (λ j. unsigned_abs ((diagonal q i j -ℤ sum_z (λ l. C l *ℤ J l j) n) *ℤ y j))
+    (λ j. unsigned_abs (diagonal q i j -ℤ sum_z (λ l. C l *ℤ J l j) n) * unsigned_abs (y j)) n (λ j s.
+    unsigned_abs-mul (diagonal q i j -ℤ sum_z (λ l. C l *ℤ J l j) n) (y j)) in
+    let b2 = sum_n-same (λ l. unsigned_abs (C l *ℤ sum_z (λ j. J l j *ℤ y j) n))
+    (λ l. unsigned_abs (C l) * unsigned_abs (sum_z (λ j. J l j *ℤ y j) n)) n (λ l s.
+    unsigned_abs-mul (C l) (sum_z (λ j. J l j *ℤ y j) n)) in
     let c = unsigned_abs-mul q (y i) in
     omega arith
 
@@ -58,10 +64,15 @@ pub rows_bound : (c : ℕ → ℕ) (R : ℕ → ℕ → ℕ) (a g v : ℕ → �
     → ((l : ℕ) → l < n → v l ≤ sum_n (λ j. R l j * a j) n + g l)
     → sum_n (λ l. c l * v l) n ≤ sum_n (λ j. sum_n (λ l. c l * R l j) n * a j) n + sum_n (λ l. c l * g l) n
 rows_bound c R a g v n h =
-    let one = sum_n-le (λ l. c l * v l) (λ l. sum_n (λ j. c l * R l j * a j) n + c l * g l) n (λ l p. let s = h l p in let t = sum_n-times (c l) (λ j. R l j * a j) n in let t2 = sum_n-same (λ j. c l * R l j * a j) (λ j. c l * (R l j * a j)) n (λ j q. omega arith) in omega (arith, mul-le-mul_left (c l) s)) in
+    let one = sum_n-le (λ l. c l * v l) (λ l. sum_n (λ j. c l * R l j * a j) n + c l * g l) n (λ l p.
+    let s = h l p in
+    let t = sum_n-times (c l) (λ j. R l j * a j) n in
+    let t2 = sum_n-same (λ j. c l * R l j * a j) (λ j. c l * (R l j * a j)) n (λ j q. omega arith) in
+    omega (arith, mul-le-mul_left (c l) s)) in
     let two = sum_n-add (λ l. sum_n (λ j. c l * R l j * a j) n) (λ l. c l * g l) n in
     let three = sum_n-swap (λ l j. c l * R l j * a j) n n in
-    let four = sum_n-same (λ j. sum_n (λ l. c l * R l j * a j) n) (λ j. sum_n (λ l. c l * R l j) n * a j) n (λ j p. sum_n-times_right (λ l. c l * R l j) (a j) n) in
+    let four = sum_n-same (λ j. sum_n (λ l. c l * R l j * a j) n) (λ j. sum_n (λ l. c l * R l j) n * a j) n
+    (λ j p. sum_n-times_right (λ l. c l * R l j) (a j) n) in
     omega arith
 
 chain : (aj wj ak wk an wn : ℕ) → 0 < wk → aj * wk ≤ ak * wj → ak * wn ≤ an * wk → aj * wn ≤ an * wj
@@ -104,9 +115,11 @@ weighted T a w n k best =
 
 -- row k: S^2 |y_k| is at most what T makes of |y|, and what the inverse makes of the mismatches
 pub row_whole : (s d : ℕ) (C J : ℕ → ℕ → ℤ) (R : ℕ → ℕ → ℕ) (y : ℕ → ℤ) (e : ℕ → ℕ) (n k : ℕ)
-    → ((l : ℕ) → l < n → unsigned_abs (sum_z (λ j. J l j *ℤ y j) n) ≤ sum_n (λ j. R l j * unsigned_abs (y j)) n + 2 * e l * (d * s))
+    → ((l : ℕ) → l < n
+    → unsigned_abs (sum_z (λ j. J l j *ℤ y j) n) ≤ sum_n (λ j. R l j * unsigned_abs (y j)) n + 2 * e l * (d * s))
     → k < n
-    → s * s * unsigned_abs (y k) ≤ sum_n (λ j. left_in (pos (s * s)) C J R n k j * unsigned_abs (y j)) n + sum_n (λ l. unsigned_abs (C k l) * (2 * e l)) n * (d * s)
+    → s * s * unsigned_abs (y k) ≤ sum_n (λ j. left_in (pos (s * s)) C J R n k j * unsigned_abs (y j)) n
+    + sum_n (λ l. unsigned_abs (C k l) * (2 * e l)) n * (d * s)
 row_whole s d C J R y e n k rows k_in =
     let a = λ (j : ℕ). unsigned_abs (y j) in
     let c = λ (l : ℕ). unsigned_abs (C k l) in
@@ -137,7 +150,9 @@ at_places s u d K B C J R y e w r n k s_pos u_pos w_pos rows hK small hB hr k_in
     let b = mul-le-mul_right (w k) whole in
     let t_pos : 0 < s - K = omega arith in
     let t_is : s ≡ (s - K) + K = omega arith in
-    let h = at_greatest s u d (unsigned_abs (y k)) (w k) (sum_n (λ j. w j * T j) n) (sum_n (λ l. unsigned_abs (C k l) * (2 * e l)) n) K B (s - K) s_pos (w_pos k k_in) (omega arith) (hK k k_in) (hB k k_in) t_is in
+    let h = at_greatest s u d (unsigned_abs (y k)) (w k) (sum_n (λ j. w j * T j) n)
+    (sum_n (λ l. unsigned_abs (C k l) * (2 * e l)) n) K B (s - K) s_pos (w_pos k k_in) (omega arith) (hK k k_in)
+    (hB k k_in) t_is in
     rest (u * (s - K)) d (unsigned_abs (y k)) (w k) (unsigned_abs (y i)) (w i) (r i) B (mul-pos u_pos t_pos) (w_pos k k_in) h (best i i_in) (hr i i_in)
 
 pub enclosed : (s u d K B : ℕ) (C J : ℕ → ℕ → ℤ) (R : ℕ → ℕ → ℕ) (y : ℕ → ℤ) (e w r : ℕ → ℕ) (n : ℕ)

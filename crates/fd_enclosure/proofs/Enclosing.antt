@@ -108,10 +108,15 @@ module _ (v : NetworkView) (m : Claim) (net : IsNetwork v) (sound : IsSound v m)
   small = greatest_less row_bound unknowns (2 ^ 40) (lit< tt) (λ i p. let q = known i p in subst (λ t. t < 2 ^ 40) (sym q.0) q.1)
 
   bounds_cover : (i : ℕ) → i < unknowns → row_total unknowns C J R w i ≤ K * (w i * 2 ^ 40)
-  bounds_cover i p = let q = known i p in covered (row_total unknowns C J R w i) (w i * 2 ^ 40) K (mul-pos (heavy i) (lit< tt)) (subst (λ t. t ≤ K) q.0 (le_greatest row_bound unknowns i p))
+  bounds_cover i p =
+      let q = known i p in
+      covered (row_total unknowns C J R w i) (w i * 2 ^ 40) K (mul-pos (heavy i) (lit< tt))
+      (subst (λ t. t ≤ K) q.0 (le_greatest row_bound unknowns i p))
 
   reach_covers : (i : ℕ) → i < unknowns → sum_n (λ l. unsigned_abs (C i l) * (2 * e l)) unknowns * 2 ^ 20 ≤ B * w i
-  reach_covers i p = covered (sum_n (λ l. unsigned_abs (C i l) * (2 * e l)) unknowns * 2 ^ 20) (w i) B (heavy i) (le_greatest (reach_at unknowns C J R w e) unknowns i p)
+  reach_covers i p =
+      covered (sum_n (λ l. unsigned_abs (C i l) * (2 * e l)) unknowns * 2 ^ 20) (w i) B (heavy i)
+      (le_greatest (reach_at unknowns C J R w e) unknowns i p)
 
   radii_cover : (i : ℕ) → i < unknowns → w i * B ≤ r i * (2 ^ 20 * (2 ^ 40 - K))
   unfolding radius_at
@@ -124,9 +129,13 @@ module _ (v : NetworkView) (m : Claim) (net : IsNetwork v) (sound : IsSound v m)
   pub follower_within : (x : State) → 0 < x.over → ((l : ℕ) → l < unknowns → RowFollows v m.centre x l)
       → Meets (residual_of v.stamp) e unknowns x → IsWithinRadii v m.centre m.radii x
   follower_within x over follows meets =
-      enclosed (2 ^ 40) (2 ^ 20) x.over K B C J R (away m.centre x) e w r unknowns (lit< tt) (lit< tt) (λ j p. heavy j)
-      (λ l p. row_from_fractions (residual_of v.stamp x l) (residual_of v.stamp (whole_state m.centre) l) (sum_z (λ j. J l j *ℤ away m.centre x j) unknowns) (sum_n (λ j. R l j * unsigned_abs (away m.centre x j)) unknowns) (e l) (x.over * 2 ^ 40)
-      (residual_positive v net x l over) (residual_positive v net (whole_state m.centre) l (lit< tt)) (follows l p) (meets l p) (centre_meets_all l p))
+      enclosed (2 ^ 40) (2 ^ 20) x.over K B C J R (away m.centre x) e w r unknowns (lit< tt) (lit< tt)
+      (λ j p. heavy j) (λ l p.
+      row_from_fractions (residual_of v.stamp x l) (residual_of v.stamp (whole_state m.centre) l)
+      (sum_z (λ j. J l j *ℤ away m.centre x j) unknowns)
+      (sum_n (λ j. R l j * unsigned_abs (away m.centre x j)) unknowns) (e l) (x.over * 2 ^ 40)
+      (residual_positive v net x l over) (residual_positive v net (whole_state m.centre) l (lit< tt)) (follows l p)
+      (meets l p) (centre_meets_all l p))
       bounds_cover small reach_covers radii_cover
 
 pub sound_encloses : ChangeLaw → EnclosureLaw

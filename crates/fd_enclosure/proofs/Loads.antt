@@ -35,24 +35,34 @@ module _ (box : ℕ → ℕ) (c : List ℤ) (x : State) (n l : ℕ) where
   -- ---- the row of a magnitude
 
   abbrev row_of_magnitude : LoadAt → State → Option ℕ → Fraction
-  row_of_magnitude u s place = magnitude_row (nat_abs u.load.vn) (re_of s u.first -ℤ re_of s u.second) (im_of s u.first -ℤ im_of s u.second) (magnitude_of s place) s.over
+  row_of_magnitude u s place =
+      magnitude_row (nat_abs u.load.vn) (re_of s u.first -ℤ re_of s u.second) (im_of s u.first -ℤ im_of s u.second)
+      (magnitude_of s place) s.over
 
   with_nothing : (t : Bool) (z : ℤ) → (cond t z (pos 0) +ℤ pos 0) ≡ cond t z (pos 0)
   with_nothing t z = omega (arith, ints)
 
   magnitude_near : (u : LoadAt) (place : Option ℕ) (J : ℕ → ℤ) (R ct : ℕ → ℕ)
-      → (is_some place ≡ true → Near_in (row_of_magnitude u x place) (row_of_magnitude u (whole_state c) place) J (λ j. R j + 4 * ct j))
-      → Near_in (sum_of (seen l) (magnitude_parts u x place)) (sum_of (seen l) (magnitude_parts u (whole_state c) place)) (λ j. at_magnitude l place (J j)) (λ j. spread_magnitude l place (R j) + 4 * (count_magnitude l place * ct j))
+      → (is_some place ≡ true
+      → Near_in (row_of_magnitude u x place) (row_of_magnitude u (whole_state c) place) J (λ j. R j + 4 * ct j))
+      → Near_in (sum_of (seen l) (magnitude_parts u x place))
+      (sum_of (seen l) (magnitude_parts u (whole_state c) place)) (λ j. at_magnitude l place (J j))
+      (λ j. spread_magnitude l place (R j) + 4 * (count_magnitude l place * ct j))
   magnitude_near u None J R ct h =
-      row_more (away c x) n (x.over * 2 ^ 40) nothing nothing (λ j. pos 0) (λ j. pos 0) (λ j. 0) (λ j. 0 + 4 * (0 * ct j)) (λ j p. refl) (λ j p. omega arith) (row_still (away c x) n (x.over * 2 ^ 40) nothing)
+      row_more (away c x) n (x.over * 2 ^ 40) nothing nothing (λ j. pos 0) (λ j. pos 0) (λ j. 0)
+      (λ j. 0 + 4 * (0 * ct j)) (λ j p. refl) (λ j p. omega arith) (row_still (away c x) n (x.over * 2 ^ 40) nothing)
   magnitude_near u (Some k) J R ct h =
       let a = row_of_magnitude u x (Some k) in
       let b = row_of_magnitude u (whole_state c) (Some k) in
-      row_more (away c x) n (x.over * 2 ^ 40) (cond (eqb k l) a nothing ⊕ nothing) (cond (eqb k l) b nothing ⊕ nothing)
-      (λ j. cond (eqb k l) (J j) (pos 0) +ℤ pos 0) (λ j. cond (eqb k l) (J j) (pos 0)) (λ j. (cond (eqb k l) (R j) 0 + 4 * (cond (eqb k l) 1 0 * ct j)) + 0) (λ j. cond (eqb k l) (R j) 0 + 4 * (cond (eqb k l) 1 0 * ct j))
+      row_more (away c x) n (x.over * 2 ^ 40) (cond (eqb k l) a nothing ⊕ nothing)
+      (cond (eqb k l) b nothing ⊕ nothing) (λ j. cond (eqb k l) (J j) (pos 0) +ℤ pos 0)
+      (λ j. cond (eqb k l) (J j) (pos 0)) (λ j. (cond (eqb k l) (R j) 0 + 4 * (cond (eqb k l) 1 0 * ct j)) + 0)
+      (λ j. cond (eqb k l) (R j) 0 + 4 * (cond (eqb k l) 1 0 * ct j))
       (λ j p. with_nothing (eqb k l) (J j)) (λ j p. omega arith)
-      (row_plus (away c x) n (x.over * 2 ^ 40) (cond (eqb k l) a nothing) (cond (eqb k l) b nothing) nothing nothing (λ j. cond (eqb k l) (J j) (pos 0)) (λ j. pos 0) (λ j. cond (eqb k l) (R j) 0 + 4 * (cond (eqb k l) 1 0 * ct j)) (λ j. 0)
-      (alone_near (away c x) n (x.over * 2 ^ 40) (eqb k l) a b J R ct (h refl)) (row_still (away c x) n (x.over * 2 ^ 40) nothing))
+      (row_plus (away c x) n (x.over * 2 ^ 40) (cond (eqb k l) a nothing) (cond (eqb k l) b nothing) nothing nothing
+      (λ j. cond (eqb k l) (J j) (pos 0)) (λ j. pos 0) (λ j. cond (eqb k l) (R j) 0 + 4 * (cond (eqb k l) 1 0 * ct j))
+      (λ j. 0) (alone_near (away c x) n (x.over * 2 ^ 40) (eqb k l) a b J R ct (h refl))
+      (row_still (away c x) n (x.over * 2 ^ 40) nothing))
 
   -- ---- a part load whose rows follow its slopes
 
@@ -69,9 +79,11 @@ module _ (box : ℕ → ℕ) (c : List ℤ) (x : State) (n l : ℕ) where
     ct j = count_terminal j u
 
     drawn_near : RowsFollow box c x u
-        → Near_in (equation l (load_parts u x)) (equation l (load_parts u (whole_state c)))
-        (λ j. at_terminal l u (slope_in j u (slopes_there c u).real) (slope_in j u (slopes_there c u).imaginary) (slope_in j u (slopes_there c u).magnitude))
-        (λ j. spread l u (radius_in j u (radii_in box c u).real) (radius_in j u (radii_in box c u).imaginary) (radius_in j u (radii_in box c u).magnitude) + 4 * (count_terminal l u * count_terminal j u))
+        → Near_in (equation l (load_parts u x)) (equation l (load_parts u (whole_state c))) (λ j.
+        at_terminal l u (slope_in j u (slopes_there c u).real) (slope_in j u (slopes_there c u).imaginary)
+        (slope_in j u (slopes_there c u).magnitude))
+        (λ j. spread l u (radius_in j u (radii_in box c u).real) (radius_in j u (radii_in box c u).imaginary)
+        (radius_in j u (radii_in box c u).magnitude) + 4 * (count_terminal l u * count_terminal j u))
     unfolding at_terminal spread count_terminal slopes_there
     drawn_near f =
         let s = slopes_at c u in
@@ -91,22 +103,35 @@ module _ (box : ℕ → ℕ) (c : List ℤ) (x : State) (n l : ℕ) where
           im = columns c x n u h.im g.im s.imaginary r.imaginary first second third f.imaginary;
         } in
         let A = side_near y n k l u.first h g Jr Ji Rr Ri ct two in
-        let B = side_near y n k l u.second (negative h) (negative g) (λ j. neg_ℤ (Jr j)) (λ j. neg_ℤ (Ji j)) Rr Ri ct (both_negative y n k h g Jr Ji Rr Ri ct two) in
-        let M = magnitude_near u u.magnitude Jm Rm ct (λ e. columns c x n u (magnitude_value u x) (magnitude_value u (whole_state c)) s.magnitude r.magnitude first second third (f.magnitude (own e))) in
-        row_more y n k (equation l (load_parts u x)) (equation l (load_parts u (whole_state c))) _ _ _ _
-        (λ j p. three_z (at_node l u.first (Jr j) (Ji j)) (at_node l u.second (neg_ℤ (Jr j)) (neg_ℤ (Ji j))) (at_magnitude l u.magnitude (Jm j)))
-        (λ j p. three_n (spread_node l u.first (Rr j) (Ri j)) (spread_node l u.second (Rr j) (Ri j)) (spread_magnitude l u.magnitude (Rm j)) (count_node l u.first) (count_node l u.second) (count_magnitude l u.magnitude) (ct j))
+        let B = side_near y n k l u.second (negative h) (negative g) (λ j. neg_ℤ (Jr j)) (λ j. neg_ℤ (Ji j)) Rr Ri ct
+        (both_negative y n k h g Jr Ji Rr Ri ct two) in
+        let M = magnitude_near u u.magnitude Jm Rm ct (λ e.
+        columns c x n u (magnitude_value u x) (magnitude_value u (whole_state c)) s.magnitude r.magnitude first second
+        third (f.magnitude (own e))) in
+        row_more y n k (equation l (load_parts u x)) (equation l (load_parts u (whole_state c))) _ _ _ _ (λ j p.
+        three_z (at_node l u.first (Jr j) (Ji j)) (at_node l u.second (neg_ℤ (Jr j)) (neg_ℤ (Ji j)))
+        (at_magnitude l u.magnitude (Jm j)))
+        (λ j p.
+        three_n (spread_node l u.first (Rr j) (Ri j)) (spread_node l u.second (Rr j) (Ri j))
+        (spread_magnitude l u.magnitude (Rm j)) (count_node l u.first) (count_node l u.second)
+        (count_magnitude l u.magnitude) (ct j))
         (row_plus y n k _ _ _ _ _ _ _ _ A (row_plus y n k _ _ _ _ _ _ _ _ B M))
 
     by_model : (t : Bool) → (t ≡ false → RowsFollow box c x u)
         → Near_in (equation l (cond t [] (load_parts u x))) (equation l (cond t [] (load_parts u (whole_state c))))
-        (λ j. cond t (pos 0) (at_terminal l u (slope_in j u (slopes_there c u).real) (slope_in j u (slopes_there c u).imaginary) (slope_in j u (slopes_there c u).magnitude)))
-        (λ j. cond t 0 (spread l u (radius_in j u (radii_in box c u).real) (radius_in j u (radii_in box c u).imaginary) (radius_in j u (radii_in box c u).magnitude)) + 4 * cond t 0 (count_terminal l u * count_terminal j u))
-    by_model true f = row_more (away c x) n (x.over * 2 ^ 40) nothing nothing (λ j. pos 0) (λ j. pos 0) (λ j. 0) (λ j. 0 + 4 * 0) (λ j p. refl) (λ j p. omega arith) (row_still (away c x) n (x.over * 2 ^ 40) nothing)
+        (λ j. cond t (pos 0) (at_terminal l u (slope_in j u (slopes_there c u).real)
+        (slope_in j u (slopes_there c u).imaginary) (slope_in j u (slopes_there c u).magnitude)))
+        (λ j.
+        cond t 0 (spread l u (radius_in j u (radii_in box c u).real) (radius_in j u (radii_in box c u).imaginary)
+        (radius_in j u (radii_in box c u).magnitude)) + 4 * cond t 0 (count_terminal l u * count_terminal j u))
+    by_model true f =
+        row_more (away c x) n (x.over * 2 ^ 40) nothing nothing (λ j. pos 0) (λ j. pos 0) (λ j. 0) (λ j. 0 + 4 * 0)
+        (λ j p. refl) (λ j p. omega arith) (row_still (away c x) n (x.over * 2 ^ 40) nothing)
     by_model false f = drawn_near (f refl)
 
     pub load_near : (is_linear u.load.model ≡ false → RowsFollow box c x u)
-        → Near_in (equation l (nonlinear_parts u x)) (equation l (nonlinear_parts u (whole_state c))) (λ j. load_entry u (slopes_there c u) l j) (λ j. load_radius u (radii_in box c u) l j + 4 * slope_count l j u)
+        → Near_in (equation l (nonlinear_parts u x)) (equation l (nonlinear_parts u (whole_state c)))
+        (λ j. load_entry u (slopes_there c u) l j) (λ j. load_radius u (radii_in box c u) l j + 4 * slope_count l j u)
     unfolding load_entry load_radius slope_count
     load_near f = by_model (is_linear u.load.model) f
 
@@ -117,11 +142,21 @@ module _ (box : ℕ → ℕ) (c : List ℤ) (x : State) (n l : ℕ) where
   split f g (a ∷ xs) = omega (arith, split f g xs)
 
   pub loads_near : (P : LoadAt → Type 0) (us : List LoadAt) → All P us
-      → ((u : LoadAt) → P u → Near_in (equation l (nonlinear_parts u x)) (equation l (nonlinear_parts u (whole_state c))) (λ j. load_entry u (slopes_there c u) l j) (λ j. load_radius u (radii_in box c u) l j + 4 * slope_count l j u))
-      → Near_in (equation l (nonlinear_of us x)) (equation l (nonlinear_of us (whole_state c))) (λ j. list_z (λ u. load_entry u (slopes_there c u) l j) us) (λ j. list_n (λ u. load_radius u (radii_in box c u) l j) us + 4 * slope_counts us l j)
+      → ((u : LoadAt) → P u
+      → Near_in (equation l (nonlinear_parts u x)) (equation l (nonlinear_parts u (whole_state c)))
+      (λ j. load_entry u (slopes_there c u) l j) (λ j. load_radius u (radii_in box c u) l j + 4 * slope_count l j u))
+      → Near_in (equation l (nonlinear_of us x)) (equation l (nonlinear_of us (whole_state c)))
+      (λ j. list_z (λ u. load_entry u (slopes_there c u) l j) us) (λ j.
+      list_n (λ u. load_radius u (radii_in box c u) l j) us + 4 * slope_counts us l j)
   loads_near P us all h =
-      row_more (away c x) n (x.over * 2 ^ 40) (equation l (nonlinear_of us x)) (equation l (nonlinear_of us (whole_state c))) (λ j. list_z (λ u. load_entry u (slopes_there c u) l j) us) (λ j. list_z (λ u. load_entry u (slopes_there c u) l j) us)
-      (λ j. list_n (λ u. load_radius u (radii_in box c u) l j + 4 * slope_count l j u) us) (λ j. list_n (λ u. load_radius u (radii_in box c u) l j) us + 4 * slope_counts us l j)
-      (λ j p. refl) (λ j p. split (λ u. load_radius u (radii_in box c u) l j) (slope_count l j) us)
-      (rw (equation_loads l (λ u. nonlinear_parts u x) us, equation_loads l (λ u. nonlinear_parts u (whole_state c)) us)
-      (row_list (away c x) n (x.over * 2 ^ 40) P (λ u. equation l (nonlinear_parts u x)) (λ u. equation l (nonlinear_parts u (whole_state c))) (λ u j. load_entry u (slopes_there c u) l j) (λ u j. load_radius u (radii_in box c u) l j + 4 * slope_count l j u) us all h))
+      row_more (away c x) n (x.over * 2 ^ 40) (equation l (nonlinear_of us x))
+      (equation l (nonlinear_of us (whole_state c))) (λ j. list_z (λ u. load_entry u (slopes_there c u) l j) us)
+      (λ j. list_z (λ u. load_entry u (slopes_there c u) l j) us)
+      (λ j. list_n (λ u. load_radius u (radii_in box c u) l j + 4 * slope_count l j u) us)
+      (λ j. list_n (λ u. load_radius u (radii_in box c u) l j) us + 4 * slope_counts us l j) (λ j p. refl)
+      (λ j p. split (λ u. load_radius u (radii_in box c u) l j) (slope_count l j) us) (rw (
+        equation_loads l (λ u. nonlinear_parts u x) us,
+        equation_loads l (λ u. nonlinear_parts u (whole_state c)) us,
+      ) (row_list (away c x) n (x.over * 2 ^ 40) P (λ u. equation l (nonlinear_parts u x))
+      (λ u. equation l (nonlinear_parts u (whole_state c))) (λ u j. load_entry u (slopes_there c u) l j)
+      (λ u j. load_radius u (radii_in box c u) l j + 4 * slope_count l j u) us all h))

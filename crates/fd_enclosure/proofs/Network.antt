@@ -55,7 +55,8 @@ module _ (v : NetworkView) (c : List ℤ) (x : State) (net : IsNetwork v) (box :
       → nat_abs (away c x place) ≤ x.over * half_width v c place
   magnitude_in place h g =
       let nodes = net.nodes in
-      box place g (not_branch_either (nat_lt place (2 * v.nodes)) (nat_lt place (2 * v.complexes)) (le-ltb place (2 * v.nodes) (omega arith)) (le-ltb place (2 * v.complexes) h))
+      box place g (not_branch_either (nat_lt place (2 * v.nodes)) (nat_lt place (2 * v.complexes))
+      (le-ltb place (2 * v.nodes) (omega arith)) (le-ltb place (2 * v.complexes) h))
 
   re_in : (node : NodeAt) → IsAmong v.nodes node → nat_abs (re_away c x node) ≤ x.over * re_width (half_width v c) node
   re_in at.Ground h = omega arith
@@ -112,7 +113,9 @@ radius_three a b r = omega arith
 
 -- the network's row l at the state x follows the Jacobian at the centre c
 abbrev pub RowFollows : NetworkView → List ℤ → State → ℕ → Type 0
-RowFollows v c x l = RowNear (away c x) v.size (x.over * 2 ^ 40) (residual_of v.stamp x l) (residual_of v.stamp (whole_state c) l) (λ j. jacobian_entry v c l j) (λ j. slope_radius v c l j)
+RowFollows v c x l =
+    RowNear (away c x) v.size (x.over * 2 ^ 40) (residual_of v.stamp x l) (residual_of v.stamp (whole_state c) l)
+    (λ j. jacobian_entry v c l j) (λ j. slope_radius v c l j)
 
 -- a part load whose rows follow its slopes; one of constant impedance has none beside the contributions
 abbrev pub LoadFollows : NetworkView → List ℤ → State → LoadAt → Type 0
@@ -137,8 +140,11 @@ row_follows v c x l net all =
     let d0 = equation l (nonlinear_of us (whole_state c)) in
     let A = row_still y n k a in
     let B = terms_near c x n l ts net.terms.each (den_positive n) in
-    let D = loads_near half c x n l (LoadFollows v c x) us all (λ u h. let s = h.0 in
-    load_near half c x n l u (node_inside v net u.first s.first) (node_inside v net u.second s.second) (magnitude_inside v.complexes n u.load.model u.magnitude s.magnitude) (own_model v.complexes n u.load.model u.magnitude s.magnitude) h.1) in
+    let D = loads_near half c x n l (LoadFollows v c x) us all (λ u h.
+    let s = h.0 in
+    load_near half c x n l u (node_inside v net u.first s.first) (node_inside v net u.second s.second)
+    (magnitude_inside v.complexes n u.load.model u.magnitude s.magnitude)
+    (own_model v.complexes n u.load.model u.magnitude s.magnitude) h.1) in
     let linear = row_plus y n k a a b b0 (λ j. pos 0) (λ j. linear_entry ts l j) (λ j. 0) (λ j. 4 * count_at ts l j) A B in
     row_more y n k (residual_of v.stamp x l) (residual_of v.stamp (whole_state c) l)
     (λ j. (pos 0 +ℤ linear_entry ts l j) +ℤ Ju j) (λ j. jacobian_entry v c l j) (λ j. (0 + 4 * count_at ts l j) + Ru j) (λ j. slope_radius v c l j)
@@ -149,7 +155,10 @@ row_follows v c x l net all =
 -- in the box each part load follows
 pub network_changes : slope.ChangeLaw → ChangeLaw
 network_changes follow v c x l net long over box inside =
-    row_follows v c x l net (All-weaker (IsServed v.nodes v.complexes v.size) (LoadFollows v c x) (λ u s. (s, λ e. follow (half_width v c) c x u s.phase e over (load_in v c x net box u s))) v.stamp.loads net.loads)
+    row_follows v c x l net (All-weaker (IsServed v.nodes v.complexes v.size) (LoadFollows v c x) (λ u s. (
+      s,
+      λ e. follow (half_width v c) c x u s.phase e over (load_in v c x net box u s),
+    )) v.stamp.loads net.loads)
 
 -- where each is of constant impedance they follow everywhere
 impedances : (v : NetworkView) (c : List ℤ) (x : State) (us : List LoadAt)

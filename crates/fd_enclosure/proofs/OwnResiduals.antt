@@ -32,7 +32,8 @@ pub tied : TieLaw
 tied v x l network point inside =
     let row : get_or (interval_residual_of v x) l None ≡ residual_interval v.stamp x l = get_or-list_of v.size (residual_interval v.stamp x) l None inside in
     let P : Bounds → Type 0 = λ r. EndsWithin r (residual_of v.stamp (whole_state x) l) (4 * addend_count v.stamp l + 4) in
-    size_tied (residual_interval v.stamp x l) (residual_of v.stamp (whole_state x) l) (addend_count v.stamp l) (subst P row (row_tie v x network point (interval_residual_of v x) refl l inside))
+    size_tied (residual_interval v.stamp x l) (residual_of v.stamp (whole_state x) l) (addend_count v.stamp l)
+    (subst P row (row_tie v x network point (interval_residual_of v x) refl l inside))
 
 -- ---- both parts of a complex unknown
 
@@ -73,7 +74,11 @@ weight_same v x k h =
 radius_same : (v : NetworkView) (x : List ℤ) (c : List (List ℤ)) (e : List ℕ) (i j : ℕ)
     → weight_at v x i ≡ weight_at v x j → radius_in v x c e i ≡ radius_in v x c e j
 unfolding radius_at
-radius_same v x c e i j same = ap (λ w. ceil_nat (w * reach_of v.size (entry c) (jacobian_entry v x) (slope_radius v x) (weight_at v x) (number_at e)) (2 ^ 20 * (2 ^ 40 - bound_of v.size (entry c) (jacobian_entry v x) (slope_radius v x) (weight_at v x)))) same
+radius_same v x c e i j same =
+    ap (λ w.
+    ceil_nat (w * reach_of v.size (entry c) (jacobian_entry v x) (slope_radius v x) (weight_at v x) (number_at e))
+    (2 ^ 20 * (2 ^ 40 - bound_of v.size (entry c) (jacobian_entry v x) (slope_radius v x) (weight_at v x))))
+    same
 
 pub one_ball : BallLaw
 one_ball v x c e k nodes h =

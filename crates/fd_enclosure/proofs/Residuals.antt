@@ -43,7 +43,9 @@ right_positive a (suc b) h = omega arith
 each_positive : {A : Type 0} (f : A → Fraction) (xs : List A) → 0 < (sum_of f xs).over → All (λ a. 0 < (f a).over) xs
 unfolding ◌⊕◌
 each_positive f [] h = All-nil (λ a. 0 < (f a).over)
-each_positive f (a ∷ xs) h = All-cons (λ a. 0 < (f a).over) a xs (left_positive (f a).over (sum_of f xs).over h) (each_positive f xs (right_positive (f a).over (sum_of f xs).over h))
+each_positive f (a ∷ xs) h =
+    All-cons (λ a. 0 < (f a).over) a xs (left_positive (f a).over (sum_of f xs).over h)
+    (each_positive f xs (right_positive (f a).over (sum_of f xs).over h))
 
 constant_positive : (l : ℕ) (c : Constant) → 0 < (constant_given l c).over
 unfolding nothing
@@ -115,4 +117,6 @@ module _ (v : NetworkView) (net : IsNetwork v) where
   -- numbers that are at least the mismatches, and at most the greatest, are met
   pub centre_meets : (c : List ℤ) (l e : ℕ) → mismatch_at v c l ≤ e → e ≤ greatest_mismatch
       → SizeWithin (residual_of v.stamp (whole_state c) l) e
-  centre_meets c l e least most = met_by (residual_interval v.stamp c l) (residual_of v.stamp (whole_state c) l) (greater_size (residual_interval v.stamp c l)) e refl (residual_held c l) least most
+  centre_meets c l e least most =
+      met_by (residual_interval v.stamp c l) (residual_of v.stamp (whole_state c) l)
+      (greater_size (residual_interval v.stamp c l)) e refl (residual_held c l) least most

@@ -47,7 +47,9 @@ add_span : (r s a : ℕ) → (r + s) * a ≡ r * a + s * a
 add_span r s a = omega arith
 
 pub spanned-add : (y : ℕ → ℤ) (n : ℕ) (R S : ℕ → ℕ) → spanned y n (λ j. R j + S j) ≡ spanned y n R + spanned y n S
-spanned-add y n R S = sum_n-same _ _ n (λ j p. add_span (R j) (S j) (unsigned_abs (y j))) ∙ sum_n-add (λ j. R j * unsigned_abs (y j)) (λ j. S j * unsigned_abs (y j)) n
+spanned-add y n R S =
+    sum_n-same _ _ n (λ j p. add_span (R j) (S j) (unsigned_abs (y j)))
+    ∙ sum_n-add (λ j. R j * unsigned_abs (y j)) (λ j. S j * unsigned_abs (y j)) n
 
 pub spanned-le : (y : ℕ → ℤ) (n : ℕ) (R S : ℕ → ℕ) → ((j : ℕ) → j < n → R j ≤ S j) → spanned y n R ≤ spanned y n S
 spanned-le y n R S h = sum_n-le _ _ n (λ j p. mul-le-mul_right (unsigned_abs (y j)) (h j p))
@@ -98,13 +100,16 @@ near_more f t s n m k e h near = subst (λ z. unsigned_abs ((f.top *ℤ pos k) -
 module _ (y : ℕ → ℤ) (n k : ℕ) where
   pub row_more : (a b : Fraction) (J K : ℕ → ℤ) (R S : ℕ → ℕ) → ((j : ℕ) → j < n → J j ≡ K j)
       → ((j : ℕ) → j < n → R j ≤ S j) → RowNear y n k a b J R → RowNear y n k a b K S
-  row_more a b J K R S e h near = near_more (minus a b) (moved y n J) (moved y n K) (spanned y n R) (spanned y n S) k (moved-same y n J K e) (spanned-le y n R S h) near
+  row_more a b J K R S e h near =
+      near_more (minus a b) (moved y n J) (moved y n K) (spanned y n R) (spanned y n S) k (moved-same y n J K e)
+      (spanned-le y n R S h) near
 
   pub row_plus : (a b c d : Fraction) (J K : ℕ → ℤ) (R S : ℕ → ℕ) → RowNear y n k a b J R → RowNear y n k c d K S
       → RowNear y n k (a ⊕ c) (b ⊕ d) (λ j. J j +ℤ K j) (λ j. R j + S j)
   unfolding ◌⊕◌
   row_plus a b c d J K R S h g =
-      near_more (minus (a ⊕ c) (b ⊕ d)) (moved y n J +ℤ moved y n K) (moved y n (λ j. J j +ℤ K j)) (spanned y n R + spanned y n S) (spanned y n (λ j. R j + S j)) k
+      near_more (minus (a ⊕ c) (b ⊕ d)) (moved y n J +ℤ moved y n K) (moved y n (λ j. J j +ℤ K j))
+      (spanned y n R + spanned y n S) (spanned y n (λ j. R j + S j)) k
       (sym (moved-add y n J K)) (omega (arith, spanned-add y n R S))
       (near_plus a b c d (moved y n J) (moved y n K) (spanned y n R) (spanned y n S) k h g)
 
@@ -119,12 +124,16 @@ module _ (y : ℕ → ℤ) (n k : ℕ) where
 
   -- a row that doesn't change
   pub row_still : (a : Fraction) → RowNear y n k a a (λ j. pos 0) (λ j. 0)
-  row_still a = near_more (minus a a) (pos 0) (moved y n (λ j. pos 0)) 0 (spanned y n (λ j. 0)) k (sym (moved-zero y n)) (omega (arith, spanned-zero y n)) (still a.top a.over)
+  row_still a =
+      near_more (minus a a) (pos 0) (moved y n (λ j. pos 0)) 0 (spanned y n (λ j. 0)) k (sym (moved-zero y n))
+      (omega (arith, spanned-zero y n)) (still a.top a.over)
 
   turned : (s t v : ℤ) (a b m : ℕ) → unsigned_abs ((((s *ℤ pos b) -ℤ (t *ℤ pos a)) *ℤ pos k) -ℤ (v *ℤ pos (a * b))) ≤ m
       → unsigned_abs ((((neg_ℤ s *ℤ pos b) -ℤ (neg_ℤ t *ℤ pos a)) *ℤ pos k) -ℤ (neg_ℤ v *ℤ pos (a * b))) ≤ m
   turned s t v a b m h =
-      let e : ((((neg_ℤ s *ℤ pos b) -ℤ (neg_ℤ t *ℤ pos a)) *ℤ pos k) -ℤ (neg_ℤ v *ℤ pos (a * b))) ≡ neg_ℤ ((((s *ℤ pos b) -ℤ (t *ℤ pos a)) *ℤ pos k) -ℤ (v *ℤ pos (a * b))) = rw (as_val s, as_val t, as_val v) (simp vals (val-same _ _ _ _ (omega arith))) in
+      let e : ((((neg_ℤ s *ℤ pos b) -ℤ (neg_ℤ t *ℤ pos a)) *ℤ pos k) -ℤ (neg_ℤ v *ℤ pos (a * b)))
+      ≡ neg_ℤ ((((s *ℤ pos b) -ℤ (t *ℤ pos a)) *ℤ pos k) -ℤ (v *ℤ pos (a * b))) =
+      rw (as_val s, as_val t, as_val v) (simp vals (val-same _ _ _ _ (omega arith))) in
       rw e (flipped ((((s *ℤ pos b) -ℤ (t *ℤ pos a)) *ℤ pos k) -ℤ (v *ℤ pos (a * b))) h)
     where
       flipped : (z : ℤ) → unsigned_abs z ≤ m → unsigned_abs (neg_ℤ z) ≤ m
@@ -134,7 +143,8 @@ module _ (y : ℕ → ℤ) (n k : ℕ) where
       → RowNear y n k (opposite a) (opposite b) (λ j. neg_ℤ (J j)) R
   unfolding opposite
   row_opposite a b J R h =
-      near_more (minus (opposite a) (opposite b)) (neg_ℤ (moved y n J)) (moved y n (λ j. neg_ℤ (J j))) (spanned y n R) (spanned y n R) k (sym (moved-neg y n J)) (omega arith)
+      near_more (minus (opposite a) (opposite b)) (neg_ℤ (moved y n J)) (moved y n (λ j. neg_ℤ (J j))) (spanned y n R)
+      (spanned y n R) k (sym (moved-neg y n J)) (omega arith)
       (turned a.top b.top (moved y n J) a.over b.over (spanned y n R * (a.over * b.over)) h)
 
   -- a row that one place moves

@@ -43,16 +43,22 @@ module _ (c : List ℤ) (x : State) (n : ℕ) where
 
   joined : (a b m r1 i1 r2 i2 e : ℤ)
       → ((((a *ℤ r1) +ℤ (b *ℤ i1)) +ℤ ((neg_ℤ a *ℤ r2) +ℤ (neg_ℤ b *ℤ i2))) +ℤ (m *ℤ e)) ≡ (((a *ℤ (r1 -ℤ r2)) +ℤ (b *ℤ (i1 -ℤ i2))) +ℤ (m *ℤ e))
-  joined a b m r1 i1 r2 i2 e = rw (as_val a, as_val b, as_val m, as_val r1, as_val i1, as_val r2, as_val i2, as_val e) (simp vals (val-same _ _ _ _ (omega arith)))
+  joined a b m r1 i1 r2 i2 e =
+      rw (as_val a, as_val b, as_val m, as_val r1, as_val i1, as_val r2, as_val i2, as_val e)
+      (simp vals (val-same _ _ _ _ (omega arith)))
 
   terminal_moved : (u : LoadAt) (s : SlopeRow) → IsPlace n u.first → IsPlace n u.second
       → IfSome u.magnitude (λ k. k < n) → moved (away c x) n (λ j. slope_in j u s) ≡ slope_sum c x u s
   unfolding at_terminal
   terminal_moved u s h k g =
-      moved-add (away c x) n (λ j. at_node j u.first s.p s.q +ℤ at_node j u.second (neg_ℤ s.p) (neg_ℤ s.q)) (λ j. at_magnitude j u.magnitude s.m)
-      ∙ ap (λ z. z +ℤ moved (away c x) n (λ j. at_magnitude j u.magnitude s.m)) (moved-add (away c x) n (λ j. at_node j u.first s.p s.q) (λ j. at_node j u.second (neg_ℤ s.p) (neg_ℤ s.q)))
-      ∙ (λ i. (node_moved u.first s.p s.q h i +ℤ node_moved u.second (neg_ℤ s.p) (neg_ℤ s.q) k i) +ℤ magnitude_moved u.magnitude s.m g i)
-      ∙ joined s.p s.q s.m (re_away c x u.first) (im_away c x u.first) (re_away c x u.second) (im_away c x u.second) (magnitude_away c x u.magnitude)
+      moved-add (away c x) n (λ j. at_node j u.first s.p s.q +ℤ at_node j u.second (neg_ℤ s.p) (neg_ℤ s.q))
+      (λ j. at_magnitude j u.magnitude s.m)
+      ∙ ap (λ z. z +ℤ moved (away c x) n (λ j. at_magnitude j u.magnitude s.m))
+      (moved-add (away c x) n (λ j. at_node j u.first s.p s.q) (λ j. at_node j u.second (neg_ℤ s.p) (neg_ℤ s.q)))
+      ∙ (λ i. (node_moved u.first s.p s.q h i +ℤ node_moved u.second (neg_ℤ s.p) (neg_ℤ s.q) k i)
+      +ℤ magnitude_moved u.magnitude s.m g i)
+      ∙ joined s.p s.q s.m (re_away c x u.first) (im_away c x u.first) (re_away c x u.second) (im_away c x u.second)
+      (magnitude_away c x u.magnitude)
 
   node_spanned : (node : NodeAt) (a b : ℕ) → IsPlace n node
       → spanned (away c x) n (λ j. spread_node j node a b) ≡ a * unsigned_abs (re_away c x node) + b * unsigned_abs (im_away c x node)
@@ -77,14 +83,22 @@ module _ (c : List ℤ) (x : State) (n : ℕ) where
       → ((a * r1 + b * i1) + (a * r2 + b * i2)) + m * e ≡ a * (r1 + r2) + b * (i1 + i2) + m * e
   spread_sum a b m r1 i1 r2 i2 e = omega arith
 
-  terminal_spanned : (u : LoadAt) (a b m : ℕ) → IsPlace n u.first → IsPlace n u.second → IfSome u.magnitude (λ k. k < n)
-      → spanned (away c x) n (λ j. spread j u a b m) ≡ a * (unsigned_abs (re_away c x u.first) + unsigned_abs (re_away c x u.second)) + b * (unsigned_abs (im_away c x u.first) + unsigned_abs (im_away c x u.second)) + m * unsigned_abs (magnitude_away c x u.magnitude)
+  terminal_spanned : (u : LoadAt) (a b m : ℕ) → IsPlace n u.first → IsPlace n u.second
+      → IfSome u.magnitude (λ k. k < n)
+      → spanned (away c x) n (λ j. spread j u a b m)
+      ≡ a * (unsigned_abs (re_away c x u.first) + unsigned_abs (re_away c x u.second))
+      + b * (unsigned_abs (im_away c x u.first) + unsigned_abs (im_away c x u.second))
+      + m * unsigned_abs (magnitude_away c x u.magnitude)
   unfolding spread
   terminal_spanned u a b m h k g =
-      spanned-add (away c x) n (λ j. spread_node j u.first a b + spread_node j u.second a b) (λ j. spread_magnitude j u.magnitude m)
-      ∙ ap (λ z. z + spanned (away c x) n (λ j. spread_magnitude j u.magnitude m)) (spanned-add (away c x) n (λ j. spread_node j u.first a b) (λ j. spread_node j u.second a b))
+      spanned-add (away c x) n (λ j. spread_node j u.first a b + spread_node j u.second a b)
+      (λ j. spread_magnitude j u.magnitude m)
+      ∙ ap (λ z. z + spanned (away c x) n (λ j. spread_magnitude j u.magnitude m))
+      (spanned-add (away c x) n (λ j. spread_node j u.first a b) (λ j. spread_node j u.second a b))
       ∙ (λ i. (node_spanned u.first a b h i + node_spanned u.second a b k i) + magnitude_spanned u.magnitude m g i)
-      ∙ spread_sum a b m (unsigned_abs (re_away c x u.first)) (unsigned_abs (im_away c x u.first)) (unsigned_abs (re_away c x u.second)) (unsigned_abs (im_away c x u.second)) (unsigned_abs (magnitude_away c x u.magnitude))
+      ∙ spread_sum a b m (unsigned_abs (re_away c x u.first)) (unsigned_abs (im_away c x u.first))
+      (unsigned_abs (re_away c x u.second)) (unsigned_abs (im_away c x u.second))
+      (unsigned_abs (magnitude_away c x u.magnitude))
 
 -- four units more in each are four for each of its places
 
@@ -112,10 +126,13 @@ pub columns : (c : List ℤ) (x : State) (n : ℕ) (u : LoadAt) (here there : Fr
     → IsPlace n u.first → IsPlace n u.second → IfSome u.magnitude (λ k. k < n) → Follows here there c x u s r
     → RowNear (away c x) n (x.over * 2 ^ 40) here there (λ j. slope_in j u s) (λ j. radius_in j u r + 4 * count_terminal j u)
 columns c x n u here there s r h k g f =
-    row_more (away c x) n (x.over * 2 ^ 40) here there (λ j. slope_in j u s) (λ j. slope_in j u s) (λ j. spread j u (r.p + 4) (r.q + 4) (r.m + 4)) (λ j. radius_in j u r + 4 * count_terminal j u)
+    row_more (away c x) n (x.over * 2 ^ 40) here there (λ j. slope_in j u s) (λ j. slope_in j u s)
+    (λ j. spread j u (r.p + 4) (r.q + 4) (r.m + 4)) (λ j. radius_in j u r + 4 * count_terminal j u)
     (λ j p. refl) (λ j p. omega (arith, spread_four j u r.p r.q r.m))
-    (near_more (minus here there) (slope_sum c x u s) (moved (away c x) n (λ j. slope_in j u s)) (radius_sum c x u r) (spanned (away c x) n (λ j. spread j u (r.p + 4) (r.q + 4) (r.m + 4))) (x.over * 2 ^ 40)
-    (sym (terminal_moved c x n u s h k g)) (omega (arith, terminal_spanned c x n u (r.p + 4) (r.q + 4) (r.m + 4) h k g)) f)
+    (near_more (minus here there) (slope_sum c x u s) (moved (away c x) n (λ j. slope_in j u s)) (radius_sum c x u r)
+    (spanned (away c x) n (λ j. spread j u (r.p + 4) (r.q + 4) (r.m + 4))) (x.over * 2 ^ 40)
+    (sym (terminal_moved c x n u s h k g))
+    (omega (arith, terminal_spanned c x n u (r.p + 4) (r.q + 4) (r.m + 4) h k g)) f)
 
 -- ---- rows: what a number at a terminal gives to row l
 
@@ -146,11 +163,19 @@ module _ (y : ℕ → ℤ) (n k : ℕ) where
 
   by_two : (s t : Bool) (z w : Complex) (Jr Ji : ℕ → ℤ) (Rr Ri ct : ℕ → ℕ) → (s ≡ true → t ≡ true → ⊥)
       → BothNear z w Jr Ji Rr Ri ct
-      → RowNear y n k (cond s z.re (cond t z.im nothing)) (cond s w.re (cond t w.im nothing)) (λ j. cond s (Jr j) (pos 0) +ℤ cond t (Ji j) (pos 0)) (λ j. (cond s (Rr j) 0 + cond t (Ri j) 0) + 4 * ((cond s 1 0 + cond t 1 0) * ct j))
+      → RowNear y n k (cond s z.re (cond t z.im nothing)) (cond s w.re (cond t w.im nothing))
+      (λ j. cond s (Jr j) (pos 0) +ℤ cond t (Ji j) (pos 0)) (λ j.
+      (cond s (Rr j) 0 + cond t (Ri j) 0) + 4 * ((cond s 1 0 + cond t 1 0) * ct j))
   by_two true true z w Jr Ji Rr Ri ct apart h = absurd (apart refl refl)
-  by_two true false z w Jr Ji Rr Ri ct apart h = row_more y n k z.re w.re Jr (λ j. Jr j +ℤ pos 0) (λ j. Rr j + 4 * ct j) (λ j. (Rr j + 0) + 4 * ((1 + 0) * ct j)) (λ j p. first_z (Jr j) (Jr j)) (λ j p. one_n (Rr j) (ct j)) h.re
-  by_two false true z w Jr Ji Rr Ri ct apart h = row_more y n k z.im w.im Ji (λ j. pos 0 +ℤ Ji j) (λ j. Ri j + 4 * ct j) (λ j. (0 + Ri j) + 4 * ((0 + 1) * ct j)) (λ j p. second_z (Ji j)) (λ j p. other_n (Ri j) (ct j)) h.im
-  by_two false false z w Jr Ji Rr Ri ct apart h = row_more y n k nothing nothing (λ j. pos 0) (λ j. pos 0 +ℤ pos 0) (λ j. 0) (λ j. (0 + 0) + 4 * ((0 + 0) * ct j)) (λ j p. second_z (pos 0)) (λ j p. omega arith) (row_still y n k nothing)
+  by_two true false z w Jr Ji Rr Ri ct apart h =
+      row_more y n k z.re w.re Jr (λ j. Jr j +ℤ pos 0) (λ j. Rr j + 4 * ct j) (λ j. (Rr j + 0) + 4 * ((1 + 0) * ct j))
+      (λ j p. first_z (Jr j) (Jr j)) (λ j p. one_n (Rr j) (ct j)) h.re
+  by_two false true z w Jr Ji Rr Ri ct apart h =
+      row_more y n k z.im w.im Ji (λ j. pos 0 +ℤ Ji j) (λ j. Ri j + 4 * ct j) (λ j. (0 + Ri j) + 4 * ((0 + 1) * ct j))
+      (λ j p. second_z (Ji j)) (λ j p. other_n (Ri j) (ct j)) h.im
+  by_two false false z w Jr Ji Rr Ri ct apart h =
+      row_more y n k nothing nothing (λ j. pos 0) (λ j. pos 0 +ℤ pos 0) (λ j. 0) (λ j. (0 + 0) + 4 * ((0 + 0) * ct j))
+      (λ j p. second_z (pos 0)) (λ j p. omega arith) (row_still y n k nothing)
 
   parts_apart : (m l : ℕ) → eqb (2 * m) l ≡ true → eqb (2 * m + 1) l ≡ true → ⊥
   parts_apart m l h g =
@@ -160,12 +185,17 @@ module _ (y : ℕ → ℤ) (n k : ℕ) where
 
   pub side_near : (l : ℕ) (node : NodeAt) (z w : Complex) (Jr Ji : ℕ → ℤ) (Rr Ri ct : ℕ → ℕ)
       → BothNear z w Jr Ji Rr Ri ct
-      → RowNear y n k (side l node z) (side l node w) (λ j. at_node l node (Jr j) (Ji j)) (λ j. spread_node l node (Rr j) (Ri j) + 4 * (count_node l node * ct j))
-  side_near l Ground z w Jr Ji Rr Ri ct h = row_more y n k nothing nothing (λ j. pos 0) (λ j. pos 0) (λ j. 0) (λ j. 0 + 4 * (0 * ct j)) (λ j p. refl) (λ j p. omega arith) (row_still y n k nothing)
+      → RowNear y n k (side l node z) (side l node w) (λ j. at_node l node (Jr j) (Ji j)) (λ j.
+      spread_node l node (Rr j) (Ri j) + 4 * (count_node l node * ct j))
+  side_near l Ground z w Jr Ji Rr Ri ct h =
+      row_more y n k nothing nothing (λ j. pos 0) (λ j. pos 0) (λ j. 0) (λ j. 0 + 4 * (0 * ct j)) (λ j p. refl)
+      (λ j p. omega arith) (row_still y n k nothing)
   side_near l (Node m) z w Jr Ji Rr Ri ct h = by_two (eqb (2 * m) l) (eqb (2 * m + 1) l) z w Jr Ji Rr Ri ct (parts_apart m l) h
 
   -- a number in one row alone
   pub alone_near : (t : Bool) (a b : Fraction) (J : ℕ → ℤ) (R ct : ℕ → ℕ) → RowNear y n k a b J (λ j. R j + 4 * ct j)
       → RowNear y n k (cond t a nothing) (cond t b nothing) (λ j. cond t (J j) (pos 0)) (λ j. cond t (R j) 0 + 4 * (cond t 1 0 * ct j))
   alone_near true a b J R ct h = row_more y n k a b J J (λ j. R j + 4 * ct j) (λ j. R j + 4 * (1 * ct j)) (λ j p. refl) (λ j p. omega arith) h
-  alone_near false a b J R ct h = row_more y n k nothing nothing (λ j. pos 0) (λ j. pos 0) (λ j. 0) (λ j. 0 + 4 * (0 * ct j)) (λ j p. refl) (λ j p. omega arith) (row_still y n k nothing)
+  alone_near false a b J R ct h =
+      row_more y n k nothing nothing (λ j. pos 0) (λ j. pos 0) (λ j. 0) (λ j. 0 + 4 * (0 * ct j)) (λ j p. refl)
+      (λ j p. omega arith) (row_still y n k nothing)

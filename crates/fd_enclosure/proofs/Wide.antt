@@ -91,9 +91,12 @@ natural_sums f g n h = as_exact _ (sum_z (λ l. pos (g l)) n) (pos (sum_n g n)) 
 module _ (n : ℕ) (C J : ℕ → ℕ → ℤ) (R : ℕ → ℕ → ℕ) (w : ℕ → ℕ) where
   left_exact : (i j : ℕ) → Exactly (left_over n C J R w i j) (pos (left_in (pos (2 ^ 80)) C J R n i j))
   left_exact i j =
-      let product = sums_exact (λ l. wide_product (Some (C i l)) (Some (J l j))) (λ l. C i l *ℤ J l j) n (λ l p. product_exact (Some (C i l)) (Some (J l j)) (C i l) (J l j) (some_exact (C i l)) (some_exact (J l j))) in
+      let product = sums_exact (λ l. wide_product (Some (C i l)) (Some (J l j))) (λ l. C i l *ℤ J l j) n (λ l p.
+      product_exact (Some (C i l)) (Some (J l j)) (C i l) (J l j) (some_exact (C i l)) (some_exact (J l j))) in
       let left = size_exact _ _ (difference_exact _ _ _ _ (some_exact _) product) in
-      let added = natural_sums (λ l. wide_product (Some (pos (unsigned_abs (C i l)))) (Some (pos (R l j)))) (λ l. unsigned_abs (C i l) * R l j) n (λ l p. natural_product (Some (pos (R l j))) (unsigned_abs (C i l)) (R l j) (some_exact (pos (R l j)))) in
+      let added = natural_sums (λ l. wide_product (Some (pos (unsigned_abs (C i l)))) (Some (pos (R l j))))
+      (λ l. unsigned_abs (C i l) * R l j) n (λ l p.
+      natural_product (Some (pos (R l j))) (unsigned_abs (C i l)) (R l j) (some_exact (pos (R l j)))) in
       as_exact _ _ _ (natural_sum _ _) (sum_exact _ _ _ _ left added)
 
   -- the weighted sum of a row
@@ -103,5 +106,7 @@ module _ (n : ℕ) (C J : ℕ → ℕ → ℤ) (R : ℕ → ℕ → ℕ) (w : �
   pub bound_exact : (i : ℕ) → 0 < w i → Exactly (bound_at n C J R w i) (pos (ceil_nat (row_total i) (w i * 2 ^ 40)))
   unfolding bound_at
   bound_exact i h =
-      as_exact _ (ceil_div (pos (row_total i)) (w i * 2 ^ 40)) (pos (ceil_nat (row_total i) (w i * 2 ^ 40))) (ceil_nat_is (row_total i) (w i * 2 ^ 40) (mul-pos h (lit< tt)))
-      (quotient_exact _ (pos (row_total i)) (w i * 2 ^ 40) (natural_sums _ (λ j. w j * left_in (pos (2 ^ 80)) C J R n i j) n (λ j p. natural_product (left_over n C J R w i j) (w j) (left_in (pos (2 ^ 80)) C J R n i j) (left_exact i j))))
+      as_exact _ (ceil_div (pos (row_total i)) (w i * 2 ^ 40)) (pos (ceil_nat (row_total i) (w i * 2 ^ 40)))
+      (ceil_nat_is (row_total i) (w i * 2 ^ 40) (mul-pos h (lit< tt))) (quotient_exact _ (pos (row_total i))
+      (w i * 2 ^ 40) (natural_sums _ (λ j. w j * left_in (pos (2 ^ 80)) C J R n i j) n (λ j p.
+      natural_product (left_over n C J R w i j) (w j) (left_in (pos (2 ^ 80)) C J R n i j) (left_exact i j))))

@@ -61,7 +61,9 @@ EnclosureLaw = (v : NetworkView) (m : Claim) → IsNetwork v → IsSound v m →
 
 -- the certificate of a point is sound
 abbrev pub CertificateLaw : Type 0
-CertificateLaw = (v : NetworkView) (x : List ℤ) (c : List (List ℤ)) (m : Claim) → IsNetwork v → IsPoint v x → IsInverse v.size c → certificate_of v x c ≡ Ok m → IsSound v m
+CertificateLaw =
+    (v : NetworkView) (x : List ℤ) (c : List (List ℤ)) (m : Claim) → IsNetwork v → IsPoint v x → IsInverse v.size c
+    → certificate_of v x c ≡ Ok m → IsSound v m
 
 -- where each part load is of constant impedance the rows are linear, and every state that meets the mismatches is within the radii
 abbrev pub LinearLaw : Type 0

@@ -23,7 +23,9 @@ cond_small false z b h = omega arith
 
 pub node_small : (l : ℕ) (node : NodeAt) (re im : ℤ) (b : ℕ) → nat_abs re ≤ b → nat_abs im ≤ b → nat_abs (at_node l node re im) ≤ b + b
 node_small l Ground re im b h k = omega arith
-node_small l (Node n) re im b h k = sum_small (cond (eqb (2 * n) l) re (pos 0)) (cond (eqb (2 * n + 1) l) im (pos 0)) b b (cond_small (eqb (2 * n) l) re b h) (cond_small (eqb (2 * n + 1) l) im b k)
+node_small l (Node n) re im b h k =
+    sum_small (cond (eqb (2 * n) l) re (pos 0)) (cond (eqb (2 * n + 1) l) im (pos 0)) b b
+    (cond_small (eqb (2 * n) l) re b h) (cond_small (eqb (2 * n + 1) l) im b k)
 
 pub magnitude_small : (l : ℕ) (place : Option ℕ) (z : ℤ) (b : ℕ) → nat_abs z ≤ b → nat_abs (at_magnitude l place z) ≤ b
 magnitude_small l None z b h = omega arith
@@ -38,7 +40,8 @@ terminal_small l u re im z b h k j =
     let first = node_small l u.first re im b h k in
     let second = node_small l u.second (neg_ℤ re) (neg_ℤ im) b (negative_small re b h) (negative_small im b k) in
     let both = sum_small (at_node l u.first re im) (at_node l u.second (neg_ℤ re) (neg_ℤ im)) (b + b) (b + b) first second in
-    let all = sum_small (at_node l u.first re im +ℤ at_node l u.second (neg_ℤ re) (neg_ℤ im)) (at_magnitude l u.magnitude z) (b + b + (b + b)) b both (magnitude_small l u.magnitude z b j) in
+    let all = sum_small (at_node l u.first re im +ℤ at_node l u.second (neg_ℤ re) (neg_ℤ im))
+    (at_magnitude l u.magnitude z) (b + b + (b + b)) b both (magnitude_small l u.magnitude z b j) in
     omega arith
 
 -- a row is the real one of a node or its imaginary one
@@ -65,7 +68,8 @@ terminal_least l u re im z b h k j =
     let first = node_least l u.first re im b h k in
     let second = node_least l u.second (neg_ℤ re) (neg_ℤ im) b (negative_small re b h) (negative_small im b k) in
     let both = sum_small (at_node l u.first re im) (at_node l u.second (neg_ℤ re) (neg_ℤ im)) b b first second in
-    let all = sum_small (at_node l u.first re im +ℤ at_node l u.second (neg_ℤ re) (neg_ℤ im)) (at_magnitude l u.magnitude z) (b + b) b both (magnitude_small l u.magnitude z b j) in
+    let all = sum_small (at_node l u.first re im +ℤ at_node l u.second (neg_ℤ re) (neg_ℤ im))
+    (at_magnitude l u.magnitude z) (b + b) b both (magnitude_small l u.magnitude z b j) in
     omega arith
 
 -- ---- numbers added one after another
@@ -90,7 +94,9 @@ negative_cond false z = refl
 
 node_negative : (l : ℕ) (node : NodeAt) (re im : ℤ) → neg_ℤ (at_node l node re im) ≡ at_node l node (neg_ℤ re) (neg_ℤ im)
 node_negative l Ground re im = refl
-node_negative l (Node k) re im = negative_sum (cond (eqb (2 * k) l) re (pos 0)) (cond (eqb (2 * k + 1) l) im (pos 0)) ∙ (λ i. negative_cond (eqb (2 * k) l) re i +ℤ negative_cond (eqb (2 * k + 1) l) im i)
+node_negative l (Node k) re im =
+    negative_sum (cond (eqb (2 * k) l) re (pos 0)) (cond (eqb (2 * k + 1) l) im (pos 0))
+    ∙ (λ i. negative_cond (eqb (2 * k) l) re i +ℤ negative_cond (eqb (2 * k + 1) l) im i)
 
 magnitude_negative : (l : ℕ) (place : Option ℕ) (z : ℤ) → neg_ℤ (at_magnitude l place z) ≡ at_magnitude l place (neg_ℤ z)
 magnitude_negative l None z = refl
@@ -103,7 +109,9 @@ terminal_negative l u re im z =
     ∙ ap (λ a. a +ℤ neg_ℤ (at_magnitude l u.magnitude z)) (negative_sum (at_node l u.first re im) (at_node l u.second (neg_ℤ re) (neg_ℤ im)))
     ∙ (λ i. (node_negative l u.first re im i +ℤ node_negative l u.second (neg_ℤ re) (neg_ℤ im) i) +ℤ magnitude_negative l u.magnitude z i)
 
-pub terminal_sum : (l : ℕ) (u : LoadAt) (re im z : ℤ) → ((at_node l u.first re im +ℤ at_node l u.second (neg_ℤ re) (neg_ℤ im)) +ℤ at_magnitude l u.magnitude z) ≡ at_terminal l u re im z
+pub terminal_sum : (l : ℕ) (u : LoadAt) (re im z : ℤ)
+    → ((at_node l u.first re im +ℤ at_node l u.second (neg_ℤ re) (neg_ℤ im)) +ℤ at_magnitude l u.magnitude z)
+    ≡ at_terminal l u re im z
 unfolding at_terminal
 terminal_sum l u re im z = refl
 

@@ -21,9 +21,12 @@ use Rattle.fd_equations.proofs.Sizes.{small_size}
 
 pub entry_size : (size : ℕ) (ts : List Term) (row col : ℕ) → All (IsLinear size) ts → nat_abs (linear_entry ts row col) ≤ length ts * 2 ^ 54
 entry_size size [] row col h = lit≤ tt
-entry_size size (t ∷ ts) row col h = by_test (stands_at row col t) (entry_size size ts row col (All-tail (IsLinear size) t ts h)) (All-head (IsLinear size) t ts h).within
+entry_size size (t ∷ ts) row col h =
+    by_test (stands_at row col t) (entry_size size ts row col (All-tail (IsLinear size) t ts h))
+    (All-head (IsLinear size) t ts h).within
   where
-    by_test : (b : Bool) → nat_abs (linear_entry ts row col) ≤ length ts * 2 ^ 54 → AreSmall (units_of t) → nat_abs (cond b (units_of t) (pos 0) +ℤ linear_entry ts row col) ≤ suc (length ts) * 2 ^ 54
+    by_test : (b : Bool) → nat_abs (linear_entry ts row col) ≤ length ts * 2 ^ 54 → AreSmall (units_of t)
+        → nat_abs (cond b (units_of t) (pos 0) +ℤ linear_entry ts row col) ≤ suc (length ts) * 2 ^ 54
     by_test true e w = let size = small_size (units_of t) w in omega (arith, ints, size)
     by_test false e w = omega (arith, ints)
 

@@ -11,8 +11,11 @@ use Rattle.fd_equations.specs.Matrices.{IsMatrix, MatrixView, matrix_with}
 use Rattle.fd_equations.specs.Patterns.{IsSlot, PatternView, key}
 use Rattle.fd_equations.proofs.Elsewhere.{decide}
 
-pub matrix_row : (v : MatrixView) (p : PatternView) (cells found row_cells : List Cell) (row : ℕ) (at : ℕ × ℕ → Amount) → matrix_with p cells ≡ v → found ≡ cells → AreCells v.places v.cells at → IsNothingElsewhere v.places at
-    → (AreCells p.places found at → IsNothingElsewhere p.places at → IsRowOf p.size at row row_cells) → IsRowOf v.size at row row_cells
+pub matrix_row : (v : MatrixView) (p : PatternView) (cells found row_cells : List Cell) (row : ℕ)
+    (at : ℕ × ℕ → Amount)
+    → matrix_with p cells ≡ v → found ≡ cells → AreCells v.places v.cells at → IsNothingElsewhere v.places at
+    → (AreCells p.places found at → IsNothingElsewhere p.places at → IsRowOf p.size at row row_cells)
+    → IsRowOf v.size at row row_cells
 matrix_row v p cells found row_cells row at e f are none h =
     let m : AreCells p.places cells at = subst (λ (w : MatrixView). AreCells w.places w.cells at) (sym e) are in
     let n : IsNothingElsewhere p.places at = subst (λ (w : MatrixView). IsNothingElsewhere w.places at) (sym e) none in
@@ -56,11 +59,14 @@ pub record IsFilled (n : ℕ) (ps : List (ℕ × ℕ)) (cells : List Cell) (dens
   pub here : (row col k : ℕ) → row < n → col < n → IsSlot ps row col k → cell dense n row col ≡ (cell_at cells k).units
   pub none : (row col : ℕ) → row < n → col < n → (Contains ps (row, col) → ⊥) → cell dense n row col ≡ pos 0
 
-module _ (v : MatrixView) (p : PatternView) (cells found : List Cell) (ps : List (ℕ × ℕ)) (dense out : List ℤ) (n : ℕ) (view : matrix_with p cells ≡ v) (f : found ≡ cells) (g : ps ≡ p.places) (e : n ≡ p.size) (o : out ≡ dense) (filled : IsFilled n ps found out)
-    (d : List (List ℤ)) (is : d ≡ square n dense) where
+module _ (v : MatrixView) (p : PatternView) (cells found : List Cell) (ps : List (ℕ × ℕ)) (dense out : List ℤ) (n : ℕ)
+    (view : matrix_with p cells ≡ v) (f : found ≡ cells) (g : ps ≡ p.places) (e : n ≡ p.size) (o : out ≡ dense)
+    (filled : IsFilled n ps found out) (d : List (List ℤ)) (is : d ≡ square n dense) where
   moved : IsFilled v.size v.places v.cells dense
-  moved = subst (λ (w : MatrixView). IsFilled w.size w.places w.cells dense) view
-      (subst (λ l. IsFilled p.size p.places cells l) o (subst (λ l. IsFilled p.size p.places l out) f (subst (λ l. IsFilled p.size l found out) g (subst (λ m. IsFilled m ps found out) e filled))))
+  moved =
+      subst (λ (w : MatrixView). IsFilled w.size w.places w.cells dense) view
+      (subst (λ l. IsFilled p.size p.places cells l) o (subst (λ l. IsFilled p.size p.places l out) f
+      (subst (λ l. IsFilled p.size l found out) g (subst (λ m. IsFilled m ps found out) e filled))))
 
   whole : d ≡ square v.size dense
   whole = is ∙ ap (λ m. square m dense) (e ∙ ap (λ (w : MatrixView). w.size) view)

@@ -60,14 +60,20 @@ opposite_interval f = outward_negative f.top f.over
 
 -- ---- the parts of a part load
 
-part_current : (l : ℕ) (a : Bounds) (node : NodeAt) (z : Complex) → with_part l a (both node z) ≡ with_current l a node (fraction_interval z.re) (fraction_interval z.im)
+part_current : (l : ℕ) (a : Bounds) (node : NodeAt) (z : Complex)
+    → with_part l a (both node z) ≡ with_current l a node (fraction_interval z.re) (fraction_interval z.im)
 part_current l a Ground z = refl
 part_current l a (Node k) z = refl
 
-part_negative : (l : ℕ) (a : Bounds) (node : NodeAt) (z : Complex) → with_part l a (both node (negative z)) ≡ with_current l a node (negation (fraction_interval z.re)) (negation (fraction_interval z.im))
+part_negative : (l : ℕ) (a : Bounds) (node : NodeAt) (z : Complex)
+    → with_part l a (both node (negative z))
+    ≡ with_current l a node (negation (fraction_interval z.re)) (negation (fraction_interval z.im))
 part_negative l a node z = part_current l a node (negative z) ∙ (λ i. with_current l a node (opposite_interval z.re i) (opposite_interval z.im i))
 
-magnitude_of_part : (l : ℕ) (a : Bounds) (u : LoadAt) (x : List ℤ) (place : Option ℕ) → u.magnitude ≡ place → fold (with_part l) a (magnitude_parts u (whole_state x) place) ≡ with_magnitude l a place (outward (excess (real_of x u) (imaginary_of x u) (magnitude_in x u)) (nat_abs u.load.vn))
+magnitude_of_part : (l : ℕ) (a : Bounds) (u : LoadAt) (x : List ℤ) (place : Option ℕ) → u.magnitude ≡ place
+    → fold (with_part l) a (magnitude_parts u (whole_state x) place)
+    ≡ with_magnitude l a place
+    (outward (excess (real_of x u) (imaginary_of x u) (magnitude_in x u)) (nat_abs u.load.vn))
 magnitude_of_part l a u x None e = refl
 magnitude_of_part l a u x (Some k) e =
     let m : part x k ≡ magnitude_in x u = ap (λ o. magnitude_here x o) (sym e) in
@@ -78,7 +84,9 @@ magnitude_of_part l a u x (Some k) e =
     magnitude_here x None = pos 0
     magnitude_here x (Some k) = part x k
 
-pub parts_are : (l : ℕ) (a : Bounds) (u : LoadAt) (x : List ℤ) → is_linear u.load.model ≡ false → with_drawn l a u (real_of x u) (imaginary_of x u) (magnitude_in x u) ≡ fold (with_part l) a (nonlinear_parts u (whole_state x))
+pub parts_are : (l : ℕ) (a : Bounds) (u : LoadAt) (x : List ℤ) → is_linear u.load.model ≡ false
+    → with_drawn l a u (real_of x u) (imaginary_of x u) (magnitude_in x u)
+    ≡ fold (with_part l) a (nonlinear_parts u (whole_state x))
 unfolding with_drawn
 parts_are l a u x ne =
     let w = u.load in
@@ -98,21 +106,47 @@ pub parts_none : (l : ℕ) (a : Bounds) (u : LoadAt) (s : State) → is_linear u
 parts_none l a u s e = sym (ap (λ b. fold (with_part l) a (cond b [] (load_parts u s))) e)
 
 pub drawn_some : (l : ℕ) (a : Bounds) (u : LoadAt) (p q m : ℤ) (place : ℕ) → u.magnitude ≡ Some place
-    → with_magnitude l (with_current l (with_current l a u.first (outward (in_phase u.load p q) (divisor u.load p q m)) (outward (quadrature u.load p q) (divisor u.load p q m))) u.second (negation (outward (in_phase u.load p q) (divisor u.load p q m))) (negation (outward (quadrature u.load p q) (divisor u.load p q m)))) (Some place) (outward (excess p q m) (nat_abs u.load.vn)) ≡ with_drawn l a u p q m
+    → with_magnitude l (with_current l (with_current l a u.first
+    (outward (in_phase u.load p q) (divisor u.load p q m)) (outward (quadrature u.load p q) (divisor u.load p q m)))
+    u.second (negation (outward (in_phase u.load p q) (divisor u.load p q m)))
+    (negation (outward (quadrature u.load p q) (divisor u.load p q m))))
+    (Some place) (outward (excess p q m) (nat_abs u.load.vn))
+    ≡ with_drawn l a u p q m
 unfolding with_drawn
-drawn_some l a u p q m place e = ap (λ o. with_magnitude l (with_current l (with_current l a u.first (outward (in_phase u.load p q) (divisor u.load p q m)) (outward (quadrature u.load p q) (divisor u.load p q m))) u.second (negation (outward (in_phase u.load p q) (divisor u.load p q m))) (negation (outward (quadrature u.load p q) (divisor u.load p q m)))) o (outward (excess p q m) (nat_abs u.load.vn))) (sym e)
+drawn_some l a u p q m place e =
+    ap (λ o.
+    with_magnitude l (with_current l (with_current l a u.first (outward (in_phase u.load p q) (divisor u.load p q m))
+    (outward (quadrature u.load p q) (divisor u.load p q m)))
+    u.second (negation (outward (in_phase u.load p q) (divisor u.load p q m)))
+    (negation (outward (quadrature u.load p q) (divisor u.load p q m))))
+    o (outward (excess p q m) (nat_abs u.load.vn)))
+    (sym e)
 
 pub drawn_none : (l : ℕ) (a : Bounds) (u : LoadAt) (p q m : ℤ) → u.magnitude ≡ None
-    → with_current l (with_current l a u.first (outward (in_phase u.load p q) (divisor u.load p q m)) (outward (quadrature u.load p q) (divisor u.load p q m))) u.second (negation (outward (in_phase u.load p q) (divisor u.load p q m))) (negation (outward (quadrature u.load p q) (divisor u.load p q m))) ≡ with_drawn l a u p q m
+    → with_current l (with_current l a u.first (outward (in_phase u.load p q) (divisor u.load p q m))
+    (outward (quadrature u.load p q) (divisor u.load p q m)))
+    u.second (negation (outward (in_phase u.load p q) (divisor u.load p q m)))
+    (negation (outward (quadrature u.load p q) (divisor u.load p q m)))
+    ≡ with_drawn l a u p q m
 unfolding with_drawn
-drawn_none l a u p q m e = ap (λ o. with_magnitude l (with_current l (with_current l a u.first (outward (in_phase u.load p q) (divisor u.load p q m)) (outward (quadrature u.load p q) (divisor u.load p q m))) u.second (negation (outward (in_phase u.load p q) (divisor u.load p q m))) (negation (outward (quadrature u.load p q) (divisor u.load p q m)))) o (outward (excess p q m) (nat_abs u.load.vn))) (sym e)
+drawn_none l a u p q m e =
+    ap (λ o.
+    with_magnitude l (with_current l (with_current l a u.first (outward (in_phase u.load p q) (divisor u.load p q m))
+    (outward (quadrature u.load p q) (divisor u.load p q m)))
+    u.second (negation (outward (in_phase u.load p q) (divisor u.load p q m)))
+    (negation (outward (quadrature u.load p q) (divisor u.load p q m))))
+    o (outward (excess p q m) (nat_abs u.load.vn)))
+    (sym e)
 
 -- ---- part loads so far
 
-pub parts_more : (l : ℕ) (a : Bounds) (us : List LoadAt) (k : ℕ) (s : State) → k < length us → fold (with_part l) a (nonlinear_of (take (k + 1) us) s) ≡ fold (with_part l) (fold (with_part l) a (nonlinear_of (take k us) s)) (nonlinear_parts (get_or us k no_load) s)
+pub parts_more : (l : ℕ) (a : Bounds) (us : List LoadAt) (k : ℕ) (s : State) → k < length us
+    → fold (with_part l) a (nonlinear_of (take (k + 1) us) s)
+    ≡ fold (with_part l) (fold (with_part l) a (nonlinear_of (take k us) s)) (nonlinear_parts (get_or us k no_load) s)
 parts_more l a us k s h =
     ap (λ vs. fold (with_part l) a (nonlinear_of vs s)) (take_more us k no_load h)
-    ∙ ap (fold (with_part l) a) (flat_map-append (λ u. nonlinear_parts u s) (take k us) (get_or us k no_load ∷ []) ∙ ap (λ ps. nonlinear_of (take k us) s ++ ps) (append-nil (nonlinear_parts (get_or us k no_load) s)))
+    ∙ ap (fold (with_part l) a) (flat_map-append (λ u. nonlinear_parts u s) (take k us) (get_or us k no_load ∷ [])
+    ∙ ap (λ ps. nonlinear_of (take k us) s ++ ps) (append-nil (nonlinear_parts (get_or us k no_load) s)))
     ∙ fold-append (with_part l) a (nonlinear_of (take k us) s) (nonlinear_parts (get_or us k no_load) s)
 
 -- ---- width
@@ -128,7 +162,9 @@ narrow_negation a w m n = record {
   high_small = omega (arith, ints, n.low_small);
 }
 
-narrow_current : (l : ℕ) (a : Bounds) (node : NodeAt) (re im : Bounds) (w m : ℕ) → m + 2 ^ 63 ≤ 2 ^ 120 → Narrow a w m → Narrow re 1 (2 ^ 63) → Narrow im 1 (2 ^ 63) → Narrow (with_current l a node re im) (w + count_node l node) (m + 2 ^ 63)
+narrow_current : (l : ℕ) (a : Bounds) (node : NodeAt) (re im : Bounds) (w m : ℕ) → m + 2 ^ 63 ≤ 2 ^ 120 → Narrow a w m
+    → Narrow re 1 (2 ^ 63) → Narrow im 1 (2 ^ 63)
+    → Narrow (with_current l a node re im) (w + count_node l node) (m + 2 ^ 63)
 narrow_current l a Ground re im w m few n r i = wider a w (w + 0) m (m + 2 ^ 63) (omega arith) (omega arith) n
 narrow_current l a (Node k) re im w m few n r i = by_two (eqb (2 * k) l) (eqb (2 * k + 1) l)
   where
@@ -138,7 +174,9 @@ narrow_current l a (Node k) re im w m few n r i = by_two (eqb (2 * k) l) (eqb (2
     by_two false true = wider (sum a im) (w + 1) (w + (0 + 1)) (m + 2 ^ 63) (m + 2 ^ 63) (omega arith) (omega arith) (narrow_sum a im w 1 m (2 ^ 63) few n i)
     by_two false false = wider a w (w + (0 + 0)) m (m + 2 ^ 63) (omega arith) (omega arith) n
 
-narrow_magnitude : (l : ℕ) (a : Bounds) (place : Option ℕ) (b : Bounds) (w m : ℕ) → m + 2 ^ 63 ≤ 2 ^ 120 → Narrow a w m → Narrow b 1 (2 ^ 63) → Narrow (with_magnitude l a place b) (w + count_magnitude l place) (m + 2 ^ 63)
+narrow_magnitude : (l : ℕ) (a : Bounds) (place : Option ℕ) (b : Bounds) (w m : ℕ) → m + 2 ^ 63 ≤ 2 ^ 120
+    → Narrow a w m → Narrow b 1 (2 ^ 63)
+    → Narrow (with_magnitude l a place b) (w + count_magnitude l place) (m + 2 ^ 63)
 narrow_magnitude l a None b w m few n k = wider a w (w + 0) m (m + 2 ^ 63) (omega arith) (omega arith) n
 narrow_magnitude l a (Some place) b w m few n k = by_test (eqb place l)
   where
@@ -149,7 +187,9 @@ narrow_magnitude l a (Some place) b w m few n k = by_test (eqb place l)
 narrow_quotient : (z : ℤ) (d : ℕ) → 0 < d → nat_abs (near_div z d) ≤ 2 ^ 62 → Narrow (outward z d) 1 (2 ^ 63)
 narrow_quotient z d p h = wider (outward z d) 1 1 (2 ^ 62 + 1) (2 ^ 63) (omega arith) (lit≤ tt) (narrow_outward z d p (2 ^ 62) (lit≤ tt) h)
 
-narrow_drawn : (l : ℕ) (a : Bounds) (u : LoadAt) (p q m : ℤ) (w s : ℕ) → IsLoadPhase u.load → AreVoltages p q m → s + 3 * 2 ^ 63 ≤ 2 ^ 120 → Narrow a w s → Narrow (with_drawn l a u p q m) (w + count_terminal l u) (s + 3 * 2 ^ 63)
+narrow_drawn : (l : ℕ) (a : Bounds) (u : LoadAt) (p q m : ℤ) (w s : ℕ) → IsLoadPhase u.load → AreVoltages p q m
+    → s + 3 * 2 ^ 63 ≤ 2 ^ 120 → Narrow a w s
+    → Narrow (with_drawn l a u p q m) (w + count_terminal l u) (s + 3 * 2 ^ 63)
 unfolding with_drawn count_terminal
 narrow_drawn l a u p q m w s h v few n =
     let d = divisor u.load p q m in
@@ -159,28 +199,52 @@ narrow_drawn l a u p q m w s h v few n =
     let im = narrow_quotient (quadrature u.load p q) d positive (quadrature_small u.load p q m h v) in
     let row = narrow_quotient (excess p q m) (nat_abs u.load.vn) vn (excess_small u.load p q m h v) in
     let first = narrow_current l a u.first (outward (in_phase u.load p q) d) (outward (quadrature u.load p q) d) w s (omega arith) n re im in
-    let second = narrow_current l (with_current l a u.first (outward (in_phase u.load p q) d) (outward (quadrature u.load p q) d)) u.second (negation (outward (in_phase u.load p q) d)) (negation (outward (quadrature u.load p q) d)) (w + count_node l u.first) (s + 2 ^ 63) (omega arith) first
-    (narrow_negation (outward (in_phase u.load p q) d) 1 (2 ^ 63) re) (narrow_negation (outward (quadrature u.load p q) d) 1 (2 ^ 63) im) in
-    let third = narrow_magnitude l (with_current l (with_current l a u.first (outward (in_phase u.load p q) d) (outward (quadrature u.load p q) d)) u.second (negation (outward (in_phase u.load p q) d)) (negation (outward (quadrature u.load p q) d))) u.magnitude (outward (excess p q m) (nat_abs u.load.vn)) (w + count_node l u.first + count_node l u.second) (s + 2 ^ 63 + 2 ^ 63) (omega arith) second row in
-    wider _ (w + count_node l u.first + count_node l u.second + count_magnitude l u.magnitude) (w + ((count_node l u.first + count_node l u.second) + count_magnitude l u.magnitude)) (s + 2 ^ 63 + 2 ^ 63 + 2 ^ 63) (s + 3 * 2 ^ 63) (omega arith) (omega arith) third
+    let second =
+    narrow_current l (with_current l a u.first (outward (in_phase u.load p q) d) (outward (quadrature u.load p q) d))
+    u.second (negation (outward (in_phase u.load p q) d)) (negation (outward (quadrature u.load p q) d))
+    (w + count_node l u.first) (s + 2 ^ 63) (omega arith) first
+    (narrow_negation (outward (in_phase u.load p q) d) 1 (2 ^ 63) re)
+    (narrow_negation (outward (quadrature u.load p q) d) 1 (2 ^ 63) im) in
+    let third = narrow_magnitude l
+    (with_current l (with_current l a u.first (outward (in_phase u.load p q) d) (outward (quadrature u.load p q) d))
+    u.second (negation (outward (in_phase u.load p q) d)) (negation (outward (quadrature u.load p q) d)))
+    u.magnitude (outward (excess p q m) (nat_abs u.load.vn)) (w + count_node l u.first + count_node l u.second)
+    (s + 2 ^ 63 + 2 ^ 63) (omega arith) second row in
+    wider _ (w + count_node l u.first + count_node l u.second + count_magnitude l u.magnitude)
+    (w + ((count_node l u.first + count_node l u.second) + count_magnitude l u.magnitude))
+    (s + 2 ^ 63 + 2 ^ 63 + 2 ^ 63) (s + 3 * 2 ^ 63) (omega arith) (omega arith) third
 
-narrow_load : (l : ℕ) (a : Bounds) (u : LoadAt) (x : List ℤ) (w s : ℕ) → All IsPart x → IsConnected (length x) u → s + 3 * 2 ^ 63 ≤ 2 ^ 120 → Narrow a w s → Narrow (fold (with_part l) a (nonlinear_parts u (whole_state x))) (w + current_count l u) (s + 3 * 2 ^ 63)
+narrow_load : (l : ℕ) (a : Bounds) (u : LoadAt) (x : List ℤ) (w s : ℕ) → All IsPart x → IsConnected (length x) u
+    → s + 3 * 2 ^ 63 ≤ 2 ^ 120 → Narrow a w s
+    → Narrow (fold (with_part l) a (nonlinear_parts u (whole_state x))) (w + current_count l u) (s + 3 * 2 ^ 63)
 unfolding current_count
 narrow_load l a u x w s parts h few n = by_model (is_linear u.load.model) refl
   where
-    by_model : (b : Bool) → is_linear u.load.model ≡ b → Narrow (fold (with_part l) a (cond b [] (load_parts u (whole_state x)))) (w + cond b 0 (count_terminal l u)) (s + 3 * 2 ^ 63)
+    by_model : (b : Bool) → is_linear u.load.model ≡ b
+        → Narrow (fold (with_part l) a (cond b [] (load_parts u (whole_state x)))) (w + cond b 0 (count_terminal l u))
+        (s + 3 * 2 ^ 63)
     by_model true e = wider a w (w + 0) s (s + 3 * 2 ^ 63) (omega arith) (omega arith) n
     by_model false e =
-        let is : with_drawn l a u (real_of x u) (imaginary_of x u) (magnitude_in x u) ≡ fold (with_part l) a (load_parts u (whole_state x)) = parts_are l a u x e ∙ ap (λ b. fold (with_part l) a (cond b [] (load_parts u (whole_state x)))) e in
-        subst (λ b. Narrow b (w + count_terminal l u) (s + 3 * 2 ^ 63)) is (narrow_drawn l a u (real_of x u) (imaginary_of x u) (magnitude_in x u) w s h.phase (voltages x parts u h) few n)
+        let is : with_drawn l a u (real_of x u) (imaginary_of x u) (magnitude_in x u)
+        ≡ fold (with_part l) a (load_parts u (whole_state x)) =
+        parts_are l a u x e ∙ ap (λ b. fold (with_part l) a (cond b [] (load_parts u (whole_state x)))) e in
+        subst (λ b. Narrow b (w + count_terminal l u) (s + 3 * 2 ^ 63)) is
+        (narrow_drawn l a u (real_of x u) (imaginary_of x u) (magnitude_in x u) w s h.phase (voltages x parts u h) few
+        n)
 
-pub narrow_loads : (l : ℕ) (a : Bounds) (us : List LoadAt) (x : List ℤ) (w s : ℕ) → All IsPart x → All (IsConnected (length x)) us → s + length us * (3 * 2 ^ 63) ≤ 2 ^ 120 → Narrow a w s → Narrow (fold (with_part l) a (nonlinear_of us (whole_state x))) (w + current_counts us l) (s + length us * (3 * 2 ^ 63))
+pub narrow_loads : (l : ℕ) (a : Bounds) (us : List LoadAt) (x : List ℤ) (w s : ℕ) → All IsPart x
+    → All (IsConnected (length x)) us → s + length us * (3 * 2 ^ 63) ≤ 2 ^ 120 → Narrow a w s
+    → Narrow (fold (with_part l) a (nonlinear_of us (whole_state x))) (w + current_counts us l)
+    (s + length us * (3 * 2 ^ 63))
 narrow_loads l a [] x w s parts h few n = wider a w (w + 0) s (s + 0 * (3 * 2 ^ 63)) (omega arith) (omega arith) n
 narrow_loads l a (u ∷ us) x w s parts h few n =
     let one = narrow_load l a u x w s parts (All-head (IsConnected (length x)) u us h) (omega arith) n in
-    let all = narrow_loads l (fold (with_part l) a (nonlinear_parts u (whole_state x))) us x (w + current_count l u) (s + 3 * 2 ^ 63) parts (All-tail (IsConnected (length x)) u us h) (omega arith) one in
-    subst (λ b. Narrow b (w + (current_count l u + current_counts us l)) (s + suc (length us) * (3 * 2 ^ 63))) (sym (fold-append (with_part l) a (nonlinear_parts u (whole_state x)) (nonlinear_of us (whole_state x))))
-    (wider _ (w + current_count l u + current_counts us l) (w + (current_count l u + current_counts us l)) (s + 3 * 2 ^ 63 + length us * (3 * 2 ^ 63)) (s + suc (length us) * (3 * 2 ^ 63)) (omega arith) (omega arith) all)
+    let all = narrow_loads l (fold (with_part l) a (nonlinear_parts u (whole_state x))) us x (w + current_count l u)
+    (s + 3 * 2 ^ 63) parts (All-tail (IsConnected (length x)) u us h) (omega arith) one in
+    subst (λ b. Narrow b (w + (current_count l u + current_counts us l)) (s + suc (length us) * (3 * 2 ^ 63)))
+    (sym (fold-append (with_part l) a (nonlinear_parts u (whole_state x)) (nonlinear_of us (whole_state x))))
+    (wider _ (w + current_count l u + current_counts us l) (w + (current_count l u + current_counts us l))
+    (s + 3 * 2 ^ 63 + length us * (3 * 2 ^ 63)) (s + suc (length us) * (3 * 2 ^ 63)) (omega arith) (omega arith) all)
 
 -- ---- denominators
 
@@ -201,7 +265,9 @@ load_positive : (l : ℕ) (u : LoadAt) (x : List ℤ) → IsLoadPhase u.load →
 load_positive l u x h = by_model (is_linear u.load.model)
   where
     current : IsWhole (load_current u (whole_state x))
-    current = let d = divisor-positive u.load (real_of x u) (imaginary_of x u) (magnitude_in x u) h in subst IsWhole (sym (current_is u x)) (record { re = d; im = d })
+    current =
+        let d = divisor-positive u.load (real_of x u) (imaginary_of x u) (magnitude_in x u) h in
+        subst IsWhole (sym (current_is u x)) (record { re = d; im = d })
 
     back : IsWhole (negative (load_current u (whole_state x)))
     back = record { re = opposite-pos (load_current u (whole_state x)).re current.re; im = opposite-pos (load_current u (whole_state x)).im current.im }
@@ -213,8 +279,11 @@ load_positive l u x h = by_model (is_linear u.load.model)
     by_model true = All-nil (λ q. 0 < (seen l q).over)
     by_model false =
         let c = load_current u (whole_state x) in
-        All-cons (λ q. 0 < (seen l q).over) (both u.first c) (both u.second (negative c) ∷ magnitude_parts u (whole_state x) u.magnitude) (side-pos l u.first c current)
-        (All-cons (λ q. 0 < (seen l q).over) (both u.second (negative c)) (magnitude_parts u (whole_state x) u.magnitude) (side-pos l u.second (negative c) back) (magnitude_positive l u x u.magnitude vn))
+        All-cons (λ q. 0 < (seen l q).over) (both u.first c)
+        (both u.second (negative c) ∷ magnitude_parts u (whole_state x) u.magnitude) (side-pos l u.first c current)
+        (All-cons (λ q. 0 < (seen l q).over) (both u.second (negative c))
+        (magnitude_parts u (whole_state x) u.magnitude) (side-pos l u.second (negative c) back)
+        (magnitude_positive l u x u.magnitude vn))
 
 pub loads_positive : (l : ℕ) (us : List LoadAt) (x : List ℤ) → All (IsConnected (length x)) us → HasParts l (nonlinear_of us (whole_state x))
 loads_positive l [] x h = All-nil (λ q. 0 < (seen l q).over)

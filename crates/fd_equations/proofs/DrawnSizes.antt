@@ -50,15 +50,18 @@ largest_small p q h k = omega arith
 
 module _ (w : LoadPhase) (p q m : ℤ) (h : IsLoadPhase w) (v : AreVoltages p q m) where
   nearest_small : (n : ℤ) → nat_abs n ≤ 10 ^ 9 * (power_sum w * largest p q) → nat_abs (near_div n (divisor w p q m)) ≤ 2 ^ 62
-  nearest_small n b = near_within n (divisor w p q m) (2 ^ 62) (divisor-positive w p q m h)
-      (current_within (nat_abs n) (power_sum w) (largest p q) (nat_abs w.vlo * nat_abs w.vlo) (divisor w p q m) b h.admittance (divisor_least w p q m h) (largest_small p q v.re v.im))
+  nearest_small n b =
+      near_within n (divisor w p q m) (2 ^ 62) (divisor-positive w p q m h)
+      (current_within (nat_abs n) (power_sum w) (largest p q) (nat_abs w.vlo * nat_abs w.vlo) (divisor w p q m) b
+      h.admittance (divisor_least w p q m h) (largest_small p q v.re v.im))
 
   pub in_phase_small : nat_abs (near_div (in_phase w p q) (divisor w p q m)) ≤ 2 ^ 62
   in_phase_small = nearest_small (in_phase w p q) (times_most (10 ^ 9) (w.p *ℤ p +ℤ w.q *ℤ q) (power_sum w * largest p q) (sum_most w.p w.q p q))
 
   pub quadrature_small : nat_abs (near_div (quadrature w p q) (divisor w p q m)) ≤ 2 ^ 62
-  quadrature_small = nearest_small (quadrature w p q)
-      (rw (← turned (10 ^ 9) w.p w.q p q, ← turned_largest p q) (times_most (10 ^ 9) (w.p *ℤ q +ℤ w.q *ℤ (pos 0 -ℤ p)) (power_sum w * largest q (pos 0 -ℤ p)) (sum_most w.p w.q q (pos 0 -ℤ p))))
+  quadrature_small =
+      nearest_small (quadrature w p q) (rw (← turned (10 ^ 9) w.p w.q p q, ← turned_largest p q) (times_most (10 ^ 9)
+      (w.p *ℤ q +ℤ w.q *ℤ (pos 0 -ℤ p)) (power_sum w * largest q (pos 0 -ℤ p)) (sum_most w.p w.q q (pos 0 -ℤ p))))
 
   square_most : (z : ℤ) → nat_abs z ≤ 2 ^ 41 → nat_abs (z *ℤ z) ≤ 2 ^ 41 * 2 ^ 41
   square_most z b = let g = mul-le-mul b b in rw (unsigned_abs-mul z z) g
@@ -67,7 +70,15 @@ module _ (w : LoadPhase) (p q m : ℤ) (h : IsLoadPhase w) (v : AreVoltages p q 
   nominal_positive = omega (arith, ints, h.nominal_least)
 
   excess_most : nat_abs (excess p q m) ≤ 2 ^ 62 * nat_abs w.vn
-  excess_most = omega (arith, nominal_positive, abs_sub (m *ℤ m -ℤ p *ℤ p) (q *ℤ q), abs_sub (m *ℤ m) (p *ℤ p), square_most m v.magnitude, square_most p v.re, square_most q v.im)
+  excess_most = omega (
+    arith,
+    nominal_positive,
+    abs_sub (m *ℤ m -ℤ p *ℤ p) (q *ℤ q),
+    abs_sub (m *ℤ m) (p *ℤ p),
+    square_most m v.magnitude,
+    square_most p v.re,
+    square_most q v.im,
+  )
 
   pub excess_small : nat_abs (near_div (excess p q m) (nat_abs w.vn)) ≤ 2 ^ 62
   excess_small = near_within (excess p q m) (nat_abs w.vn) (2 ^ 62) (omega (arith, nominal_positive)) excess_most

@@ -98,17 +98,23 @@ magnitude_has l (Some k) h = elim (cases_eq k l) [
 terminal_has : (l : ℕ) (u : LoadAt) → count_terminal l u ≢ 0 → Contains (terminal_places u) l
 unfolding count_terminal
 terminal_has l u h = elim (cases_eq (count_node l u.first) 0) [
-  | inr a ↦ Contains-append_left (node_places u.first ++ node_places u.second) (magnitude_places u.magnitude) l (Contains-append_left (node_places u.first) (node_places u.second) l (node_has l u.first a))
+  | inr a ↦ Contains-append_left (node_places u.first ++ node_places u.second) (magnitude_places u.magnitude) l
+      (Contains-append_left (node_places u.first) (node_places u.second) l (node_has l u.first a))
   | inl a ↦ elim (cases_eq (count_node l u.second) 0) [
-    | inr b ↦ Contains-append_left (node_places u.first ++ node_places u.second) (magnitude_places u.magnitude) l (Contains-append_right (node_places u.first) (node_places u.second) l (node_has l u.second b))
-    | inl b ↦ Contains-append_right (node_places u.first ++ node_places u.second) (magnitude_places u.magnitude) l (magnitude_has l u.magnitude (λ c. h (omega arith)))
+    | inr b ↦ Contains-append_left (node_places u.first ++ node_places u.second) (magnitude_places u.magnitude) l
+        (Contains-append_right (node_places u.first) (node_places u.second) l (node_has l u.second b))
+    | inl b ↦ Contains-append_right (node_places u.first ++ node_places u.second) (magnitude_places u.magnitude) l
+        (magnitude_has l u.magnitude (λ c. h (omega arith)))
   ]
 ]
 
 row_has : (row : ℕ) (at : List ℕ) (col : ℕ) → Contains at col → Contains {X = ℕ × ℕ} (map (λ c. (row, c)) at) (row, col)
 row_has row [] col (k, l, e) = absurd (omega arith)
 row_has row (a ∷ at) col (zero, l, e) = (0, omega arith, λ i. (row, e i))
-row_has row (a ∷ at) col (suc k, l, e) = let there : Contains at col = (k, omega arith, e) in let (j, m, f) = row_has row at col there in (suc j, omega arith, f)
+row_has row (a ∷ at) col (suc k, l, e) =
+    let there : Contains at col = (k, omega arith, e) in
+    let (j, m, f) = row_has row at col there in
+    (suc j, omega arith, f)
 
 rows_have : (rows at : List ℕ) (row col : ℕ) → Contains rows row → Contains at col → Contains {X = ℕ × ℕ} (flat_map (λ r. map (λ c. (r, c)) at) rows) (row, col)
 rows_have [] at row col (k, l, e) has = absurd (omega arith)
@@ -116,7 +122,8 @@ rows_have (r ∷ rows) at row col (zero, l, e) has =
     subst (λ q. Contains {X = ℕ × ℕ} (map (λ c. (r, c)) at ++ flat_map (λ r. map (λ c. (r, c)) at) rows) (q, col)) e
     (Contains-append_left (map (λ c. (r, c)) at) (flat_map (λ r. map (λ c. (r, c)) at) rows) (r, col) (row_has r at col has))
 rows_have (r ∷ rows) at row col (suc k, l, e) has =
-    Contains-append_right (map (λ c. (r, c)) at) (flat_map (λ r. map (λ c. (r, c)) at) rows) (row, col) (let there : Contains rows row = (k, omega arith, e) in rows_have rows at row col there has)
+    Contains-append_right (map (λ c. (r, c)) at) (flat_map (λ r. map (λ c. (r, c)) at) rows) (row, col)
+    (let there : Contains rows row = (k, omega arith, e) in rows_have rows at row col there has)
 
 product_zero : (a b : ℕ) → a ≡ 0 → a * b ≡ 0
 product_zero a b e = ap (λ n. n * b) e ∙ omega arith
@@ -171,7 +178,8 @@ module _ (ps : List (ℕ × ℕ)) (cells : List Cell) (ts : List Term) (us : Lis
   all_sums none small row col = elim (decide ps (row, col)) [
     | inl (k, l, is) ↦
         let e : key ps k ≡ (row, col) = get_or_default ps k (0, 0) (row, col) l ∙ is in
-        let units : (cell_at cells k).units ≡ linear_entry ts row col = ap (λ (c : Cell). c.units) (are.each k l) ∙ ap (λ (p : ℕ × ℕ). linear_entry ts p.0 p.1) e in
+        let units : (cell_at cells k).units ≡ linear_entry ts row col =
+        ap (λ (c : Cell). c.units) (are.each k l) ∙ ap (λ (p : ℕ × ℕ). linear_entry ts p.0 p.1) e in
         subst AreSmall units (small k empty (omega (arith, are.long)))
     | inr away ↦ subst AreSmall (sym (ap (λ (a : Amount). a.units) (none (row, col) away))) small_none
   ]

@@ -27,31 +27,42 @@ module _ (ps : List (ℕ × ℕ)) (cells : List Cell) (t : Term) where
   one = amount (units_of t) 1 0
 
   -- the cell at k loses it, and stands at its place
-  taken_at : (k : ℕ) (new : Cell) → length cells ≡ length ps → IsSlot ps t.row t.col k → ((j : ℕ) → IsSlot ps t.row t.col j → j ≡ k) → cell_at cells k ≡ more new one
-      → (j : ℕ) → j < length ps → cell_at cells j ≡ more (cell_at (set cells k new) j) (only_at (t.row, t.col) one (key ps j))
+  taken_at : (k : ℕ) (new : Cell) → length cells ≡ length ps → IsSlot ps t.row t.col k
+      → ((j : ℕ) → IsSlot ps t.row t.col j → j ≡ k) → cell_at cells k ≡ more new one → (j : ℕ) → j < length ps
+      → cell_at cells j ≡ more (cell_at (set cells k new) j) (only_at (t.row, t.col) one (key ps j))
   taken_at k new long at only is j l = elim (cases_eq j k) [
     | inl e ↦
-        let hit : is_at (t.row, t.col) (key ps j) ≡ true = subst (λ n. is_at (t.row, t.col) (key ps n) ≡ true) (sym e) (here (t.row, t.col) (key ps k) (sym at.row_is) (sym at.col_is)) in
+        let hit : is_at (t.row, t.col) (key ps j) ≡ true =
+        subst (λ n. is_at (t.row, t.col) (key ps n) ≡ true) (sym e)
+        (here (t.row, t.col) (key ps k) (sym at.row_is) (sym at.col_is)) in
         let read : cell_at (set cells k new) j ≡ new = ap (cell_at (set cells k new)) e ∙ get_or-set_same cells k new empty (omega (arith, at.in_range)) in
         ap (cell_at cells) e ∙ is ∙ (λ i. more (sym read i) (amount (cond (sym hit i) (units_of t) (pos 0)) (cond (sym hit i) 1 0) (cond (sym hit i) 0 0)))
     | inr ne ↦
-        let miss : is_at (t.row, t.col) (key ps j) ≡ false = elsewhere (t.row, t.col) (key ps j) (λ (f, g). ne (only j (record { in_range = l; row_is = sym f; col_is = sym g }))) in
+        let miss : is_at (t.row, t.col) (key ps j) ≡ false =
+        elsewhere (t.row, t.col) (key ps j) (λ (f, g).
+        ne (only j (record { in_range = l; row_is = sym f; col_is = sym g }))) in
         let read : cell_at (set cells k new) j ≡ cell_at cells j = get_or-set_other cells k j new empty ne in
-        sym (more_nothing (cell_at cells j)) ∙ (λ i. more (sym read i) (amount (cond (sym miss i) (units_of t) (pos 0)) (cond (sym miss i) 1 0) (cond (sym miss i) 0 0)))
+        sym (more_nothing (cell_at cells j))
+        ∙ (λ i. more (sym read i)
+        (amount (cond (sym miss i) (units_of t) (pos 0)) (cond (sym miss i) 1 0) (cond (sym miss i) 0 0)))
   ]
 
-  pub taken_term : (k : ℕ) (new : Cell) → length cells ≡ length ps → IsSlot ps t.row t.col k → ((j : ℕ) → IsSlot ps t.row t.col j → j ≡ k) → cell_at cells k ≡ more new one → AreGrown ps (set cells k new) cells (of_term t)
+  pub taken_term : (k : ℕ) (new : Cell) → length cells ≡ length ps → IsSlot ps t.row t.col k
+      → ((j : ℕ) → IsSlot ps t.row t.col j → j ≡ k) → cell_at cells k ≡ more new one
+      → AreGrown ps (set cells k new) cells (of_term t)
   taken_term k new long at only is j l = taken_at k new long at only is j l ∙ ap (more (cell_at (set cells k new) j)) (term_amount t (key ps j))
 
 -- what has lost one has room
-pub room_less : (ps : List (ℕ × ℕ)) (old new : List Cell) (t : Term) → nat_abs (units_of t) ≤ 2 ^ 54 → HaveTermRoom ps old (2 ^ 80) (2 ^ 25) → AreGrown ps new old (of_term t) → HaveTermRoom ps new (2 ^ 81) (2 ^ 26)
+pub room_less : (ps : List (ℕ × ℕ)) (old new : List Cell) (t : Term) → nat_abs (units_of t) ≤ 2 ^ 54
+    → HaveTermRoom ps old (2 ^ 80) (2 ^ 25) → AreGrown ps new old (of_term t) → HaveTermRoom ps new (2 ^ 81) (2 ^ 26)
 room_less ps old new t small room grown j l =
     let cell = grown j l in
     let r = room j l in
     by (stands_at (key ps j).0 (key ps j).1 t) (ap (λ (c : Cell). c.units) cell) (ap (λ (c : Cell). c.count) cell) r.0 r.1
   where
-    by : (b : Bool) → (cell_at old j).units ≡ ((cell_at new j).units +ℤ cond b (units_of t) (pos 0)) → (cell_at old j).count ≡ (cell_at new j).count + cond b 1 0
-        → nat_abs (cell_at old j).units ≤ 2 ^ 80 → (cell_at old j).count ≤ 2 ^ 25 → (nat_abs (cell_at new j).units ≤ 2 ^ 81) × ((cell_at new j).count ≤ 2 ^ 26)
+    by : (b : Bool) → (cell_at old j).units ≡ ((cell_at new j).units +ℤ cond b (units_of t) (pos 0))
+        → (cell_at old j).count ≡ (cell_at new j).count + cond b 1 0 → nat_abs (cell_at old j).units ≤ 2 ^ 80
+        → (cell_at old j).count ≤ 2 ^ 25 → (nat_abs (cell_at new j).units ≤ 2 ^ 81) × ((cell_at new j).count ≤ 2 ^ 26)
     by true u n h i = (omega (arith, ints, u, h, small), omega (arith, n, i))
     by false u n h i = (omega (arith, ints, u, h), omega (arith, n, i))
 
@@ -60,9 +71,12 @@ room_less ps old new t small room grown j l =
 more_both : (c : Cell) (a b : Amount) → more (more c a) b ≡ more (more c b) a
 more_both c a b = same_cell (more (more c a) b) (more (more c b) a) refl (omega arith) (omega arith) (omega (arith, ints))
 
-pub exchanged_one : (ps : List (ℕ × ℕ)) (a b c : List Cell) (less add : ℕ × ℕ → Amount) → AreGrown ps b a less → AreGrown ps b c add → AreExchanged ps a c less add
+pub exchanged_one : (ps : List (ℕ × ℕ)) (a b c : List Cell) (less add : ℕ × ℕ → Amount) → AreGrown ps b a less
+    → AreGrown ps b c add → AreExchanged ps a c less add
 exchanged_one ps a b c less add taken added k l =
-    ap (λ z. more z (less (key ps k))) (added k l) ∙ more_both (cell_at b k) (add (key ps k)) (less (key ps k)) ∙ ap (λ z. more z (add (key ps k))) (sym (taken k l))
+    ap (λ z. more z (less (key ps k))) (added k l)
+    ∙ more_both (cell_at b k) (add (key ps k)) (less (key ps k))
+    ∙ ap (λ z. more z (add (key ps k))) (sym (taken k l))
 
 -- the same for itself
 pub exchanged_same : (ps : List (ℕ × ℕ)) (a : List Cell) (s t : Term) → s ≡ t → AreExchanged ps a a (of_term s) (of_term t)
@@ -77,17 +91,24 @@ pub exchanged_then : (ps : List (ℕ × ℕ)) (a b c : List Cell) (f f2 g g2 h h
     → ((p : ℕ × ℕ) → IsBoth (f p) (g p) (h p)) → ((p : ℕ × ℕ) → IsBoth (f2 p) (g2 p) (h2 p)) → AreExchanged ps a c h h2
 exchanged_then ps a b c f f2 g g2 h h2 x y less add k l =
     let p = key ps k in
-    sym (more_twice (cell_at c k) (f p) (g p) (h p) (less p)) ∙ more_both (cell_at c k) (f p) (g p) ∙ ap (λ z. more z (f p)) (y k l) ∙ more_both (cell_at b k) (g2 p) (f p) ∙ ap (λ z. more z (g2 p)) (x k l)
+    sym (more_twice (cell_at c k) (f p) (g p) (h p) (less p))
+    ∙ more_both (cell_at c k) (f p) (g p)
+    ∙ ap (λ z. more z (f p)) (y k l)
+    ∙ more_both (cell_at b k) (g2 p) (f p)
+    ∙ ap (λ z. more z (g2 p)) (x k l)
     ∙ more_twice (cell_at a k) (f2 p) (g2 p) (h2 p) (add p)
 
 -- ---- there is room, and there are as many as are taken out
 
 count_take : (ts : List Term) (k : ℕ) (p : ℕ × ℕ) → count_at (take k ts) p.0 p.1 ≤ count_at ts p.0 p.1
 count_take ts k p =
-    let parts : count_at ts p.0 p.1 ≡ count_at (take k ts) p.0 p.1 + count_at (drop k ts) p.0 p.1 = ap (λ l. count_at l p.0 p.1) (sym (take-append-drop k ts)) ∙ list_n-append (λ t. cond (stands_at p.0 p.1 t) 1 0) (take k ts) (drop k ts) in
+    let parts : count_at ts p.0 p.1 ≡ count_at (take k ts) p.0 p.1 + count_at (drop k ts) p.0 p.1 =
+    ap (λ l. count_at l p.0 p.1) (sym (take-append-drop k ts))
+    ∙ list_n-append (λ t. cond (stands_at p.0 p.1 t) 1 0) (take k ts) (drop k ts) in
     omega (arith, parts)
 
-module _ (ps : List (ℕ × ℕ)) (a b : List Cell) (n : ℕ) (old new : List Term) (k : ℕ) (x : AreExchanged ps a b (of_terms (take k old)) (of_terms (take k new))) where
+module _ (ps : List (ℕ × ℕ)) (a b : List Cell) (n : ℕ) (old new : List Term) (k : ℕ)
+    (x : AreExchanged ps a b (of_terms (take k old)) (of_terms (take k new))) where
   pub room_between : AreLinear n old → AreLinear n new → HaveTermRoom ps a (2 ^ 78) (2 ^ 24) → HaveTermRoom ps b (2 ^ 80) (2 ^ 25)
   room_between ol nl room j l =
       let p = key ps j in
@@ -99,10 +120,15 @@ module _ (ps : List (ℕ × ℕ)) (a b : List Cell) (n : ℕ) (old new : List Te
       let m_new : length (take k new) ≤ 2 ^ 24 = omega (arith, length-take k new) in
       let o = entry_size n (take k old) p.0 p.1 (All-take (IsLinear n) k old ol.each) in
       let e = entry_size n (take k new) p.0 p.1 (All-take (IsLinear n) k new nl.each) in
-      let units : ((cell_at b j).units +ℤ linear_entry (take k old) p.0 p.1) ≡ ((cell_at a j).units +ℤ linear_entry (take k new) p.0 p.1) = ap (λ (c : Cell). c.units) cell in
+      let units : ((cell_at b j).units +ℤ linear_entry (take k old) p.0 p.1)
+      ≡ ((cell_at a j).units +ℤ linear_entry (take k new) p.0 p.1) =
+      ap (λ (c : Cell). c.units) cell in
       let count : (cell_at b j).count + count_at (take k old) p.0 p.1 ≡ (cell_at a j).count + count_at (take k new) p.0 p.1 = ap (λ (c : Cell). c.count) cell in
-      let most = count_size (take k new) p.0 p.1 in
-      (size (cell_at a j).units (cell_at b j).units (linear_entry (take k old) p.0 p.1) (linear_entry (take k new) p.0 p.1) units r.0 (omega (arith, o, m)) (omega (arith, e, m_new)), omega (arith, count, most, m_new, r.1))
+      let most = count_size (take k new) p.0 p.1 in (
+        size (cell_at a j).units (cell_at b j).units (linear_entry (take k old) p.0 p.1)
+            (linear_entry (take k new) p.0 p.1) units r.0 (omega (arith, o, m)) (omega (arith, e, m_new)),
+        omega (arith, count, most, m_new, r.1),
+      )
     where
       size : (a b o e : ℤ) → b +ℤ o ≡ a +ℤ e → nat_abs a ≤ 2 ^ 78 → nat_abs o ≤ 2 ^ 78 → nat_abs e ≤ 2 ^ 78 → nat_abs b ≤ 2 ^ 80
       size a b o e h i j k = omega (arith, ints)
@@ -118,7 +144,8 @@ module _ (ps : List (ℕ × ℕ)) (a b : List Cell) (n : ℕ) (old new : List Te
 -- ---- all of them
 
 -- the cells of rows, with other contributions
-pub exchanged_cells : (ps : List (ℕ × ℕ)) (a b : List Cell) (old new : List Term) (us vs : List LoadAt) → length b ≡ length a → AreCells ps a (of_rows old us) → AreExchanged ps a b (of_terms old) (of_terms new)
+pub exchanged_cells : (ps : List (ℕ × ℕ)) (a b : List Cell) (old new : List Term) (us vs : List LoadAt)
+    → length b ≡ length a → AreCells ps a (of_rows old us) → AreExchanged ps a b (of_terms old) (of_terms new)
     → ((row col : ℕ) → slope_counts us row col ≡ slope_counts vs row col) → AreCells ps b (of_rows new vs)
 exchanged_cells ps a b old new us vs long are x alike = record {
   long = long ∙ are.long;
@@ -126,14 +153,18 @@ exchanged_cells ps a b old new us vs long are x alike = record {
       let p = key ps k in
       let was = are.each k l in
       let cell = x k l ∙ ap (λ z. more z (of_terms new p)) was in
-      let units : ((cell_at b k).units +ℤ linear_entry old p.0 p.1) ≡ (linear_entry old p.0 p.1 +ℤ linear_entry new p.0 p.1) = ap (λ (c : Cell). c.units) cell in
+      let units : ((cell_at b k).units +ℤ linear_entry old p.0 p.1)
+      ≡ (linear_entry old p.0 p.1 +ℤ linear_entry new p.0 p.1) =
+      ap (λ (c : Cell). c.units) cell in
       let count : (cell_at b k).count + count_at old p.0 p.1 ≡ count_at old p.0 p.1 + count_at new p.0 p.1 = ap (λ (c : Cell). c.count) cell in
       let slopes : (cell_at b k).slopes + 0 ≡ slope_counts us p.0 p.1 + 0 = ap (λ (c : Cell). c.slopes) cell in
-      same_cell (cell_at b k) (cell_of p.1 (of_rows new vs p)) (ap (λ (c : Cell). c.col) cell) (omega (arith, count)) (omega (arith, slopes, alike p.0 p.1)) (omega (arith, ints, units));
+      same_cell (cell_at b k) (cell_of p.1 (of_rows new vs p)) (ap (λ (c : Cell). c.col) cell) (omega (arith, count))
+      (omega (arith, slopes, alike p.0 p.1)) (omega (arith, ints, units));
 }
 
 -- cells of rows have room, and as many as there are
-pub rows_room : (ps : List (ℕ × ℕ)) (cells : List Cell) (n : ℕ) (ts : List Term) (us : List LoadAt) → AreLinear n ts → AreCells ps cells (of_rows ts us) → HaveTermRoom ps cells (2 ^ 78) (2 ^ 24)
+pub rows_room : (ps : List (ℕ × ℕ)) (cells : List Cell) (n : ℕ) (ts : List Term) (us : List LoadAt) → AreLinear n ts
+    → AreCells ps cells (of_rows ts us) → HaveTermRoom ps cells (2 ^ 78) (2 ^ 24)
 rows_room ps cells n ts us linear are j l =
     let p = key ps j in
     let size = entry_size n ts p.0 p.1 linear.each in
@@ -144,21 +175,31 @@ rows_room ps cells n ts us linear are j l =
     let count : (cell_at cells j).count ≡ count_at ts p.0 p.1 = ap (λ (c : Cell). c.count) cell in
     (subst (λ z. nat_abs z ≤ 2 ^ 78) (sym units) (omega arith), omega arith)
 
-pub rows_counts : (ps : List (ℕ × ℕ)) (cells : List Cell) (ts : List Term) (us : List LoadAt) → AreCells ps cells (of_rows ts us) → HaveCounts ps cells (λ p. count_at ts p.0 p.1)
+pub rows_counts : (ps : List (ℕ × ℕ)) (cells : List Cell) (ts : List Term) (us : List LoadAt)
+    → AreCells ps cells (of_rows ts us) → HaveCounts ps cells (λ p. count_at ts p.0 p.1)
 rows_counts ps cells ts us are j l =
     let count : (cell_at cells j).count ≡ count_at ts (key ps j).0 (key ps j).1 = ap (λ (c : Cell). c.count) (are.each j l) in
     omega (arith, count)
 
 -- ---- part loads that stand alike
 
-slope_same : (row col : ℕ) (u v : LoadAt) → u.load.model ≡ v.load.model → u.first ≡ v.first → u.second ≡ v.second → u.magnitude ≡ v.magnitude → slope_count row col u ≡ slope_count row col v
+slope_same : (row col : ℕ) (u v : LoadAt) → u.load.model ≡ v.load.model → u.first ≡ v.first → u.second ≡ v.second
+    → u.magnitude ≡ v.magnitude → slope_count row col u ≡ slope_count row col v
 unfolding slope_count count_terminal
 slope_same row col u v model first second magnitude = λ i.
-    cond (is_linear (model i)) 0 (((count_node row (first i) + count_node row (second i)) + count_magnitude row (magnitude i)) * ((count_node col (first i) + count_node col (second i)) + count_magnitude col (magnitude i)))
+    cond (is_linear (model i)) 0
+    (((count_node row (first i) + count_node row (second i)) + count_magnitude row (magnitude i))
+    * ((count_node col (first i) + count_node col (second i)) + count_magnitude col (magnitude i)))
 
-pub alike_more : (us vs : List LoadAt) (k : ℕ) → k < length us → k < length vs → ((row col : ℕ) → slope_counts (take k us) row col ≡ slope_counts (take k vs) row col)
-    → (get_or us k no_load).load.model ≡ (get_or vs k no_load).load.model → (get_or us k no_load).first ≡ (get_or vs k no_load).first
-    → (get_or us k no_load).second ≡ (get_or vs k no_load).second → (get_or us k no_load).magnitude ≡ (get_or vs k no_load).magnitude
+pub alike_more : (us vs : List LoadAt) (k : ℕ) → k < length us → k < length vs
+    → ((row col : ℕ) → slope_counts (take k us) row col ≡ slope_counts (take k vs) row col)
+    → (get_or us k no_load).load.model ≡ (get_or vs k no_load).load.model
+    → (get_or us k no_load).first ≡ (get_or vs k no_load).first
+    → (get_or us k no_load).second ≡ (get_or vs k no_load).second
+    → (get_or us k no_load).magnitude ≡ (get_or vs k no_load).magnitude
     → (row col : ℕ) → slope_counts (take (k + 1) us) row col ≡ slope_counts (take (k + 1) vs) row col
 alike_more us vs k h i so_far model first second magnitude row col =
-    list_n_more (slope_count row col) us k no_load h ∙ (λ j. so_far row col j + slope_same row col (get_or us k no_load) (get_or vs k no_load) model first second magnitude j) ∙ sym (list_n_more (slope_count row col) vs k no_load i)
+    list_n_more (slope_count row col) us k no_load h
+    ∙ (λ j.
+    so_far row col j + slope_same row col (get_or us k no_load) (get_or vs k no_load) model first second magnitude j)
+    ∙ sym (list_n_more (slope_count row col) vs k no_load i)

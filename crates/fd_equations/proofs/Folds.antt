@@ -17,14 +17,17 @@ use Rattle.fd_equations.specs.Rounded.{list_of, constant_sum, constant_added}
 use Rattle.fd_equations.proofs.Lists.{list_z_more, length-list_of, get_or-list_of, list_of-ext}
 
 -- a fold over one element more
-pub fold_more : {A B : Type 0} (f : B → A → B) (z : B) (xs : List A) (k : ℕ) (d : A) → k < length xs → fold f z (take (k + 1) xs) ≡ f (fold f z (take k xs)) (get_or xs k d)
+pub fold_more : {A B : Type 0} (f : B → A → B) (z : B) (xs : List A) (k : ℕ) (d : A) → k < length xs
+    → fold f z (take (k + 1) xs) ≡ f (fold f z (take k xs)) (get_or xs k d)
 fold_more f z xs k d h = ap (fold f z) (take_more xs k d h) ∙ fold-append f z (take k xs) (get_or xs k d ∷ [])
 
 -- ---- constants in whole numbers
 
-pub part_added : (rows : List ℤ) (c : Constant) (row : ℕ) → c.row < length rows → part (constant_added rows c) row ≡ (part rows row +ℤ cond (eqb c.row row) c.value (pos 0))
+pub part_added : (rows : List ℤ) (c : Constant) (row : ℕ) → c.row < length rows
+    → part (constant_added rows c) row ≡ (part rows row +ℤ cond (eqb c.row row) c.value (pos 0))
 part_added rows c row h = elim (cases_eq c.row row) [
-  | inl e ↦ subst (λ r. part (constant_added rows c) r ≡ (part rows r +ℤ cond (eqb c.row r) c.value (pos 0))) e (rw (eq-eqb c.row c.row refl) (get_or-set_same rows c.row (part rows c.row +ℤ c.value) (pos 0) h))
+  | inl e ↦ subst (λ r. part (constant_added rows c) r ≡ (part rows r +ℤ cond (eqb c.row r) c.value (pos 0))) e
+      (rw (eq-eqb c.row c.row refl) (get_or-set_same rows c.row (part rows c.row +ℤ c.value) (pos 0) h))
   | inr ne ↦ rw (ne_eqb c.row row ne) (get_or-set_other rows c.row row (part rows c.row +ℤ c.value) (pos 0) (λ q. ne (sym q)) ∙ plain (part rows row))
 ]
   where
@@ -44,15 +47,22 @@ pub record SumsTo (rows : List ℤ) (cs : List Constant) (size k : ℕ) : Type 0
 pub sums_start : (rows : List ℤ) (cs : List Constant) → ((row : ℕ) → part rows row ≡ pos 0) → SumsTo rows cs (length rows) 0
 sums_start rows cs h = record { long = refl; small = λ row. rw (h row) (omega arith); sums = λ row l. h row }
 
-pub sums_more : (rows : List ℤ) (cs : List Constant) (size k : ℕ) (d : Constant) → k < length cs → All (IsKnown size) cs → SumsTo rows cs size k → SumsTo (constant_added rows (get_or cs k d)) cs size (k + 1)
+pub sums_more : (rows : List ℤ) (cs : List Constant) (size k : ℕ) (d : Constant) → k < length cs
+    → All (IsKnown size) cs → SumsTo rows cs size k → SumsTo (constant_added rows (get_or cs k d)) cs size (k + 1)
 sums_more rows cs size k d l known h =
     let c = get_or cs k d in
     let is : IsKnown size c = All-get_or (IsKnown size) cs k d l known in
     let inside : c.row < length rows = subst (λ n. c.row < n) (sym h.long) is.row in
     record {
       long = length-set rows c.row (part rows c.row +ℤ c.value) ∙ h.long;
-      small = λ row. subst (λ z. nat_abs z ≤ (k + 1) * 2 ^ 60) (sym (part_added rows c row inside)) (subst (λ m. nat_abs (part rows row +ℤ cond (eqb c.row row) c.value (pos 0)) ≤ m) (next k) (added_size (part rows row) c.value (eqb c.row row) (k * 2 ^ 60) (h.small row) (value_size c.value is.least is.most)));
-      sums = λ row m. part_added rows c row inside ∙ ap (λ z. z +ℤ cond (eqb c.row row) c.value (pos 0)) (h.sums row m) ∙ sym (list_z_more (λ c. cond (eqb c.row row) c.value (pos 0)) cs k d l);
+      small = λ row.
+          subst (λ z. nat_abs z ≤ (k + 1) * 2 ^ 60) (sym (part_added rows c row inside))
+          (subst (λ m. nat_abs (part rows row +ℤ cond (eqb c.row row) c.value (pos 0)) ≤ m) (next k)
+          (added_size (part rows row) c.value (eqb c.row row) (k * 2 ^ 60) (h.small row)
+          (value_size c.value is.least is.most)));
+      sums = λ row m. part_added rows c row inside
+          ∙ ap (λ z. z +ℤ cond (eqb c.row row) c.value (pos 0)) (h.sums row m)
+          ∙ sym (list_z_more (λ c. cond (eqb c.row row) c.value (pos 0)) cs k d l);
     }
   where
     next : (k : ℕ) → k * 2 ^ 60 + 2 ^ 60 ≡ (k + 1) * 2 ^ 60
@@ -66,7 +76,9 @@ sums_end rows cs size k l h = list_of-ext rows size (constant_sum cs) (pos 0) h.
 
 -- ---- rows of intervals
 
-pub linear_table : (size : ℕ) (cs : List Constant) (ts : List Term) (x : List ℤ) → fold (term_added x) (fold interval_added (list_of size (λ _. capped (pos 0) (pos 0))) cs) ts ≡ list_of size (linear_interval cs ts x)
+pub linear_table : (size : ℕ) (cs : List Constant) (ts : List Term) (x : List ℤ)
+    → fold (term_added x) (fold interval_added (list_of size (λ _. capped (pos 0) (pos 0))) cs) ts
+    ≡ list_of size (linear_interval cs ts x)
 linear_table size cs ts x =
     let zero = list_of size (λ _. capped (pos 0) (pos 0)) in
     let rows = fold interval_added zero cs in

@@ -45,7 +45,10 @@ zero_terminal l u = λ i. (zero_node l u.first i +ℤ zero_node l u.second i) +�
 
 zero_entry : (u : LoadAt) (row col : ℕ) → load_entry u no_slopes row col ≡ pos 0
 unfolding load_entry no_slopes
-zero_entry u row col = ap (λ z. cond (is_linear u.load.model) (pos 0) z) (ap (λ z. at_terminal row u z z z) (zero_terminal col u) ∙ zero_terminal row u) ∙ zero_z (is_linear u.load.model)
+zero_entry u row col =
+    ap (λ z. cond (is_linear u.load.model) (pos 0) z)
+    (ap (λ z. at_terminal row u z z z) (zero_terminal col u) ∙ zero_terminal row u)
+    ∙ zero_z (is_linear u.load.model)
 
 zero_sum : (us : List LoadAt) (row col : ℕ) → list_z (λ u. load_entry u no_slopes row col) us ≡ pos 0
 zero_sum [] row col = refl
@@ -68,7 +71,10 @@ module _ (n : ℕ) where
 
   node_inside : (node : NodeAt) → IsPlace n node → All IsUnknown (node_places node)
   node_inside Ground h = All-nil IsUnknown
-  node_inside (Node k) h = let top = h.0 in All-cons IsUnknown (2 * k) ((2 * k + 1) ∷ []) (omega arith) (All-cons IsUnknown (2 * k + 1) [] top (All-nil IsUnknown))
+  node_inside (Node k) h =
+      let top = h.0 in
+      All-cons IsUnknown (2 * k) ((2 * k + 1) ∷ []) (omega arith)
+      (All-cons IsUnknown (2 * k + 1) [] top (All-nil IsUnknown))
 
   magnitude_inside : (place : Option ℕ) → IfSome place (λ k. k < n) → All IsUnknown (magnitude_places place)
   magnitude_inside None h = All-nil IsUnknown
@@ -77,22 +83,28 @@ module _ (n : ℕ) where
   terminal_inside : (u : LoadAt) → IsConnected n u → All IsUnknown (terminal_places u)
   terminal_inside u h =
       All-append IsUnknown (node_places u.first ++ node_places u.second) (magnitude_places u.magnitude)
-      (All-append IsUnknown (node_places u.first) (node_places u.second) (node_inside u.first h.first) (node_inside u.second h.second)) (magnitude_inside u.magnitude h.magnitude)
+      (All-append IsUnknown (node_places u.first) (node_places u.second) (node_inside u.first h.first)
+      (node_inside u.second h.second))
+      (magnitude_inside u.magnitude h.magnitude)
 
   row_inside : (row : ℕ) (at : List ℕ) → row < n → All IsUnknown at → All (IsInside n) (map (λ col. (row, col)) at)
   row_inside row [] h a = All-nil (IsInside n)
-  row_inside row (c ∷ at) h a = All-cons (IsInside n) (row, c) (map (λ col. (row, col)) at) (record { row = h; col = All-head IsUnknown c at a }) (row_inside row at h (All-tail IsUnknown c at a))
+  row_inside row (c ∷ at) h a =
+      All-cons (IsInside n) (row, c) (map (λ col. (row, col)) at)
+      (record { row = h; col = All-head IsUnknown c at a }) (row_inside row at h (All-tail IsUnknown c at a))
 
   pub cross_inside : (rows cols : List ℕ) → All (λ l. l < n) rows → All (λ l. l < n) cols → All (IsInside n) (cross rows cols)
   cross_inside [] cols h a = All-nil (IsInside n)
   cross_inside (r ∷ rows) cols h a =
-      All-append (IsInside n) (map (λ col. (r, col)) cols) (cross rows cols) (row_inside r cols (All-head IsUnknown r rows h) a) (cross_inside rows cols (All-tail IsUnknown r rows h) a)
+      All-append (IsInside n) (map (λ col. (r, col)) cols) (cross rows cols)
+      (row_inside r cols (All-head IsUnknown r rows h) a) (cross_inside rows cols (All-tail IsUnknown r rows h) a)
 
   loads_inside : (us : List LoadAt) → All (IsConnected n) us → All (IsInside n) (flat_map load_places us)
   loads_inside [] h = All-nil (IsInside n)
   loads_inside (u ∷ us) h =
       let at = terminal_inside u (All-head (IsConnected n) u us h) in
-      All-append (IsInside n) (load_places u) (flat_map load_places us) (cross_inside (terminal_places u) (terminal_places u) at at) (loads_inside us (All-tail (IsConnected n) u us h))
+      All-append (IsInside n) (load_places u) (flat_map load_places us)
+      (cross_inside (terminal_places u) (terminal_places u) at at) (loads_inside us (All-tail (IsConnected n) u us h))
 
   pub all_inside : (ts : List Term) (us : List LoadAt) → All (IsLinear n) ts → All (IsConnected n) us → All (IsInside n) (places_of ts us)
   all_inside ts us h k = All-append (IsInside n) (map place_of ts) (flat_map load_places us) (terms_inside ts h) (loads_inside us k)
@@ -102,8 +114,11 @@ all_wide n us h a = All-weaker (IsConnected n) (IsConnected (2 ^ 11)) (λ u c. c
 
 -- ---- what a look-up reads
 
-pub read_in : (ps : List (ℕ × ℕ)) (cells found : List Cell) (ts : List Term) (us : List LoadAt) (row col : ℕ) (r : Cell) → found ≡ cells → AreCells ps cells (of_rows ts us) → IsNothingElsewhere ps (of_rows ts us)
-    → ((at : ℕ × ℕ → Amount) → AreCells ps found at → IsNothingElsewhere ps at → r ≡ cell_of col (at (row, col))) → r ≡ cell_of col (of_rows ts us (row, col))
+pub read_in : (ps : List (ℕ × ℕ)) (cells found : List Cell) (ts : List Term) (us : List LoadAt) (row col : ℕ)
+    (r : Cell)
+    → found ≡ cells → AreCells ps cells (of_rows ts us) → IsNothingElsewhere ps (of_rows ts us)
+    → ((at : ℕ × ℕ → Amount) → AreCells ps found at → IsNothingElsewhere ps at → r ≡ cell_of col (at (row, col)))
+    → r ≡ cell_of col (of_rows ts us (row, col))
 read_in ps cells found ts us row col r e are none h = h (of_rows ts us) (subst (λ l. AreCells ps l (of_rows ts us)) (sym e) are) none
 
 -- ---- where there is no slope, nothing is added
@@ -166,7 +181,8 @@ entries_none f (u ∷ us) row col h =
     λ i. a i +ℤ b i
 
 -- where nothing stands among the contributions and the slopes, nothing stands whatever the slopes are
-pub nothing_still : (ps : List (ℕ × ℕ)) (ts : List Term) (us : List LoadAt) (f : LoadAt → Slopes) → IsNothingElsewhere ps (of_rows ts us) → IsNothingElsewhere ps (of_both ts f us)
+pub nothing_still : (ps : List (ℕ × ℕ)) (ts : List Term) (us : List LoadAt) (f : LoadAt → Slopes)
+    → IsNothingElsewhere ps (of_rows ts us) → IsNothingElsewhere ps (of_both ts f us)
 nothing_still ps ts us f none p away =
     let n = none p away in
     let a = ap (λ (x : Amount). x.units) n in
@@ -177,8 +193,10 @@ nothing_still ps ts us f none p away =
 
 -- ---- a matrix over the places of rows
 
-pub matrix_is : (n : ℕ) (m : MatrixView) (cells : List Cell) (ts : List Term) (us : List LoadAt) (f : LoadAt → Slopes) → m.size ≡ n → length m.cells ≡ length cells → AreCells m.places cells (of_terms ts)
-    → AreGrown m.places cells m.cells (of_loads f us) → HaveSlopeRoom m.places m.cells (2 ^ 100) (2 ^ 27) → IsNothingElsewhere m.places (of_rows ts us) → IsMatrix n m (of_both ts f us)
+pub matrix_is : (n : ℕ) (m : MatrixView) (cells : List Cell) (ts : List Term) (us : List LoadAt) (f : LoadAt → Slopes)
+    → m.size ≡ n → length m.cells ≡ length cells → AreCells m.places cells (of_terms ts)
+    → AreGrown m.places cells m.cells (of_loads f us) → HaveSlopeRoom m.places m.cells (2 ^ 100) (2 ^ 27)
+    → IsNothingElsewhere m.places (of_rows ts us) → IsMatrix n m (of_both ts f us)
 matrix_is n m cells ts us f size long are grown room none = record {
   size = size;
   cells = cells_then m.places cells m.cells (of_terms ts) (of_loads f us) (of_both ts f us) are long grown (both_parts ts f us);
@@ -187,20 +205,29 @@ matrix_is n m cells ts us f size long are grown room none = record {
 }
 
 -- the matrix of rows with these slopes, as calls made it
-pub matrix_made : (v : RowsView) (p : PatternView) (ts : List Term) (us : List LoadAt) (cells bare out made : List Cell) (f : LoadAt → Slopes) (m : MatrixView) (r s : ℕ) → rows_with p ts us r s ≡ v → AreRows p ts us cells
-    → bare ≡ map without_slopes cells → AreGrown p.places bare out (of_loads f us) → HaveSlopeRoom p.places out (2 ^ 100) (2 ^ 27) → length out ≡ length bare → made ≡ out → m ≡ matrix_with p made
+pub matrix_made : (v : RowsView) (p : PatternView) (ts : List Term) (us : List LoadAt)
+    (cells bare out made : List Cell) (f : LoadAt → Slopes) (m : MatrixView) (r s : ℕ)
+    → rows_with p ts us r s ≡ v → AreRows p ts us cells
+    → bare ≡ map without_slopes cells → AreGrown p.places bare out (of_loads f us)
+    → HaveSlopeRoom p.places out (2 ^ 100) (2 ^ 27) → length out ≡ length bare → made ≡ out → m ≡ matrix_with p made
     → IsMatrix v.size m (of_both v.terms f v.loads)
 matrix_made v p ts us cells bare out made f m r s view are e grown room long o is =
     subst (λ (w : RowsView). IsMatrix w.size m (of_both w.terms f w.loads)) view
     (subst (λ (w : MatrixView). IsMatrix p.size w (of_both ts f us)) (sym (is ∙ ap (matrix_with p) o))
-    (matrix_is p.size (matrix_with p out) bare ts us f refl long (subst (λ l. AreCells p.places l (of_terms ts)) (sym e) (bare_cells p.places cells ts us are.sums)) grown room are.nothing))
+    (matrix_is p.size (matrix_with p out) bare ts us f refl long
+    (subst (λ l. AreCells p.places l (of_terms ts)) (sym e) (bare_cells p.places cells ts us are.sums)) grown room
+    are.nothing))
 
-pub bare_room : (p : PatternView) (ts : List Term) (us : List LoadAt) (cells bare : List Cell) → AreRows p ts us cells → bare ≡ map without_slopes cells → HaveSlopeRoom p.places bare (2 ^ 78) 0
-bare_room p ts us cells bare are e = slopes_room p.places bare p.size ts are.linear (subst (λ l. AreCells p.places l (of_terms ts)) (sym e) (bare_cells p.places cells ts us are.sums))
+pub bare_room : (p : PatternView) (ts : List Term) (us : List LoadAt) (cells bare : List Cell) → AreRows p ts us cells
+    → bare ≡ map without_slopes cells → HaveSlopeRoom p.places bare (2 ^ 78) 0
+bare_room p ts us cells bare are e =
+    slopes_room p.places bare p.size ts are.linear
+    (subst (λ l. AreCells p.places l (of_terms ts)) (sym e) (bare_cells p.places cells ts us are.sums))
 
 -- rows of what a pattern reaches
-pub held_rows : (v : RowsView) (p : PatternView) (ts : List Term) (us : List LoadAt) (cells : List Cell) → p.size ≡ v.size → p.places ≡ v.places → p.size ≤ 2 ^ 11 → CanHold v ts us → AreCells p.places cells (of_rows ts us)
-    → AreRows p ts us cells
+pub held_rows : (v : RowsView) (p : PatternView) (ts : List Term) (us : List LoadAt) (cells : List Cell)
+    → p.size ≡ v.size → p.places ≡ v.places → p.size ≤ 2 ^ 11 → CanHold v ts us
+    → AreCells p.places cells (of_rows ts us) → AreRows p ts us cells
 held_rows v p ts us cells size places small h sums =
     let reached = subst (λ ps. All (Contains ps) (places_of ts us)) (sym places) h.reached in
     record {

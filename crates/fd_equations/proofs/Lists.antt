@@ -42,7 +42,8 @@ part-list_of-small n f b h i = elim (cases_lt i n) [
 
 -- ---- sums over a list so far
 
-pub list_z_more : {A : Type 0} (f : A → ℤ) (xs : List A) (k : ℕ) (d : A) → k < length xs → list_z f (take (k + 1) xs) ≡ (list_z f (take k xs) +ℤ f (get_or xs k d))
+pub list_z_more : {A : Type 0} (f : A → ℤ) (xs : List A) (k : ℕ) (d : A) → k < length xs
+    → list_z f (take (k + 1) xs) ≡ (list_z f (take k xs) +ℤ f (get_or xs k d))
 list_z_more f xs k d h = ap (list_z f) (take_more xs k d h) ∙ list_z-append f (take k xs) (get_or xs k d ∷ []) ∙ last (list_z f (take k xs)) (f (get_or xs k d))
   where
     last : (a b : ℤ) → (a +ℤ (b +ℤ pos 0)) ≡ (a +ℤ b)

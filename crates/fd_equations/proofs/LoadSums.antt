@@ -24,13 +24,21 @@ use Rattle.fd_equations.proofs.Sizes.{part_size}
 
 -- a part load for places outside a list
 abbrev pub no_load : LoadAt
-no_load = record { load = record { model = ConstantPower; p = pos 0; q = pos 0; vn = pos 0; vlo = pos 0; vhi = pos 0 }; first = Ground; second = Ground; magnitude = None }
+no_load = record {
+  load = record { model = ConstantPower; p = pos 0; q = pos 0; vn = pos 0; vlo = pos 0; vhi = pos 0 };
+  first = Ground;
+  second = Ground;
+  magnitude = None;
+}
 
 -- ---- the size of a sum
 
 pub list_z_small : {A : Type 0} (f : A → ℤ) (b : ℕ) (xs : List A) → All (λ a. nat_abs (f a) ≤ b) xs → nat_abs (list_z f xs) ≤ length xs * b
 list_z_small f b [] h = omega arith
-list_z_small f b (x ∷ xs) h = let both = one (f x) (list_z f xs) (length xs * b) (All-head (λ a. nat_abs (f a) ≤ b) x xs h) (list_z_small f b xs (All-tail (λ a. nat_abs (f a) ≤ b) x xs h)) in omega arith
+list_z_small f b (x ∷ xs) h =
+    let both = one (f x) (list_z f xs) (length xs * b) (All-head (λ a. nat_abs (f a) ≤ b) x xs h)
+    (list_z_small f b xs (All-tail (λ a. nat_abs (f a) ≤ b) x xs h)) in
+    omega arith
   where
     one : (y z : ℤ) (m : ℕ) → nat_abs y ≤ b → nat_abs z ≤ m → nat_abs (y +ℤ z) ≤ b + m
     one y z m h k = omega (arith, ints)
@@ -86,8 +94,10 @@ row_small x l u parts h =
     let p = real_of x u in
     let q = imaginary_of x u in
     let m = magnitude_in x u in
-    let t = terminal_least l u (near_div (in_phase u.load p q) (divisor u.load p q m)) (near_div (quadrature u.load p q) (divisor u.load p q m)) (near_div (excess p q m) (nat_abs u.load.vn)) (2 ^ 62)
-    (in_phase_small u.load p q m h.phase v) (quadrature_small u.load p q m h.phase v) (excess_small u.load p q m h.phase v) in
+    let t = terminal_least l u (near_div (in_phase u.load p q) (divisor u.load p q m))
+    (near_div (quadrature u.load p q) (divisor u.load p q m)) (near_div (excess p q m) (nat_abs u.load.vn)) (2 ^ 62)
+    (in_phase_small u.load p q m h.phase v) (quadrature_small u.load p q m h.phase v)
+    (excess_small u.load p q m h.phase v) in
     by_test (is_linear u.load.model) (omega arith)
   where
     by_test : (b : Bool) → nat_abs (drawn_row x l u) ≤ 2 ^ 64 → nat_abs (cond b (pos 0) (drawn_row x l u)) ≤ 2 ^ 64
@@ -100,7 +110,9 @@ rows_small x l us parts h = list_z_small (load_row x l) (2 ^ 64) us (each us h)
     each : (us : List LoadAt) → All (IsConnected (length x)) us → All (λ u. nat_abs (load_row x l u) ≤ 2 ^ 64) us
     each us h = All-weaker (IsConnected (length x)) (λ u. nat_abs (load_row x l u) ≤ 2 ^ 64) (λ u k. row_small x l u parts k) us h
 
-pub row_room : (x : List ℤ) (l : ℕ) (us : List LoadAt) (k : ℕ) (z : ℤ) → All IsPart x → All (IsConnected (length x)) us → length us < 2 ^ 21 → nat_abs z ≤ 2 ^ 85 → nat_abs (z +ℤ loads_row (take k us) x l) ≤ 2 ^ 86
+pub row_room : (x : List ℤ) (l : ℕ) (us : List LoadAt) (k : ℕ) (z : ℤ) → All IsPart x
+    → All (IsConnected (length x)) us → length us < 2 ^ 21 → nat_abs z ≤ 2 ^ 85
+    → nat_abs (z +ℤ loads_row (take k us) x l) ≤ 2 ^ 86
 row_room x l us k z parts h few small =
     let all = rows_small x l (take k us) parts (All-take (IsConnected (length x)) k us h) in
     let n : length (take k us) ≤ 2 ^ 21 = omega (arith, length-take k us) in

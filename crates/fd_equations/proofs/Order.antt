@@ -25,7 +25,9 @@ record IsSame (a b : ℕ × ℕ) : Type 0 where
 compares : (a b : ℕ × ℕ) → MatchOrdering (place_cmp a b) (IsBefore a b) (IsSame a b) (IsBefore b a)
 compares a b = by_rows (nat_cmp a.0 b.0) (nat_cmp a.1 b.1) (ranked a.0 b.0 _ refl) (ranked a.1 b.1 _ refl)
   where
-    by_rows : (o p : Ordering) → MatchOrdering o (a.0 < b.0) (a.0 ≡ b.0) (b.0 < a.0) → MatchOrdering p (a.1 < b.1) (a.1 ≡ b.1) (b.1 < a.1) → MatchOrdering (ordering_then o p) (IsBefore a b) (IsSame a b) (IsBefore b a)
+    by_rows : (o p : Ordering) → MatchOrdering o (a.0 < b.0) (a.0 ≡ b.0) (b.0 < a.0)
+        → MatchOrdering p (a.1 < b.1) (a.1 ≡ b.1) (b.1 < a.1)
+        → MatchOrdering (ordering_then o p) (IsBefore a b) (IsSame a b) (IsBefore b a)
     by_rows Less p h k = record { rows = omega arith; columns = λ e. absurd (omega arith) }
     by_rows Greater p h k = record { rows = omega arith; columns = λ e. absurd (omega arith) }
     by_rows Equal Less h k = record { rows = omega arith; columns = λ e. k }
@@ -55,7 +57,9 @@ pub sorted_from : (ps : List (ℕ × ℕ)) → IsSortedCmp place_cmp ps → IsSo
 sorted_from ps h i j le lt = subst (λ n. IsNotAfter (key ps i) (key ps n)) (omega arith) (far i (j - i) (omega arith))
   where
     far : (i m : ℕ) → i + m < length ps → IsNotAfter (key ps i) (key ps (i + m))
-    far i zero l = let z : i ≡ i + 0 = omega arith in subst (λ n. IsNotAfter (key ps i) (key ps n)) z (record { rows = omega arith; columns = λ e. omega arith })
+    far i zero l =
+        let z : i ≡ i + 0 = omega arith in
+        subst (λ n. IsNotAfter (key ps i) (key ps n)) z (record { rows = omega arith; columns = λ e. omega arith })
     far i (suc m) l =
         let step = not_after (key ps (i + m)) (key ps (i + m + 1)) (h (i + m) (0, 0) (omega arith) (omega arith)) in
         let next : i + m + 1 ≡ i + suc m = omega arith in
@@ -73,7 +77,8 @@ sorted_from_rising ps h i j le lt = elim (cases_eq i j) [
 rises : (a b x : ℕ × ℕ) → IsNotAfter a b → ordering_index (place_cmp a x) ≤ ordering_index (place_cmp b x)
 rises a b x le = by_results (place_cmp a x) (place_cmp b x) (compares a x) (compares b x)
   where
-    by_results : (o p : Ordering) → MatchOrdering o (IsBefore a x) (IsSame a x) (IsBefore x a) → MatchOrdering p (IsBefore b x) (IsSame b x) (IsBefore x b) → ordering_index o ≤ ordering_index p
+    by_results : (o p : Ordering) → MatchOrdering o (IsBefore a x) (IsSame a x) (IsBefore x a)
+        → MatchOrdering p (IsBefore b x) (IsSame b x) (IsBefore x b) → ordering_index o ≤ ordering_index p
     by_results Less p h k = omega arith
     by_results Equal Less h k = absurd (same_before h k)
       where
@@ -117,7 +122,10 @@ same_slot : (ps : List (ℕ × ℕ)) (row col k : ℕ) → k < length ps → IsS
 same_slot ps row col k l s = record { in_range = l; row_is = s.row; col_is = s.col }
 
 pub slot_of : (ps : List (ℕ × ℕ)) (row col k : ℕ) → k < length ps → IsBinarySearchResult (λ y. place_cmp y (row, col)) ps (Ok k) → IsSlot ps row col k
-slot_of ps row col k l h = same_slot ps row col k l (subst (λ o. MatchOrdering o (IsBefore (key ps k) (row, col)) (IsSame (key ps k) (row, col)) (IsBefore (row, col) (key ps k))) (h (0, 0)) (compares (key ps k) (row, col)))
+slot_of ps row col k l h = same_slot ps row col k l (subst (λ o. MatchOrdering o (IsBefore (key ps k) (
+  row,
+  col,
+)) (IsSame (key ps k) (row, col)) (IsBefore (row, col) (key ps k))) (h (0, 0)) (compares (key ps k) (row, col)))
 
 pub no_slot : (ps : List (ℕ × ℕ)) (row col k : ℕ) → IsRising ps → IsBinarySearchResult (λ y. place_cmp y (row, col)) ps (Err k) → Contains ps (row, col) → ⊥
 no_slot ps row col k up h (j, l, is) =
@@ -125,16 +133,21 @@ no_slot ps row col k up h (j, l, is) =
     let parted = h (λ a b d le lt. rises_at a b d le lt) in
     let there : key ps j ≡ x = get_or_default ps j (0, 0) x l ∙ is in
     elim (cases_lt j k) [
-      | inl below ↦ not_less (key ps j) x (sym (parted.0 j (0, 0) (omega arith) below)) (subst (λ y. IsSame y x) (sym there) (record { row = refl; col = refl }))
+      | inl below ↦ not_less (key ps j) x (sym (parted.0 j (0, 0) (omega arith) below))
+          (subst (λ y. IsSame y x) (sym there) (record { row = refl; col = refl }))
       | inr above ↦ not_greater (key ps j) x (sym (parted.1 j (0, 0) above l)) (subst (λ y. IsSame y x) (sym there) (record { row = refl; col = refl }))
     ]
   where
-    rises_at : (a b : ℕ) (d : ℕ × ℕ) → a ≤ b → b < length ps → ordering_index (place_cmp (get_or ps a d) (row, col)) ≤ ordering_index (place_cmp (get_or ps b d) (row, col))
+    rises_at : (a b : ℕ) (d : ℕ × ℕ) → a ≤ b → b < length ps
+        → ordering_index (place_cmp (get_or ps a d) (row, col))
+        ≤ ordering_index (place_cmp (get_or ps b d) (row, col))
     rises_at a b d le lt =
         let e = get_or_default ps a d (0, 0) (omega arith) in
         let f = get_or_default ps b d (0, 0) lt in
-        subst (λ y. ordering_index (place_cmp y (row, col)) ≤ ordering_index (place_cmp (get_or ps b d) (row, col))) (sym e)
-        (subst (λ y. ordering_index (place_cmp (key ps a) (row, col)) ≤ ordering_index (place_cmp y (row, col))) (sym f) (rises (key ps a) (key ps b) (row, col) (sorted_from_rising ps up a b le lt)))
+        subst (λ y. ordering_index (place_cmp y (row, col)) ≤ ordering_index (place_cmp (get_or ps b d) (row, col)))
+        (sym e)
+        (subst (λ y. ordering_index (place_cmp (key ps a) (row, col)) ≤ ordering_index (place_cmp y (row, col)))
+        (sym f) (rises (key ps a) (key ps b) (row, col) (sorted_from_rising ps up a b le lt)))
 
 -- ---- a place more at the end
 
@@ -163,7 +176,8 @@ partitioned ps row up i j d le lt e =
     let below : (key ps j).0 < row = ltb-true _ _ (sym (ap (λ q. nat_lt q.0 row) g) ∙ e) in
     ap (λ q. nat_lt q.0 row) f ∙ lt-ltb _ _ (omega (arith, (up i j le lt).rows))
 
-pub start_is : (ps : List (ℕ × ℕ)) (row s : ℕ) → s ≤ length ps → IsPartitionPoint (λ q. nat_lt q.0 row ≡ true) (λ q. nat_lt q.0 row ≡ false) ps s → IsStart ps row s
+pub start_is : (ps : List (ℕ × ℕ)) (row s : ℕ) → s ≤ length ps
+    → IsPartitionPoint (λ q. nat_lt q.0 row ≡ true) (λ q. nat_lt q.0 row ≡ false) ps s → IsStart ps row s
 start_is ps row s w h = record {
   within = w;
   before = λ k l. ltb-true _ _ (h.0 k (0, 0) (omega arith) l);
@@ -186,7 +200,8 @@ so_far_kept ps kept i h has = record {
   order = λ k l j a b. h.order k l j (omega arith) b;
 }
 
-pub so_far_push : (ps kept : List (ℕ × ℕ)) (i : ℕ) → IsSoFar ps kept i → i < length ps → IsSorted ps → IsAfterAll kept (key ps i) → IsSoFar ps (kept ++ key ps i ∷ []) (i + 1)
+pub so_far_push : (ps kept : List (ℕ × ℕ)) (i : ℕ) → IsSoFar ps kept i → i < length ps → IsSorted ps
+    → IsAfterAll kept (key ps i) → IsSoFar ps (kept ++ key ps i ∷ []) (i + 1)
 so_far_push ps kept i h lt up after = record {
   rising = rising_push kept (key ps i) h.rising after;
   all = λ j l. elim (cases_eq j i) [
@@ -197,10 +212,12 @@ so_far_push ps kept i h lt up after = record {
   order = λ k l j a b. by_place (λ p. IsNotAfter p (key ps j)) k l (λ m. h.order k m j (omega arith) b) (up i j (omega arith) b);
 }
   where
-    by_place : (P : ℕ × ℕ → Type 0) (k : ℕ) → k < length (kept ++ key ps i ∷ []) → (k < length kept → P (key kept k)) → P (key ps i) → P (key (kept ++ key ps i ∷ []) k)
+    by_place : (P : ℕ × ℕ → Type 0) (k : ℕ) → k < length (kept ++ key ps i ∷ []) → (k < length kept → P (key kept k))
+        → P (key ps i) → P (key (kept ++ key ps i ∷ []) k)
     by_place P k l old new = elim (cases_eq k (length kept)) [
       | inl e ↦ subst P (sym (get_or_push kept (key ps i) (0, 0) k (sym e))) new
-      | inr ne ↦ let m : k < length kept = omega (arith, length_push kept (key ps i)) in subst P (sym (get_or_append_left kept (key ps i ∷ []) (0, 0) k m)) (old m)
+      | inr ne ↦ let m : k < length kept = omega (arith, length_push kept (key ps i)) in
+          subst P (sym (get_or_append_left kept (key ps i ∷ []) (0, 0) k m)) (old m)
     ]
 
 pub is_kept : (ps kept : List (ℕ × ℕ)) (i : ℕ) → length ps ≤ i → IsSoFar ps kept i → IsKept ps kept
@@ -212,7 +229,8 @@ is_kept ps kept i h s = record {
 
 -- ---- a pattern
 
-pub is_pattern : (size : ℕ) (ps sorted kept : List (ℕ × ℕ)) → size ≤ 2 ^ 11 → All (IsInside size) ps → IsPermutation ps sorted → IsKept sorted kept → IsPattern (pattern_of size kept)
+pub is_pattern : (size : ℕ) (ps sorted kept : List (ℕ × ℕ)) → size ≤ 2 ^ 11 → All (IsInside size) ps
+    → IsPermutation ps sorted → IsKept sorted kept → IsPattern (pattern_of size kept)
 is_pattern size ps sorted kept small inside same k = record {
   small = small;
   inside = λ j d l. contained (k.only j d l);

@@ -44,8 +44,9 @@ pub record IsSummed (x : List ℤ) (cells : List Cell) (k : ℕ) (sum : ℤ) : T
   pub is : sum ≡ list_z (λ c. near_div (c.units *ℤ part x c.col) (2 ^ 40)) (take k cells)
   pub small : nat_abs sum ≤ k * 2 ^ 54
 
-pub next_product : (x : List ℤ) (cells : List Cell) (k : ℕ) (old new z : ℤ) → k < length cells → IsSummed x cells k old → z ≡ near_div ((cell_at cells k).units *ℤ part x (cell_at cells k).col) (2 ^ 40) → nat_abs z ≤ 2 ^ 54
-    → new ≡ (old +ℤ z) → IsSummed x cells (k + 1) new
+pub next_product : (x : List ℤ) (cells : List Cell) (k : ℕ) (old new z : ℤ) → k < length cells
+    → IsSummed x cells k old → z ≡ near_div ((cell_at cells k).units *ℤ part x (cell_at cells k).col) (2 ^ 40)
+    → nat_abs z ≤ 2 ^ 54 → new ≡ (old +ℤ z) → IsSummed x cells (k + 1) new
 next_product x cells k old new z l h e small f = record {
   is = f ∙ (λ i. h.is i +ℤ e i) ∙ sym (list_z_more (λ c. near_div (c.units *ℤ part x c.col) (2 ^ 40)) cells k empty l);
   small = subst (λ y. nat_abs y ≤ (k + 1) * 2 ^ 54) (sym f) (sum old z h.small small);
@@ -60,7 +61,8 @@ pub record AreAdded (ts : List Term) (x : List ℤ) (size : ℕ) (old new : List
   pub done : (k : ℕ) → k < row → part new k ≡ (part old k +ℤ sum_z (entry_product (linear_entry ts) x k) size)
   pub left : (k : ℕ) → row ≤ k → part new k ≡ part old k
 
-pub row_added : (ts : List Term) (x : List ℤ) (size : ℕ) (old new : List ℤ) (row : ℕ) (z y : ℤ) → row < length new → AreAdded ts x size old new row → y ≡ sum_z (entry_product (linear_entry ts) x row) size
+pub row_added : (ts : List Term) (x : List ℤ) (size : ℕ) (old new : List ℤ) (row : ℕ) (z y : ℤ) → row < length new
+    → AreAdded ts x size old new row → y ≡ sum_z (entry_product (linear_entry ts) x row) size
     → z ≡ (part new row +ℤ y) → AreAdded ts x size old (set new row z) (row + 1)
 row_added ts x size old new row z y inside h e f = record {
   long = length-set new row z ∙ h.long;
@@ -72,5 +74,8 @@ row_added ts x size old new row z y inside h e f = record {
   left = λ k l. get_or-set_other new row k z (pos 0) (λ (s : k ≡ row). omega arith) ∙ h.left k (omega arith);
 }
 
-pub all_added : (ts : List Term) (x : List ℤ) (size : ℕ) (old new : List ℤ) (row : ℕ) → size ≤ row → length old ≡ size → AreAdded ts x size old new row → new ≡ products_added size (linear_entry ts) old x
-all_added ts x size old new row e long h = list_of-ext new size (λ k. part old k +ℤ sum_z (entry_product (linear_entry ts) x k) size) (pos 0) (h.long ∙ long) (λ k l. h.done k (omega arith))
+pub all_added : (ts : List Term) (x : List ℤ) (size : ℕ) (old new : List ℤ) (row : ℕ) → size ≤ row → length old ≡ size
+    → AreAdded ts x size old new row → new ≡ products_added size (linear_entry ts) old x
+all_added ts x size old new row e long h =
+    list_of-ext new size (λ k. part old k +ℤ sum_z (entry_product (linear_entry ts) x k) size) (pos 0) (h.long ∙ long)
+    (λ k l. h.done k (omega arith))

@@ -8,7 +8,8 @@ use Rattle.fd_equations.specs.Amounts.{Amount, AreCells, IsNothingElsewhere, IsR
 
 -- ---- a look-up
 
-pub looked_up : (ps : List (ℕ × ℕ)) (cells : List Cell) (row col k : ℕ) (at : ℕ × ℕ → Amount) → IsSlot ps row col k → AreCells ps cells at → cell_at cells k ≡ cell_of col (at (row, col))
+pub looked_up : (ps : List (ℕ × ℕ)) (cells : List Cell) (row col k : ℕ) (at : ℕ × ℕ → Amount) → IsSlot ps row col k
+    → AreCells ps cells at → cell_at cells k ≡ cell_of col (at (row, col))
 looked_up ps cells row col k at s are =
     let e = s.row_is in
     let f = s.col_is in
@@ -16,7 +17,9 @@ looked_up ps cells row col k at s are =
 
 -- ---- a walk over a row
 
-module _ (v : PatternView) (cells : List Cell) (row s e : ℕ) (at : ℕ × ℕ → Amount) (good : IsPattern v) (from : IsStart v.places row s) (to : IsStart v.places (row + 1) e) (are : AreCells v.places cells at) (else_none : IsNothingElsewhere v.places at) where
+module _ (v : PatternView) (cells : List Cell) (row s e : ℕ) (at : ℕ × ℕ → Amount) (good : IsPattern v)
+    (from : IsStart v.places row s) (to : IsStart v.places (row + 1) e) (are : AreCells v.places cells at)
+    (else_none : IsNothingElsewhere v.places at) where
   abbrev part_of : List Cell
   part_of = take (e - s) (drop s cells)
 

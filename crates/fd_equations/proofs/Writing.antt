@@ -18,14 +18,17 @@ pub record IsWritten (n : ℕ) (ps : List (ℕ × ℕ)) (cells : List Cell) (den
   pub here : (row col j : ℕ) → row < n → col < n → j < k → IsSlot ps row col j → cell dense n row col ≡ (cell_at cells j).units
   pub none : (row col : ℕ) → row < n → col < n → ((j : ℕ) → j < k → IsSlot ps row col j → ⊥) → cell dense n row col ≡ pos 0
 
-pub nothing_written : (n : ℕ) (ps : List (ℕ × ℕ)) (cells : List Cell) (dense : List ℤ) → length dense ≡ n * n → ((k : ℕ) → part dense k ≡ pos 0) → IsWritten n ps cells dense 0
+pub nothing_written : (n : ℕ) (ps : List (ℕ × ℕ)) (cells : List Cell) (dense : List ℤ) → length dense ≡ n * n
+    → ((k : ℕ) → part dense k ≡ pos 0) → IsWritten n ps cells dense 0
 nothing_written n ps cells dense e zero = record {
   square = e;
   here = λ row col j h l lt. absurd (omega arith);
   none = λ row col h l none. zero (row * n + col);
 }
 
-module _ (n : ℕ) (ps : List (ℕ × ℕ)) (cells : List Cell) (dense : List ℤ) (k : ℕ) (rising : IsRising ps) (in_range : k < length ps) (row_in : (key ps k).0 < n) (col_in : (key ps k).1 < n) (h : IsWritten n ps cells dense k) where
+module _ (n : ℕ) (ps : List (ℕ × ℕ)) (cells : List Cell) (dense : List ℤ) (k : ℕ) (rising : IsRising ps)
+    (in_range : k < length ps) (row_in : (key ps k).0 < n) (col_in : (key ps k).1 < n)
+    (h : IsWritten n ps cells dense k) where
   abbrev at : ℕ
   at = (key ps k).0 * n + (key ps k).1
 
@@ -40,14 +43,18 @@ module _ (n : ℕ) (ps : List (ℕ × ℕ)) (cells : List Cell) (dense : List �
           let r : (key ps k).0 ≡ row = ap (λ m. (key ps m).0) (sym e) ∙ s.row_is in
           let c : (key ps k).1 ≡ col = ap (λ m. (key ps m).1) (sym e) ∙ s.col_is in
           (λ i. cell (set dense at z) n (sym r i) (sym c i)) ∙ get_or-set_same dense at z (pos 0) place_in ∙ is ∙ ap (λ m. (cell_at cells m).units) (sym e)
-      | inr ne ↦ other row col a b (λ (f, g). ne (only_slot ps row col j k rising s (record { in_range = in_range; row_is = f; col_is = g }))) z ∙ h.here row col j a b (omega arith) s
+      | inr ne ↦ other row col a b
+          (λ (f, g). ne (only_slot ps row col j k rising s (record { in_range = in_range; row_is = f; col_is = g })))
+          z
+          ∙ h.here row col j a b (omega arith) s
     ];
     none = λ row col a b away.
         other row col a b (λ (f, g). away k (omega arith) (record { in_range = in_range; row_is = f; col_is = g })) z
         ∙ h.none row col a b (λ j lt. away j (omega arith));
   }
     where
-      other : (row col : ℕ) → row < n → col < n → (((key ps k).0 ≡ row) × ((key ps k).1 ≡ col) → ⊥) → (z : ℤ) → cell (set dense at z) n row col ≡ cell dense n row col
+      other : (row col : ℕ) → row < n → col < n → (((key ps k).0 ≡ row) × ((key ps k).1 ≡ col) → ⊥) → (z : ℤ)
+          → cell (set dense at z) n row col ≡ cell dense n row col
       other row col a b apart z = get_or-set_other dense at (row * n + col) z (pos 0)
           (λ (e : row * n + col ≡ at). let f = same_from_place row col (key ps k).0 (key ps k).1 n b col_in e in apart (sym f.0, sym f.1))
 

@@ -35,7 +35,8 @@ with_drawn l a u p q m =
     let d = divisor u.load p q m in
     let re = outward (in_phase u.load p q) d in
     let im = outward (quadrature u.load p q) d in
-    with_magnitude l (with_current l (with_current l a u.first re im) u.second (negation re) (negation im)) u.magnitude (outward (excess p q m) (nat_abs u.load.vn))
+    with_magnitude l (with_current l (with_current l a u.first re im) u.second (negation re) (negation im))
+    u.magnitude (outward (excess p q m) (nat_abs u.load.vn))
 
 -- ---- how narrow it is
 

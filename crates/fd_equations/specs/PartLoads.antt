@@ -38,7 +38,9 @@ slope_in col u r = at_terminal col u r.p r.q r.m
 
 -- what a part load with these slopes adds in a row and a column
 unfoldable pub load_entry : LoadAt → Slopes → ℕ → ℕ → ℤ
-load_entry u s row col = cond (is_linear u.load.model) (pos 0) (at_terminal row u (slope_in col u s.real) (slope_in col u s.imaginary) (slope_in col u s.magnitude))
+load_entry u s row col =
+    cond (is_linear u.load.model) (pos 0)
+    (at_terminal row u (slope_in col u s.real) (slope_in col u s.imaginary) (slope_in col u s.magnitude))
 
 -- at the start its current is linear, with the admittance (P - j Q) 10^9 / Vn^2, and the row of its magnitude grows by 2 with the magnitude
 unfoldable pub start_slopes : LoadPhase → Slopes

@@ -25,11 +25,13 @@ from_tail lo m at c cells h e = record {
   all = λ col a b away. h.all col (omega arith) (omega arith) (λ k l. apart col a away k l);
 }
   where
-    apart : (col : ℕ) → suc lo ≤ col → ((k : ℕ) → k < length cells → (cell_at cells k).col ≢ col) → (k : ℕ) → k < length (c ∷ cells) → (cell_at (c ∷ cells) k).col ≢ col
+    apart : (col : ℕ) → suc lo ≤ col → ((k : ℕ) → k < length cells → (cell_at cells k).col ≢ col) → (k : ℕ)
+        → k < length (c ∷ cells) → (cell_at (c ∷ cells) k).col ≢ col
     apart col a away zero l f = omega arith
     apart col a away (suc k) l f = away k (omega arith) f
 
-from_next : (lo m : ℕ) (at : ℕ → Amount) (cells : List Cell) → IsFrom lo (suc m) at cells → ((k : ℕ) → k < length cells → (cell_at cells k).col ≢ lo) → IsFrom (suc lo) m at cells
+from_next : (lo m : ℕ) (at : ℕ → Amount) (cells : List Cell) → IsFrom lo (suc m) at cells
+    → ((k : ℕ) → k < length cells → (cell_at cells k).col ≢ lo) → IsFrom (suc lo) m at cells
 from_next lo m at cells h away = record {
   low = λ k l. let a = h.low k l in let b : (cell_at cells k).col ≢ lo = away k l in omega arith;
   high = λ k l. let a = h.high k l in omega arith;
@@ -60,12 +62,15 @@ module _ {X : Type 0} (step : X → ℕ → Amount → X) (still : (x : X) (col 
         walked_from m (suc lo) x (c ∷ cells) (from_next lo m at (c ∷ cells) h away) ∙ ap (λ y. run step at y (suc lo) m) (sym same)
   ]
     where
-      behind : (lo m : ℕ) (c : Cell) (cells : List Cell) → IsFrom lo (suc m) at (c ∷ cells) → c.col ≢ lo → (k : ℕ) → k < length (c ∷ cells) → (cell_at (c ∷ cells) k).col ≢ lo
+      behind : (lo m : ℕ) (c : Cell) (cells : List Cell) → IsFrom lo (suc m) at (c ∷ cells) → c.col ≢ lo → (k : ℕ)
+          → k < length (c ∷ cells) → (cell_at (c ∷ cells) k).col ≢ lo
       behind lo m c cells h ne zero l e = ne e
       behind lo m c cells h ne (suc k) l e = let a = h.low 0 (omega arith) in let b = h.rising 0 (suc k) (omega arith) l in omega arith
 
 -- for any step, as one that adds in a limited range and remembers that it overflowed
-pub walked : {X : Type 0} (step : X → ℕ → Amount → X) → ((x : X) (col : ℕ) → step x col nothing ≡ x) → (size row : ℕ) (at : ℕ × ℕ → Amount) (cells : List Cell) (x : X) → IsRowOf size at row cells → walk step x cells ≡ run step (λ col. at (row, col)) x 0 size
+pub walked : {X : Type 0} (step : X → ℕ → Amount → X) → ((x : X) (col : ℕ) → step x col nothing ≡ x)
+    → (size row : ℕ) (at : ℕ × ℕ → Amount) (cells : List Cell) (x : X) → IsRowOf size at row cells
+    → walk step x cells ≡ run step (λ col. at (row, col)) x 0 size
 walked step still size row at cells x h = walked_from step still (λ col. at (row, col)) size 0 x cells (record {
   low = λ k l. omega arith;
   high = λ k l. let a = h.inside k l in omega arith;
@@ -76,9 +81,13 @@ walked step still size row at cells x h = walked_from step still (λ col. at (ro
 
 -- ---- sums
 
-run_last : {X : Type 0} (step : X → ℕ → Amount → X) (at : ℕ → Amount) (m lo : ℕ) (x : X) → run step at x lo (suc m) ≡ step (run step at x lo m) (lo + m) (at (lo + m))
+run_last : {X : Type 0} (step : X → ℕ → Amount → X) (at : ℕ → Amount) (m lo : ℕ) (x : X)
+    → run step at x lo (suc m) ≡ step (run step at x lo m) (lo + m) (at (lo + m))
 run_last step at zero lo x = let e : lo ≡ lo + 0 = omega arith in ap (λ n. step x n (at n)) e
-run_last step at (suc m) lo x = let e : suc lo + m ≡ lo + suc m = omega arith in run_last step at m (suc lo) (step x lo (at lo)) ∙ ap (λ n. step (run step at (step x lo (at lo)) (suc lo) m) n (at n)) e
+run_last step at (suc m) lo x =
+    let e : suc lo + m ≡ lo + suc m = omega arith in
+    run_last step at m (suc lo) (step x lo (at lo))
+    ∙ ap (λ n. step (run step at (step x lo (at lo)) (suc lo) m) n (at n)) e
 
 run_sum_z : (g : ℕ → Amount → ℤ) (at : ℕ → Amount) (m : ℕ) → run (λ a col x. a +ℤ g col x) at (pos 0) 0 m ≡ sum_z (λ col. g col (at col)) m
 run_sum_z g at zero = refl

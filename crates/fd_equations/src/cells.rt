@@ -108,7 +108,8 @@ pub fn units(term: &Term) -> i128
 /// What stands at a place: the cell there, or nothing.
 pub fn cell_in(pattern: &Pattern, cells: &[Cell], row: u32, col: u32) -> Cell
     requires { length cells.now ≡ length pattern.now.places }
-    ensures { (at : ℕ × ℕ → Amount) → AreCells pattern.now.places cells.now at → IsNothingElsewhere pattern.now.places at → result ≡ cell_of col (at (row, col)) }
+    ensures { (at : ℕ × ℕ → Amount) → AreCells pattern.now.places cells.now at
+        → IsNothingElsewhere pattern.now.places at → result ≡ cell_of col (at (row, col)) }
 {
     match pattern.find(row, col) {
         Some(k) => cells[k],
@@ -125,7 +126,8 @@ pub fn cell_in(pattern: &Pattern, cells: &[Cell], row: u32, col: u32) -> Cell
 pub fn row_in<'a>(pattern: &Pattern, cells: &'a [Cell], row: u32) -> &'a [Cell]
     requires long { length cells.now ≡ length pattern.now.places }
     requires row { row < pattern.now.size }
-    ensures { (at : ℕ × ℕ → Amount) → AreCells pattern.now.places cells.now at → IsNothingElsewhere pattern.now.places at → IsRowOf pattern.now.size at row result.now }
+    ensures { (at : ℕ × ℕ → Amount) → AreCells pattern.now.places cells.now at
+        → IsNothingElsewhere pattern.now.places at → IsRowOf pattern.now.size at row result.now }
 {
     let _size = pattern.size();
     let _places = pattern.places();

@@ -12,10 +12,11 @@
 // `count_law`).
 //
 // Modules: `layout` (where the unknowns stand), `pattern` and `places` (the places at which something stands), `cells` and `load_cells`
-// (what contributions and part loads add there), `exchange` (contributions in place of others), `sparse` and `matrix` over them, `laws` of walks, `constants` (their sums by row),
-// `rows` (the linear rows in intervals), `terminals` (the voltage of a part load, and its places in a row), `load_intervals`,
-// `load_rows` and `load_slopes` (what part loads add to the intervals and to the rounded residual, and their slopes), `weights`, `network`
-// over them, and `point` (a state with its inverse).
+// (what contributions and part loads add there), `exchange` (contributions in place of others), `sparse` and `matrix`
+// over them, `laws` of walks, `constants` (their sums by row), `rows` (the linear rows in intervals), `terminals`
+// (the voltage of a part load, and its places in a row), `load_intervals`, `load_rows` and `load_slopes` (what part
+// loads add to the intervals and to the rounded residual, and their slopes), `weights`, `network` over them, and
+// `point` (a state with its inverse).
 #![tactic(auto)]
 
 mod cells;

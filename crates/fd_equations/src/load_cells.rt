@@ -77,7 +77,10 @@ fn add_all_rows(pattern: &Pattern, cells: &mut [Cell], load: &LoadAt, slopes: &S
     requires load { IsConnected (2 ^ 11) load.now }
     requires slopes { AreSlopes slopes.now }
     requires room { HaveSlopeRoom pattern.now.places cells.old (2 ^ 120) (2 ^ 27) }
-    ensures { AreGrown pattern.now.places cells.old cells.new (λ p. amount (at_terminal p.0 load.now (slope_in p.1 load.now slopes.now.real) (slope_in p.1 load.now slopes.now.imaginary) (slope_in p.1 load.now slopes.now.magnitude)) 0 (count_terminal p.0 load.now * count_terminal p.1 load.now)) }
+    ensures { AreGrown pattern.now.places cells.old cells.new (λ p.
+        amount (at_terminal p.0 load.now (slope_in p.1 load.now slopes.now.real)
+        (slope_in p.1 load.now slopes.now.imaginary) (slope_in p.1 load.now slopes.now.magnitude))
+        0 (count_terminal p.0 load.now * count_terminal p.1 load.now)) }
 {
     let (real, imaginary) = (slopes.real, slopes.imaginary);
     add_node_rows(pattern, cells, load, load.first, real, imaginary);
@@ -107,7 +110,9 @@ fn add_node_rows(
     requires real { IsSlope real }
     requires imaginary { IsSlope imaginary }
     requires room { HaveSlopeRoom pattern.now.places cells.old (2 ^ 121) (2 ^ 28) }
-    ensures { AreGrown pattern.now.places cells.old cells.new (λ p. amount (at_node p.0 node (slope_in p.1 load.now real) (slope_in p.1 load.now imaginary)) 0 (count_node p.0 node * count_terminal p.1 load.now)) }
+    ensures { AreGrown pattern.now.places cells.old cells.new (λ p.
+        amount (at_node p.0 node (slope_in p.1 load.now real) (slope_in p.1 load.now imaginary)) 0
+        (count_node p.0 node * count_terminal p.1 load.now)) }
 {
     if let NodeAt::Node(k) = node {
         add_row(pattern, cells, 2 * k, load, real);
@@ -121,7 +126,9 @@ fn add_magnitude_row(pattern: &Pattern, cells: &mut [Cell], load: &LoadAt, slope
     requires load { IsConnected (2 ^ 11) load.now }
     requires slope { IsSlope slope }
     requires room { HaveSlopeRoom pattern.now.places cells.old (2 ^ 122) (2 ^ 29) }
-    ensures { AreGrown pattern.now.places cells.old cells.new (λ p. amount (at_magnitude p.0 load.now.magnitude (slope_in p.1 load.now slope)) 0 (count_magnitude p.0 load.now.magnitude * count_terminal p.1 load.now)) }
+    ensures { AreGrown pattern.now.places cells.old cells.new (λ p.
+        amount (at_magnitude p.0 load.now.magnitude (slope_in p.1 load.now slope)) 0
+        (count_magnitude p.0 load.now.magnitude * count_terminal p.1 load.now)) }
 {
     if let Some(place) = load.magnitude {
         add_row(pattern, cells, place, load, slope);
@@ -134,7 +141,9 @@ fn add_row(pattern: &Pattern, cells: &mut [Cell], row: u32, load: &LoadAt, slope
     requires load { IsConnected (2 ^ 11) load.now }
     requires slope { IsSlope slope }
     requires room { HaveSlopeRoom pattern.now.places cells.old (2 ^ 122) (2 ^ 29) }
-    ensures { AreGrown pattern.now.places cells.old cells.new (λ p. amount (cond (eqb row p.0) (slope_in p.1 load.now slope) (pos 0)) 0 (cond (eqb row p.0) (count_terminal p.1 load.now) 0)) }
+    ensures { AreGrown pattern.now.places cells.old cells.new (λ p.
+        amount (cond (eqb row p.0) (slope_in p.1 load.now slope) (pos 0)) 0
+        (cond (eqb row p.0) (count_terminal p.1 load.now) 0)) }
 {
     add_node(pattern, cells, row, load.first, slope.p, slope.q);
     add_node(pattern, cells, row, load.second, -slope.p, -slope.q);
@@ -148,7 +157,8 @@ fn add_node(pattern: &Pattern, cells: &mut [Cell], row: u32, node: NodeAt, re: i
     requires re { nat_abs re ≤ 2 ^ 73 }
     requires im { nat_abs im ≤ 2 ^ 73 }
     requires room { HaveSlopeRoom pattern.now.places cells.old (2 ^ 123) (2 ^ 30) }
-    ensures { AreGrown pattern.now.places cells.old cells.new (λ p. amount (cond (eqb row p.0) (at_node p.1 node re im) (pos 0)) 0 (cond (eqb row p.0) (count_node p.1 node) 0)) }
+    ensures { AreGrown pattern.now.places cells.old cells.new (λ p.
+        amount (cond (eqb row p.0) (at_node p.1 node re im) (pos 0)) 0 (cond (eqb row p.0) (count_node p.1 node) 0)) }
 {
     if let NodeAt::Node(k) = node {
         add_slope(pattern, cells, row, 2 * k, re);
@@ -167,7 +177,9 @@ fn add_magnitude(
     requires long { length cells.old ≡ length pattern.now.places }
     requires units { nat_abs units ≤ 2 ^ 73 }
     requires room { HaveSlopeRoom pattern.now.places cells.old (2 ^ 124) (2 ^ 31) }
-    ensures { AreGrown pattern.now.places cells.old cells.new (λ p. amount (cond (eqb row p.0) (at_magnitude p.1 magnitude units) (pos 0)) 0 (cond (eqb row p.0) (count_magnitude p.1 magnitude) 0)) }
+    ensures { AreGrown pattern.now.places cells.old cells.new (λ p.
+        amount (cond (eqb row p.0) (at_magnitude p.1 magnitude units) (pos 0)) 0
+        (cond (eqb row p.0) (count_magnitude p.1 magnitude) 0)) }
 {
     if let Some(place) = magnitude {
         add_slope(pattern, cells, row, place, units);
@@ -179,7 +191,8 @@ fn add_slope(pattern: &Pattern, cells: &mut [Cell], row: u32, col: u32, units: i
     requires long { length cells.old ≡ length pattern.now.places }
     requires units { nat_abs units ≤ 2 ^ 73 }
     requires room { HaveSlopeRoom pattern.now.places cells.old (2 ^ 124) (2 ^ 31) }
-    ensures { AreGrown pattern.now.places cells.old cells.new (λ p. amount (cond (eqb row p.0 && eqb col p.1) units (pos 0)) 0 (cond (eqb row p.0 && eqb col p.1) 1 0)) }
+    ensures { AreGrown pattern.now.places cells.old cells.new
+        (λ p. amount (cond (eqb row p.0 && eqb col p.1) units (pos 0)) 0 (cond (eqb row p.0 && eqb col p.1) 1 0)) }
 {
     if let Some(k) = pattern.find(row, col) {
         cells[k] = with_slope(cells[k], units);

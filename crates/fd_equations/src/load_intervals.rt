@@ -20,7 +20,9 @@ pub fn add_load_intervals(rows: &mut [Interval<Micro>], loads: &[LoadAt], x: &[i
     requires loads { All (IsConnected (length x.now)) loads.now }
     requires long { length rows.old ≡ length x.now }
     requires parts { All IsPart x.now }
-    ensures { (l : ℕ) → l < length rows.old → get_or rows.new l None ≡ fold (with_part l) (get_or rows.old l None) (nonlinear_of loads.now (whole_state x.now)) }
+    ensures { (l : ℕ) → l < length rows.old
+        → get_or rows.new l None
+        ≡ fold (with_part l) (get_or rows.old l None) (nonlinear_of loads.now (whole_state x.now)) }
 {
     for load in loads {
         add_load(rows, load, x);
@@ -32,7 +34,9 @@ fn add_load(rows: &mut [Interval<Micro>], load: &LoadAt, x: &[i128])
     requires load { IsConnected (length x.now) load.now }
     requires long { length rows.old ≡ length x.now }
     requires parts { All IsPart x.now }
-    ensures { (l : ℕ) → l < length rows.old → get_or rows.new l None ≡ fold (with_part l) (get_or rows.old l None) (nonlinear_parts load.now (whole_state x.now)) }
+    ensures { (l : ℕ) → l < length rows.old
+        → get_or rows.new l None
+        ≡ fold (with_part l) (get_or rows.old l None) (nonlinear_parts load.now (whole_state x.now)) }
 {
     if !load.load.model.is_linear() {
         add_drawn(rows, load, voltage_of(load, x));

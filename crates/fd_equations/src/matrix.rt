@@ -63,7 +63,8 @@ impl<'a> Matrix<'a> {
     pub fn row(&self, row: u32) -> &[Cell]
         requires long { length self.now.cells ≡ length self.now.places }
         requires row { row < self.now.size }
-        ensures { (at : ℕ × ℕ → Amount) → AreCells self.now.places self.now.cells at → IsNothingElsewhere self.now.places at → IsRowOf self.now.size at row result.now }
+        ensures { (at : ℕ × ℕ → Amount) → AreCells self.now.places self.now.cells at
+            → IsNothingElsewhere self.now.places at → IsRowOf self.now.size at row result.now }
     {
         row_in(self.pattern, &self.cells, row)
     }
@@ -74,7 +75,8 @@ impl<'a> Matrix<'a> {
     /// `AllocError` where the memory for the entries is refused.
     pub fn to_dense(&self, alloc: Global) -> Result<Dense, AllocError>
         requires long { length self.now.cells ≡ length self.now.places }
-        ensures entries { IfOk result (λ d. (at : ℕ × ℕ → Amount) → IsMatrix self.now.size self.now at → d ≡ table self.now.size self.now.size (λ row col. (at (row, col)).units)) }
+        ensures entries { IfOk result (λ d. (at : ℕ × ℕ → Amount) → IsMatrix self.now.size self.now at
+            → d ≡ table self.now.size self.now.size (λ row col. (at (row, col)).units)) }
         ensures small { IfOk result (λ d. (at : ℕ × ℕ → Amount) → IsMatrix self.now.size self.now at → EntriesWithin d (2 ^ 100)) }
     {
         let size = self.pattern.size();

@@ -23,7 +23,9 @@ pub fn weights(
     requires small { length x.now ≤ 2 ^ 11 }
     requires parts { All IsPart x.now }
     requires draw { 16 * draw + 10 ^ 6 ≤ 2 ^ 65 }
-    ensures { IfOk result (λ w. w.items ≡ list_of (length x.now) (λ place. pos (weight_by (kind_in (2 * layout.now.nodes) (2 * (layout.now.nodes + layout.now.branches)) place) draw x.now place))) }
+    ensures { IfOk result (λ w. w.items ≡ list_of (length x.now) (λ place.
+        pos (weight_by (kind_in (2 * layout.now.nodes) (2 * (layout.now.nodes + layout.now.branches)) place) draw
+        x.now place))) }
 {
     let mut weights = Vec::with_capacity(alloc, x.len())?;
     for place in 0..x.len() {

@@ -64,7 +64,9 @@ length-update c residual = length-list_of (length c) (update_at c residual)
 update_inside : (n : ℕ) (c : List (List ℤ)) (step : ℕ) (residual : List ℤ) → length residual ≡ n
     → MatchResult (update_for c step residual) (λ u. length u ≡ length c) (IsInside n)
 unfolding update_for
-update_inside n c step residual e = then_match _ _ _ (in_range (2 ^ 58) step residual) (λ r. Ok (update_of c r)) (range_inside (2 ^ 58) step n residual e) (λ r l. length-update c r)
+update_inside n c step residual e =
+    then_match _ _ _ (in_range (2 ^ 58) step residual) (λ r. Ok (update_of c r))
+    (range_inside (2 ^ 58) step n residual e) (λ r l. length-update c r)
 
 -- ---- steps
 
@@ -72,9 +74,13 @@ module _ (v : NetworkView) where
   stepped_inside : (c : List (List ℤ)) (number : ℕ) (x : List ℤ) → length x ≡ v.size
       → MatchResult (stepped v c number x) (λ s. length s.0 ≡ v.size) (IsInside v.size)
   unfolding stepped
-  stepped_inside c number x long = then_match _ _ _ (update_for c number (rounded_residual_of v x)) (λ update. and_then (in_range (2 ^ 40) (number + 1) (moved x update)) (λ y. Ok (y, update)))
+  stepped_inside c number x long =
+      then_match _ _ _ (update_for c number (rounded_residual_of v x))
+      (λ update. and_then (in_range (2 ^ 40) (number + 1) (moved x update)) (λ y. Ok (y, update)))
       (update_inside v.size c number (rounded_residual_of v x) (residual_long v x (rounded_residual_of v x) refl))
-      (λ u _. then_match _ _ _ (in_range (2 ^ 40) (number + 1) (moved x u)) (λ y. Ok (y, u)) (range_inside (2 ^ 40) (number + 1) v.size (moved x u) (length-moved x u ∙ long)) (λ y l. l))
+      (λ u _.
+      then_match _ _ _ (in_range (2 ^ 40) (number + 1) (moved x u)) (λ y. Ok (y, u))
+      (range_inside (2 ^ 40) (number + 1) v.size (moved x u) (length-moved x u ∙ long)) (λ y l. l))
 
   judged_inside : (limits : Limits) (number : ℕ) (s : List ℤ × List ℤ) (o : Option ℕ)
       → ((k : ℕ) → o ≡ Some k → k < v.size) → length s.0 ≡ v.size
@@ -94,7 +100,9 @@ module _ (v : NetworkView) where
   next_inside : (limits : Limits) (c : List (List ℤ)) (number : ℕ) (x : List ℤ) → length x ≡ v.size
       → MatchResult (next_iterate v limits c number x) (λ i. length i.x ≡ v.size) (IsInside v.size)
   unfolding next_iterate
-  next_inside limits c number x long = then_match _ _ _ (stepped v c number x) (λ s. judged limits (number + 1) s (first_moving v limits s.0 s.1)) (stepped_inside c number x long)
+  next_inside limits c number x long =
+      then_match _ _ _ (stepped v c number x) (λ s. judged limits (number + 1) s (first_moving v limits s.0 s.1))
+      (stepped_inside c number x long)
       (λ s l. judged_inside limits (number + 1) s (first_moving v limits s.0 s.1) (moving_below limits s.0 s.1) l)
 
   after_inside : (limits : Limits) (c : List (List ℤ)) (i : Iterate) → length i.x ≡ v.size
@@ -109,12 +117,16 @@ module _ (v : NetworkView) where
   iterated_inside : (limits : Limits) (c : List (List ℤ)) (x : List ℤ) (k : ℕ) → length x ≡ v.size
       → MatchResult (iterated v limits c x k) (λ i. length i.x ≡ v.size) (IsInside v.size)
   iterated_inside limits c x zero long = long
-  iterated_inside limits c x (suc k) long = then_match _ _ _ (iterated v limits c x k) (after v limits c) (iterated_inside limits c x k long) (after_inside limits c)
+  iterated_inside limits c x (suc k) long =
+      then_match _ _ _ (iterated v limits c x k) (after v limits c) (iterated_inside limits c x k long)
+      (after_inside limits c)
 
   last_inside : (limits : Limits) (c : List (List ℤ)) (x : List ℤ) → length x ≡ v.size
       → MatchResult (last_from v limits c x) (λ i. length i.1 ≡ v.size) (IsInside v.size)
   unfolding last_from
-  last_inside limits c x long = then_match _ _ _ (iterated v limits c x limits.max_iterations) (λ i. Ok (i.number, i.x)) (iterated_inside limits c x limits.max_iterations long) (λ i l. l)
+  last_inside limits c x long =
+      then_match _ _ _ (iterated v limits c x limits.max_iterations) (λ i. Ok (i.number, i.x))
+      (iterated_inside limits c x limits.max_iterations long) (λ i l. l)
 
   -- ---- the whole
 
@@ -134,13 +146,20 @@ module _ (v : NetworkView) where
   polished_inside : (number : ℕ) (x : List ℤ) (c : List (List ℤ)) → length x ≡ v.size
       → MatchResult (polished v number x c) (λ _. Unit {0}) (IsInside v.size)
   unfolding polished
-  polished_inside number x c long = then_match _ _ _ (stepped v c number x) (λ s. and_then (stepped v c (number + 1) s.0) (λ t. Ok (t.0, c))) (stepped_inside c number x long)
-      (λ s l. then_match _ _ _ (stepped v c (number + 1) s.0) (λ t. Ok (t.0, c)) (stepped_inside c (number + 1) s.0 l) (λ t _. tt))
+  polished_inside number x c long =
+      then_match _ _ _ (stepped v c number x) (λ s. and_then (stepped v c (number + 1) s.0) (λ t. Ok (t.0, c)))
+      (stepped_inside c number x long) (λ s l.
+      then_match _ _ _ (stepped v c (number + 1) s.0) (λ t. Ok (t.0, c)) (stepped_inside c (number + 1) s.0 l) (λ t _.
+      tt))
 
   solution_inside : (limits : Limits) → MatchResult (solution_of v limits) (λ _. Unit {0}) (IsInside v.size)
   unfolding solution_of
-  solution_inside limits = then_match _ _ _ (last_of v limits) (λ i. and_then (inverse_at (jacobian_of v i.1)) (polished v i.0 i.1)) (last_of_inside limits)
-      (λ i l. then_match _ _ _ (inverse_at (jacobian_of v i.1)) (polished v i.0 i.1) (inverse_inside v.size (jacobian_of v i.1) (jacobian_long v i.1 (jacobian_of v i.1) refl)) (λ c _. polished_inside i.0 i.1 c l))
+  solution_inside limits =
+      then_match _ _ _ (last_of v limits) (λ i. and_then (inverse_at (jacobian_of v i.1)) (polished v i.0 i.1))
+      (last_of_inside limits) (λ i l.
+      then_match _ _ _ (inverse_at (jacobian_of v i.1)) (polished v i.0 i.1)
+      (inverse_inside v.size (jacobian_of v i.1) (jacobian_long v i.1 (jacobian_of v i.1) refl)) (λ c _.
+      polished_inside i.0 i.1 c l))
 
 -- a fault of the procedure names a place or a column inside
 pub fault_inside : (v : NetworkView) (limits : Limits) (f : SolveFault) → UnlessMemory f (solution_of v limits ≡ Err f)

@@ -38,7 +38,9 @@ past_none limit xs h = first_none (λ k. nat_lt limit (nat_abs (part xs k))) (le
 
 pub past_some : (limit : ℕ) (xs : List ℤ) (k : ℕ) → k < length xs → ((j : ℕ) → j < k → nat_abs (part xs j) ≤ limit)
     → limit < nat_abs (part xs k) → first_past limit xs ≡ Some k
-past_some limit xs k l before here = first_some (λ k. nat_lt limit (nat_abs (part xs k))) (length xs) k l (λ j m. not_past limit (nat_abs (part xs j)) (before j m)) (is_past limit (nat_abs (part xs k)) here)
+past_some limit xs k l before here =
+    first_some (λ k. nat_lt limit (nat_abs (part xs k))) (length xs) k l
+    (λ j m. not_past limit (nat_abs (part xs j)) (before j m)) (is_past limit (nat_abs (part xs k)) here)
 
 pub range_ok : (limit step : ℕ) (xs : List ℤ) → first_past limit xs ≡ None → in_range limit step xs ≡ Ok xs
 unfolding in_range

@@ -39,7 +39,9 @@ start_of v c = and_then (update_for c 0 (constants_of v)) (λ x. in_range (2 ^ 4
 
 -- the iterate after this one, and its update
 unfoldable pub stepped : NetworkView → List (List ℤ) → ℕ → List ℤ → Result (List ℤ × List ℤ) SolveFault
-stepped v c number x = and_then (update_for c number (rounded_residual_of v x)) (λ update. and_then (in_range (2 ^ 40) (number + 1) (moved x update)) (λ y. Ok (y, update)))
+stepped v c number x =
+    and_then (update_for c number (rounded_residual_of v x))
+    (λ update. and_then (in_range (2 ^ 40) (number + 1) (moved x update)) (λ y. Ok (y, update)))
 
 -- an update is more than the tolerance, in units of 10^-9, times the weight
 abbrev pub is_far : ℤ → ℤ → ℤ → Bool

@@ -41,7 +41,8 @@ fn keep_memory(alloc: Global, size: u32)
 
 // The inverse of the start matrix.
 fn start_inverse(alloc: Global, net: &Network) -> Result<Dense, SolveFault>
-    ensures inverse { MatchResult result (λ c. inverse_at (start_matrix_of net.now) ≡ Ok c) (λ f. UnlessMemory f (inverse_at (start_matrix_of net.now) ≡ Err f)) }
+    ensures inverse { MatchResult result (λ c. inverse_at (start_matrix_of net.now) ≡ Ok c)
+        (λ f. UnlessMemory f (inverse_at (start_matrix_of net.now) ≡ Err f)) }
     ensures size { IfOk result (λ c. length c ≡ net.now.size) }
     ensures small { IfOk result (λ c. EntriesWithin c (2 ^ 56)) }
 {
@@ -52,7 +53,8 @@ fn start_inverse(alloc: Global, net: &Network) -> Result<Dense, SolveFault>
 // The inverse of the rounded Jacobian at a point.
 fn inverse_there(alloc: Global, net: &Network, x: &[i128]) -> Result<Dense, SolveFault>
     requires { IsPoint net.now x.now }
-    ensures inverse { MatchResult result (λ c. inverse_at (jacobian_of net.now x.now) ≡ Ok c) (λ f. UnlessMemory f (inverse_at (jacobian_of net.now x.now) ≡ Err f)) }
+    ensures inverse { MatchResult result (λ c. inverse_at (jacobian_of net.now x.now) ≡ Ok c)
+        (λ f. UnlessMemory f (inverse_at (jacobian_of net.now x.now) ≡ Err f)) }
     ensures size { IfOk result (λ c. length c ≡ net.now.size) }
     ensures small { IfOk result (λ c. EntriesWithin c (2 ^ 56)) }
 {
@@ -116,7 +118,8 @@ fn iterate_from(
     requires size { length inverse.now ≡ net.now.size }
     requires entries { EntriesWithin inverse.now (2 ^ 56) }
     requires point { IsPoint net.now x.old }
-    ensures last { MatchResult result (λ number. last_from net.now limits.now inverse.now x.old ≡ Ok (number, x.new)) (λ f. UnlessMemory f (last_from net.now limits.now inverse.now x.old ≡ Err f)) }
+    ensures last { MatchResult result (λ number. last_from net.now limits.now inverse.now x.old ≡ Ok (number, x.new))
+        (λ f. UnlessMemory f (last_from net.now limits.now inverse.now x.old ≡ Err f)) }
     ensures few { IfOk result (λ number. number ≤ 1000) }
     ensures point { IfOk result (λ _. IsPoint net.now x.new) }
 {
@@ -154,7 +157,8 @@ fn polish(
     requires entries { EntriesWithin inverse.now (2 ^ 56) }
     requires point { IsPoint net.now x.old }
     requires number { number ≤ 1000 }
-    ensures polish { MatchResult result (λ _. polished net.now number x.old inverse.now ≡ Ok (x.new, inverse.now)) (λ f. UnlessMemory f (polished net.now number x.old inverse.now ≡ Err f)) }
+    ensures polish { MatchResult result (λ _. polished net.now number x.old inverse.now ≡ Ok (x.new, inverse.now))
+        (λ f. UnlessMemory f (polished net.now number x.old inverse.now ≡ Err f)) }
     ensures point { IfOk result (λ _. IsPoint net.now x.new) }
 {
     step(alloc, net, inverse, x, number)?;

@@ -32,7 +32,8 @@ pub fn step(
     requires entries { EntriesWithin inverse.now (2 ^ 56) }
     requires point { IsPoint net.now x.old }
     requires number { number ≤ 1001 }
-    ensures step { MatchResult result (λ update. stepped net.now inverse.now number x.old ≡ Ok (x.new, update.items)) (λ f. UnlessMemory f (stepped net.now inverse.now number x.old ≡ Err f)) }
+    ensures step { MatchResult result (λ update. stepped net.now inverse.now number x.old ≡ Ok (x.new, update.items))
+        (λ f. UnlessMemory f (stepped net.now inverse.now number x.old ≡ Err f)) }
     ensures point { OnOk result (IsPoint net.now x.new) }
     ensures long { IfOk result (λ update. length update.items ≡ net.now.size) }
     ensures small { IfOk result (λ update. SizesWithin (2 ^ 86) update.items) }
@@ -56,7 +57,9 @@ fn update_there(
     requires size { length inverse.now ≡ net.now.size }
     requires entries { EntriesWithin inverse.now (2 ^ 56) }
     requires point { IsPoint net.now x.now }
-    ensures update { MatchResult result (λ u. update_for inverse.now number (rounded_residual_of net.now x.now) ≡ Ok u.items) (λ f. UnlessMemory f (update_for inverse.now number (rounded_residual_of net.now x.now) ≡ Err f)) }
+    ensures update { MatchResult result
+        (λ u. update_for inverse.now number (rounded_residual_of net.now x.now) ≡ Ok u.items)
+        (λ f. UnlessMemory f (update_for inverse.now number (rounded_residual_of net.now x.now) ≡ Err f)) }
     ensures long { IfOk result (λ u. length u.items ≡ net.now.size) }
     ensures small { IfOk result (λ u. SizesWithin (2 ^ 86) u.items) }
 {
@@ -129,7 +132,9 @@ pub fn iterate(
     requires entries { EntriesWithin inverse.now (2 ^ 56) }
     requires point { IsPoint net.now x.old }
     requires number { number < limits.now.max_iterations }
-    ensures next { MatchResult result (λ last. next_iterate net.now limits.now inverse.now number x.old ≡ Ok (record { number = number + 1; x = x.new; is_last = last })) (λ f. UnlessMemory f (next_iterate net.now limits.now inverse.now number x.old ≡ Err f)) }
+    ensures next { MatchResult result (λ last. next_iterate net.now limits.now inverse.now number x.old
+        ≡ Ok (record { number = number + 1; x = x.new; is_last = last }))
+        (λ f. UnlessMemory f (next_iterate net.now limits.now inverse.now number x.old ≡ Err f)) }
     ensures point { OnOk result (IsPoint net.now x.new) }
 {
     let update = step(alloc, net, inverse, x, number)?;

@@ -26,7 +26,8 @@ pub fn update_for(
     requires long { length residual.now ≡ length inverse.now }
     requires few { length inverse.now ≤ 2 ^ 11 }
     requires entries { EntriesWithin inverse.now (2 ^ 56) }
-    ensures update { MatchResult result (λ u. update_for inverse.now step residual.now ≡ Ok u.items) (λ f. UnlessMemory f (update_for inverse.now step residual.now ≡ Err f)) }
+    ensures update { MatchResult result (λ u. update_for inverse.now step residual.now ≡ Ok u.items)
+        (λ f. UnlessMemory f (update_for inverse.now step residual.now ≡ Err f)) }
     ensures long { IfOk result (λ u. length u.items ≡ length inverse.now) }
     ensures small { IfOk result (λ u. SizesWithin (2 ^ 86) u.items) }
 {

@@ -33,9 +33,10 @@ module _ (l : LineData) (at : Ends) (x : State) (o : 0 < x.over) (k row : ℕ) w
 
   phase_adds : Same (row_sum row (phase_list l at k) x) (equation row (line_phase l at x k))
   phase_adds =
-      row-append _ _ x row _ _ branch_adds
-      (row-append _ _ x row _ _ (same_place _ _ x row (node_of at.first k) _ _ (plain_complex (node_of at.first k) (branch_of at.branch k) x row o) (charge_adds at.first))
-      (single _ _ (same_place _ _ x row (node_of at.second k) _ _ (minus_complex (node_of at.second k) (branch_of at.branch k) x row o) (charge_adds at.second))))
+      row-append _ _ x row _ _ branch_adds (row-append _ _ x row _ _ (same_place _ _ x row (node_of at.first k) _ _
+      (plain_complex (node_of at.first k) (branch_of at.branch k) x row o) (charge_adds at.first))
+      (single _ _ (same_place _ _ x row (node_of at.second k) _ _
+      (minus_complex (node_of at.second k) (branch_of at.branch k) x row o) (charge_adds at.second))))
 
 line_adds_up : (l : LineData) (at : Ends) → AddsUp (line_list l at) (line_parts l at)
 line_adds_up l at x o row = concat_row (phase_list l at) x row (line_phase l at x) l.phases (λ k p. phase_adds l at x o k row)
@@ -53,8 +54,12 @@ phase_divided l at k = All-append IsDivided (branch_row l at k) _
     whole r c a = complex_divided (pos 1) (record { lt = tt }) (record { le = tt }) r c a (pos 0)
 
     end_divided : (ns : List NodeAt) (sign : ℤ) → All IsDivided (end_row l at.branch ns sign k)
-    end_divided ns sign = All-append IsDivided (complex_terms (node_of ns k) (branch_of at.branch k) sign (pos 0) (pos 1)) (concat_below (charge_at l ns k) l.phases) (whole (node_of ns k) (branch_of at.branch k) sign)
-        (concat_divided (charge_at l ns k) l.phases (λ m. complex_divided (pos (2 * 10 ^ 27)) (record { lt = tt }) (record { le = tt }) (node_of ns k) (node_of ns m) (pos 0) (susceptance_of l k m)))
+    end_divided ns sign =
+        All-append IsDivided (complex_terms (node_of ns k) (branch_of at.branch k) sign (pos 0) (pos 1))
+        (concat_below (charge_at l ns k) l.phases) (whole (node_of ns k) (branch_of at.branch k) sign)
+        (concat_divided (charge_at l ns k) l.phases (λ m. complex_divided (pos (2 * 10 ^ 27)) (record {
+          lt = tt;
+        }) (record { le = tt }) (node_of ns k) (node_of ns m) (pos 0) (susceptance_of l k m)))
 
 line_divided : (l : LineData) (at : Ends) → All IsDivided (line_list l at)
 line_divided l at = concat_divided (phase_list l at) l.phases (phase_divided l at)
@@ -68,19 +73,24 @@ module _ (l : LineData) (at : Ends) (h : l.phases ≤ 3) (k : ℕ) where
       let drops = concat_few 4 (drop_at (resistance_of l) (reactance_of l) at.branch k) l.phases
       (λ m. complex_few r (branch_of at.branch m) (neg_ℤ (resistance_of l k m)) (neg_ℤ (reactance_of l k m)) (pos (10 ^ 12))) in
       let all = joined_few 4 (l.phases * 4) _ (drop_list (resistance_of l) (reactance_of l) at.branch l.phases k)
-      (joined_few 2 2 (complex_terms r (node_of at.first k) (pos 1) (pos 0) (pos 1)) _ (real_few r (node_of at.first k) (pos 1) (pos 1)) (real_few r (node_of at.second k) (negsuc 0) (pos 1)))
+      (joined_few 2 2 (complex_terms r (node_of at.first k) (pos 1) (pos 0) (pos 1)) _
+      (real_few r (node_of at.first k) (pos 1) (pos 1)) (real_few r (node_of at.second k) (negsuc 0) (pos 1)))
       drops in
       omega (arith, all)
 
   end_few : (ns : List NodeAt) (sign : ℤ) → length (end_row l at.branch ns sign k) ≤ 8
   end_few ns sign =
       let charges = concat_few 2 (charge_at l ns k) l.phases (λ m. imaginary_few (node_of ns k) (node_of ns m) (susceptance_of l k m) (pos (2 * 10 ^ 27))) in
-      let all = joined_few 2 (l.phases * 2) (complex_terms (node_of ns k) (branch_of at.branch k) sign (pos 0) (pos 1)) (concat_below (charge_at l ns k) l.phases)
-      (real_few (node_of ns k) (branch_of at.branch k) sign (pos 1)) charges in
+      let all =
+      joined_few 2 (l.phases * 2) (complex_terms (node_of ns k) (branch_of at.branch k) sign (pos 0) (pos 1))
+      (concat_below (charge_at l ns k) l.phases) (real_few (node_of ns k) (branch_of at.branch k) sign (pos 1))
+      charges in
       omega (arith, all)
 
   phase_few : length (phase_list l at k) ≤ 32
-  phase_few = joined_few 16 16 (branch_row l at k) _ branch_few (joined_few 8 8 (end_row l at.branch at.first (pos 1) k) _ (end_few at.first (pos 1)) (end_few at.second (negsuc 0)))
+  phase_few =
+      joined_few 16 16 (branch_row l at k) _ branch_few (joined_few 8 8 (end_row l at.branch at.first (pos 1) k) _
+      (end_few at.first (pos 1)) (end_few at.second (negsuc 0)))
 
 line_few : (l : LineData) (at : Ends) → l.phases ≤ 3 → length (line_list l at) ≤ 32 * l.phases
 line_few l at h = let all = concat_few 32 (phase_list l at) l.phases (phase_few l at h) in omega (arith, all)

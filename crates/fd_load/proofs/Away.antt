@@ -39,7 +39,8 @@ quotient_near a d h = one_off a (near_units a d) d (near_off (a *ℤ pos (2 ^ 40
 
 mirrored : (a g : ℤ) (d : ℕ) → Near (fraction a d) g 1 (2 ^ 40) → Near (fraction (neg_ℤ a) d) (neg_ℤ g) 1 (2 ^ 40)
 mirrored a g d h =
-    let e : (neg_ℤ a *ℤ pos (2 ^ 40)) -ℤ (neg_ℤ g *ℤ pos d) ≡ neg_ℤ ((a *ℤ pos (2 ^ 40)) -ℤ (g *ℤ pos d)) = rw (as_val a, as_val g) (simp vals (val-same _ _ _ _ (omega arith))) in
+    let e : (neg_ℤ a *ℤ pos (2 ^ 40)) -ℤ (neg_ℤ g *ℤ pos d) ≡ neg_ℤ ((a *ℤ pos (2 ^ 40)) -ℤ (g *ℤ pos d)) =
+    rw (as_val a, as_val g) (simp vals (val-same _ _ _ _ (omega arith))) in
     let f : unsigned_abs (neg_ℤ ((a *ℤ pos (2 ^ 40)) -ℤ (g *ℤ pos d))) ≡ unsigned_abs ((a *ℤ pos (2 ^ 40)) -ℤ (g *ℤ pos d)) = omega (arith, ints) in
     rw (e, f) h
 
@@ -114,7 +115,8 @@ flat_near : (α : ℤ) (c : ℕ) → 0 < c → Near (fraction α c) (near_units 
 flat_near α c h = subst (λ z. Near (fraction α c) z 2 (2 ^ 40)) (sym (less_nothing (near_units α c))) (weaker α (near_units α c) c (quotient_near α c h))
 
 power_by : (t : Bool) (a v n : ℤ) (c x : ℕ) → 2 ^ 40 ≤ c → (t ≡ true → unsigned_abs v * unsigned_abs v + x ≡ c)
-    → Near (cond t (fraction (a *ℤ pos c -ℤ pos 2 *ℤ v *ℤ n) (c * c)) (fraction a c)) (near_units a c -ℤ cond t (near_units (pos 2 *ℤ v *ℤ fine_current n c) (2 ^ 20 * c)) (pos 0)) 2 (2 ^ 40)
+    → Near (cond t (fraction (a *ℤ pos c -ℤ pos 2 *ℤ v *ℤ n) (c * c)) (fraction a c))
+    (near_units a c -ℤ cond t (near_units (pos 2 *ℤ v *ℤ fine_current n c) (2 ^ 20 * c)) (pos 0)) 2 (2 ^ 40)
 power_by true a v n c x big e = within_near a v n c x big (e refl)
 power_by false a v n c x big e = flat_near a c (omega arith)
 
@@ -214,7 +216,8 @@ within_magnitude n v c v_pos big =
     let i : ℤ = fine_current n (v * c) in
     let s : ℤ = near_units i (u * c) in
     let c_pos : 0 < c = omega arith in
-    let off = magnitude_off n i s v c u (lit< tt) big (near_off (n *ℤ pos u) (v * c) (mul-pos v_pos c_pos)) (near_off (i *ℤ pos (2 ^ 40)) (u * c) (mul-pos (lit< tt) c_pos)) in
+    let off = magnitude_off n i s v c u (lit< tt) big (near_off (n *ℤ pos u) (v * c) (mul-pos v_pos c_pos))
+    (near_off (i *ℤ pos (2 ^ 40)) (u * c) (mul-pos (lit< tt) c_pos)) in
     rw (both_turned n s (v * c * c) (2 ^ 40)) (omega arith)
 
 magnitude_by : (t : Bool) (n : ℤ) (v c : ℕ) → 0 < v → 2 ^ 20 ≤ c
@@ -257,4 +260,6 @@ in_each ConstantImpedance e f g a b c h i j = i
 in_each ConstantCurrent e f g a b c h i j = j
 
 pub slopes_near : SlopeLaw
-slopes_near w p q m h = in_each w.model _ _ _ _ _ _ (power_near w p q h) (record { real = level_row; imaginary = level_row; magnitude = level_row }) (current_near w p q m h)
+slopes_near w p q m h =
+    in_each w.model _ _ _ _ _ _ (power_near w p q h)
+    (record { real = level_row; imaginary = level_row; magnitude = level_row }) (current_near w p q m h)

@@ -31,8 +31,16 @@ no_loads lo hi = record { below = λ l h. refl; behind = λ l h. refl; single = 
 
 joined_in : (a b c : ℕ) (us vs : List LoadAt) → a ≤ b → b ≤ c → StandIn a b us → StandIn b c vs → StandIn a c (us ++ vs)
 joined_in a b c us vs h k p q = record {
-  below = λ l m. let s = list_n-append (λ (u : LoadAt). count_magnitude l u.magnitude) us vs in let x = p.below l m in let y = q.below l (omega arith) in omega arith;
-  behind = λ l m. let s = list_n-append (λ (u : LoadAt). count_magnitude l u.magnitude) us vs in let x = p.behind l (omega arith) in let y = q.behind l m in omega arith;
+  below = λ l m.
+      let s = list_n-append (λ (u : LoadAt). count_magnitude l u.magnitude) us vs in
+      let x = p.below l m in
+      let y = q.below l (omega arith) in
+      omega arith;
+  behind = λ l m.
+      let s = list_n-append (λ (u : LoadAt). count_magnitude l u.magnitude) us vs in
+      let x = p.behind l (omega arith) in
+      let y = q.behind l m in
+      omega arith;
   single = λ l. one l (cases_lt l b);
 }
   where
@@ -65,7 +73,8 @@ module _ (f : ℕ → LoadAt) (first : ℕ) where
   with_places h (suc n) =
       let end : first + n + 1 ≡ first + suc n = omega arith in
       subst (λ b. StandIn first b (concat_below (λ k. f k ∷ []) n ++ f n ∷ [])) end
-      (joined_in first (first + n) (first + n + 1) (concat_below (λ k. f k ∷ []) n) (f n ∷ []) (omega arith) (omega arith) (with_places h n) (one_in (f n) (first + n) (h n)))
+      (joined_in first (first + n) (first + n + 1) (concat_below (λ k. f k ∷ []) n) (f n ∷ []) (omega arith)
+      (omega arith) (with_places h n) (one_in (f n) (first + n) (h n)))
 
   without : ((k : ℕ) → (f k).magnitude ≡ None) → (n : ℕ) → StandIn first first (concat_below (λ k. f k ∷ []) n)
   without h zero = no_loads first first
@@ -78,28 +87,35 @@ module _ (f : ℕ → LoadAt) (first : ℕ) where
         single = λ l. let c = ap (count_magnitude l) e in omega (arith, c);
       }
 
-  phases_in : (b : Bool) → ((k : ℕ) → (f k).magnitude ≡ (if b then Some (first + k) else None)) → (n : ℕ) → StandIn first (first + (if b then n else 0)) (concat_below (λ k. f k ∷ []) n)
+  phases_in : (b : Bool) → ((k : ℕ) → (f k).magnitude ≡ (if b then Some (first + k) else None)) → (n : ℕ)
+      → StandIn first (first + (if b then n else 0)) (concat_below (λ k. f k ∷ []) n)
   phases_in true h n = with_places h n
   phases_in false h n = subst (λ b. StandIn first b (concat_below (λ k. f k ∷ []) n)) (sym (add-zero first)) (without h n)
 
 -- ---- elements
 
 -- the part loads of an element, of which the first magnitude stands at a place
-element_in : (layout : LayoutView) (hertz place first : ℕ) (e : Element) (s : Settings) → first_magnitude layout place ≡ first → StandIn first (first + magnitude_phases e) (device_stamp (device_of layout hertz place e s)).loads
+element_in : (layout : LayoutView) (hertz place first : ℕ) (e : Element) (s : Settings)
+    → first_magnitude layout place ≡ first
+    → StandIn first (first + magnitude_phases e) (device_stamp (device_of layout hertz place e s)).loads
 element_in layout hertz place first (the.Vsource v) s h = no_loads first (first + 0)
 element_in layout hertz place first (the.Line l) s h = no_loads first (first + 0)
 element_in layout hertz place first (the.Transformer t) s h = no_loads first (first + 0)
 element_in layout hertz place first (the.Capacitor c) s h = no_loads first (first + 0)
 element_in layout hertz place first (the.Load l) s h =
-    subst (λ m. StandIn m (m + magnitude_phases (the.Load l)) (device_stamp (device_of layout hertz place (the.Load l) s)).loads) h
-    (phases_in (load_at l (ends_of layout place (the.Load l)).first (first_magnitude layout place) s.powers) (first_magnitude layout place) (has_magnitude l.model) (λ k. refl) l.phases)
+    subst (λ m.
+    StandIn m (m + magnitude_phases (the.Load l)) (device_stamp (device_of layout hertz place (the.Load l) s)).loads)
+    h (phases_in (load_at l (ends_of layout place (the.Load l)).first (first_magnitude layout place) s.powers)
+    (first_magnitude layout place) (has_magnitude l.model) (λ k. refl) l.phases)
 element_in layout hertz place first (the.Linecode c) s h = no_loads first (first + 0)
 element_in layout hertz place first (the.RegControl c) s h = no_loads first (first + 0)
 element_in layout hertz place first (the.CapControl c) s h = no_loads first (first + 0)
 element_in layout hertz place first (the.Loadshape c) s h = no_loads first (first + 0)
 
-elements_in : (layout : LayoutView) (hertz place first : ℕ) (es : Elements) (s : Settings) → AreMagnitudesFrom layout first place es
-    → StandIn first (first + list_n (λ e. magnitude_phases e.1) es) (flat_map (λ (x : StampView). x.loads) (map device_stamp (devices_from layout hertz place es s)))
+elements_in : (layout : LayoutView) (hertz place first : ℕ) (es : Elements) (s : Settings)
+    → AreMagnitudesFrom layout first place es
+    → StandIn first (first + list_n (λ e. magnitude_phases e.1) es)
+    (flat_map (λ (x : StampView). x.loads) (map device_stamp (devices_from layout hertz place es s)))
 elements_in layout hertz place first [] s h = no_loads first (first + 0)
 elements_in layout hertz place first (e ∷ es) s h =
     let m = magnitude_phases e.1 in
@@ -108,20 +124,24 @@ elements_in layout hertz place first (e ∷ es) s h =
     (joined_in first (first + m) (first + m + list_n (λ x. magnitude_phases x.1) es) _ _ (omega arith) (omega arith)
     (element_in layout hertz place first e.1 (own e.1 s) h.0) (elements_in layout hertz (place + 1) (first + m) es (after e.1 s) h.1))
 
-pub apart : (layout : LayoutView) (hertz first : ℕ) (es : Elements) (s : Settings) → AreMagnitudesFrom layout first 0 es → AreApart (stamp_of_all (devices_from layout hertz 0 es s)).loads
+pub apart : (layout : LayoutView) (hertz first : ℕ) (es : Elements) (s : Settings)
+    → AreMagnitudesFrom layout first 0 es → AreApart (stamp_of_all (devices_from layout hertz 0 es s)).loads
 apart layout hertz first es s h = (elements_in layout hertz 0 first es s h).single
 
 -- ---- the layout of a circuit
 
-laid_from : (layout : LayoutView) (sum place : ℕ) (es : Elements) → ((k : ℕ) → k < length es → slice_index layout.magnitudes_before (place + k) ≡ slice_index (sums_before magnitude_phases sum es) k)
+laid_from : (layout : LayoutView) (sum place : ℕ) (es : Elements)
+    → ((k : ℕ) → k < length es
+    → slice_index layout.magnitudes_before (place + k) ≡ slice_index (sums_before magnitude_phases sum es) k)
     → AreMagnitudesFrom layout (2 * complex_count layout + sum) place es
 laid_from layout sum place [] h = tt
 laid_from layout sum place (e ∷ es) h =
     let m = magnitude_phases e.1 in
     let end : 2 * complex_count layout + (sum + m) ≡ 2 * complex_count layout + sum + m = omega arith in (
       ap (λ n. 2 * complex_count layout + n) (ap (slice_index layout.magnitudes_before) (sym (add-zero place)) ∙ h 0 (omega arith)),
-      subst (λ f. AreMagnitudesFrom layout f (place + 1) es) end
-          (laid_from layout (sum + m) (place + 1) es (λ k l. let same : place + 1 + k ≡ place + suc k = omega arith in ap (slice_index layout.magnitudes_before) same ∙ h (suc k) (omega arith))),
+      subst (λ f. AreMagnitudesFrom layout f (place + 1) es) end (laid_from layout (sum + m) (place + 1) es (λ k l.
+          let same : place + 1 + k ≡ place + suc k = omega arith in
+          ap (slice_index layout.magnitudes_before) same ∙ h (suc k) (omega arith))),
     )
 
 -- the magnitudes of all elements follow one another behind the complex unknowns

@@ -34,8 +34,11 @@ module _ (n size : ℕ) (room : 2 * n ≤ size) where
       let d = All-head IsDivided t ts divided in
       let row = i.row in
       let col = i.col in
-      All-cons (IsLinear size) t ts (record { term = record { row = omega arith; col = omega arith; positive = d.positive; most = d.most }; within = All-head IsWithin t ts within })
-      (all_linear ts (All-tail (IsInside n) t ts inside) (All-tail IsDivided t ts divided) (All-tail IsWithin t ts within))
+      All-cons (IsLinear size) t ts (record {
+        term = record { row = omega arith; col = omega arith; positive = d.positive; most = d.most };
+        within = All-head IsWithin t ts within;
+      }) (all_linear ts (All-tail (IsInside n) t ts inside) (All-tail IsDivided t ts divided)
+      (All-tail IsWithin t ts within))
 
   pub are_linear : (b : ℕ) (ts : List Term) → b < 2 ^ 24 → AreContributions n b ts → AreLinear size ts
   are_linear b ts few h = record { each = all_linear ts h.inside h.divided h.within; few = omega (arith, h.few) }
@@ -61,7 +64,8 @@ fit_then_sums : (ds : List Device) → All DeviceFits ds → first_out_of_range 
 fit_then_sums ds h = ap (λ o. option_or o (first_without (has_small_sums (stamp_of_all ds).terms) ds)) (none_without device_fits ds h)
 
 -- where each fits, the first with a large sum is the first out of range
-pub sum_first : (ds : List Device) (place : ℕ) → All DeviceFits ds → first_without (has_small_sums (stamp_of_all ds).terms) ds ≡ Some place → first_out_of_range ds ≡ Some place
+pub sum_first : (ds : List Device) (place : ℕ) → All DeviceFits ds
+    → first_without (has_small_sums (stamp_of_all ds).terms) ds ≡ Some place → first_out_of_range ds ≡ Some place
 sum_first ds place fit h = fit_then_sums ds fit ∙ h
 
 -- no device in range is out of range
@@ -73,9 +77,11 @@ no_fault ds h =
 -- ---- the network
 
 -- what elements add is a network, where the sums are small and no two magnitudes stand at one place
-pub is_network : (layout : LayoutView) (es : Elements) (ds : List Device) (a : StampView) → AreCollected (length layout.nodes) (complex_count layout) (size_of layout) es ds a
+pub is_network : (layout : LayoutView) (es : Elements) (ds : List Device) (a : StampView)
+    → AreCollected (length layout.nodes) (complex_count layout) (size_of layout) es ds a
     → ((row col : ℕ) → AreSmall (linear_entry a.terms row col)) → AreApart a.loads
-    → length es ≤ most_elements → list_n (λ e. branch_phases e.1) es ≤ most_complex → complex_count layout ≤ most_complex → length layout.magnitudes ≤ most_magnitudes
+    → length es ≤ most_elements → list_n (λ e. branch_phases e.1) es ≤ most_complex
+    → complex_count layout ≤ most_complex → length layout.magnitudes ≤ most_magnitudes
     → IsNetwork (network_of (layout_counts layout) a)
 is_network layout es ds a h small apart few branches complexes magnitudes =
     let b = h.bounded in
@@ -86,7 +92,8 @@ is_network layout es ds a h small apart few branches complexes magnitudes =
       small = omega arith;
       nodes = omega arith;
       unknowns = refl;
-      terms = are_linear (complex_count layout) (size_of layout) (omega arith) (64 * (length es + list_n (λ e. branch_phases e.1) es)) a.terms (omega arith) b.terms;
+      terms = are_linear (complex_count layout) (size_of layout) (omega arith)
+          (64 * (length es + list_n (λ e. branch_phases e.1) es)) a.terms (omega arith) b.terms;
       entries = small;
       constants = all_known (complex_count layout) (size_of layout) (omega arith) a.constants b.constants;
       few_constants = omega arith;

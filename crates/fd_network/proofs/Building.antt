@@ -36,7 +36,9 @@ has_place es place few low = record {
 }
 
 -- the elements of a circuit, with all its settings
-pub are_taken : (hertz : ℕ) (es : Elements) (s : Settings) → IsOneOf (50 ∷ 60 ∷ []) hertz → first_too_many es ≡ None → AreReadyFrom (layout_of es) 0 es → AreSettings es s → All AreTaps s.taps → All IsModest s.powers → AreTakenFrom (layout_of es) hertz 0 es s
+pub are_taken : (hertz : ℕ) (es : Elements) (s : Settings) → IsOneOf (50 ∷ 60 ∷ []) hertz → first_too_many es ≡ None
+    → AreReadyFrom (layout_of es) 0 es → AreSettings es s → All AreTaps s.taps → All IsModest s.powers
+    → AreTakenFrom (layout_of es) hertz 0 es s
 are_taken hertz es s frequency few ready settings within modest = record {
   frequency = frequency;
   places = λ k low. subst (HasPlace (layout_of es)) (sym (zero-add k)) (has_place es k few low);
@@ -47,18 +49,25 @@ are_taken hertz es s frequency few ready settings within modest = record {
 }
 
 -- the same of what is equal
-pub taken_as : (l l' : LayoutView) (h h' : ℕ) (es es' : Elements) (s s' : Settings) → l ≡ l' → h ≡ h' → es ≡ es' → s ≡ s' → AreTakenFrom l' h' 0 es' s' → AreTakenFrom l h 0 es s
+pub taken_as : (l l' : LayoutView) (h h' : ℕ) (es es' : Elements) (s s' : Settings) → l ≡ l' → h ≡ h' → es ≡ es'
+    → s ≡ s' → AreTakenFrom l' h' 0 es' s' → AreTakenFrom l h 0 es s
 taken_as l l' h h' es es' s s' el eh ees e taken =
-    subst (λ x. AreTakenFrom x h 0 es s) (sym el) (subst (λ x. AreTakenFrom l' x 0 es s) (sym eh) (subst (λ x. AreTakenFrom l' h' 0 x s) (sym ees) (subst (AreTakenFrom l' h' 0 es') (sym e) taken)))
+    subst (λ x. AreTakenFrom x h 0 es s) (sym el) (subst (λ x. AreTakenFrom l' x 0 es s) (sym eh)
+    (subst (λ x. AreTakenFrom l' h' 0 x s) (sym ees) (subst (AreTakenFrom l' h' 0 es') (sym e) taken)))
 
-pub same_devices : (l l' : LayoutView) (h h' : ℕ) (es es' : Elements) (s s' : Settings) → l ≡ l' → h ≡ h' → es ≡ es' → s ≡ s' → devices_from l h 0 es s ≡ devices_from l' h' 0 es' s'
+pub same_devices : (l l' : LayoutView) (h h' : ℕ) (es es' : Elements) (s s' : Settings) → l ≡ l' → h ≡ h' → es ≡ es'
+    → s ≡ s' → devices_from l h 0 es s ≡ devices_from l' h' 0 es' s'
 same_devices l l' h h' es es' s s' el eh ees e = λ i. devices_from (el i) (eh i) 0 (ees i) (e i)
 
 pub kept_as : (l l' : LayoutView) (h h' : ℕ) (es es' : Elements) (ks : List Kept) → l ≡ l' → h ≡ h' → es ≡ es' → AreKept l' h' es' ks → AreKept l h es ks
-kept_as l l' h h' es es' ks el eh ees kept = subst (λ x. AreKept x h es ks) (sym el) (subst (λ x. AreKept l' x es ks) (sym eh) (subst (λ x. AreKept l' h' x ks) (sym ees) kept))
+kept_as l l' h h' es es' ks el eh ees kept =
+    subst (λ x. AreKept x h es ks) (sym el)
+    (subst (λ x. AreKept l' x es ks) (sym eh) (subst (λ x. AreKept l' h' x ks) (sym ees) kept))
 
 pub reaches_as : (l l' : LayoutView) (h h' : ℕ) (es es' : Elements) (ps : List (ℕ × ℕ)) → l ≡ l' → h ≡ h' → es ≡ es' → Reaches l' h' es' ps → Reaches l h es ps
-reaches_as l l' h h' es es' ps el eh ees reach = subst (λ x. Reaches x h es ps) (sym el) (subst (λ x. Reaches l' x es ps) (sym eh) (subst (λ x. Reaches l' h' x ps) (sym ees) reach))
+reaches_as l l' h h' es es' ps el eh ees reach =
+    subst (λ x. Reaches x h es ps) (sym el)
+    (subst (λ x. Reaches l' x es ps) (sym eh) (subst (λ x. Reaches l' h' x ps) (sym ees) reach))
 
 -- ---- blame
 
@@ -73,7 +82,9 @@ out_of_range_within ds place e =
     (λ k. first_within device_fits ds k) (λ k. first_within (has_small_sums (stamp_of_all ds).terms) ds k) e
 
 -- the fault that names the element at the place of the first device out of range is the one that is due
-pub fault_named : (es es' : Elements) (ds : List Device) (place : ℕ) (f : BuildFault) → es' ≡ es → first_out_of_range ds ≡ Some place → IsFaultOf (blame_at cause.Range es' place) f → IsFaultOf (range_blame es ds) f
+pub fault_named : (es es' : Elements) (ds : List Device) (place : ℕ) (f : BuildFault) → es' ≡ es
+    → first_out_of_range ds ≡ Some place → IsFaultOf (blame_at cause.Range es' place) f
+    → IsFaultOf (range_blame es ds) f
 fault_named es es' ds place f same e h =
     subst (λ b. IsFaultOf b f) (ap (λ x. blame_at cause.Range x place) same ∙ sym (ap (option_and_then (blame_at cause.Range es)) e)) h
 

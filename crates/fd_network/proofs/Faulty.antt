@@ -39,11 +39,14 @@ pub holds_next : (P : Device → Type 0) (ds : List Device) (place : ℕ) (d : D
 holds_next P ds place d rest h e = All-head P d rest (subst (All P) e (All-drop P place ds h))
 
 -- a device that doesn't fit, after those that do
-pub misfit_first : (ds : List Device) (place : ℕ) (d : Device) (rest : List Device) (f : PlaceFault) → All DeviceFits (take place ds) → drop place ds ≡ d ∷ rest → IsMisfit place d f → NamesPlace (first_without device_fits ds) f
+pub misfit_first : (ds : List Device) (place : ℕ) (d : Device) (rest : List Device) (f : PlaceFault)
+    → All DeviceFits (take place ds) → drop place ds ≡ d ∷ rest → IsMisfit place d f
+    → NamesPlace (first_without device_fits ds) f
 misfit_first ds place d rest (place_fault.OutOfRange k) h e m = first_at device_fits ds place d rest h e m.1 ∙ ap Some (sym m.0)
 misfit_first ds place d rest place_fault.NoMemory h e m = tt
 
 -- where each device fits there is none
-pub no_misfit : (said : Option ℕ) (ds : List Device) (place : ℕ) (d : Device) (rest : List Device) (f : PlaceFault) → All DeviceFits ds → drop place ds ≡ d ∷ rest → IsMisfit place d f → NamesPlace said f
+pub no_misfit : (said : Option ℕ) (ds : List Device) (place : ℕ) (d : Device) (rest : List Device) (f : PlaceFault)
+    → All DeviceFits ds → drop place ds ≡ d ∷ rest → IsMisfit place d f → NamesPlace said f
 no_misfit said ds place d rest (place_fault.OutOfRange k) h e m = absurd (m.1 (holds_next DeviceFits ds place d rest h e))
 no_misfit said ds place d rest place_fault.NoMemory h e m = tt

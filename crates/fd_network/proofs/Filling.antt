@@ -73,46 +73,63 @@ module _ (es : Elements) (k : ℕ) (e : ElementName × Element) (here : slice_ge
 -- ---- places
 
 module _ (ps : List (ℕ × ℕ)) (law : ReachLaw) where
-  terms_reached : (ds : List Device) → All (Contains ps) (flat_map device_places ds) → All (Contains ps) (map place_of (flat_map (λ (s : StampView). s.terms) (map device_stamp ds)))
+  terms_reached : (ds : List Device) → All (Contains ps) (flat_map device_places ds)
+      → All (Contains ps) (map place_of (flat_map (λ (s : StampView). s.terms) (map device_stamp ds)))
   terms_reached [] h = All-nil (Contains ps)
   terms_reached (d ∷ ds) h =
       let b = both_parts (Contains ps) (device_places d) (flat_map device_places ds) h in
       let mine = both_parts (Contains ps) (map place_of (device_stamp d).terms) (flat_map load_places (device_stamp d).loads) (law ps d b.0) in
       let rest = flat_map (λ (s : StampView). s.terms) (map device_stamp ds) in
-      subst (All (Contains ps)) (sym (map-append place_of (device_stamp d).terms rest)) (All-append (Contains ps) (map place_of (device_stamp d).terms) (map place_of rest) mine.0 (terms_reached ds b.1))
+      subst (All (Contains ps)) (sym (map-append place_of (device_stamp d).terms rest))
+      (All-append (Contains ps) (map place_of (device_stamp d).terms) (map place_of rest) mine.0
+      (terms_reached ds b.1))
 
-  loads_reached : (ds : List Device) → All (Contains ps) (flat_map device_places ds) → All (Contains ps) (flat_map load_places (flat_map (λ (s : StampView). s.loads) (map device_stamp ds)))
+  loads_reached : (ds : List Device) → All (Contains ps) (flat_map device_places ds)
+      → All (Contains ps) (flat_map load_places (flat_map (λ (s : StampView). s.loads) (map device_stamp ds)))
   loads_reached [] h = All-nil (Contains ps)
   loads_reached (d ∷ ds) h =
       let b = both_parts (Contains ps) (device_places d) (flat_map device_places ds) h in
       let mine = both_parts (Contains ps) (map place_of (device_stamp d).terms) (flat_map load_places (device_stamp d).loads) (law ps d b.0) in
       let rest = flat_map (λ (s : StampView). s.loads) (map device_stamp ds) in
-      subst (All (Contains ps)) (sym (flat_map-append load_places (device_stamp d).loads rest)) (All-append (Contains ps) (flat_map load_places (device_stamp d).loads) (flat_map load_places rest) mine.1 (loads_reached ds b.1))
+      subst (All (Contains ps)) (sym (flat_map-append load_places (device_stamp d).loads rest))
+      (All-append (Contains ps) (flat_map load_places (device_stamp d).loads) (flat_map load_places rest) mine.1
+      (loads_reached ds b.1))
 
-  pub all_reached : (ds : List Device) → All (Contains ps) (flat_map device_places ds) → All (Contains ps) (places_of (stamp_of_all ds).terms (stamp_of_all ds).loads)
-  all_reached ds h = All-append (Contains ps) (map place_of (stamp_of_all ds).terms) (flat_map load_places (stamp_of_all ds).loads) (terms_reached ds h) (loads_reached ds h)
+  pub all_reached : (ds : List Device) → All (Contains ps) (flat_map device_places ds)
+      → All (Contains ps) (places_of (stamp_of_all ds).terms (stamp_of_all ds).loads)
+  all_reached ds h =
+      All-append (Contains ps) (map place_of (stamp_of_all ds).terms) (flat_map load_places (stamp_of_all ds).loads)
+      (terms_reached ds h) (loads_reached ds h)
 
 -- the places don't depend on the settings
-places_same : (layout : LayoutView) (hertz place : ℕ) (es : Elements) (s t : Settings) → flat_map device_places (devices_from layout hertz place es s) ≡ flat_map device_places (devices_from layout hertz place es t)
+places_same : (layout : LayoutView) (hertz place : ℕ) (es : Elements) (s t : Settings)
+    → flat_map device_places (devices_from layout hertz place es s)
+    ≡ flat_map device_places (devices_from layout hertz place es t)
 places_same layout hertz place [] s t = refl
 places_same layout hertz place (e ∷ es) s t =
     let one = same_places layout hertz place e.1 (own e.1 s) (own e.1 t) in
     let rest = places_same layout hertz (place + 1) es (after e.1 s) (after e.1 t) in
     λ i. one i ++ rest i
 
-pub reaches : (layout : LayoutView) (hertz : ℕ) (es : Elements) (s : Settings) (ps qs : List (ℕ × ℕ)) → qs ≡ flat_map device_places (devices_from layout hertz 0 es s) → All (Contains ps) qs → Reaches layout hertz es ps
+pub reaches : (layout : LayoutView) (hertz : ℕ) (es : Elements) (s : Settings) (ps qs : List (ℕ × ℕ))
+    → qs ≡ flat_map device_places (devices_from layout hertz 0 es s) → All (Contains ps) qs
+    → Reaches layout hertz es ps
 reaches layout hertz es s ps qs e h = λ t. subst (All (Contains ps)) (e ∙ places_same layout hertz 0 es s t) h
 
 -- rows with these places can hold what is collected
-pub can_hold : (layout : LayoutView) (es : Elements) (ds : List Device) (a : StampView) (v : RowsView) → v.size ≡ size_of layout
-    → AreCollected (length layout.nodes) (complex_count layout) (size_of layout) es ds a → ReachLaw → All (Contains v.places) (flat_map device_places ds)
-    → length es ≤ most_elements → list_n (λ e. branch_phases e.1) es ≤ most_complex → complex_count layout ≤ most_complex → length layout.magnitudes ≤ most_magnitudes
-    → CanHold v a.terms a.loads
+pub can_hold : (layout : LayoutView) (es : Elements) (ds : List Device) (a : StampView) (v : RowsView)
+    → v.size ≡ size_of layout → AreCollected (length layout.nodes) (complex_count layout) (size_of layout) es ds a
+    → ReachLaw → All (Contains v.places) (flat_map device_places ds)
+    → length es ≤ most_elements → list_n (λ e. branch_phases e.1) es ≤ most_complex
+    → complex_count layout ≤ most_complex → length layout.magnitudes ≤ most_magnitudes → CanHold v a.terms a.loads
 can_hold layout es ds a v size h law reach few branches complexes magnitudes =
     let b = h.bounded in
     record {
-      linear = subst (λ n. AreLinear n a.terms) (sym size) (are_linear (complex_count layout) (size_of layout) (omega arith) (64 * (length es + list_n (λ e. branch_phases e.1) es)) a.terms (omega arith) b.terms);
-      loads = subst (λ n. All (IsConnected n) a.loads) (sym size) (all_connected (length layout.nodes) (complex_count layout) (size_of layout) a.loads (omega arith) (omega arith) (omega arith) b.loads);
+      linear = subst (λ n. AreLinear n a.terms) (sym size) (are_linear (complex_count layout) (size_of layout)
+          (omega arith) (64 * (length es + list_n (λ e. branch_phases e.1) es)) a.terms (omega arith) b.terms);
+      loads = subst (λ n. All (IsConnected n) a.loads) (sym size)
+          (all_connected (length layout.nodes) (complex_count layout) (size_of layout) a.loads (omega arith)
+          (omega arith) (omega arith) b.loads);
       few = omega (arith, b.few_loads, few);
       reached = subst (λ (x : StampView). All (Contains v.places) (places_of x.terms x.loads)) (sym h.stamp) (all_reached v.places law ds reach);
     }

@@ -63,9 +63,12 @@ ready_from layout place (e ∷ es) h = (
     later k d r = let same : place + suc k ≡ place + 1 + k = omega arith in subst (λ n. IsReadyAt layout n (slice_index_or es k d).1) same r
 
 -- where the nodes, the branches and the magnitudes of the element at a place stand
-pub stands_at : (elements : Elements) (place : ℕ) (d : ElementName × Element) → place < length elements → ElementInRange (slice_index_or elements place d).1
-    → IsSound (slice_index_or elements place d).1
-    → (let e = (slice_index_or elements place d).1 in StandsAmong (length (layout_of elements).nodes) (complex_count (layout_of elements)) (size_of (layout_of elements)) (first_magnitude (layout_of elements) place) (ends_of (layout_of elements) place e) e)
+pub stands_at : (elements : Elements) (place : ℕ) (d : ElementName × Element) → place < length elements
+    → ElementInRange (slice_index_or elements place d).1 → IsSound (slice_index_or elements place d).1
+    → (let e = (slice_index_or elements place d).1 in
+    StandsAmong (length (layout_of elements).nodes) (complex_count (layout_of elements))
+    (size_of (layout_of elements)) (first_magnitude (layout_of elements) place) (ends_of (layout_of elements) place e)
+    e)
 stands_at elements place d within in_range sound =
     let layout = layout_of elements in
     let e = (slice_index_or elements place d).1 in
@@ -97,7 +100,8 @@ module _ (circuit : CircuitView) (has_passed : HasPassed circuit) where
 
   -- the element at a place is ready to be taken
   pub ready_at : All (λ e. ElementInRange e.1) circuit.elements
-      → (place : ℕ) (d : ElementName × Element) → place < length circuit.elements → IsReadyAt (layout_of circuit.elements) place (slice_index_or circuit.elements place d).1
+      → (place : ℕ) (d : ElementName × Element) → place < length circuit.elements
+      → IsReadyAt (layout_of circuit.elements) place (slice_index_or circuit.elements place d).1
   ready_at in_range place d within =
       let elements = circuit.elements in
       let e = (slice_index_or elements place d).1 in
@@ -106,7 +110,9 @@ module _ (circuit : CircuitView) (has_passed : HasPassed circuit) where
       record {
         in_range = range;
         sound = sound;
-        sited = sited (length (layout_of elements).nodes) (complex_count (layout_of elements)) (size_of (layout_of elements)) (first_magnitude (layout_of elements) place) (ends_of (layout_of elements) place e) e range (stands_at elements place d within range sound);
+        sited = sited (length (layout_of elements).nodes) (complex_count (layout_of elements))
+            (size_of (layout_of elements)) (first_magnitude (layout_of elements) place)
+            (ends_of (layout_of elements) place e) e range (stands_at elements place d within range sound);
       }
 
   -- all are

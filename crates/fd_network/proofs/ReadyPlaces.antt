@@ -49,17 +49,21 @@ some_phases phases (inl h) = omega arith
 some_phases phases (inr h) = omega arith
 
 -- the branches of an element with phases
-pub has_branches : (nodes n size magnitude : ℕ) (at : Ends) (e : Element) → 1 ≤ branch_phases e → StandsAmong nodes n size magnitude at e → HasBranches n (branch_phases e) at
+pub has_branches : (nodes n size magnitude : ℕ) (at : Ends) (e : Element) → 1 ≤ branch_phases e
+    → StandsAmong nodes n size magnitude at e → HasBranches n (branch_phases e) at
 has_branches nodes n size magnitude at e some p = record { some = some; below = p.branches }
 
 -- the magnitudes of a load of constant current
-load_magnitudes : (n size magnitude : ℕ) (l : Load) → HasMagnitudes n size (magnitude_phases (the.Load l)) magnitude → IsTrue (has_magnitude l.model) → HasMagnitudes n size l.phases magnitude
+load_magnitudes : (n size magnitude : ℕ) (l : Load) → HasMagnitudes n size (magnitude_phases (the.Load l)) magnitude
+    → IsTrue (has_magnitude l.model) → HasMagnitudes n size l.phases magnitude
 load_magnitudes n size magnitude l h has = subst (λ b. HasMagnitudes n size (if b then l.phases else 0) magnitude) has h
 
-pub sited : (nodes n size magnitude : ℕ) (at : Ends) (e : Element) → ElementInRange e → StandsAmong nodes n size magnitude at e → IsSited nodes n size magnitude at e
+pub sited : (nodes n size magnitude : ℕ) (at : Ends) (e : Element) → ElementInRange e
+    → StandsAmong nodes n size magnitude at e → IsSited nodes n size magnitude at e
 sited nodes n size magnitude at (the.Vsource v) r p = (p.first, has_branches nodes n size magnitude at (the.Vsource v) (some_phases v.phases r.phases) p)
 sited nodes n size magnitude at (the.Line l) r p = (p.first, p.second, has_branches nodes n size magnitude at (the.Line l) r.phases.least p)
-sited nodes n size magnitude at (the.Transformer t) r p = (p.first, p.second, has_branches nodes n size magnitude at (the.Transformer t) (some_phases t.phases r.phases) p)
+sited nodes n size magnitude at (the.Transformer t) r p =
+    (p.first, p.second, has_branches nodes n size magnitude at (the.Transformer t) (some_phases t.phases r.phases) p)
 sited nodes n size magnitude at (the.Capacitor c) r p = p.first
 sited nodes n size magnitude at (the.Load l) r p = (p.first, load_magnitudes n size magnitude l p.magnitudes)
 sited nodes n size magnitude at (the.Linecode c) r p = tt

@@ -20,7 +20,9 @@ sum_at : (all : List Term) (row col : ℕ) (ts : List Term) → All (IsSmallAt a
 sum_at all row col [] h = inl refl
 sum_at all row col (t ∷ ts) h = by (stands_at row col t) refl (sum_at all row col ts (All-tail (IsSmallAt all) t ts h))
   where
-    by : (b : Bool) → stands_at row col t ≡ b → (linear_entry ts row col ≡ pos 0) ⊎ AreSmall (linear_entry all row col) → (linear_entry (t ∷ ts) row col ≡ pos 0) ⊎ AreSmall (linear_entry all row col)
+    by : (b : Bool) → stands_at row col t ≡ b
+        → (linear_entry ts row col ≡ pos 0) ⊎ AreSmall (linear_entry all row col)
+        → (linear_entry (t ∷ ts) row col ≡ pos 0) ⊎ AreSmall (linear_entry all row col)
     by true e (inr small) = inr small
     by true e (inl zero) =
         let both = and_parts (eqb t.row row) (eqb t.col col) e in

@@ -21,7 +21,8 @@ use Rattle.fd_network.specs.Collecting.{AreTakenFrom, IsTakenAt}
 counted : {A : Type 0} (xs : List A) (own others : ℕ) → length xs ≡ own + others → (own ≤ length xs) × (length (drop own xs) ≡ others)
 counted xs own others h = let left = length-drop own xs in (omega arith, omega arith)
 
-pub first_taken : (layout : LayoutView) (hertz place : ℕ) (e : ElementName × Element) (es : Elements) (s : Settings) → AreTakenFrom layout hertz place (e ∷ es) s → IsTakenAt layout hertz place e.1 s
+pub first_taken : (layout : LayoutView) (hertz place : ℕ) (e : ElementName × Element) (es : Elements) (s : Settings)
+    → AreTakenFrom layout hertz place (e ∷ es) s → IsTakenAt layout hertz place e.1 s
 first_taken layout hertz place e es s h = record {
   frequency = h.frequency;
   known = subst (HasPlace layout) (add-zero place) (h.places 0 (omega arith));
@@ -44,7 +45,8 @@ own_settings layout hertz place e s h = record {
   within = All-take AreTaps (tap_count e) s.taps h.within;
 }
 
-pub rest_taken : (layout : LayoutView) (hertz place : ℕ) (e : ElementName × Element) (es : Elements) (s : Settings) → AreTakenFrom layout hertz place (e ∷ es) s → AreTakenFrom layout hertz (place + 1) es (after e.1 s)
+pub rest_taken : (layout : LayoutView) (hertz place : ℕ) (e : ElementName × Element) (es : Elements) (s : Settings)
+    → AreTakenFrom layout hertz place (e ∷ es) s → AreTakenFrom layout hertz (place + 1) es (after e.1 s)
 rest_taken layout hertz place e es s h = record {
   frequency = h.frequency;
   places = λ k low. let at : place + suc k ≡ place + 1 + k = omega arith in subst (HasPlace layout) at (h.places (suc k) (omega arith));
@@ -69,7 +71,8 @@ pub record IsAt (layout : LayoutView) (hertz : ℕ) (es : Elements) (ds : List D
 pub here_from : {A : Type 0} (xs : List A) (k : ℕ) (x : A) (rest : List A) → drop k xs ≡ x ∷ rest → slice_get xs k ≡ Some x
 here_from xs k x rest h = sym (first_left xs k) ∙ ap (λ ys. slice_get ys 0) h
 
-module _ (layout : LayoutView) (hertz : ℕ) (es : Elements) (ds : List Device) (place : ℕ) (left : Settings) (e : ElementName × Element) (here : slice_get es place ≡ Some e) (at : IsAt layout hertz es ds place left) where
+module _ (layout : LayoutView) (hertz : ℕ) (es : Elements) (ds : List Device) (place : ℕ) (left : Settings)
+    (e : ElementName × Element) (here : slice_get es place ≡ Some e) (at : IsAt layout hertz es ds place left) where
   taken_here : AreTakenFrom layout hertz place (e ∷ drop (place + 1) es) left
   taken_here = subst (λ r. AreTakenFrom layout hertz place r left) (drop-more es place e here) at.taken
 
@@ -78,7 +81,9 @@ module _ (layout : LayoutView) (hertz : ℕ) (es : Elements) (ds : List Device) 
   taken_at = first_taken layout hertz place e (drop (place + 1) es) left taken_here
 
   -- its device is the next
-  pub device_next : drop place ds ≡ device_of layout hertz place e.1 (own e.1 left) ∷ devices_from layout hertz (place + 1) (drop (place + 1) es) (after e.1 left)
+  pub device_next : drop place ds
+      ≡ device_of layout hertz place e.1 (own e.1 left)
+      ∷ devices_from layout hertz (place + 1) (drop (place + 1) es) (after e.1 left)
   device_next = sym at.rest ∙ ap (λ r. devices_from layout hertz place r left) (drop-more es place e here)
 
   -- and the walk goes on
@@ -89,5 +94,8 @@ module _ (layout : LayoutView) (hertz : ℕ) (es : Elements) (ds : List Device) 
   }
 
 -- a walk begins
-pub begun_at : (layout : LayoutView) (hertz : ℕ) (es : Elements) (s left : Settings) → left ≡ s → AreTakenFrom layout hertz 0 es s → IsAt layout hertz es (devices_from layout hertz 0 es s) 0 left
-begun_at layout hertz es s left e h = subst (IsAt layout hertz es (devices_from layout hertz 0 es s) 0) (sym e) (record { taken = h; rest = λ i. devices_from layout hertz 0 es s })
+pub begun_at : (layout : LayoutView) (hertz : ℕ) (es : Elements) (s left : Settings) → left ≡ s
+    → AreTakenFrom layout hertz 0 es s → IsAt layout hertz es (devices_from layout hertz 0 es s) 0 left
+begun_at layout hertz es s left e h =
+    subst (IsAt layout hertz es (devices_from layout hertz 0 es s) 0) (sym e)
+    (record { taken = h; rest = λ i. devices_from layout hertz 0 es s })

@@ -45,23 +45,27 @@ pub stands_at : {A : Type 0} (xs : List A) (k : ℕ) (x : A) → k < length xs �
 stands_at xs k x l e = slice_get-get_or xs k x l ∙ ap Some (sym e)
 
 -- the places that one more device reaches
-pub places_more : (ds : List Device) (k : ℕ) (d : Device) (rest : List Device) (ps : List (ℕ × ℕ)) → drop k ds ≡ d ∷ rest → ps ≡ flat_map device_places (take k ds) → ps ++ device_places d ≡ flat_map device_places (take (k + 1) ds)
+pub places_more : (ds : List Device) (k : ℕ) (d : Device) (rest : List Device) (ps : List (ℕ × ℕ))
+    → drop k ds ≡ d ∷ rest → ps ≡ flat_map device_places (take k ds)
+    → ps ++ device_places d ≡ flat_map device_places (take (k + 1) ds)
 places_more ds k d rest ps h e =
     let one = append-nil (device_places d) in
     let more = ap (flat_map device_places) (take-more ds k d (here_from ds k d rest h)) ∙ flat_map-append device_places (take k ds) (d ∷ []) in
     sym (more ∙ (λ i. sym e i ++ one i))
 
 module _ (layout : LayoutView) (hertz : ℕ) (es : Elements) where
-  pub kept_next : (n : ℕ) (ks : List Kept) (e : ElementName × Element) (x : Kept) → AreKeptTo layout hertz es n ks → slice_get es n ≡ Some e → IsKeptOf layout hertz n e.1 x
-      → AreKeptTo layout hertz es (n + 1) (ks ++ x ∷ [])
+  pub kept_next : (n : ℕ) (ks : List Kept) (e : ElementName × Element) (x : Kept) → AreKeptTo layout hertz es n ks
+      → slice_get es n ≡ Some e → IsKeptOf layout hertz n e.1 x → AreKeptTo layout hertz es (n + 1) (ks ++ x ∷ [])
   kept_next n ks e x h here k = record {
     count = omega (arith, h.count, length-append ks (x ∷ []));
     each = λ m d y at there. by m d y at (either_part ks x y m there);
   }
     where
-      by : (m : ℕ) (d : ElementName × Element) (y : Kept) → slice_get es m ≡ Some d → (slice_get ks m ≡ Some y) ⊎ ((m ≡ length ks) × (y ≡ x)) → IsKeptOf layout hertz m d.1 y
+      by : (m : ℕ) (d : ElementName × Element) (y : Kept) → slice_get es m ≡ Some d
+          → (slice_get ks m ≡ Some y) ⊎ ((m ≡ length ks) × (y ≡ x)) → IsKeptOf layout hertz m d.1 y
       by m d y at (inl g) = h.each m d y at g
       by m d y at (inr g) =
           let same : m ≡ n = g.0 ∙ h.count in
           let d_is : d ≡ e = some_same d e (sym at ∙ ap (slice_get es) same ∙ here) in
-          subst (λ q. IsKeptOf layout hertz q d.1 y) (sym same) (subst (λ q. IsKeptOf layout hertz n q.1 y) (sym d_is) (subst (IsKeptOf layout hertz n e.1) (sym g.1) k))
+          subst (λ q. IsKeptOf layout hertz q d.1 y) (sym same)
+          (subst (λ q. IsKeptOf layout hertz n q.1 y) (sym d_is) (subst (IsKeptOf layout hertz n e.1) (sym g.1) k))

@@ -257,7 +257,9 @@ fn assembled(
     ensures fault { IfErr result (λ f. IsFaultOf (range_blame circuit.now.elements (devices_of circuit.now (settings_of at.now powers.now))) f) }
     ensures size { IfOk result (λ a. a.parts.rows.size ≡ size_of layout.now) }
     ensures kept { IfOk result (λ a. AreKept (layout_of circuit.now.elements) circuit.now.options.defaultbasefrequency circuit.now.elements a.kept.items) }
-    ensures reach { IfOk result (λ a. Reaches (layout_of circuit.now.elements) circuit.now.options.defaultbasefrequency circuit.now.elements a.parts.rows.places) }
+    ensures reach { IfOk result (λ a.
+        Reaches (layout_of circuit.now.elements) circuit.now.options.defaultbasefrequency circuit.now.elements
+        a.parts.rows.places) }
     ensures room { IfOk result (λ a. a.room ≡ room_for circuit.now.elements) }
     ensures roomy { IfOk result (λ a. HaveRoom a.room a.parts a.lists) }
 {

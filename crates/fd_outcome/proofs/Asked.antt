@@ -33,9 +33,10 @@ module _ (style : Style) (fits : AsksNames style) where
 
   -- ---- what is done of it
 
-  module _ {L S : Type 0} (faults : L → ℕ) (asked_of : L → Option (List (List ℕ))) (taken : S → Option (List ℕ)) (calls : S → Option ℕ)
-      (good : Settle → Type 0) (P : History → Type 0) (n : List ℕ) (more : History) (is : P (before (asked n ∷ []) more)) (all_good : AllSettles good more.events)
-      (lib_old lib_new : L) (begun : Bool) where
+  module _ {L S : Type 0} (faults : L → ℕ) (asked_of : L → Option (List (List ℕ))) (taken : S → Option (List ℕ))
+      (calls : S → Option ℕ) (good : Settle → Type 0) (P : History → Type 0) (n : List ℕ) (more : History)
+      (is : P (before (asked n ∷ []) more)) (all_good : AllSettles good more.events) (lib_old lib_new : L)
+      (begun : Bool) where
     abbrev Ends : S → S → ℕ → Type 0
     Ends old new code = Finishes style good P faults asked_of taken calls lib_old lib_new old new begun code
 
@@ -60,7 +61,9 @@ module _ (style : Style) (fits : AsksNames style) where
       fails = None;
       cause = inl refl;
       made = made_after (reads n ∷ []) p.made;
-      done = done_after (reads n ∷ []) (last_calls style begun more.events more.end) (last_calls style begun (asked n ∷ more.events) more.end) more.end code p.made (last_asked n begun more.events more.end) p.done;
+      done = done_after (reads n ∷ []) (last_calls style begun more.events more.end)
+          (last_calls style begun (asked n ∷ more.events) more.end) more.end code p.made
+          (last_asked n begun more.events more.end) p.done;
       all_good = All-cons (IfSettle good) (asked n) more.events tt all_good;
       sees = record { names = grown_by p.made p.wrote.names grown; bytes = p.wrote.bytes_are; writes = p.wrote.writes_are };
     }
@@ -93,8 +96,10 @@ module _ (style : Style) (fits : AsksNames style) where
       fails = Some 0;
       cause = inr rose;
       made = made_after (reads n ∷ []) p.made;
-      done = subst (λ (l : List Call). IsDone (read_failing 0 l more.end) code (made_after (reads n ∷ []) p.made)) (sym (last_asked n begun more.events more.end))
-          (done_after (reads n ∷ []) (writes (fault_text (fault.Read n)) ∷ []) (reads n ∷ writes (fault_text (fault.Read n)) ∷ []) (Some (fault.Read n)) code p.made refl p.done);
+      done = subst (λ (l : List Call). IsDone (read_failing 0 l more.end) code (made_after (reads n ∷ []) p.made))
+          (sym (last_asked n begun more.events more.end))
+          (done_after (reads n ∷ []) (writes (fault_text (fault.Read n)) ∷ [])
+          (reads n ∷ writes (fault_text (fault.Read n)) ∷ []) (Some (fault.Read n)) code p.made refl p.done);
       all_good = All-cons (IfSettle good) (asked n) more.events tt all_good;
       sees = record { names = grown_by p.made p.wrote.names grown; bytes = p.wrote.bytes_are; writes = p.wrote.writes_are };
     }

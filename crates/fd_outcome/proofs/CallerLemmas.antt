@@ -46,7 +46,9 @@ module _ {T : Type 0} (is_step : Command → T → Step T → Type 0) (last_name
     {L S : Type 0} (faults : L → ℕ) (asked_of : L → Option (List (List ℕ))) (taken : S → Option (List ℕ)) (calls : S → Option ℕ)
     (p : Point T) (lib_first : L) (out_first : S) where
   abbrev pub WayAt : List Said → ScriptEnd → T → L → S → Type 0
-  WayAt left end s lib out = Way is_step last_name is_last good held asked_of taken calls style p lib_first out_first (record { left = left; end = end; state = s }) lib out
+  WayAt left end s lib out =
+      Way is_step last_name is_last good held asked_of taken calls style p lib_first out_first
+      (record { left = left; end = end; state = s }) lib out
 
   pub record At (begun : Bool) (left : List Said) (end : ScriptEnd) (s : T) (lib : L) (out : S) : Type 0 where
     pub way : WayAt left end s lib out
@@ -87,9 +89,15 @@ module _ {T : Type 0} (is_step : Command → T → Step T → Type 0) (last_name
         → Becomes (asked_of lib) (asked_of lib_new) (λ before. before ++ map bytes names)
         → At begun more end s lib_new out
     at_names begun names more end s lib lib_new out a grown = record {
-      way = goes_on is_step last_name is_last good held faults asked_of taken calls style p (record { left = map name names ++ more; end = end; state = s }) (record { left = more; end = end; state = s })
-          lib_first lib lib_new out_first out out (map asked names) a.way (names_lead is_step last_name is_last good held faults asked_of taken calls style names more end s) (names_good good names)
-          (sees_as asked_of taken calls lib lib_new out out _ _ (sym (reads_alone style fits (has_text (body style a.way.events)) names)) (sees_names asked_of taken calls lib lib_new out names grown));
+      way = goes_on is_step last_name is_last good held faults asked_of taken calls style p (record {
+        left = map name names ++ more;
+        end = end;
+        state = s;
+      }) (record { left = more; end = end; state = s }) lib_first lib lib_new out_first out out (map asked names)
+          a.way (names_lead is_step last_name is_last good held faults asked_of taken calls style names more end s)
+          (names_good good names) (sees_as asked_of taken calls lib lib_new out out _ _
+          (sym (reads_alone style fits (has_text (body style a.way.events)) names))
+          (sees_names asked_of taken calls lib lib_new out names grown));
       begun_is = a.begun_is ∙ sym (still style fits a.way.events names);
     }
 
@@ -103,9 +111,14 @@ module _ {T : Type 0} (is_step : Command → T → Step T → Type 0) (last_name
         → At begun (command c ∷ more) end s lib out
         → GoesOn style good (is_step c s) t taken calls out out_new begun now → At now more end t lib out_new
     at_command begun now c more end s t lib out out_new a g = record {
-      way = goes_on is_step last_name is_last good held faults asked_of taken calls style p (record { left = command c ∷ more; end = end; state = s }) (record { left = more; end = end; state = t })
-          lib_first lib lib out_first out out_new g.events a.way (does_command is_step last_name is_last held c more end s t g.events g.right) g.all_good
-          (sees_wrote lib out out_new _ (subst (λ b. Wrote taken calls out out_new (whole (behind style b g.events))) a.begun_is g.wrote));
+      way = goes_on is_step last_name is_last good held faults asked_of taken calls style p (record {
+        left = command c ∷ more;
+        end = end;
+        state = s;
+      }) (record { left = more; end = end; state = t }) lib_first lib lib out_first out out_new g.events a.way
+          (does_command is_step last_name is_last held c more end s t g.events g.right) g.all_good
+          (sees_wrote lib out out_new _
+          (subst (λ b. Wrote taken calls out out_new (whole (behind style b g.events))) a.begun_is g.wrote));
       begun_is = g.begun_is ∙ ap (λ b. b || has_text (body style g.events)) a.begun_is
           ∙ sym (ap has_text (body-append style a.way.events g.events) ∙ has_text-append (body style a.way.events) (body style g.events));
     }
@@ -124,8 +137,21 @@ module _ {T : Type 0} (is_step : Command → T → Step T → Type 0) (last_name
 
     longer : (a rest : List Call) (code : ℕ) (m : Made) → IsFrontOf a code m → IsFrontOf (a ++ rest) code m
     longer a rest code m is = elim is [
-      | inl x ↦ inl (record { rest = x.rest ++ rest; calls = ap (λ l. l ++ rest) x.calls ∙ append_assoc m.calls x.rest rest; torn = x.torn; status_is = x.status_is })
-      | inr x ↦ inr (record { text = x.text; rest = x.rest ++ rest; calls = ap (λ l. l ++ rest) x.calls ∙ append_assoc m.calls (writes x.text ∷ x.rest) rest; front = x.front; torn = x.torn; cut = x.cut; status_is = x.status_is })
+      | inl x ↦ inl (record {
+        rest = x.rest ++ rest;
+        calls = ap (λ l. l ++ rest) x.calls ∙ append_assoc m.calls x.rest rest;
+        torn = x.torn;
+        status_is = x.status_is;
+      })
+      | inr x ↦ inr (record {
+        text = x.text;
+        rest = x.rest ++ rest;
+        calls = ap (λ l. l ++ rest) x.calls ∙ append_assoc m.calls (writes x.text ∷ x.rest) rest;
+        front = x.front;
+        torn = x.torn;
+        cut = x.cut;
+        status_is = x.status_is;
+      })
     ]
 
     -- cut short behind some of the events of a history that goes on
@@ -138,9 +164,11 @@ module _ {T : Type 0} (is_step : Command → T → Step T → Type 0) (last_name
         let t = has_text (body style w.events) in
         let f = split_at w.events shown hidden h.end in
         let g = split_at w.events shown [] None in
-        ended_at is_step last_name is_last good held faults asked_of taken calls style p (record { left = left; end = end; state = s }) lib_first lib lib_new out_first out out_new h
-        (behind style t shown ++ f.0) code m w is (ap (λ l. calls_of style (w.events ++ l) h.end) events_are ∙ f.1) (inr (longer (behind style t shown) f.0 code m front))
-        shown hidden None (behind style t shown ++ g.0) events_are all (ap (λ l. calls_of style (w.events ++ l) None) (sym (append-nil shown)) ∙ g.1)
+        ended_at is_step last_name is_last good held faults asked_of taken calls style p
+        (record { left = left; end = end; state = s }) lib_first lib lib_new out_first out out_new h
+        (behind style t shown ++ f.0) code m w is (ap (λ l. calls_of style (w.events ++ l) h.end) events_are ∙ f.1)
+        (inr (longer (behind style t shown) f.0 code m front)) shown hidden None (behind style t shown ++ g.0)
+        events_are all (ap (λ l. calls_of style (w.events ++ l) None) (sym (append-nil shown)) ∙ g.1)
         (inr (longer (behind style t shown) g.0 code m front)) sees
 
     -- ended with a fault behind these events
@@ -151,15 +179,19 @@ module _ {T : Type 0} (is_step : Command → T → Step T → Type 0) (last_name
         → Sees asked_of taken calls lib lib_new out out_new m → RunsTo lib_new out_new code
     fault_at left end s lib lib_new out out_new events f code m w is all done sees =
         let last = writes (fault_text f) ∷ [] in
-        let calls_are : calls_of style (w.events ++ events) (Some f) ≡ so_far style w.events ++ (behind style (has_text (body style w.events)) events ++ last) =
-        ap (λ l. l ++ last) (append_is style w.events events) ∙ append_assoc (so_far style w.events) (behind style (has_text (body style w.events)) events) last in
-        ended_at is_step last_name is_last good held faults asked_of taken calls style p (record { left = left; end = end; state = s }) lib_first lib lib_new out_first out out_new (ended events f)
-        (behind style (has_text (body style w.events)) events ++ last) code m w is calls_are done
-        events [] (Some f) (behind style (has_text (body style w.events)) events ++ last) (sym (append-nil events)) all calls_are done sees
+        let calls_are : calls_of style (w.events ++ events) (Some f)
+        ≡ so_far style w.events ++ (behind style (has_text (body style w.events)) events ++ last) =
+        ap (λ l. l ++ last) (append_is style w.events events)
+        ∙ append_assoc (so_far style w.events) (behind style (has_text (body style w.events)) events) last in
+        ended_at is_step last_name is_last good held faults asked_of taken calls style p
+        (record { left = left; end = end; state = s }) lib_first lib lib_new out_first out out_new (ended events f)
+        (behind style (has_text (body style w.events)) events ++ last) code m w is calls_are done events [] (Some f)
+        (behind style (has_text (body style w.events)) events ++ last) (sym (append-nil events)) all calls_are done
+        sees
 
-    pub ends_refused : (begun : Bool) (left : List Said) (end : ScriptEnd) (s : T) (lib lib_new : L) (out out_new : S) (place : Place) (c : ScriptCause) (code : ℕ)
-        → At begun left end s lib out
-        → Asked left [] (asked_of lib) (asked_of lib_new) × (end ≡ refused_at place c)
+    pub ends_refused : (begun : Bool) (left : List Said) (end : ScriptEnd) (s : T) (lib lib_new : L) (out out_new : S)
+        (place : Place) (c : ScriptCause) (code : ℕ)
+        → At begun left end s lib out → Asked left [] (asked_of lib) (asked_of lib_new) × (end ≡ refused_at place c)
         → Printed taken calls out out_new (fault_doing (fault.Script place (cause.Script c))) code
         → RunsTo lib_new out_new code
     ends_refused begun left end s lib lib_new out out_new place c code a r printed =
@@ -177,8 +209,10 @@ module _ {T : Type 0} (is_step : Command → T → Step T → Type 0) (last_name
         let b = at_asked begun left c.rest end s lib lib_new out a c.asked in
         let one = goes_from c.rest end s in
         let F : List Call → Type 0 = λ l. IsFrontOf l 1 (whole []) in
-        cut_at c.rest end s lib_new lib_new out out one.some [] one.some.events 1 (whole []) b.way one.is refl (All-nil (IfSettle good))
-        (subst F (sym (nothing_behind style (has_text (body style b.way.events)))) (inl (record { rest = []; calls = refl; torn = refl; status_is = refl }))) (sees_nothing asked_of taken calls lib_new out)
+        cut_at c.rest end s lib_new lib_new out out one.some [] one.some.events 1 (whole []) b.way one.is refl
+        (All-nil (IfSettle good)) (subst F (sym (nothing_behind style (has_text (body style b.way.events))))
+        (inl (record { rest = []; calls = refl; torn = refl; status_is = refl })))
+        (sees_nothing asked_of taken calls lib_new out)
 
     -- memory runs out before anything is asked
     pub ends_first : (left : List Said) (end : ScriptEnd) (s : T) → p ≡ record { left = left; end = end; state = s }
@@ -200,11 +234,13 @@ module _ {T : Type 0} (is_step : Command → T → Step T → Type 0) (last_name
         let all = r.names ++ unread ∷ [] in
         let e : map reads all ≡ map reads r.names ++ reads unread ∷ [] = map-append reads r.names (unread ∷ []) in
         let last = writes (fault_text (fault.Read unread)) ∷ [] in
-        let f : (map reads r.names ++ reads unread ∷ last) ≡ map reads all ++ last = sym (ap (λ l. l ++ last) e ∙ append_assoc (map reads r.names) (reads unread ∷ []) last) in
-        ended_at_read is_step last_name is_last good held faults asked_of taken calls style p lib_first lib lib_new out_first out out_new fits r.names unread r.more end s one.some code
-        (made_after (map reads all) printed.made) w one.is rose
-        (done_after (map reads all) last _ (Some (fault.Read unread)) code printed.made f printed.done)
-        (sees_then asked_of taken calls lib lib_new lib_new out out out_new (map reads all) printed.made (sees_names asked_of taken calls lib lib_new out all r.grown)
+        let f : (map reads r.names ++ reads unread ∷ last) ≡ map reads all ++ last =
+        sym (ap (λ l. l ++ last) e ∙ append_assoc (map reads r.names) (reads unread ∷ []) last) in
+        ended_at_read is_step last_name is_last good held faults asked_of taken calls style p lib_first lib lib_new
+        out_first out out_new fits r.names unread r.more end s one.some code (made_after (map reads all) printed.made)
+        w one.is rose (done_after (map reads all) last _ (Some (fault.Read unread)) code printed.made f printed.done)
+        (sees_then asked_of taken calls lib lib_new lib_new out out out_new (map reads all) printed.made
+        (sees_names asked_of taken calls lib lib_new out all r.grown)
         (sees_wrote lib_new out out_new printed.made printed.wrote))
 
     -- ---- ends at a command
@@ -233,7 +269,8 @@ module _ {T : Type 0} (is_step : Command → T → Step T → Type 0) (last_name
       events_are = sym (append-nil events);
     }
 
-    cut_in_step : (c : Command) (more : List Said) (end : ScriptEnd) (s : T) (lib : L) (out out_new : S) (step : Step T) (shown hidden : List Event) (code : ℕ) (m : Made)
+    cut_in_step : (c : Command) (more : List Said) (end : ScriptEnd) (s : T) (lib : L) (out out_new : S)
+        (step : Step T) (shown hidden : List Event) (code : ℕ) (m : Made)
         → is_step c s step
         → (w : WayAt (command c ∷ more) end s lib out) → events_in step ≡ shown ++ hidden → AllSettles good shown
         → IsFrontOf (behind style (has_text (body style w.events)) shown) code m
@@ -251,7 +288,8 @@ module _ {T : Type 0} (is_step : Command → T → Step T → Type 0) (last_name
     end_of_step c more end s lib out out_new (goes events t) code m right w all done wrote =
         cut_in_step c more end s lib out out_new (goes events t) events [] code m right w (sym (append-nil events)) all done wrote
     end_of_step c more end s lib out out_new (ends events f) code m right w all done wrote =
-        fault_at (command c ∷ more) end s lib lib out out_new events f code m w (record { step = ends events f; right = right; goes_on = refl }) all done (sees_wrote lib out out_new m wrote)
+        fault_at (command c ∷ more) end s lib lib out out_new events f code m w
+        (record { step = ends events f; right = right; goes_on = refl }) all done (sees_wrote lib out out_new m wrote)
 
     pub ends_command : (begun : Bool) (c : Command) (more : List Said) (end : ScriptEnd) (s : T) (lib : L) (out out_new : S) (code : ℕ)
         → At begun (command c ∷ more) end s lib out
@@ -276,7 +314,8 @@ module _ {T : Type 0} (is_step : Command → T → Step T → Type 0) (last_name
         ∙ ap (opened style.opening) (append_assoc (body style a) (body style events) (map writes style.closing))
         ∙ opened-append style.opening (body style a) (body style events ++ map writes style.closing)
     last_behind a events (Some f) =
-        ap (λ l. l ++ writes (fault_text f) ∷ []) (append_is style a events) ∙ append_assoc (so_far style a) (behind style (has_text (body style a)) events) (writes (fault_text f) ∷ [])
+        ap (λ l. l ++ writes (fault_text f) ∷ []) (append_is style a events)
+        ∙ append_assoc (so_far style a) (behind style (has_text (body style a)) events) (writes (fault_text f) ∷ [])
 
     pub ends_finished : (begun : Bool) (left : List Said) (end : ScriptEnd) (s : T) (lib mid lib_new : L) (out out_new : S) (code : ℕ)
         → At begun left end s lib out
@@ -294,9 +333,13 @@ module _ {T : Type 0} (is_step : Command → T → Step T → Type 0) (last_name
         let cut : failing k (doing style (before w.events f.history)) ≡ called_all start (failing f.fails (record { calls = rest; end = f.history.end })) =
         ap (failing k) split ∙ failing_behind start f.fails rest f.history.end in
         let ours : IsDone (failing f.fails (record { calls = rest; end = f.history.end })) code f.made =
-        subst (λ b. IsDone (failing f.fails (record { calls = last_calls style b f.history.events f.history.end; end = f.history.end })) code f.made) a.begun_is f.done in
+        subst (λ b. IsDone (failing f.fails (record {
+          calls = last_calls style b f.history.events f.history.end;
+          end = f.history.end;
+        })) code f.made) a.begun_is f.done in
         let d = failing f.fails (record { calls = rest; end = f.history.end }) in
-        let is_end : IsHistory is_step last_name is_last held [] end s f.history = subst (λ x. IsHistory is_step last_name is_last held [] x s f.history) (sym finished.1) f.right in
+        let is_end : IsHistory is_step last_name is_last held [] end s f.history =
+        subst (λ x. IsHistory is_step last_name is_last held [] x s f.history) (sym finished.1) f.right in
         let all_done : IsDone (failing k (doing style (before w.events f.history))) code (made_after start f.made) =
         subst (λ (x : Doing). IsDone x code (made_after start f.made)) (sym cut) (done_after start d.calls (start ++ d.calls) d.end code f.made refl ours) in
         record {
@@ -350,12 +393,16 @@ module _ {S : Type 0} (taken : S → Option (List ℕ)) (calls : S → Option �
       → EndsAtFault taken calls old new code
   fault_last old new made m f code e none is wrote =
       let w : Wrote taken calls old new (whole (made ++ writes (fault_text f) ∷ [])) =
-      subst (λ (x : Made). Wrote taken calls old new x) (ap (λ l. (let x : Made = record { calls = l; torn = m.torn } in x)) e ∙ ap (λ t. (let x : Made = record { calls = made ++ writes (fault_text f) ∷ []; torn = t } in x)) none) wrote in
+      subst (λ (x : Made). Wrote taken calls old new x)
+      (ap (λ l. (let x : Made = record { calls = l; torn = m.torn } in x)) e
+      ∙ ap (λ t. (let x : Made = record { calls = made ++ writes (fault_text f) ∷ []; torn = t } in x)) none)
+      wrote in
       record {
         which = f;
         code_is = is;
         texts = texts_written made;
-        takes = subst (λ l. Takes taken calls old new l) (texts-append made (writes (fault_text f) ∷ [])) (takes_wrote taken calls old new (made ++ writes (fault_text f) ∷ []) w);
+        takes = subst (λ l. Takes taken calls old new l) (texts-append made (writes (fault_text f) ∷ []))
+            (takes_wrote taken calls old new (made ++ writes (fault_text f) ∷ []) w);
       }
 
   done_answers : (old new : S) (made : List Call) (f : Fault) (code : ℕ) (m : Made)
@@ -403,7 +450,8 @@ module _ {S : Type 0} (taken : S → Option (List ℕ)) (calls : S → Option �
       which = e.which;
       code_is = e.code_is;
       texts = texts ++ e.texts;
-      takes = subst (λ l. Takes taken calls old new l) (sym (append_assoc texts e.texts (fault_text e.which ∷ []))) (takes_then taken calls old mid new texts (e.texts ++ fault_text e.which ∷ []) takes e.takes);
+      takes = subst (λ l. Takes taken calls old new l) (sym (append_assoc texts e.texts (fault_text e.which ∷ [])))
+          (takes_then taken calls old mid new texts (e.texts ++ fault_text e.which ∷ []) takes e.takes);
     })
   ]
 
@@ -413,7 +461,8 @@ module _ {S : Type 0} (taken : S → Option (List ℕ)) (calls : S → Option �
 
   pub takes_more : (old mid new : S) (texts : List (List ℕ)) (made : List Call) → Takes taken calls old mid texts
       → Wrote taken calls mid new (whole made) → Takes taken calls old new (texts ++ texts_written made)
-  takes_more old mid new texts made takes wrote = takes_then taken calls old mid new texts (texts_written made) takes (takes_wrote taken calls mid new made wrote)
+  takes_more old mid new texts made takes wrote =
+      takes_then taken calls old mid new texts (texts_written made) takes (takes_wrote taken calls mid new made wrote)
 
   -- ---- the record of a failed read is the last
 
@@ -423,15 +472,17 @@ module _ {S : Type 0} (taken : S → Option (List ℕ)) (calls : S → Option �
   read_record : (old new : S) (n : List ℕ) (code : ℕ) → Printed taken calls old new (fault_doing (fault.Read n)) code
       → code ≡ 4 → IsRecord old new (fault.Read n)
   read_record old new n code p four = elim p.done [
-    | inl all ↦ (
-        let w : Wrote taken calls old new (whole (writes (fault_text (fault.Read n)) ∷ [])) =
-        subst (λ (x : Made). Wrote taken calls old new x) (ap (λ l. (let x : Made = record { calls = l; torn = p.made.torn } in x)) all.calls ∙ ap (λ t. (let x : Made = record { calls = writes (fault_text (fault.Read n)) ∷ []; torn = t } in x)) all.torn) p.wrote in
-        record { takes = takes_wrote taken calls old new (writes (fault_text (fault.Read n)) ∷ []) w }
-        )
+    | inl all ↦ (let w : Wrote taken calls old new (whole (writes (fault_text (fault.Read n)) ∷ [])) =
+        subst (λ (x : Made). Wrote taken calls old new x)
+        (ap (λ l. (let x : Made = record { calls = l; torn = p.made.torn } in x)) all.calls
+        ∙ ap (λ t. (let x : Made = record { calls = writes (fault_text (fault.Read n)) ∷ []; torn = t } in x))
+        all.torn) p.wrote in
+        record { takes = takes_wrote taken calls old new (writes (fault_text (fault.Read n)) ∷ []) w })
     | inr front ↦ absurd (not_cut code four (cut_code _ code p.made front))
   ]
 
-  pub ends_at_read : {L : Type 0} (asked_of : L → Option (List (List ℕ))) (lib_old mid lib_new : L) (old now new : S) (texts : List (List ℕ)) (n : List ℕ) (code : ℕ)
+  pub ends_at_read : {L : Type 0} (asked_of : L → Option (List (List ℕ))) (lib_old mid lib_new : L) (old now new : S)
+      (texts : List (List ℕ)) (n : List ℕ) (code : ℕ)
       → GrowsSome (asked_of lib_old) (asked_of mid) → GrowsLast (asked_of mid) (asked_of lib_new) n
       → Takes taken calls old now texts → Printed taken calls now new (fault_doing (fault.Read n)) code → code ≡ 4
       → EndsAtRead asked_of lib_old lib_new taken calls old new
@@ -513,7 +564,8 @@ module _ {L S : Type 0} (faults : L → ℕ) (asked_of : L → Option (List (Lis
   untold_read lib_old lib lib_new old now new n code shown grows last printed rose write = record {
     answers = inr (fault_behind taken calls old now new shown.texts code shown.takes (fault_answers taken calls now new (fault.Read n) code printed));
     grows = grows_then (asked_of lib_old) (asked_of lib) (asked_of lib_new) shown.grows grows;
-    usage = not_status (fault.Read n) code 2 (λ e. omega (arith, e)) (λ e. omega (arith, e)) (λ e. omega (arith, e)) (fault_code taken calls now new (fault.Read n) code printed);
+    usage = not_status (fault.Read n) code 2 (λ e. omega (arith, e)) (λ e. omega (arith, e)) (λ e. omega (arith, e))
+        (fault_code taken calls now new (fault.Read n) code printed);
     read = λ four. rose;
     last = λ four. ends_at_read taken calls asked_of lib_old lib lib_new old now new shown.texts n code shown.grows last shown.takes printed four;
     write = write;
@@ -622,10 +674,12 @@ module _ {L S : Type 0} (faults : L → ℕ) (asked_of : L → Option (List (Lis
 
 module _ {L S : Type 0} (faults : L → ℕ) (asked_of : L → Option (List (List ℕ))) (taken : S → Option (List ℕ))
     (calls : S → Option ℕ) where
-  pub run_due : (is_history : History → Type 0) (style : Style) (good : Settle → Type 0) (lib_old lib_new : L) (old new : S) (code : ℕ) (one : ExactlyOne is_history)
+  pub run_due : (is_history : History → Type 0) (style : Style) (good : Settle → Type 0) (lib_old lib_new : L)
+      (old new : S) (code : ℕ) (one : ExactlyOne is_history)
       → Runs faults asked_of taken calls lib_old lib_new old new is_history style good code
       → IsDue one.some.end code (faults lib_old) (faults lib_new)
-  run_due is_history style good lib_old lib_new old new code one runs = due_of faults asked_of taken calls is_history style good lib_old lib_new old new code one runs
+  run_due is_history style good lib_old lib_new old new code one runs =
+      due_of faults asked_of taken calls is_history style good lib_old lib_new old new code one runs
 
 -- ---- a fault alone
 
@@ -652,7 +706,8 @@ module _ {L S : Type 0} (faults : L → ℕ) (asked_of : L → Option (List (Lis
 -- ---- exactly one
 
 -- there is exactly one history, where each command comes to exactly one thing and so does the end
-pub exactly_one_history : {S : Type 0} (is_step : Command → S → Step S → Type 0) (last_name : S → Option (List ℕ)) (is_last : S → Option (List ℕ) → History → Type 0)
+pub exactly_one_history : {S : Type 0} (is_step : Command → S → Step S → Type 0) (last_name : S → Option (List ℕ))
+    (is_last : S → Option (List ℕ) → History → Type 0)
     → HistoryLaw is_step last_name is_last
 exactly_one_history is_step last_name is_last = one_history is_step last_name is_last
 

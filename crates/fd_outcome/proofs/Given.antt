@@ -66,7 +66,11 @@ module _ (law : SaidLaw) (files : Files) where
   }
   gives_next script state old new (Err session.Ended) tells asks = record {
     rest = said_in script;
-    asked = record { names = []; left_is = refl; grown = subst (λ n. Becomes old n (λ ns. ns ++ [])) (sym asks) (becomes_same old _ (λ ns. sym (append-nil ns))) };
+    asked = record {
+      names = [];
+      left_is = refl;
+      grown = subst (λ n. Becomes old n (λ ns. ns ++ [])) (sym asks) (becomes_same old _ (λ ns. sym (append-nil ns)));
+    };
   }
 
 -- ---- writes
@@ -150,7 +154,8 @@ reads_after names None = None
 reads_after names (Some n) = Some (length names + n)
 
 pub failing_behind : (a : List Call) (fails : Option ℕ) (rest : List Call) (end : Option Fault)
-    → failing (reads_after (names_read a) fails) (called_all a (record { calls = rest; end = end })) ≡ called_all a (failing fails (record { calls = rest; end = end }))
+    → failing (reads_after (names_read a) fails) (called_all a (record { calls = rest; end = end }))
+    ≡ called_all a (failing fails (record { calls = rest; end = end }))
 failing_behind a None rest end = refl
 failing_behind a (Some n) rest end = read_behind a n (length (names_read a) + n) rest end refl
 
@@ -160,4 +165,7 @@ rose_since first mid now le rose = omega (arith, le, rose)
 pub cause_after : (first mid now : ℕ) (names : List (List ℕ)) (fails : Option ℕ) → first ≤ mid
     → HasReadCause mid now fails → HasReadCause first now (reads_after names fails)
 cause_after first mid now names None le cause = inl refl
-cause_after first mid now names (Some n) le cause = elim cause [ inl none ↦ absurd (let e : Some n ≡ None = none in cc e) | inr rose ↦ inr (rose_since first mid now le rose) ]
+cause_after first mid now names (Some n) le cause = elim cause [
+  | inl none ↦ absurd (let e : Some n ≡ None = none in cc e)
+  | inr rose ↦ inr (rose_since first mid now le rose)
+]

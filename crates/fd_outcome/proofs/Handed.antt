@@ -27,7 +27,9 @@ module _ {S : Type 0} (taken : S → Option (List ℕ)) (calls : S → Option �
   wrote_texts old new texts torn bytes_are writes_are = record {
     names = names_of_writes texts;
     bytes_are = subst (λ l. Becomes (taken old) (taken new) (λ bs. bs ++ (concat l ++ torn_bytes torn))) (sym (texts_of_writes texts)) bytes_are;
-    writes_are = subst (λ (l : List (List ℕ)). Becomes (calls old) (calls new) (λ n. n + (length l + torn_writes torn))) (sym (texts_of_writes texts)) writes_are;
+    writes_are =
+        subst (λ (l : List (List ℕ)). Becomes (calls old) (calls new) (λ n. n + (length l + torn_writes torn)))
+        (sym (texts_of_writes texts)) writes_are;
   }
 
   pub wrote_all : (old new : S) (texts : List (List ℕ)) → Takes taken calls old new texts

@@ -71,7 +71,9 @@ module _ {S : Type 0} (is_step : Command → S → Step S → Type 0) (last_name
         → ExactlyOne (IsHistory is_step last_name is_last held said end s)
     one_from [] end s = one_end end s
     one_from (name n ∷ more) end s = one_after (asked n ∷ []) (λ x. IsHistory is_step last_name is_last held more end s x) (one_from more end s)
-    one_from (command c ∷ more) end s = one_command (λ step. is_step c s step) (λ t x. IsHistory is_step last_name is_last held more end t x) (steps c s) (λ t. one_from more end t)
+    one_from (command c ∷ more) end s =
+        one_command (λ step. is_step c s step) (λ t x. IsHistory is_step last_name is_last held more end t x)
+        (steps c s) (λ t. one_from more end t)
 
   pub one_history : HistoryLaw is_step last_name is_last
   one_history steps lasts held said end s = one_from steps lasts held said end s
@@ -83,7 +85,9 @@ module _ {S : Type 0} (is_step : Command → S → Step S → Type 0) (last_name
         → IsFrom is_step last_name is_last held p (before a (before b h))
         → IsFrom is_step last_name is_last held p (before (a ++ b) h)
     joined p a b h is =
-        subst (λ (events : List Event). let x : History = record { events = events; end = h.end } in IsFrom is_step last_name is_last held p x) (sym (append_assoc a b h.events)) is
+        subst (λ (events : List Event).
+        let x : History = record { events = events; end = h.end } in IsFrom is_step last_name is_last held p x)
+        (sym (append_assoc a b h.events)) is
 
     abbrev At : List Said → ScriptEnd → S → Point S
     At left end s = record { left = left; end = end; state = s }

@@ -90,7 +90,15 @@ read_by n (writes text ∷ calls) end = elim (read_by n calls end) [
     end_now = r.end_now;
   })
 ]
-read_by zero (reads name ∷ calls) end = inr (record { front = []; name = name; rest = calls; calls = refl; reads_before = refl; calls_now = refl; end_now = refl })
+read_by zero (reads name ∷ calls) end = inr (record {
+  front = [];
+  name = name;
+  rest = calls;
+  calls = refl;
+  reads_before = refl;
+  calls_now = refl;
+  end_now = refl;
+})
 read_by (suc n) (reads name ∷ calls) end = elim (read_by n calls end) [
   | inl same ↦ inl (ap (called_first (reads name)) same)
   | inr r ↦ inr (record {
@@ -142,7 +150,8 @@ all_cut d status m a =
 
 short_cut : (d : Doing) (status : ℕ) (m : Made) → IsShort d.calls status m → IsCut d status m
 short_cut d status m a = record {
-  is_front = front_with (texts_written d.calls) (texts_written m.calls) (texts_written a.rest) m.torn (ap texts_written a.calls ∙ texts-append m.calls a.rest) a.torn;
+  is_front = front_with (texts_written d.calls) (texts_written m.calls) (texts_written a.rest) m.torn
+      (ap texts_written a.calls ∙ texts-append m.calls a.rest) a.torn;
   names = rest_names d m.calls a.rest a.calls;
   answers = inr (inl a.status_is);
   whole = λ h. a.torn;
@@ -153,7 +162,9 @@ torn_cut d status m a =
     let xs = texts_written m.calls in
     let e : texts_written d.calls ≡ xs ++ a.text ∷ texts_written a.rest = ap texts_written a.calls ∙ texts-append m.calls (writes a.text ∷ a.rest) in
     record {
-      is_front = subst (λ t. FrontAt (texts_written d.calls) xs t) (sym a.torn) (subst (λ l. FrontAt l xs (Some a.front)) (sym e) (torn_front xs a.text (texts_written a.rest) a.front a.cut.begins));
+      is_front = subst (λ t. FrontAt (texts_written d.calls) xs t) (sym a.torn)
+          (subst (λ l. FrontAt l xs (Some a.front)) (sym e)
+          (torn_front xs a.text (texts_written a.rest) a.front a.cut.begins));
       names = rest_names d m.calls (writes a.text ∷ a.rest) a.calls;
       answers = inr (inr a.status_is);
       whole = λ h. absurd (h a.status_is);
@@ -239,10 +250,12 @@ is_due end code before now at = record { is_due = at; complete = completes end c
 
 module _ {L S : Type 0} (faults : L → ℕ) (asked : L → Option (List (List ℕ))) (taken : S → Option (List ℕ))
     (calls : S → Option ℕ) where
-  pub due_of : (is_history : History → Type 0) (style : Style) (good : Settle → Type 0) (lib_old lib_new : L) (old new : S) (code : ℕ) (one : ExactlyOne is_history)
+  pub due_of : (is_history : History → Type 0) (style : Style) (good : Settle → Type 0) (lib_old lib_new : L)
+      (old new : S) (code : ℕ) (one : ExactlyOne is_history)
       → Runs faults asked taken calls lib_old lib_new old new is_history style good code
       → IsDue one.some.end code (faults lib_old) (faults lib_new)
   due_of is_history style good lib_old lib_new old new code one runs =
       let same : runs.history ≡ one.some = one.only runs.history runs.right in
-      let here = due_at runs.history.end runs.fails code (faults lib_old) (faults lib_new) runs.cause (answer_is style runs.history runs.fails code runs.made runs.done) in
+      let here = due_at runs.history.end runs.fails code (faults lib_old) (faults lib_new) runs.cause
+      (answer_is style runs.history runs.fails code runs.made runs.done) in
       subst (λ (h : History). IsDue h.end code (faults lib_old) (faults lib_new)) same (is_due runs.history.end code (faults lib_old) (faults lib_new) here)

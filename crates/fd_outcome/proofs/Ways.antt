@@ -36,12 +36,14 @@ bytes_join bs a b torn =
     let y = concat (texts_written b) in
     ap (λ l. (bs ++ l) ++ (y ++ torn)) (append-nil x)
     ∙ append_assoc bs x (y ++ torn)
-    ∙ ap (λ l. bs ++ l) (sym (append_assoc x y torn) ∙ ap (λ l. l ++ torn) (sym (ap concat (texts-append a b) ∙ concat-append (texts_written a) (texts_written b))))
+    ∙ ap (λ l. bs ++ l) (sym (append_assoc x y torn)
+    ∙ ap (λ l. l ++ torn) (sym (ap concat (texts-append a b) ∙ concat-append (texts_written a) (texts_written b))))
 
 count_join : (n : ℕ) (a b : List Call) (k : ℕ)
     → n + (length (texts_written a) + 0) + (length (texts_written b) + k) ≡ n + (length (texts_written (a ++ b)) + k)
 count_join n a b k =
-    let e : length (texts_written (a ++ b)) ≡ length (texts_written a) + length (texts_written b) = ap length (texts-append a b) ∙ length-append (texts_written a) (texts_written b) in
+    let e : length (texts_written (a ++ b)) ≡ length (texts_written a) + length (texts_written b) =
+    ap length (texts-append a b) ∙ length-append (texts_written a) (texts_written b) in
     omega (arith, e)
 
 texts_of_reads : (names : List (List ℕ)) → texts_written (map reads names) ≡ []
@@ -93,7 +95,9 @@ event_reads style fits n =
 pub body_reads : (style : Style) → AsksNames style → (names : List (List ℕ))
     → body style (map asked names) ≡ map reads names
 body_reads style h [] = refl
-body_reads style h (n ∷ names) = ap (λ l. l ++ body style (map asked names)) (event_reads style h n) ∙ ap (λ (l : List Call). reads n ∷ l) (body_reads style h names)
+body_reads style h (n ∷ names) =
+    ap (λ l. l ++ body style (map asked names)) (event_reads style h n)
+    ∙ ap (λ (l : List Call). reads n ∷ l) (body_reads style h names)
 
 pub reads_alone : (style : Style) → AsksNames style → (t : Bool) (names : List (List ℕ))
     → behind style t (map asked names) ≡ map reads names
@@ -132,16 +136,18 @@ done_after a rest all end status m e is = elim is [
 
 -- as many reads go well as there are before the one that fails
 fails_there : (a : List Call) (n : List ℕ) (rest : List Call) (end : Option Fault)
-    → read_failing (length (names_read a)) (a ++ reads n ∷ rest) end ≡ record { calls = a ++ reads n ∷ writes (fault_text (fault.Read n)) ∷ []; end = Some (fault.Read n) }
+    → read_failing (length (names_read a)) (a ++ reads n ∷ rest) end
+    ≡ record { calls = a ++ reads n ∷ writes (fault_text (fault.Read n)) ∷ []; end = Some (fault.Read n) }
 fails_there [] n rest end = refl
 fails_there (writes text ∷ a) n rest end = ap (called_first (writes text)) (fails_there a n rest end)
 fails_there (reads other ∷ a) n rest end = ap (called_first (reads other)) (fails_there a n rest end)
 
 -- ---- the way
 
-module _ {T : Type 0} (is_step : Command → T → Step T → Type 0) (last_name : T → Option (List ℕ)) (is_last : T → Option (List ℕ) → History → Type 0)
-    (good : Settle → Type 0) (held : List ℕ → Option (List ℕ)) {L S : Type 0} (faults : L → ℕ) (asked_of : L → Option (List (List ℕ))) (taken : S → Option (List ℕ)) (calls : S → Option ℕ)
-    (style : Style) where
+module _ {T : Type 0} (is_step : Command → T → Step T → Type 0) (last_name : T → Option (List ℕ))
+    (is_last : T → Option (List ℕ) → History → Type 0) (good : Settle → Type 0) (held : List ℕ → Option (List ℕ))
+    {L S : Type 0} (faults : L → ℕ) (asked_of : L → Option (List (List ℕ))) (taken : S → Option (List ℕ))
+    (calls : S → Option ℕ) (style : Style) where
   abbrev pub WayTo : Point T → L → S → Point T → L → S → Type 0
   WayTo = Way is_step last_name is_last good held asked_of taken calls style
 
@@ -156,8 +162,10 @@ module _ {T : Type 0} (is_step : Command → T → Step T → Type 0) (last_name
   goes_on p q r lib_first lib lib_new out_first out out_new events w leads all sees = record {
     events = w.events ++ events;
     leads = joins is_step last_name is_last held p q r w.events events w.leads leads;
-    seen = sees_as asked_of taken calls lib_first lib_new out_first out_new _ _ (sym (append_is style w.events events))
-        (sees_then asked_of taken calls lib_first lib lib_new out_first out out_new (so_far style w.events) (whole (behind style (has_text (body style w.events)) events)) w.seen sees);
+    seen =
+        sees_as asked_of taken calls lib_first lib_new out_first out_new _ _ (sym (append_is style w.events events))
+        (sees_then asked_of taken calls lib_first lib lib_new out_first out out_new (so_far style w.events)
+        (whole (behind style (has_text (body style w.events)) events)) w.seen sees);
     all_good = All-append (IfSettle good) w.events events w.all_good all;
   }
 
@@ -172,29 +180,32 @@ module _ {T : Type 0} (is_step : Command → T → Step T → Type 0) (last_name
       → IsDone (record { calls = part; end = end }) code m
       → Sees asked_of taken calls lib lib_new out out_new m
       → Runs faults asked_of taken calls lib_first lib_new out_first out_new (IsFrom is_step last_name is_last held p) style good code
-  ended_at p q lib_first lib lib_new out_first out out_new h rest code m w is rest_is done shown hidden end part events_are all part_is part_done sees = record {
-    history = before w.events h;
-    right = w.leads h is;
-    fails = None;
-    cause = inl refl;
-    made = made_after (so_far style w.events) m;
-    done = done_after (so_far style w.events) rest (doing style (before w.events h)).calls h.end code m rest_is done;
-    sees = sees_then asked_of taken calls lib_first lib lib_new out_first out out_new (so_far style w.events) m w.seen sees;
-    reached = record {
-      front = w.events ++ shown;
-      rest = hidden;
-      events_are = ap (λ l. w.events ++ l) events_are ∙ sym (append_assoc w.events shown hidden);
-      all_good = All-append (IfSettle good) w.events shown w.all_good all;
-      end = end;
-      done = done_after (so_far style w.events) part (calls_of style (w.events ++ shown) end) end code m part_is part_done;
-    };
-  }
+  ended_at p q lib_first lib lib_new out_first out out_new h rest code m w is rest_is done shown hidden end part
+      events_are all part_is part_done sees =
+      record {
+        history = before w.events h;
+        right = w.leads h is;
+        fails = None;
+        cause = inl refl;
+        made = made_after (so_far style w.events) m;
+        done = done_after (so_far style w.events) rest (doing style (before w.events h)).calls h.end code m rest_is done;
+        sees = sees_then asked_of taken calls lib_first lib lib_new out_first out out_new (so_far style w.events) m w.seen sees;
+        reached = record {
+          front = w.events ++ shown;
+          rest = hidden;
+          events_are = ap (λ l. w.events ++ l) events_are ∙ sym (append_assoc w.events shown hidden);
+          all_good = All-append (IfSettle good) w.events shown w.all_good all;
+          end = end;
+          done = done_after (so_far style w.events) part (calls_of style (w.events ++ shown) end) end code m part_is part_done;
+        };
+      }
 
   pub names_lead : (names : List (List ℕ)) (more : List Said) (end : ScriptEnd) (s : T)
       → LeadsTo is_step last_name is_last held (At (map name names ++ more) end s) (map asked names) (At more end s)
   names_lead [] more end s = stays is_step last_name is_last held (At more end s)
   names_lead (n ∷ names) more end s =
-      joins is_step last_name is_last held (At (name n ∷ (map name names ++ more)) end s) (At (map name names ++ more) end s) (At more end s) (asked n ∷ []) (map asked names)
+      joins is_step last_name is_last held (At (name n ∷ (map name names ++ more)) end s)
+      (At (map name names ++ more) end s) (At more end s) (asked n ∷ []) (map asked names)
       (asks_name is_step last_name is_last held n (map name names ++ more) end s) (names_lead names more end s)
 
   -- where these events end with a name and its read fails, what was made of them is done
@@ -205,7 +216,8 @@ module _ {T : Type 0} (is_step : Command → T → Step T → Type 0) (last_name
   unread_done events b n h code m first at =
       let f = front_is style events h in
       let split : (doing style (before events h)).calls ≡ b ++ reads n ∷ f.0 = f.1 ∙ ap (λ l. l ++ f.0) first ∙ append_assoc b (reads n ∷ []) f.0 in
-      let cut : failing (Some (length (names_read b))) (doing style (before events h)) ≡ record { calls = b ++ reads n ∷ writes (fault_text (fault.Read n)) ∷ []; end = Some (fault.Read n) } =
+      let cut : failing (Some (length (names_read b))) (doing style (before events h))
+      ≡ record { calls = b ++ reads n ∷ writes (fault_text (fault.Read n)) ∷ []; end = Some (fault.Read n) } =
       ap (λ (l : List Call). read_failing (length (names_read b)) l h.end) split ∙ fails_there b n f.0 h.end in
       subst (λ (d : Doing). IsDone d code m) (sym cut) at
 
@@ -226,7 +238,8 @@ module _ {T : Type 0} (is_step : Command → T → Step T → Type 0) (last_name
       let r = At (name n ∷ more) end s in
       let z = At more end s in
       let leads = joins is_step last_name is_last held p q z w.events new w.leads
-      (joins is_step last_name is_last held q r z (map asked names) (asked n ∷ []) (names_lead names (name n ∷ more) end s) (asks_name is_step last_name is_last held n more end s)) in
+      (joins is_step last_name is_last held q r z (map asked names) (asked n ∷ [])
+      (names_lead names (name n ∷ more) end s) (asks_name is_step last_name is_last held n more end s)) in
       let t = has_text (body style w.events) in
       let new_is : map asked (names ++ n ∷ []) ≡ new = map-append asked names (n ∷ []) in
       let alone : behind style t new ≡ map reads names ++ reads n ∷ [] =
@@ -250,7 +263,10 @@ module _ {T : Type 0} (is_step : Command → T → Step T → Type 0) (last_name
           events_are = refl;
           all_good = All-append (IfSettle good) w.events new w.all_good (subst (AllSettles good) new_is (names_good good (names ++ n ∷ [])));
           end = None;
-          done = subst (λ (l : List Event). IsDone (failing (Some (length (names_read b))) (doing style (record { events = l; end = None }))) code (made_after a m)) (append-nil events)
+          done = subst (λ (l : List Event). IsDone (failing (Some (length (names_read b))) (doing style (record {
+            events = l;
+            end = None;
+          }))) code (made_after a m)) (append-nil events)
               (unread_done events b n (record { events = []; end = None }) code (made_after a m) first at);
         };
       }

@@ -108,8 +108,9 @@ pub record EndsAt {T S : Type 0} (style : Style) (good : Settle → Type 0) (is_
 -- ---- the end of a command line
 
 -- a history of the end is done, whole or cut short
-pub record Finishes {L S : Type 0} (style : Style) (good : Settle → Type 0) (is_history : History → Type 0) (faults : L → ℕ) (asked : L → Option (List (List ℕ)))
-    (taken : S → Option (List ℕ)) (calls : S → Option ℕ) (lib_old lib_new : L) (old new : S) (begun : Bool) (code : ℕ) : Type 0 where
+pub record Finishes {L S : Type 0} (style : Style) (good : Settle → Type 0) (is_history : History → Type 0)
+    (faults : L → ℕ) (asked : L → Option (List (List ℕ))) (taken : S → Option (List ℕ)) (calls : S → Option ℕ)
+    (lib_old lib_new : L) (old new : S) (begun : Bool) (code : ℕ) : Type 0 where
   pub history : History
   pub right : is_history history
   pub fails : Option ℕ

@@ -27,7 +27,9 @@ pub next_piece : (records : List Record) (i : ℕ) (r : Record) (bytes : List �
     → pieces_of (take (i + 1) records) ≡ pieces_of (take i records) ++ bytes ∷ []
 next_piece records i r bytes lt is same =
     let one : i + 1 ≡ suc i = add-one i in
-    ap (λ k. pieces_of (take k records)) one ∙ next_piece_suc records i r lt ∙ ap (λ x. pieces_of (take i records) ++ x ∷ []) (ap (λ (x : Record). x.bytes) (sym is) ∙ sym same)
+    ap (λ k. pieces_of (take k records)) one
+    ∙ next_piece_suc records i r lt
+    ∙ ap (λ x. pieces_of (take i records) ++ x ∷ []) (ap (λ (x : Record). x.bytes) (sym is) ∙ sym same)
 
 pub rest_of_pieces : (records : List Record) (i : ℕ)
     → pieces_of (take i records) ++ pieces_of (drop i records) ≡ pieces_of records

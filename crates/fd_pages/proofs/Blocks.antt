@@ -59,11 +59,15 @@ claim_at n rs k r all within is = subst (IsRoundOf n) (sym is) (all k r within)
 blocks_more : (s : Settle) (k : ℕ) (rounds : List Round) (r : Round)
     → blocks_from s k (rounds ++ r ∷ []) ≡ blocks_from s k rounds ++ block_in s (k + length rounds) r ∷ []
 blocks_more s k [] r = ap (λ (n : ℕ). block_in s n r ∷ []) (omega arith)
-blocks_more s k (x ∷ rounds) r = ap (λ (l : List Block). block_in s k x ∷ l) (blocks_more s (k + 1) rounds r ∙ ap (λ (n : ℕ). blocks_from s (k + 1) rounds ++ block_in s n r ∷ []) (omega arith))
+blocks_more s k (x ∷ rounds) r =
+    ap (λ (l : List Block). block_in s k x ∷ l) (blocks_more s (k + 1) rounds r
+    ∙ ap (λ (n : ℕ). blocks_from s (k + 1) rounds ++ block_in s n r ∷ []) (omega arith))
 
 texts_more : (blocks : List Block) (b : Block) → blocks_texts (blocks ++ b ∷ []) ≡ blocks_texts blocks ++ block_texts b
 texts_more [] b = append-nil (block_texts b)
-texts_more (x ∷ blocks) b = ap (λ (l : List (List ℕ)). block_texts x ++ l) (texts_more blocks b) ∙ sym (append_assoc (block_texts x) (blocks_texts blocks) (block_texts b))
+texts_more (x ∷ blocks) b =
+    ap (λ (l : List (List ℕ)). block_texts x ++ l) (texts_more blocks b)
+    ∙ sym (append_assoc (block_texts x) (blocks_texts blocks) (block_texts b))
 
 pub failed_blocks : (s : Settle) (rounds : List Round) (f : Fault) (tried : Option Certified)
     → blocks_texts (blocks_from s 0 (claimed_rounds rounds (end_with f tried))) ≡ blocks_texts (blocks_from s 0 rounds) ++ last_texts s (length rounds) tried

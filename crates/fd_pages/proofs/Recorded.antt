@@ -23,10 +23,13 @@ use Rattle.fd_pages.specs.Places.{AreControlPlaces, bank_rows_first, tap_rows_of
 -- ---- places of controls
 
 control_more : (es : Elements) (k : ℕ) (e : ElementName × Element) → slice_get es k ≡ Some e
-    → filter (λ (x : ElementName × Element). is_control x.1) (take (k + 1) es) ≡ filter (λ (x : ElementName × Element). is_control x.1) (take k es) ++ cond (is_control e.1) (e ∷ []) []
+    → filter (λ (x : ElementName × Element). is_control x.1) (take (k + 1) es)
+    ≡ filter (λ (x : ElementName × Element). is_control x.1) (take k es) ++ cond (is_control e.1) (e ∷ []) []
 control_more es k e here =
     let p : ElementName × Element → Bool = λ (x : ElementName × Element). is_control x.1 in
-    filter_more p es k e (slice_get_within es k e here) ∙ ap (λ (x : ElementName × Element). filter p (take k es) ++ cond (p x) (x ∷ []) []) (get_or_from_slice_get es k e e here)
+    filter_more p es k e (slice_get_within es k e here)
+    ∙ ap (λ (x : ElementName × Element). filter p (take k es) ++ cond (p x) (x ∷ []) [])
+    (get_or_from_slice_get es k e e here)
 
 own_place : (es : Elements) (k : ℕ) (e : ElementName × Element) (b : Bool) → slice_get es k ≡ Some e
     → map (slice_get es) (if b then k ∷ [] else []) ≡ map Some (cond b (e ∷ []) [])
@@ -85,7 +88,8 @@ some_before f (Some x) h = refl
 pub is_found : {A : Type 0} (es : Elements) (ps : List ℕ) (k place : ℕ) (f : A → ElementName × Element) (o : Option A)
     → AreControlPlaces es ps → slice_get ps k ≡ Some place → option_map f o ≡ slice_get es place → IsSome o
 is_found es ps k place f o are at e =
-    some_before f o (subst (λ q. IsSome q) (sym e) (is_some_of (slice_get (controls_of es) k) (slice_get es place) (control_by es ps k are ∙ ap (option_map (slice_get es)) at)))
+    some_before f o (subst (λ q. IsSome q) (sym e) (is_some_of (slice_get (controls_of es) k) (slice_get es place)
+    (control_by es ps k are ∙ ap (option_map (slice_get es)) at)))
 
 -- ---- records of a list's elements, one after the other
 
@@ -128,7 +132,8 @@ taps_next at cs ps items k m d old mid new same within next made more =
     let p : Probe = get_or items k d in
     let here : slice_get ps k ≡ Some p = ap (λ (l : List Probe). slice_get l k) (sym same) ∙ slice_get-get_or items k d within in
     subst (λ (j : ℕ). new ++ lines_of (taps_from at (drop j cs) (drop j ps)) ≡ old) (sym next)
-    (rows_left old mid new (tap_rows_of at (slice_get cs k) p) (taps_from at (drop (suc k) cs) (drop (suc k) ps)) (ap (λ l. mid ++ lines_of l) (sym (taps_left at cs ps k p here)) ∙ made) more)
+    (rows_left old mid new (tap_rows_of at (slice_get cs k) p) (taps_from at (drop (suc k) cs) (drop (suc k) ps))
+    (ap (λ l. mid ++ lines_of l) (sym (taps_left at cs ps k p here)) ∙ made) more)
 
 no_probes : (at : Positions) (cs : Elements) → taps_from at cs [] ≡ []
 no_probes at [] = refl
@@ -156,12 +161,17 @@ pub bank_next : (e : ElementName × Element) (es all_left : Elements) (closed le
     → mid ++ lines_of (bank_rows_by (banks_of all_left) closed) ≡ old
     → new ≡ mid ++ lines_of (bank_rows_first e.0 closed) → new ++ lines_of (bank_rows_by (banks_of es) left) ≡ old
 bank_next e es all_left closed left old mid new bank first behind made more =
-    rows_left old mid new (bank_rows_first e.0 closed) (bank_rows_by (banks_of es) left) (ap (λ l. mid ++ lines_of l) (sym (all closed left behind)) ∙ ap (λ (bs : Elements). mid ++ lines_of (bank_rows_by (banks_of bs) closed)) (sym first) ∙ made) more
+    rows_left old mid new (bank_rows_first e.0 closed) (bank_rows_by (banks_of es) left)
+    (ap (λ l. mid ++ lines_of l) (sym (all closed left behind))
+    ∙ ap (λ (bs : Elements). mid ++ lines_of (bank_rows_by (banks_of bs) closed)) (sym first) ∙ made)
+    more
   where
     all : (cs ls : List Bool) → ls ≡ drop 1 cs
         → bank_rows_by (banks_of (e ∷ es)) cs ≡ bank_rows_first e.0 cs ++ bank_rows_by (banks_of es) ls
     all [] ls is = ap (λ (bs : Elements). bank_rows_by bs []) (banks_first e es bank) ∙ sym (no_states (banks_of es)) ∙ ap (bank_rows_by (banks_of es)) (sym is)
-    all (b ∷ cs) ls is = ap (λ (bs : Elements). bank_rows_by bs (b ∷ cs)) (banks_first e es bank) ∙ ap (λ (l : List Bool). bank_fields e.0 b ∷ bank_rows_by (banks_of es) l) (sym is)
+    all (b ∷ cs) ls is =
+        ap (λ (bs : Elements). bank_rows_by bs (b ∷ cs)) (banks_first e es bank)
+        ∙ ap (λ (l : List Bool). bank_fields e.0 b ∷ bank_rows_by (banks_of es) l) (sym is)
 
 pub bank_none : (e : ElementName × Element) (es : Elements) (closed : List Bool) (mid old : List (List ℕ))
     → is_bank e.1 ≡ false → mid ++ lines_of (bank_rows_by (banks_of (e ∷ es)) closed) ≡ old
@@ -174,4 +184,5 @@ pub size_at : (n : ℕ) (rs : List Made) (k : ℕ) (r : Made) → All (λ x. IsO
     → k < length rs → r ≡ get_or rs k r → IsOfSize n (solution_in (round_in r))
 size_at n rs k r all within is =
     let P : Round → Type 0 = λ x. IsOfSize n (solution_in x) in
-    subst P (get_or-map round_in rs k r (round_in r) within ∙ ap round_in (sym is)) (all k (round_in r) (subst (λ m. k < m) (sym (length-map rs round_in)) within))
+    subst P (get_or-map round_in rs k r (round_in r) within ∙ ap round_in (sym is))
+    (all k (round_in r) (subst (λ m. k < m) (sym (length-map rs round_in)) within))

@@ -28,7 +28,16 @@ pub record Kept : Type 0 where
 
 -- the settle of an hour that starts with what was kept: settles are numbered from 1 in the whole run
 abbrev pub hour_settle : CircuitView → ℕ → Kept → List Round → SettleEnd → Positions → Settle
-hour_settle c hour l rounds end left = record { number = l.settled + 1; hour = hour; circuit = c; start = l.at; opened = l.opened; rounds = rounds; end = end; left = left }
+hour_settle c hour l rounds end left = record {
+  number = l.settled + 1;
+  hour = hour;
+  circuit = c;
+  start = l.at;
+  opened = l.opened;
+  rounds = rounds;
+  end = end;
+  left = left;
+}
 
 -- how the settle of an hour ends with this fault, and with this state where the last one has no certificate
 abbrev pub end_with : Fault → Option Certified → SettleEnd

@@ -70,8 +70,9 @@ fn add_tried(
     requires network { IsBuiltOf made.now.net.now made.now.circuit.now }
     requires numbers { IsClaimOf (size_of (layout_of made.now.circuit.now.elements)) (claim_in tried) }
     requires few { length made.now.rounds.now < 2 ^ 32 }
-    ensures { (s : Settle) → IsSettleAt made.now.circuit.now made.now.number made.now.hour s →
-        OnOk result (pieces_of into.new.items ≡ pieces_of into.old.items ++ block_texts (block_in s (length made.now.rounds.now) (round_of (claim_in tried) []))) }
+    ensures { (s : Settle) → IsSettleAt made.now.circuit.now made.now.number made.now.hour s
+        → OnOk result (pieces_of into.new.items ≡ pieces_of into.old.items
+        ++ block_texts (block_in s (length made.now.rounds.now) (round_of (claim_in tried) []))) }
 {
     let round = Round {
         certified: tried,

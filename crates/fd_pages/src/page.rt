@@ -65,8 +65,9 @@ pub trait Page {
     ) -> Result<Vec<Record>, AllocError>
         requires network { IsBuiltOf made.now.net.now made.now.circuit.now }
         requires printable { IsPrintable made.now.circuit.now made.now.hour made.now.rounds.now (positions_in at.now) }
-        ensures { (l : Kept) → made.now.number ≡ l.settled + 1 →
-            IfOk result (λ r. pieces_of r.items ≡ style.texts_in (settle (settle_made made.now.circuit.now made.now.hour l made.now.rounds.now settled (positions_in at.now)))) };
+        ensures { (l : Kept) → made.now.number ≡ l.settled + 1 → IfOk result (λ r. pieces_of r.items
+            ≡ style.texts_in (settle (settle_made made.now.circuit.now made.now.hour l made.now.rounds.now settled
+            (positions_in at.now)))) };
 
     /// The texts of an hour's settle that ended with a fault, before the fault's; where the last state has no
     /// certificate, with that state.
@@ -79,6 +80,7 @@ pub trait Page {
         requires network { IsBuiltOf made.now.net.now made.now.circuit.now }
         requires printable { IsPrintable made.now.circuit.now made.now.hour made.now.rounds.now (positions_in at.now) }
         requires tried { IsTriedOf (size_of (layout_of made.now.circuit.now.elements)) tried }
-        ensures { (l : Kept) (f : FaultView) → made.now.number ≡ l.settled + 1 →
-            IfOk result (λ r. pieces_of r.items ≡ style.texts_in (settle (settle_made made.now.circuit.now made.now.hour l made.now.rounds.now (end_with f tried) (positions_in at.now)))) };
+        ensures { (l : Kept) (f : FaultView) → made.now.number ≡ l.settled + 1 → IfOk result (λ r. pieces_of r.items
+            ≡ style.texts_in (settle (settle_made made.now.circuit.now made.now.hour l made.now.rounds.now
+            (end_with f tried) (positions_in at.now)))) };
 }

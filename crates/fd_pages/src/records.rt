@@ -97,7 +97,8 @@ fn add_act(
     into: &mut Vec<Record>,
 ) -> Result<(), AllocError>
     requires { AreControlPlaces circuit.now.elements controls.now }
-    ensures { OnOk result (pieces_of into.new.items ≡ pieces_of into.old.items ++ lines_of (act_rows_by (slice_get (controls_of circuit.now.elements) act.now.control) (seen act.now))) }
+    ensures { OnOk result (pieces_of into.new.items ≡ pieces_of into.old.items
+        ++ lines_of (act_rows_by (slice_get (controls_of circuit.now.elements) act.now.control) (seen act.now))) }
 {
     match controls.get(act.control as usize) {
         None => Ok(()),
@@ -231,7 +232,8 @@ fn add_tap(
 ) -> Result<(), AllocError>
     requires controls { AreControlPlaces circuit.now.elements controls.now }
     requires device { HasDevice (positions_in at.now) probe.now }
-    ensures { OnOk result (pieces_of into.new.items ≡ pieces_of into.old.items ++ lines_of (tap_rows_of (positions_in at.now) (slice_get (controls_of circuit.now.elements) number) probe.now)) }
+    ensures { OnOk result (pieces_of into.new.items ≡ pieces_of into.old.items ++ lines_of
+        (tap_rows_of (positions_in at.now) (slice_get (controls_of circuit.now.elements) number) probe.now)) }
 {
     match controls.get(number) {
         None => Ok(()),
@@ -316,8 +318,9 @@ pub(crate) fn settled_records(
 ) -> Result<Vec<Record>, AllocError>
     requires network { IsBuiltOf made.now.net.now made.now.circuit.now }
     requires printable { IsPrintable made.now.circuit.now made.now.hour made.now.rounds.now (positions_in at.now) }
-    ensures { (l : Kept) → made.now.number ≡ l.settled + 1 →
-        IfOk result (λ r. pieces_of r.items ≡ lines_of (report_rows (settle_made made.now.circuit.now made.now.hour l made.now.rounds.now settled (positions_in at.now)))) }
+    ensures { (l : Kept) → made.now.number ≡ l.settled + 1 → IfOk result (λ r. pieces_of r.items
+        ≡ lines_of (report_rows (settle_made made.now.circuit.now made.now.hour l made.now.rounds.now settled
+        (positions_in at.now)))) }
 {
     let layout = made.net.layout();
     let mut into = Vec::new(alloc);
@@ -343,9 +346,10 @@ pub(crate) fn failed_records(
     requires network { IsBuiltOf made.now.net.now made.now.circuit.now }
     requires numbers { All (λ r. IsOfSize (size_of (layout_of made.now.circuit.now.elements)) (solution_in r)) (rounds_in made.now.rounds.now) }
     requires few { length made.now.rounds.now < 2 ^ 32 }
-    ensures { (l : Kept) (f : FaultView) (tried : Option CertifiedView) (left : PositionsView) →
-        made.now.number ≡ l.settled + 1 →
-        IfOk result (λ r. pieces_of r.items ≡ lines_of (report_rows (settle_made made.now.circuit.now made.now.hour l made.now.rounds.now (end_with f tried) left))) }
+    ensures { (l : Kept) (f : FaultView) (tried : Option CertifiedView) (left : PositionsView)
+        → made.now.number ≡ l.settled + 1 → IfOk result (λ r. pieces_of r.items
+        ≡ lines_of (report_rows (settle_made made.now.circuit.now made.now.hour l made.now.rounds.now
+        (end_with f tried) left))) }
 {
     let layout = made.net.layout();
     let mut into = Vec::new(alloc);

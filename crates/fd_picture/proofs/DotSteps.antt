@@ -38,7 +38,8 @@ dot_later name i h e so = record {
 pub before_here : (name : List ℕ) (i : ℕ) → i < length name → (get_or name i 0 == 46) ≡ true → NoDot name i
     → take i name ≡ before_dot name
 before_here name i h e so =
-    sym (so.before ∙ ap (λ rest. take i name ++ before_dot rest) (byte_next name i h) ∙ ap (λ rest. take i name ++ rest) (before_ends (get_or name i 0) (drop (i + 1) name) e)
+    sym (so.before ∙ ap (λ rest. take i name ++ before_dot rest) (byte_next name i h)
+    ∙ ap (λ rest. take i name ++ rest) (before_ends (get_or name i 0) (drop (i + 1) name) e)
     ∙ append-nil (take i name))
 
 pub behind_here : (name : List ℕ) (i : ℕ) → i < length name → (get_or name i 0 == 46) ≡ true → NoDot name i

@@ -83,4 +83,7 @@ pub last_read : (bytes : List ℕ) (i : ℕ) (quoted : Bool) (lines : List (List
     → lines ≡ before (take i bytes) (lines_from quoted (drop i bytes)) → lines ≡ bytes ∷ lines_of []
 unfolding lines_of
 last_read bytes i quoted lines some h so =
-    so ∙ ap (λ taken. before taken (lines_from quoted (drop i bytes))) (take_all i bytes h) ∙ ap (λ rest. before bytes (lines_from quoted rest)) (drop_all i bytes h) ∙ before_end bytes some
+    so
+    ∙ ap (λ taken. before taken (lines_from quoted (drop i bytes))) (take_all i bytes h)
+    ∙ ap (λ rest. before bytes (lines_from quoted rest)) (drop_all i bytes h)
+    ∙ before_end bytes some

@@ -30,7 +30,8 @@ pub marks_law_holds : MarksLaw
 unfolding mark_of marks_text
 marks_law_holds = record {
   count = λ bases scale nodes. count_by (λ p. mark_at bases scale p.0 p.1) 0 nodes;
-  each = λ bases scale nodes k node e. each_by (λ p. mark_at bases scale p.0 p.1) 0 nodes k node e ∙ ap (λ m. Some (mark_at bases scale m node)) (let place : 0 + k ≡ k = omega arith in place);
+  each = λ bases scale nodes k node e. each_by (λ p. mark_at bases scale p.0 p.1) 0 nodes k node e
+      ∙ ap (λ m. Some (mark_at bases scale m node)) (let place : 0 + k ≡ k = omega arith in place);
   top = λ axis span per_unit k node. refl;
   height = λ axis span per_unit k node. refl;
   text = λ bases per_unit axis nodes. numbered_is (λ place node. node_text bases per_unit axis place node) 0 nodes;

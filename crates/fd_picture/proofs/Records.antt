@@ -28,7 +28,8 @@ pub takes : (old new : Reader (Bor (List ℕ))) (fields : List (List ℕ)) (left
 unfolding Reached Reads
 takes old new fields left plain read first =
     let row = read plain.trims plain.ready in
-    let (z, source, reached) = rows-more (λ (bytes : Bor (List ℕ)). Some bytes.now) old new fields default_config (reader_state old) left left [] plain.config plain.source (refl, refl) row in
+    let (z, source, reached) = rows-more (λ (bytes : Bor (List ℕ)). Some bytes.now) old new fields default_config
+    (reader_state old) left left [] plain.config plain.source (refl, refl) row in
     let (p, is, same, at) = reached in
     record {
       next = p;

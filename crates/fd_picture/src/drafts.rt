@@ -240,7 +240,15 @@ fn position_entry(
     kind: Kind,
     row: &ByteRecord,
 ) -> Result<Entry, AllocError>
-    ensures { IfOk result (λ entry. entry ≡ record { settle = settle; hour = hour; kind = kind; time = []; element = field_at (fields_of row.now) 1; steps = []; position = field_at (fields_of row.now) 2 }) }
+    ensures { IfOk result (λ entry. entry ≡ record {
+      settle = settle;
+      hour = hour;
+      kind = kind;
+      time = [];
+      element = field_at (fields_of row.now) 1;
+      steps = [];
+      position = field_at (fields_of row.now) 2;
+    }) }
 {
     Ok(Entry {
         settle,

@@ -10,7 +10,9 @@ use Rattle.dss_values.specs.Names.{bytes}
 -- a bus, a dot, and a number
 pub bytes_of_node : (bus : List ℕ) (number : ℕ) → number < 2 ^ 64 → bytes bus ++ 46 ∷ decimal number ≡ bytes (bus ++ 46 ∷ decimal number)
 unfolding encode
-bytes_of_node bus number small = sym (encodes-append bus (46 ∷ decimal number) ∙ ap (λ digits. bytes bus ++ 46 ∷ digits) (encodes-IsAscii (decimal number) (IsAscii-decimal number small)))
+bytes_of_node bus number small =
+    sym (encodes-append bus (46 ∷ decimal number)
+    ∙ ap (λ digits. bytes bus ++ 46 ∷ digits) (encodes-IsAscii (decimal number) (IsAscii-decimal number small)))
 
 -- a word, a dot, and a name
 pub bytes_of_element : (word name : List ℕ) → IsUtf8 word → word ++ 46 ∷ bytes name ≡ bytes (chars word ++ 46 ∷ name)

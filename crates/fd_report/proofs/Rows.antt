@@ -17,11 +17,15 @@ same_field field = ap (λ text. if needs_quotes default_writer field then 34 ∷
 same_fields : (fields : List (List ℕ)) → fields_text any_length fields ≡ fields_text default_writer fields
 unfolding fields_text
 same_fields [] = refl
-same_fields (field ∷ rest) = ap (λ text. 44 ∷ (text ++ fields_text any_length rest)) (same_field field) ∙ ap (λ text. 44 ∷ (field_text default_writer field ++ text)) (same_fields rest)
+same_fields (field ∷ rest) =
+    ap (λ text. 44 ∷ (text ++ fields_text any_length rest)) (same_field field)
+    ∙ ap (λ text. 44 ∷ (field_text default_writer field ++ text)) (same_fields rest)
 
 same_body : (fields : List (List ℕ)) → row_body any_length fields ≡ row_body default_writer fields
 same_body [] = refl
-same_body (field ∷ rest) = ap (λ text. text ++ fields_text any_length rest) (same_field field) ∙ ap (λ text. field_text default_writer field ++ text) (same_fields rest)
+same_body (field ∷ rest) =
+    ap (λ text. text ++ fields_text any_length rest) (same_field field)
+    ∙ ap (λ text. field_text default_writer field ++ text) (same_fields rest)
 
 same_blank : (fields : List (List ℕ)) → is_blank any_length fields ≡ is_blank default_writer fields
 unfolding is_blank

@@ -37,7 +37,9 @@ module _ (s : SolutionView) where
 
   -- a branch phase, whose current is complex unknown k
   abbrev pub branch_fields : ℕ → PhaseName → List (List ℕ)
-  branch_fields k phase = codes "branch" ∷ element_field phase.element ∷ decimal phase.phase ∷ (part_fields k ++ size_text (number_at s.radii (2 * k)) ∷ mismatch_fields k)
+  branch_fields k phase =
+      codes "branch" ∷ element_field phase.element ∷ decimal phase.phase
+      ∷ (part_fields k ++ size_text (number_at s.radii (2 * k)) ∷ mismatch_fields k)
 
   -- the real unknown at a place, its radius, the half-width of its box, and the mismatch of its row
   abbrev pub value_fields : ℕ → List (List ℕ)

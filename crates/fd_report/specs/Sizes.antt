@@ -17,10 +17,14 @@ square n = n * n
 -- of complex unknown k of a solution
 module _ (s : SolutionView) (k : ℕ) where
   abbrev pub least_square : ℕ
-  least_square = square (least_part (part s.centre (2 * k)) (number_at s.radii (2 * k))) + square (least_part (part s.centre (2 * k + 1)) (number_at s.radii (2 * k + 1)))
+  least_square =
+      square (least_part (part s.centre (2 * k)) (number_at s.radii (2 * k)))
+      + square (least_part (part s.centre (2 * k + 1)) (number_at s.radii (2 * k + 1)))
 
   abbrev pub greatest_square : ℕ
-  greatest_square = square (greatest_part (part s.centre (2 * k)) (number_at s.radii (2 * k))) + square (greatest_part (part s.centre (2 * k + 1)) (number_at s.radii (2 * k + 1)))
+  greatest_square =
+      square (greatest_part (part s.centre (2 * k)) (number_at s.radii (2 * k)))
+      + square (greatest_part (part s.centre (2 * k + 1)) (number_at s.radii (2 * k + 1)))
 
   unfoldable pub least_size : ℕ
   least_size = root_down least_square

@@ -94,10 +94,13 @@ total_held e c r x (suc n) h few b = sum_held (reactive_total e c r n) (reactive
 
 -- ---- what is decided over the ball is so at each of its states
 
-magnitude_of_all : (p : CapProbe) (closed : Bool) (node : NodeAt) (ratio : ℕ) (c : List ℤ) (r : List ℕ) (x : State) (v : Decision) →
-    IsPlace (length c) node → IsRatio ratio → IsInBall c r x →
-    agreed (ratio_interval node ratio c r) (cap_decision p closed (least_root (ratio_interval node ratio c r))) (cap_decision p closed (greatest_root (ratio_interval node ratio c r))) ≡ Some v →
-    cap_decision p closed (size_of (scaled_by (unknown x node) (fraction (pos (10 ^ 9)) ratio))) ≡ v
+magnitude_of_all : (p : CapProbe) (closed : Bool) (node : NodeAt) (ratio : ℕ) (c : List ℤ) (r : List ℕ) (x : State)
+    (v : Decision)
+    → IsPlace (length c) node → IsRatio ratio → IsInBall c r x
+    → agreed (ratio_interval node ratio c r) (cap_decision p closed (least_root (ratio_interval node ratio c r)))
+    (cap_decision p closed (greatest_root (ratio_interval node ratio c r)))
+    ≡ Some v
+    → cap_decision p closed (size_of (scaled_by (unknown x node) (fraction (pos (10 ^ 9)) ratio))) ≡ v
 magnitude_of_all p closed node ratio c r x v h k b e =
     let z = scaled_by (unknown x node) (fraction (pos (10 ^ 9)) ratio) in
     let held = ratio_held node ratio c r x h k b in
@@ -105,18 +108,23 @@ magnitude_of_all p closed node ratio c r x v h k b e =
     (bank_decided (bank_of p) closed) held.over (with_size (ratio_interval node ratio c r) z held) e
 
 power_of_all : (p : CapProbe) (closed : Bool) (end : LineEnd) (c : List ℤ) (r : List ℕ) (x : State) (v : Decision)
-    → IsLineEnd (length c) end → IsInBall c r x →
-    agreed (reactive_total end c r end.phases) (cap_decision p closed (least_value (reactive_total end c r end.phases))) (cap_decision p closed (greatest_value (reactive_total end c r end.phases))) ≡ Some v →
-    cap_decision p closed (cap_quantity (measured.Kvar end) x) ≡ v
+    → IsLineEnd (length c) end → IsInBall c r x
+    → agreed (reactive_total end c r end.phases)
+    (cap_decision p closed (least_value (reactive_total end c r end.phases)))
+    (cap_decision p closed (greatest_value (reactive_total end c r end.phases)))
+    ≡ Some v
+    → cap_decision p closed (cap_quantity (measured.Kvar end) x) ≡ v
 power_of_all p closed end c r x v h b e =
     let held = total_held end c r x end.phases h (omega arith) b in
     value_of_all (cap_decision p closed) (reactive_total end c r end.phases) (sum_f (reactive end x) end.phases).top (sum_f (reactive end x) end.phases).over v
     (bank_decided (bank_of p) closed) held.over held.holds e
 
 pub cap_of_agreed : (p : CapProbe) (closed : Bool) (m : Measured) (c : List ℤ) (r : List ℕ) (x : State) (v : Decision)
-    → IsMeasured (length c) m →
-    IsInBall c r x → agreed (cap_interval m c r) (cap_decision p closed (least_of (kind_of m) (cap_interval m c r))) (cap_decision p closed (greatest_of (kind_of m) (cap_interval m c r))) ≡ Some v →
-    cap_decision p closed (cap_quantity m x) ≡ v
+    → IsMeasured (length c) m → IsInBall c r x
+    → agreed (cap_interval m c r) (cap_decision p closed (least_of (kind_of m) (cap_interval m c r)))
+    (cap_decision p closed (greatest_of (kind_of m) (cap_interval m c r)))
+    ≡ Some v
+    → cap_decision p closed (cap_quantity m x) ≡ v
 unfolding cap_interval
 cap_of_agreed p closed (measured.Voltage node ratio) c r x v h b e = magnitude_of_all p closed node ratio c r x v h.0 h.1 b e
 cap_of_agreed p closed (measured.Current branch ratio) c r x v h b e = magnitude_of_all p closed (Node branch) ratio c r x v h.0 h.1 b e
@@ -128,7 +136,8 @@ pub cap_of_all : (p : CapProbe) (closed : Bool) (m : Measured) (c : List ℤ) (r
     cap_decision p closed (cap_quantity m x) ≡ v
 unfolding cap_interval
 cap_of_all p closed (measured.Voltage node ratio) c r x w v h b s e = let d = s.decides in magnitude_of_all p closed node ratio c r x v h.0 h.1 b (cc)
-cap_of_all p closed (measured.Current branch ratio) c r x w v h b s e = let d = s.decides in magnitude_of_all p closed (Node branch) ratio c r x v h.0 h.1 b (cc)
+cap_of_all p closed (measured.Current branch ratio) c r x w v h b s e =
+    let d = s.decides in magnitude_of_all p closed (Node branch) ratio c r x v h.0 h.1 b (cc)
 cap_of_all p closed (measured.Kvar end) c r x w v h b s e = let d = s.decides in power_of_all p closed end c r x v h b (cc)
 
 -- ---- the sample by what is measured
@@ -139,24 +148,30 @@ pub record IsSampled (p : CapProbe) (closed : Bool) (c : List ℤ) (r : List ℕ
   pub edge : IsSome (cap_interval m c r)
       → TellsEdge (cap_decision p closed) (least_of (kind_of m) (cap_interval m c r)) (greatest_of (kind_of m) (cap_interval m c r)) w
 
-pub of_voltage : (p : CapProbe) (closed : Bool) (c : List ℤ) (r : List ℕ) (w : Verdict) (node : NodeAt) (ratio : ℕ) →
-    IsRootSample (cap_decision p closed) (λ d. cap_edge p closed) (ratio_interval node ratio c r) w →
-    (IsSome (ratio_interval node ratio c r) → TellsEdge (cap_decision p closed) (least_root (ratio_interval node ratio c r)) (greatest_root (ratio_interval node ratio c r)) w) →
-    IsSampled p closed c r w (measured.Voltage node ratio)
+pub of_voltage : (p : CapProbe) (closed : Bool) (c : List ℤ) (r : List ℕ) (w : Verdict) (node : NodeAt) (ratio : ℕ)
+    → IsRootSample (cap_decision p closed) (λ d. cap_edge p closed) (ratio_interval node ratio c r) w
+    → (IsSome (ratio_interval node ratio c r)
+    → TellsEdge (cap_decision p closed) (least_root (ratio_interval node ratio c r))
+    (greatest_root (ratio_interval node ratio c r)) w)
+    → IsSampled p closed c r w (measured.Voltage node ratio)
 unfolding cap_interval
 of_voltage p closed c r w node ratio s e = record { sample = s; edge = e }
 
-pub of_current : (p : CapProbe) (closed : Bool) (c : List ℤ) (r : List ℕ) (w : Verdict) (branch : ℕ) (ratio : ℕ) →
-    IsRootSample (cap_decision p closed) (λ d. cap_edge p closed) (ratio_interval (Node branch) ratio c r) w →
-    (IsSome (ratio_interval (Node branch) ratio c r) → TellsEdge (cap_decision p closed) (least_root (ratio_interval (Node branch) ratio c r)) (greatest_root (ratio_interval (Node branch) ratio c r)) w) →
-    IsSampled p closed c r w (measured.Current branch ratio)
+pub of_current : (p : CapProbe) (closed : Bool) (c : List ℤ) (r : List ℕ) (w : Verdict) (branch : ℕ) (ratio : ℕ)
+    → IsRootSample (cap_decision p closed) (λ d. cap_edge p closed) (ratio_interval (Node branch) ratio c r) w
+    → (IsSome (ratio_interval (Node branch) ratio c r)
+    → TellsEdge (cap_decision p closed) (least_root (ratio_interval (Node branch) ratio c r))
+    (greatest_root (ratio_interval (Node branch) ratio c r)) w)
+    → IsSampled p closed c r w (measured.Current branch ratio)
 unfolding cap_interval
 of_current p closed c r w branch ratio s e = record { sample = s; edge = e }
 
-pub of_power : (p : CapProbe) (closed : Bool) (c : List ℤ) (r : List ℕ) (w : Verdict) (end : LineEnd) →
-    IsValueSample (cap_decision p closed) (λ d. cap_edge p closed) (reactive_total end c r end.phases) w →
-    (IsSome (reactive_total end c r end.phases) → TellsEdge (cap_decision p closed) (least_value (reactive_total end c r end.phases)) (greatest_value (reactive_total end c r end.phases)) w) →
-    IsSampled p closed c r w (measured.Kvar end)
+pub of_power : (p : CapProbe) (closed : Bool) (c : List ℤ) (r : List ℕ) (w : Verdict) (end : LineEnd)
+    → IsValueSample (cap_decision p closed) (λ d. cap_edge p closed) (reactive_total end c r end.phases) w
+    → (IsSome (reactive_total end c r end.phases)
+    → TellsEdge (cap_decision p closed) (least_value (reactive_total end c r end.phases))
+    (greatest_value (reactive_total end c r end.phases)) w)
+    → IsSampled p closed c r w (measured.Kvar end)
 unfolding cap_interval
 of_power p closed c r w end s e = record { sample = s; edge = e }
 

@@ -21,7 +21,8 @@ pub record IsRegSample (p : RegProbe) (t : TapPair) (c : List ℤ) (r : List ℕ
 pub record IsBankSample (p : CapProbe) (closed : Bool) (c : List ℤ) (r : List ℕ) (v : Verdict) : Type 0 where
   pub sample : IsCapSample (kind_of p.measured) (cap_decision p closed) (cap_edge p closed) (cap_interval p.measured c r) v
   pub edge : IsSome (cap_interval p.measured c r)
-      → TellsEdge (cap_decision p closed) (least_of (kind_of p.measured) (cap_interval p.measured c r)) (greatest_of (kind_of p.measured) (cap_interval p.measured c r)) v
+      → TellsEdge (cap_decision p closed) (least_of (kind_of p.measured) (cap_interval p.measured c r))
+      (greatest_of (kind_of p.measured) (cap_interval p.measured c r)) v
   pub every_state : AgreesAtEveryState p closed c r v
 
 pub record IsSampledAt (at : Positions) (c : List ℤ) (r : List ℕ) (v : Verdict) (p : Probe) : Type 0 where

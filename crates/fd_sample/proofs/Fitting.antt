@@ -98,4 +98,5 @@ module _ (circuit : CircuitView) (h : HasPassed circuit) (range : All (λ e. Ele
       let at = ends_of layout r.place (the.Line r.line) in
       let entry = entry_of (slice_get es r.place) (the.Line r.line) r.there in
       let line = line_at circuit h range control c r.place entry.name r.line entry.is (found_at es class.Line control.element r.place keys r.found) in
-      cap_places control r.line at (banks_before es r.bank) (complex_count layout) (size_of layout) p r.probe c.in_range line.in_range.phases.most line.current_phase line.stands
+      cap_places control r.line at (banks_before es r.bank) (complex_count layout) (size_of layout) p r.probe
+      c.in_range line.in_range.phases.most line.current_phase line.stands

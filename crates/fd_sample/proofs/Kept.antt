@@ -153,7 +153,8 @@ module _ (circuit : CircuitView) (h : HasPassed circuit) (range : All (λ e. Ele
   two_of_one i j x y less at_x at_y first second is_x is_y name given_x given_y =
       let fit = subst (λ (e : Element). AreValuesFit circuit.elements (take j circuit.elements) y.0 e) is_y ((passed circuit h).each j y at_y).values in
       let none = subst (λ (o : Option (List ℕ)). is_second_of_bank (take j circuit.elements) o ≡ false) given_y fit.first in
-      let not = none_at (λ (e : ElementName × Element). controls_bank name e.1) (take j circuit.elements) i x none (slice_get_take circuit.elements j i less ∙ at_x) in
+      let not = none_at (λ (e : ElementName × Element). controls_bank name e.1) (take j circuit.elements) i x none
+      (slice_get_take circuit.elements j i less ∙ at_x) in
       let does = switches x.1 first name is_x given_x in
       absurd (cc)
 

@@ -161,7 +161,8 @@ transformer_less : (es : Elements) (a b : ℕ) (e : ElementName × Element) → 
     → a < b →
     transformers_before es a < transformers_before es b
 transformer_less es a b e h one less =
-    let most : transformers_before es (a + 1) ≤ transformers_before es b = fronts_in_order (λ (x : ElementName × Element). tap_count x.1) (a + 1) b es (omega arith) in
+    let most : transformers_before es (a + 1) ≤ transformers_before es b =
+    fronts_in_order (λ (x : ElementName × Element). tap_count x.1) (a + 1) b es (omega arith) in
     omega (arith, count_next tap_count es a e h, one, most)
 
 -- transformers at two places have two numbers
@@ -210,10 +211,13 @@ cap_by es control p place found (Some l) at (Some bank) bank_found h = option_an
 
 pub cap_back : (es : Elements) (control : CapControl) (p : CapProbe) → cap_probe_in es control ≡ Some p
     → IsCapProbeIn es control p
-cap_back es control p h = option_and_then_some
-    (λ place. cap_probe_at es control place (option_and_then line_in (element_at es place)) (place_given es class.Capacitor control.capacitor))
-    (place_given es class.Line control.element) p h
-    (λ place found made. cap_by es control p place found (option_and_then line_in (element_at es place)) refl (place_given es class.Capacitor control.capacitor) refl made)
+cap_back es control p h =
+    option_and_then_some (λ place.
+    cap_probe_at es control place (option_and_then line_in (element_at es place))
+    (place_given es class.Capacitor control.capacitor))
+    (place_given es class.Line control.element) p h (λ place found made.
+    cap_by es control p place found (option_and_then line_in (element_at es place)) refl
+    (place_given es class.Capacitor control.capacitor) refl made)
 
 reg_forth : (es : Elements) (control : RegControl) (p : RegProbe) → IsRegProbeIn es control p
     → Some p ≡ reg_probe_in es control
@@ -227,8 +231,12 @@ cap_forth : (es : Elements) (control : CapControl) (p : CapProbe) → IsCapProbe
 cap_forth es control p r =
     ap Some r.probe
     ∙ ap (λ (o : Option ℕ). cap_probe_at es control r.place (Some r.line) o) (sym r.bank_found)
-    ∙ ap (λ (o : Option Element). cap_probe_at es control r.place (option_and_then line_in o) (place_given es class.Capacitor control.capacitor)) (sym r.there)
-    ∙ ap (option_and_then (λ place. cap_probe_at es control place (option_and_then line_in (element_at es place)) (place_given es class.Capacitor control.capacitor))) (sym r.found)
+    ∙ ap (λ (o : Option Element).
+    cap_probe_at es control r.place (option_and_then line_in o) (place_given es class.Capacitor control.capacitor))
+    (sym r.there)
+    ∙ ap (option_and_then (λ place. cap_probe_at es control place (option_and_then line_in (element_at es place))
+    (place_given es class.Capacitor control.capacitor)))
+    (sym r.found)
 
 -- what stands for an element's probe is the one that its definition gives
 pub probe_of : (es : Elements) (e : Element) (o : Option Probe) → IsProbeOf es (Some e) o → o ≡ probe_in es e

@@ -56,5 +56,7 @@ count_next f es k e h =
     let g = λ (x : ElementName × Element). f x.1 in
     let within = slice_get_within es k e h in
     let taken : take (k + 1) es ≡ take k es ++ e ∷ [] =
-    ap (λ (n : ℕ). take n es) (add-one k) ∙ (take-suc es k e within ∙ ap (λ (x : ElementName × Element). take k es ++ x ∷ []) (get_or_from_slice_get es k e e h)) in
+    ap (λ (n : ℕ). take n es) (add-one k)
+    ∙ (take-suc es k e within
+    ∙ ap (λ (x : ElementName × Element). take k es ++ x ∷ []) (get_or_from_slice_get es k e e h)) in
     ap (list_n g) taken ∙ (list_n-append g (take k es) (e ∷ []) ∙ ap (λ (n : ℕ). list_n g (take k es) + n) (last_one g e))

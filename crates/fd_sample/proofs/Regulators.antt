@@ -40,7 +40,8 @@ delivered_held : (p : RegProbe) (t : TapPair) (c : List ℤ) (r : List ℕ) (x :
     AreHeld (delivered_interval p t c r) (delivered p t x)
 delivered_held p t c r x h taps b =
     let branch = node_held c r x (Node p.branch) b h.branch in
-    let turns = factor_held (pos (p.second_volts * t.second)) (p.first_volts * t.first) (mul-pos h.settings.first_volts_least (omega (arith, taps.first_least))) in
+    let turns = factor_held (pos (p.second_volts * t.second)) (p.first_volts * t.first)
+    (mul-pos h.settings.first_volts_least (omega (arith, taps.first_least))) in
     delivered_by p.is_second (interval_at c r (Node p.branch)) (negative_interval (scaled_interval (interval_at c r (Node p.branch)) (turns_interval p t)))
     (unknown x (Node p.branch)) (negative (scaled_by (unknown x (Node p.branch)) (turns_of p t)))
     branch
@@ -57,8 +58,10 @@ relay_held p t c r x h taps b =
     less_held (scaled_interval (interval_across c r p.nodes) (factor (pos (10 ^ 9)) p.ptratio))
     (product_interval (delivered_interval p t c r) (factor p.r p.ctprim) (factor p.x p.ctprim))
     (scaled_by (across x p.nodes) (fraction (pos (10 ^ 9)) p.ptratio)) _
-    (scaled_held (interval_across c r p.nodes) (factor (pos (10 ^ 9)) p.ptratio) (across x p.nodes) (fraction (pos (10 ^ 9)) p.ptratio) (across_held c r x p.nodes b h.first h.second) volts)
-    (times_held (delivered_interval p t c r) (factor p.r p.ctprim) (factor p.x p.ctprim) (delivered p t x) (compensation p) (delivered_held p t c r x h taps b) re im)
+    (scaled_held (interval_across c r p.nodes) (factor (pos (10 ^ 9)) p.ptratio) (across x p.nodes)
+    (fraction (pos (10 ^ 9)) p.ptratio) (across_held c r x p.nodes b h.first h.second) volts)
+    (times_held (delivered_interval p t c r) (factor p.r p.ctprim) (factor p.x p.ctprim) (delivered p t x)
+    (compensation p) (delivered_held p t c r x h taps b) re im)
 
 -- the interval of squares holds the square at each state
 squares_held : (p : RegProbe) (t : TapPair) (c : List ℤ) (r : List ℕ) (x : State) → IsRegProbe (length c) p → AreTaps t
@@ -121,9 +124,14 @@ high_size v b h k = omega (arith, ints)
 
 pub reg_differs : (p : RegProbe) (tap : ℕ) → AreRegSettings p
     → wanted_at p tap (least_root None) ≢ wanted_at p tap (greatest_root None)
-reg_differs p tap h = differs (regulator_at (settings_of p) tap) (2 ^ 240) (above_nothing _)
-    (below_large (regulator_at (settings_of p) tap).lo (2 ^ 240) (near_within (pos (2 * p.vreg) -ℤ pos p.band) 2000 (2 ^ 60) (lit< tt) (low_size p.vreg p.band h.vreg h.band)) (lit< tt))
-    (above_large (regulator_at (settings_of p) tap).hi (2 ^ 240) (near_within (pos (2 * p.vreg) +ℤ pos p.band) 2000 (2 ^ 60) (lit< tt) (high_size p.vreg p.band h.vreg h.band)) (lit< tt))
+reg_differs p tap h =
+    differs (regulator_at (settings_of p) tap) (2 ^ 240) (above_nothing _)
+    (below_large (regulator_at (settings_of p) tap).lo (2 ^ 240)
+    (near_within (pos (2 * p.vreg) -ℤ pos p.band) 2000 (2 ^ 60) (lit< tt) (low_size p.vreg p.band h.vreg h.band))
+    (lit< tt))
+    (above_large (regulator_at (settings_of p) tap).hi (2 ^ 240)
+    (near_within (pos (2 * p.vreg) +ℤ pos p.band) 2000 (2 ^ 60) (lit< tt) (high_size p.vreg p.band h.vreg h.band))
+    (lit< tt))
 
 -- where nothing is decided, the edge is where the decision changes
 all_of : (p : RegProbe) (tap : ℕ) (s : Bounds) → AreRegSettings p → s ≡ None

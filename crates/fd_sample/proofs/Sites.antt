@@ -102,7 +102,9 @@ ratio_of z h = let w = size_between 1_000_000 (1_000_000 * 1_000_000_000) z h in
 end_places : (t : Bool) (l : Line) (at : Ends) (n places : ℕ) → l.phases ≤ 3 → IsLineAt n places l.phases at
     → IsLineEnd places (line_end t l at)
 end_places t l at n places few h =
-    let node : (k : ℕ) → IsPlace places (node_of (side_of t at) k) = λ k. place_among n places (node_of (side_of t at) k) h.few h.room (node_among n (side_of t at) k (side_among t n l.phases places l.phases at h)) in
+    let node : (k : ℕ) → IsPlace places (node_of (side_of t at) k) = λ k.
+    place_among n places (node_of (side_of t at) k) h.few h.room
+    (node_among n (side_of t at) k (side_among t n l.phases places l.phases at h)) in
     record {
       phases = few;
       nodes = All-cons (IsPlace places) (node_of (side_of t at) 0) (node_of (side_of t at) 1 ∷ node_of (side_of t at) 2 ∷ []) (node 0)
@@ -116,10 +118,16 @@ measured_places : (q : ControlQuantity) (control : CapControl) (l : Line) (at : 
     IsPhase l.phases control.ctphase → IsLineAt n places l.phases at → IsMeasured places (measured_by q control l at)
 measured_places quantity.Voltage control l at n places range few phase h =
     let t = nat_eq control.terminal 2 in
-    let k = phase_index control.ptphase in
-    (place_among n places (node_of (side_of t at) k) h.few h.room (node_among n (side_of t at) k (side_among t n l.phases places l.phases at h)), ratio_of control.ptratio range.ptratio)
-measured_places quantity.Current control l at n places range few phase h =
-    (branch_place n places l.phases l.phases at (phase_index control.ctphase) h (index_below l.phases control.ctphase phase), ratio_of control.ctratio range.ctratio)
+    let k = phase_index control.ptphase in (
+      place_among n places (node_of (side_of t at) k) h.few h.room
+          (node_among n (side_of t at) k (side_among t n l.phases places l.phases at h)),
+      ratio_of control.ptratio range.ptratio,
+    )
+measured_places quantity.Current control l at n places range few phase h = (
+  branch_place n places l.phases l.phases
+      at (phase_index control.ctphase) h (index_below l.phases control.ctphase phase),
+  ratio_of control.ctratio range.ctratio,
+)
 measured_places quantity.Kvar control l at n places range few phase h = end_places (nat_eq control.terminal 2) l at n places few h
 
 pub cap_places : (control : CapControl) (l : Line) (at : Ends) (number n places : ℕ) (p : CapProbe)

@@ -56,7 +56,8 @@ up_by false n r same less h = (let k = h.1 in omega arith, λ s below. let e = l
 
 pub is_root_up : (n : ℕ) → IsRootUp n (root_up n)
 is_root_up n = let h = is_root n in
-    up_by (eqb (root_down n * root_down n) n) n (root_down n) (λ e. eqb-true (root_down n * root_down n) n e) (λ e. differ (root_down n * root_down n) n e h.0) h
+    up_by (eqb (root_down n * root_down n) n) n (root_down n) (λ e. eqb-true (root_down n * root_down n) n e)
+    (λ e. differ (root_down n * root_down n) n e h.0) h
 
 pub root_up_of : (n r : ℕ) → IsRootUp n r → r ≡ root_up n
 root_up_of n r h = same_root_up n r (root_up n) h (is_root_up n)

@@ -88,10 +88,10 @@ side_more : (nodes n m : ℕ) (ns : List NodeAt) → nodes ≤ n → IsSideOf no
 side_more nodes n m ns le h = record { count = h.count; below = λ k d w. among_more nodes n (get_or ns k d) le (h.below k d w) }
 
 pub xfmr_in : (circuit : CircuitView) → HasPassed circuit → All (λ e. ElementInRange e.1) circuit.elements
-    → (control : RegControl) →
-    IsRegControlIn circuit.elements control → (place : ℕ) (n : ElementName) (t : Transformer) →
-    slice_get circuit.elements place ≡ Some (n, the.Transformer t) →
-    element_at circuit.elements place ≡ element_given circuit.elements class.Transformer control.transformer → IsXfmrOf (layout_of circuit.elements) place control t
+    → (control : RegControl) → IsRegControlIn circuit.elements control
+    → (place : ℕ) (n : ElementName) (t : Transformer) → slice_get circuit.elements place ≡ Some (n, the.Transformer t)
+    → element_at circuit.elements place ≡ element_given circuit.elements class.Transformer control.transformer
+    → IsXfmrOf (layout_of circuit.elements) place control t
 xfmr_in circuit h range control r place n t is same =
     let es = circuit.elements in
     let layout = layout_of es in
@@ -105,8 +105,10 @@ xfmr_in circuit h range control r place n t is same =
     let phase = subst (λ (e : Element). IsPhaseOf e control.ptphase) (sym here) r.phase in
     let few : complex_count layout ≤ 2 ^ 29 = omega (arith, all.complex) in
     let nodes : length layout.nodes ≤ complex_count layout = omega arith in
-    let first = side_more (length layout.nodes) (complex_count layout) (node_count t.phases) (ends_of layout place (the.Transformer t)).first nodes ready.sited.0 in
-    let second = side_more (length layout.nodes) (complex_count layout) (node_count t.phases) (ends_of layout place (the.Transformer t)).second nodes ready.sited.1 in
+    let first = side_more (length layout.nodes) (complex_count layout) (node_count t.phases)
+    (ends_of layout place (the.Transformer t)).first nodes ready.sited.0 in
+    let second = side_more (length layout.nodes) (complex_count layout) (node_count t.phases)
+    (ends_of layout place (the.Transformer t)).second nodes ready.sited.1 in
     let branches = ready.sited.2 in
     let low : (ends_of layout place (the.Transformer t)).branch < 2 ^ 30 = omega (arith, branches.below, branches.some, all.complex) in
     record {
@@ -115,8 +117,18 @@ xfmr_in circuit h range control r place n t is same =
       second_step = fit.second.step;
       phase = record { least = phase.least t.phases refl; most = phase.most t.phases refl };
       between = record {
-        first = record { count = first.count; small = λ k d w. among_small (complex_count layout) (get_or (ends_of layout place (the.Transformer t)).first k d) few (first.below k d w) };
-        second = record { count = second.count; small = λ k d w. among_small (complex_count layout) (get_or (ends_of layout place (the.Transformer t)).second k d) few (second.below k d w) };
+        first = record {
+          count = first.count;
+          small = λ k d w.
+              among_small (complex_count layout) (get_or (ends_of layout place (the.Transformer t)).first k d) few
+              (first.below k d w);
+        };
+        second = record {
+          count = second.count;
+          small = λ k d w.
+              among_small (complex_count layout) (get_or (ends_of layout place (the.Transformer t)).second k d) few
+              (second.below k d w);
+        };
         branch = low;
       };
       stands = record { first = first; second = second; branches = branches; few = few; room = omega arith };
@@ -157,7 +169,8 @@ module _ (circuit : CircuitView) (h : HasPassed circuit) (range : All (λ e. Ele
   pub found_at : (t : Transformer) → transformer_in entry.1 ≡ Some t → IsFound circuit control place entry.1 t
   found_at t back =
       let e : entry.1 ≡ the.Transformer t = transformer_back entry.1 t back in
-      let there : slice_get circuit.elements place ≡ Some (entry.0, the.Transformer t) = is ∙ ap (λ (x : Element). let pair : ElementName × Element = (entry.0, x) in Some pair) e in
+      let there : slice_get circuit.elements place ≡ Some (entry.0, the.Transformer t) =
+      is ∙ ap (λ (x : Element). let pair : ElementName × Element = (entry.0, x) in Some pair) e in
       record {
         stands = xfmr_in circuit h range control r place entry.0 t there same;
         is = e;
@@ -302,7 +315,8 @@ line_for circuit h range keys control r place e at same =
     let kind = subst (λ (x : Element). class.Line ≡ class_of x) (sym own) (given_class circuit.elements class.Line control.element r.line keys r.line_there) in
     let some = some_line (line_in e) (as_line e kind) in
     let back : e ≡ the.Line some.line = line_back e some.line some.is in
-    let there : slice_get circuit.elements place ≡ Some (entry.name, the.Line some.line) = entry.is ∙ ap (λ (x : Element). let pair : ElementName × Element = (entry.name, x) in Some pair) back in
+    let there : slice_get circuit.elements place ≡ Some (entry.name, the.Line some.line) =
+    entry.is ∙ ap (λ (x : Element). let pair : ElementName × Element = (entry.name, x) in Some pair) back in
     record { line = some.line; is = back; fit = line_at circuit h range control r place entry.name some.line there same }
 
 own_line : (layout : LayoutView) (place : ℕ) (control : CapControl) (e : Element) (f : IsLineFor layout place control e) (l : Line)
@@ -351,7 +365,8 @@ at_place circuit h range place e at =
       before = take place circuit.elements;
       name = entry.name;
       fit = (passed circuit h).each place pair entry.is;
-      in_range = subst (λ (x : ElementName × Element). ElementInRange x.1) (get_or_from_slice_get circuit.elements place pair pair entry.is) (range place pair within);
+      in_range = subst (λ (x : ElementName × Element). ElementInRange x.1)
+          (get_or_from_slice_get circuit.elements place pair pair entry.is) (range place pair within);
     }
 
 pub regcontrol_in : (circuit : CircuitView) → HasPassed circuit → All (λ e. ElementInRange e.1) circuit.elements

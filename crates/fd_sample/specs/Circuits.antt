@@ -82,7 +82,9 @@ pub record IsXfmrFor (layout : LayoutView) (place : ℕ) (control : RegControl) 
 
 -- the probe of a control whose transformer is this element and has this number
 abbrev pub IsRegProbeAt : LayoutView → ℕ → RegControl → Element → ℕ → RegProbe → Type 0
-IsRegProbeAt layout place control e number p = (t : Transformer) → e ≡ the.Transformer t → p ≡ reg_probe control t (ends_of layout place (the.Transformer t)) number
+IsRegProbeAt layout place control e number p =
+    (t : Transformer) → e ≡ the.Transformer t
+    → p ≡ reg_probe control t (ends_of layout place (the.Transformer t)) number
 
 -- ---- a bank's control
 
@@ -159,7 +161,9 @@ reg_probe_at es control place None = None
 reg_probe_at es control place (Some t) = Some (reg_probe control t (ends_of (layout_of es) place (the.Transformer t)) (transformers_before es place))
 
 abbrev pub reg_probe_in : Elements → RegControl → Option RegProbe
-reg_probe_in es control = option_and_then (λ place. reg_probe_at es control place (option_and_then transformer_in (element_at es place))) (place_given es class.Transformer control.transformer)
+reg_probe_in es control =
+    option_and_then (λ place. reg_probe_at es control place (option_and_then transformer_in (element_at es place)))
+    (place_given es class.Transformer control.transformer)
 
 -- the probe of a bank's control, by the line and the bank that it names
 abbrev pub cap_probe_at : Elements → CapControl → ℕ → Option Line → Option ℕ → Option CapProbe
@@ -168,7 +172,11 @@ cap_probe_at es control place (Some l) None = None
 cap_probe_at es control place (Some l) (Some bank) = Some (cap_probe control l (ends_of (layout_of es) place (the.Line l)) (banks_before es bank))
 
 abbrev pub cap_probe_in : Elements → CapControl → Option CapProbe
-cap_probe_in es control = option_and_then (λ place. cap_probe_at es control place (option_and_then line_in (element_at es place)) (place_given es class.Capacitor control.capacitor)) (place_given es class.Line control.element)
+cap_probe_in es control =
+    option_and_then (λ place.
+    cap_probe_at es control place (option_and_then line_in (element_at es place))
+    (place_given es class.Capacitor control.capacitor))
+    (place_given es class.Line control.element)
 
 -- the probe of an element, one for a control of a circuit that passed the tests of Solve and none for any other element
 abbrev pub probe_in : Elements → Element → Option Probe
@@ -211,4 +219,6 @@ pub record AreProbes (elements : Elements) (ps : List Probe) : Type 0 where
 
 -- a circuit's controls keep to it once the circuit passed the tests of Solve
 abbrev pub ProbesLaw : Type 0
-ProbesLaw = (circuit : CircuitView) → HasPassed circuit → AllInRange circuit.elements → All IsEntry circuit.elements → AreProbes circuit.elements (probes_of circuit.elements)
+ProbesLaw =
+    (circuit : CircuitView) → HasPassed circuit → AllInRange circuit.elements → All IsEntry circuit.elements
+    → AreProbes circuit.elements (probes_of circuit.elements)

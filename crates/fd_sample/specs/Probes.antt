@@ -67,7 +67,10 @@ IsSampleOf (probe.Bank p) at s v = IsCapSample (kind_of p.measured) (decision_at
 -- the edge that an undecided sample tells; the interval of a bank's control is told apart from ALL
 abbrev pub TellsChange : Probe → Positions → Bounds → Verdict → Type 0
 TellsChange (probe.Regulator p) at s v = TellsEdge (decision_at (probe.Regulator p) at) (least_root s) (greatest_root s) v
-TellsChange (probe.Bank p) at s v = IsSome s → TellsEdge (decision_at (probe.Bank p) at) (least_of (kind_of p.measured) s) (greatest_of (kind_of p.measured) s) v
+TellsChange (probe.Bank p) at s v =
+    IsSome s
+    → TellsEdge (decision_at (probe.Bank p) at) (least_of (kind_of p.measured) s) (greatest_of (kind_of p.measured) s)
+    v
 
 -- a decided verdict is what the control wants at every state of the ball
 abbrev pub IsOfEachState : Probe → Positions → List ℤ → List ℕ → Verdict → Type 0

@@ -18,9 +18,12 @@ use fd_queue::Verdict;
 pub fn bank_verdict(probe: &CapProbe, closed: bool, centre: &[i128], radii: &[u128]) -> Verdict
     requires probe { IsCapProbe (length centre.now) probe.now }
     requires ball { IsBall centre.now radii.now }
-    ensures sample { IsCapSample (kind_of probe.now.measured) (cap_decision probe.now closed) (cap_edge probe.now closed) (cap_interval probe.now.measured centre.now radii.now) result }
-    ensures edge { IsSome (cap_interval probe.now.measured centre.now radii.now) →
-        TellsEdge (cap_decision probe.now closed) (least_of (kind_of probe.now.measured) (cap_interval probe.now.measured centre.now radii.now)) (greatest_of (kind_of probe.now.measured) (cap_interval probe.now.measured centre.now radii.now)) result }
+    ensures sample { IsCapSample (kind_of probe.now.measured) (cap_decision probe.now closed)
+        (cap_edge probe.now closed) (cap_interval probe.now.measured centre.now radii.now) result }
+    ensures edge { IsSome (cap_interval probe.now.measured centre.now radii.now)
+        → TellsEdge (cap_decision probe.now closed)
+        (least_of (kind_of probe.now.measured) (cap_interval probe.now.measured centre.now radii.now))
+        (greatest_of (kind_of probe.now.measured) (cap_interval probe.now.measured centre.now radii.now)) result }
     ensures every_state { AgreesAtEveryState probe.now closed centre.now radii.now result }
 {
     match probe.measured {

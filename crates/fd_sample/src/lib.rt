@@ -17,10 +17,10 @@
 // as a function, and its law).
 //
 // Modules: `probe` (what is known of a control), `scripted` (by its settings), `numbers` (of transformers and banks),
-// `circuit` (a probe in a circuit that passed the tests of Solve), `all` (of all controls), `intervals`, `phasors`, `relay` (a regulator's voltage), `lineflow` (the
-// reactive power that enters a line), `roots` (where magnitudes stand to edges), `regulator` and `bank` (what they
-// want), `ends` (what the ends of an interval decide), `sample` and `bank_sample` (their samples), `controls`
-// (`verdict`), `laws`.
+// `circuit` (a probe in a circuit that passed the tests of Solve), `all` (of all controls), `intervals`, `phasors`,
+// `relay` (a regulator's voltage), `lineflow` (the reactive power that enters a line), `roots` (where magnitudes
+// stand to edges), `regulator` and `bank` (what they want), `ends` (what the ends of an interval decide), `sample`
+// and `bank_sample` (their samples), `controls` (`verdict`), `laws`.
 #![tactic(auto)]
 
 mod all;

@@ -26,7 +26,9 @@ pub fn regulator_verdict(
     requires taps { AreTaps taps }
     requires ball { IsBall centre.now radii.now }
     ensures sample { IsRootSample (reg_decision probe.now taps) (reg_edge probe.now taps) (reg_interval probe.now taps centre.now radii.now) result }
-    ensures edge { TellsEdge (reg_decision probe.now taps) (least_root (reg_interval probe.now taps centre.now radii.now)) (greatest_root (reg_interval probe.now taps centre.now radii.now)) result }
+    ensures edge { TellsEdge (reg_decision probe.now taps)
+        (least_root (reg_interval probe.now taps centre.now radii.now))
+        (greatest_root (reg_interval probe.now taps centre.now radii.now)) result }
     ensures every_state { IsOfEveryState probe.now taps centre.now radii.now result }
 {
     let tap = own_tap(probe, taps);

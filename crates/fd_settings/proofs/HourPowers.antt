@@ -24,7 +24,9 @@ at_start elements (the.RegControl c) = refl
 at_start elements (the.CapControl c) = refl
 at_start elements (the.Loadshape s) = refl
 
-all_at_start : (elements es : Elements) → flat_map (λ (e : ElementName × Element). element_powers elements 0 e.1) es ≡ flat_map (λ (e : ElementName × Element). powers_of e.1) es
+all_at_start : (elements es : Elements)
+    → flat_map (λ (e : ElementName × Element). element_powers elements 0 e.1) es
+    ≡ flat_map (λ (e : ElementName × Element). powers_of e.1) es
 all_at_start elements [] = refl
 all_at_start elements (e ∷ es) = λ i. at_start elements e.1 i ++ all_at_start elements es i
 

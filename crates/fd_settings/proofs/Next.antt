@@ -57,48 +57,67 @@ next_states_counted solves (the.RegControl c) before = refl
 next_states_counted solves (the.CapControl c) before = refl
 next_states_counted solves (the.Loadshape s) before = refl
 
-counted : {A : Type 0} (f : Element → Option A → List A) (n : Element → ℕ) → ((e : Element) (o : Option A) → length (f e o) ≡ n e) → (es : Elements) (before : List A)
+counted : {A : Type 0} (f : Element → Option A → List A) (n : Element → ℕ)
+    → ((e : Element) (o : Option A) → length (f e o) ≡ n e) → (es : Elements) (before : List A)
     → length (in_order f n es before) ≡ list_n (λ (x : ElementName × Element). n x.1) es
 counted f n h [] before = refl
 counted f n h (e ∷ es) before =
-    length-append (f e.1 (slice_get before 0)) (in_order f n es (drop (n e.1) before)) ∙ (λ i. h e.1 (slice_get before 0) i + counted f n h es (drop (n e.1) before) i)
+    length-append (f e.1 (slice_get before 0)) (in_order f n es (drop (n e.1) before))
+    ∙ (λ i. h e.1 (slice_get before 0) i + counted f n h es (drop (n e.1) before) i)
 
 -- ---- one element more
 
 -- what is made so far, then what the rest gives with those of before that are left
-next_step : {A : Type 0} (f : Element → Option A → List A) (n : Element → ℕ) → ((e : Element) (o : Option A) → length (f e o) ≡ n e)
+next_step : {A : Type 0} (f : Element → Option A → List A) (n : Element → ℕ)
+    → ((e : Element) (o : Option A) → length (f e o) ≡ n e)
     → (es : Elements) (k : ℕ) (e : ElementName × Element) (made before : List A) → slice_get es k ≡ Some e
-    → (made ++ f e.1 (slice_get before (length made))) ++ in_order f n (drop (k + 1) es) (drop (length (made ++ f e.1 (slice_get before (length made)))) before) ≡ made ++ in_order f n (drop k es) (drop (length made) before)
+    → (made ++ f e.1 (slice_get before (length made)))
+    ++ in_order f n (drop (k + 1) es) (drop (length (made ++ f e.1 (slice_get before (length made)))) before)
+    ≡ made ++ in_order f n (drop k es) (drop (length made) before)
 next_step f n h es k e made before at =
     let more = f e.1 (slice_get before (length made)) in
     let count : length (made ++ more) ≡ length made + n e.1 = length-append made more ∙ ap (λ m. length made + m) (h e.1 (slice_get before (length made))) in
-    let left : drop (length (made ++ more)) before ≡ drop (n e.1) (drop (length made) before) = ap (λ m. drop m before) count ∙ sym (drop_drop (length made) (n e.1) before) in
+    let left : drop (length (made ++ more)) before ≡ drop (n e.1) (drop (length made) before) =
+    ap (λ m. drop m before) count ∙ sym (drop_drop (length made) (n e.1) before) in
     append_assoc made more (in_order f n (drop (k + 1) es) (drop (length (made ++ more)) before))
-    ∙ ap (λ r. made ++ r) ((λ i. f e.1 (sym (first_left before (length made)) i) ++ in_order f n (drop (k + 1) es) (left i)) ∙ ap (λ xs. in_order f n xs (drop (length made) before)) (sym (drop-more es k e at)))
+    ∙ ap (λ r. made ++ r)
+    ((λ i. f e.1 (sym (first_left before (length made)) i) ++ in_order f n (drop (k + 1) es) (left i))
+    ∙ ap (λ xs. in_order f n xs (drop (length made) before)) (sym (drop-more es k e at)))
 
 -- the same of what is made with one element more
-next_made : {A : Type 0} (f : Element → Option A → List A) (n : Element → ℕ) → ((e : Element) (o : Option A) → length (f e o) ≡ n e)
-    → (es : Elements) (k : ℕ) (e : ElementName × Element) (made new before : List A) → slice_get es k ≡ Some e → new ≡ made ++ f e.1 (slice_get before (length made))
-    → new ++ in_order f n (drop (k + 1) es) (drop (length new) before) ≡ made ++ in_order f n (drop k es) (drop (length made) before)
+next_made : {A : Type 0} (f : Element → Option A → List A) (n : Element → ℕ)
+    → ((e : Element) (o : Option A) → length (f e o) ≡ n e)
+    → (es : Elements) (k : ℕ) (e : ElementName × Element) (made new before : List A) → slice_get es k ≡ Some e
+    → new ≡ made ++ f e.1 (slice_get before (length made))
+    → new ++ in_order f n (drop (k + 1) es) (drop (length new) before)
+    ≡ made ++ in_order f n (drop k es) (drop (length made) before)
 next_made f n h es k e made new before at is = ap (λ m. m ++ in_order f n (drop (k + 1) es) (drop (length m) before)) is ∙ next_step f n h es k e made before at
 
 -- by the number of Solves and the list of before as the code reads them
-pub taps_next : (solves read : ℕ) (es : Elements) (k : ℕ) (e : ElementName × Element) (made new before old : List TapPair) → slice_get es k ≡ Some e → read ≡ solves → old ≡ before
+pub taps_next : (solves read : ℕ) (es : Elements) (k : ℕ) (e : ElementName × Element)
+    (made new before old : List TapPair)
+    → slice_get es k ≡ Some e → read ≡ solves → old ≡ before
     → new ≡ made ++ next_taps_of read e.1 (slice_get old (length made))
-    → new ++ next_taps solves (drop (k + 1) es) (drop (length new) before) ≡ made ++ next_taps solves (drop k es) (drop (length made) before)
+    → new ++ next_taps solves (drop (k + 1) es) (drop (length new) before)
+    ≡ made ++ next_taps solves (drop k es) (drop (length made) before)
 taps_next solves read es k e made new before old at count same is =
     next_made (next_taps_of solves) tap_count (next_taps_counted solves) es k e made new before at
     (is ∙ (λ i. made ++ next_taps_of (count i) e.1 (slice_get (same i) (length made))))
 
-pub states_next : (solves read : ℕ) (es : Elements) (k : ℕ) (e : ElementName × Element) (made new before old : List Bool) → slice_get es k ≡ Some e → read ≡ solves → old ≡ before
+pub states_next : (solves read : ℕ) (es : Elements) (k : ℕ) (e : ElementName × Element)
+    (made new before old : List Bool)
+    → slice_get es k ≡ Some e → read ≡ solves → old ≡ before
     → new ≡ made ++ next_closed_of read e.1 (slice_get old (length made))
-    → new ++ next_closed solves (drop (k + 1) es) (drop (length new) before) ≡ made ++ next_closed solves (drop k es) (drop (length made) before)
+    → new ++ next_closed solves (drop (k + 1) es) (drop (length new) before)
+    ≡ made ++ next_closed solves (drop k es) (drop (length made) before)
 states_next solves read es k e made new before old at count same is =
     next_made (next_closed_of solves) bank_count (next_states_counted solves) es k e made new before at
     (is ∙ (λ i. made ++ next_closed_of (count i) e.1 (slice_get (same i) (length made))))
 
 -- no element is left
-pub next_done : {A : Type 0} (f : Element → Option A → List A) (n : Element → ℕ) (es : Elements) (k : ℕ) (made left all : List A) → length es ≤ k → made ++ in_order f n (drop k es) left ≡ all → made ≡ all
+pub next_done : {A : Type 0} (f : Element → Option A → List A) (n : Element → ℕ) (es : Elements) (k : ℕ)
+    (made left all : List A)
+    → length es ≤ k → made ++ in_order f n (drop k es) left ≡ all → made ≡ all
 next_done f n es k made left all past h = sym (append-nil made) ∙ ap (λ xs. made ++ in_order f n xs left) (sym (drop_of_length-le es past)) ∙ h
 
 -- ---- where nothing was before
@@ -139,31 +158,45 @@ either_within P false x y hx hy = hy
 tap_within : (solves : ℕ) (w : Winding) (before : ℕ) → IsTap w.tap → IsTap before → IsTap (next_tap solves w before)
 tap_within solves w before h k = either_within IsTap (is_set solves w.set_at) w.tap before h k
 
-pair_within : (solves : ℕ) (t : Transformer) (before : List TapPair) → TransformerInRange t → All AreTaps before → AreTaps (next_pair solves t (slice_get before 0))
-pair_within solves t [] h within = record { first_least = h.first.tap.least; first_most = h.first.tap.most; second_least = h.second.tap.least; second_most = h.second.tap.most }
+pair_within : (solves : ℕ) (t : Transformer) (before : List TapPair) → TransformerInRange t → All AreTaps before
+    → AreTaps (next_pair solves t (slice_get before 0))
+pair_within solves t [] h within = record {
+  first_least = h.first.tap.least;
+  first_most = h.first.tap.most;
+  second_least = h.second.tap.least;
+  second_most = h.second.tap.most;
+}
 pair_within solves t (p ∷ ps) h within =
     let of = All-head AreTaps p ps within in
     let first = tap_within solves t.first p.first h.first.tap (record { least = of.first_least; most = of.first_most }) in
     let second = tap_within solves t.second p.second h.second.tap (record { least = of.second_least; most = of.second_most }) in
     record { first_least = first.least; first_most = first.most; second_least = second.least; second_most = second.most }
 
-taps_within : (solves : ℕ) (e : Element) (before : List TapPair) → ElementInRange e → All AreTaps before → All AreTaps (next_taps_of solves e (slice_get before 0))
+taps_within : (solves : ℕ) (e : Element) (before : List TapPair) → ElementInRange e → All AreTaps before
+    → All AreTaps (next_taps_of solves e (slice_get before 0))
 taps_within solves (the.Vsource v) before h within = All-nil AreTaps
 taps_within solves (the.Linecode c) before h within = All-nil AreTaps
 taps_within solves (the.Line l) before h within = All-nil AreTaps
-taps_within solves (the.Transformer t) before h within = All-cons AreTaps (next_pair solves t (slice_get before 0)) [] (pair_within solves t before h within) (All-nil AreTaps)
+taps_within solves (the.Transformer t) before h within =
+    All-cons AreTaps (next_pair solves t (slice_get before 0)) [] (pair_within solves t before h within)
+    (All-nil AreTaps)
 taps_within solves (the.Capacitor c) before h within = All-nil AreTaps
 taps_within solves (the.Load l) before h within = All-nil AreTaps
 taps_within solves (the.RegControl c) before h within = All-nil AreTaps
 taps_within solves (the.CapControl c) before h within = All-nil AreTaps
 taps_within solves (the.Loadshape s) before h within = All-nil AreTaps
 
-all_within : (solves : ℕ) (es : Elements) (before : List TapPair) → All (λ (e : ElementName × Element). ElementInRange e.1) es → All AreTaps before → All AreTaps (next_taps solves es before)
+all_within : (solves : ℕ) (es : Elements) (before : List TapPair)
+    → All (λ (e : ElementName × Element). ElementInRange e.1) es → All AreTaps before
+    → All AreTaps (next_taps solves es before)
 all_within solves [] before h within = All-nil AreTaps
 all_within solves (e ∷ es) before h within =
-    All-append AreTaps (next_taps_of solves e.1 (slice_get before 0)) (next_taps solves es (drop (tap_count e.1) before))
+    All-append AreTaps (next_taps_of solves e.1 (slice_get before 0))
+    (next_taps solves es (drop (tap_count e.1) before))
     (taps_within solves e.1 before (All-head (λ (x : ElementName × Element). ElementInRange x.1) e es h) within)
-    (all_within solves es (drop (tap_count e.1) before) (All-tail (λ (x : ElementName × Element). ElementInRange x.1) e es h) (All-drop AreTaps (tap_count e.1) before within))
+    (all_within solves es (drop (tap_count e.1) before)
+    (All-tail (λ (x : ElementName × Element). ElementInRange x.1) e es h)
+    (All-drop AreTaps (tap_count e.1) before within))
 
 -- ---- the law
 

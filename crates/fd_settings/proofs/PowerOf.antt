@@ -41,7 +41,9 @@ module _ (p pf : ℤ) (least : 1 ≤ square pf) where
   size_most : square p * (10 ^ 18 - square pf) < (reactive_size p pf + 1) * (reactive_size p pf + 1) * square pf
   size_most = by (cases_lt (square p * (10 ^ 18 - square pf)) ((reactive_size p pf + 1) * (reactive_size p pf + 1) * square pf))
     where
-      by : (square p * (10 ^ 18 - square pf) < (reactive_size p pf + 1) * (reactive_size p pf + 1) * square pf) ⊎ ((reactive_size p pf + 1) * (reactive_size p pf + 1) * square pf ≤ square p * (10 ^ 18 - square pf)) → square p * (10 ^ 18 - square pf) < (reactive_size p pf + 1) * (reactive_size p pf + 1) * square pf
+      by : (square p * (10 ^ 18 - square pf) < (reactive_size p pf + 1) * (reactive_size p pf + 1) * square pf)
+          ⊎ ((reactive_size p pf + 1) * (reactive_size p pf + 1) * square pf ≤ square p * (10 ^ 18 - square pf))
+          → square p * (10 ^ 18 - square pf) < (reactive_size p pf + 1) * (reactive_size p pf + 1) * square pf
       by (inl l) = l
       by (inr l) =
           let within = root_within (nat_abs p) (square pf) (reactive_size p pf + 1) least l in
@@ -49,7 +51,9 @@ module _ (p pf : ℤ) (least : 1 ≤ square pf) where
           absurd (omega (arith, more))
 
   pub is_by_power_factor : IsByPowerFactor p pf (signed (differ p pf) (reactive_size p pf))
-  is_by_power_factor = by_sign p pf (signed (differ p pf) (reactive_size p pf)) (reactive_size p pf) refl (size_keeps (reactive_size p pf) (greatest_holds keeps (10 ^ 9 * nat_abs p))) size_most
+  is_by_power_factor =
+      by_sign p pf (signed (differ p pf) (reactive_size p pf)) (reactive_size p pf) refl
+      (size_keeps (reactive_size p pf) (greatest_holds keeps (10 ^ 9 * nat_abs p))) size_most
 
 one_at_least : (pf : ℤ) → IsPowerFactor pf → 1 ≤ nat_abs pf
 one_at_least pf (inl h) = omega (arith, ints, h.least)

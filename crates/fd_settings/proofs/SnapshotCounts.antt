@@ -47,7 +47,9 @@ powers_counted (the.RegControl c) = refl
 powers_counted (the.CapControl c) = refl
 powers_counted (the.Loadshape s) = refl
 
-pub counted : {A : Type 0} (f : Element → List A) (n : Element → ℕ) → ((e : Element) → length (f e) ≡ n e) → (es : Elements) → length (flat_map (λ (x : ElementName × Element). f x.1) es) ≡ list_n (λ (x : ElementName × Element). n x.1) es
+pub counted : {A : Type 0} (f : Element → List A) (n : Element → ℕ) → ((e : Element) → length (f e) ≡ n e)
+    → (es : Elements)
+    → length (flat_map (λ (x : ElementName × Element). f x.1) es) ≡ list_n (λ (x : ElementName × Element). n x.1) es
 counted f n h [] = refl
 counted f n h (e ∷ es) = length-append (f e.1) (flat_map (λ (x : ElementName × Element). f x.1) es) ∙ (λ i. h e.1 i + counted f n h es i)
 
@@ -55,15 +57,21 @@ taps_within : (e : Element) → ElementInRange e → All AreTaps (taps_of e)
 taps_within (the.Vsource v) h = All-nil AreTaps
 taps_within (the.Linecode c) h = All-nil AreTaps
 taps_within (the.Line l) h = All-nil AreTaps
-taps_within (the.Transformer t) h = All-cons AreTaps (record { first = t.first.tap; second = t.second.tap }) []
-    (record { first_least = h.first.tap.least; first_most = h.first.tap.most; second_least = h.second.tap.least; second_most = h.second.tap.most }) (All-nil AreTaps)
+taps_within (the.Transformer t) h =
+    All-cons AreTaps (record { first = t.first.tap; second = t.second.tap }) [] (record {
+      first_least = h.first.tap.least;
+      first_most = h.first.tap.most;
+      second_least = h.second.tap.least;
+      second_most = h.second.tap.most;
+    }) (All-nil AreTaps)
 taps_within (the.Capacitor c) h = All-nil AreTaps
 taps_within (the.Load l) h = All-nil AreTaps
 taps_within (the.RegControl c) h = All-nil AreTaps
 taps_within (the.CapControl c) h = All-nil AreTaps
 taps_within (the.Loadshape s) h = All-nil AreTaps
 
-all_taps_within : (es : Elements) → All (λ (e : ElementName × Element). ElementInRange e.1) es → All AreTaps (flat_map (λ (e : ElementName × Element). taps_of e.1) es)
+all_taps_within : (es : Elements) → All (λ (e : ElementName × Element). ElementInRange e.1) es
+    → All AreTaps (flat_map (λ (e : ElementName × Element). taps_of e.1) es)
 all_taps_within [] h = All-nil AreTaps
 all_taps_within (e ∷ es) h =
     All-append AreTaps (taps_of e.1) (flat_map (λ (x : ElementName × Element). taps_of x.1) es)
@@ -72,6 +80,10 @@ all_taps_within (e ∷ es) h =
 
 pub snapshot_is : SnapshotLaw
 snapshot_is es = record {
-  counts = record { taps = counted taps_of tap_count taps_counted es; closed = counted closed_of bank_count states_counted es; powers = counted powers_of power_count powers_counted es };
+  counts = record {
+    taps = counted taps_of tap_count taps_counted es;
+    closed = counted closed_of bank_count states_counted es;
+    powers = counted powers_of power_count powers_counted es;
+  };
   taps = all_taps_within es;
 }

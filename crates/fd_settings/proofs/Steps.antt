@@ -7,7 +7,8 @@ use Rattle.std.proofs.lemmas.Option.{slice_get_within, get_or_from_slice_get}
 use Rattle.dss_layout.proofs.CallerLemmas.{take-more}
 
 -- one element more, which stands at a place
-pub flat_map_at : {A B : Type 0} (f : A → List B) (xs : List A) (k : ℕ) (x : A) → slice_get xs k ≡ Some x → flat_map f (take (k + 1) xs) ≡ flat_map f (take k xs) ++ f x
+pub flat_map_at : {A B : Type 0} (f : A → List B) (xs : List A) (k : ℕ) (x : A) → slice_get xs k ≡ Some x
+    → flat_map f (take (k + 1) xs) ≡ flat_map f (take k xs) ++ f x
 flat_map_at f xs k x h =
     ap (flat_map f) (take-more xs k x h) ∙ flat_map-append f (take k xs) (x ∷ []) ∙ ap (λ r. flat_map f (take k xs) ++ r) (append-nil (f x))
 

@@ -57,8 +57,11 @@ moved_once taps closed opened ss m (state.Regulator p s) e h w =
       opened = opened;
       moves = set (map moved_in ss) e.control (Some u);
     }) up
-    ∙ ap (λ (ms : List (Option Bool)). record m { at = record { taps = set taps p.transformer (moved_pair s pair); closed = closed }; opened = opened; moves = ms })
-    (sym (map-set moved_in ss e.control (acted_state e.time (state.Regulator p s))))
+    ∙ ap (λ (ms : List (Option Bool)). record m {
+      at = record { taps = set taps p.transformer (moved_pair s pair); closed = closed };
+      opened = opened;
+      moves = ms;
+    }) (sym (map-set moved_in ss e.control (acted_state e.time (state.Regulator p s))))
 moved_once taps closed opened ss m (state.Bank p s) e h w =
     let up : e.up ≡ is_raise s.verdict = sym (raise_way s.verdict e.up w) in
     ap (λ (u : Bool). record m {
@@ -87,8 +90,9 @@ acted_once taps closed opened ss m (state.Regulator p s) e h w l =
       time = e.time;
       control = e.control;
       steps = signed_steps u (steps_of s.verdict);
-      after = tap_of s.is_second
-          (get_or (set taps p.transformer (set_tap s.is_second (moved_tap u (tap_of s.is_second pair) (steps_of s.verdict * s.tap_step)) pair)) p.transformer no_taps);
+      after = tap_of s.is_second (get_or (set taps p.transformer
+          (set_tap s.is_second (moved_tap u (tap_of s.is_second pair) (steps_of s.verdict * s.tap_step)) pair))
+          p.transformer no_taps);
     }) up
     ∙ ap (λ (t : TapPair). record {
       time = e.time;
@@ -345,10 +349,12 @@ other_can taps closed opened ss e x d h l m n can c =
           (two_apart ss e.control x.control d c h.apart n l m) was.fits;
     })
 
-pub others_can : (taps : List TapPair) (closed : List Bool) (opened : List (Option ℕ)) (ss : List ControlState) (e : Entry) (es : List Entry) (d : ControlState) →
-    AreStanding taps closed opened ss → e.control < length ss → AllByRecursion (λ x. x.control < length ss) es →
-    AllByRecursion (λ x. e.control ≢ x.control) es → AllCanAct taps ss es →
-    AllCanAct (acted_taps (get_or ss e.control d) taps) (set ss e.control (acted_state e.time (get_or ss e.control d))) es
+pub others_can : (taps : List TapPair) (closed : List Bool) (opened : List (Option ℕ)) (ss : List ControlState)
+    (e : Entry) (es : List Entry) (d : ControlState)
+    → AreStanding taps closed opened ss → e.control < length ss → AllByRecursion (λ x. x.control < length ss) es
+    → AllByRecursion (λ x. e.control ≢ x.control) es → AllCanAct taps ss es
+    → AllCanAct (acted_taps (get_or ss e.control d) taps)
+    (set ss e.control (acted_state e.time (get_or ss e.control d))) es
 others_can taps closed opened ss e [] d h l m n can = tt
 others_can taps closed opened ss e (x ∷ es) d h l m n can =
     (other_can taps closed opened ss e x d h l m.0 n.0 can.0, others_can taps closed opened ss e es d h l m.1 n.1 can.1)
@@ -360,15 +366,17 @@ acts_first : (s : Setup) (vs : List Decision) (m : Machine) (e : Entry) (es : Li
     ≡ acted s.rule (get_or s.controls e.control no_control) (get_or vs e.control Hold) m e ∷ []
 acts_first s vs m e es = refl
 
-acts_more : (s : Setup) (vs : List Decision) (m : Machine) (es : List Entry) (k : ℕ) (d : Entry) → k < length es →
-    acts_of s vs m (take (k + 1) es) ≡ acts_of s vs m (take k es)
-    ++ acted s.rule (get_or s.controls (get_or es k d).control no_control) (get_or vs (get_or es k d).control Hold) (fold (moved s vs) m (take k es)) (get_or es k d) ∷ []
+acts_more : (s : Setup) (vs : List Decision) (m : Machine) (es : List Entry) (k : ℕ) (d : Entry) → k < length es
+    → acts_of s vs m (take (k + 1) es)
+    ≡ acts_of s vs m (take k es) ++ acted s.rule (get_or s.controls (get_or es k d).control no_control)
+    (get_or vs (get_or es k d).control Hold) (fold (moved s vs) m (take k es)) (get_or es k d) ∷ []
 acts_more s vs m [] k d l = absurd (omega arith)
 acts_more s vs m (e ∷ es) zero d l = acts_first s vs m e es
 acts_more s vs m (e ∷ es) (suc k) d l =
     let next : suc k + 1 ≡ suc (k + 1) = omega arith in
     ap (λ n. acts_of s vs m (take n (e ∷ es))) next
-    ∙ ap (λ xs. acted s.rule (get_or s.controls e.control no_control) (get_or vs e.control Hold) m e ∷ xs) (acts_more s vs (moved s vs m e) es k d (omega arith))
+    ∙ ap (λ xs. acted s.rule (get_or s.controls e.control no_control) (get_or vs e.control Hold) m e ∷ xs)
+    (acts_more s vs (moved s vs m e) es k d (omega arith))
 
 -- the control of an entry and its decision, as the machine names them
 names_control : (ss₀ ss : List ControlState) (opened : List (Option ℕ)) (k : ℕ) (d : ControlState)
@@ -437,14 +445,19 @@ next_by : (due : List Entry) (k : ℕ) (taps₀ taps taps' : List TapPair) (clos
     IsActing due (k + 1) taps₀ (acted_taps s taps) closed₀ (acted_closed s closed) opened₀ (acted_opened e.time s opened) ss₀
     (set ss e.control (acted_state e.time s)) (made ++ act_of s e taps ∷ []) →
     IsActing due (k + 1) taps₀ taps' closed₀ closed' opened₀ opened' ss₀ (set ss e.control new) (made ++ a ∷ [])
-next_by due k taps₀ taps taps' closed₀ closed closed' opened₀ opened opened' ss₀ ss made e s new a is_taps is_closed is_opened is_new is_act h =
-    subst (λ x. IsActing due (k + 1) taps₀ taps' closed₀ closed' opened₀ opened' ss₀ (set ss e.control new) (made ++ x ∷ [])) (sym is_act)
-    (subst (λ x. IsActing due (k + 1) taps₀ taps' closed₀ closed' opened₀ opened' ss₀ (set ss e.control x) (made ++ act_of s e taps ∷ [])) (sym is_new)
-    (subst (λ x. IsActing due (k + 1) taps₀ taps' closed₀ closed' opened₀ x ss₀ (set ss e.control (acted_state e.time s)) (made ++ act_of s e taps ∷ [])) (sym is_opened)
-    (subst (λ x. IsActing due (k + 1) taps₀ taps' closed₀ x opened₀ (acted_opened e.time s opened) ss₀ (set ss e.control (acted_state e.time s)) (made ++ act_of s e taps ∷ []))
-    (sym is_closed)
-    (subst (λ x. IsActing due (k + 1) taps₀ x closed₀ (acted_closed s closed) opened₀ (acted_opened e.time s opened) ss₀ (set ss e.control (acted_state e.time s))
-    (made ++ act_of s e taps ∷ [])) (sym is_taps) h))))
+next_by due k taps₀ taps taps' closed₀ closed closed' opened₀ opened opened' ss₀ ss made e s new a is_taps is_closed
+    is_opened is_new is_act h =
+    subst (λ x.
+    IsActing due (k + 1) taps₀ taps' closed₀ closed' opened₀ opened' ss₀ (set ss e.control new) (made ++ x ∷ []))
+    (sym is_act) (subst (λ x.
+    IsActing due (k + 1) taps₀ taps' closed₀ closed' opened₀ opened' ss₀ (set ss e.control x)
+    (made ++ act_of s e taps ∷ [])) (sym is_new) (subst (λ x.
+    IsActing due (k + 1) taps₀ taps' closed₀ closed' opened₀ x ss₀ (set ss e.control (acted_state e.time s))
+    (made ++ act_of s e taps ∷ [])) (sym is_opened) (subst (λ x.
+    IsActing due (k + 1) taps₀ taps' closed₀ x opened₀ (acted_opened e.time s opened) ss₀
+    (set ss e.control (acted_state e.time s)) (made ++ act_of s e taps ∷ [])) (sym is_closed) (subst (λ x.
+    IsActing due (k + 1) taps₀ x closed₀ (acted_closed s closed) opened₀ (acted_opened e.time s opened) ss₀
+    (set ss e.control (acted_state e.time s)) (made ++ act_of s e taps ∷ [])) (sym is_taps) h))))
 
 pub next_acted : (due : List Entry) (k : ℕ) (taps₀ taps taps' : List TapPair) (closed₀ closed closed' : List Bool) (opened₀ opened opened' : List (Option ℕ))
     (ss₀ ss : List ControlState) (made : List Act) (d : Entry) (c new : ControlState) (a : Act) →
@@ -454,7 +467,8 @@ pub next_acted : (due : List Entry) (k : ℕ) (taps₀ taps taps' : List TapPair
     opened' ≡ acted_opened (get_or due k d).time (get_or ss (get_or due k d).control c) opened →
     new ≡ acted_state (get_or due k d).time (get_or ss (get_or due k d).control c) → a ≡ act_of (get_or ss (get_or due k d).control c) (get_or due k d) taps →
     IsActing due (k + 1) taps₀ taps' closed₀ closed' opened₀ opened' ss₀ (set ss (get_or due k d).control new) (made ++ a ∷ [])
-next_acted due k taps₀ taps taps' closed₀ closed closed' opened₀ opened opened' ss₀ ss made d c new a h l one_each numbers early is_taps is_closed is_opened is_new is_act =
+next_acted due k taps₀ taps taps' closed₀ closed closed' opened₀ opened opened' ss₀ ss made d c new a h l one_each
+    numbers early is_taps is_closed is_opened is_new is_act =
     let e = get_or due k d in
     let s = get_or ss e.control c in
     let fits : e.control < length ss = omega (arith, each_at (λ x. x.control < length ss₀) due k d numbers l, h.each_state) in
@@ -479,9 +493,11 @@ next_acted due k taps₀ taps taps' closed₀ closed closed' opened₀ opened op
           ∙ moved_once taps closed opened ss m s e state own.way;
       acts = λ limit m.
           acts_more (setup_of_states limit ss₀) (map verdict_in ss₀) (acting taps₀ closed₀ opened₀ ss₀ m) due k d l
-          ∙ ap (λ xs. xs ++ acted settle_rule (get_or (controls_of ss₀) e.control no_control) (get_or (map verdict_in ss₀) e.control Hold)
-          (fold (moved (setup_of_states limit ss₀) (map verdict_in ss₀)) (acting taps₀ closed₀ opened₀ ss₀ m) (take k due)) e ∷ []) (h.acts limit m)
-          ∙ ap (λ x. made ++ acted settle_rule (get_or (controls_of ss₀) e.control no_control) (get_or (map verdict_in ss₀) e.control Hold) x e ∷ []) (h.machine limit m)
+          ∙ ap (λ xs. xs ++ acted settle_rule (get_or (controls_of ss₀) e.control no_control)
+          (get_or (map verdict_in ss₀) e.control Hold) (fold (moved (setup_of_states limit ss₀) (map verdict_in ss₀))
+          (acting taps₀ closed₀ opened₀ ss₀ m) (take k due)) e ∷ []) (h.acts limit m)
+          ∙ ap (λ x. made ++ acted settle_rule (get_or (controls_of ss₀) e.control no_control)
+          (get_or (map verdict_in ss₀) e.control Hold) x e ∷ []) (h.machine limit m)
           ∙ ap (λ x. made ++ acted settle_rule x (get_or (map verdict_in ss₀) e.control Hold) (now m) e ∷ []) control
           ∙ ap (λ x. made ++ acted settle_rule (control_in s) x (now m) e ∷ []) verdict
           ∙ ap (λ x. made ++ x ∷ []) (acted_once taps closed opened ss m s e state own.way place);

@@ -41,21 +41,26 @@ certified_at v x y r same h = subst (λ (q : List ℤ × List (List ℤ)). certi
 
 claim_once : (limits : Limits) (v : NetworkView) (a b : Claim) → IsComputed limits v a → IsComputed limits v b → a ≡ b
 claim_once limits v a b h k =
-    let e = certified_at v (a.centre, a.inverse) (b.centre, b.inverse) (Ok a) (same_point (solution_of v limits) (a.centre, a.inverse) (b.centre, b.inverse) h.point k.point) h.certificate in
+    let e = certified_at v (a.centre, a.inverse) (b.centre, b.inverse) (Ok a)
+    (same_point (solution_of v limits) (a.centre, a.inverse) (b.centre, b.inverse) h.point k.point) h.certificate in
     let f = k.certificate in
     cc
 
 no_certificate : (limits : Limits) (p : Plant) (m : Machine) (r : Refusal) (c : Claim) → HasNoCertificate limits p m r
     → IsComputed limits (p.network m.at) c → ⊥
 no_certificate limits p m r c h k =
-    let e = certified_at (p.network m.at) (h.centre, h.inverse) (c.centre, c.inverse) (Err r) (same_point (solution_of (p.network m.at) limits) (h.centre, h.inverse) (c.centre, c.inverse) h.point k.point) h.refusal in
+    let e = certified_at (p.network m.at) (h.centre, h.inverse) (c.centre, c.inverse) (Err r)
+    (same_point (solution_of (p.network m.at) limits) (h.centre, h.inverse) (c.centre, c.inverse) h.point k.point)
+    h.refusal in
     let f = k.certificate in
     cc
 
 refusal_once : (limits : Limits) (p : Plant) (m : Machine) (r s : Refusal) → HasNoCertificate limits p m r
     → HasNoCertificate limits p m s → r ≡ s
 refusal_once limits p m r s h k =
-    let e = certified_at (p.network m.at) (h.centre, h.inverse) (k.centre, k.inverse) (Err r) (same_point (solution_of (p.network m.at) limits) (h.centre, h.inverse) (k.centre, k.inverse) h.point k.point) h.refusal in
+    let e = certified_at (p.network m.at) (h.centre, h.inverse) (k.centre, k.inverse) (Err r)
+    (same_point (solution_of (p.network m.at) limits) (h.centre, h.inverse) (k.centre, k.inverse) h.point k.point)
+    h.refusal in
     let f = k.refusal in
     cc
 
@@ -124,8 +129,9 @@ followed : (o q : Outcome) (acts : List Act) (rest : List (Claim × List Act)) (
 followed o q acts rest ending n P e h = subst (λ (x : Outcome). Follows x acts rest ending n P) e h
 
 only_ended : (limits : Limits) (p : Plant) (m : Machine) (c : Claim) (end : End) (k : Machine) → p.blame m.at ≡ None
-    → IsComputed limits (p.network m.at) c → outcome_of p.setup m (p.look m.at c) ≡ Ends end k →
-    (rounds : List (Claim × List Act)) (ending : Ending) (n : Machine) → IsComputedFrom limits p m rounds ending n → computation rounds ending n ≡ computation ((c, []) ∷ []) (ended end) k
+    → IsComputed limits (p.network m.at) c → outcome_of p.setup m (p.look m.at c) ≡ Ends end k
+    → (rounds : List (Claim × List Act)) (ending : Ending) (n : Machine) → IsComputedFrom limits p m rounds ending n
+    → computation rounds ending n ≡ computation ((c, []) ∷ []) (ended end) k
 only_ended limits p m c end k b s o [] (ended e) n h = absurd h
 only_ended limits p m c end k b s o [] (stopped t) n h = absurd (stops limits p m t c h.0 b s)
 only_ended limits p m c end k b s o ((d, acts) ∷ rest) ending n h =
@@ -140,14 +146,22 @@ one_ended : (limits : Limits) (p : Plant) (m : Machine) (c : Claim) (end : End) 
     → HasOneComputation limits p m
 one_ended limits p m c end k b s o = record {
   some = computation ((c, []) ∷ []) (ended end) k;
-  is = (b, (s, followed (Ends end k) (outcome_of p.setup m (p.look m.at c)) [] [] (ended end) k (λ j. IsComputedFrom limits p j [] (ended end) k) (sym o) (refl, (refl, (refl, refl)))));
+  is = (
+    b,
+    (
+      s,
+      followed (Ends end k) (outcome_of p.setup m (p.look m.at c)) [] [] (ended end) k
+          (λ j. IsComputedFrom limits p j [] (ended end) k) (sym o) (refl, (refl, (refl, refl))),
+    ),
+  );
   only = λ d h. only_ended limits p m c end k b s o d.rounds d.ending d.machine h;
 }
 
 only_moved : (limits : Limits) (p : Plant) (m : Machine) (c : Claim) (made : List Act) (k : Machine)
     → p.blame m.at ≡ None → IsComputed limits (p.network m.at) c → outcome_of p.setup m (p.look m.at c) ≡ Moves made k
-    → (one : HasOneComputation limits p k) →
-    (rounds : List (Claim × List Act)) (ending : Ending) (n : Machine) → IsComputedFrom limits p m rounds ending n → computation rounds ending n ≡ computation ((c, made) ∷ one.some.rounds) one.some.ending one.some.machine
+    → (one : HasOneComputation limits p k) → (rounds : List (Claim × List Act)) (ending : Ending) (n : Machine)
+    → IsComputedFrom limits p m rounds ending n
+    → computation rounds ending n ≡ computation ((c, made) ∷ one.some.rounds) one.some.ending one.some.machine
 only_moved limits p m c made k b s o one [] (ended e) n h = absurd h
 only_moved limits p m c made k b s o one [] (stopped t) n h = absurd (stops limits p m t c h.0 b s)
 only_moved limits p m c made k b s o one ((d, acts) ∷ rest) ending n h =
@@ -165,7 +179,15 @@ one_moved : (limits : Limits) (p : Plant) (m : Machine) (c : Claim) (made : List
     → HasOneComputation limits p k → HasOneComputation limits p m
 one_moved limits p m c made k b s o one = record {
   some = computation ((c, made) ∷ one.some.rounds) one.some.ending one.some.machine;
-  is = (b, (s, followed (Moves made k) (outcome_of p.setup m (p.look m.at c)) made one.some.rounds one.some.ending one.some.machine (λ j. IsComputedFrom limits p j one.some.rounds one.some.ending one.some.machine) (sym o) (refl, one.is)));
+  is = (
+    b,
+    (
+      s,
+      followed (Moves made k) (outcome_of p.setup m (p.look m.at c)) made one.some.rounds one.some.ending
+          one.some.machine (λ j. IsComputedFrom limits p j one.some.rounds one.some.ending one.some.machine) (sym o)
+          (refl, one.is),
+    ),
+  );
   only = λ d h. only_moved limits p m c made k b s o one d.rounds d.ending d.machine h;
 }
 
@@ -174,7 +196,9 @@ by_outcome : CountLaw → (limits : Limits) (p : Plant) (m : Machine) (c : Claim
     → ((k : Machine) → k.made ≡ m.made + 1 → m.made < p.setup.limit → HasOneComputation limits p k) →
     p.blame m.at ≡ None → IsComputed limits (p.network m.at) c → outcome_of p.setup m (p.look m.at c) ≡ o → HasOneComputation limits p m
 by_outcome law limits p m c (Ends end k) next b s o = one_ended limits p m c end k b s o
-by_outcome law limits p m c (Moves made k) next b s o = let h = round_counts law p.setup m (p.look m.at c) made k o in one_moved limits p m c made k b s o (next k h.one_more h.allowed)
+by_outcome law limits p m c (Moves made k) next b s o =
+    let h = round_counts law p.setup m (p.look m.at c) made k o in
+    one_moved limits p m c made k b s o (next k h.one_more h.allowed)
 
 by_solve : CountLaw → (limits : Limits) (p : Plant) (m : Machine)
     → ((k : Machine) → k.made ≡ m.made + 1 → m.made < p.setup.limit → HasOneComputation limits p k) → Solved limits p m
@@ -186,7 +210,9 @@ by_solve law limits p m next (gives_one c b s) = by_outcome law limits p m c (ou
 one_with : CountLaw → (limits : Limits) (p : Plant) (left : ℕ) (m : Machine) → p.setup.limit ≤ m.made + left
     → HasOneComputation limits p m
 one_with law limits p zero m few = by_solve law limits p m (λ k more allowed. absurd (omega arith)) (by_range limits p m (p.blame m.at) refl)
-one_with law limits p (suc left) m few = by_solve law limits p m (λ k more allowed. one_with law limits p left k (omega arith)) (by_range limits p m (p.blame m.at) refl)
+one_with law limits p (suc left) m few =
+    by_solve law limits p m (λ k more allowed. one_with law limits p left k (omega arith))
+    (by_range limits p m (p.blame m.at) refl)
 
 pub one_computation : CountLaw → ComputationLaw
 one_computation law limits p m h = one_with law limits p p.setup.limit m (omega arith)
@@ -209,10 +235,13 @@ told limits p (stopped s) end n never h = absurd (never h.0)
 
 follows_by : (limits : Limits) (p : Plant) (rs : List Round) (acts : List Act) (ending : Ending) (o : Outcome)
     → ((end : End) (k : Machine) → o ≡ Ends end k → end ≡ Open → ⊥)
-    → acts ∷ acts_in rs ≡ (before_rest o (λ n. settled p n rs)).rounds →
-    Tells limits p ending (before_rest o (λ n. settled p n rs)).end (before_rest o (λ n. settled p n rs)).machine →
-    ((k : Machine) → left_by o ≡ k → acts_in rs ≡ (settled p k rs).rounds → Tells limits p ending (settled p k rs).end (settled p k rs).machine → IsComputedFrom limits p k (computed_in rs) ending (settled p k rs).machine) →
-    Follows o acts (computed_in rs) ending (before_rest o (λ n. settled p n rs)).machine (λ k. IsComputedFrom limits p k (computed_in rs) ending (before_rest o (λ n. settled p n rs)).machine)
+    → acts ∷ acts_in rs ≡ (before_rest o (λ n. settled p n rs)).rounds
+    → Tells limits p ending (before_rest o (λ n. settled p n rs)).end (before_rest o (λ n. settled p n rs)).machine
+    → ((k : Machine) → left_by o ≡ k → acts_in rs ≡ (settled p k rs).rounds
+    → Tells limits p ending (settled p k rs).end (settled p k rs).machine
+    → IsComputedFrom limits p k (computed_in rs) ending (settled p k rs).machine)
+    → Follows o acts (computed_in rs) ending (before_rest o (λ n. settled p n rs)).machine (λ k.
+    IsComputedFrom limits p k (computed_in rs) ending (before_rest o (λ n. settled p n rs)).machine)
 follows_by limits p rs acts ending (Ends end k) never a t rest =
     let none : acts_in rs ≡ [] = cc in
     (cc, (no_rounds rs none, (told limits p ending end k (never end k refl) t, refl)))
@@ -230,8 +259,10 @@ computed_by {V} limits p v m (r ∷ rs) w ending a h t = (
   h.1.0,
   (
     h.1.1.0,
-    follows_by limits p rs (map seen r.acts.items) ending (outcome_of p.setup m (p.look m.at (claim_in r.certified))) (round_ends p.setup m (p.look m.at (claim_in r.certified))) a t
-        (λ k is b q. computed_by limits p h.0 k rs w ending b (subst (λ (n : Machine). AreCalls {V = V} {F = ComputeFault} (λ u net answer x. ComputeGives limits net answer) p h.0 n (claims_in rs) w) is h.1.1.1) q),
+    follows_by limits p rs (map seen r.acts.items) ending (outcome_of p.setup m (p.look m.at (claim_in r.certified)))
+        (round_ends p.setup m (p.look m.at (claim_in r.certified))) a t (λ k is b q.
+        computed_by limits p h.0 k rs w ending b (subst (λ (n : Machine). AreCalls {V = V} {F = ComputeFault}
+        (λ u net answer x. ComputeGives limits net answer) p h.0 n (claims_in rs) w) is h.1.1.1) q),
   ),
 )
 
@@ -244,7 +275,9 @@ by_memory solving.NoMemory P Q g p = tt
 by_solver : (limits : Limits) (p : Plant) (n : Machine) (f : ComputeFault) (P : Ending → Type 0) → p.blame n.at ≡ None
     → ComputeGives limits (p.network n.at) (Err f) → ((s : Stop) → IsStopped limits p n s → P (stopped s))
     → EndsBySolver f P
-by_solver limits p n (compute.Solve f) P b h g = by_memory f (solution_of (p.network n.at) limits ≡ Err f) (P (stopped (procedure f))) (λ e. g (procedure f) (b, e)) h.0
+by_solver limits p n (compute.Solve f) P b h g =
+    by_memory f (solution_of (p.network n.at) limits ≡ Err f) (P (stopped (procedure f)))
+    (λ e. g (procedure f) (b, e)) h.0
 by_solver limits p n (compute.Cert (cert.Loose row mismatch)) P b h g =
     g (uncertified (loose row mismatch)) (record { in_range = b; centre = h.0.centre; inverse = h.0.inverse; point = h.0.point; refusal = h.0.reason })
 by_solver limits p n (compute.Cert (cert.NotCertified place sum tried)) P b h g =
@@ -252,13 +285,19 @@ by_solver limits p n (compute.Cert (cert.NotCertified place sum tried)) P b h g 
 by_solver limits p n (compute.Cert cert.NoMemory) P b h g = tt
 
 -- from the clauses `acts`, `ends` and `calls`, at the solver that computes
-pub computed : {V T : Type 0} (limits : Limits) (p : Plant) (v : V) (m : Machine) (rs : List Round) (result : Result T (SettleFault ComputeFault)) (w : V)
-    → acts_in rs ≡ (settled p m rs).rounds → EndsAs p result (settled p m rs).end (settled p m rs).machine →
-    CallsAs (λ u net answer x. ComputeGives limits net answer) p v m rs result w → EndsSo result (λ ending. IsComputedFrom limits p m (computed_in rs) ending (settled p m rs).machine)
+pub computed : {V T : Type 0} (limits : Limits) (p : Plant) (v : V) (m : Machine) (rs : List Round)
+    (result : Result T (SettleFault ComputeFault)) (w : V)
+    → acts_in rs ≡ (settled p m rs).rounds → EndsAs p result (settled p m rs).end (settled p m rs).machine
+    → CallsAs (λ u net answer x. ComputeGives limits net answer) p v m rs result w
+    → EndsSo result (λ ending. IsComputedFrom limits p m (computed_in rs) ending (settled p m rs).machine)
 computed limits p v m rs (Ok t) w a e h = computed_by limits p v m rs w (ended Settled) a h (e, λ no'. cc)
-computed limits p v m rs (Err (fault.Undecided control low high edge)) w a e h = computed_by limits p v m rs w (ended (Undecidable control (record { low = low; high = high; edge = edge }))) a h (e, λ no'. cc)
+computed limits p v m rs (Err (fault.Undecided control low high edge)) w a e h =
+    computed_by limits p v m rs w (ended (Undecidable control (record { low = low; high = high; edge = edge }))) a h
+    (e, λ no'. cc)
 computed limits p v m rs (Err (fault.ControlLimit acts)) w a e h = computed_by limits p v m rs w (ended Limited) a h (e.0, λ no'. cc)
 computed limits p v m rs (Err (fault.Range blame)) w a e h = computed_by limits p v m rs w (stopped (range blame)) a h e
 computed limits p v m rs (Err (fault.Solver f)) w a e h =
-    by_solver limits p (settled p m rs).machine f (λ ending. IsComputedFrom limits p m (computed_in rs) ending (settled p m rs).machine) h.in_range h.last (λ s k. computed_by limits p v m rs h.before (stopped s) a h.calls (e, k))
+    by_solver limits p (settled p m rs).machine f
+    (λ ending. IsComputedFrom limits p m (computed_in rs) ending (settled p m rs).machine) h.in_range h.last
+    (λ s k. computed_by limits p v m rs h.before (stopped s) a h.calls (e, k))
 computed limits p v m rs (Err fault.NoMemory) w a e h = tt

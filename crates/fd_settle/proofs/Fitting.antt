@@ -44,8 +44,10 @@ pub record AreDecisions (samples : List (Result Decision Undecided)) (ds : List 
   pub decided : (k : ℕ) (x : Result Decision Undecided) → k < length samples
       → get_or samples k x ≡ Ok (get_or ds k Hold)
 
-first_decided : (k : ℕ) (d : Decision) (rest : List Decision) (samples : List (Result Decision Undecided)) (ds : List Decision) (x : Result Decision Undecided) →
-    ds ≡ d ∷ rest → AreDecisions samples rest → k < suc (length samples) → get_or (Ok d ∷ samples) k x ≡ Ok (get_or ds k Hold)
+first_decided : (k : ℕ) (d : Decision) (rest : List Decision) (samples : List (Result Decision Undecided))
+    (ds : List Decision) (x : Result Decision Undecided)
+    → ds ≡ d ∷ rest → AreDecisions samples rest → k < suc (length samples)
+    → get_or (Ok d ∷ samples) k x ≡ Ok (get_or ds k Hold)
 first_decided zero d rest samples ds x e h l = ap (λ xs. Ok (get_or xs 0 Hold)) (sym e)
 first_decided (suc k) d rest samples ds x e h l = h.decided k x (omega arith) ∙ ap (λ xs. Ok (get_or xs (suc k) Hold)) (sym e)
 
@@ -92,7 +94,9 @@ up_within s tap n h l = ⊎_elim (λ less. omega (arith, h.within (omega (arith,
 
 down_within : (s : RegSettings) (tap n : ℕ) → StepsDown s tap (suc n) → 50000 ≤ s.min_tap
     → 50000 + suc n * s.changer.tap_step ≤ tap
-down_within s tap n h l = ⊎_elim (λ less. omega (arith, h.within (omega (arith, less)), l)) (λ more. absurd (omega (arith, h.none more))) (cases_lt s.min_tap tap)
+down_within s tap n h l =
+    ⊎_elim (λ less. omega (arith, h.within (omega (arith, less)), l)) (λ more. absurd (omega (arith, h.none more)))
+    (cases_lt s.min_tap tap)
 
 moves_within : (s : RegSettings) (tap : ℕ) (d : Decision) (up : Bool) → StaysWithin s tap d → way_of d ≡ Some up
     → 50000 ≤ s.min_tap → s.max_tap ≤ 200000 →
@@ -166,20 +170,22 @@ entry_can taps away n opened at ss vs e are places ranges each wants l way d =
     subst (λ x. CanAct at.taps x e) (sym (judged_own ss vs k d (omega arith) l)) (record {
       control = sym (same_number opened k (with_verdict v s) (state_same opened k v s state));
       way = ap way_of (own_verdict v s) ∙ way;
-      fits = fits_device taps away n k opened at s v e.up state (subst (IsProbe n) here (places k (probe_in s) there)) (subst HasRange here (ranges k (probe_in s) there))
-          (wants k d l) way;
+      fits = fits_device taps away n k opened at s v e.up state (subst (IsProbe n) here (places k (probe_in s) there))
+          (subst HasRange here (ranges k (probe_in s) there)) (wants k d l) way;
     })
 
 pub entries_can : TapLaw → AwayLaw
     → (n : ℕ) (opened : List (Option ℕ)) (at : Positions) (ss : List ControlState) (vs : List Decision)
     (es : List Entry)
-    → AreStates opened ss →
-    All (IsProbe n) (map probe_in ss) → All HasRange (map probe_in ss) → length vs ≡ length ss →
-    ((k : ℕ) (d : ControlState) → k < length ss → Wants (probe_in (get_or ss k d)) at (get_or vs k Hold)) →
-    AllByRecursion (λ e. e.control < length ss) es → AllByRecursion (λ e. way_of (get_or vs e.control Hold) ≡ Some e.up) es → AllCanAct at.taps (judged ss vs) es
+    → AreStates opened ss → All (IsProbe n) (map probe_in ss) → All HasRange (map probe_in ss) → length vs ≡ length ss
+    → ((k : ℕ) (d : ControlState) → k < length ss → Wants (probe_in (get_or ss k d)) at (get_or vs k Hold))
+    → AllByRecursion (λ e. e.control < length ss) es
+    → AllByRecursion (λ e. way_of (get_or vs e.control Hold) ≡ Some e.up) es → AllCanAct at.taps (judged ss vs) es
 entries_can taps away n opened at ss vs [] are places ranges each wants l way = tt
-entries_can taps away n opened at ss vs (e ∷ es) are places ranges each wants l way =
-    (entry_can taps away n opened at ss vs e are places ranges each wants l.0 way.0, entries_can taps away n opened at ss vs es are places ranges each wants l.1 way.1)
+entries_can taps away n opened at ss vs (e ∷ es) are places ranges each wants l way = (
+  entry_can taps away n opened at ss vs e are places ranges each wants l.0 way.0,
+  entries_can taps away n opened at ss vs es are places ranges each wants l.1 way.1,
+)
 
 -- ---- whether a control wants to move
 

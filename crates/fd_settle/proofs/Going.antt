@@ -49,14 +49,19 @@ more_by : (r : Outcome) (f g : Machine → Settle) (next : Machine → Outcome)
     ((n : Machine) → (f n).end ≡ Open → g n ≡ with_round (f n) (next (f n).machine)) →
     (before_rest r f).end ≡ Open → before_rest r g ≡ with_round (before_rest r f) (next (before_rest r f).machine)
 more_by (Ends end m) f g next never h o = absurd (never end m refl o)
-more_by (Moves acts m) f g next never h o = ap (λ (after : Settle). record after { rounds = acts ∷ after.rounds }) (h m o) ∙ joined_by (f m) (next (f m).machine) acts
+more_by (Moves acts m) f g next never h o =
+    ap (λ (after : Settle). record after { rounds = acts ∷ after.rounds }) (h m o)
+    ∙ joined_by (f m) (next (f m).machine) acts
 
 pub settle_more : {X : Type 0} (s : Setup) (look : Positions → X → Sampling) (m : Machine) (xs : List X) (x : X)
-    → (settle_of s look m xs).end ≡ Open →
-    settle_of s look m (xs ++ x ∷ []) ≡ with_round (settle_of s look m xs) (outcome_of s (settle_of s look m xs).machine (look (settle_of s look m xs).machine.at x))
+    → (settle_of s look m xs).end ≡ Open
+    → settle_of s look m (xs ++ x ∷ [])
+    ≡ with_round (settle_of s look m xs)
+    (outcome_of s (settle_of s look m xs).machine (look (settle_of s look m xs).machine.at x))
 settle_more s look m [] x o = one_round (outcome_of s m (look m.at x)) m
-settle_more s look m (y ∷ ys) x o = more_by (outcome_of s m (look m.at y)) (λ n. settle_of s look n ys) (λ n. settle_of s look n (ys ++ x ∷ [])) (λ n. outcome_of s n (look n.at x))
-    (round_ends s m (look m.at y)) (λ n p. settle_more s look n ys x p) o
+settle_more s look m (y ∷ ys) x o =
+    more_by (outcome_of s m (look m.at y)) (λ n. settle_of s look n ys) (λ n. settle_of s look n (ys ++ x ∷ []))
+    (λ n. outcome_of s n (look n.at x)) (round_ends s m (look m.at y)) (λ n p. settle_more s look n ys x p) o
 
 -- ---- a settle so far
 
@@ -95,12 +100,25 @@ rest_of : (p : Plant) (m : Machine) (c : Claim) (cs : List Claim) → (settle_of
     IsRest (settle_of p.setup p.look m (c ∷ cs)) (settle_of p.setup p.look (after_round p m c) cs)
 rest_of p m c cs o = rest_by (outcome_of p.setup m (p.look m.at c)) (λ n. settle_of p.setup p.look n cs) (round_ends p.setup m (p.look m.at c)) o
 
-calls_more : {V F : Type 0} (gives : V → NetworkView → Result Claim F → V → Type 0) (p : Plant) (v : V) (m : Machine) (cs : List Claim) (w : V) (c : Claim) (u : V) →
-    AreCalls gives p v m cs w → (settle_of p.setup p.look m cs).end ≡ Open → p.blame (settle_of p.setup p.look m cs).machine.at ≡ None → gives w (p.network (settle_of p.setup p.look m cs).machine.at) (Ok c) u → AreCalls gives p v m (cs ++ c ∷ []) u
+calls_more : {V F : Type 0} (gives : V → NetworkView → Result Claim F → V → Type 0) (p : Plant) (v : V) (m : Machine)
+    (cs : List Claim) (w : V) (c : Claim) (u : V)
+    → AreCalls gives p v m cs w → (settle_of p.setup p.look m cs).end ≡ Open
+    → p.blame (settle_of p.setup p.look m cs).machine.at ≡ None
+    → gives w (p.network (settle_of p.setup p.look m cs).machine.at) (Ok c) u → AreCalls gives p v m (cs ++ c ∷ []) u
 calls_more gives p v m [] w c u h o b k = (u, (b, (subst (λ x. gives x (p.network m.at) (Ok c) u) h k, refl)))
 calls_more {V} {F} gives p v m (d ∷ ds) w c u h o b k =
-    let rest = rest_of p m d ds o in
-    (h.0, (h.1.0, (h.1.1.0, calls_more gives p h.0 (after_round p m d) ds w c u h.1.1.1 rest.open' (subst (λ (n : Machine). p.blame n.at ≡ None) rest.machine b) (subst (λ (n : Machine). gives w (p.network n.at) (Ok c) u) rest.machine k))))
+    let rest = rest_of p m d ds o in (
+      h.0,
+      (
+        h.1.0,
+        (
+          h.1.1.0,
+          calls_more gives p h.0 (after_round p m d) ds w c u h.1.1.1 rest.open'
+              (subst (λ (n : Machine). p.blame n.at ≡ None) rest.machine b)
+              (subst (λ (n : Machine). gives w (p.network n.at) (Ok c) u) rest.machine k),
+        ),
+      ),
+    )
 
 each_more : (P : Positions → Claim → Type 0) (p : Plant) (m : Machine) (cs : List Claim) (c : Claim) → AtEach P p m cs
     → (settle_of p.setup p.look m cs).end ≡ Open → P (settle_of p.setup p.look m cs).machine.at c →
@@ -119,10 +137,13 @@ acts_more [] r = refl
 acts_more (q ∷ qs) r = ap (λ (as' : List (List Act)). map seen q.acts.items ∷ as') (acts_more qs r)
 
 -- one round more
-pub round_more : {V F : Type 0} (gives : V → NetworkView → Result Claim F → V → Type 0) (P : Positions → Claim → Type 0) (p : Plant) (v : V) (m : Machine) (rs : List Round) (n : Machine) (w : V) (r : Round) (o : Outcome) (u : V) →
-    IsStanding gives P p v m rs Open n w → p.blame n.at ≡ None → gives w (p.network n.at) (Ok (claim_in r.certified)) u → P n.at (claim_in r.certified) →
-    outcome_of p.setup n (p.look n.at (claim_in r.certified)) ≡ o → map seen r.acts.items ≡ acts_of o →
-    IsStanding gives P p v m (rs ++ r ∷ []) (end_of o) (left_by o) u
+pub round_more : {V F : Type 0} (gives : V → NetworkView → Result Claim F → V → Type 0)
+    (P : Positions → Claim → Type 0) (p : Plant) (v : V) (m : Machine) (rs : List Round) (n : Machine) (w : V)
+    (r : Round) (o : Outcome) (u : V)
+    → IsStanding gives P p v m rs Open n w → p.blame n.at ≡ None
+    → gives w (p.network n.at) (Ok (claim_in r.certified)) u → P n.at (claim_in r.certified)
+    → outcome_of p.setup n (p.look n.at (claim_in r.certified)) ≡ o → map seen r.acts.items ≡ acts_of o
+    → IsStanding gives P p v m (rs ++ r ∷ []) (end_of o) (left_by o) u
 round_more gives P p v m rs n w r o u h b k s e a =
     let c = claim_in r.certified in
     let is_open : (settled p m rs).end ≡ Open = ap (λ (t : Settle). t.end) h.is_settle in
@@ -136,8 +157,9 @@ round_more gives P p v m rs n w r o u h b k s e a =
           ∙ with_round_is (record { rounds = acts_in rs; end = Open; machine = n }) o
           ∙ ap (λ (as' : List (List Act)). record { rounds = as'; end = end_of o; machine = left_by o })
           (ap (λ (acts : List Act). acts_in rs ++ acts ∷ []) (sym a) ∙ sym (acts_more rs r));
-      calls = subst (λ (cs : List Claim). AreCalls gives p v m cs u) claims
-          (calls_more gives p v m (claims_in rs) w c u h.calls is_open (subst (λ (q : Machine). p.blame q.at ≡ None) machine b) (subst (λ (q : Machine). gives w (p.network q.at) (Ok c) u) machine k));
+      calls = subst (λ (cs : List Claim). AreCalls gives p v m cs u) claims (calls_more gives p v m
+          (claims_in rs) w c u h.calls is_open (subst (λ (q : Machine). p.blame q.at ≡ None) machine b)
+          (subst (λ (q : Machine). gives w (p.network q.at) (Ok c) u) machine k));
       each = subst (λ (cs : List Claim). AtEach P p m cs) claims
           (each_more P p m (claims_in rs) c h.each is_open (subst (λ (q : Machine). P q.at c) machine s));
     }
@@ -156,16 +178,28 @@ appended_more old mid new r h e =
 
 pub kept_more : (old mid new : List Round) (r : Round) → mid ≡ old ++ appended old mid → new ≡ mid ++ r ∷ []
     → new ≡ old ++ appended old new
-kept_more old mid new r h e = e ∙ ap (λ (rs : List Round). rs ++ r ∷ []) h ∙ append_assoc old (appended old mid) (r ∷ []) ∙ ap (λ (rs : List Round). old ++ rs) (sym (appended_more old mid new r h e))
+kept_more old mid new r h e =
+    e
+    ∙ ap (λ (rs : List Round). rs ++ r ∷ []) h
+    ∙ append_assoc old (appended old mid) (r ∷ [])
+    ∙ ap (λ (rs : List Round). old ++ rs) (sym (appended_more old mid new r h e))
 
 -- ---- the last call
 
 -- one call more at an open settle
-pub last_by : {V F : Type 0} (gives : V → NetworkView → Result Claim F → V → Type 0) (P : Positions → Claim → Type 0) (p : Plant) (v : V) (m : Machine) (rs : List Round) (end : End) (n : Machine) (w : V) (answer : Result Claim F) (u : V) →
-    IsStanding gives P p v m rs end n w → p.blame n.at ≡ None → gives w (p.network n.at) answer u → IsLast gives p v m rs answer u
+pub last_by : {V F : Type 0} (gives : V → NetworkView → Result Claim F → V → Type 0) (P : Positions → Claim → Type 0)
+    (p : Plant) (v : V) (m : Machine) (rs : List Round) (end : End) (n : Machine) (w : V) (answer : Result Claim F)
+    (u : V)
+    → IsStanding gives P p v m rs end n w → p.blame n.at ≡ None → gives w (p.network n.at) answer u
+    → IsLast gives p v m rs answer u
 last_by gives P p v m rs end n w answer u h b k =
     let machine : n ≡ (settled p m rs).machine = sym (ap (λ (t : Settle). t.machine) h.is_settle) in
-    record { before = w; calls = h.calls; in_range = subst (λ (q : Machine). p.blame q.at ≡ None) machine b; last = subst (λ (q : Machine). gives w (p.network q.at) answer u) machine k }
+    record {
+      before = w;
+      calls = h.calls;
+      in_range = subst (λ (q : Machine). p.blame q.at ≡ None) machine b;
+      last = subst (λ (q : Machine). gives w (p.network q.at) answer u) machine k;
+    }
 
 -- ---- the acts that are left fall with each round that goes on
 

@@ -59,16 +59,19 @@ front_of_rest (Ends Open m) x xs P f g h k = one_round (length xs)
 front_of_rest (Ends Settled m) x xs P f g h k = one_round (length xs)
 front_of_rest (Ends Limited m) x xs P f g h k = one_round (length xs)
 
-pub history : {Y X : Type 0} (holds : Positions → Y → X → Type 0) (of_ball : Positions → Y → Sampling) (of_state : Positions → X → Sampling)
-    → AreOfHeld holds of_ball of_state →
-    (s : Setup) (m : Machine) (ys : List Y) (xs : List X) → AreChosen s holds of_ball m ys xs → (settle_of s of_state m xs).rounds ≡ take (length xs) (settle_of s of_ball m ys).rounds
+pub history : {Y X : Type 0} (holds : Positions → Y → X → Type 0) (of_ball : Positions → Y → Sampling)
+    (of_state : Positions → X → Sampling)
+    → AreOfHeld holds of_ball of_state → (s : Setup) (m : Machine) (ys : List Y) (xs : List X)
+    → AreChosen s holds of_ball m ys xs
+    → (settle_of s of_state m xs).rounds ≡ take (length xs) (settle_of s of_ball m ys).rounds
 history holds of_ball of_state h s m ys [] k = refl
 history holds of_ball of_state h s m [] (x ∷ xs) k = absurd k
 history holds of_ball of_state h s m (y ∷ ys) (x ∷ xs) k =
     let P : Machine → Type 0 = λ n. AreChosen s holds of_ball n ys xs in
     let same : of_state m.at x ≡ of_ball m.at y = held_sampling s m (of_ball m.at y) (of_state m.at x) xs P (λ ds e. h m.at y x ds k.0 e) k.1 in
     ap (λ (w : Sampling). (before_rest (outcome_of s m w) (λ n. settle_of s of_state n xs)).rounds) same
-    ∙ front_of_rest (outcome_of s m (of_ball m.at y)) x xs P (λ n. settle_of s of_state n xs) (λ n. settle_of s of_ball n ys) k.1 (λ n c. history holds of_ball of_state h s n ys xs c)
+    ∙ front_of_rest (outcome_of s m (of_ball m.at y)) x xs P (λ n. settle_of s of_state n xs)
+    (λ n. settle_of s of_ball n ys) k.1 (λ n c. history holds of_ball of_state h s n ys xs c)
 
 -- ---- a state for each solve
 
@@ -77,9 +80,10 @@ whole_rest : {X : Type 0} (o : Outcome) (xs : List X) (P : Machine → Type 0) (
 whole_rest (Moves acts m) xs P f g h k = ap (λ (after : Settle). record after { rounds = acts ∷ after.rounds }) (k m h)
 whole_rest (Ends end m) xs P f g h k = refl
 
-pub whole : {Y X : Type 0} (holds : Positions → Y → X → Type 0) (of_ball : Positions → Y → Sampling) (of_state : Positions → X → Sampling)
-    → AreOfHeld holds of_ball of_state →
-    (s : Setup) (m : Machine) (ys : List Y) (xs : List X) → AreChosen s holds of_ball m ys xs → length xs ≡ length ys → settle_of s of_state m xs ≡ settle_of s of_ball m ys
+pub whole : {Y X : Type 0} (holds : Positions → Y → X → Type 0) (of_ball : Positions → Y → Sampling)
+    (of_state : Positions → X → Sampling)
+    → AreOfHeld holds of_ball of_state → (s : Setup) (m : Machine) (ys : List Y) (xs : List X)
+    → AreChosen s holds of_ball m ys xs → length xs ≡ length ys → settle_of s of_state m xs ≡ settle_of s of_ball m ys
 whole holds of_ball of_state h s m [] [] k e = refl
 whole holds of_ball of_state h s m (y ∷ ys) [] k e = absurd (omega arith)
 whole holds of_ball of_state h s m [] (x ∷ xs) k e = absurd k
@@ -88,4 +92,5 @@ whole holds of_ball of_state h s m (y ∷ ys) (x ∷ xs) k e =
     let same : of_state m.at x ≡ of_ball m.at y = held_sampling s m (of_ball m.at y) (of_state m.at x) xs P (λ ds e. h m.at y x ds k.0 e) k.1 in
     let each : length xs ≡ length ys = omega arith in
     ap (λ (w : Sampling). before_rest (outcome_of s m w) (λ n. settle_of s of_state n xs)) same
-    ∙ whole_rest (outcome_of s m (of_ball m.at y)) xs P (λ n. settle_of s of_state n xs) (λ n. settle_of s of_ball n ys) k.1 (λ n c. whole holds of_ball of_state h s n ys xs c each)
+    ∙ whole_rest (outcome_of s m (of_ball m.at y)) xs P (λ n. settle_of s of_state n xs)
+    (λ n. settle_of s of_ball n ys) k.1 (λ n c. whole holds of_ball of_state h s n ys xs c each)

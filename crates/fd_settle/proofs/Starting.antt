@@ -105,20 +105,52 @@ pub started_machine : (circuit : CircuitView) (clock : Clock) (c : Controls) (at
 started_machine circuit clock c at h =
     let moves : map moved_in c.states.items ≡ replicate (length (controls_in circuit)) None =
     ap (map moved_in) h.states ∙ fresh_moves clock.opened.items 0 (controls_in circuit) in
-    ap (λ os. record { at = positions_in at; now = clock.now; opened = clock.opened.items; moves = os; queue = c.queue.entries; next = c.queue.next; made = c.made }) moves
-    ∙ ap (λ es. record { at = positions_in at; now = clock.now; opened = clock.opened.items; moves = replicate (length (controls_in circuit)) None; queue = es; next = c.queue.next; made = c.made })
-    h.entries
-    ∙ ap (λ k. record { at = positions_in at; now = clock.now; opened = clock.opened.items; moves = replicate (length (controls_in circuit)) None; queue = []; next = k; made = c.made }) h.next
-    ∙ ap (λ k. record { at = positions_in at; now = clock.now; opened = clock.opened.items; moves = replicate (length (controls_in circuit)) None; queue = []; next = 0; made = k }) h.made
+    ap (λ os. record {
+      at = positions_in at;
+      now = clock.now;
+      opened = clock.opened.items;
+      moves = os;
+      queue = c.queue.entries;
+      next = c.queue.next;
+      made = c.made;
+    }) moves
+    ∙ ap (λ es. record {
+      at = positions_in at;
+      now = clock.now;
+      opened = clock.opened.items;
+      moves = replicate (length (controls_in circuit)) None;
+      queue = es;
+      next = c.queue.next;
+      made = c.made;
+    }) h.entries
+    ∙ ap (λ k. record {
+      at = positions_in at;
+      now = clock.now;
+      opened = clock.opened.items;
+      moves = replicate (length (controls_in circuit)) None;
+      queue = [];
+      next = k;
+      made = c.made;
+    }) h.next
+    ∙ ap (λ k. record {
+      at = positions_in at;
+      now = clock.now;
+      opened = clock.opened.items;
+      moves = replicate (length (controls_in circuit)) None;
+      queue = [];
+      next = 0;
+      made = k;
+    }) h.made
 
 pub started_probes : (circuit : CircuitView) (clock : Clock) (c : Controls) → IsStarted circuit clock c
     → probes_in c ≡ controls_in circuit
 started_probes circuit clock c h = ap (map probe_in) h.states ∙ fresh_probes clock.opened.items 0 (controls_in circuit)
 
-pub started_controls : (circuit : CircuitView) (clock : Clock) (c : Controls) (at : CodePositions) (powers : List LoadPower)
-    → IsStarted circuit clock c →
-    IsClock circuit clock → ArePositions circuit powers (positions_in at) → AreProbes circuit.elements (controls_in circuit) → length circuit.elements ≤ 2 ^ 17 →
-    circuit.options.maxcontroliter ≤ 100 → AreControls (size_of (layout_of circuit.elements)) at clock c
+pub started_controls : (circuit : CircuitView) (clock : Clock) (c : Controls) (at : CodePositions)
+    (powers : List LoadPower)
+    → IsStarted circuit clock c → IsClock circuit clock → ArePositions circuit powers (positions_in at)
+    → AreProbes circuit.elements (controls_in circuit) → length circuit.elements ≤ 2 ^ 17
+    → circuit.options.maxcontroliter ≤ 100 → AreControls (size_of (layout_of circuit.elements)) at clock c
 started_controls circuit clock c at powers h times positions fit few most =
     let probes = started_probes circuit clock c h in
     let each : length c.states.items ≡ length (controls_in circuit) = ap length h.states ∙ fresh_length clock.opened.items 0 (controls_in circuit) in

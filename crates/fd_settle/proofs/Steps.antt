@@ -79,11 +79,13 @@ pub record IsAfterReactions (n : ℕ) (at : CodePositions) (clock : Clock) (c ne
 
 module _ (queue_law : QueueLaw) (own_law : OwnLaw) (sampled_law : SampledLaw) (tap_law : TapLaw)
     (away_law : AwayLaw) where
-  pub after_reactions : (n : ℕ) (at : CodePositions) (clock : Clock) (c looked new : Controls) (centre : List ℤ) (radii : List ℕ) →
-      AreControls n at clock c → HasNumbers c → looked.states ≡ c.states → looked.queue ≡ c.queue → looked.due ≡ c.due → looked.made ≡ c.made → looked.limit ≡ c.limit →
-      length c.states.items ≤ vec_capacity looked.verdicts → length looked.verdicts.items ≡ length c.states.items →
-      sampled_over c.states.items (positions_in at) centre radii ≡ Decided (map decision looked.verdicts.items) → HaveReacted clock looked new →
-      IsAfterReactions n at clock c new looked.verdicts.items
+  pub after_reactions : (n : ℕ) (at : CodePositions) (clock : Clock) (c looked new : Controls) (centre : List ℤ)
+      (radii : List ℕ)
+      → AreControls n at clock c → HasNumbers c → looked.states ≡ c.states → looked.queue ≡ c.queue
+      → looked.due ≡ c.due → looked.made ≡ c.made → looked.limit ≡ c.limit
+      → length c.states.items ≤ vec_capacity looked.verdicts → length looked.verdicts.items ≡ length c.states.items
+      → sampled_over c.states.items (positions_in at) centre radii ≡ Decided (map decision looked.verdicts.items)
+      → HaveReacted clock looked new → IsAfterReactions n at clock c new looked.verdicts.items
   after_reactions n at clock c looked new centre radii h numbers same_states same_queue same_due same_made same_limit verdict_room each look r =
       let ss = c.states.items in
       let vs = map decision looked.verdicts.items in
@@ -95,7 +97,9 @@ module _ (queue_law : QueueLaw) (own_law : OwnLaw) (sampled_law : SampledLaw) (t
       let long : length new.states.items ≡ length ss = ap length states ∙ judged_length ss vs in
       let before : machine_of at clock looked ≡ m = same_machine at clock c looked same_states same_queue same_made in
       let machine : sampled 0 (controls_of ss) vs m ≡ machine_of at clock new =
-      ap (λ x. sampled 0 (controls_of ss) vs x) (sym before) ∙ ap (λ xs. sampled 0 (controls_of xs) vs (machine_of at clock looked)) (sym items) ∙ r.machine at in
+      ap (λ x. sampled 0 (controls_of ss) vs x) (sym before)
+      ∙ ap (λ xs. sampled 0 (controls_of xs) vs (machine_of at clock looked)) (sym items)
+      ∙ r.machine at in
       let s : Setup = setup_in c in
       let cs = controls_length ss in
       let keeps : KeepsQueue (length s.controls) m = subst (λ k. IsQueueOf k c.queue.next c.queue.entries) (sym cs) h.queue in
@@ -241,7 +245,8 @@ pub acted_controls : (n : ℕ) (at at' : CodePositions) (clock clock' : Clock) (
     → AreControls n at clock c →
     HaveActed at at' clock clock' c new acts → c.made ≢ c.limit → AreControls n at' clock' new
 acted_controls n at at' clock clock' c new acts h a differs =
-    let each : length new.states.items ≡ length c.states.items = sym (length-map new.states.items probe_in) ∙ ap length a.probes ∙ length-map c.states.items probe_in in
+    let each : length new.states.items ≡ length c.states.items =
+    sym (length-map new.states.items probe_in) ∙ ap length a.probes ∙ length-map c.states.items probe_in in
     record {
       places = subst (All (IsProbe n)) (sym a.probes) h.places;
       devices = a.standing.devices;
@@ -256,8 +261,10 @@ acted_controls n at at' clock clock' c new acts h a differs =
       states = a.standing.states;
       queue = subst (λ k. IsQueueOf k new.queue.next new.queue.entries) (sym each)
           (subst (λ k. IsQueueOf (length c.states.items) k new.queue.entries) (sym a.next)
-          (subst (λ es. IsQueueOf (length c.states.items) c.queue.next es) (sym a.entries) (queue_later (length c.states.items) c.queue.next c.queue.entries h.queue)));
-      openings = subst (AllByRecursion OpensEarly) (sym a.entries) (each_filter OpensEarly (λ e. not (e.time == least_time c.queue.entries)) c.queue.entries h.openings);
+          (subst (λ es. IsQueueOf (length c.states.items) c.queue.next es) (sym a.entries)
+          (queue_later (length c.states.items) c.queue.next c.queue.entries h.queue)));
+      openings = subst (AllByRecursion OpensEarly) (sym a.entries)
+          (each_filter OpensEarly (λ e. not (e.time == least_time c.queue.entries)) c.queue.entries h.openings);
       room = omega (arith, each, h.room, a.room);
       due_room = omega (arith, each, h.due_room, a.due_room);
       verdict_room = omega (arith, each, h.verdict_room, ap vec_capacity a.verdicts);

@@ -106,14 +106,17 @@ pub record IsLeft {V F : Type 0} (gives : V → NetworkView → Result Claim F �
   pub clock : IsClock c times
 
 -- before the first round
-pub left_first : {V F : Type 0} (gives : V → NetworkView → Result Claim F → V → Type 0) (c : CircuitView) (powers : List LoadPower) (v : V) (old new : List Round) (at : CodePositions) (clock : Clock)
-    → new ≡ old → ArePositions c powers (positions_in at) → IsClock c clock →
-    IsLeft gives c powers v (begun c at clock) old new Open (begun c at clock) at clock v
+pub left_first : {V F : Type 0} (gives : V → NetworkView → Result Claim F → V → Type 0) (c : CircuitView)
+    (powers : List LoadPower) (v : V) (old new : List Round) (at : CodePositions) (clock : Clock)
+    → new ≡ old → ArePositions c powers (positions_in at) → IsClock c clock
+    → IsLeft gives c powers v (begun c at clock) old new Open (begun c at clock) at clock v
 left_first gives c powers v old new at clock same positions times =
     let none : appended old new ≡ [] = ap (appended old) same ∙ nothing_appended old in
     record {
       kept = same ∙ sym (append-nil old) ∙ ap (λ (rs : List Round). old ++ rs) (sym none);
-      stands = subst (λ (rs : List Round). IsStanding gives (IsSoundAt c powers) (plant_of c powers) v (begun c at clock) rs Open (begun c at clock) v) (sym none) (record { is_settle = refl; calls = refl; each = tt });
+      stands = subst (λ (rs : List Round).
+          IsStanding gives (IsSoundAt c powers) (plant_of c powers) v (begun c at clock) rs Open (begun c at clock) v)
+          (sym none) (record { is_settle = refl; calls = refl; each = tt });
       at = refl;
       opened = refl;
       now = refl;
@@ -130,12 +133,16 @@ pub record IsUnderway {V F : Type 0} (gives : V → NetworkView → Result Claim
   pub limit : controls.limit ≡ c.options.maxcontroliter
   pub keeps : AreControls (size_of (layout_of c.elements)) at clock controls
 
-pub underway_first : {V F : Type 0} (gives : V → NetworkView → Result Claim F → V → Type 0) (c : CircuitView) (powers : List LoadPower) (v : V) (old new : List Round) (at : CodePositions) (clock : Clock) (controls : Controls)
-    → new ≡ old → ArePositions c powers (positions_in at) → IsClock c clock →
-    probes_in controls ≡ controls_in c → controls.limit ≡ c.options.maxcontroliter → machine_of at clock controls ≡ begun c at clock → AreControls (size_of (layout_of c.elements)) at clock controls →
-    IsUnderway gives c powers v (begun c at clock) old new Open at clock controls v
+pub underway_first : {V F : Type 0} (gives : V → NetworkView → Result Claim F → V → Type 0) (c : CircuitView)
+    (powers : List LoadPower) (v : V) (old new : List Round) (at : CodePositions) (clock : Clock)
+    (controls : Controls)
+    → new ≡ old → ArePositions c powers (positions_in at) → IsClock c clock → probes_in controls ≡ controls_in c
+    → controls.limit ≡ c.options.maxcontroliter → machine_of at clock controls ≡ begun c at clock
+    → AreControls (size_of (layout_of c.elements)) at clock controls
+    → IsUnderway gives c powers v (begun c at clock) old new Open at clock controls v
 underway_first gives c powers v old new at clock controls same positions times probes limit machine keeps = record {
-  left = subst (λ n. IsLeft gives c powers v (begun c at clock) old new Open n at clock v) (sym machine) (left_first gives c powers v old new at clock same positions times);
+  left = subst (λ n. IsLeft gives c powers v (begun c at clock) old new Open n at clock v) (sym machine)
+      (left_first gives c powers v old new at clock same positions times);
   probes = probes;
   limit = limit;
   keeps = keeps;
@@ -170,18 +177,28 @@ acts_shown (progress.Undecided control low high edge) acts m h = ap (map seen) h
 
 -- the controls' own setup and samples are the circuit's
 same_round : (c : CircuitView) (ps : List Probe) (limit : ℕ) (n : Machine) (x : Claim) (o : Outcome)
-    → ps ≡ controls_in c → limit ≡ c.options.maxcontroliter →
-    outcome_of (record { rule = settle_rule; controls = map control_of ps; limit = limit }) n (look_over ps n.at x) ≡ o → outcome_of (setup_of c) n (look_over (controls_in c) n.at x) ≡ o
-same_round c ps limit n x o probes most h =
-    subst (λ (k : ℕ). outcome_of (record { rule = settle_rule; controls = map control_of (controls_in c); limit = k }) n (look_over (controls_in c) n.at x) ≡ o) most
-    (subst (λ (qs : List Probe). outcome_of (record { rule = settle_rule; controls = map control_of qs; limit = limit }) n (look_over qs n.at x) ≡ o) probes h)
+    → ps ≡ controls_in c → limit ≡ c.options.maxcontroliter
+    → outcome_of (record { rule = settle_rule; controls = map control_of ps; limit = limit }) n (look_over ps n.at x)
+    ≡ o
+    → outcome_of (setup_of c) n (look_over (controls_in c) n.at x) ≡ o
+same_round c ps limit n x o probes most h = subst (λ (k : ℕ). outcome_of (record {
+  rule = settle_rule;
+  controls = map control_of (controls_in c);
+  limit = k;
+}) n (look_over (controls_in c) n.at x) ≡ o) most (subst (λ (qs : List Probe). outcome_of (record {
+  rule = settle_rule;
+  controls = map control_of qs;
+  limit = limit;
+}) n (look_over qs n.at x) ≡ o) probes h)
 
 -- What a step of the controls says, in the words of its contract.
 pub record IsStep (at : CodePositions) (clock : Clock) (controls : Controls) (m : Certified) (q : Progress)
     (made : List Made) (to : CodePositions) (then' : Clock) (after : Controls) : Type 0 where
   pub probes : probes_in after ≡ probes_in controls
   pub limit : after.limit ≡ controls.limit
-  pub round : outcome_of (setup_in controls) (machine_of at clock controls) (look_over (probes_in controls) (positions_in at) (claim_in m)) ≡ shown q (map seen made) (machine_of to then' after)
+  pub round : outcome_of (setup_in controls) (machine_of at clock controls)
+      (look_over (probes_in controls) (positions_in at) (claim_in m))
+      ≡ shown q (map seen made) (machine_of to then' after)
   pub acts : TellsActs q made (machine_of to then' after)
   pub keeps : AreControls (length m.ball.centre.items) to then' after
   pub taps : length to.taps ≡ length at.taps
@@ -212,7 +229,12 @@ pub fewer_left : CountLaw
 fewer_left law at to clock then' controls after m q acts limit s moved is =
     let n = machine_of at clock controls in
     let next = machine_of to then' after in
-    let e : outcome_of (setup_in controls) n (look_over (probes_in controls) (positions_in at) (claim_in m)) ≡ Moves (map seen acts) next = subst (λ (p : Progress). outcome_of (setup_in controls) n (look_over (probes_in controls) (positions_in at) (claim_in m)) ≡ shown p (map seen acts) next) moved s.round in
+    let e : outcome_of (setup_in controls) n (look_over (probes_in controls) (positions_in at) (claim_in m))
+    ≡ Moves (map seen acts) next =
+    subst (λ (p : Progress).
+    outcome_of (setup_in controls) n (look_over (probes_in controls) (positions_in at) (claim_in m))
+    ≡ shown p (map seen acts) next)
+    moved s.round in
     let h = round_counts law (setup_in controls) n (look_over (probes_in controls) (positions_in at) (claim_in m)) (map seen acts) next e in
     let more : after.made ≡ controls.made + 1 = h.one_more in
     let allowed : controls.made < controls.limit = h.allowed in
@@ -244,16 +266,22 @@ pub ends_told : {F : Type 0} (p : Plant) (q : Progress) (r : Result Unit (Settle
     → end_told q ≡ Some r → TellsActs q acts n → EndsAs p r (end_by q) n
 ends_told p progress.Moved r acts n e h = absurd (cc)
 ends_told {F} p progress.Settled r acts n e h = let is : Ok tt ≡ r = cc in subst (λ (x : Result Unit (SettleFault F)). EndsAs p x Settled n) is refl
-ends_told {F} p (progress.Limited made) r acts n e h = let is : Err (fault.ControlLimit made) ≡ r = cc in subst (λ (x : Result Unit (SettleFault F)). EndsAs p x Limited n) is (refl, h.1)
+ends_told {F} p (progress.Limited made) r acts n e h =
+    let is : Err (fault.ControlLimit made) ≡ r = cc in
+    subst (λ (x : Result Unit (SettleFault F)). EndsAs p x Limited n) is (refl, h.1)
 ends_told {F} p (progress.Undecided control low high edge) r acts n e h =
     let is : Err (fault.Undecided control low high edge) ≡ r = cc in
     subst (λ (x : Result Unit (SettleFault F)). EndsAs p x (Undecidable control (record { low = low; high = high; edge = edge })) n) is refl
 
-pub calls_told : {V F : Type 0} (gives : V → NetworkView → Result Claim F → V → Type 0) (p : Plant) (v : V) (m : Machine) (rs : List Round) (q : Progress) (r : Result Unit (SettleFault F)) (w : V)
+pub calls_told : {V F : Type 0} (gives : V → NetworkView → Result Claim F → V → Type 0) (p : Plant) (v : V)
+    (m : Machine) (rs : List Round) (q : Progress) (r : Result Unit (SettleFault F)) (w : V)
     → end_told q ≡ Some r → AreCalls gives p v m (claims_in rs) w → CallsAs gives p v m rs r w
 calls_told gives p v m rs progress.Moved r w e h = absurd (cc)
-calls_told {V} {F} gives p v m rs progress.Settled r w e h = let is : Ok tt ≡ r = cc in subst (λ (x : Result Unit (SettleFault F)). CallsAs gives p v m rs x w) is h
-calls_told {V} {F} gives p v m rs (progress.Limited made) r w e h = let is : Err (fault.ControlLimit made) ≡ r = cc in subst (λ (x : Result Unit (SettleFault F)). CallsAs gives p v m rs x w) is h
+calls_told {V} {F} gives p v m rs progress.Settled r w e h =
+    let is : Ok tt ≡ r = cc in subst (λ (x : Result Unit (SettleFault F)). CallsAs gives p v m rs x w) is h
+calls_told {V} {F} gives p v m rs (progress.Limited made) r w e h =
+    let is : Err (fault.ControlLimit made) ≡ r = cc in
+    subst (λ (x : Result Unit (SettleFault F)). CallsAs gives p v m rs x w) is h
 calls_told {V} {F} gives p v m rs (progress.Undecided control low high edge) r w e h =
     let is : Err (fault.Undecided control low high edge) ≡ r = cc in subst (λ (x : Result Unit (SettleFault F)). CallsAs gives p v m rs x w) is h
 
@@ -263,7 +291,8 @@ pub ends_refused : (T F : Type 0) (p : Plant) (f : BuildFault) (n : Machine) →
 ends_refused T F p (build_fault.Range blame) n h = (refl, h)
 ends_refused T F p build_fault.NoMemory n h = refl
 
-pub calls_refused : (T : Type 0) {V F : Type 0} (gives : V → NetworkView → Result Claim F → V → Type 0) (p : Plant) (v : V) (m : Machine) (rs : List Round) (f : BuildFault) (w : V)
+pub calls_refused : (T : Type 0) {V F : Type 0} (gives : V → NetworkView → Result Claim F → V → Type 0) (p : Plant)
+    (v : V) (m : Machine) (rs : List Round) (f : BuildFault) (w : V)
     → AreCalls gives p v m (claims_in rs) w → CallsAs {V = V} {T = T} {F = F} gives p v m rs (Err (refused f)) w
 calls_refused T gives p v m rs (build_fault.Range blame) w h = h
 calls_refused T gives p v m rs build_fault.NoMemory w h = inl h
@@ -285,9 +314,13 @@ pub record IsOver {V T F : Type 0} (gives : V → NetworkView → Result Claim F
   pub positions : ArePositions c powers.loads (positions_in there)
   pub clock : IsClock c times
 
-pub over : {V T F : Type 0} (gives : V → NetworkView → Result Claim F → V → Type 0) (c : CircuitView) (powers : Powers) (from' : CodePositions) (start : Clock) (v : V) (old new : List Round) (end : End) (n : Machine) (at : CodePositions) (clock : Clock) (result : Result T (SettleFault F)) (u w : V) →
-    IsLeft gives c powers.loads v (begun c from' start) old new end n at clock u → EndsAs (plant_of c powers.loads) result end n → CallsAs gives (plant_of c powers.loads) v (begun c from' start) (appended old new) result w →
-    IsOver gives c powers from' start v old new at clock result w
+pub over : {V T F : Type 0} (gives : V → NetworkView → Result Claim F → V → Type 0) (c : CircuitView)
+    (powers : Powers) (from' : CodePositions) (start : Clock) (v : V) (old new : List Round) (end : End) (n : Machine)
+    (at : CodePositions) (clock : Clock) (result : Result T (SettleFault F)) (u w : V)
+    → IsLeft gives c powers.loads v (begun c from' start) old new end n at clock u
+    → EndsAs (plant_of c powers.loads) result end n
+    → CallsAs gives (plant_of c powers.loads) v (begun c from' start) (appended old new) result w
+    → IsOver gives c powers from' start v old new at clock result w
 over gives c powers from' start v old new end n at clock result u w h e k =
     let is : settled_in c powers from' start old new ≡ record { rounds = acts_in (appended old new); end = end; machine = n } = h.stands.is_settle in
     record {
@@ -305,33 +338,48 @@ over gives c powers from' start v old new end n at clock result u w h e k =
 
 -- ---- the loop
 
-module _ {V F : Type 0} (gives : V → NetworkView → Result Claim F → V → Type 0) (c : CircuitView) (powers : Powers) (from' : CodePositions) (start : Clock) (v : V) (old mid : List Round) (at : CodePositions) (clock : Clock) (controls : Controls) (net : BuiltView) (w : V)
-    (h : IsUnderway gives c powers.loads v (begun c from' start) old mid Open at clock controls w) (here : IsNetworkAt c powers.loads (positions_in at) net) where
+module _ {V F : Type 0} (gives : V → NetworkView → Result Claim F → V → Type 0) (c : CircuitView) (powers : Powers)
+    (from' : CodePositions) (start : Clock) (v : V) (old mid : List Round) (at : CodePositions) (clock : Clock)
+    (controls : Controls) (net : BuiltView) (w : V)
+    (h : IsUnderway gives c powers.loads v (begun c from' start) old mid Open at clock controls w)
+    (here : IsNetworkAt c powers.loads (positions_in at) net) where
   -- a round more
   pub underway_more : IsNetwork net.rows
-      → (view : NetworkView) (r : Round) (u : V) (new : List Round) (q : Progress) (to : CodePositions) (then' : Clock)
-      (after : Controls)
+      → (view : NetworkView) (r : Round) (u : V) (new : List Round) (q : Progress) (to : CodePositions)
+      (then' : Clock) (after : Controls)
       → view ≡ net.rows → gives w view (Ok (claim_in r.certified)) u → IsSound view (claim_in r.certified)
-      → new ≡ mid ++ r ∷ [] →
-      IsStep at clock controls r.certified q r.acts.items to then' after → IsUnderway gives c powers.loads v (begun c from' start) old new (end_by q) to then' after u
+      → new ≡ mid ++ r ∷ [] → IsStep at clock controls r.certified q r.acts.items to then' after
+      → IsUnderway gives c powers.loads v (begun c from' start) old new (end_by q) to then' after u
   underway_more valid view r u new q to then' after is gave sound more s =
       let n = machine_of at clock controls in
       let next = machine_of to then' after in
       let same : view ≡ network_at c powers.loads (positions_in at) = is ∙ here.rows in
-      let own : IsSound (network_at c powers.loads (positions_in at)) (claim_in r.certified) = subst (λ (x : NetworkView). IsSound x (claim_in r.certified)) same sound in
+      let own : IsSound (network_at c powers.loads (positions_in at)) (claim_in r.certified) =
+      subst (λ (x : NetworkView). IsSound x (claim_in r.certified)) same sound in
       let outcome : outcome_of (setup_of c) n (look_over (controls_in c) n.at (claim_in r.certified)) ≡ shown q (map seen r.acts.items) next =
       same_round c (probes_in controls) controls.limit n (claim_in r.certified) (shown q (map seen r.acts.items) next) h.probes h.limit s.round in
-      let stands = round_more gives (IsSoundAt c powers.loads) (plant_of c powers.loads) v (begun c from' start) (appended old mid) n w r (shown q (map seen r.acts.items) next) u h.left.stands here.in_range
-      (subst (λ (x : NetworkView). gives w x (Ok (claim_in r.certified)) u) same gave) (record { positions = h.left.positions; agrees = here.agrees; network = subst IsNetwork here.rows valid; sound = own }) outcome (acts_shown q r.acts.items next s.acts) in
+      let stands = round_more gives (IsSoundAt c powers.loads) (plant_of c powers.loads) v (begun c from' start)
+      (appended old mid) n w r (shown q (map seen r.acts.items) next) u h.left.stands here.in_range
+      (subst (λ (x : NetworkView). gives w x (Ok (claim_in r.certified)) u) same gave) (record {
+        positions = h.left.positions;
+        agrees = here.agrees;
+        network = subst IsNetwork here.rows valid;
+        sound = own;
+      }) outcome (acts_shown q r.acts.items next s.acts) in
       let long = centre_long c powers.loads (positions_in at) view r.certified same sound in
       let keeps = subst (λ k. AreControls k to then' after) long s.keeps in
       let positions = stepped_positions c powers.loads (size_of (layout_of c.elements)) at to then' after h.left.positions keeps s.taps s.closed in
       record {
         left = record {
           kept = kept_more old mid new r h.left.kept more;
-          stands = subst (λ (rs : List Round). IsStanding gives (IsSoundAt c powers.loads) (plant_of c powers.loads) v (begun c from' start) rs (end_by q) next u) (sym (appended_more old mid new r h.left.kept more))
-              (subst (λ (e : End). IsStanding gives (IsSoundAt c powers.loads) (plant_of c powers.loads) v (begun c from' start) (appended old mid ++ r ∷ []) e next u) (end_shown q (map seen r.acts.items) next)
-              (subst (λ (k : Machine). IsStanding gives (IsSoundAt c powers.loads) (plant_of c powers.loads) v (begun c from' start) (appended old mid ++ r ∷ []) (end_of (shown q (map seen r.acts.items) next)) k u) (left_shown q (map seen r.acts.items) next) stands));
+          stands = subst (λ (rs : List Round).
+              IsStanding gives (IsSoundAt c powers.loads) (plant_of c powers.loads) v (begun c from' start) rs
+              (end_by q) next u) (sym (appended_more old mid new r h.left.kept more)) (subst (λ (e : End).
+              IsStanding gives (IsSoundAt c powers.loads) (plant_of c powers.loads) v (begun c from' start)
+              (appended old mid ++ r ∷ []) e next u) (end_shown q (map seen r.acts.items) next)
+              (subst (λ (k : Machine). IsStanding gives (IsSoundAt c powers.loads) (plant_of c powers.loads) v
+              (begun c from' start) (appended old mid ++ r ∷ []) (end_of (shown q (map seen r.acts.items) next)) k u)
+              (left_shown q (map seen r.acts.items) next) stands));
           at = refl;
           opened = refl;
           now = s.time ∙ h.left.now;
@@ -346,13 +394,17 @@ module _ {V F : Type 0} (gives : V → NetworkView → Result Claim F → V → 
   -- the call of which nothing was appended
   pub last_call : (view : NetworkView) (answer : Result Claim F) (u : V) → view ≡ net.rows → gives w view answer u
       → IsLast gives (plant_of c powers.loads) v (begun c from' start) (appended old mid) answer u
-  last_call view answer u is gave = last_by gives (IsSoundAt c powers.loads) (plant_of c powers.loads) v (begun c from' start) (appended old mid) Open (machine_of at clock controls) w answer u h.left.stands here.in_range
+  last_call view answer u is gave =
+      last_by gives (IsSoundAt c powers.loads) (plant_of c powers.loads) v (begun c from' start)
+      (appended old mid) Open (machine_of at clock controls) w answer u h.left.stands here.in_range
       (subst (λ (x : NetworkView). gives w x answer u) (is ∙ here.rows) gave)
 
   -- the solver answers a fault
   pub over_solver : (view : NetworkView) (f : F) (u : V) → view ≡ net.rows → gives w view (Err f) u
       → IsOver {T = Unit} gives c powers from' start v old mid at clock (Err (fault.Solver f)) u
-  over_solver view f u is gave = over {T = Unit} gives c powers from' start v old mid Open (machine_of at clock controls) at clock (Err (fault.Solver f)) w u h.left refl (last_call view (Err f) u is gave)
+  over_solver view f u is gave =
+      over {T = Unit} gives c powers from' start v old mid Open (machine_of at clock controls) at clock
+      (Err (fault.Solver f)) w u h.left refl (last_call view (Err f) u is gave)
 
   -- there is no room for the round
   pub over_memory : (view : NetworkView) (m : Claim) (u : V) (result : Result Unit (SettleFault F)) → view ≡ net.rows
@@ -360,8 +412,11 @@ module _ {V F : Type 0} (gives : V → NetworkView → Result Claim F → V → 
       → IsOver gives c powers from' start v old mid at clock result u
   over_memory view m u result is gave same =
       over gives c powers from' start v old mid Open (machine_of at clock controls) at clock result w u h.left
-      (subst (λ (x : Result Unit (SettleFault F)). EndsAs (plant_of c powers.loads) x Open (machine_of at clock controls)) (sym same) refl)
-      (subst (λ (x : Result Unit (SettleFault F)). CallsAs gives (plant_of c powers.loads) v (begun c from' start) (appended old mid) x u) (sym same) (inr (record { missing = m; call = last_call view (Ok m) u is gave })))
+      (subst (λ (x : Result Unit (SettleFault F)).
+      EndsAs (plant_of c powers.loads) x Open (machine_of at clock controls)) (sym same) refl)
+      (subst (λ (x : Result Unit (SettleFault F)).
+      CallsAs gives (plant_of c powers.loads) v (begun c from' start) (appended old mid) x u)
+      (sym same) (inr (record { missing = m; call = last_call view (Ok m) u is gave })))
 
 module _ {V F : Type 0} (gives : V → NetworkView → Result Claim F → V → Type 0) (c : CircuitView) (powers : Powers)
     (from' : CodePositions) (start : Clock) (v : V) (old new : List Round) (at : CodePositions) (clock : Clock)
@@ -384,6 +439,10 @@ module _ {V F : Type 0} (gives : V → NetworkView → Result Claim F → V → 
   over_refused f result h k same =
       let fault_of = subst (λ (b : Option Blame). IsFaultOf b f) (sym (blame_is c powers at)) k in
       over gives c powers from' start v old new Open (machine_of at clock controls) at clock result w w h.left
-      (subst (λ (x : Result Unit (SettleFault F)). EndsAs (plant_of c powers.loads) x Open (machine_of at clock controls)) (sym same) (ends_refused Unit F (plant_of c powers.loads) f (machine_of at clock controls) fault_of))
-      (subst (λ (x : Result Unit (SettleFault F)). CallsAs gives (plant_of c powers.loads) v (begun c from' start) (appended old new) x w) (sym same)
-      (calls_refused Unit gives (plant_of c powers.loads) v (begun c from' start) (appended old new) f w h.left.stands.calls))
+      (subst (λ (x : Result Unit (SettleFault F)).
+      EndsAs (plant_of c powers.loads) x Open (machine_of at clock controls))
+      (sym same) (ends_refused Unit F (plant_of c powers.loads) f (machine_of at clock controls) fault_of))
+      (subst (λ (x : Result Unit (SettleFault F)).
+      CallsAs gives (plant_of c powers.loads) v (begun c from' start) (appended old new) x w)
+      (sym same) (calls_refused Unit gives (plant_of c powers.loads) v (begun c from' start) (appended old new) f w
+      h.left.stands.calls))

@@ -9,7 +9,9 @@ use Rattle.fd_settle.specs.Settle.{Open, Settled, Limited, Undecidable, Outcome,
 -- what is decided over a ball is decided so at every state that it holds, at these positions
 abbrev pub AreOfHeld : {Y X : Type 0} → (Positions → Y → X → Type 0) → (Positions → Y → Sampling)
     → (Positions → X → Sampling) → Type 0
-AreOfHeld {Y} {X} holds of_ball of_state = (at : Positions) (y : Y) (x : X) (ds : List Decision) → holds at y x → of_ball at y ≡ Decided ds → of_state at x ≡ Decided ds
+AreOfHeld {Y} {X} holds of_ball of_state =
+    (at : Positions) (y : Y) (x : X) (ds : List Decision) → holds at y x → of_ball at y ≡ Decided ds
+    → of_state at x ≡ Decided ds
 
 -- P of what the next round starts with; after the last round nothing is chosen, and for an undecided one nothing is
 abbrev pub GoesOn : {X : Type 0} → Outcome → List X → (Machine → Type 0) → Type 0

@@ -63,8 +63,12 @@ impl Controls {
         requires clock { IsClock circuit.now clock.now }
         ensures probes { IfOk result (λ c. probes_in c ≡ controls_in circuit.now) }
         ensures limit { IfOk result (λ c. c.limit ≡ circuit.now.options.maxcontroliter) }
-        ensures machine { IfOk result (λ c. (at : CodePositions) → machine_of at clock.entry.now c ≡ started circuit.now (positions_in at) clock.entry.now.now clock.entry.now.opened.items) }
-        ensures controls { IfOk result (λ c. (at : CodePositions) (powers : List LoadPower) → ArePositions circuit.now powers (positions_in at) → AreControls (size_of (layout_of circuit.now.elements)) at clock.entry.now c) }
+        ensures machine { IfOk result (λ c. (at : CodePositions)
+            → machine_of at clock.entry.now c
+            ≡ started circuit.now (positions_in at) clock.entry.now.now clock.entry.now.opened.items) }
+        ensures controls { IfOk result (λ c.
+            (at : CodePositions) (powers : List LoadPower) → ArePositions circuit.now powers (positions_in at)
+            → AreControls (size_of (layout_of circuit.now.elements)) at clock.entry.now c) }
         ensures numbers { IfOk result HasNumbers }
     {
         // (read for its clause: there are at most 2^17, and no more controls)
@@ -106,7 +110,9 @@ impl Controls {
         requires room { length self.old.states.items ≤ vec_capacity acts.old }
         ensures probes { probes_in self.new ≡ probes_in self.old }
         ensures limit { self.new.limit ≡ self.old.limit }
-        ensures round { outcome_of (setup_in self.old) (machine_of at.old clock.old self.old) (look_over (probes_in self.old) (positions_in at.old) (claim_in certified.now)) ≡ shown result (map seen acts.new.items) (machine_of at.new clock.new self.new) }
+        ensures round { outcome_of (setup_in self.old) (machine_of at.old clock.old self.old)
+            (look_over (probes_in self.old) (positions_in at.old) (claim_in certified.now))
+            ≡ shown result (map seen acts.new.items) (machine_of at.new clock.new self.new) }
         ensures acts { TellsActs result acts.new.items (machine_of at.new clock.new self.new) }
         ensures controls { AreControls (length certified.now.ball.centre.items) at.new clock.new self.new }
         ensures numbers { IfMoved result (HasNumbers self.new) }

@@ -55,15 +55,21 @@ pub fn settle<V: Solver>(
     // Rounds are only appended. Their acts are those of the settle over their certified states, and the positions, the
     // opening times and the network are what these acts left.
     ensures kept { rounds.new.items ≡ rounds.old.items ++ appended rounds.old.items rounds.new.items }
-    ensures acts { acts_in (appended rounds.old.items rounds.new.items) ≡ (settled_in circuit.now powers.now at.old clock.old rounds.old.items rounds.new.items).rounds }
+    ensures acts { acts_in (appended rounds.old.items rounds.new.items)
+        ≡ (settled_in circuit.now powers.now at.old clock.old rounds.old.items rounds.new.items).rounds }
     ensures at { positions_in at.new ≡ (settled_in circuit.now powers.now at.old clock.old rounds.old.items rounds.new.items).machine.at }
     ensures opened { clock.new.opened.items ≡ (settled_in circuit.now powers.now at.old clock.old rounds.old.items rounds.new.items).machine.opened }
     ensures now { clock.new.now ≡ clock.old.now }
     // How it ends is how that settle ends.
-    ensures ends { EndsAs (plant_of circuit.now powers.now.loads) result (settled_in circuit.now powers.now at.old clock.old rounds.old.items rounds.new.items).end (settled_in circuit.now powers.now at.old clock.old rounds.old.items rounds.new.items).machine }
+    ensures ends { EndsAs (plant_of circuit.now powers.now.loads) result
+        (settled_in circuit.now powers.now at.old clock.old rounds.old.items rounds.new.items).end
+        (settled_in circuit.now powers.now at.old clock.old rounds.old.items rounds.new.items).machine }
     // The solver was called once for each of these rounds, in order, and once more where it answered a fault.
-    ensures calls { CallsAs (λ v. V.gives v (limits_of circuit.now.options)) (plant_of circuit.now powers.now.loads) solver.old (begun circuit.now at.old clock.old) (appended rounds.old.items rounds.new.items) result solver.new }
-    ensures sound { AtEach (IsSoundAt circuit.now powers.now.loads) (plant_of circuit.now powers.now.loads) (begun circuit.now at.old clock.old) (claims_in (appended rounds.old.items rounds.new.items)) }
+    ensures calls { CallsAs (λ v. V.gives v (limits_of circuit.now.options)) (plant_of circuit.now powers.now.loads)
+        solver.old (begun circuit.now at.old clock.old) (appended rounds.old.items rounds.new.items) result
+        solver.new }
+    ensures sound { AtEach (IsSoundAt circuit.now powers.now.loads) (plant_of circuit.now powers.now.loads)
+        (begun circuit.now at.old clock.old) (claims_in (appended rounds.old.items rounds.new.items)) }
     // What the next hour starts with.
     ensures positions { ArePositions circuit.now powers.now.loads (positions_in at.new) }
     ensures clock { IsClock circuit.now clock.new }

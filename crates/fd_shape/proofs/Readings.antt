@@ -28,7 +28,11 @@ Reads old new found fields = (reader_trim old ≡ trim.None) → Ready old → R
 
 -- behind a record that was read
 abbrev Behind : State → List ℕ → List (List ℕ) → Reader (Bor (List ℕ)) → Type 0
-Behind s ys fields new = (records_after s ys ≡ fields ∷ records_left new) × (ends_at_end (reader_state new) ≡ false) × (zs : List ℕ) × (bytes_left new ≡ Some zs)
+Behind s ys fields new =
+    (records_after s ys ≡ fields ∷ records_left new)
+    × (ends_at_end (reader_state new) ≡ false)
+    × (zs : List ℕ)
+    × (bytes_left new ≡ Some zs)
 
 behind_record : (s : State) (ys : List ℕ) (fields : List (List ℕ)) (new : Reader (Bor (List ℕ))) (p : Read)
     → ends_at_end s ≡ false → next_record default_config s [] [] ys ≡ Some p
@@ -44,7 +48,8 @@ behind : (old new : Reader (Bor (List ℕ))) (fields : List (List ℕ)) (ys : Li
     → ReadRecord (λ bytes. Some bytes.now) old new true fields → Behind (reader_state old) ys fields new
 unfolding Reached
 behind old new fields ys between config source read =
-    let (z, left, reached) = rows-more (λ (bytes : Bor (List ℕ)). Some bytes.now) old new fields default_config (reader_state old) ys ys [] config source (refl, refl) read in
+    let (z, left, reached) = rows-more (λ (bytes : Bor (List ℕ)). Some bytes.now) old new fields default_config
+    (reader_state old) ys ys [] config source (refl, refl) read in
     let (p, e, same, at) = reached in
     behind_record (reader_state old) ys fields new p between e same at.0 (rw at.1 left)
 
@@ -57,7 +62,8 @@ reads old new true fields plain read =
     rw source (behind old new fields ys between config source (read trim ready)).0
 reads old new false fields plain read =
     let (trim, ready, flexible, config, between, ys, source) = plain in
-    rw source (records_none (reader_state old) ys (rows-end (λ (bytes : Bor (List ℕ)). Some bytes.now) old new fields default_config ys config source (read trim ready)))
+    rw source (records_none (reader_state old) ys (rows-end (λ (bytes : Bor (List ℕ)). Some bytes.now) old new fields
+    default_config ys config source (read trim ready)))
 
 pub plain_after : (old new : Reader (Bor (List ℕ))) (found : Bool) (fields : List (List ℕ)) → IsPlain old
     → Reads old new found fields

@@ -167,23 +167,34 @@ is_within true n h = let e : unsigned_abs (neg_ℤ (pos n)) ≡ n = omega (arith
 is_within false n h = rw (lt-ltb n 1_000_000_000_000_000_000 h) refl
 
 parts_read : (negative : Bool) (n : ℕ) → n < 1_000_000_000_000_000_000
-    → number_from negative (decimal (n / 1_000_000_000)) (last_digits 9 (n % 1_000_000_000)) (Some (record { right = 0; left = 0 })) ≡ Ok (with_sign negative (pos n))
+    → number_from negative (decimal (n / 1_000_000_000)) (last_digits 9 (n % 1_000_000_000))
+    (Some (record { right = 0; left = 0 }))
+    ≡ Ok (with_sign negative (pos n))
 parts_read negative n h =
     let whole = decimal (n / 1_000_000_000) in
     let rest = last_digits 9 (n % 1_000_000_000) in
-    let units_are : units whole rest (record { right = 0; left = 0 }) ≡ pos n = ap (λ v. near_div (pos (v * 1_000_000_000)) 1_000_000_000) (value_is n h) ∙ near_whole n in
-    rw (are_digits_are whole (whole_digits n h), are_digits_are rest (last_are 9 (n % 1_000_000_000)), lt-ltb 0 (length whole + length rest) (omega arith), units_are) (is_within negative n h)
+    let units_are : units whole rest (record { right = 0; left = 0 }) ≡ pos n =
+    ap (λ v. near_div (pos (v * 1_000_000_000)) 1_000_000_000) (value_is n h) ∙ near_whole n in
+    rw (
+      are_digits_are whole (whole_digits n h),
+      are_digits_are rest (last_are 9 (n % 1_000_000_000)),
+      lt-ltb 0 (length whole + length rest) (omega arith),
+      units_are,
+    ) (is_within negative n h)
 
 -- a text of digits, a point and digits, behind its sign
 body_reads : (negative : Bool) (n : ℕ) → n < 1_000_000_000_000_000_000 → (body : List ℕ)
     → body ≡ decimal (n / 1_000_000_000) ++ 46 ∷ last_digits 9 (n % 1_000_000_000)
-    → number_from negative (before_first is_point (before_first is_exponent_mark body)) (after_first is_point (before_first is_exponent_mark body)) (shift_of body) ≡ Ok (with_sign negative (pos n))
+    → number_from negative (before_first is_point (before_first is_exponent_mark body))
+    (after_first is_point (before_first is_exponent_mark body)) (shift_of body)
+    ≡ Ok (with_sign negative (pos n))
 body_reads negative n h body is =
     let whole = decimal (n / 1_000_000_000) in
     let rest = last_digits 9 (n % 1_000_000_000) in
     let no_marks : NonePass is_exponent_mark body =
     subst (NonePass is_exponent_mark) (sym is)
-    (none_append is_exponent_mark whole (46 ∷ rest) (none_pass is_exponent_mark no_exponent whole (whole_digits n h)) (refl, none_pass is_exponent_mark no_exponent rest (last_are 9 (n % 1_000_000_000)))) in
+    (none_append is_exponent_mark whole (46 ∷ rest) (none_pass is_exponent_mark no_exponent whole (whole_digits n h))
+    (refl, none_pass is_exponent_mark no_exponent rest (last_are 9 (n % 1_000_000_000)))) in
     let no_points = none_pass is_point no_point whole (whole_digits n h) in
     ap (λ t. number_from negative (before_first is_point t) (after_first is_point t) (shift_of body)) (before_none is_exponent_mark body no_marks ∙ is)
     ∙ ap (λ t. number_from negative t (after_first is_point (whole ++ 46 ∷ rest)) (shift_of body)) (before_mark is_point whole 46 rest no_points refl)
@@ -202,8 +213,11 @@ unfolding number_of signed_text fixed_text
 number_reads (pos n) h =
     let whole = decimal (n / 1_000_000_000) in
     let body = whole ++ 46 ∷ last_digits 9 (n % 1_000_000_000) in
-    let plain = front_plain whole (46 ∷ last_digits 9 (n % 1_000_000_000)) (decimal_is_IsNumeral_wide (n / 1_000_000_000) (omega arith)).0.0 (whole_digits n h) in
-    ap (λ b. number_from b (before_first is_point (before_first is_exponent_mark (unsigned body))) (after_first is_point (before_first is_exponent_mark (unsigned body))) (shift_of (unsigned body))) plain.0
+    let plain = front_plain whole (46 ∷ last_digits 9 (n % 1_000_000_000))
+    (decimal_is_IsNumeral_wide (n / 1_000_000_000) (omega arith)).0.0 (whole_digits n h) in
+    ap (λ b. number_from b (before_first is_point (before_first is_exponent_mark (unsigned body)))
+    (after_first is_point (before_first is_exponent_mark (unsigned body))) (shift_of (unsigned body)))
+    plain.0
     ∙ body_reads false n h (unsigned body) plain.1
 number_reads (negsuc n) h = body_reads true (suc n) h (decimal (suc n / 1_000_000_000) ++ 46 ∷ last_digits 9 (suc n % 1_000_000_000)) refl
 
@@ -222,8 +236,14 @@ number_word z h =
     let n : ℕ = unsigned_abs z in
     let whole = decimal (n / 1_000_000_000) in
     let rest = last_digits 9 (n % 1_000_000_000) in
-    let body = none_append is_separator whole (46 ∷ rest) (none_pass is_separator no_separator whole (whole_digits n h)) (refl, none_pass is_separator no_separator rest (last_are 9 (n % 1_000_000_000))) in
-    (omega (arith, length-append (sign z) (whole ++ 46 ∷ rest), length-append whole (46 ∷ rest)), none_append is_separator (sign z) (whole ++ 46 ∷ rest) (signs z) body)
+    let body =
+    none_append is_separator whole (46 ∷ rest) (none_pass is_separator no_separator whole (whole_digits n h)) (
+      refl,
+      none_pass is_separator no_separator rest (last_are 9 (n % 1_000_000_000)),
+    ) in (
+      omega (arith, length-append (sign z) (whole ++ 46 ∷ rest), length-append whole (46 ∷ rest)),
+      none_append is_separator (sign z) (whole ++ 46 ∷ rest) (signs z) body,
+    )
   where
     signs : (z : ℤ) → NonePass is_separator (sign z)
     signs (pos n) = tt
@@ -241,11 +261,14 @@ words_are : (z : ℤ) (zs : List ℤ) → unsigned_abs z < 1_000_000_000_000_000
     → words_of (nano_text z ++ behind_blanks zs) ≡ nano_text z ∷ map nano_text zs
 words_are z [] h all =
     let word = number_word z h in
-    ap words_of (append-nil (nano_text z)) ∙ ap (λ parts. flat_map word_in parts) (slice_split_none is_separator (nano_text z) (all_fail is_separator (nano_text z) word.1))
+    ap words_of (append-nil (nano_text z))
+    ∙ ap (λ parts. flat_map word_in parts)
+    (slice_split_none is_separator (nano_text z) (all_fail is_separator (nano_text z) word.1))
     ∙ ap (λ w. w ++ []) (one_word (nano_text z) word.0)
 words_are z (y ∷ ys) h all =
     let word = number_word z h in
-    ap (λ parts. flat_map word_in parts) (slice_split_at is_separator (nano_text z) 32 (nano_text y ++ behind_blanks ys) (all_fail is_separator (nano_text z) word.1) refl)
+    ap (λ parts. flat_map word_in parts) (slice_split_at is_separator (nano_text z) 32
+    (nano_text y ++ behind_blanks ys) (all_fail is_separator (nano_text z) word.1) refl)
     ∙ ap (λ w. w ++ words_of (nano_text y ++ behind_blanks ys)) (one_word (nano_text z) word.0)
     ∙ ap (λ ws. nano_text z ∷ ws) (words_are y ys (All-head Small y ys all) (All-tail Small y ys all))
 

@@ -60,4 +60,5 @@ product_is x y h =
     let least : x * y / 2 ^ 40 ≤ 2 ^ 119 = omega arith in
     (λ i. capped (floor_div (low i) (2 ^ 40)) (ceil_div (high i) (2 ^ 40)))
     ∙ ap (λ u. capped (floor_div (pos (x * y)) (2 ^ 40)) u) (ceil_nat_is (x * y) (2 ^ 40) (omega arith))
-    ∙ capped-within (floor_div (pos (x * y)) (2 ^ 40)) (pos (ceil_nat (x * y) (2 ^ 40))) (natural_fits (x * y / 2 ^ 40) (omega arith)) (natural_fits (ceil_nat (x * y) (2 ^ 40)) (omega arith))
+    ∙ capped-within (floor_div (pos (x * y)) (2 ^ 40)) (pos (ceil_nat (x * y) (2 ^ 40)))
+    (natural_fits (x * y / 2 ^ 40) (omega arith)) (natural_fits (ceil_nat (x * y) (2 ^ 40)) (omega arith))

@@ -21,10 +21,16 @@ between_size w y (n, m, inl (e, f)) = rw (e, f) (omega (arith, ints))
 between_size w y (n, m, inr (e, f)) = rw (e, f) (omega (arith, ints))
 
 scaled_max : (a b m : ℕ) → max a b * m ≡ max (a * m) (b * m)
-scaled_max a b m = elim (cases_lt a b) [ inl h ↦ let e : max a b ≡ b = omega arith in let p = mul-le-mul_right m (le_of_lt h) in rw e (omega arith) | inr h ↦ let e : max a b ≡ a = omega arith in let p = mul-le-mul_right m h in rw e (omega arith) ]
+scaled_max a b m = elim (cases_lt a b) [
+  | inl h ↦ let e : max a b ≡ b = omega arith in let p = mul-le-mul_right m (le_of_lt h) in rw e (omega arith)
+  | inr h ↦ let e : max a b ≡ a = omega arith in let p = mul-le-mul_right m h in rw e (omega arith)
+]
 
 scaled_min : (a b m : ℕ) → min a b * m ≡ min (a * m) (b * m)
-scaled_min a b m = elim (cases_lt a b) [ inl h ↦ let e : min a b ≡ a = omega arith in let p = mul-le-mul_right m (le_of_lt h) in rw e (omega arith) | inr h ↦ let e : min a b ≡ b = omega arith in let p = mul-le-mul_right m h in rw e (omega arith) ]
+scaled_min a b m = elim (cases_lt a b) [
+  | inl h ↦ let e : min a b ≡ a = omega arith in let p = mul-le-mul_right m (le_of_lt h) in rw e (omega arith)
+  | inr h ↦ let e : min a b ≡ b = omega arith in let p = mul-le-mul_right m h in rw e (omega arith)
+]
 
 pub scaled_clamp : (u lo hi m : ℕ) → clamp u lo hi * m ≡ clamp (u * m) (lo * m) (hi * m)
 scaled_clamp u lo hi m = scaled_min (max u lo) hi m ∙ ap (λ (z : ℕ). min z (hi * m)) (scaled_max u lo m)
@@ -63,7 +69,8 @@ far_neg x z d = omega (arith, ints)
 
 by_signs : (P Z : ℤ) (d m k : ℕ)
     → (unsigned_abs (P *ℤ pos m -ℤ Z *ℤ pos k) ≤ max (unsigned_abs P * m) (unsigned_abs Z * k))
-    ⊎ ((unsigned_abs (P *ℤ pos m -ℤ Z *ℤ pos k) ≤ unsigned_abs P * m + unsigned_abs Z * k) × (unsigned_abs (Z -ℤ pos d *ℤ P) ≡ unsigned_abs Z + d * unsigned_abs P))
+    ⊎ ((unsigned_abs (P *ℤ pos m -ℤ Z *ℤ pos k) ≤ unsigned_abs P * m + unsigned_abs Z * k)
+    × (unsigned_abs (Z -ℤ pos d *ℤ P) ≡ unsigned_abs Z + d * unsigned_abs P))
 by_signs (pos x) (pos z) d m k = inl (same_sign x z m k)
 by_signs (negsuc x) (negsuc z) d m k = inl (same_sign_neg x z m k)
 by_signs (pos x) (negsuc z) d m k = inr (apart x z m k, far x z d)
@@ -102,7 +109,11 @@ column_straddle P a A2 W s n c D d d_pos ha hP hW hD hn =
     let hZ : unsigned_abs Z ≤ d * W = omega (arith, abs_add (pos d *ℤ P) a, unsigned_abs-mul (pos d) P, mul-le-mul_left d hP, mul-le-mul_left d hW) in
     elim (by_signs P Z d D (d * c)) [
       | inl h ↦ same_case (unsigned_abs (P *ℤ pos D -ℤ Z *ℤ pos (d * c))) (unsigned_abs P) (unsigned_abs Z) A2 W n c D d h hP (omega arith) hZ hD hn
-      | inr (h, e) ↦ apart_case (unsigned_abs (P *ℤ pos D -ℤ Z *ℤ pos (d * c))) (unsigned_abs P) (unsigned_abs Z) W s n c D d d_pos h (let f : unsigned_abs (Z -ℤ pos d *ℤ P) ≡ unsigned_abs a = ap unsigned_abs (less_itself d P a) in omega arith) (omega arith) hD hn
+      | inr (h, e) ↦
+          apart_case (unsigned_abs (P *ℤ pos D -ℤ Z *ℤ pos (d * c))) (unsigned_abs P) (unsigned_abs Z) W s n c D d
+          d_pos h (let f : unsigned_abs (Z -ℤ pos d *ℤ P) ≡ unsigned_abs a = ap unsigned_abs (less_itself d P a) in
+          omega arith)
+          (omega arith) hD hn
     ]
 
 -- the radius
@@ -140,12 +151,17 @@ straddle_bound k G A W E n c D d h y x g r N M f w k_pos n_pos h1 h2 h3 h4 hM hN
     let b2 = mul-le-mul_right (n * c) (mul-le-mul hM hw) in
     let b3 = mul-le-mul_left (G * h * E * c) hD in
     let t : unsigned_abs (N *ℤ f -ℤ M *ℤ w *ℤ pos c) * n ≤ h * (c * D) * (G * (E + A * W)) = omega arith in
-    let g5 : k * unsigned_abs (N *ℤ f -ℤ M *ℤ w *ℤ pos c) * n ≤ r * h * (c * c * D) * n = finish (unsigned_abs (N *ℤ f -ℤ M *ℤ w *ℤ pos c)) n k h c D (G * (E + A * W)) r t rad in
+    let g5 : k * unsigned_abs (N *ℤ f -ℤ M *ℤ w *ℤ pos c) * n ≤ r * h * (c * c * D) * n =
+    finish (unsigned_abs (N *ℤ f -ℤ M *ℤ w *ℤ pos c)) n k h c D (G * (E + A * W)) r t rad in
     le_of_mul-le-mul_right g5 n_pos
 
 pub between_times : (w y : ℤ) (k : ℕ) → Between w y → Between (w *ℤ pos k) (y *ℤ pos k)
 between_times w y k (n, m, inl (e, f)) = (n * k, m * k, inl (rw e refl, rw f (ap pos (omega arith))))
-between_times w y k (n, m, inr (e, f)) = (n * k, m * k, inr (rw e (simp vals (val-same _ _ _ _ (omega arith))), rw f (simp vals (val-same _ _ _ _ (omega arith)))))
+between_times w y k (n, m, inr (e, f)) = (
+  n * k,
+  m * k,
+  inr (rw e (simp vals (val-same _ _ _ _ (omega arith))), rw f (simp vals (val-same _ _ _ _ (omega arith)))),
+)
 
 cross : (p q a b : ℤ) (D d c : ℕ)
     → (pos 2 *ℤ p *ℤ a +ℤ pos 2 *ℤ q *ℤ b) *ℤ pos D -ℤ (pos d *ℤ (pos 2 *ℤ p *ℤ a +ℤ pos 2 *ℤ q *ℤ b) +ℤ (a *ℤ a +ℤ b *ℤ b)) *ℤ pos (d * c)
@@ -154,7 +170,9 @@ cross p q a b D d c = rw (as_val p, as_val q, as_val a, as_val b) (simp vals (va
 
 pub cross_bound : (p q a b : ℤ) (A s n c D d : ℕ) → 0 < d → unsigned_abs a ≤ d * s → unsigned_abs b ≤ d * s
     → unsigned_abs p ≤ A → unsigned_abs q ≤ A → d * d * n ≤ D → n ≤ c
-    → n * unsigned_abs ((pos 2 *ℤ p *ℤ a +ℤ pos 2 *ℤ q *ℤ b) *ℤ pos D -ℤ (pos d *ℤ (pos 2 *ℤ p *ℤ a +ℤ pos 2 *ℤ q *ℤ b) +ℤ (a *ℤ a +ℤ b *ℤ b)) *ℤ pos (d * c)) ≤ (2 * A + s) * (unsigned_abs a + unsigned_abs b) * (c * D)
+    → n * unsigned_abs ((pos 2 *ℤ p *ℤ a +ℤ pos 2 *ℤ q *ℤ b) *ℤ pos D
+    -ℤ (pos d *ℤ (pos 2 *ℤ p *ℤ a +ℤ pos 2 *ℤ q *ℤ b) +ℤ (a *ℤ a +ℤ b *ℤ b)) *ℤ pos (d * c))
+    ≤ (2 * A + s) * (unsigned_abs a + unsigned_abs b) * (c * D)
 cross_bound p q a b A s n c D d d_pos ha hb hp hq hD hn =
     let x : ℤ = pos 2 *ℤ p *ℤ pos D -ℤ (pos d *ℤ (pos 2 *ℤ p) +ℤ a) *ℤ pos (d * c) in
     let y : ℤ = pos 2 *ℤ q *ℤ pos D -ℤ (pos d *ℤ (pos 2 *ℤ q) +ℤ b) *ℤ pos (d * c) in
@@ -167,8 +185,10 @@ cross_bound p q a b A s n c D d d_pos ha hb hp hq hD hn =
     rw e (omega arith)
 
 pub max_of : (n x y z : ℕ) (m : ℕ) → x ≤ max y z → n * y ≤ m → n * z ≤ m → n * x ≤ m
-max_of n x y z m h hy hz =
-    elim (cases_lt y z) [ inl s ↦ let e : x ≤ z = omega arith in le_trans (mul-le-mul_left n e) hz | inr s ↦ let e : x ≤ y = omega arith in le_trans (mul-le-mul_left n e) hy ]
+max_of n x y z m h hy hz = elim (cases_lt y z) [
+  | inl s ↦ let e : x ≤ z = omega arith in le_trans (mul-le-mul_left n e) hz
+  | inr s ↦ let e : x ≤ y = omega arith in le_trans (mul-le-mul_left n e) hy
+]
 
 -- where the slopes subtract
 pub across_f : (l v w : ℤ) (A s n c D d h : ℕ) → Between w v → unsigned_abs l ≤ 2 * A * h → n ≤ c
@@ -201,7 +221,8 @@ zero_times z y = omega (arith, ints)
 pub flat_off : (α p g : ℤ) (c k : ℕ) → unsigned_abs (α *ℤ pos k -ℤ g *ℤ pos c) ≤ 2 * c
     → unsigned_abs ((α *ℤ pos c -ℤ pos 2 *ℤ p *ℤ pos 0) *ℤ pos k -ℤ g *ℤ pos (c * c)) ≤ 2 * (c * c)
 flat_off α p g c k h =
-    let e : (α *ℤ pos c -ℤ pos 2 *ℤ p *ℤ pos 0) *ℤ pos k -ℤ g *ℤ pos (c * c) ≡ (α *ℤ pos k -ℤ g *ℤ pos c) *ℤ pos c = rw (as_val α, as_val p, as_val g) (simp vals (val-same _ _ _ _ (omega arith))) in
+    let e : (α *ℤ pos c -ℤ pos 2 *ℤ p *ℤ pos 0) *ℤ pos k -ℤ g *ℤ pos (c * c) ≡ (α *ℤ pos k -ℤ g *ℤ pos c) *ℤ pos c =
+    rw (as_val α, as_val p, as_val g) (simp vals (val-same _ _ _ _ (omega arith))) in
     let f2 = unsigned_abs-mul (α *ℤ pos k -ℤ g *ℤ pos c) (pos c) in
     let m = mul-le-mul_right c h in
     rw e (omega arith)

@@ -21,7 +21,9 @@ abbrev pub steady_radius_of : ℕ → ℕ → ℕ → ℕ → ℕ → ℕ
 steady_radius_of G v lo c rm = product_up (at_scale G (v * c)) (at_scale rm (max lo (c - rm)))
 
 abbrev pub magnitude_inside_of : ℕ → ℕ → ℕ → ℕ → ℤ → ℤ → ℕ → ℕ
-magnitude_inside_of G v lo c p q rm = product_up (at_scale G (v * c)) (product_up (at_scale (max (unsigned_abs p) (unsigned_abs q)) c) (at_scale rm (max lo (c - rm))))
+magnitude_inside_of G v lo c p q rm =
+    product_up (at_scale G (v * c))
+    (product_up (at_scale (max (unsigned_abs p) (unsigned_abs q)) c) (at_scale rm (max lo (c - rm))))
 
 abbrev pub magnitude_across_of : ℕ → ℕ → ℕ → ℕ → ℤ → ℤ → ℕ → ℕ
 magnitude_across_of G v lo c p q rm = product_up (at_scale G (v * c)) (at_scale (max (unsigned_abs p) (unsigned_abs q)) (max lo (c - rm)))
@@ -115,7 +117,8 @@ further w (negsuc j) k (n, m, inr (e, f)) = (n, m + suc j, inr (e, omega (arith,
 round_voltage : (α g : ℤ) (v c k : ℕ) → unsigned_abs (α *ℤ pos k -ℤ g *ℤ pos (v * c)) ≤ 1 * (v * c)
     → unsigned_abs (α *ℤ pos (c * k) -ℤ g *ℤ pos (v * c * c)) ≤ v * c * c
 round_voltage α g v c k h =
-    let e : α *ℤ pos (c * k) -ℤ g *ℤ pos (v * c * c) ≡ (α *ℤ pos k -ℤ g *ℤ pos (v * c)) *ℤ pos c = rw (as_val α, as_val g) (simp vals (val-same _ _ _ _ (omega arith))) in
+    let e : α *ℤ pos (c * k) -ℤ g *ℤ pos (v * c * c) ≡ (α *ℤ pos k -ℤ g *ℤ pos (v * c)) *ℤ pos c =
+    rw (as_val α, as_val g) (simp vals (val-same _ _ _ _ (omega arith))) in
     let f = unsigned_abs-mul (α *ℤ pos k -ℤ g *ℤ pos (v * c)) (pos c) in
     let m = mul-le-mul_right c h in
     rw e (omega arith)
@@ -124,13 +127,16 @@ round_voltage α g v c k h =
 row_5 : (α β a b N e g1 g2 s : ℤ) (v c k : ℕ)
     → ((α *ℤ a +ℤ β *ℤ b) *ℤ pos c -ℤ N *ℤ e) *ℤ pos k -ℤ (g1 *ℤ a +ℤ g2 *ℤ b +ℤ s *ℤ e) *ℤ pos (v * c * c)
     ≡ (α *ℤ pos (c * k) -ℤ g1 *ℤ pos (v * c * c)) *ℤ a +ℤ (β *ℤ pos (c * k) -ℤ g2 *ℤ pos (v * c * c)) *ℤ b +ℤ (neg_ℤ N *ℤ pos k -ℤ s *ℤ pos (v * c * c)) *ℤ e
-row_5 α β a b N e g1 g2 s v c k = rw (as_val α, as_val β, as_val a, as_val b, as_val N, as_val e, as_val g1, as_val g2, as_val s) (simp vals (val-same _ _ _ _ (omega arith)))
+row_5 α β a b N e g1 g2 s v c k =
+    rw (as_val α, as_val β, as_val a, as_val b, as_val N, as_val e, as_val g1, as_val g2, as_val s)
+    (simp vals (val-same _ _ _ _ (omega arith)))
 
-row_5_off : (α β a b N e g1 g2 s : ℤ) (v c k m : ℕ)
-    → unsigned_abs (α *ℤ pos (c * k) -ℤ g1 *ℤ pos (v * c * c)) ≤ m
+row_5_off : (α β a b N e g1 g2 s : ℤ) (v c k m : ℕ) → unsigned_abs (α *ℤ pos (c * k) -ℤ g1 *ℤ pos (v * c * c)) ≤ m
     → unsigned_abs (β *ℤ pos (c * k) -ℤ g2 *ℤ pos (v * c * c)) ≤ m
     → unsigned_abs (neg_ℤ N *ℤ pos k -ℤ s *ℤ pos (v * c * c)) ≤ m
-    → unsigned_abs (((α *ℤ a +ℤ β *ℤ b) *ℤ pos c -ℤ N *ℤ e) *ℤ pos k -ℤ (g1 *ℤ a +ℤ g2 *ℤ b +ℤ s *ℤ e) *ℤ pos (v * c * c)) ≤ m * (unsigned_abs a + unsigned_abs b + unsigned_abs e)
+    → unsigned_abs (((α *ℤ a +ℤ β *ℤ b) *ℤ pos c -ℤ N *ℤ e) *ℤ pos k
+    -ℤ (g1 *ℤ a +ℤ g2 *ℤ b +ℤ s *ℤ e) *ℤ pos (v * c * c))
+    ≤ m * (unsigned_abs a + unsigned_abs b + unsigned_abs e)
 row_5_off α β a b N e g1 g2 s v c k m h1 h2 h3 =
     let x : ℤ = α *ℤ pos (c * k) -ℤ g1 *ℤ pos (v * c * c) in
     let y : ℤ = β *ℤ pos (c * k) -ℤ g2 *ℤ pos (v * c * c) in
@@ -199,7 +205,10 @@ pub record Shifted (lo hi rm m d : ℕ) (z w : ℤ) : Type 0 where
 room_5 : (D c d w lo rm : ℕ) → c * d ≤ D + w → w ≤ d * rm → lo * d ≤ D → d * max lo (c - rm) ≤ D
 room_5 D c d w lo rm h1 h2 h3 =
     elim (cases_lt lo (c - rm)) [
-      | inl s ↦ let e : max lo (c - rm) ≡ c - rm = omega arith in let f : (c - rm) + rm ≡ c = omega arith in let f2 = ap (λ (m : ℕ). d * m) f in rw e (omega arith)
+      | inl s ↦ let e : max lo (c - rm) ≡ c - rm = omega arith in
+          let f : (c - rm) + rm ≡ c = omega arith in
+          let f2 = ap (λ (m : ℕ). d * m) f in
+          rw e (omega arith)
       | inr s ↦ let e : max lo (c - rm) ≡ lo = omega arith in rw e (omega arith)
     ]
 
@@ -218,12 +227,18 @@ shifted_by lo hi rm m d z lim hz =
 
 core_5 : (α β p q x y z : ℤ) (G v lo hi rm m d r' : ℕ) (w l J : ℤ) → 0 < v → 0 < lo → lo ≤ hi
     → unsigned_abs α + unsigned_abs β ≤ G → Shifted lo hi rm m d z w
-    → (let a = x -ℤ pos d *ℤ p in let b = y -ℤ pos d *ℤ q in let e = z -ℤ pos d *ℤ pos m in
-    let c = clamp m lo hi in let N = α *ℤ p +ℤ β *ℤ q in let M = α *ℤ a +ℤ β *ℤ b in let h = unsigned_abs a + unsigned_abs b in
+    → (let a = x -ℤ pos d *ℤ p in
+    let b = y -ℤ pos d *ℤ q in
+    let e = z -ℤ pos d *ℤ pos m in
+    let c = clamp m lo hi in
+    let N = α *ℤ p +ℤ β *ℤ q in
+    let M = α *ℤ a +ℤ β *ℤ b in
+    let h = unsigned_abs a + unsigned_abs b in
     let D = clamp (non_negative z) (lo * d) (hi * d) in
     2 ^ 40 * (unsigned_abs N * unsigned_abs (l *ℤ pos D -ℤ w *ℤ pos (d * c))) ≤ r' * unsigned_abs e * (v * c * c * D)
     → unsigned_abs ((M *ℤ pos c -ℤ N *ℤ l) *ℤ pos (2 ^ 40) -ℤ J *ℤ pos (v * c * c)) ≤ v * c * c * (h + unsigned_abs e)
-    → Near (minus (constant_current α β v lo hi x y z d) (constant_current α β v lo hi p q (pos m) 1)) J ((steady_radius_of G v lo c rm + 4) * h + (r' + 4) * unsigned_abs e) (d * 2 ^ 40))
+    → Near (minus (constant_current α β v lo hi x y z d) (constant_current α β v lo hi p q (pos m) 1)) J
+    ((steady_radius_of G v lo c rm + 4) * h + (r' + 4) * unsigned_abs e) (d * 2 ^ 40))
 core_5 α β p q x y z G v lo hi rm m d r' w l J v_pos lo_pos lim hG s hf hr =
     let k : ℕ = 2 ^ 40 in
     let a : ℤ = x -ℤ pos d *ℤ p in
@@ -241,20 +256,30 @@ core_5 α β p q x y z G v lo hi rm m d r' w l J v_pos lo_pos lim hG s hf hr =
     let c_pos : 0 < c = omega arith in
     let n_pos : 0 < n = omega arith in
     let vc_pos : 0 < v * c = mul-pos v_pos c_pos in
-    let hM0 : unsigned_abs M ≤ (unsigned_abs α + unsigned_abs β) * h = le_trans (abs_pair α β a b) (pair_by_sum (unsigned_abs α) (unsigned_abs β) (unsigned_abs a) (unsigned_abs b) h (omega arith) (omega arith)) in
+    let hM0 : unsigned_abs M ≤ (unsigned_abs α + unsigned_abs β) * h =
+    le_trans (abs_pair α β a b)
+    (pair_by_sum (unsigned_abs α) (unsigned_abs β) (unsigned_abs a) (unsigned_abs b) h (omega arith) (omega arith)) in
     let hM : unsigned_abs M ≤ G * h = le_trans hM0 (mul-le-mul_right h hG) in
-    let vp = voltage_part k G g v c rm yy n r h d D (unsigned_abs M) (unsigned_abs w) (lit< tt) (ceil_nat_covers (G * k) (v * c) vc_pos) (ceil_nat_covers (rm * k) n n_pos) (ceil_nat_covers (g * yy) k (lit< tt)) hM s.size s.room in
+    let vp = voltage_part k G g v c rm yy n r h d D (unsigned_abs M) (unsigned_abs w) (lit< tt)
+    (ceil_nat_covers (G * k) (v * c) vc_pos) (ceil_nat_covers (rm * k) n n_pos) (ceil_nat_covers (g * yy) k (lit< tt))
+    hM s.size s.room in
     let T : ℤ = (pos d *ℤ N +ℤ M) *ℤ pos c -ℤ N *ℤ pos D in
     let X : ℤ = M *ℤ pos c -ℤ N *ℤ l in
     let f : ℤ = l *ℤ pos D -ℤ w *ℤ pos (d * c) in
-    let one : k * unsigned_abs (pos d *ℤ (T *ℤ pos c) -ℤ X *ℤ pos D) ≤ (r * h + r' * unsigned_abs e) * (v * c * c * D) = rw (exact_5 N M l w c d D s.is_divisor) (parts_bound k r r' v c D h (unsigned_abs e) N M f w vp hf) in
+    let one : k * unsigned_abs (pos d *ℤ (T *ℤ pos c) -ℤ X *ℤ pos D)
+    ≤ (r * h + r' * unsigned_abs e) * (v * c * c * D) =
+    rw (exact_5 N M l w c d D s.is_divisor) (parts_bound k r r' v c D h (unsigned_abs e) N M f w vp hf) in
     let two = both_5 T X J v c d k D (r * h + r' * unsigned_abs e) (h + unsigned_abs e) c_pos one hr in
     let three = times_v T J v c d k D (r * h + r' * unsigned_abs e + (h + unsigned_abs e)) two in
-    let more = mul-le-mul_right (v * D * (v * c)) (let o : r * h + r' * unsigned_abs e + (h + unsigned_abs e) ≤ (r + 4) * h + (r' + 4) * unsigned_abs e = omega arith in o) in
+    let more = mul-le-mul_right (v * D * (v * c))
+    (let o : r * h + r' * unsigned_abs e + (h + unsigned_abs e) ≤ (r + 4) * h + (r' + 4) * unsigned_abs e =
+    omega arith in
+    o) in
     let with_v : (pos d *ℤ N +ℤ M) *ℤ pos (v * c) -ℤ N *ℤ pos (v * D) ≡ T *ℤ pos v = rw (as_val N, as_val M) (simp vals (val-same _ _ _ _ (omega arith))) in
     let Ce : v * clamp m (lo * 1) (hi * 1) ≡ v * c = ap (λ (t : ℕ). v * t) (let o : clamp m (lo * 1) (hi * 1) ≡ c = omega arith in o) in
-    near_by (constant_current α β v lo hi x y z d) (constant_current α β v lo hi p q (pos m) 1) J (pos d *ℤ N +ℤ M) N (v * D) (v * c) ((r + 4) * h + (r' + 4) * unsigned_abs e) (d * k)
-    (top_is α β p q x y d) refl refl Ce (rw with_v (le_trans three more))
+    near_by (constant_current α β v lo hi x y z d) (constant_current α β v lo hi p q (pos m) 1) J (pos d *ℤ N +ℤ M) N
+    (v * D) (v * c) ((r + 4) * h + (r' + 4) * unsigned_abs e) (d * k) (top_is α β p q x y d) refl refl Ce
+    (rw with_v (le_trans three more))
 
 -- a rounded slope is at most one unit away
 abbrev pub IsNearVoltage : ℤ → ℕ → ℕ → ℤ → Type 0
@@ -266,18 +291,24 @@ IsNearMagnitude N v c S = unsigned_abs (neg_ℤ N *ℤ pos (2 ^ 40) -ℤ S *ℤ 
 -- the roundings of the row, with and without the slope of the magnitude
 rounds_with : (α β a b e N g1 g2 s : ℤ) (v c : ℕ) → IsNearVoltage α v c g1 → IsNearVoltage β v c g2
     → IsNearMagnitude N v c s
-    → unsigned_abs (((α *ℤ a +ℤ β *ℤ b) *ℤ pos c -ℤ N *ℤ e) *ℤ pos (2 ^ 40) -ℤ (g1 *ℤ a +ℤ g2 *ℤ b +ℤ s *ℤ e) *ℤ pos (v * c * c)) ≤ v * c * c * (unsigned_abs a + unsigned_abs b + unsigned_abs e)
+    → unsigned_abs (((α *ℤ a +ℤ β *ℤ b) *ℤ pos c -ℤ N *ℤ e) *ℤ pos (2 ^ 40)
+    -ℤ (g1 *ℤ a +ℤ g2 *ℤ b +ℤ s *ℤ e) *ℤ pos (v * c * c))
+    ≤ v * c * c * (unsigned_abs a + unsigned_abs b + unsigned_abs e)
 rounds_with α β a b e N g1 g2 s v c h1 h2 h3 =
     row_5_off α β a b N e g1 g2 s v c (2 ^ 40) (v * c * c) (round_voltage α g1 v c (2 ^ 40) h1) (round_voltage β g2 v c (2 ^ 40) h2) (omega arith)
 
 rounds_without : (α β a b e N g1 g2 s : ℤ) (v c : ℕ) → IsNearVoltage α v c g1 → IsNearVoltage β v c g2
     → unsigned_abs s ≤ 1
-    → unsigned_abs (((α *ℤ a +ℤ β *ℤ b) *ℤ pos c -ℤ N *ℤ pos 0) *ℤ pos (2 ^ 40) -ℤ (g1 *ℤ a +ℤ g2 *ℤ b +ℤ s *ℤ e) *ℤ pos (v * c * c)) ≤ v * c * c * (unsigned_abs a + unsigned_abs b + unsigned_abs e)
+    → unsigned_abs (((α *ℤ a +ℤ β *ℤ b) *ℤ pos c -ℤ N *ℤ pos 0) *ℤ pos (2 ^ 40)
+    -ℤ (g1 *ℤ a +ℤ g2 *ℤ b +ℤ s *ℤ e) *ℤ pos (v * c * c))
+    ≤ v * c * c * (unsigned_abs a + unsigned_abs b + unsigned_abs e)
 rounds_without α β a b e N g1 g2 s v c h1 h2 h3 =
     let k : ℕ = 2 ^ 40 in
     let J : ℤ = g1 *ℤ a +ℤ g2 *ℤ b +ℤ s *ℤ e in
     let h = row_5_off α β a b (pos 0) e g1 g2 s v c k (v * c * c) (round_voltage α g1 v c k h1) (round_voltage β g2 v c k h2) (flat_fits s v c k h3) in
-    subst (λ (m : ℤ). unsigned_abs (m *ℤ pos k -ℤ J *ℤ pos (v * c * c)) ≤ v * c * c * (unsigned_abs a + unsigned_abs b + unsigned_abs e)) (drop_zero N ((α *ℤ a +ℤ β *ℤ b) *ℤ pos c) e) h
+    subst (λ (m : ℤ). unsigned_abs (m *ℤ pos k -ℤ J *ℤ pos (v * c * c))
+    ≤ v * c * c * (unsigned_abs a + unsigned_abs b + unsigned_abs e))
+    (drop_zero N ((α *ℤ a +ℤ β *ℤ b) *ℤ pos c) e) h
 
 abbrev pub CurrentRow : ℤ → ℤ → ℤ → ℤ → ℤ → ℤ → ℤ → ℕ → ℕ → ℕ → ℕ → ℕ → ℤ → ℤ → ℤ → ℕ → ℕ → Type 0
 CurrentRow α β p q x y z v lo hi m d g1 g2 s r r' =
@@ -287,7 +318,10 @@ CurrentRow α β p q x y z v lo hi m d g1 g2 s r r' =
 
 size_N : (α β p q : ℤ) (G : ℕ) → unsigned_abs α + unsigned_abs β ≤ G
     → unsigned_abs (α *ℤ p +ℤ β *ℤ q) ≤ G * max (unsigned_abs p) (unsigned_abs q)
-size_N α β p q G h = le_trans (le_trans (abs_pair α β p q) (pair_by_sum (unsigned_abs α) (unsigned_abs β) (unsigned_abs p) (unsigned_abs q) (max (unsigned_abs p) (unsigned_abs q)) (omega arith) (omega arith))) (mul-le-mul_right (max (unsigned_abs p) (unsigned_abs q)) h)
+size_N α β p q G h =
+    le_trans (le_trans (abs_pair α β p q) (pair_by_sum (unsigned_abs α) (unsigned_abs β) (unsigned_abs p)
+    (unsigned_abs q) (max (unsigned_abs p) (unsigned_abs q)) (omega arith) (omega arith)))
+    (mul-le-mul_right (max (unsigned_abs p) (unsigned_abs q)) h)
 
 -- f where the box is inside
 factored : (e : ℤ) (D k : ℕ) → e *ℤ pos D -ℤ e *ℤ pos k ≡ e *ℤ (pos D -ℤ pos k)
@@ -329,10 +363,15 @@ inside_5 α β p q x y z g1 g2 s G v lo hi rm m d v_pos lo_pos hG low high hz h1
     let e_is : pos D -ℤ pos (d * c) ≡ e = ap (λ (t : ℤ). t -ℤ pos (d * c)) Dz ∙ ap (λ (t : ℕ). z -ℤ pos (d * t)) c_is in
     let back : pos (c * d) +ℤ w -ℤ pos (d * c) ≡ w = omega (arith, ints) in
     let w_is : w ≡ e = sym back ∙ ap (λ (t : ℤ). t -ℤ pos (d * c)) (sym sh.is_divisor) ∙ e_is in
-    let f_is : e *ℤ pos D -ℤ w *ℤ pos (d * c) ≡ e *ℤ e = ap (λ (t : ℤ). e *ℤ pos D -ℤ t *ℤ pos (d * c)) w_is ∙ factored e D (d * c) ∙ ap (λ (t : ℤ). e *ℤ t) e_is in
-    let f_size : unsigned_abs (e *ℤ pos D -ℤ w *ℤ pos (d * c)) ≤ unsigned_abs e * (d * rm) = rw (f_is, unsigned_abs-mul e e) (mul-le-mul_left (unsigned_abs e) hz) in
-    let hf = magnitude_inside k G g v c A zz rm yy n xx (magnitude_inside_of G v lo c p q rm) (unsigned_abs e) d D (unsigned_abs N) (unsigned_abs (e *ℤ pos D -ℤ w *ℤ pos (d * c))) (lit< tt)
-    (ceil_nat_covers (G * k) (v * c) vc_pos) (ceil_nat_covers (A * k) c c_pos) (ceil_nat_covers (rm * k) n n_pos) (ceil_nat_covers (zz * yy) k (lit< tt)) (ceil_nat_covers (g * xx) k (lit< tt)) (size_N α β p q G hG) f_size sh.room in
+    let f_is : e *ℤ pos D -ℤ w *ℤ pos (d * c) ≡ e *ℤ e =
+    ap (λ (t : ℤ). e *ℤ pos D -ℤ t *ℤ pos (d * c)) w_is ∙ factored e D (d * c) ∙ ap (λ (t : ℤ). e *ℤ t) e_is in
+    let f_size : unsigned_abs (e *ℤ pos D -ℤ w *ℤ pos (d * c)) ≤ unsigned_abs e * (d * rm) =
+    rw (f_is, unsigned_abs-mul e e) (mul-le-mul_left (unsigned_abs e) hz) in
+    let hf = magnitude_inside k G g v c A zz rm yy n xx (magnitude_inside_of G v lo c p q rm) (unsigned_abs e) d D
+    (unsigned_abs N) (unsigned_abs (e *ℤ pos D -ℤ w *ℤ pos (d * c))) (lit< tt)
+    (ceil_nat_covers (G * k) (v * c) vc_pos) (ceil_nat_covers (A * k) c c_pos) (ceil_nat_covers (rm * k) n n_pos)
+    (ceil_nat_covers (zz * yy) k (lit< tt)) (ceil_nat_covers (g * xx) k (lit< tt)) (size_N α β p q G hG) f_size
+    sh.room in
     core_5 α β p q x y z G v lo hi rm m d (magnitude_inside_of G v lo c p q rm) w e _ v_pos lo_pos lim hG sh hf
     (rounds_with α β (x -ℤ pos d *ℤ p) (y -ℤ pos d *ℤ q) e N g1 g2 s v c h1 h2 h3)
 
@@ -351,7 +390,9 @@ f_with : (e w : ℤ) (n c D d : ℕ) → Between w e → n ≤ c → d * n ≤ D
 f_with e w n c D d bet h1 h2 =
     max_of n _ _ _ _ (between_abs (e *ℤ pos D) (w *ℤ pos (d * c)) (e *ℤ pos (d * c)) (between_times w e (d * c) bet))
     (let a = unsigned_abs-mul e (pos D) in let m = mul-le-mul_right (unsigned_abs e * D) h1 in rw a (omega arith))
-    (let a = mul-le-mul_left n (mul-le-mul_left (unsigned_abs e) (apart_size D (d * c))) in rw (factored e D (d * c), unsigned_abs-mul e (pos D -ℤ pos (d * c))) (le_trans a (at_end (unsigned_abs e) n c D d h1 h2)))
+    (let a = mul-le-mul_left n (mul-le-mul_left (unsigned_abs e) (apart_size D (d * c))) in
+    rw (factored e D (d * c), unsigned_abs-mul e (pos D -ℤ pos (d * c)))
+    (le_trans a (at_end (unsigned_abs e) n c D d h1 h2)))
 
 f_without : (e w : ℤ) (n c D d : ℕ) → unsigned_abs w ≤ unsigned_abs e → d * n ≤ D
     → n * unsigned_abs (pos 0 *ℤ pos D -ℤ w *ℤ pos (d * c)) ≤ unsigned_abs e * (c * D)
@@ -381,8 +422,10 @@ with_5 α β p q x y z g1 g2 s G v lo hi rm m d v_pos lo_pos lim hG hz h1 h2 h3 
     let n_pos : 0 < n = omega arith in
     let n_le : n ≤ c = omega arith in
     let (w, sh) = shifted_by lo hi rm m d z lim hz in
-    let hf = magnitude_across k G g v c A n xx (magnitude_across_of G v lo c p q rm) (unsigned_abs e) D (unsigned_abs N) (unsigned_abs (e *ℤ pos D -ℤ w *ℤ pos (d * c))) (lit< tt) n_pos
-    (ceil_nat_covers (G * k) (v * c) (mul-pos v_pos c_pos)) (ceil_nat_covers (A * k) n n_pos) (ceil_nat_covers (g * xx) k (lit< tt)) (size_N α β p q G hG) (f_with e w n c D d sh.lies n_le sh.room) in
+    let hf = magnitude_across k G g v c A n xx (magnitude_across_of G v lo c p q rm) (unsigned_abs e) D
+    (unsigned_abs N) (unsigned_abs (e *ℤ pos D -ℤ w *ℤ pos (d * c))) (lit< tt) n_pos
+    (ceil_nat_covers (G * k) (v * c) (mul-pos v_pos c_pos)) (ceil_nat_covers (A * k) n n_pos)
+    (ceil_nat_covers (g * xx) k (lit< tt)) (size_N α β p q G hG) (f_with e w n c D d sh.lies n_le sh.room) in
     core_5 α β p q x y z G v lo hi rm m d (magnitude_across_of G v lo c p q rm) w e _ v_pos lo_pos lim hG sh hf
     (rounds_with α β (x -ℤ pos d *ℤ p) (y -ℤ pos d *ℤ q) e N g1 g2 s v c h1 h2 h3)
 
@@ -403,8 +446,11 @@ without_5 α β p q x y z g1 g2 s G v lo hi rm m d v_pos lo_pos lim hG hz h1 h2 
     let c_pos : 0 < c = omega arith in
     let n_pos : 0 < n = omega arith in
     let (w, sh) = shifted_by lo hi rm m d z lim hz in
-    let hf = magnitude_across k G g v c A n xx (magnitude_across_of G v lo c p q rm) (unsigned_abs e) D (unsigned_abs N) (unsigned_abs (pos 0 *ℤ pos D -ℤ w *ℤ pos (d * c))) (lit< tt) n_pos
-    (ceil_nat_covers (G * k) (v * c) (mul-pos v_pos c_pos)) (ceil_nat_covers (A * k) n n_pos) (ceil_nat_covers (g * xx) k (lit< tt)) (size_N α β p q G hG) (f_without e w n c D d (between_size w e sh.lies) sh.room) in
+    let hf = magnitude_across k G g v c A n xx (magnitude_across_of G v lo c p q rm) (unsigned_abs e) D
+    (unsigned_abs N) (unsigned_abs (pos 0 *ℤ pos D -ℤ w *ℤ pos (d * c))) (lit< tt) n_pos
+    (ceil_nat_covers (G * k) (v * c) (mul-pos v_pos c_pos)) (ceil_nat_covers (A * k) n n_pos)
+    (ceil_nat_covers (g * xx) k (lit< tt)) (size_N α β p q G hG)
+    (f_without e w n c D d (between_size w e sh.lies) sh.room) in
     core_5 α β p q x y z G v lo hi rm m d (magnitude_across_of G v lo c p q rm) w (pos 0) _ v_pos lo_pos lim hG sh hf
     (rounds_without α β (x -ℤ pos d *ℤ p) (y -ℤ pos d *ℤ q) e N g1 g2 s v c h1 h2 h3)
 
@@ -412,8 +458,16 @@ without_5 α β p q x y z g1 g2 s G v lo hi rm m d v_pos lo_pos lim hG hz h1 h2 
 still_5 : (z : ℤ) (m lo hi rm d : ℕ) → lo ≤ hi → unsigned_abs (z -ℤ pos d *ℤ pos m) ≤ d * rm
     → (m + rm ≤ lo) ⊎ (hi + rm ≤ m)
     → clamp (non_negative z) (lo * d) (hi * d) ≡ clamp m lo hi * d
-still_5 (pos n) m lo hi rm d lim hz (inl h) = let a = mul-le-mul_left d h in let b = mul-le-mul_left d lim in let o : clamp m lo hi ≡ lo = omega arith in rw o (omega (arith, ints))
-still_5 (pos n) m lo hi rm d lim hz (inr h) = let a = mul-le-mul_left d h in let b = mul-le-mul_left d lim in let o : clamp m lo hi ≡ hi = omega arith in rw o (omega (arith, ints))
+still_5 (pos n) m lo hi rm d lim hz (inl h) =
+    let a = mul-le-mul_left d h in
+    let b = mul-le-mul_left d lim in
+    let o : clamp m lo hi ≡ lo = omega arith in
+    rw o (omega (arith, ints))
+still_5 (pos n) m lo hi rm d lim hz (inr h) =
+    let a = mul-le-mul_left d h in
+    let b = mul-le-mul_left d lim in
+    let o : clamp m lo hi ≡ hi = omega arith in
+    rw o (omega (arith, ints))
 still_5 (negsuc n) m lo hi rm d lim hz (inl h) = let b = mul-le-mul_left d lim in let o : clamp m lo hi ≡ lo = omega arith in rw o (omega arith)
 still_5 (negsuc n) m lo hi rm d lim hz (inr h) = let a = mul-le-mul_left d h in absurd (omega (arith, ints))
 
@@ -439,15 +493,17 @@ outside_5 α β p q x y z g1 g2 s v lo hi rm m d v_pos lo_pos lim hz out h1 h2 h
     let D_is : D ≡ c * d = still_5 z m lo hi rm d lim hz out in
     let T : ℕ → ℤ = λ (j : ℕ). (pos d *ℤ N +ℤ M) *ℤ pos c -ℤ N *ℤ pos j in
     let J : ℤ = g1 *ℤ a +ℤ g2 *ℤ b +ℤ s *ℤ e in
-    let z0 : pos d *ℤ (T D *ℤ pos c) -ℤ (M *ℤ pos c -ℤ N *ℤ pos 0) *ℤ pos D ≡ pos 0 = ap (λ (j : ℕ). pos d *ℤ (T j *ℤ pos c) -ℤ (M *ℤ pos c -ℤ N *ℤ pos 0) *ℤ pos j) D_is ∙ nothing_5 N M c d in
+    let z0 : pos d *ℤ (T D *ℤ pos c) -ℤ (M *ℤ pos c -ℤ N *ℤ pos 0) *ℤ pos D ≡ pos 0 =
+    ap (λ (j : ℕ). pos d *ℤ (T j *ℤ pos c) -ℤ (M *ℤ pos c -ℤ N *ℤ pos 0) *ℤ pos j) D_is ∙ nothing_5 N M c d in
     let one : k * unsigned_abs (pos d *ℤ (T D *ℤ pos c) -ℤ (M *ℤ pos c -ℤ N *ℤ pos 0) *ℤ pos D) ≤ 0 * (v * c * c * D) = omega (arith, ap unsigned_abs z0) in
     let two = both_5 (T D) (M *ℤ pos c -ℤ N *ℤ pos 0) J v c d k D 0 (h + unsigned_abs e) c_pos one (rounds_without α β a b e N g1 g2 s v c h1 h2 h3) in
     let three = times_v (T D) J v c d k D (0 + (h + unsigned_abs e)) two in
     let more = mul-le-mul_right (v * D * (v * c)) (let o : 0 + (h + unsigned_abs e) ≤ (0 + 4) * h + (0 + 4) * unsigned_abs e = omega arith in o) in
     let with_v : (pos d *ℤ N +ℤ M) *ℤ pos (v * c) -ℤ N *ℤ pos (v * D) ≡ T D *ℤ pos v = rw (as_val N, as_val M) (simp vals (val-same _ _ _ _ (omega arith))) in
     let Ce : v * clamp m (lo * 1) (hi * 1) ≡ v * c = ap (λ (t : ℕ). v * t) (let o : clamp m (lo * 1) (hi * 1) ≡ c = omega arith in o) in
-    near_by (constant_current α β v lo hi x y z d) (constant_current α β v lo hi p q (pos m) 1) J (pos d *ℤ N +ℤ M) N (v * D) (v * c) ((0 + 4) * h + (0 + 4) * unsigned_abs e) (d * k)
-    (top_is α β p q x y d) refl refl Ce (rw with_v (le_trans three more))
+    near_by (constant_current α β v lo hi x y z d) (constant_current α β v lo hi p q (pos m) 1) J (pos d *ℤ N +ℤ M) N
+    (v * D) (v * c) ((0 + 4) * h + (0 + 4) * unsigned_abs e) (d * k) (top_is α β p q x y d) refl refl Ce
+    (rw with_v (le_trans three more))
 
 -- ---- in every case
 

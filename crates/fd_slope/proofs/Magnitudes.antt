@@ -57,7 +57,9 @@ negative_lies : (w : LoadPhase) (k : ℕ) → IsLoadPhase w → magnitude_is_ins
 negative_lies w k h = and_first (int_le w.vlo (negsuc k)) (int_le (negsuc k) w.vhi) (above_ℤ w.vlo (negsuc k) (λ l. omega (arith, ints, h.low_least, l)))
 
 negative_inside : (w : LoadPhase) (k rm : ℕ) → IsLoadPhase w → magnitude_stays_inside w (negsuc k) rm ≡ false
-negative_inside w k rm h = and_first (int_le (w.vlo +ℤ pos rm) (negsuc k)) (int_le (negsuc k +ℤ pos rm) w.vhi) (above_ℤ (w.vlo +ℤ pos rm) (negsuc k) (λ l. omega (arith, ints, h.low_least, l)))
+negative_inside w k rm h =
+    and_first (int_le (w.vlo +ℤ pos rm) (negsuc k)) (int_le (negsuc k +ℤ pos rm) w.vhi)
+    (above_ℤ (w.vlo +ℤ pos rm) (negsuc k) (λ l. omega (arith, ints, h.low_least, l)))
 
 -- a box outside reaches at most the lower limit
 negative_outside : (w : LoadPhase) (k rm : ℕ) → IsLoadPhase w → magnitude_stays_outside w (negsuc k) rm ≡ true
@@ -95,17 +97,22 @@ NegativeRow α β p q x y z v lo hi k d g1 g2 r r' =
 negative_by : (α β p q x y z g1 g2 : ℤ) (G v lo hi rm k d : ℕ) (t3 : Bool) → (t3 ≡ true → rm ≤ lo + suc k)
     → 0 < v → 0 < lo → lo ≤ hi → unsigned_abs α + unsigned_abs β ≤ G → unsigned_abs (z -ℤ pos d *ℤ negsuc k) ≤ d * rm
     → IsNearVoltage α v (clamp 0 lo hi) g1 → IsNearVoltage β v (clamp 0 lo hi) g2
-    → NegativeRow α β p q x y z v lo hi k d g1 g2 (cond t3 0 (steady_radius_of G v lo (clamp 0 lo hi) rm)) (cond t3 0 (magnitude_across_of G v lo (clamp 0 lo hi) p q rm))
+    → NegativeRow α β p q x y z v lo hi k d g1 g2 (cond t3 0 (steady_radius_of G v lo (clamp 0 lo hi) rm))
+    (cond t3 0 (magnitude_across_of G v lo (clamp 0 lo hi) p q rm))
 negative_by α β p q x y z g1 g2 G v lo hi rm k d true out v_pos lo_pos lim hG hz h1 h2 =
-    near_more _ _ _ _ _ (d * 2 ^ 40)
-    (same_sum g1 g2 (x -ℤ pos d *ℤ p) (y -ℤ pos d *ℤ q) (pos (non_negative z) -ℤ pos d *ℤ pos 0) (z -ℤ pos d *ℤ negsuc k))
+    near_more _ _ _ _ _ (d * 2 ^ 40) (same_sum g1 g2 (x -ℤ pos d *ℤ p) (y -ℤ pos d *ℤ q)
+    (pos (non_negative z) -ℤ pos d *ℤ pos 0) (z -ℤ pos d *ℤ negsuc k))
     (more_room 0 0 (unsigned_abs (x -ℤ pos d *ℤ p) + unsigned_abs (y -ℤ pos d *ℤ q)) _ _ (nearer z k d))
-    (outside_5 α β p q x y (pos (non_negative z)) g1 g2 (pos 0) v lo hi lo 0 d v_pos lo_pos lim (up_to z k d rm lo (out refl) hz) (inl (let o : 0 + lo ≤ lo = omega arith in o)) h1 h2 (let o : 0 ≤ 1 = omega arith in o))
+    (outside_5 α β p q x y (pos (non_negative z)) g1 g2 (pos 0) v lo hi lo 0 d v_pos lo_pos lim
+    (up_to z k d rm lo (out refl) hz) (inl (let o : 0 + lo ≤ lo = omega arith in o)) h1 h2
+    (let o : 0 ≤ 1 = omega arith in o))
 negative_by α β p q x y z g1 g2 G v lo hi rm k d false out v_pos lo_pos lim hG hz h1 h2 =
-    near_more _ _ _ _ _ (d * 2 ^ 40)
-    (same_sum g1 g2 (x -ℤ pos d *ℤ p) (y -ℤ pos d *ℤ q) (pos (non_negative z) -ℤ pos d *ℤ pos 0) (z -ℤ pos d *ℤ negsuc k))
-    (more_room (steady_radius_of G v lo (clamp 0 lo hi) rm) (magnitude_across_of G v lo (clamp 0 lo hi) p q rm) (unsigned_abs (x -ℤ pos d *ℤ p) + unsigned_abs (y -ℤ pos d *ℤ q)) _ _ (nearer z k d))
-    (without_5 α β p q x y (pos (non_negative z)) g1 g2 (pos 0) G v lo hi rm 0 d v_pos lo_pos lim hG (le_trans (nearer z k d) hz) h1 h2 (let o : 0 ≤ 1 = omega arith in o))
+    near_more _ _ _ _ _ (d * 2 ^ 40) (same_sum g1 g2 (x -ℤ pos d *ℤ p) (y -ℤ pos d *ℤ q)
+    (pos (non_negative z) -ℤ pos d *ℤ pos 0) (z -ℤ pos d *ℤ negsuc k))
+    (more_room (steady_radius_of G v lo (clamp 0 lo hi) rm) (magnitude_across_of G v lo (clamp 0 lo hi) p q rm)
+    (unsigned_abs (x -ℤ pos d *ℤ p) + unsigned_abs (y -ℤ pos d *ℤ q)) _ _ (nearer z k d))
+    (without_5 α β p q x y (pos (non_negative z)) g1 g2 (pos 0) G v lo hi rm 0 d v_pos lo_pos lim hG
+    (le_trans (nearer z k d) hz) h1 h2 (let o : 0 ≤ 1 = omega arith in o))
 
 -- ---- any magnitude
 
@@ -122,26 +129,30 @@ case_false true n m e = absurd cc
 case_false false n m e = refl
 
 pub current_row : (w : LoadPhase) (α β p q m x y z g1 g2 s : ℤ) (rm ha hb he d : ℕ) → IsLoadPhase w
-    → unsigned_abs α + unsigned_abs β ≤ full_draw w
-    → unsigned_abs (z -ℤ pos d *ℤ m) ≤ d * rm
+    → unsigned_abs α + unsigned_abs β ≤ full_draw w → unsigned_abs (z -ℤ pos d *ℤ m) ≤ d * rm
     → unsigned_abs (x -ℤ pos d *ℤ p) ≤ ha → unsigned_abs (y -ℤ pos d *ℤ q) ≤ hb → unsigned_abs (z -ℤ pos d *ℤ m) ≤ he
     → IsNearVoltage α (nat_abs w.vn) (clamped_magnitude w m) g1
     → IsNearVoltage β (nat_abs w.vn) (clamped_magnitude w m) g2
     → IsRoundedMagnitude (magnitude_is_inside w m) (α *ℤ p +ℤ β *ℤ q) (nat_abs w.vn) (clamped_magnitude w m) s
     → (magnitude_is_inside w m ≡ false → s ≡ pos 0)
-    → Row (constant_current α β (nat_abs w.vn) (nat_abs w.vlo) (nat_abs w.vhi) x y z d) (constant_current α β (nat_abs w.vn) (nat_abs w.vlo) (nat_abs w.vhi) p q m 1)
-    (slope_row g1 g2 s) (radius_row (voltage_radius w m rm) (voltage_radius w m rm) (magnitude_radius w p q m rm)) (x -ℤ pos d *ℤ p) (y -ℤ pos d *ℤ q) (z -ℤ pos d *ℤ m) ha hb he d
+    → Row (constant_current α β (nat_abs w.vn) (nat_abs w.vlo) (nat_abs w.vhi) x y z d)
+    (constant_current α β (nat_abs w.vn) (nat_abs w.vlo) (nat_abs w.vhi) p q m 1) (slope_row g1 g2 s)
+    (radius_row (voltage_radius w m rm) (voltage_radius w m rm) (magnitude_radius w p q m rm)) (x -ℤ pos d *ℤ p)
+    (y -ℤ pos d *ℤ q) (z -ℤ pos d *ℤ m) ha hb he d
 current_row w α β p q (pos k) x y z g1 g2 s rm ha hb he d h hG hz ka kb ke h1 h2 h3 flat =
     near_more _ _ _ _ _ (d * 2 ^ 40) refl
-    (current_sizes (voltage_radius w (pos k) rm) (magnitude_radius w p q (pos k) rm) (unsigned_abs (x -ℤ pos d *ℤ p)) (unsigned_abs (y -ℤ pos d *ℤ q)) (unsigned_abs (z -ℤ pos d *ℤ pos k)) ha hb he ka kb ke)
+    (current_sizes (voltage_radius w (pos k) rm) (magnitude_radius w p q (pos k) rm) (unsigned_abs (x -ℤ pos d *ℤ p))
+    (unsigned_abs (y -ℤ pos d *ℤ q)) (unsigned_abs (z -ℤ pos d *ℤ pos k)) ha hb he ka kb ke)
     (current_by α β p q x y z g1 g2 s (full_draw w) (nat_abs w.vn) (nat_abs w.vlo) (nat_abs w.vhi) rm k d
     (magnitude_stays_inside w (pos k) rm) (magnitude_is_inside w (pos k)) (magnitude_stays_outside w (pos k) rm)
-    (inside_same w k rm h) (lies_same w k h) (outside_same w k rm h) (nominal_positive w h) (low_positive w h) (limits_order w h) hG hz h1 h2 h3)
+    (inside_same w k rm h) (lies_same w k h) (outside_same w k rm h) (nominal_positive w h) (low_positive w h)
+    (limits_order w h) hG hz h1 h2 h3)
 current_row w α β p q (negsuc k) x y z g1 g2 s rm ha hb he d h hG hz ka kb ke h1 h2 h3 flat =
     let none = flat (negative_lies w k h) in
     let inside = negative_inside w k rm h in
-    let by = negative_by α β p q x y z g1 g2 (full_draw w) (nat_abs w.vn) (nat_abs w.vlo) (nat_abs w.vhi) rm k d (magnitude_stays_outside w (negsuc k) rm) (negative_outside w k rm h)
-    (nominal_positive w h) (low_positive w h) (limits_order w h) hG hz h1 h2 in
+    let by = negative_by α β p q x y z g1 g2 (full_draw w) (nat_abs w.vn) (nat_abs w.vlo) (nat_abs w.vhi) rm k d
+    (magnitude_stays_outside w (negsuc k) rm) (negative_outside w k rm h) (nominal_positive w h) (low_positive w h)
+    (limits_order w h) hG hz h1 h2 in
     near_more _ _ _ _ _ (d * 2 ^ 40)
     (ap (λ s. g1 *ℤ (x -ℤ pos d *ℤ p) +ℤ g2 *ℤ (y -ℤ pos d *ℤ q) +ℤ s *ℤ (z -ℤ pos d *ℤ negsuc k)) (sym none))
     (rw (case_false (magnitude_stays_inside w (negsuc k) rm) _ _ inside, case_false (magnitude_stays_inside w (negsuc k) rm) _ _ inside)

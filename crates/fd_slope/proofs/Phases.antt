@@ -43,8 +43,10 @@ pub power_row : (w : LoadPhase) (α β p q x y e S1 S2 : ℤ) (rp rq ha hb he d 
     → unsigned_abs (x -ℤ pos d *ℤ p) ≤ ha → unsigned_abs (y -ℤ pos d *ℤ q) ≤ hb
     → IsRounded (square_is_inside w p q) α p (α *ℤ p +ℤ β *ℤ q) (clamped_square w p q) S1
     → IsRounded (square_is_inside w p q) β q (α *ℤ p +ℤ β *ℤ q) (clamped_square w p q) S2
-    → Row (constant_power α β (nat_abs w.vlo * nat_abs w.vlo) (nat_abs w.vhi * nat_abs w.vhi) x y d) (constant_power α β (nat_abs w.vlo * nat_abs w.vlo) (nat_abs w.vhi * nat_abs w.vhi) p q 1)
-    (slope_row S1 S2 (pos 0)) (radius_row (power_radius w p q rp rq) (power_radius w p q rp rq) 0) (x -ℤ pos d *ℤ p) (y -ℤ pos d *ℤ q) e ha hb he d
+    → Row (constant_power α β (nat_abs w.vlo * nat_abs w.vlo) (nat_abs w.vhi * nat_abs w.vhi) x y d)
+    (constant_power α β (nat_abs w.vlo * nat_abs w.vlo) (nat_abs w.vhi * nat_abs w.vhi) p q 1)
+    (slope_row S1 S2 (pos 0)) (radius_row (power_radius w p q rp rq) (power_radius w p q rp rq) 0) (x -ℤ pos d *ℤ p)
+    (y -ℤ pos d *ℤ q) e ha hb he d
 power_row w α β p q x y e S1 S2 rp rq ha hb he d h d_pos hG hx hy ka kb h1 h2 =
     let lo_pos = mul-pos (low_positive w h) (low_positive w h) in
     let lim = mul-le-mul (limits_order w h) (limits_order w h) in

@@ -38,7 +38,9 @@ reaches a b h = grind arith
 
 -- a box that stays inside has its centre inside
 pub inside_lies : (u e lo hi : ℕ) → stays_inside u e lo hi ≡ true → lies_inside u lo hi ≡ true
-inside_lies u e lo hi h = let f = inside_facts u e lo hi h in both_true (nat_le lo u) (nat_le u hi) (reaches lo u (omega (arith, f.0))) (reaches u hi (omega (arith, f.1)))
+inside_lies u e lo hi h =
+    let f = inside_facts u e lo hi h in
+    both_true (nat_le lo u) (nat_le u hi) (reaches lo u (omega (arith, f.0))) (reaches u hi (omega (arith, f.1)))
 
 -- a box that stays outside, with its centre inside, has no room and stays inside too
 pub both_ways : (u e lo hi : ℕ) → lies_inside u lo hi ≡ true → stays_outside u e lo hi ≡ true

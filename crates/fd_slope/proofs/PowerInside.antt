@@ -52,25 +52,33 @@ inside_core α β p q a b S1 S2 G lo rp rq d D d_pos lo_pos hG inside ha hb eD c
     let n_pos : 0 < n = omega arith in
     let n_is : n + E ≡ c = omega arith in
     let moved : pos D ≡ pos c *ℤ pos d *ℤ pos d +ℤ v = ap pos eD ∙ square_moved p q a b d in
-    let hM0 : unsigned_abs M ≤ (unsigned_abs α + unsigned_abs β) * h = le_trans (abs_pair α β a b) (pair_by_sum (unsigned_abs α) (unsigned_abs β) (unsigned_abs a) (unsigned_abs b) h (omega arith) (omega arith)) in
+    let hM0 : unsigned_abs M ≤ (unsigned_abs α + unsigned_abs β) * h =
+    le_trans (abs_pair α β a b)
+    (pair_by_sum (unsigned_abs α) (unsigned_abs β) (unsigned_abs a) (unsigned_abs b) h (omega arith) (omega arith)) in
     let hM : unsigned_abs M ≤ G * h = le_trans hM0 (mul-le-mul_right h hG) in
-    let hN0 : unsigned_abs N ≤ (unsigned_abs α + unsigned_abs β) * A = le_trans (abs_pair α β p q) (pair_by_sum (unsigned_abs α) (unsigned_abs β) (unsigned_abs p) (unsigned_abs q) A (omega arith) (omega arith)) in
+    let hN0 : unsigned_abs N ≤ (unsigned_abs α + unsigned_abs β) * A =
+    le_trans (abs_pair α β p q)
+    (pair_by_sum (unsigned_abs α) (unsigned_abs β) (unsigned_abs p) (unsigned_abs q) A (omega arith) (omega arith)) in
     let hN : unsigned_abs N ≤ G * A = le_trans hN0 (mul-le-mul_right A hG) in
-    let most : unsigned_abs p * unsigned_abs a + unsigned_abs q * unsigned_abs b ≤ A * h = pair_by_most (unsigned_abs p) (unsigned_abs q) (unsigned_abs a) (unsigned_abs b) A (omega arith) (omega arith) in
+    let most : unsigned_abs p * unsigned_abs a + unsigned_abs q * unsigned_abs b ≤ A * h =
+    pair_by_most (unsigned_abs p) (unsigned_abs q) (unsigned_abs a) (unsigned_abs b) A (omega arith) (omega arith) in
     let hl : unsigned_abs l ≤ 2 * A * h = omega (arith, l_size p q a b) in
     let ht : unsigned_abs t ≤ d * s * h = le_trans (abs_pair a b a b) (t_natural (unsigned_abs a) (unsigned_abs b) d rp rq ha hb) in
-    let hv : unsigned_abs v ≤ d * d * E = v_natural (unsigned_abs p) (unsigned_abs q) (unsigned_abs a) (unsigned_abs b) d rp rq (unsigned_abs l) (unsigned_abs t) (unsigned_abs v) ha hb (l_size p q a b) (abs_pair a b a b) (v_size d l t) in
+    let hv : unsigned_abs v ≤ d * d * E =
+    v_natural (unsigned_abs p) (unsigned_abs q) (unsigned_abs a) (unsigned_abs b) d rp rq (unsigned_abs l)
+    (unsigned_abs t) (unsigned_abs v) ha hb (l_size p q a b) (abs_pair a b a b) (v_size d l t) in
     let near_by : c * d * d ≤ D + unsigned_abs v = below (pos D) (pos c *ℤ pos d *ℤ pos d) v moved in
     let scaled = ap (λ (m : ℕ). d * d * m) n_is in
     let hD : d * d * n ≤ D = omega arith in
     let t_is : v -ℤ pos d *ℤ l ≡ t = omega (arith, ints) in
     let cb : k * unsigned_abs (N *ℤ l *ℤ v -ℤ M *ℤ v *ℤ pos c -ℤ N *ℤ t *ℤ pos (d * c)) ≤ r * h * (c * c * D) =
-    change_bound k G g c E y n A s x1 z x2 r h d D N M l v t (lit< tt)
-    (ceil_nat_covers (G * k) c c_pos) (ceil_nat_covers (E * k) n n_pos) (ceil_nat_covers (A * s * k) n n_pos) (ceil_nat_covers (A * A * k) c c_pos) (ceil_nat_covers (2 * z * y) k (lit< tt)) (ceil_nat_covers (g * (y + (x1 + x2))) k (lit< tt))
-    hM hv hN hl ht hD in
+    change_bound k G g c E y n A s x1 z x2 r h d D N M l v t (lit< tt) (ceil_nat_covers (G * k) c c_pos)
+    (ceil_nat_covers (E * k) n n_pos) (ceil_nat_covers (A * s * k) n n_pos) (ceil_nat_covers (A * A * k) c c_pos)
+    (ceil_nat_covers (2 * z * y) k (lit< tt)) (ceil_nat_covers (g * (y + (x1 + x2))) k (lit< tt)) hM hv hN hl ht hD in
     let X : ℤ = M *ℤ pos c -ℤ N *ℤ l in
     let T : ℤ = (pos d *ℤ N +ℤ M) *ℤ pos d *ℤ pos c -ℤ N *ℤ pos D in
-    let ex : pos d *ℤ (T *ℤ pos c) -ℤ X *ℤ pos D ≡ N *ℤ l *ℤ v -ℤ M *ℤ v *ℤ pos c -ℤ N *ℤ t *ℤ pos (d * c) = exact N M l v c d D moved ∙ ap (λ (m : ℤ). N *ℤ l *ℤ v -ℤ M *ℤ v *ℤ pos c -ℤ N *ℤ m *ℤ pos (d * c)) t_is in
+    let ex : pos d *ℤ (T *ℤ pos c) -ℤ X *ℤ pos D ≡ N *ℤ l *ℤ v -ℤ M *ℤ v *ℤ pos c -ℤ N *ℤ t *ℤ pos (d * c) =
+    exact N M l v c d D moved ∙ ap (λ (m : ℤ). N *ℤ l *ℤ v -ℤ M *ℤ v *ℤ pos c -ℤ N *ℤ m *ℤ pos (d * c)) t_is in
     let one : k * unsigned_abs (pos d *ℤ (T *ℤ pos c) -ℤ X *ℤ pos D) ≤ r * h * (c * c * D) = rw ex cb in
     let two = row_off α β a b N p q S1 S2 c k (2 * (c * c)) col1 col2 in
     both T X (S1 *ℤ a +ℤ S2 *ℤ b) c d k D r 2 h c_pos one two
@@ -104,5 +112,6 @@ power_inside α β p q x y S1 S2 G lo hi rp rq d d_pos lo_pos hG low high ha hb 
     let core = inside_core α β p q a b S1 S2 G lo rp rq d D d_pos lo_pos hG low ha hb De col1 col2 in
     let r : ℕ = radius_inside_of G lo c p q rp rq in
     let more = mul-le-mul_right ((unsigned_abs a + unsigned_abs b) * (D * c)) (let o : r + 2 ≤ r + 4 = omega arith in o) in
-    near_by (constant_power α β lo hi x y d) (constant_power α β lo hi p q 1) (S1 *ℤ a +ℤ S2 *ℤ b) ((pos d *ℤ N +ℤ M) *ℤ pos d) N D c ((r + 4) * (unsigned_abs a + unsigned_abs b)) (d * 2 ^ 40)
+    near_by (constant_power α β lo hi x y d) (constant_power α β lo hi p q 1) (S1 *ℤ a +ℤ S2 *ℤ b)
+    ((pos d *ℤ N +ℤ M) *ℤ pos d) N D c ((r + 4) * (unsigned_abs a + unsigned_abs b)) (d * 2 ^ 40)
     (ap (λ (z : ℤ). z *ℤ pos d) (top_is α β p q x y d)) (times_one N) k1 k2 (omega arith)

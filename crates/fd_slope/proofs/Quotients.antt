@@ -71,12 +71,16 @@ change_bound k G g c E y n A s x1 z x2 r h d D N M l v t k_pos h1 h2 h3 h4 h5 h6
 row_a : (α β a b N p q S1 S2 : ℤ) (c k : ℕ)
     → ((α *ℤ a +ℤ β *ℤ b) *ℤ pos c -ℤ N *ℤ (pos 2 *ℤ p *ℤ a +ℤ pos 2 *ℤ q *ℤ b)) *ℤ pos k -ℤ (S1 *ℤ a +ℤ S2 *ℤ b) *ℤ pos (c * c)
     ≡ ((α *ℤ pos c -ℤ pos 2 *ℤ p *ℤ N) *ℤ pos k -ℤ S1 *ℤ pos (c * c)) *ℤ a +ℤ ((β *ℤ pos c -ℤ pos 2 *ℤ q *ℤ N) *ℤ pos k -ℤ S2 *ℤ pos (c * c)) *ℤ b
-row_a α β a b N p q S1 S2 c k = rw (as_val α, as_val β, as_val a, as_val b, as_val N, as_val p, as_val q, as_val S1, as_val S2) (simp vals (val-same _ _ _ _ (omega arith)))
+row_a α β a b N p q S1 S2 c k =
+    rw (as_val α, as_val β, as_val a, as_val b, as_val N, as_val p, as_val q, as_val S1, as_val S2)
+    (simp vals (val-same _ _ _ _ (omega arith)))
 
 pub row_off : (α β a b N p q S1 S2 : ℤ) (c k m : ℕ)
     → unsigned_abs ((α *ℤ pos c -ℤ pos 2 *ℤ p *ℤ N) *ℤ pos k -ℤ S1 *ℤ pos (c * c)) ≤ m
     → unsigned_abs ((β *ℤ pos c -ℤ pos 2 *ℤ q *ℤ N) *ℤ pos k -ℤ S2 *ℤ pos (c * c)) ≤ m
-    → unsigned_abs (((α *ℤ a +ℤ β *ℤ b) *ℤ pos c -ℤ N *ℤ (pos 2 *ℤ p *ℤ a +ℤ pos 2 *ℤ q *ℤ b)) *ℤ pos k -ℤ (S1 *ℤ a +ℤ S2 *ℤ b) *ℤ pos (c * c)) ≤ m * (unsigned_abs a + unsigned_abs b)
+    → unsigned_abs (((α *ℤ a +ℤ β *ℤ b) *ℤ pos c -ℤ N *ℤ (pos 2 *ℤ p *ℤ a +ℤ pos 2 *ℤ q *ℤ b)) *ℤ pos k
+    -ℤ (S1 *ℤ a +ℤ S2 *ℤ b) *ℤ pos (c * c))
+    ≤ m * (unsigned_abs a + unsigned_abs b)
 row_off α β a b N p q S1 S2 c k m h1 h2 =
     let x : ℤ = (α *ℤ pos c -ℤ pos 2 *ℤ p *ℤ N) *ℤ pos k -ℤ S1 *ℤ pos (c * c) in
     let y : ℤ = (β *ℤ pos c -ℤ pos 2 *ℤ q *ℤ N) *ℤ pos k -ℤ S2 *ℤ pos (c * c) in
@@ -129,17 +133,21 @@ moved_a : (p a : ℤ) (d : ℕ)
 moved_a p a d = rw (as_val p, as_val a) (simp vals (val-same _ _ _ _ (omega arith)))
 
 moved_b : (s1 s2 l1 l2 t1 t2 : ℤ) (d : ℕ)
-    → s1 *ℤ pos d *ℤ pos d +ℤ (pos d *ℤ l1 +ℤ t1) +ℤ (s2 *ℤ pos d *ℤ pos d +ℤ (pos d *ℤ l2 +ℤ t2)) ≡ (s1 +ℤ s2) *ℤ pos d *ℤ pos d +ℤ (pos d *ℤ (l1 +ℤ l2) +ℤ (t1 +ℤ t2))
+    → s1 *ℤ pos d *ℤ pos d +ℤ (pos d *ℤ l1 +ℤ t1) +ℤ (s2 *ℤ pos d *ℤ pos d +ℤ (pos d *ℤ l2 +ℤ t2))
+    ≡ (s1 +ℤ s2) *ℤ pos d *ℤ pos d +ℤ (pos d *ℤ (l1 +ℤ l2) +ℤ (t1 +ℤ t2))
 moved_b s1 s2 l1 l2 t1 t2 d = rw (as_val s1, as_val s2, as_val l1, as_val l2, as_val t1, as_val t2) (simp vals (val-same _ _ _ _ (omega arith)))
 
 pub rejoin : (x y : ℤ) → x ≡ y +ℤ (x -ℤ y)
 rejoin x y = omega (arith, ints)
 
 pub square_moved : (p q a b : ℤ) (d : ℕ)
-    → pos (square_of (pos d *ℤ p +ℤ a) (pos d *ℤ q +ℤ b)) ≡ pos (square_of p q) *ℤ pos d *ℤ pos d +ℤ (pos d *ℤ (pos 2 *ℤ p *ℤ a +ℤ pos 2 *ℤ q *ℤ b) +ℤ (a *ℤ a +ℤ b *ℤ b))
+    → pos (square_of (pos d *ℤ p +ℤ a) (pos d *ℤ q +ℤ b))
+    ≡ pos (square_of p q) *ℤ pos d *ℤ pos d +ℤ (pos d *ℤ (pos 2 *ℤ p *ℤ a +ℤ pos 2 *ℤ q *ℤ b) +ℤ (a *ℤ a +ℤ b *ℤ b))
 square_moved p q a b d =
-    rw (square_is (pos d *ℤ p +ℤ a) (pos d *ℤ q +ℤ b), moved_a p a d, moved_a q b d) (moved_b (p *ℤ p) (q *ℤ q) (pos 2 *ℤ p *ℤ a) (pos 2 *ℤ q *ℤ b) (a *ℤ a) (b *ℤ b) d)
-    ∙ ap (λ (z : ℤ). z *ℤ pos d *ℤ pos d +ℤ (pos d *ℤ (pos 2 *ℤ p *ℤ a +ℤ pos 2 *ℤ q *ℤ b) +ℤ (a *ℤ a +ℤ b *ℤ b))) (sym (square_is p q))
+    rw (square_is (pos d *ℤ p +ℤ a) (pos d *ℤ q +ℤ b), moved_a p a d, moved_a q b d)
+    (moved_b (p *ℤ p) (q *ℤ q) (pos 2 *ℤ p *ℤ a) (pos 2 *ℤ q *ℤ b) (a *ℤ a) (b *ℤ b) d)
+    ∙ ap (λ (z : ℤ). z *ℤ pos d *ℤ pos d +ℤ (pos d *ℤ (pos 2 *ℤ p *ℤ a +ℤ pos 2 *ℤ q *ℤ b) +ℤ (a *ℤ a +ℤ b *ℤ b)))
+    (sym (square_is p q))
 
 pub abs_pair : (x y a b : ℤ)
     → unsigned_abs (x *ℤ a +ℤ y *ℤ b) ≤ unsigned_abs x * unsigned_abs a + unsigned_abs y * unsigned_abs b
@@ -212,7 +220,9 @@ stays p q a b rp rq d ha hb =
     let v : ℤ = pos d *ℤ l +ℤ t in
     let c : ℕ = square_of p q in
     let D : ℕ = square_of (pos d *ℤ p +ℤ a) (pos d *ℤ q +ℤ b) in
-    let hv : unsigned_abs v ≤ d * d * square_moves p q rp rq = v_natural (unsigned_abs p) (unsigned_abs q) (unsigned_abs a) (unsigned_abs b) d rp rq (unsigned_abs l) (unsigned_abs t) (unsigned_abs v) ha hb (l_size p q a b) (abs_pair a b a b) (v_size d l t) in
+    let hv : unsigned_abs v ≤ d * d * square_moves p q rp rq =
+    v_natural (unsigned_abs p) (unsigned_abs q) (unsigned_abs a) (unsigned_abs b) d rp rq (unsigned_abs l)
+    (unsigned_abs t) (unsigned_abs v) ha hb (l_size p q a b) (abs_pair a b a b) (v_size d l t) in
     let moved = square_moved p q a b d in
     let m1 : D ≤ c * d * d + unsigned_abs v = above (pos D) (pos c *ℤ pos d *ℤ pos d) v moved in
     let m2 : c * d * d ≤ D + unsigned_abs v = below (pos D) (pos c *ℤ pos d *ℤ pos d) v moved in

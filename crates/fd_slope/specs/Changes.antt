@@ -94,7 +94,9 @@ radii_in box c u =
 
 -- (m^2 - p^2 - q^2) / Vn
 abbrev pub magnitude_value : LoadAt → State → Fraction
-magnitude_value u x = magnitude_row (nat_abs u.load.vn) (re_of x u.first -ℤ re_of x u.second) (im_of x u.first -ℤ im_of x u.second) (magnitude_of x u.magnitude) x.over
+magnitude_value u x =
+    magnitude_row (nat_abs u.load.vn) (re_of x u.first -ℤ re_of x u.second) (im_of x u.first -ℤ im_of x u.second)
+    (magnitude_of x u.magnitude) x.over
 
 -- only constant current has a row of the magnitude
 pub record RowsFollow (box : ℕ → ℕ) (c : List ℤ) (x : State) (u : LoadAt) : Type 0 where

@@ -33,11 +33,13 @@ square_moves p q rp rq = (2 * nat_abs p + rp) * rp + (2 * nat_abs q + rq) * rq
 -- the square stays within the squares of the limits, or on one side of both; else it may straddle a limit
 abbrev pub square_stays_inside : LoadPhase → ℤ → ℤ → ℕ → ℕ → Bool
 square_stays_inside w p q rp rq =
-    nat_le (nat_abs w.vlo * nat_abs w.vlo + square_moves p q rp rq) (square_of p q) && nat_le (square_of p q + square_moves p q rp rq) (nat_abs w.vhi * nat_abs w.vhi)
+    nat_le (nat_abs w.vlo * nat_abs w.vlo + square_moves p q rp rq) (square_of p q)
+    && nat_le (square_of p q + square_moves p q rp rq) (nat_abs w.vhi * nat_abs w.vhi)
 
 abbrev pub square_stays_outside : LoadPhase → ℤ → ℤ → ℕ → ℕ → Bool
 square_stays_outside w p q rp rq =
-    nat_le (square_of p q + square_moves p q rp rq) (nat_abs w.vlo * nat_abs w.vlo) || nat_le (nat_abs w.vhi * nat_abs w.vhi + square_moves p q rp rq) (square_of p q)
+    nat_le (square_of p q + square_moves p q rp rq) (nat_abs w.vlo * nat_abs w.vlo)
+    || nat_le (nat_abs w.vhi * nat_abs w.vhi + square_moves p q rp rq) (square_of p q)
 
 -- the least clamped square in the box, or less
 abbrev pub least_square : LoadPhase → ℤ → ℤ → ℕ → ℕ → ℕ

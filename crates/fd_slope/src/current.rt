@@ -68,7 +68,9 @@ fn radius_inside(load: &LoadPhase, b: &Around) -> u128
 fn part_moved(load: &LoadPhase, b: &Around) -> u128
     requires load { IsLoadPhase load.now }
     requires around { IsAround b.now }
-    ensures value { result ≡ product_of (quotient_up (largest b.now.p b.now.q) (magnitude_within load.now b.now.m)) (quotient_up b.now.rm (least_magnitude_of load.now b.now.m b.now.rm)) }
+    ensures value { result
+        ≡ product_of (quotient_up (largest b.now.p b.now.q) (magnitude_within load.now b.now.m))
+        (quotient_up b.now.rm (least_magnitude_of load.now b.now.m b.now.rm)) }
     ensures most { result ≤ 2 ^ 83 }
 {
     let part = at_scale(greatest_part(b), clamped_magnitude(load, b.m));
@@ -90,7 +92,9 @@ fn radius_across(load: &LoadPhase, b: &Around) -> u128
 pub fn row_radii(load: &LoadPhase, b: &Around) -> RadiusRow
     requires load { IsLoadPhase load.now }
     requires around { IsAround b.now }
-    ensures value { result ≡ radius_row (quotient_up b.now.rp (nat_abs load.now.vn)) (quotient_up b.now.rq (nat_abs load.now.vn)) (quotient_up b.now.rm (nat_abs load.now.vn)) }
+    ensures value { result
+        ≡ radius_row (quotient_up b.now.rp (nat_abs load.now.vn)) (quotient_up b.now.rq (nat_abs load.now.vn))
+        (quotient_up b.now.rm (nat_abs load.now.vn)) }
     ensures most { IsRadiusRow result }
 {
     let vn = load.vn.unsigned_abs();

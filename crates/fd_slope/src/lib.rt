@@ -5,8 +5,8 @@
 // box the change of each row of a part load differs from what its slopes say by at most the radii, with four units of 2^-40 more in each,
 // times what moved. It takes no memory.
 //
-// Modules: `radii`, their shape; `around`, a centre and a box; `rounding`, quotients and products rounded up; `power` and `current`, the radii of constant power and of
-// constant current; `slope`, both by the model; `laws`, the law.
+// Modules: `radii`, their shape; `around`, a centre and a box; `rounding`, quotients and products rounded up; `power`
+// and `current`, the radii of constant power and of constant current; `slope`, both by the model; `laws`, the law.
 #![tactic(auto)]
 
 mod around;

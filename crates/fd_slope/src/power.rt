@@ -221,7 +221,11 @@ fn square_turned(load: &LoadPhase, b: &Around) -> u128
     requires load { IsLoadPhase load.now }
     requires around { IsAround b.now }
     requires inside { largest b.now.p b.now.q * largest b.now.p b.now.q ≤ square_within load.now b.now.p b.now.q }
-    ensures value { result ≡ product_of (2 * quotient_up (largest b.now.p b.now.q * largest b.now.p b.now.q) (square_within load.now b.now.p b.now.q)) (quotient_up (moves_of b.now.p b.now.q b.now.rp b.now.rq) (least_square_of load.now b.now.p b.now.q b.now.rp b.now.rq)) }
+    ensures value { result
+        ≡ product_of (2
+        * quotient_up (largest b.now.p b.now.q * largest b.now.p b.now.q) (square_within load.now b.now.p b.now.q))
+        (quotient_up (moves_of b.now.p b.now.q b.now.rp b.now.rq)
+        (least_square_of load.now b.now.p b.now.q b.now.rp b.now.rq)) }
     ensures most { result ≤ 2 ^ 85 }
 {
     product_up(2 * part_ratio(load, b), moved(load, b))

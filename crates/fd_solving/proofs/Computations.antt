@@ -76,5 +76,7 @@ module _ (limits : Limits) (p : Plant) where
       → m.made ≤ p.setup.limit → IsComputedFrom limits p m rounds ending n → length rounds + m.made ≤ p.setup.limit + 1
   few_rounds m [] ending n within h = omega (arith, within)
   few_rounds m (r ∷ rest) ending n within h =
-      let behind = few_behind m (outcome_of p.setup m (p.look m.at r.0)) r.1 rest ending n (λ made k is. round_counted p.setup m (p.look m.at r.0) made k is) within (λ k allowed later. few_rounds k rest ending n allowed later) h.1.1 in
+      let behind = few_behind m (outcome_of p.setup m (p.look m.at r.0)) r.1 rest ending n
+      (λ made k is. round_counted p.setup m (p.look m.at r.0) made k is) within
+      (λ k allowed later. few_rounds k rest ending n allowed later) h.1.1 in
       omega (arith, behind)

@@ -58,7 +58,8 @@ pub computed_settle : (limits : Limits) (p : Plant) (m : Machine) (rounds : List
     → settle_of p.setup p.look m (map (λ r. r.0) rounds) ≡ settle_by (map (λ r. r.1) rounds) end n
 computed_settle limits p m [] end n h = absurd h
 computed_settle limits p m (r ∷ rest) end n h =
-    follows (outcome_of p.setup m (p.look m.at r.0)) r.1 rest end n (λ k. IsComputedFrom limits p k rest (ended end) n) (λ k. settle_of p.setup p.look k (map (λ x. x.0) rest))
+    follows (outcome_of p.setup m (p.look m.at r.0)) r.1 rest end n
+    (λ k. IsComputedFrom limits p k rest (ended end) n) (λ k. settle_of p.setup p.look k (map (λ x. x.0) rest))
     (λ k later. computed_settle limits p k rest end n later) h.1.1
 
 -- ---- chosen states and what their rounds decide
@@ -78,7 +79,9 @@ module _ (c : CircuitView) (hour : ℕ) where
   same_settle : (m : Machine) (ys : List Claim) (xs : List State) → AtEach (DecidesAlike c hour) (plant_at c hour) m ys
       → chosen_by (IsOtherState c hour) m ys xs → length xs ≡ length ys
       → settle_of (setup_of c) (look_at (controls_in c)) m xs ≡ settle_of (setup_of c) (look_over (controls_in c)) m ys
-  same_settle m ys xs each h long = whole IsAlike (look_over (controls_in c)) (look_at (controls_in c)) of_alike (setup_of c) m ys xs (both (plant_at c hour) (IsOtherState c hour) (DecidesAlike c hour) m ys xs each h) long
+  same_settle m ys xs each h long =
+      whole IsAlike (look_over (controls_in c)) (look_at (controls_in c)) of_alike (setup_of c) m ys xs
+      (both (plant_at c hour) (IsOtherState c hour) (DecidesAlike c hour) m ys xs each h) long
 
 -- ---- hours
 
@@ -116,7 +119,8 @@ taken : (b : Bool) (ss : List settling.Settle) → IsTrue b
 taken true ss h = refl
 taken false ss h = absurd (cc h)
 
-module _ (c : CircuitView) (hour : ℕ) (hours : List ℕ) (l : Kept) (rs : List Round) (end : SettleEnd) (left : Positions) (ss : List Settle) (m : Machine) (at_is : m.at ≡ l.at) (opened_is : m.opened ≡ l.opened)
+module _ (c : CircuitView) (hour : ℕ) (hours : List ℕ) (l : Kept) (rs : List Round) (end : SettleEnd)
+    (left : Positions) (ss : List Settle) (m : Machine) (at_is : m.at ≡ l.at) (opened_is : m.opened ≡ l.opened)
     (good : IsSolved (hour_settle c hour l rs end left)) where
   abbrev x : Settle
   x = hour_settle c hour l rs end left
@@ -133,11 +137,16 @@ module _ (c : CircuitView) (hour : ℕ) (hours : List ℕ) (l : Kept) (rs : List
   same_begun : begun ≡ machine_of x
   same_begun = ap (λ (a : Positions). started c a (time_of hour) m.opened) at_is ∙ ap (λ o. started c l.at (time_of hour) o) opened_is
 
-  behind : (xs : List State) (xss : List (List State)) (next : IsTrue (is_settled by_balls.end) → AreSteady c hours by_balls.machine ss)
+  behind : (xs : List State) (xss : List (List State))
+      (next : IsTrue (is_settled by_balls.end) → AreSteady c hours by_balls.machine ss)
       → chosen_by c hour (IsOtherState c hour) begun (claims_of x) xs
       → Onward xss (IsWhole (claims_of x) xs by_balls (λ n. chosen_run c hours n (map claims_of ss) xss))
-      → map (λ (s : settling.Settle). s.rounds) (if is_settled (by_states xs).end then states_by c hours (by_states xs).machine xss else []) ≡ first_rounds xss (map acts_of ss)
-  behind xs [] next chosen more = unless (is_settled (by_states xs).end) (states_by c hours (by_states xs).machine []) (no_states c hours (by_states xs).machine)
+      → map (λ (s : settling.Settle). s.rounds)
+      (if is_settled (by_states xs).end then states_by c hours (by_states xs).machine xss else [])
+      ≡ first_rounds xss (map acts_of ss)
+  behind xs [] next chosen more =
+      unless (is_settled (by_states xs).end) (states_by c hours (by_states xs).machine [])
+      (no_states c hours (by_states xs).machine)
   behind xs (ys ∷ yss) next chosen more =
       let each = subst (λ (n : Machine). AtEach (DecidesAlike c hour) (plant_at c hour) n (claims_of x)) (sym same_begun) good.alike in
       let same : by_states xs ≡ by_balls = same_settle c hour begun (claims_of x) xs each chosen more.each in
@@ -150,8 +159,12 @@ module _ (c : CircuitView) (hour : ℕ) (hours : List ℕ) (l : Kept) (rs : List
   hour_steady next [] chosen = refl
   hour_steady next (xs ∷ xss) chosen =
       let here = subst (λ (n : Machine). chosen_by c hour (IsOtherState c hour) n (claims_of x) xs) same_begun chosen.0 in
-      let acts : (by_states xs).rounds ≡ take (length xs) (acts_of x) = ap (λ (n : Machine). (settle_of (setup_of c) (look_at (controls_in c)) n xs).rounds) same_begun ∙ good.steady xs here in
-      ap (λ (a : List (List Act)). a ∷ map (λ (s : settling.Settle). s.rounds) (if is_settled (by_states xs).end then states_by c hours (by_states xs).machine xss else [])) acts
+      let acts : (by_states xs).rounds ≡ take (length xs) (acts_of x) =
+      ap (λ (n : Machine). (settle_of (setup_of c) (look_at (controls_in c)) n xs).rounds) same_begun
+      ∙ good.steady xs here in
+      ap (λ (a : List (List Act)).
+      a ∷ map (λ (s : settling.Settle).
+      s.rounds) (if is_settled (by_states xs).end then states_by c hours (by_states xs).machine xss else [])) acts
       ∙ ap (λ (t : List (List (List Act))). take (length xs) (acts_of x) ∷ t) (behind xs xss next chosen.0 chosen.1)
 
 -- ---- the hours of a Solve
@@ -206,8 +219,10 @@ none_left : (front rest : List Event) → front ++ rest ≡ [] → front ≡ []
 none_left [] rest h = refl
 none_left (e ∷ front) rest h = absurd (cc h)
 
-module _ (c : CircuitView) (hour : ℕ) (hours : List ℕ) (l k : Kept) (m : Machine) (at_is : m.at ≡ l.at) (opened_is : m.opened ≡ l.opened) (front rest : List Event)
-    (go : (n : Machine) → n.at ≡ k.at → n.opened ≡ k.opened → (step : Step StandingView) → IsHoursStep c hours k step → events_in step ≡ front ++ rest → AreSteady c hours n (settles_in front)) where
+module _ (c : CircuitView) (hour : ℕ) (hours : List ℕ) (l k : Kept) (m : Machine) (at_is : m.at ≡ l.at)
+    (opened_is : m.opened ≡ l.opened) (front rest : List Event)
+    (go : (n : Machine) → n.at ≡ k.at → n.opened ≡ k.opened → (step : Step StandingView) → IsHoursStep c hours k step
+    → events_in step ≡ front ++ rest → AreSteady c hours n (settles_in front)) where
   -- what the balls of these rounds leave
   abbrev left_by_balls : List (Claim × List Act) → Machine
   left_by_balls rounds = (settle_of (setup_of c) (look_over (controls_in c)) (started c m.at (time_of hour) m.opened) (map claim_in (rounds_of rounds))).machine
@@ -215,14 +230,26 @@ module _ (c : CircuitView) (hour : ℕ) (hours : List ℕ) (l k : Kept) (m : Mac
   next_hour : (made : Settle) (is : IsHour c hour l made k) (end : SettleEnd) → is.end ≡ end
       → Tail end (λ s. IsHoursStep c hours k s) (front ++ rest)
       → AreSteady c hours (left_by_balls is.rounds) (settles_in front)
-  next_hour made is (failed f) same tail = subst (λ (events : List Event). AreSteady c hours (left_by_balls is.rounds) (settles_in events)) (sym (none_left front rest tail)) (none_steady c hours _)
-  next_hour made is (without_certificate r f) same tail = subst (λ (events : List Event). AreSteady c hours (left_by_balls is.rounds) (settles_in events)) (sym (none_left front rest tail)) (none_steady c hours _)
+  next_hour made is (failed f) same tail =
+      subst (λ (events : List Event). AreSteady c hours (left_by_balls is.rounds) (settles_in events))
+      (sym (none_left front rest tail)) (none_steady c hours _)
+  next_hour made is (without_certificate r f) same tail =
+      subst (λ (events : List Event). AreSteady c hours (left_by_balls is.rounds) (settles_in events))
+      (sym (none_left front rest tail)) (none_steady c hours _)
   next_hour made is settled same tail =
       let balls = left_by_balls is.rounds in
       let well = settled_ending c hour is.ending is.machine (subst (λ (e : SettleEnd). IsEndBy c hour is.ending is.machine e) same is.end_is) in
-      let begun_is : started c m.at (time_of hour) m.opened ≡ hour_begun c hour l = ap (λ (a : Positions). started c a (time_of hour) m.opened) at_is ∙ ap (λ o. started c l.at (time_of hour) o) opened_is in
-      let left : balls ≡ is.machine = ap (λ (n : Machine). (settle_of (setup_of c) (look_over (controls_in c)) n (map claim_in (rounds_of is.rounds))).machine) begun_is ∙ machine_left c hour (hour_begun c hour l) is.rounds is.ending is.machine is.computed well in
-      go balls (ap (λ (n : Machine). n.at) left ∙ sym (ap (λ (x : Kept). x.at) is.kept)) (ap (λ (n : Machine). n.opened) left ∙ sym (ap (λ (x : Kept). x.opened) is.kept)) tail.more tail.right tail.events_are
+      let begun_is : started c m.at (time_of hour) m.opened ≡ hour_begun c hour l =
+      ap (λ (a : Positions). started c a (time_of hour) m.opened) at_is
+      ∙ ap (λ o. started c l.at (time_of hour) o) opened_is in
+      let left : balls ≡ is.machine =
+      ap (λ (n : Machine).
+      (settle_of (setup_of c) (look_over (controls_in c)) n (map claim_in (rounds_of is.rounds))).machine)
+      begun_is
+      ∙ machine_left c hour (hour_begun c hour l) is.rounds is.ending is.machine is.computed well in
+      go balls (ap (λ (n : Machine). n.at) left ∙ sym (ap (λ (x : Kept). x.at) is.kept))
+      (ap (λ (n : Machine). n.opened) left ∙ sym (ap (λ (x : Kept). x.opened) is.kept)) tail.more tail.right
+      tail.events_are
 
   by_hour : (made : Settle) (is : IsHour c hour l made k) (e : Event) → e ≡ settle made → IfSettle IsSolved e
       → Tail made.end (λ s. IsHoursStep c hours k s) (front ++ rest)
@@ -232,7 +259,8 @@ module _ (c : CircuitView) (hour : ℕ) (hours : List ℕ) (l k : Kept) (m : Mac
       let tail_here = subst (λ (x : Settle). Tail x.end (λ s. IsHoursStep c hours k s) (front ++ rest)) is.settle_is tail in
       let next = next_hour made is is.end refl tail_here in
       let steady = hour_steady c hour hours l (rounds_of is.rounds) is.end is.machine.at (settles_in front) m at_is opened_is solved (λ well. next) in
-      subst (λ (ev : Event). AreSteady c (hour ∷ hours) m (settles_in (ev ∷ front))) (sym event) (subst (λ (x : Settle). AreSteady c (hour ∷ hours) m (x ∷ settles_in front)) (sym is.settle_is) steady)
+      subst (λ (ev : Event). AreSteady c (hour ∷ hours) m (settles_in (ev ∷ front))) (sym event)
+      (subst (λ (x : Settle). AreSteady c (hour ∷ hours) m (x ∷ settles_in front)) (sym is.settle_is) steady)
 
 days_from : (c : CircuitView) (hours : List ℕ) (l : Kept) (m : Machine) → m.at ≡ l.at → m.opened ≡ l.opened
     → (step : Step StandingView) (front rest : List Event) → IsHoursStep c hours l step → events_in step ≡ front ++ rest
@@ -249,4 +277,5 @@ days_from c (hour ∷ hours) l m at_is opened_is step (e ∷ front) rest is even
 pub days_alike : DaysLaw
 unfolding IsSolutionStep
 days_alike s step front rest is events good =
-    days_from s.circuit (hours_of s.circuit.options) (kept_first s) (started s.circuit (kept_first s).at 0 (kept_first s).opened) refl refl step front rest is events good
+    days_from s.circuit (hours_of s.circuit.options) (kept_first s)
+    (started s.circuit (kept_first s).at 0 (kept_first s).opened) refl refl step front rest is events good

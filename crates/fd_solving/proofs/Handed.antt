@@ -69,11 +69,15 @@ ending_code calls f code m done = elim done [
 module _ {S : Type 0} (taken : S → Option (List ℕ)) (calls : S → Option ℕ) where
   pub never_usage : (old new : S) (all : List Call) (f : Fault) (code : ℕ) → IsOfCommand f
       → Printed taken calls old new (record { calls = all; end = Some f }) code → code ≡ 2 → ⊥
-  never_usage old new all f code h printed = not_status f code 2 (command_status f h).0 (λ e. omega (arith, e)) (λ e. omega (arith, e)) (ending_code all f code printed.made printed.done)
+  never_usage old new all f code h printed =
+      not_status f code 2 (command_status f h).0 (λ e. omega (arith, e)) (λ e. omega (arith, e))
+      (ending_code all f code printed.made printed.done)
 
   pub never_read : (old new : S) (all : List Call) (f : Fault) (code : ℕ) → IsOfCommand f
       → Printed taken calls old new (record { calls = all; end = Some f }) code → code ≡ 4 → ⊥
-  never_read old new all f code h printed = not_status f code 4 (command_status f h).1 (λ e. omega (arith, e)) (λ e. omega (arith, e)) (ending_code all f code printed.made printed.done)
+  never_read old new all f code h printed =
+      not_status f code 4 (command_status f h).1 (λ e. omega (arith, e)) (λ e. omega (arith, e))
+      (ending_code all f code printed.made printed.done)
 
   pub cut_never : (n : ℕ) (old new : S) (all : List Call) (code : ℕ) → (1 ≡ n → ⊥) → (5 ≡ n → ⊥)
       → IsCutIn taken calls old new all code → code ≡ n → ⊥
@@ -88,12 +92,18 @@ pub answer_of : (left : Applied) (c : CircuitView) (a : Answer) → IsAnswered l
     → IsAnswerOf at n left c a
 answer_of left c answer.Done h at n = subst (λ (l : Applied). IsStepOf at n l (changes (standing c at n))) (sym h) refl
 answer_of left c answer.Bases h at n = subst (λ (l : Applied). IsStepOf at n l (goes (base_events c) (standing c at n))) (sym h) refl
-answer_of left c answer.Solves h at n = (h.1, λ step is. subst (λ (l : Applied). IsStepOf at n l step) (sym h.0) (record { answer = Ok tt; right = h.1; step_is = is }))
+answer_of left c answer.Solves h at n = (
+  h.1,
+  λ step is.
+      subst (λ (l : Applied). IsStepOf at n l step) (sym h.0) (record { answer = Ok tt; right = h.1; step_is = is }),
+)
 answer_of (nothing_left x) c (answer.Refuses f) h at n = absurd h
 answer_of (bases_left x) c (answer.Refuses f) h at n = absurd h
 answer_of (refused_at place x) c (answer.Refuses f) h at n = (ap (λ (g : Fault). ends [] g) h, of_command f (fault.Script place x) h tt)
-answer_of (solve_left x) c (answer.Refuses f) h at n =
-    (record { answer = Err h.blame; right = h.right; step_is = ap (λ (g : Fault). ends [] g) h.fault_is }, of_command f (fault.Script h.blame.place (cause.Model h.blame.cause)) h.fault_is tt)
+answer_of (solve_left x) c (answer.Refuses f) h at n = (
+  record { answer = Err h.blame; right = h.right; step_is = ap (λ (g : Fault). ends [] g) h.fault_is },
+  of_command f (fault.Script h.blame.place (cause.Model h.blame.cause)) h.fault_is tt,
+)
 
 -- ---- the calls of events that ask for nothing
 
@@ -110,13 +120,17 @@ pub silent_calls : (style : Style) (begun : Bool) (events : List Event) (texts :
     → AllByRecursion (λ e. style.asked_in e ≡ []) events → texts ≡ flat_map style.texts_in events
     → opened_unless begun style.opening (map writes texts) ≡ behind style begun events
 silent_calls style true events texts silent same = ap (map writes) same ∙ sym (silent_body style events silent)
-silent_calls style false events texts silent same = ap (λ l. opened style.opening (map writes l)) same ∙ ap (opened style.opening) (sym (silent_body style events silent))
+silent_calls style false events texts silent same =
+    ap (λ l. opened style.opening (map writes l)) same
+    ∙ ap (opened style.opening) (sym (silent_body style events silent))
 
 -- whether a text was written with them
 pub silent_begun : (style : Style) (begun : Bool) (events : List Event) (texts : List (List ℕ))
     → AllByRecursion (λ e. style.asked_in e ≡ []) events → texts ≡ flat_map style.texts_in events
     → (begun || has_text (map writes texts)) ≡ (begun || has_text (body style events))
-silent_begun style begun events texts silent same = ap (λ l. begun || has_text (map writes l)) same ∙ ap (λ l. begun || has_text l) (sym (silent_body style events silent))
+silent_begun style begun events texts silent same =
+    ap (λ l. begun || has_text (map writes l)) same
+    ∙ ap (λ l. begun || has_text l) (sym (silent_body style events silent))
 
 -- the texts of one event
 pub texts_alone : (style : Style) (e : Event) (texts : List (List ℕ)) → texts ≡ style.texts_in e
@@ -208,7 +222,9 @@ module _ {T S : Type 0} (style : Style) (is_step : Step T → Type 0) (taken : S
   -- the fault's record stands alone where nothing is printed before it
   fault_behind : (f : Fault) (code : ℕ) (old new : S) (p : Printed taken calls old new (fault_doing f) code) (before : List Call)
       → before ≡ [] → IsDone (record { calls = before ++ writes (fault_text f) ∷ []; end = Some f }) code p.made
-  fault_behind f code old new p before none = subst (λ l. IsDone (record { calls = l ++ writes (fault_text f) ∷ []; end = Some f }) code p.made) (sym none) p.done
+  fault_behind f code old new p before none =
+      subst (λ l. IsDone (record { calls = l ++ writes (fault_text f) ∷ []; end = Some f }) code p.made)
+      (sym none) p.done
 
   pub ends_refused : (old new : S) (begun : Bool) (f : Fault) (code : ℕ) → is_step (ends [] f)
       → Printed taken calls old new (fault_doing f) code → EndsAt style IsSolved is_step taken calls old new begun code
@@ -257,7 +273,10 @@ module _ {S : Type 0} (style : Style) (is_step : Step StandingView → Type 0) (
   pub goes_printed : (old new : S) (begun after : Bool) → Wrote taken calls old new (whole (behind style begun events))
       → after ≡ (begun || has_text (body style events)) → (t : Tally) → t ≡ tally_of t events
       → GoesOnTallied style is_step now taken calls old new begun after t t
-  goes_printed old new begun after wrote begun_is t none = record { on = record { events = events; right = is; all_good = good; wrote = wrote; begun_is = begun_is }; added = none }
+  goes_printed old new begun after wrote begun_is t none = record {
+    on = record { events = events; right = is; all_good = good; wrote = wrote; begun_is = begun_is };
+    added = none;
+  }
 
   pub ends_cut : (old new : S) (begun : Bool) (code : ℕ) → IsCutIn taken calls old new (behind style begun events) code
       → EndsAt style IsSolved is_step taken calls old new begun code
@@ -281,7 +300,13 @@ module _ {S : Type 0} (style : Style) (taken : S → Option (List ℕ)) (calls :
       → GoesOnTallied style P now taken calls old new begun after t u
       → GoesOnTallied style Q now taken calls old new begun after t u
   tallied_as now old new begun after t u h = record {
-    on = record { events = h.on.events; right = weaker (goes h.on.events now) h.on.right; all_good = h.on.all_good; wrote = h.on.wrote; begun_is = h.on.begun_is };
+    on = record {
+      events = h.on.events;
+      right = weaker (goes h.on.events now) h.on.right;
+      all_good = h.on.all_good;
+      wrote = h.on.wrote;
+      begun_is = h.on.begun_is;
+    };
     added = h.added;
   }
 

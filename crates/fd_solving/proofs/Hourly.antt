@@ -58,7 +58,9 @@ events_behind a (ends events f) = refl
 behind_more : (style : Style) (begun b : Bool) (events : List Event) (x : Settle)
     → b ≡ (begun || has_text (body style events))
     → behind style begun events ++ settle_calls style b x ≡ behind style begun (events ++ settle x ∷ [])
-behind_more style begun b events x is = ap (λ (t : Bool). behind style begun events ++ behind style t (settle x ∷ [])) is ∙ sym (behind-append style begun events (settle x ∷ []))
+behind_more style begun b events x is =
+    ap (λ (t : Bool). behind style begun events ++ behind style t (settle x ∷ [])) is
+    ∙ sym (behind-append style begun events (settle x ∷ []))
 
 -- nothing of a settle without a text
 no_calls : (style : Style) (b : Bool) (x : Settle) → style.asked_in (settle x) ≡ [] → style.texts_in (settle x) ≡ []
@@ -74,7 +76,9 @@ no_calls style b x silent none = by b
 
 good_more : (events : List Event) (x : Settle) → AllSettles IsSolved events → IsSolved x
     → AllSettles IsSolved (events ++ settle x ∷ [])
-good_more events x all is = All-append (IfSettle IsSolved) events (settle x ∷ []) all (All-cons (IfSettle IsSolved) (settle x) [] is (All-nil (IfSettle IsSolved)))
+good_more events x all is =
+    All-append (IfSettle IsSolved) events (settle x ∷ []) all
+    (All-cons (IfSettle IsSolved) (settle x) [] is (All-nil (IfSettle IsSolved)))
 
 -- no state can be chosen for a settle of no round
 unsampled : (c : CircuitView) (hour : ℕ) (k : Kept) (f : Fault) → IsSteady (hour_settle c hour k [] (failed f) k.at)
@@ -85,8 +89,12 @@ unsampled c hour k f (x ∷ xs) chosen = absurd chosen
 behind_failed : (x : Settle) (end : SettleEnd) (f : Fault) (rest : Step StandingView → Type 0) → fault_of end ≡ Some f
     → IsBehind x end rest (ends (settle x ∷ []) f)
 behind_failed x settled f rest h = absurd (let no : None ≡ Some f = h in cc no)
-behind_failed x (failed e) f rest h = ap (λ (k : Fault). (let s : Step StandingView = ends (settle x ∷ []) k in s)) (let same : Some e ≡ Some f = h in let is : f ≡ e = cc same in is)
-behind_failed x (without_certificate r e) f rest h = ap (λ (k : Fault). (let s : Step StandingView = ends (settle x ∷ []) k in s)) (let same : Some e ≡ Some f = h in let is : f ≡ e = cc same in is)
+behind_failed x (failed e) f rest h =
+    ap (λ (k : Fault). (let s : Step StandingView = ends (settle x ∷ []) k in s))
+    (let same : Some e ≡ Some f = h in let is : f ≡ e = cc same in is)
+behind_failed x (without_certificate r e) f rest h =
+    ap (λ (k : Fault). (let s : Step StandingView = ends (settle x ∷ []) k in s))
+    (let same : Some e ≡ Some f = h in let is : f ≡ e = cc same in is)
 
 -- ---- the loop
 
@@ -123,7 +131,11 @@ module _ (style : Style) (c : CircuitView) (first : List ℕ) (l : Kept) {S : Ty
       → EndsAt style IsSolved IsFirst taken calls old new begun code
   way_short left k now b t way new code none is =
       let rest = one_hours c left k in
-      let nothing : IsCutIn taken calls now new [] code = record { made = whole []; front = inl (record { rest = []; calls = refl; torn = refl; status_is = is }); wrote = none } in
+      let nothing : IsCutIn taken calls now new [] code = record {
+        made = whole [];
+        front = inl (record { rest = []; calls = refl; torn = refl; status_is = is });
+        wrote = none;
+      } in
       let cut = cut_then taken calls old now new (behind style begun way.events) [] code way.wrote nothing in
       record {
         step = behind_events way.events rest.some;
@@ -150,16 +162,22 @@ module _ (style : Style) (c : CircuitView) (first : List ℕ) (l : Kept) {S : Ty
     leads_on : x.end ≡ settled → (step : Step StandingView) → IsHoursStep c left kept step
         → IsFirst (behind_events more step)
     leads_on well step h =
-        let next : IsBehind x settled (λ s. IsHoursStep c left kept s) (behind_events (settle x ∷ []) step) = record { more = step; right = h; step_is = refl } in
-        let here : IsBehind x x.end (λ s. IsHoursStep c left kept s) (behind_events (settle x ∷ []) step) = subst (λ e. IsBehind x e (λ s. IsHoursStep c left kept s) (behind_events (settle x ∷ []) step)) (sym well) next in
-        subst IsFirst (behind_both way.events (settle x ∷ []) step) (way.leads (behind_events (settle x ∷ []) step) (record { made = x; kept = kept; is = is; goes_on = here }))
+        let next : IsBehind x settled (λ s. IsHoursStep c left kept s) (behind_events (settle x ∷ []) step) =
+        record { more = step; right = h; step_is = refl } in
+        let here : IsBehind x x.end (λ s. IsHoursStep c left kept s) (behind_events (settle x ∷ []) step) =
+        subst (λ e. IsBehind x e (λ s. IsHoursStep c left kept s) (behind_events (settle x ∷ []) step))
+        (sym well) next in
+        subst IsFirst (behind_both way.events (settle x ∷ []) step)
+        (way.leads (behind_events (settle x ∷ []) step) (record { made = x; kept = kept; is = is; goes_on = here }))
 
     way_more : x.end ≡ settled → (new : S) (after : Bool) → Wrote taken calls now new (whole (settle_calls style b x))
         → after ≡ begun_behind style b x → (u : Tally) → u ≡ tallied t (settle x) → HourWay left kept new after u
     way_more well new after wrote now_begun u more_rounds = record {
       events = more;
       leads = leads_on well;
-      wrote = subst (λ cs. Wrote taken calls old new (whole cs)) calls_more (wrote_then taken calls old now new (behind style begun way.events) (whole (settle_calls style b x)) way.wrote wrote);
+      wrote = subst (λ cs. Wrote taken calls old new (whole cs)) calls_more
+          (wrote_then taken calls old now new (behind style begun way.events) (whole (settle_calls style b x))
+          way.wrote wrote);
       all_good = good_more way.events x way.all_good good;
       begun_is = now_begun ∙ ap (λ y. y || has_text (body style (settle x ∷ []))) way.begun_is ∙ text_behind style begun way.events (settle x ∷ []);
       added = more_rounds ∙ ap (λ (y : Tally). tallied y (settle x)) way.added ∙ sym (fold-append tallied none_yet way.events (settle x ∷ []));
@@ -200,7 +218,10 @@ module _ (style : Style) (c : CircuitView) (first : List ℕ) (l : Kept) {S : Ty
           all_good = good_more way.events x way.all_good good;
           done = inl (
             refl,
-            subst (λ cs. IsDone (record { calls = cs; end = Some f }) code all.made) (sym (append_assoc (behind style begun way.events) (settle_calls style b x) last) ∙ ap (λ cs. cs ++ last) calls_more) all.done,
+            subst (λ cs. IsDone (record { calls = cs; end = Some f }) code all.made)
+                (sym (append_assoc (behind style begun way.events) (settle_calls style b x) last)
+                ∙ ap (λ cs. cs ++ last) calls_more)
+                all.done,
           );
           wrote = all.wrote;
         }
@@ -233,15 +254,24 @@ module _ (style : Style) (c : CircuitView) (first : List ℕ) (l : Kept) {S : Ty
         let f : Fault = fault.Script blame.place (cause.Model blame.cause) in
         let none : Settle = hour_settle c hour k [] (failed f) k.at in
         let nothing : settle_calls style b none ≡ [] = no_calls style b none (silent none) (unshown none f refl refl) in
-        way_failed hour left k now b t way none (kept_by k (hour_begun c hour k))
-        (record { rounds = []; ending = stopped (range blame); machine = hour_begun c hour k; computed = (here, refl); end = failed f; end_is = refl; settle_is = refl; kept = refl })
-        (record {
+        way_failed hour left k now b t way none (kept_by k (hour_begun c hour k)) (record {
+          rounds = [];
+          ending = stopped (range blame);
+          machine = hour_begun c hour k;
+          computed = (here, refl);
+          end = failed f;
+          end_is = refl;
+          settle_is = refl;
+          kept = refl;
+        }) (record {
           solutions = tt;
           alike = tt;
           steady = unsampled c hour k f;
           numbers = record { number = number; hour = omega (arith, within); few = omega arith; acts = tt };
-        }) f refl new code
-        (subst (λ cs. Printed taken calls now new (record { calls = cs ++ writes (fault_text f) ∷ []; end = Some f }) code) (sym nothing) printed)
+        }) f refl new code (subst (λ cs. Printed taken calls now new (record {
+          calls = cs ++ writes (fault_text f) ∷ [];
+          end = Some f;
+        }) code) (sym nothing) printed)
 
   -- the network of the first of the hours that are left is out of range
   pub way_range : ((s : Settle) → style.asked_in (settle s) ≡ [])
@@ -262,7 +292,8 @@ module _ (style : Style) (c : CircuitView) (first : List ℕ) (l : Kept) {S : Ty
       record {
         on = record {
           events = way.events;
-          right = subst (λ events. IsFirst (goes events (standing c k.at k.settled))) (append-nil way.events) (way.leads last (subst (λ hours. IsHoursStep c hours k last) (sym none) refl));
+          right = subst (λ events. IsFirst (goes events (standing c k.at k.settled))) (append-nil way.events)
+              (way.leads last (subst (λ hours. IsHoursStep c hours k last) (sym none) refl));
           all_good = way.all_good;
           wrote = way.wrote;
           begun_is = way.begun_is;
@@ -274,7 +305,9 @@ module _ (style : Style) (c : CircuitView) (first : List ℕ) (l : Kept) {S : Ty
 
 pub made_as : (c : CircuitView) (hour h : ℕ) (l : Kept) (rounds rs : List Made) (f : Option Failure) (k : Kept)
     → hour ≡ h → rs ≡ rounds → IsMadeHour c hour l rounds f k → IsMadeHour c h l rs f k
-made_as c hour h l rounds rs f k same_hour same made = subst (λ (x : List Made). IsMadeHour c h l x f k) (sym same) (subst (λ (n : ℕ). IsMadeHour c n l rounds f k) same_hour made)
+made_as c hour h l rounds rs f k same_hour same made =
+    subst (λ (x : List Made). IsMadeHour c h l x f k) (sym same)
+    (subst (λ (n : ℕ). IsMadeHour c n l rounds f k) same_hour made)
 
 -- the hours of a Solve are its step
 pub first_step : (s : StandingView) (step : Step StandingView)
@@ -291,4 +324,5 @@ solution_step c before n at day start opened left step h =
     ap (λ (p : Positions). (let k : Kept = record { at = p; opened = day.opened; settled = n } in k)) start
     ∙ ap (λ (o : List (Option ℕ)). (let k : Kept = record { at = start_from c before; opened = o; settled = n } in k)) opened in
     first_step (standing c before n) step
-    (subst (λ (hs : List ℕ). IsHoursStep c hs (kept_first (standing c before n)) step) left (subst (λ (l : Kept). IsHoursStep c (hours_left day) l step) kept h))
+    (subst (λ (hs : List ℕ). IsHoursStep c hs (kept_first (standing c before n)) step) left
+    (subst (λ (l : Kept). IsHoursStep c (hours_left day) l step) kept h))

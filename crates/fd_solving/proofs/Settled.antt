@@ -79,20 +79,27 @@ module _ (c : CircuitView) (hour : ℕ) where
       → All (λ r. IsOfSize (size_of (layout_of c.elements)) (solution_in r)) (rounds_in rs)
   all_of_size m [] sound = All-nil (λ r. IsOfSize (size_of (layout_of c.elements)) (solution_in r))
   all_of_size m (r ∷ rs) sound =
-      All-cons (λ r. IsOfSize (size_of (layout_of c.elements)) (solution_in r)) (round_in r) (rounds_in rs) (is_of_size c hour m.at (claim_in r.certified) sound.0 (map seen r.acts.items)) (all_of_size (after_round (plant_at c hour) m (claim_in r.certified)) rs sound.1)
+      All-cons (λ r. IsOfSize (size_of (layout_of c.elements)) (solution_in r)) (round_in r) (rounds_in rs)
+      (is_of_size c hour m.at (claim_in r.certified) sound.0 (map seen r.acts.items))
+      (all_of_size (after_round (plant_at c hour) m (claim_in r.certified)) rs sound.1)
 
   all_claims : (m : Machine) (rs : List Made)
       → AtEach (IsSoundAt c (hour_powers c.elements hour)) (plant_at c hour) m (claims_in rs)
       → All (IsRoundOf (size_of (layout_of c.elements))) rs
   all_claims m [] sound = All-nil (IsRoundOf (size_of (layout_of c.elements)))
   all_claims m (r ∷ rs) sound =
-      All-cons (IsRoundOf (size_of (layout_of c.elements))) r rs (sound_claim c hour m.at (claim_in r.certified) sound.0) (all_claims (after_round (plant_at c hour) m (claim_in r.certified)) rs sound.1)
+      All-cons (IsRoundOf (size_of (layout_of c.elements))) r rs
+      (sound_claim c hour m.at (claim_in r.certified) sound.0)
+      (all_claims (after_round (plant_at c hour) m (claim_in r.certified)) rs sound.1)
 
   behind : (o : Outcome) (acts : List Act) (rs : List Made) (ending : Ending) (n : Machine)
-      → Follows o acts (computed_in rs) ending n (λ k. IsComputedFrom (limits_of c.options) (plant_at c hour) k (computed_in rs) ending n) →
-      AtEach (IsSoundAt c (hour_powers c.elements hour)) (plant_at c hour) (left_by o) (claims_in rs) →
-      ((k : Machine) → IsComputedFrom (limits_of c.options) (plant_at c hour) k (computed_in rs) ending n → AtEach (IsSoundAt c (hour_powers c.elements hour)) (plant_at c hour) k (claims_in rs) → AtEach (IsSolution c hour) (plant_at c hour) k (claims_in rs)) →
-      AtEach (IsSolution c hour) (plant_at c hour) (left_by o) (claims_in rs)
+      → Follows o acts (computed_in rs) ending n (λ k.
+      IsComputedFrom (limits_of c.options) (plant_at c hour) k (computed_in rs) ending n)
+      → AtEach (IsSoundAt c (hour_powers c.elements hour)) (plant_at c hour) (left_by o) (claims_in rs)
+      → ((k : Machine) → IsComputedFrom (limits_of c.options) (plant_at c hour) k (computed_in rs) ending n
+      → AtEach (IsSoundAt c (hour_powers c.elements hour)) (plant_at c hour) k (claims_in rs)
+      → AtEach (IsSolution c hour) (plant_at c hour) k (claims_in rs))
+      → AtEach (IsSolution c hour) (plant_at c hour) (left_by o) (claims_in rs)
   behind (Moves made k) acts rs ending n h sound go = go k h.1 sound
   behind (Ends end k) acts [] ending n h sound go = tt
   behind (Ends end k) acts (r ∷ rs) ending n h sound go = absurd (let none = h.1.0 in cc)
@@ -103,7 +110,8 @@ module _ (c : CircuitView) (hour : ℕ) where
   solutions law tie ball m [] ending n h sound = tt
   solutions law tie ball m (r ∷ rs) ending n h sound = (
     is_solution c hour m.at (claim_in r.certified) sound.0 h.1.0 law tie ball,
-    behind (outcome_of (setup_of c) m ((plant_at c hour).look m.at (claim_in r.certified))) (map seen r.acts.items) rs ending n h.1.1 sound.1 (λ k later s. solutions law tie ball k rs ending n later s),
+    behind (outcome_of (setup_of c) m ((plant_at c hour).look m.at (claim_in r.certified))) (map seen r.acts.items) rs
+        ending n h.1.1 sound.1 (λ k later s. solutions law tie ball k rs ending n later s),
   )
 
 -- ---- what a fault tells
@@ -146,9 +154,12 @@ placed : (limits : Limits) (v : NetworkView) (f : ComputeFault) → ComputeGives
 placed limits v (compute.Solve f) h = h.1
 placed limits v (compute.Cert f) h = h.1
 
-pub within : {V : Type 0} (limits : Limits) (c : CircuitView) (powers : List LoadPower) (v : V) (m : Machine) (rs : List Made) (e : SettleFault ComputeFault) (w : V) (l : LayoutView)
-    → l ≡ layout_of c.elements →
-    CallsAs {V = V} {T = Unit {0}} (λ u net answer x. ComputeGives limits net answer) (plant_of c powers) v m rs (Err e) w → IsWithin (size_of l) e
+pub within : {V : Type 0} (limits : Limits) (c : CircuitView) (powers : List LoadPower) (v : V) (m : Machine)
+    (rs : List Made) (e : SettleFault ComputeFault) (w : V) (l : LayoutView)
+    → l ≡ layout_of c.elements
+    → CallsAs {V = V} {T = Unit {0}} (λ u net answer x. ComputeGives limits net answer) (plant_of c powers) v m rs
+    (Err e) w
+    → IsWithin (size_of l) e
 within limits c powers v m rs (fault.Range blame) w l is h = tt
 within limits c powers v m rs (fault.Solver f) w l is h =
     let at = (settled (plant_of c powers) m rs).machine.at in
@@ -165,7 +176,9 @@ pub record IsMade (c : CircuitView) (powers : List LoadPower) (m : Machine) (rs 
   pub at_is : k.at ≡ (settled (plant_of c powers) m rs).machine.at
   pub opened_is : k.opened ≡ (settled (plant_of c powers) m rs).machine.opened
   pub ends : EndsAs (plant_of c powers) result (settled (plant_of c powers) m rs).end (settled (plant_of c powers) m rs).machine
-  pub computed : EndsSo result (λ ending. IsComputedFrom (limits_of c.options) (plant_of c powers) m (computed_in rs) ending (settled (plant_of c powers) m rs).machine)
+  pub computed : EndsSo result (λ ending.
+      IsComputedFrom (limits_of c.options) (plant_of c powers) m (computed_in rs) ending
+      (settled (plant_of c powers) m rs).machine)
   pub sound : AtEach (IsSoundAt c powers) (plant_of c powers) m (claims_in rs)
   pub positions : ArePositions c powers k.at
   pub tried : IsTriedBy (limits_of c.options) (plant_of c powers) result (settled (plant_of c powers) m rs).machine
@@ -184,7 +197,9 @@ numbers_of (r ∷ rs) = (act_numbers r.acts.items, numbers_of rs)
 
 -- ---- the settle of an hour
 
-module _ (c : CircuitView) (hour : ℕ) (l : Kept) (rs : List Made) (k : Kept) (ready : HasPassed c) (range : AllInRange c.elements) (keys : All IsEntry c.elements) (law : EnclosureLaw) (tie : TieLaw) (ball : BallLaw) (most : c.options.maxcontroliter ≤ 100) (count : k.settled ≡ l.settled + 1)
+module _ (c : CircuitView) (hour : ℕ) (l : Kept) (rs : List Made) (k : Kept) (ready : HasPassed c)
+    (range : AllInRange c.elements) (keys : All IsEntry c.elements) (law : EnclosureLaw) (tie : TieLaw)
+    (ball : BallLaw) (most : c.options.maxcontroliter ≤ 100) (count : k.settled ≡ l.settled + 1)
     (number : l.settled + 1 < 2 ^ 32) (most_hour : hour ≤ 8760) where
   abbrev first : Machine
   first = hour_begun c hour l
@@ -200,7 +215,8 @@ module _ (c : CircuitView) (hour : ℕ) (l : Kept) (rs : List Made) (k : Kept) (
 
   few : (ending : Ending) → EndsHere ending → length rs < 2 ^ 32
   few ending computed =
-      let within : length (computed_in rs) + first.made ≤ c.options.maxcontroliter + 1 = few_rounds (limits_of c.options) (plant_at c hour) first (computed_in rs) ending last (omega arith) computed in
+      let within : length (computed_in rs) + first.made ≤ c.options.maxcontroliter + 1 =
+      few_rounds (limits_of c.options) (plant_at c hour) first (computed_in rs) ending last (omega arith) computed in
       let as_computed : Made → Claim × List Act = λ r. (claim_in r.certified, map seen r.acts.items) in
       omega (arith, within, most, length-map rs as_computed)
 
@@ -225,8 +241,10 @@ module _ (c : CircuitView) (hour : ℕ) (l : Kept) (rs : List Made) (k : Kept) (
   solved : (result : Result (Unit {0}) (SettleFault ComputeFault)) (ending : Ending) (end : SettleEnd) → MadeHere result
       → EndsHere ending → IsSolved (settle_made c hour l rs end k.at)
   solved result ending end made computed = record {
-    solutions = subst (λ (ys : List Claim). AtEach (IsSolution c hour) (plant_at c hour) first ys) (sym (same_claims rs)) (solutions c hour law tie ball first rs ending last computed made.sound);
-    alike = subst (λ (ys : List Claim). AtEach (DecidesAlike c hour) (plant_at c hour) first ys) (sym (same_claims rs)) (each_alike c hour ready range keys law first (claims_in rs) made.sound);
+    solutions = subst (λ (ys : List Claim). AtEach (IsSolution c hour) (plant_at c hour) first ys)
+        (sym (same_claims rs)) (solutions c hour law tie ball first rs ending last computed made.sound);
+    alike = subst (λ (ys : List Claim). AtEach (DecidesAlike c hour) (plant_at c hour) first ys)
+        (sym (same_claims rs)) (each_alike c hour ready range keys law first (claims_in rs) made.sound);
     steady = λ xs chosen. steady c hour ready range keys law first (claims_in rs) xs made.sound
         (subst (λ (ys : List Claim). AreChosen (setup_of c) (IsOtherState c hour) (look_over (controls_in c)) first ys xs) (same_claims rs) chosen)
         ∙ ap (λ (acts : List (List Act)). take (length xs) acts) (sym made.acts ∙ sym (same_acts rs));
@@ -248,7 +266,8 @@ module _ (c : CircuitView) (hour : ℕ) (l : Kept) (rs : List Made) (k : Kept) (
     computed = computed;
     end = end;
     end_is = is;
-    settle_is = ap (λ (x : List Round). hour_settle c hour l x end k.at) (sym (same_rounds rs)) ∙ ap (λ (at : Positions). hour_settle c hour l (rounds_of (computed_in rs)) end at) made.at_is;
+    settle_is = ap (λ (x : List Round). hour_settle c hour l x end k.at) (sym (same_rounds rs))
+        ∙ ap (λ (at : Positions). hour_settle c hour l (rounds_of (computed_in rs)) end at) made.at_is;
     kept = same_kept last made.at_is made.opened_is;
   }
 
@@ -283,7 +302,9 @@ module _ (c : CircuitView) (hour : ℕ) (l : Kept) (rs : List Made) (k : Kept) (
         }
 
     pub ended_by_fault : TellsOf c hour e x → IsMadeHour c hour l rs (Some x) k
-    ended_by_fault told = ended_so (ending_of e) refl (told last (counted (plant_at c hour) e (settled (plant_at c hour) first rs).end last made.ends) tried_here)
+    ended_by_fault told =
+        ended_so (ending_of e) refl
+        (told last (counted (plant_at c hour) e (settled (plant_at c hour) first rs).end last made.ends) tried_here)
 
 -- ---- the fault of a failure
 

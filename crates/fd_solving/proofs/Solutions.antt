@@ -70,11 +70,17 @@ module _ (c : CircuitView) (hour : ℕ) (at : Positions) (m : Claim)
   up : (e : ℕ → ℕ) (y : State) → 0 < y.over
       → Meets (residual_of (hour_network c hour at).stamp) e (hour_network c hour at).size y
       → Meets (equations_of c hour at) e (equation_count c hour at) y
-  up e y h meets = let P : ℕ → Type 0 = λ n. Meets (equations_of c hour at) e n y in subst P (network_size c (hour_powers c.elements hour) at) (here.agrees.up e (hour_network c hour at).size y h meets)
+  up e y h meets =
+      let P : ℕ → Type 0 = λ n. Meets (equations_of c hour at) e n y in
+      subst P (network_size c (hour_powers c.elements hour) at)
+      (here.agrees.up e (hour_network c hour at).size y h meets)
 
   down : (e : ℕ → ℕ) (y : State) → 0 < y.over → Meets (equations_of c hour at) e (equation_count c hour at) y
       → Meets (residual_of (hour_network c hour at).stamp) e (hour_network c hour at).size y
-  down e y h meets = let P : ℕ → Type 0 = λ n. Meets (equations_of c hour at) e n y in here.agrees.down e (hour_network c hour at).size y h (subst P (sym (network_size c (hour_powers c.elements hour) at)) meets)
+  down e y h meets =
+      let P : ℕ → Type 0 = λ n. Meets (equations_of c hour at) e n y in
+      here.agrees.down e (hour_network c hour at).size y h
+      (subst P (sym (network_size c (hour_powers c.elements hour) at)) meets)
 
   enclosed : EnclosureLaw → IsEnclosure (hour_network c hour at) m
   enclosed law = law (hour_network c hour at) m here.network here.sound
@@ -94,7 +100,9 @@ module _ (c : CircuitView) (hour : ℕ) (at : Positions) (m : Claim)
         radii = here.sound.radii_long;
         boxes = ap length here.sound.boxes ∙ length-map-range_with_len (half_width (hour_network c hour at) m.centre) 0 (hour_network c hour at).size;
         mismatches = here.sound.mismatches_long;
-        parts_small = λ i h. part_size (part m.centre i) (All-get_or IsPart m.centre i (pos 0) (subst (λ n. i < n) (sym here.sound.centre.long) h) here.sound.centre.parts);
+        parts_small = λ i h.
+            part_size (part m.centre i) (All-get_or IsPart m.centre i (pos 0)
+            (subst (λ n. i < n) (sym here.sound.centre.long) h) here.sound.centre.parts);
         radii_small = here.sound.radii_most;
       })
 
@@ -105,28 +113,40 @@ module _ (c : CircuitView) (hour : ℕ) (at : Positions) (m : Claim)
     own_mismatch : (l : ℕ) → l < (hour_network c hour at).size
         → number_at m.mismatches l ≡ mismatch_at (hour_network c hour at) m.centre l
     unfolding mismatches_of
-    own_mismatch l h = ap (λ k. number_at k.mismatches l) what ∙ get_or-map-range_with_len (mismatch_at (hour_network c hour at) m.centre) 0 (hour_network c hour at).size l l 0 h (omega arith)
+    own_mismatch l h =
+        ap (λ k. number_at k.mismatches l) what
+        ∙ get_or-map-range_with_len (mismatch_at (hour_network c hour at) m.centre) 0 (hour_network c hour at).size l
+        l 0 h (omega arith)
 
     own_radius : (i : ℕ) → i < (hour_network c hour at).size
         → number_at m.radii i ≡ radius_in (hour_network c hour at) m.centre m.inverse (mismatches_of (hour_network c hour at) m.centre) i
     unfolding radii_of
     own_radius i h =
         ap (λ k. number_at k.radii i) what
-        ∙ get_or-map-range_with_len (radius_in (hour_network c hour at) m.centre m.inverse (mismatches_of (hour_network c hour at) m.centre)) 0 (hour_network c hour at).size i i 0 h (omega arith)
+        ∙ get_or-map-range_with_len (radius_in (hour_network c hour at) m.centre m.inverse
+        (mismatches_of (hour_network c hour at) m.centre))
+        0 (hour_network c hour at).size i i 0 h (omega arith)
 
     row_tied : TieLaw → (l : ℕ) → l < equation_count c hour at
         → IsTied (equations_of c hour at (whole_state m.centre) l) (addend_count (hour_network c hour at).stamp l) (number_at m.mismatches l)
     row_tied tie l h =
         let within : l < (hour_network c hour at).size = omega (arith, h, network_size c (hour_powers c.elements hour) at) in
-        let tied : IsTied (equations_of c hour at (whole_state m.centre) l) (addend_count (hour_network c hour at).stamp l) (mismatch_at (hour_network c hour at) m.centre l) =
-        tied_same (here.agrees.same (whole_state m.centre) (omega arith) l) (addend_count (hour_network c hour at).stamp l) (mismatch_at (hour_network c hour at) m.centre l) (tie (hour_network c hour at) m.centre l here.network here.sound.centre within) in
-        subst (λ e. IsTied (equations_of c hour at (whole_state m.centre) l) (addend_count (hour_network c hour at).stamp l) e) (sym (own_mismatch l within)) tied
+        let tied : IsTied (equations_of c hour at (whole_state m.centre) l)
+        (addend_count (hour_network c hour at).stamp l) (mismatch_at (hour_network c hour at) m.centre l) =
+        tied_same (here.agrees.same (whole_state m.centre) (omega arith) l)
+        (addend_count (hour_network c hour at).stamp l) (mismatch_at (hour_network c hour at) m.centre l)
+        (tie (hour_network c hour at) m.centre l here.network here.sound.centre within) in
+        subst (λ e.
+        IsTied (equations_of c hour at (whole_state m.centre) l) (addend_count (hour_network c hour at).stamp l) e)
+        (sym (own_mismatch l within)) tied
 
     pair : BallLaw → (k : ℕ) → k < complex_count (layout_of c.elements)
         → number_at m.radii (2 * k) ≡ number_at m.radii (2 * k + 1)
     pair ball k h =
         let inside : k < (hour_network c hour at).complexes = omega (arith, h, network_complexes c (hour_powers c.elements hour) at) in
-        own_radius (2 * k) (omega (arith, inside, here.network.unknowns)) ∙ (ball (hour_network c hour at) m.centre m.inverse (mismatches_of (hour_network c hour at) m.centre) k here.network.nodes inside).radius
+        own_radius (2 * k) (omega (arith, inside, here.network.unknowns))
+        ∙ (ball (hour_network c hour at) m.centre m.inverse (mismatches_of (hour_network c hour at) m.centre) k
+        here.network.nodes inside).radius
         ∙ sym (own_radius (2 * k + 1) (omega (arith, inside, here.network.unknowns)))
 
     sizes_of_others : EnclosureLaw → EnclosesSizes c hour at m

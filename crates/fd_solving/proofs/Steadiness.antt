@@ -47,7 +47,10 @@ after_first d e (Unclear k u) ds es first rest is = absurd (cc)
 decided_each : (k : ℕ) (ps : List Probe) (f : Probe → Result Decision Undecided) (g : Probe → Decision) (ds : List Decision)
     → All (λ p. (d : Decision) → f p ≡ Ok d → g p ≡ d) ps → sampling_of k (map f ps) ≡ Decided ds → map g ps ≡ ds
 decided_each k [] f g ds each is = cc
-decided_each k (p ∷ ps) f g ds each is = cases (λ fs rest. decided_each (k + 1) ps f g fs (All-tail (λ q. (d : Decision) → f q ≡ Ok d → g q ≡ d) p ps each) rest) (f p) refl is
+decided_each k (p ∷ ps) f g ds each is =
+    cases (λ fs rest.
+    decided_each (k + 1) ps f g fs (All-tail (λ q. (d : Decision) → f q ≡ Ok d → g q ≡ d) p ps each) rest)
+    (f p) refl is
   where
     W : Probe → Type 0
     W = λ q. (d : Decision) → f q ≡ Ok d → g q ≡ d
@@ -111,13 +114,17 @@ module _ (c : CircuitView) (hour : ℕ) where
         let kept = probes_kept c ready range keys in
         let long : length m.centre ≡ size_of (layout_of c.elements) = h.1.sound.centre.long ∙ network_size c (hour_powers c.elements hour) at in
         let q = get_or (probes_of c.elements) i p in
-        sample_wanted q at m.centre m.radii x d (subst (λ n. IsProbe n q) (sym long) (kept.places i p lt)) (kept.devices at h.1.positions.counts.taps h.1.positions.counts.closed i p lt) h.1.positions.taps
+        sample_wanted q at m.centre m.radii x d (subst (λ n. IsProbe n q) (sym long) (kept.places i p lt))
+        (kept.devices at h.1.positions.counts.taps h.1.positions.counts.closed i p lt) h.1.positions.taps
         (ball_of at m h.1) (in_ball law at m x h) is
 
     of_held : AreOfHeld IsHeld (look_over (controls_in c)) (look_at (controls_in c))
     of_held at m x ds h is =
-        ap Decided (decided_each 0 (controls_in c) (λ p. sample_over p at m.centre m.radii) (λ p. decision_at p at (quantity_at p at x)) ds
-        (part_taken c.options.controlmode (λ p. (d : Decision) → sample_over p at m.centre m.radii ≡ Ok d → decision_at p at (quantity_at p at x) ≡ d) (probes_of c.elements) (wanted at m x h)) is)
+        ap Decided (decided_each 0 (controls_in c) (λ p. sample_over p at m.centre m.radii)
+        (λ p. decision_at p at (quantity_at p at x)) ds (part_taken c.options.controlmode (λ p.
+        (d : Decision) → sample_over p at m.centre m.radii ≡ Ok d → decision_at p at (quantity_at p at x) ≡ d)
+        (probes_of c.elements) (wanted at m x h))
+        is)
 
     pub alike : (at : Positions) (m : Claim) → IsSoundAt c (hour_powers c.elements hour) at m → DecidesAlike c hour at m
     alike at m here x ds other is = of_held at m x ds (other, here) is
@@ -132,4 +139,7 @@ module _ (c : CircuitView) (hour : ℕ) where
         → AtEach (IsSoundAt c (hour_powers c.elements hour)) (plant_of c (hour_powers c.elements hour)) m ys
         → chosen_by (IsOtherState c hour) m ys xs →
         (settle_of (setup_of c) (look_at (controls_in c)) m xs).rounds ≡ take (length xs) (settle_of (setup_of c) (look_over (controls_in c)) m ys).rounds
-    steady m ys xs sound h = history IsHeld (look_over (controls_in c)) (look_at (controls_in c)) of_held (setup_of c) m ys xs (both (plant_of c (hour_powers c.elements hour)) (IsOtherState c hour) (IsSoundAt c (hour_powers c.elements hour)) m ys xs sound h)
+    steady m ys xs sound h =
+        history IsHeld (look_over (controls_in c)) (look_at (controls_in c)) of_held (setup_of c) m ys xs
+        (both (plant_of c (hour_powers c.elements hour)) (IsOtherState c hour)
+        (IsSoundAt c (hour_powers c.elements hour)) m ys xs sound h)

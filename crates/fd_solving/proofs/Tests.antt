@@ -58,7 +58,9 @@ not_fed : (elements : Elements) (e : ElementName × Element) → IsFed elements 
 not_fed elements e fed isolated = isolated.is_not_fed (All-contains (Fed elements) (mentions e.1) isolated.node fed isolated.is_mentioned)
 
 none_isolated : (elements : Elements) (place : ℕ) → FirstIsolated elements None → IsFirstIsolated elements place → ⊥
-none_isolated elements place fed first = not_fed elements first.element (all_at (IsFed elements) elements place first.element fed first.at_place) first.is_isolated
+none_isolated elements place fed first =
+    not_fed elements first.element (all_at (IsFed elements) elements place first.element fed first.at_place)
+    first.is_isolated
 
 isolated_later : (elements : Elements) (i k : ℕ) → IsFirstIsolated elements i → IsFirstIsolated elements k → i < k → ⊥
 isolated_later elements i k a b lt = not_fed elements a.element (all_before (IsFed elements) elements i k a.element b.before a.at_place lt) a.is_isolated
@@ -91,7 +93,9 @@ module _ (circuit : CircuitView) where
   blame_once a b (for_many x p h m e) (for_isolated y q k n i g) = let f : Some p ≡ None = sym m ∙ n in cc f
   blame_once a b (for_isolated x p h m i e) (for_own y k) = absurd (own_and_none (own_blame circuit) tt y h k)
   blame_once a b (for_isolated x p h m i e) (for_many y q k n g) = let f : Some q ≡ None = sym n ∙ m in cc f
-  blame_once a b (for_isolated x p h m i e) (for_isolated y q k n j g) = same_blame _ _ x y (ap (λ l. blame_at fault.IsolatedNode circuit.elements l) (isolated_once circuit.elements p q i j)) e g
+  blame_once a b (for_isolated x p h m i e) (for_isolated y q k n j g) =
+      same_blame _ _ x y
+      (ap (λ l. blame_at fault.IsolatedNode circuit.elements l) (isolated_once circuit.elements p q i j)) e g
 
   ready_or_blame : (a : Blame) → HasPassed circuit → IsToBlame circuit a → ⊥
   ready_or_blame a ready (for_own x h) = own_and_none (own_blame circuit) tt x ready.no_own h
@@ -130,7 +134,9 @@ module _ (elements : Elements) where
     place = Some k;
     right = first_isolated_at elements k name e (nodes_of elements) (labels_of (nodes_of elements) elements) true here refl refl test refl fed;
   }
-  search_at k name e false here test fed go = go (fed_up_to elements k name e (nodes_of elements) (labels_of (nodes_of elements) elements) false here refl refl test refl fed)
+  search_at k name e false here test fed go =
+      go (fed_up_to elements k name e (nodes_of elements) (labels_of (nodes_of elements) elements) false here refl
+      refl test refl fed)
 
   -- the search goes on with so many elements, where those before them are fed
   search_from : (n k : ℕ) → n + k ≡ length elements → All (IsFed elements) (take k elements) → IsSearched elements
@@ -189,11 +195,13 @@ one_end c hour (ended (Undecidable k u)) n told = exactly_this (failed (undecide
 one_end c hour (stopped (range blame)) n told = exactly_this (failed (run.Script blame.place (cause.Model blame.cause)))
 one_end c hour (stopped (procedure (solving.NoInverse column stop))) n told = exactly_this (failed (run.NoInverse (unknown_of c column) stop))
 one_end c hour (stopped (procedure (solving.OutOfRange place k))) n told = exactly_this (failed (run.OutOfRange (unknown_of c place) k))
-one_end c hour (stopped (procedure (solving.NotConverged place steps update))) n told = exactly_this (failed (run.NotConverged (unknown_of c place) steps update))
+one_end c hour (stopped (procedure (solving.NotConverged place steps update))) n told =
+    exactly_this (failed (run.NotConverged (unknown_of c place) steps update))
 one_end c hour (stopped (procedure solving.NoMemory)) n told = absurd told
 one_end c hour (stopped (uncertified (loose row mismatch))) n told = exactly_this (failed (run.Loose (unknown_of c row) mismatch))
 one_end c hour (stopped (uncertified (uncertain place bound))) n told =
-    exactly_this (without_certificate (tried_round ((plant_at c hour).network n.at) (limits_of c.options)) (run.NotCertified (unknown_of c place) (option_map nat_abs bound)))
+    exactly_this (without_certificate (tried_round ((plant_at c hour).network n.at) (limits_of c.options))
+    (run.NotCertified (unknown_of c place) (option_map nat_abs bound)))
 
 -- what comes behind a settle
 one_behind : (x : Settle) (end : SettleEnd) (rest : Step StandingView → Type 0) → ExactlyOne rest
@@ -209,7 +217,9 @@ one_behind x (without_certificate r f) rest one = exactly_this (ends (settle x �
 module _ (c : CircuitView) (hour : ℕ) (l : Kept)
     (one : HasOneComputation (limits_of c.options) (plant_at c hour) (hour_begun c hour l)) where
   abbrev only_end : ExactlyOne (IsEndBy c hour one.some.ending one.some.machine)
-  only_end = one_end c hour one.some.ending one.some.machine (is_told (limits_of c.options) (plant_at c hour) (hour_begun c hour l) one.some.rounds one.some.ending one.some.machine one.is)
+  only_end =
+      one_end c hour one.some.ending one.some.machine (is_told (limits_of c.options) (plant_at c hour)
+      (hour_begun c hour l) one.some.rounds one.some.ending one.some.machine one.is)
 
   abbrev only_settle : Settle
   only_settle = hour_settle c hour l (rounds_of one.some.rounds) only_end.some one.some.machine.at
@@ -262,7 +272,10 @@ module _ (c : CircuitView) (hour : ℕ) (l : Kept)
 -- the hours of a Solve come to exactly one thing
 pub one_hours : (c : CircuitView) (hours : List ℕ) (l : Kept) → ExactlyOne (IsHoursStep c hours l)
 one_hours c [] l = exactly_this (goes [] (standing c l.at l.settled))
-one_hours c (hour ∷ hours) l = one_hour c hour l (has_one_computation (limits_of c.options) (plant_at c hour) (hour_begun c hour l) (omega arith)) (λ k step. IsHoursStep c hours k step) (λ k. one_hours c hours k)
+one_hours c (hour ∷ hours) l =
+    one_hour c hour l
+    (has_one_computation (limits_of c.options) (plant_at c hour) (hour_begun c hour l) (omega arith))
+    (λ k step. IsHoursStep c hours k step) (λ k. one_hours c hours k)
 
 pub one_solution : (s : StandingView) → ExactlyOne (IsSolutionStep s)
 unfolding IsSolutionStep
@@ -284,7 +297,9 @@ one_of at n (solve_left circuit) =
     record {
       some = one.some;
       is = record { answer = tests.answer; right = tests.right; step_is = one.is };
-      only = λ step is. one.only step (subst (λ a. IsByTests (standing circuit at n) a step) (test_once circuit is.answer tests.answer is.right tests.right) is.step_is);
+      only = λ step is.
+          one.only step (subst (λ a. IsByTests (standing circuit at n) a step)
+          (test_once circuit is.answer tests.answer is.right tests.right) is.step_is);
     }
 
 pub one_step : (command : Command) (s : StandingView) → ExactlyOne (IsStep command s)

@@ -71,7 +71,8 @@ module _ (v : NetworkView) (x : List ℤ) (c : List (List ℤ)) (place : ℕ) (s
   unfolding first_loose
   tight_by none l h =
       let p : ℕ → Bool = λ k. nat_lt greatest_mismatch (mismatch_at v x k) in
-      ltb-false greatest_mismatch (mismatch_at v x l) (false_from_ne_true (p l) (λ t. let s : is_some (first_place p v.size) ≡ true = found p v.size l h t in let no : ⊥ = cc in no))
+      ltb-false greatest_mismatch (mismatch_at v x l) (false_from_ne_true (p l) (λ t.
+      let s : is_some (first_place p v.size) ≡ true = found p v.size l h t in let no : ⊥ = cc in no))
 
   own_mismatch : (l : ℕ) → l < v.size → number_at (mismatches_of v x) l ≡ mismatch_at v x l
   unfolding mismatches_of
@@ -126,8 +127,10 @@ tried_by_solver : (limits : Limits) (v : NetworkView) (f : ComputeFault) → Com
 tried_by_solver limits v (compute.Solve f) h = tt
 tried_by_solver limits v (compute.Cert f) h = h.0
 
-pub tried_by_calls : {V : Type 0} (limits : Limits) (p : Plant) (v : V) (m : Machine) (rs : List Made) (result : Result (Unit {0}) (SettleFault ComputeFault)) (w : V) →
-    CallsAs {V = V} {T = Unit {0}} (λ u net answer x. ComputeGives limits net answer) p v m rs result w → IsTriedBy limits p result (settled p m rs).machine
+pub tried_by_calls : {V : Type 0} (limits : Limits) (p : Plant) (v : V) (m : Machine) (rs : List Made)
+    (result : Result (Unit {0}) (SettleFault ComputeFault)) (w : V)
+    → CallsAs {V = V} {T = Unit {0}} (λ u net answer x. ComputeGives limits net answer) p v m rs result w
+    → IsTriedBy limits p result (settled p m rs).machine
 tried_by_calls limits p v m rs (Ok t) w h = tt
 tried_by_calls limits p v m rs (Err (fault.Solver f)) w h = tried_by_solver limits (p.network (settled p m rs).machine.at) f h.last
 tried_by_calls limits p v m rs (Err (fault.Range blame)) w h = tt
@@ -152,7 +155,8 @@ module _ (c : CircuitView) (hour : ℕ) where
   claims_by_solver at (compute.Solve f) h = tt
   claims_by_solver at (compute.Cert (cert.Loose row mismatch)) h = tt
   claims_by_solver at (compute.Cert (cert.NotCertified place sum tried)) h =
-      subst (λ n. IsClaimOf n (claim_in tried)) (network_size c (hour_powers c.elements hour) at) (claimed (limits_of c.options) (network_at c (hour_powers c.elements hour) at) place sum tried h)
+      subst (λ n. IsClaimOf n (claim_in tried)) (network_size c (hour_powers c.elements hour) at)
+      (claimed (limits_of c.options) (network_at c (hour_powers c.elements hour) at) place sum tried h)
   claims_by_solver at (compute.Cert cert.NoMemory) h = tt
 
   pub tried_claims : (e : SettleFault ComputeFault) (n : Machine) → IsTriedAt c hour e n

@@ -54,8 +54,12 @@ updated c step residual = followed (in_range (2 ^ 58) step residual) (λ r. Ok (
 
 step_told : (v : NetworkView) (c : List (List ℤ)) (n : ℕ) (x : List ℤ) → Told (stepped v c n x)
 unfolding stepped
-step_told v c n x = followed (update_for c n (rounded_residual_of v x)) (λ u. and_then (in_range (2 ^ 40) (n + 1) (moved x u)) (λ y. Ok (y, u)))
-    (updated c n (rounded_residual_of v x)) (λ u. followed (in_range (2 ^ 40) (n + 1) (moved x u)) (λ y. Ok (y, u)) (ranged (2 ^ 40) (n + 1) (moved x u)) (λ y. ok (y, u)))
+step_told v c n x =
+    followed (update_for c n (rounded_residual_of v x))
+    (λ u. and_then (in_range (2 ^ 40) (n + 1) (moved x u)) (λ y. Ok (y, u))) (updated c n (rounded_residual_of v x))
+    (λ u.
+    followed (in_range (2 ^ 40) (n + 1) (moved x u)) (λ y. Ok (y, u)) (ranged (2 ^ 40) (n + 1) (moved x u)) (λ y.
+    ok (y, u)))
 
 judged_told : (limits : Limits) (n : ℕ) (s : List ℤ × List ℤ) (place : Option ℕ) → Told (judged limits n s place)
 judged_told limits n s None is = cc is
@@ -69,7 +73,9 @@ judged_told limits n s (Some place) is = cases (nat_lt n limits.max_iterations) 
 next_told : (v : NetworkView) (limits : Limits) (c : List (List ℤ)) (n : ℕ) (x : List ℤ)
     → Told (next_iterate v limits c n x)
 unfolding next_iterate
-next_told v limits c n x = followed (stepped v c n x) (λ s. judged limits (n + 1) s (first_moving v limits s.0 s.1)) (step_told v c n x) (λ s. judged_told limits (n + 1) s (first_moving v limits s.0 s.1))
+next_told v limits c n x =
+    followed (stepped v c n x) (λ s. judged limits (n + 1) s (first_moving v limits s.0 s.1)) (step_told v c n x)
+    (λ s. judged_told limits (n + 1) s (first_moving v limits s.0 s.1))
 
 after_told : (v : NetworkView) (limits : Limits) (c : List (List ℤ)) (i : Iterate) → Told (after v limits c i)
 after_told v limits c i = cases i.is_last
@@ -85,16 +91,22 @@ iterated_told v limits c x (suc k) is = followed (iterated v limits c x k) (afte
 
 from_told : (v : NetworkView) (limits : Limits) (c : List (List ℤ)) (x : List ℤ) → Told (last_from v limits c x)
 unfolding last_from
-from_told v limits c x = followed (iterated v limits c x limits.max_iterations) (λ i. Ok (i.number, i.x)) (iterated_told v limits c x limits.max_iterations) (λ i. ok (i.number, i.x))
+from_told v limits c x =
+    followed (iterated v limits c x limits.max_iterations) (λ i. Ok (i.number, i.x))
+    (iterated_told v limits c x limits.max_iterations) (λ i. ok (i.number, i.x))
 
 start_told : (v : NetworkView) (c : List (List ℤ)) → Told (start_of v c)
 unfolding start_of
 start_told v c =
-    followed (update_for c 0 (constants_of v)) (λ x. in_range (2 ^ 40) 0 (fold with_nominal x v.stamp.loads)) (updated c 0 (constants_of v)) (λ x. ranged (2 ^ 40) 0 (fold with_nominal x v.stamp.loads))
+    followed (update_for c 0 (constants_of v)) (λ x. in_range (2 ^ 40) 0 (fold with_nominal x v.stamp.loads))
+    (updated c 0 (constants_of v)) (λ x. ranged (2 ^ 40) 0 (fold with_nominal x v.stamp.loads))
 
 last_told : (v : NetworkView) (limits : Limits) → Told (last_of v limits)
 unfolding last_of
-last_told v limits = followed (inverse_at (start_matrix_of v)) (λ c. and_then (start_of v c) (last_from v limits c)) (inverted (start_matrix_of v)) (λ c. followed (start_of v c) (last_from v limits c) (start_told v c) (λ x. from_told v limits c x))
+last_told v limits =
+    followed (inverse_at (start_matrix_of v)) (λ c. and_then (start_of v c) (last_from v limits c))
+    (inverted (start_matrix_of v)) (λ c.
+    followed (start_of v c) (last_from v limits c) (start_told v c) (λ x. from_told v limits c x))
 
 polished_told : (v : NetworkView) (n : ℕ) (x : List ℤ) (c : List (List ℤ)) → Told (polished v n x c)
 unfolding polished

@@ -117,7 +117,9 @@ long_made kind name begun key h = cases (pointwise nat_eq (bytes (lower kind)) (
     cases false e is = long_key kind name begun key is
 
 long_new : (kind name : List ℕ) (begun : Bool) (key : ElementName) → new_key kind name begun ≡ Ok key → 4 ≤ length kind
-long_new kind name begun key h = let t = through (written kind name) (λ done. made_key (bytes (lower kind)) name begun) key h in long_made kind name begun key t.next
+long_new kind name begun key h =
+    let t = through (written kind name) (λ done. made_key (bytes (lower kind)) name begun) key h in
+    long_made kind name begun key t.next
 
 -- ---- elements are as many, or one more
 
@@ -284,7 +286,9 @@ hour_leaves c now x (without_certificate r f) rest step go is h = absurd (left_b
 hours_leave : (c now : CircuitView) (hours : List ℕ) (l : Kept) (step : Step StandingView) → IsHoursStep c hours l step
     → Leaves step now → c ≡ now
 hours_leave c now [] l step is h = left_by now step _ is h
-hours_leave c now (hour ∷ hours) l step is h = hour_leaves c now is.made is.made.end (λ s. IsHoursStep c hours is.kept s) step (λ more right later. hours_leave c now hours is.kept more right later) is.goes_on h
+hours_leave c now (hour ∷ hours) l step is h =
+    hour_leaves c now is.made is.made.end (λ s. IsHoursStep c hours is.kept s) step
+    (λ more right later. hours_leave c now hours is.kept more right later) is.goes_on h
 
 solution_leaves : (s : StandingView) (now : CircuitView) (step : Step StandingView) → IsSolutionStep s step
     → Leaves step now → s.circuit ≡ now
@@ -301,10 +305,12 @@ step_reaches : (at : Positions) (n : ℕ) (left : Applied) (step : Step Standing
 step_reaches at n (nothing_left circuit) step now is leaves = inl (ap nothing_left (left_by now step (changes (standing circuit at n)) is leaves))
 step_reaches at n (refused_at place c) step now is leaves = absurd (left_by now step (refuses place c) is leaves)
 step_reaches at n (solve_left circuit) step now is leaves = inr (inl (ap solve_left (tests_leave (standing circuit at n) now is.answer step is.step_is leaves)))
-step_reaches at n (bases_left circuit) step now is leaves = inr (inr (ap bases_left (left_by now step (goes (base_events circuit) (standing circuit at n)) is leaves)))
+step_reaches at n (bases_left circuit) step now is leaves =
+    inr (inr (ap bases_left (left_by now step (goes (base_events circuit) (standing circuit at n)) is leaves)))
 
 pub command_takes : (command : Command) (s now : StandingView) (events : List Event)
     → IsStep command s (goes events now) → weight now.circuit ≤ weight s.circuit + cost command.verb
 command_takes command s now events is =
     (verb_takes command.place command.verb s.circuit now.circuit
-    (left_reaches command.place command.verb (applied command s.circuit) now.circuit (step_reaches s.at s.settled (tried command s.circuit) (goes events now) now.circuit is refl))).room
+    (left_reaches command.place command.verb (applied command s.circuit) now.circuit
+    (step_reaches s.at s.settled (tried command s.circuit) (goes events now) now.circuit is refl))).room

@@ -61,7 +61,9 @@ abbrev pub IsAnswerOf : Positions → ℕ → Applied → CircuitView → Answer
 IsAnswerOf at settled left c answer.Done = IsStepOf at settled left (changes (standing c at settled))
 IsAnswerOf at settled left c answer.Bases = IsStepOf at settled left (goes (base_events c) (standing c at settled))
 IsAnswerOf at settled left c (answer.Refuses f) = IsStepOf at settled left (ends [] f) × IsOfCommand f
-IsAnswerOf at settled left c answer.Solves = HasPassed c × ((step : Step StandingView) → IsSolutionStep (standing c at settled) step → IsStepOf at settled left step)
+IsAnswerOf at settled left c answer.Solves =
+    HasPassed c
+    × ((step : Step StandingView) → IsSolutionStep (standing c at settled) step → IsStepOf at settled left step)
 
 -- how many Solves a command counts, and an answer to it
 abbrev pub solve_count : Verb → ℕ

@@ -48,5 +48,7 @@ machine_before c l = started c l.at 0 l.opened
 
 -- the first settles of a Solve, as far as a run came, where each is solved
 abbrev pub DaysLaw : Type 0
-DaysLaw = (s : StandingView) (step : Step StandingView) (front rest : List Event) → IsSolutionStep s step → events_in step ≡ front ++ rest → AllSettles IsSolved front →
-    AreSteady s.circuit (hours_of s.circuit.options) (machine_before s.circuit (kept_first s)) (settles_in front)
+DaysLaw =
+    (s : StandingView) (step : Step StandingView) (front rest : List Event) → IsSolutionStep s step
+    → events_in step ≡ front ++ rest → AllSettles IsSolved front
+    → AreSteady s.circuit (hours_of s.circuit.options) (machine_before s.circuit (kept_first s)) (settles_in front)

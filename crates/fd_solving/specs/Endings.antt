@@ -78,7 +78,9 @@ TellsOf c hour e x = (n : Machine) → IsCounted e n → IsTriedAt c hour e n �
 
 -- the same of a fault of the solver
 abbrev pub TellsOfSolver : CircuitView → ℕ → ComputeFault → Failure → Type 0
-TellsOfSolver c hour e x = (n : Machine) → IsTried (limits_of c.options) ((plant_at c hour).network n.at) e → IsEnding (ending_by_solver e) (IsFailureAt c hour n x)
+TellsOfSolver c hour e x =
+    (n : Machine) → IsTried (limits_of c.options) ((plant_at c hour).network n.at) e
+    → IsEnding (ending_by_solver e) (IsFailureAt c hour n x)
 
 -- the same of a fault of the procedure, which tells no state
 abbrev pub TellsOfPoint : CircuitView → ℕ → SolveFault → Fault → Type 0

@@ -66,11 +66,15 @@ module _ (circuit : CircuitView) (hour : ℕ) (at : Positions) where
 
   -- the size of each voltage and of each current at each of them is from low to high; a node's record prints them
   abbrev pub EnclosesSizes : Claim → Type 0
-  EnclosesSizes m = (x : State) (k : ℕ) → IsOtherState m x → k < complex_count (layout_of circuit.elements) → IsSizeBetween (printed.solution_of m.centre m.radii m.boxes m.mismatches) x k
+  EnclosesSizes m =
+      (x : State) (k : ℕ) → IsOtherState m x → k < complex_count (layout_of circuit.elements)
+      → IsSizeBetween (printed.solution_of m.centre m.radii m.boxes m.mismatches) x k
 
   -- what is decided over the ball of the round's state is what the controls want at each of them
   abbrev pub DecidesAlike : Claim → Type 0
-  DecidesAlike m = (x : State) (ds : List Decision) → IsOtherState m x → look_over (controls_in circuit) at m ≡ Decided ds → look_at (controls_in circuit) at x ≡ Decided ds
+  DecidesAlike m =
+      (x : State) (ds : List Decision) → IsOtherState m x → look_over (controls_in circuit) at m ≡ Decided ds
+      → look_at (controls_in circuit) at x ≡ Decided ds
 
   -- ---- a solution
 
@@ -118,8 +122,12 @@ AreAlike s = AtEach (DecidesAlike s.circuit s.hour) (plant_at s.circuit s.hour) 
 -- Whatever states are chosen for its first rounds, each in the trust box of its round and meeting the round's
 -- mismatches: the acts of these rounds are those of the queue machine over these states.
 abbrev pub IsSteady : Settle → Type 0
-IsSteady s = (xs : List State) → AreChosen (setup_of s.circuit) (IsOtherState s.circuit s.hour) (look_over (controls_in s.circuit)) (machine_of s) (claims_of s) xs →
-    (settle_of (setup_of s.circuit) (look_at (controls_in s.circuit)) (machine_of s) xs).rounds ≡ take (length xs) (map (λ r. r.acts) s.rounds)
+IsSteady s =
+    (xs : List State)
+    → AreChosen (setup_of s.circuit) (IsOtherState s.circuit s.hour) (look_over (controls_in s.circuit))
+    (machine_of s) (claims_of s) xs
+    → (settle_of (setup_of s.circuit) (look_at (controls_in s.circuit)) (machine_of s) xs).rounds
+    ≡ take (length xs) (map (λ r. r.acts) s.rounds)
 
 -- its number in the run, its hour, how many rounds it has, and the numbers of its acts
 pub record HasModestNumbers (s : Settle) : Type 0 where

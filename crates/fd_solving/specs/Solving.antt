@@ -105,11 +105,14 @@ IsEndBy c hour (ended (Undecidable k u)) n end = end ≡ failed (undecided_at c 
 IsEndBy c hour (stopped (range blame)) n end = end ≡ failed (fault.Script blame.place (cause.Model blame.cause))
 IsEndBy c hour (stopped (computed.procedure (procedure.NoInverse column stop))) n end = end ≡ failed (fault.NoInverse (unknown_of c column) stop)
 IsEndBy c hour (stopped (computed.procedure (procedure.OutOfRange place step))) n end = end ≡ failed (fault.OutOfRange (unknown_of c place) step)
-IsEndBy c hour (stopped (computed.procedure (procedure.NotConverged place steps update))) n end = end ≡ failed (fault.NotConverged (unknown_of c place) steps update)
+IsEndBy c hour (stopped (computed.procedure (procedure.NotConverged place steps update))) n end =
+    end ≡ failed (fault.NotConverged (unknown_of c place) steps update)
 IsEndBy c hour (stopped (computed.procedure procedure.NoMemory)) n end = ⊥
 IsEndBy c hour (stopped (uncertified (loose row mismatch))) n end = end ≡ failed (fault.Loose (unknown_of c row) mismatch)
 IsEndBy c hour (stopped (uncertified (uncertain place bound))) n end =
-    end ≡ without_certificate (tried_round ((plant_at c hour).network n.at) (limits_of c.options)) (fault.NotCertified (unknown_of c place) (option_map nat_abs bound))
+    end
+    ≡ without_certificate (tried_round ((plant_at c hour).network n.at) (limits_of c.options))
+    (fault.NotCertified (unknown_of c place) (option_map nat_abs bound))
 
 abbrev pub rounds_of : List (Claim × List Act) → List Round
 rounds_of rounds = map (λ r. round_of r.0 r.1) rounds

@@ -44,9 +44,13 @@ pub(crate) fn solve_hours<P: Page, S: Sink>(
     requires taps { All AreTaps at.old.taps }
     requires settles { settled.old + 8761 < 2 ^ 32 }
     requires room { HasRoom tally.old settled.old }
-    ensures goes { result ≡ None →
-        GoesOnTallied P.style (IsSolutionStep (standing circuit.now (positions_in at.old) settled.old)) (standing circuit.now (positions_in at.new) settled.new) S.taken S.calls out.old out.new begun.old begun.new tally.old tally.new }
-    ensures ends { IfSome result (EndsAt P.style IsSolved (IsSolutionStep (standing circuit.now (positions_in at.old) settled.old)) S.taken S.calls out.old out.new begun.old) }
+    ensures goes { result ≡ None
+        → GoesOnTallied P.style (IsSolutionStep (standing circuit.now (positions_in at.old) settled.old))
+        (standing circuit.now (positions_in at.new) settled.new) S.taken S.calls out.old out.new begun.old begun.new
+        tally.old tally.new }
+    ensures ends { IfSome result
+        (EndsAt P.style IsSolved (IsSolutionStep (standing circuit.now (positions_in at.old) settled.old)) S.taken
+        S.calls out.old out.new begun.old) }
     ensures taps { All AreTaps at.new.taps }
     ensures settles { settled.new ≤ settled.old + 8761 }
     ensures room { HasRoom tally.new settled.new }
@@ -104,9 +108,12 @@ fn do_hour<P: Page, S: Sink>(
     requires underway { IsUnderway circuit.now at.old underway.old }
     requires settles { settled.old + 1 < 2 ^ 32 }
     requires room { HasRoom tally.old settled.old }
-    ensures goes { result ≡ None →
-        IsPrintedHour P.style S.taken S.calls out.old out.new begun.old circuit.now (hour_in underway.old.day) (kept_in at.old underway.old.day settled.old) (kept_in at.new underway.new.day settled.new) begun.new tally.old tally.new }
-    ensures ends { IfSome result (EndsInHour P.style S.taken S.calls out.old out.new begun.old circuit.now (hour_in underway.old.day) (kept_in at.old underway.old.day settled.old)) }
+    ensures goes { result ≡ None
+        → IsPrintedHour P.style S.taken S.calls out.old out.new begun.old circuit.now (hour_in underway.old.day)
+        (kept_in at.old underway.old.day settled.old) (kept_in at.new underway.new.day settled.new) begun.new
+        tally.old tally.new }
+    ensures ends { IfSome result (EndsInHour P.style S.taken S.calls out.old out.new begun.old circuit.now
+        (hour_in underway.old.day) (kept_in at.old underway.old.day settled.old)) }
     ensures left { result ≡ None → IsLeftBehind circuit.now at.new underway.old underway.new }
     ensures positions { ArePositions circuit.now underway.new.powers.loads (positions_in at.new) }
     ensures settles { settled.new ≤ settled.old + 1 }
@@ -156,9 +163,14 @@ fn run_hours<P: Page, S: Sink>(
     requires underway { IsUnderway circuit.now at.old underway.old }
     requires settles { settled.old + 8761 < 2 ^ 32 }
     requires room { HasRoom tally.old settled.old }
-    ensures goes { result ≡ None →
-        GoesOnTallied P.style (IsHoursStep circuit.now (hours_left underway.old.day) (kept_in at.old underway.old.day settled.old)) (standing circuit.now (positions_in at.new) settled.new) S.taken S.calls out.old out.new begun.old begun.new tally.old tally.new }
-    ensures ends { IfSome result (EndsAt P.style IsSolved (IsHoursStep circuit.now (hours_left underway.old.day) (kept_in at.old underway.old.day settled.old)) S.taken S.calls out.old out.new begun.old) }
+    ensures goes { result ≡ None
+        → GoesOnTallied P.style
+        (IsHoursStep circuit.now (hours_left underway.old.day) (kept_in at.old underway.old.day settled.old))
+        (standing circuit.now (positions_in at.new) settled.new) S.taken S.calls out.old out.new begun.old begun.new
+        tally.old tally.new }
+    ensures ends { IfSome result (EndsAt P.style IsSolved
+        (IsHoursStep circuit.now (hours_left underway.old.day) (kept_in at.old underway.old.day settled.old)) S.taken
+        S.calls out.old out.new begun.old) }
     ensures taps { All AreTaps at.new.taps }
     ensures settles { settled.new ≤ settled.old + 8761 }
     ensures room { HasRoom tally.new settled.new }

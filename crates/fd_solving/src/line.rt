@@ -72,7 +72,9 @@ pub trait Line {
         begun: bool,
         out: &mut S,
     ) -> u8
-        ensures told { (files : Files) → L.holds lib.old ≡ Some files →
-            Finishes style good (λ h. IsLast is_step last_name is_last (λ name. held files (bytes name)) (last_name self.old) self.old h) L.faults L.asked S.taken S.calls lib.old lib.new out.old out.new begun result }
+        ensures told { (files : Files) → L.holds lib.old ≡ Some files
+            → Finishes style good
+            (λ h. IsLast is_step last_name is_last (λ name. held files (bytes name)) (last_name self.old) self.old h)
+            L.faults L.asked S.taken S.calls lib.old lib.new out.old out.new begun result }
         ensures untold { IsUntold L.faults L.asked S.faults S.taken S.calls lib.old lib.new out.old out.new result };
 }

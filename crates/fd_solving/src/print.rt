@@ -96,7 +96,8 @@ fn print_texts<P: Page, S: Sink>(
     begun: &mut bool,
     out: &mut S,
 ) -> Option<u8>
-    ensures goes { IfNone result (Wrote S.taken S.calls out.old out.new (whole (opened_unless begun.old P.style.opening (map writes (pieces_of texts.items))))) }
+    ensures goes { IfNone result (Wrote S.taken S.calls out.old out.new
+        (whole (opened_unless begun.old P.style.opening (map writes (pieces_of texts.items))))) }
     ensures begun { result ≡ None → begun.new ≡ (begun.old || has_text (map writes (pieces_of texts.items))) }
     ensures ends { IfSome result (IsCutIn S.taken S.calls out.old out.new (opened_unless begun.old P.style.opening (map writes (pieces_of texts.items)))) }
     ensures later { S.faults out.old ≤ S.faults out.new }
@@ -147,12 +148,14 @@ pub(crate) fn print_settled<P: Page, S: Sink>(
 ) -> Option<u8>
     requires network { IsBuiltOf made.now.net.now made.now.circuit.now }
     requires printable { IsPrintable made.now.circuit.now made.now.hour made.now.rounds.now (positions_in at.now) }
-    ensures goes { (l : Kept) → made.now.number ≡ l.settled + 1 →
-        IfNone result (Wrote S.taken S.calls out.old out.new (whole (settle_calls P.style begun.old (settle_made made.now.circuit.now made.now.hour l made.now.rounds.now settled (positions_in at.now))))) }
+    ensures goes { (l : Kept) → made.now.number ≡ l.settled + 1
+        → IfNone result (Wrote S.taken S.calls out.old out.new (whole (settle_calls P.style begun.old
+        (settle_made made.now.circuit.now made.now.hour l made.now.rounds.now settled (positions_in at.now))))) }
     ensures begun { (l : Kept) → made.now.number ≡ l.settled + 1 → result ≡ None →
         begun.new ≡ begun_behind P.style begun.old (settle_made made.now.circuit.now made.now.hour l made.now.rounds.now settled (positions_in at.now)) }
-    ensures ends { (l : Kept) → made.now.number ≡ l.settled + 1 →
-        IfSome result (IsCutIn S.taken S.calls out.old out.new (settle_calls P.style begun.old (settle_made made.now.circuit.now made.now.hour l made.now.rounds.now settled (positions_in at.now)))) }
+    ensures ends { (l : Kept) → made.now.number ≡ l.settled + 1
+        → IfSome result (IsCutIn S.taken S.calls out.old out.new (settle_calls P.style begun.old
+        (settle_made made.now.circuit.now made.now.hour l made.now.rounds.now settled (positions_in at.now)))) }
     ensures later { S.faults out.old ≤ S.faults out.new }
     ensures write { IfSome result (λ code. code ≡ 5 → Rose (S.faults out.old) (S.faults out.new)) }
 {
@@ -175,8 +178,9 @@ fn failed_texts<P: Page>(
     requires network { IsBuiltOf made.now.net.now made.now.circuit.now }
     requires printable { IsPrintable made.now.circuit.now made.now.hour made.now.rounds.now (positions_in at.now) }
     requires tried { IsTriedOf (size_of (layout_of made.now.circuit.now.elements)) tried }
-    ensures { (l : Kept) → made.now.number ≡ l.settled + 1 →
-        IfOk result (λ r. map writes (pieces_of r.items) ≡ settle_calls P.style begun (settle_made made.now.circuit.now made.now.hour l made.now.rounds.now (end_with fault.now tried) (positions_in at.now)) ++ writes (fault_text fault.now) ∷ []) }
+    ensures { (l : Kept) → made.now.number ≡ l.settled + 1 → IfOk result (λ r.
+        map writes (pieces_of r.items) ≡ settle_calls P.style begun (settle_made made.now.circuit.now made.now.hour l
+        made.now.rounds.now (end_with fault.now tried) (positions_in at.now)) ++ writes (fault_text fault.now) ∷ []) }
 {
     P::law();
     let texts = P::failed(alloc, made, tried, at)?;
@@ -199,7 +203,9 @@ pub(crate) fn print_failed<P: Page, S: Sink>(
     requires printable { IsPrintable made.now.circuit.now made.now.hour made.now.rounds.now (positions_in at.now) }
     requires tried { IsTriedOf (size_of (layout_of made.now.circuit.now.elements)) failure.tried }
     ensures prints { (l : Kept) → made.now.number ≡ l.settled + 1 → Printed S.taken S.calls out.old out.new (record {
-      calls = settle_calls P.style begun (settle_made made.now.circuit.now made.now.hour l made.now.rounds.now (end_by (Some failure)) (positions_in at.now)) ++ writes (fault_text failure.fault) ∷ [];
+      calls = settle_calls P.style begun (settle_made made.now.circuit.now made.now.hour l made.now.rounds.now
+          (end_by (Some failure)) (positions_in at.now))
+          ++ writes (fault_text failure.fault) ∷ [];
       end = Some failure.fault;
     }) result }
     ensures later { S.faults out.old ≤ S.faults out.new }

@@ -25,10 +25,13 @@ pub fn run_script<T: Line, L: Library, S: Sink>(
     out: &mut S,
 ) -> u8
     requires { T.weight line.old + room session.old ≤ 1_048_578 }
-    ensures run { (files : Files) → L.holds lib.old ≡ Some files →
-        Runs L.faults L.asked S.taken S.calls lib.old lib.new out.old out.new
-        (λ h. IsFrom T.is_step T.last_name T.is_last (λ name. held files (bytes name)) (record { left = said_in (remaining files session.old); end = end_in (remaining files session.old); state = line.old }) h)
-        T.style T.good result }
+    ensures run { (files : Files) → L.holds lib.old ≡ Some files
+        → Runs L.faults L.asked S.taken S.calls lib.old lib.new out.old out.new
+        (λ h. IsFrom T.is_step T.last_name T.is_last (λ name. held files (bytes name)) (record {
+          left = said_in (remaining files session.old);
+          end = end_in (remaining files session.old);
+          state = line.old;
+        }) h) T.style T.good result }
     ensures untold { IsUntold L.faults L.asked S.faults S.taken S.calls lib.old lib.new out.old out.new result }
 {
     T::law();

@@ -87,13 +87,18 @@ concat_linear : (c : ℕ → List Constant) (t : ℕ → List Term) (p : ℕ →
     → ((m : ℕ) → Same (linear_of (c m) (t m) x l) (equation l (p m)))
     → Same (linear_of (concat_below c n) (concat_below t n) x l) (equation l (concat_below p n))
 concat_linear c t p x l zero h = subst (λ s. Same s nothing) (sym (nothing-plus nothing)) Same-nothing
-concat_linear c t p x l (suc n) h = rw (linear-append (concat_below c n) (c n) (concat_below t n) (t n) x l, equation-append l (concat_below p n) (p n)) (Same-plus (concat_linear c t p x l n h) (h n))
+concat_linear c t p x l (suc n) h = rw (
+  linear-append (concat_below c n) (c n) (concat_below t n) (t n) x l,
+  equation-append l (concat_below p n) (p n),
+) (Same-plus (concat_linear c t p x l n h) (h n))
 
 source_represents : (s : SourceData) (at : Ends)
     → Represents (stamp_from at (source_constants s) (source_list s at)) (source_parts s at)
 source_represents s at x o l =
     let r = concat_linear (at_phase s at) (phase_list s at) (source_phase s at x) x l s.phases (λ m. phase_row s at x o m l) in
-    linear_row _ _ 0 x l (source_parts s at x) (subst (λ c. Same (linear_of c (source_list s at) x l) (equation l (source_parts s at x))) (sym (placed s at s.phases)) r)
+    linear_row _ _ 0 x l (source_parts s at x)
+    (subst (λ c. Same (linear_of c (source_list s at) x l) (equation l (source_parts s at x)))
+    (sym (placed s at s.phases)) r)
 
 -- ---- the denominators
 
@@ -121,7 +126,8 @@ module _ (s : SourceData) (at : Ends) (h : s.phases ≤ 3) where
       let drops = concat_few 4 (drop_at (resistance_of s) (reactance_of s) at.branch k) s.phases
       (λ m. complex_few r (branch_of at.branch m) (neg_ℤ (resistance_of s k m)) (neg_ℤ (reactance_of s k m)) (pos (10 ^ 12))) in
       let all = joined_few (2 + s.phases * 4) 2 _ (complex_terms p r (negsuc 0) (pos 0) (pos 1))
-      (joined_few 2 (s.phases * 4) (complex_terms r p (negsuc 0) (pos 0) (pos 1)) (drop_list (resistance_of s) (reactance_of s) at.branch s.phases k) (real_few r p (negsuc 0) (pos 1)) drops)
+      (joined_few 2 (s.phases * 4) (complex_terms r p (negsuc 0) (pos 0) (pos 1))
+      (drop_list (resistance_of s) (reactance_of s) at.branch s.phases k) (real_few r p (negsuc 0) (pos 1)) drops)
       (real_few p r (negsuc 0) (pos 1)) in
       omega (arith, all)
 

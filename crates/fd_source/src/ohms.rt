@@ -8,10 +8,11 @@ use crate::data::{Ohms, ShortCircuit};
 use crate::resistance::{SizeLimit, greatest_resistance};
 use fd_arith::{TermFault, is_source_above_limit};
 
-/// The sequence impedances of a source with these short-circuit powers (OpenDSS manual, Vsource; the rounding is this profile's). R1 is the greatest multiple of 10^-9 ohm for which
-/// R1 + j X1R1 R1 is at most kV^2 / MVAsc3 in size, R0 the greatest from 0 up for which 2 (R1 + j X1) + R0 + j X0R0 R0 is at most
-/// 3 kV^2 / MVAsc1 in size, and 0 where there is none; both sizes and the reactances are rounded down to 10^-9 ohm. Range exactly where one of
-/// the sizes kV^2 / MVA is above 10^4 ohm; takes no memory.
+/// The sequence impedances of a source with these short-circuit powers (OpenDSS manual, Vsource; the rounding is this
+/// profile's). R1 is the greatest multiple of 10^-9 ohm for which R1 + j X1R1 R1 is at most kV^2 / MVAsc3 in size, R0
+/// the greatest from 0 up for which 2 (R1 + j X1) + R0 + j X0R0 R0 is at most 3 kV^2 / MVAsc1 in size, and 0 where
+/// there is none; both sizes and the reactances are rounded down to 10^-9 ohm. Range exactly where one of the sizes
+/// kV^2 / MVA is above 10^4 ohm; takes no memory.
 ///
 /// The data are in the ranges of the script profile.
 pub fn source_ohms(source: &ShortCircuit) -> Result<Ohms, TermFault>

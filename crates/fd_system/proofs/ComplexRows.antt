@@ -34,8 +34,9 @@ one_value : (b : Bool) (v : Fraction) → 0 < v.over → Same (cond b v nothing 
 one_value true v h = subst (λ s. Same s v) (sym (plus-nothing v)) (Same-refl v h)
 one_value false v h = subst (λ s. Same s nothing) (sym (plus-nothing nothing)) Same-nothing
 
-one_by : (t : Bool) (l r c : ℕ) (n d : ℤ) (x : State) → 0 < unsigned_abs d * x.over → (t ≡ true → n ≡ pos 0) →
-    Same (row_sum l (cond t [] (record { row = r; col = c; num = n; den = d } ∷ [])) x) (cond (eqb r l) (fraction (n *ℤ part x.parts c) (unsigned_abs d * x.over)) nothing)
+one_by : (t : Bool) (l r c : ℕ) (n d : ℤ) (x : State) → 0 < unsigned_abs d * x.over → (t ≡ true → n ≡ pos 0)
+    → Same (row_sum l (cond t [] (record { row = r; col = c; num = n; den = d } ∷ [])) x)
+    (cond (eqb r l) (fraction (n *ℤ part x.parts c) (unsigned_abs d * x.over)) nothing)
 one_by true l r c n d x h e = rw (e refl) (zero_value (eqb r l) (part x.parts c) (unsigned_abs d * x.over) h)
 one_by false l r c n d x h e = one_value (eqb r l) _ h
 
@@ -60,7 +61,8 @@ four_by : (b d : Bool) (v v' w w' u u' t t' : Fraction) → (b ≡ true → d �
     → 0 < v.over → 0 < w.over → 0 < u.over → 0 < t.over
     → Same (cond b v nothing ⊕ (cond b w nothing ⊕ (cond d u nothing ⊕ cond d t nothing))) (cond b (v' ⊕ w') (cond d (t' ⊕ u') nothing))
 four_by true d v v' w w' u u' t t' x e f g h i j k m = rw (x refl, nothing-plus nothing, plus-nothing w, ← e, ← f) (Same-refl (v ⊕ w) (plus-pos v w i j))
-four_by false true v v' w w' u u' t t' x e f g h i j k m = rw (nothing-plus (u ⊕ t), nothing-plus (u ⊕ t), plus_comm u t, ← g, ← h) (Same-refl (t ⊕ u) (plus-pos t u m k))
+four_by false true v v' w w' u u' t t' x e f g h i j k m =
+    rw (nothing-plus (u ⊕ t), nothing-plus (u ⊕ t), plus_comm u t, ← g, ← h) (Same-refl (t ⊕ u) (plus-pos t u m k))
 four_by false false v v' w w' u u' t t' x e f g h i j k m = simp nothing-plus Same-nothing
 
 value-times : (n p : ℤ) (d o : ℕ) → fraction (n *ℤ p) (d * o) ≡ fraction n d ⊗ fraction p o
@@ -77,10 +79,12 @@ module _ (r c l : ℕ) (a b d : ℤ) (x : State) (h : 0 < unsigned_abs d * x.ove
       let q = one_sum l (2 * r) (2 * c + 1) (neg_ℤ b) d x h in
       let s = one_sum l (2 * r + 1) (2 * c) b d x h in
       let t = one_sum l (2 * r + 1) (2 * c + 1) a d x h in
-      rw (four l (one (2 * r) (2 * c) a d) (one (2 * r) (2 * c + 1) (neg_ℤ b) d) (one (2 * r + 1) (2 * c) b d) (one (2 * r + 1) (2 * c + 1) a d) x)
+      rw (four l (one (2 * r) (2 * c) a d) (one (2 * r) (2 * c + 1) (neg_ℤ b) d) (one (2 * r + 1) (2 * c) b d)
+      (one (2 * r + 1) (2 * c + 1) a d) x)
       (Same-trans (Same-plus p (Same-plus q (Same-plus s t)))
-      (four_by (eqb (2 * r) l) (eqb (2 * r + 1) l) _ _ _ _ _ _ _ _ (apart r l)
-      (value-times a X D x.over) (value-times (neg_ℤ b) Y D x.over ∙ opposite-times b D (fraction Y x.over)) (value-times b X D x.over) (value-times a Y D x.over) h h h h))
+      (four_by (eqb (2 * r) l) (eqb (2 * r + 1) l) _ _ _ _ _ _ _ _ (apart r l) (value-times a X D x.over)
+      (value-times (neg_ℤ b) Y D x.over ∙ opposite-times b D (fraction Y x.over)) (value-times b X D x.over)
+      (value-times a Y D x.over) h h h h))
 
 zero_times : (p : Fraction) → 0 < p.over → Same nothing (p ⊗ nothing)
 unfolding nothing ◌⊗◌
@@ -140,7 +144,9 @@ pub same_place_concat : (f : ℕ → List Term) (x : State) (l : ℕ) (r : NodeA
     → ((m : ℕ) → m < n → Same (row_sum l (f m) x) (side l r (z m)))
     → Same (row_sum l (concat_below f n) x) (side l r (total z n))
 same_place_concat f x l r z zero h = zero_side l r none Same-nothing Same-nothing
-same_place_concat f x l r z (suc n) h = same_place (concat_below f n) (f n) x l r (total z n) (z n) (same_place_concat f x l r z n (λ m p. h m (omega arith))) (h n (omega arith))
+same_place_concat f x l r z (suc n) h =
+    same_place (concat_below f n) (f n) x l r (total z n) (z n)
+    (same_place_concat f x l r z n (λ m p. h m (omega arith))) (h n (omega arith))
 
 -- the number may be written in another way
 pub rewritten : (p : Fraction) (l : ℕ) (r : NodeAt) (z w : Complex) → SameComplex z w → Same p (side l r z)
@@ -160,7 +166,9 @@ pub concat_row : (f : ℕ → List Term) (x : State) (l : ℕ) (p : ℕ → List
     → ((m : ℕ) → m < n → Same (row_sum l (f m) x) (equation l (p m)))
     → Same (row_sum l (concat_below f n) x) (equation l (concat_below p n))
 concat_row f x l p zero h = Same-nothing
-concat_row f x l p (suc n) h = rw (equation-append l (concat_below p n) (p n)) (row-append (concat_below f n) (f n) x l _ _ (concat_row f x l p n (λ m q. h m (omega arith))) (h n (omega arith)))
+concat_row f x l p (suc n) h =
+    rw (equation-append l (concat_below p n) (p n)) (row-append (concat_below f n) (f n) x l _ _
+    (concat_row f x l p n (λ m q. h m (omega arith))) (h n (omega arith)))
 
 -- the last of the parts
 pub single : (p v : Fraction) → Same p v → Same p (v ⊕ nothing)
@@ -215,13 +223,16 @@ pub plain_complex : (r c : NodeAt) (x : State) (l : ℕ) → 0 < x.over
     → Same (row_sum l (complex_terms r c (pos 1) (pos 0) (pos 1)) x) (side l r (unknown x c))
 plain_complex r c x l h =
     let u = unknown-pos x c h in
-    rewritten _ l r _ (unknown x c) (record { re = times_one _ _ u.re u.im; im = times_one_im _ _ u.re u.im }) (complex_row r c (pos 1) (pos 0) (pos 1) x l (lit< tt) h)
+    rewritten _ l r _ (unknown x c) (record { re = times_one _ _ u.re u.im; im = times_one_im _ _ u.re u.im })
+    (complex_row r c (pos 1) (pos 0) (pos 1) x l (lit< tt) h)
 
 pub minus_complex : (r c : NodeAt) (x : State) (l : ℕ) → 0 < x.over
     → Same (row_sum l (complex_terms r c (negsuc 0) (pos 0) (pos 1)) x) (side l r (negative (unknown x c)))
 minus_complex r c x l h =
     let u = unknown-pos x c h in
-    rewritten _ l r _ (negative (unknown x c)) (record { re = times_minus _ _ u.re u.im; im = times_minus_im _ _ u.re u.im }) (complex_row r c (negsuc 0) (pos 0) (pos 1) x l (lit< tt) h)
+    rewritten _ l r _ (negative (unknown x c))
+    (record { re = times_minus _ _ u.re u.im; im = times_minus_im _ _ u.re u.im })
+    (complex_row r c (negsuc 0) (pos 0) (pos 1) x l (lit< tt) h)
 
 negative_re : (a b : ℤ) (d : ℕ) (z : Complex) → complex (neg_ℤ a) (neg_ℤ b) d ⊠ z ≡ negative (complex a b d ⊠ z)
 negative_re a b d z =
@@ -235,7 +246,9 @@ negative_re a b d z =
 
 pub negative_complex : (r c : NodeAt) (a b d : ℤ) (x : State) (l : ℕ) → 0 < unsigned_abs d → 0 < x.over
     → Same (row_sum l (complex_terms r c (neg_ℤ a) (neg_ℤ b) d) x) (side l r (negative (complex a b (unsigned_abs d) ⊠ unknown x c)))
-negative_complex r c a b d x l h o = subst (λ z. Same (row_sum l (complex_terms r c (neg_ℤ a) (neg_ℤ b) d) x) (side l r z)) (negative_re a b (unsigned_abs d) (unknown x c)) (complex_row r c (neg_ℤ a) (neg_ℤ b) d x l h o)
+negative_complex r c a b d x l h o =
+    subst (λ z. Same (row_sum l (complex_terms r c (neg_ℤ a) (neg_ℤ b) d) x) (side l r z))
+    (negative_re a b (unsigned_abs d) (unknown x c)) (complex_row r c (neg_ℤ a) (neg_ℤ b) d x l h o)
 
 pub total-negative : (f : ℕ → Complex) (n : ℕ) → total (λ m. negative (f m)) n ≡ negative (total f n)
 total-negative f zero = λ i. record { re = sym opposite-nothing i; im = sym opposite-nothing i }
@@ -280,7 +293,9 @@ difference_times z u v pz pu pv =
     let h = z.im ⊗ v.re in
     let re = Same-plus (distrib_minus z.re u.re v.re pz.re pu.re pv.re) (Same-opposite (distrib_minus z.im u.im v.im pz.im pu.im pv.im)) in
     let im = Same-plus (distrib_minus z.re u.im v.im pz.re pu.im pv.im) (distrib_minus z.im u.re v.re pz.im pu.re pv.re) in
-    let p = (λ i. (a ⊕ opposite b) ⊕ opposite-plus c (opposite d) i) ∙ plus_swap a (opposite b) (opposite c) (opposite (opposite d)) ∙ (λ i. (a ⊕ opposite c) ⊕ sym (opposite-plus b (opposite d)) i) in
+    let p = (λ i. (a ⊕ opposite b) ⊕ opposite-plus c (opposite d) i)
+    ∙ plus_swap a (opposite b) (opposite c) (opposite (opposite d))
+    ∙ (λ i. (a ⊕ opposite c) ⊕ sym (opposite-plus b (opposite d)) i) in
     let q = plus_swap e (opposite f) g (opposite h) ∙ (λ i. (e ⊕ g) ⊕ sym (opposite-plus f h) i) in
     record { re = subst (Same (z ⊠ (u ⊟ v)).re) p re; im = subst (Same (z ⊠ (u ⊟ v)).im) q im }
 
@@ -293,7 +308,10 @@ opposite-opposite a = pair_of _ _ (neg-neg a.top) refl
 
 -- -(u - v) = v - u
 pub negative-minus : (u v : Complex) → negative (u ⊟ v) ≡ negative u ⊞ v
-negative-minus u v = λ i. record { re = (opposite-plus u.re (opposite v.re) ∙ ap (λ s. opposite u.re ⊕ s) (opposite-opposite v.re)) i; im = (opposite-plus u.im (opposite v.im) ∙ ap (λ s. opposite u.im ⊕ s) (opposite-opposite v.im)) i }
+negative-minus u v = λ i. record {
+  re = (opposite-plus u.re (opposite v.re) ∙ ap (λ s. opposite u.re ⊕ s) (opposite-opposite v.re)) i;
+  im = (opposite-plus u.im (opposite v.im) ∙ ap (λ s. opposite u.im ⊕ s) (opposite-opposite v.im)) i;
+}
 
 -- what a row sees of a complex number is what two real rows see: for code that adds the two parts one after the other
 pub side-split : (l r : ℕ) (z : Complex)

@@ -38,7 +38,8 @@ pub term-holds : (t : Term) (x : List ℤ) → 0 < unsigned_abs t.den
 term-holds t x h =
     let v = part x t.col in
     let d = unsigned_abs t.den in
-    let p = product-holds (capped v v) (outward (t.num *ℤ pos (2 ^ 40)) d) (fraction v 1) (fraction t.num d) (point-holds v) (outward-holds (t.num *ℤ pos (2 ^ 40)) d h) in
+    let p = product-holds (capped v v) (outward (t.num *ℤ pos (2 ^ 40)) d) (fraction v 1) (fraction t.num d)
+    (point-holds v) (outward-holds (t.num *ℤ pos (2 ^ 40)) d h) in
     Holds-same _ (fraction v 1 ⊗ fraction t.num d) (fraction (t.num *ℤ v) (d * 1)) (term_same v t.num d h) p
 
 -- ---- the interval residual holds the residual
@@ -54,7 +55,10 @@ constant_step l a f c h = by_test (eqb c.row l)
 constants_held : (l : ℕ) (a : Bounds) (f : Fraction) (cs : List Constant) → Holds a f
     → Holds (fold (with_constant l) a cs) (f ⊕ sum_of (constant_given l) cs)
 constants_held l a f [] h = subst (Holds a) (sym (plus-nothing f)) h
-constants_held l a f (c ∷ cs) h = subst (Holds (fold (with_constant l) (with_constant l a c) cs)) (plus_assoc f (constant_given l c) (sum_of (constant_given l) cs)) (constants_held l (with_constant l a c) (f ⊕ constant_given l c) cs (constant_step l a f c h))
+constants_held l a f (c ∷ cs) h =
+    subst (Holds (fold (with_constant l) (with_constant l a c) cs))
+    (plus_assoc f (constant_given l c) (sum_of (constant_given l) cs))
+    (constants_held l (with_constant l a c) (f ⊕ constant_given l c) cs (constant_step l a f c h))
 
 term_step : (l : ℕ) (x : List ℤ) (a : Bounds) (f : Fraction) (t : Term) → HasDen t → Holds a f
     → Holds (with_term x l a t) (f ⊕ given l t (whole_state x))
@@ -68,8 +72,11 @@ term_step l x a f t d h = by_test (eqb t.row l)
 terms_held : (l : ℕ) (x : List ℤ) (a : Bounds) (f : Fraction) (ts : List Term) → All HasDen ts → Holds a f
     → Holds (fold (with_term x l) a ts) (f ⊕ row_sum l ts (whole_state x))
 terms_held l x a f [] d h = subst (Holds a) (sym (plus-nothing f)) h
-terms_held l x a f (t ∷ ts) d h = subst (Holds (fold (with_term x l) (with_term x l a t) ts)) (plus_assoc f (given l t (whole_state x)) (row_sum l ts (whole_state x)))
-    (terms_held l x (with_term x l a t) (f ⊕ given l t (whole_state x)) ts (All-tail HasDen t ts d) (term_step l x a f t (All-head HasDen t ts d) h))
+terms_held l x a f (t ∷ ts) d h =
+    subst (Holds (fold (with_term x l) (with_term x l a t) ts))
+    (plus_assoc f (given l t (whole_state x)) (row_sum l ts (whole_state x)))
+    (terms_held l x (with_term x l a t) (f ⊕ given l t (whole_state x)) ts (All-tail HasDen t ts d)
+    (term_step l x a f t (All-head HasDen t ts d) h))
 
 part_step : (l : ℕ) (a : Bounds) (f : Fraction) (p : Part) → 0 < (seen l p).over → Holds a f
     → Holds (with_part l a p) (f ⊕ seen l p)
@@ -91,8 +98,10 @@ part_step l a f (alone m g) o h = by_test (eqb m l) o
 parts_held : (l : ℕ) (a : Bounds) (f : Fraction) (ps : List Part) → HasParts l ps → Holds a f
     → Holds (fold (with_part l) a ps) (f ⊕ equation l ps)
 parts_held l a f [] o h = subst (Holds a) (sym (plus-nothing f)) h
-parts_held l a f (p ∷ ps) o h = subst (Holds (fold (with_part l) (with_part l a p) ps)) (plus_assoc f (seen l p) (equation l ps))
-    (parts_held l (with_part l a p) (f ⊕ seen l p) ps (All-tail (λ q. 0 < (seen l q).over) p ps o) (part_step l a f p (All-head (λ q. 0 < (seen l q).over) p ps o) h))
+parts_held l a f (p ∷ ps) o h =
+    subst (Holds (fold (with_part l) (with_part l a p) ps)) (plus_assoc f (seen l p) (equation l ps))
+    (parts_held l (with_part l a p) (f ⊕ seen l p) ps (All-tail (λ q. 0 < (seen l q).over) p ps o)
+    (part_step l a f p (All-head (λ q. 0 < (seen l q).over) p ps o) h))
 
 zero_held : Holds (capped (pos 0) (pos 0)) nothing
 unfolding nothing
@@ -101,13 +110,16 @@ zero_held = point-holds (pos 0)
 pub linear_holds : (cs : List Constant) (ts : List Term) (x : List ℤ) (l : ℕ) → All HasDen ts
     → Holds (linear_interval cs ts x l) (linear_of cs ts (whole_state x) l)
 linear_holds cs ts x l d =
-    let c = subst (Holds (fold (with_constant l) (capped (pos 0) (pos 0)) cs)) (nothing-plus (sum_of (constant_given l) cs)) (constants_held l (capped (pos 0) (pos 0)) nothing cs zero_held) in
+    let c = subst (Holds (fold (with_constant l) (capped (pos 0) (pos 0)) cs))
+    (nothing-plus (sum_of (constant_given l) cs)) (constants_held l (capped (pos 0) (pos 0)) nothing cs zero_held) in
     terms_held l x _ (sum_of (constant_given l) cs) ts d c
 
 pub residual_holds : (s : StampView) (x : List ℤ) (l : ℕ) → All HasDen s.terms
     → HasParts l (nonlinear_of s.loads (whole_state x))
     → Holds (residual_interval s x l) (residual_of s (whole_state x) l)
-residual_holds s x l d o = parts_held l _ (linear_of s.constants s.terms (whole_state x) l) (nonlinear_of s.loads (whole_state x)) o (linear_holds s.constants s.terms x l d)
+residual_holds s x l d o =
+    parts_held l _ (linear_of s.constants s.terms (whole_state x) l) (nonlinear_of s.loads (whole_state x)) o
+    (linear_holds s.constants s.terms x l d)
 
 -- ---- the mismatch
 
@@ -138,8 +150,10 @@ greater_size_held (Some r) m e f h =
 row_set : (rows : List Bounds) (r l : ℕ) (v : Bounds) → l < length rows
     → get_or (set rows r (sum (get_or rows r None) v)) l None ≡ cond (eqb r l) (sum (get_or rows l None) v) (get_or rows l None)
 row_set rows r l v h = elim (cases_eq r l) [
-  | inl s ↦ subst (λ m. m < length rows → get_or (set rows r (sum (get_or rows r None) v)) m None ≡ cond (eqb r m) (sum (get_or rows m None) v) (get_or rows m None)) s
-      (λ q. rw (eq-eqb r r refl) (get_or-set_same rows r (sum (get_or rows r None) v) None q)) h
+  | inl s ↦ subst (λ m. m < length rows
+      → get_or (set rows r (sum (get_or rows r None) v)) m None
+      ≡ cond (eqb r m) (sum (get_or rows m None) v) (get_or rows m None))
+      s (λ q. rw (eq-eqb r r refl) (get_or-set_same rows r (sum (get_or rows r None) v) None q)) h
   | inr ne ↦ rw (ne_eqb r l ne) (get_or-set_other rows r l (sum (get_or rows r None) v) None (λ q. ne (sym q)))
 ]
 

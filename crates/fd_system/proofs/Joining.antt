@@ -38,8 +38,13 @@ pub residual-beside : (s t : StampView) (x : State) (l : ℕ)
 residual-beside s t x l =
     let e = sum_of-append (constant_given l) s.constants t.constants in
     let f = sum_of-append (λ (u : Term). given l u x) s.terms t.terms in
-    let g = ap (equation l) (flat_map-append (λ (u : LoadAt). nonlinear_parts u x) s.loads t.loads) ∙ equation-append l (flat_map (λ u. nonlinear_parts u x) s.loads) (flat_map (λ u. nonlinear_parts u x) t.loads) in
-    (λ i. (e i ⊕ f i) ⊕ g i) ∙ ap (λ r. r ⊕ (equation l (flat_map (λ u. nonlinear_parts u x) s.loads) ⊕ equation l (flat_map (λ u. nonlinear_parts u x) t.loads))) (plus_swap _ _ _ _) ∙ plus_swap _ _ _ _
+    let g = ap (equation l) (flat_map-append (λ (u : LoadAt). nonlinear_parts u x) s.loads t.loads)
+    ∙ equation-append l (flat_map (λ u. nonlinear_parts u x) s.loads) (flat_map (λ u. nonlinear_parts u x) t.loads) in
+    (λ i. (e i ⊕ f i) ⊕ g i)
+    ∙ ap (λ r.
+    r ⊕ (equation l (flat_map (λ u.
+    nonlinear_parts u x) s.loads) ⊕ equation l (flat_map (λ u. nonlinear_parts u x) t.loads))) (plus_swap _ _ _ _)
+    ∙ plus_swap _ _ _ _
 
 pub beside_row : (s t : StampView) (x : State) (l : ℕ) (ps qs : List Part) → Same (residual_of s x l) (equation l ps)
     → Same (residual_of t x l) (equation l qs) → Same (residual_of (beside s t) x l) (equation l (ps ++ qs))
@@ -53,8 +58,10 @@ pub Represents-joined : {E : Type 0} (stamp : E → StampView) (parts : E → St
     → All (λ e. Represents (stamp e) (parts e)) es
     → Represents (joined (map stamp es)) (λ x. flat_map (λ e. parts e x) es)
 Represents-joined stamp parts [] h = λ x o l. no_parts
-Represents-joined stamp parts (e ∷ es) h = λ x o l. beside_row (stamp e) (joined (map stamp es)) x l (parts e x) (flat_map (λ d. parts d x) es)
-    (All-head (λ d. Represents (stamp d) (parts d)) e es h x o l) (Represents-joined stamp parts es (All-tail (λ d. Represents (stamp d) (parts d)) e es h) x o l)
+Represents-joined stamp parts (e ∷ es) h = λ x o l.
+    beside_row (stamp e) (joined (map stamp es)) x l (parts e x) (flat_map (λ d. parts d x) es)
+    (All-head (λ d. Represents (stamp d) (parts d)) e es h x o l)
+    (Represents-joined stamp parts es (All-tail (λ d. Represents (stamp d) (parts d)) e es h) x o l)
 
 -- ---- stamps one after the other
 

@@ -104,7 +104,12 @@ module _ (u : LoadAt) (e : is_linear u.load.model ≡ true) (vn : 0 < unsigned_a
   abbrev admittance : Complex
   admittance = complex (pos (10 ^ 9) *ℤ u.load.p) (neg_ℤ (pos (10 ^ 9) *ℤ u.load.q)) (unsigned_abs (u.load.vn *ℤ u.load.vn))
 
-  drawn_current : load_current u x ≡ complex (pos (10 ^ 9) *ℤ u.load.p *ℤ (re_of x u.first -ℤ re_of x u.second) +ℤ pos (10 ^ 9) *ℤ u.load.q *ℤ (im_of x u.first -ℤ im_of x u.second)) (neg_ℤ (pos (10 ^ 9) *ℤ u.load.q) *ℤ (re_of x u.first -ℤ re_of x u.second) +ℤ pos (10 ^ 9) *ℤ u.load.p *ℤ (im_of x u.first -ℤ im_of x u.second)) (unsigned_abs (u.load.vn *ℤ u.load.vn) * x.over)
+  drawn_current : load_current u x
+      ≡ complex (pos (10 ^ 9) *ℤ u.load.p *ℤ (re_of x u.first -ℤ re_of x u.second)
+      +ℤ pos (10 ^ 9) *ℤ u.load.q *ℤ (im_of x u.first -ℤ im_of x u.second))
+      (neg_ℤ (pos (10 ^ 9) *ℤ u.load.q) *ℤ (re_of x u.first -ℤ re_of x u.second)
+      +ℤ pos (10 ^ 9) *ℤ u.load.p *ℤ (im_of x u.first -ℤ im_of x u.second))
+      (unsigned_abs (u.load.vn *ℤ u.load.vn) * x.over)
   drawn_current =
       let p = re_of x u.first -ℤ re_of x u.second in
       let q = im_of x u.first -ℤ im_of x u.second in
@@ -120,7 +125,8 @@ module _ (u : LoadAt) (e : is_linear u.load.model ≡ true) (vn : 0 < unsigned_a
       let w : IsWhole admittance = record { re = square_pos; im = square_pos } in
       let f = SameComplex-sym (difference_times admittance (unknown x u.first) (unknown x u.second) w (unknown-pos x u.first o) (unknown-pos x u.second o)) in
       let g = times_same admittance _ _ w (terminal_same x u.first u.second o) in
-      let h = admittance_times (pos (10 ^ 9) *ℤ u.load.p) (pos (10 ^ 9) *ℤ u.load.q) (re_of x u.first -ℤ re_of x u.second) (im_of x u.first -ℤ im_of x u.second) _ x.over square_pos o in
+      let h = admittance_times (pos (10 ^ 9) *ℤ u.load.p) (pos (10 ^ 9) *ℤ u.load.q)
+      (re_of x u.first -ℤ re_of x u.second) (im_of x u.first -ℤ im_of x u.second) _ x.over square_pos o in
       subst (SameComplex (admittance ⊠ unknown x u.first ⊟ admittance ⊠ unknown x u.second)) (sym drawn_current) (SameComplex-trans f (SameComplex-trans g h))
 
   impedance_row : (l : ℕ)
@@ -132,10 +138,17 @@ module _ (u : LoadAt) (e : is_linear u.load.model ≡ true) (vn : 0 < unsigned_a
       let v = unknown x u.first in
       let w = unknown x u.second in
       let one = rewritten _ l u.first _ (load_current u x) current_same
-      (same_place (complex_terms u.first u.first a (neg_ℤ b) d) (complex_terms u.first u.second (neg_ℤ a) (neg_ℤ (neg_ℤ b)) d) x l u.first _ _ (complex_row u.first u.first a (neg_ℤ b) d x l square_pos o) (negative_complex u.first u.second a (neg_ℤ b) d x l square_pos o)) in
-      let two = same_place (complex_terms u.second u.first (neg_ℤ a) (neg_ℤ (neg_ℤ b)) d) (complex_terms u.second u.second a (neg_ℤ b) d) x l u.second _ _ (negative_complex u.second u.first a (neg_ℤ b) d x l square_pos o) (complex_row u.second u.second a (neg_ℤ b) d x l square_pos o) in
+      (same_place (complex_terms u.first u.first a (neg_ℤ b) d)
+      (complex_terms u.first u.second (neg_ℤ a) (neg_ℤ (neg_ℤ b)) d) x l u.first _ _
+      (complex_row u.first u.first a (neg_ℤ b) d x l square_pos o)
+      (negative_complex u.first u.second a (neg_ℤ b) d x l square_pos o)) in
+      let two = same_place (complex_terms u.second u.first (neg_ℤ a) (neg_ℤ (neg_ℤ b)) d)
+      (complex_terms u.second u.second a (neg_ℤ b) d) x l u.second _ _
+      (negative_complex u.second u.first a (neg_ℤ b) d x l square_pos o)
+      (complex_row u.second u.second a (neg_ℤ b) d x l square_pos o) in
       let back = sym (negative-minus (admittance ⊠ v) (admittance ⊠ w)) in
-      let three = subst (λ z. Same (row_sum l (complex_terms u.second u.first (neg_ℤ a) (neg_ℤ (neg_ℤ b)) d ++ complex_terms u.second u.second a (neg_ℤ b) d) x) (side l u.second z)) back two in
+      let three = subst (λ z. Same (row_sum l (complex_terms u.second u.first (neg_ℤ a) (neg_ℤ (neg_ℤ b)) d
+      ++ complex_terms u.second u.second a (neg_ℤ b) d) x) (side l u.second z)) back two in
       row-append _ _ x l _ _ one (single _ _ (rewritten _ l u.second _ (negative (load_current u x)) (SameComplex-negative current_same) three))
 
 -- ---- positive denominators
@@ -151,7 +164,9 @@ drawn-pos w a b p q m d vn lo order o = in_each w.model
     hi = omega arith
 
     in_each : (model : LoadModel)
-        → 0 < (by_model model (constant_power a b (unsigned_abs w.vlo * unsigned_abs w.vlo) (unsigned_abs w.vhi * unsigned_abs w.vhi) p q d) (constant_impedance a b (unsigned_abs w.vn) p q d) (constant_current a b (unsigned_abs w.vn) (unsigned_abs w.vlo) (unsigned_abs w.vhi) p q m d)).over
+        → 0 < (by_model model (constant_power a b (unsigned_abs w.vlo * unsigned_abs w.vlo)
+        (unsigned_abs w.vhi * unsigned_abs w.vhi) p q d) (constant_impedance a b (unsigned_abs w.vn) p q d)
+        (constant_current a b (unsigned_abs w.vn) (unsigned_abs w.vlo) (unsigned_abs w.vhi) p q m d)).over
     in_each ConstantPower = clamp-pos (square_of p q) _ _ (mul-pos (mul-pos lo lo) (mul-pos o o)) (mul-pos (mul-pos hi hi) (mul-pos o o))
     in_each ConstantImpedance = mul-pos (mul-pos vn vn) o
     in_each ConstantCurrent = mul-pos vn (clamp-pos (non_negative m) _ _ (mul-pos lo o) (mul-pos hi o))
@@ -162,7 +177,8 @@ magnitude-pos u x l None h o = nothing-pos
 magnitude-pos u x l (Some k) h o = plus-pos _ _ (by_test (eqb k l)) nothing-pos
   where
     by_test : (b : Bool)
-        → 0 < (cond b (magnitude_row (unsigned_abs u.load.vn) (re_of x u.first -ℤ re_of x u.second) (im_of x u.first -ℤ im_of x u.second) (part x.parts k) x.over) nothing).over
+        → 0 < (cond b (magnitude_row (unsigned_abs u.load.vn) (re_of x u.first -ℤ re_of x u.second)
+        (im_of x u.first -ℤ im_of x u.second) (part x.parts k) x.over) nothing).over
     by_test true = mul-pos h (mul-pos o o)
     by_test false = nothing-pos
 
@@ -179,7 +195,8 @@ pub load-pos : (u : LoadAt) (x : State) (l : ℕ) → IsLoad u → 0 < x.over �
 load-pos u x l h o =
     let c = load_whole u x h o in
     let n : IsWhole (negative (load_current u x)) = record { re = opposite-pos _ c.re; im = opposite-pos _ c.im } in
-    plus-pos _ _ (side-pos l u.first (load_current u x) c) (plus-pos _ _ (side-pos l u.second (negative (load_current u x)) n) (magnitude-pos u x l u.magnitude h.vn o))
+    plus-pos _ _ (side-pos l u.first (load_current u x) c)
+    (plus-pos _ _ (side-pos l u.second (negative (load_current u x)) n) (magnitude-pos u x l u.magnitude h.vn o))
 
 -- ---- a part load of any model
 
@@ -206,13 +223,19 @@ linear_row_of : (u : LoadAt) (x : State) (l : ℕ) → IsLoad u → 0 < x.over �
     → IsPlain u.magnitude → Same (stamped_row u x l true) (equation l (load_parts u x))
 linear_row_of u x l h o e p =
     let r = impedance_row u e h.vn x o l in
-    let q : equation l (load_parts u x) ≡ equation l (both u.first (load_current u x) ∷ both u.second (negative (load_current u x)) ∷ []) = ap (λ ps. equation l (both u.first (load_current u x) ∷ both u.second (negative (load_current u x)) ∷ ps)) (no_magnitude u x u.magnitude p) in
+    let q : equation l (load_parts u x)
+    ≡ equation l (both u.first (load_current u x) ∷ both u.second (negative (load_current u x)) ∷ []) =
+    ap (λ ps. equation l (both u.first (load_current u x) ∷ both u.second (negative (load_current u x)) ∷ ps))
+    (no_magnitude u x u.magnitude p) in
     rw (q, plus-nothing (nothing ⊕ row_sum l (impedance_list u) x), nothing-plus (row_sum l (impedance_list u) x)) r
 
 other_row_of : (u : LoadAt) (x : State) (l : ℕ) → IsLoad u → 0 < x.over
     → Same (stamped_row u x l false) (equation l (load_parts u x))
 other_row_of u x l h o =
-    let e : stamped_row u x l false ≡ equation l (load_parts u x) = ap (λ s. s ⊕ equation l (load_parts u x ++ [])) (nothing-plus nothing) ∙ nothing-plus _ ∙ ap (equation l) (append-nil (load_parts u x)) in
+    let e : stamped_row u x l false ≡ equation l (load_parts u x) =
+    ap (λ s. s ⊕ equation l (load_parts u x ++ [])) (nothing-plus nothing)
+    ∙ nothing-plus _
+    ∙ ap (equation l) (append-nil (load_parts u x)) in
     subst (λ s. Same s (equation l (load_parts u x))) (sym e) (Same-refl _ (load-pos u x l h o))
 
 load_row : (u : LoadAt) (x : State) (l : ℕ) → IsLoad u → 0 < x.over → (t : Bool) → is_linear u.load.model ≡ t

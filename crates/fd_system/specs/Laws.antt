@@ -16,7 +16,9 @@ use Rattle.fd_system.specs.Residual.{HasDen, HasParts, residual_interval, whole_
 
 -- in every row, the contributions of a complex number add up to its product with the unknown of its column
 abbrev pub ComplexLaw : Type 0
-ComplexLaw = (r c : NodeAt) (a b d : ℤ) (x : State) (l : ℕ) → 0 < nat_abs d → 0 < x.over → Same (row_sum l (complex_terms r c a b d) x) (side l r (complex a b (nat_abs d) ⊠ unknown x c))
+ComplexLaw =
+    (r c : NodeAt) (a b d : ℤ) (x : State) (l : ℕ) → 0 < nat_abs d → 0 < x.over
+    → Same (row_sum l (complex_terms r c a b d) x) (side l r (complex a b (nat_abs d) ⊠ unknown x c))
 
 -- the stamp of part loads has the rows of their currents and magnitudes, at every state
 abbrev pub LoadLaw : Type 0

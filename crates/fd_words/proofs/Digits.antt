@@ -52,7 +52,10 @@ read most word r digits parses =
 
 pub not_read : (most : ℕ) (word : List ℕ) → are_digits most word ≡ false → None ≡ value_of most word
 unfolding value_of
-not_read most word other = sym (ap (λ (b : Bool). (let x : Option ℕ = if b && nat_lt (digits_value 10 word) (2 ^ 64) then Some (digits_value 10 word) else None in x)) other)
+not_read most word other =
+    sym (ap (λ (b : Bool).
+    (let x : Option ℕ = if b && nat_lt (digits_value 10 word) (2 ^ 64) then Some (digits_value 10 word) else None in
+    x)) other)
 
 digits_where : (a c : Bool) (x n : ℕ) → (if a && c then Some x else None) ≡ Some n → a ≡ true
 digits_where true c x n h = refl

@@ -34,8 +34,14 @@ module _ (c : Coefficients) (p : PhaseAt) (ratio minus over : ℤ) (e : ratio �
   branch_added o n1 n2 n3 n4 n5 r x e1 e2 e3 e4 e5 h k =
       let s3 = complex_terms p.branch p.winding2.first (negsuc 0) (pos 0) (pos 1) in
       let s4 = complex_terms p.branch p.winding2.second (pos 1) (pos 0) (pos 1) in
-      e5 ∙ (λ i. (e4 ∙ (λ j. (e3 ∙ (λ m. (e2 ∙ (λ n. e1 n ++ complex_terms p.branch p.winding1.second minus (pos 0) over)) m ++ s3)) j ++ s4)) i ++ complex_terms p.branch p.branch r x (pos (10 ^ 22)))
-      ∙ (λ i. ((((o ++ complex_terms p.branch p.winding1.first (e i) (pos 0) (g i)) ++ complex_terms p.branch p.winding1.second (f i) (pos 0) (g i)) ++ s3) ++ s4) ++ complex_terms p.branch p.branch (h i) (k i) (pos (10 ^ 22)))
+      e5
+      ∙ (λ i.
+      (e4 ∙ (λ j.
+      (e3 ∙ (λ m. (e2 ∙ (λ n. e1 n ++ complex_terms p.branch p.winding1.second minus (pos 0) over)) m ++ s3)) j
+      ++ s4)) i ++ complex_terms p.branch p.branch r x (pos (10 ^ 22)))
+      ∙ (λ i. ((((o ++ complex_terms p.branch p.winding1.first (e i) (pos 0) (g i))
+      ++ complex_terms p.branch p.winding1.second (f i) (pos 0) (g i)) ++ s3) ++ s4)
+      ++ complex_terms p.branch p.branch (h i) (k i) (pos (10 ^ 22)))
       ∙ simp append_assoc
 
   pub currents_added : (o n1 n2 n3 n4 : List Term)
@@ -47,6 +53,9 @@ module _ (c : Coefficients) (p : PhaseAt) (ratio minus over : ℤ) (e : ratio �
   currents_added o n1 n2 n3 n4 e1 e2 e3 e4 =
       let s3 = complex_terms p.winding2.first p.branch (negsuc 0) (pos 0) (pos 1) in
       let s4 = complex_terms p.winding2.second p.branch (pos 1) (pos 0) (pos 1) in
-      e4 ∙ (λ i. (e3 ∙ (λ j. (e2 ∙ (λ m. e1 m ++ complex_terms p.winding1.second p.branch minus (pos 0) over)) j ++ s3)) i ++ s4)
-      ∙ (λ i. (((o ++ complex_terms p.winding1.first p.branch (e i) (pos 0) (g i)) ++ complex_terms p.winding1.second p.branch (f i) (pos 0) (g i)) ++ s3) ++ s4)
+      e4
+      ∙ (λ i.
+      (e3 ∙ (λ j. (e2 ∙ (λ m. e1 m ++ complex_terms p.winding1.second p.branch minus (pos 0) over)) j ++ s3)) i ++ s4)
+      ∙ (λ i. (((o ++ complex_terms p.winding1.first p.branch (e i) (pos 0) (g i))
+      ++ complex_terms p.winding1.second p.branch (f i) (pos 0) (g i)) ++ s3) ++ s4)
       ∙ simp append_assoc

@@ -26,7 +26,8 @@ leakage_small d (pos m) h u =
     let all = squares_most (v * v) d.phases (omega (arith, squares)) (phases_few d.phases h.phases) in
     let product = percent_most m (v * v * d.phases) (omega (arith, ints, u.most)) all in
     let kva : 10 ^ 6 ≤ nat_abs d.kva = omega (arith, ints, h.kva.least) in
-    quotient_most (m * (v * v * d.phases)) (nat_abs d.kva * 10 ^ 5) (6 * 10 ^ 24) (omega (arith, kva)) (quotient_room (m * (v * v * d.phases)) (nat_abs d.kva) product kva)
+    quotient_most (m * (v * v * d.phases)) (nat_abs d.kva * 10 ^ 5) (6 * 10 ^ 24) (omega (arith, kva))
+    (quotient_room (m * (v * v * d.phases)) (nat_abs d.kva) product kva)
 leakage_small d (negsuc m) h u = absurd (omega (arith, ints, u.least))
 
 squared_tap : (t : ℕ) → t ≤ 200000 → t * t ≤ 4 * 10 ^ 10

@@ -32,16 +32,20 @@ module _ (c : Coefficients) (p : PhaseAt) (over : 0 < nat_abs c.ratio_over) (x :
   minus_ratio r n = negative_complex r n c.ratio (pos 0) c.ratio_over x l over o
 
   -- a w1
-  first_adds : Same (row_sum l (complex_terms p.branch p.winding1.first c.ratio (pos 0) c.ratio_over ++ complex_terms p.branch p.winding1.second (neg_ℤ c.ratio) (pos 0) c.ratio_over) x)
+  first_adds : Same (row_sum l (complex_terms p.branch p.winding1.first c.ratio (pos 0) c.ratio_over
+      ++ complex_terms p.branch p.winding1.second (neg_ℤ c.ratio) (pos 0) c.ratio_over) x)
       (side l p.branch (turns_ratio c ⊠ across x p.winding1))
   first_adds =
       let u = unknown x p.winding1.first in
       let v = unknown x p.winding1.second in
-      let same = difference_times (turns_ratio c) u v (record { re = over; im = over }) (unknown-pos x p.winding1.first o) (unknown-pos x p.winding1.second o) in
-      rewritten _ l p.branch _ (turns_ratio c ⊠ (u ⊟ v)) (SameComplex-sym same) (same_place _ _ x l p.branch _ _ (times_ratio p.branch p.winding1.first) (minus_ratio p.branch p.winding1.second))
+      let same = difference_times (turns_ratio c) u v (record { re = over; im = over })
+      (unknown-pos x p.winding1.first o) (unknown-pos x p.winding1.second o) in
+      rewritten _ l p.branch _ (turns_ratio c ⊠ (u ⊟ v)) (SameComplex-sym same) (same_place _ _ x l p.branch _ _
+      (times_ratio p.branch p.winding1.first) (minus_ratio p.branch p.winding1.second))
 
   -- - w2
-  second_adds : Same (row_sum l (complex_terms p.branch p.winding2.first (negsuc 0) (pos 0) (pos 1) ++ complex_terms p.branch p.winding2.second (pos 1) (pos 0) (pos 1)) x)
+  second_adds : Same (row_sum l (complex_terms p.branch p.winding2.first (negsuc 0) (pos 0) (pos 1)
+      ++ complex_terms p.branch p.winding2.second (pos 1) (pos 0) (pos 1)) x)
       (side l p.branch (negative (across x p.winding2)))
   second_adds =
       let u = unknown x p.winding2.first in
@@ -50,7 +54,8 @@ module _ (c : Coefficients) (p : PhaseAt) (over : 0 < nat_abs c.ratio_over) (x :
       subst (λ z. Same (row_sum l two x) (side l p.branch z)) (sym (negative-minus u v))
       (same_place _ _ x l p.branch _ _ (minus_complex p.branch p.winding2.first x l o) (plain_complex p.branch p.winding2.second x l o))
 
-  branch_adds : Same (row_sum l (branch_list c p) x) (side l p.branch (turns_ratio c ⊠ across x p.winding1 ⊟ across x p.winding2 ⊟ leakage_impedance c ⊠ unknown x p.branch))
+  branch_adds : Same (row_sum l (branch_list c p) x) (side l p.branch
+      (turns_ratio c ⊠ across x p.winding1 ⊟ across x p.winding2 ⊟ leakage_impedance c ⊠ unknown x p.branch))
   branch_adds =
       same_place _ _ x l p.branch _ _ (same_place _ _ x l p.branch _ _ first_adds second_adds)
       (negative_complex p.branch p.branch c.r c.x (pos (10 ^ 22)) x l (lit< tt) o)
@@ -81,16 +86,23 @@ module _ (c : Coefficients) (w : AreWithin c) (p : PhaseAt) where
   branch_divided : All IsDivided (branch_list c p)
   branch_divided =
       All-append IsDivided _ (complex_terms p.branch p.branch (neg_ℤ c.r) (neg_ℤ c.x) (pos (10 ^ 22)))
-      (All-append IsDivided (complex_terms p.branch p.winding1.first c.ratio (pos 0) c.ratio_over ++ complex_terms p.branch p.winding1.second (neg_ℤ c.ratio) (pos 0) c.ratio_over) _
-      (All-append IsDivided _ (complex_terms p.branch p.winding1.second (neg_ℤ c.ratio) (pos 0) c.ratio_over) (by_ratio p.branch p.winding1.first c.ratio) (by_ratio p.branch p.winding1.second (neg_ℤ c.ratio)))
-      (All-append IsDivided _ (complex_terms p.branch p.winding2.second (pos 1) (pos 0) (pos 1)) (whole p.branch p.winding2.first (negsuc 0)) (whole p.branch p.winding2.second (pos 1))))
-      (complex_divided (pos (10 ^ 22)) (record { lt = tt }) (record { le = tt }) p.branch p.branch (neg_ℤ c.r) (neg_ℤ c.x))
+      (All-append IsDivided (complex_terms p.branch p.winding1.first c.ratio (pos 0) c.ratio_over
+      ++ complex_terms p.branch p.winding1.second (neg_ℤ c.ratio) (pos 0) c.ratio_over)
+      _ (All-append IsDivided _ (complex_terms p.branch p.winding1.second (neg_ℤ c.ratio) (pos 0) c.ratio_over)
+      (by_ratio p.branch p.winding1.first c.ratio) (by_ratio p.branch p.winding1.second (neg_ℤ c.ratio)))
+      (All-append IsDivided _ (complex_terms p.branch p.winding2.second (pos 1) (pos 0) (pos 1))
+      (whole p.branch p.winding2.first (negsuc 0)) (whole p.branch p.winding2.second (pos 1))))
+      (complex_divided (pos (10 ^ 22)) (record { lt = tt }) (record { le = tt }) p.branch p.branch (neg_ℤ c.r)
+      (neg_ℤ c.x))
 
   current_divided : All IsDivided (current_list c p)
   current_divided =
-      All-append IsDivided (complex_terms p.winding1.first p.branch c.ratio (pos 0) c.ratio_over) _ (by_ratio p.winding1.first p.branch c.ratio)
-      (All-append IsDivided (complex_terms p.winding1.second p.branch (neg_ℤ c.ratio) (pos 0) c.ratio_over) _ (by_ratio p.winding1.second p.branch (neg_ℤ c.ratio))
-      (All-append IsDivided (complex_terms p.winding2.first p.branch (negsuc 0) (pos 0) (pos 1)) _ (whole p.winding2.first p.branch (negsuc 0)) (whole p.winding2.second p.branch (pos 1))))
+      All-append IsDivided (complex_terms p.winding1.first p.branch c.ratio (pos 0) c.ratio_over) _
+      (by_ratio p.winding1.first p.branch c.ratio)
+      (All-append IsDivided (complex_terms p.winding1.second p.branch (neg_ℤ c.ratio) (pos 0) c.ratio_over) _
+      (by_ratio p.winding1.second p.branch (neg_ℤ c.ratio))
+      (All-append IsDivided (complex_terms p.winding2.first p.branch (negsuc 0) (pos 0) (pos 1)) _
+      (whole p.winding2.first p.branch (negsuc 0)) (whole p.winding2.second p.branch (pos 1))))
 
   phase_divided : All IsDivided (phase_list c p)
   phase_divided = All-append IsDivided (branch_list c p) (current_list c p) branch_divided current_divided
@@ -104,16 +116,23 @@ module _ (c : Coefficients) (p : PhaseAt) where
   branch_few : length (branch_list c p) ≤ 12
   branch_few =
       joined_few 8 4 _ (complex_terms p.branch p.branch (neg_ℤ c.r) (neg_ℤ c.x) (pos (10 ^ 22)))
-      (joined_few 4 4 (complex_terms p.branch p.winding1.first c.ratio (pos 0) c.ratio_over ++ complex_terms p.branch p.winding1.second (neg_ℤ c.ratio) (pos 0) c.ratio_over) _
-      (joined_few 2 2 (complex_terms p.branch p.winding1.first c.ratio (pos 0) c.ratio_over) _ (real_few p.branch p.winding1.first c.ratio c.ratio_over) (real_few p.branch p.winding1.second (neg_ℤ c.ratio) c.ratio_over))
-      (joined_few 2 2 (complex_terms p.branch p.winding2.first (negsuc 0) (pos 0) (pos 1)) _ (real_few p.branch p.winding2.first (negsuc 0) (pos 1)) (real_few p.branch p.winding2.second (pos 1) (pos 1))))
+      (joined_few 4 4 (complex_terms p.branch p.winding1.first c.ratio (pos 0) c.ratio_over
+      ++ complex_terms p.branch p.winding1.second (neg_ℤ c.ratio) (pos 0) c.ratio_over)
+      _ (joined_few 2 2 (complex_terms p.branch p.winding1.first c.ratio (pos 0) c.ratio_over) _
+      (real_few p.branch p.winding1.first c.ratio c.ratio_over)
+      (real_few p.branch p.winding1.second (neg_ℤ c.ratio) c.ratio_over))
+      (joined_few 2 2 (complex_terms p.branch p.winding2.first (negsuc 0) (pos 0) (pos 1)) _
+      (real_few p.branch p.winding2.first (negsuc 0) (pos 1)) (real_few p.branch p.winding2.second (pos 1) (pos 1))))
       (complex_few p.branch p.branch (neg_ℤ c.r) (neg_ℤ c.x) (pos (10 ^ 22)))
 
   current_few : length (current_list c p) ≤ 8
   current_few =
-      joined_few 2 6 (complex_terms p.winding1.first p.branch c.ratio (pos 0) c.ratio_over) _ (real_few p.winding1.first p.branch c.ratio c.ratio_over)
-      (joined_few 2 4 (complex_terms p.winding1.second p.branch (neg_ℤ c.ratio) (pos 0) c.ratio_over) _ (real_few p.winding1.second p.branch (neg_ℤ c.ratio) c.ratio_over)
-      (joined_few 2 2 (complex_terms p.winding2.first p.branch (negsuc 0) (pos 0) (pos 1)) _ (real_few p.winding2.first p.branch (negsuc 0) (pos 1)) (real_few p.winding2.second p.branch (pos 1) (pos 1))))
+      joined_few 2 6 (complex_terms p.winding1.first p.branch c.ratio (pos 0) c.ratio_over) _
+      (real_few p.winding1.first p.branch c.ratio c.ratio_over)
+      (joined_few 2 4 (complex_terms p.winding1.second p.branch (neg_ℤ c.ratio) (pos 0) c.ratio_over) _
+      (real_few p.winding1.second p.branch (neg_ℤ c.ratio) c.ratio_over)
+      (joined_few 2 2 (complex_terms p.winding2.first p.branch (negsuc 0) (pos 0) (pos 1)) _
+      (real_few p.winding2.first p.branch (negsuc 0) (pos 1)) (real_few p.winding2.second p.branch (pos 1) (pos 1))))
 
   phase_few : length (phase_list c p) ≤ 20
   phase_few = joined_few 12 8 (branch_list c p) (current_list c p) branch_few current_few

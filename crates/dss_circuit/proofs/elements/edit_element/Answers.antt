@@ -15,7 +15,8 @@ put_element-requires-clause-element_in_range c =
 pub put_element-requires-clause-class : goal.put_element-requires-clause-class
 put_element-requires-clause-class c =
     let there : IfSome (Some c.in-Some.element.now) (λ e. c.args.name.class ≡ class_of e) =
-    subst (λ found. IfSome found (λ e. c.args.name.class ≡ class_of e)) (sym c.in-Some.ensures) (found_class c.args.name c.args.elements.now.entries c.requires.well_formed.entries) in
+    subst (λ found. IfSome found (λ e. c.args.name.class ≡ class_of e)) (sym c.in-Some.ensures)
+    (found_class c.args.name c.args.elements.now.entries c.requires.well_formed.entries) in
     there ∙ ap class_of (sym c.in_ok-draft-in-Some.ensures)
 
 pub put_element-requires-clause-source : goal.put_element-requires-clause-source
@@ -26,5 +27,7 @@ put_element-requires-clause-source c = λ none.
 pub put_element-requires-clause-named : goal.put_element-requires-clause-named
 put_element-requires-clause-named c =
     let names = NamesAreThere c.args.elements.now.entries in
-    let there : IfSome (Some c.in-Some.element.now) names = subst (λ found. IfSome found names) (sym c.in-Some.ensures) (of_found names _ c.args.elements.now.entries c.requires.well_formed.named) in
+    let there : IfSome (Some c.in-Some.element.now) names =
+    subst (λ found. IfSome found names) (sym c.in-Some.ensures)
+    (of_found names _ c.args.elements.now.entries c.requires.well_formed.named) in
     subst names (sym c.in_ok-draft-in-Some.ensures) there

@@ -9,4 +9,6 @@ pub put_element-requires-clause-class : goal.put_element-requires-clause-class
 put_element-requires-clause-class c = sym (ap class_of c.in_ok-element.ensures.value ∙ fresh_class c.args.solves c.args.name.class _)
 
 pub put_element-requires-clause-named : goal.put_element-requires-clause-named
-put_element-requires-clause-named c = subst (NamesAreThere c.args.elements.now.entries) (sym c.in_ok-element.ensures.value) (fresh_names c.args.elements.now.entries c.args.solves c.args.name.class _)
+put_element-requires-clause-named c =
+    subst (NamesAreThere c.args.elements.now.entries) (sym c.in_ok-element.ensures.value)
+    (fresh_names c.args.elements.now.entries c.args.solves c.args.name.class _)

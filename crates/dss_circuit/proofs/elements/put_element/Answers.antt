@@ -8,10 +8,13 @@ use Rattle.dss_circuit.proofs.elements.put_element.Goals as goal
 
 pub returns-clause-in_range : goal.returns-clause-in_range
 returns-clause-in_range c =
-    All-same (OfValue ElementInRange) _ _ c.in_ok-insert_element.ensures.inserted (of_inserted ElementInRange _ c.args.elements.now.entries _ _ c.requires.in_range c.in_ok-set_pairs.ensures.in_range)
+    All-same (OfValue ElementInRange) _ _ c.in_ok-insert_element.ensures.inserted (of_inserted ElementInRange _
+    c.args.elements.now.entries _ _ c.requires.in_range c.in_ok-set_pairs.ensures.in_range)
 
 pub returns-clause-well_formed : goal.returns-clause-well_formed
 returns-clause-well_formed c =
     let class = c.requires.class ∙ sym (pairs_keep_class _ _ _ _ _ _ c.in_ok-set_pairs.ensures.set) in
     let named = pairs_keep_names _ _ _ _ _ _ c.requires.class c.in_ok-set_pairs.ensures.set c.requires.named in
-    subst AreWellFormed (sym c.in_ok-insert_element.ensures.inserted) (well_formed_kept _ _ c.args.elements.now.entries c.requires.key class c.requires.source named c.requires.well_formed)
+    subst AreWellFormed (sym c.in_ok-insert_element.ensures.inserted)
+    (well_formed_kept _ _ c.args.elements.now.entries c.requires.key class c.requires.source named
+    c.requires.well_formed)

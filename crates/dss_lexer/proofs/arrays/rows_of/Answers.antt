@@ -5,4 +5,6 @@ use Rattle.dss_lexer.specs.Arrays.{is_bar}
 use Rattle.dss_lexer.proofs.arrays.rows_of.Goals as goal
 
 pub returns : goal.returns
-returns c = map_from_collect _ c.collect.ensures.ran (YieldsList-from_slice_split _ is_bar c.args.text.now c.split.ensures.rest c.split.ensures.done c.split.ensures.closure (λ x b q k. search rules))
+returns c =
+    map_from_collect _ c.collect.ensures.ran (YieldsList-from_slice_split _ is_bar c.args.text.now
+    c.split.ensures.rest c.split.ensures.done c.split.ensures.closure (λ x b q k. search rules))

@@ -26,17 +26,25 @@ returns-in-Subtract c = rw c.in-Subtract.is (ap Ok (omega (arith, ints)))
 
 pub returns-in-Divide : goal.returns-in-Divide
 returns-in-Divide c =
-    c.divided.ensures ∙ quotient_same (to_z w64 (of_z w64 c.args.left)) (to_z w64 (of_z w64 c.args.right)) c.args.left c.args.right (omega (arith, ints)) (omega (arith, ints))
+    c.divided.ensures
+    ∙ quotient_same (to_z w64 (of_z w64 c.args.left)) (to_z w64 (of_z w64 c.args.right)) c.args.left c.args.right
+    (omega (arith, ints)) (omega (arith, ints))
     ∙ sym (ap (λ o. exact o c.args.left c.args.right) c.in-Divide.is)
 
 pub overflow_mul-from : goal.overflow_mul-from
-overflow_mul-from c = product_fits (to_z w128 (of_z w128 c.from-in-Multiply.result)) (to_z w128 (of_z w128 c.from-in-Multiply-2.result)) c.args.left c.args.right (omega (arith, ints)) (omega (arith, ints)) c.ranges.left c.ranges.right
+overflow_mul-from c =
+    product_fits (to_z w128 (of_z w128 c.from-in-Multiply.result)) (to_z w128 (of_z w128 c.from-in-Multiply-2.result))
+    c.args.left c.args.right (omega (arith, ints)) (omega (arith, ints)) c.ranges.left c.ranges.right
 
 pub nearest-requires-clause-number : goal.nearest-requires-clause-number
-nearest-requires-clause-number c = product_kept_size (to_z w128 (of_z w128 c.from-in-Multiply.result)) (to_z w128 (of_z w128 c.from-in-Multiply-2.result)) c.args.left c.args.right (omega (arith, ints)) (omega (arith, ints)) c.ranges.left c.ranges.right
+nearest-requires-clause-number c =
+    product_kept_size (to_z w128 (of_z w128 c.from-in-Multiply.result))
+    (to_z w128 (of_z w128 c.from-in-Multiply-2.result)) c.args.left c.args.right (omega (arith, ints))
+    (omega (arith, ints)) c.ranges.left c.ranges.right
 
 pub returns-in-Multiply : goal.returns-in-Multiply
 returns-in-Multiply c =
-    rw c.in-Multiply.is
-    (ap Ok (omega (arith, ints) ∙ c.nearest.ensures
-    ∙ ap (λ z. near_div z 1_000_000_000) (product_kept (to_z w128 (of_z w128 c.from-in-Multiply.result)) (to_z w128 (of_z w128 c.from-in-Multiply-2.result)) c.args.left c.args.right (omega (arith, ints)) (omega (arith, ints)) c.ranges.left c.ranges.right)))
+    rw c.in-Multiply.is (ap Ok (omega (arith, ints) ∙ c.nearest.ensures
+    ∙ ap (λ z. near_div z 1_000_000_000) (product_kept (to_z w128 (of_z w128 c.from-in-Multiply.result))
+    (to_z w128 (of_z w128 c.from-in-Multiply-2.result)) c.args.left c.args.right (omega (arith, ints))
+    (omega (arith, ints)) c.ranges.left c.ranges.right)))

@@ -9,13 +9,17 @@ use Rattle.dss_ready.proofs.feeding.first_isolated.Goals as goal
 
 pub returns-then-branch : goal.returns-then-branch
 returns-then-branch c =
-    let here = ap (λ es. slice_get es c.loop-place.place) (sym c.as_slice-entries.ensures.entries) ∙ sym c.get_index.ensures.entry ∙ ap (option_map deref_pair) c.unwrap.ensures in
+    let here = ap (λ es. slice_get es c.loop-place.place) (sym c.as_slice-entries.ensures.entries)
+    ∙ sym c.get_index.ensures.entry
+    ∙ ap (option_map deref_pair) c.unwrap.ensures in
     first_isolated_at c.args.elements.now.entries c.loop-place.place _ _ _ _ _ here (ap (λ (v : LayoutView). v.nodes) c.requires)
     (c.deref.ensures.value ∙ c.in_ok-labels.ensures.labels) c.in_ok-is_apart.ensures c.if-branch.true c.loop-place.invariant
 
 pub loop-place-preserved : goal.loop-place-preserved
 loop-place-preserved c =
-    let here = ap (λ es. slice_get es c.loop-place.place) (sym c.as_slice-entries.ensures.entries) ∙ sym c.get_index.ensures.entry ∙ ap (option_map deref_pair) c.unwrap.ensures in
+    let here = ap (λ es. slice_get es c.loop-place.place) (sym c.as_slice-entries.ensures.entries)
+    ∙ sym c.get_index.ensures.entry
+    ∙ ap (option_map deref_pair) c.unwrap.ensures in
     fed_up_to c.args.elements.now.entries c.loop-place.place _ _ _ _ _ here (ap (λ (v : LayoutView). v.nodes) c.requires)
     (c.deref.ensures.value ∙ c.in_ok-labels.ensures.labels) c.in_ok-is_apart.ensures c.if-branch.false c.loop-place.invariant
 

@@ -32,7 +32,8 @@ returns-then-labels-number_of c =
     let nodes = c.args.layout.now.nodes in
     let labels = c.args.labels.now in
     let p = apart nodes labels in
-    let differs = tested nodes c.nodes.result.now labels c.name-item.result c.number_of.result false c.nodes.ensures c.number_of.ensures.number (ne_eqb _ _ c.if-labels-number_of.true) in
+    let differs = tested nodes c.nodes.result.now labels c.name-item.result c.number_of.result false c.nodes.ensures
+    c.number_of.ensures.number (ne_eqb _ _ c.if-labels-number_of.true) in
     sym (next p c.deref-name-items.result.now c.loop-name.name-index c.name-item.result true c.loop-name-test.true c.name-item.is differs)
     ∙ c.loop-name.invariant
     ∙ ap (list_any p) (c.deref-name-items.ensures.value ∙ c.in_ok-names.ensures)
@@ -42,7 +43,8 @@ loop-name-preserved c =
     let nodes = c.args.layout.now.nodes in
     let labels = c.args.labels.now in
     let p = apart nodes labels in
-    let same = tested nodes c.nodes.result.now labels c.name-item.result c.number_of.result true c.nodes.ensures c.number_of.ensures.number (eq-eqb _ _ c.if-labels-number_of.false) in
+    let same = tested nodes c.nodes.result.now labels c.name-item.result c.number_of.result true c.nodes.ensures
+    c.number_of.ensures.number (eq-eqb _ _ c.if-labels-number_of.false) in
     sym (next p c.deref-name-items.result.now c.loop-name.name-index c.name-item.result false c.loop-name-test.true c.name-item.is same)
     ∙ c.loop-name.invariant
 

@@ -15,12 +15,17 @@ loop-name-preserved c =
     let before : Elements = map deref_pair c.loop-name.yielded in
     let entry : ElementName × Element = (c.in-Some.name.now, c.in-Some.element.now) in
     let all = c.args.elements.now.entries in
-    let more : map deref_pair (c.loop-name.yielded ++ (c.in-Some.name, c.in-Some.element) ∷ []) ≡ before ++ entry ∷ [] = map-append deref_pair c.loop-name.yielded ((c.in-Some.name, c.in-Some.element) ∷ []) in
+    let more : map deref_pair (c.loop-name.yielded ++ (c.in-Some.name, c.in-Some.element) ∷ [])
+    ≡ before ++ entry ∷ [] =
+    map-append deref_pair c.loop-name.yielded ((c.in-Some.name, c.in-Some.element) ∷ []) in
     record {
-      noted = subst (λ b. Notes c.note.new.self b) (sym more) (notes_more c.loop-name.seen c.note.new.self before entry c.in_ok-second.ensures.noted c.loop-name.invariant.noted);
+      noted = subst (λ b. Notes c.note.new.self b) (sym more) (notes_more c.loop-name.seen c.note.new.self before
+          entry c.in_ok-second.ensures.noted c.loop-name.invariant.noted);
       rest = ap (λ b. first_blame c.args.hertz all b c.next.new.self) more
-          ∙ one_blamed c.args.hertz all before c.loop-name.name-iterator c.next.new.self entry c.in_ok-second.second None (first_blame c.args.hertz all [] all)
-          c.in-Some.ensures.steps (c.in_ok-second.ensures.second before c.loop-name.invariant.noted) (sym c.in_default.is ∙ c.in_ok-cause.ensures) c.loop-name.invariant.rest;
+          ∙ one_blamed c.args.hertz all before c.loop-name.name-iterator c.next.new.self entry c.in_ok-second.second
+          None (first_blame c.args.hertz all [] all) c.in-Some.ensures.steps
+          (c.in_ok-second.ensures.second before c.loop-name.invariant.noted)
+          (sym c.in_default.is ∙ c.in_ok-cause.ensures) c.loop-name.invariant.rest;
     }
 
 pub returns-in-Some-2 : goal.returns-in-Some-2
@@ -28,6 +33,8 @@ returns-in-Some-2 c =
     let before : Elements = map deref_pair c.loop-name.yielded in
     let entry : ElementName × Element = (c.in-Some.name.now, c.in-Some.element.now) in
     let all = c.args.elements.now.entries in
-    sym (one_blamed c.args.hertz all before c.loop-name.name-iterator c.next.new.self entry c.in_ok-second.second (Some c.in-Some-2.cause) (first_blame c.args.hertz all [] all)
-    c.in-Some.ensures.steps (c.in_ok-second.ensures.second before c.loop-name.invariant.noted) (sym c.in-Some-2.is ∙ c.in_ok-cause.ensures) c.loop-name.invariant.rest)
+    sym (one_blamed c.args.hertz all before c.loop-name.name-iterator c.next.new.self entry c.in_ok-second.second
+    (Some c.in-Some-2.cause) (first_blame c.args.hertz all [] all) c.in-Some.ensures.steps
+    (c.in_ok-second.ensures.second before c.loop-name.invariant.noted) (sym c.in-Some-2.is ∙ c.in_ok-cause.ensures)
+    c.loop-name.invariant.rest)
     ∙ ap Err (sym c.in_ok-blame.ensures)

@@ -5,4 +5,6 @@ use Rattle.dss_script.specs.Meaning.{is_dot}
 use Rattle.dss_script.proofs.meaning.parts_of.Goals as goal
 
 pub returns : goal.returns
-returns c = map_from_collect _ c.collect.ensures.ran (YieldsList-from_slice_split _ is_dot c.args.text.now c.split.ensures.rest c.split.ensures.done c.split.ensures.closure (λ x b q k. search rules))
+returns c =
+    map_from_collect _ c.collect.ensures.ran (YieldsList-from_slice_split _ is_dot c.args.text.now
+    c.split.ensures.rest c.split.ensures.done c.split.ensures.closure (λ x b q k. search rules))

@@ -5,4 +5,6 @@ use Rattle.dss_values.specs.Forms.{is_point}
 use Rattle.dss_values.proofs.forms.parts.Goals as goal
 
 pub returns : goal.returns
-returns c = map_from_collect _ c.collect.ensures.ran (YieldsList-from_slice_split _ is_point c.args.word.now c.split.ensures.rest c.split.ensures.done c.split.ensures.closure (λ x b q k. search rules))
+returns c =
+    map_from_collect _ c.collect.ensures.ran (YieldsList-from_slice_split _ is_point c.args.word.now
+    c.split.ensures.rest c.split.ensures.done c.split.ensures.closure (λ x b q k. search rules))

@@ -23,34 +23,45 @@ never_read code is four = elim is [
 pub returns-in_default-clause-run : goal.returns-in_default-clause-run
 returns-in_default-clause-run g c files told =
     let form = form_of (map string_bytes c.args.words.now) in
-    alone_runs g.L.Library.faults g.L.Library.asked g.S.Sink.taken g.S.Sink.calls c.args.lib.now c.args.out.now c.args.out.now (λ h. IsFormHistory files form h) (style_of form) IsSolved 1
-    (short_alone g.S.Sink.taken g.S.Sink.calls c.args.out.now (λ h. IsFormHistory files form h) (style_of form) (forms files form))
+    alone_runs g.L.Library.faults g.L.Library.asked g.S.Sink.taken g.S.Sink.calls c.args.lib.now c.args.out.now
+    c.args.out.now (λ h. IsFormHistory files form h) (style_of form) IsSolved 1
+    (short_alone g.S.Sink.taken g.S.Sink.calls c.args.out.now (λ h. IsFormHistory files form h) (style_of form)
+    (forms files form))
 
 pub returns-in-None-clause-run : goal.returns-in-None-clause-run
 returns-in-None-clause-run g c files told =
     let form : form_of (map string_bytes c.args.words.now) ≡ None = sym c.in-Ok.ensures.form ∙ ap (option_map form_in) c.in-None.is in
-    rw form (fault_alone g.L.Library.faults g.L.Library.asked g.S.Sink.taken g.S.Sink.calls report IsSolved c.args.lib.now c.args.out.now c.print_fault.new.out fault.Usage c.print_fault.result c.print_fault.ensures.prints)
+    rw form (fault_alone g.L.Library.faults g.L.Library.asked g.S.Sink.taken g.S.Sink.calls report IsSolved
+    c.args.lib.now c.args.out.now c.print_fault.new.out fault.Usage c.print_fault.result c.print_fault.ensures.prints)
 
 pub returns-in-None-clause-statuses : goal.returns-in-None-clause-statuses
-returns-in-None-clause-statuses g c = inr (fault_answers g.S.Sink.taken g.S.Sink.calls c.args.out.now c.print_fault.new.out fault.Usage c.print_fault.result c.print_fault.ensures.prints)
+returns-in-None-clause-statuses g c =
+    inr (fault_answers g.S.Sink.taken g.S.Sink.calls c.args.out.now c.print_fault.new.out fault.Usage
+    c.print_fault.result c.print_fault.ensures.prints)
 
 pub returns-in-None-clause-usage : goal.returns-in-None-clause-usage
 returns-in-None-clause-usage g c two = sym c.in-Ok.ensures.form ∙ ap (option_map form_in) c.in-None.is
 
 pub returns-in-None-clause-read : goal.returns-in-None-clause-read
 returns-in-None-clause-read g c four =
-    absurd (never_read c.print_fault.result (fault_code g.S.Sink.taken g.S.Sink.calls c.args.out.now c.print_fault.new.out fault.Usage c.print_fault.result c.print_fault.ensures.prints) four)
+    absurd (never_read c.print_fault.result (fault_code g.S.Sink.taken g.S.Sink.calls c.args.out.now
+    c.print_fault.new.out fault.Usage c.print_fault.result c.print_fault.ensures.prints)
+    four)
 
 pub returns-in-None-clause-last : goal.returns-in-None-clause-last
 returns-in-None-clause-last g c four =
-    absurd (never_read c.print_fault.result (fault_code g.S.Sink.taken g.S.Sink.calls c.args.out.now c.print_fault.new.out fault.Usage c.print_fault.result c.print_fault.ensures.prints) four)
+    absurd (never_read c.print_fault.result (fault_code g.S.Sink.taken g.S.Sink.calls c.args.out.now
+    c.print_fault.new.out fault.Usage c.print_fault.result c.print_fault.ensures.prints)
+    four)
 
 pub returns-in-None-clause-grows : goal.returns-in-None-clause-grows
 returns-in-None-clause-grows g c = grows_none (g.L.Library.asked c.args.lib.now)
 
 pub returns-in-Some-Solve-clause-run : goal.returns-in-Some-Solve-clause-run
 returns-in-Some-Solve-clause-run g c files =
-    let form : form_of (map string_bytes c.args.words.now) ≡ Some (Solve c.in-Some-Solve.file.now) = sym c.in-Ok.ensures.form ∙ ap (option_map form_in) c.in-Some-Solve.is ∙ ap (λ (w : Words). Some (form_in w)) (rw c.in-Some-Solve.is at c.in-Some-Solve.field-0-is) in
+    let form : form_of (map string_bytes c.args.words.now) ≡ Some (Solve c.in-Some-Solve.file.now) =
+    sym c.in-Ok.ensures.form ∙ ap (option_map form_in) c.in-Some-Solve.is
+    ∙ ap (λ (w : Words). Some (form_in w)) (rw c.in-Some-Solve.is at c.in-Some-Solve.field-0-is) in
     rw form (c.solve.ensures.run files)
 
 pub returns-in-Some-Solve-clause-usage : goal.returns-in-Some-Solve-clause-usage
@@ -58,7 +69,9 @@ returns-in-Some-Solve-clause-usage g c two = absurd (c.solve.ensures.untold.usag
 
 pub returns-in-Some-Cert-clause-run : goal.returns-in-Some-Cert-clause-run
 returns-in-Some-Cert-clause-run g c files =
-    let form : form_of (map string_bytes c.args.words.now) ≡ Some (Cert c.in-Some-Cert.file.now) = sym c.in-Ok.ensures.form ∙ ap (option_map form_in) c.in-Some-Cert.is ∙ ap (λ (w : Words). Some (form_in w)) (rw c.in-Some-Cert.is at c.in-Some-Cert.field-0-is) in
+    let form : form_of (map string_bytes c.args.words.now) ≡ Some (Cert c.in-Some-Cert.file.now) =
+    sym c.in-Ok.ensures.form ∙ ap (option_map form_in) c.in-Some-Cert.is
+    ∙ ap (λ (w : Words). Some (form_in w)) (rw c.in-Some-Cert.is at c.in-Some-Cert.field-0-is) in
     rw form (c.solve-in-Some-Cert.ensures.run files)
 
 pub returns-in-Some-Cert-clause-usage : goal.returns-in-Some-Cert-clause-usage
@@ -66,7 +79,10 @@ returns-in-Some-Cert-clause-usage g c two = absurd (c.solve-in-Some-Cert.ensures
 
 pub returns-in-Some-Check-clause-run : goal.returns-in-Some-Check-clause-run
 returns-in-Some-Check-clause-run g c files =
-    let form : form_of (map string_bytes c.args.words.now) ≡ Some (Check c.in-Some-Check.script.now c.in-Some-Check.certificate.now) = sym c.in-Ok.ensures.form ∙ ap (option_map form_in) c.in-Some-Check.is ∙ ap (λ (w : Words). Some (form_in w)) (rw c.in-Some-Check.is at c.in-Some-Check.field-0-is) in
+    let form : form_of (map string_bytes c.args.words.now)
+    ≡ Some (Check c.in-Some-Check.script.now c.in-Some-Check.certificate.now) =
+    sym c.in-Ok.ensures.form ∙ ap (option_map form_in) c.in-Some-Check.is
+    ∙ ap (λ (w : Words). Some (form_in w)) (rw c.in-Some-Check.is at c.in-Some-Check.field-0-is) in
     rw form (c.check.ensures.run files)
 
 pub returns-in-Some-Check-clause-usage : goal.returns-in-Some-Check-clause-usage
@@ -81,25 +97,39 @@ pub returns-in-Some-Gen-clause-run : goal.returns-in-Some-Gen-clause-run
 returns-in-Some-Gen-clause-run g c files told =
     let number = c.in-Some-Gen.number in
     let sections = c.in-Some-Gen.sections in
-    let form : form_of (map string_bytes c.args.words.now) ≡ Some (Gen number sections) = sym c.in-Ok.ensures.form ∙ ap (option_map form_in) c.in-Some-Gen.is ∙ ap (λ (w : Words). Some (form_in w)) (rw c.in-Some-Gen.is at c.in-Some-Gen.field-0-is) in
-    rw form (alone_runs g.L.Library.faults g.L.Library.asked g.S.Sink.taken g.S.Sink.calls c.args.lib.now c.args.out.now c.write_script.new.out (λ h. h ≡ script_written number sections) report IsSolved c.write_script.result
-    (printed_alone g.S.Sink.taken g.S.Sink.calls c.args.out.now c.write_script.new.out (script_written number sections) report IsSolved c.write_script.result (lines_good IsSolved (script_of number sections)) c.write_script.ensures.prints))
+    let form : form_of (map string_bytes c.args.words.now) ≡ Some (Gen number sections) =
+    sym c.in-Ok.ensures.form ∙ ap (option_map form_in) c.in-Some-Gen.is
+    ∙ ap (λ (w : Words). Some (form_in w)) (rw c.in-Some-Gen.is at c.in-Some-Gen.field-0-is) in
+    rw form
+    (alone_runs g.L.Library.faults g.L.Library.asked g.S.Sink.taken g.S.Sink.calls c.args.lib.now c.args.out.now
+    c.write_script.new.out (λ h. h ≡ script_written number sections) report IsSolved c.write_script.result
+    (printed_alone g.S.Sink.taken g.S.Sink.calls c.args.out.now c.write_script.new.out
+    (script_written number sections) report IsSolved c.write_script.result
+    (lines_good IsSolved (script_of number sections)) c.write_script.ensures.prints))
 
 pub returns-in-Some-Gen-clause-statuses : goal.returns-in-Some-Gen-clause-statuses
 returns-in-Some-Gen-clause-statuses g c =
-    (untold_last g.L.Library.faults g.L.Library.asked g.S.Sink.faults g.S.Sink.taken g.S.Sink.calls c.args.lib.now c.args.out.now c.write_script.new.out _ c.write_script.result c.write_script.ensures.prints c.write_script.ensures.write).answers
+    (untold_last g.L.Library.faults g.L.Library.asked g.S.Sink.faults g.S.Sink.taken g.S.Sink.calls c.args.lib.now
+    c.args.out.now c.write_script.new.out _ c.write_script.result c.write_script.ensures.prints
+    c.write_script.ensures.write).answers
 
 pub returns-in-Some-Gen-clause-usage : goal.returns-in-Some-Gen-clause-usage
 returns-in-Some-Gen-clause-usage g c two =
-    absurd ((untold_last g.L.Library.faults g.L.Library.asked g.S.Sink.faults g.S.Sink.taken g.S.Sink.calls c.args.lib.now c.args.out.now c.write_script.new.out _ c.write_script.result c.write_script.ensures.prints c.write_script.ensures.write).usage two)
+    absurd ((untold_last g.L.Library.faults g.L.Library.asked g.S.Sink.faults g.S.Sink.taken g.S.Sink.calls
+    c.args.lib.now c.args.out.now c.write_script.new.out _ c.write_script.result c.write_script.ensures.prints
+    c.write_script.ensures.write).usage two)
 
 pub returns-in-Some-Gen-clause-read : goal.returns-in-Some-Gen-clause-read
 returns-in-Some-Gen-clause-read g c =
-    (untold_last g.L.Library.faults g.L.Library.asked g.S.Sink.faults g.S.Sink.taken g.S.Sink.calls c.args.lib.now c.args.out.now c.write_script.new.out _ c.write_script.result c.write_script.ensures.prints c.write_script.ensures.write).read
+    (untold_last g.L.Library.faults g.L.Library.asked g.S.Sink.faults g.S.Sink.taken g.S.Sink.calls c.args.lib.now
+    c.args.out.now c.write_script.new.out _ c.write_script.result c.write_script.ensures.prints
+    c.write_script.ensures.write).read
 
 pub returns-in-Some-Gen-clause-last : goal.returns-in-Some-Gen-clause-last
 returns-in-Some-Gen-clause-last g c =
-    (untold_last g.L.Library.faults g.L.Library.asked g.S.Sink.faults g.S.Sink.taken g.S.Sink.calls c.args.lib.now c.args.out.now c.write_script.new.out _ c.write_script.result c.write_script.ensures.prints c.write_script.ensures.write).last
+    (untold_last g.L.Library.faults g.L.Library.asked g.S.Sink.faults g.S.Sink.taken g.S.Sink.calls c.args.lib.now
+    c.args.out.now c.write_script.new.out _ c.write_script.result c.write_script.ensures.prints
+    c.write_script.ensures.write).last
 
 pub returns-in-Some-Gen-clause-grows : goal.returns-in-Some-Gen-clause-grows
 returns-in-Some-Gen-clause-grows g c = grows_none (g.L.Library.asked c.args.lib.now)
@@ -113,8 +143,12 @@ pub returns-in-Some-Bench-clause-run : goal.returns-in-Some-Bench-clause-run
 returns-in-Some-Bench-clause-run g c files told =
     let number = c.in-Some-Bench.number in
     let sections = c.in-Some-Bench.sections in
-    let form : form_of (map string_bytes c.args.words.now) ≡ Some (Bench number sections) = sym c.in-Ok.ensures.form ∙ ap (option_map form_in) c.in-Some-Bench.is ∙ ap (λ (w : Words). Some (form_in w)) (rw c.in-Some-Bench.is at c.in-Some-Bench.field-0-is) in
-    rw form (alone_runs g.L.Library.faults g.L.Library.asked g.S.Sink.taken g.S.Sink.calls c.args.lib.now c.args.out.now c.bench.new.out (λ h. IsBenchHistory number sections h) lines_alone IsSolved c.bench.result c.bench.ensures.run)
+    let form : form_of (map string_bytes c.args.words.now) ≡ Some (Bench number sections) =
+    sym c.in-Ok.ensures.form ∙ ap (option_map form_in) c.in-Some-Bench.is
+    ∙ ap (λ (w : Words). Some (form_in w)) (rw c.in-Some-Bench.is at c.in-Some-Bench.field-0-is) in
+    rw form
+    (alone_runs g.L.Library.faults g.L.Library.asked g.S.Sink.taken g.S.Sink.calls c.args.lib.now c.args.out.now
+    c.bench.new.out (λ h. IsBenchHistory number sections h) lines_alone IsSolved c.bench.result c.bench.ensures.run)
 
 pub returns-in-Some-Bench-clause-usage : goal.returns-in-Some-Bench-clause-usage
 returns-in-Some-Bench-clause-usage g c two = absurd (c.bench.ensures.usage two)

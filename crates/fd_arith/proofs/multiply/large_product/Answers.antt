@@ -15,4 +15,7 @@ returns g c =
     let q = simp to_z-of_z at c.end_product-2.ensures in
     let r = simp to_z-of_z at c.end_product-3.ensures in
     let s = simp to_z-of_z at c.end_product-4.ensures in
-    c.hull.ensures.ends ∙ (λ i. hull_of ((c.hull-at_lo.ensures.ends ∙ (λ j. hull_of (p j) (q j))) i) ((c.hull-at_hi.ensures.ends ∙ (λ j. hull_of (r j) (s j))) i)) ∙ four_products c.args.lo c.args.hi c.args.low c.args.high
+    c.hull.ensures.ends
+    ∙ (λ i. hull_of ((c.hull-at_lo.ensures.ends ∙ (λ j. hull_of (p j) (q j))) i)
+    ((c.hull-at_hi.ensures.ends ∙ (λ j. hull_of (r j) (s j))) i))
+    ∙ four_products c.args.lo c.args.hi c.args.low c.args.high

@@ -15,4 +15,5 @@ returns-in_default-clause-units c =
     let v = simp to_z-of_z at c.unsigned_abs-2.ensures.value in
     let size : c.unsigned_abs.result * c.unsigned_abs-2.result ≡ unsigned_abs c.args.x * unsigned_abs c.args.y = λ i. u i * v i in
     sym (ap (λ z. nearest z (2 ^ 40)) s
-    ∙ nearest_large c.differ_in_sign-negative.result (unsigned_abs c.args.x * unsigned_abs c.args.y) (2 ^ 40) (lit< tt) (omega (arith, c.in_default.ensures.large, size)))
+    ∙ nearest_large c.differ_in_sign-negative.result (unsigned_abs c.args.x * unsigned_abs c.args.y) (2 ^ 40)
+    (lit< tt) (omega (arith, c.in_default.ensures.large, size)))

@@ -16,7 +16,8 @@ returns-in_default-clause-ends c =
     let v = simp to_z-of_z at c.unsigned_abs-2.ensures.value in
     let size : c.unsigned_abs.result * c.unsigned_abs-2.result ≡ unsigned_abs c.args.x * unsigned_abs c.args.y = λ i. u i * v i in
     sym (ap (λ z. outward z (2 ^ 40)) s
-    ∙ outward_large c.differ_in_sign-negative.result (unsigned_abs c.args.x * unsigned_abs c.args.y) (2 ^ 40) (lit< tt) (omega (arith, c.in_default.ensures.large, size)))
+    ∙ outward_large c.differ_in_sign-negative.result (unsigned_abs c.args.x * unsigned_abs c.args.y) (2 ^ 40)
+    (lit< tt) (omega (arith, c.in_default.ensures.large, size)))
 
 pub returns-clause-ends : goal.returns-clause-ends
 returns-clause-ends c =

@@ -21,7 +21,9 @@ lower g c =
     let r : FitsSigned w128 (c.args.hi *ℤ c.args.low) = small_signed _ (small_product _ _ c.requires.upper c.requires.lower_factor) in
     let s : FitsSigned w128 (c.args.hi *ℤ c.args.high) = small_signed _ (small_product _ _ c.requires.upper c.requires.upper_factor) in
     let e = simp to_z-of_z at c.lowest.ensures in
-    let t : FitsSigned w128 c.lowest.result = subst (FitsSigned w128) (sym e) (small_signed _ (least_small _ _ _ _ c.requires.lower c.requires.upper c.requires.lower_factor c.requires.upper_factor)) in
+    let t : FitsSigned w128 c.lowest.result =
+    subst (FitsSigned w128) (sym e) (small_signed _
+    (least_small _ _ _ _ c.requires.lower c.requires.upper c.requires.lower_factor c.requires.upper_factor)) in
     let f = simp to_z-of_z at c.floor_over_coef.ensures in
     f ∙ ap (λ z. floor_div z (2 ^ 40)) e
 
@@ -39,7 +41,9 @@ highest_is g c =
     simp to_z-of_z at c.highest.ensures
 
 highest_small : (g : _) (c : goal.After-highest g) → IsSmallProduct c.highest.result
-highest_small g c = subst IsSmallProduct (sym (highest_is g c)) (greatest_small _ _ _ _ c.requires.lower c.requires.upper c.requires.lower_factor c.requires.upper_factor)
+highest_small g c =
+    subst IsSmallProduct (sym (highest_is g c))
+    (greatest_small _ _ _ _ c.requires.lower c.requires.upper c.requires.lower_factor c.requires.upper_factor)
 
 pub ceil_over_coef-requires : goal.ceil_over_coef-requires
 ceil_over_coef-requires g c =
@@ -54,10 +58,14 @@ upper g c =
     f ∙ ap (λ z. ceil_div z (2 ^ 40)) (highest_is g c.before)
 
 lower_fits : (g : _) (c : goal.After-ceil_over_coef g) → Fits c.floor_over_coef.result
-lower_fits g c = subst Fits (sym (lower g c)) (floor_small _ (least_small _ _ _ _ c.requires.lower c.requires.upper c.requires.lower_factor c.requires.upper_factor))
+lower_fits g c =
+    subst Fits (sym (lower g c)) (floor_small _
+    (least_small _ _ _ _ c.requires.lower c.requires.upper c.requires.lower_factor c.requires.upper_factor))
 
 upper_fits : (g : _) (c : goal.After-ceil_over_coef g) → Fits c.ceil_over_coef.result
-upper_fits g c = subst Fits (sym (upper g c)) (ceil_small _ (greatest_small _ _ _ _ c.requires.lower c.requires.upper c.requires.lower_factor c.requires.upper_factor))
+upper_fits g c =
+    subst Fits (sym (upper g c)) (ceil_small _
+    (greatest_small _ _ _ _ c.requires.lower c.requires.upper c.requires.lower_factor c.requires.upper_factor))
 
 pub known-requires-clause-lower : goal.known-requires-clause-lower
 known-requires-clause-lower g c = let f = lower_fits g c in omega (arith, ints, f)
@@ -69,7 +77,11 @@ pub known-requires-clause-order : goal.known-requires-clause-order
 known-requires-clause-order g c =
     let f = lower_fits g c in
     let h = upper_fits g c in
-    let o = ≤ℤ_trans (floor-mono (least (c.args.lo, c.args.hi) (c.args.low, c.args.high)) (greatest (c.args.lo, c.args.hi) (c.args.low, c.args.high)) (2 ^ 40) (lit< tt) (least_greatest (c.args.lo, c.args.hi) (c.args.low, c.args.high))) (floor-ceil (greatest (c.args.lo, c.args.hi) (c.args.low, c.args.high)) (2 ^ 40) (lit< tt)) in
+    let o = ≤ℤ_trans (floor-mono (least (c.args.lo, c.args.hi) (c.args.low, c.args.high)) (greatest (
+      c.args.lo,
+      c.args.hi,
+    ) (c.args.low, c.args.high)) (2 ^ 40) (lit< tt) (least_greatest (c.args.lo, c.args.hi) (c.args.low, c.args.high)))
+    (floor-ceil (greatest (c.args.lo, c.args.hi) (c.args.low, c.args.high)) (2 ^ 40) (lit< tt)) in
     let o2 : c.floor_over_coef.result ≤ℤ c.ceil_over_coef.result = rw (lower g c, upper g c) o in
     omega (arith, ints, f, h, o2)
 

@@ -8,5 +8,6 @@ pub loop-bus-preserved : goal.loop-bus-preserved
 loop-bus-preserved c =
     let r = c.nearest.result in
     let fits : FitsSigned w128 r = search rules in
-    based_more _ _ c.loop-bus.bases.items c.push.new.self.items c.loop-bus.bus-iterator c.next.new.self _ c.in-Some.bus c.in-Some.nominal _ c.in-Some.ensures.steps
-    c.in_ok-push.ensures.items (to_z-of_z w128 r fits ∙ c.nearest.ensures) c.loop-bus.invariant
+    based_more _ _ c.loop-bus.bases.items c.push.new.self.items c.loop-bus.bus-iterator c.next.new.self _
+    c.in-Some.bus c.in-Some.nominal _ c.in-Some.ensures.steps c.in_ok-push.ensures.items
+    (to_z-of_z w128 r fits ∙ c.nearest.ensures) c.loop-bus.invariant

@@ -17,10 +17,12 @@ loop-base-preserved c =
     let in_range : IsBetween (pos 1_000_000) (ones 1000) b = c.requires.others_in_range i (pos 0) c.loop-base-test.true in
     let said = simp (to_z-of_z w128 b (fits b in_range)) at c.nearer-best.ensures in
     let r = c.nearer-best.result in
-    let r_in_range : IsBetween (pos 1_000_000) (ones 1000) r = either (IsBetween (pos 1_000_000) (ones 1000)) _ b r said.one_of_them in_range c.loop-base.invariant.in_range in
+    let r_in_range : IsBetween (pos 1_000_000) (ones 1000) r =
+    either (IsBetween (pos 1_000_000) (ones 1000)) _ b r said.one_of_them in_range c.loop-base.invariant.in_range in
     rw (to_z-of_z w128 r (fits r r_in_range)) (record {
       in_range = r_in_range;
-      chosen = next_best c.args.nominal _ xs i _ b r c.loop-base-test.true refl said.one_of_them said.before_base said.before_other c.loop-base.invariant.chosen;
+      chosen = next_best c.args.nominal _ xs i _ b r c.loop-base-test.true refl said.one_of_them said.before_base
+          said.before_other c.loop-base.invariant.chosen;
     })
 
 pub returns : goal.returns

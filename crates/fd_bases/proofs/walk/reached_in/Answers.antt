@@ -17,5 +17,7 @@ loop-pass-preserved c =
 
 pub returns-then-len-before : goal.returns-then-len-before
 returns-then-len-before c =
-    last_pass (length c.args.elements.now.entries) c.loop-pass._pass c.args.elements.now.entries c.loop-pass.reached.entries c.pass.new.reached.entries
-    (omega (arith, c.loop-pass-test.true, c.len-pass-end.ensures.len)) c.in_ok-pass.ensures (sym c.len.ensures.len ∙ c.if-len-before.true ∙ c.len-before.ensures.len) c.loop-pass.invariant
+    last_pass (length c.args.elements.now.entries) c.loop-pass._pass c.args.elements.now.entries
+    c.loop-pass.reached.entries c.pass.new.reached.entries
+    (omega (arith, c.loop-pass-test.true, c.len-pass-end.ensures.len)) c.in_ok-pass.ensures
+    (sym c.len.ensures.len ∙ c.if-len-before.true ∙ c.len-before.ensures.len) c.loop-pass.invariant

@@ -11,18 +11,25 @@ use Rattle.fd_bench.proofs.Benched.{bench_history, short_alone, without_library,
 use Rattle.fd_bench.proofs.benching.bench.Goals as goal
 
 pub returns-in_default-clause-run : goal.returns-in_default-clause-run
-returns-in_default-clause-run g c = short_alone g.S.Sink.taken g.S.Sink.calls c.args.out.now (λ h. IsBenchHistory c.args.number c.args.sections h) lines_alone (one_bench c.args.number c.args.sections)
+returns-in_default-clause-run g c =
+    short_alone g.S.Sink.taken g.S.Sink.calls c.args.out.now (λ h. IsBenchHistory c.args.number c.args.sections h)
+    lines_alone (one_bench c.args.number c.args.sections)
 
 pub returns-in_default-open-clause-run : goal.returns-in_default-open-clause-run
-returns-in_default-open-clause-run g c = short_alone g.S.Sink.taken g.S.Sink.calls c.args.out.now (λ h. IsBenchHistory c.args.number c.args.sections h) lines_alone (one_bench c.args.number c.args.sections)
+returns-in_default-open-clause-run g c =
+    short_alone g.S.Sink.taken g.S.Sink.calls c.args.out.now (λ h. IsBenchHistory c.args.number c.args.sections h)
+    lines_alone (one_bench c.args.number c.args.sections)
 
 pub returns-clause-run : goal.returns-clause-run
 returns-clause-run g c =
     let files = feeder_files c.args.number c.args.sections in
     let script = remaining files c.in-Ok-open.session in
     let told = c.new-lib.ensures.holds ∙ ap (λ entries. Some (from_entries entries)) c.in-Ok.ensures in
-    without_library _ _ g.S.Sink.taken g.S.Sink.calls c.new-lib.result c.run_script.new.lib c.args.out.now c.run_script.new.out
-    (λ h. IsFrom IsBenchStep no_bench_name IsBenchLast (λ n. held files (bytes n)) (record { left = said_in script; end = end_in script; state = c.new-line.result }) h)
-    (λ h. IsBenchHistory c.args.number c.args.sections h)
-    (bench_history c.said_law.ensures c.args.number c.args.sections script c.new-line.result (c.in-Ok-open.ensures.script files) c.new-line.ensures)
+    without_library _ _ g.S.Sink.taken g.S.Sink.calls c.new-lib.result c.run_script.new.lib c.args.out.now
+    c.run_script.new.out (λ h. IsFrom IsBenchStep no_bench_name IsBenchLast (λ n. held files (bytes n)) (record {
+      left = said_in script;
+      end = end_in script;
+      state = c.new-line.result;
+    }) h) (λ h. IsBenchHistory c.args.number c.args.sections h) (bench_history c.said_law.ensures c.args.number
+    c.args.sections script c.new-line.result (c.in-Ok-open.ensures.script files) c.new-line.ensures)
     c.run_script.result (λ rose. omega (arith, rose)) (c.run_script.ensures.run files told)

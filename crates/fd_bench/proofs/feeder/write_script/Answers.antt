@@ -7,9 +7,14 @@ use Rattle.fd_bench.proofs.Alone.{script_calls}
 use Rattle.fd_bench.proofs.feeder.write_script.Goals as goal
 
 pub returns-in_default-clause-prints : goal.returns-in_default-clause-prints
-returns-in_default-clause-prints g c = printed_cut g.S.Sink.taken g.S.Sink.calls c.args.out.now c.args.out.now _ None 1 (cut_before g.S.Sink.taken g.S.Sink.calls c.args.out.now _)
+returns-in_default-clause-prints g c =
+    printed_cut g.S.Sink.taken g.S.Sink.calls c.args.out.now c.args.out.now _ None 1
+    (cut_before g.S.Sink.taken g.S.Sink.calls c.args.out.now _)
 
 pub returns-clause-prints : goal.returns-clause-prints
 returns-clause-prints g c =
-    printed_as g.S.Sink.taken g.S.Sink.calls c.args.out.now c.print_end.new.out (map writes (pieces_of c.as_slice.result.now)) _ None c.print_end.result
-    (ap (λ rs. map writes (pieces_of rs)) c.as_slice.ensures.value ∙ ap (map writes) c.in-Ok.ensures ∙ script_calls c.args.number c.args.sections) c.print_end.ensures.prints
+    printed_as g.S.Sink.taken g.S.Sink.calls c.args.out.now c.print_end.new.out
+    (map writes (pieces_of c.as_slice.result.now)) _ None c.print_end.result
+    (ap (λ rs. map writes (pieces_of rs)) c.as_slice.ensures.value
+    ∙ ap (map writes) c.in-Ok.ensures ∙ script_calls c.args.number c.args.sections)
+    c.print_end.ensures.prints

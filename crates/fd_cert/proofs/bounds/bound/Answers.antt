@@ -7,7 +7,8 @@ use Rattle.fd_cert.proofs.bounds.bound.Goals as goal
 pub returns-then-is_some-clause-bound : goal.returns-then-is_some-clause-bound
 returns-then-is_some-clause-bound c = λ J R w h.
     let n = c.args.slopes.now.jacobian.matrix.now.size in
-    when_some c.sums.result _ (λ j q. no_product n (λ _. part c.args.factors.now) J R w c.args.row j q.0 q.1) (c.sums.ensures.past J h.jacobian) (sym c.is_some.ensures ∙ c.if-is_some.true)
+    when_some c.sums.result _ (λ j q. no_product n (λ _. part c.args.factors.now) J R w c.args.row j q.0 q.1)
+    (c.sums.ensures.past J h.jacobian) (sym c.is_some.ensures ∙ c.if-is_some.true)
 
 pub bound_of_sums-requires-clause-sums : goal.bound_of_sums-requires-clause-sums
 bound_of_sums-requires-clause-sums c = λ J has. when_none c.sums.result (c.sums.ensures.sums J has) (sym c.is_some.ensures ∙ c.if-is_some.false)

@@ -24,8 +24,17 @@ returns-clause-bound c = λ J R w h.
     let size : length ts ≡ n = ap length c.take_unit.ensures ∙ length-set ss i (part ss i -ℤ pos (2 ^ 80)) ∙ long in
     let total = left_total n i ws ss + sizes_total n fs rows in
     let left : left_total n i ws ss ≡ weighted_total n ws ts = left_is_weighted n i ws ss inside ∙ ap (weighted_total n ws) (sym c.take_unit.ensures) in
-    let is : IsTotal total result = subst (λ k. IsTotal (k + sizes_total n fs rows) result) (sym left) (subst (λ k. IsTotal (weighted_total k ws ts + sizes_total n fs rows) result) size
-    (subst (λ k. IsTotal (weighted_total (length ts) ws ts + sizes_total k fs rows) result) c.requires.slopes.radii c.row_total-total.ensures)) in
+    let is : IsTotal total result =
+    subst (λ k. IsTotal (k + sizes_total n fs rows) result) (sym left)
+    (subst (λ k. IsTotal (weighted_total k ws ts + sizes_total n fs rows) result) size
+    (subst (λ k. IsTotal (weighted_total (length ts) ws ts + sizes_total k fs rows) result) c.requires.slopes.radii
+    c.row_total-total.ensures)) in
     let value : part ws i ≡ pos (w i) = h.weights i c.requires.row in
-    let few : nat_abs (part ws i) ≤ 2 ^ 126 = let most = c.requires.slopes.weights.most i c.requires.row in let least = c.requires.slopes.weights.least i c.requires.row in omega (arith, ints) in
-    c.over_weight.ensures total is ∙ bound_is n (λ _. part fs) J R w i ss rows ws columns h.radii h.weights (λ j l. let least = c.requires.slopes.weights.least j l in let v = h.weights j l in omega (arith, ints)) (ap nat_abs (kept_by (part ws i) few ∙ value))
+    let few : nat_abs (part ws i) ≤ 2 ^ 126 =
+    let most = c.requires.slopes.weights.most i c.requires.row in
+    let least = c.requires.slopes.weights.least i c.requires.row in
+    omega (arith, ints) in
+    c.over_weight.ensures total is
+    ∙ bound_is n (λ _. part fs) J R w i ss rows ws columns h.radii h.weights
+    (λ j l. let least = c.requires.slopes.weights.least j l in let v = h.weights j l in omega (arith, ints))
+    (ap nat_abs (kept_by (part ws i) few ∙ value))

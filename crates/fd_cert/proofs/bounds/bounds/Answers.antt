@@ -11,9 +11,13 @@ loop-row-preserved c =
     let i = c.loop-row.row in
     let s : c.loop-row.sums.len ≡ length c.bound.new.sums = search rules in
     record {
-      sums = ap length (rewritten c.loop-row.sums.items c.bound.new.sums c.loop-row.sums.len s) ∙ c.bound.ensures.sums ∙ ap length c.deref_mut-in-loop-row.ensures.value ∙ c.loop-row.invariant.sums;
+      sums = ap length (rewritten c.loop-row.sums.items c.bound.new.sums c.loop-row.sums.len s)
+          ∙ c.bound.ensures.sums
+          ∙ ap length c.deref_mut-in-loop-row.ensures.value
+          ∙ c.loop-row.invariant.sums;
       made = λ J R w h.
           let read = λ (l : ℕ). ap (λ xs. part xs l) c.row.ensures.numbers in
           let value = c.bound.ensures.bound J R w h ∙ bound_row n (entry c.args.inverse.now) J R w i c.row.result.now read in
-          c.in_ok-push.ensures.items ∙ (λ k. c.loop-row.invariant.made J R w h k ++ value k ∷ []) ∙ sym (list_of-more i (bound_at n (entry c.args.inverse.now) J R w));
+          c.in_ok-push.ensures.items ∙ (λ k. c.loop-row.invariant.made J R w h k ++ value k ∷ [])
+          ∙ sym (list_of-more i (bound_at n (entry c.args.inverse.now) J R w));
     }

@@ -10,5 +10,7 @@ pub returns-in-None : goal.returns-in-None
 returns-in-None c =
     let k = c.loop-row.row in
     let f : FitsSigned w128 (part c.args.factors.now k) = search rules in
-    past_front (λ l. nat_abs (part c.args.factors.now l) * number_at c.args.numbers.now l) k (length c.args.numbers.now) c.args.total c.loop-row.sum c.loop-row-test.true c.loop-row.invariant.sum
-    (subst (λ z. 2 ^ 120 < c.loop-row.sum + nat_abs z * number_at c.args.numbers.now k) (to_z-of_z w128 (part c.args.factors.now k) f) c.in-None.ensures)
+    past_front (λ l. nat_abs (part c.args.factors.now l) * number_at c.args.numbers.now l) k
+    (length c.args.numbers.now) c.args.total c.loop-row.sum c.loop-row-test.true c.loop-row.invariant.sum
+    (subst (λ z. 2 ^ 120 < c.loop-row.sum + nat_abs z * number_at c.args.numbers.now k)
+    (to_z-of_z w128 (part c.args.factors.now k) f) c.in-None.ensures)

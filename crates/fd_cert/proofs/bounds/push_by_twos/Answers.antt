@@ -13,11 +13,18 @@ loop-pair-preserved c =
     let s : c.loop-pair.others.len ≡ length c.two_bounds-bound.new.others = search rules in
     record {
       sums = c.two_bounds-bound.ensures.sums ∙ c.loop-pair.invariant.sums;
-      others = ap length (rewritten c.loop-pair.others.items c.two_bounds-bound.new.others c.loop-pair.others.len s) ∙ c.two_bounds-bound.ensures.others ∙ ap length c.deref_mut.ensures.value ∙ c.loop-pair.invariant.others;
+      others = ap length (rewritten c.loop-pair.others.items c.two_bounds-bound.new.others c.loop-pair.others.len s)
+          ∙ c.two_bounds-bound.ensures.others
+          ∙ ap length c.deref_mut.ensures.value
+          ∙ c.loop-pair.invariant.others;
       made = λ J R w h.
           let f = bound_at n (entry c.args.inverse.now) J R w in
-          let first = c.two_bounds-bound.ensures.first J R w h ∙ bound_row n (entry c.args.inverse.now) J R w i c.row-first.result.now (λ l. ap (λ xs. part xs l) c.row-first.ensures.numbers) in
-          let second = c.two_bounds-bound.ensures.second J R w h ∙ bound_row n (entry c.args.inverse.now) J R w (i + 1) c.row-second.result.now (λ l. ap (λ xs. part xs l) c.row-second.ensures.numbers) in
+          let first = c.two_bounds-bound.ensures.first J R w h
+          ∙ bound_row n (entry c.args.inverse.now) J R w i c.row-first.result.now (λ l.
+          ap (λ xs. part xs l) c.row-first.ensures.numbers) in
+          let second = c.two_bounds-bound.ensures.second J R w h
+          ∙ bound_row n (entry c.args.inverse.now) J R w (i + 1) c.row-second.result.now (λ l.
+          ap (λ xs. part xs l) c.row-second.ensures.numbers) in
           let one = c.in_ok-push.ensures.items ∙ (λ k. c.loop-pair.invariant.made J R w h k ++ first k ∷ []) ∙ sym (list_of-more i f) in
           let even : i + 1 + 1 ≡ 2 * (c.loop-pair.pair + 1) = omega arith in
           c.in_ok-push-2.ensures.items ∙ (λ k. one k ++ second k ∷ []) ∙ sym (list_of-more (i + 1) f) ∙ ap (λ m. list_of m f) even;

@@ -9,5 +9,7 @@ abbrev pub invariant-loop-pair : goal.invariant-loop-pair
 invariant-loop-pair l = record {
   sums : length l.sums ≡ l.slopes.jacobian.matrix.now.size;
   others : length l.others.items ≡ l.slopes.jacobian.matrix.now.size;
-  made : (J : ℕ → ℕ → ℤ) (R : ℕ → ℕ → ℕ) (w : ℕ → ℕ) → HasSlopes l.slopes.jacobian.matrix.now l.slopes.radii.items l.slopes.weights.now J R w → l.bounds.items ≡ list_of (2 * l.pair) (bound_at l.slopes.jacobian.matrix.now.size (entry l.inverse) J R w);
+  made : (J : ℕ → ℕ → ℤ) (R : ℕ → ℕ → ℕ) (w : ℕ → ℕ)
+      → HasSlopes l.slopes.jacobian.matrix.now l.slopes.radii.items l.slopes.weights.now J R w
+      → l.bounds.items ≡ list_of (2 * l.pair) (bound_at l.slopes.jacobian.matrix.now.size (entry l.inverse) J R w);
 }

@@ -16,7 +16,8 @@ returns-in-None c =
     let g : FitsSigned w128 cell.units = search rules in
     let weight : c.unsigned_abs-weight.result ≡ nat_abs (part c.args.weights.now cell.col) = simp to_z-of_z at c.unsigned_abs-weight.ensures.value in
     let units : c.unsigned_abs.result ≡ nat_abs cell.units = simp to_z-of_z at c.unsigned_abs.ensures.value in
-    let past = past_take (λ (c' : Cell). nat_abs c'.units * nat_abs (part c.args.weights.now c'.col)) c.args.cells.now k empty c.loop-cell.total c.loop-cell-test.true c.loop-cell.invariant.sum
+    let past = past_take (λ (c' : Cell). nat_abs c'.units * nat_abs (part c.args.weights.now c'.col)) c.args.cells.now
+    k empty c.loop-cell.total c.loop-cell-test.true c.loop-cell.invariant.sum
     (subst (λ n. 2 ^ 120 < c.loop-cell.total + n) (λ i. units i * weight i) c.in-None.ensures) in
     record { same = λ h. absurd (omega arith); past = λ h. omega arith }
 
@@ -29,6 +30,9 @@ loop-cell-preserved c =
     let weight : c.unsigned_abs-weight.result ≡ nat_abs (part c.args.weights.now cell.col) = simp to_z-of_z at c.unsigned_abs-weight.ensures.value in
     let units : c.unsigned_abs.result ≡ nat_abs cell.units = simp to_z-of_z at c.unsigned_abs.ensures.value in
     record {
-      sum = c.in-Some.ensures.0 ∙ (λ i. c.loop-cell.invariant.sum i + units i * weight i) ∙ sym (list_n_more (λ (c' : Cell). nat_abs c'.units * nat_abs (part c.args.weights.now c'.col)) c.args.cells.now k empty c.loop-cell-test.true);
+      sum = c.in-Some.ensures.0
+          ∙ (λ i. c.loop-cell.invariant.sum i + units i * weight i)
+          ∙ sym (list_n_more (λ (c' : Cell). nat_abs c'.units * nat_abs (part c.args.weights.now c'.col))
+          c.args.cells.now k empty c.loop-cell-test.true);
       small = c.in-Some.ensures.1;
     }

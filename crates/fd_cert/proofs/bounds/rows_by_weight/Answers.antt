@@ -11,7 +11,8 @@ use Rattle.fd_cert.proofs.bounds.rows_by_weight.Goals as goal
 pub row_by_weight-requires : goal.row_by_weight-requires
 row_by_weight-requires c =
     let h = c.requires.radii.has in
-    subst (λ n. AreColumns n c.row.result.now) (sym c.requires.weights) (row_columns c.args.radii.now.size c.loop-row.row h.at c.row.result.now (c.row.ensures h.at h.cells h.nothing))
+    subst (λ n. AreColumns n c.row.result.now) (sym c.requires.weights)
+    (row_columns c.args.radii.now.size c.loop-row.row h.at c.row.result.now (c.row.ensures h.at h.cells h.nothing))
 
 pub loop-row-preserved : goal.loop-row-preserved
 loop-row-preserved c =
@@ -30,6 +31,8 @@ loop-row-preserved c =
             let here : row ≡ k = omega arith in
             let same = ap (λ xs. number_at xs k) items ∙ get_or_push old value 0 k (c.loop-row.invariant.long ∙ here) in
             let total = row_weighted m.size row h.at c.row.result.now R w c.args.weights.now (c.row.ensures h.at h.cells h.nothing) h.entries ws in
-            subst (IsUpTo (weighted_radius m.size R w k)) (sym same) (subst (λ n. IsUpTo (weighted_radius m.size R w n) value) here (subst (λ n. IsUpTo n value) total c.row_by_weight.ensures))
+            subst (IsUpTo (weighted_radius m.size R w k)) (sym same)
+            (subst (λ n. IsUpTo (weighted_radius m.size R w n) value) here
+            (subst (λ n. IsUpTo n value) total c.row_by_weight.ensures))
       ];
     }

@@ -8,5 +8,6 @@ use Rattle.fd_cert.proofs.bounds.rows_by_weight.Given as goal
 abbrev pub invariant-loop-row : goal.invariant-loop-row
 invariant-loop-row l = record {
   long : length l.rows.items ≡ l.row;
-  each : (R : ℕ → ℕ → ℕ) (w : ℕ → ℕ) → HasRadii l.radii R → HasWeights l.radii.size l.weights w → (k : ℕ) → k < l.row → IsUpTo (weighted_radius l.radii.size R w k) (number_at l.rows.items k);
+  each : (R : ℕ → ℕ → ℕ) (w : ℕ → ℕ) → HasRadii l.radii R → HasWeights l.radii.size l.weights w → (k : ℕ) → k < l.row
+      → IsUpTo (weighted_radius l.radii.size R w k) (number_at l.rows.items k);
 }

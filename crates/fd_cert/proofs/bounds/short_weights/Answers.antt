@@ -19,7 +19,9 @@ loop-weight-preserved c =
     record {
       long = ap length items ∙ length_push old value ∙ ap (λ n. n + 1) c.loop-weight.invariant.long;
       each = λ j l. elim (cases_lt j k) [
-        | inl lt ↦ ap (λ xs. number_at xs j) items ∙ get_or_append_left old _ 0 j (omega (arith, c.loop-weight.invariant.long)) ∙ c.loop-weight.invariant.each j lt
+        | inl lt ↦ ap (λ xs. number_at xs j) items
+            ∙ get_or_append_left old _ 0 j (omega (arith, c.loop-weight.invariant.long))
+            ∙ c.loop-weight.invariant.each j lt
         | inr ge ↦
             let here : k ≡ j = omega arith in
             ap (λ xs. number_at xs j) items ∙ get_or_push old value 0 j (c.loop-weight.invariant.long ∙ here) ∙ is ∙ ap (λ n. nat_abs (part ws n)) here

@@ -21,7 +21,11 @@ returns c =
     (λ j l. ap (λ w. w * nat_abs (part zs j)) (shorts.each j (let inside : j < length ws = omega (arith, l, c.requires.weights) in inside))) in
     let parts : AreParts rs lows highs = search rules in
     let whole : sizes_total n fs rs ≡ sizes_total n fs lows + 2 ^ 60 * high_sum (λ l. nat_abs (part fs l)) highs =
-    subst (λ k. sizes_total k fs rs ≡ sizes_total k fs lows + 2 ^ 60 * high_sum (λ l. nat_abs (part fs l)) highs) c.requires.radii (parts.sums (λ l. nat_abs (part fs l))) in
-    let made : IfSome c.short_row_total.result (λ t. t ≡ short_total n c.in-Some.shorts.items zs + (sizes_total n fs lows + 2 ^ 60 * high_sum (λ l. nat_abs (part fs l)) highs)) = search rules in
+    subst (λ k. sizes_total k fs rs ≡ sizes_total k fs lows + 2 ^ 60 * high_sum (λ l. nat_abs (part fs l)) highs)
+    c.requires.radii (parts.sums (λ l. nat_abs (part fs l))) in
+    let made : IfSome c.short_row_total.result (λ t. t
+    ≡ short_total n c.in-Some.shorts.items zs
+    + (sizes_total n fs lows + 2 ^ 60 * high_sum (λ l. nat_abs (part fs l)) highs)) =
+    search rules in
     subst (λ s. IfSome c.short_row_total.result (λ t. t ≡ s + sizes_total n fs rs)) same
     (subst (λ s. IfSome c.short_row_total.result (λ t. t ≡ short_total n c.in-Some.shorts.items zs + s)) (sym whole) made)

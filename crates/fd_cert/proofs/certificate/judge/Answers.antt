@@ -18,17 +18,24 @@ read_weights : (n : ℕ) (ws xs : List ℤ) → xs ≡ ws
 read_weights n ws xs e h = subst (λ ys. (l : ℕ) → l < n → (pos (10 ^ 6) ≤ℤ part ys l) × (part ys l ≤ℤ pos (2 ^ 66))) (sym e) h
 
 pub boxes-requires-clause-long : goal.boxes-requires-clause-long
-boxes-requires-clause-long c = ap length (c.deref.ensures.value ∙ c.in_ok-weights.ensures.weights) ∙ length-list_of c.args.net.now.size (λ place. pos (weight_at c.args.net.now c.args.x.now place))
+boxes-requires-clause-long c =
+    ap length (c.deref.ensures.value ∙ c.in_ok-weights.ensures.weights)
+    ∙ length-list_of c.args.net.now.size (λ place. pos (weight_at c.args.net.now c.args.x.now place))
 
 pub bounds_at-requires-clause-boxes : goal.bounds_at-requires-clause-boxes
 bounds_at-requires-clause-boxes c =
     let v = c.args.net.now in
-    c.deref-2.ensures.value ∙ boxes_are v c.args.x.now c.deref.result.now c.in_ok-boxes.boxes.items (weights_at v c.args.x.now c.deref.result.now (c.deref.ensures.value ∙ c.in_ok-weights.ensures.weights)) c.in_ok-boxes.ensures
+    c.deref-2.ensures.value
+    ∙ boxes_are v c.args.x.now c.deref.result.now c.in_ok-boxes.boxes.items
+    (weights_at v c.args.x.now c.deref.result.now (c.deref.ensures.value ∙ c.in_ok-weights.ensures.weights))
+    c.in_ok-boxes.ensures
 
 pub bounds_at-requires-clause-weights : goal.bounds_at-requires-clause-weights
 bounds_at-requires-clause-weights c =
     let v = c.args.net.now in
-    are_weights v c.args.x.now c.deref-3.result.now (c.deref-3.ensures.value ∙ c.in_ok-weights.ensures.weights) (read_weights v.size c.in_ok-weights.weights.items c.deref-3.result.now c.deref-3.ensures.value c.in_ok-weights.ensures.range)
+    are_weights v c.args.x.now c.deref-3.result.now (c.deref-3.ensures.value ∙ c.in_ok-weights.ensures.weights)
+    (read_weights v.size c.in_ok-weights.weights.items c.deref-3.result.now c.deref-3.ensures.value
+    c.in_ok-weights.ensures.range)
 
 pub bounds_at-requires-clause-values : goal.bounds_at-requires-clause-values
 bounds_at-requires-clause-values c = weights_at c.args.net.now c.args.x.now c.deref-3.result.now (c.deref-3.ensures.value ∙ c.in_ok-weights.ensures.weights)
@@ -37,7 +44,9 @@ pub verdict-requires-clause-weights : goal.verdict-requires-clause-weights
 verdict-requires-clause-weights c =
     let v = c.args.net.now in
     subst (λ n. AreWeights n c.deref-5.result.now) (sym c.requires.mismatch)
-    (are_weights v c.args.x.now c.deref-5.result.now (c.deref-5.ensures.value ∙ c.in_ok-weights.ensures.weights) (read_weights v.size c.in_ok-weights.weights.items c.deref-5.result.now c.deref-5.ensures.value c.in_ok-weights.ensures.range))
+    (are_weights v c.args.x.now c.deref-5.result.now (c.deref-5.ensures.value ∙ c.in_ok-weights.ensures.weights)
+    (read_weights v.size c.in_ok-weights.weights.items c.deref-5.result.now c.deref-5.ensures.value
+    c.in_ok-weights.ensures.range))
 
 pub verdict-requires-clause-long : goal.verdict-requires-clause-long
 verdict-requires-clause-long c = ap length (c.deref-4.ensures.value ∙ c.in_ok-bounds.ensures) ∙ length-list_of c.args.net.now.size _ ∙ sym c.requires.mismatch
@@ -47,13 +56,18 @@ verdict-requires-clause-signs c =
     let v = c.args.net.now in
     let x = c.args.x.now in
     let e = c.deref-5.ensures.value ∙ c.in_ok-weights.ensures.weights in
-    signs_of v.size (entry c.args.inverse.now) (jacobian_entry v x) (slope_radius v x) (weight_at v x) c.deref-4.result.now c.deref-5.result.now (c.deref-4.ensures.value ∙ c.in_ok-bounds.ensures)
-    (are_weights v x c.deref-5.result.now e (read_weights v.size c.in_ok-weights.weights.items c.deref-5.result.now c.deref-5.ensures.value c.in_ok-weights.ensures.range)) (weights_at v x c.deref-5.result.now e)
+    signs_of v.size (entry c.args.inverse.now) (jacobian_entry v x) (slope_radius v x)
+    (weight_at v x) c.deref-4.result.now c.deref-5.result.now (c.deref-4.ensures.value ∙ c.in_ok-bounds.ensures)
+    (are_weights v x c.deref-5.result.now e (read_weights v.size c.in_ok-weights.weights.items c.deref-5.result.now
+    c.deref-5.ensures.value c.in_ok-weights.ensures.range))
+    (weights_at v x c.deref-5.result.now e)
 
 pub returns-clause-boxes : goal.returns-clause-boxes
 returns-clause-boxes c =
     let v = c.args.net.now in
-    boxes_are v c.args.x.now c.deref.result.now c.in_ok-boxes.boxes.items (weights_at v c.args.x.now c.deref.result.now (c.deref.ensures.value ∙ c.in_ok-weights.ensures.weights)) c.in_ok-boxes.ensures
+    boxes_are v c.args.x.now c.deref.result.now c.in_ok-boxes.boxes.items
+    (weights_at v c.args.x.now c.deref.result.now (c.deref.ensures.value ∙ c.in_ok-weights.ensures.weights))
+    c.in_ok-boxes.ensures
 
 pub returns-clause-widths : goal.returns-clause-widths
 returns-clause-widths c = λ e h.

@@ -12,7 +12,10 @@ pub load_radii-requires-clause-size : goal.load_radii-requires-clause-size
 load_radii-requires-clause-size c = omega (arith, c.requires.point.long, c.size-size.ensures.small, c.size-size.ensures.size)
 
 pub load_radii-requires-clause-loads : goal.load_radii-requires-clause-loads
-load_radii-requires-clause-loads c = subst (All (IsConnected (length c.args.x.now))) (sym c.loads.ensures) (subst (λ n. All (IsConnected n) c.args.net.now.stamp.loads) (sym c.requires.point.long) (loads_connected c.args.net.now c.size-size.ensures.valid))
+load_radii-requires-clause-loads c =
+    subst (All (IsConnected (length c.args.x.now))) (sym c.loads.ensures)
+    (subst (λ n. All (IsConnected n) c.args.net.now.stamp.loads) (sym c.requires.point.long)
+    (loads_connected c.args.net.now c.size-size.ensures.valid))
 
 pub load_radii-requires-clause-few : goal.load_radii-requires-clause-few
 load_radii-requires-clause-few c = let n = c.size-size.ensures.valid in omega (arith, ap length c.loads.ensures, n.few_loads)
@@ -26,6 +29,12 @@ returns-clause-radii c =
     let x = c.args.x.now in
     let j = c.args.jacobian.now in
     let ps = ap (λ (p : PatternView). p.places) c.pattern-pattern.ensures in
-    radii_made v x j c.requires.jacobian c.args.boxes.now (boxes_at v x c.args.boxes.now c.requires.boxes) (loads_connected v c.size-size.ensures.valid) c.deref.result.now c.in_ok-cells.cells.items
-    (λ k l. ap (λ xs. number_at xs k) c.deref.ensures.value ∙ c.in_ok-loads.ensures.radii k (subst (λ (q : List (ℕ × ℕ)). k < length q) (sym ps) l) ∙ (λ i. loads_radius (number_at c.args.boxes.now) x (c.loads.ensures i) (key (ps i) k)))
-    (subst (λ cs. AreRadiusCells cs c.deref.result.now c.in_ok-cells.cells.items) c.cells.ensures c.in_ok-cells.ensures) c.new.result (c.new.ensures ∙ ap (λ (p : PatternView). matrix_with p c.in_ok-cells.cells.items) c.pattern-pattern.ensures)
+    radii_made v x j c.requires.jacobian c.args.boxes.now (boxes_at v x c.args.boxes.now c.requires.boxes)
+    (loads_connected v c.size-size.ensures.valid) c.deref.result.now c.in_ok-cells.cells.items
+    (λ k l. ap (λ xs. number_at xs k) c.deref.ensures.value
+    ∙ c.in_ok-loads.ensures.radii k (subst (λ (q : List (ℕ × ℕ)). k < length q) (sym ps) l)
+    ∙ (λ i. loads_radius (number_at c.args.boxes.now) x (c.loads.ensures i) (key (ps i) k)))
+    (subst (λ cs. AreRadiusCells cs c.deref.result.now c.in_ok-cells.cells.items) c.cells.ensures
+    c.in_ok-cells.ensures)
+    c.new.result
+    (c.new.ensures ∙ ap (λ (p : PatternView). matrix_with p c.in_ok-cells.cells.items) c.pattern-pattern.ensures)

@@ -13,15 +13,19 @@ loop-entry-preserved c =
     let es = c.args.entries.now in
     let fs = c.args.factors.now in
     let e = get_or es k no_entry in
-    let short : IsShort (length c.args.sums.now) e = All-get_or (IsShort (length c.args.sums.now)) es k no_entry c.loop-entry-test.true c.requires.entries.each in
+    let short : IsShort (length c.args.sums.now) e =
+    All-get_or (IsShort (length c.args.sums.now)) es k no_entry c.loop-entry-test.true c.requires.entries.each in
     let factor = c.requires.factors.small e.row short.row in
     let small = product_small (part fs e.row) e.units factor short.small in
     let ff : FitsSigned w128 (part fs e.row) = search rules in
     let fu : FitsSigned w64 e.units = search rules in
     let times : c.times.result ≡ (part fs e.row *ℤ e.units) = simp to_z-of_z at c.times.ensures.value in
     let few = c.requires.entries.few in
-    let value = sum_value (part c.loop-entry.sums e.col) c.times.result (part fs e.row *ℤ e.units) k times small (c.loop-entry.invariant.small e.col) (omega (arith, c.loop-entry-test.true)) in
+    let value = sum_value (part c.loop-entry.sums e.col) c.times.result (part fs e.row *ℤ e.units) k times small
+    (c.loop-entry.invariant.small e.col) (omega (arith, c.loop-entry-test.true)) in
     added_more fs es c.args.sums.now c.loop-entry.sums k no_entry _ c.loop-entry-test.true c.loop-entry.invariant short.col value small
 
 pub returns-clause-sums : goal.returns-clause-sums
-returns-clause-sums c = added_all c.args.factors.now c.args.entries.now c.args.sums.now c.loop-entry.sums c.loop-entry.entry-index (omega (arith, c.loop-entry-test.false)) c.loop-entry.invariant
+returns-clause-sums c =
+    added_all c.args.factors.now c.args.entries.now c.args.sums.now c.loop-entry.sums c.loop-entry.entry-index
+    (omega (arith, c.loop-entry-test.false)) c.loop-entry.invariant

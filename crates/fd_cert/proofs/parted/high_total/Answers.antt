@@ -18,7 +18,8 @@ loop-high-preserved c =
     let small = c.requires.factors.small h.place is.place in
     let ff : FitsSigned w128 (part fs h.place) = search rules in
     let size : c.entry_size.result ≡ nat_abs (part fs h.place) = simp to_z-of_z at c.entry_size.ensures in
-    let sum : c.plus_short-total.result ≡ c.loop-high.total + h.times * nat_abs (part fs h.place) = c.plus_short-total.ensures.sum ∙ ap (λ n. c.loop-high.total + h.times * n) size in
+    let sum : c.plus_short-total.result ≡ c.loop-high.total + h.times * nat_abs (part fs h.place) =
+    c.plus_short-total.ensures.sum ∙ ap (λ n. c.loop-high.total + h.times * n) size in
     let more = list_n_more (λ h. h.times * nat_abs (part fs h.place)) hs k no_high c.loop-high-test.true in
     record {
       sum = sum ∙ ap (λ n. n + h.times * nat_abs (part fs h.place)) c.loop-high.invariant.sum ∙ sym more;

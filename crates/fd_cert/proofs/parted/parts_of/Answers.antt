@@ -12,8 +12,10 @@ loop-place-preserved c =
     let lows = c.loop-place.lows.items in
     let low = c.rest_of.result in
     let times = c.in-Some.times in
-    let parted : low + 2 ^ 60 * times ≡ number_at ns k = (λ i. c.rest_of.ensures.value i + 2 ^ 60 * c.in-Some.ensures.value i) ∙ mod-add-div (number_at ns k) (2 ^ 60) in
+    let parted : low + 2 ^ 60 * times ≡ number_at ns k =
+    (λ i. c.rest_of.ensures.value i + 2 ^ 60 * c.in-Some.ensures.value i) ∙ mod-add-div (number_at ns k) (2 ^ 60) in
     let pushed : c.push.new.self.items ≡ lows ++ low ∷ [] = search rules in
     let more : c.push_high.new.highs.items ≡ with_high c.loop-place.highs.items k times = search rules in
-    let made = front_more ns k lows c.loop-place.highs.items low times c.loop-place-test.true (sym parted) c.rest_of.ensures.small c.in-Some.ensures.small c.loop-place.invariant in
+    let made = front_more ns k lows c.loop-place.highs.items low times c.loop-place-test.true (sym parted)
+    c.rest_of.ensures.small c.in-Some.ensures.small c.loop-place.invariant in
     subst (λ xs. AreFront ns (k + 1) xs c.push_high.new.highs.items) (sym pushed) (subst (λ hs. AreFront ns (k + 1) (lows ++ low ∷ []) hs) (sym more) made)

@@ -10,4 +10,8 @@ returns-clause-radii c =
     let re = kept_by at.re (omega (arith, v.small.re)) ∙ v.re in
     let im = kept_by at.im (omega (arith, v.small.im)) ∙ v.im in
     let m = kept_by at.magnitude (omega (arith, v.small.magnitude)) ∙ v.magnitude in
-    c.load_slope.ensures.radius ∙ (λ i. radii_of c.args.load.now.load (re i) (im i) (m i) (c.real_width.ensures.value i + c.real_width-2.ensures.value i) (c.imaginary_width.ensures.value i + c.imaginary_width-2.ensures.value i) (c.magnitude_width-magnitude.ensures.value i))
+    c.load_slope.ensures.radius
+    ∙ (λ i.
+    radii_of c.args.load.now.load (re i) (im i) (m i) (c.real_width.ensures.value i + c.real_width-2.ensures.value i)
+    (c.imaginary_width.ensures.value i + c.imaginary_width-2.ensures.value i)
+    (c.magnitude_width-magnitude.ensures.value i))

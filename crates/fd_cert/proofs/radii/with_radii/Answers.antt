@@ -15,5 +15,7 @@ returns c =
     let all : c.loop-k.k ≡ length c.args.cells.now = omega arith in
     record {
       long = ap length c.loop-k.invariant ∙ length-list_of c.loop-k.k (λ k. radius_cell (cell_at c.args.cells.now k) (number_at c.args.radii.now k)) ∙ all;
-      each = λ k l. ap (λ xs. cell_at xs k) c.loop-k.invariant ∙ get_or-list_of c.loop-k.k (λ k. radius_cell (cell_at c.args.cells.now k) (number_at c.args.radii.now k)) k empty (subst (λ n. k < n) (sym all) l);
+      each = λ k l. ap (λ xs. cell_at xs k) c.loop-k.invariant
+          ∙ get_or-list_of c.loop-k.k (λ k. radius_cell (cell_at c.args.cells.now k) (number_at c.args.radii.now k)) k
+          empty (subst (λ n. k < n) (sym all) l);
     }

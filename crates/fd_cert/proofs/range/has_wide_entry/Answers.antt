@@ -14,4 +14,8 @@ returns-then-unsigned_abs-gt-ENTRY_LIMIT c =
     (is_past (2 ^ 56) (nat_abs (part c.args.row.now c.loop-col.col)) (subst (λ n. 2 ^ 56 < n) size c.if-unsigned_abs-gt-ENTRY_LIMIT.true)))
 
 pub returns : goal.returns
-returns c = sym (ap is_some (first_none (λ col. nat_lt (2 ^ 56) (nat_abs (part c.args.row.now col))) (length c.args.row.now) (λ k l. not_past (2 ^ 56) (nat_abs (part c.args.row.now k)) (c.loop-col.invariant k (omega (arith, l, c.loop-col-test.false))))))
+returns c =
+    sym (ap is_some
+    (first_none (λ col. nat_lt (2 ^ 56) (nat_abs (part c.args.row.now col))) (length c.args.row.now) (λ k l.
+    not_past (2 ^ 56) (nat_abs (part c.args.row.now k))
+    (c.loop-col.invariant k (omega (arith, l, c.loop-col-test.false))))))

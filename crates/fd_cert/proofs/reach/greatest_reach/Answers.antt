@@ -15,6 +15,10 @@ loop-place-preserved c = λ w e h k.
     let f : FitsSigned w128 (part c.args.weights.now i) = search rules in
     let weight : c.unsigned_abs-weight.result ≡ nat_abs (part c.args.weights.now i) = simp to_z-of_z at c.unsigned_abs-weight.ensures.value in
     let read = λ (l : ℕ). ap (λ xs. part xs l) c.row.ensures.numbers in
-    let reach = c.reach.ensures.reach ∙ reach_is n (entry c.args.inverse.now) w e i c.row.result.now c.args.mismatch.now c.unsigned_abs-weight.result read k (weight ∙ ap nat_abs (h i inside)) in
+    let reach = c.reach.ensures.reach
+    ∙ reach_is n (entry c.args.inverse.now) w e i c.row.result.now c.args.mismatch.now c.unsigned_abs-weight.result
+    read k (weight ∙ ap nat_abs (h i inside)) in
     let next : suc i ≡ i + 1 = omega arith in
-    c.max-greatest.ensures ∙ max_is c.loop-place.greatest c.reach.result ∙ (λ j. max (c.loop-place.invariant w e h k j) (reach j)) ∙ ap (greatest (reach_in n (entry c.args.inverse.now) w e)) next
+    c.max-greatest.ensures ∙ max_is c.loop-place.greatest c.reach.result
+    ∙ (λ j. max (c.loop-place.invariant w e h k j) (reach j))
+    ∙ ap (greatest (reach_in n (entry c.args.inverse.now) w e)) next

@@ -25,7 +25,11 @@ returns-clause-sum c =
     let f = λ (l : ℕ). nat_abs (part c.args.factors.now l) * number_at c.args.mismatch.now l in
     let g = λ (l : ℕ). nat_abs (part c.args.factors.now l) * (2 * number_at c.args.mismatch.now l) in
     let end : k ≡ n = omega (arith, c.loop-row-test.false, c.loop-row.auto.row-end) in
-    ap (λ s. 2 * s) c.loop-row.invariant.sum ∙ sym (sum_n-times 2 f k) ∙ sum_n-same (λ l. 2 * f l) g k (λ l m. turned (nat_abs (part c.args.factors.now l)) (number_at c.args.mismatch.now l)) ∙ ap (sum_n g) end
+    ap (λ s. 2 * s) c.loop-row.invariant.sum
+    ∙ sym (sum_n-times 2 f k)
+    ∙ sum_n-same (λ l. 2 * f l) g k (λ l m.
+    turned (nat_abs (part c.args.factors.now l)) (number_at c.args.mismatch.now l))
+    ∙ ap (sum_n g) end
   where
     turned : (a b : ℕ) → 2 * (a * b) ≡ a * (2 * b)
     turned a b = omega arith

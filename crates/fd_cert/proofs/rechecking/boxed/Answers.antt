@@ -13,6 +13,13 @@ returns-in-Ok-clause-sound c =
     let r = c.deref-2.result.now in
     let e = c.deref-3.result.now in
     let told = subst (λ t. Tells (first_broken v x r e c.args.inverse) t (λ boxes. boxes.items ≡ boxes_of v x)) c.in-Ok.is c.in_ok-boxes.ensures in
-    let same = broken_same v x c.args.ball.centre.items r c.args.ball.radius.items e c.args.mismatch.items c.args.inverse c.deref.ensures.value c.deref-2.ensures.value c.deref-3.ensures.value in
-    let m : Claim = record { centre = c.args.ball.centre.items; radii = c.args.ball.radius.items; mismatches = c.args.mismatch.items; boxes = c.in-Ok.boxes.items; inverse = c.args.inverse } in
+    let same = broken_same v x c.args.ball.centre.items r c.args.ball.radius.items e c.args.mismatch.items
+    c.args.inverse c.deref.ensures.value c.deref-2.ensures.value c.deref-3.ensures.value in
+    let m : Claim = record {
+      centre = c.args.ball.centre.items;
+      radii = c.args.ball.radius.items;
+      mismatches = c.args.mismatch.items;
+      boxes = c.in-Ok.boxes.items;
+      inverse = c.args.inverse;
+    } in
     (sound_exactly v m (λ point. told.1 ∙ ap (boxes_of v) c.deref.ensures.value)).0 (sym same ∙ told.0)

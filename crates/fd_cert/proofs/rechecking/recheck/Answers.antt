@@ -13,7 +13,9 @@ returns-in-Ok-clause-sound c =
     let r = c.deref-2.result.now in
     let e = c.deref-3.result.now in
     let told = subst (λ t. Tells (first_broken v x r e m.inverse) t (λ boxes. boxes.items ≡ boxes_of v x)) c.in-Ok.is c.in_ok-_boxes.ensures in
-    says_sound v m c.requires.boxes None (sym told.0 ∙ broken_same v x m.centre r m.radii e m.mismatches m.inverse c.deref.ensures.value c.deref-2.ensures.value c.deref-3.ensures.value)
+    says_sound v m c.requires.boxes None (sym told.0
+    ∙ broken_same v x m.centre r m.radii e m.mismatches m.inverse c.deref.ensures.value c.deref-2.ensures.value
+    c.deref-3.ensures.value)
 
 pub returns-in-Err-clause-sound : goal.returns-in-Err-clause-sound
 returns-in-Err-clause-sound c =
@@ -23,4 +25,6 @@ returns-in-Err-clause-sound c =
     let r = c.deref-2.result.now in
     let e = c.deref-3.result.now in
     let told = subst (λ t. Tells (first_broken v x r e m.inverse) t (λ boxes. boxes.items ≡ boxes_of v x)) c.in-Err.is c.in_ok-_boxes.ensures in
-    says_sound v m c.requires.boxes (Some c.in-Err.broken) (sym told ∙ broken_same v x m.centre r m.radii e m.mismatches m.inverse c.deref.ensures.value c.deref-2.ensures.value c.deref-3.ensures.value)
+    says_sound v m c.requires.boxes (Some c.in-Err.broken) (sym told
+    ∙ broken_same v x m.centre r m.radii e m.mismatches m.inverse c.deref.ensures.value c.deref-2.ensures.value
+    c.deref-3.ensures.value)

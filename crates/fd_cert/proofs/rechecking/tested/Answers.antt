@@ -29,9 +29,14 @@ tested_at_point-requires-clause-inverse c =
 
 pub returns-in-Some : goal.returns-in-Some
 returns-in-Some c =
-    range_first c.args.net.now c.args.centre.now c.args.radius.now c.args.mismatch.now c.args.inverse.now (sym c.has_size.ensures ∙ c.if-not-has_size.false) c.in-Some.place c.in-Some.ensures
+    range_first c.args.net.now c.args.centre.now c.args.radius.now c.args.mismatch.now c.args.inverse.now
+    (sym c.has_size.ensures ∙ c.if-not-has_size.false) c.in-Some.place c.in-Some.ensures
 
 pub returns-in-None : goal.returns-in-None
 returns-in-None c =
-    let same = past_range c.args.net.now c.args.centre.now c.args.radius.now c.args.mismatch.now c.args.inverse.now (sym c.has_size.ensures ∙ c.if-not-has_size.false) c.in-None.ensures in
-    IfOk-weaker c.tested_at_point.result _ _ (λ t h. subst (λ (o : Option Broken). Tells o t (λ boxes. boxes.items ≡ boxes_of c.args.net.now c.args.centre.now)) (sym same) h) c.tested_at_point.ensures
+    let same = past_range c.args.net.now c.args.centre.now c.args.radius.now c.args.mismatch.now c.args.inverse.now
+    (sym c.has_size.ensures ∙ c.if-not-has_size.false) c.in-None.ensures in
+    IfOk-weaker c.tested_at_point.result _ _ (λ t h.
+    subst (λ (o : Option Broken). Tells o t (λ boxes. boxes.items ≡ boxes_of c.args.net.now c.args.centre.now))
+    (sym same) h)
+    c.tested_at_point.ensures

@@ -23,9 +23,15 @@ loop-cell-preserved c =
     let f = to_z-of_z w128 c.args.factor c.ranges.factor in
     let h = subst (λ f. IsPartly c.args.cells.now f c.args.sums.now c.loop-cell.sums k) f c.loop-cell.invariant in
     let small : nat_abs c.in-Some.sum ≤ 2 ^ 120 = c.in-Some.ensures.small in
-    let e = sum_read (Some c.in-Some.sum) (part c.loop-cell.sums cell.col) c.args.factor cell.units (h.units cell.col) c.ranges.factor fu c.in-Some.ensures.sum in
-    rw (f, kept_by c.in-Some.sum (omega arith)) (partly_more c.args.cells.now c.args.factor c.args.sums.now c.loop-cell.sums k c.in-Some.sum c.requires.columns c.loop-cell-test.true h (sym e) small)
+    let e = sum_read (Some c.in-Some.sum) (part c.loop-cell.sums cell.col) c.args.factor cell.units (h.units cell.col)
+    c.ranges.factor fu c.in-Some.ensures.sum in
+    rw (f, kept_by c.in-Some.sum (omega arith)) (partly_more c.args.cells.now c.args.factor c.args.sums.now
+    c.loop-cell.sums k c.in-Some.sum c.requires.columns c.loop-cell-test.true h (sym e) small)
 
 pub returns-clause-sums : goal.returns-clause-sums
-returns-clause-sums c = λ at r. partly_all c.args.cells.now c.args.factor c.args.sums.now c.loop-cell.sums c.loop-cell.cell-index at c.requires.units (omega (arith, c.loop-cell.auto.cell-index-end, c.loop-cell-test.false))
-    (subst (λ f. IsPartly c.args.cells.now f c.args.sums.now c.loop-cell.sums c.loop-cell.cell-index) (to_z-of_z w128 c.args.factor c.ranges.factor) c.loop-cell.invariant) r
+returns-clause-sums c = λ at r.
+    partly_all c.args.cells.now c.args.factor c.args.sums.now c.loop-cell.sums c.loop-cell.cell-index
+    at c.requires.units (omega (arith, c.loop-cell.auto.cell-index-end, c.loop-cell-test.false))
+    (subst (λ f. IsPartly c.args.cells.now f c.args.sums.now c.loop-cell.sums c.loop-cell.cell-index)
+    (to_z-of_z w128 c.args.factor c.ranges.factor) c.loop-cell.invariant)
+    r

@@ -20,4 +20,6 @@ returns c =
     let f = c.args.factor in
     let e = c.args.entry in
     let small = product_small f e c.requires.factor c.requires.entry in
-    ap Some ((λ i. to_z w128 (of_z w128 (short f c.requires.factor i *ℤ short e c.requires.entry i))) ∙ kept_by (f *ℤ e) (omega (arith, small))) ∙ sym (within_small (f *ℤ e) (omega (arith, small)))
+    ap Some ((λ i. to_z w128 (of_z w128 (short f c.requires.factor i *ℤ short e c.requires.entry i)))
+    ∙ kept_by (f *ℤ e) (omega (arith, small)))
+    ∙ sym (within_small (f *ℤ e) (omega (arith, small)))

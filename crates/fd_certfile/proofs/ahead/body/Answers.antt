@@ -40,7 +40,8 @@ returns-in-Err-rows c =
     (λ (n : ℕ). Fails c.in-Err-rows.stop (lines_of c.in-Ok.read.1.now) (numbered_at (row_at Whole n) n 0 (lines_of c.in-Ok.read.1.now)))
     counted c.in-Err-rows.ensures in
     rw (c.moved-in-Err-rows.ensures, counted)
-    (rows_fail Whole c.args.head.number c.args.head.hour c.args.head.round c.args.head.size (lines_of c.args.bytes.now) c.in-Ok.ensures.all (lines_of c.in-Ok.read.1.now) read c.in-Err-rows.stop f)
+    (rows_fail Whole c.args.head.number c.args.head.hour c.args.head.round c.args.head.size
+    (lines_of c.args.bytes.now) c.in-Ok.ensures.all (lines_of c.in-Ok.read.1.now) read c.in-Err-rows.stop f)
 
 pub overflow_add-result : goal.overflow_add-result
 overflow_add-result c =

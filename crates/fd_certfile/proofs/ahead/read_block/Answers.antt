@@ -12,10 +12,11 @@ use Rattle.fd_certfile.proofs.ahead.read_block.Goals as goal
 pub returns-in-Some-head_of : goal.returns-in-Some-head_of
 returns-in-Some-head_of c =
     let h = c.in-Some-head_of.head in
-    let lines = ap (λ l. l ∷ lines_of c.in-Some.more.now) (due_line (view c.read_line.result) h.number h.hour h.round h.size c.in-Some-head_of.ensures)
-    ∙ sym
-    (lines_cut c.args.bytes.now c.in-Some.text.now c.in-Some.more.now c.in-Some.ensures.before c.in-Some.ensures.whole ∙ ap (λ l. l ∷ lines_of c.in-Some.more.now) (sym c.read_line.ensures))
-    in
+    let lines = ap (λ l. l ∷ lines_of c.in-Some.more.now)
+    (due_line (view c.read_line.result) h.number h.hour h.round h.size c.in-Some-head_of.ensures)
+    ∙ sym (lines_cut c.args.bytes.now c.in-Some.text.now c.in-Some.more.now c.in-Some.ensures.before
+    c.in-Some.ensures.whole
+    ∙ ap (λ l. l ∷ lines_of c.in-Some.more.now) (sym c.read_line.ensures)) in
     subst (λ (ls : List Line). GivesAhead c.args.due c.body.result ls) lines c.body.ensures
 
 pub returns-in-None-head_of : goal.returns-in-None-head_of

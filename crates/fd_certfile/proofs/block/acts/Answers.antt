@@ -18,7 +18,9 @@ pub loop-text-preserved : goal.loop-text-preserved
 loop-text-preserved c =
     one_act (lines_of c.args.bytes.now) c.loop-text.count (lines_of c.loop-text.rest.now) c.loop-text.invariant
     (view c.read_line.result) (lines_of c.in-Some.more.now) (act c.in-Some-act_of._act)
-    (lines_cut c.loop-text.rest.now c.in-Some.text.now c.in-Some.more.now c.in-Some.ensures.before c.in-Some.ensures.whole ∙ ap (λ l. l ∷ lines_of c.in-Some.more.now) (sym c.read_line.ensures))
+    (lines_cut c.loop-text.rest.now c.in-Some.text.now c.in-Some.more.now c.in-Some.ensures.before
+    c.in-Some.ensures.whole
+    ∙ ap (λ l. l ∷ lines_of c.in-Some.more.now) (sym c.read_line.ensures))
     c.in-Some-act_of.ensures
 
 pub returns-in-None-clause-count : goal.returns-in-None-clause-count
@@ -26,21 +28,25 @@ returns-in-None-clause-count c =
     let here = lines_cut c.loop-text.rest.now c.in-Some.text.now c.in-Some.more.now c.in-Some.ensures.before c.in-Some.ensures.whole
     ∙ ap (λ l. l ∷ lines_of c.in-Some.more.now) (sym c.read_line.ensures) in
     counts (lines_of c.args.bytes.now) c.loop-text.count (lines_of c.loop-text.rest.now) c.loop-text.invariant
-    (no_act (lines_of c.args.bytes.now) c.loop-text.count (lines_of c.loop-text.rest.now) c.loop-text.invariant (view c.read_line.result) (lines_of c.in-Some.more.now) here c.in-None.ensures)
+    (no_act (lines_of c.args.bytes.now) c.loop-text.count (lines_of c.loop-text.rest.now) c.loop-text.invariant
+    (view c.read_line.result) (lines_of c.in-Some.more.now) here c.in-None.ensures)
 
 pub returns-in-None-clause-rest : goal.returns-in-None-clause-rest
 returns-in-None-clause-rest c =
     let here = lines_cut c.loop-text.rest.now c.in-Some.text.now c.in-Some.more.now c.in-Some.ensures.before c.in-Some.ensures.whole
     ∙ ap (λ l. l ∷ lines_of c.in-Some.more.now) (sym c.read_line.ensures) in
     ap (λ (p : List Act × List Line). p.1)
-    (no_act (lines_of c.args.bytes.now) c.loop-text.count (lines_of c.loop-text.rest.now) c.loop-text.invariant (view c.read_line.result) (lines_of c.in-Some.more.now) here c.in-None.ensures)
+    (no_act (lines_of c.args.bytes.now) c.loop-text.count (lines_of c.loop-text.rest.now) c.loop-text.invariant
+    (view c.read_line.result) (lines_of c.in-Some.more.now) here c.in-None.ensures)
 
 pub returns-clause-count : goal.returns-clause-count
 returns-clause-count c =
     counts (lines_of c.args.bytes.now) c.loop-text.count (lines_of c.loop-text.rest.now) c.loop-text.invariant
-    (no_line (lines_of c.args.bytes.now) c.loop-text.count (lines_of c.loop-text.rest.now) c.loop-text.invariant c.loop-text.rest.now (of_last c.loop-text.rest.now (search rules)))
+    (no_line (lines_of c.args.bytes.now) c.loop-text.count (lines_of c.loop-text.rest.now) c.loop-text.invariant
+    c.loop-text.rest.now (of_last c.loop-text.rest.now (search rules)))
 
 pub returns-clause-rest : goal.returns-clause-rest
 returns-clause-rest c =
     ap (λ (p : List Act × List Line). p.1)
-    (no_line (lines_of c.args.bytes.now) c.loop-text.count (lines_of c.loop-text.rest.now) c.loop-text.invariant c.loop-text.rest.now (of_last c.loop-text.rest.now (search rules)))
+    (no_line (lines_of c.args.bytes.now) c.loop-text.count (lines_of c.loop-text.rest.now) c.loop-text.invariant
+    c.loop-text.rest.now (of_last c.loop-text.rest.now (search rules)))

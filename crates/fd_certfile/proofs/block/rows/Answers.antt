@@ -13,26 +13,28 @@ loop-place-init c = kept_start (row_at Whole c.args.count) cells_of c.args.keep 
 
 pub loop-place-preserved : goal.loop-place-preserved
 loop-place-preserved c =
-    let r = subst
-    (λ (ok : Bool). PushesRow c.args.keep c.loop-place.cells.items c.push_row.new.cells.items ok (row_at Whole c.args.count c.loop-place.place (view c.read_line.result)))
+    let r = subst (λ (ok : Bool). PushesRow c.args.keep c.loop-place.cells.items c.push_row.new.cells.items ok
+    (row_at Whole c.args.count c.loop-place.place (view c.read_line.result)))
     c.if-not-branch.false c.in_ok-push_row-in-Some.ensures in
     kept_more (row_at Whole c.args.count) cells_of c.args.keep c.args.count (lines_of c.args.bytes.now)
     c.loop-place.place c.loop-place.cells.items (lines_of c.loop-place.rest.now) c.loop-place.invariant
-    c.loop-place-test.true
-    (view c.read_line.result) (lines_of c.in-Some.more.now) r.entries r.entries c.push_row.new.cells.items
-    (lines_cut c.loop-place.rest.now c.in-Some.text.now c.in-Some.more.now c.in-Some.ensures.before c.in-Some.ensures.whole ∙ ap (λ l. l ∷ lines_of c.in-Some.more.now) (sym c.read_line.ensures))
+    c.loop-place-test.true (view c.read_line.result) (lines_of c.in-Some.more.now) r.entries r.entries
+    c.push_row.new.cells.items (lines_cut c.loop-place.rest.now c.in-Some.text.now c.in-Some.more.now
+    c.in-Some.ensures.before c.in-Some.ensures.whole
+    ∙ ap (λ l. l ∷ lines_of c.in-Some.more.now) (sym c.read_line.ensures))
     (sym r.same) (cells_more c.loop-place.invariant.front r.entries) r.added
 
 pub returns-then-not-branch : goal.returns-then-not-branch
 returns-then-not-branch c =
-    let none = subst
-    (λ (ok : Bool). PushesRow c.args.keep c.loop-place.cells.items c.push_row.new.cells.items ok (row_at Whole c.args.count c.loop-place.place (view c.read_line.result)))
+    let none = subst (λ (ok : Bool). PushesRow c.args.keep c.loop-place.cells.items c.push_row.new.cells.items ok
+    (row_at Whole c.args.count c.loop-place.place (view c.read_line.result)))
     c.if-not-branch.true c.in_ok-push_row-in-Some.ensures in
     line_refused (row_at Whole c.args.count) cells_of c.args.keep c.args.count (lines_of c.args.bytes.now)
     c.loop-place.place c.loop-place.cells.items (lines_of c.loop-place.rest.now) c.loop-place.invariant
-    c.loop-place-test.true
-    (view c.read_line.result) (lines_of c.in-Some.more.now)
-    (lines_cut c.loop-place.rest.now c.in-Some.text.now c.in-Some.more.now c.in-Some.ensures.before c.in-Some.ensures.whole ∙ ap (λ l. l ∷ lines_of c.in-Some.more.now) (sym c.read_line.ensures))
+    c.loop-place-test.true (view c.read_line.result) (lines_of c.in-Some.more.now)
+    (lines_cut c.loop-place.rest.now c.in-Some.text.now c.in-Some.more.now c.in-Some.ensures.before
+    c.in-Some.ensures.whole
+    ∙ ap (λ l. l ∷ lines_of c.in-Some.more.now) (sym c.read_line.ensures))
     (sym none)
 
 pub returns-in-None : goal.returns-in-None

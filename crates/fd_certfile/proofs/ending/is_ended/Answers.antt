@@ -9,8 +9,9 @@ use Rattle.fd_certfile.proofs.ending.is_ended.Goals as goal
 pub returns-in-Some : goal.returns-in-Some
 returns-in-Some c =
     c.is_end.ensures
-    ∙ sym
-    (ap starts_with_end (lines_cut c.args.bytes.now c.in-Some.text.now c.in-Some.field-0-1.now c.in-Some.ensures.before c.in-Some.ensures.whole ∙ ap (λ l. l ∷ lines_of c.in-Some.field-0-1.now) (sym c.read_line.ensures)))
+    ∙ sym (ap starts_with_end (lines_cut c.args.bytes.now c.in-Some.text.now c.in-Some.field-0-1.now
+    c.in-Some.ensures.before c.in-Some.ensures.whole
+    ∙ ap (λ l. l ∷ lines_of c.in-Some.field-0-1.now) (sym c.read_line.ensures)))
 
 pub returns-in-None : goal.returns-in-None
 returns-in-None c = rest_starts c.args.bytes.now

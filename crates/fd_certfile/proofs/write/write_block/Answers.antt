@@ -13,24 +13,31 @@ use Rattle.fd_certfile.proofs.write.write_block.Goals as goal
 
 pub returns-clause-lines : goal.returns-clause-lines
 returns-clause-lines c =
-    subst
-    (λ (n : ℕ). pieces_of c.push_acts.new.records.items ≡ map line_bytes (block_lines Whole (block_of n c.args.number c.args.hour c.args.round c.args.made.now)))
-    c.size-size.ensures.rows
-    (lines_together c.size-size.result c.args.number c.args.hour c.args.round c.args.made.now
+    subst (λ (n : ℕ). pieces_of c.push_acts.new.records.items
+    ≡ map line_bytes (block_lines Whole (block_of n c.args.number c.args.hour c.args.round c.args.made.now)))
+    c.size-size.ensures.rows (lines_together c.size-size.result c.args.number c.args.hour c.args.round c.args.made.now
     (pieces_of c.push.new.self.items) (pieces_of c.push_parts.new.records.items)
     (pieces_of c.push_rows.new.records.items) (pieces_of c.push_acts.new.records.items)
-    (pieces_pushed c.new-records.result.items c.push.new.self.items c.in_ok-solution_record.field-0 c.in_ok-push.ensures.items
-    ∙ ap (λ (rs : List Record). pieces_of rs ++ c.in_ok-solution_record.field-0.bytes ∷ []) c.new-records.ensures.items
+    (pieces_pushed c.new-records.result.items c.push.new.self.items c.in_ok-solution_record.field-0
+    c.in_ok-push.ensures.items
+    ∙ ap (λ (rs : List Record). pieces_of rs ++ c.in_ok-solution_record.field-0.bytes ∷ [])
+    c.new-records.ensures.items
     ∙ ap (λ (b : List ℕ). b ∷ []) c.in_ok-solution_record.ensures)
-    c.in_ok-push_parts.ensures (c.requires.inverse.long ∙ sym c.size-size.ensures.rows) c.in_ok-push_rows.ensures.lines
-    (c.in_ok-push_acts.ensures.lines ∙ ap (λ (acts : List Made). pieces_of c.push_rows.new.records.items ++ map line_bytes (map act_line (map act_of acts))) c.deref.ensures.value))
+    c.in_ok-push_parts.ensures (c.requires.inverse.long ∙ sym c.size-size.ensures.rows)
+    c.in_ok-push_rows.ensures.lines (c.in_ok-push_acts.ensures.lines
+    ∙ ap (λ (acts : List Made).
+    pieces_of c.push_rows.new.records.items ++ map line_bytes (map act_line (map act_of acts)))
+    c.deref.ensures.value))
 
 pub returns-clause-read : goal.returns-clause-read
 returns-clause-read c = λ tail k.
     ap (λ (ps : List (List ℕ)). block_at Whole (lines_of (concat ps ++ tail))) (returns-clause-lines c)
-    ∙ ap (λ (bs : List ℕ). block_at Whole (lines_of (bs ++ tail)))
-    (concat_lines (block_lines Whole (block_of c.args.net.now.rows.size c.args.number c.args.hour c.args.round c.args.made.now)))
-    ∙ text_law.again Whole (block_of c.args.net.now.rows.size c.args.number c.args.hour c.args.round c.args.made.now) tail
-    (sized c.args.net.now.rows.size c.args.number c.args.hour c.args.round c.args.made.now c.requires c.in_ok-push_rows.ensures.wide)
-    (writable c.args.net.now.rows.size c.args.number c.args.hour c.args.round c.args.made.now c.requires c.in_ok-push_rows.ensures.wide (search rules) (search rules) (search rules) (search rules) (subst (All (λ (a : Made). AreNumbers (act_of a))) c.deref.ensures.value c.in_ok-push_acts.ensures.small))
+    ∙ ap (λ (bs : List ℕ). block_at Whole (lines_of (bs ++ tail))) (concat_lines (block_lines Whole
+    (block_of c.args.net.now.rows.size c.args.number c.args.hour c.args.round c.args.made.now)))
+    ∙ text_law.again Whole (block_of c.args.net.now.rows.size c.args.number c.args.hour c.args.round c.args.made.now)
+    tail (sized c.args.net.now.rows.size c.args.number c.args.hour c.args.round c.args.made.now c.requires
+    c.in_ok-push_rows.ensures.wide)
+    (writable c.args.net.now.rows.size c.args.number c.args.hour c.args.round c.args.made.now c.requires
+    c.in_ok-push_rows.ensures.wide (search rules) (search rules) (search rules) (search rules)
+    (subst (All (λ (a : Made). AreNumbers (act_of a))) c.deref.ensures.value c.in_ok-push_acts.ensures.small))
     k

@@ -6,5 +6,6 @@ use Rattle.fd_check.proofs.compare.compare.Given as goal
 abbrev pub invariant-loop-round : goal.invariant-loop-round
 invariant-loop-round l = record {
   block : l.block ≡ l.first + l.round-index;
-  left : first_unlike (map acts_made l.rounds) (drop l.first l.reader.given) ≡ first_unlike (map acts_made (drop l.round-index l.rounds)) (drop l.block l.reader.given);
+  left : first_unlike (map acts_made l.rounds) (drop l.first l.reader.given)
+      ≡ first_unlike (map acts_made (drop l.round-index l.rounds)) (drop l.block l.reader.given);
 }

@@ -29,14 +29,20 @@ run_is : (c : goal.After-judge_hour)
 run_is c = let e = c.daily_run-ended.ensures in record { acts = e.acts; ends = e.ends; calls = e.calls }
 
 told_is : (c : goal.After-judge_hour)
-    → c.judge_hour.result ≡ hour_told c.daily_run-ended.new.solver c.daily_run-ended.result
-    (first_unlike (map acts_made (with_acts c.daily_run-ended.result c.daily_run-ended.new.underway.rounds.items)) (drop (length c.begin.new.self.given) c.daily_run-ended.new.solver.given))
+    → c.judge_hour.result
+    ≡ hour_told c.daily_run-ended.new.solver c.daily_run-ended.result
+    (first_unlike (map acts_made (with_acts c.daily_run-ended.result c.daily_run-ended.new.underway.rounds.items))
+    (drop (length c.begin.new.self.given) c.daily_run-ended.new.solver.given))
 told_is c =
     let w = c.daily_run-ended.new.solver in
     let ended = c.daily_run-ended.result in
     c.judge_hour.ensures
-    ∙ ap (λ (rs : List Round). hour_told w ended (first_unlike (map acts_made (with_acts ended rs)) (drop c.given-first.result w.given))) c.deref.ensures.value
-    ∙ ap (λ (n : ℕ). hour_told w ended (first_unlike (map acts_made (with_acts ended c.daily_run-ended.new.underway.rounds.items)) (drop n w.given))) c.given-first.ensures
+    ∙ ap (λ (rs : List Round).
+    hour_told w ended (first_unlike (map acts_made (with_acts ended rs)) (drop c.given-first.result w.given)))
+    c.deref.ensures.value
+    ∙ ap (λ (n : ℕ). hour_told w ended
+    (first_unlike (map acts_made (with_acts ended c.daily_run-ended.new.underway.rounds.items)) (drop n w.given)))
+    c.given-first.ensures
 
 pub judge_hour-requires : goal.judge_hour-requires
 judge_hour-requires c =
@@ -75,9 +81,10 @@ returns-clause-refused c hours =
     let n = c.daily_run-ended.new in
     let r = c.args.reader.now in
     let before : List CircuitView → Checking = hour_open circuit c.args.at.now day c.args.number hours in
-    each_err c.judge_hour.result (λ (more : List CircuitView) e. Tells e (Comes r (before more)))
-    (λ more. hour_refused c.certificate_law.ensures (first_round circuit c.args.at.now day c.args.number hours more) r c.begin.new.self n.solver (begun_is c) refl
-    n.underway.rounds.items c.daily_run-ended.result (run_is c) c.judge_hour.result (told_is c))
+    each_err c.judge_hour.result (λ (more : List CircuitView) e. Tells e (Comes r (before more))) (λ more.
+    hour_refused c.certificate_law.ensures (first_round circuit c.args.at.now day c.args.number hours more) r
+    c.begin.new.self n.solver (begun_is c) refl n.underway.rounds.items c.daily_run-ended.result
+    (run_is c) c.judge_hour.result (told_is c))
 
 pub returns-clause-left : goal.returns-clause-left
 returns-clause-left c =

@@ -21,8 +21,10 @@ overflow_add-settled c =
 pub returns-in-Err-clause-refused : goal.returns-in-Err-clause-refused
 returns-in-Err-clause-refused c =
     let u = c.loop-fault.invariant.underway in
-    way_refused c.args.circuit.now c.args.reader.now (hours_open c.args.circuit.now c.args.at.now c.args.underway.now.day c.args.settled.now)
-    c.loop-fault.reader c.loop-fault.at c.loop-fault.underway.day c.loop-fault.settled c.loop-fault.invariant.way u.day u.hour c.in-Err.fault c.in-Err.ensures.refused
+    way_refused c.args.circuit.now c.args.reader.now
+    (hours_open c.args.circuit.now c.args.at.now c.args.underway.now.day c.args.settled.now) c.loop-fault.reader
+    c.loop-fault.at c.loop-fault.underway.day c.loop-fault.settled c.loop-fault.invariant.way u.day u.hour
+    c.in-Err.fault c.in-Err.ensures.refused
 
 pub returns-in-Err-next_network-clause-refused : goal.returns-in-Err-next_network-clause-refused
 returns-in-Err-next_network-clause-refused c =

@@ -8,8 +8,12 @@ use Rattle.fd_check.proofs.script.check_command.Goals as goal
 pub returns-in-Solve-clause-goes : goal.returns-in-Solve-clause-goes
 returns-in-Solve-clause-goes c =
     let n = c.check_solve.new in
-    subst (λ (l : List CircuitView). OnOk c.check_solve.result (LeadsForAll c.args.reader.now (solves_open l c.args.at.now c.args.settled.now) n.reader (solves_open [] n.at n.settled)))
-    (sym (solve_alone c.args.command.now c.args.circuit.now c.apply.new.self c.in-Solve.pairs c.in-Solve.is c.in-Ok.ensures)) c.check_solve.ensures.goes
+    subst (λ (l : List CircuitView).
+    OnOk c.check_solve.result (LeadsForAll c.args.reader.now (solves_open l c.args.at.now c.args.settled.now) n.reader
+    (solves_open [] n.at n.settled)))
+    (sym (solve_alone c.args.command.now c.args.circuit.now c.apply.new.self c.in-Solve.pairs c.in-Solve.is
+    c.in-Ok.ensures))
+    c.check_solve.ensures.goes
 
 pub returns-in-Solve-clause-refused : goal.returns-in-Solve-clause-refused
 returns-in-Solve-clause-refused c =

@@ -33,7 +33,8 @@ loop-command-preserved c =
     let left = left_solves l.circuit (drop l.command-index c.args.commands.now) rest x item in
     let now = e.circuit in
     record {
-      accepted = subst (λ (k : CircuitView). AreAccepted k rest) (sym now) (accepted_behind l.circuit (drop l.command-index c.args.commands.now) rest x item l.invariant.accepted);
+      accepted = subst (λ (k : CircuitView). AreAccepted k rest) (sym now)
+          (accepted_behind l.circuit (drop l.command-index c.args.commands.now) rest x item l.invariant.accepted);
       few =
           let count = ap length left ∙ length-append (solve_in x l.circuit) (solves_in (behind_one x l.circuit) rest) in
           let same = ap (λ (k : CircuitView). length (solves_in k rest)) now in
@@ -49,12 +50,18 @@ pub returns-clause-accepted : goal.returns-clause-accepted
 returns-clause-accepted c =
     let l = c.loop-command in
     let none = drop_all l.command-index c.args.commands.now (omega (arith, l.auto.command-index-end, c.loop-command-test.false)) in
-    let leads = subst (λ (xs : List Command). Leads c.args.reader.now (open_solves (solves_in empty_circuit c.args.commands.now) no_positions 0) l.reader (open_solves (solves_in l.circuit xs) (positions_in l.at) l.settled)) none l.invariant.leads in
+    let leads = subst (λ (xs : List Command).
+    Leads c.args.reader.now (open_solves (solves_in empty_circuit c.args.commands.now) no_positions 0) l.reader
+    (open_solves (solves_in l.circuit xs) (positions_in l.at) l.settled))
+    none l.invariant.leads in
     IfOk-weaker c.check_end.result _ _ (λ count h. leads (accepted count) h) c.check_end.ensures.accepted
 
 pub returns-clause-refused : goal.returns-clause-refused
 returns-clause-refused c =
     let l = c.loop-command in
     let none = drop_all l.command-index c.args.commands.now (omega (arith, l.auto.command-index-end, c.loop-command-test.false)) in
-    let leads = subst (λ (xs : List Command). Leads c.args.reader.now (open_solves (solves_in empty_circuit c.args.commands.now) no_positions 0) l.reader (open_solves (solves_in l.circuit xs) (positions_in l.at) l.settled)) none l.invariant.leads in
+    let leads = subst (λ (xs : List Command).
+    Leads c.args.reader.now (open_solves (solves_in empty_circuit c.args.commands.now) no_positions 0) l.reader
+    (open_solves (solves_in l.circuit xs) (positions_in l.at) l.settled))
+    none l.invariant.leads in
     IfErr-weaker c.check_end.result _ _ (λ e h. tells_before c.args.reader.now l.reader _ _ e leads (refuses_tells e _ h)) c.check_end.ensures.refused

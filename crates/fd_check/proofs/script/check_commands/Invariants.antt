@@ -14,5 +14,6 @@ invariant-loop-command l = record {
   accepted : AreAccepted l.circuit (drop l.command-index l.commands);
   few : l.settled + 8761 * length (solves_in l.circuit (drop l.command-index l.commands)) ≤ 8761 * most_solves;
   taps : All AreTaps l.at.taps;
-  leads : Leads l.initial.reader (open_solves (solves_in empty_circuit l.commands) no_positions 0) l.reader (open_solves (solves_in l.circuit (drop l.command-index l.commands)) (positions_in l.at) l.settled);
+  leads : Leads l.initial.reader (open_solves (solves_in empty_circuit l.commands) no_positions 0) l.reader
+      (open_solves (solves_in l.circuit (drop l.command-index l.commands)) (positions_in l.at) l.settled);
 }

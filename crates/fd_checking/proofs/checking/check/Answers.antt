@@ -9,16 +9,20 @@ use Rattle.fd_checking.proofs.checking.check.Goals as goal
 
 pub returns-in_default-clause-run : goal.returns-in_default-clause-run
 returns-in_default-clause-run g c files told =
-    not_begun IsCheckStep certificate_name IsJudged IsSolved report g.L.Library.faults g.L.Library.asked g.S.Sink.taken g.S.Sink.calls files (chars c.args.script.now) (first_gathered (chars c.args.certificate.now))
+    not_begun IsCheckStep certificate_name IsJudged IsSolved report g.L.Library.faults g.L.Library.asked
+    g.S.Sink.taken g.S.Sink.calls files (chars c.args.script.now) (first_gathered (chars c.args.certificate.now))
     one_check_step one_judged report_asks c.args.lib.now c.args.out.now
 
 pub returns-in_default-new-clause-run : goal.returns-in_default-new-clause-run
 returns-in_default-new-clause-run g c files told =
-    not_begun IsCheckStep certificate_name IsJudged IsSolved report g.L.Library.faults g.L.Library.asked g.S.Sink.taken g.S.Sink.calls files (chars c.args.script.now) (first_gathered (chars c.args.certificate.now))
+    not_begun IsCheckStep certificate_name IsJudged IsSolved report g.L.Library.faults g.L.Library.asked
+    g.S.Sink.taken g.S.Sink.calls files (chars c.args.script.now) (first_gathered (chars c.args.certificate.now))
     one_check_step one_judged report_asks c.args.lib.now c.args.out.now
 
 pub returns-clause-run : goal.returns-clause-run
 returns-clause-run g c files told =
-    of_script IsCheckStep certificate_name IsJudged IsSolved report g.L.Library.faults g.L.Library.asked g.S.Sink.taken g.S.Sink.calls files (chars c.args.script.now) (first_gathered (chars c.args.certificate.now))
-    c.said_law.ensures (remaining files c.in-Ok.session) c.in-Ok-new.gathered c.args.lib.now c.run_script.new.lib c.args.out.now c.run_script.new.out c.run_script.result
-    (c.in-Ok.ensures.script files) c.in-Ok-new.ensures (c.run_script.ensures.run files told)
+    of_script IsCheckStep certificate_name IsJudged IsSolved report g.L.Library.faults g.L.Library.asked
+    g.S.Sink.taken g.S.Sink.calls files (chars c.args.script.now) (first_gathered (chars c.args.certificate.now))
+    c.said_law.ensures (remaining files c.in-Ok.session) c.in-Ok-new.gathered c.args.lib.now c.run_script.new.lib
+    c.args.out.now c.run_script.new.out c.run_script.result (c.in-Ok.ensures.script files) c.in-Ok-new.ensures
+    (c.run_script.ensures.run files told)

@@ -7,4 +7,5 @@ use Rattle.fd_checking.proofs.checking.print_unread.Goals as goal
 pub returns-in-Err-clause-prints : goal.returns-in-Err-clause-prints
 returns-in-Err-clause-prints g c =
     let f = fault.Read c.args.name.now in
-    fault_cut g.S.Sink.taken g.S.Sink.calls c.args.out.now c.args.out.now f 1 (cut_before g.S.Sink.taken g.S.Sink.calls c.args.out.now (writes (fault_text f) ∷ []))
+    fault_cut g.S.Sink.taken g.S.Sink.calls c.args.out.now c.args.out.now f 1
+    (cut_before g.S.Sink.taken g.S.Sink.calls c.args.out.now (writes (fault_text f) ∷ []))

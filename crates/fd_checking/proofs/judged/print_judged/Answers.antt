@@ -4,4 +4,6 @@ use Rattle.fd_solving.proofs.CallerLemmas.{printed_cut}
 use Rattle.fd_checking.proofs.judged.print_judged.Goals as goal
 
 pub returns-in-Err-clause-prints : goal.returns-in-Err-clause-prints
-returns-in-Err-clause-prints g c = printed_cut g.S.Sink.taken g.S.Sink.calls c.args.out.now c.args.out.now _ (history_in c.args.judged.now).end 1 (cut_before g.S.Sink.taken g.S.Sink.calls c.args.out.now _)
+returns-in-Err-clause-prints g c =
+    printed_cut g.S.Sink.taken g.S.Sink.calls c.args.out.now c.args.out.now _ (history_in c.args.judged.now).end 1
+    (cut_before g.S.Sink.taken g.S.Sink.calls c.args.out.now _)

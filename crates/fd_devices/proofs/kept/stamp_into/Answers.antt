@@ -13,20 +13,30 @@ load_into-requires-clause-magnitude c = subst (λ m. m < 2 ^ 31) (sym c.first_ma
 
 pub returns-in-Transformer-clause-settled : goal.returns-in-Transformer-clause-settled
 returns-in-Transformer-clause-settled c =
-    on_ok_weaker c.transformer_into.result (transformer_here c.args.layout.now c.args.hertz c.args.place c.args.element.now (settings_in c.args.own.now) c.args.kept.now.at c.requires.kept.at c.requires.ready.sited c.in-Transformer.xfmr _ c.in-Transformer.is refl) c.transformer_into.ensures.settled
+    on_ok_weaker c.transformer_into.result
+    (transformer_here c.args.layout.now c.args.hertz c.args.place c.args.element.now (settings_in c.args.own.now)
+    c.args.kept.now.at c.requires.kept.at c.requires.ready.sited c.in-Transformer.xfmr _ c.in-Transformer.is refl)
+    c.transformer_into.ensures.settled
 
 pub returns-in-Capacitor-clause-settled : goal.returns-in-Capacitor-clause-settled
 returns-in-Capacitor-clause-settled c =
-    on_ok_weaker c.capacitor_into.result (capacitor_here c.args.layout.now c.args.hertz c.args.place c.args.element.now (settings_in c.args.own.now) c.args.kept.now.at c.requires.kept.at c.requires.ready.sited c.in-Capacitor.bank _ c.in-Capacitor.is refl) c.capacitor_into.ensures.settled
+    on_ok_weaker c.capacitor_into.result
+    (capacitor_here c.args.layout.now c.args.hertz c.args.place c.args.element.now (settings_in c.args.own.now)
+    c.args.kept.now.at c.requires.kept.at c.requires.ready.sited c.in-Capacitor.bank _ c.in-Capacitor.is refl)
+    c.capacitor_into.ensures.settled
 
 pub returns-in-Load-clause-settled : goal.returns-in-Load-clause-settled
 returns-in-Load-clause-settled c =
-    on_ok_weaker c.load_into.result (load_here c.args.layout.now c.args.hertz c.args.place c.args.element.now (settings_in c.args.own.now) c.args.kept.now.at c.requires.kept.at c.requires.ready.sited c.in-Load.load c.args.kept.now.at.first c.first_magnitude.result c.in-Load.is refl c.first_magnitude.ensures) c.load_into.ensures.settled
+    on_ok_weaker c.load_into.result (load_here c.args.layout.now c.args.hertz c.args.place c.args.element.now
+    (settings_in c.args.own.now) c.args.kept.now.at c.requires.kept.at c.requires.ready.sited c.in-Load.load
+    c.args.kept.now.at.first c.first_magnitude.result c.in-Load.is refl c.first_magnitude.ensures)
+    c.load_into.ensures.settled
 
 pub append_reserved-requires : goal.append_reserved-requires
 append_reserved-requires c =
     let none = unmoved c.args.element.now c.in_default.not-Transformer c.in_default.not-Capacitor c.in_default.not-Load in
-    let small = kept_small c.args.layout.now c.args.hertz c.args.place c.args.element.now (settings_in c.args.own.now) c.args.kept.now c.requires.kept none c.requires.ready.in_range in
+    let small = kept_small c.args.layout.now c.args.hertz c.args.place c.args.element.now (settings_in c.args.own.now)
+    c.args.kept.now c.requires.kept none c.requires.ready.in_range in
     let a = c.clear.ensures.stamp in
     let t = ap (λ (x : StampView). length x.terms) a in
     let l = ap (λ (x : StampView). length x.loads) a in

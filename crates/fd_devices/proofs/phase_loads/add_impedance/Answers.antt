@@ -12,8 +12,12 @@ returns-clause-items c =
     let load = c.args.phase.now.load in
     let fp = small_fits load.p (omega (arith, c.requires.phase.p)) in
     let fq = small_fits load.q (omega (arith, c.requires.phase.q)) in
-    let p = to_z-of_z w128 c.scaled.result (small_fits c.scaled.result c.scaled.ensures.most) ∙ c.scaled.ensures.value ∙ ap (λ z. pos (10 ^ 9) *ℤ z) (to_z-of_z w128 load.p fp) in
-    let r = to_z-of_z w128 c.scaled-2.result (small_fits c.scaled-2.result c.scaled-2.ensures.most) ∙ c.scaled-2.ensures.value ∙ ap (λ z. pos (10 ^ 9) *ℤ z) (to_z-of_z w128 load.q fq) in
+    let p = to_z-of_z w128 c.scaled.result (small_fits c.scaled.result c.scaled.ensures.most)
+    ∙ c.scaled.ensures.value
+    ∙ ap (λ z. pos (10 ^ 9) *ℤ z) (to_z-of_z w128 load.p fp) in
+    let r = to_z-of_z w128 c.scaled-2.result (small_fits c.scaled-2.result c.scaled-2.ensures.most)
+    ∙ c.scaled-2.ensures.value
+    ∙ ap (λ z. pos (10 ^ 9) *ℤ z) (to_z-of_z w128 load.q fq) in
     let q = to_z-of_z w128 c.opposite.result (small_fits c.opposite.result c.opposite.ensures.most) ∙ c.opposite.ensures.value ∙ ap neg_ℤ r in
     let v = c.requires.phase.voltages in
     let fv = small_fits load.vn (omega (arith, ints, v.nominal_least, v.nominal_most)) in

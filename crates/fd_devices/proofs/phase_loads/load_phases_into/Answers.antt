@@ -9,8 +9,12 @@ use Rattle.fd_devices.proofs.phase_loads.load_phases_into.Goals as goal
 pub loop-k-preserved : goal.loop-k-preserved
 loop-k-preserved c =
     let next : suc c.loop-k.k ≡ c.loop-k.k + 1 = omega arith in record {
-      phases = c.push_reserved.ensures.items ∙ (λ i. c.loop-k.invariant.phases i ++ c.phase_at.ensures.value i ∷ []) ∙ ap (concat_below (phase_loads c.args.load.now c.args.nodes.now c.args.magnitude c.args.powers.now)) next;
-      usable = subst (All IsUsable) (sym c.push_reserved.ensures.items) (All-append IsUsable c.loop-k.into.items _ c.loop-k.invariant.usable (All-cons IsUsable c.phase_at.result [] c.phase_at.ensures.usable (All-nil IsUsable)));
+      phases = c.push_reserved.ensures.items
+          ∙ (λ i. c.loop-k.invariant.phases i ++ c.phase_at.ensures.value i ∷ [])
+          ∙ ap (concat_below (phase_loads c.args.load.now c.args.nodes.now c.args.magnitude c.args.powers.now)) next;
+      usable = subst (All IsUsable) (sym c.push_reserved.ensures.items)
+          (All-append IsUsable c.loop-k.into.items _ c.loop-k.invariant.usable
+          (All-cons IsUsable c.phase_at.result [] c.phase_at.ensures.usable (All-nil IsUsable)));
       count = ap length c.push_reserved.ensures.items ∙ length-append c.loop-k.into.items (c.phase_at.result ∷ []) ∙ ap (λ n. n + 1) c.loop-k.invariant.count;
       capacity = c.push_reserved.ensures.capacity ∙ c.loop-k.invariant.capacity;
     }

@@ -8,6 +8,7 @@ loop-phase-preserved c =
     let most = c.loop-phase.invariant.most in
     let one = c.draw_of-total.ensures.most in
     record {
-      value = (λ i. c.loop-phase.invariant.value i + c.draw_of-total.ensures.value i) ∙ sym (list_n_next draw_of c.args.phases.now c.loop-phase.phase-index _ c.loop-phase-test.true);
+      value = (λ i. c.loop-phase.invariant.value i + c.draw_of-total.ensures.value i)
+          ∙ sym (list_n_next draw_of c.args.phases.now c.loop-phase.phase-index _ c.loop-phase-test.true);
       most = omega arith;
     }

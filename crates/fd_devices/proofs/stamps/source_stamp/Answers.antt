@@ -15,7 +15,10 @@ returns-clause-stamp c =
 pub returns-clause-settled : goal.returns-clause-settled
 returns-clause-settled c =
     let is = c.in_ok-data.ensures.value in
-    subst (λ d. IfOk c.source_at.result (λ p. (m n size : ℕ) → IsSideOf n d.phases c.args.at.now.first → HasBranches n d.phases c.args.at.now → IsSettled m n size d.phases (source d c.args.at.now))) is c.source_at.ensures.settled
+    subst (λ d.
+    IfOk c.source_at.result (λ p. (m n size : ℕ) → IsSideOf n d.phases c.args.at.now.first
+    → HasBranches n d.phases c.args.at.now → IsSettled m n size d.phases (source d c.args.at.now)))
+    is c.source_at.ensures.settled
 
 pub returns-clause-range : goal.returns-clause-range
 returns-clause-range c =

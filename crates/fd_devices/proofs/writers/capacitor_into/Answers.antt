@@ -8,4 +8,7 @@ use Rattle.fd_devices.proofs.writers.capacitor_into.Goals as goal
 
 pub returns-clause-settled : goal.returns-clause-settled
 returns-clause-settled c =
-    subst (λ d. OnOk c.capacitor_data_into.result ((m n size : ℕ) → IsSideOf n (node_count d.phases) c.args.at.now.first → IsSettled m n size 0 (capacitor d c.args.closed c.args.at.now))) c.cap_data.ensures.value c.capacitor_data_into.ensures.settled
+    subst (λ d.
+    OnOk c.capacitor_data_into.result ((m n size : ℕ) → IsSideOf n (node_count d.phases) c.args.at.now.first
+    → IsSettled m n size 0 (capacitor d c.args.closed c.args.at.now)))
+    c.cap_data.ensures.value c.capacitor_data_into.ensures.settled

@@ -11,4 +11,7 @@ pub returns-clause-settled : goal.returns-clause-settled
 returns-clause-settled c =
     let is = c.load_phases_into.ensures.phases in
     let usable = subst (All IsUsable) is c.load_phases_into.ensures.usable in
-    on_ok_weaker c.write_loads.result (λ fits. phases_settled c.args.load.now c.args.nodes.now c.args.magnitude c.args.powers.now c.requires.range usable (subst (λ (us : List LoadAt). DeviceFits (loads us)) is fits)) c.write_loads.ensures.fits
+    on_ok_weaker c.write_loads.result (λ fits.
+    phases_settled c.args.load.now c.args.nodes.now c.args.magnitude c.args.powers.now c.requires.range usable
+    (subst (λ (us : List LoadAt). DeviceFits (loads us)) is fits))
+    c.write_loads.ensures.fits

@@ -20,6 +20,11 @@ returns-else-p-pf-clause-value c =
     let test : beq (lt_z p (pos 0)) (lt_z pf (pos 0)) ≡ false = sym (λ i. beq (lt_z (is_p i) (pos 0)) (lt_z (is_pf i) (pos 0))) ∙ c.if-p-pf.false in
     let small = size.most in
     let minus : to_z w128 (of_z w128 (pos 0 -ℤ to_z w128 s)) ≡ neg_ℤ (pos s) = omega (arith, ints, small) in
-    let least : s * s * square pf ≤ square p * (10 ^ 18 - square pf) = subst (λ a. s * s * square pf ≤ a * a * (10 ^ 18 - square pf)) u (subst (λ b. s * s * (b * b) ≤ c.unsigned_abs.result * c.unsigned_abs.result * (10 ^ 18 - b * b)) v size.least) in
-    let more : square p * (10 ^ 18 - square pf) < (s + 1) * (s + 1) * square pf = subst (λ a. a * a * (10 ^ 18 - square pf) < (s + 1) * (s + 1) * square pf) u (subst (λ b. c.unsigned_abs.result * c.unsigned_abs.result * (10 ^ 18 - b * b) < (s + 1) * (s + 1) * (b * b)) v size.more) in
+    let least : s * s * square pf ≤ square p * (10 ^ 18 - square pf) =
+    subst (λ a. s * s * square pf ≤ a * a * (10 ^ 18 - square pf)) u
+    (subst (λ b. s * s * (b * b) ≤ c.unsigned_abs.result * c.unsigned_abs.result * (10 ^ 18 - b * b)) v size.least) in
+    let more : square p * (10 ^ 18 - square pf) < (s + 1) * (s + 1) * square pf =
+    subst (λ a. a * a * (10 ^ 18 - square pf) < (s + 1) * (s + 1) * square pf) u
+    (subst (λ b. c.unsigned_abs.result * c.unsigned_abs.result * (10 ^ 18 - b * b) < (s + 1) * (s + 1) * (b * b)) v
+    size.more) in
     by_sign p pf _ s (minus ∙ negative_q p pf s test) least more

@@ -16,11 +16,17 @@ add_term-requires c =
       long = c.loop-term.invariant.long;
       divided = record { positive = is.term.positive; most = is.term.most };
       within = is.within;
-      room = cells_room c.args.pattern.now.places c.loop-term.cells c.args.pattern.now.size c.args.terms.now c.loop-term.term-index c.requires.linear c.loop-term.invariant;
+      room = cells_room c.args.pattern.now.places c.loop-term.cells c.args.pattern.now.size c.args.terms.now
+          c.loop-term.term-index c.requires.linear c.loop-term.invariant;
     }
 
 pub loop-term-preserved : goal.loop-term-preserved
-loop-term-preserved c = cells_then c.args.pattern.now.places c.loop-term.cells c.add_term.new.cells _ _ _ c.loop-term.invariant c.add_term.auto.cells c.add_term.ensures (terms_more c.args.terms.now c.loop-term.term-index no_term c.loop-term-test.true)
+loop-term-preserved c =
+    cells_then c.args.pattern.now.places c.loop-term.cells c.add_term.new.cells _ _ _ c.loop-term.invariant
+    c.add_term.auto.cells c.add_term.ensures
+    (terms_more c.args.terms.now c.loop-term.term-index no_term c.loop-term-test.true)
 
 pub returns : goal.returns
-returns c = subst (λ ts. AreCells c.args.pattern.now.places c.loop-term.cells (of_terms ts)) (take_all c.loop-term.term-index c.args.terms.now c.loop-term-test.false) c.loop-term.invariant
+returns c =
+    subst (λ ts. AreCells c.args.pattern.now.places c.loop-term.cells (of_terms ts))
+    (take_all c.loop-term.term-index c.args.terms.now c.loop-term-test.false) c.loop-term.invariant

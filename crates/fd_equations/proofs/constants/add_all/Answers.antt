@@ -11,14 +11,22 @@ pub add_to-requires : goal.add_to-requires
 add_to-requires c =
     let h = c.loop-constant.invariant in
     record {
-      known = subst (λ n. IsKnown n (get_or c.args.constants.now c.loop-constant.constant-index (record { row = 0; value = pos 0 }))) (sym h.long) (All-get_or (IsKnown (length c.args.rows.now)) c.args.constants.now c.loop-constant.constant-index (record { row = 0; value = pos 0 }) c.loop-constant-test.true c.requires.known);
+      known = subst (λ n.
+          IsKnown n (get_or c.args.constants.now c.loop-constant.constant-index (record { row = 0; value = pos 0 })))
+          (sym h.long)
+          (All-get_or (IsKnown (length c.args.rows.now)) c.args.constants.now c.loop-constant.constant-index
+          (record { row = 0; value = pos 0 }) c.loop-constant-test.true c.requires.known);
       room = λ row. let s = h.small row in let few = c.requires.few in let t = c.loop-constant-test.true in omega arith;
     }
 
 pub loop-constant-preserved : goal.loop-constant-preserved
 loop-constant-preserved c =
-    let r = sums_more c.loop-constant.rows c.args.constants.now (length c.args.rows.now) c.loop-constant.constant-index (record { row = 0; value = pos 0 }) c.loop-constant-test.true c.requires.known c.loop-constant.invariant in
+    let r =
+    sums_more c.loop-constant.rows c.args.constants.now (length c.args.rows.now) c.loop-constant.constant-index
+    (record { row = 0; value = pos 0 }) c.loop-constant-test.true c.requires.known c.loop-constant.invariant in
     subst (λ rows. SumsTo rows c.args.constants.now (length c.args.rows.now) (c.loop-constant.constant-index + 1)) (sym c.add_to.ensures) r
 
 pub returns : goal.returns
-returns c = sums_end c.loop-constant.rows c.args.constants.now (length c.args.rows.now) c.loop-constant.constant-index c.loop-constant-test.false c.loop-constant.invariant
+returns c =
+    sums_end c.loop-constant.rows c.args.constants.now (length c.args.rows.now) c.loop-constant.constant-index
+    c.loop-constant-test.false c.loop-constant.invariant

@@ -25,4 +25,7 @@ pub returns : goal.returns
 returns c =
     let items : c.in_ok-rows.rows.items ≡ replicate c.args.size (pos 0) = search rules in
     let n : c.in_ok-rows.rows.len ≡ length c.add_all.new.rows = search rules in
-    rewritten c.in_ok-rows.rows.items c.add_all.new.rows c.in_ok-rows.rows.len n ∙ c.add_all.ensures ∙ ap (λ n. list_of n (constant_sum c.args.constants.now)) (ap length (c.deref_mut.ensures.value ∙ items) ∙ length-replicate c.args.size (pos 0))
+    rewritten c.in_ok-rows.rows.items c.add_all.new.rows c.in_ok-rows.rows.len n
+    ∙ c.add_all.ensures
+    ∙ ap (λ n. list_of n (constant_sum c.args.constants.now))
+    (ap length (c.deref_mut.ensures.value ∙ items) ∙ length-replicate c.args.size (pos 0))

@@ -9,7 +9,8 @@ pub returns-in-Some : goal.returns-in-Some
 returns-in-Some c =
     let ps = c.args.pattern.now.places in
     let cells = c.args.cells.now in
-    let units = subst (λ (z : ℤ). AreGrown ps cells c.add_slope.new.cells (slope_at c.args.row c.in-Some.place z)) (kept_by c.args.units (omega (arith, c.requires.units))) c.add_slope.ensures in
+    let units = subst (λ (z : ℤ). AreGrown ps cells c.add_slope.new.cells (slope_at c.args.row c.in-Some.place z))
+    (kept_by c.args.units (omega (arith, c.requires.units))) c.add_slope.ensures in
     subst (λ (o : Option ℕ). AreGrown ps cells c.add_slope.new.cells (magnitude_in_row c.args.row o c.args.units)) (sym c.in-Some.is)
     (grown_as ps cells c.add_slope.new.cells _ _ units (magnitude_step c.args.row c.in-Some.place c.args.units))
 

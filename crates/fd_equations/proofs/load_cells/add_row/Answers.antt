@@ -19,8 +19,10 @@ add_magnitude-requires-clause-room c =
     let q = kept_by r.q (omega (arith, s.q)) in
     let m = negated_kept r.p (omega (arith, s.p)) in
     let n = negated_kept r.q (omega (arith, s.q)) in
-    after_second ps c.args.cells.now c.add_node.new.cells c.add_node-2.new.cells c.add_node-2.new.cells c.args.row c.args.load.now r s _ _ m n
-    (after_first ps c.args.cells.now c.add_node.new.cells c.add_node-2.new.cells c.add_node-2.new.cells c.args.row c.args.load.now r s _ _ p q c.requires.room c.add_node.ensures) c.add_node-2.ensures
+    after_second ps c.args.cells.now c.add_node.new.cells c.add_node-2.new.cells c.add_node-2.new.cells c.args.row
+    c.args.load.now r s _ _ m n (after_first ps c.args.cells.now c.add_node.new.cells c.add_node-2.new.cells
+    c.add_node-2.new.cells c.args.row c.args.load.now r s _ _ p q c.requires.room c.add_node.ensures)
+    c.add_node-2.ensures
 
 pub returns : goal.returns
 returns c =
@@ -28,6 +30,7 @@ returns c =
     let s = c.requires.slope in
     let m = negated_kept r.p (omega (arith, s.p)) in
     let n = negated_kept r.q (omega (arith, s.q)) in
-    row_done c.args.pattern.now.places c.args.cells.now c.add_node.new.cells c.add_node-2.new.cells c.add_magnitude.new.cells c.args.row c.args.load.now r s _ _ _ _ _
-    (kept_by r.p (omega (arith, s.p))) (kept_by r.q (omega (arith, s.q))) m n (kept_by r.m (omega (arith, s.m)))
-    c.add_node.ensures c.add_node-2.ensures c.add_magnitude.ensures
+    row_done c.args.pattern.now.places c.args.cells.now c.add_node.new.cells c.add_node-2.new.cells
+    c.add_magnitude.new.cells c.args.row c.args.load.now r s _ _ _ _ _ (kept_by r.p (omega (arith, s.p)))
+    (kept_by r.q (omega (arith, s.q))) m n (kept_by r.m (omega (arith, s.m))) c.add_node.ensures c.add_node-2.ensures
+    c.add_magnitude.ensures

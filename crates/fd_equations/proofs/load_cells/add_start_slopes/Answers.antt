@@ -14,11 +14,16 @@ loop-load-preserved c =
     let k = c.loop-load.load-index in
     let u = get_or us k no_load in
     let is = c.start_slopes.ensures.slopes in
-    next_load ps c.args.cells.now (λ u. start_slopes u.load) us c.loop-load.cells c.add_load.new.cells k no_load c.loop-load-test.true c.loop-load.invariant (subst AreSlopes is c.start_slopes.ensures.small)
+    next_load ps c.args.cells.now (λ u. start_slopes u.load) us c.loop-load.cells c.add_load.new.cells k no_load
+    c.loop-load-test.true c.loop-load.invariant (subst AreSlopes is c.start_slopes.ensures.small)
     (subst (λ (s : Slopes). AreGrown ps c.loop-load.cells c.add_load.new.cells (of_load u s)) is c.add_load.ensures)
 
 pub returns-clause-grown : goal.returns-clause-grown
-returns-clause-grown c = loads_grown c.args.pattern.now.places c.args.cells.now (λ u. start_slopes u.load) c.args.loads.now c.loop-load.cells c.loop-load.load-index c.loop-load-test.false c.loop-load.invariant
+returns-clause-grown c =
+    loads_grown c.args.pattern.now.places c.args.cells.now (λ u. start_slopes u.load) c.args.loads.now
+    c.loop-load.cells c.loop-load.load-index c.loop-load-test.false c.loop-load.invariant
 
 pub returns-clause-room : goal.returns-clause-room
-returns-clause-room c = room_yet c.args.pattern.now.places c.args.cells.now (λ u. start_slopes u.load) c.args.loads.now c.loop-load.cells c.loop-load.load-index (omega (arith, c.loop-load.auto.load-index-end, c.requires.few)) c.loop-load.invariant
+returns-clause-room c =
+    room_yet c.args.pattern.now.places c.args.cells.now (λ u. start_slopes u.load) c.args.loads.now c.loop-load.cells
+    c.loop-load.load-index (omega (arith, c.loop-load.auto.load-index-end, c.requires.few)) c.loop-load.invariant

@@ -16,9 +16,12 @@ returns-then-not-is_linear c = λ l.
     let p = v.re in
     let q = v.im in
     let m = v.magnitude in
-    let re = kept_by c.draw-drawn.result.re (omega (arith, d.re_small)) ∙ d.re ∙ (λ i. near_div (in_phase u.load (p i) (q i)) (divisor u.load (p i) (q i) (m i))) in
-    let im = kept_by c.draw-drawn.result.im (omega (arith, d.im_small)) ∙ d.im ∙ (λ i. near_div (quadrature u.load (p i) (q i)) (divisor u.load (p i) (q i) (m i))) in
-    let magnitude = kept_by c.draw-drawn.result.magnitude (omega (arith, d.magnitude_small)) ∙ d.magnitude ∙ (λ i. near_div (excess (p i) (q i) (m i)) (nat_abs u.load.vn)) in
+    let re = kept_by c.draw-drawn.result.re (omega (arith, d.re_small)) ∙ d.re
+    ∙ (λ i. near_div (in_phase u.load (p i) (q i)) (divisor u.load (p i) (q i) (m i))) in
+    let im = kept_by c.draw-drawn.result.im (omega (arith, d.im_small)) ∙ d.im
+    ∙ (λ i. near_div (quadrature u.load (p i) (q i)) (divisor u.load (p i) (q i) (m i))) in
+    let magnitude = kept_by c.draw-drawn.result.magnitude (omega (arith, d.magnitude_small)) ∙ d.magnitude
+    ∙ (λ i. near_div (excess (p i) (q i) (m i)) (nat_abs u.load.vn)) in
     c.add_terminal.ensures l ∙ (λ i. part c.args.rows.now l +ℤ at_terminal l u (re i) (im i) (magnitude i))
     ∙ ap (λ z. part c.args.rows.now l +ℤ z) (sym (row_other c.args.x.now l u (sym c.is_linear.ensures ∙ c.if-not-is_linear.true)))
 

@@ -8,7 +8,8 @@ use Rattle.fd_equations.proofs.load_rows.add_loads.Goals as goal
 
 pub add_load-requires-clause-room : goal.add_load-requires-clause-room
 add_load-requires-clause-room c = λ row.
-    let room = row_room c.args.x.now row c.args.loads.now c.loop-load.load-index (part c.args.rows.now row) c.requires.parts c.requires.loads c.requires.few (c.requires.room row) in
+    let room = row_room c.args.x.now row c.args.loads.now c.loop-load.load-index (part c.args.rows.now row)
+    c.requires.parts c.requires.loads c.requires.few (c.requires.room row) in
     rw (c.loop-load.invariant row) (omega arith)
 
 pub loop-load-preserved : goal.loop-load-preserved

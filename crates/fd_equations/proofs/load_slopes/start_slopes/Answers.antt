@@ -12,5 +12,6 @@ returns-clause-slopes c =
     let b = c.admittance-b.ensures in
     let p = ap (λ z. admittance z d) (kept_by w.p (omega (arith, c.requires.load.power))) in
     let q = ap (λ z. admittance z d) (kept_by w.q (omega (arith, c.requires.load.power))) in
-    start_slopes_are w _ _ _ (kept_by c.admittance-g.result (omega (arith, g.small)) ∙ g.value ∙ p) (kept_by c.admittance-b.result (omega (arith, b.small)) ∙ b.value ∙ q)
+    start_slopes_are w _ _ _ (kept_by c.admittance-g.result (omega (arith, g.small)) ∙ g.value ∙ p)
+    (kept_by c.admittance-b.result (omega (arith, b.small)) ∙ b.value ∙ q)
     (negated_kept c.admittance-b.result (omega (arith, b.small)) ∙ ap neg_ℤ (b.value ∙ q))

@@ -17,10 +17,13 @@ loop-k-preserved c =
     let l : k < length ps = omega (arith, c.loop-k-test.true) in
     let is = All-get_or (IsInside c.args.width) ps k (0, 0) l c.requires.inside in
     let fits : FitsSigned w128 (cell_at c.args.cells.now k).units = search rules in
-    one_written c.args.width ps c.args.cells.now c.loop-k.dense k c.requires.rising l is.row is.col c.loop-k.invariant _ (to_z-of_z w128 (cell_at c.args.cells.now k).units fits)
+    one_written c.args.width ps c.args.cells.now c.loop-k.dense k c.requires.rising l is.row is.col c.loop-k.invariant
+    _ (to_z-of_z w128 (cell_at c.args.cells.now k).units fits)
 
 pub returns-clause-here : goal.returns-clause-here
-returns-clause-here c = all_here c.args.width c.args.places.now c.args.cells.now c.loop-k.dense c.loop-k.k (omega (arith, c.loop-k-test.false)) c.loop-k.invariant
+returns-clause-here c =
+    all_here c.args.width c.args.places.now c.args.cells.now c.loop-k.dense c.loop-k.k
+    (omega (arith, c.loop-k-test.false)) c.loop-k.invariant
 
 pub returns-clause-none : goal.returns-clause-none
 returns-clause-none c = all_none c.args.width c.args.places.now c.args.cells.now c.loop-k.dense c.loop-k.k c.loop-k.invariant

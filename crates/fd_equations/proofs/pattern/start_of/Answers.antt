@@ -5,5 +5,6 @@ use Rattle.fd_equations.proofs.pattern.start_of.Goals as goal
 
 pub returns : goal.returns
 returns c =
-    let point = IsPartitionPoint-from_clause (λ q. nat_lt q.0 c.args.row) _ _ c.partition_point.ensures.partitioned (partitioned c.args.places.now c.args.row c.requires) (λ a r q k. search rules) in
+    let point = IsPartitionPoint-from_clause (λ q. nat_lt q.0 c.args.row) _ _ c.partition_point.ensures.partitioned
+    (partitioned c.args.places.now c.args.row c.requires) (λ a r q k. search rules) in
     start_is c.args.places.now c.args.row c.partition_point.result c.partition_point.ensures.bound point

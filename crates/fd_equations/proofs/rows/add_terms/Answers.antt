@@ -12,14 +12,24 @@ add_term-requires c =
     let k = c.loop-term.term-index in
     let long = ap length c.loop-term.invariant ∙ length-terms c.args.x.now c.args.rows.now (take k c.args.terms.now) in
     record {
-      term = subst (λ n. IsTerm n (get_or c.args.terms.now k (record { row = 0; col = 0; num = pos 0; den = pos 0 }))) (sym long) (All-get_or (IsTerm (length c.args.rows.now)) c.args.terms.now k (record { row = 0; col = 0; num = pos 0; den = pos 0 }) c.loop-term-test.true c.requires.terms);
+      term = subst (λ n. IsTerm n (get_or c.args.terms.now k (record { row = 0; col = 0; num = pos 0; den = pos 0 })))
+          (sym long) (All-get_or (IsTerm (length c.args.rows.now)) c.args.terms.now k
+          (record { row = 0; col = 0; num = pos 0; den = pos 0 }) c.loop-term-test.true c.requires.terms);
       same_length = long ∙ c.requires.same_length;
     }
 
 pub loop-term-preserved : goal.loop-term-preserved
 loop-term-preserved c =
     let k = c.loop-term.term-index in
-    c.add_term.ensures ∙ ap (λ rows. term_added c.args.x.now rows (get_or c.args.terms.now k (record { row = 0; col = 0; num = pos 0; den = pos 0 }))) c.loop-term.invariant ∙ sym (fold_more (term_added c.args.x.now) c.args.rows.now c.args.terms.now k (record { row = 0; col = 0; num = pos 0; den = pos 0 }) c.loop-term-test.true)
+    c.add_term.ensures
+    ∙ ap (λ rows.
+    term_added c.args.x.now rows (get_or c.args.terms.now k (record { row = 0; col = 0; num = pos 0; den = pos 0 })))
+    c.loop-term.invariant
+    ∙ sym (fold_more (term_added c.args.x.now) c.args.rows.now c.args.terms.now k
+    (record { row = 0; col = 0; num = pos 0; den = pos 0 }) c.loop-term-test.true)
 
 pub returns : goal.returns
-returns c = c.loop-term.invariant ∙ ap (fold (term_added c.args.x.now) c.args.rows.now) (take_all c.loop-term.term-index c.args.terms.now c.loop-term-test.false)
+returns c =
+    c.loop-term.invariant
+    ∙ ap (fold (term_added c.args.x.now) c.args.rows.now)
+    (take_all c.loop-term.term-index c.args.terms.now c.loop-term-test.false)

@@ -24,6 +24,8 @@ add_linear-requires c = record {
 pub returns : goal.returns
 returns c =
     let n : c.in_ok-rows.rows.len ≡ length c.add_linear.new.rows = search rules in
-    rewritten c.in_ok-rows.rows.items c.add_linear.new.rows c.in_ok-rows.rows.len n ∙ c.add_linear.ensures
-    ∙ ap (λ rows. fold (term_added c.args.x.now) (fold constant_added rows c.args.constants.now) c.args.terms.now) (c.deref_mut.ensures.value ∙ c.in_ok-rows.ensures)
+    rewritten c.in_ok-rows.rows.items c.add_linear.new.rows c.in_ok-rows.rows.len n
+    ∙ c.add_linear.ensures
+    ∙ ap (λ rows. fold (term_added c.args.x.now) (fold constant_added rows c.args.constants.now) c.args.terms.now)
+    (c.deref_mut.ensures.value ∙ c.in_ok-rows.ensures)
     ∙ linear_table (length c.args.x.now) c.args.constants.now c.args.terms.now c.args.x.now

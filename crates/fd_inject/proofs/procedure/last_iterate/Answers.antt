@@ -10,12 +10,15 @@ use Rattle.fd_inject.proofs.procedure.last_iterate.Goals as goal
 pub returns-in_err-inverse-clause-last : goal.returns-in_err-inverse-clause-last
 returns-in_err-inverse-clause-last c =
     let p = err_from_is_err_and c.from_residual.result c.from_residual.ensures.1 in
-    rw (p.1, p.2) (unless_more c.in_err-inverse.field-0.0 (no_start_inverse c.args.net.now c.args.limits.now c.in_err-inverse.field-0.0) c.in_err-inverse.ensures.inverse)
+    rw (p.1, p.2) (unless_more c.in_err-inverse.field-0.0
+    (no_start_inverse c.args.net.now c.args.limits.now c.in_err-inverse.field-0.0) c.in_err-inverse.ensures.inverse)
 
 pub returns-in_err-x-clause-last : goal.returns-in_err-x-clause-last
 returns-in_err-x-clause-last c =
     let p = err_from_is_err_and c.from_residual-in_err-x.result c.from_residual-in_err-x.ensures.1 in
-    rw (p.1, p.2) (unless_more c.in_err-x.field-0.0 (no_start c.args.net.now c.args.limits.now c.in_ok-inverse.inverse c.in_err-x.field-0.0 c.in_ok-inverse.ensures.inverse) c.in_err-x.ensures.start)
+    rw (p.1, p.2) (unless_more c.in_err-x.field-0.0 (no_start c.args.net.now c.args.limits.now c.in_ok-inverse.inverse
+    c.in_err-x.field-0.0 c.in_ok-inverse.ensures.inverse)
+    c.in_err-x.ensures.start)
 
 pub iterate_from-requires-clause-point : goal.iterate_from-requires-clause-point
 iterate_from-requires-clause-point c = subst (IsPoint c.args.net.now) (sym c.deref_mut.ensures.value) c.in_ok-x.ensures.point
@@ -23,15 +26,21 @@ iterate_from-requires-clause-point c = subst (IsPoint c.args.net.now) (sym c.der
 pub returns-in_err-number-clause-last : goal.returns-in_err-number-clause-last
 returns-in_err-number-clause-last c =
     let p = err_from_is_err_and c.from_residual-in_err-number.result c.from_residual-in_err-number.ensures.1 in
-    rw (p.1, p.2) (unless_more c.in_err-number.field-0.0 (λ e. last_at c.args.net.now c.args.limits.now c.in_ok-inverse.inverse c.in_ok-x.x.items (Err c.in_err-number.field-0.0) c.in_ok-inverse.ensures.inverse c.in_ok-x.ensures.start
-    (ap (last_from c.args.net.now c.args.limits.now c.in_ok-inverse.inverse) (sym c.deref_mut.ensures.value) ∙ e)) c.in_err-number.ensures.last)
+    rw (p.1, p.2) (unless_more c.in_err-number.field-0.0 (λ e.
+    last_at c.args.net.now c.args.limits.now c.in_ok-inverse.inverse c.in_ok-x.x.items
+    (Err c.in_err-number.field-0.0) c.in_ok-inverse.ensures.inverse c.in_ok-x.ensures.start
+    (ap (last_from c.args.net.now c.args.limits.now c.in_ok-inverse.inverse) (sym c.deref_mut.ensures.value) ∙ e))
+    c.in_err-number.ensures.last)
 
 pub returns-clause-last : goal.returns-clause-last
 returns-clause-last c =
     let n : c.in_ok-x.x.len ≡ length c.iterate_from.new.x = search rules in
     let same = rewritten c.in_ok-x.x.items c.iterate_from.new.x c.in_ok-x.x.len n in
-    last_at c.args.net.now c.args.limits.now c.in_ok-inverse.inverse c.in_ok-x.x.items _ c.in_ok-inverse.ensures.inverse c.in_ok-x.ensures.start
-    (ap (last_from c.args.net.now c.args.limits.now c.in_ok-inverse.inverse) (sym c.deref_mut.ensures.value) ∙ c.in_ok-number.ensures.last ∙ ap (λ y. Ok (c.in_ok-number.number, y)) (sym same))
+    last_at c.args.net.now c.args.limits.now c.in_ok-inverse.inverse c.in_ok-x.x.items _
+    c.in_ok-inverse.ensures.inverse c.in_ok-x.ensures.start
+    (ap (last_from c.args.net.now c.args.limits.now c.in_ok-inverse.inverse) (sym c.deref_mut.ensures.value)
+    ∙ c.in_ok-number.ensures.last
+    ∙ ap (λ y. Ok (c.in_ok-number.number, y)) (sym same))
 
 pub returns-clause-point : goal.returns-clause-point
 returns-clause-point c =

@@ -9,7 +9,8 @@ pub returns-then-unsigned_abs-limit-clause-first : goal.returns-then-unsigned_ab
 returns-then-unsigned_abs-limit-clause-first c =
     let f : FitsSigned w128 (part c.args.xs.now c.loop-place.place) = search rules in
     let e : c.unsigned_abs.result ≡ nat_abs (part c.args.xs.now c.loop-place.place) = simp to_z-of_z at c.unsigned_abs.ensures.value in
-    sym (past_some c.args.limit c.args.xs.now c.loop-place.place c.loop-place-test.true c.loop-place.invariant (subst (λ n. c.args.limit < n) e c.if-unsigned_abs-limit.true))
+    sym (past_some c.args.limit c.args.xs.now c.loop-place.place c.loop-place-test.true c.loop-place.invariant
+    (subst (λ n. c.args.limit < n) e c.if-unsigned_abs-limit.true))
 
 pub returns-clause-first : goal.returns-clause-first
 returns-clause-first c = sym (past_none c.args.limit c.args.xs.now (λ k l. c.loop-place.invariant k (omega arith)))

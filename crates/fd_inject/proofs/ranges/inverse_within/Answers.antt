@@ -5,4 +5,6 @@ pub returns-in-Ok-clause-inverse : goal.returns-in-Ok-clause-inverse
 returns-in-Ok-clause-inverse c = inverse_ok c.args.a c.in-Ok.inverse c.requires c.in-Ok.ensures.inverse
 
 pub returns-in-Err-NoInverse-clause-inverse : goal.returns-in-Err-NoInverse-clause-inverse
-returns-in-Err-NoInverse-clause-inverse c = inverse_err c.args.a c.in-Err-NoInverse.column c.in-Err-NoInverse.cause c.requires (rw c.in-Err-NoInverse.field-0-is at c.in-Err-NoInverse.ensures.fault)
+returns-in-Err-NoInverse-clause-inverse c =
+    inverse_err c.args.a c.in-Err-NoInverse.column c.in-Err-NoInverse.cause c.requires
+    (rw c.in-Err-NoInverse.field-0-is at c.in-Err-NoInverse.ensures.fault)

@@ -41,7 +41,8 @@ returns-then-is_moving-clause-first c =
     let update = kept_by (part c.args.update.now c.loop-place.place) (omega (arith, u)) in
     let kind = c.kind.ensures in
     let tested = c.is_moving.ensures ∙ (λ i. is_moving (kind i) (t i) (weight i) (update i)) in
-    sym (moving_some c.args.net.now c.args.limits.now c.args.x.now c.args.update.now c.loop-place.place below c.loop-place.invariant (sym tested ∙ c.if-is_moving.true))
+    sym (moving_some c.args.net.now c.args.limits.now c.args.x.now c.args.update.now c.loop-place.place below
+    c.loop-place.invariant (sym tested ∙ c.if-is_moving.true))
 
 pub loop-place-preserved : goal.loop-place-preserved
 loop-place-preserved c =

@@ -16,7 +16,11 @@ update_for-requires-clause-long c = residual_long c.args.net.now c.args.x.now c.
 pub returns-in_err-update-clause-update : goal.returns-in_err-update-clause-update
 returns-in_err-update-clause-update c =
     let p = err_from_is_err_and c.from_residual-in_err-update.result c.from_residual-in_err-update.ensures.1 in
-    rw (p.1, p.2) (unless_more c.in_err-update.field-0.0 (λ e. ap (update_for c.args.inverse.now c.args.number) (sym (c.deref.ensures.value ∙ c.in_ok-residual.ensures.rows)) ∙ e) c.in_err-update.ensures.update)
+    rw (p.1, p.2) (unless_more c.in_err-update.field-0.0 (λ e.
+    ap (update_for c.args.inverse.now c.args.number) (sym (c.deref.ensures.value ∙ c.in_ok-residual.ensures.rows))
+    ∙ e) c.in_err-update.ensures.update)
 
 pub returns-clause-update : goal.returns-clause-update
-returns-clause-update c = ap (update_for c.args.inverse.now c.args.number) (sym (c.deref.ensures.value ∙ c.in_ok-residual.ensures.rows)) ∙ c.in_ok-update.ensures.update
+returns-clause-update c =
+    ap (update_for c.args.inverse.now c.args.number) (sym (c.deref.ensures.value ∙ c.in_ok-residual.ensures.rows))
+    ∙ c.in_ok-update.ensures.update

@@ -9,7 +9,9 @@ loop-k-preserved c =
     let here : c.loop-k.k < length c.loop-k.x = omega arith in
     let inside : c.loop-k.k < length c.args.x.now = omega arith in
     let same = c.loop-k.invariant.left c.loop-k.k (omega arith) in
-    let kept = added_kept (part c.loop-k.x c.loop-k.k) (part c.args.update.now c.loop-k.k) (subst (λ z. nat_abs z ≤ 2 ^ 40) (sym same) (c.requires.parts c.loop-k.k inside)) (c.requires.update c.loop-k.k (omega arith)) in
+    let kept = added_kept (part c.loop-k.x c.loop-k.k) (part c.args.update.now c.loop-k.k)
+    (subst (λ z. nat_abs z ≤ 2 ^ 40) (sym same) (c.requires.parts c.loop-k.k inside))
+    (c.requires.update c.loop-k.k (omega arith)) in
     record {
       done = below_more _ _
           (λ i h. let ne : i ≢ c.loop-k.k = omega arith in rw get_or-set_other (c.loop-k.invariant.done i h))

@@ -16,5 +16,6 @@ loop-k-preserved c =
     let kept = sum_kept sum c.product-sum.result c.loop-k.k c.loop-k.invariant.small few c.product-sum.ensures.small in
     record {
       sum = kept ∙ (λ i. c.loop-k.invariant.sum i +ℤ p i) ∙ ap (sum_z (λ k. part c.args.row.now k *ℤ part c.args.residual.now k)) (sym (add-one c.loop-k.k));
-      small = subst (λ z. nat_abs z ≤ (c.loop-k.k + 1) * 2 ^ 114) (sym kept) (sum_size sum c.product-sum.result c.loop-k.k c.loop-k.invariant.small c.product-sum.ensures.small);
+      small = subst (λ z. nat_abs z ≤ (c.loop-k.k + 1) * 2 ^ 114) (sym kept)
+          (sum_size sum c.product-sum.result c.loop-k.k c.loop-k.invariant.small c.product-sum.ensures.small);
     }

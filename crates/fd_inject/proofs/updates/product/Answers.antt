@@ -16,4 +16,5 @@ returns-clause-small c =
     let e = c.args.entry in
     let r = c.args.residual in
     let whole = fits_signed_mul w128 e r (2 ^ 56) (2 ^ 58) c.requires.entry c.requires.residual (lit< tt) in
-    rw (short e (omega (arith, c.requires.entry)), short r c.requires.residual) (rw (to_z-of_z w128 (e *ℤ r) whole) (product_size e r c.requires.entry c.requires.residual))
+    rw (short e (omega (arith, c.requires.entry)), short r c.requires.residual)
+    (rw (to_z-of_z w128 (e *ℤ r) whole) (product_size e r c.requires.entry c.requires.residual))

@@ -17,10 +17,14 @@ returns-then-not-lose-clause-within c =
     let fe : FitsSigned w64 (part c.loop-place.row place) = search rules in
     let fp : FitsSigned w64 (part c.args.pivot.now place) = search rules in
     let now = simp to_z-of_z at c.loop-place.invariant.now in
-    let here = not_yet c.args.row.now c.args.pivot.now c.args.f c.args.places.now i c.loop-place-test.true (c.requires.once i c.loop-place-test.true) c.loop-place.row now in
+    let here = not_yet c.args.row.now c.args.pivot.now c.args.f c.args.places.now i c.loop-place-test.true
+    (c.requires.once i c.loop-place-test.true) c.loop-place.row now in
     let e = simp to_z-of_z at c.lose.ensures.within in
-    within_stop c.args.row.now c.args.pivot.now c.args.f c.args.places.now i c.loop-place-test.true (c.requires.once i c.loop-place-test.true) (length c.args.row.now) (c.requires.inside i c.loop-place-test.true)
-    (ap (λ x. in_range (x -ℤ near_div (c.args.f *ℤ part c.args.pivot.now place) (2 ^ 40))) (sym here) ∙ sym e ∙ c.if-not-lose.true)
+    within_stop c.args.row.now c.args.pivot.now c.args.f c.args.places.now i c.loop-place-test.true
+    (c.requires.once i c.loop-place-test.true) (length c.args.row.now) (c.requires.inside i c.loop-place-test.true)
+    (ap (λ x. in_range (x -ℤ near_div (c.args.f *ℤ part c.args.pivot.now place) (2 ^ 40))) (sym here)
+    ∙ sym e
+    ∙ c.if-not-lose.true)
 
 pub loop-place-preserved : goal.loop-place-preserved
 loop-place-preserved c =
@@ -31,19 +35,25 @@ loop-place-preserved c =
     let fp : FitsSigned w64 (part c.args.pivot.now place) = search rules in
     let now = simp to_z-of_z at c.loop-place.invariant.now in
     let within = simp to_z-of_z at c.loop-place.invariant.within in
-    let here = not_yet c.args.row.now c.args.pivot.now c.args.f c.args.places.now i c.loop-place-test.true (c.requires.once i c.loop-place-test.true) c.loop-place.row now in
+    let here = not_yet c.args.row.now c.args.pivot.now c.args.f c.args.places.now i c.loop-place-test.true
+    (c.requires.once i c.loop-place-test.true) c.loop-place.row now in
     let e = simp to_z-of_z at c.lose.ensures.within in
     let left = simp to_z-of_z at (holds c.lose.result c.if-not-lose.false c.lose.ensures.left) in
-    let same : reduced c.args.row.now c.args.pivot.now c.args.f place ≡ part c.loop-place.row place -ℤ near_div (c.args.f *ℤ part c.args.pivot.now place) (2 ^ 40) = ap (λ x. x -ℤ near_div (c.args.f *ℤ part c.args.pivot.now place) (2 ^ 40)) (sym here) in
+    let same : reduced c.args.row.now c.args.pivot.now c.args.f place
+    ≡ part c.loop-place.row place -ℤ near_div (c.args.f *ℤ part c.args.pivot.now place) (2 ^ 40) =
+    ap (λ x. x -ℤ near_div (c.args.f *ℤ part c.args.pivot.now place) (2 ^ 40)) (sym here) in
     let inside : place < length c.loop-place.row = omega (arith, c.requires.inside i c.loop-place-test.true) in
     simp to_z-of_z (record {
-      now = one_more c.args.row.now c.args.pivot.now c.args.f c.args.places.now i c.loop-place-test.true (c.requires.once i c.loop-place-test.true) c.loop-place.row now c.lose.new.e inside (left ∙ sym same);
-      within = within_more c.args.row.now c.args.pivot.now c.args.f c.args.places.now i c.loop-place-test.true (c.requires.once i c.loop-place-test.true) within (ap in_range same ∙ sym e ∙ c.if-not-lose.false);
+      now = one_more c.args.row.now c.args.pivot.now c.args.f c.args.places.now i c.loop-place-test.true
+          (c.requires.once i c.loop-place-test.true) c.loop-place.row now c.lose.new.e inside (left ∙ sym same);
+      within = within_more c.args.row.now c.args.pivot.now c.args.f c.args.places.now i c.loop-place-test.true
+          (c.requires.once i c.loop-place-test.true) within (ap in_range same ∙ sym e ∙ c.if-not-lose.false);
     })
 
 pub returns-clause-within : goal.returns-clause-within
 returns-clause-within c =
     let ff : FitsSigned w64 c.args.f = c.ranges.f in
     let within = simp to_z-of_z at c.loop-place.invariant.within in
-    let all : take c.loop-place.place-index c.args.places.now ≡ c.args.places.now = take_all c.loop-place.place-index c.args.places.now c.loop-place-test.false in
+    let all : take c.loop-place.place-index c.args.places.now ≡ c.args.places.now =
+    take_all c.loop-place.place-index c.args.places.now c.loop-place-test.false in
     within_all c.args.row.now c.args.pivot.now c.args.f c.args.places.now c.requires.entries (rw all at within)

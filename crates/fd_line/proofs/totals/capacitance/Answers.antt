@@ -11,4 +11,5 @@ returns-in-Sequence-clause-within c =
 pub returns-in-Matrix-clause-within : goal.returns-in-Matrix-clause-within
 returns-in-Matrix-clause-within c =
     let f : FitsSigned w128 c.along-in-Matrix.result = search rules in
-    subst (λ t. nat_abs t ≤ 16093440 * 10 ^ 16) (sym (to_z-of_z w128 c.along-in-Matrix.result f)) (c.along-in-Matrix.ensures.within (16093440 * 10 ^ 16) (lit≤ tt))
+    subst (λ t. nat_abs t ≤ 16093440 * 10 ^ 16) (sym (to_z-of_z w128 c.along-in-Matrix.result f))
+    (c.along-in-Matrix.ensures.within (16093440 * 10 ^ 16) (lit≤ tt))

@@ -70,6 +70,9 @@ returns c =
     let r = result_fits c.args.a c.args.b c.args.x c.args.y c.requires.powers c.requires.x_most c.requires.y_most in
     record {
       value = simp to_z-of_z refl;
-      most = simp to_z-of_z (times_most (10 ^ 9) (c.args.a *ℤ c.args.x +ℤ c.args.b *ℤ c.args.y) ((nat_abs c.args.a + nat_abs c.args.b) * largest c.args.x c.args.y) (sum_most c.args.a c.args.b c.args.x c.args.y));
-      small = simp to_z-of_z (times_most (10 ^ 9) (c.args.a *ℤ c.args.x +ℤ c.args.b *ℤ c.args.y) (10 ^ 11 * 2 ^ 41) (total c.args.a c.args.b c.args.x c.args.y c.requires.powers c.requires.x_most c.requires.y_most));
+      most = simp to_z-of_z (times_most (10 ^ 9) (c.args.a *ℤ c.args.x +ℤ c.args.b *ℤ c.args.y)
+          ((nat_abs c.args.a + nat_abs c.args.b) * largest c.args.x c.args.y)
+          (sum_most c.args.a c.args.b c.args.x c.args.y));
+      small = simp to_z-of_z (times_most (10 ^ 9) (c.args.a *ℤ c.args.x +ℤ c.args.b *ℤ c.args.y) (10 ^ 11 * 2 ^ 41)
+          (total c.args.a c.args.b c.args.x c.args.y c.requires.powers c.requires.x_most c.requires.y_most));
     }

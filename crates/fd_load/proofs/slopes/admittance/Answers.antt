@@ -11,9 +11,12 @@ returns c =
     let l = c.requires.load in
     let w = c.args.load.now in
     let z : FitsSigned w128 c.args.power = c.ranges.power in
-    let n : FitsSigned w128 (pos (10 ^ 9) *ℤ c.args.power) = fits_signed_from_abs w128 (pos (10 ^ 9) *ℤ c.args.power) (omega (arith, unsigned_abs-mul (pos (10 ^ 9)) c.args.power, l.power, c.requires.power)) in
+    let n : FitsSigned w128 (pos (10 ^ 9) *ℤ c.args.power) =
+    fits_signed_from_abs w128 (pos (10 ^ 9) *ℤ c.args.power)
+    (omega (arith, unsigned_abs-mul (pos (10 ^ 9)) c.args.power, l.power, c.requires.power)) in
     let e = simp to_z-of_z at c.near_units.ensures.value in
     let within = simp to_z-of_z at c.near_units.ensures.within in
-    let most = within (2 ^ 52) (admittance_most c.args.power (power_sum w) (nat_abs w.vlo * nat_abs w.vlo) c.args.d c.requires.power l.admittance c.requires.least) in
+    let most = within (2 ^ 52) (admittance_most c.args.power (power_sum w) (nat_abs w.vlo * nat_abs w.vlo) c.args.d
+    c.requires.power l.admittance c.requires.least) in
     let same = read_back c.near_units.result (2 ^ 52) most (omega arith) in
     record { value = same ∙ e; most = rw same most }

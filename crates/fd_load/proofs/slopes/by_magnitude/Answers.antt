@@ -9,14 +9,18 @@ use Rattle.fd_load.proofs.slopes.by_magnitude.Goals as goal
 
 pub near_units-requires-clause-small : goal.near_units-requires-clause-small
 near_units-requires-clause-small c =
-    let i : FitsSigned w128 c.current_over-current.result = fits_signed_from_abs w128 c.current_over-current.result (omega (arith, c.current_over-current.ensures.small)) in
-    let s = magnitude_most c.current_over-current.result c.args.load.now.vlo c.clamped_magnitude-c.result c.current_over-current.ensures.small c.requires.load.low_least c.clamped_magnitude-c.ensures.least in
+    let i : FitsSigned w128 c.current_over-current.result =
+    fits_signed_from_abs w128 c.current_over-current.result (omega (arith, c.current_over-current.ensures.small)) in
+    let s = magnitude_most c.current_over-current.result c.args.load.now.vlo c.clamped_magnitude-c.result
+    c.current_over-current.ensures.small c.requires.load.low_least c.clamped_magnitude-c.ensures.least in
     simp to_z-of_z (omega (arith, s))
 
 pub overflow_sub-result : goal.overflow_sub-result
 overflow_sub-result c =
-    let i : FitsSigned w128 c.current_over-current.result = fits_signed_from_abs w128 c.current_over-current.result (omega (arith, c.current_over-current.ensures.small)) in
-    let s = magnitude_most c.current_over-current.result c.args.load.now.vlo c.clamped_magnitude-c.result c.current_over-current.ensures.small c.requires.load.low_least c.clamped_magnitude-c.ensures.least in
+    let i : FitsSigned w128 c.current_over-current.result =
+    fits_signed_from_abs w128 c.current_over-current.result (omega (arith, c.current_over-current.ensures.small)) in
+    let s = magnitude_most c.current_over-current.result c.args.load.now.vlo c.clamped_magnitude-c.result
+    c.current_over-current.ensures.small c.requires.load.low_least c.clamped_magnitude-c.ensures.least in
     let within = simp to_z-of_z at c.near_units.ensures.within in
     let most = within (2 ^ 73) s in
     let same = read_back c.near_units.result (2 ^ 73) most (omega arith) in
@@ -27,8 +31,10 @@ returns c =
     let w = c.args.load.now in
     let n : FitsSigned w128 c.args.n = c.ranges.n in
     let m : FitsSigned w128 c.args.m = c.ranges.m in
-    let i : FitsSigned w128 c.current_over-current.result = fits_signed_from_abs w128 c.current_over-current.result (omega (arith, c.current_over-current.ensures.small)) in
-    let s = magnitude_most c.current_over-current.result w.vlo c.clamped_magnitude-c.result c.current_over-current.ensures.small c.requires.load.low_least c.clamped_magnitude-c.ensures.least in
+    let i : FitsSigned w128 c.current_over-current.result =
+    fits_signed_from_abs w128 c.current_over-current.result (omega (arith, c.current_over-current.ensures.small)) in
+    let s = magnitude_most c.current_over-current.result w.vlo c.clamped_magnitude-c.result
+    c.current_over-current.ensures.small c.requires.load.low_least c.clamped_magnitude-c.ensures.least in
     let within = simp to_z-of_z at c.near_units.ensures.within in
     let most = within (2 ^ 73) s in
     let same = read_back c.near_units.result (2 ^ 73) most (omega arith) in

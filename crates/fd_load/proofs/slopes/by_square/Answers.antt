@@ -13,7 +13,8 @@ by_part-requires-clause-product c =
     let p : FitsSigned w128 c.args.p = c.ranges.p in
     let q : FitsSigned w128 c.args.q = c.ranges.q in
     let most = simp to_z-of_z at c.current_over-current.ensures.most in
-    let i : FitsSigned w128 c.current_over-current.result = fits_signed_from_abs w128 c.current_over-current.result (omega (arith, c.current_over-current.ensures.small)) in
+    let i : FitsSigned w128 c.current_over-current.result =
+    fits_signed_from_abs w128 c.current_over-current.result (omega (arith, c.current_over-current.ensures.small)) in
     let inside = simp to_z-of_z at (c.if-not-square_is_inside.ensures.inside refl) in
     let d = simp to_z-of_z at c.clamped_square-c.ensures.value in
     let h : a * a ≤ c.clamped_square-c.result = rw d inside in
@@ -25,7 +26,8 @@ by_part-requires-2-clause-product c =
     let p : FitsSigned w128 c.args.p = c.ranges.p in
     let q : FitsSigned w128 c.args.q = c.ranges.q in
     let most = simp to_z-of_z at c.current_over-current.ensures.most in
-    let i : FitsSigned w128 c.current_over-current.result = fits_signed_from_abs w128 c.current_over-current.result (omega (arith, c.current_over-current.ensures.small)) in
+    let i : FitsSigned w128 c.current_over-current.result =
+    fits_signed_from_abs w128 c.current_over-current.result (omega (arith, c.current_over-current.ensures.small)) in
     let inside = simp to_z-of_z at (c.if-not-square_is_inside.ensures.inside refl) in
     let d = simp to_z-of_z at c.clamped_square-c.ensures.value in
     let h : a * a ≤ c.clamped_square-c.result = rw d inside in
@@ -37,7 +39,8 @@ returns-clause-p c =
     let p : FitsSigned w128 c.args.p = c.ranges.p in
     let q : FitsSigned w128 c.args.q = c.ranges.q in
     let n : FitsSigned w128 c.args.n = c.ranges.n in
-    let i : FitsSigned w128 c.current_over-current.result = fits_signed_from_abs w128 c.current_over-current.result (omega (arith, c.current_over-current.ensures.small)) in
+    let i : FitsSigned w128 c.current_over-current.result =
+    fits_signed_from_abs w128 c.current_over-current.result (omega (arith, c.current_over-current.ensures.small)) in
     let same = read_back c.by_part.result (2 ^ 53) c.by_part.ensures.most (omega arith) in
     let e = simp to_z-of_z at c.by_part.ensures.value in
     let f : c.current_over-current.result ≡ fine_current c.args.n c.clamped_square-c.result = simp to_z-of_z at c.current_over-current.ensures.value in
@@ -54,7 +57,8 @@ returns-clause-q c =
     let p : FitsSigned w128 c.args.p = c.ranges.p in
     let q : FitsSigned w128 c.args.q = c.ranges.q in
     let n : FitsSigned w128 c.args.n = c.ranges.n in
-    let i : FitsSigned w128 c.current_over-current.result = fits_signed_from_abs w128 c.current_over-current.result (omega (arith, c.current_over-current.ensures.small)) in
+    let i : FitsSigned w128 c.current_over-current.result =
+    fits_signed_from_abs w128 c.current_over-current.result (omega (arith, c.current_over-current.ensures.small)) in
     let same = read_back c.by_part-2.result (2 ^ 53) c.by_part-2.ensures.most (omega arith) in
     let e = simp to_z-of_z at c.by_part-2.ensures.value in
     let f : c.current_over-current.result ≡ fine_current c.args.n c.clamped_square-c.result = simp to_z-of_z at c.current_over-current.ensures.value in

@@ -11,7 +11,9 @@ returns-clause-imaginary c =
     let g : FitsSigned w128 c.admittance-g.result = fits_signed_from_abs w128 c.admittance-g.result (omega (arith, c.admittance-g.ensures.most)) in
     let b : FitsSigned w128 c.admittance-b.result = fits_signed_from_abs w128 c.admittance-b.result (omega (arith, c.admittance-b.ensures.most)) in
     let o = opposite_fits c.admittance-b.result (2 ^ 52) c.admittance-b.ensures.most (omega arith) in
-    let v : FitsSigned w128 c.by_magnitude-imaginary_m.result = fits_signed_from_abs w128 c.by_magnitude-imaginary_m.result (omega (arith, c.by_magnitude-imaginary_m.ensures.most)) in
+    let v : FitsSigned w128 c.by_magnitude-imaginary_m.result =
+    fits_signed_from_abs w128 c.by_magnitude-imaginary_m.result
+    (omega (arith, c.by_magnitude-imaginary_m.ensures.most)) in
     record {
       p = simp to_z-of_z (omega (arith, ints, c.admittance-b.ensures.most));
       q = simp to_z-of_z (omega (arith, c.admittance-g.ensures.most));
@@ -32,8 +34,11 @@ returns-clause-slopes c =
     let o = opposite_fits c.admittance-b.result (2 ^ 52) c.admittance-b.ensures.most (omega arith) in
     let n : FitsSigned w128 c.in_phase.result = fits_signed_from_abs w128 c.in_phase.result (omega (arith, c.in_phase.ensures.small)) in
     let k : FitsSigned w128 c.quadrature.result = fits_signed_from_abs w128 c.quadrature.result (omega (arith, c.quadrature.ensures.small)) in
-    let u : FitsSigned w128 c.by_magnitude-real_m.result = fits_signed_from_abs w128 c.by_magnitude-real_m.result (omega (arith, c.by_magnitude-real_m.ensures.most)) in
-    let v : FitsSigned w128 c.by_magnitude-imaginary_m.result = fits_signed_from_abs w128 c.by_magnitude-imaginary_m.result (omega (arith, c.by_magnitude-imaginary_m.ensures.most)) in
+    let u : FitsSigned w128 c.by_magnitude-real_m.result =
+    fits_signed_from_abs w128 c.by_magnitude-real_m.result (omega (arith, c.by_magnitude-real_m.ensures.most)) in
+    let v : FitsSigned w128 c.by_magnitude-imaginary_m.result =
+    fits_signed_from_abs w128 c.by_magnitude-imaginary_m.result
+    (omega (arith, c.by_magnitude-imaginary_m.ensures.most)) in
     let d : c.nominal_times_magnitude-d.result ≡ nat_abs w.vn * clamped_magnitude w c.args.m = simp to_z-of_z at c.nominal_times_magnitude-d.ensures.value in
     let gv : c.admittance-g.result ≡ admittance w.p c.nominal_times_magnitude-d.result = simp to_z-of_z at c.admittance-g.ensures.value in
     let bv : c.admittance-b.result ≡ admittance w.q c.nominal_times_magnitude-d.result = simp to_z-of_z at c.admittance-b.ensures.value in

@@ -11,7 +11,8 @@ fine_current-requires-clause-small c =
     let n : FitsSigned w128 c.args.n = c.ranges.n in
     let w = c.args.load.now in
     let a = largest c.args.p c.args.q in
-    let most = current_most (nat_abs c.args.n) (power_sum w) a (nat_abs w.vlo * nat_abs w.vlo) c.args.d c.requires.n_most c.requires.load.admittance c.requires.least in
+    let most = current_most (nat_abs c.args.n) (power_sum w) a (nat_abs w.vlo * nat_abs w.vlo) c.args.d
+    c.requires.n_most c.requires.load.admittance c.requires.least in
     let small : a ≤ 2 ^ 41 = omega (arith, c.requires.p_most, c.requires.q_most) in
     simp to_z-of_z (current_small (nat_abs c.args.n * 2 ^ 20) a c.args.d most small)
 
@@ -20,7 +21,8 @@ returns c =
     let n : FitsSigned w128 c.args.n = c.ranges.n in
     let w = c.args.load.now in
     let a = largest c.args.p c.args.q in
-    let most = current_most (nat_abs c.args.n) (power_sum w) a (nat_abs w.vlo * nat_abs w.vlo) c.args.d c.requires.n_most c.requires.load.admittance c.requires.least in
+    let most = current_most (nat_abs c.args.n) (power_sum w) a (nat_abs w.vlo * nat_abs w.vlo) c.args.d
+    c.requires.n_most c.requires.load.admittance c.requires.least in
     let small : a ≤ 2 ^ 41 = omega (arith, c.requires.p_most, c.requires.q_most) in
     let e = simp to_z-of_z at c.fine_current.ensures.value in
     let within = simp to_z-of_z at c.fine_current.ensures.within in

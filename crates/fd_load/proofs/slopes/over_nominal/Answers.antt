@@ -9,7 +9,9 @@ pub returns-clause-most : goal.returns-clause-most
 returns-clause-most c =
     let l = c.requires.load in
     let v : FitsSigned w128 c.args.v = c.ranges.v in
-    let n : FitsSigned w128 (pos 2 *ℤ c.args.v) = fits_signed_from_abs w128 (pos 2 *ℤ c.args.v) (omega (arith, unsigned_abs-mul (pos 2) c.args.v, c.requires.v_most)) in
+    let n : FitsSigned w128 (pos 2 *ℤ c.args.v) =
+    fits_signed_from_abs w128 (pos 2 *ℤ c.args.v)
+    (omega (arith, unsigned_abs-mul (pos 2) c.args.v, c.requires.v_most)) in
     let within = simp to_z-of_z at c.near_units.ensures.within in
     let vn : 5 * 10 ^ 6 ≤ c.unsigned_abs.result = omega (arith, ints, l.nominal_least, c.unsigned_abs.ensures.value) in
     let most = within (2 ^ 60) (nominal_most c.args.v c.unsigned_abs.result c.requires.v_most vn) in

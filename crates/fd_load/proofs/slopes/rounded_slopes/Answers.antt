@@ -12,4 +12,6 @@ returns-in-ConstantCurrent-clause-slopes c =
     let q : FitsSigned w128 c.args.q = c.ranges.q in
     let m : FitsSigned w128 c.args.m = c.ranges.m in
     (simp to_z-of_z at c.constant_current.ensures.slopes)
-    ∙ ap (λ model. by_model model (constant_power_slopes w c.args.p c.args.q) no_slopes (constant_current_slopes w c.args.p c.args.q c.args.m)) (sym c.in-ConstantCurrent.is)
+    ∙ ap (λ model. by_model model (constant_power_slopes w c.args.p c.args.q) no_slopes
+    (constant_current_slopes w c.args.p c.args.q c.args.m))
+    (sym c.in-ConstantCurrent.is)

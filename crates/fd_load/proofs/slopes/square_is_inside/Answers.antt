@@ -10,6 +10,13 @@ returns-then-low-square-clause-inside c = λ t.
     let p : FitsSigned w128 c.args.p = c.ranges.p in
     let q : FitsSigned w128 c.args.q = c.ranges.q in
     let s = simp to_z-of_z at c.square-square.ensures.value in
-    let h : c.unsigned_abs-high.result ≡ nat_abs w.vhi = omega (arith, ints, c.unsigned_abs-high.ensures.value, c.requires.load.high_most, c.requires.load.high_least, c.requires.load.nominal_least) in
+    let h : c.unsigned_abs-high.result ≡ nat_abs w.vhi = omega (
+      arith,
+      ints,
+      c.unsigned_abs-high.ensures.value,
+      c.requires.load.high_most,
+      c.requires.load.high_least,
+      c.requires.load.nominal_least,
+    ) in
     let k : c.square-square.result ≤ c.unsigned_abs-high.result * c.unsigned_abs-high.result = grind (arith, t) in
     inside_square c.args.p c.args.q (nat_abs w.vlo * nat_abs w.vlo) (nat_abs w.vhi * nat_abs w.vhi) (rw (s, h) at k)

@@ -19,8 +19,10 @@ use Rattle.fd_network.proofs.assembly.assemble.Goals as goal
 pub exchange-requires : goal.exchange-requires
 exchange-requires c =
     let ds = devices_from c.args.layout.now c.args.hertz 0 c.args.elements.now.entries (settings_in c.args.settings.now) in
-    can_hold c.args.layout.now c.args.elements.now.entries ds (stamp_of c.collect.new.stamps.all) c.args.parts.now.rows c.requires.size
-    c.in_ok-collect.ensures.collected c.reach_law.ensures (c.requires.reaches (settings_in c.args.settings.now)) c.requires.few c.requires.few_branches c.requires.few_complexes c.requires.few_magnitudes
+    can_hold c.args.layout.now c.args.elements.now.entries ds (stamp_of c.collect.new.stamps.all)
+    c.args.parts.now.rows c.requires.size c.in_ok-collect.ensures.collected c.reach_law.ensures
+    (c.requires.reaches (settings_in c.args.settings.now)) c.requires.few c.requires.few_branches
+    c.requires.few_complexes c.requires.few_magnitudes
 
 pub returns-in-Ok-clause-valid : goal.returns-in-Ok-clause-valid
 returns-in-Ok-clause-valid c =
@@ -29,9 +31,12 @@ returns-in-Ok-clause-valid c =
     let collected = c.in_ok-collect.ensures.collected in
     let a = stamp_of c.collect.new.stamps.all in
     let x = c.exchange.ensures.exchanged in
-    let sums = subst (λ s. (row col : ℕ) → AreSmall (linear_entry s row col)) (sym (ap (λ (x : StampView). x.terms) collected.stamp)) c.in-Ok.ensures.small.sums in
-    let far = subst AreApart (sym (ap (λ (x : StampView). x.loads) collected.stamp)) (apart layout c.args.hertz (2 * complex_count layout) c.args.elements.now.entries (settings_in c.args.settings.now) c.requires.magnitudes) in
-    let net = is_network layout c.args.elements.now.entries ds a collected sums far c.requires.few c.requires.few_branches c.requires.few_complexes c.requires.few_magnitudes in
+    let sums = subst (λ s. (row col : ℕ) → AreSmall (linear_entry s row col))
+    (sym (ap (λ (x : StampView). x.terms) collected.stamp)) c.in-Ok.ensures.small.sums in
+    let far = subst AreApart (sym (ap (λ (x : StampView). x.loads) collected.stamp)) (apart layout c.args.hertz
+    (2 * complex_count layout) c.args.elements.now.entries (settings_in c.args.settings.now) c.requires.magnitudes) in
+    let net = is_network layout c.args.elements.now.entries ds a collected sums far c.requires.few
+    c.requires.few_branches c.requires.few_complexes c.requires.few_magnitudes in
     let constants = sym x.constants in
     let terms = sym x.terms in
     let loads = sym x.loads in
@@ -47,7 +52,9 @@ returns-in-Ok-clause-agrees c =
     let terms = x.terms in
     let loads = x.loads in
     let draw = x.draw in
-    let stamp : stamp_with c.exchange.new.parts.constants.items c.exchange.new.parts.rows.terms c.exchange.new.parts.rows.loads c.exchange.new.parts.draw ≡ stamp_of_all ds =
+    let stamp : stamp_with c.exchange.new.parts.constants.items c.exchange.new.parts.rows.terms
+    c.exchange.new.parts.rows.loads c.exchange.new.parts.draw
+    ≡ stamp_of_all ds =
     (λ i. stamp_with (constants i).items (terms i) (loads i) (draw i)) ∙ collected.stamp in
     subst (λ s. AgreesWith s (parts_of_all ds)) (sym stamp) (c.device_law.ensures ds collected.good)
 

@@ -28,7 +28,9 @@ kept_at-requires c =
     let left = settings_in c.loop-place.left in
     let e = deref_pair c.unwrap.result in
     let ds = devices_from layout hertz 0 es (settings_in c.args.settings.now) in
-    let here = ap (λ es. slice_get es c.loop-place.place) (sym c.as_slice-entries.ensures.entries) ∙ sym c.get_index.ensures.entry ∙ ap (option_map deref_pair) c.unwrap.ensures in
+    let here = ap (λ es. slice_get es c.loop-place.place) (sym c.as_slice-entries.ensures.entries)
+    ∙ sym c.get_index.ensures.entry
+    ∙ ap (option_map deref_pair) c.unwrap.ensures in
     taken_at layout hertz es ds place left e here c.loop-place.invariant.at
 
 pub returns-in_err-one-clause-fault : goal.returns-in_err-one-clause-fault
@@ -40,7 +42,9 @@ returns-in_err-one-clause-fault c =
     let left = settings_in c.loop-place.left in
     let e = deref_pair c.unwrap.result in
     let ds = devices_from layout hertz 0 es (settings_in c.args.settings.now) in
-    let here = ap (λ es. slice_get es c.loop-place.place) (sym c.as_slice-entries.ensures.entries) ∙ sym c.get_index.ensures.entry ∙ ap (option_map deref_pair) c.unwrap.ensures in
+    let here = ap (λ es. slice_get es c.loop-place.place) (sym c.as_slice-entries.ensures.entries)
+    ∙ sym c.get_index.ensures.entry
+    ∙ ap (option_map deref_pair) c.unwrap.ensures in
     let next = device_next layout hertz es ds place left e here c.loop-place.invariant.at in
     let p = err_from_is_err_and c.from_residual-in_err-one.result c.from_residual-in_err-one.ensures.1 in
     rw (p.1, p.2) (misfit_first ds place _ _ c.in_err-one.field-0.0 c.loop-place.invariant.fits next c.in_err-one.ensures.fault)
@@ -54,7 +58,9 @@ after-left-requires c =
     let left = settings_in c.loop-place.left in
     let e = deref_pair c.unwrap.result in
     let ds = devices_from layout hertz 0 es (settings_in c.args.settings.now) in
-    let here = ap (λ es. slice_get es c.loop-place.place) (sym c.as_slice-entries.ensures.entries) ∙ sym c.get_index.ensures.entry ∙ ap (option_map deref_pair) c.unwrap.ensures in
+    let here = ap (λ es. slice_get es c.loop-place.place) (sym c.as_slice-entries.ensures.entries)
+    ∙ sym c.get_index.ensures.entry
+    ∙ ap (option_map deref_pair) c.unwrap.ensures in
     let taken = taken_at layout hertz es ds place left e here c.loop-place.invariant.at in
     taken.own
 
@@ -67,18 +73,25 @@ loop-place-preserved c =
     let left = settings_in c.loop-place.left in
     let e = deref_pair c.unwrap.result in
     let ds = devices_from layout hertz 0 es (settings_in c.args.settings.now) in
-    let here = ap (λ es. slice_get es c.loop-place.place) (sym c.as_slice-entries.ensures.entries) ∙ sym c.get_index.ensures.entry ∙ ap (option_map deref_pair) c.unwrap.ensures in
+    let here = ap (λ es. slice_get es c.loop-place.place) (sym c.as_slice-entries.ensures.entries)
+    ∙ sym c.get_index.ensures.entry
+    ∙ ap (option_map deref_pair) c.unwrap.ensures in
     let d = device_of layout hertz place e.1 (own e.1 left) in
     let next = device_next layout hertz es ds place left e here c.loop-place.invariant.at in
     let size = size_of layout in
     let more = c.in_ok-one.ensures.places in
     record {
       at = subst (IsAt layout hertz es ds (place + 1)) (sym c.after-left.ensures) (next_at layout hertz es ds place left e here c.loop-place.invariant.at);
-      kept = subst (AreKeptTo layout hertz es (place + 1)) (sym c.push_reserved.ensures.items) (kept_next layout hertz es place c.loop-place.kept.items e c.in_ok-one.one c.loop-place.invariant.kept here c.in_ok-one.ensures.kept);
+      kept = subst (AreKeptTo layout hertz es (place + 1)) (sym c.push_reserved.ensures.items)
+          (kept_next layout hertz es place c.loop-place.kept.items e c.in_ok-one.one c.loop-place.invariant.kept here
+          c.in_ok-one.ensures.kept);
       capacity = omega (arith, c.loop-place.invariant.capacity, c.push_reserved.ensures.capacity);
-      fits = subst (All DeviceFits) (sym (take-more ds place d (here_from ds place d _ next))) (All-append DeviceFits (take place ds) (d ∷ []) c.loop-place.invariant.fits (All-cons DeviceFits d [] c.in_ok-one.ensures.settled.fits (All-nil DeviceFits)));
+      fits = subst (All DeviceFits) (sym (take-more ds place d (here_from ds place d _ next)))
+          (All-append DeviceFits (take place ds) (d ∷ []) c.loop-place.invariant.fits
+          (All-cons DeviceFits d [] c.in_ok-one.ensures.settled.fits (All-nil DeviceFits)));
       places = more ∙ places_more ds place d _ c.loop-place.places.items next c.loop-place.invariant.places;
-      inside = subst (All (IsInside size)) (sym more) (All-append (IsInside size) c.loop-place.places.items (device_places d) c.loop-place.invariant.inside c.in_ok-one.ensures.inside);
+      inside = subst (All (IsInside size)) (sym more) (All-append (IsInside size) c.loop-place.places.items
+          (device_places d) c.loop-place.invariant.inside c.in_ok-one.ensures.inside);
     }
 
 pub returns-clause-places : goal.returns-clause-places

@@ -8,8 +8,9 @@ use Rattle.fd_network.proofs.network.assembled.Goals as goal
 pub fill-requires-clause-reach : goal.fill-requires-clause-reach
 fill-requires-clause-reach c =
     let circuit = c.args.circuit.now in
-    reaches (layout_of circuit.elements) circuit.options.defaultbasefrequency circuit.elements (settings_of c.args.at.now c.args.powers.now) c.in_ok-parts.parts.rows.places
-    c.in_ok-kept.field-0.places.items c.in_ok-kept.ensures.places c.in_ok-parts.ensures.places
+    reaches (layout_of circuit.elements) circuit.options.defaultbasefrequency circuit.elements
+    (settings_of c.args.at.now c.args.powers.now) c.in_ok-parts.parts.rows.places c.in_ok-kept.field-0.places.items
+    c.in_ok-kept.ensures.places c.in_ok-parts.ensures.places
 
 pub returns-clause-reach : goal.returns-clause-reach
 returns-clause-reach c =

@@ -28,16 +28,22 @@ assemble-requires-clause-taken c =
     let circuit = c.args.circuit.now in
     let hertz = circuit.options.defaultbasefrequency in
     let is_ready = ready circuit c.requires.ready c.elements-elements.ensures.in_range in
-    let taken = are_taken hertz circuit.elements (settings_of c.args.at.now c.args.powers.now) c.options.ensures.in_range.defaultbasefrequency c.requires.ready.not_many is_ready c.requires.settings c.requires.within c.requires.modest in
-    taken_as c.args.layout.now _ c.options.result.now.defaultbasefrequency hertz c.elements-elements.result.now.entries circuit.elements (settings_in c.of-settings.result) _
-    c.requires.layout (ap (λ (o : Options). o.defaultbasefrequency) c.options.ensures.value) c.elements-elements.ensures.entries c.of-settings.ensures taken
+    let taken = are_taken hertz circuit.elements (settings_of c.args.at.now c.args.powers.now)
+    c.options.ensures.in_range.defaultbasefrequency c.requires.ready.not_many is_ready c.requires.settings
+    c.requires.within c.requires.modest in
+    taken_as c.args.layout.now _ c.options.result.now.defaultbasefrequency hertz
+    c.elements-elements.result.now.entries circuit.elements (settings_in c.of-settings.result) _ c.requires.layout
+    (ap (λ (o : Options). o.defaultbasefrequency) c.options.ensures.value) c.elements-elements.ensures.entries
+    c.of-settings.ensures taken
 
 pub assemble-requires-clause-magnitudes : goal.assemble-requires-clause-magnitudes
 assemble-requires-clause-magnitudes c =
     let layout = c.requires.layout in
     let es = c.elements-elements.ensures.entries in
     subst (λ l. AreMagnitudesFrom l (2 * complex_count l) 0 c.elements-elements.result.now.entries) (sym layout)
-    (subst (AreMagnitudesFrom (layout_of c.args.circuit.now.elements) (2 * complex_count (layout_of c.args.circuit.now.elements)) 0) (sym es) (magnitudes_follow c.args.circuit.now.elements))
+    (subst (AreMagnitudesFrom (layout_of c.args.circuit.now.elements)
+    (2 * complex_count (layout_of c.args.circuit.now.elements)) 0)
+    (sym es) (magnitudes_follow c.args.circuit.now.elements))
 
 pub assemble-requires-clause-few : goal.assemble-requires-clause-few
 assemble-requires-clause-few c = omega (arith, ap length c.elements-elements.ensures.entries, c.elements-elements.ensures.few)
@@ -48,7 +54,9 @@ assemble-requires-clause-few_branches c = rw c.elements-elements.ensures.entries
 pub returns-in-Ok-clause-agrees : goal.returns-in-Ok-clause-agrees
 returns-in-Ok-clause-agrees c =
     let hertz = ap (λ (o : Options). o.defaultbasefrequency) c.options.ensures.value in
-    let same = same_devices c.args.layout.now _ c.options.result.now.defaultbasefrequency _ c.elements-elements.result.now.entries _ (settings_in c.of-settings.result) _ c.requires.layout hertz c.elements-elements.ensures.entries c.of-settings.ensures in
+    let same = same_devices c.args.layout.now _ c.options.result.now.defaultbasefrequency _
+    c.elements-elements.result.now.entries _ (settings_in c.of-settings.result) _ c.requires.layout hertz
+    c.elements-elements.ensures.entries c.of-settings.ensures in
     subst (λ ds. AgreesWith (parts_network c.args.layout.now c.assemble.new.parts).stamp (parts_of_all ds)) same c.in-Ok.ensures.agrees
 
 pub returns-in-Ok-clause-extents : goal.returns-in-Ok-clause-extents
@@ -62,7 +70,9 @@ pub returns-in-Ok-clause-no_blame : goal.returns-in-Ok-clause-no_blame
 returns-in-Ok-clause-no_blame c =
     let circuit = c.args.circuit.now in
     let hertz = ap (λ (o : Options). o.defaultbasefrequency) c.options.ensures.value in
-    let same = same_devices c.args.layout.now _ c.options.result.now.defaultbasefrequency _ c.elements-elements.result.now.entries _ (settings_in c.of-settings.result) _ c.requires.layout hertz c.elements-elements.ensures.entries c.of-settings.ensures in
+    let same = same_devices c.args.layout.now _ c.options.result.now.defaultbasefrequency _
+    c.elements-elements.result.now.entries _ (settings_in c.of-settings.result) _ c.requires.layout hertz
+    c.elements-elements.ensures.entries c.of-settings.ensures in
     no_blame circuit.elements (devices_of circuit (settings_of c.args.at.now c.args.powers.now)) (ap first_out_of_range (sym same) ∙ c.in-Ok.ensures.no_fault)
 
 pub blamed-requires : goal.blamed-requires
@@ -78,16 +88,24 @@ pub returns-in-Err-clause-fault : goal.returns-in-Err-clause-fault
 returns-in-Err-clause-fault c =
     let circuit = c.args.circuit.now in
     let hertz = ap (λ (o : Options). o.defaultbasefrequency) c.options.ensures.value in
-    let same = same_devices c.args.layout.now _ c.options.result.now.defaultbasefrequency _ c.elements-elements.result.now.entries _ (settings_in c.of-settings.result) _ c.requires.layout hertz c.elements-elements.ensures.entries c.of-settings.ensures in
-    fault_named circuit.elements c.elements-elements.result.now.entries (devices_of circuit (settings_of c.args.at.now c.args.powers.now)) c.in-Err.fault.0 c.blamed.result
+    let same = same_devices c.args.layout.now _ c.options.result.now.defaultbasefrequency _
+    c.elements-elements.result.now.entries _ (settings_in c.of-settings.result) _ c.requires.layout hertz
+    c.elements-elements.ensures.entries c.of-settings.ensures in
+    fault_named circuit.elements c.elements-elements.result.now.entries
+    (devices_of circuit (settings_of c.args.at.now c.args.powers.now)) c.in-Err.fault.0 c.blamed.result
     c.elements-elements.ensures.entries (ap first_out_of_range (sym same) ∙ c.in-Err.ensures.fault) c.blamed.ensures
 
 pub returns-in-Err-clause-ok : goal.returns-in-Err-clause-ok
 returns-in-Err-clause-ok c =
     let circuit = c.args.circuit.now in
     let hertz = ap (λ (o : Options). o.defaultbasefrequency) c.options.ensures.value in
-    let same = same_devices c.args.layout.now _ c.options.result.now.defaultbasefrequency _ c.elements-elements.result.now.entries _ (settings_in c.of-settings.result) _ c.requires.layout hertz c.elements-elements.ensures.entries c.of-settings.ensures in
-    λ in_range. absurd (none_or_some _ c.in-Err.fault.0 (no_fault (devices_of circuit (settings_of c.args.at.now c.args.powers.now)) in_range) (ap first_out_of_range (sym same) ∙ c.in-Err.ensures.fault))
+    let same = same_devices c.args.layout.now _ c.options.result.now.defaultbasefrequency _
+    c.elements-elements.result.now.entries _ (settings_in c.of-settings.result) _ c.requires.layout hertz
+    c.elements-elements.ensures.entries c.of-settings.ensures in
+    λ in_range.
+    absurd (none_or_some _ c.in-Err.fault.0
+    (no_fault (devices_of circuit (settings_of c.args.at.now c.args.powers.now)) in_range)
+    (ap first_out_of_range (sym same) ∙ c.in-Err.ensures.fault))
 
 pub assemble-requires-clause-kept : goal.assemble-requires-clause-kept
 assemble-requires-clause-kept c =
@@ -100,10 +118,16 @@ assemble-requires-clause-reaches c =
     c.requires.layout (ap (λ (o : Options). o.defaultbasefrequency) c.options.ensures.value) c.elements-elements.ensures.entries c.requires.reach
 
 pub assemble-requires-clause-room : goal.assemble-requires-clause-room
-assemble-requires-clause-room c = subst (λ es. HaveRoom (room_for es) c.args.parts.now c.args.lists.now) (sym c.elements-elements.ensures.entries) c.requires.room
+assemble-requires-clause-room c =
+    subst (λ es. HaveRoom (room_for es) c.args.parts.now c.args.lists.now) (sym c.elements-elements.ensures.entries)
+    c.requires.room
 
 pub assemble-requires-clause-few_complexes : goal.assemble-requires-clause-few_complexes
-assemble-requires-clause-few_complexes c = subst (λ (l : LayoutView). complex_count l ≤ most_complex) (sym c.requires.layout) (few_complex c.args.circuit.now.elements c.requires.ready.not_many)
+assemble-requires-clause-few_complexes c =
+    subst (λ (l : LayoutView). complex_count l ≤ most_complex) (sym c.requires.layout)
+    (few_complex c.args.circuit.now.elements c.requires.ready.not_many)
 
 pub assemble-requires-clause-few_magnitudes : goal.assemble-requires-clause-few_magnitudes
-assemble-requires-clause-few_magnitudes c = subst (λ (l : LayoutView). length l.magnitudes ≤ most_magnitudes) (sym c.requires.layout) (few_magnitudes c.args.circuit.now.elements c.requires.ready.not_many)
+assemble-requires-clause-few_magnitudes c =
+    subst (λ (l : LayoutView). length l.magnitudes ≤ most_magnitudes) (sym c.requires.layout)
+    (few_magnitudes c.args.circuit.now.elements c.requires.ready.not_many)

@@ -14,7 +14,9 @@ most_terms-requires c =
     let es = c.args.elements.now.entries in
     let place = c.loop-place.place in
     let e = deref_pair c.unwrap.result in
-    let here = ap (λ es. slice_get es c.loop-place.place) (sym c.as_slice-entries.ensures.entries) ∙ sym c.get_index.ensures.entry ∙ ap (option_map deref_pair) c.unwrap.ensures in
+    let here = ap (λ es. slice_get es c.loop-place.place) (sym c.as_slice-entries.ensures.entries)
+    ∙ sym c.get_index.ensures.entry
+    ∙ ap (option_map deref_pair) c.unwrap.ensures in
     at_place (λ (x : ElementName × Element). ElementInRange x.1) es place e here c.requires.in_range
 
 pub most_loads-requires : goal.most_loads-requires
@@ -22,7 +24,9 @@ most_loads-requires c =
     let es = c.args.elements.now.entries in
     let place = c.loop-place.place in
     let e = deref_pair c.unwrap.result in
-    let here = ap (λ es. slice_get es c.loop-place.place) (sym c.as_slice-entries.ensures.entries) ∙ sym c.get_index.ensures.entry ∙ ap (option_map deref_pair) c.unwrap.ensures in
+    let here = ap (λ es. slice_get es c.loop-place.place) (sym c.as_slice-entries.ensures.entries)
+    ∙ sym c.get_index.ensures.entry
+    ∙ ap (option_map deref_pair) c.unwrap.ensures in
     at_place (λ (x : ElementName × Element). ElementInRange x.1) es place e here c.requires.in_range
 
 pub loop-place-preserved : goal.loop-place-preserved
@@ -30,7 +34,9 @@ loop-place-preserved c =
     let es = c.args.elements.now.entries in
     let place = c.loop-place.place in
     let e = deref_pair c.unwrap.result in
-    let here = ap (λ es. slice_get es c.loop-place.place) (sym c.as_slice-entries.ensures.entries) ∙ sym c.get_index.ensures.entry ∙ ap (option_map deref_pair) c.unwrap.ensures in
+    let here = ap (λ es. slice_get es c.loop-place.place) (sym c.as_slice-entries.ensures.entries)
+    ∙ sym c.get_index.ensures.entry
+    ∙ ap (option_map deref_pair) c.unwrap.ensures in
     let more = one_more es place e here in
     record {
       elements = c.loop-place.invariant.elements;

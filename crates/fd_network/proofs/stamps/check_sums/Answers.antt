@@ -30,7 +30,9 @@ stamp_at-requires-clause-taken c =
     let left = settings_in c.loop-place.left in
     let e = deref_pair c.unwrap.result in
     let ds = devices_from layout hertz 0 es (settings_in c.args.settings.now) in
-    let here = ap (λ es. slice_get es c.loop-place.place) (sym c.as_slice-entries.ensures.entries) ∙ sym c.get_index.ensures.entry ∙ ap (option_map deref_pair) c.unwrap.ensures in
+    let here = ap (λ es. slice_get es c.loop-place.place) (sym c.as_slice-entries.ensures.entries)
+    ∙ sym c.get_index.ensures.entry
+    ∙ ap (option_map deref_pair) c.unwrap.ensures in
     taken_at layout hertz es ds place left e here c.loop-place.invariant.at
 
 pub stamp_at-requires-clause-kept : goal.stamp_at-requires-clause-kept
@@ -42,9 +44,18 @@ stamp_at-requires-clause-kept c =
     let left = settings_in c.loop-place.left in
     let e = deref_pair c.unwrap.result in
     let ds = devices_from layout hertz 0 es (settings_in c.args.settings.now) in
-    let here = ap (λ es. slice_get es c.loop-place.place) (sym c.as_slice-entries.ensures.entries) ∙ sym c.get_index.ensures.entry ∙ ap (option_map deref_pair) c.unwrap.ensures in
+    let here = ap (λ es. slice_get es c.loop-place.place) (sym c.as_slice-entries.ensures.entries)
+    ∙ sym c.get_index.ensures.entry
+    ∙ ap (option_map deref_pair) c.unwrap.ensures in
     c.requires.kept.each place e c.index-kept-place.result here
-    (stands_at c.args.kept.now place c.index-kept-place.result (omega (arith, c.requires.kept.count, ap length c.as_slice-entries.ensures.entries, c.len-place-end.ensures, c.loop-place-test.true, c.loop-place.auto.place-end)) c.index-kept-place.is)
+    (stands_at c.args.kept.now place c.index-kept-place.result (omega (
+      arith,
+      c.requires.kept.count,
+      ap length c.as_slice-entries.ensures.entries,
+      c.len-place-end.ensures,
+      c.loop-place-test.true,
+      c.loop-place.auto.place-end,
+    )) c.index-kept-place.is)
 
 pub returns-in_err-stamp_at-clause-fault : goal.returns-in_err-stamp_at-clause-fault
 returns-in_err-stamp_at-clause-fault c =
@@ -55,7 +66,9 @@ returns-in_err-stamp_at-clause-fault c =
     let left = settings_in c.loop-place.left in
     let e = deref_pair c.unwrap.result in
     let ds = devices_from layout hertz 0 es (settings_in c.args.settings.now) in
-    let here = ap (λ es. slice_get es c.loop-place.place) (sym c.as_slice-entries.ensures.entries) ∙ sym c.get_index.ensures.entry ∙ ap (option_map deref_pair) c.unwrap.ensures in
+    let here = ap (λ es. slice_get es c.loop-place.place) (sym c.as_slice-entries.ensures.entries)
+    ∙ sym c.get_index.ensures.entry
+    ∙ ap (option_map deref_pair) c.unwrap.ensures in
     let next = device_next layout hertz es ds place left e here c.loop-place.invariant.at in
     absurd (c.in_err-stamp_at.ensures.fault.1 (holds_next DeviceFits ds place _ _ c.requires.fits next))
 
@@ -68,7 +81,9 @@ returns-then-not-have_small_sums-clause-fault c =
     let left = settings_in c.loop-place.left in
     let e = deref_pair c.unwrap.result in
     let ds = devices_from layout hertz 0 es (settings_in c.args.settings.now) in
-    let here = ap (λ es. slice_get es c.loop-place.place) (sym c.as_slice-entries.ensures.entries) ∙ sym c.get_index.ensures.entry ∙ ap (option_map deref_pair) c.unwrap.ensures in
+    let here = ap (λ es. slice_get es c.loop-place.place) (sym c.as_slice-entries.ensures.entries)
+    ∙ sym c.get_index.ensures.entry
+    ∙ ap (option_map deref_pair) c.unwrap.ensures in
     let next = device_next layout hertz es ds place left e here c.loop-place.invariant.at in
     let all = c.args.rows.now.terms in
     let d = device_of layout hertz place e.1 (own e.1 left) in
@@ -86,7 +101,9 @@ after-left-requires c =
     let left = settings_in c.loop-place.left in
     let e = deref_pair c.unwrap.result in
     let ds = devices_from layout hertz 0 es (settings_in c.args.settings.now) in
-    let here = ap (λ es. slice_get es c.loop-place.place) (sym c.as_slice-entries.ensures.entries) ∙ sym c.get_index.ensures.entry ∙ ap (option_map deref_pair) c.unwrap.ensures in
+    let here = ap (λ es. slice_get es c.loop-place.place) (sym c.as_slice-entries.ensures.entries)
+    ∙ sym c.get_index.ensures.entry
+    ∙ ap (option_map deref_pair) c.unwrap.ensures in
     let taken = taken_at layout hertz es ds place left e here c.loop-place.invariant.at in
     taken.own
 
@@ -99,7 +116,9 @@ loop-place-preserved c =
     let left = settings_in c.loop-place.left in
     let e = deref_pair c.unwrap.result in
     let ds = devices_from layout hertz 0 es (settings_in c.args.settings.now) in
-    let here = ap (λ es. slice_get es c.loop-place.place) (sym c.as_slice-entries.ensures.entries) ∙ sym c.get_index.ensures.entry ∙ ap (option_map deref_pair) c.unwrap.ensures in
+    let here = ap (λ es. slice_get es c.loop-place.place) (sym c.as_slice-entries.ensures.entries)
+    ∙ sym c.get_index.ensures.entry
+    ∙ ap (option_map deref_pair) c.unwrap.ensures in
     let d = device_of layout hertz place e.1 (own e.1 left) in
     let next = device_next layout hertz es ds place left e here c.loop-place.invariant.at in
     let all = c.args.rows.now.terms in
@@ -108,7 +127,8 @@ loop-place-preserved c =
     let here_small = at_small all d (subst (All (IsSmallAt all)) terms (c.have_small_sums.ensures.0 c.if-not-have_small_sums.false)) in
     record {
       at = subst (IsAt layout hertz es ds (place + 1)) (sym c.after-left.ensures) (next_at layout hertz es ds place left e here c.loop-place.invariant.at);
-      small = subst (All P) (sym (take-more ds place d (here_from ds place d _ next))) (All-append P (take place ds) (d ∷ []) c.loop-place.invariant.small (All-cons P d [] here_small (All-nil P)));
+      small = subst (All P) (sym (take-more ds place d (here_from ds place d _ next))) (All-append P (take place ds)
+          (d ∷ []) c.loop-place.invariant.small (All-cons P d [] here_small (All-nil P)));
       one = room_then c.args.one.now c.loop-place.one c.stamp_at.new.into c.loop-place.invariant.one c.stamp_at.ensures.room;
     }
 

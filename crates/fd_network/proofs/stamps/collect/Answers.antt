@@ -33,7 +33,9 @@ stamp_at-requires-clause-taken c =
     let left = settings_in c.loop-place.left in
     let e = deref_pair c.unwrap.result in
     let ds = devices_from layout hertz 0 es (settings_in c.args.settings.now) in
-    let here = ap (λ es. slice_get es c.loop-place.place) (sym c.as_slice-entries.ensures.entries) ∙ sym c.get_index.ensures.entry ∙ ap (option_map deref_pair) c.unwrap.ensures in
+    let here = ap (λ es. slice_get es c.loop-place.place) (sym c.as_slice-entries.ensures.entries)
+    ∙ sym c.get_index.ensures.entry
+    ∙ ap (option_map deref_pair) c.unwrap.ensures in
     taken_at layout hertz es ds place left e here c.loop-place.invariant.at
 
 pub stamp_at-requires-clause-kept : goal.stamp_at-requires-clause-kept
@@ -45,9 +47,18 @@ stamp_at-requires-clause-kept c =
     let left = settings_in c.loop-place.left in
     let e = deref_pair c.unwrap.result in
     let ds = devices_from layout hertz 0 es (settings_in c.args.settings.now) in
-    let here = ap (λ es. slice_get es c.loop-place.place) (sym c.as_slice-entries.ensures.entries) ∙ sym c.get_index.ensures.entry ∙ ap (option_map deref_pair) c.unwrap.ensures in
+    let here = ap (λ es. slice_get es c.loop-place.place) (sym c.as_slice-entries.ensures.entries)
+    ∙ sym c.get_index.ensures.entry
+    ∙ ap (option_map deref_pair) c.unwrap.ensures in
     c.requires.kept.each place e c.index-kept-place.result here
-    (stands_at c.args.kept.now place c.index-kept-place.result (omega (arith, c.requires.kept.count, ap length c.as_slice-entries.ensures.entries, c.len-place-end.ensures, c.loop-place-test.true, c.loop-place.auto.place-end)) c.index-kept-place.is)
+    (stands_at c.args.kept.now place c.index-kept-place.result (omega (
+      arith,
+      c.requires.kept.count,
+      ap length c.as_slice-entries.ensures.entries,
+      c.len-place-end.ensures,
+      c.loop-place-test.true,
+      c.loop-place.auto.place-end,
+    )) c.index-kept-place.is)
 
 pub returns-in_err-stamp_at-clause-fault : goal.returns-in_err-stamp_at-clause-fault
 returns-in_err-stamp_at-clause-fault c =
@@ -58,7 +69,9 @@ returns-in_err-stamp_at-clause-fault c =
     let left = settings_in c.loop-place.left in
     let e = deref_pair c.unwrap.result in
     let ds = devices_from layout hertz 0 es (settings_in c.args.settings.now) in
-    let here = ap (λ es. slice_get es c.loop-place.place) (sym c.as_slice-entries.ensures.entries) ∙ sym c.get_index.ensures.entry ∙ ap (option_map deref_pair) c.unwrap.ensures in
+    let here = ap (λ es. slice_get es c.loop-place.place) (sym c.as_slice-entries.ensures.entries)
+    ∙ sym c.get_index.ensures.entry
+    ∙ ap (option_map deref_pair) c.unwrap.ensures in
     let next = device_next layout hertz es ds place left e here c.loop-place.invariant.at in
     let p = err_from_is_err_and c.from_residual.result c.from_residual.ensures.1 in
     let fault = c.in_err-stamp_at.ensures.fault in
@@ -73,8 +86,11 @@ push_reserved-requires-clause-terms c =
     let left = settings_in c.loop-place.left in
     let e = deref_pair c.unwrap.result in
     let ds = devices_from layout hertz 0 es (settings_in c.args.settings.now) in
-    let here = ap (λ es. slice_get es c.loop-place.place) (sym c.as_slice-entries.ensures.entries) ∙ sym c.get_index.ensures.entry ∙ ap (option_map deref_pair) c.unwrap.ensures in
-    let beside = fits_beside es place e here (stamp_of c.loop-place.stamps.all) (stamp_of c.stamp_at.new.into) c.loop-place.invariant.few c.in_ok-stamp_at.ensures.few in
+    let here = ap (λ es. slice_get es c.loop-place.place) (sym c.as_slice-entries.ensures.entries)
+    ∙ sym c.get_index.ensures.entry
+    ∙ ap (option_map deref_pair) c.unwrap.ensures in
+    let beside = fits_beside es place e here (stamp_of c.loop-place.stamps.all) (stamp_of c.stamp_at.new.into)
+    c.loop-place.invariant.few c.in_ok-stamp_at.ensures.few in
     omega (arith, beside.terms, c.requires.room.all.terms, c.loop-place.invariant.room.all.terms)
 
 pub push_reserved-requires-clause-loads : goal.push_reserved-requires-clause-loads
@@ -86,8 +102,11 @@ push_reserved-requires-clause-loads c =
     let left = settings_in c.loop-place.left in
     let e = deref_pair c.unwrap.result in
     let ds = devices_from layout hertz 0 es (settings_in c.args.settings.now) in
-    let here = ap (λ es. slice_get es c.loop-place.place) (sym c.as_slice-entries.ensures.entries) ∙ sym c.get_index.ensures.entry ∙ ap (option_map deref_pair) c.unwrap.ensures in
-    let beside = fits_beside es place e here (stamp_of c.loop-place.stamps.all) (stamp_of c.stamp_at.new.into) c.loop-place.invariant.few c.in_ok-stamp_at.ensures.few in
+    let here = ap (λ es. slice_get es c.loop-place.place) (sym c.as_slice-entries.ensures.entries)
+    ∙ sym c.get_index.ensures.entry
+    ∙ ap (option_map deref_pair) c.unwrap.ensures in
+    let beside = fits_beside es place e here (stamp_of c.loop-place.stamps.all) (stamp_of c.stamp_at.new.into)
+    c.loop-place.invariant.few c.in_ok-stamp_at.ensures.few in
     omega (arith, beside.loads, c.requires.room.all.loads, c.loop-place.invariant.room.all.loads)
 
 pub push_reserved-requires-clause-constants : goal.push_reserved-requires-clause-constants
@@ -99,8 +118,11 @@ push_reserved-requires-clause-constants c =
     let left = settings_in c.loop-place.left in
     let e = deref_pair c.unwrap.result in
     let ds = devices_from layout hertz 0 es (settings_in c.args.settings.now) in
-    let here = ap (λ es. slice_get es c.loop-place.place) (sym c.as_slice-entries.ensures.entries) ∙ sym c.get_index.ensures.entry ∙ ap (option_map deref_pair) c.unwrap.ensures in
-    let beside = fits_beside es place e here (stamp_of c.loop-place.stamps.all) (stamp_of c.stamp_at.new.into) c.loop-place.invariant.few c.in_ok-stamp_at.ensures.few in
+    let here = ap (λ es. slice_get es c.loop-place.place) (sym c.as_slice-entries.ensures.entries)
+    ∙ sym c.get_index.ensures.entry
+    ∙ ap (option_map deref_pair) c.unwrap.ensures in
+    let beside = fits_beside es place e here (stamp_of c.loop-place.stamps.all) (stamp_of c.stamp_at.new.into)
+    c.loop-place.invariant.few c.in_ok-stamp_at.ensures.few in
     omega (arith, beside.constants, c.requires.room.all.constants, c.loop-place.invariant.room.all.constants)
 
 pub push_reserved-requires-clause-extents : goal.push_reserved-requires-clause-extents
@@ -129,7 +151,9 @@ after-left-requires c =
     let left = settings_in c.loop-place.left in
     let e = deref_pair c.unwrap.result in
     let ds = devices_from layout hertz 0 es (settings_in c.args.settings.now) in
-    let here = ap (λ es. slice_get es c.loop-place.place) (sym c.as_slice-entries.ensures.entries) ∙ sym c.get_index.ensures.entry ∙ ap (option_map deref_pair) c.unwrap.ensures in
+    let here = ap (λ es. slice_get es c.loop-place.place) (sym c.as_slice-entries.ensures.entries)
+    ∙ sym c.get_index.ensures.entry
+    ∙ ap (option_map deref_pair) c.unwrap.ensures in
     let taken = taken_at layout hertz es ds place left e here c.loop-place.invariant.at in
     taken.own
 
@@ -142,19 +166,26 @@ loop-place-preserved c =
     let left = settings_in c.loop-place.left in
     let e = deref_pair c.unwrap.result in
     let ds = devices_from layout hertz 0 es (settings_in c.args.settings.now) in
-    let here = ap (λ es. slice_get es c.loop-place.place) (sym c.as_slice-entries.ensures.entries) ∙ sym c.get_index.ensures.entry ∙ ap (option_map deref_pair) c.unwrap.ensures in
+    let here = ap (λ es. slice_get es c.loop-place.place) (sym c.as_slice-entries.ensures.entries)
+    ∙ sym c.get_index.ensures.entry
+    ∙ ap (option_map deref_pair) c.unwrap.ensures in
     let d = device_of layout hertz place e.1 (own e.1 left) in
     let next = device_next layout hertz es ds place left e here c.loop-place.invariant.at in
     let m = length layout.nodes in
     let n = complex_count layout in
     let size = size_of layout in
-    let more = collected_more m n size (take place es) e (take place ds) d (stamp_of c.loop-place.stamps.all) (stamp_of c.stamp_at.new.into) (stamp_of c.push_reserved.new.self.all)
-    c.loop-place.invariant.made c.in_ok-stamp_at.ensures.settled c.in_ok-stamp_at.ensures.stamp c.push_reserved.ensures.stamp in
+    let more = collected_more m n size (take place es) e (take place ds) d (stamp_of c.loop-place.stamps.all)
+    (stamp_of c.stamp_at.new.into) (stamp_of c.push_reserved.new.self.all) c.loop-place.invariant.made
+    c.in_ok-stamp_at.ensures.settled c.in_ok-stamp_at.ensures.stamp c.push_reserved.ensures.stamp in
     record {
       at = subst (IsAt layout hertz es ds (place + 1)) (sym c.after-left.ensures) (next_at layout hertz es ds place left e here c.loop-place.invariant.at);
-      made = subst (λ xs. AreCollected m n size xs (take (place + 1) ds) (stamp_of c.push_reserved.new.self.all)) (sym (take-more es place e here))
-          (subst (λ xs. AreCollected m n size (take place es ++ e ∷ []) xs (stamp_of c.push_reserved.new.self.all)) (sym (take-more ds place d (here_from ds place d _ next))) more);
-      few = few_next es place e here (stamp_of c.loop-place.stamps.all) (stamp_of c.stamp_at.new.into) (stamp_of c.push_reserved.new.self.all) c.loop-place.invariant.few c.in_ok-stamp_at.ensures.few c.push_reserved.ensures.stamp;
+      made = subst (λ xs. AreCollected m n size xs (take (place + 1) ds) (stamp_of c.push_reserved.new.self.all))
+          (sym (take-more es place e here))
+          (subst (λ xs. AreCollected m n size (take place es ++ e ∷ []) xs (stamp_of c.push_reserved.new.self.all))
+          (sym (take-more ds place d (here_from ds place d _ next))) more);
+      few = few_next es place e here (stamp_of c.loop-place.stamps.all) (stamp_of c.stamp_at.new.into)
+          (stamp_of c.push_reserved.new.self.all) c.loop-place.invariant.few c.in_ok-stamp_at.ensures.few
+          c.push_reserved.ensures.stamp;
       extents = c.push_reserved.ensures.extents
           ∙ (λ i. c.loop-place.invariant.extents i ++ extent_of (c.in_ok-stamp_at.ensures.stamp i) ∷ [])
           ∙ sym (extents_more (take place ds) d) ∙ ap extents_of (sym (take-more ds place d (here_from ds place d _ next)));

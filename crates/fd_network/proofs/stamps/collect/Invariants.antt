@@ -12,7 +12,10 @@ use Rattle.fd_network.proofs.stamps.collect.Given as goal
 abbrev pub invariant-loop-place : goal.invariant-loop-place
 invariant-loop-place l = record {
   at : IsAt l.layout l.hertz l.elements.entries (devices_from l.layout l.hertz 0 l.elements.entries (settings_in l.settings)) l.place (settings_in l.left);
-  made : AreCollected (length l.layout.nodes) (complex_count l.layout) (size_of l.layout) (take l.place l.elements.entries) (take l.place (devices_from l.layout l.hertz 0 l.elements.entries (settings_in l.settings))) (stamp_of l.stamps.all);
+  made : AreCollected (length l.layout.nodes) (complex_count l.layout) (size_of l.layout)
+      (take l.place l.elements.entries)
+      (take l.place (devices_from l.layout l.hertz 0 l.elements.entries (settings_in l.settings)))
+      (stamp_of l.stamps.all);
   extents : l.stamps.extents.items ≡ extents_of (take l.place (devices_from l.layout l.hertz 0 l.elements.entries (settings_in l.settings)));
   few : IsFewFor l.elements.entries l.place (stamp_of l.stamps.all);
   room : IsStampsRoomSame l.initial.stamps l.stamps;

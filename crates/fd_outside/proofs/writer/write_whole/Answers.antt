@@ -8,6 +8,8 @@ loop-preserved g c =
     let told = g.W.Write.contents in
     let P : List ℕ → Type 0 = λ l. HasWritten (told c.args.writer.now) (told c.write.new.self) c.args.bytes.now l in
     elim c.match-write.branch [
-      | in-Ok w ↦ subst P (sym (ap (λ r. r.now) w.rest-is ∙ behind w.in-Ok.count c.loop.rest.now)) (written_more _ (told c.loop.writer) _ _ c.loop.rest.now w.in-Ok.count c.loop.invariant w.in-Ok.ensures.bytes)
+      | in-Ok w ↦ subst P (sym (ap (λ r. r.now) w.rest-is ∙ behind w.in-Ok.count c.loop.rest.now))
+          (written_more _ (told c.loop.writer) _ _ c.loop.rest.now w.in-Ok.count c.loop.invariant
+          w.in-Ok.ensures.bytes)
       | in-Err w ↦ subst P (sym (ap (λ r. r.now) w.rest-is)) (written_same _ (told c.loop.writer) _ _ c.loop.rest.now c.loop.invariant w.in-Err.ensures.bytes)
     ]

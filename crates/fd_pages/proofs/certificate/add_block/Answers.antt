@@ -19,4 +19,6 @@ returns c s at =
     let size = sym c.size-size.ensures.rows ∙ c.size-size.ensures.layout ∙ ap size_of c.requires.network.layout in
     let block = same_block made.circuit.now made.number made.hour made.net.now.rows.size c.args.place s c.args.round.now at size in
     let lines = c.in_ok-lines.ensures.lines ∙ ap block_texts block in
-    ap pieces_of c.in_ok-append.ensures.items ∙ map-append _ c.args.into.now.items c.in_ok-lines.lines.items ∙ ap (λ (l : List (List ℕ)). pieces_of c.args.into.now.items ++ l) lines
+    ap pieces_of c.in_ok-append.ensures.items
+    ∙ map-append _ c.args.into.now.items c.in_ok-lines.lines.items
+    ∙ ap (λ (l : List (List ℕ)). pieces_of c.args.into.now.items ++ l) lines

@@ -10,5 +10,7 @@ use Rattle.fd_pages.proofs.certificate.add_tried.Goals as goal
 
 pub returns : goal.returns
 returns c s at =
-    subst (λ (acts : List Act). OnOk c.add_block.result (pieces_of c.add_block.new.into.items ≡ pieces_of c.args.into.now.items ++ block_texts (block_in s (length c.args.made.now.rounds.now) (round_of (claim_in c.args.tried) (map seen acts)))))
+    subst (λ (acts : List Act).
+    OnOk c.add_block.result (pieces_of c.add_block.new.into.items ≡ pieces_of c.args.into.now.items ++ block_texts
+    (block_in s (length c.args.made.now.rounds.now) (round_of (claim_in c.args.tried) (map seen acts)))))
     c.new.ensures.items (c.add_block.ensures s at)

@@ -13,5 +13,7 @@ use Rattle.fd_pages.proofs.records.add_taps.Given as goal
 -- the records so far and those of the probes that are left
 abbrev pub invariant-loop-number : goal.invariant-loop-number
 invariant-loop-number l =
-    pieces_of l.into.items ++ lines_of (flat_map (λ (c : (ElementName × Element) × Probe). tap_rows_by (positions_in l.at) c.0.0 c.1) (zip (drop l.number (controls_of l.circuit.elements)) (drop l.number (probes_of l.circuit.elements))))
+    pieces_of l.into.items
+    ++ lines_of (flat_map (λ (c : (ElementName × Element) × Probe). tap_rows_by (positions_in l.at) c.0.0 c.1)
+    (zip (drop l.number (controls_of l.circuit.elements)) (drop l.number (probes_of l.circuit.elements))))
     ≡ pieces_of l.fn.into.items ++ lines_of (tap_rows l.circuit.elements (positions_in l.at))

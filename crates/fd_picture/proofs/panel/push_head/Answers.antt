@@ -5,4 +5,10 @@ use Rattle.fd_picture.proofs.panel.push_head.Goals as goal
 
 pub returns : goal.returns
 unfolding head_text
-returns c = on_ok c.push_between-3.result (λ added. added ∙ rw (c.in_ok-push_between-2.ensures, c.in_ok-push_between.ensures, c.settle.ensures, c.hour.ensures, c.round.ensures) (simp append_assoc refl)) c.push_between-3.ensures
+returns c = on_ok c.push_between-3.result (λ added. added ∙ rw (
+  c.in_ok-push_between-2.ensures,
+  c.in_ok-push_between.ensures,
+  c.settle.ensures,
+  c.hour.ensures,
+  c.round.ensures,
+) (simp append_assoc refl)) c.push_between-3.ensures

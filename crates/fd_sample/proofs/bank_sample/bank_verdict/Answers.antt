@@ -31,8 +31,10 @@ returns-in-Current c =
     let r = c.args.radii.now in
     let w = c.over_squares-in-Current.result in
     let own = of_current p t x r w c.in-Current.branch c.in-Current.ratio
-    (subst (λ (s : Bounds). IsRootSample (cap_decision p t) (λ d. cap_edge p t) s w) c.ratio_squares-in-Current.ensures c.over_squares-in-Current.ensures.sample)
-    (subst (λ (s : Bounds). IsSome s → TellsEdge (cap_decision p t) (least_root s) (greatest_root s) w) c.ratio_squares-in-Current.ensures c.over_squares-in-Current.ensures.edge) in
+    (subst (λ (s : Bounds). IsRootSample (cap_decision p t) (λ d. cap_edge p t) s w)
+    c.ratio_squares-in-Current.ensures c.over_squares-in-Current.ensures.sample)
+    (subst (λ (s : Bounds). IsSome s → TellsEdge (cap_decision p t) (least_root s) (greatest_root s) w)
+    c.ratio_squares-in-Current.ensures c.over_squares-in-Current.ensures.edge) in
     let all = subst (IsSampled p t x r w) (sym c.in-Current.is) own in
     record {
       sample = all.sample;
@@ -48,8 +50,10 @@ returns-in-Kvar c =
     let r = c.args.radii.now in
     let w = c.over_values.result in
     let own = of_power p t x r w c.in-Kvar.end
-    (subst (λ (s : Bounds). IsValueSample (cap_decision p t) (λ d. cap_edge p t) s w) c.reactive_power.ensures c.over_values.ensures.sample)
-    (subst (λ (s : Bounds). IsSome s → TellsEdge (cap_decision p t) (least_value s) (greatest_value s) w) c.reactive_power.ensures c.over_values.ensures.edge) in
+    (subst (λ (s : Bounds). IsValueSample (cap_decision p t) (λ d. cap_edge p t) s w) c.reactive_power.ensures
+    c.over_values.ensures.sample)
+    (subst (λ (s : Bounds). IsSome s → TellsEdge (cap_decision p t) (least_value s) (greatest_value s) w)
+    c.reactive_power.ensures c.over_values.ensures.edge) in
     let all = subst (IsSampled p t x r w) (sym c.in-Kvar.is) own in
     record {
       sample = all.sample;

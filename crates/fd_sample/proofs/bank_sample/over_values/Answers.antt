@@ -19,8 +19,11 @@ returns c =
     let edge = to_z-of_z w128 c.edge_of.result fits ∙ c.edge_of.ensures.value in
     let fits_least : FitsSigned w128 c.value_ends-least.result.0 = search rules in
     let fits_greatest : FitsSigned w128 c.value_ends-least.result.1 = search rules in
-    let low = c.wanted_at_value-low.ensures.decision ∙ ap (λ (z : ℤ). cap_decision p t (value z (10 ^ 6))) (to_z-of_z w128 c.value_ends-least.result.0 fits_least) in
-    let high = c.wanted_at_value-high.ensures.decision ∙ ap (λ (z : ℤ). cap_decision p t (value z (10 ^ 6))) (to_z-of_z w128 c.value_ends-least.result.1 fits_greatest) in
+    let low = c.wanted_at_value-low.ensures.decision
+    ∙ ap (λ (z : ℤ). cap_decision p t (value z (10 ^ 6))) (to_z-of_z w128 c.value_ends-least.result.0 fits_least) in
+    let high = c.wanted_at_value-high.ensures.decision
+    ∙ ap (λ (z : ℤ). cap_decision p t (value z (10 ^ 6)))
+    (to_z-of_z w128 c.value_ends-least.result.1 fits_greatest) in
     let sample = value_sample (cap_decision p t) (λ d. cap_edge p t) s c.agreed_value.result c.wanted_at_value-low.result c.wanted_at_value-high.result _
     (least_at p t s c.wanted_at_value-low.result c.value_ends-least.result.0 c.value_ends-least.result.1 c.value_ends-least.ensures low)
     (greatest_at p t s c.wanted_at_value-high.result c.value_ends-least.result.0 c.value_ends-least.result.1 c.value_ends-least.ensures high)

@@ -8,8 +8,11 @@ use Rattle.fd_sample.proofs.Places.{there_by}
 use Rattle.fd_sample.proofs.circuit.index_of.Goals as goal
 
 pub returns-clause-place : goal.returns-clause-place
-returns-clause-place c = c.get_index_of.ensures.index
-    ∙ ap (λ (same : ElementName → ElementName → Bool). position (same c.args.name.now) (map (λ (e : ElementName × Element). e.0) c.args.elements.now.entries)) compares
+returns-clause-place c =
+    c.get_index_of.ensures.index
+    ∙ ap (λ (same : ElementName → ElementName → Bool).
+    position (same c.args.name.now) (map (λ (e : ElementName × Element). e.0) c.args.elements.now.entries))
+    compares
 
 pub returns-clause-there : goal.returns-clause-there
 returns-clause-there c = there_by c.get_index_of.result c.args.elements.now.entries _ _

@@ -21,9 +21,12 @@ probe_at-requires-clause-element c =
     let entries = c.elements-elements.ensures.entries in
     let e = c.element_in-element.result.now in
     let at = subst (λ (xs : Elements). element_at xs place ≡ Some e) entries c.element_in-element.ensures in
-    let same = subst (λ (xs : Elements). element_at xs place ≡ element_given xs class.Transformer c.args.control.now.transformer) entries c.in_ok-place.ensures.there in
+    let same =
+    subst (λ (xs : Elements). element_at xs place ≡ element_given xs class.Transformer c.args.control.now.transformer)
+    entries c.in_ok-place.ensures.there in
     subst (λ (l : LayoutView). IsXfmrFor l place c.args.control.now e) (sym c.requires.layout)
-    (xfmr_for c.args.circuit.now c.requires.ready c.elements-elements.ensures.in_range c.elements-elements.ensures.keys c.args.control.now c.requires.control place e at same)
+    (xfmr_for c.args.circuit.now c.requires.ready c.elements-elements.ensures.in_range
+    c.elements-elements.ensures.keys c.args.control.now c.requires.control place e at same)
 
 pub transformers_before-number-requires : goal.transformers_before-number-requires
 transformers_before-number-requires c =
@@ -36,9 +39,15 @@ returns-clause-probe c =
     let entries = c.elements-elements.ensures.entries in
     let e = c.element_in-element.result.now in
     let at = subst (λ (xs : Elements). element_at xs place ≡ Some e) entries c.element_in-element.ensures in
-    let same = subst (λ (xs : Elements). element_at xs place ≡ element_given xs class.Transformer c.args.control.now.transformer) entries c.in_ok-place.ensures.there in
+    let same =
+    subst (λ (xs : Elements). element_at xs place ≡ element_given xs class.Transformer c.args.control.now.transformer)
+    entries c.in_ok-place.ensures.there in
     let found = subst (λ (xs : Elements). place_given xs class.Transformer c.args.control.now.transformer ≡ Some place) entries c.in_ok-place.ensures.place in
     let inside = subst (λ (xs : Elements). place < length xs) entries c.in_ok-place.ensures.inside in
     let count = c.transformers_before-number.ensures ∙ number_at tap_count _ c.args.circuit.now.elements place c.requires.numbers.transformers inside in
-    let fit = xfmr_for c.args.circuit.now c.requires.ready c.elements-elements.ensures.in_range c.elements-elements.ensures.keys c.args.control.now c.requires.control place e at same in
-    IfOk-weaker c.probe_at.result _ _ (λ p h. probe_in c.args.circuit.now c.args.control.now place c.args.layout.now e _ p c.requires.layout fit at found count h) c.probe_at.ensures.probe
+    let fit = xfmr_for c.args.circuit.now c.requires.ready c.elements-elements.ensures.in_range
+    c.elements-elements.ensures.keys c.args.control.now c.requires.control place e at same in
+    IfOk-weaker c.probe_at.result _ _ (λ p h.
+    probe_in c.args.circuit.now c.args.control.now place c.args.layout.now e _ p c.requires.layout fit at found count
+    h)
+    c.probe_at.ensures.probe

@@ -10,9 +10,14 @@ returns-in-Regulator c =
     let x = c.args.centre.now in
     let r = c.args.radii.now in
     let v = c.regulator_verdict.result in
-    let own : IsRegSample c.in-Regulator.control c.taps_of-taps.result x r v = record { sample = c.regulator_verdict.ensures.sample; edge = c.regulator_verdict.ensures.edge; every_state = c.regulator_verdict.ensures.every_state } in
+    let own : IsRegSample c.in-Regulator.control c.taps_of-taps.result x r v = record {
+      sample = c.regulator_verdict.ensures.sample;
+      edge = c.regulator_verdict.ensures.edge;
+      every_state = c.regulator_verdict.ensures.every_state;
+    } in
     let there = subst (λ (t : TapPair). IsRegSample c.in-Regulator.control t x r v) c.taps_of-taps.ensures.taps own in
-    let all = subst (IsSampledAt (positions_in c.args.at.now) x r v) (sym c.in-Regulator.is) (of_regulator (positions_in c.args.at.now) x r v c.in-Regulator.control there) in
+    let all = subst (IsSampledAt (positions_in c.args.at.now) x r v) (sym c.in-Regulator.is)
+    (of_regulator (positions_in c.args.at.now) x r v c.in-Regulator.control there) in
     record {
       sample = all.sample;
       edge = all.edge;
@@ -25,7 +30,11 @@ returns-in-Bank c =
     let x = c.args.centre.now in
     let r = c.args.radii.now in
     let v = c.bank_verdict.result in
-    let own : IsBankSample c.in-Bank.control c.is_closed-closed.result x r v = record { sample = c.bank_verdict.ensures.sample; edge = c.bank_verdict.ensures.edge; every_state = c.bank_verdict.ensures.every_state } in
+    let own : IsBankSample c.in-Bank.control c.is_closed-closed.result x r v = record {
+      sample = c.bank_verdict.ensures.sample;
+      edge = c.bank_verdict.ensures.edge;
+      every_state = c.bank_verdict.ensures.every_state;
+    } in
     let there = subst (λ (t : Bool). IsBankSample c.in-Bank.control t x r v) c.is_closed-closed.ensures own in
     let all = subst (IsSampledAt (positions_in c.args.at.now) x r v) (sym c.in-Bank.is) (of_bank (positions_in c.args.at.now) x r v c.in-Bank.control there) in
     record {

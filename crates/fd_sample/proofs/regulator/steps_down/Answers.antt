@@ -11,5 +11,7 @@ loop-n-preserved c = record {
 }
 
 pub returns-else-not-is_down : goal.returns-else-not-is_down
-returns-else-not-is_down c = sym (c.loop-n.invariant.same ∙ greatest_at (fits_down c.args.probe.now c.args.square) c.loop-n.n (omega (arith, c.loop-n-test.true))
+returns-else-not-is_down c =
+    sym (c.loop-n.invariant.same
+    ∙ greatest_at (fits_down c.args.probe.now c.args.square) c.loop-n.n (omega (arith, c.loop-n-test.true))
     (sym c.is_down.ensures ∙ c.if-not-is_down.false))

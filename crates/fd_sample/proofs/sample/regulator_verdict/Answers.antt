@@ -13,7 +13,11 @@ returns c =
     (subst (λ (n : ℕ). IsRootSample (wanted_at p n) (edge_at p n) c.squares.result c.over.result) c.own_tap-tap.ensures c.over.ensures.sample) in
     record {
       sample = sample;
-      edge = subst (λ (s : Bounds). TellsEdge (wanted_at p (own_tap p t)) (least_root s) (greatest_root s) c.over.result) c.squares.ensures
-          (subst (λ (n : ℕ). TellsEdge (wanted_at p n) (least_root c.squares.result) (greatest_root c.squares.result) c.over.result) c.own_tap-tap.ensures c.over.ensures.edge);
+      edge =
+          subst (λ (s : Bounds). TellsEdge (wanted_at p (own_tap p t)) (least_root s) (greatest_root s) c.over.result)
+          c.squares.ensures
+          (subst (λ (n : ℕ).
+          TellsEdge (wanted_at p n) (least_root c.squares.result) (greatest_root c.squares.result) c.over.result)
+          c.own_tap-tap.ensures c.over.ensures.edge);
       every_state = λ x d b e. reg_of_all p t c.args.centre.now c.args.radii.now x d c.requires.probe c.requires.taps b (sym sample.decides ∙ e);
     }

@@ -15,7 +15,9 @@ use Rattle.fd_sample.proofs.scripted.regulator_probe.Goals as goal
 pub phase_at-requires-clause-k_in : goal.phase_at-requires-clause-k_in
 phase_at-requires-clause-k_in c =
     let p = c.args.control.now.ptphase in
-    let same : to_z w32 (of_z w32 p) ≡ p = back_narrow (neg_ℤ (pos 1_000_000_000)) (pos 1_000_000_000) p c.requires.control.ptphase (omega (arith, ints)) (omega (arith, ints)) in
+    let same : to_z w32 (of_z w32 p) ≡ p =
+    back_narrow (neg_ℤ (pos 1_000_000_000)) (pos 1_000_000_000) p c.requires.control.ptphase (omega (arith, ints))
+    (omega (arith, ints)) in
     let count : c.xfmr_data-data.result.phases ≡ c.args.xfmr.now.phases = ap (λ (d : XfmrData). d.phases) c.xfmr_data-data.ensures.value in
     let most : p ≤ℤ pos c.args.xfmr.now.phases = c.requires.phase.most in
     c.phase_index-k.ensures.below c.xfmr_data-data.result.phases (rw (same, count) most)
@@ -24,7 +26,9 @@ pub returns-clause-probe : goal.returns-clause-probe
 returns-clause-probe c =
     let s = c.args.control.now in
     let t = nat_eq s.winding 2 in
-    let same : to_z w32 (of_z w32 s.ptphase) ≡ s.ptphase = back_narrow (neg_ℤ (pos 1_000_000_000)) (pos 1_000_000_000) s.ptphase c.requires.control.ptphase (omega (arith, ints)) (omega (arith, ints)) in
+    let same : to_z w32 (of_z w32 s.ptphase) ≡ s.ptphase =
+    back_narrow (neg_ℤ (pos 1_000_000_000)) (pos 1_000_000_000) s.ptphase c.requires.control.ptphase
+    (omega (arith, ints)) (omega (arith, ints)) in
     let k : c.phase_index-k.result ≡ phase_index s.ptphase = c.phase_index-k.ensures.value ∙ ap phase_index same in
     let d = c.xfmr_data-data.ensures.value in
     let place : c.phase_at.result ≡ phase_at (xfmr_data_of c.args.xfmr.now) c.args.at.now (phase_index s.ptphase) =
@@ -34,10 +38,18 @@ returns-clause-probe c =
     let second = c.second_volts.ensures.value ∙ ap (λ (e : XfmrData). nat_abs (second_volts e)) d in
     let w = c.own_winding-winding.ensures.winding in
     let step = c.tap_step.ensures.value ∙ ap step_of w in
-    let vreg = c.natural.ensures ∙ ap nat_abs (back (pos (1 * 1_000_000_000)) (pos (1_000_000 * 1_000_000_000)) s.vreg c.requires.control.vreg (omega (arith, ints)) (omega (arith, ints))) in
-    let band = c.natural-2.ensures ∙ ap nat_abs (back (pos 1_000_000) (pos (1000 * 1_000_000_000)) s.band c.requires.control.band (omega (arith, ints)) (omega (arith, ints))) in
-    let ptratio = c.natural-3.ensures ∙ ap nat_abs (back (pos 1_000_000) (pos (1_000_000 * 1_000_000_000)) s.ptratio c.requires.control.ptratio (omega (arith, ints)) (omega (arith, ints))) in
-    let ctprim = c.natural-4.ensures ∙ ap nat_abs (back (pos 1_000_000) (pos (1_000_000 * 1_000_000_000)) s.ctprim c.requires.control.ctprim (omega (arith, ints)) (omega (arith, ints))) in
+    let vreg = c.natural.ensures
+    ∙ ap nat_abs (back (pos (1 * 1_000_000_000)) (pos (1_000_000 * 1_000_000_000)) s.vreg c.requires.control.vreg
+    (omega (arith, ints)) (omega (arith, ints))) in
+    let band = c.natural-2.ensures
+    ∙ ap nat_abs (back (pos 1_000_000) (pos (1000 * 1_000_000_000)) s.band c.requires.control.band
+    (omega (arith, ints)) (omega (arith, ints))) in
+    let ptratio = c.natural-3.ensures
+    ∙ ap nat_abs (back (pos 1_000_000) (pos (1_000_000 * 1_000_000_000)) s.ptratio c.requires.control.ptratio
+    (omega (arith, ints)) (omega (arith, ints))) in
+    let ctprim = c.natural-4.ensures
+    ∙ ap nat_abs (back (pos 1_000_000) (pos (1_000_000 * 1_000_000_000)) s.ctprim c.requires.control.ctprim
+    (omega (arith, ints)) (omega (arith, ints))) in
     let r = back (neg_ℤ (pos (1000 * 1_000_000_000))) (pos (1000 * 1_000_000_000)) s.r c.requires.control.r (omega (arith, ints)) (omega (arith, ints)) in
     let x = back (neg_ℤ (pos (1000 * 1_000_000_000))) (pos (1000 * 1_000_000_000)) s.x c.requires.control.x (omega (arith, ints)) (omega (arith, ints)) in
     λ i. record {
@@ -64,10 +76,18 @@ returns-clause-probe c =
 pub returns-clause-settings : goal.returns-clause-settings
 returns-clause-settings c =
     let s = c.args.control.now in
-    let vreg = c.natural.ensures ∙ ap nat_abs (back (pos (1 * 1_000_000_000)) (pos (1_000_000 * 1_000_000_000)) s.vreg c.requires.control.vreg (omega (arith, ints)) (omega (arith, ints))) in
-    let band = c.natural-2.ensures ∙ ap nat_abs (back (pos 1_000_000) (pos (1000 * 1_000_000_000)) s.band c.requires.control.band (omega (arith, ints)) (omega (arith, ints))) in
-    let ptratio = c.natural-3.ensures ∙ ap nat_abs (back (pos 1_000_000) (pos (1_000_000 * 1_000_000_000)) s.ptratio c.requires.control.ptratio (omega (arith, ints)) (omega (arith, ints))) in
-    let ctprim = c.natural-4.ensures ∙ ap nat_abs (back (pos 1_000_000) (pos (1_000_000 * 1_000_000_000)) s.ctprim c.requires.control.ctprim (omega (arith, ints)) (omega (arith, ints))) in
+    let vreg = c.natural.ensures
+    ∙ ap nat_abs (back (pos (1 * 1_000_000_000)) (pos (1_000_000 * 1_000_000_000)) s.vreg c.requires.control.vreg
+    (omega (arith, ints)) (omega (arith, ints))) in
+    let band = c.natural-2.ensures
+    ∙ ap nat_abs (back (pos 1_000_000) (pos (1000 * 1_000_000_000)) s.band c.requires.control.band
+    (omega (arith, ints)) (omega (arith, ints))) in
+    let ptratio = c.natural-3.ensures
+    ∙ ap nat_abs (back (pos 1_000_000) (pos (1_000_000 * 1_000_000_000)) s.ptratio c.requires.control.ptratio
+    (omega (arith, ints)) (omega (arith, ints))) in
+    let ctprim = c.natural-4.ensures
+    ∙ ap nat_abs (back (pos 1_000_000) (pos (1_000_000 * 1_000_000_000)) s.ctprim c.requires.control.ctprim
+    (omega (arith, ints)) (omega (arith, ints))) in
     let r = back (neg_ℤ (pos (1000 * 1_000_000_000))) (pos (1000 * 1_000_000_000)) s.r c.requires.control.r (omega (arith, ints)) (omega (arith, ints)) in
     let x = back (neg_ℤ (pos (1000 * 1_000_000_000))) (pos (1000 * 1_000_000_000)) s.x c.requires.control.x (omega (arith, ints)) (omega (arith, ints)) in
     let vreg_in = size_between (1 * 1_000_000_000) (1_000_000 * 1_000_000_000) s.vreg c.requires.control.vreg in
@@ -94,4 +114,6 @@ returns-clause-settings c =
     }
 
 pub returns-clause-places : goal.returns-clause-places
-returns-clause-places c = λ n places h. reg_places c.args.control.now c.args.xfmr.now c.args.at.now c.args.transformer n places _ (returns-clause-probe c) (returns-clause-settings c) c.requires.phase h
+returns-clause-places c = λ n places h.
+    reg_places c.args.control.now c.args.xfmr.now c.args.at.now c.args.transformer n places _ (returns-clause-probe c)
+    (returns-clause-settings c) c.requires.phase h

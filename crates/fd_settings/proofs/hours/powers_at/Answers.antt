@@ -12,13 +12,21 @@ pub add_powers-requires : goal.add_powers-requires
 add_powers-requires c =
     let entries = c.as_slice-entries.ensures.entries ∙ c.elements.ensures.entries in
     let here = ap (λ es. slice_get es c.loop-place.place) (sym entries) ∙ sym c.get_index.ensures.entry ∙ ap (option_map deref_pair) c.unwrap.ensures in
-    record { range = all_at (λ (e : ElementName × Element). ElementInRange e.1) c.args.circuit.now.elements c.loop-place.place _ c.elements.ensures.in_range here }
+    record {
+      range = all_at (λ (e : ElementName × Element). ElementInRange e.1) c.args.circuit.now.elements
+          c.loop-place.place _ c.elements.ensures.in_range here;
+    }
 
 pub loop-place-preserved : goal.loop-place-preserved
 loop-place-preserved c =
     let entries = c.as_slice-entries.ensures.entries ∙ c.elements.ensures.entries in
     let here = ap (λ es. slice_get es c.loop-place.place) (sym entries) ∙ sym c.get_index.ensures.entry ∙ ap (option_map deref_pair) c.unwrap.ensures in
     record {
-      powers = c.in_ok-add_powers.ensures.powers ∙ ap (λ ps. ps ++ element_powers c.args.circuit.now.elements c.args.hour c.unwrap.result.1.now) c.loop-place.invariant.powers ∙ sym (flat_map_at (λ (e : ElementName × Element). element_powers c.args.circuit.now.elements c.args.hour e.1) c.args.circuit.now.elements c.loop-place.place _ here);
+      powers = c.in_ok-add_powers.ensures.powers
+          ∙ ap (λ ps. ps ++ element_powers c.args.circuit.now.elements c.args.hour c.unwrap.result.1.now)
+          c.loop-place.invariant.powers
+          ∙ sym (flat_map_at (λ (e : ElementName × Element).
+          element_powers c.args.circuit.now.elements c.args.hour e.1)
+          c.args.circuit.now.elements c.loop-place.place _ here);
       modest = c.in_ok-add_powers.ensures.modest c.loop-place.invariant.modest;
     }

@@ -12,6 +12,12 @@ loop-place-preserved c =
     let entries = c.as_slice-entries.ensures.entries ∙ c.elements.ensures.entries in
     let here = ap (λ es. slice_get es c.loop-place.place) (sym entries) ∙ sym c.get_index.ensures.entry ∙ ap (option_map deref_pair) c.unwrap.ensures in
     record {
-      taps = c.in_ok-add_taps.ensures ∙ ap (λ ts. ts ++ taps_of c.unwrap.result.1.now) c.loop-place.invariant.taps ∙ sym (flat_map_at (λ (e : ElementName × Element). taps_of e.1) c.args.circuit.now.elements c.loop-place.place _ here);
-      closed = c.in_ok-add_state.ensures ∙ ap (λ bs. bs ++ closed_of c.unwrap.result.1.now) c.loop-place.invariant.closed ∙ sym (flat_map_at (λ (e : ElementName × Element). closed_of e.1) c.args.circuit.now.elements c.loop-place.place _ here);
+      taps = c.in_ok-add_taps.ensures
+          ∙ ap (λ ts. ts ++ taps_of c.unwrap.result.1.now) c.loop-place.invariant.taps
+          ∙ sym (flat_map_at (λ (e : ElementName × Element). taps_of e.1) c.args.circuit.now.elements
+          c.loop-place.place _ here);
+      closed = c.in_ok-add_state.ensures
+          ∙ ap (λ bs. bs ++ closed_of c.unwrap.result.1.now) c.loop-place.invariant.closed
+          ∙ sym (flat_map_at (λ (e : ElementName × Element). closed_of e.1) c.args.circuit.now.elements
+          c.loop-place.place _ here);
     }

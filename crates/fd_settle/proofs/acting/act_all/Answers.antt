@@ -26,16 +26,22 @@ loop-entry-preserved c =
     let made : map seen c.push.new.self.items ≡ map seen c.loop-entry.acts.items ++ seen c.act-act.result ∷ [] =
     ap (map seen) pushed ∙ map_push seen c.loop-entry.acts.items c.act-act.result in
     record {
-      acting = subst (λ (xs : List Act). IsActing c.args.due.now (c.loop-entry.entry-index + 1) c.args.taps.now c.act-act.new.taps c.args.closed.now c.act-act.new.closed
-          c.args.opened.now c.act-act.new.opened c.args.states.now (set c.loop-entry.states e.control c.act-act.new.self) xs) (sym made)
-          (next_acted c.args.due.now c.loop-entry.entry-index _ c.loop-entry.taps _ _ c.loop-entry.closed _ _ c.loop-entry.opened _ _ c.loop-entry.states _ nothing
-          c.index-states-entry.result c.act-act.new.self (seen c.act-act.result) c.loop-entry.invariant.acting c.loop-entry-test.true c.requires.one_each c.requires.controls
-          c.requires.openings c.act-act.ensures.taps c.act-act.ensures.closed c.act-act.ensures.opened c.act-act.ensures.state c.act-act.ensures.act);
+      acting = subst (λ (xs : List Act).
+          IsActing c.args.due.now (c.loop-entry.entry-index + 1) c.args.taps.now c.act-act.new.taps c.args.closed.now
+          c.act-act.new.closed c.args.opened.now c.act-act.new.opened c.args.states.now
+          (set c.loop-entry.states e.control c.act-act.new.self) xs)
+          (sym made) (next_acted c.args.due.now c.loop-entry.entry-index _ c.loop-entry.taps _ _ c.loop-entry.closed
+          _ _ c.loop-entry.opened _ _ c.loop-entry.states _ nothing c.index-states-entry.result c.act-act.new.self
+          (seen c.act-act.result) c.loop-entry.invariant.acting c.loop-entry-test.true c.requires.one_each
+          c.requires.controls c.requires.openings c.act-act.ensures.taps c.act-act.ensures.closed
+          c.act-act.ensures.opened c.act-act.ensures.state c.act-act.ensures.act);
       capacity = search rules;
     }
 
 pub returns-clause-acts : goal.returns-clause-acts
 returns-clause-acts c = record {
-  machine = λ limit m. all_acted_machine c.args.due.now c.loop-entry.entry-index limit _ _ _ _ _ _ _ _ _ m c.loop-entry.invariant.acting c.loop-entry-test.false;
+  machine = λ limit m.
+      all_acted_machine c.args.due.now c.loop-entry.entry-index limit _ _ _ _ _ _ _ _ _ m
+      c.loop-entry.invariant.acting c.loop-entry-test.false;
   acts = λ limit m. all_acted_acts c.args.due.now c.loop-entry.entry-index limit _ _ _ _ _ _ _ _ _ m c.loop-entry.invariant.acting c.loop-entry-test.false;
 }

@@ -14,8 +14,8 @@ pub react-requires-clause-times : goal.react-requires-clause-times
 react-requires-clause-times c =
     let vs = map decision c.args.verdicts.now in
     let each : length vs ≡ length c.args.verdicts.now = length-map c.args.verdicts.now decision in
-    next_early _ _ vs _ _ _ _ _ c.loop-control.invariant (omega (arith, each, c.loop-control-test.true)) (omega (arith, each, c.requires.each)) c.requires.states c.requires.times
-    c.requires.early c.requires.now
+    next_early _ _ vs _ _ _ _ _ c.loop-control.invariant (omega (arith, each, c.loop-control-test.true))
+    (omega (arith, each, c.requires.each)) c.requires.states c.requires.times c.requires.early c.requires.now
 
 pub react-requires-clause-room : goal.react-requires-clause-room
 react-requires-clause-room c =
@@ -29,7 +29,8 @@ loop-control-preserved c =
     let vs = map decision c.args.verdicts.now in
     let each : length vs ≡ length c.args.verdicts.now = length-map c.args.verdicts.now decision in
     let v = decision (get_or c.args.verdicts.now c.loop-control.control (Raise 0)) in
-    let is : v ≡ get_or vs c.loop-control.control v = sym (get_or-map decision c.args.verdicts.now c.loop-control.control (Raise 0) v c.loop-control-test.true) in
+    let is : v ≡ get_or vs c.loop-control.control v =
+    sym (get_or-map decision c.args.verdicts.now c.loop-control.control (Raise 0) v c.loop-control-test.true) in
     let s = get_or c.loop-control.states c.loop-control.control c.index-states-control.result in
     let new : c.react.new.self ≡ with_verdict (get_or vs c.loop-control.control v) s = c.react.ensures.state ∙ ap (λ (d : Decision). with_verdict d s) is in
     let reacts : Reacts s c.loop-control.queue c.react.new.queue c.args.clock.now.now (get_or vs c.loop-control.control v) =

@@ -20,15 +20,17 @@ returns-in-Undecided-clause-sampled c =
     let low : SFits w128 c.in-Undecided.low = search rules in
     let high : SFits w128 c.in-Undecided.high = search rules in
     let edge : SFits w128 c.in-Undecided.edge = search rules in
-    one_unclear c.loop-control.control _ _ _ _ c.loop-control.verdicts.items _ _ c.loop-control-test.true c.index-states-control.is c.in-Undecided.ensures c.loop-control.invariant.sampled
-    ∙ unclear_same _ _ _ _ _ _ _ (to_z-of_z w128 c.in-Undecided.low low) (to_z-of_z w128 c.in-Undecided.high high) (to_z-of_z w128 c.in-Undecided.edge edge)
+    one_unclear c.loop-control.control _ _ _ _ c.loop-control.verdicts.items _ _ c.loop-control-test.true
+    c.index-states-control.is c.in-Undecided.ensures c.loop-control.invariant.sampled
+    ∙ unclear_same _ _ _ _ _ _ _ (to_z-of_z w128 c.in-Undecided.low low) (to_z-of_z w128 c.in-Undecided.high high)
+    (to_z-of_z w128 c.in-Undecided.edge edge)
 
 pub loop-control-preserved : goal.loop-control-preserved
 loop-control-preserved c =
     let pushed : c.push.new.self.items ≡ c.loop-control.verdicts.items ++ c.sample-verdict.result ∷ [] = search rules in
     let decides : is_decided c.sample-verdict.result ≡ true = decided_by _ c.in_default.not-Undecided in
-    let so_far = one_decided c.loop-control.control _ _ _ _ c.loop-control.verdicts.items _ _ c.loop-control-test.true c.index-states-control.is c.sample-verdict.ensures decides
-    c.loop-control.invariant.sampled in
+    let so_far = one_decided c.loop-control.control _ _ _ _ c.loop-control.verdicts.items _ _ c.loop-control-test.true
+    c.index-states-control.is c.sample-verdict.ensures decides c.loop-control.invariant.sampled in
     record {
       sampled = rw pushed so_far;
       decided = rw pushed (push_decided _ _ c.loop-control.invariant.decided decides);

@@ -12,8 +12,11 @@ use Rattle.fd_settle.proofs.settling.settle.Goals as goal
 
 pub loop-certified-init : goal.loop-certified-init
 loop-certified-init g c = record {
-  underway = underway_first (λ v. g.V.Solver.gives v (limits_of c.args.circuit.now.options)) c.args.circuit.now c.args.powers.now.loads c.args.solver.now c.args.rounds.now.items c.args.rounds.now.items c.args.at.now c.args.clock.now c.in_ok-controls.controls refl c.requires.positions c.requires.clock
-      c.in_ok-controls.ensures.probes c.in_ok-controls.ensures.limit (c.in_ok-controls.ensures.machine c.args.at.now) (c.in_ok-controls.ensures.controls c.args.at.now c.args.powers.now.loads c.requires.positions);
+  underway = underway_first (λ v. g.V.Solver.gives v (limits_of c.args.circuit.now.options)) c.args.circuit.now
+      c.args.powers.now.loads c.args.solver.now c.args.rounds.now.items c.args.rounds.now.items c.args.at.now
+      c.args.clock.now c.in_ok-controls.controls refl c.requires.positions c.requires.clock
+      c.in_ok-controls.ensures.probes c.in_ok-controls.ensures.limit (c.in_ok-controls.ensures.machine c.args.at.now)
+      (c.in_ok-controls.ensures.controls c.args.at.now c.args.powers.now.loads c.requires.positions);
   network = c.requires.network;
   numbers = c.in_ok-controls.ensures.numbers;
 }
@@ -22,22 +25,62 @@ pub returns-in-Err : goal.returns-in-Err
 returns-in-Err g c =
     let limits : c.limits_of-limits.result ≡ limits_of c.args.circuit.now.options = c.limits_of-limits.ensures.limits ∙ ap limits_of c.options.ensures.value in
     let gave = subst (λ k. g.V.Solver.gives c.loop-certified.solver k c.rows.result (Err c.in-Err.fault) c.solve.new.self) limits c.in-Err.ensures.gives in
-    let o = over_solver (λ v. g.V.Solver.gives v (limits_of c.args.circuit.now.options)) c.args.circuit.now c.args.powers.now c.args.at.now c.args.clock.now c.args.solver.now c.args.rounds.now.items c.loop-certified.rounds.items c.loop-certified.at c.loop-certified.clock c.loop-certified.controls c.loop-certified.net c.loop-certified.solver c.loop-certified.invariant.underway c.loop-certified.invariant.network c.rows.result c.in-Err.fault c.solve.new.self c.rows.ensures gave in
-    record { kept = o.kept; acts = o.acts; at = o.at; opened = o.opened; now = o.now; ends = o.ends; calls = o.calls; sound = o.sound; positions = o.positions; clock = o.clock; built = c.loop-certified.invariant.network.built }
+    let o = over_solver (λ v. g.V.Solver.gives v (limits_of c.args.circuit.now.options)) c.args.circuit.now
+    c.args.powers.now c.args.at.now c.args.clock.now c.args.solver.now c.args.rounds.now.items
+    c.loop-certified.rounds.items c.loop-certified.at c.loop-certified.clock c.loop-certified.controls
+    c.loop-certified.net c.loop-certified.solver c.loop-certified.invariant.underway
+    c.loop-certified.invariant.network c.rows.result c.in-Err.fault c.solve.new.self c.rows.ensures gave in
+    record {
+      kept = o.kept;
+      acts = o.acts;
+      at = o.at;
+      opened = o.opened;
+      now = o.now;
+      ends = o.ends;
+      calls = o.calls;
+      sound = o.sound;
+      positions = o.positions;
+      clock = o.clock;
+      built = c.loop-certified.invariant.network.built;
+    }
 
 pub returns-in_err-acts : goal.returns-in_err-acts
 returns-in_err-acts g c =
     let limits : c.limits_of-limits.result ≡ limits_of c.args.circuit.now.options = c.limits_of-limits.ensures.limits ∙ ap limits_of c.options.ensures.value in
-    let gave = subst (λ k. g.V.Solver.gives c.loop-certified.solver k c.rows.result (Ok (claim_in c.in-Ok.certified)) c.solve.new.self) limits c.in-Ok.ensures.gives in
+    let gave = subst (λ k.
+    g.V.Solver.gives c.loop-certified.solver k c.rows.result (Ok (claim_in c.in-Ok.certified)) c.solve.new.self)
+    limits c.in-Ok.ensures.gives in
     let kept : c.loop-certified.rounds.items ≡ c.room_for_round.new.rounds.items = sym {A = List Round} c.room_for_round.ensures.kept in
-    let here = subst (λ (rs : List Round). IsUnderway (λ v. g.V.Solver.gives v (limits_of c.args.circuit.now.options)) c.args.circuit.now c.args.powers.now.loads c.args.solver.now (begun c.args.circuit.now c.args.at.now c.args.clock.now) c.args.rounds.now.items rs Open c.loop-certified.at c.loop-certified.clock c.loop-certified.controls c.loop-certified.solver) kept c.loop-certified.invariant.underway in
+    let here = subst (λ (rs : List Round). IsUnderway (λ v. g.V.Solver.gives v (limits_of c.args.circuit.now.options))
+    c.args.circuit.now c.args.powers.now.loads c.args.solver.now
+    (begun c.args.circuit.now c.args.at.now c.args.clock.now) c.args.rounds.now.items rs Open c.loop-certified.at
+    c.loop-certified.clock c.loop-certified.controls c.loop-certified.solver)
+    kept c.loop-certified.invariant.underway in
     let p = err_from_is_err_and c.from_residual-in_err-acts.result c.from_residual-in_err-acts.ensures.1 in
-    let o = over_memory (λ v. g.V.Solver.gives v (limits_of c.args.circuit.now.options)) c.args.circuit.now c.args.powers.now c.args.at.now c.args.clock.now c.args.solver.now c.args.rounds.now.items c.room_for_round.new.rounds.items c.loop-certified.at c.loop-certified.clock c.loop-certified.controls c.loop-certified.net c.loop-certified.solver here c.loop-certified.invariant.network c.rows.result (claim_in c.in-Ok.certified) c.solve.new.self c.from_residual-in_err-acts.result c.rows.ensures gave (p.1 ∙ ap Err p.2) in
-    record { kept = o.kept; acts = o.acts; at = o.at; opened = o.opened; now = o.now; ends = o.ends; calls = o.calls; sound = o.sound; positions = o.positions; clock = o.clock; built = c.loop-certified.invariant.network.built }
+    let o =
+    over_memory (λ v. g.V.Solver.gives v (limits_of c.args.circuit.now.options)) c.args.circuit.now c.args.powers.now
+    c.args.at.now c.args.clock.now c.args.solver.now c.args.rounds.now.items c.room_for_round.new.rounds.items
+    c.loop-certified.at c.loop-certified.clock c.loop-certified.controls c.loop-certified.net c.loop-certified.solver
+    here c.loop-certified.invariant.network c.rows.result (claim_in c.in-Ok.certified) c.solve.new.self
+    c.from_residual-in_err-acts.result c.rows.ensures gave (p.1 ∙ ap Err p.2) in
+    record {
+      kept = o.kept;
+      acts = o.acts;
+      at = o.at;
+      opened = o.opened;
+      now = o.now;
+      ends = o.ends;
+      calls = o.calls;
+      sound = o.sound;
+      positions = o.positions;
+      clock = o.clock;
+      built = c.loop-certified.invariant.network.built;
+    }
 
 pub step-progress-requires-clause-controls : goal.step-progress-requires-clause-controls
 step-progress-requires-clause-controls g c =
-    let long = centre_long c.args.circuit.now c.args.powers.now.loads (positions_in c.loop-certified.at) c.rows.result c.in-Ok.certified (c.rows.ensures ∙ c.loop-certified.invariant.network.rows) c.in-Ok.ensures.sound in
+    let long = centre_long c.args.circuit.now c.args.powers.now.loads (positions_in c.loop-certified.at) c.rows.result
+    c.in-Ok.certified (c.rows.ensures ∙ c.loop-certified.invariant.network.rows) c.in-Ok.ensures.sound in
     subst (λ k. AreControls k c.loop-certified.at c.loop-certified.clock c.loop-certified.controls) (sym long) c.loop-certified.invariant.underway.keeps
 
 pub step-progress-requires-clause-numbers : goal.step-progress-requires-clause-numbers
@@ -49,10 +92,19 @@ step-progress-requires-clause-ball g c = ball_of c.rows.result c.in-Ok.certified
 pub returns-in-Some : goal.returns-in-Some
 returns-in-Some g c =
     let limits : c.limits_of-limits.result ≡ limits_of c.args.circuit.now.options = c.limits_of-limits.ensures.limits ∙ ap limits_of c.options.ensures.value in
-    let gave = subst (λ k. g.V.Solver.gives c.loop-certified.solver k c.rows.result (Ok (claim_in c.in-Ok.certified)) c.solve.new.self) limits c.in-Ok.ensures.gives in
+    let gave = subst (λ k.
+    g.V.Solver.gives c.loop-certified.solver k c.rows.result (Ok (claim_in c.in-Ok.certified)) c.solve.new.self)
+    limits c.in-Ok.ensures.gives in
     let kept : c.loop-certified.rounds.items ≡ c.room_for_round.new.rounds.items = sym {A = List Round} c.room_for_round.ensures.kept in
-    let here = subst (λ (rs : List Round). IsUnderway (λ v. g.V.Solver.gives v (limits_of c.args.circuit.now.options)) c.args.circuit.now c.args.powers.now.loads c.args.solver.now (begun c.args.circuit.now c.args.at.now c.args.clock.now) c.args.rounds.now.items rs Open c.loop-certified.at c.loop-certified.clock c.loop-certified.controls c.loop-certified.solver) kept c.loop-certified.invariant.underway in
-    let step : IsStep c.loop-certified.at c.loop-certified.clock c.loop-certified.controls c.in-Ok.certified c.step-progress.result c.step-progress.new.acts.items c.step-progress.new.at c.step-progress.new.clock c.step-progress.new.self = record {
+    let here = subst (λ (rs : List Round). IsUnderway (λ v. g.V.Solver.gives v (limits_of c.args.circuit.now.options))
+    c.args.circuit.now c.args.powers.now.loads c.args.solver.now
+    (begun c.args.circuit.now c.args.at.now c.args.clock.now) c.args.rounds.now.items rs Open c.loop-certified.at
+    c.loop-certified.clock c.loop-certified.controls c.loop-certified.solver)
+    kept c.loop-certified.invariant.underway in
+    let step : IsStep c.loop-certified.at c.loop-certified.clock c.loop-certified.controls c.in-Ok.certified
+    c.step-progress.result c.step-progress.new.acts.items c.step-progress.new.at c.step-progress.new.clock
+    c.step-progress.new.self =
+    record {
       probes = c.step-progress.ensures.probes;
       limit = c.step-progress.ensures.limit;
       round = c.step-progress.ensures.round;
@@ -62,16 +114,43 @@ returns-in-Some g c =
       closed = c.step-progress.ensures.closed;
       time = c.step-progress.ensures.time;
     } in
-    let new : c.push.new.self.items ≡ c.room_for_round.new.rounds.items ++ (record { certified = c.in-Ok.certified; acts = c.step-progress.new.acts }) ∷ [] = search rules in
-    let after = underway_more (λ v. g.V.Solver.gives v (limits_of c.args.circuit.now.options)) c.args.circuit.now c.args.powers.now c.args.at.now c.args.clock.now c.args.solver.now c.args.rounds.now.items c.room_for_round.new.rounds.items c.loop-certified.at c.loop-certified.clock c.loop-certified.controls c.loop-certified.net c.loop-certified.solver here c.loop-certified.invariant.network c.size-size.ensures.valid.network
-    c.rows.result (record { certified = c.in-Ok.certified; acts = c.step-progress.new.acts }) c.solve.new.self c.push.new.self.items c.step-progress.result c.step-progress.new.at c.step-progress.new.clock c.step-progress.new.self c.rows.ensures gave c.in-Ok.ensures.sound new step in
-    let o = over_told (λ v. g.V.Solver.gives v (limits_of c.args.circuit.now.options)) c.args.circuit.now c.args.powers.now c.args.at.now c.args.clock.now c.args.solver.now c.args.rounds.now.items c.push.new.self.items c.step-progress.new.at c.step-progress.new.clock c.step-progress.new.self c.solve.new.self c.step-progress.result c.in-Some.end c.step-progress.new.acts.items after (sym c.in-Some.ensures) c.step-progress.ensures.acts in
-    record { kept = o.kept; acts = o.acts; at = o.at; opened = o.opened; now = o.now; ends = o.ends; calls = o.calls; sound = o.sound; positions = o.positions; clock = o.clock; built = c.loop-certified.invariant.network.built }
+    let new : c.push.new.self.items
+    ≡ c.room_for_round.new.rounds.items
+    ++ (record { certified = c.in-Ok.certified; acts = c.step-progress.new.acts }) ∷ [] =
+    search rules in
+    let after = underway_more (λ v. g.V.Solver.gives v (limits_of c.args.circuit.now.options)) c.args.circuit.now
+    c.args.powers.now c.args.at.now c.args.clock.now c.args.solver.now c.args.rounds.now.items
+    c.room_for_round.new.rounds.items c.loop-certified.at c.loop-certified.clock c.loop-certified.controls
+    c.loop-certified.net c.loop-certified.solver here c.loop-certified.invariant.network
+    c.size-size.ensures.valid.network c.rows.result (record {
+      certified = c.in-Ok.certified;
+      acts = c.step-progress.new.acts;
+    }) c.solve.new.self c.push.new.self.items c.step-progress.result c.step-progress.new.at c.step-progress.new.clock
+    c.step-progress.new.self c.rows.ensures gave c.in-Ok.ensures.sound new step in
+    let o = over_told (λ v. g.V.Solver.gives v (limits_of c.args.circuit.now.options)) c.args.circuit.now
+    c.args.powers.now c.args.at.now c.args.clock.now c.args.solver.now c.args.rounds.now.items c.push.new.self.items
+    c.step-progress.new.at c.step-progress.new.clock c.step-progress.new.self c.solve.new.self c.step-progress.result
+    c.in-Some.end c.step-progress.new.acts.items after (sym c.in-Some.ensures) c.step-progress.ensures.acts in
+    record {
+      kept = o.kept;
+      acts = o.acts;
+      at = o.at;
+      opened = o.opened;
+      now = o.now;
+      ends = o.ends;
+      calls = o.calls;
+      sound = o.sound;
+      positions = o.positions;
+      clock = o.clock;
+      built = c.loop-certified.invariant.network.built;
+    }
 
 pub update-requires-clause-settings : goal.update-requires-clause-settings
 update-requires-clause-settings g c =
-    (stepped_positions c.args.circuit.now c.args.powers.now.loads (length c.in-Ok.certified.ball.centre.items) c.loop-certified.at c.step-progress.new.at c.step-progress.new.clock c.step-progress.new.self
-    c.loop-certified.invariant.underway.left.positions c.step-progress.ensures.controls c.step-progress.ensures.taps c.step-progress.ensures.closed).counts
+    (stepped_positions c.args.circuit.now c.args.powers.now.loads (length c.in-Ok.certified.ball.centre.items)
+    c.loop-certified.at c.step-progress.new.at c.step-progress.new.clock c.step-progress.new.self
+    c.loop-certified.invariant.underway.left.positions c.step-progress.ensures.controls c.step-progress.ensures.taps
+    c.step-progress.ensures.closed).counts
 
 pub update-requires-clause-within : goal.update-requires-clause-within
 update-requires-clause-within g c = c.step-progress.ensures.controls.taps
@@ -81,7 +160,10 @@ update-requires-clause-built g c = c.loop-certified.invariant.network.built
 
 pub loop-certified-smaller : goal.loop-certified-smaller
 loop-certified-smaller g c =
-    let step : IsStep c.loop-certified.at c.loop-certified.clock c.loop-certified.controls c.in-Ok.certified c.step-progress.result c.step-progress.new.acts.items c.step-progress.new.at c.step-progress.new.clock c.step-progress.new.self = record {
+    let step : IsStep c.loop-certified.at c.loop-certified.clock c.loop-certified.controls c.in-Ok.certified
+    c.step-progress.result c.step-progress.new.acts.items c.step-progress.new.at c.step-progress.new.clock
+    c.step-progress.new.self =
+    record {
       probes = c.step-progress.ensures.probes;
       limit = c.step-progress.ensures.limit;
       round = c.step-progress.ensures.round;
@@ -92,16 +174,27 @@ loop-certified-smaller g c =
       time = c.step-progress.ensures.time;
     } in
     let moved = goes_on {F = g.row.V-Fault.Denot} c.step-progress.result (no_end _ c.ended.result c.ended.ensures c.in_default.not-Some) in
-    fewer_left c.count_law.ensures c.loop-certified.at c.step-progress.new.at c.loop-certified.clock c.step-progress.new.clock c.loop-certified.controls c.step-progress.new.self c.in-Ok.certified c.step-progress.result c.step-progress.new.acts.items
-    c.args.circuit.now.options.maxcontroliter step moved c.loop-certified.invariant.underway.limit
+    fewer_left c.count_law.ensures c.loop-certified.at c.step-progress.new.at c.loop-certified.clock
+    c.step-progress.new.clock c.loop-certified.controls c.step-progress.new.self c.in-Ok.certified
+    c.step-progress.result c.step-progress.new.acts.items c.args.circuit.now.options.maxcontroliter step moved
+    c.loop-certified.invariant.underway.limit
 
 pub loop-certified-preserved : goal.loop-certified-preserved
 loop-certified-preserved g c =
     let limits : c.limits_of-limits.result ≡ limits_of c.args.circuit.now.options = c.limits_of-limits.ensures.limits ∙ ap limits_of c.options.ensures.value in
-    let gave = subst (λ k. g.V.Solver.gives c.loop-certified.solver k c.rows.result (Ok (claim_in c.in-Ok.certified)) c.solve.new.self) limits c.in-Ok.ensures.gives in
+    let gave = subst (λ k.
+    g.V.Solver.gives c.loop-certified.solver k c.rows.result (Ok (claim_in c.in-Ok.certified)) c.solve.new.self)
+    limits c.in-Ok.ensures.gives in
     let kept : c.loop-certified.rounds.items ≡ c.room_for_round.new.rounds.items = sym {A = List Round} c.room_for_round.ensures.kept in
-    let here = subst (λ (rs : List Round). IsUnderway (λ v. g.V.Solver.gives v (limits_of c.args.circuit.now.options)) c.args.circuit.now c.args.powers.now.loads c.args.solver.now (begun c.args.circuit.now c.args.at.now c.args.clock.now) c.args.rounds.now.items rs Open c.loop-certified.at c.loop-certified.clock c.loop-certified.controls c.loop-certified.solver) kept c.loop-certified.invariant.underway in
-    let step : IsStep c.loop-certified.at c.loop-certified.clock c.loop-certified.controls c.in-Ok.certified c.step-progress.result c.step-progress.new.acts.items c.step-progress.new.at c.step-progress.new.clock c.step-progress.new.self = record {
+    let here = subst (λ (rs : List Round). IsUnderway (λ v. g.V.Solver.gives v (limits_of c.args.circuit.now.options))
+    c.args.circuit.now c.args.powers.now.loads c.args.solver.now
+    (begun c.args.circuit.now c.args.at.now c.args.clock.now) c.args.rounds.now.items rs Open c.loop-certified.at
+    c.loop-certified.clock c.loop-certified.controls c.loop-certified.solver)
+    kept c.loop-certified.invariant.underway in
+    let step : IsStep c.loop-certified.at c.loop-certified.clock c.loop-certified.controls c.in-Ok.certified
+    c.step-progress.result c.step-progress.new.acts.items c.step-progress.new.at c.step-progress.new.clock
+    c.step-progress.new.self =
+    record {
       probes = c.step-progress.ensures.probes;
       limit = c.step-progress.ensures.limit;
       round = c.step-progress.ensures.round;
@@ -111,24 +204,49 @@ loop-certified-preserved g c =
       closed = c.step-progress.ensures.closed;
       time = c.step-progress.ensures.time;
     } in
-    let new : c.push.new.self.items ≡ c.room_for_round.new.rounds.items ++ (record { certified = c.in-Ok.certified; acts = c.step-progress.new.acts }) ∷ [] = search rules in
-    let after = underway_more (λ v. g.V.Solver.gives v (limits_of c.args.circuit.now.options)) c.args.circuit.now c.args.powers.now c.args.at.now c.args.clock.now c.args.solver.now c.args.rounds.now.items c.room_for_round.new.rounds.items c.loop-certified.at c.loop-certified.clock c.loop-certified.controls c.loop-certified.net c.loop-certified.solver here c.loop-certified.invariant.network c.size-size.ensures.valid.network
-    c.rows.result (record { certified = c.in-Ok.certified; acts = c.step-progress.new.acts }) c.solve.new.self c.push.new.self.items c.step-progress.result c.step-progress.new.at c.step-progress.new.clock c.step-progress.new.self c.rows.ensures gave c.in-Ok.ensures.sound new step in
+    let new : c.push.new.self.items
+    ≡ c.room_for_round.new.rounds.items
+    ++ (record { certified = c.in-Ok.certified; acts = c.step-progress.new.acts }) ∷ [] =
+    search rules in
+    let after = underway_more (λ v. g.V.Solver.gives v (limits_of c.args.circuit.now.options)) c.args.circuit.now
+    c.args.powers.now c.args.at.now c.args.clock.now c.args.solver.now c.args.rounds.now.items
+    c.room_for_round.new.rounds.items c.loop-certified.at c.loop-certified.clock c.loop-certified.controls
+    c.loop-certified.net c.loop-certified.solver here c.loop-certified.invariant.network
+    c.size-size.ensures.valid.network c.rows.result (record {
+      certified = c.in-Ok.certified;
+      acts = c.step-progress.new.acts;
+    }) c.solve.new.self c.push.new.self.items c.step-progress.result c.step-progress.new.at c.step-progress.new.clock
+    c.step-progress.new.self c.rows.ensures gave c.in-Ok.ensures.sound new step in
     let moved = goes_on {F = g.row.V-Fault.Denot} c.step-progress.result (no_end _ c.ended.result c.ended.ensures c.in_default.not-Some) in
-    let open' = subst (λ (q : Progress). IsUnderway (λ v. g.V.Solver.gives v (limits_of c.args.circuit.now.options)) c.args.circuit.now c.args.powers.now.loads c.args.solver.now (begun c.args.circuit.now c.args.at.now c.args.clock.now) c.args.rounds.now.items c.push.new.self.items (end_by q) c.step-progress.new.at c.step-progress.new.clock c.step-progress.new.self c.solve.new.self) moved after in
+    let open' = subst (λ (q : Progress). IsUnderway (λ v. g.V.Solver.gives v (limits_of c.args.circuit.now.options))
+    c.args.circuit.now c.args.powers.now.loads c.args.solver.now
+    (begun c.args.circuit.now c.args.at.now c.args.clock.now) c.args.rounds.now.items c.push.new.self.items
+    (end_by q) c.step-progress.new.at c.step-progress.new.clock c.step-progress.new.self c.solve.new.self)
+    moved after in
     record {
       underway = open';
-      network = updated c.args.circuit.now c.args.powers.now c.step-progress.new.at c.update.new.self c.update.ensures.built c.in_ok-update.ensures.network c.in_ok-update.ensures.no_blame c.in_ok-update.ensures.agrees;
+      network =
+          updated c.args.circuit.now c.args.powers.now c.step-progress.new.at c.update.new.self c.update.ensures.built
+          c.in_ok-update.ensures.network c.in_ok-update.ensures.no_blame c.in_ok-update.ensures.agrees;
       numbers = numbers_kept c.step-progress.result (HasNumbers c.step-progress.new.self) moved c.step-progress.ensures.numbers;
     }
 
 pub returns-in_err-update : goal.returns-in_err-update
 returns-in_err-update g c =
     let limits : c.limits_of-limits.result ≡ limits_of c.args.circuit.now.options = c.limits_of-limits.ensures.limits ∙ ap limits_of c.options.ensures.value in
-    let gave = subst (λ k. g.V.Solver.gives c.loop-certified.solver k c.rows.result (Ok (claim_in c.in-Ok.certified)) c.solve.new.self) limits c.in-Ok.ensures.gives in
+    let gave = subst (λ k.
+    g.V.Solver.gives c.loop-certified.solver k c.rows.result (Ok (claim_in c.in-Ok.certified)) c.solve.new.self)
+    limits c.in-Ok.ensures.gives in
     let kept : c.loop-certified.rounds.items ≡ c.room_for_round.new.rounds.items = sym {A = List Round} c.room_for_round.ensures.kept in
-    let here = subst (λ (rs : List Round). IsUnderway (λ v. g.V.Solver.gives v (limits_of c.args.circuit.now.options)) c.args.circuit.now c.args.powers.now.loads c.args.solver.now (begun c.args.circuit.now c.args.at.now c.args.clock.now) c.args.rounds.now.items rs Open c.loop-certified.at c.loop-certified.clock c.loop-certified.controls c.loop-certified.solver) kept c.loop-certified.invariant.underway in
-    let step : IsStep c.loop-certified.at c.loop-certified.clock c.loop-certified.controls c.in-Ok.certified c.step-progress.result c.step-progress.new.acts.items c.step-progress.new.at c.step-progress.new.clock c.step-progress.new.self = record {
+    let here = subst (λ (rs : List Round). IsUnderway (λ v. g.V.Solver.gives v (limits_of c.args.circuit.now.options))
+    c.args.circuit.now c.args.powers.now.loads c.args.solver.now
+    (begun c.args.circuit.now c.args.at.now c.args.clock.now) c.args.rounds.now.items rs Open c.loop-certified.at
+    c.loop-certified.clock c.loop-certified.controls c.loop-certified.solver)
+    kept c.loop-certified.invariant.underway in
+    let step : IsStep c.loop-certified.at c.loop-certified.clock c.loop-certified.controls c.in-Ok.certified
+    c.step-progress.result c.step-progress.new.acts.items c.step-progress.new.at c.step-progress.new.clock
+    c.step-progress.new.self =
+    record {
       probes = c.step-progress.ensures.probes;
       limit = c.step-progress.ensures.limit;
       round = c.step-progress.ensures.round;
@@ -138,11 +256,41 @@ returns-in_err-update g c =
       closed = c.step-progress.ensures.closed;
       time = c.step-progress.ensures.time;
     } in
-    let new : c.push.new.self.items ≡ c.room_for_round.new.rounds.items ++ (record { certified = c.in-Ok.certified; acts = c.step-progress.new.acts }) ∷ [] = search rules in
-    let after = underway_more (λ v. g.V.Solver.gives v (limits_of c.args.circuit.now.options)) c.args.circuit.now c.args.powers.now c.args.at.now c.args.clock.now c.args.solver.now c.args.rounds.now.items c.room_for_round.new.rounds.items c.loop-certified.at c.loop-certified.clock c.loop-certified.controls c.loop-certified.net c.loop-certified.solver here c.loop-certified.invariant.network c.size-size.ensures.valid.network
-    c.rows.result (record { certified = c.in-Ok.certified; acts = c.step-progress.new.acts }) c.solve.new.self c.push.new.self.items c.step-progress.result c.step-progress.new.at c.step-progress.new.clock c.step-progress.new.self c.rows.ensures gave c.in-Ok.ensures.sound new step in
+    let new : c.push.new.self.items
+    ≡ c.room_for_round.new.rounds.items
+    ++ (record { certified = c.in-Ok.certified; acts = c.step-progress.new.acts }) ∷ [] =
+    search rules in
+    let after = underway_more (λ v. g.V.Solver.gives v (limits_of c.args.circuit.now.options)) c.args.circuit.now
+    c.args.powers.now c.args.at.now c.args.clock.now c.args.solver.now c.args.rounds.now.items
+    c.room_for_round.new.rounds.items c.loop-certified.at c.loop-certified.clock c.loop-certified.controls
+    c.loop-certified.net c.loop-certified.solver here c.loop-certified.invariant.network
+    c.size-size.ensures.valid.network c.rows.result (record {
+      certified = c.in-Ok.certified;
+      acts = c.step-progress.new.acts;
+    }) c.solve.new.self c.push.new.self.items c.step-progress.result c.step-progress.new.at c.step-progress.new.clock
+    c.step-progress.new.self c.rows.ensures gave c.in-Ok.ensures.sound new step in
     let moved = goes_on {F = g.row.V-Fault.Denot} c.step-progress.result (no_end _ c.ended.result c.ended.ensures c.in_default.not-Some) in
-    let open' = subst (λ (q : Progress). IsUnderway (λ v. g.V.Solver.gives v (limits_of c.args.circuit.now.options)) c.args.circuit.now c.args.powers.now.loads c.args.solver.now (begun c.args.circuit.now c.args.at.now c.args.clock.now) c.args.rounds.now.items c.push.new.self.items (end_by q) c.step-progress.new.at c.step-progress.new.clock c.step-progress.new.self c.solve.new.self) moved after in
+    let open' = subst (λ (q : Progress). IsUnderway (λ v. g.V.Solver.gives v (limits_of c.args.circuit.now.options))
+    c.args.circuit.now c.args.powers.now.loads c.args.solver.now
+    (begun c.args.circuit.now c.args.at.now c.args.clock.now) c.args.rounds.now.items c.push.new.self.items
+    (end_by q) c.step-progress.new.at c.step-progress.new.clock c.step-progress.new.self c.solve.new.self)
+    moved after in
     let p = err_from_is_err_and c.from_residual-in_err-update.result c.from_residual-in_err-update.ensures.1 in
-    let o = over_refused (λ v. g.V.Solver.gives v (limits_of c.args.circuit.now.options)) c.args.circuit.now c.args.powers.now c.args.at.now c.args.clock.now c.args.solver.now c.args.rounds.now.items c.push.new.self.items c.step-progress.new.at c.step-progress.new.clock c.step-progress.new.self c.solve.new.self c.in_err-update.field-0.0 c.from_residual-in_err-update.result open' c.in_err-update.ensures.fault (p.1 ∙ ap Err p.2) in
-    record { kept = o.kept; acts = o.acts; at = o.at; opened = o.opened; now = o.now; ends = o.ends; calls = o.calls; sound = o.sound; positions = o.positions; clock = o.clock; built = c.update.ensures.built }
+    let o = over_refused (λ v. g.V.Solver.gives v (limits_of c.args.circuit.now.options)) c.args.circuit.now
+    c.args.powers.now c.args.at.now c.args.clock.now c.args.solver.now c.args.rounds.now.items c.push.new.self.items
+    c.step-progress.new.at c.step-progress.new.clock c.step-progress.new.self c.solve.new.self
+    c.in_err-update.field-0.0 c.from_residual-in_err-update.result open' c.in_err-update.ensures.fault
+    (p.1 ∙ ap Err p.2) in
+    record {
+      kept = o.kept;
+      acts = o.acts;
+      at = o.at;
+      opened = o.opened;
+      now = o.now;
+      ends = o.ends;
+      calls = o.calls;
+      sound = o.sound;
+      positions = o.positions;
+      clock = o.clock;
+      built = c.update.ensures.built;
+    }

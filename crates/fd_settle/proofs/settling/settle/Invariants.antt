@@ -9,7 +9,9 @@ use Rattle.fd_settle.proofs.settling.settle.Given as goal
 
 abbrev pub invariant-loop-certified : goal.invariant-loop-certified
 invariant-loop-certified g l = record {
-  underway : IsUnderway (λ v. g.V.Solver.gives v (limits_of l.fn.circuit.options)) l.fn.circuit l.fn.powers.loads l.fn.solver (begun l.fn.circuit l.fn.at l.fn.clock) l.fn.rounds.items l.rounds.items Open l.at l.clock l.controls l.solver;
+  underway :
+      IsUnderway (λ v. g.V.Solver.gives v (limits_of l.fn.circuit.options)) l.fn.circuit l.fn.powers.loads l.fn.solver
+      (begun l.fn.circuit l.fn.at l.fn.clock) l.fn.rounds.items l.rounds.items Open l.at l.clock l.controls l.solver;
   network : IsNetworkAt l.fn.circuit l.fn.powers.loads (positions_in l.at) l.net;
   numbers : HasNumbers l.controls;
 }

@@ -23,6 +23,7 @@ loop-number-preserved c =
     let left = rw found at c.in_ok-next_record.ensures.left in
     let value : first_number (fields_of c.next_record.new.row) ≡ Some c.in-Some.value = sym c.in-Some.ensures.value in (
       c.in_ok-next_record.ensures.plain found,
-      rw items (inv.1 ∙ ap (λ rows. after c.loop-number.values.items (column_from c.loop-number.number rows)) left ∙ after_some c.loop-number.number c.loop-number.values.items _ _ c.in-Some.value value),
+      rw items (inv.1 ∙ ap (λ rows. after c.loop-number.values.items (column_from c.loop-number.number rows)) left
+          ∙ after_some c.loop-number.number c.loop-number.values.items _ _ c.in-Some.value value),
       rw items (sizes_after c.loop-number.values.items c.in-Some.value inv.2 c.in-Some.ensures.size),
     )

@@ -14,7 +14,8 @@ unwrap-requires c =
     let n = to_z_pos w128 c.args.n (omega (arith, c.requires.number)) in
     let d = to_z_pos w128 c.args.d (omega (arith, c.requires.divisor)) in
     let k : c.ceil_at.result ≡ Some (pos (at_scale c.args.n c.args.d)) =
-    c.ceil_at.ensures ∙ (λ i. bounded (ceil_div (n i *ℤ pos (2 ^ 40)) (nat_abs (d i)))) ∙ quotient_some c.args.n c.args.d c.requires.positive c.requires.small in
+    c.ceil_at.ensures ∙ (λ i. bounded (ceil_div (n i *ℤ pos (2 ^ 40)) (nat_abs (d i))))
+    ∙ quotient_some c.args.n c.args.d c.requires.positive c.requires.small in
     rw k (search rules)
 
 value : (c : After-unwrap) → nat_abs (to_z w128 (of_z w128 c.unwrap.result)) ≡ at_scale c.args.n c.args.d
@@ -22,7 +23,8 @@ value c =
     let n = to_z_pos w128 c.args.n (omega (arith, c.requires.number)) in
     let d = to_z_pos w128 c.args.d (omega (arith, c.requires.divisor)) in
     let k : c.ceil_at.result ≡ Some (pos (at_scale c.args.n c.args.d)) =
-    c.ceil_at.ensures ∙ (λ i. bounded (ceil_div (n i *ℤ pos (2 ^ 40)) (nat_abs (d i)))) ∙ quotient_some c.args.n c.args.d c.requires.positive c.requires.small in
+    c.ceil_at.ensures ∙ (λ i. bounded (ceil_div (n i *ℤ pos (2 ^ 40)) (nat_abs (d i))))
+    ∙ quotient_some c.args.n c.args.d c.requires.positive c.requires.small in
     let u : c.unwrap.result ≡ pos (at_scale c.args.n c.args.d) = same_value c.unwrap.ensures k in
     let most = ceil_nat_least (c.args.n * 2 ^ 40) c.args.d (2 ^ 99) c.requires.positive c.requires.small in
     ap (λ z. nat_abs (to_z w128 (of_z w128 z))) u ∙ ap nat_abs (read_natural (at_scale c.args.n c.args.d) (omega (arith, most)))

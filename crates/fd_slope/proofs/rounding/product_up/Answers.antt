@@ -14,9 +14,14 @@ found : (c : After-ends)
 found c =
     let x = to_z_pos w128 c.args.x (omega (arith, c.requires.first)) in
     let y = to_z_pos w128 c.args.y (omega (arith, c.requires.second)) in
-    let px : c.point.result ≡ Some (pos c.args.x, pos c.args.x) = c.point.ensures ∙ (λ i. capped (x i) (x i)) ∙ point_is c.args.x (omega (arith, c.requires.first)) in
-    let py : c.point-factor.result ≡ Some (pos c.args.y, pos c.args.y) = c.point-factor.ensures ∙ (λ i. capped (y i) (y i)) ∙ point_is c.args.y (omega (arith, c.requires.second)) in
-    c.ends.ensures.ends ∙ c.mul-product.ensures.ends ∙ (λ i. product (px i) (py i)) ∙ product_is c.args.x c.args.y (product_most c.args.x c.args.y c.requires.first c.requires.second)
+    let px : c.point.result ≡ Some (pos c.args.x, pos c.args.x) =
+    c.point.ensures ∙ (λ i. capped (x i) (x i)) ∙ point_is c.args.x (omega (arith, c.requires.first)) in
+    let py : c.point-factor.result ≡ Some (pos c.args.y, pos c.args.y) =
+    c.point-factor.ensures ∙ (λ i. capped (y i) (y i)) ∙ point_is c.args.y (omega (arith, c.requires.second)) in
+    c.ends.ensures.ends
+    ∙ c.mul-product.ensures.ends
+    ∙ (λ i. product (px i) (py i))
+    ∙ product_is c.args.x c.args.y (product_most c.args.x c.args.y c.requires.first c.requires.second)
 
 pub unwrap-high-requires : goal.unwrap-high-requires
 unwrap-high-requires c = rw (found c) (search rules)
@@ -28,10 +33,14 @@ whole : (c : After-struct_told-1) → to_z w128 (of_z w128 c.unwrap-high.result.
 whole c =
     let x = to_z_pos w128 c.args.x (omega (arith, c.requires.first)) in
     let y = to_z_pos w128 c.args.y (omega (arith, c.requires.second)) in
-    let px : c.point.result ≡ Some (pos c.args.x, pos c.args.x) = c.point.ensures ∙ (λ i. capped (x i) (x i)) ∙ point_is c.args.x (omega (arith, c.requires.first)) in
-    let py : c.point-factor.result ≡ Some (pos c.args.y, pos c.args.y) = c.point-factor.ensures ∙ (λ i. capped (y i) (y i)) ∙ point_is c.args.y (omega (arith, c.requires.second)) in
-    let ends : c.ends.result ≡ Some (floor_div (pos (c.args.x * c.args.y)) (2 ^ 40), pos (product_up c.args.x c.args.y)) =
-    c.ends.ensures.ends ∙ c.mul-product.ensures.ends ∙ (λ i. product (px i) (py i)) ∙ product_is c.args.x c.args.y (product_most c.args.x c.args.y c.requires.first c.requires.second) in
+    let px : c.point.result ≡ Some (pos c.args.x, pos c.args.x) =
+    c.point.ensures ∙ (λ i. capped (x i) (x i)) ∙ point_is c.args.x (omega (arith, c.requires.first)) in
+    let py : c.point-factor.result ≡ Some (pos c.args.y, pos c.args.y) =
+    c.point-factor.ensures ∙ (λ i. capped (y i) (y i)) ∙ point_is c.args.y (omega (arith, c.requires.second)) in
+    let ends : c.ends.result
+    ≡ Some (floor_div (pos (c.args.x * c.args.y)) (2 ^ 40), pos (product_up c.args.x c.args.y)) =
+    c.ends.ensures.ends ∙ c.mul-product.ensures.ends ∙ (λ i. product (px i) (py i))
+    ∙ product_is c.args.x c.args.y (product_most c.args.x c.args.y c.requires.first c.requires.second) in
     ap (λ (e : ℤ × ℤ). to_z w128 (of_z w128 e.1)) (same_value c.unwrap-high.ensures ends) ∙ read_natural (product_up c.args.x c.args.y) (most c)
 
 pub overflow_cast-result : goal.overflow_cast-result

@@ -10,4 +10,7 @@ pub returns-in_ok-unsolved-in-Solve-clause-tells : goal.returns-in_ok-unsolved-i
 returns-in_ok-unsolved-in-Solve-clause-tells c v hour same n =
     let told = c.in_ok-unsolved-in-Solve.ensures.tells v hour same n in
     let end = end_failed c.of.result _ c.of.ensures.fault c.of.ensures.tried in
-    rw c.in-Solve.is (λ tried. subst (λ (e : SettleEnd). IsEnding (ending_by_solver (compute.Solve c.in-Solve.fault)) (λ ending. IsEndBy v hour ending n e)) (sym end) told)
+    rw c.in-Solve.is (λ tried.
+    subst (λ (e : SettleEnd).
+    IsEnding (ending_by_solver (compute.Solve c.in-Solve.fault)) (λ ending. IsEndBy v hour ending n e))
+    (sym end) told)

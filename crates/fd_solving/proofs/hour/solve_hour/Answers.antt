@@ -50,8 +50,10 @@ pub failure_of-requires-clause-within : goal.failure_of-requires-clause-within
 failure_of-requires-clause-within c =
     let circuit = c.args.circuit.now in
     let u = c.args.underway.now in
-    within (limits_of circuit.options) circuit (hour_powers circuit.elements (hour_in u.day)) c.new-solver.result (begun_hour circuit c.args.at.now u.day)
-    c.daily_run-ended.new.underway.rounds.items c.in-Err.fault c.daily_run-ended.new.solver c.layout.result.now (c.layout.ensures ∙ c.in-Err.ensures.built.layout) c.in-Err.ensures.calls
+    within (limits_of circuit.options) circuit (hour_powers circuit.elements (hour_in u.day)) c.new-solver.result
+    (begun_hour circuit c.args.at.now u.day) c.daily_run-ended.new.underway.rounds.items c.in-Err.fault
+    c.daily_run-ended.new.solver c.layout.result.now (c.layout.ensures ∙ c.in-Err.ensures.built.layout)
+    c.in-Err.ensures.calls
 
 pub returns-in_ok-failure-in-Err-clause-made : goal.returns-in_ok-failure-in-Err-clause-made
 returns-in_ok-failure-in-Err-clause-made c n number =
@@ -68,7 +70,8 @@ returns-in_ok-failure-in-Err-clause-made c n number =
       at_is = e.at;
       opened_is = e.opened;
       ends = e.ends;
-      computed = computed {T = Unit {0}} (limits_of circuit.options) (plant_at circuit hour) c.new-solver.result m rs (Err c.in-Err.fault) new.solver e.acts e.ends e.calls;
+      computed = computed {T = Unit {0}} (limits_of circuit.options) (plant_at circuit hour) c.new-solver.result m rs
+          (Err c.in-Err.fault) new.solver e.acts e.ends e.calls;
       sound = e.sound;
       positions = of_hour circuit hour (positions_in new.at) new.underway.powers u.powers e.powers c.requires.underway.powers e.positions;
       tried = tried_by_calls (limits_of circuit.options) (plant_at circuit hour) c.new-solver.result m rs (Err c.in-Err.fault) new.solver e.calls;

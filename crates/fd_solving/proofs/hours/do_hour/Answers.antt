@@ -25,8 +25,11 @@ print_failed-requires-clause-printable g c =
     let before = kept_in c.args.at.now day c.args.settled.now in
     let k = kept_in c.solve_hour.new.at c.solve_hour.new.underway.day (c.args.settled.now + 1) in
     let rounds = c.deref.result.now in
-    let told : IsMadeHour circuit (hour_in day) before c.solve_hour.new.underway.rounds.items (Some c.in-Some.failure) k = rw c.in-Some.is at (c.in-Ok.ensures.made c.args.settled.now c.requires.settles) in
-    let made = made_as circuit (hour_in day) h before c.solve_hour.new.underway.rounds.items rounds (Some c.in-Some.failure) k same c.deref.ensures.value told in
+    let told : IsMadeHour circuit (hour_in day) before c.solve_hour.new.underway.rounds.items (Some c.in-Some.failure)
+    k =
+    rw c.in-Some.is at (c.in-Ok.ensures.made c.args.settled.now c.requires.settles) in
+    let made = made_as circuit (hour_in day) h before c.solve_hour.new.underway.rounds.items rounds
+    (Some c.in-Some.failure) k same c.deref.ensures.value told in
     made.printable
 
 pub print_failed-requires-clause-tried : goal.print_failed-requires-clause-tried
@@ -38,8 +41,11 @@ print_failed-requires-clause-tried g c =
     let before = kept_in c.args.at.now day c.args.settled.now in
     let k = kept_in c.solve_hour.new.at c.solve_hour.new.underway.day (c.args.settled.now + 1) in
     let rounds = c.deref.result.now in
-    let told : IsMadeHour circuit (hour_in day) before c.solve_hour.new.underway.rounds.items (Some c.in-Some.failure) k = rw c.in-Some.is at (c.in-Ok.ensures.made c.args.settled.now c.requires.settles) in
-    let made = made_as circuit (hour_in day) h before c.solve_hour.new.underway.rounds.items rounds (Some c.in-Some.failure) k same c.deref.ensures.value told in
+    let told : IsMadeHour circuit (hour_in day) before c.solve_hour.new.underway.rounds.items (Some c.in-Some.failure)
+    k =
+    rw c.in-Some.is at (c.in-Ok.ensures.made c.args.settled.now c.requires.settles) in
+    let made = made_as circuit (hour_in day) h before c.solve_hour.new.underway.rounds.items rounds
+    (Some c.in-Some.failure) k same c.deref.ensures.value told in
     made.tried
 
 pub print_settled-printed-requires-clause-printable : goal.print_settled-printed-requires-clause-printable
@@ -51,7 +57,8 @@ print_settled-printed-requires-clause-printable g c =
     let before = kept_in c.args.at.now day c.args.settled.now in
     let k = kept_in c.solve_hour.new.at c.solve_hour.new.underway.day (c.args.settled.now + 1) in
     let rounds = c.deref.result.now in
-    let told : IsMadeHour circuit (hour_in day) before c.solve_hour.new.underway.rounds.items None k = rw c.in-None.is at (c.in-Ok.ensures.made c.args.settled.now c.requires.settles) in
+    let told : IsMadeHour circuit (hour_in day) before c.solve_hour.new.underway.rounds.items None k =
+    rw c.in-None.is at (c.in-Ok.ensures.made c.args.settled.now c.requires.settles) in
     let made = made_as circuit (hour_in day) h before c.solve_hour.new.underway.rounds.items rounds None k same c.deref.ensures.value told in
     made.printable
 
@@ -64,11 +71,24 @@ returns-in-Some-clause-ends g c =
     let before = kept_in c.args.at.now day c.args.settled.now in
     let k = kept_in c.solve_hour.new.at c.solve_hour.new.underway.day (c.args.settled.now + 1) in
     let rounds = c.deref.result.now in
-    let told : IsMadeHour circuit (hour_in day) before c.solve_hour.new.underway.rounds.items (Some c.in-Some.failure) k = rw c.in-Some.is at (c.in-Ok.ensures.made c.args.settled.now c.requires.settles) in
-    let made = made_as circuit (hour_in day) h before c.solve_hour.new.underway.rounds.items rounds (Some c.in-Some.failure) k same c.deref.ensures.value told in
+    let told : IsMadeHour circuit (hour_in day) before c.solve_hour.new.underway.rounds.items (Some c.in-Some.failure)
+    k =
+    rw c.in-Some.is at (c.in-Ok.ensures.made c.args.settled.now c.requires.settles) in
+    let made = made_as circuit (hour_in day) h before c.solve_hour.new.underway.rounds.items rounds
+    (Some c.in-Some.failure) k same c.deref.ensures.value told in
     let x = settle_made circuit h before rounds (end_by (Some c.in-Some.failure)) (positions_in c.solve_hour.new.at) in
-    subst (λ (n : ℕ). EndsInHour g.P.Page.style g.S.Sink.taken g.S.Sink.calls c.args.out.now c.print_failed.new.out c.args.begun.now circuit n before c.print_failed.result) (sym same)
-    (inr (inr (record { made = x; kept = k; is = made.is; good = made.solved; fault = c.in-Some.failure.fault; ill = fault_end c.in-Some.failure.fault c.in-Some.failure.tried; printed = c.print_failed.ensures.prints before refl })))
+    subst (λ (n : ℕ).
+    EndsInHour g.P.Page.style g.S.Sink.taken g.S.Sink.calls c.args.out.now c.print_failed.new.out c.args.begun.now
+    circuit n before c.print_failed.result)
+    (sym same) (inr (inr (record {
+      made = x;
+      kept = k;
+      is = made.is;
+      good = made.solved;
+      fault = c.in-Some.failure.fault;
+      ill = fault_end c.in-Some.failure.fault c.in-Some.failure.tried;
+      printed = c.print_failed.ensures.prints before refl;
+    })))
 
 pub returns-in-Some-clause-usage : goal.returns-in-Some-clause-usage
 returns-in-Some-clause-usage g c =
@@ -79,9 +99,13 @@ returns-in-Some-clause-usage g c =
     let before = kept_in c.args.at.now day c.args.settled.now in
     let k = kept_in c.solve_hour.new.at c.solve_hour.new.underway.day (c.args.settled.now + 1) in
     let rounds = c.deref.result.now in
-    let told : IsMadeHour circuit (hour_in day) before c.solve_hour.new.underway.rounds.items (Some c.in-Some.failure) k = rw c.in-Some.is at (c.in-Ok.ensures.made c.args.settled.now c.requires.settles) in
-    let made = made_as circuit (hour_in day) h before c.solve_hour.new.underway.rounds.items rounds (Some c.in-Some.failure) k same c.deref.ensures.value told in
-    never_usage g.S.Sink.taken g.S.Sink.calls c.args.out.now c.print_failed.new.out _ c.in-Some.failure.fault c.print_failed.result made.command (c.print_failed.ensures.prints before refl)
+    let told : IsMadeHour circuit (hour_in day) before c.solve_hour.new.underway.rounds.items (Some c.in-Some.failure)
+    k =
+    rw c.in-Some.is at (c.in-Ok.ensures.made c.args.settled.now c.requires.settles) in
+    let made = made_as circuit (hour_in day) h before c.solve_hour.new.underway.rounds.items rounds
+    (Some c.in-Some.failure) k same c.deref.ensures.value told in
+    never_usage g.S.Sink.taken g.S.Sink.calls c.args.out.now c.print_failed.new.out _ c.in-Some.failure.fault
+    c.print_failed.result made.command (c.print_failed.ensures.prints before refl)
 
 pub returns-in-Some-clause-read : goal.returns-in-Some-clause-read
 returns-in-Some-clause-read g c =
@@ -92,9 +116,13 @@ returns-in-Some-clause-read g c =
     let before = kept_in c.args.at.now day c.args.settled.now in
     let k = kept_in c.solve_hour.new.at c.solve_hour.new.underway.day (c.args.settled.now + 1) in
     let rounds = c.deref.result.now in
-    let told : IsMadeHour circuit (hour_in day) before c.solve_hour.new.underway.rounds.items (Some c.in-Some.failure) k = rw c.in-Some.is at (c.in-Ok.ensures.made c.args.settled.now c.requires.settles) in
-    let made = made_as circuit (hour_in day) h before c.solve_hour.new.underway.rounds.items rounds (Some c.in-Some.failure) k same c.deref.ensures.value told in
-    never_read g.S.Sink.taken g.S.Sink.calls c.args.out.now c.print_failed.new.out _ c.in-Some.failure.fault c.print_failed.result made.command (c.print_failed.ensures.prints before refl)
+    let told : IsMadeHour circuit (hour_in day) before c.solve_hour.new.underway.rounds.items (Some c.in-Some.failure)
+    k =
+    rw c.in-Some.is at (c.in-Ok.ensures.made c.args.settled.now c.requires.settles) in
+    let made = made_as circuit (hour_in day) h before c.solve_hour.new.underway.rounds.items rounds
+    (Some c.in-Some.failure) k same c.deref.ensures.value told in
+    never_read g.S.Sink.taken g.S.Sink.calls c.args.out.now c.print_failed.new.out _ c.in-Some.failure.fault
+    c.print_failed.result made.command (c.print_failed.ensures.prints before refl)
 
 pub returns-then-is_none-clause-goes : goal.returns-then-is_none-clause-goes
 returns-then-is_none-clause-goes g c none =
@@ -105,18 +133,23 @@ returns-then-is_none-clause-goes g c none =
     let before = kept_in c.args.at.now day c.args.settled.now in
     let k = kept_in c.solve_hour.new.at c.solve_hour.new.underway.day (c.args.settled.now + 1) in
     let rounds = c.deref.result.now in
-    let told : IsMadeHour circuit (hour_in day) before c.solve_hour.new.underway.rounds.items None k = rw c.in-None.is at (c.in-Ok.ensures.made c.args.settled.now c.requires.settles) in
+    let told : IsMadeHour circuit (hour_in day) before c.solve_hour.new.underway.rounds.items None k =
+    rw c.in-None.is at (c.in-Ok.ensures.made c.args.settled.now c.requires.settles) in
     let made = made_as circuit (hour_in day) h before c.solve_hour.new.underway.rounds.items rounds None k same c.deref.ensures.value told in
     let x = settle_made circuit h before rounds settled (positions_in c.solve_hour.new.at) in
-    subst (λ (n : ℕ). IsPrintedHour g.P.Page.style g.S.Sink.taken g.S.Sink.calls c.args.out.now c.print_settled-printed.new.out c.args.begun.now circuit n before k c.print_settled-printed.new.begun c.args.tally.now c.add.new.self) (sym same)
-    (record {
+    subst (λ (n : ℕ).
+    IsPrintedHour g.P.Page.style g.S.Sink.taken g.S.Sink.calls c.args.out.now c.print_settled-printed.new.out
+    c.args.begun.now circuit n before k c.print_settled-printed.new.begun c.args.tally.now c.add.new.self)
+    (sym same) (record {
       made = x;
       is = made.is;
       good = made.solved;
       well = refl;
       wrote = none_goes c.print_settled-printed.result _ none (c.print_settled-printed.ensures.goes before refl);
       begun_is = c.print_settled-printed.ensures.begun before refl none;
-      added = c.add.ensures ∙ ap (λ (l : LayoutView). with_rounds c.args.tally.now (complex_count l) (rounds_in rounds)) (c.layout.ensures ∙ c.in-Ok.ensures.built.layout);
+      added = c.add.ensures
+          ∙ ap (λ (l : LayoutView). with_rounds c.args.tally.now (complex_count l) (rounds_in rounds))
+          (c.layout.ensures ∙ c.in-Ok.ensures.built.layout);
     })
 
 pub add-requires : goal.add-requires
@@ -128,7 +161,8 @@ add-requires g c =
     let before = kept_in c.args.at.now day c.args.settled.now in
     let k = kept_in c.solve_hour.new.at c.solve_hour.new.underway.day (c.args.settled.now + 1) in
     let rounds = c.deref.result.now in
-    let told : IsMadeHour circuit (hour_in day) before c.solve_hour.new.underway.rounds.items None k = rw c.in-None.is at (c.in-Ok.ensures.made c.args.settled.now c.requires.settles) in
+    let told : IsMadeHour circuit (hour_in day) before c.solve_hour.new.underway.rounds.items None k =
+    rw c.in-None.is at (c.in-Ok.ensures.made c.args.settled.now c.requires.settles) in
     let made = made_as circuit (hour_in day) h before c.solve_hour.new.underway.rounds.items rounds None k same c.deref.ensures.value told in
     omega (arith, made.printable.few, c.requires.room, c.requires.settles)
 
@@ -141,7 +175,8 @@ returns-then-is_none-clause-room g c =
     let before = kept_in c.args.at.now day c.args.settled.now in
     let k = kept_in c.solve_hour.new.at c.solve_hour.new.underway.day (c.args.settled.now + 1) in
     let rounds = c.deref.result.now in
-    let told : IsMadeHour circuit (hour_in day) before c.solve_hour.new.underway.rounds.items None k = rw c.in-None.is at (c.in-Ok.ensures.made c.args.settled.now c.requires.settles) in
+    let told : IsMadeHour circuit (hour_in day) before c.solve_hour.new.underway.rounds.items None k =
+    rw c.in-None.is at (c.in-Ok.ensures.made c.args.settled.now c.requires.settles) in
     let made = made_as circuit (hour_in day) h before c.solve_hour.new.underway.rounds.items rounds None k same c.deref.ensures.value told in
     let count : c.add.new.self.solutions ≡ c.args.tally.now.solutions + length (rounds_in rounds) = ap (λ (t : Tally). t.solutions) c.add.ensures in
     let long = length-map rounds round_in in
@@ -156,20 +191,26 @@ returns-else-is_none-clause-ends g c =
     let before = kept_in c.args.at.now day c.args.settled.now in
     let k = kept_in c.solve_hour.new.at c.solve_hour.new.underway.day (c.args.settled.now + 1) in
     let rounds = c.deref.result.now in
-    let told : IsMadeHour circuit (hour_in day) before c.solve_hour.new.underway.rounds.items None k = rw c.in-None.is at (c.in-Ok.ensures.made c.args.settled.now c.requires.settles) in
+    let told : IsMadeHour circuit (hour_in day) before c.solve_hour.new.underway.rounds.items None k =
+    rw c.in-None.is at (c.in-Ok.ensures.made c.args.settled.now c.requires.settles) in
     let made = made_as circuit (hour_in day) h before c.solve_hour.new.underway.rounds.items rounds None k same c.deref.ensures.value told in
     let x = settle_made circuit h before rounds settled (positions_in c.solve_hour.new.at) in
-    if_some_weaker c.print_settled-printed.result _ _
-    (λ code cut. subst (λ (n : ℕ). EndsInHour g.P.Page.style g.S.Sink.taken g.S.Sink.calls c.args.out.now c.print_settled-printed.new.out c.args.begun.now circuit n before code) (sym same)
-    (inr (inl (record { made = x; kept = k; is = made.is; good = made.solved; well = refl; cut = cut }))))
+    if_some_weaker c.print_settled-printed.result _ _ (λ code cut.
+    subst (λ (n : ℕ). EndsInHour g.P.Page.style g.S.Sink.taken g.S.Sink.calls c.args.out.now
+    c.print_settled-printed.new.out c.args.begun.now circuit n before code)
+    (sym same) (inr (inl (record { made = x; kept = k; is = made.is; good = made.solved; well = refl; cut = cut }))))
     (c.print_settled-printed.ensures.ends before refl)
 
 pub returns-else-is_none-clause-usage : goal.returns-else-is_none-clause-usage
 returns-else-is_none-clause-usage g c =
-    if_some_weaker c.print_settled-printed.result _ _ (λ code cut. cut_never g.S.Sink.taken g.S.Sink.calls 2 c.args.out.now c.print_settled-printed.new.out _ code (λ e. omega (arith, e)) (λ e. omega (arith, e)) cut)
+    if_some_weaker c.print_settled-printed.result _ _ (λ code cut.
+    cut_never g.S.Sink.taken g.S.Sink.calls 2 c.args.out.now c.print_settled-printed.new.out _ code
+    (λ e. omega (arith, e)) (λ e. omega (arith, e)) cut)
     (c.print_settled-printed.ensures.ends (kept_in c.args.at.now c.args.underway.now.day c.args.settled.now) refl)
 
 pub returns-else-is_none-clause-read : goal.returns-else-is_none-clause-read
 returns-else-is_none-clause-read g c =
-    if_some_weaker c.print_settled-printed.result _ _ (λ code cut. cut_never g.S.Sink.taken g.S.Sink.calls 4 c.args.out.now c.print_settled-printed.new.out _ code (λ e. omega (arith, e)) (λ e. omega (arith, e)) cut)
+    if_some_weaker c.print_settled-printed.result _ _ (λ code cut.
+    cut_never g.S.Sink.taken g.S.Sink.calls 4 c.args.out.now c.print_settled-printed.new.out _ code
+    (λ e. omega (arith, e)) (λ e. omega (arith, e)) cut)
     (c.print_settled-printed.ensures.ends (kept_in c.args.at.now c.args.underway.now.day c.args.settled.now) refl)

@@ -8,4 +8,5 @@ use Rattle.fd_solving.proofs.hours.print_range.Goals as goal
 pub returns-in-Err-clause-prints : goal.returns-in-Err-clause-prints
 returns-in-Err-clause-prints g c =
     let f = fault.Script c.args.blame.now.place (cause.Model c.args.blame.now.cause) in
-    fault_cut g.S.Sink.taken g.S.Sink.calls c.args.out.now c.args.out.now f 1 (cut_before g.S.Sink.taken g.S.Sink.calls c.args.out.now (writes (fault_text f) ∷ []))
+    fault_cut g.S.Sink.taken g.S.Sink.calls c.args.out.now c.args.out.now f 1
+    (cut_before g.S.Sink.taken g.S.Sink.calls c.args.out.now (writes (fault_text f) ∷ []))

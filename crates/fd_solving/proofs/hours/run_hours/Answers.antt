@@ -21,7 +21,9 @@ loop-alloc-init g c =
       settles = omega (arith, few);
       room = c.requires.room;
       later = omega arith;
-      way = way_start g.P.Page.style c.args.circuit.now (hours_left day) (kept_in c.args.at.now day c.args.settled.now) g.S.Sink.taken g.S.Sink.calls c.args.out.now c.args.begun.now c.args.tally.now;
+      way =
+          way_start g.P.Page.style c.args.circuit.now (hours_left day) (kept_in c.args.at.now day c.args.settled.now)
+          g.S.Sink.taken g.S.Sink.calls c.args.out.now c.args.begun.now c.args.tally.now;
     }
 
 pub do_hour-ended-requires-clause-settles : goal.do_hour-ended-requires-clause-settles
@@ -40,10 +42,14 @@ returns-then-is_some-clause-ends g c =
     let day = c.loop-alloc.underway.day in
     let before = kept_in c.loop-alloc.at day c.loop-alloc.settled in
     let there = c.loop-alloc.invariant.underway in
-    let W : List ℕ → Type 0 = λ hs. HourWay g.P.Page.style circuit first l g.S.Sink.taken g.S.Sink.calls c.args.out.now c.args.begun.now c.args.tally.now hs before c.loop-alloc.out c.loop-alloc.begun c.loop-alloc.tally in
+    let W : List ℕ → Type 0 = λ hs.
+    HourWay g.P.Page.style circuit first l g.S.Sink.taken g.S.Sink.calls c.args.out.now c.args.begun.now
+    c.args.tally.now hs before c.loop-alloc.out c.loop-alloc.begun c.loop-alloc.tally in
     let at = subst W (next_first circuit day there.day there.hour) c.loop-alloc.invariant.way in
-    if_some_weaker c.do_hour-ended.result _ _
-    (λ code ends. way_ended g.P.Page.style circuit first l g.S.Sink.taken g.S.Sink.calls c.args.out.now c.args.begun.now c.args.tally.now (hour_in day) _ before c.loop-alloc.out c.loop-alloc.begun c.loop-alloc.tally at c.do_hour-ended.new.out code ends)
+    if_some_weaker c.do_hour-ended.result _ _ (λ code ends.
+    way_ended g.P.Page.style circuit first l g.S.Sink.taken g.S.Sink.calls c.args.out.now c.args.begun.now
+    c.args.tally.now (hour_in day) _ before c.loop-alloc.out c.loop-alloc.begun c.loop-alloc.tally
+    at c.do_hour-ended.new.out code ends)
     c.do_hour-ended.ensures.ends
 
 pub returns-then-is_some-clause-settles : goal.returns-then-is_some-clause-settles
@@ -64,11 +70,19 @@ returns-then-is_none-clause-goes g c all =
     let after = c.do_hour-ended.new.underway.day in
     let k = kept_in c.do_hour-ended.new.at after c.do_hour-ended.new.settled in
     let none = is_none_by c.do_hour-ended.result (sym c.is_some.ensures ∙ c.if-is_some.false) in
-    let W : List ℕ → Type 0 = λ hs. HourWay g.P.Page.style circuit first l g.S.Sink.taken g.S.Sink.calls c.args.out.now c.args.begun.now c.args.tally.now hs before c.loop-alloc.out c.loop-alloc.begun c.loop-alloc.tally in
+    let W : List ℕ → Type 0 = λ hs.
+    HourWay g.P.Page.style circuit first l g.S.Sink.taken g.S.Sink.calls c.args.out.now c.args.begun.now
+    c.args.tally.now hs before c.loop-alloc.out c.loop-alloc.begun c.loop-alloc.tally in
     let at = subst W (c.do_hour-ended.ensures.left none).left c.loop-alloc.invariant.way in
-    let next = way_printed g.P.Page.style circuit first l g.S.Sink.taken g.S.Sink.calls c.args.out.now c.args.begun.now c.args.tally.now (hour_in day) (hours_left after) before c.loop-alloc.out c.loop-alloc.begun c.loop-alloc.tally at k c.do_hour-ended.new.out c.do_hour-ended.new.begun c.do_hour-ended.new.tally (c.do_hour-ended.ensures.goes none) in
-    way_done g.P.Page.style circuit first l g.S.Sink.taken g.S.Sink.calls c.args.out.now c.args.begun.now c.args.tally.now (hours_left after) k c.do_hour-ended.new.out c.do_hour-ended.new.begun c.do_hour-ended.new.tally
-    (none_left after c.next_hour.result c.next_hour.ensures (none_told c.next_hour.result c.is_none.result c.is_none.ensures c.if-is_none.true)) next
+    let next = way_printed g.P.Page.style circuit first l g.S.Sink.taken g.S.Sink.calls c.args.out.now
+    c.args.begun.now c.args.tally.now (hour_in day) (hours_left after) before c.loop-alloc.out c.loop-alloc.begun
+    c.loop-alloc.tally at k c.do_hour-ended.new.out c.do_hour-ended.new.begun c.do_hour-ended.new.tally
+    (c.do_hour-ended.ensures.goes none) in
+    way_done g.P.Page.style circuit first l g.S.Sink.taken g.S.Sink.calls c.args.out.now c.args.begun.now
+    c.args.tally.now (hours_left after) k c.do_hour-ended.new.out c.do_hour-ended.new.begun c.do_hour-ended.new.tally
+    (none_left after c.next_hour.result c.next_hour.ensures
+    (none_told c.next_hour.result c.is_none.result c.is_none.ensures c.if-is_none.true))
+    next
 
 pub loop-alloc-preserved : goal.loop-alloc-preserved
 loop-alloc-preserved g c =
@@ -81,10 +95,18 @@ loop-alloc-preserved g c =
     let k = kept_in c.do_hour-ended.new.at after c.do_hour-ended.new.settled in
     let none = is_none_by c.do_hour-ended.result (sym c.is_some.ensures ∙ c.if-is_some.false) in
     let left = (c.do_hour-ended.ensures.left none).left in
-    let W : List ℕ → Type 0 = λ hs. HourWay g.P.Page.style circuit first l g.S.Sink.taken g.S.Sink.calls c.args.out.now c.args.begun.now c.args.tally.now hs before c.loop-alloc.out c.loop-alloc.begun c.loop-alloc.tally in
+    let W : List ℕ → Type 0 = λ hs.
+    HourWay g.P.Page.style circuit first l g.S.Sink.taken g.S.Sink.calls c.args.out.now c.args.begun.now
+    c.args.tally.now hs before c.loop-alloc.out c.loop-alloc.begun c.loop-alloc.tally in
     let at = subst W left c.loop-alloc.invariant.way in
-    let next = way_printed g.P.Page.style circuit first l g.S.Sink.taken g.S.Sink.calls c.args.out.now c.args.begun.now c.args.tally.now (hour_in day) (hours_left after) before c.loop-alloc.out c.loop-alloc.begun c.loop-alloc.tally at k c.do_hour-ended.new.out c.do_hour-ended.new.begun c.do_hour-ended.new.tally (c.do_hour-ended.ensures.goes none) in
-    let D : DayView → Type 0 = λ d. HourWay g.P.Page.style circuit first l g.S.Sink.taken g.S.Sink.calls c.args.out.now c.args.begun.now c.args.tally.now (hours_left d) (kept_in c.do_hour-ended.new.at d c.do_hour-ended.new.settled) c.do_hour-ended.new.out c.do_hour-ended.new.begun c.do_hour-ended.new.tally in
+    let next = way_printed g.P.Page.style circuit first l g.S.Sink.taken g.S.Sink.calls c.args.out.now
+    c.args.begun.now c.args.tally.now (hour_in day) (hours_left after) before c.loop-alloc.out c.loop-alloc.begun
+    c.loop-alloc.tally at k c.do_hour-ended.new.out c.do_hour-ended.new.begun c.do_hour-ended.new.tally
+    (c.do_hour-ended.ensures.goes none) in
+    let D : DayView → Type 0 = λ d.
+    HourWay g.P.Page.style circuit first l g.S.Sink.taken g.S.Sink.calls c.args.out.now c.args.begun.now
+    c.args.tally.now (hours_left d) (kept_in c.do_hour-ended.new.at d c.do_hour-ended.new.settled)
+    c.do_hour-ended.new.out c.do_hour-ended.new.begun c.do_hour-ended.new.tally in
     let same = c.next_network.ensures.day in
     let hours = ap (λ (d : DayView). length (hours_left d)) same in
     let fewer = ap length left in
@@ -111,13 +133,24 @@ returns-in-Err-Range-clause-ends g c =
     let k = kept_in c.do_hour-ended.new.at after c.do_hour-ended.new.settled in
     let none = is_none_by c.do_hour-ended.result (sym c.is_some.ensures ∙ c.if-is_some.false) in
     let behind = c.do_hour-ended.ensures.left none in
-    let W : List ℕ → Type 0 = λ hs. HourWay g.P.Page.style circuit first l g.S.Sink.taken g.S.Sink.calls c.args.out.now c.args.begun.now c.args.tally.now hs before c.loop-alloc.out c.loop-alloc.begun c.loop-alloc.tally in
+    let W : List ℕ → Type 0 = λ hs.
+    HourWay g.P.Page.style circuit first l g.S.Sink.taken g.S.Sink.calls c.args.out.now c.args.begun.now
+    c.args.tally.now hs before c.loop-alloc.out c.loop-alloc.begun c.loop-alloc.tally in
     let at = subst W behind.left c.loop-alloc.invariant.way in
-    let next = way_printed g.P.Page.style circuit first l g.S.Sink.taken g.S.Sink.calls c.args.out.now c.args.begun.now c.args.tally.now (hour_in day) (hours_left after) before c.loop-alloc.out c.loop-alloc.begun c.loop-alloc.tally at k c.do_hour-ended.new.out c.do_hour-ended.new.begun c.do_hour-ended.new.tally (c.do_hour-ended.ensures.goes none) in
+    let next = way_printed g.P.Page.style circuit first l g.S.Sink.taken g.S.Sink.calls c.args.out.now
+    c.args.begun.now c.args.tally.now (hour_in day) (hours_left after) before c.loop-alloc.out c.loop-alloc.begun
+    c.loop-alloc.tally at k c.do_hour-ended.new.out c.do_hour-ended.new.begun c.do_hour-ended.new.tally
+    (c.do_hour-ended.ensures.goes none) in
     let told = rw c.in-Err-Range.field-0-is at c.in-Err-Range.ensures.refused in
-    way_range g.P.Page.style circuit first l g.S.Sink.taken g.S.Sink.calls c.args.out.now c.args.begun.now c.args.tally.now c.law.ensures.silent c.law.ensures.unshown
-    (hours_left after) k c.do_hour-ended.new.out c.do_hour-ended.new.begun c.do_hour-ended.new.tally next (left_hours circuit after behind.day)
-    (omega (arith, ap length behind.left, c.loop-alloc.invariant.settles, c.do_hour-ended.ensures.settles, c.requires.settles)) c.in-Err-Range.blame told c.print_range.new.out c.print_range.result c.print_range.ensures.prints
+    way_range g.P.Page.style circuit first l g.S.Sink.taken g.S.Sink.calls c.args.out.now c.args.begun.now
+    c.args.tally.now c.law.ensures.silent c.law.ensures.unshown (hours_left after) k c.do_hour-ended.new.out
+    c.do_hour-ended.new.begun c.do_hour-ended.new.tally next (left_hours circuit after behind.day) (omega (
+      arith,
+      ap length behind.left,
+      c.loop-alloc.invariant.settles,
+      c.do_hour-ended.ensures.settles,
+      c.requires.settles,
+    )) c.in-Err-Range.blame told c.print_range.new.out c.print_range.result c.print_range.ensures.prints
 
 pub returns-in-Err-NoMemory-clause-ends : goal.returns-in-Err-NoMemory-clause-ends
 returns-in-Err-NoMemory-clause-ends g c =
@@ -129,8 +162,14 @@ returns-in-Err-NoMemory-clause-ends g c =
     let after = c.do_hour-ended.new.underway.day in
     let k = kept_in c.do_hour-ended.new.at after c.do_hour-ended.new.settled in
     let none = is_none_by c.do_hour-ended.result (sym c.is_some.ensures ∙ c.if-is_some.false) in
-    let W : List ℕ → Type 0 = λ hs. HourWay g.P.Page.style circuit first l g.S.Sink.taken g.S.Sink.calls c.args.out.now c.args.begun.now c.args.tally.now hs before c.loop-alloc.out c.loop-alloc.begun c.loop-alloc.tally in
+    let W : List ℕ → Type 0 = λ hs.
+    HourWay g.P.Page.style circuit first l g.S.Sink.taken g.S.Sink.calls c.args.out.now c.args.begun.now
+    c.args.tally.now hs before c.loop-alloc.out c.loop-alloc.begun c.loop-alloc.tally in
     let at = subst W (c.do_hour-ended.ensures.left none).left c.loop-alloc.invariant.way in
-    let next = way_printed g.P.Page.style circuit first l g.S.Sink.taken g.S.Sink.calls c.args.out.now c.args.begun.now c.args.tally.now (hour_in day) (hours_left after) before c.loop-alloc.out c.loop-alloc.begun c.loop-alloc.tally at k c.do_hour-ended.new.out c.do_hour-ended.new.begun c.do_hour-ended.new.tally (c.do_hour-ended.ensures.goes none) in
-    way_short g.P.Page.style circuit first l g.S.Sink.taken g.S.Sink.calls c.args.out.now c.args.begun.now c.args.tally.now (hours_left after) k c.do_hour-ended.new.out c.do_hour-ended.new.begun c.do_hour-ended.new.tally next
-    c.do_hour-ended.new.out 1 (wrote_nothing g.S.Sink.taken g.S.Sink.calls c.do_hour-ended.new.out) refl
+    let next = way_printed g.P.Page.style circuit first l g.S.Sink.taken g.S.Sink.calls c.args.out.now
+    c.args.begun.now c.args.tally.now (hour_in day) (hours_left after) before c.loop-alloc.out c.loop-alloc.begun
+    c.loop-alloc.tally at k c.do_hour-ended.new.out c.do_hour-ended.new.begun c.do_hour-ended.new.tally
+    (c.do_hour-ended.ensures.goes none) in
+    way_short g.P.Page.style circuit first l g.S.Sink.taken g.S.Sink.calls c.args.out.now c.args.begun.now
+    c.args.tally.now (hours_left after) k c.do_hour-ended.new.out c.do_hour-ended.new.begun c.do_hour-ended.new.tally
+    next c.do_hour-ended.new.out 1 (wrote_nothing g.S.Sink.taken g.S.Sink.calls c.do_hour-ended.new.out) refl

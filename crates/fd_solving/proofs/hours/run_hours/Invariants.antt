@@ -12,8 +12,10 @@ invariant-loop-alloc g l = record {
   settles : l.settled + length (hours_left l.underway.day) ≤ l.initial.settled + 8761;
   room : HasRoom l.tally l.settled;
   later : g.S.Sink.faults l.initial.out ≤ g.S.Sink.faults l.out;
-  way : HourWay g.P.Page.style l.circuit (hours_left l.initial.underway.day) (kept_in l.initial.at l.initial.underway.day l.initial.settled) g.S.Sink.taken g.S.Sink.calls l.initial.out l.initial.begun l.initial.tally
-      (hours_left l.underway.day) (kept_in l.at l.underway.day l.settled) l.out l.begun l.tally;
+  way : HourWay g.P.Page.style l.circuit (hours_left l.initial.underway.day)
+      (kept_in l.initial.at l.initial.underway.day l.initial.settled) g.S.Sink.taken g.S.Sink.calls l.initial.out
+      l.initial.begun l.initial.tally (hours_left l.underway.day) (kept_in l.at l.underway.day l.settled) l.out
+      l.begun l.tally;
 }
 
 abbrev pub decreases-loop-alloc : goal.decreases-loop-alloc

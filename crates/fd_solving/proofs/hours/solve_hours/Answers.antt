@@ -21,9 +21,11 @@ returns-in-Ok-clause-goes g c none =
     let day = c.in-Ok.underway.day in
     let at = c.start.new.at in
     let n = c.run_hours.new in
-    tallied_as g.P.Page.style g.S.Sink.taken g.S.Sink.calls (IsHoursStep circuit (hours_left day) (kept_in at day settled)) (IsSolutionStep (standing circuit before settled))
+    tallied_as g.P.Page.style g.S.Sink.taken g.S.Sink.calls
+    (IsHoursStep circuit (hours_left day) (kept_in at day settled)) (IsSolutionStep (standing circuit before settled))
     (solution_step circuit before settled at day first.start first.opened first.left)
-    (standing circuit (positions_in n.at) n.settled) c.args.out.now n.out c.args.begun.now n.begun c.args.tally.now n.tally (c.run_hours.ensures.goes none)
+    (standing circuit (positions_in n.at) n.settled) c.args.out.now n.out c.args.begun.now n.begun c.args.tally.now
+    n.tally (c.run_hours.ensures.goes none)
 
 pub returns-in-Ok-clause-ends : goal.returns-in-Ok-clause-ends
 returns-in-Ok-clause-ends g c =
@@ -33,9 +35,11 @@ returns-in-Ok-clause-ends g c =
     let first = c.in-Ok.ensures in
     let day = c.in-Ok.underway.day in
     let at = c.start.new.at in
-    if_some_weaker c.run_hours.result _ _
-    (λ code ends. ends_as g.P.Page.style g.S.Sink.taken g.S.Sink.calls (IsHoursStep circuit (hours_left day) (kept_in at day settled)) (IsSolutionStep (standing circuit before settled))
-    (solution_step circuit before settled at day first.start first.opened first.left) c.args.out.now c.run_hours.new.out c.args.begun.now code ends)
+    if_some_weaker c.run_hours.result _ _ (λ code ends.
+    ends_as g.P.Page.style g.S.Sink.taken g.S.Sink.calls
+    (IsHoursStep circuit (hours_left day) (kept_in at day settled)) (IsSolutionStep (standing circuit before settled))
+    (solution_step circuit before settled at day first.start first.opened first.left) c.args.out.now
+    c.run_hours.new.out c.args.begun.now code ends)
     c.run_hours.ensures.ends
 
 pub returns-in-Err-Range-clause-ends : goal.returns-in-Err-Range-clause-ends
@@ -45,10 +49,12 @@ returns-in-Err-Range-clause-ends g c =
     let told = rw c.in-Err-Range.field-0-is at c.in-Err-Range.ensures.refused in
     let are = all_hours s.circuit.options c.options-options.ensures.in_range in
     let way = way_start g.P.Page.style s.circuit hours (kept_first s) g.S.Sink.taken g.S.Sink.calls c.args.out.now c.args.begun.now c.args.tally.now in
-    ends_as g.P.Page.style g.S.Sink.taken g.S.Sink.calls (IsHoursStep s.circuit hours (kept_first s)) (IsSolutionStep s) (first_step s)
-    c.args.out.now c.print_range.new.out c.args.begun.now c.print_range.result
-    (way_range g.P.Page.style s.circuit hours (kept_first s) g.S.Sink.taken g.S.Sink.calls c.args.out.now c.args.begun.now c.args.tally.now c.law.ensures.silent c.law.ensures.unshown
-    hours (kept_first s) c.args.out.now c.args.begun.now c.args.tally.now way are (omega (arith, c.requires.settles, are.few)) c.in-Err-Range.blame told c.print_range.new.out c.print_range.result c.print_range.ensures.prints)
+    ends_as g.P.Page.style g.S.Sink.taken g.S.Sink.calls (IsHoursStep s.circuit hours (kept_first s))
+    (IsSolutionStep s) (first_step s) c.args.out.now c.print_range.new.out c.args.begun.now c.print_range.result
+    (way_range g.P.Page.style s.circuit hours (kept_first s) g.S.Sink.taken g.S.Sink.calls c.args.out.now
+    c.args.begun.now c.args.tally.now c.law.ensures.silent c.law.ensures.unshown hours (kept_first s) c.args.out.now
+    c.args.begun.now c.args.tally.now way are (omega (arith, c.requires.settles, are.few)) c.in-Err-Range.blame told
+    c.print_range.new.out c.print_range.result c.print_range.ensures.prints)
 
 pub returns-in-Err-NoMemory-clause-ends : goal.returns-in-Err-NoMemory-clause-ends
 returns-in-Err-NoMemory-clause-ends g c =

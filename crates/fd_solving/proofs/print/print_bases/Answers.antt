@@ -16,16 +16,25 @@ returns-in_default-clause-ends g c = cut_before g.S.Sink.taken g.S.Sink.calls c.
 pub returns-clause-goes : goal.returns-clause-goes
 returns-clause-goes g c =
     let circuit = c.args.circuit.now in
-    let same = silent_calls g.P.Page.style c.args.begun.now (base_events circuit) (pieces_of c.in-Ok.texts.items) (bases_silent g.P.Page.style (bases_of circuit) c.law.ensures.silent_rows) c.in-Ok.ensures in
-    subst (λ (l : List Call). IfNone c.print_texts.result (Wrote g.S.Sink.taken g.S.Sink.calls c.args.out.now c.print_texts.new.out (whole l))) same c.print_texts.ensures.goes
+    let same = silent_calls g.P.Page.style c.args.begun.now (base_events circuit) (pieces_of c.in-Ok.texts.items)
+    (bases_silent g.P.Page.style (bases_of circuit) c.law.ensures.silent_rows) c.in-Ok.ensures in
+    subst (λ (l : List Call).
+    IfNone c.print_texts.result (Wrote g.S.Sink.taken g.S.Sink.calls c.args.out.now c.print_texts.new.out (whole l)))
+    same c.print_texts.ensures.goes
 
 pub returns-clause-begun : goal.returns-clause-begun
 returns-clause-begun g c none =
     let circuit = c.args.circuit.now in
-    c.print_texts.ensures.begun none ∙ silent_begun g.P.Page.style c.args.begun.now (base_events circuit) (pieces_of c.in-Ok.texts.items) (bases_silent g.P.Page.style (bases_of circuit) c.law.ensures.silent_rows) c.in-Ok.ensures
+    c.print_texts.ensures.begun none
+    ∙ silent_begun g.P.Page.style c.args.begun.now (base_events circuit) (pieces_of c.in-Ok.texts.items)
+    (bases_silent g.P.Page.style (bases_of circuit) c.law.ensures.silent_rows) c.in-Ok.ensures
 
 pub returns-clause-ends : goal.returns-clause-ends
 returns-clause-ends g c =
     let circuit = c.args.circuit.now in
-    let same = silent_calls g.P.Page.style c.args.begun.now (base_events circuit) (pieces_of c.in-Ok.texts.items) (bases_silent g.P.Page.style (bases_of circuit) c.law.ensures.silent_rows) c.in-Ok.ensures in
-    subst (λ (l : List Call). IfSome c.print_texts.result (λ code. IsCutIn g.S.Sink.taken g.S.Sink.calls c.args.out.now c.print_texts.new.out l code)) same c.print_texts.ensures.ends
+    let same = silent_calls g.P.Page.style c.args.begun.now (base_events circuit) (pieces_of c.in-Ok.texts.items)
+    (bases_silent g.P.Page.style (bases_of circuit) c.law.ensures.silent_rows) c.in-Ok.ensures in
+    subst (λ (l : List Call).
+    IfSome c.print_texts.result (λ code.
+    IsCutIn g.S.Sink.taken g.S.Sink.calls c.args.out.now c.print_texts.new.out l code))
+    same c.print_texts.ensures.ends

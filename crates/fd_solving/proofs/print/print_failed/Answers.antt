@@ -6,20 +6,30 @@ use Rattle.fd_solving.proofs.Handed.{cut_as, failed_whole, printed_cut}
 use Rattle.fd_solving.proofs.print.print_failed.Goals as goal
 
 pub returns-in_default-clause-prints : goal.returns-in_default-clause-prints
-returns-in_default-clause-prints g c l number = printed_cut g.S.Sink.taken g.S.Sink.calls c.args.out.now c.args.out.now _ (Some c.args.failure.fault) 1 (cut_before g.S.Sink.taken g.S.Sink.calls c.args.out.now _)
+returns-in_default-clause-prints g c l number =
+    printed_cut g.S.Sink.taken g.S.Sink.calls c.args.out.now c.args.out.now _ (Some c.args.failure.fault) 1
+    (cut_before g.S.Sink.taken g.S.Sink.calls c.args.out.now _)
 
 pub returns-in-Ok-emit-clause-prints : goal.returns-in-Ok-emit-clause-prints
 returns-in-Ok-emit-clause-prints g c l number =
-    failed_whole g.S.Sink.taken g.S.Sink.calls c.args.out.now c.emit.new.out (pieces_of c.as_slice.result.now) _ c.args.failure.fault c.status.result (ap (λ rs. map writes (pieces_of rs)) c.as_slice.ensures.value ∙ c.in-Ok.ensures l number) c.status.ensures c.in-Ok-emit.ensures.ok
+    failed_whole g.S.Sink.taken g.S.Sink.calls c.args.out.now c.emit.new.out
+    (pieces_of c.as_slice.result.now) _ c.args.failure.fault c.status.result
+    (ap (λ rs. map writes (pieces_of rs)) c.as_slice.ensures.value ∙ c.in-Ok.ensures l number) c.status.ensures
+    c.in-Ok-emit.ensures.ok
 
 pub returns-in-Err-Failed-clause-prints : goal.returns-in-Err-Failed-clause-prints
 returns-in-Err-Failed-clause-prints g c l number =
     let torn = rw c.in-Err-Failed.field-0-is at c.in-Err-Failed.ensures.emits in
     printed_cut g.S.Sink.taken g.S.Sink.calls c.args.out.now c.emit.new.out _ (Some c.args.failure.fault) 5
-    (cut_as g.S.Sink.taken g.S.Sink.calls c.args.out.now c.emit.new.out _ _ 5 (ap (λ rs. map writes (pieces_of rs)) c.as_slice.ensures.value ∙ c.in-Ok.ensures l number) (cut_by_fault g.S.Sink.taken g.S.Sink.calls c.args.out.now c.emit.new.out (pieces_of c.as_slice.result.now) torn))
+    (cut_as g.S.Sink.taken g.S.Sink.calls c.args.out.now c.emit.new.out _ _ 5
+    (ap (λ rs. map writes (pieces_of rs)) c.as_slice.ensures.value ∙ c.in-Ok.ensures l number)
+    (cut_by_fault g.S.Sink.taken g.S.Sink.calls c.args.out.now c.emit.new.out (pieces_of c.as_slice.result.now) torn))
 
 pub returns-clause-prints : goal.returns-clause-prints
 returns-clause-prints g c l number =
     let first = rw c.in-Err-NoMemory.field-0-is at c.in-Err-NoMemory.ensures.emits in
     printed_cut g.S.Sink.taken g.S.Sink.calls c.args.out.now c.emit.new.out _ (Some c.args.failure.fault) 1
-    (cut_as g.S.Sink.taken g.S.Sink.calls c.args.out.now c.emit.new.out _ _ 1 (ap (λ rs. map writes (pieces_of rs)) c.as_slice.ensures.value ∙ c.in-Ok.ensures l number) (cut_by_memory g.S.Sink.taken g.S.Sink.calls c.args.out.now c.emit.new.out (pieces_of c.as_slice.result.now) first))
+    (cut_as g.S.Sink.taken g.S.Sink.calls c.args.out.now c.emit.new.out _ _ 1
+    (ap (λ rs. map writes (pieces_of rs)) c.as_slice.ensures.value ∙ c.in-Ok.ensures l number)
+    (cut_by_memory g.S.Sink.taken g.S.Sink.calls c.args.out.now c.emit.new.out (pieces_of c.as_slice.result.now)
+    first))

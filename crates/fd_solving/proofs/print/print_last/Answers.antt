@@ -6,7 +6,9 @@ use Rattle.fd_solving.proofs.Handed.{printed_as, printed_cut}
 use Rattle.fd_solving.proofs.print.print_last.Goals as goal
 
 pub returns-in_default-clause-prints : goal.returns-in_default-clause-prints
-returns-in_default-clause-prints g c = printed_cut g.S.Sink.taken g.S.Sink.calls c.args.out.now c.args.out.now _ None 1 (cut_before g.S.Sink.taken g.S.Sink.calls c.args.out.now _)
+returns-in_default-clause-prints g c =
+    printed_cut g.S.Sink.taken g.S.Sink.calls c.args.out.now c.args.out.now _ None 1
+    (cut_before g.S.Sink.taken g.S.Sink.calls c.args.out.now _)
 
 pub returns-clause-prints : goal.returns-clause-prints
 returns-clause-prints g c =

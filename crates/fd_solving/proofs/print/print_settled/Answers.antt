@@ -19,18 +19,27 @@ pub returns-clause-goes : goal.returns-clause-goes
 returns-clause-goes g c l number =
     let x = settle_made c.args.made.now.circuit.now c.args.made.now.hour l c.args.made.now.rounds.now settled (positions_in c.args.at.now) in
     let texts = pieces_of c.in-Ok.texts.items in
-    let same = silent_calls g.P.Page.style c.args.begun.now (settle x ∷ []) texts (c.law.ensures.silent x, tt) (texts_alone g.P.Page.style (settle x) texts (c.in-Ok.ensures l number)) in
-    subst (λ (cs : List Call). IfNone c.print_texts.result (Wrote g.S.Sink.taken g.S.Sink.calls c.args.out.now c.print_texts.new.out (whole cs))) same c.print_texts.ensures.goes
+    let same = silent_calls g.P.Page.style c.args.begun.now (settle x ∷ []) texts (c.law.ensures.silent x, tt)
+    (texts_alone g.P.Page.style (settle x) texts (c.in-Ok.ensures l number)) in
+    subst (λ (cs : List Call).
+    IfNone c.print_texts.result (Wrote g.S.Sink.taken g.S.Sink.calls c.args.out.now c.print_texts.new.out (whole cs)))
+    same c.print_texts.ensures.goes
 
 pub returns-clause-begun : goal.returns-clause-begun
 returns-clause-begun g c l number none =
     let x = settle_made c.args.made.now.circuit.now c.args.made.now.hour l c.args.made.now.rounds.now settled (positions_in c.args.at.now) in
     let texts = pieces_of c.in-Ok.texts.items in
-    c.print_texts.ensures.begun none ∙ silent_begun g.P.Page.style c.args.begun.now (settle x ∷ []) texts (c.law.ensures.silent x, tt) (texts_alone g.P.Page.style (settle x) texts (c.in-Ok.ensures l number))
+    c.print_texts.ensures.begun none
+    ∙ silent_begun g.P.Page.style c.args.begun.now (settle x ∷ []) texts (c.law.ensures.silent x, tt)
+    (texts_alone g.P.Page.style (settle x) texts (c.in-Ok.ensures l number))
 
 pub returns-clause-ends : goal.returns-clause-ends
 returns-clause-ends g c l number =
     let x = settle_made c.args.made.now.circuit.now c.args.made.now.hour l c.args.made.now.rounds.now settled (positions_in c.args.at.now) in
     let texts = pieces_of c.in-Ok.texts.items in
-    let same = silent_calls g.P.Page.style c.args.begun.now (settle x ∷ []) texts (c.law.ensures.silent x, tt) (texts_alone g.P.Page.style (settle x) texts (c.in-Ok.ensures l number)) in
-    subst (λ (cs : List Call). IfSome c.print_texts.result (λ code. IsCutIn g.S.Sink.taken g.S.Sink.calls c.args.out.now c.print_texts.new.out cs code)) same c.print_texts.ensures.ends
+    let same = silent_calls g.P.Page.style c.args.begun.now (settle x ∷ []) texts (c.law.ensures.silent x, tt)
+    (texts_alone g.P.Page.style (settle x) texts (c.in-Ok.ensures l number)) in
+    subst (λ (cs : List Call).
+    IfSome c.print_texts.result (λ code.
+    IsCutIn g.S.Sink.taken g.S.Sink.calls c.args.out.now c.print_texts.new.out cs code))
+    same c.print_texts.ensures.ends

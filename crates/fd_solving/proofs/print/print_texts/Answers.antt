@@ -10,14 +10,21 @@ returns-in_default-clause-ends g c = cut_before g.S.Sink.taken g.S.Sink.calls c.
 
 pub returns-in-Ok-emit-clause-goes : goal.returns-in-Ok-emit-clause-goes
 returns-in-Ok-emit-clause-goes g c =
-    wrote_as g.S.Sink.taken g.S.Sink.calls c.args.out.now c.emit.new.out (pieces_of c.as_slice-2.result.now) _ (ap (λ rs. map writes (pieces_of rs)) c.as_slice-2.ensures.value ∙ c.in-Ok.ensures) c.in-Ok-emit.ensures.ok
+    wrote_as g.S.Sink.taken g.S.Sink.calls c.args.out.now c.emit.new.out (pieces_of c.as_slice-2.result.now) _
+    (ap (λ rs. map writes (pieces_of rs)) c.as_slice-2.ensures.value ∙ c.in-Ok.ensures) c.in-Ok-emit.ensures.ok
 
 pub returns-in-Err-Failed-clause-ends : goal.returns-in-Err-Failed-clause-ends
 returns-in-Err-Failed-clause-ends g c =
     let torn = rw c.in-Err-Failed.field-0-is at c.in-Err-Failed.ensures.emits in
-    cut_as g.S.Sink.taken g.S.Sink.calls c.args.out.now c.emit.new.out _ _ 5 (ap (λ rs. map writes (pieces_of rs)) c.as_slice-2.ensures.value ∙ c.in-Ok.ensures) (cut_by_fault g.S.Sink.taken g.S.Sink.calls c.args.out.now c.emit.new.out (pieces_of c.as_slice-2.result.now) torn)
+    cut_as g.S.Sink.taken g.S.Sink.calls c.args.out.now c.emit.new.out _ _ 5
+    (ap (λ rs. map writes (pieces_of rs)) c.as_slice-2.ensures.value ∙ c.in-Ok.ensures)
+    (cut_by_fault g.S.Sink.taken g.S.Sink.calls c.args.out.now c.emit.new.out (pieces_of c.as_slice-2.result.now)
+    torn)
 
 pub returns-clause-ends : goal.returns-clause-ends
 returns-clause-ends g c =
     let first = rw c.in-Err-NoMemory.field-0-is at c.in-Err-NoMemory.ensures.emits in
-    cut_as g.S.Sink.taken g.S.Sink.calls c.args.out.now c.emit.new.out _ _ 1 (ap (λ rs. map writes (pieces_of rs)) c.as_slice-2.ensures.value ∙ c.in-Ok.ensures) (cut_by_memory g.S.Sink.taken g.S.Sink.calls c.args.out.now c.emit.new.out (pieces_of c.as_slice-2.result.now) first)
+    cut_as g.S.Sink.taken g.S.Sink.calls c.args.out.now c.emit.new.out _ _ 1
+    (ap (λ rs. map writes (pieces_of rs)) c.as_slice-2.ensures.value ∙ c.in-Ok.ensures)
+    (cut_by_memory g.S.Sink.taken g.S.Sink.calls c.args.out.now c.emit.new.out (pieces_of c.as_slice-2.result.now)
+    first)

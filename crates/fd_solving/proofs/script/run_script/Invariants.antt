@@ -13,10 +13,14 @@ invariant-loop-command g l = record {
   sink : g.S.Sink.faults l.initial.out ≤ g.S.Sink.faults l.out;
   room : g.T.Line.weight l.line + room l.session ≤ 1_048_578;
   shown : Shown g.L.Library.asked g.S.Sink.taken g.S.Sink.calls l.initial.lib l.lib l.initial.out l.out;
-  told : (files : Files) → g.L.Library.holds l.initial.lib ≡ Some files →
-      At g.T.Line.is_step g.T.Line.last_name g.T.Line.is_last g.T.Line.good g.T.Line.style (λ n. held files (bytes n)) g.L.Library.faults g.L.Library.asked g.S.Sink.taken g.S.Sink.calls
-      (record { left = said_in (remaining files l.initial.session); end = end_in (remaining files l.initial.session); state = l.initial.line }) l.initial.lib l.initial.out
-      l.begun (said_in (remaining files l.session)) (end_in (remaining files l.session)) l.line l.lib l.out;
+  told : (files : Files) → g.L.Library.holds l.initial.lib ≡ Some files
+      → At g.T.Line.is_step g.T.Line.last_name g.T.Line.is_last g.T.Line.good g.T.Line.style
+      (λ n. held files (bytes n)) g.L.Library.faults g.L.Library.asked g.S.Sink.taken g.S.Sink.calls (record {
+        left = said_in (remaining files l.initial.session);
+        end = end_in (remaining files l.initial.session);
+        state = l.initial.line;
+      }) l.initial.lib l.initial.out l.begun (said_in (remaining files l.session))
+      (end_in (remaining files l.session)) l.line l.lib l.out;
 }
 
 abbrev pub decreases-loop-command : goal.decreases-loop-command

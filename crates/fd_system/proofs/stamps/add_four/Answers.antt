@@ -13,7 +13,9 @@ four_more : (o n1 n2 n3 n4 : List Term) (r c : ℕ) (re re' im im' minus den den
     → re' ≡ re → im' ≡ im → minus ≡ neg_ℤ im → den' ≡ den
     → n4 ≡ o ++ complex_terms (Node r) (Node c) re im den
 four_more o n1 n2 n3 n4 r c re re' im im' minus den den' e1 e2 e3 e4 p q s t =
-    rw (← p, ← t, ← s, ← q) (e4 ∙ ap (λ s. s ++ one (2 * r + 1) (2 * c + 1) re' den') (e3 ∙ ap (λ s. s ++ one (2 * r + 1) (2 * c) im' den') (e2 ∙ ap (λ s. s ++ one (2 * r) (2 * c + 1) minus den') e1)) ∙ simp append_assoc)
+    rw (← p, ← t, ← s, ← q) (e4 ∙ ap (λ s. s ++ one (2 * r + 1) (2 * c + 1) re' den')
+    (e3 ∙ ap (λ s. s ++ one (2 * r + 1) (2 * c) im' den') (e2 ∙ ap (λ s. s ++ one (2 * r) (2 * c + 1) minus den') e1))
+    ∙ simp append_assoc)
 
 pub returns-clause-items : goal.returns-clause-items
 returns-clause-items c =

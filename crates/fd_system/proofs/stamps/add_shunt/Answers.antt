@@ -22,6 +22,8 @@ returns-clause-items c =
     let u = to_z-of_z w128 a.den c.ranges.den in
     let t = negated a.re c.ranges.re nr in
     let v = negated a.im c.ranges.im ni in
-    joined_four _ _ _ _ _ _ _ _ _ c.add_complex.ensures.items c.add_complex-2.ensures.items c.add_complex-3.ensures.items c.add_complex-4.ensures.items
+    joined_four _ _ _ _ _ _ _ _ _ c.add_complex.ensures.items c.add_complex-2.ensures.items
+    c.add_complex-3.ensures.items c.add_complex-4.ensures.items
     ∙ (λ i. a.terms.now.items
-    ++ ((complex_terms f f (p i) (q i) (u i) ++ complex_terms f s (t i) (v i) (u i)) ++ (complex_terms s f (t i) (v i) (u i) ++ complex_terms s s (p i) (q i) (u i))))
+    ++ ((complex_terms f f (p i) (q i) (u i) ++ complex_terms f s (t i) (v i) (u i))
+    ++ (complex_terms s f (t i) (v i) (u i) ++ complex_terms s s (p i) (q i) (u i))))

@@ -27,7 +27,8 @@ other_linear = record {
 
 all_linear : AreLinear 2 (third ∷ third ∷ other ∷ [])
 all_linear = record {
-  each = All-cons (IsLinear 2) third (third ∷ other ∷ []) third_linear (All-cons (IsLinear 2) third (other ∷ []) third_linear (All-cons (IsLinear 2) other [] other_linear (All-nil (IsLinear 2))));
+  each = All-cons (IsLinear 2) third (third ∷ other ∷ []) third_linear (All-cons (IsLinear 2) third (other ∷ [])
+      third_linear (All-cons (IsLinear 2) other [] other_linear (All-nil (IsLinear 2))));
   few = lit< tt;
 }
 

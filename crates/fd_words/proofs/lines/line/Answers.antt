@@ -16,10 +16,13 @@ one_more name ids i d lt =
 
 pub loop-id-preserved : goal.loop-id-preserved
 loop-id-preserved c =
-    let positional_is : rule_of c.required-positional.result ≡ positional _ = ap rule_of c.required-positional.ensures ∙ ap (λ (r : Rule). record r { required = true }) c.new.ensures.rule in
+    let positional_is : rule_of c.required-positional.result ≡ positional _ =
+    ap rule_of c.required-positional.ensures ∙ ap (λ (r : Rule). record r { required = true }) c.new.ensures.rule in
     let here = c.loop-id.invariant in
     let local : c.required-positional.result.global ≡ false = search rules in
     record {
-      app = c.in_ok-command.ensures.shape local ∙ (ap₂ with_rule here.app positional_is ∙ one_more c.args.name.now c.args.ids.now c.loop-id.id-index _ c.loop-id-test.true);
+      app = c.in_ok-command.ensures.shape local
+          ∙ (ap₂ with_rule here.app positional_is
+          ∙ one_more c.args.name.now c.args.ids.now c.loop-id.id-index _ c.loop-id-test.true);
       local = rw (here.local, local) at c.in_ok-command.ensures.globals;
     }

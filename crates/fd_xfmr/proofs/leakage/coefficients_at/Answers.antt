@@ -15,11 +15,16 @@ returns-clause-coefficients c =
     let v = c.first_volts in
     let r = c.resistance in
     let x = c.reactance in
-    coefficients_same d t _ _ _ _
-    (product_is c.product.result _ (second_volts d) _ t.second c.product.ensures.value (read u.result (voltage_small u.result u.ensures.within) ∙ u.ensures.value) refl c.product.ensures.within)
-    (product_is c.product-2.result _ (first_volts d) _ t.first c.product-2.ensures.value (read v.result (voltage_small v.result v.ensures.within) ∙ v.ensures.value) refl c.product-2.ensures.within)
-    (product_is c.product-3.result _ (nominal_resistance d) _ (t.second * t.second) c.product-3.ensures.value (read r.result (ohms_small r.result r.ensures.within) ∙ r.ensures.value) c.square.ensures.value c.product-3.ensures.within)
-    (product_is c.product-4.result _ (nominal_reactance d) _ (t.second * t.second) c.product-4.ensures.value (read x.result (ohms_small x.result x.ensures.within) ∙ x.ensures.value) c.square-2.ensures.value c.product-4.ensures.within)
+    coefficients_same d t _ _ _ _ (product_is c.product.result _ (second_volts d) _ t.second c.product.ensures.value
+    (read u.result (voltage_small u.result u.ensures.within) ∙ u.ensures.value) refl c.product.ensures.within)
+    (product_is c.product-2.result _ (first_volts d) _ t.first c.product-2.ensures.value
+    (read v.result (voltage_small v.result v.ensures.within) ∙ v.ensures.value) refl c.product-2.ensures.within)
+    (product_is c.product-3.result _ (nominal_resistance d) _ (t.second * t.second) c.product-3.ensures.value
+    (read r.result (ohms_small r.result r.ensures.within) ∙ r.ensures.value) c.square.ensures.value
+    c.product-3.ensures.within)
+    (product_is c.product-4.result _ (nominal_reactance d) _ (t.second * t.second) c.product-4.ensures.value
+    (read x.result (ohms_small x.result x.ensures.within) ∙ x.ensures.value) c.square-2.ensures.value
+    c.product-4.ensures.within)
 
 pub returns-clause-within : goal.returns-clause-within
 returns-clause-within c =

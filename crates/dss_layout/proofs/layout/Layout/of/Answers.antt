@@ -7,16 +7,21 @@ use Rattle.dss_layout.proofs.layout.Layout.of.Goals as goal
 
 pub returns-then-branch : goal.returns-then-branch
 returns-then-branch c =
-    let here = ap (λ es. slice_get es c.loop-place.place) (sym c.as_slice-entries.ensures.entries) ∙ sym c.get_index.ensures.entry ∙ ap (option_map deref_pair) c.unwrap.ensures in
+    let here = ap (λ es. slice_get es c.loop-place.place) (sym c.as_slice-entries.ensures.entries)
+    ∙ sym c.get_index.ensures.entry
+    ∙ ap (option_map deref_pair) c.unwrap.ensures in
     too_many_at _ c.loop-place.place _ _ _ _ here c.loop-place.invariant.so_far c.loop-place.invariant.before c.in_ok-add.ensures.passes c.if-branch.true
 
 pub loop-place-preserved : goal.loop-place-preserved
 loop-place-preserved c =
-    let here = ap (λ es. slice_get es c.loop-place.place) (sym c.as_slice-entries.ensures.entries) ∙ sym c.get_index.ensures.entry ∙ ap (option_map deref_pair) c.unwrap.ensures in
+    let here = ap (λ es. slice_get es c.loop-place.place) (sym c.as_slice-entries.ensures.entries)
+    ∙ sym c.get_index.ensures.entry
+    ∙ ap (option_map deref_pair) c.unwrap.ensures in
     record {
       so_far = c.in_ok-add.ensures.added c.if-branch.false ∙ added_next _ c.loop-place.place _ _ _ here c.loop-place.invariant.so_far;
       within = ap passes_limit (c.in_ok-add.ensures.added c.if-branch.false) ∙ sym c.in_ok-add.ensures.passes ∙ c.if-branch.false;
-      before = passed_more _ c.loop-place.place _ _ _ _ here c.loop-place.invariant.so_far c.loop-place.invariant.before c.in_ok-add.ensures.passes c.if-branch.false;
+      before = passed_more _ c.loop-place.place _ _ _ _ here c.loop-place.invariant.so_far
+          c.loop-place.invariant.before c.in_ok-add.ensures.passes c.if-branch.false;
     }
 
 pub returns : goal.returns

@@ -14,4 +14,5 @@ returns-in-Ok-clause-told g c =
 pub returns-in-Ok-clause-asked : goal.returns-in-Ok-clause-asked
 returns-in-Ok-clause-asked g c =
     let P : List ℕ → Type 0 = λ n. Becomes (g.L.Library.asked c.args.lib.now) (g.L.Library.asked c.read.new.self) (λ ns. ns ++ n ∷ []) in
-    enter_asked (g.L.Library.asked c.args.lib.now) (g.L.Library.asked c.read.new.self) c.args.name c.supply.result (subst P c.as_str.ensures.bytes c.in-Ok.ensures.asked)
+    enter_asked (g.L.Library.asked c.args.lib.now) (g.L.Library.asked c.read.new.self) c.args.name c.supply.result
+    (subst P c.as_str.ensures.bytes c.in-Ok.ensures.asked)

@@ -13,7 +13,9 @@ loop-place-preserved-in-Ok-Goes g c =
     let spent = rw c.in-Ok-Goes.field-0-is at c.in-Ok-Goes.ensures.room in
     record {
       holds = c.loop-place.invariant.holds;
-      reached = λ files told. reached_same _ _ _ _ _ (c.loop-place.invariant.reached files told) (rw c.in-Ok-Goes.field-0-is at (c.in-Ok-Goes.ensures.steps files));
+      reached = λ files told.
+          reached_same _ _ _ _ _ (c.loop-place.invariant.reached files told)
+          (rw c.in-Ok-Goes.field-0-is at (c.in-Ok-Goes.ensures.steps files));
       some = c.loop-place.invariant.some;
       faults = c.loop-place.invariant.faults;
       room = omega (arith, spent.0, c.loop-place.invariant.room);
@@ -26,7 +28,9 @@ loop-place-preserved g c =
       holds = c.enter.ensures.holds ∙ c.loop-place.invariant.holds;
       reached = λ files told.
           reached_read _ _ _ _ _ _ c.in-Ok-Reads.name (c.loop-place.invariant.reached files told)
-          (let reads = rw c.in-Ok-Reads.field-0-is at (c.in-Ok-Reads.ensures.steps files) in reads ∙ ap (asks c.in-Ok-Reads.name) (c.in-Ok-enter.ensures.told files (c.loop-place.invariant.holds ∙ told)))
+          (let reads = rw c.in-Ok-Reads.field-0-is at (c.in-Ok-Reads.ensures.steps files) in
+          reads
+          ∙ ap (asks c.in-Ok-Reads.name) (c.in-Ok-enter.ensures.told files (c.loop-place.invariant.holds ∙ told)))
           c.in-Ok-enter.ensures.asked;
       some = some_more _ _ _ c.in-Ok-Reads.name c.loop-place.invariant.some c.in-Ok-enter.ensures.asked;
       faults = omega (arith, c.enter.ensures.cause.later, c.loop-place.invariant.faults);
@@ -50,7 +54,9 @@ pub returns-in-Err-enter-clause-grows : goal.returns-in-Err-enter-clause-grows
 returns-in-Err-enter-clause-grows g c = some_entering _ _ _ c.in-Ok-Reads.name c.in-Err-enter.e c.loop-place.invariant.some c.in-Err-enter.ensures.asked
 
 pub returns-in-Err-enter-clause-last : goal.returns-in-Err-enter-clause-last
-returns-in-Err-enter-clause-last g c = last_here _ _ _ c.in-Ok-Reads.name c.in-Err-enter.e c.loop-place.invariant.some c.in-Err-enter.ensures.asked c.in-Err-enter.ensures.named
+returns-in-Err-enter-clause-last g c =
+    last_here _ _ _ c.in-Ok-Reads.name c.in-Err-enter.e c.loop-place.invariant.some c.in-Err-enter.ensures.asked
+    c.in-Err-enter.ensures.named
 
 pub returns-in-Err-enter-clause-goes : goal.returns-in-Err-enter-clause-goes
 returns-in-Err-enter-clause-goes g c = not_ended Unit (Option Command) c.in-Err-enter.e c.in-Err-enter.ensures.goes
@@ -72,8 +78,9 @@ returns-in-Err-clause-told g c =
     λ files told. fails_here files _ _ c.step.new.self c.step.new.self _ _ c.in-Err.e (c.loop-place.invariant.reached files told) (c.in-Err.ensures.steps files)
 
 pub returns-in-Err-clause-asked : goal.returns-in-Err-clause-asked
-returns-in-Err-clause-asked g c =
-    λ files told. asks_here files _ _ c.step.new.self _ _ c.in-Err.e (c.loop-place.invariant.reached files told) (c.in-Err.ensures.steps files) c.in-Err.ensures.goes c.in-Err.ensures.reads_nothing
+returns-in-Err-clause-asked g c = λ files told.
+    asks_here files _ _ c.step.new.self _ _ c.in-Err.e (c.loop-place.invariant.reached files told)
+    (c.in-Err.ensures.steps files) c.in-Err.ensures.goes c.in-Err.ensures.reads_nothing
 
 pub returns-in-Err-clause-goes : goal.returns-in-Err-clause-goes
 returns-in-Err-clause-goes g c = not_ended Turn (Option Command) c.in-Err.e c.in-Err.ensures.goes
@@ -82,13 +89,19 @@ pub returns-in-Ok-clause-told : goal.returns-in-Ok-clause-told
 returns-in-Ok-clause-told g c =
     λ files told.
     let steps = rw c.in-Ok-Gives.field-0-is at (c.in-Ok-Gives.ensures.steps files) in
-    reached_said _ _ _ _ _ (reached_command files _ _ _ _ _ c.in-Ok.verb _ _ _ (c.loop-place.invariant.reached files told) steps (c.in-Ok.ensures.fills files (c.loop-place.invariant.holds ∙ told))) refl
+    reached_said _ _ _ _ _
+    (reached_command files _ _ _ _ _ c.in-Ok.verb _ _ _ (c.loop-place.invariant.reached files told) steps
+    (c.in-Ok.ensures.fills files (c.loop-place.invariant.holds ∙ told)))
+    refl
 
 pub returns-in-Ok-clause-asked : goal.returns-in-Ok-clause-asked
 returns-in-Ok-clause-asked g c =
     λ files told.
     let steps = rw c.in-Ok-Gives.field-0-is at (c.in-Ok-Gives.ensures.steps files) in
-    reached_all _ _ _ _ _ (reached_command files _ _ _ _ _ c.in-Ok.verb _ _ _ (c.loop-place.invariant.reached files told) steps (c.in-Ok.ensures.fills files (c.loop-place.invariant.holds ∙ told))) refl refl
+    reached_all _ _ _ _ _
+    (reached_command files _ _ _ _ _ c.in-Ok.verb _ _ _ (c.loop-place.invariant.reached files told) steps
+    (c.in-Ok.ensures.fills files (c.loop-place.invariant.holds ∙ told)))
+    refl refl
 
 pub returns-in-Ok-clause-grows : goal.returns-in-Ok-clause-grows
 returns-in-Ok-clause-grows g c = some_both _ _ _ c.loop-place.invariant.some c.fill.ensures.grows
@@ -97,13 +110,15 @@ pub returns-in-Err-fill-clause-told : goal.returns-in-Err-fill-clause-told
 returns-in-Err-fill-clause-told g c =
     λ files told.
     let steps = rw c.in-Ok-Gives.field-0-is at (c.in-Ok-Gives.ensures.steps files) in
-    fails_filling files _ _ _ _ _ c.step.new.self c.in-Err-fill.e _ _ _ (c.loop-place.invariant.reached files told) steps (c.in-Err-fill.ensures.fills files (c.loop-place.invariant.holds ∙ told))
+    fails_filling files _ _ _ _ _ c.step.new.self c.in-Err-fill.e _ _ _ (c.loop-place.invariant.reached files told)
+    steps (c.in-Err-fill.ensures.fills files (c.loop-place.invariant.holds ∙ told))
 
 pub returns-in-Err-fill-clause-asked : goal.returns-in-Err-fill-clause-asked
 returns-in-Err-fill-clause-asked g c =
     λ files told.
     let steps = rw c.in-Ok-Gives.field-0-is at (c.in-Ok-Gives.ensures.steps files) in
-    asks_filling files _ _ _ _ _ c.in-Err-fill.e _ _ _ (c.loop-place.invariant.reached files told) steps (c.in-Err-fill.ensures.fills files (c.loop-place.invariant.holds ∙ told))
+    asks_filling files _ _ _ _ _ c.in-Err-fill.e _ _ _ (c.loop-place.invariant.reached files told) steps
+    (c.in-Err-fill.ensures.fills files (c.loop-place.invariant.holds ∙ told))
 
 pub returns-in-Err-fill-clause-grows : goal.returns-in-Err-fill-clause-grows
 returns-in-Err-fill-clause-grows g c = some_both _ _ _ c.loop-place.invariant.some c.fill.ensures.grows

@@ -17,4 +17,7 @@ returns c =
     let zz : FitsSigned w128 (pos 0 -ℤ to_z w128 (of_z w128 c.in-Some.a)) = omega (arith, ints, c.in-Some.ensures) in
     let q : c.div_euclid.result ≡ int_div_euclid z c.args.d = c.div_euclid.ensures ∙ ap (int_div_euclid z) (to_z-of_z w128 c.args.d fd) in
     let fq : Fits c.div_euclid.result = subst Fits (sym q) (quotient_fits z c.args.d fz c.requires.positive) in
-    c.of.ensures ∙ ap within (ceil_by_euclid c.in-Some.a c.args.d z c.div_euclid.result _ c.requires.positive e q (omega (arith, ints, fq.0, fq.1))) ∙ ap (λ w. wide_quotient w (unsigned_abs c.args.d)) c.in-Some.ensures.number
+    c.of.ensures
+    ∙ ap within (ceil_by_euclid c.in-Some.a c.args.d z c.div_euclid.result _ c.requires.positive e q
+    (omega (arith, ints, fq.0, fq.1)))
+    ∙ ap (λ w. wide_quotient w (unsigned_abs c.args.d)) c.in-Some.ensures.number

@@ -15,5 +15,6 @@ returns c =
     let q = simp to_z-of_z at c.point_product-2.ensures in
     let r = simp to_z-of_z at c.point_product-3.ensures in
     let s = simp to_z-of_z at c.point_product-4.ensures in
-    area_from c.in-Some.ensures.ends c.in-Some-ends.ensures.ends (
-    c.hull.ensures.ends ∙ (λ i. hull_of ((c.hull-at_lo.ensures.ends ∙ (λ j. hull_of (p j) (q j))) i) ((c.hull-at_hi.ensures.ends ∙ (λ j. hull_of (r j) (s j))) i)))
+    area_from c.in-Some.ensures.ends c.in-Some-ends.ensures.ends (c.hull.ensures.ends ∙ (λ i.
+    hull_of ((c.hull-at_lo.ensures.ends ∙ (λ j. hull_of (p j) (q j))) i)
+    ((c.hull-at_hi.ensures.ends ∙ (λ j. hull_of (r j) (s j))) i)))

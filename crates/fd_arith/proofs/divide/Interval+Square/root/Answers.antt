@@ -11,8 +11,11 @@ roots c =
     let lo : FitsSigned w128 c.in-Some.lo = omega (arith, ints, c.in-Some.ensures) in
     let hi : FitsSigned w128 c.in-Some.hi = omega (arith, ints, c.in-Some.ensures) in
     let u = simp to_z-of_z at c.non_negative.ensures in
-    let v = simp to_z-of_z at c.non_negative-2.ensures in
-    (subst (λ (n : ℕ). IsRoot n c.isqrt-low.result) u (c.isqrt-low.ensures.square_le, c.isqrt-low.ensures.next_square_gt), subst (λ (n : ℕ). IsRootUp n c.root_up-high.result) v c.root_up-high.ensures.root)
+    let v = simp to_z-of_z at c.non_negative-2.ensures in (
+      subst (λ (n : ℕ). IsRoot n c.isqrt-low.result) u
+          (c.isqrt-low.ensures.square_le, c.isqrt-low.ensures.next_square_gt),
+      subst (λ (n : ℕ). IsRootUp n c.root_up-high.result) v c.root_up-high.ensures.root,
+    )
 
 pub known-requires-clause-order : goal.known-requires-clause-order
 known-requires-clause-order c =

@@ -15,5 +15,7 @@ returns g c =
     let q = simp to_z-of_z at c.scaled_quotient-2.ensures in
     let r = simp to_z-of_z at c.scaled_quotient-3.ensures in
     let s = simp to_z-of_z at c.scaled_quotient-4.ensures in
-    quotient_from c.in-Some.ensures.ends c.in-Some-ends.ensures.ends c.in-Some-ends.ensures.valid.1.1 (omega (arith, ints)) (omega (arith, ints)) (
-    c.hull.ensures.ends ∙ (λ i. hull_of ((c.hull-at_lo.ensures.ends ∙ (λ j. hull_of (p j) (q j))) i) ((c.hull-at_hi.ensures.ends ∙ (λ j. hull_of (r j) (s j))) i)))
+    quotient_from c.in-Some.ensures.ends c.in-Some-ends.ensures.ends c.in-Some-ends.ensures.valid.1.1
+    (omega (arith, ints)) (omega (arith, ints)) (c.hull.ensures.ends ∙ (λ i.
+    hull_of ((c.hull-at_lo.ensures.ends ∙ (λ j. hull_of (p j) (q j))) i)
+    ((c.hull-at_hi.ensures.ends ∙ (λ j. hull_of (r j) (s j))) i)))

@@ -10,4 +10,7 @@ pub known-requires-clause-upper : goal.known-requires-clause-upper
 known-requires-clause-upper g c = omega (arith, ints, clamps, c.in-Some.ensures, c.in-Some-ends.ensures, c.min.ensures, c.max.ensures)
 
 pub returns : goal.returns
-returns g c = hull_from c.in-Some.ensures.ends c.in-Some-ends.ensures.ends c.known.ensures (omega (arith, ints, clamps, c.in-Some.ensures, c.in-Some-ends.ensures, c.min.ensures, c.max.ensures)) (omega (arith, ints, clamps, c.in-Some.ensures, c.in-Some-ends.ensures, c.min.ensures, c.max.ensures))
+returns g c =
+    hull_from c.in-Some.ensures.ends c.in-Some-ends.ensures.ends c.known.ensures
+    (omega (arith, ints, clamps, c.in-Some.ensures, c.in-Some-ends.ensures, c.min.ensures, c.max.ensures))
+    (omega (arith, ints, clamps, c.in-Some.ensures, c.in-Some-ends.ensures, c.min.ensures, c.max.ensures))

@@ -13,7 +13,8 @@ returns-in-Some-clause-units c =
     let flat : IsFlatOf m es = subst (λ o. IfSome o (λ es. IsFlatOf m es.items)) c.in-Some.is c.requires.flat in
     let added = λ (j : ℕ). c.add_entries.ensures.sums j ∙ ap (list_z (entry_term (part c.args.factors.now) j)) c.deref.ensures.value in
     let few : m.size ≤ 2 ^ 11 = omega (arith, c.size-size.ensures.small, c.size-size.ensures.size) in
-    flat_units m es c.args.factors.now c.add_entries.new.sums flat few c.requires.factors added c.requires.made.J c.requires.made.has (c.add_entries.ensures.long ∙ c.requires.sums)
+    flat_units m es c.args.factors.now c.add_entries.new.sums flat few c.requires.factors added c.requires.made.J
+    c.requires.made.has (c.add_entries.ensures.long ∙ c.requires.sums)
 
 pub returns-in-Some-clause-sums : goal.returns-in-Some-clause-sums
 returns-in-Some-clause-sums c = λ J has.

@@ -27,5 +27,6 @@ returns-else-is_due c =
 
 pub returns-in-Err-Refused : goal.returns-in-Err-Refused
 returns-in-Err-Refused c =
-    subst (λ (r : ReaderView). next_of r c.args.size ≡ Err (c.self.inside.line + c.in-Err-Refused.behind, Grammar)) c.self.view_is
-    (next_refused _ c.args.size refl c.in-Err-Refused.behind (sym c.if-is_ended.false ∙ c.is_ended.ensures) (rw c.in-Err-Refused.field-0-is at c.in-Err-Refused.ensures))
+    subst (λ (r : ReaderView). next_of r c.args.size ≡ Err (c.self.inside.line + c.in-Err-Refused.behind, Grammar))
+    c.self.view_is (next_refused _ c.args.size refl c.in-Err-Refused.behind
+    (sym c.if-is_ended.false ∙ c.is_ended.ensures) (rw c.in-Err-Refused.field-0-is at c.in-Err-Refused.ensures))

@@ -14,7 +14,8 @@ pub returns-in_default : goal.returns-in_default
 returns-in_default c =
     let count = length (map given_block c.self.inside.given.items) in
     subst (λ (r : ReaderView). finish_of r ≡ Err (c.self.inside.line, Grammar)) c.self.view_is
-    (ap (λ (ls : List Line). finished ls c.self.inside.line count) (of_last c.self.inside.rest.now (search rules)) ∙ finish_rest c.self.inside.rest.now c.self.inside.line count)
+    (ap (λ (ls : List Line). finished ls c.self.inside.line count) (of_last c.self.inside.rest.now (search rules))
+    ∙ finish_rest c.self.inside.rest.now c.self.inside.line count)
 
 pub returns-then-is_empty : goal.returns-then-is_empty
 returns-then-is_empty c =

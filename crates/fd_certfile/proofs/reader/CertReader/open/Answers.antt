@@ -10,19 +10,30 @@ use Rattle.fd_certfile.proofs.Reading.{lines_cut}
 use Rattle.fd_certfile.proofs.reader.CertReader.open.Goals as goal
 
 pub invariant_of-result : goal.invariant_of-result
-invariant_of-result c =
-    (omega (arith, length-lines_of c.in-Some.rest.now, ap length c.in-Some.ensures.whole, length-append c.in-Some.text.now (10 ∷ c.in-Some.rest.now)), omega arith)
+invariant_of-result c = (
+  omega (
+    arith,
+    length-lines_of c.in-Some.rest.now,
+    ap length c.in-Some.ensures.whole,
+    length-append c.in-Some.text.now (10 ∷ c.in-Some.rest.now),
+  ),
+  omega arith,
+)
 
 pub returns-then-names_version : goal.returns-then-names_version
 returns-then-names_version c =
-    opened_some (lines_of c.args.bytes.now) (view c.read_line.result) (lines_of c.in-Some.rest.now) (map given_block c.new.result.items) c.names_version.result
-    (lines_cut c.args.bytes.now c.in-Some.text.now c.in-Some.rest.now c.in-Some.ensures.before c.in-Some.ensures.whole ∙ ap (λ l. l ∷ lines_of c.in-Some.rest.now) (sym c.read_line.ensures))
+    opened_some (lines_of c.args.bytes.now) (view c.read_line.result) (lines_of c.in-Some.rest.now)
+    (map given_block c.new.result.items) c.names_version.result
+    (lines_cut c.args.bytes.now c.in-Some.text.now c.in-Some.rest.now c.in-Some.ensures.before c.in-Some.ensures.whole
+    ∙ ap (λ l. l ∷ lines_of c.in-Some.rest.now) (sym c.read_line.ensures))
     c.names_version.ensures c.if-names_version.true (ap (map given_block) c.new.ensures.items)
 
 pub returns-else-names_version : goal.returns-else-names_version
 returns-else-names_version c =
-    opened_none (lines_of c.args.bytes.now) (view c.read_line.result) (lines_of c.in-Some.rest.now) c.names_version.result
-    (lines_cut c.args.bytes.now c.in-Some.text.now c.in-Some.rest.now c.in-Some.ensures.before c.in-Some.ensures.whole ∙ ap (λ l. l ∷ lines_of c.in-Some.rest.now) (sym c.read_line.ensures))
+    opened_none (lines_of c.args.bytes.now) (view c.read_line.result)
+    (lines_of c.in-Some.rest.now) c.names_version.result
+    (lines_cut c.args.bytes.now c.in-Some.text.now c.in-Some.rest.now c.in-Some.ensures.before c.in-Some.ensures.whole
+    ∙ ap (λ l. l ∷ lines_of c.in-Some.rest.now) (sym c.read_line.ensures))
     c.names_version.ensures c.if-names_version.false
 
 pub returns-in-None : goal.returns-in-None

@@ -25,7 +25,9 @@ returns-in-Ok-2-clause-gives c =
     let next : next_of r v.size ≡ Ok (h.block, c.pass.new.self) =
     ap (next_of r) (sym c.size-size.ensures.size) ∙ h.next ∙ ap (λ (w : ReaderView). Ok (h.block, w)) (c.in_ok-pass-in-Ok-2.ensures h.block _ h.next) in
     let read = read_is v parts (square n x.cells.items) h.block (ap (map part) c.deref.ensures.value ∙ h.parts) (ahead_square r n x h) in
-    let told = subst (IsBoxed v (boxed_claim v (map centre_in parts) (map radius_in parts) (map mismatch_in parts) (square n x.cells.items))) c.in-Ok-2.is c.in_ok-certified.ensures.first in
+    let told = subst (IsBoxed v
+    (boxed_claim v (map centre_in parts) (map radius_in parts) (map mismatch_in parts) (square n x.cells.items)))
+    c.in-Ok-2.is c.in_ok-certified.ensures.first in
     let whole : first_unsound v (claim_read v h.block) ≡ None = sym (ap (first_unsound v) read) ∙ told.0 in
     record {
       block = h.block;
@@ -43,7 +45,8 @@ returns-clause-gives c =
     let parts = c.deref.result.now in
     let next = ap (next_of r) (sym c.size-size.ensures.size) ∙ h.next in
     let read = read_is v parts (square n x.cells.items) h.block (ap (map part) c.deref.ensures.value ∙ h.parts) (ahead_square r n x h) in
-    let told = subst (IsBoxed v (boxed_claim v (map centre_in parts) (map radius_in parts) (map mismatch_in parts) (square n x.cells.items))) c.in-Err-2.is c.in_ok-certified.ensures.first in (
+    let told = subst (IsBoxed v (boxed_claim v (map centre_in parts) (map radius_in parts) (map mismatch_in parts)
+    (square n x.cells.items))) c.in-Err-2.is c.in_ok-certified.ensures.first in (
       solved_broken v r h.block _ next c.in-Err-2.broken (sym (ap (first_unsound v) read) ∙ told)
           ∙ ap (λ (k : ℕ). Err (k + 1 + c.in-Err-2.broken.place, c.in-Err-2.broken.rule)) (sym (ap (λ (q : ReaderView). q.line) c.self.view_is))
           ∙ ap (λ (k : ℕ). Err (c.self.inside.line + 1 + k, c.in-Err-2.broken.rule)) (sym c.from.ensures),

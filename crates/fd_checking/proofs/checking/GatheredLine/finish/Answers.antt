@@ -12,37 +12,56 @@ use Rattle.fd_checking.proofs.checking.GatheredLine.finish.Goals as goal
 pub returns-clause-told : goal.returns-clause-told
 returns-clause-told g c files told =
     let s = gathered c.self.inside.circuit (solved_by c.self.inside.commands.items) c.self.inside.certificate in
-    let a = subst (λ (cs : List Command). IsAnsweredSo g.S.Sink.taken g.S.Sink.calls c.args.out.now c.answer_found.new.out (gathered c.self.inside.circuit (solved_by cs) c.self.inside.certificate) (found_bytes c.in-Ok.found) c.answer_found.result)
+    let a = subst (λ (cs : List Command). IsAnsweredSo g.S.Sink.taken g.S.Sink.calls c.args.out.now
+    c.answer_found.new.out (gathered c.self.inside.circuit (solved_by cs) c.self.inside.certificate)
+    (found_bytes c.in-Ok.found) c.answer_found.result)
     c.as_slice.ensures.value (c.answer_found.ensures.answers c.self.inside.circuit c.self.inside.certificate) in
-    let asks = asked_for (g.L.Library.asked c.args.lib.now) (g.L.Library.asked c.read.new.self) c.as_str.result.now c.self.inside.certificate c.read.result (λ e. let no = sym c.in-Ok.is ∙ e in cc no) c.as_str.ensures.bytes c.read.ensures.asked in
-    let there = held_is (g.L.Library.holds c.args.lib.now) files c.as_str.result.now (bytes c.self.inside.certificate) c.in-Ok.found told c.as_str.ensures.bytes c.in-Ok.ensures.held in
-    told_as g.L.Library.faults g.L.Library.asked g.S.Sink.taken g.S.Sink.calls (λ n. held files (bytes n)) c.args.lib.now c.read.new.self c.args._begun s c.args.self.now c.args.out.now c.answer_found.new.out c.answer_found.result c.self.view_is
-    (judged_told g.L.Library.faults g.L.Library.asked g.S.Sink.faults g.S.Sink.taken g.S.Sink.calls s c.args.lib.now c.read.new.self (λ n. held files (bytes n)) c.args._begun a.judged
-    (subst (λ (f : Option (List ℕ)). IsJudged s f (history_in a.judged)) (sym there) a.right) c.args.out.now c.answer_found.new.out c.answer_found.result asks a.prints)
+    let asks = asked_for (g.L.Library.asked c.args.lib.now) (g.L.Library.asked c.read.new.self) c.as_str.result.now
+    c.self.inside.certificate c.read.result (λ e. let no = sym c.in-Ok.is ∙ e in cc no) c.as_str.ensures.bytes
+    c.read.ensures.asked in
+    let there = held_is (g.L.Library.holds c.args.lib.now) files c.as_str.result.now (bytes c.self.inside.certificate)
+    c.in-Ok.found told c.as_str.ensures.bytes c.in-Ok.ensures.held in
+    told_as g.L.Library.faults g.L.Library.asked g.S.Sink.taken g.S.Sink.calls (λ n. held files (bytes n))
+    c.args.lib.now c.read.new.self c.args._begun s c.args.self.now c.args.out.now c.answer_found.new.out
+    c.answer_found.result c.self.view_is (judged_told g.L.Library.faults g.L.Library.asked g.S.Sink.faults
+    g.S.Sink.taken g.S.Sink.calls s c.args.lib.now c.read.new.self (λ n. held files (bytes n)) c.args._begun a.judged
+    (subst (λ (f : Option (List ℕ)). IsJudged s f (history_in a.judged)) (sym there) a.right) c.args.out.now
+    c.answer_found.new.out c.answer_found.result asks a.prints)
 
 pub returns-clause-untold : goal.returns-clause-untold
 returns-clause-untold g c =
     let s = gathered c.self.inside.circuit (solved_by c.self.inside.commands.items) c.self.inside.certificate in
     let a = c.answer_found.ensures.answers c.self.inside.circuit c.self.inside.certificate in
-    let asks = asked_for (g.L.Library.asked c.args.lib.now) (g.L.Library.asked c.read.new.self) c.as_str.result.now c.self.inside.certificate c.read.result (λ e. let no = sym c.in-Ok.is ∙ e in cc no) c.as_str.ensures.bytes c.read.ensures.asked in
-    judged_untold g.L.Library.faults g.L.Library.asked g.S.Sink.faults g.S.Sink.taken g.S.Sink.calls s c.args.lib.now c.read.new.self a.judged a.of_check c.args.out.now c.answer_found.new.out c.answer_found.result asks
+    let asks = asked_for (g.L.Library.asked c.args.lib.now) (g.L.Library.asked c.read.new.self) c.as_str.result.now
+    c.self.inside.certificate c.read.result (λ e. let no = sym c.in-Ok.is ∙ e in cc no) c.as_str.ensures.bytes
+    c.read.ensures.asked in
+    judged_untold g.L.Library.faults g.L.Library.asked g.S.Sink.faults g.S.Sink.taken g.S.Sink.calls s c.args.lib.now
+    c.read.new.self a.judged a.of_check c.args.out.now c.answer_found.new.out c.answer_found.result asks
     c.read.ensures.cause.later a.prints c.answer_found.ensures.write
 
 pub returns-in-Err-Failed-clause-told : goal.returns-in-Err-Failed-clause-told
 returns-in-Err-Failed-clause-told g c files told =
     let s = gathered c.self.inside.circuit (solved_by c.self.inside.commands.items) c.self.inside.certificate in
     let failed = rw c.in-Err-Failed.field-0-is at c.in-Err-Failed.is in
-    let asks = asked_for (g.L.Library.asked c.args.lib.now) (g.L.Library.asked c.read.new.self) c.as_str.result.now c.self.inside.certificate c.read.result (λ e. let no = sym failed ∙ e in cc no) c.as_str.ensures.bytes c.read.ensures.asked in
-    told_as g.L.Library.faults g.L.Library.asked g.S.Sink.taken g.S.Sink.calls (λ n. held files (bytes n)) c.args.lib.now c.read.new.self c.args._begun s c.args.self.now c.args.out.now c.print_unread.new.out c.print_unread.result c.self.view_is
-    (unread_told g.L.Library.faults g.L.Library.asked g.S.Sink.faults g.S.Sink.taken g.S.Sink.calls s c.args.lib.now c.read.new.self (λ n. held files (bytes n)) c.args._begun
-    c.args.out.now c.print_unread.new.out c.print_unread.result asks (c.read.ensures.cause.rose failed) c.print_unread.ensures.prints)
+    let asks = asked_for (g.L.Library.asked c.args.lib.now) (g.L.Library.asked c.read.new.self) c.as_str.result.now
+    c.self.inside.certificate c.read.result (λ e. let no = sym failed ∙ e in cc no) c.as_str.ensures.bytes
+    c.read.ensures.asked in
+    told_as g.L.Library.faults g.L.Library.asked g.S.Sink.taken g.S.Sink.calls (λ n. held files (bytes n))
+    c.args.lib.now c.read.new.self c.args._begun s c.args.self.now c.args.out.now c.print_unread.new.out
+    c.print_unread.result c.self.view_is
+    (unread_told g.L.Library.faults g.L.Library.asked g.S.Sink.faults g.S.Sink.taken g.S.Sink.calls s c.args.lib.now
+    c.read.new.self (λ n. held files (bytes n)) c.args._begun c.args.out.now c.print_unread.new.out
+    c.print_unread.result asks (c.read.ensures.cause.rose failed) c.print_unread.ensures.prints)
 
 pub returns-in-Err-Failed-clause-untold : goal.returns-in-Err-Failed-clause-untold
 returns-in-Err-Failed-clause-untold g c =
     let s = gathered c.self.inside.circuit (solved_by c.self.inside.commands.items) c.self.inside.certificate in
     let failed = rw c.in-Err-Failed.field-0-is at c.in-Err-Failed.is in
-    let asks = asked_for (g.L.Library.asked c.args.lib.now) (g.L.Library.asked c.read.new.self) c.as_str.result.now c.self.inside.certificate c.read.result (λ e. let no = sym failed ∙ e in cc no) c.as_str.ensures.bytes c.read.ensures.asked in
-    unread_untold g.L.Library.faults g.L.Library.asked g.S.Sink.faults g.S.Sink.taken g.S.Sink.calls s c.args.lib.now c.read.new.self c.args.out.now c.print_unread.new.out c.print_unread.result asks
+    let asks = asked_for (g.L.Library.asked c.args.lib.now) (g.L.Library.asked c.read.new.self) c.as_str.result.now
+    c.self.inside.certificate c.read.result (λ e. let no = sym failed ∙ e in cc no) c.as_str.ensures.bytes
+    c.read.ensures.asked in
+    unread_untold g.L.Library.faults g.L.Library.asked g.S.Sink.faults g.S.Sink.taken g.S.Sink.calls s c.args.lib.now
+    c.read.new.self c.args.out.now c.print_unread.new.out c.print_unread.result asks
     (c.read.ensures.cause.rose failed) c.print_unread.ensures.prints c.print_unread.ensures.write
 
 pub returns-in-Err-NoMemory-clause-told : goal.returns-in-Err-NoMemory-clause-told
@@ -50,12 +69,16 @@ returns-in-Err-NoMemory-clause-told g c files told =
     let s = gathered c.self.inside.circuit (solved_by c.self.inside.commands.items) c.self.inside.certificate in
     let short = rw c.in-Err-NoMemory.field-0-is at c.in-Err-NoMemory.is in
     let none = asked_none (g.L.Library.asked c.args.lib.now) (g.L.Library.asked c.read.new.self) c.as_str.result.now c.read.result short c.read.ensures.asked in
-    told_as g.L.Library.faults g.L.Library.asked g.S.Sink.taken g.S.Sink.calls (λ n. held files (bytes n)) c.args.lib.now c.read.new.self c.args._begun s c.args.self.now c.args.out.now c.args.out.now 1 c.self.view_is
-    (unasked_told g.L.Library.faults g.L.Library.asked g.S.Sink.faults g.S.Sink.taken g.S.Sink.calls s c.args.lib.now c.read.new.self (λ n. held files (bytes n)) c.args._begun c.args.out.now none)
+    told_as g.L.Library.faults g.L.Library.asked g.S.Sink.taken g.S.Sink.calls (λ n. held files (bytes n))
+    c.args.lib.now c.read.new.self c.args._begun s c.args.self.now c.args.out.now c.args.out.now 1 c.self.view_is
+    (unasked_told g.L.Library.faults g.L.Library.asked g.S.Sink.faults g.S.Sink.taken g.S.Sink.calls s c.args.lib.now
+    c.read.new.self (λ n. held files (bytes n)) c.args._begun c.args.out.now none)
 
 pub returns-in-Err-NoMemory-clause-untold : goal.returns-in-Err-NoMemory-clause-untold
 returns-in-Err-NoMemory-clause-untold g c =
     let s = gathered c.self.inside.circuit (solved_by c.self.inside.commands.items) c.self.inside.certificate in
     let short = rw c.in-Err-NoMemory.field-0-is at c.in-Err-NoMemory.is in
     let none = asked_none (g.L.Library.asked c.args.lib.now) (g.L.Library.asked c.read.new.self) c.as_str.result.now c.read.result short c.read.ensures.asked in
-    short_untold g.L.Library.faults g.L.Library.asked g.S.Sink.faults g.S.Sink.taken g.S.Sink.calls s c.args.lib.now c.read.new.self c.args.out.now (grows_nothing (g.L.Library.asked c.args.lib.now) (g.L.Library.asked c.read.new.self) none)
+    short_untold g.L.Library.faults g.L.Library.asked g.S.Sink.faults g.S.Sink.taken g.S.Sink.calls s c.args.lib.now
+    c.read.new.self c.args.out.now
+    (grows_nothing (g.L.Library.asked c.args.lib.now) (g.L.Library.asked c.read.new.self) none)

@@ -18,8 +18,10 @@ pub returns-in-Ok-Some-clause-ends : goal.returns-in-Ok-Some-clause-ends
 returns-in-Ok-Some-clause-ends g c =
     let told = rw c.in-Ok-Some.field-0-is at c.in-Ok-Some.ensures in
     let right = subst (λ s. IsCheckStep c.args.command s (ends [] c.in-Ok-Some.fault)) c.self.view_is (told.step c.self.inside.certificate) in
-    ends_refused report (IsCheckStep c.args.command c.args.self.now) g.S.Sink.taken g.S.Sink.calls c.args.out.now c.print_fault.new.out c.args._begun.now c.in-Ok-Some.fault c.print_fault.result right c.print_fault.ensures.prints
+    ends_refused report (IsCheckStep c.args.command c.args.self.now) g.S.Sink.taken g.S.Sink.calls c.args.out.now
+    c.print_fault.new.out c.args._begun.now c.in-Ok-Some.fault c.print_fault.result right c.print_fault.ensures.prints
 
 pub returns-in-Err-clause-ends : goal.returns-in-Err-clause-ends
 returns-in-Err-clause-ends g c =
-    ends_without_memory report (IsCheckStep c.args.command c.args.self.now) g.S.Sink.taken g.S.Sink.calls c.args.out.now c.args._begun.now (one_check_step c.args.command c.args.self.now)
+    ends_without_memory report (IsCheckStep c.args.command c.args.self.now) g.S.Sink.taken g.S.Sink.calls
+    c.args.out.now c.args._begun.now (one_check_step c.args.command c.args.self.now)

@@ -17,14 +17,16 @@ returns-in-Ok-clause-underway c =
     let loads = c.in_ok-powers.ensures.powers in
     record {
       positions = record {
-        counts = other_settings circuit c.args.at.now c.args.self.now.powers.loads c.in_ok-powers.powers c.hour-hour.result loads c.hours_law.ensures c.requires.positions;
+        counts = other_settings circuit c.args.at.now c.args.self.now.powers.loads c.in_ok-powers.powers
+            c.hour-hour.result loads c.hours_law.ensures c.requires.positions;
         taps = c.requires.positions.taps;
       };
       powers = loads ∙ ap (hour_powers circuit.elements) c.hour-hour.ensures;
       modest = c.in_ok-powers.ensures.modest;
       day = c.requires.day;
       hour = c.requires.hour;
-      network = network_there circuit c.args.at.now c.in_ok-powers.powers c.update.new.self c.in-Ok.ensures.built c.in-Ok.ensures.network c.in-Ok.ensures.no_blame c.in-Ok.ensures.agrees;
+      network = network_there circuit c.args.at.now c.in_ok-powers.powers c.update.new.self c.in-Ok.ensures.built
+          c.in-Ok.ensures.network c.in-Ok.ensures.no_blame c.in-Ok.ensures.agrees;
     }
 
 pub returns-in-Err-clause-refused : goal.returns-in-Err-clause-refused

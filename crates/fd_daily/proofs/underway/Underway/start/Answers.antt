@@ -33,14 +33,16 @@ returns-in-Ok-clause-underway c =
     let some : c.in_ok-day.day.hour ≡ Some c.unwrap-hour.result = sym c.next_hour.ensures ∙ c.unwrap-hour.ensures in
     record {
       positions = record {
-        counts = first_settings circuit before c.in_ok-start.start taps closed c.next_law.ensures c.hours_law.ensures c.in_ok-powers.powers c.unwrap-hour.result loads;
+        counts = first_settings circuit before c.in_ok-start.start taps closed c.next_law.ensures c.hours_law.ensures
+            c.in_ok-powers.powers c.unwrap-hour.result loads;
         taps = first_taps circuit before c.in_ok-start.start taps closed c.next_law.ensures c.elements-elements.ensures.in_range c.requires.taps;
       };
       powers = loads ∙ ap (λ (o : Option ℕ). hour_powers circuit.elements (unwrap_or o 0)) (sym some);
       modest = c.in_ok-powers.ensures.modest;
       day = c.in_ok-day.ensures.day;
       hour = subst IsSome (sym some) refl;
-      network = network_there circuit c.in_ok-start.start c.in_ok-powers.powers c.in-Ok.net c.in-Ok.ensures.built c.in-Ok.ensures.network c.in-Ok.ensures.no_blame c.in-Ok.ensures.agrees;
+      network = network_there circuit c.in_ok-start.start c.in_ok-powers.powers c.in-Ok.net c.in-Ok.ensures.built
+          c.in-Ok.ensures.network c.in-Ok.ensures.no_blame c.in-Ok.ensures.agrees;
     }
 
 pub returns-in-Err-clause-refused : goal.returns-in-Err-clause-refused

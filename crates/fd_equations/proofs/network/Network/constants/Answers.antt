@@ -9,4 +9,6 @@ pub returns-clause-small : goal.returns-clause-small
 returns-clause-small c =
     let n = subst IsNetwork c.self.view_is c.self.invariant.0 in
     let cs = ap (λ v. v.stamp.constants) c.self.view_is in
-    IfOk-weaker c.constant_sums.result _ _ (λ rows e. constants_small c.args.self.now n rows.items (e ∙ (λ i. list_of (c.size.ensures.size i) (constant_sum (cs i))))) c.constant_sums.ensures
+    IfOk-weaker c.constant_sums.result _ _ (λ rows e.
+    constants_small c.args.self.now n rows.items (e ∙ (λ i. list_of (c.size.ensures.size i) (constant_sum (cs i)))))
+    c.constant_sums.ensures

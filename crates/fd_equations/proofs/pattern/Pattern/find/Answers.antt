@@ -13,7 +13,10 @@ returns-in-Err-clause-none c =
 pub returns-in-Ok-clause-some : goal.returns-in-Ok-clause-some
 returns-in-Ok-clause-some c =
     let same = c.deref.ensures.value ∙ ap (λ (v : PatternView). v.places) c.self.view_is in
-    subst (λ l. IsSlot l c.args.row c.args.col c.in-Ok.k) same (slot_of c.deref.result.now c.args.row c.args.col c.in-Ok.k c.in-Ok.ensures.bound c.in-Ok.ensures.position)
+    subst (λ l. IsSlot l c.args.row c.args.col c.in-Ok.k) same
+    (slot_of c.deref.result.now c.args.row c.args.col c.in-Ok.k c.in-Ok.ensures.bound c.in-Ok.ensures.position)
 
 pub returns-in-Ok-clause-only : goal.returns-in-Ok-clause-only
-returns-in-Ok-clause-only c = λ j s. only_slot c.args.self.now.places c.args.row c.args.col j c.in-Ok.k (subst (λ v. IsRising v.places) c.self.view_is c.self.invariant.0.rising) s (returns-in-Ok-clause-some c)
+returns-in-Ok-clause-only c = λ j s.
+    only_slot c.args.self.now.places c.args.row c.args.col j c.in-Ok.k
+    (subst (λ v. IsRising v.places) c.self.view_is c.self.invariant.0.rising) s (returns-in-Ok-clause-some c)

@@ -10,8 +10,12 @@ returns c =
     let i = c.self.inside in
     let are = c.self.invariant in
     let cells = c.deref.ensures.value in (
-      λ t row col. subst AreSmall (ap (λ v. linear_entry v.terms row col) c.self.view_is)
-          (all_sums i.pattern.places i.cells.items i.terms.items i.loads.items are.sums are.nothing (subst (All (λ x. AreSmall x.units)) cells (c.are_small.ensures.0 t)) row col),
-      λ all. c.are_small.ensures.1 (subst (All (λ x. AreSmall x.units)) (sym cells)
-          (sums_all i.pattern.places i.cells.items i.terms.items i.loads.items are.sums (λ row col. subst AreSmall (sym (ap (λ v. linear_entry v.terms row col) c.self.view_is)) (all row col)))),
+      λ t row col.
+          subst AreSmall (ap (λ v. linear_entry v.terms row col) c.self.view_is)
+          (all_sums i.pattern.places i.cells.items i.terms.items i.loads.items are.sums are.nothing
+          (subst (All (λ x. AreSmall x.units)) cells (c.are_small.ensures.0 t)) row col),
+      λ all.
+          c.are_small.ensures.1 (subst (All (λ x. AreSmall x.units)) (sym cells)
+          (sums_all i.pattern.places i.cells.items i.terms.items i.loads.items are.sums (λ row col.
+          subst AreSmall (sym (ap (λ v. linear_entry v.terms row col) c.self.view_is)) (all row col)))),
     )

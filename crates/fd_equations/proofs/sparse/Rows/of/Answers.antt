@@ -11,7 +11,8 @@ pub reaching-requires-clause-inside : goal.reaching-requires-clause-inside
 reaching-requires-clause-inside c =
     let ts = c.deref.ensures.value in
     let us = c.deref-2.ensures.value in
-    subst (All (IsInside c.args.size)) (sym (c.in_ok-places.ensures ∙ (λ i. places_of (ts i) (us i)))) (all_inside c.args.size c.args.terms.items c.args.loads.items c.requires.linear.each c.requires.loads)
+    subst (All (IsInside c.args.size)) (sym (c.in_ok-places.ensures ∙ (λ i. places_of (ts i) (us i))))
+    (all_inside c.args.size c.args.terms.items c.args.loads.items c.requires.linear.each c.requires.loads)
 
 pub replace-requires : goal.replace-requires
 replace-requires c =

@@ -18,7 +18,9 @@ invariant_of-self c =
     let ts = c.deref-3.ensures.value ∙ terms in
     let us = c.deref-4.ensures.value ∙ loads in
     let sums = subst (λ f. AreCells p.places c.renew.new.cells f) (λ i. of_rows (ts i) (us i)) c.renew.ensures in
-    let are = held_rows c.args.self.now p c.args.terms.now.items c.args.loads.now.items c.renew.new.cells (ap (λ (v : RowsView). v.size) c.self.view_is) (ap (λ (v : RowsView). v.places) c.self.view_is) c.self.invariant.small c.requires.held sums in
+    let are = held_rows c.args.self.now p c.args.terms.now.items c.args.loads.now.items c.renew.new.cells
+    (ap (λ (v : RowsView). v.size) c.self.view_is) (ap (λ (v : RowsView). v.places) c.self.view_is)
+    c.self.invariant.small c.requires.held sums in
     let out = c.renew.new.cells in
     subst (AreRows p c.swap.new.x.items c.swap-2.new.x.items) (sym (rewritten c.self.inside.cells.items out c.self.inside.cells.len long))
     (subst (λ l. AreRows p l c.swap-2.new.x.items out) (sym terms) (subst (λ l. AreRows p c.args.terms.now.items l out) (sym loads) are))

@@ -8,13 +8,18 @@ use Rattle.fd_equations.proofs.sparse.Rows.start.Goals as goal
 pub add_start_slopes-requires-clause-room : goal.add_start_slopes-requires-clause-room
 add_start_slopes-requires-clause-room c =
     let i = c.self.inside in
-    bare_room i.pattern i.terms.items i.loads.items i.cells.items c.deref_mut.result.now c.self.invariant (c.deref_mut.ensures.value ∙ c.in_ok-cells.ensures ∙ ap (map without_slopes) c.deref.ensures.value)
+    bare_room i.pattern i.terms.items i.loads.items i.cells.items c.deref_mut.result.now c.self.invariant
+    (c.deref_mut.ensures.value ∙ c.in_ok-cells.ensures ∙ ap (map without_slopes) c.deref.ensures.value)
 
 pub returns : goal.returns
 returns c =
     let i = c.self.inside in
     let long : c.in_ok-cells.cells.len ≡ length c.add_start_slopes.new.cells = search rules in
-    let grown = subst (λ l. AreGrown i.pattern.places c.deref_mut.result.now c.add_start_slopes.new.cells (of_loads (λ u. start_slopes u.load) l)) c.deref-2.ensures.value c.add_start_slopes.ensures.grown in
-    matrix_made c.args.self.now i.pattern i.terms.items i.loads.items i.cells.items c.deref_mut.result.now c.add_start_slopes.new.cells _ (λ u. start_slopes u.load) c.new.result _ _ c.self.view_is c.self.invariant
-    (c.deref_mut.ensures.value ∙ c.in_ok-cells.ensures ∙ ap (map without_slopes) c.deref.ensures.value) grown c.add_start_slopes.ensures.room c.add_start_slopes.auto.cells
+    let grown = subst (λ l. AreGrown i.pattern.places c.deref_mut.result.now c.add_start_slopes.new.cells
+    (of_loads (λ u. start_slopes u.load) l))
+    c.deref-2.ensures.value c.add_start_slopes.ensures.grown in
+    matrix_made c.args.self.now i.pattern i.terms.items i.loads.items i.cells.items c.deref_mut.result.now
+    c.add_start_slopes.new.cells _ (λ u. start_slopes u.load) c.new.result _ _ c.self.view_is c.self.invariant
+    (c.deref_mut.ensures.value ∙ c.in_ok-cells.ensures ∙ ap (map without_slopes) c.deref.ensures.value) grown
+    c.add_start_slopes.ensures.room c.add_start_slopes.auto.cells
     (rewritten c.in_ok-cells.cells.items c.add_start_slopes.new.cells c.in_ok-cells.cells.len long) c.new.ensures

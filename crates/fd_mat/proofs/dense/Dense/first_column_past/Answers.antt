@@ -7,7 +7,8 @@ pub returns-then-least-size-clause-first : goal.returns-then-least-size-clause-f
 returns-then-least-size-clause-first c =
     let low : c.loop-row.least < length c.args.self.now = grind (arith, c.size-size.ensures.size, c.if-least-size.true) in
     let end : (row : ℕ) → row < length c.args.self.now → row < c.loop-row.row = λ row r. grind (arith, c.size-size.ensures.size, c.loop-row-test.false) in
-    sym (column_some c.args.limit c.args.self.now c.loop-row.least low (c.loop-row.invariant.past low) (λ row earlier r k. c.loop-row.invariant.before row earlier (end row r) k))
+    sym (column_some c.args.limit c.args.self.now c.loop-row.least low (c.loop-row.invariant.past low)
+    (λ row earlier r k. c.loop-row.invariant.before row earlier (end row r) k))
 
 pub returns-else-least-size-clause-first : goal.returns-else-least-size-clause-first
 returns-else-least-size-clause-first c =

@@ -15,7 +15,8 @@ invariant_of-result c =
     let stamp = stamp_with parts.constants.items parts.rows.terms parts.rows.loads parts.draw in
     let counts = c.counts-counts.ensures in (
       record {
-        rows = joined_rows ds c.counts-counts.result _ parts counts c.in_ok-parts.ensures.extents (ap (λ (v : NetworkView). v.stamp) c.in_ok-parts.ensures.network);
+        rows = joined_rows ds c.counts-counts.result _ parts counts c.in_ok-parts.ensures.extents
+            (ap (λ (v : NetworkView). v.stamp) c.in_ok-parts.ensures.network);
         network = subst (λ n. IsNetwork (network_of n stamp)) (sym counts) c.in_ok-parts.ensures.valid;
         size = subst (λ n. (network_of n stamp).size ≡ size_of c.in_ok-layout.layout) (sym counts) refl;
       },

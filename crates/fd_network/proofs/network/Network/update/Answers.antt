@@ -15,7 +15,9 @@ use Rattle.fd_network.proofs.network.Network.update.Goals as goal
 pub fill-filled-requires-clause-reach : goal.fill-filled-requires-clause-reach
 fill-filled-requires-clause-reach c =
     let circuit = c.args.circuit.now in
-    subst (λ (v : BuiltView). Reaches (layout_of circuit.elements) circuit.options.defaultbasefrequency circuit.elements v.places) (sym c.self.view_is) c.requires.built.reach
+    subst (λ (v : BuiltView).
+    Reaches (layout_of circuit.elements) circuit.options.defaultbasefrequency circuit.elements v.places)
+    (sym c.self.view_is) c.requires.built.reach
 
 pub invariant_of-self : goal.invariant_of-self
 invariant_of-self c =
@@ -24,12 +26,15 @@ invariant_of-self c =
     let inv = c.self.invariant in (
       record {
         rows = joined_rows ds c.self.inside.counts _ parts inv.2 c.in-Ok.ensures.extents (ap (λ (v : NetworkView). v.stamp) c.in-Ok.ensures.network);
-        network = subst (λ n. IsNetwork (network_of n (stamp_with parts.constants.items parts.rows.terms parts.rows.loads parts.draw))) (sym inv.2) c.in-Ok.ensures.valid;
+        network = subst (λ n.
+            IsNetwork (network_of n (stamp_with parts.constants.items parts.rows.terms parts.rows.loads parts.draw)))
+            (sym inv.2) c.in-Ok.ensures.valid;
         size = inv.0.size;
       },
       c.fill-filled.ensures.size,
       inv.2,
-      subst (λ r. HaveRoom r parts c.fill-filled.new.lists) (sym (ap (λ (v : BuiltView). v.room) c.self.view_is ∙ c.requires.built.room)) c.fill-filled.ensures.room,
+      subst (λ r. HaveRoom r parts c.fill-filled.new.lists)
+          (sym (ap (λ (v : BuiltView). v.room) c.self.view_is ∙ c.requires.built.room)) c.fill-filled.ensures.room,
     )
 
 pub returns-in-Ok-clause-built : goal.returns-in-Ok-clause-built
@@ -40,7 +45,9 @@ returns-in-Ok-clause-built c =
     let taps = c.replace.ensures ∙ c.as_slice.ensures in
     let closed = c.replace-in-Ok.ensures ∙ c.as_slice-in-Ok.ensures in
     let loads = c.replace-in-Ok-2.ensures ∙ c.as_slice-in-Ok-2.ensures in
-    let settings : record { taps = c.replace.new.self; closed = c.replace-in-Ok.new.self; powers = c.replace-in-Ok-2.new.self } ≡ settings_of c.args.at.now c.args.powers.now =
+    let settings :
+    record { taps = c.replace.new.self; closed = c.replace-in-Ok.new.self; powers = c.replace-in-Ok-2.new.self }
+    ≡ settings_of c.args.at.now c.args.powers.now =
     λ i. record { taps = taps i; closed = closed i; powers = loads i } in
     record {
       layout = ap (λ (v : BuiltView). v.layout) c.self.view_is ∙ c.requires.built.layout;

@@ -14,6 +14,10 @@ returns c l f number =
     let s = settle_made made.circuit.now made.hour l made.rounds.now (end_with f c.args.tried) (positions_in c.args._at.now) in
     let is : IsSettleAt made.circuit.now made.number made.hour s = record { circuit_is = refl; number_is = sym number; hour_is = refl } in
     c.in_ok-add_last.ensures s is
-    ∙ ap (λ (front : List (List ℕ)). front ++ last_texts s (length made.rounds.now) c.args.tried) (c.in_ok-add_blocks.ensures s is ∙ ap (λ (front : List (List ℕ)). front ++ blocks_texts (blocks_from s 0 rounds)) (ap pieces_of c.new-records.ensures.items))
-    ∙ ap (λ (n : ℕ). blocks_texts (blocks_from s 0 rounds) ++ last_texts s n c.args.tried) (sym (length-map made.rounds.now round_in))
+    ∙ ap (λ (front : List (List ℕ)). front ++ last_texts s (length made.rounds.now) c.args.tried)
+    (c.in_ok-add_blocks.ensures s is
+    ∙ ap (λ (front : List (List ℕ)). front ++ blocks_texts (blocks_from s 0 rounds))
+    (ap pieces_of c.new-records.ensures.items))
+    ∙ ap (λ (n : ℕ). blocks_texts (blocks_from s 0 rounds) ++ last_texts s n c.args.tried)
+    (sym (length-map made.rounds.now round_in))
     ∙ sym (failed_blocks s rounds f c.args.tried)

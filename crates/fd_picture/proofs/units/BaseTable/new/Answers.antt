@@ -13,7 +13,8 @@ pub loop-base-preserved : goal.loop-base-preserved
 unfolding HoldsLast
 loop-base-preserved c = λ bus.
     hash_map_updates_str c.as_slice.result.now c.loop-base.last c.insert.new.self _ c.in_ok-insert.ensures.updates bus
-    ∙ rw (c.as_slice.ensures, c.loop-base.invariant bus) (sym (base_of_more c.args.bases.now c.loop-base.base-index c.base-item.result bus c.loop-base-test.true c.base-item.is))
+    ∙ rw (c.as_slice.ensures, c.loop-base.invariant bus) (sym (base_of_more c.args.bases.now c.loop-base.base-index
+    c.base-item.result bus c.loop-base-test.true c.base-item.is))
 
 pub invariant_of-result : goal.invariant_of-result
 invariant_of-result c = rw (take_all c.loop-base.base-index c.args.bases.now c.loop-base-test.false) at c.loop-base.invariant

@@ -4,9 +4,11 @@ use Rattle.fd_settle.proofs.compute.ComputeSolver.solve.Goals as goal
 
 pub returns-in-Ok-certify-clause-gives : goal.returns-in-Ok-certify-clause-gives
 returns-in-Ok-certify-clause-gives c =
-    computed_of c.args.limits.now c.args.net.now c.in-Ok.point.x.items c.in-Ok.point.inverse (claim_in c.in-Ok-certify.certified) c.in-Ok.ensures.point c.in-Ok-certify.ensures.certified
+    computed_of c.args.limits.now c.args.net.now c.in-Ok.point.x.items c.in-Ok.point.inverse
+    (claim_in c.in-Ok-certify.certified) c.in-Ok.ensures.point c.in-Ok-certify.ensures.certified
 
 pub returns-in-Ok-certify-clause-sound : goal.returns-in-Ok-certify-clause-sound
 returns-in-Ok-certify-clause-sound c =
-    c.certificate_law.ensures c.args.net.now c.in-Ok.point.x.items c.in-Ok.point.inverse (claim_in c.in-Ok-certify.certified) c.size-size.ensures.valid c.in-Ok.ensures.parts
+    c.certificate_law.ensures c.args.net.now c.in-Ok.point.x.items c.in-Ok.point.inverse
+    (claim_in c.in-Ok-certify.certified) c.size-size.ensures.valid c.in-Ok.ensures.parts
     (record { long = c.in-Ok.ensures.size; small = c.in-Ok.ensures.entries }) c.in-Ok-certify.ensures.certified

@@ -19,9 +19,10 @@ returns c =
     let items = with_items_is c.args.self.now.states c.react_all.new.states each in
     record {
       states = items ∙ is;
-      machine = λ at. reacted_shows (positions_in at) c.args.self.now.made c.args.clock.now ss c.deref_mut.result.now _ vs c.deref.result.now c.args.self.now.queue
-          c.react_all.new.queue c.deref_mut.ensures.value c.deref.ensures.value (items ∙ is)
-          (c.react_all.ensures.reactions (positions_in at) c.args.self.now.made);
+      machine = λ at.
+          reacted_shows (positions_in at) c.args.self.now.made c.args.clock.now ss c.deref_mut.result.now _ vs
+          c.deref.result.now c.args.self.now.queue c.react_all.new.queue c.deref_mut.ensures.value
+          c.deref.ensures.value (items ∙ is) (c.react_all.ensures.reactions (positions_in at) c.args.self.now.made);
       openings = c.react_all.ensures.openings;
       numbers = omega (arith, c.react_all.ensures.numbers, ap length c.deref_mut.ensures.value);
       room = c.react_all.ensures.room;

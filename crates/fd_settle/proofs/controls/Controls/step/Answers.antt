@@ -41,9 +41,11 @@ here_reacted c =
       made = before.made;
       limit = before.limit;
     } in
-    after_reactions c.queue_law.ensures c.own_law.ensures c.sampled_law.ensures c.tap_law.ensures c.away_law.ensures (length c.args.certified.now.ball.centre.items) c.args.at.now
-    c.args.clock.now before after c.react.new.self c.args.certified.now.ball.centre.items c.args.certified.now.ball.radius.items c.requires.controls c.requires.numbers refl refl
-    refl refl refl (omega (arith, c.requires.controls.verdict_room, c.sample_all-undecided.ensures.capacity))
+    after_reactions c.queue_law.ensures c.own_law.ensures c.sampled_law.ensures c.tap_law.ensures c.away_law.ensures
+    (length c.args.certified.now.ball.centre.items) c.args.at.now c.args.clock.now before after c.react.new.self
+    c.args.certified.now.ball.centre.items c.args.certified.now.ball.radius.items c.requires.controls
+    c.requires.numbers refl refl refl refl refl
+    (omega (arith, c.requires.controls.verdict_room, c.sample_all-undecided.ensures.capacity))
     (c.in_default.ensures.each refl ∙ ap length c.deref.ensures.value) (sampled c) c.react.ensures
 
 -- whether a control wants to move
@@ -88,7 +90,13 @@ act-requires-clause-controls c =
 pub act-requires-clause-room : goal.act-requires-clause-room
 act-requires-clause-room c =
     let t = here_reacted (goal.at.act-requires-clause-room c).After-some_moves in
-    omega (arith, c.room_law.ensures (length c.react.new.self.states.items) c.react.new.self.queue.next c.react.new.self.queue.entries t.controls.queue, t.each, c.requires.room)
+    omega (
+      arith,
+      c.room_law.ensures (length c.react.new.self.states.items) c.react.new.self.queue.next
+          c.react.new.self.queue.entries t.controls.queue,
+      t.each,
+      c.requires.room,
+    )
 
 pub returns-else-self-clause-probes : goal.returns-else-self-clause-probes
 returns-else-self-clause-probes c = c.act.ensures.probes ∙ (here_reacted (goal.at.returns-else-self-clause-probes c).After-some_moves).probes
