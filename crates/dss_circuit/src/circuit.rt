@@ -1,6 +1,5 @@
 // A circuit, changed in place by commands.
 ghost use Rattle.std.specs.Prelude.{◌≡◌, ◌<◌, ◌≤◌, ◌^◌, ◌-◌, All, length, map};
-ghost use Rattle.dss_profile.specs.Options.{with_options};
 ghost use Rattle.dss_profile.specs.Changes.{Becomes};
 ghost use Rattle.dss_circuit.specs.Circuit.{empty_circuit, has_circuit, applied};
 ghost use Rattle.dss_profile.specs.InRange.{OptionsInRange};

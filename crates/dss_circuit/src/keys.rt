@@ -2,7 +2,6 @@
 ghost use Rattle.std.specs.Prelude.{◌≡◌, IfOk, codes, nat_eq};
 ghost use Rattle.std.specs.Cmp.Lexicographic.{pointwise};
 ghost use Rattle.dss_values.specs.Answers.{Gives};
-ghost use Rattle.dss_values.specs.Names.{named};
 ghost use Rattle.dss_circuit.specs.Keys.{source_name, written, needed, element_key, edit_key, made_key, new_key};
 
 use dss_lexer::Text;

@@ -1,5 +1,5 @@
 // The nodes of an element at its buses.
-ghost use Rattle.std.specs.Prelude.{◌≡◌, ◌+◌, IfOk, map};
+ghost use Rattle.std.specs.Prelude.{◌≡◌, IfOk, map};
 ghost use Rattle.std.specs.Option.{option_copied};
 ghost use Rattle.dss_layout.specs.Numbers.{numbers_of, both_numbers, Gives};
 ghost use Rattle.dss_layout.specs.Terminals.{terminal_numbers, tested, first_bus, second_bus, named_at, terminals_of};

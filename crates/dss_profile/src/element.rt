@@ -1,5 +1,5 @@
 // Elements of all classes.
-ghost use Rattle.std.specs.Prelude.{◌≡◌, IfOk, IfSome, OnOk, option_map, is_some};
+ghost use Rattle.std.specs.Prelude.{◌≡◌, IfOk, IfSome, OnOk, is_some};
 ghost use Rattle.std.specs.Option.{option_copied};
 ghost use Rattle.dss_values.specs.Answers.{Gives};
 ghost use Rattle.dss_profile.specs.Changes.{Becomes};

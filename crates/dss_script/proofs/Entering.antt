@@ -66,9 +66,6 @@ enter_asked old new name (Ok done) h = h
 
 -- ---- within a call
 
-pub reached_start : (s : Script) (old : Option (List (List ℕ))) → Reached s s old old
-reached_start s old = record { names = []; first = refl; said = refl; grown = grows_none old }
-
 pub reached_same : (from now next : Script) (old new : Option (List (List ℕ))) → Reached from now old new → now ≡ next
     → Reached from next old new
 reached_same from now next old new r e = let P : Script → Type 0 = λ s. Reached from s old new in subst P e r

@@ -1,6 +1,7 @@
 -- Steps along a word and along a line.
 use Rattle.std.proofs.Common.{◌≡◌, ◌∙◌, ℕ, zero, suc, ◌+◌, ◌<◌, ◌≤◌, Bool, true, false, List, [], ◌∷◌, ◌++◌, length, drop, get_or, refl, sym, ap, arith, Ok, Err, Result, if◌then◌else◌, add-one, drop-cons}
 use Rattle.std.specs.Str.{IsUtf8, is_utf8}
+use Rattle.std.proofs.lemmas.Bool.{false_from_ne_true}
 use Rattle.std.proofs.lemmas.Str.{IsUtf8-from_is_utf8, is_utf8-from_IsUtf8}
 use Rattle.dss_lexer.specs.declared.pair.Pair.{Pair}
 use Rattle.dss_lexer.specs.declared.fault.LineFault.{LineFault}
@@ -32,13 +33,9 @@ pub read_text : (line text : List ℕ) → (text ≡ line) × IsUtf8 line
     → ◌≡◌ {A = Result (List ℕ) LineFault} (if is_utf8 line then Ok line else Err fault.NotText) (Ok text)
 read_text line text h = ap (λ b. if b then Ok line else Err fault.NotText) (is_utf8-from_IsUtf8 line h.1) ∙ ap Ok (sym h.0)
 
-not_true : (b : Bool) → ¬ (b ≡ true) → b ≡ false
-not_true true h = absurd (h refl)
-not_true false h = refl
-
 pub read_no_text : (line : List ℕ) → ¬ (IsUtf8 line)
     → ◌≡◌ {A = Result (List ℕ) LineFault} (if is_utf8 line then Ok line else Err fault.NotText) (Err fault.NotText)
-read_no_text line h = ap (λ b. if b then Ok line else Err fault.NotText) (not_true (is_utf8 line) (λ e. h (IsUtf8-from_is_utf8 line e)))
+read_no_text line h = ap (λ b. if b then Ok line else Err fault.NotText) (false_from_ne_true (is_utf8 line) (λ e. h (IsUtf8-from_is_utf8 line e)))
 
 -- no text holds nothing
 pub items_end : (n : ℕ) (cs : List ℕ) → ends_line (skip_separators cs) ≡ true → items_of n cs ≡ Ok []

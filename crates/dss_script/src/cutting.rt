@@ -1,9 +1,9 @@
 // A line, cut into words and pairs.
-ghost use Rattle.std.specs.Prelude.{◌≡◌, Some, None, Option, length, take, drop, ◌≤◌, ◌==◌, IsTrue, true, Ok, Err, IfOk, if◌then◌else◌};
+ghost use Rattle.std.specs.Prelude.{◌≡◌, Some, None, Option, length, ◌≤◌, ◌==◌, true, Ok, Err, IfOk, if◌then◌else◌};
 ghost use Rattle.std.specs.List.{position};
-ghost use Rattle.std.specs.Str.{chars, is_utf8};
+ghost use Rattle.std.specs.Str.{is_utf8};
 ghost use Rattle.dss_lexer.specs.Answers.{Gives};
-ghost use Rattle.dss_lexer.specs.Line.{is_blank, is_separator, skip_blanks};
+ghost use Rattle.dss_lexer.specs.Line.{skip_blanks};
 ghost use Rattle.dss_script.specs.Cutting.{closer_of, starts_comment, ends_line, ends_word, word_len, group_at, value_at, item_at, items_of, pairs_of, is_group, skip_separators};
 
 use dss_lexer::{LineError, LineFault, Pair, Text, characters_of};

@@ -3,7 +3,7 @@ ghost use Rattle.std.specs.Prelude.{◌≡◌, ◌∷◌, [], ◌||◌, ◌&&◌
 ghost use Rattle.std.specs.List.{position, slice_split};
 ghost use Rattle.dss_lexer.specs.Texts.{text_eq};
 ghost use Rattle.dss_values.specs.Names.{named, bytes, lower};
-ghost use Rattle.dss_script.specs.Meaning.{command_words, cause_of, is_dot, is_word, subject, others, element_of, is_circuit, made, new_element, edited_element, continued, file_in, command_of, property_set, property_of, meaning_of, target_after};
+ghost use Rattle.dss_script.specs.Meaning.{command_words, cause_of, is_dot, is_word, subject, others, element_of, made, new_element, edited_element, continued, file_in, command_of, property_set, property_of, meaning_of, target_after};
 
 use crate::ScriptCause;
 use dss_lexer::{LineFault, Pair, PairList, Text};

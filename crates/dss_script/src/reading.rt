@@ -1,6 +1,6 @@
 // A file that is being read, line by line.
 ghost use Rattle.std.specs.Prelude.{◌≡◌, ◌+◌, ◌<◌, ◌≤◌, ◌==◌, ◌∷◌, [], length, drop, reverse, IfOk, OnOk, Option, MatchOption};
-ghost use Rattle.std.specs.List.{position, position_or_len, before_first, after_first};
+ghost use Rattle.std.specs.List.{position, after_first};
 ghost use Rattle.std.specs.Str.Lines.{lines, strip_carriage_return};
 ghost use Rattle.dss_lexer.specs.Answers.{Gives};
 ghost use Rattle.dss_script.specs.Cutting.{pairs_of};

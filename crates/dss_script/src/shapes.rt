@@ -1,5 +1,5 @@
 // The files of load shapes: their numbers stand in place of their names.
-ghost use Rattle.std.specs.Prelude.{◌≡◌, codes, IfOk, Ok};
+ghost use Rattle.std.specs.Prelude.{◌≡◌, IfOk, Ok};
 ghost use Rattle.fd_shape.specs.Column.{column_of};
 ghost use Rattle.dss_script.specs.Fills.{FillsBy, IsFilled, IsRefusal};
 ghost use Rattle.dss_script.specs.Sessions.{GrowsSome, IsNotEnded, ReadHasCause, ReadsLast, cost, found_bytes};

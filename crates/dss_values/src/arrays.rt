@@ -1,8 +1,8 @@
 // Values that are arrays, which are groups.
 ghost use Rattle.std.specs.Prelude.{◌≡◌, ◌≤ℤ◌, pos, IfOk, OnOk, IsTrue};
 ghost use Rattle.std.specs.List.{list_all};
-ghost use Rattle.dss_values.specs.Answers.{Gives, Makes, each, or_fault};
-ghost use Rattle.dss_values.specs.Names.{rows, bytes, lower, named};
+ghost use Rattle.dss_values.specs.Answers.{Gives, Makes, each};
+ghost use Rattle.dss_values.specs.Names.{rows};
 ghost use Rattle.dss_values.specs.Forms.{cells_in, number_of_cell, numbers_in, is_within, is_whole, all_within, all_whole, numbers_between, two, two_numbers_between, tap_of, two_taps_in, bus_of_cell, two_buses_in, named_cell, two_choices_in, one, state_of, state_in};
 
 use crate::bus::bus_of_word;

@@ -1,12 +1,10 @@
 // Values that are words, buses and arrays.
-ghost use Rattle.std.specs.Prelude.{◌≡◌, IfOk, map, ℕ, nat_eq, codes};
+ghost use Rattle.std.specs.Prelude.{◌≡◌, IfOk, map, nat_eq, codes};
 ghost use Rattle.std.specs.Cmp.Lexicographic.{pointwise};
 ghost use Rattle.std.specs.List.{slice_split};
-ghost use Rattle.dss_values.specs.Answers.{Gives, each};
+ghost use Rattle.dss_values.specs.Answers.{Gives};
 ghost use Rattle.dss_values.specs.Names.{rows, lower};
-ghost use Rattle.dss_values.specs.Causes.{from_lexer};
-ghost use Rattle.dss_lexer.specs.Number.{number_of};
-ghost use Rattle.dss_values.specs.Forms.{sole, word_in, choice_in, a_name, name_in, line_name_of, line_name_in, known, known_name_in, known_line_name_in, is_point, node_of, bus_of_parts, bus_of, bus_in, cells_in, numbers_in, numbers_between, two, two_numbers_between, two_buses_in, two_choices_in, two_taps_in, one, state_of, state_in, within, whole};
+ghost use Rattle.dss_values.specs.Forms.{sole, word_in, choice_in, a_name, name_in, line_name_of, line_name_in, known, known_name_in, known_line_name_in, is_point, one};
 
 use crate::names::{find_named, is_legal_name};
 use crate::{ModelError, ModelFault};

@@ -3,7 +3,7 @@ ghost use Rattle.std.specs.Prelude.{◌≡◌, ◌++◌, ◌==◌, length, IfOk}
 ghost use Rattle.std.specs.List.{list_all};
 ghost use Rattle.dss_values.specs.Answers.{Gives, Makes};
 ghost use Rattle.dss_values.specs.Forms.{is_within};
-ghost use Rattle.dss_values.specs.Matrices.{is_square, is_triangle_from, cell, mirrored, first_of, row_by_row, joined, symmetric, whole_matrix, rows_within, matrix_between};
+ghost use Rattle.dss_values.specs.Matrices.{is_square, is_triangle_from, cell, mirrored, first_of, joined, symmetric, whole_matrix, rows_within, matrix_between};
 
 use crate::numbers::is_in_range;
 use crate::{ModelError, ModelFault, Numbers};

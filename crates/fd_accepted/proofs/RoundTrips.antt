@@ -9,7 +9,7 @@ use Rattle.dss_circuit.specs.Circuit.{CircuitView, empty_circuit}
 use Rattle.dss_ready.specs.Passed.{PassedLaw}
 use Rattle.dss_script.specs.Said.{Part, Said, name, command, ScriptEnd, at_its_end, refused_at, ended_by, said_of}
 use Rattle.fd_outside.specs.Files.{Files, held}
-use Rattle.fd_certfile.specs.Verdict.{Answer, IsAnswer, accepted}
+use Rattle.fd_certfile.specs.Verdict.{IsAnswer, accepted}
 use Rattle.fd_check.specs.Checking.{no_positions, after, due, open_solves}
 use Rattle.fd_queue.specs.Controls.{Positions}
 use Rattle.fd_report.specs.Accepted.{accepted_fields}
@@ -17,7 +17,6 @@ use Rattle.fd_outcome.specs.Events.{Event, History, asked, finishes, row}
 use Rattle.fd_outcome.specs.History.{IsHistory}
 use Rattle.fd_outcome.specs.Work as work
 use Rattle.fd_outcome.specs.Work.{AfterStep, Step, goes}
-use Rattle.fd_pages.specs.Bases.{base_events}
 use Rattle.fd_solving.specs.Commands.{Applied, nothing_left, solve_left, bases_left, IsByTests, IsStep, IsStepOf, IsTested, tried}
 use Rattle.fd_solving.specs.Commands as commands
 use Rattle.fd_solving.specs.Scripts.{IsDoneThere, IsScriptHistory, first_standing, no_name}

@@ -1,5 +1,5 @@
 -- A script's history: the blocks of all its settles hold, from its first Solve to behind its last.
-use Rattle.std.proofs.Common.{◌≡◌, ◌∙◌, ℕ, ◌+◌, ◌<◌, ◌≤◌, ◌^◌, List, [], ◌∷◌, length, map, Option, Some, None, Result, Ok, Err, refl, sym, ap, subst, arith, zero-add, inr}
+use Rattle.std.proofs.Common.{◌≡◌, ◌∙◌, ℕ, ◌+◌, ◌<◌, ◌^◌, List, [], ◌∷◌, length, map, Option, Some, None, Result, Ok, Err, refl, sym, ap, subst, arith, zero-add, inr}
 use Rattle.std.specs.List.{AllByRecursion}
 use Rattle.std.proofs.lemmas.List.Elements.{recursion_from_All}
 use Rattle.dss_profile.specs.declared.command.Blame.{Blame}
@@ -32,7 +32,7 @@ use Rattle.fd_outcome.specs.History.{IsHistory}
 use Rattle.fd_outcome.specs.Work as work
 use Rattle.fd_outcome.specs.Work.{AfterStep, Step, goes}
 use Rattle.fd_pages.specs.Bases.{base_events}
-use Rattle.fd_solving.specs.Commands.{Applied, nothing_left, solve_left, bases_left, IsByTests, IsSolve, IsStep, IsStepOf, IsTested, tried}
+use Rattle.fd_solving.specs.Commands.{Applied, nothing_left, solve_left, bases_left, IsByTests, IsStep, IsStepOf, IsTested, tried}
 use Rattle.fd_solving.specs.Commands as commands
 use Rattle.fd_solving.specs.Headline.{IsSolved}
 use Rattle.fd_solving.specs.Scripts.{IsDoneThere, IsScriptHistory, first_standing, no_name}

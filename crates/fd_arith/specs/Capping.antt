@@ -1,11 +1,11 @@
 -- Bounds that may pass the limit.
-use Rattle.std.proofs.Common.{◌≡◌, ℕ, zero, suc, ℤ, pos, negsuc, neg_ℤ, ◌*ℤ◌, ◌≤ℤ◌, ◌+◌, ◌*◌, ◌/◌, ◌%◌, min, ◌≤◌, ◌<◌, ◌^◌, Some, None, Bool, true, false, cond, arith, refl, ap, sym, ◌∙◌, subst, ◌&&◌}
+use Rattle.std.proofs.Common.{◌≡◌, ℕ, zero, suc, ℤ, pos, negsuc, neg_ℤ, ◌*ℤ◌, ◌≤ℤ◌, ◌+◌, ◌*◌, ◌/◌, ◌%◌, min, ◌≤◌, ◌<◌, ◌^◌, Some, None, Bool, true, false, cond, arith, refl, ap, sym, ◌∙◌, ◌&&◌}
 use Rattle.std.proofs.Math.Nat.{le-div_iff_mul-le}
 use Rattle.std.proofs.lemmas.Int.{ints}
 use Rattle.fd_exact.specs.Rounding.{floor_div, ceil_div, signed}
 use Rattle.fd_arith.specs.Limits.{Fits, fits, bounded}
-use Rattle.fd_arith.specs.Interval.{Bounds, IsBounds, Between, capped, outward}
-use Rattle.fd_exact.specs.Quotients.{floor_from, ceil_up, floor-neg, ceil-neg, floor-ceil, floor-low, floor-high, ceil-high}
+use Rattle.fd_arith.specs.Interval.{Bounds, Between, capped, outward}
+use Rattle.fd_exact.specs.Quotients.{floor_from, ceil_up, floor-neg, ceil-neg, floor-low, floor-high, ceil-high}
 use Rattle.fd_arith.specs.Enclosing.{capped-holds}
 use Rattle.fd_exact.specs.Order.{scale}
 use Rattle.fd_exact.specs.Integers.{neg-mul, next-mul}
@@ -50,28 +50,6 @@ capped-past lo hi f = cases (fits lo && fits hi) refl
     cases : (t : Bool) → (fits lo && fits hi) ≡ t → kept lo hi (fits lo && fits hi) ≡ None
     cases true e = let w = both (fits lo) (fits hi) e in absurd (f (fits-true lo w.0, fits-true hi w.1))
     cases false e = ap (kept lo hi) e
-
-pub capped-IsBounds : (lo hi : ℤ) → lo ≤ℤ hi → IsBounds (capped lo hi)
-unfolding capped
-capped-IsBounds lo hi h = cases (fits lo && fits hi) refl
-  where
-    cases : (t : Bool) → (fits lo && fits hi) ≡ t → IsBounds (kept lo hi (fits lo && fits hi))
-    cases true e =
-        let w = both (fits lo) (fits hi) e in
-        let P : Bool → Type 0 = λ t. IsBounds (kept lo hi t) in
-        subst P (sym e) (fits-true lo w.0, (fits-true hi w.1, h))
-    cases false e = let P : Bool → Type 0 = λ t. IsBounds (kept lo hi t) in subst P (sym e) tt
-
-pub outward-IsBounds : (z : ℤ) (d : ℕ) → 0 < d → IsBounds (outward z d)
-outward-IsBounds z d h = capped-IsBounds _ _ (floor-ceil z d h)
-
-pub floor_positive : (q r d : ℕ) → r < d → (t : Bool) (z : ℤ) → t ≡ false → z ≡ pos q
-    → z ≡ floor_div (signed t (q * d + r)) d
-floor_positive q r d h t z w e = e ∙ sym (ap (λ b. floor_div (signed b (q * d + r)) d) w ∙ floor_from q r d h)
-
-pub ceil_negative : (q r d : ℕ) → r < d → (t : Bool) (z : ℤ) → t ≡ true → z ≡ neg_ℤ (pos q)
-    → z ≡ ceil_div (signed t (q * d + r)) d
-ceil_negative q r d h t z w e = e ∙ sym (ap (λ b. ceil_div (signed b (q * d + r)) d) w ∙ ceil-neg (pos (q * d + r)) d ∙ ap neg_ℤ (floor_from q r d h))
 
 module _ (q r d up : ℕ) (h : r < d) (e : r ≡ 0 → up ≡ q) (f : 0 < r → up ≡ q + 1) where
   pub outward_down : outward (pos (q * d + r)) d ≡ capped (pos q) (pos up)

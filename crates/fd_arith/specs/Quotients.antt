@@ -1,5 +1,5 @@
 -- Quotients of intervals by what is above 0.
-use Rattle.std.proofs.Common.{◌≡◌, ℕ, ℤ, pos, negsuc, ◌*ℤ◌, ◌≤ℤ◌, ◌<ℤ◌, ◌*◌, ◌^◌, ◌⊎◌, inl, inr, ⊎_elim, Some, None, arith, sym, ◌∙◌, subst}
+use Rattle.std.proofs.Common.{◌≡◌, ℕ, ℤ, pos, negsuc, ◌*ℤ◌, ◌≤ℤ◌, ◌<ℤ◌, ◌*◌, ◌^◌, ◌⊎◌, ⊎_elim, Some, arith, sym, ◌∙◌, subst}
 use Rattle.std.proofs.lemmas.Int.{ints, clamps}
 use Rattle.std.specs.Int.{int_min, int_max}
 use Rattle.fd_exact.specs.Fractions.{fraction}
@@ -97,15 +97,3 @@ quotient_from {a} {d} {r} {lo} {hi} {low} {high} p q o z most e =
           subst (λ (y : Bounds). HoldsCoef y (fraction (x.top *ℤ pos k) (x.over * m))) (sym is)
           (quotients-between (lo, hi) (low, high) z o x.top m x.over k h j);
     }))
-
-pub quotient_all : {a d r : Bounds} {lo hi low high : ℤ} → Some (lo, hi) ≡ a → Some (low, high) ≡ d
-    → (low ≤ℤ pos 0) ⊎ (pos (10 ^ 32) <ℤ high) → r ≡ None → IsQuotient a d r
-quotient_all {a} {d} {r} {lo} {hi} {low} {high} p q w e =
-    subst (λ (x : Bounds). IsQuotient x d r) p (subst (λ (y : Bounds). IsQuotient (Some (lo, hi)) y r) q (record {
-      ends = ((λ u v. absurd (neither w u v)), ((λ u. e), (λ u. e)));
-      holds = λ x m k h j. subst (λ (y : Bounds). HoldsCoef y (fraction (x.top *ℤ pos k) (x.over * m))) (sym e) tt;
-    }))
-  where
-    neither : (low ≤ℤ pos 0) ⊎ (pos (10 ^ 32) <ℤ high) → pos 0 <ℤ low → high ≤ℤ pos (10 ^ 32) → ⊥
-    neither (inl x) u v = omega (arith, ints)
-    neither (inr x) u v = omega (arith, ints)

@@ -1,5 +1,5 @@
 // Quotients, areas, squares and roots of intervals.
-ghost use Rattle.std.specs.Prelude.{◌≡◌, ℕ, ℤ, pos, ◌*ℤ◌, ◌≤ℤ◌, ◌<ℤ◌, ◌≤◌, ◌^◌, Option, None, Some, int_le, ◌&&◌};
+ghost use Rattle.std.specs.Prelude.{◌≡◌, ℤ, pos, ◌*ℤ◌, ◌≤ℤ◌, ◌<ℤ◌, ◌≤◌, ◌^◌, None, Some, int_le, ◌&&◌};
 ghost use Rattle.std.specs.Int.RustNames.{unsigned_abs};
 ghost use Rattle.fd_arith.specs.Limits.{IsRootUp, non_negative};
 ghost use Rattle.fd_arith.specs.Interval.{capped, outward};

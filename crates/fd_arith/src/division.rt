@@ -1,5 +1,5 @@
 // Quotients of naturals, whose dividends may pass 128 bits, and their rounding with a sign.
-ghost use Rattle.std.specs.Prelude.{◌≡◌, ℕ, ℤ, ◌+◌, ◌*◌, ◌<◌, ◌≤◌, ◌^◌, ◌*ℤ◌, IfSome, IfNone, Option, Some, None, Bool};
+ghost use Rattle.std.specs.Prelude.{◌≡◌, ℕ, ℤ, ◌+◌, ◌*◌, ◌<◌, ◌≤◌, ◌^◌, ◌*ℤ◌, IfSome, IfNone, Option, Some, None};
 ghost use Rattle.std.specs.Int.RustNames.{unsigned_abs};
 ghost use Rattle.fd_exact.specs.Rounding.{signed};
 ghost use Rattle.fd_arith.specs.Interval.{IsBounds, outward};

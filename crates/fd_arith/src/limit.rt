@@ -1,5 +1,5 @@
 // The limit on whole numbers of units.
-ghost use Rattle.std.specs.Prelude.{ℤ, ◌↔◌, IsTrue};
+ghost use Rattle.std.specs.Prelude.{◌↔◌, IsTrue};
 ghost use Rattle.fd_arith.specs.Limits.{Fits};
 
 /// 2^120: no number, no end and no bounded whole number passes it in size.

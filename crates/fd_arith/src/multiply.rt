@@ -1,5 +1,5 @@
 // Products of intervals.
-ghost use Rattle.std.specs.Prelude.{◌≡◌, ℤ, pos, neg_ℤ, ◌≤ℤ◌, ◌*ℤ◌, ◌^◌, Option, None, Some, IsTrue, ◌↔◌};
+ghost use Rattle.std.specs.Prelude.{◌≡◌, ℤ, ◌≤ℤ◌, ◌*ℤ◌, ◌^◌, Option, None, Some, IsTrue, ◌↔◌};
 ghost use Rattle.std.specs.Int.{int_min, int_max};
 ghost use Rattle.fd_exact.specs.Rounding.{floor_div, ceil_div};
 ghost use Rattle.fd_arith.specs.Limits.{IsUnits};

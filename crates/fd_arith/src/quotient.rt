@@ -1,5 +1,5 @@
 // Quotients of whole numbers, as they are and in units of 2^-40.
-ghost use Rattle.std.specs.Prelude.{◌≡◌, ℕ, ℤ, pos, ◌+◌, ◌*◌, ◌<◌, ◌^◌, ◌*ℤ◌, ◌≤ℤ◌, ◌<ℤ◌, Option, Some, None, Bool};
+ghost use Rattle.std.specs.Prelude.{◌≡◌, ℕ, ℤ, pos, ◌+◌, ◌*◌, ◌<◌, ◌^◌, ◌*ℤ◌, ◌≤ℤ◌, ◌<ℤ◌, Option, Some, None};
 ghost use Rattle.std.specs.Int.RustNames.{unsigned_abs};
 ghost use Rattle.fd_exact.specs.Rounding.{floor_div, ceil_div, near_div, signed};
 ghost use Rattle.fd_arith.specs.Limits.{IsRoot, IsUnits, bounded};

@@ -1,5 +1,5 @@
 -- A pass adds buses behind those that are reached, and where it adds none no later pass adds any.
-use Rattle.std.proofs.Common.{◌≡◌, ℕ, zero, suc, ◌+◌, ◌-◌, ◌<◌, ◌≤◌, Bool, true, false, cond, is_some, List, [], ◌∷◌, ◌++◌, length, Option, Some, None, refl, sym, ap, ◌∙◌, arith, append_assoc, length-append}
+use Rattle.std.proofs.Common.{◌≡◌, ℕ, zero, suc, ◌+◌, ◌-◌, ◌<◌, Bool, true, false, cond, is_some, List, [], ◌∷◌, ◌++◌, length, Option, Some, None, refl, sym, ap, ◌∙◌, arith, append_assoc, length-append}
 use Rattle.std.proofs.lemmas.List.{append-nil}
 use Rattle.std.specs.Map.{lookup}
 use Rattle.indexmap.specs.IndexMap.{insert_entry}
@@ -73,9 +73,6 @@ stays (suc n) es r h = ap (passes n es) h ∙ stays n es r h
 pub next_pass : (n k : ℕ) (es : Elements) (r : Reached) → k < n
     → passes (n - k) es r ≡ passes (n - (k + 1)) es (pass es r)
 next_pass n k es r h = let e : n - k ≡ suc (n - (k + 1)) = omega arith in ap (λ m. passes m es r) e
-
-pub no_pass : (n k : ℕ) (es : Elements) (r : Reached) → n ≤ k → passes (n - k) es r ≡ r
-no_pass n k es r h = let e : n - k ≡ 0 = omega arith in ap (λ m. passes m es r) e
 
 -- the number of passes that are left is one less after each
 pub more_passes : (n k : ℕ) (es : Elements) (r s : Reached) → k < n → s ≡ pass es r

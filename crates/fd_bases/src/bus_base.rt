@@ -1,5 +1,5 @@
 // The voltage bases of a circuit's buses.
-ghost use Rattle.std.specs.Prelude.{◌≡◌, ◌∷◌, All, pos, IfOk, map};
+ghost use Rattle.std.specs.Prelude.{◌≡◌, ◌∷◌, All, pos, IfOk};
 ghost use Rattle.fd_exact.specs.Ranges.{IsBetween};
 ghost use Rattle.dss_values.specs.Forms.{ones};
 ghost use Rattle.fd_bases.specs.Bases.{based, bases_of};

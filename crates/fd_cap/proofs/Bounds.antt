@@ -2,7 +2,6 @@
 use Rattle.std.proofs.Common.{ℕ, ◌*◌, ◌<◌, ◌≤◌, ◌^◌, nat_abs, arith, ⊎_elim}
 use Rattle.std.proofs.Math.Nat.{mul-le-mul, mul-pos}
 use Rattle.std.proofs.lemmas.Int.{ints}
-use Rattle.fd_exact.specs.Ranges.{Between}
 use Rattle.fd_system.proofs.CallerLemmas.{phase_volts_between}
 use Rattle.fd_cap.specs.declared.data.CapData.{CapData}
 use Rattle.fd_cap.specs.Capacitor.{IsCap, cap_volts, volts_squared}

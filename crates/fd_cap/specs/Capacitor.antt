@@ -1,5 +1,5 @@
 -- The equations of a capacitor bank, the contributions that add up to them, and what it draws at nominal voltage.
-use Rattle.std.specs.Prelude.{ℕ, ◌*◌, ◌^◌, ◌≡◌, ◌⊎◌, ℤ, pos, neg_ℤ, ◌*ℤ◌, nat_abs, Bool, cond, List, [], ◌∷◌, ◌++◌}
+use Rattle.std.specs.Prelude.{ℕ, ◌*◌, ◌^◌, ◌≡◌, ◌⊎◌, ℤ, pos, ◌*ℤ◌, nat_abs, Bool, cond, List, [], ◌∷◌}
 use Rattle.fd_exact.specs.Rounding.{ceil_nat}
 use Rattle.fd_exact.specs.States.{State}
 use Rattle.fd_exact.specs.Ranges.{Between, UpTo}

@@ -1,6 +1,5 @@
 -- What is true of a capacitor bank's stated contributions.
-use Rattle.std.specs.Prelude.{ℕ, ◌≤◌, Bool, List, length, All}
-use Rattle.fd_arith.specs.declared.terms.Term.{Term}
+use Rattle.std.specs.Prelude.{◌≤◌, Bool, length, All}
 use Rattle.fd_arith.specs.declared.terms.Ends.{Ends}
 use Rattle.fd_system.specs.Contributions.{IsDivided}
 use Rattle.fd_system.specs.Equations.{AddsUp}

@@ -1,5 +1,5 @@
 // The reactive power of a capacitor bank and its nominal voltage.
-ghost use Rattle.std.specs.Prelude.{◌≡◌, ◌*◌, ◌≤◌, ◌<◌, ◌^◌, ℕ, nat_abs};
+ghost use Rattle.std.specs.Prelude.{◌≡◌, ◌*◌, ◌≤◌, ◌<◌, ◌^◌, nat_abs};
 ghost use Rattle.fd_exact.specs.Ranges.{UpTo};
 ghost use Rattle.fd_cap.specs.Capacitor.{IsCap, cap_power, cap_volts, volts_squared as squared_volts};
 

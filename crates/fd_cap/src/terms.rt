@@ -1,5 +1,5 @@
 // The contributions of a capacitor bank.
-ghost use Rattle.std.specs.Prelude.{◌≡◌, ◌+◌, ◌*◌, ◌<◌, ◌≤◌, ◌^◌, ◌++◌, ◌↔◌, [], ℤ, pos, ◌<ℤ◌, ◌≤ℤ◌, OnOk, IfOk, IfErr, All, length, vec_capacity};
+ghost use Rattle.std.specs.Prelude.{◌≡◌, ◌+◌, ◌<◌, ◌≤◌, ◌^◌, ◌++◌, ◌↔◌, [], ℤ, pos, ◌<ℤ◌, ◌≤ℤ◌, OnOk, IfOk, IfErr, All, length, vec_capacity};
 ghost use Rattle.fd_exact.specs.Ranges.{UpTo};
 ghost use Rattle.fd_system.specs.Contributions.{IsDivided, IsSmall, IsWithin, concat_below};
 ghost use Rattle.fd_system.specs.Equations.{AddsUp};

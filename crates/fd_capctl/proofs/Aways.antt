@@ -1,5 +1,5 @@
 -- A bank that wants to move is not where it goes.
-use Rattle.std.proofs.Common.{◌≡◌, Bool, true, false, cond, Some, not, refl}
+use Rattle.std.proofs.Common.{◌≡◌, Bool, true, false, cond, refl}
 use Rattle.fd_queue.specs.Quantities.{Quantity}
 use Rattle.fd_queue.specs.Decisions.{Raise, Hold, Lower}
 use Rattle.fd_capctl.specs.Bank.{Bank, bank_verdict, past_on, past_off}

@@ -1,5 +1,5 @@
 -- The laws of banks.
-use Rattle.std.specs.Prelude.{◌≡◌, ◌≢◌, ◌≤◌, Bool, not, Some}
+use Rattle.std.specs.Prelude.{◌≡◌, ◌≢◌, Bool, not, Some}
 use Rattle.fd_queue.specs.Quantities.{Quantity}
 use Rattle.fd_queue.specs.Decisions.{Decision, GoesAlong, GoesAgainst, IsOfAll, IsEdge, way_of, steps_of}
 use Rattle.fd_capctl.specs.Bank.{Bank, Kind, Voltage, Current, Kvar, bank_verdict, bank_edge}

@@ -1,5 +1,5 @@
 -- What contracts see of the state of a bank's control, and how the queue machine shows it.
-use Rattle.std.specs.Prelude.{◌≡◌, ℕ, ℤ, ◌+◌, ◌≤◌, ◌<◌, ◌^◌, Bool, true, false, if◌then◌else◌, Option, None, Some, List, length, get_or}
+use Rattle.std.specs.Prelude.{◌≡◌, ℕ, ℤ, ◌<◌, ◌^◌, Bool, false, if◌then◌else◌, Option, None, Some, length, get_or}
 use Rattle.fd_queue.specs.Decisions.{Decision, Raise, Hold, Lower, is_raise, steps_of}
 use Rattle.fd_queue.specs.Controls.{Switches, BankSwitch}
 use Rattle.fd_queue.specs.Queue.{QueueView}

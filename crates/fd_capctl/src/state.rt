@@ -1,11 +1,10 @@
 // The state of a bank's control.
 ghost use Rattle.std.specs.Prelude.{◌≡◌, ◌-◌, ◌^◌, ◌<◌, ◌≤◌, ◌+◌, true, false, Some, None, length};
-ghost use Rattle.fd_queue.specs.Controls.{BankSwitch};
-ghost use Rattle.fd_queue.specs.Decisions.{Hold, is_raise, steps_of};
-ghost use Rattle.fd_queue.specs.Machine.{after_opening, signed_steps, switch_time};
+ghost use Rattle.fd_queue.specs.Decisions.{Hold, is_raise};
+ghost use Rattle.fd_queue.specs.Machine.{after_opening, signed_steps};
 ghost use Rattle.fd_queue.specs.Queue.{has_entry};
 ghost use Rattle.fd_queue.specs.Verdicts.{decision, is_decided};
-ghost use Rattle.fd_capctl.specs.CapState.{ActsInMachine, AreEarly, IsEarly, IsMove, Reacts, opened_at, switch};
+ghost use Rattle.fd_capctl.specs.CapState.{ActsInMachine, AreEarly, IsEarly, IsMove, Reacts, opened_at};
 
 use fd_queue::{Queue, Verdict};
 use std::marker::Model;

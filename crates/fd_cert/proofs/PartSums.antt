@@ -2,24 +2,15 @@
 use Rattle.std.proofs.Common.{◌≡◌, ◌∙◌, ℕ, suc, ◌+◌, ◌*◌, ◌<◌, ◌≤◌, ◌^◌, Bool, true, false, cond, eqb, List, [], ◌∷◌, ◌++◌, length, All, arith, ap, refl, sym, subst, inl, inr}
 use Rattle.std.proofs.lemmas.Bool.{cases_eq, cases_lt, ne_eqb}
 use Rattle.std.proofs.lemmas.List.{get_or_append_left, get_or_push, length_push}
-use Rattle.std.proofs.lemmas.List.Elements.{All-nil, All-push}
+use Rattle.std.proofs.lemmas.List.Elements.{All-push}
 use Rattle.fd_exact.specs.SumLaws.{list_n-append, sum_n-same}
 use Rattle.fd_exact.specs.Sums.{sum_n}
 use Rattle.fd_enclosure.specs.Sound.{number_at}
-use Rattle.fd_cert.specs.Parts.{AreFront, AreHigh, AreParts, IsHigh, high_sum, with_high}
+use Rattle.fd_cert.specs.Parts.{AreFront, IsHigh, high_sum, with_high}
 use Rattle.fd_cert.specs.declared.parted.High.{High}
 
 abbrev pub no_high : High
 no_high = record { place = 0; times = 0 }
-
-pub front_start : (numbers : List ℕ) → AreFront numbers 0 [] []
-front_start numbers = record {
-  long = refl;
-  low = λ l h. absurd (omega arith);
-  each = All-nil (IsHigh (length numbers));
-  few = omega arith;
-  sums = λ f. refl;
-}
 
 -- ---- a number more
 
@@ -84,6 +75,3 @@ front_more numbers k lows hs low times inside is small few h =
         let front = h.sums f in
         subst (λ n. sum_n (λ l. f l * number_at numbers l) n ≡ sum_n (λ l. f l * number_at new l) n + 2 ^ 60 * high_sum f (with_high hs k times)) (sym step)
         (omega (arith, same, here, more, of_it, front))
-
-pub high_of : (numbers lows : List ℕ) (hs : List High) → AreParts numbers lows hs → AreHigh (length numbers) hs
-high_of numbers lows hs h = record { each = h.each; few = h.few }

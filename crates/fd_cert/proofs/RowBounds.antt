@@ -1,6 +1,5 @@
 -- The bound of a row from the sums of its columns.
-use Rattle.std.proofs.Common.{◌≡◌, ◌∙◌, ℕ, zero, suc, ◌+◌, ◌*◌, ◌<◌, ◌≤◌, ◌^◌, ℤ, pos, negsuc, ◌+ℤ◌, ◌-ℤ◌, ◌*ℤ◌, ◌≤ℤ◌, ◌<ℤ◌, nat_abs, Bool, true, false, eqb, cond, List, length, Option, Some, None, IfSome, to_z, of_z, arith, ap, sym, subst}
-use Rattle.std.specs.Int.{w128}
+use Rattle.std.proofs.Common.{◌≡◌, ◌∙◌, ℕ, zero, suc, ◌+◌, ◌*◌, ◌<◌, ◌≤◌, ◌^◌, ℤ, pos, negsuc, ◌+ℤ◌, ◌*ℤ◌, ◌≤ℤ◌, nat_abs, Bool, true, false, cond, List, length, Option, Some, None, IfSome, arith, ap, sym, subst}
 use Rattle.std.specs.Int.RustNames.{unsigned_abs}
 use Rattle.std.proofs.lemmas.Int.{ints}
 use Rattle.fd_exact.specs.Quotients.{ceil_nat_is}
@@ -17,7 +16,7 @@ use Rattle.fd_cert.specs.Columns.{AreWeights, HasWeights, column_sum}
 use Rattle.fd_cert.specs.Reaches.{AreBounds, bound_in}
 use Rattle.fd_cert.specs.Totals.{AreWeighted, left_total}
 use Rattle.fd_cert.proofs.RowTotals.{total_is}
-use Rattle.fd_cert.proofs.Units.{kept_by, sums_past}
+use Rattle.fd_cert.proofs.Units.{sums_past}
 
 -- ---- signs
 
@@ -94,13 +93,6 @@ pub bound_is : (n : ℕ) (C J : ℕ → ℕ → ℤ) (R : ℕ → ℕ → ℕ) (
 unfolding bound_at
 bound_is n C J R w i sums rows ws column radii h p e = λ k. wide_quotient (total_is n C J R w i sums column rows radii ws h p k) (e k * 2 ^ 40)
 
-pub unit_small : (i j : ℕ) → nat_abs (unit_at i j) ≤ 2 ^ 120
-unit_small i j = by_test (eqb i j)
-  where
-    by_test : (b : Bool) → nat_abs (cond b (pos (2 ^ 80)) (pos 0)) ≤ 2 ^ 120
-    by_test true = omega arith
-    by_test false = omega arith
-
 -- a bound reads its own row of the inverse alone
 pub bound_row : (n : ℕ) (C J : ℕ → ℕ → ℤ) (R : ℕ → ℕ → ℕ) (w : ℕ → ℕ) (i : ℕ) (row : List ℤ)
     → ((l : ℕ) → part row l ≡ C i l) → bound_at n (λ _. part row) J R w i ≡ bound_at n C J R w i
@@ -117,36 +109,3 @@ signs_of n C J R w bounds ws e a h i l =
     subst (λ o. IfSome o (λ k. pos 0 ≤ℤ k))
     (sym (ap (λ xs. bound_in xs i) e ∙ get_or-list_of n (bound_at n C J R w) i None inside))
     (bound_positive n C J R w i some)
-
--- the divisor of a bound, as it was computed in 128 bits
-pub divisor_is : (z : ℤ) (w : ℕ) → z ≡ pos w → w ≤ 2 ^ 66
-    → nat_abs (to_z w128 (of_z w128 (to_z w128 (of_z w128 z) *ℤ pos (2 ^ 40)))) ≡ w * 2 ^ 40
-divisor_is z w e h =
-    let small : nat_abs z ≤ 2 ^ 66 = subst (λ y. nat_abs y ≤ 2 ^ 66) (sym e) h in
-    let whole : nat_abs (pos w *ℤ pos (2 ^ 40)) ≡ w * 2 ^ 40 = omega (arith, ints) in
-    ap nat_abs (ap (λ y. to_z w128 (of_z w128 (y *ℤ pos (2 ^ 40)))) (kept_by z (omega arith) ∙ e)
-    ∙ kept_by (pos w *ℤ pos (2 ^ 40)) (omega (arith, whole)))
-    ∙ whole
-
--- what is left of an entry of the unit matrix, as it was computed in 128 bits
-pub left_read : (r : ℕ) (u : ℤ) (i j : ℕ) (p : ℤ) → u ≡ unit_at i j → nat_abs p ≤ 2 ^ 120
-    → r ≡ unsigned_abs (to_z w128 (of_z w128 (to_z w128 (of_z w128 u) -ℤ to_z w128 (of_z w128 p))))
-    → r ≡ nat_abs (unit_at i j -ℤ p)
-left_read r u i j p e h is =
-    let few : nat_abs (unit_at i j) ≤ 2 ^ 120 = unit_small i j in
-    let both : nat_abs (unit_at i j -ℤ p) ≤ 2 ^ 121 = less (unit_at i j) p few h in
-    is
-    ∙ ap nat_abs ((λ k. to_z w128 (of_z w128
-    ((ap (λ z. to_z w128 (of_z w128 z)) e ∙ kept_by (unit_at i j) (omega arith)) k -ℤ kept_by p (omega arith) k)))
-    ∙ kept_by (unit_at i j -ℤ p) (omega arith))
-  where
-    less : (a b : ℤ) → nat_abs a ≤ 2 ^ 120 → nat_abs b ≤ 2 ^ 120 → nat_abs (a -ℤ b) ≤ 2 ^ 121
-    less a b h k = omega (arith, ints)
-
-pub divisor_positive : (z : ℤ) → pos (10 ^ 6) ≤ℤ z → z ≤ℤ pos (2 ^ 66)
-    → pos 0 <ℤ to_z w128 (of_z w128 (to_z w128 (of_z w128 z) *ℤ pos (2 ^ 40)))
-divisor_positive z h k =
-    let small : nat_abs z ≤ 2 ^ 66 = omega (arith, ints) in
-    let whole : nat_abs (z *ℤ pos (2 ^ 40)) ≤ 2 ^ 126 = omega (arith, ints) in
-    let some : pos 0 <ℤ (z *ℤ pos (2 ^ 40)) = omega (arith, ints) in
-    subst (λ y. pos 0 <ℤ y) (sym (ap (λ y. to_z w128 (of_z w128 (y *ℤ pos (2 ^ 40)))) (kept_by z (omega arith)) ∙ kept_by (z *ℤ pos (2 ^ 40)) whole)) some

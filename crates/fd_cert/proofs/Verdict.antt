@@ -3,7 +3,6 @@ use Rattle.std.proofs.Common.{◌≡◌, ◌∙◌, ℕ, zero, suc, ◌+◌, ◌
 use Rattle.std.specs.Option.{option_or}
 use Rattle.std.specs.Ordering.{nat_cmp, ord_max}
 use Rattle.std.proofs.lemmas.Grind.{common_steps}
-use Rattle.std.proofs.Math.Nat.{mul-le-mul}
 use Rattle.std.proofs.lemmas.Int.{ints}
 use Rattle.std.proofs.lemmas.Bool.{leb-true}
 use Rattle.fd_exact.specs.First.{first_place}
@@ -145,10 +144,6 @@ reach_is n C w e i row ms weight r h f = λ k.
 pub tested_is : (r : Bool) (o b : Option ℤ) (m reach : ℕ) (w : ℤ) → r ≡ is_below_one o → o ≡ named_bound m reach b
     → m ≡ nat_abs w → not r ≡ not (is_below_one (named_bound (nat_abs w) reach b))
 tested_is r o b m reach w e f g = ap not (e ∙ ap is_below_one (f ∙ ap (λ n. named_bound n reach b) g))
-
--- a product of an entry of an inverse and twice a mismatch
-pub spread_small : (a e : ℕ) → a ≤ 2 ^ 56 → e ≤ 1000 → a * (2 * e) ≤ 2 ^ 67
-spread_small a e h k = let d : 2 * e ≤ 2000 = omega arith in let m = mul-le-mul h d in omega arith
 
 pub max_is : (a b : ℕ) → ord_max nat_cmp a b ≡ max a b
 max_is a b = search (rules, common_steps)

@@ -6,7 +6,7 @@
 // bound nor where there is none.
 //
 // Where the Jacobian's entries are short, two rows of the inverse meet them at once, and an entry is read once for both.
-ghost use Rattle.std.specs.Prelude.{◌≡◌, ℕ, ◌+◌, ◌*◌, ◌<◌, ◌≤◌, ◌^◌, ℤ, pos, ◌≤ℤ◌, ◌-ℤ◌, nat_abs, set, true, IfOk, IfSome, length, Some, []};
+ghost use Rattle.std.specs.Prelude.{◌≡◌, ℕ, ◌+◌, ◌*◌, ◌<◌, ◌≤◌, ◌^◌, ℤ, pos, ◌≤ℤ◌, ◌-ℤ◌, nat_abs, set, IfOk, IfSome, length, Some, []};
 ghost use Rattle.fd_exact.specs.States.{entry, part};
 ghost use Rattle.fd_exact.specs.Sums.{list_n};
 ghost use Rattle.fd_arith.specs.Limits.{within};

@@ -1,11 +1,10 @@
 // Entries of a matrix that are so short that their sums need no tests.
-ghost use Rattle.std.specs.Prelude.{◌≡◌, ℕ, ◌<◌, ◌≤◌, ◌^◌, ◌*ℤ◌, ◌++◌, ℤ, pos, nat_abs, map, true, IfOk, IfSome, All, length};
+ghost use Rattle.std.specs.Prelude.{◌≡◌, ℕ, ◌<◌, ◌≤◌, ◌^◌, ◌*ℤ◌, ◌++◌, ℤ, pos, nat_abs, map, true, IfOk, IfSome, length};
 ghost use Rattle.std.specs.List.{filter};
 ghost use Rattle.fd_exact.specs.States.{part};
 ghost use Rattle.fd_exact.specs.Sums.{list_z};
-ghost use Rattle.fd_equations.specs.Amounts.{cell_at};
-ghost use Rattle.fd_cert.specs.Columns.{AreColumns, IsMade, IsRowOfInverse};
-ghost use Rattle.fd_cert.specs.Entries.{AreShort, HasSmallUnits, IsFlatOf, IsShort, entry_of, entry_term, has_units};
+ghost use Rattle.fd_cert.specs.Columns.{IsMade, IsRowOfInverse};
+ghost use Rattle.fd_cert.specs.Entries.{AreShort, HasSmallUnits, IsFlatOf, entry_of, entry_term, has_units};
 
 use fd_equations::{Cell, Matrix};
 use std::alloc::{AllocError, Global};

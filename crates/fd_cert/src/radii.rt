@@ -1,5 +1,5 @@
 // The radii of slopes, at the places of the Jacobian's non-zeros.
-ghost use Rattle.std.specs.Prelude.{◌≡◌, ◌≢◌, ℕ, ◌+◌, ◌*◌, ◌<◌, ◌≤◌, ◌^◌, ◌&&◌, pos, cond, eqb, get_or, IfOk, IfSome, List, length, All};
+ghost use Rattle.std.specs.Prelude.{◌≡◌, ℕ, ◌+◌, ◌*◌, ◌<◌, ◌≤◌, ◌^◌, ◌&&◌, cond, eqb, IfOk, IfSome, length, All};
 ghost use Rattle.fd_system.specs.Residual.{IsPlace};
 ghost use Rattle.fd_equations.specs.Conditions.{IsPart};
 ghost use Rattle.fd_equations.specs.Patterns.{key};

@@ -1,8 +1,7 @@
 // Sums of the columns of a matrix by non-zeros, each row times a factor.
-ghost use Rattle.std.specs.Prelude.{◌≡◌, ℕ, ◌<◌, ◌≤◌, ◌^◌, ◌*ℤ◌, ℤ, pos, nat_abs, IfNone, IfOk, IfSome, List, length, Some, None};
+ghost use Rattle.std.specs.Prelude.{◌≡◌, ℕ, ◌<◌, ◌≤◌, ◌^◌, ℤ, pos, nat_abs, IfNone, IfOk, IfSome, length, Some, None};
 ghost use Rattle.fd_exact.specs.States.{part};
 ghost use Rattle.fd_arith.specs.Wide.{wide_product};
-ghost use Rattle.fd_equations.specs.Amounts.{IsRowOf};
 ghost use Rattle.fd_cert.specs.Columns.{AreColumns, AreUnits, HasEntries, IsMade, IsRow, IsRowOfInverse, column_sum, sum_more as more};
 ghost use Rattle.fd_cert.specs.Entries.{IsFlatOf};
 

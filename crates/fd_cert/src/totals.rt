@@ -1,5 +1,5 @@
 // Totals of products of natural numbers, up to 2^120.
-ghost use Rattle.std.specs.Prelude.{◌≡◌, ℕ, ◌+◌, ◌*◌, ◌<◌, ◌≤◌, ◌^◌, nat_abs, IfNone, IfSome};
+ghost use Rattle.std.specs.Prelude.{◌≡◌, ℕ, ◌+◌, ◌*◌, ◌<◌, ◌≤◌, ◌^◌, nat_abs, IfSome};
 ghost use Rattle.fd_cert.specs.Totals.{IsTotal};
 
 // The greatest total, 2^120.

@@ -9,7 +9,7 @@ use Rattle.fd_exact.specs.States.{cell, entry, part}
 use Rattle.fd_exact.specs.Tables.{length-table, row-table}
 use Rattle.fd_mat.specs.Rows.{square}
 use Rattle.fd_certfile.specs.Ahead.{IsAhead}
-use Rattle.fd_certfile.specs.Blocks.{Whole, Act, Block, Spells, acts_at, block_at, block_lines, count_of, is_place}
+use Rattle.fd_certfile.specs.Blocks.{Whole, Act, Block, Spells, block_at, block_lines, count_of, is_place}
 use Rattle.fd_certfile.specs.Certificates.{lines_count}
 use Rattle.fd_certfile.specs.Lines.{Line, lines_of}
 use Rattle.fd_certfile.specs.Reader.{GivenBlock, HasAhead, IsAheadOf, ReaderView, behind, by_head, next_of, starts_with_end, unless_other}
@@ -117,9 +117,6 @@ module _ (r : ReaderView) (n : ℕ) (x : Ahead) (h : HasAhead r n x) where
 
   counted : count_of h.block.size ≡ n
   counted = ap count_of h.size
-
-  pub ahead_of : IsAheadOf r n (acts_at (lines_of x.acts.now)).0 (lines_of x.rest.now) x.lines
-  ahead_of = record { block = h.block; next = h.next; same = h.same; size = h.size; acts_are = h.acts; count_is = h.count }
 
   widths : AllByRecursion (λ q. length q ≡ n) h.block.inverse
   widths = subst (λ m. AllByRecursion (λ q. length q ≡ m) h.block.inverse) counted spelled.sized.entries

@@ -1,6 +1,6 @@
 -- Digits without leading zeros are the decimal of what they are worth.
-use Rattle.std.proofs.Common.{◌≡◌, ℕ, zero, suc, ◌+◌, ◌-◌, ◌*◌, ◌%◌, ◌^◌, ◌<◌, ◌≤◌, true, false, ℤ, pos, negsuc, List, [], ◌∷◌, ◌++◌, length, get_or, take, drop, ◌⊎◌, inl, inr, Option, Some, None, refl, ap, sym, subst, ◌∙◌, arith, add-one}
-use Rattle.std.specs.Prelude.{SomeIff, IfSome}
+use Rattle.std.proofs.Common.{◌≡◌, ℕ, zero, suc, ◌+◌, ◌-◌, ◌*◌, ◌%◌, ◌^◌, ◌<◌, true, false, ℤ, pos, negsuc, List, [], ◌∷◌, ◌++◌, length, get_or, take, drop, ◌⊎◌, inl, inr, Option, Some, None, refl, ap, sym, subst, ◌∙◌, arith, add-one}
+use Rattle.std.specs.Prelude.{SomeIff}
 use Rattle.std.specs.Option.{option_map, option_and_then}
 use Rattle.std.specs.Char.{digit_value}
 use Rattle.std.specs.Fmt.{decimal, signed_decimal}
@@ -158,10 +158,6 @@ below_number None ds h = sym (minus_none ds (inl h))
 below_number (Some zero) ds h = sym (minus_none ds (inr (sym h.1)))
 below_number (Some (suc n)) ds h = sym (minus_number ds h.0 n (sym h.1))
 
-pub size_small : (o : Option ℕ) (ds : List ℕ) → SomeIff o (IsSize ds) (digits_value 10 ds) → IfSome o (λ n. n < 2 ^ 127)
-size_small None ds h = tt
-size_small (Some n) ds h = omega (arith, h.1, h.0.small)
-
 no_minus : (field : List ℕ) → is_negative field ≡ false → IsNoMinus field
 no_minus [] e = tt
 no_minus (c ∷ cs) e = eqb-false c 45 e
@@ -175,10 +171,6 @@ pub minus_field : (o : Option ℕ) (field : List ℕ) → is_negative field ≡ 
     → option_and_then below_zero o ≡ number_of field
 minus_field o [] e h = absurd cc
 minus_field o (c ∷ cs) e h = below_number o cs h ∙ ap (λ (d : ℕ). number_of (d ∷ cs)) (sym (eqb-true c 45 e))
-
-pub negative_some : (field : List ℕ) → is_negative field ≡ true → 1 ≤ length field
-negative_some [] e = absurd cc
-negative_some (c ∷ cs) e = omega arith
 
 -- ---- one digit more
 

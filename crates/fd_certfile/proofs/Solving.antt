@@ -7,7 +7,7 @@ use Rattle.fd_equations.specs.Views.{NetworkView}
 use Rattle.fd_cert.specs.Rechecks.{boxed_claim, first_unsound}
 use Rattle.fd_cert.specs.declared.rule.Broken.{Broken as Found}
 use Rattle.fd_cert.specs.declared.rule.Rule.{Rule}
-use Rattle.fd_certfile.specs.Blocks.{Block, IsSized, Version, block_at, is_place}
+use Rattle.fd_certfile.specs.Blocks.{Block, IsSized, block_at, is_place}
 use Rattle.fd_certfile.specs.Blocks as blocks
 use Rattle.fd_certfile.specs.Claiming.{centre_in, claim_read, mismatch_in, radius_in, read_mismatch, read_radius}
 use Rattle.fd_certfile.specs.Judging.{claim_on}

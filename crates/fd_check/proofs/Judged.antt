@@ -2,13 +2,12 @@
 use Rattle.std.proofs.Common.{◌≡◌, ◌∙◌, ℕ, ◌+◌, ◌≤◌, true, List, [], ◌∷◌, Option, Some, None, Result, Ok, Err, refl, sym, ap, subst, arith, drop, length, map}
 use Rattle.std.specs.Prelude.{IfErr, OnOk, is_ok}
 use Rattle.dss_profile.specs.declared.command.Blame.{Blame}
-use Rattle.dss_circuit.specs.Circuit.{CircuitView}
 use Rattle.fd_cert.specs.declared.rule.Rule.{Rule}
 use Rattle.fd_queue.specs.Controls.{Positions}
 use Rattle.fd_queue.specs.Machine.{Machine}
 use Rattle.fd_settle.specs.Calls.{AreCalls}
 use Rattle.fd_settle.specs.Contract.{CallsAs, EndsAs}
-use Rattle.fd_settle.specs.Plant.{Plant, plant_of}
+use Rattle.fd_settle.specs.Plant.{Plant}
 use Rattle.fd_settle.specs.Rounds.{acts_in, claims_in, settled}
 use Rattle.fd_settle.specs.Settle.{End, Open, Limited, Undecidable}
 use Rattle.fd_settle.specs.declared.fault.SettleFault.{SettleFault}

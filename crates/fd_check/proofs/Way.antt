@@ -1,5 +1,5 @@
 -- How the check of a Solve goes from hour to hour.
-use Rattle.std.proofs.Common.{◌≡◌, ◌∙◌, ℕ, ◌+◌, List, [], ◌∷◌, Option, Some, None, Result, Ok, Err, sym, ap, subst}
+use Rattle.std.proofs.Common.{◌≡◌, ◌∙◌, ℕ, ◌+◌, List, [], ◌∷◌, Option, Result, Ok, Err, sym, ap, subst}
 use Rattle.std.specs.Prelude.{IfErr, IsSome, OnOk}
 use Rattle.dss_circuit.specs.Circuit.{CircuitView}
 use Rattle.fd_devices.specs.declared.fault.BuildFault.{BuildFault}
@@ -17,7 +17,7 @@ use Rattle.fd_certfile.specs.Reader.{ReaderView}
 use Rattle.fd_check.specs.Checking.{Checking, Settling, due_in, open_hours, open_solves, under_way}
 use Rattle.fd_check.specs.Comes.{Comes, LeadsForAll, Tells, TellsForAll}
 use Rattle.fd_check.specs.Faults.{by_network}
-use Rattle.fd_check.specs.Hours.{behind_hour, first_round, hour_open, hours_open, solves_open}
+use Rattle.fd_check.specs.Hours.{behind_hour, hour_open, hours_open, solves_open}
 use Rattle.fd_check.specs.declared.fault.CheckFault.{CheckFault}
 use Rattle.fd_check.proofs.Commands.{tells_before}
 use Rattle.fd_check.proofs.Told.{stopped_there}

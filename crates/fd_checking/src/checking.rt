@@ -1,5 +1,5 @@
 // The command line `check SCRIPT CERTIFICATE`.
-ghost use Rattle.std.specs.Prelude.{◌≡◌, ◌+◌, ◌≤◌, [], IfOk, List, None, Some, ℕ};
+ghost use Rattle.std.specs.Prelude.{◌≡◌, ◌+◌, ◌≤◌, [], IfOk, None, Some};
 ghost use Rattle.std.specs.Str.{chars};
 ghost use Rattle.dss_circuit.specs.Circuit.{empty_circuit};
 ghost use Rattle.fd_outside.specs.Causes.{Rose};

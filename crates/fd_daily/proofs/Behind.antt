@@ -1,11 +1,11 @@
 -- What is left of a Solve's hours behind one.
-use Rattle.std.proofs.Common.{◌≡◌, ◌∙◌, ℕ, zero, suc, ◌+◌, ◌-◌, ◌≤◌, ◌<◌, Bool, true, false, List, [], ◌∷◌, Option, Some, None, refl, sym, ap, subst, arith}
+use Rattle.std.proofs.Common.{◌≡◌, ◌∙◌, ℕ, ◌+◌, ◌-◌, Bool, true, false, List, ◌∷◌, Option, Some, None, refl, sym, ap, arith}
 use Rattle.std.specs.Prelude.{IsSome, if◌then◌else◌, nat_lt}
 use Rattle.std.specs.List.{range_with_len}
 use Rattle.dss_circuit.specs.Circuit.{CircuitView}
 use Rattle.fd_daily.specs.Day.{DayView, IsDayOf, hour_in, hour_kept, hours_done, hours_left}
 use Rattle.fd_daily.specs.Hours.{hour_after, hours_from}
-use Rattle.fd_daily.proofs.CallerLemmas.{hours_behind, next_first}
+use Rattle.fd_daily.proofs.CallerLemmas.{next_first}
 
 -- the hours behind hour k
 after_by : (k last : ℕ) (t : Bool) → nat_lt k last ≡ t

@@ -1,5 +1,5 @@
 // What is kept of elements.
-ghost use Rattle.std.specs.Prelude.{◌≡◌, ◌+◌, ◌*◌, ◌<◌, ◌≤◌, ◌^◌, ◌++◌, [], ◌∷◌, IfOk, IfErr, OnOk, All, Err, length};
+ghost use Rattle.std.specs.Prelude.{◌≡◌, ◌+◌, ◌*◌, ◌<◌, ◌≤◌, ◌^◌, ◌++◌, [], ◌∷◌, IfOk, IfErr, OnOk, All, Err};
 ghost use Rattle.dss_profile.specs.Ranges.{IsOneOf};
 ghost use Rattle.dss_profile.specs.InRange.{ElementInRange};
 ghost use Rattle.dss_layout.specs.Layout.{size_of};

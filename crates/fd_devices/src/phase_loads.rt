@@ -1,5 +1,5 @@
 // The part loads of a load's phases, their contributions and what they draw.
-ghost use Rattle.std.specs.Prelude.{◌≡◌, ℕ, ◌+◌, ◌*◌, ◌<◌, ◌≤◌, ◌++◌, ◌^◌, ◌↔◌, [], ◌∷◌, pos, neg_ℤ, ◌*ℤ◌, nat_abs, IsTrue, All, length, vec_capacity};
+ghost use Rattle.std.specs.Prelude.{◌≡◌, ◌+◌, ◌*◌, ◌<◌, ◌≤◌, ◌++◌, ◌^◌, ◌↔◌, [], pos, neg_ℤ, ◌*ℤ◌, nat_abs, IsTrue, All, length, vec_capacity};
 ghost use Rattle.std.specs.List.{flat_map};
 ghost use Rattle.fd_exact.specs.Sums.{list_n};
 ghost use Rattle.dss_profile.specs.InRange.{LoadInRange};

@@ -1,5 +1,5 @@
 // What is set of a circuit beside its script: positions and powers.
-ghost use Rattle.std.specs.Prelude.{◌≡◌, ◌≤◌, IfOk};
+ghost use Rattle.std.specs.Prelude.{◌≡◌, IfOk};
 ghost use Rattle.fd_devices.specs.Settings.{HasOwn, after, bank_count, own, power_count, settings_in, settings_of, tap_count};
 
 use dss_profile::Element;

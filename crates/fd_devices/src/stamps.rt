@@ -1,5 +1,5 @@
 // What each device adds to a network.
-ghost use Rattle.std.specs.Prelude.{◌≡◌, ℕ, ◌+◌, ◌*◌, ◌<◌, ◌≤◌, ◌^◌, false, [], ◌∷◌, IfOk, IsSome, All, length};
+ghost use Rattle.std.specs.Prelude.{◌≡◌, ◌+◌, ◌*◌, ◌<◌, ◌^◌, false, [], ◌∷◌, IfOk, IsSome, All, length};
 ghost use Rattle.dss_profile.specs.Ranges.{IsOneOf};
 ghost use Rattle.dss_profile.specs.InRange.{CapacitorInRange, LineInRange, LoadInRange, TransformerInRange, VsourceInRange};
 ghost use Rattle.dss_profile.specs.Sound.{are_matrices_wrong};

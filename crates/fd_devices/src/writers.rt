@@ -1,5 +1,5 @@
 // What elements add, written into stamps that have the room for it.
-ghost use Rattle.std.specs.Prelude.{◌≡◌, ℕ, ◌+◌, ◌*◌, ◌<◌, ◌≤◌, ◌^◌, [], IfErr, OnOk, All, length, vec_capacity};
+ghost use Rattle.std.specs.Prelude.{◌≡◌, ◌*◌, ◌<◌, ◌≤◌, ◌^◌, [], IfErr, OnOk, All, length, vec_capacity};
 ghost use Rattle.dss_profile.specs.InRange.{CapacitorInRange, LoadInRange, TransformerInRange};
 ghost use Rattle.fd_system.specs.Stamps.{IsRoomSame, stamp_of};
 ghost use Rattle.fd_system.specs.Terminals.{IsSide, node_count};

@@ -6,11 +6,7 @@ use Rattle.std.proofs.lemmas.Int.{ints}
 use Rattle.fd_exact.specs.Rounding.{signed, differ}
 use Rattle.fd_elements.specs.Powers.{IsByPowerFactor, square}
 use Rattle.std.proofs.lemmas.Nat.{div-add-mod'}
-use Rattle.std.proofs.Math.Nat.{add-mul-div_right, div-lt_iff_lt-mul, le-div_iff_mul-le}
-
--- the root of a quotient rounded down, against the quotient itself
-pub root_least : (n d r : ℕ) → 0 < d → r * r ≤ n / d → r * r * d ≤ n
-root_least n d r h k = (le-div_iff_mul-le h).0 k
+use Rattle.std.proofs.Math.Nat.{add-mul-div_right, div-lt_iff_lt-mul}
 
 pub root_most : (n d r : ℕ) → 0 < d → n / d < (r + 1) * (r + 1) → n < (r + 1) * (r + 1) * d
 root_most n d r h k = (div-lt_iff_lt-mul h).0 k

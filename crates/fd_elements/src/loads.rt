@@ -1,11 +1,10 @@
 // The phases of loads.
-ghost use Rattle.std.specs.Prelude.{◌≡◌, ℕ, ◌*◌, ◌^◌, ◌≤◌, ℤ, pos, ◌≤ℤ◌};
+ghost use Rattle.std.specs.Prelude.{◌≡◌, ◌*◌, ◌^◌, ◌≤◌, ℤ, pos, ◌≤ℤ◌};
 ghost use Rattle.dss_values.specs.Forms.{ones};
 ghost use Rattle.dss_profile.specs.Ranges.{IsBetween};
 ghost use Rattle.dss_profile.specs.InRange.{LoadInRange};
 ghost use Rattle.fd_load.specs.Current.{AreLoadVoltages};
 ghost use Rattle.fd_elements.specs.Volts.{part_of as volts_part};
-ghost use Rattle.fd_elements.specs.Powers.{ArePowers};
 ghost use Rattle.fd_elements.specs.Loads.{load_phase_of};
 
 use crate::connections::conn_of;

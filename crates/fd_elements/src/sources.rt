@@ -1,5 +1,5 @@
 // The data of sources.
-ghost use Rattle.std.specs.Prelude.{◌≡◌, ◌*◌, ◌^◌, pos, IfOk, IfErr, IsTrue, ◌↔◌};
+ghost use Rattle.std.specs.Prelude.{◌≡◌, ◌*◌, ◌^◌, IfOk, IfErr, IsTrue, ◌↔◌};
 ghost use Rattle.dss_profile.specs.InRange.{VsourceInRange};
 ghost use Rattle.dss_profile.specs.Sound.{is_source_outside};
 ghost use Rattle.fd_exact.specs.Ranges.{UpTo};

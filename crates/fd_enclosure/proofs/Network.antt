@@ -1,5 +1,5 @@
 -- The change of a network's rows in the box.
-use Rattle.std.proofs.Common.{◌≡◌, ◌≢◌, ℕ, ◌+◌, ◌*◌, ◌<◌, ◌≤◌, ◌^◌, ℤ, pos, ◌+ℤ◌, nat_abs, nat_lt, Bool, true, false, cond, eqb, List, [], ◌∷◌, Option, Some, None, IfSome, is_some, arith, refl}
+use Rattle.std.proofs.Common.{◌≡◌, ◌≢◌, ℕ, ◌+◌, ◌*◌, ◌<◌, ◌≤◌, ◌^◌, ℤ, pos, ◌+ℤ◌, nat_abs, nat_lt, Bool, true, false, cond, List, [], ◌∷◌, Option, Some, None, IfSome, is_some, arith}
 use Rattle.std.specs.List.{All}
 use Rattle.std.specs.Int.RustNames.{unsigned_abs}
 use Rattle.std.proofs.lemmas.Bool.{le-ltb, lt-ltb}

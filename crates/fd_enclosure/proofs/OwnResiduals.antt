@@ -1,12 +1,11 @@
 -- Ties of the numbers of a certificate.
-use Rattle.std.proofs.Common.{◌≡◌, ◌∙◌, ℕ, ◌+◌, ◌-◌, ◌*◌, ◌/◌, ◌^◌, ◌<◌, ◌≤◌, max, ℤ, nat_abs, nat_lt, List, Bool, true, false, cond, Option, Some, None, get_or, arith, ap, refl, sym, subst}
+use Rattle.std.proofs.Common.{◌≡◌, ◌∙◌, ℕ, ◌+◌, ◌-◌, ◌*◌, ◌/◌, ◌^◌, ◌<◌, ◌≤◌, max, ℤ, nat_abs, nat_lt, List, Bool, true, false, cond, Some, None, get_or, arith, ap, refl, sym, subst}
 use Rattle.fd_exact.specs.Fractions.{Fraction}
 use Rattle.fd_exact.specs.Rounding.{ceil_nat}
 use Rattle.fd_exact.specs.States.{entry}
 use Rattle.fd_arith.specs.Interval.{Bounds}
 use Rattle.fd_system.specs.Residual.{greater_size, residual_interval, whole_state}
 use Rattle.fd_system.specs.System.{residual_of}
-use Rattle.fd_equations.specs.Conditions.{IsNetwork, IsPoint}
 use Rattle.fd_equations.specs.Enclosure.{EndsWithin, addend_count, interval_residual_of}
 use Rattle.fd_equations.specs.Rounded.{jacobian_entry}
 use Rattle.fd_equations.specs.declared.layout.PlaceKind.{PlaceKind}
@@ -17,8 +16,8 @@ use Rattle.fd_equations.proofs.CallerLemmas.{get_or-list_of, row_tie}
 use Rattle.fd_enclosure.specs.Bounds.{bound_of, radius_at, reach_of}
 use Rattle.fd_enclosure.specs.Boxes.{half_width_by}
 use Rattle.fd_enclosure.specs.Radii.{slope_radius}
-use Rattle.fd_enclosure.specs.Sound.{mismatch_at, mismatch_size, number_at, radius_in}
-use Rattle.fd_enclosure.specs.Ties.{BallLaw, HasOneBall, IsTied, TieLaw}
+use Rattle.fd_enclosure.specs.Sound.{mismatch_size, number_at, radius_in}
+use Rattle.fd_enclosure.specs.Ties.{BallLaw, IsTied, TieLaw}
 
 greater_by : (a b o m : ℕ) → a * o ≤ m → b * o ≤ m → max a b * o ≤ m
 greater_by a b o m h k = grind arith

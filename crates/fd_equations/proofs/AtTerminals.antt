@@ -133,22 +133,6 @@ connected m n size u among h few s = record {
   magnitude = magnitude_inside n size u.load.model u.magnitude s.magnitude;
 }
 
-node_wide : (size n : ℕ) (node : NodeAt) → size ≤ n → IsPlace size node → IsPlace n node
-node_wide size n Ground h k = tt
-node_wide size n (Node r) h k = (omega (arith, k.0), k.1)
-
-magnitude_wide : (size n : ℕ) (place : Option ℕ) → size ≤ n → IfSome place (λ k. k < size) → IfSome place (λ k. k < n)
-magnitude_wide size n None h k = tt
-magnitude_wide size n (Some p) h k = omega arith
-
-pub connected_wide : (size n : ℕ) (u : LoadAt) → size ≤ n → IsConnected size u → IsConnected n u
-connected_wide size n u h c = record {
-  phase = c.phase;
-  first = node_wide size n u.first h c.first;
-  second = node_wide size n u.second h c.second;
-  magnitude = magnitude_wide size n u.magnitude h c.magnitude;
-}
-
 -- part loads between nodes, whose magnitudes stand behind the complex unknowns, are connected to the real ones
 pub all_connected : (m n size : ℕ) (us : List LoadAt) → m ≤ n → 2 * n ≤ size → size ≤ 2 ^ 11 → All (IsServed m n size) us → All (IsConnected size) us
 all_connected m n size us among h few a = All-weaker (IsServed m n size) (IsConnected size) (λ u s. connected m n size u among h few s) us a

@@ -3,7 +3,7 @@ use Rattle.std.proofs.Common.{◌≡◌, ◌∙◌, ◌⊎◌, ℕ, zero, suc, �
 use Rattle.std.specs.List.{All, Contains, flat_map}
 use Rattle.std.proofs.Math.Nat.{mul-le-mul}
 use Rattle.std.proofs.lemmas.Int.{ints}
-use Rattle.std.proofs.lemmas.List.Elements.{All-append, All-cons, All-head, All-nil, All-tail, All-weaker}
+use Rattle.std.proofs.lemmas.List.Elements.{All-append, All-cons, All-head, All-nil, All-tail}
 use Rattle.fd_exact.specs.Sums.{list_z}
 use Rattle.fd_arith.specs.declared.terms.Term.{Term}
 use Rattle.fd_arith.specs.declared.terms.NodeAt.{NodeAt}
@@ -21,7 +21,6 @@ use Rattle.fd_equations.specs.PartLoads.{load_entry, no_slopes, slope_count, slo
 use Rattle.fd_equations.specs.PatternPlaces.{cross, load_places, magnitude_places, node_places, place_of, places_of, terminal_places}
 use Rattle.fd_equations.specs.Patterns.{IsInside, PatternView}
 use Rattle.fd_equations.specs.Terminals.{IsConnected, at_magnitude, at_node, at_terminal, count_magnitude, count_node, count_terminal}
-use Rattle.fd_equations.proofs.AtTerminals.{connected_wide}
 use Rattle.fd_equations.proofs.Elsewhere.{nothing_elsewhere}
 use Rattle.fd_equations.proofs.Growth.{IsBoth, bare_cells, both_parts, cells_then, slopes_room}
 
@@ -108,9 +107,6 @@ module _ (n : ℕ) where
 
   pub all_inside : (ts : List Term) (us : List LoadAt) → All (IsLinear n) ts → All (IsConnected n) us → All (IsInside n) (places_of ts us)
   all_inside ts us h k = All-append (IsInside n) (map place_of ts) (flat_map load_places us) (terms_inside ts h) (loads_inside us k)
-
-pub all_wide : (n : ℕ) (us : List LoadAt) → n ≤ 2 ^ 11 → All (IsConnected n) us → All (IsConnected (2 ^ 11)) us
-all_wide n us h a = All-weaker (IsConnected n) (IsConnected (2 ^ 11)) (λ u c. connected_wide n (2 ^ 11) u h c) us a
 
 -- ---- what a look-up reads
 

@@ -18,10 +18,10 @@ use Rattle.fd_system.specs.Contributions.{AreSmall}
 use Rattle.fd_system.specs.System.{nonlinear_of, residual_of}
 use Rattle.fd_system.specs.Residual.{HasDen, IsConstant, IsTerm, linear_interval, residual_interval, whole_state, with_part}
 use Rattle.fd_system.proofs.CallerLemmas.{residual_holds}
-use Rattle.fd_equations.specs.Coefficients.{count_at, linear_entry, row_count}
+use Rattle.fd_equations.specs.Coefficients.{linear_entry, row_count}
 use Rattle.fd_equations.specs.Conditions.{AreKnown, IsKnown, IsLinear, IsNetwork, IsPart, IsPoint, magnitude_count}
 use Rattle.fd_equations.specs.Enclosure.{EndsWithin, addend_count, interval_residual_of, summand_count}
-use Rattle.fd_equations.specs.PartLoads.{current_count, current_counts, load_current_count, load_current_counts, loads_row, slope_counts}
+use Rattle.fd_equations.specs.PartLoads.{current_count, current_counts, load_current_count, load_current_counts, loads_row}
 use Rattle.fd_equations.specs.Rounded.{constant_sum, constants_of, entry_product, linear_residual_of, list_of, products_added, rounded_residual_of, rounded_row}
 use Rattle.fd_equations.specs.declared.layout.PlaceKind.{PlaceKind}
 use Rattle.fd_equations.specs.declared.layout.PlaceKind.TheVariants.{Node, Branch, Magnitude}
@@ -31,7 +31,6 @@ use Rattle.fd_equations.specs.Terminals.{IsConnected, count_magnitude, count_nod
 use Rattle.fd_equations.proofs.AtTerminals.{all_connected}
 use Rattle.fd_equations.proofs.DrawnIntervals.{loads_positive, narrow_loads}
 use Rattle.fd_equations.proofs.LoadSums.{rows_small}
-use Rattle.fd_equations.proofs.Counting.{count_size, slopes_few}
 use Rattle.fd_equations.proofs.Lists.{get_or-list_of, length-list_of, list_of-ext, part-list_of-small}
 use Rattle.fd_equations.proofs.Sizes.{near_size, part_size, product_size, small_size}
 use Rattle.fd_equations.proofs.Widths.{Narrow, ends_within, narrow_row, wider}
@@ -199,13 +198,6 @@ module _ (v : NetworkView) (x linear rows : List ℤ) (e : linear ≡ linear_res
       sum a b h k = omega (arith, ints)
 
 -- ---- matrices
-
--- how many summands of the Jacobian stand at a place
-pub counts_small : (v : NetworkView) (row col : ℕ) → IsNetwork v → count_at v.stamp.terms row col + slope_counts v.stamp.loads row col ≤ 2 ^ 27
-counts_small v row col n =
-    let few = n.terms.few in
-    let loads = n.few_loads in
-    omega (arith, count_size v.stamp.terms row col, slopes_few v.stamp.loads row col)
 
 -- ---- weights
 

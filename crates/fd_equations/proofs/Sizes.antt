@@ -25,9 +25,6 @@ product_size u z h k = let e = unsigned_abs-mul u z in let b = mul-le-mul h k in
 pub kept_by : (z : ℤ) → nat_abs z ≤ 2 ^ 126 → to_z w128 (of_z w128 z) ≡ z
 kept_by z h = to_z-of_z w128 z (fits_signed_from_abs w128 z (omega arith))
 
-pub kept_sum : (a b : ℤ) → nat_abs a ≤ 2 ^ 120 → nat_abs b ≤ 2 ^ 54 → to_z w128 (of_z w128 (to_z w128 (of_z w128 a) +ℤ to_z w128 (of_z w128 b))) ≡ (a +ℤ b)
-kept_sum a b h k = rw (kept_by a (omega arith), kept_by b (omega arith)) (kept_by (a +ℤ b) (omega (arith, ints)))
-
 pub kept_more : (a b : ℤ) → nat_abs a ≤ 2 ^ 120 → nat_abs b ≤ 2 ^ 54 → to_z w128 (of_z w128 (a +ℤ to_z w128 (of_z w128 b))) ≡ (a +ℤ b)
 kept_more a b h k = rw (kept_by b (omega arith)) (kept_by (a +ℤ b) (omega (arith, ints)))
 

@@ -40,9 +40,6 @@ from_next lo m at cells h away = record {
   all = λ col a b. h.all col (omega arith) (omega arith);
 }
 
-amount_of_cell : (c : Cell) (col : ℕ) (a : Amount) → c ≡ cell_of col a → amount_in c ≡ a
-amount_of_cell c col a e = ap amount_in e
-
 module _ {X : Type 0} (step : X → ℕ → Amount → X) (still : (x : X) (col : ℕ) → step x col nothing ≡ x) (at : ℕ → Amount) where
   walked_from : (m lo : ℕ) (x : X) (cells : List Cell) → IsFrom lo m at cells → walk step x cells ≡ run step at x lo m
   walked_from zero lo x [] h = refl

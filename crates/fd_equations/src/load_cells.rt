@@ -1,5 +1,5 @@
 // What part loads add at the places of a pattern: their slopes in units of 2^-40, and how many there are.
-ghost use Rattle.std.specs.Prelude.{◌≡◌, ℕ, ◌+◌, ◌*◌, ◌<◌, ◌≤◌, ◌^◌, ◌&&◌, pos, neg_ℤ, cond, eqb, nat_abs, length, All};
+ghost use Rattle.std.specs.Prelude.{◌≡◌, ◌+◌, ◌*◌, ◌<◌, ◌≤◌, ◌^◌, ◌&&◌, pos, cond, eqb, nat_abs, length, All};
 ghost use Rattle.fd_system.specs.Residual.{IsPlace};
 ghost use Rattle.fd_equations.specs.Amounts.{AreGrown, HaveSlopeRoom, amount, more, of_load, of_loads};
 ghost use Rattle.fd_equations.specs.Conditions.{IsPart};

@@ -1,8 +1,8 @@
 // What part loads add to the residual in intervals.
-ghost use Rattle.std.specs.Prelude.{◌≡◌, ℕ, ◌<◌, cond, eqb, get_or, None, IfSome, List, length, All};
+ghost use Rattle.std.specs.Prelude.{◌≡◌, ℕ, ◌<◌, cond, eqb, get_or, None, length, All};
 ghost use Rattle.std.specs.List.{fold};
 ghost use Rattle.fd_arith.specs.Interval.{sum};
-ghost use Rattle.fd_load.specs.Current.{AreVoltages, IsLoadPhase};
+ghost use Rattle.fd_load.specs.Current.{AreVoltages};
 ghost use Rattle.fd_system.specs.Loads.{nonlinear_parts};
 ghost use Rattle.fd_system.specs.Residual.{IsPlace, whole_state, with_part};
 ghost use Rattle.fd_system.specs.System.{nonlinear_of};

@@ -1,5 +1,5 @@
 // What part loads add to the rounded residual.
-ghost use Rattle.std.specs.Prelude.{◌≡◌, ℕ, ℤ, ◌<◌, ◌≤◌, ◌^◌, ◌+ℤ◌, nat_abs, List, length, All, Some};
+ghost use Rattle.std.specs.Prelude.{◌≡◌, ℕ, ℤ, ◌<◌, ◌≤◌, ◌^◌, ◌+ℤ◌, nat_abs, length, All, Some};
 ghost use Rattle.fd_exact.specs.Rounding.{near_div};
 ghost use Rattle.fd_exact.specs.States.{part};
 ghost use Rattle.fd_load.specs.Current.{AreVoltages, IsLoadPhase, divisor, excess, in_phase, quadrature};

@@ -1,9 +1,9 @@
 // A matrix by rows of non-zeros.
-ghost use Rattle.std.specs.Prelude.{◌≡◌, ℕ, ◌*◌, ◌<◌, ◌≤◌, ◌^◌, pos, nat_abs, IfOk, length, All};
+ghost use Rattle.std.specs.Prelude.{◌≡◌, ℕ, ◌*◌, ◌<◌, ◌≤◌, ◌^◌, pos, IfOk, length, All};
 ghost use Rattle.std.specs.List.{Contains};
 ghost use Rattle.fd_exact.specs.States.{cell, part, table};
 ghost use Rattle.fd_mat.specs.Rows.{EntriesWithin};
-ghost use Rattle.fd_equations.specs.Amounts.{Amount, AreCells, HaveSlopeRoom, IsNothingElsewhere, IsRowOf, cell_at};
+ghost use Rattle.fd_equations.specs.Amounts.{Amount, AreCells, IsNothingElsewhere, IsRowOf, cell_at};
 ghost use Rattle.fd_equations.specs.Matrices.{IsMatrix, matrix_with};
 ghost use Rattle.fd_equations.specs.Patterns.{IsInside, IsRising, IsSlot, pattern_of};
 

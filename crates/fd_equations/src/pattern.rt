@@ -1,5 +1,5 @@
 // The places of row and column that any setting reaches.
-ghost use Rattle.std.specs.Prelude.{◌≡◌, true, false, ℕ, ◌+◌, ◌<◌, ◌≤◌, ◌^◌, ◌↔◌, IfNone, IfOk, IfSome, List, [], length, take, All};
+ghost use Rattle.std.specs.Prelude.{◌≡◌, true, false, ℕ, ◌+◌, ◌<◌, ◌≤◌, ◌^◌, IfNone, IfOk, IfSome, length, All};
 ghost use Rattle.std.specs.List.{Contains};
 ghost use Rattle.fd_equations.specs.Patterns.{AreStarts, IsAfterAll, IsInside, IsKept, IsPattern, IsSlot, IsSorted, IsStart, pattern_of, key, IsRising, IsNotAfter};
 

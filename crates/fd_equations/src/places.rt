@@ -1,5 +1,5 @@
 // The places of row and column at which contributions and slopes of part loads stand.
-ghost use Rattle.std.specs.Prelude.{◌≡◌, ◌<◌, ◌^◌, ◌*◌, ◌+◌, ◌++◌, [], ◌∷◌, IfOk, OnOk, map, All};
+ghost use Rattle.std.specs.Prelude.{◌≡◌, ◌<◌, ◌^◌, ◌*◌, ◌+◌, ◌++◌, IfOk, OnOk, map, All};
 ghost use Rattle.std.specs.List.{flat_map};
 ghost use Rattle.fd_system.specs.Contributions.{IsSmall};
 ghost use Rattle.fd_equations.specs.PatternPlaces.{cross, load_places, magnitude_places, node_places, place_of, places_of as all_places, terminal_places};

@@ -1,5 +1,5 @@
 // The residual of the rows in intervals.
-ghost use Rattle.std.specs.Prelude.{◌≡◌, ◌<◌, ◌^◌, IfOk, ℤ, pos, length, List, All};
+ghost use Rattle.std.specs.Prelude.{◌≡◌, ◌<◌, IfOk, pos, length, All};
 ghost use Rattle.std.specs.List.{fold};
 ghost use Rattle.fd_arith.specs.Interval.{capped};
 ghost use Rattle.fd_system.specs.Residual.{IsConstant, IsTerm, constant_added, linear_interval, term_added};

@@ -1,5 +1,5 @@
 // Rows by non-zeros.
-ghost use Rattle.std.specs.Prelude.{◌≡◌, ℕ, ◌+◌, ◌*◌, ◌<◌, ◌≤◌, ◌^◌, ◌↔◌, [], ℤ, pos, ◌*ℤ◌, nat_abs, map, IfOk, IsTrue, length, vec_capacity, All};
+ghost use Rattle.std.specs.Prelude.{◌≡◌, ℕ, ◌+◌, ◌*◌, ◌<◌, ◌≤◌, ◌^◌, ◌↔◌, [], ℤ, ◌*ℤ◌, nat_abs, map, IfOk, IsTrue, length, vec_capacity, All};
 ghost use Rattle.std.specs.List.{Contains};
 ghost use Rattle.fd_exact.specs.Rounding.{near_div};
 ghost use Rattle.fd_exact.specs.States.{part as part_of};

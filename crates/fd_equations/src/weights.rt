@@ -1,5 +1,5 @@
 // The weights of the unknowns.
-ghost use Rattle.std.specs.Prelude.{◌≡◌, ◌+◌, ◌*◌, ◌/◌, ◌<◌, ◌≤◌, ◌^◌, IfOk, List, length, All, pos};
+ghost use Rattle.std.specs.Prelude.{◌≡◌, ◌+◌, ◌*◌, ◌/◌, ◌<◌, ◌≤◌, ◌^◌, IfOk, length, All, pos};
 ghost use Rattle.fd_equations.specs.Conditions.{IsPart};
 ghost use Rattle.fd_equations.specs.Rounded.{list_of};
 ghost use Rattle.fd_equations.specs.Views.{kind_in};

@@ -1,9 +1,8 @@
 -- A fault names a place or a column inside the network.
-use Rattle.std.proofs.Common.{◌≡◌, ◌∙◌, ℕ, zero, suc, ◌+◌, ◌<◌, ◌^◌, ℤ, nat_abs, nat_lt, List, length, Bool, true, false, cond, Option, Some, None, Result, Ok, Err, MatchResult, arith, refl, subst}
+use Rattle.std.proofs.Common.{◌≡◌, ◌∙◌, ℕ, zero, suc, ◌+◌, ◌<◌, ◌^◌, ℤ, nat_abs, nat_lt, List, length, Bool, true, false, cond, Option, Some, None, Result, Ok, Err, MatchResult, refl, subst}
 use Rattle.std.specs.List.{fold}
 use Rattle.fd_exact.specs.States.{part}
 use Rattle.fd_exact.specs.Results.{and_then}
-use Rattle.fd_exact.specs.First.{first_place}
 use Rattle.fd_exact.specs.FirstLaws.{place_below}
 use Rattle.fd_equations.specs.Rounded.{constants_of, jacobian_of, rounded_residual_of, start_matrix_of}
 use Rattle.fd_equations.specs.Views.{NetworkView}

@@ -1,5 +1,5 @@
 -- Lists and matrices within a limit or past it.
-use Rattle.std.proofs.Common.{◌≡◌, ◌∙◌, ℕ, ◌<◌, ◌≤◌, ◌^◌, ℤ, nat_abs, nat_lt, List, length, Bool, true, false, is_some, Some, None, Ok, Err, arith, ap, sym}
+use Rattle.std.proofs.Common.{◌≡◌, ◌∙◌, ℕ, ◌<◌, ◌≤◌, ◌^◌, ℤ, nat_abs, nat_lt, List, length, true, false, Some, None, Ok, Err, arith, ap, sym}
 use Rattle.fd_exact.specs.States.{part}
 use Rattle.fd_exact.specs.FirstLaws.{first_none, first_some}
 use Rattle.fd_mat.specs.Rows.{EntriesWithin, first_column_past}

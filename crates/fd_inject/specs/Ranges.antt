@@ -1,5 +1,5 @@
 -- Lists and matrices that pass a limit, and the inverse of a matrix.
-use Rattle.std.specs.Prelude.{ℕ, ◌<◌, ◌≤◌, ◌^◌, ℤ, nat_abs, nat_lt, is_some, List, length, Option, Some, None, Result, Ok, Err}
+use Rattle.std.specs.Prelude.{ℕ, ◌<◌, ◌≤◌, ◌^◌, ℤ, nat_abs, nat_lt, List, length, Option, Some, None, Result, Ok, Err}
 use Rattle.fd_exact.specs.States.{part}
 use Rattle.fd_exact.specs.First.{first_place}
 use Rattle.fd_mat.specs.Rows.{first_column_past}

@@ -1,5 +1,5 @@
 // Lists and matrices that pass a limit.
-ghost use Rattle.std.specs.Prelude.{◌≡◌, ◌<◌, ◌≤◌, ◌^◌, length, IfOk, IfSome, IfNone, OnOk, MatchResult, Ok, Err};
+ghost use Rattle.std.specs.Prelude.{◌≡◌, ◌<◌, ◌≤◌, ◌^◌, length, IfOk, IfNone, OnOk, MatchResult, Ok, Err};
 ghost use Rattle.fd_mat.specs.Rows.{EntriesWithin};
 ghost use Rattle.fd_inject.specs.Ranges.{SizesWithin, first_past, in_range, inverse_at};
 ghost use Rattle.fd_inject.specs.Faults.{UnlessMemory};

@@ -1,5 +1,5 @@
 // One step of the procedure, and the end test.
-ghost use Rattle.std.specs.Prelude.{◌≡◌, ℕ, ◌+◌, ◌*◌, ◌<◌, ◌≤◌, ◌^◌, nat_abs, length, IfOk, IfSome, OnOk, MatchResult, Ok, Err, false};
+ghost use Rattle.std.specs.Prelude.{◌≡◌, ◌+◌, ◌*◌, ◌<◌, ◌≤◌, ◌^◌, nat_abs, length, IfOk, IfSome, OnOk, MatchResult, Ok, Err, false};
 ghost use Rattle.fd_exact.specs.States.{part};
 ghost use Rattle.fd_mat.specs.Rows.{EntriesWithin};
 ghost use Rattle.fd_equations.specs.Conditions.{IsPoint};

@@ -1,6 +1,5 @@
 // What an inverse gives for a residual.
-ghost use Rattle.std.specs.Prelude.{◌≡◌, ℕ, ◌<◌, ◌≤◌, ◌^◌, ◌*ℤ◌, nat_abs, length, IfOk, MatchResult, Ok, Err};
-ghost use Rattle.fd_exact.specs.Rounding.{near_div};
+ghost use Rattle.std.specs.Prelude.{◌≡◌, ◌<◌, ◌≤◌, ◌^◌, ◌*ℤ◌, nat_abs, length, IfOk, MatchResult, Ok, Err};
 ghost use Rattle.fd_exact.specs.States.{part};
 ghost use Rattle.fd_mat.specs.Rows.{EntriesWithin};
 ghost use Rattle.fd_inject.specs.Ranges.{SizesWithin};

@@ -1,5 +1,5 @@
 -- The contributions of a line add up to its equations, and have denominators in range.
-use Rattle.std.proofs.Common.{ℕ, ◌+◌, ◌*◌, ◌<◌, ◌≤◌, ◌^◌, ℤ, pos, negsuc, neg_ℤ, List, length, arith, lit<}
+use Rattle.std.proofs.Common.{ℕ, ◌*◌, ◌<◌, ◌≤◌, ◌^◌, ℤ, pos, negsuc, neg_ℤ, List, length, arith, lit<}
 use Rattle.std.specs.List.{All}
 use Rattle.std.proofs.lemmas.List.Elements.{All-append}
 use Rattle.fd_exact.specs.Fractions.{Same}

@@ -1,5 +1,5 @@
 // The contributions of a line.
-ghost use Rattle.std.specs.Prelude.{◌≡◌, ◌+◌, ◌*◌, ◌<◌, ◌≤◌, ◌++◌, ℤ, pos, negsuc, neg_ℤ, nat_abs, ◌≤ℤ◌, ◌^◌, IfOk, length, vec_capacity, All};
+ghost use Rattle.std.specs.Prelude.{◌≡◌, ◌+◌, ◌*◌, ◌<◌, ◌≤◌, ◌++◌, nat_abs, ◌^◌, IfOk, length, vec_capacity, All};
 ghost use Rattle.fd_system.specs.Contributions.{concat_below, IsDivided, IsWithin};
 ghost use Rattle.fd_system.specs.Equations.{AddsUp};
 ghost use Rattle.fd_system.specs.Terminals.{IsSide};

@@ -1,9 +1,8 @@
 // The impedance and the capacitance of a whole line.
-ghost use Rattle.std.specs.Prelude.{◌≡◌, ℕ, ◌*◌, ◌+◌, ◌<◌, ◌≤◌, ◌^◌, ℤ, pos, nat_abs, length};
+ghost use Rattle.std.specs.Prelude.{◌≡◌, ℕ, ◌*◌, ◌+◌, ◌<◌, ◌≤◌, ◌^◌, nat_abs, length};
 ghost use Rattle.fd_exact.specs.Fractions.{fraction};
 ghost use Rattle.fd_exact.specs.States.{cell};
-ghost use Rattle.fd_exact.specs.Ranges.{Within};
-ghost use Rattle.fd_line.specs.Totals.{IsForm, IsCharge, IsLine, IsMatrix, angular_frequency, capacitance_of, over_length, reactance_of, resistance_of};
+ghost use Rattle.fd_line.specs.Totals.{IsLine, angular_frequency, capacitance_of, over_length, reactance_of, resistance_of};
 
 use crate::data::{ChargeForm, Entries, LineData, LineForm};
 use fd_arith::floor_of_product;

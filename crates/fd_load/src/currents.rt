@@ -1,5 +1,5 @@
 // The current of a load phase, and the row of its magnitude.
-ghost use Rattle.std.specs.Prelude.{◌≡◌, ℕ, ◌*◌, ◌^◌, ◌≤◌, ℤ, pos, ◌*ℤ◌, ◌<ℤ◌, ◌≤ℤ◌, nat_abs};
+ghost use Rattle.std.specs.Prelude.{◌≡◌, ◌*◌, ◌^◌, ◌≤◌, ℤ, pos, ◌<ℤ◌, ◌≤ℤ◌, nat_abs};
 ghost use Rattle.std.specs.Int.RustNames.{unsigned_abs};
 ghost use Rattle.fd_exact.specs.Fractions.{fraction};
 ghost use Rattle.fd_load.specs.Current.{AreVoltages, IsLoadPhase, divisor as divisor_by_model, excess as excess_of, in_phase as numerator_in_phase, phase_current, phase_magnitude, quadrature as numerator_in_quadrature};

@@ -1,7 +1,7 @@
 // The numerators and the denominators of a load's current.
-ghost use Rattle.std.specs.Prelude.{◌≡◌, ℕ, ◌+◌, ◌*◌, ◌^◌, ◌<◌, ◌≤◌, ℤ, pos, ◌+ℤ◌, ◌*ℤ◌, nat_abs};
+ghost use Rattle.std.specs.Prelude.{◌≡◌, ◌+◌, ◌*◌, ◌^◌, ◌<◌, ◌≤◌, ℤ, pos, ◌+ℤ◌, ◌*ℤ◌, nat_abs};
 ghost use Rattle.fd_system.specs.Loads.{clamp, non_negative, square_of};
-ghost use Rattle.fd_load.specs.Current.{AreVoltages, IsLoadPhase, clamped_magnitude as magnitude_within, clamped_square as square_within, divisor as divisor_by_model, in_phase as numerator_in_phase, largest, power_sum, quadrature as numerator_in_quadrature};
+ghost use Rattle.fd_load.specs.Current.{IsLoadPhase, clamped_magnitude as magnitude_within, clamped_square as square_within, divisor as divisor_by_model, in_phase as numerator_in_phase, largest, power_sum, quadrature as numerator_in_quadrature};
 
 use fd_arith::LoadModel;
 use fd_system::LoadPhase;

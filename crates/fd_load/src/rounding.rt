@@ -1,5 +1,5 @@
 // Quotients to the nearest.
-ghost use Rattle.std.specs.Prelude.{◌≡◌, ℕ, ◌*◌, ◌^◌, ◌<◌, ◌≤◌, ℤ, nat_abs};
+ghost use Rattle.std.specs.Prelude.{◌≡◌, ℕ, ◌*◌, ◌^◌, ◌<◌, ◌≤◌, nat_abs};
 ghost use Rattle.fd_load.specs.Slopes.{fine_current as current_in_small_units};
 
 use fd_arith::near_units;

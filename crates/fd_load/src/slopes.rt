@@ -1,6 +1,5 @@
 // The slopes of a load phase's rows.
-ghost use Rattle.std.specs.Prelude.{◌≡◌, ℕ, ◌+◌, ◌*◌, ◌^◌, ◌<◌, ◌≤◌, ℤ, pos, ◌*ℤ◌, nat_abs, IsTrue};
-ghost use Rattle.fd_system.specs.Loads.{square_of};
+ghost use Rattle.std.specs.Prelude.{◌≡◌, ◌+◌, ◌*◌, ◌^◌, ◌<◌, ◌≤◌, ℤ, pos, ◌*ℤ◌, nat_abs, IsTrue};
 ghost use Rattle.fd_load.specs.Current.{AreVoltages, IsLoadPhase, clamped_square as square_within, largest, power_sum};
 ghost use Rattle.fd_load.specs.Slopes.{IsCurrentRow, IsMagnitudeRow, admittance as admittance_over, by_magnitude as magnitude_slope, by_square as square_slope, constant_current_slopes, constant_power_slopes, fine_current as current_in_small_units, magnitude_is_inside as magnitude_inside, magnitude_slopes as slopes_of_magnitude, near_units as nearest_units, power_slopes, slopes_of, square_is_inside as square_inside};
 

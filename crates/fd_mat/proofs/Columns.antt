@@ -1,5 +1,5 @@
 -- The first column with an entry past a limit.
-use Rattle.std.proofs.Common.{◌≡◌, ℕ, ◌<◌, ◌≤◌, ℤ, nat_abs, nat_lt, List, length, Bool, true, false, is_some, Some, None, ap, arith}
+use Rattle.std.proofs.Common.{◌≡◌, ℕ, ◌<◌, ◌≤◌, ℤ, nat_abs, nat_lt, List, length, true, false, is_some, Some, None, ap, arith}
 use Rattle.fd_exact.specs.States.{entry}
 use Rattle.fd_exact.specs.FirstLaws.{first_none, first_some, found}
 use Rattle.fd_mat.specs.Rows.{EntriesWithin, first_column_past, is_column_past}

@@ -1,5 +1,5 @@
 -- No two part loads of a circuit have their magnitude at one place.
-use Rattle.std.proofs.Common.{◌≡◌, ◌≢◌, ◌∙◌, ℕ, zero, suc, ◌+◌, ◌*◌, ◌<◌, ◌≤◌, ◌==◌, Bool, true, false, cond, eqb, if◌then◌else◌, List, [], ◌∷◌, ◌++◌, ◌⊎◌, length, slice_index, map, Some, None, arith, ap, refl, sym, subst, inl, inr, add-zero, zero-add}
+use Rattle.std.proofs.Common.{◌≡◌, ◌≢◌, ◌∙◌, ℕ, zero, suc, ◌+◌, ◌*◌, ◌<◌, ◌≤◌, Bool, true, false, cond, eqb, if◌then◌else◌, List, [], ◌∷◌, ◌++◌, ◌⊎◌, length, slice_index, map, Some, None, arith, ap, refl, sym, subst, inl, inr, add-zero, zero-add}
 use Rattle.std.specs.List.{flat_map}
 use Rattle.std.proofs.lemmas.Bool.{cases_lt, ne_eqb}
 use Rattle.fd_exact.specs.Sums.{list_n}

@@ -1,6 +1,7 @@
 -- The first device that fails a test.
-use Rattle.std.proofs.Common.{◌≡◌, ◌∙◌, ℕ, ◌<◌, Bool, IsTrue, true, false, not, List, ◌∷◌, length, take, drop, Option, Some, None, ap, sym, refl, subst}
+use Rattle.std.proofs.Common.{◌≡◌, ◌∙◌, ℕ, ◌<◌, Bool, IsTrue, false, not, List, ◌∷◌, length, take, drop, Option, Some, None, ap, sym, subst}
 use Rattle.std.specs.List.{All, AllPass}
+use Rattle.std.proofs.lemmas.Bool.{false_from_ne_true, not_from_false}
 use Rattle.std.proofs.lemmas.List.Elements.{All-drop, All-head, All-weaker}
 use Rattle.fd_exact.specs.FirstLaws.{such_at, such_below, such_none}
 use Rattle.fd_devices.specs.Building.{DeviceFits, device_fits}
@@ -17,16 +18,13 @@ module _ (holds : Device → Bool) where
   pub none_without : (ds : List Device) → AllPass holds ds → first_without holds ds ≡ None
   none_without ds h = such_none (λ d. not (holds d)) ds (All-weaker (λ d. IsTrue (holds d)) (λ d. not (holds d) ≡ false) (λ d. ap not) ds h)
 
-  fails : (b : Bool) → ¬ (IsTrue b) → not b ≡ true
-  fails true n = absurd (n refl)
-  fails false n = refl
-
   -- it is the one after those of which it holds
   pub first_at : (ds : List Device) (place : ℕ) (d : Device) (rest : List Device)
       → AllPass holds (take place ds) → drop place ds ≡ d ∷ rest → ¬ (IsTrue (holds d)) → first_without holds ds ≡ Some place
   first_at ds place d rest h e n =
       such_at (λ d. not (holds d)) ds place d rest
-      (All-weaker (λ d. IsTrue (holds d)) (λ d. not (holds d) ≡ false) (λ d. ap not) (take place ds) h) e (fails (holds d) n)
+      (All-weaker (λ d. IsTrue (holds d)) (λ d. not (holds d) ≡ false) (λ d. ap not) (take place ds) h)
+      e (not_from_false (holds d) (false_from_ne_true (holds d) n))
 
 -- it is one of the devices
 pub first_within : (holds : Device → Bool) (ds : List Device) (place : ℕ) → first_without holds ds ≡ Some place → place < length ds

@@ -1,5 +1,5 @@
 -- Where the nodes, the branches and the magnitudes of an element stand among the unknowns of the layout.
-use Rattle.std.proofs.Common.{◌≡◌, IsTrue, ℕ, ◌+◌, ◌≤◌, ◌==◌, Bool, true, false, inl, inr, if◌then◌else◌, [], ◌∷◌, length, slice_index, All, subst, ◌∙◌, arith}
+use Rattle.std.proofs.Common.{IsTrue, ℕ, ◌+◌, ◌≤◌, ◌==◌, Bool, true, false, inl, inr, if◌then◌else◌, [], ◌∷◌, length, slice_index, All, subst, ◌∙◌, arith}
 use Rattle.std.proofs.lemmas.List.{length-map}
 use Rattle.fd_arith.specs.LoadModels.{has_magnitude}
 use Rattle.fd_arith.specs.declared.terms.Ends.{Ends}

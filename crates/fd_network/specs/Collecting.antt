@@ -1,5 +1,5 @@
 -- What elements in a layout must be so that what they add can be collected, and where they are out of range.
-use Rattle.std.specs.Prelude.{◌≡◌, ℕ, ◌+◌, ◌<◌, ◌≤◌, [], ◌∷◌, List, length, All, Option, Some}
+use Rattle.std.specs.Prelude.{◌≡◌, ℕ, ◌+◌, ◌<◌, [], ◌∷◌, List, length, All, Option, Some}
 use Rattle.dss_profile.specs.Ranges.{IsOneOf}
 use Rattle.dss_profile.specs.declared.element.Element.{Element}
 use Rattle.dss_layout.specs.Layout.{Elements, LayoutView}

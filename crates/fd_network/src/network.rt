@@ -1,5 +1,5 @@
 // The network of a circuit, built.
-ghost use Rattle.std.specs.Prelude.{◌≡◌, ◌<◌, ◌≤◌, All, IfErr, IfOk, IsOk, None, Some, length, slice_get};
+ghost use Rattle.std.specs.Prelude.{◌≡◌, ◌<◌, ◌≤◌, All, IfErr, IfOk, IsOk, None, Some, length};
 ghost use Rattle.std.specs.List.{flat_map};
 ghost use Rattle.dss_layout.specs.Layout.{complex_count, first_too_many, layout_of, size_of};
 ghost use Rattle.dss_layout.specs.Limits.{most_complex, most_magnitudes};

@@ -1,11 +1,10 @@
 -- What the loop over a script's commands needs: where it stands, how it goes on and how it ends.
-use Rattle.std.proofs.Common.{◌≡◌, ◌∙◌, ℕ, ◌+◌, ◌≤◌, length, Bool, false, List, [], ◌∷◌, ◌++◌, map, Option, Some, None, refl, sym, ap, subst, inl, inr, arith}
+use Rattle.std.proofs.Common.{◌≡◌, ◌∙◌, ℕ, ◌+◌, ◌≤◌, Bool, false, List, [], ◌∷◌, ◌++◌, map, Option, Some, None, refl, sym, ap, subst, inl, inr, arith}
 use Rattle.std.specs.Prelude.{◌||◌, ◌⊎◌}
-use Rattle.std.specs.List.{concat}
 use Rattle.std.proofs.lemmas.List.{append_assoc, append-nil, map-append}
 use Rattle.std.proofs.lemmas.List.Elements.{All-nil, All-append}
 use Rattle.fd_outside.specs.Causes.{Becomes, Rose}
-use Rattle.fd_outside.specs.Emitted.{Takes, TakesFirst, TakesTorn}
+use Rattle.fd_outside.specs.Emitted.{Takes}
 use Rattle.fd_outside.proofs.CallerLemmas.{becomes_same, becomes_then, takes_then, takes_none}
 use Rattle.dss_values.specs.Names.{bytes}
 use Rattle.dss_profile.specs.declared.command.Command.{Command}
@@ -23,21 +22,21 @@ use Rattle.fd_outcome.specs.Events.{Event, asked, History, before, ended, finish
 use Rattle.fd_outcome.specs.Work.{Step, goes, ends, ExactlyOne}
 use Rattle.fd_outcome.specs.History.{Point, IsFrom, IsLast, IsHistory, LeadsTo}
 use Rattle.fd_outcome.specs.Calls.{Call, reads, writes, Style, so_far, body, opened, calls_of, doing, Doing, fault_text, names_read, texts_written}
-use Rattle.fd_outcome.specs.Done.{failing, Made, IsFrontOf, IsDone, Sees, torn_bytes, torn_writes}
+use Rattle.fd_outcome.specs.Done.{failing, Made, IsFrontOf, IsDone, Sees}
 use Rattle.fd_outcome.specs.Behind.{behind, has_text, last_calls, AsksNames}
 use Rattle.fd_outcome.specs.Laws.{HistoryLaw, IsDue}
 use Rattle.fd_outcome.specs.Runs.{Runs}
 use Rattle.fd_outcome.specs.Way.{Way, whole}
-use Rattle.fd_outcome.specs.Parts.{Wrote, Printed, fault_doing, Asked, IsUnread, IsCutShort, GoesOn, events_in, EndsSo, EndsAt, Finishes, IsCutIn}
+use Rattle.fd_outcome.specs.Parts.{Wrote, Printed, fault_doing, Asked, IsUnread, IsCutShort, GoesOn, events_in, EndsSo, EndsAt, Finishes}
 use Rattle.fd_outcome.specs.Untold.{CutsShort, EndsAtFault, Answers, EndsAtRead, IsUntold}
 use Rattle.fd_outcome.proofs.Histories.{one_history, one_value, does_command, stays}
-use Rattle.fd_outcome.proofs.Lists.{body-append, names-append, opened-append, names_of_writes, texts-append, texts_of_writes}
+use Rattle.fd_outcome.proofs.Lists.{body-append, opened-append, texts-append}
 use Rattle.fd_outcome.proofs.Printing.{append_is, front_is, due_of}
-use Rattle.fd_outcome.proofs.Ways.{goes_on, ended_at, ended_at_read, names_lead, names_good, reads_alone, done_after, front_after, made_after, sees_then, sees_nothing, sees_names, sees_as}
+use Rattle.fd_outcome.proofs.Ways.{goes_on, ended_at, ended_at_read, names_lead, names_good, reads_alone, done_after, made_after, sees_then, sees_nothing, sees_names, sees_as}
 pub use Rattle.fd_outcome.proofs.Asked.{finishes_asked, finishes_short, finishes_unread}
 pub use Rattle.fd_outcome.proofs.Given.{gives_next, wrote_nothing, sees_none, or_false, has_text-append, behind-append, text_behind, nothing_behind}
 pub use Rattle.fd_outcome.proofs.Handed.{wrote_all, cut_by_memory, cut_by_fault, cut_before, fault_whole, fault_cut, wrote_then, printed_then, cut_then}
-use Rattle.fd_outcome.proofs.Given.{becomes_as, takes_wrote, still, called_all, reads_after, failing_behind, rose_since, cause_after}
+use Rattle.fd_outcome.proofs.Given.{takes_wrote, still, called_all, reads_after, failing_behind, rose_since, cause_after}
 
 -- ---- where the loop stands
 

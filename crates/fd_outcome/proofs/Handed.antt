@@ -7,10 +7,8 @@ use Rattle.fd_outside.specs.Emitted.{Takes, TakesFirst, TakesTorn}
 use Rattle.dss_values.specs.Names.{bytes}
 use Rattle.fd_report.specs.Faults.{status}
 use Rattle.fd_report.specs.declared.faults.Fault.{Fault}
-use Rattle.fd_outcome.specs.Events.{before}
 use Rattle.fd_outcome.specs.Calls.{Call, writes, fault_text, names_read}
 use Rattle.fd_outcome.specs.Done.{Made, Sees, torn_bytes, torn_writes}
-use Rattle.fd_outcome.specs.Behind.{behind}
 use Rattle.fd_outcome.specs.Way.{whole}
 use Rattle.fd_outcome.specs.Parts.{Wrote, Printed, fault_doing, IsCutIn}
 use Rattle.fd_outcome.proofs.Lists.{names-append, names_of_writes, texts_of_writes}

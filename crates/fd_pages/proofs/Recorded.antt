@@ -148,9 +148,6 @@ taps_end at cs ps k past = ap (taps_from at (drop k cs)) (drop_all k ps past) �
 banks_first : (e : ElementName × Element) (es : Elements) → is_bank e.1 ≡ true → banks_of (e ∷ es) ≡ e ∷ banks_of es
 banks_first e es h = rw h refl
 
-banks_later : (e : ElementName × Element) (es : Elements) → is_bank e.1 ≡ false → banks_of (e ∷ es) ≡ banks_of es
-banks_later e es h = rw h refl
-
 no_states : (banks : Elements) → bank_rows_by banks [] ≡ []
 no_states [] = refl
 no_states (b ∷ banks) = refl
@@ -172,11 +169,6 @@ bank_next e es all_left closed left old mid new bank first behind made more =
     all (b ∷ cs) ls is =
         ap (λ (bs : Elements). bank_rows_by bs (b ∷ cs)) (banks_first e es bank)
         ∙ ap (λ (l : List Bool). bank_fields e.0 b ∷ bank_rows_by (banks_of es) l) (sym is)
-
-pub bank_none : (e : ElementName × Element) (es : Elements) (closed : List Bool) (mid old : List (List ℕ))
-    → is_bank e.1 ≡ false → mid ++ lines_of (bank_rows_by (banks_of (e ∷ es)) closed) ≡ old
-    → mid ++ lines_of (bank_rows_by (banks_of es) closed) ≡ old
-bank_none e es closed mid old other made = ap (λ (bs : Elements). mid ++ lines_of (bank_rows_by bs closed)) (sym (banks_later e es other)) ∙ made
 
 -- ---- numbers of a round
 

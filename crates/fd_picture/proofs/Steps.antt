@@ -1,5 +1,5 @@
 -- The search for the distance of an axis's lines.
-use Rattle.std.proofs.Common.{◌≡◌, ◌∙◌, ◌+◌, ◌-◌, ◌<◌, ◌≤◌, ℕ, suc, Some, None, refl, ap, arith}
+use Rattle.std.proofs.Common.{◌≡◌, ◌∙◌, ◌+◌, ◌-◌, ◌<◌, ℕ, suc, None, refl, ap, arith}
 use Rattle.fd_picture.specs.Scales.{step_for, step_from, step_in, step_or}
 
 pub search_begins : (range : ℕ) → step_for range ≡ step_from (19 - 0) 0 range
@@ -15,12 +15,3 @@ search_steps decade range h =
 pub search_goes_on : (decade range : ℕ) → decade < 19 → step_in decade range ≡ None
     → step_from (19 - decade) decade range ≡ step_from (19 - (decade + 1)) (decade + 1) range
 search_goes_on decade range h none = search_steps decade range h ∙ ap (λ found. step_or found (step_from (19 - (decade + 1)) (decade + 1) range)) none
-
-pub search_ends : (decade range step : ℕ) → decade < 19 → step_in decade range ≡ Some step
-    → step_from (19 - decade) decade range ≡ step
-search_ends decade range step h some = search_steps decade range h ∙ ap (λ found. step_or found (step_from (19 - (decade + 1)) (decade + 1) range)) some
-
-pub search_fails : (decade range : ℕ) → 19 ≤ decade → step_from (19 - decade) decade range ≡ 10_000_000_000_000_000_000
-search_fails decade range h =
-    let e : 19 - decade ≡ 0 = omega (arith, h) in
-    ap (λ more. step_from more decade range) e

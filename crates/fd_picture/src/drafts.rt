@@ -1,10 +1,10 @@
 // What a record makes of a report that is read.
-ghost use Rattle.std.specs.Prelude.{◌≡◌, ◌<◌, ◌&&◌, ◌==◌, ◌++◌, ◌∷◌, [], IfOk, IfSome, OnOk, length, nat_lt, option_map, option_to_list};
+ghost use Rattle.std.specs.Prelude.{◌≡◌, ◌<◌, ◌&&◌, ◌==◌, [], IfOk, option_map};
 ghost use Rattle.csv.specs.Records.{fields_of};
-ghost use Rattle.fd_picture.specs.Drafts.{DraftView, empty_draft};
+ghost use Rattle.fd_picture.specs.Drafts.{empty_draft};
 ghost use Rattle.fd_picture.specs.Fields.{at as field_at};
 ghost use Rattle.fd_picture.specs.Numbers.{before_dot, behind_dot};
-ghost use Rattle.fd_picture.specs.Reading.{CountGives, Gives, act_to, bank_to, base_to, bare_node, counted, counts, fault_to, finished, has_act_form, has_branch_form, has_magnitude_form, has_node_form, is_kind, kept_panels, node_in, node_to, other_record, passed_over, record_to, row_to, solution_to, tap_to, with_entry, with_node};
+ghost use Rattle.fd_picture.specs.Reading.{CountGives, Gives, act_to, bank_to, base_to, bare_node, counted, fault_to, finished, has_act_form, has_branch_form, has_magnitude_form, has_node_form, is_kind, kept_panels, node_in, node_to, other_record, passed_over, record_to, row_to, solution_to, tap_to, with_entry, with_node};
 ghost use Rattle.fd_picture.specs.declared.fault.Cause.TheVariants as cause;
 ghost use Rattle.fd_picture.specs.declared.report.Entry.{Entry};
 ghost use Rattle.fd_picture.specs.declared.report.Node.{Node};

@@ -1,5 +1,5 @@
 // Numbers and names as the fields of a report have them.
-ghost use Rattle.std.specs.Prelude.{◌≡◌, ◌<◌, length, ◌≤◌, ◌^◌, ◌&&◌, ◌||◌, IfSome, unwrap_or, is_some};
+ghost use Rattle.std.specs.Prelude.{◌≡◌, ◌<◌, length, ◌≤◌, ◌^◌, ◌&&◌, ◌||◌, IfSome, is_some};
 ghost use Rattle.std.specs.Char.{is_ascii_digit};
 ghost use Rattle.std.specs.List.{list_all};
 ghost use Rattle.std.specs.Str.{is_utf8};

@@ -1,5 +1,5 @@
 // The page of a report.
-ghost use Rattle.std.specs.Prelude.{◌≡◌, ◌<◌, ◌≤◌, ◌^◌, ◌++◌, IfOk, OnOk, length};
+ghost use Rattle.std.specs.Prelude.{◌≡◌, ◌<◌, ◌≤◌, ◌^◌, ◌++◌, IfOk, OnOk};
 ghost use Rattle.fd_picture.specs.Pages.{bars_text, fault_length, heads_text, longest_element, page_width, panel_left, panel_top, table_height, cell_text, entries_text, entry_text, fault_text, grid_of, heading_text, kind_name, label_length, legend_text, longest_bus, most_nodes, number_cell, other_shapes_text, page_of, panel_at, panels_text, phase_shapes_text, phases_text, style_text, svg_text, table_text, table_top, view_text};
 
 use crate::panel::push_panel;

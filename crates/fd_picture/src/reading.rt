@@ -1,5 +1,4 @@
 // Reading a report.
-ghost use Rattle.std.specs.Prelude.{◌≡◌};
 ghost use Rattle.fd_picture.specs.Reading.{AtLine, Reads, report_of};
 
 use crate::drafts::{empty_draft, finished, row_to};

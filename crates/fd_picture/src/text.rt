@@ -1,5 +1,5 @@
 // Pieces of text.
-ghost use Rattle.std.specs.Prelude.{◌≡◌, ◌++◌, OnOk, codes, decimal};
+ghost use Rattle.std.specs.Prelude.{◌≡◌, ◌++◌, OnOk, decimal};
 ghost use Rattle.fd_decimal.specs.Decimals.{size_text};
 ghost use Rattle.fd_picture.specs.Texts.{attribute, between, escape, escaped};
 

@@ -28,10 +28,6 @@ pub each_append : {A : Type 0} (P : A → Type 0) (xs ys : List A) → AllByRecu
 each_append P [] ys h k = k
 each_append P (x ∷ xs) ys h k = (h.0, each_append P xs ys h.1 k)
 
-pub each_always : {A : Type 0} (P : A → Type 0) → ((x : A) → P x) → (xs : List A) → AllByRecursion P xs
-each_always P f [] = tt
-each_always P f (x ∷ xs) = (f x, each_always P f xs)
-
 passes_by : {A : Type 0} (p : A → Bool) (t : Bool) (x : A) (xs : List A) → (t ≡ true → p x ≡ true) →
     AllByRecursion (λ y. p y ≡ true) xs → AllByRecursion (λ y. p y ≡ true) (cond t (x ∷ xs) xs)
 passes_by p true x xs e k = (e refl, k)

@@ -37,9 +37,6 @@ way_none : (k : ℕ) (es : List Entry) → AllByRecursion (λ e. (e.control == k
 way_none k [] h = refl
 way_none k (e ∷ es) h = none_by (e.control == k) (Some e.up) (entry_way k es) h.0 (way_none k es h.1)
 
-none_way : (k : ℕ) (es : List Entry) → has_entry k es ≡ false → entry_way k es ≡ None
-none_way k es h = way_none k es (none_passes (λ e. e.control == k) es h)
-
 passed_by : (u : Bool) (a v w : Option Bool) → (u ≡ true → ⊥) → v ≡ w → v ≡ cond u a w
 passed_by true a v w h k = absurd (h refl)
 passed_by false a v w h k = k

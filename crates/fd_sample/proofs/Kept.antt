@@ -80,13 +80,6 @@ pub probes_end : (es : Elements) (k : ℕ) (ps : List Probe) → ps ≡ filter_m
 unfolding probes_of
 probes_end es k ps made h = made ∙ ap (filter_map (λ e. probe_in es e.1)) (take_all k es h)
 
--- what holds of the probe of each element
-pub each_probe : (P : Probe → Type 0) (es : Elements)
-    → ((k : ℕ) (x : ElementName × Element) → slice_get es k ≡ Some x → IfSome (probe_in es x.1) P) →
-    All P (probes_of es)
-unfolding probes_of
-each_probe P es h = all_listed P (λ (e : ElementName × Element). probe_in es e.1) es h
-
 -- ---- what they keep to
 
 module _ (circuit : CircuitView) (h : HasPassed circuit) (range : All (λ e. ElementInRange e.1) circuit.elements)

@@ -147,9 +147,6 @@ transformer_back (the.RegControl c) t h = absurd (cc)
 transformer_back (the.CapControl c) t h = absurd (cc)
 transformer_back (the.Loadshape s) t h = absurd (cc)
 
-pub at_some : (P : ℕ → Type 0) (o : Option ℕ) (place : ℕ) → o ≡ Some place → IfSome o P → P place
-at_some P o place e h = subst (λ (x : Option ℕ). IfSome x P) e h
-
 pub record IsFound (circuit : CircuitView) (control : RegControl) (place : ℕ) (e : Element)
     (t : Transformer) : Type 0 where
   pub stands : IsXfmrOf (layout_of circuit.elements) place control t

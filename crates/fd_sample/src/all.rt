@@ -1,7 +1,7 @@
 // The probes of all controls of a circuit.
-ghost use Rattle.std.specs.Prelude.{◌≡◌, ◌++◌, IfOk, IfSome, All, OnOk};
+ghost use Rattle.std.specs.Prelude.{◌≡◌, ◌++◌, IfOk, OnOk};
 ghost use Rattle.std.specs.Option.{option_to_list};
-ghost use Rattle.dss_layout.specs.Layout.{layout_of, size_of};
+ghost use Rattle.dss_layout.specs.Layout.{layout_of};
 ghost use Rattle.dss_ready.specs.Ready.{HasPassed};
 ghost use Rattle.fd_sample.specs.Circuits.{AreProbes, probes_of};
 

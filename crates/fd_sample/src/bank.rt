@@ -1,10 +1,10 @@
 // What a bank's control wants at its quantity.
-ghost use Rattle.std.specs.Prelude.{◌≡◌, ℕ, ◌≤◌, ◌^◌, pos, nat_abs, true, length};
+ghost use Rattle.std.specs.Prelude.{◌≡◌, ◌≤◌, ◌^◌, nat_abs, true, length};
 ghost use Rattle.fd_system.specs.Residual.{IsPlace};
 ghost use Rattle.fd_queue.specs.Quantities.{magnitude, value};
 ghost use Rattle.fd_queue.specs.Verdicts.{decision, is_decided};
 ghost use Rattle.fd_sample.specs.Balls.{IsBall};
-ghost use Rattle.fd_sample.specs.Banks.{IsCapProbe, IsRatio, cap_decision, cap_edge, is_past as past, kind_of, ratio_interval, setting_of, switched as switched_by};
+ghost use Rattle.fd_sample.specs.Banks.{IsRatio, cap_decision, cap_edge, is_past as past, kind_of, ratio_interval, setting_of, switched as switched_by};
 
 use crate::intervals::interval_at;
 use crate::phasors::{factor, scaled, square_size};

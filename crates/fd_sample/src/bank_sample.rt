@@ -1,5 +1,5 @@
 // The sample of a bank's control over a ball.
-ghost use Rattle.std.specs.Prelude.{◌≡◌, ℕ, ◌≤◌, ◌^◌, nat_abs, length, IsSome};
+ghost use Rattle.std.specs.Prelude.{◌≤◌, ◌^◌, nat_abs, length, IsSome};
 ghost use Rattle.fd_sample.specs.Balls.{IsBall};
 ghost use Rattle.fd_sample.specs.Banks.{AgreesAtEveryState, IsCapProbe, IsCapSample, cap_decision, cap_edge, cap_interval, greatest_of, kind_of, least_of};
 ghost use Rattle.fd_sample.specs.Samples.{IsRootSample, IsValueSample, TellsEdge, greatest_root, greatest_value, least_root, least_value};

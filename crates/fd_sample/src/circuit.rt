@@ -1,5 +1,5 @@
 // The probes of a circuit's controls.
-ghost use Rattle.std.specs.Prelude.{◌≡◌, ℕ, ◌+◌, ◌<◌, ◌≤◌, map, take, length, is_some, IsSome, slice_get, All, IfOk, IfSome, Some, Option, option_copied};
+ghost use Rattle.std.specs.Prelude.{◌≡◌, ◌<◌, map, length, is_some, IsSome, IfOk, IfSome, Some, Option, option_copied};
 ghost use Rattle.std.specs.List.{position};
 ghost use Rattle.std.specs.Map.{lookup};
 ghost use Rattle.dss_profile.specs.InRange.{CapControlInRange, RegControlInRange};

@@ -1,5 +1,5 @@
 // The sample of a control over a ball.
-ghost use Rattle.std.specs.Prelude.{◌≡◌, ◌<◌, ℕ, false, get_or, length, All};
+ghost use Rattle.std.specs.Prelude.{◌≡◌, ◌<◌, false, get_or, length, All};
 ghost use Rattle.fd_xfmr.specs.Leakage.{AreTaps};
 ghost use Rattle.fd_queue.specs.Controls.{pair_at};
 ghost use Rattle.fd_sample.specs.Balls.{IsBall};

@@ -1,5 +1,5 @@
 // What the ends of an interval decide.
-ghost use Rattle.std.specs.Prelude.{◌≡◌, ℕ, ◌^◌, ◌<◌, ◌≤◌, pos, Option, Some, IsSome, IfSome, true, false};
+ghost use Rattle.std.specs.Prelude.{◌≡◌, ◌^◌, ◌<◌, Some, IsSome, IfSome, true, false};
 ghost use Rattle.fd_exact.specs.Rounding.{ceil_div, floor_div};
 ghost use Rattle.fd_queue.specs.Decisions.{same_decision};
 ghost use Rattle.fd_queue.specs.Verdicts.{decision, is_decided};

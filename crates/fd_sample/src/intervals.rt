@@ -1,5 +1,5 @@
 // The intervals of unknowns over a ball.
-ghost use Rattle.std.specs.Prelude.{◌≡◌, ℕ, ◌<◌, ◌≤◌, ◌^◌, pos, nat_abs, length, All};
+ghost use Rattle.std.specs.Prelude.{◌≡◌, ◌<◌, ◌≤◌, ◌^◌, pos, nat_abs, length, All};
 ghost use Rattle.fd_exact.specs.States.{part};
 ghost use Rattle.fd_system.specs.Residual.{IsPlace};
 ghost use Rattle.fd_equations.specs.Conditions.{IsPart};

@@ -1,5 +1,5 @@
 // The reactive power that enters a line, over a ball.
-ghost use Rattle.std.specs.Prelude.{◌≡◌, ℕ, ◌<◌, length};
+ghost use Rattle.std.specs.Prelude.{◌≡◌, ◌<◌, length};
 ghost use Rattle.fd_sample.specs.Balls.{IsBall};
 ghost use Rattle.fd_sample.specs.Banks.{IsLineEnd, entering_interval, reactive_interval, reactive_total};
 

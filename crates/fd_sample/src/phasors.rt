@@ -1,5 +1,5 @@
 // Phasors in the interval operators.
-ghost use Rattle.std.specs.Prelude.{◌≡◌, ℕ, ℤ, pos, ◌≤◌, ◌^◌};
+ghost use Rattle.std.specs.Prelude.{◌≡◌, ◌≤◌, ◌^◌};
 ghost use Rattle.fd_sample.specs.Phasors.{factor as factor_of, scaled_interval, square_interval};
 
 use fd_arith::{Coef, Cx, Enclose, Interval, Micro, Square};

@@ -1,8 +1,8 @@
 // What a regulator's control wants at a magnitude, which is known by its square.
-ghost use Rattle.std.specs.Prelude.{◌≡◌, ℕ, ◌+◌, ◌*◌, ◌/◌, ◌≤◌, ◌<◌, ◌^◌, pos, ◌+ℤ◌, ◌-ℤ◌, nat_abs, int_lt, if◌then◌else◌, not, true};
+ghost use Rattle.std.specs.Prelude.{◌≡◌, ℕ, ◌+◌, ◌*◌, ◌/◌, ◌≤◌, ◌<◌, ◌^◌, pos, ◌+ℤ◌, ◌-ℤ◌, nat_abs, int_lt, if◌then◌else◌, true};
 ghost use Rattle.fd_exact.specs.Rounding.{near_div};
 ghost use Rattle.fd_queue.specs.Decisions.{steps_of};
-ghost use Rattle.fd_queue.specs.Quantities.{magnitude, root_above, root_below};
+ghost use Rattle.fd_queue.specs.Quantities.{magnitude};
 ghost use Rattle.fd_queue.specs.Verdicts.{decision, is_decided};
 ghost use Rattle.fd_regctl.specs.Regulator.{capped as capped_steps, greatest_within};
 ghost use Rattle.fd_regctl.specs.Settings.{room_down as room_below, room_up as room_above, volt_step as step_of};

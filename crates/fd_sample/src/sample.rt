@@ -1,5 +1,5 @@
 // The sample of a regulator's control over a ball.
-ghost use Rattle.std.specs.Prelude.{◌≡◌, ℕ, length};
+ghost use Rattle.std.specs.Prelude.{◌≡◌, length};
 ghost use Rattle.fd_xfmr.specs.Leakage.{AreTaps};
 ghost use Rattle.fd_sample.specs.Balls.{IsBall};
 ghost use Rattle.fd_sample.specs.Regulators.{AreRegSettings, IsOfEveryState, IsRegProbe, edge_at, own_tap as tap_of_own, reg_decision, reg_edge, reg_interval, wanted_at};

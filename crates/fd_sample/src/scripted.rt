@@ -1,11 +1,10 @@
 // The probes of controls by their settings in the script.
-ghost use Rattle.std.specs.Prelude.{◌≡◌, ℕ, ◌+◌, ◌-◌, ◌*◌, ◌/◌, ◌^◌, ◌<◌, ◌≤◌, ◌==◌, pos, ◌≤ℤ◌, nat_abs, if◌then◌else◌, length};
+ghost use Rattle.std.specs.Prelude.{◌≡◌, ℕ, ◌+◌, ◌-◌, ◌*◌, ◌/◌, ◌^◌, ◌<◌, ◌≤◌, ◌==◌, pos, ◌≤ℤ◌, nat_abs, if◌then◌else◌};
 ghost use Rattle.dss_profile.specs.InRange.{CapControlInRange, LineInRange, RegControlInRange, TransformerInRange, WindingInRange};
 ghost use Rattle.fd_system.specs.Terminals.{node_of};
 ghost use Rattle.fd_xfmr.specs.Leakage.{IsXfmr};
 ghost use Rattle.fd_xfmr.specs.Transformer.{IsBetween};
 ghost use Rattle.fd_xfmr.specs.Windings.{first_volts as first, second_volts as second};
-ghost use Rattle.fd_devices.specs.Data.{xfmr_data_of};
 ghost use Rattle.fd_sample.specs.Banks.{IsCapProbe};
 ghost use Rattle.fd_sample.specs.Regulators.{AreRegSettings, IsRegProbe};
 ghost use Rattle.fd_sample.specs.Scripted.{IsLineAt, IsPhase, IsXfmrAt, cap_probe, line_end as end_of, measured_by, phase_index as index_of, reg_probe, side_of, step_of, winding_of};

@@ -17,7 +17,7 @@ use Rattle.fd_settle.specs.declared.clock.Clock.{Clock}
 use Rattle.fd_settle.specs.declared.controls.Controls.{Controls}
 use Rattle.fd_settle.specs.declared.state.ControlState.{ControlState}
 use Rattle.fd_settle.specs.Acting.{fresh, fresh_from, opened_for}
-use Rattle.fd_settle.specs.Controls.{AreControls, AreStates, HasNumbers, IsStateOf, OpensEarly, machine_of, moved_in, probe_in, probes_in}
+use Rattle.fd_settle.specs.Controls.{AreControls, AreStates, IsStateOf, OpensEarly, machine_of, moved_in, probe_in, probes_in}
 use Rattle.fd_settle.specs.Plant.{controls_in, started}
 use Rattle.fd_settle.specs.Start.{ArePositions, IsClock}
 
@@ -177,6 +177,3 @@ started_controls circuit clock c at powers h times positions fit few most =
       limit = omega (arith, h.limit, most);
       made = omega (arith, h.made);
     }
-
-pub started_numbers : (circuit : CircuitView) (clock : Clock) (c : Controls) → IsStarted circuit clock c → HasNumbers c
-started_numbers circuit clock c h = omega (arith, h.next)

@@ -1,5 +1,5 @@
 // The first fields of a file's records, as numbers.
-ghost use Rattle.std.specs.Prelude.{◌≡◌, ◌<◌, ◌∷◌, [], true, OnOk, IfOk, IfErr, IfSome, Ok, All, unsigned_abs, if◌then◌else◌};
+ghost use Rattle.std.specs.Prelude.{◌≡◌, ◌<◌, ◌∷◌, [], true, IfOk, IfErr, IfSome, Ok, All, unsigned_abs, if◌then◌else◌};
 ghost use Rattle.csv.specs.Reading.{default_config, error_kind, records, stops_reader, strip_bom};
 ghost use Rattle.csv.specs.Records.{fields_of};
 ghost use Rattle.fd_shape.specs.Column.{Fails, column_of, first_number, number_in};

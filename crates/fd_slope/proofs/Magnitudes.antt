@@ -120,10 +120,6 @@ current_sizes : (r r' a b e ha hb he : ℕ) → a ≤ ha → b ≤ hb → e ≤ 
     → (r + 4) * (a + b) + (r' + 4) * e ≤ (r + 4) * ha + (r + 4) * hb + (r' + 4) * he
 current_sizes r r' a b e ha hb he h k l = omega (arith, mul-le-mul_left (r + 4) h, mul-le-mul_left (r + 4) k, mul-le-mul_left (r' + 4) l)
 
-negative_slope : (t : Bool) (s n : ℤ) → t ≡ false → cond t s n ≡ n
-negative_slope true s n e = absurd cc
-negative_slope false s n e = refl
-
 case_false : (t : Bool) (n m : ℕ) → t ≡ false → cond t n m ≡ m
 case_false true n m e = absurd cc
 case_false false n m e = refl

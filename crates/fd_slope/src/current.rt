@@ -1,5 +1,5 @@
 // The radii of constant current: the current is n / (Vn c), where c is the magnitude, brought between the limits.
-ghost use Rattle.std.specs.Prelude.{◌≡◌, ℕ, ◌*◌, ◌^◌, ◌<◌, ◌≤◌, pos, ◌+ℤ◌, nat_abs};
+ghost use Rattle.std.specs.Prelude.{◌≡◌, ◌*◌, ◌^◌, ◌<◌, ◌≤◌, pos, ◌+ℤ◌, nat_abs};
 ghost use Rattle.fd_load.specs.Current.{IsLoadPhase, clamped_magnitude as magnitude_within, largest};
 ghost use Rattle.fd_slope.specs.Radii.{IsRadiusRow, admittance_up as admittance_of, at_scale as quotient_up, least_magnitude as least_magnitude_of, magnitude_radius as radius_by_case, magnitude_radius_across, magnitude_radius_inside, magnitude_stays_inside as stays_inside, magnitude_stays_outside as stays_outside, product_up as product_of, radius_row, voltage_radius as voltage_radius_by_case, voltage_radius_with};
 ghost use Rattle.fd_slope.specs.Boxes.{IsAround};

@@ -1,5 +1,5 @@
 // Slopes and their radii by the model.
-ghost use Rattle.std.specs.Prelude.{◌≡◌, ℕ, ◌≤◌};
+ghost use Rattle.std.specs.Prelude.{◌≡◌};
 ghost use Rattle.fd_load.specs.Current.{AreVoltages, IsLoadPhase};
 ghost use Rattle.fd_load.specs.Slopes.{slopes_of};
 ghost use Rattle.fd_slope.specs.Boxes.{IsAround};

@@ -135,11 +135,6 @@ both (fault.Undecided control low high edge) P ending is h = subst P (cc is) h
 both (fault.ControlLimit acts) P ending is h = subst P (cc is) h
 both fault.NoMemory P ending is h = absurd (cc is)
 
-pub ending_weaker : (o : Option Ending) (P Q : Ending → Type 0) → ((ending : Ending) → P ending → Q ending)
-    → IsEnding o P → IsEnding o Q
-ending_weaker None P Q f h = h
-ending_weaker (Some ending) P Q f h = f ending h
-
 -- the number of acts that it names
 pub counted : (p : Plant) (e : SettleFault ComputeFault) (end : End) (n : Machine)
     → EndsAs {T = Unit {0}} p (Err e) end n → IsCounted e n

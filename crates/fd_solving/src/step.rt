@@ -1,5 +1,5 @@
 // What one command comes to.
-ghost use Rattle.std.specs.Prelude.{◌≡◌, ◌+◌, ◌≤◌, ◌<◌, ◌-◌, ◌^◌, IfOk, Ok, length};
+ghost use Rattle.std.specs.Prelude.{◌+◌, ◌≤◌, ◌<◌, ◌-◌, ◌^◌, IfOk, Ok, length};
 ghost use Rattle.dss_circuit.specs.Limits.{most_elements};
 ghost use Rattle.fd_solving.specs.Answered.{IsAnswered, solve_count, solves_of};
 ghost use Rattle.fd_solving.specs.Commands.{left_of, solve_left, tried};

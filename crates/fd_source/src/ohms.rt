@@ -1,5 +1,5 @@
 // The impedances of a source by its short-circuit powers.
-ghost use Rattle.std.specs.Prelude.{◌≡◌, ℕ, ◌*◌, ◌/◌, ◌<◌, ◌≤◌, ◌^◌, ℤ, pos, ◌≤ℤ◌, nat_abs, IfOk, IfErr, ◌↔◌};
+ghost use Rattle.std.specs.Prelude.{◌≡◌, ◌*◌, ◌/◌, ◌<◌, ◌≤◌, ◌^◌, ℤ, pos, ◌≤ℤ◌, IfOk, IfErr, ◌↔◌};
 ghost use Rattle.fd_exact.specs.Ranges.{UpTo};
 ghost use Rattle.fd_arith.specs.ShortCircuit.{most_source_ohms, short_circuit_ohms};
 ghost use Rattle.fd_source.specs.Powers.{AreWithin, KeepsSize, IsGreatest, IsPast, IsShortCircuit, ohms_of as ohms_by, one_phase_size, ratio_of, reactance_by, three_phase_size};

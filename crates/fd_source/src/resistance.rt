@@ -1,5 +1,5 @@
 // The greatest resistance that keeps an impedance within a size.
-ghost use Rattle.std.specs.Prelude.{◌≡◌, ℕ, ◌+◌, ◌-◌, ◌*◌, ◌<◌, ◌≤◌, ◌^◌, IsTrue, ◌↔◌, ◌⊎◌};
+ghost use Rattle.std.specs.Prelude.{◌+◌, ◌-◌, ◌*◌, ◌<◌, ◌≤◌, ◌^◌, IsTrue, ◌↔◌};
 ghost use Rattle.fd_source.specs.Powers.{KeepsSize, IsBracket, IsGreatest, IsInside};
 
 /// An impedance r + j x, a ratio of reactance to resistance in 10^-4, and a size that the impedance and a further resistance with

@@ -1,6 +1,6 @@
 // The contributions and constants of a source.
-ghost use Rattle.std.specs.Prelude.{◌≡◌, ℕ, ◌+◌, ◌*◌, ◌<◌, ◌≤◌, ◌++◌, ◌^◌, ℤ, pos, nat_abs, OnOk, IfOk, length, vec_capacity, All};
-ghost use Rattle.fd_system.specs.Contributions.{concat_below, IsDivided, IsWithin};
+ghost use Rattle.std.specs.Prelude.{◌≡◌, ◌+◌, ◌*◌, ◌<◌, ◌≤◌, ◌++◌, ◌^◌, nat_abs, OnOk, IfOk, length, vec_capacity, All};
+ghost use Rattle.fd_system.specs.Contributions.{IsDivided, IsWithin};
 ghost use Rattle.fd_system.specs.System.{Represents};
 ghost use Rattle.fd_system.specs.Series.{drop_list};
 ghost use Rattle.fd_exact.specs.Ranges.{UpTo};

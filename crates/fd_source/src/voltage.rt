@@ -1,5 +1,5 @@
 // The phase voltages of a source.
-ghost use Rattle.std.specs.Prelude.{◌≡◌, ℕ, ◌+◌, ◌*◌, ◌<◌, ◌≤◌, ◌^◌, ℤ, pos, ◌*ℤ◌, nat_abs};
+ghost use Rattle.std.specs.Prelude.{◌≡◌, ◌+◌, ◌*◌, ◌<◌, ◌≤◌, ◌^◌, ℤ, ◌*ℤ◌, nat_abs};
 ghost use Rattle.fd_exact.specs.Rounding.{near_div};
 ghost use Rattle.fd_exact.specs.Ranges.{UpTo};
 ghost use Rattle.fd_source.specs.Phasors.{cosine as cosine_at, steps_of, volts_im, volts_re};

@@ -313,16 +313,6 @@ negative-minus u v = λ i. record {
   im = (opposite-plus u.im (opposite v.im) ∙ ap (λ s. opposite u.im ⊕ s) (opposite-opposite v.im)) i;
 }
 
--- what a row sees of a complex number is what two real rows see: for code that adds the two parts one after the other
-pub side-split : (l r : ℕ) (z : Complex)
-    → side l (Node r) z ≡ cond (eqb (2 * r) l) z.re nothing ⊕ cond (eqb (2 * r + 1) l) z.im nothing
-side-split l r z = by_two (eqb (2 * r) l) (eqb (2 * r + 1) l) (apart r l)
-  where
-    by_two : (b d : Bool) → (b ≡ true → d ≡ false)
-        → cond b z.re (cond d z.im nothing) ≡ cond b z.re nothing ⊕ cond d z.im nothing
-    by_two true d h = rw (h refl) (sym (plus-nothing z.re))
-    by_two false d h = sym (nothing-plus _)
-
 pub side-pos : (l : ℕ) (r : NodeAt) (z : Complex) → IsWhole z → 0 < (side l r z).over
 side-pos l Ground z h = nothing-pos
 side-pos l (Node r) z h = by_two (eqb (2 * r) l) (eqb (2 * r + 1) l)

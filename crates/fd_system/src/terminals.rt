@@ -1,5 +1,5 @@
 // The terminals of elements: the nodes that their phases join, and the nominal voltages of phases.
-ghost use Rattle.std.specs.Prelude.{◌≡◌, ◌<◌, ◌^◌, ℤ, pos, ◌*ℤ◌, length, All};
+ghost use Rattle.std.specs.Prelude.{◌≡◌, ◌<◌, ◌^◌, length, All};
 ghost use Rattle.fd_exact.specs.Ranges.{Between};
 ghost use Rattle.fd_system.specs.Contributions.{IsSmall};
 ghost use Rattle.fd_system.specs.Terminals.{IsSide, node_count, node_of, pair_of, pairs_of, phase_count, phase_volts as nominal, three_phase_pairs as three_phase, three_phase_volts as three_phase_nominal};

@@ -1,7 +1,7 @@
 -- What the code adds for a phase is its list of contributions.
-use Rattle.std.proofs.Common.{◌≡◌, ◌∙◌, ℕ, ◌*◌, ◌≤◌, ◌^◌, ℤ, pos, negsuc, neg_ℤ, nat_abs, FitsSigned, to_z, of_z, List, ◌++◌, append_assoc, ap, arith, refl}
+use Rattle.std.proofs.Common.{◌≡◌, ◌∙◌, ◌≤◌, ◌^◌, ℤ, pos, negsuc, neg_ℤ, nat_abs, FitsSigned, List, ◌++◌, append_assoc, arith}
 use Rattle.std.specs.Int.{w128}
-use Rattle.std.proofs.lemmas.Int.{ints, to_z-of_z}
+use Rattle.std.proofs.lemmas.Int.{ints}
 use Rattle.fd_arith.specs.declared.terms.Term.{Term}
 use Rattle.fd_system.specs.Contributions.{complex_terms}
 use Rattle.fd_xfmr.specs.declared.leakage.Coefficients.{Coefficients}

@@ -1,5 +1,5 @@
 -- The contributions of a transformer add up to its equations, and have denominators in range.
-use Rattle.std.proofs.Common.{◌≡◌, ℕ, ◌+◌, ◌<◌, ◌≤◌, ◌^◌, ℤ, pos, negsuc, neg_ℤ, nat_abs, ◌<ℤ◌, ◌≤ℤ◌, ◌++◌, ◌*◌, length, arith, lit<, subst, sym}
+use Rattle.std.proofs.Common.{ℕ, ◌+◌, ◌<◌, ◌≤◌, ◌^◌, ℤ, pos, negsuc, neg_ℤ, nat_abs, ◌++◌, length, arith, lit<, subst, sym}
 use Rattle.std.specs.List.{All}
 use Rattle.std.proofs.lemmas.Int.{ints}
 use Rattle.std.proofs.lemmas.List.Elements.{All-append}
@@ -7,7 +7,7 @@ use Rattle.fd_exact.specs.Fractions.{Same}
 use Rattle.fd_exact.specs.States.{State}
 use Rattle.fd_arith.specs.declared.terms.NodeAt.{NodeAt}
 use Rattle.fd_arith.specs.declared.terms.Ends.{Ends}
-use Rattle.fd_system.specs.Complex.{◌⊞◌, ◌⊟◌, ◌⊠◌, negative}
+use Rattle.fd_system.specs.Complex.{◌⊟◌, ◌⊠◌, negative}
 use Rattle.fd_system.specs.Contributions.{row_sum, complex_terms, IsDivided}
 use Rattle.fd_system.specs.Equations.{unknown, side, equation, AddsUp}
 use Rattle.fd_system.proofs.CallerLemmas.{complex_divided, concat_divided, joined_few, concat_few, complex_few, real_few, complex_row, negative_complex, plain_complex, minus_complex, same_place, row-append, concat_row, single, rewritten, difference_times, SameComplex-sym, negative-minus, unknown-pos}

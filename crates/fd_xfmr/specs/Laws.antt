@@ -1,6 +1,5 @@
 -- What is true of a transformer's stated contributions.
-use Rattle.std.specs.Prelude.{ℕ, ◌≤◌, List, length, All}
-use Rattle.fd_arith.specs.declared.terms.Term.{Term}
+use Rattle.std.specs.Prelude.{◌≤◌, length, All}
 use Rattle.fd_arith.specs.declared.terms.Ends.{Ends}
 use Rattle.fd_arith.specs.declared.terms.TapPair.{TapPair}
 use Rattle.fd_system.specs.Contributions.{IsDivided}

@@ -1,5 +1,5 @@
 -- The leakage impedance of a transformer and its ratio, at its taps.
-use Rattle.std.specs.Prelude.{ℕ, ◌*◌, ◌≤◌, ◌^◌, ◌≡◌, ℤ, pos, ◌+ℤ◌, ◌*ℤ◌, ◌<ℤ◌, ◌≤ℤ◌, nat_abs, ◌⊎◌}
+use Rattle.std.specs.Prelude.{◌*◌, ◌≤◌, ◌^◌, ◌≡◌, ℤ, pos, ◌+ℤ◌, ◌*ℤ◌, ◌<ℤ◌, ◌≤ℤ◌, nat_abs, ◌⊎◌}
 use Rattle.fd_exact.specs.Rounding.{floor_div}
 use Rattle.fd_exact.specs.States.{part}
 use Rattle.fd_exact.specs.Ranges.{Between, UpTo}

@@ -1,5 +1,5 @@
 -- The equations of a transformer, and the contributions that add up to them.
-use Rattle.std.specs.Prelude.{ℕ, ◌+◌, ◌<◌, ◌^◌, ℤ, pos, negsuc, neg_ℤ, nat_abs, List, [], ◌∷◌, ◌++◌}
+use Rattle.std.specs.Prelude.{ℕ, ◌+◌, ◌<◌, ◌^◌, pos, negsuc, neg_ℤ, nat_abs, List, [], ◌∷◌, ◌++◌}
 use Rattle.fd_exact.specs.States.{State}
 use Rattle.fd_arith.specs.declared.terms.Term.{Term}
 use Rattle.fd_arith.specs.declared.terms.Ends.{Ends}

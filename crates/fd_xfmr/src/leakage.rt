@@ -1,5 +1,5 @@
 // The leakage impedance of a transformer and its ratio, at its taps.
-ghost use Rattle.std.specs.Prelude.{◌≡◌, ℕ, ◌*◌, ◌≤◌, ◌^◌, ℤ, pos, ◌*ℤ◌, ◌≤ℤ◌, nat_abs};
+ghost use Rattle.std.specs.Prelude.{◌≡◌, ℕ, ◌*◌, ◌≤◌, ◌^◌, ℤ, pos, ◌*ℤ◌, nat_abs};
 ghost use Rattle.fd_exact.specs.Ranges.{Between, UpTo};
 ghost use Rattle.fd_xfmr.specs.Windings.{first_volts as first, second_volts as second};
 ghost use Rattle.fd_xfmr.specs.Leakage.{AreTaps, AreWithin, IsXfmr, coefficients_of, nominal_leakage, nominal_reactance, nominal_resistance, percent_resistance};

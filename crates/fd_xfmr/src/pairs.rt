@@ -1,5 +1,5 @@
 // The nodes that the phases of the windings join.
-ghost use Rattle.std.specs.Prelude.{◌≡◌, ◌⊎◌, Bool};
+ghost use Rattle.std.specs.Prelude.{◌≡◌, ◌⊎◌};
 ghost use Rattle.fd_system.specs.Terminals.{phase_count};
 ghost use Rattle.fd_xfmr.specs.Windings.{first_pairs, second_pairs, three_phase_winding as three_phase_at, winding_at};
 

@@ -1,9 +1,9 @@
 // The contributions of a transformer.
-ghost use Rattle.std.specs.Prelude.{◌≡◌, ◌+◌, ◌*◌, ◌<◌, ◌≤◌, ◌++◌, ℤ, pos, negsuc, neg_ℤ, ◌^◌, ◌↔◌, [], IfOk, IfErr, OnOk, All, length, vec_capacity};
+ghost use Rattle.std.specs.Prelude.{◌≡◌, ◌+◌, ◌<◌, ◌≤◌, ◌++◌, ◌^◌, ◌↔◌, [], IfOk, IfErr, OnOk, All, length, vec_capacity};
 ghost use Rattle.fd_system.specs.Contributions.{IsDivided, IsWithin};
 ghost use Rattle.fd_system.specs.Equations.{AddsUp};
 ghost use Rattle.fd_xfmr.specs.Leakage.{AreTaps, AreWithin, IsXfmr};
-ghost use Rattle.fd_xfmr.specs.Transformer.{ArePlaces, IsBetween, branch_list, current_list, list_at, list_by, phase_at as place_of, phase_list, xfmr_list, xfmr_parts};
+ghost use Rattle.fd_xfmr.specs.Transformer.{ArePlaces, IsBetween, branch_list, current_list, list_by, phase_at as place_of, phase_list, xfmr_list, xfmr_parts};
 
 use crate::data::XfmrData;
 use crate::leakage::{Coefficients, coefficients_at};

@@ -7,7 +7,7 @@ ghost use Rattle.feeder_picture.specs.declared.fault.PictureFault.TheVariants as
 ghost use Rattle.std.specs.Vec.Iter.{into_iter_items};
 
 use crate::fault::PictureFault;
-use fd_outside::{Found, LibFault, Library, Sink, SinkFault};
+use fd_outside::{Found, LibFault, Library, Sink};
 use fd_picture::{ReportFault, draw, read_report};
 use std::alloc::Global;
 use std::env::Args;

@@ -2,7 +2,6 @@ use Rattle.std.proofs.Common.{◌+◌, length, arith, ap, subst, sym}
 use Rattle.fd_daily.proofs.CallerLemmas.{left_hours, next_first}
 use Rattle.fd_check.specs.Comes.{TellsForAll}
 use Rattle.fd_check.specs.Hours.{hours_open}
-use Rattle.fd_check.specs.declared.fault.CheckFault.{CheckFault}
 use Rattle.fd_check.proofs.Way.{way_range, way_refused, way_on}
 use Rattle.fd_check.proofs.hours.check_hours.Goals as goal
 

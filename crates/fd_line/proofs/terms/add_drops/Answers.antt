@@ -1,6 +1,6 @@
 use Rattle.std.proofs.Common.{rules, arith, ◌∙◌, FitsSigned}
 use Rattle.std.specs.Int.{w128}
-use Rattle.std.proofs.lemmas.Int.{ints, to_z-of_z}
+use Rattle.std.proofs.lemmas.Int.{to_z-of_z}
 use Rattle.fd_system.specs.Series.{drop_at, drop_terms}
 use Rattle.fd_system.proofs.CallerLemmas.{one_more}
 use Rattle.fd_line.specs.Totals.{reactance_of, resistance_of}

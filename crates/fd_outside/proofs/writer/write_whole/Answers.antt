@@ -1,4 +1,4 @@
-use Rattle.std.proofs.Common.{List, ℕ, ap, sym, subst, ◌∙◌, take, length, drop}
+use Rattle.std.proofs.Common.{List, ℕ, ap, sym, subst, ◌∙◌}
 use Rattle.fd_outside.proofs.Parts.{HasWritten, behind, written_more, written_same}
 use Rattle.fd_outside.proofs.writer.write_whole.Goals as goal
 use Rattle.fd_outside.proofs.writer.write_whole.Goals.{in-Ok, in-Err}

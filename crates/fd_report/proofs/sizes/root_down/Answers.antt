@@ -1,4 +1,4 @@
-use Rattle.std.proofs.Common.{◌<◌, ◌≤◌, ◌*◌, arith}
+use Rattle.std.proofs.Common.{◌≤◌, ◌*◌, arith}
 use Rattle.fd_sample.proofs.CallerLemmas.{root_is}
 use Rattle.fd_report.proofs.Newton.{positive, step_is_above, step_is_below}
 use Rattle.fd_report.proofs.sizes.root_down.Goals as goal

@@ -1,4 +1,4 @@
-use Rattle.std.proofs.Common.{◌+◌, arith}
+use Rattle.std.proofs.Common.{arith}
 use Rattle.fd_daily.specs.Day.{hours_left}
 use Rattle.fd_daily.specs.Hours.{hours_of}
 use Rattle.fd_daily.proofs.CallerLemmas.{all_hours}

@@ -1,8 +1,6 @@
-use Rattle.std.proofs.Common.{◌≡◌, ◌∙◌, ◌*◌, ◌≤◌, ◌^◌, ℤ, pos, ◌*ℤ◌, nat_abs, to_z, of_z, arith, refl, subst, sym}
-use Rattle.std.specs.Int.{w128}
-use Rattle.std.proofs.lemmas.Int.{ints}
+use Rattle.std.proofs.Common.{◌∙◌, ◌*◌, refl, subst, sym}
 use Rattle.fd_xfmr.specs.Windings.{first_volts, second_volts}
-use Rattle.fd_xfmr.specs.Leakage.{AreWithin, coefficients_of, nominal_reactance, nominal_resistance}
+use Rattle.fd_xfmr.specs.Leakage.{AreWithin, nominal_reactance, nominal_resistance}
 use Rattle.fd_xfmr.proofs.Products.{read, product_is, voltage_small, ohms_small, coefficients_same}
 use Rattle.fd_xfmr.proofs.Numbers.{are_within}
 use Rattle.fd_xfmr.proofs.leakage.coefficients_at.Goals as goal

@@ -1,8 +1,8 @@
-use Rattle.std.proofs.Common.{◌≡◌, ◌≤◌, ◌∙◌, length, ap, sym, subst}
+use Rattle.std.proofs.Common.{◌≤◌, ◌∙◌, length, ap, sym, subst}
 use Rattle.std.specs.List.{All}
 use Rattle.fd_system.specs.Contributions.{IsDivided}
 use Rattle.fd_system.specs.Equations.{AddsUp}
-use Rattle.fd_xfmr.specs.Transformer.{list_by, xfmr_list, xfmr_parts}
+use Rattle.fd_xfmr.specs.Transformer.{list_by, xfmr_parts}
 use Rattle.fd_xfmr.proofs.Transformer.{xfmr_is}
 use Rattle.fd_xfmr.proofs.terms.add_terms.Goals as goal
 

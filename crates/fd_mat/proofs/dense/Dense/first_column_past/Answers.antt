@@ -1,5 +1,4 @@
-use Rattle.std.proofs.Common.{◌≡◌, ℕ, ◌<◌, ◌≤◌, length, sym, arith}
-use Rattle.std.proofs.lemmas.Bool.Decides.{nat_tests}
+use Rattle.std.proofs.Common.{ℕ, ◌<◌, ◌≤◌, length, sym, arith}
 use Rattle.fd_mat.proofs.Columns.{column_none, column_some}
 use Rattle.fd_mat.proofs.dense.Dense.first_column_past.Goals as goal
 
