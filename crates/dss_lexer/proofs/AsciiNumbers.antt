@@ -10,7 +10,8 @@ use Rattle.std.proofs.lemmas.Bool.Decides.{nat_tests}
 use Rattle.std.proofs.lemmas.Grind.{common_steps}
 use Rattle.dss_lexer.specs.declared.numbers.Shift.{Shift}
 use Rattle.dss_lexer.specs.declared.fault.NumberFault.TheVariants.{BadNumber}
-use Rattle.dss_lexer.specs.Number.{number_of, number_from, are_digits, are_mantissa, unsigned, is_plus, is_minus, is_exponent_mark, is_point, shift_of, exponent_of, is_negative, value, units, with_sign, within_limit}
+use Rattle.fd_exact.specs.Rounding.{with_sign}
+use Rattle.dss_lexer.specs.Number.{number_of, number_from, are_digits, are_mantissa, unsigned, is_plus, is_minus, is_exponent_mark, is_point, shift_of, exponent_of, is_negative, value, units, within_limit}
 use Rattle.dss_lexer.proofs.Values.{both}
 use Rattle.dss_lexer.proofs.Each.{drop_over}
 

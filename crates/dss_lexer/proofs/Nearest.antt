@@ -7,7 +7,8 @@ use Rattle.std.specs.Int.RustNames.{unsigned_abs}
 use Rattle.std.proofs.lemmas.Int.{ints}
 use Rattle.dss_lexer.specs.declared.numbers.Shift.{Shift}
 use Rattle.dss_lexer.specs.declared.fault.NumberFault.TheVariants.{NumberTooLarge}
-use Rattle.dss_lexer.specs.Number.{within_limit, with_sign, units, value}
+use Rattle.fd_exact.specs.Rounding.{with_sign}
+use Rattle.dss_lexer.specs.Number.{within_limit, units, value}
 
 -- n over d, nearest, a half going up
 abbrev pub nearest : ℕ → ℕ → ℕ

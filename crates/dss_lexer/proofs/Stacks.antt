@@ -1,18 +1,14 @@
 -- Operands on a stack, whose last element comes first in the definitions.
-use Rattle.std.proofs.Common.{◌≡◌, ◌∙◌, ℕ, ℤ, pos, negsuc, ◌+◌, ◌^◌, ◌<◌, ◌≤◌, ◌*ℤ◌, List, [], ◌∷◌, ◌++◌, length, drop, get_or, slice_index_or, map, reverse, refl, sym, ap, subst, Ok, Err, arith, add-one, drop-cons, w64, to_z, of_z, FitsSigned}
-use Rattle.std.proofs.lemmas.Bool.{le-ltb}
-use Rattle.std.specs.Prelude.{int_lt}
+use Rattle.std.proofs.Common.{◌≡◌, ◌∙◌, ℕ, ℤ, pos, ◌+◌, ◌^◌, ◌<◌, ◌≤◌, ◌*ℤ◌, List, [], ◌∷◌, ◌++◌, length, drop, get_or, slice_index_or, map, reverse, refl, sym, ap, subst, Ok, Err, arith, add-one, drop-cons, w64, to_z, of_z, FitsSigned}
 use Rattle.std.specs.Int.{w128}
 use Rattle.std.specs.Int.RustNames.{unsigned_abs}
 use Rattle.std.proofs.lemmas.List.{reverse-append, length-reverse}
 use Rattle.std.proofs.lemmas.Int.{ints, to_z-of_z, unsigned_abs-mul, fits_signed_from_abs}
 use Rattle.std.proofs.Math.Nat.{mul-le-mul}
-use Rattle.fd_exact.specs.Rounding.{near_div, near_over}
 use Rattle.dss_lexer.specs.declared.expressions.Operator.{Operator}
 use Rattle.dss_lexer.specs.declared.fault.NumberFault.{NumberFault}
 use Rattle.dss_lexer.specs.declared.fault.NumberFault.TheVariants.{BadPostfix}
 use Rattle.dss_lexer.specs.Answers.{◌>>=◌}
-use Rattle.dss_lexer.specs.Number.{with_sign}
 use Rattle.dss_lexer.specs.Postfix.{quotient, reduce, operate, sole, read_word, value_after}
 use Rattle.dss_lexer.proofs.Each.{drop_over}
 
@@ -34,11 +30,6 @@ module _ (op : Operator) (all more rest : List ℤ) (left right : ℤ) (e₁ : a
   pub reduce_fault : (l r : ℤ) (e : NumberFault) → operate op l r ≡ Err e → l ≡ left → r ≡ right
       → reduce op (reverse all) ≡ Err e
   reduce_fault l r e h p q = reduced ∙ ap (λ r. r >>= λ n. Ok (n ∷ reverse rest)) (ap (operate op left) (sym q) ∙ ap (λ z. operate op z r) (sym p) ∙ h)
-
--- the sign of a divisor, moved to the dividend
-pub near_over_size : (z d : ℤ) → near_over z d ≡ near_div (with_sign (int_lt d (pos 0)) z) (unsigned_abs d)
-near_over_size z (pos d) = ap (λ b. near_div (with_sign b z) d) (sym (le-ltb d 0 (omega arith)))
-near_over_size z (negsuc d) = refl
 
 pub sole_one : (xs : List ℤ) → 1 ≤ length xs → length xs < 2 → Ok (slice_index_or xs 0 (pos 0)) ≡ sole (reverse xs)
 sole_one [] h k = absurd (omega (arith, h))

@@ -1,12 +1,12 @@
 -- The number that a text spells, in units of 10^-9.
-use Rattle.std.specs.Prelude.{ℕ, ℤ, pos, ◌+◌, ◌-◌, ◌*◌, ◌^◌, ◌==◌, nat_lt, nat_le, Bool, false, ◌&&◌, ◌||◌, List, [], ◌∷◌, ◌++◌, length, fold, neg_ℤ, Option, Some, None, Result, Ok, Err, if◌then◌else◌}
+use Rattle.std.specs.Prelude.{ℕ, ℤ, pos, ◌+◌, ◌-◌, ◌*◌, ◌^◌, ◌==◌, nat_lt, nat_le, Bool, false, ◌&&◌, ◌||◌, List, [], ◌∷◌, ◌++◌, length, fold, Option, Some, None, Result, Ok, Err, if◌then◌else◌}
 use Rattle.std.specs.Char.{is_ascii_digit}
 use Rattle.std.specs.Int.RustNames.{unsigned_abs}
 use Rattle.std.specs.List.{list_all, position_or_len, before_first, after_first}
 use Rattle.dss_lexer.specs.declared.numbers.Shift.{Shift}
 use Rattle.dss_lexer.specs.declared.fault.NumberFault.{NumberFault}
 use Rattle.dss_lexer.specs.declared.fault.NumberFault.TheVariants.{BadNumber, NumberTooLarge}
-use Rattle.fd_exact.specs.Rounding.{near_div}
+use Rattle.fd_exact.specs.Rounding.{near_div, with_sign}
 
 abbrev pub is_plus : ℕ → Bool
 is_plus c = c == 43
@@ -58,9 +58,6 @@ are_mantissa whole decimals = are_digits whole && (are_digits decimals && nat_lt
 -- so many units of 10^-9 the digits and the exponent make, to the nearest
 abbrev pub units : List ℕ → List ℕ → Shift → ℤ
 units whole decimals shift = near_div (pos (value (whole ++ decimals) * 10 ^ (shift.right + 9))) (10 ^ (shift.left + length decimals))
-
-abbrev pub with_sign : Bool → ℤ → ℤ
-with_sign negative z = if negative then neg_ℤ z else z
 
 -- a number, already rounded, is below 10^9 in size
 abbrev pub within_limit : ℤ → Result ℤ NumberFault

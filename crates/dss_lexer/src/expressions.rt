@@ -3,10 +3,8 @@ ghost use Rattle.std.specs.Prelude.{◌≡◌, ◌≤◌, ◌<◌, ◌^◌, ◌*
 ghost use Rattle.std.specs.Str.{chars};
 ghost use Rattle.std.specs.Int.RustNames.{unsigned_abs};
 ghost use Rattle.dss_lexer.specs.Answers.{Gives, Makes};
-ghost use Rattle.dss_lexer.specs.Arrays.{words_of};
-ghost use Rattle.dss_lexer.specs.Number.{with_sign};
 ghost use Rattle.dss_lexer.specs.Postfix.{operator_of, quotient, exact, operate, reduce, read_by, read_word, sole, value_after, postfix_of};
-ghost use Rattle.fd_exact.specs.Rounding.{near_div};
+ghost use Rattle.fd_exact.specs.Rounding.{near_div, with_sign};
 
 use crate::arrays::{number_of_word, words};
 use crate::numbers::limited;
@@ -58,7 +56,7 @@ fn dividend(left: i64, right: i64) -> i128
     if right < 0 { -scaled } else { scaled }
 }
 
-#[tactic(auto, using(crate::proofs::Stacks::near_over_size))]
+#[tactic(auto, using(fd_exact::specs::Nearest::near_over_size))]
 fn divided(left: i64, right: i64) -> Result<i128, NumberFault>
     ensures { result ≡ quotient left right }
 {

@@ -1,10 +1,11 @@
 // Numbers in units of 10^-9.
-ghost use Rattle.std.specs.Prelude.{◌≡◌, ℕ, ℤ, pos, neg_ℤ, ◌+◌, ◌-◌, ◌*◌, ◌/◌, ◌^◌, ◌<◌, ◌≤◌, ◌++◌, min, fold, length, take, Some, None, Option, option_map, if◌then◌else◌, IsTrue, IfSome, IfOk};
+ghost use Rattle.std.specs.Prelude.{◌≡◌, pos, ◌+◌, ◌-◌, ◌*◌, ◌/◌, ◌^◌, ◌<◌, ◌≤◌, ◌++◌, min, fold, length, take, Some, None, Option, IsTrue, IfSome, IfOk};
 ghost use Rattle.std.specs.Option.{ForSome};
 ghost use Rattle.std.specs.List.{position, before_first, after_first};
 ghost use Rattle.std.specs.Str.{chars};
 ghost use Rattle.std.specs.Int.RustNames.{unsigned_abs};
-ghost use Rattle.dss_lexer.specs.Number.{number_of, with_sign, unsigned, is_negative, are_digits, is_exponent_mark, is_point, exponent_of, shift_of, value, units, are_mantissa, within_limit, number_from};
+ghost use Rattle.fd_exact.specs.Rounding.{with_sign};
+ghost use Rattle.dss_lexer.specs.Number.{number_of, unsigned, is_negative, are_digits, is_exponent_mark, is_point, exponent_of, shift_of, value, units, are_mantissa, within_limit, number_from};
 
 use crate::NumberFault;
 

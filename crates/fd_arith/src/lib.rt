@@ -34,6 +34,6 @@ pub use fix::Fix;
 pub use grid::{Coef, Grid, Micro, Square, grid_law};
 pub use interval::Interval;
 pub use quotient::{ceil_at, floor_at, isqrt, near_at};
-pub use rounding::{floor_of_product, near_over_coef, near_quotient, near_units};
+pub use rounding::{floor_of_product, near_over_coef, near_over_word, near_quotient, near_units};
 pub use short_circuit::is_source_above_limit;
 pub use terms::{Conn, Ends, LoadModel, NodeAt, Nodes, TapPair, Term, TermFault};

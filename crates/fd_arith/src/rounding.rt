@@ -48,6 +48,22 @@ pub fn near_over_coef(z: i128) -> i128
     (z + half) >> 40
 }
 
+/// z / 2^64 to the nearest whole number, a tie away from zero: the upper half of the 128 bits, once half of 2^64 was
+/// added, or one less than that below 0.
+#[inline]
+pub fn near_over_word(z: i128) -> i128
+    requires { nat_abs z ≤ 2 ^ 126 }
+    ensures value { result ≡ near_div z (2 ^ 64) }
+    ensures size { nat_abs result ≡ (nat_abs z + 2 ^ 63) / 2 ^ 64 }
+{
+    let half = if z < 0 {
+        0x7fff_ffff_ffff_ffff
+    } else {
+        0x8000_0000_0000_0000
+    };
+    (z + half) >> 64
+}
+
 /// n times the factor over the divisor, rounded down.
 #[inline]
 pub fn floor_of_product(n: i128, factor: u128, divisor: u128) -> i128

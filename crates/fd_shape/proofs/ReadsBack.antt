@@ -19,11 +19,11 @@ use Rattle.std.proofs.lemmas.List.Sums.{fold-append}
 use Rattle.std.proofs.lemmas.Nat.{div-add-mod', mod-mul-add}
 use Rattle.std.proofs.lemmas.Str.{digit_value_digit}
 use Rattle.std.proofs.lemmas.Str.Parse.{digit_from_value}
-use Rattle.fd_exact.specs.Rounding.{near_div}
+use Rattle.fd_exact.specs.Rounding.{near_div, with_sign}
 use Rattle.dss_lexer.specs.Answers.{◌>>=◌, each}
 use Rattle.dss_lexer.specs.Arrays.{row_of, word_in, words_of}
 use Rattle.dss_lexer.specs.Line.{is_separator}
-use Rattle.dss_lexer.specs.Number.{number_of, number_from, are_digits, is_exponent_mark, is_minus, is_negative, is_plus, is_point, shift_of, units, unsigned, value, with_sign, within_limit}
+use Rattle.dss_lexer.specs.Number.{number_of, number_from, are_digits, is_exponent_mark, is_minus, is_negative, is_plus, is_point, shift_of, units, unsigned, value, within_limit}
 use Rattle.fd_decimal.specs.Decimals.{fixed_text, last_digits, nano_text, sign, signed_text}
 use Rattle.fd_shape.specs.Text.{behind_blanks, values_text}
 use Rattle.fd_shape.specs.TextLaws.{TextLaw}
@@ -84,10 +84,6 @@ value_from (d ∷ ds) n h =
 last_are : (p n : ℕ) → AreDigits (last_digits p n)
 last_are zero n = tt
 last_are (suc p) n = (omega arith, omega arith, last_are p n)
-
-last_length : (p n : ℕ) → length (last_digits p n) ≡ p
-last_length zero n = refl
-last_length (suc p) n = ap suc (last_length p n)
 
 mod_ten : (n b : ℕ) → 0 < b → n % (b * 10) ≡ n / b % 10 * b + n % b
 mod_ten n b some =

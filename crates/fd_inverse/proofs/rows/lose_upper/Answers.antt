@@ -10,11 +10,11 @@ returns-clause-left c =
     let ff : FitsSigned w64 c.args.f = c.ranges.f in
     let fp : FitsSigned w64 c.args.p = c.ranges.p in
     let fs : FitsSigned w64 (c.args.f *ℤ pos (2 ^ 24)) = scaled_fits c.args.f c.requires.short in
-    let fz : FitsSigned w128 c.entry_product.result = search rules in
-    let product : c.entry_product.result ≡ (c.args.f *ℤ pos (2 ^ 24)) *ℤ c.args.p = simp to_z-of_z at c.entry_product.ensures.value in
-    let value : c.near_upper.result ≡ near_div c.entry_product.result (2 ^ 64) = simp to_z-of_z at c.near_upper.ensures.value in
-    let size = simp to_z-of_z at c.near_upper.ensures.size in
-    upper_left c.args.e.now c.entry_product.result c.near_upper.result c.requires.entry c.entry_product.ensures.small size value
+    let fz : FitsSigned w128 c.product.result = search rules in
+    let product : c.product.result ≡ (c.args.f *ℤ pos (2 ^ 24)) *ℤ c.args.p = simp to_z-of_z at c.product.ensures.value in
+    let value : c.near_over_word.result ≡ near_div c.product.result (2 ^ 64) = simp to_z-of_z at c.near_over_word.ensures.value in
+    let size = simp to_z-of_z at c.near_over_word.ensures.size in
+    upper_left c.args.e.now c.product.result c.near_over_word.result c.requires.entry c.product.ensures.small size value
     ∙ ap (λ z. c.args.e.now -ℤ near_div z (2 ^ 64)) product ∙ ap (λ q. c.args.e.now -ℤ q) (near_product c.args.f c.args.p)
 
 pub returns-clause-size : goal.returns-clause-size
