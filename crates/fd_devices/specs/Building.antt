@@ -5,11 +5,11 @@ use Rattle.dss_layout.specs.Layout.{Elements, branch_phases}
 use Rattle.fd_exact.specs.Sums.{list_n}
 use Rattle.fd_arith.specs.declared.terms.Term.{Term}
 use Rattle.fd_system.specs.declared.loads.LoadAt.{LoadAt}
-use Rattle.fd_system.specs.Contributions.{AreSmall, IsDivided, IsSmall, IsWithin, are_small}
+use Rattle.fd_system.specs.Contributions.{AreSmall, IsDivided, IsSmall, IsWithin, are_small, term_units}
 use Rattle.fd_system.specs.System.{StampView}
 use Rattle.fd_elements.specs.declared.powers.LoadPower.{LoadPower}
 use Rattle.fd_load.specs.Current.{AreLoadVoltages, is_past}
-use Rattle.fd_equations.specs.Coefficients.{linear_entry, units_of}
+use Rattle.fd_equations.specs.Coefficients.{linear_entry}
 use Rattle.fd_equations.specs.Conditions.{IsKnown, IsServed}
 use Rattle.fd_devices.specs.Devices.{Device, IsGood, device_stamp, stamp_of_all}
 
@@ -18,7 +18,7 @@ use Rattle.fd_devices.specs.Devices.{Device, IsGood, device_stamp, stamp_of_all}
 -- no contribution of a device is past 2^54 in units of 2^-40, and none of its part loads is past its limit
 abbrev pub device_fits : Device → Bool
 device_fits d =
-    list_all (λ t. are_small (units_of t)) (device_stamp d).terms
+    list_all (λ t. are_small (term_units t)) (device_stamp d).terms
     && list_all (λ u. not (is_past u.load)) (device_stamp d).loads
 
 abbrev pub DeviceFits : Device → Type 0

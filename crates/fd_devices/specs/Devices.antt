@@ -8,7 +8,7 @@ use Rattle.fd_arith.specs.declared.terms.TapPair.{TapPair}
 use Rattle.fd_system.specs.declared.loads.LoadAt.{LoadAt}
 use Rattle.fd_system.specs.Equations.{Part, equation}
 use Rattle.fd_system.specs.Loads.{load_parts, IsLoad}
-use Rattle.fd_system.specs.System.{StampView, residual_of, joined, loads_stamp, Represents}
+use Rattle.fd_system.specs.System.{StampView, Represents, residual_of, joined, loads_stamp, stamp_with}
 use Rattle.fd_system.specs.Meets.{Meets}
 use Rattle.fd_line.specs.declared.data.LineData.{LineData}
 use Rattle.fd_line.specs.Line.{line_list, line_parts}
@@ -19,7 +19,6 @@ use Rattle.fd_xfmr.specs.Leakage.{AreTaps, IsXfmr}
 use Rattle.fd_xfmr.specs.Transformer.{xfmr_list, xfmr_parts}
 use Rattle.fd_cap.specs.declared.data.CapData.{CapData}
 use Rattle.fd_cap.specs.Capacitor.{IsCap, cap_draw_of, cap_list, cap_parts}
-use Rattle.fd_equations.specs.Views.{stamp_with}
 
 -- a transformer stands at its taps, a capacitor bank is closed or not, and a load is the part loads of its phases; `other` takes no part in the equations
 pub data Device : Type 0 where

@@ -10,9 +10,9 @@ use Rattle.fd_exact.specs.Nearest.{near_nearest}
 use Rattle.fd_exact.specs.States.{State, away, part}
 use Rattle.fd_exact.specs.Sums.{list_n}
 use Rattle.fd_arith.specs.declared.terms.Term.{Term}
-use Rattle.fd_system.specs.Contributions.{given, row_sum, value_of}
+use Rattle.fd_system.specs.Contributions.{given, row_sum, value_of, term_units}
 use Rattle.fd_system.specs.Residual.{whole_state}
-use Rattle.fd_equations.specs.Coefficients.{count_at, linear_entry, stands_at, units_of}
+use Rattle.fd_equations.specs.Coefficients.{count_at, linear_entry, stands_at}
 use Rattle.fd_enclosure.proofs.Rows.{RowNear, row_list, row_more, row_single, row_still}
 
 -- ---- one contribution
@@ -41,13 +41,13 @@ module _ (c : List ℤ) (x : State) (n l : ℕ) where
 
   by_row : (b : Bool) (t : Term) → 0 < unsigned_abs t.den → t.col < n
       → RowNear (away c x) n (x.over * 2 ^ 40) (cond b (value_of t x) nothing) (cond b (value_of t (whole_state c)) nothing)
-      (λ j. cond (b && eqb t.col j) (units_of t) (pos 0)) (λ j. 4 * cond (b && eqb t.col j) 1 0)
+      (λ j. cond (b && eqb t.col j) (term_units t) (pos 0)) (λ j. 4 * cond (b && eqb t.col j) 1 0)
   by_row true t h g =
       row_more (away c x) n (x.over * 2 ^ 40) (value_of t x) (value_of t (whole_state c))
-      (λ j. cond (eqb t.col j) (units_of t) (pos 0)) (λ j. cond (eqb t.col j) (units_of t) (pos 0))
+      (λ j. cond (eqb t.col j) (term_units t) (pos 0)) (λ j. cond (eqb t.col j) (term_units t) (pos 0))
       (λ j. cond (eqb t.col j) 4 0) (λ j. 4 * cond (eqb t.col j) 1 0) (λ j p. refl) (λ j p. one_unit (eqb t.col j))
-      (row_single (away c x) n (x.over * 2 ^ 40) (value_of t x) (value_of t (whole_state c)) (units_of t) 4 t.col g
-      (value_near t.num (part x.parts t.col) (part c t.col) (units_of t) (unsigned_abs t.den) x.over (2 ^ 40)
+      (row_single (away c x) n (x.over * 2 ^ 40) (value_of t x) (value_of t (whole_state c)) (term_units t) 4 t.col g
+      (value_near t.num (part x.parts t.col) (part c t.col) (term_units t) (unsigned_abs t.den) x.over (2 ^ 40)
       (near_nearest (t.num *ℤ pos (2 ^ 40)) (unsigned_abs t.den) h).close))
   by_row false t h g =
       row_more (away c x) n (x.over * 2 ^ 40) nothing nothing (λ j. pos 0) (λ j. pos 0) (λ j. 0) (λ j. 4 * 0)
@@ -55,7 +55,7 @@ module _ (c : List ℤ) (x : State) (n l : ℕ) where
 
   pub term_near : (t : Term) → 0 < unsigned_abs t.den → t.col < n
       → RowNear (away c x) n (x.over * 2 ^ 40) (given l t x) (given l t (whole_state c))
-      (λ j. cond (stands_at l j t) (units_of t) (pos 0)) (λ j. 4 * cond (stands_at l j t) 1 0)
+      (λ j. cond (stands_at l j t) (term_units t) (pos 0)) (λ j. 4 * cond (stands_at l j t) 1 0)
   term_near t h g = by_row (eqb t.row l) t h g
 
   -- ---- all of them
@@ -72,5 +72,5 @@ module _ (c : List ℤ) (x : State) (n l : ℕ) where
       (λ j. linear_entry ts l j) (λ j. linear_entry ts l j) (λ j. list_n (λ t. 4 * cond (stands_at l j t) 1 0) ts)
       (λ j. 4 * count_at ts l j) (λ j p. refl) (λ j p. count_four j ts)
       (row_list (away c x) n (x.over * 2 ^ 40) P (λ t. given l t x) (λ t. given l t (whole_state c))
-      (λ t j. cond (stands_at l j t) (units_of t) (pos 0)) (λ t j. 4 * cond (stands_at l j t) 1 0) ts all (λ t p.
+      (λ t j. cond (stands_at l j t) (term_units t) (pos 0)) (λ t j. 4 * cond (stands_at l j t) 1 0) ts all (λ t p.
       let g = h t p in term_near t g.0 g.1))

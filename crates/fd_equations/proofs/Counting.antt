@@ -10,8 +10,8 @@ use Rattle.fd_arith.specs.declared.terms.NodeAt.TheVariants.{Ground, Node}
 use Rattle.fd_exact.specs.SumLaws.{list_n-bound}
 use Rattle.fd_arith.specs.LoadModels.{is_linear}
 use Rattle.fd_system.specs.declared.loads.LoadAt.{LoadAt}
-use Rattle.fd_system.specs.Contributions.{AreSmall}
-use Rattle.fd_equations.specs.Coefficients.{count_at, linear_entry, stands_at, units_of}
+use Rattle.fd_system.specs.Contributions.{AreSmall, term_units}
+use Rattle.fd_equations.specs.Coefficients.{count_at, linear_entry, stands_at}
 use Rattle.fd_equations.specs.Conditions.{IsLinear}
 use Rattle.fd_equations.specs.PartLoads.{slope_count, slope_counts}
 use Rattle.fd_equations.specs.Terminals.{count_magnitude, count_node, count_terminal}
@@ -25,9 +25,9 @@ entry_size size (t ∷ ts) row col h =
     by_test (stands_at row col t) (entry_size size ts row col (All-tail (IsLinear size) t ts h))
     (All-head (IsLinear size) t ts h).within
   where
-    by_test : (b : Bool) → nat_abs (linear_entry ts row col) ≤ length ts * 2 ^ 54 → AreSmall (units_of t)
-        → nat_abs (cond b (units_of t) (pos 0) +ℤ linear_entry ts row col) ≤ suc (length ts) * 2 ^ 54
-    by_test true e w = let size = small_size (units_of t) w in omega (arith, ints, size)
+    by_test : (b : Bool) → nat_abs (linear_entry ts row col) ≤ length ts * 2 ^ 54 → AreSmall (term_units t)
+        → nat_abs (cond b (term_units t) (pos 0) +ℤ linear_entry ts row col) ≤ suc (length ts) * 2 ^ 54
+    by_test true e w = let size = small_size (term_units t) w in omega (arith, ints, size)
     by_test false e w = omega (arith, ints)
 
 pub count_size : (ts : List Term) (row col : ℕ) → count_at ts row col ≤ length ts

@@ -10,10 +10,10 @@ use Rattle.fd_arith.specs.declared.terms.NodeAt.{NodeAt}
 use Rattle.fd_arith.specs.declared.terms.NodeAt.TheVariants.{Ground, Node}
 use Rattle.fd_arith.specs.LoadModels.{is_linear}
 use Rattle.fd_system.specs.declared.loads.LoadAt.{LoadAt}
-use Rattle.fd_system.specs.Contributions.{AreSmall}
+use Rattle.fd_system.specs.Contributions.{AreSmall, term_units}
 use Rattle.fd_equations.specs.declared.cells.Cell.{Cell}
 use Rattle.fd_equations.specs.Amounts.{Amount, AreCells, IsNothingElsewhere, amount, cell_at, empty, of_rows}
-use Rattle.fd_equations.specs.Coefficients.{count_at, linear_entry, stands_at, units_of}
+use Rattle.fd_equations.specs.Coefficients.{count_at, linear_entry, stands_at}
 use Rattle.fd_equations.specs.PartLoads.{slope_count, slope_counts}
 use Rattle.fd_equations.specs.PatternPlaces.{load_places, magnitude_places, node_places, place_of, places_of, terminal_places}
 use Rattle.fd_equations.specs.Patterns.{key}
@@ -66,7 +66,7 @@ module _ (ps : List (ℕ × ℕ)) (row col : ℕ) (none : Contains ps (row, col)
   no_entry (t ∷ ts) h =
       let e = missed t (All-head (Contains ps) (place_of t) (map place_of ts) h) in
       let r = no_entry ts (All-tail (Contains ps) (place_of t) (map place_of ts) h) in
-      (λ i. cond (e i) (units_of t) (pos 0) +ℤ r i) ∙ omega (arith, ints)
+      (λ i. cond (e i) (term_units t) (pos 0) +ℤ r i) ∙ omega (arith, ints)
 
   no_count : (ts : List Term) → All (Contains ps) (map place_of ts) → count_at ts row col ≡ 0
   no_count [] h = refl

@@ -1,5 +1,5 @@
 -- Cells in which contributions are exchanged for others.
-use Rattle.std.proofs.Common.{◌≡◌, ◌∙◌, ℕ, ◌+◌, ◌*◌, ◌<◌, ◌≤◌, ◌^◌, ℤ, pos, ◌+ℤ◌, nat_abs, Bool, true, false, cond, List, length, take, drop, set, get_or, arith, ap, sym, refl, subst, inl, inr}
+use Rattle.std.proofs.Common.{◌≡◌, ◌∙◌, ℕ, ◌+◌, ◌*◌, ◌<◌, ◌≤◌, ◌^◌, ℤ, pos, ◌+ℤ◌, nat_abs, true, false, cond, List, length, take, drop, set, get_or, arith, ap, sym, refl, subst, inl, inr}
 use Rattle.std.proofs.lemmas.Int.{ints}
 use Rattle.std.proofs.lemmas.Bool.{cases_eq}
 use Rattle.std.proofs.lemmas.List.{get_or-set_same, get_or-set_other, length-take, take-append-drop}
@@ -9,8 +9,9 @@ use Rattle.fd_arith.specs.LoadModels.{is_linear}
 use Rattle.fd_exact.specs.SumLaws.{list_n-append}
 use Rattle.fd_system.specs.declared.loads.LoadAt.{LoadAt}
 use Rattle.fd_equations.specs.declared.cells.Cell.{Cell}
-use Rattle.fd_equations.specs.Amounts.{Amount, AreCells, AreExchanged, AreGrown, HaveCounts, HaveTermRoom, amount, cell_at, cell_of, empty, more, nothing, of_rows, of_term, of_terms}
-use Rattle.fd_equations.specs.Coefficients.{count_at, linear_entry, stands_at, units_of}
+use Rattle.fd_equations.specs.Amounts.{Amount, AreCells, AreExchanged, AreGrown, HaveCounts, HaveTermRoom, amount, cell_at, empty, more, of_rows, of_term, of_terms}
+use Rattle.fd_system.specs.Contributions.{term_units}
+use Rattle.fd_equations.specs.Coefficients.{count_at, linear_entry, stands_at}
 use Rattle.fd_equations.specs.Conditions.{AreLinear, IsLinear}
 use Rattle.fd_equations.specs.PartLoads.{slope_count, slope_counts}
 use Rattle.fd_equations.specs.Patterns.{IsSlot, key}
@@ -24,7 +25,7 @@ use Rattle.fd_equations.proofs.Growth.{IsBoth, elsewhere, here, is_at, more_noth
 
 module _ (ps : List (ℕ × ℕ)) (cells : List Cell) (t : Term) where
   abbrev one : Amount
-  one = amount (units_of t) 1 0
+  one = amount (term_units t) 1 0
 
   -- the cell at k loses it, and stands at its place
   taken_at : (k : ℕ) (new : Cell) → length cells ≡ length ps → IsSlot ps t.row t.col k
@@ -36,7 +37,7 @@ module _ (ps : List (ℕ × ℕ)) (cells : List Cell) (t : Term) where
         subst (λ n. is_at (t.row, t.col) (key ps n) ≡ true) (sym e)
         (here (t.row, t.col) (key ps k) (sym at.row_is) (sym at.col_is)) in
         let read : cell_at (set cells k new) j ≡ new = ap (cell_at (set cells k new)) e ∙ get_or-set_same cells k new empty (omega (arith, at.in_range)) in
-        ap (cell_at cells) e ∙ is ∙ (λ i. more (sym read i) (amount (cond (sym hit i) (units_of t) (pos 0)) (cond (sym hit i) 1 0) (cond (sym hit i) 0 0)))
+        ap (cell_at cells) e ∙ is ∙ (λ i. more (sym read i) (amount (cond (sym hit i) (term_units t) (pos 0)) (cond (sym hit i) 1 0) (cond (sym hit i) 0 0)))
     | inr ne ↦
         let miss : is_at (t.row, t.col) (key ps j) ≡ false =
         elsewhere (t.row, t.col) (key ps j) (λ (f, g).
@@ -44,27 +45,13 @@ module _ (ps : List (ℕ × ℕ)) (cells : List Cell) (t : Term) where
         let read : cell_at (set cells k new) j ≡ cell_at cells j = get_or-set_other cells k j new empty ne in
         sym (more_nothing (cell_at cells j))
         ∙ (λ i. more (sym read i)
-        (amount (cond (sym miss i) (units_of t) (pos 0)) (cond (sym miss i) 1 0) (cond (sym miss i) 0 0)))
+        (amount (cond (sym miss i) (term_units t) (pos 0)) (cond (sym miss i) 1 0) (cond (sym miss i) 0 0)))
   ]
 
   pub taken_term : (k : ℕ) (new : Cell) → length cells ≡ length ps → IsSlot ps t.row t.col k
       → ((j : ℕ) → IsSlot ps t.row t.col j → j ≡ k) → cell_at cells k ≡ more new one
       → AreGrown ps (set cells k new) cells (of_term t)
   taken_term k new long at only is j l = taken_at k new long at only is j l ∙ ap (more (cell_at (set cells k new) j)) (term_amount t (key ps j))
-
--- what has lost one has room
-pub room_less : (ps : List (ℕ × ℕ)) (old new : List Cell) (t : Term) → nat_abs (units_of t) ≤ 2 ^ 54
-    → HaveTermRoom ps old (2 ^ 80) (2 ^ 25) → AreGrown ps new old (of_term t) → HaveTermRoom ps new (2 ^ 81) (2 ^ 26)
-room_less ps old new t small room grown j l =
-    let cell = grown j l in
-    let r = room j l in
-    by (stands_at (key ps j).0 (key ps j).1 t) (ap (λ (c : Cell). c.units) cell) (ap (λ (c : Cell). c.count) cell) r.0 r.1
-  where
-    by : (b : Bool) → (cell_at old j).units ≡ ((cell_at new j).units +ℤ cond b (units_of t) (pos 0))
-        → (cell_at old j).count ≡ (cell_at new j).count + cond b 1 0 → nat_abs (cell_at old j).units ≤ 2 ^ 80
-        → (cell_at old j).count ≤ 2 ^ 25 → (nat_abs (cell_at new j).units ≤ 2 ^ 81) × ((cell_at new j).count ≤ 2 ^ 26)
-    by true u n h i = (omega (arith, ints, u, h, small), omega (arith, n, i))
-    by false u n h i = (omega (arith, ints, u, h), omega (arith, n, i))
 
 -- ---- one for another
 
@@ -78,14 +65,7 @@ exchanged_one ps a b c less add taken added k l =
     ∙ more_both (cell_at b k) (add (key ps k)) (less (key ps k))
     ∙ ap (λ z. more z (add (key ps k))) (sym (taken k l))
 
--- the same for itself
-pub exchanged_same : (ps : List (ℕ × ℕ)) (a : List Cell) (s t : Term) → s ≡ t → AreExchanged ps a a (of_term s) (of_term t)
-exchanged_same ps a s t e k l = ap (λ x. more (cell_at a k) (of_term x (key ps k))) e
-
 -- ---- one pair after another
-
-pub exchanged_none : (ps : List (ℕ × ℕ)) (a : List Cell) → AreExchanged ps a a (λ p. nothing) (λ p. nothing)
-exchanged_none ps a k l = refl
 
 pub exchanged_then : (ps : List (ℕ × ℕ)) (a b c : List Cell) (f f2 g g2 h h2 : ℕ × ℕ → Amount) → AreExchanged ps a b f f2 → AreExchanged ps b c g g2
     → ((p : ℕ × ℕ) → IsBoth (f p) (g p) (h p)) → ((p : ℕ × ℕ) → IsBoth (f2 p) (g2 p) (h2 p)) → AreExchanged ps a c h h2
@@ -143,25 +123,6 @@ module _ (ps : List (ℕ × ℕ)) (a b : List Cell) (n : ℕ) (old new : List Te
 
 -- ---- all of them
 
--- the cells of rows, with other contributions
-pub exchanged_cells : (ps : List (ℕ × ℕ)) (a b : List Cell) (old new : List Term) (us vs : List LoadAt)
-    → length b ≡ length a → AreCells ps a (of_rows old us) → AreExchanged ps a b (of_terms old) (of_terms new)
-    → ((row col : ℕ) → slope_counts us row col ≡ slope_counts vs row col) → AreCells ps b (of_rows new vs)
-exchanged_cells ps a b old new us vs long are x alike = record {
-  long = long ∙ are.long;
-  each = λ k l.
-      let p = key ps k in
-      let was = are.each k l in
-      let cell = x k l ∙ ap (λ z. more z (of_terms new p)) was in
-      let units : ((cell_at b k).units +ℤ linear_entry old p.0 p.1)
-      ≡ (linear_entry old p.0 p.1 +ℤ linear_entry new p.0 p.1) =
-      ap (λ (c : Cell). c.units) cell in
-      let count : (cell_at b k).count + count_at old p.0 p.1 ≡ count_at old p.0 p.1 + count_at new p.0 p.1 = ap (λ (c : Cell). c.count) cell in
-      let slopes : (cell_at b k).slopes + 0 ≡ slope_counts us p.0 p.1 + 0 = ap (λ (c : Cell). c.slopes) cell in
-      same_cell (cell_at b k) (cell_of p.1 (of_rows new vs p)) (ap (λ (c : Cell). c.col) cell) (omega (arith, count))
-      (omega (arith, slopes, alike p.0 p.1)) (omega (arith, ints, units));
-}
-
 -- cells of rows have room, and as many as there are
 pub rows_room : (ps : List (ℕ × ℕ)) (cells : List Cell) (n : ℕ) (ts : List Term) (us : List LoadAt) → AreLinear n ts
     → AreCells ps cells (of_rows ts us) → HaveTermRoom ps cells (2 ^ 78) (2 ^ 24)
@@ -174,12 +135,6 @@ rows_room ps cells n ts us linear are j l =
     let units : (cell_at cells j).units ≡ linear_entry ts p.0 p.1 = ap (λ (c : Cell). c.units) cell in
     let count : (cell_at cells j).count ≡ count_at ts p.0 p.1 = ap (λ (c : Cell). c.count) cell in
     (subst (λ z. nat_abs z ≤ 2 ^ 78) (sym units) (omega arith), omega arith)
-
-pub rows_counts : (ps : List (ℕ × ℕ)) (cells : List Cell) (ts : List Term) (us : List LoadAt)
-    → AreCells ps cells (of_rows ts us) → HaveCounts ps cells (λ p. count_at ts p.0 p.1)
-rows_counts ps cells ts us are j l =
-    let count : (cell_at cells j).count ≡ count_at ts (key ps j).0 (key ps j).1 = ap (λ (c : Cell). c.count) (are.each j l) in
-    omega (arith, count)
 
 -- ---- part loads that stand alike
 

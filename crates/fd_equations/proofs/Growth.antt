@@ -10,7 +10,8 @@ use Rattle.fd_load.specs.declared.slopes.Slopes.{Slopes}
 use Rattle.fd_system.specs.declared.loads.LoadAt.{LoadAt}
 use Rattle.fd_equations.specs.declared.cells.Cell.{Cell}
 use Rattle.fd_equations.specs.Amounts.{Amount, AreCells, AreGrown, HaveSlopeRoom, HaveTermRoom, amount, cell_at, cell_of, empty, more, nothing, of_both, of_load, of_loads, of_rows, of_term, of_terms, without_slopes}
-use Rattle.fd_equations.specs.Coefficients.{count_at, linear_entry, stands_at, units_of}
+use Rattle.fd_system.specs.Contributions.{term_units}
+use Rattle.fd_equations.specs.Coefficients.{count_at, linear_entry, stands_at}
 use Rattle.fd_equations.specs.Conditions.{AreLinear, IsLinear}
 use Rattle.fd_equations.specs.PartLoads.{load_entry, slope_count}
 use Rattle.fd_equations.specs.Patterns.{IsSlot, key}
@@ -117,8 +118,8 @@ cond_zero : (b : Bool) → ◌≡◌ {A = ℕ} (cond b 0 0) 0
 cond_zero true = refl
 cond_zero false = refl
 
-pub term_amount : (t : Term) (p : ℕ × ℕ) → only_at (t.row, t.col) (amount (units_of t) 1 0) p ≡ of_term t p
-term_amount t p = λ i. amount (cond (is_at (t.row, t.col) p) (units_of t) (pos 0)) (cond (is_at (t.row, t.col) p) 1 0) (cond_zero (is_at (t.row, t.col) p) i)
+pub term_amount : (t : Term) (p : ℕ × ℕ) → only_at (t.row, t.col) (amount (term_units t) 1 0) p ≡ of_term t p
+term_amount t p = λ i. amount (cond (is_at (t.row, t.col) p) (term_units t) (pos 0)) (cond (is_at (t.row, t.col) p) 1 0) (cond_zero (is_at (t.row, t.col) p) i)
 
 abbrev pub slope_at : ℕ → ℕ → ℤ → ℕ × ℕ → Amount
 slope_at row col units p = amount (cond (eqb row p.0 && eqb col p.1) units (pos 0)) 0 (cond (eqb row p.0 && eqb col p.1) 1 0)
@@ -128,15 +129,15 @@ slope_amount row col units p = λ i. amount (cond (is_at (row, col) p) units (po
 
 pub grown_term : (ps : List (ℕ × ℕ)) (cells : List Cell) (t : Term) (k : ℕ) (new : Cell) → length cells ≡ length ps
     → IsSlot ps t.row t.col k → ((j : ℕ) → IsSlot ps t.row t.col j → j ≡ k)
-    → new ≡ more (cell_at cells k) (amount (units_of t) 1 0) → AreGrown ps cells (set cells k new) (of_term t)
+    → new ≡ more (cell_at cells k) (amount (term_units t) 1 0) → AreGrown ps cells (set cells k new) (of_term t)
 grown_term ps cells t k new long at only is =
-    grown_as ps cells (set cells k new) (only_at (t.row, t.col) (amount (units_of t) 1 0)) (of_term t)
-    (grown_at ps cells (t.row, t.col) (amount (units_of t) 1 0) k new long at only is) (term_amount t)
+    grown_as ps cells (set cells k new) (only_at (t.row, t.col) (amount (term_units t) 1 0)) (of_term t)
+    (grown_at ps cells (t.row, t.col) (amount (term_units t) 1 0) k new long at only is) (term_amount t)
 
 pub missed_term : (ps : List (ℕ × ℕ)) (cells : List Cell) (t : Term) → (Contains ps (t.row, t.col) → ⊥) → AreGrown ps cells cells (of_term t)
 missed_term ps cells t none =
-    grown_as ps cells cells (only_at (t.row, t.col) (amount (units_of t) 1 0)) (of_term t)
-    (grown_missed ps cells (t.row, t.col) (amount (units_of t) 1 0) none) (term_amount t)
+    grown_as ps cells cells (only_at (t.row, t.col) (amount (term_units t) 1 0)) (of_term t)
+    (grown_missed ps cells (t.row, t.col) (amount (term_units t) 1 0) none) (term_amount t)
 
 pub grown_slope : (ps : List (ℕ × ℕ)) (cells : List Cell) (row col : ℕ) (units : ℤ) (k : ℕ) (new : Cell)
     → length cells ≡ length ps → IsSlot ps row col k → ((j : ℕ) → IsSlot ps row col j → j ≡ k)
@@ -160,7 +161,7 @@ no_term = record { row = 0; col = 0; num = pos 0; den = pos 0 }
 pub terms_more : (ts : List Term) (k : ℕ) (d : Term) → k < length ts → (p : ℕ × ℕ)
     → IsBoth (of_terms (take k ts) p) (of_term (get_or ts k d) p) (of_terms (take (k + 1) ts) p)
 terms_more ts k d h p = record {
-  units = list_z_more (λ t. cond (stands_at p.0 p.1 t) (units_of t) (pos 0)) ts k d h;
+  units = list_z_more (λ t. cond (stands_at p.0 p.1 t) (term_units t) (pos 0)) ts k d h;
   count = list_n_more (λ t. cond (stands_at p.0 p.1 t) 1 0) ts k d h;
   slopes = omega arith;
 }
@@ -214,9 +215,6 @@ room_after ps old new add b m t n k s e f grown room small j l =
   where
     sum : (x y : ℤ) → nat_abs x ≤ b → nat_abs y ≤ m → nat_abs (x +ℤ y) ≤ t
     sum x y h i = omega (arith, ints)
-
-pub room_wider : (ps : List (ℕ × ℕ)) (cells : List Cell) (b t n s : ℕ) → b ≤ t → n ≤ s → HaveSlopeRoom ps cells b n → HaveSlopeRoom ps cells t s
-room_wider ps cells b t n s e f room j l = let r = room j l in (omega (arith, r.0), omega (arith, r.1))
 
 -- ---- cells without slopes
 

@@ -6,7 +6,8 @@ use Rattle.fd_exact.specs.Sums.{list_z}
 use Rattle.fd_load.specs.declared.slopes.Slopes.{Slopes}
 use Rattle.fd_system.specs.declared.loads.LoadAt.{LoadAt}
 use Rattle.fd_equations.specs.declared.cells.Cell.{Cell}
-use Rattle.fd_equations.specs.Coefficients.{count_at, linear_entry, stands_at, units_of}
+use Rattle.fd_system.specs.Contributions.{term_units}
+use Rattle.fd_equations.specs.Coefficients.{count_at, linear_entry, stands_at}
 use Rattle.fd_equations.specs.PartLoads.{load_entry, slope_count, slope_counts}
 use Rattle.fd_equations.specs.Patterns.{PatternView, key}
 
@@ -25,7 +26,7 @@ nothing = amount (pos 0) 0 0
 -- ---- at a place of row and column
 
 abbrev pub of_term : Term → ℕ × ℕ → Amount
-of_term t p = amount (cond (stands_at p.0 p.1 t) (units_of t) (pos 0)) (cond (stands_at p.0 p.1 t) 1 0) 0
+of_term t p = amount (cond (stands_at p.0 p.1 t) (term_units t) (pos 0)) (cond (stands_at p.0 p.1 t) 1 0) 0
 
 abbrev pub of_terms : List Term → ℕ × ℕ → Amount
 of_terms ts p = amount (linear_entry ts p.0 p.1) (count_at ts p.0 p.1) 0

@@ -1,8 +1,5 @@
 -- What contracts see of a network, and where its unknowns stand.
-use Rattle.std.specs.Prelude.{ℕ, ◌+◌, ◌*◌, nat_lt, if◌then◌else◌, List}
-use Rattle.fd_arith.specs.declared.terms.Term.{Term}
-use Rattle.fd_system.specs.declared.constants.Constant.{Constant}
-use Rattle.fd_system.specs.declared.loads.LoadAt.{LoadAt}
+use Rattle.std.specs.Prelude.{ℕ, ◌+◌, ◌*◌, nat_lt, if◌then◌else◌}
 use Rattle.fd_system.specs.System.{StampView}
 use Rattle.fd_equations.specs.declared.layout.Layout.{Layout}
 use Rattle.fd_equations.specs.declared.layout.PlaceKind.{PlaceKind}
@@ -16,10 +13,6 @@ pub record NetworkView : Type 0 where
   pub nodes : ℕ
   pub magnitudes : ℕ
   pub stamp : StampView
-
--- the stamp of these lists, and of what is drawn
-abbrev pub stamp_with : List Constant → List Term → List LoadAt → ℕ → StampView
-stamp_with cs ts us draw = record { constants = cs; terms = ts; loads = us; draw = draw }
 
 -- the network of a layout
 abbrev pub network_of : Layout → StampView → NetworkView

@@ -1,11 +1,8 @@
 // The sums of contributions at the places of a pattern.
-ghost use Rattle.std.specs.Prelude.{◌≡◌, ℕ, ◌+◌, ◌<◌, ◌≤◌, ◌^◌, ◌↔◌, ℤ, pos, ◌+ℤ◌, ◌*ℤ◌, nat_abs, IfOk, IsTrue, List, length, All};
-ghost use Rattle.fd_exact.specs.Rounding.{near_div};
-ghost use Rattle.fd_system.specs.Contributions.{AreSmall, IsDivided, IsWithin};
+ghost use Rattle.std.specs.Prelude.{◌≡◌, ℕ, ◌+◌, ◌<◌, ◌≤◌, ◌^◌, ◌↔◌, nat_abs, IfOk, IsTrue, length, All};
+ghost use Rattle.fd_system.specs.Contributions.{AreSmall, IsDivided, IsWithin, term_units};
 ghost use Rattle.fd_equations.specs.Amounts.{Amount, AreCells, AreGrown, HaveTermRoom, IsNothingElsewhere, IsRowOf, amount, cell_of, more, nothing, of_term, of_terms};
-ghost use Rattle.fd_equations.specs.Coefficients.{units_of};
 ghost use Rattle.fd_equations.specs.Conditions.{AreLinear};
-ghost use Rattle.fd_equations.specs.Patterns.{IsSlot};
 
 use crate::Pattern;
 use fd_arith::{Term, near_units};
@@ -99,7 +96,7 @@ fn with_term(cell: Cell, units: i128) -> Cell
 pub fn units(term: &Term) -> i128
     requires divided { IsDivided term.now }
     requires within { IsWithin term.now }
-    ensures units { result ≡ units_of term.now }
+    ensures units { result ≡ term_units term.now }
     ensures within { AreSmall result }
 {
     near_units(term.num, term.den.unsigned_abs())

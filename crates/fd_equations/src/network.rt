@@ -1,17 +1,17 @@
 // A network's rows.
-ghost use Rattle.std.specs.Prelude.{◌≡◌, ℕ, ◌+◌, ◌*◌, ◌<◌, ◌≤◌, ◌^◌, ℤ, pos, neg_ℤ, nat_abs, ◌≤ℤ◌, IfOk, List, length, get_or, None, All};
+ghost use Rattle.std.specs.Prelude.{◌≡◌, ℕ, ◌+◌, ◌*◌, ◌<◌, ◌≤◌, ◌^◌, ℤ, pos, nat_abs, ◌≤ℤ◌, IfOk, length, get_or, None, All};
 ghost use Rattle.fd_exact.specs.States.{part};
 ghost use Rattle.fd_arith.specs.Interval.{Holds};
 ghost use Rattle.fd_mat.specs.Rows.{EntriesWithin};
 ghost use Rattle.fd_system.specs.Contributions.{AreSmall};
-ghost use Rattle.fd_system.specs.System.{residual_of};
+ghost use Rattle.fd_system.specs.System.{residual_of, stamp_with};
 ghost use Rattle.fd_system.specs.Residual.{whole_state};
 ghost use Rattle.fd_equations.specs.Coefficients.{linear_entry};
 ghost use Rattle.fd_equations.specs.Conditions.{AreApart, IsKnown, IsNetwork, IsPoint, IsServed};
 ghost use Rattle.fd_equations.specs.Enclosure.{EndsWithin, addend_count, interval_residual_of, summand_count};
 ghost use Rattle.fd_equations.specs.Matrices.{IsMatrix, jacobian_amount};
 ghost use Rattle.fd_equations.specs.Rounded.{constants_of, jacobian_count, jacobian_of, linear_residual_of, rounded_residual_of, start_matrix_of};
-ghost use Rattle.fd_equations.specs.Views.{kind_of, network_of, stamp_with};
+ghost use Rattle.fd_equations.specs.Views.{kind_of, network_of};
 ghost use Rattle.fd_equations.specs.Weights.{weights_of};
 
 use crate::constants::constant_sums;
@@ -40,7 +40,8 @@ pub struct Network<'a> {
 impl<'a> Model for Network<'a> {
     ghost use Rattle.std.specs.Prelude.{◌≡◌};
     ghost use Rattle.fd_equations.specs.Conditions.{IsNetwork};
-    ghost use Rattle.fd_equations.specs.Views.{NetworkView, network_of, stamp_with};
+    ghost use Rattle.fd_system.specs.System.{stamp_with};
+    ghost use Rattle.fd_equations.specs.Views.{NetworkView, network_of};
 
     ghost Value = { NetworkView };
 

@@ -5,9 +5,9 @@ use Rattle.std.proofs.lemmas.List.{length-map, length-take, map-append}
 use Rattle.fd_arith.specs.declared.terms.Term.{Term}
 use Rattle.fd_system.specs.declared.constants.Constant.{Constant}
 use Rattle.fd_system.specs.declared.loads.LoadAt.{LoadAt}
-use Rattle.fd_system.specs.System.{StampView, joined}
+use Rattle.fd_system.specs.System.{StampView, joined, stamp_with}
 use Rattle.fd_equations.specs.declared.layout.Layout.{Layout}
-use Rattle.fd_equations.specs.Views.{network_of, stamp_with}
+use Rattle.fd_equations.specs.Views.{network_of}
 use Rattle.fd_devices.specs.Devices.{Device, device_stamp, stamp_of_all}
 use Rattle.fd_network.specs.declared.assembly.Parts.{Parts}
 use Rattle.fd_network.specs.declared.extents.Extent.{Extent}

@@ -1,14 +1,13 @@
 -- The sum of the contributions at a place is small where it is small at each place of a contribution.
-use Rattle.std.proofs.Common.{◌≡◌, ℕ, inl, inr, ◌⊎◌, pos, ◌+ℤ◌, Bool, true, false, cond, eqb, List, [], ◌∷◌, map, arith, sym, refl, subst, ⊎_elim}
+use Rattle.std.proofs.Common.{◌≡◌, ℕ, inl, inr, ◌⊎◌, pos, ◌+ℤ◌, Bool, true, false, cond, eqb, List, [], ◌∷◌, map, sym, refl, subst, ⊎_elim}
 use Rattle.std.specs.List.{All, flat_map}
-use Rattle.std.proofs.lemmas.Int.{ints}
 use Rattle.std.proofs.lemmas.Bool.{and_parts, eqb-true}
 use Rattle.std.proofs.lemmas.List.Elements.{All-nil, All-cons, All-append, All-head, All-tail}
 use Rattle.std.proofs.lemmas.List.Sums.{AllPass-from_list_all, list_all-from_AllPass}
 use Rattle.fd_arith.specs.declared.terms.Term.{Term}
-use Rattle.fd_system.specs.Contributions.{AreSmall, are_small}
+use Rattle.fd_system.specs.Contributions.{AreSmall, are_small, term_units}
 use Rattle.fd_system.specs.System.{StampView}
-use Rattle.fd_equations.specs.Coefficients.{linear_entry, stands_at, units_of}
+use Rattle.fd_equations.specs.Coefficients.{linear_entry, stands_at}
 use Rattle.fd_devices.specs.Building.{HasSmallSums}
 use Rattle.fd_devices.specs.Devices.{Device, device_stamp, stamp_of_all}
 
@@ -30,7 +29,7 @@ sum_at all row col (t ∷ ts) h = by (stands_at row col t) refl (sum_at all row 
         let c = eqb-true t.col col both.1 in
         inr (subst AreSmall (λ i. linear_entry all (r i) (c i)) (All-head (IsSmallAt all) t ts h))
     by false e (inr small) = inr small
-    by false e (inl zero) = inl (λ i. cond (e i) (units_of t) (pos 0) +ℤ zero i)
+    by false e (inl zero) = inl (λ i. cond (e i) (term_units t) (pos 0) +ℤ zero i)
 
 pub each_sum_small : (all : List Term) → All (IsSmallAt all) all → (row col : ℕ) → AreSmall (linear_entry all row col)
 each_sum_small all h row col = ⊎_elim (λ e. subst AreSmall (sym e) refl) (λ s. s) (sum_at all row col all h)

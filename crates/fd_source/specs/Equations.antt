@@ -9,7 +9,7 @@ use Rattle.fd_system.specs.declared.constants.Constant.{Constant}
 use Rattle.fd_system.specs.Complex.{complex, ◌⊟◌, negative}
 use Rattle.fd_system.specs.Contributions.{complex_terms, concat_below}
 use Rattle.fd_system.specs.Equations.{unknown, Part, both}
-use Rattle.fd_system.specs.System.{StampView}
+use Rattle.fd_system.specs.System.{StampView, stamp_with}
 use Rattle.fd_system.specs.Terminals.{IsSide, branch_of, node_of}
 use Rattle.fd_system.specs.Series.{drop_list, drop_of, three_times}
 use Rattle.fd_source.specs.declared.data.SourceData.{SourceData}
@@ -68,7 +68,7 @@ constants_from row (v ∷ vs) = record { row = row; value = v } ∷ constants_fr
 -- the stamp of constants of the branches' rows and of contributions
 abbrev pub stamp_from : Ends → List ℤ → List Term → StampView
 stamp_from at constants terms =
-    record { constants = constants_from (2 * at.branch) constants; terms = terms; loads = []; draw = 0 }
+    stamp_with (constants_from (2 * at.branch) constants) terms [] 0
 
 -- ---- conditions
 

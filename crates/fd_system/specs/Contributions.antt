@@ -65,6 +65,10 @@ are_small units = nat_le (nat_abs units) (2 ^ 54)
 abbrev pub AreSmall : ℤ → Type 0
 AreSmall units = IsTrue (are_small units)
 
--- a contribution, nearest to a whole number of 2^-40, is at most 2^54 in size
+-- a contribution in units of 2^-40, to the nearest
+abbrev pub term_units : Term → ℤ
+term_units t = near_div (t.num *ℤ pos (2 ^ 40)) (nat_abs t.den)
+
+-- it is within range: those units are at most 2^54 in size
 abbrev pub IsWithin : Term → Type 0
-IsWithin t = AreSmall (near_div (t.num *ℤ pos (2 ^ 40)) (nat_abs t.den))
+IsWithin t = AreSmall (term_units t)

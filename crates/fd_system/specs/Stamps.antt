@@ -1,11 +1,11 @@
 -- Stamps that are kept in vectors, and the room that they have.
 use Rattle.std.specs.Prelude.{◌≡◌, ℕ, ◌≤◌, vec_capacity}
 use Rattle.fd_system.specs.declared.stamps.Stamp.{Stamp}
-use Rattle.fd_system.specs.System.{StampView}
+use Rattle.fd_system.specs.System.{StampView, stamp_with}
 
 -- the lists in order, and what is drawn
 abbrev pub stamp_of : Stamp → StampView
-stamp_of s = record { constants = s.constants.items; terms = s.terms.items; loads = s.loads.items; draw = s.draw }
+stamp_of s = stamp_with s.constants.items s.terms.items s.loads.items s.draw
 
 -- the lists of a stamp have room for so many contributions, part loads and constants
 pub record HasRoom (s : Stamp) (most few some : ℕ) : Type 0 where

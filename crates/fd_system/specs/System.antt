@@ -19,6 +19,10 @@ pub record StampView : Type 0 where
   pub loads : List LoadAt
   pub draw : ℕ
 
+-- the stamp of these lists, and of what is drawn
+abbrev pub stamp_with : List Constant → List Term → List LoadAt → ℕ → StampView
+stamp_with cs ts us draw = record { constants = cs; terms = ts; loads = us; draw = draw }
+
 abbrev pub constant_given : ℕ → Constant → Fraction
 constant_given l c = cond (eqb c.row l) (fraction c.value 1) nothing
 
@@ -36,21 +40,13 @@ residual_of s x l = linear_of s.constants s.terms x l ⊕ equation l (nonlinear_
 
 -- one after the other
 abbrev pub beside : StampView → StampView → StampView
-beside s t = record {
-  constants = s.constants ++ t.constants;
-  terms = s.terms ++ t.terms;
-  loads = s.loads ++ t.loads;
-  draw = s.draw + t.draw;
-}
+beside s t = stamp_with (s.constants ++ t.constants) (s.terms ++ t.terms) (s.loads ++ t.loads) (s.draw + t.draw)
 
 -- of all elements, one after the other
 abbrev pub joined : List StampView → StampView
-joined ss = record {
-  constants = flat_map (λ s. s.constants) ss;
-  terms = flat_map (λ s. s.terms) ss;
-  loads = flat_map (λ s. s.loads) ss;
-  draw = list_n (λ s. s.draw) ss;
-}
+joined ss =
+    stamp_with (flat_map (λ s. s.constants) ss) (flat_map (λ s. s.terms) ss) (flat_map (λ s. s.loads) ss)
+    (list_n (λ s. s.draw) ss)
 
 -- the system has the rows of the equations, at every state
 abbrev pub Represents : StampView → (State → List Part) → Type 0
@@ -58,7 +54,7 @@ Represents s ps = (x : State) → 0 < x.over → (l : ℕ) → Same (residual_of
 
 -- a part load, and those of an element
 abbrev pub load_stamp : LoadAt → StampView
-load_stamp u = record { constants = []; terms = linear_list u; loads = u ∷ []; draw = draw_of u }
+load_stamp u = stamp_with [] (linear_list u) (u ∷ []) (draw_of u)
 
 abbrev pub loads_stamp : List LoadAt → StampView
-loads_stamp us = record { constants = []; terms = flat_map linear_list us; loads = us; draw = list_n draw_of us }
+loads_stamp us = stamp_with [] (flat_map linear_list us) us (list_n draw_of us)
