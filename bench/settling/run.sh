@@ -2,7 +2,7 @@
 # Counts the instructions of the built program, with its start, by callgrind:
 # - on the 13-node feeder with its regulators (examples/thirteen-regulated.dss), beside the sum of its rounds solved alone, with controls
 #   off and the taps of each round given, of which reading the script counts once;
-# - on a hundred regulators, what is spent outside the solves and certificates, records among it, of all that a settle takes.
+# - on a hundred regulators, what is spent outside the solves and certificates, network and records among it, of all that a settle takes.
 # Counts don't change from run to run. Needs `valgrind` and the built program.
 set -eu
 here=$(cd "$(dirname "$0")" && pwd)
@@ -39,12 +39,27 @@ for i in range(100):
     lines.append(f"New RegControl.a{i} transformer=t{i} winding=2 vreg=122 band=2 ptratio=20 ctprim=700 r=3 x=9")
     lines.append(f"New Load.d{i} phases=1 bus1=b{i}.1 kv=2.4 kw=1 kvar=0.5")
 _, out, text = count("hundred", "\n".join(lines + ["Solve"]) + "\n")
-table = subprocess.run(["callgrind_annotate", "--inclusive=yes", "--threshold=100", out], stdout=subprocess.PIPE, text=True, check=True).stdout
 
-def of(function):
-    return max(int(n.replace(",", "")) for n in re.findall(rf"^\s*([\d,]+) .*{re.escape(function)}", table, re.M))
+# What each function spends in each that it calls, by their names as callgrind writes them.
+names, calls, caller, callee, counted = {}, {}, None, None, False
+for line in out.read_text().splitlines():
+    if named := re.match(r"(c?fn)=\((\d+)\)(?: (.*))?$", line):
+        name = names.setdefault(named[2], named[3])
+        caller, callee = (name, callee) if named[1] == "fn" else (caller, name)
+    elif line.startswith("calls="):
+        counted = True
+    elif counted and (cost := re.match(r"[\d+*-]\S* (\d+)$", line)):
+        calls[caller, callee] = calls.get((caller, callee), 0) + int(cost[1])
+        counted = False
 
-settle, solves = of("fd_solving::hours::run_hours"), of("fd_settle::compute::ComputeSolver::solve")
+def spent(of, within=""):
+    found = [cost for (caller, callee), cost in calls.items() if re.match(within, caller) and re.match(of, callee)]
+    assert found, f"the program has no calls of {of}: they are inlined now"
+    return sum(found)
+
+# A settle is all that is done with a command but its reading and applying; its solves clear the memory of matrices.
+settle = spent("fd_solving::solving::StandingLine::take") - spent("fd_solving::step::answer_to")
+solves = spent("fd_(inject|inverse|cert|enclosure|slope|equations)::|.*memset", "fd_(solving|settle)::")
 rounds = len(re.findall(r"^solution,", text, re.M))
-print(f"a hundred regulators, {rounds} rounds: {settle - solves} of {settle} instructions outside solves and certificates, records among them, {(settle - solves) / settle:.2%}")
+print(f"a hundred regulators, {rounds} rounds: {settle - solves} of {settle} instructions outside solves and certificates, network and records among them, {(settle - solves) / settle:.2%}")
 P
