@@ -1,15 +1,16 @@
 // Postfix expressions.
-ghost use Rattle.std.specs.Prelude.{◌≡◌, ◌≤◌, ◌<◌, ◌^◌, ◌*ℤ◌, pos, int_lt, [], None, map, reverse};
+ghost use Rattle.std.specs.Prelude.{◌≡◌, ◌≤◌, ◌^◌, ◌*ℤ◌, pos, int_lt, [], None, map, reverse};
 ghost use Rattle.std.specs.Str.{chars};
 ghost use Rattle.std.specs.Int.RustNames.{unsigned_abs};
 ghost use Rattle.dss_lexer.specs.Answers.{Gives, Makes};
 ghost use Rattle.dss_lexer.specs.Postfix.{operator_of, quotient, exact, operate, reduce, read_by, read_word, sole, value_after, postfix_of};
-ghost use Rattle.fd_exact.specs.Rounding.{near_div, with_sign};
+ghost use Rattle.fd_exact.specs.Rounding.{with_sign};
 
 use crate::arrays::{number_of_word, words};
 use crate::numbers::limited;
 use crate::text::characters_of;
 use crate::{NumberError, NumberFault};
+use fd_exact::near_quotient;
 use std::alloc::Global;
 
 #[derive(Clone, Copy, Debug, PartialEq, Eq)]
@@ -32,21 +33,6 @@ fn operator_for(word: &[char]) -> Option<Operator>
     }
 }
 
-// The quotient, to the nearest whole number.
-fn nearest(number: i128, divisor: u128) -> i128
-    requires number { unsigned_abs number ≤ 2 ^ 126 }
-    requires positive { 0 < divisor }
-    requires divisor { divisor ≤ 2 ^ 64 }
-    ensures { result ≡ near_div number divisor }
-{
-    let size = (2 * number.unsigned_abs() + divisor) / (2 * divisor);
-    if number < 0 {
-        -(size as i128)
-    } else {
-        size as i128
-    }
-}
-
 // The number in units of 10^-18 that the size of `right` divides, for the quotient in units of 10^-9.
 fn dividend(left: i64, right: i64) -> i128
     ensures value { result ≡ with_sign (int_lt right (pos 0)) (left *ℤ pos 1_000_000_000) }
@@ -63,7 +49,7 @@ fn divided(left: i64, right: i64) -> Result<i128, NumberFault>
     if right == 0 {
         return Err(NumberFault::DivideByZero);
     }
-    Ok(nearest(dividend(left, right), u128::from(right.unsigned_abs())))
+    Ok(near_quotient(dividend(left, right), u128::from(right.unsigned_abs())))
 }
 
 fn exact_result(operator: Operator, left: i64, right: i64) -> Result<i128, NumberFault>
@@ -72,7 +58,10 @@ fn exact_result(operator: Operator, left: i64, right: i64) -> Result<i128, Numbe
     match operator {
         Operator::Add => Ok(i128::from(left) + i128::from(right)),
         Operator::Subtract => Ok(i128::from(left) - i128::from(right)),
-        Operator::Multiply => Ok(nearest(i128::from(left) * i128::from(right), 1_000_000_000)),
+        Operator::Multiply => Ok(near_quotient(
+            i128::from(left) * i128::from(right),
+            1_000_000_000,
+        )),
         Operator::Divide => divided(left, right),
     }
 }

@@ -5,6 +5,7 @@ ghost use Rattle.dss_values.specs.Forms.{ones, number_in, is_within, within, num
 
 use crate::{ModelError, ModelFault};
 use dss_lexer::{Pair, number, postfix};
+use fd_exact::near_quotient;
 use std::alloc::Global;
 
 /// The units of a script number in one.
@@ -149,16 +150,14 @@ pub fn supported_of(alloc: Global, pair: &Pair, values: &[u32]) -> Result<u32, M
 }
 
 // The number of units nearest to a number that isn't negative and at most 10^15.
-#[tactic(auto, using(crate::proofs::Halves::near_of_natural))]
-fn nearest(number: i128, unit: u32) -> u64
+fn nearest_count(number: i128, unit: u32) -> u64
     requires low { pos 0 ≤ℤ number }
     requires high { number ≤ℤ pos 1_000_000_000_000_000 }
     requires unit { 1 < unit }
     ensures value { result ≡ nearest_count unit number }
     ensures small { result ≤ 1_000_000_000_000_000 }
 {
-    let unit = u64::from(unit);
-    (2 * number.unsigned_abs() as u64 + unit) / (2 * unit)
+    near_quotient(number, u128::from(unit)).unsigned_abs() as u64
 }
 
 /// Half of a number, to the nearest unit.
@@ -167,7 +166,7 @@ pub fn half_of(number: i128) -> i128
     requires high { number ≤ℤ pos 1_000_000_000_000_000 }
     ensures { result ≡ half number }
 {
-    i128::from(nearest(number, 2))
+    i128::from(nearest_count(number, 2))
 }
 
 /// The tap, in whole 10^-5, of a number from 0.5 to 2.
@@ -176,7 +175,7 @@ pub fn tap_of_number(number: i128) -> u32
     requires high { number ≤ℤ pos 2_000_000_000 }
     ensures { result ≡ tap_of number }
 {
-    nearest(number, 10_000) as u32
+    nearest_count(number, 10_000) as u32
 }
 
 /// A tap from 0.5 to 2, in whole 10^-5.
@@ -194,7 +193,7 @@ pub fn milliseconds(alloc: Global, pair: &Pair) -> Result<u32, ModelError>
     ensures { Gives (λ n. n) result (milliseconds_in pair.now) }
 {
     let number = number_within(alloc, pair, 0, 1_000_000 * ONE)?;
-    Ok(nearest(number, 1_000_000) as u32)
+    Ok(nearest_count(number, 1_000_000) as u32)
 }
 
 /// A ratio from 0 to 100, a multiple of 10^-4.
@@ -203,7 +202,7 @@ pub fn ratio(alloc: Global, pair: &Pair) -> Result<i128, ModelError>
     ensures { Gives (λ n. n) result (ratio_in pair.now) }
 {
     let number = number_within(alloc, pair, 0, 100 * ONE)?;
-    Ok(i128::from(nearest(number, 100_000)) * 100_000)
+    Ok(i128::from(nearest_count(number, 100_000)) * 100_000)
 }
 
 // An angle in degrees.

@@ -7,9 +7,9 @@
 //
 // Modules: `grid` (the units), `limit` (2^120), `interval` and `multiply` (intervals), `fix` (numbers to the nearest),
 // `divide` (quotients, areas, squares and roots), `division` and `quotient` (whole quotients, in units of 2^-40 too),
-// `rounding` (the one body of each rounding of numbers that fit 128 bits), `bounded` (whole numbers), `enclose` and
-// `cx` (what both arithmetics share), `terms` (the words of contributions, terminals and loads), `short_circuit` (the
-// limit of a source's impedance).
+// `rounding` (quotients of numbers that fit 128 bits, beside the one to the nearest, which `fd_exact` has), `bounded`
+// (whole numbers), `enclose` and `cx` (what both arithmetics share), `terms` (the words of contributions, terminals and
+// loads), `short_circuit` (the limit of a source's impedance).
 #![tactic(auto)]
 
 mod bounded;
@@ -30,10 +30,11 @@ mod terms;
 pub use bounded::Wide;
 pub use cx::Cx;
 pub use enclose::Enclose;
+pub use fd_exact::near_quotient;
 pub use fix::Fix;
 pub use grid::{Coef, Grid, Micro, Square, grid_law};
 pub use interval::Interval;
 pub use quotient::{ceil_at, floor_at, isqrt, near_at};
-pub use rounding::{floor_of_product, near_over_coef, near_over_word, near_quotient, near_units};
+pub use rounding::{floor_of_product, near_over_coef, near_over_word, near_units};
 pub use short_circuit::is_source_above_limit;
 pub use terms::{Conn, Ends, LoadModel, NodeAt, Nodes, TapPair, Term, TermFault};

@@ -1,37 +1,8 @@
-// Quotients of whole numbers that fit 128 bits, rounded: one body for each rounding.
-ghost use Rattle.std.specs.Prelude.{◌≡◌, ℕ, ℤ, pos, ◌+◌, ◌*◌, ◌/◌, ◌<◌, ◌≤◌, ◌^◌, ◌*ℤ◌, ◌≤ℤ◌, nat_abs};
+// Quotients of whole numbers that fit 128 bits, by a power of two, of a product and in units of 2^-40.
+ghost use Rattle.std.specs.Prelude.{◌≡◌, ℕ, ℤ, pos, ◌+◌, ◌*◌, ◌/◌, ◌<◌, ◌≤◌, ◌^◌, ◌*ℤ◌, nat_abs};
 ghost use Rattle.fd_exact.specs.Rounding.{floor_div, near_div};
 
 use crate::quotient::near_at;
-
-/// n over the divisor to the nearest whole number, a tie away from zero.
-#[inline]
-pub fn near_quotient(n: i128, divisor: u128) -> i128
-    requires positive { 0 < divisor }
-    requires divisor_fits { divisor ≤ 2 ^ 120 }
-    requires size_fits { nat_abs n ≤ 2 ^ 126 }
-    ensures value { result ≡ near_div n divisor }
-    ensures most { (q : ℕ) → nat_abs n ≤ q * divisor → nat_abs result ≤ q }
-    ensures least { (q : ℕ) → q * divisor ≤ nat_abs n → q ≤ nat_abs result }
-    ensures sign { pos 0 ≤ℤ n → pos 0 ≤ℤ result }
-{
-    let size = near_size(n.unsigned_abs(), divisor);
-    if n < 0 { -(size as i128) } else { size as i128 }
-}
-
-// The same of a natural.
-#[inline]
-fn near_size(n: u128, divisor: u128) -> u128
-    requires positive { 0 < divisor }
-    requires divisor_fits { divisor ≤ 2 ^ 120 }
-    requires size_fits { n ≤ 2 ^ 126 }
-    ensures value { result ≡ (2 * n + divisor) / (2 * divisor) }
-    ensures most { (q : ℕ) → n ≤ q * divisor → result ≤ q }
-    ensures least { (q : ℕ) → q * divisor ≤ n → q ≤ result }
-    ensures fits { result ≤ n }
-{
-    (2 * n + divisor) / (2 * divisor)
-}
 
 /// z / 2^40 to the nearest whole number, a tie away from zero: the half that is added is one less below 0.
 #[inline]

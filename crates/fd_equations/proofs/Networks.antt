@@ -197,8 +197,6 @@ module _ (v : NetworkView) (x linear rows : List ℤ) (e : linear ≡ linear_res
       sum : (a b : ℤ) → nat_abs a ≤ 2 ^ 85 → nat_abs b ≤ 2 ^ 85 → nat_abs (a +ℤ b) ≤ 2 ^ 86
       sum a b h k = omega (arith, ints)
 
--- ---- matrices
-
 -- ---- weights
 
 part_small : (x : List ℤ) (i : ℕ) → All IsPart x → nat_abs (part x i) ≤ 2 ^ 40

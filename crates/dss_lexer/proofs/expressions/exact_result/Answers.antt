@@ -12,11 +12,11 @@ overflow_add-result c = omega (arith, ints)
 pub overflow_sub-result : goal.overflow_sub-result
 overflow_sub-result c = omega (arith, ints)
 
-pub nearest-requires-clause-positive : goal.nearest-requires-clause-positive
-nearest-requires-clause-positive c = omega arith
+pub near_quotient-requires-clause-positive : goal.near_quotient-requires-clause-positive
+near_quotient-requires-clause-positive c = omega arith
 
-pub nearest-requires-clause-divisor : goal.nearest-requires-clause-divisor
-nearest-requires-clause-divisor c = omega arith
+pub near_quotient-requires-clause-divisor_fits : goal.near_quotient-requires-clause-divisor_fits
+near_quotient-requires-clause-divisor_fits c = omega arith
 
 pub returns-in-Add : goal.returns-in-Add
 returns-in-Add c = rw c.in-Add.is (ap Ok (omega (arith, ints)))
@@ -36,15 +36,15 @@ overflow_mul-from c =
     product_fits (to_z w128 (of_z w128 c.from-in-Multiply.result)) (to_z w128 (of_z w128 c.from-in-Multiply-2.result))
     c.args.left c.args.right (omega (arith, ints)) (omega (arith, ints)) c.ranges.left c.ranges.right
 
-pub nearest-requires-clause-number : goal.nearest-requires-clause-number
-nearest-requires-clause-number c =
+pub near_quotient-requires-clause-size_fits : goal.near_quotient-requires-clause-size_fits
+near_quotient-requires-clause-size_fits c =
     product_kept_size (to_z w128 (of_z w128 c.from-in-Multiply.result))
     (to_z w128 (of_z w128 c.from-in-Multiply-2.result)) c.args.left c.args.right (omega (arith, ints))
     (omega (arith, ints)) c.ranges.left c.ranges.right
 
 pub returns-in-Multiply : goal.returns-in-Multiply
 returns-in-Multiply c =
-    rw c.in-Multiply.is (ap Ok (omega (arith, ints) ∙ c.nearest.ensures
+    rw c.in-Multiply.is (ap Ok (omega (arith, ints) ∙ c.near_quotient.ensures.value
     ∙ ap (λ z. near_div z 1_000_000_000) (product_kept (to_z w128 (of_z w128 c.from-in-Multiply.result))
     (to_z w128 (of_z w128 c.from-in-Multiply-2.result)) c.args.left c.args.right (omega (arith, ints))
     (omega (arith, ints)) c.ranges.left c.ranges.right)))

@@ -1,5 +1,5 @@
 use Rattle.fd_exact.specs.Nearest.{near_fits, near_least, near_most}
-use Rattle.fd_arith.proofs.rounding.near_size.Goals as goal
+use Rattle.fd_exact.proofs.rounding.near_size.Goals as goal
 
 pub returns-clause-most : goal.returns-clause-most
 returns-clause-most c = λ q h. near_most c.args.n c.args.divisor q c.requires.positive h
