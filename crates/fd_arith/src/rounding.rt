@@ -1,22 +1,17 @@
 // Quotients of whole numbers that fit 128 bits, by a power of two, of a product and in units of 2^-40.
-ghost use Rattle.std.specs.Prelude.{◌≡◌, ℕ, ℤ, pos, ◌+◌, ◌*◌, ◌/◌, ◌<◌, ◌≤◌, ◌^◌, ◌*ℤ◌, nat_abs};
+ghost use Rattle.std.specs.Prelude.{◌≡◌, ℕ, ℤ, pos, ◌+◌, ◌*◌, ◌/◌, ◌-◌, ◌<◌, ◌≤◌, ◌^◌, ◌*ℤ◌, ◌-ℤ◌, ◌<ℤ◌, ◌≤ℤ◌, nat_abs};
 ghost use Rattle.fd_exact.specs.Rounding.{floor_div, near_div};
 
 use crate::quotient::near_at;
 
-/// z / 2^40 to the nearest whole number, a tie away from zero: the half that is added is one less below 0.
+/// z / 2^40 to the nearest whole number, a tie away from zero.
 #[inline]
 pub fn near_over_coef(z: i128) -> i128
     requires { nat_abs z ≤ 2 ^ 126 }
     ensures value { result ≡ near_div z (2 ^ 40) }
     ensures size { nat_abs result ≡ (nat_abs z + 2 ^ 39) / 2 ^ 40 }
 {
-    let half = if z < 0 {
-        0x7f_ffff_ffff
-    } else {
-        0x80_0000_0000
-    };
-    (z + half) >> 40
+    near_over_power(z, 40)
 }
 
 /// z / 2^64 to the nearest whole number, a tie away from zero: the upper half of the 128 bits, once half of 2^64 was
@@ -27,12 +22,44 @@ pub fn near_over_word(z: i128) -> i128
     ensures value { result ≡ near_div z (2 ^ 64) }
     ensures size { nat_abs result ≡ (nat_abs z + 2 ^ 63) / 2 ^ 64 }
 {
-    let half = if z < 0 {
-        0x7fff_ffff_ffff_ffff
+    near_over_power(z, 64)
+}
+
+// The same over a power of two.
+#[inline]
+fn near_over_power(z: i128, bits: u32) -> i128
+    requires positive { 0 < bits }
+    requires most { bits ≤ 64 }
+    requires fits { nat_abs z ≤ 2 ^ 126 }
+    ensures value { result ≡ near_div z (2 ^ bits) }
+    ensures size { nat_abs result ≡ (nat_abs z + 2 ^ (bits - 1)) / 2 ^ bits }
+{
+    (z + half_for(z, bits - 1)) >> bits
+}
+
+// The half that is added: one less below 0.
+#[inline]
+fn half_for(z: i128, bits: u32) -> i128
+    requires { bits < 64 }
+    ensures below { z <ℤ pos 0 → result ≡ (pos (2 ^ bits) -ℤ pos 1) }
+    ensures above { pos 0 ≤ℤ z → result ≡ pos (2 ^ bits) }
+    ensures most { nat_abs result ≤ 2 ^ 63 }
+{
+    if z < 0 {
+        power_of_two(bits) - 1
     } else {
-        0x8000_0000_0000_0000
-    };
-    (z + half) >> 64
+        power_of_two(bits)
+    }
+}
+
+#[inline]
+fn power_of_two(bits: u32) -> i128
+    requires { bits < 64 }
+    ensures value { result ≡ pos (2 ^ bits) }
+    ensures most { nat_abs result ≤ 2 ^ 63 }
+    ensures least { pos 0 ≤ℤ result }
+{
+    1 << bits
 }
 
 /// n times the factor over the divisor, rounded down.

@@ -6,17 +6,13 @@ ghost use Rattle.fd_bases.specs.declared.nominal.Nominal.TheVariants.{Whole, Ove
 ghost use Rattle.fd_bases.specs.Nearest.{distance, IsBefore, nearest};
 
 use crate::nominal::Nominal;
-
-// 1 and root three in 10^-15
-const FEMTO_PER_ONE: i128 = 1_000_000_000_000_000;
-
-const ROOT_THREE: i128 = 1_732_050_807_568_877;
+use fd_exact::{FEMTO_PER_ONE, ROOT_THREE};
 
 fn distance_to_whole(kv: i64, base: i128) -> u128
     requires { IsBetween (pos 1_000_000) (ones 1000) base }
     ensures { result ≡ distance (Whole kv) base }
 {
-    (base * FEMTO_PER_ONE - i128::from(kv) * ROOT_THREE).unsigned_abs()
+    (base * FEMTO_PER_ONE - i128::from(kv) * ROOT_THREE as i128).unsigned_abs()
 }
 
 fn distance_to_part(kv: i64, base: i128) -> u128

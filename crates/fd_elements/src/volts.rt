@@ -4,9 +4,7 @@ ghost use Rattle.fd_exact.specs.Ranges.{UpTo};
 ghost use Rattle.fd_elements.specs.Volts.{part_of as volts_part, part_over_root_three as volts_part_over_root_three};
 
 use fd_arith::near_quotient;
-
-// root three, in 10^-15
-const ROOT_THREE: u128 = 1_732_050_807_568_877;
+use fd_exact::ROOT_THREE;
 
 /// A part, in 10^-9, of a voltage.
 pub fn part_of(part: i128, volts: i128) -> i128

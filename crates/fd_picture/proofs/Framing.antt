@@ -15,7 +15,8 @@ use Rattle.fd_picture.specs.Pages.{grid_of, most_nodes, page_width, panel_left, 
 use Rattle.fd_picture.specs.Panels.{frame_width}
 use Rattle.fd_picture.specs.Scales.{axis_of, place, scale_of, widened, widened_by}
 use Rattle.fd_picture.specs.Strips.{drawn}
-use Rattle.fd_picture.specs.Units.{is_per_unit, femto_root_three, micro_base, per_unit_at, per_unit_by, per_unit_span, span_in_range, span_of, volts_span}
+use Rattle.fd_exact.specs.RootThree.{root_three}
+use Rattle.fd_picture.specs.Units.{is_per_unit, micro_base, per_unit_at, per_unit_by, per_unit_span, span_in_range, span_of, volts_span}
 use Rattle.fd_picture.specs.declared.page.Grid.{Grid}
 use Rattle.fd_picture.specs.declared.report.Base.{Base}
 use Rattle.fd_picture.specs.declared.report.Node.{Node}
@@ -50,10 +51,10 @@ per_unit_ordered base node h = cases (micro_base base == 0) refl
     cases : (b : Bool) → (micro_base base == 0) ≡ b → IsOrdered (per_unit_span base node)
     cases true e = rw e tt
     cases false e =
-        let product : node.low * femto_root_three ≤ node.high * femto_root_three = mul-le-mul_right femto_root_three h in
-        let rounded : node.low * femto_root_three ≤ node.high * femto_root_three + (micro_base base - 1) = omega (arith, product) in
-        let low = node.low * femto_root_three / micro_base base in
-        let high = (node.high * femto_root_three + (micro_base base - 1)) / micro_base base in
+        let product : node.low * root_three ≤ node.high * root_three = mul-le-mul_right root_three h in
+        let rounded : node.low * root_three ≤ node.high * root_three + (micro_base base - 1) = omega (arith, product) in
+        let low = node.low * root_three / micro_base base in
+        let high = (node.high * root_three + (micro_base base - 1)) / micro_base base in
         rw e (range_ordered low high (div_grows _ _ (micro_base base) (base_positive base e) rounded))
 
 by_ordered : (base : Option ℕ) (node : Node) → node.low ≤ node.high → IsOrdered (per_unit_by base node)

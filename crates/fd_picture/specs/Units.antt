@@ -1,18 +1,15 @@
 -- The voltages of nodes, in the unit of their page.
 use Rattle.std.specs.Prelude.{ℕ, ◌+◌, ◌-◌, ◌*◌, ◌/◌, ◌^◌, ◌==◌, ◌&&◌, nat_lt, Bool, List, Option, Some, None, is_some, unwrap_or, if◌then◌else◌}
 use Rattle.std.specs.List.{list_all}
+use Rattle.fd_exact.specs.RootThree.{root_three}
 use Rattle.fd_picture.specs.Bases.{base_of}
 use Rattle.fd_picture.specs.declared.report.Base.{Base}
 use Rattle.fd_picture.specs.declared.report.Node.{Node}
 use Rattle.fd_picture.specs.declared.report.Panel.{Panel}
 use Rattle.fd_picture.specs.declared.units.Span.{Span}
 
--- root three, in units of 10^-15
-abbrev pub femto_root_three : ℕ
-femto_root_three = 1_732_050_807_568_877
-
 -- a base of so many 10^-6 kV is between phases, and one per unit to ground is that over root three. So v microvolts are
--- v root three 10^3 / base millionths: v femto_root_three over this
+-- v root three 10^3 / base millionths: v root_three over this
 abbrev pub micro_base : ℕ → ℕ
 micro_base base = base * 1_000_000_000_000
 
@@ -23,7 +20,7 @@ span_in_range low high = if nat_lt low (2 ^ 64) && nat_lt high (2 ^ 64) then Som
 unfoldable pub per_unit_span : ℕ → Node → Option Span
 per_unit_span base node =
     if micro_base base == 0 then None
-    else span_in_range (node.low * femto_root_three / micro_base base) ((node.high * femto_root_three + (micro_base base - 1)) / micro_base base)
+    else span_in_range (node.low * root_three / micro_base base) ((node.high * root_three + (micro_base base - 1)) / micro_base base)
 
 abbrev pub per_unit_by : Option ℕ → Node → Option Span
 per_unit_by None node = None

@@ -1,10 +1,12 @@
 // The voltages of nodes, in the unit of their page.
 ghost use Rattle.std.specs.Prelude.{◌≡◌, ◌<◌, ◌^◌, ◌*◌, IfOk};
+ghost use Rattle.fd_exact.specs.RootThree.{root_three};
 ghost use Rattle.fd_picture.specs.Bases.{base_of};
-ghost use Rattle.fd_picture.specs.Units.{femto_root_three, have_bases, is_per_unit, micro_base, per_unit_at, per_unit_span, span_in_range, span_of};
+ghost use Rattle.fd_picture.specs.Units.{have_bases, is_per_unit, micro_base, per_unit_at, per_unit_span, span_in_range, span_of};
 
 use crate::report::{Base, Node};
 use crate::strips::Strip;
+use fd_exact::ROOT_THREE;
 use std::alloc::{AllocError, Global};
 use std::collections::HashMap;
 use std::marker::Model;
@@ -55,9 +57,6 @@ pub struct Span {
     pub high: u64,
 }
 
-// Root three, in units of 10^-15.
-const FEMTO_ROOT_THREE: u128 = 1_732_050_807_568_877;
-
 // A millionth of a base, in microvolts times root three and in units of 10^-15.
 fn micro_base(base: u64) -> u128
     ensures value { result ≡ micro_base base }
@@ -68,10 +67,10 @@ fn micro_base(base: u64) -> u128
 
 // So many, times root three in units of 10^-15.
 fn by_root_three(value: u64) -> u128
-    ensures value { result ≡ value * femto_root_three }
+    ensures value { result ≡ value * root_three }
     ensures most { result < 2 ^ 115 }
 {
-    u128::from(value) * FEMTO_ROOT_THREE
+    u128::from(value) * ROOT_THREE
 }
 
 fn span_in_range(low: u128, high: u128) -> Option<Span>

@@ -7,10 +7,9 @@ ghost use Rattle.fd_source.specs.Equations.{IsSource};
 
 use crate::data::SourceData;
 use fd_arith::near_quotient;
+use fd_exact::FEMTO_PER_ONE;
 
-// a cosine of 1, of the half of root three and of one half, in 10^-15
-const ONE: i128 = 1_000_000_000_000_000;
-
+// a cosine of the half of root three and of one half, in 10^-15
 const HALF_ROOT_THREE: i128 = 866_025_403_784_439;
 
 const HALF: i128 = 500_000_000_000_000;
@@ -44,7 +43,7 @@ fn component(volts: i128, steps: u32) -> i128
     requires volts { UpTo (2 * 10 ^ 12) volts }
     ensures { result ≡ near_div (volts *ℤ cosine_at steps) (10 ^ 15) }
 {
-    near_quotient(volts * cosine(steps), ONE as u128)
+    near_quotient(volts * cosine(steps), FEMTO_PER_ONE as u128)
 }
 
 // The cosine of this many steps of 30 degrees, in 10^-15.
@@ -53,12 +52,12 @@ fn cosine(steps: u32) -> i128
     ensures most { nat_abs result ≤ 10 ^ 15 }
 {
     match steps % 12 {
-        0 => ONE,
+        0 => FEMTO_PER_ONE,
         1 | 11 => HALF_ROOT_THREE,
         2 | 10 => HALF,
         4 | 8 => -HALF,
         5 | 7 => -HALF_ROOT_THREE,
-        6 => -ONE,
+        6 => -FEMTO_PER_ONE,
         _ => 0,
     }
 }

@@ -2,9 +2,10 @@
 use Rattle.std.proofs.Common.{ℕ, ◌+◌, ◌*◌, ◌/◌, ◌≤◌, ◌^◌, ℤ, pos, negsuc, Bool, true, false, cond, eqb, arith}
 use Rattle.std.proofs.lemmas.Int.{ints}
 use Rattle.fd_exact.specs.Ranges.{Between}
+use Rattle.fd_exact.specs.RootThree.{root_three}
 use Rattle.fd_arith.specs.declared.terms.Conn.{Conn}
 use Rattle.fd_arith.specs.declared.terms.Conn.TheVariants.{Wye, Delta}
-use Rattle.fd_system.specs.Terminals.{phase_volts, root_three, three_phase_volts}
+use Rattle.fd_system.specs.Terminals.{phase_volts, three_phase_volts}
 
 wye_least : (m : ℕ) → 10 ^ 7 ≤ m → 5773000 ≤ (2 * (m * 10 ^ 15) + root_three) / (2 * root_three)
 wye_least m h = omega arith

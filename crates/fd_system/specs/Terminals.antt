@@ -1,6 +1,7 @@
 -- The terminals of elements: the node and the branch of each phase, the two nodes that a phase joins, and its nominal voltage.
 use Rattle.std.specs.Prelude.{ℕ, ◌+◌, ◌%◌, ◌^◌, ◌≡◌, ℤ, pos, ◌*ℤ◌, List, length, get_or, cond, eqb, All}
 use Rattle.fd_exact.specs.Rounding.{near_div}
+use Rattle.fd_exact.specs.RootThree.{root_three}
 use Rattle.fd_arith.specs.declared.terms.NodeAt.{NodeAt}
 use Rattle.fd_arith.specs.declared.terms.NodeAt.TheVariants.{Ground, Node}
 use Rattle.fd_arith.specs.declared.terms.Conn.{Conn}
@@ -55,10 +56,6 @@ abbrev pub pairs_of : ℕ → Conn → PhasePairs
 pairs_of phases conn = cond (eqb phases 1) pairs.OnePhase (three_phase_pairs conn)
 
 -- ---- nominal voltages
-
--- root three in 10^-15
-abbrev pub root_three : ℕ
-root_three = 1732050807568877
 
 -- a voltage between two of three phases as that of a phase, to the nearest microvolt
 abbrev pub over_root_three : ℤ → ℤ

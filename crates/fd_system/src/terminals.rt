@@ -5,6 +5,7 @@ ghost use Rattle.fd_system.specs.Contributions.{IsSmall};
 ghost use Rattle.fd_system.specs.Terminals.{IsSide, node_count, node_of, pair_of, pairs_of, phase_count, phase_volts as nominal, three_phase_pairs as three_phase, three_phase_volts as three_phase_nominal};
 
 use fd_arith::{Conn, NodeAt, Nodes, near_quotient};
+use fd_exact::{FEMTO_PER_ONE, ROOT_THREE};
 
 /// How the phases of a terminal join its nodes.
 #[derive(Clone, Copy, PartialEq, Eq, Debug)]
@@ -75,11 +76,6 @@ fn three_phase_pairs(conn: Conn) -> PhasePairs
         Conn::Delta => PhasePairs::DeltaNext,
     }
 }
-
-// 1 and root three in 10^-15
-const FEMTO_PER_ONE: i128 = 1_000_000_000_000_000;
-
-const ROOT_THREE: u128 = 1_732_050_807_568_877;
 
 /// The nominal voltage of a phase of a winding, a capacitor or a load in microvolts, of its kV in whole 10^-9, 0.01 to 1000 kilovolt
 /// (OpenDSS manual, kV): the kV over root three, to the nearest microvolt, for three phases in wye, else the kV itself.
