@@ -51,7 +51,7 @@ fn insert_element(
     ensures few { OnOk result (length elements.new.entries ≤ length elements.old.entries + 1) }
     ensures as_before { IfErr result (λ _. elements.new.entries ≡ elements.old.entries) }
 {
-    elements.insert(name, element)?;
+    drop(elements.insert(name, element)?);
     Ok(())
 }
 
@@ -116,9 +116,13 @@ fn put_element(
     ensures well_formed { AreWellFormed elements.new.entries }
 {
     let mut draft = element;
-    set_pairs(alloc, solves, elements, name.class, &mut draft, pairs)?;
-    insert_element(elements, name, draft)?;
-    Ok(())
+    match set_pairs(alloc, solves, elements, name.class, &mut draft, pairs) {
+        Ok(()) => Ok(insert_element(elements, name, draft)?),
+        Err(error) => {
+            drop(draft);
+            Err(error)
+        }
+    }
 }
 
 /// A new element with its defaults and these pairs.

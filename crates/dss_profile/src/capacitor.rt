@@ -37,7 +37,7 @@ pub struct Capacitor {
 }
 
 /// A property of a Capacitor.
-#[derive(Clone, Copy, Debug, PartialEq, Eq)]
+#[derive(Clone, Copy)]
 pub enum CapacitorProperty {
     Bus1,
     Bus2,

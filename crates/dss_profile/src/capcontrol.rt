@@ -46,7 +46,7 @@ pub struct CapControl {
 }
 
 /// A property of a CapControl.
-#[derive(Clone, Copy, Debug, PartialEq, Eq)]
+#[derive(Clone, Copy)]
 pub enum CapControlProperty {
     Element,
     Terminal,

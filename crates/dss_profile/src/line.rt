@@ -39,7 +39,7 @@ pub struct Line {
 }
 
 /// A property of a Line.
-#[derive(Clone, Copy, Debug, PartialEq, Eq)]
+#[derive(Clone, Copy)]
 pub enum LineProperty {
     Bus1,
     Bus2,

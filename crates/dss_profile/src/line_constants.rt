@@ -32,7 +32,7 @@ pub struct LineConstants {
 }
 
 /// A property of the impedance or the charging of lines, for each unit of length.
-#[derive(Clone, Copy, Debug, PartialEq, Eq)]
+#[derive(Clone, Copy)]
 pub enum DataProperty {
     Rmatrix,
     Xmatrix,

@@ -25,7 +25,7 @@ pub struct Linecode {
 }
 
 /// A property of a Linecode.
-#[derive(Clone, Copy, Debug, PartialEq, Eq)]
+#[derive(Clone, Copy)]
 pub enum LinecodeProperty {
     Nphases,
     /// A property of the impedance or the charging.

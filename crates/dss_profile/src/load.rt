@@ -45,7 +45,7 @@ pub struct Load {
 }
 
 /// A property of a Load.
-#[derive(Clone, Copy, Debug, PartialEq, Eq)]
+#[derive(Clone, Copy)]
 pub enum LoadProperty {
     Bus1,
     Phases,

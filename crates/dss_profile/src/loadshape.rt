@@ -27,7 +27,7 @@ pub struct Loadshape {
 }
 
 /// A property of a Loadshape.
-#[derive(Clone, Copy, Debug, PartialEq, Eq)]
+#[derive(Clone, Copy)]
 pub enum LoadshapeProperty {
     Npts,
     Interval,

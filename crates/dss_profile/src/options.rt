@@ -34,7 +34,7 @@ pub struct Options {
 }
 
 /// An option.
-#[derive(Clone, Copy, Debug, PartialEq, Eq)]
+#[derive(Clone, Copy)]
 pub enum OptionName {
     Mode,
     Number,

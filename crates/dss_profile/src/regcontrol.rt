@@ -43,7 +43,7 @@ pub struct RegControl {
 }
 
 /// A property of a RegControl.
-#[derive(Clone, Copy, Debug, PartialEq, Eq)]
+#[derive(Clone, Copy)]
 pub enum RegControlProperty {
     Transformer,
     Winding,

@@ -66,7 +66,7 @@ pub struct Transformer {
 }
 
 /// A property of one winding of a Transformer.
-#[derive(Clone, Copy, Debug, PartialEq, Eq)]
+#[derive(Clone, Copy)]
 pub enum WindingProperty {
     Bus,
     Conn,
@@ -79,7 +79,7 @@ pub enum WindingProperty {
 }
 
 /// A property that gives one value for each winding of a Transformer.
-#[derive(Clone, Copy, Debug, PartialEq, Eq)]
+#[derive(Clone, Copy)]
 pub enum BothProperty {
     Buses,
     Conns,
@@ -90,7 +90,7 @@ pub enum BothProperty {
 }
 
 /// A property of a Transformer.
-#[derive(Clone, Copy, Debug, PartialEq, Eq)]
+#[derive(Clone, Copy)]
 pub enum TransformerProperty {
     Phases,
     Windings,

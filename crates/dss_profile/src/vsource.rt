@@ -46,7 +46,7 @@ pub struct Vsource {
 }
 
 /// A property of a Vsource.
-#[derive(Clone, Copy, Debug, PartialEq, Eq)]
+#[derive(Clone, Copy)]
 pub enum VsourceProperty {
     Bus1,
     Phases,

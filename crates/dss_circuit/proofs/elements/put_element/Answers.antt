@@ -6,15 +6,15 @@ use Rattle.dss_circuit.proofs.Entries.{OfValue, of_inserted}
 use Rattle.dss_circuit.proofs.WellFormed.{pairs_keep_class, pairs_keep_names, well_formed_kept}
 use Rattle.dss_circuit.proofs.elements.put_element.Goals as goal
 
-pub returns-clause-in_range : goal.returns-clause-in_range
-returns-clause-in_range c =
-    All-same (OfValue ElementInRange) _ _ c.in_ok-insert_element.ensures.inserted (of_inserted ElementInRange _
-    c.args.elements.now.entries _ _ c.requires.in_range c.in_ok-set_pairs.ensures.in_range)
+pub returns-in_ok-insert_element-in-Ok-clause-in_range : goal.returns-in_ok-insert_element-in-Ok-clause-in_range
+returns-in_ok-insert_element-in-Ok-clause-in_range c =
+    All-same (OfValue ElementInRange) _ _ c.in_ok-insert_element-in-Ok.ensures.inserted (of_inserted ElementInRange _
+    c.args.elements.now.entries _ _ c.requires.in_range c.in-Ok.ensures.in_range)
 
-pub returns-clause-well_formed : goal.returns-clause-well_formed
-returns-clause-well_formed c =
-    let class = c.requires.class ∙ sym (pairs_keep_class _ _ _ _ _ _ c.in_ok-set_pairs.ensures.set) in
-    let named = pairs_keep_names _ _ _ _ _ _ c.requires.class c.in_ok-set_pairs.ensures.set c.requires.named in
-    subst AreWellFormed (sym c.in_ok-insert_element.ensures.inserted)
+pub returns-in_ok-insert_element-in-Ok-clause-well_formed : goal.returns-in_ok-insert_element-in-Ok-clause-well_formed
+returns-in_ok-insert_element-in-Ok-clause-well_formed c =
+    let class = c.requires.class ∙ sym (pairs_keep_class _ _ _ _ _ _ c.in-Ok.ensures.set) in
+    let named = pairs_keep_names _ _ _ _ _ _ c.requires.class c.in-Ok.ensures.set c.requires.named in
+    subst AreWellFormed (sym c.in_ok-insert_element-in-Ok.ensures.inserted)
     (well_formed_kept _ _ c.args.elements.now.entries c.requires.key class c.requires.source named
     c.requires.well_formed)
