@@ -5,3 +5,5 @@ pub mod Stacks
 pub mod SameText
 pub mod CallerLemmas
 pub mod AsciiNumbers
+mod Scaled
+mod PartWords

@@ -84,8 +84,8 @@ fn push_word<'a>(words: &mut Vec<&'a [char]>, part: &'a [char]) -> Result<(), Al
 pub fn words(alloc: Global, text: &[char]) -> Result<Vec<&[char]>, AllocError>
     ensures { IfOk result (λ v. map (λ word. word.now) v.items ≡ words_of text.now) }
 {
-    let mut words = Vec::new(alloc);
     let parts = parts_of(alloc, text)?;
+    let mut words = Vec::new(alloc);
     for part in &parts {
         push_word(&mut words, part)?;
     }

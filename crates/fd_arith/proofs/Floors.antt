@@ -22,9 +22,6 @@ negative_floor n s f d h e k = ap (λ t. neg_ℤ (pos (ceil_nat (t * f) d))) e �
 pub minus : (q : ℕ) → q ≤ 2 ^ 126 → cast_signed w128 (cast_unsigned w128 (pos 0 -ℤ cast_signed w128 q)) ≡ neg_ℤ (pos q)
 minus q h = omega (arith, ints)
 
-pub minus_size : (q : ℕ) → nat_abs (neg_ℤ (pos q)) ≡ q
-minus_size q = omega (arith, ints)
-
 pub down_least : (a d q : ℕ) → 0 < d → a ≤ q * d → a / d ≤ q
 down_least a d q h k = let below : a / d < q + 1 = (div-lt_iff_lt-mul h).1 (omega arith) in omega arith
 

@@ -1,3 +1,5 @@
 mod Floors
 mod Halves
 mod Above
+mod SignedEnds
+mod SignedUnits

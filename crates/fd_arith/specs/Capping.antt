@@ -1,6 +1,7 @@
 -- Bounds that may pass the limit.
 use Rattle.std.proofs.Common.{◌≡◌, ℕ, zero, suc, ℤ, pos, negsuc, neg_ℤ, ◌*ℤ◌, ◌≤ℤ◌, ◌+◌, ◌*◌, ◌/◌, ◌%◌, min, ◌≤◌, ◌<◌, ◌^◌, Some, None, Bool, true, false, cond, arith, refl, ap, sym, ◌∙◌, ◌&&◌}
 use Rattle.std.proofs.Math.Nat.{le-div_iff_mul-le}
+use Rattle.std.proofs.lemmas.Bool.{and_from}
 use Rattle.std.proofs.lemmas.Int.{ints}
 use Rattle.fd_exact.specs.Rounding.{floor_div, ceil_div, signed}
 use Rattle.fd_arith.specs.Limits.{Fits, fits, bounded}
@@ -30,9 +31,6 @@ both false c e = (e, absurd (false_is_not e))
     false_is_not : false ≡ true → ⊥
     false_is_not e = cc
 
-pub and-true : (b c : Bool) → b ≡ true → c ≡ true → (b && c) ≡ true
-and-true b c p q = (λ i. p i && q i)
-
 pub not-fits : (z : ℤ) → ¬ (Fits z) → fits z ≡ false
 not-fits z f = elim (fits z) as (λ b. fits z ≡ b → fits z ≡ false) [ true ↦ λ e. absurd (f (fits-true z e)) | false ↦ λ e. e ] refl
 
@@ -41,7 +39,7 @@ kept lo hi t = cond t (Some (lo, hi)) None
 
 pub capped-within : (lo hi : ℤ) → Fits lo → Fits hi → capped lo hi ≡ Some (lo, hi)
 unfolding capped
-capped-within lo hi p q = ap (kept lo hi) (and-true _ _ (true-fits lo p) (true-fits hi q))
+capped-within lo hi p q = ap (kept lo hi) (and_from _ _ (true-fits lo p) (true-fits hi q))
 
 pub capped-past : (lo hi : ℤ) → ¬ (Fits lo × Fits hi) → capped lo hi ≡ None
 unfolding capped

@@ -3,6 +3,7 @@ use Rattle.std.proofs.Common.{◌≡◌, ℕ, ℤ, pos, negsuc, neg_ℤ, ◌*ℤ
 use Rattle.std.specs.Prelude.{int_le}
 use Rattle.std.specs.Int.{int_min, int_max, w128}
 use Rattle.std.specs.Int.RustNames.{FitsSigned}
+use Rattle.std.proofs.lemmas.Bool.{and_from}
 use Rattle.std.proofs.lemmas.Int.{ints, clamps}
 use Rattle.fd_exact.specs.Fractions.{Fraction, ◌⊗◌}
 use Rattle.fd_exact.specs.Rounding.{floor_div, ceil_div}
@@ -13,7 +14,7 @@ use Rattle.fd_arith.specs.Limits.{Fits, fits}
 use Rattle.fd_arith.specs.Interval.{Bounds, Between, Holds, HoldsCoef, capped, hull_of, least, greatest, rounded, product, area_of, least_square, square_of}
 use Rattle.fd_arith.specs.Laws.{IsProduct, IsArea, IsSquare}
 use Rattle.fd_arith.specs.Enclosing.{capped-holds, rescaled}
-use Rattle.fd_arith.specs.Capping.{fits-true, true-fits, same_bool, both, and-true, capped-within, capped-past}
+use Rattle.fd_arith.specs.Capping.{fits-true, true-fits, same_bool, both, capped-within, capped-past}
 
 -- the hull of ends that may have passed the limit
 in_both : (l h m k : ℤ) → l ≤ℤ h → m ≤ℤ k
@@ -23,11 +24,11 @@ in_both l h m k p q =
     let w = both (fits (int_min l m)) (fits (int_max h k)) e in
     let v = fits-true (int_min l m) w.0 in
     let u = fits-true (int_max h k) w.1 in
-    and-true _ _ (and-true _ _ (true-fits l (omega (arith, ints, clamps))) (true-fits h (omega (
+    and_from _ _ (and_from _ _ (true-fits l (omega (arith, ints, clamps))) (true-fits h (omega (
       arith,
       ints,
       clamps,
-    )))) (and-true _ _ (true-fits m (omega (arith, ints, clamps))) (true-fits k (omega (arith, ints, clamps))))) (λ e.
+    )))) (and_from _ _ (true-fits m (omega (arith, ints, clamps))) (true-fits k (omega (arith, ints, clamps))))) (λ e.
     let w = both (fits l && fits h) (fits m && fits k) e in
     let v = both (fits l) (fits h) w.0 in
     let u = both (fits m) (fits k) w.1 in
@@ -35,7 +36,7 @@ in_both l h m k p q =
     let fh = fits-true h v.1 in
     let fm = fits-true m u.0 in
     let fk = fits-true k u.1 in
-    and-true _ _ (true-fits (int_min l m) (omega (arith, ints, clamps)))
+    and_from _ _ (true-fits (int_min l m) (omega (arith, ints, clamps)))
     (true-fits (int_max h k) (omega (arith, ints, clamps))))
 
 merge : (t u : Bool) (l h m k : ℤ)

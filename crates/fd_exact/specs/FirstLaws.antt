@@ -1,6 +1,7 @@
 -- Laws of the first number and of the first element of which a test holds.
 use Rattle.std.proofs.Common.{◌≡◌, ℕ, zero, suc, ◌<◌, Bool, true, false, cond, Option, Some, None, is_some, option_map, List, [], ◌∷◌, length, take, drop, All, arith, refl, ap, sym, ◌∙◌, ◌⊎◌, ⊎_elim}
 use Rattle.std.specs.Option.{option_or}
+use Rattle.std.proofs.lemmas.Bool.{false_from_ne_true}
 use Rattle.std.proofs.lemmas.List.Elements.{All-head, All-tail}
 use Rattle.fd_exact.specs.First.{first_place, first_such}
 
@@ -40,6 +41,10 @@ found p (suc n) k h here = ⊎_elim
     (λ (l : k < n). of_some (first_place p n) (cond (p n) (Some n) None) (found p n k l here))
     (λ (e : k ≡ n). let at : p n ≡ true = ap p (sym e) ∙ here in rw at (of_new (first_place p n) n))
     (last k n h)
+
+-- where there is none the test holds of none
+pub none_holds : (p : ℕ → Bool) (n k : ℕ) → first_place p n ≡ None → k < n → p k ≡ false
+none_holds p n k e h = false_from_ne_true (p k) (λ t. let s : is_some (first_place p n) ≡ true = found p n k h t in let no : ⊥ = cc in no)
 
 -- it is below the bound
 pub place_below : (p : ℕ → Bool) (n k : ℕ) → first_place p n ≡ Some k → k < n

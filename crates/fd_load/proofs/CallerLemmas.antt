@@ -8,6 +8,7 @@ use Rattle.fd_load.proofs.Drawn.{phase_top, quadrature_top}
 pub use Rattle.fd_load.proofs.Bounds.{current_most}
 pub use Rattle.fd_load.proofs.Drawn.{current_is, divisor-positive, magnitude_is}
 pub use Rattle.fd_load.proofs.Sizes.{sum_most, times_most, turned, turned_largest}
+pub use Rattle.fd_load.proofs.VoltageSizes.{high_is, high_most, low_is, low_least, low_most, nominal_held, part_held, part_kept}
 pub use Rattle.fd_load.proofs.WithinLimit.{within_limit}
 
 -- how near the rounded slopes are to the exact ones

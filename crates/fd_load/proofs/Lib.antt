@@ -5,3 +5,4 @@ pub mod Drawn
 mod WithinLimit
 pub mod Nearest
 pub mod Sizes
+pub mod VoltageSizes

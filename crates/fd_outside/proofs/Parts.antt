@@ -1,5 +1,5 @@
 -- Bytes handed to a writer a part at a time.
-use Rattle.std.proofs.Common.{◌≡◌, ◌+◌, ◌-◌, ◌<◌, ◌∙◌, ℕ, List, [], ◌∷◌, ◌++◌, length, take, drop, refl, sym, ap, subst, arith, Option, Some, None, length-append}
+use Rattle.std.proofs.Common.{◌≡◌, ◌+◌, ◌-◌, ◌∙◌, ℕ, List, [], ◌∷◌, ◌++◌, length, take, drop, refl, sym, ap, subst, arith, Option, Some, None, length-append}
 use Rattle.std.proofs.lemmas.List.{append_assoc, append-nil, take-append-drop, length-drop}
 use Rattle.std.proofs.Math.Seq.{take-length}
 use Rattle.std.specs.Io.KnownBytes.{Appends, Keeps}
@@ -42,6 +42,13 @@ written_same old mid now bytes rest so_far same = record {
   told = becomes_then old mid now _ _ _ so_far.told (kept mid now same) (λ bs. refl);
 }
 
+-- a write that took none of the rest leaves it as it was
+pub written_none : (old mid now : Option (List ℕ)) (bytes rest : List ℕ) (n : ℕ) → HasWritten old mid bytes rest
+    → n ≡ 0 → Appends mid now (take n rest) → HasWritten old now bytes rest
+written_none old mid now bytes rest n so_far none more =
+    let P : ℕ → Type 0 = λ k. HasWritten old now bytes (drop k rest) in
+    subst P none (written_more old mid now bytes rest n so_far more)
+
 pub all_written : (old now : Option (List ℕ)) (bytes rest : List ℕ) → HasWritten old now bytes rest → length rest ≡ 0
     → Becomes old now (λ bs. bs ++ bytes)
 all_written old now bytes [] so_far none =
@@ -50,7 +57,7 @@ all_written old now bytes [] so_far none =
     subst P whole so_far.told
 all_written old now bytes (x ∷ rest) so_far none = absurd (omega (arith, none))
 
-pub part_written : (old now : Option (List ℕ)) (bytes rest : List ℕ) → HasWritten old now bytes rest → 0 < length rest
+pub part_written : (old now : Option (List ℕ)) (bytes rest : List ℕ) → HasWritten old now bytes rest → (length rest ≡ 0 → ⊥)
     → (front : List ℕ) × IsCut front bytes × Becomes old now (λ bs. bs ++ front)
 part_written old now bytes rest so_far some =
     let size : length bytes ≡ length so_far.front + length rest = ap length so_far.parts ∙ length-append so_far.front rest in

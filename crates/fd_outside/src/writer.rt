@@ -25,7 +25,6 @@ impl<W: Write> StdSink<W> {
 }
 
 // Writes these bytes, a part at a time. An interrupted write is tried again, and one that takes nothing has failed.
-#[tactic(auto, using(crate::proofs::Parts::nothing_written, crate::proofs::Parts::written_more, crate::proofs::Parts::written_same, crate::proofs::Parts::all_written, crate::proofs::Parts::part_written))]
 fn write_whole<W: Write>(writer: &mut W, bytes: &[u8]) -> Result<(), SinkFault>
     ensures bytes { WritesPiece (W.contents writer.old) (W.contents writer.new) bytes.now result }
     ensures failed { result ≢ Err NoMemory }

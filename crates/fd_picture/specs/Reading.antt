@@ -119,6 +119,13 @@ bank_to d fields = elim d.current [
   | Some panel ↦ with_entry d (has_bank_form fields) (entry_by panel kind.Bank [] (at fields 1) [] (at fields 2))
 ]
 
+-- the row of a tap or a bank, by whether its fields have their form. A clause of a private function alone cites this.
+abbrev pub position_to : DraftView → Kind → Bool → List (List ℕ) → Result DraftView Cause
+position_to d kind form fields = elim d.current [
+  | None ↦ Err cause.NoSolution
+  | Some panel ↦ with_entry d form (entry_by panel kind [] (at fields 1) [] (at fields 2))
+]
+
 abbrev pub with_base : DraftView → List ℕ → Option ℕ → Result DraftView Cause
 with_base d bus None = Err cause.BadField
 with_base d bus (Some base) =
@@ -208,6 +215,14 @@ bad_of fault.NoMemory = None
 -- what is answered is what is said
 abbrev pub Gives : {X : Type 0} → Result X Stop → Result X Cause → Type 0
 Gives = answers.Gives cause_of (λ x. x)
+
+-- a value has become what is said. Clauses of private functions alone cite this and `Fills`.
+abbrev pub Makes : {X : Type 0} → X → Result Unit Stop → Result X Cause → Type 0
+Makes = answers.Makes cause_of
+
+-- a draft has become that of the report that is said
+abbrev pub Fills : DraftView → Result Unit ReportFault → Result ReportView Bad → Type 0
+Fills draft = answers.Makes bad_of (finished draft)
 
 abbrev pub Reads : Result ReportView ReportFault → Result ReportView Bad → Type 0
 Reads = answers.Gives bad_of (λ report. report)

@@ -1,12 +1,13 @@
 // What a record makes of a report that is read.
-ghost use Rattle.std.specs.Prelude.{◌≡◌, ◌<◌, ◌&&◌, ◌==◌, [], IfOk, option_map};
+ghost use Rattle.std.specs.Prelude.{◌≡◌, ◌<◌, ◌&&◌, ◌==◌, [], IfOk, OnOk, option_map};
 ghost use Rattle.csv.specs.Records.{fields_of};
 ghost use Rattle.fd_picture.specs.Drafts.{empty_draft};
 ghost use Rattle.fd_picture.specs.Fields.{at as field_at};
 ghost use Rattle.fd_picture.specs.Numbers.{before_dot, behind_dot};
-ghost use Rattle.fd_picture.specs.Reading.{CountGives, Gives, act_to, bank_to, base_to, bare_node, counted, fault_to, finished, has_act_form, has_branch_form, has_magnitude_form, has_node_form, is_kind, kept_panels, node_in, node_to, other_record, passed_over, record_to, row_to, solution_to, tap_to, with_entry, with_node};
+ghost use Rattle.fd_picture.specs.Reading.{CountGives, Makes, act_to, bank_to, base_to, bare_node, counted, fault_to, finished, has_act_form, has_branch_form, has_magnitude_form, has_node_form, is_kind, kept_panels, node_in, node_to, other_record, passed_over, position_to, record_to, row_to, solution_to, tap_to, with_node};
 ghost use Rattle.fd_picture.specs.declared.fault.Cause.TheVariants as cause;
 ghost use Rattle.fd_picture.specs.declared.report.Entry.{Entry};
+ghost use Rattle.fd_picture.specs.declared.report.Kind.TheVariants as kind;
 ghost use Rattle.fd_picture.specs.declared.report.Node.{Node};
 ghost use Rattle.fd_picture.specs.declared.report.Panel.{Panel};
 
@@ -114,48 +115,46 @@ fn has_act_form(row: &ByteRecord) -> bool
     is_time(at(row, 1)) && is_name(at(row, 2)) && is_steps(at(row, 3)) && is_position(at(row, 4))
 }
 
-// The panels that the next round doesn't replace: those of other settles and hours.
-fn kept_panels(
-    done: Vec<Panel>,
+// Adds the panel that was open to those that are done, unless the next round replaces it: that of the same settle and
+// hour.
+fn keep_panel(
+    done: &mut Vec<Panel>,
     current: Option<Panel>,
     settle: u64,
     hour: u64,
-) -> Result<Vec<Panel>, AllocError>
-    ensures { IfOk result (λ panels. panels.items ≡ kept_panels done.items current settle hour) }
+) -> Result<(), AllocError>
+    ensures { OnOk result (done.new.items ≡ kept_panels done.old.items current settle hour) }
 {
-    let mut panels = done;
     if let Some(last) = current {
         let is_same = last.settle == settle && last.hour == hour;
         if !is_same {
-            panels.push(last)?;
+            done.push(last)?;
         }
     }
-    Ok(panels)
+    Ok(())
 }
 
-fn solution_to(alloc: Global, draft: Draft, row: &ByteRecord) -> Result<Draft, Stop>
-    ensures { Gives result (solution_to draft (fields_of row.now)) }
+fn solution_to(alloc: Global, draft: &mut Draft, row: &ByteRecord) -> Result<(), Stop>
+    ensures { Makes draft.new result (solution_to draft.old (fields_of row.now)) }
 {
-    let mut draft = draft;
     match (whole(at(row, 1)), whole(at(row, 2)), whole(at(row, 3))) {
         (Some(settle), Some(hour), Some(round)) => {
-            let last = draft.current.take();
-            draft.done = kept_panels(draft.done, last, settle, hour)?;
-            draft.current = Some(Panel {
+            let last = draft.current.replace(Panel {
                 settle,
                 hour,
                 round,
                 nodes: Nodes::new(Vec::new(alloc)),
             });
-            Ok(draft)
+            keep_panel(&mut draft.done, last, settle, hour)?;
+            Ok(())
         }
         _ => Err(Stop::Refused(Cause::BadField)),
     }
 }
 
-// A panel with one node more.
-fn with_node(panel: Panel, node: Option<Node>) -> Result<Panel, Stop>
-    ensures { Gives result (with_node panel node) }
+// Adds a node to a panel.
+fn with_node(panel: &mut Panel, node: Option<Node>) -> Result<(), Stop>
+    ensures { Makes panel.new result (with_node panel.old node) }
 {
     let Some(node) = node else {
         return Err(Stop::Refused(Cause::BadField));
@@ -163,31 +162,27 @@ fn with_node(panel: Panel, node: Option<Node>) -> Result<Panel, Stop>
     if node.high < node.low {
         return Err(Stop::Refused(Cause::LowAboveHigh));
     }
-    let mut panel = panel;
     panel.nodes.push(node)?;
-    Ok(panel)
+    Ok(())
 }
 
-fn node_to(alloc: Global, draft: Draft, row: &ByteRecord) -> Result<Draft, Stop>
-    ensures { Gives result (node_to draft (fields_of row.now)) }
+fn node_to(alloc: Global, draft: &mut Draft, row: &ByteRecord) -> Result<(), Stop>
+    ensures { Makes draft.new result (node_to draft.old (fields_of row.now)) }
 {
-    let mut draft = draft;
-    let Some(panel) = draft.current.take() else {
+    let Some(panel) = &mut draft.current else {
         return Err(Stop::Refused(Cause::NoSolution));
     };
-    let node = node_in(alloc, row)?;
-    draft.current = Some(with_node(panel, node)?);
-    Ok(draft)
+    with_node(panel, node_in(alloc, row)?)
 }
 
-fn passed_over(draft: Draft, form: bool) -> Result<Draft, Stop>
-    ensures { Gives result (passed_over draft form) }
+fn passed_over(draft: &Draft, form: bool) -> Result<(), Stop>
+    ensures { Makes draft.now result (passed_over draft.now form) }
 {
     if draft.current.is_none() {
         return Err(Stop::Refused(Cause::NoSolution));
     }
     if form {
-        Ok(draft)
+        Ok(())
     } else {
         Err(Stop::Refused(Cause::BadField))
     }
@@ -203,24 +198,19 @@ fn place_of(draft: &Draft) -> Option<(u64, u64)>
     }
 }
 
-fn with_entry(draft: Draft, form: bool, entry: Entry) -> Result<Draft, Stop>
-    ensures { Gives result (with_entry draft form entry) }
+// The row of the table of an act.
+fn act_entry(alloc: Global, settle: u64, hour: u64, row: &ByteRecord) -> Result<Entry, AllocError>
+    ensures { IfOk result (λ entry. entry ≡ record {
+      settle = settle;
+      hour = hour;
+      kind = kind.Act;
+      time = field_at (fields_of row.now) 1;
+      element = field_at (fields_of row.now) 2;
+      steps = field_at (fields_of row.now) 3;
+      position = field_at (fields_of row.now) 4;
+    }) }
 {
-    if !form {
-        return Err(Stop::Refused(Cause::BadField));
-    }
-    let mut draft = draft;
-    draft.entries.push(entry)?;
-    Ok(draft)
-}
-
-fn act_to(alloc: Global, draft: Draft, row: &ByteRecord) -> Result<Draft, Stop>
-    ensures { Gives result (act_to draft (fields_of row.now)) }
-{
-    let Some((settle, hour)) = place_of(&draft) else {
-        return Err(Stop::Refused(Cause::NoSolution));
-    };
-    let entry = Entry {
+    Ok(Entry {
         settle,
         hour,
         kind: Kind::Act,
@@ -228,8 +218,20 @@ fn act_to(alloc: Global, draft: Draft, row: &ByteRecord) -> Result<Draft, Stop>
         element: copied(alloc, at(row, 2))?,
         steps: copied(alloc, at(row, 3))?,
         position: copied(alloc, at(row, 4))?,
+    })
+}
+
+fn act_to(alloc: Global, draft: &mut Draft, row: &ByteRecord) -> Result<(), Stop>
+    ensures { Makes draft.new result (act_to draft.old (fields_of row.now)) }
+{
+    let Some((settle, hour)) = place_of(draft) else {
+        return Err(Stop::Refused(Cause::NoSolution));
     };
-    with_entry(draft, has_act_form(row), entry)
+    if !has_act_form(row) {
+        return Err(Stop::Refused(Cause::BadField));
+    }
+    draft.entries.push(act_entry(alloc, settle, hour, row)?)?;
+    Ok(())
 }
 
 // The row of the table of a tap or a bank.
@@ -254,39 +256,51 @@ fn position_entry(
         settle,
         hour,
         kind,
-        time: copied(alloc, b"")?,
+        time: Bytes::new(Vec::new(alloc)),
         element: copied(alloc, at(row, 1))?,
-        steps: copied(alloc, b"")?,
+        steps: Bytes::new(Vec::new(alloc)),
         position: copied(alloc, at(row, 2))?,
     })
 }
 
-fn tap_to(alloc: Global, draft: Draft, row: &ByteRecord) -> Result<Draft, Stop>
-    ensures { Gives result (tap_to draft (fields_of row.now)) }
+// Adds the row of a tap or a bank, where its fields have their form.
+fn position_to(
+    alloc: Global,
+    draft: &mut Draft,
+    kind: Kind,
+    form: bool,
+    row: &ByteRecord,
+) -> Result<(), Stop>
+    ensures { Makes draft.new result (position_to draft.old kind form (fields_of row.now)) }
 {
-    let Some((settle, hour)) = place_of(&draft) else {
+    let Some((settle, hour)) = place_of(draft) else {
         return Err(Stop::Refused(Cause::NoSolution));
     };
-    let entry = position_entry(alloc, settle, hour, Kind::Tap, row)?;
-    with_entry(draft, is_name(at(row, 1)) && is_tap(at(row, 2)), entry)
+    if !form {
+        return Err(Stop::Refused(Cause::BadField));
+    }
+    draft
+        .entries
+        .push(position_entry(alloc, settle, hour, kind, row)?)?;
+    Ok(())
 }
 
-fn bank_to(alloc: Global, draft: Draft, row: &ByteRecord) -> Result<Draft, Stop>
-    ensures { Gives result (bank_to draft (fields_of row.now)) }
+fn tap_to(alloc: Global, draft: &mut Draft, row: &ByteRecord) -> Result<(), Stop>
+    ensures { Makes draft.new result (tap_to draft.old (fields_of row.now)) }
 {
-    let Some((settle, hour)) = place_of(&draft) else {
-        return Err(Stop::Refused(Cause::NoSolution));
-    };
-    let entry = position_entry(alloc, settle, hour, Kind::Bank, row)?;
-    with_entry(
-        draft,
-        is_name(at(row, 1)) && is_bank_position(at(row, 2)),
-        entry,
-    )
+    let form = is_name(at(row, 1)) && is_tap(at(row, 2));
+    position_to(alloc, draft, Kind::Tap, form, row)
 }
 
-fn base_to(alloc: Global, draft: Draft, row: &ByteRecord) -> Result<Draft, Stop>
-    ensures { Gives result (base_to draft (fields_of row.now)) }
+fn bank_to(alloc: Global, draft: &mut Draft, row: &ByteRecord) -> Result<(), Stop>
+    ensures { Makes draft.new result (bank_to draft.old (fields_of row.now)) }
+{
+    let form = is_name(at(row, 1)) && is_bank_position(at(row, 2));
+    position_to(alloc, draft, Kind::Bank, form, row)
+}
+
+fn base_to(alloc: Global, draft: &mut Draft, row: &ByteRecord) -> Result<(), Stop>
+    ensures { Makes draft.new result (base_to draft.old (fields_of row.now)) }
 {
     let Some(micro_kilovolts) = decimal(6, at(row, 2)) else {
         return Err(Stop::Refused(Cause::BadField));
@@ -295,24 +309,22 @@ fn base_to(alloc: Global, draft: Draft, row: &ByteRecord) -> Result<Draft, Stop>
         return Err(Stop::Refused(Cause::BadField));
     }
     let bus = copied(alloc, at(row, 1))?;
-    let mut draft = draft;
     draft.bases.push(Base {
         bus,
         micro_kilovolts,
     })?;
-    Ok(draft)
+    Ok(())
 }
 
-fn fault_to(alloc: Global, draft: Draft, row: &ByteRecord) -> Result<Draft, Stop>
-    ensures { Gives result (fault_to draft (fields_of row.now)) }
+fn fault_to(alloc: Global, draft: &mut Draft, row: &ByteRecord) -> Result<(), Stop>
+    ensures { Makes draft.new result (fault_to draft.old (fields_of row.now)) }
 {
     let text = spaced(alloc, row)?;
     if !is_text(&text) {
         return Err(Stop::Refused(Cause::BadField));
     }
-    let mut draft = draft;
     draft.fault = Some(Bytes::new(text));
-    Ok(draft)
+    Ok(())
 }
 
 fn counted(right: bool) -> Result<(), Stop>
@@ -332,8 +344,8 @@ fn is_kind(row: &ByteRecord, name: &[u8]) -> bool
 }
 
 #[tactic(auto, unfolding(crate::specs::Reading::other_record))]
-fn other_record(alloc: Global, draft: Draft, row: &ByteRecord) -> Result<Draft, Stop>
-    ensures { Gives result (other_record draft (fields_of row.now)) }
+fn other_record(alloc: Global, draft: &mut Draft, row: &ByteRecord) -> Result<(), Stop>
+    ensures { Makes draft.new result (other_record draft.old (fields_of row.now)) }
 {
     if is_kind(row, b"act") {
         counted(row.len() == 5)?;
@@ -356,8 +368,8 @@ fn other_record(alloc: Global, draft: Draft, row: &ByteRecord) -> Result<Draft, 
 }
 
 #[tactic(auto, unfolding(crate::specs::Reading::record_to))]
-fn record_to(alloc: Global, draft: Draft, row: &ByteRecord) -> Result<Draft, Stop>
-    ensures { Gives result (record_to draft (fields_of row.now)) }
+fn record_to(alloc: Global, draft: &mut Draft, row: &ByteRecord) -> Result<(), Stop>
+    ensures { Makes draft.new result (record_to draft.old (fields_of row.now)) }
 {
     if is_kind(row, b"solution") {
         counted(row.len() == 4)?;
@@ -376,10 +388,10 @@ fn record_to(alloc: Global, draft: Draft, row: &ByteRecord) -> Result<Draft, Sto
     }
 }
 
-/// A draft with a record behind its own.
+/// Adds a record to those of a draft.
 #[tactic(auto, unfolding(crate::specs::Reading::row_to))]
-pub(crate) fn row_to(alloc: Global, draft: Draft, row: &ByteRecord) -> Result<Draft, Stop>
-    ensures { Gives result (row_to draft (fields_of row.now)) }
+pub(crate) fn row_to(alloc: Global, draft: &mut Draft, row: &ByteRecord) -> Result<(), Stop>
+    ensures { Makes draft.new result (row_to draft.old (fields_of row.now)) }
 {
     if draft.fault.is_some() {
         return Err(Stop::Refused(Cause::BehindFault));

@@ -1,6 +1,7 @@
 // The page of a report.
 ghost use Rattle.std.specs.Prelude.{◌≡◌, ◌<◌, ◌≤◌, ◌^◌, ◌++◌, IfOk, OnOk};
 ghost use Rattle.fd_picture.specs.Pages.{bars_text, fault_length, heads_text, longest_element, page_width, panel_left, panel_top, table_height, cell_text, entries_text, entry_text, fault_text, grid_of, heading_text, kind_name, label_length, legend_text, longest_bus, most_nodes, number_cell, other_shapes_text, page_of, panel_at, panels_text, phase_shapes_text, phases_text, style_text, svg_text, table_text, table_top, view_text};
+ghost use Rattle.fd_picture.specs.Strips.{drawn};
 
 use crate::panel::push_panel;
 use crate::report::{Entry, Kind, Node, Report};
@@ -184,6 +185,29 @@ fn push_number_cell(text: &mut Vec<u8>, across: u128, n: u64) -> Result<(), Allo
     push(text, b"</tspan>")
 }
 
+// The first cells of a row: the settle, the hour and the record.
+fn push_round_cells(text: &mut Vec<u8>, entry: &Entry) -> Result<(), AllocError>
+    ensures { OnOk result (text.new.items ≡ text.old.items
+        ++ (number_cell 20 entry.now.settle ++ number_cell 90 entry.now.hour
+        ++ cell_text 160 (kind_name entry.now.kind))) }
+{
+    push_number_cell(text, 20, entry.settle)?;
+    push_number_cell(text, 90, entry.hour)?;
+    push_cell(text, 160, kind_name(entry.kind))
+}
+
+// The cells behind them, of the record's own fields.
+fn push_field_cells(text: &mut Vec<u8>, entry: &Entry) -> Result<(), AllocError>
+    ensures { OnOk result (text.new.items ≡ text.old.items
+        ++ (cell_text 230 entry.now.time ++ cell_text 350 entry.now.steps
+        ++ cell_text 420 entry.now.position ++ cell_text 600 entry.now.element)) }
+{
+    push_cell(text, 230, entry.time.as_slice())?;
+    push_cell(text, 350, entry.steps.as_slice())?;
+    push_cell(text, 420, entry.position.as_slice())?;
+    push_cell(text, 600, entry.element.as_slice())
+}
+
 // A row of the table.
 #[tactic(auto, unfolding(crate::specs::Pages::entry_text))]
 fn push_entry(text: &mut Vec<u8>, top: u128, k: usize, entry: &Entry) -> Result<(), AllocError>
@@ -193,13 +217,8 @@ fn push_entry(text: &mut Vec<u8>, top: u128, k: usize, entry: &Entry) -> Result<
     push(text, b"<text class='row'")?;
     push_attribute(text, b"y", top + 54 + 20 * k as u128)?;
     push(text, b">")?;
-    push_number_cell(text, 20, entry.settle)?;
-    push_number_cell(text, 90, entry.hour)?;
-    push_cell(text, 160, kind_name(entry.kind))?;
-    push_cell(text, 230, entry.time.as_slice())?;
-    push_cell(text, 350, entry.steps.as_slice())?;
-    push_cell(text, 420, entry.position.as_slice())?;
-    push_cell(text, 600, entry.element.as_slice())?;
+    push_round_cells(text, entry)?;
+    push_field_cells(text, entry)?;
     push(text, b"</text>\n")
 }
 
@@ -446,34 +465,42 @@ fn push_svg(text: &mut Vec<u8>, width: u128, height: u128) -> Result<(), AllocEr
     push_view(text, width, height)
 }
 
+// The page of a report, with its bases and its strips.
+#[tactic(auto, unfolding(crate::specs::Pages::page_of))]
+fn push_page(
+    alloc: Global,
+    text: &mut Vec<u8>,
+    report: &Report,
+    bases: &BaseTable,
+    strips: &[Strip],
+) -> Result<(), AllocError>
+    requires bases { bases.now ≡ report.now.bases }
+    requires strips { strips.now ≡ drawn report.now.panels }
+    ensures { OnOk result (text.new.items ≡ text.old.items ++ page_of report.now) }
+{
+    let entries = report.entries.as_slice();
+    let grid = grid_of(strips);
+    let top = table_top(grid, strips.len());
+    let down = top + 24 + table_height(entries.len());
+    push_svg(text, page_width(grid, report), down + 40)?;
+    push_legend(text)?;
+    push_panels(alloc, text, bases, scale_of(bases, strips), grid, strips)?;
+    push_table(text, top, entries)?;
+    push_fault(text, down, &report.fault)?;
+    push(text, b"</svg>\n")
+}
+
 /// The page of a report: one SVG picture, as text.
 ///
 /// The voltages of each panel's nodes stand beside each other in the order of the report, one mark for each, in strips of
 /// at most 42 over the axis that all strips have; acts, taps and banks in a table below. The time is linear in the
 /// report.
-#[tactic(auto, unfolding(crate::specs::Pages::page_of))]
 pub fn draw(alloc: Global, report: &Report) -> Result<Vec<u8>, AllocError>
     ensures { IfOk result (λ text. text.items ≡ page_of report.now) }
 {
     let strips = drawn(alloc, report.panels.as_slice())?;
-    let entries = report.entries.as_slice();
-    let grid = grid_of(&strips);
-    let top = table_top(grid, strips.len());
-    let down = top + 24 + table_height(entries.len());
     let bases = BaseTable::new(alloc, report.bases.as_slice())?;
     let mut text = Vec::new(alloc);
-    push_svg(&mut text, page_width(grid, report), down + 40)?;
-    push_legend(&mut text)?;
-    push_panels(
-        alloc,
-        &mut text,
-        &bases,
-        scale_of(&bases, &strips),
-        grid,
-        &strips,
-    )?;
-    push_table(&mut text, top, entries)?;
-    push_fault(&mut text, down, &report.fault)?;
-    push(&mut text, b"</svg>\n")?;
+    push_page(alloc, &mut text, report, &bases, &strips)?;
     Ok(text)
 }

@@ -1,5 +1,6 @@
 // A strip of a panel: nodes of one round over the axis of the page.
-ghost use Rattle.std.specs.Prelude.{◌≡◌, ◌≤◌, ◌^◌, ◌++◌, OnOk};
+ghost use Rattle.std.specs.Prelude.{◌≡◌, ◌≤◌, ◌^◌, ◌-◌, ◌++◌, OnOk, codes};
+ghost use Rattle.fd_decimal.specs.Decimals.{size_text};
 ghost use Rattle.fd_picture.specs.Panels.{head_text, label_text, limit_text, mark_text, marks_text, node_name, panel_text, per_unit_text, shape_name, tick_text, ticks_text, title_text, unit_name, level_text, axis_text, bar_text, frame_text, line_text, node_text, place_text, ring_text, shape_text, tick_within, frame_width};
 
 use crate::marks::{GREATEST_INSIDE, LEAST_INSIDE, Mark, Shape, mark_of};
@@ -40,6 +41,20 @@ fn push_per_unit(
     push(text, b" per unit")
 }
 
+// A low, a high and the width between them, in volts.
+fn push_volts(alloc: Global, text: &mut Vec<u8>, low: u64, high: u64) -> Result<(), AllocError>
+    ensures { OnOk result (text.new.items ≡ text.old.items
+        ++ (size_text low ++ codes " to " ++ size_text high ++ codes " V, width "
+        ++ size_text (high - low) ++ codes " V")) }
+{
+    push_size(alloc, text, low)?;
+    push(text, b" to ")?;
+    push_size(alloc, text, high)?;
+    push(text, b" V, width ")?;
+    push_size(alloc, text, high.saturating_sub(low))?;
+    push(text, b" V")
+}
+
 // The title of a mark: the node, its low, its high and the width between them, per unit too where the page is.
 #[tactic(auto, unfolding(crate::specs::Panels::title_text))]
 fn push_title(
@@ -54,12 +69,7 @@ fn push_title(
     push(text, b"<title>")?;
     push_node_name(text, node)?;
     push(text, b": ")?;
-    push_size(alloc, text, node.low)?;
-    push(text, b" to ")?;
-    push_size(alloc, text, node.high)?;
-    push(text, b" V, width ")?;
-    push_size(alloc, text, node.high.saturating_sub(node.low))?;
-    push(text, b" V")?;
+    push_volts(alloc, text, node.low, node.high)?;
     push_per_unit(alloc, text, per_unit, span)?;
     push(text, b"</title>")
 }

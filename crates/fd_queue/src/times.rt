@@ -12,7 +12,7 @@ pub fn copy_of_time(entries: &[Entry], time: u64, into: &mut Vec<Entry>)
 {
     for entry in entries {
         if entry.time == time {
-            let _ = into.push(*entry);
+            into.push_reserved(*entry);
         }
     }
 }

@@ -10,3 +10,4 @@ pub mod PowerInside
 pub mod Quotients
 pub mod Sizes
 pub mod Terminals
+pub mod SquareSizes

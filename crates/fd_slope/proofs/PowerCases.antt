@@ -1,7 +1,7 @@
 -- The change of a current over the clamped square, in every case.
 use Rattle.std.proofs.Common.{◌≡◌, ◌⊎◌, ℕ, ◌+◌, ◌*◌, ◌<◌, ◌≤◌, ◌^◌, ℤ, pos, ◌+ℤ◌, ◌-ℤ◌, ◌*ℤ◌, Bool, true, false, cond, ◌&&◌, ◌||◌, nat_le, arith, inl, inr}
 use Rattle.std.specs.Int.RustNames.{unsigned_abs}
-use Rattle.std.proofs.lemmas.Bool.{and_parts, or_cases}
+use Rattle.std.proofs.lemmas.Bool.{and_from, and_parts, or_cases}
 use Rattle.fd_exact.specs.Fractions.{Near, fraction}
 use Rattle.fd_system.specs.Loads.{clamp, square_of}
 use Rattle.fd_slope.specs.Radii.{square_moves}
@@ -30,9 +30,6 @@ outside_facts u e lo hi h = elim (or_cases (nat_le (u + e) lo) (nat_le (hi + e) 
 lies_facts : (u lo hi : ℕ) → lies_inside u lo hi ≡ true → (lo ≤ u) × (u ≤ hi)
 lies_facts u lo hi h = let f = and_parts (nat_le lo u) (nat_le u hi) h in (at_most _ _ f.0, at_most _ _ f.1)
 
-both_true : (a b : Bool) → a ≡ true → b ≡ true → (a && b) ≡ true
-both_true a b e f = (λ i. e i && f i)
-
 reaches : (a b : ℕ) → a ≤ b → nat_le a b ≡ true
 reaches a b h = grind arith
 
@@ -40,7 +37,7 @@ reaches a b h = grind arith
 pub inside_lies : (u e lo hi : ℕ) → stays_inside u e lo hi ≡ true → lies_inside u lo hi ≡ true
 inside_lies u e lo hi h =
     let f = inside_facts u e lo hi h in
-    both_true (nat_le lo u) (nat_le u hi) (reaches lo u (omega (arith, f.0))) (reaches u hi (omega (arith, f.1)))
+    and_from (nat_le lo u) (nat_le u hi) (reaches lo u (omega (arith, f.0))) (reaches u hi (omega (arith, f.1)))
 
 -- a box that stays outside, with its centre inside, has no room and stays inside too
 pub both_ways : (u e lo hi : ℕ) → lies_inside u lo hi ≡ true → stays_outside u e lo hi ≡ true
@@ -48,8 +45,8 @@ pub both_ways : (u e lo hi : ℕ) → lies_inside u lo hi ≡ true → stays_out
 both_ways u e lo hi h k =
     let f = lies_facts u lo hi h in
     elim (outside_facts u e lo hi k) [
-      | inl s ↦ both_true (nat_le (lo + e) u) (nat_le (u + e) hi) (reaches (lo + e) u (omega (arith, f.0, f.1))) (reaches (u + e) hi (omega (arith, f.0, f.1)))
-      | inr s ↦ both_true (nat_le (lo + e) u) (nat_le (u + e) hi) (reaches (lo + e) u (omega (arith, f.0, f.1))) (reaches (u + e) hi (omega (arith, f.0, f.1)))
+      | inl s ↦ and_from (nat_le (lo + e) u) (nat_le (u + e) hi) (reaches (lo + e) u (omega (arith, f.0, f.1))) (reaches (u + e) hi (omega (arith, f.0, f.1)))
+      | inr s ↦ and_from (nat_le (lo + e) u) (nat_le (u + e) hi) (reaches (lo + e) u (omega (arith, f.0, f.1))) (reaches (u + e) hi (omega (arith, f.0, f.1)))
     ]
 
 pub true_false : (t : Bool) → t ≡ true → t ≡ false → ⊥

@@ -124,7 +124,7 @@ fn low_square(load: &LoadPhase) -> u128
     requires load { IsLoadPhase load.now }
     ensures value { result ≡ nat_abs load.now.vlo * nat_abs load.now.vlo }
     ensures least { 4 * 10 ^ 12 ≤ result }
-    ensures most { result ≤ 10 ^ 24 }
+    ensures most { result ≤ 4 * 10 ^ 24 }
 {
     load.vlo.unsigned_abs() * load.vlo.unsigned_abs()
 }

@@ -2,4 +2,6 @@ mod Squares
 mod Greatest
 mod Rows
 mod Impedances
+mod Codes
+mod Sizes
 pub mod CallerLemmas

@@ -7,4 +7,6 @@ mod Steps
 mod Drops
 mod Counts
 mod Volts
+mod Appending
+mod ThreeTimes
 pub mod CallerLemmas

@@ -2,7 +2,7 @@
 ghost use Rattle.std.specs.Prelude.{◌≡◌, ◌≤◌, IfOk, IfSome, false, map, option_and_then};
 ghost use Rattle.std.specs.Option.{option_map};
 ghost use Rattle.clap.specs.declared.builder.command.Command.TheViews.{out-Command};
-ghost use Rattle.clap.specs.Words.{app_of, first_of, found_of, rows_of, subcommand_rows_of};
+ghost use Rattle.clap.specs.Words.{app_of, with_subcommand, first_of, found_of, rows_of, subcommand_rows_of};
 ghost use Rattle.fd_words.specs.Lines.{check_in, feeder_in, form_of_rows, line_app, lines_app};
 ghost use Rattle.fd_words.specs.Words.{form_in, has_sections};
 
@@ -24,17 +24,30 @@ fn line<'a>(alloc: Global, name: &'a str, ids: &[&'a str]) -> Result<Command<'a>
     Ok(command)
 }
 
+// The command with this subcommand as its last.
+fn with_line<'a>(
+    alloc: Global,
+    command: Command<'a>,
+    name: &'a str,
+    ids: &[&'a str],
+) -> Result<Command<'a>, AllocError>
+    ensures { IfOk result (λ new. app_of new ≡
+        with_subcommand (app_of command.entry) (line_app name.now (map (λ id. id.now) ids.now)).top) }
+{
+    let subcommand = line(alloc, name, ids)?;
+    command.subcommand(subcommand)
+}
+
 /// The command with a subcommand for each first word of a form.
 pub(crate) fn command<'a>(alloc: Global) -> Result<Command<'a>, AllocError>
     ensures { IfOk result (λ command. app_of command ≡ lines_app) }
 {
-    Command::new(alloc, "feeder")
-        .no_binary_name(true)
-        .subcommand(line(alloc, "solve", &["file"])?)?
-        .subcommand(line(alloc, "cert", &["file"])?)?
-        .subcommand(line(alloc, "check", &["script", "certificate"])?)?
-        .subcommand(line(alloc, "gen", &["number", "sections"])?)?
-        .subcommand(line(alloc, "bench", &["number", "sections"])?)
+    let feeder = Command::new(alloc, "feeder").no_binary_name(true);
+    let solve = with_line(alloc, feeder, "solve", &["file"])?;
+    let cert = with_line(alloc, solve, "cert", &["file"])?;
+    let check = with_line(alloc, cert, "check", &["script", "certificate"])?;
+    let generate = with_line(alloc, check, "gen", &["number", "sections"])?;
+    with_line(alloc, generate, "bench", &["number", "sections"])
 }
 
 // The word of this id.

@@ -7,6 +7,7 @@ use Rattle.fd_exact.specs.Quotients.{floor-ceil, floor-mono}
 use Rattle.fd_arith.specs.Limits.{Fits}
 use Rattle.fd_arith.specs.Interval.{least, greatest}
 use Rattle.fd_arith.specs.Products.{IsSmallProduct, small_product, small_signed, least_small, greatest_small, least_greatest, floor_small, ceil_small, small_from}
+use Rattle.fd_arith.proofs.SignedEnds.{product_signed}
 use Rattle.fd_arith.proofs.multiply.small_product.Goals as goal
 
 lower : (g : _) (c : goal.After-ceil_over_coef g)
@@ -95,3 +96,15 @@ returns g c =
     c.known.ensures
     (omega (arith, ints, f, h, lower g c.before))
     (omega (arith, ints, f, h, upper g c.before))
+
+pub overflow_mul-a : goal.overflow_mul-a
+overflow_mul-a g c = product_signed _ _ c.ranges.lo c.ranges.low c.requires.lower c.requires.lower_factor
+
+pub overflow_mul-b : goal.overflow_mul-b
+overflow_mul-b g c = product_signed _ _ c.ranges.lo c.ranges.high c.requires.lower c.requires.upper_factor
+
+pub overflow_mul-c : goal.overflow_mul-c
+overflow_mul-c g c = product_signed _ _ c.ranges.hi c.ranges.low c.requires.upper c.requires.lower_factor
+
+pub overflow_mul-d : goal.overflow_mul-d
+overflow_mul-d g c = product_signed _ _ c.ranges.hi c.ranges.high c.requires.upper c.requires.upper_factor

@@ -6,6 +6,7 @@ use Rattle.fd_exact.specs.Rounding.{near_div}
 use Rattle.fd_arith.specs.Limits.{bounded}
 use Rattle.fd_arith.specs.Capping.{scaled_sign, is_below}
 use Rattle.fd_arith.specs.Nearest.{near_large}
+use Rattle.fd_arith.proofs.SignedUnits.{size_positive, size_at_most}
 use Rattle.fd_arith.proofs.quotient.near_at.Goals as goal
 
 pub returns-in_default : goal.returns-in_default
@@ -19,3 +20,13 @@ returns-in_default c =
     let size : c.unsigned_abs-2.result ≡ unsigned_abs c.args.d = v in
     sym (ap (λ z. bounded (near_div z (unsigned_abs c.args.d))) (scaled_sign c.args.n)
     ∙ near_large (is_below c.args.n) (unsigned_abs c.args.n * 2 ^ 40) (unsigned_abs c.args.d) positive (omega (arith, large, u, v)))
+
+pub scaled-requires-clause-positive : goal.scaled-requires-clause-positive
+scaled-requires-clause-positive c = size_positive _ _ c.ranges.d c.unsigned_abs-2.ensures.value c.requires.positive
+
+pub scaled-requires-clause-most : goal.scaled-requires-clause-most
+scaled-requires-clause-most c =
+    size_at_most _ _ c.ranges.d c.unsigned_abs-2.ensures.value c.requires.positive c.requires.most
+
+pub near_of-requires-clause-room : goal.near_of-requires-clause-room
+near_of-requires-clause-room c = c.in-Some.ensures.small

@@ -2,7 +2,8 @@ use Rattle.std.proofs.Common.{◌≡◌, ◌∙◌, ◌*◌, ◌≤◌, ◌^◌,
 use Rattle.std.proofs.lemmas.Int.{ints}
 use Rattle.fd_exact.specs.Rounding.{ceil_nat}
 use Rattle.fd_exact.specs.Quotients.{ceil_nat_least}
-use Rattle.fd_arith.proofs.Floors.{negative_floor, minus, minus_size, down_least, up_is, up_room, down_room}
+use Rattle.fd_exact.specs.ReadBack.{size_of_opposite}
+use Rattle.fd_arith.proofs.Floors.{negative_floor, minus, down_least, up_is, up_room, down_room}
 use Rattle.fd_arith.proofs.rounding.floor_of_product.Goals as goal
 
 pub returns-then-n-lt0-clause-value : goal.returns-then-n-lt0-clause-value
@@ -24,7 +25,7 @@ returns-then-n-lt0-clause-within c = λ q h.
     let m = minus _ (up_room (s * a.factor) a.divisor c.requires.positive room) in
     let k = ceil_nat_least (s * a.factor) a.divisor q c.requires.positive (subst (λ t. t * a.factor ≤ q * a.divisor) (sym e) h) in
     let up : c.div_ceil.result ≡ ceil_nat (s * a.factor) a.divisor = c.div_ceil.ensures ∙ up_is (s * a.factor) a.divisor c.requires.positive in
-    rw up (subst (λ z. nat_abs z ≤ q) (sym m) (subst (λ t. t ≤ q) (sym (minus_size _)) k))
+    rw up (subst (λ z. nat_abs z ≤ q) (sym m) (subst (λ t. t ≤ q) (sym (size_of_opposite _)) k))
 
 pub returns-else-n-lt0-clause-within : goal.returns-else-n-lt0-clause-within
 returns-else-n-lt0-clause-within c = λ q h.

@@ -4,7 +4,52 @@ use Rattle.std.proofs.lemmas.Int.{to_z-of_z, fits_signed_from_abs, ints}
 use Rattle.fd_load.specs.Current.{clamped_magnitude, in_phase, quadrature}
 use Rattle.fd_load.specs.Slopes.{admittance, by_magnitude, slope_row}
 use Rattle.fd_exact.specs.ReadBack.{opposite_fits, turned}
+use Rattle.fd_load.proofs.VoltageSizes.{part_kept, voltages_kept, numerator_kept, opposite_kept, first_power_kept, second_power_kept}
 use Rattle.fd_load.proofs.slopes.constant_current.Goals as goal
+
+pub admittance-g-requires-clause-power : goal.admittance-g-requires-clause-power
+admittance-g-requires-clause-power c = first_power_kept c.args.load.now c.requires.load
+
+pub admittance-b-requires-clause-power : goal.admittance-b-requires-clause-power
+admittance-b-requires-clause-power c = second_power_kept c.args.load.now c.requires.load
+
+pub in_phase-requires-clause-p_most : goal.in_phase-requires-clause-p_most
+in_phase-requires-clause-p_most c = part_kept c.args.p c.requires.voltages.re
+
+pub in_phase-requires-clause-q_most : goal.in_phase-requires-clause-q_most
+in_phase-requires-clause-q_most c = part_kept c.args.q c.requires.voltages.im
+
+pub quadrature-requires-clause-p_most : goal.quadrature-requires-clause-p_most
+quadrature-requires-clause-p_most c = part_kept c.args.p c.requires.voltages.re
+
+pub quadrature-requires-clause-q_most : goal.quadrature-requires-clause-q_most
+quadrature-requires-clause-q_most c = part_kept c.args.q c.requires.voltages.im
+
+pub by_magnitude-real_m-requires-clause-p_most : goal.by_magnitude-real_m-requires-clause-p_most
+by_magnitude-real_m-requires-clause-p_most c = part_kept c.args.p c.requires.voltages.re
+
+pub by_magnitude-real_m-requires-clause-q_most : goal.by_magnitude-real_m-requires-clause-q_most
+by_magnitude-real_m-requires-clause-q_most c = part_kept c.args.q c.requires.voltages.im
+
+pub by_magnitude-imaginary_m-requires-clause-p_most : goal.by_magnitude-imaginary_m-requires-clause-p_most
+by_magnitude-imaginary_m-requires-clause-p_most c = part_kept c.args.p c.requires.voltages.re
+
+pub by_magnitude-imaginary_m-requires-clause-q_most : goal.by_magnitude-imaginary_m-requires-clause-q_most
+by_magnitude-imaginary_m-requires-clause-q_most c = part_kept c.args.q c.requires.voltages.im
+
+pub by_magnitude-real_m-requires-clause-n_most : goal.by_magnitude-real_m-requires-clause-n_most
+by_magnitude-real_m-requires-clause-n_most c =
+    numerator_kept c.in_phase.result _ c.in_phase.ensures.small c.in_phase.ensures.most
+
+pub by_magnitude-imaginary_m-requires-clause-n_most : goal.by_magnitude-imaginary_m-requires-clause-n_most
+by_magnitude-imaginary_m-requires-clause-n_most c =
+    numerator_kept c.quadrature.result _ c.quadrature.ensures.small c.quadrature.ensures.most
+
+pub overflow_sub-result : goal.overflow_sub-result
+overflow_sub-result c = opposite_kept c.admittance-b.result c.admittance-b.ensures.most
+
+pub magnitude_slopes-requires-clause-voltages : goal.magnitude_slopes-requires-clause-voltages
+magnitude_slopes-requires-clause-voltages c = voltages_kept c.args.p c.args.q c.args.m c.requires.voltages
 
 pub returns-clause-imaginary : goal.returns-clause-imaginary
 returns-clause-imaginary c =

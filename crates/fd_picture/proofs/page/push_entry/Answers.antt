@@ -6,19 +6,9 @@ use Rattle.fd_picture.proofs.page.push_entry.Goals as goal
 pub returns : goal.returns
 unfolding entry_text
 returns c = on_ok c.push-3.result (λ added. added ∙ rw (
-  c.in_ok-push_cell-5.ensures,
-  c.in_ok-push_cell-4.ensures,
-  c.in_ok-push_cell-3.ensures,
-  c.in_ok-push_cell-2.ensures,
-  c.in_ok-push_cell.ensures,
-  c.in_ok-push_number_cell-2.ensures,
-  c.in_ok-push_number_cell.ensures,
+  c.in_ok-push_field_cells.ensures,
+  c.in_ok-push_round_cells.ensures,
   c.in_ok-push-2.ensures,
   c.in_ok-push_attribute.ensures,
   c.in_ok-push.ensures,
-  c.kind_name.ensures,
-  c.as_slice.ensures,
-  c.as_slice-2.ensures,
-  c.as_slice-3.ensures,
-  c.as_slice-4.ensures,
 ) (simp append_assoc refl)) c.push-3.ensures
