@@ -1,3 +1,4 @@
 pub mod Entries
 pub mod Named
 pub mod WellFormed
+pub mod CallerLemmas

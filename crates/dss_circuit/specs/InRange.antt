@@ -1,7 +1,7 @@
 -- The values of a circuit are in range.
 use Rattle.std.specs.Prelude.{◌≤◌, length, All}
-use Rattle.dss_profile.specs.declared.options.Options.{Options}
-use Rattle.dss_profile.specs.InRange.{ElementInRange, OptionsInRange}
+use Rattle.dss_model.specs.declared.options.Options.{Options}
+use Rattle.dss_model.specs.InRange.{ElementInRange, OptionsInRange}
 use Rattle.dss_circuit.specs.Circuit.{Elements}
 use Rattle.dss_circuit.specs.Limits.{most_elements}
 use Rattle.dss_circuit.specs.WellFormed.{AreWellFormed}

@@ -1,6 +1,5 @@
 pub mod Limits
-pub mod Keys
 pub mod Circuit
+pub mod Lookups
 pub mod WellFormed
 pub mod InRange
-pub mod Lookups

@@ -1,16 +1,15 @@
 -- What the elements of every circuit are.
 use Rattle.std.specs.Prelude.{◌≡◌, ℕ, List, [], ◌∷◌, All, IsTrue, map, Option, IsSome, OnSome}
 use Rattle.std.specs.List.{IsDistinct}
-use Rattle.dss_values.specs.Names.{is_name, lower}
-use Rattle.dss_profile.specs.declared.element.Element.{Element}
-use Rattle.dss_profile.specs.declared.element.Element.TheVariants as the
-use Rattle.dss_profile.specs.declared.names.Class.{Class}
-use Rattle.dss_profile.specs.declared.names.Class.TheVariants as class
-use Rattle.dss_profile.specs.declared.names.ElementName.{ElementName}
-use Rattle.dss_profile.specs.Element.{class_of}
-use Rattle.dss_profile.specs.SameElement.{same_element}
-use Rattle.dss_circuit.specs.Circuit.{Elements}
-use Rattle.dss_circuit.specs.Keys.{source_name}
+use Rattle.dss_model.specs.Names.{is_name, lower}
+use Rattle.dss_model.specs.declared.element.Element.{Element}
+use Rattle.dss_model.specs.declared.element.Element.TheVariants as the
+use Rattle.dss_model.specs.declared.names.Class.{Class}
+use Rattle.dss_model.specs.declared.names.Class.TheVariants as class
+use Rattle.dss_model.specs.declared.names.ElementName.{ElementName}
+use Rattle.dss_model.specs.Element.{class_of}
+use Rattle.dss_model.specs.SameElement.{same_element}
+use Rattle.dss_circuit.specs.Circuit.{Elements, source_name}
 use Rattle.dss_circuit.specs.Lookups.{element_given}
 
 -- a name of allowed characters, in lower case

@@ -1,19 +1,19 @@
-// A circuit, changed in place by commands.
-ghost use Rattle.std.specs.Prelude.{◌≡◌, ◌<◌, ◌≤◌, ◌^◌, ◌-◌, All, length, map};
-ghost use Rattle.dss_profile.specs.Changes.{Becomes};
-ghost use Rattle.dss_circuit.specs.Circuit.{empty_circuit, has_circuit, applied};
-ghost use Rattle.dss_profile.specs.InRange.{OptionsInRange};
+// A circuit, and its changes.
+ghost use Rattle.std.specs.Prelude.{◌≡◌, ◌+◌, ◌<◌, ◌≤◌, ◌^◌, ◌-◌, All, [], IfErr, OnOk, false, length, map};
+ghost use Rattle.std.specs.List.{IsDistinct};
+ghost use Rattle.indexmap.specs.IndexMap.{insert_entry};
+ghost use Rattle.dss_model.specs.Defaults.{default_options};
+ghost use Rattle.dss_model.specs.Element.{class_of};
+ghost use Rattle.dss_model.specs.InRange.{ElementInRange, OptionsInRange};
+ghost use Rattle.dss_model.specs.SameElement.{same_element};
+ghost use Rattle.dss_circuit.specs.Circuit.{empty_circuit, has_circuit, source_name};
 ghost use Rattle.dss_circuit.specs.InRange.{AllInRange};
 ghost use Rattle.dss_circuit.specs.Limits.{most_elements};
-ghost use Rattle.dss_circuit.specs.WellFormed.{AllNamesAreThere, BeginsWithSource, IsEntry};
-ghost use Rattle.dss_profile.specs.SameElement.{same_element};
-ghost use Rattle.std.specs.List.{IsDistinct};
+ghost use Rattle.dss_circuit.specs.WellFormed.{AllNamesAreThere, BeginsWithSource, IsEntry, IsKey, NamesAreThere};
 
-use crate::elements::{Elements, edit_element, make_element, no_elements};
-use crate::keys::{check_circuit, key_to_edit, key_to_make};
-use dss_profile::{Command, Element, ElementName, ModelError, Options, Verb};
-use indexmap::IndexMap;
-use std::alloc::Global;
+use crate::elements::{Elements, insert_element, no_elements};
+use dss_model::{Element, ElementName, Options};
+use std::alloc::{AllocError, Global};
 use std::marker::Model;
 
 /// A circuit as the commands so far have made it: its elements by name in order of definition, its options, and how
@@ -37,13 +37,6 @@ impl Model for Circuit {
     ghost invariant = { λ c. IsWithinLimits c.elements.entries c.options };
 }
 
-// Whether New Circuit was done since the start or the last Clear.
-fn is_begun(elements: &Elements) -> bool
-    ensures { result ≡ has_circuit elements.now.entries }
-{
-    !elements.is_empty()
-}
-
 impl Circuit {
     /// No circuit yet, and the options as they are when nothing is set. It takes no memory.
     pub fn empty(alloc: Global) -> Self
@@ -56,50 +49,45 @@ impl Circuit {
         }
     }
 
-    /// Does one command: it is one step of the fold. After a refusal the circuit is as before, and the refusal is the
-    /// first in this order: the class and the name are written as such, the class, the circuit, the element, then the
-    /// pairs from left to right. A Solve sets its pairs as options and is counted, and does no more.
-    pub fn apply(&mut self, alloc: Global, command: &Command) -> Result<(), ModelError>
-        requires solves { self.old.solves < 2 ^ 32 - 1 }
+    /// An element takes the place of the one of its name, or stands last. After an `Err` the circuit is as before.
+    ///
+    /// Its values are in range, it stands under a legal name in lower case with its own class, each element that it names is
+    /// there, and the first is the source that New Circuit makes.
+    pub fn put(&mut self, name: ElementName, element: Element) -> Result<(), AllocError>
         requires room { length self.old.elements < most_elements }
-        ensures { Becomes self.old self.new result (applied command.now self.old) }
+        requires in_range { ElementInRange element }
+        requires key { IsKey name }
+        requires class { name.class ≡ class_of element }
+        requires source { has_circuit self.old.elements ≡ false → name ≡ source_name }
+        requires named { NamesAreThere self.old.elements element }
+        ensures put { OnOk result (self.new ≡ record self.old { elements = insert_entry same_element self.old.elements name element }) }
+        ensures as_before { IfErr result (λ _. self.new ≡ self.old) }
     {
-        match &command.verb {
-            Verb::New { class, name, pairs } => {
-                let key = key_to_make(alloc, class, name, is_begun(&self.elements))?;
-                make_element(
-                    alloc,
-                    self.solves,
-                    &mut self.elements,
-                    &command.place,
-                    key,
-                    pairs.as_slice(),
-                )
-            }
-            Verb::Edit { class, name, pairs } => {
-                let key = key_to_edit(alloc, class, name, is_begun(&self.elements))?;
-                edit_element(
-                    alloc,
-                    self.solves,
-                    &mut self.elements,
-                    key,
-                    pairs.as_slice(),
-                )
-            }
-            Verb::Set { pairs } => self.options.set_pairs(alloc, pairs.as_slice()),
-            Verb::Solve { pairs } => {
-                check_circuit(is_begun(&self.elements))?;
-                self.options.set_pairs(alloc, pairs.as_slice())?;
-                self.solves += 1;
-                Ok(())
-            }
-            Verb::Clear => {
-                self.elements = no_elements(alloc);
-                self.options = Options::start(alloc);
-                Ok(())
-            }
-            Verb::Bases => Ok(check_circuit(is_begun(&self.elements))?),
-        }
+        insert_element(&mut self.elements, name, element)
+    }
+
+    /// Takes these options in place of its own.
+    pub fn set_options(&mut self, options: Options)
+        requires { OptionsInRange options }
+        ensures { self.new ≡ record self.old { options = options } }
+    {
+        self.options = options;
+    }
+
+    /// Counts a Solve.
+    pub fn count_solve(&mut self)
+        requires { self.old.solves < 2 ^ 32 - 1 }
+        ensures { self.new ≡ record self.old { solves = self.old.solves + 1 } }
+    {
+        self.solves += 1;
+    }
+
+    /// Goes back to no circuit and the options as they are when nothing is set. The Solves stay counted.
+    pub fn clear(&mut self, alloc: Global)
+        ensures { self.new ≡ record self.old { elements = []; options = default_options } }
+    {
+        self.elements = no_elements(alloc);
+        self.options = Options::start(alloc);
     }
 
     /// The settings that Set and Solve gave. Their values are in range.
@@ -113,7 +101,7 @@ impl Circuit {
     /// The elements by name, in order of definition, no two of them the same. Each stands under a legal name in lower case
     /// with its own class, its values are in range, and each element that it names is there. The first is the source that
     /// New Circuit makes.
-    pub fn elements(&self) -> &IndexMap<ElementName, Element>
+    pub fn elements(&self) -> &Elements
         ensures entries { result.now.entries ≡ self.now.elements }
         ensures few { length self.now.elements ≤ most_elements }
         ensures in_range { AllInRange self.now.elements }

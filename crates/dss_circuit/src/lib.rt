@@ -1,22 +1,15 @@
-//! A circuit: the elements and options that the commands of a script make, one after another.
+//! A circuit: its elements by name in order of definition, its options, and how many Solves were applied.
 //!
-//! `Circuit::apply` does one command, and is proved to be exactly one step of the fold of all commands; after a
-//! refusal the circuit is as before, and the refusal is the first cause in the stated order.
+//! Every circuit has at most 2^17 elements, no two of the same class and name, each under a legal name in lower case with
+//! its own class, its values in range, and each element that one names is there; the first is the source that New Circuit
+//! makes. A change leaves it so: `put` is the only one that a circuit's elements have.
 //!
 //! - `circuit`: `Circuit`
-//! - `keys`: the element that a command is about
-//! - `elements`: elements made and edited
+//! - `elements`: elements by name
 #![tactic(auto)]
 
 mod circuit;
 mod elements;
-mod keys;
 
 pub use circuit::Circuit;
-pub use dss_profile::{
-    BankState, Blame, Bus, CapControl, Capacitor, Class, Command, Connection, ControlMode,
-    ControlQuantity, DataForm, Element, ElementName, LeadLag, Line, Linecode, Load, Loadshape,
-    Mode, ModelError, ModelFault, Nodes, Numbers, Options, Place, ReactiveRule, RegControl,
-    SourceForm, StepSize, Transformer, Units, Verb, Vsource, Winding,
-};
-pub use elements::find_element;
+pub use elements::{Elements, find_element};

@@ -5,8 +5,8 @@ use Rattle.std.specs.Cmp.Lexicographic.{nat_list_eq_equiv}
 use Rattle.std.proofs.lemmas.Bool.{eq-eqb}
 use Rattle.std.proofs.lemmas.List.Elements.{All-nil, All-cons, All-head, All-tail}
 use Rattle.std.proofs.lemmas.List.Folds.{list_any-append}
-use Rattle.dss_profile.specs.declared.element.Element.{Element}
-use Rattle.dss_profile.specs.declared.names.ElementName.{ElementName}
+use Rattle.dss_model.specs.declared.element.Element.{Element}
+use Rattle.dss_model.specs.declared.names.ElementName.{ElementName}
 use Rattle.dss_layout.specs.declared.nodes.NodeName.{NodeName}
 use Rattle.dss_layout.specs.Among.{IsAmong}
 use Rattle.dss_layout.specs.Nodes.{same_node, new_nodes}

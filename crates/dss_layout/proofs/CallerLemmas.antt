@@ -1,32 +1,21 @@
 -- What a caller needs to know of a layout.
-use Rattle.std.proofs.Common.{◌≡◌, ℕ, suc, ◌+◌, ◌<◌, ◌≤◌, nat_lt, Bool, true, false, [], ◌∷◌, length, is_some, None, refl, sym, ap, ◌∙◌, arith}
+use Rattle.std.proofs.Common.{◌≡◌, ℕ, suc, ◌+◌, ◌≤◌, nat_lt, false, [], ◌∷◌, length, None, refl, sym, ap, ◌∙◌, arith}
 use Rattle.std.proofs.lemmas.Bool.{or_parts, ltb-false}
 use Rattle.std.proofs.lemmas.List.{take_all}
-use Rattle.fd_exact.specs.First.{first_place}
-use Rattle.fd_exact.specs.FirstLaws.{found as first_found}
-use Rattle.dss_profile.specs.declared.element.Element.{Element}
+use Rattle.fd_exact.specs.FirstLaws.{none_holds}
+use Rattle.dss_model.specs.declared.element.Element.{Element}
 use Rattle.dss_layout.specs.Limits.{most_complex, most_magnitudes}
 use Rattle.dss_layout.specs.Layout.{Elements, complex_count, layout_of, first_too_many, is_past_limit_at, passes_limit, sums_before}
 pub use Rattle.dss_layout.proofs.Among.{both_parts, mentions_among}
 pub use Rattle.dss_layout.proofs.Phases.{length-phases, sum_with_own, sum_within}
 pub use Rattle.dss_layout.proofs.Placing.{drop-more, take-more}
 
-none_below : (p : ℕ → Bool) (n k : ℕ) → first_place p n ≡ None → k < n → p k ≡ false
-none_below p n k h low = by (p k) refl
-  where
-    by : (b : Bool) → p k ≡ b → p k ≡ false
-    by false e = e
-    by true e =
-        let there = first_found p n k low e in
-        let none : is_some (first_place p n) ≡ false = ap is_some h in
-        cc
-
 -- where no element passes a limit, the layout of all passes none
 pub no_limit_passed : (es : Elements) → first_too_many es ≡ None → passes_limit (layout_of es) ≡ false
 no_limit_passed [] h = refl
 no_limit_passed (e ∷ rest) h =
     ap (λ l. passes_limit (layout_of l)) (sym (take_all (length rest + 1) (e ∷ rest) (omega arith)))
-    ∙ none_below (is_past_limit_at (e ∷ rest)) (suc (length rest)) (length rest) h (omega arith)
+    ∙ none_holds (is_past_limit_at (e ∷ rest)) (suc (length rest)) (length rest) h (omega arith)
 
 -- a layout has a place for each element
 pub length-sums_before : (f : Element → ℕ) (s : ℕ) (es : Elements) → length (sums_before f s es) ≡ length es

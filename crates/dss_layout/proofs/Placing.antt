@@ -8,8 +8,8 @@ use borrow.Author.Count.{below_more}
 use Rattle.fd_exact.specs.FirstLaws.{first_none, first_some}
 use Rattle.std.proofs.lemmas.Grind.{common_steps}
 use Rattle.std.specs.List.{position_or_len}
-use Rattle.dss_profile.specs.declared.element.Element.{Element}
-use Rattle.dss_profile.specs.declared.names.ElementName.{ElementName}
+use Rattle.dss_model.specs.declared.element.Element.{Element}
+use Rattle.dss_model.specs.declared.names.ElementName.{ElementName}
 use Rattle.dss_layout.specs.declared.limits.LayoutFault.TheVariants.{TooMany}
 use Rattle.dss_layout.specs.Layout.{Elements, LayoutView, layout_of, added, passes_limit, is_past_limit_at, first_too_many, laid_out, laid_out_unless}
 use Rattle.dss_layout.proofs.Adding.{layout_of-push}

@@ -1,10 +1,10 @@
 -- Terminals: the nodes at which an element joins its buses.
 use Rattle.std.specs.Prelude.{ℕ, ◌==◌, ◌&&◌, nat_le, List, [], ◌∷◌, ◌++◌, length, take, map, filter, Option, Some, None, Result, Ok, Err, if◌then◌else◌}
-use Rattle.dss_values.specs.declared.bus.Bus.{Bus}
-use Rattle.dss_values.specs.declared.words.Connection.{Connection}
-use Rattle.dss_values.specs.declared.words.Connection.TheVariants.{Wye, Delta}
-use Rattle.dss_profile.specs.declared.element.Element.{Element}
-use Rattle.dss_profile.specs.declared.element.Element.TheVariants as the
+use Rattle.dss_model.specs.declared.bus.Bus.{Bus}
+use Rattle.dss_model.specs.declared.words.Connection.{Connection}
+use Rattle.dss_model.specs.declared.words.Connection.TheVariants.{Wye, Delta}
+use Rattle.dss_model.specs.declared.element.Element.{Element}
+use Rattle.dss_model.specs.declared.element.Element.TheVariants as the
 use Rattle.dss_layout.specs.declared.nodes.NodeName.{NodeName}
 use Rattle.dss_layout.specs.declared.terminals.Terminals.{Terminals}
 use Rattle.dss_layout.specs.declared.numbers.TerminalFault.{TerminalFault}

@@ -3,8 +3,8 @@ use Rattle.std.specs.Prelude.{ℕ, ◌-◌, ◌*◌, ◌/◌, ◌%◌, ◌==◌,
 use Rattle.std.specs.Option.{option_map}
 use Rattle.std.specs.Str.{chars}
 use Rattle.std.specs.Fmt.{decimal}
-use Rattle.dss_profile.specs.declared.names.ElementName.{ElementName}
-use Rattle.dss_profile.specs.Names.{class_word}
+use Rattle.dss_model.specs.declared.names.ElementName.{ElementName}
+use Rattle.dss_model.specs.Classes.{class_word}
 use Rattle.dss_layout.specs.declared.nodes.NodeName.{NodeName}
 use Rattle.dss_layout.specs.declared.nodes.PhaseName.{PhaseName}
 use Rattle.dss_layout.specs.Layout.{LayoutView, complex_count}

@@ -7,7 +7,7 @@ ghost use Rattle.dss_layout.specs.Layout.{LaysOut, laid_out, size_of, ends_of, f
 use crate::terminals::terminal_nodes;
 use crate::unknowns::{Unknowns, branches_of};
 use crate::{LayoutFault, NodeName, NodeNames, PhaseName};
-use dss_profile::{Element, ElementName};
+use dss_model::{Element, ElementName};
 use fd_arith::{Ends, NodeAt, Nodes};
 use indexmap::IndexMap;
 use std::alloc::{AllocError, Global};

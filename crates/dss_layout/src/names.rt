@@ -7,7 +7,7 @@ ghost use Rattle.dss_layout.specs.UnknownNames.{part_word, node_text, element_te
 
 use crate::{Layout, NodeName, PhaseName};
 use dss_lexer::Text;
-use dss_profile::ElementName;
+use dss_model::ElementName;
 use itoa::Buffer;
 use std::alloc::{AllocError, Global};
 

@@ -1,6 +1,6 @@
 // Names of nodes and of phases.
 use dss_lexer::Text;
-use dss_profile::ElementName;
+use dss_model::ElementName;
 use fd_items::Items;
 
 /// A node: a bus in lower case, and a number at it from 0 to 9. Number 0 is ground.

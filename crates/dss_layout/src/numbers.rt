@@ -3,7 +3,7 @@ ghost use Rattle.std.specs.Prelude.{◌≡◌};
 ghost use Rattle.dss_layout.specs.Numbers.{numbers_of, both_numbers, seen, Gives};
 ghost use Rattle.dss_layout.specs.Terminals.{three_phase_numbers, one_phase_numbers, phase_numbers, one_source_number, source_numbers, line_numbers, bus_numbers, at_one_bus, at_two_buses};
 
-use dss_profile::{Bus, Connection};
+use dss_model::{Bus, Connection};
 
 /// Why the buses of an element are refused.
 #[derive(Clone, Copy, Debug, PartialEq, Eq)]

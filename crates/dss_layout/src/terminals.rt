@@ -9,7 +9,7 @@ use crate::numbers::{
     two_buses,
 };
 use crate::{NodeName, NodeNames};
-use dss_profile::{Bus, Element};
+use dss_model::{Bus, Element};
 use std::alloc::{AllocError, Global};
 
 /// The nodes of an element at its first and at its second bus, ground included. At a bus of three phases and at an end of

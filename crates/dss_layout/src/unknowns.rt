@@ -8,7 +8,7 @@ ghost use Rattle.dss_layout.specs.Layout.{layout_of, added, passes_limit, phase_
 use crate::limits::{MOST_COMPLEX, MOST_MAGNITUDES};
 use crate::terminals::terminal_nodes;
 use crate::{NodeName, NodeNames, PhaseName};
-use dss_profile::{Element, ElementName};
+use dss_model::{Element, ElementName};
 use indexmap::IndexSet;
 use std::alloc::{AllocError, Global};
 use std::marker::Model;

@@ -1,23 +1,17 @@
--- What a caller needs to know of the names and the classes of elements, and of the answers that a pair's steps give.
-use Rattle.std.proofs.Common.{◌≡◌, ℕ, ◌&&◌, ◌==◌, eqb, Bool, true, false, IsTrue, List, [], ◌∷◌, Option, is_some, Ok, Err, IfOk, if◌then◌else◌, slice_index_or, refl, sym, ap, ◌∙◌}
-use Rattle.std.specs.Cmp.Lexicographic.{bytes_decides}
-use Rattle.std.proofs.lemmas.Bool.{and_parts, eqb-true, eq-eqb}
-use denote.Enum.Declared.{tag_of}
+-- What a caller needs to know of the answers that a pair's steps give.
+use Rattle.std.proofs.Common.{◌≡◌, ℕ, Bool, true, false, List, Option, is_some, Ok, Err, IfOk, if◌then◌else◌, refl}
 use Rattle.std.proofs.lemmas.Result.{IfOk-at_ok}
 use Rattle.dss_lexer.specs.Texts.{is_empty, text_eq}
-use Rattle.dss_profile.specs.declared.names.Class.{Class}
-use Rattle.dss_profile.specs.declared.names.Class.TheVariants as the
-use Rattle.dss_profile.specs.declared.names.ElementName.{ElementName}
-use Rattle.dss_profile.specs.contracts.names.Class.{the_type}
-use Rattle.dss_profile.specs.contracts.names.ElementNamePartialEq.TheImpl.{eq-value}
-use Rattle.dss_profile.specs.SameElement.{class_number, same_element, SameElementIsEqual}
+use Rattle.dss_model.specs.declared.names.Class.{Class}
+use Rattle.dss_model.specs.declared.names.Class.TheVariants as the
 use Rattle.dss_lexer.specs.declared.pair.Pair.{Pair}
-use Rattle.dss_values.specs.declared.fault.ModelFault.TheVariants as fault
-use Rattle.dss_values.specs.Names.{bytes, lower}
-use Rattle.dss_profile.specs.declared.command.Place.{Place}
-use Rattle.dss_profile.specs.declared.element.Element.{Element}
-use Rattle.dss_profile.specs.declared.element.Element.TheVariants as the_element
-use Rattle.dss_profile.specs.Element.{class_of, code_found, fresh, with_named, with_pair}
+use Rattle.dss_model.specs.declared.fault.ModelFault.TheVariants as fault
+use Rattle.dss_model.specs.Names.{bytes, lower}
+use Rattle.dss_model.specs.declared.command.Place.{Place}
+use Rattle.dss_model.specs.declared.element.Element.{Element}
+use Rattle.dss_model.specs.declared.element.Element.TheVariants as the_element
+use Rattle.dss_model.specs.Element.{class_of, fresh}
+use Rattle.dss_profile.specs.Element.{code_found, with_named, with_pair}
 use Rattle.dss_profile.specs.Vsource.{with_vsource}
 use Rattle.dss_profile.specs.Linecode.{with_linecode}
 use Rattle.dss_profile.specs.Line.{with_line}
@@ -28,60 +22,6 @@ use Rattle.dss_profile.specs.RegControl.{with_regcontrol}
 use Rattle.dss_profile.specs.CapControl.{with_capcontrol}
 use Rattle.dss_profile.specs.Loadshape.{with_loadshape}
 pub use Rattle.dss_profile.proofs.FormRanges.{then_ok, any_ok, made_ok, kept_ok, found_ok}
-
-numbered : (a : Class) → tag_of the_type a ≡ class_number a
-numbered the.Vsource = refl
-numbered the.Linecode = refl
-numbered the.Line = refl
-numbered the.Transformer = refl
-numbered the.Capacitor = refl
-numbered the.Load = refl
-numbered the.RegControl = refl
-numbered the.CapControl = refl
-numbered the.Loadshape = refl
-
--- `==` is the same class and the same name
-pub compares : eq-value.it ≡ same_element
-compares = λ i a b. eqb (numbered a.class i) (numbered b.class i) && text_eq a.name b.name
-
-abbrev class_at : ℕ → Class
-class_at n =
-    slice_index_or (the.Vsource ∷ the.Linecode
-    ∷ the.Line ∷ the.Transformer ∷ the.Capacitor ∷ the.Load ∷ the.RegControl ∷ the.CapControl ∷ the.Loadshape ∷ [])
-    n the.Vsource
-
-found : (a : Class) → class_at (class_number a) ≡ a
-found the.Vsource = refl
-found the.Linecode = refl
-found the.Line = refl
-found the.Transformer = refl
-found the.Capacitor = refl
-found the.Load = refl
-found the.RegControl = refl
-found the.CapControl = refl
-found the.Loadshape = refl
-
-one_class : (a b : Class) → class_number a ≡ class_number b → a ≡ b
-one_class a b e = sym (found a) ∙ ap class_at e ∙ found b
-
-itself : (p q : Bool) → p ≡ true → q ≡ true → (p && q) ≡ true
-itself p q a b = λ i. a i && b i
-
--- the same element is an equal one
-pub equal : SameElementIsEqual
-equal a b = (
-  same,
-  λ e.
-      itself _ _ (eq-eqb _ _ (ap (λ (x : ElementName). class_number x.class) e))
-      ((bytes_decides a.name b.name).1 (ap (λ (x : ElementName). x.name) e)),
-)
-  where
-    same : IsTrue (same_element a b) → a ≡ b
-    same h =
-        let parts = and_parts (class_number a.class == class_number b.class) (text_eq a.name b.name) h in
-        let classes = one_class a.class b.class (eqb-true (class_number a.class) (class_number b.class) parts.0) in
-        let names = (bytes_decides a.name b.name).0 parts.1 in
-        λ i. record { class = classes i; name = names i }
 
 -- ---- classes
 
@@ -131,15 +71,3 @@ class_kept solves found pair e new h = by (is_empty pair.name) h
         → class_of new ≡ class_of e
     by true h = cc h
     by false h = IfOk-at_ok (IsOf (class_of e)) h (named_class solves found (bytes (lower pair.name)) pair e)
-
--- an element with its defaults is of the class that was asked for
-pub fresh_class : (solves : ℕ) (class : Class) (place : Place) → class_of (fresh solves class place) ≡ class
-fresh_class solves the.Vsource place = refl
-fresh_class solves the.Linecode place = refl
-fresh_class solves the.Line place = refl
-fresh_class solves the.Transformer place = refl
-fresh_class solves the.Capacitor place = refl
-fresh_class solves the.Load place = refl
-fresh_class solves the.RegControl place = refl
-fresh_class solves the.CapControl place = refl
-fresh_class solves the.Loadshape place = refl

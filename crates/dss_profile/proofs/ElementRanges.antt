@@ -2,20 +2,20 @@
 use Rattle.std.proofs.Common.{ℕ, ◌≤◌, List, [], ◌∷◌, Option, Some, None, is_some, IfSome, Result, Ok, Err, IfOk, OnOk, refl}
 use Rattle.std.proofs.lemmas.Result.{IfOk-at_ok, IfOk-weaker}
 use Rattle.dss_lexer.specs.declared.pair.Pair.{Pair}
-use Rattle.dss_values.specs.declared.fault.ModelError.{ModelError}
-use Rattle.dss_values.specs.declared.fault.ModelFault.{ModelFault}
-use Rattle.dss_values.specs.Answers.{Makes}
+use Rattle.dss_model.specs.declared.fault.ModelError.{ModelError}
+use Rattle.dss_model.specs.declared.fault.ModelFault.{ModelFault}
+use Rattle.dss_model.specs.Answers.{Makes}
 use Rattle.dss_values.specs.Forms.{whole_between}
-use Rattle.dss_profile.specs.declared.element.Element.{Element}
-use Rattle.dss_profile.specs.declared.element.Element.TheVariants as the
-use Rattle.dss_profile.specs.declared.options.Options.{Options}
+use Rattle.dss_model.specs.declared.element.Element.{Element}
+use Rattle.dss_model.specs.declared.element.Element.TheVariants as the
+use Rattle.dss_model.specs.declared.options.Options.{Options}
 use Rattle.dss_profile.specs.declared.options.OptionName.{OptionName}
 use Rattle.dss_profile.specs.declared.options.OptionName.TheVariants as option
-use Rattle.dss_values.specs.declared.words.Mode.{Mode}
-use Rattle.dss_values.specs.declared.words.Mode.TheVariants as mode
-use Rattle.dss_profile.specs.Changes.{Becomes}
-use Rattle.dss_profile.specs.InRange.{LinecodeInRange, ElementInRange, OptionsInRange}
-use Rattle.dss_profile.specs.Ranges.{IsCountBetween}
+use Rattle.dss_model.specs.declared.words.Mode.{Mode}
+use Rattle.dss_model.specs.declared.words.Mode.TheVariants as mode
+use Rattle.dss_model.specs.Changes.{Becomes}
+use Rattle.dss_model.specs.InRange.{LinecodeInRange, ElementInRange, OptionsInRange}
+use Rattle.dss_model.specs.Ranges.{IsCountBetween}
 use Rattle.dss_profile.specs.Element.{code_found, with_named}
 use Rattle.dss_profile.specs.Options.{in_mode, with_option, with_named_option, with_options}
 use Rattle.dss_profile.proofs.FormRanges.{count_by_test, then_ok, any_ok, made_ok, kept_ok, number_ok, whole_ok, numbers_ok, supported_ok}

@@ -1,15 +1,16 @@
--- The properties of a CapControl: the form, range and default of each, and the field that it sets.
+-- The properties of a CapControl: the form and range of each, and the field that it sets.
 use Rattle.std.specs.Prelude.{ℕ, Bool, List, [], ◌∷◌, codes, pos, neg_ℤ, Some, None, Result, Ok}
 use Rattle.dss_lexer.specs.declared.pair.Pair.{Pair}
-use Rattle.dss_values.specs.declared.fault.ModelFault.{ModelFault}
-use Rattle.dss_profile.specs.declared.command.Place.{Place}
-use Rattle.dss_profile.specs.declared.capcontrol.CapControl.{CapControl}
+use Rattle.dss_model.specs.declared.fault.ModelFault.{ModelFault}
+use Rattle.dss_model.specs.declared.command.Place.{Place}
+use Rattle.dss_model.specs.declared.capcontrol.CapControl.{CapControl}
 use Rattle.dss_profile.specs.declared.capcontrol.CapControlProperty.{CapControlProperty}
 use Rattle.dss_profile.specs.declared.capcontrol.CapControlProperty.TheVariants as the
-use Rattle.dss_values.specs.declared.words.ControlQuantity.TheVariants as quantity
-use Rattle.dss_values.specs.Answers.{◌>>=◌}
-use Rattle.dss_values.specs.declared.fault.ModelFault.TheVariants as fault
-use Rattle.dss_values.specs.Forms.{ones, number_between, whole_between, choice_in, milliseconds_in, phase_in, known_name_in, known_line_name_in}
+use Rattle.dss_model.specs.declared.words.ControlQuantity.TheVariants as quantity
+use Rattle.dss_model.specs.Answers.{◌>>=◌}
+use Rattle.dss_model.specs.declared.fault.ModelFault.TheVariants as fault
+use Rattle.dss_model.specs.Ranges.{ones}
+use Rattle.dss_values.specs.Forms.{number_between, whole_between, choice_in, milliseconds_in, phase_in, known_name_in, known_line_name_in}
 use Rattle.dss_values.specs.Words.{quantities}
 
 abbrev pub capcontrol_properties : List (List ℕ × CapControlProperty)
@@ -28,24 +29,6 @@ capcontrol_properties =
     ∷ (codes "ptphase", the.Ptphase)
     ∷ (codes "ctphase", the.Ctphase)
     ∷ []
-
-abbrev pub fresh_capcontrol : Place → CapControl
-fresh_capcontrol place = record {
-  place = place;
-  element = None;
-  terminal = 1;
-  capacitor = None;
-  kind = quantity.Current;
-  ptratio = ones 60;
-  ctratio = ones 60;
-  onsetting = ones 300;
-  offsetting = ones 200;
-  delay = 15_000;
-  delayoff = 15_000;
-  deadtime = 300_000;
-  ptphase = pos 1;
-  ctphase = pos 1;
-}
 
 -- `found` says whether the element that the pair names is there
 abbrev pub with_capcontrol : Bool → CapControlProperty → Pair → CapControl → Result CapControl ModelFault

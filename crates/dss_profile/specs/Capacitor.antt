@@ -1,16 +1,17 @@
--- The properties of a Capacitor: the form, range and default of each, and the field that it sets.
+-- The properties of a Capacitor: the form and range of each, and the field that it sets.
 use Rattle.std.specs.Prelude.{ℕ, List, [], ◌∷◌, codes, pos, Some, None, Result, Ok, Err}
 use Rattle.dss_lexer.specs.declared.pair.Pair.{Pair}
-use Rattle.dss_values.specs.declared.fault.ModelFault.{ModelFault}
-use Rattle.dss_profile.specs.declared.command.Place.{Place}
-use Rattle.dss_profile.specs.declared.capacitor.Capacitor.{Capacitor}
+use Rattle.dss_model.specs.declared.fault.ModelFault.{ModelFault}
+use Rattle.dss_model.specs.declared.command.Place.{Place}
+use Rattle.dss_model.specs.declared.capacitor.Capacitor.{Capacitor}
 use Rattle.dss_profile.specs.declared.capacitor.CapacitorProperty.{CapacitorProperty}
 use Rattle.dss_profile.specs.declared.capacitor.CapacitorProperty.TheVariants as the
-use Rattle.dss_values.specs.declared.words.Connection.TheVariants as connection
-use Rattle.dss_values.specs.declared.words.BankState.TheVariants as state
-use Rattle.dss_values.specs.Answers.{◌>>=◌}
-use Rattle.dss_values.specs.declared.fault.ModelFault.TheVariants as fault
-use Rattle.dss_values.specs.Forms.{ones, number_in, number_between, whole_among, supported_among, choice_in, bus_in, state_in}
+use Rattle.dss_model.specs.declared.words.Connection.TheVariants as connection
+use Rattle.dss_model.specs.declared.words.BankState.TheVariants as state
+use Rattle.dss_model.specs.Answers.{◌>>=◌}
+use Rattle.dss_model.specs.declared.fault.ModelFault.TheVariants as fault
+use Rattle.dss_model.specs.Ranges.{ones}
+use Rattle.dss_values.specs.Forms.{number_in, number_between, whole_among, supported_among, choice_in, bus_in, state_in}
 use Rattle.dss_values.specs.Words.{connections}
 
 abbrev pub capacitor_properties : List (List ℕ × CapacitorProperty)
@@ -25,21 +26,6 @@ capacitor_properties =
     ∷ (codes "states", the.States)
     ∷ (codes "basefreq", the.Basefreq)
     ∷ []
-
--- `solves` is the number of Solves that were applied so far
-abbrev pub fresh_capacitor : ℕ → Place → Capacitor
-fresh_capacitor solves place = record {
-  place = place;
-  bus1 = None;
-  phases = 3;
-  kvar = ones 1200;
-  kv = pos 12_470_000_000;
-  conn = connection.Wye;
-  numsteps = 1;
-  states = state.Closed;
-  set_at = solves;
-  basefreq = None;
-}
 
 -- a second bus is unsupported, whatever its value
 abbrev pub with_capacitor : ℕ → CapacitorProperty → Pair → Capacitor → Result Capacitor ModelFault

@@ -1,62 +1,29 @@
--- Elements of all classes: their defaults, the pairs that set them, and the elements that pairs name.
+-- Elements of all classes: the pairs that set them, and the elements that pairs name.
 use Rattle.std.specs.Prelude.{ℕ, List, [], ◌∷◌, codes, Option, Some, None, is_some, Result, Ok, Err, if◌then◌else◌}
 use Rattle.dss_lexer.specs.declared.pair.Pair.{Pair}
 use Rattle.dss_lexer.specs.Texts.{is_empty}
-use Rattle.dss_values.specs.declared.fault.ModelFault.{ModelFault}
-use Rattle.dss_values.specs.declared.fault.ModelFault.TheVariants as fault
-use Rattle.dss_profile.specs.declared.command.Place.{Place}
-use Rattle.dss_profile.specs.declared.element.Element.{Element}
-use Rattle.dss_profile.specs.declared.element.Element.TheVariants as the
-use Rattle.dss_profile.specs.declared.linecode.Linecode.{Linecode}
-use Rattle.dss_profile.specs.declared.names.Class.{Class}
-use Rattle.dss_profile.specs.declared.names.Class.TheVariants as class
-use Rattle.dss_profile.specs.declared.names.ElementName.{ElementName}
-use Rattle.dss_values.specs.Answers.{◌>>=◌, or_fault}
-use Rattle.dss_values.specs.Names.{bytes, lower, named}
+use Rattle.dss_model.specs.declared.fault.ModelFault.{ModelFault}
+use Rattle.dss_model.specs.declared.fault.ModelFault.TheVariants as fault
+use Rattle.dss_model.specs.declared.command.Place.{Place}
+use Rattle.dss_model.specs.declared.element.Element.{Element}
+use Rattle.dss_model.specs.declared.element.Element.TheVariants as the
+use Rattle.dss_model.specs.declared.linecode.Linecode.{Linecode}
+use Rattle.dss_model.specs.declared.names.Class.{Class}
+use Rattle.dss_model.specs.declared.names.Class.TheVariants as class
+use Rattle.dss_model.specs.declared.names.ElementName.{ElementName}
+use Rattle.dss_model.specs.Answers.{◌>>=◌, or_fault}
+use Rattle.dss_model.specs.Names.{bytes, lower, named}
 use Rattle.dss_values.specs.Forms.{name_in, line_name_in}
-use Rattle.dss_profile.specs.Vsource.{vsource_properties, with_vsource, fresh_vsource}
-use Rattle.dss_profile.specs.Linecode.{linecode_properties, with_linecode, fresh_linecode}
-use Rattle.dss_profile.specs.Line.{line_properties, with_line, fresh_line}
-use Rattle.dss_profile.specs.Transformer.{transformer_properties, with_transformer, fresh_transformer}
-use Rattle.dss_profile.specs.Capacitor.{capacitor_properties, with_capacitor, fresh_capacitor}
-use Rattle.dss_profile.specs.Load.{load_properties, with_load, fresh_load}
-use Rattle.dss_profile.specs.RegControl.{regcontrol_properties, with_regcontrol, fresh_regcontrol}
-use Rattle.dss_profile.specs.CapControl.{capcontrol_properties, with_capcontrol, fresh_capcontrol}
-use Rattle.dss_profile.specs.Loadshape.{loadshape_properties, with_loadshape, fresh_loadshape}
-
-abbrev pub class_of : Element → Class
-class_of (the.Vsource source) = class.Vsource
-class_of (the.Linecode code) = class.Linecode
-class_of (the.Line line) = class.Line
-class_of (the.Transformer xfmr) = class.Transformer
-class_of (the.Capacitor bank) = class.Capacitor
-class_of (the.Load load) = class.Load
-class_of (the.RegControl control) = class.RegControl
-class_of (the.CapControl control) = class.CapControl
-class_of (the.Loadshape shape) = class.Loadshape
-
-abbrev pub place_of : Element → Place
-place_of (the.Vsource source) = source.place
-place_of (the.Linecode code) = code.place
-place_of (the.Line line) = line.place
-place_of (the.Transformer xfmr) = xfmr.place
-place_of (the.Capacitor bank) = bank.place
-place_of (the.Load load) = load.place
-place_of (the.RegControl control) = control.place
-place_of (the.CapControl control) = control.place
-place_of (the.Loadshape shape) = shape.place
-
--- an element of a class with its defaults; `solves` is the number of Solves that were applied so far
-abbrev pub fresh : ℕ → Class → Place → Element
-fresh solves class.Vsource place = the.Vsource (fresh_vsource place)
-fresh solves class.Linecode place = the.Linecode (fresh_linecode place)
-fresh solves class.Line place = the.Line (fresh_line place)
-fresh solves class.Transformer place = the.Transformer (fresh_transformer solves place)
-fresh solves class.Capacitor place = the.Capacitor (fresh_capacitor solves place)
-fresh solves class.Load place = the.Load (fresh_load place)
-fresh solves class.RegControl place = the.RegControl (fresh_regcontrol place)
-fresh solves class.CapControl place = the.CapControl (fresh_capcontrol place)
-fresh solves class.Loadshape place = the.Loadshape (fresh_loadshape place)
+use Rattle.dss_profile.specs.Vsource.{vsource_properties, with_vsource}
+use Rattle.dss_model.specs.Defaults.{fresh_vsource, fresh_linecode, fresh_line, fresh_transformer, fresh_capacitor, fresh_load, fresh_regcontrol, fresh_capcontrol, fresh_loadshape}
+use Rattle.dss_profile.specs.Linecode.{linecode_properties, with_linecode}
+use Rattle.dss_profile.specs.Line.{line_properties, with_line}
+use Rattle.dss_profile.specs.Transformer.{transformer_properties, with_transformer}
+use Rattle.dss_profile.specs.Capacitor.{capacitor_properties, with_capacitor}
+use Rattle.dss_profile.specs.Load.{load_properties, with_load}
+use Rattle.dss_profile.specs.RegControl.{regcontrol_properties, with_regcontrol}
+use Rattle.dss_profile.specs.CapControl.{capcontrol_properties, with_capcontrol}
+use Rattle.dss_profile.specs.Loadshape.{loadshape_properties, with_loadshape}
 
 -- an element, as a line code
 abbrev pub code_found : Option Element → Option Linecode

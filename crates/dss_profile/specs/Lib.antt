@@ -1,4 +1,3 @@
-pub mod Names
 pub mod Vsource
 pub mod LineConstants
 pub mod Linecode
@@ -11,8 +10,3 @@ pub mod CapControl
 pub mod Loadshape
 pub mod Element
 pub mod Options
-pub mod Ranges
-pub mod InRange
-pub mod SameElement
-pub mod Changes
-pub mod Sound

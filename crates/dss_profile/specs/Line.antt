@@ -1,19 +1,21 @@
--- The properties of a Line: the form, range and default of each, and the field that it sets.
+-- The properties of a Line: the form and range of each, and the field that it sets.
 use Rattle.std.specs.Prelude.{ℕ, List, [], ◌∷◌, Bool, true, false, codes, pos, Option, Some, None, Result, Ok, if◌then◌else◌}
 use Rattle.dss_lexer.specs.declared.pair.Pair.{Pair}
-use Rattle.dss_values.specs.declared.fault.ModelFault.{ModelFault}
-use Rattle.dss_profile.specs.declared.command.Place.{Place}
-use Rattle.dss_profile.specs.declared.line.Line.{Line}
+use Rattle.dss_model.specs.declared.fault.ModelFault.{ModelFault}
+use Rattle.dss_model.specs.declared.command.Place.{Place}
+use Rattle.dss_model.specs.declared.line.Line.{Line}
 use Rattle.dss_profile.specs.declared.line.LineProperty.{LineProperty}
 use Rattle.dss_profile.specs.declared.line.LineProperty.TheVariants as the
 use Rattle.dss_profile.specs.declared.line_constants.DataProperty.{DataProperty}
 use Rattle.dss_profile.specs.declared.line_constants.DataProperty.TheVariants as data_property
-use Rattle.dss_profile.specs.declared.linecode.Linecode.{Linecode}
-use Rattle.dss_values.specs.declared.words.Units.TheVariants as unit
-use Rattle.dss_values.specs.Answers.{◌>>=◌, or_fault}
-use Rattle.dss_values.specs.declared.fault.ModelFault.TheVariants as fault
-use Rattle.dss_values.specs.Forms.{ones, number_in, number_between, whole_between, choice_in, name_in, bus_in}
-use Rattle.dss_profile.specs.LineConstants.{fresh_constants, is_impedance, with_constant, with_switch}
+use Rattle.dss_model.specs.declared.linecode.Linecode.{Linecode}
+use Rattle.dss_model.specs.declared.words.Units.TheVariants as unit
+use Rattle.dss_model.specs.Answers.{◌>>=◌, or_fault}
+use Rattle.dss_model.specs.declared.fault.ModelFault.TheVariants as fault
+use Rattle.dss_model.specs.Ranges.{ones}
+use Rattle.dss_values.specs.Forms.{number_in, number_between, whole_between, choice_in, name_in, bus_in}
+use Rattle.dss_model.specs.Defaults.{fresh_constants}
+use Rattle.dss_profile.specs.LineConstants.{is_impedance, with_constant, with_switch}
 use Rattle.dss_values.specs.Words.{units, truths}
 
 abbrev pub line_properties : List (List ℕ × LineProperty)
@@ -41,21 +43,6 @@ line_properties =
     ∷ (codes "pctperm", the.Ignored)
     ∷ (codes "repair", the.Ignored)
     ∷ []
-
-abbrev pub fresh_line : Place → Line
-fresh_line place = record {
-  place = place;
-  bus1 = None;
-  bus2 = None;
-  phases = 3;
-  linecode = None;
-  length = ones 1;
-  units = unit.None;
-  constants = fresh_constants;
-  switch = false;
-  basefreq = None;
-  code_units = unit.None;
-}
 
 -- the data of a line code as they are now, with its phases and its unit; the line's own length and unit stay
 abbrev pub with_code : List ℕ → Linecode → Line → Line

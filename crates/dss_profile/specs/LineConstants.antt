@@ -1,29 +1,15 @@
 -- The impedance and the charging of a line or a line code: the form and range of each property, and the field that it sets.
 use Rattle.std.specs.Prelude.{ℤ, Bool, true, false, List, pos, neg_ℤ, Some, None, Result, Ok}
 use Rattle.dss_lexer.specs.declared.pair.Pair.{Pair}
-use Rattle.dss_values.specs.declared.fault.ModelFault.{ModelFault}
-use Rattle.dss_profile.specs.declared.line_constants.LineConstants.{LineConstants}
+use Rattle.dss_model.specs.declared.fault.ModelFault.{ModelFault}
+use Rattle.dss_model.specs.declared.line_constants.LineConstants.{LineConstants}
 use Rattle.dss_profile.specs.declared.line_constants.DataProperty.{DataProperty}
 use Rattle.dss_profile.specs.declared.line_constants.DataProperty.TheVariants as the
-use Rattle.dss_values.specs.declared.words.DataForm.TheVariants as data_form
-use Rattle.dss_values.specs.Answers.{◌>>=◌}
-use Rattle.dss_values.specs.Forms.{ones, number_between}
+use Rattle.dss_model.specs.declared.words.DataForm.TheVariants as data_form
+use Rattle.dss_model.specs.Answers.{◌>>=◌}
+use Rattle.dss_model.specs.Ranges.{ones}
+use Rattle.dss_values.specs.Forms.{number_between}
 use Rattle.dss_values.specs.Matrices.{matrix_between}
-
-abbrev pub fresh_constants : LineConstants
-fresh_constants = record {
-  rmatrix = None;
-  xmatrix = None;
-  cmatrix = None;
-  r1 = None;
-  x1 = None;
-  r0 = None;
-  x0 = None;
-  c1 = None;
-  c0 = None;
-  form = None;
-  charge_form = None;
-}
 
 -- the other properties are those of the charging
 abbrev pub is_impedance : DataProperty → Bool

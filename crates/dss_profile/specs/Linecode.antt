@@ -1,17 +1,18 @@
--- The properties of a Linecode: the form, range and default of each, and the field that it sets.
+-- The properties of a Linecode: the form and range of each, and the field that it sets.
 use Rattle.std.specs.Prelude.{ℕ, List, [], ◌∷◌, codes, Some, None, Result, Ok}
 use Rattle.dss_lexer.specs.declared.pair.Pair.{Pair}
-use Rattle.dss_values.specs.declared.fault.ModelFault.{ModelFault}
-use Rattle.dss_profile.specs.declared.command.Place.{Place}
-use Rattle.dss_profile.specs.declared.linecode.Linecode.{Linecode}
+use Rattle.dss_model.specs.declared.fault.ModelFault.{ModelFault}
+use Rattle.dss_model.specs.declared.command.Place.{Place}
+use Rattle.dss_model.specs.declared.linecode.Linecode.{Linecode}
 use Rattle.dss_profile.specs.declared.line_constants.DataProperty.TheVariants as data_property
 use Rattle.dss_profile.specs.declared.linecode.LinecodeProperty.{LinecodeProperty}
 use Rattle.dss_profile.specs.declared.linecode.LinecodeProperty.TheVariants as the
-use Rattle.dss_values.specs.declared.words.Units.TheVariants as unit
-use Rattle.dss_values.specs.Answers.{◌>>=◌}
-use Rattle.dss_values.specs.declared.fault.ModelFault.TheVariants as fault
+use Rattle.dss_model.specs.declared.words.Units.TheVariants as unit
+use Rattle.dss_model.specs.Answers.{◌>>=◌}
+use Rattle.dss_model.specs.declared.fault.ModelFault.TheVariants as fault
 use Rattle.dss_values.specs.Forms.{number_in, whole_between, choice_in}
-use Rattle.dss_profile.specs.LineConstants.{fresh_constants, with_constant}
+use Rattle.dss_model.specs.Defaults.{fresh_constants}
+use Rattle.dss_profile.specs.LineConstants.{with_constant}
 use Rattle.dss_values.specs.Words.{units}
 
 abbrev pub linecode_properties : List (List ℕ × LinecodeProperty)
@@ -34,15 +35,6 @@ linecode_properties =
     ∷ (codes "pctperm", the.Ignored)
     ∷ (codes "repair", the.Ignored)
     ∷ []
-
-abbrev pub fresh_linecode : Place → Linecode
-fresh_linecode place = record {
-  place = place;
-  nphases = 3;
-  constants = fresh_constants;
-  units = unit.None;
-  basefreq = None;
-}
 
 abbrev pub with_linecode : LinecodeProperty → Pair → Linecode → Result Linecode ModelFault
 with_linecode the.Nphases pair code = whole_between 1 3 pair >>= λ n. Ok (record code { nphases = n })

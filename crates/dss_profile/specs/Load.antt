@@ -1,18 +1,19 @@
--- The properties of a Load: the form, range and default of each, and the field that it sets.
+-- The properties of a Load: the form and range of each, and the field that it sets.
 use Rattle.std.specs.Prelude.{ℕ, ◌==◌, Bool, List, [], ◌∷◌, codes, pos, neg_ℤ, Some, None, Result, Ok, if◌then◌else◌}
 use Rattle.fd_arith.specs.declared.terms.LoadModel.{LoadModel}
 use Rattle.fd_arith.specs.declared.terms.LoadModel.TheVariants.{ConstantPower, ConstantImpedance, ConstantCurrent}
 use Rattle.dss_lexer.specs.declared.pair.Pair.{Pair}
-use Rattle.dss_values.specs.declared.fault.ModelFault.{ModelFault}
-use Rattle.dss_profile.specs.declared.command.Place.{Place}
-use Rattle.dss_profile.specs.declared.load.Load.{Load}
+use Rattle.dss_model.specs.declared.fault.ModelFault.{ModelFault}
+use Rattle.dss_model.specs.declared.command.Place.{Place}
+use Rattle.dss_model.specs.declared.load.Load.{Load}
 use Rattle.dss_profile.specs.declared.load.LoadProperty.{LoadProperty}
 use Rattle.dss_profile.specs.declared.load.LoadProperty.TheVariants as the
-use Rattle.dss_values.specs.declared.words.Connection.TheVariants as connection
-use Rattle.dss_values.specs.declared.words.ReactiveRule.TheVariants as rule
-use Rattle.dss_values.specs.Answers.{◌>>=◌}
-use Rattle.dss_values.specs.declared.fault.ModelFault.TheVariants as fault
-use Rattle.dss_values.specs.Forms.{ones, number_in, number_between, power_factor_in, whole_among, supported_among, choice_in, bus_in, known_name_in}
+use Rattle.dss_model.specs.declared.words.Connection.TheVariants as connection
+use Rattle.dss_model.specs.declared.words.ReactiveRule.TheVariants as rule
+use Rattle.dss_model.specs.Answers.{◌>>=◌}
+use Rattle.dss_model.specs.declared.fault.ModelFault.TheVariants as fault
+use Rattle.dss_model.specs.Ranges.{ones}
+use Rattle.dss_values.specs.Forms.{number_in, number_between, power_factor_in, whole_among, supported_among, choice_in, bus_in, known_name_in}
 use Rattle.dss_values.specs.Words.{connections}
 
 abbrev pub load_properties : List (List ℕ × LoadProperty)
@@ -32,24 +33,6 @@ load_properties =
     ∷ (codes "class", the.Ignored)
     ∷ (codes "numcust", the.Ignored)
     ∷ []
-
-abbrev pub fresh_load : Place → Load
-fresh_load place = record {
-  place = place;
-  bus1 = None;
-  phases = 3;
-  kv = pos 12_470_000_000;
-  kw = ones 10;
-  pf = pos 880_000_000;
-  kvar = None;
-  model = ConstantPower;
-  conn = connection.Wye;
-  vminpu = pos 950_000_000;
-  vmaxpu = pos 1_050_000_000;
-  daily = None;
-  basefreq = None;
-  reactive = rule.PowerFactor;
-}
 
 -- constant power is 1, constant impedance 2, constant current 5, and there is no other number
 abbrev pub model_of : ℕ → LoadModel

@@ -1,18 +1,19 @@
--- The options: the form, range and default of each, and the field that it sets.
+-- The options: the form and range of each, and the field that it sets.
 use Rattle.std.specs.Prelude.{ℕ, List, [], ◌∷◌, codes, pos, Result, Ok}
 use Rattle.dss_lexer.specs.declared.pair.Pair.{Pair}
-use Rattle.dss_values.specs.declared.fault.ModelFault.{ModelFault}
-use Rattle.dss_profile.specs.declared.options.Options.{Options}
+use Rattle.dss_model.specs.declared.fault.ModelFault.{ModelFault}
+use Rattle.dss_model.specs.declared.options.Options.{Options}
 use Rattle.dss_profile.specs.declared.options.OptionName.{OptionName}
 use Rattle.dss_profile.specs.declared.options.OptionName.TheVariants as the
-use Rattle.dss_values.specs.declared.words.Mode.{Mode}
-use Rattle.dss_values.specs.declared.words.Mode.TheVariants as mode
-use Rattle.dss_values.specs.declared.words.ControlMode.TheVariants as control
-use Rattle.dss_values.specs.declared.words.StepSize.TheVariants as step
-use Rattle.dss_values.specs.declared.fault.ModelFault.TheVariants as fault
-use Rattle.dss_values.specs.Answers.{◌>>=◌, or_fault}
-use Rattle.dss_values.specs.Names.{bytes, lower, named}
-use Rattle.dss_values.specs.Forms.{ones, number_between, numbers_between, whole_between, supported_among, choice_in}
+use Rattle.dss_model.specs.declared.words.Mode.{Mode}
+use Rattle.dss_model.specs.declared.words.Mode.TheVariants as mode
+use Rattle.dss_model.specs.declared.words.ControlMode.TheVariants as control
+use Rattle.dss_model.specs.declared.words.StepSize.TheVariants as step
+use Rattle.dss_model.specs.declared.fault.ModelFault.TheVariants as fault
+use Rattle.dss_model.specs.Answers.{◌>>=◌, or_fault}
+use Rattle.dss_model.specs.Names.{bytes, lower, named}
+use Rattle.dss_model.specs.Ranges.{ones}
+use Rattle.dss_values.specs.Forms.{number_between, numbers_between, whole_between, supported_among, choice_in}
 use Rattle.dss_values.specs.Words.{modes, control_modes, step_sizes}
 
 abbrev pub option_names : List (List ℕ × OptionName)
@@ -27,19 +28,6 @@ option_names =
     ∷ (codes "voltagebases", the.Voltagebases)
     ∷ (codes "defaultbasefrequency", the.Defaultbasefrequency)
     ∷ []
-
-abbrev pub default_options : Options
-default_options = record {
-  mode = mode.Snapshot;
-  number = 1;
-  stepsize = step.Hour;
-  maxiterations = 15;
-  tolerance = pos 100_000;
-  maxcontroliter = 10;
-  controlmode = control.Static;
-  voltagebases = [];
-  defaultbasefrequency = 60;
-}
 
 -- a daily run has 24 hours, until a later pair says otherwise
 abbrev pub in_mode : Mode → Options → Options

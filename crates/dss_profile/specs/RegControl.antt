@@ -1,13 +1,14 @@
--- The properties of a RegControl: the form, range and default of each, and the field that it sets.
+-- The properties of a RegControl: the form and range of each, and the field that it sets.
 use Rattle.std.specs.Prelude.{ℕ, Bool, List, [], ◌∷◌, codes, pos, neg_ℤ, Some, None, Result, Ok}
 use Rattle.dss_lexer.specs.declared.pair.Pair.{Pair}
-use Rattle.dss_values.specs.declared.fault.ModelFault.{ModelFault}
-use Rattle.dss_profile.specs.declared.command.Place.{Place}
-use Rattle.dss_profile.specs.declared.regcontrol.RegControl.{RegControl}
+use Rattle.dss_model.specs.declared.fault.ModelFault.{ModelFault}
+use Rattle.dss_model.specs.declared.command.Place.{Place}
+use Rattle.dss_model.specs.declared.regcontrol.RegControl.{RegControl}
 use Rattle.dss_profile.specs.declared.regcontrol.RegControlProperty.{RegControlProperty}
 use Rattle.dss_profile.specs.declared.regcontrol.RegControlProperty.TheVariants as the
-use Rattle.dss_values.specs.Answers.{◌>>=◌}
-use Rattle.dss_values.specs.Forms.{ones, number_between, whole_between, milliseconds_in, phase_in, known_name_in}
+use Rattle.dss_model.specs.Answers.{◌>>=◌}
+use Rattle.dss_model.specs.Ranges.{ones}
+use Rattle.dss_values.specs.Forms.{number_between, whole_between, milliseconds_in, phase_in, known_name_in}
 
 abbrev pub regcontrol_properties : List (List ℕ × RegControlProperty)
 regcontrol_properties =
@@ -24,23 +25,6 @@ regcontrol_properties =
     ∷ (codes "maxtapchange", the.Maxtapchange)
     ∷ (codes "ptphase", the.Ptphase)
     ∷ []
-
-abbrev pub fresh_regcontrol : Place → RegControl
-fresh_regcontrol place = record {
-  place = place;
-  transformer = None;
-  winding = 1;
-  vreg = ones 120;
-  band = ones 3;
-  ptratio = ones 60;
-  ctprim = ones 300;
-  r = pos 0;
-  x = pos 0;
-  delay = 15_000;
-  tapdelay = 2_000;
-  maxtapchange = 16;
-  ptphase = pos 1;
-}
 
 -- `found` says whether the Transformer that the pair names is there
 abbrev pub with_regcontrol : Bool → RegControlProperty → Pair → RegControl → Result RegControl ModelFault

@@ -1,21 +1,22 @@
--- The properties of a Transformer: the form, range and default of each, and the field that it sets.
+-- The properties of a Transformer: the form and range of each, and the field that it sets.
 use Rattle.std.specs.Prelude.{ℕ, ℤ, ◌==◌, List, [], ◌∷◌, codes, pos, Some, None, Result, Ok, if◌then◌else◌}
 use Rattle.dss_lexer.specs.declared.pair.Pair.{Pair}
-use Rattle.dss_values.specs.declared.fault.ModelFault.{ModelFault}
-use Rattle.dss_profile.specs.declared.command.Place.{Place}
-use Rattle.dss_profile.specs.declared.transformer.Transformer.{Transformer}
+use Rattle.dss_model.specs.declared.fault.ModelFault.{ModelFault}
+use Rattle.dss_model.specs.declared.command.Place.{Place}
+use Rattle.dss_model.specs.declared.transformer.Transformer.{Transformer}
 use Rattle.dss_profile.specs.declared.transformer.TransformerProperty.{TransformerProperty}
 use Rattle.dss_profile.specs.declared.transformer.TransformerProperty.TheVariants as the
 use Rattle.dss_profile.specs.declared.transformer.BothProperty.{BothProperty}
 use Rattle.dss_profile.specs.declared.transformer.BothProperty.TheVariants as of_both
-use Rattle.dss_profile.specs.declared.transformer.Winding.{Winding}
+use Rattle.dss_model.specs.declared.transformer.Winding.{Winding}
 use Rattle.dss_profile.specs.declared.transformer.WindingProperty.{WindingProperty}
 use Rattle.dss_profile.specs.declared.transformer.WindingProperty.TheVariants as of_winding
-use Rattle.dss_values.specs.declared.words.Connection.TheVariants as connection
-use Rattle.dss_values.specs.declared.words.LeadLag.TheVariants as lead
-use Rattle.dss_values.specs.Answers.{◌>>=◌}
-use Rattle.dss_values.specs.declared.fault.ModelFault.TheVariants as fault
-use Rattle.dss_values.specs.Forms.{ones, number_in, number_between, whole_between, whole_among, supported_among, choice_in, bus_in, tap_in, half, two_numbers_between, two_taps_in, two_buses_in, two_choices_in}
+use Rattle.dss_model.specs.declared.words.Connection.TheVariants as connection
+use Rattle.dss_model.specs.declared.words.LeadLag.TheVariants as lead
+use Rattle.dss_model.specs.Answers.{◌>>=◌}
+use Rattle.dss_model.specs.declared.fault.ModelFault.TheVariants as fault
+use Rattle.dss_model.specs.Ranges.{ones}
+use Rattle.dss_values.specs.Forms.{number_in, number_between, whole_between, whole_among, supported_among, choice_in, bus_in, tap_in, half, two_numbers_between, two_taps_in, two_buses_in, two_choices_in}
 use Rattle.dss_values.specs.Words.{connections, lead_lags}
 
 abbrev pub transformer_properties : List (List ℕ × TransformerProperty)
@@ -49,37 +50,6 @@ transformer_properties =
     ∷ (codes "subname", the.Ignored)
     ∷ (codes "ppm_antifloat", the.Ignored)
     ∷ []
-
--- `solves` is the number of Solves that were applied so far
-abbrev pub fresh_winding : ℕ → Winding
-fresh_winding solves = record {
-  bus = None;
-  conn = connection.Wye;
-  kv = pos 12_470_000_000;
-  kva = ones 1000;
-  pct_r = pos 200_000_000;
-  tap = 100_000;
-  set_at = solves;
-  mintap = 90_000;
-  maxtap = 110_000;
-  numtaps = 32;
-}
-
-abbrev pub fresh_transformer : ℕ → Place → Transformer
-fresh_transformer solves place = record {
-  place = place;
-  phases = 3;
-  windings = 2;
-  wdg = 1;
-  first = fresh_winding solves;
-  second = fresh_winding solves;
-  xhl = ones 7;
-  pct_loadloss = None;
-  leadlag = lead.Lag;
-  pct_noloadloss = pos 0;
-  pct_imag = pos 0;
-  basefreq = None;
-}
 
 abbrev pub with_winding : ℕ → WindingProperty → Pair → Winding → Result Winding ModelFault
 with_winding solves of_winding.Bus pair winding = bus_in pair >>= λ b. Ok (record winding { bus = Some b })

@@ -1,14 +1,15 @@
--- The properties of a Vsource: the form, range and default of each, and the field that it sets.
+-- The properties of a Vsource: the form and range of each, and the field that it sets.
 use Rattle.std.specs.Prelude.{ℕ, List, [], ◌∷◌, codes, pos, Some, None, Result, Ok}
 use Rattle.dss_lexer.specs.declared.pair.Pair.{Pair}
-use Rattle.dss_values.specs.declared.fault.ModelFault.{ModelFault}
-use Rattle.dss_profile.specs.declared.command.Place.{Place}
-use Rattle.dss_profile.specs.declared.vsource.Vsource.{Vsource}
+use Rattle.dss_model.specs.declared.fault.ModelFault.{ModelFault}
+use Rattle.dss_model.specs.declared.command.Place.{Place}
+use Rattle.dss_model.specs.declared.vsource.Vsource.{Vsource}
 use Rattle.dss_profile.specs.declared.vsource.VsourceProperty.{VsourceProperty}
 use Rattle.dss_profile.specs.declared.vsource.VsourceProperty.TheVariants as the
-use Rattle.dss_values.specs.declared.words.SourceForm.TheVariants as source_form
-use Rattle.dss_values.specs.Answers.{◌>>=◌}
-use Rattle.dss_values.specs.Forms.{ones, number_in, number_between, whole_among, ratio_in, angle_in, bus_in}
+use Rattle.dss_model.specs.declared.words.SourceForm.TheVariants as source_form
+use Rattle.dss_model.specs.Answers.{◌>>=◌}
+use Rattle.dss_model.specs.Ranges.{ones}
+use Rattle.dss_values.specs.Forms.{number_in, number_between, whole_among, ratio_in, angle_in, bus_in}
 
 abbrev pub vsource_properties : List (List ℕ × VsourceProperty)
 vsource_properties =
@@ -27,30 +28,6 @@ vsource_properties =
     ∷ (codes "x0", the.X0)
     ∷ (codes "basefreq", the.Basefreq)
     ∷ []
-
--- its name is that of the bus where nothing else is said
-abbrev pub source_bus : List ℕ
-source_bus = codes "sourcebus"
-
-abbrev pub fresh_vsource : Place → Vsource
-fresh_vsource place = record {
-  place = place;
-  bus1 = record { name = source_bus; nodes = [] };
-  phases = 3;
-  basekv = ones 115;
-  pu = ones 1;
-  angle = pos 0;
-  mvasc3 = ones 2000;
-  mvasc1 = ones 2100;
-  x1r1 = ones 4;
-  x0r0 = ones 3;
-  r1 = None;
-  x1 = None;
-  r0 = None;
-  x0 = None;
-  basefreq = None;
-  form = source_form.ShortCircuit;
-}
 
 -- any of r1, x1, r0 and x0 puts the source in ohms, and a short-circuit power puts it back
 abbrev pub with_vsource : VsourceProperty → Pair → Vsource → Result Vsource ModelFault

@@ -1,37 +1,17 @@
-// The settings of a circuit.
+// The options of a circuit that Set and Solve name.
 ghost use Rattle.std.specs.Prelude.{◌≡◌, IfOk, OnOk};
-ghost use Rattle.dss_values.specs.Answers.{Makes};
-ghost use Rattle.dss_profile.specs.Changes.{Becomes};
-ghost use Rattle.dss_values.specs.Names.{named};
-ghost use Rattle.dss_profile.specs.Options.{option_names, default_options, in_mode, with_option, with_named_option, with_options};
-ghost use Rattle.dss_profile.specs.InRange.{OptionsInRange};
+ghost use Rattle.dss_model.specs.Changes.{Becomes};
+ghost use Rattle.dss_model.specs.Names.{named};
+ghost use Rattle.dss_profile.specs.Options.{option_names, in_mode, with_option, with_named_option, with_options};
+ghost use Rattle.dss_model.specs.Answers.{Gives, Makes};
+ghost use Rattle.dss_model.specs.InRange.{OptionsInRange};
 
 use dss_lexer::Pair;
+use dss_model::{Mode, ModelError, ModelFault, ONE, Options, find_named};
 use dss_values::{
-    ControlMode, Mode, ModelError, ModelFault, Numbers, ONE, StepSize, control_mode, find_named,
-    number_within, numbers_within, solve_mode, step_size, supported_of, whole_within,
+    control_mode, number_within, numbers_within, solve_mode, step_size, supported_of, whole_within,
 };
-use std::alloc::{AllocError, Global};
-
-/// The options that Set and Solve give. Numbers are whole 10^-9 where nothing else is said.
-#[derive(Drop)]
-pub struct Options {
-    pub mode: Mode,
-    /// The hours of a daily run, 1 to 8760.
-    pub number: u32,
-    pub stepsize: StepSize,
-    /// The most steps of one solution, 1 to 1000.
-    pub maxiterations: u32,
-    /// The greatest update at which a solution ends, as a part of the weight of its place.
-    pub tolerance: i128,
-    /// The most acts of controls for one hour, 0 to 100.
-    pub maxcontroliter: u32,
-    pub controlmode: ControlMode,
-    /// Nominal voltages in kV, between phases.
-    pub voltagebases: Numbers,
-    /// The frequency in hertz, 50 or 60.
-    pub defaultbasefrequency: u32,
-}
+use std::alloc::Global;
 
 /// An option.
 #[derive(Clone, Copy)]
@@ -66,105 +46,73 @@ pub fn option_named(name: &str) -> Option<OptionName>
     find_named(&OPTION_NAMES, name)
 }
 
-impl Options {
-    /// The options as they are before any is set. Their values are in range.
-    pub fn start(alloc: Global) -> Self
-        ensures value { result ≡ default_options }
-        ensures in_range { OptionsInRange result }
-    {
-        Options {
-            mode: Mode::Snapshot,
-            number: 1,
-            stepsize: StepSize::Hour,
-            maxiterations: 15,
-            tolerance: 100_000,
-            maxcontroliter: 10,
-            controlmode: ControlMode::Static,
-            voltagebases: Numbers::new(Vec::new(alloc)),
-            defaultbasefrequency: 60,
+// A daily run has 24 hours, until a later pair says otherwise.
+fn set_mode(options: &mut Options, mode: Mode)
+    ensures { options.new ≡ in_mode mode options.old }
+{
+    options.mode = mode;
+    if let Mode::Daily = mode {
+        options.number = 24;
+    }
+}
+
+/// Sets one option. After an `Err` they are as before.
+pub fn set_option(
+    alloc: Global,
+    options: &mut Options,
+    option: OptionName,
+    pair: &Pair,
+) -> Result<(), ModelError>
+    ensures { Becomes options.old options.new result (with_option option pair.now options.old) }
+{
+    match option {
+        OptionName::Mode => {
+            let mode = solve_mode(alloc, pair)?;
+            set_mode(options, mode);
+        }
+        OptionName::Number => options.number = whole_within(alloc, pair, 1, 8760)?,
+        OptionName::Stepsize => options.stepsize = step_size(alloc, pair)?,
+        OptionName::Maxiterations => options.maxiterations = whole_within(alloc, pair, 1, 1000)?,
+        OptionName::Tolerance => options.tolerance = number_within(alloc, pair, 1, 100_000_000)?,
+        OptionName::Maxcontroliter => options.maxcontroliter = whole_within(alloc, pair, 0, 100)?,
+        OptionName::Controlmode => options.controlmode = control_mode(alloc, pair)?,
+        OptionName::Voltagebases => {
+            options.voltagebases = numbers_within(alloc, pair, 1_000_000, 1000 * ONE)?;
+        }
+        OptionName::Defaultbasefrequency => {
+            options.defaultbasefrequency = supported_of(alloc, pair, &[50, 60])?;
         }
     }
+    Ok(())
+}
 
-    // A daily run has 24 hours, until a later pair says otherwise.
-    fn set_mode(&mut self, mode: Mode)
-        ensures { self.new ≡ in_mode mode self.old }
-    {
-        self.mode = mode;
-        if let Mode::Daily = mode {
-            self.number = 24;
-        }
-    }
+#[tactic(auto, unfolding(crate::specs::Options::with_named_option))]
+fn set_named(alloc: Global, options: &mut Options, pair: &Pair) -> Result<(), ModelError>
+    ensures { Becomes options.old options.new result (with_named_option pair.now options.old) }
+{
+    let name = pair.name.lowered(alloc)?;
+    let option = option_named(name.as_str()).ok_or(ModelFault::UnknownProperty)?;
+    set_option(alloc, options, option, pair)
+}
 
-    /// Sets one option. After an `Err` it is as before.
-    pub fn set(&mut self, alloc: Global, option: OptionName, pair: &Pair) -> Result<(), ModelError>
-        ensures { Becomes self.old self.new result (with_option option pair.now self.old) }
-    {
-        match option {
-            OptionName::Mode => {
-                let mode = solve_mode(alloc, pair)?;
-                self.set_mode(mode);
-            }
-            OptionName::Number => self.number = whole_within(alloc, pair, 1, 8760)?,
-            OptionName::Stepsize => self.stepsize = step_size(alloc, pair)?,
-            OptionName::Maxiterations => self.maxiterations = whole_within(alloc, pair, 1, 1000)?,
-            OptionName::Tolerance => self.tolerance = number_within(alloc, pair, 1, 100_000_000)?,
-            OptionName::Maxcontroliter => self.maxcontroliter = whole_within(alloc, pair, 0, 100)?,
-            OptionName::Controlmode => self.controlmode = control_mode(alloc, pair)?,
-            OptionName::Voltagebases => {
-                self.voltagebases = numbers_within(alloc, pair, 1_000_000, 1000 * ONE)?;
-            }
-            OptionName::Defaultbasefrequency => {
-                self.defaultbasefrequency = supported_of(alloc, pair, &[50, 60])?;
-            }
-        }
-        Ok(())
+// Sets the pairs from left to right. After an `Err` those before the one that is refused are set.
+fn set_each(alloc: Global, options: &mut Options, pairs: &[Pair]) -> Result<(), ModelError>
+    ensures value { Makes options.new result (with_options pairs.now options.old) }
+    ensures in_range { OptionsInRange options.old → OnOk result (OptionsInRange options.new) }
+{
+    for pair in pairs {
+        set_named(alloc, options, pair)?;
     }
+    Ok(())
+}
 
-    #[tactic(auto, unfolding(crate::specs::Options::with_named_option))]
-    fn set_named(&mut self, alloc: Global, pair: &Pair) -> Result<(), ModelError>
-        ensures { Becomes self.old self.new result (with_named_option pair.now self.old) }
-    {
-        let name = pair.name.lowered(alloc)?;
-        let option = option_named(name.as_str()).ok_or(ModelFault::UnknownProperty)?;
-        self.set(alloc, option, pair)
-    }
-
-    // Sets the pairs from left to right. After an `Err` those before the one that is refused are set.
-    fn set_each(&mut self, alloc: Global, pairs: &[Pair]) -> Result<(), ModelError>
-        ensures value { Makes self.new result (with_options pairs.now self.old) }
-        ensures in_range { OptionsInRange self.old → OnOk result (OptionsInRange self.new) }
-    {
-        for pair in pairs {
-            self.set_named(alloc, pair)?;
-        }
-        Ok(())
-    }
-
-    /// Sets the pairs from left to right. After an `Err` the options are as before. The values stay in range.
-    pub fn set_pairs(&mut self, alloc: Global, pairs: &[Pair]) -> Result<(), ModelError>
-        ensures value { Becomes self.old self.new result (with_options pairs.now self.old) }
-        ensures in_range { OptionsInRange self.old → OptionsInRange self.new }
-    {
-        let mut draft = self.copied()?;
-        draft.set_each(alloc, pairs)?;
-        *self = draft;
-        Ok(())
-    }
-
-    /// The same options.
-    pub fn copied(&self) -> Result<Options, AllocError>
-        ensures { IfOk result (λ copy. copy ≡ self.now) }
-    {
-        Ok(Options {
-            mode: self.mode,
-            number: self.number,
-            stepsize: self.stepsize,
-            maxiterations: self.maxiterations,
-            tolerance: self.tolerance,
-            maxcontroliter: self.maxcontroliter,
-            controlmode: self.controlmode,
-            voltagebases: self.voltagebases.copied()?,
-            defaultbasefrequency: self.defaultbasefrequency,
-        })
-    }
+/// The options with these pairs set from left to right, or the refusal of the first pair that is refused. The values stay
+/// in range.
+pub fn with_options(alloc: Global, options: &Options, pairs: &[Pair]) -> Result<Options, ModelError>
+    ensures value { Gives (λ new. new) result (with_options pairs.now options.now) }
+    ensures in_range { OptionsInRange options.now → IfOk result OptionsInRange }
+{
+    let mut draft = options.copied()?;
+    set_each(alloc, &mut draft, pairs)?;
+    Ok(draft)
 }

@@ -1,8 +1,8 @@
 -- What a caller needs to know of the tests of Solve.
 use Rattle.std.proofs.Common.{◌≡◌, ℕ, [], take, slice_get, All, Some, subst}
 use Rattle.std.proofs.lemmas.Option.{slice_get_within, get_or_from_slice_get}
-use Rattle.dss_profile.specs.declared.element.Element.{Element}
-use Rattle.dss_profile.specs.declared.names.ElementName.{ElementName}
+use Rattle.dss_model.specs.declared.element.Element.{Element}
+use Rattle.dss_model.specs.declared.names.ElementName.{ElementName}
 use Rattle.dss_circuit.specs.Circuit.{Elements}
 use Rattle.dss_layout.specs.Among.{IsAmong}
 use Rattle.dss_ready.specs.Feeding.{IsFed}

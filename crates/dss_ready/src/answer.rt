@@ -10,7 +10,7 @@ use crate::mention::all_mentions;
 use crate::walk::{blame, find_blame};
 use dss_circuit::Circuit;
 use dss_layout::{Layout, LayoutFault};
-use dss_profile::{Blame, ModelFault};
+use dss_model::{Blame, ModelFault};
 use std::alloc::{AllocError, Global};
 
 // The first element that is to blame for a cause of its own.

@@ -5,7 +5,7 @@ ghost use Rattle.dss_ready.specs.Lookups.{phases_given};
 
 use dss_circuit::find_element;
 use dss_lexer::Text;
-use dss_profile::{Class, Element, ElementName};
+use dss_model::{Class, Element, ElementName};
 use indexmap::IndexMap;
 use std::alloc::AllocError;
 

@@ -2,13 +2,13 @@
 ghost use Rattle.std.specs.Prelude.{◌≡◌, IfOk};
 ghost use Rattle.dss_circuit.specs.Circuit.{Elements};
 ghost use Rattle.dss_ready.specs.Noted.{Notes};
-ghost use Rattle.dss_profile.specs.Sound.{is_source_outside};
+ghost use Rattle.dss_model.specs.Sound.{is_source_outside};
 ghost use Rattle.dss_ready.specs.Ranges.{is_step_outside, is_tap_outside, is_phase_outside, are_settings_outside, is_winding_outside, is_transformer_outside, is_regcontrol_outside, is_capcontrol_outside, is_outside_by};
 
 use crate::lookup::{Elements, find_given, phases_to_measure};
 use crate::mention::Mentions;
 use dss_lexer::Text;
-use dss_profile::{
+use dss_model::{
     CapControl, Class, ControlQuantity, Element, ElementName, RegControl, SourceForm, Transformer,
     Vsource, Winding,
 };

@@ -1,8 +1,8 @@
 -- A command within a call: the names of its files, and then itself with their numbers.
 use Rattle.std.proofs.Common.{◌≡◌, ◌∙◌, ℕ, List, [], ◌∷◌, ◌++◌, Option, Result, Ok, Err, refl, sym, ap, subst, append_assoc, append-nil}
-use Rattle.dss_profile.specs.declared.command.Place.{Place}
-use Rattle.dss_profile.specs.declared.command.Command.{Command}
-use Rattle.dss_profile.specs.declared.command.Verb.{Verb}
+use Rattle.dss_model.specs.declared.command.Place.{Place}
+use Rattle.dss_model.specs.declared.command.Command.{Command}
+use Rattle.dss_model.specs.declared.command.Verb.{Verb}
 use Rattle.fd_outside.specs.Files.{Files}
 use Rattle.dss_script.specs.declared.fault.ScriptCause.{ScriptCause}
 use Rattle.dss_script.specs.declared.fault.SessionFault.{SessionFault}

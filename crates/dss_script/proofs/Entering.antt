@@ -4,9 +4,9 @@ use Rattle.fd_outside.specs.Files.{Files, held, IsHeld, AnswersHeld}
 use Rattle.fd_outside.specs.Causes.{Becomes}
 use Rattle.fd_outside.specs.declared.library.Found.{Found}
 use Rattle.fd_outside.specs.declared.library.Found.TheVariants as found
-use Rattle.dss_values.specs.Names.{bytes}
-use Rattle.dss_profile.specs.declared.command.Place.{Place}
-use Rattle.dss_profile.specs.declared.command.Command.{Command}
+use Rattle.dss_model.specs.Names.{bytes}
+use Rattle.dss_model.specs.declared.command.Place.{Place}
+use Rattle.dss_model.specs.declared.command.Command.{Command}
 use Rattle.dss_script.specs.declared.fault.SessionFault.{SessionFault}
 use Rattle.dss_script.specs.declared.fault.SessionFault.TheVariants as fault
 use Rattle.dss_script.specs.declared.session.Turn.{Turn}

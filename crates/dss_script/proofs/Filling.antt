@@ -2,9 +2,9 @@
 use Rattle.std.proofs.Common.{◌≡◌, ◌∙◌, ℕ, List, [], ◌∷◌, ◌++◌, Option, Some, Result, Ok, Err, refl, sym, ap, subst, append_assoc, append-nil}
 use Rattle.dss_lexer.specs.declared.pair.Pair.{Pair}
 use Rattle.dss_lexer.specs.Answers.{◌>>=◌}
-use Rattle.dss_values.specs.Names.{bytes}
-use Rattle.dss_profile.specs.Loadshape.{file_named}
-use Rattle.dss_profile.specs.declared.command.Place.{Place}
+use Rattle.dss_model.specs.Names.{bytes}
+use Rattle.dss_script.specs.ShapeFiles.{file_named}
+use Rattle.dss_model.specs.declared.command.Place.{Place}
 use Rattle.fd_outside.specs.Causes.{Becomes}
 use Rattle.fd_outside.specs.Files.{Files, held, AnswersHeld}
 use Rattle.fd_outside.specs.declared.library.Found.{Found}

@@ -10,13 +10,13 @@ use Rattle.dss_lexer.specs.declared.pair.Pair.{Pair}
 use Rattle.std.specs.Prelude.{codes}
 use Rattle.dss_lexer.specs.Texts.{is_empty, text_eq}
 use Rattle.dss_lexer.proofs.CallerLemmas.{same_from}
-use Rattle.dss_values.specs.Names.{named, bytes, lower, is_name}
+use Rattle.dss_model.specs.Names.{named, bytes, lower, is_name}
 use Rattle.dss_script.specs.declared.meaning.Target.{Target}
 use Rattle.dss_script.specs.declared.meaning.CommandWord.{CommandWord}
 use Rattle.dss_script.specs.declared.meaning.CommandWord.TheVariants as word
 use Rattle.dss_script.specs.declared.meaning.Meaning.TheVariants as the
 use Rattle.dss_script.specs.declared.meaning.Change.TheVariants as change
-use Rattle.dss_profile.specs.declared.command.Verb.TheVariants as verb
+use Rattle.dss_model.specs.declared.command.Verb.TheVariants as verb
 use Rattle.dss_script.specs.declared.fault.ScriptCause.TheVariants as cause
 use Rattle.dss_script.specs.Meaning.{meaning_of, command_of, command_words, element_of, new_element, edited_element, continued, file_in, subject, others, property_of, property_set, is_dot, is_word}
 use Rattle.dss_script.specs.Sessions.{paid, price}

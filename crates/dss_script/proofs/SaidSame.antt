@@ -5,10 +5,10 @@ use Rattle.std.specs.Str.Lines.{lines}
 use Rattle.dss_lexer.specs.declared.pair.Pair.{Pair}
 use Rattle.dss_lexer.specs.declared.fault.LineFault.{LineFault}
 use Rattle.dss_script.specs.Cutting.{pairs_of}
-use Rattle.dss_values.specs.Names.{bytes}
-use Rattle.dss_profile.specs.declared.command.Place.{Place}
-use Rattle.dss_profile.specs.declared.command.Command.{Command}
-use Rattle.dss_profile.specs.declared.command.Verb.{Verb}
+use Rattle.dss_model.specs.Names.{bytes}
+use Rattle.dss_model.specs.declared.command.Place.{Place}
+use Rattle.dss_model.specs.declared.command.Command.{Command}
+use Rattle.dss_model.specs.declared.command.Verb.{Verb}
 use Rattle.fd_outside.specs.Files.{Files, held}
 use Rattle.dss_script.specs.declared.fault.ScriptCause.{ScriptCause}
 use Rattle.dss_script.specs.declared.fault.ScriptCause.TheVariants as cause

@@ -11,13 +11,13 @@ use Rattle.dss_lexer.specs.declared.pair.Pair.{Pair}
 use Rattle.dss_lexer.specs.declared.fault.LineFault.{LineFault}
 use Rattle.dss_script.proofs.Rooms.{pairs_room}
 use Rattle.dss_script.specs.Cutting.{pairs_of}
-use Rattle.dss_values.specs.Names.{bytes}
-use Rattle.dss_profile.specs.declared.command.Place.{Place}
-use Rattle.dss_profile.specs.declared.command.Verb.{Verb}
+use Rattle.dss_model.specs.Names.{bytes}
+use Rattle.dss_model.specs.declared.command.Place.{Place}
+use Rattle.dss_model.specs.declared.command.Verb.{Verb}
 use Rattle.dss_script.specs.declared.meaning.Change.{Change}
 use Rattle.dss_script.specs.declared.fault.SessionFault.{SessionFault}
 use Rattle.dss_script.specs.declared.fault.SessionFault.TheVariants as fault
-use Rattle.dss_profile.specs.declared.command.Command.{Command}
+use Rattle.dss_model.specs.declared.command.Command.{Command}
 use Rattle.dss_script.specs.declared.session.Turn.{Turn}
 use Rattle.dss_script.specs.declared.session.Turn.TheVariants as turn
 use Rattle.dss_script.specs.declared.meaning.Meaning.{Meaning}

@@ -1,7 +1,7 @@
 -- How many commands a session gives, whatever the library answers.
 use Rattle.std.specs.Prelude.{◌+◌, ◌^◌, ◌≤◌, ◌<◌, ℕ, nat_lt, List, [], ◌∷◌, length, if◌then◌else◌}
-use Rattle.dss_profile.specs.declared.command.Verb.{Verb}
-use Rattle.dss_profile.specs.declared.command.Verb.TheVariants as verb
+use Rattle.dss_model.specs.declared.command.Verb.{Verb}
+use Rattle.dss_model.specs.declared.command.Verb.TheVariants as verb
 use Rattle.dss_script.specs.Sessions.{State, room, cost, start}
 
 -- a session from which these commands were given one after another: each took its room

@@ -1,6 +1,6 @@
 -- What a call that reads the files of load shapes comes to.
 use Rattle.std.specs.Prelude.{◌≡◌, ℕ, List, Option, Some, Result, Ok, Err}
-use Rattle.dss_profile.specs.declared.command.Place.{Place}
+use Rattle.dss_model.specs.declared.command.Place.{Place}
 use Rattle.fd_outside.specs.Files.{Files}
 use Rattle.dss_script.specs.declared.fault.SessionFault.{SessionFault}
 use Rattle.dss_script.specs.declared.fault.SessionFault.TheVariants as fault

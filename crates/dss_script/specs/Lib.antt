@@ -3,6 +3,7 @@ pub mod Readings
 pub mod Lines
 pub mod Meaning
 pub mod Paths
+pub mod ShapeFiles
 pub mod Shapes
 pub mod Script
 pub mod Sessions

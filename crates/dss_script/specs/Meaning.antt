@@ -5,8 +5,8 @@ use Rattle.dss_lexer.specs.declared.pair.Pair.{Pair}
 use Rattle.dss_lexer.specs.declared.fault.LineFault.{LineFault}
 use Rattle.dss_lexer.specs.declared.fault.LineFault.TheVariants as line
 use Rattle.dss_lexer.specs.Texts.{is_empty, text_eq}
-use Rattle.dss_values.specs.Names.{named, bytes, lower, is_name}
-use Rattle.dss_profile.specs.declared.command.Verb.TheVariants as verb
+use Rattle.dss_model.specs.Names.{named, bytes, lower, is_name}
+use Rattle.dss_model.specs.declared.command.Verb.TheVariants as verb
 use Rattle.dss_script.specs.declared.fault.ScriptCause.{ScriptCause}
 use Rattle.dss_script.specs.declared.fault.ScriptCause.TheVariants as cause
 use Rattle.dss_script.specs.declared.meaning.Target.{Target}

@@ -1,9 +1,9 @@
 -- Where a session stands in its script, and what a call gives.
 use Rattle.std.specs.Prelude.{◌≡◌, ℕ, ◌+◌, ◌-◌, ◌*◌, ◌≤◌, ◌<◌, nat_lt, ◌==◌, List, [], ◌∷◌, ◌++◌, length, map, Option, Some, None, Result, Ok, Err, Bool, true, false, if◌then◌else◌, max}
 use Rattle.std.specs.Str.Lines.{lines}
-use Rattle.dss_values.specs.Names.{bytes}
-use Rattle.dss_profile.specs.declared.command.Place.{Place}
-use Rattle.dss_profile.specs.declared.command.Command.{Command}
+use Rattle.dss_model.specs.Names.{bytes}
+use Rattle.dss_model.specs.declared.command.Place.{Place}
+use Rattle.dss_model.specs.declared.command.Command.{Command}
 use Rattle.fd_outside.specs.Files.{Files, held}
 use Rattle.fd_outside.specs.Causes.{Becomes, Rose}
 use Rattle.fd_outside.specs.declared.library.Found.{Found}
@@ -16,8 +16,8 @@ use Rattle.dss_script.specs.declared.session.Turn.TheVariants as turn
 use Rattle.dss_lexer.specs.declared.pair.Pair.{Pair}
 use Rattle.dss_lexer.specs.declared.fault.LineFault.{LineFault}
 use Rattle.dss_script.specs.Cutting.{pairs_of}
-use Rattle.dss_profile.specs.declared.command.Verb.{Verb}
-use Rattle.dss_profile.specs.declared.command.Verb.TheVariants as verb
+use Rattle.dss_model.specs.declared.command.Verb.{Verb}
+use Rattle.dss_model.specs.declared.command.Verb.TheVariants as verb
 use Rattle.dss_script.specs.declared.meaning.Meaning.{Meaning}
 use Rattle.dss_script.specs.declared.reading.Taken.{Taken}
 use Rattle.dss_script.specs.declared.reading.Taken.TheVariants as taken

@@ -3,10 +3,10 @@ use Rattle.std.specs.Prelude.{ℕ, ℤ, Bool, List, [], ◌∷◌, ◌++◌, cod
 use Rattle.dss_lexer.specs.Answers.{◌>>=◌}
 use Rattle.dss_lexer.specs.declared.pair.Pair.{Pair}
 use Rattle.dss_lexer.specs.Texts.{text_eq}
-use Rattle.dss_values.specs.Names.{bytes, lower}
-use Rattle.dss_profile.specs.Loadshape.{file_named}
-use Rattle.dss_profile.specs.declared.command.Verb.{Verb}
-use Rattle.dss_profile.specs.declared.command.Verb.TheVariants as verb
+use Rattle.dss_model.specs.Names.{bytes, lower}
+use Rattle.dss_script.specs.ShapeFiles.{file_named}
+use Rattle.dss_model.specs.declared.command.Verb.{Verb}
+use Rattle.dss_model.specs.declared.command.Verb.TheVariants as verb
 use Rattle.fd_outside.specs.Files.{Files, held}
 use Rattle.fd_shape.specs.Column.{column_of}
 use Rattle.fd_shape.specs.Text.{values_text}

@@ -1,6 +1,6 @@
 // Why a script is refused, and why a session gives no command.
 use dss_lexer::Text;
-use dss_profile::Place;
+use dss_model::Place;
 use std::alloc::{AllocError, AllocFailed};
 
 /// Why a script is refused before its commands are applied.

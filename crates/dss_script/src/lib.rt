@@ -14,6 +14,7 @@
 //! - `path`: names of files, joined to MASTER's folder
 //! - `reading`: a file that is being read, line by line
 //! - `session`: `Session`, which reads on from file to file
+//! - `shape_file`: the file that a pair of a load shape names
 //! - `shapes`: the files of load shapes, whose numbers stand in place of their names
 #![tactic(auto)]
 
@@ -25,6 +26,7 @@ mod meaning;
 mod path;
 mod reading;
 mod session;
+mod shape_file;
 mod shapes;
 
 pub use bounds::commands_are_few;

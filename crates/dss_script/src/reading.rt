@@ -12,7 +12,7 @@ use crate::ScriptCause;
 use crate::cutting::pairs;
 use crate::meaning::line_cause;
 use dss_lexer::{LineError, Pair, PairList, Text};
-use dss_profile::Place;
+use dss_model::Place;
 use std::alloc::{AllocError, Global};
 use std::marker::Model;
 

@@ -2,7 +2,7 @@
 ghost use Rattle.std.specs.Prelude.{◌≡◌, ◌+◌, ◌*◌, ◌<◌, ◌≤◌, ◌==◌, nat_lt, length, IfOk, IsSome, ◌↔◌, OnErr, OnOk, false, true, None, Some, Err};
 ghost use Rattle.std.specs.Str.{chars};
 ghost use Rattle.fd_outside.specs.Files.{Files, held};
-ghost use Rattle.dss_values.specs.Names.{bytes};
+ghost use Rattle.dss_model.specs.Names.{bytes};
 ghost use Rattle.dss_script.specs.Script.{script_of, names_first, after_names};
 ghost use Rattle.dss_script.specs.Sessions.{start, remaining, remaining_by, remaining_with, Steps, Enters, Tells, Spends, found_bytes, room, left, IsRead, pays, closes, price, taken_says, opened, EnterAsks, ReadHasCause, Asks, GrowsSome, ReadsLast, Pays, IsNotEnded, IsReadOf, cost};
 ghost use Rattle.dss_script.specs.Fills.{FillsBy};
@@ -15,7 +15,7 @@ use crate::reading::{Frame, Taken, push_frame, take_line};
 use crate::shapes::fill;
 use crate::{ScriptCause, SessionFault};
 use dss_lexer::Text;
-use dss_profile::{Command, Place, Verb};
+use dss_model::{Command, Place, Verb};
 use fd_outside::{Found, LibFault, Library};
 use std::alloc::{AllocError, Global};
 use std::marker::Model;

@@ -6,9 +6,10 @@ ghost use Rattle.dss_script.specs.Sessions.{GrowsSome, IsNotEnded, ReadHasCause,
 ghost use Rattle.dss_script.specs.Shapes.{class_filled, is_loadshape, pair_filled, pairs_filled, verb_filled, with_file, with_numbers};
 
 use crate::path::name_within;
+use crate::shape_file::file_named;
 use crate::{ScriptCause, SessionFault};
 use dss_lexer::{Pair, PairList, Text};
-use dss_profile::{Place, Verb, file_named};
+use dss_model::{Place, Verb};
 use fd_outside::{Found, LibFault, Library};
 use fd_shape::{ShapeFault, read_column, values_text};
 use std::alloc::{AllocError, Global};

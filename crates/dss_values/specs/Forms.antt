@@ -9,20 +9,17 @@ use Rattle.dss_lexer.specs.declared.pair.Pair.{Pair}
 use Rattle.dss_lexer.specs.Arrays.{words_of}
 use Rattle.dss_lexer.specs.Number.{number_of}
 use Rattle.dss_lexer.specs.Postfix.{postfix_of}
-use Rattle.dss_values.specs.declared.fault.ModelFault.{ModelFault}
-use Rattle.dss_values.specs.declared.fault.ModelFault.TheVariants as fault
-use Rattle.dss_values.specs.declared.bus.Bus.{Bus}
-use Rattle.dss_values.specs.declared.words.BankState.{BankState}
-use Rattle.dss_values.specs.declared.words.BankState.TheVariants as state
-use Rattle.dss_values.specs.Names.{bytes, lower, named, is_name}
-use Rattle.dss_values.specs.Causes.{from_lexer}
-use Rattle.dss_values.specs.Answers.{◌>>=◌, or_fault, each}
+use Rattle.dss_model.specs.declared.fault.ModelFault.{ModelFault}
+use Rattle.dss_model.specs.declared.fault.ModelFault.TheVariants as fault
+use Rattle.dss_model.specs.declared.bus.Bus.{Bus}
+use Rattle.dss_model.specs.declared.words.BankState.{BankState}
+use Rattle.dss_model.specs.declared.words.BankState.TheVariants as state
+use Rattle.dss_model.specs.Names.{bytes, lower, named, is_name}
+use Rattle.dss_model.specs.Causes.{from_lexer}
+use Rattle.dss_model.specs.Ranges.{ones}
+use Rattle.dss_model.specs.Answers.{◌>>=◌, or_fault, each}
 
 -- ---- numbers, in units of 10^-9
-
--- so many ones
-abbrev pub ones : ℕ → ℤ
-ones n = pos (n * 1_000_000_000)
 
 -- a word spells one number, and a group holds a postfix expression
 unfoldable pub number_in : Pair → Result ℤ ModelFault

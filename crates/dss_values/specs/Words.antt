@@ -1,19 +1,19 @@
 -- The values that are words, with their names in scripts.
 use Rattle.std.specs.Prelude.{ℕ, List, [], ◌∷◌, codes, Bool, true, false}
-use Rattle.dss_values.specs.declared.words.Connection.{Connection}
-use Rattle.dss_values.specs.declared.words.Connection.TheVariants as connection
-use Rattle.dss_values.specs.declared.words.Units.{Units}
-use Rattle.dss_values.specs.declared.words.Units.TheVariants as unit
-use Rattle.dss_values.specs.declared.words.ControlQuantity.{ControlQuantity}
-use Rattle.dss_values.specs.declared.words.ControlQuantity.TheVariants as quantity
-use Rattle.dss_values.specs.declared.words.LeadLag.{LeadLag}
-use Rattle.dss_values.specs.declared.words.LeadLag.TheVariants as lead
-use Rattle.dss_values.specs.declared.words.Mode.{Mode}
-use Rattle.dss_values.specs.declared.words.Mode.TheVariants as mode
-use Rattle.dss_values.specs.declared.words.ControlMode.{ControlMode}
-use Rattle.dss_values.specs.declared.words.ControlMode.TheVariants as control
-use Rattle.dss_values.specs.declared.words.StepSize.{StepSize}
-use Rattle.dss_values.specs.declared.words.StepSize.TheVariants as step
+use Rattle.dss_model.specs.declared.words.Connection.{Connection}
+use Rattle.dss_model.specs.declared.words.Connection.TheVariants as connection
+use Rattle.dss_model.specs.declared.words.Units.{Units}
+use Rattle.dss_model.specs.declared.words.Units.TheVariants as unit
+use Rattle.dss_model.specs.declared.words.ControlQuantity.{ControlQuantity}
+use Rattle.dss_model.specs.declared.words.ControlQuantity.TheVariants as quantity
+use Rattle.dss_model.specs.declared.words.LeadLag.{LeadLag}
+use Rattle.dss_model.specs.declared.words.LeadLag.TheVariants as lead
+use Rattle.dss_model.specs.declared.words.Mode.{Mode}
+use Rattle.dss_model.specs.declared.words.Mode.TheVariants as mode
+use Rattle.dss_model.specs.declared.words.ControlMode.{ControlMode}
+use Rattle.dss_model.specs.declared.words.ControlMode.TheVariants as control
+use Rattle.dss_model.specs.declared.words.StepSize.{StepSize}
+use Rattle.dss_model.specs.declared.words.StepSize.TheVariants as step
 
 abbrev pub connections : List (List ℕ × Connection)
 connections = (codes "wye", connection.Wye) ∷ (codes "ln", connection.Wye) ∷ (codes "delta", connection.Delta) ∷ (codes "ll", connection.Delta) ∷ []

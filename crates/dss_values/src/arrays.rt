@@ -1,15 +1,14 @@
 // Values that are arrays, which are groups.
 ghost use Rattle.std.specs.Prelude.{◌≡◌, ◌≤ℤ◌, pos, IfOk, OnOk, IsTrue};
 ghost use Rattle.std.specs.List.{list_all};
-ghost use Rattle.dss_values.specs.Answers.{Gives, Makes, each};
-ghost use Rattle.dss_values.specs.Names.{rows};
+ghost use Rattle.dss_model.specs.Answers.{Gives, Makes, each};
+ghost use Rattle.dss_model.specs.Names.{rows};
 ghost use Rattle.dss_values.specs.Forms.{cells_in, number_of_cell, numbers_in, is_within, is_whole, all_within, all_whole, numbers_between, two, two_numbers_between, tap_of, two_taps_in, bus_of_cell, two_buses_in, named_cell, two_choices_in, one, state_of, state_in};
 
 use crate::bus::bus_of_word;
-use crate::names::find_named;
-use crate::numbers::{ONE, has_no_fraction, is_in_range, tap_of_number};
-use crate::{BankState, Bus, ModelError, ModelFault, Numbers};
+use crate::numbers::{has_no_fraction, is_in_range, tap_of_number};
 use dss_lexer::{Pair, Text, cells, number};
+use dss_model::{BankState, Bus, ModelError, ModelFault, Numbers, ONE, find_named};
 use std::alloc::Global;
 
 // The words of an array.

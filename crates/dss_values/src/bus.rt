@@ -1,20 +1,12 @@
-// A bus as a property names it.
+// Values that are buses.
 ghost use Rattle.std.specs.Prelude.{◌≡◌, map};
-ghost use Rattle.dss_values.specs.Answers.{Gives, each};
+ghost use Rattle.dss_model.specs.Answers.{Gives, each};
 ghost use Rattle.dss_values.specs.Forms.{node_of, bus_of_parts, bus_of, bus_in};
 
 use crate::forms::{parts, word};
-use crate::names::is_legal_name;
-use crate::{ModelError, ModelFault, Nodes};
 use dss_lexer::{Pair, Text};
-use std::alloc::{AllocError, Global};
-
-/// A bus's name, in lower case, and the node numbers that are written behind it: at most four, each from 0 to 9.
-#[derive(Drop)]
-pub struct Bus {
-    pub name: Text,
-    pub nodes: Nodes,
-}
+use dss_model::{Bus, ModelError, ModelFault, Nodes, is_legal_name};
+use std::alloc::Global;
 
 fn node(part: &[char]) -> Result<u8, ModelFault>
     ensures { result ≡ node_of part.now }
@@ -64,18 +56,4 @@ pub fn bus_value(alloc: Global, pair: &Pair) -> Result<Bus, ModelError>
 {
     let word = word(alloc, pair)?;
     bus_of_word(alloc, &word)
-}
-
-impl Bus {
-    ghost use Rattle.std.specs.Prelude.{IfOk};
-
-    /// The same bus.
-    pub fn copied(&self) -> Result<Bus, AllocError>
-        ensures { IfOk result (λ bus. bus ≡ self.now) }
-    {
-        Ok(Bus {
-            name: self.name.clone()?,
-            nodes: self.nodes.copied()?,
-        })
-    }
 }

@@ -1,16 +1,16 @@
 // The values that are words of a table.
-ghost use Rattle.dss_values.specs.declared.fault.ModelFault.TheVariants as fault;
-ghost use Rattle.dss_values.specs.Answers.{Gives};
+ghost use Rattle.dss_model.specs.declared.fault.ModelFault.TheVariants as fault;
+ghost use Rattle.dss_model.specs.Answers.{Gives};
 ghost use Rattle.dss_values.specs.Forms.{choice_in, two_choices_in};
 ghost use Rattle.dss_values.specs.Words.{connections, units, truths, quantities, lead_lags, modes, control_modes, step_sizes};
 
 use crate::arrays::two_choices;
 use crate::forms::choice;
-use crate::{
+use dss_lexer::Pair;
+use dss_model::{
     Connection, ControlMode, ControlQuantity, LeadLag, Mode, ModelError, ModelFault, StepSize,
     Units,
 };
-use dss_lexer::Pair;
 use std::alloc::Global;
 
 const CONNECTIONS: [(&str, Connection); 4] = [

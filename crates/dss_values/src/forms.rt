@@ -2,13 +2,12 @@
 ghost use Rattle.std.specs.Prelude.{◌≡◌, IfOk, map, nat_eq, codes};
 ghost use Rattle.std.specs.Cmp.Lexicographic.{pointwise};
 ghost use Rattle.std.specs.List.{slice_split};
-ghost use Rattle.dss_values.specs.Answers.{Gives};
-ghost use Rattle.dss_values.specs.Names.{rows, lower};
+ghost use Rattle.dss_model.specs.Answers.{Gives};
+ghost use Rattle.dss_model.specs.Names.{rows, lower};
 ghost use Rattle.dss_values.specs.Forms.{sole, word_in, choice_in, a_name, name_in, line_name_of, line_name_in, known, known_name_in, known_line_name_in, is_point, one};
 
-use crate::names::{find_named, is_legal_name};
-use crate::{ModelError, ModelFault};
 use dss_lexer::{Pair, Text, cells};
+use dss_model::{ModelError, ModelFault, find_named, is_legal_name};
 use std::alloc::{AllocError, Global};
 
 fn sole_word(alloc: Global, words: &[Text]) -> Result<Text, ModelError>

@@ -1,13 +1,13 @@
 // Values that are square matrices, written whole or as a lower triangle.
 ghost use Rattle.std.specs.Prelude.{◌≡◌, ◌++◌, ◌==◌, length, IfOk};
 ghost use Rattle.std.specs.List.{list_all};
-ghost use Rattle.dss_values.specs.Answers.{Gives, Makes};
+ghost use Rattle.dss_model.specs.Answers.{Gives, Makes};
 ghost use Rattle.dss_values.specs.Forms.{is_within};
 ghost use Rattle.dss_values.specs.Matrices.{is_square, is_triangle_from, cell, mirrored, first_of, joined, symmetric, whole_matrix, rows_within, matrix_between};
 
 use crate::numbers::is_in_range;
-use crate::{ModelError, ModelFault, Numbers};
 use dss_lexer::{Pair, Row, matrix};
+use dss_model::{ModelError, ModelFault, Numbers};
 use std::alloc::{AllocError, Global};
 
 fn is_row_in_range(row: &Row, low: i128, high: i128) -> bool

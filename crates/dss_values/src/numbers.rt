@@ -1,15 +1,13 @@
 // Values that are numbers, in whole 10^-9.
 ghost use Rattle.std.specs.Prelude.{◌≡◌, ◌<◌, ◌≤◌, ◌≤ℤ◌, ◌*◌, pos, neg_ℤ, IfOk, IsTrue, unsigned_abs, int_div};
-ghost use Rattle.dss_values.specs.Answers.{Gives};
-ghost use Rattle.dss_values.specs.Forms.{ones, number_in, is_within, within, number_between, has_power_factor, power_factor_in, is_whole, whole, whole_in, count_of, whole_between, one_of, whole_among, supported_among, nearest_count, half, tap_of, tap_in, milliseconds_in, ratio_in, has_angle, angle_in, phase_in};
+ghost use Rattle.dss_model.specs.Answers.{Gives};
+ghost use Rattle.dss_model.specs.Ranges.{ones};
+ghost use Rattle.dss_values.specs.Forms.{number_in, is_within, within, number_between, has_power_factor, power_factor_in, is_whole, whole, whole_in, count_of, whole_between, one_of, whole_among, supported_among, nearest_count, half, tap_of, tap_in, milliseconds_in, ratio_in, has_angle, angle_in, phase_in};
 
-use crate::{ModelError, ModelFault};
 use dss_lexer::{Pair, number, postfix};
+use dss_model::{ModelError, ModelFault, ONE};
 use fd_exact::near_quotient;
 use std::alloc::Global;
-
-/// The units of a script number in one.
-pub const ONE: i128 = 1_000_000_000;
 
 fn ones_of(count: u32) -> i128
     ensures { result ≡ ones count }

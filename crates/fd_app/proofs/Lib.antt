@@ -1,1 +1,9 @@
 mod Runs
+mod Points
+mod Claims
+mod Settles
+mod Texts
+mod Solves
+mod Scripts
+mod RoundTrips
+mod Written

@@ -1,1 +1,4 @@
 pub mod Run
+pub mod Solves
+pub mod Printed
+pub mod Accepted

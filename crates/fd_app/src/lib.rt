@@ -8,11 +8,23 @@
 //! through all hours of a Solve its acts are those of any such states (`days_law` of `fd_solving`), and each block of
 //! a certificate that `check` accepts is sound (`checked_law` of `fd_checking`).
 //!
+//! What `cert` writes is accepted. A script's Solves, as circuits in order, say what is due of a certificate, block by
+//! block (`fd_check`). Where the history of the script's commands ends without a fault and each of its settles is solved,
+//! the bytes that it is printed as in a certificate are accepted for these Solves, with a block for each round
+//! (`cert_law`). Where a run of `cert` answers 0 these are the bytes that it wrote (`written_law`), and `check` of the
+//! same script accepts them (`round_trip_law`).
+//!
 //! - `top`: the call itself
+//! - `accepted`: the laws of what `cert` writes, no code
+//!
+//! Specs: `Run`, the history of a command line; `Solves`, the Solves of a script; `Printed`, the bytes and the rounds of
+//! a history; `Accepted`, the laws.
 #![tactic(auto)]
 
+mod accepted;
 mod top;
 
+pub use accepted::{cert_law, round_trip_law, written_law};
 pub use fd_checking::checked_law;
 pub use fd_solving::days_law;
 pub use top::{due_law, forms_law, run};

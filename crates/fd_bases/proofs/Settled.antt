@@ -2,10 +2,11 @@
 use Rattle.std.proofs.Common.{◌≡◌, ℕ, zero, suc, ◌+◌, ◌≤◌, ◌<◌, Bool, true, false, cond, ◌&&◌, List, [], ◌∷◌, ◌++◌, length, Option, Some, None, is_some, ◌⊎◌, inl, inr, refl, sym, ap, ◌∙◌, subst, arith}
 use Rattle.std.specs.Map.{lookup}
 use Rattle.std.specs.Cmp.Lexicographic.{nat_list_eq_equiv}
+use Rattle.std.proofs.lemmas.Bool.{and_from}
 use Rattle.dss_lexer.specs.Texts.{text_eq}
-use Rattle.dss_values.specs.declared.bus.Bus.{Bus}
-use Rattle.dss_profile.specs.declared.element.Element.{Element}
-use Rattle.dss_profile.specs.declared.element.Element.TheVariants as the
+use Rattle.dss_model.specs.declared.bus.Bus.{Bus}
+use Rattle.dss_model.specs.declared.element.Element.{Element}
+use Rattle.dss_model.specs.declared.element.Element.TheVariants as the
 use Rattle.dss_circuit.specs.Circuit.{Elements}
 use Rattle.fd_bases.specs.declared.nominal.Nominal.{Nominal}
 use Rattle.fd_bases.specs.Nominals.{source_nominal, winding_nominal}
@@ -85,9 +86,6 @@ and_right : (b c : Bool) → (b && c) ≡ true → c ≡ true
 and_right true c h = h
 and_right false c h = absurd (let no : false ≡ true = h in cc)
 
-and_both : (b c : Bool) → b ≡ true → c ≡ true → (b && c) ≡ true
-and_both b c e f = rw (e, f) refl
-
 joined_same : (first : Option Bus) (at_first : Option Nominal) (second : Option Bus) (at_second : Option Nominal) (r : Reached)
     → both first second r ≡ true → joined first at_first second at_second r ≡ r
 joined_same (Some a) at_a (Some b) at_b r h =
@@ -112,7 +110,7 @@ done_same (the.Loadshape s) r h = refl
 both_kept : (first second : Option Bus) (r s : Reached) → Grows r s → both first second r ≡ true
     → both first second s ≡ true
 both_kept (Some a) (Some b) r s grown h =
-    and_both (has s a.name) (has s b.name)
+    and_from (has s a.name) (has s b.name)
     (has_more r s a.name grown (and_left (has r a.name) (has r b.name) h))
     (has_more r s b.name grown (and_right (has r a.name) (has r b.name) h))
 both_kept (Some a) None r s grown h = refl
@@ -152,13 +150,13 @@ joined_both (Some a) at_a (Some b) at_b r = by (carried_both a.name b.name at_b 
     behind : s ≡ r → (t ≡ s) ⊎ ((has t b.name ≡ true) × (has t a.name ≡ true))
         → (t ≡ r) ⊎ ((has t a.name && has t b.name) ≡ true)
     behind e (inl f) = inl (f ∙ e)
-    behind e (inr f) = inr (and_both (has t a.name) (has t b.name) f.1 f.0)
+    behind e (inr f) = inr (and_from (has t a.name) (has t b.name) f.1 f.0)
 
     by : (s ≡ r) ⊎ ((has s a.name ≡ true) × (has s b.name ≡ true)) → (t ≡ r) ⊎ ((has t a.name && has t b.name) ≡ true)
     by (inl e) = behind e (carried_both b.name a.name at_a s)
     by (inr f) =
         let same_is : t ≡ s = carried_before s b.name a.name at_a f.0 in
-        inr (subst (λ x. (has x a.name && has x b.name) ≡ true) (sym same_is) (and_both (has s a.name) (has s b.name) f.0 f.1))
+        inr (subst (λ x. (has x a.name && has x b.name) ≡ true) (sym same_is) (and_from (has s a.name) (has s b.name) f.0 f.1))
 joined_both (Some a) at_a None at_b r = inl refl
 joined_both None at_a b at_b r = inl refl
 

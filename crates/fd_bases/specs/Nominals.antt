@@ -1,8 +1,8 @@
 -- The nominal voltages that sources and windings give to their buses.
 use Rattle.std.specs.Prelude.{ℕ, ◌==◌, Bool, false, ◌&&◌, ◌||◌, List, [], ◌∷◌, Option, Some, None, Result, Ok, Err, if◌then◌else◌}
-use Rattle.dss_values.specs.declared.bus.Bus.{Bus}
-use Rattle.dss_profile.specs.declared.vsource.Vsource.{Vsource}
-use Rattle.dss_profile.specs.declared.transformer.Winding.{Winding}
+use Rattle.dss_model.specs.declared.bus.Bus.{Bus}
+use Rattle.dss_model.specs.declared.vsource.Vsource.{Vsource}
+use Rattle.dss_model.specs.declared.transformer.Winding.{Winding}
 use Rattle.dss_layout.specs.declared.numbers.TerminalFault.{TerminalFault}
 use Rattle.dss_layout.specs.Terminals.{bus_numbers, one_phase_numbers}
 use Rattle.fd_bases.specs.declared.nominal.Nominal.{Nominal}

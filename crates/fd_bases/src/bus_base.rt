@@ -1,7 +1,7 @@
 // The voltage bases of a circuit's buses.
 ghost use Rattle.std.specs.Prelude.{◌≡◌, ◌∷◌, All, pos, IfOk};
 ghost use Rattle.fd_exact.specs.Ranges.{IsBetween};
-ghost use Rattle.dss_values.specs.Forms.{ones};
+ghost use Rattle.dss_model.specs.Ranges.{ones};
 ghost use Rattle.fd_bases.specs.Bases.{based, bases_of};
 
 use crate::nearest::nearest;

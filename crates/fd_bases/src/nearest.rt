@@ -1,7 +1,7 @@
 // Which voltage base is nearest to a nominal voltage.
 ghost use Rattle.std.specs.Prelude.{◌≡◌, ◌⊎◌, ◌∷◌, All, pos};
 ghost use Rattle.fd_exact.specs.Ranges.{IsBetween};
-ghost use Rattle.dss_values.specs.Forms.{ones};
+ghost use Rattle.dss_model.specs.Ranges.{ones};
 ghost use Rattle.fd_bases.specs.declared.nominal.Nominal.TheVariants.{Whole, OverRootThree};
 ghost use Rattle.fd_bases.specs.Nearest.{distance, IsBefore, nearest};
 

@@ -1,10 +1,10 @@
 // The nominal voltages that sources and windings give to their buses.
 ghost use Rattle.std.specs.Prelude.{◌≡◌};
-ghost use Rattle.dss_profile.specs.InRange.{VsourceInRange, WindingInRange};
+ghost use Rattle.dss_model.specs.InRange.{VsourceInRange, WindingInRange};
 ghost use Rattle.fd_bases.specs.Nominals.{source_nominal, given_numbers, has_ground, is_grounded, winding_nominal};
 
 use dss_layout::bus_at;
-use dss_profile::{Bus, Vsource, Winding};
+use dss_model::{Bus, Vsource, Winding};
 
 /// The nominal voltage of a bus, in whole 10^-9 kV.
 #[derive(Clone, Copy)]

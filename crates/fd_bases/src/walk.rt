@@ -1,12 +1,12 @@
 // The buses that are reached from the sources.
 ghost use Rattle.std.specs.Prelude.{◌≡◌, OnOk, IfOk};
-ghost use Rattle.dss_profile.specs.InRange.{ElementInRange};
+ghost use Rattle.dss_model.specs.InRange.{ElementInRange};
 ghost use Rattle.dss_circuit.specs.InRange.{AllInRange};
 ghost use Rattle.fd_bases.specs.Walk.{reach, carried, joined, taken, pass, reached_in};
 
 use crate::nominal::{Nominal, source_nominal, winding_nominal};
 use dss_lexer::Text;
-use dss_profile::{Bus, Element, ElementName};
+use dss_model::{Bus, Element, ElementName};
 use indexmap::IndexMap;
 use std::alloc::{AllocError, Global};
 

@@ -9,8 +9,8 @@ use Rattle.std.proofs.lemmas.List.Sums.{fold-append}
 use Rattle.fd_outside.specs.Causes.{Becomes, Rose}
 use Rattle.fd_outside.specs.Files.{held}
 use Rattle.fd_outside.proofs.CallerLemmas.{becomes_same}
-use Rattle.dss_values.specs.Names.{bytes}
-use Rattle.dss_profile.specs.declared.command.Command.{Command}
+use Rattle.dss_model.specs.Names.{bytes}
+use Rattle.dss_model.specs.declared.command.Command.{Command}
 use Rattle.dss_script.specs.Said.{Said, ScriptEnd, at_its_end, command, end_in, ended_by, name, refused_at, said_in, said_of}
 use Rattle.dss_script.specs.SaidLaws.{SaidLaw}
 use Rattle.dss_script.specs.Script.{Script, script_of}

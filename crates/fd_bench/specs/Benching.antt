@@ -1,6 +1,6 @@
 -- `bench` at work: what stands between two commands, and what is printed while files are asked for by name.
 use Rattle.std.specs.Prelude.{◌≡◌, ℕ, List, [], ◌∷◌, Option, None}
-use Rattle.dss_profile.specs.declared.command.Command.{Command}
+use Rattle.dss_model.specs.declared.command.Command.{Command}
 use Rattle.fd_outcome.specs.Events.{History, finishes, line}
 use Rattle.fd_outcome.specs.Work.{Step, ends, goes}
 use Rattle.fd_solving.specs.Tallies.{tally_of}

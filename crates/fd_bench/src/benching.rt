@@ -12,7 +12,7 @@ ghost use Rattle.fd_bench.specs.Bench.{lines_alone, tally_text, IsBenchHistory};
 ghost use Rattle.fd_bench.specs.Benching.{IsBenchLast, IsBenchStep, bench_at, no_bench_name};
 
 use crate::feeder::{FEEDER_NAME, feeder_files};
-use dss_circuit::Command;
+use dss_model::Command;
 use dss_script::{Session, said_law};
 use fd_decimal::size_text;
 use fd_outside::{Bytes, Library, NeverFails, Record, Sink};

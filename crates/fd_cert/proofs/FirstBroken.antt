@@ -3,6 +3,7 @@ use Rattle.std.proofs.Common.{◌≡◌, ◌∙◌, ℕ, ◌<◌, ℤ, nat_lt, t
 use Rattle.std.specs.Prelude.{◌↔◌}
 use Rattle.std.proofs.lemmas.Bool.{ltb-false, or_parts}
 use Rattle.fd_exact.specs.First.{first_place}
+use Rattle.fd_exact.specs.FirstLaws.{none_holds}
 use Rattle.fd_equations.specs.Rounded.{list_of}
 use Rattle.fd_equations.specs.Views.{NetworkView}
 use Rattle.fd_equations.proofs.CallerLemmas.{get_or-list_of, length-list_of}
@@ -12,7 +13,7 @@ use Rattle.fd_cert.specs.Rechecks.{HasItsBoxes, broken_at, first_at_point, first
 use Rattle.fd_cert.specs.declared.rule.Broken.{Broken}
 use Rattle.fd_cert.specs.declared.rule.Rule.TheVariants.{Bound, Mismatch, Radius, Range, Size}
 use Rattle.fd_cert.proofs.Certificates.{length-mismatches, numbers_at}
-use Rattle.fd_cert.proofs.Rechecks.{none_holds, sized_parts, sound_exactly}
+use Rattle.fd_cert.proofs.Rechecks.{sized_parts, sound_exactly}
 use Rattle.fd_cert.proofs.Verdict.{first_same}
 
 module _ (v : NetworkView) (x : List ℤ) (r e : List ℕ) (c : List (List ℤ)) where

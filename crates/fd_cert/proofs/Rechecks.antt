@@ -1,12 +1,12 @@
 -- A claim is sound exactly where it breaks no rule.
 use Rattle.std.proofs.Common.{◌≡◌, ◌∙◌, ℕ, ◌*◌, ◌-◌, ◌<◌, ◌≤◌, ◌^◌, ℤ, pos, nat_abs, nat_lt, not, Bool, true, false, cond, List, length, Option, Some, None, is_some, All, arith, refl, ap, sym, subst}
 use Rattle.std.specs.Prelude.{◌==◌, ◌↔◌}
-use Rattle.std.proofs.lemmas.Bool.{and_from, and_parts, eq-eqb, eqb-true, false_from_ne_true, le-leb, ltb-false, or_from, or_parts}
+use Rattle.std.proofs.lemmas.Bool.{and_from, and_parts, eq-eqb, eqb-true, le-leb, ltb-false, or_from, or_parts}
 use Rattle.std.proofs.lemmas.Int.{ints}
 use Rattle.std.proofs.Math.Nat.{mul-le-mul}
 use Rattle.std.proofs.lemmas.List.Elements.{All-from_get_or, All-get_or}
 use Rattle.fd_exact.specs.First.{first_place}
-use Rattle.fd_exact.specs.FirstLaws.{first_none, found}
+use Rattle.fd_exact.specs.FirstLaws.{first_none, none_holds}
 use Rattle.fd_exact.specs.Greatest.{greatest_le}
 use Rattle.fd_exact.specs.Quotients.{ceil_nat_covers}
 use Rattle.fd_exact.specs.Rounding.{ceil_nat}
@@ -30,9 +30,6 @@ use Rattle.fd_cert.proofs.RowBounds.{bound_positive}
 use Rattle.fd_cert.proofs.Verdict.{below_one, not_past}
 
 -- ---- a rule that holds
-
-pub none_holds : (p : ℕ → Bool) (n k : ℕ) → first_place p n ≡ None → k < n → p k ≡ false
-none_holds p n k e h = false_from_ne_true (p k) (λ t. let s : is_some (first_place p n) ≡ true = found p n k h t in let no : ⊥ = cc in no)
 
 later_none : (rule : Rule) (o : Option ℕ) (later : Option Broken) → broken_at rule o later ≡ None
     → (o ≡ None) × (later ≡ None)

@@ -2,9 +2,9 @@
 use Rattle.std.proofs.Common.{◌≡◌, ℕ, zero, suc, ◌<◌, ◌≤◌, ◌^◌, ℤ, pos, nat_abs, nat_le, nat_lt, not, Bool, true, false, List, [], ◌∷◌, length, get_or, Option, Some, None, is_some, refl, ap, sym, ◌∙◌, arith}
 use Rattle.std.specs.Prelude.{◌&&◌, ◌||◌}
 use Rattle.std.specs.List.{AllByRecursion, list_all}
-use Rattle.std.proofs.lemmas.Bool.{false_from_ne_true, leb-false, leb-true, lt-ltb, ltb-false}
+use Rattle.std.proofs.lemmas.Bool.{leb-false, leb-true, lt-ltb, ltb-false}
 use Rattle.fd_exact.specs.First.{first_place}
-use Rattle.fd_exact.specs.FirstLaws.{first_none, first_some, found}
+use Rattle.fd_exact.specs.FirstLaws.{first_none, first_some, none_holds}
 use Rattle.fd_exact.specs.States.{part}
 use Rattle.fd_certfile.specs.Rules.{is_within, least_from}
 use Rattle.fd_certfile.proofs.RuleOrder.{Decides-all, Decides-within, least_none, least_some}
@@ -19,9 +19,6 @@ least_is n test bad h = by (least_from 0 n test) refl
         let s = least_some n 0 test k e in
         let below : k < n = omega (arith, s.below) in
         sym (first_some bad n k below (λ j m. h j (omega (arith, m, below)) ∙ ap not (s.least j (omega arith) m)) (h k below ∙ ap not s.fails))
-
-pub none_holds : (p : ℕ → Bool) (n k : ℕ) → first_place p n ≡ None → k < n → p k ≡ false
-none_holds p n k e h = false_from_ne_true (p k) (λ t. let s : is_some (first_place p n) ≡ true = found p n k h t in let no : ⊥ = cc in no)
 
 pub none_found : (o : Option ℕ) → is_some o ≡ false → o ≡ None
 none_found None e = refl

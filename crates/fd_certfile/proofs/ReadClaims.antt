@@ -6,7 +6,7 @@ use Rattle.std.proofs.Math.ListN.{get_or-map}
 use Rattle.std.proofs.lemmas.Bool.{and_from, and_parts, eq-eqb, eqb-true, false_from_ne_true, le-leb, lt-ltb, not-false}
 use Rattle.std.proofs.lemmas.List.{ext_get_or, length-map}
 use Rattle.fd_exact.specs.First.{first_place}
-use Rattle.fd_exact.specs.FirstLaws.{first_some as first_at}
+use Rattle.fd_exact.specs.FirstLaws.{first_some as first_at, none_holds}
 use Rattle.fd_exact.specs.States.{entry, part}
 use Rattle.fd_equations.specs.Rounded.{jacobian_entry}
 use Rattle.fd_equations.specs.Views.{NetworkView}
@@ -23,7 +23,7 @@ use Rattle.fd_certfile.specs.Claiming.{claim_read, mismatches_read, radii_read, 
 use Rattle.fd_certfile.specs.Judging.{claim_on, judge_of, names, refusal_in, sizes_of}
 use Rattle.fd_certfile.specs.Rules.{Ball, Broken, Sampled, at_part, at_solution, broken_by, claim_of, claim_rules, first_some, is_due, is_in_range, is_mismatch, is_radius, is_within, least_from, part_of, row_of, unless, unless_at}
 use Rattle.fd_certfile.proofs.Judged.{refusal_below}
-use Rattle.fd_certfile.proofs.LeastPlaces.{all_at, is_wide, least_is, lt_not, none_holds, or_not}
+use Rattle.fd_certfile.proofs.LeastPlaces.{all_at, is_wide, least_is, lt_not, or_not}
 use Rattle.fd_certfile.proofs.RuleOrder.{least_all}
 
 -- ---- tests

@@ -4,7 +4,7 @@ use Rattle.std.specs.Prelude.{nat_abs, not}
 use Rattle.std.specs.Cmp.Lexicographic.{pointwise}
 use Rattle.std.proofs.lemmas.List.{length-append}
 use Rattle.std.proofs.lemmas.Simd.{map-map}
-use Rattle.dss_profile.specs.declared.command.Blame.{Blame}
+use Rattle.dss_model.specs.declared.command.Blame.{Blame}
 use Rattle.dss_circuit.specs.Circuit.{CircuitView}
 use Rattle.fd_cert.specs.declared.rule.Rule.{Rule}
 use Rattle.fd_cert.specs.declared.rule.Rule.TheVariants as rule

@@ -1,7 +1,7 @@
 -- What the code finds of an hour, and of a certificate's end.
 use Rattle.std.proofs.Common.{◌≡◌, ◌∙◌, ℕ, ◌+◌, ◌≤◌, true, List, [], ◌∷◌, Option, Some, None, Result, Ok, Err, refl, sym, ap, subst, arith, drop, length, map}
 use Rattle.std.specs.Prelude.{IfErr, OnOk, is_ok}
-use Rattle.dss_profile.specs.declared.command.Blame.{Blame}
+use Rattle.dss_model.specs.declared.command.Blame.{Blame}
 use Rattle.fd_cert.specs.declared.rule.Rule.{Rule}
 use Rattle.fd_queue.specs.Controls.{Positions}
 use Rattle.fd_queue.specs.Machine.{Machine}

@@ -1,6 +1,6 @@
 -- What a script's Solves ask of a certificate, block by block.
 use Rattle.std.specs.Prelude.{ℕ, ◌+◌, pos, List, [], ◌∷◌, map, nat_abs, Option, Some, None}
-use Rattle.dss_profile.specs.declared.command.Blame.{Blame}
+use Rattle.dss_model.specs.declared.command.Blame.{Blame}
 use Rattle.dss_circuit.specs.Circuit.{CircuitView}
 use Rattle.fd_queue.specs.Controls.{Positions}
 use Rattle.fd_queue.specs.Machine.{Act, Machine}
@@ -16,12 +16,6 @@ use Rattle.fd_certfile.specs.Blocks as blocks
 use Rattle.fd_certfile.specs.Judging.{judge_of}
 use Rattle.fd_certfile.specs.Rules.{Ball, Sampled, at_limit, ball_of, moves, undecided}
 use Rattle.fd_certfile.specs.Verdict.{Due, asks, complete, stops}
-
--- ---- with what a script starts
-
--- before the first Solve no device has a position
-abbrev pub no_positions : Positions
-no_positions = record { taps = []; closed = [] }
 
 -- ---- what comes of a block's ball
 

@@ -1,12 +1,13 @@
 -- A script's commands, each accepted by the circuit that those before it made.
 use Rattle.std.specs.Prelude.{ℕ, ◌<◌, ◌-◌, ◌^◌, List, [], ◌∷◌, ◌++◌, length, Result, Ok, Err}
-use Rattle.dss_circuit.specs.Circuit.{CircuitView, applied}
+use Rattle.dss_circuit.specs.Circuit.{CircuitView}
+use Rattle.dss_commands.specs.Commands.{applied}
 use Rattle.dss_circuit.specs.Limits.{most_elements}
-use Rattle.dss_profile.specs.declared.command.Command.{Command}
-use Rattle.dss_profile.specs.declared.command.Verb.{Verb}
-use Rattle.dss_profile.specs.declared.command.Verb.TheVariants as verb
+use Rattle.dss_model.specs.declared.command.Command.{Command}
+use Rattle.dss_model.specs.declared.command.Verb.{Verb}
+use Rattle.dss_model.specs.declared.command.Verb.TheVariants as verb
 use Rattle.dss_ready.specs.Ready.{HasPassed}
-use Rattle.dss_values.specs.declared.fault.ModelFault.{ModelFault}
+use Rattle.dss_model.specs.declared.fault.ModelFault.{ModelFault}
 
 -- the most Solves of a script; one of 1,048,576 bytes has fewer
 abbrev pub most_solves : ℕ

@@ -6,3 +6,4 @@ pub mod Given
 pub mod Hours
 pub mod Laws
 pub mod Commands
+pub use Rattle.fd_daily.specs.Underway

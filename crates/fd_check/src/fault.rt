@@ -1,5 +1,5 @@
 // Why the check of a Solve ends.
-use dss_circuit::Blame;
+use dss_model::Blame;
 use fd_cert::Rule;
 use fd_certfile::CertFileFault;
 use fd_devices::BuildFault;

@@ -1,6 +1,7 @@
 // A certificate over the Solves of a script.
 ghost use Rattle.std.specs.Prelude.{◌≡◌, ◌+◌, ◌*◌, [], ◌<◌, ◌≤◌, ◌^◌, All, IfErr, IfOk, Ok, OnOk, Some, length};
-ghost use Rattle.dss_circuit.specs.Circuit.{applied, empty_circuit};
+ghost use Rattle.dss_commands.specs.Commands.{applied};
+ghost use Rattle.dss_circuit.specs.Circuit.{empty_circuit};
 ghost use Rattle.fd_certfile.specs.Verdict.{IsAnswer, accepted};
 ghost use Rattle.fd_xfmr.specs.Leakage.{AreTaps};
 ghost use Rattle.fd_check.specs.Checking.{after, due};
@@ -11,7 +12,9 @@ ghost use Rattle.fd_check.specs.Hours.{script_open, solves_open};
 use crate::ending::check_end;
 use crate::fault::CheckFault;
 use crate::hours::check_solve;
-use dss_circuit::{Circuit, Command, Verb};
+use dss_circuit::Circuit;
+use dss_commands::apply;
+use dss_model::{Command, Verb};
 use fd_certfile::CertReader;
 use fd_devices::{BankStates, Positions, Taps};
 use std::alloc::Global;
@@ -92,7 +95,7 @@ fn check_command(
     ensures taps { All AreTaps at.new.taps }
     ensures settles { settled.new ≤ settled.old + 8761 * length (solve_in command.now circuit.old) }
 {
-    match circuit.apply(alloc, command) {
+    match apply(alloc, circuit, command) {
         Ok(()) => match command.verb {
             Verb::Solve { .. } => check_solve(alloc, circuit, at, settled, reader),
             Verb::New { .. } | Verb::Edit { .. } | Verb::Set { .. } | Verb::Clear | Verb::Bases => {

@@ -3,19 +3,21 @@ use Rattle.std.proofs.Common.{◌≡◌, ◌∙◌, ◌+◌, ◌≤◌, ℕ, Lis
 use Rattle.std.specs.Str.{chars}
 use Rattle.std.proofs.lemmas.List.{append-nil, append_assoc, length-append}
 use Rattle.fd_outside.specs.Files.{Files, held}
-use Rattle.dss_values.specs.Names.{bytes}
-use Rattle.dss_circuit.specs.Circuit.{CircuitView, applied, empty_circuit}
-use Rattle.dss_profile.specs.declared.command.Blame.{Blame}
-use Rattle.dss_profile.specs.declared.command.Command.{Command}
-use Rattle.dss_profile.specs.declared.command.Place.{Place}
-use Rattle.dss_profile.specs.declared.command.Verb.{Verb}
-use Rattle.dss_profile.specs.declared.command.Verb.TheVariants as verb
+use Rattle.dss_model.specs.Names.{bytes}
+use Rattle.dss_circuit.specs.Circuit.{CircuitView, empty_circuit}
+use Rattle.dss_commands.specs.Commands.{applied}
+use Rattle.dss_model.specs.declared.command.Blame.{Blame}
+use Rattle.dss_model.specs.declared.command.Command.{Command}
+use Rattle.dss_model.specs.declared.command.Place.{Place}
+use Rattle.dss_model.specs.declared.command.Verb.{Verb}
+use Rattle.dss_model.specs.declared.command.Verb.TheVariants as verb
 use Rattle.dss_ready.specs.Ready.{HasPassed}
-use Rattle.dss_values.specs.declared.fault.ModelFault.{ModelFault}
+use Rattle.dss_model.specs.declared.fault.ModelFault.{ModelFault}
 use Rattle.dss_script.specs.Said.{ended_by, said_of}
 use Rattle.dss_script.specs.Sessions.{cost}
+use Rattle.fd_check.specs.Underway.{no_positions}
 use Rattle.fd_certfile.proofs.CallerLemmas.{answers_law}
-use Rattle.fd_check.specs.Checking.{after, due, no_positions, open_solves}
+use Rattle.fd_check.specs.Checking.{after, due, open_solves}
 use Rattle.fd_check.specs.Commands.{AreAccepted, HasRoom, IsAcceptedBy, behind_all, behind_one, circuit_by, solve_by, solve_in, solves_in}
 use Rattle.fd_report.specs.declared.faults.Cause.TheVariants as cause
 use Rattle.fd_report.specs.declared.faults.Fault.{Fault}

@@ -9,11 +9,12 @@ use Rattle.fd_outside.specs.declared.library.Found.{Found}
 use Rattle.fd_outside.specs.declared.library.Found.TheVariants as was
 use Rattle.fd_outside.specs.declared.library.LibFault.{LibFault}
 use Rattle.fd_outside.specs.declared.library.LibFault.TheVariants as lib_fault
-use Rattle.dss_values.specs.Names.{bytes}
+use Rattle.dss_model.specs.Names.{bytes}
 use Rattle.dss_script.specs.Sessions.{GrowsLast, GrowsSome, found_bytes}
-use Rattle.dss_profile.specs.declared.command.Blame.{Blame}
+use Rattle.dss_model.specs.declared.command.Blame.{Blame}
+use Rattle.fd_check.specs.Underway.{no_positions}
 use Rattle.fd_certfile.specs.Verdict.{Answer, IsAnswer, accepted, refused, stopped}
-use Rattle.fd_check.specs.Checking.{after, due, no_positions, open_solves}
+use Rattle.fd_check.specs.Checking.{after, due, open_solves}
 use Rattle.fd_check.specs.Comes.{Tells as Told}
 use Rattle.fd_cert.specs.declared.rule.Rule.TheVariants as rule
 use Rattle.fd_check.specs.declared.fault.CheckFault.{CheckFault}

@@ -2,16 +2,17 @@
 -- them the certificate is judged.
 use Rattle.std.specs.Prelude.{◌≡◌, ℕ, List, [], ◌∷◌, ◌++◌, Option, Some, None, Result, Ok, Err}
 use Rattle.fd_outside.specs.Files.{Files, held}
-use Rattle.dss_values.specs.Names.{bytes}
+use Rattle.dss_model.specs.Names.{bytes}
 use Rattle.dss_script.specs.Said.{Part, ended_by}
-use Rattle.dss_profile.specs.declared.command.Blame.{Blame}
-use Rattle.dss_profile.specs.declared.command.Command.{Command}
+use Rattle.dss_model.specs.declared.command.Blame.{Blame}
+use Rattle.dss_model.specs.declared.command.Command.{Command}
 use Rattle.dss_circuit.specs.Circuit.{CircuitView, empty_circuit}
+use Rattle.fd_check.specs.Underway.{no_positions}
 use Rattle.fd_certfile.specs.Blocks.{Version}
 use Rattle.fd_certfile.specs.Certificates.{Certificate, Reads, behind_first, version_in}
 use Rattle.fd_certfile.specs.Lines.{lines_of}
 use Rattle.fd_certfile.specs.Verdict.{Answer, IsAnswer, accepted, refused, stopped}
-use Rattle.fd_check.specs.Checking.{after, due, no_positions, open_solves}
+use Rattle.fd_check.specs.Checking.{after, due, open_solves}
 use Rattle.fd_check.specs.Laws.{AreOfRounds}
 use Rattle.fd_report.specs.Accepted.{accepted_fields}
 use Rattle.fd_report.specs.declared.faults.Cause.TheVariants as cause

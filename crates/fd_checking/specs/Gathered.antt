@@ -1,7 +1,7 @@
 -- What `check` holds of a script is what its commands made.
 use Rattle.std.specs.Prelude.{◌≡◌, ℕ, ◌+◌, ◌≤◌, List, [], ◌∷◌, ◌++◌, length, Option, Some, None}
 use Rattle.dss_circuit.specs.Circuit.{CircuitView, empty_circuit}
-use Rattle.dss_profile.specs.declared.command.Command.{Command}
+use Rattle.dss_model.specs.declared.command.Command.{Command}
 use Rattle.dss_script.specs.Sessions.{cost}
 use Rattle.fd_check.specs.Commands.{AreAccepted, behind_all, solves_in}
 use Rattle.fd_report.specs.declared.faults.Fault.{Fault}

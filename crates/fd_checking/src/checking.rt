@@ -18,8 +18,9 @@ ghost use Rattle.fd_checking.specs.Gathered.{IsFollowed, IsGathered, IsKeptWith}
 
 use crate::gathered::Gathered;
 use crate::judged::answer_found;
-use dss_circuit::{Circuit, Command};
+use dss_circuit::Circuit;
 use dss_lexer::Text;
+use dss_model::Command;
 use dss_script::{Session, said_law};
 use fd_outside::{LibFault, Library, Sink};
 use fd_report::Fault;

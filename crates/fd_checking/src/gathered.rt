@@ -3,8 +3,9 @@ ghost use Rattle.std.specs.Prelude.{◌≡◌, IfOk};
 ghost use Rattle.std.specs.Str.{chars};
 ghost use Rattle.fd_checking.specs.Checks.{first_gathered};
 
-use dss_circuit::{Circuit, Command};
+use dss_circuit::Circuit;
 use dss_lexer::Text;
+use dss_model::Command;
 use std::alloc::{AllocError, Global};
 use std::marker::Model;
 

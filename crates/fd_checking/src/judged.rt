@@ -10,7 +10,7 @@ ghost use Rattle.fd_checking.specs.Checks.{IsJudged, gathered};
 ghost use Rattle.fd_checking.specs.Gathered.{solved_by};
 ghost use Rattle.fd_checking.specs.Judged.{IsAnsweredSo, IsJudgedBy, IsOfCheck, history_in};
 
-use dss_circuit::Command;
+use dss_model::Command;
 use fd_cert::Rule;
 use fd_check::{CheckFault, check_script};
 use fd_outside::{Found, Sink};

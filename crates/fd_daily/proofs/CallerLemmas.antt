@@ -5,10 +5,10 @@ use Rattle.std.specs.List.{AllByRecursion, range_with_len}
 use Rattle.std.specs.Option.{unwrap_or}
 use Rattle.std.proofs.lemmas.List.FromFn.{length-range_with_len}
 use Rattle.dss_circuit.specs.Circuit.{CircuitView}
-use Rattle.dss_profile.specs.InRange.{OptionsInRange}
-use Rattle.dss_profile.specs.declared.options.Options.{Options}
-use Rattle.dss_values.specs.declared.words.Mode.{Mode}
-use Rattle.dss_values.specs.declared.words.Mode.TheVariants as mode
+use Rattle.dss_model.specs.InRange.{OptionsInRange}
+use Rattle.dss_model.specs.declared.options.Options.{Options}
+use Rattle.dss_model.specs.declared.words.Mode.{Mode}
+use Rattle.dss_model.specs.declared.words.Mode.TheVariants as mode
 use Rattle.fd_daily.specs.Day.{DayView, IsDayOf, hour_in, hours_left}
 use Rattle.fd_daily.specs.Hours.{AreHours, hours_from, hours_in, hours_of}
 

@@ -1,7 +1,7 @@
 -- The positions and the network with which an hour starts.
 use Rattle.std.proofs.Common.{◌≡◌, ◌∙◌, ℕ, List, ◌∷◌, None, ap, length, refl, sym, subst}
 use Rattle.std.specs.Prelude.{All}
-use Rattle.dss_profile.specs.InRange.{ElementInRange}
+use Rattle.dss_model.specs.InRange.{ElementInRange}
 use Rattle.dss_circuit.specs.Circuit.{CircuitView}
 use Rattle.fd_elements.specs.declared.powers.LoadPower.{LoadPower}
 use Rattle.fd_equations.specs.Views.{NetworkView}
@@ -18,7 +18,7 @@ use Rattle.fd_network.specs.Built.{BuiltView, IsBuiltOf}
 use Rattle.fd_network.specs.Faults.{IsFaultOf, range_blame}
 use Rattle.fd_xfmr.specs.Leakage.{AreTaps}
 use Rattle.fd_queue.specs.Controls.{Positions}
-use Rattle.fd_sample.specs.Probes.{positions_in}
+use Rattle.fd_settle.specs.Probes.{positions_in}
 use Rattle.fd_settle.specs.Plant.{blame_at, network_at}
 use Rattle.fd_settle.specs.Start.{ArePositions, IsNetworkAt}
 use Rattle.fd_daily.specs.Underway.{IsRefusedAt, start_from}

@@ -7,7 +7,7 @@ use Rattle.fd_capctl.specs.CapState.{IsEarly}
 use Rattle.fd_devices.specs.Settings.{bank_count}
 use Rattle.fd_devices.specs.declared.settings.Positions.{Positions as CodePositions}
 use Rattle.fd_queue.specs.Machine.{Machine}
-use Rattle.fd_sample.specs.Probes.{positions_in}
+use Rattle.fd_settle.specs.Probes.{positions_in}
 use Rattle.fd_settle.specs.Plant.{started}
 use Rattle.fd_daily.specs.Hours.{hour_after, hours_from, time_of}
 

@@ -1,6 +1,6 @@
 -- The hours of a Solve under way.
 use Rattle.std.specs.Prelude.{◌≡◌, ℕ, All, IsSome, List, [], ◌∷◌, Option, None}
-use Rattle.dss_profile.specs.declared.command.Blame.{Blame}
+use Rattle.dss_model.specs.declared.command.Blame.{Blame}
 use Rattle.dss_circuit.specs.Circuit.{CircuitView}
 use Rattle.fd_devices.specs.Building.{IsModest}
 use Rattle.fd_settings.specs.Hours.{hour_powers}
@@ -10,7 +10,7 @@ use Rattle.fd_devices.specs.declared.settings.Positions.{Positions as CodePositi
 use Rattle.fd_network.specs.Built.{IsBuiltOf}
 use Rattle.fd_network.specs.Faults.{IsFaultOf}
 use Rattle.fd_queue.specs.Controls.{Positions}
-use Rattle.fd_sample.specs.Probes.{positions_in}
+use Rattle.fd_settle.specs.Probes.{positions_in}
 use Rattle.fd_settle.specs.Plant.{Plant, plant_of}
 use Rattle.fd_settle.specs.Rounds.{settled}
 use Rattle.fd_settle.specs.Settle.{Settle}
@@ -18,6 +18,10 @@ use Rattle.fd_settle.specs.Start.{ArePositions, IsNetworkAt}
 use Rattle.fd_settle.specs.declared.round.Round.{Round}
 use Rattle.fd_daily.specs.Day.{DayView, IsDayOf, begun_hour, hour_in, hours_left}
 use Rattle.fd_daily.specs.declared.underway.Underway.{Underway}
+
+-- before the first Solve no device has a position
+abbrev pub no_positions : Positions
+no_positions = record { taps = []; closed = [] }
 
 -- the positions with which a Solve starts, where the Solve before left these: those that the script set since then, and
 -- else those that it left

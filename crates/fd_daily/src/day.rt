@@ -5,8 +5,7 @@ ghost use Rattle.fd_daily.specs.Day.{IsDayOf, hour_kept, hours_left, no_openings
 ghost use Rattle.fd_daily.specs.Hours.{first_hour, hour_after, hours_of, last_hour, time_of};
 
 use dss_circuit::Circuit;
-use dss_profile::{Element, Options};
-use dss_values::Mode;
+use dss_model::{Element, Mode, Options};
 use fd_settle::Clock;
 use std::alloc::{AllocError, Global};
 use std::marker::Model;

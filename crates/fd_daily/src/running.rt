@@ -3,7 +3,7 @@ ghost use Rattle.std.specs.Prelude.{◌≡◌, is_ok};
 ghost use Rattle.dss_ready.specs.Ready.{HasPassed};
 ghost use Rattle.fd_settings.specs.Hours.{hour_powers};
 ghost use Rattle.fd_network.specs.Built.{IsBuiltOf};
-ghost use Rattle.fd_sample.specs.Probes.{positions_in};
+ghost use Rattle.fd_settle.specs.Probes.{positions_in};
 ghost use Rattle.fd_settle.specs.Contract.{CallsAs, EndsAs, limits_of};
 ghost use Rattle.fd_settle.specs.Rounds.{AtEach, acts_in, claims_in};
 ghost use Rattle.fd_settle.specs.Start.{ArePositions, IsSoundAt};

@@ -2,7 +2,7 @@
 ghost use Rattle.std.specs.Prelude.{◌≡◌, All, IfErr, IfOk, IsSome, OnErr, OnOk};
 ghost use Rattle.dss_ready.specs.Ready.{HasPassed};
 ghost use Rattle.fd_network.specs.Built.{IsBuiltOf};
-ghost use Rattle.fd_sample.specs.Probes.{positions_in};
+ghost use Rattle.fd_settle.specs.Probes.{positions_in};
 ghost use Rattle.fd_settle.specs.Start.{ArePositions};
 ghost use Rattle.fd_xfmr.specs.Leakage.{AreTaps};
 ghost use Rattle.fd_daily.specs.Day.{IsDayOf, hour_in, hours_left, no_openings};

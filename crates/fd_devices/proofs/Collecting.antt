@@ -9,8 +9,8 @@ use Rattle.fd_exact.specs.SumLaws.{list_n-append}
 use Rattle.fd_system.specs.Contributions.{IsDivided, IsWithin}
 use Rattle.fd_system.specs.System.{StampView, beside, joined}
 use Rattle.fd_equations.specs.Conditions.{IsKnown, IsServed}
-use Rattle.dss_profile.specs.declared.element.Element.{Element}
-use Rattle.dss_profile.specs.declared.names.ElementName.{ElementName}
+use Rattle.dss_model.specs.declared.element.Element.{Element}
+use Rattle.dss_model.specs.declared.names.ElementName.{ElementName}
 use Rattle.dss_layout.specs.Layout.{Elements, LayoutView, branch_phases}
 use Rattle.fd_devices.specs.Devices.{Device, IsGood, device_stamp, stamp_of_all}
 use Rattle.fd_devices.specs.Settings.{Settings, after}

@@ -4,17 +4,17 @@ use Rattle.std.specs.List.{All, flat_map}
 use Rattle.std.proofs.lemmas.Grind.{flat_map-append}
 use Rattle.std.proofs.lemmas.List.{append-nil}
 use Rattle.std.proofs.lemmas.List.Elements.{All-nil, All-cons, All-append, All-head, All-tail, All-weaker}
-use Rattle.dss_profile.specs.Ranges.{IsOneOf}
-use Rattle.dss_profile.specs.InRange.{ElementInRange}
-use Rattle.dss_profile.specs.declared.element.Element.{Element}
-use Rattle.dss_profile.specs.declared.element.Element.TheVariants as the
+use Rattle.dss_model.specs.Ranges.{IsOneOf}
+use Rattle.dss_model.specs.InRange.{ElementInRange}
+use Rattle.dss_model.specs.declared.element.Element.{Element}
+use Rattle.dss_model.specs.declared.element.Element.TheVariants as the
 use Rattle.dss_layout.specs.Limits.{most_complex}
 use Rattle.dss_layout.specs.Layout.{LayoutView, branch_phases, complex_count, ends_of, first_magnitude, size_of}
 use Rattle.fd_arith.specs.declared.terms.Term.{Term}
 use Rattle.fd_arith.specs.declared.terms.Ends.{Ends}
 use Rattle.fd_arith.specs.declared.terms.NodeAt.{NodeAt}
 use Rattle.fd_arith.specs.declared.terms.NodeAt.TheVariants.{Ground, Node}
-use Rattle.fd_system.specs.Contributions.{IsSmall}
+use Rattle.fd_system.specs.Contributions.{IsSmall, concat_below}
 use Rattle.fd_system.specs.Terminals.{branch_of}
 use Rattle.fd_arith.specs.declared.terms.LoadModel.{LoadModel}
 use Rattle.fd_system.specs.declared.loads.LoadAt.{LoadAt}
@@ -23,12 +23,11 @@ use Rattle.fd_system.specs.System.{StampView}
 use Rattle.fd_equations.specs.Conditions.{HasMagnitude, IsAmong, IsServed}
 use Rattle.fd_equations.specs.PatternPlaces.{cross, load_places, magnitude_places, node_places, place_of, terminal_places}
 use Rattle.fd_equations.specs.Patterns.{IsInside}
-use Rattle.fd_system.specs.Contributions.{concat_below}
 use Rattle.fd_equations.proofs.CallerLemmas.{cross_inside}
 use Rattle.fd_devices.specs.Building.{IsInside as IsTermInside, IsSettled}
-use Rattle.dss_profile.specs.declared.transformer.Transformer.{Transformer}
-use Rattle.dss_profile.specs.declared.capacitor.Capacitor.{Capacitor}
-use Rattle.dss_profile.specs.declared.load.Load.{Load}
+use Rattle.dss_model.specs.declared.transformer.Transformer.{Transformer}
+use Rattle.dss_model.specs.declared.capacitor.Capacitor.{Capacitor}
+use Rattle.dss_model.specs.declared.load.Load.{Load}
 use Rattle.fd_devices.specs.Devices.{device_stamp}
 use Rattle.fd_devices.specs.declared.kept.Kept.{Kept}
 use Rattle.fd_devices.specs.Kept.{AreFewOf, AreSmallEnds, IsKeptOf, is_moved, reach_of}

@@ -14,15 +14,15 @@ use Rattle.fd_elements.specs.declared.powers.LoadPower.{LoadPower}
 use Rattle.fd_elements.specs.Lines.{line_data_of}
 use Rattle.fd_equations.specs.Conditions.{HasMagnitude, IsAmong}
 use Rattle.fd_system.specs.Contributions.{concat_below}
-use Rattle.dss_profile.specs.Ranges.{IsOneOf}
-use Rattle.dss_profile.specs.InRange.{LoadInRange}
-use Rattle.dss_profile.specs.declared.element.Element.{Element}
-use Rattle.dss_profile.specs.declared.element.Element.TheVariants as the
-use Rattle.dss_profile.specs.declared.vsource.Vsource.{Vsource}
-use Rattle.dss_profile.specs.declared.line.Line.{Line}
-use Rattle.dss_profile.specs.declared.transformer.Transformer.{Transformer}
-use Rattle.dss_profile.specs.declared.capacitor.Capacitor.{Capacitor}
-use Rattle.dss_profile.specs.declared.load.Load.{Load}
+use Rattle.dss_model.specs.Ranges.{IsOneOf}
+use Rattle.dss_model.specs.InRange.{LoadInRange}
+use Rattle.dss_model.specs.declared.element.Element.{Element}
+use Rattle.dss_model.specs.declared.element.Element.TheVariants as the
+use Rattle.dss_model.specs.declared.vsource.Vsource.{Vsource}
+use Rattle.dss_model.specs.declared.line.Line.{Line}
+use Rattle.dss_model.specs.declared.transformer.Transformer.{Transformer}
+use Rattle.dss_model.specs.declared.capacitor.Capacitor.{Capacitor}
+use Rattle.dss_model.specs.declared.load.Load.{Load}
 use Rattle.dss_layout.specs.Layout.{LayoutView, branch_phases, complex_count, ends_of, first_magnitude, size_of}
 use Rattle.fd_devices.specs.Data.{cap_data_of, xfmr_data_of}
 use Rattle.fd_devices.specs.Devices.{source, line, transformer, capacitor, loads}

@@ -8,3 +8,4 @@ pub mod Standing
 pub mod Places
 pub mod Reach
 pub mod Kept
+pub use Rattle.fd_elements.specs.Connections

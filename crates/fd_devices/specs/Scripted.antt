@@ -9,9 +9,9 @@ use Rattle.fd_system.specs.declared.loads.LoadAt.{LoadAt}
 use Rattle.fd_system.specs.Equations.{Part}
 use Rattle.fd_system.specs.declared.terminals.NodePair.{NodePair}
 use Rattle.fd_system.specs.Terminals.{pair_of, pairs_of}
-use Rattle.dss_profile.specs.declared.element.Element.{Element}
-use Rattle.dss_profile.specs.declared.element.Element.TheVariants as the
-use Rattle.dss_profile.specs.declared.load.Load.{Load}
+use Rattle.dss_model.specs.declared.element.Element.{Element}
+use Rattle.dss_model.specs.declared.element.Element.TheVariants as the
+use Rattle.dss_model.specs.declared.load.Load.{Load}
 use Rattle.dss_layout.specs.Layout.{Elements, LayoutView, ends_of, first_magnitude, layout_of}
 use Rattle.dss_circuit.specs.Circuit.{CircuitView}
 use Rattle.fd_elements.specs.declared.powers.LoadPower.{LoadPower}

@@ -4,11 +4,10 @@ use Rattle.fd_arith.specs.declared.terms.NodeAt.{NodeAt}
 use Rattle.fd_arith.specs.LoadModels.{has_magnitude}
 use Rattle.fd_arith.specs.declared.terms.Ends.{Ends}
 use Rattle.fd_system.specs.Terminals.{node_count}
-use Rattle.dss_profile.specs.declared.element.Element.{Element}
-use Rattle.dss_profile.specs.declared.element.Element.TheVariants as the
+use Rattle.dss_model.specs.declared.element.Element.{Element}
+use Rattle.dss_model.specs.declared.element.Element.TheVariants as the
 use Rattle.dss_layout.specs.Terminals.{terminal_numbers, tested}
-use Rattle.dss_profile.specs.Sound.{are_matrices_wrong}
-use Rattle.dss_profile.specs.Sound.{is_source_outside}
+use Rattle.dss_model.specs.Sound.{are_matrices_wrong, is_source_outside}
 use Rattle.fd_equations.specs.Conditions.{IsAmong}
 
 -- ---- values

@@ -4,9 +4,9 @@ use Rattle.fd_arith.specs.LoadModels.{has_magnitude}
 use Rattle.fd_arith.specs.declared.terms.Ends.{Ends}
 use Rattle.fd_arith.specs.declared.terms.NodeAt.{NodeAt}
 use Rattle.fd_system.specs.Terminals.{node_count}
-use Rattle.dss_profile.specs.declared.element.Element.{Element}
-use Rattle.dss_profile.specs.declared.load.Load.{Load}
-use Rattle.dss_profile.specs.InRange.{ElementInRange}
+use Rattle.dss_model.specs.declared.element.Element.{Element}
+use Rattle.dss_model.specs.declared.load.Load.{Load}
+use Rattle.dss_model.specs.InRange.{ElementInRange}
 use Rattle.dss_layout.specs.Limits.{most_complex}
 use Rattle.dss_layout.specs.Layout.{LayoutView, branch_phases, complex_count, ends_of, first_magnitude, size_of}
 use Rattle.fd_devices.specs.Building.{IsSettled}

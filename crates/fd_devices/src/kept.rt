@@ -1,7 +1,7 @@
 // What is kept of elements.
 ghost use Rattle.std.specs.Prelude.{◌≡◌, ◌+◌, ◌*◌, ◌<◌, ◌≤◌, ◌^◌, ◌++◌, [], ◌∷◌, IfOk, IfErr, OnOk, All, Err};
-ghost use Rattle.dss_profile.specs.Ranges.{IsOneOf};
-ghost use Rattle.dss_profile.specs.InRange.{ElementInRange};
+ghost use Rattle.dss_model.specs.Ranges.{IsOneOf};
+ghost use Rattle.dss_model.specs.InRange.{ElementInRange};
 ghost use Rattle.dss_layout.specs.Layout.{size_of};
 ghost use Rattle.fd_devices.specs.Building.{DeviceFits, IsModest};
 ghost use Rattle.fd_devices.specs.Devices.{device_stamp};
@@ -19,7 +19,7 @@ use crate::settings::SettingSlices;
 use crate::stamps::element_stamp;
 use crate::writers::{capacitor_into, load_into, transformer_into};
 use dss_layout::Layout;
-use dss_profile::Element;
+use dss_model::Element;
 use fd_arith::{Ends, TermFault};
 use fd_equations::{add_load_places, add_term_places};
 use fd_system::Stamp;

@@ -2,7 +2,7 @@
 ghost use Rattle.std.specs.Prelude.{◌≡◌, ◌+◌, ◌*◌, ◌<◌, ◌≤◌, ◌++◌, ◌^◌, ◌↔◌, [], pos, neg_ℤ, ◌*ℤ◌, nat_abs, IsTrue, All, length, vec_capacity};
 ghost use Rattle.std.specs.List.{flat_map};
 ghost use Rattle.fd_exact.specs.Sums.{list_n};
-ghost use Rattle.dss_profile.specs.InRange.{LoadInRange};
+ghost use Rattle.dss_model.specs.InRange.{LoadInRange};
 ghost use Rattle.fd_system.specs.Contributions.{IsDivided};
 ghost use Rattle.fd_system.specs.Loads.{draw_of as phase_draw, impedance_list, linear_list};
 ghost use Rattle.fd_system.specs.Terminals.{IsSide, node_count};
@@ -10,7 +10,7 @@ ghost use Rattle.fd_load.specs.Current.{IsPast};
 ghost use Rattle.fd_devices.specs.Scripted.{load_at, magnitude_place as place_of_magnitude, phases_of};
 ghost use Rattle.fd_devices.specs.Building.{IsModest, IsUsable};
 
-use dss_profile::Load;
+use dss_model::Load;
 use fd_arith::{LoadModel, Nodes, Term};
 use fd_elements::{LoadPower, conn_of, load_phase};
 use fd_load::is_load_past;

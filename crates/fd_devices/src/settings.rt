@@ -2,7 +2,7 @@
 ghost use Rattle.std.specs.Prelude.{◌≡◌, IfOk};
 ghost use Rattle.fd_devices.specs.Settings.{HasOwn, after, bank_count, own, power_count, settings_in, settings_of, tap_count};
 
-use dss_profile::Element;
+use dss_model::Element;
 use fd_arith::TapPair;
 use fd_elements::LoadPower;
 use fd_items::Items;

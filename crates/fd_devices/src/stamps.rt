@@ -1,9 +1,8 @@
 // What each device adds to a network.
 ghost use Rattle.std.specs.Prelude.{◌≡◌, ◌+◌, ◌*◌, ◌<◌, ◌^◌, false, [], ◌∷◌, IfOk, IsSome, All, length};
-ghost use Rattle.dss_profile.specs.Ranges.{IsOneOf};
-ghost use Rattle.dss_profile.specs.InRange.{CapacitorInRange, LineInRange, LoadInRange, TransformerInRange, VsourceInRange};
-ghost use Rattle.dss_profile.specs.Sound.{are_matrices_wrong};
-ghost use Rattle.dss_profile.specs.Sound.{is_source_outside};
+ghost use Rattle.dss_model.specs.Ranges.{IsOneOf};
+ghost use Rattle.dss_model.specs.InRange.{CapacitorInRange, LineInRange, LoadInRange, TransformerInRange, VsourceInRange};
+ghost use Rattle.dss_model.specs.Sound.{are_matrices_wrong, is_source_outside};
 ghost use Rattle.fd_system.specs.Stamps.{stamp_of};
 ghost use Rattle.fd_system.specs.Terminals.{IsSide, node_count};
 ghost use Rattle.fd_line.specs.Line.{IsBetween};
@@ -23,7 +22,7 @@ ghost use Rattle.fd_devices.specs.Standing.{HasPlace, IsReadyAt, IsSettledAt, Se
 use crate::settings::SettingSlices;
 use crate::writers::{capacitor_into, load_into, transformer_into};
 use dss_layout::Layout;
-use dss_profile::{Capacitor, Element, Line, Load, Transformer, Vsource};
+use dss_model::{Capacitor, Element, Line, Load, Transformer, Vsource};
 use fd_arith::{Ends, Nodes, TapPair, TermFault};
 use fd_elements::{LoadPower, line_data, source_data};
 use fd_line::{LineData, line_terms};

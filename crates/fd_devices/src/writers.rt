@@ -1,6 +1,6 @@
 // What elements add, written into stamps that have the room for it.
 ghost use Rattle.std.specs.Prelude.{◌≡◌, ◌*◌, ◌<◌, ◌≤◌, ◌^◌, [], IfErr, OnOk, All, length, vec_capacity};
-ghost use Rattle.dss_profile.specs.InRange.{CapacitorInRange, LoadInRange, TransformerInRange};
+ghost use Rattle.dss_model.specs.InRange.{CapacitorInRange, LoadInRange, TransformerInRange};
 ghost use Rattle.fd_system.specs.Stamps.{IsRoomSame, stamp_of};
 ghost use Rattle.fd_system.specs.Terminals.{IsSide, node_count};
 ghost use Rattle.fd_xfmr.specs.Leakage.{AreTaps, IsXfmr};
@@ -14,7 +14,7 @@ ghost use Rattle.fd_devices.specs.Standing.{SettlesAsLoad, SettlesBetween, Settl
 
 use crate::data::{cap_data, xfmr_data};
 use crate::phase_loads::{are_in_limits, linear_terms_into, load_phases_into, total_draw};
-use dss_profile::{Capacitor, Load, Transformer};
+use dss_model::{Capacitor, Load, Transformer};
 use fd_arith::{Ends, Nodes, TapPair, TermFault};
 use fd_cap::{CapData, cap_draw, cap_terms_into};
 use fd_elements::LoadPower;

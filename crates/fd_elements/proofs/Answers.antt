@@ -3,9 +3,9 @@ use Rattle.std.proofs.Common.{◌≡◌, ◌∙◌, ℕ, ◌+◌, ◌-◌, ◌*�
 use Rattle.std.proofs.lemmas.Bool.{cases_lt}
 use Rattle.std.proofs.Math.Nat.{mul-le-mul, mul-le-mul_right}
 use Rattle.fd_exact.specs.Rounding.{signed, differ}
-use Rattle.dss_values.specs.declared.words.ReactiveRule.{ReactiveRule}
-use Rattle.dss_values.specs.declared.words.ReactiveRule.TheVariants as rule
-use Rattle.dss_profile.specs.declared.load.Load.{Load}
+use Rattle.dss_model.specs.declared.words.ReactiveRule.{ReactiveRule}
+use Rattle.dss_model.specs.declared.words.ReactiveRule.TheVariants as rule
+use Rattle.dss_model.specs.declared.load.Load.{Load}
 use Rattle.fd_elements.specs.declared.powers.LoadPower.{LoadPower}
 use Rattle.fd_elements.specs.Powers.{IsByPowerFactor, IsLoadPower, IsReactive, square}
 

@@ -3,3 +3,4 @@ pub mod Given
 pub mod Reactive
 pub mod Answers
 pub mod Products
+pub mod Phases

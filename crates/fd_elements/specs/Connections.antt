@@ -1,8 +1,8 @@
 -- The connection of a script as that of the physics.
 use Rattle.fd_arith.specs.declared.terms.Conn.{Conn}
 use Rattle.fd_arith.specs.declared.terms.Conn.TheVariants as conn
-use Rattle.dss_values.specs.declared.words.Connection.{Connection}
-use Rattle.dss_values.specs.declared.words.Connection.TheVariants as connection
+use Rattle.dss_model.specs.declared.words.Connection.{Connection}
+use Rattle.dss_model.specs.declared.words.Connection.TheVariants as connection
 
 abbrev pub conn_of : Connection → Conn
 conn_of connection.Wye = conn.Wye

@@ -1,6 +1,6 @@
 -- Powers that the relation states are the only ones that it allows.
 use Rattle.std.specs.Prelude.{◌≡◌, ℤ}
-use Rattle.dss_profile.specs.declared.load.Load.{Load}
+use Rattle.dss_model.specs.declared.load.Load.{Load}
 use Rattle.fd_elements.specs.declared.powers.LoadPower.{LoadPower}
 use Rattle.fd_elements.specs.Powers.{IsLoadPower}
 

@@ -1,12 +1,12 @@
 -- The data of a line by its values in the script.
 use Rattle.std.specs.Prelude.{ℕ, ◌*◌, ℤ, pos, List, replicate, Option, Some, None}
 use Rattle.std.specs.Option.{unwrap_or}
-use Rattle.dss_values.specs.declared.words.DataForm.{DataForm}
-use Rattle.dss_values.specs.declared.words.DataForm.TheVariants as data_form
-use Rattle.dss_values.specs.declared.words.Units.{Units}
-use Rattle.dss_values.specs.declared.words.Units.TheVariants as unit
-use Rattle.dss_profile.specs.declared.line.Line.{Line}
-use Rattle.dss_profile.specs.declared.line_constants.LineConstants.{LineConstants}
+use Rattle.dss_model.specs.declared.words.DataForm.{DataForm}
+use Rattle.dss_model.specs.declared.words.DataForm.TheVariants as data_form
+use Rattle.dss_model.specs.declared.words.Units.{Units}
+use Rattle.dss_model.specs.declared.words.Units.TheVariants as unit
+use Rattle.dss_model.specs.declared.line.Line.{Line}
+use Rattle.dss_model.specs.declared.line_constants.LineConstants.{LineConstants}
 use Rattle.fd_line.specs.declared.data.LineData.{LineData}
 use Rattle.fd_line.specs.declared.data.LineForm.{LineForm}
 use Rattle.fd_line.specs.declared.data.LineForm.TheVariants as line_form

@@ -1,6 +1,6 @@
 -- A phase of a load.
 use Rattle.std.specs.Prelude.{ℤ}
-use Rattle.dss_profile.specs.declared.load.Load.{Load}
+use Rattle.dss_model.specs.declared.load.Load.{Load}
 use Rattle.fd_system.specs.declared.loads.LoadPhase.{LoadPhase}
 use Rattle.fd_system.specs.Terminals.{phase_volts}
 use Rattle.fd_elements.specs.declared.powers.LoadPower.{LoadPower}

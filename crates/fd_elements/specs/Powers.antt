@@ -2,9 +2,9 @@
 use Rattle.std.specs.Prelude.{◌≡◌, ℕ, ◌+◌, ◌-◌, ◌*◌, ◌^◌, ◌≤◌, ◌<◌, ℤ, pos, ◌*ℤ◌, nat_abs}
 use Rattle.std.specs.Option.{unwrap_or}
 use Rattle.fd_exact.specs.Rounding.{near_div, signed, differ}
-use Rattle.dss_values.specs.declared.words.ReactiveRule.{ReactiveRule}
-use Rattle.dss_values.specs.declared.words.ReactiveRule.TheVariants as rule
-use Rattle.dss_profile.specs.declared.load.Load.{Load}
+use Rattle.dss_model.specs.declared.words.ReactiveRule.{ReactiveRule}
+use Rattle.dss_model.specs.declared.words.ReactiveRule.TheVariants as rule
+use Rattle.dss_model.specs.declared.load.Load.{Load}
 use Rattle.fd_elements.specs.declared.powers.LoadPower.{LoadPower}
 
 -- a power of all phases, in 10^-9 kW, times the point of a load shape, in 10^-9, for one phase and rounded once: 10^-3 VA are

@@ -1,9 +1,9 @@
 -- The data of a source by its values in the script.
 use Rattle.std.specs.Prelude.{ℤ, pos, cond, eqb}
 use Rattle.std.specs.Option.{unwrap_or}
-use Rattle.dss_values.specs.declared.words.SourceForm.{SourceForm}
-use Rattle.dss_values.specs.declared.words.SourceForm.TheVariants as source_form
-use Rattle.dss_profile.specs.declared.vsource.Vsource.{Vsource}
+use Rattle.dss_model.specs.declared.words.SourceForm.{SourceForm}
+use Rattle.dss_model.specs.declared.words.SourceForm.TheVariants as source_form
+use Rattle.dss_model.specs.declared.vsource.Vsource.{Vsource}
 use Rattle.fd_source.specs.declared.data.Ohms.{Ohms}
 use Rattle.fd_source.specs.declared.data.ShortCircuit.{ShortCircuit}
 use Rattle.fd_source.specs.declared.data.SourceData.{SourceData}

@@ -2,7 +2,7 @@
 ghost use Rattle.std.specs.Prelude.{◌≡◌};
 ghost use Rattle.fd_elements.specs.Connections.{conn_of as conn_by};
 
-use dss_profile::Connection;
+use dss_model::Connection;
 use fd_arith::Conn;
 
 /// The connection of the phases of a load, a bank or a winding.

@@ -1,13 +1,13 @@
 // The data of lines.
 ghost use Rattle.std.specs.Prelude.{◌≡◌, ◌≤◌, [], ◌∷◌, false, IfOk, IfSome, IsSome};
 ghost use Rattle.std.specs.Option.{unwrap_or};
-ghost use Rattle.dss_profile.specs.Ranges.{IsOneOf};
-ghost use Rattle.dss_profile.specs.InRange.{LineConstantsInRange, LineInRange};
-ghost use Rattle.dss_profile.specs.Sound.{are_matrices_wrong, is_size_wrong};
+ghost use Rattle.dss_model.specs.Ranges.{IsOneOf};
+ghost use Rattle.dss_model.specs.InRange.{LineConstantsInRange, LineInRange};
+ghost use Rattle.dss_model.specs.Sound.{are_matrices_wrong, is_size_wrong};
 ghost use Rattle.fd_line.specs.Totals.{IsCharge, IsForm, IsLine};
 ghost use Rattle.fd_elements.specs.Lines.{charge_by_sequence as charge_by_sequence_values, charge_of, line_data_of, matrix_or_zero, series_by_sequence as series_by_sequence_values, series_of, tenths_of, units_by};
 
-use dss_profile::{DataForm, Line, LineConstants, Numbers, Units};
+use dss_model::{DataForm, Line, LineConstants, Numbers, Units};
 use fd_line::{ChargeForm, Entries, LineData, LineForm};
 use std::alloc::{AllocError, Global};
 

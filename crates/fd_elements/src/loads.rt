@@ -1,8 +1,7 @@
 // The phases of loads.
 ghost use Rattle.std.specs.Prelude.{◌≡◌, ◌*◌, ◌^◌, ◌≤◌, ℤ, pos, ◌≤ℤ◌};
-ghost use Rattle.dss_values.specs.Forms.{ones};
-ghost use Rattle.dss_profile.specs.Ranges.{IsBetween};
-ghost use Rattle.dss_profile.specs.InRange.{LoadInRange};
+ghost use Rattle.dss_model.specs.Ranges.{ones, IsBetween};
+ghost use Rattle.dss_model.specs.InRange.{LoadInRange};
 ghost use Rattle.fd_load.specs.Current.{AreLoadVoltages};
 ghost use Rattle.fd_elements.specs.Volts.{part_of as volts_part};
 ghost use Rattle.fd_elements.specs.Loads.{load_phase_of};
@@ -10,7 +9,7 @@ ghost use Rattle.fd_elements.specs.Loads.{load_phase_of};
 use crate::connections::conn_of;
 use crate::powers::LoadPower;
 use crate::volts::part_of;
-use dss_profile::Load;
+use dss_model::Load;
 use fd_system::{LoadPhase, phase_volts};
 
 /// One phase of a load with this power: its model, its power, its nominal voltage in whole microvolts, and the limits between which the model

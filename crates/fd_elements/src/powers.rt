@@ -1,11 +1,10 @@
 // The powers of loads.
 ghost use Rattle.std.specs.Prelude.{◌≡◌, ◌+◌, ◌-◌, ◌*◌, ◌/◌, ◌<◌, ◌≤◌, ◌^◌, [], ◌∷◌, pos, ◌*ℤ◌, nat_abs};
-ghost use Rattle.dss_values.specs.Forms.{ones};
-ghost use Rattle.dss_profile.specs.Ranges.{IsBetween, IsOneOf, IsPower, IsPowerFactor};
-ghost use Rattle.dss_profile.specs.InRange.{LoadInRange};
+ghost use Rattle.dss_model.specs.Ranges.{ones, IsBetween, IsOneOf, IsPower, IsPowerFactor};
+ghost use Rattle.dss_model.specs.InRange.{LoadInRange};
 ghost use Rattle.fd_elements.specs.Powers.{ArePowers, IsByPowerFactor, IsLoadPower, IsReactive, phase_power};
 
-use dss_profile::{Load, ReactiveRule};
+use dss_model::{Load, ReactiveRule};
 use fd_arith::{isqrt, near_quotient};
 
 /// The power of one phase of a load, in whole thousandths of a volt-ampere.

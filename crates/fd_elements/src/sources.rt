@@ -1,14 +1,14 @@
 // The data of sources.
 ghost use Rattle.std.specs.Prelude.{◌≡◌, ◌*◌, ◌^◌, IfOk, IfErr, IsTrue, ◌↔◌};
-ghost use Rattle.dss_profile.specs.InRange.{VsourceInRange};
-ghost use Rattle.dss_profile.specs.Sound.{is_source_outside};
+ghost use Rattle.dss_model.specs.InRange.{VsourceInRange};
+ghost use Rattle.dss_model.specs.Sound.{is_source_outside};
 ghost use Rattle.fd_exact.specs.Ranges.{UpTo};
 ghost use Rattle.fd_source.specs.Powers.{AreWithin, IsShortCircuit};
 ghost use Rattle.fd_source.specs.Equations.{IsSource};
 ghost use Rattle.fd_elements.specs.Sources.{given_ohms as ohms_given, short_circuit_of, source_data_of, source_ohms_of, source_volts};
 
 use crate::volts::{part_of, part_over_root_three};
-use dss_profile::{SourceForm, Vsource};
+use dss_model::{SourceForm, Vsource};
 use fd_arith::TermFault;
 use fd_source::{Ohms, ShortCircuit, SourceData, source_ohms};
 

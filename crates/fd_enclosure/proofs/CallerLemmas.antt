@@ -1,2 +1,2 @@
 -- Lemmas that callers cite.
-pub use Rattle.fd_enclosure.proofs.Certificates.{all_bounded, claim_is}
+pub use Rattle.fd_enclosure.proofs.Certificates.{all_bounded, all_narrow, claim_is, not_refused}

@@ -1,9 +1,8 @@
 -- The certificate of a point is sound.
-use Rattle.std.proofs.Common.{◌≡◌, ◌∙◌, ℕ, ◌*◌, ◌-◌, ◌<◌, ◌≤◌, ◌^◌, ℤ, nat_le, nat_lt, not, Bool, true, false, cond, List, length, Option, Some, None, is_some, Ok, zero-add, arith, ap, refl, sym, subst}
-use Rattle.std.proofs.lemmas.Bool.{false_from_ne_true, ltb-false, not-false}
+use Rattle.std.proofs.Common.{◌≡◌, ◌∙◌, ℕ, ◌*◌, ◌-◌, ◌<◌, ◌≤◌, ◌^◌, ℤ, nat_le, nat_lt, not, Bool, true, false, cond, List, length, Option, Some, None, Ok, zero-add, arith, ap, refl, sym, subst}
+use Rattle.std.proofs.lemmas.Bool.{ltb-false, not-false}
 use Rattle.std.proofs.lemmas.List.FromFn.{get_or-map-range_with_len, length-map-range_with_len}
-use Rattle.fd_exact.specs.First.{first_place}
-use Rattle.fd_exact.specs.FirstLaws.{found}
+use Rattle.fd_exact.specs.FirstLaws.{none_holds}
 use Rattle.fd_exact.specs.Greatest.{greatest-same}
 use Rattle.fd_exact.specs.Rounding.{ceil_nat}
 use Rattle.fd_exact.specs.States.{entry}
@@ -25,10 +24,6 @@ length_of n f = length-map-range_with_len f 0 n
 
 number_of : (n : ℕ) (f : ℕ → ℕ) (i : ℕ) → i < n → number_at (list_of n f) i ≡ f i
 number_of n f i h = get_or-map-range_with_len f 0 n i i 0 h (zero-add i)
-
--- where there is no first place the test holds of none
-none_holds : (p : ℕ → Bool) (n k : ℕ) → first_place p n ≡ None → k < n → p k ≡ false
-none_holds p n k e h = false_from_ne_true (p k) (λ t. let s : is_some (first_place p n) ≡ true = found p n k h t in let no : ⊥ = cc in no)
 
 -- ---- a radius depends on the mismatches alone
 
@@ -57,7 +52,7 @@ module _ (n : ℕ) (C J : ℕ → ℕ → ℤ) (R : ℕ → ℕ → ℕ) (w : �
     wide_none None h = refl
     wide_none (Some i) h = let no : ⊥ = cc in absurd no
 
-    not_refused : refusal n C J R w e ≡ None → (first_unbounded n C J R w e ≡ None) × (first_wide n C J R w e ≡ None)
+    pub not_refused : refusal n C J R w e ≡ None → (first_unbounded n C J R w e ≡ None) × (first_wide n C J R w e ≡ None)
     unfolding refusal
     not_refused h =
         let a = unbounded_none (first_unbounded n C J R w e) h in

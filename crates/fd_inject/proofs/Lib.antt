@@ -3,3 +3,4 @@ pub mod Limited
 pub mod Products
 pub mod Iterates
 pub mod Inside
+pub mod CallerLemmas

@@ -2,12 +2,12 @@
 use Rattle.std.proofs.Common.{◌≡◌, ◌∙◌, ℕ, ◌<◌, List, [], ◌∷◌, length, Option, Some, None, ap, subst, sym, zero-add}
 use Rattle.std.specs.List.{All}
 use Rattle.std.specs.Option.{option_and_then, option_or}
-use Rattle.dss_values.specs.declared.fault.ModelFault.TheVariants as cause
-use Rattle.dss_profile.specs.Ranges.{IsOneOf}
+use Rattle.dss_model.specs.declared.fault.ModelFault.TheVariants as cause
+use Rattle.dss_model.specs.Ranges.{IsOneOf}
 use Rattle.dss_layout.specs.Layout.{Elements, LayoutView, first_too_many, layout_of}
 use Rattle.dss_ready.specs.Ready.{blame_at}
 use Rattle.fd_xfmr.specs.Leakage.{AreTaps}
-use Rattle.fd_devices.specs.Building.{IsModest}
+use Rattle.fd_devices.specs.Building.{IsModest, device_fits, has_small_sums}
 use Rattle.fd_devices.specs.declared.fault.BuildFault.{BuildFault}
 use Rattle.fd_devices.specs.Devices.{Device, stamp_of_all}
 use Rattle.fd_devices.specs.Scripted.{devices_from}
@@ -15,7 +15,6 @@ use Rattle.fd_devices.specs.declared.kept.Kept.{Kept}
 use Rattle.fd_devices.specs.Settings.{AreSettings, Settings}
 use Rattle.fd_devices.specs.Standing.{HasPlace}
 use Rattle.fd_network.specs.Collecting.{AreTakenFrom}
-use Rattle.fd_devices.specs.Building.{device_fits, has_small_sums}
 use Rattle.fd_network.specs.Faults.{IsFaultOf, first_out_of_range, first_without, range_blame}
 use Rattle.fd_network.specs.Keeping.{AreKept, Reaches}
 use Rattle.fd_network.specs.Places.{AreReadyFrom}

@@ -2,10 +2,10 @@
 use Rattle.std.proofs.Common.{◌≡◌, ℕ, suc, ◌+◌, ◌<◌, ◌≤◌, ◌^◌, [], ◌∷◌, length, slice_index, slice_index_or, take, All, None, sym, subst, add-zero, zero-add, arith}
 use Rattle.std.proofs.lemmas.Option.{slice_get-get_or}
 use Rattle.fd_exact.specs.Sums.{list_n}
-use Rattle.dss_profile.specs.InRange.{ElementInRange}
-use Rattle.dss_profile.specs.declared.element.Element.{Element}
-use Rattle.dss_profile.specs.declared.element.Element.TheVariants as the
-use Rattle.dss_profile.specs.declared.names.ElementName.{ElementName}
+use Rattle.dss_model.specs.InRange.{ElementInRange}
+use Rattle.dss_model.specs.declared.element.Element.{Element}
+use Rattle.dss_model.specs.declared.element.Element.TheVariants as the
+use Rattle.dss_model.specs.declared.names.ElementName.{ElementName}
 use Rattle.dss_layout.specs.Limits.{most_complex}
 use Rattle.dss_layout.specs.Layout.{Elements, LayoutView, branch_phases, complex_count, ends_of, first_magnitude, first_too_many, layout_of, magnitude_phases, size_of}
 use Rattle.dss_circuit.specs.Circuit.{CircuitView}

@@ -3,11 +3,11 @@ use Rattle.std.proofs.Common.{IsTrue, ℕ, ◌+◌, ◌≤◌, ◌==◌, Bool, t
 use Rattle.std.proofs.lemmas.List.{length-map}
 use Rattle.fd_arith.specs.LoadModels.{has_magnitude}
 use Rattle.fd_arith.specs.declared.terms.Ends.{Ends}
-use Rattle.dss_profile.specs.Ranges.{IsOneOf}
-use Rattle.dss_profile.specs.InRange.{ElementInRange}
-use Rattle.dss_profile.specs.declared.element.Element.{Element}
-use Rattle.dss_profile.specs.declared.element.Element.TheVariants as the
-use Rattle.dss_profile.specs.declared.load.Load.{Load}
+use Rattle.dss_model.specs.Ranges.{IsOneOf}
+use Rattle.dss_model.specs.InRange.{ElementInRange}
+use Rattle.dss_model.specs.declared.element.Element.{Element}
+use Rattle.dss_model.specs.declared.element.Element.TheVariants as the
+use Rattle.dss_model.specs.declared.load.Load.{Load}
 use Rattle.dss_layout.specs.Among.{IsAmong}
 use Rattle.dss_layout.specs.Nodes.{node_at}
 use Rattle.dss_layout.specs.Terminals.{mentions, terminals_of}

@@ -3,13 +3,13 @@ use Rattle.std.proofs.Common.{◌≡◌, ℕ, ◌==◌, ◌≤◌, nat_le, Bool,
 use Rattle.std.proofs.lemmas.Bool.{eqb-true}
 use Rattle.std.proofs.lemmas.List.{length-map, length-take-le}
 use Rattle.fd_system.specs.Terminals.{node_count}
-use Rattle.dss_values.specs.declared.bus.Bus.{Bus}
-use Rattle.dss_values.specs.declared.words.Connection.{Connection}
-use Rattle.dss_values.specs.declared.words.Connection.TheVariants.{Wye, Delta}
-use Rattle.dss_profile.specs.Ranges.{IsOneOf}
-use Rattle.dss_profile.specs.InRange.{ElementInRange}
-use Rattle.dss_profile.specs.declared.element.Element.{Element}
-use Rattle.dss_profile.specs.declared.element.Element.TheVariants as the
+use Rattle.dss_model.specs.declared.bus.Bus.{Bus}
+use Rattle.dss_model.specs.declared.words.Connection.{Connection}
+use Rattle.dss_model.specs.declared.words.Connection.TheVariants.{Wye, Delta}
+use Rattle.dss_model.specs.Ranges.{IsOneOf}
+use Rattle.dss_model.specs.InRange.{ElementInRange}
+use Rattle.dss_model.specs.declared.element.Element.{Element}
+use Rattle.dss_model.specs.declared.element.Element.TheVariants as the
 use Rattle.dss_layout.specs.declared.terminals.Terminals.{Terminals}
 use Rattle.dss_layout.specs.declared.numbers.TerminalFault.{TerminalFault}
 use Rattle.dss_layout.specs.declared.numbers.TerminalFault.TheVariants.{WrongCount, Unsupported}

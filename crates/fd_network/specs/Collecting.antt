@@ -1,7 +1,7 @@
 -- What elements in a layout must be so that what they add can be collected, and where they are out of range.
 use Rattle.std.specs.Prelude.{◌≡◌, ℕ, ◌+◌, ◌<◌, [], ◌∷◌, List, length, All, Option, Some}
-use Rattle.dss_profile.specs.Ranges.{IsOneOf}
-use Rattle.dss_profile.specs.declared.element.Element.{Element}
+use Rattle.dss_model.specs.Ranges.{IsOneOf}
+use Rattle.dss_model.specs.declared.element.Element.{Element}
 use Rattle.dss_layout.specs.Layout.{Elements, LayoutView}
 use Rattle.fd_xfmr.specs.Leakage.{AreTaps}
 use Rattle.fd_devices.specs.Building.{DeviceFits, IsModest}

@@ -1,8 +1,8 @@
 -- Which element is to blame where a circuit's network is out of range.
 use Rattle.std.specs.Prelude.{◌≡◌, ℕ, Bool, not, List, Option, Some}
 use Rattle.std.specs.Option.{option_and_then, option_or}
-use Rattle.dss_values.specs.declared.fault.ModelFault.TheVariants as fault
-use Rattle.dss_profile.specs.declared.command.Blame.{Blame}
+use Rattle.dss_model.specs.declared.fault.ModelFault.TheVariants as fault
+use Rattle.dss_model.specs.declared.command.Blame.{Blame}
 use Rattle.dss_layout.specs.Layout.{Elements}
 use Rattle.dss_ready.specs.Ready.{blame_at}
 use Rattle.fd_exact.specs.First.{first_such}

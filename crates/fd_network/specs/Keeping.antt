@@ -4,8 +4,8 @@ use Rattle.std.specs.List.{Contains, flat_map}
 use Rattle.fd_devices.specs.Reach.{device_places}
 use Rattle.fd_devices.specs.Scripted.{devices_from}
 use Rattle.fd_devices.specs.Settings.{Settings}
-use Rattle.dss_profile.specs.declared.element.Element.{Element}
-use Rattle.dss_profile.specs.declared.names.ElementName.{ElementName}
+use Rattle.dss_model.specs.declared.element.Element.{Element}
+use Rattle.dss_model.specs.declared.names.ElementName.{ElementName}
 use Rattle.dss_layout.specs.Layout.{Elements, LayoutView}
 use Rattle.fd_exact.specs.Sums.{list_n}
 use Rattle.fd_devices.specs.declared.kept.Kept.{Kept}

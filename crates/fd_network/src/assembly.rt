@@ -24,7 +24,7 @@ use crate::fault::OutOfRange;
 use crate::room::Room;
 use crate::stamps::{check_sums, collect};
 use dss_layout::Layout;
-use dss_profile::{Element, ElementName};
+use dss_model::{Element, ElementName};
 use fd_devices::{Kept, SettingSlices, device_law, reach_law};
 use fd_equations::Rows;
 use fd_system::{Constant, Stamp};

@@ -15,7 +15,7 @@ ghost use Rattle.fd_network.specs.Keeping.{AreKept};
 
 use crate::fault::PlaceFault;
 use dss_layout::Layout;
-use dss_profile::{Element, ElementName};
+use dss_model::{Element, ElementName};
 use fd_arith::TermFault;
 use fd_devices::{Kept, SettingSlices, kept_of};
 use indexmap::IndexMap;

@@ -18,7 +18,7 @@ ghost use Rattle.fd_network.specs.Stamps.{HaveStampsRoom, IsStampsRoomSame, exte
 use crate::extents::Stamps;
 use crate::fault::OutOfRange;
 use dss_layout::Layout;
-use dss_profile::{Element, ElementName};
+use dss_model::{Element, ElementName};
 use fd_arith::Term;
 use fd_devices::{Kept, SettingSlices, stamp_into};
 use fd_equations::Rows;

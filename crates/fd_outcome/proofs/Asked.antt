@@ -4,7 +4,7 @@ use Rattle.std.proofs.lemmas.List.{append-nil}
 use Rattle.std.proofs.lemmas.List.Elements.{All-cons}
 use Rattle.fd_outside.specs.Causes.{Becomes, Rose}
 use Rattle.fd_outside.proofs.CallerLemmas.{becomes_same}
-use Rattle.dss_values.specs.Names.{bytes}
+use Rattle.dss_model.specs.Names.{bytes}
 use Rattle.fd_report.specs.declared.faults.Fault.{Fault}
 use Rattle.fd_report.specs.declared.faults.Fault.TheVariants as fault
 use Rattle.fd_outcome.specs.Settles.{Settle}

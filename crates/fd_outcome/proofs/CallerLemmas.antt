@@ -6,9 +6,9 @@ use Rattle.std.proofs.lemmas.List.Elements.{All-nil, All-append}
 use Rattle.fd_outside.specs.Causes.{Becomes, Rose}
 use Rattle.fd_outside.specs.Emitted.{Takes}
 use Rattle.fd_outside.proofs.CallerLemmas.{becomes_same, becomes_then, takes_then, takes_none}
-use Rattle.dss_values.specs.Names.{bytes}
-use Rattle.dss_profile.specs.declared.command.Command.{Command}
-use Rattle.dss_profile.specs.declared.command.Place.{Place}
+use Rattle.dss_model.specs.Names.{bytes}
+use Rattle.dss_model.specs.declared.command.Command.{Command}
+use Rattle.dss_model.specs.declared.command.Place.{Place}
 use Rattle.dss_script.specs.Script.{Script}
 use Rattle.dss_script.specs.Said.{Said, name, command, ScriptEnd, at_its_end, refused_at}
 use Rattle.dss_script.specs.Sessions.{GrowsLast, GrowsSome}

@@ -6,8 +6,8 @@ use Rattle.std.proofs.lemmas.List.{append_assoc, append-nil, map-append}
 use Rattle.fd_outside.specs.Causes.{Becomes, Rose}
 use Rattle.fd_outside.specs.Emitted.{Takes}
 use Rattle.fd_outside.proofs.CallerLemmas.{becomes_same}
-use Rattle.dss_values.specs.Names.{bytes}
-use Rattle.dss_profile.specs.declared.command.Command.{Command}
+use Rattle.dss_model.specs.Names.{bytes}
+use Rattle.dss_model.specs.declared.command.Command.{Command}
 use Rattle.dss_script.specs.Script.{Script, names_first, after_names}
 use Rattle.dss_script.specs.Said.{name, said_in, end_in}
 use Rattle.dss_script.specs.SaidLaws.{SaidLaw}

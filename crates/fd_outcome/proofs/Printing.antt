@@ -7,7 +7,7 @@ use Rattle.fd_outside.specs.Causes.{Rose}
 use Rattle.fd_outside.specs.Pieces.{Begins}
 use Rattle.fd_outside.specs.Emitted.{IsFront}
 use Rattle.fd_outside.proofs.CallerLemmas.{front_after, front_more, front_none, front_one}
-use Rattle.dss_values.specs.Names.{bytes}
+use Rattle.dss_model.specs.Names.{bytes}
 use Rattle.fd_report.specs.declared.faults.Fault.{Fault}
 use Rattle.fd_outcome.specs.Statuses.{status_of, want_of_memory, write_fault}
 use Rattle.fd_outcome.specs.Settles.{Settle}

@@ -1,10 +1,10 @@
 -- There is exactly one history, and what is done of it.
-use Rattle.std.specs.Prelude.{◌≡◌, ◌⊎◌, ℕ, ◌+◌, ◌≤◌, List, ◌∷◌, [], ◌++◌, length, Option, Some, None}
+use Rattle.std.specs.Prelude.{◌≡◌, ◌⊎◌, ℕ, ◌+◌, ◌≤◌, List, ◌∷◌, [], ◌++◌, length, Option, Some, None, map}
 use Rattle.std.specs.List.{concat}
 use Rattle.fd_outside.specs.Causes.{Rose}
 use Rattle.fd_outside.specs.Emitted.{IsFront}
-use Rattle.dss_values.specs.Names.{bytes}
-use Rattle.dss_profile.specs.declared.command.Command.{Command}
+use Rattle.dss_model.specs.Names.{bytes}
+use Rattle.dss_model.specs.declared.command.Command.{Command}
 use Rattle.dss_script.specs.Said.{Said, ScriptEnd}
 use Rattle.fd_report.specs.Faults.{status}
 use Rattle.fd_report.specs.declared.faults.Fault.{Fault}
@@ -17,7 +17,6 @@ use Rattle.fd_outcome.specs.History.{IsHistory, IsFrom, Point}
 use Rattle.fd_outcome.specs.Calls.{Call, reads, writes, Style, report, Doing, doing, fault_text, names_read, texts_written}
 use Rattle.fd_outcome.specs.Done.{failing, Made, IsDone, torn_bytes, torn_writes}
 use Rattle.fd_outcome.specs.Runs.{Runs}
-use Rattle.std.specs.Prelude.{map}
 
 -- ---- statuses
 

@@ -2,7 +2,7 @@
 use Rattle.std.specs.Prelude.{◌≡◌, ◌⊎◌, ℕ, List, [], ◌∷◌, ◌++◌, Option}
 use Rattle.fd_outside.specs.Causes.{Becomes, Rose}
 use Rattle.fd_outside.specs.Emitted.{Takes}
-use Rattle.dss_values.specs.Names.{bytes}
+use Rattle.dss_model.specs.Names.{bytes}
 use Rattle.dss_script.specs.Sessions.{GrowsSome}
 use Rattle.fd_report.specs.Faults.{status}
 use Rattle.fd_report.specs.declared.faults.Fault.{Fault}

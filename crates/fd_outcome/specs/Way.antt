@@ -1,6 +1,6 @@
 -- The way that a run has gone: the invariant of the loop over a script's commands.
 use Rattle.std.specs.Prelude.{ℕ, List, Option, None}
-use Rattle.dss_profile.specs.declared.command.Command.{Command}
+use Rattle.dss_model.specs.declared.command.Command.{Command}
 use Rattle.fd_outcome.specs.Settles.{Settle}
 use Rattle.fd_outcome.specs.Events.{Event, History, AllSettles}
 use Rattle.fd_outcome.specs.Work.{Step}

@@ -1,6 +1,6 @@
 // The laws.
 ghost use Rattle.std.specs.Prelude.{List, ℕ, Option};
-ghost use Rattle.dss_profile.specs.declared.command.Command.{Command};
+ghost use Rattle.dss_model.specs.declared.command.Command.{Command};
 ghost use Rattle.fd_outcome.specs.Calls.{Style};
 ghost use Rattle.fd_outcome.specs.Events.{History};
 ghost use Rattle.fd_outcome.specs.History.{Point};

@@ -6,8 +6,8 @@ use Rattle.std.specs.Prelude.{All, IsSome, if◌then◌else◌}
 use Rattle.std.proofs.lemmas.List.{append_assoc, append-nil, drop_all, get_or-map, length-map, map-append, take_all}
 use Rattle.std.proofs.lemmas.List.Elements.{filter_more}
 use Rattle.std.proofs.lemmas.Option.{get_or_from_slice_get, same_Some, slice_get-get_or, slice_get-map, slice_get_within}
-use Rattle.dss_profile.specs.declared.element.Element.{Element}
-use Rattle.dss_profile.specs.declared.names.ElementName.{ElementName}
+use Rattle.dss_model.specs.declared.element.Element.{Element}
+use Rattle.dss_model.specs.declared.names.ElementName.{ElementName}
 use Rattle.dss_layout.specs.Layout.{Elements}
 use Rattle.fd_queue.specs.Controls.{Positions}
 use Rattle.fd_report.specs.Controls.{bank_fields}

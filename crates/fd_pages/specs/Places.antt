@@ -1,7 +1,7 @@
 -- Where the controls of a circuit stand among its elements, and the rows of single controls and banks.
 use Rattle.std.specs.Prelude.{◌≡◌, ℕ, Bool, List, [], ◌∷◌, map, slice_get, Option, Some, None}
-use Rattle.dss_profile.specs.declared.element.Element.{Element}
-use Rattle.dss_profile.specs.declared.names.ElementName.{ElementName}
+use Rattle.dss_model.specs.declared.element.Element.{Element}
+use Rattle.dss_model.specs.declared.names.ElementName.{ElementName}
 use Rattle.dss_layout.specs.Layout.{Elements}
 use Rattle.fd_queue.specs.Controls.{Positions}
 use Rattle.fd_report.specs.Controls.{bank_fields}

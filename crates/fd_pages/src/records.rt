@@ -25,7 +25,7 @@ use crate::controls::is_control;
 use crate::page::SolvedHour;
 use dss_circuit::Circuit;
 use dss_layout::Layout;
-use dss_profile::{Element, ElementName};
+use dss_model::{Element, ElementName};
 use fd_bases::bases;
 use fd_devices::Positions;
 use fd_outside::Record;

@@ -1,7 +1,7 @@
 -- The records of the voltage bases of buses, as lists of fields.
 use Rattle.std.specs.Prelude.{ℕ, ℤ, List, [], ◌∷◌, codes}
 use Rattle.fd_exact.specs.Rounding.{near_div}
-use Rattle.dss_values.specs.Names.{bytes}
+use Rattle.dss_model.specs.Names.{bytes}
 use Rattle.fd_decimal.specs.Decimals.{micro_text}
 
 -- a bus and its base in whole 10^-9 kV: in kV with six decimals, rounded to the nearest

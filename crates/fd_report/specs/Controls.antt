@@ -1,7 +1,7 @@
 -- The records of controls and of what they leave, as lists of fields.
 use Rattle.std.specs.Prelude.{ℕ, ℤ, Bool, true, false, List, [], ◌∷◌, codes}
 use Rattle.std.specs.Fmt.{signed_decimal}
-use Rattle.dss_profile.specs.declared.names.ElementName.{ElementName}
+use Rattle.dss_model.specs.declared.names.ElementName.{ElementName}
 use Rattle.fd_report.specs.declared.controls.Position.{Position}
 use Rattle.fd_report.specs.declared.controls.Position.TheVariants.{Tap, Open, Closed}
 use Rattle.fd_decimal.specs.Decimals.{fixed_text}

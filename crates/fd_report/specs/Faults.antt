@@ -2,9 +2,9 @@
 -- by its name.
 use Rattle.std.specs.Prelude.{ℕ, ℤ, List, [], ◌∷◌, unsigned_abs, codes, Option, Some, None}
 use Rattle.std.specs.Fmt.{decimal}
-use Rattle.dss_values.specs.Names.{bytes}
-use Rattle.dss_values.specs.declared.fault.ModelFault.{ModelFault}
-use Rattle.dss_values.specs.declared.fault.ModelFault.TheVariants as model
+use Rattle.dss_model.specs.Names.{bytes}
+use Rattle.dss_model.specs.declared.fault.ModelFault.{ModelFault}
+use Rattle.dss_model.specs.declared.fault.ModelFault.TheVariants as model
 use Rattle.dss_script.specs.declared.fault.ScriptCause.{ScriptCause}
 use Rattle.dss_script.specs.declared.fault.ScriptCause.TheVariants as script
 use Rattle.fd_cert.specs.declared.rule.Rule.{Rule}

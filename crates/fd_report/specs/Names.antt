@@ -1,7 +1,7 @@
 -- The names of nodes, elements and unknowns, as records have them. A field is a list of bytes.
 use Rattle.std.specs.Prelude.{ℕ, List, [], unwrap_or}
-use Rattle.dss_values.specs.Names.{bytes}
-use Rattle.dss_profile.specs.declared.names.ElementName.{ElementName}
+use Rattle.dss_model.specs.Names.{bytes}
+use Rattle.dss_model.specs.declared.names.ElementName.{ElementName}
 use Rattle.dss_layout.specs.declared.nodes.NodeName.{NodeName}
 use Rattle.dss_layout.specs.Layout.{LayoutView}
 use Rattle.dss_layout.specs.UnknownNames.{element_text, node_text, unknown_name}

@@ -1,7 +1,7 @@
 // The faults in which a command line can end: the record and the exit status of each.
 ghost use Rattle.std.specs.Fmt.{decimal};
 ghost use Rattle.std.specs.Prelude.{◌≡◌, ◌<◌, ◌∷◌, [], codes, IfOk};
-ghost use Rattle.dss_values.specs.Names.{bytes};
+ghost use Rattle.dss_model.specs.Names.{bytes};
 ghost use Rattle.dss_layout.specs.Layout.{size_of};
 ghost use Rattle.fd_report.specs.Lines.{line_of};
 ghost use Rattle.fd_report.specs.Names.{name_at};
@@ -11,9 +11,8 @@ use crate::line::record_of;
 use crate::names::element_field;
 use dss_layout::Layout;
 use dss_lexer::Text;
-use dss_profile::{ElementName, Place};
+use dss_model::{ElementName, ModelFault, Place};
 use dss_script::ScriptCause;
-use dss_values::ModelFault;
 use fd_cert::Rule;
 use fd_decimal::{micro_text, nano_text, size_text};
 use fd_inverse::Stop;

@@ -3,7 +3,7 @@ ghost use Rattle.std.specs.Prelude.{◌≡◌, ◌∷◌, ◌++◌, IfOk};
 ghost use Rattle.fd_report.specs.Names.{element_field, node_field};
 
 use dss_layout::NodeName;
-use dss_profile::ElementName;
+use dss_model::ElementName;
 use itoa::Buffer;
 use std::alloc::{AllocError, Global};
 

@@ -4,15 +4,15 @@ use Rattle.std.specs.Prelude.{All}
 use Rattle.std.proofs.Math.Nat.{div-le_self, le-div_iff_mul-le}
 use Rattle.std.proofs.lemmas.Int.{ints}
 use Rattle.fd_arith.specs.declared.terms.Ends.{Ends}
-use Rattle.fd_elements.specs.Connections.{conn_of}
+use Rattle.fd_devices.specs.Connections.{conn_of}
 use Rattle.fd_system.proofs.CallerLemmas.{phase_volts_between}
-use Rattle.dss_profile.specs.InRange.{ElementInRange, RegControlInRange, TransformerInRange, WindingInRange}
-use Rattle.dss_profile.specs.declared.capcontrol.CapControl.{CapControl}
-use Rattle.dss_profile.specs.declared.element.Element.TheVariants as the
-use Rattle.dss_profile.specs.declared.names.Class.TheVariants as class
-use Rattle.dss_profile.specs.declared.regcontrol.RegControl.{RegControl}
-use Rattle.dss_profile.specs.declared.transformer.Transformer.{Transformer}
-use Rattle.dss_profile.specs.declared.transformer.Winding.{Winding}
+use Rattle.dss_model.specs.InRange.{ElementInRange, RegControlInRange, TransformerInRange, WindingInRange}
+use Rattle.dss_model.specs.declared.capcontrol.CapControl.{CapControl}
+use Rattle.dss_model.specs.declared.element.Element.TheVariants as the
+use Rattle.dss_model.specs.declared.names.Class.TheVariants as class
+use Rattle.dss_model.specs.declared.regcontrol.RegControl.{RegControl}
+use Rattle.dss_model.specs.declared.transformer.Transformer.{Transformer}
+use Rattle.dss_model.specs.declared.transformer.Winding.{Winding}
 use Rattle.dss_circuit.specs.Circuit.{CircuitView}
 use Rattle.dss_circuit.specs.WellFormed.{IsEntry}
 use Rattle.dss_layout.specs.Layout.{complex_count, ends_of, layout_of, size_of}

@@ -9,14 +9,14 @@ use Rattle.std.proofs.lemmas.Bool.Decides.{nat_tests}
 use Rattle.std.proofs.lemmas.List.{take_all}
 use Rattle.std.proofs.lemmas.Option.{same_Some}
 use Rattle.fd_exact.specs.Sums.{list_n}
-use Rattle.dss_profile.specs.InRange.{ElementInRange, TransformerInRange, WindingInRange}
-use Rattle.dss_profile.specs.declared.capcontrol.CapControl.{CapControl}
-use Rattle.dss_profile.specs.declared.element.Element.{Element}
-use Rattle.dss_profile.specs.declared.element.Element.TheVariants as the
-use Rattle.dss_profile.specs.declared.names.Class.TheVariants as class
-use Rattle.dss_profile.specs.declared.names.ElementName.{ElementName}
-use Rattle.dss_profile.specs.declared.regcontrol.RegControl.{RegControl}
-use Rattle.dss_profile.specs.declared.transformer.Transformer.{Transformer}
+use Rattle.dss_model.specs.InRange.{ElementInRange, TransformerInRange, WindingInRange}
+use Rattle.dss_model.specs.declared.capcontrol.CapControl.{CapControl}
+use Rattle.dss_model.specs.declared.element.Element.{Element}
+use Rattle.dss_model.specs.declared.element.Element.TheVariants as the
+use Rattle.dss_model.specs.declared.names.Class.TheVariants as class
+use Rattle.dss_model.specs.declared.names.ElementName.{ElementName}
+use Rattle.dss_model.specs.declared.regcontrol.RegControl.{RegControl}
+use Rattle.dss_model.specs.declared.transformer.Transformer.{Transformer}
 use Rattle.dss_circuit.specs.Circuit.{CircuitView}
 use Rattle.dss_circuit.specs.WellFormed.{IsEntry}
 use Rattle.dss_layout.specs.Layout.{Elements, layout_of, size_of}

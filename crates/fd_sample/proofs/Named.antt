@@ -6,18 +6,18 @@ use Rattle.std.specs.Option.{option_and_then, option_map}
 use Rattle.std.proofs.lemmas.List.Quantifiers.{position-Some}
 use Rattle.std.proofs.lemmas.Option.{get_or_from_slice_get, option_and_then_some, same_Some, slice_get-get_or, slice_get-map}
 use Rattle.fd_exact.specs.Sums.{list_n}
-use Rattle.dss_profile.specs.Element.{class_of}
-use Rattle.dss_profile.specs.SameElement.{same_element}
-use Rattle.dss_profile.specs.declared.capcontrol.CapControl.{CapControl}
-use Rattle.dss_profile.specs.declared.element.Element.{Element}
-use Rattle.dss_profile.specs.declared.element.Element.TheVariants as the
-use Rattle.dss_profile.specs.declared.line.Line.{Line}
-use Rattle.dss_profile.specs.declared.names.Class.{Class}
-use Rattle.dss_profile.specs.declared.names.Class.TheVariants as class
-use Rattle.dss_profile.specs.declared.names.ElementName.{ElementName}
-use Rattle.dss_profile.specs.declared.regcontrol.RegControl.{RegControl}
-use Rattle.dss_profile.specs.declared.transformer.Transformer.{Transformer}
-use Rattle.dss_profile.proofs.CallerLemmas.{equal}
+use Rattle.dss_model.specs.Element.{class_of}
+use Rattle.dss_model.specs.SameElement.{same_element}
+use Rattle.dss_model.specs.declared.capcontrol.CapControl.{CapControl}
+use Rattle.dss_model.specs.declared.element.Element.{Element}
+use Rattle.dss_model.specs.declared.element.Element.TheVariants as the
+use Rattle.dss_model.specs.declared.line.Line.{Line}
+use Rattle.dss_model.specs.declared.names.Class.{Class}
+use Rattle.dss_model.specs.declared.names.Class.TheVariants as class
+use Rattle.dss_model.specs.declared.names.ElementName.{ElementName}
+use Rattle.dss_model.specs.declared.regcontrol.RegControl.{RegControl}
+use Rattle.dss_model.specs.declared.transformer.Transformer.{Transformer}
+use Rattle.dss_model.proofs.CallerLemmas.{equal}
 use Rattle.dss_circuit.specs.WellFormed.{IsEntry}
 use Rattle.dss_layout.specs.Layout.{Elements}
 use Rattle.dss_circuit.specs.Lookups.{element_given}

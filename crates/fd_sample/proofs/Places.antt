@@ -6,8 +6,8 @@ use Rattle.std.proofs.lemmas.List.{drop_more}
 use Rattle.std.proofs.lemmas.Option.{slice_get-map, slice_get_within, get_or_from_slice_get}
 use Rattle.fd_exact.specs.Sums.{list_n}
 use Rattle.fd_exact.specs.SumLaws.{list_n-append}
-use Rattle.dss_profile.specs.declared.element.Element.{Element}
-use Rattle.dss_profile.specs.declared.names.ElementName.{ElementName}
+use Rattle.dss_model.specs.declared.element.Element.{Element}
+use Rattle.dss_model.specs.declared.names.ElementName.{ElementName}
 use Rattle.dss_layout.specs.Layout.{Elements, sums_before}
 use Rattle.dss_layout.proofs.CallerLemmas.{length-sums_before}
 use Rattle.fd_sample.specs.Circuits.{element_at}

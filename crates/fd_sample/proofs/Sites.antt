@@ -5,11 +5,11 @@ use Rattle.std.proofs.lemmas.Int.{ints}
 use Rattle.std.proofs.lemmas.List.{get_or_past}
 use Rattle.std.proofs.lemmas.List.Elements.{All-get_or, All-cons, All-nil}
 use Rattle.fd_exact.specs.Ranges.{IsBetween}
-use Rattle.dss_values.specs.declared.words.ControlQuantity.{ControlQuantity}
-use Rattle.dss_values.specs.declared.words.ControlQuantity.TheVariants as quantity
-use Rattle.dss_profile.specs.InRange.{CapControlInRange}
-use Rattle.dss_profile.specs.declared.capcontrol.CapControl.{CapControl}
-use Rattle.dss_profile.specs.declared.line.Line.{Line}
+use Rattle.dss_model.specs.declared.words.ControlQuantity.{ControlQuantity}
+use Rattle.dss_model.specs.declared.words.ControlQuantity.TheVariants as quantity
+use Rattle.dss_model.specs.InRange.{CapControlInRange}
+use Rattle.dss_model.specs.declared.capcontrol.CapControl.{CapControl}
+use Rattle.dss_model.specs.declared.line.Line.{Line}
 use Rattle.fd_sample.specs.declared.probe.CapProbe.{CapProbe}
 use Rattle.fd_arith.specs.declared.terms.Ends.{Ends}
 use Rattle.fd_arith.specs.declared.terms.NodeAt.{NodeAt}
@@ -21,8 +21,8 @@ use Rattle.fd_system.specs.Residual.{IsPlace}
 use Rattle.fd_system.specs.Terminals.{node_of, second_node, pair_of}
 use Rattle.fd_xfmr.specs.Windings.{first_pairs, second_pairs}
 use Rattle.fd_equations.specs.Conditions.{IsAmong}
-use Rattle.dss_profile.specs.declared.regcontrol.RegControl.{RegControl}
-use Rattle.dss_profile.specs.declared.transformer.Transformer.{Transformer}
+use Rattle.dss_model.specs.declared.regcontrol.RegControl.{RegControl}
+use Rattle.dss_model.specs.declared.transformer.Transformer.{Transformer}
 use Rattle.fd_devices.specs.Data.{xfmr_data_of}
 use Rattle.fd_sample.specs.declared.probe.RegProbe.{RegProbe}
 use Rattle.fd_sample.specs.Regulators.{AreRegSettings, IsRegProbe}

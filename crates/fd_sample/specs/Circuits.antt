@@ -4,17 +4,17 @@ use Rattle.std.specs.Prelude.{◌≡◌, ◌≢◌, ℕ, ◌+◌, ◌≤◌, ◌
 use Rattle.std.specs.List.{filter_map, position}
 use Rattle.std.specs.Option.{option_and_then, option_map}
 use Rattle.fd_exact.specs.Sums.{list_n}
-use Rattle.dss_profile.specs.InRange.{CapControlInRange, LineInRange, RegControlInRange, TransformerInRange}
-use Rattle.dss_profile.specs.SameElement.{same_element}
-use Rattle.dss_profile.specs.declared.capcontrol.CapControl.{CapControl}
-use Rattle.dss_profile.specs.declared.line.Line.{Line}
+use Rattle.dss_model.specs.InRange.{CapControlInRange, LineInRange, RegControlInRange, TransformerInRange}
+use Rattle.dss_model.specs.SameElement.{same_element}
+use Rattle.dss_model.specs.declared.capcontrol.CapControl.{CapControl}
+use Rattle.dss_model.specs.declared.line.Line.{Line}
 use Rattle.fd_sample.specs.declared.probe.CapProbe.{CapProbe}
-use Rattle.dss_profile.specs.declared.element.Element.{Element}
-use Rattle.dss_profile.specs.declared.element.Element.TheVariants as the
-use Rattle.dss_profile.specs.declared.names.Class.{Class}
-use Rattle.dss_profile.specs.declared.names.Class.TheVariants as class
-use Rattle.dss_profile.specs.declared.regcontrol.RegControl.{RegControl}
-use Rattle.dss_profile.specs.declared.transformer.Transformer.{Transformer}
+use Rattle.dss_model.specs.declared.element.Element.{Element}
+use Rattle.dss_model.specs.declared.element.Element.TheVariants as the
+use Rattle.dss_model.specs.declared.names.Class.{Class}
+use Rattle.dss_model.specs.declared.names.Class.TheVariants as class
+use Rattle.dss_model.specs.declared.regcontrol.RegControl.{RegControl}
+use Rattle.dss_model.specs.declared.transformer.Transformer.{Transformer}
 use Rattle.dss_circuit.specs.Circuit.{CircuitView}
 use Rattle.dss_circuit.specs.InRange.{AllInRange}
 use Rattle.dss_circuit.specs.WellFormed.{IsEntry}

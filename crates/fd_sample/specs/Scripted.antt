@@ -6,13 +6,13 @@ use Rattle.fd_arith.specs.declared.terms.NodeAt.{NodeAt}
 use Rattle.fd_system.specs.Terminals.{node_count, node_of}
 use Rattle.fd_xfmr.specs.Transformer.{phase_at}
 use Rattle.fd_xfmr.specs.Windings.{first_volts, second_volts}
-use Rattle.dss_values.specs.declared.words.ControlQuantity.{ControlQuantity}
-use Rattle.dss_values.specs.declared.words.ControlQuantity.TheVariants as quantity
-use Rattle.dss_profile.specs.declared.capcontrol.CapControl.{CapControl}
-use Rattle.dss_profile.specs.declared.line.Line.{Line}
-use Rattle.dss_profile.specs.declared.regcontrol.RegControl.{RegControl}
-use Rattle.dss_profile.specs.declared.transformer.Transformer.{Transformer}
-use Rattle.dss_profile.specs.declared.transformer.Winding.{Winding}
+use Rattle.dss_model.specs.declared.words.ControlQuantity.{ControlQuantity}
+use Rattle.dss_model.specs.declared.words.ControlQuantity.TheVariants as quantity
+use Rattle.dss_model.specs.declared.capcontrol.CapControl.{CapControl}
+use Rattle.dss_model.specs.declared.line.Line.{Line}
+use Rattle.dss_model.specs.declared.regcontrol.RegControl.{RegControl}
+use Rattle.dss_model.specs.declared.transformer.Transformer.{Transformer}
+use Rattle.dss_model.specs.declared.transformer.Winding.{Winding}
 use Rattle.fd_devices.specs.Data.{xfmr_data_of}
 use Rattle.fd_devices.specs.Sound.{HasBranches, IsSideOf}
 use Rattle.fd_sample.specs.declared.probe.CapProbe.{CapProbe}

@@ -2,8 +2,8 @@
 ghost use Rattle.std.specs.Prelude.{◌≡◌, ◌<◌, map, length, is_some, IsSome, IfOk, IfSome, Some, Option, option_copied};
 ghost use Rattle.std.specs.List.{position};
 ghost use Rattle.std.specs.Map.{lookup};
-ghost use Rattle.dss_profile.specs.InRange.{CapControlInRange, RegControlInRange};
-ghost use Rattle.dss_profile.specs.SameElement.{same_element};
+ghost use Rattle.dss_model.specs.InRange.{CapControlInRange, RegControlInRange};
+ghost use Rattle.dss_model.specs.SameElement.{same_element};
 ghost use Rattle.dss_layout.specs.Layout.{layout_of, size_of};
 ghost use Rattle.dss_circuit.specs.Lookups.{element_given};
 ghost use Rattle.dss_ready.specs.Ready.{HasPassed};
@@ -18,7 +18,7 @@ use crate::scripted::{bank_probe, regulator_probe};
 use dss_circuit::Circuit;
 use dss_layout::Layout;
 use dss_lexer::Text;
-use dss_profile::{CapControl, Class, Element, ElementName, Line, RegControl, Transformer};
+use dss_model::{CapControl, Class, Element, ElementName, Line, RegControl, Transformer};
 use indexmap::IndexMap;
 use std::alloc::{AllocError, Global};
 

@@ -4,7 +4,7 @@ ghost use Rattle.dss_circuit.specs.Limits.{most_elements};
 ghost use Rattle.fd_devices.specs.Settings.{bank_count as banks_of, tap_count as taps_of};
 ghost use Rattle.fd_sample.specs.Circuits.{AreNumbers};
 
-use dss_profile::{Element, ElementName};
+use dss_model::{Element, ElementName};
 use indexmap::IndexMap;
 use std::alloc::{AllocError, Global};
 

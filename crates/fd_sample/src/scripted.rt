@@ -1,6 +1,6 @@
 // The probes of controls by their settings in the script.
 ghost use Rattle.std.specs.Prelude.{◌≡◌, ℕ, ◌+◌, ◌-◌, ◌*◌, ◌/◌, ◌^◌, ◌<◌, ◌≤◌, ◌==◌, pos, ◌≤ℤ◌, nat_abs, if◌then◌else◌};
-ghost use Rattle.dss_profile.specs.InRange.{CapControlInRange, LineInRange, RegControlInRange, TransformerInRange, WindingInRange};
+ghost use Rattle.dss_model.specs.InRange.{CapControlInRange, LineInRange, RegControlInRange, TransformerInRange, WindingInRange};
 ghost use Rattle.fd_system.specs.Terminals.{node_of};
 ghost use Rattle.fd_xfmr.specs.Leakage.{IsXfmr};
 ghost use Rattle.fd_xfmr.specs.Transformer.{IsBetween};
@@ -10,8 +10,7 @@ ghost use Rattle.fd_sample.specs.Regulators.{AreRegSettings, IsRegProbe};
 ghost use Rattle.fd_sample.specs.Scripted.{IsLineAt, IsPhase, IsXfmrAt, cap_probe, line_end as end_of, measured_by, phase_index as index_of, reg_probe, side_of, step_of, winding_of};
 
 use crate::probe::{CapProbe, LineEnd, Measured, RegProbe};
-use dss_profile::{CapControl, Line, RegControl, Transformer, Winding};
-use dss_values::ControlQuantity;
+use dss_model::{CapControl, ControlQuantity, Line, RegControl, Transformer, Winding};
 use fd_arith::{Ends, NodeAt, Nodes};
 use fd_devices::xfmr_data;
 use fd_system::{NodePair, phase_volts};

@@ -6,13 +6,13 @@ use Rattle.std.proofs.lemmas.List.{append-nil}
 use Rattle.std.proofs.lemmas.List.Elements.{All-nil, All-cons, All-append, All-drop, All-head, All-tail}
 use Rattle.fd_exact.specs.Sums.{list_n}
 use Rattle.fd_arith.specs.declared.terms.TapPair.{TapPair}
-use Rattle.dss_profile.specs.declared.element.Element.{Element}
-use Rattle.dss_profile.specs.declared.element.Element.TheVariants as the
-use Rattle.dss_profile.specs.declared.names.ElementName.{ElementName}
-use Rattle.dss_profile.specs.declared.transformer.Transformer.{Transformer}
-use Rattle.dss_profile.specs.declared.transformer.Winding.{Winding}
-use Rattle.dss_profile.specs.InRange.{ElementInRange, TransformerInRange}
-use Rattle.dss_profile.specs.Ranges.{IsTap}
+use Rattle.dss_model.specs.declared.element.Element.{Element}
+use Rattle.dss_model.specs.declared.element.Element.TheVariants as the
+use Rattle.dss_model.specs.declared.names.ElementName.{ElementName}
+use Rattle.dss_model.specs.declared.transformer.Transformer.{Transformer}
+use Rattle.dss_model.specs.declared.transformer.Winding.{Winding}
+use Rattle.dss_model.specs.InRange.{ElementInRange, TransformerInRange}
+use Rattle.dss_model.specs.Ranges.{IsTap}
 use Rattle.dss_layout.specs.Layout.{Elements}
 use Rattle.dss_layout.proofs.CallerLemmas.{drop-more}
 use Rattle.fd_xfmr.specs.Leakage.{AreTaps}

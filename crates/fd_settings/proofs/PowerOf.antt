@@ -4,10 +4,10 @@ use Rattle.std.proofs.lemmas.Bool.{cases_lt, leb-true, le-leb}
 use Rattle.std.proofs.lemmas.Int.{ints}
 use Rattle.std.proofs.Math.Nat.{mul-le-mul, mul-le-mul_left}
 use Rattle.fd_exact.specs.Rounding.{signed, differ}
-use Rattle.dss_values.specs.declared.words.ReactiveRule.{ReactiveRule}
-use Rattle.dss_values.specs.declared.words.ReactiveRule.TheVariants as rule
-use Rattle.dss_profile.specs.Ranges.{IsPowerFactor}
-use Rattle.dss_profile.specs.declared.load.Load.{Load}
+use Rattle.dss_model.specs.declared.words.ReactiveRule.{ReactiveRule}
+use Rattle.dss_model.specs.declared.words.ReactiveRule.TheVariants as rule
+use Rattle.dss_model.specs.Ranges.{IsPowerFactor}
+use Rattle.dss_model.specs.declared.load.Load.{Load}
 use Rattle.fd_elements.specs.declared.powers.LoadPower.{LoadPower}
 use Rattle.fd_elements.specs.Powers.{IsByPowerFactor, IsLoadPower, IsReactive, phase_power, square}
 use Rattle.fd_elements.proofs.CallerLemmas.{by_sign, same_power}

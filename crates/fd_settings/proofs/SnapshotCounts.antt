@@ -4,11 +4,11 @@ use Rattle.std.specs.List.{All, flat_map}
 use Rattle.std.proofs.lemmas.List.{length-replicate}
 use Rattle.std.proofs.lemmas.List.Elements.{All-nil, All-cons, All-append, All-head, All-tail}
 use Rattle.fd_exact.specs.Sums.{list_n}
-use Rattle.dss_values.specs.Forms.{ones}
-use Rattle.dss_profile.specs.declared.element.Element.{Element}
-use Rattle.dss_profile.specs.declared.element.Element.TheVariants as the
-use Rattle.dss_profile.specs.declared.names.ElementName.{ElementName}
-use Rattle.dss_profile.specs.InRange.{ElementInRange}
+use Rattle.dss_model.specs.Ranges.{ones}
+use Rattle.dss_model.specs.declared.element.Element.{Element}
+use Rattle.dss_model.specs.declared.element.Element.TheVariants as the
+use Rattle.dss_model.specs.declared.names.ElementName.{ElementName}
+use Rattle.dss_model.specs.InRange.{ElementInRange}
 use Rattle.dss_layout.specs.Layout.{Elements}
 use Rattle.fd_xfmr.specs.Leakage.{AreTaps}
 use Rattle.fd_devices.specs.Settings.{bank_count, power_count, tap_count}

@@ -2,12 +2,12 @@
 use Rattle.std.specs.Prelude.{◌≡◌, ℕ, zero, suc, ◌%◌, ℤ, pos, List, [], length, get_or, replicate, take, Option, Some}
 use Rattle.std.specs.List.{flat_map}
 use Rattle.fd_exact.specs.Sums.{list_n}
-use Rattle.dss_values.specs.Forms.{ones}
-use Rattle.dss_profile.specs.declared.load.Load.{Load}
-use Rattle.dss_profile.specs.declared.loadshape.Loadshape.{Loadshape}
-use Rattle.dss_profile.specs.declared.element.Element.{Element}
-use Rattle.dss_profile.specs.declared.element.Element.TheVariants as the
-use Rattle.dss_profile.specs.declared.names.Class.TheVariants as class
+use Rattle.dss_model.specs.Ranges.{ones}
+use Rattle.dss_model.specs.declared.load.Load.{Load}
+use Rattle.dss_model.specs.declared.loadshape.Loadshape.{Loadshape}
+use Rattle.dss_model.specs.declared.element.Element.{Element}
+use Rattle.dss_model.specs.declared.element.Element.TheVariants as the
+use Rattle.dss_model.specs.declared.names.Class.TheVariants as class
 use Rattle.dss_layout.specs.Layout.{Elements}
 use Rattle.dss_circuit.specs.Lookups.{element_given}
 use Rattle.fd_elements.specs.declared.powers.LoadPower.{LoadPower}

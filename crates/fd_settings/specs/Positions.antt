@@ -1,12 +1,12 @@
 -- The positions with which a Solve starts: what the script set since the Solve before, and else those of before.
 use Rattle.std.specs.Prelude.{◌≡◌, ℕ, ◌+◌, ◌==◌, Bool, List, [], ◌∷◌, ◌++◌, drop, slice_get, All, Option, Some, None, if◌then◌else◌}
 use Rattle.fd_arith.specs.declared.terms.TapPair.{TapPair}
-use Rattle.dss_profile.specs.declared.transformer.Transformer.{Transformer}
-use Rattle.dss_profile.specs.declared.transformer.Winding.{Winding}
-use Rattle.dss_profile.specs.declared.capacitor.Capacitor.{Capacitor}
-use Rattle.dss_profile.specs.declared.element.Element.{Element}
-use Rattle.dss_profile.specs.declared.element.Element.TheVariants as the
-use Rattle.dss_profile.specs.InRange.{ElementInRange}
+use Rattle.dss_model.specs.declared.transformer.Transformer.{Transformer}
+use Rattle.dss_model.specs.declared.transformer.Winding.{Winding}
+use Rattle.dss_model.specs.declared.capacitor.Capacitor.{Capacitor}
+use Rattle.dss_model.specs.declared.element.Element.{Element}
+use Rattle.dss_model.specs.declared.element.Element.TheVariants as the
+use Rattle.dss_model.specs.InRange.{ElementInRange}
 use Rattle.dss_layout.specs.Layout.{Elements}
 use Rattle.fd_xfmr.specs.Leakage.{AreTaps}
 use Rattle.fd_devices.specs.Settings.{AreSettings, Settings, bank_count, tap_count}

@@ -4,15 +4,15 @@ use Rattle.std.specs.List.{flat_map}
 use Rattle.std.specs.Option.{unwrap_or}
 use Rattle.fd_exact.specs.Rounding.{signed, differ}
 use Rattle.fd_arith.specs.declared.terms.TapPair.{TapPair}
-use Rattle.dss_values.specs.Forms.{ones}
-use Rattle.dss_values.specs.declared.words.BankState.{BankState}
-use Rattle.dss_values.specs.declared.words.BankState.TheVariants as bank_state
-use Rattle.dss_values.specs.declared.words.ReactiveRule.{ReactiveRule}
-use Rattle.dss_values.specs.declared.words.ReactiveRule.TheVariants as rule
-use Rattle.dss_profile.specs.declared.load.Load.{Load}
-use Rattle.dss_profile.specs.declared.element.Element.{Element}
-use Rattle.dss_profile.specs.declared.element.Element.TheVariants as the
-use Rattle.dss_profile.specs.InRange.{ElementInRange}
+use Rattle.dss_model.specs.Ranges.{ones}
+use Rattle.dss_model.specs.declared.words.BankState.{BankState}
+use Rattle.dss_model.specs.declared.words.BankState.TheVariants as bank_state
+use Rattle.dss_model.specs.declared.words.ReactiveRule.{ReactiveRule}
+use Rattle.dss_model.specs.declared.words.ReactiveRule.TheVariants as rule
+use Rattle.dss_model.specs.declared.load.Load.{Load}
+use Rattle.dss_model.specs.declared.element.Element.{Element}
+use Rattle.dss_model.specs.declared.element.Element.TheVariants as the
+use Rattle.dss_model.specs.InRange.{ElementInRange}
 use Rattle.dss_layout.specs.Layout.{Elements}
 use Rattle.fd_source.specs.Powers.{greatest_such}
 use Rattle.fd_xfmr.specs.Leakage.{AreTaps}

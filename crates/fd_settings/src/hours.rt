@@ -1,9 +1,8 @@
 // The powers of loads at an hour of a day.
 ghost use Rattle.std.specs.Prelude.{◌≡◌, ◌++◌, ◌%◌, pos, get_or, replicate, take, All, IfOk, IfSome, OnOk, option_copied};
-ghost use Rattle.dss_values.specs.Forms.{ones};
-ghost use Rattle.dss_profile.specs.Ranges.{IsBetween};
-ghost use Rattle.dss_profile.specs.InRange.{ElementInRange, LoadInRange, LoadshapeInRange};
-ghost use Rattle.dss_profile.specs.declared.names.Class.TheVariants as class;
+ghost use Rattle.dss_model.specs.Ranges.{ones, IsBetween};
+ghost use Rattle.dss_model.specs.InRange.{ElementInRange, LoadInRange, LoadshapeInRange};
+ghost use Rattle.dss_model.specs.declared.names.Class.TheVariants as class;
 ghost use Rattle.dss_circuit.specs.Lookups.{element_given};
 ghost use Rattle.fd_devices.specs.Building.{IsModest};
 ghost use Rattle.fd_settings.specs.Hours.{HoursLaw, element_powers, followed_point, hour_powers, point_at, repeated_point};
@@ -11,7 +10,7 @@ ghost use Rattle.fd_settings.specs.Snapshot.{power_of};
 
 use dss_circuit::{Circuit, find_element};
 use dss_lexer::Text;
-use dss_profile::{Class, Element, ElementName, Load, Loadshape};
+use dss_model::{Class, Element, ElementName, Load, Loadshape};
 use fd_devices::{LoadPowers, Powers};
 use fd_elements::{LoadPower, load_power};
 use std::alloc::{AllocError, Global};

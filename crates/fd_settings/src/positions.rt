@@ -4,7 +4,7 @@ ghost use Rattle.fd_settings.specs.Positions.{NextLaw, is_set as is_set_at, next
 
 use crate::snapshot::is_closed;
 use dss_circuit::Circuit;
-use dss_profile::{Capacitor, Element, Transformer, Winding};
+use dss_model::{Capacitor, Element, Transformer, Winding};
 use fd_arith::TapPair;
 use fd_devices::{BankStates, Positions, Taps};
 use std::alloc::{AllocError, Global};

@@ -3,8 +3,8 @@ ghost use Rattle.std.specs.Prelude.{◌≡◌, ◌++◌, IfOk, OnOk};
 ghost use Rattle.std.specs.List.{flat_map};
 ghost use Rattle.fd_settings.specs.Snapshot.{SnapshotLaw, closed_of, is_closed as is_state_closed, taps_of};
 
-use dss_circuit::{BankState, Circuit};
-use dss_profile::Element;
+use dss_circuit::Circuit;
+use dss_model::{BankState, Element};
 use fd_arith::TapPair;
 use fd_devices::{BankStates, Positions, Taps};
 use std::alloc::{AllocError, Global};

@@ -1,6 +1,6 @@
 -- What a settle comes to where its states are computed: its rounds, how it ends, and what it leaves.
 use Rattle.std.specs.Prelude.{◌≡◌, ◌≤◌, ℤ, List, [], ◌∷◌, map, Some, None, Result, Ok, Err}
-use Rattle.dss_profile.specs.declared.command.Blame.{Blame}
+use Rattle.dss_model.specs.declared.command.Blame.{Blame}
 use Rattle.fd_cert.specs.Claims.{claim_in}
 use Rattle.fd_cert.specs.declared.fault.CertFault.TheVariants as cert
 use Rattle.fd_enclosure.specs.Sound.{Claim, Refusal, certificate_of, loose, uncertain}

@@ -7,7 +7,7 @@ use Rattle.fd_settle.specs.declared.round.Round.{Round}
 use Rattle.fd_settle.specs.declared.fault.SettleFault.{SettleFault}
 use Rattle.fd_settle.specs.declared.fault.SettleFault.TheVariants as fault
 use Rattle.dss_circuit.specs.Circuit.{CircuitView}
-use Rattle.dss_profile.specs.declared.options.Options.{Options}
+use Rattle.dss_model.specs.declared.options.Options.{Options}
 use Rattle.fd_devices.specs.declared.settings.Positions.{Positions as CodePositions}
 use Rattle.fd_devices.specs.declared.settings.Powers.{Powers}
 use Rattle.fd_inject.specs.declared.limits.Limits.{Limits}

@@ -13,3 +13,4 @@ pub mod Start
 pub mod Controls
 pub mod Computed
 pub mod Acting
+pub use Rattle.fd_sample.specs.Probes

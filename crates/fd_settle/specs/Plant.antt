@@ -1,8 +1,8 @@
 -- What a settle stands on: a circuit with the powers of an hour, as the queue machine sees it.
 use Rattle.std.specs.Prelude.{ℕ, List, [], length, map, replicate, Option, None}
-use Rattle.dss_profile.specs.declared.command.Blame.{Blame}
-use Rattle.dss_values.specs.declared.words.ControlMode.{ControlMode}
-use Rattle.dss_values.specs.declared.words.ControlMode.TheVariants as control_mode
+use Rattle.dss_model.specs.declared.command.Blame.{Blame}
+use Rattle.dss_model.specs.declared.words.ControlMode.{ControlMode}
+use Rattle.dss_model.specs.declared.words.ControlMode.TheVariants as control_mode
 use Rattle.dss_circuit.specs.Circuit.{CircuitView}
 use Rattle.fd_elements.specs.declared.powers.LoadPower.{LoadPower}
 use Rattle.fd_equations.specs.Views.{NetworkView}

@@ -25,7 +25,7 @@ use crate::sampling::{sample_all, some_moves};
 use crate::state::ControlState;
 use dss_circuit::Circuit;
 use dss_layout::Layout;
-use dss_values::ControlMode;
+use dss_model::ControlMode;
 use fd_capctl::away_law;
 use fd_cert::Certified;
 use fd_devices::{BankStates, Positions, Taps};

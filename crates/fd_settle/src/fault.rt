@@ -1,5 +1,5 @@
 // Why a settle ends.
-use dss_profile::Blame;
+use dss_model::Blame;
 use fd_devices::BuildFault;
 use std::alloc::AllocError;
 

@@ -1,6 +1,6 @@
 // A settle: solve, sample and act, and again.
 ghost use Rattle.std.specs.Prelude.{◌≡◌, ◌++◌, ◌<◌, ◌≤◌, [], All, IfOk, OnOk, vec_capacity, vec_len};
-ghost use Rattle.dss_profile.specs.InRange.{OptionsInRange};
+ghost use Rattle.dss_model.specs.InRange.{OptionsInRange};
 ghost use Rattle.dss_ready.specs.Ready.{HasPassed};
 ghost use Rattle.fd_devices.specs.Building.{IsModest};
 ghost use Rattle.fd_network.specs.Built.{IsBuiltOf};
@@ -19,7 +19,7 @@ use crate::progress::Progress;
 use crate::round::{Act, Round};
 use crate::solver::Solver;
 use dss_circuit::Circuit;
-use dss_profile::Options;
+use dss_model::Options;
 use fd_devices::{Positions, Powers};
 use fd_inject::Limits;
 use fd_network::Network;

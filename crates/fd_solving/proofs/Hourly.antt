@@ -4,7 +4,7 @@ use Rattle.std.specs.Prelude.{◌||◌, ◌+◌, ◌<◌, ◌≤◌, ◌^◌}
 use Rattle.std.proofs.lemmas.List.{append_assoc, append-nil}
 use Rattle.std.proofs.lemmas.List.Elements.{All-nil, All-cons, All-append}
 use Rattle.std.proofs.lemmas.List.Sums.{fold-append}
-use Rattle.dss_profile.specs.declared.command.Blame.{Blame}
+use Rattle.dss_model.specs.declared.command.Blame.{Blame}
 use Rattle.dss_circuit.specs.Circuit.{CircuitView}
 use Rattle.fd_daily.specs.Day.{DayView, hours_left, no_openings}
 use Rattle.fd_daily.specs.Hours.{AreHours, hours_of}

@@ -2,7 +2,7 @@
 use Rattle.std.proofs.Common.{◌≡◌, ◌∙◌, ℕ, List, [], Option, refl, ap, subst}
 use Rattle.std.specs.Str.{chars}
 use Rattle.fd_outside.specs.Files.{Files, held}
-use Rattle.dss_values.specs.Names.{bytes}
+use Rattle.dss_model.specs.Names.{bytes}
 use Rattle.dss_script.specs.Script.{Script, script_of}
 use Rattle.dss_script.specs.Said.{Said, ScriptEnd, said_of, ended_by, said_in, end_in}
 use Rattle.dss_script.specs.SaidLaws.{SaidLaw}
@@ -14,7 +14,7 @@ use Rattle.fd_outcome.specs.Runs.{Runs}
 use Rattle.fd_outcome.specs.Work.{ExactlyOne, Step}
 use Rattle.fd_outcome.proofs.CallerLemmas.{ends_first, exactly_one_history, exactly_this}
 use Rattle.fd_outcome.specs.Settles.{Settle}
-use Rattle.dss_profile.specs.declared.command.Command.{Command}
+use Rattle.dss_model.specs.declared.command.Command.{Command}
 use Rattle.fd_solving.specs.Commands.{IsStep}
 use Rattle.fd_solving.specs.Scripts.{IsDoneThere, IsScriptHistory, first_standing, no_name}
 use Rattle.fd_solving.proofs.Tests.{one_step}

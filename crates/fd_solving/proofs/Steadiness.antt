@@ -2,8 +2,8 @@
 use Rattle.std.proofs.Common.{◌≡◌, ◌∙◌, ℕ, ◌+◌, ◌<◌, ◌≤◌, ◌^◌, List, [], ◌∷◌, map, take, length, get_or, Result, Ok, Err, ap, refl, sym, subst, arith}
 use Rattle.std.specs.Prelude.{All}
 use Rattle.std.proofs.lemmas.List.Elements.{All-from_get_or, All-head, All-tail}
-use Rattle.dss_values.specs.declared.words.ControlMode.{ControlMode}
-use Rattle.dss_values.specs.declared.words.ControlMode.TheVariants as control_mode
+use Rattle.dss_model.specs.declared.words.ControlMode.{ControlMode}
+use Rattle.dss_model.specs.declared.words.ControlMode.TheVariants as control_mode
 use Rattle.dss_layout.specs.Layout.{layout_of, size_of}
 use Rattle.dss_ready.specs.Ready.{HasPassed}
 use Rattle.dss_circuit.specs.Circuit.{CircuitView}

@@ -12,7 +12,7 @@ use Rattle.dss_circuit.specs.Circuit.{CircuitView}
 use Rattle.fd_cert.specs.Claims.{claim_in, tried_claim}
 use Rattle.fd_cert.specs.declared.ball.Certified.{Certified}
 use Rattle.fd_cert.specs.declared.fault.CertFault.TheVariants as cert
-use Rattle.fd_certfile.specs.Rounds.{IsClaimOf}
+use Rattle.fd_pages.specs.Rounds.{IsClaimOf}
 use Rattle.fd_settings.specs.Hours.{hour_powers}
 use Rattle.fd_enclosure.specs.Sound.{Claim, IsInverse, certificate_of, first_loose, greatest_mismatch, mismatch_at, mismatches_of, number_at, uncertain, unless_loose}
 use Rattle.fd_equations.specs.Conditions.{IsPart, IsPoint}

@@ -11,24 +11,27 @@ use Rattle.std.proofs.lemmas.Str.{encodes_same}
 use Rattle.indexmap.specs.IndexMap.{insert_entry}
 use Rattle.dss_lexer.specs.declared.pair.Pair.{Pair}
 use Rattle.dss_lexer.proofs.CallerLemmas.{same_from}
-use Rattle.dss_values.specs.Answers.{◌>>=◌, or_fault}
-use Rattle.dss_values.specs.Names.{bytes, lower, named}
-use Rattle.dss_values.specs.declared.fault.ModelFault.{ModelFault}
-use Rattle.dss_values.specs.declared.fault.ModelFault.TheVariants as fault
-use Rattle.dss_profile.specs.Names.{classes}
-use Rattle.dss_profile.specs.Options.{default_options, with_options}
-use Rattle.dss_profile.specs.declared.command.Command.{Command}
-use Rattle.dss_profile.specs.declared.command.Place.{Place}
-use Rattle.dss_profile.specs.declared.command.Verb.{Verb}
-use Rattle.dss_profile.specs.declared.command.Verb.TheVariants as verb
-use Rattle.dss_profile.specs.declared.element.Element.{Element}
-use Rattle.dss_profile.specs.declared.names.ElementName.{ElementName}
-use Rattle.dss_profile.specs.SameElement.{same_element}
-use Rattle.dss_profile.specs.declared.options.Options.{Options}
-use Rattle.dss_circuit.specs.Circuit.{CircuitView, Elements, applied, applied_verb, edit, has_circuit, make, make_where, put, with_pairs}
-use Rattle.dss_circuit.specs.Keys.{edit_key, element_key, made_key, needed, new_key, source_name, written}
+use Rattle.dss_model.specs.Answers.{◌>>=◌, or_fault}
+use Rattle.dss_model.specs.Names.{bytes, lower, named}
+use Rattle.dss_model.specs.declared.fault.ModelFault.{ModelFault}
+use Rattle.dss_model.specs.declared.fault.ModelFault.TheVariants as fault
+use Rattle.dss_model.specs.Classes.{classes}
+use Rattle.dss_model.specs.Defaults.{default_options}
+use Rattle.dss_profile.specs.Options.{with_options}
+use Rattle.dss_model.specs.declared.command.Command.{Command}
+use Rattle.dss_model.specs.declared.command.Place.{Place}
+use Rattle.dss_model.specs.declared.command.Verb.{Verb}
+use Rattle.dss_model.specs.declared.command.Verb.TheVariants as verb
+use Rattle.dss_model.specs.declared.element.Element.{Element}
+use Rattle.dss_model.specs.declared.names.ElementName.{ElementName}
+use Rattle.dss_model.specs.SameElement.{same_element}
+use Rattle.dss_model.specs.declared.options.Options.{Options}
+use Rattle.dss_circuit.specs.Circuit.{CircuitView, Elements, has_circuit, source_name}
+use Rattle.dss_commands.specs.Commands.{applied, applied_verb, edit, make, make_where, put, set, solve, with_pairs}
+use Rattle.dss_commands.proofs.CallerLemmas.{through}
+use Rattle.dss_commands.specs.Keys.{edit_key, element_key, made_key, needed, new_key, written}
 use Rattle.dss_script.specs.Sessions.{cost}
-use Rattle.dss_profile.specs.declared.command.Blame.{Blame}
+use Rattle.dss_model.specs.declared.command.Blame.{Blame}
 use Rattle.fd_report.specs.declared.faults.Cause.{Cause}
 use Rattle.fd_report.specs.declared.faults.Cause.TheVariants as cause
 use Rattle.fd_daily.specs.Hours.{hours_of}
@@ -79,16 +82,6 @@ named_long {T} (row ∷ rows) v found h is =
     cases fits rest false e is = rest is
 
 -- ---- what follows where nothing is refused
-
-record Through {A B : Type 0} (r : Result A ModelFault) (f : A → Result B ModelFault) (b : B) : Type 0 where
-  value : A
-  first : r ≡ Ok value
-  next : f value ≡ Ok b
-
-through : {A B : Type 0} (r : Result A ModelFault) (f : A → Result B ModelFault) (b : B) → (r >>= f) ≡ Ok b
-    → Through r f b
-through (Ok a) f b h = record { value = a; first = refl; next = h }
-through (Err e) f b h = cc h
 
 found_named : {A : Type 0} (e : ModelFault) (o : Option A) (a : A) → or_fault e o ≡ Ok a → o ≡ Some a
 found_named e None a h = cc h
@@ -146,39 +139,54 @@ replaced (e ∷ es) name element there is = cases (same_element name e.0) (repla
     cases true rest h = omega arith
     cases false rest h = omega (arith, rest h)
 
-put_more : (count : ℕ) (name : ElementName) (element : Element) (pairs : List Pair) (elements new : Elements)
-    → put count name element pairs elements ≡ Ok new → length new ≤ 1 + length elements
+-- what a circuit with these elements is
+abbrev with_elements : CircuitView → Elements → CircuitView
+with_elements circuit elements = record circuit { elements = elements }
+
+-- the elements are at most so many more, and the Solves as many as before
+record Grows (most : ℕ) (circuit new : CircuitView) : Type 0 where
+  elements : length new.elements ≤ most + length circuit.elements
+  count : circuit.solves ≡ new.solves
+
+grown : (most : ℕ) (circuit new : CircuitView) (elements : Elements) → with_elements circuit elements ≡ new
+    → length elements ≤ most + length circuit.elements → Grows most circuit new
+grown most circuit new elements is few =
+    let same : length elements ≡ length new.elements = ap (λ (c : CircuitView). length c.elements) is in
+    record { elements = omega (arith, same, few); count = ap (λ (c : CircuitView). c.solves) is }
+
+put_more : (name : ElementName) (element : Element) (pairs : List Pair) (circuit new : CircuitView)
+    → put name element pairs circuit ≡ Ok new → Grows 1 circuit new
 unfolding put
-put_more count name element pairs elements new h =
-    let t = through (with_pairs count elements name.class pairs element) (λ e. Ok (insert_entry same_element elements name e)) new h in
-    let is : insert_entry same_element elements name t.value ≡ new = cc t.next in
-    omega (arith, ap (λ xs. length xs) is, inserted elements name t.value)
+put_more name element pairs circuit new h =
+    let es = circuit.elements in
+    let t = through (with_pairs circuit.solves es name.class pairs element) (λ e. Ok (with_elements circuit (insert_entry same_element es name e))) new h in
+    grown 1 circuit new (insert_entry same_element es name t.value) (cc t.next) (inserted es name t.value)
 
-put_same : (count : ℕ) (name : ElementName) (element there : Element) (pairs : List Pair) (elements new : Elements)
-    → lookup (same_element name) elements ≡ Some there → put count name element pairs elements ≡ Ok new
-    → length new ≤ length elements
+put_same : (name : ElementName) (element there : Element) (pairs : List Pair) (circuit new : CircuitView)
+    → lookup (same_element name) circuit.elements ≡ Some there → put name element pairs circuit ≡ Ok new
+    → Grows 0 circuit new
 unfolding put
-put_same count name element there pairs elements new found h =
-    let t = through (with_pairs count elements name.class pairs element) (λ e. Ok (insert_entry same_element elements name e)) new h in
-    let is : insert_entry same_element elements name t.value ≡ new = cc t.next in
-    omega (arith, ap (λ xs. length xs) is, replaced elements name t.value there found)
+put_same name element there pairs circuit new found h =
+    let es = circuit.elements in
+    let t = through (with_pairs circuit.solves es name.class pairs element) (λ e. Ok (with_elements circuit (insert_entry same_element es name e))) new h in
+    grown 0 circuit new (insert_entry same_element es name t.value) (cc t.next) (omega (arith, replaced es name t.value there found))
 
-make_where_more : (count : ℕ) (there : Option Element) (place : Place) (name : ElementName) (pairs : List Pair) (elements new : Elements)
-    → make_where count there place name pairs elements ≡ Ok new → length new ≤ 1 + length elements
-make_where_more count None place name pairs elements new h = put_more count name _ pairs elements new h
-make_where_more count (Some there) place name pairs elements new h = cc h
+make_where_more : (there : Option Element) (place : Place) (name : ElementName) (pairs : List Pair) (circuit new : CircuitView)
+    → make_where there place name pairs circuit ≡ Ok new → Grows 1 circuit new
+make_where_more None place name pairs circuit new h = put_more name _ pairs circuit new h
+make_where_more (Some there) place name pairs circuit new h = cc h
 
-make_more : (count : ℕ) (place : Place) (name : ElementName) (pairs : List Pair) (elements new : Elements)
-    → make count place name pairs elements ≡ Ok new → length new ≤ 1 + length elements
+make_more : (place : Place) (name : ElementName) (pairs : List Pair) (circuit new : CircuitView)
+    → make place name pairs circuit ≡ Ok new → Grows 1 circuit new
 unfolding make
-make_more count place name pairs elements new h = make_where_more count (lookup (same_element name) elements) place name pairs elements new h
+make_more place name pairs circuit new h = make_where_more (lookup (same_element name) circuit.elements) place name pairs circuit new h
 
-edit_same : (count : ℕ) (name : ElementName) (pairs : List Pair) (elements new : Elements)
-    → edit count name pairs elements ≡ Ok new → length new ≤ length elements
+edit_same : (name : ElementName) (pairs : List Pair) (circuit new : CircuitView) → edit name pairs circuit ≡ Ok new
+    → Grows 0 circuit new
 unfolding edit
-edit_same count name pairs elements new h =
+edit_same name pairs circuit new h =
     let t = through _ _ new h in
-    put_same count name t.value t.value pairs elements new (found_named fault.UnknownName _ t.value t.first) t.next
+    put_same name t.value t.value pairs circuit new (found_named fault.UnknownName _ t.value t.first) t.next
 
 -- ---- a command that is applied takes its room
 
@@ -187,41 +195,41 @@ pub record Takes (v : Verb) (circuit new : CircuitView) : Type 0 where
   pub room : weight new ≤ weight circuit + cost v
   pub count : circuit.solves + solve_count v ≤ new.solves
 
-pub verb_takes : (place : Place) (v : Verb) (circuit new : CircuitView) → applied_verb place v circuit ≡ Ok new
-    → Takes v circuit new
-verb_takes place (verb.New kind name pairs) circuit new h =
-    let keep : Elements → Result CircuitView ModelFault = λ es. Ok (record circuit { elements = es }) in
-    let t = through (new_key kind name (has_circuit circuit.elements)) (λ key. make circuit.solves place key pairs circuit.elements >>= keep) new h in
-    let u = through (make circuit.solves place t.value pairs circuit.elements) keep new t.next in
-    let is : record circuit { elements = u.value } ≡ new = cc u.next in
-    let long = long_new kind name (has_circuit circuit.elements) t.value t.first in
-    let more = make_more circuit.solves place t.value pairs circuit.elements u.value u.first in
-    let elements : length u.value ≡ length new.elements = ap (λ c. length c.elements) is in
-    let count : circuit.solves ≡ new.solves = ap (λ c. c.solves) is in
-    record { room = omega (arith, long, more, elements, count); count = omega (arith, count) }
-verb_takes place (verb.Edit kind name pairs) circuit new h =
-    let keep : Elements → Result CircuitView ModelFault = λ es. Ok (record circuit { elements = es }) in
-    let t = through (edit_key kind name (has_circuit circuit.elements)) (λ key. edit circuit.solves key pairs circuit.elements >>= keep) new h in
-    let u = through (edit circuit.solves t.value pairs circuit.elements) keep new t.next in
-    let is : record circuit { elements = u.value } ≡ new = cc u.next in
-    let more = edit_same circuit.solves t.value pairs circuit.elements u.value u.first in
-    let elements : length u.value ≡ length new.elements = ap (λ c. length c.elements) is in
-    let count : circuit.solves ≡ new.solves = ap (λ c. c.solves) is in
-    record { room = omega (arith, more, elements, count); count = omega (arith, count) }
-verb_takes place (verb.Set pairs) circuit new h =
+set_takes : (place : Place) (pairs : List Pair) (circuit new : CircuitView) → set pairs circuit ≡ Ok new
+    → Takes (verb.Set pairs) circuit new
+unfolding set
+set_takes place pairs circuit new h =
     let t = through (with_options pairs circuit.options) (λ o. Ok (record circuit { options = o })) new h in
     let is : record circuit { options = t.value } ≡ new = cc t.next in
-    let elements : length circuit.elements ≡ length new.elements = ap (λ c. length c.elements) is in
-    let count : circuit.solves ≡ new.solves = ap (λ c. c.solves) is in
+    let elements : length circuit.elements ≡ length new.elements = ap (λ (c : CircuitView). length c.elements) is in
+    let count : circuit.solves ≡ new.solves = ap (λ (c : CircuitView). c.solves) is in
     record { room = omega (arith, elements, count); count = omega (arith, count) }
-verb_takes place (verb.Solve pairs) circuit new h =
+
+solve_takes : (place : Place) (pairs : List Pair) (circuit new : CircuitView) → solve pairs circuit ≡ Ok new
+    → Takes (verb.Solve pairs) circuit new
+unfolding solve
+solve_takes place pairs circuit new h =
     let keep : Options → Result CircuitView ModelFault = λ o. Ok (record circuit { options = o; solves = circuit.solves + 1 }) in
     let t = through (needed (has_circuit circuit.elements)) (λ done. with_options pairs circuit.options >>= keep) new h in
     let u = through (with_options pairs circuit.options) keep new t.next in
     let is : record circuit { options = u.value; solves = circuit.solves + 1 } ≡ new = cc u.next in
-    let elements : length circuit.elements ≡ length new.elements = ap (λ c. length c.elements) is in
-    let count : circuit.solves + 1 ≡ new.solves = ap (λ c. c.solves) is in
+    let elements : length circuit.elements ≡ length new.elements = ap (λ (c : CircuitView). length c.elements) is in
+    let count : circuit.solves + 1 ≡ new.solves = ap (λ (c : CircuitView). c.solves) is in
     record { room = omega (arith, elements, count); count = omega (arith, count) }
+
+pub verb_takes : (place : Place) (v : Verb) (circuit new : CircuitView) → applied_verb place v circuit ≡ Ok new
+    → Takes v circuit new
+verb_takes place (verb.New kind name pairs) circuit new h =
+    let t = through (new_key kind name (has_circuit circuit.elements)) (λ key. make place key pairs circuit) new h in
+    let long = long_new kind name (has_circuit circuit.elements) t.value t.first in
+    let more = make_more place t.value pairs circuit new t.next in
+    record { room = omega (arith, long, more.elements, more.count); count = omega (arith, more.count) }
+verb_takes place (verb.Edit kind name pairs) circuit new h =
+    let t = through (edit_key kind name (has_circuit circuit.elements)) (λ key. edit key pairs circuit) new h in
+    let more = edit_same t.value pairs circuit new t.next in
+    record { room = omega (arith, more.elements, more.count); count = omega (arith, more.count) }
+verb_takes place (verb.Set pairs) circuit new h = set_takes place pairs circuit new h
+verb_takes place (verb.Solve pairs) circuit new h = solve_takes place pairs circuit new h
 verb_takes place verb.Clear circuit new h =
     let is : record circuit { elements = []; options = default_options } ≡ new = cc h in
     let elements : 0 ≡ length new.elements = ap (λ c. length c.elements) is in

@@ -1,9 +1,9 @@
 -- What a command and an hour come to, as the code says it.
 use Rattle.std.specs.Prelude.{◌≡◌, ℕ, List, [], Option, Some, None}
 use Rattle.dss_layout.specs.Layout.{layout_of, size_of}
-use Rattle.dss_profile.specs.declared.command.Blame.{Blame}
-use Rattle.dss_profile.specs.declared.command.Verb.{Verb}
-use Rattle.dss_profile.specs.declared.command.Verb.TheVariants as verb
+use Rattle.dss_model.specs.declared.command.Blame.{Blame}
+use Rattle.dss_model.specs.declared.command.Verb.{Verb}
+use Rattle.dss_model.specs.declared.command.Verb.TheVariants as verb
 use Rattle.dss_circuit.specs.Circuit.{CircuitView}
 use Rattle.dss_ready.specs.Ready.{HasPassed, IsToBlame}
 use Rattle.fd_daily.specs.Day.{DayView}

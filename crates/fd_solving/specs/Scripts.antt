@@ -1,10 +1,10 @@
 -- The history of `solve` and `cert` over the files that a library holds.
 use Rattle.std.specs.Prelude.{◌≡◌, ℕ, List, [], Option, None}
 use Rattle.fd_outside.specs.Files.{Files, held}
-use Rattle.dss_values.specs.Names.{bytes}
+use Rattle.dss_model.specs.Names.{bytes}
 use Rattle.dss_circuit.specs.Circuit.{empty_circuit}
 use Rattle.dss_script.specs.Said.{Part, ended_by}
-use Rattle.fd_check.specs.Checking.{no_positions}
+use Rattle.fd_daily.specs.Underway.{no_positions}
 use Rattle.fd_outcome.specs.Events.{History, finishes}
 use Rattle.fd_outcome.specs.History.{IsHistory}
 use Rattle.fd_solving.specs.Commands.{IsStep}

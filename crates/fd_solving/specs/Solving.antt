@@ -1,11 +1,11 @@
 -- What a Solve of a circuit that passed the tests comes to: the settles of its hours.
 use Rattle.std.specs.Prelude.{◌≡◌, ℕ, ◌+◌, ℤ, [], ◌∷◌, nat_abs, List, map, slice_get, Option, Some, None, option_map, Result, Ok, Err}
-use Rattle.dss_values.specs.declared.words.ControlQuantity.{ControlQuantity}
-use Rattle.dss_values.specs.declared.words.ControlQuantity.TheVariants as quantity
-use Rattle.dss_profile.specs.declared.element.Element.{Element}
-use Rattle.dss_profile.specs.declared.element.Element.TheVariants as the
-use Rattle.dss_profile.specs.declared.names.Class.TheVariants as class
-use Rattle.dss_profile.specs.declared.names.ElementName.{ElementName}
+use Rattle.dss_model.specs.declared.words.ControlQuantity.{ControlQuantity}
+use Rattle.dss_model.specs.declared.words.ControlQuantity.TheVariants as quantity
+use Rattle.dss_model.specs.declared.element.Element.{Element}
+use Rattle.dss_model.specs.declared.element.Element.TheVariants as the
+use Rattle.dss_model.specs.declared.names.Class.TheVariants as class
+use Rattle.dss_model.specs.declared.names.ElementName.{ElementName}
 use Rattle.dss_layout.specs.Layout.{layout_of}
 use Rattle.dss_circuit.specs.Circuit.{CircuitView}
 use Rattle.fd_daily.specs.Day.{no_openings}

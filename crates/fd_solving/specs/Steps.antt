@@ -1,6 +1,6 @@
 -- What a command comes to for `solve`: a change of the circuit, the settles of a Solve's hours, or the end of the run.
 use Rattle.std.specs.Prelude.{ℕ, List, [], ◌++◌, ◌+◌}
-use Rattle.dss_profile.specs.declared.command.Place.{Place}
+use Rattle.dss_model.specs.declared.command.Place.{Place}
 use Rattle.dss_circuit.specs.Circuit.{CircuitView}
 use Rattle.fd_queue.specs.Controls.{Positions}
 use Rattle.fd_report.specs.declared.faults.Cause.{Cause}

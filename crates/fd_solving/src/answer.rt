@@ -2,7 +2,7 @@
 ghost use Rattle.std.specs.Prelude.{◌≡◌, IfOk};
 ghost use Rattle.fd_report.specs.declared.faults.Fault.TheVariants.{Script};
 
-use dss_circuit::Place;
+use dss_model::Place;
 use fd_report::{Cause, Fault};
 use std::alloc::AllocError;
 

@@ -3,9 +3,9 @@ ghost use Rattle.std.specs.Prelude.{◌≡◌, None, IfOk};
 ghost use Rattle.fd_solving.specs.Answered.{IsOfCommand};
 ghost use Rattle.fd_solving.specs.Solving.{scale_of, undecided_at, undecided_by};
 
-use dss_circuit::{Circuit, Element};
+use dss_circuit::Circuit;
 use dss_lexer::Text;
-use dss_profile::{Class, ControlQuantity, ElementName};
+use dss_model::{Class, ControlQuantity, Element, ElementName};
 use fd_pages::is_control;
 use fd_report::{Fault, Scale};
 use std::alloc::{AllocError, Global};

@@ -2,8 +2,8 @@
 ghost use Rattle.std.specs.Prelude.{◌≡◌, ◌+◌, ◌≤◌, List, ℕ, Option, IfSome, None, Some};
 ghost use Rattle.fd_outside.specs.Causes.{Rose};
 ghost use Rattle.fd_outside.specs.Files.{Files, held};
-ghost use Rattle.dss_values.specs.Names.{bytes};
-ghost use Rattle.dss_profile.specs.declared.command.Command.{Command};
+ghost use Rattle.dss_model.specs.Names.{bytes};
+ghost use Rattle.dss_model.specs.declared.command.Command.{Command};
 ghost use Rattle.dss_script.specs.Sessions.{cost};
 ghost use Rattle.fd_outcome.specs.Behind.{AsksNames};
 ghost use Rattle.fd_outcome.specs.Calls.{Style};
@@ -14,7 +14,7 @@ ghost use Rattle.fd_outcome.specs.Settles.{Settle};
 ghost use Rattle.fd_outcome.specs.Untold.{IsUntold};
 ghost use Rattle.fd_outcome.specs.Work.{ExactlyOne, Step};
 
-use dss_circuit::Command;
+use dss_model::Command;
 use fd_outside::{Library, Sink};
 use std::alloc::Global;
 

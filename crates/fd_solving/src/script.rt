@@ -1,7 +1,7 @@
 // The loop over a script's commands: each is done, and what it gives is handed over, before the next is read.
 ghost use Rattle.std.specs.Prelude.{◌≡◌, ◌+◌, ◌≤◌, Some};
 ghost use Rattle.fd_outside.specs.Files.{Files, held};
-ghost use Rattle.dss_values.specs.Names.{bytes};
+ghost use Rattle.dss_model.specs.Names.{bytes};
 ghost use Rattle.dss_script.specs.Said.{end_in, said_in};
 ghost use Rattle.dss_script.specs.Sessions.{remaining, room};
 ghost use Rattle.fd_outcome.specs.History.{IsFrom};

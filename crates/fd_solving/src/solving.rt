@@ -23,7 +23,7 @@ use crate::script::run_script;
 use crate::standing::Standing;
 use crate::step::answer_to;
 use crate::tally::Tally;
-use dss_circuit::Command;
+use dss_model::Command;
 use dss_script::{Session, said_law};
 use fd_outside::{Library, Sink};
 use fd_pages::Page;

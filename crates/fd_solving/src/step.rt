@@ -5,7 +5,9 @@ ghost use Rattle.fd_solving.specs.Answered.{IsAnswered, solve_count, solves_of};
 ghost use Rattle.fd_solving.specs.Commands.{left_of, solve_left, tried};
 
 use crate::answer::{Answer, refused};
-use dss_circuit::{Circuit, Command, ModelError, Verb};
+use dss_circuit::Circuit;
+use dss_commands::apply;
+use dss_model::{Command, ModelError, Verb};
 use dss_ready::{ReadyFault, ready};
 use fd_report::Cause;
 use std::alloc::{AllocError, Global};
@@ -49,7 +51,7 @@ pub fn answer_to(
     ensures count { IfOk result (λ a. circuit.old.solves + solves_of a ≤ circuit.new.solves) }
     ensures kept { circuit.old.solves ≤ circuit.new.solves }
 {
-    match circuit.apply(alloc, command) {
+    match apply(alloc, circuit, command) {
         Ok(()) => after_apply(alloc, circuit, command),
         Err(ModelError::Fault(cause)) => {
             let fault = refused(&command.place, Cause::Model(cause))?;

@@ -3,8 +3,9 @@ ghost use Rattle.std.specs.Prelude.{◌≡◌, IfOk, IsTrue, None};
 ghost use Rattle.dss_layout.specs.Layout.{first_too_many};
 ghost use Rattle.dss_ready.specs.Ready.{HasPassed};
 
-use dss_circuit::{Circuit, Command, ModelError, ModelFault, Place, Verb};
+use dss_circuit::Circuit;
 use dss_lexer::{LineError, PairList, Text};
+use dss_model::{Command, ModelError, ModelFault, Place, Verb};
 use dss_ready::ready;
 use dss_script::pairs;
 use fd_arith::TapPair;
@@ -102,5 +103,5 @@ fn apply(alloc: Global, circuit: &mut Circuit, line: u32, verb: Verb) -> Result<
     if circuit.solves() > 100 || circuit.elements().len() > 100 {
         return Err(ModelError::Fault(ModelFault::TooMany));
     }
-    circuit.apply(alloc, &Command { place, verb })
+    dss_commands::apply(alloc, circuit, &Command { place, verb })
 }

@@ -1,7 +1,8 @@
 // Positions and powers of the elements of small circuits.
 use crate::checks::same;
 use crate::circuits::{Row, circuit, edit, make, positions, solve};
-use dss_circuit::{Circuit, ModelError};
+use dss_circuit::Circuit;
+use dss_model::ModelError;
 use fd_arith::TapPair;
 use fd_devices::{Positions, Powers};
 use fd_elements::LoadPower;

@@ -1,7 +1,7 @@
 use Rattle.std.proofs.Common.{◌∙◌, ap, Bool}
 use Rattle.std.specs.Map.{lookup}
-use Rattle.dss_profile.specs.declared.names.ElementName.{ElementName}
-use Rattle.dss_profile.proofs.CallerLemmas.{compares}
+use Rattle.dss_model.specs.declared.names.ElementName.{ElementName}
+use Rattle.dss_model.proofs.CallerLemmas.{compares}
 use Rattle.dss_circuit.proofs.elements.find_element.Goals as goal
 
 pub returns : goal.returns

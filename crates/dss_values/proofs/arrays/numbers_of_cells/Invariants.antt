@@ -1,5 +1,5 @@
 use Rattle.std.proofs.Common.{◌≡◌, drop}
-use Rattle.dss_values.specs.Answers.{each}
+use Rattle.dss_model.specs.Answers.{each}
 use Rattle.dss_values.specs.Forms.{number_of_cell}
 use Rattle.dss_lexer.proofs.CallerLemmas.{after}
 use Rattle.dss_values.proofs.arrays.numbers_of_cells.Given as goal

@@ -1,7 +1,7 @@
 use Rattle.std.proofs.Common.{◌∙◌, Some, ap, arith}
 use Rattle.std.specs.FinMap.{from_entries}
 use Rattle.fd_outside.specs.Files.{held}
-use Rattle.dss_values.specs.Names.{bytes}
+use Rattle.dss_model.specs.Names.{bytes}
 use Rattle.dss_script.specs.Said.{end_in, said_in}
 use Rattle.dss_script.specs.Sessions.{remaining}
 use Rattle.fd_outcome.specs.History.{IsFrom}

@@ -11,11 +11,11 @@ returns-in-Solve-clause-goes c =
     subst (λ (l : List CircuitView).
     OnOk c.check_solve.result (LeadsForAll c.args.reader.now (solves_open l c.args.at.now c.args.settled.now) n.reader
     (solves_open [] n.at n.settled)))
-    (sym (solve_alone c.args.command.now c.args.circuit.now c.apply.new.self c.in-Solve.pairs c.in-Solve.is
+    (sym (solve_alone c.args.command.now c.args.circuit.now c.apply.new.circuit c.in-Solve.pairs c.in-Solve.is
     c.in-Ok.ensures))
     c.check_solve.ensures.goes
 
 pub returns-in-Solve-clause-refused : goal.returns-in-Solve-clause-refused
 returns-in-Solve-clause-refused c =
     subst (λ (l : List CircuitView). IfErr c.check_solve.result (TellsForAll c.args.reader.now (solves_open l c.args.at.now c.args.settled.now)))
-    (sym (solve_alone c.args.command.now c.args.circuit.now c.apply.new.self c.in-Solve.pairs c.in-Solve.is c.in-Ok.ensures)) c.check_solve.ensures.refused
+    (sym (solve_alone c.args.command.now c.args.circuit.now c.apply.new.circuit c.in-Solve.pairs c.in-Solve.is c.in-Ok.ensures)) c.check_solve.ensures.refused

@@ -3,7 +3,8 @@ use Rattle.std.specs.Prelude.{All}
 use Rattle.dss_circuit.specs.Circuit.{empty_circuit}
 use Rattle.fd_sample.specs.Probes.{positions_in}
 use Rattle.fd_xfmr.specs.Leakage.{AreTaps}
-use Rattle.fd_check.specs.Checking.{no_positions, open_solves}
+use Rattle.fd_daily.specs.Underway.{no_positions}
+use Rattle.fd_check.specs.Checking.{open_solves}
 use Rattle.fd_check.specs.Comes.{Leads}
 use Rattle.fd_check.specs.Commands.{AreAccepted, most_solves, solves_in}
 use Rattle.fd_check.proofs.script.check_commands.Given as goal

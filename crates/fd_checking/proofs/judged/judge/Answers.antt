@@ -2,8 +2,9 @@ use Rattle.std.proofs.Common.{◌∙◌, List, Option, Some, ℕ, ap, subst, sym
 use Rattle.std.specs.Prelude.{IfErr, IfOk}
 use Rattle.std.proofs.lemmas.Result.{IfOk-weaker}
 use Rattle.dss_script.specs.Sessions.{found_bytes}
+use Rattle.fd_check.specs.Underway.{no_positions}
 use Rattle.fd_certfile.specs.Verdict.{IsAnswer, accepted}
-use Rattle.fd_check.specs.Checking.{after, due, no_positions, open_solves}
+use Rattle.fd_check.specs.Checking.{after, due, open_solves}
 use Rattle.fd_check.specs.Comes.{Tells}
 use Rattle.fd_checking.specs.Checks.{gathered}
 use Rattle.fd_checking.specs.Gathered.{solved_by}

@@ -7,7 +7,7 @@ use Rattle.fd_enclosure.specs.Sound.{Claim}
 use Rattle.fd_equations.specs.Views.{NetworkView}
 use Rattle.fd_elements.specs.declared.powers.LoadPower.{LoadPower}
 use Rattle.fd_queue.specs.Machine.{Machine}
-use Rattle.fd_sample.specs.Probes.{positions_in}
+use Rattle.fd_settle.specs.Probes.{positions_in}
 use Rattle.fd_settle.specs.Contract.{CallsAs, appended, begun, limits_of}
 use Rattle.fd_settle.specs.Plant.{Plant, plant_of, started}
 use Rattle.fd_settle.specs.declared.fault.SettleFault.{SettleFault}

@@ -1,13 +1,12 @@
 use Rattle.std.proofs.Common.{◌≡◌, ℕ, Option, None, Some, ◌∙◌, ◌*◌, ◌<◌, ◌≤◌, length, ap, subst, sym, arith}
-use Rattle.dss_profile.specs.declared.options.Options.{Options}
+use Rattle.dss_model.specs.declared.options.Options.{Options}
 use Rattle.fd_devices.specs.Devices.{AgreesWith, parts_of_all}
 use Rattle.fd_devices.specs.Scripted.{devices_from, devices_of}
-use Rattle.fd_devices.specs.Settings.{settings_of}
+use Rattle.fd_devices.specs.Settings.{settings_of, settings_in}
 use Rattle.fd_devices.proofs.CallerLemmas.{devices_length}
 use Rattle.fd_network.specs.Assembled.{HaveRoom, parts_network}
 use Rattle.fd_network.specs.Keeping.{room_for}
 use Rattle.fd_network.specs.Stamps.{extents_of}
-use Rattle.fd_devices.specs.Settings.{settings_in}
 use Rattle.fd_network.specs.Faults.{first_out_of_range}
 use Rattle.dss_layout.specs.Limits.{most_complex, most_magnitudes}
 use Rattle.dss_layout.specs.Layout.{LayoutView, complex_count, layout_of}

@@ -1,7 +1,7 @@
 use Rattle.std.proofs.Common.{◌≡◌, ◌++◌, drop}
 use Rattle.std.specs.List.{flat_map, zip}
-use Rattle.dss_profile.specs.declared.element.Element.{Element}
-use Rattle.dss_profile.specs.declared.names.ElementName.{ElementName}
+use Rattle.dss_model.specs.declared.element.Element.{Element}
+use Rattle.dss_model.specs.declared.names.ElementName.{ElementName}
 use Rattle.fd_outside.specs.Emitted.{pieces_of}
 use Rattle.fd_report.specs.Lines.{lines_of}
 use Rattle.fd_sample.specs.Circuits.{probes_of}

@@ -1,6 +1,6 @@
 use Rattle.std.proofs.Common.{◌≡◌, ◌∙◌, ◌<◌, sym, subst, length, Some}
 use Rattle.std.proofs.lemmas.Result.{IfOk-weaker}
-use Rattle.dss_profile.specs.declared.names.Class.TheVariants as class
+use Rattle.dss_model.specs.declared.names.Class.TheVariants as class
 use Rattle.dss_layout.specs.Layout.{Elements, LayoutView}
 use Rattle.dss_circuit.specs.Lookups.{element_given}
 use Rattle.fd_devices.specs.Settings.{bank_count}

@@ -1,8 +1,8 @@
 use Rattle.std.proofs.Common.{◌∙◌, ◌++◌, ap, sym, slice_get}
 use Rattle.std.specs.Option.{option_map}
 use Rattle.std.specs.Map.Iter.{deref_pair}
-use Rattle.dss_profile.specs.declared.element.Element.{Element}
-use Rattle.dss_profile.specs.declared.names.ElementName.{ElementName}
+use Rattle.dss_model.specs.declared.element.Element.{Element}
+use Rattle.dss_model.specs.declared.names.ElementName.{ElementName}
 use Rattle.fd_settings.specs.Snapshot.{closed_of, taps_of}
 use Rattle.fd_settings.proofs.Steps.{flat_map_at}
 use Rattle.fd_settings.proofs.snapshot.script_positions.Goals as goal

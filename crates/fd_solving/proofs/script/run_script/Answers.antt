@@ -1,6 +1,6 @@
 use Rattle.std.proofs.Common.{◌∙◌, Some, None, Ok, Err, refl, sym, subst, arith}
 use Rattle.fd_outside.specs.Files.{held}
-use Rattle.dss_values.specs.Names.{bytes}
+use Rattle.dss_model.specs.Names.{bytes}
 use Rattle.dss_script.specs.Said.{ScriptEnd, end_in, said_in}
 use Rattle.dss_script.specs.Sessions.{remaining}
 use Rattle.dss_script.specs.declared.fault.SessionFault.TheVariants as session

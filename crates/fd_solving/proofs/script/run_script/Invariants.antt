@@ -1,6 +1,6 @@
 use Rattle.std.proofs.Common.{◌≡◌, ◌≤◌, ◌+◌, Some}
 use Rattle.fd_outside.specs.Files.{Files, held}
-use Rattle.dss_values.specs.Names.{bytes}
+use Rattle.dss_model.specs.Names.{bytes}
 use Rattle.dss_script.specs.Said.{end_in, said_in}
 use Rattle.dss_script.specs.Sessions.{remaining, room}
 use Rattle.fd_outcome.proofs.CallerLemmas.{At, Shown}

@@ -1,6 +1,6 @@
 use Rattle.std.proofs.Common.{◌∙◌, ap, refl, arith, Option}
-use Rattle.dss_profile.specs.declared.command.Command.{Command}
-use Rattle.dss_profile.specs.declared.command.Verb.{Verb}
+use Rattle.dss_model.specs.declared.command.Command.{Command}
+use Rattle.dss_model.specs.declared.command.Verb.{Verb}
 use Rattle.dss_script.specs.declared.session.Turn.{Turn}
 use Rattle.dss_script.specs.Script.{asks}
 use Rattle.dss_script.proofs.Commands.{asks_filling, fails_filling, reached_command}

@@ -1,7 +1,7 @@
 use Rattle.std.proofs.Common.{◌∙◌, List, Option, ℕ, subst, sym}
-use Rattle.dss_profile.specs.declared.command.Command.{Command}
+use Rattle.dss_model.specs.declared.command.Command.{Command}
 use Rattle.dss_script.specs.Sessions.{found_bytes}
-use Rattle.dss_values.specs.Names.{bytes}
+use Rattle.dss_model.specs.Names.{bytes}
 use Rattle.fd_outside.specs.Files.{held}
 use Rattle.fd_checking.specs.Checks.{IsJudged, gathered}
 use Rattle.fd_checking.specs.Gathered.{solved_by}

@@ -1,0 +1,5 @@
+pub mod Steps
+pub mod KeyNames
+pub mod Named
+pub mod Pairs
+pub mod CallerLemmas

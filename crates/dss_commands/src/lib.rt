@@ -1,0 +1,17 @@
+//! The commands of a script, one after another: what each makes of a circuit.
+//!
+//! `apply` does one command, and is proved to be exactly one step of the fold of all commands; after a refusal the circuit
+//! is as before, and the refusal is the first cause in the stated order.
+//!
+//! - `keys`: the element that a command is about
+//! - `elements`: elements made and edited
+//! - `options`: options set, and Solves counted
+//! - `fold`: `apply`
+#![tactic(auto)]
+
+mod elements;
+mod fold;
+mod keys;
+mod options;
+
+pub use fold::apply;

@@ -1,0 +1,11 @@
+pub mod Answers
+pub mod Causes
+pub mod Changes
+pub mod Names
+pub mod Classes
+pub mod SameElement
+pub mod Ranges
+pub mod Defaults
+pub mod Element
+pub mod InRange
+pub mod Sound

@@ -1,6 +1,0 @@
-use Rattle.std.proofs.Common.{◌≡◌, drop}
-use Rattle.dss_profile.specs.Options.{with_options}
-use Rattle.dss_profile.proofs.options.Options.set_each.Given as goal
-
-abbrev pub invariant-loop-pair : goal.invariant-loop-pair
-invariant-loop-pair l = with_options (drop l.pair-index l.pairs) l.self ≡ with_options l.pairs l.initial.self

@@ -1,8 +1,0 @@
-// Small list types, which contracts see as lists.
-use fd_items::Items;
-
-/// Numbers of a script in order, in whole 10^-9.
-pub type Numbers = Items<i128>;
-
-/// Node numbers of a bus in order, each from 0 to 9, 0 being ground.
-pub type Nodes = Items<u8>;

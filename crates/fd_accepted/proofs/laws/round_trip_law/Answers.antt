@@ -1,6 +1,0 @@
-use Rattle.fd_accepted.proofs.Runs.{round_trip}
-use Rattle.fd_accepted.proofs.laws.round_trip_law.Goals as goal
-
-pub returns : goal.returns
-returns g c = round_trip c.status_law.ensures c.read_law.ensures c.forms_law.ensures c.rule_law.ensures c.passed_law.ensures c.certificate_law.ensures
-    g.L.Library.faults g.L.Library.asked g.S.Sink.taken g.S.Sink.calls

@@ -1,3 +1,0 @@
-pub mod Solves
-pub mod Printed
-pub mod Laws
