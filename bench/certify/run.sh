@@ -9,7 +9,7 @@ work=$(mktemp -d)
 trap 'rm -rf "$work"' EXIT
 
 program=certificate_timing
-libraries="fd_exact fd_items fd_arith fd_mat fd_system fd_load fd_equations fd_slope fd_inverse fd_enclosure fd_cert"
+libraries="fd_exact fd_items fd_arith fd_mat fd_system fd_load fd_pattern fd_equations fd_slope fd_inverse fd_enclosure fd_cert"
 mkdir -p "$work/crates/$program/src"
 for crate in $libraries; do
   mkdir "$work/crates/$crate"
@@ -17,7 +17,7 @@ for crate in $libraries; do
 done
 cp "$here/main.rt.txt" "$work/crates/$program/src/main.rt"
 for name in $libraries; do grep "^$name:" "$top/crates.txt"; done > "$work/crates.txt"
-echo "$program: fd_exact fd_arith fd_mat fd_system fd_load fd_equations fd_slope fd_inverse fd_enclosure fd_cert" >> "$work/crates.txt"
+echo "$program: fd_exact fd_arith fd_mat fd_system fd_load fd_pattern fd_equations fd_slope fd_inverse fd_enclosure fd_cert" >> "$work/crates.txt"
 while IFS= read -r line; do
   case "$line" in
     "== "*) file="$work/crates/$program/proofs/${line#== }"; mkdir -p "$(dirname "$file")"; : > "$file" ;;

@@ -12,9 +12,9 @@ use Rattle.fd_exact.specs.Rounding.{ceil_nat}
 use Rattle.fd_exact.specs.States.{entry, part}
 use Rattle.fd_exact.specs.SumLaws.{sum_n-same}
 use Rattle.fd_mat.specs.Rows.{row_of}
-use Rattle.fd_equations.specs.Conditions.{IsPart}
+use Rattle.fd_pattern.specs.Conditions.{IsPart}
 use Rattle.fd_equations.specs.Rounded.{jacobian_entry, list_of}
-use Rattle.fd_equations.specs.Views.{NetworkView}
+use Rattle.fd_pattern.specs.Views.{NetworkView}
 use Rattle.fd_equations.specs.Weights.{weight_at}
 use Rattle.fd_equations.proofs.CallerLemmas.{get_or-list_of, length-list_of, list_of-ext}
 use Rattle.fd_enclosure.specs.Bounds.{bound_at, bound_of, first_unbounded, first_wide, is_below_one, radius_at, reach_at, reach_of, refusal, unless_unbounded, unless_wide}

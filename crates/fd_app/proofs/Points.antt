@@ -11,9 +11,9 @@ use Rattle.fd_exact.specs.States.{entry, part, table}
 use Rattle.fd_exact.specs.Tables.{entry-table, length-table, row-table}
 use Rattle.fd_mat.specs.Rows.{first_column_past, row_of}
 use Rattle.fd_system.specs.declared.loads.LoadAt.{LoadAt}
-use Rattle.fd_equations.specs.Conditions.{IsPart, IsPoint}
+use Rattle.fd_pattern.specs.Conditions.{IsPart, IsPoint}
 use Rattle.fd_equations.specs.Rounded.{constants_of, jacobian_entry, jacobian_of, rounded_residual_of, start_entry, start_matrix_of}
-use Rattle.fd_equations.specs.Views.{NetworkView}
+use Rattle.fd_pattern.specs.Views.{NetworkView}
 use Rattle.fd_equations.proofs.CallerLemmas.{length-list_of}
 use Rattle.fd_inverse.specs.Elimination.{Augmented, after_columns, fitting, inverse_of, row_fits}
 use Rattle.fd_inverse.specs.Elimination as elimination

@@ -4,7 +4,7 @@ use Rattle.std.specs.List.{AllByRecursion}
 use Rattle.dss_circuit.specs.Circuit.{CircuitView}
 use Rattle.dss_layout.specs.Layout.{layout_of, size_of}
 use Rattle.fd_settings.specs.Hours.{hour_powers}
-use Rattle.fd_equations.specs.Views.{NetworkView}
+use Rattle.fd_pattern.specs.Views.{NetworkView}
 use Rattle.fd_enclosure.specs.Sound.{Claim}
 use Rattle.fd_inject.specs.declared.limits.Limits.{Limits}
 use Rattle.fd_queue.specs.Controls.{Positions}

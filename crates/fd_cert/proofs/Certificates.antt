@@ -3,7 +3,7 @@ use Rattle.std.proofs.Common.{◌≡◌, ◌∙◌, ℕ, ◌<◌, ℤ, nat_lt, L
 use Rattle.fd_exact.specs.First.{first_place}
 use Rattle.fd_exact.specs.States.{entry}
 use Rattle.fd_equations.specs.Rounded.{jacobian_entry, list_of}
-use Rattle.fd_equations.specs.Views.{NetworkView}
+use Rattle.fd_pattern.specs.Views.{NetworkView}
 use Rattle.fd_equations.specs.Weights.{weight_at}
 use Rattle.fd_arith.specs.Interval.{Bounds}
 use Rattle.fd_system.specs.Residual.{greater_size, residual_interval}

@@ -5,7 +5,7 @@ use Rattle.std.proofs.lemmas.Bool.{ltb-false, or_parts}
 use Rattle.fd_exact.specs.First.{first_place}
 use Rattle.fd_exact.specs.FirstLaws.{none_holds}
 use Rattle.fd_equations.specs.Rounded.{list_of}
-use Rattle.fd_equations.specs.Views.{NetworkView}
+use Rattle.fd_pattern.specs.Views.{NetworkView}
 use Rattle.fd_equations.proofs.CallerLemmas.{get_or-list_of, length-list_of}
 use Rattle.fd_enclosure.specs.Sound.{Claim, IsSound, greatest_mismatch, mismatch_at, mismatches_of, number_at, radius_in}
 use Rattle.fd_cert.specs.Reaches.{AreTight}

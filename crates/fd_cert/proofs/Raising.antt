@@ -7,7 +7,7 @@ use Rattle.std.proofs.lemmas.List.Elements.{Contains-get_or}
 use Rattle.fd_arith.specs.declared.terms.NodeAt.TheVariants.{Node}
 use Rattle.fd_arith.specs.LoadModels.{is_linear}
 use Rattle.fd_system.specs.declared.loads.LoadAt.{LoadAt}
-use Rattle.fd_equations.specs.Patterns.{IsSlot, key}
+use Rattle.fd_pattern.specs.Patterns.{IsSlot, key}
 use Rattle.fd_equations.proofs.CallerLemmas.{list_n_more}
 use Rattle.fd_slope.specs.Changes.{radii_in}
 use Rattle.fd_slope.specs.declared.radii.Radii.{Radii}

@@ -12,11 +12,11 @@ use Rattle.fd_exact.specs.Quotients.{ceil_nat_covers}
 use Rattle.fd_exact.specs.Rounding.{ceil_nat}
 use Rattle.fd_exact.specs.States.{entry, part}
 use Rattle.fd_mat.specs.Rows.{row_of}
-use Rattle.fd_equations.specs.Conditions.{IsPart, IsPoint}
-use Rattle.fd_equations.specs.declared.layout.PlaceKind.{PlaceKind}
-use Rattle.fd_equations.specs.declared.layout.PlaceKind.TheVariants.{Node, Branch, Magnitude}
+use Rattle.fd_pattern.specs.Conditions.{IsPart, IsPoint}
+use Rattle.fd_pattern.specs.declared.layout.PlaceKind.{PlaceKind}
+use Rattle.fd_pattern.specs.declared.layout.PlaceKind.TheVariants.{Node, Branch, Magnitude}
 use Rattle.fd_equations.specs.Rounded.{jacobian_entry}
-use Rattle.fd_equations.specs.Views.{NetworkView, kind_of}
+use Rattle.fd_pattern.specs.Views.{NetworkView, kind_of}
 use Rattle.fd_equations.specs.Weights.{weight_at, weight_by}
 use Rattle.fd_enclosure.specs.Bounds.{bound_at, bound_of, bound_size, is_below_one, is_bounded, radius_at, reach_of, refusal, refused_bound, unless_unbounded, unless_wide}
 use Rattle.fd_enclosure.specs.Radii.{slope_radius}

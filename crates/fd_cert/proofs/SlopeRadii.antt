@@ -15,18 +15,19 @@ use Rattle.fd_system.specs.Residual.{IsPlace}
 use Rattle.fd_arith.specs.LoadModels.{is_linear}
 use Rattle.fd_system.specs.declared.loads.LoadAt.{LoadAt}
 use Rattle.fd_equations.specs.Amounts.{Amount, amount, cell_at, cell_of, nothing}
-use Rattle.fd_equations.proofs.CallerLemmas.{all_connected, get_or-list_of, length-list_of}
-use Rattle.fd_equations.specs.Coefficients.{count_at}
-use Rattle.fd_equations.specs.Conditions.{IsNetwork, IsPart, IsPoint}
+use Rattle.fd_pattern.proofs.CallerLemmas.{all_connected}
+use Rattle.fd_equations.proofs.CallerLemmas.{get_or-list_of, length-list_of}
+use Rattle.fd_pattern.specs.Coefficients.{count_at}
+use Rattle.fd_pattern.specs.Conditions.{IsNetwork, IsPart, IsPoint}
 use Rattle.fd_equations.specs.Matrices.{IsMatrix, MatrixView, jacobian_amount}
 use Rattle.fd_equations.specs.PartLoads.{slope_count, slope_counts}
-use Rattle.fd_equations.specs.Patterns.{key}
+use Rattle.fd_pattern.specs.Patterns.{key}
 use Rattle.fd_equations.specs.Rounded.{jacobian_entry, list_of}
-use Rattle.fd_equations.specs.Terminals.{IsConnected, count_magnitude, count_node, count_terminal}
-use Rattle.fd_equations.specs.Views.{NetworkView, kind_of}
+use Rattle.fd_pattern.specs.Terminals.{IsConnected, count_magnitude, count_node, count_terminal}
+use Rattle.fd_pattern.specs.Views.{NetworkView, kind_of}
 use Rattle.fd_equations.specs.Weights.{size_of_both, weight_at, weight_by, weights_of}
-use Rattle.fd_equations.specs.declared.layout.PlaceKind.{PlaceKind}
-use Rattle.fd_equations.specs.declared.layout.PlaceKind.TheVariants.{Branch, Magnitude, Node as NodePlace}
+use Rattle.fd_pattern.specs.declared.layout.PlaceKind.{PlaceKind}
+use Rattle.fd_pattern.specs.declared.layout.PlaceKind.TheVariants.{Branch, Magnitude, Node as NodePlace}
 use Rattle.fd_equations.specs.declared.cells.Cell.{Cell}
 use Rattle.fd_slope.specs.Changes.{centre_im, centre_magnitude, centre_re, im_width, magnitude_width, radii_in, re_width}
 use Rattle.fd_slope.specs.Radii.{radii_of}

@@ -3,7 +3,7 @@ use Rattle.std.specs.Prelude.{◌≡◌, ℕ, ◌+◌, ◌*◌, ◌^◌, ◌<◌
 use Rattle.fd_exact.specs.Sums.{list_n}
 use Rattle.fd_system.specs.declared.loads.LoadAt.{LoadAt}
 use Rattle.fd_equations.specs.Amounts.{cell_at}
-use Rattle.fd_equations.specs.Patterns.{key}
+use Rattle.fd_pattern.specs.Patterns.{key}
 use Rattle.fd_equations.specs.declared.cells.Cell.{Cell}
 use Rattle.fd_slope.specs.Changes.{radii_in}
 use Rattle.fd_enclosure.specs.Radii.{load_radius}

@@ -3,9 +3,9 @@ use Rattle.std.specs.Prelude.{◌≡◌, ℕ, ◌==◌, ◌&&◌, ◌||◌, ◌^
 use Rattle.fd_exact.specs.First.{first_place}
 use Rattle.fd_exact.specs.States.{entry, part}
 use Rattle.fd_mat.specs.Rows.{row_of}
-use Rattle.fd_equations.specs.Conditions.{IsPoint}
+use Rattle.fd_pattern.specs.Conditions.{IsPoint}
 use Rattle.fd_equations.specs.Rounded.{jacobian_entry}
-use Rattle.fd_equations.specs.Views.{NetworkView}
+use Rattle.fd_pattern.specs.Views.{NetworkView}
 use Rattle.fd_equations.specs.Weights.{weight_at}
 use Rattle.fd_enclosure.specs.Bounds.{refusal}
 use Rattle.fd_enclosure.specs.Boxes.{boxes_of}

@@ -2,11 +2,12 @@
 ghost use Rattle.std.specs.Prelude.{◌≡◌, ℕ, ◌<◌, ◌≤◌, ◌^◌, IfOk, nat_abs, length};
 ghost use Rattle.fd_exact.specs.States.{part};
 ghost use Rattle.fd_equations.specs.Rounded.{list_of};
-ghost use Rattle.fd_equations.specs.Views.{kind_of};
+ghost use Rattle.fd_pattern.specs.Views.{kind_of};
 ghost use Rattle.fd_enclosure.specs.Boxes.{half_width_by};
 
 use crate::rounding::ceil_over;
-use fd_equations::{Network, PlaceKind};
+use fd_equations::Network;
+use fd_pattern::PlaceKind;
 use std::alloc::{AllocError, Global};
 
 // The part of a weight that is the half-width of its box.

@@ -1,7 +1,7 @@
 // The certificate of a point.
 ghost use Rattle.std.specs.Prelude.{◌≡◌, ℕ, ◌≤◌, ◌^◌, ℤ, IfErr, IfOk, length, Ok};
 ghost use Rattle.fd_exact.specs.States.{entry};
-ghost use Rattle.fd_equations.specs.Conditions.{IsPoint};
+ghost use Rattle.fd_pattern.specs.Conditions.{IsPoint};
 ghost use Rattle.fd_equations.specs.Matrices.{IsMatrix, jacobian_amount};
 ghost use Rattle.fd_equations.specs.Rounded.{jacobian_entry, list_of};
 ghost use Rattle.fd_equations.specs.Weights.{weight_at};

@@ -2,7 +2,7 @@
 ghost use Rattle.std.specs.Prelude.{◌≡◌, ℕ, ◌<◌, ◌≤◌, ◌^◌, IfOk, IfNone, IfSome, length, map, nat_lt};
 ghost use Rattle.fd_exact.specs.First.{first_place};
 ghost use Rattle.fd_system.specs.Residual.{greater_size};
-ghost use Rattle.fd_equations.specs.Conditions.{IsPoint};
+ghost use Rattle.fd_pattern.specs.Conditions.{IsPoint};
 ghost use Rattle.fd_enclosure.specs.Sound.{greatest_mismatch, mismatch_size, mismatches_of, number_at};
 ghost use Rattle.fd_cert.specs.Rechecks.{is_untrue};
 

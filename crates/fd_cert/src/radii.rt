@@ -1,9 +1,9 @@
 // The radii of slopes, at the places of the Jacobian's non-zeros.
 ghost use Rattle.std.specs.Prelude.{◌≡◌, ℕ, ◌+◌, ◌*◌, ◌<◌, ◌≤◌, ◌^◌, ◌&&◌, cond, eqb, IfOk, IfSome, length, All};
 ghost use Rattle.fd_system.specs.Residual.{IsPlace};
-ghost use Rattle.fd_equations.specs.Conditions.{IsPart};
-ghost use Rattle.fd_equations.specs.Patterns.{key};
-ghost use Rattle.fd_equations.specs.Terminals.{IsConnected};
+ghost use Rattle.fd_pattern.specs.Conditions.{IsPart};
+ghost use Rattle.fd_pattern.specs.Patterns.{key};
+ghost use Rattle.fd_pattern.specs.Terminals.{IsConnected};
 ghost use Rattle.fd_slope.specs.Changes.{im_width, magnitude_width as width_of_magnitude, radii_in, re_width};
 ghost use Rattle.fd_slope.specs.Radii.{AreRadii, IsRadiusRow};
 ghost use Rattle.fd_enclosure.specs.Radii.{load_radius, radius_in, spread, spread_magnitude, spread_node};
@@ -11,7 +11,8 @@ ghost use Rattle.fd_enclosure.specs.Sound.{number_at};
 ghost use Rattle.fd_cert.specs.Places.{AreRadiusCells, AreRaised, HaveRoom, HaveWidths, RaisesRoom, loads_radius, radius_cell};
 
 use fd_arith::NodeAt;
-use fd_equations::{Cell, Pattern, voltage_of};
+use fd_equations::{Cell, voltage_of};
+use fd_pattern::Pattern;
 use fd_slope::{Radii, RadiusRow, load_slope};
 use fd_system::LoadAt;
 use std::alloc::{AllocError, Global};

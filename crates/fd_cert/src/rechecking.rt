@@ -1,6 +1,6 @@
 // A claim is tested again, whoever made it.
 ghost use Rattle.std.specs.Prelude.{◌≡◌, ◌↔◌, None, IfOk, length};
-ghost use Rattle.fd_equations.specs.Conditions.{IsPoint};
+ghost use Rattle.fd_pattern.specs.Conditions.{IsPoint};
 ghost use Rattle.fd_enclosure.specs.Boxes.{boxes_of};
 ghost use Rattle.fd_enclosure.specs.Sound.{IsInverse, IsSound};
 ghost use Rattle.fd_cert.specs.Claims.{claim_in};

@@ -8,9 +8,9 @@ use Rattle.std.proofs.lemmas.List.{length-map}
 use Rattle.std.proofs.lemmas.List.Elements.{All-from_get_or}
 use Rattle.fd_exact.specs.FirstLaws.{place_below}
 use Rattle.fd_exact.specs.States.{entry, part}
-use Rattle.fd_equations.specs.Conditions.{IsPart, IsPoint}
+use Rattle.fd_pattern.specs.Conditions.{IsPart, IsPoint}
 use Rattle.fd_equations.specs.Rounded.{jacobian_entry}
-use Rattle.fd_equations.specs.Views.{NetworkView}
+use Rattle.fd_pattern.specs.Views.{NetworkView}
 use Rattle.fd_equations.specs.Weights.{weight_at}
 use Rattle.fd_enclosure.specs.Bounds.{first_unbounded, first_wide, refusal, refused_bound, unless_unbounded, unless_wide}
 use Rattle.fd_enclosure.specs.Radii.{slope_radius}

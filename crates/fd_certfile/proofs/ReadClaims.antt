@@ -9,7 +9,7 @@ use Rattle.fd_exact.specs.First.{first_place}
 use Rattle.fd_exact.specs.FirstLaws.{first_some as first_at, none_holds}
 use Rattle.fd_exact.specs.States.{entry, part}
 use Rattle.fd_equations.specs.Rounded.{jacobian_entry}
-use Rattle.fd_equations.specs.Views.{NetworkView}
+use Rattle.fd_pattern.specs.Views.{NetworkView}
 use Rattle.fd_equations.specs.Weights.{weight_at}
 use Rattle.fd_enclosure.specs.Boxes.{boxes_of}
 use Rattle.fd_enclosure.specs.Radii.{slope_radius}

@@ -3,7 +3,7 @@ use Rattle.std.proofs.Common.{◌≡◌, ℕ, ◌+◌, Bool, true, false, List, 
 use Rattle.std.specs.Prelude.{option_map, map, pos}
 use Rattle.std.proofs.lemmas.Bool.{and_parts}
 use Rattle.std.proofs.lemmas.Simd.{map-map}
-use Rattle.fd_equations.specs.Views.{NetworkView}
+use Rattle.fd_pattern.specs.Views.{NetworkView}
 use Rattle.fd_cert.specs.Rechecks.{boxed_claim, first_unsound}
 use Rattle.fd_cert.specs.declared.rule.Broken.{Broken as Found}
 use Rattle.fd_cert.specs.declared.rule.Rule.{Rule}

@@ -8,7 +8,7 @@ use Rattle.dss_model.specs.declared.command.Blame.{Blame}
 use Rattle.dss_circuit.specs.Circuit.{CircuitView}
 use Rattle.fd_cert.specs.declared.rule.Rule.{Rule}
 use Rattle.fd_cert.specs.declared.rule.Rule.TheVariants as rule
-use Rattle.fd_equations.specs.Views.{NetworkView}
+use Rattle.fd_pattern.specs.Views.{NetworkView}
 use Rattle.fd_queue.specs.Machine.{Act, Machine}
 use Rattle.fd_sample.specs.Decided.{Undecided, sample_over}
 use Rattle.fd_settle.specs.Plant.{controls_in, setup_of}

@@ -5,7 +5,7 @@ use Rattle.std.specs.Cmp.Lexicographic.{pointwise}
 use Rattle.std.proofs.lemmas.List.{append_assoc, append-nil, length-append}
 use Rattle.std.proofs.Math.Seq.{get_or-append_seam}
 use Rattle.fd_cert.specs.declared.rule.Rule.TheVariants as rule
-use Rattle.fd_equations.specs.Views.{NetworkView}
+use Rattle.fd_pattern.specs.Views.{NetworkView}
 use Rattle.fd_enclosure.specs.Sound.{Claim}
 use Rattle.fd_queue.specs.Machine.{Act, Machine, Quiet, AtLimit, Acts, Setup, Step, step_of}
 use Rattle.fd_settle.specs.Calls.{AreCalls}

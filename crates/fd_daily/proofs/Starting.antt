@@ -4,7 +4,7 @@ use Rattle.std.specs.Prelude.{All}
 use Rattle.dss_model.specs.InRange.{ElementInRange}
 use Rattle.dss_circuit.specs.Circuit.{CircuitView}
 use Rattle.fd_elements.specs.declared.powers.LoadPower.{LoadPower}
-use Rattle.fd_equations.specs.Views.{NetworkView}
+use Rattle.fd_pattern.specs.Views.{NetworkView}
 use Rattle.fd_devices.specs.Devices.{AgreesWith}
 use Rattle.fd_settings.specs.Hours.{HoursLaw, hour_powers}
 use Rattle.fd_settings.specs.Positions.{NextLaw, next_closed, next_taps}

@@ -30,7 +30,7 @@ use Rattle.fd_source.proofs.CallerLemmas.{source_is}
 use Rattle.fd_exact.specs.Nearest.{near_most}
 use Rattle.fd_load.specs.Current.{IsPast, power_sum}
 use Rattle.fd_load.proofs.CallerLemmas.{within_limit}
-use Rattle.fd_equations.specs.Conditions.{HasMagnitude, IsAmong, IsKnown, IsServed}
+use Rattle.fd_pattern.specs.Conditions.{HasMagnitude, IsAmong, IsKnown, IsServed}
 use Rattle.fd_devices.specs.Devices.{source, line, loads, other}
 use Rattle.fd_devices.specs.Building.{AreContributions, DeviceFits, IsSettled, IsUsable}
 use Rattle.fd_devices.specs.Sound.{HasBranches, IsSideOf}

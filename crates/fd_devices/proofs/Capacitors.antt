@@ -14,7 +14,7 @@ use Rattle.fd_cap.specs.declared.data.CapData.{CapData}
 use Rattle.fd_cap.specs.Capacitor.{IsCap, cap_draw_of, cap_list, cap_pair, cap_power, cap_volts, list_at, phase_list, volts_squared}
 use Rattle.fd_cap.proofs.CallerLemmas.{cap_is}
 use Rattle.fd_load.specs.Current.{IsPast}
-use Rattle.fd_equations.specs.Conditions.{IsAmong, IsKnown, IsServed}
+use Rattle.fd_pattern.specs.Conditions.{IsAmong, IsKnown, IsServed}
 use Rattle.fd_devices.specs.Devices.{capacitor}
 use Rattle.fd_devices.specs.Building.{IsSettled}
 use Rattle.fd_devices.specs.Sound.{IsSideOf}

@@ -8,7 +8,7 @@ use Rattle.fd_exact.specs.Sums.{list_n}
 use Rattle.fd_exact.specs.SumLaws.{list_n-append}
 use Rattle.fd_system.specs.Contributions.{IsDivided, IsWithin}
 use Rattle.fd_system.specs.System.{StampView, beside, joined}
-use Rattle.fd_equations.specs.Conditions.{IsKnown, IsServed}
+use Rattle.fd_pattern.specs.Conditions.{IsKnown, IsServed}
 use Rattle.dss_model.specs.declared.element.Element.{Element}
 use Rattle.dss_model.specs.declared.names.ElementName.{ElementName}
 use Rattle.dss_layout.specs.Layout.{Elements, LayoutView, branch_phases}

@@ -18,7 +18,7 @@ use Rattle.fd_line.specs.Line.{branch_row, charge_at, end_row, line_list, phase_
 use Rattle.fd_source.specs.declared.data.SourceData.{SourceData}
 use Rattle.fd_source.specs.Equations.{phase_list as source_phase_list, reactance_of as source_reactance, resistance_of as source_resistance, source_list}
 use Rattle.fd_devices.specs.Building.{IsInside}
-use Rattle.fd_equations.specs.Conditions.{IsAmong}
+use Rattle.fd_pattern.specs.Conditions.{IsAmong}
 
 -- ---- places
 

@@ -20,10 +20,10 @@ use Rattle.fd_arith.specs.declared.terms.LoadModel.{LoadModel}
 use Rattle.fd_system.specs.declared.loads.LoadAt.{LoadAt}
 use Rattle.fd_system.specs.declared.stamps.Stamp.{Stamp}
 use Rattle.fd_system.specs.System.{StampView}
-use Rattle.fd_equations.specs.Conditions.{HasMagnitude, IsAmong, IsServed}
-use Rattle.fd_equations.specs.PatternPlaces.{cross, load_places, magnitude_places, node_places, place_of, terminal_places}
-use Rattle.fd_equations.specs.Patterns.{IsInside}
-use Rattle.fd_equations.proofs.CallerLemmas.{cross_inside}
+use Rattle.fd_pattern.specs.Conditions.{HasMagnitude, IsAmong, IsServed}
+use Rattle.fd_pattern.specs.PatternPlaces.{cross, load_places, magnitude_places, node_places, place_of, terminal_places}
+use Rattle.fd_pattern.specs.Patterns.{IsInside}
+use Rattle.fd_pattern.proofs.CallerLemmas.{cross_inside}
 use Rattle.fd_devices.specs.Building.{IsInside as IsTermInside, IsSettled}
 use Rattle.dss_model.specs.declared.transformer.Transformer.{Transformer}
 use Rattle.dss_model.specs.declared.capacitor.Capacitor.{Capacitor}

@@ -24,7 +24,7 @@ use Rattle.fd_xfmr.specs.Leakage.{coefficients_of}
 use Rattle.fd_xfmr.specs.Transformer.{branch_list, current_list, list_at, phase_at, phase_list}
 use Rattle.fd_cap.specs.declared.data.CapData.{CapData}
 use Rattle.fd_cap.specs.Capacitor.{cap_list, cap_pair, cap_power, list_at as cap_list_at, volts_squared}
-use Rattle.fd_equations.specs.PatternPlaces.{cross, load_places, magnitude_places, node_places, place_of, places_of, terminal_places}
+use Rattle.fd_pattern.specs.PatternPlaces.{cross, load_places, magnitude_places, node_places, place_of, places_of, terminal_places}
 use Rattle.fd_devices.specs.Devices.{capacitor, line, loads, other, source, transformer}
 use Rattle.fd_devices.specs.Reach.{ReachLaw, branch_places, unknowns_of}
 

@@ -12,7 +12,7 @@ use Rattle.fd_system.specs.Terminals.{node_count, pairs_of}
 use Rattle.fd_elements.specs.Connections.{conn_of}
 use Rattle.fd_elements.specs.declared.powers.LoadPower.{LoadPower}
 use Rattle.fd_elements.specs.Lines.{line_data_of}
-use Rattle.fd_equations.specs.Conditions.{HasMagnitude, IsAmong}
+use Rattle.fd_pattern.specs.Conditions.{HasMagnitude, IsAmong}
 use Rattle.fd_system.specs.Contributions.{concat_below}
 use Rattle.dss_model.specs.Ranges.{IsOneOf}
 use Rattle.dss_model.specs.InRange.{LoadInRange}

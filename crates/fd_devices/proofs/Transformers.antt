@@ -18,7 +18,7 @@ use Rattle.fd_xfmr.specs.Leakage.{AreTaps, IsXfmr, coefficients_of}
 use Rattle.fd_xfmr.specs.Transformer.{branch_list, current_list, list_at, phase_at, phase_list, xfmr_list}
 use Rattle.fd_xfmr.proofs.CallerLemmas.{xfmr_is}
 use Rattle.fd_load.specs.Current.{IsPast}
-use Rattle.fd_equations.specs.Conditions.{IsAmong, IsKnown, IsServed}
+use Rattle.fd_pattern.specs.Conditions.{IsAmong, IsKnown, IsServed}
 use Rattle.fd_devices.specs.Devices.{transformer}
 use Rattle.fd_devices.specs.Building.{IsSettled}
 use Rattle.fd_devices.specs.Sound.{HasBranches, IsSideOf}

@@ -9,8 +9,8 @@ use Rattle.fd_system.specs.Contributions.{AreSmall, IsDivided, IsSmall, IsWithin
 use Rattle.fd_system.specs.System.{StampView}
 use Rattle.fd_elements.specs.declared.powers.LoadPower.{LoadPower}
 use Rattle.fd_load.specs.Current.{AreLoadVoltages, is_past}
-use Rattle.fd_equations.specs.Coefficients.{linear_entry}
-use Rattle.fd_equations.specs.Conditions.{IsKnown, IsServed}
+use Rattle.fd_pattern.specs.Coefficients.{linear_entry}
+use Rattle.fd_pattern.specs.Conditions.{IsKnown, IsServed}
 use Rattle.fd_devices.specs.Devices.{Device, IsGood, device_stamp, stamp_of_all}
 
 -- ---- one device

@@ -5,7 +5,7 @@ use Rattle.fd_arith.specs.declared.terms.Ends.{Ends}
 use Rattle.fd_system.specs.Contributions.{IsSmall}
 use Rattle.fd_system.specs.Stamps.{stamp_of}
 use Rattle.fd_system.specs.System.{StampView}
-use Rattle.fd_equations.specs.PatternPlaces.{load_places, place_of}
+use Rattle.fd_pattern.specs.PatternPlaces.{load_places, place_of}
 use Rattle.dss_model.specs.declared.element.Element.{Element}
 use Rattle.dss_model.specs.declared.element.Element.TheVariants as the
 use Rattle.dss_layout.specs.Layout.{LayoutView, ends_of}

@@ -7,7 +7,7 @@ use Rattle.fd_system.specs.Contributions.{concat_below}
 use Rattle.fd_system.specs.Terminals.{branch_of}
 use Rattle.fd_line.specs.Line.{line_list}
 use Rattle.fd_source.specs.Equations.{source_list}
-use Rattle.fd_equations.specs.PatternPlaces.{cross, load_places, node_places, place_of, places_of}
+use Rattle.fd_pattern.specs.PatternPlaces.{cross, load_places, node_places, place_of, places_of}
 use Rattle.fd_devices.specs.Devices.{Device, capacitor, device_stamp, line, loads, other, source, transformer}
 
 -- the real unknowns of nodes, and of m branches from the first one on

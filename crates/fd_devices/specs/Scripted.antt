@@ -18,9 +18,9 @@ use Rattle.fd_elements.specs.declared.powers.LoadPower.{LoadPower}
 use Rattle.fd_elements.specs.Connections.{conn_of}
 use Rattle.fd_elements.specs.Lines.{line_data_of}
 use Rattle.fd_elements.specs.Loads.{load_phase_of}
-use Rattle.fd_equations.specs.declared.layout.Layout.{Layout}
+use Rattle.fd_pattern.specs.declared.layout.Layout.{Layout}
 use Rattle.fd_system.specs.Contributions.{concat_below}
-use Rattle.fd_equations.specs.Views.{NetworkView, network_of}
+use Rattle.fd_pattern.specs.Views.{NetworkView, network_of}
 use Rattle.fd_devices.specs.Data.{cap_data_of, xfmr_data_of}
 use Rattle.fd_devices.specs.Devices.{Device, source, line, transformer, capacitor, loads, other, parts_of_all, stamp_of_all}
 use Rattle.fd_devices.specs.Settings.{Settings, own, after}

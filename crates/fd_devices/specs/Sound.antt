@@ -8,7 +8,7 @@ use Rattle.dss_model.specs.declared.element.Element.{Element}
 use Rattle.dss_model.specs.declared.element.Element.TheVariants as the
 use Rattle.dss_layout.specs.Terminals.{terminal_numbers, tested}
 use Rattle.dss_model.specs.Sound.{are_matrices_wrong, is_source_outside}
-use Rattle.fd_equations.specs.Conditions.{IsAmong}
+use Rattle.fd_pattern.specs.Conditions.{IsAmong}
 
 -- ---- values
 

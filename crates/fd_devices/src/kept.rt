@@ -7,7 +7,7 @@ ghost use Rattle.fd_devices.specs.Building.{DeviceFits, IsModest};
 ghost use Rattle.fd_devices.specs.Devices.{device_stamp};
 ghost use Rattle.fd_system.specs.Contributions.{IsSmall};
 ghost use Rattle.fd_system.specs.Stamps.{HasRoom, IsRoomSame, stamp_of};
-ghost use Rattle.fd_equations.specs.Patterns.{IsInside};
+ghost use Rattle.fd_pattern.specs.Patterns.{IsInside};
 ghost use Rattle.fd_devices.specs.Kept.{AreFewOf, AreSmallEnds, IsKeptOf, is_moved as has_settings, most_constants as most_constants_of, most_loads as most_loads_of, most_terms as most_terms_of, reach_of};
 ghost use Rattle.fd_devices.specs.Reach.{device_places};
 ghost use Rattle.fd_devices.specs.Scripted.{device_of};
@@ -21,7 +21,7 @@ use crate::writers::{capacitor_into, load_into, transformer_into};
 use dss_layout::Layout;
 use dss_model::Element;
 use fd_arith::{Ends, TermFault};
-use fd_equations::{add_load_places, add_term_places};
+use fd_pattern::{add_load_places, add_term_places};
 use fd_system::Stamp;
 use std::alloc::{AllocError, Global};
 

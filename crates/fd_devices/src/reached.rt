@@ -4,7 +4,7 @@ ghost use Rattle.fd_system.specs.Contributions.{IsSmall};
 ghost use Rattle.fd_devices.specs.Reach.{branch_places as unknowns_of_branches, bank_places as places_of_bank, transformer_places as places_of_transformer, unknowns_of};
 
 use fd_arith::{Ends, NodeAt};
-use fd_equations::{add_cross, add_node_places};
+use fd_pattern::{add_cross, add_node_places};
 use std::alloc::{AllocError, Global};
 
 /// Adds the places of a transformer between its ends.

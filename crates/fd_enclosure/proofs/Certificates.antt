@@ -8,9 +8,9 @@ use Rattle.fd_exact.specs.Rounding.{ceil_nat}
 use Rattle.fd_exact.specs.States.{entry}
 use Rattle.fd_exact.specs.SumLaws.{sum_n-same}
 use Rattle.std.specs.Int.RustNames.{unsigned_abs}
-use Rattle.fd_equations.specs.Conditions.{IsPoint}
+use Rattle.fd_pattern.specs.Conditions.{IsPoint}
 use Rattle.fd_equations.specs.Rounded.{jacobian_entry, list_of}
-use Rattle.fd_equations.specs.Views.{NetworkView}
+use Rattle.fd_pattern.specs.Views.{NetworkView}
 use Rattle.fd_equations.specs.Weights.{weight_at}
 use Rattle.fd_enclosure.specs.Bounds.{bound_at, bound_of, first_unbounded, first_wide, is_below_one, is_bounded, radius_at, reach_at, reach_of, refusal, refused_bound, unless_unbounded, unless_wide}
 use Rattle.fd_enclosure.specs.Encloses.{CertificateLaw}

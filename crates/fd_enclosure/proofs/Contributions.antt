@@ -12,7 +12,7 @@ use Rattle.fd_exact.specs.Sums.{list_n}
 use Rattle.fd_arith.specs.declared.terms.Term.{Term}
 use Rattle.fd_system.specs.Contributions.{given, row_sum, value_of, term_units}
 use Rattle.fd_system.specs.Residual.{whole_state}
-use Rattle.fd_equations.specs.Coefficients.{count_at, linear_entry, stands_at}
+use Rattle.fd_pattern.specs.Coefficients.{count_at, linear_entry, stands_at}
 use Rattle.fd_enclosure.proofs.Rows.{RowNear, row_list, row_more, row_single, row_still}
 
 -- ---- one contribution

@@ -12,11 +12,11 @@ use Rattle.fd_exact.specs.Sums.{sum_n, sum_z}
 use Rattle.fd_system.specs.Meets.{Meets}
 use Rattle.fd_system.specs.Residual.{whole_state}
 use Rattle.fd_system.specs.System.{residual_of}
-use Rattle.fd_equations.specs.declared.layout.PlaceKind.{PlaceKind}
-use Rattle.fd_equations.specs.declared.layout.PlaceKind.TheVariants.{Branch, Magnitude, Node}
-use Rattle.fd_equations.specs.Conditions.{IsNetwork}
+use Rattle.fd_pattern.specs.declared.layout.PlaceKind.{PlaceKind}
+use Rattle.fd_pattern.specs.declared.layout.PlaceKind.TheVariants.{Branch, Magnitude, Node}
+use Rattle.fd_pattern.specs.Conditions.{IsNetwork}
 use Rattle.fd_equations.specs.Rounded.{jacobian_entry}
-use Rattle.fd_equations.specs.Views.{NetworkView, kind_of}
+use Rattle.fd_pattern.specs.Views.{NetworkView, kind_of}
 use Rattle.fd_equations.specs.Weights.{weight_at, weight_by}
 use Rattle.fd_enclosure.specs.Bounds.{bound_at, bound_of, bound_size, is_below_one, radius_at, reach_at, reach_of}
 use Rattle.fd_enclosure.specs.Encloses.{ChangeLaw, EnclosureLaw, IsWithinRadii, LinearLaw}

@@ -15,7 +15,7 @@ use Rattle.fd_system.specs.Residual.{IsPlace, whole_state}
 use Rattle.fd_system.specs.System.{nonlinear_of}
 use Rattle.fd_slope.specs.Changes.{RowsFollow, magnitude_value, radii_in, slopes_at}
 use Rattle.fd_equations.specs.PartLoads.{load_entry, slope_count, slope_counts, slope_in, slopes_there}
-use Rattle.fd_equations.specs.Terminals.{at_magnitude, at_node, at_terminal, count_magnitude, count_node, count_terminal}
+use Rattle.fd_pattern.specs.Terminals.{at_magnitude, at_node, at_terminal, count_magnitude, count_node, count_terminal}
 use Rattle.fd_enclosure.specs.Radii.{load_radius, radius_in, spread, spread_magnitude, spread_node}
 use Rattle.fd_enclosure.proofs.Rows.{RowNear, row_list, row_more, row_plus, row_still}
 use Rattle.fd_enclosure.proofs.Terminals.{BothNear, alone_near, both_negative, columns, side_near}

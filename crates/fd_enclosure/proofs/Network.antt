@@ -20,12 +20,12 @@ use Rattle.fd_system.specs.Residual.{IsPlace, whole_state}
 use Rattle.fd_system.specs.System.{constant_given, nonlinear_of, residual_of}
 use Rattle.fd_slope.specs.Changes as slope
 use Rattle.fd_slope.specs.Changes.{IsInBox, RowsFollow, im_away, im_width, magnitude_away, magnitude_width, radii_in, re_away, re_width}
-use Rattle.fd_equations.specs.declared.layout.PlaceKind.TheVariants.{Branch, Magnitude, Node}
-use Rattle.fd_equations.specs.Coefficients.{count_at, linear_entry}
-use Rattle.fd_equations.specs.Conditions.{HasMagnitude, IsAmong, IsLinear, IsNetwork, IsServed}
+use Rattle.fd_pattern.specs.declared.layout.PlaceKind.TheVariants.{Branch, Magnitude, Node}
+use Rattle.fd_pattern.specs.Coefficients.{count_at, linear_entry}
+use Rattle.fd_pattern.specs.Conditions.{HasMagnitude, IsAmong, IsLinear, IsNetwork, IsServed}
 use Rattle.fd_equations.specs.PartLoads.{load_entry, slope_counts, slope_sum, slopes_there}
 use Rattle.fd_equations.specs.Rounded.{jacobian_entry}
-use Rattle.fd_equations.specs.Views.{NetworkView}
+use Rattle.fd_pattern.specs.Views.{NetworkView}
 use Rattle.fd_enclosure.specs.Boxes.{IsInTrustBox, half_width}
 use Rattle.fd_enclosure.specs.Encloses.{ChangeLaw, IsImpedance}
 use Rattle.fd_enclosure.specs.Radii.{load_radius, slope_radius}

@@ -8,9 +8,9 @@ use Rattle.fd_system.specs.Residual.{greater_size, residual_interval, whole_stat
 use Rattle.fd_system.specs.System.{residual_of}
 use Rattle.fd_equations.specs.Enclosure.{EndsWithin, addend_count, interval_residual_of}
 use Rattle.fd_equations.specs.Rounded.{jacobian_entry}
-use Rattle.fd_equations.specs.declared.layout.PlaceKind.{PlaceKind}
-use Rattle.fd_equations.specs.declared.layout.PlaceKind.TheVariants.{Node, Branch}
-use Rattle.fd_equations.specs.Views.{NetworkView, kind_of}
+use Rattle.fd_pattern.specs.declared.layout.PlaceKind.{PlaceKind}
+use Rattle.fd_pattern.specs.declared.layout.PlaceKind.TheVariants.{Node, Branch}
+use Rattle.fd_pattern.specs.Views.{NetworkView, kind_of}
 use Rattle.fd_equations.specs.Weights.{size_of_both, weight_at, weight_by}
 use Rattle.fd_equations.proofs.CallerLemmas.{get_or-list_of, row_tie}
 use Rattle.fd_enclosure.specs.Bounds.{bound_of, radius_at, reach_of}

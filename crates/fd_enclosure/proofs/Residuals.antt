@@ -20,8 +20,8 @@ use Rattle.fd_system.specs.Loads.{FitsModel, IsLoad, linear_list}
 use Rattle.fd_system.specs.Residual.{HasDen, greater_size, residual_interval, whole_state}
 use Rattle.fd_system.specs.System.{constant_given, linear_of, nonlinear_of, residual_of}
 use Rattle.fd_system.proofs.CallerLemmas.{greater_size_held, loads_represent, residual_holds}
-use Rattle.fd_equations.specs.Conditions.{HasMagnitude, IsLinear, IsNetwork, IsServed}
-use Rattle.fd_equations.specs.Views.{NetworkView}
+use Rattle.fd_pattern.specs.Conditions.{HasMagnitude, IsLinear, IsNetwork, IsServed}
+use Rattle.fd_pattern.specs.Views.{NetworkView}
 use Rattle.fd_enclosure.specs.Sound.{greatest_mismatch, mismatch_at, mismatch_size}
 
 -- ---- denominators

@@ -15,7 +15,7 @@ use Rattle.fd_load.specs.declared.slopes.SlopeRow.{SlopeRow}
 use Rattle.fd_slope.specs.Changes.{Follows, im_away, magnitude_away, radius_sum, re_away, slope_sum}
 use Rattle.fd_slope.specs.declared.radii.RadiusRow.{RadiusRow}
 use Rattle.fd_equations.specs.PartLoads.{slope_in}
-use Rattle.fd_equations.specs.Terminals.{at_magnitude, at_node, at_terminal, count_magnitude, count_node, count_terminal}
+use Rattle.fd_pattern.specs.Terminals.{at_magnitude, at_node, at_terminal, count_magnitude, count_node, count_terminal}
 use Rattle.fd_enclosure.specs.Radii.{radius_in, spread, spread_magnitude, spread_node}
 use Rattle.fd_enclosure.proofs.Rows.{RowNear, moved, moved-add, moved-zero, near_more, row_more, row_opposite, row_still, single_moved, single_spanned, spanned, spanned-add, spanned-zero}
 

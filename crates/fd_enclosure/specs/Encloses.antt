@@ -9,9 +9,9 @@ use Rattle.fd_system.specs.declared.loads.LoadAt.{LoadAt}
 use Rattle.fd_system.specs.Meets.{Meets}
 use Rattle.fd_system.specs.Residual.{whole_state}
 use Rattle.fd_system.specs.System.{residual_of}
-use Rattle.fd_equations.specs.Conditions.{IsNetwork, IsPoint}
+use Rattle.fd_pattern.specs.Conditions.{IsNetwork, IsPoint}
 use Rattle.fd_equations.specs.Rounded.{jacobian_entry}
-use Rattle.fd_equations.specs.Views.{NetworkView}
+use Rattle.fd_pattern.specs.Views.{NetworkView}
 use Rattle.fd_enclosure.specs.Boxes.{IsInTrustBox}
 use Rattle.fd_enclosure.specs.Radii.{slope_radius}
 use Rattle.fd_enclosure.specs.Sound.{Claim, IsInverse, IsSound, certificate_of, number_at}

@@ -9,7 +9,7 @@ use Rattle.fd_slope.specs.Changes.{radii_in}
 use Rattle.fd_slope.specs.declared.radii.Radii.{Radii}
 use Rattle.fd_slope.specs.declared.radii.RadiusRow.{RadiusRow}
 use Rattle.fd_equations.specs.Rounded.{jacobian_count}
-use Rattle.fd_equations.specs.Views.{NetworkView}
+use Rattle.fd_pattern.specs.Views.{NetworkView}
 use Rattle.fd_enclosure.specs.Boxes.{half_width}
 
 -- ---- what stands at the place l

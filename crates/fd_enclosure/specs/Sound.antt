@@ -4,9 +4,9 @@ use Rattle.fd_exact.specs.First.{first_place}
 use Rattle.fd_exact.specs.States.{entry}
 use Rattle.fd_mat.specs.Rows.{EntriesWithin}
 use Rattle.fd_system.specs.Residual.{mismatch_of}
-use Rattle.fd_equations.specs.Conditions.{IsPoint}
+use Rattle.fd_pattern.specs.Conditions.{IsPoint}
 use Rattle.fd_equations.specs.Rounded.{jacobian_entry, list_of}
-use Rattle.fd_equations.specs.Views.{NetworkView}
+use Rattle.fd_pattern.specs.Views.{NetworkView}
 use Rattle.fd_equations.specs.Weights.{weight_at}
 use Rattle.fd_enclosure.specs.Bounds.{is_bounded, radius_at, refusal}
 use Rattle.fd_enclosure.specs.Boxes.{boxes_of}

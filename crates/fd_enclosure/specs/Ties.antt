@@ -3,9 +3,9 @@ use Rattle.std.specs.Prelude.{◌≡◌, ℕ, ◌+◌, ◌*◌, ◌<◌, ◌≤�
 use Rattle.fd_exact.specs.Fractions.{Fraction}
 use Rattle.fd_system.specs.Residual.{whole_state}
 use Rattle.fd_system.specs.System.{residual_of}
-use Rattle.fd_equations.specs.Conditions.{IsNetwork, IsPoint}
+use Rattle.fd_pattern.specs.Conditions.{IsNetwork, IsPoint}
 use Rattle.fd_equations.specs.Enclosure.{addend_count}
-use Rattle.fd_equations.specs.Views.{NetworkView}
+use Rattle.fd_pattern.specs.Views.{NetworkView}
 use Rattle.fd_enclosure.specs.Boxes.{half_width}
 use Rattle.fd_enclosure.specs.Sound.{mismatch_at, radius_in}
 

@@ -1,16 +1,10 @@
 -- What stands at the places of a terminal: sizes, signs and counts.
-use Rattle.std.proofs.Common.{◌≡◌, ◌∙◌, ℕ, ◌+◌, ◌*◌, ◌<◌, ◌≤◌, ◌^◌, ℤ, pos, neg_ℤ, ◌+ℤ◌, nat_abs, List, Bool, true, false, cond, eqb, Option, Some, None, IfSome, arith, ap, refl}
-use Rattle.std.specs.List.{All}
+use Rattle.std.proofs.Common.{◌≡◌, ◌∙◌, ℕ, ◌+◌, ◌*◌, ◌≤◌, ℤ, pos, neg_ℤ, ◌+ℤ◌, nat_abs, Bool, true, false, cond, eqb, Option, Some, None, arith, ap, refl}
 use Rattle.std.proofs.lemmas.Int.{ints}
-use Rattle.std.proofs.lemmas.List.Elements.{All-weaker}
 use Rattle.fd_arith.specs.declared.terms.NodeAt.{NodeAt}
 use Rattle.fd_arith.specs.declared.terms.NodeAt.TheVariants.{Ground, Node}
-use Rattle.fd_arith.specs.declared.terms.LoadModel.{LoadModel}
 use Rattle.fd_system.specs.declared.loads.LoadAt.{LoadAt}
-use Rattle.fd_system.specs.Contributions.{IsSmall}
-use Rattle.fd_system.specs.Residual.{IsPlace}
-use Rattle.fd_equations.specs.Conditions.{HasMagnitude, IsAmong, IsServed}
-use Rattle.fd_equations.specs.Terminals.{IsConnected, at_magnitude, at_node, at_terminal}
+use Rattle.fd_pattern.specs.Terminals.{at_magnitude, at_node, at_terminal}
 
 -- ---- sizes
 
@@ -114,37 +108,3 @@ pub terminal_sum : (l : ℕ) (u : LoadAt) (re im z : ℤ)
     ≡ at_terminal l u re im z
 unfolding at_terminal
 terminal_sum l u re im z = refl
-
--- ---- places below the size
-
-node_inside : (m n size : ℕ) (node : NodeAt) → m ≤ n → 2 * n ≤ size → size ≤ 2 ^ 11 → IsAmong m node → IsPlace size node
-node_inside m n size Ground among h few k = tt
-node_inside m n size (Node r) among h few k = (omega arith, omega arith)
-
-magnitude_inside : (n size : ℕ) (model : LoadModel) (place : Option ℕ) → HasMagnitude n size model place → IfSome place (λ k. k < size)
-magnitude_inside n size model None h = tt
-magnitude_inside n size model (Some k) h = h.1.1
-
-pub connected : (m n size : ℕ) (u : LoadAt) → m ≤ n → 2 * n ≤ size → size ≤ 2 ^ 11 → IsServed m n size u → IsConnected size u
-connected m n size u among h few s = record {
-  phase = s.phase;
-  first = node_inside m n size u.first among h few s.first;
-  second = node_inside m n size u.second among h few s.second;
-  magnitude = magnitude_inside n size u.load.model u.magnitude s.magnitude;
-}
-
--- part loads between nodes, whose magnitudes stand behind the complex unknowns, are connected to the real ones
-pub all_connected : (m n size : ℕ) (us : List LoadAt) → m ≤ n → 2 * n ≤ size → size ≤ 2 ^ 11 → All (IsServed m n size) us → All (IsConnected size) us
-all_connected m n size us among h few a = All-weaker (IsServed m n size) (IsConnected size) (λ u s. connected m n size u among h few s) us a
-
--- ---- what has a place is small
-
-node_few : (n : ℕ) (node : NodeAt) → IsPlace n node → IsSmall node
-node_few n Ground h = tt
-node_few n (Node k) h = h.1
-
-pub firsts_few : (n : ℕ) (us : List LoadAt) → All (IsConnected n) us → All (λ u. IsSmall u.first) us
-firsts_few n us h = All-weaker (IsConnected n) (λ u. IsSmall u.first) (λ u c. node_few n u.first c.first) us h
-
-pub seconds_few : (n : ℕ) (us : List LoadAt) → All (IsConnected n) us → All (λ u. IsSmall u.second) us
-seconds_few n us h = All-weaker (IsConnected n) (λ u. IsSmall u.second) (λ u c. node_few n u.second c.second) us h

@@ -11,10 +11,10 @@ use Rattle.fd_exact.specs.SumLaws.{list_n-bound}
 use Rattle.fd_arith.specs.LoadModels.{is_linear}
 use Rattle.fd_system.specs.declared.loads.LoadAt.{LoadAt}
 use Rattle.fd_system.specs.Contributions.{AreSmall, term_units}
-use Rattle.fd_equations.specs.Coefficients.{count_at, linear_entry, stands_at}
-use Rattle.fd_equations.specs.Conditions.{IsLinear}
+use Rattle.fd_pattern.specs.Coefficients.{count_at, linear_entry, stands_at}
+use Rattle.fd_pattern.specs.Conditions.{IsLinear}
 use Rattle.fd_equations.specs.PartLoads.{slope_count, slope_counts}
-use Rattle.fd_equations.specs.Terminals.{count_magnitude, count_node, count_terminal}
+use Rattle.fd_pattern.specs.Terminals.{count_magnitude, count_node, count_terminal}
 use Rattle.fd_equations.proofs.Sizes.{small_size}
 
 -- ---- contributions

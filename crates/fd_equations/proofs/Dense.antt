@@ -8,7 +8,7 @@ use Rattle.fd_mat.specs.Rows.{EntriesWithin, square}
 use Rattle.fd_equations.specs.declared.cells.Cell.{Cell}
 use Rattle.fd_equations.specs.Amounts.{Amount, AreCells, IsNothingElsewhere, IsRowOf, cell_at}
 use Rattle.fd_equations.specs.Matrices.{IsMatrix, MatrixView, matrix_with}
-use Rattle.fd_equations.specs.Patterns.{IsSlot, PatternView, key}
+use Rattle.fd_pattern.specs.Patterns.{IsSlot, PatternView, key}
 use Rattle.fd_equations.proofs.Elsewhere.{decide}
 
 pub matrix_row : (v : MatrixView) (p : PatternView) (cells found row_cells : List Cell) (row : ℕ)

@@ -26,10 +26,10 @@ use Rattle.fd_system.specs.Loads.{load_current, load_parts, magnitude_parts, mag
 use Rattle.fd_system.specs.Residual.{HasParts, fraction_interval, whole_state, with_part}
 use Rattle.fd_system.specs.System.{nonlinear_of}
 use Rattle.fd_system.proofs.CallerLemmas.{IsWhole, opposite-pos, side-pos}
-use Rattle.fd_equations.specs.Conditions.{IsPart}
+use Rattle.fd_pattern.specs.Conditions.{IsPart}
 use Rattle.fd_equations.specs.Enclosure.{with_current, with_drawn, with_magnitude}
 use Rattle.fd_equations.specs.PartLoads.{current_count, current_counts}
-use Rattle.fd_equations.specs.Terminals.{IsConnected, count_magnitude, count_node, count_terminal, imaginary_of, magnitude_in, real_of}
+use Rattle.fd_pattern.specs.Terminals.{IsConnected, count_magnitude, count_node, count_terminal, imaginary_of, magnitude_in, real_of}
 use Rattle.fd_equations.proofs.DrawnSizes.{excess_small, in_phase_small, quadrature_small}
 use Rattle.fd_equations.proofs.LoadSums.{no_load, voltages}
 use Rattle.fd_equations.proofs.Widths.{Narrow, narrow_outward, narrow_sum, wider}

@@ -13,11 +13,11 @@ use Rattle.fd_system.specs.declared.loads.LoadAt.{LoadAt}
 use Rattle.fd_system.specs.Contributions.{AreSmall, term_units}
 use Rattle.fd_equations.specs.declared.cells.Cell.{Cell}
 use Rattle.fd_equations.specs.Amounts.{Amount, AreCells, IsNothingElsewhere, amount, cell_at, empty, of_rows}
-use Rattle.fd_equations.specs.Coefficients.{count_at, linear_entry, stands_at}
+use Rattle.fd_pattern.specs.Coefficients.{count_at, linear_entry, stands_at}
 use Rattle.fd_equations.specs.PartLoads.{slope_count, slope_counts}
-use Rattle.fd_equations.specs.PatternPlaces.{load_places, magnitude_places, node_places, place_of, places_of, terminal_places}
-use Rattle.fd_equations.specs.Patterns.{key}
-use Rattle.fd_equations.specs.Terminals.{count_magnitude, count_node, count_terminal}
+use Rattle.fd_pattern.specs.PatternPlaces.{load_places, magnitude_places, node_places, place_of, places_of, terminal_places}
+use Rattle.fd_pattern.specs.Patterns.{key}
+use Rattle.fd_pattern.specs.Terminals.{count_magnitude, count_node, count_terminal}
 
 -- ---- what holds of all of two lists
 

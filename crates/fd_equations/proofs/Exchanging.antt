@@ -11,11 +11,11 @@ use Rattle.fd_system.specs.declared.loads.LoadAt.{LoadAt}
 use Rattle.fd_equations.specs.declared.cells.Cell.{Cell}
 use Rattle.fd_equations.specs.Amounts.{Amount, AreCells, AreExchanged, AreGrown, HaveCounts, HaveTermRoom, amount, cell_at, empty, more, of_rows, of_term, of_terms}
 use Rattle.fd_system.specs.Contributions.{term_units}
-use Rattle.fd_equations.specs.Coefficients.{count_at, linear_entry, stands_at}
-use Rattle.fd_equations.specs.Conditions.{AreLinear, IsLinear}
+use Rattle.fd_pattern.specs.Coefficients.{count_at, linear_entry, stands_at}
+use Rattle.fd_pattern.specs.Conditions.{AreLinear, IsLinear}
 use Rattle.fd_equations.specs.PartLoads.{slope_count, slope_counts}
-use Rattle.fd_equations.specs.Patterns.{IsSlot, key}
-use Rattle.fd_equations.specs.Terminals.{count_magnitude, count_node, count_terminal}
+use Rattle.fd_pattern.specs.Patterns.{IsSlot, key}
+use Rattle.fd_pattern.specs.Terminals.{count_magnitude, count_node, count_terminal}
 use Rattle.fd_equations.proofs.Counting.{count_size, entry_size}
 use Rattle.fd_equations.proofs.Lists.{list_n_more}
 use Rattle.fd_equations.proofs.LoadSums.{no_load}

@@ -12,7 +12,7 @@ use Rattle.fd_arith.specs.declared.terms.Term.{Term}
 use Rattle.fd_system.specs.declared.constants.Constant.{Constant}
 use Rattle.fd_system.specs.Residual.{constant_added as interval_added, term_added, linear_interval, with_constant, with_term}
 use Rattle.fd_system.proofs.CallerLemmas.{length-constants, length-terms, row-constants, row-terms}
-use Rattle.fd_equations.specs.Conditions.{IsKnown}
+use Rattle.fd_pattern.specs.Conditions.{IsKnown}
 use Rattle.fd_equations.specs.Rounded.{list_of, constant_sum, constant_added}
 use Rattle.fd_equations.proofs.Lists.{list_z_more, length-list_of, get_or-list_of, list_of-ext}
 

@@ -11,10 +11,10 @@ use Rattle.fd_system.specs.declared.loads.LoadAt.{LoadAt}
 use Rattle.fd_equations.specs.declared.cells.Cell.{Cell}
 use Rattle.fd_equations.specs.Amounts.{Amount, AreCells, AreGrown, HaveSlopeRoom, HaveTermRoom, amount, cell_at, cell_of, empty, more, nothing, of_both, of_load, of_loads, of_rows, of_term, of_terms, without_slopes}
 use Rattle.fd_system.specs.Contributions.{term_units}
-use Rattle.fd_equations.specs.Coefficients.{count_at, linear_entry, stands_at}
-use Rattle.fd_equations.specs.Conditions.{AreLinear, IsLinear}
+use Rattle.fd_pattern.specs.Coefficients.{count_at, linear_entry, stands_at}
+use Rattle.fd_pattern.specs.Conditions.{AreLinear, IsLinear}
 use Rattle.fd_equations.specs.PartLoads.{load_entry, slope_count}
-use Rattle.fd_equations.specs.Patterns.{IsSlot, key}
+use Rattle.fd_pattern.specs.Patterns.{IsSlot, key}
 use Rattle.fd_equations.proofs.Lists.{list_n_more, list_z_more}
 use Rattle.fd_equations.proofs.Counting.{count_size, entry_size}
 

@@ -1,9 +1,8 @@
 -- What rows by non-zeros hold: the sums of their contributions and the numbers of slopes of their part loads.
-use Rattle.std.proofs.Common.{◌≡◌, ◌∙◌, ◌⊎◌, ℕ, zero, suc, ◌+◌, ◌*◌, ◌<◌, ◌≤◌, ◌^◌, ℤ, pos, neg_ℤ, ◌+ℤ◌, Bool, true, false, cond, eqb, List, [], ◌∷◌, ◌++◌, Option, Some, None, IfSome, length, map, arith, ap, refl, sym, subst, inl, inr}
-use Rattle.std.specs.List.{All, Contains, flat_map}
+use Rattle.std.proofs.Common.{◌≡◌, ◌∙◌, ◌⊎◌, ℕ, zero, suc, ◌+◌, ◌*◌, ◌≤◌, ◌^◌, ℤ, pos, neg_ℤ, ◌+ℤ◌, Bool, true, false, cond, eqb, List, [], ◌∷◌, Option, Some, None, length, map, arith, ap, refl, sym, subst, inl, inr}
+use Rattle.std.specs.List.{All, Contains}
 use Rattle.std.proofs.Math.Nat.{mul-le-mul}
 use Rattle.std.proofs.lemmas.Int.{ints}
-use Rattle.std.proofs.lemmas.List.Elements.{All-append, All-cons, All-head, All-nil, All-tail}
 use Rattle.fd_exact.specs.Sums.{list_z}
 use Rattle.fd_arith.specs.declared.terms.Term.{Term}
 use Rattle.fd_arith.specs.declared.terms.NodeAt.{NodeAt}
@@ -11,16 +10,15 @@ use Rattle.fd_arith.specs.declared.terms.NodeAt.TheVariants.{Ground, Node}
 use Rattle.fd_load.specs.declared.slopes.Slopes.{Slopes}
 use Rattle.fd_arith.specs.LoadModels.{is_linear}
 use Rattle.fd_system.specs.declared.loads.LoadAt.{LoadAt}
-use Rattle.fd_system.specs.Residual.{IsPlace}
 use Rattle.fd_equations.specs.declared.cells.Cell.{Cell}
 use Rattle.fd_equations.specs.Amounts.{Amount, RowsView, AreCells, AreGrown, HaveSlopeRoom, IsNothingElsewhere, amount, cell_of, of_both, of_loads, of_rows, of_terms, rows_with, without_slopes}
-use Rattle.fd_equations.specs.Conditions.{AreLinear, IsLinear}
+use Rattle.fd_pattern.specs.Conditions.{AreLinear}
 use Rattle.fd_equations.specs.Holding.{AreRows, CanHold}
 use Rattle.fd_equations.specs.Matrices.{IsMatrix, MatrixView, matrix_with}
 use Rattle.fd_equations.specs.PartLoads.{load_entry, no_slopes, slope_count, slope_counts, slope_in}
-use Rattle.fd_equations.specs.PatternPlaces.{cross, load_places, magnitude_places, node_places, place_of, places_of, terminal_places}
-use Rattle.fd_equations.specs.Patterns.{IsInside, PatternView}
-use Rattle.fd_equations.specs.Terminals.{IsConnected, at_magnitude, at_node, at_terminal, count_magnitude, count_node, count_terminal}
+use Rattle.fd_pattern.specs.PatternPlaces.{places_of}
+use Rattle.fd_pattern.specs.Patterns.{PatternView}
+use Rattle.fd_pattern.specs.Terminals.{IsConnected, at_magnitude, at_node, at_terminal, count_magnitude, count_node, count_terminal}
 use Rattle.fd_equations.proofs.Elsewhere.{nothing_elsewhere}
 use Rattle.fd_equations.proofs.Growth.{IsBoth, bare_cells, both_parts, cells_then, slopes_room}
 
@@ -55,58 +53,6 @@ zero_sum (u ∷ us) row col = λ i. zero_entry u row col i +ℤ zero_sum us row 
 
 pub counted : (ts : List Term) (us : List LoadAt) (p : ℕ × ℕ) → IsBoth (of_terms ts p) (of_loads (λ u. no_slopes) us p) (of_rows ts us p)
 counted ts us p = record { units = let z = zero_sum us p.0 p.1 in omega (arith, ints, z); count = omega arith; slopes = omega arith }
-
--- ---- places are among the rows and columns
-
-module _ (n : ℕ) where
-  terms_inside : (ts : List Term) → All (IsLinear n) ts → All (IsInside n) (map place_of ts)
-  terms_inside [] h = All-nil (IsInside n)
-  terms_inside (t ∷ ts) h =
-      let one = All-head (IsLinear n) t ts h in
-      All-cons (IsInside n) (place_of t) (map place_of ts) (record { row = one.term.row; col = one.term.col }) (terms_inside ts (All-tail (IsLinear n) t ts h))
-
-  abbrev IsUnknown : ℕ → Type 0
-  IsUnknown l = l < n
-
-  node_inside : (node : NodeAt) → IsPlace n node → All IsUnknown (node_places node)
-  node_inside Ground h = All-nil IsUnknown
-  node_inside (Node k) h =
-      let top = h.0 in
-      All-cons IsUnknown (2 * k) ((2 * k + 1) ∷ []) (omega arith)
-      (All-cons IsUnknown (2 * k + 1) [] top (All-nil IsUnknown))
-
-  magnitude_inside : (place : Option ℕ) → IfSome place (λ k. k < n) → All IsUnknown (magnitude_places place)
-  magnitude_inside None h = All-nil IsUnknown
-  magnitude_inside (Some k) h = All-cons IsUnknown k [] h (All-nil IsUnknown)
-
-  terminal_inside : (u : LoadAt) → IsConnected n u → All IsUnknown (terminal_places u)
-  terminal_inside u h =
-      All-append IsUnknown (node_places u.first ++ node_places u.second) (magnitude_places u.magnitude)
-      (All-append IsUnknown (node_places u.first) (node_places u.second) (node_inside u.first h.first)
-      (node_inside u.second h.second))
-      (magnitude_inside u.magnitude h.magnitude)
-
-  row_inside : (row : ℕ) (at : List ℕ) → row < n → All IsUnknown at → All (IsInside n) (map (λ col. (row, col)) at)
-  row_inside row [] h a = All-nil (IsInside n)
-  row_inside row (c ∷ at) h a =
-      All-cons (IsInside n) (row, c) (map (λ col. (row, col)) at)
-      (record { row = h; col = All-head IsUnknown c at a }) (row_inside row at h (All-tail IsUnknown c at a))
-
-  pub cross_inside : (rows cols : List ℕ) → All (λ l. l < n) rows → All (λ l. l < n) cols → All (IsInside n) (cross rows cols)
-  cross_inside [] cols h a = All-nil (IsInside n)
-  cross_inside (r ∷ rows) cols h a =
-      All-append (IsInside n) (map (λ col. (r, col)) cols) (cross rows cols)
-      (row_inside r cols (All-head IsUnknown r rows h) a) (cross_inside rows cols (All-tail IsUnknown r rows h) a)
-
-  loads_inside : (us : List LoadAt) → All (IsConnected n) us → All (IsInside n) (flat_map load_places us)
-  loads_inside [] h = All-nil (IsInside n)
-  loads_inside (u ∷ us) h =
-      let at = terminal_inside u (All-head (IsConnected n) u us h) in
-      All-append (IsInside n) (load_places u) (flat_map load_places us)
-      (cross_inside (terminal_places u) (terminal_places u) at at) (loads_inside us (All-tail (IsConnected n) u us h))
-
-  pub all_inside : (ts : List Term) (us : List LoadAt) → All (IsLinear n) ts → All (IsConnected n) us → All (IsInside n) (places_of ts us)
-  all_inside ts us h k = All-append (IsInside n) (map place_of ts) (flat_map load_places us) (terms_inside ts h) (loads_inside us k)
 
 -- ---- what a look-up reads
 

@@ -1,4 +1,3 @@
-pub mod Order
 pub mod Counting
 pub mod Growth
 pub mod LoadCells

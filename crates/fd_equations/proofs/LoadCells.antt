@@ -13,7 +13,7 @@ use Rattle.fd_equations.specs.declared.cells.Cell.{Cell}
 use Rattle.fd_equations.specs.Amounts.{Amount, AreGrown, HaveSlopeRoom, amount, nothing, of_load, of_loads}
 use Rattle.fd_equations.specs.PartLoads.{load_entry, slope_count, slope_in, slopes_there, start_slopes}
 use Rattle.fd_equations.specs.Slopes.{AreSlopes, IsSlope}
-use Rattle.fd_equations.specs.Terminals.{at_magnitude, at_node, at_terminal, count_magnitude, count_node, count_terminal, imaginary_of, magnitude_in, real_of}
+use Rattle.fd_pattern.specs.Terminals.{at_magnitude, at_node, at_terminal, count_magnitude, count_node, count_terminal, imaginary_of, magnitude_in, real_of}
 use Rattle.fd_equations.proofs.AtTerminals.{cond_small, node_small, terminal_negative, terminal_small}
 use Rattle.fd_equations.proofs.Counting.{cond_few, node_few, product_few, slope_few, terminal_few}
 use Rattle.fd_equations.proofs.Growth.{IsBoth, grown_none, grown_then, loads_more, room_after, same_amount, slope_at}

@@ -15,9 +15,9 @@ use Rattle.fd_arith.specs.LoadModels.{is_linear}
 use Rattle.fd_system.specs.declared.loads.LoadAt.{LoadAt}
 use Rattle.fd_system.specs.Loads.{re_of, im_of, magnitude_of}
 use Rattle.fd_system.specs.Residual.{IsPlace, whole_state}
-use Rattle.fd_equations.specs.Conditions.{IsPart}
+use Rattle.fd_pattern.specs.Conditions.{IsPart}
 use Rattle.fd_equations.specs.PartLoads.{load_row, loads_row}
-use Rattle.fd_equations.specs.Terminals.{IsConnected, at_terminal, imaginary_of, magnitude_in, real_of}
+use Rattle.fd_pattern.specs.Terminals.{IsConnected, at_terminal, imaginary_of, magnitude_in, real_of}
 use Rattle.fd_equations.proofs.AtTerminals.{terminal_least}
 use Rattle.fd_equations.proofs.DrawnSizes.{excess_small, in_phase_small, quadrature_small}
 use Rattle.fd_equations.proofs.Sizes.{part_size}

@@ -18,17 +18,17 @@ use Rattle.fd_system.specs.Contributions.{AreSmall}
 use Rattle.fd_system.specs.System.{nonlinear_of, residual_of}
 use Rattle.fd_system.specs.Residual.{HasDen, IsConstant, IsTerm, linear_interval, residual_interval, whole_state, with_part}
 use Rattle.fd_system.proofs.CallerLemmas.{residual_holds}
-use Rattle.fd_equations.specs.Coefficients.{linear_entry, row_count}
-use Rattle.fd_equations.specs.Conditions.{AreKnown, IsKnown, IsLinear, IsNetwork, IsPart, IsPoint, magnitude_count}
+use Rattle.fd_pattern.specs.Coefficients.{linear_entry, row_count}
+use Rattle.fd_pattern.specs.Conditions.{AreKnown, IsKnown, IsLinear, IsNetwork, IsPart, IsPoint, magnitude_count}
 use Rattle.fd_equations.specs.Enclosure.{EndsWithin, addend_count, interval_residual_of, summand_count}
 use Rattle.fd_equations.specs.PartLoads.{current_count, current_counts, load_current_count, load_current_counts, loads_row}
 use Rattle.fd_equations.specs.Rounded.{constant_sum, constants_of, entry_product, linear_residual_of, list_of, products_added, rounded_residual_of, rounded_row}
-use Rattle.fd_equations.specs.declared.layout.PlaceKind.{PlaceKind}
-use Rattle.fd_equations.specs.declared.layout.PlaceKind.TheVariants.{Node, Branch, Magnitude}
-use Rattle.fd_equations.specs.Views.{NetworkView, kind_of}
+use Rattle.fd_pattern.specs.declared.layout.PlaceKind.{PlaceKind}
+use Rattle.fd_pattern.specs.declared.layout.PlaceKind.TheVariants.{Node, Branch, Magnitude}
+use Rattle.fd_pattern.specs.Views.{NetworkView, kind_of}
 use Rattle.fd_equations.specs.Weights.{weight_at, weight_by, weights_of}
-use Rattle.fd_equations.specs.Terminals.{IsConnected, count_magnitude, count_node, count_terminal}
-use Rattle.fd_equations.proofs.AtTerminals.{all_connected}
+use Rattle.fd_pattern.specs.Terminals.{IsConnected, count_magnitude, count_node, count_terminal}
+use Rattle.fd_pattern.proofs.CallerLemmas.{all_connected}
 use Rattle.fd_equations.proofs.DrawnIntervals.{loads_positive, narrow_loads}
 use Rattle.fd_equations.proofs.LoadSums.{rows_small}
 use Rattle.fd_equations.proofs.Lists.{get_or-list_of, length-list_of, list_of-ext, part-list_of-small}

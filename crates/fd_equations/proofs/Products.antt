@@ -12,7 +12,7 @@ use Rattle.fd_system.specs.declared.loads.LoadAt.{LoadAt}
 use Rattle.fd_system.specs.Contributions.{AreSmall}
 use Rattle.fd_equations.specs.declared.cells.Cell.{Cell}
 use Rattle.fd_equations.specs.Amounts.{IsRowOf, cell_at, empty, of_rows}
-use Rattle.fd_equations.specs.Coefficients.{linear_entry}
+use Rattle.fd_pattern.specs.Coefficients.{linear_entry}
 use Rattle.fd_equations.specs.Rounded.{entry_product, products_added}
 use Rattle.fd_equations.specs.WalkLaws.{walk_sums}
 use Rattle.fd_equations.proofs.Lists.{list_of-ext, list_z_more}

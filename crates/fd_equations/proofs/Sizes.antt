@@ -7,7 +7,7 @@ use Rattle.std.proofs.lemmas.Int.{ints, unsigned_abs-mul, to_z-of_z, fits_signed
 use Rattle.fd_exact.specs.Rounding.{near_div}
 use Rattle.fd_exact.specs.Nearest.{near_nearest}
 use Rattle.fd_system.specs.Contributions.{AreSmall}
-use Rattle.fd_equations.specs.Conditions.{IsPart}
+use Rattle.fd_pattern.specs.Conditions.{IsPart}
 
 pub near_size : (z : ℤ) → nat_abs z ≤ 2 ^ 94 → nat_abs (near_div z (2 ^ 40)) ≤ 2 ^ 54
 near_size z h = let n = near_nearest z (2 ^ 40) (lit< tt) in omega (arith, ints, n.close)

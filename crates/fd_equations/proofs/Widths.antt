@@ -18,8 +18,8 @@ use Rattle.fd_arith.specs.Capping.{capped-within}
 use Rattle.fd_arith.specs.declared.terms.Term.{Term}
 use Rattle.fd_system.specs.declared.constants.Constant.{Constant}
 use Rattle.fd_system.specs.Residual.{term_interval, with_constant, with_term, linear_interval}
-use Rattle.fd_equations.specs.Coefficients.{row_count}
-use Rattle.fd_equations.specs.Conditions.{IsLinear, IsKnown, IsPart}
+use Rattle.fd_pattern.specs.Coefficients.{row_count}
+use Rattle.fd_pattern.specs.Conditions.{IsLinear, IsKnown, IsPart}
 use Rattle.fd_equations.specs.Enclosure.{EndsWithin}
 use Rattle.fd_equations.proofs.Sizes.{part_size, small_size}
 

@@ -9,8 +9,8 @@ use Rattle.fd_exact.specs.States.{cell, part}
 use Rattle.fd_exact.specs.Tables.{room}
 use Rattle.fd_equations.specs.declared.cells.Cell.{Cell}
 use Rattle.fd_equations.specs.Amounts.{cell_at}
-use Rattle.fd_equations.specs.Patterns.{IsRising, IsSlot, key}
-use Rattle.fd_equations.proofs.Order.{only_slot}
+use Rattle.fd_pattern.specs.Patterns.{IsRising, IsSlot, key}
+use Rattle.fd_pattern.proofs.CallerLemmas.{only_slot}
 
 -- the first k cells were written, and there is 0 elsewhere
 pub record IsWritten (n : ℕ) (ps : List (ℕ × ℕ)) (cells : List Cell) (dense : List ℤ) (k : ℕ) : Type 0 where

@@ -7,9 +7,9 @@ use Rattle.fd_load.specs.declared.slopes.Slopes.{Slopes}
 use Rattle.fd_system.specs.declared.loads.LoadAt.{LoadAt}
 use Rattle.fd_equations.specs.declared.cells.Cell.{Cell}
 use Rattle.fd_system.specs.Contributions.{term_units}
-use Rattle.fd_equations.specs.Coefficients.{count_at, linear_entry, stands_at}
+use Rattle.fd_pattern.specs.Coefficients.{count_at, linear_entry, stands_at}
 use Rattle.fd_equations.specs.PartLoads.{load_entry, slope_count, slope_counts}
-use Rattle.fd_equations.specs.Patterns.{PatternView, key}
+use Rattle.fd_pattern.specs.Patterns.{PatternView, key}
 
 -- a sum in units of 2^-40, how many contributions, and how many slopes of part loads
 pub record Amount : Type 0 where

@@ -8,8 +8,8 @@ use Rattle.fd_load.specs.Current.{divisor, excess, in_phase, quadrature}
 use Rattle.fd_system.specs.declared.loads.LoadAt.{LoadAt}
 use Rattle.fd_system.specs.System.{StampView}
 use Rattle.fd_system.specs.Residual.{residual_interval}
-use Rattle.fd_equations.specs.Views.{NetworkView}
-use Rattle.fd_equations.specs.Coefficients.{row_count}
+use Rattle.fd_pattern.specs.Views.{NetworkView}
+use Rattle.fd_pattern.specs.Coefficients.{row_count}
 use Rattle.fd_equations.specs.PartLoads.{current_counts, load_current_counts}
 use Rattle.fd_equations.specs.Rounded.{list_of}
 

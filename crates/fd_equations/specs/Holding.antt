@@ -5,10 +5,10 @@ use Rattle.fd_arith.specs.declared.terms.Term.{Term}
 use Rattle.fd_system.specs.declared.loads.LoadAt.{LoadAt}
 use Rattle.fd_equations.specs.declared.cells.Cell.{Cell}
 use Rattle.fd_equations.specs.Amounts.{AreCells, IsNothingElsewhere, RowsView, of_rows}
-use Rattle.fd_equations.specs.Conditions.{AreLinear}
-use Rattle.fd_equations.specs.PatternPlaces.{places_of}
-use Rattle.fd_equations.specs.Patterns.{PatternView}
-use Rattle.fd_equations.specs.Terminals.{IsConnected}
+use Rattle.fd_pattern.specs.Conditions.{AreLinear}
+use Rattle.fd_pattern.specs.PatternPlaces.{places_of}
+use Rattle.fd_pattern.specs.Patterns.{PatternView}
+use Rattle.fd_pattern.specs.Terminals.{IsConnected}
 
 -- the cells have the sums of these contributions and the numbers of slopes of these part loads, and nothing stands elsewhere
 pub record AreRows (p : PatternView) (ts : List Term) (us : List LoadAt) (cells : List Cell) : Type 0 where

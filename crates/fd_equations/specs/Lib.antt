@@ -1,9 +1,4 @@
-pub mod Coefficients
-pub mod Patterns
-pub mod PatternPlaces
-pub mod Views
 pub mod Rounded
-pub mod Terminals
 pub mod PartLoads
 pub mod Amounts
 pub mod Matrices
@@ -13,4 +8,3 @@ pub mod WalkLaws
 pub mod Slopes
 pub mod Weights
 pub mod Enclosure
-pub mod Conditions

@@ -2,11 +2,11 @@
 use Rattle.std.specs.Prelude.{◌≡◌, ℕ, ◌^◌, ℤ, List}
 use Rattle.fd_equations.specs.declared.cells.Cell.{Cell}
 use Rattle.fd_equations.specs.Amounts.{Amount, AreCells, HaveSlopeRoom, IsNothingElsewhere, amount}
-use Rattle.fd_equations.specs.Patterns.{PatternView}
-use Rattle.fd_equations.specs.Coefficients.{count_at}
+use Rattle.fd_pattern.specs.Patterns.{PatternView}
+use Rattle.fd_pattern.specs.Coefficients.{count_at}
 use Rattle.fd_equations.specs.PartLoads.{slope_counts}
 use Rattle.fd_equations.specs.Rounded.{jacobian_entry}
-use Rattle.fd_equations.specs.Views.{NetworkView}
+use Rattle.fd_pattern.specs.Views.{NetworkView}
 
 -- how many rows and columns it has, the places at which something can stand, by row and then by column, and a cell for each
 pub record MatrixView : Type 0 where

@@ -10,7 +10,7 @@ use Rattle.fd_load.specs.Current.{divisor, excess, in_phase, quadrature}
 use Rattle.fd_load.specs.Slopes.{admittance, slope_row, slopes_of}
 use Rattle.fd_load.specs.declared.slopes.Slopes.{Slopes}
 use Rattle.fd_load.specs.declared.slopes.SlopeRow.{SlopeRow}
-use Rattle.fd_equations.specs.Terminals.{at_terminal, count_node, count_terminal, imaginary_of, magnitude_in, real_of}
+use Rattle.fd_pattern.specs.Terminals.{at_terminal, count_node, count_terminal, imaginary_of, magnitude_in, real_of}
 
 -- ---- the rounded residual
 

@@ -5,9 +5,9 @@ use Rattle.fd_exact.specs.Rounding.{near_div}
 use Rattle.fd_exact.specs.Sums.{sum_z, list_z}
 use Rattle.fd_exact.specs.States.{part, table}
 use Rattle.fd_system.specs.declared.constants.Constant.{Constant}
-use Rattle.fd_equations.specs.Coefficients.{count_at, linear_entry}
+use Rattle.fd_pattern.specs.Coefficients.{count_at, linear_entry}
 use Rattle.fd_equations.specs.PartLoads.{loads_row, slope_counts, slope_sum, start_sum}
-use Rattle.fd_equations.specs.Views.{NetworkView}
+use Rattle.fd_pattern.specs.Views.{NetworkView}
 
 -- f 0, .., f (n - 1)
 abbrev pub list_of : {X : Type 0} → ℕ → (ℕ → X) → List X

@@ -2,10 +2,10 @@
 ghost use Rattle.std.specs.Prelude.{◌≡◌, ℕ, ◌+◌, ◌<◌, ◌≤◌, ◌^◌, ◌↔◌, nat_abs, IfOk, IsTrue, length, All};
 ghost use Rattle.fd_system.specs.Contributions.{AreSmall, IsDivided, IsWithin, term_units};
 ghost use Rattle.fd_equations.specs.Amounts.{Amount, AreCells, AreGrown, HaveTermRoom, IsNothingElsewhere, IsRowOf, amount, cell_of, more, nothing, of_term, of_terms};
-ghost use Rattle.fd_equations.specs.Conditions.{AreLinear};
+ghost use Rattle.fd_pattern.specs.Conditions.{AreLinear};
 
-use crate::Pattern;
 use fd_arith::{Term, near_units};
+use fd_pattern::Pattern;
 use fd_system::is_small;
 use std::alloc::{AllocError, Global};
 

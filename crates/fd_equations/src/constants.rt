@@ -1,7 +1,7 @@
 // The constants of the rows.
 ghost use Rattle.std.specs.Prelude.{◌≡◌, ℕ, pos, ◌<◌, ◌^◌, IfOk, length, All};
 ghost use Rattle.fd_exact.specs.States.{part};
-ghost use Rattle.fd_equations.specs.Conditions.{AreKnown, IsKnown};
+ghost use Rattle.fd_pattern.specs.Conditions.{AreKnown, IsKnown};
 ghost use Rattle.fd_equations.specs.Rounded.{constant_added, constant_sum, list_of};
 
 use fd_system::Constant;

@@ -1,5 +1,5 @@
-// The rows of a network: its constants, contributions and part loads as the solver and the certificate ask for them. No circuit is
-// known here, and no name.
+// The rows of a network: its constants, contributions and part loads as the solver and the certificate ask for them. No
+// circuit is known here, and no name; what a network is says `fd_pattern`.
 //
 // A `Network` promises, at a point of whole micro-units: the residual of each row in intervals, which holds the exact one and is
 // never ALL (`residual`); the rounded residual, the start matrix and the rounded Jacobian of a step (`rounded_residual`,
@@ -11,27 +11,23 @@
 // the start matrix or the Jacobian at such places. A walk over the cells of a row is the walk over all its columns (`walk_law`,
 // `count_law`).
 //
-// Modules: `layout` (where the unknowns stand), `pattern` and `places` (the places at which something stands), `cells` and `load_cells`
-// (what contributions and part loads add there), `exchange` (contributions in place of others), `sparse` and `matrix`
-// over them, `laws` of walks, `constants` (their sums by row), `rows` (the linear rows in intervals), `terminals`
-// (the voltage of a part load, and its places in a row), `load_intervals`, `load_rows` and `load_slopes` (what part
-// loads add to the intervals and to the rounded residual, and their slopes), `weights`, `network` over them, and
-// `point` (a state with its inverse).
+// Modules: `cells` and `load_cells` (what contributions and part loads add at the places of a pattern), `exchange`
+// (contributions in place of others), `sparse` and `matrix` over them, `laws` of walks, `constants` (their sums by row),
+// `rows` (the linear rows in intervals), `terminals` (the voltage of a part load, and its places in a row),
+// `load_intervals`, `load_rows` and `load_slopes` (what part loads add to the intervals and to the rounded residual, and
+// their slopes), `weights`, `network` over them, and `point` (a state with its inverse).
 #![tactic(auto)]
 
 mod cells;
 mod constants;
 mod exchange;
 mod laws;
-mod layout;
 mod load_cells;
 mod load_intervals;
 mod load_rows;
 mod load_slopes;
 mod matrix;
 mod network;
-mod pattern;
-mod places;
 mod point;
 mod rows;
 mod sparse;
@@ -40,11 +36,8 @@ mod weights;
 
 pub use cells::Cell;
 pub use laws::{count_law, walk_law};
-pub use layout::{Layout, PlaceKind};
 pub use matrix::Matrix;
 pub use network::Network;
-pub use pattern::Pattern;
-pub use places::{add_cross, add_load_places, add_node_places, add_term_places};
 pub use point::Point;
 pub use sparse::Rows;
 pub use terminals::{Voltage, voltage_of};

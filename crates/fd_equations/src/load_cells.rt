@@ -2,16 +2,16 @@
 ghost use Rattle.std.specs.Prelude.{◌≡◌, ◌+◌, ◌*◌, ◌<◌, ◌≤◌, ◌^◌, ◌&&◌, pos, cond, eqb, nat_abs, length, All};
 ghost use Rattle.fd_system.specs.Residual.{IsPlace};
 ghost use Rattle.fd_equations.specs.Amounts.{AreGrown, HaveSlopeRoom, amount, more, of_load, of_loads};
-ghost use Rattle.fd_equations.specs.Conditions.{IsPart};
+ghost use Rattle.fd_pattern.specs.Conditions.{IsPart};
 ghost use Rattle.fd_equations.specs.PartLoads.{no_slopes as no_slopes_of, slope_in, slopes_there, start_slopes as slopes_at_start};
 ghost use Rattle.fd_equations.specs.Slopes.{AreSlopes, IsSlope};
-ghost use Rattle.fd_equations.specs.Terminals.{IsConnected, at_magnitude, at_node, at_terminal, count_magnitude, count_node, count_terminal};
+ghost use Rattle.fd_pattern.specs.Terminals.{IsConnected, at_magnitude, at_node, at_terminal, count_magnitude, count_node, count_terminal};
 
-use crate::Pattern;
 use crate::cells::Cell;
 use crate::load_slopes::{negated, no_slopes, slopes, start_slopes};
 use fd_arith::NodeAt;
 use fd_load::{SlopeRow, Slopes};
+use fd_pattern::Pattern;
 use fd_system::LoadAt;
 
 /// Counts the slopes of part loads; no sum changes.

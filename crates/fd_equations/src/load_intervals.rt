@@ -6,9 +6,9 @@ ghost use Rattle.fd_load.specs.Current.{AreVoltages};
 ghost use Rattle.fd_system.specs.Loads.{nonlinear_parts};
 ghost use Rattle.fd_system.specs.Residual.{IsPlace, whole_state, with_part};
 ghost use Rattle.fd_system.specs.System.{nonlinear_of};
-ghost use Rattle.fd_equations.specs.Conditions.{IsPart};
+ghost use Rattle.fd_pattern.specs.Conditions.{IsPart};
 ghost use Rattle.fd_equations.specs.Enclosure.{with_current, with_drawn};
-ghost use Rattle.fd_equations.specs.Terminals.{IsConnected};
+ghost use Rattle.fd_pattern.specs.Terminals.{IsConnected};
 
 use crate::terminals::{Voltage, voltage_of};
 use fd_arith::{Interval, Micro, NodeAt};

@@ -3,9 +3,9 @@ ghost use Rattle.std.specs.Prelude.{◌≡◌, ℕ, ℤ, ◌<◌, ◌≤◌, ◌
 ghost use Rattle.fd_exact.specs.Rounding.{near_div};
 ghost use Rattle.fd_exact.specs.States.{part};
 ghost use Rattle.fd_load.specs.Current.{AreVoltages, IsLoadPhase, divisor, excess, in_phase, quadrature};
-ghost use Rattle.fd_equations.specs.Conditions.{IsPart};
+ghost use Rattle.fd_pattern.specs.Conditions.{IsPart};
 ghost use Rattle.fd_equations.specs.PartLoads.{load_row, loads_row};
-ghost use Rattle.fd_equations.specs.Terminals.{IsConnected};
+ghost use Rattle.fd_pattern.specs.Terminals.{IsConnected};
 
 use crate::terminals::{Voltage, add_terminal, voltage_of};
 use fd_arith::{Fix, Micro};

@@ -2,9 +2,9 @@
 ghost use Rattle.std.specs.Prelude.{◌≡◌, ◌≤◌, ◌*◌, ◌^◌, neg_ℤ, nat_abs, length, All};
 ghost use Rattle.fd_load.specs.Current.{IsLoadPhase, power_sum};
 ghost use Rattle.fd_load.specs.Slopes.{admittance as admittance_of, slope_row};
-ghost use Rattle.fd_equations.specs.Conditions.{IsPart};
+ghost use Rattle.fd_pattern.specs.Conditions.{IsPart};
 ghost use Rattle.fd_equations.specs.PartLoads.{no_slopes as no_slopes_of, slopes_there, start_slopes as slopes_at_start};
-ghost use Rattle.fd_equations.specs.Terminals.{IsConnected};
+ghost use Rattle.fd_pattern.specs.Terminals.{IsConnected};
 ghost use Rattle.fd_equations.specs.Slopes.{AreSlopes, IsSlope};
 
 use crate::terminals::voltage_of;

@@ -5,11 +5,11 @@ ghost use Rattle.fd_exact.specs.States.{cell, part, table};
 ghost use Rattle.fd_mat.specs.Rows.{EntriesWithin};
 ghost use Rattle.fd_equations.specs.Amounts.{Amount, AreCells, IsNothingElsewhere, IsRowOf, cell_at};
 ghost use Rattle.fd_equations.specs.Matrices.{IsMatrix, matrix_with};
-ghost use Rattle.fd_equations.specs.Patterns.{IsInside, IsRising, IsSlot, pattern_of};
+ghost use Rattle.fd_pattern.specs.Patterns.{IsInside, IsRising, IsSlot, pattern_of};
 
-use crate::Pattern;
 use crate::cells::{Cell, row_in};
 use fd_mat::Dense;
+use fd_pattern::Pattern;
 use std::alloc::{AllocError, Global};
 use std::marker::Model;
 

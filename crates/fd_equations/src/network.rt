@@ -6,12 +6,12 @@ ghost use Rattle.fd_mat.specs.Rows.{EntriesWithin};
 ghost use Rattle.fd_system.specs.Contributions.{AreSmall};
 ghost use Rattle.fd_system.specs.System.{residual_of, stamp_with};
 ghost use Rattle.fd_system.specs.Residual.{whole_state};
-ghost use Rattle.fd_equations.specs.Coefficients.{linear_entry};
-ghost use Rattle.fd_equations.specs.Conditions.{AreApart, IsKnown, IsNetwork, IsPoint, IsServed};
+ghost use Rattle.fd_pattern.specs.Coefficients.{linear_entry};
+ghost use Rattle.fd_pattern.specs.Conditions.{AreApart, IsKnown, IsNetwork, IsPoint, IsServed};
 ghost use Rattle.fd_equations.specs.Enclosure.{EndsWithin, addend_count, interval_residual_of, summand_count};
 ghost use Rattle.fd_equations.specs.Matrices.{IsMatrix, jacobian_amount};
 ghost use Rattle.fd_equations.specs.Rounded.{constants_of, jacobian_count, jacobian_of, linear_residual_of, rounded_residual_of, start_matrix_of};
-ghost use Rattle.fd_equations.specs.Views.{kind_of, network_of};
+ghost use Rattle.fd_pattern.specs.Views.{kind_of, network_of};
 ghost use Rattle.fd_equations.specs.Weights.{weights_of};
 
 use crate::constants::constant_sums;
@@ -19,9 +19,10 @@ use crate::load_intervals::add_load_intervals;
 use crate::load_rows::add_loads;
 use crate::rows::linear_rows;
 use crate::weights::weights;
-use crate::{Layout, Matrix, PlaceKind, Rows};
+use crate::{Matrix, Rows};
 use fd_arith::{Interval, Micro, Term};
 use fd_mat::Dense;
+use fd_pattern::{Layout, PlaceKind};
 use fd_system::{Constant, LoadAt};
 use std::alloc::{AllocError, Global};
 use std::marker::Model;
@@ -39,9 +40,9 @@ pub struct Network<'a> {
 
 impl<'a> Model for Network<'a> {
     ghost use Rattle.std.specs.Prelude.{◌≡◌};
-    ghost use Rattle.fd_equations.specs.Conditions.{IsNetwork};
+    ghost use Rattle.fd_pattern.specs.Conditions.{IsNetwork};
     ghost use Rattle.fd_system.specs.System.{stamp_with};
-    ghost use Rattle.fd_equations.specs.Views.{NetworkView, network_of};
+    ghost use Rattle.fd_pattern.specs.Views.{NetworkView, network_of};
 
     ghost Value = { NetworkView };
 

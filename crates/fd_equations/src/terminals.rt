@@ -4,8 +4,8 @@ ghost use Rattle.fd_exact.specs.States.{part};
 ghost use Rattle.fd_load.specs.Current.{AreVoltages};
 ghost use Rattle.fd_system.specs.Loads.{im_of, magnitude_of, re_of};
 ghost use Rattle.fd_system.specs.Residual.{IsPlace, whole_state};
-ghost use Rattle.fd_equations.specs.Conditions.{IsPart};
-ghost use Rattle.fd_equations.specs.Terminals.{IsConnected, at_magnitude, at_node, at_terminal, imaginary_of, magnitude_in, real_of};
+ghost use Rattle.fd_pattern.specs.Conditions.{IsPart};
+ghost use Rattle.fd_pattern.specs.Terminals.{IsConnected, at_magnitude, at_node, at_terminal, imaginary_of, magnitude_in, real_of};
 
 use fd_arith::NodeAt;
 use fd_system::LoadAt;

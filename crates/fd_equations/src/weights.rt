@@ -1,12 +1,12 @@
 // The weights of the unknowns.
 ghost use Rattle.std.specs.Prelude.{◌≡◌, ◌+◌, ◌*◌, ◌/◌, ◌<◌, ◌≤◌, ◌^◌, IfOk, length, All, pos};
-ghost use Rattle.fd_equations.specs.Conditions.{IsPart};
+ghost use Rattle.fd_pattern.specs.Conditions.{IsPart};
 ghost use Rattle.fd_equations.specs.Rounded.{list_of};
-ghost use Rattle.fd_equations.specs.Views.{kind_in};
+ghost use Rattle.fd_pattern.specs.Views.{kind_in};
 ghost use Rattle.fd_equations.specs.Weights.{size_of_both as both_of, weight_by};
-ghost use Rattle.fd_equations.specs.declared.layout.PlaceKind.TheVariants.{Node};
+ghost use Rattle.fd_pattern.specs.declared.layout.PlaceKind.TheVariants.{Node};
 
-use crate::{Layout, PlaceKind};
+use fd_pattern::{Layout, PlaceKind};
 use std::alloc::{AllocError, Global};
 
 // One volt, and one ampere.

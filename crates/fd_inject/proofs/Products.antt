@@ -8,9 +8,9 @@ use Rattle.std.proofs.lemmas.List.Elements.{All-from_get_or, All-get_or}
 use Rattle.fd_exact.specs.States.{part}
 use Rattle.fd_exact.specs.Results.{and_then}
 use Rattle.fd_mat.specs.Rows.{EntriesWithin, row_of}
-use Rattle.fd_equations.specs.Conditions.{IsPart, IsPoint}
+use Rattle.fd_pattern.specs.Conditions.{IsPart, IsPoint}
 use Rattle.fd_equations.specs.Rounded.{list_of}
-use Rattle.fd_equations.specs.Views.{NetworkView}
+use Rattle.fd_pattern.specs.Views.{NetworkView}
 use Rattle.fd_equations.proofs.CallerLemmas.{length-list_of, list_of-ext}
 use Rattle.fd_inject.specs.Ranges.{SizesWithin, in_range}
 use Rattle.fd_inject.specs.Updates.{moved, update_at, update_for, update_of}

@@ -2,7 +2,7 @@
 ghost use Rattle.std.specs.Prelude.{◌≡◌, ◌+◌, ◌<◌, ◌≤◌, ◌^◌, length, set, IfOk, IfErr, MatchResult, Ok, Err};
 ghost use Rattle.std.specs.List.{fold};
 ghost use Rattle.fd_mat.specs.Rows.{EntriesWithin};
-ghost use Rattle.fd_equations.specs.Conditions.{IsPoint};
+ghost use Rattle.fd_pattern.specs.Conditions.{IsPoint};
 ghost use Rattle.fd_equations.specs.Rounded.{jacobian_of, start_matrix_of};
 ghost use Rattle.fd_inject.specs.Faults.{IsInside, UnlessMemory};
 ghost use Rattle.fd_inject.specs.Procedure.{IsLimits, last_from, last_of, polished, solution_of, start_of, with_nominal};

@@ -10,9 +10,9 @@ use Rattle.dss_layout.specs.Layout.{Elements, LayoutView, complex_count, ends_of
 use Rattle.fd_arith.specs.LoadModels.{has_magnitude}
 use Rattle.fd_system.specs.declared.loads.LoadAt.{LoadAt}
 use Rattle.fd_system.specs.System.{StampView}
-use Rattle.fd_equations.specs.Conditions.{AreApart, magnitude_count}
+use Rattle.fd_pattern.specs.Conditions.{AreApart, magnitude_count}
 use Rattle.fd_system.specs.Contributions.{concat_below}
-use Rattle.fd_equations.specs.Terminals.{count_magnitude}
+use Rattle.fd_pattern.specs.Terminals.{count_magnitude}
 use Rattle.fd_devices.specs.Devices.{device_stamp, stamp_of_all}
 use Rattle.fd_devices.specs.Scripted.{device_of, devices_from, load_at}
 use Rattle.fd_devices.specs.Settings.{Settings, after, own}

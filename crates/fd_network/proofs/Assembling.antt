@@ -11,9 +11,9 @@ use Rattle.fd_arith.specs.declared.terms.Term.{Term}
 use Rattle.fd_system.specs.declared.constants.Constant.{Constant}
 use Rattle.fd_system.specs.Contributions.{AreSmall, IsDivided, IsWithin}
 use Rattle.fd_system.specs.System.{StampView}
-use Rattle.fd_equations.specs.Coefficients.{linear_entry}
-use Rattle.fd_equations.specs.Conditions.{AreApart, AreLinear, IsKnown, IsLinear, IsNetwork}
-use Rattle.fd_equations.specs.Views.{network_of}
+use Rattle.fd_pattern.specs.Coefficients.{linear_entry}
+use Rattle.fd_pattern.specs.Conditions.{AreApart, AreLinear, IsKnown, IsLinear, IsNetwork}
+use Rattle.fd_pattern.specs.Views.{network_of}
 use Rattle.fd_devices.specs.Building.{AreCollected, AreContributions, AreInRange, DeviceFits, IsInside, device_fits, has_small_sums}
 use Rattle.fd_devices.specs.Devices.{Device, stamp_of_all}
 use Rattle.fd_devices.specs.Scripted.{layout_counts}

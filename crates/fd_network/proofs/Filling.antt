@@ -13,11 +13,11 @@ use Rattle.dss_layout.specs.Layout.{Elements, LayoutView, branch_phases, complex
 use Rattle.dss_layout.proofs.CallerLemmas.{both_parts, take-more}
 use Rattle.fd_system.specs.System.{StampView, beside}
 use Rattle.fd_equations.specs.Amounts.{RowsView}
-use Rattle.fd_equations.specs.Conditions.{AreLinear}
+use Rattle.fd_pattern.specs.Conditions.{AreLinear}
 use Rattle.fd_equations.specs.Holding.{CanHold}
-use Rattle.fd_equations.specs.PatternPlaces.{load_places, place_of, places_of}
-use Rattle.fd_equations.specs.Terminals.{IsConnected}
-use Rattle.fd_equations.proofs.CallerLemmas.{all_connected}
+use Rattle.fd_pattern.specs.PatternPlaces.{load_places, place_of, places_of}
+use Rattle.fd_pattern.specs.Terminals.{IsConnected}
+use Rattle.fd_pattern.proofs.CallerLemmas.{all_connected}
 use Rattle.fd_devices.specs.Building.{AreCollected}
 use Rattle.fd_devices.specs.Devices.{Device, device_stamp, stamp_of_all}
 use Rattle.fd_devices.specs.Kept.{AreFewOf, most_constants, most_loads, most_terms}

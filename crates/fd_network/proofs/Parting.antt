@@ -6,8 +6,8 @@ use Rattle.fd_arith.specs.declared.terms.Term.{Term}
 use Rattle.fd_system.specs.declared.constants.Constant.{Constant}
 use Rattle.fd_system.specs.declared.loads.LoadAt.{LoadAt}
 use Rattle.fd_system.specs.System.{StampView, joined, stamp_with}
-use Rattle.fd_equations.specs.declared.layout.Layout.{Layout}
-use Rattle.fd_equations.specs.Views.{network_of}
+use Rattle.fd_pattern.specs.declared.layout.Layout.{Layout}
+use Rattle.fd_pattern.specs.Views.{network_of}
 use Rattle.fd_devices.specs.Devices.{Device, device_stamp, stamp_of_all}
 use Rattle.fd_network.specs.declared.assembly.Parts.{Parts}
 use Rattle.fd_network.specs.declared.extents.Extent.{Extent}

@@ -9,7 +9,7 @@ use Rattle.dss_layout.specs.Among.{IsAmong}
 use Rattle.dss_layout.specs.Nodes.{same_node, is_node, node_at, number_in}
 use Rattle.dss_layout.proofs.CallerLemmas.{both_parts}
 use Rattle.fd_arith.specs.declared.terms.NodeAt.TheVariants.{Ground, Node}
-use Rattle.fd_equations.specs.Conditions.{IsAmong as IsBelow}
+use Rattle.fd_pattern.specs.Conditions.{IsAmong as IsBelow}
 
 -- ---- nodes by number
 

@@ -7,7 +7,7 @@ use Rattle.std.proofs.lemmas.List.Sums.{AllPass-from_list_all, list_all-from_All
 use Rattle.fd_arith.specs.declared.terms.Term.{Term}
 use Rattle.fd_system.specs.Contributions.{AreSmall, are_small, term_units}
 use Rattle.fd_system.specs.System.{StampView}
-use Rattle.fd_equations.specs.Coefficients.{linear_entry, stands_at}
+use Rattle.fd_pattern.specs.Coefficients.{linear_entry, stands_at}
 use Rattle.fd_devices.specs.Building.{HasSmallSums}
 use Rattle.fd_devices.specs.Devices.{Device, device_stamp, stamp_of_all}
 

@@ -4,7 +4,7 @@ use Rattle.dss_layout.specs.Layout.{LayoutView}
 use Rattle.fd_system.specs.Stamps.{HasRoom}
 use Rattle.fd_equations.specs.Holding.{CanHold}
 use Rattle.fd_system.specs.System.{stamp_with}
-use Rattle.fd_equations.specs.Views.{NetworkView, network_of}
+use Rattle.fd_pattern.specs.Views.{NetworkView, network_of}
 use Rattle.fd_devices.specs.Scripted.{layout_counts}
 use Rattle.fd_network.specs.declared.assembly.Lists.{Lists}
 use Rattle.fd_network.specs.declared.assembly.Parts.{Parts}

@@ -2,10 +2,10 @@
 use Rattle.std.specs.Prelude.{◌≡◌, ℕ, List, map}
 use Rattle.dss_layout.specs.Layout.{LayoutView, layout_of, size_of}
 use Rattle.dss_circuit.specs.Circuit.{CircuitView}
-use Rattle.fd_equations.specs.declared.layout.Layout.{Layout}
-use Rattle.fd_equations.specs.Conditions.{IsNetwork}
+use Rattle.fd_pattern.specs.declared.layout.Layout.{Layout}
+use Rattle.fd_pattern.specs.Conditions.{IsNetwork}
 use Rattle.fd_system.specs.System.{StampView, stamp_with, joined}
-use Rattle.fd_equations.specs.Views.{NetworkView, network_of}
+use Rattle.fd_pattern.specs.Views.{NetworkView, network_of}
 use Rattle.fd_devices.specs.declared.kept.Kept.{Kept}
 use Rattle.fd_devices.specs.Devices.{device_stamp}
 use Rattle.fd_devices.specs.Scripted.{devices_of, layout_counts}

@@ -4,7 +4,7 @@ ghost use Rattle.std.specs.List.{flat_map};
 ghost use Rattle.dss_layout.specs.Layout.{size_of};
 ghost use Rattle.dss_circuit.specs.Limits.{most_elements};
 ghost use Rattle.fd_devices.specs.Standing.{IsSettledAt};
-ghost use Rattle.fd_equations.specs.Patterns.{IsInside};
+ghost use Rattle.fd_pattern.specs.Patterns.{IsInside};
 ghost use Rattle.fd_devices.specs.Building.{DeviceFits, device_fits};
 ghost use Rattle.fd_devices.specs.Kept.{IsKeptOf};
 ghost use Rattle.fd_devices.specs.Reach.{device_places};

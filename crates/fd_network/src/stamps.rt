@@ -5,7 +5,7 @@ ghost use Rattle.dss_circuit.specs.Limits.{most_elements};
 ghost use Rattle.fd_devices.specs.Standing.{IsSettledAt};
 ghost use Rattle.fd_system.specs.Contributions.{AreSmall};
 ghost use Rattle.fd_system.specs.Stamps.{HasRoom, IsRoomSame, stamp_of};
-ghost use Rattle.fd_equations.specs.Coefficients.{linear_entry};
+ghost use Rattle.fd_pattern.specs.Coefficients.{linear_entry};
 ghost use Rattle.fd_devices.specs.Building.{AreCollected, DeviceFits, HasSmallSums, device_fits, has_small_sums};
 ghost use Rattle.fd_devices.specs.Devices.{device_stamp, stamp_of_all};
 ghost use Rattle.fd_devices.specs.Kept.{AreFewOf, IsKeptOf};

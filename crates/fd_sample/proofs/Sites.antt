@@ -20,7 +20,7 @@ use Rattle.fd_system.specs.declared.terminals.PhasePairs.TheVariants as pairs
 use Rattle.fd_system.specs.Residual.{IsPlace}
 use Rattle.fd_system.specs.Terminals.{node_of, second_node, pair_of}
 use Rattle.fd_xfmr.specs.Windings.{first_pairs, second_pairs}
-use Rattle.fd_equations.specs.Conditions.{IsAmong}
+use Rattle.fd_pattern.specs.Conditions.{IsAmong}
 use Rattle.dss_model.specs.declared.regcontrol.RegControl.{RegControl}
 use Rattle.dss_model.specs.declared.transformer.Transformer.{Transformer}
 use Rattle.fd_devices.specs.Data.{xfmr_data_of}

@@ -10,7 +10,7 @@ use Rattle.fd_arith.specs.declared.terms.NodeAt.{NodeAt}
 use Rattle.fd_arith.specs.declared.terms.NodeAt.TheVariants.{Ground, Node}
 use Rattle.fd_system.specs.Contributions.{IsSmall}
 use Rattle.fd_system.specs.Terminals.{node_count}
-use Rattle.fd_equations.specs.Conditions.{IsAmong}
+use Rattle.fd_pattern.specs.Conditions.{IsAmong}
 use Rattle.dss_model.specs.Element.{class_of}
 use Rattle.dss_model.specs.InRange.{ElementInRange}
 use Rattle.dss_model.specs.SameElement.{same_element}

@@ -7,7 +7,7 @@ use Rattle.fd_arith.specs.declared.cx.Cx.{Cx}
 use Rattle.fd_arith.specs.declared.terms.NodeAt.{NodeAt}
 use Rattle.fd_arith.specs.declared.terms.NodeAt.TheVariants.{Ground, Node}
 use Rattle.fd_system.specs.declared.terminals.NodePair.{NodePair}
-use Rattle.fd_equations.specs.Conditions.{IsPart}
+use Rattle.fd_pattern.specs.Conditions.{IsPart}
 
 -- ---- states
 

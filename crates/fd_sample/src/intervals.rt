@@ -2,7 +2,7 @@
 ghost use Rattle.std.specs.Prelude.{◌≡◌, ◌<◌, ◌≤◌, ◌^◌, pos, nat_abs, length, All};
 ghost use Rattle.fd_exact.specs.States.{part};
 ghost use Rattle.fd_system.specs.Residual.{IsPlace};
-ghost use Rattle.fd_equations.specs.Conditions.{IsPart};
+ghost use Rattle.fd_pattern.specs.Conditions.{IsPart};
 ghost use Rattle.fd_sample.specs.Balls.{IsBall, interval_across as across_of, interval_at as at_node, place_interval as at_place, radius_at as radius_of};
 
 use fd_arith::{Cx, Interval, Micro, NodeAt};

@@ -1,6 +1,6 @@
 -- The certified state of a point that the procedure reaches.
 use Rattle.std.proofs.Common.{◌≡◌, ◌∙◌, ℤ, List, Ok, ap, sym}
-use Rattle.fd_equations.specs.Views.{NetworkView}
+use Rattle.fd_pattern.specs.Views.{NetworkView}
 use Rattle.fd_inject.specs.Procedure.{solution_of}
 use Rattle.fd_inject.specs.declared.limits.Limits.{Limits}
 use Rattle.fd_enclosure.specs.Sound.{Claim, certificate_of, claim_of}

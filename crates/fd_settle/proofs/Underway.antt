@@ -5,8 +5,8 @@ use Rattle.dss_model.specs.declared.command.Blame.{Blame}
 use Rattle.dss_layout.specs.Layout.{layout_of, size_of}
 use Rattle.dss_circuit.specs.Circuit.{CircuitView}
 use Rattle.fd_elements.specs.declared.powers.LoadPower.{LoadPower}
-use Rattle.fd_equations.specs.Conditions.{IsNetwork}
-use Rattle.fd_equations.specs.Views.{NetworkView}
+use Rattle.fd_pattern.specs.Conditions.{IsNetwork}
+use Rattle.fd_pattern.specs.Views.{NetworkView}
 use Rattle.fd_devices.specs.Devices.{AgreesWith}
 use Rattle.fd_devices.specs.Scripted.{circuit_network, circuit_parts, devices_of}
 use Rattle.fd_devices.specs.Settings.{settings_of}

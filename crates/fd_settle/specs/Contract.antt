@@ -1,6 +1,6 @@
 -- What `settle` says of how it ends.
 use Rattle.std.specs.Prelude.{◌≡◌, ◌⊎◌, List, drop, length, Some, Result, Ok, Err}
-use Rattle.fd_equations.specs.Views.{NetworkView}
+use Rattle.fd_pattern.specs.Views.{NetworkView}
 use Rattle.fd_enclosure.specs.Sound.{Claim}
 use Rattle.fd_queue.specs.Machine.{Machine}
 use Rattle.fd_settle.specs.declared.round.Round.{Round}

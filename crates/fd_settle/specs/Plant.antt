@@ -5,7 +5,7 @@ use Rattle.dss_model.specs.declared.words.ControlMode.{ControlMode}
 use Rattle.dss_model.specs.declared.words.ControlMode.TheVariants as control_mode
 use Rattle.dss_circuit.specs.Circuit.{CircuitView}
 use Rattle.fd_elements.specs.declared.powers.LoadPower.{LoadPower}
-use Rattle.fd_equations.specs.Views.{NetworkView}
+use Rattle.fd_pattern.specs.Views.{NetworkView}
 use Rattle.fd_devices.specs.Scripted.{circuit_network, devices_of}
 use Rattle.fd_devices.specs.Settings.{Settings}
 use Rattle.fd_network.specs.Faults.{range_blame}

@@ -9,7 +9,7 @@ use Rattle.fd_devices.specs.Scripted.{circuit_parts}
 use Rattle.fd_devices.specs.Settings.{AreSettings, bank_count}
 use Rattle.fd_network.specs.Built.{BuiltView, IsBuiltOf}
 use Rattle.fd_capctl.specs.CapState.{IsEarly}
-use Rattle.fd_equations.specs.Conditions.{IsNetwork}
+use Rattle.fd_pattern.specs.Conditions.{IsNetwork}
 use Rattle.fd_enclosure.specs.Sound.{Claim, IsSound}
 use Rattle.fd_queue.specs.Controls.{Positions}
 use Rattle.fd_settle.specs.declared.clock.Clock.{Clock}

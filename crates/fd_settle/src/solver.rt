@@ -1,6 +1,6 @@
 // What finds certified states.
 ghost use Rattle.std.specs.Prelude.{IfOk, Result};
-ghost use Rattle.fd_equations.specs.Views.{NetworkView};
+ghost use Rattle.fd_pattern.specs.Views.{NetworkView};
 ghost use Rattle.fd_enclosure.specs.Sound.{Claim, IsSound};
 ghost use Rattle.fd_cert.specs.Claims.{claim_in};
 ghost use Rattle.fd_inject.specs.declared.limits.Limits.{Limits};

@@ -5,7 +5,7 @@ use Rattle.fd_inject.specs.Procedure.{solution_of}
 use Rattle.fd_inject.specs.declared.fault.SolveFault.{SolveFault}
 use Rattle.fd_inject.specs.declared.fault.SolveFault.TheVariants as solving
 use Rattle.fd_inject.specs.declared.limits.Limits.{Limits}
-use Rattle.fd_equations.specs.Views.{NetworkView}
+use Rattle.fd_pattern.specs.Views.{NetworkView}
 use Rattle.fd_queue.specs.Machine.{Act, Machine, Setup, Step, Quiet, AtLimit, Acts, step_of}
 use Rattle.fd_queue.specs.MachineLaws.{IsCounted}
 use Rattle.fd_settle.proofs.CallerLemmas.{round_counted}

@@ -9,7 +9,7 @@ use Rattle.dss_ready.specs.Ready.{HasPassed}
 use Rattle.dss_circuit.specs.Circuit.{CircuitView}
 use Rattle.dss_circuit.specs.InRange.{AllInRange}
 use Rattle.dss_circuit.specs.WellFormed.{IsEntry}
-use Rattle.fd_equations.specs.Views.{NetworkView}
+use Rattle.fd_pattern.specs.Views.{NetworkView}
 use Rattle.fd_cert.specs.Claims.{claim_in}
 use Rattle.fd_pages.specs.Rounds.{IsRoundOf}
 use Rattle.fd_cert.specs.declared.fault.CertFault.TheVariants as cert

@@ -11,7 +11,7 @@ use Rattle.fd_system.specs.Meets.{Meets}
 use Rattle.fd_system.specs.Residual.{whole_state}
 use Rattle.fd_system.specs.System.{residual_of}
 use Rattle.fd_elements.specs.declared.powers.LoadPower.{LoadPower}
-use Rattle.fd_equations.specs.Conditions.{IsPart}
+use Rattle.fd_pattern.specs.Conditions.{IsPart}
 use Rattle.fd_equations.specs.Enclosure.{addend_count}
 use Rattle.dss_layout.specs.Layout.{complex_count, layout_of, size_of}
 use Rattle.dss_circuit.specs.Circuit.{CircuitView}

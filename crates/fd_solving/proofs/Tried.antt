@@ -15,8 +15,8 @@ use Rattle.fd_cert.specs.declared.fault.CertFault.TheVariants as cert
 use Rattle.fd_pages.specs.Rounds.{IsClaimOf}
 use Rattle.fd_settings.specs.Hours.{hour_powers}
 use Rattle.fd_enclosure.specs.Sound.{Claim, IsInverse, certificate_of, first_loose, greatest_mismatch, mismatch_at, mismatches_of, number_at, uncertain, unless_loose}
-use Rattle.fd_equations.specs.Conditions.{IsPart, IsPoint}
-use Rattle.fd_equations.specs.Views.{NetworkView}
+use Rattle.fd_pattern.specs.Conditions.{IsPart, IsPoint}
+use Rattle.fd_pattern.specs.Views.{NetworkView}
 use Rattle.fd_inject.specs.declared.fault.SolveFault.{SolveFault}
 use Rattle.fd_inject.specs.declared.limits.Limits.{Limits}
 use Rattle.fd_queue.specs.Controls.{Positions}

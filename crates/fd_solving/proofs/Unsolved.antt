@@ -4,7 +4,7 @@ use Rattle.std.specs.Prelude.{nat_lt, ◌+◌, ◌^◌}
 use Rattle.std.specs.List.{fold}
 use Rattle.fd_exact.specs.States.{part}
 use Rattle.fd_equations.specs.Rounded.{constants_of, jacobian_of, rounded_residual_of, start_matrix_of}
-use Rattle.fd_equations.specs.Views.{NetworkView}
+use Rattle.fd_pattern.specs.Views.{NetworkView}
 use Rattle.fd_exact.specs.Results.{and_then}
 use Rattle.fd_mat.specs.Rows.{first_column_past}
 use Rattle.fd_inverse.specs.Elimination.{inverse_of}

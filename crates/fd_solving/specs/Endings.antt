@@ -4,7 +4,7 @@ use Rattle.dss_circuit.specs.Circuit.{CircuitView}
 use Rattle.fd_cert.specs.declared.ball.Certified.{Certified}
 use Rattle.fd_cert.specs.declared.fault.CertFault.TheVariants as cert
 use Rattle.fd_enclosure.specs.Sound.{loose, uncertain}
-use Rattle.fd_equations.specs.Views.{NetworkView}
+use Rattle.fd_pattern.specs.Views.{NetworkView}
 use Rattle.fd_inject.specs.declared.fault.SolveFault.{SolveFault}
 use Rattle.fd_inject.specs.declared.fault.SolveFault.TheVariants as solving
 use Rattle.fd_inject.specs.declared.limits.Limits.{Limits}

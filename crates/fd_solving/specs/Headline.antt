@@ -9,7 +9,7 @@ use Rattle.fd_system.specs.Equations.{equation}
 use Rattle.fd_system.specs.Meets.{Meets}
 use Rattle.fd_system.specs.Residual.{whole_state}
 use Rattle.fd_equations.specs.Enclosure.{addend_count}
-use Rattle.fd_equations.specs.Views.{NetworkView}
+use Rattle.fd_pattern.specs.Views.{NetworkView}
 use Rattle.fd_daily.specs.Hours.{time_of}
 use Rattle.fd_settings.specs.Hours.{hour_powers}
 use Rattle.fd_devices.specs.Scripted.{circuit_parts}

@@ -13,7 +13,7 @@ use Rattle.fd_daily.specs.Hours.{hours_of, time_of}
 use Rattle.fd_daily.specs.Underway.{plant_at, start_from}
 use Rattle.fd_cert.specs.Claims.{tried_claim}
 use Rattle.fd_enclosure.specs.Sound.{Claim, loose, uncertain}
-use Rattle.fd_equations.specs.Views.{NetworkView}
+use Rattle.fd_pattern.specs.Views.{NetworkView}
 use Rattle.fd_inject.specs.Procedure.{solution_of}
 use Rattle.fd_inject.specs.declared.fault.SolveFault.TheVariants as procedure
 use Rattle.fd_inject.specs.declared.limits.Limits.{Limits}

@@ -1,7 +1,7 @@
 // Certificates of the network of a siemens into which 100 ampere flow.
 ghost use Rattle.std.specs.Prelude.{◌≡◌, ◌^◌, All, IfOk, length};
 ghost use Rattle.fd_mat.specs.Rows.{EntriesWithin};
-ghost use Rattle.fd_equations.specs.Conditions.{IsPart};
+ghost use Rattle.fd_pattern.specs.Conditions.{IsPart};
 
 use crate::checks::{holds, same};
 use crate::one_node::{INFLOW, network, siemens};

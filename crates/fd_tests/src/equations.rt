@@ -1,13 +1,14 @@
 // Worked networks of one node and of two loads.
 ghost use Rattle.std.specs.Prelude.{◌≡◌, [], All, IfOk, None};
-ghost use Rattle.fd_equations.specs.Conditions.{AreApart, IsServed};
-ghost use Rattle.fd_equations.specs.Terminals.{IsConnected};
+ghost use Rattle.fd_pattern.specs.Conditions.{AreApart, IsServed};
+ghost use Rattle.fd_pattern.specs.Terminals.{IsConnected};
 
 use crate::checks::{holds, same};
 use crate::matrices::check_matrix;
 use crate::one_node::network;
 use fd_arith::{LoadModel, NodeAt, Term};
-use fd_equations::{Layout, Network, PlaceKind, Rows};
+use fd_equations::{Network, Rows};
+use fd_pattern::{Layout, PlaceKind};
 use fd_system::{Constant, LoadAt, LoadPhase};
 use std::alloc::{AllocError, Global};
 use std::process::Abort;

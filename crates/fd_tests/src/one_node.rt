@@ -1,9 +1,10 @@
 // Networks of one node, whose two unknowns are the parts of its voltage.
 ghost use Rattle.std.specs.Prelude.{◌≡◌, ◌≤◌, ◌<◌, ◌+◌, ◌*◌, ◌^◌, [], All, IfOk, length};
-ghost use Rattle.fd_equations.specs.Conditions.{IsKnown};
+ghost use Rattle.fd_pattern.specs.Conditions.{IsKnown};
 
 use fd_arith::Term;
-use fd_equations::{Layout, Network, Rows};
+use fd_equations::{Network, Rows};
+use fd_pattern::Layout;
 use fd_system::Constant;
 use std::alloc::{AllocError, Global};
 use std::process::Abort;

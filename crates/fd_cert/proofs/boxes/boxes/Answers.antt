@@ -2,7 +2,7 @@ use Rattle.std.proofs.Common.{◌≡◌, ◌∙◌, ◌++◌, ◌∷◌, [], nat
 use Rattle.std.specs.Int.{w128}
 use Rattle.std.proofs.lemmas.Int.{to_z-of_z}
 use Rattle.fd_exact.specs.States.{part}
-use Rattle.fd_equations.specs.Views.{kind_of}
+use Rattle.fd_pattern.specs.Views.{kind_of}
 use Rattle.fd_equations.proofs.CallerLemmas.{list_of-more}
 use Rattle.fd_enclosure.specs.Boxes.{half_width_by}
 use Rattle.fd_cert.proofs.boxes.boxes.Goals as goal

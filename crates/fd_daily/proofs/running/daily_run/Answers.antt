@@ -4,7 +4,7 @@ use Rattle.fd_daily.specs.Hours.{time_of}
 use Rattle.fd_daily.specs.Underway.{plant_at}
 use Rattle.fd_daily.proofs.Behind.{left_behind}
 use Rattle.fd_enclosure.specs.Sound.{Claim}
-use Rattle.fd_equations.specs.Views.{NetworkView}
+use Rattle.fd_pattern.specs.Views.{NetworkView}
 use Rattle.fd_elements.specs.declared.powers.LoadPower.{LoadPower}
 use Rattle.fd_queue.specs.Machine.{Machine}
 use Rattle.fd_settle.specs.Probes.{positions_in}

@@ -2,7 +2,7 @@ use Rattle.std.proofs.Common.{subst}
 use Rattle.std.proofs.lemmas.List.{take_all}
 use Rattle.std.proofs.lemmas.List.Elements.{All-get_or}
 use Rattle.fd_equations.specs.Amounts.{AreCells, of_terms}
-use Rattle.fd_equations.specs.Conditions.{IsLinear}
+use Rattle.fd_pattern.specs.Conditions.{IsLinear}
 use Rattle.fd_equations.proofs.Growth.{cells_room, cells_then, no_term, terms_more}
 use Rattle.fd_equations.proofs.cells.add_terms.Goals as goal
 

@@ -1,6 +1,6 @@
 use Rattle.std.proofs.Common.{◌≡◌, ℕ, ◌<◌}
 use Rattle.fd_equations.specs.Amounts.{cell_at, cell_of, nothing}
-use Rattle.fd_equations.specs.Patterns.{key}
+use Rattle.fd_pattern.specs.Patterns.{key}
 use Rattle.fd_equations.proofs.cells.clear.Given as goal
 
 abbrev pub invariant-loop-k : goal.invariant-loop-k

@@ -1,6 +1,6 @@
 use Rattle.std.proofs.Common.{length, get_or, pos, sym, subst, arith, ◌+◌}
 use Rattle.std.proofs.lemmas.List.Elements.{All-get_or}
-use Rattle.fd_equations.specs.Conditions.{IsKnown}
+use Rattle.fd_pattern.specs.Conditions.{IsKnown}
 use Rattle.fd_equations.proofs.Folds.{SumsTo, sums_start, sums_more, sums_end}
 use Rattle.fd_equations.proofs.constants.add_all.Goals as goal
 

@@ -2,7 +2,7 @@ use Rattle.std.proofs.Common.{◌≡◌, ◌∙◌, length, pos, replicate, ap, 
 use Rattle.std.specs.List.{All}
 use Rattle.std.proofs.lemmas.List.{length-replicate}
 use Rattle.fd_exact.specs.States.{part}
-use Rattle.fd_equations.specs.Conditions.{IsKnown}
+use Rattle.fd_pattern.specs.Conditions.{IsKnown}
 use Rattle.fd_equations.specs.Rounded.{constant_sum, list_of}
 use Rattle.fd_equations.proofs.Lists.{part-zeros, rewritten}
 use Rattle.fd_equations.proofs.constants.constant_sums.Goals as goal

@@ -3,7 +3,7 @@ use Rattle.std.specs.Int.{w128}
 use Rattle.std.proofs.lemmas.Int.{to_z-of_z}
 use Rattle.std.proofs.lemmas.List.Elements.{All-get_or}
 use Rattle.fd_equations.specs.Amounts.{cell_at}
-use Rattle.fd_equations.specs.Patterns.{IsInside}
+use Rattle.fd_pattern.specs.Patterns.{IsInside}
 use Rattle.fd_equations.proofs.Writing.{all_here, all_none, nothing_written, one_written}
 use Rattle.fd_equations.proofs.matrix.write.Goals as goal
 

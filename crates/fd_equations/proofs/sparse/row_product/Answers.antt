@@ -5,7 +5,7 @@ use Rattle.fd_exact.specs.Rounding.{near_div}
 use Rattle.fd_exact.specs.States.{part}
 use Rattle.fd_exact.specs.Sums.{list_z}
 use Rattle.fd_equations.specs.Amounts.{cell_at}
-use Rattle.fd_equations.specs.Conditions.{IsPart}
+use Rattle.fd_pattern.specs.Conditions.{IsPart}
 use Rattle.fd_equations.proofs.Products.{next_product}
 use Rattle.fd_equations.proofs.Sizes.{kept_by, kept_more, part_size, small_size}
 use Rattle.fd_equations.proofs.sparse.row_product.Goals as goal

@@ -3,7 +3,7 @@ use Rattle.std.specs.Int.{w128}
 use Rattle.fd_system.specs.declared.loads.LoadAt.{LoadAt}
 use Rattle.std.proofs.lemmas.Int.{ints}
 use Rattle.fd_exact.specs.States.{part}
-use Rattle.fd_equations.specs.Terminals.{at_magnitude, at_node}
+use Rattle.fd_pattern.specs.Terminals.{at_magnitude, at_node}
 use Rattle.fd_equations.proofs.AtTerminals.{added_three, negative_small, node_small, terminal_sum}
 use Rattle.fd_equations.proofs.Sizes.{kept_by, negated_kept}
 use Rattle.fd_equations.proofs.terminals.add_terminal.Goals as goal

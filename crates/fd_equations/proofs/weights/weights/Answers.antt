@@ -1,6 +1,6 @@
 use Rattle.std.proofs.Common.{◌≡◌, ◌∙◌, ◌+◌, ◌*◌, ◌++◌, ◌∷◌, [], ap, sym, pos, to_z}
 use Rattle.std.specs.Int.{w128}
-use Rattle.fd_equations.specs.Views.{kind_in}
+use Rattle.fd_pattern.specs.Views.{kind_in}
 use Rattle.fd_equations.specs.Weights.{weight_by}
 use Rattle.fd_equations.proofs.Lists.{list_of-more}
 use Rattle.fd_equations.proofs.Networks.{weight_range}

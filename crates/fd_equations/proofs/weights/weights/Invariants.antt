@@ -1,6 +1,6 @@
 use Rattle.std.proofs.Common.{◌≡◌, ◌+◌, ◌*◌, pos}
 use Rattle.fd_equations.specs.Rounded.{list_of}
-use Rattle.fd_equations.specs.Views.{kind_in}
+use Rattle.fd_pattern.specs.Views.{kind_in}
 use Rattle.fd_equations.specs.Weights.{weight_by}
 use Rattle.fd_equations.proofs.weights.weights.Given as goal
 

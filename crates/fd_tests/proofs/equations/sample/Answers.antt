@@ -2,7 +2,7 @@ use Rattle.std.proofs.Common.{pos, negsuc, [], ◌∷◌, refl, sym, subst, arit
 use Rattle.std.proofs.lemmas.Int.{ints}
 use Rattle.std.proofs.lemmas.List.Elements.{All-cons, All-nil}
 use Rattle.fd_arith.specs.declared.terms.Term.{Term}
-use Rattle.fd_equations.specs.Conditions.{AreLinear, IsLinear}
+use Rattle.fd_pattern.specs.Conditions.{AreLinear, IsLinear}
 use Rattle.fd_tests.proofs.equations.sample.Goals as goal
 
 third : Term

@@ -1,6 +1,6 @@
 use Rattle.std.proofs.Common.{◌∙◌, ap, subst}
 use Rattle.std.proofs.lemmas.Result.{IfOk-weaker}
-use Rattle.fd_equations.specs.Conditions.{IsNetwork}
+use Rattle.fd_pattern.specs.Conditions.{IsNetwork}
 use Rattle.fd_equations.specs.Rounded.{constant_sum, list_of}
 use Rattle.fd_equations.proofs.Networks.{constants_small}
 use Rattle.fd_equations.proofs.network.Network.constants.Goals as goal

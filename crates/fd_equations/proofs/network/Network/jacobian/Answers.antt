@@ -3,7 +3,7 @@ use Rattle.std.proofs.lemmas.Result.{IfOk-weaker}
 use Rattle.fd_equations.specs.Amounts.{of_both}
 use Rattle.fd_equations.specs.Matrices.{IsMatrix, jacobian_amount}
 use Rattle.fd_equations.specs.PartLoads.{slopes_there}
-use Rattle.fd_equations.specs.Views.{NetworkView}
+use Rattle.fd_pattern.specs.Views.{NetworkView}
 use Rattle.fd_equations.proofs.network.Network.jacobian.Goals as goal
 
 pub returns : goal.returns

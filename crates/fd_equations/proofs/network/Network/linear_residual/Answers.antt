@@ -1,6 +1,6 @@
 use Rattle.std.proofs.Common.{◌≡◌, ◌∙◌, length, ap, sym, subst, rules}
-use Rattle.fd_equations.specs.Coefficients.{linear_entry}
-use Rattle.fd_equations.specs.Conditions.{IsNetwork}
+use Rattle.fd_pattern.specs.Coefficients.{linear_entry}
+use Rattle.fd_pattern.specs.Conditions.{IsNetwork}
 use Rattle.fd_equations.specs.Rounded.{constant_sum, products_added}
 use Rattle.fd_equations.proofs.Lists.{length-list_of, rewritten}
 use Rattle.fd_equations.proofs.Networks.{linear_is, linear_small}

@@ -1,5 +1,5 @@
 use Rattle.std.proofs.Common.{◌+◌, All, refl, subst, arith}
-use Rattle.fd_equations.specs.Conditions.{AreLinear, IsKnown, IsServed}
+use Rattle.fd_pattern.specs.Conditions.{AreLinear, IsKnown, IsServed}
 use Rattle.fd_equations.proofs.network.Network.new.Goals as goal
 
 pub invariant_of-result : goal.invariant_of-result

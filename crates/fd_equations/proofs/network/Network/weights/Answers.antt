@@ -1,8 +1,8 @@
 use Rattle.std.proofs.Common.{◌≡◌, ◌∙◌, ℕ, ◌+◌, ◌*◌, ℤ, List, length, ap, pos, sym, subst}
 use Rattle.std.proofs.lemmas.Result.{IfOk-weaker}
-use Rattle.fd_equations.specs.Conditions.{IsNetwork}
+use Rattle.fd_pattern.specs.Conditions.{IsNetwork}
 use Rattle.fd_equations.specs.Rounded.{list_of}
-use Rattle.fd_equations.specs.Views.{kind_in}
+use Rattle.fd_pattern.specs.Views.{kind_in}
 use Rattle.fd_equations.specs.Weights.{weight_by, weights_of}
 use Rattle.fd_equations.proofs.Networks.{weights_range}
 use Rattle.fd_equations.proofs.network.Network.weights.Goals as goal

@@ -1,7 +1,7 @@
 use Rattle.std.proofs.Common.{◌∙◌, ◌+◌, ap, arith}
 use Rattle.fd_equations.specs.declared.cells.Cell.{Cell}
 use Rattle.fd_equations.specs.Amounts.{RowsView}
-use Rattle.fd_equations.specs.Coefficients.{count_at}
+use Rattle.fd_pattern.specs.Coefficients.{count_at}
 use Rattle.fd_equations.specs.PartLoads.{slope_counts}
 use Rattle.fd_equations.proofs.Counting.{count_size, slopes_few}
 use Rattle.fd_equations.proofs.Holding.{read_in}

@@ -2,7 +2,7 @@ use Rattle.std.proofs.Common.{◌∙◌, ap, arith}
 use Rattle.std.proofs.lemmas.Int.{ints}
 use Rattle.fd_equations.specs.declared.cells.Cell.{Cell}
 use Rattle.fd_equations.specs.Amounts.{RowsView}
-use Rattle.fd_equations.specs.Coefficients.{linear_entry}
+use Rattle.fd_pattern.specs.Coefficients.{linear_entry}
 use Rattle.fd_equations.proofs.Holding.{read_in}
 use Rattle.fd_equations.proofs.sparse.Rows.entry.Goals as goal
 

@@ -1,10 +1,10 @@
 use Rattle.std.proofs.Common.{◌∙◌, All, subst, sym}
 use Rattle.std.specs.List.{Contains}
-use Rattle.fd_equations.specs.Conditions.{AreLinear}
-use Rattle.fd_equations.specs.PatternPlaces.{places_of}
-use Rattle.fd_equations.specs.Patterns.{IsInside}
-use Rattle.fd_equations.specs.Terminals.{IsConnected}
-use Rattle.fd_equations.proofs.Holding.{all_inside}
+use Rattle.fd_pattern.specs.Conditions.{AreLinear}
+use Rattle.fd_pattern.specs.PatternPlaces.{places_of}
+use Rattle.fd_pattern.specs.Patterns.{IsInside}
+use Rattle.fd_pattern.specs.Terminals.{IsConnected}
+use Rattle.fd_pattern.proofs.CallerLemmas.{all_inside}
 use Rattle.fd_equations.proofs.sparse.Rows.of.Goals as goal
 
 pub reaching-requires-clause-inside : goal.reaching-requires-clause-inside

@@ -1,6 +1,6 @@
 use Rattle.std.proofs.Common.{All, subst, sym}
 use Rattle.std.specs.List.{Contains}
-use Rattle.fd_equations.specs.Patterns.{PatternView}
+use Rattle.fd_pattern.specs.Patterns.{PatternView}
 use Rattle.fd_equations.proofs.sparse.Rows.reaching.Goals as goal
 
 pub returns-clause-places : goal.returns-clause-places

@@ -1,10 +1,10 @@
 use Rattle.std.proofs.Common.{◌≡◌, ◌∙◌, ◌<◌, ◌^◌, length, All, ap, subst, sym, rules}
 use Rattle.std.specs.List.{Contains}
 use Rattle.fd_equations.specs.Amounts.{AreCells, RowsView, of_rows}
-use Rattle.fd_equations.specs.Conditions.{AreLinear}
+use Rattle.fd_pattern.specs.Conditions.{AreLinear}
 use Rattle.fd_equations.specs.Holding.{AreRows}
-use Rattle.fd_equations.specs.PatternPlaces.{places_of}
-use Rattle.fd_equations.specs.Terminals.{IsConnected}
+use Rattle.fd_pattern.specs.PatternPlaces.{places_of}
+use Rattle.fd_pattern.specs.Terminals.{IsConnected}
 use Rattle.fd_equations.proofs.Holding.{held_rows}
 use Rattle.fd_equations.proofs.Lists.{rewritten}
 use Rattle.fd_equations.proofs.sparse.Rows.replace.Goals as goal

@@ -1,5 +1,0 @@
-use Rattle.fd_equations.proofs.Order.{IsSoFar}
-use Rattle.fd_equations.proofs.pattern.without_repeats.Given as goal
-
-abbrev pub invariant-loop-place : goal.invariant-loop-place
-invariant-loop-place l = IsSoFar l.places l.kept.items l.place-index
