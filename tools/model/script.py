@@ -174,7 +174,7 @@ def truth(value, grouped):
 def bus(text):
     parts = text.split('.')
     numbers = parts[1:]
-    bad = any(not re.match('[0-9]\Z', p) for p in numbers) or len(numbers) > 4
+    bad = any(not re.match(r'[0-9]\Z', p) for p in numbers) or len(numbers) > 4
     if bad or not re.match(r'[A-Za-z0-9_%-]+\Z', parts[0]):
         raise Refused('bad value')
     return parts[0].lower(), [int(p) for p in parts[1:]]

@@ -1,0 +1,1 @@
+"""What stands beside the program: scripts imported, reports as data, studies."""
