@@ -96,16 +96,11 @@ joined_same None at_a b at_b r h = refl
 
 done_same : (e : Element) (r : Reached) → is_done e r ≡ true → taken e r ≡ r
 done_same (the.Vsource v) r h = reached_before r v.bus1.name (source_nominal v) h
-done_same (the.Linecode l) r h = refl
 done_same (the.Line l) r h = joined_same l.bus1 None l.bus2 None r h
 done_same (the.Transformer t) r h =
     joined_same t.first.bus (Some (winding_nominal t.phases t.first)) t.second.bus
     (Some (winding_nominal t.phases t.second)) r h
-done_same (the.Capacitor k) r h = refl
-done_same (the.Load l) r h = refl
-done_same (the.RegControl k) r h = refl
-done_same (the.CapControl k) r h = refl
-done_same (the.Loadshape s) r h = refl
+done_same e r h = refl
 
 both_kept : (first second : Option Bus) (r s : Reached) → Grows r s → both first second r ≡ true
     → both first second s ≡ true
@@ -118,14 +113,9 @@ both_kept None b r s grown h = refl
 
 done_kept : (e : Element) (r s : Reached) → Grows r s → is_done e r ≡ true → is_done e s ≡ true
 done_kept (the.Vsource v) r s grown h = has_more r s v.bus1.name grown h
-done_kept (the.Linecode l) r s grown h = refl
 done_kept (the.Line l) r s grown h = both_kept l.bus1 l.bus2 r s grown h
 done_kept (the.Transformer t) r s grown h = both_kept t.first.bus t.second.bus r s grown h
-done_kept (the.Capacitor k) r s grown h = refl
-done_kept (the.Load l) r s grown h = refl
-done_kept (the.RegControl k) r s grown h = refl
-done_kept (the.CapControl k) r s grown h = refl
-done_kept (the.Loadshape x) r s grown h = refl
+done_kept e r s grown h = refl
 
 -- where one of two buses is reached, both are afterwards
 carried_both : (a b : List ℕ) (own : Option Nominal) (r : Reached)
@@ -163,14 +153,9 @@ joined_both None at_a b at_b r = inl refl
 -- an element that changes something is done
 once : (e : Element) (r : Reached) → (taken e r ≡ r) ⊎ (is_done e (taken e r) ≡ true)
 once (the.Vsource v) r = inr (has_reached r v.bus1.name (source_nominal v))
-once (the.Linecode l) r = inl refl
 once (the.Line l) r = joined_both l.bus1 None l.bus2 None r
 once (the.Transformer t) r = joined_both t.first.bus (Some (winding_nominal t.phases t.first)) t.second.bus (Some (winding_nominal t.phases t.second)) r
-once (the.Capacitor k) r = inl refl
-once (the.Load l) r = inl refl
-once (the.RegControl k) r = inl refl
-once (the.CapControl k) r = inl refl
-once (the.Loadshape s) r = inl refl
+once e r = inl refl
 
 -- ---- how many elements are done
 

@@ -44,14 +44,9 @@ joined_grows None at_a b at_b r = same r
 
 pub taken_grows : (e : Element) (r : Reached) → Grows r (taken e r)
 taken_grows (the.Vsource v) r = reach_grows (nominal_at r v.bus1.name) v.bus1.name (source_nominal v) r
-taken_grows (the.Linecode l) r = same r
 taken_grows (the.Line l) r = joined_grows l.bus1 None l.bus2 None r
 taken_grows (the.Transformer t) r = joined_grows t.first.bus (Some (winding_nominal t.phases t.first)) t.second.bus (Some (winding_nominal t.phases t.second)) r
-taken_grows (the.Capacitor k) r = same r
-taken_grows (the.Load l) r = same r
-taken_grows (the.RegControl k) r = same r
-taken_grows (the.CapControl k) r = same r
-taken_grows (the.Loadshape s) r = same r
+taken_grows e r = same r
 
 pub pass_grows : (es : Elements) (r : Reached) → Grows r (pass es r)
 pass_grows [] r = same r

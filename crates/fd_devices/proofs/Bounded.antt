@@ -27,7 +27,7 @@ use Rattle.fd_source.specs.declared.data.SourceData.{SourceData}
 use Rattle.fd_source.specs.Equations.{IsSource, constants_from, phase_constants, source_constants, source_list}
 use Rattle.fd_source.specs.Phasors.{cosine, cosines, steps_of, volts_im, volts_re}
 use Rattle.fd_source.proofs.CallerLemmas.{source_is}
-use Rattle.fd_exact.specs.Nearest.{near_most}
+use Rattle.fd_exact.specs.Nearest.{near_within}
 use Rattle.fd_load.specs.Current.{IsPast, power_sum}
 use Rattle.fd_load.proofs.CallerLemmas.{within_limit}
 use Rattle.fd_pattern.specs.Conditions.{HasMagnitude, IsAmong, IsKnown, IsServed}
@@ -62,10 +62,6 @@ line_settled m n size l at g first second branches w = record {
 
 -- ---- sources
 
-near_small : (z : ℤ) (d q : ℕ) → 0 < d → nat_abs z ≤ q * d → nat_abs (near_div z d) ≤ q
-near_small (pos a) d q h k = near_most a d q h k
-near_small (negsuc a) d q h k = let m = near_most (suc a) d q h k in omega (arith, ints)
-
 abbrev IsUnit : ℤ → Type 0
 IsUnit z = nat_abs z ≤ 10 ^ 15
 
@@ -94,7 +90,7 @@ volts_small v k h =
     let c = found_unit cosines (k % 12) all_units in
     let size : nat_abs v ≤ 2 * 10 ^ 12 = omega (arith, ints, h.least, h.most) in
     let m : nat_abs v * nat_abs (cosine k) ≤ 2 * 10 ^ 12 * 10 ^ 15 = mul-le-mul size c in
-    near_small (v *ℤ cosine k) (10 ^ 15) (2 * 10 ^ 12) (lit< tt) (subst (λ a. a ≤ 2 * 10 ^ 12 * 10 ^ 15) (sym (unsigned_abs-mul v (cosine k))) m)
+    near_within (v *ℤ cosine k) (10 ^ 15) (2 * 10 ^ 12) (lit< tt) (subst (λ a. a ≤ 2 * 10 ^ 12 * 10 ^ 15) (sym (unsigned_abs-mul v (cosine k))) m)
 
 abbrev IsSmallVoltage : ℤ → Type 0
 IsSmallVoltage z = nat_abs z ≤ 2 * 10 ^ 12
@@ -214,7 +210,7 @@ module _ (m n size : ℕ) where
       (λ u i. record { first = among_more m n u.first h i.nodes.first; second = among_more m n u.second h i.nodes.second }) us a
 
 -- the square of a nominal voltage
-square_between : (z : ℤ) → pos (5 * 10 ^ 6) ≤ℤ z → z ≤ℤ pos (10 ^ 12) → (pos 0 <ℤ (z *ℤ z)) × ((z *ℤ z) ≤ℤ pos (10 ^ 32))
+pub square_between : (z : ℤ) → pos (5 * 10 ^ 6) ≤ℤ z → z ≤ℤ pos (10 ^ 12) → (pos 0 <ℤ (z *ℤ z)) × ((z *ℤ z) ≤ℤ pos (10 ^ 32))
 square_between (pos m) h k =
     let least : 1 ≤ m = omega (arith, ints, h) in
     let most : m ≤ 10 ^ 12 = omega (arith, ints, k) in

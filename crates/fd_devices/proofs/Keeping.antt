@@ -41,15 +41,10 @@ use Rattle.fd_devices.specs.Sound.{IsSited}
 -- the device of an element without settings is the same at all
 pub same_device : (layout : LayoutView) (hertz place : ℕ) (e : Element) (s t : Settings) → is_moved e ≡ false
     → device_of layout hertz place e s ≡ device_of layout hertz place e t
-same_device layout hertz place (the.Vsource v) s t h = refl
-same_device layout hertz place (the.Line l) s t h = refl
-same_device layout hertz place (the.Linecode c) s t h = refl
 same_device layout hertz place (the.Transformer x) s t h = cc
 same_device layout hertz place (the.Capacitor c) s t h = cc
 same_device layout hertz place (the.Load l) s t h = cc
-same_device layout hertz place (the.RegControl c) s t h = refl
-same_device layout hertz place (the.CapControl c) s t h = refl
-same_device layout hertz place (the.Loadshape c) s t h = refl
+same_device layout hertz place e s t h = refl
 
 -- ---- places
 
@@ -69,31 +64,19 @@ same_listed f g h (suc n) = listed_more f n ∙ (λ i. same_listed f g h n i ++ 
 -- a device reaches the same places at all settings
 pub same_places : (layout : LayoutView) (hertz place : ℕ) (e : Element) (s t : Settings)
     → device_places (device_of layout hertz place e s) ≡ device_places (device_of layout hertz place e t)
-same_places layout hertz place (the.Vsource v) s t = refl
-same_places layout hertz place (the.Line l) s t = refl
-same_places layout hertz place (the.Linecode c) s t = refl
-same_places layout hertz place (the.Transformer x) s t = refl
-same_places layout hertz place (the.Capacitor c) s t = refl
 same_places layout hertz place (the.Load l) s t =
     let ns = (ends_of layout place (the.Load l)).first in
     let m = first_magnitude layout place in
     same_listed (load_at l ns m s.powers) (load_at l ns m t.powers) (λ k. refl) l.phases
-same_places layout hertz place (the.RegControl c) s t = refl
-same_places layout hertz place (the.CapControl c) s t = refl
-same_places layout hertz place (the.Loadshape c) s t = refl
+same_places layout hertz place e s t = refl
 
 reached : (layout : LayoutView) (hertz place : ℕ) (e : Element) (s : Settings)
     → reach_of e (ends_of layout place e) (device_stamp (device_of layout hertz place e s))
     ≡ device_places (device_of layout hertz place e s)
-reached layout hertz place (the.Vsource v) s = refl
-reached layout hertz place (the.Line l) s = refl
-reached layout hertz place (the.Linecode c) s = refl
 reached layout hertz place (the.Transformer x) s = refl
 reached layout hertz place (the.Capacitor c) s = refl
 reached layout hertz place (the.Load l) s = refl
-reached layout hertz place (the.RegControl c) s = refl
-reached layout hertz place (the.CapControl c) s = refl
-reached layout hertz place (the.Loadshape c) s = refl
+reached layout hertz place e s = refl
 
 -- what is read off the ends and the stamp of an element is what its device reaches
 pub reach_is : (layout : LayoutView) (hertz place : ℕ) (e : Element) (s : Settings) (at : Ends) (a : StampView)
@@ -159,7 +142,6 @@ pub places_inside : (layout : LayoutView) (hertz place : ℕ) (e : Element) (s :
     → All (IsInside (size_of layout)) (device_places (device_of layout hertz place e s))
 places_inside layout hertz place (the.Vsource v) s at h = terms_inside (size_of layout) (complex_count layout) _ (omega arith) h.bounded.terms.inside
 places_inside layout hertz place (the.Line l) s at h = terms_inside (size_of layout) (complex_count layout) _ (omega arith) h.bounded.terms.inside
-places_inside layout hertz place (the.Linecode c) s at h = All-nil (IsInside (size_of layout))
 places_inside layout hertz place (the.Transformer x) s at h =
     let size = size_of layout in
     let n = complex_count layout in
@@ -180,9 +162,7 @@ places_inside layout hertz place (the.Capacitor c) s at h =
     cross_inside size (unknowns_of ends.first) (unknowns_of ends.first) one one
 places_inside layout hertz place (the.Load l) s at h =
     loads_inside (size_of layout) (length layout.nodes) (complex_count layout) _ (omega arith) h.bounded.loads
-places_inside layout hertz place (the.RegControl c) s at h = All-nil (IsInside (size_of layout))
-places_inside layout hertz place (the.CapControl c) s at h = All-nil (IsInside (size_of layout))
-places_inside layout hertz place (the.Loadshape c) s at h = All-nil (IsInside (size_of layout))
+places_inside layout hertz place e s at h = All-nil (IsInside (size_of layout))
 
 -- ---- small numbers
 
@@ -198,18 +178,12 @@ small_ends : (layout : LayoutView) (place : ℕ) (e : Element) → complex_count
     → IsSited (length layout.nodes) (complex_count layout) (size_of layout) (first_magnitude layout place)
     (ends_of layout place e) e
     → AreSmallEnds e (ends_of layout place e)
-small_ends layout place (the.Vsource v) few h = tt
-small_ends layout place (the.Line l) few h = tt
-small_ends layout place (the.Linecode c) few h = tt
 small_ends layout place (the.Transformer x) few h =
     let b = h.2.below in
     let ends = ends_of layout place (the.Transformer x) in
     ((all_small (length layout.nodes) ends.first (omega arith) h.0.below, all_small (length layout.nodes) ends.second (omega arith) h.1.below), omega arith)
 small_ends layout place (the.Capacitor c) few h = all_small (length layout.nodes) (ends_of layout place (the.Capacitor c)).first (omega arith) h.below
-small_ends layout place (the.Load l) few h = tt
-small_ends layout place (the.RegControl c) few h = tt
-small_ends layout place (the.CapControl c) few h = tt
-small_ends layout place (the.Loadshape c) few h = tt
+small_ends layout place e few h = tt
 
 pub small_ends_of : (layout : LayoutView) (place : ℕ) (e : Element) (at : Ends) → complex_count layout ≤ most_complex
     → IsSited (length layout.nodes) (complex_count layout) (size_of layout) (first_magnitude layout place)
@@ -232,17 +206,12 @@ few_branches (the.Vsource v) h = few v.phases h.phases
     few n (inl e) = omega arith
     few n (inr e) = omega arith
 few_branches (the.Line l) h = let p = h.phases in omega (arith, p.least, p.most)
-few_branches (the.Linecode c) h = omega arith
 few_branches (the.Transformer x) h = few x.phases h.phases
   where
     few : (n : ℕ) → IsOneOf (1 ∷ 3 ∷ []) n → n ≤ 3
     few n (inl e) = omega arith
     few n (inr e) = omega arith
-few_branches (the.Capacitor c) h = omega arith
-few_branches (the.Load l) h = omega arith
-few_branches (the.RegControl c) h = omega arith
-few_branches (the.CapControl c) h = omega arith
-few_branches (the.Loadshape c) h = omega arith
+few_branches e h = omega arith
 
 -- ---- few
 
@@ -255,27 +224,19 @@ fixed_few layout hertz place (the.Vsource v) s h k =
     let c = k.bounded.few_constants in
     record { terms = omega arith; loads = omega arith; constants = omega arith }
 fixed_few layout hertz place (the.Line l) s h k = let t = k.bounded.terms.few in record { terms = omega arith; loads = omega arith; constants = omega arith }
-fixed_few layout hertz place (the.Linecode c) s h k = record { terms = omega arith; loads = omega arith; constants = omega arith }
 fixed_few layout hertz place (the.Transformer x) s h k = cc
 fixed_few layout hertz place (the.Capacitor c) s h k = cc
 fixed_few layout hertz place (the.Load l) s h k = cc
-fixed_few layout hertz place (the.RegControl c) s h k = record { terms = omega arith; loads = omega arith; constants = omega arith }
-fixed_few layout hertz place (the.CapControl c) s h k = record { terms = omega arith; loads = omega arith; constants = omega arith }
-fixed_few layout hertz place (the.Loadshape c) s h k = record { terms = omega arith; loads = omega arith; constants = omega arith }
+fixed_few layout hertz place e s h k = record { terms = omega arith; loads = omega arith; constants = omega arith }
 
 -- ---- what is kept, written again
 
 pub unmoved : (e : Element) → ((t : Transformer) → ¬ (e ≡ the.Transformer t))
     → ((k : Capacitor) → ¬ (e ≡ the.Capacitor k)) → ((l : Load) → ¬ (e ≡ the.Load l)) → is_moved e ≡ false
-unmoved (the.Vsource v) a b c = refl
-unmoved (the.Line l) a b c = refl
-unmoved (the.Linecode k) a b c = refl
 unmoved (the.Transformer t) a b c = absurd (a t refl)
 unmoved (the.Capacitor k) a b c = absurd (b k refl)
 unmoved (the.Load l) a b c = absurd (c l refl)
-unmoved (the.RegControl k) a b c = refl
-unmoved (the.CapControl k) a b c = refl
-unmoved (the.Loadshape k) a b c = refl
+unmoved e a b c = refl
 
 -- a kept stamp is small
 pub record IsSmallStamp (s : Stamp) : Type 0 where

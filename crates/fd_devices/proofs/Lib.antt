@@ -8,5 +8,9 @@ pub mod CallerLemmas
 pub mod Collecting
 pub mod Steps
 pub mod Settling
+pub mod Sides
+pub mod Siting
+pub mod Within
+pub mod OneKind
 pub mod Reach
 pub mod Keeping

@@ -85,7 +85,7 @@ phases_settled load ns magnitude powers range usable fits m n size among side pl
 -- ---- elements at their places
 
 -- a side at nodes is among the complex unknowns, of which the nodes come first
-side_among : (m n count : ℕ) (ns : List NodeAt) → m ≤ n → IsSideOf m count ns → IsSideOf n count ns
+pub side_among : (m n count : ℕ) (ns : List NodeAt) → m ≤ n → IsSideOf m count ns → IsSideOf n count ns
 side_among m n count ns h s = record { count = s.count; below = All-weaker (IsAmong m) (IsAmong n) (λ node k. among_more m n node h k) ns s.below }
 
 module _ (layout : LayoutView) (hertz place : ℕ) (e : Element) (s : Settings) (at : Ends)
@@ -193,11 +193,8 @@ pub other_here : (layout : LayoutView) (hertz place : ℕ) (s : Settings) (e : E
     → IsSettled (length layout.nodes) (complex_count layout) (size_of layout) (branch_phases e)
     (device_of layout hertz place e s)
 other_here layout hertz place s (the.Vsource v) a b c d f = absurd (a v refl)
-other_here layout hertz place s (the.Linecode k) a b c d f = other_settled (length layout.nodes) (complex_count layout) (size_of layout)
 other_here layout hertz place s (the.Line l) a b c d f = absurd (b l refl)
 other_here layout hertz place s (the.Transformer t) a b c d f = absurd (c t refl)
 other_here layout hertz place s (the.Capacitor k) a b c d f = absurd (d k refl)
 other_here layout hertz place s (the.Load l) a b c d f = absurd (f l refl)
-other_here layout hertz place s (the.RegControl k) a b c d f = other_settled (length layout.nodes) (complex_count layout) (size_of layout)
-other_here layout hertz place s (the.CapControl k) a b c d f = other_settled (length layout.nodes) (complex_count layout) (size_of layout)
-other_here layout hertz place s (the.Loadshape k) a b c d f = other_settled (length layout.nodes) (complex_count layout) (size_of layout)
+other_here layout hertz place s e a b c d f = other_settled (length layout.nodes) (complex_count layout) (size_of layout)

@@ -1,5 +1,6 @@
 pub mod Devices
 pub mod Data
+pub mod Kinds
 pub mod Settings
 pub mod Scripted
 pub mod Sound

@@ -3,10 +3,11 @@ use Rattle.std.specs.Prelude.{◌≡◌, ℕ, ◌≤◌, Bool, List, length, tak
 use Rattle.fd_exact.specs.Sums.{list_n}
 use Rattle.fd_arith.specs.declared.terms.TapPair.{TapPair}
 use Rattle.fd_elements.specs.declared.powers.LoadPower.{LoadPower}
+use Rattle.dss_model.specs.declared.load.Load.{Load}
 use Rattle.dss_model.specs.declared.element.Element.{Element}
-use Rattle.dss_model.specs.declared.element.Element.TheVariants as the
 use Rattle.dss_layout.specs.Layout.{Elements}
 use Rattle.fd_xfmr.specs.Leakage.{AreTaps}
+use Rattle.fd_devices.specs.Kinds.{banks_in, loads_in, transformers_in}
 use Rattle.fd_devices.specs.declared.settings.SettingSlices.{SettingSlices}
 use Rattle.fd_devices.specs.declared.settings.Positions.{Positions}
 use Rattle.fd_devices.specs.declared.settings.Powers.{Powers}
@@ -27,16 +28,13 @@ settings_in s = record { taps = s.taps.now; closed = s.closed.now; powers = s.po
 -- ---- how many of each kind an element has
 
 abbrev pub tap_count : Element → ℕ
-tap_count (the.Transformer t) = 1
-tap_count e = 0
+tap_count e = length (transformers_in e)
 
 abbrev pub bank_count : Element → ℕ
-bank_count (the.Capacitor c) = 1
-bank_count e = 0
+bank_count e = length (banks_in e)
 
 abbrev pub power_count : Element → ℕ
-power_count (the.Load l) = l.phases
-power_count e = 0
+power_count e = list_n (λ (l : Load). l.phases) (loads_in e)
 
 -- there are as many of each kind as the elements have
 pub record AreSettings (elements : Elements) (s : Settings) : Type 0 where

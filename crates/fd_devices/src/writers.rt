@@ -18,7 +18,7 @@ use dss_model::{Capacitor, Load, Transformer};
 use fd_arith::{Ends, Nodes, TapPair, TermFault};
 use fd_cap::{CapData, cap_draw, cap_terms_into};
 use fd_elements::LoadPower;
-use fd_system::{Stamp, all_within};
+use fd_system::Stamp;
 use fd_xfmr::{XfmrData, xfmr_terms_into};
 
 /// Puts what a transformer adds in place of what a stamp with room for 64 contributions has. Takes no memory. Range
@@ -114,8 +114,8 @@ fn capacitor_data_into(
 
 /// Puts what a load adds, with the powers of its phases, in place of what a stamp with room for 48 contributions and
 /// three part loads has; the first magnitude of a load of constant current stands at the place `magnitude`. Takes no
-/// memory. Range alone is the error, exactly where a contribution is past 2^54 in units of 2^-40 or a phase past its
-/// limit.
+/// memory. Range alone is the error, exactly where a phase is past its limit; no contribution is past 2^54 in units of
+/// 2^-40 where none is.
 pub fn load_into(
     into: &mut Stamp,
     load: &Load,
@@ -163,9 +163,6 @@ fn write_loads(into: &mut Stamp) -> Result<(), TermFault>
         return Err(TermFault::Range);
     }
     linear_terms_into(&into.loads, &mut into.terms);
-    if !all_within(&into.terms) {
-        return Err(TermFault::Range);
-    }
     into.draw = total_draw(&into.loads);
     Ok(())
 }

@@ -98,19 +98,12 @@ module _ (f : ℕ → LoadAt) (first : ℕ) where
 element_in : (layout : LayoutView) (hertz place first : ℕ) (e : Element) (s : Settings)
     → first_magnitude layout place ≡ first
     → StandIn first (first + magnitude_phases e) (device_stamp (device_of layout hertz place e s)).loads
-element_in layout hertz place first (the.Vsource v) s h = no_loads first (first + 0)
-element_in layout hertz place first (the.Line l) s h = no_loads first (first + 0)
-element_in layout hertz place first (the.Transformer t) s h = no_loads first (first + 0)
-element_in layout hertz place first (the.Capacitor c) s h = no_loads first (first + 0)
 element_in layout hertz place first (the.Load l) s h =
     subst (λ m.
     StandIn m (m + magnitude_phases (the.Load l)) (device_stamp (device_of layout hertz place (the.Load l) s)).loads)
     h (phases_in (load_at l (ends_of layout place (the.Load l)).first (first_magnitude layout place) s.powers)
     (first_magnitude layout place) (has_magnitude l.model) (λ k. refl) l.phases)
-element_in layout hertz place first (the.Linecode c) s h = no_loads first (first + 0)
-element_in layout hertz place first (the.RegControl c) s h = no_loads first (first + 0)
-element_in layout hertz place first (the.CapControl c) s h = no_loads first (first + 0)
-element_in layout hertz place first (the.Loadshape c) s h = no_loads first (first + 0)
+element_in layout hertz place first e s h = no_loads first (first + 0)
 
 elements_in : (layout : LayoutView) (hertz place first : ℕ) (es : Elements) (s : Settings)
     → AreMagnitudesFrom layout first place es

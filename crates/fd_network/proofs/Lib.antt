@@ -7,7 +7,6 @@ pub mod Sums
 pub mod Taking
 pub mod Walking
 pub mod ReadyNodes
-pub mod ReadySides
 pub mod ReadyPlaces
 pub mod Parting
 pub mod Ready

@@ -15,9 +15,9 @@ use Rattle.dss_ready.specs.Ready.{HasPassed}
 use Rattle.dss_ready.proofs.CallerLemmas.{passed}
 use Rattle.fd_devices.specs.Sound.{AreValuesSound, IsSound}
 use Rattle.fd_devices.specs.Standing.{IsReadyAt}
+use Rattle.fd_devices.proofs.CallerLemmas.{StandsAmong, side_counts, sited}
 use Rattle.fd_network.specs.Places.{AreReadyFrom}
-use Rattle.fd_network.proofs.ReadyPlaces.{StandsAmong, sited, stands_among}
-use Rattle.fd_network.proofs.ReadySides.{side_counts}
+use Rattle.fd_network.proofs.ReadyPlaces.{stands_among}
 
 -- ---- limits
 
@@ -82,13 +82,7 @@ stands_at elements place d within in_range sound =
 values_sound : (elements before : Elements) (name : ElementName) (e : Element) → AreValuesFit elements before name e → AreValuesSound e
 values_sound elements before name (the.Vsource v) fit = fit.below
 values_sound elements before name (the.Line l) fit = (fit.matrices, fit.impedance)
-values_sound elements before name (the.Linecode c) fit = tt
-values_sound elements before name (the.Transformer t) fit = tt
-values_sound elements before name (the.Capacitor c) fit = tt
-values_sound elements before name (the.Load l) fit = tt
-values_sound elements before name (the.RegControl c) fit = tt
-values_sound elements before name (the.CapControl c) fit = tt
-values_sound elements before name (the.Loadshape s) fit = tt
+values_sound elements before name e fit = tt
 
 module _ (circuit : CircuitView) (has_passed : HasPassed circuit) where
   -- the element at a place is sound

@@ -81,8 +81,6 @@ pub fn assemble(
     ensures agrees { OnOk result (AgreesWith (parts_network layout.now parts.new).stamp
         (parts_of_all (all_devices layout.now hertz elements.now.entries settings.now))) }
     ensures in_range { OnOk result (AreInRange (all_devices layout.now hertz elements.now.entries settings.now)) }
-    ensures no_fault { OnOk result (first_out_of_range (all_devices layout.now hertz elements.now.entries settings.now)
-        ≡ None) }
     ensures fault { IfErr result
         (λ f. first_out_of_range (all_devices layout.now hertz elements.now.entries settings.now) ≡ Some f.0) }
     ensures as_before { IfErr result (λ f. IsAsBefore parts.old parts.new) }

@@ -254,7 +254,6 @@ fn assembled(
         (circuit_parts circuit.now (settings_of at.now powers.now))) }
     ensures extents { IfOk result (λ a. a.parts.extents.items ≡ extents_of (devices_of circuit.now (settings_of at.now powers.now))) }
     ensures in_range { IfOk result (λ _. AreInRange (devices_of circuit.now (settings_of at.now powers.now))) }
-    ensures no_blame { IfOk result (λ _. range_blame circuit.now.elements (devices_of circuit.now (settings_of at.now powers.now)) ≡ None) }
     ensures fault { IfErr result (λ f. IsFaultOf (range_blame circuit.now.elements (devices_of circuit.now (settings_of at.now powers.now))) f) }
     ensures size { IfOk result (λ a. a.parts.rows.size ≡ size_of layout.now) }
     ensures kept { IfOk result (λ a. AreKept (layout_of circuit.now.elements) circuit.now.options.defaultbasefrequency circuit.now.elements a.kept.items) }
@@ -332,7 +331,6 @@ fn fill(
     ensures extents { IfOk result (λ _. parts.new.extents.items
         ≡ extents_of (devices_of circuit.now (settings_of at.now powers.now))) }
     ensures in_range { IfOk result (λ _. AreInRange (devices_of circuit.now (settings_of at.now powers.now))) }
-    ensures no_blame { IfOk result (λ _. range_blame circuit.now.elements (devices_of circuit.now (settings_of at.now powers.now)) ≡ None) }
     ensures fault { IfErr result (λ f. IsFaultOf (range_blame circuit.now.elements (devices_of circuit.now (settings_of at.now powers.now))) f) }
     ensures ok { AreInRange (devices_of circuit.now (settings_of at.now powers.now)) → IsOk result }
     ensures as_before { IfErr result (λ f. IsAsBefore parts.old parts.new) }

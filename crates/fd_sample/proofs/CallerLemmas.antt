@@ -5,7 +5,6 @@ use Rattle.fd_queue.specs.Decisions.{Decision}
 use Rattle.fd_queue.specs.Verdicts.{decision}
 use Rattle.fd_queue.specs.declared.verdict.Verdict.{Verdict}
 use Rattle.fd_queue.specs.declared.verdict.Verdict.TheVariants as verdict
-use Rattle.fd_sample.specs.declared.probe.Probe.TheVariants as probe
 use Rattle.fd_sample.specs.Circuits.{ProbesLaw}
 use Rattle.fd_sample.specs.Decided.{SampleLaw, sample_of}
 use Rattle.fd_sample.specs.Roots.{root_down}

@@ -25,6 +25,7 @@ use Rattle.dss_ready.specs.Passed.{AreValuesFit}
 use Rattle.dss_ready.specs.Ready.{HasPassed}
 use Rattle.dss_ready.proofs.CallerLemmas.{passed}
 use Rattle.fd_devices.specs.Settings.{bank_count, tap_count}
+use Rattle.fd_devices.proofs.CallerLemmas.{all_at}
 use Rattle.fd_queue.specs.Controls.{Positions}
 use Rattle.fd_sample.specs.declared.probe.CapProbe.{CapProbe}
 use Rattle.fd_sample.specs.declared.probe.Probe.{Probe}
@@ -34,7 +35,7 @@ use Rattle.fd_sample.specs.Circuits.{AreApart, AreProbes, HasRange, HasTimes, Is
 use Rattle.fd_sample.specs.Probes.{HasDevice, IsProbe}
 use Rattle.fd_sample.specs.Scripted.{winding_of}
 use Rattle.fd_sample.proofs.Fitting.{cap_fit, reg_fit}
-use Rattle.fd_sample.proofs.Listed.{all_at, all_listed, few_listed, listed_next, none_at, pairs_listed, slice_get_take}
+use Rattle.fd_sample.proofs.Listed.{all_listed, few_listed, listed_next, none_at, pairs_listed, slice_get_take}
 use Rattle.fd_sample.proofs.Named.{bank_below, bank_placed, by_kind, one_place, one_transformer_place, placed, probe_of, transformer_below, transformer_placed}
 use Rattle.fd_sample.proofs.Standing.{capcontrol_in, entry_of, regcontrol_in}
 

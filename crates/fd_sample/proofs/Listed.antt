@@ -4,18 +4,15 @@ use Rattle.std.specs.Prelude.{All, IfSome}
 use Rattle.std.specs.List.{cons_option, filter_map, list_any}
 use Rattle.std.specs.Option.{option_to_list}
 use Rattle.std.proofs.lemmas.Bool.{or_parts}
-use Rattle.std.proofs.lemmas.List.{take-append-drop, take-take, take_more}
+use Rattle.std.proofs.lemmas.List.{take-append-drop, take-take}
 use Rattle.std.proofs.lemmas.List.Elements.{All-cons, All-from_recursion, All-nil, filter_map-append, recursion_from_All}
-use Rattle.std.proofs.lemmas.Option.{get_or_from_slice_get, slice_get_within}
 use Rattle.fd_exact.specs.Sums.{list_n}
 use Rattle.fd_exact.specs.SumLaws.{list_n-append}
+use Rattle.dss_layout.proofs.CallerLemmas.{take-more}
+use Rattle.fd_devices.proofs.CallerLemmas.{all_at}
 use Rattle.fd_queue.specs.Queue.{InPairs}
 
 -- ---- elements by their places
-
--- what holds of all holds of the element at a place
-pub all_at : {A : Type 0} (P : A → Type 0) (xs : List A) (k : ℕ) (x : A) → All P xs → slice_get xs k ≡ Some x → P x
-all_at P xs k x h e = subst P (get_or_from_slice_get xs k x x e) (h k x (slice_get_within xs k x e))
 
 -- the elements before a place
 pub slice_get_take : {A : Type 0} (xs : List A) (n k : ℕ) → k < n → slice_get (take n xs) k ≡ slice_get xs k
@@ -23,11 +20,6 @@ slice_get_take xs zero k h = absurd (omega arith)
 slice_get_take [] (suc n) k h = refl
 slice_get_take (x ∷ xs) (suc n) zero h = refl
 slice_get_take (x ∷ xs) (suc n) (suc k) h = slice_get_take xs n k (omega arith)
-
--- one element more
-take_place : {A : Type 0} (xs : List A) (k : ℕ) (x : A) → slice_get xs k ≡ Some x
-    → take (k + 1) xs ≡ take k xs ++ x ∷ []
-take_place xs k x h = take_more xs k x (slice_get_within xs k x h) ∙ ap (λ y. take k xs ++ y ∷ []) (get_or_from_slice_get xs k x x h)
 
 -- a test that no element passes
 pub none_at : {A : Type 0} (p : A → Bool) (xs : List A) (k : ℕ) (x : A) → list_any p xs ≡ false
@@ -56,7 +48,7 @@ own_listed (Some b) = refl
 pub listed_next : {A B : Type 0} (g : A → Option B) (xs : List A) (k : ℕ) (x : A) → slice_get xs k ≡ Some x →
     filter_map g (take (k + 1) xs) ≡ filter_map g (take k xs) ++ option_to_list (g x)
 listed_next g xs k x h =
-    ap (filter_map g) (take_place xs k x h) ∙ filter_map-append g (take k xs) (x ∷ []) ∙ ap (λ r. filter_map g (take k xs) ++ r) (own_listed (g x))
+    ap (filter_map g) (take-more xs k x h) ∙ filter_map-append g (take k xs) (x ∷ []) ∙ ap (λ r. filter_map g (take k xs) ++ r) (own_listed (g x))
 
 first_of_all : {B : Type 0} (P : B → Type 0) (o : Option B) (ys : List B) → IfSome o P → All P ys
     → All P (cons_option o ys)

@@ -22,12 +22,13 @@ use Rattle.dss_circuit.specs.WellFormed.{IsEntry}
 use Rattle.dss_layout.specs.Layout.{Elements}
 use Rattle.dss_circuit.specs.Lookups.{element_given}
 use Rattle.fd_devices.specs.Settings.{bank_count, tap_count}
+use Rattle.fd_devices.proofs.CallerLemmas.{all_at, one_bank, one_transformer}
 use Rattle.fd_sample.specs.declared.probe.CapProbe.{CapProbe}
 use Rattle.fd_sample.specs.declared.probe.Probe.{Probe}
 use Rattle.fd_sample.specs.declared.probe.Probe.TheVariants as probe
 use Rattle.fd_sample.specs.declared.probe.RegProbe.{RegProbe}
 use Rattle.fd_sample.specs.Circuits.{IsCapProbeIn, IsProbeOf, IsRegProbeIn, banks_before, cap_probe_at, cap_probe_in, element_at, line_in, place_given, probe_in, reg_probe_at, reg_probe_in, transformer_in, transformers_before}
-use Rattle.fd_sample.proofs.Listed.{all_at, front_least, fronts_in_order}
+use Rattle.fd_sample.proofs.Listed.{front_least, fronts_in_order}
 use Rattle.fd_sample.proofs.Places.{count_next}
 use Rattle.fd_sample.proofs.Standing.{line_back, transformer_back}
 
@@ -95,28 +96,6 @@ pub found_at : (es : Elements) (kind : Class) (given : Option (List ℕ)) (place
 found_at es kind given place keys h =
     let own = placed es kind given place keys h in
     ap (option_map (λ (e : ElementName × Element). e.1)) own.there ∙ sym own.found
-
-one_bank : (e : Element) → class.Capacitor ≡ class_of e → bank_count e ≡ 1
-one_bank (the.Capacitor c) h = refl
-one_bank (the.Vsource v) h = absurd (cc)
-one_bank (the.Linecode c) h = absurd (cc)
-one_bank (the.Line l) h = absurd (cc)
-one_bank (the.Transformer t) h = absurd (cc)
-one_bank (the.Load l) h = absurd (cc)
-one_bank (the.RegControl c) h = absurd (cc)
-one_bank (the.CapControl c) h = absurd (cc)
-one_bank (the.Loadshape s) h = absurd (cc)
-
-one_transformer : (e : Element) → class.Transformer ≡ class_of e → tap_count e ≡ 1
-one_transformer (the.Transformer t) h = refl
-one_transformer (the.Vsource v) h = absurd (cc)
-one_transformer (the.Linecode c) h = absurd (cc)
-one_transformer (the.Line l) h = absurd (cc)
-one_transformer (the.Capacitor c) h = absurd (cc)
-one_transformer (the.Load l) h = absurd (cc)
-one_transformer (the.RegControl c) h = absurd (cc)
-one_transformer (the.CapControl c) h = absurd (cc)
-one_transformer (the.Loadshape s) h = absurd (cc)
 
 pub transformer_placed : (es : Elements) (given : Option (List ℕ)) (place : ℕ) (p : IsPlaced es class.Transformer given place)
     → tap_count p.entry.1 ≡ 1
@@ -246,20 +225,8 @@ probe_of es (the.RegControl control) None h = absurd h
 probe_of es (the.CapControl control) (Some (probe.Bank p)) h = ap (option_map probe.Bank) (cap_forth es control p h)
 probe_of es (the.CapControl control) (Some (probe.Regulator p)) h = absurd h
 probe_of es (the.CapControl control) None h = absurd h
-probe_of es (the.Vsource v) None h = refl
-probe_of es (the.Vsource v) (Some p) h = absurd h
-probe_of es (the.Linecode c) None h = refl
-probe_of es (the.Linecode c) (Some p) h = absurd h
-probe_of es (the.Line l) None h = refl
-probe_of es (the.Line l) (Some p) h = absurd h
-probe_of es (the.Transformer t) None h = refl
-probe_of es (the.Transformer t) (Some p) h = absurd h
-probe_of es (the.Capacitor c) None h = refl
-probe_of es (the.Capacitor c) (Some p) h = absurd h
-probe_of es (the.Load l) None h = refl
-probe_of es (the.Load l) (Some p) h = absurd h
-probe_of es (the.Loadshape s) None h = refl
-probe_of es (the.Loadshape s) (Some p) h = absurd h
+probe_of es e None h = refl
+probe_of es e (Some p) h = absurd h
 
 -- what holds of the probe of each kind of control holds of an element's
 module _ (es : Elements) (P : Probe → Type 0) where
@@ -278,10 +245,4 @@ module _ (es : Elements) (P : Probe → Type 0) where
       ((control : CapControl) (p : CapProbe) → e ≡ the.CapControl control → IsCapProbeIn es control p → P (probe.Bank p)) → IfSome (probe_in es e) P
   by_kind (the.RegControl control) f g = some_regulator control (reg_probe_in es control) refl (λ p r. f control p refl r)
   by_kind (the.CapControl control) f g = some_bank control (cap_probe_in es control) refl (λ p r. g control p refl r)
-  by_kind (the.Vsource v) f g = tt
-  by_kind (the.Linecode c) f g = tt
-  by_kind (the.Line l) f g = tt
-  by_kind (the.Transformer t) f g = tt
-  by_kind (the.Capacitor c) f g = tt
-  by_kind (the.Load l) f g = tt
-  by_kind (the.Loadshape s) f g = tt
+  by_kind e f g = tt

@@ -1,15 +1,13 @@
 -- Places of elements in order.
-use Rattle.std.proofs.Common.{◌≡◌, ℕ, zero, suc, ◌+◌, ◌++◌, ◌<◌, List, [], ◌∷◌, length, map, take, drop, slice_get, slice_index, Option, Some, None, sym, ap, ◌∙◌, add-one, append_assoc, zero-add, arith}
+use Rattle.std.proofs.Common.{◌≡◌, ℕ, zero, suc, ◌+◌, ◌++◌, ◌<◌, List, [], ◌∷◌, length, map, take, drop, slice_get, slice_index, Option, Some, None, sym, ap, ◌∙◌, append_assoc, zero-add, arith}
 use Rattle.std.specs.Prelude.{IfSome}
-use Rattle.std.proofs.Math.Seq.{take-suc}
-use Rattle.std.proofs.lemmas.List.{drop_more}
-use Rattle.std.proofs.lemmas.Option.{slice_get-map, slice_get_within, get_or_from_slice_get}
+use Rattle.std.proofs.lemmas.Option.{slice_get-map}
 use Rattle.fd_exact.specs.Sums.{list_n}
-use Rattle.fd_exact.specs.SumLaws.{list_n-append}
 use Rattle.dss_model.specs.declared.element.Element.{Element}
 use Rattle.dss_model.specs.declared.names.ElementName.{ElementName}
 use Rattle.dss_layout.specs.Layout.{Elements, sums_before}
-use Rattle.dss_layout.proofs.CallerLemmas.{length-sums_before}
+use Rattle.dss_layout.proofs.CallerLemmas.{drop-more, length-sums_before, take-more}
+use Rattle.fd_devices.proofs.CallerLemmas.{list_n-more}
 use Rattle.fd_sample.specs.Circuits.{element_at}
 
 pub there_by : (o : Option ℕ) (es : Elements) (v w : Option Element) → v ≡ w
@@ -24,11 +22,10 @@ pub sums_next : (f : Element → ℕ) (es : Elements) (k s n : ℕ) (e : Element
     → slice_get es k ≡ Some e →
     n ≡ f e.1 → more ≡ made ++ s ∷ [] → made ++ sums_before f s (drop k es) ≡ all → more ++ sums_before f (s + n) (drop (k + 1) es) ≡ all
 sums_next f es k s n e made more all here count items h =
-    let next : drop k es ≡ e ∷ drop (k + 1) es =
-    drop_more es k e (slice_get_within es k e here) ∙ ap (λ (x : ElementName × Element). x ∷ drop (k + 1) es) (get_or_from_slice_get es k e e here) in
     ap (λ (xs : List ℕ). xs ++ sums_before f (s + n) (drop (k + 1) es)) items
     ∙ (ap (λ (m : ℕ). (made ++ s ∷ []) ++ sums_before f (s + m) (drop (k + 1) es)) count
-    ∙ (append_assoc made (s ∷ []) (sums_before f (s + f e.1) (drop (k + 1) es)) ∙ (sym (ap (λ (xs : Elements). made ++ sums_before f s xs) next) ∙ h)))
+    ∙ (append_assoc made (s ∷ []) (sums_before f (s + f e.1) (drop (k + 1) es))
+    ∙ (sym (ap (λ (xs : Elements). made ++ sums_before f s xs) (drop-more es k e here)) ∙ h)))
 
 -- what stands at a place
 sum_at : (f : Element → ℕ) (s : ℕ) (es : Elements) (i : ℕ) → i < length es
@@ -46,17 +43,9 @@ pub numbers_inside : (f : Element → ℕ) (numbers : List ℕ) (es : Elements) 
     → i < length es → i < length numbers
 numbers_inside f numbers es i is h = let count = ap length is ∙ length-sums_before f 0 es in omega arith
 
-last_one : (f : ElementName × Element → ℕ) (e : ElementName × Element) → list_n f (e ∷ []) ≡ f e
-last_one f e = omega arith
-
 -- one place further on
 pub count_next : (f : Element → ℕ) (es : Elements) (k : ℕ) (e : ElementName × Element) → slice_get es k ≡ Some e →
     list_n (λ x. f x.1) (take (k + 1) es) ≡ list_n (λ x. f x.1) (take k es) + f e.1
 count_next f es k e h =
     let g = λ (x : ElementName × Element). f x.1 in
-    let within = slice_get_within es k e h in
-    let taken : take (k + 1) es ≡ take k es ++ e ∷ [] =
-    ap (λ (n : ℕ). take n es) (add-one k)
-    ∙ (take-suc es k e within
-    ∙ ap (λ (x : ElementName × Element). take k es ++ x ∷ []) (get_or_from_slice_get es k e e h)) in
-    ap (list_n g) taken ∙ (list_n-append g (take k es) (e ∷ []) ∙ ap (λ (n : ℕ). list_n g (take k es) + n) (last_one g e))
+    ap (list_n g) (take-more es k e h) ∙ list_n-more g (take k es) e

@@ -1,9 +1,7 @@
 -- What a circuit that passed the tests of Solve says of the elements that a control names.
-use Rattle.std.proofs.Common.{take, ◌≡◌, ℕ, ◌<◌, ◌≤◌, ◌^◌, Bool, true, false, List, [], ◌∷◌, length, get_or, slice_get, Option, Some, None, if◌then◌else◌, refl, sym, ap, subst, ◌∙◌, arith}
+use Rattle.std.proofs.Common.{take, ◌≡◌, ℕ, ◌<◌, ◌≤◌, ◌^◌, List, length, get_or, slice_get, Option, Some, None, refl, sym, ap, subst, ◌∙◌, arith}
 use Rattle.std.specs.Prelude.{All, IfSome, IsSome}
-use Rattle.std.specs.Map.{lookup}
 use Rattle.std.specs.Option.{option_map}
-use Rattle.std.proofs.lemmas.List.Elements.{All-head, All-tail}
 use Rattle.std.proofs.lemmas.Option.{slice_get_within, get_or_from_slice_get}
 use Rattle.fd_arith.specs.declared.terms.Ends.{Ends}
 use Rattle.fd_arith.specs.declared.terms.NodeAt.{NodeAt}
@@ -13,7 +11,6 @@ use Rattle.fd_system.specs.Terminals.{node_count}
 use Rattle.fd_pattern.specs.Conditions.{IsAmong}
 use Rattle.dss_model.specs.Element.{class_of}
 use Rattle.dss_model.specs.InRange.{ElementInRange}
-use Rattle.dss_model.specs.SameElement.{same_element}
 use Rattle.dss_model.specs.declared.element.Element.{Element}
 use Rattle.dss_model.specs.declared.element.Element.TheVariants as the
 use Rattle.dss_model.specs.declared.capcontrol.CapControl.{CapControl}
@@ -24,33 +21,23 @@ use Rattle.dss_model.specs.declared.names.Class.TheVariants as class
 use Rattle.dss_model.specs.declared.names.ElementName.{ElementName}
 use Rattle.dss_model.specs.declared.regcontrol.RegControl.{RegControl}
 use Rattle.dss_model.specs.declared.transformer.Transformer.{Transformer}
-use Rattle.dss_model.proofs.CallerLemmas.{equal}
 use Rattle.dss_circuit.specs.Circuit.{CircuitView}
 use Rattle.dss_circuit.specs.WellFormed.{IsEntry}
+use Rattle.dss_circuit.proofs.CallerLemmas.{found_class}
 use Rattle.dss_layout.specs.Layout.{Elements, LayoutView, branch_phases, complex_count, ends_of, layout_of, size_of}
 use Rattle.dss_layout.proofs.CallerLemmas.{length-sums_before}
 use Rattle.dss_circuit.specs.Lookups.{element_given}
 use Rattle.dss_ready.specs.Passed.{IsFit, IsPhaseOf}
 use Rattle.dss_ready.specs.Ready.{HasPassed}
 use Rattle.dss_ready.proofs.CallerLemmas.{passed}
-use Rattle.fd_devices.specs.Sound.{IsSideOf}
 use Rattle.fd_devices.specs.Standing.{IsReadyAt}
+use Rattle.fd_devices.proofs.CallerLemmas.{side_among}
 use Rattle.fd_network.proofs.CallerLemmas.{element_ready}
 use Rattle.fd_sample.specs.Circuits.{IsCapControlIn, IsCapProbeAt, IsCapProbeIn, IsLineFor, IsLineOf, banks_before, line_in, IsXfmrOf, IsXfmrFor, IsRegControlIn, IsRegProbeAt, IsRegProbeIn, element_at, place_given, transformer_in, transformers_before}
 use Rattle.fd_sample.specs.Scripted.{IsLineAt, IsXfmrAt, cap_probe, reg_probe}
 use Rattle.fd_sample.specs.declared.probe.RegProbe.{RegProbe}
 
 -- ---- the class of an element that is there
-
-found_class : (name : ElementName) (es : Elements) → All IsEntry es
-    → IfSome (lookup (same_element name) es) (λ e. name.class ≡ class_of e)
-found_class name [] h = tt
-found_class name (e ∷ es) h = by (same_element name e.0) refl (found_class name es (All-tail IsEntry e es h))
-  where
-    by : (b : Bool) → same_element name e.0 ≡ b → IfSome (lookup (same_element name) es) (λ x. name.class ≡ class_of x)
-        → IfSome (if b then Some e.1 else lookup (same_element name) es) (λ x. name.class ≡ class_of x)
-    by true t rest = ap (λ (n : ElementName). n.class) ((equal name e.0).0 t) ∙ (All-head IsEntry e es h).class
-    by false t rest = rest
 
 given_class : (es : Elements) (kind : Class) (given : Option (List ℕ)) (e : Element) → All IsEntry es
     → element_given es kind given ≡ Some e → kind ≡ class_of e
@@ -61,14 +48,7 @@ given_class es kind (Some name) e h is =
 
 as_transformer : (e : Element) → class.Transformer ≡ class_of e → IsSome (transformer_in e)
 as_transformer (the.Transformer t) h = refl
-as_transformer (the.Vsource v) h = absurd (cc)
-as_transformer (the.Linecode c) h = absurd (cc)
-as_transformer (the.Line l) h = absurd (cc)
-as_transformer (the.Capacitor c) h = absurd (cc)
-as_transformer (the.Load l) h = absurd (cc)
-as_transformer (the.RegControl c) h = absurd (cc)
-as_transformer (the.CapControl c) h = absurd (cc)
-as_transformer (the.Loadshape s) h = absurd (cc)
+as_transformer e h = absurd (cc)
 
 pub is_transformer : (es : Elements) (given : Option (List ℕ)) (e : Element) → All IsEntry es
     → element_given es class.Transformer given ≡ Some e → IsSome (transformer_in e)
@@ -76,16 +56,9 @@ is_transformer es given e h is = as_transformer e (given_class es class.Transfor
 
 -- ---- where it stands
 
-among_more : (nodes n : ℕ) (node : NodeAt) → nodes ≤ n → IsAmong nodes node → IsAmong n node
-among_more nodes n Ground le h = tt
-among_more nodes n (Node k) le h = omega arith
-
 among_small : (n : ℕ) (node : NodeAt) → n ≤ 2 ^ 29 → IsAmong n node → IsSmall node
 among_small n Ground few h = tt
 among_small n (Node k) few h = omega arith
-
-side_more : (nodes n m : ℕ) (ns : List NodeAt) → nodes ≤ n → IsSideOf nodes m ns → IsSideOf n m ns
-side_more nodes n m ns le h = record { count = h.count; below = λ k d w. among_more nodes n (get_or ns k d) le (h.below k d w) }
 
 pub xfmr_in : (circuit : CircuitView) → HasPassed circuit → All (λ e. ElementInRange e.1) circuit.elements
     → (control : RegControl) → IsRegControlIn circuit.elements control
@@ -105,9 +78,9 @@ xfmr_in circuit h range control r place n t is same =
     let phase = subst (λ (e : Element). IsPhaseOf e control.ptphase) (sym here) r.phase in
     let few : complex_count layout ≤ 2 ^ 29 = omega (arith, all.complex) in
     let nodes : length layout.nodes ≤ complex_count layout = omega arith in
-    let first = side_more (length layout.nodes) (complex_count layout) (node_count t.phases)
+    let first = side_among (length layout.nodes) (complex_count layout) (node_count t.phases)
     (ends_of layout place (the.Transformer t)).first nodes ready.sited.0 in
-    let second = side_more (length layout.nodes) (complex_count layout) (node_count t.phases)
+    let second = side_among (length layout.nodes) (complex_count layout) (node_count t.phases)
     (ends_of layout place (the.Transformer t)).second nodes ready.sited.1 in
     let branches = ready.sited.2 in
     let low : (ends_of layout place (the.Transformer t)).branch < 2 ^ 30 = omega (arith, branches.below, branches.some, all.complex) in
@@ -138,14 +111,7 @@ xfmr_in circuit h range control r place n t is same =
 
 pub transformer_back : (e : Element) (t : Transformer) → transformer_in e ≡ Some t → e ≡ the.Transformer t
 transformer_back (the.Transformer s) t h = cc
-transformer_back (the.Vsource v) t h = absurd (cc)
-transformer_back (the.Linecode c) t h = absurd (cc)
-transformer_back (the.Line l) t h = absurd (cc)
-transformer_back (the.Capacitor c) t h = absurd (cc)
-transformer_back (the.Load l) t h = absurd (cc)
-transformer_back (the.RegControl c) t h = absurd (cc)
-transformer_back (the.CapControl c) t h = absurd (cc)
-transformer_back (the.Loadshape s) t h = absurd (cc)
+transformer_back e t h = absurd (cc)
 
 pub record IsFound (circuit : CircuitView) (control : RegControl) (place : ℕ) (e : Element)
     (t : Transformer) : Type 0 where
@@ -244,25 +210,11 @@ place_inside es layout place same h =
 
 as_line : (e : Element) → class.Line ≡ class_of e → IsSome (line_in e)
 as_line (the.Line l) h = refl
-as_line (the.Vsource v) h = absurd (cc)
-as_line (the.Linecode c) h = absurd (cc)
-as_line (the.Transformer t) h = absurd (cc)
-as_line (the.Capacitor c) h = absurd (cc)
-as_line (the.Load l) h = absurd (cc)
-as_line (the.RegControl c) h = absurd (cc)
-as_line (the.CapControl c) h = absurd (cc)
-as_line (the.Loadshape s) h = absurd (cc)
+as_line e h = absurd (cc)
 
 pub line_back : (e : Element) (l : Line) → line_in e ≡ Some l → e ≡ the.Line l
 line_back (the.Line s) l h = cc
-line_back (the.Vsource v) l h = absurd (cc)
-line_back (the.Linecode c) l h = absurd (cc)
-line_back (the.Transformer t) l h = absurd (cc)
-line_back (the.Capacitor c) l h = absurd (cc)
-line_back (the.Load s) l h = absurd (cc)
-line_back (the.RegControl c) l h = absurd (cc)
-line_back (the.CapControl c) l h = absurd (cc)
-line_back (the.Loadshape s) l h = absurd (cc)
+line_back e l h = absurd (cc)
 
 record HasLine (o : Option Line) : Type 0 where
   line : Line
@@ -290,8 +242,8 @@ line_at circuit h range control r place n l is same =
     let current = subst (λ (e : Element). IsPhaseOf e control.ctphase) (sym here) r.current_phase in
     let few : complex_count layout ≤ 2 ^ 29 = omega (arith, all.complex) in
     let nodes : length layout.nodes ≤ complex_count layout = omega arith in
-    let first = side_more (length layout.nodes) (complex_count layout) l.phases (ends_of layout place (the.Line l)).first nodes ready.sited.0 in
-    let second = side_more (length layout.nodes) (complex_count layout) l.phases (ends_of layout place (the.Line l)).second nodes ready.sited.1 in
+    let first = side_among (length layout.nodes) (complex_count layout) l.phases (ends_of layout place (the.Line l)).first nodes ready.sited.0 in
+    let second = side_among (length layout.nodes) (complex_count layout) l.phases (ends_of layout place (the.Line l)).second nodes ready.sited.1 in
     let branches = ready.sited.2 in
     record {
       in_range = ready.in_range;

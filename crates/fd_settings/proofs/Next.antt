@@ -1,13 +1,12 @@
 -- The positions with which a Solve starts: one element more, how many there are, and their ranges.
-use Rattle.std.proofs.Common.{◌≡◌, ◌∙◌, ℕ, zero, suc, ◌+◌, ◌≤◌, Bool, true, false, if◌then◌else◌, List, [], ◌∷◌, ◌++◌, length, length-append, drop, slice_get, Option, Some, None, append_assoc, arith, ap, sym, refl}
+use Rattle.std.proofs.Common.{◌≡◌, ◌∙◌, ℕ, zero, suc, ◌+◌, ◌≤◌, Bool, true, false, if◌then◌else◌, List, [], ◌∷◌, ◌++◌, length, length-append, drop, slice_get, Option, Some, None, append_assoc, arith, ap, sym, subst, refl}
 use Rattle.std.specs.List.{All, flat_map}
 use Rattle.std.proofs.Math.ListN.{drop_of_length-le}
-use Rattle.std.proofs.lemmas.List.{append-nil}
-use Rattle.std.proofs.lemmas.List.Elements.{All-nil, All-cons, All-append, All-drop, All-head, All-tail}
+use Rattle.std.proofs.lemmas.List.{append-nil, length-map}
+use Rattle.std.proofs.lemmas.List.Elements.{All-nil, All-append, All-drop, All-head, All-map, All-tail, All-weaker}
 use Rattle.fd_exact.specs.Sums.{list_n}
 use Rattle.fd_arith.specs.declared.terms.TapPair.{TapPair}
 use Rattle.dss_model.specs.declared.element.Element.{Element}
-use Rattle.dss_model.specs.declared.element.Element.TheVariants as the
 use Rattle.dss_model.specs.declared.names.ElementName.{ElementName}
 use Rattle.dss_model.specs.declared.transformer.Transformer.{Transformer}
 use Rattle.dss_model.specs.declared.transformer.Winding.{Winding}
@@ -16,11 +15,12 @@ use Rattle.dss_model.specs.Ranges.{IsTap}
 use Rattle.dss_layout.specs.Layout.{Elements}
 use Rattle.dss_layout.proofs.CallerLemmas.{drop-more}
 use Rattle.fd_xfmr.specs.Leakage.{AreTaps}
-use Rattle.fd_devices.specs.Settings.{bank_count, tap_count}
-use Rattle.fd_devices.proofs.CallerLemmas.{first_left}
-use Rattle.fd_settings.specs.Snapshot.{closed_of, powers_of, taps_of}
-use Rattle.fd_settings.specs.Positions.{NextLaw, in_order, is_set, next_closed, next_closed_of, next_pair, next_tap, next_taps, next_taps_of}
-use Rattle.fd_settings.proofs.SnapshotCounts.{snapshot_is}
+use Rattle.fd_devices.specs.Kinds.{banks_in, transformers_in}
+use Rattle.fd_devices.specs.Settings.{AreSettings, Settings, bank_count, tap_count}
+use Rattle.fd_devices.proofs.CallerLemmas.{first_left, transformers_in_range}
+use Rattle.fd_settings.specs.Snapshot.{SnapshotLaw, closed_of, snapshot_of, taps_of}
+use Rattle.fd_settings.specs.Positions.{NextLaw, in_order, is_set, next_closed, next_closed_of, next_pair, next_state, next_tap, next_taps, next_taps_of}
+use Rattle.fd_settings.proofs.HourPowers.{all_counted}
 
 -- ---- what is left of a list
 
@@ -36,26 +36,10 @@ drop_drop (suc a) b (x ∷ xs) = let e : suc (a + b) ≡ suc a + b = omega arith
 -- ---- how many an element has
 
 next_taps_counted : (solves : ℕ) (e : Element) (before : Option TapPair) → length (next_taps_of solves e before) ≡ tap_count e
-next_taps_counted solves (the.Vsource v) before = refl
-next_taps_counted solves (the.Linecode c) before = refl
-next_taps_counted solves (the.Line l) before = refl
-next_taps_counted solves (the.Transformer t) before = refl
-next_taps_counted solves (the.Capacitor c) before = refl
-next_taps_counted solves (the.Load l) before = refl
-next_taps_counted solves (the.RegControl c) before = refl
-next_taps_counted solves (the.CapControl c) before = refl
-next_taps_counted solves (the.Loadshape s) before = refl
+next_taps_counted solves e before = length-map (transformers_in e) (λ t. next_pair solves t before)
 
 next_states_counted : (solves : ℕ) (e : Element) (before : Option Bool) → length (next_closed_of solves e before) ≡ bank_count e
-next_states_counted solves (the.Vsource v) before = refl
-next_states_counted solves (the.Linecode c) before = refl
-next_states_counted solves (the.Line l) before = refl
-next_states_counted solves (the.Transformer t) before = refl
-next_states_counted solves (the.Capacitor c) before = refl
-next_states_counted solves (the.Load l) before = refl
-next_states_counted solves (the.RegControl c) before = refl
-next_states_counted solves (the.CapControl c) before = refl
-next_states_counted solves (the.Loadshape s) before = refl
+next_states_counted solves e before = length-map (banks_in e) (λ bank. next_state solves bank before)
 
 counted : {A : Type 0} (f : Element → Option A → List A) (n : Element → ℕ)
     → ((e : Element) (o : Option A) → length (f e o) ≡ n e) → (es : Elements) (before : List A)
@@ -122,32 +106,16 @@ next_done f n es k made left all past h = sym (append-nil made) ∙ ap (λ xs. m
 
 -- ---- where nothing was before
 
-script_taps : (solves : ℕ) (e : Element) → next_taps_of solves e None ≡ taps_of e
-script_taps solves (the.Vsource v) = refl
-script_taps solves (the.Linecode c) = refl
-script_taps solves (the.Line l) = refl
-script_taps solves (the.Transformer t) = refl
-script_taps solves (the.Capacitor c) = refl
-script_taps solves (the.Load l) = refl
-script_taps solves (the.RegControl c) = refl
-script_taps solves (the.CapControl c) = refl
-script_taps solves (the.Loadshape s) = refl
+of_script : {A : Type 0} (f : Element → Option A → List A) (n : Element → ℕ) (es : Elements)
+    → in_order f n es [] ≡ flat_map (λ (e : ElementName × Element). f e.1 None) es
+of_script f n [] = refl
+of_script f n (e ∷ es) = (λ i. f e.1 None ++ in_order f n es (drop_none (n e.1) i)) ∙ ap (λ r. f e.1 None ++ r) (of_script f n es)
 
-script_states : (solves : ℕ) (e : Element) → next_closed_of solves e None ≡ closed_of e
-script_states solves (the.Vsource v) = refl
-script_states solves (the.Linecode c) = refl
-script_states solves (the.Line l) = refl
-script_states solves (the.Transformer t) = refl
-script_states solves (the.Capacitor c) = refl
-script_states solves (the.Load l) = refl
-script_states solves (the.RegControl c) = refl
-script_states solves (the.CapControl c) = refl
-script_states solves (the.Loadshape s) = refl
+pub script_taps : (solves : ℕ) (es : Elements) → next_taps solves es [] ≡ flat_map (λ (e : ElementName × Element). taps_of e.1) es
+script_taps solves es = of_script (next_taps_of solves) tap_count es
 
-of_script : {A : Type 0} (f : Element → Option A → List A) (n : Element → ℕ) (g : Element → List A) → ((e : Element) → f e None ≡ g e) → (es : Elements)
-    → in_order f n es [] ≡ flat_map (λ (e : ElementName × Element). g e.1) es
-of_script f n g h [] = refl
-of_script f n g h (e ∷ es) = (λ i. h e.1 i ++ in_order f n es (drop_none (n e.1) i)) ∙ ap (λ r. g e.1 ++ r) (of_script f n g h es)
+pub script_states : (solves : ℕ) (es : Elements) → next_closed solves es [] ≡ flat_map (λ (e : ElementName × Element). closed_of e.1) es
+script_states solves es = of_script (next_closed_of solves) bank_count es
 
 -- ---- ranges
 
@@ -174,17 +142,10 @@ pair_within solves t (p ∷ ps) h within =
 
 taps_within : (solves : ℕ) (e : Element) (before : List TapPair) → ElementInRange e → All AreTaps before
     → All AreTaps (next_taps_of solves e (slice_get before 0))
-taps_within solves (the.Vsource v) before h within = All-nil AreTaps
-taps_within solves (the.Linecode c) before h within = All-nil AreTaps
-taps_within solves (the.Line l) before h within = All-nil AreTaps
-taps_within solves (the.Transformer t) before h within =
-    All-cons AreTaps (next_pair solves t (slice_get before 0)) [] (pair_within solves t before h within)
-    (All-nil AreTaps)
-taps_within solves (the.Capacitor c) before h within = All-nil AreTaps
-taps_within solves (the.Load l) before h within = All-nil AreTaps
-taps_within solves (the.RegControl c) before h within = All-nil AreTaps
-taps_within solves (the.CapControl c) before h within = All-nil AreTaps
-taps_within solves (the.Loadshape s) before h within = All-nil AreTaps
+taps_within solves e before h within =
+    All-map AreTaps (λ t. next_pair solves t (slice_get before 0)) (transformers_in e)
+    (All-weaker TransformerInRange (λ t. AreTaps (next_pair solves t (slice_get before 0)))
+    (λ t r. pair_within solves t before r within) (transformers_in e) (transformers_in_range e h))
 
 all_within : (solves : ℕ) (es : Elements) (before : List TapPair)
     → All (λ (e : ElementName × Element). ElementInRange e.1) es → All AreTaps before
@@ -198,18 +159,28 @@ all_within solves (e ∷ es) before h within =
     (All-tail (λ (x : ElementName × Element). ElementInRange x.1) e es h)
     (All-drop AreTaps (tap_count e.1) before within))
 
--- ---- the law
+-- ---- the laws
 
 pub are_next : NextLaw
 are_next solves es taps closed = record {
   counts = record {
     taps = counted (next_taps_of solves) tap_count (next_taps_counted solves) es taps;
     closed = counted (next_closed_of solves) bank_count (next_states_counted solves) es closed;
-    powers = (snapshot_is es).counts.powers;
+    powers = all_counted es 0 es;
   };
   within = all_within solves es taps;
-  script =
-      let t = of_script (next_taps_of solves) tap_count taps_of (script_taps solves) es in
-      let c = of_script (next_closed_of solves) bank_count closed_of (script_states solves) es in
-      λ i. record { taps = t i; closed = c i; powers = (flat_map (λ (e : ElementName × Element). powers_of e.1) es) };
+  script = λ i. record {
+    taps = script_taps solves es i;
+    closed = script_states solves es i;
+    powers = (snapshot_of es).powers;
+  };
 }
+
+-- the settings of a script are those with which a Solve starts where nothing was before
+pub snapshot_is : SnapshotLaw
+snapshot_is es =
+    let next = are_next 0 es [] [] in
+    record {
+      counts = subst (AreSettings es) next.script next.counts;
+      taps = λ h. subst (λ (s : Settings). All AreTaps s.taps) next.script (next.within h (All-nil AreTaps));
+    }

@@ -1,5 +1,5 @@
 -- The powers of loads at an hour of a day: hour 0 is the snapshot, and at the hours from 1 on a load follows its shape.
-use Rattle.std.specs.Prelude.{◌≡◌, ℕ, zero, suc, ◌%◌, ℤ, pos, List, [], length, get_or, replicate, take, Option, Some}
+use Rattle.std.specs.Prelude.{◌≡◌, ℕ, zero, suc, ◌%◌, ℤ, pos, List, length, get_or, replicate, take, Option, Some}
 use Rattle.std.specs.List.{flat_map}
 use Rattle.fd_exact.specs.Sums.{list_n}
 use Rattle.dss_model.specs.Ranges.{ones}
@@ -11,6 +11,7 @@ use Rattle.dss_model.specs.declared.names.Class.TheVariants as class
 use Rattle.dss_layout.specs.Layout.{Elements}
 use Rattle.dss_circuit.specs.Lookups.{element_given}
 use Rattle.fd_elements.specs.declared.powers.LoadPower.{LoadPower}
+use Rattle.fd_devices.specs.Kinds.{loads_in}
 use Rattle.fd_devices.specs.Settings.{power_count}
 use Rattle.fd_settings.specs.Snapshot.{power_of, snapshot_of}
 
@@ -41,8 +42,7 @@ point_at elements load (suc passed) = followed_point (element_given elements cla
 
 -- the powers of an element's phases at an hour
 abbrev pub element_powers : Elements → ℕ → Element → List LoadPower
-element_powers elements hour (the.Load l) = replicate l.phases (power_of l (point_at elements l hour))
-element_powers elements hour e = []
+element_powers elements hour e = flat_map (λ (l : Load). replicate l.phases (power_of l (point_at elements l hour))) (loads_in e)
 
 -- the powers of all load phases at an hour, in order of definition
 abbrev pub hour_powers : Elements → ℕ → List LoadPower

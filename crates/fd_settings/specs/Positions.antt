@@ -1,14 +1,14 @@
 -- The positions with which a Solve starts: what the script set since the Solve before, and else those of before.
-use Rattle.std.specs.Prelude.{◌≡◌, ℕ, ◌+◌, ◌==◌, Bool, List, [], ◌∷◌, ◌++◌, drop, slice_get, All, Option, Some, None, if◌then◌else◌}
+use Rattle.std.specs.Prelude.{◌≡◌, ℕ, ◌+◌, ◌==◌, Bool, List, [], ◌∷◌, ◌++◌, drop, map, slice_get, All, Option, Some, None, if◌then◌else◌}
 use Rattle.fd_arith.specs.declared.terms.TapPair.{TapPair}
 use Rattle.dss_model.specs.declared.transformer.Transformer.{Transformer}
 use Rattle.dss_model.specs.declared.transformer.Winding.{Winding}
 use Rattle.dss_model.specs.declared.capacitor.Capacitor.{Capacitor}
 use Rattle.dss_model.specs.declared.element.Element.{Element}
-use Rattle.dss_model.specs.declared.element.Element.TheVariants as the
 use Rattle.dss_model.specs.InRange.{ElementInRange}
 use Rattle.dss_layout.specs.Layout.{Elements}
 use Rattle.fd_xfmr.specs.Leakage.{AreTaps}
+use Rattle.fd_devices.specs.Kinds.{banks_in, transformers_in}
 use Rattle.fd_devices.specs.Settings.{AreSettings, Settings, bank_count, tap_count}
 use Rattle.fd_settings.specs.Snapshot.{is_closed, snapshot_of}
 
@@ -33,12 +33,10 @@ next_state solves bank None = is_closed bank.states
 next_state solves bank (Some before) = if is_set solves bank.set_at then is_closed bank.states else before
 
 abbrev pub next_taps_of : ℕ → Element → Option TapPair → List TapPair
-next_taps_of solves (the.Transformer t) before = next_pair solves t before ∷ []
-next_taps_of solves e before = []
+next_taps_of solves e before = map (λ (t : Transformer). next_pair solves t before) (transformers_in e)
 
 abbrev pub next_closed_of : ℕ → Element → Option Bool → List Bool
-next_closed_of solves (the.Capacitor bank) before = next_state solves bank before ∷ []
-next_closed_of solves e before = []
+next_closed_of solves e before = map (λ (bank : Capacitor). next_state solves bank before) (banks_in e)
 
 -- ---- all elements in order
 

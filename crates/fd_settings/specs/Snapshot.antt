@@ -1,5 +1,5 @@
 -- The settings that a script gives: the taps and states of its elements, and the powers of its loads.
-use Rattle.std.specs.Prelude.{ℕ, ◌*◌, ◌-◌, ◌^◌, nat_le, ℤ, pos, nat_abs, Bool, true, false, List, [], ◌∷◌, replicate, All}
+use Rattle.std.specs.Prelude.{ℕ, ◌*◌, ◌-◌, ◌^◌, nat_le, ℤ, pos, nat_abs, Bool, true, false, List, map, replicate, All}
 use Rattle.std.specs.List.{flat_map}
 use Rattle.std.specs.Option.{unwrap_or}
 use Rattle.fd_exact.specs.Rounding.{signed, differ}
@@ -9,30 +9,30 @@ use Rattle.dss_model.specs.declared.words.BankState.{BankState}
 use Rattle.dss_model.specs.declared.words.BankState.TheVariants as bank_state
 use Rattle.dss_model.specs.declared.words.ReactiveRule.{ReactiveRule}
 use Rattle.dss_model.specs.declared.words.ReactiveRule.TheVariants as rule
+use Rattle.dss_model.specs.declared.capacitor.Capacitor.{Capacitor}
 use Rattle.dss_model.specs.declared.load.Load.{Load}
+use Rattle.dss_model.specs.declared.transformer.Transformer.{Transformer}
 use Rattle.dss_model.specs.declared.element.Element.{Element}
-use Rattle.dss_model.specs.declared.element.Element.TheVariants as the
 use Rattle.dss_model.specs.InRange.{ElementInRange}
 use Rattle.dss_layout.specs.Layout.{Elements}
 use Rattle.fd_source.specs.Powers.{greatest_such}
 use Rattle.fd_xfmr.specs.Leakage.{AreTaps}
 use Rattle.fd_elements.specs.declared.powers.LoadPower.{LoadPower}
 use Rattle.fd_elements.specs.Powers.{phase_power, square}
+use Rattle.fd_devices.specs.Kinds.{banks_in, loads_in, transformers_in}
 use Rattle.fd_devices.specs.Settings.{AreSettings, Settings}
 
 -- ---- positions
 
 abbrev pub taps_of : Element → List TapPair
-taps_of (the.Transformer t) = record { first = t.first.tap; second = t.second.tap } ∷ []
-taps_of e = []
+taps_of e = map (λ (t : Transformer). record { first = t.first.tap; second = t.second.tap }) (transformers_in e)
 
 abbrev pub is_closed : BankState → Bool
 is_closed bank_state.Open = false
 is_closed bank_state.Closed = true
 
 abbrev pub closed_of : Element → List Bool
-closed_of (the.Capacitor c) = is_closed c.states ∷ []
-closed_of e = []
+closed_of e = map (λ (bank : Capacitor). is_closed bank.states) (banks_in e)
 
 -- ---- powers
 
@@ -53,8 +53,7 @@ power_of load point = record {
 
 -- the powers of an element's phases in a snapshot, in which the point of each shape is 1
 abbrev pub powers_of : Element → List LoadPower
-powers_of (the.Load l) = replicate l.phases (power_of l (ones 1))
-powers_of e = []
+powers_of e = flat_map (λ (l : Load). replicate l.phases (power_of l (ones 1))) (loads_in e)
 
 -- ---- all settings
 

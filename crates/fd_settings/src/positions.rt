@@ -1,10 +1,10 @@
 // The positions with which a Solve starts.
 ghost use Rattle.std.specs.Prelude.{◌≡◌, ◌++◌, length, slice_get, IfOk, OnOk};
+ghost use Rattle.fd_settings.specs.Snapshot.{is_closed as is_state_closed};
 ghost use Rattle.fd_settings.specs.Positions.{NextLaw, is_set as is_set_at, next_closed, next_closed_of, next_pair as pair_of, next_state as state_of, next_tap as tap_of, next_taps, next_taps_of};
 
-use crate::snapshot::is_closed;
 use dss_circuit::Circuit;
-use dss_model::{Capacitor, Element, Transformer, Winding};
+use dss_model::{BankState, Capacitor, Element, Transformer, Winding};
 use fd_arith::TapPair;
 use fd_devices::{BankStates, Positions, Taps};
 use std::alloc::{AllocError, Global};
@@ -100,6 +100,16 @@ fn next_state(solves: u32, bank: &Capacitor, before: Option<bool>) -> bool
     match before {
         Some(closed) if !is_set(solves, bank.set_at) => closed,
         _ => is_closed(bank.states),
+    }
+}
+
+// Whether a bank with this state in the script is closed.
+fn is_closed(state: BankState) -> bool
+    ensures { result ≡ is_state_closed state }
+{
+    match state {
+        BankState::Open => false,
+        BankState::Closed => true,
     }
 }
 

@@ -1,30 +1,21 @@
 use Rattle.std.proofs.Common.{rules}
-use Rattle.std.specs.List.{All, flat_map}
-use Rattle.fd_system.specs.Contributions.{IsWithin}
-use Rattle.fd_system.specs.Loads.{linear_list}
+use Rattle.std.specs.List.{All}
 use Rattle.fd_load.specs.Current.{IsPast}
 use Rattle.fd_devices.specs.Building.{DeviceFits}
 use Rattle.fd_devices.specs.Devices.{loads}
-use Rattle.fd_devices.proofs.Fitting.{fit_loads, fit_terms, fits_by}
+use Rattle.fd_devices.proofs.Fitting.{fit_loads, fits_by}
+use Rattle.fd_devices.proofs.Within.{loads_within}
 use Rattle.fd_devices.proofs.writers.write_loads.Goals as goal
 
 pub returns-clause-fits : goal.returns-clause-fits
 returns-clause-fits c =
     let us = c.args.into.now.loads.items in
-    let terms : All IsWithin (flat_map linear_list us) = search rules in
     let below : All (λ u. ¬ (IsPast u.load)) us = search rules in
-    fits_by (loads us) terms below
+    fits_by (loads us) (loads_within us c.requires.usable below) below
 
 pub returns-then-not-are_in_limits-clause-range : goal.returns-then-not-are_in_limits-clause-range
 returns-then-not-are_in_limits-clause-range c =
     let us = c.args.into.now.loads.items in
     let past : ¬ (All (λ u. ¬ (IsPast u.load)) us) = search rules in
     let misfit : ¬ (DeviceFits (loads us)) = λ f. past (fit_loads (loads us) f) in
-    search rules
-
-pub returns-then-not-all_within-clause-range : goal.returns-then-not-all_within-clause-range
-returns-then-not-all_within-clause-range c =
-    let us = c.args.into.now.loads.items in
-    let far : ¬ (All IsWithin (flat_map linear_list us)) = search rules in
-    let misfit : ¬ (DeviceFits (loads us)) = λ f. far (fit_terms (loads us) f) in
     search rules

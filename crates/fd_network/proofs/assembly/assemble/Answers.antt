@@ -12,7 +12,7 @@ use Rattle.fd_devices.specs.Settings.{settings_in}
 use Rattle.fd_devices.specs.Building.{has_small_sums}
 use Rattle.fd_network.specs.Faults.{first_without}
 use Rattle.fd_network.proofs.Apart.{apart}
-use Rattle.fd_network.proofs.Assembling.{is_network, no_fault, sum_first}
+use Rattle.fd_network.proofs.Assembling.{is_network, sum_first}
 use Rattle.fd_network.proofs.Filling.{can_hold}
 use Rattle.fd_network.proofs.assembly.assemble.Goals as goal
 
@@ -57,11 +57,6 @@ returns-in-Ok-clause-agrees c =
     ≡ stamp_of_all ds =
     (λ i. stamp_with (constants i).items (terms i) (loads i) (draw i)) ∙ collected.stamp in
     subst (λ s. AgreesWith s (parts_of_all ds)) (sym stamp) (c.device_law.ensures ds collected.good)
-
-pub returns-in-Ok-clause-no_fault : goal.returns-in-Ok-clause-no_fault
-returns-in-Ok-clause-no_fault c =
-    let ds = devices_from c.args.layout.now c.args.hertz 0 c.args.elements.now.entries (settings_in c.args.settings.now) in
-    no_fault ds c.in-Ok.ensures.small
 
 pub returns-in-Err-clause-fault : goal.returns-in-Err-clause-fault
 returns-in-Err-clause-fault c =

@@ -13,7 +13,7 @@ use Rattle.dss_layout.specs.Layout.{LayoutView, complex_count, layout_of}
 use Rattle.dss_layout.proofs.CallerLemmas.{few_complex, few_magnitudes}
 use Rattle.fd_network.specs.Places.{AreMagnitudesFrom}
 use Rattle.fd_network.proofs.Apart.{magnitudes_follow}
-use Rattle.fd_network.proofs.Building.{are_taken, fault_named, kept_as, no_blame, out_of_range_within, reaches_as, same_devices, taken_as}
+use Rattle.fd_network.proofs.Building.{are_taken, fault_named, kept_as, out_of_range_within, reaches_as, same_devices, taken_as}
 use Rattle.fd_network.proofs.Ready.{few_branches, ready}
 use Rattle.fd_network.proofs.Assembling.{no_fault}
 use Rattle.fd_network.proofs.network.fill.Goals as goal
@@ -64,15 +64,6 @@ returns-in-Ok-clause-extents c =
     let same = same_devices c.args.layout.now _ c.options.result.now.defaultbasefrequency _ c.elements-elements.result.now.entries _
     (settings_in c.of-settings.result) _ c.requires.layout hertz c.elements-elements.ensures.entries c.of-settings.ensures in
     c.in-Ok.ensures.extents ∙ ap extents_of same
-
-pub returns-in-Ok-clause-no_blame : goal.returns-in-Ok-clause-no_blame
-returns-in-Ok-clause-no_blame c =
-    let circuit = c.args.circuit.now in
-    let hertz = ap (λ (o : Options). o.defaultbasefrequency) c.options.ensures.value in
-    let same = same_devices c.args.layout.now _ c.options.result.now.defaultbasefrequency _
-    c.elements-elements.result.now.entries _ (settings_in c.of-settings.result) _ c.requires.layout hertz
-    c.elements-elements.ensures.entries c.of-settings.ensures in
-    no_blame circuit.elements (devices_of circuit (settings_of c.args.at.now c.args.powers.now)) (ap first_out_of_range (sym same) ∙ c.in-Ok.ensures.no_fault)
 
 pub blamed-requires : goal.blamed-requires
 blamed-requires c =

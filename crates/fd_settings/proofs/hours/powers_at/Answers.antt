@@ -5,7 +5,8 @@ use Rattle.dss_model.specs.InRange.{ElementInRange}
 use Rattle.dss_model.specs.declared.element.Element.{Element}
 use Rattle.dss_model.specs.declared.names.ElementName.{ElementName}
 use Rattle.fd_settings.specs.Hours.{element_powers}
-use Rattle.fd_settings.proofs.Steps.{all_at, flat_map_at}
+use Rattle.fd_devices.proofs.CallerLemmas.{all_at}
+use Rattle.fd_settings.proofs.Steps.{flat_map_at}
 use Rattle.fd_settings.proofs.hours.powers_at.Goals as goal
 
 pub add_powers-requires : goal.add_powers-requires

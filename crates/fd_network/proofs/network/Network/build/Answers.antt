@@ -6,6 +6,8 @@ use Rattle.fd_pattern.specs.Views.{NetworkView, network_of}
 use Rattle.fd_devices.specs.Devices.{device_stamp}
 use Rattle.fd_devices.specs.Scripted.{devices_of}
 use Rattle.fd_devices.specs.Settings.{AreSettings, Settings, settings_of}
+use Rattle.fd_network.proofs.Assembling.{no_fault}
+use Rattle.fd_network.proofs.Building.{no_blame}
 use Rattle.fd_network.proofs.Parting.{joined_rows, stamps_again}
 use Rattle.fd_network.proofs.network.Network.build.Goals as goal
 
@@ -41,3 +43,9 @@ returns-clause-built c =
       reach = c.in_ok-parts.ensures.reach;
       room = c.in_ok-parts.ensures.room;
     }
+
+-- no element is to blame where all are in range
+pub returns-clause-no_blame : goal.returns-clause-no_blame
+returns-clause-no_blame c =
+    let ds = devices_of c.args.circuit.now (settings_of c.args.at.now c.args.powers.now) in
+    no_blame c.args.circuit.now.elements ds (no_fault ds c.in_ok-parts.ensures.in_range)

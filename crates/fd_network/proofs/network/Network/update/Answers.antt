@@ -9,6 +9,8 @@ use Rattle.fd_devices.specs.Settings.{AreSettings, Settings, settings_of}
 use Rattle.fd_network.specs.Assembled.{HaveRoom}
 use Rattle.fd_network.specs.Built.{BuiltView}
 use Rattle.fd_network.specs.Keeping.{AreKept, Reaches}
+use Rattle.fd_network.proofs.Assembling.{no_fault}
+use Rattle.fd_network.proofs.Building.{no_blame}
 use Rattle.fd_network.proofs.Parting.{joined_rows, stamps_again}
 use Rattle.fd_network.proofs.network.Network.update.Goals as goal
 
@@ -60,3 +62,9 @@ returns-in-Ok-clause-built c =
           (subst (λ (v : BuiltView). Reaches layout hertz circuit.elements v.places) (sym c.self.view_is) c.requires.built.reach);
       room = ap (λ (v : BuiltView). v.room) c.self.view_is ∙ c.requires.built.room;
     }
+
+-- no element is to blame where all are in range
+pub returns-in-Ok-clause-no_blame : goal.returns-in-Ok-clause-no_blame
+returns-in-Ok-clause-no_blame c =
+    let ds = devices_of c.args.circuit.now (settings_of c.args.at.now c.args.powers.now) in
+    no_blame c.args.circuit.now.elements ds (no_fault ds c.in-Ok.ensures.in_range)

@@ -158,7 +158,4 @@ side_counts (the.Capacitor c) r h =
     one_side (the.Capacitor c) (phase_numbers c.phases c.conn) c.bus1 (node_count c.phases) refl refl (phase_counts c.phases c.conn r.phases) h
 side_counts (the.Load l) r h =
     one_side (the.Load l) (phase_numbers l.phases l.conn) l.bus1 (node_count l.phases) refl refl (phase_counts l.phases l.conn r.phases) h
-side_counts (the.Linecode c) r h = record { at_first = refl; at_second = refl }
-side_counts (the.RegControl c) r h = record { at_first = refl; at_second = refl }
-side_counts (the.CapControl c) r h = record { at_first = refl; at_second = refl }
-side_counts (the.Loadshape s) r h = record { at_first = refl; at_second = refl }
+side_counts e r h = record { at_first = refl; at_second = refl }
