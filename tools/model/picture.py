@@ -7,6 +7,7 @@ import csv
 import sys
 
 ROOT_THREE = 1732050807568877
+LIMITS = 950_000, 1_050_000
 STATIC = """<style>text{font:14px sans-serif}.head{font-weight:bold}.title{font:bold 18px sans-serif}.round,.tick{font-size:12px}\
 .node,.row{font:13px monospace}.fault{font:bold 13px monospace}.tick,.node,.unit{text-anchor:end}path.tick{stroke:#bbb}\
 path.limit{stroke:#000;stroke-dasharray:6 4}.frame{fill:none;stroke:#000}.bar{fill:#000;fill-opacity:.5}</style>
@@ -16,6 +17,8 @@ path.limit{stroke:#000;stroke-dasharray:6 4}.frame{fill:none;stroke:#000}.bar{fi
 <circle id='circle' r='6' fill='#009e73' stroke='#000'/>
 <path id='diamond' d='M0 -7L6 0L0 7L-6 0Z' fill='#fff' stroke='#000' stroke-width='2'/>
 <circle id='outside' r='10' fill='none' stroke='#000' stroke-width='2'/>
+<circle id='across' r='10' fill='none' stroke='#000' stroke-width='2' stroke-dasharray='4 4'/>
+<path id='far' d='M-9 -9L9 9M-9 9L9 -9' stroke='#000' stroke-width='2'/>
 </defs>
 <rect width='100%' height='100%' fill='#fff'/>
 <text class='title' x='20' y='30'>Voltage magnitudes to ground, in the last round of each hour</text>
@@ -23,10 +26,15 @@ path.limit{stroke:#000;stroke-dasharray:6 4}.frame{fill:none;stroke:#000}.bar{fi
 <use href='#square' x='128' y='53'/><text x='144' y='58'>node 2</text>
 <use href='#circle' x='228' y='53'/><text x='244' y='58'>node 3</text>
 <use href='#diamond' x='328' y='53'/><text x='344' y='58'>another node</text>
-<path class='limit' d='M18 77h26'/><text x='52' y='82'>limits of 0.95 and 1.05 per unit</text>
-<use href='#outside' x='302' y='77'/><text x='320' y='82'>outside them</text>
-<rect class='bar' x='438' y='73' width='18' height='8'/><text x='464' y='82'>from low to high, at least a line</text>
+<rect class='bar' x='460' y='49' width='18' height='8'/><text x='486' y='58'>from low to high, at least a line</text>
 """
+LIMITS_LEGEND = """\
+<path class='limit' d='M18 77h26'/><text x='52' y='82'>limits of 0.95 and 1.05 per unit</text>
+<use href='#outside' x='292' y='77'/><text x='310' y='82'>surely outside</text>
+<use href='#across' x='432' y='77'/><text x='450' y='82'>across a limit</text>
+<use href='#far' x='570' y='77'/><text x='588' y='82'>below 0.5 or above 1.4, as in a delta: off the axis, not judged</text>
+"""
+NO_LIMITS_LEGEND = "<text x='20' y='82'>not every node has a voltage base: in volts, and no limits are judged</text>\n"
 
 
 def micro(text):
@@ -52,8 +60,9 @@ class Scale:
     def __init__(self, bases, panels):
         self.bases, nodes = bases, [it for panel in panels for it in panel.nodes]
         self.per_unit = all(bus in bases for bus, *_ in nodes)
-        spans = [self.span(it) for it in nodes]
-        self.low, self.high = min((low for low, _ in spans), default=0), max((high for _, high in spans), default=0)
+        spans = [it for it in map(self.span, nodes) if self.judgement(it) != "far"]
+        least, greatest = LIMITS if self.per_unit else (0, 0)
+        self.low, self.high = min((low for low, _ in spans), default=least), max((high for _, high in spans), default=greatest)
 
     def span(self, node):
         bus, _, low, high = node
@@ -63,7 +72,15 @@ class Scale:
         return low * ROOT_THREE // one, -(-high * ROOT_THREE // one)
 
     def level(self, value):
-        return 256 - (value - self.low) * 220 // max(self.high - self.low, 1)
+        return 256 - min(max(value - self.low, 0) * 220 // max(self.high - self.low, 1), 220)
+
+    def judgement(self, span):
+        low, high = span
+        if not self.per_unit or LIMITS[0] <= low and high <= LIMITS[1]:
+            return None
+        if high < 500_000 or low > 1_400_000:
+            return "far"
+        return "outside" if high < LIMITS[0] or low > LIMITS[1] else "across"
 
 
 class Panel:
@@ -88,7 +105,7 @@ class Panel:
             text = str(value // 10**6) if step % 10**6 == 0 else fixed(3, value // 1000) if step % 1000 == 0 else fixed(6, value)
             down = scale.level(value)
             yield self.line("tick", down) + f"<text class='tick' x='94' y='{down + 5}'>{text}</text>\n"
-        for limit in (950_000, 1_050_000):
+        for limit in LIMITS:
             if scale.per_unit and scale.low <= limit <= scale.high:
                 yield self.line("limit", scale.level(limit))
 
@@ -99,11 +116,11 @@ class Panel:
         middle = top + height // 2
         per_unit = f", {fixed(6, least)} to {fixed(6, greatest)} per unit" if scale.per_unit else ""
         shape = {1: "triangle", 2: "square", 3: "circle"}.get(number, "diamond")
-        is_outside = scale.per_unit and not (least >= 950_000 and greatest <= 1_050_000)
-        ring = f"<use href='#outside' x='{x}' y='{middle}'/>" if is_outside else ""
+        sign = scale.judgement((least, greatest))
+        sign = f"<use href='#{sign}' x='{x}' y='{middle}'/>" if sign else ""
         return (
             f"<g class='mark'><title>{name}: {fixed(6, low)} to {fixed(6, high)} V, width {fixed(6, high - low)} V{per_unit}</title>"
-            f"<rect class='bar' width='18' x='{x - 9}' y='{top}' height='{height}'/><use href='#{shape}' x='{x}' y='{middle}'/>{ring}</g>\n"
+            f"<rect class='bar' width='18' x='{x - 9}' y='{top}' height='{height}'/><use href='#{shape}' x='{x}' y='{middle}'/>{sign}</g>\n"
             f"<text class='node' transform='translate({x + 4},278)rotate(-90)'>{name}</text>\n"
         )
 
@@ -167,6 +184,7 @@ def page(bases, panels, rows, fault):
     down = top + 24 + (40 + 20 * len(rows) if rows else 0)
     across = max(width, 1000, 600 + 8 * longest(row[-1] for row in rows), 200 + 8 * len((fault or "").encode())) + 30
     yield f"<svg xmlns='http://www.w3.org/2000/svg' width='{across}' height='{down + 40}' viewBox='0 0 {across} {down + 40}'>\n" + STATIC
+    yield LIMITS_LEGEND if scale.per_unit else NO_LIMITS_LEGEND
     for k, it in enumerate(strips):
         yield f"<g transform='translate({k % columns * width},{100 + k // columns * height})'>\n{it.text(scale)}</g>\n"
     yield from table(top, rows)

@@ -1,22 +1,22 @@
 -- Each mark stands inside the frame of its strip, and each strip inside the page and apart from the others.
-use Rattle.std.proofs.Common.{◌≡◌, ◌+◌, ◌-◌, ◌*◌, ◌/◌, ◌%◌, ◌^◌, ◌<◌, ◌≤◌, ◌==◌, ◌&&◌, inl, inr, ℕ, zero, suc, List, [], ◌∷◌, length, fold, max, nat_lt, Bool, true, false, Option, Some, None, unwrap_or, refl, sym, ap, arith, subst}
+use Rattle.std.proofs.Common.{◌≡◌, ◌+◌, ◌-◌, ◌*◌, ◌/◌, ◌%◌, ◌^◌, ◌<◌, ◌≤◌, ◌==◌, ◌&&◌, inl, inr, ℕ, zero, suc, List, [], ◌∷◌, length, fold, max, min, nat_lt, Bool, true, false, Option, Some, None, unwrap_or, if◌then◌else◌, refl, sym, ap, arith, subst}
 use Rattle.std.specs.List.{slice_get}
 use Rattle.std.specs.Prelude.{⊤}
-use Rattle.std.proofs.Math.Nat.{div-le_of_le-mul, div-mul-le_self, mod-lt, mul-le-mul_right, mod-add-div'}
+use Rattle.std.proofs.Math.Nat.{div-mul-le_self, mod-lt, mul-le-mul_right, mod-add-div'}
 use Rattle.std.proofs.lemmas.Bool.Decides.{nat_tests}
 use Rattle.std.proofs.lemmas.Nat.{le-div}
 use Rattle.fd_picture.proofs.Orders.{drawn_in_range}
 use Rattle.fd_picture.proofs.Rows.{strips_join, strips_most}
 use Rattle.fd_picture.specs.Bases.{base_of}
 use Rattle.fd_picture.specs.Drafts.{ReportView}
-use Rattle.fd_picture.specs.Laws.{FrameLaw, IsApart, page_grid, page_scale, StandsInFrame, StandsOnAxis, mark_at}
+use Rattle.fd_picture.specs.Laws.{FrameLaw, IsApart, page_grid, page_scale, ReachesOver, StandsInFrame, StandsOnAxis, mark_at}
 use Rattle.fd_picture.specs.Marks.{mark_of}
 use Rattle.fd_picture.specs.Pages.{grid_of, most_nodes, page_width, panel_left, panel_top, table_top}
 use Rattle.fd_picture.specs.Panels.{frame_width}
-use Rattle.fd_picture.specs.Scales.{axis_of, place, scale_of, widened, widened_by}
+use Rattle.fd_picture.specs.Scales.{axis_of, bare_axis, place, scale_of, widened, widened_by, widened_near}
 use Rattle.fd_picture.specs.Strips.{drawn}
 use Rattle.fd_exact.specs.RootThree.{root_three}
-use Rattle.fd_picture.specs.Units.{is_per_unit, micro_base, per_unit_at, per_unit_by, per_unit_span, span_in_range, span_of, volts_span}
+use Rattle.fd_picture.specs.Units.{is_far, is_per_unit, micro_base, per_unit_at, per_unit_by, per_unit_span, span_in_range, span_of, volts_span}
 use Rattle.fd_picture.specs.declared.page.Grid.{Grid}
 use Rattle.fd_picture.specs.declared.report.Base.{Base}
 use Rattle.fd_picture.specs.declared.report.Node.{Node}
@@ -72,7 +72,7 @@ unfolding span_of
 span_ordered bases true node h = or_ordered (per_unit_at bases node) (volts_span node) (by_ordered (base_of bases node.bus) node h) h
 span_ordered bases false node h = h
 
--- ---- the axis holds the spans of all nodes
+-- ---- the axis reaches over the spans of all nodes that aren't far
 
 abbrev pub Covers : Option Span → Span → Type 0
 Covers None span = ⊥
@@ -86,26 +86,38 @@ now_covered : (axis : Option Span) (span : Span) → Covers (Some (widened axis 
 now_covered None span = (omega arith, omega arith)
 now_covered (Some axis) span = (omega arith, omega arith)
 
+near_keeps : (per_unit : Bool) (axis : Option Span) (more span : Span) → Covers axis span
+    → Covers (widened_near per_unit axis more) span
+near_keeps per_unit axis more span h = cases (is_far per_unit more)
+  where
+    cases : (b : Bool) → Covers (if b then axis else Some (widened axis more)) span
+    cases true = h
+    cases false = still_covered axis more span h
+
+near_covers : (per_unit : Bool) (axis : Option Span) (span : Span) → is_far per_unit span ≡ false
+    → Covers (widened_near per_unit axis span) span
+near_covers per_unit axis span near = rw near (now_covered axis span)
+
 nodes_keep : (bases : List Base) (per_unit : Bool) (nodes : List Node) (axis : Option Span) (span : Span)
     → Covers axis span
     → Covers (widened_by bases per_unit axis nodes) span
 unfolding widened_by
 nodes_keep bases per_unit [] axis span h = h
 nodes_keep bases per_unit (n ∷ nodes) axis span h =
-    nodes_keep bases per_unit nodes (Some (widened axis (span_of bases per_unit n))) span (still_covered axis (span_of bases per_unit n) span h)
+    nodes_keep bases per_unit nodes (widened_near per_unit axis (span_of bases per_unit n)) span (near_keeps per_unit axis (span_of bases per_unit n) span h)
 
 nodes_cover : (bases : List Base) (per_unit : Bool) (nodes : List Node) (axis : Option Span) (k : ℕ) (node : Node)
-    → slice_get nodes k ≡ Some node
+    → slice_get nodes k ≡ Some node → is_far per_unit (span_of bases per_unit node) ≡ false
     → Covers (widened_by bases per_unit axis nodes) (span_of bases per_unit node)
 unfolding widened_by
-nodes_cover bases per_unit [] axis k node e = cc e
-nodes_cover bases per_unit (n ∷ nodes) axis zero node e =
+nodes_cover bases per_unit [] axis k node e near = cc e
+nodes_cover bases per_unit (n ∷ nodes) axis zero node e near =
     let same : n ≡ node = cc e in
     subst (λ m. Covers (widened_by bases per_unit axis (n ∷ nodes)) (span_of bases per_unit m)) same
-    (nodes_keep bases per_unit nodes (Some (widened axis (span_of bases per_unit n))) (span_of bases per_unit n)
-    (now_covered axis (span_of bases per_unit n)))
-nodes_cover bases per_unit (n ∷ nodes) axis (suc k) node e =
-    nodes_cover bases per_unit nodes (Some (widened axis (span_of bases per_unit n))) k node e
+    (nodes_keep bases per_unit nodes (widened_near per_unit axis (span_of bases per_unit n)) (span_of bases per_unit n)
+    (near_covers per_unit axis (span_of bases per_unit n) (subst (λ (m : Node). is_far per_unit (span_of bases per_unit m) ≡ false) (sym same) near)))
+nodes_cover bases per_unit (n ∷ nodes) axis (suc k) node e near =
+    nodes_cover bases per_unit nodes (widened_near per_unit axis (span_of bases per_unit n)) k node e near
 
 abbrev pub over : List Base → Bool → Option Span → List Panel → Option Span
 over bases per_unit axis panels = fold (λ axis panel. widened_by bases per_unit axis panel.nodes) axis panels
@@ -134,38 +146,50 @@ or_covers (Some axis) other span h = h
 
 pub axis_covers : (bases : List Base) (per_unit : Bool) (panels : List Panel) (panel : Panel) (j k : ℕ) (node : Node)
     → slice_get panels j ≡ Some panel
-    → slice_get panel.nodes k ≡ Some node → Covers (Some (axis_of bases per_unit panels)) (span_of bases per_unit node)
+    → slice_get panel.nodes k ≡ Some node → is_far per_unit (span_of bases per_unit node) ≡ false
+    → Covers (Some (axis_of bases per_unit panels)) (span_of bases per_unit node)
 unfolding axis_of
-axis_covers bases per_unit panels panel j k node there has =
-    or_covers (over bases per_unit None panels) (record { low = 0; high = 0 }) (span_of bases per_unit node)
-    (panels_cover bases per_unit panels None j panel (span_of bases per_unit node) (λ a. nodes_cover bases per_unit panel.nodes a k node has) there)
+axis_covers bases per_unit panels panel j k node there has near =
+    or_covers (over bases per_unit None panels) (bare_axis per_unit) (span_of bases per_unit node)
+    (panels_cover bases per_unit panels None j panel (span_of bases per_unit node)
+    (λ a. nodes_cover bases per_unit panel.nodes a k node has near) there)
+
+pub axis_reaches : (r : ReportView) (panel : Panel) (j k : ℕ) (node : Node) → slice_get (drawn r.panels) j ≡ Some panel
+    → slice_get panel.nodes k ≡ Some node → is_far (page_scale r).per_unit (span_of r.bases (page_scale r).per_unit node) ≡ false
+    → ReachesOver (page_scale r).axis (span_of r.bases (page_scale r).per_unit node)
+unfolding scale_of
+axis_reaches r panel j k node there has near =
+    let covers = axis_covers r.bases (is_per_unit r.bases (drawn r.panels)) (drawn r.panels) panel j k node there has near in
+    record { low = covers.0; high = covers.1 }
 
 -- ---- the axis
 
-place_most : (axis : Span) (v : ℕ) → v ≤ axis.high → place axis v ≤ 220
+least_most : (x n : ℕ) → min x n ≤ n
+least_most x n = omega arith
+
+least_grows : (x y n : ℕ) → x ≤ y → min x n ≤ min y n
+least_grows x y n h = omega (arith, h)
+
+place_most : (axis : Span) (v : ℕ) → place axis v ≤ 220
 unfolding place
-place_most axis v h =
-    let most : (v - axis.low) * 220 ≤ max (axis.high - axis.low) 1 * 220 = omega (arith, h) in
-    div-le_of_le-mul (max (axis.high - axis.low) 1) most
+place_most axis v = least_most ((v - axis.low) * 220 / max (axis.high - axis.low) 1) 220
 
 place_grows : (axis : Span) (v w : ℕ) → v ≤ w → place axis v ≤ place axis w
 unfolding place
 place_grows axis v w h =
     let some : 0 < max (axis.high - axis.low) 1 = omega arith in
     let more : (v - axis.low) * 220 ≤ (w - axis.low) * 220 = omega (arith, h) in
-    div_grows ((v - axis.low) * 220) ((w - axis.low) * 220) (max (axis.high - axis.low) 1) some more
+    let grows = div_grows ((v - axis.low) * 220) ((w - axis.low) * 220) (max (axis.high - axis.low) 1) some more in
+    least_grows ((v - axis.low) * 220 / max (axis.high - axis.low) 1) ((w - axis.low) * 220 / max (axis.high - axis.low) 1) 220 grows
 
-stands : (axis span : Span) → span.low ≤ span.high → Covers (Some axis) span → StandsOnAxis axis span
-stands axis span h covers = record { low = place_grows axis span.low span.high h; high = place_most axis span.high covers.1 }
-
-pub on_axis : (r : ReportView) (panel : Panel) (j k : ℕ) (node : Node) → slice_get (drawn r.panels) j ≡ Some panel
-    → slice_get panel.nodes k ≡ Some node → node.low ≤ node.high
+pub on_axis : (r : ReportView) (node : Node) → node.low ≤ node.high
     → StandsOnAxis (page_scale r).axis (span_of r.bases (page_scale r).per_unit node)
-unfolding scale_of
-on_axis r panel j k node there has h =
-    let per_unit = is_per_unit r.bases (drawn r.panels) in
-    stands (axis_of r.bases per_unit (drawn r.panels)) (span_of r.bases per_unit node) (span_ordered r.bases per_unit node h)
-    (axis_covers r.bases per_unit (drawn r.panels) panel j k node there has)
+on_axis r node h =
+    let span = span_of r.bases (page_scale r).per_unit node in
+    record {
+      low = place_grows (page_scale r).axis span.low span.high (span_ordered r.bases (page_scale r).per_unit node h);
+      high = place_most (page_scale r).axis span.high;
+    }
 
 -- ---- the frame
 
@@ -184,13 +208,13 @@ framed axis span per_unit k n node h on = record {
   bottom = omega (arith, on.low, on.high);
 }
 
-pub in_frame : (r : ReportView) (panel : Panel) (j k : ℕ) (node : Node) → slice_get (drawn r.panels) j ≡ Some panel
-    → slice_get panel.nodes k ≡ Some node → node.low ≤ node.high
+pub in_frame : (r : ReportView) (panel : Panel) (k : ℕ) (node : Node) → slice_get panel.nodes k ≡ Some node
+    → node.low ≤ node.high
     → StandsInFrame (mark_at r.bases (page_scale r) k node) (length panel.nodes)
-in_frame r panel j k node there has h =
+in_frame r panel k node has h =
     let scale = page_scale r in
     framed scale.axis (span_of r.bases scale.per_unit node) scale.per_unit k (length panel.nodes) node
-    (place_within panel.nodes k node has) (on_axis r panel j k node there has h)
+    (place_within panel.nodes k node has) (on_axis r node h)
 
 most_keeps : (panels : List Panel) (m : ℕ) → m ≤ fold (λ most panel. max most (length panel.nodes)) m panels
 most_keeps [] m = omega arith
@@ -282,8 +306,9 @@ frame_law_holds = record {
   nodes = strips_join;
   most = λ r. strips_most r.panels;
   order = λ bytes r j k strip node reads is. drawn_in_range bytes r strip j k node reads is.has_strip is.has_node;
-  axis = λ r j k strip node is h. on_axis r strip j k node is.has_strip is.has_node h;
-  frame = λ r j k strip node is h. in_frame r strip j k node is.has_strip is.has_node h;
+  axis = λ r j k strip node is h. on_axis r node h;
+  reach = λ r j k strip node is near. axis_reaches r strip j k node is.has_strip is.has_node near;
+  frame = λ r j k strip node is h. in_frame r strip k node is.has_node h;
   strip = λ r j strip there. in_panel r strip j there;
   apart = panels_apart;
   across = within_page;

@@ -1,5 +1,5 @@
 -- A panel has one mark for each of its nodes, inside its frame; and strips stand apart inside the page.
-use Rattle.std.specs.Prelude.{◌≡◌, ◌≤◌, ◌<◌, ◌⊎◌, ℕ, ◌+◌, ◌-◌, max, Bool, List, length, map, Some, Ok, slice_get}
+use Rattle.std.specs.Prelude.{◌≡◌, ◌≤◌, ◌<◌, ◌⊎◌, ℕ, ◌+◌, ◌-◌, max, Bool, false, List, length, map, Some, Ok, slice_get}
 use Rattle.std.specs.List.{enumerate_from, flat_map}
 use Rattle.fd_picture.specs.Marks.{mark_of}
 use Rattle.fd_picture.specs.Drafts.{ReportView}
@@ -8,7 +8,7 @@ use Rattle.fd_picture.specs.Panels.{frame_width, marks_text, node_text}
 use Rattle.fd_picture.specs.Reading.{report_of}
 use Rattle.fd_picture.specs.Scales.{level, place, scale_of}
 use Rattle.fd_picture.specs.Strips.{drawn, strips_of}
-use Rattle.fd_picture.specs.Units.{span_of}
+use Rattle.fd_picture.specs.Units.{is_far, span_of}
 use Rattle.fd_picture.specs.declared.marks.Mark.{Mark}
 use Rattle.fd_picture.specs.declared.page.Grid.{Grid}
 use Rattle.fd_picture.specs.declared.report.Base.{Base}
@@ -47,6 +47,11 @@ pub record StandsOnAxis (axis span : Span) : Type 0 where
   pub low : place axis span.low ≤ place axis span.high
   pub high : place axis span.high ≤ 220
 
+-- an axis reaches over a span
+pub record ReachesOver (axis span : Span) : Type 0 where
+  pub low : axis.low ≤ span.low
+  pub high : span.high ≤ axis.high
+
 -- a mark stands within the frame of a strip of so many nodes: from 100 to the right, and from 26 to 266 down
 pub record StandsInFrame (mark : Mark) (nodes : ℕ) : Type 0 where
   pub left : 100 ≤ mark.across - 9
@@ -81,6 +86,10 @@ pub record FrameLaw : Type 0 where
   -- on the page's axis each node whose low isn't above its high stands from 0 to 220 units above the lower end
   pub axis : (r : ReportView) (j k : ℕ) (strip : Panel) (node : Node) → IsDrawn r j k strip node → node.low ≤ node.high
       → StandsOnAxis (page_scale r).axis (span_of r.bases (page_scale r).per_unit node)
+  -- and the axis reaches over the interval of each that isn't far from one per unit, so that it stands at its own level
+  pub reach : (r : ReportView) (j k : ℕ) (strip : Panel) (node : Node) → IsDrawn r j k strip node
+      → is_far (page_scale r).per_unit (span_of r.bases (page_scale r).per_unit node) ≡ false
+      → ReachesOver (page_scale r).axis (span_of r.bases (page_scale r).per_unit node)
   -- and its mark stands inside the strip's frame
   pub frame : (r : ReportView) (j k : ℕ) (strip : Panel) (node : Node) → IsDrawn r j k strip node → node.low ≤ node.high
       → StandsInFrame (mark_at r.bases (page_scale r) k node) (length strip.nodes)

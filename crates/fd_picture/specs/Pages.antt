@@ -1,5 +1,5 @@
 -- The page of a report.
-use Rattle.std.specs.Prelude.{ℕ, ◌==◌, if◌then◌else◌, ◌+◌, ◌-◌, ◌*◌, ◌/◌, ◌%◌, min, max, List, [], ◌++◌, length, fold, Option, Some, None, codes, decimal}
+use Rattle.std.specs.Prelude.{Bool, ℕ, ◌==◌, if◌then◌else◌, ◌+◌, ◌-◌, ◌*◌, ◌/◌, ◌%◌, min, max, List, [], ◌++◌, length, fold, Option, Some, None, codes, decimal}
 use Rattle.fd_picture.specs.Drafts.{ReportView}
 use Rattle.fd_picture.specs.Panels.{panel_text}
 use Rattle.fd_picture.specs.Scales.{scale_of}
@@ -107,43 +107,40 @@ style_text =
     ++ codes ".node,.row{font:13px monospace}.fault{font:bold 13px monospace}.tick,.node,.unit{text-anchor:end}path.tick{stroke:#bbb}"
     ++ codes "path.limit{stroke:#000;stroke-dasharray:6 4}.frame{fill:none;stroke:#000}.bar{fill:#000;fill-opacity:.5}</style>\n"
 
--- the shapes of the marks of phases: apart in black and white too
-unfoldable pub phase_shapes_text : List ℕ
-phase_shapes_text =
+-- the shapes of marks, apart in black and white too, and what stands over those that aren't within the limits
+unfoldable pub shapes_text : List ℕ
+shapes_text =
     codes "<defs>\n<path id='triangle' d='M0 -7L7 5H-7Z' fill='#0072b2' stroke='#000'/>\n"
     ++ codes "<path id='square' d='M-5 -5H5V5H-5Z' fill='#fff' stroke='#d55e00' stroke-width='2.5'/>\n"
     ++ codes "<circle id='circle' r='6' fill='#009e73' stroke='#000'/>\n"
+    ++ codes "<path id='diamond' d='M0 -7L6 0L0 7L-6 0Z' fill='#fff' stroke='#000' stroke-width='2'/>\n"
+    ++ codes "<circle id='outside' r='10' fill='none' stroke='#000' stroke-width='2'/>\n"
+    ++ codes "<circle id='across' r='10' fill='none' stroke='#000' stroke-width='2' stroke-dasharray='4 4'/>\n"
+    ++ codes "<path id='far' d='M-9 -9L9 9M-9 9L9 -9' stroke='#000' stroke-width='2'/>\n</defs>\n"
 
--- the shape of other marks, and the ring round those outside
-unfoldable pub other_shapes_text : List ℕ
-other_shapes_text =
-    codes "<path id='diamond' d='M0 -7L6 0L0 7L-6 0Z' fill='#fff' stroke='#000' stroke-width='2'/>\n"
-    ++ codes "<circle id='outside' r='10' fill='none' stroke='#000' stroke-width='2'/>\n</defs>\n"
-
--- the heading of the page
+-- the heading of the page, and the legend of the shapes and the bar
 unfoldable pub heading_text : List ℕ
 heading_text =
     codes "<rect width='100%' height='100%' fill='#fff'/>\n"
     ++ codes "<text class='title' x='20' y='30'>Voltage magnitudes to ground, in the last round of each hour</text>\n"
-
--- the legend of the shapes
-unfoldable pub phases_text : List ℕ
-phases_text =
-    codes "<use href='#triangle' x='28' y='53'/><text x='44' y='58'>node 1</text>\n"
+    ++ codes "<use href='#triangle' x='28' y='53'/><text x='44' y='58'>node 1</text>\n"
     ++ codes "<use href='#square' x='128' y='53'/><text x='144' y='58'>node 2</text>\n"
     ++ codes "<use href='#circle' x='228' y='53'/><text x='244' y='58'>node 3</text>\n"
     ++ codes "<use href='#diamond' x='328' y='53'/><text x='344' y='58'>another node</text>\n"
+    ++ codes "<rect class='bar' x='460' y='49' width='18' height='8'/><text x='486' y='58'>from low to high, at least a line</text>\n"
 
--- the legend of the limits, the ring and the bar
-unfoldable pub bars_text : List ℕ
-bars_text =
-    codes "<path class='limit' d='M18 77h26'/><text x='52' y='82'>limits of 0.95 and 1.05 per unit</text>\n"
-    ++ codes "<use href='#outside' x='302' y='77'/><text x='320' y='82'>outside them</text>\n"
-    ++ codes "<rect class='bar' x='438' y='73' width='18' height='8'/><text x='464' y='82'>from low to high, at least a line</text>\n"
+-- the legend of the limits and of what isn't within them, or that nothing is judged
+unfoldable pub limits_text : Bool → List ℕ
+limits_text per_unit =
+    if per_unit then codes "<path class='limit' d='M18 77h26'/><text x='52' y='82'>limits of 0.95 and 1.05 per unit</text>\n"
+    ++ codes "<use href='#outside' x='292' y='77'/><text x='310' y='82'>surely outside</text>\n"
+    ++ codes "<use href='#across' x='432' y='77'/><text x='450' y='82'>across a limit</text>\n"
+    ++ codes "<use href='#far' x='570' y='77'/><text x='588' y='82'>below 0.5 or above 1.4, as in a delta: off the axis, not judged</text>\n"
+    else codes "<text x='20' y='82'>not every node has a voltage base: in volts, and no limits are judged</text>\n"
 
--- all that is the same on each page
-unfoldable pub legend_text : List ℕ
-legend_text = style_text ++ phase_shapes_text ++ other_shapes_text ++ heading_text ++ phases_text ++ bars_text
+-- what is the same on each page of a unit
+unfoldable pub legend_text : Bool → List ℕ
+legend_text per_unit = style_text ++ shapes_text ++ heading_text ++ limits_text per_unit
 
 -- where the last line stands below the table
 abbrev pub last_line : Grid → ReportView → ℕ
@@ -168,5 +165,6 @@ unfoldable pub page_of : ReportView → List ℕ
 page_of r =
     let strips = drawn r.panels in
     let grid = grid_of strips in
-    svg_text (page_width grid r) (page_height grid r) ++ legend_text ++ panels_text r.bases (scale_of r.bases strips) grid strips
+    let scale = scale_of r.bases strips in
+    svg_text (page_width grid r) (page_height grid r) ++ legend_text scale.per_unit ++ panels_text r.bases scale grid strips
     ++ table_text (table_top grid (length strips)) r.entries ++ fault_text (last_line grid r) r.fault ++ codes "</svg>\n"

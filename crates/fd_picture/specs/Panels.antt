@@ -5,6 +5,8 @@ use Rattle.fd_picture.specs.Marks.{mark_of}
 use Rattle.fd_picture.specs.Scales.{level, step_for, tick_value}
 use Rattle.fd_picture.specs.Texts.{attribute, between, escaped, numbered}
 use Rattle.fd_picture.specs.Units.{span_of}
+use Rattle.fd_picture.specs.declared.marks.Judgement.{Judgement}
+use Rattle.fd_picture.specs.declared.marks.Judgement.TheVariants as judgement
 use Rattle.fd_picture.specs.declared.marks.Mark.{Mark}
 use Rattle.fd_picture.specs.declared.marks.Shape.{Shape}
 use Rattle.fd_picture.specs.declared.marks.Shape.TheVariants as shape
@@ -41,9 +43,13 @@ place_text across down = attribute (codes "x") across ++ attribute (codes "y") d
 unfoldable pub shape_text : List ℕ → ℕ → ℕ → List ℕ
 shape_text name across down = codes "<use href='#" ++ name ++ codes "'" ++ place_text across down
 
--- round the mark of a node that is outside
-unfoldable pub ring_text : Mark → ℕ → List ℕ
-ring_text mark down = if mark.is_outside then shape_text (codes "outside") mark.across down else []
+-- over the mark of a node that isn't judged to be within the limits: a ring, a broken ring, or a cross
+unfoldable pub judgement_text : Judgement → ℕ → ℕ → List ℕ
+judgement_text judgement.Outside across down = shape_text (codes "outside") across down
+judgement_text judgement.Across across down = shape_text (codes "across") across down
+judgement_text judgement.Far across down = shape_text (codes "far") across down
+judgement_text judgement.Within across down = []
+judgement_text judgement.InVolts across down = []
 
 -- the interval: from the level of the high down, as high as the mark
 unfoldable pub bar_text : Mark → List ℕ
@@ -51,11 +57,12 @@ bar_text mark =
     codes "<rect class='bar' width='18'" ++ attribute (codes "x") (mark.across - 9) ++ attribute (codes "y") mark.top
     ++ attribute (codes "height") mark.height ++ codes "/>"
 
--- a mark: one element, with the title, the interval and the shape in its middle
+-- a mark: one element, with the title, the interval, and in its middle the shape and how it is judged
 unfoldable pub mark_text : Mark → Node → Bool → Span → List ℕ
 mark_text mark node per_unit span =
     codes "<g class='mark'>" ++ title_text node per_unit span ++ bar_text mark
-    ++ shape_text (shape_name mark.shape) mark.across (mark.top + mark.height / 2) ++ ring_text mark (mark.top + mark.height / 2) ++ codes "</g>\n"
+    ++ shape_text (shape_name mark.shape) mark.across (mark.top + mark.height / 2)
+    ++ judgement_text mark.judgement mark.across (mark.top + mark.height / 2) ++ codes "</g>\n"
 
 -- the name of a node below its mark, from the bottom up
 unfoldable pub label_text : ℕ → Node → List ℕ

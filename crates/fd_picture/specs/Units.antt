@@ -1,5 +1,5 @@
 -- The voltages of nodes, in the unit of their page.
-use Rattle.std.specs.Prelude.{ℕ, ◌+◌, ◌-◌, ◌*◌, ◌/◌, ◌^◌, ◌==◌, ◌&&◌, nat_lt, Bool, List, Option, Some, None, is_some, unwrap_or, if◌then◌else◌}
+use Rattle.std.specs.Prelude.{ℕ, ◌+◌, ◌-◌, ◌*◌, ◌/◌, ◌^◌, ◌==◌, ◌&&◌, ◌||◌, nat_lt, Bool, List, Option, Some, None, is_some, unwrap_or, if◌then◌else◌}
 use Rattle.std.specs.List.{list_all}
 use Rattle.fd_exact.specs.RootThree.{root_three}
 use Rattle.fd_picture.specs.Bases.{base_of}
@@ -44,3 +44,9 @@ volts_span node = record { low = node.low; high = node.high }
 -- the voltage of a node, in millionths of its base to ground, or else in microvolts
 unfoldable pub span_of : List Base → Bool → Node → Span
 span_of bases per_unit node = if per_unit then unwrap_or (per_unit_at bases node) (volts_span node) else volts_span node
+
+-- surely below 0.5 or above 1.4 per unit, as in a delta with a grounded corner. A phase of a grounded wye is as low only
+-- where it has all but collapsed, and never as high: under an earth fault the others keep below 0.8 of the voltage between
+-- phases, which is 1.39 per unit
+abbrev pub is_far : Bool → Span → Bool
+is_far per_unit span = per_unit && (nat_lt span.high 500_000 || nat_lt 1_400_000 span.low)

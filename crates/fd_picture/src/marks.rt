@@ -1,10 +1,10 @@
 // The mark of a node.
 ghost use Rattle.std.specs.Prelude.{◌≡◌, ◌≤◌, ◌^◌};
-ghost use Rattle.fd_picture.specs.Marks.{is_outside, mark_of, shape_of};
+ghost use Rattle.fd_picture.specs.Marks.{judgement_of, mark_of, shape_of};
 
 use crate::report::Node;
 use crate::scale::level;
-use crate::units::Span;
+use crate::units::{Span, is_far};
 
 /// The shape of a mark, which tells the number of its node.
 #[derive(Clone, Copy, Debug, PartialEq, Eq)]
@@ -13,6 +13,21 @@ pub enum Shape {
     Square,
     Circle,
     Diamond,
+}
+
+/// How a node stands to the limits of 0.95 and 1.05 per unit.
+#[derive(Clone, Copy, Debug, PartialEq, Eq)]
+pub enum Judgement {
+    /// All of its interval is within them.
+    Within,
+    /// A limit is inside its interval.
+    Across,
+    /// None of its interval is within them.
+    Outside,
+    /// It isn't judged, since it is far from one per unit: below 0.5 or above 1.4.
+    Far,
+    /// It isn't judged, since its page is in volts.
+    InVolts,
 }
 
 /// The mark of a node: from the level of its high to that of its low, in units of the page from the top left of its
@@ -26,13 +41,12 @@ pub struct Mark {
     /// The height down to the level of the low, and at least one unit.
     pub height: u128,
     pub shape: Shape,
-    /// Whether the node isn't within 0.95 to 1.05 per unit.
-    pub is_outside: bool,
+    pub judgement: Judgement,
 }
 
-/// Millionths of a base from which on a node isn't outside.
+/// The lower limit, in millionths of a base.
 pub(crate) const LEAST_INSIDE: u64 = 950_000;
-/// Millionths of a base up to which a node isn't outside.
+/// The upper limit, in millionths of a base.
 pub(crate) const GREATEST_INSIDE: u64 = 1_050_000;
 
 fn shape_of(number: u64) -> Shape
@@ -46,10 +60,20 @@ fn shape_of(number: u64) -> Shape
     }
 }
 
-fn is_outside(per_unit: bool, span: Span) -> bool
-    ensures { result ≡ is_outside per_unit span }
+fn judgement_of(per_unit: bool, span: Span) -> Judgement
+    ensures { result ≡ judgement_of per_unit span }
 {
-    per_unit && (span.low < LEAST_INSIDE || span.high > GREATEST_INSIDE)
+    if !per_unit {
+        Judgement::InVolts
+    } else if is_far(per_unit, span) {
+        Judgement::Far
+    } else if span.high < LEAST_INSIDE || span.low > GREATEST_INSIDE {
+        Judgement::Outside
+    } else if span.low < LEAST_INSIDE || span.high > GREATEST_INSIDE {
+        Judgement::Across
+    } else {
+        Judgement::Within
+    }
 }
 
 /// The mark of the node at this place of its panel, counted from 0.
@@ -66,6 +90,6 @@ pub(crate) fn mark_of(axis: Span, per_unit: bool, place: usize, node: &Node, spa
         top,
         height: level(axis, span.low).saturating_sub(top).max(1),
         shape: shape_of(node.number),
-        is_outside: is_outside(per_unit, span),
+        judgement: judgement_of(per_unit, span),
     }
 }

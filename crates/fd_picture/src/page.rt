@@ -1,13 +1,13 @@
 // The page of a report.
 ghost use Rattle.std.specs.Prelude.{◌≡◌, ◌<◌, ◌≤◌, ◌^◌, ◌++◌, IfOk, OnOk};
-ghost use Rattle.fd_picture.specs.Pages.{bars_text, fault_length, heads_text, longest_element, page_width, panel_left, panel_top, table_height, cell_text, entries_text, entry_text, fault_text, grid_of, heading_text, kind_name, label_length, legend_text, longest_bus, most_nodes, number_cell, other_shapes_text, page_of, panel_at, panels_text, phase_shapes_text, phases_text, style_text, svg_text, table_text, table_top, view_text};
+ghost use Rattle.fd_picture.specs.Pages.{limits_text, fault_length, heads_text, longest_element, page_width, panel_left, panel_top, table_height, cell_text, entries_text, entry_text, fault_text, grid_of, heading_text, kind_name, label_length, legend_text, longest_bus, most_nodes, number_cell, page_of, panel_at, panels_text, shapes_text, style_text, svg_text, table_text, table_top, view_text};
 ghost use Rattle.fd_picture.specs.Strips.{drawn};
 
 use crate::panel::push_panel;
 use crate::report::{Entry, Kind, Node, Report};
 use crate::scale::{Scale, scale_of};
 use crate::strips::{Strip, drawn};
-use crate::text::{push, push_attribute, push_escaped, push_number};
+use crate::text::{push, push_all, push_attribute, push_escaped, push_number};
 use crate::units::BaseTable;
 use fd_outside::Bytes;
 use std::alloc::{AllocError, Global};
@@ -327,119 +327,86 @@ fn push_fault(text: &mut Vec<u8>, down: u128, fault: &Option<Bytes>) -> Result<(
 fn push_style(text: &mut Vec<u8>) -> Result<(), AllocError>
     ensures { OnOk result (text.new.items ≡ text.old.items ++ style_text) }
 {
-    push(
+    push_all(
         text,
-        b"<style>text{font:14px sans-serif}.head{font-weight:bold}.title{font:bold 18px sans-serif}.round,.tick{font-size:12px}",
-    )?;
-    push(
-        text,
-        b".node,.row{font:13px monospace}.fault{font:bold 13px monospace}.tick,.node,.unit{text-anchor:end}path.tick{stroke:#bbb}",
-    )?;
-    push(
-        text,
-        b"path.limit{stroke:#000;stroke-dasharray:6 4}.frame{fill:none;stroke:#000}.bar{fill:#000;fill-opacity:.5}</style>\n",
+        &[
+            b"<style>text{font:14px sans-serif}.head{font-weight:bold}.title{font:bold 18px sans-serif}.round,.tick{font-size:12px}",
+            b".node,.row{font:13px monospace}.fault{font:bold 13px monospace}.tick,.node,.unit{text-anchor:end}path.tick{stroke:#bbb}",
+            b"path.limit{stroke:#000;stroke-dasharray:6 4}.frame{fill:none;stroke:#000}.bar{fill:#000;fill-opacity:.5}</style>\n",
+        ],
     )
 }
 
-// The shapes of the marks of phases: apart in black and white too.
-#[tactic(auto, unfolding(crate::specs::Pages::phase_shapes_text))]
-fn push_phase_shapes(text: &mut Vec<u8>) -> Result<(), AllocError>
-    ensures { OnOk result (text.new.items ≡ text.old.items ++ phase_shapes_text) }
+// The shapes of marks, apart in black and white too, and what stands over those that aren't within the limits.
+#[tactic(auto, unfolding(crate::specs::Pages::shapes_text))]
+fn push_shapes(text: &mut Vec<u8>) -> Result<(), AllocError>
+    ensures { OnOk result (text.new.items ≡ text.old.items ++ shapes_text) }
 {
-    push(
+    push_all(
         text,
-        b"<defs>\n<path id='triangle' d='M0 -7L7 5H-7Z' fill='#0072b2' stroke='#000'/>\n",
-    )?;
-    push(
-        text,
-        b"<path id='square' d='M-5 -5H5V5H-5Z' fill='#fff' stroke='#d55e00' stroke-width='2.5'/>\n",
-    )?;
-    push(
-        text,
-        b"<circle id='circle' r='6' fill='#009e73' stroke='#000'/>\n",
+        &[
+            b"<defs>\n<path id='triangle' d='M0 -7L7 5H-7Z' fill='#0072b2' stroke='#000'/>\n",
+            b"<path id='square' d='M-5 -5H5V5H-5Z' fill='#fff' stroke='#d55e00' stroke-width='2.5'/>\n",
+            b"<circle id='circle' r='6' fill='#009e73' stroke='#000'/>\n",
+            b"<path id='diamond' d='M0 -7L6 0L0 7L-6 0Z' fill='#fff' stroke='#000' stroke-width='2'/>\n",
+            b"<circle id='outside' r='10' fill='none' stroke='#000' stroke-width='2'/>\n",
+            b"<circle id='across' r='10' fill='none' stroke='#000' stroke-width='2' stroke-dasharray='4 4'/>\n",
+            b"<path id='far' d='M-9 -9L9 9M-9 9L9 -9' stroke='#000' stroke-width='2'/>\n</defs>\n",
+        ],
     )
 }
 
-// The shape of other marks, and the ring round those outside.
-#[tactic(auto, unfolding(crate::specs::Pages::other_shapes_text))]
-fn push_other_shapes(text: &mut Vec<u8>) -> Result<(), AllocError>
-    ensures { OnOk result (text.new.items ≡ text.old.items ++ other_shapes_text) }
-{
-    push(
-        text,
-        b"<path id='diamond' d='M0 -7L6 0L0 7L-6 0Z' fill='#fff' stroke='#000' stroke-width='2'/>\n",
-    )?;
-    push(
-        text,
-        b"<circle id='outside' r='10' fill='none' stroke='#000' stroke-width='2'/>\n</defs>\n",
-    )
-}
-
-// The heading of the page.
+// The heading of the page, and the legend of the shapes and the bar.
 #[tactic(auto, unfolding(crate::specs::Pages::heading_text))]
 fn push_heading(text: &mut Vec<u8>) -> Result<(), AllocError>
     ensures { OnOk result (text.new.items ≡ text.old.items ++ heading_text) }
 {
-    push(text, b"<rect width='100%' height='100%' fill='#fff'/>\n")?;
-    push(
+    push_all(
         text,
-        b"<text class='title' x='20' y='30'>Voltage magnitudes to ground, in the last round of each hour</text>\n",
+        &[
+            b"<rect width='100%' height='100%' fill='#fff'/>\n",
+            b"<text class='title' x='20' y='30'>Voltage magnitudes to ground, in the last round of each hour</text>\n",
+            b"<use href='#triangle' x='28' y='53'/><text x='44' y='58'>node 1</text>\n",
+            b"<use href='#square' x='128' y='53'/><text x='144' y='58'>node 2</text>\n",
+            b"<use href='#circle' x='228' y='53'/><text x='244' y='58'>node 3</text>\n",
+            b"<use href='#diamond' x='328' y='53'/><text x='344' y='58'>another node</text>\n",
+            b"<rect class='bar' x='460' y='49' width='18' height='8'/><text x='486' y='58'>from low to high, at least a line</text>\n",
+        ],
     )
 }
 
-// The legend of the shapes.
-#[tactic(auto, unfolding(crate::specs::Pages::phases_text))]
-fn push_phases(text: &mut Vec<u8>) -> Result<(), AllocError>
-    ensures { OnOk result (text.new.items ≡ text.old.items ++ phases_text) }
+// The legend of the limits and of what isn't within them, or that nothing is judged.
+#[tactic(auto, unfolding(crate::specs::Pages::limits_text))]
+fn push_limits(text: &mut Vec<u8>, per_unit: bool) -> Result<(), AllocError>
+    ensures { OnOk result (text.new.items ≡ text.old.items ++ limits_text per_unit) }
 {
-    push(
-        text,
-        b"<use href='#triangle' x='28' y='53'/><text x='44' y='58'>node 1</text>\n",
-    )?;
-    push(
-        text,
-        b"<use href='#square' x='128' y='53'/><text x='144' y='58'>node 2</text>\n",
-    )?;
-    push(
-        text,
-        b"<use href='#circle' x='228' y='53'/><text x='244' y='58'>node 3</text>\n",
-    )?;
-    push(
-        text,
-        b"<use href='#diamond' x='328' y='53'/><text x='344' y='58'>another node</text>\n",
-    )
+    if per_unit {
+        push_all(
+            text,
+            &[
+                b"<path class='limit' d='M18 77h26'/><text x='52' y='82'>limits of 0.95 and 1.05 per unit</text>\n",
+                b"<use href='#outside' x='292' y='77'/><text x='310' y='82'>surely outside</text>\n",
+                b"<use href='#across' x='432' y='77'/><text x='450' y='82'>across a limit</text>\n",
+                b"<use href='#far' x='570' y='77'/><text x='588' y='82'>below 0.5 or above 1.4, as in a delta: off the axis, not judged</text>\n",
+            ],
+        )
+    } else {
+        push(
+            text,
+            b"<text x='20' y='82'>not every node has a voltage base: in volts, and no limits are judged</text>\n",
+        )
+    }
 }
 
-// The legend of the limits, of the ring and of the bar.
-#[tactic(auto, unfolding(crate::specs::Pages::bars_text))]
-fn push_bars(text: &mut Vec<u8>) -> Result<(), AllocError>
-    ensures { OnOk result (text.new.items ≡ text.old.items ++ bars_text) }
-{
-    push(
-        text,
-        b"<path class='limit' d='M18 77h26'/><text x='52' y='82'>limits of 0.95 and 1.05 per unit</text>\n",
-    )?;
-    push(
-        text,
-        b"<use href='#outside' x='302' y='77'/><text x='320' y='82'>outside them</text>\n",
-    )?;
-    push(
-        text,
-        b"<rect class='bar' x='438' y='73' width='18' height='8'/><text x='464' y='82'>from low to high, at least a line</text>\n",
-    )
-}
-
-// All that is the same on each page.
+// What is the same on each page of a unit.
 #[tactic(auto, unfolding(crate::specs::Pages::legend_text))]
-fn push_legend(text: &mut Vec<u8>) -> Result<(), AllocError>
-    ensures { OnOk result (text.new.items ≡ text.old.items ++ legend_text) }
+fn push_legend(text: &mut Vec<u8>, per_unit: bool) -> Result<(), AllocError>
+    ensures { OnOk result (text.new.items ≡ text.old.items ++ legend_text per_unit) }
 {
     push_style(text)?;
-    push_phase_shapes(text)?;
-    push_other_shapes(text)?;
+    push_shapes(text)?;
     push_heading(text)?;
-    push_phases(text)?;
-    push_bars(text)
+    push_limits(text, per_unit)
 }
 
 // Where the view of the page ends, right and below.
@@ -480,11 +447,12 @@ fn push_page(
 {
     let entries = report.entries.as_slice();
     let grid = grid_of(strips);
+    let scale = scale_of(bases, strips);
     let top = table_top(grid, strips.len());
     let down = top + 24 + table_height(entries.len());
     push_svg(text, page_width(grid, report), down + 40)?;
-    push_legend(text)?;
-    push_panels(alloc, text, bases, scale_of(bases, strips), grid, strips)?;
+    push_legend(text, scale.per_unit)?;
+    push_panels(alloc, text, bases, scale, grid, strips)?;
     push_table(text, top, entries)?;
     push_fault(text, down, &report.fault)?;
     push(text, b"</svg>\n")

@@ -1,9 +1,9 @@
 // A strip of a panel: nodes of one round over the axis of the page.
 ghost use Rattle.std.specs.Prelude.{◌≡◌, ◌≤◌, ◌^◌, ◌-◌, ◌++◌, OnOk, codes};
 ghost use Rattle.fd_decimal.specs.Decimals.{size_text};
-ghost use Rattle.fd_picture.specs.Panels.{head_text, label_text, limit_text, mark_text, marks_text, node_name, panel_text, per_unit_text, shape_name, tick_text, ticks_text, title_text, unit_name, level_text, axis_text, bar_text, frame_text, line_text, node_text, place_text, ring_text, shape_text, tick_within, frame_width};
+ghost use Rattle.fd_picture.specs.Panels.{head_text, label_text, limit_text, mark_text, marks_text, node_name, panel_text, per_unit_text, shape_name, tick_text, ticks_text, title_text, unit_name, level_text, axis_text, bar_text, frame_text, line_text, node_text, place_text, judgement_text, shape_text, tick_within, frame_width};
 
-use crate::marks::{GREATEST_INSIDE, LEAST_INSIDE, Mark, Shape, mark_of};
+use crate::marks::{GREATEST_INSIDE, Judgement, LEAST_INSIDE, Mark, Shape, mark_of};
 use crate::report::Node;
 use crate::scale::{Scale, level, step_for, tick_value};
 use crate::strips::Strip;
@@ -106,15 +106,21 @@ fn push_shape(text: &mut Vec<u8>, name: &[u8], across: u128, down: u128) -> Resu
     push_place(text, across, down)
 }
 
-#[tactic(auto, unfolding(crate::specs::Panels::ring_text))]
-fn push_ring(text: &mut Vec<u8>, mark: Mark, down: u128) -> Result<(), AllocError>
-    requires down { down ≤ 2 ^ 100 }
-    ensures { OnOk result (text.new.items ≡ text.old.items ++ ring_text mark down) }
+// Over the mark of a node that isn't judged to be within the limits: a ring, a broken ring, or a cross.
+#[tactic(auto, unfolding(crate::specs::Panels::judgement_text))]
+fn push_judgement(
+    text: &mut Vec<u8>,
+    judgement: Judgement,
+    across: u128,
+    down: u128,
+) -> Result<(), AllocError>
+    ensures { OnOk result (text.new.items ≡ text.old.items ++ judgement_text judgement across down) }
 {
-    if mark.is_outside {
-        push_shape(text, b"outside", mark.across, down)
-    } else {
-        Ok(())
+    match judgement {
+        Judgement::Outside => push_shape(text, b"outside", across, down),
+        Judgement::Across => push_shape(text, b"across", across, down),
+        Judgement::Far => push_shape(text, b"far", across, down),
+        Judgement::Within | Judgement::InVolts => Ok(()),
     }
 }
 
@@ -149,7 +155,7 @@ fn push_mark(
     push_title(alloc, text, node, per_unit, span)?;
     push_bar(text, mark)?;
     push_shape(text, shape_name(mark.shape), mark.across, middle)?;
-    push_ring(text, mark, middle)?;
+    push_judgement(text, mark.judgement, mark.across, middle)?;
     push(text, b"</g>\n")
 }
 

@@ -1,10 +1,11 @@
 // The axis of a page, and the place of a voltage on it.
 ghost use Rattle.std.specs.Prelude.{◌≡◌, ◌<◌, ◌≤◌, ◌^◌, ◌/◌, ◌*◌};
-ghost use Rattle.fd_picture.specs.Scales.{axis_of, level, place, scale_of, step_for, step_in, tick_value, widened, widened_by};
+ghost use Rattle.fd_picture.specs.Scales.{axis_of, bare_axis, level, place, scale_of, step_for, step_in, tick_value, widened, widened_by, widened_near};
 
+use crate::marks::{GREATEST_INSIDE, LEAST_INSIDE};
 use crate::report::Node;
 use crate::strips::Strip;
-use crate::units::{BaseTable, Span, is_per_unit, span_of};
+use crate::units::{BaseTable, Span, is_far, is_per_unit, span_of};
 
 /// The height of an axis, in units of the page.
 const PLOT_HEIGHT: u128 = 220;
@@ -32,19 +33,44 @@ fn widened(axis: Option<Span>, span: Span) -> Span
     }
 }
 
-// An axis, widened by nodes.
+// An axis that holds a span too, unless that is far from one per unit.
+fn widened_near(per_unit: bool, axis: Option<Span>, span: Span) -> Option<Span>
+    ensures { result ≡ widened_near per_unit axis span }
+{
+    if is_far(per_unit, span) {
+        axis
+    } else {
+        Some(widened(axis, span))
+    }
+}
+
+// An axis, widened by the nodes that aren't far from one per unit.
 #[tactic(auto, unfolding(crate::specs::Scales::widened_by))]
 fn widened_by(bases: &BaseTable, per_unit: bool, axis: Option<Span>, nodes: &[Node]) -> Option<Span>
     ensures { result ≡ widened_by bases.now per_unit axis nodes.now }
 {
     let mut axis = axis;
     for node in nodes {
-        axis = Some(widened(axis, span_of(bases, per_unit, node)));
+        axis = widened_near(per_unit, axis, span_of(bases, per_unit, node));
     }
     axis
 }
 
-// From the least low to the greatest high of all nodes.
+// The axis where no node gives one: between the limits, or at 0 V.
+fn bare_axis(per_unit: bool) -> Span
+    ensures { result ≡ bare_axis per_unit }
+{
+    if per_unit {
+        Span {
+            low: LEAST_INSIDE,
+            high: GREATEST_INSIDE,
+        }
+    } else {
+        Span { low: 0, high: 0 }
+    }
+}
+
+// From the least low to the greatest high of all nodes that aren't far from one per unit.
 #[tactic(auto, unfolding(crate::specs::Scales::axis_of))]
 fn axis_of(bases: &BaseTable, per_unit: bool, strips: &[Strip]) -> Span
     ensures { result ≡ axis_of bases.now per_unit strips.now }
@@ -53,7 +79,7 @@ fn axis_of(bases: &BaseTable, per_unit: bool, strips: &[Strip]) -> Span
     for strip in strips {
         axis = widened_by(bases, per_unit, axis, strip.nodes());
     }
-    axis.unwrap_or(Span { low: 0, high: 0 })
+    axis.unwrap_or(bare_axis(per_unit))
 }
 
 /// The unit and the axis of a page.
@@ -68,13 +94,15 @@ pub(crate) fn scale_of(bases: &BaseTable, strips: &[Strip]) -> Scale
     }
 }
 
-// How far above the low end of the axis a voltage stands, in units of the page, rounded down.
+// How far above the low end of the axis a voltage stands, in units of the page, rounded down; at an end where it is off
+// the axis.
 #[tactic(auto, unfolding(crate::specs::Scales::place))]
 fn place(axis: Span, value: u64) -> u128
     ensures { result ≡ place axis value }
 {
     let range = u128::from(axis.high.saturating_sub(axis.low).max(1));
-    u128::from(value.saturating_sub(axis.low)) * PLOT_HEIGHT / range
+    let above = u128::from(value.saturating_sub(axis.low));
+    (above * PLOT_HEIGHT / range).min(PLOT_HEIGHT)
 }
 
 /// Where a voltage stands below the top of its panel, in units of the page.

@@ -1,5 +1,6 @@
 // Pieces of text.
 ghost use Rattle.std.specs.Prelude.{◌≡◌, ◌++◌, OnOk, decimal};
+ghost use Rattle.std.specs.List.{flat_map};
 ghost use Rattle.fd_decimal.specs.Decimals.{size_text};
 ghost use Rattle.fd_picture.specs.Texts.{attribute, between, escape, escaped};
 
@@ -13,6 +14,16 @@ pub(crate) fn push(text: &mut Vec<u8>, piece: &[u8]) -> Result<(), AllocError>
     ensures { OnOk result (text.new.items ≡ text.old.items ++ piece.now) }
 {
     text.extend_from_slice(piece)
+}
+
+/// Adds pieces in order.
+pub(crate) fn push_all(text: &mut Vec<u8>, pieces: &[&[u8]]) -> Result<(), AllocError>
+    ensures { OnOk result (text.new.items ≡ text.old.items ++ flat_map (λ piece. piece.now) pieces.now) }
+{
+    for piece in pieces {
+        push(text, piece)?;
+    }
+    Ok(())
 }
 
 /// Adds a whole number.

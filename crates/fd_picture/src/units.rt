@@ -2,7 +2,7 @@
 ghost use Rattle.std.specs.Prelude.{◌≡◌, ◌<◌, ◌^◌, ◌*◌, IfOk};
 ghost use Rattle.fd_exact.specs.RootThree.{root_three};
 ghost use Rattle.fd_picture.specs.Bases.{base_of};
-ghost use Rattle.fd_picture.specs.Units.{have_bases, is_per_unit, micro_base, per_unit_at, per_unit_span, span_in_range, span_of};
+ghost use Rattle.fd_picture.specs.Units.{have_bases, is_far, is_per_unit, micro_base, per_unit_at, per_unit_span, span_in_range, span_of};
 
 use crate::report::{Base, Node};
 use crate::strips::Strip;
@@ -10,6 +10,11 @@ use fd_exact::ROOT_THREE;
 use std::alloc::{AllocError, Global};
 use std::collections::HashMap;
 use std::marker::Model;
+
+// Millionths of a base to ground, below and above which a node is far from one per unit.
+const LEAST_NEAR: u64 = 500_000;
+
+const GREATEST_NEAR: u64 = 1_400_000;
 
 /// The last voltage base of each bus. Contracts see all bases in order.
 #[derive(Drop)]
@@ -145,4 +150,11 @@ pub(crate) fn span_of(bases: &BaseTable, per_unit: bool, node: &Node) -> Span
     } else {
         volts
     }
+}
+
+/// Whether a node is surely below 0.5 or above 1.4 per unit.
+pub(crate) fn is_far(per_unit: bool, span: Span) -> bool
+    ensures { result ≡ is_far per_unit span }
+{
+    per_unit && (span.high < LEAST_NEAR || span.low > GREATEST_NEAR)
 }

@@ -6,7 +6,7 @@ use Rattle.fd_picture.proofs.panel.push_mark.Goals as goal
 pub returns : goal.returns
 unfolding mark_text
 returns c = on_ok c.push-2.result (λ added. added ∙ rw (
-  c.in_ok-push_ring.ensures,
+  c.in_ok-push_judgement.ensures,
   c.in_ok-push_shape.ensures,
   c.in_ok-push_bar.ensures,
   c.in_ok-push_title.ensures,
