@@ -5,8 +5,7 @@
 set -eu
 here=$(cd "$(dirname "$0")" && pwd)
 top=$(cd "$here/../.." && pwd)
-binary=$top/crates/feeder_picture/out/feeder_picture
-[ -x "$binary" ] || { echo "build the program first: ./picture examples/day.out" >&2; exit 1; }
+binary=$("$top/tools/built" feeder_picture)
 work=$(mktemp -d)
 trap 'rm -rf "$work"' EXIT
 python3 - "$binary" "$top" "$work" <<'P'

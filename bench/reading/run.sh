@@ -3,8 +3,7 @@
 # same kinds with 4,000 elements. Prints the least time of each for a byte, without that of an empty script, and the ratio.
 set -eu
 here=$(cd "$(dirname "$0")" && pwd)
-binary=$(cd "$here/../.." && pwd)/crates/feeder/out/feeder
-[ -x "$binary" ] || { echo "build the program first: ./feeder solve examples/first.dss" >&2; exit 1; }
+binary=$("$here/../../tools/built" feeder)
 python3 - "$binary" "${1:-15}" <<'P'
 import os, subprocess, sys, tempfile, time
 binary, rounds = sys.argv[1], int(sys.argv[2])

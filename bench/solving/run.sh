@@ -6,8 +6,7 @@
 set -eu
 here=$(cd "$(dirname "$0")" && pwd)
 top=$(cd "$here/../.." && pwd)
-binary=$top/crates/feeder/out/feeder
-[ -x "$binary" ] || { echo "build the program first: ./feeder solve examples/first.dss" >&2; exit 1; }
+binary=$("$top/tools/built" feeder)
 work=$(mktemp -d)
 trap 'rm -rf "$work"' EXIT
 rustc -O -o "$work/plain" "$top/bench/elimination/plain.rs"
