@@ -32,7 +32,7 @@ command_first files folder c rest =
     let f = verb_filled files folder c.verb in
     each_first f.names (given c.place f.filled rest) ∙ ap (λ ns. f.names ++ ns) (given_first c.place f.filled rest) ∙ append-nil f.names
 
-reached_given : (files : Files) (folder : List ℕ) (c : Command) (rest from now : Script) (r : Result Verb ScriptCause) (old mid new : Option (List (List ℕ)))
+reached_given : (files : Files) (folder : List ℕ) (c : Command) (rest from now : Script) (r : Result Verb ScriptCause) (old mid new : List (List ℕ))
     → Reached from now old mid → now ≡ command_says files folder c rest → (verb_filled files folder c.verb).filled ≡ r
     → Grows mid new (verb_filled files folder c.verb).names
     → Reached from (given c.place r rest) old new
@@ -49,14 +49,14 @@ reached_given files folder c rest from now r old mid new reached e h g =
       grown = grows_more old mid new reached.names f.names reached.grown g;
     }
 
-pub reached_command : (files : Files) (folder : List ℕ) (c : Command) (rest from now : Script) (v : Verb) (old mid new : Option (List (List ℕ)))
+pub reached_command : (files : Files) (folder : List ℕ) (c : Command) (rest from now : Script) (v : Verb) (old mid new : List (List ℕ))
     → Reached from now old mid → now ≡ command_says files folder c rest
     → Fills c.place (verb_filled files folder c.verb) mid new (Ok v)
     → Reached from (gives (record { place = c.place; verb = v }) rest) old new
 reached_command files folder c rest from now v old mid new reached e f = reached_given files folder c rest from now (Ok v) old mid new reached e f.0 f.1
 
 -- the names that the rest of a call asks for, of which the first are those of a command
-split : (files : Files) (folder : List ℕ) (c : Command) (rest from now : Script) (old mid : Option (List (List ℕ)))
+split : (files : Files) (folder : List ℕ) (c : Command) (rest from now : Script) (old mid : List (List ℕ))
     → (reached : Reached from now old mid) → now ≡ command_says files folder c rest
     → names_first from ≡ reached.names ++ (verb_filled files folder c.verb).names
 split files folder c rest from now old mid reached e =
@@ -65,7 +65,7 @@ split files folder c rest from now old mid reached e =
     ∙ ap (λ ns. reached.names ++ ns) (command_first files folder c rest)
 
 pub fails_filling : (files : Files) (folder : List ℕ) (c : Command) (rest from now : Script) (s : State)
-    (e : SessionFault) (old mid new : Option (List (List ℕ)))
+    (e : SessionFault) (old mid new : List (List ℕ))
     → Reached from now old mid → now ≡ command_says files folder c rest
     → Fills {X = Verb} c.place (verb_filled files folder c.verb) mid new (Err e)
     → Tells files (after_names from) s (Err e)
@@ -75,7 +75,7 @@ fails_filling files folder c rest from now s (fault.Read name) old mid new reach
 fails_filling files folder c rest from now s fault.NoMemory old mid new reached e f = tt
 fails_filling files folder c rest from now s fault.Ended old mid new reached e f = tt
 
-pub asks_filling : (files : Files) (folder : List ℕ) (c : Command) (rest from now : Script) (e : SessionFault) (old mid new : Option (List (List ℕ)))
+pub asks_filling : (files : Files) (folder : List ℕ) (c : Command) (rest from now : Script) (e : SessionFault) (old mid new : List (List ℕ))
     → Reached from now old mid → now ≡ command_says files folder c rest
     → Fills {X = Verb} c.place (verb_filled files folder c.verb) mid new (Err e)
     → Asks {X = Option Command} old new (names_first from) (Err e)

@@ -5,21 +5,21 @@ use Rattle.dss_lexer.specs.Answers.{◌>>=◌}
 use Rattle.dss_model.specs.Names.{bytes}
 use Rattle.dss_script.specs.ShapeFiles.{file_named}
 use Rattle.dss_model.specs.declared.command.Place.{Place}
-use Rattle.fd_outside.specs.Causes.{Becomes}
-use Rattle.fd_outside.specs.Files.{Files, held, AnswersHeld}
+use Rattle.fd_outside.specs.Answers.{AgreesSince, Answer, answered, names_asked}
+use Rattle.fd_outside.specs.Files.{Files, held}
 use Rattle.fd_outside.specs.declared.library.Found.{Found}
 use Rattle.dss_script.specs.declared.fault.ScriptCause.{ScriptCause}
 use Rattle.dss_script.specs.declared.fault.SessionFault.{SessionFault}
 use Rattle.dss_script.specs.declared.fault.SessionFault.TheVariants as fault
 use Rattle.dss_script.specs.Fills.{Fills, IsFilled}
 use Rattle.dss_script.specs.Paths.{joined}
-use Rattle.dss_script.specs.Sessions.{FailsAt, Grows, GrowsSome, GrowsUpTo, ReadsLast, found_bytes}
+use Rattle.dss_script.specs.Sessions.{FailsAt, Grows, GrowsUpTo, found_bytes}
 use Rattle.dss_script.specs.Shapes.{Filling, filled_before, pair_by_name, pair_filled, pairs_filled, with_file}
-use Rattle.dss_script.proofs.Entering.{becomes, grows_more, grows_none, held_is, nothing_asked, same_becomes}
+use Rattle.dss_script.proofs.Entering.{asked_found, found_is, grows_more, grows_none}
 
 -- ---- a file that was asked
 
-fills_found : {X : Type 0} (place : Place) (said : Filling X) (old new : Option (List (List ℕ))) (r : Result X SessionFault)
+fills_found : {X : Type 0} (place : Place) (said : Filling X) (old new : List (List ℕ)) (r : Result X SessionFault)
     → Grows old new said.names → IsFilled place said.filled r
     → Fills place said old new r
 fills_found place said old new (Ok x) g h = (h, g)
@@ -35,20 +35,19 @@ named_so files folder pair written name e n =
     ap (pair_by_name files folder pair) e
     ∙ ap (λ (m : List ℕ). record { names = m ∷ []; filled = with_file pair (held files (bytes m)) }) (sym n)
 
-pub pair_found : (holds : Option Files) (files : Files) (what : Found) (folder : List ℕ) (place : Place) (pair : Pair)
-    (written name : List ℕ) (old new : Option (List (List ℕ))) (r : Result Pair SessionFault)
-    → holds ≡ Some files → AnswersHeld holds (bytes name) (Ok what) → file_named pair ≡ Some written
-    → name ≡ joined folder written → Grows old new (name ∷ [])
-    → IsFilled place (with_file pair (found_bytes what)) r → Fills place (pair_filled files folder pair) old new r
-pair_found holds files what folder place pair written name old new r told a e n g h =
-    let Q : Option Files → Type 0 = λ o. AnswersHeld o (bytes name) (Ok what) in
-    let there = held_is (held files (bytes name)) what (subst Q told a) in
+pub pair_found : (files : Files) (before now : List Answer) (what : Found) (folder : List ℕ) (place : Place) (pair : Pair)
+    (written name : List ℕ) (r : Result Pair SessionFault)
+    → AgreesSince files before now → now ≡ before ++ answered (bytes name) (Ok what) → file_named pair ≡ Some written
+    → name ≡ joined folder written → IsFilled place (with_file pair (found_bytes what)) r
+    → Fills place (pair_filled files folder pair) (names_asked before) (names_asked now) r
+pair_found files before now what folder place pair written name r agree told e n h =
     let P : Option (List ℕ) → Type 0 = λ o. IsFilled place (with_file pair o) r in
-    let F : Filling Pair → Type 0 = λ f. Fills place f old new r in
+    let F : Filling Pair → Type 0 = λ f. Fills place f (names_asked before) (names_asked now) r in
     subst F (sym (named_so files folder pair written name e n))
-    (fills_found place (record { names = name ∷ []; filled = with_file pair (held files (bytes name)) }) old new r g (subst P there h))
+    (fills_found place (record { names = name ∷ []; filled = with_file pair (held files (bytes name)) }) _ _ r
+    (asked_found before now name what told) (subst P (found_is files before now (bytes name) what agree told) h))
 
-pub pair_failed : (files : Files) (folder : List ℕ) (place : Place) (pair : Pair) (written name : List ℕ) (old new : Option (List (List ℕ)))
+pub pair_failed : (files : Files) (folder : List ℕ) (place : Place) (pair : Pair) (written name : List ℕ) (old new : List (List ℕ))
     → file_named pair ≡ Some written → name ≡ joined folder written → Grows old new (name ∷ [])
     → FailsAt old new (pair_filled files folder pair).names name
 pair_failed files folder place pair written name old new e n g =
@@ -63,7 +62,7 @@ behind names done rest = record { names = names ++ rest.names; filled = rest.fil
 
 -- so many pairs are done
 pub record Done (files : Files) (folder : List ℕ) (all done left : List Pair)
-    (old new : Option (List (List ℕ))) : Type 0 where
+    (old new : List (List ℕ)) : Type 0 where
   pub names : List (List ℕ)
   pub said : pairs_filled files folder all ≡ behind names done (pairs_filled files folder left)
   pub grown : Grows old new names
@@ -76,7 +75,7 @@ bind_same : (r : Result (List Pair) ScriptCause) → r ≡ (r >>= λ pairs. Ok (
 bind_same (Ok pairs) = refl
 bind_same (Err c) = refl
 
-pub none_done : (files : Files) (folder : List ℕ) (all : List Pair) (old : Option (List (List ℕ)))
+pub none_done : (files : Files) (folder : List ℕ) (all : List Pair) (old : List (List ℕ))
     → Done files folder all [] all old old
 none_done files folder all old = record {
   names = [];
@@ -97,7 +96,7 @@ behind_one names more done pair rest =
     (sym (append_assoc names more rest.names))
     ∙ ap (λ r. record { names = (names ++ more) ++ rest.names; filled = r }) (bind_one done pair rest.filled)
 
-pub one_done : (files : Files) (folder : List ℕ) (place : Place) (all done left : List Pair) (pair filled : Pair) (old mid new : Option (List (List ℕ)))
+pub one_done : (files : Files) (folder : List ℕ) (place : Place) (all done left : List Pair) (pair filled : Pair) (old mid new : List (List ℕ))
     → Done files folder all done (pair ∷ left) old mid → Fills place (pair_filled files folder pair) mid new (Ok filled)
     → Done files folder all (done ++ (filled ∷ [])) left old new
 one_done files folder place all done left pair filled old mid new d f =
@@ -109,7 +108,7 @@ one_done files folder place all done left pair filled old mid new d f =
       grown = grows_more old mid new d.names first.names d.grown f.1;
     }
 
-pub all_done : (files : Files) (folder : List ℕ) (place : Place) (all done : List Pair) (old new : Option (List (List ℕ)))
+pub all_done : (files : Files) (folder : List ℕ) (place : Place) (all done : List Pair) (old new : List (List ℕ))
     → Done files folder all done [] old new
     → Fills place (pairs_filled files folder all) old new (Ok done)
 all_done files folder place all done old new d =
@@ -118,7 +117,7 @@ all_done files folder place all done old new d =
     subst F (sym d.said) (ap Ok (append-nil done), subst N (sym (append-nil d.names)) d.grown)
 
 -- memory runs out behind some of the pairs
-pub done_upto : (files : Files) (folder : List ℕ) (all done left : List Pair) (old new : Option (List (List ℕ)))
+pub done_upto : (files : Files) (folder : List ℕ) (all done left : List Pair) (old new : List (List ℕ))
     → Done files folder all done left old new
     → GrowsUpTo old new (pairs_filled files folder all).names
 done_upto files folder all done left old new d = record {
@@ -135,7 +134,7 @@ first_names more (Ok pair) rest = (rest.names, refl)
 first_names more (Err c) rest = ([], sym (append-nil more))
 
 -- the names of all pairs, of which some are done
-split_names : (files : Files) (folder : List ℕ) (all done left : List Pair) (pair : Pair) (old mid : Option (List (List ℕ)))
+split_names : (files : Files) (folder : List ℕ) (all done left : List Pair) (pair : Pair) (old mid : List (List ℕ))
     → (d : Done files folder all done (pair ∷ left) old mid)
     → (tail : List (List ℕ)) × ((pairs_filled files folder all).names ≡ d.names ++ ((pair_filled files folder pair).names ++ tail))
 split_names files folder all done left pair old mid d =
@@ -144,7 +143,7 @@ split_names files folder all done left pair old mid d =
     (tail, ap (λ (f : Filling (List Pair)). f.names) d.said ∙ ap (λ ns. d.names ++ ns) e)
 
 pub fault_done : (files : Files) (folder : List ℕ) (place : Place) (all done left : List Pair) (pair : Pair)
-    (e : SessionFault) (old mid new : Option (List (List ℕ)))
+    (e : SessionFault) (old mid new : List (List ℕ))
     → Done files folder all done (pair ∷ left) old mid
     → Fills {X = Pair} place (pair_filled files folder pair) mid new (Err e)
     → Fills {X = List Pair} place (pairs_filled files folder all) old new (Err e)
@@ -178,32 +177,3 @@ fault_done files folder place all done left pair fault.NoMemory old mid new d f 
       grown = grows_more old mid new d.names f.front d.grown f.grown;
     }
 fault_done files folder place all done left pair fault.Ended old mid new d f = absurd f
-
--- ---- some names are asked
-
-pub some_asked : (old new : Option (List (List ℕ))) (name : List ℕ) → Becomes old new (λ ns. ns ++ name ∷ [])
-    → GrowsSome old new
-some_asked old new name h = record { names = name ∷ []; grown = h }
-
-pub some_both : (old mid new : Option (List (List ℕ))) → GrowsSome old mid → GrowsSome mid new → GrowsSome old new
-some_both old mid new g h = record {
-  names = g.names ++ h.names;
-  grown = same_becomes old new (λ ns. (ns ++ g.names) ++ h.names) (λ ns. ns ++ (g.names ++ h.names)) (λ ns. append_assoc ns g.names h.names)
-      (becomes old mid new (λ ns. ns ++ g.names) (λ ns. ns ++ h.names) g.grown h.grown);
-}
-
-pub some_none : (old : Option (List (List ℕ))) → GrowsSome old old
-some_none old = record { names = []; grown = nothing_asked old }
-
--- a read that failed is still the last one
-pub last_both : (X Y : Type 0) (old mid new : Option (List (List ℕ))) (e : SessionFault) → GrowsSome old mid
-    → ReadsLast {X = X} mid new (Err e) → ReadsLast {X = Y} old new (Err e)
-last_both X Y old mid new (fault.Read name) g h = record {
-  front = g.names ++ h.front;
-  grown = same_becomes old new (λ ns. (ns ++ g.names) ++ h.front ++ bytes name ∷ []) (λ ns. ns ++ (g.names ++ h.front) ++ bytes name ∷ [])
-      (λ ns. ap (λ xs. xs ++ bytes name ∷ []) (append_assoc ns g.names h.front))
-      (becomes old mid new (λ ns. ns ++ g.names) (λ ns. ns ++ h.front ++ bytes name ∷ []) g.grown h.grown);
-}
-last_both X Y old mid new (fault.Script at c) g h = tt
-last_both X Y old mid new fault.NoMemory g h = tt
-last_both X Y old mid new fault.Ended g h = tt

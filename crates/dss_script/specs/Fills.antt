@@ -1,6 +1,7 @@
 -- What a call that reads the files of load shapes comes to.
-use Rattle.std.specs.Prelude.{◌≡◌, ℕ, List, Option, Some, Result, Ok, Err}
+use Rattle.std.specs.Prelude.{◌≡◌, ℕ, List, Result, Ok, Err}
 use Rattle.dss_model.specs.declared.command.Place.{Place}
+use Rattle.fd_outside.specs.Answers.{AgreesSince, Answer, names_asked}
 use Rattle.fd_outside.specs.Files.{Files}
 use Rattle.dss_script.specs.declared.fault.SessionFault.{SessionFault}
 use Rattle.dss_script.specs.declared.fault.SessionFault.TheVariants as fault
@@ -26,15 +27,14 @@ IsRefusal place cause fault.Ended = ⊥
 -- the names are asked that are said, and what comes of their files is answered, or the cause with its place; where a
 -- read fails, the names up to the one that failed, and where memory runs out, some of the first of them
 abbrev pub Fills :
-    {X : Type 0} → Place → Filling X → Option (List (List ℕ)) → Option (List (List ℕ)) → Result X SessionFault → Type 0
+    {X : Type 0} → Place → Filling X → List (List ℕ) → List (List ℕ) → Result X SessionFault → Type 0
 Fills place said old new (Ok x) = (said.filled ≡ Ok x) × Grows old new said.names
 Fills place said old new (Err (fault.Script at c)) = (at ≡ place) × (said.filled ≡ Err c) × Grows old new said.names
 Fills place said old new (Err (fault.Read name)) = FailsAt old new said.names name
 Fills place said old new (Err fault.NoMemory) = GrowsUpTo old new said.names
 Fills place said old new (Err fault.Ended) = ⊥
 
--- so where the library tells what it holds
-abbrev pub FillsBy : {X : Type 0} → Option Files → Place → (Files → Filling X)
-    → Option (List (List ℕ)) → Option (List (List ℕ)) → Result X SessionFault → Type 0
-FillsBy holds place said old new result =
-    (files : Files) → holds ≡ Some files → Fills place (said files) old new result
+-- so over files that agree with what was answered in the call
+abbrev pub FillsBy : {X : Type 0} → Place → (Files → Filling X) → List Answer → List Answer → Result X SessionFault → Type 0
+FillsBy place said before now result =
+    (files : Files) → AgreesSince files before now → Fills place (said files) (names_asked before) (names_asked now) result

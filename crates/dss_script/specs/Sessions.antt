@@ -5,7 +5,7 @@ use Rattle.dss_model.specs.Names.{bytes}
 use Rattle.dss_model.specs.declared.command.Place.{Place}
 use Rattle.dss_model.specs.declared.command.Command.{Command}
 use Rattle.fd_outside.specs.Files.{Files, held}
-use Rattle.fd_outside.specs.Causes.{Becomes, Rose}
+use Rattle.fd_outside.specs.Answers.{Answer, EndsFailed}
 use Rattle.fd_outside.specs.declared.library.Found.{Found}
 use Rattle.fd_outside.specs.declared.library.Found.TheVariants as found
 use Rattle.dss_script.specs.declared.fault.ScriptCause.TheVariants as cause
@@ -198,23 +198,18 @@ Tells files said new (Err (fault.Script place c)) = said ≡ refused place c
 Tells files said new (Err e) = Unit {0}
 
 -- the names that were asked grow by these
-abbrev pub Grows : Option (List (List ℕ)) → Option (List (List ℕ)) → List (List ℕ) → Type 0
-Grows old new names = Becomes old new (λ ns. ns ++ map bytes names)
+abbrev pub Grows : List (List ℕ) → List (List ℕ) → List (List ℕ) → Type 0
+Grows old new names = new ≡ old ++ map bytes names
 
 -- the names that were asked grow by the first of these
-pub record GrowsUpTo (old new : Option (List (List ℕ))) (names : List (List ℕ)) : Type 0 where
+pub record GrowsUpTo (old new : List (List ℕ)) (names : List (List ℕ)) : Type 0 where
   pub front : List (List ℕ)
   pub rest : List (List ℕ)
   pub parts : names ≡ front ++ rest
   pub grown : Grows old new front
 
--- the names that were asked grow, and this one is the last
-pub record GrowsLast (old new : Option (List (List ℕ))) (name : List ℕ) : Type 0 where
-  pub front : List (List ℕ)
-  pub grown : Becomes old new (λ ns. ns ++ front ++ bytes name ∷ [])
-
 -- the names that were asked grow by the first of these up to and with this one, whose read failed
-pub record FailsAt (old new : Option (List (List ℕ))) (names : List (List ℕ)) (name : List ℕ) : Type 0 where
+pub record FailsAt (old new : List (List ℕ)) (names : List (List ℕ)) (name : List ℕ) : Type 0 where
   pub front : List (List ℕ)
   pub rest : List (List ℕ)
   pub parts : names ≡ front ++ name ∷ rest
@@ -222,16 +217,16 @@ pub record FailsAt (old new : Option (List (List ℕ))) (names : List (List ℕ)
 
 -- a call asks for these names; where a read fails, for the first of them up to the name that failed, and for the first of
 -- them where memory runs out
-abbrev pub Asks : {X : Type 0} → Option (List (List ℕ)) → Option (List (List ℕ)) → List (List ℕ) → Result X SessionFault
+abbrev pub Asks : {X : Type 0} → List (List ℕ) → List (List ℕ) → List (List ℕ) → Result X SessionFault
     → Type 0
 Asks old new names (Err (fault.Read name)) = FailsAt old new names name
 Asks old new names (Err fault.NoMemory) = GrowsUpTo old new names
 Asks old new names (Err fault.Ended) = new ≡ old
 Asks old new names r = Grows old new names
 
--- a failed read names the file that was asked last
-abbrev pub ReadsLast : {X : Type 0} → Option (List (List ℕ)) → Option (List (List ℕ)) → Result X SessionFault → Type 0
-ReadsLast old new (Err (fault.Read name)) = GrowsLast old new name
+-- a failed read is the last answer, and its name is that of its file
+abbrev pub ReadsLast : {X : Type 0} → List Answer → List Answer → Result X SessionFault → Type 0
+ReadsLast old new (Err (fault.Read name)) = EndsFailed old new (bytes name)
 ReadsLast old new r = Unit {0}
 
 -- a failed read
@@ -239,13 +234,8 @@ abbrev pub IsRead : {X : Type 0} → Result X SessionFault → Type 0
 IsRead (Err (fault.Read name)) = Unit {0}
 IsRead r = ⊥
 
--- the count of faults never falls, and a failed read comes only where it rose
-pub record ReadHasCause {X : Type 0} (before now : ℕ) (result : Result X SessionFault) : Type 0 where
-  pub later : before ≤ now
-  pub rose : IsRead result → Rose before now
-
 -- an entered file was asked, unless memory ran out
-abbrev pub EnterAsks : Option (List (List ℕ)) → Option (List (List ℕ)) → List ℕ → Result Unit SessionFault → Type 0
+abbrev pub EnterAsks : List (List ℕ) → List (List ℕ) → List ℕ → Result Unit SessionFault → Type 0
 EnterAsks old new name (Err fault.NoMemory) = GrowsUpTo old new (name ∷ [])
 EnterAsks old new name r = Grows old new (name ∷ [])
 
@@ -256,16 +246,11 @@ Pays old new (Ok None) = room new ≤ room old
 Pays old new (Err e) = Unit {0}
 
 -- the script that is left within a call, and the one that it began with: nothing but names came between
-pub record Reached (from now : Script) (old new : Option (List (List ℕ))) : Type 0 where
+pub record Reached (from now : Script) (old new : List (List ℕ)) : Type 0 where
   pub names : List (List ℕ)
   pub first : names_first from ≡ names ++ names_first now
   pub said : after_names from ≡ after_names now
   pub grown : Grows old new names
-
--- the names that were asked grow
-pub record GrowsSome (old new : Option (List (List ℕ))) : Type 0 where
-  pub names : List (List ℕ)
-  pub grown : Becomes old new (λ ns. ns ++ names)
 
 -- any answer but Ended
 abbrev pub IsNotEnded : {X : Type 0} → Result X SessionFault → Type 0

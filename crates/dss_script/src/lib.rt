@@ -1,10 +1,10 @@
 //! The commands of a script, one at a time, with the places where they stand.
 //!
-//! What a script says is one function of the files that the library holds: its commands in order, the names that it
+//! What a script says is one function of files: its commands in order, the names that it
 //! asks for, absent ones among them, and then the end of MASTER or one cause with its place. A command that names files
 //! of a load shape has their numbers in place of the names. A call of `next` gives
-//! exactly what comes next there. Want of memory is free, and a failed read comes only where the library's count of
-//! faults rose.
+//! exactly what comes next there, over all files that agree with what the library answered. Want of memory is free, and
+//! at a failed read the library's last answer is one.
 //!
 //! - `bounds`: how many commands a session gives, as a law
 //! - `cutting`: `pairs`, a line's words and pairs

@@ -1,10 +1,11 @@
 // A script, a command at a time.
 ghost use Rattle.std.specs.Prelude.{◌≡◌, ◌+◌, ◌*◌, ◌<◌, ◌≤◌, ◌==◌, nat_lt, length, IfOk, IsSome, ◌↔◌, OnErr, OnOk, false, true, None, Some, Err};
 ghost use Rattle.std.specs.Str.{chars};
+ghost use Rattle.fd_outside.specs.Answers.{AgreesSince, IsLater, names_asked};
 ghost use Rattle.fd_outside.specs.Files.{Files, held};
 ghost use Rattle.dss_model.specs.Names.{bytes};
 ghost use Rattle.dss_script.specs.Script.{script_of, names_first, after_names};
-ghost use Rattle.dss_script.specs.Sessions.{start, remaining, remaining_by, remaining_with, Steps, Enters, Tells, Spends, found_bytes, room, left, IsRead, pays, closes, price, taken_says, opened, EnterAsks, ReadHasCause, Asks, GrowsSome, ReadsLast, Pays, IsNotEnded, IsReadOf, cost};
+ghost use Rattle.dss_script.specs.Sessions.{start, remaining, remaining_by, remaining_with, Steps, Enters, Tells, Spends, found_bytes, room, left, IsRead, pays, closes, price, taken_says, opened, EnterAsks, Asks, ReadsLast, Pays, IsNotEnded, IsReadOf, cost};
 ghost use Rattle.dss_script.specs.Fills.{FillsBy};
 ghost use Rattle.dss_script.specs.Shapes.{verb_filled};
 ghost use Rattle.dss_script.specs.declared.meaning.Meaning.TheVariants.{Reads};
@@ -82,25 +83,26 @@ impl Session {
     /// The next command, with its place, and with the numbers of the files that a load shape names in place of their
     /// names. At the end of MASTER there is none, nor at any later call.
     ///
-    /// Errors: `Script` exactly where the script is refused there, `Read` where the library's count of faults rose in
-    /// this call, with the name asked last, which is the next of those that the script asks for, `Ended` exactly where
+    /// Errors: `Script` exactly where the script is refused there, `Read` where the last answer of this call is
+    /// a failed read, with its name, which is the next of those that the script asks for, `Ended` exactly where
     /// an earlier call gave a fault, `NoMemory`.
+    #[tactic(auto, using(fd_outside::proofs::CallerLemmas::later_same))]
     pub fn next<L: Library>(
         &mut self,
         alloc: Global,
         lib: &mut L,
     ) -> Result<Option<Command>, SessionFault>
-        // Where the library tells what it holds, the next command or the end is the one that the script says.
-        ensures told { (files : Files) → L.holds lib.old ≡ Some files →
+        // Over all files that agree with what the library answered in this call, the next command or the end is the one
+        // that the script says.
+        ensures told { (files : Files) → AgreesSince files (L.answers lib.old) (L.answers lib.new) →
             Tells files (after_names (remaining files self.old)) self.new result }
         // And the names that are asked are those that the script asks for before it, up to the one whose read failed.
-        ensures asked { (files : Files) → L.holds lib.old ≡ Some files →
-            Asks (L.asked lib.old) (L.asked lib.new) (names_first (remaining files self.old)) result }
-        // Whatever it tells of what it holds, names are only added, and a failed read's is the last.
-        ensures grows { GrowsSome (L.asked lib.old) (L.asked lib.new) }
-        ensures last { ReadsLast (L.asked lib.old) (L.asked lib.new) result }
-        ensures holds { L.holds lib.new ≡ L.holds lib.old }
-        ensures cause { ReadHasCause (L.faults lib.old) (L.faults lib.new) result }
+        ensures asked { (files : Files) → AgreesSince files (L.answers lib.old) (L.answers lib.new) →
+            Asks (names_asked (L.answers lib.old)) (names_asked (L.answers lib.new)) (names_first (remaining files self.old)) result }
+        // Answers are only added, and those of a library that tells what it holds agree with that. A failed read is the
+        // last of them.
+        ensures later { IsLater L.answers L.holds lib.old lib.new }
+        ensures last { ReadsLast (L.answers lib.old) (L.answers lib.new) result }
         ensures ended { (result ≡ Err SessionFault.Ended) ↔ (self.old.ended ≡ true) }
         ensures over { OnErr result (self.new.ended ≡ true) }
         ensures lasting { OnOk result (self.new.ended ≡ false) }
@@ -121,14 +123,12 @@ impl Session {
         alloc: Global,
         lib: &mut L,
     ) -> Result<Option<Command>, SessionFault>
-        ensures told { (files : Files) → L.holds lib.old ≡ Some files →
+        ensures told { (files : Files) → AgreesSince files (L.answers lib.old) (L.answers lib.new) →
             Tells files (after_names (remaining files self.old)) self.new result }
-        ensures asked { (files : Files) → L.holds lib.old ≡ Some files →
-            Asks (L.asked lib.old) (L.asked lib.new) (names_first (remaining files self.old)) result }
-        ensures grows { GrowsSome (L.asked lib.old) (L.asked lib.new) }
-        ensures last { ReadsLast (L.asked lib.old) (L.asked lib.new) result }
-        ensures holds { L.holds lib.new ≡ L.holds lib.old }
-        ensures cause { ReadHasCause (L.faults lib.old) (L.faults lib.new) result }
+        ensures asked { (files : Files) → AgreesSince files (L.answers lib.old) (L.answers lib.new) →
+            Asks (names_asked (L.answers lib.old)) (names_asked (L.answers lib.new)) (names_first (remaining files self.old)) result }
+        ensures later { IsLater L.answers L.holds lib.old lib.new }
+        ensures last { ReadsLast (L.answers lib.old) (L.answers lib.new) result }
         ensures goes { IsNotEnded result }
         ensures room { Pays self.old self.new result }
     {
@@ -159,11 +159,9 @@ impl Session {
         place: &Place,
         verb: Verb,
     ) -> Result<Verb, SessionFault>
-        ensures fills { FillsBy (L.holds lib.old) place.now (λ files. verb_filled files self.now.folder verb) (L.asked lib.old) (L.asked lib.new) result }
-        ensures grows { GrowsSome (L.asked lib.old) (L.asked lib.new) }
-        ensures last { ReadsLast (L.asked lib.old) (L.asked lib.new) result }
-        ensures holds { L.holds lib.new ≡ L.holds lib.old }
-        ensures cause { ReadHasCause (L.faults lib.old) (L.faults lib.new) result }
+        ensures fills { FillsBy place.now (λ files. verb_filled files self.now.folder verb) (L.answers lib.old) (L.answers lib.new) result }
+        ensures later { IsLater L.answers L.holds lib.old lib.new }
+        ensures last { ReadsLast (L.answers lib.old) (L.answers lib.new) result }
         ensures goes { IsNotEnded result }
         ensures cost { IfOk result (λ filled. cost filled ≡ cost verb) }
     {
@@ -294,15 +292,15 @@ impl Session {
         name: Text,
     ) -> Result<(), SessionFault>
         requires { self.old.waiting ≡ None }
-        ensures told { (files : Files) → L.holds lib.old ≡ Some files →
+        ensures told { (files : Files) → AgreesSince files (L.answers lib.old) (L.answers lib.new) →
             Enters files (remaining_with files (held files (bytes name)) place name self.old) self.new result }
         ensures room { OnOk result ((room self.new ≤ room self.old + 1) × (left self.new ≤ left self.old + 3)) }
         ensures open { self.new.waiting ≡ None }
-        ensures holds { L.holds lib.new ≡ L.holds lib.old }
-        ensures asked { EnterAsks (L.asked lib.old) (L.asked lib.new) name result }
+        ensures later { IsLater L.answers L.holds lib.old lib.new }
+        ensures last { ReadsLast (L.answers lib.old) (L.answers lib.new) result }
+        ensures asked { EnterAsks (names_asked (L.answers lib.old)) (names_asked (L.answers lib.new)) name result }
         ensures named { IsReadOf name result }
         ensures goes { IsNotEnded result }
-        ensures cause { ReadHasCause (L.faults lib.old) (L.faults lib.new) result }
     {
         match lib.read(alloc, name.as_str()) {
             Ok(found) => self.supply(place, name, found),

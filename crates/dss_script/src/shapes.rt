@@ -1,8 +1,9 @@
 // The files of load shapes: their numbers stand in place of their names.
 ghost use Rattle.std.specs.Prelude.{◌≡◌, IfOk, Ok};
 ghost use Rattle.fd_shape.specs.Column.{column_of};
+ghost use Rattle.fd_outside.specs.Answers.{IsLater};
 ghost use Rattle.dss_script.specs.Fills.{FillsBy, IsFilled, IsRefusal};
-ghost use Rattle.dss_script.specs.Sessions.{GrowsSome, IsNotEnded, ReadHasCause, ReadsLast, cost, found_bytes};
+ghost use Rattle.dss_script.specs.Sessions.{IsNotEnded, ReadsLast, cost, found_bytes};
 ghost use Rattle.dss_script.specs.Shapes.{class_filled, is_loadshape, pair_filled, pairs_filled, verb_filled, with_file, with_numbers};
 
 use crate::path::name_within;
@@ -72,6 +73,7 @@ fn with_file(alloc: Global, place: &Place, pair: Pair, found: Found) -> Result<P
 }
 
 // A pair of a load shape, with the numbers of its file where it names one.
+#[tactic(auto, using(fd_outside::proofs::CallerLemmas::later_same))]
 fn fill_pair<L: Library>(
     alloc: Global,
     lib: &mut L,
@@ -79,11 +81,9 @@ fn fill_pair<L: Library>(
     place: &Place,
     pair: Pair,
 ) -> Result<Pair, SessionFault>
-    ensures fills { FillsBy (L.holds lib.old) place.now (λ files. pair_filled files folder.now pair) (L.asked lib.old) (L.asked lib.new) result }
-    ensures grows { GrowsSome (L.asked lib.old) (L.asked lib.new) }
-    ensures last { ReadsLast (L.asked lib.old) (L.asked lib.new) result }
-    ensures holds { L.holds lib.new ≡ L.holds lib.old }
-    ensures cause { ReadHasCause (L.faults lib.old) (L.faults lib.new) result }
+    ensures fills { FillsBy place.now (λ files. pair_filled files folder.now pair) (L.answers lib.old) (L.answers lib.new) result }
+    ensures later { IsLater L.answers L.holds lib.old lib.new }
+    ensures last { ReadsLast (L.answers lib.old) (L.answers lib.new) result }
     ensures goes { IsNotEnded result }
 {
     let Some(name) = file_named(alloc, &pair)? else {
@@ -98,6 +98,7 @@ fn fill_pair<L: Library>(
 }
 
 // The pairs of a load shape, one after another, up to the first that is refused.
+#[tactic(auto, using(fd_outside::proofs::CallerLemmas::later_same, crate::proofs::Filling::none_done))]
 fn fill_pairs<L: Library>(
     alloc: Global,
     lib: &mut L,
@@ -105,11 +106,9 @@ fn fill_pairs<L: Library>(
     place: &Place,
     pairs: PairList,
 ) -> Result<PairList, SessionFault>
-    ensures fills { FillsBy (L.holds lib.old) place.now (λ files. pairs_filled files folder.now pairs) (L.asked lib.old) (L.asked lib.new) result }
-    ensures grows { GrowsSome (L.asked lib.old) (L.asked lib.new) }
-    ensures last { ReadsLast (L.asked lib.old) (L.asked lib.new) result }
-    ensures holds { L.holds lib.new ≡ L.holds lib.old }
-    ensures cause { ReadHasCause (L.faults lib.old) (L.faults lib.new) result }
+    ensures fills { FillsBy place.now (λ files. pairs_filled files folder.now pairs) (L.answers lib.old) (L.answers lib.new) result }
+    ensures later { IsLater L.answers L.holds lib.old lib.new }
+    ensures last { ReadsLast (L.answers lib.old) (L.answers lib.new) result }
     ensures goes { IsNotEnded result }
 {
     let mut filled = Vec::new(alloc);
@@ -123,6 +122,7 @@ fn fill_pairs<L: Library>(
 }
 
 // The pairs of an element of this class.
+#[tactic(auto, using(fd_outside::proofs::CallerLemmas::later_same))]
 fn fill_class<L: Library>(
     alloc: Global,
     lib: &mut L,
@@ -131,11 +131,9 @@ fn fill_class<L: Library>(
     class: &Text,
     pairs: PairList,
 ) -> Result<PairList, SessionFault>
-    ensures fills { FillsBy (L.holds lib.old) place.now (λ files. class_filled files folder.now class.now pairs) (L.asked lib.old) (L.asked lib.new) result }
-    ensures grows { GrowsSome (L.asked lib.old) (L.asked lib.new) }
-    ensures last { ReadsLast (L.asked lib.old) (L.asked lib.new) result }
-    ensures holds { L.holds lib.new ≡ L.holds lib.old }
-    ensures cause { ReadHasCause (L.faults lib.old) (L.faults lib.new) result }
+    ensures fills { FillsBy place.now (λ files. class_filled files folder.now class.now pairs) (L.answers lib.old) (L.answers lib.new) result }
+    ensures later { IsLater L.answers L.holds lib.old lib.new }
+    ensures last { ReadsLast (L.answers lib.old) (L.answers lib.new) result }
     ensures goes { IsNotEnded result }
 {
     if !is_loadshape(alloc, class)? {
@@ -148,7 +146,8 @@ fn fill_class<L: Library>(
 /// they name none, it is the same, and nothing is asked.
 ///
 /// Errors: `Script` with the place exactly at the first file that isn't held, or that has no numbers or a record that
-/// begins with none; `Read` where the library's count of faults rose, with the name asked last; `NoMemory`.
+/// begins with none; `Read` where the library's last answer is a failed read, with its name; `NoMemory`.
+#[tactic(auto, using(fd_outside::proofs::CallerLemmas::later_same, crate::proofs::Entering::grows_none))]
 pub fn fill<L: Library>(
     alloc: Global,
     lib: &mut L,
@@ -156,11 +155,9 @@ pub fn fill<L: Library>(
     place: &Place,
     verb: Verb,
 ) -> Result<Verb, SessionFault>
-    ensures fills { FillsBy (L.holds lib.old) place.now (λ files. verb_filled files folder.now verb) (L.asked lib.old) (L.asked lib.new) result }
-    ensures grows { GrowsSome (L.asked lib.old) (L.asked lib.new) }
-    ensures last { ReadsLast (L.asked lib.old) (L.asked lib.new) result }
-    ensures holds { L.holds lib.new ≡ L.holds lib.old }
-    ensures cause { ReadHasCause (L.faults lib.old) (L.faults lib.new) result }
+    ensures fills { FillsBy place.now (λ files. verb_filled files folder.now verb) (L.answers lib.old) (L.answers lib.new) result }
+    ensures later { IsLater L.answers L.holds lib.old lib.new }
+    ensures last { ReadsLast (L.answers lib.old) (L.answers lib.new) result }
     ensures goes { IsNotEnded result }
     // What it costs stays the same.
     ensures cost { IfOk result (λ filled. cost filled ≡ cost verb) }

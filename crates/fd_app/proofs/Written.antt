@@ -5,7 +5,7 @@ use Rattle.std.specs.List.{AllByRecursion, concat}
 use Rattle.std.proofs.lemmas.List.{append-nil, length-append, length-map}
 use Rattle.std.proofs.lemmas.Grind.{flat_map-append}
 use Rattle.std.proofs.lemmas.List.Elements.{recursion_from_All}
-use Rattle.fd_outside.specs.Causes.{Becomes}
+use Rattle.fd_outside.specs.Answers.{Answer}
 use Rattle.fd_outside.specs.Files.{Files}
 use Rattle.dss_script.specs.Said.{said_of}
 use Rattle.fd_report.specs.declared.faults.Fault.{Fault}
@@ -62,11 +62,6 @@ none_failed law read (Some n) d m done =
       | inl same ↦ subst (λ (x : Doing). IsWhole x m) same all
       | inr cut ↦ absurd (let e = sym cut.end_now ∙ all.end in let no : ⊥ = cc in no)
     ]
-
-becomes_by : (old new : Option (List ℕ)) (a b : List ℕ) → a ≡ b → Becomes old new (λ bytes. bytes ++ a)
-    → Becomes old new (λ bytes. bytes ++ b)
-becomes_by None new a b e h = tt
-becomes_by (Some before) new a b e h = h ∙ ap (λ (bs : List ℕ). Some (before ++ bs)) e
 
 -- ---- all of it was done, so nothing is printed behind the settles that the run came to
 
@@ -135,7 +130,7 @@ all_written law read h fails made all reached =
     (unprinted_written reached.rest (unprinted reached.front reached.rest same)))
 
 module _ (law : StatusLaw) (read : ReadLaw) (forms : FormsLaw) (rules : RuleLaw) (passed : PassedLaw) (certificates : CertificateLaw)
-    {L S : Type 0} (faults : L → ℕ) (asked_of : L → Option (List (List ℕ))) (taken : S → Option (List ℕ)) (calls : S → Option ℕ) where
+    {L S : Type 0} (answers : L → List Answer) (taken : S → List ℕ) (calls : S → ℕ) where
   -- all of it was done, and its bytes are accepted
   record IsWritten (files : Files) (file : List ℕ) (h : History) (old new : S) : Type 0 where
     pub end : h.end ≡ None
@@ -143,7 +138,7 @@ module _ (law : StatusLaw) (read : ReadLaw) (forms : FormsLaw) (rules : RuleLaw)
 
   of_cert : (files : Files) (file : List ℕ) (h : History) (lib_old lib_new : L) (old new : S)
       → IsFormHistory files (Some (Cert file)) h
-      → RunsWell faults asked_of taken calls files (Some (Cert file)) lib_old lib_new old new
+      → RunsWell answers taken calls files (Some (Cert file)) lib_old lib_new old new
       → IsWritten files file h old new
   of_cert files file h lib_old lib_new old new right r =
       let one = forms files (Some (Cert file)) in
@@ -158,7 +153,7 @@ module _ (law : StatusLaw) (read : ReadLaw) (forms : FormsLaw) (rules : RuleLaw)
       record {
         end = all.end;
         have_taken = record {
-          taken = becomes_by (taken old) (taken new) _ _ bytes r.sees.bytes;
+          taken = r.sees.bytes ∙ ap (λ (bs : List ℕ). taken old ++ bs) bytes;
           are_accepted = written_accepted rules passed certificates files (said_of files (chars file)) h right all.end
               (all_written law read h r.fails r.made all reached);
         };
@@ -166,7 +161,8 @@ module _ (law : StatusLaw) (read : ReadLaw) (forms : FormsLaw) (rules : RuleLaw)
 
   abbrev Writes : Files → List ℕ → History → L → L → S → S → Option Form → Type 0
   Writes files file h lib_old lib_new old new form =
-      IsFormHistory files form h → RunsWell faults asked_of taken calls files form lib_old lib_new old new → IsWritten files file h old new
+      IsFormHistory files form h → RunsWell answers taken calls files form lib_old lib_new old new
+      → IsWritten files file h old new
 
   of_form : (files : Files) (form : Option Form) (file : List ℕ) (h : History) (lib_old lib_new : L) (old new : S)
       → form ≡ Some (Cert file)
@@ -174,10 +170,10 @@ module _ (law : StatusLaw) (read : ReadLaw) (forms : FormsLaw) (rules : RuleLaw)
   of_form files form file h lib_old lib_new old new is =
       subst (Writes files file h lib_old lib_new old new) (sym is) (of_cert files file h lib_old lib_new old new)
 
-  pub written : WrittenLaw faults asked_of taken calls
+  pub written : WrittenLaw answers taken calls
   written files form file h lib_old lib_new old new is right r = (of_form files form file h lib_old lib_new old new is right r).have_taken
 
-  pub round_trip : RoundTripLaw faults asked_of taken calls
+  pub round_trip : RoundTripLaw answers taken calls
   round_trip files there form file name h g lib_old lib_new old new is right r same held_is checks =
       let all = of_form files form file h lib_old lib_new old new is right r in
       script_accepted files there (chars name) (bytes_by certificate h) (length (all_rounds h.events)) held_is passed forms file name refl h

@@ -1,7 +1,7 @@
 -- The certificate of a script is accepted.
 use Rattle.std.specs.Prelude.{◌≡◌, ℕ, List, [], ◌∷◌, ◌++◌, length, map, Option, None, Some}
 use Rattle.std.specs.Str.{chars}
-use Rattle.fd_outside.specs.Causes.{Becomes}
+use Rattle.fd_outside.specs.Answers.{Answer}
 use Rattle.fd_outside.specs.Files.{Files, held}
 use Rattle.dss_model.specs.Names.{bytes}
 use Rattle.dss_circuit.specs.Circuit.{CircuitView}
@@ -12,10 +12,9 @@ use Rattle.fd_checking.specs.Checking.{after, due, open_solves}
 use Rattle.fd_outcome.specs.Calls.{certificate}
 use Rattle.fd_report.specs.Accepted.{accepted_fields}
 use Rattle.fd_outcome.specs.Events.{AllSettles, History, asked, finishes, row}
-use Rattle.fd_outcome.specs.Runs.{Runs}
 use Rattle.fd_solving.specs.Headline.{IsSolved}
 use Rattle.fd_solving.specs.Scripts.{IsScriptHistory}
-use Rattle.fd_app.specs.Run.{IsFormHistory, style_of}
+use Rattle.fd_app.specs.Run.{IsFormHistory, RunsOver}
 use Rattle.fd_words.specs.Words.{Cert, Check, Form}
 use Rattle.fd_app.specs.Printed.{all_rounds, bytes_by}
 use Rattle.fd_app.specs.Solves.{solves_of}
@@ -32,8 +31,8 @@ CertLaw = (files : Files) (p : Part) (h : History) → IsScriptHistory files p h
 
 -- a sink took these bytes, which are accepted
 pub record HaveTaken (written : List ℕ) (circuits : List CircuitView) (count : ℕ)
-    (old new : Option (List ℕ)) : Type 0 where
-  pub taken : Becomes old new (λ bytes. bytes ++ written)
+    (old new : List ℕ) : Type 0 where
+  pub taken : new ≡ old ++ written
   pub are_accepted : AreAccepted written circuits count
 
 -- what `check` comes to where it accepts a certificate of so many blocks: names are asked, and then comes the record
@@ -41,13 +40,13 @@ pub record HasAccepted (count : ℕ) (h : History) : Type 0 where
   pub names : List (List ℕ)
   pub h_is : h ≡ finishes (map asked names ++ row (accepted_fields count) ∷ [])
 
--- over a library and a sink that tell what they see
-module _ {L S : Type 0} (faults : L → ℕ) (asked_of : L → Option (List (List ℕ))) (taken : S → Option (List ℕ))
-    (calls : S → Option ℕ) where
+-- over what a library answered and what a sink took
+module _ {L S : Type 0} (answers : L → List Answer) (taken : S → List ℕ)
+    (calls : S → ℕ) where
   -- a run of a form that answers 0
   abbrev pub RunsWell : Files → Option Form → L → L → S → S → Type 0
   RunsWell files form lib_old lib_new old new =
-      Runs faults asked_of taken calls lib_old lib_new old new (λ x. IsFormHistory files form x) (style_of form) IsSolved 0
+      RunsOver answers taken calls files form lib_old lib_new old new 0
 
   -- where a run of `cert` answers 0, what it wrote is accepted for the Solves of its script
   abbrev pub WrittenLaw : Type 0

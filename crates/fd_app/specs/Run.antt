@@ -1,25 +1,28 @@
--- The history of a command line over the files that its library holds.
-use Rattle.std.specs.Prelude.{◌≡◌, [], Option, Some, None}
+-- The history of a command line over files, and what a run does of it.
+use Rattle.std.specs.Prelude.{◌≡◌, ℕ, List, [], Option, Some, None}
 use Rattle.std.specs.Str.{chars}
+use Rattle.fd_outside.specs.Answers.{AgreesSince, Answer, IsLater}
 use Rattle.fd_outside.specs.Files.{Files}
 use Rattle.dss_script.specs.Said.{said_of}
 use Rattle.fd_words.specs.Words.{Form, Solve, Cert, Check, Gen, Bench}
 use Rattle.fd_report.specs.declared.faults.Fault.TheVariants as fault
 use Rattle.fd_outcome.specs.Calls.{Style, certificate, report}
 use Rattle.fd_outcome.specs.Events.{History, ended}
+use Rattle.fd_outcome.specs.Runs.{Runs}
 use Rattle.fd_outcome.specs.Work.{ExactlyOne}
+use Rattle.fd_solving.specs.Headline.{IsSolved}
 use Rattle.fd_solving.specs.Scripts.{IsScriptHistory}
 use Rattle.fd_checking.specs.Checks.{IsCheckHistory}
 use Rattle.fd_bench.specs.Bench.{IsBenchHistory, lines_alone, script_written}
 
--- what must be told of the files: nothing where none is asked for
-abbrev pub Knows : Option Form → Option Files → Files → Type 0
-Knows None told files = Unit {0}
-Knows (Some (Solve file)) told files = told ≡ Some files
-Knows (Some (Cert file)) told files = told ≡ Some files
-Knows (Some (Check script name)) told files = told ≡ Some files
-Knows (Some (Gen number sections)) told files = Unit {0}
-Knows (Some (Bench number sections)) told files = Unit {0}
+-- the files agree with what was answered in a call, where its form asks for a name
+abbrev pub AgreesIn : Option Form → List Answer → List Answer → Files → Type 0
+AgreesIn None before now files = Unit {0}
+AgreesIn (Some (Solve file)) before now files = AgreesSince files before now
+AgreesIn (Some (Cert file)) before now files = AgreesSince files before now
+AgreesIn (Some (Check script name)) before now files = AgreesSince files before now
+AgreesIn (Some (Gen number sections)) before now files = Unit {0}
+AgreesIn (Some (Bench number sections)) before now files = Unit {0}
 
 abbrev pub style_of : Option Form → Style
 style_of None = report
@@ -41,3 +44,24 @@ IsFormHistory files (Some (Bench number sections)) h = IsBenchHistory number sec
 -- there is exactly one
 abbrev pub FormsLaw : Type 0
 FormsLaw = (files : Files) (form : Option Form) → ExactlyOne (IsFormHistory files form)
+
+-- ---- what a run does
+
+module _ {L S : Type 0} (answers : L → List Answer) (taken : S → List ℕ) (calls : S → ℕ) where
+  -- the one history of the form over these files is done, whole or cut short
+  abbrev pub RunsOver : Files → Option Form → L → L → S → S → ℕ → Type 0
+  RunsOver files form lib_old lib_new old new code =
+      Runs answers taken calls lib_old lib_new old new (λ h. IsFormHistory files form h) (style_of form) IsSolved code
+
+  -- so over all files that agree with what was answered in the call
+  abbrev pub RunsForm : Option Form → L → L → S → S → ℕ → Type 0
+  RunsForm form lib_old lib_new old new code =
+      (files : Files) → AgreesIn form (answers lib_old) (answers lib_new) files
+      → RunsOver files form lib_old lib_new old new code
+
+-- a library that tells that it holds these files answers with them, so over them it is done
+abbrev pub ToldLaw : {L S : Type 0} → (L → List Answer) → (L → Option Files) → (S → List ℕ) → (S → ℕ) → Type 0
+ToldLaw {L} {S} answers holds taken calls =
+    (files : Files) (form : Option Form) (lib_old lib_new : L) (old new : S) (code : ℕ) → holds lib_old ≡ Some files
+    → IsLater answers holds lib_old lib_new → RunsForm answers taken calls form lib_old lib_new old new code
+    → RunsOver answers taken calls files form lib_old lib_new old new code

@@ -20,7 +20,7 @@ pub fn cert_law()
 
 /// A law: where a run of `cert` answers 0, what it wrote is accepted for the Solves of its script. Does nothing.
 pub fn written_law<L: Library, S: Sink>()
-    ensures { WrittenLaw L.faults L.asked S.taken S.calls }
+    ensures { WrittenLaw L.answers S.taken S.calls }
 {
     rule_law();
     certificate_law();
@@ -33,7 +33,7 @@ pub fn written_law<L: Library, S: Sink>()
 /// A law: where a run of `cert` answers 0, `check` of the same script accepts what it wrote, with a block for each round.
 /// Does nothing.
 pub fn round_trip_law<L: Library, S: Sink>()
-    ensures { RoundTripLaw L.faults L.asked S.taken S.calls }
+    ensures { RoundTripLaw L.answers S.taken S.calls }
 {
     rule_law();
     certificate_law();

@@ -1,14 +1,12 @@
 // The top call.
 ghost use Rattle.std.specs.Prelude.{◌≡◌, List, None, map, string_bytes, ℕ};
+ghost use Rattle.fd_outside.specs.Answers.{IsLater};
 ghost use Rattle.fd_outside.specs.Causes.{Rose};
 ghost use Rattle.fd_outside.specs.Files.{Files};
-ghost use Rattle.dss_script.specs.Sessions.{GrowsSome};
 ghost use Rattle.fd_outcome.specs.Events.{History};
 ghost use Rattle.fd_outcome.specs.Laws.{IsDue};
-ghost use Rattle.fd_outcome.specs.Runs.{Runs};
 ghost use Rattle.fd_outcome.specs.Untold.{Answers, EndsAtRead};
-ghost use Rattle.fd_solving.specs.Headline.{IsSolved};
-ghost use Rattle.fd_app.specs.Run.{FormsLaw, IsFormHistory, Knows, style_of};
+ghost use Rattle.fd_app.specs.Run.{FormsLaw, IsFormHistory, RunsForm, RunsOver, ToldLaw};
 ghost use Rattle.fd_words.specs.Words.{form_of};
 
 use fd_bench::{bench, write_script};
@@ -50,30 +48,26 @@ use std::alloc::Global;
 /// a certificate with the unknown whose bound reaches one, an undecided sample with its control, and a refused certificate
 /// with its line and the rule that it breaks.
 pub fn run<L: Library, S: Sink>(alloc: Global, words: &[String], lib: &mut L, out: &mut S) -> u8
-    // The one history of the words over the files held is done: all its calls, reads and writes, in order, and its
-    // end's status; or a front of whole calls, and 1; or a front and less than all of the next text, and 5; where a
-    // read fails, the calls up to it and its fault's record. Each settle that the run came to is solved: each state is
-    // the one that the procedure reaches, meets its circuit's equations within the printed mismatches, which are at
-    // most 1,000, and each state in its trust box that meets them too is within the printed radii. And its acts are
-    // those of the queue machine over any such states, one for each round.
-    ensures run { (files : Files) → Knows (form_of (map string_bytes words.now)) (L.holds lib.old) files →
-        Runs L.faults L.asked S.taken S.calls lib.old lib.new out.old out.new
-        (λ h. IsFormHistory files (form_of (map string_bytes words.now)) h)
-        (style_of (form_of (map string_bytes words.now))) IsSolved result }
+    // Over all files that agree with what the library answered in this call the one history of the words is done: all
+    // its calls, reads and writes, in order, and its end's status; or a front of whole calls, and 1; or a front and
+    // less than all of the next text, and 5; where a read fails, the calls up to it and its fault's record. Each settle
+    // that the run came to is solved: each state is the one that the procedure reaches, meets its circuit's equations
+    // within the printed mismatches, which are at most 1,000, and each state in its trust box that meets them too is
+    // within the printed radii. And its acts are those of the queue machine over any such states, one for each round.
+    ensures run { RunsForm L.answers S.taken S.calls (form_of (map string_bytes words.now))
+        lib.old lib.new out.old out.new result }
 
-    // Whatever the library tells of what it holds: it is done, or cut short, or ends with a fault, whose record is the
-    // last text taken.
+    // Answers are only added, and those of a library that tells what it holds agree with that.
+    ensures later { IsLater L.answers L.holds lib.old lib.new }
+
+    // Whatever is answered: it is done, or cut short, or ends with a fault, whose record is the last text taken.
     ensures statuses { Answers S.taken S.calls out.old out.new result }
 
-    // Usage comes only where the words are no form. A failed read and a failed write are answered only where a count
-    // rose, and the record of a failed read names the file asked last.
+    // Usage comes only where the words are no form. At a failed read the last answer is one, and the record names its
+    // file. A failed write is answered only where the sink's count rose.
     ensures usage { result ≡ 2 → form_of (map string_bytes words.now) ≡ None }
-    ensures read { result ≡ 4 → Rose (L.faults lib.old) (L.faults lib.new) }
-    ensures last { result ≡ 4 → EndsAtRead L.asked lib.old lib.new S.taken S.calls out.old out.new }
+    ensures last { result ≡ 4 → EndsAtRead L.answers lib.old lib.new S.taken S.calls out.old out.new }
     ensures write { result ≡ 5 → Rose (S.faults out.old) (S.faults out.new) }
-
-    // Names are only added to those asked.
-    ensures grows { GrowsSome (L.asked lib.old) (L.asked lib.new) }
 {
     let Ok(form) = form_of(alloc, words) else {
         return WANT_OF_MEMORY;
@@ -99,11 +93,16 @@ pub fn forms_law()
     ensures { FormsLaw }
 {}
 
+/// A law: over a library that tells what it holds, the one history over those files is done. Does nothing.
+pub fn told_law<L: Library, S: Sink>()
+    ensures { ToldLaw L.answers L.holds S.taken S.calls }
+{}
+
 /// A law: the status of a run is that of the history's end, but for want of memory, a failed write or a failed read;
-/// and where no count rose it is that status or want of memory. Does nothing.
+/// and where none failed it is that status or want of memory. Does nothing.
 pub fn due_law<L: Library, S: Sink>()
     ensures { (files : Files) (words : List (List ℕ)) (h : History) (lib_old lib_new : L) (old new : S) (code : ℕ) →
         IsFormHistory files (form_of words) h →
-        Runs L.faults L.asked S.taken S.calls lib_old lib_new old new (λ x. IsFormHistory files (form_of words) x) (style_of (form_of words)) IsSolved code →
-        IsDue h.end code (L.faults lib_old) (L.faults lib_new) }
+        RunsOver L.answers S.taken S.calls files (form_of words) lib_old lib_new old new code →
+        IsDue h.end code (L.answers lib_old) (L.answers lib_new) }
 {}

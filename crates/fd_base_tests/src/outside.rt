@@ -111,9 +111,10 @@ fn a_folder_gives_its_files_whole(rt: HostRuntime) -> Result<(), Fail> {
 
 #[test]
 fn readers_go_on_in_parts(rt: HostRuntime) {
-    let whole = read_opened(rt.alloc(), Ok(drip_until(0)));
+    let mut system = SystemTape::new();
+    let whole = read_opened(rt.alloc(), &mut system, "whole", Ok(drip_until(0)));
     check_answer(&rt, "the whole", whole, Ok(Some(TEXT)));
-    let part = read_opened(rt.alloc(), Ok(drip_until(9)));
+    let part = read_opened(rt.alloc(), &mut system, "part", Ok(drip_until(9)));
     check_answer(&rt, "a part", part, Err(LibFault::Failed));
 }
 
@@ -143,7 +144,7 @@ fn writers_go_on_in_parts(rt: HostRuntime) {
 #[test]
 fn reads_fail_where_they_are_told(rt: HostRuntime) -> Result<(), Fail> {
     let alloc = rt.alloc();
-    let mut plain = NeverFails::new(alloc, vec![in alloc; entry(alloc, b"m.dss", b"Clear\n")?]?);
+    let mut plain = NeverFails::new(vec![in alloc; entry(alloc, b"m.dss", b"Clear\n")?]?);
     check_answer(
         &rt,
         "m.dss",

@@ -1,8 +1,9 @@
 -- A run that asks the library for nothing, and lines that are written.
-use Rattle.std.proofs.Common.{◌≡◌, ◌∙◌, ℕ, List, [], ◌∷◌, ◌++◌, map, Option, None, refl, sym, ap, inl}
-use Rattle.std.proofs.lemmas.List.{append-nil}
+use Rattle.std.proofs.Common.{◌≡◌, ◌∙◌, ℕ, List, [], ◌∷◌, ◌++◌, map, Option, Some, None, refl, sym, ap, subst, inl}
+use Rattle.std.proofs.lemmas.List.{append_cancel_left, append-nil}
 use Rattle.std.proofs.lemmas.List.Elements.{All-cons, All-nil}
-use Rattle.fd_outside.proofs.CallerLemmas.{becomes_same}
+use Rattle.fd_outside.specs.Answers.{Agrees, AgreesSince, Answer, IsLater, names_asked}
+use Rattle.fd_outside.specs.Files.{Files}
 use Rattle.fd_gen.specs.Script.{ended, lines_of, script_of}
 use Rattle.fd_outcome.specs.Calls.{Call, Style, body, calls_of, doing, opened, reads, report, writes}
 use Rattle.fd_outcome.specs.Events.{AllSettles, History, IfSettle, line}
@@ -13,11 +14,18 @@ use Rattle.fd_bench.specs.Alone.{RunsAlone}
 
 -- ---- any library
 
-module _ {L S : Type 0} (faults : L → ℕ) (asked_of : L → Option (List (List ℕ))) (taken : S → Option (List ℕ))
-    (calls : S → Option ℕ) (lib : L) (old new : S) where
+-- the files that a library tells that it holds agree with its answers
+pub agrees_held : {L : Type 0} (answers : L → List Answer) (holds : L → Option Files) (files : Files) (before now : L)
+    → holds before ≡ Some files → IsLater answers holds before now → AgreesSince files (answers before) (answers now)
+agrees_held answers holds files before now is later = record {
+  agree = λ since told. subst (Agrees files)
+      (append_cancel_left (answers before) later.since since (sym later.told ∙ told)) (later.held files is);
+}
+
+module _ {L S : Type 0} (answers : L → List Answer) (taken : S → List ℕ) (calls : S → ℕ) (lib : L) (old new : S) where
   pub alone_runs : (is_history : History → Type 0) (style : Style) (good : Settle → Type 0) (code : ℕ)
       → RunsAlone taken calls old new is_history style good code
-      → Runs faults asked_of taken calls lib lib old new is_history style good code
+      → Runs answers taken calls lib lib old new is_history style good code
   alone_runs is_history style good code r = record {
     history = r.history;
     right = r.right;
@@ -26,7 +34,7 @@ module _ {L S : Type 0} (faults : L → ℕ) (asked_of : L → Option (List (Lis
     made = r.made;
     done = r.done;
     sees = record {
-      names = becomes_same (asked_of lib) _ (λ ns. sym (ap (λ l. ns ++ l) r.wrote.names ∙ append-nil ns));
+      names = sym (ap (λ l. names_asked (answers lib) ++ l) r.wrote.names ∙ append-nil (names_asked (answers lib)));
       bytes = r.wrote.bytes_are;
       writes = r.wrote.writes_are;
     };
@@ -34,7 +42,7 @@ module _ {L S : Type 0} (faults : L → ℕ) (asked_of : L → Option (List (Lis
   }
 
 -- a history that is printed
-pub printed_alone : {S : Type 0} (taken : S → Option (List ℕ)) (calls : S → Option ℕ) (old new : S) (h : History)
+pub printed_alone : {S : Type 0} (taken : S → List ℕ) (calls : S → ℕ) (old new : S) (h : History)
     (style : Style) (good : Settle → Type 0) (code : ℕ)
     → AllSettles good h.events
     → Printed taken calls old new (doing style h) code → RunsAlone taken calls old new (λ x. x ≡ h) style good code

@@ -6,9 +6,9 @@ use Rattle.std.specs.Str.{chars}
 use Rattle.std.proofs.lemmas.List.{append_assoc, append-nil}
 use Rattle.std.proofs.lemmas.List.Elements.{All-cons, All-nil}
 use Rattle.std.proofs.lemmas.List.Sums.{fold-append}
-use Rattle.fd_outside.specs.Causes.{Becomes, Rose}
+use Rattle.fd_outside.specs.Answers.{Answer, HasFailed, absent, content, failed, names_asked}
 use Rattle.fd_outside.specs.Files.{held}
-use Rattle.fd_outside.proofs.CallerLemmas.{becomes_same}
+use Rattle.fd_outside.specs.Unfailing.{all_well}
 use Rattle.dss_model.specs.Names.{bytes}
 use Rattle.dss_model.specs.declared.command.Command.{Command}
 use Rattle.dss_script.specs.Said.{Said, ScriptEnd, at_its_end, command, end_in, ended_by, name, refused_at, said_in, said_of}
@@ -61,7 +61,7 @@ ends_so : (sections : ℕ) (t : Tally) (style : Style) (begun : Bool) (step : St
 ends_so sections t style begun (goes events s) code m h = h
 ends_so sections t style begun (ends events f) code m h = h
 
-module _ {S : Type 0} (taken : S → Option (List ℕ)) (calls : S → Option ℕ) (c : Command) (s : BenchView) where
+module _ {S : Type 0} (taken : S → List ℕ) (calls : S → ℕ) (c : Command) (s : BenchView) where
   pub bench_goes : (now : StandingView) (t : Tally) (old new : S) (begun after : Bool)
       → GoesOnTallied lines_of_text (IsStep c s.standing) now taken calls old new begun after s.tally t
       → GoesOn lines_of_text IsSolved (IsBenchStep c s) (bench_at s.sections t now) taken calls old new begun after
@@ -100,11 +100,11 @@ pub last_line : (begun : Bool) (text : List ℕ)
 last_line true text = refl
 last_line false text = refl
 
-module _ {L S : Type 0} (faults : L → ℕ) (asked_of : L → Option (List (List ℕ))) (taken : S → Option (List ℕ))
-    (calls : S → Option ℕ) where
+module _ {L S : Type 0} (answers : L → List Answer) (taken : S → List ℕ) (calls : S → ℕ) where
   pub bench_finishes : (lib : L) (old new : S) (begun : Bool) (text : List ℕ) (code : ℕ)
-      → Printed taken calls old new (record { calls = last_calls lines_of_text begun (line text ∷ []) None; end = None }) code
-      → Finishes lines_of_text IsSolved (λ h. h ≡ finishes (line text ∷ [])) faults asked_of taken calls lib lib old new begun code
+      → Printed taken calls old new
+      (record { calls = last_calls lines_of_text begun (line text ∷ []) None; end = None }) code
+      → Finishes lines_of_text IsSolved (λ h. h ≡ finishes (line text ∷ [])) answers taken calls lib lib old new begun code
   bench_finishes lib old new begun text code p = record {
     history = finishes (line text ∷ []);
     right = refl;
@@ -114,7 +114,7 @@ module _ {L S : Type 0} (faults : L → ℕ) (asked_of : L → Option (List (Lis
     done = p.done;
     all_good = All-cons (IfSettle IsSolved) (line text) [] tt (All-nil (IfSettle IsSolved));
     sees = record {
-      names = becomes_same (asked_of lib) _ (λ ns. sym (ap (λ l. ns ++ l) p.wrote.names ∙ append-nil ns));
+      names = sym (ap (λ l. names_asked (answers lib) ++ l) p.wrote.names ∙ append-nil (names_asked (answers lib)));
       bytes = p.wrote.bytes_are;
       writes = p.wrote.writes_are;
     };
@@ -282,27 +282,42 @@ done_kept h code m done =
       | inr front ↦ inr (subst (λ l. IsFrontOf l code (kept_made m)) same (front_kept (calls_of lines_of_text h.events h.end) code m front))
     ]
 
-module _ {L S : Type 0} (faults : L → ℕ) (asked_of : L → Option (List (List ℕ))) (taken : S → Option (List ℕ))
-    (calls : S → Option ℕ) (lib_old lib_new : L) (old new : S) where
-  wrote_kept : (m : Made) → Sees asked_of taken calls lib_old lib_new old new m
+-- ---- a library none of whose reads fails
+
+well_last : (a b : List Answer) → all_well (a ++ b) ≡ true → all_well b ≡ true
+well_last [] b h = h
+well_last ((n, content bs) ∷ a) b h = well_last a b h
+well_last ((n, absent) ∷ a) b h = well_last a b h
+well_last ((n, failed) ∷ a) b h = absurd (cc)
+
+pub none_failed : (before now : List Answer) → all_well now ≡ true → HasFailed before now → ⊥
+none_failed before now well h =
+    let last : List Answer = (h.0, failed) ∷ [] in
+    let all : all_well (before ++ (h.1.earlier ++ last)) ≡ true = subst (λ l. all_well l ≡ true) h.1.told well in
+    let no : false ≡ true = well_last h.1.earlier last (well_last before (h.1.earlier ++ last) all) in
+    cc no
+
+module _ {L S : Type 0} (answers : L → List Answer) (taken : S → List ℕ) (calls : S → ℕ) (lib_old lib_new : L)
+    (old new : S) where
+  wrote_kept : (m : Made) → Sees answers taken calls lib_old lib_new old new m
       → Wrote taken calls old new (kept_made m)
   wrote_kept m sees = record {
     names = kept_names m.calls;
     bytes_are = subst (λ (texts : List (List ℕ)).
-        Becomes (taken old) (taken new) (λ bs. bs ++ (concat texts ++ torn_bytes m.torn)))
+        taken new ≡ taken old ++ (concat texts ++ torn_bytes m.torn))
         (sym (kept_texts m.calls)) sees.bytes;
     writes_are = subst (λ (texts : List (List ℕ)).
-        Becomes (calls old) (calls new) (λ n. n + (length texts + torn_writes m.torn)))
+        calls new ≡ calls old + (length texts + torn_writes m.torn))
         (sym (kept_texts m.calls)) sees.writes;
   }
 
   -- where no read fails, it is what is done without the calls to the library
   pub without_library : (P Q : History → Type 0) → ((h : History) → P h → Q h) → (code : ℕ)
-      → (Rose (faults lib_old) (faults lib_new) → ⊥)
-      → Runs faults asked_of taken calls lib_old lib_new old new P lines_of_text IsSolved code
+      → (HasFailed (answers lib_old) (answers lib_new) → ⊥)
+      → Runs answers taken calls lib_old lib_new old new P lines_of_text IsSolved code
       → RunsAlone taken calls old new Q lines_alone IsSolved code
   without_library P Q weaker code never r =
-      let none : r.fails ≡ None = elim r.cause [ inl e ↦ e | inr rose ↦ absurd (never rose) ] in
+      let none : r.fails ≡ None = elim r.cause [ inl e ↦ e | inr last ↦ absurd (never last) ] in
       let front : History = record { events = r.reached.front; end = r.reached.end } in
       record {
         history = r.history;
@@ -322,7 +337,7 @@ module _ {L S : Type 0} (faults : L → ℕ) (asked_of : L → Option (List (Lis
 
 -- ---- memory runs out before anything is done
 
-pub short_alone : {S : Type 0} (taken : S → Option (List ℕ)) (calls : S → Option ℕ) (out : S) (P : History → Type 0) (style : Style)
+pub short_alone : {S : Type 0} (taken : S → List ℕ) (calls : S → ℕ) (out : S) (P : History → Type 0) (style : Style)
     → ExactlyOne P → RunsAlone taken calls out out P style IsSolved 1
 short_alone taken calls out P style one = record {
   history = one.some;

@@ -1,5 +1,5 @@
 -- What a command line does that asks the library for nothing.
-use Rattle.std.specs.Prelude.{ℕ, List, Option, None}
+use Rattle.std.specs.Prelude.{ℕ, List, None}
 use Rattle.fd_outcome.specs.Calls.{Style, doing}
 use Rattle.fd_outcome.specs.Done.{IsDone, Made}
 use Rattle.fd_outcome.specs.Events.{History}
@@ -9,7 +9,7 @@ use Rattle.fd_outcome.specs.Settles.{Settle}
 
 -- The one history is done, whole or cut short, the sink has taken what is done, and each settle that the run came to is
 -- good.
-pub record RunsAlone {S : Type 0} (taken : S → Option (List ℕ)) (calls : S → Option ℕ) (old new : S) (is_history : History → Type 0)
+pub record RunsAlone {S : Type 0} (taken : S → List ℕ) (calls : S → ℕ) (old new : S) (is_history : History → Type 0)
     (style : Style) (good : Settle → Type 0) (code : ℕ) : Type 0 where
   pub history : History
   pub right : is_history history

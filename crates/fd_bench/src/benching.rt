@@ -135,7 +135,7 @@ pub fn bench<S: Sink>(alloc: Global, number: u64, sections: u32, out: &mut S) ->
     let Ok(mut session) = Session::open(alloc, FEEDER_NAME) else {
         return WANT_OF_MEMORY;
     };
-    let mut lib = NeverFails::new(alloc, files);
+    let mut lib = NeverFails::new(files);
     let mut line = BenchState::new(alloc, sections);
     run_script(alloc, &mut session, &mut line, &mut lib, out)
 }

@@ -1,19 +1,20 @@
 -- What `check` does behind the last command.
-use Rattle.std.proofs.Common.{◌≡◌, ◌∙◌, ℕ, ◌≤◌, Bool, true, false, List, [], ◌∷◌, ◌++◌, Option, Some, None, Result, Ok, Err, refl, sym, ap, subst, arith}
+use Rattle.std.proofs.Common.{◌≡◌, ◌∙◌, ℕ, Bool, true, false, List, [], ◌∷◌, ◌++◌, Option, Some, None, Result, Ok, Err, refl, sym, ap, subst, arith}
 use Rattle.std.specs.Prelude.{IfErr, IfOk}
-use Rattle.std.proofs.lemmas.List.{append-nil}
 use Rattle.std.proofs.lemmas.List.Elements.{All-cons, All-nil}
-use Rattle.fd_outside.specs.Causes.{Becomes, Rose}
-use Rattle.fd_outside.specs.Files.{AnswersHeld, Files, IsHeld, asked_after, held}
+use Rattle.fd_outside.specs.Answers.{Agrees, Answer, EndsFailed, HasFailed, IsLater, Reply, absent, answered, content, failed, names_asked}
+use Rattle.fd_outside.specs.Causes.{Rose}
+use Rattle.fd_outside.specs.Files.{AnswersHeld, Files, held}
+use Rattle.fd_outside.proofs.CallerLemmas.{names_behind}
 use Rattle.fd_outside.specs.declared.library.Found.{Found}
 use Rattle.fd_outside.specs.declared.library.Found.TheVariants as was
 use Rattle.fd_outside.specs.declared.library.LibFault.{LibFault}
 use Rattle.fd_outside.specs.declared.library.LibFault.TheVariants as lib_fault
 use Rattle.dss_model.specs.Names.{bytes}
-use Rattle.dss_script.specs.Sessions.{GrowsLast, GrowsSome, found_bytes}
+use Rattle.dss_script.specs.Sessions.{found_bytes}
 use Rattle.dss_model.specs.declared.command.Blame.{Blame}
 use Rattle.fd_check.specs.Underway.{no_positions}
-use Rattle.fd_certfile.specs.Verdict.{Answer, IsAnswer, accepted, refused, stopped}
+use Rattle.fd_certfile.specs.Verdict.{Answer as Verdict, IsAnswer, accepted, refused, stopped}
 use Rattle.fd_check.specs.Checking.{after, due, open_solves}
 use Rattle.fd_check.specs.Comes.{Tells as Told}
 use Rattle.fd_cert.specs.declared.rule.Rule.TheVariants as rule
@@ -39,7 +40,7 @@ use Rattle.fd_checking.proofs.Gathering.{one_judged}
 
 -- ---- the answer of the check
 
-judged_so : (g : GatheredView) (found : Option (List ℕ)) (answer : Answer Blame) (j : Judged) (other : Judged)
+judged_so : (g : GatheredView) (found : Option (List ℕ)) (answer : Verdict Blame) (j : Judged) (other : Judged)
     → IsAnswer due after found (open_solves g.solved no_positions 0) answer → j ≡ other
     → history_in other ≡ judged_as answer → IsJudged g found (history_in j)
 judged_so g found answer j other right is same = record { answer = answer; right = right; h_is = ap history_in is ∙ same }
@@ -65,23 +66,23 @@ absent_is g found j none is =
     (judged_so g None (refused 0 rule.Absent) j (judged.Refused (fault.Certificate 0 rule.Absent)) refl is refl)
 
 -- some answer comes of what is found, though memory runs out before it is printed
-abbrev judged_in : Answer Blame → Judged
+abbrev judged_in : Verdict Blame → Judged
 judged_in (accepted blocks) = judged.Accepted blocks
 judged_in (refused line rule) = judged.Refused (fault.Certificate line rule)
 judged_in (stopped blame) = judged.Refused (fault.Script blame.place (cause.Model blame.cause))
 
-in_so : (answer : Answer Blame) → judged_as answer ≡ history_in (judged_in answer)
+in_so : (answer : Verdict Blame) → judged_as answer ≡ history_in (judged_in answer)
 in_so (accepted blocks) = refl
 in_so (refused line rule) = refl
 in_so (stopped blame) = refl
 
-of_check_in : (answer : Answer Blame) → IsOfCheck (judged_in answer)
+of_check_in : (answer : Verdict Blame) → IsOfCheck (judged_in answer)
 of_check_in (accepted blocks) = tt
 of_check_in (refused line rule) = tt
 of_check_in (stopped blame) = tt
 
-pub answered_short : {S : Type 0} (taken : S → Option (List ℕ)) (calls : S → Option ℕ) (out : S) (g : GatheredView) (found : Option (List ℕ))
-    → IsAnsweredSo taken calls out out g found 1
+pub answered_short : {S : Type 0} (taken : S → List ℕ) (calls : S → ℕ) (out : S) (g : GatheredView)
+    (found : Option (List ℕ)) → IsAnsweredSo taken calls out out g found 1
 answered_short taken calls out g found =
     let one = one_judged g found in
     let j = judged_in one.is.answer in
@@ -92,41 +93,63 @@ answered_short taken calls out g found =
       prints = printed_cut taken calls out out _ (history_in j).end 1 (cut_before taken calls out _);
     }
 
--- ---- the names that were asked
+-- ---- what was answered
 
-pub asked_for : (a b : Option (List (List ℕ))) (name n : List ℕ) (r : Result Found LibFault)
-    → (r ≡ Err lib_fault.NoMemory → ⊥) → name ≡ bytes n → Becomes a b (λ ns. asked_after ns name r)
-    → Becomes a b (λ ns. ns ++ bytes n ∷ [])
-asked_for None b name n r answered same h = tt
-asked_for (Some ns) b name n (Ok found) answered same h = h ∙ ap (λ (x : List ℕ). Some (ns ++ x ∷ [])) same
-asked_for (Some ns) b name n (Err lib_fault.Failed) answered same h = h ∙ ap (λ (x : List ℕ). Some (ns ++ x ∷ [])) same
-asked_for (Some ns) b name n (Err lib_fault.NoMemory) answered same h = absurd (answered refl)
+asked_by : (a b : List Answer) (name bs : List ℕ) (reply : Reply) → name ≡ bs → b ≡ a ++ (name, reply) ∷ []
+    → names_asked b ≡ names_asked a ++ bs ∷ []
+asked_by a b name bs reply same h =
+    names_behind a b ((name, reply) ∷ []) h ∙ ap (λ (x : List ℕ). names_asked a ++ x ∷ []) same
 
-pub asked_none : (a b : Option (List (List ℕ))) (name : List ℕ) (r : Result Found LibFault) → r ≡ Err lib_fault.NoMemory
-    → Becomes a b (λ ns. asked_after ns name r) → Becomes a b (λ ns. ns ++ [])
-asked_none None b name r none h = tt
-asked_none (Some ns) b name r none h = h ∙ ap (λ (x : Result Found LibFault). Some (asked_after ns name x)) none ∙ ap Some (sym (append-nil ns))
+pub asked_for : (a b : List Answer) (name n : List ℕ) (r : Result Found LibFault)
+    → (r ≡ Err lib_fault.NoMemory → ⊥) → name ≡ bytes n → b ≡ a ++ answered name r
+    → names_asked b ≡ names_asked a ++ bytes n ∷ []
+asked_for a b name n (Ok (was.Bytes bs)) told same h = asked_by a b name (bytes n) (content bs.items) same h
+asked_for a b name n (Ok was.Absent) told same h = asked_by a b name (bytes n) absent same h
+asked_for a b name n (Err lib_fault.Failed) told same h = asked_by a b name (bytes n) failed same h
+asked_for a b name n (Err lib_fault.NoMemory) told same h = absurd (told refl)
 
-pub grows_nothing : (a b : Option (List (List ℕ))) → Becomes a b (λ ns. ns ++ []) → GrowsSome a b
-grows_nothing a b h = record { names = []; grown = h }
+pub asked_none : (a b : List Answer) (name : List ℕ) (r : Result Found LibFault) → r ≡ Err lib_fault.NoMemory
+    → b ≡ a ++ answered name r → names_asked b ≡ names_asked a ++ []
+asked_none a b name r none h =
+    names_behind a b (answered name r) h
+    ∙ ap (λ (x : Result Found LibFault). names_asked a ++ names_asked (answered name x)) none
 
--- what the library holds is what was found
-pub held_is : (holds : Option Files) (files : Files) (name bs : List ℕ) (found : Found) → holds ≡ Some files → name ≡ bs
-    → AnswersHeld holds name (Ok found) → held files bs ≡ found_bytes found
-held_is holds files name bs found told same h =
+pub ends_failed : (a b : List Answer) (name n : List ℕ) (r : Result Found LibFault) → r ≡ Err lib_fault.Failed
+    → name ≡ bytes n → b ≡ a ++ answered name r → EndsFailed a b (bytes n)
+ends_failed a b name n r is same h = record {
+  earlier = [];
+  told = h ∙ ap (λ (x : Result Found LibFault). a ++ answered name x) is
+      ∙ ap (λ (x : List ℕ). a ++ (x, failed) ∷ []) same;
+}
+
+-- what files hold that agree with it is what was found
+pub held_is : (files : Files) (name bs : List ℕ) (r : Result Found LibFault) (found : Found) → r ≡ Ok found → name ≡ bs
+    → Agrees files (answered name r) → held files bs ≡ found_bytes found
+held_is files name bs r found is same h =
     ap (held files) (sym same)
-    ∙ found_is (held files name) found (subst (λ (x : Option Files). AnswersHeld x name (Ok found)) told h)
+    ∙ found_is found (subst (λ (x : Result Found LibFault). Agrees files (answered name x)) is h)
   where
-    found_is : (there : Option (List ℕ)) (f : Found) → IsHeld there f → there ≡ found_bytes f
-    found_is there (was.Bytes bytes) is = is
-    found_is there was.Absent is = is
+    found_is : (f : Found) → Agrees files (answered name (Ok f)) → held files name ≡ found_bytes f
+    found_is (was.Bytes bs) h = h.0
+    found_is was.Absent h = h.0
 
-grows_by : (a b : Option (List (List ℕ))) (n : List ℕ) → Becomes a b (λ ns. ns ++ bytes n ∷ []) → GrowsSome a b
-grows_by a b n h = record { names = bytes n ∷ []; grown = h }
+agrees_answered : (files : Files) (name : List ℕ) (r : Result Found LibFault) → AnswersHeld (Some files) name r
+    → Agrees files (answered name r)
+agrees_answered files name (Ok (was.Bytes bs)) h = (h, tt)
+agrees_answered files name (Ok was.Absent) h = (h, tt)
+agrees_answered files name (Err lib_fault.Failed) h = (tt, tt)
+agrees_answered files name (Err lib_fault.NoMemory) h = tt
 
-last_by : (a b : Option (List (List ℕ))) (n : List ℕ) → Becomes a b (λ ns. ns ++ bytes n ∷ []) → GrowsLast a b n
-last_by None b n h = record { front = []; grown = tt }
-last_by (Some ns) b n h = record { front = []; grown = h ∙ ap (λ (l : List (List ℕ)). Some (l ++ bytes n ∷ [])) (sym (append-nil ns)) }
+-- one read adds its answer
+pub later_read : {L : Type 0} (answers : L → List Answer) (holds : L → Option Files) (old new : L) (name : List ℕ)
+    (r : Result Found LibFault) → answers new ≡ answers old ++ answered name r → holds new ≡ holds old
+    → AnswersHeld (holds old) name r → IsLater answers holds old new
+later_read answers holds old new name r told same h = record {
+  since = answered name r;
+  told = told;
+  same = same;
+  held = λ files is. agrees_answered files name r (subst (λ (x : Option Files). AnswersHeld x name r) is h);
+}
 
 -- ---- what is printed
 
@@ -141,7 +164,7 @@ no_settle : (j : Judged) → AllSettles IsSolved (history_in j).events
 no_settle (judged.Accepted blocks) = All-cons (IfSettle IsSolved) (row (accepted_fields blocks)) [] tt (All-nil (IfSettle IsSolved))
 no_settle (judged.Refused f) = All-nil (IfSettle IsSolved)
 
-no_settle_as : (answer : Answer Blame) → AllSettles IsSolved (judged_as answer).events
+no_settle_as : (answer : Verdict Blame) → AllSettles IsSolved (judged_as answer).events
 no_settle_as (accepted blocks) = All-cons (IfSettle IsSolved) (row (accepted_fields blocks)) [] tt (All-nil (IfSettle IsSolved))
 no_settle_as (refused line rule) = All-nil (IfSettle IsSolved)
 no_settle_as (stopped blame) = All-nil (IfSettle IsSolved)
@@ -150,17 +173,17 @@ no_settle_by : (g : GatheredView) (found : Option (List ℕ)) (h : History) → 
     → AllSettles IsSolved h.events
 no_settle_by g found h is = subst (λ (x : History). AllSettles IsSolved x.events) (sym is.h_is) (no_settle_as is.answer)
 
-module _ {L S : Type 0} (faults : L → ℕ) (asked_of : L → Option (List (List ℕ))) (sink_faults : S → ℕ)
-    (taken : S → Option (List ℕ)) (calls : S → Option ℕ) (g : GatheredView) (lib_old lib_new : L) where
+module _ {L S : Type 0} (answers : L → List Answer) (holds : L → Option Files) (sink_faults : S → ℕ)
+    (taken : S → List ℕ) (calls : S → ℕ) (g : GatheredView) (lib_old lib_new : L) where
   abbrev Asks : Type 0
-  Asks = Becomes (asked_of lib_old) (asked_of lib_new) (λ ns. ns ++ bytes g.certificate ∷ [])
+  Asks = names_asked (answers lib_new) ≡ names_asked (answers lib_old) ++ bytes g.certificate ∷ []
 
   module _ (there : List ℕ → Option (List ℕ)) (begun : Bool) where
     abbrev IsEnd : History → Type 0
     IsEnd h = IsLast IsCheckStep certificate_name IsJudged there (certificate_name g) g h
 
     abbrev Tells : S → S → ℕ → Type 0
-    Tells old new code = Finishes report IsSolved IsEnd faults asked_of taken calls lib_old lib_new old new begun code
+    Tells old new code = Finishes report IsSolved IsEnd answers taken calls lib_old lib_new old new begun code
 
     behind_name : (more : History) → IsJudged g (there g.certificate) more
         → IsEnd (before (asked g.certificate ∷ []) more)
@@ -170,7 +193,7 @@ module _ {L S : Type 0} (faults : L → ℕ) (asked_of : L → Option (List (Lis
         → Printed taken calls old new (doing report (history_in j)) code → Tells old new code
     judged_told j is old new code asks printed =
         let h = history_in j in
-        finishes_asked report report_asks faults asked_of taken calls IsSolved IsEnd g.certificate h
+        finishes_asked report report_asks answers taken calls IsSolved IsEnd g.certificate h
         (behind_name h is) (no_settle j) lib_old lib_new begun old new code asks
         (subst (λ (l : List Call). Printed taken calls old new (record { calls = l; end = h.end }) code)
         (same_calls begun j) printed)
@@ -182,60 +205,58 @@ module _ {L S : Type 0} (faults : L → ℕ) (asked_of : L → Option (List (Lis
     no_settle_in : AllSettles IsSolved some_end.events
     no_settle_in = no_settle_by g (there g.certificate) some_end (one_judged g (there g.certificate)).is
 
-    pub unasked_told : (out : S) → Becomes (asked_of lib_old) (asked_of lib_new) (λ ns. ns ++ []) → Tells out out 1
+    pub unasked_told : (out : S) → names_asked (answers lib_new) ≡ names_asked (answers lib_old) ++ [] → Tells out out 1
     unasked_told out same =
-        finishes_short report report_asks faults asked_of taken calls IsSolved IsEnd g.certificate some_end
+        finishes_short report report_asks answers taken calls IsSolved IsEnd g.certificate some_end
         (behind_name some_end (one_judged g (there g.certificate)).is) no_settle_in lib_old lib_new begun out same
 
-    pub unread_told : (old new : S) (code : ℕ) → Asks → Rose (faults lib_old) (faults lib_new)
+    pub unread_told : (old new : S) (code : ℕ) → Asks → HasFailed (answers lib_old) (answers lib_new)
         → Printed taken calls old new (fault_doing (fault.Read g.certificate)) code → Tells old new code
-    unread_told old new code asks rose printed =
-        finishes_unread report report_asks faults asked_of taken calls IsSolved IsEnd g.certificate some_end
+    unread_told old new code asks last printed =
+        finishes_unread report report_asks answers taken calls IsSolved IsEnd g.certificate some_end
         (behind_name some_end (one_judged g (there g.certificate)).is) no_settle_in lib_old lib_new begun old new code
-        asks rose printed
+        asks last printed
 
-  -- ---- whatever the library tells
+  -- ---- whatever the library answers
 
   abbrev Untold : S → S → ℕ → Type 0
-  Untold old new code = IsUntold faults asked_of sink_faults taken calls lib_old lib_new old new code
+  Untold old new code = IsUntold answers holds sink_faults taken calls lib_old lib_new old new code
 
-  pub judged_untold : (j : Judged) → IsOfCheck j → (old new : S) (code : ℕ) → Asks → faults lib_old ≤ faults lib_new
+  pub judged_untold : (j : Judged) → IsOfCheck j → (old new : S) (code : ℕ) → IsLater answers holds lib_old lib_new
       → Printed taken calls old new (doing report (history_in j)) code
       → (code ≡ 5 → Rose (sink_faults old) (sink_faults new)) → Untold old new code
-  judged_untold (judged.Accepted blocks) of_check old new code asks later printed write =
-      untold_finished faults asked_of sink_faults taken calls lib_old lib_old lib_new lib_new old old new code
-      (shown_nothing faults asked_of sink_faults taken calls lib_old old)
-      (grows_by (asked_of lib_old) (asked_of lib_new) g.certificate asks) later (omega arith)
-      (untold_last faults asked_of sink_faults taken calls lib_new old new _ code printed write)
-  judged_untold (judged.Refused f) of_check old new code asks later printed write =
-      untold_fault faults asked_of sink_faults taken calls lib_old lib_old lib_new old old new code
-      (shown_nothing faults asked_of sink_faults taken calls lib_old old)
-      (grows_by (asked_of lib_old) (asked_of lib_new) g.certificate asks)
-      (fault_answers taken calls old new f code printed) (never_usage taken calls old new _ f code of_check printed)
+  judged_untold (judged.Accepted blocks) of_check old new code later printed write =
+      untold_finished answers holds sink_faults taken calls lib_old lib_old lib_new lib_new old old new code
+      (shown_nothing answers holds sink_faults taken calls lib_old old)
+      later (omega arith) (untold_last answers holds sink_faults taken calls lib_new old new _ code printed write)
+  judged_untold (judged.Refused f) of_check old new code later printed write =
+      untold_fault answers holds sink_faults taken calls lib_old lib_old lib_new old old new code
+      (shown_nothing answers holds sink_faults taken calls lib_old old)
+      later (fault_answers taken calls old new f code printed)
+      (never_usage taken calls old new _ f code of_check printed)
       (never_read taken calls old new _ f code of_check printed) write
 
-  pub short_untold : (out : S) → GrowsSome (asked_of lib_old) (asked_of lib_new) → Untold out out 1
-  short_untold out grows =
-      untold_short faults asked_of sink_faults taken calls lib_old lib_old lib_new out out
-      (shown_nothing faults asked_of sink_faults taken calls lib_old out) grows
+  pub short_untold : (out : S) → IsLater answers holds lib_old lib_new → Untold out out 1
+  short_untold out later =
+      untold_short answers holds sink_faults taken calls lib_old lib_old lib_new out out
+      (shown_nothing answers holds sink_faults taken calls lib_old out) later
 
-  pub unread_untold : (old new : S) (code : ℕ) → Asks → Rose (faults lib_old) (faults lib_new)
+  pub unread_untold : (old new : S) (code : ℕ) → IsLater answers holds lib_old lib_new
+      → EndsFailed (answers lib_old) (answers lib_new) (bytes g.certificate)
       → Printed taken calls old new (fault_doing (fault.Read g.certificate)) code
       → (code ≡ 5 → Rose (sink_faults old) (sink_faults new)) → Untold old new code
-  unread_untold old new code asks rose printed write =
-      untold_read faults asked_of sink_faults taken calls lib_old lib_old lib_new old old new g.certificate code
-      (shown_nothing faults asked_of sink_faults taken calls lib_old old)
-      (grows_by (asked_of lib_old) (asked_of lib_new) g.certificate asks)
-      (last_by (asked_of lib_old) (asked_of lib_new) g.certificate asks) printed rose write
+  unread_untold old new code later last printed write =
+      untold_read answers holds sink_faults taken calls lib_old lib_old lib_new old old new g.certificate code
+      (shown_nothing answers holds sink_faults taken calls lib_old old) later last printed write
 
 -- ---- a state as contracts see it
 
-module _ {L S : Type 0} (faults : L → ℕ) (asked_of : L → Option (List (List ℕ))) (taken : S → Option (List ℕ))
-    (calls : S → Option ℕ) (there : List ℕ → Option (List ℕ)) (lib_old lib_new : L) (begun : Bool) where
+module _ {L S : Type 0} (answers : L → List Answer) (taken : S → List ℕ) (calls : S → ℕ)
+    (there : List ℕ → Option (List ℕ)) (lib_old lib_new : L) (begun : Bool) where
   abbrev pub TellsOf : GatheredView → S → S → ℕ → Type 0
   TellsOf g old new code =
       Finishes report IsSolved (λ h. IsLast IsCheckStep certificate_name IsJudged there (certificate_name g) g h)
-      faults asked_of taken calls lib_old lib_new old new begun code
+      answers taken calls lib_old lib_new old new begun code
 
   pub told_as : (s g : GatheredView) (old new : S) (code : ℕ) → s ≡ g → TellsOf s old new code → TellsOf g old new code
   told_as s g old new code same told = subst (λ (x : GatheredView). TellsOf x old new code) same told

@@ -30,7 +30,7 @@ IsJudgedBy (Err (check.Range blame)) j = j ≡ judged.Refused (fault.Script blam
 IsJudgedBy (Err check.NoMemory) j = ⊥
 
 -- what is found comes to one of these, and all of its text or a front is handed to the sink
-pub record IsAnsweredSo {S : Type 0} (taken : S → Option (List ℕ)) (calls : S → Option ℕ) (old new : S)
+pub record IsAnsweredSo {S : Type 0} (taken : S → List ℕ) (calls : S → ℕ) (old new : S)
     (g : GatheredView) (found : Option (List ℕ)) (code : ℕ) : Type 0 where
   pub judged : Judged
   pub right : IsJudged g found (history_in judged)

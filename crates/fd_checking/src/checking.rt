@@ -1,7 +1,8 @@
 // The command line `check SCRIPT CERTIFICATE`.
-ghost use Rattle.std.specs.Prelude.{◌≡◌, ◌+◌, ◌≤◌, [], IfOk, None, Some};
+ghost use Rattle.std.specs.Prelude.{◌≡◌, ◌+◌, ◌≤◌, [], IfOk, None};
 ghost use Rattle.std.specs.Str.{chars};
 ghost use Rattle.dss_circuit.specs.Circuit.{empty_circuit};
+ghost use Rattle.fd_outside.specs.Answers.{AgreesSince};
 ghost use Rattle.fd_outside.specs.Causes.{Rose};
 ghost use Rattle.fd_outside.specs.Files.{Files};
 ghost use Rattle.fd_report.specs.declared.faults.Fault.TheVariants.{Read};
@@ -136,10 +137,10 @@ pub fn check<L: Library, S: Sink>(
     lib: &mut L,
     out: &mut S,
 ) -> u8
-    ensures run { (files : Files) → L.holds lib.old ≡ Some files →
-        Runs L.faults L.asked S.taken S.calls lib.old lib.new out.old out.new
+    ensures run { (files : Files) → AgreesSince files (L.answers lib.old) (L.answers lib.new) →
+        Runs L.answers S.taken S.calls lib.old lib.new out.old out.new
         (λ h. IsCheckHistory files (said_of files (chars script.now)) (chars certificate.now) h) report IsSolved result }
-    ensures untold { IsUntold L.faults L.asked S.faults S.taken S.calls lib.old lib.new out.old out.new result }
+    ensures untold { IsUntold L.answers L.holds S.faults S.taken S.calls lib.old lib.new out.old out.new result }
 {
     said_law();
     let Ok(mut session) = Session::open(alloc, script) else {

@@ -2,8 +2,7 @@
 use Rattle.std.proofs.Common.{◌≡◌, ◌∙◌, ℕ, Bool, true, false, List, [], ◌∷◌, ◌++◌, map, Option, Some, None, refl, sym, ap, subst, inl, inr, arith}
 use Rattle.std.proofs.lemmas.List.{append-nil}
 use Rattle.std.proofs.lemmas.List.Elements.{All-cons}
-use Rattle.fd_outside.specs.Causes.{Becomes, Rose}
-use Rattle.fd_outside.proofs.CallerLemmas.{becomes_same}
+use Rattle.fd_outside.specs.Answers.{Answer, HasFailed, names_asked}
 use Rattle.dss_model.specs.Names.{bytes}
 use Rattle.fd_report.specs.declared.faults.Fault.{Fault}
 use Rattle.fd_report.specs.declared.faults.Fault.TheVariants as fault
@@ -33,26 +32,21 @@ module _ (style : Style) (fits : AsksNames style) where
 
   -- ---- what is done of it
 
-  module _ {L S : Type 0} (faults : L → ℕ) (asked_of : L → Option (List (List ℕ))) (taken : S → Option (List ℕ))
-      (calls : S → Option ℕ) (good : Settle → Type 0) (P : History → Type 0) (n : List ℕ) (more : History)
+  module _ {L S : Type 0} (answers : L → List Answer) (taken : S → List ℕ)
+      (calls : S → ℕ) (good : Settle → Type 0) (P : History → Type 0) (n : List ℕ) (more : History)
       (is : P (before (asked n ∷ []) more)) (all_good : AllSettles good more.events) (lib_old lib_new : L)
       (begun : Bool) where
     abbrev Ends : S → S → ℕ → Type 0
-    Ends old new code = Finishes style good P faults asked_of taken calls lib_old lib_new old new begun code
+    Ends old new code = Finishes style good P answers taken calls lib_old lib_new old new begun code
 
     grown_by : (m : Made) → names_read m.calls ≡ []
-        → Becomes (asked_of lib_old) (asked_of lib_new) (λ ns. ns ++ bytes n ∷ [])
-        → Becomes (asked_of lib_old) (asked_of lib_new) (λ ns. ns ++ names_read (reads n ∷ m.calls))
-    grown_by m none grown = grown_as (asked_of lib_old) (asked_of lib_new) grown
-      where
-        grown_as : (a b : Option (List (List ℕ))) → Becomes a b (λ ns. ns ++ bytes n ∷ [])
-            → Becomes a b (λ ns. ns ++ names_read (reads n ∷ m.calls))
-        grown_as None b h = tt
-        grown_as (Some ns) b h = h ∙ ap (λ (l : List (List ℕ)). Some (ns ++ bytes n ∷ l)) (sym none)
+        → names_asked (answers lib_new) ≡ names_asked (answers lib_old) ++ bytes n ∷ []
+        → names_asked (answers lib_new) ≡ names_asked (answers lib_old) ++ names_read (reads n ∷ m.calls)
+    grown_by m none grown = grown ∙ ap (λ (l : List (List ℕ)). names_asked (answers lib_old) ++ bytes n ∷ l) (sym none)
 
     -- what comes behind the name is printed
     pub finishes_asked : (old new : S) (code : ℕ)
-        → Becomes (asked_of lib_old) (asked_of lib_new) (λ ns. ns ++ bytes n ∷ [])
+        → names_asked (answers lib_new) ≡ names_asked (answers lib_old) ++ bytes n ∷ []
         → Printed taken calls old new (record { calls = last_calls style begun more.events more.end; end = more.end }) code
         → Ends old new code
     finishes_asked old new code grown p = record {
@@ -69,7 +63,7 @@ module _ (style : Style) (fits : AsksNames style) where
     }
 
     -- memory runs out before the name is asked
-    pub finishes_short : (out : S) → Becomes (asked_of lib_old) (asked_of lib_new) (λ ns. ns ++ []) → Ends out out 1
+    pub finishes_short : (out : S) → names_asked (answers lib_new) ≡ names_asked (answers lib_old) ++ [] → Ends out out 1
     finishes_short out same = record {
       history = before (asked n ∷ []) more;
       right = is;
@@ -80,21 +74,21 @@ module _ (style : Style) (fits : AsksNames style) where
       all_good = All-cons (IfSettle good) (asked n) more.events tt all_good;
       sees = record {
         names = same;
-        bytes = becomes_same (taken out) _ (λ bs. sym (append-nil bs));
-        writes = becomes_same (calls out) _ (λ k. omega arith);
+        bytes = sym (append-nil (taken out));
+        writes = omega arith;
       };
     }
 
     -- the read of the file fails
     pub finishes_unread : (old new : S) (code : ℕ)
-        → Becomes (asked_of lib_old) (asked_of lib_new) (λ ns. ns ++ bytes n ∷ [])
-        → Rose (faults lib_old) (faults lib_new)
+        → names_asked (answers lib_new) ≡ names_asked (answers lib_old) ++ bytes n ∷ []
+        → HasFailed (answers lib_old) (answers lib_new)
         → Printed taken calls old new (fault_doing (fault.Read n)) code → Ends old new code
-    finishes_unread old new code grown rose p = record {
+    finishes_unread old new code grown failed p = record {
       history = before (asked n ∷ []) more;
       right = is;
       fails = Some 0;
-      cause = inr rose;
+      cause = inr failed;
       made = made_after (reads n ∷ []) p.made;
       done = subst (λ (l : List Call). IsDone (read_failing 0 l more.end) code (made_after (reads n ∷ []) p.made))
           (sym (last_asked n begun more.events more.end))

@@ -3,15 +3,16 @@ use Rattle.std.proofs.Common.{◌≡◌, ◌∙◌, ℕ, ◌+◌, ◌≤◌, Boo
 use Rattle.std.specs.Prelude.{◌||◌, ◌⊎◌}
 use Rattle.std.proofs.lemmas.List.{append_assoc, append-nil, map-append}
 use Rattle.std.proofs.lemmas.List.Elements.{All-nil, All-append}
-use Rattle.fd_outside.specs.Causes.{Becomes, Rose}
+use Rattle.fd_outside.specs.Answers.{Answer, IsLater, EndsFailed, HasFailed, names_asked}
+use Rattle.fd_outside.specs.Causes.{Rose}
 use Rattle.fd_outside.specs.Emitted.{Takes}
-use Rattle.fd_outside.proofs.CallerLemmas.{becomes_same, becomes_then, takes_then, takes_none}
+use Rattle.fd_outside.specs.Files.{Files}
+use Rattle.fd_outside.proofs.CallerLemmas.{fails_behind, later_same, later_then, takes_then, takes_none}
 use Rattle.dss_model.specs.Names.{bytes}
 use Rattle.dss_model.specs.declared.command.Command.{Command}
 use Rattle.dss_model.specs.declared.command.Place.{Place}
 use Rattle.dss_script.specs.Script.{Script}
 use Rattle.dss_script.specs.Said.{Said, name, command, ScriptEnd, at_its_end, refused_at}
-use Rattle.dss_script.specs.Sessions.{GrowsLast, GrowsSome}
 use Rattle.dss_script.specs.declared.fault.ScriptCause.{ScriptCause}
 use Rattle.fd_report.specs.Faults.{status}
 use Rattle.fd_report.specs.declared.faults.Cause.TheVariants as cause
@@ -42,11 +43,11 @@ use Rattle.fd_outcome.proofs.Given.{takes_wrote, still, called_all, reads_after,
 
 module _ {T : Type 0} (is_step : Command → T → Step T → Type 0) (last_name : T → Option (List ℕ)) (is_last : T → Option (List ℕ) → History → Type 0)
     (good : Settle → Type 0) (style : Style) (held : List ℕ → Option (List ℕ))
-    {L S : Type 0} (faults : L → ℕ) (asked_of : L → Option (List (List ℕ))) (taken : S → Option (List ℕ)) (calls : S → Option ℕ)
+    {L S : Type 0} (answers : L → List Answer) (taken : S → List ℕ) (calls : S → ℕ)
     (p : Point T) (lib_first : L) (out_first : S) where
   abbrev pub WayAt : List Said → ScriptEnd → T → L → S → Type 0
   WayAt left end s lib out =
-      Way is_step last_name is_last good held asked_of taken calls style p lib_first out_first
+      Way is_step last_name is_last good held answers taken calls style p lib_first out_first
       (record { left = left; end = end; state = s }) lib out
 
   pub record At (begun : Bool) (left : List Said) (end : ScriptEnd) (s : T) (lib : L) (out : S) : Type 0 where
@@ -54,12 +55,12 @@ module _ {T : Type 0} (is_step : Command → T → Step T → Type 0) (last_name
     pub begun_is : begun ≡ has_text (body style way.events)
 
   abbrev pub RunsTo : L → S → ℕ → Type 0
-  RunsTo lib out code = Runs faults asked_of taken calls lib_first lib out_first out (λ h. IsFrom is_step last_name is_last held p h) style good code
+  RunsTo lib out code = Runs answers taken calls lib_first lib out_first out (λ h. IsFrom is_step last_name is_last held p h) style good code
 
   sees_wrote : (lib : L) (old new : S) (m : Made) → Wrote taken calls old new m
-      → Sees asked_of taken calls lib lib old new m
+      → Sees answers taken calls lib lib old new m
   sees_wrote lib old new m w = record {
-    names = becomes_same (asked_of lib) _ (λ ns. sym (ap (λ l. ns ++ l) w.names ∙ append-nil ns));
+    names = sym (ap (λ l. names_asked (answers lib) ++ l) w.names ∙ append-nil (names_asked (answers lib)));
     bytes = w.bytes_are;
     writes = w.writes_are;
   }
@@ -70,7 +71,7 @@ module _ {T : Type 0} (is_step : Command → T → Step T → Type 0) (last_name
     way = record {
       events = [];
       leads = subst (λ (q : Point T). LeadsTo is_step last_name is_last held p [] q) e (stays is_step last_name is_last held p);
-      seen = sees_nothing asked_of taken calls lib_first out_first;
+      seen = sees_nothing answers taken calls lib_first out_first;
       all_good = All-nil (IfSettle good);
     };
     begun_is = refl;
@@ -85,23 +86,23 @@ module _ {T : Type 0} (is_step : Command → T → Step T → Type 0) (last_name
 
     at_names : (begun : Bool) (names : List (List ℕ)) (more : List Said) (end : ScriptEnd) (s : T) (lib lib_new : L) (out : S)
         → At begun (map name names ++ more) end s lib out
-        → Becomes (asked_of lib) (asked_of lib_new) (λ before. before ++ map bytes names)
+        → names_asked (answers lib_new) ≡ names_asked (answers lib) ++ map bytes names
         → At begun more end s lib_new out
     at_names begun names more end s lib lib_new out a grown = record {
-      way = goes_on is_step last_name is_last good held faults asked_of taken calls style p (record {
+      way = goes_on is_step last_name is_last good held answers taken calls style p (record {
         left = map name names ++ more;
         end = end;
         state = s;
       }) (record { left = more; end = end; state = s }) lib_first lib lib_new out_first out out (map asked names)
-          a.way (names_lead is_step last_name is_last good held faults asked_of taken calls style names more end s)
-          (names_good good names) (sees_as asked_of taken calls lib lib_new out out _ _
+          a.way (names_lead is_step last_name is_last good held answers taken calls style names more end s)
+          (names_good good names) (sees_as answers taken calls lib lib_new out out _ _
           (sym (reads_alone style fits (has_text (body style a.way.events)) names))
-          (sees_names asked_of taken calls lib lib_new out names grown));
+          (sees_names answers taken calls lib lib_new out names grown));
       begun_is = a.begun_is ∙ sym (still style fits a.way.events names);
     }
 
     pub at_asked : (begun : Bool) (left rest : List Said) (end : ScriptEnd) (s : T) (lib lib_new : L) (out : S)
-        → At begun left end s lib out → Asked left rest (asked_of lib) (asked_of lib_new)
+        → At begun left end s lib out → Asked left rest (names_asked (answers lib)) (names_asked (answers lib_new))
         → At begun rest end s lib_new out
     at_asked begun left rest end s lib lib_new out a names =
         at_names begun names.names rest end s lib lib_new out (subst (λ l. At begun l end s lib out) names.left_is a) names.grown
@@ -110,7 +111,7 @@ module _ {T : Type 0} (is_step : Command → T → Step T → Type 0) (last_name
         → At begun (command c ∷ more) end s lib out
         → GoesOn style good (is_step c s) t taken calls out out_new begun now → At now more end t lib out_new
     at_command begun now c more end s t lib out out_new a g = record {
-      way = goes_on is_step last_name is_last good held faults asked_of taken calls style p (record {
+      way = goes_on is_step last_name is_last good held answers taken calls style p (record {
         left = command c ∷ more;
         end = end;
         state = s;
@@ -158,12 +159,12 @@ module _ {T : Type 0} (is_step : Command → T → Step T → Type 0) (last_name
         → (w : WayAt left end s lib out)
         → IsHistory is_step last_name is_last held left end s h → h.events ≡ shown ++ hidden → AllSettles good shown
         → IsFrontOf (behind style (has_text (body style w.events)) shown) code m
-        → Sees asked_of taken calls lib lib_new out out_new m → RunsTo lib_new out_new code
+        → Sees answers taken calls lib lib_new out out_new m → RunsTo lib_new out_new code
     cut_at left end s lib lib_new out out_new h shown hidden code m w is events_are all front sees =
         let t = has_text (body style w.events) in
         let f = split_at w.events shown hidden h.end in
         let g = split_at w.events shown [] None in
-        ended_at is_step last_name is_last good held faults asked_of taken calls style p
+        ended_at is_step last_name is_last good held answers taken calls style p
         (record { left = left; end = end; state = s }) lib_first lib lib_new out_first out out_new h
         (behind style t shown ++ f.0) code m w is (ap (λ l. calls_of style (w.events ++ l) h.end) events_are ∙ f.1)
         (inr (longer (behind style t shown) f.0 code m front)) shown hidden None (behind style t shown ++ g.0)
@@ -175,14 +176,14 @@ module _ {T : Type 0} (is_step : Command → T → Step T → Type 0) (last_name
         → (w : WayAt left end s lib out)
         → IsHistory is_step last_name is_last held left end s (ended events f) → AllSettles good events
         → IsDone (record { calls = behind style (has_text (body style w.events)) events ++ writes (fault_text f) ∷ []; end = Some f }) code m
-        → Sees asked_of taken calls lib lib_new out out_new m → RunsTo lib_new out_new code
+        → Sees answers taken calls lib lib_new out out_new m → RunsTo lib_new out_new code
     fault_at left end s lib lib_new out out_new events f code m w is all done sees =
         let last = writes (fault_text f) ∷ [] in
         let calls_are : calls_of style (w.events ++ events) (Some f)
         ≡ so_far style w.events ++ (behind style (has_text (body style w.events)) events ++ last) =
         ap (λ l. l ++ last) (append_is style w.events events)
         ∙ append_assoc (so_far style w.events) (behind style (has_text (body style w.events)) events) last in
-        ended_at is_step last_name is_last good held faults asked_of taken calls style p
+        ended_at is_step last_name is_last good held answers taken calls style p
         (record { left = left; end = end; state = s }) lib_first lib lib_new out_first out out_new (ended events f)
         (behind style (has_text (body style w.events)) events ++ last) code m w is calls_are done events [] (Some f)
         (behind style (has_text (body style w.events)) events ++ last) (sym (append-nil events)) all calls_are done
@@ -190,7 +191,7 @@ module _ {T : Type 0} (is_step : Command → T → Step T → Type 0) (last_name
 
     pub ends_refused : (begun : Bool) (left : List Said) (end : ScriptEnd) (s : T) (lib lib_new : L) (out out_new : S)
         (place : Place) (c : ScriptCause) (code : ℕ)
-        → At begun left end s lib out → Asked left [] (asked_of lib) (asked_of lib_new) × (end ≡ refused_at place c)
+        → At begun left end s lib out → Asked left [] (names_asked (answers lib)) (names_asked (answers lib_new)) × (end ≡ refused_at place c)
         → Printed taken calls out out_new (fault_doing (fault.Script place (cause.Script c))) code
         → RunsTo lib_new out_new code
     ends_refused begun left end s lib lib_new out out_new place c code a r printed =
@@ -203,7 +204,7 @@ module _ {T : Type 0} (is_step : Command → T → Step T → Type 0) (last_name
 
     pub ends_short : (begun : Bool) (left : List Said) (end : ScriptEnd) (s : T) (lib lib_new : L) (out : S)
         → At begun left end s lib out
-        → IsCutShort left (asked_of lib) (asked_of lib_new) → RunsTo lib_new out 1
+        → IsCutShort left (names_asked (answers lib)) (names_asked (answers lib_new)) → RunsTo lib_new out 1
     ends_short begun left end s lib lib_new out a c =
         let b = at_asked begun left c.rest end s lib lib_new out a c.asked in
         let one = goes_from c.rest end s in
@@ -211,23 +212,23 @@ module _ {T : Type 0} (is_step : Command → T → Step T → Type 0) (last_name
         cut_at c.rest end s lib_new lib_new out out one.some [] one.some.events 1 (whole []) b.way one.is refl
         (All-nil (IfSettle good)) (subst F (sym (nothing_behind style (has_text (body style b.way.events))))
         (inl (record { rest = []; calls = refl; torn = refl; status_is = refl })))
-        (sees_nothing asked_of taken calls lib_new out)
+        (sees_nothing answers taken calls lib_new out)
 
     -- memory runs out before anything is asked
     pub ends_first : (left : List Said) (end : ScriptEnd) (s : T) → p ≡ record { left = left; end = end; state = s }
         → RunsTo lib_first out_first 1
     ends_first left end s e = ends_short false left end s lib_first lib_first out_first (at_start left end s e) (record {
       rest = left;
-      asked = record { names = []; left_is = refl; grown = becomes_same (asked_of lib_first) _ (λ ns. sym (append-nil ns)) };
+      asked = record { names = []; left_is = refl; grown = sym (append-nil (names_asked (answers lib_first))) };
     })
 
     pub ends_unread : (begun : Bool) (left : List Said) (end : ScriptEnd) (s : T) (lib lib_new : L) (out out_new : S) (unread : List ℕ) (code : ℕ)
         → At begun left end s lib out
-        → IsUnread left (asked_of lib) (asked_of lib_new) unread
+        → IsUnread left (names_asked (answers lib)) (names_asked (answers lib_new)) unread
         → Printed taken calls out out_new (fault_doing (fault.Read unread)) code
-        → Rose (faults lib_first) (faults lib_new)
+        → HasFailed (answers lib_first) (answers lib_new)
         → RunsTo lib_new out_new code
-    ends_unread begun left end s lib lib_new out out_new unread code a r printed rose =
+    ends_unread begun left end s lib lib_new out out_new unread code a r printed failed =
         let w : WayAt (map name r.names ++ name unread ∷ r.more) end s lib out = subst (λ l. WayAt l end s lib out) r.left_is a.way in
         let one = goes_from r.more end s in
         let all = r.names ++ unread ∷ [] in
@@ -235,11 +236,11 @@ module _ {T : Type 0} (is_step : Command → T → Step T → Type 0) (last_name
         let last = writes (fault_text (fault.Read unread)) ∷ [] in
         let f : (map reads r.names ++ reads unread ∷ last) ≡ map reads all ++ last =
         sym (ap (λ l. l ++ last) e ∙ append_assoc (map reads r.names) (reads unread ∷ []) last) in
-        ended_at_read is_step last_name is_last good held faults asked_of taken calls style p lib_first lib lib_new
+        ended_at_read is_step last_name is_last good held answers taken calls style p lib_first lib lib_new
         out_first out out_new fits r.names unread r.more end s one.some code (made_after (map reads all) printed.made)
-        w one.is rose (done_after (map reads all) last _ (Some (fault.Read unread)) code printed.made f printed.done)
-        (sees_then asked_of taken calls lib lib_new lib_new out out out_new (map reads all) printed.made
-        (sees_names asked_of taken calls lib lib_new out all r.grown)
+        w one.is failed (done_after (map reads all) last _ (Some (fault.Read unread)) code printed.made f printed.done)
+        (sees_then answers taken calls lib lib_new lib_new out out out_new (map reads all) printed.made
+        (sees_names answers taken calls lib lib_new out all r.grown)
         (sees_wrote lib_new out out_new printed.made printed.wrote))
 
     -- ---- ends at a command
@@ -316,12 +317,12 @@ module _ {T : Type 0} (is_step : Command → T → Step T → Type 0) (last_name
         ap (λ l. l ++ writes (fault_text f) ∷ []) (append_is style a events)
         ∙ append_assoc (so_far style a) (behind style (has_text (body style a)) events) (writes (fault_text f) ∷ [])
 
-    pub ends_finished : (begun : Bool) (left : List Said) (end : ScriptEnd) (s : T) (lib mid lib_new : L) (out out_new : S) (code : ℕ)
+    pub ends_finished : (begun : Bool) (left : List Said) (end : ScriptEnd) (s : T) (lib mid lib_new : L) (some : List Answer) (out out_new : S) (code : ℕ)
         → At begun left end s lib out
-        → Asked left [] (asked_of lib) (asked_of mid) × (end ≡ at_its_end) → faults lib_first ≤ faults mid
-        → Finishes style good (λ h. IsLast is_step last_name is_last held (last_name s) s h) faults asked_of taken calls mid lib_new out out_new begun code
+        → Asked left [] (names_asked (answers lib)) (names_asked (answers mid)) × (end ≡ at_its_end) → answers mid ≡ answers lib_first ++ some
+        → Finishes style good (λ h. IsLast is_step last_name is_last held (last_name s) s h) answers taken calls mid lib_new out out_new begun code
         → RunsTo lib_new out_new code
-    ends_finished begun left end s lib mid lib_new out out_new code before_names finished later f =
+    ends_finished begun left end s lib mid lib_new some out out_new code before_names finished later f =
         let a = at_asked begun left [] end s lib mid out before_names finished.0 in
         let w : WayAt [] end s mid out = a.way in
         let start = so_far style w.events in
@@ -345,10 +346,10 @@ module _ {T : Type 0} (is_step : Command → T → Step T → Type 0) (last_name
           history = before w.events f.history;
           right = w.leads f.history is_end;
           fails = k;
-          cause = cause_after (faults lib_first) (faults mid) (faults lib_new) (names_read start) f.fails later f.cause;
+          cause = cause_after (answers lib_first) (answers mid) (answers lib_new) some (names_read start) f.fails later f.cause;
           made = made_after start f.made;
           done = all_done;
-          sees = sees_then asked_of taken calls lib_first mid lib_new out_first out out_new start f.made w.seen f.sees;
+          sees = sees_then answers taken calls lib_first mid lib_new out_first out out_new start f.made w.seen f.sees;
           reached = record {
             front = w.events ++ f.history.events;
             rest = [];
@@ -359,7 +360,7 @@ module _ {T : Type 0} (is_step : Command → T → Step T → Type 0) (last_name
           };
         }
 
--- ---- whatever a library tells
+-- ---- whatever a library answers
 
 not_one : (code : ℕ) → code ≡ 1 → code ≡ 4 → ⊥
 not_one code a b = let f : 1 ≡ 4 = sym a ∙ b in cc f
@@ -376,16 +377,7 @@ not_usage code is cut = elim cut [ inl a ↦ (let e : code ≡ 1 = a in omega (a
 cut_code : (calls : List Call) (code : ℕ) (m : Made) → IsFrontOf calls code m → CutsShort code
 cut_code calls code m front = elim front [ inl a ↦ inl a.status_is | inr a ↦ inr a.status_is ]
 
-pub grows_then : (old mid new : Option (List (List ℕ))) → GrowsSome old mid → GrowsSome mid new → GrowsSome old new
-grows_then old mid new first second = record {
-  names = first.names ++ second.names;
-  grown = becomes_then old mid new _ _ _ first.grown second.grown (λ ns. append_assoc ns first.names second.names);
-}
-
-pub grows_none : (names : Option (List (List ℕ))) → GrowsSome names names
-grows_none names = record { names = []; grown = becomes_same names _ (λ ns. sym (append-nil ns)) }
-
-module _ {S : Type 0} (taken : S → Option (List ℕ)) (calls : S → Option ℕ) where
+module _ {S : Type 0} (taken : S → List ℕ) (calls : S → ℕ) where
   -- all calls of a fault behind others are made, so its record is the last text
   fault_last : (old new : S) (made : List Call) (m : Made) (f : Fault) (code : ℕ)
       → m.calls ≡ made ++ writes (fault_text f) ∷ [] → m.torn ≡ None → code ≡ status f → Wrote taken calls old new m
@@ -480,30 +472,26 @@ module _ {S : Type 0} (taken : S → Option (List ℕ)) (calls : S → Option �
     | inr front ↦ absurd (not_cut code four (cut_code _ code p.made front))
   ]
 
-  pub ends_at_read : {L : Type 0} (asked_of : L → Option (List (List ℕ))) (lib_old mid lib_new : L) (old now new : S)
-      (texts : List (List ℕ)) (n : List ℕ) (code : ℕ)
-      → GrowsSome (asked_of lib_old) (asked_of mid) → GrowsLast (asked_of mid) (asked_of lib_new) n
+  pub ends_at_read : {L : Type 0} (answers : L → List Answer) (lib_old mid lib_new : L) (some : List Answer)
+      (old now new : S) (texts : List (List ℕ)) (n : List ℕ) (code : ℕ)
+      → answers mid ≡ answers lib_old ++ some → EndsFailed (answers mid) (answers lib_new) (bytes n)
       → Takes taken calls old now texts → Printed taken calls now new (fault_doing (fault.Read n)) code → code ≡ 4
-      → EndsAtRead asked_of lib_old lib_new taken calls old new
-  ends_at_read asked_of lib_old mid lib_new old now new texts n code some last takes printed four =
-      let end : List (List ℕ) = bytes n ∷ [] in
-      record {
-        texts = texts;
-        names = some.names ++ last.front;
-        name = n;
-        asks = becomes_then (asked_of lib_old) (asked_of mid) (asked_of lib_new) _ _ _ some.grown last.grown
-            (λ ns. ap (λ l. l ++ end) (append_assoc ns some.names last.front) ∙ append_assoc ns (some.names ++ last.front) end);
-        takes = takes_then taken calls old now new texts _ takes (read_record now new n code printed four).takes;
-      }
+      → EndsAtRead answers lib_old lib_new taken calls old new
+  ends_at_read answers lib_old mid lib_new some old now new texts n code later last takes printed four = record {
+    texts = texts;
+    name = n;
+    asks = fails_behind (answers lib_old) (answers mid) (answers lib_new) some (bytes n) later last;
+    takes = takes_then taken calls old now new texts _ takes (read_record now new n code printed four).takes;
+  }
 
--- ---- a run whatever a library tells
+-- ---- a run whatever a library answers
 
--- what was taken and asked so far
-pub record Shown {L S : Type 0} (asked_of : L → Option (List (List ℕ))) (taken : S → Option (List ℕ))
-    (calls : S → Option ℕ) (lib_old lib_now : L) (old now : S) : Type 0 where
+-- what was taken and answered so far
+pub record Shown {L S : Type 0} (answers : L → List Answer) (holds : L → Option Files) (taken : S → List ℕ)
+    (calls : S → ℕ) (lib_old lib_now : L) (old now : S) : Type 0 where
   pub texts : List (List ℕ)
   pub takes : Takes taken calls old now texts
-  pub grows : GrowsSome (asked_of lib_old) (asked_of lib_now)
+  pub later : IsLater answers holds lib_old lib_now
 
 not_status : (f : Fault) (code n : ℕ) → (status f ≡ n → ⊥) → (1 ≡ n → ⊥) → (5 ≡ n → ⊥)
     → (code ≡ status f) ⊎ CutsShort code → code ≡ n → ⊥
@@ -512,99 +500,94 @@ not_status f code n a b c is e = elim is [
   | inr cut ↦ elim cut [ inl x ↦ b (sym x ∙ e) | inr x ↦ c (sym x ∙ e) ]
 ]
 
-module _ {L S : Type 0} (faults : L → ℕ) (asked_of : L → Option (List (List ℕ))) (sink_faults : S → ℕ)
-    (taken : S → Option (List ℕ)) (calls : S → Option ℕ) where
-  pub shown_nothing : (lib : L) (out : S) → Shown asked_of taken calls lib lib out out
-  shown_nothing lib out = record { texts = []; takes = takes_none taken calls out; grows = grows_none (asked_of lib) }
+module _ {L S : Type 0} (answers : L → List Answer) (holds : L → Option Files) (sink_faults : S → ℕ)
+    (taken : S → List ℕ) (calls : S → ℕ) where
+  pub shown_nothing : (lib : L) (out : S) → Shown answers holds taken calls lib lib out out
+  shown_nothing lib out = record { texts = []; takes = takes_none taken calls out; later = later_same answers holds lib }
 
   pub shown_more : (lib_old lib lib_new : L) (old now new : S) (made : List Call)
-      → Shown asked_of taken calls lib_old lib old now → GrowsSome (asked_of lib) (asked_of lib_new)
+      → Shown answers holds taken calls lib_old lib old now → IsLater answers holds lib lib_new
       → Wrote taken calls now new (whole made)
-      → Shown asked_of taken calls lib_old lib_new old new
-  shown_more lib_old lib lib_new old now new made shown grows wrote = record {
+      → Shown answers holds taken calls lib_old lib_new old new
+  shown_more lib_old lib lib_new old now new made shown later wrote = record {
     texts = shown.texts ++ texts_written made;
     takes = takes_more taken calls old now new shown.texts made shown.takes wrote;
-    grows = grows_then (asked_of lib_old) (asked_of lib) (asked_of lib_new) shown.grows grows;
+    later = later_then answers holds lib_old lib lib_new shown.later later;
   }
 
   -- ended with a fault's record or cut short, and neither usage nor a failed read
   pub untold_fault : (lib_old lib lib_new : L) (old now new : S) (code : ℕ)
-      → Shown asked_of taken calls lib_old lib old now → GrowsSome (asked_of lib) (asked_of lib_new)
+      → Shown answers holds taken calls lib_old lib old now → IsLater answers holds lib lib_new
       → CutsShort code ⊎ EndsAtFault taken calls now new code → (code ≡ 2 → ⊥) → (code ≡ 4 → ⊥)
       → (code ≡ 5 → Rose (sink_faults old) (sink_faults new))
-      → IsUntold faults asked_of sink_faults taken calls lib_old lib_new old new code
-  untold_fault lib_old lib lib_new old now new code shown grows is not_usage not_read write = record {
-    answers = inr (fault_behind taken calls old now new shown.texts code shown.takes is);
-    grows = grows_then (asked_of lib_old) (asked_of lib) (asked_of lib_new) shown.grows grows;
+      → IsUntold answers holds sink_faults taken calls lib_old lib_new old new code
+  untold_fault lib_old lib lib_new old now new code shown later is not_usage not_read write = record {
+    statuses = inr (fault_behind taken calls old now new shown.texts code shown.takes is);
+    later = later_then answers holds lib_old lib lib_new shown.later later;
     usage = not_usage;
-    read = λ four. absurd (not_read four);
     last = λ four. absurd (not_read four);
     write = write;
   }
 
   pub untold_refused : (lib_old lib lib_new : L) (old now new : S) (place : Place) (c : ScriptCause) (code : ℕ)
-      → Shown asked_of taken calls lib_old lib old now → GrowsSome (asked_of lib) (asked_of lib_new)
+      → Shown answers holds taken calls lib_old lib old now → IsLater answers holds lib lib_new
       → Printed taken calls now new (fault_doing (fault.Script place (cause.Script c))) code
       → (code ≡ 5 → Rose (sink_faults old) (sink_faults new))
-      → IsUntold faults asked_of sink_faults taken calls lib_old lib_new old new code
-  untold_refused lib_old lib lib_new old now new place c code shown grows printed write =
+      → IsUntold answers holds sink_faults taken calls lib_old lib_new old new code
+  untold_refused lib_old lib lib_new old now new place c code shown later printed write =
       let f = fault.Script place (cause.Script c) in
       let is = fault_code taken calls now new f code printed in
-      untold_fault lib_old lib lib_new old now new code shown grows (fault_answers taken calls now new f code printed)
+      untold_fault lib_old lib lib_new old now new code shown later (fault_answers taken calls now new f code printed)
       (not_status f code 2 (λ e. omega (arith, e)) (λ e. omega (arith, e)) (λ e. omega (arith, e)) is)
       (not_status f code 4 (λ e. omega (arith, e)) (λ e. omega (arith, e)) (λ e. omega (arith, e)) is) write
 
   pub untold_read : (lib_old lib lib_new : L) (old now new : S) (n : List ℕ) (code : ℕ)
-      → Shown asked_of taken calls lib_old lib old now → GrowsSome (asked_of lib) (asked_of lib_new)
-      → GrowsLast (asked_of lib) (asked_of lib_new) n
-      → Printed taken calls now new (fault_doing (fault.Read n)) code → Rose (faults lib_old) (faults lib_new)
+      → Shown answers holds taken calls lib_old lib old now → IsLater answers holds lib lib_new
+      → EndsFailed (answers lib) (answers lib_new) (bytes n)
+      → Printed taken calls now new (fault_doing (fault.Read n)) code
       → (code ≡ 5 → Rose (sink_faults old) (sink_faults new))
-      → IsUntold faults asked_of sink_faults taken calls lib_old lib_new old new code
-  untold_read lib_old lib lib_new old now new n code shown grows last printed rose write = record {
-    answers = inr (fault_behind taken calls old now new shown.texts code shown.takes (fault_answers taken calls now new (fault.Read n) code printed));
-    grows = grows_then (asked_of lib_old) (asked_of lib) (asked_of lib_new) shown.grows grows;
+      → IsUntold answers holds sink_faults taken calls lib_old lib_new old new code
+  untold_read lib_old lib lib_new old now new n code shown later last printed write = record {
+    statuses = inr (fault_behind taken calls old now new shown.texts code shown.takes (fault_answers taken calls now new (fault.Read n) code printed));
+    later = later_then answers holds lib_old lib lib_new shown.later later;
     usage = not_status (fault.Read n) code 2 (λ e. omega (arith, e)) (λ e. omega (arith, e)) (λ e. omega (arith, e))
         (fault_code taken calls now new (fault.Read n) code printed);
-    read = λ four. rose;
-    last = λ four. ends_at_read taken calls asked_of lib_old lib lib_new old now new shown.texts n code shown.grows last shown.takes printed four;
+    last = λ four. ends_at_read taken calls answers lib_old lib lib_new shown.later.since old now new shown.texts n code shown.later.told last shown.takes printed four;
     write = write;
   }
 
-  pub untold_short : (lib_old lib lib_new : L) (old now : S) → Shown asked_of taken calls lib_old lib old now
-      → GrowsSome (asked_of lib) (asked_of lib_new)
-      → IsUntold faults asked_of sink_faults taken calls lib_old lib_new old now 1
-  untold_short lib_old lib lib_new old now shown grows = record {
-    answers = inr (inl (inl refl));
-    grows = grows_then (asked_of lib_old) (asked_of lib) (asked_of lib_new) shown.grows grows;
+  pub untold_short : (lib_old lib lib_new : L) (old now : S) → Shown answers holds taken calls lib_old lib old now
+      → IsLater answers holds lib lib_new
+      → IsUntold answers holds sink_faults taken calls lib_old lib_new old now 1
+  untold_short lib_old lib lib_new old now shown later = record {
+    statuses = inr (inl (inl refl));
+    later = later_then answers holds lib_old lib lib_new shown.later later;
     usage = λ e. omega (arith, e);
-    read = λ e. absurd (omega (arith, e));
     last = λ e. absurd (omega (arith, e));
     write = λ e. absurd (omega (arith, e));
   }
 
   -- done to its end with nothing more
-  pub untold_first : (lib : L) (out : S) → IsUntold faults asked_of sink_faults taken calls lib lib out out 1
-  untold_first lib out = untold_short lib lib lib out out (shown_nothing lib out) (grows_none (asked_of lib))
+  pub untold_first : (lib : L) (out : S) → IsUntold answers holds sink_faults taken calls lib lib out out 1
+  untold_first lib out = untold_short lib lib lib out out (shown_nothing lib out) (later_same answers holds lib)
 
   -- done to its end with these last texts, or cut short
   pub untold_last : (lib : L) (old new : S) (last : List Call) (code : ℕ)
       → Printed taken calls old new (record { calls = last; end = None }) code
       → (code ≡ 5 → Rose (sink_faults old) (sink_faults new))
-      → IsUntold faults asked_of sink_faults taken calls lib lib old new code
+      → IsUntold answers holds sink_faults taken calls lib lib old new code
   untold_last lib old new last code p write = elim p.done [
     | inl all ↦ record {
-      answers = inl all.status_is;
-      grows = grows_none (asked_of lib);
+      statuses = inl all.status_is;
+      later = later_same answers holds lib;
       usage = λ e. let is : code ≡ 0 = all.status_is in omega (arith, is, e);
-      read = λ e. let is : code ≡ 0 = all.status_is in absurd (omega (arith, is, e));
       last = λ e. let is : code ≡ 0 = all.status_is in absurd (omega (arith, is, e));
       write = write;
     }
     | inr front ↦ record {
-      answers = inr (inl (cut_code last code p.made front));
-      grows = grows_none (asked_of lib);
+      statuses = inr (inl (cut_code last code p.made front));
+      later = later_same answers holds lib;
       usage = λ e. not_usage code e (cut_code last code p.made front);
-      read = λ e. absurd (not_cut code e (cut_code last code p.made front));
       last = λ e. absurd (not_cut code e (cut_code last code p.made front));
       write = write;
     }
@@ -613,7 +596,7 @@ module _ {L S : Type 0} (faults : L → ℕ) (asked_of : L → Option (List (Lis
   -- and behind the last command of a command line that does nothing there
   pub finishes_last : (style : Style) (good : Settle → Type 0) (lib : L) (old new : S) (begun : Bool) (code : ℕ)
       → Printed taken calls old new (record { calls = last_calls style begun [] None; end = None }) code
-      → Finishes style good (λ h. h ≡ finishes []) faults asked_of taken calls lib lib old new begun code
+      → Finishes style good (λ h. h ≡ finishes []) answers taken calls lib lib old new begun code
   finishes_last style good lib old new begun code p = record {
     history = finishes [];
     right = refl;
@@ -623,70 +606,66 @@ module _ {L S : Type 0} (faults : L → ℕ) (asked_of : L → Option (List (Lis
     done = p.done;
     all_good = All-nil (IfSettle good);
     sees = record {
-      names = becomes_same (asked_of lib) _ (λ ns. sym (ap (λ l. ns ++ l) p.wrote.names ∙ append-nil ns));
+      names = sym (ap (λ l. names_asked (answers lib) ++ l) p.wrote.names ∙ append-nil (names_asked (answers lib)));
       bytes = p.wrote.bytes_are;
       writes = p.wrote.writes_are;
     };
   }
 
-  pub untold_done : (lib : L) (out : S) → IsUntold faults asked_of sink_faults taken calls lib lib out out 0
+  pub untold_done : (lib : L) (out : S) → IsUntold answers holds sink_faults taken calls lib lib out out 0
   untold_done lib out = record {
-    answers = inl refl;
-    grows = grows_none (asked_of lib);
+    statuses = inl refl;
+    later = later_same answers holds lib;
     usage = λ e. omega (arith, e);
-    read = λ e. absurd (omega (arith, e));
     last = λ e. absurd (omega (arith, e));
     write = λ e. absurd (omega (arith, e));
   }
 
   pub untold_finished : (lib_old lib mid lib_new : L) (old now new : S) (code : ℕ)
-      → Shown asked_of taken calls lib_old lib old now → GrowsSome (asked_of lib) (asked_of mid)
-      → faults lib_old ≤ faults mid → sink_faults old ≤ sink_faults now
-      → IsUntold faults asked_of sink_faults taken calls mid lib_new now new code
-      → IsUntold faults asked_of sink_faults taken calls lib_old lib_new old new code
-  untold_finished lib_old lib mid lib_new old now new code shown grows later sink u =
-      let some = grows_then (asked_of lib_old) (asked_of lib) (asked_of mid) shown.grows grows in
+      → Shown answers holds taken calls lib_old lib old now → IsLater answers holds lib mid
+      → sink_faults old ≤ sink_faults now
+      → IsUntold answers holds sink_faults taken calls mid lib_new now new code
+      → IsUntold answers holds sink_faults taken calls lib_old lib_new old new code
+  untold_finished lib_old lib mid lib_new old now new code shown later sink u =
+      let some = later_then answers holds lib_old lib mid shown.later later in
       record {
-        answers = answers_behind taken calls old now new shown.texts code shown.takes u.answers;
-        grows = grows_then (asked_of lib_old) (asked_of mid) (asked_of lib_new) some u.grows;
+        statuses = answers_behind taken calls old now new shown.texts code shown.takes u.statuses;
+        later = later_then answers holds lib_old mid lib_new some u.later;
         usage = u.usage;
-        read = λ four. rose_since (faults lib_old) (faults mid) (faults lib_new) later (u.read four);
         last = λ four. last_behind (u.last four);
         write = λ five. rose_since (sink_faults old) (sink_faults now) (sink_faults new) sink (u.write five);
       }
     where
-      last_behind : EndsAtRead asked_of mid lib_new taken calls now new
-          → EndsAtRead asked_of lib_old lib_new taken calls old new
+      last_behind : EndsAtRead answers mid lib_new taken calls now new
+          → EndsAtRead answers lib_old lib_new taken calls old new
       last_behind e =
-          let all = grows_then (asked_of lib_old) (asked_of lib) (asked_of mid) shown.grows grows in
+          let some = later_then answers holds lib_old lib mid shown.later later in
           record {
             texts = shown.texts ++ e.texts;
-            names = all.names ++ e.names;
             name = e.name;
-            asks = becomes_then (asked_of lib_old) (asked_of mid) (asked_of lib_new) _ _ _ all.grown e.asks
-                (λ ns. append_assoc ns all.names (e.names ++ bytes e.name ∷ []) ∙ ap (λ l. ns ++ l) (sym (append_assoc all.names e.names (bytes e.name ∷ []))));
+            asks = fails_behind (answers lib_old) (answers mid) (answers lib_new) some.since (bytes e.name) some.told e.asks;
             takes = subst (λ l. Takes taken calls old new l) (sym (append_assoc shown.texts e.texts (fault_text (fault.Read e.name) ∷ [])))
                 (takes_then taken calls old now new shown.texts (e.texts ++ fault_text (fault.Read e.name) ∷ []) shown.takes e.takes);
           }
 
 -- ---- the status of a run
 
-module _ {L S : Type 0} (faults : L → ℕ) (asked_of : L → Option (List (List ℕ))) (taken : S → Option (List ℕ))
-    (calls : S → Option ℕ) where
+module _ {L S : Type 0} (answers : L → List Answer) (taken : S → List ℕ)
+    (calls : S → ℕ) where
   pub run_due : (is_history : History → Type 0) (style : Style) (good : Settle → Type 0) (lib_old lib_new : L)
       (old new : S) (code : ℕ) (one : ExactlyOne is_history)
-      → Runs faults asked_of taken calls lib_old lib_new old new is_history style good code
-      → IsDue one.some.end code (faults lib_old) (faults lib_new)
+      → Runs answers taken calls lib_old lib_new old new is_history style good code
+      → IsDue one.some.end code (answers lib_old) (answers lib_new)
   run_due is_history style good lib_old lib_new old new code one runs =
-      due_of faults asked_of taken calls is_history style good lib_old lib_new old new code one runs
+      due_of answers taken calls is_history style good lib_old lib_new old new code one runs
 
 -- ---- a fault alone
 
-module _ {L S : Type 0} (faults : L → ℕ) (asked_of : L → Option (List (List ℕ))) (taken : S → Option (List ℕ))
-    (calls : S → Option ℕ) where
+module _ {L S : Type 0} (answers : L → List Answer) (taken : S → List ℕ)
+    (calls : S → ℕ) where
   pub fault_alone : (style : Style) (good : Settle → Type 0) (lib : L) (old new : S) (f : Fault) (code : ℕ)
       → Printed taken calls old new (fault_doing f) code
-      → Runs faults asked_of taken calls lib lib old new (λ h. h ≡ ended [] f) style good code
+      → Runs answers taken calls lib lib old new (λ h. h ≡ ended [] f) style good code
   fault_alone style good lib old new f code p = record {
     history = ended [] f;
     right = refl;
@@ -695,7 +674,7 @@ module _ {L S : Type 0} (faults : L → ℕ) (asked_of : L → Option (List (Lis
     made = p.made;
     done = p.done;
     sees = record {
-      names = becomes_same (asked_of lib) _ (λ ns. sym (ap (λ l. ns ++ l) p.wrote.names ∙ append-nil ns));
+      names = sym (ap (λ l. names_asked (answers lib) ++ l) p.wrote.names ∙ append-nil (names_asked (answers lib)));
       bytes = p.wrote.bytes_are;
       writes = p.wrote.writes_are;
     };

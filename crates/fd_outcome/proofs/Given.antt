@@ -1,11 +1,12 @@
 -- What a session gives, and what was written and read behind what stood before.
-use Rattle.std.proofs.Common.{◌≡◌, ◌∙◌, ℕ, zero, suc, ◌+◌, ◌≤◌, length, Bool, true, false, List, [], ◌∷◌, ◌++◌, map, Option, Some, None, Result, Ok, Err, refl, sym, ap, subst, inl, inr, arith}
+use Rattle.std.proofs.Common.{◌≡◌, ◌∙◌, ℕ, zero, suc, ◌+◌, ◌≤◌, length, Bool, true, false, List, [], ◌∷◌, ◌++◌, map, Option, Some, None, Result, Ok, Err, refl, sym, ap, inl, inr, arith}
 use Rattle.std.specs.Prelude.{◌||◌}
 use Rattle.std.specs.List.{concat}
 use Rattle.std.proofs.lemmas.List.{append_assoc, append-nil, map-append}
-use Rattle.fd_outside.specs.Causes.{Becomes, Rose}
+use Rattle.fd_outside.specs.Answers.{Answer}
+use Rattle.fd_outside.specs.Causes.{Rose}
 use Rattle.fd_outside.specs.Emitted.{Takes}
-use Rattle.fd_outside.proofs.CallerLemmas.{becomes_same}
+use Rattle.fd_outside.proofs.CallerLemmas.{failed_behind}
 use Rattle.dss_model.specs.Names.{bytes}
 use Rattle.dss_model.specs.declared.command.Command.{Command}
 use Rattle.dss_script.specs.Script.{Script, names_first, after_names}
@@ -29,8 +30,8 @@ use Rattle.fd_outcome.proofs.Ways.{body_reads, sees_nothing}
 -- ---- what a session gives
 
 module _ (law : SaidLaw) (files : Files) where
-  asked_first : (script rest : Script) (old new : Option (List (List ℕ))) → after_names script ≡ rest
-      → Becomes old new (λ ns. ns ++ map bytes (names_first script)) → Asked (said_in script) (said_in rest) old new
+  asked_first : (script rest : Script) (old new : List (List ℕ)) → after_names script ≡ rest
+      → new ≡ old ++ map bytes (names_first script) → Asked (said_in script) (said_in rest) old new
   asked_first script rest old new e grown = record {
     names = names_first script;
     left_is = law.names script ∙ ap (λ r. map name (names_first script) ++ said_in r) e;
@@ -40,7 +41,7 @@ module _ (law : SaidLaw) (files : Files) where
   end_first : (script rest : Script) → after_names script ≡ rest → end_in script ≡ end_in rest
   end_first script rest e = sym (law.after script) ∙ ap end_in e
 
-  pub gives_next : (script : Script) (state : State) (old new : Option (List (List ℕ))) (result : Result (Option Command) SessionFault)
+  pub gives_next : (script : Script) (state : State) (old new : List (List ℕ)) (result : Result (Option Command) SessionFault)
       → Tells files (after_names script) state result → Asks old new (names_first script) result
       → Gives (said_in script) (end_in script) (said_in (remaining files state)) (end_in (remaining files state)) old new result
   gives_next script state old new (Ok (Some c)) tells asks = (asked_first script _ old new tells asks, sym (end_first script _ tells))
@@ -69,34 +70,30 @@ module _ (law : SaidLaw) (files : Files) where
     asked = record {
       names = [];
       left_is = refl;
-      grown = subst (λ n. Becomes old n (λ ns. ns ++ [])) (sym asks) (becomes_same old _ (λ ns. sym (append-nil ns)));
+      grown = asks ∙ sym (append-nil old);
     };
   }
 
 -- ---- writes
 
-pub becomes_as : {X : Type 0} (a b : Option X) (f g : X → X) → ((x : X) → f x ≡ g x) → Becomes a b f → Becomes a b g
-becomes_as None b f g same h = tt
-becomes_as (Some x) b f g same h = h ∙ ap Some (same x)
-
-module _ {S : Type 0} (taken : S → Option (List ℕ)) (calls : S → Option ℕ) where
+module _ {S : Type 0} (taken : S → List ℕ) (calls : S → ℕ) where
   pub wrote_nothing : (out : S) → Wrote taken calls out out (whole [])
   wrote_nothing out = record {
     names = refl;
-    bytes_are = becomes_same (taken out) _ (λ bs. sym (append-nil bs));
-    writes_are = becomes_same (calls out) _ (λ n. omega arith);
+    bytes_are = sym (append-nil (taken out));
+    writes_are = omega arith;
   }
 
   pub takes_wrote : (old new : S) (made : List Call) → Wrote taken calls old new (whole made)
       → Takes taken calls old new (texts_written made)
   takes_wrote old new made w = record {
-    bytes = becomes_as (taken old) (taken new) _ _ (λ bs. ap (λ l. bs ++ l) (append-nil (concat (texts_written made)))) w.bytes_are;
-    writes = becomes_as (calls old) (calls new) _ _ (λ n. omega arith) w.writes_are;
+    bytes = w.bytes_are ∙ ap (λ l. taken old ++ l) (append-nil (concat (texts_written made)));
+    writes = omega (arith, w.writes_are);
   }
 
-pub sees_none : {L S : Type 0} (asked_of : L → Option (List (List ℕ))) (taken : S → Option (List ℕ)) (calls : S → Option ℕ) (lib : L) (out : S)
-    → Sees asked_of taken calls lib lib out out (whole [])
-sees_none asked_of taken calls lib out = sees_nothing asked_of taken calls lib out
+pub sees_none : {L S : Type 0} (answers : L → List Answer) (taken : S → List ℕ) (calls : S → ℕ) (lib : L) (out : S)
+    → Sees answers taken calls lib lib out out (whole [])
+sees_none answers taken calls lib out = sees_nothing answers taken calls lib out
 
 -- ---- whether a text was written
 
@@ -162,10 +159,10 @@ failing_behind a (Some n) rest end = read_behind a n (length (names_read a) + n)
 pub rose_since : (first mid now : ℕ) → first ≤ mid → Rose mid now → Rose first now
 rose_since first mid now le rose = omega (arith, le, rose)
 
-pub cause_after : (first mid now : ℕ) (names : List (List ℕ)) (fails : Option ℕ) → first ≤ mid
+pub cause_after : (first mid now some : List Answer) (names : List (List ℕ)) (fails : Option ℕ) → mid ≡ first ++ some
     → HasReadCause mid now fails → HasReadCause first now (reads_after names fails)
-cause_after first mid now names None le cause = inl refl
-cause_after first mid now names (Some n) le cause = elim cause [
+cause_after first mid now some names None later cause = inl refl
+cause_after first mid now some names (Some n) later cause = elim cause [
   | inl none ↦ absurd (let e : Some n ≡ None = none in cc e)
-  | inr rose ↦ inr (rose_since first mid now le rose)
+  | inr failed ↦ inr (failed_behind first mid now some later failed)
 ]

@@ -1,8 +1,7 @@
 -- What a sink has taken of texts that are handed to it one behind another.
-use Rattle.std.proofs.Common.{◌≡◌, ◌∙◌, ℕ, ◌+◌, length, List, [], ◌∷◌, ◌++◌, map, Option, Some, None, refl, sym, ap, subst, inl, inr, arith}
+use Rattle.std.proofs.Common.{◌≡◌, ◌∙◌, ℕ, ◌+◌, length, List, [], ◌∷◌, ◌++◌, map, Option, Some, None, refl, sym, ap, inl, inr, arith}
 use Rattle.std.specs.List.{concat}
 use Rattle.std.proofs.lemmas.List.{append-nil, map-append}
-use Rattle.fd_outside.specs.Causes.{Becomes}
 use Rattle.fd_outside.specs.Emitted.{Takes, TakesFirst, TakesTorn}
 use Rattle.dss_model.specs.Names.{bytes}
 use Rattle.fd_report.specs.Faults.{status}
@@ -13,28 +12,25 @@ use Rattle.fd_outcome.specs.Way.{whole}
 use Rattle.fd_outcome.specs.Parts.{Wrote, Printed, fault_doing, IsCutIn}
 use Rattle.fd_outcome.proofs.Lists.{names-append, names_of_writes, texts_of_writes}
 use Rattle.fd_outcome.proofs.Ways.{done_after, front_after, made_after, sees_then}
-use Rattle.fd_outcome.proofs.Given.{becomes_as, wrote_nothing}
+use Rattle.fd_outcome.proofs.Given.{wrote_nothing}
 
 -- ---- texts handed to a sink
 
-module _ {S : Type 0} (taken : S → Option (List ℕ)) (calls : S → Option ℕ) where
+module _ {S : Type 0} (taken : S → List ℕ) (calls : S → ℕ) where
   wrote_texts : (old new : S) (texts : List (List ℕ)) (torn : Option (List ℕ))
-      → Becomes (taken old) (taken new) (λ bs. bs ++ (concat texts ++ torn_bytes torn))
-      → Becomes (calls old) (calls new) (λ n. n + (length texts + torn_writes torn))
+      → taken new ≡ taken old ++ (concat texts ++ torn_bytes torn)
+      → calls new ≡ calls old + (length texts + torn_writes torn)
       → Wrote taken calls old new (record { calls = map writes texts; torn = torn })
   wrote_texts old new texts torn bytes_are writes_are = record {
     names = names_of_writes texts;
-    bytes_are = subst (λ l. Becomes (taken old) (taken new) (λ bs. bs ++ (concat l ++ torn_bytes torn))) (sym (texts_of_writes texts)) bytes_are;
-    writes_are =
-        subst (λ (l : List (List ℕ)). Becomes (calls old) (calls new) (λ n. n + (length l + torn_writes torn)))
-        (sym (texts_of_writes texts)) writes_are;
+    bytes_are = bytes_are ∙ ap (λ l. taken old ++ (concat l ++ torn_bytes torn)) (sym (texts_of_writes texts));
+    writes_are = writes_are ∙ ap (λ (l : List (List ℕ)). calls old + (length l + torn_writes torn)) (sym (texts_of_writes texts));
   }
 
   pub wrote_all : (old new : S) (texts : List (List ℕ)) → Takes taken calls old new texts
       → Wrote taken calls old new (whole (map writes texts))
   wrote_all old new texts takes = wrote_texts old new texts None
-      (becomes_as (taken old) (taken new) _ _ (λ bs. ap (λ l. bs ++ l) (sym (append-nil (concat texts)))) takes.bytes)
-      (becomes_as (calls old) (calls new) _ _ (λ n. omega arith) takes.writes)
+      (takes.bytes ∙ ap (λ l. taken old ++ l) (sym (append-nil (concat texts)))) (omega (arith, takes.writes))
 
   pub cut_by_memory : (old new : S) (texts : List (List ℕ)) → TakesFirst taken calls old new texts
       → IsCutIn taken calls old new (map writes texts) 1
@@ -82,15 +78,15 @@ module _ {S : Type 0} (taken : S → Option (List ℕ)) (calls : S → Option �
 
 -- ---- writes behind others
 
-module _ {S : Type 0} (taken : S → Option (List ℕ)) (calls : S → Option ℕ) where
+module _ {S : Type 0} (taken : S → List ℕ) (calls : S → ℕ) where
   seen_by : (old new : S) (m : Made) → Wrote taken calls old new m
-      → Sees {L = Unit {0}} (λ u. None) taken calls tt tt old new m
-  seen_by old new m w = record { names = tt; bytes = w.bytes_are; writes = w.writes_are }
+      → Sees {L = Unit {0}} (λ u. []) taken calls tt tt old new m
+  seen_by old new m w = record { names = sym w.names; bytes = w.bytes_are; writes = w.writes_are }
 
   pub wrote_then : (old mid new : S) (a : List Call) (m : Made) → Wrote taken calls old mid (whole a)
       → Wrote taken calls mid new m → Wrote taken calls old new (made_after a m)
   wrote_then old mid new a m first second =
-      let both = sees_then {L = Unit {0}} (λ u. None) taken calls tt tt tt old mid new a m (seen_by old mid (whole a) first) (seen_by mid new m second) in
+      let both = sees_then {L = Unit {0}} (λ u. []) taken calls tt tt tt old mid new a m (seen_by old mid (whole a) first) (seen_by mid new m second) in
       record {
         names = names-append a m.calls ∙ ap (λ l. l ++ names_read m.calls) first.names ∙ second.names;
         bytes_are = both.bytes;

@@ -3,7 +3,7 @@ use Rattle.std.proofs.Common.{◌≡◌, ◌∙◌, ℕ, zero, suc, ◌+◌, Lis
 use Rattle.std.specs.Prelude.{◌⊎◌}
 use Rattle.std.specs.List.{flat_map, concat}
 use Rattle.std.proofs.lemmas.List.{append_assoc, append-nil}
-use Rattle.fd_outside.specs.Causes.{Rose}
+use Rattle.fd_outside.specs.Answers.{Answer, HasFailed}
 use Rattle.fd_outside.specs.Pieces.{Begins}
 use Rattle.fd_outside.specs.Emitted.{IsFront}
 use Rattle.fd_outside.proofs.CallerLemmas.{front_after, front_more, front_none, front_one}
@@ -207,16 +207,16 @@ answer_is style h fails code m is = elim is [
 
 -- ---- the status of a run
 
-rose : (before now : ℕ) (fails : Option ℕ) → HasReadCause before now fails → (fails ≡ None → ⊥) → Rose before now
-rose before now fails cause fails_not = elim cause [
+fail_of : (before now : List Answer) (fails : Option ℕ) → HasReadCause before now fails → (fails ≡ None → ⊥) → HasFailed before now
+fail_of before now fails cause fails_not = elim cause [
   | inl none ↦ absurd (fails_not none)
   | inr up ↦ up
 ]
 
-DueAt : Option Fault → ℕ → ℕ → ℕ → Type 0
-DueAt end code before now = (code ≡ status_of end) ⊎ ((code ≡ want_of_memory) ⊎ ((code ≡ write_fault) ⊎ (Rose before now × (code ≡ 4))))
+DueAt : Option Fault → ℕ → List Answer → List Answer → Type 0
+DueAt end code before now = (code ≡ status_of end) ⊎ ((code ≡ want_of_memory) ⊎ ((code ≡ write_fault) ⊎ (HasFailed before now × (code ≡ 4))))
 
-due_at : (end : Option Fault) (fails : Option ℕ) (code before now : ℕ) → HasReadCause before now fails
+due_at : (end : Option Fault) (fails : Option ℕ) (code : ℕ) (before now : List Answer) → HasReadCause before now fails
     → Answered end fails code → DueAt end code before now
 unfolding Answered DueAt
 due_at end fails code before now cause is = elim is [
@@ -225,12 +225,12 @@ due_at end fails code before now cause is = elim is [
     | inl a ↦ inr (inl a)
     | inr d ↦ elim d [
       | inl a ↦ inr (inr (inl a))
-      | inr a ↦ inr (inr (inr (rose before now fails cause a.0, a.1)))
+      | inr a ↦ inr (inr (inr (fail_of before now fails cause a.0, a.1)))
     ]
   ]
 ]
 
-completes : (end : Option Fault) (code before now : ℕ) → DueAt end code before now → (Rose before now → ⊥)
+completes : (end : Option Fault) (code : ℕ) (before now : List Answer) → DueAt end code before now → (HasFailed before now → ⊥)
     → (code ≡ write_fault → ⊥) → (code ≡ status_of end) ⊎ (code ≡ want_of_memory)
 unfolding DueAt
 completes end code before now is not_read not_written = elim is [
@@ -244,18 +244,18 @@ completes end code before now is not_read not_written = elim is [
   ]
 ]
 
-is_due : (end : Option Fault) (code before now : ℕ) → DueAt end code before now → IsDue end code before now
+is_due : (end : Option Fault) (code : ℕ) (before now : List Answer) → DueAt end code before now → IsDue end code before now
 unfolding DueAt
 is_due end code before now at = record { is_due = at; complete = completes end code before now at }
 
-module _ {L S : Type 0} (faults : L → ℕ) (asked : L → Option (List (List ℕ))) (taken : S → Option (List ℕ))
-    (calls : S → Option ℕ) where
+module _ {L S : Type 0} (answers : L → List Answer) (taken : S → List ℕ)
+    (calls : S → ℕ) where
   pub due_of : (is_history : History → Type 0) (style : Style) (good : Settle → Type 0) (lib_old lib_new : L)
       (old new : S) (code : ℕ) (one : ExactlyOne is_history)
-      → Runs faults asked taken calls lib_old lib_new old new is_history style good code
-      → IsDue one.some.end code (faults lib_old) (faults lib_new)
+      → Runs answers taken calls lib_old lib_new old new is_history style good code
+      → IsDue one.some.end code (answers lib_old) (answers lib_new)
   due_of is_history style good lib_old lib_new old new code one runs =
       let same : runs.history ≡ one.some = one.only runs.history runs.right in
-      let here = due_at runs.history.end runs.fails code (faults lib_old) (faults lib_new) runs.cause
+      let here = due_at runs.history.end runs.fails code (answers lib_old) (answers lib_new) runs.cause
       (answer_is style runs.history runs.fails code runs.made runs.done) in
-      subst (λ (h : History). IsDue h.end code (faults lib_old) (faults lib_new)) same (is_due runs.history.end code (faults lib_old) (faults lib_new) here)
+      subst (λ (h : History). IsDue h.end code (answers lib_old) (answers lib_new)) same (is_due runs.history.end code (answers lib_old) (answers lib_new) here)

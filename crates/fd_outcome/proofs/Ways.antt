@@ -4,8 +4,7 @@ use Rattle.std.specs.List.{concat}
 use Rattle.std.proofs.lemmas.List.{append_assoc, append-nil, map-append}
 use Rattle.std.proofs.lemmas.List.Elements.{All-nil, All-cons, All-append}
 use Rattle.std.proofs.lemmas.List.Folds.{concat-append}
-use Rattle.fd_outside.specs.Causes.{Becomes, Rose}
-use Rattle.fd_outside.proofs.CallerLemmas.{becomes_then, becomes_same}
+use Rattle.fd_outside.specs.Answers.{Answer, HasFailed, names_asked}
 use Rattle.dss_model.specs.Names.{bytes}
 use Rattle.dss_model.specs.declared.command.Command.{Command}
 use Rattle.dss_script.specs.Said.{Said, name, ScriptEnd}
@@ -50,37 +49,40 @@ texts_of_reads : (names : List (List ℕ)) → texts_written (map reads names) �
 texts_of_reads [] = refl
 texts_of_reads (n ∷ names) = texts_of_reads names
 
-module _ {L S : Type 0} (asked : L → Option (List (List ℕ))) (taken : S → Option (List ℕ)) (calls : S → Option ℕ) where
+module _ {L S : Type 0} (answers : L → List Answer) (taken : S → List ℕ) (calls : S → ℕ) where
   pub sees_then : (lib_old lib_mid lib_new : L) (old mid new : S) (a : List Call) (m : Made)
-      → Sees asked taken calls lib_old lib_mid old mid (whole a) → Sees asked taken calls lib_mid lib_new mid new m
-      → Sees asked taken calls lib_old lib_new old new (made_after a m)
+      → Sees answers taken calls lib_old lib_mid old mid (whole a) → Sees answers taken calls lib_mid lib_new mid new m
+      → Sees answers taken calls lib_old lib_new old new (made_after a m)
   sees_then lib_old lib_mid lib_new old mid new a m first second = record {
-    names = becomes_then (asked lib_old) (asked lib_mid) (asked lib_new) _ _ _ first.names second.names
-        (λ ns. append_assoc ns (names_read a) (names_read m.calls) ∙ ap (λ l. ns ++ l) (sym (names-append a m.calls)));
-    bytes = becomes_then (taken old) (taken mid) (taken new) _ _ _ first.bytes second.bytes (λ bs. bytes_join bs a m.calls (torn_bytes m.torn));
-    writes = becomes_then (calls old) (calls mid) (calls new) _ _ _ first.writes second.writes (λ n. count_join n a m.calls (torn_writes m.torn));
+    names = second.names ∙ ap (λ l. l ++ names_read m.calls) first.names
+        ∙ append_assoc (names_asked (answers lib_old)) (names_read a) (names_read m.calls)
+        ∙ ap (λ l. names_asked (answers lib_old) ++ l) (sym (names-append a m.calls));
+    bytes = second.bytes ∙ ap (λ l. l ++ (concat (texts_written m.calls) ++ torn_bytes m.torn)) first.bytes
+        ∙ bytes_join (taken old) a m.calls (torn_bytes m.torn);
+    writes = second.writes ∙ ap (λ n. n + (length (texts_written m.calls) + torn_writes m.torn)) first.writes
+        ∙ count_join (calls old) a m.calls (torn_writes m.torn);
   }
 
-  pub sees_nothing : (lib : L) (out : S) → Sees asked taken calls lib lib out out (whole [])
+  pub sees_nothing : (lib : L) (out : S) → Sees answers taken calls lib lib out out (whole [])
   sees_nothing lib out = record {
-    names = becomes_same (asked lib) _ (λ ns. sym (append-nil ns));
-    bytes = becomes_same (taken out) _ (λ bs. sym (append-nil bs));
-    writes = becomes_same (calls out) _ (λ n. omega arith);
+    names = sym (append-nil (names_asked (answers lib)));
+    bytes = sym (append-nil (taken out));
+    writes = omega arith;
   }
 
   pub sees_names : (lib lib_new : L) (out : S) (names : List (List ℕ))
-      → Becomes (asked lib) (asked lib_new) (λ before. before ++ map bytes names)
-      → Sees asked taken calls lib lib_new out out (whole (map reads names))
+      → names_asked (answers lib_new) ≡ names_asked (answers lib) ++ map bytes names
+      → Sees answers taken calls lib lib_new out out (whole (map reads names))
   sees_names lib lib_new out names grown = record {
-    names = subst (λ (l : List (List ℕ)). Becomes (asked lib) (asked lib_new) (λ before. before ++ l)) (sym (names_of_reads names)) grown;
-    bytes = becomes_same (taken out) _ (λ bs. sym (ap (λ l. bs ++ (concat l ++ [])) (texts_of_reads names) ∙ append-nil bs));
-    writes = becomes_same (calls out) _ (λ n. let e : length (texts_written (map reads names)) ≡ 0 = ap length (texts_of_reads names) in omega (arith, e));
+    names = grown ∙ ap (λ l. names_asked (answers lib) ++ l) (sym (names_of_reads names));
+    bytes = sym (ap (λ l. taken out ++ (concat l ++ [])) (texts_of_reads names) ∙ append-nil (taken out));
+    writes = let e : length (texts_written (map reads names)) ≡ 0 = ap length (texts_of_reads names) in omega (arith, e);
   }
 
   pub sees_as : (lib_old lib_new : L) (old new : S) (a b : List Call) → a ≡ b
-      → Sees asked taken calls lib_old lib_new old new (whole a)
-      → Sees asked taken calls lib_old lib_new old new (whole b)
-  sees_as lib_old lib_new old new a b e = subst (λ (l : List Call). Sees asked taken calls lib_old lib_new old new (whole l)) e
+      → Sees answers taken calls lib_old lib_new old new (whole a)
+      → Sees answers taken calls lib_old lib_new old new (whole b)
+  sees_as lib_old lib_new old new a b e = subst (λ (l : List Call). Sees answers taken calls lib_old lib_new old new (whole l)) e
 
 -- names alone are reads
 reads_opened : (first : List (List ℕ)) (names : List (List ℕ)) → opened first (map reads names) ≡ map reads names
@@ -146,10 +148,10 @@ fails_there (reads other ∷ a) n rest end = ap (called_first (reads other)) (fa
 
 module _ {T : Type 0} (is_step : Command → T → Step T → Type 0) (last_name : T → Option (List ℕ))
     (is_last : T → Option (List ℕ) → History → Type 0) (good : Settle → Type 0) (held : List ℕ → Option (List ℕ))
-    {L S : Type 0} (faults : L → ℕ) (asked_of : L → Option (List (List ℕ))) (taken : S → Option (List ℕ))
-    (calls : S → Option ℕ) (style : Style) where
+    {L S : Type 0} (answers : L → List Answer) (taken : S → List ℕ)
+    (calls : S → ℕ) (style : Style) where
   abbrev pub WayTo : Point T → L → S → Point T → L → S → Type 0
-  WayTo = Way is_step last_name is_last good held asked_of taken calls style
+  WayTo = Way is_step last_name is_last good held answers taken calls style
 
   abbrev pub At : List Said → ScriptEnd → T → Point T
   At left end s = record { left = left; end = end; state = s }
@@ -157,14 +159,14 @@ module _ {T : Type 0} (is_step : Command → T → Step T → Type 0) (last_name
   abbrev pub goes_on : (p q r : Point T) (lib_first lib lib_new : L) (out_first out out_new : S) (events : List Event)
       → (w : WayTo p lib_first out_first q lib out)
       → LeadsTo is_step last_name is_last held q events r → AllSettles good events
-      → Sees asked_of taken calls lib lib_new out out_new (whole (behind style (has_text (body style w.events)) events))
+      → Sees answers taken calls lib lib_new out out_new (whole (behind style (has_text (body style w.events)) events))
       → WayTo p lib_first out_first r lib_new out_new
   goes_on p q r lib_first lib lib_new out_first out out_new events w leads all sees = record {
     events = w.events ++ events;
     leads = joins is_step last_name is_last held p q r w.events events w.leads leads;
     seen =
-        sees_as asked_of taken calls lib_first lib_new out_first out_new _ _ (sym (append_is style w.events events))
-        (sees_then asked_of taken calls lib_first lib lib_new out_first out out_new (so_far style w.events)
+        sees_as answers taken calls lib_first lib_new out_first out_new _ _ (sym (append_is style w.events events))
+        (sees_then answers taken calls lib_first lib lib_new out_first out out_new (so_far style w.events)
         (whole (behind style (has_text (body style w.events)) events)) w.seen sees);
     all_good = All-append (IfSettle good) w.events events w.all_good all;
   }
@@ -178,8 +180,8 @@ module _ {T : Type 0} (is_step : Command → T → Step T → Type 0) (last_name
       → AllSettles good shown
       → calls_of style (w.events ++ shown) end ≡ so_far style w.events ++ part
       → IsDone (record { calls = part; end = end }) code m
-      → Sees asked_of taken calls lib lib_new out out_new m
-      → Runs faults asked_of taken calls lib_first lib_new out_first out_new (IsFrom is_step last_name is_last held p) style good code
+      → Sees answers taken calls lib lib_new out out_new m
+      → Runs answers taken calls lib_first lib_new out_first out_new (IsFrom is_step last_name is_last held p) style good code
   ended_at p q lib_first lib lib_new out_first out out_new h rest code m w is rest_is done shown hidden end part
       events_are all part_is part_done sees =
       record {
@@ -189,7 +191,7 @@ module _ {T : Type 0} (is_step : Command → T → Step T → Type 0) (last_name
         cause = inl refl;
         made = made_after (so_far style w.events) m;
         done = done_after (so_far style w.events) rest (doing style (before w.events h)).calls h.end code m rest_is done;
-        sees = sees_then asked_of taken calls lib_first lib lib_new out_first out out_new (so_far style w.events) m w.seen sees;
+        sees = sees_then answers taken calls lib_first lib lib_new out_first out out_new (so_far style w.events) m w.seen sees;
         reached = record {
           front = w.events ++ shown;
           rest = hidden;
@@ -225,10 +227,10 @@ module _ {T : Type 0} (is_step : Command → T → Step T → Type 0) (last_name
       → (names : List (List ℕ)) (n : List ℕ) (more : List Said) (end : ScriptEnd) (s : T) (h : History) (code : ℕ)
       (m : Made)
       → WayTo p lib_first out_first (At (map name names ++ name n ∷ more) end s) lib out
-      → IsFrom is_step last_name is_last held (At more end s) h → Rose (faults lib_first) (faults lib_new)
+      → IsFrom is_step last_name is_last held (At more end s) h → HasFailed (answers lib_first) (answers lib_new)
       → IsDone (record { calls = map reads names ++ reads n ∷ writes (fault_text (fault.Read n)) ∷ []; end = Some (fault.Read n) }) code m
-      → Sees asked_of taken calls lib lib_new out out_new m
-      → Runs faults asked_of taken calls lib_first lib_new out_first out_new (IsFrom is_step last_name is_last held p) style good code
+      → Sees answers taken calls lib lib_new out out_new m
+      → Runs answers taken calls lib_first lib_new out_first out_new (IsFrom is_step last_name is_last held p) style good code
   ended_at_read p lib_first lib lib_new out_first out out_new fits names n more end s h code m w is up done sees =
       let a = so_far style w.events in
       let b = a ++ map reads names in
@@ -256,7 +258,7 @@ module _ {T : Type 0} (is_step : Command → T → Step T → Type 0) (last_name
         cause = inr up;
         made = made_after a m;
         done = unread_done events b n h code (made_after a m) first at;
-        sees = sees_then asked_of taken calls lib_first lib lib_new out_first out out_new a m w.seen sees;
+        sees = sees_then answers taken calls lib_first lib lib_new out_first out out_new a m w.seen sees;
         reached = record {
           front = events;
           rest = h.events;

@@ -1,7 +1,7 @@
 -- What is done of it: where a read fails, memory runs out or a write fails, a front.
 use Rattle.std.specs.Prelude.{◌≡◌, ◌⊎◌, ℕ, zero, suc, ◌+◌, List, [], ◌∷◌, ◌++◌, length, Option, Some, None}
 use Rattle.std.specs.List.{concat}
-use Rattle.fd_outside.specs.Causes.{Becomes, Rose}
+use Rattle.fd_outside.specs.Answers.{Answer, HasFailed, names_asked}
 use Rattle.fd_outside.specs.Pieces.{IsCut}
 use Rattle.fd_report.specs.declared.faults.Fault.{Fault}
 use Rattle.fd_report.specs.declared.faults.Fault.TheVariants as fault
@@ -72,12 +72,12 @@ torn_writes None = 0
 torn_writes (Some front) = 1
 
 -- the names asked grow by those that were read, the bytes taken by the texts that were written, one write for each
-pub record Sees {L S : Type 0} (asked : L → Option (List (List ℕ))) (taken : S → Option (List ℕ)) (calls : S → Option ℕ) (lib_old lib_new : L) (old new : S)
+pub record Sees {L S : Type 0} (answers : L → List Answer) (taken : S → List ℕ) (calls : S → ℕ) (lib_old lib_new : L) (old new : S)
     (m : Made) : Type 0 where
-  pub names : Becomes (asked lib_old) (asked lib_new) (λ names. names ++ names_read m.calls)
-  pub bytes : Becomes (taken old) (taken new) (λ bytes. bytes ++ (concat (texts_written m.calls) ++ torn_bytes m.torn))
-  pub writes : Becomes (calls old) (calls new) (λ n. n + (length (texts_written m.calls) + torn_writes m.torn))
+  pub names : names_asked (answers lib_new) ≡ names_asked (answers lib_old) ++ names_read m.calls
+  pub bytes : taken new ≡ taken old ++ (concat (texts_written m.calls) ++ torn_bytes m.torn)
+  pub writes : calls new ≡ calls old + (length (texts_written m.calls) + torn_writes m.torn)
 
--- a read fails only where the count of the library's faults rose
-abbrev pub HasReadCause : ℕ → ℕ → Option ℕ → Type 0
-HasReadCause before now fails = (fails ≡ None) ⊎ Rose before now
+-- a read fails only where the library's last answer is a failed read
+abbrev pub HasReadCause : List Answer → List Answer → Option ℕ → Type 0
+HasReadCause before now fails = (fails ≡ None) ⊎ HasFailed before now

@@ -1,7 +1,7 @@
 -- There is exactly one history, and what is done of it.
 use Rattle.std.specs.Prelude.{◌≡◌, ◌⊎◌, ℕ, ◌+◌, ◌≤◌, List, ◌∷◌, [], ◌++◌, length, Option, Some, None, map}
 use Rattle.std.specs.List.{concat}
-use Rattle.fd_outside.specs.Causes.{Rose}
+use Rattle.fd_outside.specs.Answers.{Answer, HasFailed}
 use Rattle.fd_outside.specs.Emitted.{IsFront}
 use Rattle.dss_model.specs.Names.{bytes}
 use Rattle.dss_model.specs.declared.command.Command.{Command}
@@ -74,15 +74,15 @@ CutLaw = (d : Doing) (code : ℕ) (m : Made) → IsDone d code m → IsCut d cod
 -- ---- the status of a run
 
 -- the status of a run is that of the one history's end, unless memory ran out, a write failed, or a read did; so where
--- no count rises it is that status or want of memory
-pub record IsDue (end : Option Fault) (code before now : ℕ) : Type 0 where
-  pub is_due : (code ≡ status_of end) ⊎ ((code ≡ want_of_memory) ⊎ ((code ≡ write_fault) ⊎ (Rose before now × (code ≡ 4))))
-  pub complete : (Rose before now → ⊥) → (code ≡ write_fault → ⊥) → (code ≡ status_of end) ⊎ (code ≡ want_of_memory)
+-- none failed it is that status or want of memory
+pub record IsDue (end : Option Fault) (code : ℕ) (before now : List Answer) : Type 0 where
+  pub is_due : (code ≡ status_of end) ⊎ ((code ≡ want_of_memory) ⊎ ((code ≡ write_fault) ⊎ (HasFailed before now × (code ≡ 4))))
+  pub complete : (HasFailed before now → ⊥) → (code ≡ write_fault → ⊥) → (code ≡ status_of end) ⊎ (code ≡ want_of_memory)
 
 module _ {T L S : Type 0} (is_step : Command → T → Step T → Type 0) (last_name : T → Option (List ℕ)) (is_last : T → Option (List ℕ) → History → Type 0)
-    (faults : L → ℕ) (asked : L → Option (List (List ℕ))) (taken : S → Option (List ℕ)) (calls : S → Option ℕ) where
+    (answers : L → List Answer) (taken : S → List ℕ) (calls : S → ℕ) where
   abbrev pub DueLaw : (List ℕ → Option (List ℕ)) → Style → (Settle → Type 0) → Point T → L → L → S → S → ℕ → Type 0
   DueLaw held style good p lib_old lib_new old new code =
       (one : ExactlyOne (λ h. IsFrom is_step last_name is_last held p h)) →
-      Runs faults asked taken calls lib_old lib_new old new (λ h. IsFrom is_step last_name is_last held p h) style good code →
-      IsDue one.some.end code (faults lib_old) (faults lib_new)
+      Runs answers taken calls lib_old lib_new old new (λ h. IsFrom is_step last_name is_last held p h) style good code →
+      IsDue one.some.end code (answers lib_old) (answers lib_new)

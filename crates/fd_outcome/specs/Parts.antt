@@ -1,7 +1,7 @@
 -- What a script's session, a command line and a sink promise the loop over the script's commands.
 use Rattle.std.specs.Prelude.{◌≡◌, ◌⊎◌, ℕ, ◌+◌, ◌||◌, Bool, List, [], ◌∷◌, ◌++◌, map, length, Option, Some, None, Result, Ok, Err}
 use Rattle.std.specs.List.{concat}
-use Rattle.fd_outside.specs.Causes.{Becomes}
+use Rattle.fd_outside.specs.Answers.{Answer}
 use Rattle.dss_model.specs.Names.{bytes}
 use Rattle.dss_model.specs.declared.command.Command.{Command}
 use Rattle.dss_script.specs.Said.{Said, name, command, ScriptEnd, at_its_end, refused_at}
@@ -19,21 +19,21 @@ use Rattle.fd_outcome.specs.Behind.{behind, has_text, last_calls}
 -- ---- a sink
 
 -- the sink has taken what is made, in which nothing is asked
-pub record Wrote {S : Type 0} (taken : S → Option (List ℕ)) (calls : S → Option ℕ) (old new : S)
+pub record Wrote {S : Type 0} (taken : S → List ℕ) (calls : S → ℕ) (old new : S)
     (m : Made) : Type 0 where
   pub names : names_read m.calls ≡ []
-  pub bytes_are : Becomes (taken old) (taken new) (λ bs. bs ++ (concat (texts_written m.calls) ++ torn_bytes m.torn))
-  pub writes_are : Becomes (calls old) (calls new) (λ n. n + (length (texts_written m.calls) + torn_writes m.torn))
+  pub bytes_are : taken new ≡ taken old ++ (concat (texts_written m.calls) ++ torn_bytes m.torn)
+  pub writes_are : calls new ≡ calls old + (length (texts_written m.calls) + torn_writes m.torn)
 
 -- all of it or a front is made, and the sink has taken that
-pub record Printed {S : Type 0} (taken : S → Option (List ℕ)) (calls : S → Option ℕ) (old new : S) (d : Doing)
+pub record Printed {S : Type 0} (taken : S → List ℕ) (calls : S → ℕ) (old new : S) (d : Doing)
     (code : ℕ) : Type 0 where
   pub made : Made
   pub done : IsDone d code made
   pub wrote : Wrote taken calls old new made
 
 -- a front of these calls is made, and the sink has taken that
-pub record IsCutIn {S : Type 0} (taken : S → Option (List ℕ)) (calls : S → Option ℕ) (old new : S) (all : List Call)
+pub record IsCutIn {S : Type 0} (taken : S → List ℕ) (calls : S → ℕ) (old new : S) (all : List Call)
     (code : ℕ) : Type 0 where
   pub made : Made
   pub front : IsFrontOf all code made
@@ -47,24 +47,24 @@ fault_doing f = record { calls = writes (fault_text f) ∷ []; end = Some f }
 -- and after
 
 -- names that stand before the rest were asked
-pub record Asked (left rest : List Said) (old new : Option (List (List ℕ))) : Type 0 where
+pub record Asked (left rest : List Said) (old new : List (List ℕ)) : Type 0 where
   pub names : List (List ℕ)
   pub left_is : left ≡ map name names ++ rest
-  pub grown : Becomes old new (λ before. before ++ map bytes names)
+  pub grown : new ≡ old ++ map bytes names
 
 -- the name behind them was asked too, and its read failed
-pub record IsUnread (left : List Said) (old new : Option (List (List ℕ))) (unread : List ℕ) : Type 0 where
+pub record IsUnread (left : List Said) (old new : List (List ℕ)) (unread : List ℕ) : Type 0 where
   pub names : List (List ℕ)
   pub more : List Said
   pub left_is : left ≡ map name names ++ name unread ∷ more
-  pub grown : Becomes old new (λ before. before ++ map bytes (names ++ unread ∷ []))
+  pub grown : new ≡ old ++ map bytes (names ++ unread ∷ [])
 
 -- memory ran out behind some names
-pub record IsCutShort (left : List Said) (old new : Option (List (List ℕ))) : Type 0 where
+pub record IsCutShort (left : List Said) (old new : List (List ℕ)) : Type 0 where
   pub rest : List Said
   pub asked : Asked left rest old new
 
-abbrev pub Gives : List Said → ScriptEnd → List Said → ScriptEnd → Option (List (List ℕ)) → Option (List (List ℕ))
+abbrev pub Gives : List Said → ScriptEnd → List Said → ScriptEnd → List (List ℕ) → List (List ℕ)
     → Result (Option Command) SessionFault → Type 0
 Gives left end rest last old new (Ok (Some c)) = Asked left (command c ∷ rest) old new × (last ≡ end)
 Gives left end rest last old new (Ok None) = Asked left [] old new × (end ≡ at_its_end)
@@ -76,7 +76,7 @@ Gives left end rest last old new (Err other) = IsCutShort left old new
 
 -- the step goes on, and all that it gives is handed over
 pub record GoesOn {T S : Type 0} (style : Style) (good : Settle → Type 0) (is_step : Step T → Type 0) (state : T)
-    (taken : S → Option (List ℕ)) (calls : S → Option ℕ) (old new : S) (begun now : Bool) : Type 0 where
+    (taken : S → List ℕ) (calls : S → ℕ) (old new : S) (begun now : Bool) : Type 0 where
   pub events : List Event
   pub right : is_step (goes events state)
   pub all_good : AllSettles good events
@@ -94,7 +94,7 @@ EndsSo style begun (ends events f) code m = IsDone (record { calls = behind styl
 
 -- The step ends the run, or the run is cut short in it: behind some of its events, or at its end.
 pub record EndsAt {T S : Type 0} (style : Style) (good : Settle → Type 0) (is_step : Step T → Type 0)
-    (taken : S → Option (List ℕ)) (calls : S → Option ℕ) (old new : S) (begun : Bool) (code : ℕ) : Type 0 where
+    (taken : S → List ℕ) (calls : S → ℕ) (old new : S) (begun : Bool) (code : ℕ) : Type 0 where
   pub step : Step T
   pub right : is_step step
   pub made : Made
@@ -109,13 +109,13 @@ pub record EndsAt {T S : Type 0} (style : Style) (good : Settle → Type 0) (is_
 
 -- a history of the end is done, whole or cut short
 pub record Finishes {L S : Type 0} (style : Style) (good : Settle → Type 0) (is_history : History → Type 0)
-    (faults : L → ℕ) (asked : L → Option (List (List ℕ))) (taken : S → Option (List ℕ)) (calls : S → Option ℕ)
+    (answers : L → List Answer) (taken : S → List ℕ) (calls : S → ℕ)
     (lib_old lib_new : L) (old new : S) (begun : Bool) (code : ℕ) : Type 0 where
   pub history : History
   pub right : is_history history
   pub fails : Option ℕ
-  pub cause : HasReadCause (faults lib_old) (faults lib_new) fails
+  pub cause : HasReadCause (answers lib_old) (answers lib_new) fails
   pub made : Made
   pub done : IsDone (failing fails (record { calls = last_calls style begun history.events history.end; end = history.end })) code made
   pub all_good : AllSettles good history.events
-  pub sees : Sees asked taken calls lib_old lib_new old new made
+  pub sees : Sees answers taken calls lib_old lib_new old new made

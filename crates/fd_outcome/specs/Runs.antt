@@ -1,5 +1,6 @@
 -- What a run promises.
 use Rattle.std.specs.Prelude.{◌≡◌, ℕ, List, ◌++◌, Option}
+use Rattle.fd_outside.specs.Answers.{Answer}
 use Rattle.fd_report.specs.declared.faults.Fault.{Fault}
 use Rattle.fd_outcome.specs.Settles.{Settle}
 use Rattle.fd_outcome.specs.Events.{Event, History, AllSettles}
@@ -17,18 +18,18 @@ pub record Reached (style : Style) (good : Settle → Type 0) (history : History
   pub end : Option Fault
   pub done : IsDone (failing fails (doing style (record { events = front; end = end }))) code made
 
--- over a library and a sink that tell what they see
-module _ {L S : Type 0} (faults : L → ℕ) (asked : L → Option (List (List ℕ))) (taken : S → Option (List ℕ)) (calls : S → Option ℕ)
+-- over what a library answered and what a sink took
+module _ {L S : Type 0} (answers : L → List Answer) (taken : S → List ℕ) (calls : S → ℕ)
     (lib_old lib_new : L) (old new : S) where
-  -- The one history is done, whole or cut short; a read fails only where the library's count of faults rose; the names
-  -- asked, the bytes taken and the writes are those of what is done, in one order; and each settle that the run came to
-  -- is good.
+  -- The one history is done, whole or cut short; a read fails only where the library's last answer is a failed read; the
+  -- names asked, the bytes taken and the writes are those of what is done, in one order; and each settle that the run
+  -- came to is good.
   pub record Runs (is_history : History → Type 0) (style : Style) (good : Settle → Type 0) (code : ℕ) : Type 0 where
     pub history : History
     pub right : is_history history
     pub fails : Option ℕ
-    pub cause : HasReadCause (faults lib_old) (faults lib_new) fails
+    pub cause : HasReadCause (answers lib_old) (answers lib_new) fails
     pub made : Made
     pub done : IsDone (failing fails (doing style history)) code made
-    pub sees : Sees asked taken calls lib_old lib_new old new made
+    pub sees : Sees answers taken calls lib_old lib_new old new made
     pub reached : Reached style good history fails code made

@@ -56,5 +56,5 @@ pub fn cut_law()
 /// Does nothing.
 pub fn due_law<T, W: Work<T>, L: Library, S: Sink>()
     ensures { (held : List ℕ → Option (List ℕ)) (style : Style) (p : Point T) (lib_old lib_new : L) (old new : S) (code : ℕ) →
-        DueLaw W.is_step W.last_name W.is_last L.faults L.asked S.taken S.calls held style W.good p lib_old lib_new old new code }
+        DueLaw W.is_step W.last_name W.is_last L.answers S.taken S.calls held style W.good p lib_old lib_new old new code }
 {}

@@ -1,14 +1,13 @@
 -- Records handed out one by one.
-use Rattle.std.proofs.Common.{◌≡◌, ◌+◌, ◌<◌, ◌∙◌, ℕ, zero, suc, List, [], ◌∷◌, ◌++◌, length, take, drop, refl, sym, ap, arith, Option, Result, Ok, Err, IsErrAnd, OnErr, get_or, add-one}
+use Rattle.std.proofs.Common.{◌≡◌, ◌+◌, ◌<◌, ◌∙◌, ℕ, zero, suc, List, [], ◌∷◌, ◌++◌, length, take, drop, refl, sym, ap, arith, Result, Ok, Err, IsErrAnd, OnErr, get_or, add-one}
 use Rattle.std.proofs.lemmas.List.{append_assoc, take-append-drop, map-append}
 use Rattle.std.specs.List.{concat}
-use Rattle.fd_outside.specs.Causes.{Becomes}
 use Rattle.fd_outside.specs.Pieces.{WritesPiece, calls_after}
 use Rattle.fd_outside.specs.Emitted.{Takes, TakesFront, Emits, pieces_of}
 use Rattle.fd_outside.specs.declared.bytes.Record.{Record}
 use Rattle.fd_outside.specs.declared.sink.SinkFault.{SinkFault}
 use Rattle.fd_outside.specs.declared.sink.SinkFault.TheVariants as fault
-use Rattle.fd_outside.proofs.CallerLemmas.{becomes_then, front_of_short, front_of_torn}
+use Rattle.fd_outside.proofs.CallerLemmas.{front_of_short, front_of_torn}
 
 -- an error handed on is the same
 pub handed_on : {T : Type 0} (r : Result T SinkFault) (e : SinkFault) → IsErrAnd r (λ x. x ≡ e) → Err e ≡ r
@@ -35,11 +34,11 @@ pub rest_of_pieces : (records : List Record) (i : ℕ)
     → pieces_of (take i records) ++ pieces_of (drop i records) ≡ pieces_of records
 rest_of_pieces records i = sym (map-append (λ r. r.bytes) (take i records) (drop i records)) ∙ ap pieces_of (take-append-drop i records)
 
-module _ {S : Type 0} (taken : S → Option (List ℕ)) (calls : S → Option ℕ) where
+module _ {S : Type 0} (taken : S → List ℕ) (calls : S → ℕ) where
   -- pieces that were taken whole, and then a write that took less than its piece
   pub stops : (old mid new : S) (whole rest : List (List ℕ)) (piece : List ℕ) (e : SinkFault)
       → Takes taken calls old mid whole
-      → WritesPiece (taken mid) (taken new) piece (Err e) → Becomes (calls mid) (calls new) (λ n. calls_after n (Err e))
+      → WritesPiece (taken mid) (taken new) piece (Err e) → calls new ≡ calls_after (calls mid) (Err e)
       → Emits taken calls old new (whole ++ piece ∷ rest) (Err e)
   stops old mid new whole rest piece fault.Failed takes bytes count = record {
     whole = whole;
@@ -48,17 +47,14 @@ module _ {S : Type 0} (taken : S → Option (List ℕ)) (calls : S → Option �
     parts = refl;
     front = bytes.0;
     cut = bytes.1;
-    bytes = becomes_then (taken old) (taken mid) (taken new) _ _ _ takes.bytes bytes.2 (λ bs. append_assoc bs (concat whole) bytes.0);
-    writes = becomes_then (calls old) (calls mid) (calls new) _ _ _ takes.writes count (λ n. omega arith);
+    bytes = bytes.2 ∙ ap (λ l. l ++ bytes.0) takes.bytes ∙ append_assoc (taken old) (concat whole) bytes.0;
+    writes = omega (arith, takes.writes, count);
   }
   stops old mid new whole rest piece fault.NoMemory takes bytes count = record {
     whole = whole;
     rest = piece ∷ rest;
     parts = refl;
-    takes = record {
-      bytes = becomes_then (taken old) (taken mid) (taken new) _ _ _ takes.bytes bytes (λ bs. refl);
-      writes = becomes_then (calls old) (calls mid) (calls new) _ _ _ takes.writes count (λ n. refl);
-    };
+    takes = record { bytes = bytes ∙ takes.bytes; writes = count ∙ takes.writes };
   }
 
   -- some of the pieces were taken

@@ -66,7 +66,7 @@ ending_code calls f code m done = elim done [
   | inr front ↦ inr (cut_code calls code m front)
 ]
 
-module _ {S : Type 0} (taken : S → Option (List ℕ)) (calls : S → Option ℕ) where
+module _ {S : Type 0} (taken : S → List ℕ) (calls : S → ℕ) where
   pub never_usage : (old new : S) (all : List Call) (f : Fault) (code : ℕ) → IsOfCommand f
       → Printed taken calls old new (record { calls = all; end = Some f }) code → code ≡ 2 → ⊥
   never_usage old new all f code h printed =
@@ -161,7 +161,7 @@ some_text (r ∷ rs) h = refl
 
 -- ---- a settle's calls and then a fault's
 
-module _ {S : Type 0} (taken : S → Option (List ℕ)) (calls : S → Option ℕ) where
+module _ {S : Type 0} (taken : S → List ℕ) (calls : S → ℕ) where
   pub failed_whole : (old new : S) (texts : List (List ℕ)) (all : List Call) (f : Fault) (code : ℕ)
       → map writes texts ≡ all → code ≡ status f → Takes taken calls old new texts
       → Printed taken calls old new (record { calls = all; end = Some f }) code
@@ -200,8 +200,8 @@ module _ {S : Type 0} (taken : S → Option (List ℕ)) (calls : S → Option �
 
 -- ---- what a command does
 
-module _ {T S : Type 0} (style : Style) (is_step : Step T → Type 0) (taken : S → Option (List ℕ))
-    (calls : S → Option ℕ) where
+module _ {T S : Type 0} (style : Style) (is_step : Step T → Type 0) (taken : S → List ℕ)
+    (calls : S → ℕ) where
   abbrev pub goes_silent : (now : T) (out : S) (begun : Bool) → is_step (goes [] now)
       → GoesOn style IsSolved is_step now taken calls out out begun begun
   goes_silent now out begun is = record {
@@ -267,8 +267,8 @@ pub bases_tally : (t : Tally) (bases : List BusBase) → t ≡ tally_of t (map (
 bases_tally t [] = refl
 bases_tally t (b ∷ bases) = bases_tally t bases
 
-module _ {S : Type 0} (style : Style) (is_step : Step StandingView → Type 0) (taken : S → Option (List ℕ))
-    (calls : S → Option ℕ) (now : StandingView) (events : List Event) (good : AllSettles IsSolved events)
+module _ {S : Type 0} (style : Style) (is_step : Step StandingView → Type 0) (taken : S → List ℕ)
+    (calls : S → ℕ) (now : StandingView) (events : List Event) (good : AllSettles IsSolved events)
     (is : is_step (goes events now)) where
   pub goes_printed : (old new : S) (begun after : Bool) → Wrote taken calls old new (whole (behind style begun events))
       → after ≡ (begun || has_text (body style events)) → (t : Tally) → t ≡ tally_of t events
@@ -294,7 +294,7 @@ module _ {S : Type 0} (style : Style) (is_step : Step StandingView → Type 0) (
 
 -- ---- another step of the same events
 
-module _ {S : Type 0} (style : Style) (taken : S → Option (List ℕ)) (calls : S → Option ℕ)
+module _ {S : Type 0} (style : Style) (taken : S → List ℕ) (calls : S → ℕ)
     (P Q : Step StandingView → Type 0) (weaker : (step : Step StandingView) → P step → Q step) where
   pub tallied_as : (now : StandingView) (old new : S) (begun after : Bool) (t u : Tally)
       → GoesOnTallied style P now taken calls old new begun after t u

@@ -98,8 +98,8 @@ behind_failed x (without_certificate r e) f rest h =
 
 -- ---- the loop
 
-module _ (style : Style) (c : CircuitView) (first : List ℕ) (l : Kept) {S : Type 0} (taken : S → Option (List ℕ))
-    (calls : S → Option ℕ) (old : S) (begun : Bool) (none_yet : Tally) where
+module _ (style : Style) (c : CircuitView) (first : List ℕ) (l : Kept) {S : Type 0} (taken : S → List ℕ)
+    (calls : S → ℕ) (old : S) (begun : Bool) (none_yet : Tally) where
   abbrev IsFirst : Step StandingView → Type 0
   IsFirst step = IsHoursStep c first l step
 

@@ -1,6 +1,7 @@
 -- The history of `solve` and `cert`: there is exactly one, and it is that of what the script says.
 use Rattle.std.proofs.Common.{◌≡◌, ◌∙◌, ℕ, List, [], Option, refl, ap, subst}
 use Rattle.std.specs.Str.{chars}
+use Rattle.fd_outside.specs.Answers.{Answer}
 use Rattle.fd_outside.specs.Files.{Files, held}
 use Rattle.dss_model.specs.Names.{bytes}
 use Rattle.dss_script.specs.Script.{Script, script_of}
@@ -36,7 +37,7 @@ one_script files file =
 
 module _ {T : Type 0} (is_step : Command → T → Step T → Type 0) (last_name : T → Option (List ℕ))
     (is_last : T → Option (List ℕ) → History → Type 0) (good : Settle → Type 0) (style : Style) {L S : Type 0}
-    (faults : L → ℕ) (asked_of : L → Option (List (List ℕ))) (taken : S → Option (List ℕ)) (calls : S → Option ℕ)
+    (answers : L → List Answer) (taken : S → List ℕ) (calls : S → ℕ)
     (files : Files) (file : List ℕ) (first : T) where
   abbrev pub IsHistoryOf : List Said → ScriptEnd → T → History → Type 0
   IsHistoryOf said end state h = IsHistory is_step last_name is_last (λ n. held files (bytes n)) said end state h
@@ -44,14 +45,14 @@ module _ {T : Type 0} (is_step : Command → T → Step T → Type 0) (last_name
   -- what the loop does of a session's script is done of what the script says
   pub of_script : SaidLaw → (script : Script) (state : T) (lib_old lib_new : L) (old new : S) (code : ℕ)
       → script ≡ script_of files file → state ≡ first
-      → Runs faults asked_of taken calls lib_old lib_new old new
+      → Runs answers taken calls lib_old lib_new old new
       (λ h. IsHistoryOf (said_in script) (end_in script) state h) style good code
-      → Runs faults asked_of taken calls lib_old lib_new old new
+      → Runs answers taken calls lib_old lib_new old new
       (λ h. IsHistoryOf (said_of files file).said (ended_by (said_of files file).left) first h) style good code
   of_script law script state lib_old lib_new old new code is begins runs =
       let p = said_of files file in
       let P : List Said → ScriptEnd → T → Type 0 =
-      λ l e s. Runs faults asked_of taken calls lib_old lib_new old new (λ h. IsHistoryOf l e s h) style good code in
+      λ l e s. Runs answers taken calls lib_old lib_new old new (λ h. IsHistoryOf l e s h) style good code in
       let a : P (said_in script) (end_in script) first = subst (P (said_in script) (end_in script)) begins runs in
       let b : P p.said (end_in script) first = subst (λ l. P l (end_in script) first) (ap said_in is ∙ law.said files file) a in
       subst (λ e. P p.said e first) (ap end_in is ∙ law.end files file) b
@@ -59,9 +60,9 @@ module _ {T : Type 0} (is_step : Command → T → Step T → Type 0) (last_name
   -- memory runs out before the script is read
   pub not_begun : ((c : Command) (s : T) → ExactlyOne (is_step c s))
       → ((s : T) (found : Option (List ℕ)) → ExactlyOne (is_last s found)) → AsksNames style → (lib : L) (out : S)
-      → Runs faults asked_of taken calls lib lib out out (λ h. IsHistoryOf (said_of files file).said (ended_by (said_of files file).left) first h) style good 1
+      → Runs answers taken calls lib lib out out (λ h. IsHistoryOf (said_of files file).said (ended_by (said_of files file).left) first h) style good 1
   not_begun one_step one_last fits lib out =
       let p = said_of files file in
-      ends_first is_step last_name is_last good style (λ n. held files (bytes n)) faults asked_of taken calls
+      ends_first is_step last_name is_last good style (λ n. held files (bytes n)) answers taken calls
       (record { left = p.said; end = ended_by p.left; state = first }) lib out one_step one_last fits p.said
       (ended_by p.left) first refl

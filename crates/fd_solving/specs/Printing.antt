@@ -28,7 +28,7 @@ fault_of settled = None
 fault_of (failed f) = Some f
 fault_of (without_certificate r f) = Some f
 
-module _ {S : Type 0} (style : Style) (taken : S → Option (List ℕ)) (calls : S → Option ℕ) (old new : S) (begun : Bool)
+module _ {S : Type 0} (style : Style) (taken : S → List ℕ) (calls : S → ℕ) (old new : S) (begun : Bool)
     (c : CircuitView) (hour : ℕ) (l : Kept) where
   -- the hour was solved and ended well, all of it is printed, and its rounds are added to those before
   pub record IsPrintedHour (k : Kept) (now : Bool) (before after : Tally) : Type 0 where

@@ -1,5 +1,5 @@
 -- What the rounds of a run come to.
-use Rattle.std.specs.Prelude.{◌≡◌, ◌≤◌, ◌+◌, ◌*◌, ◌^◌, ℕ, Bool, List, length, max, Option}
+use Rattle.std.specs.Prelude.{◌≡◌, ◌≤◌, ◌+◌, ◌*◌, ◌^◌, ℕ, Bool, List, length, max}
 use Rattle.std.specs.List.{fold}
 use Rattle.dss_layout.specs.Layout.{complex_count, layout_of}
 use Rattle.fd_outcome.specs.Calls.{Style}
@@ -36,6 +36,6 @@ HasRoom t settled = t.solutions ≤ 2 ^ 32 * settled
 
 -- the step goes on, and its rounds are added to those before
 pub record GoesOnTallied {T S : Type 0} (style : Style) (is_step : Step T → Type 0) (state : T)
-    (taken : S → Option (List ℕ)) (calls : S → Option ℕ) (old new : S) (begun now : Bool) (before after : Tally) : Type 0 where
+    (taken : S → List ℕ) (calls : S → ℕ) (old new : S) (begun now : Bool) (before after : Tally) : Type 0 where
   pub on : GoesOn style IsSolved is_step state taken calls old new begun now
   pub added : after ≡ tally_of before on.events

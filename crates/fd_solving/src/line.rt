@@ -1,5 +1,6 @@
 // A command line at work: what the loop over a script's commands asks of it.
-ghost use Rattle.std.specs.Prelude.{◌≡◌, ◌+◌, ◌≤◌, List, ℕ, Option, IfSome, None, Some};
+ghost use Rattle.std.specs.Prelude.{◌≡◌, ◌+◌, ◌≤◌, List, ℕ, Option, IfSome, None};
+ghost use Rattle.fd_outside.specs.Answers.{AgreesSince};
 ghost use Rattle.fd_outside.specs.Causes.{Rose};
 ghost use Rattle.fd_outside.specs.Files.{Files, held};
 ghost use Rattle.dss_model.specs.Names.{bytes};
@@ -72,9 +73,9 @@ pub trait Line {
         begun: bool,
         out: &mut S,
     ) -> u8
-        ensures told { (files : Files) → L.holds lib.old ≡ Some files
+        ensures told { (files : Files) → AgreesSince files (L.answers lib.old) (L.answers lib.new)
             → Finishes style good
             (λ h. IsLast is_step last_name is_last (λ name. held files (bytes name)) (last_name self.old) self.old h)
-            L.faults L.asked S.taken S.calls lib.old lib.new out.old out.new begun result }
-        ensures untold { IsUntold L.faults L.asked S.faults S.taken S.calls lib.old lib.new out.old out.new result };
+            L.answers S.taken S.calls lib.old lib.new out.old out.new begun result }
+        ensures untold { IsUntold L.answers L.holds S.faults S.taken S.calls lib.old lib.new out.old out.new result };
 }

@@ -1,5 +1,6 @@
 // The loop over a script's commands: each is done, and what it gives is handed over, before the next is read.
-ghost use Rattle.std.specs.Prelude.{◌≡◌, ◌+◌, ◌≤◌, Some};
+ghost use Rattle.std.specs.Prelude.{◌≡◌, ◌+◌, ◌≤◌};
+ghost use Rattle.fd_outside.specs.Answers.{AgreesSince};
 ghost use Rattle.fd_outside.specs.Files.{Files, held};
 ghost use Rattle.dss_model.specs.Names.{bytes};
 ghost use Rattle.dss_script.specs.Said.{end_in, said_in};
@@ -25,14 +26,14 @@ pub fn run_script<T: Line, L: Library, S: Sink>(
     out: &mut S,
 ) -> u8
     requires { T.weight line.old + room session.old ≤ 1_048_578 }
-    ensures run { (files : Files) → L.holds lib.old ≡ Some files
-        → Runs L.faults L.asked S.taken S.calls lib.old lib.new out.old out.new
+    ensures run { (files : Files) → AgreesSince files (L.answers lib.old) (L.answers lib.new)
+        → Runs L.answers S.taken S.calls lib.old lib.new out.old out.new
         (λ h. IsFrom T.is_step T.last_name T.is_last (λ name. held files (bytes name)) (record {
           left = said_in (remaining files session.old);
           end = end_in (remaining files session.old);
           state = line.old;
         }) h) T.style T.good result }
-    ensures untold { IsUntold L.faults L.asked S.faults S.taken S.calls lib.old lib.new out.old out.new result }
+    ensures untold { IsUntold L.answers L.holds S.faults S.taken S.calls lib.old lib.new out.old out.new result }
 {
     T::law();
     said_law();

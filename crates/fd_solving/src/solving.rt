@@ -1,6 +1,7 @@
 // The command lines `solve FILE` and `cert FILE`.
-ghost use Rattle.std.specs.Prelude.{◌≡◌, ◌+◌, ◌≤◌, [], IfSome, None, Some};
+ghost use Rattle.std.specs.Prelude.{◌≡◌, ◌+◌, ◌≤◌, [], IfSome, None};
 ghost use Rattle.std.specs.Str.{chars};
+ghost use Rattle.fd_outside.specs.Answers.{AgreesSince};
 ghost use Rattle.fd_outside.specs.Causes.{Rose};
 ghost use Rattle.fd_outside.specs.Files.{Files};
 ghost use Rattle.dss_script.specs.Said.{said_of};
@@ -116,10 +117,10 @@ pub fn solve<P: Page, L: Library, S: Sink>(
     lib: &mut L,
     out: &mut S,
 ) -> u8
-    ensures run { (files : Files) → L.holds lib.old ≡ Some files →
-        Runs L.faults L.asked S.taken S.calls lib.old lib.new out.old out.new
+    ensures run { (files : Files) → AgreesSince files (L.answers lib.old) (L.answers lib.new) →
+        Runs L.answers S.taken S.calls lib.old lib.new out.old out.new
         (λ h. IsScriptHistory files (said_of files (chars file.now)) h) P.style IsSolved result }
-    ensures untold { IsUntold L.faults L.asked S.faults S.taken S.calls lib.old lib.new out.old out.new result }
+    ensures untold { IsUntold L.answers L.holds S.faults S.taken S.calls lib.old lib.new out.old out.new result }
 {
     said_law();
     P::law();

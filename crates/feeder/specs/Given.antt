@@ -1,16 +1,24 @@
--- The words that a command line gives, and how the program ends.
-use Rattle.std.specs.Prelude.{◌≡◌, ℕ, List, [], map, drop, string_bytes, Result, Ok, Err}
+-- The words that a command line gives.
+use Rattle.std.specs.Prelude.{ℕ, List, [], map, drop, string_bytes, Result, Ok, Err}
 use Rattle.std.specs.Vec.Iter.{into_iter_items}
+use Rattle.std.specs.IoError.{error_kind}
+use Rattle.std.specs.declared.io.Error.{Error}
+use Rattle.std.specs.declared.io.ErrorKind.{ErrorKind}
+use Rattle.std.specs.declared.io.ErrorKind.TheVariants.{OutOfMemory}
 use Rattle.std.specs.declared.string.String.{String}
 use Rattle.std.specs.declared.vec.IntoIter.{IntoIter}
 
--- the words behind the program's name, as their bytes; none where a word is no text
-abbrev pub given : {A E : Type 0} → Result (IntoIter (String A) A) E → List (List ℕ)
-given (Ok args) = map string_bytes (drop 1 (into_iter_items args))
-given (Err e) = []
+-- words, as their bytes, or the system had no memory for them
+pub data Given : Type 0 where
+  words : List (List ℕ) → Given
+  no_memory : Given
 
--- memory ran out before a file was read or a text was written
-pub record IsWithoutMemory {L S : Type 0} (lib_old lib_new : L) (old new : S) (code : ℕ) : Type 0 where
-  pub code_is : code ≡ 1
-  pub lib_is : lib_new ≡ lib_old
-  pub out_is : new ≡ old
+-- words that are no text are given as none, which is no form of a command line
+abbrev pub given_at : ErrorKind → Given
+given_at OutOfMemory = no_memory
+given_at kind = words []
+
+-- the words behind the program's name
+abbrev pub given : {A : Type 0} → Result (IntoIter (String A) A) Error → Given
+given (Ok args) = words (map string_bytes (drop 1 (into_iter_items args)))
+given (Err e) = given_at (error_kind e)

@@ -1,19 +1,14 @@
 // How the program ends.
-ghost use Rattle.std.specs.Prelude.{◌≡◌, ◌⊎◌, None, IfOk, drop};
+ghost use Rattle.std.specs.Prelude.{drop, map, string_bytes};
 ghost use Rattle.std.specs.Process.{exit_status};
 ghost use Rattle.std.specs.Vec.Iter.{into_iter_items};
-ghost use Rattle.fd_outside.specs.Causes.{Rose};
-ghost use Rattle.fd_outside.specs.Files.{Files};
-ghost use Rattle.fd_outcome.specs.Runs.{Runs};
-ghost use Rattle.fd_outcome.specs.Untold.{Answers};
-ghost use Rattle.fd_solving.specs.Headline.{IsSolved};
-ghost use Rattle.fd_app.specs.Run.{IsFormHistory, Knows, style_of};
 ghost use Rattle.fd_words.specs.Words.{form_of};
-ghost use Rattle.feeder.specs.Given.{IsWithoutMemory, given};
+ghost use Rattle.feeder.specs.Ending.{EndsAs, IsRun};
+ghost use Rattle.feeder.specs.Given.{given};
 
 use fd_app::run;
 use fd_outside::{Library, Sink};
-use std::alloc::{AllocFailed, Global};
+use std::alloc::Global;
 use std::env::Args;
 use std::io;
 use std::io::ErrorKind;
@@ -21,16 +16,33 @@ use std::process::ExitCode;
 
 const WANT_OF_MEMORY: u8 = 1;
 
-// The words behind the program's name.
-fn words_of(alloc: Global, mut args: Args) -> Result<Vec<String>, AllocFailed<String>>
-    ensures { IfOk result (λ words. words.items ≡ drop 1 (into_iter_items args)) }
+// The top call, with all that it promises.
+fn run_words<L: Library, S: Sink>(alloc: Global, words: &[String], lib: &mut L, out: &mut S) -> u8
+    ensures { IsRun L.answers L.holds S.faults S.taken S.calls lib.old lib.new out.old out.new
+        (form_of (map string_bytes words.now)) result }
+{
+    run(alloc, words, lib, out)
+}
+
+// Does what the words behind the program's name say. No form has more than three, so a fourth is enough to know.
+fn do_words<L: Library, S: Sink>(alloc: Global, mut args: Args, lib: &mut L, out: &mut S) -> u8
+    ensures { IsRun L.answers L.holds S.faults S.taken S.calls lib.old lib.new out.old out.new
+        (form_of (map string_bytes (drop 1 (into_iter_items args)))) result }
 {
     let _name = args.next();
-    let mut words = Vec::new(alloc);
-    for word in args {
-        words.push(word)?;
-    }
-    Ok(words)
+    let Some(first) = args.next() else {
+        return run_words(alloc, &[], lib, out);
+    };
+    let Some(second) = args.next() else {
+        return run_words(alloc, &[first], lib, out);
+    };
+    let Some(third) = args.next() else {
+        return run_words(alloc, &[first, second], lib, out);
+    };
+    let Some(fourth) = args.next() else {
+        return run_words(alloc, &[first, second, third], lib, out);
+    };
+    run_words(alloc, &[first, second, third, fourth], lib, out)
 }
 
 // Does what a command line says, and answers the exit status. Words that are no text are handed on as none.
@@ -40,43 +52,31 @@ fn status_of<L: Library, S: Sink>(
     lib: &mut L,
     out: &mut S,
 ) -> u8
-    ensures run { (files : Files) → Knows (form_of (given args)) (L.holds lib.old) files →
-        IsWithoutMemory lib.old lib.new out.old out.new result ⊎ Runs L.faults L.asked S.taken S.calls lib.old lib.new out.old out.new
-        (λ h. IsFormHistory files (form_of (given args)) h) (style_of (form_of (given args))) IsSolved result }
-    ensures statuses { Answers S.taken S.calls out.old out.new result }
-    ensures usage { result ≡ 2 → form_of (given args) ≡ None }
-    ensures read { result ≡ 4 → Rose (L.faults lib.old) (L.faults lib.new) }
-    ensures write { result ≡ 5 → Rose (S.faults out.old) (S.faults out.new) }
+    ensures { EndsAs L.answers L.holds S.faults S.taken S.calls lib.old lib.new out.old out.new (given args) result }
 {
     match args {
-        Ok(args) => match words_of(alloc, args) {
-            Ok(words) => run(alloc, words.as_slice(), lib, out),
-            Err(_) => WANT_OF_MEMORY,
-        },
-        Err(e) if e.kind() == ErrorKind::OutOfMemory => WANT_OF_MEMORY,
-        Err(_) => run(alloc, &[], lib, out),
+        Ok(args) => do_words(alloc, args, lib, out),
+        Err(e) => {
+            if e.kind() == ErrorKind::OutOfMemory {
+                WANT_OF_MEMORY
+            } else {
+                run_words(alloc, &[], lib, out)
+            }
+        }
     }
 }
 
-/// Does what a command line says by the top call, and ends with the status that it answers. The words are those behind the program's name;
-/// where one of them is no text there are none, which is no form of a command line.
+/// Does what a command line says by the top call, and ends with the status that it answers. The words are those behind
+/// the program's name; where one of them is no text there are none, which is no form of a command line. Before the top
+/// call no memory is asked for, so want of memory is then the system's word alone.
 pub(crate) fn end_of<L: Library, S: Sink>(
     alloc: Global,
     args: io::Result<Args>,
     lib: &mut L,
     out: &mut S,
 ) -> ExitCode
-    // The words have their one history over the files held, and it is done, whole or cut short, with the status that the top call answers;
-    // or memory ran out before anything was done.
-    ensures run { (files : Files) → Knows (form_of (given args)) (L.holds lib.old) files →
-        IsWithoutMemory lib.old lib.new out.old out.new (exit_status result) ⊎ Runs L.faults L.asked S.taken S.calls lib.old lib.new out.old out.new
-        (λ h. IsFormHistory files (form_of (given args)) h) (style_of (form_of (given args))) IsSolved (exit_status result) }
-
-    // Whatever the library tells of what it holds.
-    ensures statuses { Answers S.taken S.calls out.old out.new (exit_status result) }
-    ensures usage { exit_status result ≡ 2 → form_of (given args) ≡ None }
-    ensures read { exit_status result ≡ 4 → Rose (L.faults lib.old) (L.faults lib.new) }
-    ensures write { exit_status result ≡ 5 → Rose (S.faults out.old) (S.faults out.new) }
+    ensures { EndsAs L.answers L.holds S.faults S.taken S.calls lib.old lib.new out.old out.new (given args)
+        (exit_status result) }
 {
     ExitCode::from(status_of(alloc, args, lib, out))
 }

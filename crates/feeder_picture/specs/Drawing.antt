@@ -3,7 +3,7 @@ use Rattle.std.specs.Prelude.{◌≡◌, ⊤, ℕ, List, [], ◌∷◌, ◌++◌
 use Rattle.std.specs.Vec.Iter.{into_iter_items}
 use Rattle.std.specs.declared.string.String.{String}
 use Rattle.std.specs.declared.vec.IntoIter.{IntoIter}
-use Rattle.fd_outside.specs.Causes.{Becomes}
+use Rattle.fd_outside.specs.Answers.{Answer, content}
 use Rattle.fd_outside.specs.Files.{Files, held}
 use Rattle.fd_picture.specs.Drafts.{ReportView}
 use Rattle.fd_picture.specs.Pages.{page_of}
@@ -22,19 +22,24 @@ abbrev pub NamesLine : List ℕ → PictureFault → Type 0
 NamesLine bytes (fault.NotReport line cause) = report_of bytes ≡ Err (record { line = line; cause = cause })
 NamesLine bytes e = ⊤
 
--- a sink took the page of the report that is held under a name
-pub record TakesPicture (told : Option Files) (name : List ℕ) (old new : Option (List ℕ)) : Type 0 where
+-- a library's one answer was this file's bytes, and where it tells what it holds they are held under the name
+pub record AnswersBytes (told : Option Files) (before now : List Answer) (name bytes : List ℕ) : Type 0 where
+  pub answer : now ≡ before ++ (name, content bytes) ∷ []
+  pub file : (files : Files) → told ≡ Some files → held files name ≡ Some bytes
+
+-- a sink took the page of the report that was answered under a name
+pub record TakesPicture (told : Option Files) (before now : List Answer) (name : List ℕ) (old new : List ℕ) : Type 0 where
   pub bytes : List ℕ
   pub text : List ℕ
-  pub file : (files : Files) → told ≡ Some files → held files name ≡ Some bytes
+  pub read : AnswersBytes told before now name bytes
   pub page : IsPageOf bytes text
-  pub taken : Becomes old new (λ before. before ++ text)
+  pub taken : new ≡ old ++ text
 
--- the file that is held under a name is no report, by the line that a fault names
-abbrev pub RefusesFile : Option Files → List ℕ → PictureFault → Type 0
-RefusesFile told name (fault.NotReport line cause) =
-    (bytes : List ℕ) × ((files : Files) → told ≡ Some files → held files name ≡ Some bytes) × (report_of bytes ≡ Err (record { line = line; cause = cause }))
-RefusesFile told name e = ⊤
+-- what was answered under a name is no report, by the line that a fault names
+abbrev pub RefusesFile : Option Files → List Answer → List Answer → List ℕ → PictureFault → Type 0
+RefusesFile told before now name (fault.NotReport line cause) =
+    (bytes : List ℕ) × AnswersBytes told before now name bytes × (report_of bytes ≡ Err (record { line = line; cause = cause }))
+RefusesFile told before now name e = ⊤
 
 -- at every fault but a failed write the sink is as it was
 abbrev pub LeavesSink : {S : Type 0} → S → S → PictureFault → Type 0
@@ -56,6 +61,7 @@ given (Err e) = []
 abbrev pub OfOnlyWord : List (List ℕ) → (List ℕ → Type 0) → Type 0
 OfOnlyWord words P = (name : List ℕ) × (words ≡ name ∷ []) × P name
 
-abbrev pub RefusesWord : List (List ℕ) → Option Files → PictureFault → Type 0
-RefusesWord words told (fault.NotReport line cause) = OfOnlyWord words (λ name. RefusesFile told name (fault.NotReport line cause))
-RefusesWord words told e = ⊤
+abbrev pub RefusesWord : List (List ℕ) → Option Files → List Answer → List Answer → PictureFault → Type 0
+RefusesWord words told before now (fault.NotReport line cause) =
+    OfOnlyWord words (λ name. RefusesFile told before now name (fault.NotReport line cause))
+RefusesWord words told before now e = ⊤

@@ -1,6 +1,6 @@
 // From a file to its picture.
 ghost use Rattle.std.specs.Prelude.{◌≡◌, ◌++◌, ◌∷◌, [], Some, IfErr, IfOk, IfSome, OnOk, drop};
-ghost use Rattle.fd_outside.specs.Causes.{Becomes};
+ghost use Rattle.fd_outside.specs.Answers.{content};
 ghost use Rattle.fd_outside.specs.Files.{Files, held};
 ghost use Rattle.feeder_picture.specs.Drawing.{IsOfFile, IsPageOf, LeavesSink, NamesLine, OfOnlyWord, RefusesFile, RefusesWord, TakesPicture, given};
 ghost use Rattle.feeder_picture.specs.declared.fault.PictureFault.TheVariants as fault;
@@ -15,6 +15,7 @@ use std::io;
 
 // The bytes of a file.
 fn file_bytes<L: Library>(alloc: Global, name: &str, lib: &mut L) -> Result<Vec<u8>, PictureFault>
+    ensures answer { IfOk result (λ bytes. L.answers lib.new ≡ L.answers lib.old ++ (name.now, content bytes.items) ∷ []) }
     ensures held { IfOk result (λ bytes. (files : Files) → L.holds lib.old ≡ Some files → held files name.now ≡ Some bytes.items) }
     ensures fault { IfErr result IsOfFile }
 {
@@ -47,7 +48,7 @@ fn page_of(alloc: Global, bytes: &[u8]) -> Result<Vec<u8>, PictureFault>
 
 // Hands the sink the whole of a text by one write.
 fn write_page<S: Sink>(alloc: Global, text: &[u8], out: &mut S) -> Result<(), PictureFault>
-    ensures taken { OnOk result (Becomes (S.taken out.old) (S.taken out.new) (λ before. before ++ text.now)) }
+    ensures taken { OnOk result (S.taken out.new ≡ S.taken out.old ++ text.now) }
     ensures unwritten { IfErr result (λ e. e ≡ fault.Unwritten) }
 {
     match out.write(alloc, text) {
@@ -67,8 +68,8 @@ pub(crate) fn draw_file<L: Library, S: Sink>(
     lib: &mut L,
     out: &mut S,
 ) -> Result<(), PictureFault>
-    ensures picture { OnOk result (TakesPicture (L.holds lib.old) name.now (S.taken out.old) (S.taken out.new)) }
-    ensures refused { IfErr result (λ e. RefusesFile (L.holds lib.old) name.now e) }
+    ensures picture { OnOk result (TakesPicture (L.holds lib.old) (L.answers lib.old) (L.answers lib.new) name.now (S.taken out.old) (S.taken out.new)) }
+    ensures refused { IfErr result (λ e. RefusesFile (L.holds lib.old) (L.answers lib.old) (L.answers lib.new) name.now e) }
     ensures nothing { IfErr result (λ e. LeavesSink out.old out.new e) }
 {
     let bytes = file_bytes(alloc, name, lib)?;
@@ -97,8 +98,8 @@ pub(crate) fn draw_words<L: Library, S: Sink>(
     lib: &mut L,
     out: &mut S,
 ) -> Result<(), PictureFault>
-    ensures picture { OnOk result (OfOnlyWord (given args) (λ name. TakesPicture (L.holds lib.old) name (S.taken out.old) (S.taken out.new))) }
-    ensures refused { IfErr result (λ e. RefusesWord (given args) (L.holds lib.old) e) }
+    ensures picture { OnOk result (OfOnlyWord (given args) (λ name. TakesPicture (L.holds lib.old) (L.answers lib.old) (L.answers lib.new) name (S.taken out.old) (S.taken out.new))) }
+    ensures refused { IfErr result (λ e. RefusesWord (given args) (L.holds lib.old) (L.answers lib.old) (L.answers lib.new) e) }
     ensures nothing { IfErr result (λ e. LeavesSink out.old out.new e) }
 {
     let Ok(args) = args else {

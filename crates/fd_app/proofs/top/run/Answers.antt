@@ -1,10 +1,11 @@
 use Rattle.std.proofs.Common.{◌≡◌, ◌∙◌, ◌⊎◌, ℕ, None, Some, inl, inr, sym, ap, map, string_bytes, arith}
 use Rattle.std.specs.Option.{option_map}
 use Rattle.fd_report.specs.declared.faults.Fault.TheVariants as fault
+use Rattle.fd_outside.proofs.CallerLemmas.{later_same}
 use Rattle.fd_outcome.specs.Calls.{report}
 use Rattle.fd_outcome.specs.Untold.{CutsShort}
 use Rattle.fd_gen.specs.Script.{script_of}
-use Rattle.fd_outcome.proofs.CallerLemmas.{fault_alone, fault_answers, fault_code, grows_none, untold_last}
+use Rattle.fd_outcome.proofs.CallerLemmas.{fault_alone, fault_answers, fault_code, untold_last}
 use Rattle.fd_solving.specs.Headline.{IsSolved}
 use Rattle.fd_bench.specs.Bench.{IsBenchHistory, lines_alone, script_written}
 use Rattle.fd_bench.proofs.CallerLemmas.{alone_runs, lines_good, printed_alone, short_alone}
@@ -21,17 +22,20 @@ never_read code is four = elim is [
 ]
 
 pub returns-in_default-clause-run : goal.returns-in_default-clause-run
-returns-in_default-clause-run g c files told =
+returns-in_default-clause-run g c files agrees =
     let form = form_of (map string_bytes c.args.words.now) in
-    alone_runs g.L.Library.faults g.L.Library.asked g.S.Sink.taken g.S.Sink.calls c.args.lib.now c.args.out.now
+    alone_runs g.L.Library.answers g.S.Sink.taken g.S.Sink.calls c.args.lib.now c.args.out.now
     c.args.out.now (λ h. IsFormHistory files form h) (style_of form) IsSolved 1
     (short_alone g.S.Sink.taken g.S.Sink.calls c.args.out.now (λ h. IsFormHistory files form h) (style_of form)
     (forms files form))
 
+pub returns-in_default-clause-later : goal.returns-in_default-clause-later
+returns-in_default-clause-later g c = later_same g.L.Library.answers g.L.Library.holds c.args.lib.now
+
 pub returns-in-None-clause-run : goal.returns-in-None-clause-run
-returns-in-None-clause-run g c files told =
+returns-in-None-clause-run g c files agrees =
     let form : form_of (map string_bytes c.args.words.now) ≡ None = sym c.in-Ok.ensures.form ∙ ap (option_map form_in) c.in-None.is in
-    rw form (fault_alone g.L.Library.faults g.L.Library.asked g.S.Sink.taken g.S.Sink.calls report IsSolved
+    rw form (fault_alone g.L.Library.answers g.S.Sink.taken g.S.Sink.calls report IsSolved
     c.args.lib.now c.args.out.now c.print_fault.new.out fault.Usage c.print_fault.result c.print_fault.ensures.prints)
 
 pub returns-in-None-clause-statuses : goal.returns-in-None-clause-statuses
@@ -42,20 +46,14 @@ returns-in-None-clause-statuses g c =
 pub returns-in-None-clause-usage : goal.returns-in-None-clause-usage
 returns-in-None-clause-usage g c two = sym c.in-Ok.ensures.form ∙ ap (option_map form_in) c.in-None.is
 
-pub returns-in-None-clause-read : goal.returns-in-None-clause-read
-returns-in-None-clause-read g c four =
-    absurd (never_read c.print_fault.result (fault_code g.S.Sink.taken g.S.Sink.calls c.args.out.now
-    c.print_fault.new.out fault.Usage c.print_fault.result c.print_fault.ensures.prints)
-    four)
-
 pub returns-in-None-clause-last : goal.returns-in-None-clause-last
 returns-in-None-clause-last g c four =
     absurd (never_read c.print_fault.result (fault_code g.S.Sink.taken g.S.Sink.calls c.args.out.now
     c.print_fault.new.out fault.Usage c.print_fault.result c.print_fault.ensures.prints)
     four)
 
-pub returns-in-None-clause-grows : goal.returns-in-None-clause-grows
-returns-in-None-clause-grows g c = grows_none (g.L.Library.asked c.args.lib.now)
+pub returns-in-None-clause-later : goal.returns-in-None-clause-later
+returns-in-None-clause-later g c = later_same g.L.Library.answers g.L.Library.holds c.args.lib.now
 
 pub returns-in-Some-Solve-clause-run : goal.returns-in-Some-Solve-clause-run
 returns-in-Some-Solve-clause-run g c files =
@@ -94,14 +92,14 @@ write_script-requires g c =
     rw (c.in-Some-Gen.is, found) at c.in-Ok.ensures.some
 
 pub returns-in-Some-Gen-clause-run : goal.returns-in-Some-Gen-clause-run
-returns-in-Some-Gen-clause-run g c files told =
+returns-in-Some-Gen-clause-run g c files agrees =
     let number = c.in-Some-Gen.number in
     let sections = c.in-Some-Gen.sections in
     let form : form_of (map string_bytes c.args.words.now) ≡ Some (Gen number sections) =
     sym c.in-Ok.ensures.form ∙ ap (option_map form_in) c.in-Some-Gen.is
     ∙ ap (λ (w : Words). Some (form_in w)) (rw c.in-Some-Gen.is at c.in-Some-Gen.field-0-is) in
     rw form
-    (alone_runs g.L.Library.faults g.L.Library.asked g.S.Sink.taken g.S.Sink.calls c.args.lib.now c.args.out.now
+    (alone_runs g.L.Library.answers g.S.Sink.taken g.S.Sink.calls c.args.lib.now c.args.out.now
     c.write_script.new.out (λ h. h ≡ script_written number sections) report IsSolved c.write_script.result
     (printed_alone g.S.Sink.taken g.S.Sink.calls c.args.out.now c.write_script.new.out
     (script_written number sections) report IsSolved c.write_script.result
@@ -109,30 +107,24 @@ returns-in-Some-Gen-clause-run g c files told =
 
 pub returns-in-Some-Gen-clause-statuses : goal.returns-in-Some-Gen-clause-statuses
 returns-in-Some-Gen-clause-statuses g c =
-    (untold_last g.L.Library.faults g.L.Library.asked g.S.Sink.faults g.S.Sink.taken g.S.Sink.calls c.args.lib.now
+    (untold_last g.L.Library.answers g.L.Library.holds g.S.Sink.faults g.S.Sink.taken g.S.Sink.calls c.args.lib.now
     c.args.out.now c.write_script.new.out _ c.write_script.result c.write_script.ensures.prints
-    c.write_script.ensures.write).answers
+    c.write_script.ensures.write).statuses
 
 pub returns-in-Some-Gen-clause-usage : goal.returns-in-Some-Gen-clause-usage
 returns-in-Some-Gen-clause-usage g c two =
-    absurd ((untold_last g.L.Library.faults g.L.Library.asked g.S.Sink.faults g.S.Sink.taken g.S.Sink.calls
+    absurd ((untold_last g.L.Library.answers g.L.Library.holds g.S.Sink.faults g.S.Sink.taken g.S.Sink.calls
     c.args.lib.now c.args.out.now c.write_script.new.out _ c.write_script.result c.write_script.ensures.prints
     c.write_script.ensures.write).usage two)
 
-pub returns-in-Some-Gen-clause-read : goal.returns-in-Some-Gen-clause-read
-returns-in-Some-Gen-clause-read g c =
-    (untold_last g.L.Library.faults g.L.Library.asked g.S.Sink.faults g.S.Sink.taken g.S.Sink.calls c.args.lib.now
-    c.args.out.now c.write_script.new.out _ c.write_script.result c.write_script.ensures.prints
-    c.write_script.ensures.write).read
-
 pub returns-in-Some-Gen-clause-last : goal.returns-in-Some-Gen-clause-last
 returns-in-Some-Gen-clause-last g c =
-    (untold_last g.L.Library.faults g.L.Library.asked g.S.Sink.faults g.S.Sink.taken g.S.Sink.calls c.args.lib.now
+    (untold_last g.L.Library.answers g.L.Library.holds g.S.Sink.faults g.S.Sink.taken g.S.Sink.calls c.args.lib.now
     c.args.out.now c.write_script.new.out _ c.write_script.result c.write_script.ensures.prints
     c.write_script.ensures.write).last
 
-pub returns-in-Some-Gen-clause-grows : goal.returns-in-Some-Gen-clause-grows
-returns-in-Some-Gen-clause-grows g c = grows_none (g.L.Library.asked c.args.lib.now)
+pub returns-in-Some-Gen-clause-later : goal.returns-in-Some-Gen-clause-later
+returns-in-Some-Gen-clause-later g c = later_same g.L.Library.answers g.L.Library.holds c.args.lib.now
 
 pub bench-requires : goal.bench-requires
 bench-requires g c =
@@ -140,24 +132,21 @@ bench-requires g c =
     rw (c.in-Some-Bench.is, found) at c.in-Ok.ensures.some
 
 pub returns-in-Some-Bench-clause-run : goal.returns-in-Some-Bench-clause-run
-returns-in-Some-Bench-clause-run g c files told =
+returns-in-Some-Bench-clause-run g c files agrees =
     let number = c.in-Some-Bench.number in
     let sections = c.in-Some-Bench.sections in
     let form : form_of (map string_bytes c.args.words.now) ≡ Some (Bench number sections) =
     sym c.in-Ok.ensures.form ∙ ap (option_map form_in) c.in-Some-Bench.is
     ∙ ap (λ (w : Words). Some (form_in w)) (rw c.in-Some-Bench.is at c.in-Some-Bench.field-0-is) in
     rw form
-    (alone_runs g.L.Library.faults g.L.Library.asked g.S.Sink.taken g.S.Sink.calls c.args.lib.now c.args.out.now
+    (alone_runs g.L.Library.answers g.S.Sink.taken g.S.Sink.calls c.args.lib.now c.args.out.now
     c.bench.new.out (λ h. IsBenchHistory number sections h) lines_alone IsSolved c.bench.result c.bench.ensures.run)
 
 pub returns-in-Some-Bench-clause-usage : goal.returns-in-Some-Bench-clause-usage
 returns-in-Some-Bench-clause-usage g c two = absurd (c.bench.ensures.usage two)
 
-pub returns-in-Some-Bench-clause-read : goal.returns-in-Some-Bench-clause-read
-returns-in-Some-Bench-clause-read g c four = absurd (c.bench.ensures.read four)
-
 pub returns-in-Some-Bench-clause-last : goal.returns-in-Some-Bench-clause-last
 returns-in-Some-Bench-clause-last g c four = absurd (c.bench.ensures.read four)
 
-pub returns-in-Some-Bench-clause-grows : goal.returns-in-Some-Bench-clause-grows
-returns-in-Some-Bench-clause-grows g c = grows_none (g.L.Library.asked c.args.lib.now)
+pub returns-in-Some-Bench-clause-later : goal.returns-in-Some-Bench-clause-later
+returns-in-Some-Bench-clause-later g c = later_same g.L.Library.answers g.L.Library.holds c.args.lib.now

@@ -1,4 +1,4 @@
-use Rattle.std.proofs.Common.{◌∙◌, Some, ap, arith}
+use Rattle.std.proofs.Common.{◌∙◌, Some, ap}
 use Rattle.std.specs.FinMap.{from_entries}
 use Rattle.fd_outside.specs.Files.{held}
 use Rattle.dss_model.specs.Names.{bytes}
@@ -7,7 +7,8 @@ use Rattle.dss_script.specs.Sessions.{remaining}
 use Rattle.fd_outcome.specs.History.{IsFrom}
 use Rattle.fd_bench.specs.Bench.{feeder_files, lines_alone, IsBenchHistory}
 use Rattle.fd_bench.specs.Benching.{IsBenchLast, IsBenchStep, no_bench_name}
-use Rattle.fd_bench.proofs.Benched.{bench_history, short_alone, without_library, one_bench}
+use Rattle.fd_bench.proofs.Alone.{agrees_held}
+use Rattle.fd_bench.proofs.Benched.{bench_history, none_failed, short_alone, without_library, one_bench}
 use Rattle.fd_bench.proofs.benching.bench.Goals as goal
 
 pub returns-in_default-clause-run : goal.returns-in_default-clause-run
@@ -25,11 +26,17 @@ returns-clause-run g c =
     let files = feeder_files c.args.number c.args.sections in
     let script = remaining files c.in-Ok-open.session in
     let told = c.new-lib.ensures.holds ∙ ap (λ entries. Some (from_entries entries)) c.in-Ok.ensures in
-    without_library _ _ g.S.Sink.taken g.S.Sink.calls c.new-lib.result c.run_script.new.lib c.args.out.now
+    let agrees = agrees_held _ _ files c.new-lib.result c.run_script.new.lib told c.run_script.ensures.untold.later in
+    without_library _ g.S.Sink.taken g.S.Sink.calls c.new-lib.result c.run_script.new.lib c.args.out.now
     c.run_script.new.out (λ h. IsFrom IsBenchStep no_bench_name IsBenchLast (λ n. held files (bytes n)) (record {
       left = said_in script;
       end = end_in script;
       state = c.new-line.result;
     }) h) (λ h. IsBenchHistory c.args.number c.args.sections h) (bench_history c.said_law.ensures c.args.number
     c.args.sections script c.new-line.result (c.in-Ok-open.ensures.script files) c.new-line.ensures)
-    c.run_script.result (λ rose. omega (arith, rose)) (c.run_script.ensures.run files told)
+    c.run_script.result (none_failed _ _ c.run_script.new.lib.unfailing) (c.run_script.ensures.run files agrees)
+
+pub returns-clause-read : goal.returns-clause-read
+returns-clause-read g c four =
+    let end = c.run_script.ensures.untold.last four in
+    none_failed _ _ c.run_script.new.lib.unfailing (bytes end.name, end.asks)

@@ -1,5 +1,7 @@
-use Rattle.std.proofs.Common.{◌∙◌, Some, None, Ok, Err, refl, sym, subst, arith}
+use Rattle.std.proofs.Common.{Some, None, Ok, Err, refl, sym, subst, arith}
+use Rattle.fd_outside.specs.Answers.{names_asked}
 use Rattle.fd_outside.specs.Files.{held}
+use Rattle.fd_outside.proofs.CallerLemmas.{agrees_before, agrees_behind, failed_behind, later_then}
 use Rattle.dss_model.specs.Names.{bytes}
 use Rattle.dss_script.specs.Said.{ScriptEnd, end_in, said_in}
 use Rattle.dss_script.specs.Sessions.{remaining}
@@ -9,14 +11,12 @@ use Rattle.fd_solving.proofs.script.run_script.Goals as goal
 
 pub loop-command-init : goal.loop-command-init
 loop-command-init g c = record {
-  holds = refl;
-  later = omega arith;
   sink = omega arith;
   room = c.requires;
-  shown = shown_nothing g.L.Library.faults g.L.Library.asked g.S.Sink.faults g.S.Sink.taken g.S.Sink.calls c.args.lib.now c.args.out.now;
+  shown = shown_nothing g.L.Library.answers g.L.Library.holds g.S.Sink.faults g.S.Sink.taken g.S.Sink.calls c.args.lib.now c.args.out.now;
   told = λ files told.
       at_start g.T.Line.is_step g.T.Line.last_name g.T.Line.is_last g.T.Line.good g.T.Line.style
-      (λ n. held files (bytes n)) g.L.Library.faults g.L.Library.asked g.S.Sink.taken g.S.Sink.calls _ c.args.lib.now
+      (λ n. held files (bytes n)) g.L.Library.answers g.S.Sink.taken g.S.Sink.calls _ c.args.lib.now
       c.args.out.now (said_in (remaining files c.args.session.now)) (end_in (remaining files c.args.session.now))
       c.args.line.now refl;
 }
@@ -27,26 +27,30 @@ take-requires g c = let paid = rw c.in-Ok-Some.field-0-is at c.in-Ok-Some.ensure
 pub returns-in-Some-clause-run : goal.returns-in-Some-clause-run
 returns-in-Some-clause-run g c files told =
     let kept = c.loop-command.invariant in
-    let told_now = kept.holds ∙ told in
+    let told_then = agrees_before g.L.Library.answers g.L.Library.holds files c.args.lib.now c.loop-command.lib
+    c.next.new.lib c.next.ensures.later told in
+    let told_now = agrees_behind g.L.Library.answers g.L.Library.holds files c.args.lib.now c.loop-command.lib
+    c.next.new.lib kept.shown.later told in
     let gives = gives_next c.said_law.ensures files (remaining files c.loop-command.session) c.next.new.self
-    (g.L.Library.asked c.loop-command.lib) (g.L.Library.asked c.next.new.lib) (Ok (Some c.in-Ok-Some.command))
+    (names_asked (g.L.Library.answers c.loop-command.lib))
+    (names_asked (g.L.Library.answers c.next.new.lib)) (Ok (Some c.in-Ok-Some.command))
     (rw c.in-Ok-Some.field-0-is at (c.in-Ok-Some.ensures.told files told_now))
     (c.in-Ok-Some.ensures.asked files told_now) in
     let at = at_asked g.T.Line.is_step g.T.Line.last_name g.T.Line.is_last g.T.Line.good g.T.Line.style
-    (λ n. held files (bytes n)) g.L.Library.faults g.L.Library.asked g.S.Sink.taken g.S.Sink.calls _ c.args.lib.now
+    (λ n. held files (bytes n)) g.L.Library.answers g.S.Sink.taken g.S.Sink.calls _ c.args.lib.now
     c.args.out.now c.law.ensures.one_step c.law.ensures.one_last c.law.ensures.fits _ _ _ _ _ _ _ _
-    (kept.told files told) gives.0 in
+    (kept.told files told_then) gives.0 in
     ends_command g.T.Line.is_step g.T.Line.last_name g.T.Line.is_last g.T.Line.good g.T.Line.style
-    (λ n. held files (bytes n)) g.L.Library.faults g.L.Library.asked g.S.Sink.taken g.S.Sink.calls _ c.args.lib.now
+    (λ n. held files (bytes n)) g.L.Library.answers g.S.Sink.taken g.S.Sink.calls _ c.args.lib.now
     c.args.out.now c.law.ensures.one_step c.law.ensures.one_last c.law.ensures.fits
     _ _ _ _ _ _ _ _ _ at c.in-Some.ensures.ends
 
 pub returns-in-Some-clause-untold : goal.returns-in-Some-clause-untold
 returns-in-Some-clause-untold g c =
     let kept = c.loop-command.invariant in
-    untold_fault g.L.Library.faults g.L.Library.asked g.S.Sink.faults g.S.Sink.taken g.S.Sink.calls c.args.lib.now
+    untold_fault g.L.Library.answers g.L.Library.holds g.S.Sink.faults g.S.Sink.taken g.S.Sink.calls c.args.lib.now
     c.loop-command.lib c.next.new.lib c.args.out.now c.loop-command.out c.take.new.out c.in-Some.status kept.shown
-    c.next.ensures.grows (command_answers g.S.Sink.taken g.S.Sink.calls g.T.Line.style g.T.Line.good _
+    c.next.ensures.later (command_answers g.S.Sink.taken g.S.Sink.calls g.T.Line.style g.T.Line.good _
     c.loop-command.out c.take.new.out _ c.in-Some.status c.in-Some.ensures.ends)
     c.in-Some.ensures.usage c.in-Some.ensures.read (λ five.
     let rose = c.in-Some.ensures.write five in omega (arith, rose, kept.sink))
@@ -55,32 +59,34 @@ pub loop-command-preserved : goal.loop-command-preserved
 loop-command-preserved g c =
     let kept = c.loop-command.invariant in
     record {
-      holds = c.next.ensures.holds ∙ kept.holds;
-      later = omega (arith, kept.later, c.next.ensures.cause.later);
       sink = omega (arith, kept.sink, c.take.ensures.later);
       room = (let paid = rw c.in-Ok-Some.field-0-is at c.in-Ok-Some.ensures.room in
           let took = c.in_default.ensures.room refl in
           omega (arith, kept.room, paid, took));
-      shown = shown_more g.L.Library.faults g.L.Library.asked g.S.Sink.faults g.S.Sink.taken g.S.Sink.calls
+      shown = shown_more g.L.Library.answers g.L.Library.holds g.S.Sink.faults g.S.Sink.taken g.S.Sink.calls
           c.args.lib.now c.loop-command.lib c.next.new.lib c.args.out.now c.loop-command.out c.take.new.out _
-          kept.shown c.next.ensures.grows (c.in_default.ensures.goes refl).wrote;
+          kept.shown c.next.ensures.later (c.in_default.ensures.goes refl).wrote;
       told = λ files told.
-          let told_now = kept.holds ∙ told in
+          let told_then = agrees_before g.L.Library.answers g.L.Library.holds files c.args.lib.now c.loop-command.lib
+          c.next.new.lib c.next.ensures.later told in
+          let told_now = agrees_behind g.L.Library.answers g.L.Library.holds files c.args.lib.now c.loop-command.lib
+          c.next.new.lib kept.shown.later told in
           let gives = gives_next c.said_law.ensures files (remaining files c.loop-command.session) c.next.new.self
-          (g.L.Library.asked c.loop-command.lib) (g.L.Library.asked c.next.new.lib) (Ok (Some c.in-Ok-Some.command))
+          (names_asked (g.L.Library.answers c.loop-command.lib))
+          (names_asked (g.L.Library.answers c.next.new.lib)) (Ok (Some c.in-Ok-Some.command))
           (rw c.in-Ok-Some.field-0-is at (c.in-Ok-Some.ensures.told files told_now))
           (c.in-Ok-Some.ensures.asked files told_now) in
           let at = at_asked g.T.Line.is_step g.T.Line.last_name g.T.Line.is_last g.T.Line.good g.T.Line.style
-          (λ n. held files (bytes n)) g.L.Library.faults g.L.Library.asked g.S.Sink.taken g.S.Sink.calls _
+          (λ n. held files (bytes n)) g.L.Library.answers g.S.Sink.taken g.S.Sink.calls _
           c.args.lib.now c.args.out.now c.law.ensures.one_step c.law.ensures.one_last c.law.ensures.fits
-          _ _ _ _ _ _ _ _ (kept.told files told) gives.0 in
+          _ _ _ _ _ _ _ _ (kept.told files told_then) gives.0 in
           let then = at_command g.T.Line.is_step g.T.Line.last_name g.T.Line.is_last g.T.Line.good g.T.Line.style
-          (λ n. held files (bytes n)) g.L.Library.faults g.L.Library.asked g.S.Sink.taken g.S.Sink.calls _
+          (λ n. held files (bytes n)) g.L.Library.answers g.S.Sink.taken g.S.Sink.calls _
           c.args.lib.now c.args.out.now c.law.ensures.one_step c.law.ensures.one_last c.law.ensures.fits
           _ _ _ _ _ _ _ _ _ _ at (c.in_default.ensures.goes refl) in
           let P : ScriptEnd → Type 0 = λ e.
           At g.T.Line.is_step g.T.Line.last_name g.T.Line.is_last g.T.Line.good g.T.Line.style
-          (λ n. held files (bytes n)) g.L.Library.faults g.L.Library.asked g.S.Sink.taken g.S.Sink.calls (record {
+          (λ n. held files (bytes n)) g.L.Library.answers g.S.Sink.taken g.S.Sink.calls (record {
             left = said_in (remaining files c.args.session.now);
             end = end_in (remaining files c.args.session.now);
             state = c.args.line.now;
@@ -92,103 +98,128 @@ loop-command-preserved g c =
 pub returns-in-Ok-None-clause-run : goal.returns-in-Ok-None-clause-run
 returns-in-Ok-None-clause-run g c files told =
     let kept = c.loop-command.invariant in
-    let told_now = kept.holds ∙ told in
+    let later = later_then g.L.Library.answers g.L.Library.holds c.args.lib.now c.loop-command.lib c.next.new.lib
+    kept.shown.later c.next.ensures.later in
+    let told_mid = agrees_before g.L.Library.answers g.L.Library.holds files c.args.lib.now c.next.new.lib
+    c.finish.new.lib c.finish.ensures.untold.later told in
+    let told_then = agrees_before g.L.Library.answers g.L.Library.holds files c.args.lib.now c.loop-command.lib
+    c.next.new.lib c.next.ensures.later told_mid in
+    let told_now = agrees_behind g.L.Library.answers g.L.Library.holds files c.args.lib.now c.loop-command.lib
+    c.next.new.lib kept.shown.later told_mid in
     let gives = gives_next c.said_law.ensures files (remaining files c.loop-command.session) c.next.new.self
-    (g.L.Library.asked c.loop-command.lib) (g.L.Library.asked c.next.new.lib) (Ok None)
+    (names_asked (g.L.Library.answers c.loop-command.lib)) (names_asked (g.L.Library.answers c.next.new.lib)) (Ok None)
     (rw c.in-Ok-None.field-0-is at (c.in-Ok-None.ensures.told files told_now))
     (c.in-Ok-None.ensures.asked files told_now) in
     ends_finished g.T.Line.is_step g.T.Line.last_name g.T.Line.is_last g.T.Line.good g.T.Line.style
-    (λ n. held files (bytes n)) g.L.Library.faults g.L.Library.asked g.S.Sink.taken g.S.Sink.calls _ c.args.lib.now
-    c.args.out.now c.law.ensures.one_step c.law.ensures.one_last c.law.ensures.fits _ _ _ _ _ _ _ _ _ _
-    (kept.told files told) gives (omega (arith, kept.later, c.next.ensures.cause.later))
-    (c.finish.ensures.told files (c.next.ensures.holds ∙ told_now))
+    (λ n. held files (bytes n)) g.L.Library.answers g.S.Sink.taken g.S.Sink.calls _ c.args.lib.now
+    c.args.out.now c.law.ensures.one_step c.law.ensures.one_last c.law.ensures.fits _ _ _ _ _ _ _ later.since _ _ _
+    (kept.told files told_then) gives later.told
+    (c.finish.ensures.told files (agrees_behind g.L.Library.answers g.L.Library.holds files c.args.lib.now
+    c.next.new.lib c.finish.new.lib later told))
 
 pub returns-in-Ok-None-clause-untold : goal.returns-in-Ok-None-clause-untold
 returns-in-Ok-None-clause-untold g c =
     let kept = c.loop-command.invariant in
-    untold_finished g.L.Library.faults g.L.Library.asked g.S.Sink.faults g.S.Sink.taken g.S.Sink.calls c.args.lib.now
+    untold_finished g.L.Library.answers g.L.Library.holds g.S.Sink.faults g.S.Sink.taken g.S.Sink.calls c.args.lib.now
     c.loop-command.lib c.next.new.lib c.finish.new.lib c.args.out.now c.loop-command.out c.finish.new.out
-    c.finish.result kept.shown c.next.ensures.grows (omega (arith, kept.later, c.next.ensures.cause.later)) kept.sink
+    c.finish.result kept.shown c.next.ensures.later kept.sink
     c.finish.ensures.untold
 
 pub returns-in-Err-Script-clause-run : goal.returns-in-Err-Script-clause-run
 returns-in-Err-Script-clause-run g c files told =
     let kept = c.loop-command.invariant in
-    let told_now = kept.holds ∙ told in
+    let told_then = agrees_before g.L.Library.answers g.L.Library.holds files c.args.lib.now c.loop-command.lib
+    c.next.new.lib c.next.ensures.later told in
+    let told_now = agrees_behind g.L.Library.answers g.L.Library.holds files c.args.lib.now c.loop-command.lib
+    c.next.new.lib kept.shown.later told in
     let gives = gives_next c.said_law.ensures files (remaining files c.loop-command.session) c.next.new.self
-    (g.L.Library.asked c.loop-command.lib) (g.L.Library.asked c.next.new.lib)
+    (names_asked (g.L.Library.answers c.loop-command.lib))
+    (names_asked (g.L.Library.answers c.next.new.lib))
     (Err (session.Script c.in-Err-Script.place c.in-Err-Script.cause))
     (rw c.in-Err-Script.field-0-is at (c.in-Err-Script.ensures.told files told_now))
     (rw c.in-Err-Script.field-0-is at (c.in-Err-Script.ensures.asked files told_now)) in
     ends_refused g.T.Line.is_step g.T.Line.last_name g.T.Line.is_last g.T.Line.good g.T.Line.style
-    (λ n. held files (bytes n)) g.L.Library.faults g.L.Library.asked g.S.Sink.taken g.S.Sink.calls _ c.args.lib.now
+    (λ n. held files (bytes n)) g.L.Library.answers g.S.Sink.taken g.S.Sink.calls _ c.args.lib.now
     c.args.out.now c.law.ensures.one_step c.law.ensures.one_last c.law.ensures.fits _ _ _ _ _ _ _ _ _ _ _
-    (kept.told files told) gives c.print_fault.ensures.prints
+    (kept.told files told_then) gives c.print_fault.ensures.prints
 
 pub returns-in-Err-Script-clause-untold : goal.returns-in-Err-Script-clause-untold
 returns-in-Err-Script-clause-untold g c =
     let kept = c.loop-command.invariant in
-    untold_refused g.L.Library.faults g.L.Library.asked g.S.Sink.faults g.S.Sink.taken g.S.Sink.calls c.args.lib.now
+    untold_refused g.L.Library.answers g.L.Library.holds g.S.Sink.faults g.S.Sink.taken g.S.Sink.calls c.args.lib.now
     c.loop-command.lib c.next.new.lib c.args.out.now c.loop-command.out c.print_fault.new.out c.in-Err-Script.place
-    c.in-Err-Script.cause c.print_fault.result kept.shown c.next.ensures.grows c.print_fault.ensures.prints
+    c.in-Err-Script.cause c.print_fault.result kept.shown c.next.ensures.later c.print_fault.ensures.prints
     (λ five. let rose = c.print_fault.ensures.write five in omega (arith, rose, kept.sink))
 
 pub returns-in-Err-Read-clause-run : goal.returns-in-Err-Read-clause-run
 returns-in-Err-Read-clause-run g c files told =
     let kept = c.loop-command.invariant in
-    let rose = (rw c.in-Err-Read.field-0-is at c.in-Err-Read.ensures.cause.rose) tt in
-    let told_now = kept.holds ∙ told in
+    let told_then = agrees_before g.L.Library.answers g.L.Library.holds files c.args.lib.now c.loop-command.lib
+    c.next.new.lib c.next.ensures.later told in
+    let told_now = agrees_behind g.L.Library.answers g.L.Library.holds files c.args.lib.now c.loop-command.lib
+    c.next.new.lib kept.shown.later told in
+    let last = rw c.in-Err-Read.field-0-is at c.in-Err-Read.ensures.last in
     let gives = gives_next c.said_law.ensures files (remaining files c.loop-command.session) c.next.new.self
-    (g.L.Library.asked c.loop-command.lib) (g.L.Library.asked c.next.new.lib) (Err (session.Read c.in-Err-Read.name))
+    (names_asked (g.L.Library.answers c.loop-command.lib))
+    (names_asked (g.L.Library.answers c.next.new.lib)) (Err (session.Read c.in-Err-Read.name))
     tt (rw c.in-Err-Read.field-0-is at (c.in-Err-Read.ensures.asked files told_now)) in
     ends_unread g.T.Line.is_step g.T.Line.last_name g.T.Line.is_last g.T.Line.good g.T.Line.style
-    (λ n. held files (bytes n)) g.L.Library.faults g.L.Library.asked g.S.Sink.taken g.S.Sink.calls _ c.args.lib.now
+    (λ n. held files (bytes n)) g.L.Library.answers g.S.Sink.taken g.S.Sink.calls _ c.args.lib.now
     c.args.out.now c.law.ensures.one_step c.law.ensures.one_last c.law.ensures.fits _ _ _ _ _ _ _ _ _ _
-    (kept.told files told) gives c.print_fault-in-Err-Read.ensures.prints (omega (arith, rose, kept.later))
+    (kept.told files told_then) gives c.print_fault-in-Err-Read.ensures.prints
+    (failed_behind (g.L.Library.answers c.args.lib.now) (g.L.Library.answers c.loop-command.lib)
+    (g.L.Library.answers c.next.new.lib) kept.shown.later.since kept.shown.later.told (bytes c.in-Err-Read.name, last))
 
 pub returns-in-Err-Read-clause-untold : goal.returns-in-Err-Read-clause-untold
 returns-in-Err-Read-clause-untold g c =
     let kept = c.loop-command.invariant in
-    let rose = (rw c.in-Err-Read.field-0-is at c.in-Err-Read.ensures.cause.rose) tt in
     let last = rw c.in-Err-Read.field-0-is at c.in-Err-Read.ensures.last in
-    untold_read g.L.Library.faults g.L.Library.asked g.S.Sink.faults g.S.Sink.taken g.S.Sink.calls c.args.lib.now
+    untold_read g.L.Library.answers g.L.Library.holds g.S.Sink.faults g.S.Sink.taken g.S.Sink.calls c.args.lib.now
     c.loop-command.lib c.next.new.lib c.args.out.now c.loop-command.out c.print_fault-in-Err-Read.new.out
-    c.in-Err-Read.name c.print_fault-in-Err-Read.result kept.shown c.next.ensures.grows last
-    c.print_fault-in-Err-Read.ensures.prints (omega (arith, rose, kept.later)) (λ five.
+    c.in-Err-Read.name c.print_fault-in-Err-Read.result kept.shown c.next.ensures.later last
+    c.print_fault-in-Err-Read.ensures.prints (λ five.
     let up = c.print_fault-in-Err-Read.ensures.write five in omega (arith, up, kept.sink))
 
 pub returns-in-Err-Ended-clause-run : goal.returns-in-Err-Ended-clause-run
 returns-in-Err-Ended-clause-run g c files told =
     let kept = c.loop-command.invariant in
-    let told_now = kept.holds ∙ told in
+    let told_then = agrees_before g.L.Library.answers g.L.Library.holds files c.args.lib.now c.loop-command.lib
+    c.next.new.lib c.next.ensures.later told in
+    let told_now = agrees_behind g.L.Library.answers g.L.Library.holds files c.args.lib.now c.loop-command.lib
+    c.next.new.lib kept.shown.later told in
     let gives = gives_next c.said_law.ensures files (remaining files c.loop-command.session) c.next.new.self
-    (g.L.Library.asked c.loop-command.lib) (g.L.Library.asked c.next.new.lib) (Err session.Ended) tt
+    (names_asked (g.L.Library.answers c.loop-command.lib))
+    (names_asked (g.L.Library.answers c.next.new.lib)) (Err session.Ended) tt
     (rw c.in-Err-Ended.field-0-is at (c.in-Err-Ended.ensures.asked files told_now)) in
     ends_short g.T.Line.is_step g.T.Line.last_name g.T.Line.is_last g.T.Line.good g.T.Line.style
-    (λ n. held files (bytes n)) g.L.Library.faults g.L.Library.asked g.S.Sink.taken g.S.Sink.calls _ c.args.lib.now
+    (λ n. held files (bytes n)) g.L.Library.answers g.S.Sink.taken g.S.Sink.calls _ c.args.lib.now
     c.args.out.now c.law.ensures.one_step c.law.ensures.one_last c.law.ensures.fits _ _ _ _ _ _ _
-    (kept.told files told) gives
+    (kept.told files told_then) gives
 
 pub returns-in-Err-Ended-clause-untold : goal.returns-in-Err-Ended-clause-untold
 returns-in-Err-Ended-clause-untold g c =
     let kept = c.loop-command.invariant in
-    untold_short g.L.Library.faults g.L.Library.asked g.S.Sink.faults g.S.Sink.taken g.S.Sink.calls c.args.lib.now
-    c.loop-command.lib c.next.new.lib c.args.out.now c.loop-command.out kept.shown c.next.ensures.grows
+    untold_short g.L.Library.answers g.L.Library.holds g.S.Sink.faults g.S.Sink.taken g.S.Sink.calls c.args.lib.now
+    c.loop-command.lib c.next.new.lib c.args.out.now c.loop-command.out kept.shown c.next.ensures.later
 
 pub returns-in-Err-NoMemory-clause-run : goal.returns-in-Err-NoMemory-clause-run
 returns-in-Err-NoMemory-clause-run g c files told =
     let kept = c.loop-command.invariant in
-    let told_now = kept.holds ∙ told in
+    let told_then = agrees_before g.L.Library.answers g.L.Library.holds files c.args.lib.now c.loop-command.lib
+    c.next.new.lib c.next.ensures.later told in
+    let told_now = agrees_behind g.L.Library.answers g.L.Library.holds files c.args.lib.now c.loop-command.lib
+    c.next.new.lib kept.shown.later told in
     let gives = gives_next c.said_law.ensures files (remaining files c.loop-command.session) c.next.new.self
-    (g.L.Library.asked c.loop-command.lib) (g.L.Library.asked c.next.new.lib) (Err session.NoMemory) tt
+    (names_asked (g.L.Library.answers c.loop-command.lib))
+    (names_asked (g.L.Library.answers c.next.new.lib)) (Err session.NoMemory) tt
     (rw c.in-Err-NoMemory.field-0-is at (c.in-Err-NoMemory.ensures.asked files told_now)) in
     ends_short g.T.Line.is_step g.T.Line.last_name g.T.Line.is_last g.T.Line.good g.T.Line.style
-    (λ n. held files (bytes n)) g.L.Library.faults g.L.Library.asked g.S.Sink.taken g.S.Sink.calls _ c.args.lib.now
+    (λ n. held files (bytes n)) g.L.Library.answers g.S.Sink.taken g.S.Sink.calls _ c.args.lib.now
     c.args.out.now c.law.ensures.one_step c.law.ensures.one_last c.law.ensures.fits _ _ _ _ _ _ _
-    (kept.told files told) gives
+    (kept.told files told_then) gives
 
 pub returns-in-Err-NoMemory-clause-untold : goal.returns-in-Err-NoMemory-clause-untold
 returns-in-Err-NoMemory-clause-untold g c =
     let kept = c.loop-command.invariant in
-    untold_short g.L.Library.faults g.L.Library.asked g.S.Sink.faults g.S.Sink.taken g.S.Sink.calls c.args.lib.now
-    c.loop-command.lib c.next.new.lib c.args.out.now c.loop-command.out kept.shown c.next.ensures.grows
+    untold_short g.L.Library.answers g.L.Library.holds g.S.Sink.faults g.S.Sink.taken g.S.Sink.calls c.args.lib.now
+    c.loop-command.lib c.next.new.lib c.args.out.now c.loop-command.out kept.shown c.next.ensures.later

@@ -1,4 +1,5 @@
-use Rattle.std.proofs.Common.{◌≡◌, ◌≤◌, ◌+◌, Some}
+use Rattle.std.proofs.Common.{◌≤◌, ◌+◌}
+use Rattle.fd_outside.specs.Answers.{AgreesSince}
 use Rattle.fd_outside.specs.Files.{Files, held}
 use Rattle.dss_model.specs.Names.{bytes}
 use Rattle.dss_script.specs.Said.{end_in, said_in}
@@ -8,14 +9,12 @@ use Rattle.fd_solving.proofs.script.run_script.Given as goal
 
 abbrev pub invariant-loop-command : goal.invariant-loop-command
 invariant-loop-command g l = record {
-  holds : g.L.Library.holds l.lib ≡ g.L.Library.holds l.initial.lib;
-  later : g.L.Library.faults l.initial.lib ≤ g.L.Library.faults l.lib;
   sink : g.S.Sink.faults l.initial.out ≤ g.S.Sink.faults l.out;
   room : g.T.Line.weight l.line + room l.session ≤ 1_048_578;
-  shown : Shown g.L.Library.asked g.S.Sink.taken g.S.Sink.calls l.initial.lib l.lib l.initial.out l.out;
-  told : (files : Files) → g.L.Library.holds l.initial.lib ≡ Some files
+  shown : Shown g.L.Library.answers g.L.Library.holds g.S.Sink.taken g.S.Sink.calls l.initial.lib l.lib l.initial.out l.out;
+  told : (files : Files) → AgreesSince files (g.L.Library.answers l.initial.lib) (g.L.Library.answers l.lib)
       → At g.T.Line.is_step g.T.Line.last_name g.T.Line.is_last g.T.Line.good g.T.Line.style
-      (λ n. held files (bytes n)) g.L.Library.faults g.L.Library.asked g.S.Sink.taken g.S.Sink.calls (record {
+      (λ n. held files (bytes n)) g.L.Library.answers g.S.Sink.taken g.S.Sink.calls (record {
         left = said_in (remaining files l.initial.session);
         end = end_in (remaining files l.initial.session);
         state = l.initial.line;

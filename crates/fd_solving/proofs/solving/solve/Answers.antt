@@ -12,13 +12,13 @@ use Rattle.fd_solving.proofs.solving.solve.Goals as goal
 
 pub returns-in_default-clause-run : goal.returns-in_default-clause-run
 returns-in_default-clause-run g c files told =
-    not_begun IsStep no_name IsDoneThere IsSolved g.P.Page.style g.L.Library.faults g.L.Library.asked g.S.Sink.taken
+    not_begun IsStep no_name IsDoneThere IsSolved g.P.Page.style g.L.Library.answers g.S.Sink.taken
     g.S.Sink.calls files (chars c.args.file.now) first_standing one_step (λ s found. exactly_this (finishes []))
     c.law.ensures.names c.args.lib.now c.args.out.now
 
 pub returns-in_default-clause-untold : goal.returns-in_default-clause-untold
 returns-in_default-clause-untold g c =
-    untold_first g.L.Library.faults g.L.Library.asked g.S.Sink.faults g.S.Sink.taken g.S.Sink.calls c.args.lib.now
+    untold_first g.L.Library.answers g.L.Library.holds g.S.Sink.faults g.S.Sink.taken g.S.Sink.calls c.args.lib.now
     c.args.out.now
 
 pub run_script-requires : goal.run_script-requires
@@ -26,7 +26,7 @@ run_script-requires g c = rw (c.new-standing.ensures, c.in-Ok.ensures.start) ome
 
 pub returns-clause-run : goal.returns-clause-run
 returns-clause-run g c files told =
-    of_script IsStep no_name IsDoneThere IsSolved g.P.Page.style g.L.Library.faults g.L.Library.asked g.S.Sink.taken
+    of_script IsStep no_name IsDoneThere IsSolved g.P.Page.style g.L.Library.answers g.S.Sink.taken
     g.S.Sink.calls files (chars c.args.file.now) first_standing c.said_law.ensures (remaining files c.in-Ok.session)
     c.new-standing.result c.args.lib.now c.run_script.new.lib c.args.out.now c.run_script.new.out c.run_script.result
     (c.in-Ok.ensures.script files) c.new-standing.ensures (c.run_script.ensures.run files told)

@@ -1,16 +1,15 @@
-use Rattle.std.proofs.Common.{◌≡◌, Some, ◌≤◌}
+use Rattle.std.proofs.Common.{◌≤◌}
+use Rattle.fd_outside.specs.Answers.{AgreesSince, IsLater, names_asked}
 use Rattle.fd_outside.specs.Files.{Files}
-use Rattle.dss_script.specs.Sessions.{Reached, GrowsSome, remaining, room, left}
+use Rattle.dss_script.specs.Sessions.{Reached, remaining, room, left}
 use Rattle.dss_script.proofs.session.Session.go_on.Given as goal
 
 abbrev pub invariant-loop-place : goal.invariant-loop-place
 invariant-loop-place g l = record {
-  holds : g.L.Library.holds l.lib ≡ g.L.Library.holds l.initial.lib;
-  reached : (files : Files) → g.L.Library.holds l.initial.lib ≡ Some files
-      → Reached (remaining files l.initial.self) (remaining files l.self) (g.L.Library.asked l.initial.lib)
-      (g.L.Library.asked l.lib);
-  some : GrowsSome (g.L.Library.asked l.initial.lib) (g.L.Library.asked l.lib);
-  faults : g.L.Library.faults l.initial.lib ≤ g.L.Library.faults l.lib;
+  later : IsLater g.L.Library.answers g.L.Library.holds l.initial.lib l.lib;
+  reached : (files : Files) → AgreesSince files (g.L.Library.answers l.initial.lib) (g.L.Library.answers l.lib)
+      → Reached (remaining files l.initial.self) (remaining files l.self)
+      (names_asked (g.L.Library.answers l.initial.lib)) (names_asked (g.L.Library.answers l.lib));
   room : room l.self ≤ room l.initial.self;
 }
 

@@ -15,18 +15,18 @@ use Rattle.fd_bench.proofs.benching.BenchStateLine.finish.Goals as goal
 pub returns-in_default-clause-told : goal.returns-in_default-clause-told
 returns-in_default-clause-told g c files told =
     let text = tally_text c.self.inside.sections c.self.inside.tally in
-    let done = bench_finishes g.L.Library.faults g.L.Library.asked g.S.Sink.taken g.S.Sink.calls c.args._lib.now
+    let done = bench_finishes g.L.Library.answers g.S.Sink.taken g.S.Sink.calls c.args._lib.now
     c.args.out.now c.args.out.now c.args._begun text 1 (printed_cut g.S.Sink.taken g.S.Sink.calls c.args.out.now
     c.args.out.now _ None 1 (cut_before g.S.Sink.taken g.S.Sink.calls c.args.out.now _)) in
     subst (λ (v : BenchView).
-    Finishes lines_of_text IsSolved (λ h. h ≡ finishes (line (tally_text v.sections v.tally) ∷ [])) g.L.Library.faults
-    g.L.Library.asked g.S.Sink.taken g.S.Sink.calls c.args._lib.now c.args._lib.now c.args.out.now c.args.out.now
+    Finishes lines_of_text IsSolved (λ h. h ≡ finishes (line (tally_text v.sections v.tally) ∷ []))
+    g.L.Library.answers g.S.Sink.taken g.S.Sink.calls c.args._lib.now c.args._lib.now c.args.out.now c.args.out.now
     c.args._begun 1)
     c.self.view_is done
 
 pub returns-in_default-clause-untold : goal.returns-in_default-clause-untold
 returns-in_default-clause-untold g c =
-    untold_first g.L.Library.faults g.L.Library.asked g.S.Sink.faults g.S.Sink.taken g.S.Sink.calls c.args._lib.now
+    untold_first g.L.Library.answers g.L.Library.holds g.S.Sink.faults g.S.Sink.taken g.S.Sink.calls c.args._lib.now
     c.args.out.now
 
 pub returns-clause-told : goal.returns-clause-told
@@ -35,15 +35,15 @@ returns-clause-told g c files told =
     let printed = printed_as g.S.Sink.taken g.S.Sink.calls c.args.out.now c.print_end.new.out _
     (last_calls lines_of_text c.args._begun (line text ∷ []) None) None c.print_end.result
     (ap (λ t. writes t ∷ []) c.in-Ok.ensures ∙ last_line c.args._begun text) c.print_end.ensures.prints in
-    let done = bench_finishes g.L.Library.faults g.L.Library.asked g.S.Sink.taken g.S.Sink.calls c.args._lib.now
+    let done = bench_finishes g.L.Library.answers g.S.Sink.taken g.S.Sink.calls c.args._lib.now
     c.args.out.now c.print_end.new.out c.args._begun text c.print_end.result printed in
     subst (λ (v : BenchView).
-    Finishes lines_of_text IsSolved (λ h. h ≡ finishes (line (tally_text v.sections v.tally) ∷ [])) g.L.Library.faults
-    g.L.Library.asked g.S.Sink.taken g.S.Sink.calls c.args._lib.now c.args._lib.now c.args.out.now c.print_end.new.out
-    c.args._begun c.print_end.result)
+    Finishes lines_of_text IsSolved (λ h. h ≡ finishes (line (tally_text v.sections v.tally) ∷ []))
+    g.L.Library.answers g.S.Sink.taken g.S.Sink.calls c.args._lib.now c.args._lib.now c.args.out.now
+    c.print_end.new.out c.args._begun c.print_end.result)
     c.self.view_is done
 
 pub returns-clause-untold : goal.returns-clause-untold
 returns-clause-untold g c =
-    untold_last g.L.Library.faults g.L.Library.asked g.S.Sink.faults g.S.Sink.taken g.S.Sink.calls c.args._lib.now
+    untold_last g.L.Library.answers g.L.Library.holds g.S.Sink.faults g.S.Sink.taken g.S.Sink.calls c.args._lib.now
     c.args.out.now c.print_end.new.out _ c.print_end.result c.print_end.ensures.prints c.print_end.ensures.write

@@ -1,7 +1,0 @@
-use Rattle.std.proofs.Common.{◌≡◌, ◌++◌}
-use Rattle.std.specs.Vec.Iter.{into_iter_items}
-use Rattle.feeder.proofs.ending.words_of.Given as goal
-
--- the words so far and those that are still to come are those behind the program's name
-abbrev pub invariant-loop-word : goal.invariant-loop-word
-invariant-loop-word l = l.words.items ++ into_iter_items l.word-iterator ≡ into_iter_items l.initial.word-iterator
