@@ -6,17 +6,20 @@ use Rattle.std.proofs.lemmas.List.Elements.{All-get_or}
 use Rattle.std.proofs.lemmas.List.FromFn.{get_or-map-range_with_len, length-map-range_with_len}
 use Rattle.std.specs.Prelude.{pos, ◌*ℤ◌}
 use Rattle.fd_exact.specs.Fractions.{Fraction, Same}
-use Rattle.fd_exact.specs.States.{State, part}
+use Rattle.fd_exact.specs.States.{State, away, part}
 use Rattle.fd_system.specs.Meets.{Meets}
 use Rattle.fd_system.specs.Residual.{whole_state}
 use Rattle.fd_system.specs.System.{residual_of}
 use Rattle.fd_elements.specs.declared.powers.LoadPower.{LoadPower}
 use Rattle.fd_pattern.specs.Conditions.{IsPart}
 use Rattle.fd_equations.specs.Enclosure.{addend_count}
+use Rattle.fd_equations.specs.Weights.{weight_by}
+use Rattle.fd_pattern.specs.declared.layout.PlaceKind.{PlaceKind}
+use Rattle.fd_pattern.specs.declared.layout.PlaceKind.TheVariants.{Node, Branch, Magnitude}
 use Rattle.dss_layout.specs.Layout.{complex_count, layout_of, size_of}
 use Rattle.dss_circuit.specs.Circuit.{CircuitView}
-use Rattle.fd_enclosure.specs.Boxes.{half_width}
-use Rattle.fd_enclosure.specs.Encloses.{EnclosureLaw, IsAlternative, IsEnclosure}
+use Rattle.fd_enclosure.specs.Boxes.{IsInTrustBox, half_width, half_width_by}
+use Rattle.fd_enclosure.specs.Encloses.{EnclosureLaw, IsAlternative, IsEnclosure, IsWithinRadii}
 use Rattle.fd_enclosure.specs.Sound.{Claim, claim_of, mismatch_at, mismatches_of, number_at, radii_of, radius_in}
 use Rattle.fd_enclosure.specs.Ties.{BallLaw, IsTied, TieLaw}
 use Rattle.fd_enclosure.proofs.CallerLemmas.{claim_is}
@@ -29,7 +32,9 @@ use Rattle.fd_settle.specs.Plant.{network_at}
 use Rattle.fd_settle.specs.Start.{IsSoundAt}
 use Rattle.fd_outcome.specs.Pages.{solution_in}
 use Rattle.fd_settings.specs.Hours.{hour_powers}
-use Rattle.fd_solving.specs.Headline.{EnclosesOthers, EnclosesSizes, IsOtherState, IsSolution, equation_count, equations_of, hour_network}
+use Rattle.fd_sample.specs.Balls.{IsInBall}
+use Rattle.fd_solving.specs.Boxes.{IsInBox, box_at, box_by, kind_at}
+use Rattle.fd_solving.specs.Headline.{EnclosesOthers, EnclosesSizes, HaveOneBall, HasItsBox, IsOtherState, IsSolution, MeetsRound, equation_count, equations_of, hour_network}
 use Rattle.fd_outcome.specs.Settles.{round_of}
 use Rattle.fd_queue.specs.Machine.{Act}
 
@@ -62,6 +67,24 @@ network_complexes : (c : CircuitView) (powers : List LoadPower) (at : Positions)
 unfolding network_at
 network_complexes c powers at = refl
 
+-- ---- the box by the layout is that of the network
+
+box_by_kind : (kind : PlaceKind) (draw : ℕ) (centre : List ℤ) (place : ℕ)
+    → half_width_by kind (weight_by kind draw centre place) ≡ box_by kind centre place
+box_by_kind Node draw centre place = refl
+box_by_kind Branch draw centre place = refl
+box_by_kind Magnitude draw centre place = refl
+
+module _ (c : CircuitView) (powers : List LoadPower) (at : Positions) (centre : List ℤ) where
+  same_box : (place : ℕ) → half_width (network_at c powers at) centre place ≡ box_at (layout_of c.elements) centre place
+  unfolding network_at
+  same_box place = box_by_kind (kind_at (layout_of c.elements) place) (network_at c powers at).stamp.draw centre place
+
+  in_trust_box : (x : State) → IsInBox (layout_of c.elements) centre x → IsInTrustBox (network_at c powers at) centre x
+  unfolding network_at
+  in_trust_box x h place within free =
+      subst (λ w. nat_abs (away centre x place) ≤ x.over * w) (sym (same_box place)) (h place within free)
+
 -- ---- a round
 
 module _ (c : CircuitView) (hour : ℕ) (at : Positions) (m : Claim)
@@ -88,10 +111,27 @@ module _ (c : CircuitView) (hour : ℕ) (at : Positions) (m : Claim)
   -- a state of the round's ball that meets its mismatches is one that the certificate speaks of
   alternative : (y : State) → IsOtherState c hour at m y
       → IsAlternative (hour_network c hour at) m.centre m.mismatches y
-  alternative y a = record { over = a.over; inside = a.inside; meets = down (number_at m.mismatches) y a.over a.meets }
+  alternative y a = record {
+    over = a.over;
+    inside = in_trust_box c (hour_powers c.elements hour) at m.centre y a.inside;
+    meets = down (number_at m.mismatches) y a.over a.meets;
+  }
+
+  near : EnclosureLaw → (y : State) → IsOtherState c hour at m y → IsWithinRadii (hour_network c hour at) m.centre m.radii y
+  near law y a = (enclosed law).encloses y (alternative y a)
+
+  pub meets_round : EnclosureLaw → MeetsRound c hour at m (whole_state m.centre)
+  meets_round law = up (number_at m.mismatches) (whole_state m.centre) (omega arith) (enclosed law).meets
 
   pub others : EnclosureLaw → EnclosesOthers c hour at m
-  others law y a = (enclosed law).encloses y (alternative y a)
+  others law y a = record { over = a.over; within = λ i lt. near law y a i (subst (λ n. i < n) here.sound.centre.long lt) }
+
+  pub sizes_of_others : EnclosureLaw → EnclosesSizes c hour at m
+  sizes_of_others law y k other h =
+      let inside : k < (hour_network c hour at).complexes = omega (arith, h, network_complexes c (hour_powers c.elements hour) at) in
+      let close = near law y other in
+      sizes (solution_of m.centre m.radii m.boxes m.mismatches) y k
+      (close (2 * k) (omega (arith, inside, here.network.unknowns))) (close (2 * k + 1) (omega (arith, inside, here.network.unknowns)))
 
   pub is_of_size : (acts : List Act) → IsOfSize (size_of (layout_of c.elements)) (solution_in (round_of m acts))
   is_of_size acts =
@@ -140,30 +180,36 @@ module _ (c : CircuitView) (hour : ℕ) (at : Positions) (m : Claim)
         IsTied (equations_of c hour at (whole_state m.centre) l) (addend_count (hour_network c hour at).stamp l) e)
         (sym (own_mismatch l within)) tied
 
-    pair : BallLaw → (k : ℕ) → k < complex_count (layout_of c.elements)
-        → number_at m.radii (2 * k) ≡ number_at m.radii (2 * k + 1)
-    pair ball k h =
-        let inside : k < (hour_network c hour at).complexes = omega (arith, h, network_complexes c (hour_powers c.elements hour) at) in
-        own_radius (2 * k) (omega (arith, inside, here.network.unknowns))
-        ∙ (ball (hour_network c hour at) m.centre m.inverse (mismatches_of (hour_network c hour at) m.centre) k
-        here.network.nodes inside).radius
-        ∙ sym (own_radius (2 * k + 1) (omega (arith, inside, here.network.unknowns)))
+    own_box : (i : ℕ) → i < (hour_network c hour at).size → number_at m.boxes i ≡ half_width (hour_network c hour at) m.centre i
+    own_box i h =
+        ap (λ boxes. number_at boxes i) here.sound.boxes
+        ∙ get_or-map-range_with_len (half_width (hour_network c hour at) m.centre) 0 (hour_network c hour at).size i i 0 h (omega arith)
 
-    sizes_of_others : EnclosureLaw → EnclosesSizes c hour at m
-    sizes_of_others law y k other h =
+    its_box : HasItsBox c hour at m
+    its_box place h =
+        own_box place (omega (arith, h, network_size c (hour_powers c.elements hour) at))
+        ∙ same_box c (hour_powers c.elements hour) at m.centre place
+
+    one_ball : BallLaw → HaveOneBall c hour at m
+    one_ball ball k h =
         let inside : k < (hour_network c hour at).complexes = omega (arith, h, network_complexes c (hour_powers c.elements hour) at) in
-        let near = others law y other in
-        sizes (solution_of m.centre m.radii m.boxes m.mismatches) y k
-        (near (2 * k) (omega (arith, inside, here.network.unknowns))) (near (2 * k + 1) (omega (arith, inside, here.network.unknowns)))
+        let first : 2 * k < (hour_network c hour at).size = omega (arith, inside, here.network.unknowns) in
+        let second : 2 * k + 1 < (hour_network c hour at).size = omega (arith, inside, here.network.unknowns) in
+        let same = ball (hour_network c hour at) m.centre m.inverse (mismatches_of (hour_network c hour at) m.centre) k
+        here.network.nodes inside in (
+          own_radius (2 * k) first ∙ same.radius ∙ sym (own_radius (2 * k + 1) second),
+          own_box (2 * k) first ∙ same.box ∙ sym (own_box (2 * k + 1) second),
+        )
 
     pub is_solution : EnclosureLaw → TieLaw → BallLaw → IsSolution c hour at m
     is_solution law tie ball = record {
       state = computed.point;
       certificate = computed.certificate;
       sound = here.sound;
-      meets = up (number_at m.mismatches) (whole_state m.centre) (omega arith) (enclosed law).meets;
+      meets = meets_round law;
       encloses = others law;
       sizes = sizes_of_others law;
       tied = row_tied tie;
-      one_radius = pair ball;
+      boxes = its_box;
+      one_ball = one_ball ball;
     }

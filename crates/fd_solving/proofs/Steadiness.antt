@@ -16,7 +16,7 @@ use Rattle.fd_enclosure.specs.Sound.{Claim}
 use Rattle.fd_queue.specs.Controls.{Positions}
 use Rattle.fd_queue.specs.Decisions.{Decision}
 use Rattle.fd_queue.specs.Machine.{Machine}
-use Rattle.fd_sample.specs.Balls.{IsBall, IsInBall}
+use Rattle.fd_sample.specs.Balls.{IsBall}
 use Rattle.fd_sample.specs.Circuits.{probes_of}
 use Rattle.fd_sample.specs.Decided.{Undecided, sample_over}
 use Rattle.fd_sample.specs.Probes.{IsProbe, decision_at, quantity_at}
@@ -102,9 +102,6 @@ module _ (c : CircuitView) (hour : ℕ) where
     radii = All-from_get_or (λ n. n ≤ 2 ^ 40) m.radii 0 (λ i h. here.sound.radii_most i (subst (λ n. i < n) here.sound.radii_long h));
   }
 
-  in_ball : EnclosureLaw → (at : Positions) (m : Claim) (x : State) → IsHeld at m x → IsInBall m.centre m.radii x
-  in_ball law at m x h = record { over = h.0.over; within = λ i lt. others c hour at m h.1 law x h.0 i (subst (λ n. i < n) h.1.sound.centre.long lt) }
-
   module _ (ready : HasPassed c) (range : AllInRange c.elements) (keys : All IsEntry c.elements)
       (law : EnclosureLaw) where
     -- a decided sample over a round's ball is what its control wants at each state that may be chosen
@@ -116,7 +113,7 @@ module _ (c : CircuitView) (hour : ℕ) where
         let q = get_or (probes_of c.elements) i p in
         sample_wanted q at m.centre m.radii x d (subst (λ n. IsProbe n q) (sym long) (kept.places i p lt))
         (kept.devices at h.1.positions.counts.taps h.1.positions.counts.closed i p lt) h.1.positions.taps
-        (ball_of at m h.1) (in_ball law at m x h) is
+        (ball_of at m h.1) (others c hour at m h.1 law x h.0) is
 
     of_held : AreOfHeld IsHeld (look_over (controls_in c)) (look_at (controls_in c))
     of_held at m x ds h is =

@@ -13,8 +13,6 @@ use Rattle.fd_pattern.specs.Views.{NetworkView}
 use Rattle.fd_daily.specs.Hours.{time_of}
 use Rattle.fd_settings.specs.Hours.{hour_powers}
 use Rattle.fd_devices.specs.Scripted.{circuit_parts}
-use Rattle.fd_enclosure.specs.Boxes.{IsInTrustBox}
-use Rattle.fd_enclosure.specs.Encloses.{IsWithinRadii}
 use Rattle.fd_enclosure.specs.Sound.{Claim, IsSound, certificate_of, number_at}
 use Rattle.fd_enclosure.specs.Ties.{IsTied}
 use Rattle.fd_inject.specs.Procedure.{solution_of}
@@ -22,6 +20,7 @@ use Rattle.fd_queue.specs.Controls.{Positions}
 use Rattle.fd_queue.specs.Decisions.{Decision}
 use Rattle.fd_queue.specs.Machine.{Act, Machine}
 use Rattle.fd_report.specs.Enclosed.{IsSizeBetween}
+use Rattle.fd_sample.specs.Balls.{IsInBall}
 use Rattle.fd_report.specs.Solutions as printed
 use Rattle.fd_settle.specs.Chosen.{AreChosen}
 use Rattle.fd_settle.specs.Contract.{limits_of}
@@ -31,6 +30,7 @@ use Rattle.fd_settle.specs.Rounds.{AtEach}
 use Rattle.fd_settle.specs.Sampling.{Decided, look_at, look_over}
 use Rattle.fd_settle.specs.Settle.{settle_of}
 use Rattle.fd_outcome.specs.Settles.{Round, Settle, claim_in}
+use Rattle.fd_solving.specs.Boxes.{IsInBox, box_at}
 use Rattle.fd_daily.specs.Underway.{plant_at}
 
 -- at this hour, and these positions of taps and banks
@@ -57,12 +57,12 @@ module _ (circuit : CircuitView) (hour : ℕ) (at : Positions) where
   -- a state of any denominator in the trust box of a round that meets the round's mismatches
   pub record IsOtherState (m : Claim) (x : State) : Type 0 where
     pub over : 0 < x.over
-    pub inside : IsInTrustBox hour_network m.centre x
+    pub inside : IsInBox (layout_of circuit.elements) m.centre x
     pub meets : MeetsRound m x
 
   -- each of them is within the radii of the round's state
   abbrev pub EnclosesOthers : Claim → Type 0
-  EnclosesOthers m = (x : State) → IsOtherState m x → IsWithinRadii hour_network m.centre m.radii x
+  EnclosesOthers m = (x : State) → IsOtherState m x → IsInBall m.centre m.radii x
 
   -- the size of each voltage and of each current at each of them is from low to high; a node's record prints them
   abbrev pub EnclosesSizes : Claim → Type 0
@@ -84,14 +84,21 @@ module _ (circuit : CircuitView) (hour : ℕ) (at : Positions) where
       (l : ℕ) → l < equation_count
       → IsTied (equations_of (whole_state m.centre) l) (addend_count hour_network.stamp l) (number_at m.mismatches l)
 
-  -- both parts of a voltage and of a current have one radius
-  abbrev pub HaveOneRadius : Claim → Type 0
-  HaveOneRadius m = (k : ℕ) → k < complex_count (layout_of circuit.elements) → number_at m.radii (2 * k) ≡ number_at m.radii (2 * k + 1)
+  -- the box that is printed is that in which other states are looked at
+  abbrev pub HasItsBox : Claim → Type 0
+  HasItsBox m = (place : ℕ) → place < equation_count → number_at m.boxes place ≡ box_at (layout_of circuit.elements) m.centre place
+
+  -- both parts of a voltage and of a current have one radius and one box
+  abbrev pub HaveOneBall : Claim → Type 0
+  HaveOneBall m =
+      (k : ℕ) → k < complex_count (layout_of circuit.elements)
+      → (number_at m.radii (2 * k) ≡ number_at m.radii (2 * k + 1)) × (number_at m.boxes (2 * k) ≡ number_at m.boxes (2 * k + 1))
 
   -- The state is the one that the procedure reaches, and its certificate is sound: its mismatches, at most 1,000, and
   -- its radii are exactly those of its network. The state meets the equations of the scripted circuit within the
   -- mismatches; every other state in its box that does is within the radii, and the sizes of its voltages and currents
-  -- are from low to high; and no mismatch is larger than its residual and the rounding of its summands.
+  -- are from low to high; and no mismatch is larger than its residual and the rounding of its summands. Box and radius
+  -- are printed once for both parts.
   pub record IsSolution (m : Claim) : Type 0 where
     pub state : solution_of hour_network (limits_of circuit.options) ≡ Ok (m.centre, m.inverse)
     pub certificate : certificate_of hour_network m.centre m.inverse ≡ Ok m
@@ -100,7 +107,8 @@ module _ (circuit : CircuitView) (hour : ℕ) (at : Positions) where
     pub encloses : EnclosesOthers m
     pub sizes : EnclosesSizes m
     pub tied : AreTied m
-    pub one_radius : HaveOneRadius m
+    pub boxes : HasItsBox m
+    pub one_ball : HaveOneBall m
 
 -- ---- a settle
 

@@ -1,6 +1,7 @@
 pub mod Steps
 pub mod Solving
 pub mod Commands
+pub mod Boxes
 pub mod Headline
 pub mod Answered
 pub mod Weights

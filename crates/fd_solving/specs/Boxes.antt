@@ -1,0 +1,30 @@
+-- The trust box of a printed state, by the circuit's unknowns and the state alone.
+use Rattle.std.specs.Prelude.{◌≢◌, ℕ, ◌*◌, ◌<◌, ◌≤◌, ◌^◌, max, ℤ, nat_abs, List, length}
+use Rattle.fd_exact.specs.Rounding.{ceil_nat}
+use Rattle.fd_exact.specs.States.{State, away, part}
+use Rattle.dss_layout.specs.Layout.{LayoutView, complex_count, size_of}
+use Rattle.fd_pattern.specs.declared.layout.PlaceKind.{PlaceKind}
+use Rattle.fd_pattern.specs.declared.layout.PlaceKind.TheVariants.{Node, Branch, Magnitude}
+use Rattle.fd_pattern.specs.Views.{kind_in}
+use Rattle.fd_equations.specs.Weights.{size_of_both}
+
+-- what stands at a place: both parts of each node's voltage, then those of each branch's current, then magnitudes
+abbrev pub kind_at : LayoutView → ℕ → PlaceKind
+kind_at layout place = kind_in (2 * length layout.nodes) (2 * complex_count layout) place
+
+-- The half-width of the box in whole microvolts, rounded up: for both parts of a voltage a two-hundredth of the sum of
+-- their sizes, for a magnitude of its size, each counted as one volt at least. A current has none.
+abbrev pub box_by : PlaceKind → List ℤ → ℕ → ℕ
+box_by Node centre place = ceil_nat (max (10 ^ 6) (size_of_both centre place)) 200
+box_by Branch centre place = 0
+box_by Magnitude centre place = ceil_nat (max (10 ^ 6) (nat_abs (part centre place))) 200
+
+abbrev pub box_at : LayoutView → List ℤ → ℕ → ℕ
+box_at layout centre place = box_by (kind_at layout place) centre place
+
+-- a state of any denominator lies in the box: each part of a voltage and each magnitude is within its half-width of the
+-- centre, and currents are free
+abbrev pub IsInBox : LayoutView → List ℤ → State → Type 0
+IsInBox layout centre x =
+    (place : ℕ) → place < size_of layout → kind_at layout place ≢ Branch
+    → nat_abs (away centre x place) ≤ x.over * box_at layout centre place
