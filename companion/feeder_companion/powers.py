@@ -205,14 +205,17 @@ class State:
         volts = model_elements.u_of(it["kv"], it["phases"], it["conn"])
         low, high = (model_script.near(it[word] * volts, ONE) for word in ("vminpu", "vmaxpu"))
         asked = asked_power(self.circuit, it, self.moment.settle.hour)
+        parts = asked_parts(it, asked)
         for k, nodes in enumerate(pairs(it)):
             voltage = self.across(nodes)
             size = voltage.size()
             magnitude = self.magnitudes.get((name, k + 1), size)
             square = voltage.square()
-            factor = drawn_factor(it["model"], square, magnitude, volts, low, high)
-            drawn = Power(asked.p * factor, asked.q * factor)
-            current = drawn_current(asked, voltage, divisor(it["model"], square, magnitude, volts, low, high))
+            drawn, current = NO_POWER, GROUND
+            for model, part in parts:
+                factor = drawn_factor(model, square, magnitude, volts, low, high)
+                drawn = drawn + Power(part.p * factor, part.q * factor)
+                current = current + drawn_current(part, voltage, divisor(model, square, magnitude, volts, low, high))
             within = standing(size, low, high)
             yield LoadPhase(name, k + 1, nodes, size, volts, low, high, asked, drawn, current, within)
 
@@ -263,6 +266,13 @@ def asked_power(circuit: Circuit, it: Element, hour: int) -> Power:
         q = isqrt(p * p * (10**18 - square) // square)
         q = -q if p * it["pf"] < 0 else q
     return Power(Interval.exactly(p * 10**9), Interval.exactly(q * 10**9))
+
+
+def asked_parts(it: Element, asked: Power) -> list[tuple[int, Power]]:
+    """The part loads of a load's phase, each a model with its power: of model 8 three, rounded as the program rounds them."""
+    p, q = (nearest(Fraction(part.low) / 10**9) for part in (asked.p, asked.q))
+    parts = model_elements.part_loads(it, p, q)
+    return [(model, Power(Interval.exactly(a * 10**9), Interval.exactly(b * 10**9))) for model, a, b in parts]
 
 
 def divisor(model: int, square: Interval, magnitude: Interval, volts: int, low: int, high: int) -> Interval:

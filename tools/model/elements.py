@@ -1,6 +1,6 @@
 """Roundings, and the nodes and data of elements by the properties of the script. Whole numbers alone."""
 from math import isqrt
-from script import Refused, near, UNITS
+from script import ONE, Refused, near, UNITS
 
 R3, H3, T15 = 1732050807568877, 866025403784439, 10 ** 15
 OMEGA = {60: 376991118430775, 50: 314159265358979}
@@ -164,3 +164,11 @@ def unit(angle, volts):
             return near(-volts * H3, T15)
         return near(volts * s, 2)
     return part(a), part(a - 90)
+
+
+def part_loads(load, p, q):
+    """The part loads of a phase with this power, each a model with its P and Q: of model 8 the shares of models 2, 5 and 1."""
+    if load['model'] != 8:
+        return [(load['model'], p, q)]
+    a, b = load['zipv'][:3], load['zipv'][3:]
+    return [(model, near(p * s, ONE), near(q * t, ONE)) for model, s, t in zip((2, 5, 1), a, b)]

@@ -6,7 +6,7 @@ sys.path.insert(0, os.path.dirname(os.path.abspath(__file__)))
 from script import Script, Refused, near, ONE
 from elements import (
     R3, T15, OMEGA, B40, P120, ceil, near_at, ceil_at, clamp, u_of, three, pairs_of, terminals, mention,
-    line_nodes, source_ohms, entry, line_matrices, unit)
+    line_nodes, source_ohms, entry, line_matrices, part_loads, unit)
 import controls
 from controls import micro
 
@@ -47,7 +47,7 @@ class Network:
                     order.append(nd)
             if cls in ('vsource', 'line', 'transformer'):
                 branches += [('%s.%s' % (cls, nm), k + 1) for k in range(e['phases'])]
-            if cls == 'load' and e['model'] == 5:
+            if cls == 'load' and e['model'] in (5, 8):
                 mags += [('load.' + nm, k + 1) for k in range(e['phases'])]
         self.nodes, self.branches, self.mags = order, branches, mags
         self.nn, self.nb, self.nm = len(order), len(branches), len(mags)
@@ -146,21 +146,24 @@ class Network:
                 vn = u_of(e['kv'], ph, e['conn'])
                 b = e['bus1']
                 vlo, vhi = near(e['vminpu'] * vn, ONE), near(e['vmaxpu'] * vn, ONE)
-                if abs(p) + abs(q) > 10 ** 11 or (abs(p) + abs(q)) * 10 ** 9 > (vlo * vlo) << 12:
-                    bad.append(place)
+                parts = part_loads(e, p, q)
+                for _, p, q in parts:
+                    if abs(p) + abs(q) > 10 ** 11 or (abs(p) + abs(q)) * 10 ** 9 > (vlo * vlo) << 12:
+                        bad.append(place)
                 for x, y in pairs_of(b, ph, e['conn']):
-                    l = LoadPhase()
-                    l.f, l.s = at(b[0], x), at(b[0], y)
-                    l.model, l.p, l.q, l.vn = e['model'], p, q, vn
-                    l.vlo, l.vhi = vlo, vhi
-                    l.mag = None
-                    if l.model == 5:
-                        l.mag = mg
-                        mg += 1
-                    if l.model == 2:
-                        self.shunt(l.f, l.s, p * 10 ** 9, -q * 10 ** 9, vn * vn)
-                    self.loads.append(l)
-                    self.current_sum += ceil((abs(p) + abs(q)) * 10 ** 9, vn)
+                    for model, p, q in parts:
+                        l = LoadPhase()
+                        l.f, l.s = at(b[0], x), at(b[0], y)
+                        l.model, l.p, l.q, l.vn = model, p, q, vn
+                        l.vlo, l.vhi = vlo, vhi
+                        l.mag = None
+                        if l.model == 5:
+                            l.mag = mg
+                            mg += 1
+                        if l.model == 2:
+                            self.shunt(l.f, l.s, p * 10 ** 9, -q * 10 ** 9, vn * vn)
+                        self.loads.append(l)
+                        self.current_sum += ceil((abs(p) + abs(q)) * 10 ** 9, vn)
         self.owners += [len(els) - 1] * (len(self.terms) - len(self.owners))
         self.matrix = {}
         for (r, c, num, den), owner in zip(self.terms, self.owners):

@@ -208,7 +208,7 @@ NEW = {
     'capacitor': lambda: dict(bus1=None, phases=3, kvar=1200 * ONE, kv=12470000000, conn='wye', closed=True,
                               now=True),
     'load': lambda: dict(bus1=None, phases=3, kv=12470000000, kw=10 * ONE, pf=880000000, kvar=None, bykvar=False,
-                         model=1, conn='wye', vminpu=950000000, vmaxpu=1050000000, daily=None),
+                         model=1, zipv=None, conn='wye', vminpu=950000000, vmaxpu=1050000000, daily=None),
     'regcontrol': lambda: dict(transformer=None, winding=1, vreg=120 * ONE, band=3 * ONE, ptratio=60 * ONE,
                                ctprim=300 * ONE, r=0, x=0, delay=15000, tapdelay=2000, maxtapchange=16, ptphase=1),
     'capcontrol': lambda: dict(element=None, terminal=1, capacitor=None, type='current', ptratio=60 * ONE,
@@ -379,9 +379,18 @@ def set_pair(circuit, cls, e, name, value, grouped):
             e['phases'] = whole(value, grouped)
         elif name == 'model':
             m = one(value, grouped)
-            if m not in (ONE, 2 * ONE, 5 * ONE):
+            if m not in (ONE, 2 * ONE, 5 * ONE, 8 * ONE):
                 raise Refused('unsupported')
             e['model'] = m // ONE
+        elif name == 'zipv':
+            a = array(value, grouped)
+            for share in a[:6]:
+                check(share, -10 * ONE, 10 * ONE)
+            if len(a) != 7:
+                raise Refused('wrong count')
+            if a[6]:
+                raise Refused('unsupported')
+            e['zipv'] = a[:6]
         elif name == 'conn':
             e['conn'] = conn(word(value, grouped))
         elif name == 'pf':

@@ -196,6 +196,7 @@ module _ (elements : Elements) (found : Option Element) (pair : Pair) where
   load_names of_load.Pf load t r h = kept_ok LoadNames _ _ (λ v. h)
   load_names of_load.Kvar load t r h = kept_ok LoadNames _ _ (λ v. h)
   load_names of_load.Model load t r h = kept_ok LoadNames _ _ (λ v. h)
+  load_names of_load.Zipv load t r h = kept_ok LoadNames _ _ (λ v. h)
   load_names of_load.Conn load t r h = kept_ok LoadNames _ _ (λ v. h)
   load_names of_load.Vminpu load t r h = kept_ok LoadNames _ _ (λ v. h)
   load_names of_load.Vmaxpu load t r h = kept_ok LoadNames _ _ (λ v. h)

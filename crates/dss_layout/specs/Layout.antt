@@ -1,4 +1,4 @@
--- The order of the unknowns: nodes in order of first mention, then branch phases, then magnitudes of constant-current loads.
+-- The order of the unknowns: nodes in order of first mention, then branch phases, then magnitudes of loads of model 5 or 8.
 use Rattle.std.specs.Prelude.{ℕ, ◌+◌, ◌*◌, ◌==◌, nat_lt, Bool, ◌||◌, List, [], ◌∷◌, ◌++◌, length, map, take, Option, Some, None, Result, Ok, Err, if◌then◌else◌, slice_index}
 use Rattle.std.specs.List.{flat_map, range_with_len}
 use Rattle.dss_model.specs.declared.element.Element.{Element}
@@ -9,7 +9,7 @@ use Rattle.dss_layout.specs.declared.nodes.PhaseName.{PhaseName}
 use Rattle.fd_exact.specs.First.{first_place}
 use Rattle.fd_exact.specs.Answers as answers
 use Rattle.fd_arith.specs.declared.terms.Ends.{Ends}
-use Rattle.fd_arith.specs.LoadModels.{has_magnitude}
+use Rattle.dss_model.specs.LoadKinds.{has_magnitude}
 use Rattle.dss_layout.specs.declared.limits.LayoutFault.{LayoutFault}
 use Rattle.dss_layout.specs.declared.limits.LayoutFault.TheVariants.{TooMany, NoMemory}
 use Rattle.dss_layout.specs.Limits.{most_complex, most_magnitudes}
@@ -27,7 +27,7 @@ branch_phases (the.Line l) = l.phases
 branch_phases (the.Transformer t) = t.phases
 branch_phases other = 0
 
--- the phases of which each has a voltage magnitude of its own: those of a load of constant current
+-- the phases of which each has a voltage magnitude of its own: those of a load with a part of constant current
 abbrev pub magnitude_phases : Element → ℕ
 magnitude_phases (the.Load l) = if has_magnitude l.model then l.phases else 0
 magnitude_phases other = 0

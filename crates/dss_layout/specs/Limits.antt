@@ -5,6 +5,6 @@ use Rattle.std.specs.Prelude.{ℕ}
 abbrev pub most_complex : ℕ
 most_complex = 240
 
--- the most phases of loads of constant current
+-- the most phases of loads with a part of constant current
 abbrev pub most_magnitudes : ℕ
 most_magnitudes = 48

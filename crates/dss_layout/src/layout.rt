@@ -73,7 +73,7 @@ impl Layout {
         self.unknowns.branches.as_slice()
     }
 
-    /// The phases of loads of constant current, in order.
+    /// The phases of loads with a part of constant current, in order.
     pub fn magnitudes(&self) -> &[PhaseName]
         ensures { result.now ≡ self.now.magnitudes }
     {
@@ -125,7 +125,7 @@ impl Layout {
         self.unknowns.nodes.len() as u32 + u32::from(self.unknowns.branches_before[place])
     }
 
-    /// The place of the first magnitude of a load of constant current, which stands at this place in order.
+    /// The place of the first magnitude of a load with a part of constant current, which stands at this place in order.
     pub fn first_magnitude(&self, place: usize) -> u32
         requires { place < length self.now.magnitudes_before }
         ensures { result ≡ first_magnitude self.now place }

@@ -4,7 +4,7 @@ use std::alloc::{AllocError, AllocFailed};
 /// The most nodes and branch phases, counted together.
 pub const MOST_COMPLEX: usize = 240;
 
-/// The most phases of loads of constant current.
+/// The most phases of loads with a part of constant current.
 pub const MOST_MAGNITUDES: usize = 48;
 
 /// Why there is no layout.

@@ -50,7 +50,8 @@ pub fn branches_of(element: &Element) -> u32
     }
 }
 
-/// The phases of an element of which each has a magnitude: those of a load of constant current.
+/// The phases of an element of which each has a magnitude: those of a load with a part of constant
+/// current.
 pub fn magnitudes_of(element: &Element) -> u32
     ensures { result ≡ magnitude_phases element.now }
 {

@@ -1,6 +1,5 @@
 -- The defaults: what an element of each class is before any pair sets it, and the options before any is set.
 use Rattle.std.specs.Prelude.{ℕ, List, [], codes, pos, false, None}
-use Rattle.fd_arith.specs.declared.terms.LoadModel.TheVariants.{ConstantPower}
 use Rattle.dss_model.specs.declared.command.Place.{Place}
 use Rattle.dss_model.specs.declared.vsource.Vsource.{Vsource}
 use Rattle.dss_model.specs.declared.line_constants.LineConstants.{LineConstants}
@@ -14,6 +13,7 @@ use Rattle.dss_model.specs.declared.regcontrol.RegControl.{RegControl}
 use Rattle.dss_model.specs.declared.capcontrol.CapControl.{CapControl}
 use Rattle.dss_model.specs.declared.loadshape.Loadshape.{Loadshape}
 use Rattle.dss_model.specs.declared.options.Options.{Options}
+use Rattle.dss_model.specs.declared.load.LoadKind.TheVariants as kind
 use Rattle.dss_model.specs.declared.words.SourceForm.TheVariants as source_form
 use Rattle.dss_model.specs.declared.words.Units.TheVariants as unit
 use Rattle.dss_model.specs.declared.words.Connection.TheVariants as connection
@@ -144,7 +144,8 @@ fresh_load place = record {
   kw = ones 10;
   pf = pos 880_000_000;
   kvar = None;
-  model = ConstantPower;
+  model = kind.ConstantPower;
+  zipv = None;
   conn = connection.Wye;
   vminpu = pos 950_000_000;
   vmaxpu = pos 1_050_000_000;

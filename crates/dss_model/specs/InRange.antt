@@ -1,6 +1,6 @@
 -- The ranges of the values of elements and options: each value that a script can set lies in them.
 use Rattle.std.specs.Prelude.{◌≡◌, ◌≤◌, length, pos, [], ◌∷◌, All, IfSome}
-use Rattle.dss_model.specs.Ranges.{ones, IsBetween, IsCountBetween, IsOneOf, IsAngle, IsRatio, IsPowerFactor, IsTap, IsTime, IsPhaseNumber, IsKilovolt, IsRating, IsImpedance, IsImpedanceEntry, IsCapacitance, IsCapacitanceEntry, IsPower, IsCompensation, IsSetting}
+use Rattle.dss_model.specs.Ranges.{ones, IsBetween, IsCountBetween, IsOneOf, IsAngle, IsRatio, IsPowerFactor, IsTap, IsTime, IsPhaseNumber, IsKilovolt, IsRating, IsImpedance, IsImpedanceEntry, IsCapacitance, IsCapacitanceEntry, IsPower, IsShare, IsCompensation, IsSetting}
 use Rattle.dss_model.specs.declared.bus.Bus.{Bus}
 use Rattle.dss_model.specs.declared.vsource.Vsource.{Vsource}
 use Rattle.dss_model.specs.declared.line_constants.LineConstants.{LineConstants}
@@ -10,6 +10,8 @@ use Rattle.dss_model.specs.declared.transformer.Winding.{Winding}
 use Rattle.dss_model.specs.declared.transformer.Transformer.{Transformer}
 use Rattle.dss_model.specs.declared.capacitor.Capacitor.{Capacitor}
 use Rattle.dss_model.specs.declared.load.Load.{Load}
+use Rattle.dss_model.specs.declared.load.Shares.{Shares}
+use Rattle.dss_model.specs.declared.load.ZipShares.{ZipShares}
 use Rattle.dss_model.specs.declared.regcontrol.RegControl.{RegControl}
 use Rattle.dss_model.specs.declared.capcontrol.CapControl.{CapControl}
 use Rattle.dss_model.specs.declared.loadshape.Loadshape.{Loadshape}
@@ -88,6 +90,15 @@ pub record CapacitorInRange (bank : Capacitor) : Type 0 where
   pub kv : IsKilovolt bank.kv
   pub numsteps : bank.numsteps ≡ 1
 
+pub record SharesInRange (shares : Shares) : Type 0 where
+  pub impedance : IsShare shares.impedance
+  pub current : IsShare shares.current
+  pub power : IsShare shares.power
+
+pub record ZipSharesInRange (shares : ZipShares) : Type 0 where
+  pub p : SharesInRange shares.p
+  pub q : SharesInRange shares.q
+
 pub record LoadInRange (load : Load) : Type 0 where
   pub bus1 : IfSome load.bus1 BusInRange
   pub phases : IsOneOf (1 ∷ 3 ∷ []) load.phases
@@ -95,6 +106,7 @@ pub record LoadInRange (load : Load) : Type 0 where
   pub kw : IsPower load.kw
   pub pf : IsPowerFactor load.pf
   pub kvar : IfSome load.kvar IsPower
+  pub zipv : IfSome load.zipv ZipSharesInRange
   pub vminpu : IsBetween (pos 400_000_000) (ones 1) load.vminpu
   pub vmaxpu : IsBetween (ones 1) (ones 2) load.vmaxpu
 

@@ -9,3 +9,4 @@ pub mod Defaults
 pub mod Element
 pub mod InRange
 pub mod Sound
+pub mod LoadKinds

@@ -71,6 +71,10 @@ IsCapacitanceEntry = IsBetween (neg_ℤ (ones 1_000_000)) (ones 1_000_000)
 abbrev pub IsPower : ℤ → Type 0
 IsPower = IsBetween (neg_ℤ (ones 300_000)) (ones 300_000)
 
+-- a share of a power, at most 10 in size
+abbrev pub IsShare : ℤ → Type 0
+IsShare = IsBetween (neg_ℤ (ones 10)) (ones 10)
+
 -- a setting of the line drop compensation, at most 1000 volts in size
 abbrev pub IsCompensation : ℤ → Type 0
 IsCompensation = IsBetween (neg_ℤ (ones 1000)) (ones 1000)

@@ -48,7 +48,7 @@ pub use line::Line;
 pub use line_constants::LineConstants;
 pub use linecode::Linecode;
 pub use lists::{Nodes, Numbers, ONE};
-pub use load::Load;
+pub use load::{Load, LoadKind, Shares, ZipShares};
 pub use loadshape::Loadshape;
 pub use names::{Class, ElementName, class_named, find_named, is_legal_name, name_law};
 pub use options::Options;

@@ -53,7 +53,7 @@ use Rattle.dss_profile.specs.Load.{with_load}
 use Rattle.dss_profile.specs.RegControl.{with_regcontrol}
 use Rattle.dss_profile.specs.CapControl.{with_capcontrol}
 use Rattle.dss_profile.specs.Loadshape.{with_loadshape}
-use Rattle.dss_profile.proofs.FormRanges.{then_ok, any_ok, made_ok, kept_ok, number_ok, power_factor_ok, whole_ok, among_ok, supported_ok, tap_ok, time_ok, ratio_ok, half_between, angle_ok, phase_ok, numbers_ok, two_numbers_ok, two_taps_ok, matrix_ok, bus_ok, two_buses_ok}
+use Rattle.dss_profile.proofs.FormRanges.{then_ok, any_ok, made_ok, kept_ok, number_ok, power_factor_ok, whole_ok, among_ok, supported_ok, tap_ok, time_ok, ratio_ok, half_between, angle_ok, phase_ok, numbers_ok, two_numbers_ok, two_taps_ok, matrix_ok, bus_ok, two_buses_ok, shares_ok}
 
 -- ---- sources
 
@@ -288,6 +288,7 @@ load_in_range found of_load.Kw pair load h = made_ok _ LoadInRange _ _ (number_o
 load_in_range found of_load.Pf pair load h = made_ok _ LoadInRange _ _ (power_factor_ok pair) (λ v r. assumption (h, r))
 load_in_range found of_load.Kvar pair load h = made_ok _ LoadInRange _ _ (number_ok _ _ pair) (λ v r. assumption (h, r))
 load_in_range found of_load.Model pair load h = kept_ok LoadInRange _ _ (λ v. assumption h)
+load_in_range found of_load.Zipv pair load h = made_ok _ LoadInRange _ _ (shares_ok pair) (λ v r. assumption (h, r))
 load_in_range found of_load.Conn pair load h = kept_ok LoadInRange _ _ (λ v. assumption h)
 load_in_range found of_load.Vminpu pair load h = made_ok _ LoadInRange _ _ (number_ok _ _ pair) (λ v r. assumption (h, r))
 load_in_range found of_load.Vmaxpu pair load h = made_ok _ LoadInRange _ _ (number_ok _ _ pair) (λ v r. assumption (h, r))

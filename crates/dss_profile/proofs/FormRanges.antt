@@ -1,5 +1,5 @@
 -- The ranges of what the forms of values give.
-use Rattle.std.proofs.Common.{◌≡◌, ℕ, zero, suc, ◌*◌, ◌%◌, ◌≤◌, ℤ, pos, negsuc, neg_ℤ, unsigned_abs, int_div, min, max, Bool, true, false, List, [], ◌∷◌, length, get_or, Option, Some, None, Result, Ok, Err, if◌then◌else◌, ◌||◌, ◌&&◌, ◌⊎◌, inl, inr, nat_le, ◌==◌, IsTrue, IfOk, IfSome, All, arith, refl, ap}
+use Rattle.std.proofs.Common.{◌≡◌, ℕ, zero, suc, ◌*◌, ◌%◌, ◌≤◌, ℤ, pos, negsuc, neg_ℤ, unsigned_abs, int_div, min, max, Bool, true, false, List, [], ◌∷◌, length, get_or, Option, Some, None, Result, Ok, Err, if◌then◌else◌, ◌||◌, ◌&&◌, ◌⊎◌, inl, inr, nat_le, ◌==◌, IsTrue, IfOk, IfSome, All, take, lit<, arith, refl, ap}
 use Rattle.std.proofs.lemmas.Int.{ints}
 use Rattle.std.proofs.lemmas.Bool.Decides.{nat_tests}
 use Rattle.std.proofs.lemmas.Result.{IfOk-weaker}
@@ -14,10 +14,10 @@ use Rattle.dss_model.specs.Answers.{◌>>=◌, or_fault, each}
 use Rattle.dss_model.specs.Causes.{from_lexer}
 use Rattle.dss_model.specs.declared.fault.ModelFault.TheVariants as fault
 use Rattle.dss_model.specs.Names.{is_name, lower}
-use Rattle.dss_model.specs.Ranges.{ones, IsBetween, IsCountBetween, IsOneOf, IsAngle, IsRatio, IsPowerFactor, IsTap, IsTime, IsPhaseNumber}
-use Rattle.dss_values.specs.Forms.{number_in, numbers_in, is_within, within, number_between, has_power_factor, power_factor_in, whole_in, count_of, whole_between, one_of, whole_among, supported_among, nearest_count, tap_of, tap_in, milliseconds_in, ratio_in, half, has_angle, angle_in, phase_in, all_within, numbers_between, two, two_numbers_between, two_taps_in, word_in, is_point, node_of, bus_of_parts, bus_of, bus_in, cells_in, bus_of_cell, two_buses_in}
+use Rattle.dss_model.specs.Ranges.{ones, IsBetween, IsCountBetween, IsOneOf, IsAngle, IsRatio, IsPowerFactor, IsTap, IsTime, IsPhaseNumber, IsShare}
+use Rattle.dss_values.specs.Forms.{number_in, numbers_in, is_within, within, number_between, has_power_factor, power_factor_in, whole_in, count_of, whole_between, one_of, whole_among, supported_among, nearest_count, tap_of, tap_in, milliseconds_in, ratio_in, half, has_angle, angle_in, phase_in, all_within, numbers_between, two, two_numbers_between, two_taps_in, word_in, is_point, node_of, bus_of_parts, bus_of, bus_in, cells_in, bus_of_cell, two_buses_in, shares_of, shares_within, shares_in}
 use Rattle.dss_values.specs.Matrices.{cell, mirrored, first_of, row_by_row, joined, symmetric, is_square, is_triangle_from, whole_matrix, rows_within, matrix_between}
-use Rattle.dss_model.specs.InRange.{BusInRange}
+use Rattle.dss_model.specs.InRange.{BusInRange, ZipSharesInRange}
 
 -- ---- steps
 
@@ -191,6 +191,38 @@ each_by_test low high (n ∷ ns) h =
 pub numbers_ok : (low high : ℤ) (pair : Pair) → IfOk (numbers_between low high pair) (All (IsBetween low high))
 unfolding numbers_between
 numbers_ok low high pair = any_ok _ (numbers_in pair) (all_within low high) (λ ns. if_ok _ (list_all (is_within low high) ns) ns _ (each_by_test low high ns))
+
+-- six shares and a cutoff; another count is refused
+seven_ok : (a1 a2 a3 b1 b2 b3 cutoff : ℤ) → All IsShare (a1 ∷ a2 ∷ a3 ∷ b1 ∷ b2 ∷ b3 ∷ [])
+    → IfOk (shares_of (a1 ∷ a2 ∷ a3 ∷ b1 ∷ b2 ∷ b3 ∷ cutoff ∷ [])) ZipSharesInRange
+seven_ok a1 a2 a3 b1 b2 b3 cutoff h = if_ok ZipSharesInRange (int_eq cutoff (pos 0)) _ _ (λ zero. record {
+  p = record { impedance = h 0 (pos 0) (lit< tt); current = h 1 (pos 0) (lit< tt); power = h 2 (pos 0) (lit< tt) };
+  q = record { impedance = h 3 (pos 0) (lit< tt); current = h 4 (pos 0) (lit< tt); power = h 5 (pos 0) (lit< tt) };
+})
+
+counted_ok : (ns : List ℤ) → All IsShare (take 6 ns) → IfOk (shares_of ns) ZipSharesInRange
+counted_ok [] h = tt
+counted_ok (a ∷ []) h = tt
+counted_ok (a ∷ b ∷ []) h = tt
+counted_ok (a ∷ b ∷ c ∷ []) h = tt
+counted_ok (a ∷ b ∷ c ∷ d ∷ []) h = tt
+counted_ok (a ∷ b ∷ c ∷ d ∷ e ∷ []) h = tt
+counted_ok (a ∷ b ∷ c ∷ d ∷ e ∷ f ∷ []) h = tt
+counted_ok (a ∷ b ∷ c ∷ d ∷ e ∷ f ∷ g ∷ []) h = seven_ok a b c d e f g h
+counted_ok (a ∷ b ∷ c ∷ d ∷ e ∷ f ∷ g ∷ i ∷ ns) h = tt
+
+if_then_ok : {A : Type 0} (Q : A → Type 0) (b : Bool) (r : Result A ModelFault) (e : ModelFault) → (IsTrue b → IfOk r Q)
+    → IfOk (if b then r else Err e) Q
+if_then_ok Q true r e h = h refl
+if_then_ok Q false r e h = tt
+
+shares_within_ok : (ns : List ℤ) → IfOk (shares_within ns) ZipSharesInRange
+shares_within_ok ns = if_then_ok ZipSharesInRange (list_all (is_within (neg_ℤ (ones 10)) (ones 10)) (take 6 ns)) (shares_of ns) _
+    (λ t. counted_ok ns (each_by_test (neg_ℤ (ones 10)) (ones 10) (take 6 ns) t))
+
+pub shares_ok : (pair : Pair) → IfOk (shares_in pair) ZipSharesInRange
+unfolding shares_in
+shares_ok pair = any_ok _ (numbers_in pair) shares_within shares_within_ok
 
 two_of_all : {A : Type 0} (P : A → Type 0) (xs : List A) → All P xs → IfOk (two xs) (λ x. P x.0 × P x.1)
 two_of_all P [] h = tt

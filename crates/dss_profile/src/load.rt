@@ -5,12 +5,11 @@ ghost use Rattle.dss_model.specs.Names.{named};
 ghost use Rattle.dss_profile.specs.Load.{load_properties, model_of as model_by_number, with_load};
 
 use dss_lexer::Pair;
-use dss_model::{Load, ModelError, ONE, ReactiveRule, find_named};
+use dss_model::{Load, LoadKind, ModelError, ONE, ReactiveRule, find_named};
 use dss_values::{
-    bus_value, connection, found_name, number_value, number_within, power_factor, supported_of,
-    whole_of,
+    bus_value, connection, found_name, number_value, number_within, power_factor, shares,
+    supported_of, whole_of,
 };
-use fd_arith::LoadModel;
 use std::alloc::Global;
 
 /// A property of a Load.
@@ -23,6 +22,7 @@ pub enum LoadProperty {
     Pf,
     Kvar,
     Model,
+    Zipv,
     Conn,
     Vminpu,
     Vmaxpu,
@@ -31,7 +31,7 @@ pub enum LoadProperty {
     Ignored,
 }
 
-const LOAD_PROPERTIES: [(&str, LoadProperty); 14] = [
+const LOAD_PROPERTIES: [(&str, LoadProperty); 15] = [
     ("bus1", LoadProperty::Bus1),
     ("phases", LoadProperty::Phases),
     ("kv", LoadProperty::Kv),
@@ -39,6 +39,7 @@ const LOAD_PROPERTIES: [(&str, LoadProperty); 14] = [
     ("pf", LoadProperty::Pf),
     ("kvar", LoadProperty::Kvar),
     ("model", LoadProperty::Model),
+    ("zipv", LoadProperty::Zipv),
     ("conn", LoadProperty::Conn),
     ("vminpu", LoadProperty::Vminpu),
     ("vmaxpu", LoadProperty::Vmaxpu),
@@ -55,14 +56,15 @@ pub fn load_property(name: &str) -> Option<LoadProperty>
     find_named(&LOAD_PROPERTIES, name)
 }
 
-// The model of one of its numbers: constant power is 1, constant impedance 2, constant current 5.
-fn model_of(number: u32) -> LoadModel
+// The model of one of its numbers: constant power is 1, constant impedance 2, constant current 5, shares of the three 8.
+fn model_of(number: u32) -> LoadKind
     ensures { result ≡ model_by_number number }
 {
     match number {
-        1 => LoadModel::ConstantPower,
-        2 => LoadModel::ConstantImpedance,
-        _ => LoadModel::ConstantCurrent,
+        1 => LoadKind::ConstantPower,
+        2 => LoadKind::ConstantImpedance,
+        5 => LoadKind::ConstantCurrent,
+        _ => LoadKind::Zip,
     }
 }
 
@@ -92,7 +94,8 @@ pub fn set_load(
             load.kvar = Some(number_within(alloc, pair, -300_000 * ONE, 300_000 * ONE)?);
             load.reactive = ReactiveRule::Kvar;
         }
-        LoadProperty::Model => load.model = model_of(supported_of(alloc, pair, &[1, 2, 5])?),
+        LoadProperty::Model => load.model = model_of(supported_of(alloc, pair, &[1, 2, 5, 8])?),
+        LoadProperty::Zipv => load.zipv = Some(shares(alloc, pair)?),
         LoadProperty::Conn => load.conn = connection(alloc, pair)?,
         LoadProperty::Vminpu => load.vminpu = number_within(alloc, pair, 400_000_000, ONE)?,
         LoadProperty::Vmaxpu => load.vmaxpu = number_within(alloc, pair, ONE, 2 * ONE)?,

@@ -12,6 +12,8 @@ use Rattle.dss_model.specs.declared.words.ControlQuantity.TheVariants as quantit
 use Rattle.dss_model.specs.declared.transformer.Winding.{Winding}
 use Rattle.dss_model.specs.declared.regcontrol.RegControl.{RegControl}
 use Rattle.dss_model.specs.declared.capcontrol.CapControl.{CapControl}
+use Rattle.dss_model.specs.declared.load.Load.{Load}
+use Rattle.dss_model.specs.LoadKinds.{is_zip, lacks_shares}
 use Rattle.dss_model.specs.declared.loadshape.Loadshape.{Loadshape}
 use Rattle.dss_model.specs.declared.transformer.Transformer.{Transformer}
 use Rattle.dss_model.specs.declared.element.Element.{Element}
@@ -25,7 +27,7 @@ use Rattle.dss_ready.specs.Counts.{is_count_fault, is_part_wrong, is_shape_short
 use Rattle.dss_circuit.specs.Lookups.{element_given}
 use Rattle.dss_ready.specs.Lookups.{measured_phases, phases_given}
 use Rattle.dss_ready.specs.Mentions.{is_shape_followed, is_winding_controlled, is_second_control}
-use Rattle.dss_ready.specs.Passed.{AreSettingsApart, AreValuesFit, IsCapControlFit, IsPhaseOf, IsRegControlFit, IsShapeFit, IsTransformerFit, IsWindingFit}
+use Rattle.dss_ready.specs.Passed.{AreSettingsApart, AreValuesFit, IsCapControlFit, IsLoadFit, IsPhaseOf, IsRegControlFit, IsShapeFit, IsTransformerFit, IsWindingFit}
 use Rattle.dss_ready.specs.Ranges.{are_settings_outside, is_capcontrol_outside, is_outside_by, is_phase_outside, is_regcontrol_outside, is_step_outside, is_tap_outside, is_transformer_outside, is_winding_outside}
 use Rattle.dss_ready.specs.Support.{are_powers_unequal, differs_from, is_support_fault, lacks_impedance}
 
@@ -46,6 +48,10 @@ and_off : (a b : Bool) → (a && b) ≡ false → b ≡ true → a ≡ false
 and_off true b h on = absurd (cc)
 and_off false b h on = refl
 
+and_rest_off : (a b : Bool) → (a && b) ≡ false → a ≡ true → b ≡ false
+and_rest_off true b h on = h
+and_rest_off false b h on = absurd (cc)
+
 below : (a b : ℤ) → not (int_lt a b) ≡ false → a <ℤ b
 below a b h = lt_z_yes (subst T (sym (is_true (int_lt a b) h)) tt)
 
@@ -55,6 +61,11 @@ equal_ones a b h = (Decides-int_eq a b).0 (is_true (int_eq a b) h)
 pub same_frequency : (hertz : ℕ) (o : Option ℤ) → differs_from hertz o ≡ false → (f : ℤ) → o ≡ Some f → f ≡ ones hertz
 same_frequency hertz None h f is = cc
 same_frequency hertz (Some g) h f is = let e : g ≡ f = cc in sym e ∙ equal_ones g (ones hertz) h
+
+-- ---- loads
+
+load_fit : (l : Load) → lacks_shares l ≡ false → IsLoadFit l
+load_fit l h = record { shares = λ zip. is_true (is_some l.zipv) (and_rest_off (is_zip l.model) (is_none l.zipv) h zip) }
 
 -- ---- windings
 
@@ -165,4 +176,4 @@ module _ (elements before : Elements) where
   values_fit name (the.Loadshape s) inside parts powers second impedance = shape_fit elements name.name s parts
   values_fit name (the.Linecode c) inside parts powers second impedance = tt
   values_fit name (the.Capacitor c) inside parts powers second impedance = tt
-  values_fit name (the.Load l) inside parts powers second impedance = tt
+  values_fit name (the.Load l) inside parts powers second impedance = load_fit l parts

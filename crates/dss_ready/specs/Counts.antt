@@ -13,6 +13,7 @@ use Rattle.dss_circuit.specs.Circuit.{Elements}
 use Rattle.dss_ready.specs.Mentions.{is_shape_followed}
 use Rattle.dss_circuit.specs.Lookups.{element_given}
 use Rattle.dss_model.specs.Sound.{are_matrices_wrong}
+use Rattle.dss_model.specs.LoadKinds.{lacks_shares}
 
 -- a shape of no hours, or with fewer values than hours
 abbrev pub is_shape_short : Loadshape → Bool
@@ -33,9 +34,11 @@ module _ (elements : Elements) where
   lacks_line_or_bank control =
       is_none (element_given elements class.Line control.element) || is_none (element_given elements class.Capacitor control.capacitor)
 
-  -- besides its buses, whether the element has something in the wrong number; a Loadshape only where a Load names it
+  -- besides its buses, whether the element has something in the wrong number, a Load of model 8 its shares; a Loadshape only where a Load
+  -- names it
   abbrev pub is_part_wrong : ElementName → Element → Bool
   is_part_wrong name (the.Line line) = are_matrices_wrong line
+  is_part_wrong name (the.Load load) = lacks_shares load
   is_part_wrong name (the.RegControl control) = lacks_transformer control
   is_part_wrong name (the.CapControl control) = lacks_line_or_bank control
   is_part_wrong name (the.Loadshape shape) = is_shape_short shape && is_shape_followed elements name.name

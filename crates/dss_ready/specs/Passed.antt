@@ -9,6 +9,7 @@ use Rattle.dss_model.specs.declared.transformer.Winding.{Winding}
 use Rattle.dss_model.specs.declared.transformer.Transformer.{Transformer}
 use Rattle.dss_model.specs.declared.regcontrol.RegControl.{RegControl}
 use Rattle.dss_model.specs.declared.capcontrol.CapControl.{CapControl}
+use Rattle.dss_model.specs.declared.load.Load.{Load}
 use Rattle.dss_model.specs.declared.loadshape.Loadshape.{Loadshape}
 use Rattle.dss_model.specs.declared.element.Element.{Element}
 use Rattle.dss_model.specs.declared.element.Element.TheVariants as the
@@ -21,6 +22,7 @@ use Rattle.dss_layout.specs.Limits.{most_complex, most_magnitudes}
 use Rattle.dss_layout.specs.Layout.{complex_count, layout_of, nodes_of}
 use Rattle.dss_layout.specs.Terminals.{mentions, terminal_numbers, tested}
 use Rattle.dss_model.specs.Sound.{are_matrices_wrong, is_source_outside}
+use Rattle.dss_model.specs.LoadKinds.{is_zip}
 use Rattle.dss_circuit.specs.Lookups.{element_given}
 use Rattle.dss_ready.specs.Lookups.{measured_phases}
 use Rattle.dss_ready.specs.Mentions.{is_second_of_bank, is_second_of_winding, is_shape_followed, is_winding_controlled}
@@ -37,6 +39,10 @@ pub record IsVsourceFit (source : Vsource) : Type 0 where
 pub record IsLineFit (line : Line) : Type 0 where
   pub matrices : are_matrices_wrong line ≡ false
   pub impedance : IsSome line.constants.form
+
+-- a load of model 8 has its shares
+pub record IsLoadFit (load : Load) : Type 0 where
+  pub shares : IsTrue (is_zip load.model) → IsSome load.zipv
 
 -- a step of the tap is at least 10^-5, and the tap of a winding that a RegControl controls is from mintap to maxtap
 pub record IsWindingFit (elements : Elements) (name : List ℕ) (number : ℕ) (winding : Winding) : Type 0 where
@@ -95,7 +101,7 @@ AreValuesFit elements before name (the.CapControl control) = IsCapControlFit ele
 AreValuesFit elements before name (the.Loadshape shape) = IsShapeFit elements name.name shape
 AreValuesFit elements before name (the.Linecode code) = Unit {0}
 AreValuesFit elements before name (the.Capacitor bank) = Unit {0}
-AreValuesFit elements before name (the.Load load) = Unit {0}
+AreValuesFit elements before name (the.Load load) = IsLoadFit load
 
 -- ---- an element
 

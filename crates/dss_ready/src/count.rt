@@ -76,6 +76,7 @@ pub fn is_part_count_fault(
 {
     match element {
         Element::Line(line) => Ok(is_line_count_fault(line)),
+        Element::Load(load) => Ok(load.lacks_shares()),
         Element::RegControl(control) => is_regcontrol_count_fault(elements, control),
         Element::CapControl(control) => is_capcontrol_count_fault(elements, control),
         Element::Loadshape(shape) => Ok(is_shape_count_fault(mentions, name, shape)),

@@ -1,5 +1,5 @@
 -- The forms of values: what a pair's value stands for, or why it is refused.
-use Rattle.std.specs.Prelude.{ℕ, ℤ, pos, neg_ℤ, unsigned_abs, ◌*◌, ◌/◌, ◌%◌, ◌==◌, nat_le, int_le, int_div, ◌-◌, List, [], ◌∷◌, length, find, Bool, ◌&&◌, ◌||◌, Option, Result, Ok, Err, if◌then◌else◌, codes, nat_eq}
+use Rattle.std.specs.Prelude.{ℕ, ℤ, pos, neg_ℤ, unsigned_abs, ◌*◌, ◌/◌, ◌%◌, ◌==◌, nat_le, int_le, int_div, ◌-◌, List, [], ◌∷◌, length, take, find, Bool, ◌&&◌, ◌||◌, Option, Result, Ok, Err, if◌then◌else◌, codes, nat_eq}
 use Rattle.std.specs.Char.{is_ascii_digit}
 use Rattle.std.specs.List.{slice_split, list_all}
 use Rattle.std.specs.Cmp.Lexicographic.{pointwise}
@@ -12,6 +12,7 @@ use Rattle.dss_lexer.specs.Postfix.{postfix_of}
 use Rattle.dss_model.specs.declared.fault.ModelFault.{ModelFault}
 use Rattle.dss_model.specs.declared.fault.ModelFault.TheVariants as fault
 use Rattle.dss_model.specs.declared.bus.Bus.{Bus}
+use Rattle.dss_model.specs.declared.load.ZipShares.{ZipShares}
 use Rattle.dss_model.specs.declared.words.BankState.{BankState}
 use Rattle.dss_model.specs.declared.words.BankState.TheVariants as state
 use Rattle.dss_model.specs.Names.{bytes, lower, named, is_name}
@@ -227,3 +228,22 @@ state_of n = if int_eq n (pos 0) then state.Open else state.Closed
 
 unfoldable pub state_in : Pair → Result BankState ModelFault
 state_in pair = numbers_in pair >>= all_whole >>= all_within (pos 0) (ones 1) >>= one >>= λ n. Ok (state_of n)
+
+-- the shares of P, then those of Q, each of constant impedance, current and power, and a cutoff, which is 0
+abbrev pub shares_of : List ℤ → Result ZipShares ModelFault
+shares_of (a1 ∷ a2 ∷ a3 ∷ b1 ∷ b2 ∷ b3 ∷ cutoff ∷ []) =
+    if int_eq cutoff (pos 0)
+    then Ok (record {
+      p = record { impedance = a1; current = a2; power = a3 };
+      q = record { impedance = b1; current = b2; power = b3 };
+    })
+    else Err fault.Unsupported
+shares_of numbers = Err fault.WrongCount
+
+-- the ranges of the shares, which are the first six numbers, are tested before the count
+abbrev pub shares_within : List ℤ → Result ZipShares ModelFault
+shares_within numbers =
+    if list_all (is_within (neg_ℤ (ones 10)) (ones 10)) (take 6 numbers) then shares_of numbers else Err fault.OutOfRange
+
+unfoldable pub shares_in : Pair → Result ZipShares ModelFault
+shares_in pair = numbers_in pair >>= shares_within

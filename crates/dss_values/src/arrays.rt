@@ -3,12 +3,14 @@ ghost use Rattle.std.specs.Prelude.{◌≡◌, ◌≤ℤ◌, pos, IfOk, OnOk, Is
 ghost use Rattle.std.specs.List.{list_all};
 ghost use Rattle.dss_model.specs.Answers.{Gives, Makes, each};
 ghost use Rattle.dss_model.specs.Names.{rows};
-ghost use Rattle.dss_values.specs.Forms.{cells_in, number_of_cell, numbers_in, is_within, is_whole, all_within, all_whole, numbers_between, two, two_numbers_between, tap_of, two_taps_in, bus_of_cell, two_buses_in, named_cell, two_choices_in, one, state_of, state_in};
+ghost use Rattle.dss_values.specs.Forms.{cells_in, number_of_cell, numbers_in, is_within, is_whole, all_within, all_whole, numbers_between, two, two_numbers_between, tap_of, two_taps_in, bus_of_cell, two_buses_in, named_cell, two_choices_in, one, state_of, state_in, shares_of, shares_within, shares_in};
 
 use crate::bus::bus_of_word;
 use crate::numbers::{has_no_fraction, is_in_range, tap_of_number};
 use dss_lexer::{Pair, Text, cells, number};
-use dss_model::{BankState, Bus, ModelError, ModelFault, Numbers, ONE, find_named};
+use dss_model::{
+    BankState, Bus, ModelError, ModelFault, Numbers, ONE, Shares, ZipShares, find_named,
+};
 use std::alloc::Global;
 
 // The words of an array.
@@ -247,4 +249,50 @@ pub fn bank_state(alloc: Global, pair: &Pair) -> Result<BankState, ModelError>
     check_whole(&numbers)?;
     check_ranges(&numbers, 0, ONE)?;
     Ok(state_of_number(sole_number(&numbers)?))
+}
+
+fn seven_shares(numbers: &[i128]) -> Result<ZipShares, ModelFault>
+    ensures { result ≡ shares_of numbers.now }
+{
+    match numbers {
+        [a1, a2, a3, b1, b2, b3, cutoff] => {
+            if *cutoff != 0 {
+                return Err(ModelFault::Unsupported);
+            }
+            let p = Shares {
+                impedance: *a1,
+                current: *a2,
+                power: *a3,
+            };
+            let q = Shares {
+                impedance: *b1,
+                current: *b2,
+                power: *b3,
+            };
+            Ok(ZipShares { p, q })
+        }
+        _ => Err(ModelFault::WrongCount),
+    }
+}
+
+// The shares, which are the first six numbers, are tested before the count.
+fn checked_shares(numbers: &[i128]) -> Result<ZipShares, ModelFault>
+    ensures { result ≡ shares_within numbers.now }
+{
+    let shares = &numbers[..numbers.len().min(6)];
+    if are_in_range(shares, -10 * ONE, 10 * ONE) {
+        seven_shares(numbers)
+    } else {
+        Err(ModelFault::OutOfRange)
+    }
+}
+
+/// The shares of a load of model 8: seven numbers, the shares of constant impedance, current and power of P, then those
+/// of Q, each from -10 to 10, and the cutoff. Any cutoff but 0 is unsupported.
+#[tactic(auto, unfolding(crate::specs::Forms::shares_in))]
+pub fn shares(alloc: Global, pair: &Pair) -> Result<ZipShares, ModelError>
+    ensures { Gives (λ s. s) result (shares_in pair.now) }
+{
+    let numbers = number_cells(alloc, pair)?;
+    Ok(checked_shares(&numbers)?)
 }

@@ -23,7 +23,7 @@ mod forms;
 mod matrices;
 mod numbers;
 
-pub use arrays::{bank_state, numbers_within, two_buses, two_numbers_within, two_taps};
+pub use arrays::{bank_state, numbers_within, shares, two_buses, two_numbers_within, two_taps};
 pub use bus::bus_value;
 pub use choices::{
     connection, control_mode, lead_lag, length_unit, quantity, solve_mode, step_size, truth,

@@ -254,9 +254,9 @@ loads_divided (u ∷ us) h =
     (linear_divided u (All-head IsUsable u us h) (is_linear u.load.model))
     (loads_divided us (All-tail IsUsable u us h))
 
-pub loads_settled : (m n size : ℕ) (us : List LoadAt) → m ≤ n → All IsUsable us → length us ≤ 3
+pub loads_settled : (m n size : ℕ) (us : List LoadAt) → m ≤ n → All IsUsable us → length us ≤ 9 → length (flat_map linear_list us) ≤ 64
     → All (StandsInside m n size) us → DeviceFits (loads us) → IsSettled m n size 0 (loads us)
-loads_settled m n size us among h few inside f =
+loads_settled m n size us among h few few_terms inside f =
     let within = fit_terms (loads us) f in
     let below = fit_loads (loads us) f in
     let draws = draws_small us h below in
@@ -264,8 +264,8 @@ loads_settled m n size us among h few inside f =
       fits = f;
       good = all_loads m n size us h inside;
       bounded = record {
-        terms = contributions n 64 (flat_map linear_list us) (more_room n (length us * 16) 64
-            (flat_map linear_list us) (omega arith) (loads_inside n us (all_below m n size among us inside)))
+        terms = contributions n 64 (flat_map linear_list us)
+            (record { inside = (loads_inside n us (all_below m n size among us inside)).inside; few = few_terms })
             (loads_divided us h) within;
         constants = All-nil (IsKnown (2 * n));
         few_constants = omega arith;

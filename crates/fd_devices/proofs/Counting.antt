@@ -138,7 +138,7 @@ module _ (n : ℕ) where
       (joined_inside n 4 4 (complex_terms k m (neg_ℤ a) (neg_ℤ b) d) (complex_terms k k a b d)
       (complex_inside k m (neg_ℤ a) (neg_ℤ b) d q p) (complex_inside k k a b d q q))
 
-  impedance_inside : (u : LoadAt) → StandsBelow u → AreInside n 16 (impedance_list u)
+  pub impedance_inside : (u : LoadAt) → StandsBelow u → AreInside n 16 (impedance_list u)
   impedance_inside u h = shunt_inside u.first u.second (pos (10 ^ 9) *ℤ u.load.p) (neg_ℤ (pos (10 ^ 9) *ℤ u.load.q)) (u.load.vn *ℤ u.load.vn) h.first h.second
 
   linear_by : (t : Bool) (u : LoadAt) → StandsBelow u → AreInside n 16 (cond t (impedance_list u) [])

@@ -1,8 +1,6 @@
 -- What is kept of an element is the same at all its settings.
 use Rattle.std.proofs.Common.{◌≡◌, ◌∙◌, ℕ, zero, suc, ◌+◌, ◌*◌, ◌<◌, ◌≤◌, false, inl, inr, List, [], ◌∷◌, ◌++◌, length, map, Option, Some, None, arith, ap, refl, sym, subst}
 use Rattle.std.specs.List.{All, flat_map}
-use Rattle.std.proofs.lemmas.Grind.{flat_map-append}
-use Rattle.std.proofs.lemmas.List.{append-nil}
 use Rattle.std.proofs.lemmas.List.Elements.{All-nil, All-cons, All-append, All-head, All-tail, All-weaker}
 use Rattle.dss_model.specs.Ranges.{IsOneOf}
 use Rattle.dss_model.specs.InRange.{ElementInRange}
@@ -32,9 +30,10 @@ use Rattle.fd_devices.specs.Devices.{device_stamp}
 use Rattle.fd_devices.specs.declared.kept.Kept.{Kept}
 use Rattle.fd_devices.specs.Kept.{AreFewOf, AreSmallEnds, IsKeptOf, is_moved, reach_of}
 use Rattle.fd_devices.specs.Reach.{branch_places, device_places, unknowns_of}
-use Rattle.fd_devices.specs.Scripted.{device_of, load_at}
+use Rattle.fd_devices.specs.Scripted.{device_of}
 use Rattle.fd_devices.specs.Settings.{Settings}
 use Rattle.fd_devices.specs.Sound.{IsSited}
+use Rattle.fd_devices.proofs.PartLoads.{same_reach}
 
 -- ---- without settings
 
@@ -48,26 +47,11 @@ same_device layout hertz place e s t h = refl
 
 -- ---- places
 
-one_more : {A B : Type 0} (f : A → List B) (xs : List A) (x : A) → flat_map f (xs ++ x ∷ []) ≡ flat_map f xs ++ f x
-one_more f xs x = flat_map-append f xs (x ∷ []) ∙ ap (λ r. flat_map f xs ++ r) (append-nil (f x))
-
-listed_more : (f : ℕ → LoadAt) (n : ℕ)
-    → flat_map load_places (concat_below (λ k. f k ∷ []) (suc n))
-    ≡ flat_map load_places (concat_below (λ k. f k ∷ []) n) ++ load_places (f n)
-listed_more f n = one_more load_places (concat_below (λ k. f k ∷ []) n) (f n)
-
-same_listed : (f g : ℕ → LoadAt) → ((k : ℕ) → load_places (f k) ≡ load_places (g k)) → (n : ℕ)
-    → flat_map load_places (concat_below (λ k. f k ∷ []) n) ≡ flat_map load_places (concat_below (λ k. g k ∷ []) n)
-same_listed f g h zero = refl
-same_listed f g h (suc n) = listed_more f n ∙ (λ i. same_listed f g h n i ++ h n i) ∙ sym (listed_more g n)
-
 -- a device reaches the same places at all settings
 pub same_places : (layout : LayoutView) (hertz place : ℕ) (e : Element) (s t : Settings)
     → device_places (device_of layout hertz place e s) ≡ device_places (device_of layout hertz place e t)
 same_places layout hertz place (the.Load l) s t =
-    let ns = (ends_of layout place (the.Load l)).first in
-    let m = first_magnitude layout place in
-    same_listed (load_at l ns m s.powers) (load_at l ns m t.powers) (λ k. refl) l.phases
+    same_reach l (ends_of layout place (the.Load l)).first (first_magnitude layout place) s.powers t.powers
 same_places layout hertz place e s t = refl
 
 reached : (layout : LayoutView) (hertz place : ℕ) (e : Element) (s : Settings)

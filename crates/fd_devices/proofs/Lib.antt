@@ -7,6 +7,7 @@ pub mod Capacitors
 pub mod CallerLemmas
 pub mod Collecting
 pub mod Steps
+pub mod PartLoads
 pub mod Settling
 pub mod Sides
 pub mod Siting

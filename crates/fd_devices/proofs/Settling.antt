@@ -3,9 +3,7 @@ use Rattle.std.proofs.Common.{◌≡◌, IsTrue, ◌∙◌, ℕ, zero, suc, ◌+
 use Rattle.std.specs.List.{All}
 use Rattle.std.proofs.lemmas.List.Elements.{All-nil, All-cons, All-append, All-weaker}
 use Rattle.fd_arith.specs.declared.terms.NodeAt.{NodeAt}
-use Rattle.fd_arith.specs.declared.terms.LoadModel.{LoadModel}
-use Rattle.fd_arith.specs.declared.terms.LoadModel.TheVariants.{ConstantPower, ConstantImpedance, ConstantCurrent}
-use Rattle.fd_arith.specs.LoadModels.{has_magnitude}
+use Rattle.dss_model.specs.LoadKinds.{has_magnitude}
 use Rattle.fd_arith.specs.declared.terms.Ends.{Ends}
 use Rattle.fd_arith.specs.declared.terms.TapPair.{TapPair}
 use Rattle.fd_system.specs.Terminals.{node_count, pairs_of}
@@ -28,44 +26,13 @@ use Rattle.fd_devices.specs.Data.{cap_data_of, xfmr_data_of}
 use Rattle.fd_devices.specs.Devices.{source, line, transformer, capacitor, loads}
 use Rattle.fd_devices.specs.Settings.{Settings}
 use Rattle.fd_elements.specs.Sources.{source_data_of}
-use Rattle.fd_devices.specs.Scripted.{device_of, first_state, first_taps, load_at, magnitude_place, phases_of}
+use Rattle.fd_devices.specs.Scripted.{device_of, first_state, first_taps, phases_of}
 use Rattle.fd_devices.specs.Sound.{HasBranches, HasMagnitudes, IsSideOf, IsSited}
 use Rattle.fd_devices.specs.Building.{DeviceFits, IsSettled, IsUsable}
-use Rattle.fd_devices.proofs.Transformers.{pair_below}
-use Rattle.fd_devices.proofs.Bounded.{StandsInside, among_more, loads_settled, other_settled}
+use Rattle.fd_devices.proofs.Bounded.{among_more, loads_settled, other_settled}
+use Rattle.fd_devices.proofs.PartLoads.{count_parts, few_phases, nine_parts, parts_few, parts_inside}
 
 -- ---- loads
-
-all_concat : {X : Type 0} (P : X → Type 0) (n : ℕ) (f : ℕ → X) → ((k : ℕ) → k < n → P (f k)) → All P (concat_below (λ k. f k ∷ []) n)
-all_concat P zero f h = All-nil P
-all_concat P (suc n) f h =
-    All-append P (concat_below (λ k. f k ∷ []) n) (f n ∷ []) (all_concat P n f (λ k p. h k (omega arith)))
-    (All-cons P (f n) [] (h n (omega arith)) (All-nil P))
-
-length-concat : {X : Type 0} (n : ℕ) (f : ℕ → X) → length (concat_below (λ k. f k ∷ []) n) ≡ n
-length-concat zero f = refl
-length-concat (suc n) f =
-    length-append (concat_below (λ k. f k ∷ []) n) (f n ∷ [])
-    ∙ add-one (length (concat_below (λ k. f k ∷ []) n))
-    ∙ ap suc (length-concat n f)
-
-few_phases : (phases : ℕ) → IsOneOf (1 ∷ 3 ∷ []) phases → phases ≤ 3
-few_phases phases (inl h) = omega arith
-few_phases phases (inr h) = omega arith
-
--- the magnitude of phase k
-magnitude_inside : (n size phases first k : ℕ) (model : LoadModel)
-    → (IsTrue (has_magnitude model) → HasMagnitudes n size phases first) → k < phases
-    → HasMagnitude n size model (magnitude_place model first k)
-magnitude_inside n size phases first k ConstantPower h p = refl
-magnitude_inside n size phases first k ConstantImpedance h p = refl
-magnitude_inside n size phases first k ConstantCurrent h p =
-    let m = h refl in
-    let behind = m.behind in
-    let below = m.below in
-    let least : 2 * n ≤ first + k = omega arith in
-    let most : first + k < size = omega arith in
-    (refl, (least, most))
 
 pub phases_settled : (load : Load) (ns : List NodeAt) (magnitude : ℕ) (powers : List LoadPower) → LoadInRange load
     → All IsUsable (phases_of load ns magnitude powers) → DeviceFits (loads (phases_of load ns magnitude powers))
@@ -73,14 +40,12 @@ pub phases_settled : (load : Load) (ns : List NodeAt) (magnitude : ℕ) (powers 
     → (IsTrue (has_magnitude load.model) → HasMagnitudes n size load.phases magnitude)
     → IsSettled m n size 0 (loads (phases_of load ns magnitude powers))
 phases_settled load ns magnitude powers range usable fits m n size among side places =
-    let count = length-concat load.phases (load_at load ns magnitude powers) in
-    let few = few_phases load.phases range.phases in
-    loads_settled m n size (phases_of load ns magnitude powers) among usable (omega arith)
-    (all_concat (StandsInside m n size) load.phases (load_at load ns magnitude powers)
-    (λ k p. record {
-      nodes = let below = pair_below m (pairs_of load.phases (conn_of load.conn)) ns k side.below in record { first = below.first; second = below.second };
-      magnitude = magnitude_inside n size load.phases magnitude k load.model places p;
-    })) fits
+    let few = nine_parts load.model load.phases range.phases in
+    let count = count_parts load ns magnitude powers in
+    let phases = few_phases load.phases range.phases in
+    let terms = parts_few load ns magnitude powers m side.below in
+    loads_settled m n size (phases_of load ns magnitude powers) among usable (omega arith) (omega arith)
+    (parts_inside load ns magnitude powers m n size side.below places) fits
 
 -- ---- elements at their places
 

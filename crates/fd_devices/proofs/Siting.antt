@@ -1,6 +1,6 @@
 -- Where the sides, the branches and the magnitudes of an element stand, by its kind.
 use Rattle.std.proofs.Common.{IsTrue, ℕ, ◌+◌, ◌≤◌, inl, inr, if◌then◌else◌, [], ◌∷◌, subst, arith}
-use Rattle.fd_arith.specs.LoadModels.{has_magnitude}
+use Rattle.dss_model.specs.LoadKinds.{has_magnitude}
 use Rattle.fd_arith.specs.declared.terms.Ends.{Ends}
 use Rattle.dss_model.specs.Ranges.{IsOneOf}
 use Rattle.dss_model.specs.InRange.{ElementInRange}
@@ -29,7 +29,7 @@ pub has_branches : (nodes n size magnitude : ℕ) (at : Ends) (e : Element) → 
     → StandsAmong nodes n size magnitude at e → HasBranches n (branch_phases e) at
 has_branches nodes n size magnitude at e some p = record { some = some; below = p.branches }
 
--- the magnitudes of a load of constant current
+-- the magnitudes of a load with a part of constant current
 load_magnitudes : (n size magnitude : ℕ) (l : Load) → HasMagnitudes n size (magnitude_phases (the.Load l)) magnitude
     → IsTrue (has_magnitude l.model) → HasMagnitudes n size l.phases magnitude
 load_magnitudes n size magnitude l h has = subst (λ b. HasMagnitudes n size (if b then l.phases else 0) magnitude) has h

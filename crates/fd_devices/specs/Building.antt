@@ -45,11 +45,11 @@ pub record IsModest (power : LoadPower) : Type 0 where
   pub p : nat_abs power.p ≤ 10 ^ 17
   pub q : nat_abs power.q ≤ 10 ^ 17
 
--- a part load with voltages in their ranges and a power of at most 10^17 in size
+-- a part load with voltages in their ranges and a power of at most 10^18 in size
 pub record IsUsable (u : LoadAt) : Type 0 where
   pub voltages : AreLoadVoltages u.load
-  pub p : nat_abs u.load.p ≤ 10 ^ 17
-  pub q : nat_abs u.load.q ≤ 10 ^ 17
+  pub p : nat_abs u.load.p ≤ 10 ^ 18
+  pub q : nat_abs u.load.q ≤ 10 ^ 18
   pub first : IsSmall u.first
   pub second : IsSmall u.second
 

@@ -6,6 +6,8 @@ use Rattle.fd_system.specs.Contributions.{IsSmall}
 use Rattle.fd_system.specs.Stamps.{stamp_of}
 use Rattle.fd_system.specs.System.{StampView}
 use Rattle.fd_pattern.specs.PatternPlaces.{load_places, place_of}
+use Rattle.dss_model.specs.declared.load.LoadKind.{LoadKind}
+use Rattle.dss_model.specs.declared.load.LoadKind.TheVariants as kind
 use Rattle.dss_model.specs.declared.element.Element.{Element}
 use Rattle.dss_model.specs.declared.element.Element.TheVariants as the
 use Rattle.dss_layout.specs.Layout.{LayoutView, ends_of}
@@ -24,6 +26,11 @@ AreSmallEnds (the.Transformer t) at = (All IsSmall at.first × All IsSmall at.se
 AreSmallEnds (the.Capacitor c) at = All IsSmall at.first
 AreSmallEnds e at = Unit {0}
 
+-- how many part loads a phase has
+abbrev pub parts_of : LoadKind → ℕ
+parts_of kind.Zip = 3
+parts_of other = 1
+
 -- how many contributions, part loads and constants it has at most, at any settings
 abbrev pub most_terms : Element → ℕ
 most_terms (the.Vsource v) = 64 * (1 + v.phases)
@@ -34,7 +41,7 @@ most_terms (the.Load l) = 16 * l.phases
 most_terms e = 0
 
 abbrev pub most_loads : Element → ℕ
-most_loads (the.Load l) = l.phases
+most_loads (the.Load l) = parts_of l.model * l.phases
 most_loads e = 0
 
 abbrev pub most_constants : Element → ℕ

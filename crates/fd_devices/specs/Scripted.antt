@@ -1,10 +1,11 @@
 -- The devices of a scripted circuit, and its network.
-use Rattle.std.specs.Prelude.{ℕ, ◌+◌, pos, Bool, false, List, [], ◌∷◌, length, get_or, Option, Some, None, if◌then◌else◌}
+use Rattle.std.specs.Prelude.{ℕ, ◌+◌, pos, Bool, false, List, [], ◌∷◌, map, length, get_or, Option, Some, None, if◌then◌else◌}
 use Rattle.fd_exact.specs.States.{State}
 use Rattle.fd_arith.specs.declared.terms.NodeAt.{NodeAt}
 use Rattle.fd_arith.specs.declared.terms.TapPair.{TapPair}
 use Rattle.fd_arith.specs.declared.terms.LoadModel.{LoadModel}
 use Rattle.fd_arith.specs.LoadModels.{has_magnitude}
+use Rattle.fd_system.specs.declared.loads.LoadPhase.{LoadPhase}
 use Rattle.fd_system.specs.declared.loads.LoadAt.{LoadAt}
 use Rattle.fd_system.specs.Equations.{Part}
 use Rattle.fd_system.specs.declared.terminals.NodePair.{NodePair}
@@ -17,7 +18,7 @@ use Rattle.dss_circuit.specs.Circuit.{CircuitView}
 use Rattle.fd_elements.specs.declared.powers.LoadPower.{LoadPower}
 use Rattle.fd_elements.specs.Connections.{conn_of}
 use Rattle.fd_elements.specs.Lines.{line_data_of}
-use Rattle.fd_elements.specs.Loads.{load_phase_of}
+use Rattle.fd_elements.specs.Loads.{phase_parts}
 use Rattle.fd_pattern.specs.declared.layout.Layout.{Layout}
 use Rattle.fd_system.specs.Contributions.{concat_below}
 use Rattle.fd_pattern.specs.Views.{NetworkView, network_of}
@@ -32,25 +33,25 @@ use Rattle.fd_elements.specs.Sources.{source_data_of}
 abbrev pub load_pair : Load → List NodeAt → ℕ → NodePair
 load_pair load ns k = pair_of (pairs_of load.phases (conn_of load.conn)) ns k
 
--- the place of the magnitude of phase k, which a load of constant current has; the first one's place is given
+-- the place of the magnitude of phase k, which its part load of constant current has; the first one's place is given
 abbrev pub magnitude_place : LoadModel → ℕ → ℕ → Option ℕ
 magnitude_place model first k = if has_magnitude model then Some (first + k) else None
 
 abbrev pub power_at : List LoadPower → ℕ → LoadPower
 power_at powers k = get_or powers k (record { p = pos 0; q = pos 0 })
 
--- phase k of a load at these nodes, with the powers of its phases
-abbrev pub load_at : Load → List NodeAt → ℕ → List LoadPower → ℕ → LoadAt
-load_at load ns magnitude powers k = record {
-  load = load_phase_of load (power_at powers k);
+-- a part load of phase k at these nodes
+abbrev pub part_at : Load → List NodeAt → ℕ → ℕ → LoadPhase → LoadAt
+part_at load ns magnitude k part = record {
+  load = part;
   first = (load_pair load ns k).first;
   second = (load_pair load ns k).second;
-  magnitude = magnitude_place load.model magnitude k;
+  magnitude = magnitude_place part.model magnitude k;
 }
 
--- the part loads of phase k: each phase has one
+-- the part loads of phase k, with the powers of the phases: one, and in model 8 three
 abbrev pub phase_loads : Load → List NodeAt → ℕ → List LoadPower → ℕ → List LoadAt
-phase_loads load ns magnitude powers k = load_at load ns magnitude powers k ∷ []
+phase_loads load ns magnitude powers k = map (part_at load ns magnitude k) (phase_parts load (power_at powers k))
 
 -- those of all phases in order
 abbrev pub phases_of : Load → List NodeAt → ℕ → List LoadPower → List LoadAt

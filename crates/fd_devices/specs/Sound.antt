@@ -1,7 +1,7 @@
 -- What the tests of Solve say of an element that takes part in the equations, and where it stands.
 use Rattle.std.specs.Prelude.{◌≡◌, IsTrue, ℕ, ◌+◌, ◌*◌, ◌≤◌, false, Ok, IsSome, List, length, All}
 use Rattle.fd_arith.specs.declared.terms.NodeAt.{NodeAt}
-use Rattle.fd_arith.specs.LoadModels.{has_magnitude}
+use Rattle.dss_model.specs.LoadKinds.{has_magnitude}
 use Rattle.fd_arith.specs.declared.terms.Ends.{Ends}
 use Rattle.fd_system.specs.Terminals.{node_count}
 use Rattle.dss_model.specs.declared.element.Element.{Element}
@@ -39,8 +39,9 @@ pub record HasMagnitudes (n size m first : ℕ) : Type 0 where
   pub behind : 2 * n ≤ first
   pub below : first + m ≤ size
 
--- where an element stands among n complex unknowns, of which the nodes come first, and `size` real ones: its sides at nodes, its branches
--- among the complex unknowns, and its magnitudes, which loads of constant current have, from the given place on
+-- where an element stands among n complex unknowns, of which the nodes come first, and `size` real ones: its sides at
+-- nodes, its branches among the complex unknowns, and its magnitudes, which loads with a part of constant current have,
+-- from the given place on
 abbrev pub IsSited : ℕ → ℕ → ℕ → ℕ → Ends → Element → Type 0
 IsSited nodes n size magnitude at (the.Vsource v) = IsSideOf nodes v.phases at.first × HasBranches n v.phases at
 IsSited nodes n size magnitude at (the.Line l) = IsSideOf nodes l.phases at.first × IsSideOf nodes l.phases at.second × HasBranches n l.phases at

@@ -1,6 +1,6 @@
 -- An element where a layout has it, and when its device is settled there.
 use Rattle.std.specs.Prelude.{IsTrue, ℕ, ◌<◌, ◌≤◌, ◌^◌, List, length}
-use Rattle.fd_arith.specs.LoadModels.{has_magnitude}
+use Rattle.dss_model.specs.LoadKinds.{has_magnitude}
 use Rattle.fd_arith.specs.declared.terms.Ends.{Ends}
 use Rattle.fd_arith.specs.declared.terms.NodeAt.{NodeAt}
 use Rattle.fd_system.specs.Terminals.{node_count}
@@ -56,7 +56,7 @@ SettlesBetween count phases at d =
 abbrev pub SettlesOn : ℕ → List NodeAt → Device → Type 0
 SettlesOn count nodes d = (m n size : ℕ) → IsSideOf n count nodes → IsSettled m n size 0 d
 
--- of which the nodes of a load come first, and the magnitudes of one of constant current last
+-- of which the nodes of a load come first, and the magnitudes of one with a part of constant current last
 abbrev pub SettlesAsLoad : Load → List NodeAt → ℕ → Device → Type 0
 SettlesAsLoad load nodes magnitude d =
     (m n size : ℕ) → m ≤ n → IsSideOf m (node_count load.phases) nodes

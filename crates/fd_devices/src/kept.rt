@@ -8,7 +8,7 @@ ghost use Rattle.fd_devices.specs.Devices.{device_stamp};
 ghost use Rattle.fd_system.specs.Contributions.{IsSmall};
 ghost use Rattle.fd_system.specs.Stamps.{HasRoom, IsRoomSame, stamp_of};
 ghost use Rattle.fd_pattern.specs.Patterns.{IsInside};
-ghost use Rattle.fd_devices.specs.Kept.{AreFewOf, AreSmallEnds, IsKeptOf, is_moved as has_settings, most_constants as most_constants_of, most_loads as most_loads_of, most_terms as most_terms_of, reach_of};
+ghost use Rattle.fd_devices.specs.Kept.{AreFewOf, AreSmallEnds, IsKeptOf, is_moved as has_settings, most_constants as most_constants_of, most_loads as most_loads_of, most_terms as most_terms_of, parts_of as parts_by_kind, reach_of};
 ghost use Rattle.fd_devices.specs.Reach.{device_places};
 ghost use Rattle.fd_devices.specs.Scripted.{device_of};
 ghost use Rattle.fd_devices.specs.Settings.{AreOwn, settings_in};
@@ -19,7 +19,7 @@ use crate::settings::SettingSlices;
 use crate::stamps::element_stamp;
 use crate::writers::{capacitor_into, load_into, transformer_into};
 use dss_layout::Layout;
-use dss_model::Element;
+use dss_model::{Element, LoadKind};
 use fd_arith::{Ends, TermFault};
 use fd_pattern::{add_load_places, add_term_places};
 use fd_system::Stamp;
@@ -62,11 +62,22 @@ pub fn most_terms(element: &Element) -> usize
 pub fn most_loads(element: &Element) -> usize
     requires { ElementInRange element.now }
     ensures value { result ≡ most_loads_of element.now }
-    ensures small { result ≤ 3 }
+    ensures small { result ≤ 9 }
 {
     match element {
-        Element::Load(load) => load.phases as usize,
+        Element::Load(load) => parts_of(load.model) * load.phases as usize,
         _ => 0,
+    }
+}
+
+// How many part loads a phase has.
+fn parts_of(kind: LoadKind) -> usize
+    ensures value { result ≡ parts_by_kind kind }
+    ensures small { result ≤ 3 }
+{
+    match kind {
+        LoadKind::Zip => 3,
+        _ => 1,
     }
 }
 

@@ -7,20 +7,21 @@ ghost use Rattle.fd_system.specs.Contributions.{IsDivided};
 ghost use Rattle.fd_system.specs.Loads.{draw_of as phase_draw, impedance_list, linear_list};
 ghost use Rattle.fd_system.specs.Terminals.{IsSide, node_count};
 ghost use Rattle.fd_load.specs.Current.{IsPast};
-ghost use Rattle.fd_devices.specs.Scripted.{load_at, magnitude_place as place_of_magnitude, phases_of};
+ghost use Rattle.fd_load.specs.Zip.{IsPart};
+ghost use Rattle.fd_devices.specs.Scripted.{magnitude_place as place_of_magnitude, part_at as part_by_place, phase_loads, phases_of};
 ghost use Rattle.fd_devices.specs.Building.{IsModest, IsUsable};
 
 use dss_model::Load;
 use fd_arith::{LoadModel, Nodes, Term};
-use fd_elements::{LoadPower, conn_of, load_phase};
-use fd_load::is_load_past;
-use fd_system::{LoadAt, NodePair, add_shunt, phase_pair, phase_pairs};
+use fd_elements::{LoadPower, conn_of, load_phase, sole_model, zip_phase};
+use fd_load::{is_load_past, zip_parts};
+use fd_system::{LoadAt, LoadPhase, NodePair, add_shunt, phase_pair, phase_pairs};
 
 // powers are in 10^-3 VA and voltages in microvolts, so a power over a voltage is in 10^9 microamperes
 const PER_UNIT: i128 = 1_000_000_000;
 
 /// Puts the part loads of a load's phases at these nodes, with the powers of its phases, into an empty list with room
-/// for them. Takes no memory.
+/// for nine. Takes no memory.
 pub fn load_phases_into(
     load: &Load,
     nodes: &Nodes,
@@ -34,37 +35,73 @@ pub fn load_phases_into(
     requires powers { length powers.now ≡ load.now.phases }
     requires modest { All IsModest powers.now }
     requires empty { into.old.items ≡ [] }
-    requires room { load.now.phases ≤ vec_capacity into.old }
+    requires room { 9 ≤ vec_capacity into.old }
     ensures phases { into.new.items ≡ phases_of load.now nodes.now magnitude powers.now }
     ensures usable { All IsUsable into.new.items }
     ensures capacity { vec_capacity into.new ≡ vec_capacity into.old }
 {
     for k in 0..load.phases {
-        into.push_reserved(phase_at(load, nodes, magnitude, powers, k));
+        add_phase(into, load, nodes, magnitude, powers, k);
     }
 }
 
-// Phase k of a load.
-fn phase_at(load: &Load, nodes: &Nodes, magnitude: u32, powers: &[LoadPower], k: u32) -> LoadAt
+// Adds the part loads of phase k.
+fn add_phase(
+    into: &mut Vec<LoadAt>,
+    load: &Load,
+    nodes: &Nodes,
+    magnitude: u32,
+    powers: &[LoadPower],
+    k: u32,
+)
     requires range { LoadInRange load.now }
     requires nodes { IsSide (node_count load.now.phases) nodes.now }
     requires magnitude { magnitude < 2 ^ 31 }
     requires powers { length powers.now ≡ load.now.phases }
     requires modest { All IsModest powers.now }
     requires k_in { k < load.now.phases }
-    ensures value { result ≡ load_at load.now nodes.now magnitude powers.now k }
+    requires usable { All IsUsable into.old.items }
+    requires room { length into.old.items + 3 ≤ vec_capacity into.old }
+    ensures items { into.new.items ≡ into.old.items ++ phase_loads load.now nodes.now magnitude powers.now k }
+    ensures usable { All IsUsable into.new.items }
+    ensures few { length into.new.items ≤ length into.old.items + 3 }
+    ensures capacity { vec_capacity into.new ≡ vec_capacity into.old }
+{
+    let power = &powers[k as usize];
+    match sole_model(load.model) {
+        Some(model) => {
+            let part = load_phase(load, model, power);
+            into.push_reserved(part_at(load, nodes, magnitude, k, part));
+        }
+        None => {
+            let [impedance, current, power] = zip_parts(&zip_phase(load, power));
+            into.push_reserved(part_at(load, nodes, magnitude, k, impedance));
+            into.push_reserved(part_at(load, nodes, magnitude, k, current));
+            into.push_reserved(part_at(load, nodes, magnitude, k, power));
+        }
+    }
+}
+
+// A part load of phase k.
+fn part_at(load: &Load, nodes: &Nodes, magnitude: u32, k: u32, part: LoadPhase) -> LoadAt
+    requires range { LoadInRange load.now }
+    requires nodes { IsSide (node_count load.now.phases) nodes.now }
+    requires magnitude { magnitude < 2 ^ 31 }
+    requires k_in { k < load.now.phases }
+    requires part { IsPart part }
+    ensures value { result ≡ part_by_place load.now nodes.now magnitude k part }
     ensures usable { IsUsable result }
 {
     let pair = phase_pair(nodes, phase_pairs(load.phases, conn_of(load.conn)), k);
     LoadAt {
-        load: load_phase(load, &powers[k as usize]),
+        load: part,
         first: pair.first,
         second: pair.second,
-        magnitude: magnitude_place(load.model, magnitude, k),
+        magnitude: magnitude_place(part.model, magnitude, k),
     }
 }
 
-// The place of the magnitude of phase k, which a load of constant current has.
+// The place of the magnitude of phase k, which its part load of constant current has.
 fn magnitude_place(model: LoadModel, first: u32, k: u32) -> Option<u32>
     requires { first + k < 2 ^ 32 }
     ensures { result ≡ place_of_magnitude model first k }
@@ -91,8 +128,8 @@ fn is_in_limit(phase: &LoadAt) -> bool
     !is_load_past(&phase.load)
 }
 
-/// Puts the contributions of phases of constant impedance into an empty list with room for 16 of each phase; phases of
-/// constant power or current have none. Takes no memory.
+/// Puts the contributions of part loads of constant impedance into an empty list with room for 16 of each part load;
+/// those of constant power or current have none. Takes no memory.
 pub fn linear_terms_into(phases: &[LoadAt], into: &mut Vec<Term>)
     requires usable { All IsUsable phases.now }
     requires empty { into.old.items ≡ [] }
@@ -143,17 +180,17 @@ fn add_impedance(terms: &mut Vec<Term>, phase: &LoadAt)
 
 // A power in 10^-9 microamperes at a microvolt.
 fn scaled(power: i128) -> i128
-    requires { nat_abs power ≤ 10 ^ 17 }
+    requires { nat_abs power ≤ 10 ^ 18 }
     ensures value { result ≡ pos (10 ^ 9) *ℤ power }
-    ensures most { nat_abs result ≤ 10 ^ 26 }
+    ensures most { nat_abs result ≤ 10 ^ 27 }
 {
     PER_UNIT * power
 }
 
 fn opposite(z: i128) -> i128
-    requires { nat_abs z ≤ 10 ^ 26 }
+    requires { nat_abs z ≤ 10 ^ 27 }
     ensures value { result ≡ neg_ℤ z }
-    ensures most { nat_abs result ≤ 10 ^ 26 }
+    ensures most { nat_abs result ≤ 10 ^ 27 }
 {
     -z
 }
@@ -170,7 +207,7 @@ fn square(volts: i128) -> i128
 /// What the phases draw at nominal voltage, in whole microamperes.
 pub fn total_draw(phases: &[LoadAt]) -> u128
     requires usable { All IsUsable phases.now }
-    requires few { length phases.now ≤ 3 }
+    requires few { length phases.now ≤ 9 }
     ensures { result ≡ list_n phase_draw phases.now }
 {
     let mut total = 0;

@@ -148,8 +148,9 @@ pub fn capacitor_stamp(
     Ok(stamp)
 }
 
-/// What a load adds at its nodes, with the powers of its phases; the first magnitude of a load of constant current stands at the place
-/// `magnitude`. Range exactly where a contribution is past 2^54 in units of 2^-40, or a phase is past its limit.
+/// What a load adds at its nodes, with the powers of its phases; the first magnitude of a load with a part of constant
+/// current stands at the place `magnitude`. Range exactly where a contribution is past 2^54 in units of 2^-40, or a
+/// phase is past its limit.
 pub fn load_stamp(
     alloc: Global,
     load: &Load,
@@ -169,7 +170,7 @@ pub fn load_stamp(
     ensures range { result ≡ Err TermFault.Range
         → ¬ (DeviceFits (load_device (phases_of load.now nodes.now magnitude powers.now))) }
 {
-    let mut stamp = Stamp::with_room(alloc, 48, 3, 0)?;
+    let mut stamp = Stamp::with_room(alloc, 144, 9, 0)?;
     load_into(&mut stamp, load, nodes, magnitude, powers)?;
     Ok(stamp)
 }

@@ -7,6 +7,7 @@ ghost use Rattle.fd_xfmr.specs.Leakage.{AreTaps, IsXfmr};
 ghost use Rattle.fd_xfmr.specs.Transformer.{IsBetween as IsXfmrBetween};
 ghost use Rattle.fd_cap.specs.Capacitor.{IsCap};
 ghost use Rattle.fd_devices.specs.Building.{DeviceFits, IsModest, IsUsable};
+ghost use Rattle.fd_devices.specs.Kept.{parts_of};
 ghost use Rattle.fd_devices.specs.Data.{cap_data_of, xfmr_data_of};
 ghost use Rattle.fd_devices.specs.Devices.{device_stamp, capacitor as capacitor_device, loads as load_device, transformer as transformer_device};
 ghost use Rattle.fd_devices.specs.Scripted.{phases_of};
@@ -112,10 +113,10 @@ fn capacitor_data_into(
     Ok(())
 }
 
-/// Puts what a load adds, with the powers of its phases, in place of what a stamp with room for 48 contributions and
-/// three part loads has; the first magnitude of a load of constant current stands at the place `magnitude`. Takes no
-/// memory. Range alone is the error, exactly where a phase is past its limit; no contribution is past 2^54 in units of
-/// 2^-40 where none is.
+/// Puts what a load adds, with the powers of its phases, in place of what a stamp with room for 144 contributions and
+/// nine part loads has; the first magnitude of a load with a part of constant current stands at the place `magnitude`.
+/// Takes no memory. Range alone is the error, exactly where a phase is past its limit; no contribution is past 2^54 in
+/// units of 2^-40 where none is.
 pub fn load_into(
     into: &mut Stamp,
     load: &Load,
@@ -128,14 +129,14 @@ pub fn load_into(
     requires magnitude { magnitude < 2 ^ 31 }
     requires powers { length powers.now ≡ load.now.phases }
     requires modest { All IsModest powers.now }
-    requires term_room { 48 ≤ vec_capacity into.old.terms }
-    requires load_room { 3 ≤ vec_capacity into.old.loads }
+    requires term_room { 144 ≤ vec_capacity into.old.terms }
+    requires load_room { 9 ≤ vec_capacity into.old.loads }
     ensures stamp { OnOk result (stamp_of into.new
         ≡ device_stamp (load_device (phases_of load.now nodes.now magnitude powers.now))) }
     ensures settled { OnOk result (SettlesAsLoad load.now nodes.now magnitude
         (load_device (phases_of load.now nodes.now magnitude powers.now))) }
     ensures few_terms { OnOk result (length into.new.terms.items ≤ 16 * load.now.phases) }
-    ensures few_loads { OnOk result (length into.new.loads.items ≤ load.now.phases) }
+    ensures few_loads { OnOk result (length into.new.loads.items ≤ parts_of load.now.model * load.now.phases) }
     ensures range { IfErr result (λ e. (e ≡ TermFault.Range)
         × ¬ (DeviceFits (load_device (phases_of load.now nodes.now magnitude powers.now)))) }
     ensures room { IsRoomSame into.old into.new }
@@ -148,13 +149,12 @@ pub fn load_into(
 // Beside part loads, their contributions and what they draw.
 fn write_loads(into: &mut Stamp) -> Result<(), TermFault>
     requires usable { All IsUsable into.old.loads.items }
-    requires few { length into.old.loads.items ≤ 3 }
+    requires few { length into.old.loads.items ≤ 9 }
     requires terms { into.old.terms.items ≡ [] }
     requires constants { into.old.constants.items ≡ [] }
-    requires room { 48 ≤ vec_capacity into.old.terms }
+    requires room { 144 ≤ vec_capacity into.old.terms }
     ensures stamp { OnOk result (stamp_of into.new ≡ device_stamp (load_device into.old.loads.items)) }
     ensures fits { OnOk result (DeviceFits (load_device into.old.loads.items)) }
-    ensures few { OnOk result (length into.new.terms.items ≤ 16 * length into.old.loads.items) }
     ensures loads { into.new.loads.items ≡ into.old.loads.items }
     ensures range { IfErr result (λ e. (e ≡ TermFault.Range) × ¬ (DeviceFits (load_device into.old.loads.items))) }
     ensures room { IsRoomSame into.old into.new }

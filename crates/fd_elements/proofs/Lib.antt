@@ -3,4 +3,5 @@ pub mod Given
 pub mod Reactive
 pub mod Answers
 pub mod Products
+pub mod Shares
 pub mod Phases

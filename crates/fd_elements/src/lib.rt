@@ -20,6 +20,6 @@ mod volts;
 pub use connections::conn_of;
 pub use laws::power_law;
 pub use lines::line_data;
-pub use loads::load_phase;
+pub use loads::{load_phase, sole_model, zip_phase};
 pub use powers::{LoadPower, load_power};
 pub use sources::source_data;

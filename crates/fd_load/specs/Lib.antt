@@ -1,3 +1,4 @@
 pub mod Current
+pub mod Zip
 pub mod Slopes
 pub mod ExactSlopes

@@ -16,8 +16,8 @@ const PER_UNIT: u128 = 1_000_000_000;
 /// Whether a load phase has more than 100 megavolt-ampere, or more than 2^12 siemens at the lower limit of its voltage: the sum of the
 /// sizes of P and Q over the square of that limit (this profile).
 pub fn is_load_past(phase: &LoadPhase) -> bool
-    requires p { nat_abs phase.now.p ≤ 10 ^ 17 }
-    requires q { nat_abs phase.now.q ≤ 10 ^ 17 }
+    requires p { nat_abs phase.now.p ≤ 10 ^ 18 }
+    requires q { nat_abs phase.now.q ≤ 10 ^ 18 }
     requires low { nat_abs phase.now.vlo ≤ 10 ^ 12 }
     ensures { result ≡ is_past phase.now }
 {

@@ -6,15 +6,21 @@ use Rattle.fd_exact.specs.Sums.{list_n}
 use Rattle.fd_exact.specs.SumLaws.{list_n-append}
 use Rattle.dss_model.specs.declared.element.Element.{Element}
 use Rattle.dss_model.specs.declared.element.Element.TheVariants as the
+use Rattle.dss_model.specs.declared.load.Load.{Load}
+use Rattle.dss_model.specs.declared.load.LoadKind.{LoadKind}
+use Rattle.dss_model.specs.declared.load.LoadKind.TheVariants as kind
+use Rattle.dss_model.specs.LoadKinds.{has_magnitude}
+use Rattle.fd_elements.specs.declared.powers.LoadPower.{LoadPower}
+use Rattle.fd_elements.specs.Loads.{parts_by, sole_model}
 use Rattle.dss_layout.specs.Layout.{Elements, LayoutView, complex_count, ends_of, first_magnitude, layout_of, magnitude_phases, sums_before}
-use Rattle.fd_arith.specs.LoadModels.{has_magnitude}
+use Rattle.fd_arith.specs.declared.terms.NodeAt.{NodeAt}
 use Rattle.fd_system.specs.declared.loads.LoadAt.{LoadAt}
 use Rattle.fd_system.specs.System.{StampView}
 use Rattle.fd_pattern.specs.Conditions.{AreApart, magnitude_count}
 use Rattle.fd_system.specs.Contributions.{concat_below}
 use Rattle.fd_pattern.specs.Terminals.{count_magnitude}
 use Rattle.fd_devices.specs.Devices.{device_stamp, stamp_of_all}
-use Rattle.fd_devices.specs.Scripted.{device_of, devices_from, load_at}
+use Rattle.fd_devices.specs.Scripted.{device_of, devices_from, part_at, power_at}
 use Rattle.fd_devices.specs.Settings.{Settings, after, own}
 use Rattle.fd_network.specs.Places.{AreMagnitudesFrom}
 
@@ -67,30 +73,43 @@ one_in u m e = record {
     counted : (l : ℕ) → ◌≡◌ {A = ℕ} (count_magnitude l u.magnitude) (cond (eqb m l) 1 0)
     counted l = ap (count_magnitude l) e
 
-module _ (f : ℕ → LoadAt) (first : ℕ) where
-  with_places : ((k : ℕ) → (f k).magnitude ≡ Some (first + k)) → (n : ℕ) → StandIn first (first + n) (concat_below (λ k. f k ∷ []) n)
+none_in : (u : LoadAt) (lo : ℕ) → u.magnitude ≡ None → StandIn lo lo (u ∷ [])
+none_in u lo e = record {
+  below = λ l m. let c = ap (count_magnitude l) e in omega (arith, c);
+  behind = λ l m. let c = ap (count_magnitude l) e in omega (arith, c);
+  single = λ l. let c = ap (count_magnitude l) e in omega (arith, c);
+}
+
+-- of three part loads the second one's
+middle_in : (u v w : LoadAt) (m : ℕ) → u.magnitude ≡ None → v.magnitude ≡ Some m → w.magnitude ≡ None
+    → StandIn m (m + 1) (u ∷ v ∷ w ∷ [])
+middle_in u v w m first second third =
+    joined_in m m (m + 1) (u ∷ []) (v ∷ w ∷ []) (omega arith) (omega arith) (none_in u m first)
+    (joined_in m (m + 1) (m + 1) (v ∷ []) (w ∷ []) (omega arith) (omega arith) (one_in v m second) (none_in w (m + 1) third))
+
+module _ (f : ℕ → List LoadAt) (first : ℕ) where
+  with_places : ((k : ℕ) → StandIn (first + k) (first + k + 1) (f k)) → (n : ℕ) → StandIn first (first + n) (concat_below f n)
   with_places h zero = no_loads first (first + 0)
   with_places h (suc n) =
       let end : first + n + 1 ≡ first + suc n = omega arith in
-      subst (λ b. StandIn first b (concat_below (λ k. f k ∷ []) n ++ f n ∷ [])) end
-      (joined_in first (first + n) (first + n + 1) (concat_below (λ k. f k ∷ []) n) (f n ∷ []) (omega arith)
-      (omega arith) (with_places h n) (one_in (f n) (first + n) (h n)))
+      subst (λ b. StandIn first b (concat_below f n ++ f n)) end
+      (joined_in first (first + n) (first + n + 1) (concat_below f n) (f n) (omega arith) (omega arith) (with_places h n) (h n))
 
-  without : ((k : ℕ) → (f k).magnitude ≡ None) → (n : ℕ) → StandIn first first (concat_below (λ k. f k ∷ []) n)
-  without h zero = no_loads first first
-  without h (suc n) = joined_in first first first (concat_below (λ k. f k ∷ []) n) (f n ∷ []) (omega arith) (omega arith) (without h n) (none_in (f n) (h n))
-    where
-      none_in : (u : LoadAt) → u.magnitude ≡ None → StandIn first first (u ∷ [])
-      none_in u e = record {
-        below = λ l m. let c = ap (count_magnitude l) e in omega (arith, c);
-        behind = λ l m. let c = ap (count_magnitude l) e in omega (arith, c);
-        single = λ l. let c = ap (count_magnitude l) e in omega (arith, c);
-      }
+  without : ((k : ℕ) → StandIn first first (f k)) → (n : ℕ) → StandIn first (first + 0) (concat_below f n)
+  without h zero = no_loads first (first + 0)
+  without h (suc n) =
+      let end : first + 0 ≡ first = omega arith in
+      joined_in first (first + 0) (first + 0) (concat_below f n) (f n) (omega arith) (omega arith) (without h n)
+      (subst (λ b. StandIn b b (f n)) (sym end) (h n))
 
-  phases_in : (b : Bool) → ((k : ℕ) → (f k).magnitude ≡ (if b then Some (first + k) else None)) → (n : ℕ)
-      → StandIn first (first + (if b then n else 0)) (concat_below (λ k. f k ∷ []) n)
-  phases_in true h n = with_places h n
-  phases_in false h n = subst (λ b. StandIn first b (concat_below (λ k. f k ∷ []) n)) (sym (add-zero first)) (without h n)
+-- the part loads of the phases of a load of a kind
+module _ (load : Load) (ns : List NodeAt) (first : ℕ) (powers : List LoadPower) where
+  phases_in : (kind : LoadKind) (n : ℕ) → StandIn first (first + (if has_magnitude kind then n else 0))
+      (concat_below (λ k. map (part_at load ns first k) (parts_by (sole_model kind) load (power_at powers k))) n)
+  phases_in kind.ConstantPower n = without _ first (λ k. none_in _ first refl) n
+  phases_in kind.ConstantImpedance n = without _ first (λ k. none_in _ first refl) n
+  phases_in kind.ConstantCurrent n = with_places _ first (λ k. one_in _ (first + k) refl) n
+  phases_in kind.Zip n = with_places _ first (λ k. middle_in _ _ _ (first + k) refl refl refl) n
 
 -- ---- elements
 
@@ -101,8 +120,7 @@ element_in : (layout : LayoutView) (hertz place first : ℕ) (e : Element) (s : 
 element_in layout hertz place first (the.Load l) s h =
     subst (λ m.
     StandIn m (m + magnitude_phases (the.Load l)) (device_stamp (device_of layout hertz place (the.Load l) s)).loads)
-    h (phases_in (load_at l (ends_of layout place (the.Load l)).first (first_magnitude layout place) s.powers)
-    (first_magnitude layout place) (has_magnitude l.model) (λ k. refl) l.phases)
+    h (phases_in l (ends_of layout place (the.Load l)).first (first_magnitude layout place) s.powers l.model l.phases)
 element_in layout hertz place first e s h = no_loads first (first + 0)
 
 elements_in : (layout : LayoutView) (hertz place first : ℕ) (es : Elements) (s : Settings)

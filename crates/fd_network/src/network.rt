@@ -40,7 +40,7 @@ use std::marker::Model;
 
 /// The network of a circuit: the stamps of its elements, with the positions of taps and banks and the powers of load
 /// phases at which they stand. Its unknowns and rows are in the order of its layout: nodes in order of first mention, then
-/// branch phases, then the magnitudes of loads of constant current.
+/// branch phases, then the magnitudes of loads with a part of constant current.
 #[derive(Drop)]
 pub struct Network {
     layout: Layout,

@@ -4,7 +4,7 @@ use Rattle.std.proofs.lemmas.Int.{ints, to_z-of_z}
 use Rattle.fd_system.specs.Contributions.{shunt_list}
 use Rattle.fd_devices.proofs.phase_loads.add_impedance.Goals as goal
 
-small_fits : (z : ℤ) → nat_abs z ≤ 10 ^ 26 → FitsSigned w128 z
+small_fits : (z : ℤ) → nat_abs z ≤ 10 ^ 27 → FitsSigned w128 z
 small_fits z h = omega (arith, ints, h)
 
 pub returns-clause-items : goal.returns-clause-items

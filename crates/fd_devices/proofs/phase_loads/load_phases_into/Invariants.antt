@@ -1,4 +1,4 @@
-use Rattle.std.proofs.Common.{◌≡◌, vec_capacity, length, All}
+use Rattle.std.proofs.Common.{◌≡◌, ◌*◌, ◌≤◌, vec_capacity, length, All}
 use Rattle.fd_system.specs.Contributions.{concat_below}
 use Rattle.fd_devices.specs.Scripted.{phase_loads}
 use Rattle.fd_devices.specs.Building.{IsUsable}
@@ -8,6 +8,6 @@ abbrev pub invariant-loop-k : goal.invariant-loop-k
 invariant-loop-k l = record {
   phases : l.into.items ≡ concat_below (phase_loads l.load l.nodes l.magnitude l.powers) l.k;
   usable : All IsUsable l.into.items;
-  count : length l.into.items ≡ l.k;
+  few : length l.into.items ≤ 3 * l.k;
   capacity : vec_capacity l.into ≡ vec_capacity l.initial.into;
 }

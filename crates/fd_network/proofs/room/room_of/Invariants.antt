@@ -10,6 +10,6 @@ invariant-loop-place l = record {
   loads : l.room.loads ≡ list_n (λ e. most_loads e.1) (take l.place l.elements.entries);
   constants : l.room.constants ≡ list_n (λ e. most_constants e.1) (take l.place l.elements.entries);
   few_terms : l.room.terms ≤ 256 * l.place;
-  few_loads : l.room.loads ≤ 3 * l.place;
+  few_loads : l.room.loads ≤ 9 * l.place;
   few_constants : l.room.constants ≤ 6 * l.place;
 }
