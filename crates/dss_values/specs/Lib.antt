@@ -1,3 +1,4 @@
+pub mod Bare
 pub mod Forms
 pub mod Matrices
 pub mod Words

@@ -2,6 +2,7 @@
 ghost use Rattle.std.specs.Prelude.{◌≡◌, ◌<◌, ◌≤◌, ◌≤ℤ◌, ◌*◌, pos, neg_ℤ, IfOk, IsTrue, unsigned_abs, int_div};
 ghost use Rattle.dss_model.specs.Answers.{Gives};
 ghost use Rattle.dss_model.specs.Ranges.{ones};
+ghost use Rattle.dss_values.specs.Bare.{IsReadWhereBare};
 ghost use Rattle.dss_values.specs.Forms.{number_in, is_within, within, number_between, has_power_factor, power_factor_in, is_whole, whole, whole_in, count_of, whole_between, one_of, whole_among, supported_among, nearest_count, half, tap_of, tap_in, milliseconds_in, ratio_in, has_angle, angle_in, phase_in};
 
 use dss_lexer::{Pair, number, postfix};
@@ -18,7 +19,8 @@ fn ones_of(count: u32) -> i128
 /// The number of a pair: a word spells it, and a group holds a postfix expression.
 #[tactic(auto, unfolding(crate::specs::Forms::number_in))]
 pub fn number_value(alloc: Global, pair: &Pair) -> Result<i128, ModelError>
-    ensures { Gives (λ n. n) result (number_in pair.now) }
+    ensures value { Gives (λ n. n) result (number_in pair.now) }
+    ensures bare { IsReadWhereBare pair.now result }
 {
     if pair.grouped {
         Ok(postfix(alloc, pair.value.as_str())?)
@@ -52,6 +54,7 @@ fn in_range(number: i128, low: i128, high: i128) -> Result<i128, ModelFault>
 pub fn number_within(alloc: Global, pair: &Pair, low: i128, high: i128) -> Result<i128, ModelError>
     ensures value { Gives (λ n. n) result (number_between low high pair.now) }
     ensures within { IfOk result (λ n. (low ≤ℤ n) × (n ≤ℤ high)) }
+    ensures bare { IsReadWhereBare pair.now result }
 {
     let number = number_value(alloc, pair)?;
     Ok(in_range(number, low, high)?)
@@ -66,7 +69,8 @@ fn is_power_factor(number: i128) -> bool
 /// A power factor: a number from 0.01 to 1 in size, with either sign.
 #[tactic(auto, unfolding(crate::specs::Forms::power_factor_in))]
 pub fn power_factor(alloc: Global, pair: &Pair) -> Result<i128, ModelError>
-    ensures { Gives (λ n. n) result (power_factor_in pair.now) }
+    ensures value { Gives (λ n. n) result (power_factor_in pair.now) }
+    ensures bare { IsReadWhereBare pair.now result }
 {
     let number = number_value(alloc, pair)?;
     if is_power_factor(number) {
@@ -95,7 +99,8 @@ fn whole_number(number: i128) -> Result<i128, ModelFault>
 
 #[tactic(auto, unfolding(crate::specs::Forms::whole_in))]
 fn whole_value(alloc: Global, pair: &Pair) -> Result<i128, ModelError>
-    ensures { Gives (λ n. n) result (whole_in pair.now) }
+    ensures value { Gives (λ n. n) result (whole_in pair.now) }
+    ensures bare { IsReadWhereBare pair.now result }
 {
     let number = number_value(alloc, pair)?;
     Ok(whole_number(number)?)
@@ -113,7 +118,8 @@ fn count(number: i128) -> u32
 /// A whole number from `low` to `high`.
 #[tactic(auto, unfolding(crate::specs::Forms::whole_between))]
 pub fn whole_within(alloc: Global, pair: &Pair, low: u32, high: u32) -> Result<u32, ModelError>
-    ensures { Gives (λ n. n) result (whole_between low high pair.now) }
+    ensures value { Gives (λ n. n) result (whole_between low high pair.now) }
+    ensures bare { IsReadWhereBare pair.now result }
 {
     let number = whole_value(alloc, pair)?;
     let number = in_range(number, ones_of(low), ones_of(high))?;
@@ -132,7 +138,8 @@ fn find_one(values: &[u32], number: i128) -> Option<u32>
 /// A whole number that is one of `values`; any other is out of range.
 #[tactic(auto, unfolding(crate::specs::Forms::whole_among))]
 pub fn whole_of(alloc: Global, pair: &Pair, values: &[u32]) -> Result<u32, ModelError>
-    ensures { Gives (λ n. n) result (whole_among values.now pair.now) }
+    ensures value { Gives (λ n. n) result (whole_among values.now pair.now) }
+    ensures bare { IsReadWhereBare pair.now result }
 {
     let number = whole_value(alloc, pair)?;
     Ok(find_one(values, number).ok_or(ModelFault::OutOfRange)?)
@@ -141,7 +148,8 @@ pub fn whole_of(alloc: Global, pair: &Pair, values: &[u32]) -> Result<u32, Model
 /// A number that is one of `values`; any other is unsupported.
 #[tactic(auto, unfolding(crate::specs::Forms::supported_among))]
 pub fn supported_of(alloc: Global, pair: &Pair, values: &[u32]) -> Result<u32, ModelError>
-    ensures { Gives (λ n. n) result (supported_among values.now pair.now) }
+    ensures value { Gives (λ n. n) result (supported_among values.now pair.now) }
+    ensures bare { IsReadWhereBare pair.now result }
 {
     let number = number_value(alloc, pair)?;
     Ok(find_one(values, number).ok_or(ModelFault::Unsupported)?)
@@ -179,7 +187,8 @@ pub fn tap_of_number(number: i128) -> u32
 /// A tap from 0.5 to 2, in whole 10^-5.
 #[tactic(auto, unfolding(crate::specs::Forms::tap_in))]
 pub fn tap(alloc: Global, pair: &Pair) -> Result<u32, ModelError>
-    ensures { Gives (λ n. n) result (tap_in pair.now) }
+    ensures value { Gives (λ n. n) result (tap_in pair.now) }
+    ensures bare { IsReadWhereBare pair.now result }
 {
     let number = number_within(alloc, pair, 500_000_000, 2 * ONE)?;
     Ok(tap_of_number(number))
@@ -188,7 +197,8 @@ pub fn tap(alloc: Global, pair: &Pair) -> Result<u32, ModelError>
 /// A time from 0 to 10^6 seconds, in whole milliseconds.
 #[tactic(auto, unfolding(crate::specs::Forms::milliseconds_in))]
 pub fn milliseconds(alloc: Global, pair: &Pair) -> Result<u32, ModelError>
-    ensures { Gives (λ n. n) result (milliseconds_in pair.now) }
+    ensures value { Gives (λ n. n) result (milliseconds_in pair.now) }
+    ensures bare { IsReadWhereBare pair.now result }
 {
     let number = number_within(alloc, pair, 0, 1_000_000 * ONE)?;
     Ok(nearest_count(number, 1_000_000) as u32)
@@ -197,7 +207,8 @@ pub fn milliseconds(alloc: Global, pair: &Pair) -> Result<u32, ModelError>
 /// A ratio from 0 to 100, a multiple of 10^-4.
 #[tactic(auto, unfolding(crate::specs::Forms::ratio_in))]
 pub fn ratio(alloc: Global, pair: &Pair) -> Result<i128, ModelError>
-    ensures { Gives (λ n. n) result (ratio_in pair.now) }
+    ensures value { Gives (λ n. n) result (ratio_in pair.now) }
+    ensures bare { IsReadWhereBare pair.now result }
 {
     let number = number_within(alloc, pair, 0, 100 * ONE)?;
     Ok(i128::from(nearest_count(number, 100_000)) * 100_000)
@@ -225,7 +236,8 @@ fn signed_count(number: i128) -> i32
 /// An angle in degrees, a multiple of 30 from -360 to 360; any other is unsupported.
 #[tactic(auto, unfolding(crate::specs::Forms::angle_in))]
 pub fn angle(alloc: Global, pair: &Pair) -> Result<i32, ModelError>
-    ensures { Gives (λ n. n) result (angle_in pair.now) }
+    ensures value { Gives (λ n. n) result (angle_in pair.now) }
+    ensures bare { IsReadWhereBare pair.now result }
 {
     let number = number_value(alloc, pair)?;
     if is_angle(number) {
@@ -238,7 +250,8 @@ pub fn angle(alloc: Global, pair: &Pair) -> Result<i32, ModelError>
 /// The number of a phase, which may be any whole number.
 #[tactic(auto, unfolding(crate::specs::Forms::phase_in))]
 pub fn phase(alloc: Global, pair: &Pair) -> Result<i32, ModelError>
-    ensures { Gives (λ n. n) result (phase_in pair.now) }
+    ensures value { Gives (λ n. n) result (phase_in pair.now) }
+    ensures bare { IsReadWhereBare pair.now result }
 {
     let number = whole_value(alloc, pair)?;
     let number = in_range(number, -ONE * ONE, ONE * ONE)?;

@@ -1,6 +1,5 @@
 -- The nominal voltages that sources and windings give to their buses.
-use Rattle.std.specs.Prelude.{ℕ, ◌==◌, Bool, false, ◌&&◌, ◌||◌, List, [], ◌∷◌, Option, Some, None, Result, Ok, Err, if◌then◌else◌}
-use Rattle.dss_model.specs.declared.bus.Bus.{Bus}
+use Rattle.std.specs.Prelude.{ℕ, ◌==◌, Bool, false, ◌&&◌, ◌||◌, List, [], ◌∷◌, Result, Ok, Err, if◌then◌else◌}
 use Rattle.dss_model.specs.declared.vsource.Vsource.{Vsource}
 use Rattle.dss_model.specs.declared.transformer.Winding.{Winding}
 use Rattle.dss_layout.specs.declared.numbers.TerminalFault.{TerminalFault}
@@ -12,25 +11,20 @@ use Rattle.fd_bases.specs.declared.nominal.Nominal.TheVariants.{Whole, OverRootT
 abbrev pub source_nominal : Vsource → Nominal
 source_nominal source = if source.phases == 1 then Whole source.basekv else OverRootThree source.basekv
 
--- the node numbers that a script writes behind a bus
-abbrev pub given_numbers : Option Bus → List ℕ
-given_numbers None = []
-given_numbers (Some bus) = bus.nodes
-
 -- one of the first two is ground
 abbrev pub has_ground : List ℕ → Bool
 has_ground [] = false
 has_ground (a ∷ []) = a == 0
 has_ground (a ∷ b ∷ more) = (a == 0) || (b == 0)
 
--- the two nodes of a winding of one phase; where their count is wrong, the numbers as they are given
-abbrev pub numbers_or : List ℕ → Result (List ℕ) TerminalFault → List ℕ
-numbers_or given (Ok numbers) = numbers
-numbers_or given (Err fault) = given
+-- a bus that isn't given, or whose count of nodes isn't that of one phase, has no node at ground
+abbrev pub grounded_by : Result (List ℕ) TerminalFault → Bool
+grounded_by (Ok numbers) = has_ground numbers
+grounded_by (Err fault) = false
 
 -- a winding of one phase has one of its two nodes at ground
 abbrev pub is_grounded : Winding → Bool
-is_grounded winding = has_ground (numbers_or (given_numbers winding.bus) (bus_numbers (one_phase_numbers winding.conn) winding.bus))
+is_grounded winding = grounded_by (bus_numbers (one_phase_numbers winding.conn) winding.bus)
 
 -- of one phase with one node at ground the kv as it is, else the kv over root three
 abbrev pub winding_nominal : ℕ → Winding → Nominal

@@ -1,10 +1,10 @@
 // The nominal voltages that sources and windings give to their buses.
 ghost use Rattle.std.specs.Prelude.{◌≡◌};
 ghost use Rattle.dss_model.specs.InRange.{VsourceInRange, WindingInRange};
-ghost use Rattle.fd_bases.specs.Nominals.{source_nominal, given_numbers, has_ground, is_grounded, winding_nominal};
+ghost use Rattle.fd_bases.specs.Nominals.{source_nominal, has_ground, is_grounded, winding_nominal};
 
 use dss_layout::bus_at;
-use dss_model::{Bus, Vsource, Winding};
+use dss_model::{Vsource, Winding};
 
 /// The nominal voltage of a bus, in whole 10^-9 kV.
 #[derive(Clone, Copy)]
@@ -28,15 +28,6 @@ pub fn source_nominal(source: &Vsource) -> Nominal
     }
 }
 
-fn given_numbers(bus: &Option<Bus>) -> &[u8]
-    ensures { result.now ≡ given_numbers bus.now }
-{
-    match bus {
-        Some(bus) => bus.nodes.as_slice(),
-        None => &[],
-    }
-}
-
 fn has_ground(numbers: &[u8]) -> bool
     ensures { result ≡ has_ground numbers.now }
 {
@@ -47,13 +38,13 @@ fn has_ground(numbers: &[u8]) -> bool
     }
 }
 
-// Whether a winding of one phase has one of its two nodes at ground.
+// Whether a winding of one phase has one of its two nodes at ground. Where their count is another, none is.
 fn is_grounded(winding: &Winding) -> bool
     ensures { result ≡ is_grounded winding.now }
 {
     match bus_at(1, winding.conn, &winding.bus) {
         Ok(numbers) => has_ground(numbers.as_slice()),
-        Err(_) => has_ground(given_numbers(&winding.bus)),
+        Err(_) => false,
     }
 }
 

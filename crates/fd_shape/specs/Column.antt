@@ -1,5 +1,5 @@
 -- The numbers of a load shape's file: the first fields of its records.
-use Rattle.std.specs.Prelude.{ℕ, ℤ, ◌+◌, List, [], ◌∷◌, reverse, Option, Some, None, Result, Ok, Err, if◌then◌else◌}
+use Rattle.std.specs.Prelude.{ℕ, ℤ, pos, ◌+◌, int_lt, Bool, ◌||◌, List, [], ◌∷◌, ◌++◌, take, drop, filter, reverse, Option, Some, None, Result, Ok, Err, if◌then◌else◌}
 use Rattle.std.specs.Result.{result_ok}
 use Rattle.std.specs.Str.{chars, is_utf8}
 use Rattle.csv.specs.Reading.{default_config, records, strip_bom}
@@ -32,10 +32,19 @@ column_from n (row ∷ rows) = elim (first_number row) [
   | Some value ↦ column_from (n + 1) rows >>= λ values. Ok (value ∷ values)
 ]
 
--- the numbers of a file. Its records are those of `csv`: fields parted by commas, and no header row, byte-order mark
--- or empty line among them
+-- no factor of a load shape, which is from 0 to 1,000
+abbrev pub is_unfit : ℤ → Bool
+is_unfit value = int_lt value (pos 0) || int_lt (pos 1_000_000_000_000) value
+
+-- the numbers that count: as many as a load shape has at most, 8,760, and behind them the first that is no factor, for
+-- which the shape is refused
+abbrev pub counted : List ℤ → List ℤ
+counted values = take 8760 values ++ take 1 (filter is_unfit (drop 8760 values))
+
+-- the numbers of a file that count. Its records are those of `csv`: fields parted by commas, and no header row,
+-- byte-order mark or empty line among them
 unfoldable pub column_of : List ℕ → Result (List ℤ) ℕ
-column_of bytes = column_from 1 (records default_config (strip_bom bytes))
+column_of bytes = column_from 1 (records default_config (strip_bom bytes)) >>= λ values. Ok (counted values)
 
 -- the number of the record at fault, unless memory ran out
 abbrev pub fault_of : ShapeFault → Option ℕ

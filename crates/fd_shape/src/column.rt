@@ -1,16 +1,16 @@
 // The first fields of a file's records, as numbers.
-ghost use Rattle.std.specs.Prelude.{◌≡◌, ◌<◌, ◌∷◌, [], true, IfOk, IfErr, IfSome, Ok, All, unsigned_abs, if◌then◌else◌};
+ghost use Rattle.std.specs.Prelude.{◌≡◌, ◌<◌, ◌∷◌, [], true, IfOk, IfErr, IfSome, OnOk, Ok, All, unsigned_abs, if◌then◌else◌};
 ghost use Rattle.csv.specs.Reading.{default_config, error_kind, records, stops_reader, strip_bom};
 ghost use Rattle.csv.specs.Records.{fields_of};
 ghost use Rattle.fd_shape.specs.Column.{Fails, column_of, first_number, number_in};
-ghost use Rattle.fd_shape.specs.Left.{IsPlain, records_left};
+ghost use Rattle.fd_shape.specs.Left.{IsPlain, kept, records_left, room_for};
 ghost use Rattle.fd_shape.specs.declared.fault.ShapeFault.TheVariants.{NoMemory};
 
 use crate::ShapeFault;
 use crate::blanks::trimmed;
 use csv::{ByteRecord, Reader, ReaderBuilder};
 use dss_lexer::number;
-use std::alloc::Global;
+use std::alloc::{AllocError, Global};
 use std::str;
 
 #[tactic(auto, using(crate::proofs::Numbers::number_in_text, crate::proofs::Numbers::number_in_no_text))]
@@ -33,6 +33,33 @@ fn number_of_record(row: &ByteRecord) -> Option<i128>
         Some(field) => number_of_bytes(trimmed(field)),
         None => None,
     }
+}
+
+// The most numbers that a load shape has.
+const MOST_POINTS: usize = 8760;
+
+// The greatest factor of a load shape, in whole 10^-9.
+const MOST: i128 = 1_000_000_000_000;
+
+// How many numbers may stand before one that is kept.
+fn room_for(value: i128) -> usize
+    ensures { result ≡ room_for value }
+{
+    if value < 0 || MOST < value {
+        MOST_POINTS + 1
+    } else {
+        MOST_POINTS
+    }
+}
+
+// Keeps a number where there is room for it.
+fn keep(values: &mut Vec<i128>, value: i128) -> Result<(), AllocError>
+    ensures { OnOk result (values.new.items ≡ kept values.old.items value) }
+{
+    if values.len() < room_for(value) {
+        values.push(value)?;
+    }
+    Ok(())
 }
 
 // The fault of a reader that stopped, for memory or for the bytes underneath. Those in memory have no faults.
@@ -67,7 +94,9 @@ fn next_record(reader: &mut Reader<&[u8]>, row: &mut ByteRecord) -> Result<bool,
     }
 }
 
-/// The numbers of a load shape's file, in whole units of 10^-9: the first field of each record, in order.
+/// The numbers of a load shape's file that count, in whole units of 10^-9: the first field of each record, in order. Of
+/// a longer file these are the first 8,760, which are the most that a load shape has, and behind them the first that
+/// isn't from 0 to 1,000: for that one the shape is refused. No more are kept.
 ///
 /// The records are those that `csv` reads from the bytes: fields parted by commas, with or without quotes, records
 /// of any length, no header row; a byte-order mark and empty lines are dropped. Blanks and tabs round the first
@@ -87,7 +116,7 @@ pub fn read_column(alloc: Global, bytes: &[u8]) -> Result<Vec<i128>, ShapeFault>
             return Ok(values);
         }
         match number_of_record(&row) {
-            Some(value) => values.push(value)?,
+            Some(value) => keep(&mut values, value)?,
             None => return Err(ShapeFault::BadValue { number }),
         }
     }

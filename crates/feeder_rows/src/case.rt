@@ -2,12 +2,28 @@
 use fd_app::run;
 use fd_outside::{Bytes, FileEntry, MemLibrary, MemSink};
 use std::alloc::{AllocError, Global};
+use std::fmt;
+use std::fmt::{Display, Formatter};
 
 /// A file that the library of a case holds.
 #[derive(Drop)]
 pub struct HeldFile {
     pub name: String,
     pub bytes: Vec<u8>,
+}
+
+/// What a run comes to: the bytes that the sink takes, and the exit status.
+#[derive(Drop)]
+pub struct Outcome {
+    pub text: Vec<u8>,
+    pub status: u8,
+}
+
+/// What is due where the file that a case cuts has this length or more.
+#[derive(Drop)]
+pub struct Due {
+    pub from: usize,
+    pub outcome: Outcome,
 }
 
 /// What a run is given, and what it must come to.
@@ -20,9 +36,12 @@ pub struct Case {
     pub failing_reads: Vec<u32>,
     /// The numbers of the writes that fail, from 1.
     pub failing_writes: Vec<u32>,
-    /// The bytes that the sink must have taken.
-    pub text: Vec<u8>,
-    pub status: u8,
+    /// The file that has each shorter length too, in a run of its own.
+    pub cut_file: Option<String>,
+    /// Whether each write fails too, in a run of its own.
+    pub has_each_write: bool,
+    /// What is due; for the lengths of the file that is cut, by rising lengths.
+    pub due: Vec<Due>,
 }
 
 impl Case {
@@ -34,24 +53,142 @@ impl Case {
             files: Vec::new(alloc),
             failing_reads: Vec::new(alloc),
             failing_writes: Vec::new(alloc),
-            text: Vec::new(alloc),
-            status: 0,
+            cut_file: None,
+            has_each_write: false,
+            due: Vec::new(alloc),
+        }
+    }
+
+    /// Whether a file of this name is held.
+    pub(crate) fn holds_file(&self, name: &str) -> bool {
+        let mut holds = false;
+        for file in &self.files {
+            holds = holds || file.name.as_str() == name;
+        }
+        holds
+    }
+
+    fn is_cut(&self, file: &HeldFile) -> bool {
+        match &self.cut_file {
+            Some(name) => *name == file.name,
+            None => false,
+        }
+    }
+
+    /// The lengths that the file which is cut has besides its own: as many, from 0.
+    pub(crate) fn shorter_lengths(&self) -> usize {
+        let mut length = 0;
+        for file in &self.files {
+            if self.is_cut(file) {
+                length = file.bytes.len();
+            }
+        }
+        length
+    }
+
+    /// How many writes fail in runs of their own: as many as lines are due.
+    pub(crate) fn writes(&self) -> usize {
+        match self.due_at(usize::MAX) {
+            Some(due) if self.has_each_write => line_feeds(due.text.as_slice()),
+            _ => 0,
+        }
+    }
+
+    /// How many runs the case has: as it stands, with each shorter length, and with each write failing.
+    pub(crate) fn runs(&self) -> usize {
+        self.shorter_lengths()
+            .saturating_add(self.writes())
+            .saturating_add(1)
+    }
+
+    fn due_at(&self, length: usize) -> Option<&Outcome> {
+        let mut found = None;
+        for due in &self.due {
+            if due.from <= length {
+                found = Some(&due.outcome);
+            }
+        }
+        found
+    }
+
+    /// Whether an outcome is the one that is due in a run.
+    pub(crate) fn is_due(&self, how: How, outcome: &Outcome) -> bool {
+        let Some(due) = self.due_at(how.length) else {
+            return false;
+        };
+        match how.failing_write {
+            Some(number) => {
+                outcome.status == 5 && outcome.text.as_slice() == lines_before(&due.text, number)
+            }
+            None => outcome.status == due.status && outcome.text == due.text,
         }
     }
 }
 
-/// What a run came to: the bytes that the sink took, and the exit status.
-#[derive(Drop)]
-pub struct Outcome {
-    pub text: Vec<u8>,
-    pub status: u8,
+fn line_feeds(text: &[u8]) -> usize {
+    let mut count = 0usize;
+    for byte in text {
+        if *byte == b'\n' {
+            count = count.saturating_add(1);
+        }
+    }
+    count
 }
 
-fn entries_of(alloc: Global, files: &[HeldFile]) -> Result<Vec<FileEntry>, AllocError> {
+// The lines of a text before the one of this number, from 1.
+fn lines_before(text: &[u8], number: u32) -> &[u8] {
+    let mut line = 1u32;
+    let mut length = 0usize;
+    for byte in text {
+        if line >= number {
+            break;
+        }
+        length = length.saturating_add(1);
+        if *byte == b'\n' {
+            line = line.saturating_add(1);
+        }
+    }
+    text.get(..length).unwrap_or(text)
+}
+
+/// How a case is run.
+#[derive(Clone, Copy)]
+pub struct How {
+    /// The file that is cut has at most this length.
+    pub length: usize,
+    /// The write that fails in place of those that the case names.
+    pub failing_write: Option<u32>,
+}
+
+impl How {
+    /// As the case stands.
+    pub(crate) fn whole() -> Self {
+        How {
+            length: usize::MAX,
+            failing_write: None,
+        }
+    }
+}
+
+impl Display for How {
+    fn fmt<W: fmt::Write>(&self, f: &mut Formatter<W>) -> fmt::Result {
+        match self.failing_write {
+            Some(number) => write!(f, "write {number}"),
+            None if self.length == usize::MAX => f.write_str("whole"),
+            None => write!(f, "length {}", self.length),
+        }
+    }
+}
+
+// The files, that which is cut with at most this length.
+fn entries_of(alloc: Global, case: &Case, length: usize) -> Result<Vec<FileEntry>, AllocError> {
     let mut entries = Vec::new(alloc);
-    for file in files {
+    for file in &case.files {
         let name = file.name.as_bytes().to_vec(alloc)?;
-        let bytes = file.bytes.as_slice().to_vec(alloc)?;
+        let mut bytes = file.bytes.as_slice().to_vec(alloc)?;
+        if case.is_cut(file) {
+            bytes.truncate(length);
+        }
         entries.push(FileEntry {
             name: Bytes::new(name),
             bytes: Bytes::new(bytes),
@@ -61,10 +198,14 @@ fn entries_of(alloc: Global, files: &[HeldFile]) -> Result<Vec<FileEntry>, Alloc
 }
 
 /// Runs a case over memory.
-pub(crate) fn outcome_of(alloc: Global, case: &Case) -> Result<Outcome, AllocError> {
-    let entries = entries_of(alloc, case.files.as_slice())?;
+pub(crate) fn outcome_of(alloc: Global, case: &Case, how: How) -> Result<Outcome, AllocError> {
+    let entries = entries_of(alloc, case, how.length)?;
     let failing_reads = case.failing_reads.as_slice().to_vec(alloc)?;
-    let failing_writes = case.failing_writes.as_slice().to_vec(alloc)?;
+    let mut failing_writes = case.failing_writes.as_slice().to_vec(alloc)?;
+    if let Some(number) = how.failing_write {
+        failing_writes.clear();
+        failing_writes.push(number)?;
+    }
     let mut lib = MemLibrary::new(alloc, entries, failing_reads);
     let mut out = MemSink::new(alloc, failing_writes);
     let status = run(alloc, case.words.as_slice(), &mut lib, &mut out);

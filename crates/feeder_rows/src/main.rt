@@ -11,28 +11,65 @@
 mod case;
 mod reading;
 
-use case::{Case, Outcome, outcome_of};
+use case::{Case, How, outcome_of};
 use reading::{RowsFault, cases_of};
 use std::env::Env;
 use std::process::ExitCode;
 use std::rt::Files;
 use std::{env, fs};
 
-// Says what a case came to in place of what it expects.
-fn print_outcome(rt: &impl Print, case: &Case, outcome: &Outcome) -> Result<(), RowsFault> {
-    println!(rt;
-        "{}: status {} in place of {}, and",
-        case.name, outcome.status, case.status
-    )?;
+// Whether a run of a case comes to what is due; else what it comes to is printed.
+fn holds(rt: &(impl Print + AllocGlobal), case: &Case, how: How) -> Result<bool, RowsFault> {
+    let outcome = outcome_of(rt.alloc(), case, how)?;
+    if case.is_due(how, &outcome) {
+        return Ok(true);
+    }
+    println!(rt; "{}, {how}: status {}, and", case.name, outcome.status)?;
     rt.write_all(outcome.text.as_slice())?;
-    Ok(())
+    Ok(false)
 }
 
-/// How many cases there are, and how many came to what they expect.
+// Whether a case comes to what is due with each shorter length of the file that it cuts.
+fn holds_at_lengths(rt: &(impl Print + AllocGlobal), case: &Case) -> Result<bool, RowsFault> {
+    let mut all = true;
+    for length in 0..case.shorter_lengths() {
+        let how = How {
+            length,
+            failing_write: None,
+        };
+        all = holds(rt, case, how)? && all;
+    }
+    Ok(all)
+}
+
+// Whether a case comes to what is due with each of its writes failing.
+fn holds_at_writes(rt: &(impl Print + AllocGlobal), case: &Case) -> Result<bool, RowsFault> {
+    let mut all = true;
+    let mut number = 0u32;
+    for _write in 0..case.writes() {
+        number = number.saturating_add(1);
+        let how = How {
+            length: usize::MAX,
+            failing_write: Some(number),
+        };
+        all = holds(rt, case, how)? && all;
+    }
+    Ok(all)
+}
+
+fn holds_always(rt: &(impl Print + AllocGlobal), case: &Case) -> Result<bool, RowsFault> {
+    let whole = holds(rt, case, How::whole())?;
+    let shorter = holds_at_lengths(rt, case)?;
+    let failing = holds_at_writes(rt, case)?;
+    Ok(whole && shorter && failing)
+}
+
+/// How many cases there are, how many came to what they expect, and how many runs they have.
 #[derive(Clone, Copy)]
 struct Count {
     held: usize,
     cases: usize,
+    runs: usize,
 }
 
 // Runs the cases of a file.
@@ -40,30 +77,35 @@ fn run_file(rt: &(impl Files + Print + AllocGlobal), name: &str) -> Result<Count
     let text = fs::read_to_string(rt, name)?;
     let cases = cases_of(rt.alloc(), text.as_str())?;
     let mut held = 0usize;
+    let mut runs = 0usize;
     for case in &cases {
-        let outcome = outcome_of(rt.alloc(), case)?;
-        if outcome.status == case.status && outcome.text == case.text {
+        runs = runs.saturating_add(case.runs());
+        if holds_always(rt, case)? {
             held = held.saturating_add(1);
-        } else {
-            print_outcome(rt, case, &outcome)?;
         }
     }
     println!(rt; "{name}: {held} of {}", cases.len())?;
     Ok(Count {
         held,
         cases: cases.len(),
+        runs,
     })
 }
 
 // Whether each case of each file came to what it expects.
 fn run_files(rt: &(impl Env + Files + Print + AllocGlobal)) -> Result<bool, RowsFault> {
-    let mut all = Count { held: 0, cases: 0 };
+    let mut all = Count {
+        held: 0,
+        cases: 0,
+        runs: 0,
+    };
     for name in env::args(rt)?.skip(1) {
         let count = run_file(rt, name.as_str())?;
         all.held = all.held.saturating_add(count.held);
         all.cases = all.cases.saturating_add(count.cases);
+        all.runs = all.runs.saturating_add(count.runs);
     }
-    println!(rt; "{} of {} cases", all.held, all.cases)?;
+    println!(rt; "{} of {} cases, in {} runs", all.held, all.cases, all.runs)?;
     Ok(all.held == all.cases)
 }
 

@@ -8,11 +8,14 @@
 //     read NUMBER     the read of this number fails
 //     write NUMBER    the write of this number fails
 //     status NUMBER   the exit status; what follows is the text that the sink must have taken
+//     each write      besides, each write fails in a run of its own: status 5 and the lines before it are due
+//     length NAME     besides, this file, which stands before, has each shorter length in a run of its own
+//     from NUMBER     the status behind this is due where that file has so many bytes or more
 //     repeat NUMBER   the next piece of text stands so often, each time with its number from 1 in place of each `#`
 //     |TEXT           this text, and the end of a line
 //     >TEXT           this text
 //     byte NUMBER     this byte
-use crate::case::{Case, HeldFile};
+use crate::case::{Case, Due, HeldFile, Outcome};
 use std::alloc::{AllocError, AllocFailed, Global};
 use std::fmt::{Display, Formatter};
 use std::{fmt, io};
@@ -60,6 +63,7 @@ struct Reader {
     case: Case,
     in_file: bool,
     repeat: u32,
+    from: usize,
 }
 
 // Text with a number in place of each `#`.
@@ -104,19 +108,37 @@ impl Reader {
     fn push(&mut self, alloc: Global, text: &[u8], end: &[u8]) -> Result<(), AllocError> {
         let repeat = self.repeat;
         self.repeat = 1;
-        if !self.in_file {
-            return push_to(alloc, &mut self.case.text, text, end, repeat);
+        if self.in_file {
+            if let Some(file) = self.case.files.last_mut() {
+                push_to(alloc, &mut file.bytes, text, end, repeat)?;
+            }
+        } else if let Some(due) = self.case.due.last_mut() {
+            push_to(alloc, &mut due.outcome.text, text, end, repeat)?;
         }
-        match self.case.files.last_mut() {
-            Some(file) => push_to(alloc, &mut file.bytes, text, end, repeat),
-            None => Ok(()),
-        }
+        Ok(())
     }
 
-    // What a line with a word and its value says. None where there is no such word or no such number.
+    // What is due from a length of the cut file on begins.
+    fn push_due(&mut self, alloc: Global, status: u8) -> Result<(), AllocError> {
+        self.in_file = false;
+        self.case.due.push(Due {
+            from: self.from,
+            outcome: Outcome {
+                text: Vec::new(alloc),
+                status,
+            },
+        })?;
+        Ok(())
+    }
+
+    // What a line with a word and its value says. None where there is no such word, file or number.
     fn set(&mut self, alloc: Global, word: &str, value: &str) -> Result<Option<()>, AllocError> {
         match word {
             "word" => self.case.words.push(value.to_string(alloc)?)?,
+            "length" if self.case.holds_file(value) => {
+                self.case.cut_file = Some(value.to_string(alloc)?);
+            }
+            "each" if value == "write" => self.case.has_each_write = true,
             "file" => {
                 self.in_file = true;
                 self.case.files.push(HeldFile {
@@ -142,10 +164,8 @@ impl Reader {
             "read" => self.case.failing_reads.push(number)?,
             "write" => self.case.failing_writes.push(number)?,
             "repeat" => self.repeat = number,
-            "status" => {
-                self.in_file = false;
-                self.case.status = (number % 256) as u8;
-            }
+            "from" => self.from = number as usize,
+            "status" => self.push_due(alloc, (number % 256) as u8)?,
             "byte" => self.push(alloc, &[(number % 256) as u8], b"")?,
             _ => return Ok(None),
         }
@@ -183,6 +203,7 @@ pub(crate) fn cases_of(alloc: Global, text: &str) -> Result<Vec<Case>, RowsFault
                 case: Case::named(alloc, name.to_string(alloc)?),
                 in_file: false,
                 repeat: 1,
+                from: 0,
             };
             if let Some(done) = reader.replace(next) {
                 cases.push(done.case)?;

@@ -1,7 +1,6 @@
 use Rattle.std.proofs.Common.{◌≡◌, ◌∙◌, ◌<◌, All, unsigned_abs, FitsSigned, Some, ap, rules, sym, true}
 use Rattle.std.proofs.lemmas.Int.{to_z-of_z}
 use Rattle.std.specs.Int.{w128}
-use Rattle.std.specs.Result.{is_ok}
 use Rattle.csv.specs.Records.{fields_of}
 use Rattle.fd_shape.specs.Column.{column_from, column_of, first_number}
 use Rattle.fd_shape.proofs.Columns.{after, after_nothing, after_some, sizes_after}
@@ -17,9 +16,8 @@ pub loop-number-preserved : goal.loop-number-preserved
 loop-number-preserved c =
     let inv = c.loop-number.invariant in
     let found : c.in_ok-next_record.field-0 ≡ true = search rules in
-    let good : is_ok c.push.result ≡ true = search rules in
     let fits : FitsSigned w128 c.in-Some.value = search rules in
-    let items = simp (to_z-of_z w128 c.in-Some.value fits) at (rw good at c.push.ensures.items) in
+    let items = simp (to_z-of_z w128 c.in-Some.value fits) at c.in_ok-keep-in-Some.ensures in
     let left = rw found at c.in_ok-next_record.ensures.left in
     let value : first_number (fields_of c.next_record.new.row) ≡ Some c.in-Some.value = sym c.in-Some.ensures.value in (
       c.in_ok-next_record.ensures.plain found,
