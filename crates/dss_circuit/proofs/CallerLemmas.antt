@@ -1,3 +1,3 @@
--- What a caller needs to know of an element that is looked up.
-pub use Rattle.dss_circuit.proofs.Entries.{of_found}
-pub use Rattle.dss_circuit.proofs.WellFormed.{found_begun, found_class}
+-- What a caller needs to know of an element that is looked up, and of one that is put.
+pub use Rattle.dss_circuit.proofs.Entries.{of_found, of_inserted}
+pub use Rattle.dss_circuit.proofs.WellFormed.{found_begun, found_class, none_well_formed, well_formed_kept}

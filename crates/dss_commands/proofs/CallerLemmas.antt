@@ -1,2 +1,3 @@
--- What a caller needs to know of the steps of a command.
+-- What a caller needs to know of the steps of a command, and of no circuit.
+pub use Rattle.dss_commands.proofs.Limits.{none_within}
 pub use Rattle.dss_commands.proofs.Steps.{through}

@@ -3,3 +3,4 @@ pub mod KeyNames
 pub mod Named
 pub mod Pairs
 pub mod CallerLemmas
+pub mod Limits

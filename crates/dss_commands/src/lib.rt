@@ -7,11 +7,14 @@
 //! - `elements`: elements made and edited
 //! - `options`: options set, and Solves counted
 //! - `fold`: `apply`
+//! - `laws`: what every circuit is that commands make
 #![tactic(auto)]
 
 mod elements;
 mod fold;
 mod keys;
+mod laws;
 mod options;
 
 pub use fold::apply;
+pub use laws::limits_law;

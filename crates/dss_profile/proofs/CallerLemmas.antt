@@ -21,6 +21,7 @@ use Rattle.dss_profile.specs.Load.{with_load}
 use Rattle.dss_profile.specs.RegControl.{with_regcontrol}
 use Rattle.dss_profile.specs.CapControl.{with_capcontrol}
 use Rattle.dss_profile.specs.Loadshape.{with_loadshape}
+pub use Rattle.dss_profile.proofs.ElementRanges.{options_in_range, pair_in_range}
 pub use Rattle.dss_profile.proofs.FormRanges.{then_ok, any_ok, made_ok, kept_ok, found_ok}
 
 -- ---- classes

@@ -1,9 +1,12 @@
 -- Pairs keep the values of elements and options in range.
-use Rattle.std.proofs.Common.{ℕ, ◌≤◌, List, [], ◌∷◌, Option, Some, None, is_some, IfSome, Result, Ok, Err, IfOk, OnOk, refl}
+use Rattle.std.proofs.Common.{◌≡◌, ℕ, ◌≤◌, Bool, true, false, if◌then◌else◌, List, [], ◌∷◌, Option, Some, None, is_some, IfSome, Result, Ok, Err, IfOk, OnOk, refl}
 use Rattle.std.proofs.lemmas.Result.{IfOk-at_ok, IfOk-weaker}
+use Rattle.dss_lexer.specs.Texts.{is_empty}
 use Rattle.dss_lexer.specs.declared.pair.Pair.{Pair}
 use Rattle.dss_model.specs.declared.fault.ModelError.{ModelError}
 use Rattle.dss_model.specs.declared.fault.ModelFault.{ModelFault}
+use Rattle.dss_model.specs.declared.fault.ModelFault.TheVariants as fault
+use Rattle.dss_model.specs.Names.{bytes, lower}
 use Rattle.dss_model.specs.Answers.{Makes}
 use Rattle.dss_values.specs.Forms.{whole_between}
 use Rattle.dss_model.specs.declared.element.Element.{Element}
@@ -16,7 +19,7 @@ use Rattle.dss_model.specs.declared.words.Mode.TheVariants as mode
 use Rattle.dss_model.specs.Changes.{Becomes}
 use Rattle.dss_model.specs.InRange.{LinecodeInRange, ElementInRange, OptionsInRange}
 use Rattle.dss_model.specs.Ranges.{IsCountBetween}
-use Rattle.dss_profile.specs.Element.{code_found, with_named}
+use Rattle.dss_profile.specs.Element.{code_found, with_named, with_pair}
 use Rattle.dss_profile.specs.Options.{in_mode, with_option, with_named_option, with_options}
 use Rattle.dss_profile.proofs.FormRanges.{count_by_test, then_ok, any_ok, made_ok, kept_ok, number_ok, whole_ok, numbers_ok, supported_ok}
 use Rattle.dss_profile.proofs.ClassRanges.{vsource_in_range, linecode_in_range, line_in_range, transformer_in_range, capacitor_in_range, load_in_range, regcontrol_in_range, capcontrol_in_range, loadshape_in_range}
@@ -112,3 +115,15 @@ options_in_range [] options h = h
 options_in_range (p ∷ ps) options h =
     then_ok _ OptionsInRange (with_named_option p options) (with_options ps) (named_option_in_range p options h)
     (options_in_range ps)
+
+-- a pair keeps an element in range
+pub pair_in_range : (solves : ℕ) (found : Option Element) (pair : Pair) (e new : Element) → IfSome found ElementInRange
+    → ElementInRange e → with_pair solves found pair e ≡ Ok new → ElementInRange new
+unfolding with_pair
+pair_in_range solves found pair e new f h is = by (is_empty pair.name) is
+  where
+    by : (b : Bool)
+        → (if b then Err fault.Unsupported else with_named solves found (bytes (lower pair.name)) pair e) ≡ Ok new
+        → ElementInRange new
+    by true is = cc is
+    by false is = IfOk-at_ok ElementInRange is (named_in_range solves found (bytes (lower pair.name)) pair e f h)

@@ -10,3 +10,4 @@ pub mod Rooms
 pub mod Prices
 pub mod Few
 mod SaidSame
+mod SaidRooms

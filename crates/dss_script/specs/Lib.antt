@@ -11,3 +11,4 @@ pub mod Fills
 pub mod Bounds
 pub mod Said
 pub mod SaidLaws
+pub mod SaidRoom

@@ -13,6 +13,7 @@
 //! - `laws`: a script as a list of events
 //! - `path`: names of files, joined to MASTER's folder
 //! - `reading`: a file that is being read, line by line
+//! - `said_room`: how much room the commands take that a script says, as a law
 //! - `session`: `Session`, which reads on from file to file
 //! - `shape_file`: the file that a pair of a load shape names
 //! - `shapes`: the files of load shapes, whose numbers stand in place of their names
@@ -25,6 +26,7 @@ mod laws;
 mod meaning;
 mod path;
 mod reading;
+mod said_room;
 mod session;
 mod shape_file;
 mod shapes;
@@ -33,4 +35,5 @@ pub use bounds::commands_are_few;
 pub use cutting::pairs;
 pub use fault::{ScriptCause, SessionFault};
 pub use laws::said_law;
+pub use said_room::said_room_law;
 pub use session::Session;

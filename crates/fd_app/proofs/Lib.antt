@@ -7,3 +7,5 @@ mod Solves
 mod Scripts
 mod RoundTrips
 mod Written
+mod Certified
+mod Gathers

@@ -17,12 +17,14 @@
 //!
 //! - `top`: the call itself
 //! - `accepted`: the laws of what `cert` writes, no code
+//! - `meaning`: the law of what `check` accepts, no code
 //!
 //! Specs: `Run`, the history of a command line; `Solves`, the Solves of a script; `Printed`, the bytes and the rounds of
-//! a history; `Accepted`, the laws.
+//! a history; `Accepted`, the laws of `cert`; `Meaning`, what an accepted certificate means.
 #![tactic(auto)]
 
 mod accepted;
+mod meaning;
 mod top;
 
 pub use accepted::{cert_law, round_trip_law, written_law};

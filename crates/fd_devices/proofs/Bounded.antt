@@ -20,11 +20,10 @@ use Rattle.fd_system.specs.Contributions.{IsDivided, IsWithin, concat_below, com
 use Rattle.fd_system.specs.Loads.{FitsModel, IsLoad, draw_of, impedance_list, linear_list}
 use Rattle.fd_system.proofs.CallerLemmas.{complex_divided}
 use Rattle.fd_line.specs.declared.data.LineData.{LineData}
-use Rattle.fd_line.specs.Totals.{IsLine}
 use Rattle.fd_line.specs.Line.{line_list}
 use Rattle.fd_line.proofs.CallerLemmas.{line_is}
 use Rattle.fd_source.specs.declared.data.SourceData.{SourceData}
-use Rattle.fd_source.specs.Equations.{IsSource, constants_from, phase_constants, source_constants, source_list}
+use Rattle.fd_source.specs.Equations.{constants_from, phase_constants, source_constants, source_list}
 use Rattle.fd_source.specs.Phasors.{cosine, cosines, steps_of, volts_im, volts_re}
 use Rattle.fd_source.proofs.CallerLemmas.{source_is}
 use Rattle.fd_exact.specs.Nearest.{near_within}
@@ -42,15 +41,15 @@ contributions n b ts h d w = record { inside = h.inside; divided = d; within = w
 
 -- ---- lines
 
-pub line_settled : (m n size : ℕ) (l : LineData) (at : Ends) → IsLine l → IsSideOf n l.phases at.first
+pub line_settled : (m n size : ℕ) (l : LineData) (at : Ends) → l.phases ≤ 3 → IsSideOf n l.phases at.first
     → IsSideOf n l.phases at.second → HasBranches n l.phases at → All IsWithin (line_list l at)
     → IsSettled m n size l.phases (line l at)
-line_settled m n size l at g first second branches w = record {
+line_settled m n size l at few first second branches w = record {
   fits = fits_by (line l at) w (All-nil (λ u. ¬ (IsPast u.load)));
   good = tt;
   bounded = record {
     terms = contributions n (64 * (1 + l.phases)) (line_list l at) (more_room n (l.phases * 64) (64 * (1 + l.phases))
-        (line_list l at) (omega arith) (line_inside n l at first.below second.below branches.below g.few))
+        (line_list l at) (omega arith) (line_inside n l at first.below second.below branches.below few))
         (line_is l at).divided w;
     constants = All-nil (IsKnown (2 * n));
     few_constants = omega arith;
@@ -117,22 +116,21 @@ known_from m row (v ∷ vs) h k =
     All-cons (IsKnown m) _ (constants_from (row + 1) vs) (record { row = omega arith; least = omega (arith, ints, size); most = omega (arith, ints, size) })
     (known_from m (row + 1) vs (omega arith) (All-tail IsSmallVoltage v vs k))
 
-pub source_settled : (m n size : ℕ) (s : SourceData) (at : Ends) → IsSource s → IsSideOf n s.phases at.first
-    → HasBranches n s.phases at → All IsWithin (source_list s at) → IsSettled m n size s.phases (source s at)
-source_settled m n size s at g first branches w =
+pub source_settled : (m n size : ℕ) (s : SourceData) (at : Ends) → s.phases ≤ 3 → UpTo (2 * 10 ^ 12) s.volts
+    → IsSideOf n s.phases at.first → HasBranches n s.phases at → All IsWithin (source_list s at) → IsSettled m n size s.phases (source s at)
+source_settled m n size s at few volts first branches w =
     let count = constants_length s s.phases in
     let rows = from_length (2 * at.branch) (source_constants s) in
     let below = branches.below in
-    let few = g.few in
     record {
       fits = fits_by (source s at) w (All-nil (λ u. ¬ (IsPast u.load)));
       good = tt;
       bounded = record {
         terms = contributions n (64 * (1 + s.phases)) (source_list s at)
             (more_room n (s.phases * 64) (64 * (1 + s.phases)) (source_list s at) (omega arith)
-            (source_inside n s at first.below branches.below g.few))
+            (source_inside n s at first.below branches.below few))
             (source_is s at).divided w;
-        constants = known_from (2 * n) (2 * at.branch) (source_constants s) (omega arith) (constants_small s g.volts s.phases);
+        constants = known_from (2 * n) (2 * at.branch) (source_constants s) (omega arith) (constants_small s volts s.phases);
         few_constants = omega arith;
         loads = All-nil (IsServed m n size);
         few_loads = omega arith;

@@ -44,7 +44,7 @@ joined_more ss s =
 pub stamp_more : (ds : List Device) (d : Device) → stamp_of_all (ds ++ d ∷ []) ≡ beside (stamp_of_all ds) (device_stamp d)
 stamp_more ds d = ap joined (map-append device_stamp ds (d ∷ [])) ∙ joined_more (map device_stamp ds) (device_stamp d)
 
-bounded_more : (nodes n size m k b c : ℕ) (a p : StampView) → IsBounded nodes n size m b a
+pub bounded_more : (nodes n size m k b c : ℕ) (a p : StampView) → IsBounded nodes n size m b a
     → IsBounded nodes n size k c p → IsBounded nodes n size (m + k) (b + c) (beside a p)
 bounded_more nodes n size m k b c a p h g =
     let terms = length-append a.terms p.terms in

@@ -15,3 +15,4 @@ pub mod Within
 pub mod OneKind
 pub mod Reach
 pub mod Keeping
+pub mod Fits

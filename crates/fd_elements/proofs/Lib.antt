@@ -5,3 +5,4 @@ pub mod Answers
 pub mod Products
 pub mod Shares
 pub mod Phases
+pub mod Voltages

@@ -27,7 +27,7 @@ size_most n z h = omega (arith, ints, h.least, h.most)
 pub size_up_to : (n : ℕ) (z : ℤ) → UpTo n z → nat_abs z ≤ n
 size_up_to n z h = omega (arith, ints, h.least, h.most)
 
-natural_sign : (n : ℕ) → pos 0 ≤ℤ pos n
+pub natural_sign : (n : ℕ) → pos 0 ≤ℤ pos n
 natural_sign n = omega (arith, ints)
 
 -- a product of numbers that are not negative is not
@@ -38,17 +38,17 @@ product_sign (negsuc m) b u v = absurd (omega (arith, ints, u))
 
 -- ---- a number over a divisor, to the nearest
 
-near_sign : (z : ℤ) (d : ℕ) → pos 0 ≤ℤ z → pos 0 ≤ℤ near_div z d
+pub near_sign : (z : ℤ) (d : ℕ) → pos 0 ≤ℤ z → pos 0 ≤ℤ near_div z d
 near_sign (pos a) d h = natural_sign ((2 * a + d) / (2 * d))
 near_sign (negsuc a) d h = absurd (omega (arith, ints, h))
 
-near_above : (z : ℤ) (d q : ℕ) → 0 < d → pos 0 ≤ℤ z → z ≤ℤ pos (q * d) → near_div z d ≤ℤ pos q
+pub near_above : (z : ℤ) (d q : ℕ) → 0 < d → pos 0 ≤ℤ z → z ≤ℤ pos (q * d) → near_div z d ≤ℤ pos q
 near_above (pos a) d q p h k =
     let n : (2 * a + d) / (2 * d) ≤ q = near_most a d q p (omega (arith, ints, k)) in
     omega (arith, ints, n)
 near_above (negsuc a) d q p h k = absurd (omega (arith, ints, h))
 
-near_below : (z : ℤ) (d q : ℕ) → 0 < d → pos 0 ≤ℤ z → pos (q * d) ≤ℤ z → pos q ≤ℤ near_div z d
+pub near_below : (z : ℤ) (d q : ℕ) → 0 < d → pos 0 ≤ℤ z → pos (q * d) ≤ℤ z → pos q ≤ℤ near_div z d
 near_below (pos a) d q p h k =
     let n : q ≤ (2 * a + d) / (2 * d) = near_least a d q p (omega (arith, ints, k)) in
     omega (arith, ints, n)

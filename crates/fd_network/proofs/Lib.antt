@@ -11,3 +11,4 @@ pub mod ReadyPlaces
 pub mod Parting
 pub mod Ready
 pub mod CallerLemmas
+pub mod InRange

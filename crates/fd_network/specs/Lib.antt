@@ -3,5 +3,6 @@ pub mod Built
 pub mod Collecting
 pub mod Faults
 pub mod Keeping
+pub mod Laws
 pub mod Places
 pub mod Stamps

@@ -20,8 +20,10 @@ mod blame;
 mod extents;
 mod fault;
 mod keeping;
+mod laws;
 mod network;
 mod room;
 mod stamps;
 
+pub use laws::network_law;
 pub use network::Network;

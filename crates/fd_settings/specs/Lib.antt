@@ -1,3 +1,4 @@
 pub mod Snapshot
 pub mod Positions
 pub mod Hours
+pub mod Modest

@@ -167,7 +167,7 @@ other_state opened time j (state.Bank p s) (state.Bank q x) a h = (
   ),
 )
 
-apart_flip : (p q : Probe) → AreApart p q → AreApart q p
+pub apart_flip : (p q : Probe) → AreApart p q → AreApart q p
 apart_flip (probe.Regulator p) (probe.Regulator q) h = λ e f. h (sym e) (sym f)
 apart_flip (probe.Regulator p) (probe.Bank q) h = tt
 apart_flip (probe.Bank p) (probe.Regulator q) h = tt
@@ -241,7 +241,7 @@ tap_within : (is_second : Bool) (pair : TapPair) → AreTaps pair
 tap_within true pair h = (h.second_least, h.second_most)
 tap_within false pair h = (h.first_least, h.first_most)
 
-moved_within : (is_second : Bool) (pair : TapPair) (d : Decision) (step : ℕ) → AreTaps pair
+pub moved_within : (is_second : Bool) (pair : TapPair) (d : Decision) (step : ℕ) → AreTaps pair
     → MovesWithin (tap_of is_second pair) step d →
     AreTaps (set_tap is_second (moved_tap (is_raise d) (tap_of is_second pair) (steps_of d * step)) pair)
 moved_within is_second pair (Raise n) step h m =
@@ -309,7 +309,7 @@ other_tap true false tap pair n = refl
 other_tap false true tap pair n = refl
 other_tap false false tap pair n = absurd (n refl)
 
-tap_by : (taps : List TapPair) (i j : ℕ) (is_second other : Bool) (tap : ℕ) → i < length taps → (i ≡ j) ⊎ (i ≢ j)
+pub tap_by : (taps : List TapPair) (i j : ℕ) (is_second other : Bool) (tap : ℕ) → i < length taps → (i ≡ j) ⊎ (i ≢ j)
     → (i ≡ j → is_second ≢ other) →
     tap_of other (get_or (set taps i (set_tap is_second tap (get_or taps i no_taps))) j no_taps) ≡ tap_of other (get_or taps j no_taps)
 tap_by taps i j is_second other tap l (inl e) n =

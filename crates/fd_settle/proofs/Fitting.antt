@@ -15,6 +15,8 @@ use Rattle.fd_regctl.specs.RegulatorLaws.{StepsDown, StepsUp, StaysWithin, TapLa
 use Rattle.fd_regctl.specs.Settings.{RegSettings}
 use Rattle.fd_capctl.specs.BankLaws.{AwayLaw}
 use Rattle.fd_sample.specs.declared.probe.Probe.{Probe}
+use Rattle.fd_sample.specs.declared.probe.Probe.TheVariants as probe
+use Rattle.fd_sample.specs.declared.probe.RegProbe.{RegProbe}
 use Rattle.fd_sample.specs.Banks.{bank_of}
 use Rattle.fd_sample.specs.Circuits.{HasRange}
 use Rattle.fd_sample.specs.Decided.{Undecided, decided_or, greatest_in, least_in, sample_in, sample_over}
@@ -98,7 +100,7 @@ down_within s tap n h l =
     ⊎_elim (λ less. omega (arith, h.within (omega (arith, less)), l)) (λ more. absurd (omega (arith, h.none more)))
     (cases_lt s.min_tap tap)
 
-moves_within : (s : RegSettings) (tap : ℕ) (d : Decision) (up : Bool) → StaysWithin s tap d → way_of d ≡ Some up
+pub moves_within : (s : RegSettings) (tap : ℕ) (d : Decision) (up : Bool) → StaysWithin s tap d → way_of d ≡ Some up
     → 50000 ≤ s.min_tap → s.max_tap ≤ 200000 →
     MovesWithin tap s.changer.tap_step d
 moves_within s tap (Raise zero) up h w l m = absurd (cc)
@@ -112,13 +114,20 @@ few_steps s tap (Raise n) h l = omega (arith, h.few)
 few_steps s tap Hold h l = omega arith
 few_steps s tap (Lower n) h l = omega (arith, h.few)
 
+-- a regulator's decision keeps to its settings
+pub stays_within : TapLaw → (p : RegProbe) (at : Positions) (d : Decision) → Wants (probe.Regulator p) at d
+    → StaysWithin (settings_of p) (tap_of p.is_second (pair_at at p.transformer)) d
+stays_within taps p at d wants =
+    let tap = tap_of p.is_second (pair_at at p.transformer) in
+    subst (StaysWithin (settings_of p) tap) wants.wants (taps (settings_of p) tap wants.quantity)
+
 pub fits_device : TapLaw → AwayLaw
     → (n k : ℕ) (opened : List (Option ℕ)) (at : Positions) (s : ControlState) (d : Decision) (up : Bool)
     → IsStateOf opened k s →
     IsProbe n (probe_in s) → HasRange (probe_in s) → Wants (probe_in s) at d → way_of d ≡ Some up → FitsDevice at.taps (with_verdict d s)
 fits_device taps away n k opened at (state.Regulator p s) d up h is range wants way =
     let tap = tap_of p.is_second (pair_at at p.transformer) in
-    let within : StaysWithin (settings_of p) tap d = subst (StaysWithin (settings_of p) tap) wants.wants (taps (settings_of p) tap wants.quantity) in
+    let within : StaysWithin (settings_of p) tap d = stays_within taps p at d wants in
     let moves : MovesWithin tap p.tap_step d = moves_within (settings_of p) tap d up within way range.0 range.1 in (
       few_steps (settings_of p) tap d within is.settings.most,
       subst (λ b. MovesWithin (tap_of b (pair_at at p.transformer)) s.tap_step d) (sym h.1.0) (subst (λ t. MovesWithin tap t d) (sym h.1.1.0) moves),

@@ -12,3 +12,5 @@ pub mod Underway
 pub mod Computing
 pub mod Computations
 pub mod CallerLemmas
+pub mod Keeping
+pub mod Grounds

@@ -2,6 +2,7 @@ pub mod Numbers
 pub mod Sampling
 pub mod Settle
 pub mod Chosen
+pub mod Kept
 pub mod Laws
 pub mod Plant
 pub mod Rounds

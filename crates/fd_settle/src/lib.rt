@@ -14,6 +14,7 @@
 // - `progress`: what a sampling comes to
 // - `settling`: the settle
 // - `fault`: why it ends
+// - `kept`: what rounds keep of the machine, and when a claim is sound
 // - `laws`: the acts follow from the decisions alone, and where states are computed a settle has exactly one computation
 #![tactic(auto)]
 
@@ -22,6 +23,7 @@ mod clock;
 mod compute;
 mod controls;
 mod fault;
+mod kept;
 mod laws;
 mod progress;
 mod reacting;
@@ -34,6 +36,7 @@ mod state;
 pub use clock::Clock;
 pub use compute::{Compute, ComputeFault};
 pub use fault::SettleFault;
+pub use kept::{kept_law, sound_at_law};
 pub use laws::{Sampled, agree_law, computation_law, history_law, whole_law};
 pub use round::{Act, Round};
 pub use settling::settle;

@@ -22,5 +22,5 @@ returns-clause-stamp c =
 
 pub returns-clause-settled : goal.returns-clause-settled
 returns-clause-settled c = λ m n size first branches.
-    source_settled m n size c.args.source.now c.args.at.now c.requires.source first branches
+    source_settled m n size c.args.source.now c.args.at.now c.requires.source.few c.requires.source.volts first branches
     (subst (All IsWithin) c.in_ok-terms.ensures.terms c.in_ok-terms.ensures.within)

@@ -1,0 +1,112 @@
+-- A device that fits is settled, where its element is ready at its place.
+use Rattle.std.proofs.Common.{◌≡◌, ℕ, ◌≤◌, List, length, arith, refl}
+use Rattle.std.specs.List.{All}
+use Rattle.std.proofs.lemmas.List.Elements.{All-get_or}
+use Rattle.dss_model.specs.InRange.{CapacitorInRange, LoadInRange, TransformerInRange}
+use Rattle.dss_model.specs.declared.capacitor.Capacitor.{Capacitor}
+use Rattle.dss_model.specs.declared.element.Element.{Element}
+use Rattle.dss_model.specs.declared.element.Element.TheVariants as the
+use Rattle.dss_model.specs.declared.load.Load.{Load}
+use Rattle.dss_model.specs.declared.transformer.Transformer.{Transformer}
+use Rattle.dss_layout.specs.Layout.{LayoutView, complex_count, ends_of, first_magnitude}
+use Rattle.fd_arith.specs.declared.terms.NodeAt.{NodeAt}
+use Rattle.fd_arith.specs.declared.terms.NodeAt.TheVariants.{Ground, Node}
+use Rattle.fd_system.specs.Contributions.{IsSmall}
+use Rattle.fd_system.specs.Terminals.{node_count, pairs_of}
+use Rattle.fd_xfmr.specs.Leakage.{AreTaps, IsXfmr}
+use Rattle.fd_cap.specs.Capacitor.{IsCap}
+use Rattle.fd_elements.proofs.CallerLemmas.{load_voltages, source_voltage}
+use Rattle.fd_elements.specs.Connections.{conn_of}
+use Rattle.fd_elements.specs.Lines.{line_data_of}
+use Rattle.fd_elements.specs.Sources.{source_data_of}
+use Rattle.fd_elements.specs.declared.powers.LoadPower.{LoadPower}
+use Rattle.fd_pattern.specs.Conditions.{IsAmong}
+use Rattle.fd_devices.specs.Building.{DeviceFits, IsModest, IsUsable}
+use Rattle.fd_devices.specs.Data.{cap_data_of, xfmr_data_of}
+use Rattle.fd_devices.specs.Devices.{capacitor, line, loads, source, transformer}
+use Rattle.fd_devices.specs.Scripted.{device_of, first_state, first_taps, load_at, phases_of, power_at}
+use Rattle.fd_devices.specs.Settings.{AreOwn, Settings}
+use Rattle.fd_devices.specs.Sound.{IsSideOf}
+use Rattle.fd_devices.specs.Standing.{HasPlace, IsReadyAt, IsSettledAt}
+use Rattle.fd_devices.proofs.Bounded.{line_settled, other_settled, source_settled}
+use Rattle.fd_devices.proofs.Capacitors.{capacitor_settled}
+use Rattle.fd_devices.proofs.Fitting.{fit_terms}
+use Rattle.fd_devices.proofs.Settling.{all_concat, capacitor_here, few_phases, line_here, load_here, phases_settled, source_here, transformer_here}
+use Rattle.fd_devices.proofs.Transformers.{pair_below, transformer_settled}
+
+-- ---- data by values in range
+
+xfmr_within : (t : Transformer) → TransformerInRange t → IsXfmr (xfmr_data_of t)
+xfmr_within t h = record {
+  phases = h.phases;
+  kv1 = record { least = h.first.kv.least; most = h.first.kv.most };
+  kv2 = record { least = h.second.kv.least; most = h.second.kv.most };
+  kva = record { least = h.first.kva.least; most = h.first.kva.most };
+  pct_r1 = record { least = h.first.pct_r.least; most = h.first.pct_r.most };
+  pct_r2 = record { least = h.second.pct_r.least; most = h.second.pct_r.most };
+  xhl = record { least = h.xhl.least; most = h.xhl.most };
+}
+
+cap_within : (c : Capacitor) → CapacitorInRange c → IsCap (cap_data_of c)
+cap_within c h = record {
+  phases = h.phases;
+  kvar = record { least = h.kvar.least; most = h.kvar.most };
+  kv = record { least = h.kv.least; most = h.kv.most };
+}
+
+small_node : (n : ℕ) (node : NodeAt) → n ≤ 240 → IsAmong n node → IsSmall node
+small_node n Ground few h = tt
+small_node n (Node k) few h = omega (arith, few, h)
+
+-- the part loads of a load at nodes among few, with modest powers
+loads_usable : (load : Load) (n : ℕ) (ns : List NodeAt) (magnitude : ℕ) (powers : List LoadPower) → LoadInRange load
+    → n ≤ 240 → IsSideOf n (node_count load.phases) ns → length powers ≡ load.phases → All IsModest powers
+    → All IsUsable (phases_of load ns magnitude powers)
+loads_usable load n ns magnitude powers range few side count modest =
+    all_concat IsUsable load.phases (load_at load ns magnitude powers) (λ k low.
+    let own : IsModest (power_at powers k) = All-get_or IsModest powers k _ (omega (arith, low, count)) modest in
+    let below = pair_below n (pairs_of load.phases (conn_of load.conn)) ns k side.below in
+    record {
+      voltages = load_voltages load (power_at powers k) range;
+      p = own.p;
+      q = own.q;
+      first = small_node n _ few below.first;
+      second = small_node n _ few below.second;
+    })
+
+-- ---- the device of an element
+
+module _ (layout : LayoutView) (hertz place : ℕ) (s : Settings) where
+  pub settled_at : (e : Element) → HasPlace layout place → IsReadyAt layout place e → AreOwn e s → All IsModest s.powers
+      → DeviceFits (device_of layout hertz place e s) → IsSettledAt layout hertz place e s
+  settled_at (the.Vsource v) known ready own modest fits =
+      let at = ends_of layout place (the.Vsource v) in
+      source_here layout hertz place (the.Vsource v) s at refl ready.sited v refl (λ m n size side branches.
+      source_settled m n size (source_data_of v) at (few_phases v.phases ready.in_range.phases)
+      (source_voltage v ready.in_range) side branches (fit_terms (source (source_data_of v) at) fits))
+  settled_at (the.Line l) known ready own modest fits =
+      let at = ends_of layout place (the.Line l) in
+      line_here layout hertz place (the.Line l) s at refl ready.sited l refl (λ m n size first second branches.
+      line_settled m n size (line_data_of l hertz) at ready.in_range.phases.most first second branches
+      (fit_terms (line (line_data_of l hertz) at) fits))
+  settled_at (the.Transformer t) known ready own modest fits =
+      let at = ends_of layout place (the.Transformer t) in
+      let taps : AreTaps (first_taps s.taps) = All-get_or AreTaps s.taps 0 _ (omega (arith, own.taps)) own.within in
+      transformer_here layout hertz place (the.Transformer t) s at refl ready.sited t (first_taps s.taps) refl refl
+      (λ m n size first second branches. transformer_settled m n size (xfmr_data_of t) (first_taps s.taps) at
+      (xfmr_within t ready.in_range) taps first second branches
+      (fit_terms (transformer (xfmr_data_of t) (first_taps s.taps) at) fits))
+  settled_at (the.Capacitor c) known ready own modest fits =
+      let at = ends_of layout place (the.Capacitor c) in
+      capacitor_here layout hertz place (the.Capacitor c) s at refl ready.sited c (first_state s.closed) refl refl
+      (λ m n size side. capacitor_settled m n size (cap_data_of c) (first_state s.closed) at
+      (cap_within c ready.in_range) side (fit_terms (capacitor (cap_data_of c) (first_state s.closed) at) fits))
+  settled_at (the.Load l) known ready own modest fits =
+      let at = ends_of layout place (the.Load l) in
+      let few = known.magnitudes.few in
+      let count : length s.powers ≡ l.phases = omega (arith, own.powers) in
+      let usable = loads_usable l (length layout.nodes) at.first (first_magnitude layout place) s.powers ready.in_range
+      (omega (arith, few)) ready.sited.0 count modest in
+      load_here layout hertz place (the.Load l) s at refl ready.sited l at.first (first_magnitude layout place) refl refl refl
+      (phases_settled l at.first (first_magnitude layout place) s.powers ready.in_range usable fits)
+  settled_at e known ready own modest fits = other_settled (length layout.nodes) (complex_count layout) _

@@ -1,0 +1,10 @@
+-- The sizes of the powers of loads.
+use Rattle.std.specs.Prelude.{ℕ, All}
+use Rattle.dss_model.specs.InRange.{ElementInRange}
+use Rattle.dss_layout.specs.Layout.{Elements}
+use Rattle.fd_devices.specs.Building.{IsModest}
+use Rattle.fd_settings.specs.Hours.{hour_powers}
+
+-- where the elements are in range, no power at any hour is past 10^17 in size
+abbrev pub ModestLaw : Type 0
+ModestLaw = (elements : Elements) (hour : ℕ) → All (λ e. ElementInRange e.1) elements → All IsModest (hour_powers elements hour)
