@@ -9,10 +9,9 @@ use Rattle.dss_ready.specs.Ready.{HasPassed}
 use Rattle.fd_exact.specs.States.{State, part}
 use Rattle.fd_system.specs.Residual.{whole_state}
 use Rattle.fd_elements.specs.declared.powers.LoadPower.{LoadPower}
-use Rattle.fd_enclosure.specs.Boxes.{IsInTrustBox}
+use Rattle.dss_layout.specs.Layout.{LayoutView, layout_of}
 use Rattle.fd_enclosure.specs.Encloses.{EnclosureLaw}
 use Rattle.fd_enclosure.specs.Sound.{Claim}
-use Rattle.fd_pattern.specs.Views.{NetworkView}
 use Rattle.fd_queue.specs.Controls.{Positions}
 use Rattle.fd_sample.specs.Decided.{sample_over}
 use Rattle.fd_settings.specs.Hours.{HoursLaw, hour_powers}
@@ -32,7 +31,7 @@ use Rattle.fd_certfile.specs.Rules.{ball_of, moves}
 use Rattle.fd_checking.specs.Checking.{Checking, Settling, behind_round, done, open_hours, open_solves, outcome_in, sampled_by, sampling_in, under_way}
 use Rattle.fd_checking.specs.Laws.{AreOfRounds, IsOfRound}
 use Rattle.fd_checking.specs.Underway.{no_positions, start_from}
-use Rattle.fd_solving.specs.Headline.{hour_network}
+use Rattle.fd_solving.specs.Boxes.{IsInBox}
 use Rattle.fd_solving.proofs.CallerLemmas.{alike, meets_round, others, sizes_of_others}
 use Rattle.fd_app.specs.Meaning.{AreCertified, IsCertified, Solves, claim_at, outcome_at}
 
@@ -58,8 +57,8 @@ StandsAt done = Unit {0}
 StandsAt (under_way s) = Stands s
 
 -- a state is in its own trust box
-own_box : (v : NetworkView) (c : List ℤ) → IsInTrustBox v c (whole_state c)
-own_box v c place low kind = let none = no_way (part c place) in omega (arith, none)
+own_box : (layout : LayoutView) (c : List ℤ) → IsInBox layout c (whole_state c)
+own_box layout c place low kind = let none = no_way (part c place) in omega (arith, none)
   where
     no_way : (z : ℤ) → nat_abs (z -ℤ (pos 1 *ℤ z)) ≡ 0
     no_way z = omega (arith, ints)
@@ -134,7 +133,7 @@ module _ (law : EnclosureLaw) (sound_law : SoundAtLaw) (kept_law : KeptLaw) (mod
   own_solves : Solves s b (whole_state m.centre)
   own_solves = record {
     over = omega arith;
-    inside = own_box (hour_network c s.hour at) m.centre;
+    inside = own_box (layout_of c.elements) m.centre;
     meets = meets_round c s.hour at m sound law;
   }
 

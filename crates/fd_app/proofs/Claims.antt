@@ -27,7 +27,7 @@ use Rattle.fd_certfile.specs.Numbers.{IsNumber}
 use Rattle.fd_certfile.specs.Rounds.{part_in}
 use Rattle.fd_certfile.specs.Rules.{Ball, Holds, Sampled, ball_of, moves, part_of}
 use Rattle.fd_certfile.specs.Rules as rules
-use Rattle.fd_app.proofs.Points.{IsSolutionPoint}
+use Rattle.fd_solving.proofs.CallerLemmas.{IsSolutionPoint}
 
 -- ---- where a certificate isn't refused
 

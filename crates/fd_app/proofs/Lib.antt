@@ -1,5 +1,4 @@
 mod Runs
-mod Points
 mod Claims
 mod Settles
 mod Texts

@@ -29,7 +29,7 @@ use Rattle.fd_outcome.specs.Certificates.{act_in, block_in, blocks_from}
 use Rattle.fd_outcome.specs.Settles.{Round, Settle, round_of}
 use Rattle.fd_solving.specs.Solving.{rounds_of}
 use Rattle.fd_app.proofs.Claims as claims
-use Rattle.fd_app.proofs.Points.{IsSolutionPoint, solution_point}
+use Rattle.fd_solving.proofs.CallerLemmas.{IsSolutionPoint, solution_point}
 
 -- blocks, and then a certificate
 abbrev pub before : List Block → Certificate → Certificate

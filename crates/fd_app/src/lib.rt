@@ -7,7 +7,11 @@
 //! control is the one that the queue machine makes of any such states; and whatever is answered, how it ends. Where
 //! a library tells what it holds, these are such files (`told_law`). Its status is that of the history's end, but
 //! for these (`due_law`). So through all hours of a Solve its acts are those of any such states (`days_law` of
-//! `fd_solving`), and each block of a certificate that `check` accepts is sound (`checked_law` of `fd_checking`).
+//! `fd_solving`).
+//!
+//! An accepted certificate means the same of whoever made it. Where `check` ends without a fault, what is held has a
+//! block for each round of the script's Solves, each block's state meets the equations of its round and encloses every
+//! other that does, and the acts are those of any such states through all hours of all Solves (`accepted_law`).
 //!
 //! What `cert` writes is accepted. A script's Solves, as circuits in order, say what is due of a certificate, block by
 //! block (`fd_check`). Where the history of the script's commands ends without a fault and each of its settles is solved,
@@ -30,4 +34,5 @@ mod top;
 pub use accepted::{cert_law, round_trip_law, written_law};
 pub use fd_checking::checked_law;
 pub use fd_solving::days_law;
+pub use meaning::accepted_law;
 pub use top::{due_law, forms_law, run, told_law};

@@ -6,6 +6,7 @@ use Rattle.dss_model.specs.InRange.{LoadInRange, VsourceInRange}
 use Rattle.dss_model.specs.Ranges.{ones}
 use Rattle.dss_model.specs.declared.load.Load.{Load}
 use Rattle.dss_model.specs.declared.vsource.Vsource.{Vsource}
+use Rattle.fd_arith.specs.declared.terms.LoadModel.{LoadModel}
 use Rattle.fd_exact.specs.Nearest.{near_within}
 use Rattle.fd_exact.specs.Ranges.{Between, IsBetween, UpTo}
 use Rattle.fd_exact.specs.RootThree.{root_three}
@@ -15,7 +16,6 @@ use Rattle.fd_elements.specs.Connections.{conn_of}
 use Rattle.fd_elements.specs.Loads.{load_phase_of, nominal_of}
 use Rattle.fd_elements.specs.Sources.{source_volts}
 use Rattle.fd_elements.specs.Volts.{part_of, part_over_root_three}
-use Rattle.fd_elements.specs.declared.powers.LoadPower.{LoadPower}
 use Rattle.fd_elements.proofs.Products.{near_above, near_below, near_sign, natural_sign, product_most, product_sign, size_up_to}
 
 -- ---- loads
@@ -56,9 +56,10 @@ high_most (pos m) (pos q) h b =
 high_most (pos m) (negsuc q) h b = absurd (omega (arith, ints, b.least))
 high_most (negsuc m) vn h b = absurd (omega (arith, ints, h.least))
 
--- the voltages of a phase
-pub load_voltages : (load : Load) (power : LoadPower) → LoadInRange load → AreLoadVoltages (load_phase_of load power)
-load_voltages load power h =
+-- the voltages of a part load of a phase, whatever its model and its power
+pub load_voltages : (load : Load) (model : LoadModel) (p q : ℤ) → LoadInRange load
+    → AreLoadVoltages (load_phase_of load model (record { p = p; q = q }))
+load_voltages load model p q h =
     let b : Between 5773000 (10 ^ 12) (nominal_of load) =
     phase_volts_between load.phases (conn_of load.conn) load.kv (record { least = h.kv.least; most = h.kv.most }) in
     record {

@@ -10,6 +10,7 @@ use Rattle.fd_settle.proofs.Computations.{one_computation}
 use Rattle.fd_settle.proofs.Going.{round_counts}
 pub use Rattle.fd_settle.proofs.Computations.{computed}
 pub use Rattle.fd_settle.proofs.Histories.{history, whole}
+pub use Rattle.fd_settle.proofs.KeptRounds.{none_early}
 
 -- a settle whose states are computed has one computation
 pub has_one_computation : ComputationLaw

@@ -109,7 +109,7 @@ moves_within s tap Hold up h w l m = absurd (cc)
 moves_within s tap (Lower zero) up h w l m = absurd (cc)
 moves_within s tap (Lower (suc n)) up h w l m = down_within s tap n h l
 
-few_steps : (s : RegSettings) (tap : ℕ) (d : Decision) → StaysWithin s tap d → s.most ≤ 1000 → steps_of d ≤ 1000
+pub few_steps : (s : RegSettings) (tap : ℕ) (d : Decision) → StaysWithin s tap d → s.most ≤ 1000 → steps_of d ≤ 1000
 few_steps s tap (Raise n) h l = omega (arith, h.few)
 few_steps s tap Hold h l = omega arith
 few_steps s tap (Lower n) h l = omega (arith, h.few)

@@ -1,5 +1,5 @@
 -- A round leaves positions of its circuit and a queue of its controls.
-use Rattle.std.proofs.Common.{◌≡◌, ◌≢◌, ◌∙◌, ℕ, zero, suc, ◌+◌, ◌*◌, ◌<◌, Bool, true, false, cond, not, List, [], ◌∷◌, map, length, get_or, Option, Some, None, refl, sym, ap, subst, arith}
+use Rattle.std.proofs.Common.{◌≡◌, ◌≢◌, ◌∙◌, ℕ, zero, suc, ◌*◌, ◌<◌, Bool, true, false, cond, not, List, [], ◌∷◌, map, length, get_or, Some, refl, sym, ap, subst, arith}
 use Rattle.std.specs.Prelude.{All, Result, nat_le}
 use Rattle.std.specs.List.{AllByRecursion, fold, list_any}
 use Rattle.std.proofs.lemmas.Bool.{cases_eq}
@@ -11,9 +11,9 @@ use Rattle.fd_xfmr.specs.Leakage.{AreTaps}
 use Rattle.fd_enclosure.specs.Sound.{Claim}
 use Rattle.fd_queue.specs.Controls.{Control, Positions, no_taps, pair_at, moved_tap, set_tap, tap_of}
 use Rattle.fd_queue.specs.Decisions.{Decision, Hold, steps_of, way_of}
-use Rattle.fd_queue.specs.Machine.{Act, Acts, AtLimit, Machine, Quiet, Setup, Step, acts_of, all_acted, asked, moved, moved_by, new_entry, no_control, reacted, sampled, settle_rule, step_of}
+use Rattle.fd_queue.specs.Machine.{Act, Acts, AtLimit, Machine, Quiet, Setup, Step, acts_of, all_acted, moved, moved_by, no_control, sampled, settle_rule, step_of}
 use Rattle.fd_queue.specs.MachineLaws.{KeepsQueue, Leaves, OwnLaw, QueueLaw}
-use Rattle.fd_queue.specs.Queue.{HaveOneEach, InPairs, has_entry, later, nearest, queued}
+use Rattle.fd_queue.specs.Queue.{HaveOneEach, InPairs, later, nearest}
 use Rattle.fd_queue.specs.declared.entry.Entry.{Entry}
 use Rattle.fd_regctl.specs.RegulatorLaws.{TapLaw}
 use Rattle.fd_sample.specs.declared.probe.Probe.{Probe}
@@ -32,7 +32,7 @@ use Rattle.fd_settle.specs.Settle.{outcome_after, outcome_of}
 use Rattle.fd_settle.proofs.Acts.{apart_flip, moved_within, raise_way, tap_by}
 use Rattle.fd_settle.proofs.Fitting.{Wants, decided_each, moves_within, sample_wants, stays_within}
 use Rattle.fd_settle.proofs.Lists.{each_both, each_filter, each_weaker, pair_at as apart_at, pairs_filter}
-use Rattle.fd_settle.proofs.Reactions.{sampled_keeps}
+use Rattle.fd_settle.proofs.Reactions.{sampled_alone, sampled_keeps}
 
 -- ---- one entry
 
@@ -79,7 +79,7 @@ other_moves (probe.Bank p) (probe.Bank q) apart d c m e up can own = tt
 
 -- ---- entries one after another
 
-some_probe : (ps : List Probe) (k : ℕ) → k < length ps → Probe
+pub some_probe : (ps : List Probe) (k : ℕ) → k < length ps → Probe
 some_probe [] k l = absurd (omega (arith, l))
 some_probe (p ∷ ps) k l = p
 
@@ -125,21 +125,26 @@ module _ (ps : List Probe) (apart : InPairs AreApart ps) (vs : List Decision) (l
 
 -- ---- sampling leaves the positions
 
-asked_at : (c : Control) (k : ℕ) (way : Option Bool) (m : Machine) → (asked c k way m).at ≡ m.at
-asked_at c k None m = refl
-asked_at c k (Some up) m = by (has_entry k m.queue)
-  where
-    by : (b : Bool)
-        → (cond b m (record m { queue = queued (new_entry m k c up) m.queue; next = m.next + 1 })).at ≡ m.at
-    by true = refl
-    by false = refl
-
 sampled_at : (k : ℕ) (cs : List Control) (vs : List Decision) (m : Machine) → (sampled k cs vs m).at ≡ m.at
-sampled_at k [] vs m = refl
-sampled_at k (c ∷ cs) [] m = refl
-sampled_at k (c ∷ cs) (v ∷ vs) m = sampled_at (k + 1) cs vs (reacted c k v m) ∙ asked_at c k (way_of v) _
+sampled_at k cs vs m = ap (λ (x : Machine). x.at) (sampled_alone k cs vs m)
 
 -- ---- a control moves as its sample decides
+
+-- each control wants what its sample decides
+pub wants_each : (ps : List Probe) (at : Positions) (y : Claim) (vs : List Decision)
+    → sampling_of 0 (map (λ p. sample_over p at y.centre y.radii) ps) ≡ Decided vs → (k : ℕ) (q : Probe) → k < length ps
+    → Wants (get_or ps k q) at (get_or vs k Hold)
+wants_each ps at y vs look k q l =
+    let f : Probe → Result Decision Undecided = λ p. sample_over p at y.centre y.radii in
+    let p = get_or ps k q in
+    let here : get_or (map f ps) k (f p) ≡ f p = get_or-map f ps k p (f p) l ∙ ap f (same_default ps k p q l) in
+    sample_wants p at y.centre y.radii (get_or vs k Hold)
+    (sym here ∙ (decided_each 0 (map f ps) vs look).decided k (f p) (omega (arith, l, length-map ps f)))
+  where
+    same_default : (xs : List Probe) (k : ℕ) (a b : Probe) → k < length xs → get_or xs k a ≡ get_or xs k b
+    same_default [] k a b l = absurd (omega (arith, l))
+    same_default (x ∷ xs) zero a b l = refl
+    same_default (x ∷ xs) (suc k) a b l = same_default xs k a b (omega (arith, l))
 
 entry_moves : TapLaw → (at : Positions) (p : Probe) (d : Decision) (up : Bool) → HasRange p → HasDevice at p → Wants p at d
     → way_of d ≡ Some up → CanMove p d up at
@@ -179,18 +184,6 @@ module _ (queue_law : QueueLaw) (own_law : OwnLaw) (tap_law : TapLaw) (ps : List
     each : length vs ≡ length s.controls
     each = (decided_each 0 (map f ps) vs look).each ∙ length-map ps f ∙ sym (length-map ps control_of)
 
-    wants : (k : ℕ) (q : Probe) → k < length ps → Wants (get_or ps k q) m.at (get_or vs k Hold)
-    wants k q l =
-        let p = get_or ps k q in
-        let here : get_or (map f ps) k (f p) ≡ f p = get_or-map f ps k p (f p) l ∙ ap f (same_default ps k p q l) in
-        sample_wants p m.at y.centre y.radii (get_or vs k Hold)
-        (sym here ∙ (decided_each 0 (map f ps) vs look).decided k (f p) (omega (arith, l, length-map ps f)))
-      where
-        same_default : (xs : List Probe) (k : ℕ) (a b : Probe) → k < length xs → get_or xs k a ≡ get_or xs k b
-        same_default [] k a b l = absurd (omega (arith, l))
-        same_default (x ∷ xs) zero a b l = refl
-        same_default (x ∷ xs) (suc k) a b l = same_default xs k a b (omega (arith, l))
-
     entry_can : (e : Entry) → (e.control < length s.controls) × (way_of (get_or vs e.control Hold) ≡ Some e.up)
         → EntryMoves ps apart vs limit n.at e
     entry_can e h =
@@ -198,7 +191,7 @@ module _ (queue_law : QueueLaw) (own_law : OwnLaw) (tap_law : TapLaw) (ps : List
           l,
           λ q. subst (CanMove (get_or ps e.control q) (get_or vs e.control Hold) e.up) (sym (sampled_at 0 s.controls vs m))
               (entry_moves tap_law m.at (get_or ps e.control q) (get_or vs e.control Hold) e.up (ranges e.control q l)
-              (devices e.control q l) (wants e.control q l) h.1),
+              (devices e.control q l) (wants_each ps m.at y vs look e.control q l) h.1),
         )
 
     after_acts : Keeps m (all_acted s vs n)
@@ -231,7 +224,7 @@ module _ (queue_law : QueueLaw) (own_law : OwnLaw) (tap_law : TapLaw) (ps : List
 
 -- ---- a round of a circuit
 
-all_taken : (P : Probe → Type 0) (mode : ControlMode) (ps : List Probe) → All P ps → All P (taking_part mode ps)
+pub all_taken : (P : Probe → Type 0) (mode : ControlMode) (ps : List Probe) → All P ps → All P (taking_part mode ps)
 all_taken P control_mode.Off ps h = All-nil P
 all_taken P control_mode.Static ps h = h
 

@@ -13,4 +13,5 @@ pub mod Computing
 pub mod Computations
 pub mod CallerLemmas
 pub mod Keeping
+pub mod KeptRounds
 pub mod Grounds

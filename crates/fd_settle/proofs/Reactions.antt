@@ -4,7 +4,7 @@ use Rattle.std.specs.Prelude.{All, ◌^◌, ◌==◌, ◌||◌, nat_le, nat_lt}
 use Rattle.std.specs.List.{AllByRecursion, filter, list_any}
 use Rattle.fd_queue.specs.Controls.{Control, Positions, Regulates, Switches}
 use Rattle.fd_queue.specs.Decisions.{Decision, is_way, way_of}
-use Rattle.fd_queue.specs.Machine.{Machine, Quiet, Rule, Setup, ShowsQueue, Step, asked, entry_time, kept, reacted, sampled, step_of}
+use Rattle.fd_queue.specs.Machine.{Machine, Quiet, Rule, Setup, ShowsQueue, Step, asked, entry_time, kept, new_entry, reacted, sampled, step_of}
 use Rattle.fd_queue.specs.MachineLaws.{IsQueueOf, KeepsQueue, Leaves, QueueLaw, SpareLaw}
 use Rattle.fd_queue.specs.Queue.{QueueView, has_entry, queued}
 use Rattle.fd_settle.specs.declared.clock.Clock.{Clock}
@@ -62,9 +62,19 @@ asked_alone c k (Some up) m = asked_by (has_entry k m.queue) m
     (record m { queue = queued (record { time = entry_time m k c up; seq = m.next; control = k; up = up }) m.queue; next = m.next + 1 }) refl refl
 
 -- a reaction changes the queue alone
-reacted_alone : (c : Control) (k : ℕ) (v : Decision) (m : Machine) →
+pub reacted_alone : (c : Control) (k : ℕ) (v : Decision) (m : Machine) →
     reacted c k v m ≡ record m { queue = (reacted c k v m).queue; next = (reacted c k v m).next }
 reacted_alone c k v m = asked_alone c k (way_of v) (record m { queue = kept k v m.queue })
+
+-- and so does a sampling
+pub sampled_alone : (k : ℕ) (cs : List Control) (vs : List Decision) (m : Machine)
+    → sampled k cs vs m ≡ record m { queue = (sampled k cs vs m).queue; next = (sampled k cs vs m).next }
+sampled_alone k [] vs m = refl
+sampled_alone k (c ∷ cs) [] m = refl
+sampled_alone k (c ∷ cs) (v ∷ vs) m =
+    let last = sampled (k + 1) cs vs (reacted c k v m) in
+    sampled_alone (k + 1) cs vs (reacted c k v m)
+    ∙ ap (λ (x : Machine). record x { queue = last.queue; next = last.next }) (reacted_alone c k v m)
 
 shown_by : (m n : Machine) (q : QueueView) (now : ℕ) → n ≡ record m { queue = n.queue; next = n.next }
     → ShowsQueue n q now →
@@ -214,42 +224,42 @@ one_room law n k spare q h l room none = omega (arith, law n q.next k q.entries 
 LowTime : Machine → ℕ → Control → Type 0
 LowTime m k c = entry_time m k c false < 2 ^ 62
 
-queued_early : (e : Entry) (es : List Entry) → OpensEarly e → AllByRecursion OpensEarly es
-    → AllByRecursion OpensEarly (queued e es)
-queued_early e es h k = each_append OpensEarly (filter (λ x. nat_le x.time e.time) es) (e ∷ filter (λ x. nat_lt e.time x.time) es)
-    (each_filter OpensEarly (λ x. nat_le x.time e.time) es k) (h, each_filter OpensEarly (λ x. nat_lt e.time x.time) es k)
+-- what holds of each entry of a queue holds of those of a queue with an entry of which it holds
+module _ (P : Entry → Type 0) where
+  queued_each : (e : Entry) (es : List Entry) → P e → AllByRecursion P es → AllByRecursion P (queued e es)
+  queued_each e es h k = each_append P (filter (λ x. nat_le x.time e.time) es) (e ∷ filter (λ x. nat_lt e.time x.time) es)
+      (each_filter P (λ x. nat_le x.time e.time) es k) (h, each_filter P (λ x. nat_lt e.time x.time) es k)
 
-entry_early : (m : Machine) (k : ℕ) (c : Control) (up : Bool) → LowTime m k c
-    → OpensEarly (record { time = entry_time m k c up; seq = m.next; control = k; up = up })
+  each_either : (t : Bool) (m n : Machine) → AllByRecursion P m.queue → AllByRecursion P n.queue → AllByRecursion P (cond t m n).queue
+  each_either true m n h k = h
+  each_either false m n h k = k
+
+  asked_each : (c : Control) (k : ℕ) (o : Option Bool) (m : Machine) → ((up : Bool) → P (new_entry m k c up))
+      → AllByRecursion P m.queue → AllByRecursion P (asked c k o m).queue
+  asked_each c k None m new h = h
+  asked_each c k (Some up) m new h =
+      each_either (has_entry k m.queue) m (record m { queue = queued (new_entry m k c up) m.queue; next = m.next + 1 }) h
+      (queued_each (new_entry m k c up) m.queue (new up) h)
+
+  -- the entry that a control gets doesn't depend on the queue
+  new_same : (c : Control) (k : ℕ) (m : Machine) (es : List Entry) (up : Bool) → P (new_entry m k c up)
+      → P (new_entry (record m { queue = es }) k c up)
+  new_same (Regulates r) k m es up h = h
+  new_same (Switches b) k m es up h = h
+
+  -- the entries after a reaction
+  pub reacted_each : (c : Control) (k : ℕ) (v : Decision) (m : Machine) → ((up : Bool) → P (new_entry m k c up))
+      → AllByRecursion P m.queue → AllByRecursion P (reacted c k v m).queue
+  reacted_each c k v m new h =
+      asked_each c k (way_of v) (record m { queue = kept k v m.queue }) (λ up. new_same c k m (kept k v m.queue) up (new up))
+      (each_filter P (λ e. not (e.control == k) || is_way e.up (way_of v)) m.queue h)
+
+entry_early : (m : Machine) (k : ℕ) (c : Control) (up : Bool) → LowTime m k c → OpensEarly (new_entry m k c up)
 unfolding LowTime
 entry_early m k c true h = λ e. absurd (cc)
 entry_early m k c false h = λ e. h
 
-early_either : (t : Bool) (m n : Machine) → AllByRecursion OpensEarly m.queue → AllByRecursion OpensEarly n.queue
-    → AllByRecursion OpensEarly (cond t m n).queue
-early_either true m n h k = h
-early_either false m n h k = k
-
-asked_early : (c : Control) (k : ℕ) (o : Option Bool) (m : Machine) → LowTime m k c
-    → AllByRecursion OpensEarly m.queue →
-    AllByRecursion OpensEarly (asked c k o m).queue
-asked_early c k None m l h = h
-asked_early c k (Some up) m l h = early_either (has_entry k m.queue) m
-    (record m { queue = queued (record { time = entry_time m k c up; seq = m.next; control = k; up = up }) m.queue; next = m.next + 1 }) h
-    (queued_early (record { time = entry_time m k c up; seq = m.next; control = k; up = up }) m.queue (entry_early m k c up l) h)
-
-low_same : (c : Control) (k : ℕ) (m : Machine) (es : List Entry) → LowTime m k c → LowTime (record m { queue = es }) k c
-unfolding LowTime
-low_same (Regulates r) k m es h = h
-low_same (Switches b) k m es h = h
-
-reacted_early : (c : Control) (k : ℕ) (v : Decision) (m : Machine) → LowTime m k c → AllByRecursion OpensEarly m.queue →
-    AllByRecursion OpensEarly (reacted c k v m).queue
-unfolding LowTime
-reacted_early c k v m l h = asked_early c k (way_of v) (record m { queue = kept k v m.queue }) (low_same c k m (kept k v m.queue) l)
-    (each_filter OpensEarly (λ e. not (e.control == k) || is_way e.up (way_of v)) m.queue h)
-
-time_by : (t : Bool) (now a b : ℕ) → now < 2 ^ 60 → a < 2 ^ 60 → b < 2 ^ 60 → now + cond t a b < 2 ^ 62
+pub time_by : (t : Bool) (now a b : ℕ) → now < 2 ^ 60 → a < 2 ^ 60 → b < 2 ^ 60 → now + cond t a b < 2 ^ 62
 time_by true now a b h i j = omega arith
 time_by false now a b h i j = omega arith
 
@@ -272,7 +282,7 @@ one_opens at made clock ss vs v q q' d l are times now reacts h =
     let low : LowTime m k c = subst (λ (x : Control). LowTime m k x) (sym is) (low_time p k m (times k (probe_in s) fits) now) in
     let after : (reacted c k v m).queue ≡ q'.entries =
     ap (λ (n : Machine). n.queue) (one_reacts at made clock ss vs v q q' d l are reacts) in
-    subst (AllByRecursion OpensEarly) after (reacted_early c k v m low h)
+    subst (AllByRecursion OpensEarly) after (reacted_each OpensEarly c k v m (λ up. entry_early m k c up low) h)
 
 -- ---- the loop over the controls
 

@@ -3,6 +3,7 @@ pub mod Sampling
 pub mod Settle
 pub mod Chosen
 pub mod Kept
+pub mod KeptRounds
 pub mod Laws
 pub mod Plant
 pub mod Rounds

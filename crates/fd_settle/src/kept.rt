@@ -1,6 +1,8 @@
 // What the rounds of a settle keep of the machine, and when a claim is sound there.
 ghost use Rattle.fd_settle.specs.Kept.{KeptLaw, SoundAtLaw};
+ghost use Rattle.fd_settle.specs.KeptRounds.{KeptRoundsLaw};
 
+use fd_capctl::away_law;
 use fd_network::network_law;
 use fd_queue::{own_law, queue_law};
 use fd_regctl::tap_law;
@@ -13,6 +15,19 @@ pub fn kept_law()
     queue_law();
     own_law();
     tap_law();
+}
+
+/// A law: where the states of a settle are computed, each round is made at positions of the circuit, the numbers of its
+/// acts are modest, and what the settle leaves can start another. Does nothing.
+#[tactic(auto, using(crate::proofs::KeptRounds::rounds_are_kept))]
+pub fn kept_rounds_law()
+    ensures { KeptRoundsLaw }
+{
+    queue_law();
+    own_law();
+    tap_law();
+    away_law();
+    kept_law();
 }
 
 /// A law: a claim that is sound on the network of a circuit's definition is sound of the circuit that passed the tests of

@@ -36,7 +36,7 @@ mod state;
 pub use clock::Clock;
 pub use compute::{Compute, ComputeFault};
 pub use fault::SettleFault;
-pub use kept::{kept_law, sound_at_law};
+pub use kept::{kept_law, kept_rounds_law, sound_at_law};
 pub use laws::{Sampled, agree_law, computation_law, history_law, whole_law};
 pub use round::{Act, Round};
 pub use settling::settle;

@@ -1,5 +1,6 @@
 -- Lemmas that callers cite.
 pub use Rattle.fd_solving.proofs.Handed.{ends_refused, ends_without_memory, goes_silent, never_read, never_usage, printed_as, printed_cut}
+pub use Rattle.fd_solving.proofs.Points.{IsSolutionPoint, solution_point}
 pub use Rattle.fd_solving.proofs.Scripts.{not_begun, of_script, one_script, report_asks}
 pub use Rattle.fd_solving.proofs.Solutions.{meets_round, others, sizes_of_others}
 pub use Rattle.fd_solving.proofs.Steadiness.{alike}

@@ -85,7 +85,7 @@ module _ (c : CircuitView) (hour : ℕ) where
 
 -- ---- hours
 
-claims_same : (rounds : List (Claim × List Act)) → map claim_in (rounds_of rounds) ≡ map (λ r. r.0) rounds
+pub claims_same : (rounds : List (Claim × List Act)) → map claim_in (rounds_of rounds) ≡ map (λ r. r.0) rounds
 claims_same [] = refl
 claims_same (r ∷ rounds) = ap (λ (cs : List Claim). r.0 ∷ cs) (claims_same rounds)
 

@@ -10,5 +10,8 @@ pub mod Handed
 pub mod Weights
 pub mod Scripts
 mod Days
+pub mod Points
+mod SolvedHours
+mod SolvedCommands
 mod Tried
 pub mod CallerLemmas

@@ -123,9 +123,6 @@ module _ (c : CircuitView) (hour : ℕ) (at : Positions) (m : Claim)
   pub meets_round : EnclosureLaw → MeetsRound c hour at m (whole_state m.centre)
   meets_round law = up (number_at m.mismatches) (whole_state m.centre) (omega arith) (enclosed law).meets
 
-  pub meets_round : EnclosureLaw → MeetsRound c hour at m (whole_state m.centre)
-  meets_round law = up (number_at m.mismatches) (whole_state m.centre) (omega arith) (enclosed law).meets
-
   pub others : EnclosureLaw → EnclosesOthers c hour at m
   others law y a = record { over = a.over; within = λ i lt. near law y a i (subst (λ n. i < n) here.sound.centre.long lt) }
 
@@ -135,13 +132,6 @@ module _ (c : CircuitView) (hour : ℕ) (at : Positions) (m : Claim)
       let close = near law y other in
       sizes (solution_of m.centre m.radii m.boxes m.mismatches) y k
       (close (2 * k) (omega (arith, inside, here.network.unknowns))) (close (2 * k + 1) (omega (arith, inside, here.network.unknowns)))
-
-  pub sizes_of_others : EnclosureLaw → EnclosesSizes c hour at m
-  sizes_of_others law y k other h =
-      let inside : k < (hour_network c hour at).complexes = omega (arith, h, network_complexes c (hour_powers c.elements hour) at) in
-      let near = others law y other in
-      sizes (solution_of m.centre m.radii m.boxes m.mismatches) y k
-      (near (2 * k) (omega (arith, inside, here.network.unknowns))) (near (2 * k + 1) (omega (arith, inside, here.network.unknowns)))
 
   pub is_of_size : (acts : List Act) → IsOfSize (size_of (layout_of c.elements)) (solution_in (round_of m acts))
   is_of_size acts =

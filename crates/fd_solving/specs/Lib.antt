@@ -10,3 +10,4 @@ pub mod Printing
 pub mod Tallies
 pub mod Scripts
 pub mod Days
+pub mod SolvedLaw

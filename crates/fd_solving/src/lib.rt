@@ -22,7 +22,7 @@
 //! - `script`: the loop over a script's commands
 //! - `tally`: what rounds come to
 //! - `solving`: the command lines `solve` and `cert`
-//! - `laws`: laws of the settles of a Solve
+//! - `laws`: laws of the settles of a script
 #![tactic(auto)]
 
 mod answer;
@@ -40,7 +40,7 @@ mod step;
 mod tally;
 
 pub use answer::Answer;
-pub use laws::days_law;
+pub use laws::{days_law, solved_law};
 pub use line::Line;
 pub use print::{WANT_OF_MEMORY, print_end, print_fault};
 pub use script::run_script;

@@ -1,0 +1,44 @@
+-- What the rounds of a settle keep where its states are computed.
+use Rattle.std.specs.Prelude.{◌≡◌, ℕ, ◌<◌, ◌^◌, List, length, map, Option, All}
+use Rattle.std.specs.List.{AllByRecursion}
+use Rattle.fd_exact.specs.Sums.{list_n}
+use Rattle.dss_circuit.specs.Circuit.{CircuitView}
+use Rattle.dss_circuit.specs.InRange.{IsWithinLimits}
+use Rattle.dss_ready.specs.Ready.{HasPassed}
+use Rattle.fd_capctl.specs.CapState.{IsEarly}
+use Rattle.fd_devices.specs.Settings.{bank_count}
+use Rattle.fd_elements.specs.declared.powers.LoadPower.{LoadPower}
+use Rattle.fd_enclosure.specs.Sound.{Claim}
+use Rattle.fd_inject.specs.declared.limits.Limits.{Limits}
+use Rattle.fd_queue.specs.Controls.{Positions}
+use Rattle.fd_queue.specs.Machine.{Act, Machine}
+use Rattle.fd_settle.specs.Computed.{Ending, IsComputedFrom}
+use Rattle.fd_settle.specs.Numbers.{AreActNumbers}
+use Rattle.fd_settle.specs.Plant.{plant_of, started}
+use Rattle.fd_settle.specs.Rounds.{AtEach}
+use Rattle.fd_settle.specs.Start.{ArePositions}
+
+-- with what a settle of a circuit may start: positions of the circuit, a time below 2^60 milliseconds, and an opening
+-- time for each bank, or none
+pub record CanStart (c : CircuitView) (powers : List LoadPower) (at : Positions) (time : ℕ)
+    (opened : List (Option ℕ)) : Type 0 where
+  pub positions : ArePositions c powers at
+  pub now : time < 2 ^ 60
+  pub each : length opened ≡ list_n (λ e. bank_count e.1) c.elements
+  pub early : All IsEarly opened
+
+-- each round is made at positions of the circuit, its acts have modest numbers, and what is left can start another
+-- settle
+pub record AreKept (c : CircuitView) (powers : List LoadPower) (m : Machine) (rounds : List (Claim × List Act))
+    (n : Machine) : Type 0 where
+  pub positions : AtEach (λ at y. ArePositions c powers at) (plant_of c powers) m (map (λ r. r.0) rounds)
+  pub acts : AllByRecursion (λ r. AllByRecursion (λ (a : Act). AreActNumbers a.time a.control a.steps) r.1) rounds
+  pub left : CanStart c powers n.at n.now n.opened
+
+abbrev pub KeptRoundsLaw : Type 0
+KeptRoundsLaw =
+    (c : CircuitView) (powers : List LoadPower) (at : Positions) (time : ℕ) (opened : List (Option ℕ)) (limits : Limits)
+    (rounds : List (Claim × List Act)) (ending : Ending) (n : Machine) → HasPassed c → IsWithinLimits c.elements c.options
+    → CanStart c powers at time opened
+    → IsComputedFrom limits (plant_of c powers) (started c at time opened) rounds ending n
+    → AreKept c powers (started c at time opened) rounds n

@@ -1,0 +1,13 @@
+-- Every settle of a script is solved.
+use Rattle.std.specs.Prelude.{ℕ, List}
+use Rattle.fd_outside.specs.Files.{Files}
+use Rattle.dss_script.specs.Said.{said_of}
+use Rattle.fd_outcome.specs.Events.{AllSettles, History}
+use Rattle.fd_solving.specs.Headline.{IsSolved}
+use Rattle.fd_solving.specs.Scripts.{IsScriptHistory}
+
+-- those of a history of `solve` or `cert`, whatever the files hold
+abbrev pub SolvedLaw : Type 0
+SolvedLaw =
+    (files : Files) (name : List ℕ) (h : History) → IsScriptHistory files (said_of files name) h
+    → AllSettles IsSolved h.events
