@@ -39,10 +39,10 @@ found_last bus nominal (e ∷ es) = by (text_eq bus e.0) refl (found_last bus no
     by true is rest = rw is refl
     by false is rest = rw is rest
 
-has_more : (r s : Reached) (bus : List ℕ) → Grows r s → has r bus ≡ true → has s bus ≡ true
+pub has_more : (r s : Reached) (bus : List ℕ) → Grows r s → has r bus ≡ true → has s bus ≡ true
 has_more r s bus grown h = ap (λ x. is_some (lookup (text_eq bus) x)) grown.is ∙ found_more (text_eq bus) r grown.more h
 
-has_reached : (r : Reached) (bus : List ℕ) (nominal : Nominal) → has (reach bus nominal r) bus ≡ true
+pub has_reached : (r : Reached) (bus : List ℕ) (nominal : Nominal) → has (reach bus nominal r) bus ≡ true
 has_reached r bus nominal = by (nominal_at r bus) refl
   where
     by : (found : Option Nominal) → nominal_at r bus ≡ found
@@ -51,14 +51,14 @@ has_reached r bus nominal = by (nominal_at r bus) refl
     by (Some there) e = ap is_some e
 
 -- a bus that is reached already changes nothing
-reached_before : (r : Reached) (bus : List ℕ) (nominal : Nominal) → has r bus ≡ true → reach bus nominal r ≡ r
+pub reached_before : (r : Reached) (bus : List ℕ) (nominal : Nominal) → has r bus ≡ true → reach bus nominal r ≡ r
 reached_before r bus nominal h = by (nominal_at r bus) h
   where
     by : (found : Option Nominal) → is_some found ≡ true → reach_where found bus nominal r ≡ r
     by None e = absurd (let no : false ≡ true = e in cc)
     by (Some there) e = refl
 
-carried_before : (r : Reached) (from to : List ℕ) (own : Option Nominal) → has r to ≡ true → carried from to own r ≡ r
+pub carried_before : (r : Reached) (from to : List ℕ) (own : Option Nominal) → has r to ≡ true → carried from to own r ≡ r
 carried_before r from to own h = by (nominal_at r from)
   where
     by : (found : Option Nominal) → carried_where found to own r ≡ r

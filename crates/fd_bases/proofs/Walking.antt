@@ -29,7 +29,7 @@ pub reach_grows : (found : Option Nominal) (bus : List ℕ) (nominal : Nominal) 
 reach_grows None bus nominal r = record { more = (bus, nominal) ∷ []; is = refl }
 reach_grows (Some there) bus nominal r = same r
 
-carried_grows : (found : Option Nominal) (to : List ℕ) (own : Option Nominal) (r : Reached)
+pub carried_grows : (found : Option Nominal) (to : List ℕ) (own : Option Nominal) (r : Reached)
     → Grows r (carried_where found to own r)
 carried_grows None to own r = same r
 carried_grows (Some there) to own r = reach_grows _ to _ r

@@ -3,3 +3,4 @@ pub mod Nearest
 pub mod Walk
 pub mod Bases
 pub mod WalkLaws
+pub mod Due

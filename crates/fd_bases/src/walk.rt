@@ -1,10 +1,13 @@
 // The buses that are reached from the sources.
-ghost use Rattle.std.specs.Prelude.{◌≡◌, OnOk, IfOk};
+ghost use Rattle.std.specs.Prelude.{◌≡◌, ◌<◌, ◌^◌, length, OnOk, IfOk};
 ghost use Rattle.dss_model.specs.InRange.{ElementInRange};
 ghost use Rattle.dss_circuit.specs.InRange.{AllInRange};
 ghost use Rattle.fd_bases.specs.Walk.{reach, carried, joined, taken, pass, reached_in};
+ghost use Rattle.fd_bases.specs.Due.{AreTouching, AreDue, taken_at};
 
+use crate::due::{Due, all_due, next_due, wake};
 use crate::nominal::{Nominal, source_nominal, winding_nominal};
+use crate::touching::{Touching, touching_in};
 use dss_lexer::Text;
 use dss_model::{Bus, Element, ElementName};
 use indexmap::IndexMap;
@@ -74,18 +77,67 @@ fn take(reached: &mut Reached, element: &Element) -> Result<(), AllocError>
     }
 }
 
-// All elements once, in order.
-fn pass(reached: &mut Reached, elements: &IndexMap<ElementName, Element>) -> Result<(), AllocError>
+fn take_at(
+    reached: &mut Reached,
+    elements: &IndexMap<ElementName, Element>,
+    place: usize,
+) -> Result<(), AllocError>
     requires { AllInRange elements.now.entries }
-    ensures { OnOk result (reached.new.entries ≡ pass elements.now.entries reached.old.entries) }
+    ensures { OnOk result (reached.new.entries ≡ taken_at elements.now.entries place reached.old.entries) }
 {
-    for (_name, element) in elements {
-        take(reached, element)?;
+    match elements.get_index(place) {
+        Some((_name, element)) => take(reached, element),
+        None => Ok(()),
+    }
+}
+
+// The element at a place is taken, and then isn't due; where a bus is new by it, the elements that touch the bus are.
+fn take_due(
+    reached: &mut Reached,
+    due: &mut Due,
+    touching: &Touching,
+    elements: &IndexMap<ElementName, Element>,
+    place: usize,
+) -> Result<(), AllocError>
+    requires in_range { AllInRange elements.now.entries }
+    requires touching { AreTouching elements.now.entries touching.now.entries }
+    requires due { AreDue elements.now.entries due.old reached.old.entries }
+    ensures reached { OnOk result (reached.new.entries ≡ taken_at elements.now.entries place reached.old.entries) }
+    ensures due { OnOk result (AreDue elements.now.entries due.new reached.new.entries) }
+{
+    let before = reached.len();
+    take_at(reached, elements, place)?;
+    due.remove(&place);
+    match reached.get_index(before) {
+        Some((bus, _nominal)) => wake(due, touching, bus),
+        None => Ok(()),
+    }
+}
+
+// All elements once, in order. Those that aren't due change nothing, and are passed over.
+fn pass(
+    reached: &mut Reached,
+    due: &mut Due,
+    touching: &Touching,
+    elements: &IndexMap<ElementName, Element>,
+) -> Result<(), AllocError>
+    requires few { length elements.now.entries < 2 ^ 63 }
+    requires in_range { AllInRange elements.now.entries }
+    requires touching { AreTouching elements.now.entries touching.now.entries }
+    requires due { AreDue elements.now.entries due.old reached.old.entries }
+    ensures reached { OnOk result (reached.new.entries ≡ pass elements.now.entries reached.old.entries) }
+    ensures due { OnOk result (AreDue elements.now.entries due.new reached.new.entries) }
+{
+    let mut from = 0;
+    while let Some(place) = next_due(due, from) {
+        take_due(reached, due, touching, elements, place)?;
+        from = place + 1;
     }
     Ok(())
 }
 
-/// The buses that are reached from the sources: elements are taken in order, again and again, until no bus is new.
+/// The buses that are reached from the sources: elements are taken in order, again and again, until no bus is new. Takes
+/// a time that grows no faster than the number of elements times its logarithm.
 pub fn reached_in(
     alloc: Global,
     elements: &IndexMap<ElementName, Element>,
@@ -93,13 +145,14 @@ pub fn reached_in(
     requires { AllInRange elements.now.entries }
     ensures { IfOk result (λ reached. reached.entries ≡ reached_in elements.now.entries) }
 {
+    let touching = touching_in(alloc, elements)?;
+    let mut due = all_due(alloc, elements.len())?;
     let mut reached = IndexMap::new(alloc);
     for _pass in 0..elements.len() {
-        let before = reached.len();
-        pass(&mut reached, elements)?;
-        if reached.len() == before {
+        if due.is_empty() {
             return Ok(reached);
         }
+        pass(&mut reached, &mut due, &touching, elements)?;
     }
     Ok(reached)
 }
