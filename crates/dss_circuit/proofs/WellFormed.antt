@@ -1,5 +1,5 @@
 -- What the elements of every circuit are stays so.
-use Rattle.std.proofs.Common.{◌≡◌, Bool, true, false, if◌then◌else◌, List, [], ◌∷◌, map, All, Some, IfSome, refl, sym, ap, subst, ◌∙◌}
+use Rattle.std.proofs.Common.{◌≡◌, Bool, true, false, if◌then◌else◌, [], ◌∷◌, map, All, Some, IfSome, refl, sym, ap, subst, ◌∙◌}
 use Rattle.std.specs.List.{IsDistinct, AllByRecursion}
 use Rattle.std.specs.Cmp.{both_ways}
 use Rattle.std.specs.Map.{lookup}
@@ -17,10 +17,10 @@ use Rattle.dss_circuit.proofs.Named.{names_kept_by_all}
 -- ---- elements
 
 -- the same either way
-turned : (a b : ElementName) → same_element a b ≡ same_element b a
+pub turned : (a b : ElementName) → same_element a b ≡ same_element b a
 turned a b = both_ways (same_element a b) (same_element b a) (λ h. (equal b a).1 (sym ((equal a b).0 h))) (λ h. (equal a b).1 (sym ((equal b a).0 h)))
 
-abbrev name_of : ElementName × Element → ElementName
+abbrev pub name_of : ElementName × Element → ElementName
 name_of entry = entry.0
 
 -- an element that is there has its name's class

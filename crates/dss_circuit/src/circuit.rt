@@ -1,7 +1,8 @@
 // A circuit, and its changes.
-ghost use Rattle.std.specs.Prelude.{◌≡◌, ◌+◌, ◌<◌, ◌≤◌, ◌^◌, ◌-◌, All, [], IfErr, OnOk, false, length, map};
+ghost use Rattle.std.specs.Prelude.{◌≡◌, ◌≢◌, ◌+◌, ◌<◌, ◌≤◌, ◌^◌, ◌-◌, All, [], IfErr, IfOk, OnOk, false, length, map};
 ghost use Rattle.std.specs.List.{IsDistinct};
 ghost use Rattle.indexmap.specs.IndexMap.{insert_entry};
+ghost use Rattle.dss_model.specs.declared.names.Class.TheVariants as class;
 ghost use Rattle.dss_model.specs.Defaults.{default_options};
 ghost use Rattle.dss_model.specs.Element.{class_of};
 ghost use Rattle.dss_model.specs.InRange.{ElementInRange, OptionsInRange};
@@ -10,9 +11,10 @@ ghost use Rattle.dss_circuit.specs.Circuit.{empty_circuit, has_circuit, source_n
 ghost use Rattle.dss_circuit.specs.InRange.{AllInRange};
 ghost use Rattle.dss_circuit.specs.Limits.{most_elements};
 ghost use Rattle.dss_circuit.specs.WellFormed.{AllNamesAreThere, BeginsWithSource, IsEntry, IsKey, NamesAreThere};
+ghost use Rattle.dss_circuit.specs.Without.{OthersNameNone, without};
 
-use crate::elements::{Elements, insert_element, no_elements};
-use dss_model::{Element, ElementName, Options};
+use crate::elements::{Elements, copied_elements, drop_elements, insert_element, no_elements};
+use dss_model::{Class, Element, ElementName, Options};
 use std::alloc::{AllocError, Global};
 use std::marker::Model;
 
@@ -88,6 +90,28 @@ impl Circuit {
     {
         self.elements = no_elements(alloc);
         self.options = Options::start(alloc);
+    }
+
+    /// Takes the elements of one class out. The rest keep their order. It takes no memory.
+    ///
+    /// No element that stays names one of the class, and it isn't that of sources: a circuit begins with its own.
+    pub fn drop_class(&mut self, dropped: Class)
+        requires source { dropped ≢ class.Vsource }
+        requires named { OthersNameNone dropped self.old.elements }
+        ensures { self.new ≡ record self.old { elements = without dropped self.old.elements } }
+    {
+        drop_elements(&mut self.elements, dropped);
+    }
+
+    /// The same circuit.
+    pub fn copy(&self, alloc: Global) -> Result<Circuit, AllocError>
+        ensures { IfOk result (λ copy. copy ≡ self.now) }
+    {
+        Ok(Circuit {
+            elements: copied_elements(alloc, &self.elements)?,
+            options: self.options.copied()?,
+            solves: self.solves,
+        })
     }
 
     /// The settings that Set and Solve gave. Their values are in range.

@@ -2,7 +2,7 @@
 //!
 //! Every circuit has at most 2^17 elements, no two of the same class and name, each under a legal name in lower case with
 //! its own class, its values in range, and each element that one names is there; the first is the source that New Circuit
-//! makes. A change leaves it so: `put` is the only one that a circuit's elements have.
+//! makes. A change leaves it so: `put` and `drop_class` are the only ones that a circuit's elements have.
 //!
 //! - `circuit`: `Circuit`
 //! - `elements`: elements by name

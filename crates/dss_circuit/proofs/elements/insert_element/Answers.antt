@@ -1,4 +1,4 @@
-use Rattle.std.proofs.Common.{◌≡◌, ◌∙◌, ap, Bool, sym, subst}
+use Rattle.std.proofs.Common.{◌∙◌, ap, Bool, sym, subst}
 use Rattle.std.proofs.lemmas.List.Elements.{All-same}
 use Rattle.indexmap.specs.IndexMap.{insert_entry}
 use Rattle.dss_model.specs.declared.names.ElementName.{ElementName}
