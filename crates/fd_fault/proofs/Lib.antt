@@ -1,0 +1,4 @@
+pub mod Dropping
+pub mod Standing
+pub mod Passed
+pub mod Naming

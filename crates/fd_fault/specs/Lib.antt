@@ -1,0 +1,5 @@
+pub mod Kinds
+pub mod ShortNames
+pub mod Naming
+pub mod FaultCircuit
+pub mod FaultLaws
