@@ -15,7 +15,7 @@ use std::marker::Model;
 
 /// The unknowns of a circuit in order: nodes in order of first mention, then branch phases, then magnitudes. Complex
 /// unknown k has its real part at place 2 k and its imaginary part at place 2 k + 1; the places of magnitudes follow.
-/// There are at most 240 nodes and branch phases and at most 48 magnitudes.
+/// There are at most 480 nodes and branch phases and at most 96 magnitudes.
 #[derive(Drop)]
 pub struct Layout {
     unknowns: Unknowns,
@@ -51,7 +51,7 @@ impl Layout {
         Ok(Layout { unknowns })
     }
 
-    /// The number of real unknowns, at most 528.
+    /// The number of real unknowns, at most 1,056.
     pub fn size(&self) -> u32
         ensures { result ≡ size_of self.now }
     {

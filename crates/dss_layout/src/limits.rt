@@ -2,10 +2,10 @@
 use std::alloc::{AllocError, AllocFailed};
 
 /// The most nodes and branch phases, counted together.
-pub const MOST_COMPLEX: usize = 240;
+pub const MOST_COMPLEX: usize = 480;
 
 /// The most phases of loads with a part of constant current.
-pub const MOST_MAGNITUDES: usize = 48;
+pub const MOST_MAGNITUDES: usize = 96;
 
 /// Why there is no layout.
 #[derive(Clone, Copy, Debug, PartialEq, Eq)]

@@ -19,8 +19,8 @@ pub struct Unknowns {
     pub nodes: IndexSet<NodeName>,
     pub branches: Vec<PhaseName>,
     pub magnitudes: Vec<PhaseName>,
-    pub branches_before: Vec<u8>,
-    pub magnitudes_before: Vec<u8>,
+    pub branches_before: Vec<u16>,
+    pub magnitudes_before: Vec<u16>,
 }
 
 impl Model for Unknowns {
@@ -143,8 +143,8 @@ impl Unknowns {
         if are_too_many(complex, self.magnitudes.len() + magnitudes as usize) {
             return Ok(true);
         }
-        self.branches_before.push(self.branches.len() as u8)?;
-        self.magnitudes_before.push(self.magnitudes.len() as u8)?;
+        self.branches_before.push(self.branches.len() as u16)?;
+        self.magnitudes_before.push(self.magnitudes.len() as u16)?;
         push_phases(&mut self.branches, name, branches)?;
         push_phases(&mut self.magnitudes, name, magnitudes)?;
         Ok(false)

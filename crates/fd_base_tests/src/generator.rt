@@ -23,9 +23,9 @@ fn one_section_is_written_whole(rt: HostRuntime) -> Result<(), Fail> {
 
 #[test]
 fn each_section_has_two_lines(rt: HostRuntime) -> Result<(), Fail> {
-    let records = generate(rt.alloc(), 7, 39)?;
-    holds(&rt, records.len() == 82);
-    let last = b"New Line.l39 bus1=b16 bus2=b39 linecode=g length=154 units=ft\n";
-    same(&rt, records[79].bytes.as_slice(), last.as_slice());
+    let records = generate(rt.alloc(), 7, 79)?;
+    holds(&rt, records.len() == 162);
+    let last = b"New Line.l79 bus1=b37 bus2=b79 linecode=g length=274 units=ft\n";
+    same(&rt, records[159].bytes.as_slice(), last.as_slice());
     Ok(())
 }

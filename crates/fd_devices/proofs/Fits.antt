@@ -16,6 +16,7 @@ use Rattle.dss_model.specs.declared.load.LoadKind.TheVariants as kind
 use Rattle.dss_model.specs.declared.load.ZipShares.{ZipShares}
 use Rattle.dss_model.specs.declared.transformer.Transformer.{Transformer}
 use Rattle.dss_layout.specs.Layout.{LayoutView, complex_count, ends_of, first_magnitude}
+use Rattle.dss_layout.specs.Limits.{most_complex}
 use Rattle.fd_arith.specs.declared.terms.LoadModel.{LoadModel}
 use Rattle.fd_arith.specs.declared.terms.LoadModel.TheVariants.{ConstantPower, ConstantImpedance, ConstantCurrent}
 use Rattle.fd_arith.specs.declared.terms.NodeAt.{NodeAt}
@@ -69,7 +70,7 @@ cap_within c h = record {
   kv = record { least = h.kv.least; most = h.kv.most };
 }
 
-small_node : (n : ℕ) (node : NodeAt) → n ≤ 240 → IsAmong n node → IsSmall node
+small_node : (n : ℕ) (node : NodeAt) → n ≤ most_complex → IsAmong n node → IsSmall node
 small_node n Ground few h = tt
 small_node n (Node k) few h = omega (arith, few, h)
 
@@ -97,7 +98,7 @@ shares_in_range None h = record { p = none; q = none }
     none : SharesInRange (record { impedance = pos 0; current = pos 0; power = pos 0 })
     none = record { impedance = zero_share; current = zero_share; power = zero_share }
 
-module _ (load : Load) (n : ℕ) (ns : List NodeAt) (magnitude : ℕ) (range : LoadInRange load) (few : n ≤ 240)
+module _ (load : Load) (n : ℕ) (ns : List NodeAt) (magnitude : ℕ) (range : LoadInRange load) (few : n ≤ most_complex)
     (side : IsSideOf n (node_count load.phases) ns) where
   usable_at : (k : ℕ) (part : LoadPhase) → IsPart part → IsUsable (part_at load ns magnitude k part)
   usable_at k part h =
