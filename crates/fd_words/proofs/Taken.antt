@@ -1,30 +1,90 @@
 -- What `clap` makes of the words of a form: it takes them, and its matches are the form.
-use Rattle.std.proofs.Common.{◌≡◌, ◌∙◌, ◌==◌, ◌&&◌, ◌∷◌, ℕ, List, Option, Some, None, Bool, true, false, not, [], refl, sym, subst, ap₂, codes, if◌then◌else◌, nat_eq, is_some, option_map}
-use Rattle.std.specs.Prelude.{option_and_then}
-use Rattle.std.specs.Option.{option_zip}
-use Rattle.std.specs.Cmp.Lexicographic.{pointwise}
+use Rattle.std.proofs.Common.{◌≡◌, ◌∙◌, ◌==◌, ◌&&◌, ◌||◌, ◌∷◌, ◌++◌, ◌≤◌, ℕ, List, Option, Some, None, Bool, suc, true, false, not, [], refl, sym, subst, ap, ap₂, cond, codes, nat_eq, nat_le, is_some, length, map, option_map, unwrap_or, append-nil, append_assoc, arith}
+use Rattle.std.proofs.lemmas.Bool.Decides.{nat_tests}
+use Rattle.std.specs.Prelude.{find, fold, option_and_then}
+use Rattle.std.specs.List.{list_all}
+use Rattle.std.specs.Option.{option_map_or}
+use Rattle.std.specs.Str.{bytes_eq}
 use Rattle.std.proofs.lemmas.Slice.Eq.{bytes_eq-Decides}
 use Rattle.clap.specs.Lexer.{long_of, short_of}
-use Rattle.clap.specs.Words.{Row, Text, first_of, first_value, rows_of, subcommand_of, takes}
-use Rattle.clap.specs.declared.parser.matches.Found.{Found}
+use Rattle.clap.specs.Matches.{matched_of, raw_values}
+use Rattle.clap.specs.Simple.{App, Shape, built, entered, filled_from, label_of, new_shape, rows_at}
+use Rattle.clap.specs.Takes.{default_passes, entered_passes, is_valid, level_passes, settle_passes, walk_passes}
+use Rattle.clap.specs.Walk.{Names, Rule, Walk, answers_to, finished, idle, nothing_held, rows_after, subcommand_met, walk, walk_from, walked}
+use Rattle.clap.specs.Words.{Row as Found, Text, all_of, rows_of, subcommand_of, takes}
+use Rattle.clap.specs.declared.parser.matches.Found.{Found as Matches}
 use Rattle.clap.proofs.OnLiterals.{clap_on_literals}
-use Rattle.clap.proofs.WalkLemmas.{first_value-rows}
-use Rattle.fd_words.specs.Lines.{form_of_rows, lines_app}
-use Rattle.fd_words.specs.Numbers.{number_of, sections_of, value_of, within_sections}
+use Rattle.clap.proofs.WalkLemmas.{find-map, raw_values-rows}
+use Rattle.fd_words.specs.declared.table.Kind.{Kind}
+use Rattle.fd_words.specs.declared.table.Kind.TheVariants.{File, Number, Sections}
+use Rattle.fd_words.specs.Lines.{form_of_rows, lines_app, words_rule}
+use Rattle.fd_words.specs.Numbers.{value_of, within_sections}
+use Rattle.fd_words.specs.Words.{Form, Row, Takes, Value, form_of, form_with, names_file, row_of, rows, value_as}
 use Rattle.fd_words.proofs.Digits.{number_named}
-use Rattle.fd_words.specs.Words.{Form, Solve, Cert, Check, Gen, Bench, check_form, feeder_form, form_of, names_file}
 
--- the getter of a word reads the rows
-pub word_by : (f : Found) (id : Text) (word : Option Text) → word ≡ first_value f id → word ≡ first_of id (rows_of f)
-word_by f id word e = e ∙ first_value-rows f id
+-- the getter of the words reads the rows
+pub words_by : (f : Matches) (id : Text) (words : Option (List Text)) → words ≡ option_map raw_values (matched_of f id) → words ≡ all_of id (rows_of f)
+words_by f id words e = e ∙ raw_values-rows f id
 
--- the form of what was found of a line
-abbrev pub read : Option (Text × List Row) → Option Form
-read = option_and_then (λ line. form_of_rows line.0 line.1)
+and_split : (a b : Bool) → a && b ≡ true → (a ≡ true) × (b ≡ true)
+and_split true b h = (refl, h)
+and_split false b h = absurd (cc h)
 
--- the command takes the words, and its matches are the form
-abbrev IsReadAs : List Text → Option Form → Type 0
-IsReadAs words form = (takes lines_app words ≡ true) × (read (subcommand_of lines_app words) ≡ form)
+or_true : (a : Bool) → a || true ≡ true
+or_true true = refl
+or_true false = refl
+
+-- ---- the words of a row
+
+sections_named : (word : Text) (value : Option ℕ) (m : ℕ) → value_of 2 word ≡ value → option_and_then within_sections value ≡ Some m
+    → names_file word ≡ true
+sections_named word None m e some = absurd (cc some)
+sections_named word (Some k) m e some = number_named 2 word k e
+
+file_named : (word : Text) (b : Bool) (v : Text) → names_file word ≡ b → (cond b (Some word) None) ≡ Some v → names_file word ≡ true
+file_named word true v e some = e
+file_named word false v e some = absurd (cc some)
+
+-- a word of any kind may name a file
+named : (kind : Kind) (word : Text) (v : Value kind) → value_as kind word ≡ Some v → names_file word ≡ true
+named File word v e = file_named word _ v refl e
+named Number word v e = number_named 20 word v e
+named Sections word v e = sections_named word (value_of 2 word) v refl e
+
+-- there are as many words as kinds, and each may name a file
+all_named : (kinds : List Kind) (form : Takes kinds) (words : List Text) → is_some (form_with kinds form words) ≡ true
+    → (length kinds ≡ length words) × (list_all names_file words ≡ true)
+all_named [] form [] some = (refl, refl)
+all_named [] form (word ∷ words) some = absurd (cc some)
+all_named (kind ∷ kinds) form [] some = absurd (cc some)
+all_named (kind ∷ kinds) form (word ∷ words) some = go (value_as kind word) refl some (λ v. all_named kinds (form v) words)
+  where
+    go : (o : Option (Value kind)) → value_as kind word ≡ o → is_some (option_and_then (λ value. form_with kinds (form value) words) o) ≡ true
+        → ((v : Value kind) → is_some (form_with kinds (form v) words) ≡ true → (length kinds ≡ length words) × (list_all names_file words ≡ true))
+        → (length (kind ∷ kinds) ≡ length (word ∷ words)) × (list_all names_file (word ∷ words) ≡ true)
+    go None e h more = absurd (cc h)
+    go (Some v) e h more =
+        let rest = more v h in
+        (ap (λ n. suc n) rest.0, ap₂ (λ a b. a && b) (named kind word v e) rest.1)
+
+-- ---- a line
+
+-- the subcommand of a line as it is built
+abbrev line : Text → ℕ → Shape
+line word count = record (new_shape word) {
+  rules = filled_from 1 (words_rule count ∷ []);
+  no_binary_name = true;
+  disable_help_flag = true;
+  disable_help_subcommand = true;
+  is_built = true;
+}
+
+abbrev leaf : Row → Shape
+leaf row = line row.word (length row.kinds)
+
+-- the line takes the words, and its matches give them back
+abbrev IsTakenBy : Shape → List Text → Type 0
+IsTakenBy shape words = (level_passes shape [] nothing_held words false ≡ true) × (all_of (codes "words") (rows_after shape.rules [] words) ≡ Some words)
 
 dashless : (b : ℕ) (bs : List ℕ) → nat_eq b 45 ≡ false → (long_of (b ∷ bs) ≡ None) × (short_of (b ∷ bs) ≡ None)
 dashless b bs h = (rw h refl, rw h refl)
@@ -36,132 +96,144 @@ other b h = go (b == 45) refl h
     go true e n = absurd (cc n)
     go false e n = e
 
--- ---- each form
-
-solve_read : (file : List ℕ) → names_file file ≡ true → IsReadAs (codes "solve" ∷ file ∷ []) (Some (Solve file))
+one_taken : (name word : Text) → names_file word ≡ true → IsTakenBy (line name 1) (word ∷ [])
 unfolding clap_on_literals
-solve_read [] named = absurd (cc named)
-solve_read (b ∷ bs) named =
-    let h = other b named in
+one_taken name [] n = absurd (cc n)
+one_taken name (b ∷ bs) n =
+    let h = other b n in
     let d = dashless b bs h in
-    (rw (d.0, d.1, h) (refl {a = true}), rw (d.0, d.1, h) (refl {a = Some (Solve (b ∷ bs))}))
+    (rw (d.0, d.1, h) (refl {a = true}), rw (d.0, d.1, h) (refl {a = Some ((b ∷ bs) ∷ [])}))
 
-cert_read : (file : List ℕ) → names_file file ≡ true → IsReadAs (codes "cert" ∷ file ∷ []) (Some (Cert file))
+two_taken : (name first second : Text) → names_file first ≡ true → names_file second ≡ true → IsTakenBy (line name 2) (first ∷ second ∷ [])
 unfolding clap_on_literals
-cert_read [] named = absurd (cc named)
-cert_read (b ∷ bs) named =
-    let h = other b named in
+two_taken name [] second n m = absurd (cc n)
+two_taken name (b ∷ bs) [] n m = absurd (cc m)
+two_taken name (b ∷ bs) (c ∷ cs) n m =
+    let h = other b n in
+    let k = other c m in
     let d = dashless b bs h in
-    (rw (d.0, d.1, h) (refl {a = true}), rw (d.0, d.1, h) (refl {a = Some (Cert (b ∷ bs))}))
+    let e = dashless c cs k in
+    (rw (d.0, d.1, h, e.0, e.1, k) (refl {a = true}), rw (d.0, d.1, h, e.0, e.1, k) (refl {a = Some ((b ∷ bs) ∷ (c ∷ cs) ∷ [])}))
 
-check_read : (script certificate : List ℕ) → names_file script ≡ true → names_file certificate ≡ true
-    → IsReadAs (codes "check" ∷ script ∷ certificate ∷ []) (Some (Check script certificate))
-unfolding clap_on_literals
-check_read [] certificate named also = absurd (cc named)
-check_read (b ∷ bs) [] named also = absurd (cc also)
-check_read (b ∷ bs) (d ∷ ds) named also =
-    let h = other b named in
-    let k = other d also in
-    let e = dashless b bs h in
-    let f = dashless d ds k in
-    (rw (e.0, e.1, h, f.0, f.1, k) (refl {a = true}), rw (e.0, e.1, h, f.0, f.1, k) (refl {a = Some (Check (b ∷ bs) (d ∷ ds))}))
+true_le : (m n : ℕ) → nat_le m n ≡ true → m ≤ n
+true_le m n h = grind (arith, nat_tests)
 
--- a feeder of two words, where they are numbers
-abbrev feeder_by : (ℕ → ℕ → Form) → Text → Text → Option Form
-feeder_by make number sections = option_map (λ f. make f.0 f.1) (option_zip (number_of number) (sections_of sections))
+-- one word or two
+abbrev is_few : ℕ → Bool
+is_few count = nat_le 1 count && nat_le count 2
 
-gen_read : (number sections : List ℕ) → names_file number ≡ true → names_file sections ≡ true
-    → IsReadAs (codes "gen" ∷ number ∷ sections ∷ []) (feeder_by Gen number sections)
-unfolding clap_on_literals
-gen_read [] sections named also = absurd (cc named)
-gen_read (b ∷ bs) [] named also = absurd (cc also)
-gen_read (b ∷ bs) (d ∷ ds) named also =
-    let h = other b named in
-    let k = other d also in
-    let e = dashless b bs h in
-    let f = dashless d ds k in
-    (rw (e.0, e.1, h, f.0, f.1, k) (refl {a = true}), rw (e.0, e.1, h, f.0, f.1, k) (refl {a = feeder_by Gen (b ∷ bs) (d ∷ ds)}))
+few_taken : (name : Text) (words : List Text) → is_few (length words) ≡ true → list_all names_file words ≡ true → IsTakenBy (line name (length words)) words
+few_taken name [] few all = absurd (cc few)
+few_taken name (word ∷ []) few all = one_taken name word (and_split (names_file word) true all).0
+few_taken name (first ∷ second ∷ []) few all =
+    let rest = and_split (names_file first) _ all in
+    two_taken name first second rest.0 (and_split (names_file second) true rest.1).0
+few_taken name (first ∷ second ∷ third ∷ words) few all =
+    let count = length (first ∷ second ∷ third ∷ words) in
+    let most : count ≤ 2 = true_le count 2 (and_split (nat_le 1 count) (nat_le count 2) few).1 in
+    absurd (omega arith)
 
-bench_read : (number sections : List ℕ) → names_file number ≡ true → names_file sections ≡ true
-    → IsReadAs (codes "bench" ∷ number ∷ sections ∷ []) (feeder_by Bench number sections)
-unfolding clap_on_literals
-bench_read [] sections named also = absurd (cc named)
-bench_read (b ∷ bs) [] named also = absurd (cc also)
-bench_read (b ∷ bs) (d ∷ ds) named also =
-    let h = other b named in
-    let k = other d also in
-    let e = dashless b bs h in
-    let f = dashless d ds k in
-    (rw (e.0, e.1, h, f.0, f.1, k) (refl {a = true}), rw (e.0, e.1, h, f.0, f.1, k) (refl {a = feeder_by Bench (b ∷ bs) (d ∷ ds)}))
+-- ---- the lines
 
--- ---- by the table
+abbrev top : Shape
+top = record (new_shape (codes "feeder")) { no_binary_name = true; disable_help_flag = true; disable_help_subcommand = true; is_leaf = false; is_built = true }
 
--- the first word is the name
-at_name : (name word : Text) (others : List Text) (form : Option Form) → pointwise nat_eq word name ≡ true
-    → IsReadAs (name ∷ others) form → IsReadAs (word ∷ others) form
-at_name name word others form same = subst (λ (w : Text). IsReadAs (w ∷ others) form) (sym ((bytes_eq-Decides word name).0 same))
+abbrev app : App
+app = record { top = top; subs = map leaf rows }
 
-two_read : (word file : Text) (named solve cert : Bool) → names_file file ≡ named
-    → pointwise nat_eq word (codes "solve") ≡ solve → pointwise nat_eq word (codes "cert") ≡ cert
-    → is_some (let form : Option Form = if named then (if solve then Some (Solve file) else if cert then Some (Cert file) else None) else None in form)
-    ≡ true
-    → IsReadAs (word ∷ file ∷ []) (if named then (if solve then Some (Solve file) else if cert then Some (Cert file) else None) else None)
-two_read word file false solve cert n s c some = absurd (cc some)
-two_read word file true true cert n s c some = at_name (codes "solve") word (file ∷ []) _ s (solve_read file n)
-two_read word file true false true n s c some = at_name (codes "cert") word (file ∷ []) _ c (cert_read file n)
-two_read word file true false false n s c some = absurd (cc some)
+built_is : built lines_app ≡ app
+built_is = refl
 
-both_read : (word script certificate : Text) (named also : Bool) → pointwise nat_eq word (codes "check") ≡ true
-    → names_file script ≡ named → names_file certificate ≡ also
-    → is_some (let form : Option Form = if named && also then Some (Check script certificate) else None in form) ≡ true
-    → IsReadAs (word ∷ script ∷ certificate ∷ []) (if named && also then Some (Check script certificate) else None)
-both_read word script certificate false also w n a some = absurd (cc some)
-both_read word script certificate true false w n a some = absurd (cc some)
-both_read word script certificate true true w n a some = at_name (codes "check") word (script ∷ certificate ∷ []) _ w (check_read script certificate n a)
+-- a row that is found has its word, and what is said of all
+found_row : (test : Row → Bool) (rs : List Row) (word : Text) (row : Row) → find (λ r. bytes_eq r.word word) rs ≡ Some row → list_all test rs ≡ true
+    → (bytes_eq row.word word ≡ true) × (test row ≡ true) × (find (λ s. answers_to word (label_of s)) (map leaf rs) ≡ Some (leaf row))
+found_row test [] word row h all = absurd (cc h)
+found_row test (r ∷ rs) word row h all = go (bytes_eq r.word word) refl h (λ found. found_row test rs word row found (and_split (test r) _ all).1)
+  where
+    go : (t : Bool) → bytes_eq r.word word ≡ t → cond t (Some r) (find (λ r. bytes_eq r.word word) rs) ≡ Some row
+        → (find (λ r. bytes_eq r.word word) rs ≡ Some row → (bytes_eq row.word word ≡ true) × (test row ≡ true) × (find (λ s. answers_to word (label_of s)) (map leaf rs) ≡ Some (leaf row)))
+        → (bytes_eq row.word word ≡ true) × (test row ≡ true) × (find (λ s. answers_to word (label_of s)) (map leaf (r ∷ rs)) ≡ Some (leaf row))
+    go true e found more =
+        let is : r ≡ row = ap (λ o. unwrap_or o r) found in
+        subst (λ (x : Row). (bytes_eq x.word word ≡ true) × (test x ≡ true) × (find (λ s. answers_to word (label_of s)) (map leaf (r ∷ rs)) ≡ Some (leaf x))) is
+        (e, (and_split (test r) _ all).0, rw e refl)
+    go false e found more =
+        let rest = more found in
+        (rest.0, rest.1, rw e rest.2)
 
-sections_named : (word : Text) (value : Option ℕ) (m : ℕ) → value_of 2 word ≡ value
-    → option_and_then within_sections value ≡ Some m
-    → names_file word ≡ true
-sections_named word None m e some = absurd (cc some)
-sections_named word (Some k) m e some = number_named 2 word k e
+-- the walk that met a name, and the words after it
+abbrev at : Text → List Text → Walk
+at name words = record (walk_from nothing_held) { stopped = Some (name, words) }
 
-feeder_read : (word second third : Text) (number sections : Option ℕ) (gen bench : Bool)
-    → number_of second ≡ number → sections_of third ≡ sections
-    → pointwise nat_eq word (codes "gen") ≡ gen → pointwise nat_eq word (codes "bench") ≡ bench
-    → is_some (feeder_form word number sections) ≡ true
-    → IsReadAs (word ∷ second ∷ third ∷ []) (feeder_form word number sections)
-feeder_read word second third None sections gen bench n s g b some = absurd (cc some)
-feeder_read word second third (Some number) None gen bench n s g b some = absurd (cc some)
-feeder_read word second third (Some number) (Some sections) true bench n s g b some =
-    let named = number_named 20 second number n in
-    let also = sections_named third (value_of 2 third) sections refl s in
-    rw g (subst (IsReadAs (word ∷ second ∷ third ∷ [])) (ap₂ (λ x y. option_map (λ (f : ℕ × ℕ). Gen f.0 f.1) (option_zip x y)) n s)
-    (at_name (codes "gen") word (second ∷ third ∷ []) _ g (gen_read second third named also)))
-feeder_read word second third (Some number) (Some sections) false true n s g b some =
-    let named = number_named 20 second number n in
-    let also = sections_named third (value_of 2 third) sections refl s in
-    rw (g, b) (subst (IsReadAs (word ∷ second ∷ third ∷ [])) (ap₂ (λ x y. option_map (λ (f : ℕ × ℕ). Bench f.0 f.1) (option_zip x y)) n s)
-    (at_name (codes "bench") word (second ∷ third ∷ []) _ b (bench_read second third named also)))
-feeder_read word second third (Some number) (Some sections) false false n s g b some =
-    let none : is_some (feeder_form word (Some number) (Some sections)) ≡ false = rw (g, b) refl in
-    absurd (cc some)
+later : (c : List Rule) (names : Names) (name : Text) (seen words : List Text) → fold (walked c names) (at name seen) words ≡ at name (seen ++ words)
+unfolding walked
+later c names name seen [] = ap (at name) (sym (append-nil seen))
+later c names name seen (word ∷ words) = later c names name (seen ++ word ∷ []) words ∙ ap (at name) (append_assoc seen (word ∷ []) words)
 
-three_read : (word second third : Text) (check : Bool) → pointwise nat_eq word (codes "check") ≡ check
-    → is_some (if check then check_form second third else feeder_form word (number_of second) (sections_of third)) ≡ true
-    → IsReadAs (word ∷ second ∷ third ∷ []) (if check then check_form second third else feeder_form word (number_of second) (sections_of third))
-three_read word second third true e some = both_read word second third _ _ e refl refl some
-three_read word second third false e some = feeder_read word second third _ _ _ _ refl refl refl refl some
+first : (c : List Rule) (names : Names) (word name : Text) → subcommand_met names idle word ≡ Some name → walked c names (walk_from nothing_held) word ≡ at name []
+unfolding walked
+first c names word name met = rw met refl
 
-form_read : (words : List Text) → is_some (form_of words) ≡ true → IsReadAs words (form_of words)
+later_passes : (s : Shape) (names : Names) (name : Text) (seen words : List Text) → walk_passes s names (at name seen) words ≡ true
+unfolding walk_passes walked
+later_passes s names name seen [] = refl
+later_passes s names name seen (word ∷ words) = later_passes s names name (seen ++ word ∷ []) words
+
+passes : (names : Names) (word name : Text) (words : List Text) → subcommand_met names idle word ≡ Some name
+    → walk_passes top names (walk_from nothing_held) (word ∷ words) ≡ true
+unfolding walk_passes walked
+passes names word name words met = rw (met, or_true (not (bytes_eq name (codes "help")))) (later_passes top names name [] words)
+
+-- the command takes a row's word and words that its line takes, and its matches give them back
+row_taken : (row : Row) (words : List Text) → find (λ s. answers_to row.word (label_of s)) (map leaf rows) ≡ Some (leaf row) → IsTakenBy (leaf row) words
+    → (takes lines_app (row.word ∷ words) ≡ true)
+    × (subcommand_of lines_app (row.word ∷ words) ≡ Some (row.word, rows_after (leaf row).rules [] words))
+row_taken row words found taken =
+    let names = map label_of (map leaf rows) in
+    let met : subcommand_met names idle row.word ≡ Some row.word =
+    ap (option_map (λ (s : Text × List Text). s.0)) (sym (find-map (answers_to row.word) label_of (map leaf rows)) ∙ ap (option_map label_of) found) in
+    let walk_is : walk [] names nothing_held (row.word ∷ words) ≡ at row.word words =
+    ap (λ (w : Walk). fold (walked [] names) w words) (first [] names row.word row.word met) ∙ later [] names row.word [] words in
+    let enters : entered_passes app (at row.word words).stopped ≡ true =
+    ap (λ o. option_map_or (λ (s : Shape). level_passes s [] nothing_held words false) o true) found ∙ taken.0 in
+    let level : (b : Bool) → level_passes top names nothing_held (row.word ∷ words) b ≡ true =
+    λ b. ap₂ (λ (w : Walk) (p : Bool). p && (settle_passes [] false w.held && (list_all default_passes [] && is_valid top (finished [] w.held) b))) walk_is (passes names row.word row.word words met) in (
+      ap₂ (λ (a b : Bool). a && b) (ap (λ (w : Walk). entered_passes app w.stopped) walk_is ∙ enters) (level (is_some (entered app (walk [] names nothing_held (row.word ∷ words)).stopped))),
+      ap (λ (w : Walk). entered app w.stopped) walk_is ∙ ap (option_map (λ s. rows_at s words)) found,
+    )
+
+-- ---- the form
+
+abbrev pub read : Option (Text × List Found) → Option Form
+read = option_and_then (λ line. form_of_rows line.0 line.1)
+
+-- the command takes the words, and its matches are their form
+abbrev IsRead : List Text → Type 0
+IsRead words = (takes lines_app words ≡ true) × (read (subcommand_of lines_app words) ≡ form_of words)
+
+row_read : (row : Row) (words : List Text) → is_some (form_with row.kinds row.form words) ≡ true → is_few (length row.kinds) ≡ true
+    → find (λ s. answers_to row.word (label_of s)) (map leaf rows) ≡ Some (leaf row) → IsRead (row.word ∷ words)
+row_read row words some few found =
+    let all = all_named row.kinds row.form words some in
+    let by_line = few_taken row.word words (subst (λ n. is_few n ≡ true) all.0 few) all.1 in
+    let taken : IsTakenBy (leaf row) words = subst (λ n. IsTakenBy (line row.word n) words) (sym all.0) by_line in
+    let is = row_taken row words found taken in
+    (is.0, ap read is.1 ∙ ap (option_and_then (λ ws. form_of (row.word ∷ ws))) taken.1)
+
+form_read : (words : List Text) → is_some (form_of words) ≡ true → IsRead words
 form_read [] some = absurd (cc some)
-form_read (word ∷ []) some = absurd (cc some)
-form_read (word ∷ file ∷ []) some = two_read word file _ _ _ refl refl refl some
-form_read (word ∷ second ∷ third ∷ []) some = three_read word second third _ refl some
-form_read (word ∷ second ∷ third ∷ fourth ∷ words) some = absurd (cc some)
+form_read (word ∷ words) some = go (row_of word) refl some
+  where
+    go : (o : Option Row) → row_of word ≡ o → is_some (option_and_then (λ row. form_with row.kinds row.form words) o) ≡ true → IsRead (word ∷ words)
+    go None e h = absurd (cc h)
+    go (Some row) e h =
+        let found = found_row (λ r. is_few (length r.kinds)) rows word row e refl in
+        let is : row.word ≡ word = (bytes_eq-Decides row.word word).0 found.0 in
+        subst (λ w. IsRead (w ∷ words)) is
+        (row_read row words h found.1 (subst (λ w. find (λ s. answers_to w (label_of s)) (map leaf rows) ≡ Some (leaf row)) (sym is) found.2))
 
 pub is_taken : (words : List Text) → is_some (form_of words) ≡ true → takes lines_app words ≡ true
 is_taken words some = (form_read words some).0
 
-pub is_read : (words : List Text) → is_some (form_of words) ≡ true
-    → read (subcommand_of lines_app words) ≡ form_of words
+pub is_read : (words : List Text) → is_some (form_of words) ≡ true → read (subcommand_of lines_app words) ≡ form_of words
 is_read words some = (form_read words some).1

@@ -1,45 +1,33 @@
--- The command that takes the words of a form apart, as `clap` reads it, and the form that its matches are.
-use Rattle.std.specs.Prelude.{ℕ, true, false, List, [], ◌∷◌, map, Option, None, if◌then◌else◌, option_and_then, nat_eq, codes}
-use Rattle.std.specs.Option.{option_map, option_zip}
-use Rattle.std.specs.Cmp.Lexicographic.{pointwise}
+-- The command that takes the words of a form apart, as `clap` reads it: a subcommand for each row of the table, with one
+-- required positional of as many values as words stand behind the first.
+use Rattle.std.specs.Prelude.{ℕ, true, List, [], ◌∷◌, Option, Some, codes, fold, length, option_and_then}
 use Rattle.clap.specs.Simple.{new_shape}
-use Rattle.clap.specs.Words.{App, Row, Rule, Text, first_of, new_rule}
-use Rattle.fd_words.specs.Numbers.{number_of, sections_of}
-use Rattle.fd_words.specs.Words.{Form, Solve, Cert, Check, Gen, Bench}
+use Rattle.clap.specs.Words.{App, Row as Found, Rule, Text, all_of, new_rule, with_subcommand}
+use Rattle.clap.specs.declared.builder.action.ArgAction.TheVariants.{Set}
+use Rattle.fd_words.specs.Words.{Form, form_of, rows}
 
-abbrev pub positional : Text → Rule
-positional id = record (new_rule id) { required = true }
-
--- a line: its first word, and an id for each word behind it
-abbrev pub line_app : Text → List Text → App
-line_app name ids = record { top = record (new_shape name) { rules = map positional ids }; subs = [] }
-
-abbrev pub lines_app : App
-lines_app = record {
-  top = record (new_shape (codes "feeder")) { is_leaf = false; no_binary_name = true };
-  subs = (line_app (codes "solve") (codes "file" ∷ [])).top
-      ∷ (line_app (codes "cert") (codes "file" ∷ [])).top
-      ∷ (line_app (codes "check") (codes "script" ∷ codes "certificate" ∷ [])).top
-      ∷ (line_app (codes "gen") (codes "number" ∷ codes "sections" ∷ [])).top
-      ∷ (line_app (codes "bench") (codes "number" ∷ codes "sections" ∷ [])).top
-      ∷ [];
+-- a positional of so many values
+abbrev pub words_rule : ℕ → Rule
+words_rule count = record (new_rule (codes "words")) {
+  required = true;
+  action = Some Set;
+  range = Some (record { start_inclusive = count; end_inclusive = count });
 }
 
-abbrev pub check_in : List Row → Option Form
-check_in rows =
-    option_map (λ names. Check names.0 names.1) (option_zip (first_of (codes "script") rows) (first_of (codes "certificate") rows))
+-- the command with one line more
+abbrev pub with_line : App → Text → ℕ → App
+with_line app word count = with_subcommand app (record (new_shape word) { rules = words_rule count ∷ [] })
 
-abbrev pub feeder_in : List Row → Option (ℕ × ℕ)
-feeder_in rows = option_zip
-    (option_and_then number_of (first_of (codes "number") rows))
-    (option_and_then sections_of (first_of (codes "sections") rows))
+-- the command with no subcommand: it takes neither `help` nor `--help`
+abbrev pub no_lines : App
+no_lines = record {
+  top = record (new_shape (codes "feeder")) { no_binary_name = true; disable_help_flag = true; disable_help_subcommand = true };
+  subs = [];
+}
 
--- the form of a line's rows
-abbrev pub form_of_rows : Text → List Row → Option Form
-form_of_rows name rows =
-    if pointwise nat_eq name (codes "solve") then option_map Solve (first_of (codes "file") rows)
-    else if pointwise nat_eq name (codes "cert") then option_map Cert (first_of (codes "file") rows)
-    else if pointwise nat_eq name (codes "check") then check_in rows
-    else if pointwise nat_eq name (codes "gen") then option_map (λ feeder. Gen feeder.0 feeder.1) (feeder_in rows)
-    else if pointwise nat_eq name (codes "bench") then option_map (λ feeder. Bench feeder.0 feeder.1) (feeder_in rows)
-    else None
+abbrev pub lines_app : App
+lines_app = fold (λ app row. with_line app row.word (length row.kinds)) no_lines rows
+
+-- the form of a line's matches
+abbrev pub form_of_rows : Text → List Found → Option Form
+form_of_rows name found = option_and_then (λ words. form_of (name ∷ words)) (all_of (codes "words") found)

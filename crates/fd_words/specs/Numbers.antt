@@ -19,9 +19,9 @@ value_of most word = if are_digits most word && nat_lt (digits_value 10 word) (2
 abbrev pub number_of : List ℕ → Option ℕ
 number_of word = value_of 20 word
 
--- a number of sections: 1 to 39, in one digit or two
+-- a number of sections: 1 to 79, in one digit or two
 abbrev pub within_sections : ℕ → Option ℕ
-within_sections n = if nat_le 1 n && nat_le n 39 then Some n else None
+within_sections n = if nat_le 1 n && nat_le n 79 then Some n else None
 
 abbrev pub sections_of : List ℕ → Option ℕ
 sections_of word = option_and_then within_sections (value_of 2 word)

@@ -1,7 +1,10 @@
--- The forms of the command line. A word is a list of bytes.
-use Rattle.std.specs.Prelude.{ℕ, ◌≤◌, ◌==◌, ◌&&◌, not, Bool, false, List, [], ◌∷◌, if◌then◌else◌, Option, Some, None, nat_eq, codes}
+-- The forms of the command line, as a table. A word is a list of bytes.
+use Rattle.std.specs.Prelude.{ℕ, ◌≡◌, ◌≤◌, ◌==◌, not, Bool, false, List, [], ◌∷◌, if◌then◌else◌, Option, Some, None, find, map, nat_eq, codes, option_and_then}
+use Rattle.std.specs.Borrow.{Bor}
 use Rattle.std.specs.Cmp.Lexicographic.{pointwise}
 use Rattle.fd_words.specs.Numbers.{number_of, sections_of}
+use Rattle.fd_words.specs.declared.table.Kind.{Kind}
+use Rattle.fd_words.specs.declared.table.Kind.TheVariants.{File, Number, Sections}
 use Rattle.fd_words.specs.declared.words.Form.{Form as Words}
 use Rattle.fd_words.specs.declared.words.Form.TheVariants as words
 
@@ -16,40 +19,71 @@ pub data Form : Type 0 where
   Gen : ℕ → ℕ → Form
   -- `bench NUMBER SECTIONS`
   Bench : ℕ → ℕ → Form
+  -- `upgrade CERTIFICATE`
+  Upgrade : List ℕ → Form
 
 -- whether a word may name a file: it isn't empty and doesn't start with a dash
 abbrev pub names_file : List ℕ → Bool
 names_file [] = false
 names_file (byte ∷ bytes) = not (byte == 45)
 
--- by the first word, where a file is named behind it
-abbrev pub form_by : List ℕ → List ℕ → Option Form
-form_by word file =
-    if pointwise nat_eq word (codes "solve") then Some (Solve file)
-    else if pointwise nat_eq word (codes "cert") then Some (Cert file)
-    else None
+-- the value of a word of a kind
+abbrev pub Value : Kind → Type 0
+Value File = List ℕ
+Value Number = ℕ
+Value Sections = ℕ
 
--- a script and a certificate
-abbrev pub check_form : List ℕ → List ℕ → Option Form
-check_form script certificate = if names_file script && names_file certificate then Some (Check script certificate) else None
+abbrev pub value_as : (kind : Kind) → List ℕ → Option (Value kind)
+value_as File word = if names_file word then Some word else None
+value_as Number word = number_of word
+value_as Sections word = sections_of word
 
--- by the first word, where a number and sections stand behind it
-abbrev pub feeder_form_by : List ℕ → ℕ → ℕ → Option Form
-feeder_form_by word number sections =
-    if pointwise nat_eq word (codes "gen") then Some (Gen number sections)
-    else if pointwise nat_eq word (codes "bench") then Some (Bench number sections)
-    else None
+-- a form of values of these kinds
+abbrev pub Takes : List Kind → Type 0
+Takes [] = Form
+Takes (kind ∷ kinds) = Value kind → Takes kinds
 
-abbrev pub feeder_form : List ℕ → Option ℕ → Option ℕ → Option Form
-feeder_form word (Some number) (Some sections) = feeder_form_by word number sections
-feeder_form word number sections = None
+-- a form: its first word, the kinds of the words behind it, and what their values are as a form
+pub record Row : Type 0 where
+  pub word : List ℕ
+  pub kinds : List Kind
+  pub form : Takes kinds
+
+abbrev pub rows : List Row
+rows = record { word = codes "solve"; kinds = File ∷ []; form = Solve }
+    ∷ record { word = codes "cert"; kinds = File ∷ []; form = Cert }
+    ∷ record { word = codes "check"; kinds = File ∷ File ∷ []; form = Check }
+    ∷ record { word = codes "gen"; kinds = Number ∷ Sections ∷ []; form = Gen }
+    ∷ record { word = codes "bench"; kinds = Number ∷ Sections ∷ []; form = Bench }
+    ∷ record { word = codes "upgrade"; kinds = File ∷ []; form = Upgrade }
+    ∷ []
+
+-- a row's word and kinds
+abbrev pub line_of : Row → List ℕ × List Kind
+line_of row = (row.word, row.kinds)
+
+abbrev pub line_in : Bor (List ℕ) × Bor (List Kind) → List ℕ × List Kind
+line_in line = (line.0.now, line.1.now)
+
+-- the code's table is this one
+abbrev pub IsTable : List (Bor (List ℕ) × Bor (List Kind)) → Type 0
+IsTable table = map line_in table ≡ map line_of rows
+
+-- the form of words, one of each kind
+abbrev pub form_with : (kinds : List Kind) → Takes kinds → List (List ℕ) → Option Form
+form_with [] form [] = Some form
+form_with [] form (word ∷ words) = None
+form_with (kind ∷ kinds) form [] = None
+form_with (kind ∷ kinds) form (word ∷ words) =
+    option_and_then (λ value. form_with kinds (form value) words) (value_as kind word)
+
+-- the row of a first word
+abbrev pub row_of : List ℕ → Option Row
+row_of word = find (λ row. pointwise nat_eq row.word word) rows
 
 abbrev pub form_of : List (List ℕ) → Option Form
-form_of (word ∷ file ∷ []) = if names_file file then form_by word file else None
-form_of (word ∷ second ∷ third ∷ []) =
-    if pointwise nat_eq word (codes "check") then check_form second third
-    else feeder_form word (number_of second) (sections_of third)
-form_of words = None
+form_of [] = None
+form_of (word ∷ words) = option_and_then (λ row. form_with row.kinds row.form words) (row_of word)
 
 -- the form that words were found to be
 abbrev pub form_in : Words → Form
@@ -58,6 +92,7 @@ form_in (words.Cert file) = Cert file.now
 form_in (words.Check script name) = Check script.now name.now
 form_in (words.Gen number sections) = Gen number sections
 form_in (words.Bench number sections) = Bench number sections
+form_in (words.Upgrade name) = Upgrade name.now
 
 -- a feeder has a section
 abbrev pub has_sections : Words → Type 0

@@ -1,100 +1,94 @@
 // The words of a form taken apart by a command of `clap`.
-ghost use Rattle.std.specs.Prelude.{◌≡◌, ◌≤◌, IfOk, IfSome, false, map, option_and_then};
+ghost use Rattle.std.specs.Prelude.{◌≡◌, ◌∷◌, [], IfOk, IfSome, codes, false, fold, length, map, option_and_then};
 ghost use Rattle.std.specs.Option.{option_map};
 ghost use Rattle.clap.specs.declared.builder.command.Command.TheViews.{out-Command};
-ghost use Rattle.clap.specs.Words.{app_of, with_subcommand, first_of, found_of, rows_of, subcommand_rows_of};
-ghost use Rattle.fd_words.specs.Lines.{check_in, feeder_in, form_of_rows, line_app, lines_app};
-ghost use Rattle.fd_words.specs.Words.{form_in, has_sections};
+ghost use Rattle.clap.specs.Simple.{new_shape};
+ghost use Rattle.clap.specs.Words.{all_of, app_of, found_of, rows_of, subcommand_rows_of};
+ghost use Rattle.fd_words.specs.Lines.{form_of_rows, no_lines, with_line, words_rule};
+ghost use Rattle.fd_words.specs.Words.{form_in, form_of, has_sections};
 
 use crate::numbers::{number_of, sections_of};
+use crate::table::{Kind, Row};
+use crate::usage::file_of;
 use crate::words::Form;
-use clap::{Arg, ArgMatches, Command};
+use clap::{Arg, ArgAction, ArgMatches, Command};
 use std::alloc::{AllocError, Global};
 
-// The subcommand of this name, with a required positional for each of these ids.
-fn line<'a>(alloc: Global, name: &'a str, ids: &[&'a str]) -> Result<Command<'a>, AllocError>
-    ensures app { IfOk result (λ command. app_of command ≡ line_app name.now (map (λ id. id.now) ids.now)) }
+// The subcommand of a row: a positional with as many values as words stand behind the first.
+fn line<'a>(alloc: Global, word: &'a str, kinds: &[Kind]) -> Result<Command<'a>, AllocError>
+    ensures app { IfOk result (λ command. (app_of command).top
+        ≡ record (new_shape word.now) { rules = words_rule (length kinds.now) ∷ [] }) }
     ensures local { IfOk result (λ command. (out-Command command).has_globals ≡ false) }
 {
-    let mut command = Command::new(alloc, name);
-    for id in ids {
-        let positional = Arg::new(alloc, *id).required(true);
-        command = command.arg(positional)?;
+    let words = Arg::new(alloc, "words")
+        .required(true)
+        .action(ArgAction::Set)
+        .num_args(kinds.len());
+    Command::new(alloc, word).arg(words)
+}
+
+/// The command with a subcommand for each row.
+pub(crate) fn command<'a>(alloc: Global, rows: &[Row]) -> Result<Command<'a>, AllocError>
+    ensures { IfOk result (λ command. app_of command
+        ≡ fold (λ app row. with_line app row.0.now (length row.1.now)) no_lines rows.now) }
+{
+    let mut command = Command::new(alloc, "feeder")
+        .no_binary_name(true)
+        .disable_help_flag(true)
+        .disable_help_subcommand(true);
+    for row in rows {
+        let (word, kinds) = *row;
+        let line = line(alloc, word, kinds)?;
+        command = command.subcommand(line)?;
     }
     Ok(command)
 }
 
-// The command with this subcommand as its last.
-fn with_line<'a>(
-    alloc: Global,
-    command: Command<'a>,
-    name: &'a str,
-    ids: &[&'a str],
-) -> Result<Command<'a>, AllocError>
-    ensures { IfOk result (λ new. app_of new ≡
-        with_subcommand (app_of command.entry) (line_app name.now (map (λ id. id.now) ids.now)).top) }
+// The words of a line.
+#[tactic(auto, using(crate::proofs::Taken::words_by))]
+fn words_in<'m, 'a>(matches: &'m ArgMatches<'a>) -> Option<&'m [&'a str]>
+    ensures { option_map (λ words. map (λ word. word.now) words.now) result
+        ≡ all_of (codes "words") (rows_of (found_of matches.now)) }
 {
-    let subcommand = line(alloc, name, ids)?;
-    command.subcommand(subcommand)
+    matches.get_raw("words")
 }
 
-/// The command with a subcommand for each first word of a form.
-pub(crate) fn command<'a>(alloc: Global) -> Result<Command<'a>, AllocError>
-    ensures { IfOk result (λ command. app_of command ≡ lines_app) }
-{
-    let feeder = Command::new(alloc, "feeder").no_binary_name(true);
-    let solve = with_line(alloc, feeder, "solve", &["file"])?;
-    let cert = with_line(alloc, solve, "cert", &["file"])?;
-    let check = with_line(alloc, cert, "check", &["script", "certificate"])?;
-    let generate = with_line(alloc, check, "gen", &["number", "sections"])?;
-    with_line(alloc, generate, "bench", &["number", "sections"])
-}
-
-// The word of this id.
-#[tactic(auto, using(crate::proofs::Taken::word_by))]
-fn word_in<'a>(matches: &ArgMatches<'a>, id: &str) -> Option<&'a str>
-    ensures { option_map (λ s. s.now) result ≡ first_of id.now (rows_of (found_of matches.now)) }
-{
-    matches.get_str(id)
-}
-
-// The script and the certificate of a line.
-fn check_in<'a>(matches: &ArgMatches<'a>) -> Option<Form<'a>>
-    ensures form { option_map form_in result ≡ check_in (rows_of (found_of matches.now)) }
-    ensures some { IfSome result has_sections }
-{
-    let script = word_in(matches, "script")?;
-    let certificate = word_in(matches, "certificate")?;
-    Some(Form::Check(script, certificate))
-}
-
-// The number and the sections of a line.
-fn feeder_in(matches: &ArgMatches<'_>) -> Option<(u64, u32)>
-    ensures value { result ≡ feeder_in (rows_of (found_of matches.now)) }
-    ensures some { IfSome result (λ feeder. 1 ≤ feeder.1) }
-{
-    let number = number_of(word_in(matches, "number")?)?;
-    let sections = sections_of(word_in(matches, "sections")?)?;
-    Some((number, sections))
-}
-
-// The form of the line of this name.
-fn form_of_line<'a>(name: &str, matches: &ArgMatches<'a>) -> Option<Form<'a>>
-    ensures form { option_map form_in result ≡ form_of_rows name.now (rows_of (found_of matches.now)) }
+// The form of a first word and the words behind it.
+fn form_of_words<'a>(name: &str, words: &[&'a str]) -> Option<Form<'a>>
+    ensures form { option_map form_in result ≡ form_of (name.now ∷ map (λ word. word.now) words.now) }
     ensures some { IfSome result has_sections }
 {
     match name {
-        "solve" => Some(Form::Solve(word_in(matches, "file")?)),
-        "cert" => Some(Form::Cert(word_in(matches, "file")?)),
-        "check" => check_in(matches),
-        "gen" => {
-            let (number, sections) = feeder_in(matches)?;
-            Some(Form::Gen { number, sections })
-        }
-        "bench" => {
-            let (number, sections) = feeder_in(matches)?;
-            Some(Form::Bench { number, sections })
-        }
+        "solve" => match words {
+            [file] => Some(Form::Solve(file_of(file)?)),
+            _ => None,
+        },
+        "cert" => match words {
+            [file] => Some(Form::Cert(file_of(file)?)),
+            _ => None,
+        },
+        "check" => match words {
+            [script, certificate] => { Some(Form::Check(file_of(script)?, file_of(certificate)?)) }
+            _ => None,
+        },
+        "gen" => match words {
+            [number, sections] => Some(Form::Gen {
+                number: number_of(number)?,
+                sections: sections_of(sections)?,
+            }),
+            _ => None,
+        },
+        "bench" => match words {
+            [number, sections] => Some(Form::Bench {
+                number: number_of(number)?,
+                sections: sections_of(sections)?,
+            }),
+            _ => None,
+        },
+        "upgrade" => match words {
+            [certificate] => Some(Form::Upgrade(file_of(certificate)?)),
+            _ => None,
+        },
         _ => None,
     }
 }
@@ -106,5 +100,5 @@ pub(crate) fn form_of_matches<'a>(matches: &ArgMatches<'a>) -> Option<Form<'a>>
     ensures some { IfSome result has_sections }
 {
     let (name, matches) = matches.subcommand()?;
-    form_of_line(name, matches)
+    form_of_words(name, words_in(matches)?)
 }

@@ -8,7 +8,7 @@ const NUMBER_DIGITS: usize = 20;
 // The most digits of a number of sections.
 const SECTION_DIGITS: usize = 2;
 
-const MOST_SECTIONS: u64 = 39;
+const MOST_SECTIONS: u64 = 79;
 
 fn all_digits(word: &[u8]) -> bool
     ensures { result ≡ all_digits word.now }

@@ -1,8 +1,13 @@
 // Whether words are a form, by the table alone.
-ghost use Rattle.std.specs.Prelude.{◌≡◌, ◌∷◌, [], is_some, map, string_bytes};
-ghost use Rattle.fd_words.specs.Words.{form_of, names_file};
+ghost use Rattle.std.specs.Prelude.{◌≡◌, ◌∷◌, ◌==◌, ◌&&◌, find, is_some, length, map, nat_eq, string_bytes};
+ghost use Rattle.std.specs.Cmp.Lexicographic.{pointwise};
+ghost use Rattle.std.specs.List.{list_all, zip};
+ghost use Rattle.std.specs.Option.{option_map};
+ghost use Rattle.fd_words.specs.declared.table.Kind.TheVariants as Kind;
+ghost use Rattle.fd_words.specs.Words.{IsTable, form_of, names_file, value_as};
 
 use crate::numbers::{number_of, sections_of};
+use crate::table::{Kind, ROWS, Row};
 
 fn names_file(word: &str) -> bool
     ensures { result ≡ names_file word.now }
@@ -13,23 +18,51 @@ fn names_file(word: &str) -> bool
     }
 }
 
-// Whether a word and a file are a form.
-fn is_form_of_two(first: &str, file: &str) -> bool
-    ensures { result ≡ is_some (form_of (first.now ∷ file.now ∷ [])) }
+// Whether a word is of a kind.
+fn is_word(kind: Kind, word: &str) -> bool
+    ensures { result ≡ is_some (value_as kind word.now) }
 {
-    names_file(file) && (first == "solve" || first == "cert")
+    match kind {
+        Kind::File => file_of(word).is_some(),
+        Kind::Number => number_of(word).is_some(),
+        Kind::Sections => sections_of(word).is_some(),
+    }
 }
 
-// Whether a word with two words behind it is a form.
-fn is_form_of_three(first: &str, second: &str, third: &str) -> bool
-    ensures { result ≡ is_some (form_of (first.now ∷ second.now ∷ third.now ∷ [])) }
+// Whether there is a word of each kind.
+fn are_words(kinds: &[Kind], words: &[String]) -> bool
+    ensures { result ≡ (length kinds.now == length words.now
+        && list_all (λ pair. is_some (value_as pair.0 (string_bytes pair.1))) (zip kinds.now words.now)) }
 {
-    if first == "check" {
-        names_file(second) && names_file(third)
-    } else {
-        (first == "gen" || first == "bench")
-            && number_of(second).is_some()
-            && sections_of(third).is_some()
+    kinds.len() == words.len()
+        && kinds
+            .iter()
+            .zip(words)
+            .all(|(kind, word)| is_word(*kind, word.as_str()))
+}
+
+// The first row of this word.
+fn row_of<'a>(rows: &'a [Row], word: &str) -> Option<&'a Row>
+    ensures { option_map (λ row. row.now) result ≡ find (λ row. pointwise nat_eq row.0.now word.now) rows.now }
+{
+    rows.iter().find(|row| row.0 == word)
+}
+
+/// The file that a word names.
+pub(crate) fn file_of<'a>(word: &'a str) -> Option<&'a str>
+    ensures { option_map (λ file. file.now) result ≡ value_as Kind.File word.now }
+{
+    if names_file(word) { Some(word) } else { None }
+}
+
+// Whether a first word and those behind it are a form.
+fn is_form_by(table: &[Row], first: &str, others: &[String]) -> bool
+    requires { IsTable table.now }
+    ensures { result ≡ is_some (form_of (first.now ∷ map string_bytes others.now)) }
+{
+    match row_of(table, first) {
+        Some(row) => are_words(row.1, others),
+        None => false,
     }
 }
 
@@ -38,10 +71,7 @@ pub(crate) fn is_form(words: &[String]) -> bool
     ensures { result ≡ is_some (form_of (map string_bytes words.now)) }
 {
     match words {
-        [first, file] => is_form_of_two(first.as_str(), file.as_str()),
-        [first, second, third] => {
-            is_form_of_three(first.as_str(), second.as_str(), third.as_str())
-        }
-        _ => false,
+        [] => false,
+        [first, others @ ..] => is_form_by(&ROWS, first.as_str(), others),
     }
 }

@@ -4,6 +4,7 @@ ghost use Rattle.std.specs.Option.{option_map};
 ghost use Rattle.fd_words.specs.Words.{form_in, form_of, has_sections};
 
 use crate::lines::{command, form_of_matches};
+use crate::table::ROWS;
 use crate::usage::is_form;
 use clap::error::ErrorKind;
 use std::alloc::{AllocError, Global};
@@ -17,6 +18,8 @@ pub enum Form<'a> {
     /// The script of a feeder of so many sections from a number.
     Gen { number: u64, sections: u32 },
     Bench { number: u64, sections: u32 },
+    /// A certificate of either version, to be written in the second.
+    Upgrade(&'a str),
 }
 
 // The form that the command makes of words that are one.
@@ -25,7 +28,7 @@ fn taken_apart<'a>(alloc: Global, words: &'a [String]) -> Result<Option<Form<'a>
     ensures form { IfOk result (λ form. option_map form_in form ≡ form_of (map string_bytes words.now)) }
     ensures some { IfOk result (λ form. IfSome form has_sections) }
 {
-    match command(alloc)?.try_get_matches_from(words) {
+    match command(alloc, &ROWS)?.try_get_matches_from(words) {
         Ok(matches) => Ok(form_of_matches(&matches)),
         Err(error) => match error.kind() {
             ErrorKind::OutOfMemory => Err(AllocError),
