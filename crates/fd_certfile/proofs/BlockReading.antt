@@ -6,7 +6,7 @@ use Rattle.std.proofs.lemmas.List.{length-append}
 use Rattle.std.proofs.lemmas.List.Splits.{length-slice_split}
 use Rattle.std.proofs.lemmas.List.Sums.{count_by-le-length}
 use Rattle.fd_certfile.specs.Lines.{Line, header, solution, state, row, act, end, other, is_feed, rest_of, lines_in, lines_of}
-use Rattle.fd_certfile.specs.Blocks.{Version, Whole, Part, Act, Block, count_of, part_line, numbered_lines, part_at, row_at, ◌>>=◌, is_place, or_refused, numbered_at, acts_at, block_at}
+use Rattle.fd_certfile.specs.Blocks.{Version, Part, Act, Block, count_of, part_line, numbered_lines, part_at, row_at, ◌>>=◌, is_place, or_refused, numbered_at, acts_at, block_at}
 use Rattle.fd_certfile.proofs.Blocks.{Anything, bind_ok, numbered_found, part_found, length-numbered}
 use Rattle.fd_certfile.proofs.Refused.{no_solution}
 use Rattle.fd_certfile.specs.declared.fault.Stop.{Stop}
@@ -152,15 +152,15 @@ numbered_left {X} read (suc n) i (l ∷ lines) xs rest e =
     let long : length b.0.1 ≡ length rest = ap (λ (p : List X × List Line). length p.1) same in
     omega (arith, numbered_left read n (suc i) lines b.0.0 b.0.1 b.1, long)
 
-module _ (due : ℕ) (x : Ahead) (lines : List Line) where
+module _ (v : Version) (due : ℕ) (x : Ahead) (lines : List Line) where
   pub ahead_is : (parts : List Part) (mid : List Line) (rows : List (List ℤ))
       → numbered_at part_at (count_of x.head.size) 0 lines ≡ Ok (parts, mid)
-      → numbered_at (row_at Whole (count_of x.head.size)) (count_of x.head.size) 0 mid ≡ Ok (rows, lines_of x.acts.now)
+      → numbered_at (row_at v (count_of x.head.size)) (count_of x.head.size) 0 mid ≡ Ok (rows, lines_of x.acts.now)
       → (acts_at (lines_of x.acts.now)).1 ≡ lines_of x.rest.now
       → map part x.parts.items ≡ kept (is_place due x.head.size) parts
       → x.cells.items ≡ kept (is_place due x.head.size) (cells_of rows)
       → x.lines ≡ 1 + (count_of x.head.size + (count_of x.head.size + length (acts_at (lines_of x.acts.now)).0))
-      → IsAhead due (solution x.head.number x.head.hour x.head.round x.head.size ∷ lines) x
+      → IsAhead v due (solution x.head.number x.head.hour x.head.round x.head.size ∷ lines) x
   ahead_is parts mid rows p r a ps cs n = record {
     block = record {
       number = x.head.number;
@@ -171,7 +171,7 @@ module _ (due : ℕ) (x : Ahead) (lines : List Line) where
       inverse = rows;
       acts = (acts_at (lines_of x.acts.now)).0;
     };
-    same = all_read Whole x.head.number x.head.hour x.head.round x.head.size lines parts mid p rows
+    same = all_read v x.head.number x.head.hour x.head.round x.head.size lines parts mid p rows
         (lines_of x.acts.now) r (acts_at (lines_of x.acts.now)).0 (lines_of x.rest.now)
         (ap (λ (ls : List Line). ((acts_at (lines_of x.acts.now)).0, ls)) a);
     number = refl;
@@ -185,6 +185,6 @@ module _ (due : ℕ) (x : Ahead) (lines : List Line) where
       arith,
       n,
       numbered_long part_at (count_of x.head.size) 0 lines parts mid p,
-      numbered_long (row_at Whole (count_of x.head.size)) (count_of x.head.size) 0 mid rows (lines_of x.acts.now) r,
+      numbered_long (row_at v (count_of x.head.size)) (count_of x.head.size) 0 mid rows (lines_of x.acts.now) r,
     );
   }

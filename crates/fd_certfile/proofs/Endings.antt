@@ -1,8 +1,7 @@
 -- How a certificate begins and ends.
-use Rattle.std.proofs.Common.{◌≡◌, ℕ, ◌+◌, ◌<◌, Bool, true, false, List, [], ◌∷◌, length, Some, None, Result, Ok, Err, refl, ap, sym, subst, ◌∙◌, arith}
-use Rattle.std.specs.Prelude.{if◌then◌else◌}
+use Rattle.std.proofs.Common.{◌≡◌, ℕ, ◌+◌, ◌<◌, true, false, List, [], ◌∷◌, length, Some, None, Result, Ok, Err, refl, ap, sym, subst, ◌∙◌, arith}
 use Rattle.fd_certfile.specs.Lines.{Line, header, solution, state, row, act, end, other, rest_of, lines_of}
-use Rattle.fd_certfile.specs.Blocks.{Whole}
+use Rattle.fd_certfile.specs.Blocks.{Version}
 use Rattle.fd_certfile.specs.Certificates.{version_in, behind_first}
 use Rattle.fd_certfile.specs.Reader.{GivenBlock, IsOpened, ReaderView, finished, is_end, is_solution, starts_with_end}
 use Rattle.fd_certfile.specs.declared.fault.CertFileFault.{CertFileFault}
@@ -25,25 +24,22 @@ first_alone other rest = refl
 opens : Result ReaderView CertFileFault → List Line → Type 0
 opens answer lines = IsOpened answer (version_in lines) (behind_first lines)
 
-pub opened_some : (lines : List Line) (line : Line) (rest : List Line) (given : List GivenBlock) (b : Bool)
-    → lines ≡ line ∷ rest → (if b then Some Whole else None) ≡ version_in (line ∷ []) → b ≡ true → given ≡ []
-    → IsOpened (Ok (record { version = Whole; lines = rest; line = 2; number = 1; hour = 0; round = 0; given = given })) (version_in lines) (behind_first lines)
+pub opened_some : (lines : List Line) (line : Line) (rest : List Line) (given : List GivenBlock) (v : Version)
+    → lines ≡ line ∷ rest → Some v ≡ version_in (line ∷ []) → given ≡ []
+    → IsOpened (Ok (record { version = v; lines = rest; line = 2; number = 1; hour = 0; round = 0; given = given })) (version_in lines) (behind_first lines)
 unfolding opens
-opened_some lines line rest given b e f t g =
-    let answer : Result ReaderView CertFileFault = Ok (record { version = Whole; lines = rest; line = 2; number = 1; hour = 0; round = 0; given = given }) in
-    let named : Some Whole ≡ version_in (line ∷ rest) = ap (λ (c : Bool). if c then Some Whole else None) (sym t) ∙ f
-    ∙ sym (first_alone line rest) in
+opened_some lines line rest given v e f g =
+    let answer : Result ReaderView CertFileFault = Ok (record { version = v; lines = rest; line = 2; number = 1; hour = 0; round = 0; given = given }) in
+    let named : Some v ≡ version_in (line ∷ rest) = f ∙ sym (first_alone line rest) in
     subst (opens answer) (sym e) (subst (λ o. IsOpened answer o rest) named (ap (λ (gs : List GivenBlock).
-    record { version = Whole; lines = rest; line = 2; number = 1; hour = 0; round = 0; given = gs }) g))
+    record { version = v; lines = rest; line = 2; number = 1; hour = 0; round = 0; given = gs }) g))
 
-pub opened_none : (lines : List Line) (line : Line) (rest : List Line) (b : Bool) → lines ≡ line ∷ rest
-    → (if b then Some Whole else None) ≡ version_in (line ∷ []) → b ≡ false
+pub opened_none : (lines : List Line) (line : Line) (rest : List Line) → lines ≡ line ∷ rest → None ≡ version_in (line ∷ [])
     → IsOpened (Err (fault.Refused 1 Grammar)) (version_in lines) (behind_first lines)
 unfolding opens
-opened_none lines line rest b e f t =
+opened_none lines line rest e f =
     let answer : Result ReaderView CertFileFault = Err (fault.Refused 1 Grammar) in
-    let named : None ≡ version_in (line ∷ rest) = ap (λ (c : Bool). if c then Some Whole else None) (sym t) ∙ f
-    ∙ sym (first_alone line rest) in
+    let named : None ≡ version_in (line ∷ rest) = f ∙ sym (first_alone line rest) in
     subst (opens answer) (sym e) (subst (λ o. IsOpened answer o rest) named (refl, refl))
 
 pub opened_rest : (lines : List Line) (bytes : List ℕ) → lines ≡ rest_of bytes

@@ -12,7 +12,7 @@ use Rattle.fd_certfile.specs.Views.{or_other}
 use Rattle.fd_certfile.specs.Texts.{field_text, fields_text}
 use Rattle.fd_certfile.specs.Cuts.{Lacks, first_number, one_of}
 
-fields_append : (xs ys : List ℤ) → fields_text (xs ++ ys) ≡ fields_text xs ++ fields_text ys
+pub fields_append : (xs ys : List ℤ) → fields_text (xs ++ ys) ≡ fields_text xs ++ fields_text ys
 fields_append [] ys = refl
 fields_append (x ∷ xs) ys = ap (λ (t : List ℕ). field_text x ++ t) (fields_append xs ys)
     ∙ sym (append_assoc (field_text x) (fields_text xs) (fields_text ys))

@@ -9,7 +9,7 @@ use Rattle.fd_exact.specs.States.{cell, entry, part}
 use Rattle.fd_exact.specs.Tables.{length-table, row-table}
 use Rattle.fd_mat.specs.Rows.{square}
 use Rattle.fd_certfile.specs.Ahead.{IsAhead}
-use Rattle.fd_certfile.specs.Blocks.{Whole, Act, Block, Spells, block_at, block_lines, count_of, is_place}
+use Rattle.fd_certfile.specs.Blocks.{Version, Act, Block, Spells, block_at, block_lines, count_of, is_place}
 use Rattle.fd_certfile.specs.Certificates.{lines_count}
 use Rattle.fd_certfile.specs.Lines.{Line, lines_of}
 use Rattle.fd_certfile.specs.Reader.{GivenBlock, HasAhead, IsAheadOf, ReaderView, behind, by_head, next_of, starts_with_end, unless_other}
@@ -57,22 +57,22 @@ square-cells n rows e w =
 
 -- ---- what stands next
 
-module _ (r : ReaderView) (n : ℕ) (v : r.version ≡ Whole) where
+module _ (r : ReaderView) (n : ℕ) where
   next_by : (b : Bool) (read : Result (Block × List Line) (List Line)) → starts_with_end r.lines ≡ b
-      → block_at Whole r.lines ≡ read → next_of r n ≡ by_head r n b read
+      → block_at r.version r.lines ≡ read → next_of r n ≡ by_head r n b read
   unfolding next_of
   next_by b read e f = ap (λ c. by_head r n c (block_at r.version r.lines)) e
-      ∙ ap (λ w. by_head r n b (block_at w r.lines)) v ∙ ap (by_head r n b) f
+      ∙ ap (by_head r n b) f
 
   pub next_ended : true ≡ starts_with_end r.lines → next_of r n ≡ Err (r.line, Count)
-  next_ended e = next_by true (block_at Whole r.lines) (sym e) refl
+  next_ended e = next_by true (block_at r.version r.lines) (sym e) refl
 
-  pub next_refused : (k : ℕ) → false ≡ starts_with_end r.lines → RefusedBehind k r.lines (block_at Whole r.lines)
+  pub next_refused : (k : ℕ) → false ≡ starts_with_end r.lines → RefusedBehind k r.lines (block_at r.version r.lines)
       → next_of r n ≡ Err (r.line + k, Grammar)
   next_refused k e f = next_by false (Err f.rest) (sym e) f.refused
       ∙ ap (λ m. Err (r.line + m, Grammar)) (omega (arith, f.count))
 
-  module _ (x : Ahead) (e : false ≡ starts_with_end r.lines) (a : IsAhead n r.lines x) where
+  module _ (x : Ahead) (e : false ≡ starts_with_end r.lines) (a : IsAhead r.version n r.lines x) where
     headed : Bool
     headed = is_place r.number x.head.number && (is_place r.hour x.head.hour && (is_place r.round x.head.round && is_place n x.head.size))
 
@@ -112,8 +112,8 @@ module _ (r : ReaderView) (n : ℕ) (v : r.version ≡ Whole) where
 -- ---- what was read ahead
 
 module _ (r : ReaderView) (n : ℕ) (x : Ahead) (h : HasAhead r n x) where
-  spelled : Spells Whole r.lines h.block (lines_of x.rest.now)
-  spelled = block_found Whole r.lines h.block (lines_of x.rest.now) h.same
+  spelled : Spells r.version r.lines h.block (lines_of x.rest.now)
+  spelled = block_found r.version r.lines h.block (lines_of x.rest.now) h.same
 
   counted : count_of h.block.size ≡ n
   counted = ap count_of h.size
@@ -134,9 +134,9 @@ module _ (r : ReaderView) (n : ℕ) (acts : List Act) (rest : List Line) (count 
   pub passed_lines : length r.lines ≡ count + length rest
   passed_lines = omega (
     arith,
-    ap length (block_found Whole r.lines h.block rest h.same).lines_are,
-    length-append (block_lines Whole h.block) rest,
-    length-block Whole h.block,
+    ap length (block_found r.version r.lines h.block rest h.same).lines_are,
+    length-append (block_lines r.version h.block) rest,
+    length-block r.version h.block,
     h.count_is,
   )
 
@@ -151,15 +151,15 @@ module _ (r : ReaderView) (n : ℕ) (acts : List Act) (rest : List Line) (count 
       ap (λ (p : Block × ReaderView). p.1) pair
 
 -- the reader behind a block, by its fields
-pub after_is : (lines : List Line) (line number hour round : ℕ) (given : List GivenBlock) (b : Block) (rest : List Line)
+pub after_is : (v : Version) (lines : List Line) (line number hour round : ℕ) (given : List GivenBlock) (b : Block) (rest : List Line)
     (n next : ℕ) (now : List GivenBlock) (acts : List Act)
     → b.size ≡ pos n → next ≡ line + lines_count b → acts ≡ b.acts
     → now ≡ given ++ record { acts = acts; rule_line = line + 1 + 2 * n } ∷ []
-    → behind (record { version = Whole; lines = lines; line = line; number = number; hour = hour; round = round; given = given }) b rest
-    ≡ record { version = Whole; lines = rest; line = next; number = number; hour = hour; round = round + 1; given = now }
-after_is lines line number hour round given b rest n next now acts s l a g =
+    → behind (record { version = v; lines = lines; line = line; number = number; hour = hour; round = round; given = given }) b rest
+    ≡ record { version = v; lines = rest; line = next; number = number; hour = hour; round = round + 1; given = now }
+after_is v lines line number hour round given b rest n next now acts s l a g =
     let made : ℕ → List GivenBlock → ReaderView = λ k gs. record
-    { version = Whole; lines = rest; line = k; number = number; hour = hour; round = round + 1; given = gs } in
+    { version = v; lines = rest; line = k; number = number; hour = hour; round = round + 1; given = gs } in
     ap (λ (k : ℕ). made (line + lines_count b) (given ++ record { acts = b.acts; rule_line = line + 1 + 2 * k } ∷ [])) (ap count_of s)
     ∙ ap (λ (ys : List Act). made (line + lines_count b) (given ++ record { acts = ys; rule_line = line + 1 + 2 * n } ∷ [])) (sym a)
     ∙ ap (made (line + lines_count b)) (sym g)

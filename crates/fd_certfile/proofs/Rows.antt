@@ -93,7 +93,7 @@ here_found n j p e fields entries here h rest_found =
           )
     ]
 
-entries_found : (n j : ℕ) (fields entries : List ℤ) → entries_at n j fields ≡ Some entries
+pub entries_found : (n j : ℕ) (fields entries : List ℤ) → entries_at n j fields ≡ Some entries
     → (length entries ≡ n) × (fields ≡ pairs_from j entries)
 entries_found zero j [] entries e = let nil : [] ≡ entries = cc in subst (λ (r : List ℤ). (length r ≡ 0) × ([] ≡ pairs_from j r)) nil (refl, refl)
 entries_found zero j (p ∷ fields) entries e = absurd cc

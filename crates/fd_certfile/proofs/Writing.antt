@@ -1,7 +1,7 @@
 -- The lines of a round are those of its block, and its block can be written.
 use Rattle.std.proofs.Common.{◌≡◌, ℕ, zero, suc, ◌+◌, ◌<◌, ◌≤◌, ◌^◌, ℤ, pos, negsuc, nat_abs, List, [], ◌∷◌, ◌++◌, length, get_or, drop, take, All, inl, inr, refl, ap, sym, subst, ◌∙◌, arith}
 use Rattle.std.specs.Prelude.{map}
-use Rattle.std.specs.List.{AllByRecursion, concat, range_with_len}
+use Rattle.std.specs.List.{AllByRecursion, range_with_len}
 use Rattle.std.proofs.lemmas.List.{append_assoc, drop_more, get_or_default, get_or-take, length-take, map-append, map_push}
 use Rattle.std.proofs.lemmas.Bool.{cases_eq}
 use Rattle.std.proofs.lemmas.List.Elements.{recursion_from_All}
@@ -15,8 +15,8 @@ use Rattle.fd_cert.specs.Claims.{claim_in}
 use Rattle.fd_settle.specs.declared.round.Act.{Act as Made}
 use Rattle.fd_settle.specs.declared.round.Round.{Round}
 use Rattle.fd_certfile.specs.Numbers.{IsNumber}
-use Rattle.fd_certfile.specs.Lines.{Line, bytes_of, line_bytes, solution}
-use Rattle.fd_certfile.specs.Blocks.{Whole, Part, Block, part_line, row_line, act_line, numbered_lines, block_lines, IsSized, IsWritable}
+use Rattle.fd_certfile.specs.Lines.{Line, line_bytes, solution}
+use Rattle.fd_certfile.specs.Blocks.{Sparse, Part, Block, part_line, row_line, act_line, numbered_lines, block_lines, IsSized, IsWritable}
 use Rattle.fd_certfile.specs.Rounds.{AreNumbers, IsRoundOf, act_of, block_of, part_in}
 
 -- ---- lines
@@ -36,10 +36,10 @@ numbered_list line f n = ap (map line_bytes) (numbered_range line f 0 n)
     ∙ map-map line_bytes (λ i. line i (f i)) (range_with_len 0 n)
 
 pub numbered_rows : (rows : List (List ℤ))
-    → map line_bytes (numbered_lines (row_line Whole) 0 rows) ≡ list_of (length rows) (λ i. line_bytes (row_line Whole i (row_of rows i)))
+    → map line_bytes (numbered_lines (row_line Sparse) 0 rows) ≡ list_of (length rows) (λ i. line_bytes (row_line Sparse i (row_of rows i)))
 numbered_rows rows =
-    ap (λ (rs : List (List ℤ)). map line_bytes (numbered_lines (row_line Whole) 0 rs)) (list_of-ext rows (length rows) (row_of rows) [] refl (λ i h. refl))
-    ∙ numbered_list (row_line Whole) (row_of rows) (length rows)
+    ap (λ (rs : List (List ℤ)). map line_bytes (numbered_lines (row_line Sparse) 0 rs)) (list_of-ext rows (length rows) (row_of rows) [] refl (λ i h. refl))
+    ∙ numbered_list (row_line Sparse) (row_of rows) (length rows)
 
 module _ (size number hour round : ℕ) (made : Round) where
   block : Block
@@ -49,19 +49,19 @@ module _ (size number hour round : ℕ) (made : Round) where
       → first ≡ line_bytes (solution (pos number) (pos hour) (pos round) (pos size)) ∷ []
       → parts ≡ first ++ list_of size (λ i. line_bytes (part_line i (part_in (claim_in made.certified) i)))
       → length made.certified.inverse ≡ size
-      → rows ≡ parts ++ list_of (length made.certified.inverse) (λ i. line_bytes (row_line Whole i (row_of made.certified.inverse i)))
+      → rows ≡ parts ++ list_of (length made.certified.inverse) (λ i. line_bytes (row_line Sparse i (row_of made.certified.inverse i)))
       → acts ≡ rows ++ map line_bytes (map act_line (map act_of made.acts.items))
-      → acts ≡ map line_bytes (block_lines Whole (block_of size number hour round made))
+      → acts ≡ map line_bytes (block_lines Sparse (block_of size number hour round made))
   lines_together first parts rows acts f p l r a =
       let ps = numbered_lines part_line 0 (list_of size (part_in (claim_in made.certified))) in
-      let rs = numbered_lines (row_line Whole) 0 made.certified.inverse in
+      let rs = numbered_lines (row_line Sparse) 0 made.certified.inverse in
       let s = line_bytes (solution (pos number) (pos hour) (pos round) (pos size)) in
       let bs = map line_bytes (map act_line (map act_of made.acts.items)) in
       let p' : parts ≡ s ∷ map line_bytes ps = p
       ∙ ap (λ t. t ++ list_of size (λ i. line_bytes (part_line i (part_in (claim_in made.certified) i)))) f
       ∙ ap (λ t. s ∷ t) (sym (numbered_list part_line (part_in (claim_in made.certified)) size)) in
       let r' : rows ≡ (s ∷ map line_bytes ps) ++ map line_bytes rs = r
-      ∙ ap (λ t. t ++ list_of (length made.certified.inverse) (λ i. line_bytes (row_line Whole i (row_of made.certified.inverse i)))) p'
+      ∙ ap (λ t. t ++ list_of (length made.certified.inverse) (λ i. line_bytes (row_line Sparse i (row_of made.certified.inverse i)))) p'
       ∙ ap (λ t. (s ∷ map line_bytes ps) ++ t) (sym (numbered_rows made.certified.inverse)) in
       a ∙ ap (λ t. t ++ bs) r'
       ∙ append_assoc (s ∷ map line_bytes ps) (map line_bytes rs) bs
@@ -151,7 +151,3 @@ acts_pushed base now next acts i e b so_far p q l =
     ap (λ t. t ++ lines_left (drop (i + 1) acts)) p ∙ append_assoc now (b ∷ []) (lines_left (drop (i + 1) acts))
     ∙ ap (λ c. now ++ c ∷ lines_left (drop (i + 1) acts)) q
     ∙ sym (ap (λ ds. now ++ lines_left ds) (drop_more acts i e l)) ∙ so_far
-
-pub concat_lines : (lines : List Line) → concat (map line_bytes lines) ≡ bytes_of lines
-concat_lines [] = refl
-concat_lines (line ∷ lines) = ap (λ t. line_bytes line ++ t) (concat_lines lines)

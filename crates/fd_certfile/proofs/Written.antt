@@ -28,7 +28,7 @@ known_acts : (acts : List Act) → AllByRecursion IsKnown (map act_line acts)
 known_acts [] = tt
 known_acts (a ∷ acts) = (tt, known_acts acts)
 
-known_block : (v : Version) (b : Block) → AllByRecursion IsKnown (block_lines v b)
+pub known_block : (v : Version) (b : Block) → AllByRecursion IsKnown (block_lines v b)
 known_block v b = (
   tt,
   all_append IsKnown (numbered_lines part_line 0 b.parts) _ (known_numbered part_line (λ i p. tt) 0 b.parts)

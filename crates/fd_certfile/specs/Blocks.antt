@@ -3,13 +3,10 @@ use Rattle.std.specs.Prelude.{◌≡◌, ℕ, zero, suc, ℤ, pos, negsuc, ◌==
 use Rattle.std.specs.List.{enumerate_from, AllByRecursion}
 use Rattle.fd_certfile.specs.Numbers.{IsNumber}
 use Rattle.fd_certfile.specs.Lines.{Line, solution, state, row, act, bytes_of}
-
--- the versions differ in the form of an inverse's rows alone
-pub data Version : Type 0 where
-  -- each entry of a row
-  Whole : Version
-  -- the entries of a row that aren't 0, with their places
-  Sparse : Version
+-- the versions differ in the form of an inverse's rows alone: each entry of a row, or those that aren't 0 with their
+-- places
+pub use Rattle.fd_certfile.specs.declared.version.Version.{Version}
+pub use Rattle.fd_certfile.specs.declared.version.Version.TheVariants.{Whole, Sparse}
 
 -- what is claimed of an unknown and its row, in whole microvolts or microamperes
 pub record Part : Type 0 where

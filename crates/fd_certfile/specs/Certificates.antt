@@ -33,9 +33,9 @@ Reads v lines trails = (line : Line) × (more : List Line) × (lines ≡ end ∷
 Reads v lines (refuses count) = RefusedBehind v lines count
 Reads v lines (gives b certificate) = (rest : List Line) × (block_at v lines ≡ Ok (b, rest)) × Reads v rest certificate
 
--- the version of a number: the form of whole rows is the only one that a certificate may name
+-- the version of a number
 abbrev pub version_of : ℤ → Option Version
-version_of (pos n) = if n == 1 then Some Whole else None
+version_of (pos n) = if n == 1 then Some Whole else if n == 2 then Some Sparse else None
 version_of (negsuc n) = None
 
 abbrev pub version_number : Version → ℤ

@@ -2,7 +2,7 @@
 use Rattle.std.specs.Prelude.{◌≡◌, ℕ, pos, ◌+◌, ◌-◌, Bool, true, false, List, [], ◌∷◌, ◌++◌, length, map, get_or, Option, Some, None, Result, Ok, Err, ◌&&◌}
 use Rattle.fd_certfile.specs.Lines.{Line, lines_of}
 use Rattle.fd_certfile.specs.Lines as text
-use Rattle.fd_certfile.specs.Blocks.{Version, Whole, Act, Block, acts_at, block_at, is_place}
+use Rattle.fd_certfile.specs.Blocks.{Version, Act, Block, acts_at, block_at, is_place}
 use Rattle.fd_certfile.specs.Certificates.{lines_count}
 use Rattle.fd_certfile.specs.Readings.{cells_of}
 use Rattle.fd_certfile.specs.Rules.{behind_rows, is_numbered, line_at}
@@ -36,9 +36,9 @@ abbrev pub given_block : Given → GivenBlock
 given_block g = record { acts = (acts_at (lines_of g.acts.now)).0; rule_line = g.rule_line }
 
 -- the reader of these lines, with the blocks that were given
-abbrev pub viewed : List Line → ℕ → ℕ → ℕ → ℕ → List Given → ReaderView
-viewed lines line number hour round given = record {
-  version = Whole;
+abbrev pub viewed : Version → List Line → ℕ → ℕ → ℕ → ℕ → List Given → ReaderView
+viewed v lines line number hour round given = record {
+  version = v;
   lines = lines;
   line = line;
   number = number;
@@ -107,7 +107,7 @@ next_of r n = by_head r n (starts_with_end r.lines) (block_at r.version r.lines)
 pub record HasAhead (r : ReaderView) (n : ℕ) (x : Ahead) : Type 0 where
   pub block : Block
   pub next : next_of r n ≡ Ok (block, behind r block (lines_of x.rest.now))
-  pub same : block_at Whole r.lines ≡ Ok (block, lines_of x.rest.now)
+  pub same : block_at r.version r.lines ≡ Ok (block, lines_of x.rest.now)
   pub size : block.size ≡ pos n
   pub parts : map part x.parts.items ≡ block.parts
   pub cells : x.cells.items ≡ cells_of block.inverse
@@ -123,7 +123,7 @@ FindsAhead r n (Err fault.NoMemory) = Unit {0}
 pub record IsAheadOf (r : ReaderView) (n : ℕ) (acts : List Act) (rest : List Line) (count : ℕ) : Type 0 where
   pub block : Block
   pub next : next_of r n ≡ Ok (block, behind r block rest)
-  pub same : block_at Whole r.lines ≡ Ok (block, rest)
+  pub same : block_at r.version r.lines ≡ Ok (block, rest)
   pub size : block.size ≡ pos n
   pub acts_are : acts ≡ block.acts
   pub count_is : count ≡ lines_count block

@@ -1,8 +1,8 @@
 -- What a reader answers, and what the grammar says.
-use Rattle.std.specs.Prelude.{◌≡◌, ◌+◌, ◌-◌, ◌≤◌, ℕ, ℤ, Bool, true, false, Option, Some, None, List, [], ◌++◌, flat_map, length, Result, Ok, Err}
+use Rattle.std.specs.Prelude.{◌≡◌, ◌+◌, ◌-◌, ◌≤◌, ◌&&◌, ℕ, zero, suc, ℤ, pos, negsuc, nat_le, nat_lt, not, ◌<◌, Bool, true, false, Option, Some, None, List, [], ◌∷◌, ◌++◌, flat_map, length, Result, Ok, Err}
 use Rattle.fd_certfile.specs.Lines.{Line}
 use Rattle.fd_certfile.specs.Lines as text
-use Rattle.fd_certfile.specs.Blocks.{Act, ◌>>=◌, numbered_at, Whole, Part, part_at, row_at, row_of}
+use Rattle.fd_certfile.specs.Blocks.{Act, ◌>>=◌, numbered_at, Version, Part, part_at, row_at, row_of, is_zero, entries_at, with_count}
 use Rattle.fd_certfile.specs.declared.fault.Stop.{Stop}
 use Rattle.fd_certfile.specs.declared.fault.Stop.TheVariants as stop
 use Rattle.std.specs.Option.{option_and_then}
@@ -19,15 +19,43 @@ as_they_are xs = xs
 abbrev pub cells_of : List (List ℤ) → List ℤ
 cells_of rows = flat_map as_they_are rows
 
--- the row of these numbers, if they are numbers and so many
-abbrev pub row_in : ℕ → Option (List ℤ) → Option (List ℤ)
-row_in n numbers = option_and_then (row_of Whole n) numbers
+-- the row of these numbers in a version, if they are numbers, of so many entries
+abbrev pub row_in : Version → ℕ → Option (List ℤ) → Option (List ℤ)
+row_in v n numbers = option_and_then (row_of v n) numbers
+
+-- so many entries that are 0
+abbrev pub zeros : ℕ → List ℤ
+zeros zero = []
+zeros (suc n) = pos 0 ∷ zeros n
+
+-- the entries of a row of n that these pairs name, if they are so many pairs and no more
+abbrev pub entries_in : ℕ → ℤ → Option (List ℤ) → Option (List ℤ)
+entries_in n count numbers = option_and_then (λ pairs. option_and_then (with_count count) (entries_at n 0 pairs)) numbers
+
+-- a number of a place from one on and below another
+abbrev pub is_between : ℕ → ℕ → ℤ → Bool
+is_between from below (pos n) = nat_le from n && nat_lt n below
+is_between from below (negsuc n) = false
 
 -- the row that is read is added where it is kept, or no row is read
 pub record RowIs (keep : Bool) (old new : List ℤ) (read : Option (List ℤ)) : Type 0 where
   pub entries : List ℤ
   pub same : read ≡ Some entries
   pub added : new ≡ old ++ kept keep entries
+
+-- an entry of a row of n stands behind its place, which isn't before the next; it is added behind the zeros before it
+pub record IsPut (keep : Bool) (n next : ℕ) (place entry : ℤ) (behind : ℕ) (old new : List ℤ) : Type 0 where
+  pub at : ℕ
+  pub place_is : place ≡ pos at
+  pub from : next ≤ at
+  pub below : at < n
+  pub some : is_zero entry ≡ false
+  pub behind_is : behind ≡ at + 1
+  pub added : new ≡ old ++ kept keep (zeros (at - next) ++ entry ∷ [])
+
+-- the entry is 0, or its place is before the next or past a row of n
+abbrev pub IsUnput : ℕ → ℕ → ℤ → ℤ → Type 0
+IsUnput n next place entry = (not (is_zero entry) && is_between next n place) ≡ false
 
 abbrev pub PushesRow : Bool → List ℤ → List ℤ → Bool → Option (List ℤ) → Type 0
 PushesRow keep old new true read = RowIs keep old new read
@@ -54,8 +82,8 @@ behind_front front read = read >>= λ xs. Ok (front ++ xs.0, xs.1)
 abbrev pub parts_at : ℕ → List Line → Result (List Part × List Line) (List Line)
 parts_at n lines = numbered_at part_at n 0 lines
 
-abbrev pub rows_at : ℕ → List Line → Result (List (List ℤ) × List Line) (List Line)
-rows_at n lines = numbered_at (row_at Whole n) n 0 lines
+abbrev pub rows_at : Version → ℕ → List Line → Result (List (List ℤ) × List Line) (List Line)
+rows_at v n lines = numbered_at (row_at v n) n 0 lines
 
 -- what was read so far, and what the lines that are left give, is what all lines give
 pub record IsSoFar {X : Type 0} (read : ℕ → Line → Option X) (n : ℕ) (lines : List Line) (i : ℕ) (front : List X)

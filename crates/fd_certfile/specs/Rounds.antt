@@ -8,7 +8,7 @@ use Rattle.fd_cert.specs.Claims.{claim_in}
 use Rattle.fd_settle.specs.declared.round.Act.{Act as Made}
 use Rattle.fd_settle.specs.declared.round.Round.{Round}
 use Rattle.fd_certfile.specs.Numbers.{IsNumber}
-use Rattle.fd_certfile.specs.Blocks.{Act, Block, Part, Whole, IsBehindActs, block_at, block_lines, part_line, row_line}
+use Rattle.fd_certfile.specs.Blocks.{Act, Block, Part, Sparse, IsBehindActs, block_at, block_lines, part_line, row_line}
 use Rattle.fd_mat.specs.Rows.{row_of}
 use Rattle.fd_certfile.specs.Lines.{line_bytes, lines_of}
 
@@ -46,16 +46,16 @@ abbrev pub part_bytes : Claim → ℕ → List ℕ
 part_bytes m i = line_bytes (part_line i (part_in m i))
 
 abbrev pub row_bytes : List (List ℤ) → ℕ → List ℕ
-row_bytes rows i = line_bytes (row_line Whole i (row_of rows i))
+row_bytes rows i = line_bytes (row_line Sparse i (row_of rows i))
 
--- these pieces are the lines of a block, one each
+-- these pieces are the lines of a block in version 2, one each
 abbrev pub AreLinesOf : List (List ℕ) → Block → Type 0
-AreLinesOf pieces b = pieces ≡ map line_bytes (block_lines Whole b)
+AreLinesOf pieces b = pieces ≡ map line_bytes (block_lines Sparse b)
 
 -- they are read as exactly that block, whatever lines that are no acts follow
 abbrev pub AreReadAs : List (List ℕ) → Block → Type 0
 AreReadAs pieces b = (tail : List ℕ) → IsBehindActs (lines_of tail)
-    → block_at Whole (lines_of (concat pieces ++ tail)) ≡ Ok (b, lines_of tail)
+    → block_at Sparse (lines_of (concat pieces ++ tail)) ≡ Ok (b, lines_of tail)
 
 -- what is claimed in a network of this size, with numbers that are within those of a certificate
 pub record IsClaimOf (size : ℕ) (m : Claim) : Type 0 where

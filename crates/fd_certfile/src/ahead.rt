@@ -12,6 +12,7 @@ use crate::cut::cut;
 use crate::fault::Stop;
 use crate::line::{Line, read_line};
 use crate::row::is_place;
+use crate::version::Version;
 use std::alloc::Global;
 
 /// The numbers of a solution line.
@@ -70,8 +71,14 @@ fn head_of(line: &Line<'_>) -> Option<Head>
 }
 
 // What follows a solution line.
-fn body(alloc: Global, due: u32, head: Head, bytes: &[u8]) -> Result<Ahead<'_>, Stop>
-    ensures { GivesAhead due result (solution head.number head.hour head.round head.size ∷ lines_of bytes.now) }
+fn body(
+    alloc: Global,
+    version: Version,
+    due: u32,
+    head: Head,
+    bytes: &[u8],
+) -> Result<Ahead<'_>, Stop>
+    ensures { GivesAhead version due result (solution head.number head.hour head.round head.size ∷ lines_of bytes.now) }
 {
     // read for its length alone, which bounds the number of lines
     let _length = bytes.len();
@@ -81,7 +88,7 @@ fn body(alloc: Global, due: u32, head: Head, bytes: &[u8]) -> Result<Ahead<'_>, 
         Ok(read) => read,
         Err(stop) => return Err(moved(stop, 1)),
     };
-    let (cells, behind) = match rows(alloc, keep, count, rest) {
+    let (cells, behind) = match rows(alloc, keep, version, count, rest) {
         Ok(read) => read,
         Err(stop) => return Err(moved(stop, 1 + count)),
     };
@@ -96,13 +103,18 @@ fn body(alloc: Global, due: u32, head: Head, bytes: &[u8]) -> Result<Ahead<'_>, 
     })
 }
 
-/// The next block, whose numbers are kept where it has the size that is due; or why there is none.
-pub(crate) fn read_block(alloc: Global, due: u32, bytes: &[u8]) -> Result<Ahead<'_>, Stop>
-    ensures { GivesAhead due result (lines_of bytes.now) }
+/// The next block in a version, whose numbers are kept where it has the size that is due; or why there is none.
+pub(crate) fn read_block(
+    alloc: Global,
+    version: Version,
+    due: u32,
+    bytes: &[u8],
+) -> Result<Ahead<'_>, Stop>
+    ensures { GivesAhead version due result (lines_of bytes.now) }
 {
     match cut(bytes, b'\n') {
         Some((text, more)) => match head_of(&read_line(text)) {
-            Some(head) => body(alloc, due, head, more),
+            Some(head) => body(alloc, version, due, head, more),
             None => Err(Stop::Refused { behind: 0 }),
         },
         None => Err(Stop::Refused { behind: 0 }),

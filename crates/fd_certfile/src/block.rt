@@ -10,6 +10,7 @@ use crate::cut::cut;
 use crate::fault::Stop;
 use crate::line::{Line, read_line};
 use crate::row::{is_place, push_row};
+use crate::version::Version;
 use std::alloc::{AllocError, Global};
 
 /// What a certificate claims of an unknown and its row, in whole microvolts or microamperes.
@@ -96,22 +97,23 @@ fn room(alloc: Global, keep: bool, count: u128) -> Result<Vec<i128>, AllocError>
     }
 }
 
-/// The next so many rows of an inverse, of which the entries are kept one after another or none, and the bytes behind
+/// The next so many rows of an inverse in a version, of which the entries are kept one after another or none, and the bytes behind
 /// them.
 pub(crate) fn rows(
     alloc: Global,
     keep: bool,
+    version: Version,
     count: u128,
     bytes: &[u8],
 ) -> Result<(Vec<i128>, &[u8]), Stop>
-    ensures { Keeps cells_of keep (λ x. x.0.items) (λ x. lines_of x.1.now) result (lines_of bytes.now) (rows_at count (lines_of bytes.now)) }
+    ensures { Keeps cells_of keep (λ x. x.0.items) (λ x. lines_of x.1.now) result (lines_of bytes.now) (rows_at version count (lines_of bytes.now)) }
 {
     let mut cells = room(alloc, keep, count)?;
     let mut rest = bytes;
     for place in 0..count {
         match cut(rest, b'\n') {
             Some((text, more)) => {
-                if !push_row(&mut cells, keep, count, place, &read_line(text))? {
+                if !push_row(&mut cells, keep, version, count, place, &read_line(text))? {
                     return Err(Stop::Refused { behind: place });
                 }
                 rest = more;

@@ -16,6 +16,8 @@
 //! - `rule`: laws of the rules, and of what a certificate comes to
 //! - `texts`: the texts of lines
 //! - `write`: the lines of a round
+//! - `upgrades`: a certificate brought over to version 2
+//! - `version`: the versions
 //! - `number`: the number that a field spells
 //! - `cut`: bytes cut at one of them
 //! - `field`: the fields of a line
@@ -45,6 +47,8 @@ mod reader;
 mod row;
 mod rule;
 mod texts;
+mod upgrades;
+mod version;
 mod write;
 
 pub use block::Part;
@@ -57,4 +61,7 @@ pub use reader::{CertReader, Claimed};
 pub use rule::{
     answers_law, given_law, rule_cases, rule_law, solving_law, sound_law, verdict_cases,
 };
-pub use write::{end_record, header_record, write_block};
+pub use texts::{end_record, header_record};
+pub use upgrades::{upgrade, upgrade_law};
+pub use version::Version;
+pub use write::write_block;

@@ -1,13 +1,12 @@
 // A reader of a certificate, block by block.
-ghost use Rattle.std.specs.Prelude.{◌≡◌, ◌+◌, ◌<◌, ◌^◌, ◌&&◌, ◌∷◌, [], Some, None, if◌then◌else◌, length, map};
+ghost use Rattle.std.specs.Prelude.{◌≡◌, ◌+◌, ◌<◌, ◌^◌, ◌&&◌, ◌∷◌, [], length, map};
 ghost use Rattle.std.specs.Cmp.Lexicographic.{pointwise};
-ghost use Rattle.fd_certfile.specs.Blocks.{Whole, acts_at, is_place};
+ghost use Rattle.fd_certfile.specs.Blocks.{acts_at, is_place};
 ghost use Rattle.fd_certfile.specs.Certificates.{behind_first, version_in};
 ghost use Rattle.fd_certfile.specs.Lines.{lines_of};
 ghost use Rattle.fd_certfile.specs.Reader.{FindsAhead, GivesNext, IsAheadOf, IsFinished, IsOpened, Passes, finish_of, given_at, is_headed};
 ghost use Rattle.fd_certfile.specs.Rounds.{act_of};
 ghost use Rattle.fd_certfile.specs.Rules.{same_act};
-ghost use Rattle.fd_certfile.specs.Views.{view};
 
 use crate::ahead::{Ahead, Head, read_block};
 use crate::block::Part;
@@ -16,8 +15,9 @@ use crate::claimed_acts::acts_are;
 use crate::cut::cut;
 use crate::ending::{is_end, is_ended, is_solution};
 use crate::fault::{CertFileFault, Stop};
-use crate::line::{Line, read_line};
+use crate::line::read_line;
 use crate::row::is_place;
+use crate::version::{Version, version_named};
 use fd_cert::{Certified, Rule};
 use fd_equations::Network;
 use fd_inject::Limits;
@@ -41,11 +41,12 @@ struct Given<'a> {
     rule_line: u64,
 }
 
-/// Reads a certificate block by block. It holds the bytes by reference, and of a block that was given only where its
-/// acts stand. Contracts see the lines that are left, the number of the next one, the numbers of the block that is due,
+/// Reads a certificate of either version block by block. It holds the bytes by reference, and of a block that was given only where its
+/// acts stand. Contracts see the version, the lines that are left, the number of the next one, the numbers of the block that is due,
 /// and of each block that was given its acts and the line behind its inverse.
 #[derive(Debug, Drop)]
 pub struct CertReader<'a> {
+    version: Version,
     rest: &'a [u8],
     line: u64,
     number: u32,
@@ -56,24 +57,14 @@ pub struct CertReader<'a> {
 
 impl<'a> Model for CertReader<'a> {
     ghost use Rattle.std.specs.Prelude.{◌+◌, ◌^◌, ◌≤◌, length, map};
-    ghost use Rattle.fd_certfile.specs.Blocks.{Whole};
     ghost use Rattle.fd_certfile.specs.Lines.{lines_of};
     ghost use Rattle.fd_certfile.specs.Reader.{ReaderView, viewed};
 
     ghost Value = { ReaderView };
 
-    ghost view = { λ r. viewed (lines_of r.rest.now) r.line r.number r.hour r.round r.given.items };
+    ghost view = { λ r. viewed r.version (lines_of r.rest.now) r.line r.number r.hour r.round r.given.items };
 
     ghost invariant = { λ r. (r.line + length (lines_of r.rest.now) ≤ 2 ^ 63 + 1) × (r.round ≤ r.line) };
-}
-
-fn names_version(line: &Line<'_>) -> bool
-    ensures { (if result then Some Whole else None) ≡ version_in (view line.now ∷ []) }
-{
-    match line {
-        Line::Header(number) => *number == 1,
-        _ => false,
-    }
 }
 
 impl<'a> CertReader<'a> {
@@ -88,21 +79,21 @@ impl<'a> CertReader<'a> {
         let _length = bytes.len();
         match cut(bytes, b'\n') {
             Some((text, rest)) => {
-                if names_version(&read_line(text)) {
-                    Ok(CertReader {
-                        rest,
-                        line: 2,
-                        number: 1,
-                        hour: 0,
-                        round: 0,
-                        given: Vec::new(alloc),
-                    })
-                } else {
-                    Err(CertFileFault::Refused {
+                let Some(version) = version_named(&read_line(text)) else {
+                    return Err(CertFileFault::Refused {
                         line: 1,
                         rule: Rule::Grammar,
-                    })
-                }
+                    });
+                };
+                Ok(CertReader {
+                    version,
+                    rest,
+                    line: 2,
+                    number: 1,
+                    hour: 0,
+                    round: 0,
+                    given: Vec::new(alloc),
+                })
             }
             None => Err(CertFileFault::Refused {
                 line: 1,
@@ -142,7 +133,7 @@ impl<'a> CertReader<'a> {
                 rule: Rule::Count,
             });
         }
-        match read_block(alloc, size, self.rest) {
+        match read_block(alloc, self.version, size, self.rest) {
             Ok(ahead) => {
                 if self.is_due(size, &ahead.head) {
                     return Ok(ahead);

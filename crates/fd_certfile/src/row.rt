@@ -1,14 +1,15 @@
 // Rows of an inverse, read into the cells of a matrix.
-ghost use Rattle.std.specs.Prelude.{◌≡◌, ◌++◌, ◌∷◌, [], IfOk, OnOk};
+ghost use Rattle.std.specs.Prelude.{◌≡◌, ◌≤◌, ◌+◌, ◌-◌, ◌<◌, ◌++◌, ◌∷◌, [], ℤ, List, None, Some, pos, length, true, false, IfOk, OnOk, IfSome, IfNone};
 ghost use Rattle.std.specs.Option.{option_map};
-ghost use Rattle.fd_certfile.specs.Blocks.{Whole, is_place, row_at};
+ghost use Rattle.fd_certfile.specs.Blocks.{Whole, Sparse, is_place, is_zero, row_at};
 ghost use Rattle.fd_certfile.specs.Cuts.{texts_of};
 ghost use Rattle.fd_certfile.specs.Numbers.{numbers_of};
-ghost use Rattle.fd_certfile.specs.Readings.{PushesRow, kept, row_in};
+ghost use Rattle.fd_certfile.specs.Readings.{IsPut, IsUnput, PushesRow, entries_in, is_between, kept, row_in, zeros};
 ghost use Rattle.fd_certfile.specs.Views.{view};
 
 use crate::field::{Fields, first};
 use crate::line::Line;
+use crate::version::Version;
 use std::alloc::AllocError;
 
 /// Whether a number is that of this place.
@@ -18,12 +19,39 @@ pub(crate) fn is_place(place: u128, number: i128) -> bool
     number >= 0 && number as u128 == place
 }
 
+// Whether a number is that of a place from one on and below another.
+fn is_between(from: u128, below: u128, number: i128) -> bool
+    ensures { result ≡ is_between from below number }
+{
+    number >= 0 && number as u128 >= from && (number as u128) < below
+}
+
 // Adds a number where numbers are kept.
 fn push_kept(cells: &mut Vec<i128>, keep: bool, number: i128) -> Result<(), AllocError>
     ensures { OnOk result (cells.new.items ≡ cells.old.items ++ kept keep (number ∷ [])) }
 {
     if keep {
         cells.push(number)?;
+    }
+    Ok(())
+}
+
+// Adds so many zeros.
+fn push_zeros(cells: &mut Vec<i128>, count: u128) -> Result<(), AllocError>
+    ensures { OnOk result (cells.new.items ≡ cells.old.items ++ zeros count) }
+{
+    for _zero in 0..count {
+        cells.push(0)?;
+    }
+    Ok(())
+}
+
+// Adds so many zeros where numbers are kept.
+fn push_gap(cells: &mut Vec<i128>, keep: bool, count: u128) -> Result<(), AllocError>
+    ensures { OnOk result (cells.new.items ≡ cells.old.items ++ kept keep (zeros count)) }
+{
+    if keep {
+        push_zeros(cells, count)?;
     }
     Ok(())
 }
@@ -37,7 +65,7 @@ fn push_entries(
 ) -> Result<bool, AllocError>
     ensures { IfOk result (λ ok.
         PushesRow keep cells.old.items cells.new.items ok
-        (row_in count (numbers_of (texts_of (option_map (λ t. t.now) fields.entry))))) }
+        (row_in Whole count (numbers_of (texts_of (option_map (λ t. t.now) fields.entry))))) }
 {
     let mut rest = fields;
     for _place in 0..count {
@@ -55,15 +83,131 @@ fn push_entries(
     }
 }
 
-/// Adds the entries of the row at this place, where they are kept, and answers whether the line is such a row.
+// The numbers of the first two fields, and the other fields.
+fn pair(fields: Fields<'_>) -> Option<(i128, i128, Fields<'_>)>
+    ensures some { IfSome result (λ p. numbers_of (texts_of (option_map (λ t. t.now) fields.entry))
+        ≡ option_map (λ zs. p.0 ∷ p.1 ∷ zs) (numbers_of (texts_of (option_map (λ t. t.now) p.2)))) }
+    ensures none { IfNone result ((zs : List ℤ) → numbers_of (texts_of (option_map (λ t. t.now) fields.entry)) ≡ Some zs → length zs < 2) }
+{
+    match first(fields) {
+        Some((place, more)) => match first(more) {
+            Some((entry, rest)) => Some((place, entry, rest)),
+            None => None,
+        },
+        None => None,
+    }
+}
+
+// Adds an entry at its place in a row of so many, where entries are kept, with zeros before it from the place on that
+// comes next, and answers the place behind it; or none, where the entry is 0 or its place isn't one of those that are
+// left.
+fn push_pair(
+    cells: &mut Vec<i128>,
+    keep: bool,
+    count: u128,
+    next: u128,
+    place: i128,
+    entry: i128,
+) -> Result<Option<u128>, AllocError>
+    ensures some { IfOk result (λ o. IfSome o (λ behind. IsPut keep count next place entry behind cells.old.items cells.new.items)) }
+    ensures none { IfOk result (λ o. IfNone o (IsUnput count next place entry)) }
+{
+    if entry == 0 || !is_between(next, count, place) {
+        return Ok(None);
+    }
+    let place = place as u128;
+    push_gap(cells, keep, place - next)?;
+    push_kept(cells, keep, entry)?;
+    Ok(Some(place + 1))
+}
+
+// Adds the entries of a row of so many that these fields name in so many pairs, each entry behind its place, with zeros
+// between them, where entries are kept; and answers whether there are so many pairs and no more, whose places rise, with
+// no entry 0.
+fn push_pairs(
+    cells: &mut Vec<i128>,
+    keep: bool,
+    count: u128,
+    pairs: u128,
+    fields: Fields<'_>,
+) -> Result<bool, AllocError>
+    ensures { IfOk result (λ ok.
+        PushesRow keep cells.old.items cells.new.items ok
+        (entries_in count (pos pairs) (numbers_of (texts_of (option_map (λ t. t.now) fields.entry))))) }
+{
+    let mut rest = fields;
+    let mut next = 0;
+    for _pair in 0..pairs {
+        let Some((place, entry, more)) = pair(rest) else {
+            return Ok(false);
+        };
+        let Some(behind) = push_pair(cells, keep, count, next, place, entry)? else {
+            return Ok(false);
+        };
+        next = behind;
+        rest = more;
+    }
+    match rest {
+        Some(_) => Ok(false),
+        None => {
+            push_gap(cells, keep, count - next)?;
+            Ok(true)
+        }
+    }
+}
+
+// The same of fields of which the first is the number of pairs.
+fn push_counted(
+    cells: &mut Vec<i128>,
+    keep: bool,
+    count: u128,
+    fields: Fields<'_>,
+) -> Result<bool, AllocError>
+    ensures { IfOk result (λ ok.
+        PushesRow keep cells.old.items cells.new.items ok
+        (row_in Sparse count (numbers_of (texts_of (option_map (λ t. t.now) fields.entry))))) }
+{
+    match first(fields) {
+        Some((pairs, named)) => {
+            if pairs < 0 {
+                return Ok(false);
+            }
+            push_pairs(cells, keep, count, pairs as u128, named)
+        }
+        None => Ok(false),
+    }
+}
+
+// Adds the entries of a row of so many that these fields have in a version, where entries are kept, and answers whether
+// they have one.
+fn push_fields(
+    cells: &mut Vec<i128>,
+    keep: bool,
+    version: Version,
+    count: u128,
+    fields: Fields<'_>,
+) -> Result<bool, AllocError>
+    ensures { IfOk result (λ ok.
+        PushesRow keep cells.old.items cells.new.items ok
+        (row_in version count (numbers_of (texts_of (option_map (λ t. t.now) fields.entry))))) }
+{
+    match version {
+        Version::Whole => push_entries(cells, keep, count, fields),
+        Version::Sparse => push_counted(cells, keep, count, fields),
+    }
+}
+
+/// Adds the entries of the row at this place, where they are kept, and answers whether the line is such a row in a
+/// version.
 pub(crate) fn push_row(
     cells: &mut Vec<i128>,
     keep: bool,
+    version: Version,
     count: u128,
     place: u128,
     line: &Line<'_>,
 ) -> Result<bool, AllocError>
-    ensures { IfOk result (λ ok. PushesRow keep cells.old.items cells.new.items ok (row_at Whole count place (view line.now))) }
+    ensures { IfOk result (λ ok. PushesRow keep cells.old.items cells.new.items ok (row_at version count place (view line.now))) }
 {
     let Line::Row(fields) = line else {
         return Ok(false);
@@ -73,7 +217,7 @@ pub(crate) fn push_row(
             if !is_place(place, number) {
                 return Ok(false);
             }
-            push_entries(cells, keep, count, entries)
+            push_fields(cells, keep, version, count, entries)
         }
         None => Ok(false),
     }

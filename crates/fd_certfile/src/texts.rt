@@ -1,6 +1,9 @@
 // The texts of lines.
-ghost use Rattle.std.specs.Prelude.{◌≡◌, ◌++◌, ◌∷◌, [], IfOk, OnOk};
-ghost use Rattle.fd_certfile.specs.Lines.{text_by};
+ghost use Rattle.std.specs.Prelude.{◌≡◌, ◌++◌, ◌∷◌, [], IfOk, OnOk, count_by, flat_map, pos};
+ghost use Rattle.std.specs.List.{enumerate_from};
+ghost use Rattle.fd_certfile.specs.Blocks.{Sparse, fields_of, is_entry, pair_of};
+ghost use Rattle.fd_certfile.specs.Lines.{end, header, line_bytes, text_by};
+ghost use Rattle.fd_certfile.specs.Lines as line;
 ghost use Rattle.fd_certfile.specs.Texts.{field_text, fields_text};
 
 use fd_outside::{Bytes, Record};
@@ -25,6 +28,55 @@ fn push_numbers(alloc: Global, text: &mut Vec<u8>, numbers: &[i128]) -> Result<(
     Ok(())
 }
 
+// How many of the entries of a row aren't 0.
+fn count(row: &[i128]) -> usize
+    ensures { result ≡ count_by is_entry row.now }
+{
+    row.iter().filter(|entry| **entry != 0).count()
+}
+
+// Adds an entry behind its place, unless it is 0.
+fn push_entry(
+    alloc: Global,
+    text: &mut Vec<u8>,
+    place: usize,
+    entry: i128,
+) -> Result<(), AllocError>
+    ensures { OnOk result (text.new.items ≡ text.old.items ++ fields_text (pair_of (place, entry))) }
+{
+    if entry != 0 {
+        push_number(alloc, text, place as i128)?;
+        push_number(alloc, text, entry)?;
+    }
+    Ok(())
+}
+
+// Adds the entries of a row that aren't 0, each behind its place.
+fn push_entries(alloc: Global, text: &mut Vec<u8>, row: &[i128]) -> Result<(), AllocError>
+    ensures { OnOk result (text.new.items ≡ text.old.items ++ fields_text (flat_map pair_of (enumerate_from 0 row.now))) }
+{
+    for place in 0..row.len() {
+        push_entry(alloc, text, place, row[place])?;
+    }
+    Ok(())
+}
+
+/// The line of the row of an inverse at this place, in version 2.
+#[tactic(auto, using(crate::proofs::RowTexts::row_fields))]
+pub(crate) fn row_record(alloc: Global, place: i128, row: &[i128]) -> Result<Record, AllocError>
+    ensures { IfOk result (λ r. r.bytes ≡ line_bytes (line.row (place ∷ fields_of Sparse row.now))) }
+{
+    let mut text = Vec::new(alloc);
+    text.extend_from_slice(b"c")?;
+    push_number(alloc, &mut text, place)?;
+    push_number(alloc, &mut text, count(row) as i128)?;
+    push_entries(alloc, &mut text, row)?;
+    text.push(b'\n')?;
+    Ok(Record {
+        bytes: Bytes::new(text),
+    })
+}
+
 /// The line of a word and of numbers, those of one list and then those of another.
 #[tactic(auto, using(crate::proofs::Fields::line_fields))]
 pub(crate) fn line_record(
@@ -43,4 +95,36 @@ pub(crate) fn line_record(
     Ok(Record {
         bytes: Bytes::new(text),
     })
+}
+
+/// The line of this text, as it is.
+pub(crate) fn text_record(alloc: Global, text: &[u8]) -> Result<Record, AllocError>
+    ensures { IfOk result (λ r. r.bytes ≡ text.now ++ 10 ∷ []) }
+{
+    let mut bytes = Vec::new(alloc);
+    bytes.extend_from_slice(text)?;
+    bytes.push(b'\n')?;
+    Ok(Record {
+        bytes: Bytes::new(bytes),
+    })
+}
+
+/// The first line of a certificate, which names version 2.
+///
+/// # Errors
+/// `AllocError` where memory is refused.
+pub fn header_record(alloc: Global) -> Result<Record, AllocError>
+    ensures { IfOk result (λ r. r.bytes ≡ line_bytes (header (pos 2))) }
+{
+    line_record(alloc, b"cert", &[2], &[])
+}
+
+/// The line behind the last block of a certificate.
+///
+/// # Errors
+/// `AllocError` where memory is refused.
+pub fn end_record(alloc: Global) -> Result<Record, AllocError>
+    ensures { IfOk result (λ r. r.bytes ≡ line_bytes end) }
+{
+    line_record(alloc, b"end", &[], &[])
 }

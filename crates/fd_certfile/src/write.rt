@@ -5,11 +5,11 @@ ghost use Rattle.fd_enclosure.specs.Sound.{number_at};
 ghost use Rattle.fd_equations.specs.Rounded.{list_of};
 ghost use Rattle.fd_mat.specs.Rows.{row_of};
 ghost use Rattle.fd_outside.specs.Emitted.{pieces_of};
-ghost use Rattle.fd_certfile.specs.Blocks.{Whole, act_line, row_line};
-ghost use Rattle.fd_certfile.specs.Lines.{end, header, line_bytes, solution};
+ghost use Rattle.fd_certfile.specs.Blocks.{act_line};
+ghost use Rattle.fd_certfile.specs.Lines.{line_bytes, solution};
 ghost use Rattle.fd_certfile.specs.Rounds.{AreNumbers, IsRoundOf, act_of, block_of, AreLinesOf, AreReadAs, part_bytes, row_bytes};
 
-use crate::texts::line_record;
+use crate::texts::{line_record, row_record};
 use fd_cert::Certified;
 use fd_mat::Dense;
 use fd_network::Network;
@@ -50,12 +50,6 @@ fn part_record(alloc: Global, place: u32, certified: &Certified) -> Result<Recor
     line_record(alloc, b"x", &numbers, &[])
 }
 
-fn row_record(alloc: Global, place: u32, row: &[i128]) -> Result<Record, AllocError>
-    ensures { IfOk result (λ r. r.bytes ≡ line_bytes (row_line Whole place row.now)) }
-{
-    line_record(alloc, b"c", &[i128::from(place)], row)
-}
-
 fn act_record(alloc: Global, act: &Act) -> Result<Record, AllocError>
     ensures line { IfOk result (λ r. r.bytes ≡ line_bytes (act_line (act_of act.now))) }
     ensures small { AreNumbers (act_of act.now) }
@@ -66,26 +60,6 @@ fn act_record(alloc: Global, act: &Act) -> Result<Record, AllocError>
         i128::from(act.steps),
     ];
     line_record(alloc, b"act", &numbers, &[])
-}
-
-/// The first line of a certificate, which names its version.
-///
-/// # Errors
-/// `AllocError` where memory is refused.
-pub fn header_record(alloc: Global) -> Result<Record, AllocError>
-    ensures { IfOk result (λ r. r.bytes ≡ line_bytes (header (pos 1))) }
-{
-    line_record(alloc, b"cert", &[1], &[])
-}
-
-/// The line behind the last block of a certificate.
-///
-/// # Errors
-/// `AllocError` where memory is refused.
-pub fn end_record(alloc: Global) -> Result<Record, AllocError>
-    ensures { IfOk result (λ r. r.bytes ≡ line_bytes end) }
-{
-    line_record(alloc, b"end", &[], &[])
 }
 
 // Adds the lines of unknowns.
@@ -114,7 +88,7 @@ fn push_rows(alloc: Global, records: &mut Vec<Record>, inverse: &Dense) -> Resul
     ensures wide { OnOk result ((i : ℕ) → i < length inverse.now → length (row_of inverse.now i) ≡ length inverse.now) }
 {
     for place in 0..inverse.size() {
-        records.push(row_record(alloc, place, inverse.row(place))?)?;
+        records.push(row_record(alloc, i128::from(place), inverse.row(place))?)?;
     }
     Ok(())
 }
@@ -131,7 +105,7 @@ fn push_acts(alloc: Global, records: &mut Vec<Record>, acts: &[Act]) -> Result<(
 }
 
 /// The lines of a round of a network's settle, one record each: its solution line, its unknowns, the rows of its
-/// inverse, and its acts. `number` is that of the settle in the run, from 1; the hour is 0 in a snapshot; rounds count
+/// inverse as version 2 has them, and its acts. `number` is that of the settle in the run, from 1; the hour is 0 in a snapshot; rounds count
 /// from 0. The network serves for its size alone. The text has one number of the round after another, so it takes the
 /// time and the memory of its bytes.
 ///

@@ -3,7 +3,8 @@ use Rattle.std.proofs.Common.{◌≡◌, ℕ, zero, suc, ◌+◌, List, Option, 
 use Rattle.dss_model.specs.declared.command.Blame.{Blame}
 use Rattle.fd_cert.specs.declared.rule.Rule.{Rule}
 use Rattle.fd_cert.specs.declared.rule.Rule.TheVariants as rule
-use Rattle.fd_certfile.specs.Blocks.{Block, IsSized, Version}
+use Rattle.fd_certfile.specs.Blocks.{Block, IsSized}
+use Rattle.fd_certfile.specs.declared.version.Version.{Version}
 use Rattle.fd_certfile.specs.Certificates.{Certificate, ends, trails, refuses, gives, Reads, lines_count}
 use Rattle.fd_certfile.specs.Judging.{SoundLaw, judge_of}
 use Rattle.fd_certfile.specs.Laws.{BlockLaw}

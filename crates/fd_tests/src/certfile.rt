@@ -110,7 +110,7 @@ fn read_all(alloc: Global, text: &str) -> Result<u64, CertFileFault> {
 
 // A line by its number, what stands there instead, and the line and the rule of the refusal.
 const CHANGED: [(u32, &str, (u64, Option<Rule>)); 14] = [
-    (1, "cert 2", (1, Some(Rule::Grammar))),
+    (1, "cert 3", (1, Some(Rule::Grammar))),
     (2, "solution 1 0 0", (2, Some(Rule::Grammar))),
     (2, "solution 1 0 0 9", (11, Some(Rule::Grammar))),
     (2, "solution 2 0 0 8", (2, Some(Rule::Size))),

@@ -2,7 +2,7 @@ use Rattle.std.proofs.Common.{◌≡◌, ℕ, ◌+◌, Bool, Ok, ◌∙◌, ap, 
 use Rattle.std.specs.Int.{w128}
 use Rattle.std.proofs.lemmas.Int.{to_z-of_z}
 use Rattle.fd_certfile.specs.Lines.{lines_of}
-use Rattle.fd_certfile.specs.Blocks.{Whole, count_of, is_place, part_at, row_at, numbered_at}
+use Rattle.fd_certfile.specs.Blocks.{count_of, is_place, part_at, row_at, numbered_at}
 use Rattle.fd_certfile.specs.Readings.{Fails, cells_of, kept}
 use Rattle.fd_certfile.specs.declared.ahead.Ahead.{Ahead}
 use Rattle.fd_certfile.proofs.BlockReading.{ahead_is, before_fits, parts_fail, parts_lines, rows_fail, length-lines_of, numbered_left}
@@ -16,7 +16,7 @@ returns-in-Err c =
     let fits : FitsSigned w128 c.args.head.size = search rules in
     let counted = c.count_of-count.ensures ∙ ap count_of (to_z-of_z w128 c.args.head.size fits) in
     let f = subst (λ (n : ℕ). Fails c.in-Err.stop (lines_of c.args.bytes.now) (numbered_at part_at n 0 (lines_of c.args.bytes.now))) counted c.in-Err.ensures in
-    rw c.moved.ensures (parts_fail Whole c.args.head.number c.args.head.hour c.args.head.round c.args.head.size (lines_of c.args.bytes.now) c.in-Err.stop f)
+    rw c.moved.ensures (parts_fail c.args.version c.args.head.number c.args.head.hour c.args.head.round c.args.head.size (lines_of c.args.bytes.now) c.in-Err.stop f)
 
 pub moved-requires-in-Err-rows : goal.moved-requires-in-Err-rows
 moved-requires-in-Err-rows c =
@@ -25,7 +25,7 @@ moved-requires-in-Err-rows c =
     let read = subst
     (λ (n : ℕ). numbered_at part_at n 0 (lines_of c.args.bytes.now) ≡ Ok (c.in-Ok.ensures.all, lines_of c.in-Ok.read.1.now))
     counted c.in-Ok.ensures.same in
-    let few = parts_lines Whole c.args.head.number c.args.head.hour c.args.head.round c.args.head.size
+    let few = parts_lines c.args.version c.args.head.number c.args.head.hour c.args.head.round c.args.head.size
     (lines_of c.args.bytes.now) c.in-Ok.ensures.all (lines_of c.in-Ok.read.1.now) read in
     omega (arith, counted, few, length-lines_of c.args.bytes.now, before_fits c.in-Err-rows.stop c.in-Ok.read.1.now _ c.in-Err-rows.ensures)
 
@@ -37,10 +37,10 @@ returns-in-Err-rows c =
     (λ (n : ℕ). numbered_at part_at n 0 (lines_of c.args.bytes.now) ≡ Ok (c.in-Ok.ensures.all, lines_of c.in-Ok.read.1.now))
     counted c.in-Ok.ensures.same in
     let f = subst
-    (λ (n : ℕ). Fails c.in-Err-rows.stop (lines_of c.in-Ok.read.1.now) (numbered_at (row_at Whole n) n 0 (lines_of c.in-Ok.read.1.now)))
+    (λ (n : ℕ). Fails c.in-Err-rows.stop (lines_of c.in-Ok.read.1.now) (numbered_at (row_at c.args.version n) n 0 (lines_of c.in-Ok.read.1.now)))
     counted c.in-Err-rows.ensures in
     rw (c.moved-in-Err-rows.ensures, counted)
-    (rows_fail Whole c.args.head.number c.args.head.hour c.args.head.round c.args.head.size
+    (rows_fail c.args.version c.args.head.number c.args.head.hour c.args.head.round c.args.head.size
     (lines_of c.args.bytes.now) c.in-Ok.ensures.all (lines_of c.in-Ok.read.1.now) read c.in-Err-rows.stop f)
 
 pub overflow_add-result : goal.overflow_add-result
@@ -50,7 +50,7 @@ overflow_add-result c =
       length-lines_of c.args.bytes.now,
       c.acts-made.ensures.lines,
       numbered_left part_at c.count_of-count.result 0 (lines_of c.args.bytes.now) c.in-Ok.ensures.all (lines_of c.in-Ok.read.1.now) c.in-Ok.ensures.same,
-      numbered_left (row_at Whole c.count_of-count.result) c.count_of-count.result 0 (lines_of c.in-Ok.read.1.now)
+      numbered_left (row_at c.args.version c.count_of-count.result) c.count_of-count.result 0 (lines_of c.in-Ok.read.1.now)
           c.in-Ok-rows.ensures.all (lines_of c.in-Ok-rows.read.1.now) c.in-Ok-rows.ensures.same,
     )
 
@@ -61,7 +61,7 @@ overflow_add-result-2 c =
       length-lines_of c.args.bytes.now,
       c.acts-made.ensures.lines,
       numbered_left part_at c.count_of-count.result 0 (lines_of c.args.bytes.now) c.in-Ok.ensures.all (lines_of c.in-Ok.read.1.now) c.in-Ok.ensures.same,
-      numbered_left (row_at Whole c.count_of-count.result) c.count_of-count.result 0 (lines_of c.in-Ok.read.1.now)
+      numbered_left (row_at c.args.version c.count_of-count.result) c.count_of-count.result 0 (lines_of c.in-Ok.read.1.now)
           c.in-Ok-rows.ensures.all (lines_of c.in-Ok-rows.read.1.now) c.in-Ok-rows.ensures.same,
     )
 
@@ -72,7 +72,7 @@ overflow_add-result-3 c =
       length-lines_of c.args.bytes.now,
       c.acts-made.ensures.lines,
       numbered_left part_at c.count_of-count.result 0 (lines_of c.args.bytes.now) c.in-Ok.ensures.all (lines_of c.in-Ok.read.1.now) c.in-Ok.ensures.same,
-      numbered_left (row_at Whole c.count_of-count.result) c.count_of-count.result 0 (lines_of c.in-Ok.read.1.now)
+      numbered_left (row_at c.args.version c.count_of-count.result) c.count_of-count.result 0 (lines_of c.in-Ok.read.1.now)
           c.in-Ok-rows.ensures.all (lines_of c.in-Ok-rows.read.1.now) c.in-Ok-rows.ensures.same,
     )
 
@@ -95,9 +95,9 @@ returns c =
     (λ (n : ℕ). numbered_at part_at n 0 (lines_of c.args.bytes.now) ≡ Ok (c.in-Ok.ensures.all, lines_of c.in-Ok.read.1.now))
     counted c.in-Ok.ensures.same in
     let r = subst
-    (λ (n : ℕ). numbered_at (row_at Whole n) n 0 (lines_of c.in-Ok.read.1.now) ≡ Ok (c.in-Ok-rows.ensures.all, lines_of c.in-Ok-rows.read.1.now))
+    (λ (n : ℕ). numbered_at (row_at c.args.version n) n 0 (lines_of c.in-Ok.read.1.now) ≡ Ok (c.in-Ok-rows.ensures.all, lines_of c.in-Ok-rows.read.1.now))
     counted c.in-Ok-rows.ensures.same in
-    ahead_is c.args.due x (lines_of c.args.bytes.now) c.in-Ok.ensures.all (lines_of c.in-Ok.read.1.now) c.in-Ok-rows.ensures.all p r c.acts-made.ensures.rest
+    ahead_is c.args.version c.args.due x (lines_of c.args.bytes.now) c.in-Ok.ensures.all (lines_of c.in-Ok.read.1.now) c.in-Ok-rows.ensures.all p r c.acts-made.ensures.rest
     (c.in-Ok.ensures.keeps ∙ ap (λ (k : Bool). kept k c.in-Ok.ensures.all) keep)
     (c.in-Ok-rows.ensures.keeps ∙ ap (λ (k : Bool). kept k (cells_of c.in-Ok-rows.ensures.all)) keep)
     (omega (arith, counted, c.acts-made.ensures.count))

@@ -4,17 +4,18 @@ use Rattle.std.specs.List.{concat}
 use Rattle.fd_settle.specs.declared.round.Act.{Act as Made}
 use Rattle.fd_outside.specs.declared.bytes.Record.{Record}
 use Rattle.fd_outside.specs.Emitted.{pieces_of}
-use Rattle.fd_certfile.specs.Blocks.{Whole, act_line, block_at, block_lines}
+use Rattle.fd_certfile.specs.Blocks.{Sparse, act_line, block_at, block_lines}
 use Rattle.fd_certfile.specs.Lines.{line_bytes, lines_of}
 use Rattle.fd_certfile.specs.Rounds.{AreNumbers, act_of, block_of}
-use Rattle.fd_certfile.proofs.Writing.{concat_lines, lines_together, pieces_pushed, sized, writable}
+use Rattle.fd_certfile.proofs.RowTexts.{concat_lines}
+use Rattle.fd_certfile.proofs.Writing.{lines_together, pieces_pushed, sized, writable}
 use Rattle.fd_certfile.proofs.Written.{text_law}
 use Rattle.fd_certfile.proofs.write.write_block.Goals as goal
 
 pub returns-clause-lines : goal.returns-clause-lines
 returns-clause-lines c =
     subst (λ (n : ℕ). pieces_of c.push_acts.new.records.items
-    ≡ map line_bytes (block_lines Whole (block_of n c.args.number c.args.hour c.args.round c.args.made.now)))
+    ≡ map line_bytes (block_lines Sparse (block_of n c.args.number c.args.hour c.args.round c.args.made.now)))
     c.size-size.ensures.rows (lines_together c.size-size.result c.args.number c.args.hour c.args.round c.args.made.now
     (pieces_of c.push.new.self.items) (pieces_of c.push_parts.new.records.items)
     (pieces_of c.push_rows.new.records.items) (pieces_of c.push_acts.new.records.items)
@@ -31,10 +32,10 @@ returns-clause-lines c =
 
 pub returns-clause-read : goal.returns-clause-read
 returns-clause-read c = λ tail k.
-    ap (λ (ps : List (List ℕ)). block_at Whole (lines_of (concat ps ++ tail))) (returns-clause-lines c)
-    ∙ ap (λ (bs : List ℕ). block_at Whole (lines_of (bs ++ tail))) (concat_lines (block_lines Whole
+    ap (λ (ps : List (List ℕ)). block_at Sparse (lines_of (concat ps ++ tail))) (returns-clause-lines c)
+    ∙ ap (λ (bs : List ℕ). block_at Sparse (lines_of (bs ++ tail))) (concat_lines (block_lines Sparse
     (block_of c.args.net.now.rows.size c.args.number c.args.hour c.args.round c.args.made.now)))
-    ∙ text_law.again Whole (block_of c.args.net.now.rows.size c.args.number c.args.hour c.args.round c.args.made.now)
+    ∙ text_law.again Sparse (block_of c.args.net.now.rows.size c.args.number c.args.hour c.args.round c.args.made.now)
     tail (sized c.args.net.now.rows.size c.args.number c.args.hour c.args.round c.args.made.now c.requires
     c.in_ok-push_rows.ensures.wide)
     (writable c.args.net.now.rows.size c.args.number c.args.hour c.args.round c.args.made.now c.requires

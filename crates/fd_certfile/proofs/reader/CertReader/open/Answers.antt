@@ -20,21 +20,20 @@ invariant_of-result c = (
   omega arith,
 )
 
-pub returns-then-names_version : goal.returns-then-names_version
-returns-then-names_version c =
+pub returns-in-Some-version_named : goal.returns-in-Some-version_named
+returns-in-Some-version_named c =
     opened_some (lines_of c.args.bytes.now) (view c.read_line.result) (lines_of c.in-Some.rest.now)
-    (map given_block c.new.result.items) c.names_version.result
+    (map given_block c.new.result.items) c.in-Some-version_named.version
     (lines_cut c.args.bytes.now c.in-Some.text.now c.in-Some.rest.now c.in-Some.ensures.before c.in-Some.ensures.whole
     ∙ ap (λ l. l ∷ lines_of c.in-Some.rest.now) (sym c.read_line.ensures))
-    c.names_version.ensures c.if-names_version.true (ap (map given_block) c.new.ensures.items)
+    c.in-Some-version_named.ensures (ap (map given_block) c.new.ensures.items)
 
-pub returns-else-names_version : goal.returns-else-names_version
-returns-else-names_version c =
-    opened_none (lines_of c.args.bytes.now) (view c.read_line.result)
-    (lines_of c.in-Some.rest.now) c.names_version.result
+pub returns-in_default : goal.returns-in_default
+returns-in_default c =
+    opened_none (lines_of c.args.bytes.now) (view c.read_line.result) (lines_of c.in-Some.rest.now)
     (lines_cut c.args.bytes.now c.in-Some.text.now c.in-Some.rest.now c.in-Some.ensures.before c.in-Some.ensures.whole
     ∙ ap (λ l. l ∷ lines_of c.in-Some.rest.now) (sym c.read_line.ensures))
-    c.names_version.ensures c.if-names_version.false
+    c.in_default.ensures
 
 pub returns-in-None : goal.returns-in-None
 returns-in-None c = opened_rest (lines_of c.args.bytes.now) c.args.bytes.now (of_last c.args.bytes.now c.in-None.ensures.none)

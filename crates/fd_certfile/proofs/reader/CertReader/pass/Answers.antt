@@ -55,6 +55,6 @@ returns c = λ b w e.
     passed_one c.args.self.now c.args.size (acts_at (lines_of c.args.acts.now)).0 (lines_of c.args.rest.now)
     c.args.lines h b w e
     ∙ ap (λ (r : ReaderView). behind r h.block (lines_of c.args.rest.now)) (sym c.self.view_is)
-    ∙ after_is (lines_of s.rest.now) s.line s.number s.hour s.round (map given_block s.given.items) h.block
+    ∙ after_is s.version (lines_of s.rest.now) s.line s.number s.hour s.round (map given_block s.given.items) h.block
     (lines_of c.args.rest.now) c.args.size (s.line + c.args.lines) (map given_block c.push.new.self.items)
     (acts_at (lines_of c.args.acts.now)).0 h.size (ap (λ (k : ℕ). s.line + k) h.count_is) h.acts_are now

@@ -1,0 +1,6 @@
+use Rattle.std.proofs.Common.{◌≡◌, ◌++◌}
+use Rattle.fd_certfile.specs.Readings.{zeros}
+use Rattle.fd_certfile.proofs.row.push_zeros.Given as goal
+
+abbrev pub invariant-loop-zero : goal.invariant-loop-zero
+invariant-loop-zero l = l.cells.items ≡ l.fn.cells.items ++ zeros l._zero
