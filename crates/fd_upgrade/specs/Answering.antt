@@ -1,0 +1,19 @@
+-- What is made of what was found under the name.
+use Rattle.std.specs.Prelude.{ℕ, true, List, Option, Some, None}
+use Rattle.fd_outside.specs.declared.library.Found.{Found}
+use Rattle.fd_outside.specs.declared.library.Found.TheVariants as found
+use Rattle.fd_outcome.specs.Calls.{doing, report}
+use Rattle.fd_outcome.specs.Events.{History}
+use Rattle.fd_outcome.specs.Parts.{Printed}
+use Rattle.fd_upgrade.specs.Upgrading.{IsUpgradeOf}
+
+abbrev pub bytes_found : Found → Option (List ℕ)
+bytes_found (found.Bytes held) = Some held.items
+bytes_found found.Absent = None
+
+-- all of the text that comes of it, or a front, is handed to the sink
+pub record IsAnswered {S : Type 0} (taken : S → List ℕ) (calls : S → ℕ) (old new : S)
+    (held : Option (List ℕ)) (code : ℕ) : Type 0 where
+  pub more : History
+  pub right : IsUpgradeOf held more
+  pub prints : Printed taken calls old new true (doing report more) code
