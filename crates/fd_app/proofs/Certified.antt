@@ -33,7 +33,8 @@ use Rattle.fd_checking.specs.Laws.{AreOfRounds, IsOfRound}
 use Rattle.fd_checking.specs.Underway.{no_positions, start_from}
 use Rattle.fd_solving.specs.Boxes.{IsInBox}
 use Rattle.fd_solving.proofs.CallerLemmas.{alike, meets_round, others, sizes_of_others}
-use Rattle.fd_app.specs.Meaning.{AreCertified, IsCertified, Solves, claim_at, outcome_at}
+use Rattle.fd_app.specs.Meaning.{AreCertified, IsCertified, claim_at}
+use Rattle.fd_app.specs.Steady.{Solves, outcome_at}
 
 -- a circuit that can be solved
 pub record CanBeSolved (c : CircuitView) : Type 0 where
@@ -130,7 +131,7 @@ module _ (law : EnclosureLaw) (sound_law : SoundAtLaw) (kept_law : KeptLaw) (mod
   sound = sound_law c (hour_powers c.elements s.hour) at m h.circuit.passed h.circuit.within h.machine.positions
       (modest_law c.elements s.hour h.circuit.within.elements_in_range) of.in_range of.sound
 
-  own_solves : Solves s b (whole_state m.centre)
+  own_solves : Solves s m (whole_state m.centre)
   own_solves = record {
     over = omega arith;
     inside = own_box (layout_of c.elements) m.centre;
@@ -144,7 +145,7 @@ module _ (law : EnclosureLaw) (sound_law : SoundAtLaw) (kept_law : KeptLaw) (mod
       (sym (map-map nat_abs (λ (p : Part). p.radius) b.parts))
 
   -- at a state that solves the round it comes to what it comes to over the ball
-  same_outcome : (x : State) → Solves s b x → outcome_at s x ≡ outcome_in c s.machine (ball_of b)
+  same_outcome : (x : State) → Solves s m x → outcome_at s x ≡ outcome_in c s.machine (ball_of b)
   same_outcome x solves = by (sampling_in c at (ball_of b)) refl of.acts
     where
       by : (w : Sampling) → sampling_in c at (ball_of b) ≡ w

@@ -8,3 +8,5 @@ mod RoundTrips
 mod Written
 mod Certified
 mod Gathers
+mod Steadily
+mod Promised

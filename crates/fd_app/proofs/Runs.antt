@@ -1,18 +1,23 @@
 -- The history of a command line, what a run does of it, and the run's status.
-use Rattle.std.proofs.Common.{ℕ, List, [], Option, Some, None, sym, subst}
+use Rattle.std.proofs.Common.{ℕ, true, List, [], Option, Some, None, refl, sym, subst, inl, inr}
 use Rattle.fd_outside.specs.Answers.{AgreesSince, Answer}
 use Rattle.fd_outside.specs.Files.{Files}
 use Rattle.fd_report.specs.declared.faults.Fault.TheVariants as fault
+use Rattle.dss_script.specs.Said.{said_of}
+use Rattle.std.specs.Str.{chars}
+use Rattle.fd_outcome.specs.Calls.{body, certificate, doing, report}
 use Rattle.fd_outcome.specs.Events.{History, ended}
+use Rattle.fd_outcome.specs.Way.{whole}
 use Rattle.fd_outcome.specs.Laws.{IsDue}
-use Rattle.fd_outcome.proofs.CallerLemmas.{exactly_this, run_due}
-use Rattle.fd_solving.specs.Headline.{IsSolved}
+use Rattle.fd_outcome.proofs.CallerLemmas.{IsToldBy, all_told, exactly_this, not_empty, run_due, sees_none, told_fault}
 use Rattle.fd_solving.proofs.CallerLemmas.{one_script}
-use Rattle.fd_checking.proofs.CallerLemmas.{one_check}
+use Rattle.fd_checking.proofs.CallerLemmas.{check_tells, one_check}
 use Rattle.fd_bench.specs.Bench.{script_written}
-use Rattle.fd_bench.proofs.CallerLemmas.{agrees_held, one_bench}
-use Rattle.fd_words.specs.Words.{Form, Solve, Cert, Check, Gen, Bench}
-use Rattle.fd_app.specs.Run.{AgreesIn, FormsLaw, IsFormHistory, RunsOver, ToldLaw, style_of}
+use Rattle.fd_bench.proofs.CallerLemmas.{agrees_held, bench_tells, one_bench, script_tells}
+use Rattle.fd_words.specs.Words.{Form, Solve, Cert, Check, Gen, Bench, Upgrade}
+use Rattle.fd_upgrade.proofs.CallerLemmas.{one_upgrade, upgrade_tells}
+use Rattle.fd_app.specs.Promise.{IsPromised, Outside, ToldLaw}
+use Rattle.fd_app.specs.Run.{AgreesIn, FormsLaw, IsFormHistory, RunsOver, style_of, tells_end}
 
 pub forms : FormsLaw
 forms files None = exactly_this (ended [] fault.Usage)
@@ -21,6 +26,41 @@ forms files (Some (Cert file)) = one_script files file
 forms files (Some (Check script certificate)) = one_check files script certificate
 forms files (Some (Gen number sections)) = exactly_this (script_written number sections)
 forms files (Some (Bench number sections)) = one_bench number sections
+forms files (Some (Upgrade name)) = one_upgrade files (chars name)
+
+-- ---- the text that tells an end
+
+form_tells : (files : Files) (form : Option Form) (h : History) → IsFormHistory files form h
+    → IsToldBy (style_of form) (tells_end form) h.events h.end
+form_tells files None h is = told_fault report true [] fault.Usage h is
+form_tells files (Some (Solve file)) h is = λ told none e. cc told
+form_tells files (Some (Cert file)) h is = λ told none e. not_empty (body certificate h.events) _ [] e
+form_tells files (Some (Check script name)) h is = check_tells files (said_of files (chars script)) (chars name) h is
+form_tells files (Some (Gen number sections)) h is =
+    subst (λ (x : History). IsToldBy report true x.events x.end) (sym is) (script_tells number sections)
+form_tells files (Some (Bench number sections)) h is = bench_tells number sections h is
+form_tells files (Some (Upgrade name)) h is = upgrade_tells files (chars name) h is
+
+-- memory runs out before anything is done
+module _ {L S : Type 0} (answers : L → List Answer) (taken : S → List ℕ) (calls : S → ℕ) where
+  pub form_short : (files : Files) (form : Option Form) (lib : L) (out : S)
+      → RunsOver answers taken calls files form lib lib out out 1
+  form_short files form lib out =
+      let one = forms files form in
+      let h = one.some in
+      record {
+        history = h;
+        right = one.is;
+        fails = None;
+        cause = inl refl;
+        made = whole [];
+        done = inr (
+          inl (record { rest = (doing (style_of form) h).calls; calls = refl; torn = refl; status_is = refl }),
+          λ told none.
+              all_told (style_of form) (tells_end form) h.events h.end told (form_tells files form h one.is) (sym none),
+        );
+        sees = sees_none answers taken calls lib out;
+      }
 
 -- ---- over a library that tells what it holds
 
@@ -29,26 +69,38 @@ agrees_in : (form : Option Form) (before now : List Answer) (files : Files) → 
 agrees_in None before now files agrees = tt
 agrees_in (Some (Solve file)) before now files agrees = agrees
 agrees_in (Some (Cert file)) before now files agrees = agrees
-agrees_in (Some (Check script certificate)) before now files agrees = agrees
+agrees_in (Some (Check script name)) before now files agrees = agrees
 agrees_in (Some (Gen number sections)) before now files agrees = tt
 agrees_in (Some (Bench number sections)) before now files agrees = tt
+agrees_in (Some (Upgrade name)) before now files agrees = agrees
 
 module _ {L S : Type 0} (answers : L → List Answer) (holds : L → Option Files) (taken : S → List ℕ)
     (calls : S → ℕ) where
   pub told : ToldLaw answers holds taken calls
-  told files form lib_old lib_new old new code is later runs =
-      runs files (agrees_in form (answers lib_old) (answers lib_new) files
+  told files form lib_old lib_new old new code is later promised =
+      promised files (agrees_in form (answers lib_old) (answers lib_new) files
       (agrees_held answers holds files lib_old lib_new is later))
 
 -- ---- the status
 
-module _ {L S : Type 0} (answers : L → List Answer) (taken : S → List ℕ) (calls : S → ℕ) (lib_old lib_new : L)
-    (old new : S) where
-  pub due : (files : Files) (form : Option Form) (h : History) (code : ℕ) → IsFormHistory files form h
-      → RunsOver answers taken calls files form lib_old lib_new old new code
-      → IsDue h.end code (answers lib_old) (answers lib_new)
-  due files form h code right runs =
-      let one = forms files form in
-      let all = run_due answers taken calls (λ x. IsFormHistory files form x) (style_of form) IsSolved lib_old lib_new
-      old new code one runs in
-      subst (λ (x : History). IsDue x.end code (answers lib_old) (answers lib_new)) (sym (one.only h right)) all
+-- what is printed, as what is done over what was answered and taken
+runs_as : (o : Outside) (files : Files) (form : Option Form) (code : ℕ) → IsPromised o files form code
+    → RunsOver {L = List Answer} {S = List ℕ × ℕ} (λ a. a) (λ s. s.0) (λ s. s.1) files form o.answers_before o.answers_now
+    (o.taken_before, o.writes_before) (o.taken_now, o.writes_now) code
+runs_as o files form code p = record {
+  history = p.history;
+  right = p.right;
+  fails = p.printed.fails;
+  cause = p.printed.cause;
+  made = p.printed.made;
+  done = p.printed.done;
+  sees = record { names = p.printed.names; bytes = p.printed.bytes_are; writes = p.printed.writes };
+}
+
+pub due : (files : Files) (form : Option Form) (h : History) (o : Outside) (code : ℕ) → IsFormHistory files form h
+    → IsPromised o files form code → IsDue h.end code o.answers_before o.answers_now
+due files form h o code right p =
+    let one = forms files form in
+    let all = run_due {L = List Answer} {S = List ℕ × ℕ} (λ a. a) (λ s. s.0) (λ s. s.1) (λ x. IsFormHistory files form x) (style_of form) (tells_end form)
+    o.answers_before o.answers_now (o.taken_before, o.writes_before) (o.taken_now, o.writes_now) code one (runs_as o files form code p) in
+    subst (λ (x : History). IsDue x.end code o.answers_before o.answers_now) (sym (one.only h right)) all

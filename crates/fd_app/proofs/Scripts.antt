@@ -1,5 +1,5 @@
 -- A script's history: the blocks of all its settles hold, from its first Solve to behind its last.
-use Rattle.std.proofs.Common.{◌≡◌, ◌∙◌, ℕ, ◌+◌, ◌<◌, ◌^◌, List, [], ◌∷◌, length, map, Option, Some, None, Result, Ok, Err, refl, sym, ap, subst, arith, zero-add, inr}
+use Rattle.std.proofs.Common.{◌≡◌, ◌∙◌, ℕ, ◌+◌, ◌<◌, ◌^◌, List, [], ◌∷◌, length, map, Option, Some, None, Result, Ok, Err, refl, sym, ap, subst, arith, zero-add}
 use Rattle.std.specs.List.{AllByRecursion}
 use Rattle.std.proofs.lemmas.List.Elements.{recursion_from_All}
 use Rattle.dss_model.specs.declared.command.Blame.{Blame}
@@ -8,7 +8,7 @@ use Rattle.dss_circuit.specs.Circuit.{CircuitView}
 use Rattle.dss_layout.specs.Layout.{layout_of, size_of}
 use Rattle.dss_ready.specs.Passed.{PassedLaw}
 use Rattle.dss_ready.specs.Ready.{HasPassed}
-use Rattle.dss_script.specs.Said.{Part, Said, name, command, ScriptEnd, at_its_end, refused_at, ended_by}
+use Rattle.dss_script.specs.Said.{Part, Said, said_of, name, command, ScriptEnd, at_its_end, refused_at, ended_by}
 use Rattle.fd_outside.specs.Files.{Files, held}
 use Rattle.dss_model.specs.Names.{bytes}
 use Rattle.fd_bases.specs.declared.bus_base.BusBase.{BusBase}
@@ -18,7 +18,8 @@ use Rattle.fd_daily.specs.Hours.{hours_of}
 use Rattle.fd_checking.specs.Underway.{no_positions}
 use Rattle.fd_queue.specs.Controls.{Positions}
 use Rattle.fd_cert.specs.declared.rule.Rule.TheVariants.{Count}
-use Rattle.fd_certfile.specs.Blocks.{Block, Whole}
+use Rattle.fd_certfile.specs.Blocks.{Block}
+use Rattle.fd_certfile.specs.declared.version.Version.TheVariants.{Sparse}
 use Rattle.fd_certfile.specs.Certificates.{Certificate, ends, trails, refuses, gives, IsWhole, blocks_of, certificate_bytes, certificate_lines, lines_count, version_in}
 use Rattle.fd_certfile.specs.Laws.{CertificateLaw}
 use Rattle.fd_certfile.specs.Lines.{Line}
@@ -35,15 +36,16 @@ use Rattle.fd_outcome.specs.Work.{AfterStep, Step, goes}
 use Rattle.fd_pages.specs.Bases.{base_events}
 use Rattle.fd_solving.specs.Commands.{Applied, nothing_left, solve_left, bases_left, IsByTests, IsStep, IsStepOf, IsTested, tried}
 use Rattle.fd_solving.specs.Commands as commands
-use Rattle.fd_solving.specs.Headline.{IsSolved}
-use Rattle.fd_solving.specs.Scripts.{IsDoneThere, IsScriptHistory, first_standing, no_name}
+use Rattle.fd_solving.specs.Headline.{HasModestNumbers, IsSolved}
+use Rattle.fd_solving.specs.SolvedLaw.{SolvedLaw}
+use Rattle.fd_solving.specs.Scripts.{IsDoneThere, first_standing, no_name}
 use Rattle.fd_solving.specs.Solving.{IsSolutionStep, kept_first}
 use Rattle.fd_solving.specs.Steps.{StandingView, standing}
-use Rattle.fd_app.specs.Accepted.{AreAccepted, CertLaw}
-use Rattle.fd_app.specs.Printed.{all_rounds, bytes_by}
+use Rattle.fd_app.specs.Accepted.{CertLaw}
+use Rattle.fd_app.specs.Printed.{all_rounds}
 use Rattle.fd_app.specs.Solves.{behind_command, solves_from, solves_of}
 use Rattle.fd_app.proofs.Settles.{before}
-use Rattle.fd_app.proofs.Solves.{CanBeWritten, HoursHold, IsFit, IsPrinted, before_both, both_printed, hours_step, none_printed}
+use Rattle.fd_app.proofs.Solves.{HoursHold, IsFit, IsPrinted, before_both, both_printed, hours_step, none_printed}
 use Rattle.fd_app.proofs.Texts.{all_blocks, blocks_in, bytes_are}
 
 -- ---- a command
@@ -170,14 +172,14 @@ is_whole : (bs : List Block) → AllByRecursion IsFit bs → IsWhole (before bs 
 is_whole [] h = tt
 is_whole (b ∷ bs) h = (h.0.0, h.0.1, is_whole bs h.1)
 
--- each solved settle can
-pub can_be_written : (events : List Event) → AllByRecursion (IfSettle IsSolved) events
-    → AllByRecursion (IfSettle CanBeWritten) events
-can_be_written [] h = tt
-can_be_written (settle s ∷ events) h = (inr h.0.numbers, can_be_written events h.1)
-can_be_written (asked n ∷ events) h = (tt, can_be_written events h.1)
-can_be_written (row fields ∷ events) h = (tt, can_be_written events h.1)
-can_be_written (event.line t ∷ events) h = (tt, can_be_written events h.1)
+-- the numbers of solved settles
+have_numbers : (events : List Event) → AllByRecursion (IfSettle IsSolved) events
+    → AllByRecursion (IfSettle HasModestNumbers) events
+have_numbers [] h = tt
+have_numbers (settle s ∷ events) h = (h.0.numbers, have_numbers events h.1)
+have_numbers (asked n ∷ events) h = (tt, have_numbers events h.1)
+have_numbers (row fields ∷ events) h = (tt, have_numbers events h.1)
+have_numbers (event.line t ∷ events) h = (tt, have_numbers events h.1)
 
 module _ (rules : RuleLaw) where
   accepts : (c : Certificate) (s : Checking) (line count : ℕ) → AllHold due after c s
@@ -195,11 +197,11 @@ module _ (rules : RuleLaw) where
   -- bytes of blocks that hold are accepted
   bytes_accepted : CertificateLaw → (bs : List Block) (s : Checking) → AllByRecursion IsFit bs
       → AllHold due after (before bs ends) s
-      → IsAnswer due after (Some (certificate_bytes Whole bs)) s (accepted (length bs))
+      → IsAnswer due after (Some (certificate_bytes Sparse bs)) s (accepted (length bs))
   bytes_accepted law bs s fit h =
       let c : Certificate = before bs ends in
-      let again = law.again Whole c (is_whole bs fit) in
-      let there : IsAnswerBy due after (version_in (certificate_lines Whole (blocks_of c))) (certificate_lines Whole (blocks_of c)) s
+      let again = law.again Sparse c (is_whole bs fit) in
+      let there : IsAnswerBy due after (version_in (certificate_lines Sparse (blocks_of c))) (certificate_lines Sparse (blocks_of c)) s
       (accepted (length (blocks_of c))) =
       record {
         certificate = c;
@@ -207,23 +209,17 @@ module _ (rules : RuleLaw) where
         answer_is = sym
             (accepts c s 2 0 h ∙ ap accepted (zero-add (length (blocks_of c))));
       } in
-      let read : IsAnswer due after (Some (certificate_bytes Whole (blocks_of c))) s (accepted (length (blocks_of c))) =
+      let read : IsAnswer due after (Some (certificate_bytes Sparse (blocks_of c))) s (accepted (length (blocks_of c))) =
       subst (λ (ls : List Line). IsAnswerBy due after (version_in ls) ls s (accepted (length (blocks_of c)))) (sym again.0) there in
-      subst (λ (q : List Block). IsAnswer due after (Some (certificate_bytes Whole q)) s (accepted (length q))) (whole_blocks bs) read
+      subst (λ (q : List Block). IsAnswer due after (Some (certificate_bytes Sparse q)) s (accepted (length q))) (whole_blocks bs) read
 
-  -- where its settles can be written
-  pub written_accepted : PassedLaw → CertificateLaw → (files : Files) (p : Part) (h : History)
-      → IsScriptHistory files p h → h.end ≡ None
-      → AllByRecursion (IfSettle CanBeWritten) h.events
-      → AreAccepted (bytes_by certificate h) (solves_of p) (length (all_rounds h.events))
-  written_accepted passed law files p h is none written =
+  pub cert_is_accepted : PassedLaw → CertificateLaw → SolvedLaw → CertLaw
+  cert_is_accepted passed law solved files file h is none =
+      let p : Part = said_of files file in
       let s : Checking = open_solves (solves_of p) no_positions 0 in
+      let numbers = have_numbers h.events (recursion_from_All (IfSettle IsSolved) h.events (solved files file h is)) in
       let holds : ScriptHolds passed p.said first_standing h = script_holds passed files p.said (ended_by p.left) first_standing h is none in
-      let read : IsAnswer due after (Some (certificate_bytes Whole (blocks_in h.events))) s (accepted (length (blocks_in h.events))) =
-      bytes_accepted law (blocks_in h.events) s (holds.printed.fit written) holds.hold in
-      let counted = subst (λ (n : ℕ). IsAnswer due after (Some (certificate_bytes Whole (blocks_in h.events))) s (accepted n)) holds.printed.counted read in
+      let read : IsAnswer due after (Some (certificate_bytes Sparse (blocks_in h.events))) s (accepted (length (blocks_in h.events))) =
+      bytes_accepted law (blocks_in h.events) s (holds.printed.fit numbers) holds.hold in
+      let counted = subst (λ (n : ℕ). IsAnswer due after (Some (certificate_bytes Sparse (blocks_in h.events))) s (accepted n)) holds.printed.counted read in
       subst (λ (bs : List ℕ). IsAnswer due after (Some bs) s (accepted (length (all_rounds h.events)))) (sym (bytes_are h none holds.printed.no_lines)) counted
-
-  pub cert_is_accepted : PassedLaw → CertificateLaw → CertLaw
-  cert_is_accepted passed law files p h is none solved =
-      written_accepted passed law files p h is none (can_be_written h.events (recursion_from_All (IfSettle IsSolved) h.events solved))

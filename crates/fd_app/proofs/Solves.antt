@@ -1,5 +1,5 @@
 -- The hours of a Solve: the blocks of their settles hold, and lead to what comes behind the Solve.
-use Rattle.std.proofs.Common.{◌≡◌, ◌∙◌, ℕ, suc, ◌+◌, ◌<◌, ◌^◌, List, [], ◌∷◌, ◌++◌, length, refl, sym, ap, subst, arith, ◌⊎◌, inl, inr}
+use Rattle.std.proofs.Common.{◌≡◌, ◌∙◌, ℕ, suc, ◌+◌, ◌<◌, ◌^◌, List, [], ◌∷◌, ◌++◌, length, refl, sym, ap, subst, arith}
 use Rattle.std.specs.List.{AllByRecursion}
 use Rattle.std.proofs.lemmas.List.{append_assoc, append-nil, length-append}
 use Rattle.dss_circuit.specs.Circuit.{CircuitView}
@@ -58,14 +58,10 @@ IsFit b = IsSized b × IsWritable b
 abbrev pub count_rounds : List Event → ℕ
 count_rounds events = length (all_rounds events)
 
--- a settle whose blocks can be written: it has none, or its numbers are modest
-abbrev pub CanBeWritten : Settle → Type 0
-CanBeWritten s = (blocks_of s ≡ []) ⊎ HasModestNumbers s
-
 -- events that are printed as blocks alone, one for each round
 pub record IsPrinted (events : List Event) : Type 0 where
   pub no_lines : AllByRecursion IsNoLine events
-  pub fit : AllByRecursion (IfSettle CanBeWritten) events → AllByRecursion IsFit (blocks_in events)
+  pub fit : AllByRecursion (IfSettle HasModestNumbers) events → AllByRecursion IsFit (blocks_in events)
   pub counted : length (blocks_in events) ≡ count_rounds events
 
 pub none_printed : IsPrinted []
@@ -82,7 +78,7 @@ pub both_printed : (a b : List Event) → IsPrinted a → IsPrinted b → IsPrin
 both_printed a b p q = record {
   no_lines = both_all IsNoLine a b p.no_lines q.no_lines;
   fit = λ h. subst (AllByRecursion IsFit) (sym (all_blocks a b)) (both_all IsFit (blocks_in a) (blocks_in b)
-      (p.fit (left_all (IfSettle CanBeWritten) a b h)) (q.fit (right_all (IfSettle CanBeWritten) a b h)));
+      (p.fit (left_all (IfSettle HasModestNumbers) a b h)) (q.fit (right_all (IfSettle HasModestNumbers) a b h)));
   counted = ap length (all_blocks a b) ∙ length-append (blocks_in a) (blocks_in b) ∙ added p.counted q.counted ∙ sym (count_both a b);
 }
   where
@@ -93,7 +89,7 @@ both_printed a b p q = record {
 
 module _ (c : CircuitView) where
   -- a settle that ended well was computed to its end
-  ended_well : (hour : ℕ) (ending : Ending) (n : Machine) (end : SettleEnd) → IsEndBy c hour ending n end
+  pub ended_well : (hour : ℕ) (ending : Ending) (n : Machine) (end : SettleEnd) → IsEndBy c hour ending n end
       → end ≡ settled → ending ≡ ended Settled
   ended_well hour (ended Open) n end h e = absurd h
   ended_well hour (ended Settled) n end h e = refl
@@ -130,12 +126,10 @@ module _ (c : CircuitView) where
       many_rounds [] = refl
       many_rounds (r ∷ rs) = ap suc (many_rounds rs)
 
-      one_fit : CanBeWritten x → AllByRecursion IsFit (blocks_of x)
-      one_fit h = elim h [
-        | inl none ↦ subst (AllByRecursion IsFit) (sym none) tt
-        | inr modest ↦ rounds_fit x hours more (limits_of c.options) n (ended Settled) (omega (arith, modest.number)) (omega (arith, modest.hour)) size rounds 0
-            (hour_begun c hour l) computed (omega (arith, modest.few, many_rounds rounds)) modest.acts
-      ]
+      one_fit : HasModestNumbers x → AllByRecursion IsFit (blocks_of x)
+      one_fit modest =
+          rounds_fit x hours more (limits_of c.options) n (ended Settled) (omega (arith, modest.number)) (omega (arith, modest.hour)) size rounds 0
+          (hour_begun c hour l) computed (omega (arith, modest.few, many_rounds rounds)) modest.acts
 
       hour_printed : IsPrinted (settle x ∷ events)
       hour_printed = both_printed (settle x ∷ []) events (record {

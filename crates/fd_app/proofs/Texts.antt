@@ -2,7 +2,8 @@
 use Rattle.std.proofs.Common.{◌≡◌, ◌∙◌, ℕ, pos, List, [], ◌∷◌, ◌++◌, map, Option, None, refl, sym, ap}
 use Rattle.std.specs.List.{AllByRecursion, concat, flat_map}
 use Rattle.std.proofs.lemmas.List.{append_assoc}
-use Rattle.fd_certfile.specs.Blocks.{Block, Whole, block_lines}
+use Rattle.fd_certfile.specs.Blocks.{Block, block_lines}
+use Rattle.fd_certfile.specs.declared.version.Version.TheVariants.{Sparse}
 use Rattle.fd_certfile.specs.Certificates.{certificate_bytes, lines_behind}
 use Rattle.fd_certfile.specs.Lines.{Line, bytes_of, header, line_bytes}
 use Rattle.fd_certfile.specs.Lines as text
@@ -71,20 +72,20 @@ lines_written [] rest = refl
 lines_written (l ∷ ls) rest = ap (λ (bs : List ℕ). line_bytes l ++ bs) (lines_written ls rest) ∙ sym (append_assoc (line_bytes l) (bytes_of ls) (concat rest))
 
 blocks_written : (bs : List Block) (rest : List (List ℕ)) (later : List Block)
-    → concat rest ≡ bytes_of (lines_behind Whole later)
-    → concat (blocks_texts bs ++ rest) ≡ bytes_of (lines_behind Whole (bs ++ later))
+    → concat rest ≡ bytes_of (lines_behind Sparse later)
+    → concat (blocks_texts bs ++ rest) ≡ bytes_of (lines_behind Sparse (bs ++ later))
 blocks_written [] rest later h = h
 blocks_written (b ∷ bs) rest later h =
     ap concat (append_assoc (block_texts b) (blocks_texts bs) rest)
-    ∙ lines_written (block_lines Whole b) (blocks_texts bs ++ rest)
-    ∙ ap (λ (t : List ℕ). bytes_of (block_lines Whole b) ++ t) (blocks_written bs rest later h)
-    ∙ sym (lines_together (block_lines Whole b) (lines_behind Whole (bs ++ later)))
+    ∙ lines_written (block_lines Sparse b) (blocks_texts bs ++ rest)
+    ∙ ap (λ (t : List ℕ). bytes_of (block_lines Sparse b) ++ t) (blocks_written bs rest later h)
+    ∙ sym (lines_together (block_lines Sparse b) (lines_behind Sparse (bs ++ later)))
 
 abbrev pub last_text : List ℕ
 last_text = line_bytes text.end
 
 events_written : (events : List Event) → AllByRecursion IsNoLine events
-    → concat (flat_map certificate_texts events ++ last_text ∷ []) ≡ bytes_of (lines_behind Whole (blocks_in events))
+    → concat (flat_map certificate_texts events ++ last_text ∷ []) ≡ bytes_of (lines_behind Sparse (blocks_in events))
 events_written [] h = refl
 events_written (settle s ∷ events) h =
     ap concat (append_assoc (blocks_texts (blocks_of s)) (flat_map certificate_texts events) (last_text ∷ []))
@@ -94,9 +95,9 @@ events_written (row fields ∷ events) h = events_written events h.1
 events_written (line t ∷ events) h = absurd h.0
 
 by_end : (events : List Event) (end : Option _) → end ≡ None → AllByRecursion IsNoLine events
-    → concat (texts_written (calls_of certificate events end)) ≡ certificate_bytes Whole (blocks_in events)
+    → concat (texts_written (calls_of certificate events end)) ≡ certificate_bytes Sparse (blocks_in events)
 by_end events end e h =
-    let first : List ℕ = line_bytes (header (pos 1)) in
+    let first : List ℕ = line_bytes (header (pos 2)) in
     ap (λ (o : Option _). concat (texts_written (calls_of certificate events o))) e
     ∙ ap concat (opened_texts (first ∷ []) (body certificate events) last_text
     ∙ ap (λ (ts : List (List ℕ)). first ∷ ts) (body_texts events (writes last_text ∷ [])))
@@ -104,5 +105,5 @@ by_end events end e h =
 
 -- a history without a fault is printed as the bytes of a certificate of its blocks
 pub bytes_are : (h : History) → h.end ≡ None → AllByRecursion IsNoLine h.events
-    → bytes_by certificate h ≡ certificate_bytes Whole (blocks_in h.events)
+    → bytes_by certificate h ≡ certificate_bytes Sparse (blocks_in h.events)
 bytes_are h e none = by_end h.events h.end e none

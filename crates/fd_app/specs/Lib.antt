@@ -2,4 +2,8 @@ pub mod Run
 pub mod Solves
 pub mod Printed
 pub mod Accepted
+pub mod Steady
 pub mod Meaning
+pub mod Rounds
+pub mod Promise
+pub mod Written

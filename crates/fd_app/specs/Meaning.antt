@@ -8,10 +8,8 @@ use Rattle.fd_outside.specs.Files.{Files, held}
 use Rattle.fd_exact.specs.States.{State}
 use Rattle.fd_system.specs.Residual.{whole_state}
 use Rattle.fd_enclosure.specs.Sound.{Claim}
-use Rattle.fd_settle.specs.Plant.{controls_in, setup_of}
-use Rattle.fd_settle.specs.Sampling.{look_at}
-use Rattle.fd_settle.specs.Settle.{Outcome, outcome_of}
-use Rattle.fd_certfile.specs.Blocks.{Block, Version}
+use Rattle.fd_certfile.specs.Blocks.{Block}
+use Rattle.fd_certfile.specs.declared.version.Version.{Version}
 use Rattle.fd_certfile.specs.Certificates.{Certificate, ends, trails, refuses, gives, Reads, behind_first, version_in}
 use Rattle.fd_certfile.specs.Judging.{claim_on}
 use Rattle.fd_certfile.specs.Lines.{lines_of}
@@ -19,25 +17,17 @@ use Rattle.fd_certfile.specs.Rules.{moves}
 use Rattle.fd_checking.specs.Checking.{Checking, Settling, behind_round, done, open_solves, sampled_by, under_way}
 use Rattle.fd_checking.specs.Underway.{no_positions}
 use Rattle.fd_outcome.specs.Events.{History}
-use Rattle.fd_solving.specs.Headline.{EnclosesOthers, EnclosesSizes, IsOtherState, hour_network}
+use Rattle.fd_solving.specs.Headline.{EnclosesOthers, EnclosesSizes, hour_network}
 use Rattle.fd_words.specs.Words.{Check}
 use Rattle.fd_app.specs.Run.{IsFormHistory}
 use Rattle.fd_app.specs.Solves.{solves_of}
+use Rattle.fd_app.specs.Steady.{Solves, outcome_at}
 
 -- ---- a round
 
 -- what a block claims of a round: its state, with the trust box around it, its radii and its mismatches
 abbrev pub claim_at : Settling → Block → Claim
 claim_at s b = claim_on (hour_network s.circuit s.hour s.machine.at) b
-
--- A state of any denominator that solves the round as closely as the block's: it lies in the trust box of the block's
--- state and meets the block's mismatches in every equation of the round's circuit.
-abbrev pub Solves : Settling → Block → State → Type 0
-Solves s b x = IsOtherState s.circuit s.hour s.machine.at (claim_at s b) x
-
--- what the round comes to where each control wants what it does at this state
-abbrev pub outcome_at : Settling → State → Outcome
-outcome_at s x = outcome_of (setup_of s.circuit) s.machine (look_at (controls_in s.circuit) s.machine.at x)
 
 -- A block has the numbers of its round and no mismatch above 1,000. Its own state solves the round; each state that does
 -- is within the radii, with the sizes of its voltages and currents from low to high; and the acts are those of the
@@ -47,10 +37,10 @@ pub record IsCertified (s : Settling) (b : Block) : Type 0 where
   pub hour : b.hour ≡ pos s.hour
   pub round : b.round ≡ pos s.round
   pub mismatches : All (λ e. e ≤ 1000) (claim_at s b).mismatches
-  pub solves : Solves s b (whole_state (claim_at s b).centre)
+  pub solves : Solves s (claim_at s b) (whole_state (claim_at s b).centre)
   pub encloses : EnclosesOthers s.circuit s.hour s.machine.at (claim_at s b)
   pub sizes : EnclosesSizes s.circuit s.hour s.machine.at (claim_at s b)
-  pub acts : (x : State) → Solves s b x → sampled_by (outcome_at s x) ≡ moves b.acts
+  pub acts : (x : State) → Solves s (claim_at s b) x → sampled_by (outcome_at s x) ≡ moves b.acts
 
 -- ---- all rounds
 
@@ -59,7 +49,7 @@ pub record IsCertified (s : Settling) (b : Block) : Type 0 where
 abbrev pub AreCertified : Certificate → Checking → Type 0
 AreCertified (gives b more) done = ⊥
 AreCertified (gives b more) (under_way s) =
-    IsCertified s b × ((x : State) → Solves s b x → AreCertified more (behind_round s (outcome_at s x)))
+    IsCertified s b × ((x : State) → Solves s (claim_at s b) x → AreCertified more (behind_round s (outcome_at s x)))
 AreCertified ends s = s ≡ done
 AreCertified trails s = ⊥
 AreCertified (refuses count) s = ⊥

@@ -1,18 +1,18 @@
 -- The history of a command line over files, and what a run does of it.
-use Rattle.std.specs.Prelude.{◌≡◌, ℕ, List, [], Option, Some, None}
+use Rattle.std.specs.Prelude.{◌≡◌, ℕ, Bool, true, false, List, [], Option, Some, None}
 use Rattle.std.specs.Str.{chars}
-use Rattle.fd_outside.specs.Answers.{AgreesSince, Answer, IsLater}
+use Rattle.fd_outside.specs.Answers.{AgreesSince, Answer}
 use Rattle.fd_outside.specs.Files.{Files}
 use Rattle.dss_script.specs.Said.{said_of}
-use Rattle.fd_words.specs.Words.{Form, Solve, Cert, Check, Gen, Bench}
+use Rattle.fd_words.specs.Words.{Form, Solve, Cert, Check, Gen, Bench, Upgrade}
 use Rattle.fd_report.specs.declared.faults.Fault.TheVariants as fault
 use Rattle.fd_outcome.specs.Calls.{Style, certificate, report}
 use Rattle.fd_outcome.specs.Events.{History, ended}
 use Rattle.fd_outcome.specs.Runs.{Runs}
 use Rattle.fd_outcome.specs.Work.{ExactlyOne}
-use Rattle.fd_solving.specs.Headline.{IsSolved}
 use Rattle.fd_solving.specs.Scripts.{IsScriptHistory}
 use Rattle.fd_checking.specs.Checks.{IsCheckHistory}
+use Rattle.fd_upgrade.specs.Upgrading.{IsUpgradeHistory}
 use Rattle.fd_bench.specs.Bench.{IsBenchHistory, lines_alone, script_written}
 
 -- the files agree with what was answered in a call, where its form asks for a name
@@ -23,6 +23,7 @@ AgreesIn (Some (Cert file)) before now files = AgreesSince files before now
 AgreesIn (Some (Check script name)) before now files = AgreesSince files before now
 AgreesIn (Some (Gen number sections)) before now files = Unit {0}
 AgreesIn (Some (Bench number sections)) before now files = Unit {0}
+AgreesIn (Some (Upgrade name)) before now files = AgreesSince files before now
 
 abbrev pub style_of : Option Form → Style
 style_of None = report
@@ -31,6 +32,13 @@ style_of (Some (Cert file)) = certificate
 style_of (Some (Check script name)) = report
 style_of (Some (Gen number sections)) = report
 style_of (Some (Bench number sections)) = lines_alone
+style_of (Some (Upgrade name)) = report
+
+-- whether a text tells an end without a fault; `solve` may still run out of memory as it looks for a command behind the
+-- last one
+abbrev pub tells_end : Option Form → Bool
+tells_end (Some (Solve file)) = false
+tells_end other = true
 
 -- the history of a command line; words that are no form are a fault
 abbrev pub IsFormHistory : Files → Option Form → History → Type 0
@@ -40,6 +48,7 @@ IsFormHistory files (Some (Cert file)) h = IsScriptHistory files (said_of files 
 IsFormHistory files (Some (Check script name)) h = IsCheckHistory files (said_of files (chars script)) (chars name) h
 IsFormHistory files (Some (Gen number sections)) h = h ≡ script_written number sections
 IsFormHistory files (Some (Bench number sections)) h = IsBenchHistory number sections h
+IsFormHistory files (Some (Upgrade name)) h = IsUpgradeHistory files (chars name) h
 
 -- there is exactly one
 abbrev pub FormsLaw : Type 0
@@ -51,17 +60,10 @@ module _ {L S : Type 0} (answers : L → List Answer) (taken : S → List ℕ) (
   -- the one history of the form over these files is done, whole or cut short
   abbrev pub RunsOver : Files → Option Form → L → L → S → S → ℕ → Type 0
   RunsOver files form lib_old lib_new old new code =
-      Runs answers taken calls lib_old lib_new old new (λ h. IsFormHistory files form h) (style_of form) IsSolved code
+      Runs answers taken calls lib_old lib_new old new (λ h. IsFormHistory files form h) (style_of form) (tells_end form) code
 
   -- so over all files that agree with what was answered in the call
   abbrev pub RunsForm : Option Form → L → L → S → S → ℕ → Type 0
   RunsForm form lib_old lib_new old new code =
       (files : Files) → AgreesIn form (answers lib_old) (answers lib_new) files
       → RunsOver files form lib_old lib_new old new code
-
--- a library that tells that it holds these files answers with them, so over them it is done
-abbrev pub ToldLaw : {L S : Type 0} → (L → List Answer) → (L → Option Files) → (S → List ℕ) → (S → ℕ) → Type 0
-ToldLaw {L} {S} answers holds taken calls =
-    (files : Files) (form : Option Form) (lib_old lib_new : L) (old new : S) (code : ℕ) → holds lib_old ≡ Some files
-    → IsLater answers holds lib_old lib_new → RunsForm answers taken calls form lib_old lib_new old new code
-    → RunsOver answers taken calls files form lib_old lib_new old new code

@@ -1,29 +1,32 @@
 // What `cert` writes is accepted.
-ghost use Rattle.fd_app.specs.Accepted.{CertLaw, RoundTripLaw, WrittenLaw};
+ghost use Rattle.fd_app.specs.Accepted.{CertLaw};
+ghost use Rattle.fd_app.specs.Written.{RoundTripLaw, WrittenLaw};
 
 use crate::top::forms_law;
 use dss_ready::passed_law;
 use fd_certfile::{certificate_law, rule_law};
 use fd_outcome::{read_law, status_law};
-use fd_outside::{Library, Sink};
+use fd_solving::solved_law;
 
-/// A law: where the history of a script's commands ends without a fault and each of its settles is solved, the bytes that
-/// it is printed as in a certificate are accepted for the Solves of that script, with a block for each round. Does nothing.
+/// A law: where the history of a script's commands ends without a fault, the bytes that it is printed as in a certificate
+/// are accepted for the Solves of that script, with a block for each round. Does nothing.
 #[tactic(auto, using(crate::proofs::Scripts::cert_is_accepted))]
 pub fn cert_law()
     ensures { CertLaw }
 {
     rule_law();
     certificate_law();
+    solved_law();
     passed_law();
 }
 
 /// A law: where a run of `cert` answers 0, what it wrote is accepted for the Solves of its script. Does nothing.
-pub fn written_law<L: Library, S: Sink>()
-    ensures { WrittenLaw L.answers S.taken S.calls }
+pub fn written_law()
+    ensures { WrittenLaw }
 {
     rule_law();
     certificate_law();
+    solved_law();
     passed_law();
     forms_law();
     status_law();
@@ -32,11 +35,12 @@ pub fn written_law<L: Library, S: Sink>()
 
 /// A law: where a run of `cert` answers 0, `check` of the same script accepts what it wrote, with a block for each round.
 /// Does nothing.
-pub fn round_trip_law<L: Library, S: Sink>()
-    ensures { RoundTripLaw L.answers S.taken S.calls }
+pub fn round_trip_law()
+    ensures { RoundTripLaw }
 {
     rule_law();
     certificate_law();
+    solved_law();
     passed_law();
     forms_law();
     status_law();

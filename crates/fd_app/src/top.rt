@@ -6,17 +6,52 @@ ghost use Rattle.fd_outside.specs.Files.{Files};
 ghost use Rattle.fd_outcome.specs.Events.{History};
 ghost use Rattle.fd_outcome.specs.Laws.{IsDue};
 ghost use Rattle.fd_outcome.specs.Untold.{Answers, EndsAtRead};
-ghost use Rattle.fd_app.specs.Run.{FormsLaw, IsFormHistory, RunsForm, RunsOver, ToldLaw};
+ghost use Rattle.fd_app.specs.Promise.{IsPromised, Outside, Promised, ToldLaw};
+ghost use Rattle.fd_app.specs.Run.{FormsLaw, IsFormHistory, RunsForm};
 ghost use Rattle.fd_words.specs.Words.{form_of};
 
+use crate::meaning::accepted_law;
+use dss_ready::passed_law;
 use fd_bench::{bench, write_script};
+use fd_certfile::{certificate_law, rule_law};
 use fd_checking::check;
 use fd_outside::{Library, Sink};
 use fd_pages::{Certificate, Report};
 use fd_report::Fault;
-use fd_solving::{WANT_OF_MEMORY, print_fault, solve};
+use fd_solving::{WANT_OF_MEMORY, print_fault, solve, solved_law};
+use fd_upgrade::upgrade;
 use fd_words::{Form, form_of};
 use std::alloc::Global;
+
+// Does what the words say, without the laws of what it comes to.
+fn perform<L: Library, S: Sink>(alloc: Global, words: &[String], lib: &mut L, out: &mut S) -> u8
+    ensures run { RunsForm L.answers S.taken S.calls (form_of (map string_bytes words.now))
+        lib.old lib.new out.old out.new result }
+    ensures later { IsLater L.answers L.holds lib.old lib.new }
+    ensures statuses { Answers S.taken S.calls out.old out.new result }
+    ensures usage { result ≡ 2 → form_of (map string_bytes words.now) ≡ None }
+    ensures last { result ≡ 4 → EndsAtRead L.answers lib.old lib.new S.taken S.calls out.old out.new }
+    ensures write { result ≡ 5 → Rose (S.faults out.old) (S.faults out.new) }
+{
+    let Ok(form) = form_of(alloc, words) else {
+        return WANT_OF_MEMORY;
+    };
+    match form {
+        None => print_fault(alloc, &Fault::Usage, out),
+        Some(Form::Solve(file)) => solve::<Report, L, S>(alloc, file, lib, out),
+        Some(Form::Cert(file)) => solve::<Certificate, L, S>(alloc, file, lib, out),
+        Some(Form::Check(script, certificate)) => check::<L, S>(
+            alloc,
+            script,
+            certificate,
+            lib,
+            out,
+        ),
+        Some(Form::Gen { number, sections }) => write_script(alloc, number, sections, out),
+        Some(Form::Bench { number, sections }) => bench(alloc, number, sections, out),
+        Some(Form::Upgrade(certificate)) => upgrade(alloc, certificate, lib, out),
+    }
+}
 
 /// Does what the words say, and answers the exit status:
 ///
@@ -42,19 +77,17 @@ use std::alloc::Global;
 /// and prints each round as a block of a certificate. `check SCRIPT CERTIFICATE` solves nothing: it gathers the commands of
 /// the script, asks for the certificate behind the last one, and prints whether it is accepted. `gen NUMBER SECTIONS`
 /// prints the script of a feeder from a number, and `bench NUMBER SECTIONS` solves that script, of which it prints one
-/// record. Each record is handed to
+/// record. `upgrade CERTIFICATE` prints a certificate of either version in the second, line for line, and judges no more
+/// than its grammar. Each record is handed to
 /// the sink by one write. A refusal is printed with its file, its line and its cause, a failed read with the file's
 /// name, a fault of the procedure with the first unknown that it is found at, a mismatch with its row, a state without
 /// a certificate with the unknown whose bound reaches one, an undecided sample with its control, and a refused certificate
 /// with its line and the rule that it breaks.
 pub fn run<L: Library, S: Sink>(alloc: Global, words: &[String], lib: &mut L, out: &mut S) -> u8
-    // Over all files that agree with what the library answered in this call the one history of the words is done: all
-    // its calls, reads and writes, in order, and its end's status; or a front of whole calls, and 1; or a front and
-    // less than all of the next text, and 5; where a read fails, the calls up to it and its fault's record. Each settle
-    // that the run came to is solved: each state is the one that the procedure reaches, meets its circuit's equations
-    // within the printed mismatches, which are at most 1,000, and each state in its trust box that meets them too is
-    // within the printed radii. And its acts are those of the queue machine over any such states, one for each round.
-    ensures run { RunsForm L.answers S.taken S.calls (form_of (map string_bytes words.now))
+    // Over all files that agree with what the library answered in this call: the words have one history; its calls are
+    // made, reads and writes in order, all of them with its end's status, or a front where memory runs out, a write
+    // fails or a read does; and what is printed of it is true, each state, each interval and each act.
+    ensures promise { Promised L.answers S.taken S.calls (form_of (map string_bytes words.now))
         lib.old lib.new out.old out.new result }
 
     // Answers are only added, and those of a library that tells what it holds agree with that.
@@ -69,23 +102,12 @@ pub fn run<L: Library, S: Sink>(alloc: Global, words: &[String], lib: &mut L, ou
     ensures last { result ≡ 4 → EndsAtRead L.answers lib.old lib.new S.taken S.calls out.old out.new }
     ensures write { result ≡ 5 → Rose (S.faults out.old) (S.faults out.new) }
 {
-    let Ok(form) = form_of(alloc, words) else {
-        return WANT_OF_MEMORY;
-    };
-    match form {
-        None => print_fault(alloc, &Fault::Usage, out),
-        Some(Form::Solve(file)) => solve::<Report, L, S>(alloc, file, lib, out),
-        Some(Form::Cert(file)) => solve::<Certificate, L, S>(alloc, file, lib, out),
-        Some(Form::Check(script, certificate)) => check::<L, S>(
-            alloc,
-            script,
-            certificate,
-            lib,
-            out,
-        ),
-        Some(Form::Gen { number, sections }) => write_script(alloc, number, sections, out),
-        Some(Form::Bench { number, sections }) => bench(alloc, number, sections, out),
-    }
+    solved_law();
+    passed_law();
+    rule_law();
+    certificate_law();
+    accepted_law();
+    perform(alloc, words, lib, out)
 }
 
 /// A law: words have exactly one history over these files. Does nothing.
@@ -100,9 +122,8 @@ pub fn told_law<L: Library, S: Sink>()
 
 /// A law: the status of a run is that of the history's end, but for want of memory, a failed write or a failed read;
 /// and where none failed it is that status or want of memory. Does nothing.
-pub fn due_law<L: Library, S: Sink>()
-    ensures { (files : Files) (words : List (List ℕ)) (h : History) (lib_old lib_new : L) (old new : S) (code : ℕ) →
-        IsFormHistory files (form_of words) h →
-        RunsOver L.answers S.taken S.calls files (form_of words) lib_old lib_new old new code →
-        IsDue h.end code (L.answers lib_old) (L.answers lib_new) }
+pub fn due_law()
+    ensures { (files : Files) (words : List (List ℕ)) (h : History) (o : Outside) (code : ℕ) →
+        IsFormHistory files (form_of words) h → IsPromised o files (form_of words) code →
+        IsDue h.end code o.answers_before o.answers_now }
 {}

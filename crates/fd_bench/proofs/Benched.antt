@@ -3,8 +3,8 @@
 use Rattle.std.proofs.Common.{◌≡◌, ◌∙◌, ℕ, ◌+◌, Bool, true, false, List, [], ◌∷◌, ◌++◌, map, length, Option, Some, None, refl, sym, ap, subst, inl, inr}
 use Rattle.std.specs.List.{concat}
 use Rattle.std.specs.Str.{chars}
-use Rattle.std.proofs.lemmas.List.{append_assoc, append-nil}
-use Rattle.std.proofs.lemmas.List.Elements.{All-cons, All-nil}
+use Rattle.std.specs.Prelude.{◌||◌, is_some}
+use Rattle.std.proofs.lemmas.List.{append_assoc, append_cancel_left, append-nil}
 use Rattle.std.proofs.lemmas.List.Sums.{fold-append}
 use Rattle.fd_outside.specs.Answers.{Answer, HasFailed, absent, content, failed, names_asked}
 use Rattle.fd_outside.specs.Files.{held}
@@ -19,18 +19,17 @@ use Rattle.fd_report.specs.declared.faults.Fault.{Fault}
 use Rattle.fd_report.specs.declared.faults.Fault.TheVariants as fault
 use Rattle.fd_outcome.specs.Behind.{last_calls}
 use Rattle.fd_outcome.specs.Calls.{Call, Style, body, calls_in, calls_of, doing, fault_text, names_read, reads, so_far, texts_written, writes}
-use Rattle.fd_outcome.specs.Done.{IsDone, IsFrontOf, Made, Sees, failing, torn_bytes, torn_writes}
-use Rattle.fd_outcome.specs.Events.{Event, History, IfSettle, asked, before, ended, finishes, line, row, settle}
+use Rattle.fd_outcome.specs.Done.{IsCutShort, IsDone, IsFrontOf, Made, Sees, failing, torn_bytes, torn_writes}
+use Rattle.fd_outcome.specs.Events.{Event, History, asked, before, ended, finishes, line, row, settle}
 use Rattle.fd_outcome.specs.History.{IsHistory}
 use Rattle.fd_outcome.specs.Parts.{EndsAt, EndsSo, Finishes, GoesOn, Printed, Wrote, events_in}
 use Rattle.fd_outcome.specs.Runs.{Runs}
 use Rattle.fd_outcome.specs.Way.{whole}
 use Rattle.fd_outcome.specs.Work.{AfterStep, ExactlyOne, Step, ends, goes}
-use Rattle.fd_outcome.proofs.CallerLemmas.{wrote_nothing}
+use Rattle.fd_outcome.proofs.CallerLemmas.{IsToldBy, body-append, not_empty, wrote_nothing}
 use Rattle.fd_pages.specs.Lines.{lines_of_text}
 use Rattle.fd_solving.specs.Tallies.{no_rounds, tallied, tally_of, GoesOnTallied}
 use Rattle.fd_solving.specs.Commands.{IsStep}
-use Rattle.fd_solving.specs.Headline.{IsSolved}
 use Rattle.fd_solving.specs.Scripts.{IsDoneThere, first_standing, no_name}
 use Rattle.fd_solving.specs.Steps.{StandingView}
 use Rattle.fd_solving.specs.declared.tally.Tally.{Tally}
@@ -64,7 +63,7 @@ ends_so sections t style begun (ends events f) code m h = h
 module _ {S : Type 0} (taken : S → List ℕ) (calls : S → ℕ) (c : Command) (s : BenchView) where
   pub bench_goes : (now : StandingView) (t : Tally) (old new : S) (begun after : Bool)
       → GoesOnTallied lines_of_text (IsStep c s.standing) now taken calls old new begun after s.tally t
-      → GoesOn lines_of_text IsSolved (IsBenchStep c s) (bench_at s.sections t now) taken calls old new begun after
+      → GoesOn lines_of_text (IsBenchStep c s) (bench_at s.sections t now) taken calls old new begun after
   bench_goes now t old new begun after h = record {
     events = h.on.events;
     right = record {
@@ -73,14 +72,13 @@ module _ {S : Type 0} (taken : S → List ℕ) (calls : S → ℕ) (c : Command)
       step_is = ap (λ (u : Tally). (let step : Step BenchView = goes h.on.events (bench_at s.sections u now) in step))
           h.added;
     };
-    all_good = h.on.all_good;
     wrote = h.on.wrote;
     begun_is = h.on.begun_is;
   }
 
   pub bench_ends : (old new : S) (begun : Bool) (code : ℕ)
-      → EndsAt lines_of_text IsSolved (IsStep c s.standing) taken calls old new begun code
-      → EndsAt lines_of_text IsSolved (IsBenchStep c s) taken calls old new begun code
+      → EndsAt lines_of_text (IsStep c s.standing) taken calls old new begun code
+      → EndsAt lines_of_text (IsBenchStep c s) taken calls old new begun code
   bench_ends old new begun code h = record {
     step = with_tally s.sections s.tally h.step;
     right = record { solving = h.step; right = h.right; step_is = refl };
@@ -88,7 +86,6 @@ module _ {S : Type 0} (taken : S → List ℕ) (calls : S → ℕ) (c : Command)
     shown = h.shown;
     hidden = h.hidden;
     events_are = same_events s.sections s.tally h.step ∙ h.events_are;
-    all_good = h.all_good;
     done = elim h.done [ inl d ↦ inl (d.0, ends_so s.sections s.tally lines_of_text begun h.step code h.made d.1) | inr front ↦ inr front ];
     wrote = h.wrote;
   }
@@ -100,11 +97,22 @@ pub last_line : (begun : Bool) (text : List ℕ)
 last_line true text = refl
 last_line false text = refl
 
+-- the record tells the end
+pub bench_told : (sections : ℕ) (t : Tally) (h : History) → h ≡ finishes (line (tally_text sections t) ∷ [])
+    → body lines_of_text h.events ++ map writes lines_of_text.closing ≡ [] → ⊥
+bench_told sections t h is e =
+    let P : History → Type 0 = λ x. body lines_of_text x.events ++ [] ≡ [] → ⊥ in
+    subst P (sym is) (λ none. cc none) e
+
+pub no_last : (begun : Bool) (text : List ℕ) → last_calls lines_of_text begun (line text ∷ []) None ≡ [] → ⊥
+no_last true text e = cc e
+no_last false text e = cc e
+
 module _ {L S : Type 0} (answers : L → List Answer) (taken : S → List ℕ) (calls : S → ℕ) where
   pub bench_finishes : (lib : L) (old new : S) (begun : Bool) (text : List ℕ) (code : ℕ)
-      → Printed taken calls old new
+      → Printed taken calls old new true
       (record { calls = last_calls lines_of_text begun (line text ∷ []) None; end = None }) code
-      → Finishes lines_of_text IsSolved (λ h. h ≡ finishes (line text ∷ [])) answers taken calls lib lib old new begun code
+      → Finishes lines_of_text true (λ h. h ≡ finishes (line text ∷ [])) answers taken calls lib lib old new begun code
   bench_finishes lib old new begun text code p = record {
     history = finishes (line text ∷ []);
     right = refl;
@@ -112,7 +120,6 @@ module _ {L S : Type 0} (answers : L → List Answer) (taken : S → List ℕ) (
     cause = inl refl;
     made = p.made;
     done = p.done;
-    all_good = All-cons (IfSettle IsSolved) (line text) [] tt (All-nil (IfSettle IsSolved));
     sees = record {
       names = sym (ap (λ l. names_asked (answers lib) ++ l) p.wrote.names ∙ append-nil (names_asked (answers lib)));
       bytes = p.wrote.bytes_are;
@@ -273,14 +280,102 @@ front_kept all code m front = elim front [
   })
 ]
 
-done_kept : (h : History) (code : ℕ) (m : Made) → IsDone (doing lines_of_text h) code m
-    → IsDone (doing lines_alone h) code (kept_made m)
-done_kept h code m done =
-    let same = kept_calls h.events h.end in
+-- ---- the last call
+
+-- whether the last call is a write
+abbrev last_by : Call → List Call → Bool
+last_by (reads n) [] = false
+last_by (writes text) [] = true
+last_by c (d ∷ l) = last_by d l
+
+abbrev last_writes : List Call → Bool
+last_writes [] = false
+last_writes (c ∷ l) = last_by c l
+
+next_last : (c d : Call) (l : List Call) → last_by c (d ∷ l) ≡ last_by d l
+next_last (reads n) d l = refl
+next_last (writes text) d l = refl
+
+last_of : (a : List Call) (text : List ℕ) → last_writes (a ++ writes text ∷ []) ≡ true
+last_of [] text = refl
+last_of (c ∷ []) text = next_last c (writes text) []
+last_of (c ∷ d ∷ a) text = next_last c d (a ++ writes text ∷ []) ∙ last_of (d ∷ a) text
+
+last_behind : (a : List Call) (c : Call) (l : List Call) → last_writes (a ++ c ∷ l) ≡ last_writes (c ∷ l)
+last_behind [] c l = refl
+last_behind (x ∷ []) c l = next_last x c l
+last_behind (x ∷ y ∷ a) c l = next_last x y (a ++ c ∷ l) ∙ last_behind (y ∷ a) c l
+
+last_kept : (l : List Call) → last_writes l ≡ true → kept l ≡ [] → ⊥
+unfolding kept
+last_kept [] w e = cc w
+last_kept (reads n ∷ []) w e = cc w
+last_kept (writes text ∷ l) w e = cc e
+last_kept (reads n ∷ d ∷ l) w e = last_kept (d ∷ l) w e
+
+-- where the last call is a write, no front that isn't all has all texts
+front_less : (all made rest : List Call) → last_writes all ≡ true → all ≡ made ++ rest → (made ≡ all → ⊥) → kept made ≡ kept all → ⊥
+front_less all made [] w is less e = less (sym (is ∙ append-nil made))
+front_less all made (c ∷ l) w is less e =
+    let more : kept (c ∷ l) ≡ [] = append_cancel_left (kept made) (kept (c ∷ l)) []
+    (sym (kept-append made (c ∷ l)) ∙ ap kept (sym is) ∙ sym e ∙ sym (append-nil (kept made))) in
+    last_kept (c ∷ l) (sym (last_behind made c l) ∙ ap last_writes (sym is) ∙ w) more
+
+short_kept : (all : List Call) (code : ℕ) (m : Made) → last_writes all ≡ true → IsCutShort true all code m
+    → IsCutShort true (kept all) code (kept_made m)
+short_kept all code m w cut = (front_kept all code m cut.0, λ told e. less e)
+  where
+    less : kept m.calls ≡ kept all → ⊥
+    less e = elim cut.0 [
+      | inl a ↦ front_less all m.calls a.rest w a.calls (cut.1 refl) e
+      | inr a ↦ front_less all m.calls (writes a.text ∷ a.rest) w a.calls (cut.1 refl) e
+    ]
+
+done_kept : (events : List Event) (end : Option Fault) (code : ℕ) (m : Made) → last_writes (calls_of lines_of_text events end) ≡ true
+    → IsDone true (record { calls = calls_of lines_of_text events end; end = end }) code m
+    → IsDone true (record { calls = calls_of lines_alone events end; end = end }) code (kept_made m)
+done_kept events end code m w done =
+    let same = kept_calls events end in
     elim done [
       | inl a ↦ inl (record { calls = ap kept a.calls ∙ same; torn = a.torn; status_is = a.status_is })
-      | inr front ↦ inr (subst (λ l. IsFrontOf l code (kept_made m)) same (front_kept (calls_of lines_of_text h.events h.end) code m front))
+      | inr cut ↦ inr (subst (λ l. IsCutShort (is_some end || true) l code (kept_made m)) same (cut_kept end cut))
     ]
+  where
+    cut_kept : (e : Option Fault) → IsCutShort (is_some e || true) (calls_of lines_of_text events end) code m
+        → IsCutShort (is_some e || true) (kept (calls_of lines_of_text events end)) code (kept_made m)
+    cut_kept None cut = short_kept (calls_of lines_of_text events end) code m w cut
+    cut_kept (Some f) cut = short_kept (calls_of lines_of_text events end) code m w cut
+
+-- a history of `bench` ends with a text
+bench_writes : (sections : ℕ) (t : Tally) (events : List Event) (end : Option Fault)
+    → last_writes (calls_of lines_of_text (bench_behind sections t events end).events (bench_behind sections t events end).end) ≡ true
+bench_writes sections t events None =
+    let text = tally_text sections (tally_of t events) in
+    ap last_writes (opened_none (body lines_of_text (events ++ line text ∷ []) ++ []) ∙ append-nil (body lines_of_text (events ++ line text ∷ []))
+    ∙ body-append lines_of_text events (line text ∷ []))
+    ∙ last_of (body lines_of_text events) (text ++ 10 ∷ [])
+bench_writes sections t events (Some f) = last_of (so_far lines_of_text events) (fault_text f)
+
+history_writes : (number sections : ℕ) (h : History) → IsBenchHistory number sections h
+    → last_writes (calls_of lines_of_text h.events h.end) ≡ true
+history_writes number sections h is =
+    subst (λ (x : History). last_writes (calls_of lines_of_text x.events x.end) ≡ true) (sym is.h_is)
+    (bench_writes sections no_rounds is.solving.events is.solving.end)
+
+-- so the record tells the end
+pub bench_tells : (number sections : ℕ) (h : History) → IsBenchHistory number sections h → IsToldBy lines_alone true h.events h.end
+bench_tells number sections h is =
+    subst (λ (x : History). IsToldBy lines_alone true x.events x.end) (sym is.h_is)
+    (by no_rounds is.solving.events is.solving.end)
+  where
+    by : (t : Tally) (events : List Event) (end : Option Fault)
+        → IsToldBy lines_alone true (bench_behind sections t events end).events (bench_behind sections t events end).end
+    by t events None told none e =
+        let text = tally_text sections (tally_of t events) in
+        not_empty (body lines_alone events) (writes (text ++ 10 ∷ [])) []
+        (sym (append-nil (body lines_alone events ++ writes (text ++ 10 ∷ []) ∷ []))
+        ∙ ap (λ l. l ++ []) (sym (body-append lines_alone events (line text ∷ []))) ∙ e)
+    by t events (Some f) told none e = cc none
 
 -- ---- a library none of whose reads fails
 
@@ -312,45 +407,38 @@ module _ {L S : Type 0} (answers : L → List Answer) (taken : S → List ℕ) (
   }
 
   -- where no read fails, it is what is done without the calls to the library
-  pub without_library : (P Q : History → Type 0) → ((h : History) → P h → Q h) → (code : ℕ)
+  pub without_library : (number sections : ℕ) (P : History → Type 0) → ((h : History) → P h → IsBenchHistory number sections h) → (code : ℕ)
       → (HasFailed (answers lib_old) (answers lib_new) → ⊥)
-      → Runs answers taken calls lib_old lib_new old new P lines_of_text IsSolved code
-      → RunsAlone taken calls old new Q lines_alone IsSolved code
-  without_library P Q weaker code never r =
+      → Runs answers taken calls lib_old lib_new old new P lines_of_text true code
+      → RunsAlone taken calls old new (λ h. IsBenchHistory number sections h) lines_alone true code
+  without_library number sections P weaker code never r =
       let none : r.fails ≡ None = elim r.cause [ inl e ↦ e | inr last ↦ absurd (never last) ] in
-      let front : History = record { events = r.reached.front; end = r.reached.end } in
+      let is = weaker r.history r.right in
       record {
         history = r.history;
-        right = weaker r.history r.right;
+        right = is;
         made = kept_made r.made;
-        done = done_kept r.history code r.made (subst (λ (f : Option ℕ). IsDone (failing f (doing lines_of_text r.history)) code r.made) none r.done);
+        done = done_kept r.history.events r.history.end code r.made (history_writes number sections r.history is)
+            (subst (λ (f : Option ℕ). IsDone true (failing f (doing lines_of_text r.history)) code r.made) none r.done);
         wrote = wrote_kept r.made r.sees;
-        reached = record {
-          front = r.reached.front;
-          rest = r.reached.rest;
-          events_are = r.reached.events_are;
-          all_good = r.reached.all_good;
-          end = r.reached.end;
-          done = done_kept front code r.made (subst (λ (f : Option ℕ). IsDone (failing f (doing lines_of_text front)) code r.made) none r.reached.done);
-        };
       }
 
 -- ---- memory runs out before anything is done
 
-pub short_alone : {S : Type 0} (taken : S → List ℕ) (calls : S → ℕ) (out : S) (P : History → Type 0) (style : Style)
-    → ExactlyOne P → RunsAlone taken calls out out P style IsSolved 1
-short_alone taken calls out P style one = record {
-  history = one.some;
-  right = one.is;
-  made = whole [];
-  done = inr (inl (record { rest = calls_of style one.some.events one.some.end; calls = refl; torn = refl; status_is = refl }));
-  wrote = wrote_nothing taken calls out;
-  reached = record {
-    front = [];
-    rest = one.some.events;
-    events_are = refl;
-    all_good = All-nil (IfSettle IsSolved);
-    end = None;
-    done = inr (inl (record { rest = calls_of style [] None; calls = refl; torn = refl; status_is = refl }));
-  };
-}
+pub short_alone : {S : Type 0} (taken : S → List ℕ) (calls : S → ℕ) (out : S) (number sections : ℕ)
+    → RunsAlone taken calls out out (λ h. IsBenchHistory number sections h) lines_alone true 1
+short_alone taken calls out number sections =
+    let one = one_bench number sections in
+    let all = calls_of lines_alone one.some.events one.some.end in
+    record {
+      history = one.some;
+      right = one.is;
+      made = whole [];
+      done = inr (
+        inl (record { rest = all; calls = refl; torn = refl; status_is = refl }),
+        λ told e.
+            last_kept (calls_of lines_of_text one.some.events one.some.end) (history_writes number sections one.some one.is)
+            (kept_calls one.some.events one.some.end ∙ sym e),
+      );
+      wrote = wrote_nothing taken calls out;
+    }

@@ -1,3 +1,3 @@
 -- Lemmas that callers cite.
-pub use Rattle.fd_bench.proofs.Alone.{agrees_held, alone_runs, lines_good, printed_alone}
-pub use Rattle.fd_bench.proofs.Benched.{one_bench, short_alone}
+pub use Rattle.fd_bench.proofs.Alone.{agrees_held, alone_runs, printed_alone, script_tells}
+pub use Rattle.fd_bench.proofs.Benched.{bench_tells, one_bench}

@@ -1,5 +1,5 @@
 // The script of a feeder from a number: its lines written, and the files of a library that holds it.
-ghost use Rattle.std.specs.Prelude.{◌≡◌, ◌≤◌, IfOk};
+ghost use Rattle.std.specs.Prelude.{◌≡◌, ◌≤◌, IfOk, true};
 ghost use Rattle.std.specs.List.{concat};
 ghost use Rattle.fd_outside.specs.Causes.{Rose};
 ghost use Rattle.fd_outside.specs.Emitted.{pieces_of};
@@ -20,7 +20,7 @@ pub(crate) const FEEDER_NAME: &str = "gen.dss";
 /// status.
 pub fn write_script<S: Sink>(alloc: Global, number: u64, sections: u32, out: &mut S) -> u8
     requires { 1 ≤ sections }
-    ensures prints { Printed S.taken S.calls out.old out.new (doing report (script_written number sections)) result }
+    ensures prints { Printed S.taken S.calls out.old out.new true (doing report (script_written number sections)) result }
     ensures write { result ≡ 5 → Rose (S.faults out.old) (S.faults out.new) }
 {
     let Ok(lines) = generate(alloc, number, sections) else {

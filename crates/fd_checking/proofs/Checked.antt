@@ -3,7 +3,7 @@ use Rattle.std.proofs.Common.{◌≡◌, ◌∙◌, ℕ, List, Option, Some, Non
 use Rattle.dss_circuit.specs.Circuit.{CircuitView}
 use Rattle.dss_model.specs.declared.command.Blame.{Blame}
 use Rattle.fd_check.specs.Underway.{no_positions}
-use Rattle.fd_certfile.specs.Blocks.{Version}
+use Rattle.fd_certfile.specs.declared.version.Version.{Version}
 use Rattle.fd_certfile.specs.Certificates.{behind_first, version_in}
 use Rattle.fd_certfile.specs.Lines.{lines_of}
 use Rattle.fd_certfile.specs.Verdict.{Answer, IsAnswer, IsAnswerBy, accepted, refused, stopped}

@@ -1,7 +1,6 @@
 -- What `check` does behind the last command.
 use Rattle.std.proofs.Common.{◌≡◌, ◌∙◌, ℕ, Bool, true, false, List, [], ◌∷◌, ◌++◌, Option, Some, None, Result, Ok, Err, refl, sym, ap, subst, arith}
 use Rattle.std.specs.Prelude.{IfErr, IfOk}
-use Rattle.std.proofs.lemmas.List.Elements.{All-cons, All-nil}
 use Rattle.fd_outside.specs.Answers.{Agrees, Answer, EndsFailed, HasFailed, IsLater, Reply, absent, answered, content, failed, names_asked}
 use Rattle.fd_outside.specs.Causes.{Rose}
 use Rattle.fd_outside.specs.Files.{AnswersHeld, Files, held}
@@ -11,6 +10,7 @@ use Rattle.fd_outside.specs.declared.library.Found.TheVariants as was
 use Rattle.fd_outside.specs.declared.library.LibFault.{LibFault}
 use Rattle.fd_outside.specs.declared.library.LibFault.TheVariants as lib_fault
 use Rattle.dss_model.specs.Names.{bytes}
+use Rattle.dss_script.specs.Said.{Part, ended_by}
 use Rattle.dss_script.specs.Sessions.{found_bytes}
 use Rattle.dss_model.specs.declared.command.Blame.{Blame}
 use Rattle.fd_check.specs.Underway.{no_positions}
@@ -21,17 +21,15 @@ use Rattle.fd_cert.specs.declared.rule.Rule.TheVariants as rule
 use Rattle.fd_check.specs.declared.fault.CheckFault.{CheckFault}
 use Rattle.fd_check.specs.declared.fault.CheckFault.TheVariants as check
 use Rattle.fd_report.specs.declared.faults.Cause.TheVariants as cause
-use Rattle.fd_report.specs.Accepted.{accepted_fields}
 use Rattle.fd_report.specs.declared.faults.Fault.TheVariants as fault
-use Rattle.fd_outcome.specs.Calls.{Call, calls_of, doing, report}
-use Rattle.fd_outcome.specs.Behind.{last_calls}
-use Rattle.fd_outcome.specs.Events.{AllSettles, History, IfSettle, asked, before, row}
+use Rattle.fd_outcome.specs.Calls.{Call, body, calls_of, doing, report}
+use Rattle.fd_outcome.specs.Behind.{TellsEnd, last_calls}
+use Rattle.fd_outcome.specs.Events.{History, asked, before}
 use Rattle.fd_outcome.specs.History.{IsLast}
 use Rattle.fd_outcome.specs.Parts.{Finishes, Printed, fault_doing}
 use Rattle.fd_outcome.specs.Untold.{IsUntold}
-use Rattle.fd_outcome.proofs.CallerLemmas.{cut_before, fault_answers, finishes_asked, finishes_short, finishes_unread, shown_nothing, untold_fault, untold_finished, untold_last, untold_read, untold_short}
-use Rattle.fd_solving.specs.Headline.{IsSolved}
-use Rattle.fd_checking.specs.Checks.{GatheredView, IsCheckStep, IsJudged, certificate_name, judged_as}
+use Rattle.fd_outcome.proofs.CallerLemmas.{IsToldBy, cut_before, fault_answers, finishes_asked, finishes_short, finishes_unread, shown_nothing, told_history, untold_fault, untold_finished, untold_last, untold_read, untold_short}
+use Rattle.fd_checking.specs.Checks.{GatheredView, IsCheckHistory, IsCheckStep, IsJudged, certificate_name, first_gathered, judged_as}
 use Rattle.fd_checking.specs.Judged.{IsAnsweredSo, IsJudgedBy, IsOfCheck, history_in}
 use Rattle.fd_checking.specs.declared.judged.Judged.{Judged}
 use Rattle.fd_checking.specs.declared.judged.Judged.TheVariants as judged
@@ -81,6 +79,11 @@ of_check_in (accepted blocks) = tt
 of_check_in (refused line rule) = tt
 of_check_in (stopped blame) = tt
 
+-- an answer has a text
+pub some_answer : (j : Judged) → calls_of report (history_in j).events (history_in j).end ≡ [] → ⊥
+some_answer (judged.Accepted blocks) e = cc e
+some_answer (judged.Refused f) e = cc e
+
 pub answered_short : {S : Type 0} (taken : S → List ℕ) (calls : S → ℕ) (out : S) (g : GatheredView)
     (found : Option (List ℕ)) → IsAnsweredSo taken calls out out g found 1
 answered_short taken calls out g found =
@@ -90,7 +93,7 @@ answered_short taken calls out g found =
       judged = j;
       right = record { answer = one.is.answer; right = one.is.right; h_is = sym (in_so one.is.answer) };
       of_check = of_check_in one.is.answer;
-      prints = printed_cut taken calls out out _ (history_in j).end 1 (cut_before taken calls out _);
+      prints = printed_cut taken calls true out out _ (history_in j).end 1 (λ told none. some_answer j none) (cut_before taken calls out _);
     }
 
 -- ---- what was answered
@@ -160,18 +163,16 @@ same_calls false (judged.Accepted blocks) = refl
 same_calls true (judged.Refused f) = refl
 same_calls false (judged.Refused f) = refl
 
-no_settle : (j : Judged) → AllSettles IsSolved (history_in j).events
-no_settle (judged.Accepted blocks) = All-cons (IfSettle IsSolved) (row (accepted_fields blocks)) [] tt (All-nil (IfSettle IsSolved))
-no_settle (judged.Refused f) = All-nil (IfSettle IsSolved)
+some_text : (answer : Verdict Blame) → (judged_as answer).end ≡ None → body report (judged_as answer).events ++ [] ≡ [] → ⊥
+some_text (accepted blocks) none e = cc e
+some_text (refused line rule) none e = cc none
+some_text (stopped blame) none e = cc none
 
-no_settle_as : (answer : Verdict Blame) → AllSettles IsSolved (judged_as answer).events
-no_settle_as (accepted blocks) = All-cons (IfSettle IsSolved) (row (accepted_fields blocks)) [] tt (All-nil (IfSettle IsSolved))
-no_settle_as (refused line rule) = All-nil (IfSettle IsSolved)
-no_settle_as (stopped blame) = All-nil (IfSettle IsSolved)
-
-no_settle_by : (g : GatheredView) (found : Option (List ℕ)) (h : History) → IsJudged g found h
-    → AllSettles IsSolved h.events
-no_settle_by g found h is = subst (λ (x : History). AllSettles IsSolved x.events) (sym is.h_is) (no_settle_as is.answer)
+-- where no fault ends it, the record of an accepted certificate tells the end
+pub judged_tells : TellsEnd true report IsJudged
+judged_tells g found h told is none e =
+    let P : History → Type 0 = λ x. x.end ≡ None → body report x.events ++ [] ≡ [] → ⊥ in
+    subst P (sym is.h_is) (some_text is.answer) none e
 
 module _ {L S : Type 0} (answers : L → List Answer) (holds : L → Option Files) (sink_faults : S → ℕ)
     (taken : S → List ℕ) (calls : S → ℕ) (g : GatheredView) (lib_old lib_new : L) where
@@ -183,38 +184,35 @@ module _ {L S : Type 0} (answers : L → List Answer) (holds : L → Option File
     IsEnd h = IsLast IsCheckStep certificate_name IsJudged there (certificate_name g) g h
 
     abbrev Tells : S → S → ℕ → Type 0
-    Tells old new code = Finishes report IsSolved IsEnd answers taken calls lib_old lib_new old new begun code
+    Tells old new code = Finishes report true IsEnd answers taken calls lib_old lib_new old new begun code
 
     behind_name : (more : History) → IsJudged g (there g.certificate) more
         → IsEnd (before (asked g.certificate ∷ []) more)
     behind_name more is = record { more = more; right = is; h_is = refl }
 
     pub judged_told : (j : Judged) → IsJudged g (there g.certificate) (history_in j) → (old new : S) (code : ℕ) → Asks
-        → Printed taken calls old new (doing report (history_in j)) code → Tells old new code
+        → Printed taken calls old new true (doing report (history_in j)) code → Tells old new code
     judged_told j is old new code asks printed =
         let h = history_in j in
-        finishes_asked report report_asks answers taken calls IsSolved IsEnd g.certificate h
-        (behind_name h is) (no_settle j) lib_old lib_new begun old new code asks
-        (subst (λ (l : List Call). Printed taken calls old new (record { calls = l; end = h.end }) code)
+        finishes_asked report report_asks answers taken calls true IsEnd g.certificate h
+        (behind_name h is) lib_old lib_new begun old new code asks
+        (subst (λ (l : List Call). Printed taken calls old new true (record { calls = l; end = h.end }) code)
         (same_calls begun j) printed)
 
     -- some answer comes of what is held
     abbrev some_end : History
     some_end = (one_judged g (there g.certificate)).some
 
-    no_settle_in : AllSettles IsSolved some_end.events
-    no_settle_in = no_settle_by g (there g.certificate) some_end (one_judged g (there g.certificate)).is
-
     pub unasked_told : (out : S) → names_asked (answers lib_new) ≡ names_asked (answers lib_old) ++ [] → Tells out out 1
     unasked_told out same =
-        finishes_short report report_asks answers taken calls IsSolved IsEnd g.certificate some_end
-        (behind_name some_end (one_judged g (there g.certificate)).is) no_settle_in lib_old lib_new begun out same
+        finishes_short report report_asks answers taken calls true IsEnd g.certificate some_end
+        (behind_name some_end (one_judged g (there g.certificate)).is) lib_old lib_new begun out same
 
     pub unread_told : (old new : S) (code : ℕ) → Asks → HasFailed (answers lib_old) (answers lib_new)
-        → Printed taken calls old new (fault_doing (fault.Read g.certificate)) code → Tells old new code
+        → Printed taken calls old new true (fault_doing (fault.Read g.certificate)) code → Tells old new code
     unread_told old new code asks last printed =
-        finishes_unread report report_asks answers taken calls IsSolved IsEnd g.certificate some_end
-        (behind_name some_end (one_judged g (there g.certificate)).is) no_settle_in lib_old lib_new begun old new code
+        finishes_unread report report_asks answers taken calls true IsEnd g.certificate some_end
+        (behind_name some_end (one_judged g (there g.certificate)).is) lib_old lib_new begun old new code
         asks last printed
 
   -- ---- whatever the library answers
@@ -223,12 +221,12 @@ module _ {L S : Type 0} (answers : L → List Answer) (holds : L → Option File
   Untold old new code = IsUntold answers holds sink_faults taken calls lib_old lib_new old new code
 
   pub judged_untold : (j : Judged) → IsOfCheck j → (old new : S) (code : ℕ) → IsLater answers holds lib_old lib_new
-      → Printed taken calls old new (doing report (history_in j)) code
+      → Printed taken calls old new true (doing report (history_in j)) code
       → (code ≡ 5 → Rose (sink_faults old) (sink_faults new)) → Untold old new code
   judged_untold (judged.Accepted blocks) of_check old new code later printed write =
       untold_finished answers holds sink_faults taken calls lib_old lib_old lib_new lib_new old old new code
       (shown_nothing answers holds sink_faults taken calls lib_old old)
-      later (omega arith) (untold_last answers holds sink_faults taken calls lib_new old new _ code printed write)
+      later (omega arith) (untold_last answers holds sink_faults taken calls true lib_new old new _ code printed write)
   judged_untold (judged.Refused f) of_check old new code later printed write =
       untold_fault answers holds sink_faults taken calls lib_old lib_old lib_new old old new code
       (shown_nothing answers holds sink_faults taken calls lib_old old)
@@ -243,7 +241,7 @@ module _ {L S : Type 0} (answers : L → List Answer) (holds : L → Option File
 
   pub unread_untold : (old new : S) (code : ℕ) → IsLater answers holds lib_old lib_new
       → EndsFailed (answers lib_old) (answers lib_new) (bytes g.certificate)
-      → Printed taken calls old new (fault_doing (fault.Read g.certificate)) code
+      → Printed taken calls old new true (fault_doing (fault.Read g.certificate)) code
       → (code ≡ 5 → Rose (sink_faults old) (sink_faults new)) → Untold old new code
   unread_untold old new code later last printed write =
       untold_read answers holds sink_faults taken calls lib_old lib_old lib_new old old new g.certificate code
@@ -255,8 +253,15 @@ module _ {L S : Type 0} (answers : L → List Answer) (taken : S → List ℕ) (
     (there : List ℕ → Option (List ℕ)) (lib_old lib_new : L) (begun : Bool) where
   abbrev pub TellsOf : GatheredView → S → S → ℕ → Type 0
   TellsOf g old new code =
-      Finishes report IsSolved (λ h. IsLast IsCheckStep certificate_name IsJudged there (certificate_name g) g h)
+      Finishes report true (λ h. IsLast IsCheckStep certificate_name IsJudged there (certificate_name g) g h)
       answers taken calls lib_old lib_new old new begun code
 
   pub told_as : (s g : GatheredView) (old new : S) (code : ℕ) → s ≡ g → TellsOf s old new code → TellsOf g old new code
   told_as s g old new code same told = subst (λ (x : GatheredView). TellsOf x old new code) same told
+
+-- so does a history of `check`
+pub check_tells : (files : Files) (p : Part) (name : List ℕ) (h : History) → IsCheckHistory files p name h
+    → IsToldBy report true h.events h.end
+check_tells files p name h is =
+    told_history IsCheckStep certificate_name IsJudged (λ n. held files (bytes n)) report true judged_tells
+    p.said (ended_by p.left) (first_gathered name) h is

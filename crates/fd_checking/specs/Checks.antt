@@ -8,7 +8,7 @@ use Rattle.dss_model.specs.declared.command.Blame.{Blame}
 use Rattle.dss_model.specs.declared.command.Command.{Command}
 use Rattle.dss_circuit.specs.Circuit.{CircuitView, empty_circuit}
 use Rattle.fd_check.specs.Underway.{no_positions}
-use Rattle.fd_certfile.specs.Blocks.{Version}
+use Rattle.fd_certfile.specs.declared.version.Version.{Version}
 use Rattle.fd_certfile.specs.Certificates.{Certificate, Reads, behind_first, version_in}
 use Rattle.fd_certfile.specs.Lines.{lines_of}
 use Rattle.fd_certfile.specs.Verdict.{Answer, IsAnswer, accepted, refused, stopped}

@@ -1,5 +1,5 @@
 -- What the code answers of a certificate, as a history.
-use Rattle.std.specs.Prelude.{◌≡◌, ℕ, List, [], ◌∷◌, Option, Result, Ok, Err}
+use Rattle.std.specs.Prelude.{◌≡◌, ℕ, true, List, [], ◌∷◌, Option, Result, Ok, Err}
 use Rattle.fd_check.specs.declared.fault.CheckFault.{CheckFault}
 use Rattle.fd_check.specs.declared.fault.CheckFault.TheVariants as check
 use Rattle.fd_report.specs.Accepted.{accepted_fields}
@@ -35,4 +35,4 @@ pub record IsAnsweredSo {S : Type 0} (taken : S → List ℕ) (calls : S → ℕ
   pub judged : Judged
   pub right : IsJudged g found (history_in judged)
   pub of_check : IsOfCheck judged
-  pub prints : Printed taken calls old new (doing report (history_in judged)) code
+  pub prints : Printed taken calls old new true (doing report (history_in judged)) code

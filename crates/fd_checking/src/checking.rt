@@ -1,5 +1,5 @@
 // The command line `check SCRIPT CERTIFICATE`.
-ghost use Rattle.std.specs.Prelude.{◌≡◌, ◌+◌, ◌≤◌, [], IfOk, None};
+ghost use Rattle.std.specs.Prelude.{◌≡◌, ◌+◌, ◌≤◌, [], IfOk, None, true};
 ghost use Rattle.std.specs.Str.{chars};
 ghost use Rattle.dss_circuit.specs.Circuit.{empty_circuit};
 ghost use Rattle.fd_outside.specs.Answers.{AgreesSince};
@@ -12,7 +12,6 @@ ghost use Rattle.dss_script.specs.Sessions.{cost};
 ghost use Rattle.fd_outcome.specs.Calls.{report};
 ghost use Rattle.fd_outcome.specs.Runs.{Runs};
 ghost use Rattle.fd_outcome.specs.Untold.{IsUntold};
-ghost use Rattle.fd_solving.specs.Headline.{IsSolved};
 ghost use Rattle.fd_solving.specs.Weights.{weight};
 ghost use Rattle.fd_checking.specs.Checks.{IsCheckHistory, IsCheckStep, IsJudged, certificate_name};
 ghost use Rattle.fd_checking.specs.Gathered.{IsFollowed, IsGathered, IsKeptWith};
@@ -66,7 +65,7 @@ fn forget(alloc: Global, circuit: &mut Circuit, commands: &mut Vec<Command>)
 
 // Prints the fault of a file that couldn't be read, and answers the exit status.
 fn print_unread<S: Sink>(alloc: Global, name: &Text, out: &mut S) -> u8
-    ensures prints { Printed S.taken S.calls out.old out.new (fault_doing (Read name.now)) result }
+    ensures prints { Printed S.taken S.calls out.old out.new true (fault_doing (Read name.now)) result }
     ensures later { S.faults out.old ≤ S.faults out.new }
     ensures write { result ≡ 5 → Rose (S.faults out.old) (S.faults out.new) }
 {
@@ -84,7 +83,7 @@ impl Line for Gathered {
 
     ghost is_last = { λ g found h. IsJudged g found h };
 
-    ghost good = { λ s. IsSolved s };
+    ghost tells = { true };
 
     ghost style = { report };
 
@@ -139,7 +138,7 @@ pub fn check<L: Library, S: Sink>(
 ) -> u8
     ensures run { (files : Files) → AgreesSince files (L.answers lib.old) (L.answers lib.new) →
         Runs L.answers S.taken S.calls lib.old lib.new out.old out.new
-        (λ h. IsCheckHistory files (said_of files (chars script.now)) (chars certificate.now) h) report IsSolved result }
+        (λ h. IsCheckHistory files (said_of files (chars script.now)) (chars certificate.now) h) report true result }
     ensures untold { IsUntold L.answers L.holds S.faults S.taken S.calls lib.old lib.new out.old out.new result }
 {
     said_law();

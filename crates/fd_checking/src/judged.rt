@@ -1,5 +1,5 @@
 // What the certificate of `check` comes to.
-ghost use Rattle.std.specs.Prelude.{◌≡◌, ◌≤◌, IfOk, List, length, ℕ};
+ghost use Rattle.std.specs.Prelude.{◌≡◌, ◌≤◌, IfOk, List, length, true, ℕ};
 ghost use Rattle.dss_circuit.specs.Circuit.{CircuitView, empty_circuit};
 ghost use Rattle.dss_script.specs.Sessions.{found_bytes};
 ghost use Rattle.fd_check.specs.Commands.{AreAccepted, most_solves};
@@ -61,7 +61,7 @@ fn judge(alloc: Global, commands: &[Command], found: Found) -> Result<Judged, Al
 
 // Prints the record of an accepted certificate or of the fault, and answers the exit status.
 fn print_judged<S: Sink>(alloc: Global, judged: &Judged, out: &mut S) -> u8
-    ensures prints { Printed S.taken S.calls out.old out.new (doing report (history_in judged.now)) result }
+    ensures prints { Printed S.taken S.calls out.old out.new true (doing report (history_in judged.now)) result }
     ensures later { S.faults out.old ≤ S.faults out.new }
     ensures write { result ≡ 5 → Rose (S.faults out.old) (S.faults out.new) }
 {

@@ -1,13 +1,11 @@
 -- What is left to do behind the last command, where a name is asked for there.
 use Rattle.std.proofs.Common.{◌≡◌, ◌∙◌, ℕ, Bool, true, false, List, [], ◌∷◌, ◌++◌, map, Option, Some, None, refl, sym, ap, subst, inl, inr, arith}
 use Rattle.std.proofs.lemmas.List.{append-nil}
-use Rattle.std.proofs.lemmas.List.Elements.{All-cons}
 use Rattle.fd_outside.specs.Answers.{Answer, HasFailed, names_asked}
 use Rattle.dss_model.specs.Names.{bytes}
 use Rattle.fd_report.specs.declared.faults.Fault.{Fault}
 use Rattle.fd_report.specs.declared.faults.Fault.TheVariants as fault
-use Rattle.fd_outcome.specs.Settles.{Settle}
-use Rattle.fd_outcome.specs.Events.{Event, asked, History, before, IfSettle, AllSettles}
+use Rattle.fd_outcome.specs.Events.{Event, asked, History, before}
 use Rattle.fd_outcome.specs.Calls.{Call, reads, writes, Style, body, opened, fault_text, names_read}
 use Rattle.fd_outcome.specs.Done.{Made, IsDone, read_failing}
 use Rattle.fd_outcome.specs.Behind.{last_calls, AsksNames}
@@ -33,21 +31,24 @@ module _ (style : Style) (fits : AsksNames style) where
   -- ---- what is done of it
 
   module _ {L S : Type 0} (answers : L → List Answer) (taken : S → List ℕ)
-      (calls : S → ℕ) (good : Settle → Type 0) (P : History → Type 0) (n : List ℕ) (more : History)
-      (is : P (before (asked n ∷ []) more)) (all_good : AllSettles good more.events) (lib_old lib_new : L)
+      (calls : S → ℕ) (tells : Bool) (P : History → Type 0) (n : List ℕ) (more : History)
+      (is : P (before (asked n ∷ []) more)) (lib_old lib_new : L)
       (begun : Bool) where
     abbrev Ends : S → S → ℕ → Type 0
-    Ends old new code = Finishes style good P answers taken calls lib_old lib_new old new begun code
+    Ends old new code = Finishes style tells P answers taken calls lib_old lib_new old new begun code
 
     grown_by : (m : Made) → names_read m.calls ≡ []
         → names_asked (answers lib_new) ≡ names_asked (answers lib_old) ++ bytes n ∷ []
         → names_asked (answers lib_new) ≡ names_asked (answers lib_old) ++ names_read (reads n ∷ m.calls)
     grown_by m none grown = grown ∙ ap (λ (l : List (List ℕ)). names_asked (answers lib_old) ++ bytes n ∷ l) (sym none)
 
+    nothing_less : {c : Call} {l : List Call} → [] ≡ c ∷ l → ⊥
+    nothing_less e = cc e
+
     -- what comes behind the name is printed
     pub finishes_asked : (old new : S) (code : ℕ)
         → names_asked (answers lib_new) ≡ names_asked (answers lib_old) ++ bytes n ∷ []
-        → Printed taken calls old new (record { calls = last_calls style begun more.events more.end; end = more.end }) code
+        → Printed taken calls old new tells (record { calls = last_calls style begun more.events more.end; end = more.end }) code
         → Ends old new code
     finishes_asked old new code grown p = record {
       history = before (asked n ∷ []) more;
@@ -55,10 +56,9 @@ module _ (style : Style) (fits : AsksNames style) where
       fails = None;
       cause = inl refl;
       made = made_after (reads n ∷ []) p.made;
-      done = done_after (reads n ∷ []) (last_calls style begun more.events more.end)
+      done = done_after tells (reads n ∷ []) (last_calls style begun more.events more.end)
           (last_calls style begun (asked n ∷ more.events) more.end) more.end code p.made
           (last_asked n begun more.events more.end) p.done;
-      all_good = All-cons (IfSettle good) (asked n) more.events tt all_good;
       sees = record { names = grown_by p.made p.wrote.names grown; bytes = p.wrote.bytes_are; writes = p.wrote.writes_are };
     }
 
@@ -70,8 +70,10 @@ module _ (style : Style) (fits : AsksNames style) where
       fails = None;
       cause = inl refl;
       made = whole [];
-      done = inr (inl (record { rest = last_calls style begun (asked n ∷ more.events) more.end; calls = refl; torn = refl; status_is = refl }));
-      all_good = All-cons (IfSettle good) (asked n) more.events tt all_good;
+      done = inr (
+        inl (record { rest = last_calls style begun (asked n ∷ more.events) more.end; calls = refl; torn = refl; status_is = refl }),
+        λ told none. nothing_less (none ∙ last_asked n begun more.events more.end),
+      );
       sees = record {
         names = same;
         bytes = sym (append-nil (taken out));
@@ -83,17 +85,16 @@ module _ (style : Style) (fits : AsksNames style) where
     pub finishes_unread : (old new : S) (code : ℕ)
         → names_asked (answers lib_new) ≡ names_asked (answers lib_old) ++ bytes n ∷ []
         → HasFailed (answers lib_old) (answers lib_new)
-        → Printed taken calls old new (fault_doing (fault.Read n)) code → Ends old new code
+        → Printed taken calls old new true (fault_doing (fault.Read n)) code → Ends old new code
     finishes_unread old new code grown failed p = record {
       history = before (asked n ∷ []) more;
       right = is;
       fails = Some 0;
       cause = inr failed;
       made = made_after (reads n ∷ []) p.made;
-      done = subst (λ (l : List Call). IsDone (read_failing 0 l more.end) code (made_after (reads n ∷ []) p.made))
+      done = subst (λ (l : List Call). IsDone tells (read_failing 0 l more.end) code (made_after (reads n ∷ []) p.made))
           (sym (last_asked n begun more.events more.end))
-          (done_after (reads n ∷ []) (writes (fault_text (fault.Read n)) ∷ [])
+          (done_after tells (reads n ∷ []) (writes (fault_text (fault.Read n)) ∷ [])
           (reads n ∷ writes (fault_text (fault.Read n)) ∷ []) (Some (fault.Read n)) code p.made refl p.done);
-      all_good = All-cons (IfSettle good) (asked n) more.events tt all_good;
       sees = record { names = grown_by p.made p.wrote.names grown; bytes = p.wrote.bytes_are; writes = p.wrote.writes_are };
     }

@@ -1,8 +1,7 @@
 -- What the loop over a script's commands needs: where it stands, how it goes on and how it ends.
-use Rattle.std.proofs.Common.{◌≡◌, ◌∙◌, ℕ, ◌+◌, ◌≤◌, Bool, false, List, [], ◌∷◌, ◌++◌, map, Option, Some, None, refl, sym, ap, subst, inl, inr, arith}
+use Rattle.std.proofs.Common.{◌≡◌, ◌∙◌, ℕ, ◌+◌, ◌≤◌, Bool, true, false, List, [], ◌∷◌, ◌++◌, map, Option, Some, None, refl, sym, ap, subst, inl, inr, arith}
 use Rattle.std.specs.Prelude.{◌||◌, ◌⊎◌}
 use Rattle.std.proofs.lemmas.List.{append_assoc, append-nil, map-append}
-use Rattle.std.proofs.lemmas.List.Elements.{All-nil, All-append}
 use Rattle.fd_outside.specs.Answers.{Answer, IsLater, EndsFailed, HasFailed, names_asked}
 use Rattle.fd_outside.specs.Causes.{Rose}
 use Rattle.fd_outside.specs.Emitted.{Takes}
@@ -11,43 +10,45 @@ use Rattle.fd_outside.proofs.CallerLemmas.{fails_behind, later_same, later_then,
 use Rattle.dss_model.specs.Names.{bytes}
 use Rattle.dss_model.specs.declared.command.Command.{Command}
 use Rattle.dss_model.specs.declared.command.Place.{Place}
-use Rattle.dss_script.specs.Script.{Script}
 use Rattle.dss_script.specs.Said.{Said, name, command, ScriptEnd, at_its_end, refused_at}
 use Rattle.dss_script.specs.declared.fault.ScriptCause.{ScriptCause}
 use Rattle.fd_report.specs.Faults.{status}
 use Rattle.fd_report.specs.declared.faults.Cause.TheVariants as cause
 use Rattle.fd_report.specs.declared.faults.Fault.{Fault}
 use Rattle.fd_report.specs.declared.faults.Fault.TheVariants as fault
-use Rattle.fd_outcome.specs.Settles.{Settle}
-use Rattle.fd_outcome.specs.Events.{Event, asked, History, before, ended, finishes, IfSettle, AllSettles}
+use Rattle.fd_outcome.specs.Events.{Event, asked, History, before, ended, finishes}
 use Rattle.fd_outcome.specs.Work.{Step, goes, ends, ExactlyOne}
 use Rattle.fd_outcome.specs.History.{Point, IsFrom, IsLast, IsHistory, LeadsTo}
-use Rattle.fd_outcome.specs.Calls.{Call, reads, writes, Style, so_far, body, opened, calls_of, doing, Doing, fault_text, names_read, texts_written}
+use Rattle.fd_outcome.specs.Calls.{Call, reads, writes, Style, so_far, body, calls_of, doing, Doing, fault_text, names_read, texts_written}
 use Rattle.fd_outcome.specs.Done.{failing, Made, IsFrontOf, IsDone, Sees}
-use Rattle.fd_outcome.specs.Behind.{behind, has_text, last_calls, AsksNames}
+use Rattle.fd_outcome.specs.Behind.{behind, has_text, last_calls, AsksNames, TellsEnd}
 use Rattle.fd_outcome.specs.Laws.{HistoryLaw, IsDue}
 use Rattle.fd_outcome.specs.Runs.{Runs}
 use Rattle.fd_outcome.specs.Way.{Way, whole}
 use Rattle.fd_outcome.specs.Parts.{Wrote, Printed, fault_doing, Asked, IsUnread, IsCutShort, GoesOn, events_in, EndsSo, EndsAt, Finishes}
 use Rattle.fd_outcome.specs.Untold.{CutsShort, EndsAtFault, Answers, EndsAtRead, IsUntold}
 use Rattle.fd_outcome.proofs.Histories.{one_history, one_value, does_command, stays}
-use Rattle.fd_outcome.proofs.Lists.{body-append, opened-append, texts-append}
-use Rattle.fd_outcome.proofs.Printing.{append_is, front_is, due_of}
-use Rattle.fd_outcome.proofs.Ways.{goes_on, ended_at, ended_at_read, names_lead, names_good, reads_alone, done_after, made_after, sees_then, sees_nothing, sees_names, sees_as}
+pub use Rattle.fd_outcome.proofs.Lists.{body-append}
+use Rattle.fd_outcome.proofs.Lists.{texts-append}
+use Rattle.fd_outcome.proofs.Printing.{append_is, due_of}
+use Rattle.fd_outcome.proofs.Told.{longer, not_all, last_behind, last_told, told_more}
+use Rattle.fd_outcome.proofs.Ways.{goes_on, ended_at, ended_at_read, names_lead, reads_alone, done_after, sees_then, sees_nothing, sees_names, sees_as}
 pub use Rattle.fd_outcome.proofs.Asked.{finishes_asked, finishes_short, finishes_unread}
 pub use Rattle.fd_outcome.proofs.Given.{gives_next, wrote_nothing, sees_none, or_false, has_text-append, behind-append, text_behind, nothing_behind}
-pub use Rattle.fd_outcome.proofs.Handed.{wrote_all, cut_by_memory, cut_by_fault, cut_before, fault_whole, fault_cut, wrote_then, printed_then, cut_then}
+pub use Rattle.fd_outcome.proofs.Handed.{wrote_all, cut_by_memory, cut_by_fault, cut_before, fault_whole, fault_cut, wrote_then, printed_then, front_then, shorter}
+pub use Rattle.fd_outcome.proofs.Told.{IsToldBy, all_told, not_empty, told_fault, told_history}
+pub use Rattle.fd_outcome.proofs.Ways.{made_after}
 use Rattle.fd_outcome.proofs.Given.{takes_wrote, still, called_all, reads_after, failing_behind, rose_since, cause_after}
 
 -- ---- where the loop stands
 
 module _ {T : Type 0} (is_step : Command → T → Step T → Type 0) (last_name : T → Option (List ℕ)) (is_last : T → Option (List ℕ) → History → Type 0)
-    (good : Settle → Type 0) (style : Style) (held : List ℕ → Option (List ℕ))
+    (style : Style) (tells : Bool) (held : List ℕ → Option (List ℕ))
     {L S : Type 0} (answers : L → List Answer) (taken : S → List ℕ) (calls : S → ℕ)
     (p : Point T) (lib_first : L) (out_first : S) where
   abbrev pub WayAt : List Said → ScriptEnd → T → L → S → Type 0
   WayAt left end s lib out =
-      Way is_step last_name is_last good held answers taken calls style p lib_first out_first
+      Way is_step last_name is_last held answers taken calls style p lib_first out_first
       (record { left = left; end = end; state = s }) lib out
 
   pub record At (begun : Bool) (left : List Said) (end : ScriptEnd) (s : T) (lib : L) (out : S) : Type 0 where
@@ -55,7 +56,7 @@ module _ {T : Type 0} (is_step : Command → T → Step T → Type 0) (last_name
     pub begun_is : begun ≡ has_text (body style way.events)
 
   abbrev pub RunsTo : L → S → ℕ → Type 0
-  RunsTo lib out code = Runs answers taken calls lib_first lib out_first out (λ h. IsFrom is_step last_name is_last held p h) style good code
+  RunsTo lib out code = Runs answers taken calls lib_first lib out_first out (λ h. IsFrom is_step last_name is_last held p h) style tells code
 
   sees_wrote : (lib : L) (old new : S) (m : Made) → Wrote taken calls old new m
       → Sees answers taken calls lib lib old new m
@@ -72,13 +73,13 @@ module _ {T : Type 0} (is_step : Command → T → Step T → Type 0) (last_name
       events = [];
       leads = subst (λ (q : Point T). LeadsTo is_step last_name is_last held p [] q) e (stays is_step last_name is_last held p);
       seen = sees_nothing answers taken calls lib_first out_first;
-      all_good = All-nil (IfSettle good);
     };
     begun_is = refl;
   }
 
   module _ (one_step : (c : Command) (s : T) → ExactlyOne (is_step c s))
-      (one_last : (s : T) (found : Option (List ℕ)) → ExactlyOne (is_last s found)) (fits : AsksNames style) where
+      (one_last : (s : T) (found : Option (List ℕ)) → ExactlyOne (is_last s found)) (fits : AsksNames style)
+      (told : TellsEnd tells style is_last) where
     -- some history goes on from here
     goes_from : (left : List Said) (end : ScriptEnd) (s : T)
         → ExactlyOne (IsHistory is_step last_name is_last held left end s)
@@ -89,13 +90,13 @@ module _ {T : Type 0} (is_step : Command → T → Step T → Type 0) (last_name
         → names_asked (answers lib_new) ≡ names_asked (answers lib) ++ map bytes names
         → At begun more end s lib_new out
     at_names begun names more end s lib lib_new out a grown = record {
-      way = goes_on is_step last_name is_last good held answers taken calls style p (record {
+      way = goes_on is_step last_name is_last held answers taken calls style tells p (record {
         left = map name names ++ more;
         end = end;
         state = s;
       }) (record { left = more; end = end; state = s }) lib_first lib lib_new out_first out out (map asked names)
-          a.way (names_lead is_step last_name is_last good held answers taken calls style names more end s)
-          (names_good good names) (sees_as answers taken calls lib lib_new out out _ _
+          a.way (names_lead is_step last_name is_last held answers taken calls style tells names more end s)
+          (sees_as answers taken calls lib lib_new out out _ _
           (sym (reads_alone style fits (has_text (body style a.way.events)) names))
           (sees_names answers taken calls lib lib_new out names grown));
       begun_is = a.begun_is ∙ sym (still style fits a.way.events names);
@@ -109,14 +110,14 @@ module _ {T : Type 0} (is_step : Command → T → Step T → Type 0) (last_name
 
     pub at_command : (begun now : Bool) (c : Command) (more : List Said) (end : ScriptEnd) (s t : T) (lib : L) (out out_new : S)
         → At begun (command c ∷ more) end s lib out
-        → GoesOn style good (is_step c s) t taken calls out out_new begun now → At now more end t lib out_new
+        → GoesOn style (is_step c s) t taken calls out out_new begun now → At now more end t lib out_new
     at_command begun now c more end s t lib out out_new a g = record {
-      way = goes_on is_step last_name is_last good held answers taken calls style p (record {
+      way = goes_on is_step last_name is_last held answers taken calls style tells p (record {
         left = command c ∷ more;
         end = end;
         state = s;
       }) (record { left = more; end = end; state = t }) lib_first lib lib out_first out out_new g.events a.way
-          (does_command is_step last_name is_last held c more end s t g.events g.right) g.all_good
+          (does_command is_step last_name is_last held c more end s t g.events g.right)
           (sees_wrote lib out out_new _
           (subst (λ b. Wrote taken calls out out_new (whole (behind style b g.events))) a.begun_is g.wrote));
       begun_is = g.begun_is ∙ ap (λ b. b || has_text (body style g.events)) a.begun_is
@@ -125,81 +126,56 @@ module _ {T : Type 0} (is_step : Command → T → Step T → Type 0) (last_name
 
     -- ---- ends
 
-    -- events behind others, of which the first are shown: all calls are those so far, those of the shown, and more
-    split_at : (a shown hidden : List Event) (end : Option Fault)
-        → (rest : List Call) × (calls_of style (a ++ (shown ++ hidden)) end ≡ so_far style a ++ (behind style (has_text (body style a)) shown ++ rest))
-    split_at a shown hidden end =
-        let f = front_is style (a ++ shown) (record { events = hidden; end = end }) in (
-          f.0,
-          ap (λ l. calls_of style l end) (sym (append_assoc a shown hidden)) ∙ f.1 ∙ ap (λ l. l ++ f.0) (append_is style a shown)
-              ∙ append_assoc (so_far style a) (behind style (has_text (body style a)) shown) f.0,
-        )
-
-    longer : (a rest : List Call) (code : ℕ) (m : Made) → IsFrontOf a code m → IsFrontOf (a ++ rest) code m
-    longer a rest code m is = elim is [
-      | inl x ↦ inl (record {
-        rest = x.rest ++ rest;
-        calls = ap (λ l. l ++ rest) x.calls ∙ append_assoc m.calls x.rest rest;
-        torn = x.torn;
-        status_is = x.status_is;
-      })
-      | inr x ↦ inr (record {
-        text = x.text;
-        rest = x.rest ++ rest;
-        calls = ap (λ l. l ++ rest) x.calls ∙ append_assoc m.calls (writes x.text ∷ x.rest) rest;
-        front = x.front;
-        torn = x.torn;
-        cut = x.cut;
-        status_is = x.status_is;
-      })
-    ]
-
     -- cut short behind some of the events of a history that goes on
     cut_at : (left : List Said) (end : ScriptEnd) (s : T) (lib lib_new : L) (out out_new : S) (h : History) (shown hidden : List Event) (code : ℕ) (m : Made)
         → (w : WayAt left end s lib out)
-        → IsHistory is_step last_name is_last held left end s h → h.events ≡ shown ++ hidden → AllSettles good shown
+        → IsHistory is_step last_name is_last held left end s h → h.events ≡ shown ++ hidden → IsToldBy style tells hidden h.end
         → IsFrontOf (behind style (has_text (body style w.events)) shown) code m
         → Sees answers taken calls lib lib_new out out_new m → RunsTo lib_new out_new code
-    cut_at left end s lib lib_new out out_new h shown hidden code m w is events_are all front sees =
-        let t = has_text (body style w.events) in
-        let f = split_at w.events shown hidden h.end in
-        let g = split_at w.events shown [] None in
-        ended_at is_step last_name is_last good held answers taken calls style p
+    cut_at left end s lib lib_new out out_new h shown hidden code m w is events_are by_end front sees =
+        let first = behind style (has_text (body style w.events)) shown in
+        let more = last_calls style (has_text (body style (w.events ++ shown))) hidden h.end in
+        let all : calls_of style (w.events ++ h.events) h.end ≡ so_far style w.events ++ (first ++ more) =
+        ap (λ l. calls_of style l h.end) (ap (λ l. w.events ++ l) events_are ∙ sym (append_assoc w.events shown hidden))
+        ∙ last_behind style (w.events ++ shown) hidden h.end
+        ∙ ap (λ l. l ++ more) (append_is style w.events shown)
+        ∙ append_assoc (so_far style w.events) first more in
+        ended_at is_step last_name is_last held answers taken calls style tells p
         (record { left = left; end = end; state = s }) lib_first lib lib_new out_first out out_new h
-        (behind style t shown ++ f.0) code m w is (ap (λ l. calls_of style (w.events ++ l) h.end) events_are ∙ f.1)
-        (inr (longer (behind style t shown) f.0 code m front)) shown hidden None (behind style t shown ++ g.0)
-        events_are all (ap (λ l. calls_of style (w.events ++ l) None) (sym (append-nil shown)) ∙ g.1)
-        (inr (longer (behind style t shown) g.0 code m front)) sees
+        (first ++ more) code m w is all
+        (inr (
+          longer first more code m front,
+          λ is_told. not_all first more code m front (last_told style tells (has_text (body style (w.events ++ shown))) hidden h.end is_told by_end),
+        ))
+        sees
 
     -- ended with a fault behind these events
     fault_at : (left : List Said) (end : ScriptEnd) (s : T) (lib lib_new : L) (out out_new : S) (events : List Event) (f : Fault) (code : ℕ) (m : Made)
         → (w : WayAt left end s lib out)
-        → IsHistory is_step last_name is_last held left end s (ended events f) → AllSettles good events
-        → IsDone (record { calls = behind style (has_text (body style w.events)) events ++ writes (fault_text f) ∷ []; end = Some f }) code m
+        → IsHistory is_step last_name is_last held left end s (ended events f)
+        → IsDone true (record { calls = behind style (has_text (body style w.events)) events ++ writes (fault_text f) ∷ []; end = Some f }) code m
         → Sees answers taken calls lib lib_new out out_new m → RunsTo lib_new out_new code
-    fault_at left end s lib lib_new out out_new events f code m w is all done sees =
+    fault_at left end s lib lib_new out out_new events f code m w is done sees =
         let last = writes (fault_text f) ∷ [] in
         let calls_are : calls_of style (w.events ++ events) (Some f)
         ≡ so_far style w.events ++ (behind style (has_text (body style w.events)) events ++ last) =
         ap (λ l. l ++ last) (append_is style w.events events)
         ∙ append_assoc (so_far style w.events) (behind style (has_text (body style w.events)) events) last in
-        ended_at is_step last_name is_last good held answers taken calls style p
+        ended_at is_step last_name is_last held answers taken calls style tells p
         (record { left = left; end = end; state = s }) lib_first lib lib_new out_first out out_new (ended events f)
-        (behind style (has_text (body style w.events)) events ++ last) code m w is calls_are done events [] (Some f)
-        (behind style (has_text (body style w.events)) events ++ last) (sym (append-nil events)) all calls_are done
-        sees
+        (behind style (has_text (body style w.events)) events ++ last) code m w is calls_are done sees
 
     pub ends_refused : (begun : Bool) (left : List Said) (end : ScriptEnd) (s : T) (lib lib_new : L) (out out_new : S)
         (place : Place) (c : ScriptCause) (code : ℕ)
         → At begun left end s lib out → Asked left [] (names_asked (answers lib)) (names_asked (answers lib_new)) × (end ≡ refused_at place c)
-        → Printed taken calls out out_new (fault_doing (fault.Script place (cause.Script c))) code
+        → Printed taken calls out out_new true (fault_doing (fault.Script place (cause.Script c))) code
         → RunsTo lib_new out_new code
     ends_refused begun left end s lib lib_new out out_new place c code a r printed =
         let f = fault.Script place (cause.Script c) in
         let b = at_asked begun left [] end s lib lib_new out a r.0 in
         let w : WayAt [] (refused_at place c) s lib_new out = subst (λ x. WayAt [] x s lib_new out) r.1 b.way in
-        let D : List Call → Type 0 = λ l. IsDone (record { calls = l ++ writes (fault_text f) ∷ []; end = Some f }) code printed.made in
-        fault_at [] (refused_at place c) s lib_new lib_new out out_new [] f code printed.made w refl (All-nil (IfSettle good))
+        let D : List Call → Type 0 = λ l. IsDone true (record { calls = l ++ writes (fault_text f) ∷ []; end = Some f }) code printed.made in
+        fault_at [] (refused_at place c) s lib_new lib_new out out_new [] f code printed.made w refl
         (subst D (sym (nothing_behind style (has_text (body style w.events)))) printed.done) (sees_wrote lib_new out out_new printed.made printed.wrote)
 
     pub ends_short : (begun : Bool) (left : List Said) (end : ScriptEnd) (s : T) (lib lib_new : L) (out : S)
@@ -210,7 +186,7 @@ module _ {T : Type 0} (is_step : Command → T → Step T → Type 0) (last_name
         let one = goes_from c.rest end s in
         let F : List Call → Type 0 = λ l. IsFrontOf l 1 (whole []) in
         cut_at c.rest end s lib_new lib_new out out one.some [] one.some.events 1 (whole []) b.way one.is refl
-        (All-nil (IfSettle good)) (subst F (sym (nothing_behind style (has_text (body style b.way.events))))
+        (told_history is_step last_name is_last held style tells told c.rest end s one.some one.is) (subst F (sym (nothing_behind style (has_text (body style b.way.events))))
         (inl (record { rest = []; calls = refl; torn = refl; status_is = refl })))
         (sees_nothing answers taken calls lib_new out)
 
@@ -225,7 +201,7 @@ module _ {T : Type 0} (is_step : Command → T → Step T → Type 0) (last_name
     pub ends_unread : (begun : Bool) (left : List Said) (end : ScriptEnd) (s : T) (lib lib_new : L) (out out_new : S) (unread : List ℕ) (code : ℕ)
         → At begun left end s lib out
         → IsUnread left (names_asked (answers lib)) (names_asked (answers lib_new)) unread
-        → Printed taken calls out out_new (fault_doing (fault.Read unread)) code
+        → Printed taken calls out out_new true (fault_doing (fault.Read unread)) code
         → HasFailed (answers lib_first) (answers lib_new)
         → RunsTo lib_new out_new code
     ends_unread begun left end s lib lib_new out out_new unread code a r printed failed =
@@ -236,9 +212,9 @@ module _ {T : Type 0} (is_step : Command → T → Step T → Type 0) (last_name
         let last = writes (fault_text (fault.Read unread)) ∷ [] in
         let f : (map reads r.names ++ reads unread ∷ last) ≡ map reads all ++ last =
         sym (ap (λ l. l ++ last) e ∙ append_assoc (map reads r.names) (reads unread ∷ []) last) in
-        ended_at_read is_step last_name is_last good held answers taken calls style p lib_first lib lib_new
+        ended_at_read is_step last_name is_last held answers taken calls style tells p lib_first lib lib_new
         out_first out out_new fits r.names unread r.more end s one.some code (made_after (map reads all) printed.made)
-        w one.is failed (done_after (map reads all) last _ (Some (fault.Read unread)) code printed.made f printed.done)
+        w one.is failed (done_after tells (map reads all) last _ (Some (fault.Read unread)) code printed.made f printed.done)
         (sees_then answers taken calls lib lib_new lib_new out out out_new (map reads all) printed.made
         (sees_names answers taken calls lib lib_new out all r.grown)
         (sees_wrote lib_new out out_new printed.made printed.wrote))
@@ -251,6 +227,7 @@ module _ {T : Type 0} (is_step : Command → T → Step T → Type 0) (last_name
       is : IsHistory is_step last_name is_last held (command c ∷ more) end s history
       rest : List Event
       events_are : history.events ≡ events_in step ++ rest
+      by_end : IsToldBy style tells rest history.end
 
     continued : (c : Command) (more : List Said) (end : ScriptEnd) (s : T) (step : Step T) → is_step c s step
         → Continued c more end s step
@@ -261,66 +238,54 @@ module _ {T : Type 0} (is_step : Command → T → Step T → Type 0) (last_name
           is = record { step = goes events t; right = right; goes_on = record { more = one.some; right = one.is; h_is = refl } };
           rest = one.some.events;
           events_are = refl;
+          by_end = told_history is_step last_name is_last held style tells told more end t one.some one.is;
         }
     continued c more end s (ends events f) right = record {
       history = ended events f;
       is = record { step = ends events f; right = right; goes_on = refl };
       rest = [];
       events_are = sym (append-nil events);
+      by_end = λ is_told none. cc none;
     }
 
     cut_in_step : (c : Command) (more : List Said) (end : ScriptEnd) (s : T) (lib : L) (out out_new : S)
         (step : Step T) (shown hidden : List Event) (code : ℕ) (m : Made)
         → is_step c s step
-        → (w : WayAt (command c ∷ more) end s lib out) → events_in step ≡ shown ++ hidden → AllSettles good shown
+        → (w : WayAt (command c ∷ more) end s lib out) → events_in step ≡ shown ++ hidden
         → IsFrontOf (behind style (has_text (body style w.events)) shown) code m
         → Wrote taken calls out out_new m → RunsTo lib out_new code
-    cut_in_step c more end s lib out out_new step shown hidden code m right w events_are all front wrote =
+    cut_in_step c more end s lib out out_new step shown hidden code m right w events_are front wrote =
         let k = continued c more end s step right in
         cut_at (command c ∷ more) end s lib lib out out_new k.history shown (hidden ++ k.rest) code m w k.is
-        (k.events_are ∙ ap (λ l. l ++ k.rest) events_are ∙ append_assoc shown hidden k.rest) all front (sees_wrote lib out out_new m wrote)
+        (k.events_are ∙ ap (λ l. l ++ k.rest) events_are ∙ append_assoc shown hidden k.rest) (told_more style tells hidden k.rest k.history.end k.by_end) front (sees_wrote lib out out_new m wrote)
 
     end_of_step : (c : Command) (more : List Said) (end : ScriptEnd) (s : T) (lib : L) (out out_new : S) (step : Step T) (code : ℕ) (m : Made)
         → is_step c s step
-        → (w : WayAt (command c ∷ more) end s lib out) → AllSettles good (events_in step)
+        → (w : WayAt (command c ∷ more) end s lib out)
         → EndsSo style (has_text (body style w.events)) step code m
         → Wrote taken calls out out_new m → RunsTo lib out_new code
-    end_of_step c more end s lib out out_new (goes events t) code m right w all done wrote =
-        cut_in_step c more end s lib out out_new (goes events t) events [] code m right w (sym (append-nil events)) all done wrote
-    end_of_step c more end s lib out out_new (ends events f) code m right w all done wrote =
+    end_of_step c more end s lib out out_new (goes events t) code m right w done wrote =
+        cut_in_step c more end s lib out out_new (goes events t) events [] code m right w (sym (append-nil events)) done wrote
+    end_of_step c more end s lib out out_new (ends events f) code m right w done wrote =
         fault_at (command c ∷ more) end s lib lib out out_new events f code m w
-        (record { step = ends events f; right = right; goes_on = refl }) all done (sees_wrote lib out out_new m wrote)
+        (record { step = ends events f; right = right; goes_on = refl }) done (sees_wrote lib out out_new m wrote)
 
     pub ends_command : (begun : Bool) (c : Command) (more : List Said) (end : ScriptEnd) (s : T) (lib : L) (out out_new : S) (code : ℕ)
         → At begun (command c ∷ more) end s lib out
-        → EndsAt style good (is_step c s) taken calls out out_new begun code → RunsTo lib out_new code
+        → EndsAt style (is_step c s) taken calls out out_new begun code → RunsTo lib out_new code
     ends_command begun c more end s lib out out_new code a e = elim e.done [
-      | inl all ↦ (
-          let same : events_in e.step ≡ e.shown = e.events_are ∙ ap (λ l. e.shown ++ l) all.0 ∙ append-nil e.shown in
-          end_of_step c more end s lib out out_new e.step code e.made e.right a.way (subst (AllSettles good) (sym same) e.all_good)
+      | inl all ↦ end_of_step c more end s lib out out_new e.step code e.made e.right a.way
           (subst (λ b. EndsSo style b e.step code e.made) a.begun_is all.1) e.wrote
-          )
-      | inr front ↦ cut_in_step c more end s lib out out_new e.step e.shown e.hidden code e.made e.right a.way e.events_are e.all_good
+      | inr front ↦ cut_in_step c more end s lib out out_new e.step e.shown e.hidden code e.made e.right a.way e.events_are
           (subst (λ b. IsFrontOf (behind style b e.shown) code e.made) a.begun_is front) e.wrote
     ]
 
     -- ---- the end of the script
 
-    -- a history of the end, behind the events so far
-    last_behind : (a events : List Event) (end : Option Fault)
-        → calls_of style (a ++ events) end ≡ so_far style a ++ last_calls style (has_text (body style a)) events end
-    last_behind a events None =
-        ap (λ l. opened style.opening (l ++ map writes style.closing)) (body-append style a events)
-        ∙ ap (opened style.opening) (append_assoc (body style a) (body style events) (map writes style.closing))
-        ∙ opened-append style.opening (body style a) (body style events ++ map writes style.closing)
-    last_behind a events (Some f) =
-        ap (λ l. l ++ writes (fault_text f) ∷ []) (append_is style a events)
-        ∙ append_assoc (so_far style a) (behind style (has_text (body style a)) events) (writes (fault_text f) ∷ [])
-
     pub ends_finished : (begun : Bool) (left : List Said) (end : ScriptEnd) (s : T) (lib mid lib_new : L) (some : List Answer) (out out_new : S) (code : ℕ)
         → At begun left end s lib out
         → Asked left [] (names_asked (answers lib)) (names_asked (answers mid)) × (end ≡ at_its_end) → answers mid ≡ answers lib_first ++ some
-        → Finishes style good (λ h. IsLast is_step last_name is_last held (last_name s) s h) answers taken calls mid lib_new out out_new begun code
+        → Finishes style tells (λ h. IsLast is_step last_name is_last held (last_name s) s h) answers taken calls mid lib_new out out_new begun code
         → RunsTo lib_new out_new code
     ends_finished begun left end s lib mid lib_new some out out_new code before_names finished later f =
         let a = at_asked begun left [] end s lib mid out before_names finished.0 in
@@ -329,19 +294,19 @@ module _ {T : Type 0} (is_step : Command → T → Step T → Type 0) (last_name
         let rest = last_calls style (has_text (body style w.events)) f.history.events f.history.end in
         let k : Option ℕ = reads_after (names_read start) f.fails in
         let split : doing style (before w.events f.history) ≡ called_all start (record { calls = rest; end = f.history.end }) =
-        ap (λ (l : List Call). (let d : Doing = record { calls = l; end = f.history.end } in d)) (last_behind w.events f.history.events f.history.end) in
+        ap (λ (l : List Call). (let d : Doing = record { calls = l; end = f.history.end } in d)) (last_behind style w.events f.history.events f.history.end) in
         let cut : failing k (doing style (before w.events f.history)) ≡ called_all start (failing f.fails (record { calls = rest; end = f.history.end })) =
         ap (failing k) split ∙ failing_behind start f.fails rest f.history.end in
-        let ours : IsDone (failing f.fails (record { calls = rest; end = f.history.end })) code f.made =
-        subst (λ b. IsDone (failing f.fails (record {
+        let ours : IsDone tells (failing f.fails (record { calls = rest; end = f.history.end })) code f.made =
+        subst (λ b. IsDone tells (failing f.fails (record {
           calls = last_calls style b f.history.events f.history.end;
           end = f.history.end;
         })) code f.made) a.begun_is f.done in
         let d = failing f.fails (record { calls = rest; end = f.history.end }) in
         let is_end : IsHistory is_step last_name is_last held [] end s f.history =
         subst (λ x. IsHistory is_step last_name is_last held [] x s f.history) (sym finished.1) f.right in
-        let all_done : IsDone (failing k (doing style (before w.events f.history))) code (made_after start f.made) =
-        subst (λ (x : Doing). IsDone x code (made_after start f.made)) (sym cut) (done_after start d.calls (start ++ d.calls) d.end code f.made refl ours) in
+        let all_done : IsDone tells (failing k (doing style (before w.events f.history))) code (made_after start f.made) =
+        subst (λ (x : Doing). IsDone tells x code (made_after start f.made)) (sym cut) (done_after tells start d.calls (start ++ d.calls) d.end code f.made refl ours) in
         record {
           history = before w.events f.history;
           right = w.leads f.history is_end;
@@ -350,14 +315,6 @@ module _ {T : Type 0} (is_step : Command → T → Step T → Type 0) (last_name
           made = made_after start f.made;
           done = all_done;
           sees = sees_then answers taken calls lib_first mid lib_new out_first out out_new start f.made w.seen f.sees;
-          reached = record {
-            front = w.events ++ f.history.events;
-            rest = [];
-            events_are = sym (append-nil (w.events ++ f.history.events));
-            all_good = All-append (IfSettle good) w.events f.history.events w.all_good f.all_good;
-            end = f.history.end;
-            done = all_done;
-          };
         }
 
 -- ---- whatever a library answers
@@ -397,12 +354,12 @@ module _ {S : Type 0} (taken : S → List ℕ) (calls : S → ℕ) where
       }
 
   done_answers : (old new : S) (made : List Call) (f : Fault) (code : ℕ) (m : Made)
-      → IsDone (record { calls = made ++ writes (fault_text f) ∷ []; end = Some f }) code m
+      → IsDone true (record { calls = made ++ writes (fault_text f) ∷ []; end = Some f }) code m
       → Wrote taken calls old new m
       → CutsShort code ⊎ EndsAtFault taken calls old new code
   done_answers old new made f code m done wrote = elim done [
     | inl all ↦ inr (fault_last old new made m f code all.calls all.torn all.status_is wrote)
-    | inr front ↦ inl (cut_code _ code m front)
+    | inr cut ↦ inl (cut_code _ code m cut.0)
   ]
 
   -- a command ends the run with a fault's record, or is cut short
@@ -412,24 +369,24 @@ module _ {S : Type 0} (taken : S → List ℕ) (calls : S → ℕ) where
   step_answers style begun (goes events s) old new code m front wrote = inl (cut_code _ code m front)
   step_answers style begun (ends events f) old new code m done wrote = done_answers old new (behind style begun events) f code m done wrote
 
-  pub command_answers : {T : Type 0} (style : Style) (good : Settle → Type 0) (is_step : Step T → Type 0) (old new : S) (begun : Bool) (code : ℕ)
-      → EndsAt style good is_step taken calls old new begun code
+  pub command_answers : {T : Type 0} (style : Style) (is_step : Step T → Type 0) (old new : S) (begun : Bool) (code : ℕ)
+      → EndsAt style is_step taken calls old new begun code
       → CutsShort code ⊎ EndsAtFault taken calls old new code
-  command_answers style good is_step old new begun code e = elim e.done [
+  command_answers style is_step old new begun code e = elim e.done [
     | inl all ↦ step_answers style begun e.step old new code e.made all.1 e.wrote
     | inr front ↦ inl (cut_code _ code e.made front)
   ]
 
   -- the record of a fault is printed, or cut short
-  pub fault_answers : (old new : S) (f : Fault) (code : ℕ) → Printed taken calls old new (fault_doing f) code
+  pub fault_answers : (old new : S) (f : Fault) (code : ℕ) → Printed taken calls old new true (fault_doing f) code
       → CutsShort code ⊎ EndsAtFault taken calls old new code
   fault_answers old new f code p = done_answers old new [] f code p.made p.done p.wrote
 
-  pub fault_code : (old new : S) (f : Fault) (code : ℕ) → Printed taken calls old new (fault_doing f) code
+  pub fault_code : (old new : S) (f : Fault) (code : ℕ) → Printed taken calls old new true (fault_doing f) code
       → (code ≡ status f) ⊎ CutsShort code
   fault_code old new f code p = elim p.done [
     | inl all ↦ inl all.status_is
-    | inr front ↦ inr (cut_code _ code p.made front)
+    | inr cut ↦ inr (cut_code _ code p.made cut.0)
   ]
 
   -- what was taken before
@@ -460,7 +417,7 @@ module _ {S : Type 0} (taken : S → List ℕ) (calls : S → ℕ) where
   record IsRecord (old new : S) (f : Fault) : Type 0 where
     takes : Takes taken calls old new (fault_text f ∷ [])
 
-  read_record : (old new : S) (n : List ℕ) (code : ℕ) → Printed taken calls old new (fault_doing (fault.Read n)) code
+  read_record : (old new : S) (n : List ℕ) (code : ℕ) → Printed taken calls old new true (fault_doing (fault.Read n)) code
       → code ≡ 4 → IsRecord old new (fault.Read n)
   read_record old new n code p four = elim p.done [
     | inl all ↦ (let w : Wrote taken calls old new (whole (writes (fault_text (fault.Read n)) ∷ [])) =
@@ -469,13 +426,13 @@ module _ {S : Type 0} (taken : S → List ℕ) (calls : S → ℕ) where
         ∙ ap (λ t. (let x : Made = record { calls = writes (fault_text (fault.Read n)) ∷ []; torn = t } in x))
         all.torn) p.wrote in
         record { takes = takes_wrote taken calls old new (writes (fault_text (fault.Read n)) ∷ []) w })
-    | inr front ↦ absurd (not_cut code four (cut_code _ code p.made front))
+    | inr cut ↦ absurd (not_cut code four (cut_code _ code p.made cut.0))
   ]
 
   pub ends_at_read : {L : Type 0} (answers : L → List Answer) (lib_old mid lib_new : L) (some : List Answer)
       (old now new : S) (texts : List (List ℕ)) (n : List ℕ) (code : ℕ)
       → answers mid ≡ answers lib_old ++ some → EndsFailed (answers mid) (answers lib_new) (bytes n)
-      → Takes taken calls old now texts → Printed taken calls now new (fault_doing (fault.Read n)) code → code ≡ 4
+      → Takes taken calls old now texts → Printed taken calls now new true (fault_doing (fault.Read n)) code → code ≡ 4
       → EndsAtRead answers lib_old lib_new taken calls old new
   ends_at_read answers lib_old mid lib_new some old now new texts n code later last takes printed four = record {
     texts = texts;
@@ -531,7 +488,7 @@ module _ {L S : Type 0} (answers : L → List Answer) (holds : L → Option File
 
   pub untold_refused : (lib_old lib lib_new : L) (old now new : S) (place : Place) (c : ScriptCause) (code : ℕ)
       → Shown answers holds taken calls lib_old lib old now → IsLater answers holds lib lib_new
-      → Printed taken calls now new (fault_doing (fault.Script place (cause.Script c))) code
+      → Printed taken calls now new true (fault_doing (fault.Script place (cause.Script c))) code
       → (code ≡ 5 → Rose (sink_faults old) (sink_faults new))
       → IsUntold answers holds sink_faults taken calls lib_old lib_new old new code
   untold_refused lib_old lib lib_new old now new place c code shown later printed write =
@@ -544,7 +501,7 @@ module _ {L S : Type 0} (answers : L → List Answer) (holds : L → Option File
   pub untold_read : (lib_old lib lib_new : L) (old now new : S) (n : List ℕ) (code : ℕ)
       → Shown answers holds taken calls lib_old lib old now → IsLater answers holds lib lib_new
       → EndsFailed (answers lib) (answers lib_new) (bytes n)
-      → Printed taken calls now new (fault_doing (fault.Read n)) code
+      → Printed taken calls now new true (fault_doing (fault.Read n)) code
       → (code ≡ 5 → Rose (sink_faults old) (sink_faults new))
       → IsUntold answers holds sink_faults taken calls lib_old lib_new old new code
   untold_read lib_old lib lib_new old now new n code shown later last printed write = record {
@@ -572,11 +529,11 @@ module _ {L S : Type 0} (answers : L → List Answer) (holds : L → Option File
   untold_first lib out = untold_short lib lib lib out out (shown_nothing lib out) (later_same answers holds lib)
 
   -- done to its end with these last texts, or cut short
-  pub untold_last : (lib : L) (old new : S) (last : List Call) (code : ℕ)
-      → Printed taken calls old new (record { calls = last; end = None }) code
+  pub untold_last : (tells : Bool) (lib : L) (old new : S) (last : List Call) (code : ℕ)
+      → Printed taken calls old new tells (record { calls = last; end = None }) code
       → (code ≡ 5 → Rose (sink_faults old) (sink_faults new))
       → IsUntold answers holds sink_faults taken calls lib lib old new code
-  untold_last lib old new last code p write = elim p.done [
+  untold_last tells lib old new last code p write = elim p.done [
     | inl all ↦ record {
       statuses = inl all.status_is;
       later = later_same answers holds lib;
@@ -584,27 +541,26 @@ module _ {L S : Type 0} (answers : L → List Answer) (holds : L → Option File
       last = λ e. let is : code ≡ 0 = all.status_is in absurd (omega (arith, is, e));
       write = write;
     }
-    | inr front ↦ record {
-      statuses = inr (inl (cut_code last code p.made front));
+    | inr cut ↦ record {
+      statuses = inr (inl (cut_code last code p.made cut.0));
       later = later_same answers holds lib;
-      usage = λ e. not_usage code e (cut_code last code p.made front);
-      last = λ e. absurd (not_cut code e (cut_code last code p.made front));
+      usage = λ e. not_usage code e (cut_code last code p.made cut.0);
+      last = λ e. absurd (not_cut code e (cut_code last code p.made cut.0));
       write = write;
     }
   ]
 
   -- and behind the last command of a command line that does nothing there
-  pub finishes_last : (style : Style) (good : Settle → Type 0) (lib : L) (old new : S) (begun : Bool) (code : ℕ)
-      → Printed taken calls old new (record { calls = last_calls style begun [] None; end = None }) code
-      → Finishes style good (λ h. h ≡ finishes []) answers taken calls lib lib old new begun code
-  finishes_last style good lib old new begun code p = record {
+  pub finishes_last : (style : Style) (tells : Bool) (lib : L) (old new : S) (begun : Bool) (code : ℕ)
+      → Printed taken calls old new tells (record { calls = last_calls style begun [] None; end = None }) code
+      → Finishes style tells (λ h. h ≡ finishes []) answers taken calls lib lib old new begun code
+  finishes_last style tells lib old new begun code p = record {
     history = finishes [];
     right = refl;
     fails = None;
     cause = inl refl;
     made = p.made;
     done = p.done;
-    all_good = All-nil (IfSettle good);
     sees = record {
       names = sym (ap (λ l. names_asked (answers lib) ++ l) p.wrote.names ∙ append-nil (names_asked (answers lib)));
       bytes = p.wrote.bytes_are;
@@ -652,21 +608,21 @@ module _ {L S : Type 0} (answers : L → List Answer) (holds : L → Option File
 
 module _ {L S : Type 0} (answers : L → List Answer) (taken : S → List ℕ)
     (calls : S → ℕ) where
-  pub run_due : (is_history : History → Type 0) (style : Style) (good : Settle → Type 0) (lib_old lib_new : L)
+  pub run_due : (is_history : History → Type 0) (style : Style) (tells : Bool) (lib_old lib_new : L)
       (old new : S) (code : ℕ) (one : ExactlyOne is_history)
-      → Runs answers taken calls lib_old lib_new old new is_history style good code
+      → Runs answers taken calls lib_old lib_new old new is_history style tells code
       → IsDue one.some.end code (answers lib_old) (answers lib_new)
-  run_due is_history style good lib_old lib_new old new code one runs =
-      due_of answers taken calls is_history style good lib_old lib_new old new code one runs
+  run_due is_history style tells lib_old lib_new old new code one runs =
+      due_of answers taken calls is_history style tells lib_old lib_new old new code one runs
 
 -- ---- a fault alone
 
 module _ {L S : Type 0} (answers : L → List Answer) (taken : S → List ℕ)
     (calls : S → ℕ) where
-  pub fault_alone : (style : Style) (good : Settle → Type 0) (lib : L) (old new : S) (f : Fault) (code : ℕ)
-      → Printed taken calls old new (fault_doing f) code
-      → Runs answers taken calls lib lib old new (λ h. h ≡ ended [] f) style good code
-  fault_alone style good lib old new f code p = record {
+  pub fault_alone : (style : Style) (tells : Bool) (lib : L) (old new : S) (f : Fault) (code : ℕ)
+      → Printed taken calls old new true (fault_doing f) code
+      → Runs answers taken calls lib lib old new (λ h. h ≡ ended [] f) style tells code
+  fault_alone style tells lib old new f code p = record {
     history = ended [] f;
     right = refl;
     fails = None;
@@ -678,7 +634,6 @@ module _ {L S : Type 0} (answers : L → List Answer) (taken : S → List ℕ)
       bytes = p.wrote.bytes_are;
       writes = p.wrote.writes_are;
     };
-    reached = record { front = []; rest = []; events_are = refl; all_good = All-nil (IfSettle good); end = Some f; done = p.done };
   }
 
 -- ---- exactly one

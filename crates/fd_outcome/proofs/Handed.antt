@@ -1,5 +1,5 @@
 -- What a sink has taken of texts that are handed to it one behind another.
-use Rattle.std.proofs.Common.{◌≡◌, ◌∙◌, ℕ, ◌+◌, length, List, [], ◌∷◌, ◌++◌, map, Option, Some, None, refl, sym, ap, inl, inr, arith}
+use Rattle.std.proofs.Common.{◌≡◌, ◌∙◌, ℕ, ◌+◌, length, length-append, Bool, true, List, [], ◌∷◌, ◌++◌, map, Option, Some, None, refl, sym, ap, inl, inr, arith}
 use Rattle.std.specs.List.{concat}
 use Rattle.std.proofs.lemmas.List.{append-nil, map-append}
 use Rattle.fd_outside.specs.Emitted.{Takes, TakesFirst, TakesTorn}
@@ -7,12 +7,18 @@ use Rattle.dss_model.specs.Names.{bytes}
 use Rattle.fd_report.specs.Faults.{status}
 use Rattle.fd_report.specs.declared.faults.Fault.{Fault}
 use Rattle.fd_outcome.specs.Calls.{Call, writes, fault_text, names_read}
-use Rattle.fd_outcome.specs.Done.{Made, Sees, torn_bytes, torn_writes}
+use Rattle.fd_outcome.specs.Done.{Made, IsFrontOf, Sees, torn_bytes, torn_writes}
 use Rattle.fd_outcome.specs.Way.{whole}
 use Rattle.fd_outcome.specs.Parts.{Wrote, Printed, fault_doing, IsCutIn}
 use Rattle.fd_outcome.proofs.Lists.{names-append, names_of_writes, texts_of_writes}
 use Rattle.fd_outcome.proofs.Ways.{done_after, front_after, made_after, sees_then}
 use Rattle.fd_outcome.proofs.Given.{wrote_nothing}
+
+-- a front behind which something stands isn't all
+pub shorter : {A : Type 0} (xs : List A) (y : A) (ys : List A) → xs ≡ xs ++ y ∷ ys → ⊥
+shorter xs y ys e =
+    let f : length xs ≡ length xs + length (y ∷ ys) = ap length e ∙ length-append xs (y ∷ ys) in
+    absurd (omega (arith, f))
 
 -- ---- texts handed to a sink
 
@@ -36,7 +42,14 @@ module _ {S : Type 0} (taken : S → List ℕ) (calls : S → ℕ) where
       → IsCutIn taken calls old new (map writes texts) 1
   cut_by_memory old new texts f = record {
     made = whole (map writes f.whole);
-    front = inl (record { rest = map writes f.rest; calls = ap (map writes) f.parts ∙ map-append writes f.whole f.rest; torn = refl; status_is = refl });
+    front = inl (record {
+      rest = map writes (f.piece ∷ f.rest);
+      calls = ap (map writes) f.parts ∙ map-append writes f.whole (f.piece ∷ f.rest);
+      torn = refl;
+      status_is = refl;
+    });
+    left = λ e. absurd (shorter (map writes f.whole) (writes f.piece) (map writes f.rest)
+        (e ∙ ap (map writes) f.parts ∙ map-append writes f.whole (f.piece ∷ f.rest)));
     wrote = wrote_all old new f.whole f.takes;
   }
 
@@ -53,6 +66,8 @@ module _ {S : Type 0} (taken : S → List ℕ) (calls : S → ℕ) where
       cut = f.cut;
       status_is = refl;
     });
+    left = λ e. absurd (shorter (map writes f.whole) (writes f.piece) (map writes f.rest)
+        (e ∙ ap (map writes) f.parts ∙ map-append writes f.whole (f.piece ∷ f.rest)));
     wrote = wrote_texts old new f.whole (Some f.front) f.bytes f.writes;
   }
 
@@ -60,12 +75,13 @@ module _ {S : Type 0} (taken : S → List ℕ) (calls : S → ℕ) where
   cut_before out all = record {
     made = whole [];
     front = inl (record { rest = all; calls = refl; torn = refl; status_is = refl });
+    left = λ e. sym e;
     wrote = wrote_nothing taken calls out;
   }
 
   -- a fault's record, by what the sink took of it
   pub fault_whole : (old new : S) (f : Fault) (code : ℕ) → code ≡ status f
-      → Takes taken calls old new (fault_text f ∷ []) → Printed taken calls old new (fault_doing f) code
+      → Takes taken calls old new (fault_text f ∷ []) → Printed taken calls old new true (fault_doing f) code
   fault_whole old new f code is takes = record {
     made = whole (writes (fault_text f) ∷ []);
     done = inl (record { calls = refl; torn = refl; status_is = is });
@@ -73,8 +89,8 @@ module _ {S : Type 0} (taken : S → List ℕ) (calls : S → ℕ) where
   }
 
   pub fault_cut : (old new : S) (f : Fault) (code : ℕ) → IsCutIn taken calls old new (writes (fault_text f) ∷ []) code
-      → Printed taken calls old new (fault_doing f) code
-  fault_cut old new f code c = record { made = c.made; done = inr c.front; wrote = c.wrote }
+      → Printed taken calls old new true (fault_doing f) code
+  fault_cut old new f code c = record { made = c.made; done = inr (c.front, λ told all. cc (c.left all)); wrote = c.wrote }
 
 -- ---- writes behind others
 
@@ -94,19 +110,18 @@ module _ {S : Type 0} (taken : S → List ℕ) (calls : S → ℕ) where
       }
 
   -- what is done of these calls is done of those before and these
-  pub printed_then : (old mid new : S) (a rest : List Call) (end : Option Fault) (code : ℕ)
-      → Wrote taken calls old mid (whole a) → Printed taken calls mid new (record { calls = rest; end = end }) code
-      → Printed taken calls old new (record { calls = a ++ rest; end = end }) code
-  printed_then old mid new a rest end code first p = record {
+  pub printed_then : (tells : Bool) (old mid new : S) (a rest : List Call) (end : Option Fault) (code : ℕ)
+      → Wrote taken calls old mid (whole a) → Printed taken calls mid new tells (record { calls = rest; end = end }) code
+      → Printed taken calls old new tells (record { calls = a ++ rest; end = end }) code
+  printed_then tells old mid new a rest end code first p = record {
     made = made_after a p.made;
-    done = done_after a rest (a ++ rest) end code p.made refl p.done;
+    done = done_after tells a rest (a ++ rest) end code p.made refl p.done;
     wrote = wrote_then old mid new a p.made first p.wrote;
   }
 
-  pub cut_then : (old mid new : S) (a rest : List Call) (code : ℕ) → Wrote taken calls old mid (whole a)
-      → IsCutIn taken calls mid new rest code → IsCutIn taken calls old new (a ++ rest) code
-  cut_then old mid new a rest code first c = record {
-    made = made_after a c.made;
-    front = front_after a rest code c.made c.front;
-    wrote = wrote_then old mid new a c.made first c.wrote;
-  }
+  -- a front of these calls is a front of those before and these
+  pub front_then : (old mid new : S) (a rest : List Call) (code : ℕ) → Wrote taken calls old mid (whole a)
+      → (c : IsCutIn taken calls mid new rest code)
+      → IsFrontOf (a ++ rest) code (made_after a c.made) × Wrote taken calls old new (made_after a c.made)
+  front_then old mid new a rest code first c =
+      (front_after a rest code c.made c.front, wrote_then old mid new a c.made first c.wrote)

@@ -2,6 +2,7 @@ pub mod Histories
 pub mod Lists
 pub mod Printing
 pub mod Ways
+pub mod Told
 pub mod Asked
 pub mod Given
 pub mod Handed

@@ -1,6 +1,6 @@
 -- Laws of printing.
-use Rattle.std.proofs.Common.{◌≡◌, ◌∙◌, ℕ, zero, suc, ◌+◌, List, [], ◌∷◌, ◌++◌, map, length, Option, Some, None, refl, sym, ap, subst, inl, inr, arith}
-use Rattle.std.specs.Prelude.{◌⊎◌}
+use Rattle.std.proofs.Common.{◌≡◌, ◌∙◌, ℕ, zero, suc, ◌+◌, Bool, true, List, [], ◌∷◌, ◌++◌, map, length, Option, Some, None, refl, sym, ap, subst, inl, inr, arith}
+use Rattle.std.specs.Prelude.{◌⊎◌, ◌||◌, is_some}
 use Rattle.std.specs.List.{flat_map, concat}
 use Rattle.std.proofs.lemmas.List.{append_assoc, append-nil}
 use Rattle.fd_outside.specs.Answers.{Answer, HasFailed}
@@ -10,7 +10,6 @@ use Rattle.fd_outside.proofs.CallerLemmas.{front_after, front_more, front_none, 
 use Rattle.dss_model.specs.Names.{bytes}
 use Rattle.fd_report.specs.declared.faults.Fault.{Fault}
 use Rattle.fd_outcome.specs.Statuses.{status_of, want_of_memory, write_fault}
-use Rattle.fd_outcome.specs.Settles.{Settle}
 use Rattle.fd_outcome.specs.Events.{Event, History, before}
 use Rattle.fd_outcome.specs.Work.{ExactlyOne}
 use Rattle.fd_outcome.specs.Calls.{Call, reads, writes, Style, report, opened, body, so_far, calls_of, Doing, doing, fault_text, names_read, texts_written}
@@ -138,27 +137,31 @@ rest_names : (d : Doing) (calls rest : List Call) → d.calls ≡ calls ++ rest
     → (more : List (List ℕ)) × (names_read d.calls ≡ names_read calls ++ more)
 rest_names d calls rest e = (names_read rest, ap names_read e ∙ names-append calls rest)
 
-all_cut : (d : Doing) (status : ℕ) (m : Made) → IsAll d status m → IsCut d status m
-all_cut d status m a =
+all_cut : (tells : Bool) (d : Doing) (status : ℕ) (m : Made) → IsAll d status m → IsCut tells d status m
+all_cut tells d status m a =
     let e : d.calls ≡ m.calls ++ [] = sym a.calls ∙ sym (append-nil m.calls) in
     record {
       is_front = front_with (texts_written d.calls) (texts_written m.calls) [] m.torn (ap texts_written e ∙ texts-append m.calls []) a.torn;
       names = rest_names d m.calls [] e;
       answers = inl a.status_is;
       whole = λ h. a.torn;
+      complete = λ told all. a.status_is;
     }
 
-short_cut : (d : Doing) (status : ℕ) (m : Made) → IsShort d.calls status m → IsCut d status m
-short_cut d status m a = record {
+short_cut : (tells : Bool) (d : Doing) (status : ℕ) (m : Made) → IsShort d.calls status m
+    → ((is_some d.end || tells) ≡ true → m.calls ≡ d.calls → ⊥) → IsCut tells d status m
+short_cut tells d status m a left = record {
   is_front = front_with (texts_written d.calls) (texts_written m.calls) (texts_written a.rest) m.torn
       (ap texts_written a.calls ∙ texts-append m.calls a.rest) a.torn;
   names = rest_names d m.calls a.rest a.calls;
   answers = inr (inl a.status_is);
   whole = λ h. a.torn;
+  complete = λ told all. absurd (left told all);
 }
 
-torn_cut : (d : Doing) (status : ℕ) (m : Made) → IsTorn d.calls status m → IsCut d status m
-torn_cut d status m a =
+torn_cut : (tells : Bool) (d : Doing) (status : ℕ) (m : Made) → IsTorn d.calls status m
+    → ((is_some d.end || tells) ≡ true → m.calls ≡ d.calls → ⊥) → IsCut tells d status m
+torn_cut tells d status m a left =
     let xs = texts_written m.calls in
     let e : texts_written d.calls ≡ xs ++ a.text ∷ texts_written a.rest = ap texts_written a.calls ∙ texts-append m.calls (writes a.text ∷ a.rest) in
     record {
@@ -168,14 +171,15 @@ torn_cut d status m a =
       names = rest_names d m.calls (writes a.text ∷ a.rest) a.calls;
       answers = inr (inr a.status_is);
       whole = λ h. absurd (h a.status_is);
+      complete = λ told all. absurd (left told all);
     }
 
 pub cut_is : CutLaw
-cut_is d status m is = elim is [
-  | inl a ↦ all_cut d status m a
-  | inr other ↦ elim other [
-    | inl a ↦ short_cut d status m a
-    | inr a ↦ torn_cut d status m a
+cut_is tells d status m is = elim is [
+  | inl a ↦ all_cut tells d status m a
+  | inr cut ↦ elim cut.0 [
+    | inl a ↦ short_cut tells d status m a cut.1
+    | inr a ↦ torn_cut tells d status m a cut.1
   ]
 ]
 
@@ -194,12 +198,12 @@ by_end style h (Some n) code e = elim (read_is n (doing style h)) [
   | inr r ↦ inr (inr (inr (λ none. cc none, e ∙ ap status_of r.end_now)))
 ]
 
-pub answer_is : (style : Style) (h : History) (fails : Option ℕ) (code : ℕ) (m : Made)
-    → IsDone (failing fails (doing style h)) code m → Answered h.end fails code
+pub answer_is : (style : Style) (tells : Bool) (h : History) (fails : Option ℕ) (code : ℕ) (m : Made)
+    → IsDone tells (failing fails (doing style h)) code m → Answered h.end fails code
 unfolding Answered
-answer_is style h fails code m is = elim is [
+answer_is style tells h fails code m is = elim is [
   | inl a ↦ by_end style h fails code a.status_is
-  | inr other ↦ elim other [
+  | inr cut ↦ elim cut.0 [
     | inl a ↦ inr (inl a.status_is)
     | inr a ↦ inr (inr (inl a.status_is))
   ]
@@ -250,12 +254,12 @@ is_due end code before now at = record { is_due = at; complete = completes end c
 
 module _ {L S : Type 0} (answers : L → List Answer) (taken : S → List ℕ)
     (calls : S → ℕ) where
-  pub due_of : (is_history : History → Type 0) (style : Style) (good : Settle → Type 0) (lib_old lib_new : L)
+  pub due_of : (is_history : History → Type 0) (style : Style) (tells : Bool) (lib_old lib_new : L)
       (old new : S) (code : ℕ) (one : ExactlyOne is_history)
-      → Runs answers taken calls lib_old lib_new old new is_history style good code
+      → Runs answers taken calls lib_old lib_new old new is_history style tells code
       → IsDue one.some.end code (answers lib_old) (answers lib_new)
-  due_of is_history style good lib_old lib_new old new code one runs =
+  due_of is_history style tells lib_old lib_new old new code one runs =
       let same : runs.history ≡ one.some = one.only runs.history runs.right in
       let here = due_at runs.history.end runs.fails code (answers lib_old) (answers lib_new) runs.cause
-      (answer_is style runs.history runs.fails code runs.made runs.done) in
+      (answer_is style tells runs.history runs.fails code runs.made runs.done) in
       subst (λ (h : History). IsDue h.end code (answers lib_old) (answers lib_new)) same (is_due runs.history.end code (answers lib_old) (answers lib_new) here)

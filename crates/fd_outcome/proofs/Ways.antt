@@ -1,8 +1,8 @@
 -- The way of a run.
 use Rattle.std.proofs.Common.{◌≡◌, ◌∙◌, ℕ, ◌+◌, Bool, true, false, List, [], ◌∷◌, ◌++◌, map, length, length-append, Option, Some, None, refl, sym, ap, subst, inl, inr, arith}
 use Rattle.std.specs.List.{concat}
-use Rattle.std.proofs.lemmas.List.{append_assoc, append-nil, map-append}
-use Rattle.std.proofs.lemmas.List.Elements.{All-nil, All-cons, All-append}
+use Rattle.std.specs.Prelude.{◌||◌, is_some}
+use Rattle.std.proofs.lemmas.List.{append_assoc, append_cancel_left, append-nil, map-append}
 use Rattle.std.proofs.lemmas.List.Folds.{concat-append}
 use Rattle.fd_outside.specs.Answers.{Answer, HasFailed, names_asked}
 use Rattle.dss_model.specs.Names.{bytes}
@@ -10,12 +10,11 @@ use Rattle.dss_model.specs.declared.command.Command.{Command}
 use Rattle.dss_script.specs.Said.{Said, name, ScriptEnd}
 use Rattle.fd_report.specs.declared.faults.Fault.{Fault}
 use Rattle.fd_report.specs.declared.faults.Fault.TheVariants as fault
-use Rattle.fd_outcome.specs.Settles.{Settle}
-use Rattle.fd_outcome.specs.Events.{Event, asked, History, before, IfSettle, AllSettles}
+use Rattle.fd_outcome.specs.Events.{Event, asked, History, before}
 use Rattle.fd_outcome.specs.Work.{Step}
 use Rattle.fd_outcome.specs.History.{Point, IsFrom, LeadsTo}
-use Rattle.fd_outcome.specs.Calls.{Call, reads, writes, Style, opened, so_far, body, calls_in, calls_of, doing, Doing, fault_text, names_read, texts_written}
-use Rattle.fd_outcome.specs.Done.{called_first, read_failing, failing, Made, IsDone, IsFrontOf, Sees, torn_bytes, torn_writes}
+use Rattle.fd_outcome.specs.Calls.{Call, reads, writes, Style, opened, so_far, body, calls_in, doing, Doing, fault_text, names_read, texts_written}
+use Rattle.fd_outcome.specs.Done.{called_first, read_failing, failing, Made, IsCutShort, IsDone, IsFrontOf, Sees, torn_bytes, torn_writes}
 use Rattle.fd_outcome.specs.Behind.{behind, has_text, AsksNames}
 use Rattle.fd_outcome.specs.Runs.{Runs}
 use Rattle.fd_outcome.specs.Way.{Way, whole}
@@ -106,11 +105,6 @@ pub reads_alone : (style : Style) → AsksNames style → (t : Bool) (names : Li
 reads_alone style h true names = body_reads style h names
 reads_alone style h false names = ap (opened style.opening) (body_reads style h names) ∙ reads_opened style.opening names
 
--- names are no settles
-pub names_good : (good : Settle → Type 0) (names : List (List ℕ)) → AllSettles good (map asked names)
-names_good good [] = All-nil (IfSettle good)
-names_good good (n ∷ names) = All-cons (IfSettle good) (asked n) (map asked names) tt (names_good good names)
-
 -- ---- fronts of calls behind others
 
 pub front_after : (a rest : List Call) (status : ℕ) (m : Made) → IsFrontOf rest status m
@@ -128,12 +122,18 @@ front_after a rest status m front = elim front [
   })
 ]
 
-pub done_after : (a rest : List Call) (all : List Call) (end : Option Fault) (status : ℕ) (m : Made) → all ≡ a ++ rest
-    → IsDone (record { calls = rest; end = end }) status m
-    → IsDone (record { calls = all; end = end }) status (made_after a m)
-done_after a rest all end status m e is = elim is [
+pub short_after : (told : Bool) (a rest : List Call) (status : ℕ) (m : Made) → IsCutShort told rest status m
+    → IsCutShort told (a ++ rest) status (made_after a m)
+short_after told a rest status m cut =
+    (front_after a rest status m cut.0, λ is all. cut.1 is (append_cancel_left a m.calls rest all))
+
+pub done_after : (tells : Bool) (a rest : List Call) (all : List Call) (end : Option Fault) (status : ℕ) (m : Made) → all ≡ a ++ rest
+    → IsDone tells (record { calls = rest; end = end }) status m
+    → IsDone tells (record { calls = all; end = end }) status (made_after a m)
+done_after tells a rest all end status m e is = elim is [
   | inl x ↦ inl (record { calls = ap (λ l. a ++ l) x.calls ∙ sym e; torn = x.torn; status_is = x.status_is })
-  | inr front ↦ inr (subst (λ l. IsFrontOf l status (made_after a m)) (sym e) (front_after a rest status m front))
+  | inr cut ↦ inr (subst (λ l. IsCutShort (is_some end || tells) l status (made_after a m)) (sym e)
+      (short_after (is_some end || tells) a rest status m cut))
 ]
 
 -- as many reads go well as there are before the one that fails
@@ -147,59 +147,45 @@ fails_there (reads other ∷ a) n rest end = ap (called_first (reads other)) (fa
 -- ---- the way
 
 module _ {T : Type 0} (is_step : Command → T → Step T → Type 0) (last_name : T → Option (List ℕ))
-    (is_last : T → Option (List ℕ) → History → Type 0) (good : Settle → Type 0) (held : List ℕ → Option (List ℕ))
+    (is_last : T → Option (List ℕ) → History → Type 0) (held : List ℕ → Option (List ℕ))
     {L S : Type 0} (answers : L → List Answer) (taken : S → List ℕ)
-    (calls : S → ℕ) (style : Style) where
+    (calls : S → ℕ) (style : Style) (tells : Bool) where
   abbrev pub WayTo : Point T → L → S → Point T → L → S → Type 0
-  WayTo = Way is_step last_name is_last good held answers taken calls style
+  WayTo = Way is_step last_name is_last held answers taken calls style
 
   abbrev pub At : List Said → ScriptEnd → T → Point T
   At left end s = record { left = left; end = end; state = s }
 
   abbrev pub goes_on : (p q r : Point T) (lib_first lib lib_new : L) (out_first out out_new : S) (events : List Event)
       → (w : WayTo p lib_first out_first q lib out)
-      → LeadsTo is_step last_name is_last held q events r → AllSettles good events
+      → LeadsTo is_step last_name is_last held q events r
       → Sees answers taken calls lib lib_new out out_new (whole (behind style (has_text (body style w.events)) events))
       → WayTo p lib_first out_first r lib_new out_new
-  goes_on p q r lib_first lib lib_new out_first out out_new events w leads all sees = record {
+  goes_on p q r lib_first lib lib_new out_first out out_new events w leads sees = record {
     events = w.events ++ events;
     leads = joins is_step last_name is_last held p q r w.events events w.leads leads;
     seen =
         sees_as answers taken calls lib_first lib_new out_first out_new _ _ (sym (append_is style w.events events))
         (sees_then answers taken calls lib_first lib lib_new out_first out out_new (so_far style w.events)
         (whole (behind style (has_text (body style w.events)) events)) w.seen sees);
-    all_good = All-append (IfSettle good) w.events events w.all_good all;
   }
 
-  -- Of the calls that are left from here, all are made or a front; and so of those of the events that were shown and an end.
+  -- of the calls that are left from here, all are made or a front
   pub ended_at : (p q : Point T) (lib_first lib lib_new : L) (out_first out out_new : S) (h : History) (rest : List Call) (code : ℕ) (m : Made)
       → (w : WayTo p lib_first out_first q lib out) → IsFrom is_step last_name is_last held q h
       → (doing style (before w.events h)).calls ≡ so_far style w.events ++ rest
-      → IsDone (record { calls = rest; end = h.end }) code m
-      → (shown hidden : List Event) (end : Option Fault) (part : List Call) → h.events ≡ shown ++ hidden
-      → AllSettles good shown
-      → calls_of style (w.events ++ shown) end ≡ so_far style w.events ++ part
-      → IsDone (record { calls = part; end = end }) code m
+      → IsDone tells (record { calls = rest; end = h.end }) code m
       → Sees answers taken calls lib lib_new out out_new m
-      → Runs answers taken calls lib_first lib_new out_first out_new (IsFrom is_step last_name is_last held p) style good code
-  ended_at p q lib_first lib lib_new out_first out out_new h rest code m w is rest_is done shown hidden end part
-      events_are all part_is part_done sees =
+      → Runs answers taken calls lib_first lib_new out_first out_new (IsFrom is_step last_name is_last held p) style tells code
+  ended_at p q lib_first lib lib_new out_first out out_new h rest code m w is rest_is done sees =
       record {
         history = before w.events h;
         right = w.leads h is;
         fails = None;
         cause = inl refl;
         made = made_after (so_far style w.events) m;
-        done = done_after (so_far style w.events) rest (doing style (before w.events h)).calls h.end code m rest_is done;
+        done = done_after tells (so_far style w.events) rest (doing style (before w.events h)).calls h.end code m rest_is done;
         sees = sees_then answers taken calls lib_first lib lib_new out_first out out_new (so_far style w.events) m w.seen sees;
-        reached = record {
-          front = w.events ++ shown;
-          rest = hidden;
-          events_are = ap (λ l. w.events ++ l) events_are ∙ sym (append_assoc w.events shown hidden);
-          all_good = All-append (IfSettle good) w.events shown w.all_good all;
-          end = end;
-          done = done_after (so_far style w.events) part (calls_of style (w.events ++ shown) end) end code m part_is part_done;
-        };
       }
 
   pub names_lead : (names : List (List ℕ)) (more : List Said) (end : ScriptEnd) (s : T)
@@ -213,24 +199,24 @@ module _ {T : Type 0} (is_step : Command → T → Step T → Type 0) (last_name
   -- where these events end with a name and its read fails, what was made of them is done
   unread_done : (events : List Event) (b : List Call) (n : List ℕ) (h : History) (code : ℕ) (m : Made)
       → so_far style events ≡ b ++ reads n ∷ []
-      → IsDone (record { calls = b ++ reads n ∷ writes (fault_text (fault.Read n)) ∷ []; end = Some (fault.Read n) }) code m
-      → IsDone (failing (Some (length (names_read b))) (doing style (before events h))) code m
+      → IsDone tells (record { calls = b ++ reads n ∷ writes (fault_text (fault.Read n)) ∷ []; end = Some (fault.Read n) }) code m
+      → IsDone tells (failing (Some (length (names_read b))) (doing style (before events h))) code m
   unread_done events b n h code m first at =
       let f = front_is style events h in
       let split : (doing style (before events h)).calls ≡ b ++ reads n ∷ f.0 = f.1 ∙ ap (λ l. l ++ f.0) first ∙ append_assoc b (reads n ∷ []) f.0 in
       let cut : failing (Some (length (names_read b))) (doing style (before events h))
       ≡ record { calls = b ++ reads n ∷ writes (fault_text (fault.Read n)) ∷ []; end = Some (fault.Read n) } =
       ap (λ (l : List Call). read_failing (length (names_read b)) l h.end) split ∙ fails_there b n f.0 h.end in
-      subst (λ (d : Doing). IsDone d code m) (sym cut) at
+      subst (λ (d : Doing). IsDone tells d code m) (sym cut) at
 
   pub ended_at_read : (p : Point T) (lib_first lib lib_new : L) (out_first out out_new : S) → AsksNames style
       → (names : List (List ℕ)) (n : List ℕ) (more : List Said) (end : ScriptEnd) (s : T) (h : History) (code : ℕ)
       (m : Made)
       → WayTo p lib_first out_first (At (map name names ++ name n ∷ more) end s) lib out
       → IsFrom is_step last_name is_last held (At more end s) h → HasFailed (answers lib_first) (answers lib_new)
-      → IsDone (record { calls = map reads names ++ reads n ∷ writes (fault_text (fault.Read n)) ∷ []; end = Some (fault.Read n) }) code m
+      → IsDone tells (record { calls = map reads names ++ reads n ∷ writes (fault_text (fault.Read n)) ∷ []; end = Some (fault.Read n) }) code m
       → Sees answers taken calls lib lib_new out out_new m
-      → Runs answers taken calls lib_first lib_new out_first out_new (IsFrom is_step last_name is_last held p) style good code
+      → Runs answers taken calls lib_first lib_new out_first out_new (IsFrom is_step last_name is_last held p) style tells code
   ended_at_read p lib_first lib lib_new out_first out out_new fits names n more end s h code m w is up done sees =
       let a = so_far style w.events in
       let b = a ++ map reads names in
@@ -248,8 +234,8 @@ module _ {T : Type 0} (is_step : Command → T → Step T → Type 0) (last_name
       ap (behind style t) (sym new_is) ∙ reads_alone style fits t (names ++ n ∷ []) ∙ map-append reads names (n ∷ []) in
       let first : so_far style events ≡ b ++ reads n ∷ [] =
       append_is style w.events new ∙ ap (λ l. a ++ l) alone ∙ sym (append_assoc a (map reads names) (reads n ∷ [])) in
-      let at : IsDone (record { calls = b ++ reads n ∷ writes (fault_text (fault.Read n)) ∷ []; end = Some (fault.Read n) }) code (made_after a m) =
-      done_after a (map reads names ++ reads n ∷ writes (fault_text (fault.Read n)) ∷ []) _ (Some (fault.Read n)) code m
+      let at : IsDone tells (record { calls = b ++ reads n ∷ writes (fault_text (fault.Read n)) ∷ []; end = Some (fault.Read n) }) code (made_after a m) =
+      done_after tells a (map reads names ++ reads n ∷ writes (fault_text (fault.Read n)) ∷ []) _ (Some (fault.Read n)) code m
       (append_assoc a (map reads names) (reads n ∷ writes (fault_text (fault.Read n)) ∷ [])) done in
       record {
         history = before events h;
@@ -259,16 +245,4 @@ module _ {T : Type 0} (is_step : Command → T → Step T → Type 0) (last_name
         made = made_after a m;
         done = unread_done events b n h code (made_after a m) first at;
         sees = sees_then answers taken calls lib_first lib lib_new out_first out out_new a m w.seen sees;
-        reached = record {
-          front = events;
-          rest = h.events;
-          events_are = refl;
-          all_good = All-append (IfSettle good) w.events new w.all_good (subst (AllSettles good) new_is (names_good good (names ++ n ∷ [])));
-          end = None;
-          done = subst (λ (l : List Event). IsDone (failing (Some (length (names_read b))) (doing style (record {
-            events = l;
-            end = None;
-          }))) code (made_after a m)) (append-nil events)
-              (unread_done events b n (record { events = []; end = None }) code (made_after a m) first at);
-        };
       }

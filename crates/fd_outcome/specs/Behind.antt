@@ -1,7 +1,7 @@
 -- Events behind others.
 use Rattle.std.specs.Prelude.{◌≡◌, ℕ, Bool, true, false, List, [], ◌∷◌, ◌++◌, map, Option, Some, None}
 use Rattle.fd_report.specs.declared.faults.Fault.{Fault}
-use Rattle.fd_outcome.specs.Events.{Event, asked}
+use Rattle.fd_outcome.specs.Events.{Event, History, asked}
 use Rattle.fd_outcome.specs.Calls.{Call, reads, writes, Style, opened, body, so_far, fault_text}
 
 abbrev pub has_text : List Call → Bool
@@ -28,3 +28,14 @@ last_calls style begun events (Some f) = behind style begun events ++ writes (fa
 pub record AsksNames (style : Style) : Type 0 where
   pub asks : (name : List ℕ) → style.asked_in (asked name) ≡ name ∷ []
   pub silent : (name : List ℕ) → style.texts_in (asked name) ≡ []
+
+-- whether what closes the texts tells an end without a fault
+abbrev pub closes : List (List ℕ) → Bool
+closes [] = false
+closes (text ∷ texts) = true
+
+-- what is done behind the last command, where it ends without a fault, has a text or closes the texts
+abbrev pub TellsEnd : {T : Type 0} → Bool → Style → (T → Option (List ℕ) → History → Type 0) → Type 0
+TellsEnd {T} tells style is_last =
+    (s : T) (found : Option (List ℕ)) (h : History) → tells ≡ true → is_last s found h → h.end ≡ None
+    → body style h.events ++ map writes style.closing ≡ [] → ⊥

@@ -34,7 +34,7 @@ abbrev pub certificate : Style
 certificate = record {
   asked_in = name_in;
   texts_in = certificate_texts;
-  opening = line_bytes (header (pos 1)) ∷ [];
+  opening = line_bytes (header (pos 2)) ∷ [];
   closing = line_bytes text.end ∷ [];
 }
 

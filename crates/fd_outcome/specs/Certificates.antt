@@ -3,7 +3,8 @@ use Rattle.std.specs.Prelude.{ℕ, pos, ◌+◌, List, [], ◌∷◌, ◌++◌, 
 use Rattle.dss_layout.specs.Layout.{layout_of, size_of}
 use Rattle.fd_equations.specs.Rounded.{list_of}
 use Rattle.fd_queue.specs.Machine.{Act}
-use Rattle.fd_certfile.specs.Blocks.{Block, Whole, block_lines}
+use Rattle.fd_certfile.specs.Blocks.{Block, block_lines}
+use Rattle.fd_certfile.specs.declared.version.Version.TheVariants.{Sparse}
 use Rattle.fd_certfile.specs.Blocks as block
 use Rattle.fd_certfile.specs.Lines.{line_bytes}
 use Rattle.fd_certfile.specs.Rounds.{part_in}
@@ -42,7 +43,7 @@ blocks_of s = blocks_from s 0 (claimed_rounds s.rounds s.end)
 
 -- one text for each line
 abbrev pub block_texts : Block → List (List ℕ)
-block_texts b = map line_bytes (block_lines Whole b)
+block_texts b = map line_bytes (block_lines Sparse b)
 
 abbrev pub blocks_texts : List Block → List (List ℕ)
 blocks_texts [] = []

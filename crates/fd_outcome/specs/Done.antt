@@ -1,5 +1,5 @@
 -- What is done of it: where a read fails, memory runs out or a write fails, a front.
-use Rattle.std.specs.Prelude.{◌≡◌, ◌⊎◌, ℕ, zero, suc, ◌+◌, List, [], ◌∷◌, ◌++◌, length, Option, Some, None}
+use Rattle.std.specs.Prelude.{◌≡◌, ◌⊎◌, ℕ, zero, suc, ◌+◌, ◌||◌, Bool, true, List, [], ◌∷◌, ◌++◌, length, Option, Some, None, is_some}
 use Rattle.std.specs.List.{concat}
 use Rattle.fd_outside.specs.Answers.{Answer, HasFailed, names_asked}
 use Rattle.fd_outside.specs.Pieces.{IsCut}
@@ -54,12 +54,18 @@ pub record IsTorn (all : List Call) (status : ℕ) (m : Made) : Type 0 where
   pub cut : IsCut front text
   pub status_is : status ≡ write_fault
 
--- cut short
+-- a front of these calls
 abbrev pub IsFrontOf : List Call → ℕ → Made → Type 0
 IsFrontOf all status m = IsShort all status m ⊎ IsTorn all status m
 
-abbrev pub IsDone : Doing → ℕ → Made → Type 0
-IsDone d status m = IsAll d status m ⊎ IsFrontOf d.calls status m
+-- cut short: a front, and not all where the last call tells the end
+abbrev pub IsCutShort : Bool → List Call → ℕ → Made → Type 0
+IsCutShort told all status m = IsFrontOf all status m × (told ≡ true → m.calls ≡ all → ⊥)
+
+-- All of it, or cut short. A fault's record tells that it is the end; `tells` says whether a text tells an end without
+-- a fault.
+abbrev pub IsDone : Bool → Doing → ℕ → Made → Type 0
+IsDone tells d status m = IsAll d status m ⊎ IsCutShort (is_some d.end || tells) d.calls status m
 
 -- ---- what the outside sees
 

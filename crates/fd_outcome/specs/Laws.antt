@@ -1,5 +1,5 @@
 -- There is exactly one history, and what is done of it.
-use Rattle.std.specs.Prelude.{◌≡◌, ◌⊎◌, ℕ, ◌+◌, ◌≤◌, List, ◌∷◌, [], ◌++◌, length, Option, Some, None, map}
+use Rattle.std.specs.Prelude.{◌≡◌, ◌⊎◌, ℕ, ◌+◌, ◌≤◌, ◌||◌, Bool, true, List, ◌∷◌, [], ◌++◌, length, Option, Some, None, is_some, map}
 use Rattle.std.specs.List.{concat}
 use Rattle.fd_outside.specs.Answers.{Answer, HasFailed}
 use Rattle.fd_outside.specs.Emitted.{IsFront}
@@ -10,7 +10,6 @@ use Rattle.fd_report.specs.Faults.{status}
 use Rattle.fd_report.specs.declared.faults.Fault.{Fault}
 use Rattle.fd_report.specs.declared.faults.Fault.TheVariants as fault
 use Rattle.fd_outcome.specs.Statuses.{status_of, want_of_memory, write_fault}
-use Rattle.fd_outcome.specs.Settles.{Settle}
 use Rattle.fd_outcome.specs.Events.{History, names_of}
 use Rattle.fd_outcome.specs.Work.{Step, ExactlyOne}
 use Rattle.fd_outcome.specs.History.{IsHistory, IsFrom, Point}
@@ -60,16 +59,17 @@ pub record IsReadFailing (n : ℕ) (d e : Doing) : Type 0 where
 abbrev pub ReadLaw : Type 0
 ReadLaw = (n : ℕ) (d : Doing) → (failing (Some n) d ≡ d) ⊎ IsReadFailing n d (failing (Some n) d)
 
--- what was written is a front of the texts: so many writes, of which the last may be torn; at want of memory whole
--- texts
-pub record IsCut (d : Doing) (code : ℕ) (m : Made) : Type 0 where
+-- What was written is a front of the texts: so many writes, of which the last may be torn; at want of memory whole
+-- texts. Where all calls are made and the last tells the end, the status is the end's.
+pub record IsCut (tells : Bool) (d : Doing) (code : ℕ) (m : Made) : Type 0 where
   pub is_front : IsFront (texts_written d.calls) (length (texts_written m.calls) + torn_writes m.torn) (concat (texts_written m.calls) ++ torn_bytes m.torn)
   pub names : (rest : List (List ℕ)) × (names_read d.calls ≡ names_read m.calls ++ rest)
   pub answers : (code ≡ status_of d.end) ⊎ ((code ≡ want_of_memory) ⊎ (code ≡ write_fault))
   pub whole : (code ≡ write_fault → ⊥) → m.torn ≡ None
+  pub complete : (is_some d.end || tells) ≡ true → m.calls ≡ d.calls → code ≡ status_of d.end
 
 abbrev pub CutLaw : Type 0
-CutLaw = (d : Doing) (code : ℕ) (m : Made) → IsDone d code m → IsCut d code m
+CutLaw = (tells : Bool) (d : Doing) (code : ℕ) (m : Made) → IsDone tells d code m → IsCut tells d code m
 
 -- ---- the status of a run
 
@@ -81,8 +81,8 @@ pub record IsDue (end : Option Fault) (code : ℕ) (before now : List Answer) : 
 
 module _ {T L S : Type 0} (is_step : Command → T → Step T → Type 0) (last_name : T → Option (List ℕ)) (is_last : T → Option (List ℕ) → History → Type 0)
     (answers : L → List Answer) (taken : S → List ℕ) (calls : S → ℕ) where
-  abbrev pub DueLaw : (List ℕ → Option (List ℕ)) → Style → (Settle → Type 0) → Point T → L → L → S → S → ℕ → Type 0
-  DueLaw held style good p lib_old lib_new old new code =
+  abbrev pub DueLaw : (List ℕ → Option (List ℕ)) → Style → Bool → Point T → L → L → S → S → ℕ → Type 0
+  DueLaw held style tells p lib_old lib_new old new code =
       (one : ExactlyOne (λ h. IsFrom is_step last_name is_last held p h)) →
-      Runs answers taken calls lib_old lib_new old new (λ h. IsFrom is_step last_name is_last held p h) style good code →
+      Runs answers taken calls lib_old lib_new old new (λ h. IsFrom is_step last_name is_last held p h) style tells code →
       IsDue one.some.end code (answers lib_old) (answers lib_new)

@@ -1,5 +1,5 @@
 -- What a script's session, a command line and a sink promise the loop over the script's commands.
-use Rattle.std.specs.Prelude.{◌≡◌, ◌⊎◌, ℕ, ◌+◌, ◌||◌, Bool, List, [], ◌∷◌, ◌++◌, map, length, Option, Some, None, Result, Ok, Err}
+use Rattle.std.specs.Prelude.{◌≡◌, ◌⊎◌, ℕ, ◌+◌, ◌||◌, Bool, true, List, [], ◌∷◌, ◌++◌, map, length, Option, Some, None, Result, Ok, Err}
 use Rattle.std.specs.List.{concat}
 use Rattle.fd_outside.specs.Answers.{Answer}
 use Rattle.dss_model.specs.Names.{bytes}
@@ -8,8 +8,7 @@ use Rattle.dss_script.specs.Said.{Said, name, command, ScriptEnd, at_its_end, re
 use Rattle.dss_script.specs.declared.fault.SessionFault.{SessionFault}
 use Rattle.dss_script.specs.declared.fault.SessionFault.TheVariants as session
 use Rattle.fd_report.specs.declared.faults.Fault.{Fault}
-use Rattle.fd_outcome.specs.Settles.{Settle}
-use Rattle.fd_outcome.specs.Events.{Event, History, AllSettles}
+use Rattle.fd_outcome.specs.Events.{Event, History}
 use Rattle.fd_outcome.specs.Work.{Step, goes, ends}
 use Rattle.fd_outcome.specs.Calls.{Call, writes, Style, body, Doing, fault_text, names_read, texts_written}
 use Rattle.fd_outcome.specs.Done.{failing, Made, IsFrontOf, IsDone, Sees, HasReadCause, torn_bytes, torn_writes}
@@ -25,18 +24,19 @@ pub record Wrote {S : Type 0} (taken : S → List ℕ) (calls : S → ℕ) (old 
   pub bytes_are : taken new ≡ taken old ++ (concat (texts_written m.calls) ++ torn_bytes m.torn)
   pub writes_are : calls new ≡ calls old + (length (texts_written m.calls) + torn_writes m.torn)
 
--- all of it or a front is made, and the sink has taken that
-pub record Printed {S : Type 0} (taken : S → List ℕ) (calls : S → ℕ) (old new : S) (d : Doing)
+-- all of it is made, or it is cut short, and the sink has taken that
+pub record Printed {S : Type 0} (taken : S → List ℕ) (calls : S → ℕ) (old new : S) (tells : Bool) (d : Doing)
     (code : ℕ) : Type 0 where
   pub made : Made
-  pub done : IsDone d code made
+  pub done : IsDone tells d code made
   pub wrote : Wrote taken calls old new made
 
--- a front of these calls is made, and the sink has taken that
+-- a front of these calls is made, all of them only where there is none, and the sink has taken that
 pub record IsCutIn {S : Type 0} (taken : S → List ℕ) (calls : S → ℕ) (old new : S) (all : List Call)
     (code : ℕ) : Type 0 where
   pub made : Made
   pub front : IsFrontOf all code made
+  pub left : made.calls ≡ all → all ≡ []
   pub wrote : Wrote taken calls old new made
 
 -- the record of a fault is written, and the fault is the end
@@ -75,11 +75,10 @@ Gives left end rest last old new (Err other) = IsCutShort left old new
 -- ---- a command line
 
 -- the step goes on, and all that it gives is handed over
-pub record GoesOn {T S : Type 0} (style : Style) (good : Settle → Type 0) (is_step : Step T → Type 0) (state : T)
+pub record GoesOn {T S : Type 0} (style : Style) (is_step : Step T → Type 0) (state : T)
     (taken : S → List ℕ) (calls : S → ℕ) (old new : S) (begun now : Bool) : Type 0 where
   pub events : List Event
   pub right : is_step (goes events state)
-  pub all_good : AllSettles good events
   pub wrote : Wrote taken calls old new (whole (behind style begun events))
   pub begun_is : now ≡ (begun || has_text (body style events))
 
@@ -90,10 +89,10 @@ events_in (ends events f) = events
 -- all of a step's events are handed over, or a front
 abbrev pub EndsSo : {T : Type 0} → Style → Bool → Step T → ℕ → Made → Type 0
 EndsSo style begun (goes events s) code m = IsFrontOf (behind style begun events) code m
-EndsSo style begun (ends events f) code m = IsDone (record { calls = behind style begun events ++ writes (fault_text f) ∷ []; end = Some f }) code m
+EndsSo style begun (ends events f) code m = IsDone true (record { calls = behind style begun events ++ writes (fault_text f) ∷ []; end = Some f }) code m
 
 -- The step ends the run, or the run is cut short in it: behind some of its events, or at its end.
-pub record EndsAt {T S : Type 0} (style : Style) (good : Settle → Type 0) (is_step : Step T → Type 0)
+pub record EndsAt {T S : Type 0} (style : Style) (is_step : Step T → Type 0)
     (taken : S → List ℕ) (calls : S → ℕ) (old new : S) (begun : Bool) (code : ℕ) : Type 0 where
   pub step : Step T
   pub right : is_step step
@@ -101,14 +100,13 @@ pub record EndsAt {T S : Type 0} (style : Style) (good : Settle → Type 0) (is_
   pub shown : List Event
   pub hidden : List Event
   pub events_are : events_in step ≡ shown ++ hidden
-  pub all_good : AllSettles good shown
   pub done : ((hidden ≡ []) × EndsSo style begun step code made) ⊎ IsFrontOf (behind style begun shown) code made
   pub wrote : Wrote taken calls old new made
 
 -- ---- the end of a command line
 
 -- a history of the end is done, whole or cut short
-pub record Finishes {L S : Type 0} (style : Style) (good : Settle → Type 0) (is_history : History → Type 0)
+pub record Finishes {L S : Type 0} (style : Style) (tells : Bool) (is_history : History → Type 0)
     (answers : L → List Answer) (taken : S → List ℕ) (calls : S → ℕ)
     (lib_old lib_new : L) (old new : S) (begun : Bool) (code : ℕ) : Type 0 where
   pub history : History
@@ -116,6 +114,5 @@ pub record Finishes {L S : Type 0} (style : Style) (good : Settle → Type 0) (i
   pub fails : Option ℕ
   pub cause : HasReadCause (answers lib_old) (answers lib_new) fails
   pub made : Made
-  pub done : IsDone (failing fails (record { calls = last_calls style begun history.events history.end; end = history.end })) code made
-  pub all_good : AllSettles good history.events
+  pub done : IsDone tells (failing fails (record { calls = last_calls style begun history.events history.end; end = history.end })) code made
   pub sees : Sees answers taken calls lib_old lib_new old new made

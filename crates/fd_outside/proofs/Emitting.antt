@@ -52,7 +52,8 @@ module _ {S : Type 0} (taken : S → List ℕ) (calls : S → ℕ) where
   }
   stops old mid new whole rest piece fault.NoMemory takes bytes count = record {
     whole = whole;
-    rest = piece ∷ rest;
+    piece = piece;
+    rest = rest;
     parts = refl;
     takes = record { bytes = bytes ∙ takes.bytes; writes = count ∙ takes.writes };
   }

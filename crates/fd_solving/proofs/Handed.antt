@@ -1,9 +1,8 @@
 -- What a command's answer comes to for the loop.
 use Rattle.std.proofs.Common.{◌≡◌, ◌∙◌, ◌≤◌, ℕ, Bool, true, false, List, [], ◌∷◌, ◌++◌, map, length, Option, Some, None, Ok, Err, refl, sym, ap, subst, inl, inr, arith}
-use Rattle.std.specs.Prelude.{◌||◌, ◌⊎◌}
+use Rattle.std.specs.Prelude.{◌||◌, ◌⊎◌, is_some}
 use Rattle.std.specs.List.{AllByRecursion, flat_map}
 use Rattle.std.proofs.lemmas.List.{append-nil, map-append}
-use Rattle.std.proofs.lemmas.List.Elements.{All-cons, All-nil}
 use Rattle.fd_outside.specs.Emitted.{Takes, pieces_of}
 use Rattle.fd_outside.specs.declared.bytes.Record.{Record}
 use Rattle.fd_report.specs.Faults.{status}
@@ -14,21 +13,20 @@ use Rattle.fd_report.specs.declared.faults.Fault.{Fault}
 use Rattle.fd_report.specs.declared.faults.Fault.TheVariants as fault
 use Rattle.fd_bases.specs.declared.bus_base.BusBase.{BusBase}
 use Rattle.fd_report.specs.Bases.{base_fields}
-use Rattle.fd_outcome.specs.Events.{AllSettles, Event, IfSettle, row}
+use Rattle.fd_outcome.specs.Events.{Event, History, finishes, row}
 use Rattle.fd_outcome.specs.Work.{Step, ExactlyOne, goes, ends}
 use Rattle.fd_outcome.specs.Calls.{Call, Style, body, fault_text, opened, reads, writes}
 use Rattle.fd_outcome.specs.Done.{IsFrontOf, IsDone, Made}
 use Rattle.fd_outcome.specs.Way.{whole}
-use Rattle.fd_outcome.specs.Behind.{behind, has_text, opened_unless}
+use Rattle.fd_outcome.specs.Behind.{behind, closes, has_text, opened_unless}
 use Rattle.fd_outcome.specs.Parts.{EndsAt, GoesOn, IsCutIn, Printed, Wrote, events_in, fault_doing}
 use Rattle.fd_outcome.specs.Untold.{CutsShort}
-use Rattle.fd_outcome.proofs.CallerLemmas.{cut_before, nothing_behind, or_false, wrote_all, wrote_nothing}
+use Rattle.fd_outcome.proofs.CallerLemmas.{cut_before, not_empty, nothing_behind, or_false, wrote_all, wrote_nothing}
 use Rattle.fd_pages.specs.Bases.{base_events}
 use Rattle.fd_solving.specs.Answered.{IsAnswerOf, IsAnswered, IsOfCommand}
 use Rattle.fd_solving.specs.Commands.{Applied, IsStepOf, bases_left, nothing_left, refused_at, solve_left}
 use Rattle.fd_solving.specs.declared.answer.Answer.{Answer}
 use Rattle.fd_solving.specs.declared.answer.Answer.TheVariants as answer
-use Rattle.fd_solving.specs.Headline.{IsSolved}
 use Rattle.fd_solving.specs.Steps.{StandingView, changes, standing}
 use Rattle.fd_solving.specs.Tallies.{tally_of, GoesOnTallied}
 use Rattle.fd_solving.specs.declared.tally.Tally.{Tally}
@@ -60,21 +58,21 @@ cut_code calls code m front = elim front [ inl a ↦ inl a.status_is | inr a ↦
 
 -- the status of a fault behind these calls, or one that cuts short
 ending_code : (calls : List Call) (f : Fault) (code : ℕ) (m : Made)
-    → IsDone (record { calls = calls; end = Some f }) code m → (code ≡ status f) ⊎ CutsShort code
+    → IsDone true (record { calls = calls; end = Some f }) code m → (code ≡ status f) ⊎ CutsShort code
 ending_code calls f code m done = elim done [
   | inl all ↦ inl all.status_is
-  | inr front ↦ inr (cut_code calls code m front)
+  | inr cut ↦ inr (cut_code calls code m cut.0)
 ]
 
 module _ {S : Type 0} (taken : S → List ℕ) (calls : S → ℕ) where
   pub never_usage : (old new : S) (all : List Call) (f : Fault) (code : ℕ) → IsOfCommand f
-      → Printed taken calls old new (record { calls = all; end = Some f }) code → code ≡ 2 → ⊥
+      → Printed taken calls old new true (record { calls = all; end = Some f }) code → code ≡ 2 → ⊥
   never_usage old new all f code h printed =
       not_status f code 2 (command_status f h).0 (λ e. omega (arith, e)) (λ e. omega (arith, e))
       (ending_code all f code printed.made printed.done)
 
   pub never_read : (old new : S) (all : List Call) (f : Fault) (code : ℕ) → IsOfCommand f
-      → Printed taken calls old new (record { calls = all; end = Some f }) code → code ≡ 4 → ⊥
+      → Printed taken calls old new true (record { calls = all; end = Some f }) code → code ≡ 4 → ⊥
   never_read old new all f code h printed =
       not_status f code 4 (command_status f h).1 (λ e. omega (arith, e)) (λ e. omega (arith, e))
       (ending_code all f code printed.made printed.done)
@@ -154,6 +152,31 @@ pub opened_nothing : (first : List (List ℕ)) (texts : List (List ℕ)) → has
 opened_nothing first [] none = refl
 opened_nothing first (text ∷ texts) none = absurd (cc none)
 
+-- no piece among none
+pub no_pieces : (texts : List (List ℕ)) → map writes texts ≡ [] → texts ≡ []
+no_pieces [] e = refl
+no_pieces (text ∷ texts) e = cc e
+
+-- where there is what closes the texts, something is printed at the end
+not_opened : (begun : Bool) (first : List (List ℕ)) (c : Call) (l : List Call) → opened_unless begun first (c ∷ l) ≡ [] → ⊥
+not_opened true first c l e = cc e
+not_opened false first (reads n) l e = cc e
+not_opened false first (writes text) l e = not_empty (map writes first) (writes text) l e
+
+closed_by : (first closing : List (List ℕ)) (begun : Bool) → closes closing ≡ true
+    → opened_unless begun first (map writes closing) ≡ [] → ⊥
+closed_by first [] begun told e = cc told
+closed_by first (text ∷ texts) begun told e = not_opened begun first (writes text) (map writes texts) e
+
+pub closed : (style : Style) (begun : Bool) → closes style.closing ≡ true
+    → opened_unless begun style.opening (map writes style.closing) ≡ [] → ⊥
+closed style begun told e = closed_by style.opening style.closing begun told e
+
+pub ends_closed : (style : Style) → closes style.closing ≡ true → (h : History) → h ≡ finishes []
+    → body style h.events ++ map writes style.closing ≡ [] → ⊥
+ends_closed style told h is e =
+    closed style true told (sym (ap (λ (x : History). body style x.events ++ map writes style.closing) is) ∙ e)
+
 -- a text is among records
 pub some_text : (rs : List Record) → 1 ≤ length rs → has_text (map writes (pieces_of rs)) ≡ true
 some_text [] h = absurd (omega (arith, h))
@@ -164,17 +187,17 @@ some_text (r ∷ rs) h = refl
 module _ {S : Type 0} (taken : S → List ℕ) (calls : S → ℕ) where
   pub failed_whole : (old new : S) (texts : List (List ℕ)) (all : List Call) (f : Fault) (code : ℕ)
       → map writes texts ≡ all → code ≡ status f → Takes taken calls old new texts
-      → Printed taken calls old new (record { calls = all; end = Some f }) code
+      → Printed taken calls old new true (record { calls = all; end = Some f }) code
   failed_whole old new texts all f code same is takes = record {
     made = whole (map writes texts);
     done = inl (record { calls = same; torn = refl; status_is = is });
     wrote = wrote_all taken calls old new texts takes;
   }
 
-  pub ended_whole : (old new : S) (texts : List (List ℕ)) (all : List Call) → map writes texts ≡ all
+  pub ended_whole : (tells : Bool) (old new : S) (texts : List (List ℕ)) (all : List Call) → map writes texts ≡ all
       → Takes taken calls old new texts
-      → Printed taken calls old new (record { calls = all; end = None }) 0
-  ended_whole old new texts all same takes = record {
+      → Printed taken calls old new tells (record { calls = all; end = None }) 0
+  ended_whole tells old new texts all same takes = record {
     made = whole (map writes texts);
     done = inl (record { calls = same; torn = refl; status_is = refl });
     wrote = wrote_all taken calls old new texts takes;
@@ -188,26 +211,27 @@ module _ {S : Type 0} (taken : S → List ℕ) (calls : S → ℕ) where
       → IsCutIn taken calls old new all code
   cut_as old new a all code same c = subst (λ l. IsCutIn taken calls old new l code) same c
 
-  pub printed_cut : (old new : S) (all : List Call) (end : Option Fault) (code : ℕ)
-      → IsCutIn taken calls old new all code → Printed taken calls old new (record { calls = all; end = end }) code
-  printed_cut old new all end code c = record { made = c.made; done = inr c.front; wrote = c.wrote }
+  pub printed_cut : (tells : Bool) (old new : S) (all : List Call) (end : Option Fault) (code : ℕ)
+      → ((is_some end || tells) ≡ true → all ≡ [] → ⊥) → IsCutIn taken calls old new all code
+      → Printed taken calls old new tells (record { calls = all; end = end }) code
+  printed_cut tells old new all end code some c =
+      record { made = c.made; done = inr (c.front, λ told e. some told (c.left e)); wrote = c.wrote }
 
   -- the same calls
-  pub printed_as : (old new : S) (a all : List Call) (end : Option Fault) (code : ℕ) → a ≡ all
-      → Printed taken calls old new (record { calls = a; end = end }) code
-      → Printed taken calls old new (record { calls = all; end = end }) code
-  printed_as old new a all end code same p = subst (λ l. Printed taken calls old new (record { calls = l; end = end }) code) same p
+  pub printed_as : (tells : Bool) (old new : S) (a all : List Call) (end : Option Fault) (code : ℕ) → a ≡ all
+      → Printed taken calls old new tells (record { calls = a; end = end }) code
+      → Printed taken calls old new tells (record { calls = all; end = end }) code
+  printed_as tells old new a all end code same p = subst (λ l. Printed taken calls old new tells (record { calls = l; end = end }) code) same p
 
 -- ---- what a command does
 
 module _ {T S : Type 0} (style : Style) (is_step : Step T → Type 0) (taken : S → List ℕ)
     (calls : S → ℕ) where
   abbrev pub goes_silent : (now : T) (out : S) (begun : Bool) → is_step (goes [] now)
-      → GoesOn style IsSolved is_step now taken calls out out begun begun
+      → GoesOn style is_step now taken calls out out begun begun
   goes_silent now out begun is = record {
     events = [];
     right = is;
-    all_good = All-nil (IfSettle IsSolved);
     wrote = subst (λ l. Wrote taken calls out out (whole l)) (sym (nothing_behind style begun)) (wrote_nothing taken calls out);
     begun_is = sym (or_false begun);
   }
@@ -220,14 +244,14 @@ module _ {T S : Type 0} (style : Style) (is_step : Step T → Type 0) (taken : S
   }
 
   -- the fault's record stands alone where nothing is printed before it
-  fault_behind : (f : Fault) (code : ℕ) (old new : S) (p : Printed taken calls old new (fault_doing f) code) (before : List Call)
-      → before ≡ [] → IsDone (record { calls = before ++ writes (fault_text f) ∷ []; end = Some f }) code p.made
+  fault_behind : (f : Fault) (code : ℕ) (old new : S) (p : Printed taken calls old new true (fault_doing f) code) (before : List Call)
+      → before ≡ [] → IsDone true (record { calls = before ++ writes (fault_text f) ∷ []; end = Some f }) code p.made
   fault_behind f code old new p before none =
-      subst (λ l. IsDone (record { calls = l ++ writes (fault_text f) ∷ []; end = Some f }) code p.made)
+      subst (λ l. IsDone true (record { calls = l ++ writes (fault_text f) ∷ []; end = Some f }) code p.made)
       (sym none) p.done
 
   pub ends_refused : (old new : S) (begun : Bool) (f : Fault) (code : ℕ) → is_step (ends [] f)
-      → Printed taken calls old new (fault_doing f) code → EndsAt style IsSolved is_step taken calls old new begun code
+      → Printed taken calls old new true (fault_doing f) code → EndsAt style is_step taken calls old new begun code
   ends_refused old new begun f code is p = record {
     step = ends [] f;
     right = is;
@@ -235,13 +259,12 @@ module _ {T S : Type 0} (style : Style) (is_step : Step T → Type 0) (taken : S
     shown = [];
     hidden = [];
     events_are = refl;
-    all_good = All-nil (IfSettle IsSolved);
     done = inl (refl, fault_behind f code old new p (behind style begun []) (nothing_behind style begun));
     wrote = p.wrote;
   }
 
   pub ends_without_memory : (out : S) (begun : Bool) → ExactlyOne is_step
-      → EndsAt style IsSolved is_step taken calls out out begun 1
+      → EndsAt style is_step taken calls out out begun 1
   ends_without_memory out begun one =
       let cut = cut_before taken calls out (behind style begun []) in
       record {
@@ -251,16 +274,11 @@ module _ {T S : Type 0} (style : Style) (is_step : Step T → Type 0) (taken : S
         shown = [];
         hidden = events_in one.some;
         events_are = refl;
-        all_good = All-nil (IfSettle IsSolved);
         done = inr cut.front;
         wrote = cut.wrote;
       }
 
 -- ---- events that are no settles
-
-pub bases_good : (bases : List BusBase) → AllSettles IsSolved (map (λ b. row (base_fields b.bus b.kv)) bases)
-bases_good [] = All-nil (IfSettle IsSolved)
-bases_good (b ∷ bases) = All-cons (IfSettle IsSolved) (row (base_fields b.bus b.kv)) (map (λ x. row (base_fields x.bus x.kv)) bases) tt (bases_good bases)
 
 -- bases are no rounds
 pub bases_tally : (t : Tally) (bases : List BusBase) → t ≡ tally_of t (map (λ b. row (base_fields b.bus b.kv)) bases)
@@ -268,18 +286,18 @@ bases_tally t [] = refl
 bases_tally t (b ∷ bases) = bases_tally t bases
 
 module _ {S : Type 0} (style : Style) (is_step : Step StandingView → Type 0) (taken : S → List ℕ)
-    (calls : S → ℕ) (now : StandingView) (events : List Event) (good : AllSettles IsSolved events)
+    (calls : S → ℕ) (now : StandingView) (events : List Event)
     (is : is_step (goes events now)) where
   pub goes_printed : (old new : S) (begun after : Bool) → Wrote taken calls old new (whole (behind style begun events))
       → after ≡ (begun || has_text (body style events)) → (t : Tally) → t ≡ tally_of t events
       → GoesOnTallied style is_step now taken calls old new begun after t t
   goes_printed old new begun after wrote begun_is t none = record {
-    on = record { events = events; right = is; all_good = good; wrote = wrote; begun_is = begun_is };
+    on = record { events = events; right = is; wrote = wrote; begun_is = begun_is };
     added = none;
   }
 
   pub ends_cut : (old new : S) (begun : Bool) (code : ℕ) → IsCutIn taken calls old new (behind style begun events) code
-      → EndsAt style IsSolved is_step taken calls old new begun code
+      → EndsAt style is_step taken calls old new begun code
   ends_cut old new begun code cut = record {
     step = goes events now;
     right = is;
@@ -287,7 +305,6 @@ module _ {S : Type 0} (style : Style) (is_step : Step StandingView → Type 0) (
     shown = events;
     hidden = [];
     events_are = sym (append-nil events);
-    all_good = good;
     done = inr cut.front;
     wrote = cut.wrote;
   }
@@ -303,15 +320,14 @@ module _ {S : Type 0} (style : Style) (taken : S → List ℕ) (calls : S → �
     on = record {
       events = h.on.events;
       right = weaker (goes h.on.events now) h.on.right;
-      all_good = h.on.all_good;
       wrote = h.on.wrote;
       begun_is = h.on.begun_is;
     };
     added = h.added;
   }
 
-  pub ends_as : (old new : S) (begun : Bool) (code : ℕ) → EndsAt style IsSolved P taken calls old new begun code
-      → EndsAt style IsSolved Q taken calls old new begun code
+  pub ends_as : (old new : S) (begun : Bool) (code : ℕ) → EndsAt style P taken calls old new begun code
+      → EndsAt style Q taken calls old new begun code
   ends_as old new begun code h = record {
     step = h.step;
     right = weaker h.step h.right;
@@ -319,7 +335,6 @@ module _ {S : Type 0} (style : Style) (taken : S → List ℕ) (calls : S → �
     shown = h.shown;
     hidden = h.hidden;
     events_are = h.events_are;
-    all_good = h.all_good;
     done = h.done;
     wrote = h.wrote;
   }

@@ -1,13 +1,12 @@
 -- Where the loop over a Solve's hours stands, how it goes on and how it ends.
-use Rattle.std.proofs.Common.{◌≡◌, ◌∙◌, ℕ, Bool, true, false, List, [], ◌∷◌, ◌++◌, map, Option, Some, None, refl, sym, ap, subst, arith, length, inl, inr}
-use Rattle.std.specs.Prelude.{◌||◌, ◌+◌, ◌<◌, ◌≤◌, ◌^◌}
+use Rattle.std.proofs.Common.{◌≡◌, ◌∙◌, ℕ, Bool, true, false, List, [], ◌∷◌, ◌++◌, map, Option, Some, None, refl, sym, ap, subst, inl, inr}
+use Rattle.std.specs.Prelude.{◌||◌}
 use Rattle.std.proofs.lemmas.List.{append_assoc, append-nil}
-use Rattle.std.proofs.lemmas.List.Elements.{All-nil, All-cons, All-append}
 use Rattle.std.proofs.lemmas.List.Sums.{fold-append}
 use Rattle.dss_model.specs.declared.command.Blame.{Blame}
 use Rattle.dss_circuit.specs.Circuit.{CircuitView}
 use Rattle.fd_daily.specs.Day.{DayView, hours_left, no_openings}
-use Rattle.fd_daily.specs.Hours.{AreHours, hours_of}
+use Rattle.fd_daily.specs.Hours.{hours_of}
 use Rattle.fd_report.specs.declared.faults.Cause.TheVariants as cause
 use Rattle.fd_report.specs.declared.faults.Fault.{Fault}
 use Rattle.fd_report.specs.declared.faults.Fault.TheVariants as fault
@@ -19,15 +18,14 @@ use Rattle.fd_settle.specs.declared.round.Round.{Round as Made}
 use Rattle.fd_outcome.specs.Behind.{behind, has_text}
 use Rattle.fd_outcome.specs.Calls.{Call, Style, body, calls_in, fault_text, opened, reads, writes}
 use Rattle.fd_outcome.specs.Done.{IsDone, IsFrontOf}
-use Rattle.fd_outcome.specs.Events.{AllSettles, Event, IfSettle, settle}
+use Rattle.fd_outcome.specs.Events.{Event, settle}
 use Rattle.fd_outcome.specs.Parts.{EndsAt, IsCutIn, Printed, Wrote, events_in, fault_doing}
 use Rattle.fd_outcome.specs.Settles.{Settle, SettleEnd, settled, failed, without_certificate}
 use Rattle.fd_outcome.specs.Way.{whole}
 use Rattle.fd_outcome.specs.Work.{Step, goes, ends}
-use Rattle.fd_outcome.proofs.CallerLemmas.{behind-append, cut_then, nothing_behind, or_false, printed_then, text_behind, wrote_nothing, wrote_then}
+use Rattle.fd_outcome.proofs.CallerLemmas.{behind-append, front_then, made_after, nothing_behind, or_false, printed_then, text_behind, wrote_nothing, wrote_then}
 use Rattle.fd_solving.specs.Answered.{IsMadeHour, kept_in}
 use Rattle.fd_solving.specs.Tallies.{tallied, tally_of, GoesOnTallied}
-use Rattle.fd_solving.specs.Headline.{IsSolved, IsSteady}
 use Rattle.fd_solving.specs.Printing.{EndsInHour, IsPrintedHour, begun_behind, fault_of, settle_calls}
 use Rattle.fd_daily.specs.Underway.{blame_first, plant_at, start_from}
 use Rattle.fd_pages.specs.Hours.{Kept, hour_settle}
@@ -74,17 +72,6 @@ no_calls style b x silent none = by b
     by true = no_body
     by false = ap (opened style.opening) no_body
 
-good_more : (events : List Event) (x : Settle) → AllSettles IsSolved events → IsSolved x
-    → AllSettles IsSolved (events ++ settle x ∷ [])
-good_more events x all is =
-    All-append (IfSettle IsSolved) events (settle x ∷ []) all
-    (All-cons (IfSettle IsSolved) (settle x) [] is (All-nil (IfSettle IsSolved)))
-
--- no state can be chosen for a settle of no round
-unsampled : (c : CircuitView) (hour : ℕ) (k : Kept) (f : Fault) → IsSteady (hour_settle c hour k [] (failed f) k.at)
-unsampled c hour k f [] chosen = refl
-unsampled c hour k f (x ∷ xs) chosen = absurd chosen
-
 -- a settle that ended with this fault ends the step
 behind_failed : (x : Settle) (end : SettleEnd) (f : Fault) (rest : Step StandingView → Type 0) → fault_of end ≡ Some f
     → IsBehind x end rest (ends (settle x ∷ []) f)
@@ -104,14 +91,13 @@ module _ (style : Style) (c : CircuitView) (first : List ℕ) (l : Kept) {S : Ty
   IsFirst step = IsHoursStep c first l step
 
   -- These events lead from the first hour to the hours that are left, and what is kept for them: whatever step follows
-  -- here, the Solve's is that step behind these events. Their texts are written, their settles are solved, and their
-  -- rounds are added to those before.
+  -- here, the Solve's is that step behind these events. Their texts are written, and their rounds are added
+  -- to those before.
   pub record HourWay (left : List ℕ) (k : Kept) (now : S) (b : Bool) (t : Tally) : Type 0 where
     pub events : List Event
     pub leads : (step : Step StandingView) → IsHoursStep c left k step
         → IsHoursStep c first l (behind_events events step)
     pub wrote : Wrote taken calls old now (whole (behind style begun events))
-    pub all_good : AllSettles IsSolved events
     pub begun_is : b ≡ (begun || has_text (body style events))
     pub added : t ≡ tally_of none_yet events
 
@@ -120,7 +106,6 @@ module _ (style : Style) (c : CircuitView) (first : List ℕ) (l : Kept) {S : Ty
     events = [];
     leads = λ step is. subst IsFirst (sym (behind_none step)) is;
     wrote = subst (λ cs. Wrote taken calls old old (whole cs)) (sym (nothing_behind style begun)) (wrote_nothing taken calls old);
-    all_good = All-nil (IfSettle IsSolved);
     begun_is = sym (or_false begun);
     added = refl;
   }
@@ -128,30 +113,30 @@ module _ (style : Style) (c : CircuitView) (first : List ℕ) (l : Kept) {S : Ty
   -- memory runs out between two texts
   pub way_short : (left : List ℕ) (k : Kept) (now : S) (b : Bool) (t : Tally) → HourWay left k now b t
       → (new : S) (code : ℕ) → Wrote taken calls now new (whole []) → code ≡ 1
-      → EndsAt style IsSolved IsFirst taken calls old new begun code
+      → EndsAt style IsFirst taken calls old new begun code
   way_short left k now b t way new code none is =
       let rest = one_hours c left k in
       let nothing : IsCutIn taken calls now new [] code = record {
         made = whole [];
         front = inl (record { rest = []; calls = refl; torn = refl; status_is = is });
+        left = λ e. refl;
         wrote = none;
       } in
-      let cut = cut_then taken calls old now new (behind style begun way.events) [] code way.wrote nothing in
+      let made = made_after (behind style begun way.events) (whole []) in
+      let cut = front_then taken calls old now new (behind style begun way.events) [] code way.wrote nothing in
       record {
         step = behind_events way.events rest.some;
         right = way.leads rest.some rest.is;
-        made = cut.made;
+        made = made;
         shown = way.events;
         hidden = events_in rest.some;
         events_are = events_behind way.events rest.some;
-        all_good = way.all_good;
-        done = inr (subst (λ cs. IsFrontOf cs code cut.made) (append-nil (behind style begun way.events)) cut.front);
-        wrote = cut.wrote;
+        done = inr (subst (λ cs. IsFrontOf cs code made) (append-nil (behind style begun way.events)) cut.0);
+        wrote = cut.1;
       }
 
   module _ (hour : ℕ) (left : List ℕ) (k : Kept) (now : S) (b : Bool) (t : Tally)
-      (way : HourWay (hour ∷ left) k now b t) (x : Settle) (kept : Kept) (is : IsHour c hour k x kept)
-      (good : IsSolved x) where
+      (way : HourWay (hour ∷ left) k now b t) (x : Settle) (kept : Kept) (is : IsHour c hour k x kept) where
     abbrev more : List Event
     more = way.events ++ settle x ∷ []
 
@@ -178,35 +163,34 @@ module _ (style : Style) (c : CircuitView) (first : List ℕ) (l : Kept) {S : Ty
       wrote = subst (λ cs. Wrote taken calls old new (whole cs)) calls_more
           (wrote_then taken calls old now new (behind style begun way.events) (whole (settle_calls style b x))
           way.wrote wrote);
-      all_good = good_more way.events x way.all_good good;
       begun_is = now_begun ∙ ap (λ y. y || has_text (body style (settle x ∷ []))) way.begun_is ∙ text_behind style begun way.events (settle x ∷ []);
       added = more_rounds ∙ ap (λ (y : Tally). tallied y (settle x)) way.added ∙ sym (fold-append tallied none_yet way.events (settle x ∷ []));
     }
 
     -- cut short within its texts
     way_cut : x.end ≡ settled → (new : S) (code : ℕ) → IsCutIn taken calls now new (settle_calls style b x) code
-        → EndsAt style IsSolved IsFirst taken calls old new begun code
+        → EndsAt style IsFirst taken calls old new begun code
     way_cut well new code cut =
         let rest = one_hours c left kept in
-        let all = cut_then taken calls old now new (behind style begun way.events) (settle_calls style b x) code way.wrote cut in
+        let made = made_after (behind style begun way.events) cut.made in
+        let all = front_then taken calls old now new (behind style begun way.events) (settle_calls style b x) code way.wrote cut in
         record {
           step = behind_events more rest.some;
           right = leads_on well rest.some rest.is;
-          made = all.made;
+          made = made;
           shown = more;
           hidden = events_in rest.some;
           events_are = events_behind more rest.some;
-          all_good = good_more way.events x way.all_good good;
-          done = inr (subst (λ cs. IsFrontOf cs code all.made) calls_more all.front);
-          wrote = all.wrote;
+          done = inr (subst (λ cs. IsFrontOf cs code made) calls_more all.0);
+          wrote = all.1;
         }
 
     way_failed : (f : Fault) → fault_of x.end ≡ Some f → (new : S) (code : ℕ)
-        → Printed taken calls now new (record { calls = settle_calls style b x ++ writes (fault_text f) ∷ []; end = Some f }) code
-        → EndsAt style IsSolved IsFirst taken calls old new begun code
+        → Printed taken calls now new true (record { calls = settle_calls style b x ++ writes (fault_text f) ∷ []; end = Some f }) code
+        → EndsAt style IsFirst taken calls old new begun code
     way_failed f ill new code printed =
         let last : List Call = writes (fault_text f) ∷ [] in
-        let all = printed_then taken calls old now new (behind style begun way.events) (settle_calls style b x ++ last) (Some f) code way.wrote printed in
+        let all = printed_then taken calls true old now new (behind style begun way.events) (settle_calls style b x ++ last) (Some f) code way.wrote printed in
         let step : Step StandingView = ends (settle x ∷ []) f in
         record {
           step = ends more f;
@@ -215,10 +199,9 @@ module _ (style : Style) (c : CircuitView) (first : List ℕ) (l : Kept) {S : Ty
           shown = more;
           hidden = [];
           events_are = sym (append-nil more);
-          all_good = good_more way.events x way.all_good good;
           done = inl (
             refl,
-            subst (λ cs. IsDone (record { calls = cs; end = Some f }) code all.made)
+            subst (λ cs. IsDone true (record { calls = cs; end = Some f }) code all.made)
                 (sym (append_assoc (behind style begun way.events) (settle_calls style b x) last)
                 ∙ ap (λ cs. cs ++ last) calls_more)
                 all.done,
@@ -231,26 +214,26 @@ module _ (style : Style) (c : CircuitView) (first : List ℕ) (l : Kept) {S : Ty
     -- behind an hour that is printed
     pub way_printed : (kept : Kept) (new : S) (after : Bool) (u : Tally)
         → IsPrintedHour style taken calls now new b c hour k kept after t u → HourWay left kept new after u
-    way_printed kept new after u p = way_more hour left k now b t way p.made kept p.is p.good p.well new after p.wrote p.begun_is u p.added
+    way_printed kept new after u p = way_more hour left k now b t way p.made kept p.is p.well new after p.wrote p.begun_is u p.added
 
     -- the run ends in an hour
     pub way_ended : (new : S) (code : ℕ) → EndsInHour style taken calls now new b c hour k code
-        → EndsAt style IsSolved IsFirst taken calls old new begun code
+        → EndsAt style IsFirst taken calls old new begun code
     way_ended new code e = elim e [
       | inl short ↦ way_short (hour ∷ left) k now b t way new code short.wrote short.code_is
       | inr more ↦ elim more [
-        | inl p ↦ way_cut hour left k now b t way p.made p.kept p.is p.good p.well new code p.cut
-        | inr p ↦ way_failed hour left k now b t way p.made p.kept p.is p.good p.fault p.ill new code p.printed
+        | inl p ↦ way_cut hour left k now b t way p.made p.kept p.is p.well new code p.cut
+        | inr p ↦ way_failed hour left k now b t way p.made p.kept p.is p.fault p.ill new code p.printed
       ]
     ]
 
     -- the network with which it starts is out of range
-    range_there : k.settled + 1 < 2 ^ 32 → hour ≤ 8760 → ((s : Settle) → style.asked_in (settle s) ≡ [])
+    range_there : ((s : Settle) → style.asked_in (settle s) ≡ [])
         → ((s : Settle) (f : Fault) → s.rounds ≡ [] → s.end ≡ failed f → style.texts_in (settle s) ≡ []) →
         (blame : Blame) → (plant_at c hour).blame k.at ≡ Some blame → (new : S) (code : ℕ)
-        → Printed taken calls now new (fault_doing (fault.Script blame.place (cause.Model blame.cause))) code
-        → EndsAt style IsSolved IsFirst taken calls old new begun code
-    range_there number within silent unshown blame here new code printed =
+        → Printed taken calls now new true (fault_doing (fault.Script blame.place (cause.Model blame.cause))) code
+        → EndsAt style IsFirst taken calls old new begun code
+    range_there silent unshown blame here new code printed =
         let f : Fault = fault.Script blame.place (cause.Model blame.cause) in
         let none : Settle = hour_settle c hour k [] (failed f) k.at in
         let nothing : settle_calls style b none ≡ [] = no_calls style b none (silent none) (unshown none f refl refl) in
@@ -263,12 +246,7 @@ module _ (style : Style) (c : CircuitView) (first : List ℕ) (l : Kept) {S : Ty
           end_is = refl;
           settle_is = refl;
           kept = refl;
-        }) (record {
-          solutions = tt;
-          alike = tt;
-          steady = unsampled c hour k f;
-          numbers = record { number = number; hour = omega (arith, within); few = omega arith; acts = tt };
-        }) f refl new code (subst (λ cs. Printed taken calls now new (record {
+        }) f refl new code (subst (λ cs. Printed taken calls now new true (record {
           calls = cs ++ writes (fault_text f) ∷ [];
           end = Some f;
         }) code) (sym nothing) printed)
@@ -276,13 +254,13 @@ module _ (style : Style) (c : CircuitView) (first : List ℕ) (l : Kept) {S : Ty
   -- the network of the first of the hours that are left is out of range
   pub way_range : ((s : Settle) → style.asked_in (settle s) ≡ [])
       → ((s : Settle) (f : Fault) → s.rounds ≡ [] → s.end ≡ failed f → style.texts_in (settle s) ≡ []) →
-      (left : List ℕ) (k : Kept) (now : S) (b : Bool) (t : Tally) → HourWay left k now b t → AreHours left → k.settled + length left < 2 ^ 32
+      (left : List ℕ) (k : Kept) (now : S) (b : Bool) (t : Tally) → HourWay left k now b t
       → (blame : Blame) → blame_first c left k.at ≡ Some blame → (new : S) (code : ℕ)
-      → Printed taken calls now new (fault_doing (fault.Script blame.place (cause.Model blame.cause))) code
-      → EndsAt style IsSolved IsFirst taken calls old new begun code
-  way_range silent unshown [] k now b t way are room blame here new code printed = absurd (cc here)
-  way_range silent unshown (hour ∷ left) k now b t way are room blame here new code printed =
-      range_there hour left k now b t way (omega (arith, room)) are.each.0 silent unshown blame here new code printed
+      → Printed taken calls now new true (fault_doing (fault.Script blame.place (cause.Model blame.cause))) code
+      → EndsAt style IsFirst taken calls old new begun code
+  way_range silent unshown [] k now b t way blame here new code printed = absurd (cc here)
+  way_range silent unshown (hour ∷ left) k now b t way blame here new code printed =
+      range_there hour left k now b t way silent unshown blame here new code printed
 
   -- all hours are done
   pub way_done : (left : List ℕ) (k : Kept) (now : S) (b : Bool) (t : Tally) → left ≡ [] → HourWay left k now b t
@@ -294,7 +272,6 @@ module _ (style : Style) (c : CircuitView) (first : List ℕ) (l : Kept) {S : Ty
           events = way.events;
           right = subst (λ events. IsFirst (goes events (standing c k.at k.settled))) (append-nil way.events)
               (way.leads last (subst (λ hours. IsHoursStep c hours k last) (sym none) refl));
-          all_good = way.all_good;
           wrote = way.wrote;
           begun_is = way.begun_is;
         };

@@ -9,7 +9,6 @@ mod Hourly
 pub mod Handed
 pub mod Weights
 pub mod Scripts
-mod Days
 pub mod Points
 mod SolvedHours
 mod SolvedCommands

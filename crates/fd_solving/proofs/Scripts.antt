@@ -1,5 +1,5 @@
 -- The history of `solve` and `cert`: there is exactly one, and it is that of what the script says.
-use Rattle.std.proofs.Common.{◌≡◌, ◌∙◌, ℕ, List, [], Option, refl, ap, subst}
+use Rattle.std.proofs.Common.{◌≡◌, ◌∙◌, ℕ, Bool, List, [], Option, refl, ap, subst}
 use Rattle.std.specs.Str.{chars}
 use Rattle.fd_outside.specs.Answers.{Answer}
 use Rattle.fd_outside.specs.Files.{Files, held}
@@ -7,14 +7,13 @@ use Rattle.dss_model.specs.Names.{bytes}
 use Rattle.dss_script.specs.Script.{Script, script_of}
 use Rattle.dss_script.specs.Said.{Said, ScriptEnd, said_of, ended_by, said_in, end_in}
 use Rattle.dss_script.specs.SaidLaws.{SaidLaw}
-use Rattle.fd_outcome.specs.Behind.{AsksNames}
+use Rattle.fd_outcome.specs.Behind.{AsksNames, TellsEnd}
 use Rattle.fd_outcome.specs.Calls.{Style, report}
 use Rattle.fd_outcome.specs.Events.{History, finishes}
 use Rattle.fd_outcome.specs.History.{IsHistory}
 use Rattle.fd_outcome.specs.Runs.{Runs}
 use Rattle.fd_outcome.specs.Work.{ExactlyOne, Step}
 use Rattle.fd_outcome.proofs.CallerLemmas.{ends_first, exactly_one_history, exactly_this}
-use Rattle.fd_outcome.specs.Settles.{Settle}
 use Rattle.dss_model.specs.declared.command.Command.{Command}
 use Rattle.fd_solving.specs.Commands.{IsStep}
 use Rattle.fd_solving.specs.Scripts.{IsDoneThere, IsScriptHistory, first_standing, no_name}
@@ -36,7 +35,7 @@ one_script files file =
 -- ---- from a session to what its script says
 
 module _ {T : Type 0} (is_step : Command → T → Step T → Type 0) (last_name : T → Option (List ℕ))
-    (is_last : T → Option (List ℕ) → History → Type 0) (good : Settle → Type 0) (style : Style) {L S : Type 0}
+    (is_last : T → Option (List ℕ) → History → Type 0) (style : Style) (tells : Bool) {L S : Type 0}
     (answers : L → List Answer) (taken : S → List ℕ) (calls : S → ℕ)
     (files : Files) (file : List ℕ) (first : T) where
   abbrev pub IsHistoryOf : List Said → ScriptEnd → T → History → Type 0
@@ -46,23 +45,24 @@ module _ {T : Type 0} (is_step : Command → T → Step T → Type 0) (last_name
   pub of_script : SaidLaw → (script : Script) (state : T) (lib_old lib_new : L) (old new : S) (code : ℕ)
       → script ≡ script_of files file → state ≡ first
       → Runs answers taken calls lib_old lib_new old new
-      (λ h. IsHistoryOf (said_in script) (end_in script) state h) style good code
+      (λ h. IsHistoryOf (said_in script) (end_in script) state h) style tells code
       → Runs answers taken calls lib_old lib_new old new
-      (λ h. IsHistoryOf (said_of files file).said (ended_by (said_of files file).left) first h) style good code
+      (λ h. IsHistoryOf (said_of files file).said (ended_by (said_of files file).left) first h) style tells code
   of_script law script state lib_old lib_new old new code is begins runs =
       let p = said_of files file in
       let P : List Said → ScriptEnd → T → Type 0 =
-      λ l e s. Runs answers taken calls lib_old lib_new old new (λ h. IsHistoryOf l e s h) style good code in
+      λ l e s. Runs answers taken calls lib_old lib_new old new (λ h. IsHistoryOf l e s h) style tells code in
       let a : P (said_in script) (end_in script) first = subst (P (said_in script) (end_in script)) begins runs in
       let b : P p.said (end_in script) first = subst (λ l. P l (end_in script) first) (ap said_in is ∙ law.said files file) a in
       subst (λ e. P p.said e first) (ap end_in is ∙ law.end files file) b
 
   -- memory runs out before the script is read
   pub not_begun : ((c : Command) (s : T) → ExactlyOne (is_step c s))
-      → ((s : T) (found : Option (List ℕ)) → ExactlyOne (is_last s found)) → AsksNames style → (lib : L) (out : S)
-      → Runs answers taken calls lib lib out out (λ h. IsHistoryOf (said_of files file).said (ended_by (said_of files file).left) first h) style good 1
-  not_begun one_step one_last fits lib out =
+      → ((s : T) (found : Option (List ℕ)) → ExactlyOne (is_last s found)) → AsksNames style
+      → TellsEnd tells style is_last → (lib : L) (out : S)
+      → Runs answers taken calls lib lib out out (λ h. IsHistoryOf (said_of files file).said (ended_by (said_of files file).left) first h) style tells 1
+  not_begun one_step one_last fits told lib out =
       let p = said_of files file in
-      ends_first is_step last_name is_last good style (λ n. held files (bytes n)) answers taken calls
-      (record { left = p.said; end = ended_by p.left; state = first }) lib out one_step one_last fits p.said
+      ends_first is_step last_name is_last style tells (λ n. held files (bytes n)) answers taken calls
+      (record { left = p.said; end = ended_by p.left; state = first }) lib out one_step one_last fits told p.said
       (ended_by p.left) first refl

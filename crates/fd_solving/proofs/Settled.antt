@@ -1,21 +1,16 @@
 -- What a settle whose states are computed comes to: its step, and its rounds, which are printed.
-use Rattle.std.proofs.Common.{◌≡◌, ◌∙◌, ◌≤◌, ◌<◌, ◌+◌, ◌^◌, ℕ, List, [], ◌∷◌, map, take, length, Option, Some, None, Result, Ok, Err, ap, refl, sym, subst, arith}
+use Rattle.std.proofs.Common.{◌≡◌, ◌∙◌, ◌≤◌, ◌<◌, ◌+◌, ◌^◌, ℕ, List, [], ◌∷◌, map, length, Option, Some, None, Result, Ok, Err, ap, refl, sym, subst, arith}
 use Rattle.std.specs.Prelude.{All}
-use Rattle.std.specs.List.{AllByRecursion}
 use Rattle.std.proofs.lemmas.List.{length-map}
 use Rattle.std.proofs.lemmas.List.Elements.{All-cons, All-nil}
 use Rattle.dss_layout.specs.Layout.{LayoutView, layout_of, size_of}
 use Rattle.dss_ready.specs.Ready.{HasPassed}
 use Rattle.dss_circuit.specs.Circuit.{CircuitView}
-use Rattle.dss_circuit.specs.InRange.{AllInRange}
-use Rattle.dss_circuit.specs.WellFormed.{IsEntry}
 use Rattle.fd_pattern.specs.Views.{NetworkView}
 use Rattle.fd_cert.specs.Claims.{claim_in}
 use Rattle.fd_pages.specs.Rounds.{IsRoundOf}
 use Rattle.fd_cert.specs.declared.fault.CertFault.TheVariants as cert
-use Rattle.fd_enclosure.specs.Encloses.{EnclosureLaw}
 use Rattle.fd_enclosure.specs.Sound.{Claim}
-use Rattle.fd_enclosure.specs.Ties.{BallLaw, TieLaw}
 use Rattle.fd_inject.specs.declared.fault.SolveFault.TheVariants as solving
 use Rattle.fd_inject.specs.declared.limits.Limits.{Limits}
 use Rattle.fd_settings.specs.Hours.{hour_powers}
@@ -23,21 +18,17 @@ use Rattle.fd_elements.specs.declared.powers.LoadPower.{LoadPower}
 use Rattle.fd_queue.specs.Controls.{Positions}
 use Rattle.fd_queue.specs.Machine.{Act, Machine}
 use Rattle.fd_report.specs.Solutions.{IsOfSize}
-use Rattle.fd_settle.specs.Chosen.{AreChosen}
 use Rattle.fd_settle.specs.Compute.{ComputeGives, IsPlaced}
-use Rattle.fd_settle.specs.Computed.{Ending, EndsBySolver, EndsSo, Follows, IsComputedFrom, computed_in, ended}
+use Rattle.fd_settle.specs.Computed.{Ending, EndsBySolver, EndsSo, IsComputedFrom, computed_in, ended}
 use Rattle.fd_settle.specs.Contract.{CallsAs, EndsAs, limits_of}
-use Rattle.fd_settle.specs.Numbers.{AreActNumbers}
-use Rattle.fd_settle.specs.Plant.{Plant, controls_in, network_at, plant_of, setup_of}
-use Rattle.fd_settle.specs.Rounds.{AtEach, acts_in, after_round, claims_in, left_by, seen, settled}
-use Rattle.fd_settle.specs.Sampling.{look_over}
-use Rattle.fd_settle.specs.Settle.{End, Settled, Outcome, Ends, Moves, outcome_of}
+use Rattle.fd_settle.specs.Plant.{Plant, network_at, plant_of}
+use Rattle.fd_settle.specs.Rounds.{AtEach, after_round, claims_in, seen, settled}
+use Rattle.fd_settle.specs.Settle.{End, Settled}
 use Rattle.fd_settle.specs.Start.{ArePositions, IsSoundAt}
 use Rattle.fd_settle.specs.declared.compute.ComputeFault.{ComputeFault}
 use Rattle.fd_settle.specs.declared.compute.ComputeFault.TheVariants as compute
 use Rattle.fd_settle.specs.declared.fault.SettleFault.{SettleFault}
 use Rattle.fd_settle.specs.declared.fault.SettleFault.TheVariants as fault
-use Rattle.fd_settle.specs.declared.round.Act.{Act as MadeAct}
 use Rattle.fd_settle.specs.declared.round.Round.{Round as Made}
 use Rattle.fd_outcome.specs.Pages.{solution_in}
 use Rattle.fd_outcome.specs.Settles.{Round, SettleEnd}
@@ -46,15 +37,13 @@ use Rattle.fd_pages.specs.Hours.{IsPrintable, IsTriedOf, round_in, rounds_in, se
 use Rattle.fd_solving.specs.Answered.{IsFailureOf, IsMadeHour, IsOfCommand}
 use Rattle.fd_solving.specs.Endings.{IsCounted, IsEnding, IsFailureAt, IsTriedAt, IsWithin, TellsOf, end_by, ending_by_solver, ending_of, tried_at}
 use Rattle.fd_solving.specs.declared.faults.Failure.{Failure}
-use Rattle.fd_solving.specs.Headline.{DecidesAlike, HasModestNumbers, IsOtherState, IsSolution, IsSolved}
 use Rattle.fd_cert.specs.declared.ball.Certified.{Certified}
 use Rattle.fd_report.specs.declared.faults.Fault.{Fault}
 use Rattle.fd_solving.specs.Printing.{fault_of}
 use Rattle.fd_daily.specs.Underway.{plant_at}
 use Rattle.fd_solving.specs.Solving.{IsEndBy, IsHour, hour_begun, kept_by, rounds_of}
 use Rattle.fd_solving.proofs.Computations.{few_rounds}
-use Rattle.fd_solving.proofs.Solutions.{is_of_size, is_solution, network_size}
-use Rattle.fd_solving.proofs.Steadiness.{each_alike, steady}
+use Rattle.fd_solving.proofs.Solutions.{is_of_size, network_size}
 use Rattle.fd_solving.proofs.Tried.{IsTriedBy, sound_claim, tried_as, tried_claims}
 
 -- ---- rounds as the code makes them, and as they are printed
@@ -62,14 +51,6 @@ use Rattle.fd_solving.proofs.Tried.{IsTriedBy, sound_claim, tried_as, tried_clai
 same_rounds : (rs : List Made) → rounds_of (computed_in rs) ≡ rounds_in rs
 same_rounds [] = refl
 same_rounds (r ∷ rs) = ap (λ (xs : List Round). round_in r ∷ xs) (same_rounds rs)
-
-same_claims : (rs : List Made) → map outcome.claim_in (rounds_in rs) ≡ claims_in rs
-same_claims [] = refl
-same_claims (r ∷ rs) = ap (λ (xs : List Claim). claim_in r.certified ∷ xs) (same_claims rs)
-
-same_acts : (rs : List Made) → map (λ (r : Round). r.acts) (rounds_in rs) ≡ acts_in rs
-same_acts [] = refl
-same_acts (r ∷ rs) = ap (λ (xs : List (List Act)). map seen r.acts.items ∷ xs) (same_acts rs)
 
 -- ---- each round
 
@@ -91,28 +72,6 @@ module _ (c : CircuitView) (hour : ℕ) where
       All-cons (IsRoundOf (size_of (layout_of c.elements))) r rs
       (sound_claim c hour m.at (claim_in r.certified) sound.0)
       (all_claims (after_round (plant_at c hour) m (claim_in r.certified)) rs sound.1)
-
-  behind : (o : Outcome) (acts : List Act) (rs : List Made) (ending : Ending) (n : Machine)
-      → Follows o acts (computed_in rs) ending n (λ k.
-      IsComputedFrom (limits_of c.options) (plant_at c hour) k (computed_in rs) ending n)
-      → AtEach (IsSoundAt c (hour_powers c.elements hour)) (plant_at c hour) (left_by o) (claims_in rs)
-      → ((k : Machine) → IsComputedFrom (limits_of c.options) (plant_at c hour) k (computed_in rs) ending n
-      → AtEach (IsSoundAt c (hour_powers c.elements hour)) (plant_at c hour) k (claims_in rs)
-      → AtEach (IsSolution c hour) (plant_at c hour) k (claims_in rs))
-      → AtEach (IsSolution c hour) (plant_at c hour) (left_by o) (claims_in rs)
-  behind (Moves made k) acts rs ending n h sound go = go k h.1 sound
-  behind (Ends end k) acts [] ending n h sound go = tt
-  behind (Ends end k) acts (r ∷ rs) ending n h sound go = absurd (let none = h.1.0 in cc)
-
-  solutions : EnclosureLaw → TieLaw → BallLaw → (m : Machine) (rs : List Made) (ending : Ending) (n : Machine)
-      → IsComputedFrom (limits_of c.options) (plant_at c hour) m (computed_in rs) ending n →
-      AtEach (IsSoundAt c (hour_powers c.elements hour)) (plant_at c hour) m (claims_in rs) → AtEach (IsSolution c hour) (plant_at c hour) m (claims_in rs)
-  solutions law tie ball m [] ending n h sound = tt
-  solutions law tie ball m (r ∷ rs) ending n h sound = (
-    is_solution c hour m.at (claim_in r.certified) sound.0 h.1.0 law tie ball,
-    behind (outcome_of (setup_of c) m ((plant_at c hour).look m.at (claim_in r.certified))) (map seen r.acts.items) rs
-        ending n h.1.1 sound.1 (λ k later s. solutions law tie ball k rs ending n later s),
-  )
 
 -- ---- what a fault tells
 
@@ -167,7 +126,6 @@ within limits c powers v m rs fault.NoMemory w l is h = tt
 
 pub record IsMade (c : CircuitView) (powers : List LoadPower) (m : Machine) (rs : List Made)
     (result : Result (Unit {0}) (SettleFault ComputeFault)) (k : Kept) : Type 0 where
-  pub acts : acts_in rs ≡ (settled (plant_of c powers) m rs).rounds
   pub at_is : k.at ≡ (settled (plant_of c powers) m rs).machine.at
   pub opened_is : k.opened ≡ (settled (plant_of c powers) m rs).machine.opened
   pub ends : EndsAs (plant_of c powers) result (settled (plant_of c powers) m rs).end (settled (plant_of c powers) m rs).machine
@@ -178,24 +136,10 @@ pub record IsMade (c : CircuitView) (powers : List LoadPower) (m : Machine) (rs 
   pub positions : ArePositions c powers k.at
   pub tried : IsTriedBy (limits_of c.options) (plant_of c powers) result (settled (plant_of c powers) m rs).machine
 
--- ---- the numbers of acts, by their types
-
-act_numbers : (acts : List MadeAct)
-    → AllByRecursion (λ (a : Act). AreActNumbers a.time a.control a.steps) (map seen acts)
-act_numbers [] = tt
-act_numbers (a ∷ acts) = (a.numbers, act_numbers acts)
-
-numbers_of : (rs : List Made)
-    → AllByRecursion (λ (r : Round). AllByRecursion (λ (a : Act). AreActNumbers a.time a.control a.steps) r.acts) (rounds_in rs)
-numbers_of [] = tt
-numbers_of (r ∷ rs) = (act_numbers r.acts.items, numbers_of rs)
-
 -- ---- the settle of an hour
 
 module _ (c : CircuitView) (hour : ℕ) (l : Kept) (rs : List Made) (k : Kept) (ready : HasPassed c)
-    (range : AllInRange c.elements) (keys : All IsEntry c.elements) (law : EnclosureLaw) (tie : TieLaw)
-    (ball : BallLaw) (most : c.options.maxcontroliter ≤ 100) (count : k.settled ≡ l.settled + 1)
-    (number : l.settled + 1 < 2 ^ 32) (most_hour : hour ≤ 8760) where
+    (most : c.options.maxcontroliter ≤ 100) (count : k.settled ≡ l.settled + 1) where
   abbrev first : Machine
   first = hour_begun c hour l
 
@@ -225,27 +169,6 @@ module _ (c : CircuitView) (hour : ℕ) (l : Kept) (rs : List Made) (k : Kept) (
     few = few ending computed;
   }
 
-  modest : (ending : Ending) (end : SettleEnd) → EndsHere ending → HasModestNumbers (settle_made c hour l rs end k.at)
-  modest ending end computed = record {
-    number = number;
-    hour = omega (arith, most_hour);
-    few = omega (arith, few ending computed, length-map rs round_in);
-    acts = numbers_of rs;
-  }
-
-  solved : (result : Result (Unit {0}) (SettleFault ComputeFault)) (ending : Ending) (end : SettleEnd) → MadeHere result
-      → EndsHere ending → IsSolved (settle_made c hour l rs end k.at)
-  solved result ending end made computed = record {
-    solutions = subst (λ (ys : List Claim). AtEach (IsSolution c hour) (plant_at c hour) first ys)
-        (sym (same_claims rs)) (solutions c hour law tie ball first rs ending last computed made.sound);
-    alike = subst (λ (ys : List Claim). AtEach (DecidesAlike c hour) (plant_at c hour) first ys)
-        (sym (same_claims rs)) (each_alike c hour ready range keys law first (claims_in rs) made.sound);
-    steady = λ xs chosen. steady c hour ready range keys law first (claims_in rs) xs made.sound
-        (subst (λ (ys : List Claim). AreChosen (setup_of c) (IsOtherState c hour) (look_over (controls_in c)) first ys xs) (same_claims rs) chosen)
-        ∙ ap (λ (acts : List (List Act)). take (length xs) acts) (sym made.acts ∙ sym (same_acts rs));
-    numbers = modest ending end computed;
-  }
-
   same_kept : (machine : Machine) → k.at ≡ machine.at → k.opened ≡ machine.opened → k ≡ kept_by l machine
   same_kept machine at_is opened_is =
       let made : Positions → List (Option ℕ) → ℕ → Kept = λ at opened settled_so. record { at = at; opened = opened; settled = settled_so } in
@@ -269,7 +192,6 @@ module _ (c : CircuitView) (hour : ℕ) (l : Kept) (rs : List Made) (k : Kept) (
   pub ended_well : (done : Unit {0}) → MadeHere (Ok done) → IsMadeHour c hour l rs None k
   ended_well done made = record {
     is = hour_by (Ok done) (ended Settled) outcome.settled made made.computed refl;
-    solved = solved (Ok done) (ended Settled) outcome.settled made made.computed;
     printable = printable (Ok done) (ended Settled) made made.computed;
     tried = tt;
     command = tt;
@@ -290,7 +212,6 @@ module _ (c : CircuitView) (hour : ℕ) (l : Kept) (rs : List Made) (k : Kept) (
         let computed : EndsHere ending = both e EndsHere ending is made.computed in
         record {
           is = hour_by (Err e) ending (end_by (Some x)) made computed told;
-          solved = solved (Err e) ending (end_by (Some x)) made computed;
           printable = printable (Err e) ending made computed;
           tried = claimed;
           command = command;

@@ -32,7 +32,6 @@ use Rattle.fd_settle.specs.Plant.{network_at}
 use Rattle.fd_settle.specs.Start.{IsSoundAt}
 use Rattle.fd_outcome.specs.Pages.{solution_in}
 use Rattle.fd_settings.specs.Hours.{hour_powers}
-use Rattle.fd_sample.specs.Balls.{IsInBall}
 use Rattle.fd_solving.specs.Boxes.{IsInBox, box_at, box_by, kind_at}
 use Rattle.fd_solving.specs.Headline.{EnclosesOthers, EnclosesSizes, HaveOneBall, HasItsBox, IsOtherState, IsSolution, MeetsRound, equation_count, equations_of, hour_network}
 use Rattle.fd_outcome.specs.Settles.{round_of}

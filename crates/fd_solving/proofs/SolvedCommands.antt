@@ -1,9 +1,9 @@
 -- Every settle of a script is solved: what stands between two commands stays within limits, and so each Solve's settles
 -- are.
-use Rattle.std.proofs.Common.{◌≡◌, ◌∙◌, ℕ, ◌+◌, ◌*◌, ◌^◌, ◌<◌, ◌≤◌, List, [], ◌∷◌, ◌++◌, map, length, Option, Some, None, Result, Ok, Err, refl, sym, ap, subst, arith}
+use Rattle.std.proofs.Common.{◌≡◌, ℕ, ◌+◌, ◌*◌, ◌≤◌, List, [], ◌∷◌, map, Option, Result, Ok, Err, refl, sym, ap, subst, arith}
 use Rattle.std.specs.Prelude.{All}
 use Rattle.std.proofs.lemmas.List.Elements.{All-append, All-cons, All-nil}
-use Rattle.fd_outside.specs.Files.{Files, held}
+use Rattle.fd_outside.specs.Files.{held}
 use Rattle.dss_model.specs.Names.{bytes}
 use Rattle.dss_model.specs.declared.command.Blame.{Blame}
 use Rattle.dss_model.specs.declared.command.Command.{Command}
@@ -11,7 +11,7 @@ use Rattle.dss_model.specs.declared.command.Place.{Place}
 use Rattle.dss_model.specs.declared.command.Verb.{Verb}
 use Rattle.dss_model.specs.declared.command.Verb.TheVariants as verb
 use Rattle.dss_model.specs.declared.fault.ModelFault.{ModelFault}
-use Rattle.dss_circuit.specs.Circuit.{CircuitView, empty_circuit}
+use Rattle.dss_circuit.specs.Circuit.{CircuitView}
 use Rattle.dss_circuit.specs.InRange.{IsWithinLimits}
 use Rattle.dss_commands.specs.Commands.{applied}
 use Rattle.dss_commands.proofs.CallerLemmas.{none_within}
@@ -32,10 +32,9 @@ use Rattle.fd_solving.specs.Commands.{IsByTests, IsStep, IsStepOf, IsTested, lef
 use Rattle.fd_solving.specs.Headline.{IsSolved}
 use Rattle.fd_solving.specs.Scripts.{IsDoneThere, first_standing, no_name}
 use Rattle.fd_solving.specs.SolvedLaw.{SolvedLaw}
-use Rattle.fd_solving.specs.Solving.{IsSolutionStep}
 use Rattle.fd_solving.specs.Steps.{StandingView, standing}
 use Rattle.fd_solving.specs.Weights.{weight}
-use Rattle.fd_solving.proofs.SolvedHours.{IsSolvedStep, Laws, LeavesTaps, solution_solved}
+use Rattle.fd_solving.proofs.SolvedHours.{Laws, LeavesTaps, solution_solved}
 use Rattle.fd_solving.proofs.Weights.{Takes, verb_takes}
 
 -- ---- what stands between two commands

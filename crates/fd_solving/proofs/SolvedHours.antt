@@ -1,5 +1,5 @@
 -- The settles of a Solve's hours are solved, and what an hour leaves can start the next.
-use Rattle.std.proofs.Common.{◌≡◌, ◌∙◌, ℕ, ◌+◌, ◌-◌, ◌*◌, ◌^◌, ◌<◌, ◌≤◌, List, [], ◌∷◌, ◌++◌, map, take, length, Option, Some, None, refl, sym, ap, subst, arith}
+use Rattle.std.proofs.Common.{◌≡◌, ℕ, ◌+◌, ◌-◌, ◌^◌, ◌<◌, ◌≤◌, List, [], ◌∷◌, map, length, Option, None, refl, sym, ap, subst, arith}
 use Rattle.std.specs.Prelude.{All}
 use Rattle.std.specs.List.{AllByRecursion}
 use Rattle.std.proofs.lemmas.List.{length-map, length-replicate}
@@ -20,35 +20,31 @@ use Rattle.fd_enclosure.specs.Ties.{BallLaw, TieLaw}
 use Rattle.fd_queue.specs.Controls.{Positions}
 use Rattle.fd_queue.specs.Machine.{Act, Machine}
 use Rattle.fd_settle.proofs.CallerLemmas.{none_early}
-use Rattle.fd_settle.specs.Chosen.{AreChosen}
 use Rattle.fd_settle.specs.Compute.{IsComputed}
 use Rattle.fd_settle.specs.Computed.{Ending, Follows, IsComputedFrom}
 use Rattle.fd_settle.specs.Contract.{limits_of}
 use Rattle.fd_settle.specs.KeptRounds.{AreKept, CanStart, KeptRoundsLaw}
 use Rattle.fd_settle.specs.Numbers.{AreActNumbers}
-use Rattle.fd_settle.specs.Plant.{Plant, blame_at, controls_in, network_at, settings_at, setup_of, started}
+use Rattle.fd_settle.specs.Plant.{Plant, blame_at, network_at, settings_at, setup_of}
 use Rattle.fd_settle.specs.Rounds.{AtEach, left_by}
-use Rattle.fd_settle.specs.Sampling.{look_over}
-use Rattle.fd_settle.specs.Settle.{Ends, Moves, Outcome, outcome_of, settle_of}
-use Rattle.fd_settle.specs.Settle as settling
+use Rattle.fd_settle.specs.Settle.{Ends, Moves, Outcome, outcome_of}
 use Rattle.fd_settle.specs.Start.{ArePositions, IsSoundAt}
 use Rattle.fd_daily.specs.Day.{no_openings}
 use Rattle.fd_daily.specs.Hours.{hours_of, time_of}
 use Rattle.fd_daily.specs.Underway.{plant_at, start_from}
 use Rattle.fd_daily.proofs.CallerLemmas.{all_hours}
-use Rattle.fd_outcome.specs.Events.{AllSettles, Event, IfSettle, settle}
+use Rattle.fd_outcome.specs.Events.{AllSettles, IfSettle, settle}
 use Rattle.fd_outcome.specs.Parts.{events_in}
 use Rattle.fd_outcome.specs.Settles.{Round, Settle, SettleEnd, claim_in, failed, round_of, settled, without_certificate}
 use Rattle.fd_outcome.specs.Work.{Step, ends, goes}
 use Rattle.fd_pages.specs.Hours.{Kept, hour_settle}
-use Rattle.fd_solving.specs.Headline.{DecidesAlike, HasModestNumbers, IsOtherState, IsSolution, IsSolved, hour_network}
-use Rattle.fd_solving.specs.Solving.{IsBehind, IsHour, IsHoursStep, IsSolutionStep, hour_begun, kept_by, kept_first, rounds_of}
+use Rattle.fd_solving.specs.Headline.{DecidesAlike, HasModestNumbers, IsSolution, IsSolved, hour_network}
+use Rattle.fd_solving.specs.Solving.{IsBehind, IsHour, IsHoursStep, IsSolutionStep, hour_begun, kept_first, rounds_of}
 use Rattle.fd_solving.specs.Steps.{StandingView, behind_events, standing}
 use Rattle.fd_solving.proofs.Computations.{few_rounds}
-use Rattle.fd_solving.proofs.Days.{claims_same}
 use Rattle.fd_solving.proofs.Points.{solution_point}
 use Rattle.fd_solving.proofs.Solutions.{is_solution}
-use Rattle.fd_solving.proofs.Steadiness.{each_alike, steady}
+use Rattle.fd_solving.proofs.Steadiness.{each_alike}
 
 -- the laws of the crates below that this rests on
 pub record Laws : Type 0 where
@@ -68,12 +64,9 @@ pub record Laws : Type 0 where
 abbrev claims_in : List (Claim × List Act) → List Claim
 claims_in rounds = map (λ r. r.0) rounds
 
-abbrev acts_in : List (Claim × List Act) → List (List Act)
-acts_in rounds = map (λ r. r.1) rounds
-
-acts_same : (rounds : List (Claim × List Act)) → map (λ (r : Round). r.acts) (rounds_of rounds) ≡ acts_in rounds
-acts_same [] = refl
-acts_same (r ∷ rounds) = ap (λ (as' : List (List Act)). r.1 ∷ as') (acts_same rounds)
+claims_same : (rounds : List (Claim × List Act)) → map claim_in (rounds_of rounds) ≡ map (λ r. r.0) rounds
+claims_same [] = refl
+claims_same (r ∷ rounds) = ap (λ (cs : List Claim). r.0 ∷ cs) (claims_same rounds)
 
 abbrev HasNumbers : Act → Type 0
 HasNumbers a = AreActNumbers a.time a.control a.steps
@@ -133,26 +126,6 @@ module _ (laws : Laws) (c : CircuitView) (ready : HasPassed c) (circuit : IsWith
           (λ k later before. each_round k rest ending n later before),
     )
 
-  -- the acts are those of the settle over the balls of the rounds
-  acts_behind : (o : Outcome) (acts : List Act) (rest : List (Claim × List Act)) (ending : Ending) (n : Machine)
-      (settle_from : Machine → settling.Settle) → Follows o acts rest ending n (λ k. Computed k rest ending n)
-      → ((k : Machine) → Computed k rest ending n → (settle_from k).rounds ≡ acts_in rest)
-      → (settling.before_rest o settle_from).rounds ≡ acts ∷ acts_in rest
-  acts_behind (Moves made k) acts rest ending n settle_from f go =
-      ap (λ (as' : List (List Act)). made ∷ as') (go k f.1) ∙ ap (λ (a : List Act). a ∷ acts_in rest) (sym f.0)
-  acts_behind (Ends end k) acts rest ending n settle_from f go =
-      ap (λ (a : List Act). a ∷ []) (sym f.0)
-      ∙ ap (λ (rs : List (Claim × List Act)). acts ∷ acts_in rs) (sym f.1.0)
-
-  acts_are : (m : Machine) (rounds : List (Claim × List Act)) (ending : Ending) (n : Machine)
-      → Computed m rounds ending n
-      → (settle_of (setup_of c) (look_over (controls_in c)) m (claims_in rounds)).rounds ≡ acts_in rounds
-  acts_are m [] ending n f = refl
-  acts_are m (r ∷ rest) ending n f =
-      acts_behind (outcome_of (setup_of c) m (plant.look m.at r.0)) r.1 rest ending n
-      (λ k. settle_of (setup_of c) (look_over (controls_in c)) k (claims_in rest)) f.1.1
-      (λ k later. acts_are k rest ending n later)
-
   -- ---- its settle
 
   module _ (l : Kept) (start : CanStart c powers l.at (time_of hour) l.opened) (number : l.settled + 1 < 2 ^ 32)
@@ -197,12 +170,6 @@ module _ (laws : Laws) (c : CircuitView) (ready : HasPassed c) (circuit : IsWith
       solutions = subst (λ (ys : List Claim). AtEach (IsSolution c hour) plant first ys) (sym (claims_same is.rounds)) solutions;
       alike = subst (λ (ys : List Claim). AtEach (DecidesAlike c hour) plant first ys) (sym (claims_same is.rounds))
           (each_alike c hour ready circuit.elements_in_range circuit.well_formed.entries laws.enclosure first claims sound);
-      steady = λ xs chosen.
-          steady c hour ready circuit.elements_in_range circuit.well_formed.entries laws.enclosure first claims xs sound
-          (subst (λ (ys : List Claim). AreChosen (setup_of c) (IsOtherState c hour) (look_over (controls_in c)) first ys xs)
-          (claims_same is.rounds) chosen)
-          ∙ ap (λ (acts : List (List Act)). take (length xs) acts)
-          (acts_are first is.rounds is.ending is.machine is.computed ∙ sym (acts_same is.rounds));
       numbers = modest;
     }
 

@@ -1,5 +1,5 @@
--- Whatever states are chosen in the balls of a settle's rounds, the acts are those of the settle.
-use Rattle.std.proofs.Common.{◌≡◌, ◌∙◌, ℕ, ◌+◌, ◌<◌, ◌≤◌, ◌^◌, List, [], ◌∷◌, map, take, length, get_or, Result, Ok, Err, ap, refl, sym, subst, arith}
+-- What is decided over the ball of a round is what the controls want at each state that solves it.
+use Rattle.std.proofs.Common.{◌≡◌, ◌∙◌, ℕ, ◌+◌, ◌<◌, ◌≤◌, ◌^◌, List, [], ◌∷◌, map, length, get_or, Result, Ok, Err, ap, refl, sym, subst, arith}
 use Rattle.std.specs.Prelude.{All}
 use Rattle.std.proofs.lemmas.List.Elements.{All-from_get_or, All-head, All-tail}
 use Rattle.dss_model.specs.declared.words.ControlMode.{ControlMode}
@@ -22,13 +22,10 @@ use Rattle.fd_sample.specs.Decided.{Undecided, sample_over}
 use Rattle.fd_sample.specs.Probes.{IsProbe, decision_at, quantity_at}
 use Rattle.fd_sample.specs.declared.probe.Probe.{Probe}
 use Rattle.fd_sample.proofs.CallerLemmas.{probes_kept, sample_wanted}
-use Rattle.fd_settle.specs.Chosen.{AreChosen, AreOfHeld, GoesOn}
-use Rattle.fd_settle.specs.Plant.{Plant, controls_in, plant_of, setup_of, taking_part}
-use Rattle.fd_settle.specs.Rounds.{AtEach, after_round, left_by}
+use Rattle.fd_settle.specs.Plant.{controls_in, plant_of, taking_part}
+use Rattle.fd_settle.specs.Rounds.{AtEach, after_round}
 use Rattle.fd_settle.specs.Sampling.{Sampling, Decided, Unclear, look_at, look_over, sampling_of, with_first}
-use Rattle.fd_settle.specs.Settle.{Open, Settled, Limited, Undecidable, Outcome, Ends, Moves, outcome_of, settle_of}
 use Rattle.fd_settle.specs.Start.{IsSoundAt}
-use Rattle.fd_settle.proofs.CallerLemmas.{history}
 use Rattle.fd_solving.specs.Headline.{DecidesAlike, IsOtherState}
 use Rattle.fd_solving.proofs.Solutions.{network_size, others}
 
@@ -64,36 +61,12 @@ part_taken : (mode : ControlMode) (P : Probe → Type 0) (ps : List Probe) → A
 part_taken control_mode.Off P ps h = λ i x lt. absurd (omega (arith, lt))
 part_taken control_mode.Static P ps h = h
 
--- ---- states that may be chosen
-
--- states that may be chosen, where something holds of each round besides
-module _ (p : Plant) (P : Positions → Claim → State → Type 0) (Q : Positions → Claim → Type 0) where
-  abbrev pub Both : Positions → Claim → State → Type 0
-  Both at m x = P at m x × Q at m
-
-  on_both : (o : Outcome) (ys : List Claim) (xs : List State)
-      → ((n : Machine) → AtEach Q p n ys → AreChosen p.setup P p.look n ys xs → AreChosen p.setup Both p.look n ys xs)
-      → AtEach Q p (left_by o) ys
-      → GoesOn o xs (λ n. AreChosen p.setup P p.look n ys xs) → GoesOn o xs (λ n. AreChosen p.setup Both p.look n ys xs)
-  on_both (Moves acts n) ys xs go each h = go n each h
-  on_both (Ends (Undecidable k u) n) ys xs go each h = h
-  on_both (Ends Open n) ys xs go each h = h
-  on_both (Ends Settled n) ys xs go each h = h
-  on_both (Ends Limited n) ys xs go each h = h
-
-  pub both : (m : Machine) (ys : List Claim) (xs : List State) → AtEach Q p m ys → AreChosen p.setup P p.look m ys xs
-      → AreChosen p.setup Both p.look m ys xs
-  both m ys [] each h = tt
-  both m [] (x ∷ xs) each h = absurd h
-  both m (y ∷ ys) (x ∷ xs) each h = ((h.0, each.0), on_both (outcome_of p.setup m (p.look m.at y)) ys xs (λ n e k. both n ys xs e k) each.1 h.1)
+-- ---- any state that solves a round
 
 module _ (c : CircuitView) (hour : ℕ) where
-  -- a state that may be chosen for a round, where the round is sound
+  -- a state that solves a round, where the round is sound
   abbrev IsHeld : Positions → Claim → State → Type 0
   IsHeld at m x = IsOtherState c hour at m x × IsSoundAt c (hour_powers c.elements hour) at m
-
-  abbrev chosen_by : (Positions → Claim → State → Type 0) → Machine → List Claim → List State → Type 0
-  chosen_by holds m ys xs = AreChosen (setup_of c) holds (look_over (controls_in c)) m ys xs
 
   ball_of : (at : Positions) (m : Claim) → IsSoundAt c (hour_powers c.elements hour) at m → IsBall m.centre m.radii
   ball_of at m here = record {
@@ -104,7 +77,7 @@ module _ (c : CircuitView) (hour : ℕ) where
 
   module _ (ready : HasPassed c) (range : AllInRange c.elements) (keys : All IsEntry c.elements)
       (law : EnclosureLaw) where
-    -- a decided sample over a round's ball is what its control wants at each state that may be chosen
+    -- a decided sample over a round's ball is what its control wants at each state that solves the round
     wanted : (at : Positions) (m : Claim) (x : State) → IsHeld at m x
         → All (λ p. (d : Decision) → sample_over p at m.centre m.radii ≡ Ok d → decision_at p at (quantity_at p at x) ≡ d) (probes_of c.elements)
     wanted at m x h i p lt d is =
@@ -115,7 +88,8 @@ module _ (c : CircuitView) (hour : ℕ) where
         (kept.devices at h.1.positions.counts.taps h.1.positions.counts.closed i p lt) h.1.positions.taps
         (ball_of at m h.1) (others c hour at m h.1 law x h.0) is
 
-    of_held : AreOfHeld IsHeld (look_over (controls_in c)) (look_at (controls_in c))
+    of_held : (at : Positions) (m : Claim) (x : State) (ds : List Decision) → IsHeld at m x
+        → look_over (controls_in c) at m ≡ Decided ds → look_at (controls_in c) at x ≡ Decided ds
     of_held at m x ds h is =
         ap Decided (decided_each 0 (controls_in c) (λ p. sample_over p at m.centre m.radii)
         (λ p. decision_at p at (quantity_at p at x)) ds (part_taken c.options.controlmode (λ p.
@@ -131,12 +105,3 @@ module _ (c : CircuitView) (hour : ℕ) where
         → AtEach (DecidesAlike c hour) (plant_of c (hour_powers c.elements hour)) m ys
     each_alike m [] sound = tt
     each_alike m (y ∷ ys) sound = (alike m.at y sound.0, each_alike (after_round (plant_of c (hour_powers c.elements hour)) m y) ys sound.1)
-
-    pub steady : (m : Machine) (ys : List Claim) (xs : List State)
-        → AtEach (IsSoundAt c (hour_powers c.elements hour)) (plant_of c (hour_powers c.elements hour)) m ys
-        → chosen_by (IsOtherState c hour) m ys xs →
-        (settle_of (setup_of c) (look_at (controls_in c)) m xs).rounds ≡ take (length xs) (settle_of (setup_of c) (look_over (controls_in c)) m ys).rounds
-    steady m ys xs sound h =
-        history IsHeld (look_over (controls_in c)) (look_at (controls_in c)) of_held (setup_of c) m ys xs
-        (both (plant_of c (hour_powers c.elements hour)) (IsOtherState c hour)
-        (IsSoundAt c (hour_powers c.elements hour)) m ys xs sound h)

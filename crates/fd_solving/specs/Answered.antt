@@ -19,7 +19,6 @@ use Rattle.fd_pages.specs.Bases.{base_events}
 use Rattle.fd_pages.specs.Hours.{IsPrintable, IsTriedOf, Kept, settle_made}
 use Rattle.fd_solving.specs.Commands.{Applied, IsStepOf, bases_left, nothing_left, refused_at, solve_left}
 use Rattle.fd_solving.specs.Endings.{end_by}
-use Rattle.fd_solving.specs.Headline.{IsSolved}
 use Rattle.fd_solving.specs.Solving.{IsHour, IsSolutionStep}
 use Rattle.fd_solving.specs.Steps.{StandingView, changes, standing}
 use Rattle.fd_solving.specs.declared.answer.Answer.{Answer}
@@ -88,11 +87,10 @@ abbrev pub IsFailureOf : ℕ → Option Failure → Type 0
 IsFailureOf size None = Unit {0}
 IsFailureOf size (Some x) = IsTriedOf size x.tried
 
--- An hour was made: its settle is the hour's, it is solved, its rounds can be printed, and a failure is one of a command.
+-- An hour was made: its settle is the hour's, its rounds can be printed, and a failure is one of a command.
 pub record IsMadeHour (c : CircuitView) (hour : ℕ) (l : Kept) (rounds : List Made) (x : Option Failure)
     (k : Kept) : Type 0 where
   pub is : IsHour c hour l (settle_made c hour l rounds (end_by x) k.at) k
-  pub solved : IsSolved (settle_made c hour l rounds (end_by x) k.at)
   pub printable : IsPrintable c hour rounds k.at
   pub tried : IsFailureOf (size_of (layout_of c.elements)) x
   pub command : IsFailureOfCommand x

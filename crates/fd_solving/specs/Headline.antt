@@ -1,5 +1,5 @@
 -- What a printed settle is.
-use Rattle.std.specs.Prelude.{◌≡◌, ◌+◌, ◌*◌, ◌<◌, ◌^◌, ℕ, List, length, map, take, Ok}
+use Rattle.std.specs.Prelude.{◌≡◌, ◌+◌, ◌*◌, ◌<◌, ◌^◌, ℕ, List, length, map, Ok}
 use Rattle.std.specs.List.{AllByRecursion}
 use Rattle.fd_exact.specs.Fractions.{Fraction}
 use Rattle.fd_exact.specs.States.{State}
@@ -22,13 +22,11 @@ use Rattle.fd_queue.specs.Machine.{Act, Machine}
 use Rattle.fd_report.specs.Enclosed.{IsSizeBetween}
 use Rattle.fd_sample.specs.Balls.{IsInBall}
 use Rattle.fd_report.specs.Solutions as printed
-use Rattle.fd_settle.specs.Chosen.{AreChosen}
 use Rattle.fd_settle.specs.Contract.{limits_of}
 use Rattle.fd_settle.specs.Numbers.{AreActNumbers}
-use Rattle.fd_settle.specs.Plant.{controls_in, network_at, settings_at, setup_of, started}
+use Rattle.fd_settle.specs.Plant.{controls_in, network_at, settings_at, started}
 use Rattle.fd_settle.specs.Rounds.{AtEach}
 use Rattle.fd_settle.specs.Sampling.{Decided, look_at, look_over}
-use Rattle.fd_settle.specs.Settle.{settle_of}
 use Rattle.fd_outcome.specs.Settles.{Round, Settle, claim_in}
 use Rattle.fd_solving.specs.Boxes.{IsInBox, box_at}
 use Rattle.fd_daily.specs.Underway.{plant_at}
@@ -127,16 +125,6 @@ AreSolutions s = AtEach (IsSolution s.circuit s.hour) (plant_at s.circuit s.hour
 abbrev pub AreAlike : Settle → Type 0
 AreAlike s = AtEach (DecidesAlike s.circuit s.hour) (plant_at s.circuit s.hour) (machine_of s) (claims_of s)
 
--- Whatever states are chosen for its first rounds, each in the trust box of its round and meeting the round's
--- mismatches: the acts of these rounds are those of the queue machine over these states.
-abbrev pub IsSteady : Settle → Type 0
-IsSteady s =
-    (xs : List State)
-    → AreChosen (setup_of s.circuit) (IsOtherState s.circuit s.hour) (look_over (controls_in s.circuit))
-    (machine_of s) (claims_of s) xs
-    → (settle_of (setup_of s.circuit) (look_at (controls_in s.circuit)) (machine_of s) xs).rounds
-    ≡ take (length xs) (map (λ r. r.acts) s.rounds)
-
 -- its number in the run, its hour, how many rounds it has, and the numbers of its acts
 pub record HasModestNumbers (s : Settle) : Type 0 where
   pub number : s.number < 2 ^ 32
@@ -147,5 +135,4 @@ pub record HasModestNumbers (s : Settle) : Type 0 where
 pub record IsSolved (s : Settle) : Type 0 where
   pub solutions : AreSolutions s
   pub alike : AreAlike s
-  pub steady : IsSteady s
   pub numbers : HasModestNumbers s

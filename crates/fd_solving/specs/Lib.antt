@@ -9,5 +9,4 @@ pub mod Endings
 pub mod Printing
 pub mod Tallies
 pub mod Scripts
-pub mod Days
 pub mod SolvedLaw

@@ -1,5 +1,5 @@
 -- What an hour of a Solve comes to for the loop over its hours: its settle, and what of it was printed.
-use Rattle.std.specs.Prelude.{◌≡◌, ◌⊎◌, ◌||◌, ℕ, Bool, List, [], ◌∷◌, ◌++◌, Option, Some, None}
+use Rattle.std.specs.Prelude.{◌≡◌, ◌⊎◌, ◌||◌, ℕ, Bool, true, List, [], ◌∷◌, ◌++◌, Option, Some, None}
 use Rattle.dss_circuit.specs.Circuit.{CircuitView}
 use Rattle.fd_report.specs.declared.faults.Fault.{Fault}
 use Rattle.fd_outcome.specs.Behind.{behind, has_text}
@@ -10,7 +10,6 @@ use Rattle.fd_outcome.specs.Settles.{Settle, SettleEnd, settled, failed, without
 use Rattle.fd_outcome.specs.Way.{whole}
 use Rattle.fd_pages.specs.Hours.{Kept}
 use Rattle.fd_solving.specs.Tallies.{tallied}
-use Rattle.fd_solving.specs.Headline.{IsSolved}
 use Rattle.fd_solving.specs.Solving.{IsHour}
 use Rattle.fd_solving.specs.declared.tally.Tally.{Tally}
 
@@ -30,22 +29,20 @@ fault_of (without_certificate r f) = Some f
 
 module _ {S : Type 0} (style : Style) (taken : S → List ℕ) (calls : S → ℕ) (old new : S) (begun : Bool)
     (c : CircuitView) (hour : ℕ) (l : Kept) where
-  -- the hour was solved and ended well, all of it is printed, and its rounds are added to those before
+  -- the hour ended well, all of it is printed, and its rounds are added to those before
   pub record IsPrintedHour (k : Kept) (now : Bool) (before after : Tally) : Type 0 where
     pub made : Settle
     pub is : IsHour c hour l made k
-    pub good : IsSolved made
     pub well : made.end ≡ settled
     pub wrote : Wrote taken calls old new (whole (settle_calls style begun made))
     pub begun_is : now ≡ begun_behind style begun made
     pub added : after ≡ tallied before (settle made)
 
-  -- the hour was solved and ended well, and a front of it is printed
+  -- the hour ended well, and a front of it is printed
   pub record IsCutHour (code : ℕ) : Type 0 where
     pub made : Settle
     pub kept : Kept
     pub is : IsHour c hour l made kept
-    pub good : IsSolved made
     pub well : made.end ≡ settled
     pub cut : IsCutIn taken calls old new (settle_calls style begun made) code
 
@@ -54,10 +51,9 @@ module _ {S : Type 0} (style : Style) (taken : S → List ℕ) (calls : S → �
     pub made : Settle
     pub kept : Kept
     pub is : IsHour c hour l made kept
-    pub good : IsSolved made
     pub fault : Fault
     pub ill : fault_of made.end ≡ Some fault
-    pub printed : Printed taken calls old new (record { calls = settle_calls style begun made ++ writes (fault_text fault) ∷ []; end = Some fault }) code
+    pub printed : Printed taken calls old new true (record { calls = settle_calls style begun made ++ writes (fault_text fault) ∷ []; end = Some fault }) code
 
   -- memory ran out before it was solved, and nothing is printed
   pub record IsShortHour (code : ℕ) : Type 0 where

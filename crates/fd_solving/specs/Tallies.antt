@@ -7,7 +7,6 @@ use Rattle.fd_outcome.specs.Events.{Event, settle}
 use Rattle.fd_outcome.specs.Parts.{GoesOn}
 use Rattle.fd_outcome.specs.Settles.{Round}
 use Rattle.fd_outcome.specs.Work.{Step}
-use Rattle.fd_solving.specs.Headline.{IsSolved}
 use Rattle.fd_solving.specs.declared.tally.Tally.{Tally}
 
 abbrev pub no_rounds : Tally
@@ -37,5 +36,5 @@ HasRoom t settled = t.solutions ≤ 2 ^ 32 * settled
 -- the step goes on, and its rounds are added to those before
 pub record GoesOnTallied {T S : Type 0} (style : Style) (is_step : Step T → Type 0) (state : T)
     (taken : S → List ℕ) (calls : S → ℕ) (old new : S) (begun now : Bool) (before after : Tally) : Type 0 where
-  pub on : GoesOn style IsSolved is_step state taken calls old new begun now
+  pub on : GoesOn style is_step state taken calls old new begun now
   pub added : after ≡ tally_of before on.events

@@ -12,7 +12,6 @@ use crate::faults::{Failure, failure_of};
 use dss_circuit::Circuit;
 use fd_daily::{Underway, daily_run};
 use fd_devices::Positions;
-use fd_enclosure::{ball_law, enclosure_law, tie_law};
 use fd_settle::Compute;
 use std::alloc::{AllocError, Global};
 
@@ -36,9 +35,6 @@ pub(crate) fn solve_hour(
     // read for what the elements are, and how many acts are allowed
     let _elements = circuit.elements();
     let _options = circuit.options();
-    enclosure_law();
-    tie_law();
-    ball_law();
     let mut solver = Compute::new();
     let ended = daily_run(alloc, circuit, underway, at, &mut solver);
     match ended {

@@ -1,5 +1,5 @@
 // The hours of a Solve, each printed before the next is solved.
-ghost use Rattle.std.specs.Prelude.{◌≡◌, ◌+◌, ◌^◌, ◌<◌, ◌≤◌, All, IfSome, None};
+ghost use Rattle.std.specs.Prelude.{◌≡◌, ◌+◌, ◌^◌, ◌<◌, ◌≤◌, All, IfSome, None, true};
 ghost use Rattle.fd_outside.specs.Causes.{Rose};
 ghost use Rattle.dss_ready.specs.Ready.{HasPassed};
 ghost use Rattle.fd_daily.specs.Day.{hour_in, hours_left};
@@ -12,7 +12,6 @@ ghost use Rattle.fd_report.specs.declared.faults.Fault.TheVariants.{Script};
 ghost use Rattle.fd_outcome.specs.Parts.{EndsAt, Printed, fault_doing};
 ghost use Rattle.fd_solving.specs.Answered.{kept_in};
 ghost use Rattle.fd_solving.specs.Tallies.{GoesOnTallied, HasRoom};
-ghost use Rattle.fd_solving.specs.Headline.{IsSolved};
 ghost use Rattle.fd_solving.specs.Printing.{EndsInHour, IsPrintedHour};
 ghost use Rattle.fd_solving.specs.Solving.{IsHoursStep, IsSolutionStep};
 ghost use Rattle.fd_solving.specs.Steps.{standing};
@@ -50,7 +49,7 @@ pub(crate) fn solve_hours<P: Page, S: Sink>(
         (standing circuit.now (positions_in at.new) settled.new) S.taken S.calls out.old out.new begun.old begun.new
         tally.old tally.new }
     ensures ends { IfSome result
-        (EndsAt P.style IsSolved (IsSolutionStep (standing circuit.now (positions_in at.old) settled.old)) S.taken
+        (EndsAt P.style (IsSolutionStep (standing circuit.now (positions_in at.old) settled.old)) S.taken
         S.calls out.old out.new begun.old) }
     ensures taps { All AreTaps at.new.taps }
     ensures settles { settled.new ≤ settled.old + 8761 }
@@ -84,7 +83,7 @@ pub(crate) fn solve_hours<P: Page, S: Sink>(
 
 // Prints the fault of a network that is out of range.
 fn print_range<S: Sink>(alloc: Global, blame: &Blame, out: &mut S) -> u8
-    ensures prints { Printed S.taken S.calls out.old out.new (fault_doing (Script blame.now.place (Model blame.now.cause))) result }
+    ensures prints { Printed S.taken S.calls out.old out.new true (fault_doing (Script blame.now.place (Model blame.now.cause))) result }
     ensures later { S.faults out.old ≤ S.faults out.new }
     ensures write { result ≡ 5 → Rose (S.faults out.old) (S.faults out.new) }
 {
@@ -169,7 +168,7 @@ fn run_hours<P: Page, S: Sink>(
         (IsHoursStep circuit.now (hours_left underway.old.day) (kept_in at.old underway.old.day settled.old))
         (standing circuit.now (positions_in at.new) settled.new) S.taken S.calls out.old out.new begun.old begun.new
         tally.old tally.new }
-    ensures ends { IfSome result (EndsAt P.style IsSolved
+    ensures ends { IfSome result (EndsAt P.style
         (IsHoursStep circuit.now (hours_left underway.old.day) (kept_in at.old underway.old.day settled.old)) S.taken
         S.calls out.old out.new begun.old) }
     ensures taps { All AreTaps at.new.taps }

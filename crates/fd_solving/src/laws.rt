@@ -1,5 +1,4 @@
 // Laws of the settles of a script.
-ghost use Rattle.fd_solving.specs.Days.{DaysLaw};
 ghost use Rattle.fd_solving.specs.SolvedLaw.{SolvedLaw};
 
 use dss_commands::limits_law;
@@ -8,13 +7,6 @@ use fd_enclosure::{ball_law, certificate_law, enclosure_law, tie_law};
 use fd_network::network_law;
 use fd_settings::{hours_law, modest_law, next_law};
 use fd_settle::kept_rounds_law;
-
-/// A law: whatever states are chosen for the rounds of a Solve, each in its trust box and meeting its mismatches, its
-/// acts are those of the queue machine over them, through all its hours. Does nothing.
-#[tactic(auto, using(crate::proofs::Days::days_alike))]
-pub fn days_law()
-    ensures { DaysLaw }
-{}
 
 /// A law: every settle of a history of `solve` or `cert` is solved. Does nothing.
 pub fn solved_law()

@@ -4,8 +4,7 @@
 //! A Solve is done hour by hour. Each settle that a run came to is solved (`Headline`): each of its states is the one
 //! that the procedure reaches, and meets the equations of the scripted circuit within the printed mismatches; every
 //! state in its box that does so is within the radii; and its acts are those of the queue machine over any such
-//! states, through all hours of a Solve (`days_law`). `solve` does the one history of a script, in the style of a
-//! page.
+//! states. `solve` does the one history of a script, in the style of a page.
 //!
 //! The loop (`run_script`) asks a `Line` what it does with a command, and what behind the last one. Another command
 //! line is another `Line`, over the parts here: `answer_to`, `take_command`, and the functions that hand records to
@@ -40,7 +39,7 @@ mod step;
 mod tally;
 
 pub use answer::Answer;
-pub use laws::{days_law, solved_law};
+pub use laws::solved_law;
 pub use line::Line;
 pub use print::{WANT_OF_MEMORY, print_end, print_fault};
 pub use script::run_script;

@@ -1,17 +1,16 @@
 // A command line at work: what the loop over a script's commands asks of it.
-ghost use Rattle.std.specs.Prelude.{◌≡◌, ◌+◌, ◌≤◌, List, ℕ, Option, IfSome, None};
+ghost use Rattle.std.specs.Prelude.{◌≡◌, ◌+◌, ◌≤◌, Bool, List, ℕ, Option, IfSome, None};
 ghost use Rattle.fd_outside.specs.Answers.{AgreesSince};
 ghost use Rattle.fd_outside.specs.Causes.{Rose};
 ghost use Rattle.fd_outside.specs.Files.{Files, held};
 ghost use Rattle.dss_model.specs.Names.{bytes};
 ghost use Rattle.dss_model.specs.declared.command.Command.{Command};
 ghost use Rattle.dss_script.specs.Sessions.{cost};
-ghost use Rattle.fd_outcome.specs.Behind.{AsksNames};
+ghost use Rattle.fd_outcome.specs.Behind.{AsksNames, TellsEnd};
 ghost use Rattle.fd_outcome.specs.Calls.{Style};
 ghost use Rattle.fd_outcome.specs.Events.{History};
 ghost use Rattle.fd_outcome.specs.History.{IsLast};
 ghost use Rattle.fd_outcome.specs.Parts.{EndsAt, Finishes, GoesOn};
-ghost use Rattle.fd_outcome.specs.Settles.{Settle};
 ghost use Rattle.fd_outcome.specs.Untold.{IsUntold};
 ghost use Rattle.fd_outcome.specs.Work.{ExactlyOne, Step};
 
@@ -30,8 +29,8 @@ pub trait Line {
     /// What is done then, by what is held under that name.
     ghost is_last: { Self → Option (List ℕ) → History → Type 0 };
 
-    /// What each of its settles is.
-    ghost good: { Settle → Type 0 };
+    /// Whether a text tells an end without a fault.
+    ghost tells: { Bool };
 
     /// How it prints.
     ghost style: { Style };
@@ -40,11 +39,12 @@ pub trait Line {
     ghost weight: { Self → ℕ };
 
     /// A law: a command comes to exactly one thing, and so does the end; the names of its events are asked of the
-    /// library. Does nothing.
+    /// library; and where a text is to tell an end without a fault, one does. Does nothing.
     fn law()
         ensures one_step { (command : Command) (state : Self) → ExactlyOne (is_step command state) }
         ensures one_last { (state : Self) (found : Option (List ℕ)) → ExactlyOne (is_last state found) }
-        ensures fits { AsksNames style };
+        ensures fits { AsksNames style }
+        ensures told { TellsEnd tells style is_last };
 
     /// Does a command, and hands over what it gives. An answer ends the run. `begun` tells whether a text was written
     /// before.
@@ -57,8 +57,8 @@ pub trait Line {
     ) -> Option<u8>
         requires { weight self.old + cost command.verb ≤ 1_048_578 }
         ensures goes { result ≡ None →
-            GoesOn style good (is_step command self.old) self.new S.taken S.calls out.old out.new begun.old begun.new }
-        ensures ends { IfSome result (λ code. EndsAt style good (is_step command self.old) S.taken S.calls out.old out.new begun.old code) }
+            GoesOn style (is_step command self.old) self.new S.taken S.calls out.old out.new begun.old begun.new }
+        ensures ends { IfSome result (λ code. EndsAt style (is_step command self.old) S.taken S.calls out.old out.new begun.old code) }
         ensures room { result ≡ None → weight self.new ≤ weight self.old + cost command.verb }
         ensures later { S.faults out.old ≤ S.faults out.new }
         ensures write { IfSome result (λ code. code ≡ 5 → Rose (S.faults out.old) (S.faults out.new)) }
@@ -74,7 +74,7 @@ pub trait Line {
         out: &mut S,
     ) -> u8
         ensures told { (files : Files) → AgreesSince files (L.answers lib.old) (L.answers lib.new)
-            → Finishes style good
+            → Finishes style tells
             (λ h. IsLast is_step last_name is_last (λ name. held files (bytes name)) (last_name self.old) self.old h)
             L.answers S.taken S.calls lib.old lib.new out.old out.new begun result }
         ensures untold { IsUntold L.answers L.holds S.faults S.taken S.calls lib.old lib.new out.old out.new result };

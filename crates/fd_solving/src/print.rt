@@ -1,11 +1,11 @@
 // Records handed to the sink.
-ghost use Rattle.std.specs.Prelude.{◌≡◌, ◌++◌, ◌∷◌, [], ◌||◌, ◌+◌, ◌≤◌, IfNone, IfOk, IfSome, None, Some, map};
+ghost use Rattle.std.specs.Prelude.{◌≡◌, ◌++◌, ◌∷◌, [], ◌||◌, ◌+◌, ◌≤◌, Bool, IfNone, IfOk, IfSome, None, Some, map, true};
 ghost use Rattle.fd_outside.specs.Causes.{Rose};
 ghost use Rattle.fd_outside.specs.Emitted.{pieces_of};
 ghost use Rattle.dss_layout.specs.Layout.{layout_of, size_of};
 ghost use Rattle.fd_network.specs.Built.{IsBuiltOf};
 ghost use Rattle.fd_sample.specs.Probes.{positions_in};
-ghost use Rattle.fd_outcome.specs.Behind.{behind, has_text, last_calls, opened_unless};
+ghost use Rattle.fd_outcome.specs.Behind.{behind, closes, has_text, last_calls, opened_unless};
 ghost use Rattle.fd_outcome.specs.Calls.{body, fault_text, opened, writes};
 ghost use Rattle.fd_outcome.specs.Parts.{IsCutIn, Printed, Wrote, fault_doing};
 ghost use Rattle.fd_outcome.specs.Way.{whole};
@@ -32,7 +32,7 @@ const WRITE_FAULT: u8 = 5;
 
 /// Prints the record of a fault that ends the run, and answers the exit status.
 pub fn print_fault<S: Sink>(alloc: Global, fault: &Fault, out: &mut S) -> u8
-    ensures prints { Printed S.taken S.calls out.old out.new (fault_doing fault.now) result }
+    ensures prints { Printed S.taken S.calls out.old out.new true (fault_doing fault.now) result }
     ensures later { S.faults out.old ≤ S.faults out.new }
     ensures write { result ≡ 5 → Rose (S.faults out.old) (S.faults out.new) }
 {
@@ -202,7 +202,7 @@ pub(crate) fn print_failed<P: Page, S: Sink>(
     requires network { IsBuiltOf made.now.net.now made.now.circuit.now }
     requires printable { IsPrintable made.now.circuit.now made.now.hour made.now.rounds.now (positions_in at.now) }
     requires tried { IsTriedOf (size_of (layout_of made.now.circuit.now.elements)) failure.tried }
-    ensures prints { (l : Kept) → made.now.number ≡ l.settled + 1 → Printed S.taken S.calls out.old out.new (record {
+    ensures prints { (l : Kept) → made.now.number ≡ l.settled + 1 → Printed S.taken S.calls out.old out.new true (record {
       calls = settle_calls P.style begun (settle_made made.now.circuit.now made.now.hour l made.now.rounds.now
           (end_by (Some failure)) (positions_in at.now))
           ++ writes (fault_text failure.fault) ∷ [];
@@ -230,9 +230,11 @@ fn last_texts<P: Page>(alloc: Global, begun: bool) -> Result<Vec<Record>, AllocE
     with_opening::<P>(alloc, begun, texts)
 }
 
-/// Prints the last texts where there is no fault, and answers the exit status.
+/// Prints the last texts where there is no fault, and answers the exit status. Where there is one, it tells the end: only
+/// then is 1 answered where not all is printed.
 pub fn print_end<S: Sink>(alloc: Global, texts: &[Record], out: &mut S) -> u8
-    ensures prints { Printed S.taken S.calls out.old out.new (record { calls = map writes (pieces_of texts.now); end = None }) result }
+    ensures prints { (tells : Bool) → (tells ≡ true → pieces_of texts.now ≡ [] → ⊥)
+        → Printed S.taken S.calls out.old out.new tells (record { calls = map writes (pieces_of texts.now); end = None }) result }
     ensures later { S.faults out.old ≤ S.faults out.new }
     ensures write { result ≡ 5 → Rose (S.faults out.old) (S.faults out.new) }
 {
@@ -246,7 +248,8 @@ pub fn print_end<S: Sink>(alloc: Global, texts: &[Record], out: &mut S) -> u8
 /// Prints what stands last where there is no fault, and answers the exit status. `begun` tells whether a text was
 /// written before.
 pub(crate) fn print_last<P: Page, S: Sink>(alloc: Global, begun: bool, out: &mut S) -> u8
-    ensures prints { Printed S.taken S.calls out.old out.new (record { calls = last_calls P.style begun [] None; end = None }) result }
+    ensures prints { Printed S.taken S.calls out.old out.new (closes P.style.closing)
+        (record { calls = last_calls P.style begun [] None; end = None }) result }
     ensures later { S.faults out.old ≤ S.faults out.new }
     ensures write { result ≡ 5 → Rose (S.faults out.old) (S.faults out.new) }
 {

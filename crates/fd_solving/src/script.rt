@@ -32,7 +32,7 @@ pub fn run_script<T: Line, L: Library, S: Sink>(
           left = said_in (remaining files session.old);
           end = end_in (remaining files session.old);
           state = line.old;
-        }) h) T.style T.good result }
+        }) h) T.style T.tells result }
     ensures untold { IsUntold L.answers L.holds S.faults S.taken S.calls lib.old lib.new out.old out.new result }
 {
     T::law();

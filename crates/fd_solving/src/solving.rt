@@ -6,13 +6,13 @@ ghost use Rattle.fd_outside.specs.Causes.{Rose};
 ghost use Rattle.fd_outside.specs.Files.{Files};
 ghost use Rattle.dss_script.specs.Said.{said_of};
 ghost use Rattle.dss_script.specs.Sessions.{cost};
+ghost use Rattle.fd_outcome.specs.Behind.{closes};
 ghost use Rattle.fd_outcome.specs.Events.{finishes};
 ghost use Rattle.fd_outcome.specs.Parts.{EndsAt};
 ghost use Rattle.fd_outcome.specs.Runs.{Runs};
 ghost use Rattle.fd_outcome.specs.Untold.{IsUntold};
 ghost use Rattle.fd_solving.specs.Tallies.{GoesOnTallied, HasRoom};
 ghost use Rattle.fd_solving.specs.Commands.{IsStep};
-ghost use Rattle.fd_solving.specs.Headline.{IsSolved};
 ghost use Rattle.fd_solving.specs.Scripts.{IsScriptHistory};
 ghost use Rattle.fd_solving.specs.Weights.{weight};
 
@@ -44,7 +44,7 @@ pub fn take_command<P: Page, S: Sink>(
     requires room { HasRoom tally.old standing.old.settled }
     ensures goes { result ≡ None →
         GoesOnTallied P.style (IsStep command.now standing.old) standing.new S.taken S.calls out.old out.new begun.old begun.new tally.old tally.new }
-    ensures ends { IfSome result (λ code. EndsAt P.style IsSolved (IsStep command.now standing.old) S.taken S.calls out.old out.new begun.old code) }
+    ensures ends { IfSome result (λ code. EndsAt P.style (IsStep command.now standing.old) S.taken S.calls out.old out.new begun.old code) }
     ensures weight { result ≡ None → weight standing.new.circuit ≤ weight standing.old.circuit + cost command.now.verb }
     ensures room { HasRoom tally.new standing.new.settled }
     ensures later { S.faults out.old ≤ S.faults out.new }
@@ -78,7 +78,7 @@ impl<P: Page> Line for Standing<P> {
 
     ghost is_last = { λ s found h. h ≡ finishes [] };
 
-    ghost good = { λ s. IsSolved s };
+    ghost tells = { closes P.style.closing };
 
     ghost style = { P.style };
 
@@ -119,7 +119,7 @@ pub fn solve<P: Page, L: Library, S: Sink>(
 ) -> u8
     ensures run { (files : Files) → AgreesSince files (L.answers lib.old) (L.answers lib.new) →
         Runs L.answers S.taken S.calls lib.old lib.new out.old out.new
-        (λ h. IsScriptHistory files (said_of files (chars file.now)) h) P.style IsSolved result }
+        (λ h. IsScriptHistory files (said_of files (chars file.now)) h) P.style (closes P.style.closing) result }
     ensures untold { IsUntold L.answers L.holds S.faults S.taken S.calls lib.old lib.new out.old out.new result }
 {
     said_law();

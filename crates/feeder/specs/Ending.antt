@@ -5,7 +5,7 @@ use Rattle.fd_outside.specs.Causes.{Rose}
 use Rattle.fd_outside.specs.Files.{Files}
 use Rattle.fd_outcome.specs.Untold.{Answers, EndsAtRead}
 use Rattle.fd_words.specs.Words.{Form, form_of}
-use Rattle.fd_app.specs.Run.{RunsForm}
+use Rattle.fd_app.specs.Promise.{Promised}
 use Rattle.feeder.specs.Given.{Given, no_memory, words}
 
 -- nothing was read or written
@@ -18,7 +18,7 @@ module _ {L S : Type 0} (answers : L → List Answer) (holds : L → Option File
     (calls : S → ℕ) where
   -- what the top call promises of words of this form
   pub record IsRun (lib_old lib_new : L) (old new : S) (form : Option Form) (code : ℕ) : Type 0 where
-    pub run : RunsForm answers taken calls form lib_old lib_new old new code
+    pub promise : Promised answers taken calls form lib_old lib_new old new code
     pub later : IsLater answers holds lib_old lib_new
     pub statuses : Answers taken calls old new code
     pub usage : code ≡ 2 → form ≡ None

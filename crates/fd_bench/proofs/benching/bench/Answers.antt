@@ -5,21 +5,19 @@ use Rattle.dss_model.specs.Names.{bytes}
 use Rattle.dss_script.specs.Said.{end_in, said_in}
 use Rattle.dss_script.specs.Sessions.{remaining}
 use Rattle.fd_outcome.specs.History.{IsFrom}
-use Rattle.fd_bench.specs.Bench.{feeder_files, lines_alone, IsBenchHistory}
+use Rattle.fd_bench.specs.Bench.{feeder_files}
 use Rattle.fd_bench.specs.Benching.{IsBenchLast, IsBenchStep, no_bench_name}
 use Rattle.fd_bench.proofs.Alone.{agrees_held}
-use Rattle.fd_bench.proofs.Benched.{bench_history, none_failed, short_alone, without_library, one_bench}
+use Rattle.fd_bench.proofs.Benched.{bench_history, none_failed, short_alone, without_library}
 use Rattle.fd_bench.proofs.benching.bench.Goals as goal
 
 pub returns-in_default-clause-run : goal.returns-in_default-clause-run
 returns-in_default-clause-run g c =
-    short_alone g.S.Sink.taken g.S.Sink.calls c.args.out.now (λ h. IsBenchHistory c.args.number c.args.sections h)
-    lines_alone (one_bench c.args.number c.args.sections)
+    short_alone g.S.Sink.taken g.S.Sink.calls c.args.out.now c.args.number c.args.sections
 
 pub returns-in_default-open-clause-run : goal.returns-in_default-open-clause-run
 returns-in_default-open-clause-run g c =
-    short_alone g.S.Sink.taken g.S.Sink.calls c.args.out.now (λ h. IsBenchHistory c.args.number c.args.sections h)
-    lines_alone (one_bench c.args.number c.args.sections)
+    short_alone g.S.Sink.taken g.S.Sink.calls c.args.out.now c.args.number c.args.sections
 
 pub returns-clause-run : goal.returns-clause-run
 returns-clause-run g c =
@@ -28,11 +26,11 @@ returns-clause-run g c =
     let told = c.new-lib.ensures.holds ∙ ap (λ entries. Some (from_entries entries)) c.in-Ok.ensures in
     let agrees = agrees_held _ _ files c.new-lib.result c.run_script.new.lib told c.run_script.ensures.untold.later in
     without_library _ g.S.Sink.taken g.S.Sink.calls c.new-lib.result c.run_script.new.lib c.args.out.now
-    c.run_script.new.out (λ h. IsFrom IsBenchStep no_bench_name IsBenchLast (λ n. held files (bytes n)) (record {
+    c.run_script.new.out c.args.number c.args.sections (λ h. IsFrom IsBenchStep no_bench_name IsBenchLast (λ n. held files (bytes n)) (record {
       left = said_in script;
       end = end_in script;
       state = c.new-line.result;
-    }) h) (λ h. IsBenchHistory c.args.number c.args.sections h) (bench_history c.said_law.ensures c.args.number
+    }) h) (bench_history c.said_law.ensures c.args.number
     c.args.sections script c.new-line.result (c.in-Ok-open.ensures.script files) c.new-line.ensures)
     c.run_script.result (none_failed _ _ c.run_script.new.lib.unfailing) (c.run_script.ensures.run files agrees)
 

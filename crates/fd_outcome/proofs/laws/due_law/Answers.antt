@@ -3,7 +3,7 @@ use Rattle.fd_outcome.proofs.Printing.{due_of}
 use Rattle.fd_outcome.proofs.laws.due_law.Goals as goal
 
 pub returns : goal.returns
-returns g c = λ held style p lib_old lib_new old new code one runs.
+returns g c = λ held style tells p lib_old lib_new old new code one runs.
     due_of g.L.Library.answers g.S.Sink.taken g.S.Sink.calls
-    (IsFrom g.W.Work.is_step g.W.Work.last_name g.W.Work.is_last held p) style g.W.Work.good lib_old lib_new old new
+    (IsFrom g.W.Work.is_step g.W.Work.last_name g.W.Work.is_last held p) style tells lib_old lib_new old new
     code one runs

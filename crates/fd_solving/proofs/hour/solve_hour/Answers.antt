@@ -2,7 +2,6 @@ use Rattle.std.proofs.Common.{◌≡◌, ◌∙◌, ◌+◌, List, Ok, Err, ap, 
 use Rattle.dss_circuit.specs.Circuit.{CircuitView}
 use Rattle.fd_daily.specs.Day.{begun_hour, hour_in}
 use Rattle.fd_daily.specs.Underway.{plant_at}
-use Rattle.fd_daily.proofs.CallerLemmas.{hour_within}
 use Rattle.fd_settings.specs.Hours.{hour_powers}
 use Rattle.fd_devices.specs.declared.settings.Powers.{Powers}
 use Rattle.fd_elements.specs.declared.powers.LoadPower.{LoadPower}
@@ -33,7 +32,6 @@ returns-in-Ok-clause-made c n number =
     let k = kept_in new.at new.underway.day (n + 1) in
     let e = c.in-Ok.ensures in
     let made : IsMade circuit (hour_powers circuit.elements hour) m rs (Ok tt) k = record {
-      acts = e.acts;
       at_is = e.at;
       opened_is = e.opened;
       ends = e.ends;
@@ -42,9 +40,8 @@ returns-in-Ok-clause-made c n number =
       positions = of_hour circuit hour (positions_in new.at) new.underway.powers u.powers e.powers c.requires.underway.powers e.positions;
       tried = tt;
     } in
-    ended_well circuit hour (kept_in c.args.at.now u.day n) rs k c.requires.ready c.elements-elements.ensures.in_range c.elements-elements.ensures.keys
-    c.enclosure_law.ensures c.tie_law.ensures c.ball_law.ensures c.options-options.ensures.in_range.maxcontroliter refl number
-    (hour_within circuit u.day c.requires.underway.day) tt made
+    ended_well circuit hour (kept_in c.args.at.now u.day n) rs k c.requires.ready
+    c.options-options.ensures.in_range.maxcontroliter refl tt made
 
 pub failure_of-requires-clause-within : goal.failure_of-requires-clause-within
 failure_of-requires-clause-within c =
@@ -66,7 +63,6 @@ returns-in_ok-failure-in-Err-clause-made c n number =
     let k = kept_in new.at new.underway.day (n + 1) in
     let e = c.in-Err.ensures in
     let made : IsMade circuit (hour_powers circuit.elements hour) m rs (Err c.in-Err.fault) k = record {
-      acts = e.acts;
       at_is = e.at;
       opened_is = e.opened;
       ends = e.ends;
@@ -76,7 +72,6 @@ returns-in_ok-failure-in-Err-clause-made c n number =
       positions = of_hour circuit hour (positions_in new.at) new.underway.powers u.powers e.powers c.requires.underway.powers e.positions;
       tried = tried_by_calls (limits_of circuit.options) (plant_at circuit hour) c.new-solver.result m rs (Err c.in-Err.fault) new.solver e.calls;
     } in
-    ended_by_fault circuit hour (kept_in c.args.at.now u.day n) rs k c.requires.ready c.elements-elements.ensures.in_range c.elements-elements.ensures.keys
-    c.enclosure_law.ensures c.tie_law.ensures c.ball_law.ensures c.options-options.ensures.in_range.maxcontroliter refl number
-    (hour_within circuit u.day c.requires.underway.day) c.in-Err.fault c.in_ok-failure-in-Err.failure
+    ended_by_fault circuit hour (kept_in c.args.at.now u.day n) rs k c.requires.ready
+    c.options-options.ensures.in_range.maxcontroliter refl c.in-Err.fault c.in_ok-failure-in-Err.failure
     made c.in_ok-failure-in-Err.ensures.of_command c.in_ok-failure-in-Err.ensures.tried (c.in_ok-failure-in-Err.ensures.tells hour)

@@ -84,7 +84,6 @@ returns-in-Some-clause-ends g c =
       made = x;
       kept = k;
       is = made.is;
-      good = made.solved;
       fault = c.in-Some.failure.fault;
       ill = fault_end c.in-Some.failure.fault c.in-Some.failure.tried;
       printed = c.print_failed.ensures.prints before refl;
@@ -143,7 +142,6 @@ returns-then-is_none-clause-goes g c none =
     (sym same) (record {
       made = x;
       is = made.is;
-      good = made.solved;
       well = refl;
       wrote = none_goes c.print_settled-printed.result _ none (c.print_settled-printed.ensures.goes before refl);
       begun_is = c.print_settled-printed.ensures.begun before refl none;
@@ -198,7 +196,7 @@ returns-else-is_none-clause-ends g c =
     if_some_weaker c.print_settled-printed.result _ _ (λ code cut.
     subst (λ (n : ℕ). EndsInHour g.P.Page.style g.S.Sink.taken g.S.Sink.calls c.args.out.now
     c.print_settled-printed.new.out c.args.begun.now circuit n before code)
-    (sym same) (inr (inl (record { made = x; kept = k; is = made.is; good = made.solved; well = refl; cut = cut }))))
+    (sym same) (inr (inl (record { made = x; kept = k; is = made.is; well = refl; cut = cut }))))
     (c.print_settled-printed.ensures.ends before refl)
 
 pub returns-else-is_none-clause-usage : goal.returns-else-is_none-clause-usage

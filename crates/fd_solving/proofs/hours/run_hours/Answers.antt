@@ -144,13 +144,7 @@ returns-in-Err-Range-clause-ends g c =
     let told = rw c.in-Err-Range.field-0-is at c.in-Err-Range.ensures.refused in
     way_range g.P.Page.style circuit first l g.S.Sink.taken g.S.Sink.calls c.args.out.now c.args.begun.now
     c.args.tally.now c.law.ensures.silent c.law.ensures.unshown (hours_left after) k c.do_hour-ended.new.out
-    c.do_hour-ended.new.begun c.do_hour-ended.new.tally next (left_hours circuit after behind.day) (omega (
-      arith,
-      ap length behind.left,
-      c.loop-alloc.invariant.settles,
-      c.do_hour-ended.ensures.settles,
-      c.requires.settles,
-    )) c.in-Err-Range.blame told c.print_range.new.out c.print_range.result c.print_range.ensures.prints
+    c.do_hour-ended.new.begun c.do_hour-ended.new.tally next c.in-Err-Range.blame told c.print_range.new.out c.print_range.result c.print_range.ensures.prints
 
 pub returns-in-Err-NoMemory-clause-ends : goal.returns-in-Err-NoMemory-clause-ends
 returns-in-Err-NoMemory-clause-ends g c =

@@ -1,7 +1,5 @@
-use Rattle.std.proofs.Common.{arith}
 use Rattle.fd_daily.specs.Day.{hours_left}
 use Rattle.fd_daily.specs.Hours.{hours_of}
-use Rattle.fd_daily.proofs.CallerLemmas.{all_hours}
 use Rattle.fd_sample.specs.Probes.{positions_in}
 use Rattle.fd_solving.specs.Answered.{kept_in}
 use Rattle.fd_solving.specs.Solving.{IsHoursStep, IsSolutionStep, kept_first}
@@ -47,13 +45,12 @@ returns-in-Err-Range-clause-ends g c =
     let s = standing c.args.circuit.now (positions_in c.args.at.now) c.args.settled.now in
     let hours = hours_of c.args.circuit.now.options in
     let told = rw c.in-Err-Range.field-0-is at c.in-Err-Range.ensures.refused in
-    let are = all_hours s.circuit.options c.options-options.ensures.in_range in
     let way = way_start g.P.Page.style s.circuit hours (kept_first s) g.S.Sink.taken g.S.Sink.calls c.args.out.now c.args.begun.now c.args.tally.now in
     ends_as g.P.Page.style g.S.Sink.taken g.S.Sink.calls (IsHoursStep s.circuit hours (kept_first s))
     (IsSolutionStep s) (first_step s) c.args.out.now c.print_range.new.out c.args.begun.now c.print_range.result
     (way_range g.P.Page.style s.circuit hours (kept_first s) g.S.Sink.taken g.S.Sink.calls c.args.out.now
     c.args.begun.now c.args.tally.now c.law.ensures.silent c.law.ensures.unshown hours (kept_first s) c.args.out.now
-    c.args.begun.now c.args.tally.now way are (omega (arith, c.requires.settles, are.few)) c.in-Err-Range.blame told
+    c.args.begun.now c.args.tally.now way c.in-Err-Range.blame told
     c.print_range.new.out c.print_range.result c.print_range.ensures.prints)
 
 pub returns-in-Err-NoMemory-clause-ends : goal.returns-in-Err-NoMemory-clause-ends

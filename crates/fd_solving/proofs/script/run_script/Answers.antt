@@ -15,7 +15,7 @@ loop-command-init g c = record {
   room = c.requires;
   shown = shown_nothing g.L.Library.answers g.L.Library.holds g.S.Sink.faults g.S.Sink.taken g.S.Sink.calls c.args.lib.now c.args.out.now;
   told = λ files told.
-      at_start g.T.Line.is_step g.T.Line.last_name g.T.Line.is_last g.T.Line.good g.T.Line.style
+      at_start g.T.Line.is_step g.T.Line.last_name g.T.Line.is_last g.T.Line.style g.T.Line.tells
       (λ n. held files (bytes n)) g.L.Library.answers g.S.Sink.taken g.S.Sink.calls _ c.args.lib.now
       c.args.out.now (said_in (remaining files c.args.session.now)) (end_in (remaining files c.args.session.now))
       c.args.line.now refl;
@@ -36,13 +36,13 @@ returns-in-Some-clause-run g c files told =
     (names_asked (g.L.Library.answers c.next.new.lib)) (Ok (Some c.in-Ok-Some.command))
     (rw c.in-Ok-Some.field-0-is at (c.in-Ok-Some.ensures.told files told_now))
     (c.in-Ok-Some.ensures.asked files told_now) in
-    let at = at_asked g.T.Line.is_step g.T.Line.last_name g.T.Line.is_last g.T.Line.good g.T.Line.style
+    let at = at_asked g.T.Line.is_step g.T.Line.last_name g.T.Line.is_last g.T.Line.style g.T.Line.tells
     (λ n. held files (bytes n)) g.L.Library.answers g.S.Sink.taken g.S.Sink.calls _ c.args.lib.now
-    c.args.out.now c.law.ensures.one_step c.law.ensures.one_last c.law.ensures.fits _ _ _ _ _ _ _ _
+    c.args.out.now c.law.ensures.one_step c.law.ensures.one_last c.law.ensures.fits c.law.ensures.told _ _ _ _ _ _ _ _
     (kept.told files told_then) gives.0 in
-    ends_command g.T.Line.is_step g.T.Line.last_name g.T.Line.is_last g.T.Line.good g.T.Line.style
+    ends_command g.T.Line.is_step g.T.Line.last_name g.T.Line.is_last g.T.Line.style g.T.Line.tells
     (λ n. held files (bytes n)) g.L.Library.answers g.S.Sink.taken g.S.Sink.calls _ c.args.lib.now
-    c.args.out.now c.law.ensures.one_step c.law.ensures.one_last c.law.ensures.fits
+    c.args.out.now c.law.ensures.one_step c.law.ensures.one_last c.law.ensures.fits c.law.ensures.told
     _ _ _ _ _ _ _ _ _ at c.in-Some.ensures.ends
 
 pub returns-in-Some-clause-untold : goal.returns-in-Some-clause-untold
@@ -50,7 +50,7 @@ returns-in-Some-clause-untold g c =
     let kept = c.loop-command.invariant in
     untold_fault g.L.Library.answers g.L.Library.holds g.S.Sink.faults g.S.Sink.taken g.S.Sink.calls c.args.lib.now
     c.loop-command.lib c.next.new.lib c.args.out.now c.loop-command.out c.take.new.out c.in-Some.status kept.shown
-    c.next.ensures.later (command_answers g.S.Sink.taken g.S.Sink.calls g.T.Line.style g.T.Line.good _
+    c.next.ensures.later (command_answers g.S.Sink.taken g.S.Sink.calls g.T.Line.style _
     c.loop-command.out c.take.new.out _ c.in-Some.status c.in-Some.ensures.ends)
     c.in-Some.ensures.usage c.in-Some.ensures.read (λ five.
     let rose = c.in-Some.ensures.write five in omega (arith, rose, kept.sink))
@@ -76,16 +76,16 @@ loop-command-preserved g c =
           (names_asked (g.L.Library.answers c.next.new.lib)) (Ok (Some c.in-Ok-Some.command))
           (rw c.in-Ok-Some.field-0-is at (c.in-Ok-Some.ensures.told files told_now))
           (c.in-Ok-Some.ensures.asked files told_now) in
-          let at = at_asked g.T.Line.is_step g.T.Line.last_name g.T.Line.is_last g.T.Line.good g.T.Line.style
+          let at = at_asked g.T.Line.is_step g.T.Line.last_name g.T.Line.is_last g.T.Line.style g.T.Line.tells
           (λ n. held files (bytes n)) g.L.Library.answers g.S.Sink.taken g.S.Sink.calls _
-          c.args.lib.now c.args.out.now c.law.ensures.one_step c.law.ensures.one_last c.law.ensures.fits
+          c.args.lib.now c.args.out.now c.law.ensures.one_step c.law.ensures.one_last c.law.ensures.fits c.law.ensures.told
           _ _ _ _ _ _ _ _ (kept.told files told_then) gives.0 in
-          let then = at_command g.T.Line.is_step g.T.Line.last_name g.T.Line.is_last g.T.Line.good g.T.Line.style
+          let then = at_command g.T.Line.is_step g.T.Line.last_name g.T.Line.is_last g.T.Line.style g.T.Line.tells
           (λ n. held files (bytes n)) g.L.Library.answers g.S.Sink.taken g.S.Sink.calls _
-          c.args.lib.now c.args.out.now c.law.ensures.one_step c.law.ensures.one_last c.law.ensures.fits
+          c.args.lib.now c.args.out.now c.law.ensures.one_step c.law.ensures.one_last c.law.ensures.fits c.law.ensures.told
           _ _ _ _ _ _ _ _ _ _ at (c.in_default.ensures.goes refl) in
           let P : ScriptEnd → Type 0 = λ e.
-          At g.T.Line.is_step g.T.Line.last_name g.T.Line.is_last g.T.Line.good g.T.Line.style
+          At g.T.Line.is_step g.T.Line.last_name g.T.Line.is_last g.T.Line.style g.T.Line.tells
           (λ n. held files (bytes n)) g.L.Library.answers g.S.Sink.taken g.S.Sink.calls (record {
             left = said_in (remaining files c.args.session.now);
             end = end_in (remaining files c.args.session.now);
@@ -110,9 +110,9 @@ returns-in-Ok-None-clause-run g c files told =
     (names_asked (g.L.Library.answers c.loop-command.lib)) (names_asked (g.L.Library.answers c.next.new.lib)) (Ok None)
     (rw c.in-Ok-None.field-0-is at (c.in-Ok-None.ensures.told files told_now))
     (c.in-Ok-None.ensures.asked files told_now) in
-    ends_finished g.T.Line.is_step g.T.Line.last_name g.T.Line.is_last g.T.Line.good g.T.Line.style
+    ends_finished g.T.Line.is_step g.T.Line.last_name g.T.Line.is_last g.T.Line.style g.T.Line.tells
     (λ n. held files (bytes n)) g.L.Library.answers g.S.Sink.taken g.S.Sink.calls _ c.args.lib.now
-    c.args.out.now c.law.ensures.one_step c.law.ensures.one_last c.law.ensures.fits _ _ _ _ _ _ _ later.since _ _ _
+    c.args.out.now c.law.ensures.one_step c.law.ensures.one_last c.law.ensures.fits c.law.ensures.told _ _ _ _ _ _ _ later.since _ _ _
     (kept.told files told_then) gives later.told
     (c.finish.ensures.told files (agrees_behind g.L.Library.answers g.L.Library.holds files c.args.lib.now
     c.next.new.lib c.finish.new.lib later told))
@@ -138,9 +138,9 @@ returns-in-Err-Script-clause-run g c files told =
     (Err (session.Script c.in-Err-Script.place c.in-Err-Script.cause))
     (rw c.in-Err-Script.field-0-is at (c.in-Err-Script.ensures.told files told_now))
     (rw c.in-Err-Script.field-0-is at (c.in-Err-Script.ensures.asked files told_now)) in
-    ends_refused g.T.Line.is_step g.T.Line.last_name g.T.Line.is_last g.T.Line.good g.T.Line.style
+    ends_refused g.T.Line.is_step g.T.Line.last_name g.T.Line.is_last g.T.Line.style g.T.Line.tells
     (λ n. held files (bytes n)) g.L.Library.answers g.S.Sink.taken g.S.Sink.calls _ c.args.lib.now
-    c.args.out.now c.law.ensures.one_step c.law.ensures.one_last c.law.ensures.fits _ _ _ _ _ _ _ _ _ _ _
+    c.args.out.now c.law.ensures.one_step c.law.ensures.one_last c.law.ensures.fits c.law.ensures.told _ _ _ _ _ _ _ _ _ _ _
     (kept.told files told_then) gives c.print_fault.ensures.prints
 
 pub returns-in-Err-Script-clause-untold : goal.returns-in-Err-Script-clause-untold
@@ -163,9 +163,9 @@ returns-in-Err-Read-clause-run g c files told =
     (names_asked (g.L.Library.answers c.loop-command.lib))
     (names_asked (g.L.Library.answers c.next.new.lib)) (Err (session.Read c.in-Err-Read.name))
     tt (rw c.in-Err-Read.field-0-is at (c.in-Err-Read.ensures.asked files told_now)) in
-    ends_unread g.T.Line.is_step g.T.Line.last_name g.T.Line.is_last g.T.Line.good g.T.Line.style
+    ends_unread g.T.Line.is_step g.T.Line.last_name g.T.Line.is_last g.T.Line.style g.T.Line.tells
     (λ n. held files (bytes n)) g.L.Library.answers g.S.Sink.taken g.S.Sink.calls _ c.args.lib.now
-    c.args.out.now c.law.ensures.one_step c.law.ensures.one_last c.law.ensures.fits _ _ _ _ _ _ _ _ _ _
+    c.args.out.now c.law.ensures.one_step c.law.ensures.one_last c.law.ensures.fits c.law.ensures.told _ _ _ _ _ _ _ _ _ _
     (kept.told files told_then) gives c.print_fault-in-Err-Read.ensures.prints
     (failed_behind (g.L.Library.answers c.args.lib.now) (g.L.Library.answers c.loop-command.lib)
     (g.L.Library.answers c.next.new.lib) kept.shown.later.since kept.shown.later.told (bytes c.in-Err-Read.name, last))
@@ -191,9 +191,9 @@ returns-in-Err-Ended-clause-run g c files told =
     (names_asked (g.L.Library.answers c.loop-command.lib))
     (names_asked (g.L.Library.answers c.next.new.lib)) (Err session.Ended) tt
     (rw c.in-Err-Ended.field-0-is at (c.in-Err-Ended.ensures.asked files told_now)) in
-    ends_short g.T.Line.is_step g.T.Line.last_name g.T.Line.is_last g.T.Line.good g.T.Line.style
+    ends_short g.T.Line.is_step g.T.Line.last_name g.T.Line.is_last g.T.Line.style g.T.Line.tells
     (λ n. held files (bytes n)) g.L.Library.answers g.S.Sink.taken g.S.Sink.calls _ c.args.lib.now
-    c.args.out.now c.law.ensures.one_step c.law.ensures.one_last c.law.ensures.fits _ _ _ _ _ _ _
+    c.args.out.now c.law.ensures.one_step c.law.ensures.one_last c.law.ensures.fits c.law.ensures.told _ _ _ _ _ _ _
     (kept.told files told_then) gives
 
 pub returns-in-Err-Ended-clause-untold : goal.returns-in-Err-Ended-clause-untold
@@ -213,9 +213,9 @@ returns-in-Err-NoMemory-clause-run g c files told =
     (names_asked (g.L.Library.answers c.loop-command.lib))
     (names_asked (g.L.Library.answers c.next.new.lib)) (Err session.NoMemory) tt
     (rw c.in-Err-NoMemory.field-0-is at (c.in-Err-NoMemory.ensures.asked files told_now)) in
-    ends_short g.T.Line.is_step g.T.Line.last_name g.T.Line.is_last g.T.Line.good g.T.Line.style
+    ends_short g.T.Line.is_step g.T.Line.last_name g.T.Line.is_last g.T.Line.style g.T.Line.tells
     (λ n. held files (bytes n)) g.L.Library.answers g.S.Sink.taken g.S.Sink.calls _ c.args.lib.now
-    c.args.out.now c.law.ensures.one_step c.law.ensures.one_last c.law.ensures.fits _ _ _ _ _ _ _
+    c.args.out.now c.law.ensures.one_step c.law.ensures.one_last c.law.ensures.fits c.law.ensures.told _ _ _ _ _ _ _
     (kept.told files told_then) gives
 
 pub returns-in-Err-NoMemory-clause-untold : goal.returns-in-Err-NoMemory-clause-untold

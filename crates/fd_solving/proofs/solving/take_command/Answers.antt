@@ -7,7 +7,7 @@ use Rattle.fd_solving.specs.Commands.{IsStep, tried}
 use Rattle.fd_solving.specs.Solving.{IsSolutionStep}
 use Rattle.fd_solving.specs.Steps.{changes, standing}
 use Rattle.fd_solving.specs.declared.answer.Answer.TheVariants as answer
-use Rattle.fd_solving.proofs.Handed.{answer_of, bases_good, bases_tally, cut_never, ends_as, ends_cut, ends_refused, ends_without_memory, goes_changed, goes_printed, never_read, never_usage, tallied_as}
+use Rattle.fd_solving.proofs.Handed.{answer_of, bases_tally, cut_never, ends_as, ends_cut, ends_refused, ends_without_memory, goes_changed, goes_printed, never_read, never_usage, tallied_as}
 use Rattle.fd_solving.proofs.Tests.{one_step}
 use Rattle.fd_solving.proofs.Weaker.{if_some_weaker, none_goes}
 use Rattle.fd_solving.proofs.Weights.{command_takes}
@@ -67,7 +67,7 @@ returns-in-Ok-Bases-clause-goes g c none =
     (rw c.in-Ok-Bases.field-0-is at c.in-Ok-Bases.ensures.left) in
     let right = subst (λ s. IsStep c.args.command.now s (goes_step (base_events circuit) now)) c.standing.view_is (told at n) in
     goes_printed g.P.Page.style (IsStep c.args.command.now c.args.standing.now) g.S.Sink.taken g.S.Sink.calls now
-    (base_events circuit) (bases_good (bases_of circuit)) right c.args.out.now c.print_bases.new.out c.args.begun.now
+    (base_events circuit) right c.args.out.now c.print_bases.new.out c.args.begun.now
     c.print_bases.new.begun (none_goes c.print_bases.result _ none c.print_bases.ensures.goes)
     (c.print_bases.ensures.begun none) c.args.tally.now (bases_tally c.args.tally.now (bases_of circuit))
 
@@ -82,7 +82,7 @@ returns-in-Ok-Bases-clause-ends g c =
     let right = subst (λ s. IsStep c.args.command.now s (goes_step (base_events circuit) now)) c.standing.view_is (told at n) in
     if_some_weaker c.print_bases.result _ _ (λ code cut.
     ends_cut g.P.Page.style (IsStep c.args.command.now c.args.standing.now) g.S.Sink.taken g.S.Sink.calls now
-    (base_events circuit) (bases_good (bases_of circuit)) right c.args.out.now c.print_bases.new.out c.args.begun.now
+    (base_events circuit) right c.args.out.now c.print_bases.new.out c.args.begun.now
     code cut)
     c.print_bases.ensures.ends
 

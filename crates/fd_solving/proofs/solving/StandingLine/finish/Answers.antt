@@ -1,14 +1,14 @@
+use Rattle.fd_outcome.specs.Behind.{closes}
 use Rattle.fd_outcome.proofs.CallerLemmas.{finishes_last, untold_last}
-use Rattle.fd_solving.specs.Headline.{IsSolved}
 use Rattle.fd_solving.proofs.solving.StandingLine.finish.Goals as goal
 
 pub returns-clause-told : goal.returns-clause-told
 returns-clause-told g c files told =
     finishes_last g.L.Library.answers g.L.Library.holds g.S.Sink.faults g.S.Sink.taken g.S.Sink.calls g.P.Page.style
-    IsSolved c.args._lib.now c.args.out.now c.print_last.new.out c.args.begun c.print_last.result
+    (closes g.P.Page.style.closing) c.args._lib.now c.args.out.now c.print_last.new.out c.args.begun c.print_last.result
     c.print_last.ensures.prints
 
 pub returns-clause-untold : goal.returns-clause-untold
 returns-clause-untold g c =
-    untold_last g.L.Library.answers g.L.Library.holds g.S.Sink.faults g.S.Sink.taken g.S.Sink.calls c.args._lib.now
-    c.args.out.now c.print_last.new.out _ c.print_last.result c.print_last.ensures.prints c.print_last.ensures.write
+    untold_last g.L.Library.answers g.L.Library.holds g.S.Sink.faults g.S.Sink.taken g.S.Sink.calls
+    (closes g.P.Page.style.closing) c.args._lib.now c.args.out.now c.print_last.new.out _ c.print_last.result c.print_last.ensures.prints c.print_last.ensures.write

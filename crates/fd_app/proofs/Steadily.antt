@@ -1,0 +1,289 @@
+-- The acts of a history are those of any states that solve its rounds, through all hours of all Solves.
+use Rattle.std.proofs.Common.{◌≡◌, ◌∙◌, ◌⊎◌, ℕ, ◌+◌, List, [], ◌∷◌, ◌++◌, map, Result, Ok, Err, refl, sym, ap, subst, inl, inr}
+use Rattle.std.specs.List.{AllByRecursion}
+use Rattle.std.proofs.lemmas.List.{append-nil}
+use Rattle.dss_model.specs.Names.{bytes}
+use Rattle.dss_model.specs.declared.command.Blame.{Blame}
+use Rattle.dss_circuit.specs.Circuit.{CircuitView}
+use Rattle.dss_ready.specs.Passed.{PassedLaw}
+use Rattle.dss_script.specs.Said.{Said, name, command, ScriptEnd, at_its_end, refused_at}
+use Rattle.fd_exact.specs.States.{State}
+use Rattle.fd_outside.specs.Files.{Files, held}
+use Rattle.fd_bases.specs.declared.bus_base.BusBase.{BusBase}
+use Rattle.fd_bases.specs.Bases.{bases_of}
+use Rattle.fd_report.specs.Bases.{base_fields}
+use Rattle.fd_report.specs.declared.faults.Cause.TheVariants as cause
+use Rattle.fd_report.specs.declared.faults.Fault.{Fault}
+use Rattle.fd_report.specs.declared.faults.Fault.TheVariants as fault
+use Rattle.fd_daily.specs.Hours.{hours_of}
+use Rattle.fd_enclosure.specs.Sound.{Claim}
+use Rattle.fd_inject.specs.declared.limits.Limits.{Limits}
+use Rattle.fd_queue.specs.Controls.{Positions}
+use Rattle.fd_queue.specs.Machine.{Act, Machine}
+use Rattle.fd_settle.specs.Computed.{Ending, Follows, IsComputedFrom, ended}
+use Rattle.fd_settle.specs.Contract.{limits_of}
+use Rattle.fd_settle.specs.Plant.{controls_in, setup_of}
+use Rattle.fd_settle.specs.Rounds.{AtEach, left_by}
+use Rattle.fd_settle.specs.Sampling.{Decided, Sampling, Unclear, look_over}
+use Rattle.fd_settle.specs.Settle.{Open, Settled, Limited, Undecidable, Outcome, Ends, Moves, outcome_of}
+use Rattle.fd_certfile.specs.Rules.{moves}
+use Rattle.fd_checking.specs.Checking.{Checking, Settling, act_due, behind_round, open_hours, open_solves, sampled_by, under_way}
+use Rattle.fd_checking.specs.Underway.{plant_at}
+use Rattle.fd_outcome.specs.Events.{Event, History, IfSettle, settle, row}
+use Rattle.fd_outcome.specs.History.{IsHistory}
+use Rattle.fd_outcome.specs.Parts.{events_in}
+use Rattle.fd_outcome.specs.Settles.{Settle, SettleEnd, claim_in, failed, round_of, settled, without_certificate}
+use Rattle.fd_outcome.specs.Work as work
+use Rattle.fd_outcome.specs.Work.{AfterStep, Step, goes}
+use Rattle.fd_pages.specs.Bases.{base_events}
+use Rattle.fd_pages.specs.Hours.{Kept, hour_settle}
+use Rattle.fd_solving.specs.Commands.{Applied, nothing_left, solve_left, bases_left, IsByTests, IsStepOf, IsTested, tried}
+use Rattle.fd_solving.specs.Commands as commands
+use Rattle.fd_solving.specs.Headline.{AreAlike, DecidesAlike, IsSolved}
+use Rattle.fd_solving.specs.Scripts.{IsDoneThere, no_name}
+use Rattle.fd_solving.specs.Commands.{IsStep}
+use Rattle.fd_solving.specs.Solving.{IsBehind, IsEndBy, IsHour, IsHoursStep, IsSolutionStep, hour_begun, kept_by, kept_first, rounds_of}
+use Rattle.fd_solving.specs.Steps.{StandingView, behind_events, standing}
+use Rattle.fd_app.specs.Solves.{behind_command, solves_from}
+use Rattle.fd_app.specs.Steady.{AreSteady, AreSteadyFrom, IsLastOfFault, Solves, outcome_at}
+use Rattle.fd_app.proofs.Settles.{at_round, behind_it}
+use Rattle.fd_app.proofs.Solves.{ended_well, left_all, right_all}
+use Rattle.fd_app.proofs.Scripts.{solve_circuit}
+
+-- ---- the rounds of a settle
+
+module _ (x : Settle) (hours : List ℕ) (more : List CircuitView) (limits : Limits) (n : Machine) (ending : Ending)
+    (rest : Checking → Type 0) (well : x.end ≡ settled → ending ≡ ended Settled)
+    (go : (t : Checking) → (ending ≡ ended Settled → t ≡ behind_it x hours more n) → rest t) where
+  abbrev Computed : Machine → List (Claim × List Act) → Type 0
+  Computed m rounds = IsComputedFrom limits (plant_at x.circuit x.hour) m rounds ending n
+
+  abbrev AlikeFrom : Machine → List (Claim × List Act) → Type 0
+  AlikeFrom m rounds = AtEach (DecidesAlike x.circuit x.hour) (plant_at x.circuit x.hour) m (map claim_in (rounds_of rounds))
+
+  abbrev SteadyFrom : ℕ → List (Claim × List Act) → Checking → Type 0
+  SteadyFrom k rounds t = AreSteadyFrom x k (rounds_of rounds) rest t
+
+  none_ended : (m : Machine) → Computed m [] → ending ≡ ended Settled → ⊥
+  none_ended m h e = subst (λ (q : Ending). IsComputedFrom limits (plant_at x.circuit x.hour) m [] q n) e h
+
+  module _ (k : ℕ) (m : Machine) (r : Claim × List Act) (later : List (Claim × List Act))
+      (next : (j : Machine) → Computed j later → AlikeFrom j later → SteadyFrom (k + 1) later (under_way (at_round x hours more (k + 1) j)))
+      (y : State) where
+    abbrev s : Settling
+    s = at_round x hours more k m
+
+    abbrev Comes : Type 0
+    Comes = IsLastOfFault x (round_of r.0 r.1) (rounds_of later)
+        ⊎ ((sampled_by (outcome_at s y) ≡ moves (map act_due r.1)) × SteadyFrom (k + 1) later (behind_round s (outcome_at s y)))
+
+    -- a settle that ends here, and not well
+    is_last : (end : Ending) → (end ≡ ended Settled → ⊥) → r.1 ≡ [] → later ≡ [] → ending ≡ end → Comes
+    is_last end ill acts none is = inl (record {
+      last = ap rounds_of none;
+      no_act = acts;
+      fault = λ e. ill (sym is ∙ well e);
+    })
+
+    comes_to : (o : Outcome) → outcome_at s y ≡ o → Follows o r.1 later ending n (λ j. Computed j later) → AlikeFrom (left_by o) later
+        → Comes
+    comes_to (Ends Settled j) e f alike = inr (
+      ap sampled_by e ∙ ap (λ (acts : List Act). moves (map act_due acts)) (sym f.0),
+      subst (λ (rounds : List (Claim × List Act)). SteadyFrom (k + 1) rounds (behind_round s (outcome_at s y))) (sym f.1.0)
+          (go (behind_round s (outcome_at s y)) (λ ends. ap (behind_round s) e ∙ ap (behind_it x hours more) (sym f.1.1.1))),
+    )
+    comes_to (Ends Open j) e f alike = is_last (ended Open) (λ is. cc is) f.0 f.1.0 f.1.1.0
+    comes_to (Ends Limited j) e f alike = is_last (ended Limited) (λ is. cc is) f.0 f.1.0 f.1.1.0
+    comes_to (Ends (Undecidable i u) j) e f alike = is_last (ended (Undecidable i u)) (λ is. cc is) f.0 f.1.0 f.1.1.0
+    comes_to (Moves made j) e f alike = inr (
+      ap sampled_by e ∙ ap (λ (acts : List Act). moves (map act_due acts)) (sym f.0),
+      subst (SteadyFrom (k + 1) later) (sym (ap (behind_round s) e)) (next j f.1 alike),
+    )
+
+    comes : (w : Sampling) → look_over (controls_in x.circuit) m.at r.0 ≡ w
+        → DecidesAlike x.circuit x.hour m.at (claim_in (round_of r.0 r.1)) → Solves s (claim_in (round_of r.0 r.1)) y
+        → Follows (outcome_of (setup_of x.circuit) m w) r.1 later ending n (λ j. Computed j later)
+        → AlikeFrom (left_by (outcome_of (setup_of x.circuit) m w)) later → Comes
+    comes (Unclear i u) is decides solves f alike = is_last (ended (Undecidable i u)) (λ e. cc e) f.0 f.1.0 f.1.1.0
+    comes (Decided ds) is decides solves f alike =
+        comes_to (outcome_of (setup_of x.circuit) m (Decided ds)) (ap (outcome_of (setup_of x.circuit) m) (decides y ds solves is)) f alike
+
+  rounds_steady : (rounds : List (Claim × List Act)) (k : ℕ) (m : Machine) → Computed m rounds → AlikeFrom m rounds
+      → SteadyFrom k rounds (under_way (at_round x hours more k m))
+  rounds_steady [] k m h alike = go (under_way (at_round x hours more k m)) (λ e. absurd (none_ended m h e))
+  rounds_steady (r ∷ later) k m h alike = (
+    record { circuit = refl; number = refl; hour = refl; round_is = refl },
+    λ y solves. comes k m r later (λ j c a. rounds_steady later (k + 1) j c a) y (look_over (controls_in x.circuit) m.at r.0) refl
+        alike.0 solves h.1.1 alike.1,
+  )
+
+-- ---- an hour
+
+module _ (c : CircuitView) (more : List CircuitView) where
+  abbrev opens : List ℕ → Kept → Checking
+  opens hours l = open_hours c more hours l.at l.opened l.settled (λ left count. open_solves more left count)
+
+  module _ (hour : ℕ) (hours : List ℕ) (l : Kept) (rounds : List (Claim × List Act)) (ending : Ending) (n : Machine) (end : SettleEnd)
+      (computed : IsComputedFrom (limits_of c.options) (plant_at c hour) (hour_begun c hour l) rounds ending n)
+      (end_is : IsEndBy c hour ending n end) (es : List Event)
+      (later : end ≡ settled → AreSteady es (opens hours (kept_by l n))) (none : (end ≡ settled → ⊥) → es ≡ []) where
+    abbrev x : Settle
+    x = hour_settle c hour l (rounds_of rounds) end n.at
+
+    behind : (e : SettleEnd) → end ≡ e → (t : Checking) → (ending ≡ ended Settled → t ≡ behind_it x hours more n) → AreSteady es t
+    behind settled is t at = subst (AreSteady es) (sym (at (ended_well c hour ending n end end_is is))) (later is)
+    behind (failed f) is t at = subst (λ (q : List Event). AreSteady q t) (sym (none (λ e. let no = sym is ∙ e in cc no))) tt
+    behind (without_certificate r f) is t at = subst (λ (q : List Event). AreSteady q t) (sym (none (λ e. let no = sym is ∙ e in cc no))) tt
+
+    pub hour_steady : AreAlike x → AreSteady (settle x ∷ es) (opens (hour ∷ hours) l)
+    hour_steady alike =
+        rounds_steady x hours more (limits_of c.options) n ending (λ u. AreSteady es u) (λ e. ended_well c hour ending n end end_is e)
+        (λ t at. behind end refl t at) rounds 0 (hour_begun c hour l) computed alike
+
+  made_steady : (hour : ℕ) (hours : List ℕ) (l : Kept) (made : Settle) (kept : Kept) → IsHour c hour l made kept → IsSolved made
+      → (es : List Event) → (made.end ≡ settled → AreSteady es (opens hours kept)) → ((made.end ≡ settled → ⊥) → es ≡ [])
+      → AreSteady (settle made ∷ es) (opens (hour ∷ hours) l)
+  made_steady hour hours l made kept is solved es later none =
+      let x : Settle = hour_settle c hour l (rounds_of is.rounds) is.end is.machine.at in
+      let ends : is.end ≡ made.end = sym (ap (λ (s : Settle). s.end) is.settle_is) in
+      let here = hour_steady hour hours l is.rounds is.ending is.machine is.end is.computed is.end_is es
+      (λ e. subst (λ (k : Kept). AreSteady es (opens hours k)) is.kept (later (sym ends ∙ e)))
+      (λ ill. none (λ e. ill (ends ∙ e)))
+      (subst AreAlike is.settle_is solved.alike) in
+      subst (λ (s : Settle). AreSteady (settle s ∷ es) (opens (hour ∷ hours) l)) (sym is.settle_is) here
+
+  -- ---- the hours of a Solve
+
+  -- what stands behind a step
+  abbrev Behind : Step StandingView → List Event → Type 0
+  Behind (goes events t) later = AreSteady later (open_solves more t.at t.settled)
+  Behind (work.ends events f) later = later ≡ []
+
+  abbrev StepFrom : List ℕ → Kept → List Event → Step StandingView → Type 0
+  StepFrom hours l later s = AreSteady (events_in s ++ later) (opens hours l)
+
+  pub hours_steady : (hours : List ℕ) (l : Kept) (step : Step StandingView) → IsHoursStep c hours l step
+      → AllByRecursion (IfSettle IsSolved) (events_in step) → (later : List Event) → Behind step later
+      → AreSteady (events_in step ++ later) (opens hours l)
+  hours_steady [] l step h solved later behind =
+      subst (λ (s : Step StandingView). AreSteady (events_in s ++ later) (opens [] l)) (sym h) (subst (λ (s : Step StandingView). Behind s later) h behind)
+  hours_steady (hour ∷ hours) l step h solved later behind = by h.made.end refl h.goes_on (λ s right all b. hours_steady hours h.kept s right all later b)
+    where
+      goes_on : h.made.end ≡ settled → (rest : Step StandingView) → IsHoursStep c hours h.kept rest
+          → step ≡ behind_events (settle h.made ∷ []) rest
+          → ((s : Step StandingView) → IsHoursStep c hours h.kept s → AllByRecursion (IfSettle IsSolved) (events_in s)
+          → Behind s later → AreSteady (events_in s ++ later) (opens hours h.kept))
+          → StepFrom (hour ∷ hours) l later step
+      goes_on well (goes es u) right is again =
+          let all = subst (λ (s : Step StandingView). AllByRecursion (IfSettle IsSolved) (events_in s)) is solved in
+          let b = subst (λ (s : Step StandingView). Behind s later) is behind in
+          subst (StepFrom (hour ∷ hours) l later) (sym is) (made_steady hour hours l h.made h.kept h.is all.0 (es ++ later) (λ e. again (goes es u) right all.1 b)
+          (λ ill. absurd (ill well)))
+      goes_on well (work.ends es f) right is again =
+          let all = subst (λ (s : Step StandingView). AllByRecursion (IfSettle IsSolved) (events_in s)) is solved in
+          let b = subst (λ (s : Step StandingView). Behind s later) is behind in
+          subst (StepFrom (hour ∷ hours) l later) (sym is) (made_steady hour hours l h.made h.kept h.is all.0 (es ++ later)
+          (λ e. again (work.ends es f) right all.1 b) (λ ill. absurd (ill well)))
+
+      stops : (h.made.end ≡ settled → ⊥) → (f : Fault) → step ≡ work.ends (settle h.made ∷ []) f → StepFrom (hour ∷ hours) l later step
+      stops ill f is =
+          let all = subst (λ (s : Step StandingView). AllByRecursion (IfSettle IsSolved) (events_in s)) is solved in
+          let b = subst (λ (s : Step StandingView). Behind s later) is behind in
+          subst (StepFrom (hour ∷ hours) l later) (sym is) (made_steady hour hours l h.made h.kept h.is all.0 later (λ e. absurd (ill e)) (λ e. b))
+
+      by : (end : SettleEnd) → h.made.end ≡ end → IsBehind h.made end (λ s. IsHoursStep c hours h.kept s) step
+          → ((s : Step StandingView) → IsHoursStep c hours h.kept s → AllByRecursion (IfSettle IsSolved) (events_in s)
+          → Behind s later → AreSteady (events_in s ++ later) (opens hours h.kept))
+          → StepFrom (hour ∷ hours) l later step
+      by settled well on again = goes_on well on.more on.right on.step_is again
+      by (failed f) well on again = stops (λ e. let no = sym well ∙ e in cc no) f on
+      by (without_certificate r f) well on again = stops (λ e. let no = sym well ∙ e in cc no) f on
+
+-- ---- a command
+
+-- bases are no rounds
+bases_steady : (bases : List BusBase) (later : List Event) (t : Checking) → AreSteady later t
+    → AreSteady (map (λ b. row (base_fields b.bus b.kv)) bases ++ later) t
+bases_steady [] later t h = h
+bases_steady (b ∷ bases) later t h = bases_steady bases later t h
+
+module _ (passed : PassedLaw) where
+  abbrev BehindIt : (CircuitView → List CircuitView) → Step StandingView → List Event → Type 0
+  BehindIt more (goes events t) later = AreSteady later (open_solves (more t.circuit) t.at t.settled)
+  BehindIt more (work.ends events f) later = later ≡ []
+
+  module _ (at : Positions) (n : ℕ) (more : CircuitView → List CircuitView) (later : List Event) where
+    abbrev IsSteadyStep : Applied → Step StandingView → Type 0
+    IsSteadyStep left step = AreSteady (events_in step ++ later) (open_solves (behind_command left more) at n)
+
+    step_as : (left : Applied) (step s : Step StandingView) → step ≡ s → (BehindIt more s later → IsSteadyStep left s)
+        → BehindIt more step later → IsSteadyStep left step
+    step_as left step s is h behind =
+        subst (IsSteadyStep left) (sym is) (h (subst (λ (q : Step StandingView). BehindIt more q later) is behind))
+
+    no_more : (left : Applied) (f : Fault) → BehindIt more (work.ends [] f) later → IsSteadyStep left (work.ends [] f)
+    no_more left f none = subst (λ (q : List Event). AreSteady q (open_solves (behind_command left more) at n)) (sym none) tt
+
+    solve_steady : (d : CircuitView) (step : Step StandingView) (answer : Result Unit Blame) → IsTested d answer
+        → IsByTests (standing d at n) answer step → AllByRecursion (IfSettle IsSolved) (events_in step) → BehindIt more step later
+        → IsSteadyStep (solve_left d) step
+    unfolding IsSolutionStep
+    solve_steady d step (Err blame) right is all behind =
+        let f = fault.Script blame.place (cause.Model blame.cause) in
+        step_as (solve_left d) step (work.ends [] f) is (no_more (solve_left d) f) behind
+    solve_steady d step (Ok done) ready is all behind =
+        hours_steady d (more d) (hours_of d.options) (kept_first (standing d at n)) step is all later (there step refl behind)
+      where
+        there : (s : Step StandingView) → step ≡ s → BehindIt more s later → Behind d (more d) s later
+        there (goes es t) same b =
+            subst (λ (c : CircuitView). AreSteady later (open_solves (more c) t.at t.settled))
+            (solve_circuit passed d at n step ready is es t same) b
+        there (work.ends es f) same b = b
+
+    step_steady : (left : Applied) (step : Step StandingView) → IsStepOf at n left step
+        → AllByRecursion (IfSettle IsSolved) (events_in step) → BehindIt more step later → IsSteadyStep left step
+    step_steady (nothing_left d) step is all behind = step_as (nothing_left d) step (goes [] (standing d at n)) is (λ b. b) behind
+    step_steady (bases_left d) step is all behind =
+        step_as (bases_left d) step (goes (base_events d) (standing d at n)) is
+        (λ b. bases_steady (bases_of d) later (open_solves (more d) at n) b) behind
+    step_steady (commands.refused_at place c) step is all behind =
+        step_as (commands.refused_at place c) step (work.ends [] (fault.Script place c)) is
+        (no_more (commands.refused_at place c) (fault.Script place c)) behind
+    step_steady (solve_left d) step is all behind = solve_steady d step is.answer is.right is.step_is all behind
+
+  -- ---- a script
+
+  module _ (files : Files) where
+    abbrev IsHistoryFrom : List Said → ScriptEnd → StandingView → History → Type 0
+    IsHistoryFrom said end s h = IsHistory IsStep no_name IsDoneThere (λ n. held files (bytes n)) said end s h
+
+    abbrev IsSteadyFrom : List Said → StandingView → List Event → Type 0
+    IsSteadyFrom said s events = AreSteady events (open_solves (solves_from said s.circuit) s.at s.settled)
+
+    abbrev AllSolved : List Event → Type 0
+    AllSolved events = AllByRecursion (IfSettle IsSolved) events
+
+    pub script_steady : (said : List Said) (end : ScriptEnd) (s : StandingView) (h : History) → IsHistoryFrom said end s h
+        → AllSolved h.events → IsSteadyFrom said s h.events
+    script_steady [] at_its_end s h is all = subst (λ (x : History). IsSteadyFrom [] s x.events) (sym is) tt
+    script_steady [] (refused_at place c) s h is all = subst (λ (x : History). IsSteadyFrom [] s x.events) (sym is) tt
+    script_steady (name n ∷ more) end s h is all =
+        let solved = subst (λ (x : History). AllSolved x.events) is.h_is all in
+        subst (λ (x : History). IsSteadyFrom (name n ∷ more) s x.events) (sym is.h_is) (script_steady more end s is.more is.right solved.1)
+    script_steady (command c ∷ more) end s h is all =
+        step_of is.step is.right is.goes_on (λ t x right solved. script_steady more end t x right solved)
+      where
+        step_of : (step : Step StandingView) → IsStep c s step → AfterStep step (λ t x. IsHistoryFrom more end t x) h
+            → ((t : StandingView) (x : History) → IsHistoryFrom more end t x → AllSolved x.events → IsSteadyFrom more t x.events)
+            → IsSteadyFrom (command c ∷ more) s h.events
+        step_of (goes events t) right on again =
+            let solved = subst (λ (x : History). AllSolved x.events) on.h_is all in
+            subst (λ (x : History). IsSteadyFrom (command c ∷ more) s x.events) (sym on.h_is)
+            (step_steady s.at s.settled (λ next. solves_from more next) on.more.events (tried c s.circuit) (goes events t) right
+            (left_all (IfSettle IsSolved) events on.more.events solved)
+            (again t on.more on.right (right_all (IfSettle IsSolved) events on.more.events solved)))
+        step_of (work.ends events f) right on again =
+            let solved = subst (λ (x : History). AllSolved x.events) on all in
+            subst (λ (x : History). IsSteadyFrom (command c ∷ more) s x.events) (sym on)
+            (subst (IsSteadyFrom (command c ∷ more) s) (append-nil events)
+            (step_steady s.at s.settled (λ next. solves_from more next) [] (tried c s.circuit) (work.ends events f) right solved refl))

@@ -1,0 +1,58 @@
+-- The acts of a whole run, over any states that solve its rounds.
+use Rattle.std.specs.Prelude.{◌≡◌, ◌⊎◌, ℕ, ◌+◌, List, [], ◌∷◌, map}
+use Rattle.fd_exact.specs.States.{State}
+use Rattle.fd_enclosure.specs.Sound.{Claim}
+use Rattle.fd_settle.specs.Plant.{controls_in, setup_of}
+use Rattle.fd_settle.specs.Sampling.{look_at}
+use Rattle.fd_settle.specs.Settle.{Outcome, outcome_of}
+use Rattle.fd_certfile.specs.Rules.{moves}
+use Rattle.fd_checking.specs.Checking.{Checking, Settling, act_due, behind_round, done, sampled_by, under_way}
+use Rattle.fd_outcome.specs.Events.{Event, settle}
+use Rattle.fd_outcome.specs.Settles.{Round, Settle, claim_in, settled}
+use Rattle.fd_solving.specs.Headline.{IsOtherState}
+
+-- ---- one round
+
+-- A state of any denominator that solves a round as closely as the printed one: it lies in the trust box of the printed
+-- state and meets the printed mismatches in every equation of the round's circuit.
+abbrev pub Solves : Settling → Claim → State → Type 0
+Solves s m x = IsOtherState s.circuit s.hour s.machine.at m x
+
+-- what the round comes to where each control wants what it does at this state
+abbrev pub outcome_at : Settling → State → Outcome
+outcome_at s x = outcome_of (setup_of s.circuit) s.machine (look_at (controls_in s.circuit) s.machine.at x)
+
+-- ---- the rounds of a settle
+
+-- the round of a settle that is due: its circuit, the settle's number and hour, and the number of the round
+pub record IsDue (s : Settling) (x : Settle) (round : ℕ) : Type 0 where
+  pub circuit : s.circuit ≡ x.circuit
+  pub number : s.number ≡ x.number
+  pub hour : s.hour ≡ x.hour
+  pub round_is : s.round ≡ round
+
+-- the last round of a settle that ends with a fault, with no act
+pub record IsLastOfFault (x : Settle) (r : Round) (rounds : List Round) : Type 0 where
+  pub last : rounds ≡ []
+  pub no_act : r.acts ≡ []
+  pub fault : x.end ≡ settled → ⊥
+
+-- The round that is due is this one. Its acts are those of the queue machine over any state that solves it, and so it
+-- goes on with the rounds behind it, whatever state was chosen; where a settle ends with a fault, no act follows its last
+-- round, of which nothing more is said.
+abbrev pub AreSteadyFrom : Settle → ℕ → List Round → (Checking → Type 0) → Checking → Type 0
+AreSteadyFrom x k [] rest t = rest t
+AreSteadyFrom x k (r ∷ rounds) rest done = ⊥
+AreSteadyFrom x k (r ∷ rounds) rest (under_way s) =
+    IsDue s x k
+    × ((y : State) → Solves s (claim_in r) y
+    → IsLastOfFault x r rounds
+    ⊎ ((sampled_by (outcome_at s y) ≡ moves (map act_due r.acts))
+    × AreSteadyFrom x (k + 1) rounds rest (behind_round s (outcome_at s y))))
+
+-- ---- all settles, through all hours of all Solves
+
+abbrev pub AreSteady : List Event → Checking → Type 0
+AreSteady [] t = Unit {0}
+AreSteady (settle x ∷ events) t = AreSteadyFrom x 0 x.rounds (λ u. AreSteady events u) t
+AreSteady (other ∷ events) t = AreSteady events t

@@ -1,0 +1,2 @@
+-- The lemmas on the words of a command line.
+mod Longer
