@@ -26,6 +26,15 @@ pub struct Due {
     pub outcome: Outcome,
 }
 
+/// A read that fails in a run of its own.
+#[derive(Drop)]
+pub struct Ask {
+    /// How many lines that are due stand before it.
+    pub lines: u32,
+    /// The file that it asks for.
+    pub name: String,
+}
+
 /// What a run is given, and what it must come to.
 #[derive(Drop)]
 pub struct Case {
@@ -36,6 +45,8 @@ pub struct Case {
     pub failing_reads: Vec<u32>,
     /// The numbers of the writes that fail, from 1.
     pub failing_writes: Vec<u32>,
+    /// All reads in order, where each fails too, in a run of its own.
+    pub asks: Vec<Ask>,
     /// The file that has each shorter length too, in a run of its own.
     pub cut_file: Option<String>,
     /// Whether each write fails too, in a run of its own.
@@ -53,6 +64,7 @@ impl Case {
             files: Vec::new(alloc),
             failing_reads: Vec::new(alloc),
             failing_writes: Vec::new(alloc),
+            asks: Vec::new(alloc),
             cut_file: None,
             has_each_write: false,
             due: Vec::new(alloc),
@@ -94,11 +106,25 @@ impl Case {
         }
     }
 
-    /// How many runs the case has: as it stands, with each shorter length, and with each write failing.
+    /// How many reads fail in runs of their own: each that the case names, and one more, which doesn't come.
+    pub(crate) fn reads(&self) -> usize {
+        match self.asks.len() {
+            0 => 0,
+            count => count.saturating_add(1),
+        }
+    }
+
+    /// How many runs the case has: as it stands, with each shorter length, with each write and with each read failing.
     pub(crate) fn runs(&self) -> usize {
         self.shorter_lengths()
             .saturating_add(self.writes())
+            .saturating_add(self.reads())
             .saturating_add(1)
+    }
+
+    // The read of this number, from 1.
+    fn ask_at(&self, number: u32) -> Option<&Ask> {
+        self.asks.get((number as usize).checked_sub(1)?)
     }
 
     fn due_at(&self, length: usize) -> Option<&Outcome> {
@@ -116,12 +142,31 @@ impl Case {
         let Some(due) = self.due_at(how.length) else {
             return false;
         };
-        match how.failing_write {
-            Some(number) => {
-                outcome.status == 5 && outcome.text.as_slice() == lines_before(&due.text, number)
+        if let Some(number) = how.failing_write {
+            return outcome.status == 5
+                && outcome.text.as_slice() == lines_before(&due.text, number);
+        }
+        match self.ask_at(how.failing_read.unwrap_or(0)) {
+            Some(ask) => {
+                let front = lines_before(&due.text, ask.lines.saturating_add(1));
+                outcome.status == 4 && is_failed_read(&outcome.text, front, ask.name.as_bytes())
             }
             None => outcome.status == due.status && outcome.text == due.text,
         }
+    }
+}
+
+// Whether a text is these lines and the record of a read of this name that failed.
+fn is_failed_read(text: &[u8], front: &[u8], name: &[u8]) -> bool {
+    let Some(record) = text.strip_prefix(front) else {
+        return false;
+    };
+    let Some(rest) = record.strip_prefix(b"fault,read,") else {
+        return false;
+    };
+    match rest.strip_prefix(name) {
+        Some(end) => end == b"\n".as_slice(),
+        None => false,
     }
 }
 
@@ -156,6 +201,8 @@ fn lines_before(text: &[u8], number: u32) -> &[u8] {
 pub struct How {
     /// The file that is cut has at most this length.
     pub length: usize,
+    /// The read that fails in place of those that the case names.
+    pub failing_read: Option<u32>,
     /// The write that fails in place of those that the case names.
     pub failing_write: Option<u32>,
 }
@@ -165,6 +212,7 @@ impl How {
     pub(crate) fn whole() -> Self {
         How {
             length: usize::MAX,
+            failing_read: None,
             failing_write: None,
         }
     }
@@ -172,8 +220,11 @@ impl How {
 
 impl Display for How {
     fn fmt<W: fmt::Write>(&self, f: &mut Formatter<W>) -> fmt::Result {
-        match self.failing_write {
-            Some(number) => write!(f, "write {number}"),
+        if let Some(number) = self.failing_write {
+            return write!(f, "write {number}");
+        }
+        match self.failing_read {
+            Some(number) => write!(f, "read {number}"),
             None if self.length == usize::MAX => f.write_str("whole"),
             None => write!(f, "length {}", self.length),
         }
@@ -197,15 +248,21 @@ fn entries_of(alloc: Global, case: &Case, length: usize) -> Result<Vec<FileEntry
     Ok(entries)
 }
 
+// The numbers of the calls that fail: these, or the one in their place.
+fn failing(alloc: Global, named: &[u32], one: Option<u32>) -> Result<Vec<u32>, AllocError> {
+    let Some(number) = one else {
+        return named.to_vec(alloc);
+    };
+    let mut numbers = Vec::new(alloc);
+    numbers.push(number)?;
+    Ok(numbers)
+}
+
 /// Runs a case over memory.
 pub(crate) fn outcome_of(alloc: Global, case: &Case, how: How) -> Result<Outcome, AllocError> {
     let entries = entries_of(alloc, case, how.length)?;
-    let failing_reads = case.failing_reads.as_slice().to_vec(alloc)?;
-    let mut failing_writes = case.failing_writes.as_slice().to_vec(alloc)?;
-    if let Some(number) = how.failing_write {
-        failing_writes.clear();
-        failing_writes.push(number)?;
-    }
+    let failing_reads = failing(alloc, &case.failing_reads, how.failing_read)?;
+    let failing_writes = failing(alloc, &case.failing_writes, how.failing_write)?;
     let mut lib = MemLibrary::new(alloc, entries, failing_reads);
     let mut out = MemSink::new(alloc, failing_writes);
     let status = run(alloc, case.words.as_slice(), &mut lib, &mut out);

@@ -35,7 +35,7 @@ fn holds_at_lengths(rt: &(impl Print + AllocGlobal), case: &Case) -> Result<bool
     for length in 0..case.shorter_lengths() {
         let how = How {
             length,
-            failing_write: None,
+            ..How::whole()
         };
         all = holds(rt, case, how)? && all;
     }
@@ -49,8 +49,23 @@ fn holds_at_writes(rt: &(impl Print + AllocGlobal), case: &Case) -> Result<bool,
     for _write in 0..case.writes() {
         number = number.saturating_add(1);
         let how = How {
-            length: usize::MAX,
             failing_write: Some(number),
+            ..How::whole()
+        };
+        all = holds(rt, case, how)? && all;
+    }
+    Ok(all)
+}
+
+// Whether a case comes to what is due with each of its reads failing.
+fn holds_at_reads(rt: &(impl Print + AllocGlobal), case: &Case) -> Result<bool, RowsFault> {
+    let mut all = true;
+    let mut number = 0u32;
+    for _read in 0..case.reads() {
+        number = number.saturating_add(1);
+        let how = How {
+            failing_read: Some(number),
+            ..How::whole()
         };
         all = holds(rt, case, how)? && all;
     }
@@ -60,8 +75,9 @@ fn holds_at_writes(rt: &(impl Print + AllocGlobal), case: &Case) -> Result<bool,
 fn holds_always(rt: &(impl Print + AllocGlobal), case: &Case) -> Result<bool, RowsFault> {
     let whole = holds(rt, case, How::whole())?;
     let shorter = holds_at_lengths(rt, case)?;
-    let failing = holds_at_writes(rt, case)?;
-    Ok(whole && shorter && failing)
+    let written = holds_at_writes(rt, case)?;
+    let read = holds_at_reads(rt, case)?;
+    Ok(whole && shorter && written && read)
 }
 
 /// How many cases there are, how many came to what they expect, and how many runs they have.

@@ -9,13 +9,15 @@
 //     write NUMBER    the write of this number fails
 //     status NUMBER   the exit status; what follows is the text that the sink must have taken
 //     each write      besides, each write fails in a run of its own: status 5 and the lines before it are due
+//     asks NUMBER NAME    besides, the next read, which asks for this file when so many lines are written, fails in a run of
+//                     its own: status 4, those lines and the record of the failed read are due; behind the last none comes
 //     length NAME     besides, this file, which stands before, has each shorter length in a run of its own
 //     from NUMBER     the status behind this is due where that file has so many bytes or more
 //     repeat NUMBER   the next piece of text stands so often, each time with its number from 1 in place of each `#`
 //     |TEXT           this text, and the end of a line
 //     >TEXT           this text
 //     byte NUMBER     this byte
-use crate::case::{Case, Due, HeldFile, Outcome};
+use crate::case::{Ask, Case, Due, HeldFile, Outcome};
 use std::alloc::{AllocError, AllocFailed, Global};
 use std::fmt::{Display, Formatter};
 use std::{fmt, io};
@@ -139,6 +141,7 @@ impl Reader {
                 self.case.cut_file = Some(value.to_string(alloc)?);
             }
             "each" if value == "write" => self.case.has_each_write = true,
+            "asks" => return self.push_ask(alloc, value),
             "file" => {
                 self.in_file = true;
                 self.case.files.push(HeldFile {
@@ -148,6 +151,18 @@ impl Reader {
             }
             _ => return self.set_number(alloc, word, value),
         }
+        Ok(Some(()))
+    }
+
+    fn push_ask(&mut self, alloc: Global, value: &str) -> Result<Option<()>, AllocError> {
+        let Some((lines, name)) = value.split_once(' ') else {
+            return Ok(None);
+        };
+        let Ok(lines) = lines.parse::<u32>() else {
+            return Ok(None);
+        };
+        let name = name.to_string(alloc)?;
+        self.case.asks.push(Ask { lines, name })?;
         Ok(Some(()))
     }
 
