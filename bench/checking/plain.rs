@@ -35,11 +35,30 @@ fn numbers(line: &[u8], word: &[u8], into: &mut Vec<i128>) -> Option<()> {
     Some(())
 }
 
+// A row of version 2: how many entries aren't 0, and each of these behind its place.
+fn entries(fields: &[i128], size: usize, into: &mut Vec<i128>) -> Option<()> {
+    let (count, pairs) = fields.split_first()?;
+    let first = into.len();
+    for pair in pairs.chunks(2) {
+        let &[place, entry] = pair else { return None };
+        let place = usize::try_from(place).ok()?;
+        if entry == 0 || place >= size || first + place < into.len() {
+            return None;
+        }
+        into.resize(first + place, 0);
+        into.push(entry);
+    }
+    into.resize(first + size, 0);
+    (pairs.len() as i128 == 2 * count).then_some(())
+}
+
 fn read(text: &[u8]) -> Option<(usize, usize)> {
     let mut lines = text.strip_suffix(b"\n")?.split(|byte| *byte == b'\n').peekable();
-    if lines.next()? != b"cert 1" {
-        return None;
-    }
+    let sparse = match lines.next()? {
+        b"cert 1" => false,
+        b"cert 2" => true,
+        _ => return None,
+    };
     let (mut blocks, mut count) = (0, 0);
     loop {
         let line = lines.next()?;
@@ -61,10 +80,16 @@ fn read(text: &[u8]) -> Option<(usize, usize)> {
         for place in 0..size {
             let mut row = Vec::with_capacity(size + 1);
             numbers(lines.next()?, b"c", &mut row)?;
-            if row.len() != size + 1 || row[0] != place as i128 {
+            if row.first() != Some(&(place as i128)) {
                 return None;
             }
-            cells.extend_from_slice(&row[1..]);
+            if sparse {
+                entries(&row[1..], size, &mut cells)?;
+            } else if row.len() == size + 1 {
+                cells.extend_from_slice(&row[1..]);
+            } else {
+                return None;
+            }
         }
         while let Some(line) = lines.peek() {
             let mut act = Vec::new();

@@ -1,4 +1,4 @@
-"""Certificates of `feeder cert` as plain records, and whether a report has the numbers that a certificate claims.
+"""Certificates of `feeder cert`, of both versions, as plain records, and whether a report has the numbers that a certificate claims.
 
 Nothing is judged here: `feeder check` does that. Centres and radii are in microvolts and microamperes, entries of the
 inverse in units of 2^-40, times in milliseconds.
@@ -77,7 +77,7 @@ class Reader:
     """Goes through the lines of a certificate, one after the other."""
 
     def __init__(self, content: bytes, name: str, with_inverse: bool) -> None:
-        self.name, self.with_inverse, self.place = name, with_inverse, 0
+        self.name, self.with_inverse, self.place, self.sparse = name, with_inverse, 0, False
         self.lines = content.split(b"\n")
         self.tail = self.lines.pop()
 
@@ -99,8 +99,10 @@ class Reader:
         return [int(it) for it in words]
 
     def read(self) -> Certificate:
-        if self.words() != [b"cert", b"1"]:
-            raise self.bad("not the line `cert 1`")
+        words = self.words()
+        if words not in ([b"cert", b"1"], [b"cert", b"2"]):
+            raise self.bad("not the line `cert 1` or `cert 2`")
+        self.sparse = words[1] == b"2"
         certificate = Certificate(self.name)
         words = self.words()
         while words != [b"end"]:
@@ -121,15 +123,34 @@ class Reader:
             _, centre, radius, mismatch = self.numbers(rest, 4)
             block.claims.append(Claim(centre, radius, mismatch))
         for rest in self.rows(b"c", count):
-            if len(rest) != count + 1:
-                raise self.bad("wrong number of fields")
+            entries = self.entries(rest, count) if self.sparse else self.whole_row(rest, count)
             if self.with_inverse:
-                block.inverse.append(self.numbers(rest, count + 1)[1:])
+                block.inverse.append(entries)
         words = self.words()
         while words[0] == b"act":
             block.acts.append(CertifiedAct(*self.numbers(words[1:], 3)))
             words = self.words()
         return words
+
+    def whole_row(self, words: list[bytes], count: int) -> list[int]:
+        """The entries behind a row's place in version 1, or none where they aren't wanted."""
+        if len(words) != count + 1:
+            raise self.bad("wrong number of fields")
+        return self.numbers(words, count + 1)[1:] if self.with_inverse else []
+
+    def entries(self, words: list[bytes], count: int) -> list[int]:
+        """The entries of a row in version 2: their number, and each that isn't 0 behind its place."""
+        _, named, *pairs = self.numbers(words, len(words)) if len(words) > 1 else self.numbers(words, 2)
+        places, entries = pairs[::2], pairs[1::2]
+        if len(places) != named or len(entries) != named:
+            raise self.bad("wrong number of fields")
+        rise = all(a < b for a, b in zip([-1, *places], [*places, count]))
+        if not rise or 0 in entries:
+            raise self.bad("not the entries of a row behind their places")
+        if not self.with_inverse:
+            return []
+        at = dict(zip(places, entries))
+        return [at.get(place, 0) for place in range(count)]
 
     def rows(self, word: bytes, count: int) -> Iterator[list[bytes]]:
         """What stands behind the word of the next `count` lines, which have the places 0, 1 and so on."""

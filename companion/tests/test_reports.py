@@ -23,6 +23,8 @@ x 7 0 33 0
     + "end\n"
 )
 
+SPARSE = CERTIFICATE.replace("cert 1", "cert 2").replace(" 1 0 -3 0 0 0 0 0\n", " 2 0 1 2 -3\n")
+
 
 class Reports(Folder):
     def test_records_have_the_numbers_of_the_report(self):
@@ -139,10 +141,20 @@ class Certificates(unittest.TestCase):
             report = parse_report(FIRST.replace(old, new).encode())
             self.assertEqual(derived_difference(report.settles[0].last), said)
 
+    def test_both_versions_have_the_same_blocks(self):
+        whole, sparse = (parse_certificate(it.encode(), "c", True) for it in (CERTIFICATE, SPARSE))
+        self.assertEqual(whole, sparse)
+
+    def test_an_unreadable_row_of_version_2_names_its_line(self):
+        for row in ("c 1", "c 1 3 0 1 2 -3", "c 1 1 0 1 2 -3", "c 1 2 0 1 2", "c 1 2 2 -3 0 1", "c 1 2 0 1 0 -3", "c 1 2 0 1 8 -3"):
+            with self.assertRaises(UnreadableCertificate, msg=row) as caught:
+                parse_certificate(SPARSE.replace("c 1 2 0 1 2 -3", row).encode(), "c")
+            self.assertEqual(caught.exception.line, 12)
+
     def test_an_unreadable_certificate_names_its_line(self):
         cases = [
             ("", 1, "the certificate ends before `end`"),
-            ("cert 2\n", 1, "not the line `cert 1`"),
+            ("cert 3\n", 1, "not the line `cert 1` or `cert 2`"),
             (CERTIFICATE.replace("x 3", "x 4"), 6, "not the line `x 3`"),
             (CERTIFICATE.replace("x 3 0", "x 3 00"), 6, "a field that is no number"),
             (CERTIFICATE.replace("x 3 0 11 0", "x 3 0 11"), 6, "wrong number of fields"),

@@ -596,7 +596,9 @@ class Certified:
         n = self.net.n
         out = ['solution %d %d %d %d' % (number, hour, turn, n)]
         out += ['x %d %d %d %d' % (i, self.x[i], self.radii[i], self.mismatch[i]) for i in range(n)]
-        out += [' '.join(['c', str(i)] + [str(self.inverse[i].get(l, 0)) for l in range(n)]) for i in range(n)]
+        for i in range(n):
+            held = [(l, self.inverse[i][l]) for l in sorted(self.inverse[i]) if self.inverse[i][l]]
+            out.append(' '.join(str(it) for it in ['c', i, len(held)] + [it for pair in held for it in pair]))
         return out
 
     def records(self, number, hour, turn):
@@ -680,7 +682,7 @@ def run(files, words):
         status = fault
     if cert:
         out += ['end'] if status == 0 else []
-        out = ['cert 1'] + out if out and not out[0].startswith('fault') else out
+        out = ['cert 2'] + out if out and not out[0].startswith('fault') else out
     return ''.join(l + '\n' for l in out).encode(), status, made
 
 

@@ -10,9 +10,9 @@ from .values import Bus, Matrix, decimal
 
 WIDTH = 110
 LONGEST_LINE = 65_536
-UNKNOWNS = 240
+UNKNOWNS = 480
 """The nodes and branch phases that one circuit may have."""
-MAGNITUDES = 48
+MAGNITUDES = 96
 """The phases of constant-current loads that one circuit may have."""
 SHORTEST_NUMBERS = 24
 

@@ -65,17 +65,17 @@ class Counts(unittest.TestCase):
         self.assertEqual(Network(chain).cuts(), [])
 
     def test_too_many(self) -> None:
-        """62 buses of 6 unknowns each on one line after another, said with a cut for each part."""
+        """102 buses of 6 unknowns each on one line after another, said with a cut for each part."""
         lines = [
             f"New Line.x{i} bus1={'b' if i == 0 else f'e{i - 1}'} bus2=e{i} r1=1 x1=1 r0=1 x0=1 c1=0 c0=0"
-            for i in range(60)
+            for i in range(100)
         ]
         answer = answer_to("\n".join(lines))
         self.assertEqual(answer.status, 0)
-        self.assertIn("all zones: 372 unknowns of at most 240, 0 magnitudes of at most 48", answer.remarks)
+        self.assertIn("all zones: 612 unknowns of at most 480, 0 magnitudes of at most 96", answer.remarks)
         cuts = [r for r in answer.remarks if r.startswith("cut ")]
         self.assertEqual(len(cuts), 1)
-        self.assertTrue(all(int(c.split(": ")[1].split()[0]) <= 237 for c in cuts), cuts)
+        self.assertTrue(all(int(c.split(": ")[1].split()[0]) <= 477 for c in cuts), cuts)
 
 
 class Floating(Constructs):

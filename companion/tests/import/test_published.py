@@ -148,7 +148,7 @@ class Published(unittest.TestCase):
     def test_37_nodes_bank(self) -> None:
         """The grounding bank carries nothing but cable charging, and all of the feeder fits."""
         answer = translate(DATA / "ieee37" / "ieee37.dss", (), Asked(True, Limits(0.8, 1.2)))
-        self.assertIn("all zones: 240 unknowns of at most 240, 8 magnitudes of at most 48", answer.remarks)
+        self.assertIn("all zones: 240 unknowns of at most 480, 8 magnitudes of at most 96", answer.remarks)
         self.assertIn("buses=(799 gnd_799.1.2.0) conns=(wye delta)", answer.text)
         self.assertIn("New Line.corner_775 bus1=775.1 bus2=775.0 phases=1 r1=0 x1=0", answer.text)
 
@@ -177,7 +177,7 @@ class Published(unittest.TestCase):
         """The 13-node feeder has 82 unknowns: 41 nodes and 41 branch phases."""
         self.assertEqual(Network([]).unknowns(), 0)
         answer = translate(DATA / "ieee13" / "IEEE13Nodeckt.dss", (), Asked(False, Limits(0.8)))
-        self.assertIn("all zones: 82 unknowns of at most 240, 2 magnitudes of at most 48", answer.remarks)
+        self.assertIn("all zones: 82 unknowns of at most 480, 2 magnitudes of at most 96", answer.remarks)
 
 
 if __name__ == "__main__":
