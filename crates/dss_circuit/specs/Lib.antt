@@ -4,3 +4,7 @@ pub mod Lookups
 pub mod WellFormed
 pub mod Without
 pub mod InRange
+pub use Rattle.dss_model.specs.fd_exact as fd_exact
+pub use Rattle.dss_model.specs.fd_arith as fd_arith
+pub use Rattle.dss_model.specs.dss_lexer as dss_lexer
+pub use Rattle.dss_model.specs as dss_model

@@ -13,3 +13,11 @@ mod elements;
 
 pub use circuit::Circuit;
 pub use elements::{Elements, find_element};
+
+// Handed on from the crates below.
+pub use dss_model::{
+    Blame, Bus, CapControl, Class, Command, ControlMode, ControlQuantity, DataForm, Element,
+    ElementName, Ends, Line, LineConstants, Load, Loadshape, ModelError, ModelFault, Nodes,
+    Numbers, ONE, Options, Pair, Place, RegControl, SourceForm, Term, TermFault, Text, Transformer,
+    Units, Verb, Vsource, Winding, class_named, is_legal_name, is_source_above_limit,
+};

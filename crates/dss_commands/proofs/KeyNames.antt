@@ -8,13 +8,13 @@ use Rattle.std.proofs.lemmas.Bool.{and_from, and_parts}
 use Rattle.std.proofs.lemmas.Bool.Decides.{nat_tests}
 use Rattle.std.proofs.lemmas.List.{length-map}
 use Rattle.std.proofs.lemmas.Str.Ascii.{lowercase-lowercase}
-use Rattle.dss_lexer.specs.Texts.{is_empty}
-use Rattle.dss_model.specs.declared.fault.ModelFault.TheVariants as fault
-use Rattle.dss_model.specs.declared.names.Class.{Class}
-use Rattle.dss_model.specs.declared.names.ElementName.{ElementName}
-use Rattle.dss_model.specs.Answers.{◌>>=◌, or_fault}
-use Rattle.dss_model.specs.Classes.{classes}
-use Rattle.dss_model.specs.Names.{bytes, is_name, is_name_character, lower, named}
+use Rattle.dss_circuit.specs.dss_lexer.Texts.{is_empty}
+use Rattle.dss_circuit.specs.dss_model.declared.fault.ModelFault.TheVariants as fault
+use Rattle.dss_circuit.specs.dss_model.declared.names.Class.{Class}
+use Rattle.dss_circuit.specs.dss_model.declared.names.ElementName.{ElementName}
+use Rattle.dss_circuit.specs.dss_model.Answers.{◌>>=◌, or_fault}
+use Rattle.dss_circuit.specs.dss_model.Classes.{classes}
+use Rattle.dss_circuit.specs.dss_model.Names.{bytes, is_name, is_name_character, lower, named}
 use Rattle.dss_circuit.specs.Circuit.{source_name}
 use Rattle.dss_circuit.specs.WellFormed.{IsKey}
 use Rattle.dss_commands.specs.Keys.{edit_key, element_key, made_key, needed, new_key, written}

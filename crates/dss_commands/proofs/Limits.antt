@@ -5,23 +5,23 @@ use Rattle.std.specs.Option.{option_and_then}
 use Rattle.std.proofs.lemmas.List.Elements.{All-nil}
 use Rattle.std.proofs.lemmas.Result.{IfOk-at_ok}
 use Rattle.indexmap.specs.IndexMap.{insert_entry}
-use Rattle.dss_lexer.specs.declared.pair.Pair.{Pair}
-use Rattle.dss_model.specs.Answers.{◌>>=◌, or_fault}
-use Rattle.dss_model.specs.Defaults.{default_options}
-use Rattle.dss_model.specs.Element.{class_of, fresh}
-use Rattle.dss_model.specs.InRange.{ElementInRange, OptionsInRange}
-use Rattle.dss_model.specs.SameElement.{same_element}
-use Rattle.dss_model.specs.declared.command.Place.{Place}
-use Rattle.dss_model.specs.declared.command.Verb.{Verb}
-use Rattle.dss_model.specs.declared.command.Verb.TheVariants as verb
-use Rattle.dss_model.specs.declared.element.Element.{Element}
-use Rattle.dss_model.specs.declared.fault.ModelFault.{ModelFault}
-use Rattle.dss_model.specs.declared.fault.ModelFault.TheVariants as fault
-use Rattle.dss_model.specs.declared.names.Class.{Class}
-use Rattle.dss_model.specs.declared.names.Class.TheVariants as class
-use Rattle.dss_model.specs.declared.names.ElementName.{ElementName}
-use Rattle.dss_model.specs.declared.options.Options.{Options}
-use Rattle.dss_model.proofs.CallerLemmas.{fresh_class}
+use Rattle.dss_circuit.specs.dss_lexer.declared.pair.Pair.{Pair}
+use Rattle.dss_circuit.specs.dss_model.Answers.{◌>>=◌, or_fault}
+use Rattle.dss_circuit.specs.dss_model.Defaults.{default_options}
+use Rattle.dss_circuit.specs.dss_model.Element.{class_of, fresh}
+use Rattle.dss_circuit.specs.dss_model.InRange.{ElementInRange, OptionsInRange}
+use Rattle.dss_circuit.specs.dss_model.SameElement.{same_element}
+use Rattle.dss_circuit.specs.dss_model.declared.command.Place.{Place}
+use Rattle.dss_circuit.specs.dss_model.declared.command.Verb.{Verb}
+use Rattle.dss_circuit.specs.dss_model.declared.command.Verb.TheVariants as verb
+use Rattle.dss_circuit.specs.dss_model.declared.element.Element.{Element}
+use Rattle.dss_circuit.specs.dss_model.declared.fault.ModelFault.{ModelFault}
+use Rattle.dss_circuit.specs.dss_model.declared.fault.ModelFault.TheVariants as fault
+use Rattle.dss_circuit.specs.dss_model.declared.names.Class.{Class}
+use Rattle.dss_circuit.specs.dss_model.declared.names.Class.TheVariants as class
+use Rattle.dss_circuit.specs.dss_model.declared.names.ElementName.{ElementName}
+use Rattle.dss_circuit.specs.dss_model.declared.options.Options.{Options}
+use Rattle.dss_circuit.proofs.CallerLemmas.dss_model.{fresh_class}
 use Rattle.dss_profile.specs.Element.{reference, with_pair}
 use Rattle.dss_profile.specs.Options.{with_options}
 use Rattle.dss_profile.proofs.CallerLemmas.{options_in_range, pair_in_range}

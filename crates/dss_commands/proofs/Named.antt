@@ -5,35 +5,35 @@ use Rattle.std.specs.Option.{option_and_then}
 use Rattle.std.specs.Cmp.Lexicographic.{bytes_decides, pointwise}
 use Rattle.std.specs.Map.{lookup}
 use Rattle.std.proofs.lemmas.Bool.{and_parts}
-use Rattle.dss_lexer.specs.declared.pair.Pair.{Pair}
-use Rattle.dss_lexer.specs.Texts.{is_empty}
-use Rattle.dss_model.specs.declared.fault.ModelFault.{ModelFault}
-use Rattle.dss_model.specs.declared.fault.ModelFault.TheVariants as fault
-use Rattle.dss_model.specs.Answers.{◌>>=◌, or_fault}
-use Rattle.dss_values.specs.Forms.{name_in, line_name_in, known, known_name_in, known_line_name_in}
-use Rattle.dss_model.specs.Names.{bytes, lower, named}
-use Rattle.dss_model.specs.declared.command.Place.{Place}
-use Rattle.dss_model.specs.declared.element.Element.{Element}
-use Rattle.dss_model.specs.declared.element.Element.TheVariants as the
-use Rattle.dss_model.specs.declared.names.Class.{Class}
-use Rattle.dss_model.specs.declared.names.Class.TheVariants as class
-use Rattle.dss_model.specs.declared.names.ElementName.{ElementName}
-use Rattle.dss_model.specs.declared.linecode.Linecode.{Linecode}
-use Rattle.dss_model.specs.declared.line.Line.{Line}
+use Rattle.dss_circuit.specs.dss_lexer.declared.pair.Pair.{Pair}
+use Rattle.dss_circuit.specs.dss_lexer.Texts.{is_empty}
+use Rattle.dss_circuit.specs.dss_model.declared.fault.ModelFault.{ModelFault}
+use Rattle.dss_circuit.specs.dss_model.declared.fault.ModelFault.TheVariants as fault
+use Rattle.dss_circuit.specs.dss_model.Answers.{◌>>=◌, or_fault}
+use Rattle.dss_profile.specs.dss_values.Forms.{name_in, line_name_in, known, known_name_in, known_line_name_in}
+use Rattle.dss_circuit.specs.dss_model.Names.{bytes, lower, named}
+use Rattle.dss_circuit.specs.dss_model.declared.command.Place.{Place}
+use Rattle.dss_circuit.specs.dss_model.declared.element.Element.{Element}
+use Rattle.dss_circuit.specs.dss_model.declared.element.Element.TheVariants as the
+use Rattle.dss_circuit.specs.dss_model.declared.names.Class.{Class}
+use Rattle.dss_circuit.specs.dss_model.declared.names.Class.TheVariants as class
+use Rattle.dss_circuit.specs.dss_model.declared.names.ElementName.{ElementName}
+use Rattle.dss_circuit.specs.dss_model.declared.linecode.Linecode.{Linecode}
+use Rattle.dss_circuit.specs.dss_model.declared.line.Line.{Line}
 use Rattle.dss_profile.specs.declared.line.LineProperty.{LineProperty}
 use Rattle.dss_profile.specs.declared.line.LineProperty.TheVariants as of_line
-use Rattle.dss_model.specs.declared.load.Load.{Load}
+use Rattle.dss_circuit.specs.dss_model.declared.load.Load.{Load}
 use Rattle.dss_profile.specs.declared.load.LoadProperty.{LoadProperty}
 use Rattle.dss_profile.specs.declared.load.LoadProperty.TheVariants as of_load
-use Rattle.dss_model.specs.declared.regcontrol.RegControl.{RegControl}
+use Rattle.dss_circuit.specs.dss_model.declared.regcontrol.RegControl.{RegControl}
 use Rattle.dss_profile.specs.declared.regcontrol.RegControlProperty.{RegControlProperty}
 use Rattle.dss_profile.specs.declared.regcontrol.RegControlProperty.TheVariants as of_regcontrol
-use Rattle.dss_model.specs.declared.capcontrol.CapControl.{CapControl}
+use Rattle.dss_circuit.specs.dss_model.declared.capcontrol.CapControl.{CapControl}
 use Rattle.dss_profile.specs.declared.capcontrol.CapControlProperty.{CapControlProperty}
 use Rattle.dss_profile.specs.declared.capcontrol.CapControlProperty.TheVariants as of_capcontrol
-use Rattle.dss_model.specs.Element.{class_of, fresh}
+use Rattle.dss_circuit.specs.dss_model.Element.{class_of, fresh}
 use Rattle.dss_profile.specs.Element.{code_found, reference, reference_to, references, named_in, with_named, with_pair}
-use Rattle.dss_model.specs.SameElement.{same_element}
+use Rattle.dss_circuit.specs.dss_model.SameElement.{same_element}
 use Rattle.dss_profile.specs.Line.{line_properties, switched, with_code, with_line}
 use Rattle.dss_profile.specs.Load.{load_properties, with_load}
 use Rattle.dss_profile.specs.RegControl.{regcontrol_properties, with_regcontrol}

@@ -1,12 +1,12 @@
 -- The pairs of an element keep its class, and the elements that it names in the circuit.
 use Rattle.std.proofs.Common.{◌≡◌, ℕ, List, [], ◌∷◌, Result, Ok, Err, OnOk, sym, ap, subst, ◌∙◌}
 use Rattle.std.proofs.lemmas.Result.{IfOk-at_ok}
-use Rattle.dss_lexer.specs.declared.pair.Pair.{Pair}
-use Rattle.dss_model.specs.declared.element.Element.{Element}
-use Rattle.dss_model.specs.declared.names.Class.{Class}
-use Rattle.dss_model.specs.declared.fault.ModelError.{ModelError}
-use Rattle.dss_model.specs.Answers.{◌>>=◌, Makes}
-use Rattle.dss_model.specs.Element.{class_of}
+use Rattle.dss_circuit.specs.dss_lexer.declared.pair.Pair.{Pair}
+use Rattle.dss_circuit.specs.dss_model.declared.element.Element.{Element}
+use Rattle.dss_circuit.specs.dss_model.declared.names.Class.{Class}
+use Rattle.dss_circuit.specs.dss_model.declared.fault.ModelError.{ModelError}
+use Rattle.dss_circuit.specs.dss_model.Answers.{◌>>=◌, Makes}
+use Rattle.dss_circuit.specs.dss_model.Element.{class_of}
 use Rattle.dss_profile.specs.Element.{with_pair}
 use Rattle.dss_profile.proofs.CallerLemmas.{class_kept}
 use Rattle.dss_circuit.specs.Circuit.{Elements}

@@ -1,11 +1,11 @@
 -- A step that follows an answer, and an element that is looked up.
 use Rattle.std.proofs.Common.{◌≡◌, ◌∙◌, Some, Result, Ok, Err, refl, ap}
 use Rattle.std.specs.Map.{lookup}
-use Rattle.dss_model.specs.declared.fault.ModelFault.{ModelFault}
-use Rattle.dss_model.specs.declared.element.Element.{Element}
-use Rattle.dss_model.specs.declared.names.ElementName.{ElementName}
-use Rattle.dss_model.specs.Answers.{◌>>=◌}
-use Rattle.dss_model.specs.SameElement.{same_element}
+use Rattle.dss_circuit.specs.dss_model.declared.fault.ModelFault.{ModelFault}
+use Rattle.dss_circuit.specs.dss_model.declared.element.Element.{Element}
+use Rattle.dss_circuit.specs.dss_model.declared.names.ElementName.{ElementName}
+use Rattle.dss_circuit.specs.dss_model.Answers.{◌>>=◌}
+use Rattle.dss_circuit.specs.dss_model.SameElement.{same_element}
 use Rattle.dss_circuit.specs.Circuit.{Elements}
 
 pub record Through {A B : Type 0} (r : Result A ModelFault) (f : A → Result B ModelFault) (b : B) : Type 0 where

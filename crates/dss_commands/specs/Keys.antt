@@ -1,13 +1,13 @@
 -- The element that a command is about.
 use Rattle.std.specs.Prelude.{ℕ, Bool, List, codes, nat_eq, Result, Ok, Err, if◌then◌else◌}
 use Rattle.std.specs.Cmp.Lexicographic.{pointwise}
-use Rattle.dss_lexer.specs.Texts.{is_empty}
-use Rattle.dss_model.specs.declared.fault.ModelFault.{ModelFault}
-use Rattle.dss_model.specs.declared.fault.ModelFault.TheVariants as fault
-use Rattle.dss_model.specs.Answers.{◌>>=◌, or_fault}
-use Rattle.dss_model.specs.Names.{bytes, lower, named, is_name}
-use Rattle.dss_model.specs.declared.names.ElementName.{ElementName}
-use Rattle.dss_model.specs.Classes.{classes}
+use Rattle.dss_circuit.specs.dss_lexer.Texts.{is_empty}
+use Rattle.dss_circuit.specs.dss_model.declared.fault.ModelFault.{ModelFault}
+use Rattle.dss_circuit.specs.dss_model.declared.fault.ModelFault.TheVariants as fault
+use Rattle.dss_circuit.specs.dss_model.Answers.{◌>>=◌, or_fault}
+use Rattle.dss_circuit.specs.dss_model.Names.{bytes, lower, named, is_name}
+use Rattle.dss_circuit.specs.dss_model.declared.names.ElementName.{ElementName}
+use Rattle.dss_circuit.specs.dss_model.Classes.{classes}
 use Rattle.dss_circuit.specs.Circuit.{source_name}
 
 -- an element is written as a class and a name of allowed characters

@@ -1,6 +1,6 @@
 -- What every circuit is that commands make.
 use Rattle.std.specs.Prelude.{◌≡◌, ◌+◌, ◌<◌, ◌≤◌, length, Ok}
-use Rattle.dss_model.specs.declared.command.Command.{Command}
+use Rattle.dss_circuit.specs.dss_model.declared.command.Command.{Command}
 use Rattle.dss_circuit.specs.Circuit.{CircuitView}
 use Rattle.dss_circuit.specs.InRange.{IsWithinLimits}
 use Rattle.dss_circuit.specs.Limits.{most_elements}

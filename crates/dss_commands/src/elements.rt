@@ -1,18 +1,19 @@
 // Elements made and edited.
 ghost use Rattle.std.specs.Prelude.{◌≡◌, ◌<◌, false, length, IfOk, IfSome, OnOk, option_copied};
-ghost use Rattle.dss_model.specs.Answers.{Gives, Makes};
-ghost use Rattle.dss_model.specs.Changes.{Becomes};
-ghost use Rattle.dss_model.specs.Element.{class_of};
-ghost use Rattle.dss_model.specs.InRange.{ElementInRange};
+ghost use Rattle.dss_circuit.specs.dss_model.Answers.{Gives, Makes};
+ghost use Rattle.dss_circuit.specs.dss_model.Changes.{Becomes};
+ghost use Rattle.dss_circuit.specs.dss_model.Element.{class_of};
+ghost use Rattle.dss_circuit.specs.dss_model.InRange.{ElementInRange};
 ghost use Rattle.dss_circuit.specs.Circuit.{has_circuit, source_name};
 ghost use Rattle.dss_circuit.specs.InRange.{AllInRange};
 ghost use Rattle.dss_circuit.specs.Limits.{most_elements};
 ghost use Rattle.dss_circuit.specs.WellFormed.{IsKey, NamesAreThere};
 ghost use Rattle.dss_commands.specs.Commands.{referred, with_pairs, put, make, edit};
 
-use dss_circuit::{Circuit, Elements, find_element};
-use dss_lexer::Pair;
-use dss_model::{Class, Element, ElementName, ModelError, ModelFault, Place};
+use dss_circuit::{
+    Circuit, Class, Element, ElementName, Elements, ModelError, ModelFault, Pair, Place,
+    find_element,
+};
 use dss_profile::{referred_element, set_pair};
 use std::alloc::{AllocError, Global};
 

@@ -1,14 +1,13 @@
 // One command.
 ghost use Rattle.std.specs.Prelude.{◌<◌, ◌^◌, ◌-◌, length};
-ghost use Rattle.dss_model.specs.Changes.{Becomes};
+ghost use Rattle.dss_circuit.specs.dss_model.Changes.{Becomes};
 ghost use Rattle.dss_circuit.specs.Limits.{most_elements};
 ghost use Rattle.dss_commands.specs.Commands.{applied};
 
 use crate::elements::{edit_element, is_begun, make_element};
 use crate::keys::{check_circuit, key_to_edit, key_to_make};
 use crate::options::{set, solve};
-use dss_circuit::Circuit;
-use dss_model::{Command, ModelError, Verb};
+use dss_circuit::{Circuit, Command, ModelError, Verb};
 use std::alloc::Global;
 
 /// Does one command: it is one step of the fold. After a refusal the circuit is as before, and the refusal is the

@@ -1,12 +1,11 @@
 // The element that a command is about.
 ghost use Rattle.std.specs.Prelude.{◌≡◌, IfOk, codes, nat_eq};
 ghost use Rattle.std.specs.Cmp.Lexicographic.{pointwise};
-ghost use Rattle.dss_model.specs.Answers.{Gives};
+ghost use Rattle.dss_circuit.specs.dss_model.Answers.{Gives};
 ghost use Rattle.dss_circuit.specs.Circuit.{source_name};
 ghost use Rattle.dss_commands.specs.Keys.{written, needed, element_key, edit_key, made_key, new_key};
 
-use dss_lexer::Text;
-use dss_model::{Class, ElementName, ModelError, ModelFault, class_named, is_legal_name};
+use dss_circuit::{Class, ElementName, ModelError, ModelFault, Text, class_named, is_legal_name};
 use std::alloc::{AllocError, Global};
 
 // The source that New Circuit makes.

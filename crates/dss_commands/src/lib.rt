@@ -18,3 +18,9 @@ mod options;
 
 pub use fold::apply;
 pub use laws::limits_law;
+
+// Handed on from the crates below.
+pub use dss_circuit::{
+    Blame, Circuit, Class, Command, ControlQuantity, Element, ElementName, ModelError, Place, Text,
+    Verb,
+};

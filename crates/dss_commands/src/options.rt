@@ -1,13 +1,11 @@
 // Options set, and Solves counted.
 ghost use Rattle.std.specs.Prelude.{◌<◌, ◌^◌, ◌-◌};
-ghost use Rattle.dss_model.specs.Changes.{Becomes};
+ghost use Rattle.dss_circuit.specs.dss_model.Changes.{Becomes};
 ghost use Rattle.dss_commands.specs.Commands.{set, solve};
 
 use crate::elements::is_begun;
 use crate::keys::check_circuit;
-use dss_circuit::Circuit;
-use dss_lexer::Pair;
-use dss_model::ModelError;
+use dss_circuit::{Circuit, ModelError, Pair};
 use dss_profile::with_options;
 use std::alloc::Global;
 

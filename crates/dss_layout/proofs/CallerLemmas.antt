@@ -2,7 +2,7 @@
 use Rattle.std.proofs.Common.{◌≡◌, ℕ, suc, ◌+◌, ◌≤◌, nat_lt, false, [], ◌∷◌, length, None, refl, sym, ap, ◌∙◌, arith}
 use Rattle.std.proofs.lemmas.Bool.{or_parts, ltb-false}
 use Rattle.std.proofs.lemmas.List.{take_all}
-use Rattle.fd_exact.specs.FirstLaws.{none_holds}
+use Rattle.dss_model.specs.fd_exact.FirstLaws.{none_holds}
 use Rattle.dss_model.specs.declared.element.Element.{Element}
 use Rattle.dss_layout.specs.Limits.{most_complex, most_magnitudes}
 use Rattle.dss_layout.specs.Layout.{Elements, complex_count, layout_of, first_too_many, is_past_limit_at, passes_limit, sums_before}

@@ -5,7 +5,7 @@ use Rattle.std.proofs.lemmas.Option.{slice_get_within, get_or_from_slice_get}
 use Rattle.std.proofs.lemmas.List.Sums.{prefix_len-le-length}
 use Rattle.std.proofs.lemmas.List.{take_all}
 use borrow.Author.Count.{below_more}
-use Rattle.fd_exact.specs.FirstLaws.{first_none, first_some}
+use Rattle.dss_model.specs.fd_exact.FirstLaws.{first_none, first_some}
 use Rattle.std.proofs.lemmas.Grind.{common_steps}
 use Rattle.std.specs.List.{position_or_len}
 use Rattle.dss_model.specs.declared.element.Element.{Element}

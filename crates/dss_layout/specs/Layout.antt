@@ -6,9 +6,9 @@ use Rattle.dss_model.specs.declared.element.Element.TheVariants as the
 use Rattle.dss_model.specs.declared.names.ElementName.{ElementName}
 use Rattle.dss_layout.specs.declared.nodes.NodeName.{NodeName}
 use Rattle.dss_layout.specs.declared.nodes.PhaseName.{PhaseName}
-use Rattle.fd_exact.specs.First.{first_place}
-use Rattle.fd_exact.specs.Answers as answers
-use Rattle.fd_arith.specs.declared.terms.Ends.{Ends}
+use Rattle.dss_model.specs.fd_exact.First.{first_place}
+use Rattle.dss_model.specs.fd_exact.Answers as answers
+use Rattle.dss_model.specs.fd_arith.declared.terms.Ends.{Ends}
 use Rattle.dss_model.specs.LoadKinds.{has_magnitude}
 use Rattle.dss_layout.specs.declared.limits.LayoutFault.{LayoutFault}
 use Rattle.dss_layout.specs.declared.limits.LayoutFault.TheVariants.{TooMany, NoMemory}

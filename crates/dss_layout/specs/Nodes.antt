@@ -1,10 +1,10 @@
 -- Nodes of buses, by name.
 use Rattle.std.specs.Prelude.{ℕ, ◌==◌, Bool, not, ◌&&◌, List, [], ◌∷◌, ◌++◌, if◌then◌else◌}
 use Rattle.std.specs.List.{list_any, position_or_len}
-use Rattle.dss_lexer.specs.Texts.{text_eq}
+use Rattle.dss_model.specs.dss_lexer.Texts.{text_eq}
 use Rattle.dss_layout.specs.declared.nodes.NodeName.{NodeName}
-use Rattle.fd_arith.specs.declared.terms.NodeAt.{NodeAt}
-use Rattle.fd_arith.specs.declared.terms.NodeAt.TheVariants.{Ground, Node}
+use Rattle.dss_model.specs.fd_arith.declared.terms.NodeAt.{NodeAt}
+use Rattle.dss_model.specs.fd_arith.declared.terms.NodeAt.TheVariants.{Ground, Node}
 
 -- the same number at the same bus
 abbrev pub same_node : NodeName → NodeName → Bool

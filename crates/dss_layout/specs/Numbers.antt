@@ -1,6 +1,6 @@
 -- The node numbers of a bus as the code holds them.
 use Rattle.std.specs.Prelude.{ℕ, List, [], Some, Result, Ok, Err}
-use Rattle.fd_exact.specs.Answers as answers
+use Rattle.dss_model.specs.fd_exact.Answers as answers
 use Rattle.dss_layout.specs.declared.numbers.PhaseNumbers.{PhaseNumbers}
 use Rattle.dss_layout.specs.declared.numbers.PhaseNumbers.TheVariants.{Zero, One, Two, Three}
 use Rattle.dss_layout.specs.declared.numbers.TerminalFault.{TerminalFault}

@@ -7,8 +7,7 @@ ghost use Rattle.dss_layout.specs.Layout.{LaysOut, laid_out, size_of, ends_of, f
 use crate::terminals::terminal_nodes;
 use crate::unknowns::{Unknowns, branches_of};
 use crate::{LayoutFault, NodeName, NodeNames, PhaseName};
-use dss_model::{Element, ElementName};
-use fd_arith::{Ends, NodeAt, Nodes};
+use dss_model::{Element, ElementName, Ends, NodeAt, NodesAt};
 use indexmap::IndexMap;
 use std::alloc::{AllocError, Global};
 use std::marker::Model;
@@ -103,14 +102,14 @@ impl Layout {
         }
     }
 
-    fn nodes_at(&self, alloc: Global, names: &NodeNames) -> Result<Nodes, AllocError>
+    fn nodes_at(&self, alloc: Global, names: &NodeNames) -> Result<NodesAt, AllocError>
         ensures { IfOk result (λ nodes. nodes ≡ map (node_at self.now.nodes) names.now) }
     {
         let mut nodes = Vec::new(alloc);
         for name in names.as_slice() {
             nodes.push(self.node_at(name))?;
         }
-        Ok(Nodes::new(nodes))
+        Ok(NodesAt::new(nodes))
     }
 
     /// The complex unknown of the first branch phase of an element, which stands at this place in order; 0 for an

@@ -26,3 +26,10 @@ pub use names::{element_text, node_text};
 pub use nodes::{NodeName, NodeNames, PhaseName};
 pub use numbers::{PhaseNumbers, TerminalFault, bus_at, line_bus_at, source_at};
 pub use terminals::{Terminals, check_terminals, terminal_nodes};
+
+// Handed on from the crates below.
+pub use dss_model::{
+    BankState, Blame, Bus, Capacitor, Class, Element, ElementName, Ends, FEMTO_PER_ONE, Items,
+    Line, Load, LoadKind, LoadModel, Loadshape, Mode, NodeAt, NodesAt, Options, ROOT_THREE,
+    TapPair, Term, TermFault, Text, Transformer, Vsource, Winding,
+};

@@ -6,8 +6,7 @@ ghost use Rattle.dss_layout.specs.Layout.{size_of, complex_count};
 ghost use Rattle.dss_layout.specs.UnknownNames.{part_word, node_text, element_text, phase_text, complex_name, unknown_name};
 
 use crate::{Layout, NodeName, PhaseName};
-use dss_lexer::Text;
-use dss_model::ElementName;
+use dss_model::{ElementName, Text};
 use itoa::Buffer;
 use std::alloc::{AllocError, Global};
 

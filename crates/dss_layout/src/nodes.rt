@@ -1,7 +1,5 @@
 // Names of nodes and of phases.
-use dss_lexer::Text;
-use dss_model::ElementName;
-use fd_items::Items;
+use dss_model::{ElementName, Items, Text};
 
 /// A node: a bus in lower case, and a number at it from 0 to 9. Number 0 is ground.
 #[derive(Drop, Clone, PartialEq, Eq, Hash)]

@@ -12,6 +12,7 @@ use Rattle.dss_model.specs.contracts.names.ElementNamePartialEq.TheImpl.{eq-valu
 use Rattle.dss_model.specs.SameElement.{class_number, same_element, SameElementIsEqual}
 use Rattle.dss_model.specs.declared.command.Place.{Place}
 use Rattle.dss_model.specs.Element.{class_of, fresh}
+pub use Rattle.dss_lexer.proofs.CallerLemmas as dss_lexer
 
 numbered : (a : Class) → tag_of the_type a ≡ class_number a
 numbered the.Vsource = refl

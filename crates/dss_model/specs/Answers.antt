@@ -7,9 +7,9 @@ use Rattle.dss_lexer.specs.declared.fault.NumberFault.{NumberFault}
 use Rattle.dss_lexer.specs.declared.fault.LexError.{LexError}
 use Rattle.dss_lexer.specs.declared.fault.LexError.TheVariants as lex
 use Rattle.dss_model.specs.Causes.{cause_of}
-use Rattle.fd_exact.specs.Answers as answers
-pub use Rattle.fd_exact.specs.Answers.{or_fault, each}
-pub use Rattle.fd_exact.specs.Results.{◌>>=◌}
+use Rattle.fd_arith.specs.fd_exact.Answers as answers
+pub use Rattle.fd_arith.specs.fd_exact.Answers.{or_fault, each}
+pub use Rattle.fd_arith.specs.fd_exact.Results.{◌>>=◌}
 
 -- the fault of an error, unless memory ran out
 abbrev pub fault_of : ModelError → Option ModelFault

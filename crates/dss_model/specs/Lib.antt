@@ -10,3 +10,6 @@ pub mod Element
 pub mod InRange
 pub mod Sound
 pub mod LoadKinds
+pub use Rattle.fd_arith.specs.fd_exact as fd_exact
+pub use Rattle.fd_arith.specs as fd_arith
+pub use Rattle.dss_lexer.specs as dss_lexer

@@ -1,6 +1,6 @@
 -- Ranges of values, in the units of their fields. A range includes its ends.
 use Rattle.std.specs.Prelude.{◌≡◌, ℕ, ◌*◌, ◌%◌, ◌≤◌, ℤ, pos, neg_ℤ, unsigned_abs, List, [], ◌∷◌, ◌⊎◌}
-pub use Rattle.fd_exact.specs.Ranges.{IsBetween}
+pub use Rattle.fd_arith.specs.fd_exact.Ranges.{IsBetween}
 
 -- so many ones, in whole 10^-9
 abbrev pub ones : ℕ → ℤ

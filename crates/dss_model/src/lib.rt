@@ -59,3 +59,13 @@ pub use words::{
     BankState, Connection, ControlMode, ControlQuantity, DataForm, LeadLag, Mode, ReactiveRule,
     SourceForm, StepSize, Units,
 };
+
+// Handed on from the crates below.
+pub use dss_lexer::{
+    LineError, LineFault, NumberError, NumberFault, Pair, PairList, Row, Text, cells,
+    characters_of, matrix, number, postfix,
+};
+pub use fd_arith::{
+    Conn, Ends, FEMTO_PER_ONE, Interval, Items, LoadModel, Micro, NodeAt, NodesAt, ROOT_THREE,
+    TapPair, Term, TermFault, is_source_above_limit, isqrt, near_quotient,
+};

@@ -1,5 +1,5 @@
 // Numbers of a script, and lists of them, which contracts see as lists.
-use fd_items::Items;
+use fd_arith::Items;
 
 /// The units of a script number in one.
 pub const ONE: i128 = 1_000_000_000;

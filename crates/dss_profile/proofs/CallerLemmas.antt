@@ -1,16 +1,16 @@
 -- What a caller needs to know of the answers that a pair's steps give.
 use Rattle.std.proofs.Common.{◌≡◌, ℕ, Bool, true, false, List, Option, is_some, Ok, Err, IfOk, if◌then◌else◌, refl}
 use Rattle.std.proofs.lemmas.Result.{IfOk-at_ok}
-use Rattle.dss_lexer.specs.Texts.{is_empty, text_eq}
-use Rattle.dss_model.specs.declared.names.Class.{Class}
-use Rattle.dss_model.specs.declared.names.Class.TheVariants as the
-use Rattle.dss_lexer.specs.declared.pair.Pair.{Pair}
-use Rattle.dss_model.specs.declared.fault.ModelFault.TheVariants as fault
-use Rattle.dss_model.specs.Names.{bytes, lower}
-use Rattle.dss_model.specs.declared.command.Place.{Place}
-use Rattle.dss_model.specs.declared.element.Element.{Element}
-use Rattle.dss_model.specs.declared.element.Element.TheVariants as the_element
-use Rattle.dss_model.specs.Element.{class_of, fresh}
+use Rattle.dss_values.specs.dss_lexer.Texts.{is_empty, text_eq}
+use Rattle.dss_values.specs.dss_model.declared.names.Class.{Class}
+use Rattle.dss_values.specs.dss_model.declared.names.Class.TheVariants as the
+use Rattle.dss_values.specs.dss_lexer.declared.pair.Pair.{Pair}
+use Rattle.dss_values.specs.dss_model.declared.fault.ModelFault.TheVariants as fault
+use Rattle.dss_values.specs.dss_model.Names.{bytes, lower}
+use Rattle.dss_values.specs.dss_model.declared.command.Place.{Place}
+use Rattle.dss_values.specs.dss_model.declared.element.Element.{Element}
+use Rattle.dss_values.specs.dss_model.declared.element.Element.TheVariants as the_element
+use Rattle.dss_values.specs.dss_model.Element.{class_of, fresh}
 use Rattle.dss_profile.specs.Element.{code_found, with_named, with_pair}
 use Rattle.dss_profile.specs.Vsource.{with_vsource}
 use Rattle.dss_profile.specs.Linecode.{with_linecode}

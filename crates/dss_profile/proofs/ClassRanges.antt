@@ -2,47 +2,47 @@
 use Rattle.std.proofs.Common.{◌≡◌, ℕ, ◌==◌, ◌≤◌, ℤ, pos, Bool, true, false, List, [], ◌∷◌, All, Option, Some, None, IfSome, Result, Ok, if◌then◌else◌, IfOk, refl, arith}
 use Rattle.std.proofs.lemmas.Int.{ints}
 use Rattle.std.proofs.lemmas.Result.{IfOk-weaker}
-use Rattle.dss_lexer.specs.declared.pair.Pair.{Pair}
-use Rattle.dss_model.specs.declared.fault.ModelFault.{ModelFault}
-use Rattle.dss_model.specs.Answers.{◌>>=◌}
-use Rattle.dss_model.specs.Ranges.{ones, IsBetween, IsRating, IsImpedance, IsImpedanceEntry, IsCapacitance, IsCapacitanceEntry}
+use Rattle.dss_values.specs.dss_lexer.declared.pair.Pair.{Pair}
+use Rattle.dss_values.specs.dss_model.declared.fault.ModelFault.{ModelFault}
+use Rattle.dss_values.specs.dss_model.Answers.{◌>>=◌}
+use Rattle.dss_values.specs.dss_model.Ranges.{ones, IsBetween, IsRating, IsImpedance, IsImpedanceEntry, IsCapacitance, IsCapacitanceEntry}
 use Rattle.dss_values.specs.Forms.{half, name_in, whole_between, supported_among}
-use Rattle.dss_model.specs.declared.vsource.Vsource.{Vsource}
+use Rattle.dss_values.specs.dss_model.declared.vsource.Vsource.{Vsource}
 use Rattle.dss_profile.specs.declared.vsource.VsourceProperty.{VsourceProperty}
 use Rattle.dss_profile.specs.declared.vsource.VsourceProperty.TheVariants as of_source
-use Rattle.dss_model.specs.declared.line_constants.LineConstants.{LineConstants}
+use Rattle.dss_values.specs.dss_model.declared.line_constants.LineConstants.{LineConstants}
 use Rattle.dss_profile.specs.declared.line_constants.DataProperty.{DataProperty}
 use Rattle.dss_profile.specs.declared.line_constants.DataProperty.TheVariants as of_data
-use Rattle.dss_model.specs.declared.linecode.Linecode.{Linecode}
+use Rattle.dss_values.specs.dss_model.declared.linecode.Linecode.{Linecode}
 use Rattle.dss_profile.specs.declared.linecode.LinecodeProperty.{LinecodeProperty}
 use Rattle.dss_profile.specs.declared.linecode.LinecodeProperty.TheVariants as of_code
-use Rattle.dss_model.specs.declared.line.Line.{Line}
+use Rattle.dss_values.specs.dss_model.declared.line.Line.{Line}
 use Rattle.dss_profile.specs.declared.line.LineProperty.{LineProperty}
 use Rattle.dss_profile.specs.declared.line.LineProperty.TheVariants as of_line
-use Rattle.dss_model.specs.declared.transformer.Winding.{Winding}
+use Rattle.dss_values.specs.dss_model.declared.transformer.Winding.{Winding}
 use Rattle.dss_profile.specs.declared.transformer.WindingProperty.{WindingProperty}
 use Rattle.dss_profile.specs.declared.transformer.WindingProperty.TheVariants as of_winding
 use Rattle.dss_profile.specs.declared.transformer.BothProperty.{BothProperty}
 use Rattle.dss_profile.specs.declared.transformer.BothProperty.TheVariants as of_both
-use Rattle.dss_model.specs.declared.transformer.Transformer.{Transformer}
+use Rattle.dss_values.specs.dss_model.declared.transformer.Transformer.{Transformer}
 use Rattle.dss_profile.specs.declared.transformer.TransformerProperty.{TransformerProperty}
 use Rattle.dss_profile.specs.declared.transformer.TransformerProperty.TheVariants as of_xfmr
-use Rattle.dss_model.specs.declared.capacitor.Capacitor.{Capacitor}
+use Rattle.dss_values.specs.dss_model.declared.capacitor.Capacitor.{Capacitor}
 use Rattle.dss_profile.specs.declared.capacitor.CapacitorProperty.{CapacitorProperty}
 use Rattle.dss_profile.specs.declared.capacitor.CapacitorProperty.TheVariants as of_bank
-use Rattle.dss_model.specs.declared.load.Load.{Load}
+use Rattle.dss_values.specs.dss_model.declared.load.Load.{Load}
 use Rattle.dss_profile.specs.declared.load.LoadProperty.{LoadProperty}
 use Rattle.dss_profile.specs.declared.load.LoadProperty.TheVariants as of_load
-use Rattle.dss_model.specs.declared.regcontrol.RegControl.{RegControl}
+use Rattle.dss_values.specs.dss_model.declared.regcontrol.RegControl.{RegControl}
 use Rattle.dss_profile.specs.declared.regcontrol.RegControlProperty.{RegControlProperty}
 use Rattle.dss_profile.specs.declared.regcontrol.RegControlProperty.TheVariants as of_regcontrol
-use Rattle.dss_model.specs.declared.capcontrol.CapControl.{CapControl}
+use Rattle.dss_values.specs.dss_model.declared.capcontrol.CapControl.{CapControl}
 use Rattle.dss_profile.specs.declared.capcontrol.CapControlProperty.{CapControlProperty}
 use Rattle.dss_profile.specs.declared.capcontrol.CapControlProperty.TheVariants as of_capcontrol
-use Rattle.dss_model.specs.declared.loadshape.Loadshape.{Loadshape}
+use Rattle.dss_values.specs.dss_model.declared.loadshape.Loadshape.{Loadshape}
 use Rattle.dss_profile.specs.declared.loadshape.LoadshapeProperty.{LoadshapeProperty}
 use Rattle.dss_profile.specs.declared.loadshape.LoadshapeProperty.TheVariants as of_shape
-use Rattle.dss_model.specs.InRange.{VsourceInRange, LineConstantsInRange, LinecodeInRange, LineInRange, WindingInRange, TransformerInRange, CapacitorInRange, LoadInRange, RegControlInRange, CapControlInRange, LoadshapeInRange}
+use Rattle.dss_values.specs.dss_model.InRange.{VsourceInRange, LineConstantsInRange, LinecodeInRange, LineInRange, WindingInRange, TransformerInRange, CapacitorInRange, LoadInRange, RegControlInRange, CapControlInRange, LoadshapeInRange}
 use Rattle.dss_profile.specs.Vsource.{with_vsource}
 use Rattle.dss_profile.specs.LineConstants.{impedance_matrix_in, capacitance_matrix_in, with_constant, with_switch}
 use Rattle.dss_profile.specs.Linecode.{with_linecode}

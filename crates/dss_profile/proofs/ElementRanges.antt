@@ -1,24 +1,24 @@
 -- Pairs keep the values of elements and options in range.
 use Rattle.std.proofs.Common.{◌≡◌, ℕ, ◌≤◌, Bool, true, false, if◌then◌else◌, List, [], ◌∷◌, Option, Some, None, is_some, IfSome, Result, Ok, Err, IfOk, OnOk, refl}
 use Rattle.std.proofs.lemmas.Result.{IfOk-at_ok, IfOk-weaker}
-use Rattle.dss_lexer.specs.Texts.{is_empty}
-use Rattle.dss_lexer.specs.declared.pair.Pair.{Pair}
-use Rattle.dss_model.specs.declared.fault.ModelError.{ModelError}
-use Rattle.dss_model.specs.declared.fault.ModelFault.{ModelFault}
-use Rattle.dss_model.specs.declared.fault.ModelFault.TheVariants as fault
-use Rattle.dss_model.specs.Names.{bytes, lower}
-use Rattle.dss_model.specs.Answers.{Makes}
+use Rattle.dss_values.specs.dss_lexer.Texts.{is_empty}
+use Rattle.dss_values.specs.dss_lexer.declared.pair.Pair.{Pair}
+use Rattle.dss_values.specs.dss_model.declared.fault.ModelError.{ModelError}
+use Rattle.dss_values.specs.dss_model.declared.fault.ModelFault.{ModelFault}
+use Rattle.dss_values.specs.dss_model.declared.fault.ModelFault.TheVariants as fault
+use Rattle.dss_values.specs.dss_model.Names.{bytes, lower}
+use Rattle.dss_values.specs.dss_model.Answers.{Makes}
 use Rattle.dss_values.specs.Forms.{whole_between}
-use Rattle.dss_model.specs.declared.element.Element.{Element}
-use Rattle.dss_model.specs.declared.element.Element.TheVariants as the
-use Rattle.dss_model.specs.declared.options.Options.{Options}
+use Rattle.dss_values.specs.dss_model.declared.element.Element.{Element}
+use Rattle.dss_values.specs.dss_model.declared.element.Element.TheVariants as the
+use Rattle.dss_values.specs.dss_model.declared.options.Options.{Options}
 use Rattle.dss_profile.specs.declared.options.OptionName.{OptionName}
 use Rattle.dss_profile.specs.declared.options.OptionName.TheVariants as option
-use Rattle.dss_model.specs.declared.words.Mode.{Mode}
-use Rattle.dss_model.specs.declared.words.Mode.TheVariants as mode
-use Rattle.dss_model.specs.Changes.{Becomes}
-use Rattle.dss_model.specs.InRange.{LinecodeInRange, ElementInRange, OptionsInRange}
-use Rattle.dss_model.specs.Ranges.{IsCountBetween}
+use Rattle.dss_values.specs.dss_model.declared.words.Mode.{Mode}
+use Rattle.dss_values.specs.dss_model.declared.words.Mode.TheVariants as mode
+use Rattle.dss_values.specs.dss_model.Changes.{Becomes}
+use Rattle.dss_values.specs.dss_model.InRange.{LinecodeInRange, ElementInRange, OptionsInRange}
+use Rattle.dss_values.specs.dss_model.Ranges.{IsCountBetween}
 use Rattle.dss_profile.specs.Element.{code_found, with_named, with_pair}
 use Rattle.dss_profile.specs.Options.{in_mode, with_option, with_named_option, with_options}
 use Rattle.dss_profile.proofs.FormRanges.{count_by_test, then_ok, any_ok, made_ok, kept_ok, number_ok, whole_ok, numbers_ok, supported_ok}

@@ -7,17 +7,17 @@ use Rattle.std.specs.Char.{is_ascii_digit}
 use Rattle.std.proofs.lemmas.List.Elements.{All-nil, All-cons, All-head, All-tail, All-append, All-push}
 use Rattle.std.specs.List.{list_all, slice_split}
 use Rattle.std.specs.Ordering.{int_eq}
-use Rattle.dss_lexer.specs.declared.pair.Pair.{Pair}
-use Rattle.dss_lexer.specs.Arrays.{matrix_of}
-use Rattle.dss_model.specs.declared.fault.ModelFault.{ModelFault}
-use Rattle.dss_model.specs.Answers.{◌>>=◌, or_fault, each}
-use Rattle.dss_model.specs.Causes.{from_lexer}
-use Rattle.dss_model.specs.declared.fault.ModelFault.TheVariants as fault
-use Rattle.dss_model.specs.Names.{is_name, lower}
-use Rattle.dss_model.specs.Ranges.{ones, IsBetween, IsCountBetween, IsOneOf, IsAngle, IsRatio, IsPowerFactor, IsTap, IsTime, IsPhaseNumber, IsShare}
+use Rattle.dss_values.specs.dss_lexer.declared.pair.Pair.{Pair}
+use Rattle.dss_values.specs.dss_lexer.Arrays.{matrix_of}
+use Rattle.dss_values.specs.dss_model.declared.fault.ModelFault.{ModelFault}
+use Rattle.dss_values.specs.dss_model.Answers.{◌>>=◌, or_fault, each}
+use Rattle.dss_values.specs.dss_model.Causes.{from_lexer}
+use Rattle.dss_values.specs.dss_model.declared.fault.ModelFault.TheVariants as fault
+use Rattle.dss_values.specs.dss_model.Names.{is_name, lower}
+use Rattle.dss_values.specs.dss_model.Ranges.{ones, IsBetween, IsCountBetween, IsOneOf, IsAngle, IsRatio, IsPowerFactor, IsTap, IsTime, IsPhaseNumber, IsShare}
 use Rattle.dss_values.specs.Forms.{number_in, numbers_in, is_within, within, number_between, has_power_factor, power_factor_in, whole_in, count_of, whole_between, one_of, whole_among, supported_among, nearest_count, tap_of, tap_in, milliseconds_in, ratio_in, half, has_angle, angle_in, phase_in, all_within, numbers_between, two, two_numbers_between, two_taps_in, word_in, is_point, node_of, bus_of_parts, bus_of, bus_in, cells_in, bus_of_cell, two_buses_in, shares_of, shares_within, shares_in}
 use Rattle.dss_values.specs.Matrices.{cell, mirrored, first_of, row_by_row, joined, symmetric, is_square, is_triangle_from, whole_matrix, rows_within, matrix_between}
-use Rattle.dss_model.specs.InRange.{BusInRange, ZipSharesInRange}
+use Rattle.dss_values.specs.dss_model.InRange.{BusInRange, ZipSharesInRange}
 
 -- ---- steps
 

@@ -1,15 +1,15 @@
 -- The properties of a CapControl: the form and range of each, and the field that it sets.
 use Rattle.std.specs.Prelude.{ℕ, Bool, List, [], ◌∷◌, codes, pos, neg_ℤ, Some, None, Result, Ok}
-use Rattle.dss_lexer.specs.declared.pair.Pair.{Pair}
-use Rattle.dss_model.specs.declared.fault.ModelFault.{ModelFault}
-use Rattle.dss_model.specs.declared.command.Place.{Place}
-use Rattle.dss_model.specs.declared.capcontrol.CapControl.{CapControl}
+use Rattle.dss_values.specs.dss_lexer.declared.pair.Pair.{Pair}
+use Rattle.dss_values.specs.dss_model.declared.fault.ModelFault.{ModelFault}
+use Rattle.dss_values.specs.dss_model.declared.command.Place.{Place}
+use Rattle.dss_values.specs.dss_model.declared.capcontrol.CapControl.{CapControl}
 use Rattle.dss_profile.specs.declared.capcontrol.CapControlProperty.{CapControlProperty}
 use Rattle.dss_profile.specs.declared.capcontrol.CapControlProperty.TheVariants as the
-use Rattle.dss_model.specs.declared.words.ControlQuantity.TheVariants as quantity
-use Rattle.dss_model.specs.Answers.{◌>>=◌}
-use Rattle.dss_model.specs.declared.fault.ModelFault.TheVariants as fault
-use Rattle.dss_model.specs.Ranges.{ones}
+use Rattle.dss_values.specs.dss_model.declared.words.ControlQuantity.TheVariants as quantity
+use Rattle.dss_values.specs.dss_model.Answers.{◌>>=◌}
+use Rattle.dss_values.specs.dss_model.declared.fault.ModelFault.TheVariants as fault
+use Rattle.dss_values.specs.dss_model.Ranges.{ones}
 use Rattle.dss_values.specs.Forms.{number_between, whole_between, choice_in, milliseconds_in, phase_in, known_name_in, known_line_name_in}
 use Rattle.dss_values.specs.Words.{quantities}
 

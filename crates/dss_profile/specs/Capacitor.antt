@@ -1,16 +1,16 @@
 -- The properties of a Capacitor: the form and range of each, and the field that it sets.
 use Rattle.std.specs.Prelude.{ℕ, List, [], ◌∷◌, codes, pos, Some, None, Result, Ok, Err}
-use Rattle.dss_lexer.specs.declared.pair.Pair.{Pair}
-use Rattle.dss_model.specs.declared.fault.ModelFault.{ModelFault}
-use Rattle.dss_model.specs.declared.command.Place.{Place}
-use Rattle.dss_model.specs.declared.capacitor.Capacitor.{Capacitor}
+use Rattle.dss_values.specs.dss_lexer.declared.pair.Pair.{Pair}
+use Rattle.dss_values.specs.dss_model.declared.fault.ModelFault.{ModelFault}
+use Rattle.dss_values.specs.dss_model.declared.command.Place.{Place}
+use Rattle.dss_values.specs.dss_model.declared.capacitor.Capacitor.{Capacitor}
 use Rattle.dss_profile.specs.declared.capacitor.CapacitorProperty.{CapacitorProperty}
 use Rattle.dss_profile.specs.declared.capacitor.CapacitorProperty.TheVariants as the
-use Rattle.dss_model.specs.declared.words.Connection.TheVariants as connection
-use Rattle.dss_model.specs.declared.words.BankState.TheVariants as state
-use Rattle.dss_model.specs.Answers.{◌>>=◌}
-use Rattle.dss_model.specs.declared.fault.ModelFault.TheVariants as fault
-use Rattle.dss_model.specs.Ranges.{ones}
+use Rattle.dss_values.specs.dss_model.declared.words.Connection.TheVariants as connection
+use Rattle.dss_values.specs.dss_model.declared.words.BankState.TheVariants as state
+use Rattle.dss_values.specs.dss_model.Answers.{◌>>=◌}
+use Rattle.dss_values.specs.dss_model.declared.fault.ModelFault.TheVariants as fault
+use Rattle.dss_values.specs.dss_model.Ranges.{ones}
 use Rattle.dss_values.specs.Forms.{number_in, number_between, whole_among, supported_among, choice_in, bus_in, state_in}
 use Rattle.dss_values.specs.Words.{connections}
 

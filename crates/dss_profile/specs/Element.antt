@@ -1,21 +1,21 @@
 -- Elements of all classes: the pairs that set them, and the elements that pairs name.
 use Rattle.std.specs.Prelude.{ℕ, List, [], ◌∷◌, codes, Option, Some, None, is_some, Result, Ok, Err, if◌then◌else◌}
-use Rattle.dss_lexer.specs.declared.pair.Pair.{Pair}
-use Rattle.dss_lexer.specs.Texts.{is_empty}
-use Rattle.dss_model.specs.declared.fault.ModelFault.{ModelFault}
-use Rattle.dss_model.specs.declared.fault.ModelFault.TheVariants as fault
-use Rattle.dss_model.specs.declared.command.Place.{Place}
-use Rattle.dss_model.specs.declared.element.Element.{Element}
-use Rattle.dss_model.specs.declared.element.Element.TheVariants as the
-use Rattle.dss_model.specs.declared.linecode.Linecode.{Linecode}
-use Rattle.dss_model.specs.declared.names.Class.{Class}
-use Rattle.dss_model.specs.declared.names.Class.TheVariants as class
-use Rattle.dss_model.specs.declared.names.ElementName.{ElementName}
-use Rattle.dss_model.specs.Answers.{◌>>=◌, or_fault}
-use Rattle.dss_model.specs.Names.{bytes, lower, named}
+use Rattle.dss_values.specs.dss_lexer.declared.pair.Pair.{Pair}
+use Rattle.dss_values.specs.dss_lexer.Texts.{is_empty}
+use Rattle.dss_values.specs.dss_model.declared.fault.ModelFault.{ModelFault}
+use Rattle.dss_values.specs.dss_model.declared.fault.ModelFault.TheVariants as fault
+use Rattle.dss_values.specs.dss_model.declared.command.Place.{Place}
+use Rattle.dss_values.specs.dss_model.declared.element.Element.{Element}
+use Rattle.dss_values.specs.dss_model.declared.element.Element.TheVariants as the
+use Rattle.dss_values.specs.dss_model.declared.linecode.Linecode.{Linecode}
+use Rattle.dss_values.specs.dss_model.declared.names.Class.{Class}
+use Rattle.dss_values.specs.dss_model.declared.names.Class.TheVariants as class
+use Rattle.dss_values.specs.dss_model.declared.names.ElementName.{ElementName}
+use Rattle.dss_values.specs.dss_model.Answers.{◌>>=◌, or_fault}
+use Rattle.dss_values.specs.dss_model.Names.{bytes, lower, named}
 use Rattle.dss_values.specs.Forms.{name_in, line_name_in}
 use Rattle.dss_profile.specs.Vsource.{vsource_properties, with_vsource}
-use Rattle.dss_model.specs.Defaults.{fresh_vsource, fresh_linecode, fresh_line, fresh_transformer, fresh_capacitor, fresh_load, fresh_regcontrol, fresh_capcontrol, fresh_loadshape}
+use Rattle.dss_values.specs.dss_model.Defaults.{fresh_vsource, fresh_linecode, fresh_line, fresh_transformer, fresh_capacitor, fresh_load, fresh_regcontrol, fresh_capcontrol, fresh_loadshape}
 use Rattle.dss_profile.specs.Linecode.{linecode_properties, with_linecode}
 use Rattle.dss_profile.specs.Line.{line_properties, with_line}
 use Rattle.dss_profile.specs.Transformer.{transformer_properties, with_transformer}

@@ -10,3 +10,4 @@ pub mod CapControl
 pub mod Loadshape
 pub mod Element
 pub mod Options
+pub use Rattle.dss_values.specs as dss_values

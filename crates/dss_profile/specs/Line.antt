@@ -1,20 +1,20 @@
 -- The properties of a Line: the form and range of each, and the field that it sets.
 use Rattle.std.specs.Prelude.{ℕ, List, [], ◌∷◌, Bool, true, false, codes, pos, Option, Some, None, Result, Ok, if◌then◌else◌}
-use Rattle.dss_lexer.specs.declared.pair.Pair.{Pair}
-use Rattle.dss_model.specs.declared.fault.ModelFault.{ModelFault}
-use Rattle.dss_model.specs.declared.command.Place.{Place}
-use Rattle.dss_model.specs.declared.line.Line.{Line}
+use Rattle.dss_values.specs.dss_lexer.declared.pair.Pair.{Pair}
+use Rattle.dss_values.specs.dss_model.declared.fault.ModelFault.{ModelFault}
+use Rattle.dss_values.specs.dss_model.declared.command.Place.{Place}
+use Rattle.dss_values.specs.dss_model.declared.line.Line.{Line}
 use Rattle.dss_profile.specs.declared.line.LineProperty.{LineProperty}
 use Rattle.dss_profile.specs.declared.line.LineProperty.TheVariants as the
 use Rattle.dss_profile.specs.declared.line_constants.DataProperty.{DataProperty}
 use Rattle.dss_profile.specs.declared.line_constants.DataProperty.TheVariants as data_property
-use Rattle.dss_model.specs.declared.linecode.Linecode.{Linecode}
-use Rattle.dss_model.specs.declared.words.Units.TheVariants as unit
-use Rattle.dss_model.specs.Answers.{◌>>=◌, or_fault}
-use Rattle.dss_model.specs.declared.fault.ModelFault.TheVariants as fault
-use Rattle.dss_model.specs.Ranges.{ones}
+use Rattle.dss_values.specs.dss_model.declared.linecode.Linecode.{Linecode}
+use Rattle.dss_values.specs.dss_model.declared.words.Units.TheVariants as unit
+use Rattle.dss_values.specs.dss_model.Answers.{◌>>=◌, or_fault}
+use Rattle.dss_values.specs.dss_model.declared.fault.ModelFault.TheVariants as fault
+use Rattle.dss_values.specs.dss_model.Ranges.{ones}
 use Rattle.dss_values.specs.Forms.{number_in, number_between, whole_between, choice_in, name_in, bus_in}
-use Rattle.dss_model.specs.Defaults.{fresh_constants}
+use Rattle.dss_values.specs.dss_model.Defaults.{fresh_constants}
 use Rattle.dss_profile.specs.LineConstants.{is_impedance, with_constant, with_switch}
 use Rattle.dss_values.specs.Words.{units, truths}
 

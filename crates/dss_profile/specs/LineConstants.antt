@@ -1,13 +1,13 @@
 -- The impedance and the charging of a line or a line code: the form and range of each property, and the field that it sets.
 use Rattle.std.specs.Prelude.{ℤ, Bool, true, false, List, pos, neg_ℤ, Some, None, Result, Ok}
-use Rattle.dss_lexer.specs.declared.pair.Pair.{Pair}
-use Rattle.dss_model.specs.declared.fault.ModelFault.{ModelFault}
-use Rattle.dss_model.specs.declared.line_constants.LineConstants.{LineConstants}
+use Rattle.dss_values.specs.dss_lexer.declared.pair.Pair.{Pair}
+use Rattle.dss_values.specs.dss_model.declared.fault.ModelFault.{ModelFault}
+use Rattle.dss_values.specs.dss_model.declared.line_constants.LineConstants.{LineConstants}
 use Rattle.dss_profile.specs.declared.line_constants.DataProperty.{DataProperty}
 use Rattle.dss_profile.specs.declared.line_constants.DataProperty.TheVariants as the
-use Rattle.dss_model.specs.declared.words.DataForm.TheVariants as data_form
-use Rattle.dss_model.specs.Answers.{◌>>=◌}
-use Rattle.dss_model.specs.Ranges.{ones}
+use Rattle.dss_values.specs.dss_model.declared.words.DataForm.TheVariants as data_form
+use Rattle.dss_values.specs.dss_model.Answers.{◌>>=◌}
+use Rattle.dss_values.specs.dss_model.Ranges.{ones}
 use Rattle.dss_values.specs.Forms.{number_between}
 use Rattle.dss_values.specs.Matrices.{matrix_between}
 

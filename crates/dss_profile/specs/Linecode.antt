@@ -1,17 +1,17 @@
 -- The properties of a Linecode: the form and range of each, and the field that it sets.
 use Rattle.std.specs.Prelude.{ℕ, List, [], ◌∷◌, codes, Some, None, Result, Ok}
-use Rattle.dss_lexer.specs.declared.pair.Pair.{Pair}
-use Rattle.dss_model.specs.declared.fault.ModelFault.{ModelFault}
-use Rattle.dss_model.specs.declared.command.Place.{Place}
-use Rattle.dss_model.specs.declared.linecode.Linecode.{Linecode}
+use Rattle.dss_values.specs.dss_lexer.declared.pair.Pair.{Pair}
+use Rattle.dss_values.specs.dss_model.declared.fault.ModelFault.{ModelFault}
+use Rattle.dss_values.specs.dss_model.declared.command.Place.{Place}
+use Rattle.dss_values.specs.dss_model.declared.linecode.Linecode.{Linecode}
 use Rattle.dss_profile.specs.declared.line_constants.DataProperty.TheVariants as data_property
 use Rattle.dss_profile.specs.declared.linecode.LinecodeProperty.{LinecodeProperty}
 use Rattle.dss_profile.specs.declared.linecode.LinecodeProperty.TheVariants as the
-use Rattle.dss_model.specs.declared.words.Units.TheVariants as unit
-use Rattle.dss_model.specs.Answers.{◌>>=◌}
-use Rattle.dss_model.specs.declared.fault.ModelFault.TheVariants as fault
+use Rattle.dss_values.specs.dss_model.declared.words.Units.TheVariants as unit
+use Rattle.dss_values.specs.dss_model.Answers.{◌>>=◌}
+use Rattle.dss_values.specs.dss_model.declared.fault.ModelFault.TheVariants as fault
 use Rattle.dss_values.specs.Forms.{number_in, whole_between, choice_in}
-use Rattle.dss_model.specs.Defaults.{fresh_constants}
+use Rattle.dss_values.specs.dss_model.Defaults.{fresh_constants}
 use Rattle.dss_profile.specs.LineConstants.{with_constant}
 use Rattle.dss_values.specs.Words.{units}
 

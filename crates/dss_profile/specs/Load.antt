@@ -1,18 +1,18 @@
 -- The properties of a Load: the form and range of each, and the field that it sets.
 use Rattle.std.specs.Prelude.{ℕ, ◌==◌, Bool, List, [], ◌∷◌, codes, pos, neg_ℤ, Some, None, Result, Ok, if◌then◌else◌}
-use Rattle.dss_lexer.specs.declared.pair.Pair.{Pair}
-use Rattle.dss_model.specs.declared.fault.ModelFault.{ModelFault}
-use Rattle.dss_model.specs.declared.command.Place.{Place}
-use Rattle.dss_model.specs.declared.load.Load.{Load}
-use Rattle.dss_model.specs.declared.load.LoadKind.{LoadKind}
-use Rattle.dss_model.specs.declared.load.LoadKind.TheVariants as kind
+use Rattle.dss_values.specs.dss_lexer.declared.pair.Pair.{Pair}
+use Rattle.dss_values.specs.dss_model.declared.fault.ModelFault.{ModelFault}
+use Rattle.dss_values.specs.dss_model.declared.command.Place.{Place}
+use Rattle.dss_values.specs.dss_model.declared.load.Load.{Load}
+use Rattle.dss_values.specs.dss_model.declared.load.LoadKind.{LoadKind}
+use Rattle.dss_values.specs.dss_model.declared.load.LoadKind.TheVariants as kind
 use Rattle.dss_profile.specs.declared.load.LoadProperty.{LoadProperty}
 use Rattle.dss_profile.specs.declared.load.LoadProperty.TheVariants as the
-use Rattle.dss_model.specs.declared.words.Connection.TheVariants as connection
-use Rattle.dss_model.specs.declared.words.ReactiveRule.TheVariants as rule
-use Rattle.dss_model.specs.Answers.{◌>>=◌}
-use Rattle.dss_model.specs.declared.fault.ModelFault.TheVariants as fault
-use Rattle.dss_model.specs.Ranges.{ones}
+use Rattle.dss_values.specs.dss_model.declared.words.Connection.TheVariants as connection
+use Rattle.dss_values.specs.dss_model.declared.words.ReactiveRule.TheVariants as rule
+use Rattle.dss_values.specs.dss_model.Answers.{◌>>=◌}
+use Rattle.dss_values.specs.dss_model.declared.fault.ModelFault.TheVariants as fault
+use Rattle.dss_values.specs.dss_model.Ranges.{ones}
 use Rattle.dss_values.specs.Forms.{number_in, number_between, power_factor_in, whole_among, supported_among, choice_in, bus_in, known_name_in, shares_in}
 use Rattle.dss_values.specs.Words.{connections}
 

@@ -1,18 +1,18 @@
 -- The options: the form and range of each, and the field that it sets.
 use Rattle.std.specs.Prelude.{ℕ, List, [], ◌∷◌, codes, pos, Result, Ok}
-use Rattle.dss_lexer.specs.declared.pair.Pair.{Pair}
-use Rattle.dss_model.specs.declared.fault.ModelFault.{ModelFault}
-use Rattle.dss_model.specs.declared.options.Options.{Options}
+use Rattle.dss_values.specs.dss_lexer.declared.pair.Pair.{Pair}
+use Rattle.dss_values.specs.dss_model.declared.fault.ModelFault.{ModelFault}
+use Rattle.dss_values.specs.dss_model.declared.options.Options.{Options}
 use Rattle.dss_profile.specs.declared.options.OptionName.{OptionName}
 use Rattle.dss_profile.specs.declared.options.OptionName.TheVariants as the
-use Rattle.dss_model.specs.declared.words.Mode.{Mode}
-use Rattle.dss_model.specs.declared.words.Mode.TheVariants as mode
-use Rattle.dss_model.specs.declared.words.ControlMode.TheVariants as control
-use Rattle.dss_model.specs.declared.words.StepSize.TheVariants as step
-use Rattle.dss_model.specs.declared.fault.ModelFault.TheVariants as fault
-use Rattle.dss_model.specs.Answers.{◌>>=◌, or_fault}
-use Rattle.dss_model.specs.Names.{bytes, lower, named}
-use Rattle.dss_model.specs.Ranges.{ones}
+use Rattle.dss_values.specs.dss_model.declared.words.Mode.{Mode}
+use Rattle.dss_values.specs.dss_model.declared.words.Mode.TheVariants as mode
+use Rattle.dss_values.specs.dss_model.declared.words.ControlMode.TheVariants as control
+use Rattle.dss_values.specs.dss_model.declared.words.StepSize.TheVariants as step
+use Rattle.dss_values.specs.dss_model.declared.fault.ModelFault.TheVariants as fault
+use Rattle.dss_values.specs.dss_model.Answers.{◌>>=◌, or_fault}
+use Rattle.dss_values.specs.dss_model.Names.{bytes, lower, named}
+use Rattle.dss_values.specs.dss_model.Ranges.{ones}
 use Rattle.dss_values.specs.Forms.{number_between, numbers_between, whole_between, supported_among, choice_in}
 use Rattle.dss_values.specs.Words.{modes, control_modes, step_sizes}
 

@@ -1,13 +1,13 @@
 -- The properties of a RegControl: the form and range of each, and the field that it sets.
 use Rattle.std.specs.Prelude.{ℕ, Bool, List, [], ◌∷◌, codes, pos, neg_ℤ, Some, None, Result, Ok}
-use Rattle.dss_lexer.specs.declared.pair.Pair.{Pair}
-use Rattle.dss_model.specs.declared.fault.ModelFault.{ModelFault}
-use Rattle.dss_model.specs.declared.command.Place.{Place}
-use Rattle.dss_model.specs.declared.regcontrol.RegControl.{RegControl}
+use Rattle.dss_values.specs.dss_lexer.declared.pair.Pair.{Pair}
+use Rattle.dss_values.specs.dss_model.declared.fault.ModelFault.{ModelFault}
+use Rattle.dss_values.specs.dss_model.declared.command.Place.{Place}
+use Rattle.dss_values.specs.dss_model.declared.regcontrol.RegControl.{RegControl}
 use Rattle.dss_profile.specs.declared.regcontrol.RegControlProperty.{RegControlProperty}
 use Rattle.dss_profile.specs.declared.regcontrol.RegControlProperty.TheVariants as the
-use Rattle.dss_model.specs.Answers.{◌>>=◌}
-use Rattle.dss_model.specs.Ranges.{ones}
+use Rattle.dss_values.specs.dss_model.Answers.{◌>>=◌}
+use Rattle.dss_values.specs.dss_model.Ranges.{ones}
 use Rattle.dss_values.specs.Forms.{number_between, whole_between, milliseconds_in, phase_in, known_name_in}
 
 abbrev pub regcontrol_properties : List (List ℕ × RegControlProperty)

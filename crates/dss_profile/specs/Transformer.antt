@@ -1,21 +1,21 @@
 -- The properties of a Transformer: the form and range of each, and the field that it sets.
 use Rattle.std.specs.Prelude.{ℕ, ℤ, ◌==◌, List, [], ◌∷◌, codes, pos, Some, None, Result, Ok, if◌then◌else◌}
-use Rattle.dss_lexer.specs.declared.pair.Pair.{Pair}
-use Rattle.dss_model.specs.declared.fault.ModelFault.{ModelFault}
-use Rattle.dss_model.specs.declared.command.Place.{Place}
-use Rattle.dss_model.specs.declared.transformer.Transformer.{Transformer}
+use Rattle.dss_values.specs.dss_lexer.declared.pair.Pair.{Pair}
+use Rattle.dss_values.specs.dss_model.declared.fault.ModelFault.{ModelFault}
+use Rattle.dss_values.specs.dss_model.declared.command.Place.{Place}
+use Rattle.dss_values.specs.dss_model.declared.transformer.Transformer.{Transformer}
 use Rattle.dss_profile.specs.declared.transformer.TransformerProperty.{TransformerProperty}
 use Rattle.dss_profile.specs.declared.transformer.TransformerProperty.TheVariants as the
 use Rattle.dss_profile.specs.declared.transformer.BothProperty.{BothProperty}
 use Rattle.dss_profile.specs.declared.transformer.BothProperty.TheVariants as of_both
-use Rattle.dss_model.specs.declared.transformer.Winding.{Winding}
+use Rattle.dss_values.specs.dss_model.declared.transformer.Winding.{Winding}
 use Rattle.dss_profile.specs.declared.transformer.WindingProperty.{WindingProperty}
 use Rattle.dss_profile.specs.declared.transformer.WindingProperty.TheVariants as of_winding
-use Rattle.dss_model.specs.declared.words.Connection.TheVariants as connection
-use Rattle.dss_model.specs.declared.words.LeadLag.TheVariants as lead
-use Rattle.dss_model.specs.Answers.{◌>>=◌}
-use Rattle.dss_model.specs.declared.fault.ModelFault.TheVariants as fault
-use Rattle.dss_model.specs.Ranges.{ones}
+use Rattle.dss_values.specs.dss_model.declared.words.Connection.TheVariants as connection
+use Rattle.dss_values.specs.dss_model.declared.words.LeadLag.TheVariants as lead
+use Rattle.dss_values.specs.dss_model.Answers.{◌>>=◌}
+use Rattle.dss_values.specs.dss_model.declared.fault.ModelFault.TheVariants as fault
+use Rattle.dss_values.specs.dss_model.Ranges.{ones}
 use Rattle.dss_values.specs.Forms.{number_in, number_between, whole_between, whole_among, supported_among, choice_in, bus_in, tap_in, half, two_numbers_between, two_taps_in, two_buses_in, two_choices_in}
 use Rattle.dss_values.specs.Words.{connections, lead_lags}
 

@@ -1,14 +1,14 @@
 -- The properties of a Vsource: the form and range of each, and the field that it sets.
 use Rattle.std.specs.Prelude.{ℕ, List, [], ◌∷◌, codes, pos, Some, None, Result, Ok}
-use Rattle.dss_lexer.specs.declared.pair.Pair.{Pair}
-use Rattle.dss_model.specs.declared.fault.ModelFault.{ModelFault}
-use Rattle.dss_model.specs.declared.command.Place.{Place}
-use Rattle.dss_model.specs.declared.vsource.Vsource.{Vsource}
+use Rattle.dss_values.specs.dss_lexer.declared.pair.Pair.{Pair}
+use Rattle.dss_values.specs.dss_model.declared.fault.ModelFault.{ModelFault}
+use Rattle.dss_values.specs.dss_model.declared.command.Place.{Place}
+use Rattle.dss_values.specs.dss_model.declared.vsource.Vsource.{Vsource}
 use Rattle.dss_profile.specs.declared.vsource.VsourceProperty.{VsourceProperty}
 use Rattle.dss_profile.specs.declared.vsource.VsourceProperty.TheVariants as the
-use Rattle.dss_model.specs.declared.words.SourceForm.TheVariants as source_form
-use Rattle.dss_model.specs.Answers.{◌>>=◌}
-use Rattle.dss_model.specs.Ranges.{ones}
+use Rattle.dss_values.specs.dss_model.declared.words.SourceForm.TheVariants as source_form
+use Rattle.dss_values.specs.dss_model.Answers.{◌>>=◌}
+use Rattle.dss_values.specs.dss_model.Ranges.{ones}
 use Rattle.dss_values.specs.Forms.{number_in, number_between, whole_among, ratio_in, angle_in, bus_in}
 
 abbrev pub vsource_properties : List (List ℕ × VsourceProperty)

@@ -1,13 +1,12 @@
 // Properties of banks of capacitors.
 ghost use Rattle.std.specs.Prelude.{◌≡◌};
-ghost use Rattle.dss_model.specs.Changes.{Becomes};
-ghost use Rattle.dss_model.specs.Names.{named};
+ghost use Rattle.dss_values.specs.dss_model.Changes.{Becomes};
+ghost use Rattle.dss_values.specs.dss_model.Names.{named};
 ghost use Rattle.dss_profile.specs.Capacitor.{capacitor_properties, with_capacitor};
 
-use dss_lexer::Pair;
-use dss_model::{Capacitor, ModelError, ModelFault, ONE, find_named};
 use dss_values::{
-    bank_state, bus_value, connection, number_value, number_within, supported_of, whole_of,
+    Capacitor, ModelError, ModelFault, ONE, Pair, bank_state, bus_value, connection, find_named,
+    number_value, number_within, supported_of, whole_of,
 };
 use std::alloc::Global;
 

@@ -1,13 +1,12 @@
 // Properties of controls of banks of capacitors.
 ghost use Rattle.std.specs.Prelude.{◌≡◌};
-ghost use Rattle.dss_model.specs.Changes.{Becomes};
-ghost use Rattle.dss_model.specs.Names.{named};
+ghost use Rattle.dss_values.specs.dss_model.Changes.{Becomes};
+ghost use Rattle.dss_values.specs.dss_model.Names.{named};
 ghost use Rattle.dss_profile.specs.CapControl.{capcontrol_properties, with_capcontrol};
 
-use dss_lexer::Pair;
-use dss_model::{CapControl, ModelError, ONE, find_named};
 use dss_values::{
-    found_line_name, found_name, milliseconds, number_within, phase, quantity, whole_within,
+    CapControl, ModelError, ONE, Pair, find_named, found_line_name, found_name, milliseconds,
+    number_within, phase, quantity, whole_within,
 };
 use std::alloc::Global;
 

@@ -1,10 +1,10 @@
 // Elements of all classes: the elements that their pairs name, and the pairs that set them.
 ghost use Rattle.std.specs.Prelude.{◌≡◌, IfSome, OnOk, is_some};
 ghost use Rattle.std.specs.Option.{option_copied};
-ghost use Rattle.dss_model.specs.Answers.{Gives};
-ghost use Rattle.dss_model.specs.Changes.{Becomes};
-ghost use Rattle.dss_model.specs.Names.{named};
-ghost use Rattle.dss_model.specs.InRange.{ElementInRange};
+ghost use Rattle.dss_values.specs.dss_model.Answers.{Gives};
+ghost use Rattle.dss_values.specs.dss_model.Changes.{Becomes};
+ghost use Rattle.dss_values.specs.dss_model.Names.{named};
+ghost use Rattle.dss_values.specs.dss_model.InRange.{ElementInRange};
 ghost use Rattle.dss_profile.specs.Element.{code_found, with_named, with_pair, references, named_in, reference_to, reference};
 
 use crate::capacitor::{capacitor_property, set_capacitor};
@@ -16,9 +16,10 @@ use crate::loadshape::{loadshape_property, set_loadshape};
 use crate::regcontrol::{regcontrol_property, set_regcontrol};
 use crate::transformer::{set_transformer, transformer_property};
 use crate::vsource::{set_vsource, vsource_property};
-use dss_lexer::{Pair, Text};
-use dss_model::{Class, Element, ElementName, Linecode, ModelError, ModelFault, find_named};
-use dss_values::{line_name, name};
+use dss_values::{
+    Class, Element, ElementName, Linecode, ModelError, ModelFault, Pair, Text, find_named,
+    line_name, name,
+};
 use std::alloc::Global;
 
 // The class of the element that a property names, where it names any.

@@ -1,15 +1,16 @@
 // Properties of lines.
 ghost use Rattle.std.specs.Prelude.{◌≡◌, IfErr, OnOk};
-ghost use Rattle.dss_model.specs.Changes.{Becomes};
-ghost use Rattle.dss_model.specs.Names.{named};
+ghost use Rattle.dss_values.specs.dss_model.Changes.{Becomes};
+ghost use Rattle.dss_values.specs.dss_model.Names.{named};
 ghost use Rattle.dss_profile.specs.Line.{line_properties, with_code, with_code_in, switched, with_line_data, with_line};
 ghost use Rattle.std.specs.Option.{option_copied};
 
 use crate::DataProperty;
 use crate::line_constants::{make_switch, set_constant};
-use dss_lexer::{Pair, Text};
-use dss_model::{Line, Linecode, ModelError, ModelFault, ONE, Units, find_named};
-use dss_values::{bus_value, length_unit, name, number_value, number_within, truth, whole_within};
+use dss_values::{
+    Line, Linecode, ModelError, ModelFault, ONE, Pair, Text, Units, bus_value, find_named,
+    length_unit, name, number_value, number_within, truth, whole_within,
+};
 use std::alloc::{AllocError, Global};
 
 /// A property of a Line.

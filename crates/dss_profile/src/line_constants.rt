@@ -1,13 +1,13 @@
 // Properties of the impedance and the charging of lines and of line codes.
 ghost use Rattle.std.specs.Prelude.{◌≡◌};
-ghost use Rattle.dss_model.specs.Changes.{Becomes};
-ghost use Rattle.dss_model.specs.Names.{named};
+ghost use Rattle.dss_values.specs.dss_model.Changes.{Becomes};
+ghost use Rattle.dss_values.specs.dss_model.Names.{named};
 ghost use Rattle.dss_profile.specs.LineConstants.{impedance_matrix_in, capacitance_matrix_in, is_impedance, with_constant, with_switch};
-ghost use Rattle.dss_model.specs.Answers.{Gives};
+ghost use Rattle.dss_values.specs.dss_model.Answers.{Gives};
 
-use dss_lexer::Pair;
-use dss_model::{DataForm, LineConstants, ModelError, Numbers, ONE};
-use dss_values::{matrix_within, number_within};
+use dss_values::{
+    DataForm, LineConstants, ModelError, Numbers, ONE, Pair, matrix_within, number_within,
+};
 use std::alloc::Global;
 
 /// A property of the impedance or the charging of lines, for each unit of length.

@@ -1,14 +1,12 @@
 // Properties of line codes.
 ghost use Rattle.std.specs.Prelude.{◌≡◌};
-ghost use Rattle.dss_model.specs.Changes.{Becomes};
-ghost use Rattle.dss_model.specs.Names.{named};
+ghost use Rattle.dss_values.specs.dss_model.Changes.{Becomes};
+ghost use Rattle.dss_values.specs.dss_model.Names.{named};
 ghost use Rattle.dss_profile.specs.Linecode.{linecode_properties, with_linecode};
 
 use crate::DataProperty;
 use crate::line_constants::set_constant;
-use dss_lexer::Pair;
-use dss_model::{Linecode, ModelError, find_named};
-use dss_values::{length_unit, number_value, whole_within};
+use dss_values::{Linecode, ModelError, Pair, find_named, length_unit, number_value, whole_within};
 use std::alloc::Global;
 
 /// A property of a Linecode.

@@ -1,14 +1,12 @@
 // Properties of loads.
 ghost use Rattle.std.specs.Prelude.{◌≡◌};
-ghost use Rattle.dss_model.specs.Changes.{Becomes};
-ghost use Rattle.dss_model.specs.Names.{named};
+ghost use Rattle.dss_values.specs.dss_model.Changes.{Becomes};
+ghost use Rattle.dss_values.specs.dss_model.Names.{named};
 ghost use Rattle.dss_profile.specs.Load.{load_properties, model_of as model_by_number, with_load};
 
-use dss_lexer::Pair;
-use dss_model::{Load, LoadKind, ModelError, ONE, ReactiveRule, find_named};
 use dss_values::{
-    bus_value, connection, found_name, number_value, number_within, power_factor, shares,
-    supported_of, whole_of,
+    Load, LoadKind, ModelError, ONE, Pair, ReactiveRule, bus_value, connection, find_named,
+    found_name, number_value, number_within, power_factor, shares, supported_of, whole_of,
 };
 use std::alloc::Global;
 

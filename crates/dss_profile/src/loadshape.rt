@@ -1,12 +1,12 @@
 // Properties of shapes of loads over a day.
 ghost use Rattle.std.specs.Prelude.{◌≡◌};
-ghost use Rattle.dss_model.specs.Changes.{Becomes};
-ghost use Rattle.dss_model.specs.Names.{named};
+ghost use Rattle.dss_values.specs.dss_model.Changes.{Becomes};
+ghost use Rattle.dss_values.specs.dss_model.Names.{named};
 ghost use Rattle.dss_profile.specs.Loadshape.{loadshape_properties, with_loadshape};
 
-use dss_lexer::Pair;
-use dss_model::{Loadshape, ModelError, ONE, find_named};
-use dss_values::{numbers_within, supported_of, whole_within};
+use dss_values::{
+    Loadshape, ModelError, ONE, Pair, find_named, numbers_within, supported_of, whole_within,
+};
 use std::alloc::Global;
 
 /// A property of a Loadshape.

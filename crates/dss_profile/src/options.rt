@@ -1,15 +1,14 @@
 // The options of a circuit that Set and Solve name.
 ghost use Rattle.std.specs.Prelude.{◌≡◌, IfOk, OnOk};
-ghost use Rattle.dss_model.specs.Changes.{Becomes};
-ghost use Rattle.dss_model.specs.Names.{named};
+ghost use Rattle.dss_values.specs.dss_model.Changes.{Becomes};
+ghost use Rattle.dss_values.specs.dss_model.Names.{named};
 ghost use Rattle.dss_profile.specs.Options.{option_names, in_mode, with_option, with_named_option, with_options};
-ghost use Rattle.dss_model.specs.Answers.{Gives, Makes};
-ghost use Rattle.dss_model.specs.InRange.{OptionsInRange};
+ghost use Rattle.dss_values.specs.dss_model.Answers.{Gives, Makes};
+ghost use Rattle.dss_values.specs.dss_model.InRange.{OptionsInRange};
 
-use dss_lexer::Pair;
-use dss_model::{Mode, ModelError, ModelFault, ONE, Options, find_named};
 use dss_values::{
-    control_mode, number_within, numbers_within, solve_mode, step_size, supported_of, whole_within,
+    Mode, ModelError, ModelFault, ONE, Options, Pair, control_mode, find_named, number_within,
+    numbers_within, solve_mode, step_size, supported_of, whole_within,
 };
 use std::alloc::Global;
 

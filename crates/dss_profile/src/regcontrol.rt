@@ -1,12 +1,13 @@
 // Properties of controls of regulators.
 ghost use Rattle.std.specs.Prelude.{◌≡◌};
-ghost use Rattle.dss_model.specs.Changes.{Becomes};
-ghost use Rattle.dss_model.specs.Names.{named};
+ghost use Rattle.dss_values.specs.dss_model.Changes.{Becomes};
+ghost use Rattle.dss_values.specs.dss_model.Names.{named};
 ghost use Rattle.dss_profile.specs.RegControl.{regcontrol_properties, with_regcontrol};
 
-use dss_lexer::Pair;
-use dss_model::{ModelError, ONE, RegControl, find_named};
-use dss_values::{found_name, milliseconds, number_within, phase, whole_within};
+use dss_values::{
+    ModelError, ONE, Pair, RegControl, find_named, found_name, milliseconds, number_within, phase,
+    whole_within,
+};
 use std::alloc::Global;
 
 /// A property of a RegControl.

@@ -1,15 +1,14 @@
 // Properties of transformers of two windings.
 ghost use Rattle.std.specs.Prelude.{◌≡◌, ◌≤ℤ◌, pos};
-ghost use Rattle.dss_model.specs.Changes.{Becomes};
-ghost use Rattle.dss_model.specs.Names.{named};
+ghost use Rattle.dss_values.specs.dss_model.Changes.{Becomes};
+ghost use Rattle.dss_values.specs.dss_model.Names.{named};
 ghost use Rattle.dss_profile.specs.Transformer.{transformer_properties, with_winding, with_chosen, with_kva, with_losses, with_taps, with_both, zero_in, with_transformer};
-ghost use Rattle.dss_model.specs.Answers.{Gives};
+ghost use Rattle.dss_values.specs.dss_model.Answers.{Gives};
 
-use dss_lexer::Pair;
-use dss_model::{ModelError, ONE, Transformer, Winding, find_named};
 use dss_values::{
-    bus_value, connection, half_of, lead_lag, number_value, number_within, supported_of, tap,
-    two_buses, two_connections, two_numbers_within, two_taps, whole_of, whole_within,
+    ModelError, ONE, Pair, Transformer, Winding, bus_value, connection, find_named, half_of,
+    lead_lag, number_value, number_within, supported_of, tap, two_buses, two_connections,
+    two_numbers_within, two_taps, whole_of, whole_within,
 };
 use std::alloc::Global;
 

@@ -1,12 +1,13 @@
 // Properties of voltage sources.
 ghost use Rattle.std.specs.Prelude.{◌≡◌};
-ghost use Rattle.dss_model.specs.Changes.{Becomes};
-ghost use Rattle.dss_model.specs.Names.{named};
+ghost use Rattle.dss_values.specs.dss_model.Changes.{Becomes};
+ghost use Rattle.dss_values.specs.dss_model.Names.{named};
 ghost use Rattle.dss_profile.specs.Vsource.{vsource_properties, with_vsource};
 
-use dss_lexer::Pair;
-use dss_model::{ModelError, ONE, SourceForm, Vsource, find_named};
-use dss_values::{angle, bus_value, number_value, number_within, ratio, whole_of};
+use dss_values::{
+    ModelError, ONE, Pair, SourceForm, Vsource, angle, bus_value, find_named, number_value,
+    number_within, ratio, whole_of,
+};
 use std::alloc::Global;
 
 /// A property of a Vsource.

@@ -1,7 +1,7 @@
 -- What each test contributes to the answer.
 use Rattle.std.proofs.Common.{◌≡◌, ℕ, ◌<◌, length, Option, Some, Ok, Err, subst}
-use Rattle.dss_model.specs.declared.fault.ModelFault.TheVariants as fault
-use Rattle.dss_model.specs.declared.command.Blame.{Blame}
+use Rattle.dss_circuit.specs.dss_model.declared.fault.ModelFault.TheVariants as fault
+use Rattle.dss_circuit.specs.dss_model.declared.command.Blame.{Blame}
 use Rattle.dss_layout.specs.declared.limits.LayoutFault.{LayoutFault}
 use Rattle.dss_layout.specs.declared.limits.LayoutFault.TheVariants.{TooMany}
 use Rattle.dss_layout.specs.Layout.{LayoutView, LaysOut, first_too_many, laid_out}

@@ -1,10 +1,10 @@
 -- One step of the walk over the elements.
 use Rattle.std.proofs.Common.{◌≡◌, ℕ, Bool, [], ◌∷◌, ◌++◌, Option, Result, sym, ap, ◌∙◌}
-use Rattle.dss_model.specs.declared.fault.ModelFault.{ModelFault}
-use Rattle.dss_model.specs.declared.command.Blame.{Blame}
-use Rattle.dss_model.specs.declared.element.Element.{Element}
-use Rattle.dss_model.specs.declared.names.ElementName.{ElementName}
-use Rattle.dss_model.specs.Element.{place_of}
+use Rattle.dss_circuit.specs.dss_model.declared.fault.ModelFault.{ModelFault}
+use Rattle.dss_circuit.specs.dss_model.declared.command.Blame.{Blame}
+use Rattle.dss_circuit.specs.dss_model.declared.element.Element.{Element}
+use Rattle.dss_circuit.specs.dss_model.declared.names.ElementName.{ElementName}
+use Rattle.dss_circuit.specs.dss_model.Element.{place_of}
 use Rattle.dss_circuit.specs.Circuit.{Elements}
 use Rattle.dss_ready.specs.Mentions.{is_second_control}
 use Rattle.dss_ready.specs.Walk.{blamed_or, cause_by, first_blame}

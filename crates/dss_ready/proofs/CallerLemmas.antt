@@ -1,8 +1,8 @@
 -- What a caller needs to know of the tests of Solve.
 use Rattle.std.proofs.Common.{◌≡◌, ℕ, [], take, slice_get, All, Some, subst}
 use Rattle.std.proofs.lemmas.Option.{slice_get_within, get_or_from_slice_get}
-use Rattle.dss_model.specs.declared.element.Element.{Element}
-use Rattle.dss_model.specs.declared.names.ElementName.{ElementName}
+use Rattle.dss_circuit.specs.dss_model.declared.element.Element.{Element}
+use Rattle.dss_circuit.specs.dss_model.declared.names.ElementName.{ElementName}
 use Rattle.dss_circuit.specs.Circuit.{Elements}
 use Rattle.dss_layout.specs.Among.{IsAmong}
 use Rattle.dss_ready.specs.Feeding.{IsFed}
@@ -15,6 +15,9 @@ use Rattle.dss_ready.proofs.Fitting.{same_frequency, values_fit, without_fault}
 use Rattle.dss_ready.proofs.Passing.{Passes, each_passes}
 pub use Rattle.dss_ready.proofs.Limits.{too_many_within}
 pub use Rattle.dss_ready.proofs.Labelled.{first_isolated_at, fed_up_to}
+pub use Rattle.dss_circuit.proofs.CallerLemmas.dss_model as dss_model
+pub use Rattle.dss_circuit.proofs.CallerLemmas as dss_circuit
+pub use Rattle.dss_layout.proofs.CallerLemmas as dss_layout
 
 -- what holds of all elements holds of the one at a place
 at_place : (P : ElementName × Element → Type 0) (elements : Elements) (place : ℕ) (entry : ElementName × Element)

@@ -6,20 +6,20 @@ use Rattle.std.proofs.lemmas.Bool.{or_parts, and_parts, ltb-false, eqb-false}
 use Rattle.std.proofs.lemmas.Bool.Decides.{Decides-int_eq}
 use lib.Signed.{lt_z_yes, le_z_yes}
 use lib.Dec.{T}
-use Rattle.dss_model.specs.Ranges.{ones}
-use Rattle.dss_model.specs.declared.words.ControlQuantity.{ControlQuantity}
-use Rattle.dss_model.specs.declared.words.ControlQuantity.TheVariants as quantity
-use Rattle.dss_model.specs.declared.transformer.Winding.{Winding}
-use Rattle.dss_model.specs.declared.regcontrol.RegControl.{RegControl}
-use Rattle.dss_model.specs.declared.capcontrol.CapControl.{CapControl}
-use Rattle.dss_model.specs.declared.load.Load.{Load}
-use Rattle.dss_model.specs.LoadKinds.{is_zip, lacks_shares}
-use Rattle.dss_model.specs.declared.loadshape.Loadshape.{Loadshape}
-use Rattle.dss_model.specs.declared.transformer.Transformer.{Transformer}
-use Rattle.dss_model.specs.declared.element.Element.{Element}
-use Rattle.dss_model.specs.declared.element.Element.TheVariants as the
-use Rattle.dss_model.specs.declared.names.Class.TheVariants as class
-use Rattle.dss_model.specs.declared.names.ElementName.{ElementName}
+use Rattle.dss_circuit.specs.dss_model.Ranges.{ones}
+use Rattle.dss_circuit.specs.dss_model.declared.words.ControlQuantity.{ControlQuantity}
+use Rattle.dss_circuit.specs.dss_model.declared.words.ControlQuantity.TheVariants as quantity
+use Rattle.dss_circuit.specs.dss_model.declared.transformer.Winding.{Winding}
+use Rattle.dss_circuit.specs.dss_model.declared.regcontrol.RegControl.{RegControl}
+use Rattle.dss_circuit.specs.dss_model.declared.capcontrol.CapControl.{CapControl}
+use Rattle.dss_circuit.specs.dss_model.declared.load.Load.{Load}
+use Rattle.dss_circuit.specs.dss_model.LoadKinds.{is_zip, lacks_shares}
+use Rattle.dss_circuit.specs.dss_model.declared.loadshape.Loadshape.{Loadshape}
+use Rattle.dss_circuit.specs.dss_model.declared.transformer.Transformer.{Transformer}
+use Rattle.dss_circuit.specs.dss_model.declared.element.Element.{Element}
+use Rattle.dss_circuit.specs.dss_model.declared.element.Element.TheVariants as the
+use Rattle.dss_circuit.specs.dss_model.declared.names.Class.TheVariants as class
+use Rattle.dss_circuit.specs.dss_model.declared.names.ElementName.{ElementName}
 use Rattle.dss_circuit.specs.Circuit.{Elements}
 use Rattle.dss_layout.specs.declared.numbers.TerminalFault.{TerminalFault}
 use Rattle.dss_layout.specs.declared.numbers.TerminalFault.TheVariants as terminal

@@ -1,7 +1,7 @@
 -- What a layout, or its lack, says of the elements.
 use Rattle.std.proofs.Common.{◌≡◌, ℕ, ◌<◌, length, Option, Some, None, Ok, Err, refl}
 use Rattle.dss_layout.specs.declared.limits.LayoutFault.TheVariants.{TooMany}
-use Rattle.fd_exact.specs.FirstLaws.{place_below}
+use Rattle.dss_circuit.specs.fd_exact.FirstLaws.{place_below}
 use Rattle.dss_layout.specs.Layout.{Elements, LayoutView, first_too_many, is_past_limit_at, laid_out_unless}
 
 -- the first element past a limit is one of them

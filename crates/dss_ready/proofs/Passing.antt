@@ -2,10 +2,10 @@
 use Rattle.std.proofs.Common.{◌≡◌, ℕ, zero, suc, Bool, true, false, ◌||◌, [], ◌∷◌, ◌++◌, take, slice_get, Option, Some, None, Ok, refl, sym, subst, append_assoc}
 use Rattle.std.proofs.lemmas.Bool.{or_parts}
 use Rattle.std.proofs.lemmas.List.{append-nil}
-use Rattle.dss_model.specs.declared.fault.ModelFault.{ModelFault}
-use Rattle.dss_model.specs.declared.element.Element.{Element}
-use Rattle.dss_model.specs.declared.names.ElementName.{ElementName}
-use Rattle.dss_model.specs.Element.{place_of}
+use Rattle.dss_circuit.specs.dss_model.declared.fault.ModelFault.{ModelFault}
+use Rattle.dss_circuit.specs.dss_model.declared.element.Element.{Element}
+use Rattle.dss_circuit.specs.dss_model.declared.names.ElementName.{ElementName}
+use Rattle.dss_circuit.specs.dss_model.Element.{place_of}
 use Rattle.dss_circuit.specs.Circuit.{Elements}
 use Rattle.dss_layout.specs.Terminals.{terminal_numbers, tested}
 use Rattle.dss_ready.specs.Counts.{is_count_fault, is_part_wrong}

@@ -1,19 +1,19 @@
 -- The counts that are tested at Solve.
 use Rattle.std.specs.Prelude.{◌==◌, nat_lt, length, Bool, true, false, ◌&&◌, ◌||◌, is_none, Result, Err}
-use Rattle.dss_model.specs.declared.loadshape.Loadshape.{Loadshape}
-use Rattle.dss_model.specs.declared.regcontrol.RegControl.{RegControl}
-use Rattle.dss_model.specs.declared.capcontrol.CapControl.{CapControl}
-use Rattle.dss_model.specs.declared.element.Element.{Element}
-use Rattle.dss_model.specs.declared.element.Element.TheVariants as the
-use Rattle.dss_model.specs.declared.names.Class.TheVariants as class
-use Rattle.dss_model.specs.declared.names.ElementName.{ElementName}
+use Rattle.dss_circuit.specs.dss_model.declared.loadshape.Loadshape.{Loadshape}
+use Rattle.dss_circuit.specs.dss_model.declared.regcontrol.RegControl.{RegControl}
+use Rattle.dss_circuit.specs.dss_model.declared.capcontrol.CapControl.{CapControl}
+use Rattle.dss_circuit.specs.dss_model.declared.element.Element.{Element}
+use Rattle.dss_circuit.specs.dss_model.declared.element.Element.TheVariants as the
+use Rattle.dss_circuit.specs.dss_model.declared.names.Class.TheVariants as class
+use Rattle.dss_circuit.specs.dss_model.declared.names.ElementName.{ElementName}
 use Rattle.dss_layout.specs.declared.numbers.TerminalFault.{TerminalFault}
 use Rattle.dss_layout.specs.declared.numbers.TerminalFault.TheVariants as terminal
 use Rattle.dss_circuit.specs.Circuit.{Elements}
 use Rattle.dss_ready.specs.Mentions.{is_shape_followed}
 use Rattle.dss_circuit.specs.Lookups.{element_given}
-use Rattle.dss_model.specs.Sound.{are_matrices_wrong}
-use Rattle.dss_model.specs.LoadKinds.{lacks_shares}
+use Rattle.dss_circuit.specs.dss_model.Sound.{are_matrices_wrong}
+use Rattle.dss_circuit.specs.dss_model.LoadKinds.{lacks_shares}
 
 -- a shape of no hours, or with fewer values than hours
 abbrev pub is_shape_short : Loadshape → Bool

@@ -1,9 +1,9 @@
 -- Which nodes a source feeds.
 use Rattle.std.specs.Prelude.{◌≡◌, ℕ, List, [], ◌∷◌, take, map, filter, All, Contains, Option, Some, None, slice_get}
 use Rattle.std.specs.List.{flat_map, zip}
-use Rattle.dss_model.specs.declared.element.Element.{Element}
-use Rattle.dss_model.specs.declared.element.Element.TheVariants as the
-use Rattle.dss_model.specs.declared.names.ElementName.{ElementName}
+use Rattle.dss_circuit.specs.dss_model.declared.element.Element.{Element}
+use Rattle.dss_circuit.specs.dss_model.declared.element.Element.TheVariants as the
+use Rattle.dss_circuit.specs.dss_model.declared.names.ElementName.{ElementName}
 use Rattle.dss_layout.specs.declared.nodes.NodeName.{NodeName}
 use Rattle.dss_layout.specs.declared.terminals.Terminals.{Terminals}
 use Rattle.dss_layout.specs.Nodes.{is_node}

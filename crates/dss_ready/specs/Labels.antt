@@ -1,7 +1,7 @@
 -- Labels of nodes: two nodes have one label where they are tied.
 use Rattle.std.specs.Prelude.{ℕ, ◌+◌, ◌==◌, Bool, not, List, [], ◌∷◌, ◌++◌, length, map, if◌then◌else◌, slice_index}
 use Rattle.std.specs.List.{flat_map, range_with_len, list_any}
-use Rattle.dss_model.specs.declared.element.Element.{Element}
+use Rattle.dss_circuit.specs.dss_model.declared.element.Element.{Element}
 use Rattle.dss_layout.specs.declared.nodes.NodeName.{NodeName}
 use Rattle.dss_layout.specs.Nodes.{number_in}
 use Rattle.dss_layout.specs.Terminals.{mentions}

@@ -1,8 +1,8 @@
 -- What a control can measure of the element that it names.
 use Rattle.std.specs.Prelude.{ℕ, Option, Some, None}
 use Rattle.std.specs.Option.{option_and_then}
-use Rattle.dss_model.specs.declared.element.Element.{Element}
-use Rattle.dss_model.specs.declared.element.Element.TheVariants as the
+use Rattle.dss_circuit.specs.dss_model.declared.element.Element.{Element}
+use Rattle.dss_circuit.specs.dss_model.declared.element.Element.TheVariants as the
 
 -- the phases of a Transformer or a Line
 abbrev pub measured_phases : Element → Option ℕ

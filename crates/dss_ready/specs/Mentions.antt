@@ -1,9 +1,9 @@
 -- What elements name of one another.
 use Rattle.std.specs.Prelude.{ℕ, ◌==◌, ◌&&◌, Bool, false, List, Option, Some, None}
 use Rattle.std.specs.List.{list_any}
-use Rattle.dss_lexer.specs.Texts.{text_eq}
-use Rattle.dss_model.specs.declared.element.Element.{Element}
-use Rattle.dss_model.specs.declared.element.Element.TheVariants as the
+use Rattle.dss_circuit.specs.dss_lexer.Texts.{text_eq}
+use Rattle.dss_circuit.specs.dss_model.declared.element.Element.{Element}
+use Rattle.dss_circuit.specs.dss_model.declared.element.Element.TheVariants as the
 use Rattle.dss_circuit.specs.Circuit.{Elements}
 
 -- a property gives this name

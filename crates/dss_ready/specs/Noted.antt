@@ -1,8 +1,8 @@
 -- What elements name of one another, as it is noted element by element.
 use Rattle.std.specs.Prelude.{◌≡◌, ℕ, ◌==◌, ◌&&◌, ◌||◌, Bool, List}
 use Rattle.std.specs.List.{list_any}
-use Rattle.dss_lexer.specs.Texts.{text_eq}
-use Rattle.dss_model.specs.declared.element.Element.{Element}
+use Rattle.dss_circuit.specs.dss_lexer.Texts.{text_eq}
+use Rattle.dss_circuit.specs.dss_model.declared.element.Element.{Element}
 use Rattle.dss_circuit.specs.Circuit.{Elements}
 use Rattle.dss_ready.specs.declared.mention.WindingName.{WindingName}
 use Rattle.dss_ready.specs.Mentions.{controls_winding, controls_bank, follows_shape, is_winding_controlled, is_bank_controlled, is_shape_followed}

@@ -1,28 +1,28 @@
 -- What a circuit that passed the tests of Solve is.
 use Rattle.std.specs.Prelude.{◌≡◌, ℕ, ℤ, pos, ◌+◌, ◌<◌, ◌≤◌, ◌≤ℤ◌, ◌<ℤ◌, false, IsTrue, IsSome, List, length, take, All, Some, Ok, slice_get}
-use Rattle.dss_model.specs.Ranges.{ones}
-use Rattle.dss_model.specs.declared.words.ControlQuantity.{ControlQuantity}
-use Rattle.dss_model.specs.declared.words.ControlQuantity.TheVariants as quantity
-use Rattle.dss_model.specs.declared.vsource.Vsource.{Vsource}
-use Rattle.dss_model.specs.declared.line.Line.{Line}
-use Rattle.dss_model.specs.declared.transformer.Winding.{Winding}
-use Rattle.dss_model.specs.declared.transformer.Transformer.{Transformer}
-use Rattle.dss_model.specs.declared.regcontrol.RegControl.{RegControl}
-use Rattle.dss_model.specs.declared.capcontrol.CapControl.{CapControl}
-use Rattle.dss_model.specs.declared.load.Load.{Load}
-use Rattle.dss_model.specs.declared.loadshape.Loadshape.{Loadshape}
-use Rattle.dss_model.specs.declared.element.Element.{Element}
-use Rattle.dss_model.specs.declared.element.Element.TheVariants as the
-use Rattle.dss_model.specs.declared.names.Class.TheVariants as class
-use Rattle.dss_model.specs.declared.names.ElementName.{ElementName}
+use Rattle.dss_circuit.specs.dss_model.Ranges.{ones}
+use Rattle.dss_circuit.specs.dss_model.declared.words.ControlQuantity.{ControlQuantity}
+use Rattle.dss_circuit.specs.dss_model.declared.words.ControlQuantity.TheVariants as quantity
+use Rattle.dss_circuit.specs.dss_model.declared.vsource.Vsource.{Vsource}
+use Rattle.dss_circuit.specs.dss_model.declared.line.Line.{Line}
+use Rattle.dss_circuit.specs.dss_model.declared.transformer.Winding.{Winding}
+use Rattle.dss_circuit.specs.dss_model.declared.transformer.Transformer.{Transformer}
+use Rattle.dss_circuit.specs.dss_model.declared.regcontrol.RegControl.{RegControl}
+use Rattle.dss_circuit.specs.dss_model.declared.capcontrol.CapControl.{CapControl}
+use Rattle.dss_circuit.specs.dss_model.declared.load.Load.{Load}
+use Rattle.dss_circuit.specs.dss_model.declared.loadshape.Loadshape.{Loadshape}
+use Rattle.dss_circuit.specs.dss_model.declared.element.Element.{Element}
+use Rattle.dss_circuit.specs.dss_model.declared.element.Element.TheVariants as the
+use Rattle.dss_circuit.specs.dss_model.declared.names.Class.TheVariants as class
+use Rattle.dss_circuit.specs.dss_model.declared.names.ElementName.{ElementName}
 use Rattle.dss_circuit.specs.Circuit.{CircuitView, Elements}
 use Rattle.dss_layout.specs.Among.{IsAmong}
 use Rattle.dss_ready.specs.Feeding.{Fed}
 use Rattle.dss_layout.specs.Limits.{most_complex, most_magnitudes}
 use Rattle.dss_layout.specs.Layout.{complex_count, layout_of, nodes_of}
 use Rattle.dss_layout.specs.Terminals.{mentions, terminal_numbers, tested}
-use Rattle.dss_model.specs.Sound.{are_matrices_wrong, is_source_outside}
-use Rattle.dss_model.specs.LoadKinds.{is_zip}
+use Rattle.dss_circuit.specs.dss_model.Sound.{are_matrices_wrong, is_source_outside}
+use Rattle.dss_circuit.specs.dss_model.LoadKinds.{is_zip}
 use Rattle.dss_circuit.specs.Lookups.{element_given}
 use Rattle.dss_ready.specs.Lookups.{measured_phases}
 use Rattle.dss_ready.specs.Mentions.{is_second_of_bank, is_second_of_winding, is_shape_followed, is_winding_controlled}

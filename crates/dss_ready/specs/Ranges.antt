@@ -1,20 +1,20 @@
 -- The values that are tested against one another at Solve.
 use Rattle.std.specs.Prelude.{ℕ, ℤ, pos, ◌+◌, nat_lt, int_lt, int_le, Bool, false, not, ◌&&◌, ◌||◌, List, Option, Some, None}
-use Rattle.dss_model.specs.declared.words.ControlQuantity.{ControlQuantity}
-use Rattle.dss_model.specs.declared.words.ControlQuantity.TheVariants as quantity
-use Rattle.dss_model.specs.declared.transformer.Winding.{Winding}
-use Rattle.dss_model.specs.declared.transformer.Transformer.{Transformer}
-use Rattle.dss_model.specs.declared.regcontrol.RegControl.{RegControl}
-use Rattle.dss_model.specs.declared.capcontrol.CapControl.{CapControl}
-use Rattle.dss_model.specs.declared.element.Element.{Element}
-use Rattle.dss_model.specs.declared.element.Element.TheVariants as the
-use Rattle.dss_model.specs.declared.names.Class.TheVariants as class
-use Rattle.dss_model.specs.declared.names.ElementName.{ElementName}
+use Rattle.dss_circuit.specs.dss_model.declared.words.ControlQuantity.{ControlQuantity}
+use Rattle.dss_circuit.specs.dss_model.declared.words.ControlQuantity.TheVariants as quantity
+use Rattle.dss_circuit.specs.dss_model.declared.transformer.Winding.{Winding}
+use Rattle.dss_circuit.specs.dss_model.declared.transformer.Transformer.{Transformer}
+use Rattle.dss_circuit.specs.dss_model.declared.regcontrol.RegControl.{RegControl}
+use Rattle.dss_circuit.specs.dss_model.declared.capcontrol.CapControl.{CapControl}
+use Rattle.dss_circuit.specs.dss_model.declared.element.Element.{Element}
+use Rattle.dss_circuit.specs.dss_model.declared.element.Element.TheVariants as the
+use Rattle.dss_circuit.specs.dss_model.declared.names.Class.TheVariants as class
+use Rattle.dss_circuit.specs.dss_model.declared.names.ElementName.{ElementName}
 use Rattle.dss_circuit.specs.Circuit.{Elements}
 use Rattle.dss_ready.specs.Mentions.{is_winding_controlled}
 use Rattle.dss_circuit.specs.Lookups.{element_given}
 use Rattle.dss_ready.specs.Lookups.{phases_given}
-use Rattle.dss_model.specs.Sound.{is_source_outside}
+use Rattle.dss_circuit.specs.dss_model.Sound.{is_source_outside}
 
 -- a step of the tap, (maxtap - mintap) over numtaps, is at least 10^-5
 abbrev pub is_step_outside : Winding → Bool

@@ -1,11 +1,11 @@
 -- What the tests of Solve answer.
 use Rattle.std.specs.Prelude.{◌≡◌, ℕ, [], Option, Some, None, option_map, slice_get, Result, Ok, Err}
-use Rattle.dss_model.specs.declared.fault.ModelFault.{ModelFault}
-use Rattle.dss_model.specs.declared.fault.ModelFault.TheVariants as fault
-use Rattle.dss_model.specs.declared.command.Blame.{Blame}
-use Rattle.dss_model.specs.declared.element.Element.{Element}
-use Rattle.dss_model.specs.declared.names.ElementName.{ElementName}
-use Rattle.dss_model.specs.Element.{place_of}
+use Rattle.dss_circuit.specs.dss_model.declared.fault.ModelFault.{ModelFault}
+use Rattle.dss_circuit.specs.dss_model.declared.fault.ModelFault.TheVariants as fault
+use Rattle.dss_circuit.specs.dss_model.declared.command.Blame.{Blame}
+use Rattle.dss_circuit.specs.dss_model.declared.element.Element.{Element}
+use Rattle.dss_circuit.specs.dss_model.declared.names.ElementName.{ElementName}
+use Rattle.dss_circuit.specs.dss_model.Element.{place_of}
 use Rattle.dss_layout.specs.Layout.{first_too_many}
 use Rattle.dss_ready.specs.Feeding.{IsFirstIsolated, FirstIsolated}
 use Rattle.dss_ready.specs.declared.fault.ReadyFault.{ReadyFault}

@@ -1,9 +1,9 @@
 -- What is unsupported at Solve, and what an element lacks.
 use Rattle.std.specs.Prelude.{ℕ, ℤ, Bool, true, false, not, is_none, Option, Some, None, Result, Err}
 use Rattle.std.specs.Ordering.{int_eq}
-use Rattle.dss_model.specs.Ranges.{ones}
-use Rattle.dss_model.specs.declared.element.Element.{Element}
-use Rattle.dss_model.specs.declared.element.Element.TheVariants as the
+use Rattle.dss_circuit.specs.dss_model.Ranges.{ones}
+use Rattle.dss_circuit.specs.dss_model.declared.element.Element.{Element}
+use Rattle.dss_circuit.specs.dss_model.declared.element.Element.TheVariants as the
 use Rattle.dss_layout.specs.declared.numbers.TerminalFault.{TerminalFault}
 use Rattle.dss_layout.specs.declared.numbers.TerminalFault.TheVariants as terminal
 

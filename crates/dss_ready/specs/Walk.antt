@@ -1,15 +1,15 @@
 -- The first element that is to blame, in order of definition.
 use Rattle.std.specs.Prelude.{ℕ, Bool, ◌||◌, [], ◌∷◌, ◌++◌, Option, Some, None, Result, Ok, Err, if◌then◌else◌}
-use Rattle.dss_model.specs.declared.command.Place.{Place}
-use Rattle.dss_model.specs.declared.fault.ModelFault.{ModelFault}
-use Rattle.dss_model.specs.declared.fault.ModelFault.TheVariants as fault
-use Rattle.dss_model.specs.declared.command.Blame.{Blame}
-use Rattle.dss_model.specs.declared.element.Element.{Element}
-use Rattle.dss_model.specs.declared.names.ElementName.{ElementName}
+use Rattle.dss_circuit.specs.dss_model.declared.command.Place.{Place}
+use Rattle.dss_circuit.specs.dss_model.declared.fault.ModelFault.{ModelFault}
+use Rattle.dss_circuit.specs.dss_model.declared.fault.ModelFault.TheVariants as fault
+use Rattle.dss_circuit.specs.dss_model.declared.command.Blame.{Blame}
+use Rattle.dss_circuit.specs.dss_model.declared.element.Element.{Element}
+use Rattle.dss_circuit.specs.dss_model.declared.names.ElementName.{ElementName}
 use Rattle.dss_ready.specs.declared.fault.ReadyFault.{ReadyFault}
 use Rattle.dss_ready.specs.declared.fault.ReadyFault.TheVariants as ready_fault
-use Rattle.fd_exact.specs.Answers as answers
-use Rattle.dss_model.specs.Element.{place_of}
+use Rattle.dss_circuit.specs.fd_exact.Answers as answers
+use Rattle.dss_circuit.specs.dss_model.Element.{place_of}
 use Rattle.dss_layout.specs.Terminals.{terminal_numbers, tested}
 use Rattle.dss_circuit.specs.Circuit.{Elements}
 use Rattle.dss_ready.specs.Mentions.{is_second_control}

@@ -8,9 +8,8 @@ use crate::ReadyFault;
 use crate::feeding::first_isolated;
 use crate::mention::all_mentions;
 use crate::walk::{blame, find_blame};
-use dss_circuit::Circuit;
+use dss_circuit::{Blame, Circuit, ModelFault};
 use dss_layout::{Layout, LayoutFault};
-use dss_model::{Blame, ModelFault};
 use std::alloc::{AllocError, Global};
 
 // The first element that is to blame for a cause of its own.

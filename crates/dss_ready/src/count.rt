@@ -1,12 +1,12 @@
 // Counts that are tested at Solve.
 ghost use Rattle.std.specs.Prelude.{◌≡◌, ◌&&◌, IfOk};
 ghost use Rattle.dss_ready.specs.Noted.{Notes, has_shape};
-ghost use Rattle.dss_model.specs.Sound.{is_size_wrong, is_matrix, are_matrices_wrong};
+ghost use Rattle.dss_circuit.specs.dss_model.Sound.{is_size_wrong, is_matrix, are_matrices_wrong};
 ghost use Rattle.dss_ready.specs.Counts.{is_shape_short, lacks_transformer, lacks_line_or_bank, is_part_wrong};
 
 use crate::lookup::{Elements, find_given};
 use crate::mention::Mentions;
-use dss_model::{
+use dss_circuit::{
     CapControl, Class, DataForm, Element, ElementName, Line, Loadshape, Numbers, RegControl,
 };
 use std::alloc::AllocError;

@@ -1,5 +1,5 @@
 // Why a circuit isn't ready to be solved.
-use dss_model::Blame;
+use dss_circuit::Blame;
 use std::alloc::{AllocError, AllocFailed};
 
 /// The answer of the tests of Solve.

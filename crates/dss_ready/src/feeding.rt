@@ -7,8 +7,8 @@ ghost use Rattle.dss_layout.specs.Layout.{layout_of};
 ghost use Rattle.dss_ready.specs.Feeding.{phase_ends, FirstIsolated};
 ghost use Rattle.dss_ready.specs.Labels.{joined, joined_all, pairs_with, group_pairs, element_pairs, all_pairs, labels_of, mentions_apart};
 
+use dss_circuit::{Element, ElementName};
 use dss_layout::{Layout, NodeName, NodeNames, Terminals, terminal_nodes};
-use dss_model::{Element, ElementName};
 use indexmap::IndexMap;
 use std::alloc::{AllocError, Global};
 

@@ -30,3 +30,11 @@ pub use answer::ready;
 pub use fault::ReadyFault;
 pub use feeding::first_isolated;
 pub use law::passed_law;
+
+// Handed on from the crates below.
+pub use dss_circuit::{
+    Blame, Bus, CapControl, Circuit, Class, ControlMode, ControlQuantity, DataForm, Element,
+    ElementName, Elements, Ends, Line, LineConstants, ModelFault, Nodes, ONE, Options, Place,
+    RegControl, Term, TermFault, Text, Transformer, Units, Winding, find_element,
+};
+pub use dss_layout::{Layout, LayoutFault, NodeName, PhaseName};

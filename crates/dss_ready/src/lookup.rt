@@ -3,9 +3,7 @@ ghost use Rattle.std.specs.Prelude.{◌≡◌, IfOk, option_copied};
 ghost use Rattle.dss_circuit.specs.Lookups.{element_given};
 ghost use Rattle.dss_ready.specs.Lookups.{phases_given};
 
-use dss_circuit::find_element;
-use dss_lexer::Text;
-use dss_model::{Class, Element, ElementName};
+use dss_circuit::{Class, Element, ElementName, Text, find_element};
 use indexmap::IndexMap;
 use std::alloc::AllocError;
 

@@ -1,15 +1,14 @@
 // What elements name of one another.
 ghost use Rattle.std.specs.Prelude.{◌≡◌, ◌||◌, false, not, [], IfOk, OnOk};
 ghost use Rattle.std.specs.Option.{option_map_or};
-ghost use Rattle.dss_model.specs.declared.element.Element.TheVariants as the;
+ghost use Rattle.dss_circuit.specs.dss_model.declared.element.Element.TheVariants as the;
 ghost use Rattle.dss_ready.specs.declared.mention.WindingName.{WindingName};
 ghost use Rattle.dss_circuit.specs.Circuit.{Elements};
 ghost use Rattle.dss_ready.specs.Mentions.{is_second_control};
 ghost use Rattle.dss_ready.specs.Noted.{Notes, NotesToo, has_bank, has_shape, has_winding, is_among, same_winding};
 
 use crate::lookup::Elements;
-use dss_lexer::Text;
-use dss_model::{CapControl, Element, Load, RegControl};
+use dss_circuit::{CapControl, Element, Load, RegControl, Text};
 use std::alloc::{AllocError, Global};
 use std::collections::HashSet;
 use std::marker::Model;

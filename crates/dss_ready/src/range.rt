@@ -2,17 +2,15 @@
 ghost use Rattle.std.specs.Prelude.{◌≡◌, IfOk};
 ghost use Rattle.dss_circuit.specs.Circuit.{Elements};
 ghost use Rattle.dss_ready.specs.Noted.{Notes};
-ghost use Rattle.dss_model.specs.Sound.{is_source_outside};
+ghost use Rattle.dss_circuit.specs.dss_model.Sound.{is_source_outside};
 ghost use Rattle.dss_ready.specs.Ranges.{is_step_outside, is_tap_outside, is_phase_outside, are_settings_outside, is_winding_outside, is_transformer_outside, is_regcontrol_outside, is_capcontrol_outside, is_outside_by};
 
 use crate::lookup::{Elements, find_given, phases_to_measure};
 use crate::mention::Mentions;
-use dss_lexer::Text;
-use dss_model::{
-    CapControl, Class, ControlQuantity, Element, ElementName, RegControl, SourceForm, Transformer,
-    Vsource, Winding,
+use dss_circuit::{
+    CapControl, Class, ControlQuantity, Element, ElementName, RegControl, SourceForm, Text,
+    Transformer, Vsource, Winding, is_source_above_limit,
 };
-use fd_arith::is_source_above_limit;
 use std::alloc::AllocError;
 
 fn is_source_range_fault(source: &Vsource) -> bool

@@ -2,7 +2,7 @@
 ghost use Rattle.std.specs.Prelude.{◌≡◌};
 ghost use Rattle.dss_ready.specs.Support.{frequency_of, differs_from, are_powers_unequal, lacks_impedance};
 
-use dss_model::Element;
+use dss_circuit::Element;
 
 fn frequency(element: &Element) -> Option<i128>
     ensures { result ≡ frequency_of element.now }

@@ -4,7 +4,7 @@ ghost use Rattle.dss_layout.specs.Terminals.{terminal_numbers, tested};
 ghost use Rattle.dss_ready.specs.Noted.{Notes};
 ghost use Rattle.dss_ready.specs.Counts.{is_count_fault, is_part_wrong};
 ghost use Rattle.dss_ready.specs.Support.{is_support_fault, are_powers_unequal, differs_from, frequency_of};
-ghost use Rattle.dss_model.specs.Element.{place_of};
+ghost use Rattle.dss_circuit.specs.dss_model.Element.{place_of};
 ghost use Rattle.dss_ready.specs.Walk.{Answers, cause_by, first_blame};
 
 use crate::ReadyFault;
@@ -13,8 +13,8 @@ use crate::lookup::Elements;
 use crate::mention::Mentions;
 use crate::range::is_range_fault;
 use crate::support::{has_no_impedance, has_other_frequency, has_unequal_powers};
+use dss_circuit::{Blame, Element, ElementName, ModelFault};
 use dss_layout::{TerminalFault, check_terminals};
-use dss_model::{Blame, Element, ElementName, ModelFault};
 use std::alloc::{AllocError, Global};
 
 /// An element to blame for a cause, by the place of its New.

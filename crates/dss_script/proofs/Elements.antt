@@ -3,7 +3,7 @@ use Rattle.std.proofs.Common.{◌≡◌, ◌∙◌, ℕ, ◌+◌, ◌<◌, ◌�
 use Rattle.std.specs.List.{position, before_first, position_or_len}
 use Rattle.std.proofs.lemmas.Bool.{cases_lt, lt-ltb}
 use Rattle.std.proofs.lemmas.List.{drop_all}
-use Rattle.dss_lexer.specs.Texts.{is_empty}
+use Rattle.dss_model.specs.dss_lexer.Texts.{is_empty}
 use Rattle.dss_model.specs.Names.{is_name}
 use Rattle.dss_script.specs.declared.meaning.Target.{Target}
 use Rattle.dss_script.specs.Meaning.{element_of, is_dot}

@@ -1,7 +1,7 @@
 -- Files of load shapes, one after another.
 use Rattle.std.proofs.Common.{◌≡◌, ◌∙◌, ℕ, List, [], ◌∷◌, ◌++◌, Option, Some, Result, Ok, Err, refl, sym, ap, subst, append_assoc, append-nil}
-use Rattle.dss_lexer.specs.declared.pair.Pair.{Pair}
-use Rattle.dss_lexer.specs.Answers.{◌>>=◌}
+use Rattle.dss_model.specs.dss_lexer.declared.pair.Pair.{Pair}
+use Rattle.dss_model.specs.dss_lexer.Answers.{◌>>=◌}
 use Rattle.dss_model.specs.Names.{bytes}
 use Rattle.dss_script.specs.ShapeFiles.{file_named}
 use Rattle.dss_model.specs.declared.command.Place.{Place}

@@ -6,10 +6,10 @@ use Rattle.std.specs.Cmp.Lexicographic.{pointwise}
 use Rattle.std.proofs.lemmas.Bool.{leb-true, ltb-true}
 use Rattle.std.proofs.lemmas.List.{length-map}
 use Rattle.std.proofs.lemmas.Str.{encodes_same}
-use Rattle.dss_lexer.specs.declared.pair.Pair.{Pair}
+use Rattle.dss_model.specs.dss_lexer.declared.pair.Pair.{Pair}
 use Rattle.std.specs.Prelude.{codes}
-use Rattle.dss_lexer.specs.Texts.{is_empty, text_eq}
-use Rattle.dss_lexer.proofs.CallerLemmas.{same_from}
+use Rattle.dss_model.specs.dss_lexer.Texts.{is_empty, text_eq}
+use Rattle.dss_model.proofs.CallerLemmas.dss_lexer.{same_from}
 use Rattle.dss_model.specs.Names.{named, bytes, lower, is_name}
 use Rattle.dss_script.specs.declared.meaning.Target.{Target}
 use Rattle.dss_script.specs.declared.meaning.CommandWord.{CommandWord}

@@ -7,11 +7,11 @@ use Rattle.std.proofs.lemmas.Str.{length-le-encodes, encodes-chars, IsUtf8-from_
 use Rattle.std.proofs.lemmas.Bool.{eqb-true, ltb-true}
 use Rattle.std.proofs.lemmas.Bool.Decides.{nat_tests}
 use Rattle.std.proofs.lemmas.Grind.{common_steps}
-use Rattle.dss_lexer.specs.declared.pair.Pair.{Pair}
-use Rattle.dss_lexer.specs.declared.fault.LineFault.{LineFault}
-use Rattle.dss_lexer.specs.declared.fault.LineFault.TheVariants as lex
-use Rattle.dss_lexer.specs.Answers.{◌>>=◌}
-use Rattle.dss_lexer.specs.Line.{is_blank, is_separator, skip_blanks}
+use Rattle.dss_model.specs.dss_lexer.declared.pair.Pair.{Pair}
+use Rattle.dss_model.specs.dss_lexer.declared.fault.LineFault.{LineFault}
+use Rattle.dss_model.specs.dss_lexer.declared.fault.LineFault.TheVariants as lex
+use Rattle.dss_model.specs.dss_lexer.Answers.{◌>>=◌}
+use Rattle.dss_model.specs.dss_lexer.Line.{is_blank, is_separator, skip_blanks}
 use Rattle.dss_script.specs.Cutting.{Value, skip_separators, starts_comment, ends_line, ends_word, word_len, closer_of, group_at, value_at, value_by, item_at, items_of, pairs_of, after_name, pair, is_group}
 use Rattle.dss_script.specs.Sessions.{paid}
 

@@ -2,9 +2,9 @@
 use Rattle.std.proofs.Common.{◌≡◌, ◌∙◌, ℕ, zero, suc, ◌+◌, ◌-◌, ◌≤◌, Bool, true, false, if◌then◌else◌, List, [], ◌∷◌, ◌++◌, length, map, nat_lt, Option, Some, None, Result, Ok, Err, refl, sym, ap, arith}
 use Rattle.std.specs.Str.Lines.{lines}
 use Rattle.std.proofs.lemmas.Bool.{ltb-false}
-use Rattle.dss_lexer.specs.Answers.{◌>>=◌}
-use Rattle.dss_lexer.specs.declared.fault.LineFault.{LineFault}
-use Rattle.dss_lexer.specs.declared.pair.Pair.{Pair}
+use Rattle.dss_model.specs.dss_lexer.Answers.{◌>>=◌}
+use Rattle.dss_model.specs.dss_lexer.declared.fault.LineFault.{LineFault}
+use Rattle.dss_model.specs.dss_lexer.declared.pair.Pair.{Pair}
 use Rattle.dss_model.specs.Names.{bytes}
 use Rattle.dss_model.specs.declared.command.Command.{Command}
 use Rattle.dss_model.specs.declared.command.Place.{Place}

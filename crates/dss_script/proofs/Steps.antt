@@ -7,8 +7,8 @@ use Rattle.dss_script.specs.Lines.{is_line_feed}
 use Rattle.std.proofs.lemmas.List.{length-reverse}
 use Rattle.std.proofs.lemmas.Bool.{eqb-true, eqb-false, ltb-true, ltb-false, lt-ltb, le-ltb}
 use Rattle.fd_outside.specs.Files.{Files, held}
-use Rattle.dss_lexer.specs.declared.pair.Pair.{Pair}
-use Rattle.dss_lexer.specs.declared.fault.LineFault.{LineFault}
+use Rattle.dss_model.specs.dss_lexer.declared.pair.Pair.{Pair}
+use Rattle.dss_model.specs.dss_lexer.declared.fault.LineFault.{LineFault}
 use Rattle.dss_script.proofs.Rooms.{pairs_room}
 use Rattle.dss_script.specs.Cutting.{pairs_of}
 use Rattle.dss_model.specs.Names.{bytes}

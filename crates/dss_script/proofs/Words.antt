@@ -3,10 +3,10 @@ use Rattle.std.proofs.Common.{◌≡◌, ◌∙◌, ℕ, zero, suc, ◌+◌, ◌
 use Rattle.std.specs.Str.{IsUtf8, is_utf8}
 use Rattle.std.proofs.lemmas.Bool.{false_from_ne_true}
 use Rattle.std.proofs.lemmas.Str.{IsUtf8-from_is_utf8, is_utf8-from_IsUtf8}
-use Rattle.dss_lexer.specs.declared.pair.Pair.{Pair}
-use Rattle.dss_lexer.specs.declared.fault.LineFault.{LineFault}
-use Rattle.dss_lexer.specs.declared.fault.LineFault.TheVariants as fault
-use Rattle.dss_lexer.proofs.CallerLemmas.{after, joined}
+use Rattle.dss_model.specs.dss_lexer.declared.pair.Pair.{Pair}
+use Rattle.dss_model.specs.dss_lexer.declared.fault.LineFault.{LineFault}
+use Rattle.dss_model.specs.dss_lexer.declared.fault.LineFault.TheVariants as fault
+use Rattle.dss_model.proofs.CallerLemmas.dss_lexer.{after, joined}
 use Rattle.dss_script.specs.Cutting.{word_len, ends_word, skip_separators, ends_line, item_at, items_of}
 
 pub word_ends : (is_name : Bool) (cs : List ℕ) → ends_word is_name cs ≡ true → word_len is_name cs ≡ 0

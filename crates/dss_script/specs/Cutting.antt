@@ -2,11 +2,11 @@
 use Rattle.std.specs.Prelude.{ℕ, suc, zero, ◌+◌, ◌==◌, nat_lt, Bool, true, false, not, ◌&&◌, ◌||◌, List, [], ◌∷◌, length, take, drop, Option, Some, None, Result, Ok, Err, if◌then◌else◌}
 use Rattle.std.specs.Str.{chars, is_utf8}
 use Rattle.std.specs.List.{position_or_len, before_first, after_first}
-use Rattle.dss_lexer.specs.declared.pair.Pair.{Pair}
-use Rattle.dss_lexer.specs.declared.fault.LineFault.{LineFault}
-use Rattle.dss_lexer.specs.declared.fault.LineFault.TheVariants as fault
-use Rattle.dss_lexer.specs.Answers.{◌>>=◌}
-use Rattle.dss_lexer.specs.Line.{is_separator, skip_blanks}
+use Rattle.dss_model.specs.dss_lexer.declared.pair.Pair.{Pair}
+use Rattle.dss_model.specs.dss_lexer.declared.fault.LineFault.{LineFault}
+use Rattle.dss_model.specs.dss_lexer.declared.fault.LineFault.TheVariants as fault
+use Rattle.dss_model.specs.dss_lexer.Answers.{◌>>=◌}
+use Rattle.dss_model.specs.dss_lexer.Line.{is_separator, skip_blanks}
 
 abbrev pub skip_separators : List ℕ → List ℕ
 skip_separators [] = []

@@ -1,10 +1,10 @@
 -- What a line of a script asks for.
 use Rattle.std.specs.Prelude.{ℕ, ◌==◌, Bool, true, false, ◌||◌, ◌&&◌, not, List, [], ◌∷◌, Option, Some, None, if◌then◌else◌, codes}
 use Rattle.std.specs.List.{slice_split, before_first, after_first}
-use Rattle.dss_lexer.specs.declared.pair.Pair.{Pair}
-use Rattle.dss_lexer.specs.declared.fault.LineFault.{LineFault}
-use Rattle.dss_lexer.specs.declared.fault.LineFault.TheVariants as line
-use Rattle.dss_lexer.specs.Texts.{is_empty, text_eq}
+use Rattle.dss_model.specs.dss_lexer.declared.pair.Pair.{Pair}
+use Rattle.dss_model.specs.dss_lexer.declared.fault.LineFault.{LineFault}
+use Rattle.dss_model.specs.dss_lexer.declared.fault.LineFault.TheVariants as line
+use Rattle.dss_model.specs.dss_lexer.Texts.{is_empty, text_eq}
 use Rattle.dss_model.specs.Names.{named, bytes, lower, is_name}
 use Rattle.dss_model.specs.declared.command.Verb.TheVariants as verb
 use Rattle.dss_script.specs.declared.fault.ScriptCause.{ScriptCause}

@@ -13,8 +13,8 @@ use Rattle.dss_script.specs.declared.fault.SessionFault.{SessionFault}
 use Rattle.dss_script.specs.declared.fault.SessionFault.TheVariants as fault
 use Rattle.dss_script.specs.declared.session.Turn.{Turn}
 use Rattle.dss_script.specs.declared.session.Turn.TheVariants as turn
-use Rattle.dss_lexer.specs.declared.pair.Pair.{Pair}
-use Rattle.dss_lexer.specs.declared.fault.LineFault.{LineFault}
+use Rattle.dss_model.specs.dss_lexer.declared.pair.Pair.{Pair}
+use Rattle.dss_model.specs.dss_lexer.declared.fault.LineFault.{LineFault}
 use Rattle.dss_script.specs.Cutting.{pairs_of}
 use Rattle.dss_model.specs.declared.command.Verb.{Verb}
 use Rattle.dss_model.specs.declared.command.Verb.TheVariants as verb

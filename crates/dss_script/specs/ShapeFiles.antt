@@ -2,7 +2,7 @@
 use Rattle.std.specs.Prelude.{ℕ, ◌&&◌, List, codes, drop, nat_eq, Option, Some, None, if◌then◌else◌}
 use Rattle.std.specs.Cmp.Lexicographic.{pointwise}
 use Rattle.std.specs.List.{starts_with}
-use Rattle.dss_lexer.specs.declared.pair.Pair.{Pair}
+use Rattle.dss_model.specs.dss_lexer.declared.pair.Pair.{Pair}
 use Rattle.dss_model.specs.Names.{bytes, lower}
 
 -- the name of the file that holds the factors, as in `mult=file=NAME`: its numbers take the place of the value before

@@ -1,8 +1,8 @@
 -- The files of load shapes: their numbers stand in place of their names.
 use Rattle.std.specs.Prelude.{ℕ, ℤ, Bool, List, [], ◌∷◌, ◌++◌, codes, true, Option, Some, None, Result, Ok, Err, if◌then◌else◌}
-use Rattle.dss_lexer.specs.Answers.{◌>>=◌}
-use Rattle.dss_lexer.specs.declared.pair.Pair.{Pair}
-use Rattle.dss_lexer.specs.Texts.{text_eq}
+use Rattle.dss_model.specs.dss_lexer.Answers.{◌>>=◌}
+use Rattle.dss_model.specs.dss_lexer.declared.pair.Pair.{Pair}
+use Rattle.dss_model.specs.dss_lexer.Texts.{text_eq}
 use Rattle.dss_model.specs.Names.{bytes, lower}
 use Rattle.dss_script.specs.ShapeFiles.{file_named}
 use Rattle.dss_model.specs.declared.command.Verb.{Verb}

@@ -2,11 +2,11 @@
 ghost use Rattle.std.specs.Prelude.{◌≡◌, Some, None, Option, length, ◌≤◌, ◌==◌, true, Ok, Err, IfOk, if◌then◌else◌};
 ghost use Rattle.std.specs.List.{position};
 ghost use Rattle.std.specs.Str.{is_utf8};
-ghost use Rattle.dss_lexer.specs.Answers.{Gives};
-ghost use Rattle.dss_lexer.specs.Line.{skip_blanks};
+ghost use Rattle.dss_model.specs.dss_lexer.Answers.{Gives};
+ghost use Rattle.dss_model.specs.dss_lexer.Line.{skip_blanks};
 ghost use Rattle.dss_script.specs.Cutting.{closer_of, starts_comment, ends_line, ends_word, word_len, group_at, value_at, item_at, items_of, pairs_of, is_group, skip_separators};
 
-use dss_lexer::{LineError, LineFault, Pair, Text, characters_of};
+use dss_model::{LineError, LineFault, Pair, Text, characters_of};
 use std::alloc::{AllocError, Global};
 
 fn without_blanks(text: &[char]) -> &[char]

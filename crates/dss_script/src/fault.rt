@@ -1,6 +1,5 @@
 // Why a script is refused, and why a session gives no command.
-use dss_lexer::Text;
-use dss_model::Place;
+use dss_model::{Place, Text};
 use std::alloc::{AllocError, AllocFailed};
 
 /// Why a script is refused before its commands are applied.

@@ -37,3 +37,15 @@ pub use fault::{ScriptCause, SessionFault};
 pub use laws::said_law;
 pub use said_room::said_room_law;
 pub use session::Session;
+
+// Handed on from the crates below.
+pub use dss_model::{
+    Command, ElementName, Interval, LineError, LineFault, LoadModel, Micro, ModelError, ModelFault,
+    NodeAt, NumberError, NumberFault, Pair, PairList, Place, Row, TapPair, Term, Text, Verb, cells,
+    matrix, number, postfix,
+};
+pub use fd_outside::{
+    Bytes, FileEntry, FolderLibrary, Found, LibFault, MemLibrary, MemSink, NeverFails, Record,
+    SinkFault, StdSink, SystemTape, emit, read_opened,
+};
+pub use fd_shape::{ShapeFault, fixed_text, micro_text, nano_text, read_column, size_text};

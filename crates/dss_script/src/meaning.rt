@@ -1,13 +1,12 @@
 // What the words and pairs of a line ask for.
 ghost use Rattle.std.specs.Prelude.{◌≡◌, ◌∷◌, [], ◌||◌, ◌&&◌, Some, None, true, false, map, IfOk, MatchOption, codes};
 ghost use Rattle.std.specs.List.{position, slice_split};
-ghost use Rattle.dss_lexer.specs.Texts.{text_eq};
+ghost use Rattle.dss_model.specs.dss_lexer.Texts.{text_eq};
 ghost use Rattle.dss_model.specs.Names.{named, bytes, lower};
 ghost use Rattle.dss_script.specs.Meaning.{command_words, cause_of, is_dot, is_word, subject, others, element_of, made, new_element, edited_element, continued, file_in, command_of, property_set, property_of, meaning_of, target_after};
 
 use crate::ScriptCause;
-use dss_lexer::{LineFault, Pair, PairList, Text};
-use dss_model::{Verb, find_named, is_legal_name};
+use dss_model::{LineFault, Pair, PairList, Text, Verb, find_named, is_legal_name};
 use std::alloc::{AllocError, Global};
 
 /// The class and name of an element as they are written: that of the last New or Edit, with which `~` goes on.

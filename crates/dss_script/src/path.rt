@@ -3,7 +3,7 @@ ghost use Rattle.std.specs.Prelude.{◌≡◌, ◌-◌, ◌≤◌, IfOk, length}
 ghost use Rattle.std.specs.List.{suffix_len};
 ghost use Rattle.dss_script.specs.Paths.{folder_of, is_slash, is_no_slash, slashed, joined};
 
-use dss_lexer::Text;
+use dss_model::Text;
 use std::alloc::{AllocError, Global};
 
 fn is_separator(character: char) -> bool

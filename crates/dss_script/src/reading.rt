@@ -2,7 +2,7 @@
 ghost use Rattle.std.specs.Prelude.{◌≡◌, ◌+◌, ◌<◌, ◌≤◌, ◌==◌, ◌∷◌, [], length, drop, reverse, IfOk, OnOk, Option, MatchOption};
 ghost use Rattle.std.specs.List.{position, after_first};
 ghost use Rattle.std.specs.Str.Lines.{lines, strip_carriage_return};
-ghost use Rattle.dss_lexer.specs.Answers.{Gives};
+ghost use Rattle.dss_model.specs.dss_lexer.Answers.{Gives};
 ghost use Rattle.dss_script.specs.Cutting.{pairs_of};
 ghost use Rattle.dss_script.specs.Lines.{is_line_feed, first_line};
 ghost use Rattle.dss_script.specs.Readings.{advanced, next_line};
@@ -11,8 +11,7 @@ ghost use Rattle.dss_script.specs.Sessions.{next_place, taken_of, files_after};
 use crate::ScriptCause;
 use crate::cutting::pairs;
 use crate::meaning::line_cause;
-use dss_lexer::{LineError, Pair, PairList, Text};
-use dss_model::Place;
+use dss_model::{LineError, Pair, PairList, Place, Text};
 use std::alloc::{AllocError, Global};
 use std::marker::Model;
 

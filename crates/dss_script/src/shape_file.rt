@@ -4,7 +4,7 @@ ghost use Rattle.std.specs.Cmp.Lexicographic.{pointwise};
 ghost use Rattle.std.specs.List.{starts_with};
 ghost use Rattle.dss_script.specs.ShapeFiles.{file_named};
 
-use dss_lexer::{Pair, Text};
+use dss_model::{Pair, Text};
 use std::alloc::{AllocError, Global};
 
 // Whether a value in lower case begins with `file=`.

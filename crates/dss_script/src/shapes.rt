@@ -9,8 +9,7 @@ ghost use Rattle.dss_script.specs.Shapes.{class_filled, is_loadshape, pair_fille
 use crate::path::name_within;
 use crate::shape_file::file_named;
 use crate::{ScriptCause, SessionFault};
-use dss_lexer::{Pair, PairList, Text};
-use dss_model::{Place, Verb};
+use dss_model::{Pair, PairList, Place, Text, Verb};
 use fd_outside::{Found, LibFault, Library};
 use fd_shape::{ShapeFault, read_column, values_text};
 use std::alloc::{AllocError, Global};

@@ -1,6 +1,6 @@
 -- A number that stands without a group is read without memory.
 use Rattle.std.specs.Prelude.{◌≡◌, false, Result, IfErr}
-use Rattle.dss_lexer.specs.declared.pair.Pair.{Pair}
+use Rattle.dss_model.specs.dss_lexer.declared.pair.Pair.{Pair}
 use Rattle.dss_model.specs.declared.fault.ModelError.{ModelError}
 use Rattle.dss_model.specs.declared.fault.ModelError.TheVariants.{NoMemory}
 

@@ -4,11 +4,11 @@ use Rattle.std.specs.Char.{is_ascii_digit}
 use Rattle.std.specs.List.{slice_split, list_all}
 use Rattle.std.specs.Cmp.Lexicographic.{pointwise}
 use Rattle.std.specs.Ordering.{int_eq}
-use Rattle.fd_exact.specs.Rounding.{near_div}
-use Rattle.dss_lexer.specs.declared.pair.Pair.{Pair}
-use Rattle.dss_lexer.specs.Arrays.{words_of}
-use Rattle.dss_lexer.specs.Number.{number_of}
-use Rattle.dss_lexer.specs.Postfix.{postfix_of}
+use Rattle.dss_model.specs.fd_exact.Rounding.{near_div}
+use Rattle.dss_model.specs.dss_lexer.declared.pair.Pair.{Pair}
+use Rattle.dss_model.specs.dss_lexer.Arrays.{words_of}
+use Rattle.dss_model.specs.dss_lexer.Number.{number_of}
+use Rattle.dss_model.specs.dss_lexer.Postfix.{postfix_of}
 use Rattle.dss_model.specs.declared.fault.ModelFault.{ModelFault}
 use Rattle.dss_model.specs.declared.fault.ModelFault.TheVariants as fault
 use Rattle.dss_model.specs.declared.bus.Bus.{Bus}

@@ -1,8 +1,8 @@
 -- Square matrices, written whole or as a lower triangle.
 use Rattle.std.specs.Prelude.{ℕ, zero, suc, ℤ, pos, ◌+◌, ◌==◌, max, min, List, [], ◌∷◌, ◌++◌, length, get_or, Bool, true, ◌&&◌, Result, Ok, Err, if◌then◌else◌}
 use Rattle.std.specs.List.{list_all}
-use Rattle.dss_lexer.specs.declared.pair.Pair.{Pair}
-use Rattle.dss_lexer.specs.Arrays.{matrix_of}
+use Rattle.dss_model.specs.dss_lexer.declared.pair.Pair.{Pair}
+use Rattle.dss_model.specs.dss_lexer.Arrays.{matrix_of}
 use Rattle.dss_model.specs.declared.fault.ModelFault.{ModelFault}
 use Rattle.dss_model.specs.declared.fault.ModelFault.TheVariants as fault
 use Rattle.dss_model.specs.Answers.{◌>>=◌}

@@ -7,9 +7,9 @@ ghost use Rattle.dss_values.specs.Forms.{cells_in, number_of_cell, numbers_in, i
 
 use crate::bus::bus_of_word;
 use crate::numbers::{has_no_fraction, is_in_range, tap_of_number};
-use dss_lexer::{Pair, Text, cells, number};
 use dss_model::{
-    BankState, Bus, ModelError, ModelFault, Numbers, ONE, Shares, ZipShares, find_named,
+    BankState, Bus, ModelError, ModelFault, Numbers, ONE, Pair, Shares, Text, ZipShares, cells,
+    find_named, number,
 };
 use std::alloc::Global;
 

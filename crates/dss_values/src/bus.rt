@@ -4,8 +4,7 @@ ghost use Rattle.dss_model.specs.Answers.{Gives, each};
 ghost use Rattle.dss_values.specs.Forms.{node_of, bus_of_parts, bus_of, bus_in};
 
 use crate::forms::{parts, word};
-use dss_lexer::{Pair, Text};
-use dss_model::{Bus, ModelError, ModelFault, Nodes, is_legal_name};
+use dss_model::{Bus, ModelError, ModelFault, Nodes, Pair, Text, is_legal_name};
 use std::alloc::Global;
 
 fn node(part: &[char]) -> Result<u8, ModelFault>

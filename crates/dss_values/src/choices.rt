@@ -6,10 +6,9 @@ ghost use Rattle.dss_values.specs.Words.{connections, units, truths, quantities,
 
 use crate::arrays::two_choices;
 use crate::forms::choice;
-use dss_lexer::Pair;
 use dss_model::{
-    Connection, ControlMode, ControlQuantity, LeadLag, Mode, ModelError, ModelFault, StepSize,
-    Units,
+    Connection, ControlMode, ControlQuantity, LeadLag, Mode, ModelError, ModelFault, Pair,
+    StepSize, Units,
 };
 use std::alloc::Global;
 

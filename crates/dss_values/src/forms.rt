@@ -6,8 +6,7 @@ ghost use Rattle.dss_model.specs.Answers.{Gives};
 ghost use Rattle.dss_model.specs.Names.{rows, lower};
 ghost use Rattle.dss_values.specs.Forms.{sole, word_in, choice_in, a_name, name_in, line_name_of, line_name_in, known, known_name_in, known_line_name_in, is_point, one};
 
-use dss_lexer::{Pair, Text, cells};
-use dss_model::{ModelError, ModelFault, find_named, is_legal_name};
+use dss_model::{ModelError, ModelFault, Pair, Text, cells, find_named, is_legal_name};
 use std::alloc::{AllocError, Global};
 
 fn sole_word(alloc: Global, words: &[Text]) -> Result<Text, ModelError>

@@ -35,3 +35,10 @@ pub use numbers::{
     angle, half_of, milliseconds, number_value, number_within, phase, power_factor, ratio,
     supported_of, tap, whole_of, whole_within,
 };
+
+// Handed on from the crates below.
+pub use dss_model::{
+    CapControl, Capacitor, Class, DataForm, Element, ElementName, Line, LineConstants, Linecode,
+    Load, LoadKind, Loadshape, Mode, ModelError, ModelFault, Numbers, ONE, Options, Pair,
+    ReactiveRule, RegControl, SourceForm, Text, Transformer, Units, Vsource, Winding, find_named,
+};

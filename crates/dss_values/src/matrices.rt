@@ -6,8 +6,7 @@ ghost use Rattle.dss_values.specs.Forms.{is_within};
 ghost use Rattle.dss_values.specs.Matrices.{is_square, is_triangle_from, cell, mirrored, first_of, joined, symmetric, whole_matrix, rows_within, matrix_between};
 
 use crate::numbers::is_in_range;
-use dss_lexer::{Pair, Row, matrix};
-use dss_model::{ModelError, ModelFault, Numbers};
+use dss_model::{ModelError, ModelFault, Numbers, Pair, Row, matrix};
 use std::alloc::{AllocError, Global};
 
 fn is_row_in_range(row: &Row, low: i128, high: i128) -> bool

@@ -5,9 +5,7 @@ ghost use Rattle.dss_model.specs.Ranges.{ones};
 ghost use Rattle.dss_values.specs.Bare.{IsReadWhereBare};
 ghost use Rattle.dss_values.specs.Forms.{number_in, is_within, within, number_between, has_power_factor, power_factor_in, is_whole, whole, whole_in, count_of, whole_between, one_of, whole_among, supported_among, nearest_count, half, tap_of, tap_in, milliseconds_in, ratio_in, has_angle, angle_in, phase_in};
 
-use dss_lexer::{Pair, number, postfix};
-use dss_model::{ModelError, ModelFault, ONE};
-use fd_exact::near_quotient;
+use dss_model::{ModelError, ModelFault, ONE, Pair, near_quotient, number, postfix};
 use std::alloc::Global;
 
 fn ones_of(count: u32) -> i128

@@ -3,36 +3,36 @@ use Rattle.std.proofs.Common.{◌≡◌, ◌∙◌, ℕ, ◌*◌, ◌<◌, ◌�
 use Rattle.std.proofs.lemmas.Int.{ints}
 use Rattle.std.proofs.lemmas.List.Elements.{All-from_get_or, All-head, All-nil, All-tail}
 use Rattle.std.proofs.lemmas.Simd.{map-map}
-use Rattle.dss_circuit.specs.Circuit.{CircuitView}
-use Rattle.dss_circuit.specs.InRange.{AllInRange, IsWithinLimits}
-use Rattle.dss_ready.specs.Ready.{HasPassed}
-use Rattle.fd_exact.specs.States.{State, part}
-use Rattle.fd_system.specs.Residual.{whole_state}
-use Rattle.fd_elements.specs.declared.powers.LoadPower.{LoadPower}
-use Rattle.dss_layout.specs.Layout.{LayoutView, layout_of}
-use Rattle.fd_enclosure.specs.Encloses.{EnclosureLaw}
-use Rattle.fd_enclosure.specs.Sound.{Claim}
-use Rattle.fd_queue.specs.Controls.{Positions}
-use Rattle.fd_sample.specs.Decided.{sample_over}
-use Rattle.fd_settings.specs.Hours.{HoursLaw, hour_powers}
-use Rattle.fd_settings.specs.Modest.{ModestLaw}
-use Rattle.fd_settings.specs.Positions.{NextLaw}
-use Rattle.fd_settle.specs.Kept.{IsMachineOf, KeptLaw, SoundAtLaw}
-use Rattle.fd_settle.specs.Plant.{controls_in, setup_of}
-use Rattle.fd_settle.specs.Rounds.{left_by}
-use Rattle.fd_settle.specs.Sampling.{Decided, Sampling, Unclear, look_over, sampling_of}
-use Rattle.fd_settle.specs.Settle.{Ends, Moves, Outcome, outcome_of}
-use Rattle.fd_settle.specs.Start.{ArePositions, IsSoundAt}
-use Rattle.fd_daily.specs.Day.{no_openings}
-use Rattle.fd_daily.specs.Hours.{hours_of}
-use Rattle.fd_certfile.specs.Blocks.{Block, Part}
-use Rattle.fd_certfile.specs.Certificates.{Certificate, ends, gives, refuses, trails}
-use Rattle.fd_certfile.specs.Rules.{ball_of, moves}
-use Rattle.fd_checking.specs.Checking.{Checking, Settling, behind_round, done, open_hours, open_solves, outcome_in, sampled_by, sampling_in, under_way}
-use Rattle.fd_checking.specs.Laws.{AreOfRounds, IsOfRound}
-use Rattle.fd_checking.specs.Underway.{no_positions, start_from}
-use Rattle.fd_solving.specs.Boxes.{IsInBox}
-use Rattle.fd_solving.proofs.CallerLemmas.{alike, meets_round, others, sizes_of_others}
+use Rattle.fd_checking.specs.dss_circuit.Circuit.{CircuitView}
+use Rattle.fd_checking.specs.dss_circuit.InRange.{AllInRange, IsWithinLimits}
+use Rattle.fd_checking.specs.dss_ready.Ready.{HasPassed}
+use Rattle.fd_checking.specs.fd_exact.States.{State, part}
+use Rattle.fd_checking.specs.fd_system.Residual.{whole_state}
+use Rattle.fd_checking.specs.fd_elements.declared.powers.LoadPower.{LoadPower}
+use Rattle.fd_checking.specs.dss_layout.Layout.{LayoutView, layout_of}
+use Rattle.fd_checking.specs.fd_enclosure.Encloses.{EnclosureLaw}
+use Rattle.fd_checking.specs.fd_enclosure.Sound.{Claim}
+use Rattle.fd_checking.specs.fd_queue.Controls.{Positions}
+use Rattle.fd_checking.specs.fd_sample.Decided.{sample_over}
+use Rattle.fd_checking.specs.fd_settings.Hours.{HoursLaw, hour_powers}
+use Rattle.fd_checking.specs.fd_settings.Modest.{ModestLaw}
+use Rattle.fd_checking.specs.fd_settings.Positions.{NextLaw}
+use Rattle.fd_checking.specs.fd_settle.Kept.{IsMachineOf, KeptLaw, SoundAtLaw}
+use Rattle.fd_checking.specs.fd_settle.Plant.{controls_in, setup_of}
+use Rattle.fd_checking.specs.fd_settle.Rounds.{left_by}
+use Rattle.fd_checking.specs.fd_settle.Sampling.{Decided, Sampling, Unclear, look_over, sampling_of}
+use Rattle.fd_checking.specs.fd_settle.Settle.{Ends, Moves, Outcome, outcome_of}
+use Rattle.fd_checking.specs.fd_settle.Start.{ArePositions, IsSoundAt}
+use Rattle.fd_checking.specs.fd_daily.Day.{no_openings}
+use Rattle.fd_checking.specs.fd_daily.Hours.{hours_of}
+use Rattle.fd_checking.specs.fd_certfile.Blocks.{Block, Part}
+use Rattle.fd_checking.specs.fd_certfile.Certificates.{Certificate, ends, gives, refuses, trails}
+use Rattle.fd_checking.specs.fd_certfile.Rules.{ball_of, moves}
+use Rattle.fd_checking.specs.fd_check.Checking.{Checking, Settling, behind_round, done, open_hours, open_solves, outcome_in, sampled_by, sampling_in, under_way}
+use Rattle.fd_checking.specs.fd_check.Laws.{AreOfRounds, IsOfRound}
+use Rattle.fd_checking.specs.fd_daily.Underway.{no_positions, start_from}
+use Rattle.fd_checking.specs.fd_solving.Boxes.{IsInBox}
+use Rattle.fd_checking.proofs.CallerLemmas.fd_solving.{alike, meets_round, others, sizes_of_others}
 use Rattle.fd_app.specs.Meaning.{AreCertified, IsCertified, claim_at}
 use Rattle.fd_app.specs.Steady.{Solves, outcome_at}
 

@@ -5,29 +5,29 @@ use Rattle.std.proofs.lemmas.Bool.{ltb-false}
 use Rattle.std.proofs.lemmas.Int.{ints}
 use Rattle.std.proofs.lemmas.List.Elements.{All-get_or}
 use Rattle.std.proofs.lemmas.Simd.{map-map}
-use Rattle.fd_exact.specs.First.{first_place}
-use Rattle.fd_exact.specs.FirstLaws.{none_holds}
-use Rattle.fd_exact.specs.Greatest.{greatest-same}
-use Rattle.fd_exact.specs.Rounding.{ceil_nat}
-use Rattle.fd_exact.specs.States.{entry, part}
-use Rattle.fd_exact.specs.SumLaws.{sum_n-same}
-use Rattle.fd_mat.specs.Rows.{row_of}
-use Rattle.fd_pattern.specs.Conditions.{IsPart}
-use Rattle.fd_equations.specs.Rounded.{jacobian_entry, list_of}
-use Rattle.fd_pattern.specs.Views.{NetworkView}
-use Rattle.fd_equations.specs.Weights.{weight_at}
-use Rattle.fd_equations.proofs.CallerLemmas.{get_or-list_of, length-list_of, list_of-ext}
-use Rattle.fd_enclosure.specs.Bounds.{bound_at, bound_of, first_unbounded, first_wide, is_below_one, radius_at, reach_at, reach_of, refusal, unless_unbounded, unless_wide}
-use Rattle.fd_enclosure.specs.Radii.{slope_radius}
-use Rattle.fd_enclosure.specs.Sound.{Claim, certificate_of, claim_of, first_loose, greatest_mismatch, mismatch_at, mismatches_of, number_at, radii_of, radius_in, unless_loose, unless_uncertain}
-use Rattle.fd_enclosure.proofs.CallerLemmas.{all_narrow, claim_is, not_refused}
-use Rattle.fd_certfile.specs.Blocks.{Act, Block, IsSized, IsWritable, Part}
-use Rattle.fd_certfile.specs.Judging.{judge_of, names, refusal_in, sizes_of}
-use Rattle.fd_certfile.specs.Numbers.{IsNumber}
-use Rattle.fd_certfile.specs.Rounds.{part_in}
-use Rattle.fd_certfile.specs.Rules.{Ball, Holds, Sampled, ball_of, moves, part_of}
-use Rattle.fd_certfile.specs.Rules as rules
-use Rattle.fd_solving.proofs.CallerLemmas.{IsSolutionPoint}
+use Rattle.fd_checking.specs.fd_exact.First.{first_place}
+use Rattle.fd_checking.specs.fd_exact.FirstLaws.{none_holds}
+use Rattle.fd_checking.specs.fd_exact.Greatest.{greatest-same}
+use Rattle.fd_checking.specs.fd_exact.Rounding.{ceil_nat}
+use Rattle.fd_checking.specs.fd_exact.States.{entry, part}
+use Rattle.fd_checking.specs.fd_exact.SumLaws.{sum_n-same}
+use Rattle.fd_checking.specs.fd_mat.Rows.{row_of}
+use Rattle.fd_checking.specs.fd_pattern.Conditions.{IsPart}
+use Rattle.fd_checking.specs.fd_equations.Rounded.{jacobian_entry, list_of}
+use Rattle.fd_checking.specs.fd_pattern.Views.{NetworkView}
+use Rattle.fd_checking.specs.fd_equations.Weights.{weight_at}
+use Rattle.fd_checking.proofs.CallerLemmas.fd_equations.{get_or-list_of, length-list_of, list_of-ext}
+use Rattle.fd_checking.specs.fd_enclosure.Bounds.{bound_at, bound_of, first_unbounded, first_wide, is_below_one, radius_at, reach_at, reach_of, refusal, unless_unbounded, unless_wide}
+use Rattle.fd_checking.specs.fd_enclosure.Radii.{slope_radius}
+use Rattle.fd_checking.specs.fd_enclosure.Sound.{Claim, certificate_of, claim_of, first_loose, greatest_mismatch, mismatch_at, mismatches_of, number_at, radii_of, radius_in, unless_loose, unless_uncertain}
+use Rattle.fd_checking.proofs.CallerLemmas.fd_enclosure.{all_narrow, claim_is, not_refused}
+use Rattle.fd_checking.specs.fd_certfile.Blocks.{Act, Block, IsSized, IsWritable, Part}
+use Rattle.fd_checking.specs.fd_certfile.Judging.{judge_of, names, refusal_in, sizes_of}
+use Rattle.fd_checking.specs.fd_certfile.Numbers.{IsNumber}
+use Rattle.fd_checking.specs.fd_certfile.Rounds.{part_in}
+use Rattle.fd_checking.specs.fd_certfile.Rules.{Ball, Holds, Sampled, ball_of, moves, part_of}
+use Rattle.fd_checking.specs.fd_certfile.Rules as rules
+use Rattle.fd_checking.proofs.CallerLemmas.fd_solving.{IsSolutionPoint}
 
 -- ---- where a certificate isn't refused
 

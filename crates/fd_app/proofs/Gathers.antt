@@ -3,35 +3,35 @@ use Rattle.std.proofs.Common.{◌≡◌, ◌∙◌, ℕ, ◌+◌, ◌*◌, ◌�
 use Rattle.std.specs.Str.{chars}
 use Rattle.std.proofs.lemmas.List.{append_assoc, append-nil}
 use Rattle.std.proofs.lemmas.List.Elements.{All-append, All-cons, All-nil}
-use Rattle.dss_model.specs.Names.{bytes}
-use Rattle.dss_model.specs.declared.command.Blame.{Blame}
-use Rattle.dss_model.specs.declared.command.Command.{Command}
-use Rattle.dss_model.specs.declared.command.Place.{Place}
-use Rattle.dss_model.specs.declared.command.Verb.{Verb}
-use Rattle.dss_model.specs.declared.command.Verb.TheVariants as verb
-use Rattle.dss_model.specs.declared.fault.ModelFault.{ModelFault}
-use Rattle.dss_circuit.specs.Circuit.{CircuitView, empty_circuit}
-use Rattle.dss_circuit.specs.InRange.{IsWithinLimits}
-use Rattle.dss_commands.specs.Commands.{applied}
-use Rattle.dss_commands.specs.Laws.{LimitsLaw}
-use Rattle.dss_commands.proofs.CallerLemmas.{none_within}
-use Rattle.dss_script.specs.Said.{Said, ScriptEnd, at_its_end, command, ended_by, name, refused_at, said_of}
-use Rattle.dss_script.specs.SaidRoom.{SaidRoomLaw, room_of}
-use Rattle.dss_script.specs.Sessions.{cost}
-use Rattle.fd_enclosure.specs.Encloses.{EnclosureLaw}
-use Rattle.fd_settings.specs.Hours.{HoursLaw}
-use Rattle.fd_settings.specs.Modest.{ModestLaw}
-use Rattle.fd_settings.specs.Positions.{NextLaw}
-use Rattle.fd_settle.specs.Kept.{KeptLaw, SoundAtLaw}
-use Rattle.fd_outside.specs.Files.{held}
-use Rattle.fd_outcome.specs.Events.{Event, History}
-use Rattle.fd_outcome.specs.History.{IsHistory}
-use Rattle.fd_outcome.specs.Work as work
-use Rattle.fd_outcome.specs.Work.{AfterStep, Step, goes}
-use Rattle.fd_solving.specs.Commands.{Applied, IsTested, bases_left, left_of, nothing_left, solve_left, tried}
-use Rattle.fd_solving.specs.Commands as commands
-use Rattle.fd_solving.specs.Weights.{weight}
-use Rattle.fd_solving.proofs.CallerLemmas.{verb_takes}
+use Rattle.fd_checking.specs.dss_model.Names.{bytes}
+use Rattle.fd_checking.specs.dss_model.declared.command.Blame.{Blame}
+use Rattle.fd_checking.specs.dss_model.declared.command.Command.{Command}
+use Rattle.fd_checking.specs.dss_model.declared.command.Place.{Place}
+use Rattle.fd_checking.specs.dss_model.declared.command.Verb.{Verb}
+use Rattle.fd_checking.specs.dss_model.declared.command.Verb.TheVariants as verb
+use Rattle.fd_checking.specs.dss_model.declared.fault.ModelFault.{ModelFault}
+use Rattle.fd_checking.specs.dss_circuit.Circuit.{CircuitView, empty_circuit}
+use Rattle.fd_checking.specs.dss_circuit.InRange.{IsWithinLimits}
+use Rattle.fd_checking.specs.dss_commands.Commands.{applied}
+use Rattle.fd_checking.specs.dss_commands.Laws.{LimitsLaw}
+use Rattle.fd_checking.proofs.CallerLemmas.dss_commands.{none_within}
+use Rattle.fd_checking.specs.dss_script.Said.{Said, ScriptEnd, at_its_end, command, ended_by, name, refused_at, said_of}
+use Rattle.fd_checking.specs.dss_script.SaidRoom.{SaidRoomLaw, room_of}
+use Rattle.fd_checking.specs.dss_script.Sessions.{cost}
+use Rattle.fd_checking.specs.fd_enclosure.Encloses.{EnclosureLaw}
+use Rattle.fd_checking.specs.fd_settings.Hours.{HoursLaw}
+use Rattle.fd_checking.specs.fd_settings.Modest.{ModestLaw}
+use Rattle.fd_checking.specs.fd_settings.Positions.{NextLaw}
+use Rattle.fd_checking.specs.fd_settle.Kept.{KeptLaw, SoundAtLaw}
+use Rattle.fd_bench.specs.fd_outside.Files.{held}
+use Rattle.fd_checking.specs.fd_outcome.Events.{Event, History}
+use Rattle.fd_checking.specs.fd_outcome.History.{IsHistory}
+use Rattle.fd_checking.specs.fd_outcome.Work as work
+use Rattle.fd_checking.specs.fd_outcome.Work.{AfterStep, Step, goes}
+use Rattle.fd_checking.specs.fd_solving.Commands.{Applied, IsTested, bases_left, left_of, nothing_left, solve_left, tried}
+use Rattle.fd_checking.specs.fd_solving.Commands as commands
+use Rattle.fd_checking.specs.fd_solving.Weights.{weight}
+use Rattle.fd_checking.proofs.CallerLemmas.fd_solving.{verb_takes}
 use Rattle.fd_checking.specs.Checks.{CheckedLaw, GatheredView, IsCheckStep, IsFoundOf, IsGatheredBy, IsGatheredOf, IsJudged, certificate_name, gathered}
 use Rattle.fd_app.specs.Meaning.{IsCertificateOf, MeaningLaw}
 use Rattle.fd_app.specs.Solves.{behind_command, solves_from}

@@ -2,29 +2,29 @@
 use Rattle.std.proofs.Common.{ℕ, List, [], ◌∷◌, Option, Some, None, All}
 use Rattle.std.specs.Str.{chars}
 use Rattle.std.proofs.lemmas.List.Elements.{All-weaker, recursion_from_All}
-use Rattle.dss_circuit.specs.Circuit.{CircuitView}
-use Rattle.dss_ready.specs.Passed.{PassedLaw}
-use Rattle.dss_script.specs.Said.{ended_by, said_of}
-use Rattle.fd_outside.specs.Answers.{Answer}
-use Rattle.fd_outside.specs.Files.{Files}
+use Rattle.fd_checking.specs.dss_circuit.Circuit.{CircuitView}
+use Rattle.fd_checking.specs.dss_ready.Passed.{PassedLaw}
+use Rattle.fd_checking.specs.dss_script.Said.{ended_by, said_of}
+use Rattle.fd_bench.specs.fd_outside.Answers.{Answer}
+use Rattle.fd_bench.specs.fd_outside.Files.{Files}
 use Rattle.fd_words.specs.Words.{Form, Solve, Cert, Check, Gen, Bench, Upgrade}
-use Rattle.fd_certfile.specs.Laws.{CertificateLaw}
-use Rattle.fd_checking.specs.Checking.{after, due, open_solves}
-use Rattle.fd_checking.specs.Underway.{no_positions}
+use Rattle.fd_checking.specs.fd_certfile.Laws.{CertificateLaw}
+use Rattle.fd_checking.specs.fd_check.Checking.{after, due, open_solves}
+use Rattle.fd_checking.specs.fd_daily.Underway.{no_positions}
 use Rattle.fd_upgrade.proofs.CallerLemmas.{upgrade_answers}
-use Rattle.fd_certfile.specs.RuleLaws.{RuleLaw}
-use Rattle.fd_daily.specs.Underway.{plant_at}
-use Rattle.fd_enclosure.specs.Sound.{Claim}
-use Rattle.fd_queue.specs.Controls.{Positions}
-use Rattle.fd_queue.specs.Machine.{Machine}
-use Rattle.fd_settle.specs.Plant.{Plant, network_at}
-use Rattle.fd_settle.specs.Rounds.{AtEach, after_round}
-use Rattle.fd_outcome.specs.Events as event
-use Rattle.fd_outcome.specs.Settles.{Settle}
-use Rattle.fd_outcome.specs.Events.{Event, History, IfSettle, asked, settle, row}
-use Rattle.fd_solving.specs.Headline.{IsSolution, IsSolved, claims_of, machine_of}
-use Rattle.fd_solving.specs.Scripts.{IsScriptHistory, first_standing}
-use Rattle.fd_solving.specs.SolvedLaw.{SolvedLaw}
+use Rattle.fd_checking.specs.fd_certfile.RuleLaws.{RuleLaw}
+use Rattle.fd_checking.specs.fd_daily.Underway.{plant_at}
+use Rattle.fd_checking.specs.fd_enclosure.Sound.{Claim}
+use Rattle.fd_checking.specs.fd_queue.Controls.{Positions}
+use Rattle.fd_checking.specs.fd_queue.Machine.{Machine}
+use Rattle.fd_checking.specs.fd_settle.Plant.{Plant, network_at}
+use Rattle.fd_checking.specs.fd_settle.Rounds.{AtEach, after_round}
+use Rattle.fd_checking.specs.fd_outcome.Events as event
+use Rattle.fd_checking.specs.fd_outcome.Settles.{Settle}
+use Rattle.fd_checking.specs.fd_outcome.Events.{Event, History, IfSettle, asked, settle, row}
+use Rattle.fd_checking.specs.fd_solving.Headline.{IsSolution, IsSolved, claims_of, machine_of}
+use Rattle.fd_checking.specs.fd_solving.Scripts.{IsScriptHistory, first_standing}
+use Rattle.fd_checking.specs.fd_solving.SolvedLaw.{SolvedLaw}
 use Rattle.fd_app.specs.Meaning.{MeaningLaw}
 use Rattle.fd_app.specs.Promise.{AreTrue, IsPromised, IsTrue, outside_of}
 use Rattle.fd_app.specs.Rounds.{EachRound, HasEach, IsExact, MeetsEquations}

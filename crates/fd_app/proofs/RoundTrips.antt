@@ -2,26 +2,26 @@
 use Rattle.std.proofs.Common.{◌≡◌, ◌∙◌, ℕ, List, [], ◌∷◌, ◌++◌, map, Option, Some, None, Result, Ok, Err, refl, sym, ap, subst}
 use Rattle.std.specs.Str.{chars}
 use Rattle.std.proofs.lemmas.List.{append_assoc, append-nil}
-use Rattle.dss_model.specs.Names.{bytes}
-use Rattle.dss_model.specs.declared.command.Blame.{Blame}
-use Rattle.dss_model.specs.declared.command.Command.{Command}
-use Rattle.dss_circuit.specs.Circuit.{CircuitView, empty_circuit}
-use Rattle.dss_ready.specs.Passed.{PassedLaw}
-use Rattle.dss_script.specs.Said.{Part, Said, name, command, ScriptEnd, at_its_end, refused_at, ended_by, said_of}
-use Rattle.fd_outside.specs.Files.{Files, held}
-use Rattle.fd_checking.specs.Underway.{no_positions}
-use Rattle.fd_certfile.specs.Verdict.{IsAnswer, accepted}
-use Rattle.fd_checking.specs.Checking.{after, due, open_solves}
-use Rattle.fd_queue.specs.Controls.{Positions}
-use Rattle.fd_report.specs.Accepted.{accepted_fields}
-use Rattle.fd_outcome.specs.Events.{Event, History, asked, finishes, row}
-use Rattle.fd_outcome.specs.History.{IsHistory}
-use Rattle.fd_outcome.specs.Work as work
-use Rattle.fd_outcome.specs.Work.{AfterStep, Step, goes}
-use Rattle.fd_solving.specs.Commands.{Applied, nothing_left, solve_left, bases_left, IsByTests, IsStep, IsStepOf, IsTested, tried}
-use Rattle.fd_solving.specs.Commands as commands
-use Rattle.fd_solving.specs.Scripts.{IsDoneThere, IsScriptHistory, first_standing, no_name}
-use Rattle.fd_solving.specs.Steps.{StandingView, standing}
+use Rattle.fd_checking.specs.dss_model.Names.{bytes}
+use Rattle.fd_checking.specs.dss_model.declared.command.Blame.{Blame}
+use Rattle.fd_checking.specs.dss_model.declared.command.Command.{Command}
+use Rattle.fd_checking.specs.dss_circuit.Circuit.{CircuitView, empty_circuit}
+use Rattle.fd_checking.specs.dss_ready.Passed.{PassedLaw}
+use Rattle.fd_checking.specs.dss_script.Said.{Part, Said, name, command, ScriptEnd, at_its_end, refused_at, ended_by, said_of}
+use Rattle.fd_bench.specs.fd_outside.Files.{Files, held}
+use Rattle.fd_checking.specs.fd_daily.Underway.{no_positions}
+use Rattle.fd_checking.specs.fd_certfile.Verdict.{IsAnswer, accepted}
+use Rattle.fd_checking.specs.fd_check.Checking.{after, due, open_solves}
+use Rattle.fd_checking.specs.fd_queue.Controls.{Positions}
+use Rattle.fd_checking.specs.fd_report.Accepted.{accepted_fields}
+use Rattle.fd_checking.specs.fd_outcome.Events.{Event, History, asked, finishes, row}
+use Rattle.fd_checking.specs.fd_outcome.History.{IsHistory}
+use Rattle.fd_checking.specs.fd_outcome.Work as work
+use Rattle.fd_checking.specs.fd_outcome.Work.{AfterStep, Step, goes}
+use Rattle.fd_checking.specs.fd_solving.Commands.{Applied, nothing_left, solve_left, bases_left, IsByTests, IsStep, IsStepOf, IsTested, tried}
+use Rattle.fd_checking.specs.fd_solving.Commands as commands
+use Rattle.fd_checking.specs.fd_solving.Scripts.{IsDoneThere, IsScriptHistory, first_standing, no_name}
+use Rattle.fd_checking.specs.fd_solving.Steps.{StandingView, standing}
 use Rattle.fd_checking.specs.Checks.{GatheredView, IsCheckStep, IsGatheredOf, IsJudged, certificate_name, gathered, IsCheckHistory}
 use Rattle.fd_app.specs.Run.{FormsLaw, IsFormHistory}
 use Rattle.fd_words.specs.Words.{Check}

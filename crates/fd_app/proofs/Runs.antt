@@ -1,16 +1,16 @@
 -- The history of a command line, what a run does of it, and the run's status.
 use Rattle.std.proofs.Common.{ℕ, true, List, [], Option, Some, None, refl, sym, subst, inl, inr}
-use Rattle.fd_outside.specs.Answers.{AgreesSince, Answer}
-use Rattle.fd_outside.specs.Files.{Files}
-use Rattle.fd_report.specs.declared.faults.Fault.TheVariants as fault
-use Rattle.dss_script.specs.Said.{said_of}
+use Rattle.fd_bench.specs.fd_outside.Answers.{AgreesSince, Answer}
+use Rattle.fd_bench.specs.fd_outside.Files.{Files}
+use Rattle.fd_checking.specs.fd_report.declared.faults.Fault.TheVariants as fault
+use Rattle.fd_checking.specs.dss_script.Said.{said_of}
 use Rattle.std.specs.Str.{chars}
-use Rattle.fd_outcome.specs.Calls.{body, certificate, doing, report}
-use Rattle.fd_outcome.specs.Events.{History, ended}
-use Rattle.fd_outcome.specs.Way.{whole}
-use Rattle.fd_outcome.specs.Laws.{IsDue}
-use Rattle.fd_outcome.proofs.CallerLemmas.{IsToldBy, all_told, exactly_this, not_empty, run_due, sees_none, told_fault}
-use Rattle.fd_solving.proofs.CallerLemmas.{one_script}
+use Rattle.fd_checking.specs.fd_outcome.Calls.{body, certificate, doing, report}
+use Rattle.fd_checking.specs.fd_outcome.Events.{History, ended}
+use Rattle.fd_checking.specs.fd_outcome.Way.{whole}
+use Rattle.fd_checking.specs.fd_outcome.Laws.{IsDue}
+use Rattle.fd_checking.proofs.CallerLemmas.fd_outcome.{IsToldBy, all_told, exactly_this, not_empty, run_due, sees_none, told_fault}
+use Rattle.fd_checking.proofs.CallerLemmas.fd_solving.{one_script}
 use Rattle.fd_checking.proofs.CallerLemmas.{check_tells, one_check}
 use Rattle.fd_bench.specs.Bench.{script_written}
 use Rattle.fd_bench.proofs.CallerLemmas.{agrees_held, bench_tells, one_bench, script_tells}

@@ -2,45 +2,45 @@
 use Rattle.std.proofs.Common.{◌≡◌, ◌∙◌, ℕ, ◌+◌, ◌<◌, ◌^◌, List, [], ◌∷◌, length, map, Option, Some, None, Result, Ok, Err, refl, sym, ap, subst, arith, zero-add}
 use Rattle.std.specs.List.{AllByRecursion}
 use Rattle.std.proofs.lemmas.List.Elements.{recursion_from_All}
-use Rattle.dss_model.specs.declared.command.Blame.{Blame}
-use Rattle.dss_model.specs.declared.command.Command.{Command}
-use Rattle.dss_circuit.specs.Circuit.{CircuitView}
-use Rattle.dss_layout.specs.Layout.{layout_of, size_of}
-use Rattle.dss_ready.specs.Passed.{PassedLaw}
-use Rattle.dss_ready.specs.Ready.{HasPassed}
-use Rattle.dss_script.specs.Said.{Part, Said, said_of, name, command, ScriptEnd, at_its_end, refused_at, ended_by}
-use Rattle.fd_outside.specs.Files.{Files, held}
-use Rattle.dss_model.specs.Names.{bytes}
-use Rattle.fd_bases.specs.declared.bus_base.BusBase.{BusBase}
-use Rattle.fd_bases.specs.Bases.{bases_of}
-use Rattle.fd_report.specs.Bases.{base_fields}
-use Rattle.fd_daily.specs.Hours.{hours_of}
-use Rattle.fd_checking.specs.Underway.{no_positions}
-use Rattle.fd_queue.specs.Controls.{Positions}
-use Rattle.fd_cert.specs.declared.rule.Rule.TheVariants.{Count}
-use Rattle.fd_certfile.specs.Blocks.{Block}
-use Rattle.fd_certfile.specs.declared.version.Version.TheVariants.{Sparse}
-use Rattle.fd_certfile.specs.Certificates.{Certificate, ends, trails, refuses, gives, IsWhole, blocks_of, certificate_bytes, certificate_lines, lines_count, version_in}
-use Rattle.fd_certfile.specs.Laws.{CertificateLaw}
-use Rattle.fd_certfile.specs.Lines.{Line}
-use Rattle.fd_certfile.specs.RuleLaws.{RuleLaw}
-use Rattle.fd_certfile.specs.Rules.{Broken, first_broken}
-use Rattle.fd_certfile.specs.Verdict.{AllHold, Answer, Due, IsAnswer, IsAnswerBy, accepted, by_due, refused, unless_broken, verdict}
-use Rattle.fd_checking.specs.Checking.{Checking, after, due, open_solves}
-use Rattle.fd_outcome.specs.Calls.{certificate}
-use Rattle.fd_outcome.specs.Events as event
-use Rattle.fd_outcome.specs.Events.{Event, History, IfSettle, asked, settle, row}
-use Rattle.fd_outcome.specs.History.{IsHistory}
-use Rattle.fd_outcome.specs.Work as work
-use Rattle.fd_outcome.specs.Work.{AfterStep, Step, goes}
-use Rattle.fd_pages.specs.Bases.{base_events}
-use Rattle.fd_solving.specs.Commands.{Applied, nothing_left, solve_left, bases_left, IsByTests, IsStep, IsStepOf, IsTested, tried}
-use Rattle.fd_solving.specs.Commands as commands
-use Rattle.fd_solving.specs.Headline.{HasModestNumbers, IsSolved}
-use Rattle.fd_solving.specs.SolvedLaw.{SolvedLaw}
-use Rattle.fd_solving.specs.Scripts.{IsDoneThere, first_standing, no_name}
-use Rattle.fd_solving.specs.Solving.{IsSolutionStep, kept_first}
-use Rattle.fd_solving.specs.Steps.{StandingView, standing}
+use Rattle.fd_checking.specs.dss_model.declared.command.Blame.{Blame}
+use Rattle.fd_checking.specs.dss_model.declared.command.Command.{Command}
+use Rattle.fd_checking.specs.dss_circuit.Circuit.{CircuitView}
+use Rattle.fd_checking.specs.dss_layout.Layout.{layout_of, size_of}
+use Rattle.fd_checking.specs.dss_ready.Passed.{PassedLaw}
+use Rattle.fd_checking.specs.dss_ready.Ready.{HasPassed}
+use Rattle.fd_checking.specs.dss_script.Said.{Part, Said, said_of, name, command, ScriptEnd, at_its_end, refused_at, ended_by}
+use Rattle.fd_bench.specs.fd_outside.Files.{Files, held}
+use Rattle.fd_checking.specs.dss_model.Names.{bytes}
+use Rattle.fd_checking.specs.fd_bases.declared.bus_base.BusBase.{BusBase}
+use Rattle.fd_checking.specs.fd_bases.Bases.{bases_of}
+use Rattle.fd_checking.specs.fd_report.Bases.{base_fields}
+use Rattle.fd_checking.specs.fd_daily.Hours.{hours_of}
+use Rattle.fd_checking.specs.fd_daily.Underway.{no_positions}
+use Rattle.fd_checking.specs.fd_queue.Controls.{Positions}
+use Rattle.fd_checking.specs.fd_cert.declared.rule.Rule.TheVariants.{Count}
+use Rattle.fd_checking.specs.fd_certfile.Blocks.{Block}
+use Rattle.fd_checking.specs.fd_certfile.declared.version.Version.TheVariants.{Sparse}
+use Rattle.fd_checking.specs.fd_certfile.Certificates.{Certificate, ends, trails, refuses, gives, IsWhole, blocks_of, certificate_bytes, certificate_lines, lines_count, version_in}
+use Rattle.fd_checking.specs.fd_certfile.Laws.{CertificateLaw}
+use Rattle.fd_checking.specs.fd_certfile.Lines.{Line}
+use Rattle.fd_checking.specs.fd_certfile.RuleLaws.{RuleLaw}
+use Rattle.fd_checking.specs.fd_certfile.Rules.{Broken, first_broken}
+use Rattle.fd_checking.specs.fd_certfile.Verdict.{AllHold, Answer, Due, IsAnswer, IsAnswerBy, accepted, by_due, refused, unless_broken, verdict}
+use Rattle.fd_checking.specs.fd_check.Checking.{Checking, after, due, open_solves}
+use Rattle.fd_checking.specs.fd_outcome.Calls.{certificate}
+use Rattle.fd_checking.specs.fd_outcome.Events as event
+use Rattle.fd_checking.specs.fd_outcome.Events.{Event, History, IfSettle, asked, settle, row}
+use Rattle.fd_checking.specs.fd_outcome.History.{IsHistory}
+use Rattle.fd_checking.specs.fd_outcome.Work as work
+use Rattle.fd_checking.specs.fd_outcome.Work.{AfterStep, Step, goes}
+use Rattle.fd_checking.specs.fd_pages.Bases.{base_events}
+use Rattle.fd_checking.specs.fd_solving.Commands.{Applied, nothing_left, solve_left, bases_left, IsByTests, IsStep, IsStepOf, IsTested, tried}
+use Rattle.fd_checking.specs.fd_solving.Commands as commands
+use Rattle.fd_checking.specs.fd_solving.Headline.{HasModestNumbers, IsSolved}
+use Rattle.fd_checking.specs.fd_solving.SolvedLaw.{SolvedLaw}
+use Rattle.fd_checking.specs.fd_solving.Scripts.{IsDoneThere, first_standing, no_name}
+use Rattle.fd_checking.specs.fd_solving.Solving.{IsSolutionStep, kept_first}
+use Rattle.fd_checking.specs.fd_solving.Steps.{StandingView, standing}
 use Rattle.fd_app.specs.Accepted.{CertLaw}
 use Rattle.fd_app.specs.Printed.{all_rounds}
 use Rattle.fd_app.specs.Solves.{behind_command, solves_from, solves_of}

@@ -1,35 +1,35 @@
 -- The blocks of a settle's rounds hold, one after the other.
 use Rattle.std.proofs.Common.{◌≡◌, ◌∙◌, ℕ, ◌+◌, ◌<◌, ◌^◌, nat_abs, List, [], ◌∷◌, length, map, refl, sym, ap, subst, arith}
 use Rattle.std.specs.List.{AllByRecursion}
-use Rattle.dss_circuit.specs.Circuit.{CircuitView}
-use Rattle.dss_layout.specs.Layout.{layout_of, size_of}
-use Rattle.fd_settings.specs.Hours.{hour_powers}
-use Rattle.fd_pattern.specs.Views.{NetworkView}
-use Rattle.fd_enclosure.specs.Sound.{Claim}
-use Rattle.fd_inject.specs.declared.limits.Limits.{Limits}
-use Rattle.fd_queue.specs.Controls.{Positions}
-use Rattle.fd_queue.specs.Machine.{Act, Machine}
-use Rattle.fd_sample.specs.Decided.{sample_over}
-use Rattle.fd_settle.specs.Compute.{IsComputed}
-use Rattle.fd_settle.specs.Computed.{Ending, Follows, IsComputedFrom, ended}
-use Rattle.fd_settle.specs.Numbers.{AreActNumbers}
-use Rattle.fd_settle.specs.Plant.{controls_in, network_at, setup_of}
-use Rattle.fd_settle.specs.Sampling.{look_over, sampling_of}
-use Rattle.fd_settle.specs.Settle.{Open, Settled, Limited, Undecidable, Outcome, Ends, Moves, outcome_of}
-use Rattle.fd_certfile.specs.Blocks.{Block, IsSized, IsWritable}
-use Rattle.fd_certfile.specs.Blocks as blocks
-use Rattle.fd_certfile.specs.Certificates.{Certificate, gives}
-use Rattle.fd_certfile.specs.Judging.{judge_of}
-use Rattle.fd_certfile.specs.Numbers.{IsNumber}
-use Rattle.fd_certfile.specs.Rules.{Holds, Judge, ball_of, moves}
-use Rattle.fd_certfile.specs.Verdict.{AllHold}
-use Rattle.fd_checking.specs.Underway.{plant_at}
-use Rattle.fd_checking.specs.Checking.{Checking, Settling, after, behind_round, due, due_in, open_hours, open_solves, outcome_in, sampled_by, under_way}
-use Rattle.fd_outcome.specs.Certificates.{act_in, block_in, blocks_from}
-use Rattle.fd_outcome.specs.Settles.{Round, Settle, round_of}
-use Rattle.fd_solving.specs.Solving.{rounds_of}
+use Rattle.fd_checking.specs.dss_circuit.Circuit.{CircuitView}
+use Rattle.fd_checking.specs.dss_layout.Layout.{layout_of, size_of}
+use Rattle.fd_checking.specs.fd_settings.Hours.{hour_powers}
+use Rattle.fd_checking.specs.fd_pattern.Views.{NetworkView}
+use Rattle.fd_checking.specs.fd_enclosure.Sound.{Claim}
+use Rattle.fd_checking.specs.fd_inject.declared.limits.Limits.{Limits}
+use Rattle.fd_checking.specs.fd_queue.Controls.{Positions}
+use Rattle.fd_checking.specs.fd_queue.Machine.{Act, Machine}
+use Rattle.fd_checking.specs.fd_sample.Decided.{sample_over}
+use Rattle.fd_checking.specs.fd_settle.Compute.{IsComputed}
+use Rattle.fd_checking.specs.fd_settle.Computed.{Ending, Follows, IsComputedFrom, ended}
+use Rattle.fd_checking.specs.fd_settle.Numbers.{AreActNumbers}
+use Rattle.fd_checking.specs.fd_settle.Plant.{controls_in, network_at, setup_of}
+use Rattle.fd_checking.specs.fd_settle.Sampling.{look_over, sampling_of}
+use Rattle.fd_checking.specs.fd_settle.Settle.{Open, Settled, Limited, Undecidable, Outcome, Ends, Moves, outcome_of}
+use Rattle.fd_checking.specs.fd_certfile.Blocks.{Block, IsSized, IsWritable}
+use Rattle.fd_checking.specs.fd_certfile.Blocks as blocks
+use Rattle.fd_checking.specs.fd_certfile.Certificates.{Certificate, gives}
+use Rattle.fd_checking.specs.fd_certfile.Judging.{judge_of}
+use Rattle.fd_checking.specs.fd_certfile.Numbers.{IsNumber}
+use Rattle.fd_checking.specs.fd_certfile.Rules.{Holds, Judge, ball_of, moves}
+use Rattle.fd_checking.specs.fd_certfile.Verdict.{AllHold}
+use Rattle.fd_checking.specs.fd_daily.Underway.{plant_at}
+use Rattle.fd_checking.specs.fd_check.Checking.{Checking, Settling, after, behind_round, due, due_in, open_hours, open_solves, outcome_in, sampled_by, under_way}
+use Rattle.fd_checking.specs.fd_outcome.Certificates.{act_in, block_in, blocks_from}
+use Rattle.fd_checking.specs.fd_outcome.Settles.{Round, Settle, round_of}
+use Rattle.fd_checking.specs.fd_solving.Solving.{rounds_of}
 use Rattle.fd_app.proofs.Claims as claims
-use Rattle.fd_solving.proofs.CallerLemmas.{IsSolutionPoint, solution_point}
+use Rattle.fd_checking.proofs.CallerLemmas.fd_solving.{IsSolutionPoint, solution_point}
 
 -- blocks, and then a certificate
 abbrev pub before : List Block → Certificate → Certificate

@@ -2,27 +2,27 @@
 use Rattle.std.proofs.Common.{◌≡◌, ◌∙◌, ℕ, suc, ◌+◌, ◌<◌, ◌^◌, List, [], ◌∷◌, ◌++◌, length, refl, sym, ap, subst, arith}
 use Rattle.std.specs.List.{AllByRecursion}
 use Rattle.std.proofs.lemmas.List.{append_assoc, append-nil, length-append}
-use Rattle.dss_circuit.specs.Circuit.{CircuitView}
-use Rattle.dss_layout.specs.Layout.{layout_of, size_of}
-use Rattle.fd_enclosure.specs.Sound.{Claim, loose, uncertain}
-use Rattle.fd_inject.specs.declared.fault.SolveFault.TheVariants as solving
-use Rattle.fd_queue.specs.Machine.{Act, Machine}
-use Rattle.fd_settle.specs.Computed.{Ending, IsComputedFrom, ended, procedure, range, stopped, uncertified}
-use Rattle.fd_settle.specs.Contract.{limits_of}
-use Rattle.fd_settle.specs.Settle.{Open, Settled, Limited, Undecidable}
-use Rattle.fd_certfile.specs.Blocks.{Block, IsSized, IsWritable}
-use Rattle.fd_certfile.specs.Certificates.{Certificate, gives}
-use Rattle.fd_certfile.specs.Verdict.{AllHold}
-use Rattle.fd_checking.specs.Checking.{Checking, after, due, open_hours, open_solves}
-use Rattle.fd_outcome.specs.Certificates.{blocks_from, blocks_of}
-use Rattle.fd_outcome.specs.Events.{Event, IfSettle, settle}
-use Rattle.fd_outcome.specs.Settles.{Round, Settle, SettleEnd, settled, failed, without_certificate}
-use Rattle.fd_outcome.specs.Work.{Step, goes, ends}
-use Rattle.fd_checking.specs.Underway.{plant_at}
-use Rattle.fd_pages.specs.Hours.{Kept, hour_settle}
-use Rattle.fd_solving.specs.Solving.{IsBehind, IsEndBy, IsHour, IsHoursStep, hour_begun, kept_by, rounds_of}
-use Rattle.fd_solving.specs.Steps.{StandingView, behind_events, standing}
-use Rattle.fd_solving.specs.Headline.{HasModestNumbers}
+use Rattle.fd_checking.specs.dss_circuit.Circuit.{CircuitView}
+use Rattle.fd_checking.specs.dss_layout.Layout.{layout_of, size_of}
+use Rattle.fd_checking.specs.fd_enclosure.Sound.{Claim, loose, uncertain}
+use Rattle.fd_checking.specs.fd_inject.declared.fault.SolveFault.TheVariants as solving
+use Rattle.fd_checking.specs.fd_queue.Machine.{Act, Machine}
+use Rattle.fd_checking.specs.fd_settle.Computed.{Ending, IsComputedFrom, ended, procedure, range, stopped, uncertified}
+use Rattle.fd_checking.specs.fd_settle.Contract.{limits_of}
+use Rattle.fd_checking.specs.fd_settle.Settle.{Open, Settled, Limited, Undecidable}
+use Rattle.fd_checking.specs.fd_certfile.Blocks.{Block, IsSized, IsWritable}
+use Rattle.fd_checking.specs.fd_certfile.Certificates.{Certificate, gives}
+use Rattle.fd_checking.specs.fd_certfile.Verdict.{AllHold}
+use Rattle.fd_checking.specs.fd_check.Checking.{Checking, after, due, open_hours, open_solves}
+use Rattle.fd_checking.specs.fd_outcome.Certificates.{blocks_from, blocks_of}
+use Rattle.fd_checking.specs.fd_outcome.Events.{Event, IfSettle, settle}
+use Rattle.fd_checking.specs.fd_outcome.Settles.{Round, Settle, SettleEnd, settled, failed, without_certificate}
+use Rattle.fd_checking.specs.fd_outcome.Work.{Step, goes, ends}
+use Rattle.fd_checking.specs.fd_daily.Underway.{plant_at}
+use Rattle.fd_checking.specs.fd_pages.Hours.{Kept, hour_settle}
+use Rattle.fd_checking.specs.fd_solving.Solving.{IsBehind, IsEndBy, IsHour, IsHoursStep, hour_begun, kept_by, rounds_of}
+use Rattle.fd_checking.specs.fd_solving.Steps.{StandingView, behind_events, standing}
+use Rattle.fd_checking.specs.fd_solving.Headline.{HasModestNumbers}
 use Rattle.fd_app.specs.Printed.{all_rounds, rounds_in}
 use Rattle.fd_app.proofs.Settles.{before, rounds_fit, rounds_hold}
 use Rattle.fd_app.proofs.Texts.{IsNoLine, all_blocks, blocks_in}

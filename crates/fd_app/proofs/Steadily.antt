@@ -2,48 +2,48 @@
 use Rattle.std.proofs.Common.{◌≡◌, ◌∙◌, ◌⊎◌, ℕ, ◌+◌, List, [], ◌∷◌, ◌++◌, map, Result, Ok, Err, refl, sym, ap, subst, inl, inr}
 use Rattle.std.specs.List.{AllByRecursion}
 use Rattle.std.proofs.lemmas.List.{append-nil}
-use Rattle.dss_model.specs.Names.{bytes}
-use Rattle.dss_model.specs.declared.command.Blame.{Blame}
-use Rattle.dss_circuit.specs.Circuit.{CircuitView}
-use Rattle.dss_ready.specs.Passed.{PassedLaw}
-use Rattle.dss_script.specs.Said.{Said, name, command, ScriptEnd, at_its_end, refused_at}
-use Rattle.fd_exact.specs.States.{State}
-use Rattle.fd_outside.specs.Files.{Files, held}
-use Rattle.fd_bases.specs.declared.bus_base.BusBase.{BusBase}
-use Rattle.fd_bases.specs.Bases.{bases_of}
-use Rattle.fd_report.specs.Bases.{base_fields}
-use Rattle.fd_report.specs.declared.faults.Cause.TheVariants as cause
-use Rattle.fd_report.specs.declared.faults.Fault.{Fault}
-use Rattle.fd_report.specs.declared.faults.Fault.TheVariants as fault
-use Rattle.fd_daily.specs.Hours.{hours_of}
-use Rattle.fd_enclosure.specs.Sound.{Claim}
-use Rattle.fd_inject.specs.declared.limits.Limits.{Limits}
-use Rattle.fd_queue.specs.Controls.{Positions}
-use Rattle.fd_queue.specs.Machine.{Act, Machine}
-use Rattle.fd_settle.specs.Computed.{Ending, Follows, IsComputedFrom, ended}
-use Rattle.fd_settle.specs.Contract.{limits_of}
-use Rattle.fd_settle.specs.Plant.{controls_in, setup_of}
-use Rattle.fd_settle.specs.Rounds.{AtEach, left_by}
-use Rattle.fd_settle.specs.Sampling.{Decided, Sampling, Unclear, look_over}
-use Rattle.fd_settle.specs.Settle.{Open, Settled, Limited, Undecidable, Outcome, Ends, Moves, outcome_of}
-use Rattle.fd_certfile.specs.Rules.{moves}
-use Rattle.fd_checking.specs.Checking.{Checking, Settling, act_due, behind_round, open_hours, open_solves, sampled_by, under_way}
-use Rattle.fd_checking.specs.Underway.{plant_at}
-use Rattle.fd_outcome.specs.Events.{Event, History, IfSettle, settle, row}
-use Rattle.fd_outcome.specs.History.{IsHistory}
-use Rattle.fd_outcome.specs.Parts.{events_in}
-use Rattle.fd_outcome.specs.Settles.{Settle, SettleEnd, claim_in, failed, round_of, settled, without_certificate}
-use Rattle.fd_outcome.specs.Work as work
-use Rattle.fd_outcome.specs.Work.{AfterStep, Step, goes}
-use Rattle.fd_pages.specs.Bases.{base_events}
-use Rattle.fd_pages.specs.Hours.{Kept, hour_settle}
-use Rattle.fd_solving.specs.Commands.{Applied, nothing_left, solve_left, bases_left, IsByTests, IsStepOf, IsTested, tried}
-use Rattle.fd_solving.specs.Commands as commands
-use Rattle.fd_solving.specs.Headline.{AreAlike, DecidesAlike, IsSolved}
-use Rattle.fd_solving.specs.Scripts.{IsDoneThere, no_name}
-use Rattle.fd_solving.specs.Commands.{IsStep}
-use Rattle.fd_solving.specs.Solving.{IsBehind, IsEndBy, IsHour, IsHoursStep, IsSolutionStep, hour_begun, kept_by, kept_first, rounds_of}
-use Rattle.fd_solving.specs.Steps.{StandingView, behind_events, standing}
+use Rattle.fd_checking.specs.dss_model.Names.{bytes}
+use Rattle.fd_checking.specs.dss_model.declared.command.Blame.{Blame}
+use Rattle.fd_checking.specs.dss_circuit.Circuit.{CircuitView}
+use Rattle.fd_checking.specs.dss_ready.Passed.{PassedLaw}
+use Rattle.fd_checking.specs.dss_script.Said.{Said, name, command, ScriptEnd, at_its_end, refused_at}
+use Rattle.fd_checking.specs.fd_exact.States.{State}
+use Rattle.fd_bench.specs.fd_outside.Files.{Files, held}
+use Rattle.fd_checking.specs.fd_bases.declared.bus_base.BusBase.{BusBase}
+use Rattle.fd_checking.specs.fd_bases.Bases.{bases_of}
+use Rattle.fd_checking.specs.fd_report.Bases.{base_fields}
+use Rattle.fd_checking.specs.fd_report.declared.faults.Cause.TheVariants as cause
+use Rattle.fd_checking.specs.fd_report.declared.faults.Fault.{Fault}
+use Rattle.fd_checking.specs.fd_report.declared.faults.Fault.TheVariants as fault
+use Rattle.fd_checking.specs.fd_daily.Hours.{hours_of}
+use Rattle.fd_checking.specs.fd_enclosure.Sound.{Claim}
+use Rattle.fd_checking.specs.fd_inject.declared.limits.Limits.{Limits}
+use Rattle.fd_checking.specs.fd_queue.Controls.{Positions}
+use Rattle.fd_checking.specs.fd_queue.Machine.{Act, Machine}
+use Rattle.fd_checking.specs.fd_settle.Computed.{Ending, Follows, IsComputedFrom, ended}
+use Rattle.fd_checking.specs.fd_settle.Contract.{limits_of}
+use Rattle.fd_checking.specs.fd_settle.Plant.{controls_in, setup_of}
+use Rattle.fd_checking.specs.fd_settle.Rounds.{AtEach, left_by}
+use Rattle.fd_checking.specs.fd_settle.Sampling.{Decided, Sampling, Unclear, look_over}
+use Rattle.fd_checking.specs.fd_settle.Settle.{Open, Settled, Limited, Undecidable, Outcome, Ends, Moves, outcome_of}
+use Rattle.fd_checking.specs.fd_certfile.Rules.{moves}
+use Rattle.fd_checking.specs.fd_check.Checking.{Checking, Settling, act_due, behind_round, open_hours, open_solves, sampled_by, under_way}
+use Rattle.fd_checking.specs.fd_daily.Underway.{plant_at}
+use Rattle.fd_checking.specs.fd_outcome.Events.{Event, History, IfSettle, settle, row}
+use Rattle.fd_checking.specs.fd_outcome.History.{IsHistory}
+use Rattle.fd_checking.specs.fd_outcome.Parts.{events_in}
+use Rattle.fd_checking.specs.fd_outcome.Settles.{Settle, SettleEnd, claim_in, failed, round_of, settled, without_certificate}
+use Rattle.fd_checking.specs.fd_outcome.Work as work
+use Rattle.fd_checking.specs.fd_outcome.Work.{AfterStep, Step, goes}
+use Rattle.fd_checking.specs.fd_pages.Bases.{base_events}
+use Rattle.fd_checking.specs.fd_pages.Hours.{Kept, hour_settle}
+use Rattle.fd_checking.specs.fd_solving.Commands.{Applied, nothing_left, solve_left, bases_left, IsByTests, IsStepOf, IsTested, tried}
+use Rattle.fd_checking.specs.fd_solving.Commands as commands
+use Rattle.fd_checking.specs.fd_solving.Headline.{AreAlike, DecidesAlike, IsSolved}
+use Rattle.fd_checking.specs.fd_solving.Scripts.{IsDoneThere, no_name}
+use Rattle.fd_checking.specs.fd_solving.Commands.{IsStep}
+use Rattle.fd_checking.specs.fd_solving.Solving.{IsBehind, IsEndBy, IsHour, IsHoursStep, IsSolutionStep, hour_begun, kept_by, kept_first, rounds_of}
+use Rattle.fd_checking.specs.fd_solving.Steps.{StandingView, behind_events, standing}
 use Rattle.fd_app.specs.Solves.{behind_command, solves_from}
 use Rattle.fd_app.specs.Steady.{AreSteady, AreSteadyFrom, IsLastOfFault, Solves, outcome_at}
 use Rattle.fd_app.proofs.Settles.{at_round, behind_it}

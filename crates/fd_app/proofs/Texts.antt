@@ -2,14 +2,14 @@
 use Rattle.std.proofs.Common.{◌≡◌, ◌∙◌, ℕ, pos, List, [], ◌∷◌, ◌++◌, map, Option, None, refl, sym, ap}
 use Rattle.std.specs.List.{AllByRecursion, concat, flat_map}
 use Rattle.std.proofs.lemmas.List.{append_assoc}
-use Rattle.fd_certfile.specs.Blocks.{Block, block_lines}
-use Rattle.fd_certfile.specs.declared.version.Version.TheVariants.{Sparse}
-use Rattle.fd_certfile.specs.Certificates.{certificate_bytes, lines_behind}
-use Rattle.fd_certfile.specs.Lines.{Line, bytes_of, header, line_bytes}
-use Rattle.fd_certfile.specs.Lines as text
-use Rattle.fd_outcome.specs.Calls.{Call, body, calls_of, certificate, opened, reads, texts_written, writes}
-use Rattle.fd_outcome.specs.Certificates.{block_texts, blocks_of, blocks_texts, certificate_texts}
-use Rattle.fd_outcome.specs.Events.{Event, History, asked, settle, row, line}
+use Rattle.fd_checking.specs.fd_certfile.Blocks.{Block, block_lines}
+use Rattle.fd_checking.specs.fd_certfile.declared.version.Version.TheVariants.{Sparse}
+use Rattle.fd_checking.specs.fd_certfile.Certificates.{certificate_bytes, lines_behind}
+use Rattle.fd_checking.specs.fd_certfile.Lines.{Line, bytes_of, header, line_bytes}
+use Rattle.fd_checking.specs.fd_certfile.Lines as text
+use Rattle.fd_checking.specs.fd_outcome.Calls.{Call, body, calls_of, certificate, opened, reads, texts_written, writes}
+use Rattle.fd_checking.specs.fd_outcome.Certificates.{block_texts, blocks_of, blocks_texts, certificate_texts}
+use Rattle.fd_checking.specs.fd_outcome.Events.{Event, History, asked, settle, row, line}
 use Rattle.fd_app.specs.Printed.{bytes_by}
 
 -- the blocks of the settles of events

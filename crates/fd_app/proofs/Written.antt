@@ -3,18 +3,18 @@ use Rattle.std.proofs.Common.{◌≡◌, ◌∙◌, ℕ, ◌+◌, List, ◌++◌
 use Rattle.std.specs.Str.{chars}
 use Rattle.std.specs.List.{concat}
 use Rattle.std.proofs.lemmas.List.{append-nil}
-use Rattle.fd_outside.specs.Files.{Files}
-use Rattle.dss_script.specs.Said.{said_of}
-use Rattle.fd_report.specs.declared.faults.Fault.{Fault}
-use Rattle.fd_certfile.specs.Laws.{CertificateLaw}
-use Rattle.fd_certfile.specs.RuleLaws.{RuleLaw}
-use Rattle.dss_ready.specs.Passed.{PassedLaw}
-use Rattle.fd_outcome.specs.Calls.{Doing, certificate, doing, texts_written}
-use Rattle.fd_outcome.specs.Done.{IsDone, Made, failing, torn_bytes}
-use Rattle.fd_outcome.specs.Events.{History}
-use Rattle.fd_outcome.specs.Laws.{ReadLaw, StatusLaw}
-use Rattle.fd_outcome.specs.Statuses.{status_of}
-use Rattle.fd_solving.specs.SolvedLaw.{SolvedLaw}
+use Rattle.fd_bench.specs.fd_outside.Files.{Files}
+use Rattle.fd_checking.specs.dss_script.Said.{said_of}
+use Rattle.fd_checking.specs.fd_report.declared.faults.Fault.{Fault}
+use Rattle.fd_checking.specs.fd_certfile.Laws.{CertificateLaw}
+use Rattle.fd_checking.specs.fd_certfile.RuleLaws.{RuleLaw}
+use Rattle.fd_checking.specs.dss_ready.Passed.{PassedLaw}
+use Rattle.fd_checking.specs.fd_outcome.Calls.{Doing, certificate, doing, texts_written}
+use Rattle.fd_checking.specs.fd_outcome.Done.{IsDone, Made, failing, torn_bytes}
+use Rattle.fd_checking.specs.fd_outcome.Events.{History}
+use Rattle.fd_checking.specs.fd_outcome.Laws.{ReadLaw, StatusLaw}
+use Rattle.fd_checking.specs.fd_outcome.Statuses.{status_of}
+use Rattle.fd_checking.specs.fd_solving.SolvedLaw.{SolvedLaw}
 use Rattle.fd_app.specs.Run.{FormsLaw, IsFormHistory}
 use Rattle.fd_words.specs.Words.{Cert}
 use Rattle.fd_app.specs.Accepted.{HaveTaken}

@@ -1,16 +1,16 @@
 -- The certificate of a script is accepted.
 use Rattle.std.specs.Prelude.{◌≡◌, ℕ, List, [], ◌∷◌, ◌++◌, length, map, None, Some}
-use Rattle.fd_outside.specs.Files.{Files}
-use Rattle.dss_model.specs.Names.{bytes}
-use Rattle.dss_circuit.specs.Circuit.{CircuitView}
-use Rattle.dss_script.specs.Said.{said_of}
-use Rattle.fd_checking.specs.Underway.{no_positions}
-use Rattle.fd_certfile.specs.Verdict.{IsAnswer, accepted}
-use Rattle.fd_checking.specs.Checking.{after, due, open_solves}
-use Rattle.fd_outcome.specs.Calls.{certificate}
-use Rattle.fd_report.specs.Accepted.{accepted_fields}
-use Rattle.fd_outcome.specs.Events.{History, asked, finishes, row}
-use Rattle.fd_solving.specs.Scripts.{IsScriptHistory}
+use Rattle.fd_bench.specs.fd_outside.Files.{Files}
+use Rattle.fd_checking.specs.dss_model.Names.{bytes}
+use Rattle.fd_checking.specs.dss_circuit.Circuit.{CircuitView}
+use Rattle.fd_checking.specs.dss_script.Said.{said_of}
+use Rattle.fd_checking.specs.fd_daily.Underway.{no_positions}
+use Rattle.fd_checking.specs.fd_certfile.Verdict.{IsAnswer, accepted}
+use Rattle.fd_checking.specs.fd_check.Checking.{after, due, open_solves}
+use Rattle.fd_checking.specs.fd_outcome.Calls.{certificate}
+use Rattle.fd_checking.specs.fd_report.Accepted.{accepted_fields}
+use Rattle.fd_checking.specs.fd_outcome.Events.{History, asked, finishes, row}
+use Rattle.fd_checking.specs.fd_solving.Scripts.{IsScriptHistory}
 use Rattle.fd_app.specs.Printed.{all_rounds, bytes_by}
 use Rattle.fd_app.specs.Solves.{solves_of}
 

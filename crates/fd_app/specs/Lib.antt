@@ -7,3 +7,6 @@ pub mod Meaning
 pub mod Rounds
 pub mod Promise
 pub mod Written
+pub use Rattle.fd_bench.specs.fd_outside as fd_outside
+pub use Rattle.fd_words.specs as fd_words
+pub use Rattle.fd_checking.specs.fd_outcome as fd_outcome

@@ -1,23 +1,23 @@
 -- What it means of a certificate that `check` accepts it, for whoever receives it and whoever made it.
 use Rattle.std.specs.Prelude.{◌≡◌, ℕ, ◌≤◌, pos, List, Option, Some, None, All}
 use Rattle.std.specs.Str.{chars}
-use Rattle.dss_model.specs.Names.{bytes}
-use Rattle.dss_circuit.specs.Circuit.{CircuitView}
-use Rattle.dss_script.specs.Said.{said_of}
-use Rattle.fd_outside.specs.Files.{Files, held}
-use Rattle.fd_exact.specs.States.{State}
-use Rattle.fd_system.specs.Residual.{whole_state}
-use Rattle.fd_enclosure.specs.Sound.{Claim}
-use Rattle.fd_certfile.specs.Blocks.{Block}
-use Rattle.fd_certfile.specs.declared.version.Version.{Version}
-use Rattle.fd_certfile.specs.Certificates.{Certificate, ends, trails, refuses, gives, Reads, behind_first, version_in}
-use Rattle.fd_certfile.specs.Judging.{claim_on}
-use Rattle.fd_certfile.specs.Lines.{lines_of}
-use Rattle.fd_certfile.specs.Rules.{moves}
-use Rattle.fd_checking.specs.Checking.{Checking, Settling, behind_round, done, open_solves, sampled_by, under_way}
-use Rattle.fd_checking.specs.Underway.{no_positions}
-use Rattle.fd_outcome.specs.Events.{History}
-use Rattle.fd_solving.specs.Headline.{EnclosesOthers, EnclosesSizes, hour_network}
+use Rattle.fd_checking.specs.dss_model.Names.{bytes}
+use Rattle.fd_checking.specs.dss_circuit.Circuit.{CircuitView}
+use Rattle.fd_checking.specs.dss_script.Said.{said_of}
+use Rattle.fd_bench.specs.fd_outside.Files.{Files, held}
+use Rattle.fd_checking.specs.fd_exact.States.{State}
+use Rattle.fd_checking.specs.fd_system.Residual.{whole_state}
+use Rattle.fd_checking.specs.fd_enclosure.Sound.{Claim}
+use Rattle.fd_checking.specs.fd_certfile.Blocks.{Block}
+use Rattle.fd_checking.specs.fd_certfile.declared.version.Version.{Version}
+use Rattle.fd_checking.specs.fd_certfile.Certificates.{Certificate, ends, trails, refuses, gives, Reads, behind_first, version_in}
+use Rattle.fd_checking.specs.fd_certfile.Judging.{claim_on}
+use Rattle.fd_checking.specs.fd_certfile.Lines.{lines_of}
+use Rattle.fd_checking.specs.fd_certfile.Rules.{moves}
+use Rattle.fd_checking.specs.fd_check.Checking.{Checking, Settling, behind_round, done, open_solves, sampled_by, under_way}
+use Rattle.fd_checking.specs.fd_daily.Underway.{no_positions}
+use Rattle.fd_checking.specs.fd_outcome.Events.{History}
+use Rattle.fd_checking.specs.fd_solving.Headline.{EnclosesOthers, EnclosesSizes, hour_network}
 use Rattle.fd_words.specs.Words.{Check}
 use Rattle.fd_app.specs.Run.{IsFormHistory}
 use Rattle.fd_app.specs.Solves.{solves_of}

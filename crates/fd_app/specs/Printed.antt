@@ -1,9 +1,9 @@
 -- What a history is printed as, and its rounds.
 use Rattle.std.specs.Prelude.{ℕ, List, []}
 use Rattle.std.specs.List.{concat, flat_map}
-use Rattle.fd_outcome.specs.Calls.{Style, doing, texts_written}
-use Rattle.fd_outcome.specs.Events.{Event, History, settle}
-use Rattle.fd_outcome.specs.Settles.{Round}
+use Rattle.fd_checking.specs.fd_outcome.Calls.{Style, doing, texts_written}
+use Rattle.fd_checking.specs.fd_outcome.Events.{Event, History, settle}
+use Rattle.fd_checking.specs.fd_outcome.Settles.{Round}
 
 -- all bytes of a history in a style, where nothing cuts it short
 abbrev pub bytes_by : Style → History → List ℕ

@@ -2,21 +2,21 @@
 use Rattle.std.specs.Prelude.{◌≡◌, ◌↔◌, ◌+◌, ◌++◌, ℕ, Bool, List, length, Option, Some, None}
 use Rattle.std.specs.List.{concat}
 use Rattle.std.specs.Str.{chars}
-use Rattle.dss_model.specs.Names.{bytes}
-use Rattle.dss_script.specs.Said.{Part, said_of}
-use Rattle.fd_outside.specs.Answers.{Answer as Told, IsLater, names_asked}
-use Rattle.fd_outside.specs.Files.{Files, held}
+use Rattle.fd_checking.specs.dss_model.Names.{bytes}
+use Rattle.fd_checking.specs.dss_script.Said.{Part, said_of}
+use Rattle.fd_bench.specs.fd_outside.Answers.{Answer as Told, IsLater, names_asked}
+use Rattle.fd_bench.specs.fd_outside.Files.{Files, held}
 use Rattle.fd_words.specs.Words.{Form, Solve, Cert, Check, Bench, Upgrade}
-use Rattle.dss_circuit.specs.Circuit.{CircuitView}
-use Rattle.dss_model.specs.declared.command.Blame.{Blame}
-use Rattle.fd_certfile.specs.Verdict.{Answer, IsAnswer}
-use Rattle.fd_checking.specs.Checking.{after, due, open_solves}
-use Rattle.fd_checking.specs.Underway.{no_positions}
-use Rattle.fd_outcome.specs.Calls.{Style, certificate, doing, report, names_read, texts_written}
-use Rattle.fd_outcome.specs.Done.{HasReadCause, IsDone, Made, failing, torn_bytes, torn_writes}
-use Rattle.fd_outcome.specs.Events.{Event, History}
-use Rattle.fd_solving.specs.Headline.{EnclosesOthers, EnclosesSizes}
-use Rattle.fd_solving.specs.Scripts.{IsScriptHistory}
+use Rattle.fd_checking.specs.dss_circuit.Circuit.{CircuitView}
+use Rattle.fd_checking.specs.dss_model.declared.command.Blame.{Blame}
+use Rattle.fd_checking.specs.fd_certfile.Verdict.{Answer, IsAnswer}
+use Rattle.fd_checking.specs.fd_check.Checking.{after, due, open_solves}
+use Rattle.fd_checking.specs.fd_daily.Underway.{no_positions}
+use Rattle.fd_checking.specs.fd_outcome.Calls.{Style, certificate, doing, report, names_read, texts_written}
+use Rattle.fd_checking.specs.fd_outcome.Done.{HasReadCause, IsDone, Made, failing, torn_bytes, torn_writes}
+use Rattle.fd_checking.specs.fd_outcome.Events.{Event, History}
+use Rattle.fd_checking.specs.fd_solving.Headline.{EnclosesOthers, EnclosesSizes}
+use Rattle.fd_checking.specs.fd_solving.Scripts.{IsScriptHistory}
 use Rattle.fd_bench.specs.Bench.{feeder_files, feeder_name}
 use Rattle.fd_app.specs.Accepted.{AreAccepted}
 use Rattle.fd_app.specs.Meaning.{IsCertificateOf}

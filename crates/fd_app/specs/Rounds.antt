@@ -1,17 +1,17 @@
 -- What is said of each printed round: of its state and numbers `m`, for a circuit at an hour and at positions of taps and
 -- banks.
 use Rattle.std.specs.Prelude.{◌≡◌, ◌<◌, ◌≤◌, ℕ, List, Ok, All}
-use Rattle.dss_circuit.specs.Circuit.{CircuitView}
-use Rattle.fd_system.specs.Residual.{whole_state}
-use Rattle.fd_daily.specs.Underway.{plant_at}
-use Rattle.fd_enclosure.specs.Sound.{Claim, certificate_of, number_at}
-use Rattle.fd_inject.specs.Procedure.{solution_of}
-use Rattle.fd_queue.specs.Controls.{Positions}
-use Rattle.fd_settle.specs.Contract.{limits_of}
-use Rattle.fd_settle.specs.Rounds.{AtEach}
-use Rattle.fd_outcome.specs.Events.{Event, IfSettle}
-use Rattle.fd_outcome.specs.Settles.{Settle}
-use Rattle.fd_solving.specs.Headline.{AreTied, HasItsBox, HaveOneBall, MeetsRound, claims_of, equation_count, hour_network, machine_of}
+use Rattle.fd_checking.specs.dss_circuit.Circuit.{CircuitView}
+use Rattle.fd_checking.specs.fd_system.Residual.{whole_state}
+use Rattle.fd_checking.specs.fd_daily.Underway.{plant_at}
+use Rattle.fd_checking.specs.fd_enclosure.Sound.{Claim, certificate_of, number_at}
+use Rattle.fd_checking.specs.fd_inject.Procedure.{solution_of}
+use Rattle.fd_checking.specs.fd_queue.Controls.{Positions}
+use Rattle.fd_checking.specs.fd_settle.Contract.{limits_of}
+use Rattle.fd_checking.specs.fd_settle.Rounds.{AtEach}
+use Rattle.fd_checking.specs.fd_outcome.Events.{Event, IfSettle}
+use Rattle.fd_checking.specs.fd_outcome.Settles.{Settle}
+use Rattle.fd_checking.specs.fd_solving.Headline.{AreTied, HasItsBox, HaveOneBall, MeetsRound, claims_of, equation_count, hour_network, machine_of}
 
 -- P of each round of these events, with the positions at which it was solved
 abbrev pub HasEach : (CircuitView → ℕ → Positions → Claim → Type 0) → Settle → Type 0

@@ -1,16 +1,16 @@
 -- The history of a command line over files, and what a run does of it.
 use Rattle.std.specs.Prelude.{◌≡◌, ℕ, Bool, true, false, List, [], Option, Some, None}
 use Rattle.std.specs.Str.{chars}
-use Rattle.fd_outside.specs.Answers.{AgreesSince, Answer}
-use Rattle.fd_outside.specs.Files.{Files}
-use Rattle.dss_script.specs.Said.{said_of}
+use Rattle.fd_bench.specs.fd_outside.Answers.{AgreesSince, Answer}
+use Rattle.fd_bench.specs.fd_outside.Files.{Files}
+use Rattle.fd_checking.specs.dss_script.Said.{said_of}
 use Rattle.fd_words.specs.Words.{Form, Solve, Cert, Check, Gen, Bench, Upgrade}
-use Rattle.fd_report.specs.declared.faults.Fault.TheVariants as fault
-use Rattle.fd_outcome.specs.Calls.{Style, certificate, report}
-use Rattle.fd_outcome.specs.Events.{History, ended}
-use Rattle.fd_outcome.specs.Runs.{Runs}
-use Rattle.fd_outcome.specs.Work.{ExactlyOne}
-use Rattle.fd_solving.specs.Scripts.{IsScriptHistory}
+use Rattle.fd_checking.specs.fd_report.declared.faults.Fault.TheVariants as fault
+use Rattle.fd_checking.specs.fd_outcome.Calls.{Style, certificate, report}
+use Rattle.fd_checking.specs.fd_outcome.Events.{History, ended}
+use Rattle.fd_checking.specs.fd_outcome.Runs.{Runs}
+use Rattle.fd_checking.specs.fd_outcome.Work.{ExactlyOne}
+use Rattle.fd_checking.specs.fd_solving.Scripts.{IsScriptHistory}
 use Rattle.fd_checking.specs.Checks.{IsCheckHistory}
 use Rattle.fd_upgrade.specs.Upgrading.{IsUpgradeHistory}
 use Rattle.fd_bench.specs.Bench.{IsBenchHistory, lines_alone, script_written}

@@ -1,8 +1,8 @@
 -- The Solves of a script, as the circuits that they solve.
 use Rattle.std.specs.Prelude.{List, [], ◌∷◌}
-use Rattle.dss_circuit.specs.Circuit.{CircuitView, empty_circuit}
-use Rattle.dss_script.specs.Said.{Part, Said, name, command}
-use Rattle.fd_solving.specs.Commands.{Applied, nothing_left, solve_left, bases_left, refused_at, tried}
+use Rattle.fd_checking.specs.dss_circuit.Circuit.{CircuitView, empty_circuit}
+use Rattle.fd_checking.specs.dss_script.Said.{Part, Said, name, command}
+use Rattle.fd_checking.specs.fd_solving.Commands.{Applied, nothing_left, solve_left, bases_left, refused_at, tried}
 
 -- the circuit of a command that is a Solve, and those that come behind it; none behind a refusal
 abbrev pub behind_command : Applied → (CircuitView → List CircuitView) → List CircuitView

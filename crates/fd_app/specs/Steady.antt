@@ -1,15 +1,15 @@
 -- The acts of a whole run, over any states that solve its rounds.
 use Rattle.std.specs.Prelude.{◌≡◌, ◌⊎◌, ℕ, ◌+◌, List, [], ◌∷◌, map}
-use Rattle.fd_exact.specs.States.{State}
-use Rattle.fd_enclosure.specs.Sound.{Claim}
-use Rattle.fd_settle.specs.Plant.{controls_in, setup_of}
-use Rattle.fd_settle.specs.Sampling.{look_at}
-use Rattle.fd_settle.specs.Settle.{Outcome, outcome_of}
-use Rattle.fd_certfile.specs.Rules.{moves}
-use Rattle.fd_checking.specs.Checking.{Checking, Settling, act_due, behind_round, done, sampled_by, under_way}
-use Rattle.fd_outcome.specs.Events.{Event, settle}
-use Rattle.fd_outcome.specs.Settles.{Round, Settle, claim_in, settled}
-use Rattle.fd_solving.specs.Headline.{IsOtherState}
+use Rattle.fd_checking.specs.fd_exact.States.{State}
+use Rattle.fd_checking.specs.fd_enclosure.Sound.{Claim}
+use Rattle.fd_checking.specs.fd_settle.Plant.{controls_in, setup_of}
+use Rattle.fd_checking.specs.fd_settle.Sampling.{look_at}
+use Rattle.fd_checking.specs.fd_settle.Settle.{Outcome, outcome_of}
+use Rattle.fd_checking.specs.fd_certfile.Rules.{moves}
+use Rattle.fd_checking.specs.fd_check.Checking.{Checking, Settling, act_due, behind_round, done, sampled_by, under_way}
+use Rattle.fd_checking.specs.fd_outcome.Events.{Event, settle}
+use Rattle.fd_checking.specs.fd_outcome.Settles.{Round, Settle, claim_in, settled}
+use Rattle.fd_checking.specs.fd_solving.Headline.{IsOtherState}
 
 -- ---- one round
 

@@ -1,11 +1,11 @@
 -- What a run of `cert` wrote that answers 0, and what `check` makes of it.
 use Rattle.std.specs.Prelude.{◌≡◌, ℕ, List, length, Some}
 use Rattle.std.specs.Str.{chars}
-use Rattle.fd_outside.specs.Files.{Files, held}
-use Rattle.dss_model.specs.Names.{bytes}
-use Rattle.dss_script.specs.Said.{said_of}
-use Rattle.fd_outcome.specs.Calls.{certificate}
-use Rattle.fd_outcome.specs.Events.{History}
+use Rattle.fd_bench.specs.fd_outside.Files.{Files, held}
+use Rattle.fd_checking.specs.dss_model.Names.{bytes}
+use Rattle.fd_checking.specs.dss_script.Said.{said_of}
+use Rattle.fd_checking.specs.fd_outcome.Calls.{certificate}
+use Rattle.fd_checking.specs.fd_outcome.Events.{History}
 use Rattle.fd_words.specs.Words.{Cert, Check}
 use Rattle.fd_app.specs.Accepted.{HasAccepted, HaveTaken}
 use Rattle.fd_app.specs.Printed.{all_rounds, bytes_by}

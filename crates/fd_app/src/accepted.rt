@@ -3,10 +3,7 @@ ghost use Rattle.fd_app.specs.Accepted.{CertLaw};
 ghost use Rattle.fd_app.specs.Written.{RoundTripLaw, WrittenLaw};
 
 use crate::top::forms_law;
-use dss_ready::passed_law;
-use fd_certfile::{certificate_law, rule_law};
-use fd_outcome::{read_law, status_law};
-use fd_solving::solved_law;
+use fd_checking::{certificate_law, passed_law, read_law, rule_law, solved_law, status_law};
 
 /// A law: where the history of a script's commands ends without a fault, the bytes that it is printed as in a certificate
 /// are accepted for the Solves of that script, with a block for each round. Does nothing.

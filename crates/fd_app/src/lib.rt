@@ -27,6 +27,9 @@ mod meaning;
 mod top;
 
 pub use accepted::{cert_law, round_trip_law, written_law};
-pub use fd_checking::checked_law;
 pub use meaning::accepted_law;
 pub use top::{due_law, forms_law, run, told_law};
+
+// Handed on from the crates below.
+pub use fd_bench::{Bytes, FileEntry, FolderLibrary, Library, MemLibrary, MemSink, Sink, StdSink};
+pub use fd_checking::checked_law;

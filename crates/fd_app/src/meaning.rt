@@ -1,12 +1,10 @@
 // What it means of a certificate that `check` accepts it.
 ghost use Rattle.fd_app.specs.Meaning.{MeaningLaw};
 
-use dss_commands::limits_law;
-use dss_script::said_room_law;
-use fd_checking::checked_law;
-use fd_enclosure::enclosure_law;
-use fd_settings::{hours_law, modest_law, next_law};
-use fd_settle::{kept_law, sound_at_law};
+use fd_checking::{
+    checked_law, enclosure_law, hours_law, kept_law, limits_law, modest_law, next_law,
+    said_room_law, sound_at_law,
+};
 
 /// A law: where the history of `check` ends without a fault, the bytes held under the certificate's name have a block for
 /// each round of the script's Solves. Each block's state meets the complex equations of the circuit of its round within

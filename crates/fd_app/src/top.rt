@@ -1,24 +1,21 @@
 // The top call.
 ghost use Rattle.std.specs.Prelude.{◌≡◌, List, None, map, string_bytes, ℕ};
-ghost use Rattle.fd_outside.specs.Answers.{IsLater};
-ghost use Rattle.fd_outside.specs.Causes.{Rose};
-ghost use Rattle.fd_outside.specs.Files.{Files};
-ghost use Rattle.fd_outcome.specs.Events.{History};
-ghost use Rattle.fd_outcome.specs.Laws.{IsDue};
-ghost use Rattle.fd_outcome.specs.Untold.{Answers, EndsAtRead};
+ghost use Rattle.fd_bench.specs.fd_outside.Answers.{IsLater};
+ghost use Rattle.fd_bench.specs.fd_outside.Causes.{Rose};
+ghost use Rattle.fd_bench.specs.fd_outside.Files.{Files};
+ghost use Rattle.fd_checking.specs.fd_outcome.Events.{History};
+ghost use Rattle.fd_checking.specs.fd_outcome.Laws.{IsDue};
+ghost use Rattle.fd_checking.specs.fd_outcome.Untold.{Answers, EndsAtRead};
 ghost use Rattle.fd_app.specs.Promise.{IsPromised, Outside, Promised, ToldLaw};
 ghost use Rattle.fd_app.specs.Run.{FormsLaw, IsFormHistory, RunsForm};
 ghost use Rattle.fd_words.specs.Words.{form_of};
 
 use crate::meaning::accepted_law;
-use dss_ready::passed_law;
-use fd_bench::{bench, write_script};
-use fd_certfile::{certificate_law, rule_law};
-use fd_checking::check;
-use fd_outside::{Library, Sink};
-use fd_pages::{Certificate, Report};
-use fd_report::Fault;
-use fd_solving::{WANT_OF_MEMORY, print_fault, solve, solved_law};
+use fd_bench::{Library, Sink, bench, write_script};
+use fd_checking::{
+    Certificate, Fault, Report, WANT_OF_MEMORY, certificate_law, check, passed_law, print_fault,
+    rule_law, solve, solved_law,
+};
 use fd_upgrade::upgrade;
 use fd_words::{Form, form_of};
 use std::alloc::Global;

@@ -11,3 +11,4 @@ pub mod Roots
 pub mod Nearest
 pub mod ShortCircuit
 pub mod LoadModels
+pub use Rattle.fd_exact.specs as fd_exact

@@ -30,11 +30,14 @@ mod terms;
 pub use bounded::Wide;
 pub use cx::Cx;
 pub use enclose::Enclose;
-pub use fd_exact::near_quotient;
 pub use fix::Fix;
 pub use grid::{Coef, Grid, Micro, Square, grid_law};
 pub use interval::Interval;
 pub use quotient::{ceil_at, floor_at, isqrt, near_at};
 pub use rounding::{floor_of_product, near_over_coef, near_over_word, near_units};
 pub use short_circuit::is_source_above_limit;
-pub use terms::{Conn, Ends, LoadModel, NodeAt, Nodes, TapPair, Term, TermFault};
+pub use terms::{Conn, Ends, LoadModel, NodeAt, NodesAt, TapPair, Term, TermFault};
+
+// Handed on from the crates below.
+pub use fd_exact::{FEMTO_PER_ONE, ROOT_THREE, near_quotient};
+pub use fd_items::Items;

@@ -22,14 +22,14 @@ pub enum NodeAt {
 }
 
 /// The nodes of a terminal in order of its phases.
-pub type Nodes = Items<NodeAt>;
+pub type NodesAt = Items<NodeAt>;
 
 /// Where an element stands: the nodes of its first and of its second side, one for each phase, and the number of its
 /// first branch among the complex unknowns.
 #[derive(Drop, Debug)]
 pub struct Ends {
-    pub first: Nodes,
-    pub second: Nodes,
+    pub first: NodesAt,
+    pub second: NodesAt,
     pub branch: u32,
 }
 

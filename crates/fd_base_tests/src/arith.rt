@@ -1,11 +1,11 @@
 // Worked numbers, intervals and terminals.
 ghost use Rattle.std.specs.Prelude.{◌≡◌, pos};
 ghost use Rattle.std.specs.List.{fold};
-ghost use Rattle.fd_exact.specs.Fractions.{Fraction, ◌⊖◌, ◌⊗◌};
+ghost use Rattle.fd_inverse.specs.fd_exact.Fractions.{Fraction, ◌⊖◌, ◌⊗◌};
 
 use crate::checks::{holds, same};
 use crate::contributions::ends;
-use fd_arith::{
+use fd_inverse::{
     Conn, Cx, Enclose, Fix, Interval, Micro, NodeAt, Square, TapPair, Term, TermFault, Wide,
     ceil_at, floor_at, isqrt, near_at,
 };

@@ -1,11 +1,11 @@
 // Worked banks.
-ghost use Rattle.fd_system.specs.Terminals.{IsSide, node_count};
+ghost use Rattle.fd_source.specs.fd_system.Terminals.{IsSide, node_count};
 ghost use Rattle.fd_cap.specs.Capacitor.{IsCap};
 
 use crate::checks::same;
 use crate::contributions::{GIGA, THREE, ends, numbers};
-use fd_arith::{Conn, NodeAt, TermFault};
 use fd_cap::{CapData, cap_draw, cap_terms};
+use fd_inverse::{Conn, NodeAt, TermFault};
 use std::alloc::Global;
 use std::process::Abort;
 use std::test::Fail;

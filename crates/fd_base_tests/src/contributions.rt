@@ -1,7 +1,7 @@
 // Where elements stand, and the numbers of what they add to a network.
 ghost use Rattle.std.specs.Prelude.{◌≡◌, IfOk};
 
-use fd_arith::{Ends, NodeAt, Nodes, Term};
+use fd_inverse::{Ends, NodeAt, NodesAt, Term};
 use std::alloc::{AllocError, Global};
 
 /// A whole unit, where numbers count billionths of it.
@@ -22,8 +22,8 @@ pub fn ends(
     ensures branch { IfOk result (λ e. e.branch ≡ branch) }
 {
     Ok(Ends {
-        first: Nodes::new(Vec::from_slice(alloc, first)?),
-        second: Nodes::new(Vec::from_slice(alloc, second)?),
+        first: NodesAt::new(Vec::from_slice(alloc, first)?),
+        second: NodesAt::new(Vec::from_slice(alloc, second)?),
         branch,
     })
 }

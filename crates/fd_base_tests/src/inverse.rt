@@ -1,8 +1,7 @@
 // Worked values, and the same elimination written plainly on a list of rows.
 
 use crate::checks::{holds, same};
-use fd_inverse::{InverseFault, Stop, invert};
-use fd_mat::Dense;
+use fd_inverse::{Dense, InverseFault, Stop, invert};
 use std::alloc::{AllocError, Global};
 use std::process::Abort;
 

@@ -1,10 +1,9 @@
 // Corners of the script language, with values worked out by hand.
 use crate::checks::{holds, same, same_at};
-use dss_lexer::{
+use dss_script::{
     LineError, LineFault, NumberError, NumberFault, Pair, PairList, Row, Text, cells, matrix,
-    number, postfix,
+    number, pairs, postfix,
 };
-use dss_script::pairs;
 use std::alloc::{AllocError, Global};
 use std::fmt::Write;
 

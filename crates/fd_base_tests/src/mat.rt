@@ -1,6 +1,6 @@
 // Square matrices.
 use crate::checks::same;
-use fd_mat::Dense;
+use fd_inverse::Dense;
 use std::test::Fail;
 
 #[test]

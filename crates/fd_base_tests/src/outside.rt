@@ -1,6 +1,10 @@
 // Files, readers, writers and records in memory.
 use crate::checks::{same, same_at};
-use fd_outside::*;
+use dss_script::{
+    Bytes, FileEntry, FolderLibrary, Found, LibFault, MemLibrary, MemSink, NeverFails, Record,
+    SinkFault, StdSink, SystemTape, emit, read_opened,
+};
+use fd_gen::{Library, Sink};
 use std::alloc::{AllocError, Global};
 use std::io::{ErrorKind, Read, Write};
 use std::process::Abort;

@@ -1,6 +1,6 @@
 // Files as spreadsheets write them, with values worked out by hand.
 use crate::checks::{holds, same};
-use fd_shape::{ShapeFault, read_column};
+use dss_script::{ShapeFault, read_column};
 
 #[test]
 fn reads_files(rt: HostRuntime) -> Result<(), ShapeFault> {

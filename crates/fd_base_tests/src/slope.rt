@@ -2,9 +2,9 @@
 ghost use Rattle.std.specs.Prelude.{◌≡◌, pos};
 
 use crate::checks::same;
-use fd_arith::LoadModel;
+use fd_inverse::LoadModel;
 use fd_slope::load_slope;
-use fd_system::LoadPhase;
+use fd_source::LoadPhase;
 
 const VOLT: i128 = 1_000_000;
 

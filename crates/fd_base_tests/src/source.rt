@@ -3,7 +3,7 @@ ghost use Rattle.std.specs.Prelude.{◌≡◌, pos};
 
 use crate::checks::{holds, same};
 use crate::contributions::{GIGA, THREE, ends, numbers};
-use fd_arith::{NodeAt, TermFault};
+use fd_inverse::{NodeAt, TermFault};
 use fd_source::{Ohms, ShortCircuit, SourceData, source_ohms, source_terms};
 use std::test::Fail;
 

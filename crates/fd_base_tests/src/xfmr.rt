@@ -1,7 +1,7 @@
 // Worked transformers.
 use crate::checks::{holds, same};
 use crate::contributions::{GIGA, THREE, ends, numbers};
-use fd_arith::{Conn, NodeAt, TapPair, TermFault};
+use fd_inverse::{Conn, NodeAt, TapPair, TermFault};
 use fd_xfmr::{XfmrData, xfmr_terms};
 use std::test::Fail;
 

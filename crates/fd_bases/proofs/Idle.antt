@@ -4,11 +4,11 @@ use Rattle.std.specs.Map.{lookup}
 use Rattle.std.proofs.lemmas.Bool.{or_parts}
 use Rattle.std.proofs.lemmas.List.{drop_all}
 use Rattle.std.proofs.lemmas.Option.{slice_get_within}
-use Rattle.dss_lexer.specs.Texts.{text_eq}
-use Rattle.dss_model.specs.declared.bus.Bus.{Bus}
-use Rattle.dss_model.specs.declared.element.Element.{Element}
-use Rattle.dss_model.specs.declared.element.Element.TheVariants as the
-use Rattle.dss_model.specs.declared.names.ElementName.{ElementName}
+use Rattle.dss_layout.specs.dss_lexer.Texts.{text_eq}
+use Rattle.dss_layout.specs.dss_model.declared.bus.Bus.{Bus}
+use Rattle.dss_layout.specs.dss_model.declared.element.Element.{Element}
+use Rattle.dss_layout.specs.dss_model.declared.element.Element.TheVariants as the
+use Rattle.dss_layout.specs.dss_model.declared.names.ElementName.{ElementName}
 use Rattle.dss_circuit.specs.Circuit.{Elements}
 use Rattle.fd_bases.specs.declared.nominal.Nominal.{Nominal}
 use Rattle.fd_bases.specs.Nominals.{source_nominal, winding_nominal}

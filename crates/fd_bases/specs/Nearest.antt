@@ -2,7 +2,7 @@
 use Rattle.std.specs.Prelude.{ℕ, ◌≤◌, ◌*◌, ◌^◌, nat_le, ℤ, pos, ◌≤ℤ◌, ◌-ℤ◌, ◌*ℤ◌, unsigned_abs, Bool, List, [], ◌∷◌, filter, fold}
 use Rattle.std.specs.List.{list_all}
 use Rattle.std.specs.Int.{int_min}
-use Rattle.fd_exact.specs.RootThree.{root_three}
+use Rattle.dss_layout.specs.fd_exact.RootThree.{root_three}
 use Rattle.fd_bases.specs.declared.nominal.Nominal.{Nominal}
 use Rattle.fd_bases.specs.declared.nominal.Nominal.TheVariants.{Whole, OverRootThree}
 

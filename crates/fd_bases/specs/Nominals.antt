@@ -1,7 +1,7 @@
 -- The nominal voltages that sources and windings give to their buses.
 use Rattle.std.specs.Prelude.{ℕ, ◌==◌, Bool, false, ◌&&◌, ◌||◌, List, [], ◌∷◌, Result, Ok, Err, if◌then◌else◌}
-use Rattle.dss_model.specs.declared.vsource.Vsource.{Vsource}
-use Rattle.dss_model.specs.declared.transformer.Winding.{Winding}
+use Rattle.dss_layout.specs.dss_model.declared.vsource.Vsource.{Vsource}
+use Rattle.dss_layout.specs.dss_model.declared.transformer.Winding.{Winding}
 use Rattle.dss_layout.specs.declared.numbers.TerminalFault.{TerminalFault}
 use Rattle.dss_layout.specs.Terminals.{bus_numbers, one_phase_numbers}
 use Rattle.fd_bases.specs.declared.nominal.Nominal.{Nominal}

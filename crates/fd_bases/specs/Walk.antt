@@ -1,10 +1,10 @@
 -- Which buses are reached from the sources, in which order, and with which nominal voltages.
 use Rattle.std.specs.Prelude.{ℕ, zero, suc, List, [], ◌∷◌, ◌++◌, length, fold, Option, Some, None, unwrap_or}
 use Rattle.std.specs.Map.{lookup}
-use Rattle.dss_lexer.specs.Texts.{text_eq}
-use Rattle.dss_model.specs.declared.bus.Bus.{Bus}
-use Rattle.dss_model.specs.declared.element.Element.{Element}
-use Rattle.dss_model.specs.declared.element.Element.TheVariants as the
+use Rattle.dss_layout.specs.dss_lexer.Texts.{text_eq}
+use Rattle.dss_layout.specs.dss_model.declared.bus.Bus.{Bus}
+use Rattle.dss_layout.specs.dss_model.declared.element.Element.{Element}
+use Rattle.dss_layout.specs.dss_model.declared.element.Element.TheVariants as the
 use Rattle.dss_circuit.specs.Circuit.{Elements}
 use Rattle.fd_bases.specs.declared.nominal.Nominal.{Nominal}
 use Rattle.fd_bases.specs.Nominals.{source_nominal, winding_nominal}

@@ -1,13 +1,13 @@
 // The voltage bases of a circuit's buses.
 ghost use Rattle.std.specs.Prelude.{◌≡◌, ◌∷◌, All, pos, IfOk};
-ghost use Rattle.fd_exact.specs.Ranges.{IsBetween};
-ghost use Rattle.dss_model.specs.Ranges.{ones};
+ghost use Rattle.dss_layout.specs.fd_exact.Ranges.{IsBetween};
+ghost use Rattle.dss_layout.specs.dss_model.Ranges.{ones};
 ghost use Rattle.fd_bases.specs.Bases.{based, bases_of};
 
 use crate::nearest::nearest;
 use crate::walk::{Reached, reached_in};
 use dss_circuit::Circuit;
-use dss_lexer::Text;
+use dss_layout::Text;
 use std::alloc::{AllocError, Global};
 
 /// The voltage base of a bus.

@@ -3,7 +3,7 @@ ghost use Rattle.std.specs.Prelude.{ℕ, ◌≡◌, ◌||◌, ◌≤◌, ◌<◌
 ghost use Rattle.fd_bases.specs.Due.{is_due, is_noted, IsFirstFrom, NoneFrom};
 
 use crate::touching::Touching;
-use dss_lexer::Text;
+use dss_layout::Text;
 use std::alloc::{AllocError, Global};
 use std::collections::BTreeSet;
 

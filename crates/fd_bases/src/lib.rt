@@ -31,3 +31,7 @@ mod walk;
 
 pub use bus_base::{BusBase, bases};
 pub use laws::settled_law;
+
+// Handed on from the crates below.
+pub use dss_circuit::Circuit;
+pub use dss_layout::{Element, ElementName, Layout};

@@ -1,12 +1,12 @@
 // Which voltage base is nearest to a nominal voltage.
 ghost use Rattle.std.specs.Prelude.{◌≡◌, ◌⊎◌, ◌∷◌, All, pos};
-ghost use Rattle.fd_exact.specs.Ranges.{IsBetween};
-ghost use Rattle.dss_model.specs.Ranges.{ones};
+ghost use Rattle.dss_layout.specs.fd_exact.Ranges.{IsBetween};
+ghost use Rattle.dss_layout.specs.dss_model.Ranges.{ones};
 ghost use Rattle.fd_bases.specs.declared.nominal.Nominal.TheVariants.{Whole, OverRootThree};
 ghost use Rattle.fd_bases.specs.Nearest.{distance, IsBefore, nearest};
 
 use crate::nominal::Nominal;
-use fd_exact::{FEMTO_PER_ONE, ROOT_THREE};
+use dss_layout::{FEMTO_PER_ONE, ROOT_THREE};
 
 fn distance_to_whole(kv: i64, base: i128) -> u128
     requires { IsBetween (pos 1_000_000) (ones 1000) base }

@@ -1,10 +1,9 @@
 // The nominal voltages that sources and windings give to their buses.
 ghost use Rattle.std.specs.Prelude.{◌≡◌};
-ghost use Rattle.dss_model.specs.InRange.{VsourceInRange, WindingInRange};
+ghost use Rattle.dss_layout.specs.dss_model.InRange.{VsourceInRange, WindingInRange};
 ghost use Rattle.fd_bases.specs.Nominals.{source_nominal, has_ground, is_grounded, winding_nominal};
 
-use dss_layout::bus_at;
-use dss_model::{Vsource, Winding};
+use dss_layout::{Vsource, Winding, bus_at};
 
 /// The nominal voltage of a bus, in whole 10^-9 kV.
 #[derive(Clone, Copy)]

@@ -1,10 +1,9 @@
 // The elements that touch each bus.
 ghost use Rattle.std.specs.Prelude.{ℕ, ◌≡◌, List, OnOk, IfOk, ◌||◌, ◌&&◌, nat_eq};
-ghost use Rattle.dss_lexer.specs.Texts.{text_eq};
+ghost use Rattle.dss_layout.specs.dss_lexer.Texts.{text_eq};
 ghost use Rattle.fd_bases.specs.Due.{is_noted, Notes, ends_touch, touches, touches_at};
 
-use dss_lexer::Text;
-use dss_model::{Bus, Element, ElementName};
+use dss_layout::{Bus, Element, ElementName, Text};
 use indexmap::IndexMap;
 use std::alloc::{AllocError, Global};
 

@@ -1,6 +1,6 @@
 // The buses that are reached from the sources.
 ghost use Rattle.std.specs.Prelude.{◌≡◌, ◌<◌, ◌^◌, length, OnOk, IfOk};
-ghost use Rattle.dss_model.specs.InRange.{ElementInRange};
+ghost use Rattle.dss_layout.specs.dss_model.InRange.{ElementInRange};
 ghost use Rattle.dss_circuit.specs.InRange.{AllInRange};
 ghost use Rattle.fd_bases.specs.Walk.{reach, carried, joined, taken, pass, reached_in};
 ghost use Rattle.fd_bases.specs.Due.{AreTouching, AreDue, taken_at};
@@ -8,8 +8,7 @@ ghost use Rattle.fd_bases.specs.Due.{AreTouching, AreDue, taken_at};
 use crate::due::{Due, all_due, next_due, wake};
 use crate::nominal::{Nominal, source_nominal, winding_nominal};
 use crate::touching::{Touching, touching_in};
-use dss_lexer::Text;
-use dss_model::{Bus, Element, ElementName};
+use dss_layout::{Bus, Element, ElementName, Text};
 use indexmap::IndexMap;
 use std::alloc::{AllocError, Global};
 

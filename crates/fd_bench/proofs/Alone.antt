@@ -1,14 +1,14 @@
 -- A run that asks the library for nothing, and lines that are written.
 use Rattle.std.proofs.Common.{◌≡◌, ◌∙◌, ℕ, Bool, true, List, [], ◌∷◌, ◌++◌, map, codes, Option, Some, None, refl, sym, ap, subst, inl}
 use Rattle.std.proofs.lemmas.List.{append_assoc, append_cancel_left, append-nil, map-append}
-use Rattle.fd_outside.specs.Answers.{Agrees, AgreesSince, Answer, IsLater, names_asked}
-use Rattle.fd_outside.specs.Files.{Files}
+use Rattle.fd_gen.specs.fd_outside.Answers.{Agrees, AgreesSince, Answer, IsLater, names_asked}
+use Rattle.fd_gen.specs.fd_outside.Files.{Files}
 use Rattle.fd_gen.specs.Script.{ended, head, lines_of, script_of, sections_of}
-use Rattle.fd_outcome.specs.Calls.{Call, Style, body, calls_of, doing, opened, reads, report, writes}
-use Rattle.fd_outcome.specs.Events.{History, line}
-use Rattle.fd_outcome.specs.Parts.{Printed}
-use Rattle.fd_outcome.specs.Runs.{Runs}
-use Rattle.fd_outcome.proofs.CallerLemmas.{IsToldBy, not_empty}
+use Rattle.fd_solving.specs.fd_outcome.Calls.{Call, Style, body, calls_of, doing, opened, reads, report, writes}
+use Rattle.fd_solving.specs.fd_outcome.Events.{History, line}
+use Rattle.fd_solving.specs.fd_outcome.Parts.{Printed}
+use Rattle.fd_solving.specs.fd_outcome.Runs.{Runs}
+use Rattle.fd_solving.proofs.CallerLemmas.fd_outcome.{IsToldBy, not_empty}
 use Rattle.fd_bench.specs.Alone.{RunsAlone}
 
 -- ---- any library

@@ -6,28 +6,28 @@ use Rattle.std.specs.Str.{chars}
 use Rattle.std.specs.Prelude.{◌||◌, is_some}
 use Rattle.std.proofs.lemmas.List.{append_assoc, append_cancel_left, append-nil}
 use Rattle.std.proofs.lemmas.List.Sums.{fold-append}
-use Rattle.fd_outside.specs.Answers.{Answer, HasFailed, absent, content, failed, names_asked}
-use Rattle.fd_outside.specs.Files.{held}
-use Rattle.fd_outside.specs.Unfailing.{all_well}
-use Rattle.dss_model.specs.Names.{bytes}
-use Rattle.dss_model.specs.declared.command.Command.{Command}
-use Rattle.dss_script.specs.Said.{Said, ScriptEnd, at_its_end, command, end_in, ended_by, name, refused_at, said_in, said_of}
-use Rattle.dss_script.specs.SaidLaws.{SaidLaw}
-use Rattle.dss_script.specs.Script.{Script, script_of}
-use Rattle.fd_report.specs.declared.faults.Cause.TheVariants as cause
-use Rattle.fd_report.specs.declared.faults.Fault.{Fault}
-use Rattle.fd_report.specs.declared.faults.Fault.TheVariants as fault
-use Rattle.fd_outcome.specs.Behind.{last_calls}
-use Rattle.fd_outcome.specs.Calls.{Call, Style, body, calls_in, calls_of, doing, fault_text, names_read, reads, so_far, texts_written, writes}
-use Rattle.fd_outcome.specs.Done.{IsCutShort, IsDone, IsFrontOf, Made, Sees, failing, torn_bytes, torn_writes}
-use Rattle.fd_outcome.specs.Events.{Event, History, asked, before, ended, finishes, line, row, settle}
-use Rattle.fd_outcome.specs.History.{IsHistory}
-use Rattle.fd_outcome.specs.Parts.{EndsAt, EndsSo, Finishes, GoesOn, Printed, Wrote, events_in}
-use Rattle.fd_outcome.specs.Runs.{Runs}
-use Rattle.fd_outcome.specs.Way.{whole}
-use Rattle.fd_outcome.specs.Work.{AfterStep, ExactlyOne, Step, ends, goes}
-use Rattle.fd_outcome.proofs.CallerLemmas.{IsToldBy, body-append, not_empty, wrote_nothing}
-use Rattle.fd_pages.specs.Lines.{lines_of_text}
+use Rattle.fd_gen.specs.fd_outside.Answers.{Answer, HasFailed, absent, content, failed, names_asked}
+use Rattle.fd_gen.specs.fd_outside.Files.{held}
+use Rattle.fd_gen.specs.fd_outside.Unfailing.{all_well}
+use Rattle.fd_solving.specs.dss_model.Names.{bytes}
+use Rattle.fd_solving.specs.dss_model.declared.command.Command.{Command}
+use Rattle.fd_solving.specs.dss_script.Said.{Said, ScriptEnd, at_its_end, command, end_in, ended_by, name, refused_at, said_in, said_of}
+use Rattle.fd_solving.specs.dss_script.SaidLaws.{SaidLaw}
+use Rattle.fd_solving.specs.dss_script.Script.{Script, script_of}
+use Rattle.fd_solving.specs.fd_report.declared.faults.Cause.TheVariants as cause
+use Rattle.fd_solving.specs.fd_report.declared.faults.Fault.{Fault}
+use Rattle.fd_solving.specs.fd_report.declared.faults.Fault.TheVariants as fault
+use Rattle.fd_solving.specs.fd_outcome.Behind.{last_calls}
+use Rattle.fd_solving.specs.fd_outcome.Calls.{Call, Style, body, calls_in, calls_of, doing, fault_text, names_read, reads, so_far, texts_written, writes}
+use Rattle.fd_solving.specs.fd_outcome.Done.{IsCutShort, IsDone, IsFrontOf, Made, Sees, failing, torn_bytes, torn_writes}
+use Rattle.fd_solving.specs.fd_outcome.Events.{Event, History, asked, before, ended, finishes, line, row, settle}
+use Rattle.fd_solving.specs.fd_outcome.History.{IsHistory}
+use Rattle.fd_solving.specs.fd_outcome.Parts.{EndsAt, EndsSo, Finishes, GoesOn, Printed, Wrote, events_in}
+use Rattle.fd_solving.specs.fd_outcome.Runs.{Runs}
+use Rattle.fd_solving.specs.fd_outcome.Way.{whole}
+use Rattle.fd_solving.specs.fd_outcome.Work.{AfterStep, ExactlyOne, Step, ends, goes}
+use Rattle.fd_solving.proofs.CallerLemmas.fd_outcome.{IsToldBy, body-append, not_empty, wrote_nothing}
+use Rattle.fd_solving.specs.fd_pages.Lines.{lines_of_text}
 use Rattle.fd_solving.specs.Tallies.{no_rounds, tallied, tally_of, GoesOnTallied}
 use Rattle.fd_solving.specs.Commands.{IsStep}
 use Rattle.fd_solving.specs.Scripts.{IsDoneThere, first_standing, no_name}

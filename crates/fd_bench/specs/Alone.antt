@@ -1,9 +1,9 @@
 -- What a command line does that asks the library for nothing.
 use Rattle.std.specs.Prelude.{ℕ, Bool, List}
-use Rattle.fd_outcome.specs.Calls.{Style, doing}
-use Rattle.fd_outcome.specs.Done.{IsDone, Made}
-use Rattle.fd_outcome.specs.Events.{History}
-use Rattle.fd_outcome.specs.Parts.{Wrote}
+use Rattle.fd_solving.specs.fd_outcome.Calls.{Style, doing}
+use Rattle.fd_solving.specs.fd_outcome.Done.{IsDone, Made}
+use Rattle.fd_solving.specs.fd_outcome.Events.{History}
+use Rattle.fd_solving.specs.fd_outcome.Parts.{Wrote}
 
 -- the one history is done, whole or cut short, and the sink has taken what is done
 pub record RunsAlone {S : Type 0} (taken : S → List ℕ) (calls : S → ℕ) (old new : S) (is_history : History → Type 0)

@@ -4,14 +4,14 @@ use Rattle.std.specs.FinMap.{from_entries}
 use Rattle.std.specs.Fmt.{decimal}
 use Rattle.std.specs.List.{concat}
 use Rattle.std.specs.Str.{chars}
-use Rattle.fd_decimal.specs.Decimals.{size_text}
+use Rattle.fd_solving.specs.fd_decimal.Decimals.{size_text}
 use Rattle.fd_gen.specs.Script.{lines_of, script_of}
-use Rattle.fd_outside.specs.Files.{Files}
-use Rattle.dss_script.specs.Said.{said_of}
-use Rattle.fd_report.specs.declared.faults.Fault.{Fault}
-use Rattle.fd_outcome.specs.Calls.{Style}
-use Rattle.fd_outcome.specs.Events.{Event, History, ended, finishes, line}
-use Rattle.fd_pages.specs.Lines.{line_texts}
+use Rattle.fd_gen.specs.fd_outside.Files.{Files}
+use Rattle.fd_solving.specs.dss_script.Said.{said_of}
+use Rattle.fd_solving.specs.fd_report.declared.faults.Fault.{Fault}
+use Rattle.fd_solving.specs.fd_outcome.Calls.{Style}
+use Rattle.fd_solving.specs.fd_outcome.Events.{Event, History, ended, finishes, line}
+use Rattle.fd_solving.specs.fd_pages.Lines.{line_texts}
 use Rattle.fd_solving.specs.Scripts.{IsScriptHistory}
 use Rattle.fd_solving.specs.Tallies.{no_rounds, tally_of}
 use Rattle.fd_solving.specs.declared.tally.Tally.{Tally}

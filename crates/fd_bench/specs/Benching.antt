@@ -1,8 +1,8 @@
 -- `bench` at work: what stands between two commands, and what is printed while files are asked for by name.
 use Rattle.std.specs.Prelude.{◌≡◌, ℕ, List, [], ◌∷◌, Option, None}
-use Rattle.dss_model.specs.declared.command.Command.{Command}
-use Rattle.fd_outcome.specs.Events.{History, finishes, line}
-use Rattle.fd_outcome.specs.Work.{Step, ends, goes}
+use Rattle.fd_solving.specs.dss_model.declared.command.Command.{Command}
+use Rattle.fd_solving.specs.fd_outcome.Events.{History, finishes, line}
+use Rattle.fd_solving.specs.fd_outcome.Work.{Step, ends, goes}
 use Rattle.fd_solving.specs.Tallies.{tally_of}
 use Rattle.fd_solving.specs.Commands.{IsStep}
 use Rattle.fd_solving.specs.Steps.{StandingView}

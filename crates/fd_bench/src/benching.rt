@@ -1,8 +1,8 @@
 // The command line `bench NUMBER SECTIONS`.
 ghost use Rattle.std.specs.Prelude.{◌≡◌, ◌++◌, ◌∷◌, ◌≤◌, [], IfOk, true};
-ghost use Rattle.fd_outside.specs.Causes.{Rose};
-ghost use Rattle.fd_outcome.specs.Untold.{Answers};
-ghost use Rattle.fd_pages.specs.Lines.{lines_of_text};
+ghost use Rattle.fd_gen.specs.fd_outside.Causes.{Rose};
+ghost use Rattle.fd_solving.specs.fd_outcome.Untold.{Answers};
+ghost use Rattle.fd_solving.specs.fd_pages.Lines.{lines_of_text};
 ghost use Rattle.fd_solving.specs.Tallies.{no_rounds};
 ghost use Rattle.fd_solving.specs.Scripts.{first_standing};
 ghost use Rattle.fd_solving.specs.Weights.{weight};
@@ -11,12 +11,11 @@ ghost use Rattle.fd_bench.specs.Bench.{lines_alone, tally_text, IsBenchHistory};
 ghost use Rattle.fd_bench.specs.Benching.{IsBenchLast, IsBenchStep, bench_at, no_bench_name};
 
 use crate::feeder::{FEEDER_NAME, feeder_files};
-use dss_model::Command;
-use dss_script::{Session, said_law};
-use fd_decimal::size_text;
-use fd_outside::{Bytes, Library, NeverFails, Record, Sink};
-use fd_pages::Summary;
-use fd_solving::{Line, Standing, Tally, WANT_OF_MEMORY, print_end, run_script, take_command};
+use fd_gen::{Bytes, Library, NeverFails, Record, Sink};
+use fd_solving::{
+    Command, Line, Session, Standing, Summary, Tally, WANT_OF_MEMORY, print_end, run_script,
+    said_law, size_text, take_command,
+};
 use std::alloc::{AllocError, Global};
 use std::marker::Model;
 

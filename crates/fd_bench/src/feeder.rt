@@ -1,15 +1,14 @@
 // The script of a feeder from a number: its lines written, and the files of a library that holds it.
 ghost use Rattle.std.specs.Prelude.{◌≡◌, ◌≤◌, IfOk, true};
 ghost use Rattle.std.specs.List.{concat};
-ghost use Rattle.fd_outside.specs.Causes.{Rose};
-ghost use Rattle.fd_outside.specs.Emitted.{pieces_of};
-ghost use Rattle.fd_outside.specs.Entries.{entries_of};
-ghost use Rattle.fd_outcome.specs.Calls.{doing, report};
-ghost use Rattle.fd_outcome.specs.Parts.{Printed};
+ghost use Rattle.fd_gen.specs.fd_outside.Causes.{Rose};
+ghost use Rattle.fd_gen.specs.fd_outside.Emitted.{pieces_of};
+ghost use Rattle.fd_gen.specs.fd_outside.Entries.{entries_of};
+ghost use Rattle.fd_solving.specs.fd_outcome.Calls.{doing, report};
+ghost use Rattle.fd_solving.specs.fd_outcome.Parts.{Printed};
 ghost use Rattle.fd_bench.specs.Bench.{feeder_entries, script_written};
 
-use fd_gen::generate;
-use fd_outside::{Bytes, FileEntry, Record, Sink};
+use fd_gen::{Bytes, FileEntry, Record, Sink, generate};
 use fd_solving::{WANT_OF_MEMORY, print_end};
 use std::alloc::{AllocError, Global};
 

@@ -12,4 +12,7 @@ mod benching;
 mod feeder;
 
 pub use benching::bench;
+
+// Handed on from the crates below.
+pub use fd_gen::{Bytes, FileEntry, FolderLibrary, Library, MemLibrary, MemSink, Sink, StdSink};
 pub use feeder::write_script;

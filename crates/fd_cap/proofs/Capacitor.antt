@@ -3,11 +3,11 @@ use Rattle.std.proofs.Common.{ℕ, ◌+◌, ◌<◌, ◌≤◌, ℤ, pos, neg_�
 use Rattle.std.specs.List.{All}
 use Rattle.std.proofs.lemmas.Int.{ints}
 use Rattle.std.proofs.lemmas.List.Elements.{All-nil, All-append}
-use Rattle.fd_exact.specs.Fractions.{Same}
-use Rattle.fd_exact.specs.FractionLaws.{Same-nothing}
-use Rattle.fd_exact.specs.States.{State}
-use Rattle.fd_arith.specs.declared.terms.NodeAt.{NodeAt}
-use Rattle.fd_arith.specs.declared.terms.Ends.{Ends}
+use Rattle.fd_system.specs.fd_exact.Fractions.{Same}
+use Rattle.fd_system.specs.fd_exact.FractionLaws.{Same-nothing}
+use Rattle.fd_system.specs.fd_exact.States.{State}
+use Rattle.fd_system.specs.fd_arith.declared.terms.NodeAt.{NodeAt}
+use Rattle.fd_system.specs.fd_arith.declared.terms.Ends.{Ends}
 use Rattle.fd_system.specs.Complex.{◌⊟◌, ◌⊠◌, negative}
 use Rattle.fd_system.specs.Contributions.{row_sum, complex_terms, IsDivided}
 use Rattle.fd_system.specs.Equations.{unknown, side, equation, AddsUp}

@@ -1,10 +1,10 @@
 -- The equations of a capacitor bank, the contributions that add up to them, and what it draws at nominal voltage.
 use Rattle.std.specs.Prelude.{ℕ, ◌*◌, ◌^◌, ◌≡◌, ◌⊎◌, ℤ, pos, ◌*ℤ◌, nat_abs, Bool, cond, List, [], ◌∷◌}
-use Rattle.fd_exact.specs.Rounding.{ceil_nat}
-use Rattle.fd_exact.specs.States.{State}
-use Rattle.fd_exact.specs.Ranges.{Between, UpTo}
-use Rattle.fd_arith.specs.declared.terms.Term.{Term}
-use Rattle.fd_arith.specs.declared.terms.Ends.{Ends}
+use Rattle.fd_system.specs.fd_exact.Rounding.{ceil_nat}
+use Rattle.fd_system.specs.fd_exact.States.{State}
+use Rattle.fd_system.specs.fd_exact.Ranges.{Between, UpTo}
+use Rattle.fd_system.specs.fd_arith.declared.terms.Term.{Term}
+use Rattle.fd_system.specs.fd_arith.declared.terms.Ends.{Ends}
 use Rattle.fd_system.specs.Complex.{Complex, complex, ◌⊟◌, ◌⊠◌, negative}
 use Rattle.fd_system.specs.Contributions.{shunt_list, concat_below}
 use Rattle.fd_system.specs.Equations.{unknown, Part, both}

@@ -1,6 +1,6 @@
 -- What is true of a capacitor bank's stated contributions.
 use Rattle.std.specs.Prelude.{◌≤◌, Bool, length, All}
-use Rattle.fd_arith.specs.declared.terms.Ends.{Ends}
+use Rattle.fd_system.specs.fd_arith.declared.terms.Ends.{Ends}
 use Rattle.fd_system.specs.Contributions.{IsDivided}
 use Rattle.fd_system.specs.Equations.{AddsUp}
 use Rattle.fd_cap.specs.declared.data.CapData.{CapData}

@@ -1,5 +1,5 @@
 // The data of a capacitor bank.
-use fd_arith::Conn;
+use fd_system::Conn;
 
 /// A capacitor bank (OpenDSS manual, Capacitor). Numbers are whole 10^-9.
 #[derive(Clone, Copy, Debug)]

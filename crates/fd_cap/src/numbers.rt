@@ -1,6 +1,6 @@
 // The reactive power of a capacitor bank and its nominal voltage.
 ghost use Rattle.std.specs.Prelude.{◌≡◌, ◌*◌, ◌≤◌, ◌<◌, ◌^◌, nat_abs};
-ghost use Rattle.fd_exact.specs.Ranges.{UpTo};
+ghost use Rattle.fd_system.specs.fd_exact.Ranges.{UpTo};
 ghost use Rattle.fd_cap.specs.Capacitor.{IsCap, cap_power, cap_volts, volts_squared as squared_volts};
 
 use crate::data::CapData;

@@ -1,6 +1,6 @@
 // The contributions of a capacitor bank.
 ghost use Rattle.std.specs.Prelude.{◌≡◌, ◌+◌, ◌<◌, ◌≤◌, ◌^◌, ◌++◌, ◌↔◌, [], ℤ, pos, ◌<ℤ◌, ◌≤ℤ◌, OnOk, IfOk, IfErr, All, length, vec_capacity};
-ghost use Rattle.fd_exact.specs.Ranges.{UpTo};
+ghost use Rattle.fd_system.specs.fd_exact.Ranges.{UpTo};
 ghost use Rattle.fd_system.specs.Contributions.{IsDivided, IsSmall, IsWithin, concat_below};
 ghost use Rattle.fd_system.specs.Equations.{AddsUp};
 ghost use Rattle.fd_system.specs.Terminals.{IsSide, node_count};
@@ -8,8 +8,7 @@ ghost use Rattle.fd_cap.specs.Capacitor.{IsCap, cap_list, cap_pair, cap_parts, c
 
 use crate::data::CapData;
 use crate::numbers::{power, volts_squared};
-use fd_arith::{Ends, Term, TermFault};
-use fd_system::{NodePair, add_shunt, all_within, phase_pair, phase_pairs};
+use fd_system::{Ends, NodePair, Term, TermFault, add_shunt, all_within, phase_pair, phase_pairs};
 use std::alloc::Global;
 
 // three phases have at most 24 contributions, and are added in room for 16 each

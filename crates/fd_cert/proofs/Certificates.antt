@@ -1,14 +1,14 @@
 -- The certificate of a point from its mismatches and its radii.
 use Rattle.std.proofs.Common.{◌≡◌, ◌∙◌, ℕ, ◌<◌, ℤ, nat_lt, List, length, map, replicate, Option, Some, None, Ok, Err, arith, ap, sym, subst}
-use Rattle.fd_exact.specs.First.{first_place}
-use Rattle.fd_exact.specs.States.{entry}
-use Rattle.fd_equations.specs.Rounded.{jacobian_entry, list_of}
-use Rattle.fd_pattern.specs.Views.{NetworkView}
-use Rattle.fd_equations.specs.Weights.{weight_at}
-use Rattle.fd_arith.specs.Interval.{Bounds}
-use Rattle.fd_system.specs.Residual.{greater_size, residual_interval}
-use Rattle.fd_equations.specs.Enclosure.{interval_residual_of}
-use Rattle.fd_equations.proofs.CallerLemmas.{get_or-list_of, length-list_of, list_of-ext}
+use Rattle.fd_enclosure.specs.fd_exact.First.{first_place}
+use Rattle.fd_enclosure.specs.fd_exact.States.{entry}
+use Rattle.fd_enclosure.specs.fd_equations.Rounded.{jacobian_entry, list_of}
+use Rattle.fd_enclosure.specs.fd_pattern.Views.{NetworkView}
+use Rattle.fd_enclosure.specs.fd_equations.Weights.{weight_at}
+use Rattle.fd_enclosure.specs.fd_arith.Interval.{Bounds}
+use Rattle.fd_enclosure.specs.fd_system.Residual.{greater_size, residual_interval}
+use Rattle.fd_enclosure.specs.fd_equations.Enclosure.{interval_residual_of}
+use Rattle.fd_enclosure.proofs.CallerLemmas.fd_equations.{get_or-list_of, length-list_of, list_of-ext}
 use Rattle.std.proofs.lemmas.List.{get_or-map, get_or-replicate, length-map, length-replicate}
 use Rattle.fd_enclosure.specs.Bounds.{refusal}
 use Rattle.fd_enclosure.specs.Boxes.{boxes_of}

@@ -2,11 +2,11 @@
 use Rattle.std.proofs.Common.{◌≡◌, ◌∙◌, ℕ, ◌<◌, ℤ, nat_lt, true, false, cond, List, length, Option, Some, None, ap, sym, subst}
 use Rattle.std.specs.Prelude.{◌↔◌}
 use Rattle.std.proofs.lemmas.Bool.{ltb-false, or_parts}
-use Rattle.fd_exact.specs.First.{first_place}
-use Rattle.fd_exact.specs.FirstLaws.{none_holds}
-use Rattle.fd_equations.specs.Rounded.{list_of}
-use Rattle.fd_pattern.specs.Views.{NetworkView}
-use Rattle.fd_equations.proofs.CallerLemmas.{get_or-list_of, length-list_of}
+use Rattle.fd_enclosure.specs.fd_exact.First.{first_place}
+use Rattle.fd_enclosure.specs.fd_exact.FirstLaws.{none_holds}
+use Rattle.fd_enclosure.specs.fd_equations.Rounded.{list_of}
+use Rattle.fd_enclosure.specs.fd_pattern.Views.{NetworkView}
+use Rattle.fd_enclosure.proofs.CallerLemmas.fd_equations.{get_or-list_of, length-list_of}
 use Rattle.fd_enclosure.specs.Sound.{Claim, IsSound, greatest_mismatch, mismatch_at, mismatches_of, number_at, radius_in}
 use Rattle.fd_cert.specs.Reaches.{AreTight}
 use Rattle.fd_cert.specs.Rechecks.{HasItsBoxes, broken_at, first_at_point, first_broken, first_unsound, has_size, is_narrow, is_out_of_range, is_untrue, place_named, refusal_of}

@@ -7,16 +7,16 @@ use Rattle.std.specs.List.{filter}
 use Rattle.std.proofs.lemmas.Int.{fits_signed_from_abs, ints, to_z-of_z, unsigned_abs-mul}
 use Rattle.std.proofs.lemmas.List.{get_or-set_same, get_or-set_other, get_or_past, length-set, take_all}
 use Rattle.std.proofs.lemmas.List.Elements.{All-append, All-filter, All-from_get_or, All-map, All-nil}
-use Rattle.fd_exact.specs.States.{part}
-use Rattle.fd_exact.specs.SumLaws.{list_z-append, sum_z-same, sum_z-zero}
-use Rattle.fd_exact.specs.Sums.{list_z, sum_z}
-use Rattle.fd_arith.specs.Limits.{within}
-use Rattle.fd_arith.specs.Wide.{wide_sum}
-use Rattle.fd_equations.proofs.CallerLemmas.{list_z_more}
-use Rattle.fd_equations.specs.Amounts.{Amount, AreCells, IsNothingElsewhere, IsRowOf, empty}
-use Rattle.fd_equations.specs.Matrices.{MatrixView}
-use Rattle.fd_equations.specs.WalkLaws.{walk_sums}
-use Rattle.fd_equations.specs.declared.cells.Cell.{Cell}
+use Rattle.fd_enclosure.specs.fd_exact.States.{part}
+use Rattle.fd_enclosure.specs.fd_exact.SumLaws.{list_z-append, sum_z-same, sum_z-zero}
+use Rattle.fd_enclosure.specs.fd_exact.Sums.{list_z, sum_z}
+use Rattle.fd_enclosure.specs.fd_arith.Limits.{within}
+use Rattle.fd_enclosure.specs.fd_arith.Wide.{wide_sum}
+use Rattle.fd_enclosure.proofs.CallerLemmas.fd_equations.{list_z_more}
+use Rattle.fd_enclosure.specs.fd_equations.Amounts.{Amount, AreCells, IsNothingElsewhere, IsRowOf, empty}
+use Rattle.fd_enclosure.specs.fd_equations.Matrices.{MatrixView}
+use Rattle.fd_enclosure.specs.fd_equations.WalkLaws.{walk_sums}
+use Rattle.fd_enclosure.specs.fd_equations.declared.cells.Cell.{Cell}
 use Rattle.fd_enclosure.specs.Bounds.{wide_sums}
 use Rattle.fd_cert.specs.Columns.{AreUnits, HasEntries, IsRow, IsRowOfInverse, column_sum}
 use Rattle.fd_cert.specs.Entries.{HasSmallUnits, IsFlat, IsFlatOf, IsShort, entry_of, entry_term, has_units}

@@ -9,3 +9,4 @@ pub mod Certificates
 pub mod SlopeRadii
 pub mod Rechecks
 pub mod FirstBroken
+pub mod CallerLemmas

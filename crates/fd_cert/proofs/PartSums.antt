@@ -3,8 +3,8 @@ use Rattle.std.proofs.Common.{◌≡◌, ◌∙◌, ℕ, suc, ◌+◌, ◌*◌, 
 use Rattle.std.proofs.lemmas.Bool.{cases_eq, cases_lt, ne_eqb}
 use Rattle.std.proofs.lemmas.List.{get_or_append_left, get_or_push, length_push}
 use Rattle.std.proofs.lemmas.List.Elements.{All-push}
-use Rattle.fd_exact.specs.SumLaws.{list_n-append, sum_n-same}
-use Rattle.fd_exact.specs.Sums.{sum_n}
+use Rattle.fd_enclosure.specs.fd_exact.SumLaws.{list_n-append, sum_n-same}
+use Rattle.fd_enclosure.specs.fd_exact.Sums.{sum_n}
 use Rattle.fd_enclosure.specs.Sound.{number_at}
 use Rattle.fd_cert.specs.Parts.{AreFront, IsHigh, high_sum, with_high}
 use Rattle.fd_cert.specs.declared.parted.High.{High}

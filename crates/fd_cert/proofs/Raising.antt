@@ -4,14 +4,14 @@ use Rattle.std.specs.List.{Contains}
 use Rattle.std.proofs.lemmas.Bool.{cases_eq, eq-eqb}
 use Rattle.std.proofs.lemmas.List.{get_or-set_same, get_or-set_other, length-set, take_all}
 use Rattle.std.proofs.lemmas.List.Elements.{Contains-get_or}
-use Rattle.fd_arith.specs.declared.terms.NodeAt.TheVariants.{Node}
-use Rattle.fd_arith.specs.LoadModels.{is_linear}
-use Rattle.fd_system.specs.declared.loads.LoadAt.{LoadAt}
-use Rattle.fd_pattern.specs.Patterns.{IsSlot, key}
-use Rattle.fd_equations.proofs.CallerLemmas.{list_n_more}
-use Rattle.fd_slope.specs.Changes.{radii_in}
-use Rattle.fd_slope.specs.declared.radii.Radii.{Radii}
-use Rattle.fd_slope.specs.declared.radii.RadiusRow.{RadiusRow}
+use Rattle.fd_enclosure.specs.fd_arith.declared.terms.NodeAt.TheVariants.{Node}
+use Rattle.fd_enclosure.specs.fd_arith.LoadModels.{is_linear}
+use Rattle.fd_enclosure.specs.fd_system.declared.loads.LoadAt.{LoadAt}
+use Rattle.fd_enclosure.specs.fd_pattern.Patterns.{IsSlot, key}
+use Rattle.fd_enclosure.proofs.CallerLemmas.fd_equations.{list_n_more}
+use Rattle.fd_enclosure.specs.fd_slope.Changes.{radii_in}
+use Rattle.fd_enclosure.specs.fd_slope.declared.radii.Radii.{Radii}
+use Rattle.fd_enclosure.specs.fd_slope.declared.radii.RadiusRow.{RadiusRow}
 use Rattle.fd_enclosure.specs.Radii.{load_radius, radius_in, spread, spread_magnitude, spread_node}
 use Rattle.fd_enclosure.specs.Sound.{number_at}
 use Rattle.fd_cert.specs.Places.{AreRaised, HaveRoom, RaisesRoom, loads_radius}

@@ -5,19 +5,19 @@ use Rattle.std.proofs.lemmas.Bool.{and_from, and_parts, eq-eqb, eqb-true, le-leb
 use Rattle.std.proofs.lemmas.Int.{ints}
 use Rattle.std.proofs.Math.Nat.{mul-le-mul}
 use Rattle.std.proofs.lemmas.List.Elements.{All-from_get_or, All-get_or}
-use Rattle.fd_exact.specs.First.{first_place}
-use Rattle.fd_exact.specs.FirstLaws.{first_none, none_holds}
-use Rattle.fd_exact.specs.Greatest.{greatest_le}
-use Rattle.fd_exact.specs.Quotients.{ceil_nat_covers}
-use Rattle.fd_exact.specs.Rounding.{ceil_nat}
-use Rattle.fd_exact.specs.States.{entry, part}
-use Rattle.fd_mat.specs.Rows.{row_of}
-use Rattle.fd_pattern.specs.Conditions.{IsPart, IsPoint}
-use Rattle.fd_pattern.specs.declared.layout.PlaceKind.{PlaceKind}
-use Rattle.fd_pattern.specs.declared.layout.PlaceKind.TheVariants.{Node, Branch, Magnitude}
-use Rattle.fd_equations.specs.Rounded.{jacobian_entry}
-use Rattle.fd_pattern.specs.Views.{NetworkView, kind_of}
-use Rattle.fd_equations.specs.Weights.{weight_at, weight_by}
+use Rattle.fd_enclosure.specs.fd_exact.First.{first_place}
+use Rattle.fd_enclosure.specs.fd_exact.FirstLaws.{first_none, none_holds}
+use Rattle.fd_enclosure.specs.fd_exact.Greatest.{greatest_le}
+use Rattle.fd_enclosure.specs.fd_exact.Quotients.{ceil_nat_covers}
+use Rattle.fd_enclosure.specs.fd_exact.Rounding.{ceil_nat}
+use Rattle.fd_enclosure.specs.fd_exact.States.{entry, part}
+use Rattle.fd_enclosure.specs.fd_mat.Rows.{row_of}
+use Rattle.fd_enclosure.specs.fd_pattern.Conditions.{IsPart, IsPoint}
+use Rattle.fd_enclosure.specs.fd_pattern.declared.layout.PlaceKind.{PlaceKind}
+use Rattle.fd_enclosure.specs.fd_pattern.declared.layout.PlaceKind.TheVariants.{Node, Branch, Magnitude}
+use Rattle.fd_enclosure.specs.fd_equations.Rounded.{jacobian_entry}
+use Rattle.fd_enclosure.specs.fd_pattern.Views.{NetworkView, kind_of}
+use Rattle.fd_enclosure.specs.fd_equations.Weights.{weight_at, weight_by}
 use Rattle.fd_enclosure.specs.Bounds.{bound_at, bound_of, bound_size, is_below_one, is_bounded, radius_at, reach_of, refusal, refused_bound, unless_unbounded, unless_wide}
 use Rattle.fd_enclosure.specs.Radii.{slope_radius}
 use Rattle.fd_enclosure.specs.Sound.{Claim, IsInverse, IsSound, greatest_mismatch, mismatch_at, number_at, radius_in}

@@ -2,16 +2,16 @@
 use Rattle.std.proofs.Common.{◌≡◌, ◌∙◌, ℕ, zero, suc, ◌+◌, ◌*◌, ◌<◌, ◌≤◌, ◌^◌, ℤ, pos, negsuc, ◌+ℤ◌, ◌*ℤ◌, ◌≤ℤ◌, nat_abs, Bool, true, false, cond, List, length, Option, Some, None, IfSome, arith, ap, sym, subst}
 use Rattle.std.specs.Int.RustNames.{unsigned_abs}
 use Rattle.std.proofs.lemmas.Int.{ints}
-use Rattle.fd_exact.specs.Quotients.{ceil_nat_is}
-use Rattle.fd_exact.specs.Rounding.{ceil_nat}
-use Rattle.fd_exact.specs.States.{part}
-use Rattle.fd_exact.specs.Sums.{sum_n}
+use Rattle.fd_enclosure.specs.fd_exact.Quotients.{ceil_nat_is}
+use Rattle.fd_enclosure.specs.fd_exact.Rounding.{ceil_nat}
+use Rattle.fd_enclosure.specs.fd_exact.States.{part}
+use Rattle.fd_enclosure.specs.fd_exact.Sums.{sum_n}
 use Rattle.fd_enclosure.specs.Sound.{number_at}
-use Rattle.fd_arith.specs.Limits.{fits, within}
-use Rattle.fd_arith.specs.Wide.{wide_difference, wide_product, wide_quotient, wide_size, wide_sum}
+use Rattle.fd_enclosure.specs.fd_arith.Limits.{fits, within}
+use Rattle.fd_enclosure.specs.fd_arith.Wide.{wide_difference, wide_product, wide_quotient, wide_size, wide_sum}
 use Rattle.fd_enclosure.specs.Bounds.{added_at, bound_at, left_at, left_over, unit_at, wide_sums}
-use Rattle.fd_equations.specs.Rounded.{list_of}
-use Rattle.fd_equations.proofs.CallerLemmas.{get_or-list_of, length-list_of}
+use Rattle.fd_enclosure.specs.fd_equations.Rounded.{list_of}
+use Rattle.fd_enclosure.proofs.CallerLemmas.fd_equations.{get_or-list_of, length-list_of}
 use Rattle.fd_cert.specs.Columns.{AreWeights, HasWeights, column_sum}
 use Rattle.fd_cert.specs.Reaches.{AreBounds, bound_in}
 use Rattle.fd_cert.specs.Totals.{AreWeighted, left_total}

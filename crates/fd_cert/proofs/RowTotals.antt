@@ -4,16 +4,16 @@ use Rattle.std.proofs.Math.Nat.{mul-le-mul}
 use Rattle.std.proofs.lemmas.Bool.{cases_eq, cases_lt, eq-eqb, ne_eqb}
 use Rattle.std.proofs.lemmas.Int.{ints}
 use Rattle.std.proofs.lemmas.List.{get_or-set_other, get_or-set_same}
-use Rattle.fd_exact.specs.States.{part}
-use Rattle.fd_exact.specs.SumLaws.{sum_n-add, sum_n-same, sum_n-swap, sum_n-times}
-use Rattle.fd_exact.specs.Sums.{list_n, list_z, sum_n, sum_z}
-use Rattle.fd_equations.proofs.CallerLemmas.{list_n_more}
-use Rattle.fd_equations.specs.Amounts.{Amount, IsRowOf}
-use Rattle.fd_equations.specs.WalkLaws.{walk_sums}
-use Rattle.fd_equations.specs.declared.cells.Cell.{Cell}
-use Rattle.fd_arith.specs.Limits.{within}
-use Rattle.fd_arith.specs.Nearest.{within-past}
-use Rattle.fd_arith.specs.Wide.{wide_difference, wide_product, wide_size, wide_sum}
+use Rattle.fd_enclosure.specs.fd_exact.States.{part}
+use Rattle.fd_enclosure.specs.fd_exact.SumLaws.{sum_n-add, sum_n-same, sum_n-swap, sum_n-times}
+use Rattle.fd_enclosure.specs.fd_exact.Sums.{list_n, list_z, sum_n, sum_z}
+use Rattle.fd_enclosure.proofs.CallerLemmas.fd_equations.{list_n_more}
+use Rattle.fd_enclosure.specs.fd_equations.Amounts.{Amount, IsRowOf}
+use Rattle.fd_enclosure.specs.fd_equations.WalkLaws.{walk_sums}
+use Rattle.fd_enclosure.specs.fd_equations.declared.cells.Cell.{Cell}
+use Rattle.fd_enclosure.specs.fd_arith.Limits.{within}
+use Rattle.fd_enclosure.specs.fd_arith.Nearest.{within-past}
+use Rattle.fd_enclosure.specs.fd_arith.Wide.{wide_difference, wide_product, wide_size, wide_sum}
 use Rattle.fd_enclosure.specs.Bounds.{added_at, left_at, left_over, unit_at, wide_sums}
 use Rattle.fd_enclosure.specs.Sound.{number_at}
 use Rattle.fd_cert.specs.Columns.{HasWeights, column_sum}

@@ -5,33 +5,33 @@ use Rattle.std.proofs.lemmas.Bool.{cases_lt}
 use Rattle.std.proofs.lemmas.Int.{ints}
 use Rattle.std.proofs.lemmas.List.{get_or_past}
 use Rattle.std.proofs.lemmas.List.Elements.{All-get_or, All-head, All-tail}
-use Rattle.fd_exact.specs.Quotients.{ceil_nat_least}
-use Rattle.fd_exact.specs.Rounding.{ceil_nat}
-use Rattle.fd_exact.specs.States.{part}
-use Rattle.fd_exact.specs.Tables.{map-same}
-use Rattle.fd_arith.specs.declared.terms.NodeAt.{NodeAt}
-use Rattle.fd_arith.specs.declared.terms.NodeAt.TheVariants.{Ground, Node}
-use Rattle.fd_system.specs.Residual.{IsPlace}
-use Rattle.fd_arith.specs.LoadModels.{is_linear}
-use Rattle.fd_system.specs.declared.loads.LoadAt.{LoadAt}
-use Rattle.fd_equations.specs.Amounts.{Amount, amount, cell_at, cell_of, nothing}
-use Rattle.fd_pattern.proofs.CallerLemmas.{all_connected}
-use Rattle.fd_equations.proofs.CallerLemmas.{get_or-list_of, length-list_of}
-use Rattle.fd_pattern.specs.Coefficients.{count_at}
-use Rattle.fd_pattern.specs.Conditions.{IsNetwork, IsPart, IsPoint}
-use Rattle.fd_equations.specs.Matrices.{IsMatrix, MatrixView, jacobian_amount}
-use Rattle.fd_equations.specs.PartLoads.{slope_count, slope_counts}
-use Rattle.fd_pattern.specs.Patterns.{key}
-use Rattle.fd_equations.specs.Rounded.{jacobian_entry, list_of}
-use Rattle.fd_pattern.specs.Terminals.{IsConnected, count_magnitude, count_node, count_terminal}
-use Rattle.fd_pattern.specs.Views.{NetworkView, kind_of}
-use Rattle.fd_equations.specs.Weights.{size_of_both, weight_at, weight_by, weights_of}
-use Rattle.fd_pattern.specs.declared.layout.PlaceKind.{PlaceKind}
-use Rattle.fd_pattern.specs.declared.layout.PlaceKind.TheVariants.{Branch, Magnitude, Node as NodePlace}
-use Rattle.fd_equations.specs.declared.cells.Cell.{Cell}
-use Rattle.fd_slope.specs.Changes.{centre_im, centre_magnitude, centre_re, im_width, magnitude_width, radii_in, re_width}
-use Rattle.fd_slope.specs.Radii.{radii_of}
-use Rattle.fd_slope.specs.declared.radii.Radii.{Radii}
+use Rattle.fd_enclosure.specs.fd_exact.Quotients.{ceil_nat_least}
+use Rattle.fd_enclosure.specs.fd_exact.Rounding.{ceil_nat}
+use Rattle.fd_enclosure.specs.fd_exact.States.{part}
+use Rattle.fd_enclosure.specs.fd_exact.Tables.{map-same}
+use Rattle.fd_enclosure.specs.fd_arith.declared.terms.NodeAt.{NodeAt}
+use Rattle.fd_enclosure.specs.fd_arith.declared.terms.NodeAt.TheVariants.{Ground, Node}
+use Rattle.fd_enclosure.specs.fd_system.Residual.{IsPlace}
+use Rattle.fd_enclosure.specs.fd_arith.LoadModels.{is_linear}
+use Rattle.fd_enclosure.specs.fd_system.declared.loads.LoadAt.{LoadAt}
+use Rattle.fd_enclosure.specs.fd_equations.Amounts.{Amount, amount, cell_at, cell_of, nothing}
+use Rattle.fd_enclosure.proofs.CallerLemmas.fd_pattern.{all_connected}
+use Rattle.fd_enclosure.proofs.CallerLemmas.fd_equations.{get_or-list_of, length-list_of}
+use Rattle.fd_enclosure.specs.fd_pattern.Coefficients.{count_at}
+use Rattle.fd_enclosure.specs.fd_pattern.Conditions.{IsNetwork, IsPart, IsPoint}
+use Rattle.fd_enclosure.specs.fd_equations.Matrices.{IsMatrix, MatrixView, jacobian_amount}
+use Rattle.fd_enclosure.specs.fd_equations.PartLoads.{slope_count, slope_counts}
+use Rattle.fd_enclosure.specs.fd_pattern.Patterns.{key}
+use Rattle.fd_enclosure.specs.fd_equations.Rounded.{jacobian_entry, list_of}
+use Rattle.fd_enclosure.specs.fd_pattern.Terminals.{IsConnected, count_magnitude, count_node, count_terminal}
+use Rattle.fd_enclosure.specs.fd_pattern.Views.{NetworkView, kind_of}
+use Rattle.fd_enclosure.specs.fd_equations.Weights.{size_of_both, weight_at, weight_by, weights_of}
+use Rattle.fd_enclosure.specs.fd_pattern.declared.layout.PlaceKind.{PlaceKind}
+use Rattle.fd_enclosure.specs.fd_pattern.declared.layout.PlaceKind.TheVariants.{Branch, Magnitude, Node as NodePlace}
+use Rattle.fd_enclosure.specs.fd_equations.declared.cells.Cell.{Cell}
+use Rattle.fd_enclosure.specs.fd_slope.Changes.{centre_im, centre_magnitude, centre_re, im_width, magnitude_width, radii_in, re_width}
+use Rattle.fd_enclosure.specs.fd_slope.Radii.{radii_of}
+use Rattle.fd_enclosure.specs.fd_slope.declared.radii.Radii.{Radii}
 use Rattle.fd_enclosure.specs.Boxes.{boxes_of, half_width, half_width_by}
 use Rattle.fd_enclosure.specs.Radii.{load_radius, radius_in, slope_radius, spread, spread_magnitude, spread_node}
 use Rattle.fd_enclosure.specs.Sound.{number_at}

@@ -4,13 +4,13 @@ use Rattle.std.specs.Int.{w128}
 use Rattle.std.proofs.lemmas.Int.{ints, to_z-of_z, fits_signed_from_abs}
 use Rattle.std.proofs.lemmas.Bool.{cases_eq}
 use Rattle.std.proofs.lemmas.List.{get_or-set_same, get_or-set_other, length-set}
-use Rattle.fd_exact.specs.States.{part}
-use Rattle.fd_arith.specs.Limits.{Fits, IsUnits, within}
-use Rattle.fd_arith.specs.Nearest.{within-Fits, within-IsUnits, within-past}
-use Rattle.fd_arith.specs.Wide.{wide_product, wide_sum}
-use Rattle.fd_equations.specs.Amounts.{Amount, AreCells, IsNothingElsewhere, IsRowOf, cell_at}
-use Rattle.fd_equations.specs.Matrices.{MatrixView}
-use Rattle.fd_equations.specs.declared.cells.Cell.{Cell}
+use Rattle.fd_enclosure.specs.fd_exact.States.{part}
+use Rattle.fd_enclosure.specs.fd_arith.Limits.{Fits, IsUnits, within}
+use Rattle.fd_enclosure.specs.fd_arith.Nearest.{within-Fits, within-IsUnits, within-past}
+use Rattle.fd_enclosure.specs.fd_arith.Wide.{wide_product, wide_sum}
+use Rattle.fd_enclosure.specs.fd_equations.Amounts.{Amount, AreCells, IsNothingElsewhere, IsRowOf, cell_at}
+use Rattle.fd_enclosure.specs.fd_equations.Matrices.{MatrixView}
+use Rattle.fd_enclosure.specs.fd_equations.declared.cells.Cell.{Cell}
 use Rattle.fd_enclosure.specs.Bounds.{wide_sums}
 use Rattle.fd_cert.specs.Columns.{AreColumns, AreUnits, HasEntries, IsRow, column_sum, sum_more}
 

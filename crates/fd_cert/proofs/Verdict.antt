@@ -5,14 +5,14 @@ use Rattle.std.specs.Ordering.{nat_cmp, ord_max}
 use Rattle.std.proofs.lemmas.Grind.{common_steps}
 use Rattle.std.proofs.lemmas.Int.{ints}
 use Rattle.std.proofs.lemmas.Bool.{leb-true}
-use Rattle.fd_exact.specs.First.{first_place}
-use Rattle.fd_exact.specs.Greatest.{greatest, greatest_le, greatest-same}
-use Rattle.fd_exact.specs.Rounding.{ceil_nat}
-use Rattle.fd_exact.specs.States.{part}
-use Rattle.fd_exact.specs.Sums.{sum_n}
-use Rattle.fd_exact.specs.Tables.{map-same}
-use Rattle.fd_equations.specs.Rounded.{list_of}
-use Rattle.fd_equations.proofs.CallerLemmas.{get_or-list_of, length-list_of}
+use Rattle.fd_enclosure.specs.fd_exact.First.{first_place}
+use Rattle.fd_enclosure.specs.fd_exact.Greatest.{greatest, greatest_le, greatest-same}
+use Rattle.fd_enclosure.specs.fd_exact.Rounding.{ceil_nat}
+use Rattle.fd_enclosure.specs.fd_exact.States.{part}
+use Rattle.fd_enclosure.specs.fd_exact.Sums.{sum_n}
+use Rattle.fd_enclosure.specs.fd_exact.Tables.{map-same}
+use Rattle.fd_enclosure.specs.fd_equations.Rounded.{list_of}
+use Rattle.fd_enclosure.proofs.CallerLemmas.fd_equations.{get_or-list_of, length-list_of}
 use Rattle.fd_enclosure.specs.Bounds.{bound_at, bound_of, bound_size, first_unbounded, first_wide, is_below_one, radius_at, reach_of, refusal, refused_bound, unless_unbounded, unless_wide}
 use Rattle.fd_enclosure.specs.Sound.{number_at}
 use Rattle.fd_cert.specs.Columns.{HasNumbers, HasWeights}

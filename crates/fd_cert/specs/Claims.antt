@@ -1,7 +1,7 @@
 -- What a certified state claims, and what a fault says.
 use Rattle.std.specs.Prelude.{◌≡◌, ℕ, ◌<◌, ℤ, List, Err}
-use Rattle.fd_equations.specs.Rounded.{list_of}
-use Rattle.fd_pattern.specs.Views.{NetworkView}
+use Rattle.fd_enclosure.specs.fd_equations.Rounded.{list_of}
+use Rattle.fd_enclosure.specs.fd_pattern.Views.{NetworkView}
 use Rattle.fd_enclosure.specs.Boxes.{boxes_of}
 use Rattle.fd_enclosure.specs.Sound.{Claim, Refusal, loose, uncertain, certificate_of, mismatches_of}
 use Rattle.fd_cert.specs.declared.ball.Certified.{Certified}

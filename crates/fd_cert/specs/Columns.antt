@@ -1,10 +1,10 @@
 -- Sums of the columns of a matrix by non-zeros.
 use Rattle.std.specs.Prelude.{◌≡◌, ◌≢◌, ℕ, ◌^◌, ◌<◌, ◌≤◌, ℤ, pos, ◌≤ℤ◌, nat_abs, List, length, Option, Some}
-use Rattle.fd_exact.specs.States.{part}
-use Rattle.fd_arith.specs.Wide.{wide_product, wide_sum}
-use Rattle.fd_equations.specs.Amounts.{Amount, AreCells, IsNothingElsewhere, cell_at}
-use Rattle.fd_equations.specs.Matrices.{MatrixView}
-use Rattle.fd_equations.specs.declared.cells.Cell.{Cell}
+use Rattle.fd_enclosure.specs.fd_exact.States.{part}
+use Rattle.fd_enclosure.specs.fd_arith.Wide.{wide_product, wide_sum}
+use Rattle.fd_enclosure.specs.fd_equations.Amounts.{Amount, AreCells, IsNothingElsewhere, cell_at}
+use Rattle.fd_enclosure.specs.fd_equations.Matrices.{MatrixView}
+use Rattle.fd_enclosure.specs.fd_equations.declared.cells.Cell.{Cell}
 use Rattle.fd_enclosure.specs.Bounds.{wide_sums}
 use Rattle.fd_enclosure.specs.Sound.{number_at}
 

@@ -1,9 +1,9 @@
 -- Short entries of a matrix, in a list with their rows and columns.
 use Rattle.std.specs.Prelude.{◌≡◌, ℕ, ◌^◌, ◌<◌, ◌≤◌, ℤ, pos, ◌*ℤ◌, nat_abs, Bool, not, cond, eqb, List, length, All}
-use Rattle.fd_exact.specs.Sums.{list_z, sum_z}
-use Rattle.fd_equations.specs.Amounts.{cell_at}
-use Rattle.fd_equations.specs.Matrices.{MatrixView}
-use Rattle.fd_equations.specs.declared.cells.Cell.{Cell}
+use Rattle.fd_enclosure.specs.fd_exact.Sums.{list_z, sum_z}
+use Rattle.fd_enclosure.specs.fd_equations.Amounts.{cell_at}
+use Rattle.fd_enclosure.specs.fd_equations.Matrices.{MatrixView}
+use Rattle.fd_enclosure.specs.fd_equations.declared.cells.Cell.{Cell}
 use Rattle.fd_cert.specs.Columns.{HasEntries}
 use Rattle.fd_cert.specs.declared.flat.Entry.{Entry}
 

@@ -8,3 +8,4 @@ pub mod Slopes
 pub mod Reaches
 pub mod Verdicts
 pub mod Rechecks
+pub use Rattle.fd_enclosure.specs as fd_enclosure

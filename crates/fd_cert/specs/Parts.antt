@@ -1,6 +1,6 @@
 -- Numbers up to 2^70 in two parts: what is left of each below 2^60, and how often it has 2^60, where it does.
 use Rattle.std.specs.Prelude.{◌≡◌, ℕ, ◌+◌, ◌*◌, ◌^◌, ◌<◌, ◌≤◌, eqb, cond, List, [], ◌∷◌, ◌++◌, length, All}
-use Rattle.fd_exact.specs.Sums.{list_n, sum_n}
+use Rattle.fd_enclosure.specs.fd_exact.Sums.{list_n, sum_n}
 use Rattle.fd_enclosure.specs.Sound.{number_at}
 use Rattle.fd_cert.specs.declared.parted.High.{High}
 

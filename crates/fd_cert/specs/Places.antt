@@ -1,11 +1,11 @@
 -- Numbers at the places of a pattern that grow by what stands there: the radii of the slopes of part loads.
 use Rattle.std.specs.Prelude.{◌≡◌, ℕ, ◌+◌, ◌*◌, ◌^◌, ◌<◌, ◌≤◌, ℤ, pos, List, length}
-use Rattle.fd_exact.specs.Sums.{list_n}
-use Rattle.fd_system.specs.declared.loads.LoadAt.{LoadAt}
-use Rattle.fd_equations.specs.Amounts.{cell_at}
-use Rattle.fd_pattern.specs.Patterns.{key}
-use Rattle.fd_equations.specs.declared.cells.Cell.{Cell}
-use Rattle.fd_slope.specs.Changes.{radii_in}
+use Rattle.fd_enclosure.specs.fd_exact.Sums.{list_n}
+use Rattle.fd_enclosure.specs.fd_system.declared.loads.LoadAt.{LoadAt}
+use Rattle.fd_enclosure.specs.fd_equations.Amounts.{cell_at}
+use Rattle.fd_enclosure.specs.fd_pattern.Patterns.{key}
+use Rattle.fd_enclosure.specs.fd_equations.declared.cells.Cell.{Cell}
+use Rattle.fd_enclosure.specs.fd_slope.Changes.{radii_in}
 use Rattle.fd_enclosure.specs.Radii.{load_radius}
 use Rattle.fd_enclosure.specs.Sound.{number_at}
 

@@ -1,8 +1,8 @@
 -- The radii of unknowns from bounds of rows.
 use Rattle.std.specs.Prelude.{ℕ, ◌*◌, ◌-◌, ◌^◌, ◌<◌, ◌≤◌, ℤ, pos, ◌≤ℤ◌, nat_abs, nat_le, not, Bool, cond, List, get_or, length, IfSome, Option, None}
-use Rattle.fd_exact.specs.Rounding.{ceil_nat}
-use Rattle.fd_exact.specs.States.{part}
-use Rattle.fd_exact.specs.Sums.{sum_n}
+use Rattle.fd_enclosure.specs.fd_exact.Rounding.{ceil_nat}
+use Rattle.fd_enclosure.specs.fd_exact.States.{part}
+use Rattle.fd_enclosure.specs.fd_exact.Sums.{sum_n}
 use Rattle.fd_enclosure.specs.Bounds.{is_below_one}
 use Rattle.fd_enclosure.specs.Sound.{greatest_mismatch, number_at}
 

@@ -1,12 +1,12 @@
 -- The rules that a claim on a network may break, in their order, and the first that it breaks, whoever made it.
 use Rattle.std.specs.Prelude.{◌≡◌, ℕ, ◌==◌, ◌&&◌, ◌||◌, ◌^◌, ℤ, nat_abs, nat_lt, Bool, cond, is_some, List, length, Option, Some, None, option_map, Result, Ok, Err}
-use Rattle.fd_exact.specs.First.{first_place}
-use Rattle.fd_exact.specs.States.{entry, part}
-use Rattle.fd_mat.specs.Rows.{row_of}
-use Rattle.fd_pattern.specs.Conditions.{IsPoint}
-use Rattle.fd_equations.specs.Rounded.{jacobian_entry}
-use Rattle.fd_pattern.specs.Views.{NetworkView}
-use Rattle.fd_equations.specs.Weights.{weight_at}
+use Rattle.fd_enclosure.specs.fd_exact.First.{first_place}
+use Rattle.fd_enclosure.specs.fd_exact.States.{entry, part}
+use Rattle.fd_enclosure.specs.fd_mat.Rows.{row_of}
+use Rattle.fd_enclosure.specs.fd_pattern.Conditions.{IsPoint}
+use Rattle.fd_enclosure.specs.fd_equations.Rounded.{jacobian_entry}
+use Rattle.fd_enclosure.specs.fd_pattern.Views.{NetworkView}
+use Rattle.fd_enclosure.specs.fd_equations.Weights.{weight_at}
 use Rattle.fd_enclosure.specs.Bounds.{refusal}
 use Rattle.fd_enclosure.specs.Boxes.{boxes_of}
 use Rattle.fd_enclosure.specs.Radii.{slope_radius}

@@ -1,6 +1,6 @@
 -- The Jacobian with the radii of its slopes, by non-zeros, and what a row of an inverse is.
 use Rattle.std.specs.Prelude.{◌≡◌, ℕ, ◌^◌, ◌≤◌, ℤ, pos, List, length}
-use Rattle.fd_equations.specs.Matrices.{MatrixView}
+use Rattle.fd_enclosure.specs.fd_equations.Matrices.{MatrixView}
 use Rattle.fd_cert.specs.Totals.{AreWeighted}
 use Rattle.fd_cert.specs.Columns.{AreWeights, HasEntries, HasWeights, IsMade}
 

@@ -1,7 +1,7 @@
 -- Totals of natural numbers up to 2^120.
 use Rattle.std.specs.Prelude.{◌≡◌, ℕ, ◌*◌, ◌^◌, ◌<◌, ◌≤◌, ℤ, ◌-ℤ◌, nat_abs, List, length, Option, Some, None}
-use Rattle.fd_exact.specs.States.{part}
-use Rattle.fd_exact.specs.Sums.{sum_n}
+use Rattle.fd_enclosure.specs.fd_exact.States.{part}
+use Rattle.fd_enclosure.specs.fd_exact.Sums.{sum_n}
 use Rattle.fd_enclosure.specs.Bounds.{unit_at}
 use Rattle.fd_enclosure.specs.Sound.{number_at}
 

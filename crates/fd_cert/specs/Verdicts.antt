@@ -1,6 +1,6 @@
 -- What the bounds of rows say of radii: the radius of each unknown, or the unknown at which there is no certificate.
 use Rattle.std.specs.Prelude.{◌≡◌, ℕ, ◌<◌, ℤ, List, Option, Some, None}
-use Rattle.fd_equations.specs.Rounded.{list_of}
+use Rattle.fd_enclosure.specs.fd_equations.Rounded.{list_of}
 use Rattle.fd_enclosure.specs.Bounds.{radius_at, refusal}
 use Rattle.fd_cert.specs.declared.certificate.Widths.{Widths}
 use Rattle.fd_cert.specs.declared.certificate.Widths.TheVariants.{Refused, Within}

@@ -1,6 +1,6 @@
 // Certified states.
 
-use fd_mat::Dense;
+use fd_enclosure::Dense;
 
 /// A state and how far any other may be from it: for each unknown in order its centre and its radius, in whole microvolts and
 /// microamperes.

@@ -7,14 +7,14 @@
 //
 // Where the Jacobian's entries are short, two rows of the inverse meet them at once, and an entry is read once for both.
 ghost use Rattle.std.specs.Prelude.{◌≡◌, ℕ, ◌+◌, ◌*◌, ◌<◌, ◌≤◌, ◌^◌, ℤ, pos, ◌≤ℤ◌, ◌-ℤ◌, nat_abs, set, IfOk, IfSome, length, Some, []};
-ghost use Rattle.fd_exact.specs.States.{entry, part};
-ghost use Rattle.fd_exact.specs.Sums.{list_n};
-ghost use Rattle.fd_arith.specs.Limits.{within};
-ghost use Rattle.fd_arith.specs.Wide.{wide_quotient};
-ghost use Rattle.fd_equations.specs.Rounded.{list_of};
+ghost use Rattle.fd_enclosure.specs.fd_exact.States.{entry, part};
+ghost use Rattle.fd_enclosure.specs.fd_exact.Sums.{list_n};
+ghost use Rattle.fd_enclosure.specs.fd_arith.Limits.{within};
+ghost use Rattle.fd_enclosure.specs.fd_arith.Wide.{wide_quotient};
+ghost use Rattle.fd_enclosure.specs.fd_equations.Rounded.{list_of};
 ghost use Rattle.fd_enclosure.specs.Bounds.{bound_at};
 ghost use Rattle.fd_enclosure.specs.Sound.{number_at};
-ghost use Rattle.fd_mat.specs.Rows.{EntriesWithin};
+ghost use Rattle.fd_enclosure.specs.fd_mat.Rows.{EntriesWithin};
 ghost use Rattle.fd_cert.specs.Slopes.{AreSlopes, HasRadii, HasSlopes};
 ghost use Rattle.fd_cert.specs.Entries.{IsFlatOf};
 ghost use Rattle.fd_cert.specs.Columns.{AreColumns, AreUnits, HasEntries, HasWeights, IsMade, IsRowOfInverse, column_sum};
@@ -27,9 +27,7 @@ use crate::sums::{Walk, clear};
 use crate::totals::{
     PAST, plus_entry, plus_low, plus_product, plus_short, short_size, short_weight, up_to_limit,
 };
-use fd_arith::Wide;
-use fd_equations::{Cell, Matrix};
-use fd_mat::Dense;
+use fd_enclosure::{Cell, Dense, Matrix, Wide};
 use std::alloc::{AllocError, Global};
 
 // One in units of 2^-80, and the units of a weight over which a bound is taken.

@@ -1,15 +1,15 @@
 // The certificate of a point.
 ghost use Rattle.std.specs.Prelude.{◌≡◌, ℕ, ◌≤◌, ◌^◌, ℤ, IfErr, IfOk, length, Ok};
-ghost use Rattle.fd_exact.specs.States.{entry};
-ghost use Rattle.fd_pattern.specs.Conditions.{IsPoint};
-ghost use Rattle.fd_equations.specs.Matrices.{IsMatrix, jacobian_amount};
-ghost use Rattle.fd_equations.specs.Rounded.{jacobian_entry, list_of};
-ghost use Rattle.fd_equations.specs.Weights.{weight_at};
+ghost use Rattle.fd_enclosure.specs.fd_exact.States.{entry};
+ghost use Rattle.fd_enclosure.specs.fd_pattern.Conditions.{IsPoint};
+ghost use Rattle.fd_enclosure.specs.fd_equations.Matrices.{IsMatrix, jacobian_amount};
+ghost use Rattle.fd_enclosure.specs.fd_equations.Rounded.{jacobian_entry, list_of};
+ghost use Rattle.fd_enclosure.specs.fd_equations.Weights.{weight_at};
 ghost use Rattle.fd_enclosure.specs.Bounds.{bound_at};
 ghost use Rattle.fd_enclosure.specs.Boxes.{boxes_of};
 ghost use Rattle.fd_enclosure.specs.Radii.{slope_radius};
 ghost use Rattle.fd_enclosure.specs.Sound.{certificate_of};
-ghost use Rattle.fd_mat.specs.Rows.{EntriesWithin};
+ghost use Rattle.fd_enclosure.specs.fd_mat.Rows.{EntriesWithin};
 ghost use Rattle.fd_cert.specs.Claims.{IsInside, Refuses, claim_in};
 ghost use Rattle.fd_cert.specs.Columns.{AreWeights, HasNumbers, HasWeights};
 ghost use Rattle.fd_cert.specs.Reaches.{AreBounds, AreTight};
@@ -25,8 +25,7 @@ use crate::parted::parts_of;
 use crate::radii::{load_radii, with_radii};
 use crate::reach::{first_unbounded, first_wide, greatest_bound, greatest_reach, named, radii};
 use crate::sums::Walk;
-use fd_equations::{Matrix, Network, Point};
-use fd_mat::Dense;
+use fd_enclosure::{Dense, Matrix, NetworkRows, Point};
 use std::alloc::{AllocError, Global};
 
 // The radius of each unknown; or the unknown at which there is no certificate, with its bound.
@@ -46,7 +45,7 @@ pub(crate) struct Judged {
 // The bound of each row.
 fn bounds_at(
     alloc: Global,
-    net: &Network,
+    net: &NetworkRows,
     x: &[i128],
     inverse: &Dense,
     boxes: &[u128],
@@ -81,7 +80,7 @@ fn bounds_at(
 // The radii of slopes in the box around the point x, at the places of its Jacobian.
 fn radii_at<'a>(
     alloc: Global,
-    net: &Network,
+    net: &NetworkRows,
     x: &[i128],
     boxes: &[u128],
     jacobian: &Matrix<'a>,
@@ -139,7 +138,7 @@ fn verdict(
 // The box around the point x, and the radii that its mismatches give.
 pub(crate) fn judge(
     alloc: Global,
-    net: &Network,
+    net: &NetworkRows,
     x: &[i128],
     inverse: &Dense,
     mismatch: &[u128],
@@ -175,7 +174,7 @@ pub(crate) fn judge(
 /// # Errors
 /// `Loose` names the first row with a mismatch above 1,000. Else `NotCertified` names the first unknown whose bound reaches one; else the
 /// first whose radius is above 2^40. `NoMemory` where memory is refused. Each row and place that is named is one of the network's.
-pub fn certify(alloc: Global, net: &Network, point: Point) -> Result<Certified, CertFault>
+pub fn certify(alloc: Global, net: &NetworkRows, point: Point) -> Result<Certified, CertFault>
     requires point { IsPoint net.now point.x.items }
     requires size { length point.inverse ≡ net.now.size }
     requires entries { EntriesWithin point.inverse (2 ^ 56) }

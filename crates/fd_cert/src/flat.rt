@@ -1,12 +1,12 @@
 // Entries of a matrix that are so short that their sums need no tests.
 ghost use Rattle.std.specs.Prelude.{◌≡◌, ℕ, ◌<◌, ◌≤◌, ◌^◌, ◌*ℤ◌, ◌++◌, ℤ, pos, nat_abs, map, true, IfOk, IfSome, length};
 ghost use Rattle.std.specs.List.{filter};
-ghost use Rattle.fd_exact.specs.States.{part};
-ghost use Rattle.fd_exact.specs.Sums.{list_z};
+ghost use Rattle.fd_enclosure.specs.fd_exact.States.{part};
+ghost use Rattle.fd_enclosure.specs.fd_exact.Sums.{list_z};
 ghost use Rattle.fd_cert.specs.Columns.{IsMade, IsRowOfInverse};
 ghost use Rattle.fd_cert.specs.Entries.{AreShort, HasSmallUnits, IsFlatOf, entry_of, entry_term, has_units};
 
-use fd_equations::{Cell, Matrix};
+use fd_enclosure::{Cell, Matrix};
 use std::alloc::{AllocError, Global};
 
 // The greatest size of a short entry, 2^48, and how many a matrix may have, 2^22.

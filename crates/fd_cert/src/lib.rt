@@ -37,3 +37,6 @@ pub use certificate::certify;
 pub use fault::CertFault;
 pub use rechecking::{boxed, recheck};
 pub use rule::{Broken, Rule};
+
+// Handed on from the crates below.
+pub use fd_enclosure::{ball_law, certificate_law, enclosure_law, linear_law, tie_law};

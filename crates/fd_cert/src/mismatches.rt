@@ -1,20 +1,19 @@
 // The mismatch of each row, the first loose one, and the first claimed one that doesn't hold.
 ghost use Rattle.std.specs.Prelude.{◌≡◌, ℕ, ◌<◌, ◌≤◌, ◌^◌, IfOk, IfNone, IfSome, length, map, nat_lt};
-ghost use Rattle.fd_exact.specs.First.{first_place};
-ghost use Rattle.fd_system.specs.Residual.{greater_size};
-ghost use Rattle.fd_pattern.specs.Conditions.{IsPoint};
+ghost use Rattle.fd_enclosure.specs.fd_exact.First.{first_place};
+ghost use Rattle.fd_enclosure.specs.fd_system.Residual.{greater_size};
+ghost use Rattle.fd_enclosure.specs.fd_pattern.Conditions.{IsPoint};
 ghost use Rattle.fd_enclosure.specs.Sound.{greatest_mismatch, mismatch_size, mismatches_of, number_at};
 ghost use Rattle.fd_cert.specs.Rechecks.{is_untrue};
 
-use fd_arith::{Interval, Micro};
-use fd_equations::Network;
+use fd_enclosure::{Interval, Micro, NetworkRows};
 use std::alloc::{AllocError, Global};
 
 // The greatest mismatch of a solution, in whole microamperes and microvolts.
 const GREATEST_MISMATCH: u128 = 1_000;
 
 // The mismatch of each row at the point x.
-pub fn mismatches(alloc: Global, net: &Network, x: &[i128]) -> Result<Vec<u128>, AllocError>
+pub fn mismatches(alloc: Global, net: &NetworkRows, x: &[i128]) -> Result<Vec<u128>, AllocError>
     requires { IsPoint net.now x.now }
     ensures mismatches { IfOk result (λ m. m.items ≡ mismatches_of net.now x.now) }
     ensures long { IfOk result (λ m. length m.items ≡ net.now.size) }

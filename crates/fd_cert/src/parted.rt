@@ -1,6 +1,6 @@
 // Numbers up to 2^70 in two parts, so that their products with the entries of a row of the inverse add up without tests.
 ghost use Rattle.std.specs.Prelude.{◌≡◌, ◌<◌, ◌≤◌, ◌/◌, ◌%◌, ◌^◌, nat_abs, IfOk, IfSome, OnOk, length};
-ghost use Rattle.fd_exact.specs.States.{part};
+ghost use Rattle.fd_enclosure.specs.fd_exact.States.{part};
 ghost use Rattle.fd_cert.specs.Columns.{IsRowOfInverse};
 ghost use Rattle.fd_cert.specs.Parts.{AreHigh, AreParts, high_sum, with_high};
 

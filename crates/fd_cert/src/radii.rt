@@ -1,20 +1,16 @@
 // The radii of slopes, at the places of the Jacobian's non-zeros.
 ghost use Rattle.std.specs.Prelude.{◌≡◌, ℕ, ◌+◌, ◌*◌, ◌<◌, ◌≤◌, ◌^◌, ◌&&◌, cond, eqb, IfOk, IfSome, length, All};
-ghost use Rattle.fd_system.specs.Residual.{IsPlace};
-ghost use Rattle.fd_pattern.specs.Conditions.{IsPart};
-ghost use Rattle.fd_pattern.specs.Patterns.{key};
-ghost use Rattle.fd_pattern.specs.Terminals.{IsConnected};
-ghost use Rattle.fd_slope.specs.Changes.{im_width, magnitude_width as width_of_magnitude, radii_in, re_width};
-ghost use Rattle.fd_slope.specs.Radii.{AreRadii, IsRadiusRow};
+ghost use Rattle.fd_enclosure.specs.fd_system.Residual.{IsPlace};
+ghost use Rattle.fd_enclosure.specs.fd_pattern.Conditions.{IsPart};
+ghost use Rattle.fd_enclosure.specs.fd_pattern.Patterns.{key};
+ghost use Rattle.fd_enclosure.specs.fd_pattern.Terminals.{IsConnected};
+ghost use Rattle.fd_enclosure.specs.fd_slope.Changes.{im_width, magnitude_width as width_of_magnitude, radii_in, re_width};
+ghost use Rattle.fd_enclosure.specs.fd_slope.Radii.{AreRadii, IsRadiusRow};
 ghost use Rattle.fd_enclosure.specs.Radii.{load_radius, radius_in, spread, spread_magnitude, spread_node};
 ghost use Rattle.fd_enclosure.specs.Sound.{number_at};
 ghost use Rattle.fd_cert.specs.Places.{AreRadiusCells, AreRaised, HaveRoom, HaveWidths, RaisesRoom, loads_radius, radius_cell};
 
-use fd_arith::NodeAt;
-use fd_equations::{Cell, voltage_of};
-use fd_pattern::Pattern;
-use fd_slope::{Radii, RadiusRow, load_slope};
-use fd_system::LoadAt;
+use fd_enclosure::{Cell, LoadAt, NodeAt, Pattern, Radii, RadiusRow, load_slope, voltage_of};
 use std::alloc::{AllocError, Global};
 
 // What covers the rounding of a summand of the Jacobian, in units of 2^-40.

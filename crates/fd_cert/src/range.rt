@@ -1,11 +1,10 @@
 // The range of a claim's numbers, and its size.
 ghost use Rattle.std.specs.Prelude.{◌≡◌, ◌≤◌, ◌^◌, length};
-ghost use Rattle.fd_exact.specs.First.{first_place};
+ghost use Rattle.fd_enclosure.specs.fd_exact.First.{first_place};
 ghost use Rattle.fd_cert.specs.Rechecks.{has_size, has_wide_entry, is_out_of_range, is_past_range};
 
 use crate::reach::RADIUS_LIMIT;
-use fd_equations::Network;
-use fd_mat::Dense;
+use fd_enclosure::{Dense, NetworkRows};
 
 // The greatest size of a centre, in whole micro-units, and of an entry of an inverse, in units of 2^-40.
 const CENTRE_LIMIT: u128 = 0x100_0000_0000;
@@ -14,7 +13,7 @@ const ENTRY_LIMIT: u128 = 0x100_0000_0000_0000;
 
 // Whether each list has the network's size.
 pub fn has_size(
-    net: &Network,
+    net: &NetworkRows,
     centre: &[i128],
     radius: &[u128],
     mismatch: &[u128],

@@ -1,20 +1,20 @@
 // The radii of unknowns, from the inverse, the mismatches and the bounds of rows; and the first claimed one that is less.
 ghost use Rattle.std.specs.Prelude.{◌≡◌, ℕ, ◌*◌, ◌<◌, ◌≤◌, ◌^◌, nat_abs, nat_lt, false, IfNone, IfOk, IfSome, length};
-ghost use Rattle.fd_exact.specs.First.{first_place};
-ghost use Rattle.fd_exact.specs.Greatest.{greatest};
-ghost use Rattle.fd_exact.specs.Rounding.{ceil_nat};
-ghost use Rattle.fd_exact.specs.States.{entry, part};
-ghost use Rattle.fd_exact.specs.Sums.{sum_n};
-ghost use Rattle.fd_equations.specs.Rounded.{list_of};
+ghost use Rattle.fd_enclosure.specs.fd_exact.First.{first_place};
+ghost use Rattle.fd_enclosure.specs.fd_exact.Greatest.{greatest};
+ghost use Rattle.fd_enclosure.specs.fd_exact.Rounding.{ceil_nat};
+ghost use Rattle.fd_enclosure.specs.fd_exact.States.{entry, part};
+ghost use Rattle.fd_enclosure.specs.fd_exact.Sums.{sum_n};
+ghost use Rattle.fd_enclosure.specs.fd_equations.Rounded.{list_of};
 ghost use Rattle.fd_enclosure.specs.Bounds.{bound_size, is_below_one as is_below};
 ghost use Rattle.fd_enclosure.specs.Sound.{greatest_mismatch, number_at};
-ghost use Rattle.fd_mat.specs.Rows.{EntriesWithin};
+ghost use Rattle.fd_enclosure.specs.fd_mat.Rows.{EntriesWithin};
 ghost use Rattle.fd_cert.specs.Columns.{AreWeights, HasNumbers, HasWeights, IsRowOfInverse};
 ghost use Rattle.fd_cert.specs.Reaches.{AreTight, bound_in, is_unbounded, named_bound, radius_of, reach_in};
 
 use crate::rounding::ceil_over;
 use crate::totals::entry_size;
-use fd_mat::Dense;
+use fd_enclosure::Dense;
 use std::alloc::{AllocError, Global};
 
 // 2^20 and 2^40, for units of 2^-60 and of 2^-40.

@@ -1,6 +1,6 @@
 // A claim is tested again, whoever made it.
 ghost use Rattle.std.specs.Prelude.{◌≡◌, ◌↔◌, None, IfOk, length};
-ghost use Rattle.fd_pattern.specs.Conditions.{IsPoint};
+ghost use Rattle.fd_enclosure.specs.fd_pattern.Conditions.{IsPoint};
 ghost use Rattle.fd_enclosure.specs.Boxes.{boxes_of};
 ghost use Rattle.fd_enclosure.specs.Sound.{IsInverse, IsSound};
 ghost use Rattle.fd_cert.specs.Claims.{claim_in};
@@ -12,14 +12,13 @@ use crate::mismatches::{first_untrue, mismatches};
 use crate::range::{first_out_of_range, has_size};
 use crate::reach::first_narrow;
 use crate::rule::{Broken, Rule};
-use fd_equations::Network;
-use fd_mat::Dense;
+use fd_enclosure::{Dense, NetworkRows};
 use std::alloc::{AllocError, Global};
 
 // The boxes of a point's claim, where its mismatches, its bound and its radii hold; else the first rule that is broken.
 fn tested_at_point(
     alloc: Global,
-    net: &Network,
+    net: &NetworkRows,
     centre: &[i128],
     radius: &[u128],
     mismatch: &[u128],
@@ -62,7 +61,7 @@ fn tested_at_point(
 // The boxes of a claim that breaks no rule; else the first that it breaks.
 fn tested(
     alloc: Global,
-    net: &Network,
+    net: &NetworkRows,
     centre: &[i128],
     radius: &[u128],
     mismatch: &[u128],
@@ -102,7 +101,7 @@ fn tested(
 /// `AllocError` where memory is refused.
 pub fn recheck(
     alloc: Global,
-    net: &Network,
+    net: &NetworkRows,
     claim: &Certified,
 ) -> Result<Option<Broken>, AllocError>
     requires boxes { HasItsBoxes net.now (claim_in claim.now) }
@@ -133,7 +132,7 @@ pub fn recheck(
 /// `AllocError` where memory is refused.
 pub fn boxed(
     alloc: Global,
-    net: &Network,
+    net: &NetworkRows,
     ball: Ball,
     mismatch: Vec<u128>,
     inverse: Dense,

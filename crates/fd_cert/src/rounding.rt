@@ -1,6 +1,6 @@
 // Quotients rounded up.
 ghost use Rattle.std.specs.Prelude.{◌≡◌, ◌<◌, ◌≤◌, ◌^◌};
-ghost use Rattle.fd_exact.specs.Rounding.{ceil_nat};
+ghost use Rattle.fd_enclosure.specs.fd_exact.Rounding.{ceil_nat};
 
 // n / d rounded up.
 pub fn ceil_over(n: u128, d: u128) -> u128

@@ -1,13 +1,12 @@
 // Sums of the columns of a matrix by non-zeros, each row times a factor.
 ghost use Rattle.std.specs.Prelude.{◌≡◌, ℕ, ◌<◌, ◌≤◌, ◌^◌, ℤ, pos, nat_abs, IfNone, IfOk, IfSome, length, Some, None};
-ghost use Rattle.fd_exact.specs.States.{part};
-ghost use Rattle.fd_arith.specs.Wide.{wide_product};
+ghost use Rattle.fd_enclosure.specs.fd_exact.States.{part};
+ghost use Rattle.fd_enclosure.specs.fd_arith.Wide.{wide_product};
 ghost use Rattle.fd_cert.specs.Columns.{AreColumns, AreUnits, HasEntries, IsMade, IsRow, IsRowOfInverse, column_sum, sum_more as more};
 ghost use Rattle.fd_cert.specs.Entries.{IsFlatOf};
 
 use crate::flat::{Entry, add_entries, entries_of};
-use fd_arith::Wide;
-use fd_equations::{Cell, Matrix};
+use fd_enclosure::{Cell, Matrix, Wide};
 use std::alloc::{AllocError, Global};
 
 // The greatest size of a number of which two have a product of 64 bits each, 2^59.

@@ -6,7 +6,7 @@ use Rattle.fd_certfile.specs.Certificates.{version_in, behind_first}
 use Rattle.fd_certfile.specs.Reader.{GivenBlock, IsOpened, ReaderView, finished, is_end, is_solution, starts_with_end}
 use Rattle.fd_certfile.specs.declared.fault.CertFileFault.{CertFileFault}
 use Rattle.fd_certfile.specs.declared.fault.CertFileFault.TheVariants as fault
-use Rattle.fd_cert.specs.declared.rule.Rule.TheVariants.{Count, Grammar}
+use Rattle.fd_settle.specs.fd_cert.declared.rule.Rule.TheVariants.{Count, Grammar}
 use Rattle.fd_certfile.proofs.Lines.{lines_some}
 
 -- ---- the first line

@@ -6,16 +6,16 @@ use Rattle.std.proofs.lemmas.Bool.{eq-eqb}
 use Rattle.std.proofs.lemmas.Int.{ints}
 use Rattle.std.proofs.lemmas.List.{length-map}
 use Rattle.std.proofs.lemmas.List.Elements.{All-from_get_or}
-use Rattle.fd_exact.specs.FirstLaws.{place_below}
-use Rattle.fd_exact.specs.States.{entry, part}
-use Rattle.fd_pattern.specs.Conditions.{IsPart, IsPoint}
-use Rattle.fd_equations.specs.Rounded.{jacobian_entry}
-use Rattle.fd_pattern.specs.Views.{NetworkView}
-use Rattle.fd_equations.specs.Weights.{weight_at}
-use Rattle.fd_enclosure.specs.Bounds.{first_unbounded, first_wide, refusal, refused_bound, unless_unbounded, unless_wide}
-use Rattle.fd_enclosure.specs.Radii.{slope_radius}
-use Rattle.fd_enclosure.specs.Sound.{IsInverse, IsSound, greatest_mismatch, mismatch_at, number_at, radius_in}
-use Rattle.fd_enclosure.proofs.CallerLemmas.{all_bounded}
+use Rattle.fd_settle.specs.fd_exact.FirstLaws.{place_below}
+use Rattle.fd_settle.specs.fd_exact.States.{entry, part}
+use Rattle.fd_settle.specs.fd_pattern.Conditions.{IsPart, IsPoint}
+use Rattle.fd_settle.specs.fd_equations.Rounded.{jacobian_entry}
+use Rattle.fd_settle.specs.fd_pattern.Views.{NetworkView}
+use Rattle.fd_settle.specs.fd_equations.Weights.{weight_at}
+use Rattle.fd_settle.specs.fd_enclosure.Bounds.{first_unbounded, first_wide, refusal, refused_bound, unless_unbounded, unless_wide}
+use Rattle.fd_settle.specs.fd_enclosure.Radii.{slope_radius}
+use Rattle.fd_settle.specs.fd_enclosure.Sound.{IsInverse, IsSound, greatest_mismatch, mismatch_at, number_at, radius_in}
+use Rattle.fd_settle.proofs.CallerLemmas.fd_enclosure.{all_bounded}
 use Rattle.fd_certfile.specs.Blocks.{Block, IsSized, Part, count_of}
 use Rattle.fd_certfile.specs.Judging.{SoundLaw, claim_on, judge_of, names, refusal_in, sizes_of}
 use Rattle.fd_certfile.specs.Rules.{Ball, Holds, Sampled, claim_of, part_of, row_of}

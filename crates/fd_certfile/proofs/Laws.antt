@@ -2,7 +2,7 @@
 use Rattle.std.proofs.Common.{refl}
 use Rattle.fd_certfile.specs.Laws.{LineLaw, RowLaw, BlockLaw}
 use Rattle.fd_certfile.proofs.Lines.{line_again, line_found, lines_again}
-use Rattle.fd_certfile.proofs.Rows.{row_again, row_found}
+use Rattle.fd_certfile.proofs.RowForms.{row_again, row_found}
 use Rattle.fd_certfile.proofs.Blocks.{block_only, block_found, as_long}
 use Rattle.fd_certfile.proofs.Refused.{block_refused}
 use Rattle.fd_certfile.proofs.Unique.{one_refused}

@@ -3,9 +3,9 @@ use Rattle.std.proofs.Common.{◌≡◌, ℕ, zero, suc, ◌<◌, ◌≤◌, ◌
 use Rattle.std.specs.Prelude.{◌&&◌, ◌||◌}
 use Rattle.std.specs.List.{AllByRecursion, list_all}
 use Rattle.std.proofs.lemmas.Bool.{leb-false, leb-true, lt-ltb, ltb-false}
-use Rattle.fd_exact.specs.First.{first_place}
-use Rattle.fd_exact.specs.FirstLaws.{first_none, first_some, none_holds}
-use Rattle.fd_exact.specs.States.{part}
+use Rattle.fd_settle.specs.fd_exact.First.{first_place}
+use Rattle.fd_settle.specs.fd_exact.FirstLaws.{first_none, first_some, none_holds}
+use Rattle.fd_settle.specs.fd_exact.States.{part}
 use Rattle.fd_certfile.specs.Rules.{is_within, least_from}
 use Rattle.fd_certfile.proofs.RuleOrder.{Decides-all, Decides-within, least_none, least_some}
 

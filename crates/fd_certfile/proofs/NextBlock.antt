@@ -5,9 +5,9 @@ use Rattle.std.specs.List.{AllByRecursion}
 use Rattle.std.proofs.lemmas.Bool.{and_parts}
 use Rattle.std.proofs.lemmas.List.{ext_get_or, get_or_append_left, get_or-append-add, length-append}
 use Rattle.std.proofs.lemmas.List.FromFn.{get_or-map-range_with_len, length-map-range_with_len}
-use Rattle.fd_exact.specs.States.{cell, entry, part}
-use Rattle.fd_exact.specs.Tables.{length-table, row-table}
-use Rattle.fd_mat.specs.Rows.{square}
+use Rattle.fd_settle.specs.fd_exact.States.{cell, entry, part}
+use Rattle.fd_settle.specs.fd_exact.Tables.{length-table, row-table}
+use Rattle.fd_settle.specs.fd_mat.Rows.{square}
 use Rattle.fd_certfile.specs.Ahead.{IsAhead}
 use Rattle.fd_certfile.specs.Blocks.{Version, Act, Block, Spells, block_at, block_lines, count_of, is_place}
 use Rattle.fd_certfile.specs.Certificates.{lines_count}
@@ -16,9 +16,9 @@ use Rattle.fd_certfile.specs.Reader.{GivenBlock, HasAhead, IsAheadOf, ReaderView
 use Rattle.fd_certfile.specs.Readings.{RefusedBehind, cells_of, kept}
 use Rattle.fd_certfile.specs.Rules.{is_numbered}
 use Rattle.fd_certfile.specs.declared.ahead.Ahead.{Ahead}
-use Rattle.fd_cert.specs.declared.rule.Rule.TheVariants.{Count, Grammar, Size}
+use Rattle.fd_settle.specs.fd_cert.declared.rule.Rule.TheVariants.{Count, Grammar, Size}
 use Rattle.fd_certfile.proofs.Blocks.{block_found, length-block}
-use Rattle.fd_certfile.proofs.Rows.{place_is}
+use Rattle.fd_certfile.proofs.RowForms.{place_is}
 
 -- ---- rows that lie one after another
 

@@ -12,7 +12,7 @@ use Rattle.fd_certfile.specs.Blocks.{is_place, is_zero, is_entry, entries_at, pa
 use Rattle.fd_certfile.specs.Readings.{IsPut, IsUnput, RowIs, entries_in, is_between, kept, zeros}
 use Rattle.fd_certfile.proofs.Fields.{some_field}
 use Rattle.fd_certfile.proofs.RowReading.{kept_append}
-use Rattle.fd_certfile.proofs.Rows.{entries_found, pairs_from}
+use Rattle.fd_certfile.proofs.RowForms.{entries_found, pairs_from}
 
 -- ---- zeros
 

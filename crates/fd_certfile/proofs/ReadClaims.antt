@@ -5,19 +5,19 @@ use Rattle.std.specs.List.{list_all}
 use Rattle.std.proofs.Math.ListN.{get_or-map}
 use Rattle.std.proofs.lemmas.Bool.{and_from, and_parts, eq-eqb, eqb-true, false_from_ne_true, le-leb, lt-ltb, not-false}
 use Rattle.std.proofs.lemmas.List.{ext_get_or, length-map}
-use Rattle.fd_exact.specs.First.{first_place}
-use Rattle.fd_exact.specs.FirstLaws.{first_some as first_at, none_holds}
-use Rattle.fd_exact.specs.States.{entry, part}
-use Rattle.fd_equations.specs.Rounded.{jacobian_entry}
-use Rattle.fd_pattern.specs.Views.{NetworkView}
-use Rattle.fd_equations.specs.Weights.{weight_at}
-use Rattle.fd_enclosure.specs.Boxes.{boxes_of}
-use Rattle.fd_enclosure.specs.Radii.{slope_radius}
-use Rattle.fd_enclosure.specs.Sound.{mismatch_at, number_at, radius_in}
-use Rattle.fd_cert.specs.Rechecks.{broken_at, first_at_point, first_broken, first_unsound, has_size, has_wide_entry, is_narrow, is_out_of_range, is_untrue, place_named, refusal_of}
-use Rattle.fd_cert.specs.declared.rule.Broken.{Broken as Found}
-use Rattle.fd_cert.specs.declared.rule.Rule.{Rule}
-use Rattle.fd_cert.specs.declared.rule.Rule.TheVariants.{Bound, Mismatch, Radius, Range, Size}
+use Rattle.fd_settle.specs.fd_exact.First.{first_place}
+use Rattle.fd_settle.specs.fd_exact.FirstLaws.{first_some as first_at, none_holds}
+use Rattle.fd_settle.specs.fd_exact.States.{entry, part}
+use Rattle.fd_settle.specs.fd_equations.Rounded.{jacobian_entry}
+use Rattle.fd_settle.specs.fd_pattern.Views.{NetworkView}
+use Rattle.fd_settle.specs.fd_equations.Weights.{weight_at}
+use Rattle.fd_settle.specs.fd_enclosure.Boxes.{boxes_of}
+use Rattle.fd_settle.specs.fd_enclosure.Radii.{slope_radius}
+use Rattle.fd_settle.specs.fd_enclosure.Sound.{mismatch_at, number_at, radius_in}
+use Rattle.fd_settle.specs.fd_cert.Rechecks.{broken_at, first_at_point, first_broken, first_unsound, has_size, has_wide_entry, is_narrow, is_out_of_range, is_untrue, place_named, refusal_of}
+use Rattle.fd_settle.specs.fd_cert.declared.rule.Broken.{Broken as Found}
+use Rattle.fd_settle.specs.fd_cert.declared.rule.Rule.{Rule}
+use Rattle.fd_settle.specs.fd_cert.declared.rule.Rule.TheVariants.{Bound, Mismatch, Radius, Range, Size}
 use Rattle.fd_certfile.specs.Blocks.{Block, IsSized, Part, count_of}
 use Rattle.fd_certfile.specs.Claiming.{claim_read, mismatches_read, radii_read, read_mismatch, read_radius}
 use Rattle.fd_certfile.specs.Judging.{claim_on, judge_of, names, refusal_in, sizes_of}

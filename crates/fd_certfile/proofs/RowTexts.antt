@@ -8,7 +8,7 @@ use Rattle.fd_certfile.specs.Lines.{Line, bytes_of, line_bytes, text_by}
 use Rattle.fd_certfile.specs.Lines as line
 use Rattle.fd_certfile.specs.Texts.{field_text, fields_text}
 use Rattle.fd_certfile.proofs.Fields.{fields_append, text_by_fields}
-use Rattle.fd_certfile.proofs.Rows.{pairs_from}
+use Rattle.fd_certfile.proofs.RowForms.{pairs_from}
 
 pub row_fields : (place : ℤ) (row : List ℤ)
     → (((codes "c" ++ field_text place) ++ field_text (pos (count_by is_entry row))) ++ fields_text (flat_map pair_of (enumerate_from 0 row))) ++ 10 ∷ []

@@ -9,7 +9,7 @@ use Rattle.std.proofs.lemmas.Bool.Decides.{Decides-and, Decides-like, Decides-in
 use Rattle.std.proofs.lemmas.Slice.Eq.{slice_eq-Decides}
 use Rattle.fd_certfile.specs.Blocks.{Act, Block, is_place}
 use Rattle.fd_certfile.specs.Rules.{Where, Broken, Sampled, undecided, moves, at_limit, Judge, claim_of, ball_of, part_of, row_of, IsDue, IsInRange, Holds, is_due, is_within, is_in_range, is_mismatch, is_radius, same_act, is_undecided, is_limit, acts_due, least_from, broken_by, unless, unless_at, rules, first_some, first_broken}
-use Rattle.fd_cert.specs.declared.rule.Rule.{Rule}
+use Rattle.fd_settle.specs.fd_cert.declared.rule.Rule.{Rule}
 use Rattle.fd_certfile.specs.RuleLaws.{IsFirst, RuleLaw}
 
 some_none : {X : Type 0} {x : X} → Some x ≡ None → ⊥

@@ -3,10 +3,10 @@ use Rattle.std.proofs.Common.{◌≡◌, ℕ, ◌+◌, Bool, true, false, List, 
 use Rattle.std.specs.Prelude.{option_map, map, pos}
 use Rattle.std.proofs.lemmas.Bool.{and_parts}
 use Rattle.std.proofs.lemmas.Simd.{map-map}
-use Rattle.fd_pattern.specs.Views.{NetworkView}
-use Rattle.fd_cert.specs.Rechecks.{boxed_claim, first_unsound}
-use Rattle.fd_cert.specs.declared.rule.Broken.{Broken as Found}
-use Rattle.fd_cert.specs.declared.rule.Rule.{Rule}
+use Rattle.fd_settle.specs.fd_pattern.Views.{NetworkView}
+use Rattle.fd_settle.specs.fd_cert.Rechecks.{boxed_claim, first_unsound}
+use Rattle.fd_settle.specs.fd_cert.declared.rule.Broken.{Broken as Found}
+use Rattle.fd_settle.specs.fd_cert.declared.rule.Rule.{Rule}
 use Rattle.fd_certfile.specs.Blocks.{Block, IsSized, block_at, is_place}
 use Rattle.fd_certfile.specs.Blocks as blocks
 use Rattle.fd_certfile.specs.Claiming.{centre_in, claim_read, mismatch_in, radius_in, read_mismatch, read_radius}
@@ -21,7 +21,7 @@ use Rattle.fd_certfile.specs.declared.fault.CertFileFault.{CertFileFault}
 use Rattle.fd_certfile.specs.declared.fault.CertFileFault.TheVariants as fault
 use Rattle.fd_certfile.proofs.Blocks.{block_found}
 use Rattle.fd_certfile.proofs.ReadClaims.{at_place, claim_same, rules_same}
-use Rattle.fd_certfile.proofs.Rows.{place_is}
+use Rattle.fd_certfile.proofs.RowForms.{place_is}
 
 -- ---- the next block
 

@@ -1,8 +1,8 @@
 -- What a reader gives as a solver is what a certificate comes to.
 use Rattle.std.proofs.Common.{◌≡◌, ℕ, zero, suc, ◌+◌, ◌-◌, Bool, true, false, not, List, [], ◌∷◌, ◌++◌, length, Option, Some, None, Result, Ok, Err, refl, ap, sym, subst, ◌∙◌, arith}
-use Rattle.fd_pattern.specs.Views.{NetworkView}
-use Rattle.fd_cert.specs.declared.rule.Rule.{Rule}
-use Rattle.fd_cert.specs.declared.rule.Rule.TheVariants.{Bound, Count, Grammar, Mismatch, Radius, Range, Size}
+use Rattle.fd_settle.specs.fd_pattern.Views.{NetworkView}
+use Rattle.fd_settle.specs.fd_cert.declared.rule.Rule.{Rule}
+use Rattle.fd_settle.specs.fd_cert.declared.rule.Rule.TheVariants.{Bound, Count, Grammar, Mismatch, Radius, Range, Size}
 use Rattle.fd_certfile.specs.Blocks.{Block, Version, block_at}
 use Rattle.fd_certfile.specs.Certificates.{Certificate, IsNoEnd, Reads, RefusedBehind, ends, gives, lines_count, refuses, trails}
 use Rattle.fd_certfile.specs.Lines.{Line, header, solution, state, row, act, end, other}

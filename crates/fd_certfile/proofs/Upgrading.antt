@@ -19,7 +19,7 @@ use Rattle.fd_certfile.proofs.RowReading.{IsTaken}
 use Rattle.fd_certfile.proofs.Blocks.{block_found}
 use Rattle.fd_certfile.proofs.Certificates.{again, certificate_law}
 use Rattle.fd_certfile.proofs.Lines.{lines_found}
-use Rattle.fd_certfile.proofs.Rows.{is_zero_pos, pairs_from}
+use Rattle.fd_certfile.proofs.RowForms.{is_zero_pos, pairs_from}
 use Rattle.fd_certfile.proofs.RowTexts.{concat_lines}
 use Rattle.fd_certfile.proofs.Written.{all_append, known_block}
 

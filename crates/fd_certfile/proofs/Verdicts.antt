@@ -7,8 +7,8 @@ use Rattle.fd_certfile.specs.Certificates.{Certificate, ends, trails, refuses, g
 use Rattle.fd_certfile.proofs.Certificates as certificates
 use Rattle.fd_certfile.specs.Rules.{Broken, Judge, first_broken}
 use Rattle.fd_certfile.specs.Verdict.{Due, asks, complete, stops, Answer, accepted, refused, by_due, unless_broken, verdict, IsAnswerBy, IsAnswer, AllHold}
-use Rattle.fd_cert.specs.declared.rule.Rule.{Rule}
-use Rattle.fd_cert.specs.declared.rule.Rule.TheVariants.{Count}
+use Rattle.fd_settle.specs.fd_cert.declared.rule.Rule.{Rule}
+use Rattle.fd_settle.specs.fd_cert.declared.rule.Rule.TheVariants.{Count}
 use Rattle.fd_certfile.specs.RuleLaws.{AnswersLaw}
 use Rattle.fd_certfile.proofs.RuleOrder.{rule_law}
 

@@ -5,13 +5,13 @@ use Rattle.std.specs.List.{AllByRecursion, range_with_len}
 use Rattle.std.proofs.lemmas.List.{append_assoc, drop_more, get_or_default, get_or-take, length-take, map-append, map_push}
 use Rattle.std.proofs.lemmas.Bool.{cases_eq}
 use Rattle.std.proofs.lemmas.List.Elements.{recursion_from_All}
-use Rattle.fd_exact.specs.States.{entry, part}
-use Rattle.fd_equations.specs.Rounded.{list_of}
-use Rattle.fd_equations.proofs.CallerLemmas.{length-list_of, list_of-ext, list_of-more}
+use Rattle.fd_settle.specs.fd_exact.States.{entry, part}
+use Rattle.fd_settle.specs.fd_equations.Rounded.{list_of}
+use Rattle.fd_settle.proofs.CallerLemmas.fd_equations.{length-list_of, list_of-ext, list_of-more}
 use Rattle.fd_outside.specs.declared.bytes.Record.{Record}
 use Rattle.fd_outside.specs.Emitted.{pieces_of}
-use Rattle.fd_mat.specs.Rows.{row_of}
-use Rattle.fd_cert.specs.Claims.{claim_in}
+use Rattle.fd_settle.specs.fd_mat.Rows.{row_of}
+use Rattle.fd_settle.specs.fd_cert.Claims.{claim_in}
 use Rattle.fd_settle.specs.declared.round.Act.{Act as Made}
 use Rattle.fd_settle.specs.declared.round.Round.{Round}
 use Rattle.fd_certfile.specs.Numbers.{IsNumber}

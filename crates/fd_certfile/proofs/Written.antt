@@ -10,7 +10,7 @@ use Rattle.fd_certfile.specs.Blocks.{Version, Whole, Sparse, Part, Act, Block, c
 use Rattle.fd_certfile.specs.Laws.{TextLaw}
 use Rattle.fd_certfile.proofs.Lines.{lines_again, lines_found}
 use Rattle.fd_certfile.proofs.Blocks.{block_only, block_found}
-use Rattle.fd_certfile.proofs.Rows.{pairs_from}
+use Rattle.fd_certfile.proofs.RowForms.{pairs_from}
 
 pub all_append : {X : Type 0} (P : X → Type 0) (xs ys : List X) → AllByRecursion P xs → AllByRecursion P ys
     → AllByRecursion P (xs ++ ys)

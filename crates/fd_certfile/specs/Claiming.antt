@@ -1,9 +1,9 @@
 -- The claim that the numbers of a block are read as. Sizes and mismatches of a claim have no sign, and no rule holds of a
 -- number below 0.
 use Rattle.std.specs.Prelude.{ℕ, ℤ, pos, negsuc, List, map}
-use Rattle.fd_pattern.specs.Views.{NetworkView}
-use Rattle.fd_enclosure.specs.Sound as sound
-use Rattle.fd_cert.specs.Rechecks.{boxed_claim}
+use Rattle.fd_settle.specs.fd_pattern.Views.{NetworkView}
+use Rattle.fd_settle.specs.fd_enclosure.Sound as sound
+use Rattle.fd_settle.specs.fd_cert.Rechecks.{boxed_claim}
 use Rattle.fd_certfile.specs.Blocks.{Block}
 use Rattle.fd_certfile.specs.Rules.{claim_of}
 use Rattle.fd_certfile.specs.declared.block.Part.{Part as Read}

@@ -1,14 +1,14 @@
 -- What judges a block on a network: the certificate's own numbers there.
 use Rattle.std.specs.Prelude.{ℕ, ℤ, ◌==◌, nat_abs, Bool, false, List, map, Option, Some, None}
-use Rattle.fd_exact.specs.States.{entry}
-use Rattle.fd_equations.specs.Rounded.{jacobian_entry}
-use Rattle.fd_pattern.specs.Views.{NetworkView}
-use Rattle.fd_equations.specs.Weights.{weight_at}
-use Rattle.fd_enclosure.specs.Bounds.{refusal}
-use Rattle.fd_enclosure.specs.Boxes.{boxes_of}
-use Rattle.fd_enclosure.specs.Radii.{slope_radius}
-use Rattle.fd_enclosure.specs.Sound as sound
-use Rattle.fd_enclosure.specs.Sound.{mismatch_at, number_at, radius_in}
+use Rattle.fd_settle.specs.fd_exact.States.{entry}
+use Rattle.fd_settle.specs.fd_equations.Rounded.{jacobian_entry}
+use Rattle.fd_settle.specs.fd_pattern.Views.{NetworkView}
+use Rattle.fd_settle.specs.fd_equations.Weights.{weight_at}
+use Rattle.fd_settle.specs.fd_enclosure.Bounds.{refusal}
+use Rattle.fd_settle.specs.fd_enclosure.Boxes.{boxes_of}
+use Rattle.fd_settle.specs.fd_enclosure.Radii.{slope_radius}
+use Rattle.fd_settle.specs.fd_enclosure.Sound as sound
+use Rattle.fd_settle.specs.fd_enclosure.Sound.{mismatch_at, number_at, radius_in}
 use Rattle.fd_certfile.specs.Blocks.{Block, IsSized}
 use Rattle.fd_certfile.specs.Rules.{Ball, Claim, Holds, Judge, Sampled, claim_of}
 

@@ -10,8 +10,8 @@ use Rattle.fd_certfile.specs.Views.{part}
 use Rattle.fd_certfile.specs.declared.ahead.Ahead.{Ahead}
 use Rattle.fd_certfile.specs.declared.fault.CertFileFault.{CertFileFault}
 use Rattle.fd_certfile.specs.declared.fault.CertFileFault.TheVariants as fault
-use Rattle.fd_cert.specs.declared.rule.Rule.{Rule}
-use Rattle.fd_cert.specs.declared.rule.Rule.TheVariants.{Count, Grammar, Size}
+use Rattle.fd_settle.specs.fd_cert.declared.rule.Rule.{Rule}
+use Rattle.fd_settle.specs.fd_cert.declared.rule.Rule.TheVariants.{Count, Grammar, Size}
 use Rattle.fd_certfile.specs.declared.reader.Claimed.{Claimed}
 use Rattle.fd_certfile.specs.declared.reader.Given.{Given}
 use Rattle.fd_certfile.specs.declared.ahead.Head.{Head}

@@ -1,15 +1,15 @@
 -- The block of a round of a settle.
 use Rattle.std.specs.Prelude.{◌≡◌, ℕ, ◌<◌, ◌≤◌, ◌^◌, pos, nat_abs, [], ◌∷◌, length, map, ◌++◌, Ok, List, ℤ}
 use Rattle.std.specs.List.{AllByRecursion, concat}
-use Rattle.fd_exact.specs.States.{part}
-use Rattle.fd_equations.specs.Rounded.{list_of}
-use Rattle.fd_enclosure.specs.Sound.{Claim, IsInverse, greatest_mismatch, number_at}
-use Rattle.fd_cert.specs.Claims.{claim_in}
+use Rattle.fd_settle.specs.fd_exact.States.{part}
+use Rattle.fd_settle.specs.fd_equations.Rounded.{list_of}
+use Rattle.fd_settle.specs.fd_enclosure.Sound.{Claim, IsInverse, greatest_mismatch, number_at}
+use Rattle.fd_settle.specs.fd_cert.Claims.{claim_in}
 use Rattle.fd_settle.specs.declared.round.Act.{Act as Made}
 use Rattle.fd_settle.specs.declared.round.Round.{Round}
 use Rattle.fd_certfile.specs.Numbers.{IsNumber}
 use Rattle.fd_certfile.specs.Blocks.{Act, Block, Part, Sparse, IsBehindActs, block_at, block_lines, part_line, row_line}
-use Rattle.fd_mat.specs.Rows.{row_of}
+use Rattle.fd_settle.specs.fd_mat.Rows.{row_of}
 use Rattle.fd_certfile.specs.Lines.{line_bytes, lines_of}
 
 -- what is claimed of the unknown and the row at a place

@@ -3,7 +3,7 @@ use Rattle.std.specs.Prelude.{◌≡◌, ℕ, zero, suc, ℤ, pos, negsuc, ◌+�
 use Rattle.fd_certfile.specs.Blocks.{Act, Block}
 use Rattle.fd_certfile.specs.Certificates.{Certificate, ends, trails, refuses, gives}
 use Rattle.fd_certfile.specs.Rules.{Sampled, undecided, moves, at_limit, Judge}
-use Rattle.fd_cert.specs.declared.rule.Rule.TheVariants.{Grammar, Size, Range, Mismatch, Bound, Radius, Undecided, Acts, ControlLimit, Count}
+use Rattle.fd_settle.specs.fd_cert.declared.rule.Rule.TheVariants.{Grammar, Size, Range, Mismatch, Bound, Radius, Undecided, Acts, ControlLimit, Count}
 use Rattle.fd_certfile.specs.Verdict.{Due, asks, complete, Answer, accepted, refused, verdict}
 
 abbrev pub a_move : List Act

@@ -4,8 +4,8 @@ use Rattle.std.specs.List.{list_all, AllByRecursion}
 use Rattle.std.specs.Cmp.Lexicographic.{pointwise}
 use Rattle.std.specs.Ordering.{int_eq}
 use Rattle.fd_certfile.specs.Blocks.{Part, Act, Block, count_of, is_place}
-use Rattle.fd_cert.specs.declared.rule.Rule.{Rule}
-use Rattle.fd_cert.specs.declared.rule.Rule.TheVariants.{Size, Range, Mismatch, Bound, Radius, Undecided, Acts, ControlLimit}
+use Rattle.fd_settle.specs.fd_cert.declared.rule.Rule.{Rule}
+use Rattle.fd_settle.specs.fd_cert.declared.rule.Rule.TheVariants.{Size, Range, Mismatch, Bound, Radius, Undecided, Acts, ControlLimit}
 
 -- where a block breaks a rule
 pub data Where : Type 0 where

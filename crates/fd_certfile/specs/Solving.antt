@@ -1,8 +1,8 @@
 -- What a reader gives as a solver: the next block, where what it claims holds on a network.
 use Rattle.std.specs.Prelude.{◌≡◌, ℕ, [], Option, Some, None, Result, Ok, Err}
-use Rattle.fd_pattern.specs.Views.{NetworkView}
-use Rattle.fd_enclosure.specs.Sound.{Claim}
-use Rattle.fd_cert.specs.declared.rule.Rule.{Rule}
+use Rattle.fd_settle.specs.fd_pattern.Views.{NetworkView}
+use Rattle.fd_settle.specs.fd_enclosure.Sound.{Claim}
+use Rattle.fd_settle.specs.fd_cert.declared.rule.Rule.{Rule}
 use Rattle.fd_certfile.specs.Blocks.{Block}
 use Rattle.fd_certfile.specs.Judging.{claim_on, judge_of}
 use Rattle.fd_certfile.specs.Reader.{ReaderView, next_of}

@@ -1,7 +1,7 @@
 -- Laws of a reader as a solver: what it gives is what the certificate comes to.
 use Rattle.std.specs.Prelude.{◌≡◌, ℕ, ◌+◌, List, length, None, Result, Ok, Err}
-use Rattle.fd_pattern.specs.Views.{NetworkView}
-use Rattle.fd_cert.specs.declared.rule.Rule.{Rule}
+use Rattle.fd_settle.specs.fd_pattern.Views.{NetworkView}
+use Rattle.fd_settle.specs.fd_cert.declared.rule.Rule.{Rule}
 use Rattle.fd_certfile.specs.Lines.{Line}
 use Rattle.fd_certfile.specs.Blocks.{Block, IsSized, block_at}
 use Rattle.fd_certfile.specs.Certificates.{Certificate, Reads, gives}

@@ -9,7 +9,7 @@ use Rattle.fd_certfile.specs.declared.fault.CertFileFault.{CertFileFault}
 use Rattle.fd_certfile.specs.declared.fault.CertFileFault.TheVariants as fault
 use Rattle.fd_certfile.specs.declared.fault.Stop.{Stop}
 use Rattle.fd_certfile.specs.declared.fault.Stop.TheVariants as stop
-use Rattle.fd_cert.specs.declared.rule.Rule.TheVariants.{Grammar}
+use Rattle.fd_settle.specs.fd_cert.declared.rule.Rule.TheVariants.{Grammar}
 
 -- ---- what is refused
 

@@ -4,8 +4,8 @@ use Rattle.fd_certfile.specs.Lines.{Line, lines_of}
 use Rattle.fd_certfile.specs.Blocks.{Version, Block}
 use Rattle.fd_certfile.specs.Certificates.{Certificate, ends, trails, refuses, gives, Reads, version_in, behind_first, lines_count}
 use Rattle.fd_certfile.specs.Rules.{Broken, Judge, Holds, first_broken, line_at}
-use Rattle.fd_cert.specs.declared.rule.Rule.{Rule}
-use Rattle.fd_cert.specs.declared.rule.Rule.TheVariants.{Absent, Grammar, Count}
+use Rattle.fd_settle.specs.fd_cert.declared.rule.Rule.{Rule}
+use Rattle.fd_settle.specs.fd_cert.declared.rule.Rule.TheVariants.{Absent, Grammar, Count}
 
 -- what comes next by the script
 pub data Due (F : Type 0) : Type 0 where

@@ -1,15 +1,13 @@
 // The claim that the numbers of a block are read as, tested on a network.
 ghost use Rattle.std.specs.Prelude.{◌≡◌, ◌*◌, IfOk, length, map};
-ghost use Rattle.fd_mat.specs.Rows.{square};
-ghost use Rattle.fd_enclosure.specs.Sound.{IsSound};
-ghost use Rattle.fd_cert.specs.Claims.{claim_in};
-ghost use Rattle.fd_cert.specs.Rechecks.{IsBoxed, boxed_claim};
+ghost use Rattle.fd_settle.specs.fd_mat.Rows.{square};
+ghost use Rattle.fd_settle.specs.fd_enclosure.Sound.{IsSound};
+ghost use Rattle.fd_settle.specs.fd_cert.Claims.{claim_in};
+ghost use Rattle.fd_settle.specs.fd_cert.Rechecks.{IsBoxed, boxed_claim};
 ghost use Rattle.fd_certfile.specs.Claiming.{centre_in, mismatch_in, radius_in};
 
 use crate::block::Part;
-use fd_cert::{Ball, Broken, Certified, boxed};
-use fd_equations::Network;
-use fd_mat::Dense;
+use fd_settle::{Ball, Broken, Certified, Dense, NetworkRows, boxed};
 use std::alloc::{AllocError, Global};
 
 // What numbers below 0 are read as: a radius that is out of range, and a mismatch above the greatest of a solution.
@@ -58,7 +56,7 @@ fn mismatches(alloc: Global, parts: &[Part]) -> Result<Vec<u128>, AllocError>
 /// What a block of so many unknowns claims, as a certified state; or the first rule that it breaks.
 pub(crate) fn claimed(
     alloc: Global,
-    net: &Network,
+    net: &NetworkRows,
     size: u32,
     parts: &[Part],
     cells: Vec<i128>,

@@ -1,5 +1,5 @@
 // Why a certificate is refused.
-use fd_cert::Rule;
+use fd_settle::Rule;
 use std::alloc::{AllocError, AllocFailed};
 
 /// Why a reader gives no block.

@@ -53,7 +53,6 @@ mod write;
 
 pub use block::Part;
 pub use fault::CertFileFault;
-pub use fd_cert::Rule;
 pub use grammar::{
     block_cases, block_law, certificate_law, line_law, number_law, row_law, sparse_rows, text_law,
 };
@@ -65,3 +64,11 @@ pub use texts::{end_record, header_record};
 pub use upgrades::{upgrade, upgrade_law};
 pub use version::Version;
 pub use write::write_block;
+
+// Handed on from the crates below.
+pub use fd_outside::{Found, LibFault, Library, Record, Sink, SinkFault, emit};
+pub use fd_settle::{
+    Act, Ball, CapProbe, CapState, CertFault, Certified, Dense, Entry, Limits, Measured, Network,
+    NetworkRows, Point, Queue, RegProbe, RegState, Round, Rows, Rule, Solver, Verdict,
+    bank_verdict, boxed, certify, ready, regulator_verdict,
+};

@@ -18,11 +18,7 @@ use crate::fault::{CertFileFault, Stop};
 use crate::line::read_line;
 use crate::row::is_place;
 use crate::version::{Version, version_named};
-use fd_cert::{Certified, Rule};
-use fd_equations::Network;
-use fd_inject::Limits;
-use fd_mat::Dense;
-use fd_settle::{Act, Solver};
+use fd_settle::{Act, Certified, Dense, Limits, NetworkRows, Rule, Solver};
 use std::alloc::{AllocError, Global};
 use std::marker::Model;
 
@@ -268,7 +264,7 @@ impl<'a> Solver for CertReader<'a> {
     fn solve(
         &mut self,
         alloc: Global,
-        net: &Network,
+        net: &NetworkRows,
         _limits: &Limits,
     ) -> Result<Certified, CertFileFault> {
         let size = net.size();

@@ -2,7 +2,7 @@
 ghost use Rattle.std.specs.Prelude.{◌≡◌, ◌+◌, ◌<◌, ◌^◌, ◌∷◌, ◌++◌, [], IsSome, ℤ, List, Option, Some, None, IfOk, IfErr, IfSome, IfNone, OnOk, length, map};
 ghost use Rattle.std.specs.Option.{option_map};
 ghost use Rattle.fd_outside.specs.Emitted.{pieces_of};
-ghost use Rattle.fd_cert.specs.declared.rule.Rule.TheVariants.{Grammar};
+ghost use Rattle.fd_settle.specs.fd_cert.declared.rule.Rule.TheVariants.{Grammar};
 ghost use Rattle.fd_certfile.specs.Blocks.{Block, fields_of, Sparse};
 ghost use Rattle.fd_certfile.specs.Cuts.{texts_of};
 ghost use Rattle.fd_certfile.specs.Lines.{IsKnown, line_bytes, line_of, lines_of, row};
@@ -21,8 +21,8 @@ use crate::field::{Fields, first};
 use crate::line::{Line, read_line};
 use crate::texts::{header_record, row_record, text_record};
 use crate::version::{Version, version_named};
-use fd_cert::Rule;
 use fd_outside::Record;
+use fd_settle::Rule;
 use std::alloc::{AllocError, Global};
 
 // The line that a block is refused at, whose first line has this number.

@@ -1,20 +1,17 @@
 // The lines of a round.
 ghost use Rattle.std.specs.Prelude.{◌≡◌, ℕ, ◌<◌, ◌^◌, ◌++◌, map, pos, All, IfOk, OnOk, Ok, length};
-ghost use Rattle.fd_cert.specs.Claims.{claim_in};
-ghost use Rattle.fd_enclosure.specs.Sound.{number_at};
-ghost use Rattle.fd_equations.specs.Rounded.{list_of};
-ghost use Rattle.fd_mat.specs.Rows.{row_of};
+ghost use Rattle.fd_settle.specs.fd_cert.Claims.{claim_in};
+ghost use Rattle.fd_settle.specs.fd_enclosure.Sound.{number_at};
+ghost use Rattle.fd_settle.specs.fd_equations.Rounded.{list_of};
+ghost use Rattle.fd_settle.specs.fd_mat.Rows.{row_of};
 ghost use Rattle.fd_outside.specs.Emitted.{pieces_of};
 ghost use Rattle.fd_certfile.specs.Blocks.{act_line};
 ghost use Rattle.fd_certfile.specs.Lines.{line_bytes, solution};
 ghost use Rattle.fd_certfile.specs.Rounds.{AreNumbers, IsRoundOf, act_of, block_of, AreLinesOf, AreReadAs, part_bytes, row_bytes};
 
 use crate::texts::{line_record, row_record};
-use fd_cert::Certified;
-use fd_mat::Dense;
-use fd_network::Network;
 use fd_outside::Record;
-use fd_settle::{Act, Round};
+use fd_settle::{Act, Certified, Dense, Network, Round};
 use std::alloc::{AllocError, Global};
 
 fn solution_record(

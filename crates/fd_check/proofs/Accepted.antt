@@ -1,8 +1,8 @@
 -- An accepted certificate.
 use Rattle.std.proofs.Common.{◌≡◌, ℕ, zero, suc, ◌+◌, List, Option, Some, None, refl}
-use Rattle.dss_model.specs.declared.command.Blame.{Blame}
-use Rattle.fd_cert.specs.declared.rule.Rule.{Rule}
-use Rattle.fd_cert.specs.declared.rule.Rule.TheVariants as rule
+use Rattle.dss_commands.specs.dss_model.declared.command.Blame.{Blame}
+use Rattle.fd_daily.specs.fd_cert.declared.rule.Rule.{Rule}
+use Rattle.fd_daily.specs.fd_cert.declared.rule.Rule.TheVariants as rule
 use Rattle.fd_certfile.specs.Blocks.{Block, IsSized}
 use Rattle.fd_certfile.specs.declared.version.Version.{Version}
 use Rattle.fd_certfile.specs.Certificates.{Certificate, ends, trails, refuses, gives, Reads, lines_count}

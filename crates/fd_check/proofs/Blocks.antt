@@ -4,16 +4,16 @@ use Rattle.std.specs.Prelude.{nat_abs, not}
 use Rattle.std.specs.Cmp.Lexicographic.{pointwise}
 use Rattle.std.proofs.lemmas.List.{length-append}
 use Rattle.std.proofs.lemmas.Simd.{map-map}
-use Rattle.dss_model.specs.declared.command.Blame.{Blame}
-use Rattle.dss_circuit.specs.Circuit.{CircuitView}
-use Rattle.fd_cert.specs.declared.rule.Rule.{Rule}
-use Rattle.fd_cert.specs.declared.rule.Rule.TheVariants as rule
-use Rattle.fd_pattern.specs.Views.{NetworkView}
-use Rattle.fd_queue.specs.Machine.{Act, Machine}
-use Rattle.fd_sample.specs.Decided.{Undecided, sample_over}
-use Rattle.fd_settle.specs.Plant.{controls_in, setup_of}
-use Rattle.fd_settle.specs.Sampling.{look_over, sampling_of}
-use Rattle.fd_settle.specs.Settle.{Settled, Limited, Undecidable, Outcome, Ends, Moves, outcome_of}
+use Rattle.dss_commands.specs.dss_model.declared.command.Blame.{Blame}
+use Rattle.dss_commands.specs.dss_circuit.Circuit.{CircuitView}
+use Rattle.fd_daily.specs.fd_cert.declared.rule.Rule.{Rule}
+use Rattle.fd_daily.specs.fd_cert.declared.rule.Rule.TheVariants as rule
+use Rattle.fd_daily.specs.fd_pattern.Views.{NetworkView}
+use Rattle.fd_daily.specs.fd_queue.Machine.{Act, Machine}
+use Rattle.fd_daily.specs.fd_sample.Decided.{Undecided, sample_over}
+use Rattle.fd_daily.specs.fd_settle.Plant.{controls_in, setup_of}
+use Rattle.fd_daily.specs.fd_settle.Sampling.{look_over, sampling_of}
+use Rattle.fd_daily.specs.fd_settle.Settle.{Settled, Limited, Undecidable, Outcome, Ends, Moves, outcome_of}
 use Rattle.fd_certfile.specs.Blocks.{Block}
 use Rattle.fd_certfile.specs.Blocks as blocks
 use Rattle.fd_certfile.specs.Certificates.{Certificate, Reads, gives}

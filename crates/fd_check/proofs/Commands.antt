@@ -2,15 +2,15 @@
 use Rattle.std.proofs.Common.{◌≡◌, ◌∙◌, ◌+◌, ◌<◌, ℕ, List, [], ◌∷◌, ◌++◌, drop, length, Result, Ok, ap, subst, sym}
 use Rattle.std.specs.Prelude.{get_or}
 use Rattle.std.proofs.lemmas.List.{drop_more}
-use Rattle.dss_circuit.specs.Circuit.{CircuitView}
+use Rattle.dss_commands.specs.dss_circuit.Circuit.{CircuitView}
 use Rattle.dss_commands.specs.Commands.{applied}
-use Rattle.dss_model.specs.declared.command.Command.{Command}
-use Rattle.dss_model.specs.declared.command.Verb.{Verb}
-use Rattle.dss_model.specs.declared.command.Verb.TheVariants as verb
-use Rattle.dss_lexer.specs.declared.pair.Pair.{Pair}
-use Rattle.dss_model.specs.declared.fault.ModelFault.{ModelFault}
+use Rattle.dss_commands.specs.dss_model.declared.command.Command.{Command}
+use Rattle.dss_commands.specs.dss_model.declared.command.Verb.{Verb}
+use Rattle.dss_commands.specs.dss_model.declared.command.Verb.TheVariants as verb
+use Rattle.dss_commands.specs.dss_lexer.declared.pair.Pair.{Pair}
+use Rattle.dss_commands.specs.dss_model.declared.fault.ModelFault.{ModelFault}
 use Rattle.fd_certfile.specs.Verdict.{Answer}
-use Rattle.dss_model.specs.declared.command.Blame.{Blame}
+use Rattle.dss_commands.specs.dss_model.declared.command.Blame.{Blame}
 use Rattle.fd_certfile.specs.Reader.{ReaderView}
 use Rattle.fd_check.specs.Checking.{Checking}
 use Rattle.fd_check.specs.Commands.{AreAccepted, behind_one, circuit_by, solve_by, solve_in, solves_in}

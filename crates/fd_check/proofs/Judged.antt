@@ -1,18 +1,18 @@
 -- What the code finds of an hour, and of a certificate's end.
 use Rattle.std.proofs.Common.{◌≡◌, ◌∙◌, ℕ, ◌+◌, ◌≤◌, true, List, [], ◌∷◌, Option, Some, None, Result, Ok, Err, refl, sym, ap, subst, arith, drop, length, map}
 use Rattle.std.specs.Prelude.{IfErr, OnOk, is_ok}
-use Rattle.dss_model.specs.declared.command.Blame.{Blame}
-use Rattle.fd_cert.specs.declared.rule.Rule.{Rule}
-use Rattle.fd_queue.specs.Controls.{Positions}
-use Rattle.fd_queue.specs.Machine.{Machine}
-use Rattle.fd_settle.specs.Calls.{AreCalls}
-use Rattle.fd_settle.specs.Contract.{CallsAs, EndsAs}
-use Rattle.fd_settle.specs.Plant.{Plant}
-use Rattle.fd_settle.specs.Rounds.{acts_in, claims_in, settled}
-use Rattle.fd_settle.specs.Settle.{End, Open, Limited, Undecidable}
-use Rattle.fd_settle.specs.declared.fault.SettleFault.{SettleFault}
-use Rattle.fd_settle.specs.declared.fault.SettleFault.TheVariants as settle
-use Rattle.fd_settle.specs.declared.round.Round.{Round}
+use Rattle.dss_commands.specs.dss_model.declared.command.Blame.{Blame}
+use Rattle.fd_daily.specs.fd_cert.declared.rule.Rule.{Rule}
+use Rattle.fd_daily.specs.fd_queue.Controls.{Positions}
+use Rattle.fd_daily.specs.fd_queue.Machine.{Machine}
+use Rattle.fd_daily.specs.fd_settle.Calls.{AreCalls}
+use Rattle.fd_daily.specs.fd_settle.Contract.{CallsAs, EndsAs}
+use Rattle.fd_daily.specs.fd_settle.Plant.{Plant}
+use Rattle.fd_daily.specs.fd_settle.Rounds.{acts_in, claims_in, settled}
+use Rattle.fd_daily.specs.fd_settle.Settle.{End, Open, Limited, Undecidable}
+use Rattle.fd_daily.specs.fd_settle.declared.fault.SettleFault.{SettleFault}
+use Rattle.fd_daily.specs.fd_settle.declared.fault.SettleFault.TheVariants as settle
+use Rattle.fd_daily.specs.fd_settle.declared.round.Round.{Round}
 use Rattle.fd_certfile.specs.Laws.{CertificateLaw}
 use Rattle.fd_certfile.specs.Reader.{IsFinished, ReaderView, finish_of}
 use Rattle.fd_certfile.specs.SolvingLaws.{answer_of}

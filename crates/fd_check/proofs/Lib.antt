@@ -5,3 +5,4 @@ mod Judged
 mod Way
 mod Accepted
 mod Commands
+pub mod CallerLemmas

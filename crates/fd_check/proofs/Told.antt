@@ -4,18 +4,18 @@ use Rattle.std.specs.Prelude.{take}
 use Rattle.std.proofs.lemmas.List.{length-append, length-map, take-map}
 use Rattle.std.proofs.lemmas.Simd.{map-map}
 use Rattle.std.proofs.Math.Seq.{drop-append_seam}
-use Rattle.dss_model.specs.declared.command.Blame.{Blame}
-use Rattle.fd_cert.specs.Claims.{claim_in}
-use Rattle.fd_cert.specs.declared.rule.Rule.{Rule}
-use Rattle.fd_cert.specs.declared.rule.Rule.TheVariants as rule
-use Rattle.fd_queue.specs.Machine.{Act, Machine}
-use Rattle.fd_settle.specs.Calls.{AreCalls}
-use Rattle.fd_settle.specs.Contract.{CallsAs, EndsAs}
-use Rattle.fd_settle.specs.Rounds.{acts_in, claims_in, seen}
-use Rattle.fd_settle.specs.Settle.{End, Open, Settled, Limited, Undecidable, Settle}
-use Rattle.fd_settle.specs.declared.fault.SettleFault.{SettleFault}
-use Rattle.fd_settle.specs.declared.fault.SettleFault.TheVariants as settle
-use Rattle.fd_settle.specs.declared.round.Round.{Round}
+use Rattle.dss_commands.specs.dss_model.declared.command.Blame.{Blame}
+use Rattle.fd_daily.specs.fd_cert.Claims.{claim_in}
+use Rattle.fd_daily.specs.fd_cert.declared.rule.Rule.{Rule}
+use Rattle.fd_daily.specs.fd_cert.declared.rule.Rule.TheVariants as rule
+use Rattle.fd_daily.specs.fd_queue.Machine.{Act, Machine}
+use Rattle.fd_daily.specs.fd_settle.Calls.{AreCalls}
+use Rattle.fd_daily.specs.fd_settle.Contract.{CallsAs, EndsAs}
+use Rattle.fd_daily.specs.fd_settle.Rounds.{acts_in, claims_in, seen}
+use Rattle.fd_daily.specs.fd_settle.Settle.{End, Open, Settled, Limited, Undecidable, Settle}
+use Rattle.fd_daily.specs.fd_settle.declared.fault.SettleFault.{SettleFault}
+use Rattle.fd_daily.specs.fd_settle.declared.fault.SettleFault.TheVariants as settle
+use Rattle.fd_daily.specs.fd_settle.declared.round.Round.{Round}
 use Rattle.fd_certfile.specs.Blocks as blocks
 use Rattle.fd_certfile.specs.Certificates.{Certificate, ends, trails, refuses, gives}
 use Rattle.fd_certfile.specs.Judging.{judge_of}

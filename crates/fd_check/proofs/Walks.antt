@@ -4,15 +4,15 @@ use Rattle.std.specs.Prelude.{get_or, take, if◌then◌else◌}
 use Rattle.std.specs.Cmp.Lexicographic.{pointwise}
 use Rattle.std.proofs.lemmas.List.{append_assoc, append-nil, length-append}
 use Rattle.std.proofs.Math.Seq.{get_or-append_seam}
-use Rattle.fd_cert.specs.declared.rule.Rule.TheVariants as rule
-use Rattle.fd_pattern.specs.Views.{NetworkView}
-use Rattle.fd_enclosure.specs.Sound.{Claim}
-use Rattle.fd_queue.specs.Machine.{Act, Machine, Quiet, AtLimit, Acts, Setup, Step, step_of}
-use Rattle.fd_settle.specs.Calls.{AreCalls}
-use Rattle.fd_settle.specs.Plant.{Plant}
-use Rattle.fd_settle.specs.Rounds.{left_by}
-use Rattle.fd_settle.specs.Sampling.{Decided, Sampling, Unclear}
-use Rattle.fd_settle.specs.Settle.{End, Open, Settled, Limited, Undecidable, Outcome, Ends, Moves, Settle, before_rest, outcome_after, outcome_of, settle_of}
+use Rattle.fd_daily.specs.fd_cert.declared.rule.Rule.TheVariants as rule
+use Rattle.fd_daily.specs.fd_pattern.Views.{NetworkView}
+use Rattle.fd_daily.specs.fd_enclosure.Sound.{Claim}
+use Rattle.fd_daily.specs.fd_queue.Machine.{Act, Machine, Quiet, AtLimit, Acts, Setup, Step, step_of}
+use Rattle.fd_daily.specs.fd_settle.Calls.{AreCalls}
+use Rattle.fd_daily.specs.fd_settle.Plant.{Plant}
+use Rattle.fd_daily.specs.fd_settle.Rounds.{left_by}
+use Rattle.fd_daily.specs.fd_settle.Sampling.{Decided, Sampling, Unclear}
+use Rattle.fd_daily.specs.fd_settle.Settle.{End, Open, Settled, Limited, Undecidable, Outcome, Ends, Moves, Settle, before_rest, outcome_after, outcome_of, settle_of}
 use Rattle.fd_certfile.specs.Blocks.{Block}
 use Rattle.fd_certfile.specs.Blocks as blocks
 use Rattle.fd_certfile.specs.Laws.{CertificateLaw}
@@ -22,7 +22,7 @@ use Rattle.fd_certfile.specs.Solving.{GivesSolved, IsSolved}
 use Rattle.fd_certfile.specs.SolvingLaws.{GivenLaw, IsGiven, SolvingLaw}
 use Rattle.fd_certfile.specs.Verdict.{refused}
 use Rattle.fd_certfile.specs.declared.fault.CertFileFault.{CertFileFault}
-use Rattle.fd_queue.specs.Controls.{Positions}
+use Rattle.fd_daily.specs.fd_queue.Controls.{Positions}
 use Rattle.fd_daily.specs.Underway.{plant_at}
 use Rattle.fd_check.specs.Checking.{Settling, act_due, after, due, open_hours, open_solves, outcome_in, under_way}
 use Rattle.fd_check.specs.Comes.{Comes, Leads}

@@ -1,13 +1,13 @@
 -- How the check of a Solve goes from hour to hour.
 use Rattle.std.proofs.Common.{◌≡◌, ◌∙◌, ℕ, ◌+◌, List, [], ◌∷◌, Option, Result, Ok, Err, sym, ap, subst}
 use Rattle.std.specs.Prelude.{IfErr, IsSome, OnOk}
-use Rattle.dss_circuit.specs.Circuit.{CircuitView}
-use Rattle.fd_devices.specs.declared.fault.BuildFault.{BuildFault}
-use Rattle.fd_devices.specs.declared.fault.BuildFault.TheVariants as build_fault
-use Rattle.fd_devices.specs.declared.settings.Positions.{Positions as CodePositions}
-use Rattle.fd_queue.specs.Controls.{Positions}
-use Rattle.fd_sample.specs.Probes.{positions_in}
-use Rattle.fd_settle.specs.Plant.{started}
+use Rattle.dss_commands.specs.dss_circuit.Circuit.{CircuitView}
+use Rattle.fd_daily.specs.fd_devices.declared.fault.BuildFault.{BuildFault}
+use Rattle.fd_daily.specs.fd_devices.declared.fault.BuildFault.TheVariants as build_fault
+use Rattle.fd_daily.specs.fd_devices.declared.settings.Positions.{Positions as CodePositions}
+use Rattle.fd_daily.specs.fd_queue.Controls.{Positions}
+use Rattle.fd_daily.specs.fd_sample.Probes.{positions_in}
+use Rattle.fd_daily.specs.fd_settle.Plant.{started}
 use Rattle.fd_daily.specs.Day.{DayView, IsDayOf, hour_in, hours_left, no_openings}
 use Rattle.fd_daily.specs.Hours.{hours_of, time_of}
 use Rattle.fd_daily.specs.Underway.{IsRefusedAt, start_from}

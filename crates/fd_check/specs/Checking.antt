@@ -1,13 +1,13 @@
 -- What a script's Solves ask of a certificate, block by block.
 use Rattle.std.specs.Prelude.{ℕ, ◌+◌, pos, List, [], ◌∷◌, map, nat_abs, Option, Some, None}
-use Rattle.dss_model.specs.declared.command.Blame.{Blame}
-use Rattle.dss_circuit.specs.Circuit.{CircuitView}
-use Rattle.fd_queue.specs.Controls.{Positions}
-use Rattle.fd_queue.specs.Machine.{Act, Machine}
-use Rattle.fd_sample.specs.Decided.{sample_over}
-use Rattle.fd_settle.specs.Plant.{controls_in, setup_of, started}
-use Rattle.fd_settle.specs.Sampling.{Sampling, sampling_of}
-use Rattle.fd_settle.specs.Settle.{Open, Settled, Limited, Undecidable, Outcome, Ends, Moves, outcome_of}
+use Rattle.dss_commands.specs.dss_model.declared.command.Blame.{Blame}
+use Rattle.dss_commands.specs.dss_circuit.Circuit.{CircuitView}
+use Rattle.fd_daily.specs.fd_queue.Controls.{Positions}
+use Rattle.fd_daily.specs.fd_queue.Machine.{Act, Machine}
+use Rattle.fd_daily.specs.fd_sample.Decided.{sample_over}
+use Rattle.fd_daily.specs.fd_settle.Plant.{controls_in, setup_of, started}
+use Rattle.fd_daily.specs.fd_settle.Sampling.{Sampling, sampling_of}
+use Rattle.fd_daily.specs.fd_settle.Settle.{Open, Settled, Limited, Undecidable, Outcome, Ends, Moves, outcome_of}
 use Rattle.fd_daily.specs.Day.{no_openings}
 use Rattle.fd_daily.specs.Hours.{hours_of, time_of}
 use Rattle.fd_daily.specs.Underway.{plant_at, start_from}

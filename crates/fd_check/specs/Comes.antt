@@ -1,7 +1,7 @@
 -- What a certificate comes to from where a reader stands.
 use Rattle.std.specs.Prelude.{◌≡◌, List, length}
-use Rattle.dss_model.specs.declared.command.Blame.{Blame}
-use Rattle.dss_circuit.specs.Circuit.{CircuitView}
+use Rattle.dss_commands.specs.dss_model.declared.command.Blame.{Blame}
+use Rattle.dss_commands.specs.dss_circuit.Circuit.{CircuitView}
 use Rattle.fd_certfile.specs.Certificates.{Certificate, Reads}
 use Rattle.fd_certfile.specs.Reader.{ReaderView}
 use Rattle.fd_certfile.specs.Verdict.{Answer, refused, stopped, verdict}

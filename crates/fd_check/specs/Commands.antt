@@ -1,13 +1,13 @@
 -- A script's commands, each accepted by the circuit that those before it made.
 use Rattle.std.specs.Prelude.{ℕ, ◌<◌, ◌-◌, ◌^◌, List, [], ◌∷◌, ◌++◌, length, Result, Ok, Err}
-use Rattle.dss_circuit.specs.Circuit.{CircuitView}
+use Rattle.dss_commands.specs.dss_circuit.Circuit.{CircuitView}
 use Rattle.dss_commands.specs.Commands.{applied}
-use Rattle.dss_circuit.specs.Limits.{most_elements}
-use Rattle.dss_model.specs.declared.command.Command.{Command}
-use Rattle.dss_model.specs.declared.command.Verb.{Verb}
-use Rattle.dss_model.specs.declared.command.Verb.TheVariants as verb
-use Rattle.dss_ready.specs.Ready.{HasPassed}
-use Rattle.dss_model.specs.declared.fault.ModelFault.{ModelFault}
+use Rattle.dss_commands.specs.dss_circuit.Limits.{most_elements}
+use Rattle.dss_commands.specs.dss_model.declared.command.Command.{Command}
+use Rattle.dss_commands.specs.dss_model.declared.command.Verb.{Verb}
+use Rattle.dss_commands.specs.dss_model.declared.command.Verb.TheVariants as verb
+use Rattle.fd_daily.specs.dss_ready.Ready.{HasPassed}
+use Rattle.dss_commands.specs.dss_model.declared.fault.ModelFault.{ModelFault}
 
 -- the most Solves of a script; one of 1,048,576 bytes has fewer
 abbrev pub most_solves : ℕ

@@ -1,10 +1,10 @@
 -- The acts of an hour's blocks beside those of its rounds, and what the hour comes to.
 use Rattle.std.specs.Prelude.{ℕ, ◌-◌, List, [], ◌∷◌, length, map, take, Option, Some, None, Result, Ok, Err, if◌then◌else◌}
 use Rattle.std.specs.Cmp.Lexicographic.{pointwise}
-use Rattle.fd_cert.specs.declared.rule.Rule.TheVariants as rule
-use Rattle.fd_settle.specs.declared.fault.SettleFault.{SettleFault}
-use Rattle.fd_settle.specs.declared.fault.SettleFault.TheVariants as settle
-use Rattle.fd_settle.specs.declared.round.Round.{Round}
+use Rattle.fd_daily.specs.fd_cert.declared.rule.Rule.TheVariants as rule
+use Rattle.fd_daily.specs.fd_settle.declared.fault.SettleFault.{SettleFault}
+use Rattle.fd_daily.specs.fd_settle.declared.fault.SettleFault.TheVariants as settle
+use Rattle.fd_daily.specs.fd_settle.declared.round.Round.{Round}
 use Rattle.fd_certfile.specs.Blocks.{Act}
 use Rattle.fd_certfile.specs.Reader.{GivenBlock, ReaderView, given_at}
 use Rattle.fd_certfile.specs.Rounds.{act_of}

@@ -1,6 +1,6 @@
 -- Faults of what the check stands on, as its own.
-use Rattle.fd_devices.specs.declared.fault.BuildFault.{BuildFault}
-use Rattle.fd_devices.specs.declared.fault.BuildFault.TheVariants as build_fault
+use Rattle.fd_daily.specs.fd_devices.declared.fault.BuildFault.{BuildFault}
+use Rattle.fd_daily.specs.fd_devices.declared.fault.BuildFault.TheVariants as build_fault
 use Rattle.fd_certfile.specs.declared.fault.CertFileFault.{CertFileFault}
 use Rattle.fd_certfile.specs.declared.fault.CertFileFault.TheVariants as file
 use Rattle.fd_check.specs.declared.fault.CheckFault.{CheckFault}

@@ -1,7 +1,7 @@
 -- How many blocks a reader gave for an hour.
 use Rattle.std.specs.Prelude.{ℕ, ◌+◌, ◌≤◌, Result, Ok, Err}
-use Rattle.fd_settle.specs.declared.fault.SettleFault.{SettleFault}
-use Rattle.fd_settle.specs.declared.fault.SettleFault.TheVariants as settle
+use Rattle.fd_daily.specs.fd_settle.declared.fault.SettleFault.{SettleFault}
+use Rattle.fd_daily.specs.fd_settle.declared.fault.SettleFault.TheVariants as settle
 use Rattle.fd_certfile.specs.declared.fault.CertFileFault.{CertFileFault}
 use Rattle.fd_certfile.specs.declared.fault.CertFileFault.TheVariants as file
 

@@ -1,11 +1,11 @@
 -- Where the check of a script's Solves stands, as the code has it.
 use Rattle.std.specs.Prelude.{ℕ, List, ◌++◌}
-use Rattle.dss_circuit.specs.Circuit.{CircuitView, empty_circuit}
-use Rattle.dss_model.specs.declared.command.Command.{Command}
+use Rattle.dss_commands.specs.dss_circuit.Circuit.{CircuitView, empty_circuit}
+use Rattle.dss_commands.specs.dss_model.declared.command.Command.{Command}
 use Rattle.fd_daily.specs.Day.{DayView, begun_hour, hour_in, hours_left}
 use Rattle.fd_daily.specs.Underway.{no_positions}
-use Rattle.fd_devices.specs.declared.settings.Positions.{Positions as CodePositions}
-use Rattle.fd_sample.specs.Probes.{positions_in}
+use Rattle.fd_daily.specs.fd_devices.declared.settings.Positions.{Positions as CodePositions}
+use Rattle.fd_daily.specs.fd_sample.Probes.{positions_in}
 use Rattle.fd_check.specs.Checking.{Checking, Settling, open_hours, open_solves, under_way}
 use Rattle.fd_check.specs.Commands.{solves_in}
 

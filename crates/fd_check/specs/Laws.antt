@@ -1,6 +1,6 @@
 -- What it says of a certificate that it is accepted.
 use Rattle.std.specs.Prelude.{◌≡◌, ℕ, pos, List, None}
-use Rattle.fd_enclosure.specs.Sound.{IsSound}
+use Rattle.fd_daily.specs.fd_enclosure.Sound.{IsSound}
 use Rattle.fd_certfile.specs.Blocks.{Block}
 use Rattle.fd_certfile.specs.declared.version.Version.{Version}
 use Rattle.fd_certfile.specs.Certificates.{Certificate, ends, trails, refuses, gives, Reads}

@@ -5,9 +5,8 @@ ghost use Rattle.fd_check.specs.Given.{AreGiven};
 ghost use Rattle.fd_check.specs.declared.fault.CheckFault.TheVariants.{Refused};
 
 use crate::fault::CheckFault;
-use fd_cert::Rule;
 use fd_certfile::{CertFileFault, CertReader};
-use fd_settle::{Round, SettleFault};
+use fd_daily::{Round, Rule, SettleFault};
 
 // Whether the blocks from one on claim the acts of these rounds; else the rule, at the line of the first that doesn't.
 fn compare(reader: &CertReader<'_>, first: u64, rounds: &[Round]) -> Result<(), CheckFault>

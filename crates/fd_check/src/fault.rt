@@ -1,8 +1,7 @@
 // Why the check of a Solve ends.
-use dss_model::Blame;
-use fd_cert::Rule;
+use dss_commands::Blame;
 use fd_certfile::CertFileFault;
-use fd_devices::BuildFault;
+use fd_daily::{BuildFault, Rule};
 use std::alloc::AllocError;
 
 /// Why a certificate isn't accepted.

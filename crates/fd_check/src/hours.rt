@@ -1,19 +1,18 @@
 // The hours of a Solve, each settled with the states that the certificate claims.
 ghost use Rattle.std.specs.Prelude.{ℕ, ◌+◌, ◌^◌, ◌<◌, ◌≤◌, [], ◌∷◌, All, IfErr, List, OnOk};
-ghost use Rattle.dss_ready.specs.Ready.{HasPassed};
-ghost use Rattle.fd_xfmr.specs.Leakage.{AreTaps};
-ghost use Rattle.fd_sample.specs.Probes.{positions_in};
-ghost use Rattle.fd_settle.specs.Start.{ArePositions};
+ghost use Rattle.fd_daily.specs.dss_ready.Ready.{HasPassed};
+ghost use Rattle.fd_daily.specs.fd_xfmr.Leakage.{AreTaps};
+ghost use Rattle.fd_daily.specs.fd_sample.Probes.{positions_in};
+ghost use Rattle.fd_daily.specs.fd_settle.Start.{ArePositions};
 ghost use Rattle.fd_daily.specs.Underway.{IsLeftBehind, IsUnderway};
 ghost use Rattle.fd_check.specs.Comes.{LeadsForAll, TellsForAll};
 ghost use Rattle.fd_check.specs.Hours.{behind_hour, hour_open, hours_open, solves_open};
 
 use crate::compare::judge_hour;
 use crate::fault::CheckFault;
-use dss_circuit::Circuit;
+use dss_commands::Circuit;
 use fd_certfile::{CertReader, certificate_law};
-use fd_daily::{Underway, daily_run};
-use fd_devices::Positions;
+use fd_daily::{Positions, Underway, daily_run};
 use std::alloc::Global;
 
 /// Checks the blocks of one Solve, hour by hour, on the networks of a circuit that passed the tests of Solve; the Solve

@@ -24,3 +24,10 @@ mod script;
 pub use fault::CheckFault;
 pub use laws::accepted_law;
 pub use script::check_script;
+
+// Handed on from the crates below.
+pub use dss_commands::{Circuit, Command, Text, limits_law};
+pub use fd_certfile::{Found, LibFault, Library, Sink, certificate_law, rule_law};
+pub use fd_daily::{
+    Rule, enclosure_law, hours_law, kept_law, modest_law, next_law, passed_law, sound_at_law,
+};

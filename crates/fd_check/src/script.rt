@@ -1,9 +1,9 @@
 // A certificate over the Solves of a script.
 ghost use Rattle.std.specs.Prelude.{◌≡◌, ◌+◌, ◌*◌, [], ◌<◌, ◌≤◌, ◌^◌, All, IfErr, IfOk, Ok, OnOk, Some, length};
 ghost use Rattle.dss_commands.specs.Commands.{applied};
-ghost use Rattle.dss_circuit.specs.Circuit.{empty_circuit};
+ghost use Rattle.dss_commands.specs.dss_circuit.Circuit.{empty_circuit};
 ghost use Rattle.fd_certfile.specs.Verdict.{IsAnswer, accepted};
-ghost use Rattle.fd_xfmr.specs.Leakage.{AreTaps};
+ghost use Rattle.fd_daily.specs.fd_xfmr.Leakage.{AreTaps};
 ghost use Rattle.fd_check.specs.Checking.{after, due};
 ghost use Rattle.fd_check.specs.Comes.{Comes, LeadsForAll, Tells, TellsForAll};
 ghost use Rattle.fd_check.specs.Commands.{AreAccepted, HasRoom, IsAcceptedBy, behind_one, most_solves, solve_in, solves_in};
@@ -12,11 +12,9 @@ ghost use Rattle.fd_check.specs.Hours.{script_open, solves_open};
 use crate::ending::check_end;
 use crate::fault::CheckFault;
 use crate::hours::check_solve;
-use dss_circuit::Circuit;
-use dss_commands::apply;
-use dss_model::{Command, Verb};
+use dss_commands::{Circuit, Command, Verb, apply};
 use fd_certfile::CertReader;
-use fd_devices::{BankStates, Positions, Taps};
+use fd_daily::{BankStates, Positions, Taps};
 use std::alloc::Global;
 
 /// Checks a certificate over the Solves of a script, whose commands these are in order; and gives the number of its blocks

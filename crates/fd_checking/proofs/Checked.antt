@@ -1,15 +1,15 @@
 -- What it says of a certificate that `check` ends without a fault.
 use Rattle.std.proofs.Common.{◌≡◌, ◌∙◌, ℕ, List, Option, Some, None, refl, sym, ap}
-use Rattle.dss_circuit.specs.Circuit.{CircuitView}
-use Rattle.dss_model.specs.declared.command.Blame.{Blame}
-use Rattle.fd_check.specs.Underway.{no_positions}
-use Rattle.fd_certfile.specs.declared.version.Version.{Version}
-use Rattle.fd_certfile.specs.Certificates.{behind_first, version_in}
-use Rattle.fd_certfile.specs.Lines.{lines_of}
-use Rattle.fd_certfile.specs.Verdict.{Answer, IsAnswer, IsAnswerBy, accepted, refused, stopped}
+use Rattle.fd_check.specs.dss_circuit.Circuit.{CircuitView}
+use Rattle.fd_check.specs.dss_model.declared.command.Blame.{Blame}
+use Rattle.fd_check.specs.fd_daily.Underway.{no_positions}
+use Rattle.fd_check.specs.fd_certfile.declared.version.Version.{Version}
+use Rattle.fd_check.specs.fd_certfile.Certificates.{behind_first, version_in}
+use Rattle.fd_check.specs.fd_certfile.Lines.{lines_of}
+use Rattle.fd_check.specs.fd_certfile.Verdict.{Answer, IsAnswer, IsAnswerBy, accepted, refused, stopped}
 use Rattle.fd_check.specs.Checking.{after, due, open_solves}
 use Rattle.fd_check.specs.Laws.{AcceptedLaw}
-use Rattle.fd_outcome.specs.Events.{History}
+use Rattle.fd_solving.specs.fd_outcome.Events.{History}
 use Rattle.fd_checking.specs.Checks.{CheckedLaw, IsFoundOf, IsOfSolves, judged_as}
 
 of_version : AcceptedLaw → (solved : List CircuitView) (bytes : List ℕ) (n : ℕ) (v : Option Version)

@@ -2,28 +2,28 @@
 use Rattle.std.proofs.Common.{◌≡◌, ◌∙◌, ◌+◌, ◌≤◌, ℕ, List, [], ◌∷◌, ◌++◌, length, Option, Some, None, Result, Ok, Err, refl, sym, ap, subst, arith}
 use Rattle.std.specs.Str.{chars}
 use Rattle.std.proofs.lemmas.List.{append-nil, append_assoc, length-append}
-use Rattle.fd_outside.specs.Files.{Files, held}
-use Rattle.dss_model.specs.Names.{bytes}
-use Rattle.dss_circuit.specs.Circuit.{CircuitView, empty_circuit}
-use Rattle.dss_commands.specs.Commands.{applied}
-use Rattle.dss_model.specs.declared.command.Blame.{Blame}
-use Rattle.dss_model.specs.declared.command.Command.{Command}
-use Rattle.dss_model.specs.declared.command.Place.{Place}
-use Rattle.dss_model.specs.declared.command.Verb.{Verb}
-use Rattle.dss_model.specs.declared.command.Verb.TheVariants as verb
-use Rattle.dss_ready.specs.Ready.{HasPassed}
-use Rattle.dss_model.specs.declared.fault.ModelFault.{ModelFault}
-use Rattle.dss_script.specs.Said.{ended_by, said_of}
-use Rattle.dss_script.specs.Sessions.{cost}
-use Rattle.fd_check.specs.Underway.{no_positions}
-use Rattle.fd_certfile.proofs.CallerLemmas.{answers_law}
+use Rattle.fd_check.specs.fd_outside.Files.{Files, held}
+use Rattle.fd_check.specs.dss_model.Names.{bytes}
+use Rattle.fd_check.specs.dss_circuit.Circuit.{CircuitView, empty_circuit}
+use Rattle.fd_check.specs.dss_commands.Commands.{applied}
+use Rattle.fd_check.specs.dss_model.declared.command.Blame.{Blame}
+use Rattle.fd_check.specs.dss_model.declared.command.Command.{Command}
+use Rattle.fd_check.specs.dss_model.declared.command.Place.{Place}
+use Rattle.fd_check.specs.dss_model.declared.command.Verb.{Verb}
+use Rattle.fd_check.specs.dss_model.declared.command.Verb.TheVariants as verb
+use Rattle.fd_check.specs.dss_ready.Ready.{HasPassed}
+use Rattle.fd_check.specs.dss_model.declared.fault.ModelFault.{ModelFault}
+use Rattle.fd_solving.specs.dss_script.Said.{ended_by, said_of}
+use Rattle.fd_solving.specs.dss_script.Sessions.{cost}
+use Rattle.fd_check.specs.fd_daily.Underway.{no_positions}
+use Rattle.fd_check.proofs.CallerLemmas.fd_certfile.{answers_law}
 use Rattle.fd_check.specs.Checking.{after, due, open_solves}
 use Rattle.fd_check.specs.Commands.{AreAccepted, HasRoom, IsAcceptedBy, behind_all, behind_one, circuit_by, solve_by, solve_in, solves_in}
-use Rattle.fd_report.specs.declared.faults.Cause.TheVariants as cause
-use Rattle.fd_report.specs.declared.faults.Fault.{Fault}
-use Rattle.fd_report.specs.declared.faults.Fault.TheVariants as fault
-use Rattle.fd_outcome.specs.Work.{ExactlyOne, ends, goes}
-use Rattle.fd_outcome.proofs.CallerLemmas.{exactly_one_history, exactly_this}
+use Rattle.fd_solving.specs.fd_report.declared.faults.Cause.TheVariants as cause
+use Rattle.fd_solving.specs.fd_report.declared.faults.Fault.{Fault}
+use Rattle.fd_solving.specs.fd_report.declared.faults.Fault.TheVariants as fault
+use Rattle.fd_solving.specs.fd_outcome.Work.{ExactlyOne, ends, goes}
+use Rattle.fd_solving.proofs.CallerLemmas.fd_outcome.{exactly_one_history, exactly_this}
 use Rattle.fd_solving.specs.Answered.{IsAnswered, IsOfCommand, IsRefusal, solve_count}
 use Rattle.fd_solving.specs.Commands.{Applied, bases_left, left_of, nothing_left, refused_at, solve_left, tried}
 use Rattle.fd_solving.specs.Weights.{weight}

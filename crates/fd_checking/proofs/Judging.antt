@@ -1,34 +1,34 @@
 -- What `check` does behind the last command.
 use Rattle.std.proofs.Common.{◌≡◌, ◌∙◌, ℕ, Bool, true, false, List, [], ◌∷◌, ◌++◌, Option, Some, None, Result, Ok, Err, refl, sym, ap, subst, arith}
 use Rattle.std.specs.Prelude.{IfErr, IfOk}
-use Rattle.fd_outside.specs.Answers.{Agrees, Answer, EndsFailed, HasFailed, IsLater, Reply, absent, answered, content, failed, names_asked}
-use Rattle.fd_outside.specs.Causes.{Rose}
-use Rattle.fd_outside.specs.Files.{AnswersHeld, Files, held}
-use Rattle.fd_outside.proofs.CallerLemmas.{names_behind}
-use Rattle.fd_outside.specs.declared.library.Found.{Found}
-use Rattle.fd_outside.specs.declared.library.Found.TheVariants as was
-use Rattle.fd_outside.specs.declared.library.LibFault.{LibFault}
-use Rattle.fd_outside.specs.declared.library.LibFault.TheVariants as lib_fault
-use Rattle.dss_model.specs.Names.{bytes}
-use Rattle.dss_script.specs.Said.{Part, ended_by}
-use Rattle.dss_script.specs.Sessions.{found_bytes}
-use Rattle.dss_model.specs.declared.command.Blame.{Blame}
-use Rattle.fd_check.specs.Underway.{no_positions}
-use Rattle.fd_certfile.specs.Verdict.{Answer as Verdict, IsAnswer, accepted, refused, stopped}
+use Rattle.fd_check.specs.fd_outside.Answers.{Agrees, Answer, EndsFailed, HasFailed, IsLater, Reply, absent, answered, content, failed, names_asked}
+use Rattle.fd_check.specs.fd_outside.Causes.{Rose}
+use Rattle.fd_check.specs.fd_outside.Files.{AnswersHeld, Files, held}
+use Rattle.fd_check.proofs.CallerLemmas.fd_outside.{names_behind}
+use Rattle.fd_check.specs.fd_outside.declared.library.Found.{Found}
+use Rattle.fd_check.specs.fd_outside.declared.library.Found.TheVariants as was
+use Rattle.fd_check.specs.fd_outside.declared.library.LibFault.{LibFault}
+use Rattle.fd_check.specs.fd_outside.declared.library.LibFault.TheVariants as lib_fault
+use Rattle.fd_check.specs.dss_model.Names.{bytes}
+use Rattle.fd_solving.specs.dss_script.Said.{Part, ended_by}
+use Rattle.fd_solving.specs.dss_script.Sessions.{found_bytes}
+use Rattle.fd_check.specs.dss_model.declared.command.Blame.{Blame}
+use Rattle.fd_check.specs.fd_daily.Underway.{no_positions}
+use Rattle.fd_check.specs.fd_certfile.Verdict.{Answer as Verdict, IsAnswer, accepted, refused, stopped}
 use Rattle.fd_check.specs.Checking.{after, due, open_solves}
 use Rattle.fd_check.specs.Comes.{Tells as Told}
-use Rattle.fd_cert.specs.declared.rule.Rule.TheVariants as rule
+use Rattle.fd_check.specs.fd_cert.declared.rule.Rule.TheVariants as rule
 use Rattle.fd_check.specs.declared.fault.CheckFault.{CheckFault}
 use Rattle.fd_check.specs.declared.fault.CheckFault.TheVariants as check
-use Rattle.fd_report.specs.declared.faults.Cause.TheVariants as cause
-use Rattle.fd_report.specs.declared.faults.Fault.TheVariants as fault
-use Rattle.fd_outcome.specs.Calls.{Call, body, calls_of, doing, report}
-use Rattle.fd_outcome.specs.Behind.{TellsEnd, last_calls}
-use Rattle.fd_outcome.specs.Events.{History, asked, before}
-use Rattle.fd_outcome.specs.History.{IsLast}
-use Rattle.fd_outcome.specs.Parts.{Finishes, Printed, fault_doing}
-use Rattle.fd_outcome.specs.Untold.{IsUntold}
-use Rattle.fd_outcome.proofs.CallerLemmas.{IsToldBy, cut_before, fault_answers, finishes_asked, finishes_short, finishes_unread, shown_nothing, told_history, untold_fault, untold_finished, untold_last, untold_read, untold_short}
+use Rattle.fd_solving.specs.fd_report.declared.faults.Cause.TheVariants as cause
+use Rattle.fd_solving.specs.fd_report.declared.faults.Fault.TheVariants as fault
+use Rattle.fd_solving.specs.fd_outcome.Calls.{Call, body, calls_of, doing, report}
+use Rattle.fd_solving.specs.fd_outcome.Behind.{TellsEnd, last_calls}
+use Rattle.fd_solving.specs.fd_outcome.Events.{History, asked, before}
+use Rattle.fd_solving.specs.fd_outcome.History.{IsLast}
+use Rattle.fd_solving.specs.fd_outcome.Parts.{Finishes, Printed, fault_doing}
+use Rattle.fd_solving.specs.fd_outcome.Untold.{IsUntold}
+use Rattle.fd_solving.proofs.CallerLemmas.fd_outcome.{IsToldBy, cut_before, fault_answers, finishes_asked, finishes_short, finishes_unread, shown_nothing, told_history, untold_fault, untold_finished, untold_last, untold_read, untold_short}
 use Rattle.fd_checking.specs.Checks.{GatheredView, IsCheckHistory, IsCheckStep, IsJudged, certificate_name, first_gathered, judged_as}
 use Rattle.fd_checking.specs.Judged.{IsAnsweredSo, IsJudgedBy, IsOfCheck, history_in}
 use Rattle.fd_checking.specs.declared.judged.Judged.{Judged}

@@ -1,25 +1,25 @@
 -- What the command line `check SCRIPT CERTIFICATE` comes to: a script's commands are gathered, and behind the last of
 -- them the certificate is judged.
 use Rattle.std.specs.Prelude.{◌≡◌, ℕ, List, [], ◌∷◌, ◌++◌, Option, Some, None, Result, Ok, Err}
-use Rattle.fd_outside.specs.Files.{Files, held}
-use Rattle.dss_model.specs.Names.{bytes}
-use Rattle.dss_script.specs.Said.{Part, ended_by}
-use Rattle.dss_model.specs.declared.command.Blame.{Blame}
-use Rattle.dss_model.specs.declared.command.Command.{Command}
-use Rattle.dss_circuit.specs.Circuit.{CircuitView, empty_circuit}
-use Rattle.fd_check.specs.Underway.{no_positions}
-use Rattle.fd_certfile.specs.declared.version.Version.{Version}
-use Rattle.fd_certfile.specs.Certificates.{Certificate, Reads, behind_first, version_in}
-use Rattle.fd_certfile.specs.Lines.{lines_of}
-use Rattle.fd_certfile.specs.Verdict.{Answer, IsAnswer, accepted, refused, stopped}
+use Rattle.fd_check.specs.fd_outside.Files.{Files, held}
+use Rattle.fd_check.specs.dss_model.Names.{bytes}
+use Rattle.fd_solving.specs.dss_script.Said.{Part, ended_by}
+use Rattle.fd_check.specs.dss_model.declared.command.Blame.{Blame}
+use Rattle.fd_check.specs.dss_model.declared.command.Command.{Command}
+use Rattle.fd_check.specs.dss_circuit.Circuit.{CircuitView, empty_circuit}
+use Rattle.fd_check.specs.fd_daily.Underway.{no_positions}
+use Rattle.fd_check.specs.fd_certfile.declared.version.Version.{Version}
+use Rattle.fd_check.specs.fd_certfile.Certificates.{Certificate, Reads, behind_first, version_in}
+use Rattle.fd_check.specs.fd_certfile.Lines.{lines_of}
+use Rattle.fd_check.specs.fd_certfile.Verdict.{Answer, IsAnswer, accepted, refused, stopped}
 use Rattle.fd_check.specs.Checking.{after, due, open_solves}
 use Rattle.fd_check.specs.Laws.{AreOfRounds}
-use Rattle.fd_report.specs.Accepted.{accepted_fields}
-use Rattle.fd_report.specs.declared.faults.Cause.TheVariants as cause
-use Rattle.fd_report.specs.declared.faults.Fault.TheVariants as fault
-use Rattle.fd_outcome.specs.Events.{History, ended, finishes, row}
-use Rattle.fd_outcome.specs.History.{IsHistory}
-use Rattle.fd_outcome.specs.Work.{Step, ends, goes}
+use Rattle.fd_solving.specs.fd_report.Accepted.{accepted_fields}
+use Rattle.fd_solving.specs.fd_report.declared.faults.Cause.TheVariants as cause
+use Rattle.fd_solving.specs.fd_report.declared.faults.Fault.TheVariants as fault
+use Rattle.fd_solving.specs.fd_outcome.Events.{History, ended, finishes, row}
+use Rattle.fd_solving.specs.fd_outcome.History.{IsHistory}
+use Rattle.fd_solving.specs.fd_outcome.Work.{Step, ends, goes}
 use Rattle.fd_solving.specs.Commands.{Applied, IsTested, bases_left, nothing_left, refused_at, solve_left, tried}
 
 -- between two commands: the circuit, the circuits of the Solves so far, each as it was then, and the name of the

@@ -1,11 +1,11 @@
 -- What `check` holds of a script is what its commands made.
 use Rattle.std.specs.Prelude.{◌≡◌, ℕ, ◌+◌, ◌≤◌, List, [], ◌∷◌, ◌++◌, length, Option, Some, None}
-use Rattle.dss_circuit.specs.Circuit.{CircuitView, empty_circuit}
-use Rattle.dss_model.specs.declared.command.Command.{Command}
-use Rattle.dss_script.specs.Sessions.{cost}
+use Rattle.fd_check.specs.dss_circuit.Circuit.{CircuitView, empty_circuit}
+use Rattle.fd_check.specs.dss_model.declared.command.Command.{Command}
+use Rattle.fd_solving.specs.dss_script.Sessions.{cost}
 use Rattle.fd_check.specs.Commands.{AreAccepted, behind_all, solves_in}
-use Rattle.fd_report.specs.declared.faults.Fault.{Fault}
-use Rattle.fd_outcome.specs.Work.{Step, ends, goes}
+use Rattle.fd_solving.specs.fd_report.declared.faults.Fault.{Fault}
+use Rattle.fd_solving.specs.fd_outcome.Work.{Step, ends, goes}
 use Rattle.fd_solving.specs.Answered.{IsOfCommand}
 use Rattle.fd_solving.specs.Weights.{weight}
 use Rattle.fd_checking.specs.Checks.{GatheredView, IsCheckStep, gathered}

@@ -2,12 +2,12 @@
 use Rattle.std.specs.Prelude.{◌≡◌, ℕ, true, List, [], ◌∷◌, Option, Result, Ok, Err}
 use Rattle.fd_check.specs.declared.fault.CheckFault.{CheckFault}
 use Rattle.fd_check.specs.declared.fault.CheckFault.TheVariants as check
-use Rattle.fd_report.specs.Accepted.{accepted_fields}
-use Rattle.fd_report.specs.declared.faults.Cause.TheVariants as cause
-use Rattle.fd_report.specs.declared.faults.Fault.TheVariants as fault
-use Rattle.fd_outcome.specs.Events.{History, ended, finishes, row}
-use Rattle.fd_outcome.specs.Calls.{doing, report}
-use Rattle.fd_outcome.specs.Parts.{Printed}
+use Rattle.fd_solving.specs.fd_report.Accepted.{accepted_fields}
+use Rattle.fd_solving.specs.fd_report.declared.faults.Cause.TheVariants as cause
+use Rattle.fd_solving.specs.fd_report.declared.faults.Fault.TheVariants as fault
+use Rattle.fd_solving.specs.fd_outcome.Events.{History, ended, finishes, row}
+use Rattle.fd_solving.specs.fd_outcome.Calls.{doing, report}
+use Rattle.fd_solving.specs.fd_outcome.Parts.{Printed}
 use Rattle.fd_solving.specs.Answered.{IsOfCommand}
 use Rattle.fd_checking.specs.Checks.{GatheredView, IsJudged}
 use Rattle.fd_checking.specs.declared.judged.Judged.{Judged}

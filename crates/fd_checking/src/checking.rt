@@ -1,30 +1,27 @@
 // The command line `check SCRIPT CERTIFICATE`.
 ghost use Rattle.std.specs.Prelude.{◌≡◌, ◌+◌, ◌≤◌, [], IfOk, None, true};
 ghost use Rattle.std.specs.Str.{chars};
-ghost use Rattle.dss_circuit.specs.Circuit.{empty_circuit};
-ghost use Rattle.fd_outside.specs.Answers.{AgreesSince};
-ghost use Rattle.fd_outside.specs.Causes.{Rose};
-ghost use Rattle.fd_outside.specs.Files.{Files};
-ghost use Rattle.fd_report.specs.declared.faults.Fault.TheVariants.{Read};
-ghost use Rattle.fd_outcome.specs.Parts.{Printed, fault_doing};
-ghost use Rattle.dss_script.specs.Said.{said_of};
-ghost use Rattle.dss_script.specs.Sessions.{cost};
-ghost use Rattle.fd_outcome.specs.Calls.{report};
-ghost use Rattle.fd_outcome.specs.Runs.{Runs};
-ghost use Rattle.fd_outcome.specs.Untold.{IsUntold};
+ghost use Rattle.fd_check.specs.dss_circuit.Circuit.{empty_circuit};
+ghost use Rattle.fd_check.specs.fd_outside.Answers.{AgreesSince};
+ghost use Rattle.fd_check.specs.fd_outside.Causes.{Rose};
+ghost use Rattle.fd_check.specs.fd_outside.Files.{Files};
+ghost use Rattle.fd_solving.specs.fd_report.declared.faults.Fault.TheVariants.{Read};
+ghost use Rattle.fd_solving.specs.fd_outcome.Parts.{Printed, fault_doing};
+ghost use Rattle.fd_solving.specs.dss_script.Said.{said_of};
+ghost use Rattle.fd_solving.specs.dss_script.Sessions.{cost};
+ghost use Rattle.fd_solving.specs.fd_outcome.Calls.{report};
+ghost use Rattle.fd_solving.specs.fd_outcome.Runs.{Runs};
+ghost use Rattle.fd_solving.specs.fd_outcome.Untold.{IsUntold};
 ghost use Rattle.fd_solving.specs.Weights.{weight};
 ghost use Rattle.fd_checking.specs.Checks.{IsCheckHistory, IsCheckStep, IsJudged, certificate_name};
 ghost use Rattle.fd_checking.specs.Gathered.{IsFollowed, IsGathered, IsKeptWith};
 
 use crate::gathered::Gathered;
 use crate::judged::answer_found;
-use dss_circuit::Circuit;
-use dss_lexer::Text;
-use dss_model::Command;
-use dss_script::{Session, said_law};
-use fd_outside::{LibFault, Library, Sink};
-use fd_report::Fault;
-use fd_solving::{Answer, Line, WANT_OF_MEMORY, answer_to, print_fault, run_script};
+use fd_check::{Circuit, Command, LibFault, Library, Sink, Text};
+use fd_solving::{
+    Answer, Fault, Line, Session, WANT_OF_MEMORY, answer_to, print_fault, run_script, said_law,
+};
 use std::alloc::{AllocError, Global};
 
 // Keeps a command that was accepted.

@@ -3,9 +3,7 @@ ghost use Rattle.std.specs.Prelude.{◌≡◌, IfOk};
 ghost use Rattle.std.specs.Str.{chars};
 ghost use Rattle.fd_checking.specs.Checks.{first_gathered};
 
-use dss_circuit::Circuit;
-use dss_lexer::Text;
-use dss_model::Command;
+use fd_check::{Circuit, Command, Text};
 use std::alloc::{AllocError, Global};
 use std::marker::Model;
 

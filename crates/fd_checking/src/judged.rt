@@ -1,21 +1,17 @@
 // What the certificate of `check` comes to.
 ghost use Rattle.std.specs.Prelude.{◌≡◌, ◌≤◌, IfOk, List, length, true, ℕ};
-ghost use Rattle.dss_circuit.specs.Circuit.{CircuitView, empty_circuit};
-ghost use Rattle.dss_script.specs.Sessions.{found_bytes};
+ghost use Rattle.fd_check.specs.dss_circuit.Circuit.{CircuitView, empty_circuit};
+ghost use Rattle.fd_solving.specs.dss_script.Sessions.{found_bytes};
 ghost use Rattle.fd_check.specs.Commands.{AreAccepted, most_solves};
-ghost use Rattle.fd_outcome.specs.Calls.{doing, report};
-ghost use Rattle.fd_outcome.specs.Parts.{Printed};
-ghost use Rattle.fd_outside.specs.Causes.{Rose};
+ghost use Rattle.fd_solving.specs.fd_outcome.Calls.{doing, report};
+ghost use Rattle.fd_solving.specs.fd_outcome.Parts.{Printed};
+ghost use Rattle.fd_check.specs.fd_outside.Causes.{Rose};
 ghost use Rattle.fd_checking.specs.Checks.{IsJudged, gathered};
 ghost use Rattle.fd_checking.specs.Gathered.{solved_by};
 ghost use Rattle.fd_checking.specs.Judged.{IsAnsweredSo, IsJudgedBy, IsOfCheck, history_in};
 
-use dss_model::Command;
-use fd_cert::Rule;
-use fd_check::{CheckFault, check_script};
-use fd_outside::{Found, Sink};
-use fd_report::{Cause, Fault, accepted_record};
-use fd_solving::{WANT_OF_MEMORY, print_end, print_fault};
+use fd_check::{CheckFault, Command, Found, Rule, Sink, check_script};
+use fd_solving::{Cause, Fault, WANT_OF_MEMORY, accepted_record, print_end, print_fault};
 use std::alloc::{AllocError, Global};
 
 // A certificate is accepted, with so many blocks, or the run ends with a fault.

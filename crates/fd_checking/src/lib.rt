@@ -18,3 +18,13 @@ mod laws;
 
 pub use checking::check;
 pub use laws::checked_law;
+
+// Handed on from the crates below.
+pub use fd_check::{
+    certificate_law, enclosure_law, hours_law, kept_law, limits_law, modest_law, next_law,
+    passed_law, rule_law, sound_at_law,
+};
+pub use fd_solving::{
+    Certificate, Fault, Report, WANT_OF_MEMORY, print_fault, read_law, said_room_law, solve,
+    solved_law, status_law,
+};

@@ -1,7 +1,7 @@
 -- The opening times with which a Solve starts.
 use Rattle.std.proofs.Common.{◌≡◌, ◌∙◌, ℕ, List, ◌∷◌, ◌++◌, replicate, Option, None, ap, sym, append_assoc}
 use Rattle.std.proofs.lemmas.List.{replicate-append-replicate}
-use Rattle.fd_exact.specs.Sums.{list_n}
+use Rattle.fd_settle.specs.fd_exact.Sums.{list_n}
 
 -- those of an element, and those of the elements that are left behind it
 pub banks_kept : {E : Type 0} (f : E → ℕ) (opened new all : List (Option ℕ)) (es rest : List E) (e : E) → es ≡ e ∷ rest

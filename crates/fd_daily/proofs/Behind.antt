@@ -2,7 +2,7 @@
 use Rattle.std.proofs.Common.{◌≡◌, ◌∙◌, ℕ, ◌+◌, ◌-◌, Bool, true, false, List, ◌∷◌, Option, Some, None, refl, sym, ap, arith}
 use Rattle.std.specs.Prelude.{IsSome, if◌then◌else◌, nat_lt}
 use Rattle.std.specs.List.{range_with_len}
-use Rattle.dss_circuit.specs.Circuit.{CircuitView}
+use Rattle.fd_settings.specs.dss_circuit.Circuit.{CircuitView}
 use Rattle.fd_daily.specs.Day.{DayView, IsDayOf, hour_in, hour_kept, hours_done, hours_left}
 use Rattle.fd_daily.specs.Hours.{hour_after, hours_from}
 use Rattle.fd_daily.proofs.CallerLemmas.{next_first}

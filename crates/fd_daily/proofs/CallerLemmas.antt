@@ -4,13 +4,20 @@ use Rattle.std.specs.Prelude.{IfSome, IsSome, is_none}
 use Rattle.std.specs.List.{AllByRecursion, range_with_len}
 use Rattle.std.specs.Option.{unwrap_or}
 use Rattle.std.proofs.lemmas.List.FromFn.{length-range_with_len}
-use Rattle.dss_circuit.specs.Circuit.{CircuitView}
-use Rattle.dss_model.specs.InRange.{OptionsInRange}
-use Rattle.dss_model.specs.declared.options.Options.{Options}
-use Rattle.dss_model.specs.declared.words.Mode.{Mode}
-use Rattle.dss_model.specs.declared.words.Mode.TheVariants as mode
+use Rattle.fd_settings.specs.dss_circuit.Circuit.{CircuitView}
+use Rattle.fd_settings.specs.dss_model.InRange.{OptionsInRange}
+use Rattle.fd_settings.specs.dss_model.declared.options.Options.{Options}
+use Rattle.fd_settings.specs.dss_model.declared.words.Mode.{Mode}
+use Rattle.fd_settings.specs.dss_model.declared.words.Mode.TheVariants as mode
 use Rattle.fd_daily.specs.Day.{DayView, IsDayOf, hour_in, hours_left}
 use Rattle.fd_daily.specs.Hours.{AreHours, hours_from, hours_in, hours_of}
+pub use Rattle.fd_settle.proofs.CallerLemmas.dss_ready as dss_ready
+pub use Rattle.fd_settle.proofs.CallerLemmas.fd_equations as fd_equations
+pub use Rattle.fd_settle.proofs.CallerLemmas.fd_inverse as fd_inverse
+pub use Rattle.fd_settle.proofs.CallerLemmas.fd_inject as fd_inject
+pub use Rattle.fd_settle.proofs.CallerLemmas.fd_enclosure as fd_enclosure
+pub use Rattle.fd_settle.proofs.CallerLemmas.fd_sample as fd_sample
+pub use Rattle.fd_settle.proofs.CallerLemmas as fd_settle
 
 hours_more : (k last : ℕ) → k ≤ last → hours_from (Some k) last ≡ k ∷ range_with_len (k + 1) (last - k)
 hours_more k last h = let more : last + 1 - k ≡ suc (last - k) = omega (arith, h) in ap (range_with_len k) more

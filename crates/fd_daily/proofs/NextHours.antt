@@ -1,7 +1,7 @@
 -- A run goes on hour by hour.
 use Rattle.std.proofs.Common.{◌≡◌, Bool, true, false, cond, List, [], ◌∷◌, ◌++◌, length, IsTrue, refl, ap, sym, ◌∙◌, arith}
-use Rattle.fd_queue.specs.Controls.{Positions}
-use Rattle.fd_queue.specs.Machine.{Machine}
+use Rattle.fd_settle.specs.fd_queue.Controls.{Positions}
+use Rattle.fd_settle.specs.fd_queue.Machine.{Machine}
 use Rattle.fd_settle.specs.Sampling.{Sampling}
 use Rattle.fd_settle.specs.Settle.{Settle, settle_of}
 use Rattle.fd_daily.specs.Run.{AreWell, Hour, is_settled, left_by_run, run_of}

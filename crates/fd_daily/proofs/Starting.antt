@@ -1,24 +1,24 @@
 -- The positions and the network with which an hour starts.
 use Rattle.std.proofs.Common.{◌≡◌, ◌∙◌, ℕ, List, ◌∷◌, None, ap, length, refl, sym, subst}
 use Rattle.std.specs.Prelude.{All}
-use Rattle.dss_model.specs.InRange.{ElementInRange}
-use Rattle.dss_circuit.specs.Circuit.{CircuitView}
-use Rattle.fd_elements.specs.declared.powers.LoadPower.{LoadPower}
-use Rattle.fd_pattern.specs.Views.{NetworkView}
-use Rattle.fd_devices.specs.Devices.{AgreesWith}
+use Rattle.fd_settings.specs.dss_model.InRange.{ElementInRange}
+use Rattle.fd_settings.specs.dss_circuit.Circuit.{CircuitView}
+use Rattle.fd_settings.specs.fd_elements.declared.powers.LoadPower.{LoadPower}
+use Rattle.fd_settings.specs.fd_pattern.Views.{NetworkView}
+use Rattle.fd_settings.specs.fd_devices.Devices.{AgreesWith}
 use Rattle.fd_settings.specs.Hours.{HoursLaw, hour_powers}
 use Rattle.fd_settings.specs.Positions.{NextLaw, next_closed, next_taps}
-use Rattle.fd_devices.specs.Scripted.{circuit_network, circuit_parts, devices_of}
-use Rattle.fd_devices.specs.Settings.{AreSettings, settings_of}
-use Rattle.fd_devices.specs.declared.fault.BuildFault.{BuildFault}
-use Rattle.fd_devices.specs.declared.fault.BuildFault.TheVariants as build_fault
-use Rattle.fd_devices.specs.declared.settings.Positions.{Positions as CodePositions}
-use Rattle.fd_devices.specs.declared.settings.Powers.{Powers}
-use Rattle.fd_network.specs.Built.{BuiltView, IsBuiltOf}
-use Rattle.fd_network.specs.Faults.{IsFaultOf, range_blame}
-use Rattle.fd_xfmr.specs.Leakage.{AreTaps}
-use Rattle.fd_queue.specs.Controls.{Positions}
-use Rattle.fd_settle.specs.Probes.{positions_in}
+use Rattle.fd_settings.specs.fd_devices.Scripted.{circuit_network, circuit_parts, devices_of}
+use Rattle.fd_settings.specs.fd_devices.Settings.{AreSettings, settings_of}
+use Rattle.fd_settings.specs.fd_devices.declared.fault.BuildFault.{BuildFault}
+use Rattle.fd_settings.specs.fd_devices.declared.fault.BuildFault.TheVariants as build_fault
+use Rattle.fd_settings.specs.fd_devices.declared.settings.Positions.{Positions as CodePositions}
+use Rattle.fd_settings.specs.fd_devices.declared.settings.Powers.{Powers}
+use Rattle.fd_settle.specs.fd_network.Built.{BuiltView, IsBuiltOf}
+use Rattle.fd_settle.specs.fd_network.Faults.{IsFaultOf, range_blame}
+use Rattle.fd_settings.specs.fd_xfmr.Leakage.{AreTaps}
+use Rattle.fd_settle.specs.fd_queue.Controls.{Positions}
+use Rattle.fd_settle.specs.fd_sample.Probes.{positions_in}
 use Rattle.fd_settle.specs.Plant.{blame_at, network_at}
 use Rattle.fd_settle.specs.Start.{ArePositions, IsNetworkAt}
 use Rattle.fd_daily.specs.Underway.{IsRefusedAt, start_from}

@@ -1,7 +1,7 @@
 -- Which states may be chosen for the rounds of a run.
 use Rattle.std.specs.Prelude.{◌≡◌, List, [], ◌∷◌, length, take, IsTrue}
-use Rattle.fd_queue.specs.Controls.{Positions}
-use Rattle.fd_queue.specs.Machine.{Machine, Act}
+use Rattle.fd_settle.specs.fd_queue.Controls.{Positions}
+use Rattle.fd_settle.specs.fd_queue.Machine.{Machine, Act}
 use Rattle.fd_settle.specs.Sampling.{Sampling}
 use Rattle.fd_settle.specs.Settle.{Settle, settle_of}
 use Rattle.fd_settle.specs.Chosen.{AreChosen}

@@ -1,13 +1,13 @@
 -- Where a Solve stands between its hours.
 use Rattle.std.specs.Prelude.{◌≡◌, ℕ, ◌≤◌, Bool, true, false, List, ◌∷◌, length, replicate, All, Option, None, IfSome}
 use Rattle.std.specs.Option.{unwrap_or}
-use Rattle.fd_exact.specs.Sums.{list_n}
-use Rattle.dss_circuit.specs.Circuit.{CircuitView}
-use Rattle.fd_capctl.specs.CapState.{IsEarly}
-use Rattle.fd_devices.specs.Settings.{bank_count}
-use Rattle.fd_devices.specs.declared.settings.Positions.{Positions as CodePositions}
-use Rattle.fd_queue.specs.Machine.{Machine}
-use Rattle.fd_settle.specs.Probes.{positions_in}
+use Rattle.fd_settle.specs.fd_exact.Sums.{list_n}
+use Rattle.fd_settings.specs.dss_circuit.Circuit.{CircuitView}
+use Rattle.fd_settle.specs.fd_capctl.CapState.{IsEarly}
+use Rattle.fd_settings.specs.fd_devices.Settings.{bank_count}
+use Rattle.fd_settings.specs.fd_devices.declared.settings.Positions.{Positions as CodePositions}
+use Rattle.fd_settle.specs.fd_queue.Machine.{Machine}
+use Rattle.fd_settle.specs.fd_sample.Probes.{positions_in}
 use Rattle.fd_settle.specs.Plant.{started}
 use Rattle.fd_daily.specs.Hours.{hour_after, hours_from, time_of}
 

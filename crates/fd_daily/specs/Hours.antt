@@ -1,9 +1,9 @@
 -- The hours of a Solve.
 use Rattle.std.specs.Prelude.{ℕ, ◌+◌, ◌-◌, ◌*◌, ◌≤◌, nat_lt, if◌then◌else◌, List, [], ◌∷◌, length, Option, Some, None}
 use Rattle.std.specs.List.{AllByRecursion, range_with_len}
-use Rattle.dss_model.specs.declared.words.Mode.{Mode}
-use Rattle.dss_model.specs.declared.words.Mode.TheVariants as mode
-use Rattle.dss_model.specs.declared.options.Options.{Options}
+use Rattle.fd_settings.specs.dss_model.declared.words.Mode.{Mode}
+use Rattle.fd_settings.specs.dss_model.declared.words.Mode.TheVariants as mode
+use Rattle.fd_settings.specs.dss_model.declared.options.Options.{Options}
 
 -- hour 0 is a snapshot's, and a day has the hours 1 to its number
 abbrev pub hours_in : Mode → ℕ → List ℕ

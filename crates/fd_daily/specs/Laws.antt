@@ -1,7 +1,7 @@
 -- The laws of runs.
 use Rattle.std.specs.Prelude.{◌≡◌, List, [], ◌∷◌, ◌++◌, length, map}
-use Rattle.fd_queue.specs.Controls.{Positions}
-use Rattle.fd_queue.specs.Machine.{Machine}
+use Rattle.fd_settle.specs.fd_queue.Controls.{Positions}
+use Rattle.fd_settle.specs.fd_queue.Machine.{Machine}
 use Rattle.fd_settle.specs.Sampling.{Sampling}
 use Rattle.fd_settle.specs.Settle.{settle_of}
 use Rattle.fd_settle.specs.Chosen.{AreOfHeld}

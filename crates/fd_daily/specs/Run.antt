@@ -1,9 +1,9 @@
 -- A run: the settles of a Solve, hour by hour.
 use Rattle.std.specs.Prelude.{ℕ, Bool, true, false, if◌then◌else◌, List, [], ◌∷◌, map, IsTrue}
 use Rattle.std.specs.List.{AllByRecursion}
-use Rattle.dss_circuit.specs.Circuit.{CircuitView}
-use Rattle.fd_queue.specs.Controls.{Positions}
-use Rattle.fd_queue.specs.Machine.{Machine, Setup}
+use Rattle.fd_settings.specs.dss_circuit.Circuit.{CircuitView}
+use Rattle.fd_settle.specs.fd_queue.Controls.{Positions}
+use Rattle.fd_settle.specs.fd_queue.Machine.{Machine, Setup}
 use Rattle.fd_settle.specs.Sampling.{Sampling}
 use Rattle.fd_settle.specs.Settle.{Settle, End, Open, Settled, Limited, Undecidable, settle_of}
 use Rattle.fd_settle.specs.Plant.{setup_of, started}

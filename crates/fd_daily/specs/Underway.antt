@@ -1,16 +1,16 @@
 -- The hours of a Solve under way.
 use Rattle.std.specs.Prelude.{◌≡◌, ℕ, All, IsSome, List, [], ◌∷◌, Option, None}
-use Rattle.dss_model.specs.declared.command.Blame.{Blame}
-use Rattle.dss_circuit.specs.Circuit.{CircuitView}
-use Rattle.fd_devices.specs.Building.{IsModest}
+use Rattle.fd_settings.specs.dss_model.declared.command.Blame.{Blame}
+use Rattle.fd_settings.specs.dss_circuit.Circuit.{CircuitView}
+use Rattle.fd_settings.specs.fd_devices.Building.{IsModest}
 use Rattle.fd_settings.specs.Hours.{hour_powers}
 use Rattle.fd_settings.specs.Positions.{next_closed, next_taps}
-use Rattle.fd_devices.specs.declared.fault.BuildFault.{BuildFault}
-use Rattle.fd_devices.specs.declared.settings.Positions.{Positions as CodePositions}
-use Rattle.fd_network.specs.Built.{IsBuiltOf}
-use Rattle.fd_network.specs.Faults.{IsFaultOf}
-use Rattle.fd_queue.specs.Controls.{Positions}
-use Rattle.fd_settle.specs.Probes.{positions_in}
+use Rattle.fd_settings.specs.fd_devices.declared.fault.BuildFault.{BuildFault}
+use Rattle.fd_settings.specs.fd_devices.declared.settings.Positions.{Positions as CodePositions}
+use Rattle.fd_settle.specs.fd_network.Built.{IsBuiltOf}
+use Rattle.fd_settle.specs.fd_network.Faults.{IsFaultOf}
+use Rattle.fd_settle.specs.fd_queue.Controls.{Positions}
+use Rattle.fd_settle.specs.fd_sample.Probes.{positions_in}
 use Rattle.fd_settle.specs.Plant.{Plant, plant_of}
 use Rattle.fd_settle.specs.Rounds.{settled}
 use Rattle.fd_settle.specs.Settle.{Settle}

@@ -1,11 +1,10 @@
 // Where a Solve stands between its hours.
 ghost use Rattle.std.specs.Prelude.{◌≡◌, ◌++◌, ◌≤◌, IfOk, None, OnOk, Some, replicate};
-ghost use Rattle.fd_devices.specs.Settings.{bank_count};
+ghost use Rattle.fd_settings.specs.fd_devices.Settings.{bank_count};
 ghost use Rattle.fd_daily.specs.Day.{IsDayOf, hour_kept, hours_left, no_openings};
 ghost use Rattle.fd_daily.specs.Hours.{first_hour, hour_after, hours_of, last_hour, time_of};
 
-use dss_circuit::Circuit;
-use dss_model::{Element, Mode, Options};
+use fd_settings::{Circuit, Element, Mode, Options};
 use fd_settle::Clock;
 use std::alloc::{AllocError, Global};
 use std::marker::Model;

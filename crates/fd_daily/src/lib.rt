@@ -19,3 +19,11 @@ pub use day::Day;
 pub use laws::{next_hour_law, run_law};
 pub use running::daily_run;
 pub use underway::Underway;
+
+// Handed on from the crates below.
+pub use fd_settings::{BankStates, BuildFault, Positions, Taps, hours_law, modest_law, next_law};
+pub use fd_settle::{
+    CertFault, Certified, Compute, ComputeFault, ReadyFault, Round, Rule, SettleFault, SolveFault,
+    ball_law, certificate_law, enclosure_law, kept_law, kept_rounds_law, linear_law, network_law,
+    passed_law, ready, sound_at_law, tie_law,
+};

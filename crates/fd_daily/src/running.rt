@@ -1,9 +1,9 @@
 // The settle of the next hour of a Solve.
 ghost use Rattle.std.specs.Prelude.{◌≡◌, is_ok};
-ghost use Rattle.dss_ready.specs.Ready.{HasPassed};
+ghost use Rattle.fd_settle.specs.dss_ready.Ready.{HasPassed};
 ghost use Rattle.fd_settings.specs.Hours.{hour_powers};
-ghost use Rattle.fd_network.specs.Built.{IsBuiltOf};
-ghost use Rattle.fd_settle.specs.Probes.{positions_in};
+ghost use Rattle.fd_settle.specs.fd_network.Built.{IsBuiltOf};
+ghost use Rattle.fd_settle.specs.fd_sample.Probes.{positions_in};
 ghost use Rattle.fd_settle.specs.Contract.{CallsAs, EndsAs, limits_of};
 ghost use Rattle.fd_settle.specs.Rounds.{AtEach, acts_in, claims_in};
 ghost use Rattle.fd_settle.specs.Start.{ArePositions, IsSoundAt};
@@ -11,8 +11,7 @@ ghost use Rattle.fd_daily.specs.Day.{IsDayOf, begun_hour, hour_in, hour_kept, ho
 ghost use Rattle.fd_daily.specs.Underway.{IsUnderway, plant_at, settled_hour};
 
 use crate::underway::Underway;
-use dss_circuit::Circuit;
-use fd_devices::Positions;
+use fd_settings::{Circuit, Positions};
 use fd_settle::{SettleFault, Solver, settle};
 use std::alloc::Global;
 

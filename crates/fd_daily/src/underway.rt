@@ -1,20 +1,19 @@
 // The hours of a Solve under way.
 ghost use Rattle.std.specs.Prelude.{◌≡◌, All, IfErr, IfOk, IsSome, OnErr, OnOk};
-ghost use Rattle.dss_ready.specs.Ready.{HasPassed};
-ghost use Rattle.fd_network.specs.Built.{IsBuiltOf};
-ghost use Rattle.fd_settle.specs.Probes.{positions_in};
+ghost use Rattle.fd_settle.specs.dss_ready.Ready.{HasPassed};
+ghost use Rattle.fd_settle.specs.fd_network.Built.{IsBuiltOf};
+ghost use Rattle.fd_settle.specs.fd_sample.Probes.{positions_in};
 ghost use Rattle.fd_settle.specs.Start.{ArePositions};
-ghost use Rattle.fd_xfmr.specs.Leakage.{AreTaps};
+ghost use Rattle.fd_settings.specs.fd_xfmr.Leakage.{AreTaps};
 ghost use Rattle.fd_daily.specs.Day.{IsDayOf, hour_in, hours_left, no_openings};
 ghost use Rattle.fd_daily.specs.Hours.{hours_of};
 ghost use Rattle.fd_daily.specs.Underway.{IsRefusedAt, IsUnderway, start_from};
 
 use crate::day::Day;
-use dss_circuit::Circuit;
-use fd_devices::{BuildFault, Positions, Powers};
-use fd_network::Network;
-use fd_settings::{hours_law, next_law, next_positions, powers_at};
-use fd_settle::Round;
+use fd_settings::{
+    BuildFault, Circuit, Positions, Powers, hours_law, next_law, next_positions, powers_at,
+};
+use fd_settle::{Network, Round};
 use std::alloc::Global;
 
 /// The hours of a Solve under way: the network with the powers of the next hour, where the Solve stands, and room for the

@@ -5,30 +5,30 @@ use Rattle.std.proofs.Math.Nat.{mul-le-mul, mul-le-mul_right}
 use Rattle.std.proofs.lemmas.Int.{ints, unsigned_abs-mul}
 use Rattle.std.proofs.lemmas.Bool.{cases_lt, and_parts, leb-true}
 use Rattle.std.proofs.lemmas.List.Elements.{All-nil, All-cons, All-append, All-head, All-tail, All-weaker}
-use Rattle.fd_exact.specs.Rounding.{near_div}
-use Rattle.fd_exact.specs.Quotients.{ceil_nat_least}
-use Rattle.fd_exact.specs.Sums.{list_n}
-use Rattle.fd_exact.specs.Ranges.{UpTo}
-use Rattle.fd_arith.specs.declared.terms.Term.{Term}
-use Rattle.fd_arith.specs.declared.terms.Ends.{Ends}
-use Rattle.fd_arith.specs.declared.terms.NodeAt.{NodeAt}
-use Rattle.fd_arith.specs.declared.terms.NodeAt.TheVariants.{Ground, Node}
-use Rattle.fd_arith.specs.declared.terms.LoadModel.{LoadModel}
-use Rattle.fd_arith.specs.LoadModels.{is_linear}
-use Rattle.fd_system.specs.declared.loads.LoadAt.{LoadAt}
-use Rattle.fd_system.specs.Contributions.{IsDivided, IsWithin, concat_below, complex_terms}
-use Rattle.fd_system.specs.Loads.{FitsModel, IsLoad, draw_of, impedance_list, linear_list}
-use Rattle.fd_system.proofs.CallerLemmas.{complex_divided}
-use Rattle.fd_line.specs.declared.data.LineData.{LineData}
-use Rattle.fd_line.specs.Line.{line_list}
-use Rattle.fd_line.proofs.CallerLemmas.{line_is}
-use Rattle.fd_source.specs.declared.data.SourceData.{SourceData}
-use Rattle.fd_source.specs.Equations.{constants_from, phase_constants, source_constants, source_list}
-use Rattle.fd_source.specs.Phasors.{cosine, cosines, steps_of, volts_im, volts_re}
-use Rattle.fd_source.proofs.CallerLemmas.{source_is}
-use Rattle.fd_exact.specs.Nearest.{near_within}
-use Rattle.fd_load.specs.Current.{IsPast, power_sum}
-use Rattle.fd_load.proofs.CallerLemmas.{within_limit}
+use Rattle.dss_layout.specs.fd_exact.Rounding.{near_div}
+use Rattle.dss_layout.specs.fd_exact.Quotients.{ceil_nat_least}
+use Rattle.dss_layout.specs.fd_exact.Sums.{list_n}
+use Rattle.dss_layout.specs.fd_exact.Ranges.{UpTo}
+use Rattle.dss_layout.specs.fd_arith.declared.terms.Term.{Term}
+use Rattle.dss_layout.specs.fd_arith.declared.terms.Ends.{Ends}
+use Rattle.dss_layout.specs.fd_arith.declared.terms.NodeAt.{NodeAt}
+use Rattle.dss_layout.specs.fd_arith.declared.terms.NodeAt.TheVariants.{Ground, Node}
+use Rattle.dss_layout.specs.fd_arith.declared.terms.LoadModel.{LoadModel}
+use Rattle.dss_layout.specs.fd_arith.LoadModels.{is_linear}
+use Rattle.fd_xfmr.specs.fd_system.declared.loads.LoadAt.{LoadAt}
+use Rattle.fd_xfmr.specs.fd_system.Contributions.{IsDivided, IsWithin, concat_below, complex_terms}
+use Rattle.fd_xfmr.specs.fd_system.Loads.{FitsModel, IsLoad, draw_of, impedance_list, linear_list}
+use Rattle.fd_xfmr.proofs.CallerLemmas.fd_system.{complex_divided}
+use Rattle.fd_elements.specs.fd_line.declared.data.LineData.{LineData}
+use Rattle.fd_elements.specs.fd_line.Line.{line_list}
+use Rattle.fd_elements.proofs.CallerLemmas.fd_line.{line_is}
+use Rattle.fd_elements.specs.fd_source.declared.data.SourceData.{SourceData}
+use Rattle.fd_elements.specs.fd_source.Equations.{constants_from, phase_constants, source_constants, source_list}
+use Rattle.fd_elements.specs.fd_source.Phasors.{cosine, cosines, steps_of, volts_im, volts_re}
+use Rattle.fd_elements.proofs.CallerLemmas.fd_source.{source_is}
+use Rattle.dss_layout.specs.fd_exact.Nearest.{near_within}
+use Rattle.fd_elements.specs.fd_load.Current.{IsPast, power_sum}
+use Rattle.fd_elements.proofs.CallerLemmas.fd_load.{within_limit}
 use Rattle.fd_pattern.specs.Conditions.{HasMagnitude, IsAmong, IsKnown, IsServed}
 use Rattle.fd_devices.specs.Devices.{source, line, loads, other}
 use Rattle.fd_devices.specs.Building.{AreContributions, DeviceFits, IsSettled, IsUsable}

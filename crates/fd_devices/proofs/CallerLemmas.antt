@@ -7,3 +7,8 @@ pub use Rattle.fd_devices.proofs.Settling.{side_among}
 pub use Rattle.fd_devices.proofs.Sides.{HasCounts, first_count, second_count, side_counts}
 pub use Rattle.fd_devices.proofs.Siting.{StandsAmong, sited}
 pub use Rattle.fd_devices.proofs.Steps.{all_at, first_left}
+pub use Rattle.dss_circuit.proofs.CallerLemmas as dss_circuit
+pub use Rattle.dss_layout.proofs.CallerLemmas as dss_layout
+pub use Rattle.fd_xfmr.proofs.CallerLemmas.fd_system as fd_system
+pub use Rattle.fd_elements.proofs.CallerLemmas.fd_source as fd_source
+pub use Rattle.fd_elements.proofs.CallerLemmas as fd_elements

@@ -3,17 +3,17 @@ use Rattle.std.proofs.Common.{◌≡◌, ℕ, ◌*◌, ◌≤◌, ◌^◌, ◌�
 use Rattle.std.specs.List.{All}
 use Rattle.std.proofs.lemmas.Int.{ints, unsigned_abs-mul}
 use Rattle.std.proofs.lemmas.List.Elements.{All-nil}
-use Rattle.fd_exact.specs.Quotients.{ceil_nat_least}
-use Rattle.fd_exact.specs.Rounding.{ceil_nat}
-use Rattle.fd_arith.specs.declared.terms.Ends.{Ends}
-use Rattle.fd_system.specs.Contributions.{IsWithin}
-use Rattle.fd_system.specs.declared.terminals.NodePair.{NodePair}
-use Rattle.fd_system.specs.Terminals.{node_count, pairs_of}
-use Rattle.fd_system.proofs.CallerLemmas.{phase_volts_between}
+use Rattle.dss_layout.specs.fd_exact.Quotients.{ceil_nat_least}
+use Rattle.dss_layout.specs.fd_exact.Rounding.{ceil_nat}
+use Rattle.dss_layout.specs.fd_arith.declared.terms.Ends.{Ends}
+use Rattle.fd_xfmr.specs.fd_system.Contributions.{IsWithin}
+use Rattle.fd_xfmr.specs.fd_system.declared.terminals.NodePair.{NodePair}
+use Rattle.fd_xfmr.specs.fd_system.Terminals.{node_count, pairs_of}
+use Rattle.fd_xfmr.proofs.CallerLemmas.fd_system.{phase_volts_between}
 use Rattle.fd_cap.specs.declared.data.CapData.{CapData}
 use Rattle.fd_cap.specs.Capacitor.{IsCap, cap_draw_of, cap_list, cap_pair, cap_power, cap_volts, list_at, phase_list, volts_squared}
 use Rattle.fd_cap.proofs.CallerLemmas.{cap_is}
-use Rattle.fd_load.specs.Current.{IsPast}
+use Rattle.fd_elements.specs.fd_load.Current.{IsPast}
 use Rattle.fd_pattern.specs.Conditions.{IsAmong, IsKnown, IsServed}
 use Rattle.fd_devices.specs.Devices.{capacitor}
 use Rattle.fd_devices.specs.Building.{IsSettled}

@@ -4,13 +4,13 @@ use Rattle.std.specs.List.{flat_map}
 use Rattle.std.proofs.lemmas.Grind.{flat_map-append}
 use Rattle.std.proofs.lemmas.List.{append-nil, map-append}
 use Rattle.std.proofs.lemmas.List.Elements.{All-nil, All-cons, All-append}
-use Rattle.fd_exact.specs.Sums.{list_n}
-use Rattle.fd_exact.specs.SumLaws.{list_n-append}
-use Rattle.fd_system.specs.Contributions.{IsDivided, IsWithin}
-use Rattle.fd_system.specs.System.{StampView, beside, joined}
+use Rattle.dss_layout.specs.fd_exact.Sums.{list_n}
+use Rattle.dss_layout.specs.fd_exact.SumLaws.{list_n-append}
+use Rattle.fd_xfmr.specs.fd_system.Contributions.{IsDivided, IsWithin}
+use Rattle.fd_xfmr.specs.fd_system.System.{StampView, beside, joined}
 use Rattle.fd_pattern.specs.Conditions.{IsKnown, IsServed}
-use Rattle.dss_model.specs.declared.element.Element.{Element}
-use Rattle.dss_model.specs.declared.names.ElementName.{ElementName}
+use Rattle.dss_layout.specs.dss_model.declared.element.Element.{Element}
+use Rattle.dss_layout.specs.dss_model.declared.names.ElementName.{ElementName}
 use Rattle.dss_layout.specs.Layout.{Elements, LayoutView, branch_phases}
 use Rattle.fd_devices.specs.Devices.{Device, IsGood, device_stamp, stamp_of_all}
 use Rattle.fd_devices.specs.Settings.{Settings, after}

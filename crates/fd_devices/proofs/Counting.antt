@@ -3,20 +3,20 @@ use Rattle.std.proofs.Common.{ℕ, zero, suc, ◌+◌, ◌*◌, ◌<◌, ◌≤�
 use Rattle.std.specs.List.{All, flat_map}
 use Rattle.std.specs.Ordering.{int_eq}
 use Rattle.std.proofs.lemmas.List.Elements.{All-nil, All-cons, All-append, All-head, All-tail}
-use Rattle.fd_arith.specs.declared.terms.Term.{Term}
-use Rattle.fd_arith.specs.declared.terms.NodeAt.{NodeAt}
-use Rattle.fd_arith.specs.declared.terms.NodeAt.TheVariants.{Ground, Node}
-use Rattle.fd_arith.specs.declared.terms.Ends.{Ends}
-use Rattle.fd_system.specs.declared.loads.LoadAt.{LoadAt}
-use Rattle.fd_system.specs.Contributions.{one, complex_terms, shunt_list, concat_below}
-use Rattle.fd_system.specs.Terminals.{branch_of, node_of}
-use Rattle.fd_system.specs.Series.{drop_at, drop_list}
-use Rattle.fd_system.specs.Loads.{impedance_list, linear_list}
-use Rattle.fd_line.specs.declared.data.LineData.{LineData}
-use Rattle.fd_line.specs.Totals.{reactance_of, resistance_of}
-use Rattle.fd_line.specs.Line.{branch_row, charge_at, end_row, line_list, phase_list, susceptance_of}
-use Rattle.fd_source.specs.declared.data.SourceData.{SourceData}
-use Rattle.fd_source.specs.Equations.{phase_list as source_phase_list, reactance_of as source_reactance, resistance_of as source_resistance, source_list}
+use Rattle.dss_layout.specs.fd_arith.declared.terms.Term.{Term}
+use Rattle.dss_layout.specs.fd_arith.declared.terms.NodeAt.{NodeAt}
+use Rattle.dss_layout.specs.fd_arith.declared.terms.NodeAt.TheVariants.{Ground, Node}
+use Rattle.dss_layout.specs.fd_arith.declared.terms.Ends.{Ends}
+use Rattle.fd_xfmr.specs.fd_system.declared.loads.LoadAt.{LoadAt}
+use Rattle.fd_xfmr.specs.fd_system.Contributions.{one, complex_terms, shunt_list, concat_below}
+use Rattle.fd_xfmr.specs.fd_system.Terminals.{branch_of, node_of}
+use Rattle.fd_xfmr.specs.fd_system.Series.{drop_at, drop_list}
+use Rattle.fd_xfmr.specs.fd_system.Loads.{impedance_list, linear_list}
+use Rattle.fd_elements.specs.fd_line.declared.data.LineData.{LineData}
+use Rattle.fd_elements.specs.fd_line.Totals.{reactance_of, resistance_of}
+use Rattle.fd_elements.specs.fd_line.Line.{branch_row, charge_at, end_row, line_list, phase_list, susceptance_of}
+use Rattle.fd_elements.specs.fd_source.declared.data.SourceData.{SourceData}
+use Rattle.fd_elements.specs.fd_source.Equations.{phase_list as source_phase_list, reactance_of as source_reactance, resistance_of as source_resistance, source_list}
 use Rattle.fd_devices.specs.Building.{IsInside}
 use Rattle.fd_pattern.specs.Conditions.{IsAmong}
 

@@ -2,14 +2,14 @@
 use Rattle.std.proofs.Common.{List, [], ◌∷◌}
 use Rattle.std.specs.List.{All}
 use Rattle.std.proofs.lemmas.List.Elements.{All-nil, All-cons, All-head, All-tail}
-use Rattle.fd_exact.specs.FractionLaws.{Same-sym}
-use Rattle.fd_exact.specs.States.{State}
-use Rattle.fd_system.specs.Equations.{Part, equation}
-use Rattle.fd_system.specs.System.{StampView, residual_of, Represents}
-use Rattle.fd_system.proofs.CallerLemmas.{term_stamp, no_parts, Represents-joined, Meets-Same, loads_represent}
-use Rattle.fd_line.specs.Line.{line_list, line_parts}
-use Rattle.fd_line.proofs.CallerLemmas.{line_is}
-use Rattle.fd_source.proofs.CallerLemmas.{source_is}
+use Rattle.dss_layout.specs.fd_exact.FractionLaws.{Same-sym}
+use Rattle.dss_layout.specs.fd_exact.States.{State}
+use Rattle.fd_xfmr.specs.fd_system.Equations.{Part, equation}
+use Rattle.fd_xfmr.specs.fd_system.System.{StampView, residual_of, Represents}
+use Rattle.fd_xfmr.proofs.CallerLemmas.fd_system.{term_stamp, no_parts, Represents-joined, Meets-Same, loads_represent}
+use Rattle.fd_elements.specs.fd_line.Line.{line_list, line_parts}
+use Rattle.fd_elements.proofs.CallerLemmas.fd_line.{line_is}
+use Rattle.fd_elements.proofs.CallerLemmas.fd_source.{source_is}
 use Rattle.fd_xfmr.specs.Transformer.{xfmr_list, xfmr_parts}
 use Rattle.fd_xfmr.proofs.CallerLemmas.{xfmr_is}
 use Rattle.fd_cap.specs.Capacitor.{cap_draw_of, cap_list, cap_parts}

@@ -5,30 +5,30 @@ use Rattle.std.specs.Prelude.{unwrap_or}
 use Rattle.std.proofs.Math.Nat.{mul-le-mul}
 use Rattle.std.proofs.lemmas.Int.{ints, unsigned_abs-mul}
 use Rattle.std.proofs.lemmas.List.Elements.{All-cons, All-get_or, All-nil}
-use Rattle.dss_model.specs.InRange.{CapacitorInRange, LoadInRange, SharesInRange, TransformerInRange, ZipSharesInRange}
-use Rattle.dss_model.specs.Ranges.{IsShare}
-use Rattle.dss_model.specs.declared.capacitor.Capacitor.{Capacitor}
-use Rattle.dss_model.specs.declared.element.Element.{Element}
-use Rattle.dss_model.specs.declared.element.Element.TheVariants as the
-use Rattle.dss_model.specs.declared.load.Load.{Load}
-use Rattle.dss_model.specs.declared.load.LoadKind.{LoadKind}
-use Rattle.dss_model.specs.declared.load.LoadKind.TheVariants as kind
-use Rattle.dss_model.specs.declared.load.ZipShares.{ZipShares}
-use Rattle.dss_model.specs.declared.transformer.Transformer.{Transformer}
+use Rattle.dss_layout.specs.dss_model.InRange.{CapacitorInRange, LoadInRange, SharesInRange, TransformerInRange, ZipSharesInRange}
+use Rattle.dss_layout.specs.dss_model.Ranges.{IsShare}
+use Rattle.dss_layout.specs.dss_model.declared.capacitor.Capacitor.{Capacitor}
+use Rattle.dss_layout.specs.dss_model.declared.element.Element.{Element}
+use Rattle.dss_layout.specs.dss_model.declared.element.Element.TheVariants as the
+use Rattle.dss_layout.specs.dss_model.declared.load.Load.{Load}
+use Rattle.dss_layout.specs.dss_model.declared.load.LoadKind.{LoadKind}
+use Rattle.dss_layout.specs.dss_model.declared.load.LoadKind.TheVariants as kind
+use Rattle.dss_layout.specs.dss_model.declared.load.ZipShares.{ZipShares}
+use Rattle.dss_layout.specs.dss_model.declared.transformer.Transformer.{Transformer}
 use Rattle.dss_layout.specs.Layout.{LayoutView, complex_count, ends_of, first_magnitude}
 use Rattle.dss_layout.specs.Limits.{most_complex}
-use Rattle.fd_arith.specs.declared.terms.LoadModel.{LoadModel}
-use Rattle.fd_arith.specs.declared.terms.LoadModel.TheVariants.{ConstantPower, ConstantImpedance, ConstantCurrent}
-use Rattle.fd_arith.specs.declared.terms.NodeAt.{NodeAt}
-use Rattle.fd_arith.specs.declared.terms.NodeAt.TheVariants.{Ground, Node}
-use Rattle.fd_exact.specs.Nearest.{near_within}
-use Rattle.fd_system.specs.Contributions.{IsSmall}
-use Rattle.fd_system.specs.declared.loads.LoadPhase.{LoadPhase}
-use Rattle.fd_system.specs.Terminals.{node_count, pairs_of}
+use Rattle.dss_layout.specs.fd_arith.declared.terms.LoadModel.{LoadModel}
+use Rattle.dss_layout.specs.fd_arith.declared.terms.LoadModel.TheVariants.{ConstantPower, ConstantImpedance, ConstantCurrent}
+use Rattle.dss_layout.specs.fd_arith.declared.terms.NodeAt.{NodeAt}
+use Rattle.dss_layout.specs.fd_arith.declared.terms.NodeAt.TheVariants.{Ground, Node}
+use Rattle.dss_layout.specs.fd_exact.Nearest.{near_within}
+use Rattle.fd_xfmr.specs.fd_system.Contributions.{IsSmall}
+use Rattle.fd_xfmr.specs.fd_system.declared.loads.LoadPhase.{LoadPhase}
+use Rattle.fd_xfmr.specs.fd_system.Terminals.{node_count, pairs_of}
 use Rattle.fd_xfmr.specs.Leakage.{AreTaps, IsXfmr}
 use Rattle.fd_cap.specs.Capacitor.{IsCap}
-use Rattle.fd_load.specs.Zip.{AreShares, IsPart, share_of, zip_part}
-use Rattle.fd_load.specs.declared.zip.PartShares.{PartShares}
+use Rattle.fd_elements.specs.fd_load.Zip.{AreShares, IsPart, share_of, zip_part}
+use Rattle.fd_elements.specs.fd_load.declared.zip.PartShares.{PartShares}
 use Rattle.fd_elements.proofs.CallerLemmas.{load_voltages, source_voltage}
 use Rattle.fd_elements.specs.Connections.{conn_of}
 use Rattle.fd_elements.specs.Lines.{line_data_of}

@@ -5,10 +5,10 @@ use Rattle.std.specs.Cmp.Derive.{both_true}
 use Rattle.std.proofs.lemmas.Bool.{and_parts, false_from_ne_true, not_from_false}
 use Rattle.std.proofs.lemmas.List.Elements.{All-weaker}
 use Rattle.std.proofs.lemmas.List.Sums.{AllPass-from_list_all, list_all-from_AllPass}
-use Rattle.fd_arith.specs.declared.terms.Term.{Term}
-use Rattle.fd_system.specs.declared.loads.LoadAt.{LoadAt}
-use Rattle.fd_system.specs.Contributions.{IsWithin, are_small, term_units}
-use Rattle.fd_load.specs.Current.{IsPast, is_past}
+use Rattle.dss_layout.specs.fd_arith.declared.terms.Term.{Term}
+use Rattle.fd_xfmr.specs.fd_system.declared.loads.LoadAt.{LoadAt}
+use Rattle.fd_xfmr.specs.fd_system.Contributions.{IsWithin, are_small, term_units}
+use Rattle.fd_elements.specs.fd_load.Current.{IsPast, is_past}
 use Rattle.fd_devices.specs.Building.{DeviceFits}
 use Rattle.fd_devices.specs.Devices.{Device, device_stamp}
 

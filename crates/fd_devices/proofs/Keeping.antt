@@ -2,30 +2,30 @@
 use Rattle.std.proofs.Common.{◌≡◌, ◌∙◌, ℕ, zero, suc, ◌+◌, ◌*◌, ◌<◌, ◌≤◌, false, inl, inr, List, [], ◌∷◌, ◌++◌, length, map, Option, Some, None, arith, ap, refl, sym, subst}
 use Rattle.std.specs.List.{All, flat_map}
 use Rattle.std.proofs.lemmas.List.Elements.{All-nil, All-cons, All-append, All-head, All-tail, All-weaker}
-use Rattle.dss_model.specs.Ranges.{IsOneOf}
-use Rattle.dss_model.specs.InRange.{ElementInRange}
-use Rattle.dss_model.specs.declared.element.Element.{Element}
-use Rattle.dss_model.specs.declared.element.Element.TheVariants as the
+use Rattle.dss_layout.specs.dss_model.Ranges.{IsOneOf}
+use Rattle.dss_layout.specs.dss_model.InRange.{ElementInRange}
+use Rattle.dss_layout.specs.dss_model.declared.element.Element.{Element}
+use Rattle.dss_layout.specs.dss_model.declared.element.Element.TheVariants as the
 use Rattle.dss_layout.specs.Limits.{most_complex}
 use Rattle.dss_layout.specs.Layout.{LayoutView, branch_phases, complex_count, ends_of, first_magnitude, size_of}
-use Rattle.fd_arith.specs.declared.terms.Term.{Term}
-use Rattle.fd_arith.specs.declared.terms.Ends.{Ends}
-use Rattle.fd_arith.specs.declared.terms.NodeAt.{NodeAt}
-use Rattle.fd_arith.specs.declared.terms.NodeAt.TheVariants.{Ground, Node}
-use Rattle.fd_system.specs.Contributions.{IsSmall, concat_below}
-use Rattle.fd_system.specs.Terminals.{branch_of}
-use Rattle.fd_arith.specs.declared.terms.LoadModel.{LoadModel}
-use Rattle.fd_system.specs.declared.loads.LoadAt.{LoadAt}
-use Rattle.fd_system.specs.declared.stamps.Stamp.{Stamp}
-use Rattle.fd_system.specs.System.{StampView}
+use Rattle.dss_layout.specs.fd_arith.declared.terms.Term.{Term}
+use Rattle.dss_layout.specs.fd_arith.declared.terms.Ends.{Ends}
+use Rattle.dss_layout.specs.fd_arith.declared.terms.NodeAt.{NodeAt}
+use Rattle.dss_layout.specs.fd_arith.declared.terms.NodeAt.TheVariants.{Ground, Node}
+use Rattle.fd_xfmr.specs.fd_system.Contributions.{IsSmall, concat_below}
+use Rattle.fd_xfmr.specs.fd_system.Terminals.{branch_of}
+use Rattle.dss_layout.specs.fd_arith.declared.terms.LoadModel.{LoadModel}
+use Rattle.fd_xfmr.specs.fd_system.declared.loads.LoadAt.{LoadAt}
+use Rattle.fd_xfmr.specs.fd_system.declared.stamps.Stamp.{Stamp}
+use Rattle.fd_xfmr.specs.fd_system.System.{StampView}
 use Rattle.fd_pattern.specs.Conditions.{HasMagnitude, IsAmong, IsServed}
 use Rattle.fd_pattern.specs.PatternPlaces.{cross, load_places, magnitude_places, node_places, place_of, terminal_places}
 use Rattle.fd_pattern.specs.Patterns.{IsInside}
 use Rattle.fd_pattern.proofs.CallerLemmas.{cross_inside}
 use Rattle.fd_devices.specs.Building.{IsInside as IsTermInside, IsSettled}
-use Rattle.dss_model.specs.declared.transformer.Transformer.{Transformer}
-use Rattle.dss_model.specs.declared.capacitor.Capacitor.{Capacitor}
-use Rattle.dss_model.specs.declared.load.Load.{Load}
+use Rattle.dss_layout.specs.dss_model.declared.transformer.Transformer.{Transformer}
+use Rattle.dss_layout.specs.dss_model.declared.capacitor.Capacitor.{Capacitor}
+use Rattle.dss_layout.specs.dss_model.declared.load.Load.{Load}
 use Rattle.fd_devices.specs.Devices.{device_stamp}
 use Rattle.fd_devices.specs.declared.kept.Kept.{Kept}
 use Rattle.fd_devices.specs.Kept.{AreFewOf, AreSmallEnds, IsKeptOf, is_moved, reach_of}

@@ -2,11 +2,11 @@
 use Rattle.std.proofs.Common.{◌≡◌, [], length, refl}
 use Rattle.std.specs.List.{All}
 use Rattle.std.proofs.lemmas.List.Elements.{All-cons, All-nil}
-use Rattle.dss_model.specs.Element.{class_of}
-use Rattle.dss_model.specs.InRange.{ElementInRange, TransformerInRange}
-use Rattle.dss_model.specs.declared.element.Element.{Element}
-use Rattle.dss_model.specs.declared.element.Element.TheVariants as the
-use Rattle.dss_model.specs.declared.names.Class.TheVariants as class
+use Rattle.dss_layout.specs.dss_model.Element.{class_of}
+use Rattle.dss_layout.specs.dss_model.InRange.{ElementInRange, TransformerInRange}
+use Rattle.dss_layout.specs.dss_model.declared.element.Element.{Element}
+use Rattle.dss_layout.specs.dss_model.declared.element.Element.TheVariants as the
+use Rattle.dss_layout.specs.dss_model.declared.names.Class.TheVariants as class
 use Rattle.fd_devices.specs.Kinds.{banks_in, transformers_in}
 
 -- the transformer that an element in range is, is in range

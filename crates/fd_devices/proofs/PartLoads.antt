@@ -5,25 +5,25 @@ use Rattle.std.proofs.Math.Nat.{mul-le-mul}
 use Rattle.std.proofs.lemmas.Grind.{flat_map-append}
 use Rattle.std.proofs.lemmas.List.{append-nil}
 use Rattle.std.proofs.lemmas.List.Elements.{All-nil, All-cons, All-append, All-weaker}
-use Rattle.fd_arith.specs.declared.terms.NodeAt.{NodeAt}
-use Rattle.fd_arith.specs.declared.terms.NodeAt.TheVariants.{Ground, Node}
-use Rattle.fd_arith.specs.declared.terms.LoadModel.{LoadModel}
-use Rattle.fd_arith.specs.declared.terms.LoadModel.TheVariants.{ConstantPower, ConstantImpedance, ConstantCurrent}
-use Rattle.fd_arith.specs.LoadModels.{has_magnitude}
-use Rattle.fd_system.specs.declared.loads.LoadPhase.{LoadPhase}
-use Rattle.fd_system.specs.declared.loads.LoadAt.{LoadAt}
-use Rattle.fd_system.specs.Contributions.{IsSmall, concat_below}
-use Rattle.fd_system.specs.Loads.{impedance_list, linear_list}
-use Rattle.fd_system.specs.Terminals.{pairs_of}
-use Rattle.dss_model.specs.Ranges.{IsOneOf}
-use Rattle.dss_model.specs.declared.load.Load.{Load}
-use Rattle.dss_model.specs.declared.load.LoadKind.{LoadKind}
-use Rattle.dss_model.specs.declared.load.LoadKind.TheVariants as kind
-use Rattle.dss_model.specs.LoadKinds.{has_magnitude as kind_has_magnitude}
+use Rattle.dss_layout.specs.fd_arith.declared.terms.NodeAt.{NodeAt}
+use Rattle.dss_layout.specs.fd_arith.declared.terms.NodeAt.TheVariants.{Ground, Node}
+use Rattle.dss_layout.specs.fd_arith.declared.terms.LoadModel.{LoadModel}
+use Rattle.dss_layout.specs.fd_arith.declared.terms.LoadModel.TheVariants.{ConstantPower, ConstantImpedance, ConstantCurrent}
+use Rattle.dss_layout.specs.fd_arith.LoadModels.{has_magnitude}
+use Rattle.fd_xfmr.specs.fd_system.declared.loads.LoadPhase.{LoadPhase}
+use Rattle.fd_xfmr.specs.fd_system.declared.loads.LoadAt.{LoadAt}
+use Rattle.fd_xfmr.specs.fd_system.Contributions.{IsSmall, concat_below}
+use Rattle.fd_xfmr.specs.fd_system.Loads.{impedance_list, linear_list}
+use Rattle.fd_xfmr.specs.fd_system.Terminals.{pairs_of}
+use Rattle.dss_layout.specs.dss_model.Ranges.{IsOneOf}
+use Rattle.dss_layout.specs.dss_model.declared.load.Load.{Load}
+use Rattle.dss_layout.specs.dss_model.declared.load.LoadKind.{LoadKind}
+use Rattle.dss_layout.specs.dss_model.declared.load.LoadKind.TheVariants as kind
+use Rattle.dss_layout.specs.dss_model.LoadKinds.{has_magnitude as kind_has_magnitude}
 use Rattle.fd_elements.specs.declared.powers.LoadPower.{LoadPower}
 use Rattle.fd_elements.specs.Connections.{conn_of}
 use Rattle.fd_elements.specs.Loads.{load_phase_of, parts_by, sole_model, zip_phase_of}
-use Rattle.fd_load.specs.Zip.{zip_part}
+use Rattle.fd_elements.specs.fd_load.Zip.{zip_part}
 use Rattle.fd_pattern.specs.Conditions.{HasMagnitude, IsAmong}
 use Rattle.fd_pattern.specs.PatternPlaces.{load_places}
 use Rattle.fd_devices.specs.Kept.{parts_of}

@@ -5,17 +5,17 @@ use Rattle.std.specs.Ordering.{int_eq}
 use Rattle.std.proofs.lemmas.Bool.{cases_eq}
 use Rattle.std.proofs.lemmas.List.{get_or_default}
 use Rattle.std.proofs.lemmas.List.Elements.{All-append, All-cons, All-head, All-nil, All-tail, All-weaker, Contains-append_left, Contains-append_right}
-use Rattle.fd_arith.specs.declared.terms.Term.{Term}
-use Rattle.fd_arith.specs.declared.terms.Ends.{Ends}
-use Rattle.fd_arith.specs.declared.terms.NodeAt.{NodeAt}
-use Rattle.fd_arith.specs.declared.terms.NodeAt.TheVariants.{Ground, Node}
-use Rattle.fd_arith.specs.LoadModels.{is_linear}
-use Rattle.fd_system.specs.declared.loads.LoadAt.{LoadAt}
-use Rattle.fd_system.specs.declared.terminals.PhasePairs.{PhasePairs}
-use Rattle.fd_system.specs.declared.terminals.PhasePairs.TheVariants as pairs
-use Rattle.fd_system.specs.Contributions.{concat_below, one, shunt_list, complex_terms}
-use Rattle.fd_system.specs.Loads.{impedance_list, linear_list}
-use Rattle.fd_system.specs.Terminals.{branch_of, node_of, pairs_of, second_node}
+use Rattle.dss_layout.specs.fd_arith.declared.terms.Term.{Term}
+use Rattle.dss_layout.specs.fd_arith.declared.terms.Ends.{Ends}
+use Rattle.dss_layout.specs.fd_arith.declared.terms.NodeAt.{NodeAt}
+use Rattle.dss_layout.specs.fd_arith.declared.terms.NodeAt.TheVariants.{Ground, Node}
+use Rattle.dss_layout.specs.fd_arith.LoadModels.{is_linear}
+use Rattle.fd_xfmr.specs.fd_system.declared.loads.LoadAt.{LoadAt}
+use Rattle.fd_xfmr.specs.fd_system.declared.terminals.PhasePairs.{PhasePairs}
+use Rattle.fd_xfmr.specs.fd_system.declared.terminals.PhasePairs.TheVariants as pairs
+use Rattle.fd_xfmr.specs.fd_system.Contributions.{concat_below, one, shunt_list, complex_terms}
+use Rattle.fd_xfmr.specs.fd_system.Loads.{impedance_list, linear_list}
+use Rattle.fd_xfmr.specs.fd_system.Terminals.{branch_of, node_of, pairs_of, second_node}
 use Rattle.fd_xfmr.specs.declared.data.XfmrData.{XfmrData}
 use Rattle.fd_xfmr.specs.declared.leakage.Coefficients.{Coefficients}
 use Rattle.fd_xfmr.specs.declared.terms.PhaseAt.{PhaseAt}

@@ -2,25 +2,25 @@
 use Rattle.std.proofs.Common.{◌≡◌, IsTrue, ◌∙◌, ℕ, zero, suc, ◌+◌, ◌*◌, ◌<◌, ◌≤◌, inl, inr, Bool, List, [], ◌∷◌, length, length-append, add-one, arith, ap, refl, sym, subst}
 use Rattle.std.specs.List.{All}
 use Rattle.std.proofs.lemmas.List.Elements.{All-nil, All-cons, All-append, All-weaker}
-use Rattle.fd_arith.specs.declared.terms.NodeAt.{NodeAt}
-use Rattle.dss_model.specs.LoadKinds.{has_magnitude}
-use Rattle.fd_arith.specs.declared.terms.Ends.{Ends}
-use Rattle.fd_arith.specs.declared.terms.TapPair.{TapPair}
-use Rattle.fd_system.specs.Terminals.{node_count, pairs_of}
+use Rattle.dss_layout.specs.fd_arith.declared.terms.NodeAt.{NodeAt}
+use Rattle.dss_layout.specs.dss_model.LoadKinds.{has_magnitude}
+use Rattle.dss_layout.specs.fd_arith.declared.terms.Ends.{Ends}
+use Rattle.dss_layout.specs.fd_arith.declared.terms.TapPair.{TapPair}
+use Rattle.fd_xfmr.specs.fd_system.Terminals.{node_count, pairs_of}
 use Rattle.fd_elements.specs.Connections.{conn_of}
 use Rattle.fd_elements.specs.declared.powers.LoadPower.{LoadPower}
 use Rattle.fd_elements.specs.Lines.{line_data_of}
 use Rattle.fd_pattern.specs.Conditions.{HasMagnitude, IsAmong}
-use Rattle.fd_system.specs.Contributions.{concat_below}
-use Rattle.dss_model.specs.Ranges.{IsOneOf}
-use Rattle.dss_model.specs.InRange.{LoadInRange}
-use Rattle.dss_model.specs.declared.element.Element.{Element}
-use Rattle.dss_model.specs.declared.element.Element.TheVariants as the
-use Rattle.dss_model.specs.declared.vsource.Vsource.{Vsource}
-use Rattle.dss_model.specs.declared.line.Line.{Line}
-use Rattle.dss_model.specs.declared.transformer.Transformer.{Transformer}
-use Rattle.dss_model.specs.declared.capacitor.Capacitor.{Capacitor}
-use Rattle.dss_model.specs.declared.load.Load.{Load}
+use Rattle.fd_xfmr.specs.fd_system.Contributions.{concat_below}
+use Rattle.dss_layout.specs.dss_model.Ranges.{IsOneOf}
+use Rattle.dss_layout.specs.dss_model.InRange.{LoadInRange}
+use Rattle.dss_layout.specs.dss_model.declared.element.Element.{Element}
+use Rattle.dss_layout.specs.dss_model.declared.element.Element.TheVariants as the
+use Rattle.dss_layout.specs.dss_model.declared.vsource.Vsource.{Vsource}
+use Rattle.dss_layout.specs.dss_model.declared.line.Line.{Line}
+use Rattle.dss_layout.specs.dss_model.declared.transformer.Transformer.{Transformer}
+use Rattle.dss_layout.specs.dss_model.declared.capacitor.Capacitor.{Capacitor}
+use Rattle.dss_layout.specs.dss_model.declared.load.Load.{Load}
 use Rattle.dss_layout.specs.Layout.{LayoutView, branch_phases, complex_count, ends_of, first_magnitude, size_of}
 use Rattle.fd_devices.specs.Data.{cap_data_of, xfmr_data_of}
 use Rattle.fd_devices.specs.Devices.{source, line, transformer, capacitor, loads}

@@ -2,14 +2,14 @@
 use Rattle.std.proofs.Common.{◌≡◌, ℕ, ◌==◌, ◌≤◌, nat_le, Bool, true, false, ◌&&◌, inl, inr, if◌then◌else◌, List, [], ◌∷◌, length, take, Option, Some, None, Result, Ok, Err, refl, sym, ap, subst, ◌∙◌}
 use Rattle.std.proofs.lemmas.Bool.{eqb-true}
 use Rattle.std.proofs.lemmas.List.{length-map, length-take-le}
-use Rattle.fd_system.specs.Terminals.{node_count}
-use Rattle.dss_model.specs.declared.bus.Bus.{Bus}
-use Rattle.dss_model.specs.declared.words.Connection.{Connection}
-use Rattle.dss_model.specs.declared.words.Connection.TheVariants.{Wye, Delta}
-use Rattle.dss_model.specs.Ranges.{IsOneOf}
-use Rattle.dss_model.specs.InRange.{ElementInRange}
-use Rattle.dss_model.specs.declared.element.Element.{Element}
-use Rattle.dss_model.specs.declared.element.Element.TheVariants as the
+use Rattle.fd_xfmr.specs.fd_system.Terminals.{node_count}
+use Rattle.dss_layout.specs.dss_model.declared.bus.Bus.{Bus}
+use Rattle.dss_layout.specs.dss_model.declared.words.Connection.{Connection}
+use Rattle.dss_layout.specs.dss_model.declared.words.Connection.TheVariants.{Wye, Delta}
+use Rattle.dss_layout.specs.dss_model.Ranges.{IsOneOf}
+use Rattle.dss_layout.specs.dss_model.InRange.{ElementInRange}
+use Rattle.dss_layout.specs.dss_model.declared.element.Element.{Element}
+use Rattle.dss_layout.specs.dss_model.declared.element.Element.TheVariants as the
 use Rattle.dss_layout.specs.declared.terminals.Terminals.{Terminals}
 use Rattle.dss_layout.specs.declared.numbers.TerminalFault.{TerminalFault}
 use Rattle.dss_layout.specs.declared.numbers.TerminalFault.TheVariants.{WrongCount, Unsupported}

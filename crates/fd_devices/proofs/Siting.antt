@@ -1,12 +1,12 @@
 -- Where the sides, the branches and the magnitudes of an element stand, by its kind.
 use Rattle.std.proofs.Common.{IsTrue, ℕ, ◌+◌, ◌≤◌, inl, inr, if◌then◌else◌, [], ◌∷◌, subst, arith}
-use Rattle.dss_model.specs.LoadKinds.{has_magnitude}
-use Rattle.fd_arith.specs.declared.terms.Ends.{Ends}
-use Rattle.dss_model.specs.Ranges.{IsOneOf}
-use Rattle.dss_model.specs.InRange.{ElementInRange}
-use Rattle.dss_model.specs.declared.element.Element.{Element}
-use Rattle.dss_model.specs.declared.element.Element.TheVariants as the
-use Rattle.dss_model.specs.declared.load.Load.{Load}
+use Rattle.dss_layout.specs.dss_model.LoadKinds.{has_magnitude}
+use Rattle.dss_layout.specs.fd_arith.declared.terms.Ends.{Ends}
+use Rattle.dss_layout.specs.dss_model.Ranges.{IsOneOf}
+use Rattle.dss_layout.specs.dss_model.InRange.{ElementInRange}
+use Rattle.dss_layout.specs.dss_model.declared.element.Element.{Element}
+use Rattle.dss_layout.specs.dss_model.declared.element.Element.TheVariants as the
+use Rattle.dss_layout.specs.dss_model.declared.load.Load.{Load}
 use Rattle.dss_layout.specs.Layout.{branch_phases, magnitude_phases}
 use Rattle.fd_devices.specs.Sound.{HasBranches, HasMagnitudes, IsSideOf, IsSited}
 use Rattle.fd_devices.proofs.Sides.{first_count, second_count}

@@ -3,7 +3,7 @@ use Rattle.std.proofs.Common.{◌≡◌, ◌∙◌, ℕ, zero, suc, ◌+◌, ◌
 use Rattle.std.specs.List.{All}
 use Rattle.std.proofs.Math.Seq.{take-suc}
 use Rattle.std.proofs.lemmas.Option.{get_or_from_slice_get, slice_get_within}
-use Rattle.fd_exact.specs.Sums.{list_n}
+use Rattle.dss_layout.specs.fd_exact.Sums.{list_n}
 use Rattle.fd_devices.proofs.Collecting.{list_n-more}
 
 -- one element more

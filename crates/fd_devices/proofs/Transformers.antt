@@ -2,14 +2,14 @@
 use Rattle.std.proofs.Common.{ℕ, ◌+◌, ◌*◌, ◌%◌, ◌<◌, ◌≤◌, ◌^◌, pos, negsuc, neg_ℤ, List, arith}
 use Rattle.std.specs.List.{All}
 use Rattle.std.proofs.lemmas.List.Elements.{All-nil}
-use Rattle.fd_arith.specs.declared.terms.NodeAt.{NodeAt}
-use Rattle.fd_arith.specs.declared.terms.Ends.{Ends}
-use Rattle.fd_arith.specs.declared.terms.TapPair.{TapPair}
-use Rattle.fd_system.specs.Contributions.{IsWithin, complex_terms}
-use Rattle.fd_system.specs.declared.terminals.NodePair.{NodePair}
-use Rattle.fd_system.specs.declared.terminals.PhasePairs.{PhasePairs}
-use Rattle.fd_system.specs.declared.terminals.PhasePairs.TheVariants as pairs
-use Rattle.fd_system.specs.Terminals.{node_count, pair_of, second_node}
+use Rattle.dss_layout.specs.fd_arith.declared.terms.NodeAt.{NodeAt}
+use Rattle.dss_layout.specs.fd_arith.declared.terms.Ends.{Ends}
+use Rattle.dss_layout.specs.fd_arith.declared.terms.TapPair.{TapPair}
+use Rattle.fd_xfmr.specs.fd_system.Contributions.{IsWithin, complex_terms}
+use Rattle.fd_xfmr.specs.fd_system.declared.terminals.NodePair.{NodePair}
+use Rattle.fd_xfmr.specs.fd_system.declared.terminals.PhasePairs.{PhasePairs}
+use Rattle.fd_xfmr.specs.fd_system.declared.terminals.PhasePairs.TheVariants as pairs
+use Rattle.fd_xfmr.specs.fd_system.Terminals.{node_count, pair_of, second_node}
 use Rattle.fd_xfmr.specs.declared.data.XfmrData.{XfmrData}
 use Rattle.fd_xfmr.specs.declared.leakage.Coefficients.{Coefficients}
 use Rattle.fd_xfmr.specs.declared.terms.PhaseAt.{PhaseAt}
@@ -17,7 +17,7 @@ use Rattle.fd_xfmr.specs.Windings.{first_pairs, second_pairs}
 use Rattle.fd_xfmr.specs.Leakage.{AreTaps, IsXfmr, coefficients_of}
 use Rattle.fd_xfmr.specs.Transformer.{branch_list, current_list, list_at, phase_at, phase_list, xfmr_list}
 use Rattle.fd_xfmr.proofs.CallerLemmas.{xfmr_is}
-use Rattle.fd_load.specs.Current.{IsPast}
+use Rattle.fd_elements.specs.fd_load.Current.{IsPast}
 use Rattle.fd_pattern.specs.Conditions.{IsAmong, IsKnown, IsServed}
 use Rattle.fd_devices.specs.Devices.{transformer}
 use Rattle.fd_devices.specs.Building.{IsSettled}

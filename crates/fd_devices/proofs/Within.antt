@@ -6,15 +6,15 @@ use Rattle.std.proofs.Math.Nat.{mul-le-mul}
 use Rattle.std.proofs.lemmas.Bool.{le-leb}
 use Rattle.std.proofs.lemmas.Int.{ints, unsigned_abs-mul}
 use Rattle.std.proofs.lemmas.List.Elements.{All-nil, All-cons, All-append, All-head, All-tail}
-use Rattle.fd_arith.specs.LoadModels.{is_linear}
-use Rattle.fd_arith.specs.Nearest.{near_size}
-use Rattle.fd_arith.specs.declared.terms.NodeAt.{NodeAt}
-use Rattle.fd_arith.specs.declared.terms.NodeAt.TheVariants.{Ground, Node}
-use Rattle.fd_system.specs.declared.loads.LoadAt.{LoadAt}
-use Rattle.fd_system.specs.Contributions.{IsWithin, complex_terms, one, shunt_list, term_units}
-use Rattle.fd_system.specs.Loads.{impedance_list, linear_list}
-use Rattle.fd_load.specs.Current.{IsPast, power_sum}
-use Rattle.fd_load.proofs.CallerLemmas.{within_limit}
+use Rattle.dss_layout.specs.fd_arith.LoadModels.{is_linear}
+use Rattle.dss_layout.specs.fd_arith.Nearest.{near_size}
+use Rattle.dss_layout.specs.fd_arith.declared.terms.NodeAt.{NodeAt}
+use Rattle.dss_layout.specs.fd_arith.declared.terms.NodeAt.TheVariants.{Ground, Node}
+use Rattle.fd_xfmr.specs.fd_system.declared.loads.LoadAt.{LoadAt}
+use Rattle.fd_xfmr.specs.fd_system.Contributions.{IsWithin, complex_terms, one, shunt_list, term_units}
+use Rattle.fd_xfmr.specs.fd_system.Loads.{impedance_list, linear_list}
+use Rattle.fd_elements.specs.fd_load.Current.{IsPast, power_sum}
+use Rattle.fd_elements.proofs.CallerLemmas.fd_load.{within_limit}
 use Rattle.fd_devices.specs.Building.{IsUsable}
 use Rattle.fd_devices.proofs.Bounded.{square_between}
 

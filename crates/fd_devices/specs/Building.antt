@@ -2,13 +2,13 @@
 use Rattle.std.specs.Prelude.{◌≡◌, ℕ, ◌+◌, ◌*◌, ◌<◌, ◌≤◌, ◌^◌, nat_abs, List, length, Bool, IsTrue, not, ◌&&◌, All}
 use Rattle.std.specs.List.{list_all}
 use Rattle.dss_layout.specs.Layout.{Elements, branch_phases}
-use Rattle.fd_exact.specs.Sums.{list_n}
-use Rattle.fd_arith.specs.declared.terms.Term.{Term}
-use Rattle.fd_system.specs.declared.loads.LoadAt.{LoadAt}
-use Rattle.fd_system.specs.Contributions.{AreSmall, IsDivided, IsSmall, IsWithin, are_small, term_units}
-use Rattle.fd_system.specs.System.{StampView}
+use Rattle.dss_layout.specs.fd_exact.Sums.{list_n}
+use Rattle.dss_layout.specs.fd_arith.declared.terms.Term.{Term}
+use Rattle.fd_xfmr.specs.fd_system.declared.loads.LoadAt.{LoadAt}
+use Rattle.fd_xfmr.specs.fd_system.Contributions.{AreSmall, IsDivided, IsSmall, IsWithin, are_small, term_units}
+use Rattle.fd_xfmr.specs.fd_system.System.{StampView}
 use Rattle.fd_elements.specs.declared.powers.LoadPower.{LoadPower}
-use Rattle.fd_load.specs.Current.{AreLoadVoltages, is_past}
+use Rattle.fd_elements.specs.fd_load.Current.{AreLoadVoltages, is_past}
 use Rattle.fd_pattern.specs.Coefficients.{linear_entry}
 use Rattle.fd_pattern.specs.Conditions.{IsKnown, IsServed}
 use Rattle.fd_devices.specs.Devices.{Device, IsGood, device_stamp, stamp_of_all}

@@ -1,7 +1,7 @@
 -- The data of transformers and capacitor banks by their values in the script.
 use Rattle.std.specs.Prelude.{[], ◌∷◌}
-use Rattle.dss_model.specs.declared.transformer.Transformer.{Transformer}
-use Rattle.dss_model.specs.declared.capacitor.Capacitor.{Capacitor}
+use Rattle.dss_layout.specs.dss_model.declared.transformer.Transformer.{Transformer}
+use Rattle.dss_layout.specs.dss_model.declared.capacitor.Capacitor.{Capacitor}
 use Rattle.fd_xfmr.specs.declared.data.XfmrData.{XfmrData}
 use Rattle.fd_cap.specs.declared.data.CapData.{CapData}
 use Rattle.fd_elements.specs.Connections.{conn_of}

@@ -2,18 +2,18 @@
 -- stamps, and that the two have the same rows.
 use Rattle.std.specs.Prelude.{ℕ, ◌<◌, Bool, List, [], map, All}
 use Rattle.std.specs.List.{flat_map}
-use Rattle.fd_exact.specs.States.{State}
-use Rattle.fd_arith.specs.declared.terms.Ends.{Ends}
-use Rattle.fd_arith.specs.declared.terms.TapPair.{TapPair}
-use Rattle.fd_system.specs.declared.loads.LoadAt.{LoadAt}
-use Rattle.fd_system.specs.Equations.{Part, equation}
-use Rattle.fd_system.specs.Loads.{load_parts, IsLoad}
-use Rattle.fd_system.specs.System.{StampView, Represents, residual_of, joined, loads_stamp, stamp_with}
-use Rattle.fd_system.specs.Meets.{Meets}
-use Rattle.fd_line.specs.declared.data.LineData.{LineData}
-use Rattle.fd_line.specs.Line.{line_list, line_parts}
-use Rattle.fd_source.specs.declared.data.SourceData.{SourceData}
-use Rattle.fd_source.specs.Equations.{stamp_from, source_constants, source_list, source_parts}
+use Rattle.dss_layout.specs.fd_exact.States.{State}
+use Rattle.dss_layout.specs.fd_arith.declared.terms.Ends.{Ends}
+use Rattle.dss_layout.specs.fd_arith.declared.terms.TapPair.{TapPair}
+use Rattle.fd_xfmr.specs.fd_system.declared.loads.LoadAt.{LoadAt}
+use Rattle.fd_xfmr.specs.fd_system.Equations.{Part, equation}
+use Rattle.fd_xfmr.specs.fd_system.Loads.{load_parts, IsLoad}
+use Rattle.fd_xfmr.specs.fd_system.System.{StampView, Represents, residual_of, joined, loads_stamp, stamp_with}
+use Rattle.fd_xfmr.specs.fd_system.Meets.{Meets}
+use Rattle.fd_elements.specs.fd_line.declared.data.LineData.{LineData}
+use Rattle.fd_elements.specs.fd_line.Line.{line_list, line_parts}
+use Rattle.fd_elements.specs.fd_source.declared.data.SourceData.{SourceData}
+use Rattle.fd_elements.specs.fd_source.Equations.{stamp_from, source_constants, source_list, source_parts}
 use Rattle.fd_xfmr.specs.declared.data.XfmrData.{XfmrData}
 use Rattle.fd_xfmr.specs.Leakage.{AreTaps, IsXfmr}
 use Rattle.fd_xfmr.specs.Transformer.{xfmr_list, xfmr_parts}

@@ -1,15 +1,15 @@
 -- What is kept of elements, so that they can be taken at other settings without memory.
 use Rattle.std.specs.Prelude.{◌≡◌, ℕ, ◌+◌, ◌*◌, ◌<◌, ◌≤◌, ◌^◌, Bool, true, false, length, List, map, All}
 use Rattle.std.specs.List.{flat_map}
-use Rattle.fd_arith.specs.declared.terms.Ends.{Ends}
-use Rattle.fd_system.specs.Contributions.{IsSmall}
-use Rattle.fd_system.specs.Stamps.{stamp_of}
-use Rattle.fd_system.specs.System.{StampView}
+use Rattle.dss_layout.specs.fd_arith.declared.terms.Ends.{Ends}
+use Rattle.fd_xfmr.specs.fd_system.Contributions.{IsSmall}
+use Rattle.fd_xfmr.specs.fd_system.Stamps.{stamp_of}
+use Rattle.fd_xfmr.specs.fd_system.System.{StampView}
 use Rattle.fd_pattern.specs.PatternPlaces.{load_places, place_of}
-use Rattle.dss_model.specs.declared.load.LoadKind.{LoadKind}
-use Rattle.dss_model.specs.declared.load.LoadKind.TheVariants as kind
-use Rattle.dss_model.specs.declared.element.Element.{Element}
-use Rattle.dss_model.specs.declared.element.Element.TheVariants as the
+use Rattle.dss_layout.specs.dss_model.declared.load.LoadKind.{LoadKind}
+use Rattle.dss_layout.specs.dss_model.declared.load.LoadKind.TheVariants as kind
+use Rattle.dss_layout.specs.dss_model.declared.element.Element.{Element}
+use Rattle.dss_layout.specs.dss_model.declared.element.Element.TheVariants as the
 use Rattle.dss_layout.specs.Layout.{LayoutView, ends_of}
 use Rattle.fd_devices.specs.declared.kept.Kept.{Kept}
 use Rattle.fd_devices.specs.Devices.{device_stamp}

@@ -1,11 +1,11 @@
 -- What an element is of one class: the transformer, the bank or the load that it is, alone in a list, and nothing where it is of another
 -- class. A law of one class that speaks of these has no case for any other.
 use Rattle.std.specs.Prelude.{List, [], ◌∷◌}
-use Rattle.dss_model.specs.declared.transformer.Transformer.{Transformer}
-use Rattle.dss_model.specs.declared.capacitor.Capacitor.{Capacitor}
-use Rattle.dss_model.specs.declared.load.Load.{Load}
-use Rattle.dss_model.specs.declared.element.Element.{Element}
-use Rattle.dss_model.specs.declared.element.Element.TheVariants as the
+use Rattle.dss_layout.specs.dss_model.declared.transformer.Transformer.{Transformer}
+use Rattle.dss_layout.specs.dss_model.declared.capacitor.Capacitor.{Capacitor}
+use Rattle.dss_layout.specs.dss_model.declared.load.Load.{Load}
+use Rattle.dss_layout.specs.dss_model.declared.element.Element.{Element}
+use Rattle.dss_layout.specs.dss_model.declared.element.Element.TheVariants as the
 
 abbrev pub transformers_in : Element → List Transformer
 transformers_in (the.Transformer xfmr) = xfmr ∷ []

@@ -1,12 +1,12 @@
 -- The places of row and column that a device can reach, whatever its taps, its state or its powers.
 use Rattle.std.specs.Prelude.{ℕ, List, [], ◌++◌, map, All}
 use Rattle.std.specs.List.{Contains, flat_map}
-use Rattle.fd_arith.specs.declared.terms.NodeAt.{NodeAt}
-use Rattle.fd_arith.specs.declared.terms.Ends.{Ends}
-use Rattle.fd_system.specs.Contributions.{concat_below}
-use Rattle.fd_system.specs.Terminals.{branch_of}
-use Rattle.fd_line.specs.Line.{line_list}
-use Rattle.fd_source.specs.Equations.{source_list}
+use Rattle.dss_layout.specs.fd_arith.declared.terms.NodeAt.{NodeAt}
+use Rattle.dss_layout.specs.fd_arith.declared.terms.Ends.{Ends}
+use Rattle.fd_xfmr.specs.fd_system.Contributions.{concat_below}
+use Rattle.fd_xfmr.specs.fd_system.Terminals.{branch_of}
+use Rattle.fd_elements.specs.fd_line.Line.{line_list}
+use Rattle.fd_elements.specs.fd_source.Equations.{source_list}
 use Rattle.fd_pattern.specs.PatternPlaces.{cross, load_places, node_places, place_of, places_of}
 use Rattle.fd_devices.specs.Devices.{Device, capacitor, device_stamp, line, loads, other, source, transformer}
 

@@ -1,18 +1,18 @@
 -- The devices of a scripted circuit, and its network.
 use Rattle.std.specs.Prelude.{ℕ, ◌+◌, pos, Bool, false, List, [], ◌∷◌, map, length, get_or, Option, Some, None, if◌then◌else◌}
-use Rattle.fd_exact.specs.States.{State}
-use Rattle.fd_arith.specs.declared.terms.NodeAt.{NodeAt}
-use Rattle.fd_arith.specs.declared.terms.TapPair.{TapPair}
-use Rattle.fd_arith.specs.declared.terms.LoadModel.{LoadModel}
-use Rattle.fd_arith.specs.LoadModels.{has_magnitude}
-use Rattle.fd_system.specs.declared.loads.LoadPhase.{LoadPhase}
-use Rattle.fd_system.specs.declared.loads.LoadAt.{LoadAt}
-use Rattle.fd_system.specs.Equations.{Part}
-use Rattle.fd_system.specs.declared.terminals.NodePair.{NodePair}
-use Rattle.fd_system.specs.Terminals.{pair_of, pairs_of}
-use Rattle.dss_model.specs.declared.element.Element.{Element}
-use Rattle.dss_model.specs.declared.element.Element.TheVariants as the
-use Rattle.dss_model.specs.declared.load.Load.{Load}
+use Rattle.dss_layout.specs.fd_exact.States.{State}
+use Rattle.dss_layout.specs.fd_arith.declared.terms.NodeAt.{NodeAt}
+use Rattle.dss_layout.specs.fd_arith.declared.terms.TapPair.{TapPair}
+use Rattle.dss_layout.specs.fd_arith.declared.terms.LoadModel.{LoadModel}
+use Rattle.dss_layout.specs.fd_arith.LoadModels.{has_magnitude}
+use Rattle.fd_xfmr.specs.fd_system.declared.loads.LoadPhase.{LoadPhase}
+use Rattle.fd_xfmr.specs.fd_system.declared.loads.LoadAt.{LoadAt}
+use Rattle.fd_xfmr.specs.fd_system.Equations.{Part}
+use Rattle.fd_xfmr.specs.fd_system.declared.terminals.NodePair.{NodePair}
+use Rattle.fd_xfmr.specs.fd_system.Terminals.{pair_of, pairs_of}
+use Rattle.dss_layout.specs.dss_model.declared.element.Element.{Element}
+use Rattle.dss_layout.specs.dss_model.declared.element.Element.TheVariants as the
+use Rattle.dss_layout.specs.dss_model.declared.load.Load.{Load}
 use Rattle.dss_layout.specs.Layout.{Elements, LayoutView, ends_of, first_magnitude, layout_of}
 use Rattle.dss_circuit.specs.Circuit.{CircuitView}
 use Rattle.fd_elements.specs.declared.powers.LoadPower.{LoadPower}
@@ -20,7 +20,7 @@ use Rattle.fd_elements.specs.Connections.{conn_of}
 use Rattle.fd_elements.specs.Lines.{line_data_of}
 use Rattle.fd_elements.specs.Loads.{phase_parts}
 use Rattle.fd_pattern.specs.declared.layout.Layout.{Layout}
-use Rattle.fd_system.specs.Contributions.{concat_below}
+use Rattle.fd_xfmr.specs.fd_system.Contributions.{concat_below}
 use Rattle.fd_pattern.specs.Views.{NetworkView, network_of}
 use Rattle.fd_devices.specs.Data.{cap_data_of, xfmr_data_of}
 use Rattle.fd_devices.specs.Devices.{Device, source, line, transformer, capacitor, loads, other, parts_of_all, stamp_of_all}

@@ -1,10 +1,10 @@
 -- What is set of a circuit beside its script: taps, states of banks and powers of loads, each in order of definition.
 use Rattle.std.specs.Prelude.{◌≡◌, ℕ, ◌≤◌, Bool, List, length, take, drop, All}
-use Rattle.fd_exact.specs.Sums.{list_n}
-use Rattle.fd_arith.specs.declared.terms.TapPair.{TapPair}
+use Rattle.dss_layout.specs.fd_exact.Sums.{list_n}
+use Rattle.dss_layout.specs.fd_arith.declared.terms.TapPair.{TapPair}
 use Rattle.fd_elements.specs.declared.powers.LoadPower.{LoadPower}
-use Rattle.dss_model.specs.declared.load.Load.{Load}
-use Rattle.dss_model.specs.declared.element.Element.{Element}
+use Rattle.dss_layout.specs.dss_model.declared.load.Load.{Load}
+use Rattle.dss_layout.specs.dss_model.declared.element.Element.{Element}
 use Rattle.dss_layout.specs.Layout.{Elements}
 use Rattle.fd_xfmr.specs.Leakage.{AreTaps}
 use Rattle.fd_devices.specs.Kinds.{banks_in, loads_in, transformers_in}

@@ -1,13 +1,13 @@
 -- What the tests of Solve say of an element that takes part in the equations, and where it stands.
 use Rattle.std.specs.Prelude.{◌≡◌, IsTrue, ℕ, ◌+◌, ◌*◌, ◌≤◌, false, Ok, IsSome, List, length, All}
-use Rattle.fd_arith.specs.declared.terms.NodeAt.{NodeAt}
-use Rattle.dss_model.specs.LoadKinds.{has_magnitude}
-use Rattle.fd_arith.specs.declared.terms.Ends.{Ends}
-use Rattle.fd_system.specs.Terminals.{node_count}
-use Rattle.dss_model.specs.declared.element.Element.{Element}
-use Rattle.dss_model.specs.declared.element.Element.TheVariants as the
+use Rattle.dss_layout.specs.fd_arith.declared.terms.NodeAt.{NodeAt}
+use Rattle.dss_layout.specs.dss_model.LoadKinds.{has_magnitude}
+use Rattle.dss_layout.specs.fd_arith.declared.terms.Ends.{Ends}
+use Rattle.fd_xfmr.specs.fd_system.Terminals.{node_count}
+use Rattle.dss_layout.specs.dss_model.declared.element.Element.{Element}
+use Rattle.dss_layout.specs.dss_model.declared.element.Element.TheVariants as the
 use Rattle.dss_layout.specs.Terminals.{terminal_numbers, tested}
-use Rattle.dss_model.specs.Sound.{are_matrices_wrong, is_source_outside}
+use Rattle.dss_layout.specs.dss_model.Sound.{are_matrices_wrong, is_source_outside}
 use Rattle.fd_pattern.specs.Conditions.{IsAmong}
 
 -- ---- values

@@ -1,12 +1,12 @@
 -- An element where a layout has it, and when its device is settled there.
 use Rattle.std.specs.Prelude.{IsTrue, ℕ, ◌<◌, ◌≤◌, ◌^◌, List, length}
-use Rattle.dss_model.specs.LoadKinds.{has_magnitude}
-use Rattle.fd_arith.specs.declared.terms.Ends.{Ends}
-use Rattle.fd_arith.specs.declared.terms.NodeAt.{NodeAt}
-use Rattle.fd_system.specs.Terminals.{node_count}
-use Rattle.dss_model.specs.declared.element.Element.{Element}
-use Rattle.dss_model.specs.declared.load.Load.{Load}
-use Rattle.dss_model.specs.InRange.{ElementInRange}
+use Rattle.dss_layout.specs.dss_model.LoadKinds.{has_magnitude}
+use Rattle.dss_layout.specs.fd_arith.declared.terms.Ends.{Ends}
+use Rattle.dss_layout.specs.fd_arith.declared.terms.NodeAt.{NodeAt}
+use Rattle.fd_xfmr.specs.fd_system.Terminals.{node_count}
+use Rattle.dss_layout.specs.dss_model.declared.element.Element.{Element}
+use Rattle.dss_layout.specs.dss_model.declared.load.Load.{Load}
+use Rattle.dss_layout.specs.dss_model.InRange.{ElementInRange}
 use Rattle.dss_layout.specs.Limits.{most_complex}
 use Rattle.dss_layout.specs.Layout.{LayoutView, branch_phases, complex_count, ends_of, first_magnitude, size_of}
 use Rattle.fd_devices.specs.Building.{IsSettled}

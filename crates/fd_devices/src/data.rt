@@ -1,11 +1,11 @@
 // The data of transformers and capacitor banks.
 ghost use Rattle.std.specs.Prelude.{◌≡◌};
-ghost use Rattle.dss_model.specs.InRange.{CapacitorInRange, TransformerInRange};
+ghost use Rattle.dss_layout.specs.dss_model.InRange.{CapacitorInRange, TransformerInRange};
 ghost use Rattle.fd_xfmr.specs.Leakage.{IsXfmr};
 ghost use Rattle.fd_cap.specs.Capacitor.{IsCap};
 ghost use Rattle.fd_devices.specs.Data.{cap_data_of, xfmr_data_of};
 
-use dss_model::{Capacitor, Transformer};
+use dss_layout::{Capacitor, Transformer};
 use fd_cap::CapData;
 use fd_elements::conn_of;
 use fd_xfmr::XfmrData;

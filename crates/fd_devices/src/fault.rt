@@ -1,5 +1,5 @@
 // Why there is no network.
-use dss_model::Blame;
+use dss_layout::Blame;
 use std::alloc::{AllocError, AllocFailed};
 
 /// Why a circuit has no network.

@@ -1,12 +1,12 @@
 // What is kept of elements.
 ghost use Rattle.std.specs.Prelude.{◌≡◌, ◌+◌, ◌*◌, ◌<◌, ◌≤◌, ◌^◌, ◌++◌, [], ◌∷◌, IfOk, IfErr, OnOk, All, Err};
-ghost use Rattle.dss_model.specs.Ranges.{IsOneOf};
-ghost use Rattle.dss_model.specs.InRange.{ElementInRange};
+ghost use Rattle.dss_layout.specs.dss_model.Ranges.{IsOneOf};
+ghost use Rattle.dss_layout.specs.dss_model.InRange.{ElementInRange};
 ghost use Rattle.dss_layout.specs.Layout.{size_of};
 ghost use Rattle.fd_devices.specs.Building.{DeviceFits, IsModest};
 ghost use Rattle.fd_devices.specs.Devices.{device_stamp};
-ghost use Rattle.fd_system.specs.Contributions.{IsSmall};
-ghost use Rattle.fd_system.specs.Stamps.{HasRoom, IsRoomSame, stamp_of};
+ghost use Rattle.fd_xfmr.specs.fd_system.Contributions.{IsSmall};
+ghost use Rattle.fd_xfmr.specs.fd_system.Stamps.{HasRoom, IsRoomSame, stamp_of};
 ghost use Rattle.fd_pattern.specs.Patterns.{IsInside};
 ghost use Rattle.fd_devices.specs.Kept.{AreFewOf, AreSmallEnds, IsKeptOf, is_moved as has_settings, most_constants as most_constants_of, most_loads as most_loads_of, most_terms as most_terms_of, parts_of as parts_by_kind, reach_of};
 ghost use Rattle.fd_devices.specs.Reach.{device_places};
@@ -18,11 +18,9 @@ use crate::reached::{add_bank_places, add_transformer_places};
 use crate::settings::SettingSlices;
 use crate::stamps::element_stamp;
 use crate::writers::{capacitor_into, load_into, transformer_into};
-use dss_layout::Layout;
-use dss_model::{Element, LoadKind};
-use fd_arith::{Ends, TermFault};
+use dss_layout::{Element, Ends, Layout, LoadKind, TermFault};
 use fd_pattern::{add_load_places, add_term_places};
-use fd_system::Stamp;
+use fd_xfmr::Stamp;
 use std::alloc::{AllocError, Global};
 
 /// What is the same of an element at all settings: where it stands, and, if it has no settings, what it adds.

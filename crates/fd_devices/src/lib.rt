@@ -27,3 +27,15 @@ pub use devices::{device_law, reach_law};
 pub use fault::BuildFault;
 pub use kept::{Kept, kept_of, most_constants, most_loads, most_terms, stamp_into};
 pub use settings::{BankStates, LoadPowers, Positions, Powers, SettingSlices, Taps};
+
+// Handed on from the crates below.
+pub use dss_circuit::{Circuit, find_element};
+pub use dss_layout::{
+    BankState, Capacitor, Class, Element, ElementName, Load, Loadshape, Mode, Options, TapPair,
+    Text, Transformer, Winding,
+};
+pub use fd_elements::{LoadPower, load_power};
+pub use fd_pattern::{Layout, PlaceKind};
+pub use fd_xfmr::{
+    Constant, LoadAt, LoadPhase, NodePair, PhaseAt, Stamp, XfmrData, phase_at, phase_volts,
+};

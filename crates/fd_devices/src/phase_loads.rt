@@ -1,21 +1,19 @@
 // The part loads of a load's phases, their contributions and what they draw.
 ghost use Rattle.std.specs.Prelude.{◌≡◌, ◌+◌, ◌*◌, ◌<◌, ◌≤◌, ◌++◌, ◌^◌, ◌↔◌, [], pos, neg_ℤ, ◌*ℤ◌, nat_abs, IsTrue, All, length, vec_capacity};
 ghost use Rattle.std.specs.List.{flat_map};
-ghost use Rattle.fd_exact.specs.Sums.{list_n};
-ghost use Rattle.dss_model.specs.InRange.{LoadInRange};
-ghost use Rattle.fd_system.specs.Contributions.{IsDivided};
-ghost use Rattle.fd_system.specs.Loads.{draw_of as phase_draw, impedance_list, linear_list};
-ghost use Rattle.fd_system.specs.Terminals.{IsSide, node_count};
-ghost use Rattle.fd_load.specs.Current.{IsPast};
-ghost use Rattle.fd_load.specs.Zip.{IsPart};
+ghost use Rattle.dss_layout.specs.fd_exact.Sums.{list_n};
+ghost use Rattle.dss_layout.specs.dss_model.InRange.{LoadInRange};
+ghost use Rattle.fd_xfmr.specs.fd_system.Contributions.{IsDivided};
+ghost use Rattle.fd_xfmr.specs.fd_system.Loads.{draw_of as phase_draw, impedance_list, linear_list};
+ghost use Rattle.fd_xfmr.specs.fd_system.Terminals.{IsSide, node_count};
+ghost use Rattle.fd_elements.specs.fd_load.Current.{IsPast};
+ghost use Rattle.fd_elements.specs.fd_load.Zip.{IsPart};
 ghost use Rattle.fd_devices.specs.Scripted.{magnitude_place as place_of_magnitude, part_at as part_by_place, phase_loads, phases_of};
 ghost use Rattle.fd_devices.specs.Building.{IsModest, IsUsable};
 
-use dss_model::Load;
-use fd_arith::{LoadModel, Nodes, Term};
-use fd_elements::{LoadPower, conn_of, load_phase, sole_model, zip_phase};
-use fd_load::{is_load_past, zip_parts};
-use fd_system::{LoadAt, LoadPhase, NodePair, add_shunt, phase_pair, phase_pairs};
+use dss_layout::{Load, LoadModel, NodesAt, Term};
+use fd_elements::{LoadPower, conn_of, is_load_past, load_phase, sole_model, zip_parts, zip_phase};
+use fd_xfmr::{LoadAt, LoadPhase, NodePair, add_shunt, phase_pair, phase_pairs};
 
 // powers are in 10^-3 VA and voltages in microvolts, so a power over a voltage is in 10^9 microamperes
 const PER_UNIT: i128 = 1_000_000_000;
@@ -24,7 +22,7 @@ const PER_UNIT: i128 = 1_000_000_000;
 /// for nine. Takes no memory.
 pub fn load_phases_into(
     load: &Load,
-    nodes: &Nodes,
+    nodes: &NodesAt,
     magnitude: u32,
     powers: &[LoadPower],
     into: &mut Vec<LoadAt>,
@@ -49,7 +47,7 @@ pub fn load_phases_into(
 fn add_phase(
     into: &mut Vec<LoadAt>,
     load: &Load,
-    nodes: &Nodes,
+    nodes: &NodesAt,
     magnitude: u32,
     powers: &[LoadPower],
     k: u32,
@@ -83,7 +81,7 @@ fn add_phase(
 }
 
 // A part load of phase k.
-fn part_at(load: &Load, nodes: &Nodes, magnitude: u32, k: u32, part: LoadPhase) -> LoadAt
+fn part_at(load: &Load, nodes: &NodesAt, magnitude: u32, k: u32, part: LoadPhase) -> LoadAt
     requires range { LoadInRange load.now }
     requires nodes { IsSide (node_count load.now.phases) nodes.now }
     requires magnitude { magnitude < 2 ^ 31 }

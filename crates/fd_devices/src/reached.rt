@@ -1,9 +1,9 @@
 // The places of row and column that a transformer or a capacitor bank can reach.
 ghost use Rattle.std.specs.Prelude.{◌≡◌, ◌+◌, ◌<◌, ◌^◌, ◌++◌, OnOk, IfOk, All};
-ghost use Rattle.fd_system.specs.Contributions.{IsSmall};
+ghost use Rattle.fd_xfmr.specs.fd_system.Contributions.{IsSmall};
 ghost use Rattle.fd_devices.specs.Reach.{branch_places as unknowns_of_branches, bank_places as places_of_bank, transformer_places as places_of_transformer, unknowns_of};
 
-use fd_arith::{Ends, NodeAt};
+use dss_layout::{Ends, NodeAt};
 use fd_pattern::{add_cross, add_node_places};
 use std::alloc::{AllocError, Global};
 

@@ -2,10 +2,8 @@
 ghost use Rattle.std.specs.Prelude.{◌≡◌, IfOk};
 ghost use Rattle.fd_devices.specs.Settings.{HasOwn, after, bank_count, own, power_count, settings_in, settings_of, tap_count};
 
-use dss_model::Element;
-use fd_arith::TapPair;
+use dss_layout::{Element, Items, TapPair};
 use fd_elements::LoadPower;
-use fd_items::Items;
 use std::alloc::AllocError;
 
 /// The taps of transformers in order.

@@ -1,13 +1,13 @@
 // What each device adds to a network.
 ghost use Rattle.std.specs.Prelude.{◌≡◌, ◌+◌, ◌*◌, ◌<◌, ◌^◌, false, [], ◌∷◌, IfOk, IsSome, All, length};
-ghost use Rattle.dss_model.specs.Ranges.{IsOneOf};
-ghost use Rattle.dss_model.specs.InRange.{CapacitorInRange, LineInRange, LoadInRange, TransformerInRange, VsourceInRange};
-ghost use Rattle.dss_model.specs.Sound.{are_matrices_wrong, is_source_outside};
-ghost use Rattle.fd_system.specs.Stamps.{stamp_of};
-ghost use Rattle.fd_system.specs.Terminals.{IsSide, node_count};
-ghost use Rattle.fd_line.specs.Line.{IsBetween};
-ghost use Rattle.fd_line.specs.Totals.{IsLine};
-ghost use Rattle.fd_source.specs.Equations.{IsPlaced, IsSource, constants_from};
+ghost use Rattle.dss_layout.specs.dss_model.Ranges.{IsOneOf};
+ghost use Rattle.dss_layout.specs.dss_model.InRange.{CapacitorInRange, LineInRange, LoadInRange, TransformerInRange, VsourceInRange};
+ghost use Rattle.dss_layout.specs.dss_model.Sound.{are_matrices_wrong, is_source_outside};
+ghost use Rattle.fd_xfmr.specs.fd_system.Stamps.{stamp_of};
+ghost use Rattle.fd_xfmr.specs.fd_system.Terminals.{IsSide, node_count};
+ghost use Rattle.fd_elements.specs.fd_line.Line.{IsBetween};
+ghost use Rattle.fd_elements.specs.fd_line.Totals.{IsLine};
+ghost use Rattle.fd_elements.specs.fd_source.Equations.{IsPlaced, IsSource, constants_from};
 ghost use Rattle.fd_xfmr.specs.Leakage.{AreTaps};
 ghost use Rattle.fd_xfmr.specs.Transformer.{IsBetween as IsXfmrBetween};
 ghost use Rattle.fd_elements.specs.Lines.{line_data_of};
@@ -21,13 +21,13 @@ ghost use Rattle.fd_devices.specs.Standing.{HasPlace, IsReadyAt, IsSettledAt, Se
 
 use crate::settings::SettingSlices;
 use crate::writers::{capacitor_into, load_into, transformer_into};
-use dss_layout::Layout;
-use dss_model::{Capacitor, Element, Line, Load, Transformer, Vsource};
-use fd_arith::{Ends, Nodes, TapPair, TermFault};
-use fd_elements::{LoadPower, line_data, source_data};
-use fd_line::{LineData, line_terms};
-use fd_source::{SourceData, SourceTerms, source_terms};
-use fd_system::{Constant, Stamp};
+use dss_layout::{
+    Capacitor, Element, Ends, Layout, Line, Load, NodesAt, TapPair, TermFault, Transformer, Vsource,
+};
+use fd_elements::{
+    LineData, LoadPower, SourceData, SourceTerms, line_data, line_terms, source_data, source_terms,
+};
+use fd_xfmr::{Constant, Stamp};
 use std::alloc::{AllocError, Global};
 
 /// What a source adds at its nodes. Range exactly where a contribution is past 2^54 in units of 2^-40.
@@ -154,7 +154,7 @@ pub fn capacitor_stamp(
 pub fn load_stamp(
     alloc: Global,
     load: &Load,
-    nodes: &Nodes,
+    nodes: &NodesAt,
     magnitude: u32,
     powers: &[LoadPower],
 ) -> Result<Stamp, TermFault>

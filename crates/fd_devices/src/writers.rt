@@ -1,8 +1,8 @@
 // What elements add, written into stamps that have the room for it.
 ghost use Rattle.std.specs.Prelude.{◌≡◌, ◌*◌, ◌<◌, ◌≤◌, ◌^◌, [], IfErr, OnOk, All, length, vec_capacity};
-ghost use Rattle.dss_model.specs.InRange.{CapacitorInRange, LoadInRange, TransformerInRange};
-ghost use Rattle.fd_system.specs.Stamps.{IsRoomSame, stamp_of};
-ghost use Rattle.fd_system.specs.Terminals.{IsSide, node_count};
+ghost use Rattle.dss_layout.specs.dss_model.InRange.{CapacitorInRange, LoadInRange, TransformerInRange};
+ghost use Rattle.fd_xfmr.specs.fd_system.Stamps.{IsRoomSame, stamp_of};
+ghost use Rattle.fd_xfmr.specs.fd_system.Terminals.{IsSide, node_count};
 ghost use Rattle.fd_xfmr.specs.Leakage.{AreTaps, IsXfmr};
 ghost use Rattle.fd_xfmr.specs.Transformer.{IsBetween as IsXfmrBetween};
 ghost use Rattle.fd_cap.specs.Capacitor.{IsCap};
@@ -15,12 +15,10 @@ ghost use Rattle.fd_devices.specs.Standing.{SettlesAsLoad, SettlesBetween, Settl
 
 use crate::data::{cap_data, xfmr_data};
 use crate::phase_loads::{are_in_limits, linear_terms_into, load_phases_into, total_draw};
-use dss_model::{Capacitor, Load, Transformer};
-use fd_arith::{Ends, Nodes, TapPair, TermFault};
+use dss_layout::{Capacitor, Ends, Load, NodesAt, TapPair, TermFault, Transformer};
 use fd_cap::{CapData, cap_draw, cap_terms_into};
 use fd_elements::LoadPower;
-use fd_system::Stamp;
-use fd_xfmr::{XfmrData, xfmr_terms_into};
+use fd_xfmr::{Stamp, XfmrData, xfmr_terms_into};
 
 /// Puts what a transformer adds in place of what a stamp with room for 64 contributions has. Takes no memory. Range
 /// alone is the error, exactly where a contribution is past 2^54 in units of 2^-40.
@@ -120,7 +118,7 @@ fn capacitor_data_into(
 pub fn load_into(
     into: &mut Stamp,
     load: &Load,
-    nodes: &Nodes,
+    nodes: &NodesAt,
     magnitude: u32,
     powers: &[LoadPower],
 ) -> Result<(), TermFault>

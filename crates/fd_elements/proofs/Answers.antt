@@ -2,7 +2,7 @@
 use Rattle.std.proofs.Common.{◌≡◌, ◌∙◌, ℕ, ◌+◌, ◌-◌, ◌*◌, ◌^◌, ◌<◌, ◌≤◌, ◌⊎◌, ℤ, nat_abs, inl, inr, arith, ap, sym, subst}
 use Rattle.std.proofs.lemmas.Bool.{cases_lt}
 use Rattle.std.proofs.Math.Nat.{mul-le-mul, mul-le-mul_right}
-use Rattle.fd_exact.specs.Rounding.{signed, differ}
+use Rattle.dss_model.specs.fd_exact.Rounding.{signed, differ}
 use Rattle.dss_model.specs.declared.words.ReactiveRule.{ReactiveRule}
 use Rattle.dss_model.specs.declared.words.ReactiveRule.TheVariants as rule
 use Rattle.dss_model.specs.declared.load.Load.{Load}

@@ -5,7 +5,7 @@ use Rattle.std.proofs.lemmas.List.{length-replicate}
 use Rattle.std.proofs.lemmas.List.Elements.{All-replicate}
 use Rattle.std.proofs.lemmas.Bool.{not-false, eqb-true}
 use Rattle.dss_model.specs.Sound.{is_size_wrong}
-use Rattle.fd_exact.specs.Ranges.{Within}
+use Rattle.dss_model.specs.fd_exact.Ranges.{Within}
 use Rattle.fd_line.specs.Totals.{IsMatrix}
 use Rattle.fd_elements.specs.Lines.{matrix_or_zero}
 

@@ -2,8 +2,8 @@
 use Rattle.std.proofs.Common.{◌≡◌, ◌∙◌, ℕ, ◌*◌, ◌<◌, ◌≤◌, ◌^◌, ℤ, ◌*ℤ◌, nat_abs, [], ◌∷◌, ⊎_elim, FitsSigned, to_z, of_z, arith, lit<}
 use Rattle.std.specs.Int.{w128}
 use Rattle.std.proofs.lemmas.Int.{to_z-of_z}
-use Rattle.fd_exact.specs.ReadBack.{read_back}
-use Rattle.fd_exact.specs.Rounding.{near_div}
+use Rattle.dss_model.specs.fd_exact.ReadBack.{read_back}
+use Rattle.dss_model.specs.fd_exact.Rounding.{near_div}
 use Rattle.dss_model.specs.Ranges.{IsOneOf}
 use Rattle.fd_elements.proofs.Products.{quotient_is, quotient_size}
 

@@ -3,11 +3,11 @@ use Rattle.std.proofs.Common.{◌≡◌, ◌∙◌, ℕ, ◌+◌, ◌*◌, ◌/�
 use Rattle.std.specs.Int.{w128}
 use Rattle.std.proofs.lemmas.Int.{ints, to_z-of_z, fits_signed_from_abs}
 use Rattle.std.proofs.Math.Nat.{mul-le-mul}
-use Rattle.fd_exact.specs.Nearest.{near_most, near_least, near_within}
-use Rattle.fd_exact.specs.ReadBack.{read_back, product_fits as read_fits, product_is as read_is, product_most as read_most, product_room as read_room}
-use Rattle.fd_exact.specs.RootThree.{root_three}
-use Rattle.fd_exact.specs.Rounding.{near_div}
-use Rattle.fd_exact.specs.Ranges.{IsBetween, UpTo}
+use Rattle.dss_model.specs.fd_exact.Nearest.{near_most, near_least, near_within}
+use Rattle.dss_model.specs.fd_exact.ReadBack.{read_back, product_fits as read_fits, product_is as read_is, product_most as read_most, product_room as read_room}
+use Rattle.dss_model.specs.fd_exact.RootThree.{root_three}
+use Rattle.dss_model.specs.fd_exact.Rounding.{near_div}
+use Rattle.dss_model.specs.fd_exact.Ranges.{IsBetween, UpTo}
 
 pub product_most : (a b : ℤ) → UpTo (2 * 10 ^ 9) a → UpTo (10 ^ 12) b → (a *ℤ b) ≤ℤ pos (2 * 10 ^ 12 * 10 ^ 9)
 product_most (pos m) (pos n) u v =

@@ -5,8 +5,8 @@ use lib.Signed.{lt_z}
 use Rattle.std.specs.Int.{w128}
 use Rattle.std.proofs.lemmas.Int.{ints, to_z-of_z, to_z_pos, fits_signed_from_abs}
 use Rattle.dss_model.specs.Ranges.{IsBetween, IsPowerFactor, ones}
-use Rattle.fd_exact.specs.ReadBack.{opposite_fits, opposite_is, opposite_most}
-use Rattle.fd_exact.specs.Rounding.{signed, differ}
+use Rattle.dss_model.specs.fd_exact.ReadBack.{opposite_fits, opposite_is, opposite_most}
+use Rattle.dss_model.specs.fd_exact.Rounding.{signed, differ}
 use Rattle.fd_elements.specs.Powers.{IsByPowerFactor, square}
 use Rattle.std.proofs.lemmas.Nat.{div-add-mod'}
 use Rattle.std.proofs.Math.Nat.{add-mul-div_right, div-lt_iff_lt-mul}

@@ -6,11 +6,11 @@ use Rattle.dss_model.specs.InRange.{LoadInRange, VsourceInRange}
 use Rattle.dss_model.specs.Ranges.{ones}
 use Rattle.dss_model.specs.declared.load.Load.{Load}
 use Rattle.dss_model.specs.declared.vsource.Vsource.{Vsource}
-use Rattle.fd_arith.specs.declared.terms.LoadModel.{LoadModel}
-use Rattle.fd_exact.specs.Nearest.{near_within}
-use Rattle.fd_exact.specs.Ranges.{Between, IsBetween, UpTo}
-use Rattle.fd_exact.specs.RootThree.{root_three}
-use Rattle.fd_system.proofs.CallerLemmas.{phase_volts_between}
+use Rattle.dss_model.specs.fd_arith.declared.terms.LoadModel.{LoadModel}
+use Rattle.dss_model.specs.fd_exact.Nearest.{near_within}
+use Rattle.dss_model.specs.fd_exact.Ranges.{Between, IsBetween, UpTo}
+use Rattle.dss_model.specs.fd_exact.RootThree.{root_three}
+use Rattle.fd_line.proofs.CallerLemmas.fd_system.{phase_volts_between}
 use Rattle.fd_load.specs.Current.{AreLoadVoltages}
 use Rattle.fd_elements.specs.Connections.{conn_of}
 use Rattle.fd_elements.specs.Loads.{load_phase_of, nominal_of}

@@ -1,6 +1,6 @@
 -- The connection of a script as that of the physics.
-use Rattle.fd_arith.specs.declared.terms.Conn.{Conn}
-use Rattle.fd_arith.specs.declared.terms.Conn.TheVariants as conn
+use Rattle.dss_model.specs.fd_arith.declared.terms.Conn.{Conn}
+use Rattle.dss_model.specs.fd_arith.declared.terms.Conn.TheVariants as conn
 use Rattle.dss_model.specs.declared.words.Connection.{Connection}
 use Rattle.dss_model.specs.declared.words.Connection.TheVariants as connection
 

@@ -5,3 +5,6 @@ pub mod Sources
 pub mod Powers
 pub mod Loads
 pub mod Laws
+pub use Rattle.fd_line.specs as fd_line
+pub use Rattle.fd_source.specs as fd_source
+pub use Rattle.fd_load.specs as fd_load

@@ -5,10 +5,10 @@ use Rattle.dss_model.specs.declared.load.Load.{Load}
 use Rattle.dss_model.specs.declared.load.LoadKind.{LoadKind}
 use Rattle.dss_model.specs.declared.load.LoadKind.TheVariants as kind
 use Rattle.dss_model.specs.declared.load.ZipShares.{ZipShares}
-use Rattle.fd_arith.specs.declared.terms.LoadModel.{LoadModel}
-use Rattle.fd_arith.specs.declared.terms.LoadModel.TheVariants.{ConstantPower, ConstantImpedance, ConstantCurrent}
-use Rattle.fd_system.specs.declared.loads.LoadPhase.{LoadPhase}
-use Rattle.fd_system.specs.Terminals.{phase_volts}
+use Rattle.dss_model.specs.fd_arith.declared.terms.LoadModel.{LoadModel}
+use Rattle.dss_model.specs.fd_arith.declared.terms.LoadModel.TheVariants.{ConstantPower, ConstantImpedance, ConstantCurrent}
+use Rattle.fd_line.specs.fd_system.declared.loads.LoadPhase.{LoadPhase}
+use Rattle.fd_line.specs.fd_system.Terminals.{phase_volts}
 use Rattle.fd_load.specs.declared.zip.PartShares.{PartShares}
 use Rattle.fd_load.specs.declared.zip.ZipPhase.{ZipPhase}
 use Rattle.fd_load.specs.Zip.{zip_parts}

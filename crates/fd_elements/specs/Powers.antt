@@ -1,7 +1,7 @@
 -- The power of a phase of a load, in whole thousandths of a volt-ampere.
 use Rattle.std.specs.Prelude.{◌≡◌, ℕ, ◌+◌, ◌-◌, ◌*◌, ◌^◌, ◌≤◌, ◌<◌, ℤ, pos, ◌*ℤ◌, nat_abs}
 use Rattle.std.specs.Option.{unwrap_or}
-use Rattle.fd_exact.specs.Rounding.{near_div, signed, differ}
+use Rattle.dss_model.specs.fd_exact.Rounding.{near_div, signed, differ}
 use Rattle.dss_model.specs.declared.words.ReactiveRule.{ReactiveRule}
 use Rattle.dss_model.specs.declared.words.ReactiveRule.TheVariants as rule
 use Rattle.dss_model.specs.declared.load.Load.{Load}

@@ -1,7 +1,7 @@
 -- Voltages of elements, in whole microvolts: a voltage in 10^-9 kV is one in microvolts.
 use Rattle.std.specs.Prelude.{◌^◌, ℤ, pos, ◌*ℤ◌}
-use Rattle.fd_exact.specs.Rounding.{near_div}
-use Rattle.fd_exact.specs.RootThree.{root_three}
+use Rattle.dss_model.specs.fd_exact.Rounding.{near_div}
+use Rattle.dss_model.specs.fd_exact.RootThree.{root_three}
 
 -- a part, in 10^-9, of a voltage, to the nearest microvolt
 abbrev pub part_of : ℤ → ℤ → ℤ

@@ -2,8 +2,7 @@
 ghost use Rattle.std.specs.Prelude.{◌≡◌};
 ghost use Rattle.fd_elements.specs.Connections.{conn_of as conn_by};
 
-use dss_model::Connection;
-use fd_arith::Conn;
+use dss_model::{Conn, Connection};
 
 /// The connection of the phases of a load, a bank or a winding.
 pub fn conn_of(connection: Connection) -> Conn

@@ -23,3 +23,8 @@ pub use lines::line_data;
 pub use loads::{load_phase, sole_model, zip_phase};
 pub use powers::{LoadPower, load_power};
 pub use sources::source_data;
+
+// Handed on from the crates below.
+pub use fd_line::{LineData, line_terms};
+pub use fd_load::{is_load_past, zip_parts};
+pub use fd_source::{SourceData, SourceTerms, source_terms};

@@ -10,10 +10,9 @@ ghost use Rattle.fd_elements.specs.Loads.{current_shares as current_by_shares, i
 use crate::connections::conn_of;
 use crate::powers::LoadPower;
 use crate::volts::part_of;
-use dss_model::{Load, LoadKind, Shares, ZipShares};
-use fd_arith::LoadModel;
+use dss_model::{Load, LoadKind, LoadModel, Shares, ZipShares};
+use fd_line::{LoadPhase, phase_volts};
 use fd_load::{PartShares, ZipPhase};
-use fd_system::{LoadPhase, phase_volts};
 
 const NO_SHARES: Shares = Shares {
     impedance: 0,

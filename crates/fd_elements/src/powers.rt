@@ -4,8 +4,7 @@ ghost use Rattle.dss_model.specs.Ranges.{ones, IsBetween, IsOneOf, IsPower, IsPo
 ghost use Rattle.dss_model.specs.InRange.{LoadInRange};
 ghost use Rattle.fd_elements.specs.Powers.{ArePowers, IsByPowerFactor, IsLoadPower, IsReactive, phase_power};
 
-use dss_model::{Load, ReactiveRule};
-use fd_arith::{isqrt, near_quotient};
+use dss_model::{Load, ReactiveRule, isqrt, near_quotient};
 
 /// The power of one phase of a load, in whole thousandths of a volt-ampere.
 #[derive(Clone, Copy, PartialEq, Eq, Debug)]

@@ -2,14 +2,13 @@
 ghost use Rattle.std.specs.Prelude.{◌≡◌, ◌*◌, ◌^◌, IfOk, IfErr, IsTrue, ◌↔◌};
 ghost use Rattle.dss_model.specs.InRange.{VsourceInRange};
 ghost use Rattle.dss_model.specs.Sound.{is_source_outside};
-ghost use Rattle.fd_exact.specs.Ranges.{UpTo};
+ghost use Rattle.dss_model.specs.fd_exact.Ranges.{UpTo};
 ghost use Rattle.fd_source.specs.Powers.{AreWithin, IsShortCircuit};
 ghost use Rattle.fd_source.specs.Equations.{IsSource};
 ghost use Rattle.fd_elements.specs.Sources.{given_ohms as ohms_given, short_circuit_of, source_data_of, source_ohms_of, source_volts};
 
 use crate::volts::{part_of, part_over_root_three};
-use dss_model::{SourceForm, Vsource};
-use fd_arith::TermFault;
+use dss_model::{SourceForm, TermFault, Vsource};
 use fd_source::{Ohms, ShortCircuit, SourceData, source_ohms};
 
 /// The data of a source: the voltage of a phase in whole microvolts, the angle in degrees, and the impedances in 10^-9 ohm, by the form

@@ -1,10 +1,9 @@
 // Voltages of phases, in whole microvolts.
 ghost use Rattle.std.specs.Prelude.{◌≡◌, ℕ, ◌*◌, ◌^◌, ℤ, pos, ◌*ℤ◌, ◌≤ℤ◌};
-ghost use Rattle.fd_exact.specs.Ranges.{UpTo};
+ghost use Rattle.dss_model.specs.fd_exact.Ranges.{UpTo};
 ghost use Rattle.fd_elements.specs.Volts.{part_of as volts_part, part_over_root_three as volts_part_over_root_three};
 
-use fd_arith::near_quotient;
-use fd_exact::ROOT_THREE;
+use dss_model::{ROOT_THREE, near_quotient};
 
 /// A part, in 10^-9, of a voltage.
 pub fn part_of(part: i128, volts: i128) -> i128

@@ -2,15 +2,15 @@
 use Rattle.std.proofs.Common.{◌≡◌, ◌∙◌, ℕ, ◌*◌, ◌-◌, ◌<◌, ◌≤◌, ◌^◌, ℤ, nat_le, nat_lt, not, Bool, true, false, cond, List, length, Option, Some, None, Ok, zero-add, arith, ap, refl, sym, subst}
 use Rattle.std.proofs.lemmas.Bool.{ltb-false, not-false}
 use Rattle.std.proofs.lemmas.List.FromFn.{get_or-map-range_with_len, length-map-range_with_len}
-use Rattle.fd_exact.specs.FirstLaws.{none_holds}
-use Rattle.fd_exact.specs.Greatest.{greatest-same}
-use Rattle.fd_exact.specs.Rounding.{ceil_nat}
-use Rattle.fd_exact.specs.States.{entry}
-use Rattle.fd_exact.specs.SumLaws.{sum_n-same}
+use Rattle.fd_equations.specs.fd_exact.FirstLaws.{none_holds}
+use Rattle.fd_equations.specs.fd_exact.Greatest.{greatest-same}
+use Rattle.fd_equations.specs.fd_exact.Rounding.{ceil_nat}
+use Rattle.fd_equations.specs.fd_exact.States.{entry}
+use Rattle.fd_equations.specs.fd_exact.SumLaws.{sum_n-same}
 use Rattle.std.specs.Int.RustNames.{unsigned_abs}
-use Rattle.fd_pattern.specs.Conditions.{IsPoint}
+use Rattle.fd_equations.specs.fd_pattern.Conditions.{IsPoint}
 use Rattle.fd_equations.specs.Rounded.{jacobian_entry, list_of}
-use Rattle.fd_pattern.specs.Views.{NetworkView}
+use Rattle.fd_equations.specs.fd_pattern.Views.{NetworkView}
 use Rattle.fd_equations.specs.Weights.{weight_at}
 use Rattle.fd_enclosure.specs.Bounds.{bound_at, bound_of, first_unbounded, first_wide, is_below_one, is_bounded, radius_at, reach_at, reach_of, refusal, refused_bound, unless_unbounded, unless_wide}
 use Rattle.fd_enclosure.specs.Encloses.{CertificateLaw}

@@ -4,10 +4,10 @@ use Rattle.std.proofs.Common.{◌≡◌, ℕ, zero, suc, ◌+◌, ◌*◌, ◌-�
 use Rattle.std.specs.Int.RustNames.{unsigned_abs}
 use Rattle.std.proofs.Math.Nat.{mul-le-mul_left, mul-le-mul_right, le_of_mul-le-mul_right, mul-pos}
 use Rattle.std.proofs.lemmas.Int.{ints, unsigned_abs-mul}
-use Rattle.fd_exact.specs.Greatest.{greatest_ratio}
-use Rattle.fd_exact.specs.Integers.{abs_add, assoc, sub-mul}
-use Rattle.fd_exact.specs.SumLaws.{abs_sum, sum_n-add, sum_n-le, sum_n-same, sum_n-swap, sum_n-times, sum_n-times_right, sum_z-add, sum_z-neg, sum_z-same, sum_z-swap, sum_z-times, sum_z-times_right}
-use Rattle.fd_exact.specs.Sums.{sum_n, sum_z}
+use Rattle.fd_equations.specs.fd_exact.Greatest.{greatest_ratio}
+use Rattle.fd_equations.specs.fd_exact.Integers.{abs_add, assoc, sub-mul}
+use Rattle.fd_equations.specs.fd_exact.SumLaws.{abs_sum, sum_n-add, sum_n-le, sum_n-same, sum_n-swap, sum_n-times, sum_n-times_right, sum_z-add, sum_z-neg, sum_z-same, sum_z-swap, sum_z-times, sum_z-times_right}
+use Rattle.fd_equations.specs.fd_exact.Sums.{sum_n, sum_z}
 use Rattle.fd_enclosure.proofs.Rows.{single_moved}
 
 -- the unit matrix times q

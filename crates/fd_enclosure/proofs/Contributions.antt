@@ -4,15 +4,15 @@ use Rattle.std.specs.List.{All}
 use Rattle.std.specs.Int.RustNames.{unsigned_abs}
 use Rattle.std.proofs.Math.Nat.{mul-le-mul_left}
 use Rattle.std.proofs.lemmas.Int.{unsigned_abs-mul}
-use Rattle.fd_exact.specs.Fractions.{Near, fraction, minus, nothing}
-use Rattle.fd_exact.specs.Integers.{as_val, vals, val-same}
-use Rattle.fd_exact.specs.Nearest.{near_nearest}
-use Rattle.fd_exact.specs.States.{State, away, part}
-use Rattle.fd_exact.specs.Sums.{list_n}
-use Rattle.fd_arith.specs.declared.terms.Term.{Term}
-use Rattle.fd_system.specs.Contributions.{given, row_sum, value_of, term_units}
-use Rattle.fd_system.specs.Residual.{whole_state}
-use Rattle.fd_pattern.specs.Coefficients.{count_at, linear_entry, stands_at}
+use Rattle.fd_equations.specs.fd_exact.Fractions.{Near, fraction, minus, nothing}
+use Rattle.fd_equations.specs.fd_exact.Integers.{as_val, vals, val-same}
+use Rattle.fd_equations.specs.fd_exact.Nearest.{near_nearest}
+use Rattle.fd_equations.specs.fd_exact.States.{State, away, part}
+use Rattle.fd_equations.specs.fd_exact.Sums.{list_n}
+use Rattle.fd_slope.specs.fd_arith.declared.terms.Term.{Term}
+use Rattle.fd_slope.specs.fd_system.Contributions.{given, row_sum, value_of, term_units}
+use Rattle.fd_slope.specs.fd_system.Residual.{whole_state}
+use Rattle.fd_equations.specs.fd_pattern.Coefficients.{count_at, linear_entry, stands_at}
 use Rattle.fd_enclosure.proofs.Rows.{RowNear, row_list, row_more, row_single, row_still}
 
 -- ---- one contribution

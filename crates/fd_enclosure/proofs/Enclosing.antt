@@ -3,20 +3,20 @@ use Rattle.std.proofs.Common.{◌≡◌, ℕ, zero, suc, ◌*◌, ◌-◌, ◌<�
 use Rattle.std.specs.Int.RustNames.{unsigned_abs}
 use Rattle.std.proofs.Math.Nat.{le_trans, mul-le-mul_right, mul-pos}
 use Rattle.std.proofs.lemmas.Int.{ints}
-use Rattle.fd_exact.specs.Greatest.{greatest, le_greatest}
-use Rattle.fd_exact.specs.Near.{row_from_fractions}
-use Rattle.fd_exact.specs.Quotients.{ceil_nat_covers}
-use Rattle.fd_exact.specs.Rounding.{ceil_nat}
-use Rattle.fd_exact.specs.States.{State, away, entry}
-use Rattle.fd_exact.specs.Sums.{sum_n, sum_z}
-use Rattle.fd_system.specs.Meets.{Meets}
-use Rattle.fd_system.specs.Residual.{whole_state}
-use Rattle.fd_system.specs.System.{residual_of}
-use Rattle.fd_pattern.specs.declared.layout.PlaceKind.{PlaceKind}
-use Rattle.fd_pattern.specs.declared.layout.PlaceKind.TheVariants.{Branch, Magnitude, Node}
-use Rattle.fd_pattern.specs.Conditions.{IsNetwork}
+use Rattle.fd_equations.specs.fd_exact.Greatest.{greatest, le_greatest}
+use Rattle.fd_equations.specs.fd_exact.Near.{row_from_fractions}
+use Rattle.fd_equations.specs.fd_exact.Quotients.{ceil_nat_covers}
+use Rattle.fd_equations.specs.fd_exact.Rounding.{ceil_nat}
+use Rattle.fd_equations.specs.fd_exact.States.{State, away, entry}
+use Rattle.fd_equations.specs.fd_exact.Sums.{sum_n, sum_z}
+use Rattle.fd_slope.specs.fd_system.Meets.{Meets}
+use Rattle.fd_slope.specs.fd_system.Residual.{whole_state}
+use Rattle.fd_slope.specs.fd_system.System.{residual_of}
+use Rattle.fd_equations.specs.fd_pattern.declared.layout.PlaceKind.{PlaceKind}
+use Rattle.fd_equations.specs.fd_pattern.declared.layout.PlaceKind.TheVariants.{Branch, Magnitude, Node}
+use Rattle.fd_equations.specs.fd_pattern.Conditions.{IsNetwork}
 use Rattle.fd_equations.specs.Rounded.{jacobian_entry}
-use Rattle.fd_pattern.specs.Views.{NetworkView, kind_of}
+use Rattle.fd_equations.specs.fd_pattern.Views.{NetworkView, kind_of}
 use Rattle.fd_equations.specs.Weights.{weight_at, weight_by}
 use Rattle.fd_enclosure.specs.Bounds.{bound_at, bound_of, bound_size, is_below_one, radius_at, reach_at, reach_of}
 use Rattle.fd_enclosure.specs.Encloses.{ChangeLaw, EnclosureLaw, IsWithinRadii, LinearLaw}
@@ -25,7 +25,7 @@ use Rattle.fd_enclosure.specs.Sound.{Claim, IsSound, number_at}
 use Rattle.fd_enclosure.proofs.Contraction.{enclosed}
 use Rattle.fd_enclosure.proofs.Network.{RowFollows, linear_changes}
 use Rattle.fd_enclosure.proofs.Residuals.{centre_meets, residual_positive}
-use Rattle.fd_enclosure.proofs.Wide.{Exactly, bound_exact, row_total}
+use Rattle.fd_enclosure.proofs.WideSums.{Exactly, bound_exact, row_total}
 
 -- ---- weights
 

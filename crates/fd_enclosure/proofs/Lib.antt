@@ -3,7 +3,7 @@ pub mod Terminals
 pub mod Contributions
 pub mod Loads
 pub mod Contraction
-pub mod Wide
+pub mod WideSums
 pub mod Network
 pub mod Residuals
 pub mod Enclosing

@@ -2,20 +2,20 @@
 use Rattle.std.proofs.Common.{◌≡◌, ◌∙◌, ℕ, ◌+◌, ◌*◌, ◌<◌, ◌≤◌, ◌^◌, ℤ, pos, neg_ℤ, ◌+ℤ◌, ◌-ℤ◌, nat_abs, Bool, true, false, cond, eqb, List, [], ◌∷◌, Option, Some, None, IfSome, is_some, arith, ap, refl}
 use Rattle.std.specs.List.{All, flat_map}
 use Rattle.std.proofs.lemmas.Int.{ints}
-use Rattle.fd_exact.specs.FractionLaws.{sum_of-append}
-use Rattle.fd_exact.specs.Fractions.{Fraction, nothing, ◌⊕◌}
-use Rattle.fd_exact.specs.States.{State, away}
-use Rattle.fd_exact.specs.Sums.{list_n, list_z, sum_of}
-use Rattle.fd_arith.specs.LoadModels.{has_magnitude, is_linear}
-use Rattle.fd_system.specs.declared.loads.LoadAt.{LoadAt}
-use Rattle.fd_system.specs.Complex.{negative}
-use Rattle.fd_system.specs.Equations.{Part, equation, seen}
-use Rattle.fd_system.specs.Loads.{im_of, load_current, load_parts, magnitude_of, magnitude_parts, magnitude_row, nonlinear_parts, re_of}
-use Rattle.fd_system.specs.Residual.{IsPlace, whole_state}
-use Rattle.fd_system.specs.System.{nonlinear_of}
+use Rattle.fd_equations.specs.fd_exact.FractionLaws.{sum_of-append}
+use Rattle.fd_equations.specs.fd_exact.Fractions.{Fraction, nothing, ◌⊕◌}
+use Rattle.fd_equations.specs.fd_exact.States.{State, away}
+use Rattle.fd_equations.specs.fd_exact.Sums.{list_n, list_z, sum_of}
+use Rattle.fd_slope.specs.fd_arith.LoadModels.{has_magnitude, is_linear}
+use Rattle.fd_slope.specs.fd_system.declared.loads.LoadAt.{LoadAt}
+use Rattle.fd_slope.specs.fd_system.Complex.{negative}
+use Rattle.fd_slope.specs.fd_system.Equations.{Part, equation, seen}
+use Rattle.fd_slope.specs.fd_system.Loads.{im_of, load_current, load_parts, magnitude_of, magnitude_parts, magnitude_row, nonlinear_parts, re_of}
+use Rattle.fd_slope.specs.fd_system.Residual.{IsPlace, whole_state}
+use Rattle.fd_slope.specs.fd_system.System.{nonlinear_of}
 use Rattle.fd_slope.specs.Changes.{RowsFollow, magnitude_value, radii_in, slopes_at}
 use Rattle.fd_equations.specs.PartLoads.{load_entry, slope_count, slope_counts, slope_in, slopes_there}
-use Rattle.fd_pattern.specs.Terminals.{at_magnitude, at_node, at_terminal, count_magnitude, count_node, count_terminal}
+use Rattle.fd_equations.specs.fd_pattern.Terminals.{at_magnitude, at_node, at_terminal, count_magnitude, count_node, count_terminal}
 use Rattle.fd_enclosure.specs.Radii.{load_radius, radius_in, spread, spread_magnitude, spread_node}
 use Rattle.fd_enclosure.proofs.Rows.{RowNear, row_list, row_more, row_plus, row_still}
 use Rattle.fd_enclosure.proofs.Terminals.{BothNear, alone_near, both_negative, columns, side_near}

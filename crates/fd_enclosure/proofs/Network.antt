@@ -5,27 +5,27 @@ use Rattle.std.specs.Int.RustNames.{unsigned_abs}
 use Rattle.std.proofs.lemmas.Bool.{le-ltb, lt-ltb}
 use Rattle.std.proofs.lemmas.Int.{ints}
 use Rattle.std.proofs.lemmas.List.Elements.{All-cons, All-head, All-nil, All-tail, All-weaker}
-use Rattle.fd_exact.specs.Fractions.{◌⊕◌}
-use Rattle.fd_exact.specs.States.{State, away}
-use Rattle.fd_exact.specs.Sums.{list_n, list_z, sum_of}
-use Rattle.fd_arith.specs.declared.terms.NodeAt.{NodeAt}
-use Rattle.fd_arith.specs.declared.terms.NodeAt.TheVariants as at
-use Rattle.fd_arith.specs.declared.terms.Term.{Term}
-use Rattle.fd_arith.specs.declared.terms.LoadModel.{LoadModel}
-use Rattle.fd_arith.specs.LoadModels.{has_magnitude, is_linear}
-use Rattle.fd_system.specs.declared.loads.LoadAt.{LoadAt}
-use Rattle.fd_system.specs.Contributions.{row_sum}
-use Rattle.fd_system.specs.Equations.{equation}
-use Rattle.fd_system.specs.Residual.{IsPlace, whole_state}
-use Rattle.fd_system.specs.System.{constant_given, nonlinear_of, residual_of}
+use Rattle.fd_equations.specs.fd_exact.Fractions.{◌⊕◌}
+use Rattle.fd_equations.specs.fd_exact.States.{State, away}
+use Rattle.fd_equations.specs.fd_exact.Sums.{list_n, list_z, sum_of}
+use Rattle.fd_slope.specs.fd_arith.declared.terms.NodeAt.{NodeAt}
+use Rattle.fd_slope.specs.fd_arith.declared.terms.NodeAt.TheVariants as at
+use Rattle.fd_slope.specs.fd_arith.declared.terms.Term.{Term}
+use Rattle.fd_slope.specs.fd_arith.declared.terms.LoadModel.{LoadModel}
+use Rattle.fd_slope.specs.fd_arith.LoadModels.{has_magnitude, is_linear}
+use Rattle.fd_slope.specs.fd_system.declared.loads.LoadAt.{LoadAt}
+use Rattle.fd_slope.specs.fd_system.Contributions.{row_sum}
+use Rattle.fd_slope.specs.fd_system.Equations.{equation}
+use Rattle.fd_slope.specs.fd_system.Residual.{IsPlace, whole_state}
+use Rattle.fd_slope.specs.fd_system.System.{constant_given, nonlinear_of, residual_of}
 use Rattle.fd_slope.specs.Changes as slope
 use Rattle.fd_slope.specs.Changes.{IsInBox, RowsFollow, im_away, im_width, magnitude_away, magnitude_width, radii_in, re_away, re_width}
-use Rattle.fd_pattern.specs.declared.layout.PlaceKind.TheVariants.{Branch, Magnitude, Node}
-use Rattle.fd_pattern.specs.Coefficients.{count_at, linear_entry}
-use Rattle.fd_pattern.specs.Conditions.{HasMagnitude, IsAmong, IsLinear, IsNetwork, IsServed}
+use Rattle.fd_equations.specs.fd_pattern.declared.layout.PlaceKind.TheVariants.{Branch, Magnitude, Node}
+use Rattle.fd_equations.specs.fd_pattern.Coefficients.{count_at, linear_entry}
+use Rattle.fd_equations.specs.fd_pattern.Conditions.{HasMagnitude, IsAmong, IsLinear, IsNetwork, IsServed}
 use Rattle.fd_equations.specs.PartLoads.{load_entry, slope_counts, slope_sum, slopes_there}
 use Rattle.fd_equations.specs.Rounded.{jacobian_entry}
-use Rattle.fd_pattern.specs.Views.{NetworkView}
+use Rattle.fd_equations.specs.fd_pattern.Views.{NetworkView}
 use Rattle.fd_enclosure.specs.Boxes.{IsInTrustBox, half_width}
 use Rattle.fd_enclosure.specs.Encloses.{ChangeLaw, IsImpedance}
 use Rattle.fd_enclosure.specs.Radii.{load_radius, slope_radius}

@@ -1,16 +1,16 @@
 -- Ties of the numbers of a certificate.
 use Rattle.std.proofs.Common.{◌≡◌, ◌∙◌, ℕ, ◌+◌, ◌-◌, ◌*◌, ◌/◌, ◌^◌, ◌<◌, ◌≤◌, max, ℤ, nat_abs, nat_lt, List, Bool, true, false, cond, Some, None, get_or, arith, ap, refl, sym, subst}
-use Rattle.fd_exact.specs.Fractions.{Fraction}
-use Rattle.fd_exact.specs.Rounding.{ceil_nat}
-use Rattle.fd_exact.specs.States.{entry}
-use Rattle.fd_arith.specs.Interval.{Bounds}
-use Rattle.fd_system.specs.Residual.{greater_size, residual_interval, whole_state}
-use Rattle.fd_system.specs.System.{residual_of}
+use Rattle.fd_equations.specs.fd_exact.Fractions.{Fraction}
+use Rattle.fd_equations.specs.fd_exact.Rounding.{ceil_nat}
+use Rattle.fd_equations.specs.fd_exact.States.{entry}
+use Rattle.fd_slope.specs.fd_arith.Interval.{Bounds}
+use Rattle.fd_slope.specs.fd_system.Residual.{greater_size, residual_interval, whole_state}
+use Rattle.fd_slope.specs.fd_system.System.{residual_of}
 use Rattle.fd_equations.specs.Enclosure.{EndsWithin, addend_count, interval_residual_of}
 use Rattle.fd_equations.specs.Rounded.{jacobian_entry}
-use Rattle.fd_pattern.specs.declared.layout.PlaceKind.{PlaceKind}
-use Rattle.fd_pattern.specs.declared.layout.PlaceKind.TheVariants.{Node, Branch}
-use Rattle.fd_pattern.specs.Views.{NetworkView, kind_of}
+use Rattle.fd_equations.specs.fd_pattern.declared.layout.PlaceKind.{PlaceKind}
+use Rattle.fd_equations.specs.fd_pattern.declared.layout.PlaceKind.TheVariants.{Node, Branch}
+use Rattle.fd_equations.specs.fd_pattern.Views.{NetworkView, kind_of}
 use Rattle.fd_equations.specs.Weights.{size_of_both, weight_at, weight_by}
 use Rattle.fd_equations.proofs.CallerLemmas.{get_or-list_of, row_tie}
 use Rattle.fd_enclosure.specs.Bounds.{bound_of, radius_at, reach_of}

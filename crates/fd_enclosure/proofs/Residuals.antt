@@ -5,23 +5,23 @@ use Rattle.std.specs.Int.RustNames.{unsigned_abs}
 use Rattle.std.proofs.Math.Nat.{le_trans, mul-le-mul_right, mul-pos}
 use Rattle.std.proofs.lemmas.Int.{ints}
 use Rattle.std.proofs.lemmas.List.Elements.{All-cons, All-head, All-nil, All-tail, All-weaker}
-use Rattle.fd_exact.specs.FractionLaws.{nothing-pos, sum_of-pos}
-use Rattle.fd_exact.specs.Fractions.{Fraction, SizeWithin, nothing, ◌⊕◌}
-use Rattle.fd_exact.specs.States.{State, part}
-use Rattle.fd_exact.specs.Sums.{sum_of}
-use Rattle.fd_arith.specs.Interval.{Bounds, Holds}
-use Rattle.fd_arith.specs.declared.terms.Term.{Term}
-use Rattle.fd_system.specs.declared.constants.Constant.{Constant}
-use Rattle.fd_arith.specs.declared.terms.LoadModel.{LoadModel}
-use Rattle.fd_system.specs.declared.loads.LoadAt.{LoadAt}
-use Rattle.fd_system.specs.Contributions.{given, row_sum}
-use Rattle.fd_system.specs.Equations.{equation, seen}
-use Rattle.fd_system.specs.Loads.{FitsModel, IsLoad, linear_list}
-use Rattle.fd_system.specs.Residual.{HasDen, greater_size, residual_interval, whole_state}
-use Rattle.fd_system.specs.System.{constant_given, linear_of, nonlinear_of, residual_of}
-use Rattle.fd_system.proofs.CallerLemmas.{greater_size_held, loads_represent, residual_holds}
-use Rattle.fd_pattern.specs.Conditions.{HasMagnitude, IsLinear, IsNetwork, IsServed}
-use Rattle.fd_pattern.specs.Views.{NetworkView}
+use Rattle.fd_equations.specs.fd_exact.FractionLaws.{nothing-pos, sum_of-pos}
+use Rattle.fd_equations.specs.fd_exact.Fractions.{Fraction, SizeWithin, nothing, ◌⊕◌}
+use Rattle.fd_equations.specs.fd_exact.States.{State, part}
+use Rattle.fd_equations.specs.fd_exact.Sums.{sum_of}
+use Rattle.fd_slope.specs.fd_arith.Interval.{Bounds, Holds}
+use Rattle.fd_slope.specs.fd_arith.declared.terms.Term.{Term}
+use Rattle.fd_slope.specs.fd_system.declared.constants.Constant.{Constant}
+use Rattle.fd_slope.specs.fd_arith.declared.terms.LoadModel.{LoadModel}
+use Rattle.fd_slope.specs.fd_system.declared.loads.LoadAt.{LoadAt}
+use Rattle.fd_slope.specs.fd_system.Contributions.{given, row_sum}
+use Rattle.fd_slope.specs.fd_system.Equations.{equation, seen}
+use Rattle.fd_slope.specs.fd_system.Loads.{FitsModel, IsLoad, linear_list}
+use Rattle.fd_slope.specs.fd_system.Residual.{HasDen, greater_size, residual_interval, whole_state}
+use Rattle.fd_slope.specs.fd_system.System.{constant_given, linear_of, nonlinear_of, residual_of}
+use Rattle.fd_slope.proofs.CallerLemmas.fd_system.{greater_size_held, loads_represent, residual_holds}
+use Rattle.fd_equations.specs.fd_pattern.Conditions.{HasMagnitude, IsLinear, IsNetwork, IsServed}
+use Rattle.fd_equations.specs.fd_pattern.Views.{NetworkView}
 use Rattle.fd_enclosure.specs.Sound.{greatest_mismatch, mismatch_at, mismatch_size}
 
 -- ---- denominators

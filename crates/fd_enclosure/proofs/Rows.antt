@@ -6,11 +6,11 @@ use Rattle.std.proofs.Math.Nat.{le_trans, mul-le-mul_right}
 use Rattle.std.proofs.lemmas.Bool.{cases_lt, ne_eqb, eq-eqb}
 use Rattle.std.proofs.lemmas.Int.{ints}
 use Rattle.std.proofs.lemmas.List.Elements.{All-head, All-tail}
-use Rattle.fd_exact.specs.Fractions.{Fraction, Near, minus, opposite, nothing, ◌⊕◌}
-use Rattle.fd_exact.specs.Integers.{add-mul, neg-mul, as_val, pos_val, vals, val-same}
-use Rattle.fd_exact.specs.Near.{near_plus}
-use Rattle.fd_exact.specs.SumLaws.{sum_n-add, sum_n-le, sum_n-same, sum_n-zero, sum_z-add, sum_z-neg, sum_z-same, sum_z-zero}
-use Rattle.fd_exact.specs.Sums.{list_n, list_z, sum_n, sum_of, sum_z}
+use Rattle.fd_equations.specs.fd_exact.Fractions.{Fraction, Near, minus, opposite, nothing, ◌⊕◌}
+use Rattle.fd_equations.specs.fd_exact.Integers.{add-mul, neg-mul, as_val, pos_val, vals, val-same}
+use Rattle.fd_equations.specs.fd_exact.Near.{near_plus}
+use Rattle.fd_equations.specs.fd_exact.SumLaws.{sum_n-add, sum_n-le, sum_n-same, sum_n-zero, sum_z-add, sum_z-neg, sum_z-same, sum_z-zero}
+use Rattle.fd_equations.specs.fd_exact.Sums.{list_n, list_z, sum_n, sum_of, sum_z}
 
 -- ---- sums over what moved
 

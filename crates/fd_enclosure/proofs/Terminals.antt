@@ -2,20 +2,20 @@
 use Rattle.std.proofs.Common.{◌≡◌, ◌∙◌, ℕ, ◌+◌, ◌*◌, ◌<◌, ◌≤◌, ◌^◌, ℤ, pos, neg_ℤ, ◌+ℤ◌, ◌-ℤ◌, ◌*ℤ◌, Bool, true, false, cond, eqb, List, Option, Some, None, IfSome, arith, ap, refl, sym}
 use Rattle.std.specs.Int.RustNames.{unsigned_abs}
 use Rattle.std.proofs.lemmas.Int.{ints}
-use Rattle.fd_exact.specs.Fractions.{Fraction, minus, nothing}
-use Rattle.fd_exact.specs.Integers.{as_val, vals, val-same}
-use Rattle.fd_exact.specs.States.{State, away}
-use Rattle.fd_arith.specs.declared.terms.NodeAt.{NodeAt}
-use Rattle.fd_arith.specs.declared.terms.NodeAt.TheVariants.{Ground, Node}
-use Rattle.fd_system.specs.declared.loads.LoadAt.{LoadAt}
-use Rattle.fd_system.specs.Complex.{Complex, negative}
-use Rattle.fd_system.specs.Equations.{side}
-use Rattle.fd_system.specs.Residual.{IsPlace}
-use Rattle.fd_load.specs.declared.slopes.SlopeRow.{SlopeRow}
+use Rattle.fd_equations.specs.fd_exact.Fractions.{Fraction, minus, nothing}
+use Rattle.fd_equations.specs.fd_exact.Integers.{as_val, vals, val-same}
+use Rattle.fd_equations.specs.fd_exact.States.{State, away}
+use Rattle.fd_slope.specs.fd_arith.declared.terms.NodeAt.{NodeAt}
+use Rattle.fd_slope.specs.fd_arith.declared.terms.NodeAt.TheVariants.{Ground, Node}
+use Rattle.fd_slope.specs.fd_system.declared.loads.LoadAt.{LoadAt}
+use Rattle.fd_slope.specs.fd_system.Complex.{Complex, negative}
+use Rattle.fd_slope.specs.fd_system.Equations.{side}
+use Rattle.fd_slope.specs.fd_system.Residual.{IsPlace}
+use Rattle.fd_slope.specs.fd_load.declared.slopes.SlopeRow.{SlopeRow}
 use Rattle.fd_slope.specs.Changes.{Follows, im_away, magnitude_away, radius_sum, re_away, slope_sum}
 use Rattle.fd_slope.specs.declared.radii.RadiusRow.{RadiusRow}
 use Rattle.fd_equations.specs.PartLoads.{slope_in}
-use Rattle.fd_pattern.specs.Terminals.{at_magnitude, at_node, at_terminal, count_magnitude, count_node, count_terminal}
+use Rattle.fd_equations.specs.fd_pattern.Terminals.{at_magnitude, at_node, at_terminal, count_magnitude, count_node, count_terminal}
 use Rattle.fd_enclosure.specs.Radii.{radius_in, spread, spread_magnitude, spread_node}
 use Rattle.fd_enclosure.proofs.Rows.{RowNear, moved, moved-add, moved-zero, near_more, row_more, row_opposite, row_still, single_moved, single_spanned, spanned, spanned-add, spanned-zero}
 

@@ -1,10 +1,10 @@
 -- The bound of a certificate, and its radii: whole numbers made of an inverse, a Jacobian, radii of slopes, weights and mismatches.
 use Rattle.std.specs.Prelude.{ℕ, zero, suc, ◌*◌, ◌-◌, ◌^◌, ℤ, pos, nat_abs, nat_le, nat_lt, int_lt, not, Bool, false, cond, eqb, Option, Some, None}
-use Rattle.fd_exact.specs.First.{first_place}
-use Rattle.fd_exact.specs.Greatest.{greatest}
-use Rattle.fd_exact.specs.Rounding.{ceil_nat}
-use Rattle.fd_exact.specs.Sums.{sum_n}
-use Rattle.fd_arith.specs.Wide.{wide_difference, wide_product, wide_quotient, wide_size, wide_sum}
+use Rattle.fd_equations.specs.fd_exact.First.{first_place}
+use Rattle.fd_equations.specs.fd_exact.Greatest.{greatest}
+use Rattle.fd_equations.specs.fd_exact.Rounding.{ceil_nat}
+use Rattle.fd_equations.specs.fd_exact.Sums.{sum_n}
+use Rattle.fd_slope.specs.fd_arith.Wide.{wide_difference, wide_product, wide_quotient, wide_size, wide_sum}
 
 -- f 0 + .. + f (n - 1) in rising order; none where a summand is none, or a partial sum passes 2^120
 abbrev pub wide_sums : (ℕ → Option ℤ) → ℕ → Option ℤ

@@ -1,11 +1,11 @@
 -- The trust box of a centre: the states of which a certificate speaks.
 use Rattle.std.specs.Prelude.{◌≢◌, ℕ, ◌*◌, ◌<◌, ◌≤◌, ℤ, nat_abs, List}
-use Rattle.fd_exact.specs.Rounding.{ceil_nat}
-use Rattle.fd_exact.specs.States.{State, away}
-use Rattle.fd_pattern.specs.declared.layout.PlaceKind.{PlaceKind}
-use Rattle.fd_pattern.specs.declared.layout.PlaceKind.TheVariants.{Node, Branch, Magnitude}
+use Rattle.fd_equations.specs.fd_exact.Rounding.{ceil_nat}
+use Rattle.fd_equations.specs.fd_exact.States.{State, away}
+use Rattle.fd_equations.specs.fd_pattern.declared.layout.PlaceKind.{PlaceKind}
+use Rattle.fd_equations.specs.fd_pattern.declared.layout.PlaceKind.TheVariants.{Node, Branch, Magnitude}
 use Rattle.fd_equations.specs.Rounded.{list_of}
-use Rattle.fd_pattern.specs.Views.{NetworkView, kind_of}
+use Rattle.fd_equations.specs.fd_pattern.Views.{NetworkView, kind_of}
 use Rattle.fd_equations.specs.Weights.{weight_at}
 
 -- a part of a voltage and a magnitude have a box of 1/200 of their weight, rounded up; a current has none

@@ -1,17 +1,17 @@
 -- What a sound claim says of other states.
 use Rattle.std.specs.Prelude.{◌≡◌, ℕ, ◌*◌, ◌^◌, ◌<◌, ◌≤◌, ℤ, ◌*ℤ◌, nat_abs, IsTrue, List, length, Ok}
 use Rattle.std.specs.List.{All}
-use Rattle.fd_exact.specs.Fractions.{Near, minus}
-use Rattle.fd_exact.specs.States.{State, away}
-use Rattle.fd_exact.specs.Sums.{sum_n, sum_z}
-use Rattle.fd_arith.specs.LoadModels.{is_linear}
-use Rattle.fd_system.specs.declared.loads.LoadAt.{LoadAt}
-use Rattle.fd_system.specs.Meets.{Meets}
-use Rattle.fd_system.specs.Residual.{whole_state}
-use Rattle.fd_system.specs.System.{residual_of}
-use Rattle.fd_pattern.specs.Conditions.{IsNetwork, IsPoint}
+use Rattle.fd_equations.specs.fd_exact.Fractions.{Near, minus}
+use Rattle.fd_equations.specs.fd_exact.States.{State, away}
+use Rattle.fd_equations.specs.fd_exact.Sums.{sum_n, sum_z}
+use Rattle.fd_slope.specs.fd_arith.LoadModels.{is_linear}
+use Rattle.fd_slope.specs.fd_system.declared.loads.LoadAt.{LoadAt}
+use Rattle.fd_slope.specs.fd_system.Meets.{Meets}
+use Rattle.fd_slope.specs.fd_system.Residual.{whole_state}
+use Rattle.fd_slope.specs.fd_system.System.{residual_of}
+use Rattle.fd_equations.specs.fd_pattern.Conditions.{IsNetwork, IsPoint}
 use Rattle.fd_equations.specs.Rounded.{jacobian_entry}
-use Rattle.fd_pattern.specs.Views.{NetworkView}
+use Rattle.fd_equations.specs.fd_pattern.Views.{NetworkView}
 use Rattle.fd_enclosure.specs.Boxes.{IsInTrustBox}
 use Rattle.fd_enclosure.specs.Radii.{slope_radius}
 use Rattle.fd_enclosure.specs.Sound.{Claim, IsInverse, IsSound, certificate_of, number_at}

@@ -1,15 +1,15 @@
 -- The radii of slopes: by how much the slope of a row in a column may differ, anywhere in the box, from the rounded Jacobian's entry.
 use Rattle.std.specs.Prelude.{ℕ, ◌+◌, ◌*◌, ℤ, cond, eqb, List, Option, Some, None}
-use Rattle.fd_exact.specs.Sums.{list_n}
-use Rattle.fd_arith.specs.declared.terms.NodeAt.{NodeAt}
-use Rattle.fd_arith.specs.declared.terms.NodeAt.TheVariants.{Ground, Node}
-use Rattle.fd_arith.specs.LoadModels.{is_linear}
-use Rattle.fd_system.specs.declared.loads.LoadAt.{LoadAt}
+use Rattle.fd_equations.specs.fd_exact.Sums.{list_n}
+use Rattle.fd_slope.specs.fd_arith.declared.terms.NodeAt.{NodeAt}
+use Rattle.fd_slope.specs.fd_arith.declared.terms.NodeAt.TheVariants.{Ground, Node}
+use Rattle.fd_slope.specs.fd_arith.LoadModels.{is_linear}
+use Rattle.fd_slope.specs.fd_system.declared.loads.LoadAt.{LoadAt}
 use Rattle.fd_slope.specs.Changes.{radii_in}
 use Rattle.fd_slope.specs.declared.radii.Radii.{Radii}
 use Rattle.fd_slope.specs.declared.radii.RadiusRow.{RadiusRow}
 use Rattle.fd_equations.specs.Rounded.{jacobian_count}
-use Rattle.fd_pattern.specs.Views.{NetworkView}
+use Rattle.fd_equations.specs.fd_pattern.Views.{NetworkView}
 use Rattle.fd_enclosure.specs.Boxes.{half_width}
 
 -- ---- what stands at the place l

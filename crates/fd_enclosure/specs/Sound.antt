@@ -1,12 +1,12 @@
 -- Claims on a network, and when one is sound. All is in whole numbers, so that anyone who has the claim can compute it again.
 use Rattle.std.specs.Prelude.{◌≡◌, ℕ, ◌<◌, ◌≤◌, ◌^◌, ℤ, nat_abs, nat_lt, IsTrue, List, length, get_or, Option, Some, None, Result, Ok, Err}
-use Rattle.fd_exact.specs.First.{first_place}
-use Rattle.fd_exact.specs.States.{entry}
-use Rattle.fd_mat.specs.Rows.{EntriesWithin}
-use Rattle.fd_system.specs.Residual.{mismatch_of}
-use Rattle.fd_pattern.specs.Conditions.{IsPoint}
+use Rattle.fd_equations.specs.fd_exact.First.{first_place}
+use Rattle.fd_equations.specs.fd_exact.States.{entry}
+use Rattle.fd_equations.specs.fd_mat.Rows.{EntriesWithin}
+use Rattle.fd_slope.specs.fd_system.Residual.{mismatch_of}
+use Rattle.fd_equations.specs.fd_pattern.Conditions.{IsPoint}
 use Rattle.fd_equations.specs.Rounded.{jacobian_entry, list_of}
-use Rattle.fd_pattern.specs.Views.{NetworkView}
+use Rattle.fd_equations.specs.fd_pattern.Views.{NetworkView}
 use Rattle.fd_equations.specs.Weights.{weight_at}
 use Rattle.fd_enclosure.specs.Bounds.{is_bounded, radius_at, refusal}
 use Rattle.fd_enclosure.specs.Boxes.{boxes_of}

@@ -1,11 +1,11 @@
 -- Ties that keep the numbers of a certificate honest.
 use Rattle.std.specs.Prelude.{◌≡◌, ℕ, ◌+◌, ◌*◌, ◌<◌, ◌≤◌, ℤ, nat_abs, List}
-use Rattle.fd_exact.specs.Fractions.{Fraction}
-use Rattle.fd_system.specs.Residual.{whole_state}
-use Rattle.fd_system.specs.System.{residual_of}
-use Rattle.fd_pattern.specs.Conditions.{IsNetwork, IsPoint}
+use Rattle.fd_equations.specs.fd_exact.Fractions.{Fraction}
+use Rattle.fd_slope.specs.fd_system.Residual.{whole_state}
+use Rattle.fd_slope.specs.fd_system.System.{residual_of}
+use Rattle.fd_equations.specs.fd_pattern.Conditions.{IsNetwork, IsPoint}
 use Rattle.fd_equations.specs.Enclosure.{addend_count}
-use Rattle.fd_pattern.specs.Views.{NetworkView}
+use Rattle.fd_equations.specs.fd_pattern.Views.{NetworkView}
 use Rattle.fd_enclosure.specs.Boxes.{half_width}
 use Rattle.fd_enclosure.specs.Sound.{mismatch_at, radius_in}
 

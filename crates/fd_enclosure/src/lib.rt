@@ -16,3 +16,9 @@ mod ties;
 
 pub use laws::{certificate_law, change_law, enclosure_law, linear_law};
 pub use ties::{ball_law, tie_law};
+
+// Handed on from the crates below.
+pub use fd_equations::{
+    Cell, Dense, Matrix, Network as NetworkRows, Pattern, PlaceKind, Point, voltage_of,
+};
+pub use fd_slope::{Interval, LoadAt, Micro, NodeAt, Radii, RadiusRow, Wide, load_slope};

@@ -1,9 +1,9 @@
 -- What stands at the places of a terminal: sizes, signs and counts.
 use Rattle.std.proofs.Common.{◌≡◌, ◌∙◌, ℕ, ◌+◌, ◌*◌, ◌≤◌, ℤ, pos, neg_ℤ, ◌+ℤ◌, nat_abs, Bool, true, false, cond, eqb, Option, Some, None, arith, ap, refl}
 use Rattle.std.proofs.lemmas.Int.{ints}
-use Rattle.fd_arith.specs.declared.terms.NodeAt.{NodeAt}
-use Rattle.fd_arith.specs.declared.terms.NodeAt.TheVariants.{Ground, Node}
-use Rattle.fd_system.specs.declared.loads.LoadAt.{LoadAt}
+use Rattle.fd_pattern.specs.fd_arith.declared.terms.NodeAt.{NodeAt}
+use Rattle.fd_pattern.specs.fd_arith.declared.terms.NodeAt.TheVariants.{Ground, Node}
+use Rattle.fd_pattern.specs.fd_system.declared.loads.LoadAt.{LoadAt}
 use Rattle.fd_pattern.specs.Terminals.{at_magnitude, at_node, at_terminal}
 
 -- ---- sizes

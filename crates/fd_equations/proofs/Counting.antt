@@ -4,13 +4,13 @@ use Rattle.std.specs.List.{All}
 use Rattle.std.proofs.Math.Nat.{mul-le-mul}
 use Rattle.std.proofs.lemmas.Int.{ints}
 use Rattle.std.proofs.lemmas.List.Elements.{All-head, All-tail}
-use Rattle.fd_arith.specs.declared.terms.Term.{Term}
-use Rattle.fd_arith.specs.declared.terms.NodeAt.{NodeAt}
-use Rattle.fd_arith.specs.declared.terms.NodeAt.TheVariants.{Ground, Node}
-use Rattle.fd_exact.specs.SumLaws.{list_n-bound}
-use Rattle.fd_arith.specs.LoadModels.{is_linear}
-use Rattle.fd_system.specs.declared.loads.LoadAt.{LoadAt}
-use Rattle.fd_system.specs.Contributions.{AreSmall, term_units}
+use Rattle.fd_pattern.specs.fd_arith.declared.terms.Term.{Term}
+use Rattle.fd_pattern.specs.fd_arith.declared.terms.NodeAt.{NodeAt}
+use Rattle.fd_pattern.specs.fd_arith.declared.terms.NodeAt.TheVariants.{Ground, Node}
+use Rattle.fd_mat.specs.fd_exact.SumLaws.{list_n-bound}
+use Rattle.fd_pattern.specs.fd_arith.LoadModels.{is_linear}
+use Rattle.fd_pattern.specs.fd_system.declared.loads.LoadAt.{LoadAt}
+use Rattle.fd_pattern.specs.fd_system.Contributions.{AreSmall, term_units}
 use Rattle.fd_pattern.specs.Coefficients.{count_at, linear_entry, stands_at}
 use Rattle.fd_pattern.specs.Conditions.{IsLinear}
 use Rattle.fd_equations.specs.PartLoads.{slope_count, slope_counts}

@@ -6,26 +6,26 @@ use Rattle.std.proofs.lemmas.Int.{ints}
 use Rattle.std.proofs.lemmas.List.{take_more}
 use Rattle.std.proofs.lemmas.List.Elements.{All-append, All-cons, All-head, All-nil, All-tail}
 use Rattle.std.proofs.lemmas.List.Sums.{fold-append}
-use Rattle.fd_exact.specs.Fractions.{Fraction, opposite, nothing}
-use Rattle.fd_exact.specs.FractionLaws.{nothing-pos}
-use Rattle.fd_exact.specs.Quotients.{ceil-neg, floor-neg}
-use Rattle.fd_exact.specs.Rounding.{ceil_div, floor_div, near_div}
-use Rattle.fd_exact.specs.States.{State, part}
-use Rattle.fd_arith.specs.Capping.{fits-true, same_bool, true-fits}
-use Rattle.fd_arith.specs.Interval.{Bounds, capped, negation, outward, sum}
-use Rattle.fd_arith.specs.Limits.{fits}
-use Rattle.fd_arith.specs.declared.terms.NodeAt.{NodeAt}
-use Rattle.fd_arith.specs.declared.terms.NodeAt.TheVariants.{Ground, Node}
-use Rattle.fd_load.specs.Current.{AreVoltages, IsLoadPhase, divisor, excess, in_phase, quadrature}
-use Rattle.fd_load.proofs.CallerLemmas.{current_is, divisor-positive, magnitude_is}
-use Rattle.fd_arith.specs.LoadModels.{is_linear}
-use Rattle.fd_system.specs.declared.loads.LoadAt.{LoadAt}
-use Rattle.fd_system.specs.Complex.{Complex, negative}
-use Rattle.fd_system.specs.Equations.{alone, both, seen}
-use Rattle.fd_system.specs.Loads.{load_current, load_parts, magnitude_parts, magnitude_row, nonlinear_parts}
-use Rattle.fd_system.specs.Residual.{HasParts, fraction_interval, whole_state, with_part}
-use Rattle.fd_system.specs.System.{nonlinear_of}
-use Rattle.fd_system.proofs.CallerLemmas.{IsWhole, opposite-pos, side-pos}
+use Rattle.fd_mat.specs.fd_exact.Fractions.{Fraction, opposite, nothing}
+use Rattle.fd_mat.specs.fd_exact.FractionLaws.{nothing-pos}
+use Rattle.fd_mat.specs.fd_exact.Quotients.{ceil-neg, floor-neg}
+use Rattle.fd_mat.specs.fd_exact.Rounding.{ceil_div, floor_div, near_div}
+use Rattle.fd_mat.specs.fd_exact.States.{State, part}
+use Rattle.fd_pattern.specs.fd_arith.Capping.{fits-true, same_bool, true-fits}
+use Rattle.fd_pattern.specs.fd_arith.Interval.{Bounds, capped, negation, outward, sum}
+use Rattle.fd_pattern.specs.fd_arith.Limits.{fits}
+use Rattle.fd_pattern.specs.fd_arith.declared.terms.NodeAt.{NodeAt}
+use Rattle.fd_pattern.specs.fd_arith.declared.terms.NodeAt.TheVariants.{Ground, Node}
+use Rattle.fd_pattern.specs.fd_load.Current.{AreVoltages, IsLoadPhase, divisor, excess, in_phase, quadrature}
+use Rattle.fd_pattern.proofs.CallerLemmas.fd_load.{current_is, divisor-positive, magnitude_is}
+use Rattle.fd_pattern.specs.fd_arith.LoadModels.{is_linear}
+use Rattle.fd_pattern.specs.fd_system.declared.loads.LoadAt.{LoadAt}
+use Rattle.fd_pattern.specs.fd_system.Complex.{Complex, negative}
+use Rattle.fd_pattern.specs.fd_system.Equations.{alone, both, seen}
+use Rattle.fd_pattern.specs.fd_system.Loads.{load_current, load_parts, magnitude_parts, magnitude_row, nonlinear_parts}
+use Rattle.fd_pattern.specs.fd_system.Residual.{HasParts, fraction_interval, whole_state, with_part}
+use Rattle.fd_pattern.specs.fd_system.System.{nonlinear_of}
+use Rattle.fd_pattern.proofs.CallerLemmas.fd_system.{IsWhole, opposite-pos, side-pos}
 use Rattle.fd_pattern.specs.Conditions.{IsPart}
 use Rattle.fd_equations.specs.Enclosure.{with_current, with_drawn, with_magnitude}
 use Rattle.fd_equations.specs.PartLoads.{current_count, current_counts}

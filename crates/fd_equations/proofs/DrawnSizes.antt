@@ -1,21 +1,21 @@
 -- The sizes of what a part load draws, to the nearest.
 use Rattle.std.proofs.Common.{◌≡◌, ◌∙◌, ℕ, ◌*◌, ◌≤◌, ◌^◌, ℤ, pos, ◌+ℤ◌, ◌-ℤ◌, ◌*ℤ◌, nat_abs, cond, Option, Some, None, to_z, of_z, arith, ap}
 use Rattle.std.specs.Int.{w128}
-use Rattle.fd_arith.specs.Limits.{within}
-use Rattle.fd_arith.specs.Capping.{true-fits}
+use Rattle.fd_pattern.specs.fd_arith.Limits.{within}
+use Rattle.fd_pattern.specs.fd_arith.Capping.{true-fits}
 use Rattle.std.proofs.lemmas.Int.{ints, unsigned_abs-mul}
 use Rattle.std.proofs.Math.Nat.{mul-le-mul, mul-le-mul_right}
-use Rattle.fd_exact.specs.Integers.{abs_sub}
-use Rattle.fd_exact.specs.Rounding.{near_div}
-use Rattle.fd_arith.specs.declared.terms.LoadModel.{LoadModel}
-use Rattle.fd_arith.specs.declared.terms.LoadModel.TheVariants.{ConstantPower, ConstantImpedance, ConstantCurrent}
-use Rattle.fd_arith.specs.LoadModels.{by_model}
-use Rattle.fd_system.specs.declared.loads.LoadPhase.{LoadPhase}
-use Rattle.fd_system.specs.Loads.{clamp, non_negative, square_of}
-use Rattle.fd_load.specs.Current.{AreVoltages, IsLoadPhase, divisor, excess, in_phase, largest, power_sum, quadrature}
-use Rattle.fd_exact.specs.Nearest.{near_within}
+use Rattle.fd_mat.specs.fd_exact.Integers.{abs_sub}
+use Rattle.fd_mat.specs.fd_exact.Rounding.{near_div}
+use Rattle.fd_pattern.specs.fd_arith.declared.terms.LoadModel.{LoadModel}
+use Rattle.fd_pattern.specs.fd_arith.declared.terms.LoadModel.TheVariants.{ConstantPower, ConstantImpedance, ConstantCurrent}
+use Rattle.fd_pattern.specs.fd_arith.LoadModels.{by_model}
+use Rattle.fd_pattern.specs.fd_system.declared.loads.LoadPhase.{LoadPhase}
+use Rattle.fd_pattern.specs.fd_system.Loads.{clamp, non_negative, square_of}
+use Rattle.fd_pattern.specs.fd_load.Current.{AreVoltages, IsLoadPhase, divisor, excess, in_phase, largest, power_sum, quadrature}
+use Rattle.fd_mat.specs.fd_exact.Nearest.{near_within}
 use Rattle.fd_equations.proofs.Sizes.{kept_by}
-use Rattle.fd_load.proofs.CallerLemmas.{current_most, divisor-positive, sum_most, times_most, turned, turned_largest}
+use Rattle.fd_pattern.proofs.CallerLemmas.fd_load.{current_most, divisor-positive, sum_most, times_most, turned, turned_largest}
 
 -- ---- the denominator is at least the square of the lower limit
 

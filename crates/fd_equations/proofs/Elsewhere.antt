@@ -5,12 +5,12 @@ use Rattle.std.proofs.lemmas.Int.{ints}
 use Rattle.std.proofs.lemmas.Bool.{cases_eq, eq-eqb, ne_eqb, true≢false}
 use Rattle.std.proofs.lemmas.List.{get_or_default}
 use Rattle.std.proofs.lemmas.List.Elements.{All-cons, All-head, All-nil, All-tail, Contains-append_left, Contains-append_right}
-use Rattle.fd_arith.specs.declared.terms.Term.{Term}
-use Rattle.fd_arith.specs.declared.terms.NodeAt.{NodeAt}
-use Rattle.fd_arith.specs.declared.terms.NodeAt.TheVariants.{Ground, Node}
-use Rattle.fd_arith.specs.LoadModels.{is_linear}
-use Rattle.fd_system.specs.declared.loads.LoadAt.{LoadAt}
-use Rattle.fd_system.specs.Contributions.{AreSmall, term_units}
+use Rattle.fd_pattern.specs.fd_arith.declared.terms.Term.{Term}
+use Rattle.fd_pattern.specs.fd_arith.declared.terms.NodeAt.{NodeAt}
+use Rattle.fd_pattern.specs.fd_arith.declared.terms.NodeAt.TheVariants.{Ground, Node}
+use Rattle.fd_pattern.specs.fd_arith.LoadModels.{is_linear}
+use Rattle.fd_pattern.specs.fd_system.declared.loads.LoadAt.{LoadAt}
+use Rattle.fd_pattern.specs.fd_system.Contributions.{AreSmall, term_units}
 use Rattle.fd_equations.specs.declared.cells.Cell.{Cell}
 use Rattle.fd_equations.specs.Amounts.{Amount, AreCells, IsNothingElsewhere, amount, cell_at, empty, of_rows}
 use Rattle.fd_pattern.specs.Coefficients.{count_at, linear_entry, stands_at}

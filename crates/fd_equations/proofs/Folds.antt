@@ -6,12 +6,12 @@ use Rattle.std.proofs.lemmas.Bool.{cases_eq, eq-eqb, ne_eqb}
 use Rattle.std.proofs.lemmas.List.{take_more, get_or-set_same, get_or-set_other, length-set, take_all}
 use Rattle.std.proofs.lemmas.List.Elements.{All-get_or}
 use Rattle.std.proofs.lemmas.List.Sums.{fold-append}
-use Rattle.fd_exact.specs.States.{part}
-use Rattle.fd_arith.specs.Interval.{capped}
-use Rattle.fd_arith.specs.declared.terms.Term.{Term}
-use Rattle.fd_system.specs.declared.constants.Constant.{Constant}
-use Rattle.fd_system.specs.Residual.{constant_added as interval_added, term_added, linear_interval, with_constant, with_term}
-use Rattle.fd_system.proofs.CallerLemmas.{length-constants, length-terms, row-constants, row-terms}
+use Rattle.fd_mat.specs.fd_exact.States.{part}
+use Rattle.fd_pattern.specs.fd_arith.Interval.{capped}
+use Rattle.fd_pattern.specs.fd_arith.declared.terms.Term.{Term}
+use Rattle.fd_pattern.specs.fd_system.declared.constants.Constant.{Constant}
+use Rattle.fd_pattern.specs.fd_system.Residual.{constant_added as interval_added, term_added, linear_interval, with_constant, with_term}
+use Rattle.fd_pattern.proofs.CallerLemmas.fd_system.{length-constants, length-terms, row-constants, row-terms}
 use Rattle.fd_pattern.specs.Conditions.{IsKnown}
 use Rattle.fd_equations.specs.Rounded.{list_of, constant_sum, constant_added}
 use Rattle.fd_equations.proofs.Lists.{list_z_more, length-list_of, get_or-list_of, list_of-ext}

@@ -5,12 +5,12 @@ use Rattle.std.proofs.lemmas.Int.{ints}
 use Rattle.std.proofs.lemmas.Bool.{cases_eq, eq-eqb}
 use Rattle.std.proofs.lemmas.List.{get_or-set_same, get_or-set_other, get_or-map, length-map, length-take}
 use Rattle.std.proofs.lemmas.List.Elements.{All-take, Contains-get_or}
-use Rattle.fd_arith.specs.declared.terms.Term.{Term}
-use Rattle.fd_load.specs.declared.slopes.Slopes.{Slopes}
-use Rattle.fd_system.specs.declared.loads.LoadAt.{LoadAt}
+use Rattle.fd_pattern.specs.fd_arith.declared.terms.Term.{Term}
+use Rattle.fd_pattern.specs.fd_load.declared.slopes.Slopes.{Slopes}
+use Rattle.fd_pattern.specs.fd_system.declared.loads.LoadAt.{LoadAt}
 use Rattle.fd_equations.specs.declared.cells.Cell.{Cell}
 use Rattle.fd_equations.specs.Amounts.{Amount, AreCells, AreGrown, HaveSlopeRoom, HaveTermRoom, amount, cell_at, cell_of, empty, more, nothing, of_both, of_load, of_loads, of_rows, of_term, of_terms, without_slopes}
-use Rattle.fd_system.specs.Contributions.{term_units}
+use Rattle.fd_pattern.specs.fd_system.Contributions.{term_units}
 use Rattle.fd_pattern.specs.Coefficients.{count_at, linear_entry, stands_at}
 use Rattle.fd_pattern.specs.Conditions.{AreLinear, IsLinear}
 use Rattle.fd_equations.specs.PartLoads.{load_entry, slope_count}

@@ -3,13 +3,13 @@ use Rattle.std.proofs.Common.{◌≡◌, ◌∙◌, ◌⊎◌, ℕ, zero, suc, �
 use Rattle.std.specs.List.{All, Contains}
 use Rattle.std.proofs.Math.Nat.{mul-le-mul}
 use Rattle.std.proofs.lemmas.Int.{ints}
-use Rattle.fd_exact.specs.Sums.{list_z}
-use Rattle.fd_arith.specs.declared.terms.Term.{Term}
-use Rattle.fd_arith.specs.declared.terms.NodeAt.{NodeAt}
-use Rattle.fd_arith.specs.declared.terms.NodeAt.TheVariants.{Ground, Node}
-use Rattle.fd_load.specs.declared.slopes.Slopes.{Slopes}
-use Rattle.fd_arith.specs.LoadModels.{is_linear}
-use Rattle.fd_system.specs.declared.loads.LoadAt.{LoadAt}
+use Rattle.fd_mat.specs.fd_exact.Sums.{list_z}
+use Rattle.fd_pattern.specs.fd_arith.declared.terms.Term.{Term}
+use Rattle.fd_pattern.specs.fd_arith.declared.terms.NodeAt.{NodeAt}
+use Rattle.fd_pattern.specs.fd_arith.declared.terms.NodeAt.TheVariants.{Ground, Node}
+use Rattle.fd_pattern.specs.fd_load.declared.slopes.Slopes.{Slopes}
+use Rattle.fd_pattern.specs.fd_arith.LoadModels.{is_linear}
+use Rattle.fd_pattern.specs.fd_system.declared.loads.LoadAt.{LoadAt}
 use Rattle.fd_equations.specs.declared.cells.Cell.{Cell}
 use Rattle.fd_equations.specs.Amounts.{Amount, RowsView, AreCells, AreGrown, HaveSlopeRoom, IsNothingElsewhere, amount, cell_of, of_both, of_loads, of_rows, of_terms, rows_with, without_slopes}
 use Rattle.fd_pattern.specs.Conditions.{AreLinear}

@@ -4,7 +4,7 @@ pub mod LoadCells
 pub mod RowSteps
 pub mod Writing
 pub mod Holding
-pub mod Dense
+pub mod WrittenOut
 pub mod Products
 pub mod Reading
 pub mod Elsewhere

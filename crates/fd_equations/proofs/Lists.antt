@@ -2,9 +2,9 @@
 use Rattle.std.proofs.Common.{◌≡◌, ◌∙◌, ℕ, ◌+◌, ◌<◌, ◌≤◌, ℤ, pos, ◌+ℤ◌, nat_abs, List, [], ◌∷◌, ◌++◌, length, take, drop, replicate, get_or, arith, ap, sym, subst, zero-add, inl, inr}
 use Rattle.std.proofs.Math.Seq.{take-append_seam}
 use Rattle.std.proofs.lemmas.Bool.{cases_lt}
-use Rattle.fd_exact.specs.States.{part}
-use Rattle.fd_exact.specs.Sums.{list_z, list_n}
-use Rattle.fd_exact.specs.SumLaws.{list_z-append, list_n-append}
+use Rattle.fd_mat.specs.fd_exact.States.{part}
+use Rattle.fd_mat.specs.fd_exact.Sums.{list_z, list_n}
+use Rattle.fd_mat.specs.fd_exact.SumLaws.{list_z-append, list_n-append}
 use Rattle.std.proofs.lemmas.Int.{ints}
 use Rattle.std.proofs.lemmas.List.{take_more, ext_get_or, get_or-replicate, length-replicate, get_or_past}
 use Rattle.std.proofs.lemmas.List.FromFn.{length-map-range_with_len, get_or-map-range_with_len, map-range_with_len_more}

@@ -1,14 +1,14 @@
 -- What a part load adds to the cells at the places of its terminal, step by step.
 use Rattle.std.proofs.Common.{◌≡◌, ◌∙◌, ℕ, ◌+◌, ◌*◌, ◌<◌, ◌≤◌, ◌^◌, ℤ, pos, neg_ℤ, ◌+ℤ◌, nat_abs, Bool, true, false, cond, eqb, ◌&&◌, List, length, take, get_or, Option, Some, None, arith, ap, sym, refl, subst}
 use Rattle.std.proofs.lemmas.List.{take_all}
-use Rattle.fd_arith.specs.declared.terms.NodeAt.{NodeAt}
-use Rattle.fd_arith.specs.declared.terms.NodeAt.TheVariants.{Ground, Node}
-use Rattle.fd_load.specs.Slopes.{admittance, slope_row, slopes_of}
-use Rattle.fd_load.specs.declared.slopes.Slopes.{Slopes}
-use Rattle.fd_load.specs.declared.slopes.SlopeRow.{SlopeRow}
-use Rattle.fd_system.specs.declared.loads.LoadPhase.{LoadPhase}
-use Rattle.fd_arith.specs.LoadModels.{is_linear}
-use Rattle.fd_system.specs.declared.loads.LoadAt.{LoadAt}
+use Rattle.fd_pattern.specs.fd_arith.declared.terms.NodeAt.{NodeAt}
+use Rattle.fd_pattern.specs.fd_arith.declared.terms.NodeAt.TheVariants.{Ground, Node}
+use Rattle.fd_pattern.specs.fd_load.Slopes.{admittance, slope_row, slopes_of}
+use Rattle.fd_pattern.specs.fd_load.declared.slopes.Slopes.{Slopes}
+use Rattle.fd_pattern.specs.fd_load.declared.slopes.SlopeRow.{SlopeRow}
+use Rattle.fd_pattern.specs.fd_system.declared.loads.LoadPhase.{LoadPhase}
+use Rattle.fd_pattern.specs.fd_arith.LoadModels.{is_linear}
+use Rattle.fd_pattern.specs.fd_system.declared.loads.LoadAt.{LoadAt}
 use Rattle.fd_equations.specs.declared.cells.Cell.{Cell}
 use Rattle.fd_equations.specs.Amounts.{Amount, AreGrown, HaveSlopeRoom, amount, nothing, of_load, of_loads}
 use Rattle.fd_equations.specs.PartLoads.{load_entry, slope_count, slope_in, slopes_there, start_slopes}

@@ -4,17 +4,17 @@ use Rattle.std.specs.List.{All}
 use Rattle.std.proofs.lemmas.Int.{ints}
 use Rattle.std.proofs.lemmas.List.{length-take}
 use Rattle.std.proofs.lemmas.List.Elements.{All-get_or, All-head, All-tail, All-take, All-weaker}
-use Rattle.fd_exact.specs.Rounding.{near_div}
-use Rattle.fd_exact.specs.States.{part}
-use Rattle.fd_exact.specs.Sums.{list_z}
-use Rattle.fd_arith.specs.declared.terms.NodeAt.{NodeAt}
-use Rattle.fd_arith.specs.declared.terms.NodeAt.TheVariants.{Ground, Node}
-use Rattle.fd_load.specs.Current.{AreVoltages, divisor, excess, in_phase, quadrature}
-use Rattle.fd_arith.specs.declared.terms.LoadModel.TheVariants.{ConstantPower}
-use Rattle.fd_arith.specs.LoadModels.{is_linear}
-use Rattle.fd_system.specs.declared.loads.LoadAt.{LoadAt}
-use Rattle.fd_system.specs.Loads.{re_of, im_of, magnitude_of}
-use Rattle.fd_system.specs.Residual.{IsPlace, whole_state}
+use Rattle.fd_mat.specs.fd_exact.Rounding.{near_div}
+use Rattle.fd_mat.specs.fd_exact.States.{part}
+use Rattle.fd_mat.specs.fd_exact.Sums.{list_z}
+use Rattle.fd_pattern.specs.fd_arith.declared.terms.NodeAt.{NodeAt}
+use Rattle.fd_pattern.specs.fd_arith.declared.terms.NodeAt.TheVariants.{Ground, Node}
+use Rattle.fd_pattern.specs.fd_load.Current.{AreVoltages, divisor, excess, in_phase, quadrature}
+use Rattle.fd_pattern.specs.fd_arith.declared.terms.LoadModel.TheVariants.{ConstantPower}
+use Rattle.fd_pattern.specs.fd_arith.LoadModels.{is_linear}
+use Rattle.fd_pattern.specs.fd_system.declared.loads.LoadAt.{LoadAt}
+use Rattle.fd_pattern.specs.fd_system.Loads.{re_of, im_of, magnitude_of}
+use Rattle.fd_pattern.specs.fd_system.Residual.{IsPlace, whole_state}
 use Rattle.fd_pattern.specs.Conditions.{IsPart}
 use Rattle.fd_equations.specs.PartLoads.{load_row, loads_row}
 use Rattle.fd_pattern.specs.Terminals.{IsConnected, at_terminal, imaginary_of, magnitude_in, real_of}

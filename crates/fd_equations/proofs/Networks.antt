@@ -6,18 +6,18 @@ use Rattle.std.proofs.lemmas.Int.{ints}
 use Rattle.std.proofs.lemmas.Bool.{cases_lt}
 use Rattle.std.proofs.lemmas.List.{get_or_past}
 use Rattle.std.proofs.lemmas.List.Elements.{All-head, All-tail, All-weaker, All-get_or}
-use Rattle.fd_exact.specs.States.{part}
-use Rattle.fd_exact.specs.Sums.{sum_z}
-use Rattle.fd_exact.specs.SumLaws.{abs_sum, sum_n-bound}
-use Rattle.fd_arith.specs.Interval.{Bounds, Holds}
-use Rattle.fd_arith.specs.LoadModels.{is_linear}
-use Rattle.fd_arith.specs.declared.terms.Term.{Term}
-use Rattle.fd_system.specs.declared.constants.Constant.{Constant}
-use Rattle.fd_system.specs.declared.loads.LoadAt.{LoadAt}
-use Rattle.fd_system.specs.Contributions.{AreSmall}
-use Rattle.fd_system.specs.System.{nonlinear_of, residual_of}
-use Rattle.fd_system.specs.Residual.{HasDen, IsConstant, IsTerm, linear_interval, residual_interval, whole_state, with_part}
-use Rattle.fd_system.proofs.CallerLemmas.{residual_holds}
+use Rattle.fd_mat.specs.fd_exact.States.{part}
+use Rattle.fd_mat.specs.fd_exact.Sums.{sum_z}
+use Rattle.fd_mat.specs.fd_exact.SumLaws.{abs_sum, sum_n-bound}
+use Rattle.fd_pattern.specs.fd_arith.Interval.{Bounds, Holds}
+use Rattle.fd_pattern.specs.fd_arith.LoadModels.{is_linear}
+use Rattle.fd_pattern.specs.fd_arith.declared.terms.Term.{Term}
+use Rattle.fd_pattern.specs.fd_system.declared.constants.Constant.{Constant}
+use Rattle.fd_pattern.specs.fd_system.declared.loads.LoadAt.{LoadAt}
+use Rattle.fd_pattern.specs.fd_system.Contributions.{AreSmall}
+use Rattle.fd_pattern.specs.fd_system.System.{nonlinear_of, residual_of}
+use Rattle.fd_pattern.specs.fd_system.Residual.{HasDen, IsConstant, IsTerm, linear_interval, residual_interval, whole_state, with_part}
+use Rattle.fd_pattern.proofs.CallerLemmas.fd_system.{residual_holds}
 use Rattle.fd_pattern.specs.Coefficients.{linear_entry, row_count}
 use Rattle.fd_pattern.specs.Conditions.{AreKnown, IsKnown, IsLinear, IsNetwork, IsPart, IsPoint, magnitude_count}
 use Rattle.fd_equations.specs.Enclosure.{EndsWithin, addend_count, interval_residual_of, summand_count}

@@ -1,7 +1,7 @@
 -- The two sides and the magnitude of a part load in one row.
 use Rattle.std.proofs.Common.{ℕ, ℤ, ◌*◌, ◌^◌, ◌≡◌, neg_ℤ, List, arith, subst}
-use Rattle.fd_load.specs.declared.slopes.SlopeRow.{SlopeRow}
-use Rattle.fd_system.specs.declared.loads.LoadAt.{LoadAt}
+use Rattle.fd_pattern.specs.fd_load.declared.slopes.SlopeRow.{SlopeRow}
+use Rattle.fd_pattern.specs.fd_system.declared.loads.LoadAt.{LoadAt}
 use Rattle.fd_equations.specs.declared.cells.Cell.{Cell}
 use Rattle.fd_equations.specs.Amounts.{AreGrown, HaveSlopeRoom}
 use Rattle.fd_equations.specs.Slopes.{IsSlope}

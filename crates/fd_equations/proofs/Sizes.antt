@@ -4,9 +4,9 @@ use Rattle.std.specs.Int.{w128}
 use Rattle.std.proofs.Math.Nat.{mul-le-mul}
 use Rattle.std.proofs.lemmas.Bool.{leb-true}
 use Rattle.std.proofs.lemmas.Int.{ints, unsigned_abs-mul, to_z-of_z, fits_signed_from_abs}
-use Rattle.fd_exact.specs.Rounding.{near_div}
-use Rattle.fd_exact.specs.Nearest.{near_nearest}
-use Rattle.fd_system.specs.Contributions.{AreSmall}
+use Rattle.fd_mat.specs.fd_exact.Rounding.{near_div}
+use Rattle.fd_mat.specs.fd_exact.Nearest.{near_nearest}
+use Rattle.fd_pattern.specs.fd_system.Contributions.{AreSmall}
 use Rattle.fd_pattern.specs.Conditions.{IsPart}
 
 pub near_size : (z : ℤ) → nat_abs z ≤ 2 ^ 94 → nat_abs (near_div z (2 ^ 40)) ≤ 2 ^ 54

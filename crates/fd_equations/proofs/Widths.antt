@@ -5,19 +5,19 @@ use Rattle.std.specs.List.{fold, All}
 use Rattle.std.proofs.lemmas.Int.{ints, clamps, unsigned_abs-mul}
 use Rattle.std.proofs.lemmas.List.Elements.{All-head, All-tail, All-get_or}
 use Rattle.std.proofs.Math.Nat.{mul-le-mul}
-use Rattle.fd_exact.specs.Rounding.{floor_div, ceil_div, near_div}
-use Rattle.fd_exact.specs.Fractions.{Fraction}
-use Rattle.fd_exact.specs.Integers.{next-mul, last-mul, mul-add, add-mul}
-use Rattle.fd_exact.specs.Nearest.{near_nearest}
-use Rattle.fd_exact.specs.Order.{lt_of_scale, scale}
-use Rattle.fd_exact.specs.Quotients.{floor-low, floor-high, ceil-high, ceil-low, floor-ceil}
-use Rattle.fd_exact.specs.States.{part}
-use Rattle.fd_arith.specs.Limits.{Fits}
-use Rattle.fd_arith.specs.Interval.{Bounds, Holds, capped, outward, least, greatest, product, sum}
-use Rattle.fd_arith.specs.Capping.{capped-within}
-use Rattle.fd_arith.specs.declared.terms.Term.{Term}
-use Rattle.fd_system.specs.declared.constants.Constant.{Constant}
-use Rattle.fd_system.specs.Residual.{term_interval, with_constant, with_term, linear_interval}
+use Rattle.fd_mat.specs.fd_exact.Rounding.{floor_div, ceil_div, near_div}
+use Rattle.fd_mat.specs.fd_exact.Fractions.{Fraction}
+use Rattle.fd_mat.specs.fd_exact.Integers.{next-mul, last-mul, mul-add, add-mul}
+use Rattle.fd_mat.specs.fd_exact.Nearest.{near_nearest}
+use Rattle.fd_mat.specs.fd_exact.Order.{lt_of_scale, scale}
+use Rattle.fd_mat.specs.fd_exact.Quotients.{floor-low, floor-high, ceil-high, ceil-low, floor-ceil}
+use Rattle.fd_mat.specs.fd_exact.States.{part}
+use Rattle.fd_pattern.specs.fd_arith.Limits.{Fits}
+use Rattle.fd_pattern.specs.fd_arith.Interval.{Bounds, Holds, capped, outward, least, greatest, product, sum}
+use Rattle.fd_pattern.specs.fd_arith.Capping.{capped-within}
+use Rattle.fd_pattern.specs.fd_arith.declared.terms.Term.{Term}
+use Rattle.fd_pattern.specs.fd_system.declared.constants.Constant.{Constant}
+use Rattle.fd_pattern.specs.fd_system.Residual.{term_interval, with_constant, with_term, linear_interval}
 use Rattle.fd_pattern.specs.Coefficients.{row_count}
 use Rattle.fd_pattern.specs.Conditions.{IsLinear, IsKnown, IsPart}
 use Rattle.fd_equations.specs.Enclosure.{EndsWithin}

@@ -5,8 +5,8 @@ use Rattle.std.proofs.lemmas.Bool.{cases_eq}
 use Rattle.std.proofs.lemmas.Nat.{same_from_place}
 use Rattle.std.proofs.lemmas.List.{get_or-set_same, get_or-set_other, length-set}
 use Rattle.std.proofs.lemmas.List.Elements.{Contains-get_or}
-use Rattle.fd_exact.specs.States.{cell, part}
-use Rattle.fd_exact.specs.Tables.{room}
+use Rattle.fd_mat.specs.fd_exact.States.{cell, part}
+use Rattle.fd_mat.specs.fd_exact.Tables.{room}
 use Rattle.fd_equations.specs.declared.cells.Cell.{Cell}
 use Rattle.fd_equations.specs.Amounts.{cell_at}
 use Rattle.fd_pattern.specs.Patterns.{IsRising, IsSlot, key}

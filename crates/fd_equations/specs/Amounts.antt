@@ -1,12 +1,12 @@
 -- Cells: what contributions and slopes of part loads add up to at each place of a pattern.
 use Rattle.std.specs.Prelude.{◌≡◌, ◌≢◌, ℕ, ◌+◌, ◌<◌, ◌≤◌, ℤ, pos, ◌+ℤ◌, nat_abs, cond, List, length, get_or}
 use Rattle.std.specs.List.{Contains}
-use Rattle.fd_arith.specs.declared.terms.Term.{Term}
-use Rattle.fd_exact.specs.Sums.{list_z}
-use Rattle.fd_load.specs.declared.slopes.Slopes.{Slopes}
-use Rattle.fd_system.specs.declared.loads.LoadAt.{LoadAt}
+use Rattle.fd_pattern.specs.fd_arith.declared.terms.Term.{Term}
+use Rattle.fd_mat.specs.fd_exact.Sums.{list_z}
+use Rattle.fd_pattern.specs.fd_load.declared.slopes.Slopes.{Slopes}
+use Rattle.fd_pattern.specs.fd_system.declared.loads.LoadAt.{LoadAt}
 use Rattle.fd_equations.specs.declared.cells.Cell.{Cell}
-use Rattle.fd_system.specs.Contributions.{term_units}
+use Rattle.fd_pattern.specs.fd_system.Contributions.{term_units}
 use Rattle.fd_pattern.specs.Coefficients.{count_at, linear_entry, stands_at}
 use Rattle.fd_equations.specs.PartLoads.{load_entry, slope_count, slope_counts}
 use Rattle.fd_pattern.specs.Patterns.{PatternView, key}

@@ -1,13 +1,13 @@
 -- The residual of a network in intervals.
 use Rattle.std.specs.Prelude.{ℕ, ◌+◌, ◌*◌, ◌≤◌, ℤ, nat_abs, cond, eqb, List, Option, None, Some}
-use Rattle.fd_exact.specs.Fractions.{Fraction}
-use Rattle.fd_arith.specs.Interval.{Bounds, negation, outward, sum}
-use Rattle.fd_arith.specs.declared.terms.NodeAt.{NodeAt}
-use Rattle.fd_arith.specs.declared.terms.NodeAt.TheVariants.{Ground, Node}
-use Rattle.fd_load.specs.Current.{divisor, excess, in_phase, quadrature}
-use Rattle.fd_system.specs.declared.loads.LoadAt.{LoadAt}
-use Rattle.fd_system.specs.System.{StampView}
-use Rattle.fd_system.specs.Residual.{residual_interval}
+use Rattle.fd_mat.specs.fd_exact.Fractions.{Fraction}
+use Rattle.fd_pattern.specs.fd_arith.Interval.{Bounds, negation, outward, sum}
+use Rattle.fd_pattern.specs.fd_arith.declared.terms.NodeAt.{NodeAt}
+use Rattle.fd_pattern.specs.fd_arith.declared.terms.NodeAt.TheVariants.{Ground, Node}
+use Rattle.fd_pattern.specs.fd_load.Current.{divisor, excess, in_phase, quadrature}
+use Rattle.fd_pattern.specs.fd_system.declared.loads.LoadAt.{LoadAt}
+use Rattle.fd_pattern.specs.fd_system.System.{StampView}
+use Rattle.fd_pattern.specs.fd_system.Residual.{residual_interval}
 use Rattle.fd_pattern.specs.Views.{NetworkView}
 use Rattle.fd_pattern.specs.Coefficients.{row_count}
 use Rattle.fd_equations.specs.PartLoads.{current_counts, load_current_counts}

@@ -1,8 +1,8 @@
 -- What rows by non-zeros keep, and what they can hold.
 use Rattle.std.specs.Prelude.{◌<◌, ◌≤◌, ◌^◌, List, length, All}
 use Rattle.std.specs.List.{Contains}
-use Rattle.fd_arith.specs.declared.terms.Term.{Term}
-use Rattle.fd_system.specs.declared.loads.LoadAt.{LoadAt}
+use Rattle.fd_pattern.specs.fd_arith.declared.terms.Term.{Term}
+use Rattle.fd_pattern.specs.fd_system.declared.loads.LoadAt.{LoadAt}
 use Rattle.fd_equations.specs.declared.cells.Cell.{Cell}
 use Rattle.fd_equations.specs.Amounts.{AreCells, IsNothingElsewhere, RowsView, of_rows}
 use Rattle.fd_pattern.specs.Conditions.{AreLinear}

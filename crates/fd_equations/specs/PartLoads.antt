@@ -1,15 +1,15 @@
 -- What part loads of constant power and of constant current add beside the contributions. A part load of constant impedance
 -- stands in the contributions, and adds nothing here.
 use Rattle.std.specs.Prelude.{ℕ, ◌+◌, ◌*◌, ◌^◌, ℤ, pos, neg_ℤ, nat_abs, cond, List}
-use Rattle.fd_exact.specs.Rounding.{near_div}
-use Rattle.fd_exact.specs.Sums.{list_z, list_n}
-use Rattle.fd_system.specs.declared.loads.LoadPhase.{LoadPhase}
-use Rattle.fd_arith.specs.LoadModels.{is_linear}
-use Rattle.fd_system.specs.declared.loads.LoadAt.{LoadAt}
-use Rattle.fd_load.specs.Current.{divisor, excess, in_phase, quadrature}
-use Rattle.fd_load.specs.Slopes.{admittance, slope_row, slopes_of}
-use Rattle.fd_load.specs.declared.slopes.Slopes.{Slopes}
-use Rattle.fd_load.specs.declared.slopes.SlopeRow.{SlopeRow}
+use Rattle.fd_mat.specs.fd_exact.Rounding.{near_div}
+use Rattle.fd_mat.specs.fd_exact.Sums.{list_z, list_n}
+use Rattle.fd_pattern.specs.fd_system.declared.loads.LoadPhase.{LoadPhase}
+use Rattle.fd_pattern.specs.fd_arith.LoadModels.{is_linear}
+use Rattle.fd_pattern.specs.fd_system.declared.loads.LoadAt.{LoadAt}
+use Rattle.fd_pattern.specs.fd_load.Current.{divisor, excess, in_phase, quadrature}
+use Rattle.fd_pattern.specs.fd_load.Slopes.{admittance, slope_row, slopes_of}
+use Rattle.fd_pattern.specs.fd_load.declared.slopes.Slopes.{Slopes}
+use Rattle.fd_pattern.specs.fd_load.declared.slopes.SlopeRow.{SlopeRow}
 use Rattle.fd_pattern.specs.Terminals.{at_terminal, count_node, count_terminal, imaginary_of, magnitude_in, real_of}
 
 -- ---- the rounded residual

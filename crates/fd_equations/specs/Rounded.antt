@@ -1,10 +1,10 @@
 -- The rounded residual and the matrices that a step of the solver works with, and how many summands the Jacobian has.
 use Rattle.std.specs.Prelude.{ℕ, ◌+◌, ◌^◌, ℤ, pos, ◌+ℤ◌, ◌*ℤ◌, cond, eqb, List, map, set}
 use Rattle.std.specs.List.{range_with_len}
-use Rattle.fd_exact.specs.Rounding.{near_div}
-use Rattle.fd_exact.specs.Sums.{sum_z, list_z}
-use Rattle.fd_exact.specs.States.{part, table}
-use Rattle.fd_system.specs.declared.constants.Constant.{Constant}
+use Rattle.fd_mat.specs.fd_exact.Rounding.{near_div}
+use Rattle.fd_mat.specs.fd_exact.Sums.{sum_z, list_z}
+use Rattle.fd_mat.specs.fd_exact.States.{part, table}
+use Rattle.fd_pattern.specs.fd_system.declared.constants.Constant.{Constant}
 use Rattle.fd_pattern.specs.Coefficients.{count_at, linear_entry}
 use Rattle.fd_equations.specs.PartLoads.{loads_row, slope_counts, slope_sum, start_sum}
 use Rattle.fd_pattern.specs.Views.{NetworkView}

@@ -1,7 +1,7 @@
 -- How large the slopes of a part load are.
 use Rattle.std.specs.Prelude.{◌≤◌, ◌^◌, nat_abs}
-use Rattle.fd_load.specs.declared.slopes.Slopes.{Slopes}
-use Rattle.fd_load.specs.declared.slopes.SlopeRow.{SlopeRow}
+use Rattle.fd_pattern.specs.fd_load.declared.slopes.Slopes.{Slopes}
+use Rattle.fd_pattern.specs.fd_load.declared.slopes.SlopeRow.{SlopeRow}
 
 -- each slope of a row is at most 2^73 in size
 pub record IsSlope (r : SlopeRow) : Type 0 where

@@ -3,7 +3,7 @@ use Rattle.std.proofs.Common.{◌≡◌, ◌≢◌, ◌∙◌, ℕ, zero, suc, �
 use Rattle.std.specs.List.{fold}
 use Rattle.std.proofs.lemmas.Int.{ints}
 use Rattle.std.proofs.lemmas.Bool.{cases_eq}
-use Rattle.fd_exact.specs.Sums.{list_n, list_z, sum_n, sum_z}
+use Rattle.fd_mat.specs.fd_exact.Sums.{list_n, list_z, sum_n, sum_z}
 use Rattle.fd_equations.specs.declared.cells.Cell.{Cell}
 use Rattle.fd_equations.specs.Amounts.{Amount, IsRowOf, cell_at, cell_of, nothing}
 use Rattle.fd_equations.specs.Walks.{CountLaw, WalkLaw, amount_in, run, walk}

@@ -1,7 +1,7 @@
 -- A walk over the cells of a row, and the walk over all its columns that it stands for.
 use Rattle.std.specs.Prelude.{◌≡◌, ℕ, zero, suc, ◌+◌, ℤ, pos, List}
 use Rattle.std.specs.List.{fold}
-use Rattle.fd_exact.specs.Sums.{list_n, list_z, sum_n, sum_z}
+use Rattle.fd_mat.specs.fd_exact.Sums.{list_n, list_z, sum_n, sum_z}
 use Rattle.fd_equations.specs.declared.cells.Cell.{Cell}
 use Rattle.fd_equations.specs.Amounts.{Amount, IsRowOf, amount}
 

@@ -1,6 +1,6 @@
 -- The weight of an unknown: what is large for it, in whole micro-units.
 use Rattle.std.specs.Prelude.{ℕ, ◌+◌, ◌*◌, ◌/◌, ◌^◌, max, ℤ, pos, nat_abs, List}
-use Rattle.fd_exact.specs.States.{part}
+use Rattle.fd_mat.specs.fd_exact.States.{part}
 use Rattle.fd_pattern.specs.declared.layout.PlaceKind.{PlaceKind}
 use Rattle.fd_pattern.specs.declared.layout.PlaceKind.TheVariants.{Node, Branch, Magnitude}
 use Rattle.fd_pattern.specs.Views.{NetworkView, kind_of}

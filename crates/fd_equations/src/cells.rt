@@ -1,12 +1,10 @@
 // The sums of contributions at the places of a pattern.
 ghost use Rattle.std.specs.Prelude.{◌≡◌, ℕ, ◌+◌, ◌<◌, ◌≤◌, ◌^◌, ◌↔◌, nat_abs, IfOk, IsTrue, length, All};
-ghost use Rattle.fd_system.specs.Contributions.{AreSmall, IsDivided, IsWithin, term_units};
+ghost use Rattle.fd_pattern.specs.fd_system.Contributions.{AreSmall, IsDivided, IsWithin, term_units};
 ghost use Rattle.fd_equations.specs.Amounts.{Amount, AreCells, AreGrown, HaveTermRoom, IsNothingElsewhere, IsRowOf, amount, cell_of, more, nothing, of_term, of_terms};
 ghost use Rattle.fd_pattern.specs.Conditions.{AreLinear};
 
-use fd_arith::{Term, near_units};
-use fd_pattern::Pattern;
-use fd_system::is_small;
+use fd_pattern::{Pattern, Term, is_small, near_units};
 use std::alloc::{AllocError, Global};
 
 /// What stands in a column of a row: the sum in units of 2^-40, the number of contributions, and the number of slopes of part loads.

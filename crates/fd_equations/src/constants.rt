@@ -1,10 +1,10 @@
 // The constants of the rows.
 ghost use Rattle.std.specs.Prelude.{◌≡◌, ℕ, pos, ◌<◌, ◌^◌, IfOk, length, All};
-ghost use Rattle.fd_exact.specs.States.{part};
+ghost use Rattle.fd_mat.specs.fd_exact.States.{part};
 ghost use Rattle.fd_pattern.specs.Conditions.{AreKnown, IsKnown};
 ghost use Rattle.fd_equations.specs.Rounded.{constant_added, constant_sum, list_of};
 
-use fd_system::Constant;
+use fd_pattern::Constant;
 use std::alloc::{AllocError, Global};
 
 /// The sum of the constants of each row.

@@ -1,15 +1,13 @@
 // Contributions in place of others, so that their sums need not be made anew.
 ghost use Rattle.std.specs.Prelude.{◌≡◌, ℕ, true, ◌^◌, ◌≤◌, nat_abs, length};
-ghost use Rattle.fd_system.specs.Contributions.{IsDivided, IsWithin};
+ghost use Rattle.fd_pattern.specs.fd_system.Contributions.{IsDivided, IsWithin};
 ghost use Rattle.fd_equations.specs.Amounts.{AreExchanged, AreGrown, HaveCounts, HaveTermRoom, amount, more, of_term, of_terms};
 ghost use Rattle.fd_pattern.specs.Coefficients.{count_at};
 ghost use Rattle.fd_pattern.specs.Conditions.{AreLinear};
 ghost use Rattle.fd_equations.specs.PartLoads.{slope_counts};
 
 use crate::cells::{Cell, add_term, units};
-use fd_arith::Term;
-use fd_pattern::Pattern;
-use fd_system::LoadAt;
+use fd_pattern::{LoadAt, Pattern, Term};
 
 /// Puts contributions in place of as many others, which the cells have. Where both have the same one nothing is done.
 pub fn exchange_terms(pattern: &Pattern, cells: &mut [Cell], old: &[Term], new: &[Term])

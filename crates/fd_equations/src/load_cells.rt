@@ -1,6 +1,6 @@
 // What part loads add at the places of a pattern: their slopes in units of 2^-40, and how many there are.
 ghost use Rattle.std.specs.Prelude.{◌≡◌, ◌+◌, ◌*◌, ◌<◌, ◌≤◌, ◌^◌, ◌&&◌, pos, cond, eqb, nat_abs, length, All};
-ghost use Rattle.fd_system.specs.Residual.{IsPlace};
+ghost use Rattle.fd_pattern.specs.fd_system.Residual.{IsPlace};
 ghost use Rattle.fd_equations.specs.Amounts.{AreGrown, HaveSlopeRoom, amount, more, of_load, of_loads};
 ghost use Rattle.fd_pattern.specs.Conditions.{IsPart};
 ghost use Rattle.fd_equations.specs.PartLoads.{no_slopes as no_slopes_of, slope_in, slopes_there, start_slopes as slopes_at_start};
@@ -9,10 +9,7 @@ ghost use Rattle.fd_pattern.specs.Terminals.{IsConnected, at_magnitude, at_node,
 
 use crate::cells::Cell;
 use crate::load_slopes::{negated, no_slopes, slopes, start_slopes};
-use fd_arith::NodeAt;
-use fd_load::{SlopeRow, Slopes};
-use fd_pattern::Pattern;
-use fd_system::LoadAt;
+use fd_pattern::{LoadAt, NodeAt, Pattern, SlopeRow, Slopes};
 
 /// Counts the slopes of part loads; no sum changes.
 pub fn count_slopes(pattern: &Pattern, cells: &mut [Cell], loads: &[LoadAt])

@@ -1,19 +1,17 @@
 // What part loads add to the residual in intervals.
 ghost use Rattle.std.specs.Prelude.{◌≡◌, ℕ, ◌<◌, cond, eqb, get_or, None, length, All};
 ghost use Rattle.std.specs.List.{fold};
-ghost use Rattle.fd_arith.specs.Interval.{sum};
-ghost use Rattle.fd_load.specs.Current.{AreVoltages};
-ghost use Rattle.fd_system.specs.Loads.{nonlinear_parts};
-ghost use Rattle.fd_system.specs.Residual.{IsPlace, whole_state, with_part};
-ghost use Rattle.fd_system.specs.System.{nonlinear_of};
+ghost use Rattle.fd_pattern.specs.fd_arith.Interval.{sum};
+ghost use Rattle.fd_pattern.specs.fd_load.Current.{AreVoltages};
+ghost use Rattle.fd_pattern.specs.fd_system.Loads.{nonlinear_parts};
+ghost use Rattle.fd_pattern.specs.fd_system.Residual.{IsPlace, whole_state, with_part};
+ghost use Rattle.fd_pattern.specs.fd_system.System.{nonlinear_of};
 ghost use Rattle.fd_pattern.specs.Conditions.{IsPart};
 ghost use Rattle.fd_equations.specs.Enclosure.{with_current, with_drawn};
 ghost use Rattle.fd_pattern.specs.Terminals.{IsConnected};
 
 use crate::terminals::{Voltage, voltage_of};
-use fd_arith::{Interval, Micro, NodeAt};
-use fd_load::{current, magnitude_row};
-use fd_system::LoadAt;
+use fd_pattern::{Interval, LoadAt, Micro, NodeAt, current, magnitude_row};
 
 /// Adds to the interval of each row what the part loads add to it at the point x.
 pub fn add_load_intervals(rows: &mut [Interval<Micro>], loads: &[LoadAt], x: &[i128])

@@ -1,16 +1,14 @@
 // What part loads add to the rounded residual.
 ghost use Rattle.std.specs.Prelude.{◌≡◌, ℕ, ℤ, ◌<◌, ◌≤◌, ◌^◌, ◌+ℤ◌, nat_abs, length, All, Some};
-ghost use Rattle.fd_exact.specs.Rounding.{near_div};
-ghost use Rattle.fd_exact.specs.States.{part};
-ghost use Rattle.fd_load.specs.Current.{AreVoltages, IsLoadPhase, divisor, excess, in_phase, quadrature};
+ghost use Rattle.fd_mat.specs.fd_exact.Rounding.{near_div};
+ghost use Rattle.fd_mat.specs.fd_exact.States.{part};
+ghost use Rattle.fd_pattern.specs.fd_load.Current.{AreVoltages, IsLoadPhase, divisor, excess, in_phase, quadrature};
 ghost use Rattle.fd_pattern.specs.Conditions.{IsPart};
 ghost use Rattle.fd_equations.specs.PartLoads.{load_row, loads_row};
 ghost use Rattle.fd_pattern.specs.Terminals.{IsConnected};
 
 use crate::terminals::{Voltage, add_terminal, voltage_of};
-use fd_arith::{Fix, Micro};
-use fd_load::{current, magnitude_row};
-use fd_system::{LoadAt, LoadPhase};
+use fd_pattern::{Fix, LoadAt, LoadPhase, Micro, current, magnitude_row};
 
 // The current of a load phase in whole microamperes and the row of its magnitude in whole microvolts, each to the nearest.
 #[derive(Clone, Copy)]

@@ -1,15 +1,16 @@
 // The slopes of part loads, in units of 2^-40.
 ghost use Rattle.std.specs.Prelude.{◌≡◌, ◌≤◌, ◌*◌, ◌^◌, neg_ℤ, nat_abs, length, All};
-ghost use Rattle.fd_load.specs.Current.{IsLoadPhase, power_sum};
-ghost use Rattle.fd_load.specs.Slopes.{admittance as admittance_of, slope_row};
+ghost use Rattle.fd_pattern.specs.fd_load.Current.{IsLoadPhase, power_sum};
+ghost use Rattle.fd_pattern.specs.fd_load.Slopes.{admittance as admittance_of, slope_row};
 ghost use Rattle.fd_pattern.specs.Conditions.{IsPart};
 ghost use Rattle.fd_equations.specs.PartLoads.{no_slopes as no_slopes_of, slopes_there, start_slopes as slopes_at_start};
 ghost use Rattle.fd_pattern.specs.Terminals.{IsConnected};
 ghost use Rattle.fd_equations.specs.Slopes.{AreSlopes, IsSlope};
 
 use crate::terminals::voltage_of;
-use fd_load::{SlopeRow, Slopes, admittance as admittance_over, rounded_slopes};
-use fd_system::{LoadAt, LoadPhase};
+use fd_pattern::{
+    LoadAt, LoadPhase, SlopeRow, Slopes, admittance as admittance_over, rounded_slopes,
+};
 
 /// The slopes of a part load at the point x.
 pub fn slopes(load: &LoadAt, x: &[i128]) -> Slopes

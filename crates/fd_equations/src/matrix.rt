@@ -1,7 +1,7 @@
 // A matrix by rows of non-zeros.
 ghost use Rattle.std.specs.Prelude.{◌≡◌, ℕ, ◌*◌, ◌<◌, ◌≤◌, ◌^◌, pos, IfOk, length, All};
 ghost use Rattle.std.specs.List.{Contains};
-ghost use Rattle.fd_exact.specs.States.{cell, part, table};
+ghost use Rattle.fd_mat.specs.fd_exact.States.{cell, part, table};
 ghost use Rattle.fd_mat.specs.Rows.{EntriesWithin};
 ghost use Rattle.fd_equations.specs.Amounts.{Amount, AreCells, IsNothingElsewhere, IsRowOf, cell_at};
 ghost use Rattle.fd_equations.specs.Matrices.{IsMatrix, matrix_with};

@@ -1,11 +1,11 @@
 // A network's rows.
 ghost use Rattle.std.specs.Prelude.{◌≡◌, ℕ, ◌+◌, ◌*◌, ◌<◌, ◌≤◌, ◌^◌, ℤ, pos, nat_abs, ◌≤ℤ◌, IfOk, length, get_or, None, All};
-ghost use Rattle.fd_exact.specs.States.{part};
-ghost use Rattle.fd_arith.specs.Interval.{Holds};
+ghost use Rattle.fd_mat.specs.fd_exact.States.{part};
+ghost use Rattle.fd_pattern.specs.fd_arith.Interval.{Holds};
 ghost use Rattle.fd_mat.specs.Rows.{EntriesWithin};
-ghost use Rattle.fd_system.specs.Contributions.{AreSmall};
-ghost use Rattle.fd_system.specs.System.{residual_of, stamp_with};
-ghost use Rattle.fd_system.specs.Residual.{whole_state};
+ghost use Rattle.fd_pattern.specs.fd_system.Contributions.{AreSmall};
+ghost use Rattle.fd_pattern.specs.fd_system.System.{residual_of, stamp_with};
+ghost use Rattle.fd_pattern.specs.fd_system.Residual.{whole_state};
 ghost use Rattle.fd_pattern.specs.Coefficients.{linear_entry};
 ghost use Rattle.fd_pattern.specs.Conditions.{AreApart, IsKnown, IsNetwork, IsPoint, IsServed};
 ghost use Rattle.fd_equations.specs.Enclosure.{EndsWithin, addend_count, interval_residual_of, summand_count};
@@ -20,10 +20,8 @@ use crate::load_rows::add_loads;
 use crate::rows::linear_rows;
 use crate::weights::weights;
 use crate::{Matrix, Rows};
-use fd_arith::{Interval, Micro, Term};
 use fd_mat::Dense;
-use fd_pattern::{Layout, PlaceKind};
-use fd_system::{Constant, LoadAt};
+use fd_pattern::{Constant, Interval, Layout, LoadAt, Micro, PlaceKind, Term};
 use std::alloc::{AllocError, Global};
 use std::marker::Model;
 
@@ -41,7 +39,7 @@ pub struct Network<'a> {
 impl<'a> Model for Network<'a> {
     ghost use Rattle.std.specs.Prelude.{◌≡◌};
     ghost use Rattle.fd_pattern.specs.Conditions.{IsNetwork};
-    ghost use Rattle.fd_system.specs.System.{stamp_with};
+    ghost use Rattle.fd_pattern.specs.fd_system.System.{stamp_with};
     ghost use Rattle.fd_pattern.specs.Views.{NetworkView, network_of};
 
     ghost Value = { NetworkView };

@@ -1,12 +1,11 @@
 // The residual of the rows in intervals.
 ghost use Rattle.std.specs.Prelude.{◌≡◌, ◌<◌, IfOk, pos, length, All};
 ghost use Rattle.std.specs.List.{fold};
-ghost use Rattle.fd_arith.specs.Interval.{capped};
-ghost use Rattle.fd_system.specs.Residual.{IsConstant, IsTerm, constant_added, linear_interval, term_added};
+ghost use Rattle.fd_pattern.specs.fd_arith.Interval.{capped};
+ghost use Rattle.fd_pattern.specs.fd_system.Residual.{IsConstant, IsTerm, constant_added, linear_interval, term_added};
 ghost use Rattle.fd_equations.specs.Rounded.{list_of};
 
-use fd_arith::{Interval, Micro, Term};
-use fd_system::{Constant, add_constant, add_term};
+use fd_pattern::{Constant, Interval, Micro, Term, add_constant, add_term};
 use std::alloc::{AllocError, Global};
 
 /// The sum of the constants and contributions of each row at the point x, in intervals.

@@ -1,10 +1,10 @@
 // Rows by non-zeros.
 ghost use Rattle.std.specs.Prelude.{◌≡◌, ℕ, ◌+◌, ◌*◌, ◌<◌, ◌≤◌, ◌^◌, ◌↔◌, [], ℤ, ◌*ℤ◌, nat_abs, map, IfOk, IsTrue, length, vec_capacity, All};
 ghost use Rattle.std.specs.List.{Contains};
-ghost use Rattle.fd_exact.specs.Rounding.{near_div};
-ghost use Rattle.fd_exact.specs.States.{part as part_of};
-ghost use Rattle.fd_exact.specs.Sums.{list_z};
-ghost use Rattle.fd_system.specs.Contributions.{AreSmall};
+ghost use Rattle.fd_mat.specs.fd_exact.Rounding.{near_div};
+ghost use Rattle.fd_mat.specs.fd_exact.States.{part as part_of};
+ghost use Rattle.fd_mat.specs.fd_exact.Sums.{list_z};
+ghost use Rattle.fd_pattern.specs.fd_system.Contributions.{AreSmall};
 ghost use Rattle.fd_equations.specs.Amounts.{AreCells, IsRowOf, cell_at, of_both, of_rows, without_slopes as without_slopes_of};
 ghost use Rattle.fd_pattern.specs.Coefficients.{count_at, linear_entry};
 ghost use Rattle.fd_pattern.specs.Conditions.{AreKnown, AreLinear, IsPart};
@@ -19,9 +19,7 @@ use crate::cells::{Cell, add_terms, are_small, blank, cell_in, clear, row_in};
 use crate::exchange::{exchange_terms, stand_alike};
 use crate::load_cells::{add_slopes, add_start_slopes, count_slopes};
 use crate::matrix::Matrix;
-use fd_arith::{Term, near_over_coef};
-use fd_pattern::{Pattern, places_of};
-use fd_system::{LoadAt, is_small};
+use fd_pattern::{LoadAt, Pattern, Term, is_small, near_over_coef, places_of};
 use std::alloc::{AllocError, Global};
 use std::marker::Model;
 use std::mem;

@@ -1,14 +1,13 @@
 // The terminal of a part load: its voltage at a point, and numbers at its places of a row.
 ghost use Rattle.std.specs.Prelude.{◌≡◌, ℕ, ◌<◌, ◌≤◌, ◌^◌, pos, ◌+ℤ◌, cond, eqb, nat_abs, length, All, IfSome};
-ghost use Rattle.fd_exact.specs.States.{part};
-ghost use Rattle.fd_load.specs.Current.{AreVoltages};
-ghost use Rattle.fd_system.specs.Loads.{im_of, magnitude_of, re_of};
-ghost use Rattle.fd_system.specs.Residual.{IsPlace, whole_state};
+ghost use Rattle.fd_mat.specs.fd_exact.States.{part};
+ghost use Rattle.fd_pattern.specs.fd_load.Current.{AreVoltages};
+ghost use Rattle.fd_pattern.specs.fd_system.Loads.{im_of, magnitude_of, re_of};
+ghost use Rattle.fd_pattern.specs.fd_system.Residual.{IsPlace, whole_state};
 ghost use Rattle.fd_pattern.specs.Conditions.{IsPart};
 ghost use Rattle.fd_pattern.specs.Terminals.{IsConnected, at_magnitude, at_node, at_terminal, imaginary_of, magnitude_in, real_of};
 
-use fd_arith::NodeAt;
-use fd_system::LoadAt;
+use fd_pattern::{LoadAt, NodeAt};
 
 /// The voltage of a terminal, its first node's less its second's, and its magnitude, in whole microvolts.
 #[derive(Clone, Copy)]

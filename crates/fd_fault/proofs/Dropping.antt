@@ -4,16 +4,16 @@ use Rattle.std.specs.Map.{lookup}
 use Rattle.std.proofs.lemmas.Bool.{false≢true}
 use Rattle.std.proofs.lemmas.List.Elements.{All-filter, All-head, All-tail, filter_passes}
 use Rattle.indexmap.specs.IndexMap.{insert_entry}
-use Rattle.dss_model.specs.declared.element.Element.{Element}
-use Rattle.dss_model.specs.declared.element.Element.TheVariants as the
-use Rattle.dss_model.specs.declared.names.Class.{Class}
-use Rattle.dss_model.specs.declared.names.Class.TheVariants as class
-use Rattle.dss_model.specs.declared.names.ElementName.{ElementName}
-use Rattle.dss_model.specs.Element.{class_of}
-use Rattle.dss_model.specs.SameElement.{class_number, same_element}
-use Rattle.dss_circuit.specs.Circuit.{Elements, has_circuit}
-use Rattle.dss_circuit.specs.WellFormed.{BeginsWithSource, IsEntry}
-use Rattle.dss_circuit.specs.Without.{NamesNone, OthersNameNone, is_of_other, without}
+use Rattle.dss_ready.specs.dss_model.declared.element.Element.{Element}
+use Rattle.dss_ready.specs.dss_model.declared.element.Element.TheVariants as the
+use Rattle.dss_ready.specs.dss_model.declared.names.Class.{Class}
+use Rattle.dss_ready.specs.dss_model.declared.names.Class.TheVariants as class
+use Rattle.dss_ready.specs.dss_model.declared.names.ElementName.{ElementName}
+use Rattle.dss_ready.specs.dss_model.Element.{class_of}
+use Rattle.dss_ready.specs.dss_model.SameElement.{class_number, same_element}
+use Rattle.dss_ready.specs.dss_circuit.Circuit.{Elements, has_circuit}
+use Rattle.dss_ready.specs.dss_circuit.WellFormed.{BeginsWithSource, IsEntry}
+use Rattle.dss_ready.specs.dss_circuit.Without.{NamesNone, OthersNameNone, is_of_other, without}
 use Rattle.fd_fault.specs.declared.kind.Kind.{Kind}
 use Rattle.fd_fault.specs.declared.kind.Kind.TheVariants as kind
 use Rattle.fd_fault.specs.FaultCircuit.{first_missing, stays, stripped}

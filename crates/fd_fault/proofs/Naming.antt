@@ -7,8 +7,8 @@ use Rattle.std.proofs.lemmas.Bool.{lt-ltb}
 use Rattle.std.proofs.lemmas.Fmt.{decimal_by_steps}
 use Rattle.std.proofs.lemmas.List.{map-append}
 use Rattle.std.proofs.lemmas.List.Folds.{list_all-append}
-use Rattle.dss_model.specs.Names.{is_name, is_name_character, lower}
-use Rattle.dss_circuit.specs.WellFormed.{IsKey}
+use Rattle.dss_ready.specs.dss_model.Names.{is_name, is_name_character, lower}
+use Rattle.dss_ready.specs.dss_circuit.WellFormed.{IsKey}
 use Rattle.fd_fault.specs.ShortNames.{line_name, short_name}
 
 below_ten : (P : ℕ → Type 0) → P 0 → P 1 → P 2 → P 3 → P 4 → P 5 → P 6 → P 7 → P 8 → P 9 → (d : ℕ) → d < 10 → P d

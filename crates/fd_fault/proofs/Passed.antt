@@ -4,18 +4,18 @@ use Rattle.std.specs.List.{flat_map, list_any}
 use Rattle.std.proofs.lemmas.Bool.{or_parts}
 use Rattle.std.proofs.lemmas.Grind.{flat_map-append}
 use Rattle.std.proofs.lemmas.List.Elements.{All-nil, All-cons, All-head, All-tail, All-filter, All-weaker, Contains-append_left}
-use Rattle.dss_model.specs.declared.command.Blame.{Blame}
-use Rattle.dss_model.specs.declared.element.Element.{Element}
-use Rattle.dss_model.specs.declared.element.Element.TheVariants as the
-use Rattle.dss_model.specs.declared.fault.ModelFault.{ModelFault}
-use Rattle.dss_model.specs.declared.names.ElementName.{ElementName}
-use Rattle.dss_model.specs.declared.command.Place.{Place}
-use Rattle.dss_model.specs.Element.{place_of}
-use Rattle.dss_circuit.specs.Circuit.{Elements}
-use Rattle.dss_layout.specs.declared.nodes.NodeName.{NodeName}
-use Rattle.dss_layout.specs.Layout.{nodes_of as circuit_nodes}
-use Rattle.dss_layout.specs.Nodes.{same_node}
-use Rattle.dss_layout.specs.Terminals.{mentions, terminal_numbers, tested}
+use Rattle.dss_ready.specs.dss_model.declared.command.Blame.{Blame}
+use Rattle.dss_ready.specs.dss_model.declared.element.Element.{Element}
+use Rattle.dss_ready.specs.dss_model.declared.element.Element.TheVariants as the
+use Rattle.dss_ready.specs.dss_model.declared.fault.ModelFault.{ModelFault}
+use Rattle.dss_ready.specs.dss_model.declared.names.ElementName.{ElementName}
+use Rattle.dss_ready.specs.dss_model.declared.command.Place.{Place}
+use Rattle.dss_ready.specs.dss_model.Element.{place_of}
+use Rattle.dss_ready.specs.dss_circuit.Circuit.{Elements}
+use Rattle.dss_ready.specs.dss_layout.declared.nodes.NodeName.{NodeName}
+use Rattle.dss_ready.specs.dss_layout.Layout.{nodes_of as circuit_nodes}
+use Rattle.dss_ready.specs.dss_layout.Nodes.{same_node}
+use Rattle.dss_ready.specs.dss_layout.Terminals.{mentions, terminal_numbers, tested}
 use Rattle.dss_ready.specs.Counts.{is_count_fault, is_shape_short}
 use Rattle.dss_ready.specs.Feeding.{Fed, by_source, by_tie, FirstIsolated, IsFed, source_nodes, tied_nodes}
 use Rattle.dss_ready.specs.Mentions.{is_shape_followed, is_winding_controlled}

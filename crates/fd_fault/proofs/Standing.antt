@@ -5,11 +5,11 @@ use Rattle.std.specs.Cmp.{both_ways}
 use Rattle.std.specs.Cmp.Lexicographic.{bytes_decides}
 use Rattle.std.proofs.lemmas.Bool.{and_parts, eq-eqb, eqb-true, false≢true, ne_eqb}
 use Rattle.std.proofs.lemmas.List.Elements.{All-nil, All-cons, All-head, All-tail}
-use Rattle.dss_lexer.specs.Texts.{text_eq}
-use Rattle.dss_layout.specs.declared.nodes.NodeName.{NodeName}
-use Rattle.dss_layout.specs.Layout.{Elements, nodes_of}
-use Rattle.dss_layout.specs.Nodes.{new_nodes, same_node}
-use Rattle.dss_layout.specs.Terminals.{mentions}
+use Rattle.dss_ready.specs.dss_lexer.Texts.{text_eq}
+use Rattle.dss_ready.specs.dss_layout.declared.nodes.NodeName.{NodeName}
+use Rattle.dss_ready.specs.dss_layout.Layout.{Elements, nodes_of}
+use Rattle.dss_ready.specs.dss_layout.Nodes.{new_nodes, same_node}
+use Rattle.dss_ready.specs.dss_layout.Terminals.{mentions}
 
 -- ---- lists
 

@@ -1,18 +1,18 @@
 -- The circuit of a short circuit: without what draws current and without controls, with a line from the bus to ground.
 use Rattle.std.specs.Prelude.{◌≡◌, ℕ, pos, Bool, true, false, not, List, [], ◌∷◌, ◌++◌, filter, length, Option, Some, None, IsSome, if◌then◌else◌}
 use Rattle.std.specs.List.{list_any}
-use Rattle.dss_model.specs.declared.command.Place.{Place}
-use Rattle.dss_model.specs.declared.element.Element.{Element}
-use Rattle.dss_model.specs.declared.element.Element.TheVariants as the
-use Rattle.dss_model.specs.declared.line.Line.{Line}
-use Rattle.dss_model.specs.declared.line_constants.LineConstants.{LineConstants}
-use Rattle.dss_model.specs.declared.names.ElementName.{ElementName}
-use Rattle.dss_model.specs.declared.words.DataForm.TheVariants as form
-use Rattle.dss_model.specs.Defaults.{fresh_constants, fresh_line}
-use Rattle.dss_layout.specs.declared.nodes.NodeName.{NodeName}
-use Rattle.dss_layout.specs.Layout.{first_too_many, nodes_of as circuit_nodes}
-use Rattle.dss_layout.specs.Nodes.{same_node}
-use Rattle.dss_circuit.specs.Circuit.{CircuitView, Elements}
+use Rattle.dss_ready.specs.dss_model.declared.command.Place.{Place}
+use Rattle.dss_ready.specs.dss_model.declared.element.Element.{Element}
+use Rattle.dss_ready.specs.dss_model.declared.element.Element.TheVariants as the
+use Rattle.dss_ready.specs.dss_model.declared.line.Line.{Line}
+use Rattle.dss_ready.specs.dss_model.declared.line_constants.LineConstants.{LineConstants}
+use Rattle.dss_ready.specs.dss_model.declared.names.ElementName.{ElementName}
+use Rattle.dss_ready.specs.dss_model.declared.words.DataForm.TheVariants as form
+use Rattle.dss_ready.specs.dss_model.Defaults.{fresh_constants, fresh_line}
+use Rattle.dss_ready.specs.dss_layout.declared.nodes.NodeName.{NodeName}
+use Rattle.dss_ready.specs.dss_layout.Layout.{first_too_many, nodes_of as circuit_nodes}
+use Rattle.dss_ready.specs.dss_layout.Nodes.{same_node}
+use Rattle.dss_ready.specs.dss_circuit.Circuit.{CircuitView, Elements}
 use Rattle.fd_fault.specs.declared.fault.CircuitFault.{CircuitFault}
 use Rattle.fd_fault.specs.declared.fault.CircuitFault.TheVariants as fault
 use Rattle.fd_fault.specs.declared.kind.Kind.{Kind}

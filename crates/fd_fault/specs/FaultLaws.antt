@@ -1,7 +1,7 @@
 -- What is so of the circuit of a short circuit.
 use Rattle.std.specs.Prelude.{◌≡◌, ℕ, List, None}
-use Rattle.dss_circuit.specs.Circuit.{CircuitView}
-use Rattle.dss_layout.specs.Layout.{first_too_many}
+use Rattle.dss_ready.specs.dss_circuit.Circuit.{CircuitView}
+use Rattle.dss_ready.specs.dss_layout.Layout.{first_too_many}
 use Rattle.dss_ready.specs.Ready.{HasPassed}
 use Rattle.fd_fault.specs.declared.kind.Kind.{Kind}
 use Rattle.fd_fault.specs.FaultCircuit.{fault_circuit_of, fault_elements, first_missing}

@@ -1,7 +1,7 @@
 -- A name is the one that the line of a short circuit takes.
 use Rattle.std.specs.Prelude.{◌≡◌, ℕ}
-use Rattle.dss_model.specs.declared.names.ElementName.{ElementName}
-use Rattle.dss_circuit.specs.Circuit.{Elements}
+use Rattle.dss_ready.specs.dss_model.declared.names.ElementName.{ElementName}
+use Rattle.dss_ready.specs.dss_circuit.Circuit.{Elements}
 use Rattle.fd_fault.specs.ShortNames.{IsShortName, line_name}
 
 pub record IsNamed (elements : Elements) (name : ElementName) : Type 0 where

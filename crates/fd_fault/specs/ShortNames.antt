@@ -2,10 +2,10 @@
 use Rattle.std.specs.Prelude.{◌≡◌, ℕ, zero, suc, ◌<◌, List, ◌++◌, codes, None, IsSome}
 use Rattle.std.specs.Fmt.{decimal}
 use Rattle.std.specs.Map.{lookup}
-use Rattle.dss_model.specs.declared.names.Class.TheVariants as class
-use Rattle.dss_model.specs.declared.names.ElementName.{ElementName}
-use Rattle.dss_model.specs.SameElement.{same_element}
-use Rattle.dss_circuit.specs.Circuit.{Elements}
+use Rattle.dss_ready.specs.dss_model.declared.names.Class.TheVariants as class
+use Rattle.dss_ready.specs.dss_model.declared.names.ElementName.{ElementName}
+use Rattle.dss_ready.specs.dss_model.SameElement.{same_element}
+use Rattle.dss_ready.specs.dss_circuit.Circuit.{Elements}
 
 abbrev pub short_name : ℕ → List ℕ
 short_name zero = codes "short"

@@ -1,10 +1,10 @@
 // The circuit of a short circuit.
 ghost use Rattle.std.specs.Prelude.{◌≡◌, ◌<◌, length, All, IfErr, IfOk, None};
-ghost use Rattle.dss_model.specs.declared.names.Class.TheVariants as class;
-ghost use Rattle.dss_circuit.specs.Limits.{most_elements};
-ghost use Rattle.dss_circuit.specs.Without.{OthersNameNone, without};
+ghost use Rattle.dss_ready.specs.dss_model.declared.names.Class.TheVariants as class;
+ghost use Rattle.dss_ready.specs.dss_circuit.Limits.{most_elements};
+ghost use Rattle.dss_ready.specs.dss_circuit.Without.{OthersNameNone, without};
 ghost use Rattle.dss_ready.specs.Ready.{HasPassed};
-ghost use Rattle.dss_layout.specs.Layout.{first_too_many};
+ghost use Rattle.dss_ready.specs.dss_layout.Layout.{first_too_many};
 ghost use Rattle.fd_fault.specs.FaultCircuit.{IsCircuitFault, IsFaultCircuit, IsPast, first_missing, stripped};
 
 use crate::fault::CircuitFault;
@@ -13,10 +13,7 @@ use crate::laws::passed_law;
 use crate::line::fault_line;
 use crate::missing::first_missing;
 use crate::names::free_name;
-use dss_circuit::Circuit;
-use dss_layout::{Layout, LayoutFault};
-use dss_lexer::Text;
-use dss_model::{Class, Element};
+use dss_ready::{Circuit, Class, Element, Layout, LayoutFault, Text};
 use std::alloc::{AllocError, Global};
 
 fn drop_controls(circuit: &mut Circuit)

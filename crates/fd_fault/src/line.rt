@@ -1,11 +1,10 @@
 // The line that a short circuit adds.
 ghost use Rattle.std.specs.Prelude.{◌≡◌, IfOk};
-ghost use Rattle.dss_model.specs.InRange.{LineInRange};
+ghost use Rattle.dss_ready.specs.dss_model.InRange.{LineInRange};
 ghost use Rattle.fd_fault.specs.FaultCircuit.{fault_line, no_impedance, nowhere};
 
 use crate::kind::Kind;
-use dss_lexer::Text;
-use dss_model::{Bus, DataForm, Line, LineConstants, Nodes, ONE, Place, Units};
+use dss_ready::{Bus, DataForm, Line, LineConstants, Nodes, ONE, Place, Text, Units};
 use std::alloc::{AllocError, Global};
 
 fn nowhere(alloc: Global) -> Place

@@ -1,12 +1,10 @@
 // The nodes that a short circuit is asked for.
 ghost use Rattle.std.specs.Prelude.{◌≡◌, IfOk, None};
-ghost use Rattle.dss_layout.specs.Layout.{first_too_many, layout_of};
+ghost use Rattle.dss_ready.specs.dss_layout.Layout.{first_too_many, layout_of};
 ghost use Rattle.fd_fault.specs.FaultCircuit.{first_missing, is_missing, missing_in};
 
 use crate::kind::Kind;
-use dss_circuit::Circuit;
-use dss_layout::{Layout, NodeName};
-use dss_lexer::Text;
+use dss_ready::{Circuit, Layout, NodeName, Text};
 use std::alloc::{AllocError, Global};
 
 fn is_missing(layout: &Layout, name: &NodeName) -> bool

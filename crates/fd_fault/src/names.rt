@@ -3,14 +3,12 @@ ghost use Rattle.std.specs.Prelude.{◌≡◌, ◌++◌, codes, is_none, IfOk, O
 ghost use Rattle.std.specs.Map.{lookup};
 ghost use Rattle.std.specs.Fmt.{decimal};
 ghost use Rattle.std.specs.Str.{chars};
-ghost use Rattle.dss_model.specs.SameElement.{same_element};
-ghost use Rattle.dss_circuit.specs.WellFormed.{IsKey};
+ghost use Rattle.dss_ready.specs.dss_model.SameElement.{same_element};
+ghost use Rattle.dss_ready.specs.dss_circuit.WellFormed.{IsKey};
 ghost use Rattle.fd_fault.specs.ShortNames.{line_name, short_name};
 ghost use Rattle.fd_fault.specs.Naming.{IsNamed};
 
-use dss_circuit::{Elements, find_element};
-use dss_lexer::Text;
-use dss_model::{Class, ElementName};
+use dss_ready::{Class, ElementName, Elements, Text, find_element};
 use itoa::Buffer;
 use std::alloc::{AllocError, Global};
 

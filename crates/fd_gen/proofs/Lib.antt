@@ -1,1 +1,2 @@
 mod Sections
+pub mod CallerLemmas

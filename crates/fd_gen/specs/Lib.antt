@@ -1,2 +1,3 @@
 pub mod Draws
 pub mod Script
+pub use Rattle.fd_outside.specs as fd_outside

@@ -17,3 +17,9 @@ mod draws;
 mod script;
 
 pub use script::generate;
+
+// Handed on from the crates below.
+pub use fd_outside::{
+    Bytes, FileEntry, FolderLibrary, Library, MemLibrary, MemSink, NeverFails, Record, Sink,
+    StdSink,
+};

@@ -1,13 +1,13 @@
 -- A fault names a place or a column inside the network.
 use Rattle.std.proofs.Common.{◌≡◌, ◌∙◌, ℕ, zero, suc, ◌+◌, ◌<◌, ◌^◌, ℤ, nat_abs, nat_lt, List, length, Bool, true, false, cond, Option, Some, None, Result, Ok, Err, MatchResult, refl, subst}
 use Rattle.std.specs.List.{fold}
-use Rattle.fd_exact.specs.States.{part}
-use Rattle.fd_exact.specs.Results.{and_then}
-use Rattle.fd_exact.specs.FirstLaws.{place_below}
+use Rattle.fd_equations.specs.fd_exact.States.{part}
+use Rattle.fd_equations.specs.fd_exact.Results.{and_then}
+use Rattle.fd_equations.specs.fd_exact.FirstLaws.{place_below}
 use Rattle.fd_equations.specs.Rounded.{constants_of, jacobian_of, rounded_residual_of, start_matrix_of}
-use Rattle.fd_pattern.specs.Views.{NetworkView}
+use Rattle.fd_equations.specs.fd_pattern.Views.{NetworkView}
 use Rattle.fd_equations.proofs.CallerLemmas.{length-list_of}
-use Rattle.fd_mat.specs.Rows.{first_column_past}
+use Rattle.fd_equations.specs.fd_mat.Rows.{first_column_past}
 use Rattle.fd_inverse.specs.Elimination.{inverse_of}
 use Rattle.fd_inverse.specs.declared.fault.Stop.{Stop}
 use Rattle.fd_inverse.proofs.CallerLemmas.{fault_column, inverse_size}

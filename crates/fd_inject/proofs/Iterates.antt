@@ -4,13 +4,13 @@ use Rattle.std.specs.List.{fold}
 use Rattle.std.specs.Option.{option_map_or}
 use Rattle.std.proofs.lemmas.Int.{ints}
 use Rattle.std.proofs.lemmas.List.{length-set}
-use Rattle.fd_exact.specs.States.{part}
-use Rattle.fd_exact.specs.Tables.{length-table}
-use Rattle.fd_exact.specs.Results.{and_then}
-use Rattle.fd_exact.specs.FirstLaws.{first_none, first_some}
-use Rattle.fd_system.specs.declared.loads.LoadAt.{LoadAt}
+use Rattle.fd_equations.specs.fd_exact.States.{part}
+use Rattle.fd_equations.specs.fd_exact.Tables.{length-table}
+use Rattle.fd_equations.specs.fd_exact.Results.{and_then}
+use Rattle.fd_equations.specs.fd_exact.FirstLaws.{first_none, first_some}
+use Rattle.fd_equations.specs.fd_system.declared.loads.LoadAt.{LoadAt}
 use Rattle.fd_equations.specs.Rounded.{constant_sum, constants_of, jacobian_entry, jacobian_of, rounded_residual_of, rounded_row, start_entry, start_matrix_of}
-use Rattle.fd_pattern.specs.Views.{NetworkView}
+use Rattle.fd_equations.specs.fd_pattern.Views.{NetworkView}
 use Rattle.fd_equations.specs.Weights.{weight_at, weights_of}
 use Rattle.fd_equations.proofs.CallerLemmas.{length-list_of}
 use Rattle.fd_inject.specs.Procedure.{IsLimits, Iterate, after, first_moving, is_moving_at, iterated, judged, last_from, last_of, next_iterate, polished, solution_of, start_of, stepped, with_nominal}

@@ -1,9 +1,9 @@
 -- Lists and matrices within a limit or past it.
 use Rattle.std.proofs.Common.{◌≡◌, ◌∙◌, ℕ, ◌<◌, ◌≤◌, ◌^◌, ℤ, nat_abs, nat_lt, List, length, true, false, Some, None, Ok, Err, arith, ap, sym}
-use Rattle.fd_exact.specs.States.{part}
-use Rattle.fd_exact.specs.FirstLaws.{first_none, first_some}
-use Rattle.fd_mat.specs.Rows.{EntriesWithin, first_column_past}
-use Rattle.fd_mat.proofs.CallerLemmas.{no_column_past}
+use Rattle.fd_equations.specs.fd_exact.States.{part}
+use Rattle.fd_equations.specs.fd_exact.FirstLaws.{first_none, first_some}
+use Rattle.fd_equations.specs.fd_mat.Rows.{EntriesWithin, first_column_past}
+use Rattle.fd_equations.proofs.CallerLemmas.fd_mat.{no_column_past}
 use Rattle.fd_inverse.specs.Elimination.{inverse_of}
 use Rattle.fd_inverse.specs.declared.fault.Stop.{Stop}
 use Rattle.fd_inverse.specs.declared.fault.Stop.TheVariants.{Range}

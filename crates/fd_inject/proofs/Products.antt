@@ -5,12 +5,12 @@ use Rattle.std.proofs.lemmas.Int.{ints}
 use Rattle.std.proofs.Math.Seq.{get_or-append_seam}
 use Rattle.std.proofs.lemmas.List.{get_or_append_left, length-append}
 use Rattle.std.proofs.lemmas.List.Elements.{All-from_get_or, All-get_or}
-use Rattle.fd_exact.specs.States.{part}
-use Rattle.fd_exact.specs.Results.{and_then}
-use Rattle.fd_mat.specs.Rows.{EntriesWithin, row_of}
-use Rattle.fd_pattern.specs.Conditions.{IsPart, IsPoint}
+use Rattle.fd_equations.specs.fd_exact.States.{part}
+use Rattle.fd_equations.specs.fd_exact.Results.{and_then}
+use Rattle.fd_equations.specs.fd_mat.Rows.{EntriesWithin, row_of}
+use Rattle.fd_equations.specs.fd_pattern.Conditions.{IsPart, IsPoint}
 use Rattle.fd_equations.specs.Rounded.{list_of}
-use Rattle.fd_pattern.specs.Views.{NetworkView}
+use Rattle.fd_equations.specs.fd_pattern.Views.{NetworkView}
 use Rattle.fd_equations.proofs.CallerLemmas.{length-list_of, list_of-ext}
 use Rattle.fd_inject.specs.Ranges.{SizesWithin, in_range}
 use Rattle.fd_inject.specs.Updates.{moved, update_at, update_for, update_of}

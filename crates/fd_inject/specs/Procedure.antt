@@ -3,15 +3,15 @@
 use Rattle.std.specs.Prelude.{ℕ, zero, suc, ◌+◌, ◌*◌, ◌≤◌, ◌^◌, ℤ, pos, ◌≤ℤ◌, nat_abs, nat_lt, Bool, true, false, if◌then◌else◌, List, set, Option, Some, None, Result, Ok, Err}
 use Rattle.std.specs.List.{fold}
 use Rattle.std.specs.Option.{option_map_or}
-use Rattle.fd_exact.specs.States.{part}
-use Rattle.fd_exact.specs.Results.{and_then}
-use Rattle.fd_exact.specs.First.{first_place}
-use Rattle.fd_system.specs.declared.loads.LoadAt.{LoadAt}
+use Rattle.fd_equations.specs.fd_exact.States.{part}
+use Rattle.fd_equations.specs.fd_exact.Results.{and_then}
+use Rattle.fd_equations.specs.fd_exact.First.{first_place}
+use Rattle.fd_equations.specs.fd_system.declared.loads.LoadAt.{LoadAt}
 use Rattle.fd_equations.specs.Rounded.{constants_of, jacobian_of, rounded_residual_of, start_matrix_of}
-use Rattle.fd_pattern.specs.Views.{NetworkView, kind_of}
+use Rattle.fd_equations.specs.fd_pattern.Views.{NetworkView, kind_of}
 use Rattle.fd_equations.specs.Weights.{weights_of}
-use Rattle.fd_pattern.specs.declared.layout.PlaceKind.{PlaceKind}
-use Rattle.fd_pattern.specs.declared.layout.PlaceKind.TheVariants.{Node, Branch, Magnitude}
+use Rattle.fd_equations.specs.fd_pattern.declared.layout.PlaceKind.{PlaceKind}
+use Rattle.fd_equations.specs.fd_pattern.declared.layout.PlaceKind.TheVariants.{Node, Branch, Magnitude}
 use Rattle.fd_inject.specs.Ranges.{in_range, inverse_at}
 use Rattle.fd_inject.specs.Updates.{moved, update_for}
 use Rattle.fd_inject.specs.declared.fault.SolveFault.{SolveFault}

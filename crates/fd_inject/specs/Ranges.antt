@@ -1,8 +1,8 @@
 -- Lists and matrices that pass a limit, and the inverse of a matrix.
 use Rattle.std.specs.Prelude.{ℕ, ◌<◌, ◌≤◌, ◌^◌, ℤ, nat_abs, nat_lt, List, length, Option, Some, None, Result, Ok, Err}
-use Rattle.fd_exact.specs.States.{part}
-use Rattle.fd_exact.specs.First.{first_place}
-use Rattle.fd_mat.specs.Rows.{first_column_past}
+use Rattle.fd_equations.specs.fd_exact.States.{part}
+use Rattle.fd_equations.specs.fd_exact.First.{first_place}
+use Rattle.fd_equations.specs.fd_mat.Rows.{first_column_past}
 use Rattle.fd_inverse.specs.Elimination.{inverse_of}
 use Rattle.fd_inverse.specs.declared.fault.Stop.{Stop}
 use Rattle.fd_inverse.specs.declared.fault.Stop.TheVariants.{Range}

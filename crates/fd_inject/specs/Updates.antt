@@ -1,10 +1,10 @@
 -- What an inverse in units of 2^-40 gives for a residual.
 use Rattle.std.specs.Prelude.{ℕ, ◌^◌, ℤ, neg_ℤ, ◌+ℤ◌, ◌*ℤ◌, List, length, Result, Ok}
-use Rattle.fd_exact.specs.Rounding.{near_div}
-use Rattle.fd_exact.specs.States.{part}
-use Rattle.fd_exact.specs.Sums.{sum_z}
-use Rattle.fd_exact.specs.Results.{and_then}
-use Rattle.fd_mat.specs.Rows.{row_of}
+use Rattle.fd_equations.specs.fd_exact.Rounding.{near_div}
+use Rattle.fd_equations.specs.fd_exact.States.{part}
+use Rattle.fd_equations.specs.fd_exact.Sums.{sum_z}
+use Rattle.fd_equations.specs.fd_exact.Results.{and_then}
+use Rattle.fd_equations.specs.fd_mat.Rows.{row_of}
 use Rattle.fd_equations.specs.Rounded.{list_of}
 use Rattle.fd_inject.specs.Ranges.{in_range}
 use Rattle.fd_inject.specs.declared.fault.SolveFault.{SolveFault}

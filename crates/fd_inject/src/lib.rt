@@ -17,6 +17,9 @@ mod steps;
 mod updates;
 
 pub use fault::SolveFault;
-pub use fd_inverse::Stop;
 pub use limits::Limits;
 pub use procedure::solve;
+
+// Handed on from the crates below.
+pub use fd_equations::{Dense, Network as NetworkRows, Point, Rows};
+pub use fd_inverse::{Stop, TapPair};

@@ -1,8 +1,8 @@
 // The start, the steps in order, and the point.
 ghost use Rattle.std.specs.Prelude.{◌≡◌, ◌+◌, ◌<◌, ◌≤◌, ◌^◌, length, set, IfOk, IfErr, MatchResult, Ok, Err};
 ghost use Rattle.std.specs.List.{fold};
-ghost use Rattle.fd_mat.specs.Rows.{EntriesWithin};
-ghost use Rattle.fd_pattern.specs.Conditions.{IsPoint};
+ghost use Rattle.fd_equations.specs.fd_mat.Rows.{EntriesWithin};
+ghost use Rattle.fd_equations.specs.fd_pattern.Conditions.{IsPoint};
 ghost use Rattle.fd_equations.specs.Rounded.{jacobian_of, start_matrix_of};
 ghost use Rattle.fd_inject.specs.Faults.{IsInside, UnlessMemory};
 ghost use Rattle.fd_inject.specs.Procedure.{IsLimits, last_from, last_of, polished, solution_of, start_of, with_nominal};
@@ -13,9 +13,7 @@ use crate::limits::Limits;
 use crate::ranges::{inverse, test_range};
 use crate::steps::{PART_LIMIT, iterate, step};
 use crate::updates::update_for;
-use fd_equations::{Network, Point};
-use fd_mat::Dense;
-use fd_system::LoadAt;
+use fd_equations::{Dense, LoadAt, Network, Point};
 use std::alloc::{AllocError, Global};
 
 // The most matrices of the network's size that are in use at a time.

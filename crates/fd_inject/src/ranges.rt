@@ -1,12 +1,12 @@
 // Lists and matrices that pass a limit.
 ghost use Rattle.std.specs.Prelude.{◌≡◌, ◌<◌, ◌≤◌, ◌^◌, length, IfOk, IfNone, OnOk, MatchResult, Ok, Err};
-ghost use Rattle.fd_mat.specs.Rows.{EntriesWithin};
+ghost use Rattle.fd_equations.specs.fd_mat.Rows.{EntriesWithin};
 ghost use Rattle.fd_inject.specs.Ranges.{SizesWithin, first_past, in_range, inverse_at};
 ghost use Rattle.fd_inject.specs.Faults.{UnlessMemory};
 
 use crate::fault::SolveFault;
+use fd_equations::Dense;
 use fd_inverse::{InverseFault, Stop, invert};
-use fd_mat::Dense;
 use std::alloc::Global;
 
 // The greatest size of an entry of a matrix that is eliminated, 2^62.

@@ -1,8 +1,8 @@
 // One step of the procedure, and the end test.
 ghost use Rattle.std.specs.Prelude.{◌≡◌, ◌+◌, ◌*◌, ◌<◌, ◌≤◌, ◌^◌, nat_abs, length, IfOk, IfSome, OnOk, MatchResult, Ok, Err, false};
-ghost use Rattle.fd_exact.specs.States.{part};
-ghost use Rattle.fd_mat.specs.Rows.{EntriesWithin};
-ghost use Rattle.fd_pattern.specs.Conditions.{IsPoint};
+ghost use Rattle.fd_equations.specs.fd_exact.States.{part};
+ghost use Rattle.fd_equations.specs.fd_mat.Rows.{EntriesWithin};
+ghost use Rattle.fd_equations.specs.fd_pattern.Conditions.{IsPoint};
 ghost use Rattle.fd_inject.specs.Faults.{UnlessMemory};
 ghost use Rattle.fd_inject.specs.Procedure.{IsLimits, first_moving, is_far, is_moving, next_iterate, stepped};
 ghost use Rattle.fd_inject.specs.Ranges.{SizesWithin};
@@ -13,9 +13,7 @@ use crate::fault::SolveFault;
 use crate::limits::Limits;
 use crate::ranges::test_range;
 use crate::updates::{add, update_for};
-use fd_equations::Network;
-use fd_mat::Dense;
-use fd_pattern::PlaceKind;
+use fd_equations::{Dense, Network, PlaceKind};
 use std::alloc::{AllocError, Global};
 
 // The greatest size of a part of an iterate, 2^40.

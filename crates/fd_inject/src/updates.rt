@@ -1,15 +1,15 @@
 // What an inverse gives for a residual.
 ghost use Rattle.std.specs.Prelude.{◌≡◌, ◌<◌, ◌≤◌, ◌^◌, ◌*ℤ◌, nat_abs, length, IfOk, MatchResult, Ok, Err};
-ghost use Rattle.fd_exact.specs.States.{part};
-ghost use Rattle.fd_mat.specs.Rows.{EntriesWithin};
+ghost use Rattle.fd_equations.specs.fd_exact.States.{part};
+ghost use Rattle.fd_equations.specs.fd_mat.Rows.{EntriesWithin};
 ghost use Rattle.fd_inject.specs.Ranges.{SizesWithin};
 ghost use Rattle.fd_inject.specs.Updates.{dot, moved, update_for, update_of};
 ghost use Rattle.fd_inject.specs.Faults.{UnlessMemory};
 
 use crate::fault::SolveFault;
 use crate::ranges::test_range;
-use fd_arith::near_over_coef;
-use fd_mat::Dense;
+use fd_equations::Dense;
+use fd_inverse::near_over_coef;
 use std::alloc::{AllocError, Global};
 
 // The greatest size of a part of a residual, 2^58.

@@ -3,7 +3,7 @@ use Rattle.std.proofs.Common.{◌≡◌, ◌∙◌, ℕ, ◌*◌, ◌<◌, ◌�
 use Rattle.std.specs.Int.{w128}
 use Rattle.std.proofs.Math.Nat.{mul-le-mul, mul-le-mul_left, mul-pos, mul_assoc, mul_left_comm}
 use Rattle.std.proofs.lemmas.Int.{ints, to_z-of_z, fits_signed_from_abs}
-use Rattle.fd_exact.specs.Rounding.{floor_div}
+use Rattle.fd_system.specs.fd_exact.Rounding.{floor_div}
 
 regrouped : (q over grid code : ℕ) → q * (over * (grid * code)) ≡ q * grid * (over * code)
 regrouped q over grid code = ap (λ t. q * t) (mul_left_comm over grid code) ∙ sym (mul_assoc q grid (over * code))

@@ -2,10 +2,10 @@
 use Rattle.std.proofs.Common.{ℕ, ◌*◌, ◌<◌, ◌≤◌, ◌^◌, ℤ, pos, negsuc, neg_ℤ, List, length, arith, lit<}
 use Rattle.std.specs.List.{All}
 use Rattle.std.proofs.lemmas.List.Elements.{All-append}
-use Rattle.fd_exact.specs.Fractions.{Same}
-use Rattle.fd_exact.specs.States.{State}
-use Rattle.fd_arith.specs.declared.terms.NodeAt.{NodeAt}
-use Rattle.fd_arith.specs.declared.terms.Ends.{Ends}
+use Rattle.fd_system.specs.fd_exact.Fractions.{Same}
+use Rattle.fd_system.specs.fd_exact.States.{State}
+use Rattle.fd_system.specs.fd_arith.declared.terms.NodeAt.{NodeAt}
+use Rattle.fd_system.specs.fd_arith.declared.terms.Ends.{Ends}
 use Rattle.fd_system.specs.Complex.{◌⊟◌, ◌⊠◌}
 use Rattle.fd_system.specs.Contributions.{row_sum, complex_terms, concat_below, IsDivided}
 use Rattle.fd_system.specs.Equations.{unknown, side, equation, AddsUp}

@@ -1,6 +1,6 @@
 -- What is true of a line's stated contributions.
 use Rattle.std.specs.Prelude.{◌*◌, ◌≤◌, length, All}
-use Rattle.fd_arith.specs.declared.terms.Ends.{Ends}
+use Rattle.fd_system.specs.fd_arith.declared.terms.Ends.{Ends}
 use Rattle.fd_system.specs.Contributions.{IsDivided}
 use Rattle.fd_system.specs.Equations.{AddsUp}
 use Rattle.fd_line.specs.declared.data.LineData.{LineData}

@@ -1,3 +1,4 @@
 pub mod Totals
 pub mod Line
 pub mod Laws
+pub use Rattle.fd_system.specs as fd_system

@@ -1,9 +1,9 @@
 -- The equations of a line (pi model), and the contributions that add up to them.
 use Rattle.std.specs.Prelude.{ℕ, ◌*◌, ◌<◌, ◌^◌, ℤ, pos, negsuc, ◌*ℤ◌, List, [], ◌∷◌, ◌++◌}
-use Rattle.fd_exact.specs.States.{State}
-use Rattle.fd_arith.specs.declared.terms.Term.{Term}
-use Rattle.fd_arith.specs.declared.terms.NodeAt.{NodeAt}
-use Rattle.fd_arith.specs.declared.terms.Ends.{Ends}
+use Rattle.fd_system.specs.fd_exact.States.{State}
+use Rattle.fd_system.specs.fd_arith.declared.terms.Term.{Term}
+use Rattle.fd_system.specs.fd_arith.declared.terms.NodeAt.{NodeAt}
+use Rattle.fd_system.specs.fd_arith.declared.terms.Ends.{Ends}
 use Rattle.fd_system.specs.Complex.{Complex, complex, ◌⊞◌, ◌⊟◌, ◌⊠◌, negative, total}
 use Rattle.fd_system.specs.Contributions.{complex_terms, concat_below}
 use Rattle.fd_system.specs.Equations.{unknown, Part, both}

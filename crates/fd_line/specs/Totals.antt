@@ -1,9 +1,9 @@
 -- The impedance and the capacitance of a whole line.
 use Rattle.std.specs.Prelude.{ℕ, ◌*◌, ◌≤◌, ◌^◌, ◌≡◌, ℤ, pos, ◌*ℤ◌, ◌≤ℤ◌, nat_abs, List, length, cond, eqb, All, ◌⊎◌}
-use Rattle.fd_exact.specs.Fractions.{Fraction, fraction}
-use Rattle.fd_exact.specs.States.{cell}
-use Rattle.fd_exact.specs.Rounding.{floor_div}
-use Rattle.fd_exact.specs.Ranges.{UpTo, Within}
+use Rattle.fd_system.specs.fd_exact.Fractions.{Fraction, fraction}
+use Rattle.fd_system.specs.fd_exact.States.{cell}
+use Rattle.fd_system.specs.fd_exact.Rounding.{floor_div}
+use Rattle.fd_system.specs.fd_exact.Ranges.{UpTo, Within}
 use Rattle.fd_line.specs.declared.data.LineData.{LineData}
 use Rattle.fd_line.specs.declared.data.LineForm.{LineForm}
 use Rattle.fd_line.specs.declared.data.LineForm.TheVariants as line_form

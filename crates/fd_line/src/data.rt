@@ -1,5 +1,5 @@
 // The data of a line.
-use fd_items::Items;
+use fd_system::Items;
 
 /// The entries of a square matrix, row by row.
 pub type Entries = Items<i128>;

@@ -18,3 +18,6 @@ pub use data::{ChargeForm, Entries, LineData, LineForm};
 pub use laws::line_law;
 pub use terms::{line_terms, susceptance};
 pub use totals::{reactance, resistance};
+
+// Handed on from the crates below.
+pub use fd_system::{LoadPhase, phase_volts};

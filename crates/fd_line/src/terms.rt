@@ -9,8 +9,9 @@ ghost use Rattle.fd_line.specs.Line.{IsBetween, branch_row, charge_at, end_row, 
 
 use crate::data::LineData;
 use crate::totals::{capacitance, radians, reactance, resistance};
-use fd_arith::{Ends, NodeAt, Nodes, Term, TermFault};
-use fd_system::{add_drop, add_imaginary, add_real, all_within, node};
+use fd_system::{
+    Ends, NodeAt, NodesAt, Term, TermFault, add_drop, add_imaginary, add_real, all_within, node,
+};
 use std::alloc::{AllocError, Global};
 
 /// Half of a radian per second times a farad has this many steps: 10^12 for the frequency times 10^15 for the capacitance.
@@ -105,7 +106,7 @@ fn add_drops(terms: &mut Vec<Term>, line: &LineData, branch: u32, k: u32)
 }
 
 // The currents that leave node k of one end.
-fn add_end(terms: &mut Vec<Term>, line: &LineData, branch: u32, nodes: &Nodes, sign: i128, k: u32)
+fn add_end(terms: &mut Vec<Term>, line: &LineData, branch: u32, nodes: &NodesAt, sign: i128, k: u32)
     requires line { IsLine line.now }
     requires branch { branch < 2 ^ 30 }
     requires side { IsSide line.now.phases nodes.now }
@@ -121,7 +122,7 @@ fn add_end(terms: &mut Vec<Term>, line: &LineData, branch: u32, nodes: &Nodes, s
 }
 
 // What node k of one end draws by half of the capacitance.
-fn add_charges(terms: &mut Vec<Term>, line: &LineData, nodes: &Nodes, k: u32)
+fn add_charges(terms: &mut Vec<Term>, line: &LineData, nodes: &NodesAt, k: u32)
     requires line { IsLine line.now }
     requires side { IsSide line.now.phases nodes.now }
     requires k_in { k < line.now.phases }

@@ -1,12 +1,11 @@
 // The impedance and the capacitance of a whole line.
 ghost use Rattle.std.specs.Prelude.{◌≡◌, ℕ, ◌*◌, ◌+◌, ◌<◌, ◌≤◌, ◌^◌, nat_abs, length};
-ghost use Rattle.fd_exact.specs.Fractions.{fraction};
-ghost use Rattle.fd_exact.specs.States.{cell};
+ghost use Rattle.fd_system.specs.fd_exact.Fractions.{fraction};
+ghost use Rattle.fd_system.specs.fd_exact.States.{cell};
 ghost use Rattle.fd_line.specs.Totals.{IsLine, angular_frequency, capacitance_of, over_length, reactance_of, resistance_of};
 
 use crate::data::{ChargeForm, Entries, LineData, LineForm};
-use fd_arith::floor_of_product;
-use fd_system::thirds;
+use fd_system::{floor_of_product, thirds};
 
 // what 10^-18 ohm and 10^-27 farad are counted in
 const PER_OHM_STEP: u128 = 1_000_000;

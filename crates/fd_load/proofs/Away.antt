@@ -4,13 +4,13 @@ use Rattle.std.specs.Int.RustNames.{unsigned_abs}
 use Rattle.std.proofs.lemmas.Bool.{and_parts, cases_lt}
 use Rattle.std.proofs.lemmas.Int.{ints, unsigned_abs-mul}
 use Rattle.std.proofs.Math.Nat.{mul-le-mul, mul-le-mul_left, mul-le-mul_right, le_of_lt, le_of_mul-le-mul_right, mul-pos}
-use Rattle.fd_exact.specs.Fractions.{Near, fraction}
-use Rattle.fd_exact.specs.Integers.{abs_add, abs_sub, as_val, neg-mul, vals, val-same}
-use Rattle.fd_exact.specs.Nearest.{near_nearest, near-neg}
-use Rattle.fd_exact.specs.Rounding.{near_div}
-use Rattle.fd_arith.specs.declared.terms.LoadModel.{LoadModel}
-use Rattle.fd_arith.specs.declared.terms.LoadModel.TheVariants.{ConstantPower, ConstantImpedance, ConstantCurrent}
-use Rattle.fd_arith.specs.LoadModels.{by_model}
+use Rattle.fd_system.specs.fd_exact.Fractions.{Near, fraction}
+use Rattle.fd_system.specs.fd_exact.Integers.{abs_add, abs_sub, as_val, neg-mul, vals, val-same}
+use Rattle.fd_system.specs.fd_exact.Nearest.{near_nearest, near-neg}
+use Rattle.fd_system.specs.fd_exact.Rounding.{near_div}
+use Rattle.fd_system.specs.fd_arith.declared.terms.LoadModel.{LoadModel}
+use Rattle.fd_system.specs.fd_arith.declared.terms.LoadModel.TheVariants.{ConstantPower, ConstantImpedance, ConstantCurrent}
+use Rattle.fd_system.specs.fd_arith.LoadModels.{by_model}
 use Rattle.fd_system.specs.declared.loads.LoadPhase.{LoadPhase}
 use Rattle.fd_system.specs.Loads.{square_of}
 use Rattle.fd_load.specs.Current.{IsLoadPhase, clamped_magnitude, clamped_square, in_phase, quadrature}

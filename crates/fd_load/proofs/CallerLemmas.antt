@@ -10,6 +10,7 @@ pub use Rattle.fd_load.proofs.Drawn.{current_is, divisor-positive, magnitude_is}
 pub use Rattle.fd_load.proofs.Sizes.{sum_most, times_most, turned, turned_largest}
 pub use Rattle.fd_load.proofs.VoltageSizes.{high_is, high_most, low_is, low_least, low_most, nominal_held, part_held, part_kept}
 pub use Rattle.fd_load.proofs.WithinLimit.{within_limit}
+pub use Rattle.fd_system.proofs.CallerLemmas as fd_system
 
 -- how near the rounded slopes are to the exact ones
 pub slope_is_near : SlopeLaw

@@ -2,11 +2,11 @@
 use Rattle.std.proofs.Common.{◌≡◌, ◌∙◌, ℕ, ◌*◌, ◌<◌, ◌^◌, ℤ, pos, neg_ℤ, ◌+ℤ◌, ◌-ℤ◌, ◌*ℤ◌, nat_abs, arith}
 use Rattle.std.proofs.lemmas.Int.{ints}
 use Rattle.std.proofs.Math.Nat.{mul-pos}
-use Rattle.fd_exact.specs.Integers.{as_val, vals, val-same}
-use Rattle.fd_exact.specs.Fractions.{fraction}
-use Rattle.fd_arith.specs.declared.terms.LoadModel.{LoadModel}
-use Rattle.fd_arith.specs.declared.terms.LoadModel.TheVariants.{ConstantPower, ConstantImpedance, ConstantCurrent}
-use Rattle.fd_arith.specs.LoadModels.{by_model}
+use Rattle.fd_system.specs.fd_exact.Integers.{as_val, vals, val-same}
+use Rattle.fd_system.specs.fd_exact.Fractions.{fraction}
+use Rattle.fd_system.specs.fd_arith.declared.terms.LoadModel.{LoadModel}
+use Rattle.fd_system.specs.fd_arith.declared.terms.LoadModel.TheVariants.{ConstantPower, ConstantImpedance, ConstantCurrent}
+use Rattle.fd_system.specs.fd_arith.LoadModels.{by_model}
 use Rattle.fd_system.specs.declared.loads.LoadPhase.{LoadPhase}
 use Rattle.fd_system.specs.Loads.{re_of, im_of, magnitude_of, clamp, non_negative, square_of, drawn}
 use Rattle.fd_system.specs.Residual.{whole_state}

@@ -1,9 +1,9 @@
 -- Quotients to the nearest over a multiple of the divisor.
 use Rattle.std.proofs.Common.{◌≡◌, ◌∙◌, ℕ, suc, ◌+◌, ◌*◌, ◌/◌, ◌<◌, ◌≤◌, ◌^◌, ℤ, pos, negsuc, neg_ℤ, ◌*ℤ◌, arith, ap, sym}
 use Rattle.std.proofs.Math.Nat.{mul-div-mul_left}
-use Rattle.fd_exact.specs.Integers.{neg-mul}
-use Rattle.fd_exact.specs.Rounding.{near_div}
-use Rattle.fd_exact.specs.Nearest.{near-neg}
+use Rattle.fd_system.specs.fd_exact.Integers.{neg-mul}
+use Rattle.fd_system.specs.fd_exact.Rounding.{near_div}
+use Rattle.fd_system.specs.fd_exact.Nearest.{near-neg}
 
 -- ---- a factor of the number and of the divisor may be left out
 

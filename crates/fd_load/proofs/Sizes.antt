@@ -2,7 +2,7 @@
 use Rattle.std.proofs.Common.{◌≡◌, ℕ, ◌+◌, ◌*◌, ◌≤◌, ℤ, pos, neg_ℤ, ◌+ℤ◌, ◌-ℤ◌, ◌*ℤ◌, nat_abs, arith, ap}
 use Rattle.std.proofs.lemmas.Int.{ints, unsigned_abs-mul}
 use Rattle.std.proofs.Math.Nat.{mul-le-mul_left}
-use Rattle.fd_exact.specs.Integers.{abs_add, mul-neg}
+use Rattle.fd_system.specs.fd_exact.Integers.{abs_add, mul-neg}
 use Rattle.fd_load.specs.Current.{largest}
 
 first_most : (a x y : ℤ) → nat_abs (a *ℤ x) ≤ nat_abs a * largest x y

@@ -4,8 +4,8 @@ use Rattle.std.specs.Int.{w128}
 use Rattle.std.proofs.Math.Nat.{mul-le-mul}
 use Rattle.std.proofs.lemmas.Bool.Decides.{nat_tests}
 use Rattle.std.proofs.lemmas.Int.{ints}
-use Rattle.fd_exact.specs.Order.{≤ℤ_trans}
-use Rattle.fd_exact.specs.ReadBack.{read_back, opposite_fits}
+use Rattle.fd_system.specs.fd_exact.Order.{≤ℤ_trans}
+use Rattle.fd_system.specs.fd_exact.ReadBack.{read_back, opposite_fits}
 use Rattle.fd_load.proofs.Bounds.{inside_square}
 use Rattle.fd_load.specs.Current.{AreVoltages, IsLoadPhase, divisor, largest, power_sum}
 use Rattle.fd_system.specs.Loads.{clamp, square_of}

@@ -1,7 +1,7 @@
 -- The current of a load phase at a terminal voltage p + j q and a magnitude m, all in whole microvolts, as one fraction in microamperes.
 use Rattle.std.specs.Prelude.{◌≡◌, ℕ, ◌+◌, ◌*◌, ◌^◌, ◌≤◌, max, ℤ, pos, ◌+ℤ◌, ◌-ℤ◌, ◌*ℤ◌, ◌≤ℤ◌, nat_abs, nat_lt, Bool, IsTrue, ◌||◌, List}
-use Rattle.fd_exact.specs.Fractions.{Fraction, fraction}
-use Rattle.fd_arith.specs.LoadModels.{by_model}
+use Rattle.fd_system.specs.fd_exact.Fractions.{Fraction, fraction}
+use Rattle.fd_system.specs.fd_arith.LoadModels.{by_model}
 use Rattle.fd_system.specs.declared.loads.LoadPhase.{LoadPhase}
 use Rattle.fd_system.specs.declared.loads.LoadAt.{LoadAt}
 use Rattle.fd_system.specs.Complex.{Complex, complex}

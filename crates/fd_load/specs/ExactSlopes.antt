@@ -1,7 +1,7 @@
 -- The exact slopes of a load phase's rows, as fractions, and how far the rounded ones are from them.
 use Rattle.std.specs.Prelude.{ℕ, ◌*◌, ◌^◌, ℤ, pos, neg_ℤ, ◌-ℤ◌, ◌*ℤ◌, nat_abs, cond}
-use Rattle.fd_exact.specs.Fractions.{Fraction, Near, fraction}
-use Rattle.fd_arith.specs.LoadModels.{by_model}
+use Rattle.fd_system.specs.fd_exact.Fractions.{Fraction, Near, fraction}
+use Rattle.fd_system.specs.fd_arith.LoadModels.{by_model}
 use Rattle.fd_system.specs.declared.loads.LoadPhase.{LoadPhase}
 use Rattle.fd_load.specs.declared.slopes.Slopes.{Slopes}
 use Rattle.fd_load.specs.declared.slopes.SlopeRow.{SlopeRow}

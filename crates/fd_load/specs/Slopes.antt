@@ -1,7 +1,7 @@
 -- The slopes of a load phase's rows in the parts p, q of its terminal voltage and in its magnitude m, rounded to whole numbers of 2^-40.
 use Rattle.std.specs.Prelude.{ℕ, ◌*◌, ◌^◌, ◌≤◌, ℤ, pos, neg_ℤ, ◌-ℤ◌, ◌*ℤ◌, nat_abs, cond, Bool, ◌&&◌, int_le, nat_le}
-use Rattle.fd_exact.specs.Rounding.{near_div}
-use Rattle.fd_arith.specs.LoadModels.{by_model}
+use Rattle.fd_system.specs.fd_exact.Rounding.{near_div}
+use Rattle.fd_system.specs.fd_arith.LoadModels.{by_model}
 use Rattle.fd_system.specs.declared.loads.LoadPhase.{LoadPhase}
 use Rattle.fd_system.specs.Loads.{square_of}
 use Rattle.fd_load.specs.declared.slopes.Slopes.{Slopes}

@@ -1,8 +1,8 @@
 -- The part loads of a phase that draws shares of its power at constant impedance, constant current and constant power.
 use Rattle.std.specs.Prelude.{ℕ, ◌≤◌, ◌^◌, ℤ, ◌*ℤ◌, nat_abs, List, [], ◌∷◌}
-use Rattle.fd_exact.specs.Rounding.{near_div}
-use Rattle.fd_arith.specs.declared.terms.LoadModel.{LoadModel}
-use Rattle.fd_arith.specs.declared.terms.LoadModel.TheVariants.{ConstantPower, ConstantImpedance, ConstantCurrent}
+use Rattle.fd_system.specs.fd_exact.Rounding.{near_div}
+use Rattle.fd_system.specs.fd_arith.declared.terms.LoadModel.{LoadModel}
+use Rattle.fd_system.specs.fd_arith.declared.terms.LoadModel.TheVariants.{ConstantPower, ConstantImpedance, ConstantCurrent}
 use Rattle.fd_system.specs.declared.loads.LoadPhase.{LoadPhase}
 use Rattle.fd_load.specs.declared.zip.PartShares.{PartShares}
 use Rattle.fd_load.specs.declared.zip.ZipPhase.{ZipPhase}

@@ -1,12 +1,11 @@
 // The current of a load phase, and the row of its magnitude.
 ghost use Rattle.std.specs.Prelude.{◌≡◌, ◌*◌, ◌^◌, ◌≤◌, ℤ, pos, ◌<ℤ◌, ◌≤ℤ◌, nat_abs};
 ghost use Rattle.std.specs.Int.RustNames.{unsigned_abs};
-ghost use Rattle.fd_exact.specs.Fractions.{fraction};
+ghost use Rattle.fd_system.specs.fd_exact.Fractions.{fraction};
 ghost use Rattle.fd_load.specs.Current.{AreVoltages, IsLoadPhase, divisor as divisor_by_model, excess as excess_of, in_phase as numerator_in_phase, phase_current, phase_magnitude, quadrature as numerator_in_quadrature};
 
 use crate::power::{divisor, in_phase, quadrature};
-use fd_arith::{Cx, Enclose};
-use fd_system::LoadPhase;
+use fd_system::{Cx, Enclose, LoadPhase};
 
 /// The current in microamperes that a load phase draws at a terminal voltage p + j q and a magnitude m, in whole microvolts:
 /// 10^9 ((P p + Q q) + j (P q - Q p)) / D, where D is the square of the voltage between the squares of the limits (constant power),

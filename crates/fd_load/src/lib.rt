@@ -27,3 +27,9 @@ pub use limits::is_load_past;
 pub use power::{clamped_magnitude, clamped_square, nominal_times_magnitude, square};
 pub use slopes::{SlopeRow, Slopes, admittance, rounded_slopes};
 pub use zip::{PartShares, ZipPhase, zip_parts};
+
+// Handed on from the crates below.
+pub use fd_system::{
+    Coef, Constant, Fix, Interval, LoadAt, LoadModel, LoadPhase, Micro, NodeAt, Term, Wide,
+    add_constant, add_term, ceil_at, is_small, near_over_coef, near_units,
+};

@@ -3,8 +3,7 @@ ghost use Rattle.std.specs.Prelude.{◌≡◌, ◌+◌, ◌*◌, ◌^◌, ◌<�
 ghost use Rattle.fd_system.specs.Loads.{clamp, non_negative, square_of};
 ghost use Rattle.fd_load.specs.Current.{IsLoadPhase, clamped_magnitude as magnitude_within, clamped_square as square_within, divisor as divisor_by_model, in_phase as numerator_in_phase, largest, power_sum, quadrature as numerator_in_quadrature};
 
-use fd_arith::LoadModel;
-use fd_system::LoadPhase;
+use fd_system::{LoadModel, LoadPhase};
 
 // microamperes in units of a thousandth of a volt-ampere times a microvolt over a squared microvolt
 const PER_UNIT: i128 = 1_000_000_000;

@@ -2,7 +2,7 @@
 ghost use Rattle.std.specs.Prelude.{◌≡◌, ℕ, ◌*◌, ◌^◌, ◌<◌, ◌≤◌, nat_abs};
 ghost use Rattle.fd_load.specs.Slopes.{fine_current as current_in_small_units};
 
-use fd_arith::near_units;
+use fd_system::near_units;
 
 /// A current of n / d microamperes to the nearest whole number of 2^-20 microamperes: n / (2^20 d) in units of 2^-40.
 pub fn fine_current(n: i128, d: u128) -> i128

@@ -7,8 +7,7 @@ use crate::power::{
     clamped_magnitude, clamped_square, in_phase, nominal_times_magnitude, quadrature, square,
 };
 use crate::rounding::fine_current;
-use fd_arith::{LoadModel, near_units};
-use fd_system::LoadPhase;
+use fd_system::{LoadModel, LoadPhase, near_units};
 
 /// The slopes of one row in the parts p and q of the terminal voltage and in the magnitude m, in whole 2^-40.
 #[derive(Clone, Copy, PartialEq, Eq, Debug)]

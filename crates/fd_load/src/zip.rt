@@ -2,9 +2,7 @@
 ghost use Rattle.std.specs.Prelude.{◌≡◌, ◌*◌, ◌≤◌, ◌^◌, ◌*ℤ◌, nat_abs, All};
 ghost use Rattle.fd_load.specs.Zip.{AreShares, IsPart, IsZipPhase, share_of as share_by_number, zip_part as part_by_shares, zip_parts as parts_by_shares};
 
-use fd_arith::LoadModel;
-use fd_exact::near_quotient;
-use fd_system::LoadPhase;
+use fd_system::{LoadModel, LoadPhase, near_quotient};
 
 // shares are whole 10^-9
 const NANO_PER_ONE: u128 = 1_000_000_000;

@@ -2,23 +2,23 @@
 use Rattle.std.proofs.Common.{◌≡◌, ◌≢◌, ◌∙◌, ℕ, zero, suc, ◌+◌, ◌*◌, ◌<◌, ◌≤◌, Bool, true, false, cond, eqb, if◌then◌else◌, List, [], ◌∷◌, ◌++◌, ◌⊎◌, length, slice_index, map, Some, None, arith, ap, refl, sym, subst, inl, inr, add-zero, zero-add}
 use Rattle.std.specs.List.{flat_map}
 use Rattle.std.proofs.lemmas.Bool.{cases_lt, ne_eqb}
-use Rattle.fd_exact.specs.Sums.{list_n}
-use Rattle.fd_exact.specs.SumLaws.{list_n-append}
-use Rattle.dss_model.specs.declared.element.Element.{Element}
-use Rattle.dss_model.specs.declared.element.Element.TheVariants as the
-use Rattle.dss_model.specs.declared.load.Load.{Load}
-use Rattle.dss_model.specs.declared.load.LoadKind.{LoadKind}
-use Rattle.dss_model.specs.declared.load.LoadKind.TheVariants as kind
-use Rattle.dss_model.specs.LoadKinds.{has_magnitude}
-use Rattle.fd_elements.specs.declared.powers.LoadPower.{LoadPower}
-use Rattle.fd_elements.specs.Loads.{parts_by, sole_model}
-use Rattle.dss_layout.specs.Layout.{Elements, LayoutView, complex_count, ends_of, first_magnitude, layout_of, magnitude_phases, sums_before}
-use Rattle.fd_arith.specs.declared.terms.NodeAt.{NodeAt}
-use Rattle.fd_system.specs.declared.loads.LoadAt.{LoadAt}
-use Rattle.fd_system.specs.System.{StampView}
-use Rattle.fd_pattern.specs.Conditions.{AreApart, magnitude_count}
-use Rattle.fd_system.specs.Contributions.{concat_below}
-use Rattle.fd_pattern.specs.Terminals.{count_magnitude}
+use Rattle.fd_equations.specs.fd_exact.Sums.{list_n}
+use Rattle.fd_equations.specs.fd_exact.SumLaws.{list_n-append}
+use Rattle.dss_ready.specs.dss_model.declared.element.Element.{Element}
+use Rattle.dss_ready.specs.dss_model.declared.element.Element.TheVariants as the
+use Rattle.dss_ready.specs.dss_model.declared.load.Load.{Load}
+use Rattle.dss_ready.specs.dss_model.declared.load.LoadKind.{LoadKind}
+use Rattle.dss_ready.specs.dss_model.declared.load.LoadKind.TheVariants as kind
+use Rattle.dss_ready.specs.dss_model.LoadKinds.{has_magnitude}
+use Rattle.fd_devices.specs.fd_elements.declared.powers.LoadPower.{LoadPower}
+use Rattle.fd_devices.specs.fd_elements.Loads.{parts_by, sole_model}
+use Rattle.dss_ready.specs.dss_layout.Layout.{Elements, LayoutView, complex_count, ends_of, first_magnitude, layout_of, magnitude_phases, sums_before}
+use Rattle.dss_ready.specs.fd_arith.declared.terms.NodeAt.{NodeAt}
+use Rattle.fd_devices.specs.fd_system.declared.loads.LoadAt.{LoadAt}
+use Rattle.fd_devices.specs.fd_system.System.{StampView}
+use Rattle.fd_equations.specs.fd_pattern.Conditions.{AreApart, magnitude_count}
+use Rattle.fd_devices.specs.fd_system.Contributions.{concat_below}
+use Rattle.fd_equations.specs.fd_pattern.Terminals.{count_magnitude}
 use Rattle.fd_devices.specs.Devices.{device_stamp, stamp_of_all}
 use Rattle.fd_devices.specs.Scripted.{device_of, devices_from, part_at, power_at}
 use Rattle.fd_devices.specs.Settings.{Settings, after, own}

@@ -3,17 +3,17 @@ use Rattle.std.proofs.Common.{◌+◌, ◌*◌, ◌<◌, ◌≤◌, ◌^◌, Lis
 use Rattle.std.specs.List.{All}
 use Rattle.std.specs.Option.{option_or}
 use Rattle.std.proofs.lemmas.List.Elements.{All-nil, All-cons, All-head, All-tail}
-use Rattle.dss_circuit.specs.Limits.{most_elements}
-use Rattle.dss_layout.specs.Limits.{most_complex, most_magnitudes}
-use Rattle.dss_layout.specs.Layout.{Elements, LayoutView, branch_phases, complex_count, size_of}
-use Rattle.fd_exact.specs.Sums.{list_n}
-use Rattle.fd_arith.specs.declared.terms.Term.{Term}
-use Rattle.fd_system.specs.declared.constants.Constant.{Constant}
-use Rattle.fd_system.specs.Contributions.{AreSmall, IsDivided, IsWithin}
-use Rattle.fd_system.specs.System.{StampView}
-use Rattle.fd_pattern.specs.Coefficients.{linear_entry}
-use Rattle.fd_pattern.specs.Conditions.{AreApart, AreLinear, IsKnown, IsLinear, IsNetwork}
-use Rattle.fd_pattern.specs.Views.{network_of}
+use Rattle.dss_ready.specs.dss_circuit.Limits.{most_elements}
+use Rattle.dss_ready.specs.dss_layout.Limits.{most_complex, most_magnitudes}
+use Rattle.dss_ready.specs.dss_layout.Layout.{Elements, LayoutView, branch_phases, complex_count, size_of}
+use Rattle.fd_equations.specs.fd_exact.Sums.{list_n}
+use Rattle.dss_ready.specs.fd_arith.declared.terms.Term.{Term}
+use Rattle.fd_devices.specs.fd_system.declared.constants.Constant.{Constant}
+use Rattle.fd_devices.specs.fd_system.Contributions.{AreSmall, IsDivided, IsWithin}
+use Rattle.fd_devices.specs.fd_system.System.{StampView}
+use Rattle.fd_equations.specs.fd_pattern.Coefficients.{linear_entry}
+use Rattle.fd_equations.specs.fd_pattern.Conditions.{AreApart, AreLinear, IsKnown, IsLinear, IsNetwork}
+use Rattle.fd_equations.specs.fd_pattern.Views.{network_of}
 use Rattle.fd_devices.specs.Building.{AreCollected, AreContributions, AreInRange, DeviceFits, IsInside, device_fits, has_small_sums}
 use Rattle.fd_devices.specs.Devices.{Device, stamp_of_all}
 use Rattle.fd_devices.specs.Scripted.{layout_counts}

@@ -2,11 +2,11 @@
 use Rattle.std.proofs.Common.{◌≡◌, ◌∙◌, ℕ, ◌<◌, List, [], ◌∷◌, length, Option, Some, None, ap, subst, sym, zero-add}
 use Rattle.std.specs.List.{All}
 use Rattle.std.specs.Option.{option_and_then, option_or}
-use Rattle.dss_model.specs.declared.fault.ModelFault.TheVariants as cause
-use Rattle.dss_model.specs.Ranges.{IsOneOf}
-use Rattle.dss_layout.specs.Layout.{Elements, LayoutView, first_too_many, layout_of}
+use Rattle.dss_ready.specs.dss_model.declared.fault.ModelFault.TheVariants as cause
+use Rattle.dss_ready.specs.dss_model.Ranges.{IsOneOf}
+use Rattle.dss_ready.specs.dss_layout.Layout.{Elements, LayoutView, first_too_many, layout_of}
 use Rattle.dss_ready.specs.Ready.{blame_at}
-use Rattle.fd_xfmr.specs.Leakage.{AreTaps}
+use Rattle.fd_devices.specs.fd_xfmr.Leakage.{AreTaps}
 use Rattle.fd_devices.specs.Building.{IsModest, device_fits, has_small_sums}
 use Rattle.fd_devices.specs.declared.fault.BuildFault.{BuildFault}
 use Rattle.fd_devices.specs.Devices.{Device, stamp_of_all}
@@ -19,8 +19,8 @@ use Rattle.fd_network.specs.Faults.{IsFaultOf, first_out_of_range, first_without
 use Rattle.fd_network.specs.Keeping.{AreKept, Reaches}
 use Rattle.fd_network.specs.Places.{AreReadyFrom}
 use Rattle.fd_network.proofs.Faulty.{first_within}
-use Rattle.dss_layout.proofs.CallerLemmas.{few_complex}
-use Rattle.fd_network.proofs.Ready.{branches_within, magnitudes_within, small_first_magnitude}
+use Rattle.dss_ready.proofs.CallerLemmas.dss_layout.{few_complex}
+use Rattle.fd_network.proofs.ReadyElements.{branches_within, magnitudes_within, small_first_magnitude}
 
 -- ---- taken
 

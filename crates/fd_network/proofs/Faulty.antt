@@ -3,7 +3,7 @@ use Rattle.std.proofs.Common.{◌≡◌, ◌∙◌, ℕ, ◌<◌, Bool, IsTrue, 
 use Rattle.std.specs.List.{All, AllPass}
 use Rattle.std.proofs.lemmas.Bool.{false_from_ne_true, not_from_false}
 use Rattle.std.proofs.lemmas.List.Elements.{All-drop, All-head, All-weaker}
-use Rattle.fd_exact.specs.FirstLaws.{such_at, such_below, such_none}
+use Rattle.fd_equations.specs.fd_exact.FirstLaws.{such_at, such_below, such_none}
 use Rattle.fd_devices.specs.Building.{DeviceFits, device_fits}
 use Rattle.fd_devices.specs.Devices.{Device}
 use Rattle.fd_network.specs.declared.fault.PlaceFault.{PlaceFault}

@@ -4,20 +4,20 @@ use Rattle.std.specs.List.{All, Contains, flat_map}
 use Rattle.std.proofs.lemmas.List.{map-append}
 use Rattle.std.proofs.lemmas.List.Concat.{flat_map-append}
 use Rattle.std.proofs.lemmas.List.Elements.{All-nil, All-append}
-use Rattle.fd_exact.specs.Sums.{list_n}
-use Rattle.dss_circuit.specs.Limits.{most_elements}
-use Rattle.dss_model.specs.declared.element.Element.{Element}
-use Rattle.dss_model.specs.declared.names.ElementName.{ElementName}
-use Rattle.dss_layout.specs.Limits.{most_complex, most_magnitudes}
-use Rattle.dss_layout.specs.Layout.{Elements, LayoutView, branch_phases, complex_count, size_of}
-use Rattle.dss_layout.proofs.CallerLemmas.{both_parts, take-more}
-use Rattle.fd_system.specs.System.{StampView, beside}
+use Rattle.fd_equations.specs.fd_exact.Sums.{list_n}
+use Rattle.dss_ready.specs.dss_circuit.Limits.{most_elements}
+use Rattle.dss_ready.specs.dss_model.declared.element.Element.{Element}
+use Rattle.dss_ready.specs.dss_model.declared.names.ElementName.{ElementName}
+use Rattle.dss_ready.specs.dss_layout.Limits.{most_complex, most_magnitudes}
+use Rattle.dss_ready.specs.dss_layout.Layout.{Elements, LayoutView, branch_phases, complex_count, size_of}
+use Rattle.dss_ready.proofs.CallerLemmas.dss_layout.{both_parts, take-more}
+use Rattle.fd_devices.specs.fd_system.System.{StampView, beside}
 use Rattle.fd_equations.specs.Amounts.{RowsView}
-use Rattle.fd_pattern.specs.Conditions.{AreLinear}
+use Rattle.fd_equations.specs.fd_pattern.Conditions.{AreLinear}
 use Rattle.fd_equations.specs.Holding.{CanHold}
-use Rattle.fd_pattern.specs.PatternPlaces.{load_places, place_of, places_of}
-use Rattle.fd_pattern.specs.Terminals.{IsConnected}
-use Rattle.fd_pattern.proofs.CallerLemmas.{all_connected}
+use Rattle.fd_equations.specs.fd_pattern.PatternPlaces.{load_places, place_of, places_of}
+use Rattle.fd_equations.specs.fd_pattern.Terminals.{IsConnected}
+use Rattle.fd_equations.proofs.CallerLemmas.fd_pattern.{all_connected}
 use Rattle.fd_devices.specs.Building.{AreCollected}
 use Rattle.fd_devices.specs.Devices.{Device, device_stamp, stamp_of_all}
 use Rattle.fd_devices.specs.Kept.{AreFewOf, most_constants, most_loads, most_terms}

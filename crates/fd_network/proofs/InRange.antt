@@ -4,19 +4,19 @@ use Rattle.std.specs.List.{All, AllPass}
 use Rattle.std.specs.Option.{option_and_then, option_or}
 use Rattle.std.proofs.lemmas.List.Elements.{All-cons, All-head, All-nil, All-tail, All-take}
 use Rattle.std.proofs.lemmas.Option.{slice_get-get_or}
-use Rattle.dss_model.specs.declared.element.Element.{Element}
-use Rattle.dss_model.specs.declared.fault.ModelFault.TheVariants as cause
-use Rattle.dss_model.specs.declared.names.ElementName.{ElementName}
-use Rattle.dss_circuit.specs.Circuit.{CircuitView}
-use Rattle.dss_circuit.specs.InRange.{IsWithinLimits}
-use Rattle.dss_layout.specs.Layout.{Elements, LayoutView, branch_phases, complex_count, layout_of, size_of}
-use Rattle.dss_layout.proofs.CallerLemmas.{few_complex, few_magnitudes}
+use Rattle.dss_ready.specs.dss_model.declared.element.Element.{Element}
+use Rattle.dss_ready.specs.dss_model.declared.fault.ModelFault.TheVariants as cause
+use Rattle.dss_ready.specs.dss_model.declared.names.ElementName.{ElementName}
+use Rattle.dss_ready.specs.dss_circuit.Circuit.{CircuitView}
+use Rattle.dss_ready.specs.dss_circuit.InRange.{IsWithinLimits}
+use Rattle.dss_ready.specs.dss_layout.Layout.{Elements, LayoutView, branch_phases, complex_count, layout_of, size_of}
+use Rattle.dss_ready.proofs.CallerLemmas.dss_layout.{few_complex, few_magnitudes}
 use Rattle.dss_ready.specs.Ready.{HasPassed, blame_at, blame_on}
-use Rattle.fd_exact.specs.Sums.{list_n}
-use Rattle.fd_system.specs.Contributions.{IsDivided, IsWithin}
-use Rattle.fd_system.specs.System.{StampView}
-use Rattle.fd_xfmr.specs.Leakage.{AreTaps}
-use Rattle.fd_pattern.specs.Conditions.{IsKnown, IsServed}
+use Rattle.fd_equations.specs.fd_exact.Sums.{list_n}
+use Rattle.fd_devices.specs.fd_system.Contributions.{IsDivided, IsWithin}
+use Rattle.fd_devices.specs.fd_system.System.{StampView}
+use Rattle.fd_devices.specs.fd_xfmr.Leakage.{AreTaps}
+use Rattle.fd_equations.specs.fd_pattern.Conditions.{IsKnown, IsServed}
 use Rattle.fd_devices.specs.Building.{AreInRange, DeviceFits, IsBounded, IsInside, IsModest, device_fits, has_small_sums}
 use Rattle.fd_devices.specs.Devices.{Device, DeviceLaw, IsGood, device_stamp, stamp_of_all}
 use Rattle.fd_devices.specs.Scripted.{device_of, devices_from, devices_of}
@@ -28,7 +28,7 @@ use Rattle.fd_network.specs.Laws.{IsOfCircuit}
 use Rattle.fd_network.proofs.Apart.{apart, magnitudes_follow}
 use Rattle.fd_network.proofs.Assembling.{is_network}
 use Rattle.fd_network.proofs.Building.{are_taken, out_of_range_within}
-use Rattle.fd_network.proofs.Ready.{few_branches, ready}
+use Rattle.fd_network.proofs.ReadyElements.{few_branches, ready}
 use Rattle.fd_network.proofs.Sums.{sums_small}
 use Rattle.fd_network.proofs.Taking.{first_taken, own_settings, rest_taken}
 

@@ -9,6 +9,6 @@ pub mod Walking
 pub mod ReadyNodes
 pub mod ReadyPlaces
 pub mod Parting
-pub mod Ready
+pub mod ReadyElements
 pub mod CallerLemmas
 pub mod InRange

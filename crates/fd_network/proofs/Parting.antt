@@ -2,12 +2,12 @@
 use Rattle.std.proofs.Common.{◌≡◌, ◌∙◌, ℕ, ◌≤◌, List, [], ◌∷◌, ◌++◌, length, map, take, ap, arith, refl, sym}
 use Rattle.std.proofs.Math.Seq.{drop-append_seam, take-append_seam}
 use Rattle.std.proofs.lemmas.List.{length-map, length-take, map-append}
-use Rattle.fd_arith.specs.declared.terms.Term.{Term}
-use Rattle.fd_system.specs.declared.constants.Constant.{Constant}
-use Rattle.fd_system.specs.declared.loads.LoadAt.{LoadAt}
-use Rattle.fd_system.specs.System.{StampView, joined, stamp_with}
-use Rattle.fd_pattern.specs.declared.layout.Layout.{Layout}
-use Rattle.fd_pattern.specs.Views.{network_of}
+use Rattle.dss_ready.specs.fd_arith.declared.terms.Term.{Term}
+use Rattle.fd_devices.specs.fd_system.declared.constants.Constant.{Constant}
+use Rattle.fd_devices.specs.fd_system.declared.loads.LoadAt.{LoadAt}
+use Rattle.fd_devices.specs.fd_system.System.{StampView, joined, stamp_with}
+use Rattle.fd_equations.specs.fd_pattern.declared.layout.Layout.{Layout}
+use Rattle.fd_equations.specs.fd_pattern.Views.{network_of}
 use Rattle.fd_devices.specs.Devices.{Device, device_stamp, stamp_of_all}
 use Rattle.fd_network.specs.declared.assembly.Parts.{Parts}
 use Rattle.fd_network.specs.declared.extents.Extent.{Extent}

@@ -3,13 +3,13 @@ use Rattle.std.proofs.Common.{◌≡◌, ℕ, ◌+◌, ◌<◌, ◌≤◌, Bool,
 use Rattle.std.specs.List.{list_any}
 use Rattle.std.proofs.lemmas.List.{map-append}
 use Rattle.std.proofs.lemmas.List.Elements.{All-nil, All-cons, All-head, All-tail}
-use Rattle.dss_layout.specs.declared.nodes.NodeName.{NodeName}
-use Rattle.dss_layout.specs.declared.terminals.Terminals.{Terminals}
-use Rattle.dss_layout.specs.Among.{IsAmong}
-use Rattle.dss_layout.specs.Nodes.{same_node, is_node, node_at, number_in}
-use Rattle.dss_layout.proofs.CallerLemmas.{both_parts}
-use Rattle.fd_arith.specs.declared.terms.NodeAt.TheVariants.{Ground, Node}
-use Rattle.fd_pattern.specs.Conditions.{IsAmong as IsBelow}
+use Rattle.dss_ready.specs.dss_layout.declared.nodes.NodeName.{NodeName}
+use Rattle.dss_ready.specs.dss_layout.declared.terminals.Terminals.{Terminals}
+use Rattle.dss_ready.specs.dss_layout.Among.{IsAmong}
+use Rattle.dss_ready.specs.dss_layout.Nodes.{same_node, is_node, node_at, number_in}
+use Rattle.dss_ready.proofs.CallerLemmas.dss_layout.{both_parts}
+use Rattle.dss_ready.specs.fd_arith.declared.terms.NodeAt.TheVariants.{Ground, Node}
+use Rattle.fd_equations.specs.fd_pattern.Conditions.{IsAmong as IsBelow}
 
 -- ---- nodes by number
 

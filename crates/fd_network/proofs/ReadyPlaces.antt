@@ -1,11 +1,11 @@
 -- Where the nodes, the branches and the magnitudes of an element stand among the unknowns of the layout.
 use Rattle.std.proofs.Common.{ℕ, ◌+◌, ◌≤◌, ◌==◌, Bool, true, false, if◌then◌else◌, length, slice_index, All, ◌∙◌, arith}
 use Rattle.std.proofs.lemmas.List.{length-map}
-use Rattle.dss_model.specs.declared.element.Element.{Element}
-use Rattle.dss_layout.specs.Among.{IsAmong}
-use Rattle.dss_layout.specs.Nodes.{node_at}
-use Rattle.dss_layout.specs.Terminals.{mentions, terminals_of}
-use Rattle.dss_layout.specs.Layout.{LayoutView, branch_phases, complex_count, ends_of, first_magnitude, magnitude_phases, size_of}
+use Rattle.dss_ready.specs.dss_model.declared.element.Element.{Element}
+use Rattle.dss_ready.specs.dss_layout.Among.{IsAmong}
+use Rattle.dss_ready.specs.dss_layout.Nodes.{node_at}
+use Rattle.dss_ready.specs.dss_layout.Terminals.{mentions, terminals_of}
+use Rattle.dss_ready.specs.dss_layout.Layout.{LayoutView, branch_phases, complex_count, ends_of, first_magnitude, magnitude_phases, size_of}
 use Rattle.fd_devices.proofs.CallerLemmas.{HasCounts, StandsAmong, first_count, second_count}
 use Rattle.fd_network.proofs.ReadyNodes.{sides_below}
 

@@ -4,10 +4,10 @@ use Rattle.std.specs.List.{All, flat_map}
 use Rattle.std.proofs.lemmas.Bool.{and_parts, eqb-true}
 use Rattle.std.proofs.lemmas.List.Elements.{All-nil, All-cons, All-append, All-head, All-tail}
 use Rattle.std.proofs.lemmas.List.Sums.{AllPass-from_list_all, list_all-from_AllPass}
-use Rattle.fd_arith.specs.declared.terms.Term.{Term}
-use Rattle.fd_system.specs.Contributions.{AreSmall, are_small, term_units}
-use Rattle.fd_system.specs.System.{StampView}
-use Rattle.fd_pattern.specs.Coefficients.{linear_entry, stands_at}
+use Rattle.dss_ready.specs.fd_arith.declared.terms.Term.{Term}
+use Rattle.fd_devices.specs.fd_system.Contributions.{AreSmall, are_small, term_units}
+use Rattle.fd_devices.specs.fd_system.System.{StampView}
+use Rattle.fd_equations.specs.fd_pattern.Coefficients.{linear_entry, stands_at}
 use Rattle.fd_devices.specs.Building.{HasSmallSums}
 use Rattle.fd_devices.specs.Devices.{Device, device_stamp, stamp_of_all}
 

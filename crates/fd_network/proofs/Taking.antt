@@ -2,11 +2,11 @@
 use Rattle.std.proofs.Common.{◌≡◌, ◌∙◌, ℕ, suc, ◌+◌, ◌≤◌, List, ◌∷◌, length, length-drop, drop, slice_get, Some, add-zero, arith, ap, sym, subst}
 use Rattle.std.proofs.lemmas.List.{length-take-le}
 use Rattle.std.proofs.lemmas.List.Elements.{All-drop, All-take}
-use Rattle.dss_model.specs.declared.element.Element.{Element}
-use Rattle.dss_model.specs.declared.names.ElementName.{ElementName}
-use Rattle.dss_layout.specs.Layout.{Elements, LayoutView}
-use Rattle.dss_layout.proofs.CallerLemmas.{drop-more}
-use Rattle.fd_xfmr.specs.Leakage.{AreTaps}
+use Rattle.dss_ready.specs.dss_model.declared.element.Element.{Element}
+use Rattle.dss_ready.specs.dss_model.declared.names.ElementName.{ElementName}
+use Rattle.dss_ready.specs.dss_layout.Layout.{Elements, LayoutView}
+use Rattle.dss_ready.proofs.CallerLemmas.dss_layout.{drop-more}
+use Rattle.fd_devices.specs.fd_xfmr.Leakage.{AreTaps}
 use Rattle.fd_devices.specs.Building.{IsModest}
 use Rattle.fd_devices.specs.Devices.{Device}
 use Rattle.fd_devices.specs.Scripted.{device_of, devices_from}

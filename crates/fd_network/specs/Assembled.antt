@@ -1,10 +1,10 @@
 -- The network of what elements in a layout add, and the lists in which it is made.
 use Rattle.std.specs.Prelude.{◌≡◌, ◌≤◌, vec_capacity}
-use Rattle.dss_layout.specs.Layout.{LayoutView}
-use Rattle.fd_system.specs.Stamps.{HasRoom}
+use Rattle.dss_ready.specs.dss_layout.Layout.{LayoutView}
+use Rattle.fd_devices.specs.fd_system.Stamps.{HasRoom}
 use Rattle.fd_equations.specs.Holding.{CanHold}
-use Rattle.fd_system.specs.System.{stamp_with}
-use Rattle.fd_pattern.specs.Views.{NetworkView, network_of}
+use Rattle.fd_devices.specs.fd_system.System.{stamp_with}
+use Rattle.fd_equations.specs.fd_pattern.Views.{NetworkView, network_of}
 use Rattle.fd_devices.specs.Scripted.{layout_counts}
 use Rattle.fd_network.specs.declared.assembly.Lists.{Lists}
 use Rattle.fd_network.specs.declared.assembly.Parts.{Parts}

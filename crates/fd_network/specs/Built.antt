@@ -1,11 +1,11 @@
 -- What contracts see of the network of a circuit.
 use Rattle.std.specs.Prelude.{◌≡◌, ℕ, List, map}
-use Rattle.dss_layout.specs.Layout.{LayoutView, layout_of, size_of}
-use Rattle.dss_circuit.specs.Circuit.{CircuitView}
-use Rattle.fd_pattern.specs.declared.layout.Layout.{Layout}
-use Rattle.fd_pattern.specs.Conditions.{IsNetwork}
-use Rattle.fd_system.specs.System.{StampView, stamp_with, joined}
-use Rattle.fd_pattern.specs.Views.{NetworkView, network_of}
+use Rattle.dss_ready.specs.dss_layout.Layout.{LayoutView, layout_of, size_of}
+use Rattle.dss_ready.specs.dss_circuit.Circuit.{CircuitView}
+use Rattle.fd_equations.specs.fd_pattern.declared.layout.Layout.{Layout}
+use Rattle.fd_equations.specs.fd_pattern.Conditions.{IsNetwork}
+use Rattle.fd_devices.specs.fd_system.System.{StampView, stamp_with, joined}
+use Rattle.fd_equations.specs.fd_pattern.Views.{NetworkView, network_of}
 use Rattle.fd_devices.specs.declared.kept.Kept.{Kept}
 use Rattle.fd_devices.specs.Devices.{device_stamp}
 use Rattle.fd_devices.specs.Scripted.{devices_of, layout_counts}

@@ -1,9 +1,9 @@
 -- What elements in a layout must be so that what they add can be collected, and where they are out of range.
 use Rattle.std.specs.Prelude.{◌≡◌, ℕ, ◌+◌, ◌<◌, [], ◌∷◌, List, length, All, Option, Some}
-use Rattle.dss_model.specs.Ranges.{IsOneOf}
-use Rattle.dss_model.specs.declared.element.Element.{Element}
-use Rattle.dss_layout.specs.Layout.{Elements, LayoutView}
-use Rattle.fd_xfmr.specs.Leakage.{AreTaps}
+use Rattle.dss_ready.specs.dss_model.Ranges.{IsOneOf}
+use Rattle.dss_ready.specs.dss_model.declared.element.Element.{Element}
+use Rattle.dss_ready.specs.dss_layout.Layout.{Elements, LayoutView}
+use Rattle.fd_devices.specs.fd_xfmr.Leakage.{AreTaps}
 use Rattle.fd_devices.specs.Building.{DeviceFits, IsModest}
 use Rattle.fd_devices.specs.Devices.{Device}
 use Rattle.fd_devices.specs.Scripted.{device_of, devices_from}

@@ -1,11 +1,11 @@
 -- Which element is to blame where a circuit's network is out of range.
 use Rattle.std.specs.Prelude.{◌≡◌, ℕ, Bool, not, List, Option, Some}
 use Rattle.std.specs.Option.{option_and_then, option_or}
-use Rattle.dss_model.specs.declared.fault.ModelFault.TheVariants as fault
-use Rattle.dss_model.specs.declared.command.Blame.{Blame}
-use Rattle.dss_layout.specs.Layout.{Elements}
+use Rattle.dss_ready.specs.dss_model.declared.fault.ModelFault.TheVariants as fault
+use Rattle.dss_ready.specs.dss_model.declared.command.Blame.{Blame}
+use Rattle.dss_ready.specs.dss_layout.Layout.{Elements}
 use Rattle.dss_ready.specs.Ready.{blame_at}
-use Rattle.fd_exact.specs.First.{first_such}
+use Rattle.fd_equations.specs.fd_exact.First.{first_such}
 use Rattle.fd_devices.specs.declared.fault.BuildFault.{BuildFault}
 use Rattle.fd_devices.specs.declared.fault.BuildFault.TheVariants as build_fault
 use Rattle.fd_devices.specs.Building.{device_fits, has_small_sums}

@@ -4,10 +4,10 @@ use Rattle.std.specs.List.{Contains, flat_map}
 use Rattle.fd_devices.specs.Reach.{device_places}
 use Rattle.fd_devices.specs.Scripted.{devices_from}
 use Rattle.fd_devices.specs.Settings.{Settings}
-use Rattle.dss_model.specs.declared.element.Element.{Element}
-use Rattle.dss_model.specs.declared.names.ElementName.{ElementName}
-use Rattle.dss_layout.specs.Layout.{Elements, LayoutView}
-use Rattle.fd_exact.specs.Sums.{list_n}
+use Rattle.dss_ready.specs.dss_model.declared.element.Element.{Element}
+use Rattle.dss_ready.specs.dss_model.declared.names.ElementName.{ElementName}
+use Rattle.dss_ready.specs.dss_layout.Layout.{Elements, LayoutView}
+use Rattle.fd_equations.specs.fd_exact.Sums.{list_n}
 use Rattle.fd_devices.specs.declared.kept.Kept.{Kept}
 use Rattle.fd_devices.specs.Kept.{IsKeptOf, most_constants, most_loads, most_terms}
 use Rattle.fd_network.specs.declared.room.Room.{Room}

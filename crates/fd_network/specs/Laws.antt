@@ -1,10 +1,10 @@
 -- What the definition of a circuit's network is, where no element is to blame for being out of range.
 use Rattle.std.specs.Prelude.{◌≡◌, All, None}
-use Rattle.dss_circuit.specs.Circuit.{CircuitView}
-use Rattle.dss_circuit.specs.InRange.{IsWithinLimits}
+use Rattle.dss_ready.specs.dss_circuit.Circuit.{CircuitView}
+use Rattle.dss_ready.specs.dss_circuit.InRange.{IsWithinLimits}
 use Rattle.dss_ready.specs.Ready.{HasPassed}
-use Rattle.fd_xfmr.specs.Leakage.{AreTaps}
-use Rattle.fd_pattern.specs.Conditions.{IsNetwork}
+use Rattle.fd_devices.specs.fd_xfmr.Leakage.{AreTaps}
+use Rattle.fd_equations.specs.fd_pattern.Conditions.{IsNetwork}
 use Rattle.fd_devices.specs.Building.{IsModest}
 use Rattle.fd_devices.specs.Devices.{AgreesWith}
 use Rattle.fd_devices.specs.Scripted.{circuit_network, circuit_parts, devices_of}

@@ -1,6 +1,6 @@
 -- The elements of a circuit that passed the tests of Solve, at their places in order.
 use Rattle.std.specs.Prelude.{◌≡◌, ℕ, ◌+◌, [], ◌∷◌}
-use Rattle.dss_layout.specs.Layout.{Elements, LayoutView, first_magnitude, magnitude_phases}
+use Rattle.dss_ready.specs.dss_layout.Layout.{Elements, LayoutView, first_magnitude, magnitude_phases}
 use Rattle.fd_devices.specs.Standing.{IsReadyAt}
 
 -- elements of which the first stands at a place in order, each ready at its place

@@ -1,10 +1,10 @@
 -- The stamps of elements one after another, in one list of each kind, with how much of it each has.
 use Rattle.std.specs.Prelude.{◌≡◌, ◌≤◌, List, [], ◌∷◌, length, take, drop, map, vec_capacity}
-use Rattle.fd_arith.specs.declared.terms.Term.{Term}
-use Rattle.fd_system.specs.declared.constants.Constant.{Constant}
-use Rattle.fd_system.specs.declared.loads.LoadAt.{LoadAt}
-use Rattle.fd_system.specs.Stamps.{HasRoom, IsRoomSame}
-use Rattle.fd_system.specs.System.{StampView}
+use Rattle.dss_ready.specs.fd_arith.declared.terms.Term.{Term}
+use Rattle.fd_devices.specs.fd_system.declared.constants.Constant.{Constant}
+use Rattle.fd_devices.specs.fd_system.declared.loads.LoadAt.{LoadAt}
+use Rattle.fd_devices.specs.fd_system.Stamps.{HasRoom, IsRoomSame}
+use Rattle.fd_devices.specs.fd_system.System.{StampView}
 use Rattle.fd_devices.specs.Devices.{Device, device_stamp}
 use Rattle.fd_network.specs.declared.extents.Extent.{Extent}
 use Rattle.fd_network.specs.declared.extents.Stamps.{Stamps}

@@ -1,9 +1,9 @@
 // The element to blame.
 ghost use Rattle.std.specs.Prelude.{◌≡◌, ◌<◌, IfOk, Some, length};
-ghost use Rattle.dss_model.specs.declared.fault.ModelFault.TheVariants as cause;
+ghost use Rattle.dss_ready.specs.dss_model.declared.fault.ModelFault.TheVariants as cause;
 ghost use Rattle.dss_ready.specs.Ready.{blame_at};
 
-use dss_model::{Blame, Element, ElementName, ModelFault};
+use dss_ready::{Blame, Element, ElementName, ModelFault};
 use indexmap::IndexMap;
 use std::alloc::AllocError;
 

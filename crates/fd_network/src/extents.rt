@@ -1,11 +1,11 @@
 // What elements add, one after another in one list of each kind, with how much of it each has.
 ghost use Rattle.std.specs.Prelude.{◌≡◌, ◌+◌, ◌<◌, ◌≤◌, ◌^◌, ◌++◌, ◌∷◌, [], IfOk, length, vec_capacity};
-ghost use Rattle.fd_system.specs.Stamps.{stamp_of};
-ghost use Rattle.fd_system.specs.System.{beside, joined};
+ghost use Rattle.fd_devices.specs.fd_system.Stamps.{stamp_of};
+ghost use Rattle.fd_devices.specs.fd_system.System.{beside, joined};
 ghost use Rattle.fd_network.specs.Stamps.{HaveStampsRoom, IsStampsRoomSame, extent_of};
 
 use crate::room::Room;
-use fd_system::Stamp;
+use fd_devices::Stamp;
 use std::alloc::{AllocError, Global};
 
 /// How many constants, contributions and part loads an element adds, and what it draws at nominal voltage, in whole microamperes.

@@ -1,10 +1,10 @@
 // What is kept of the elements of a circuit, for its updates.
 ghost use Rattle.std.specs.Prelude.{◌≡◌, ◌≤◌, ◌++◌, All, IfErr, IfOk, length};
 ghost use Rattle.std.specs.List.{flat_map};
-ghost use Rattle.dss_layout.specs.Layout.{size_of};
-ghost use Rattle.dss_circuit.specs.Limits.{most_elements};
+ghost use Rattle.dss_ready.specs.dss_layout.Layout.{size_of};
+ghost use Rattle.dss_ready.specs.dss_circuit.Limits.{most_elements};
 ghost use Rattle.fd_devices.specs.Standing.{IsSettledAt};
-ghost use Rattle.fd_pattern.specs.Patterns.{IsInside};
+ghost use Rattle.fd_equations.specs.fd_pattern.Patterns.{IsInside};
 ghost use Rattle.fd_devices.specs.Building.{DeviceFits, device_fits};
 ghost use Rattle.fd_devices.specs.Kept.{IsKeptOf};
 ghost use Rattle.fd_devices.specs.Reach.{device_places};
@@ -14,9 +14,7 @@ ghost use Rattle.fd_network.specs.Faults.{first_without};
 ghost use Rattle.fd_network.specs.Keeping.{AreKept};
 
 use crate::fault::PlaceFault;
-use dss_layout::Layout;
-use dss_model::{Element, ElementName};
-use fd_arith::TermFault;
+use dss_ready::{Element, ElementName, Layout, TermFault};
 use fd_devices::{Kept, SettingSlices, kept_of};
 use indexmap::IndexMap;
 use std::alloc::Global;

@@ -27,3 +27,15 @@ mod stamps;
 
 pub use laws::network_law;
 pub use network::Network;
+
+// Handed on from the crates below.
+pub use dss_ready::{
+    Blame, CapControl, Circuit, Class, ControlMode, ControlQuantity, Element, ElementName, Layout,
+    Line, NodeName, Options, PhaseName, ReadyFault, RegControl, Text, Transformer, Winding,
+    passed_law, ready,
+};
+pub use fd_devices::{
+    BankStates, BuildFault, NodePair, PhaseAt, Positions, Powers, Taps, XfmrData, phase_at,
+    phase_volts, xfmr_data,
+};
+pub use fd_equations::near_quotient;

@@ -1,14 +1,14 @@
 // The network of a circuit, built.
 ghost use Rattle.std.specs.Prelude.{◌≡◌, ◌<◌, ◌≤◌, All, IfErr, IfOk, IsOk, None, Some, length};
 ghost use Rattle.std.specs.List.{flat_map};
-ghost use Rattle.dss_layout.specs.Layout.{complex_count, first_too_many, layout_of, size_of};
-ghost use Rattle.dss_layout.specs.Limits.{most_complex, most_magnitudes};
-ghost use Rattle.dss_layout.specs.UnknownNames.{unknown_name};
-ghost use Rattle.dss_model.specs.declared.fault.ModelFault.TheVariants as cause;
+ghost use Rattle.dss_ready.specs.dss_layout.Layout.{complex_count, first_too_many, layout_of, size_of};
+ghost use Rattle.dss_ready.specs.dss_layout.Limits.{most_complex, most_magnitudes};
+ghost use Rattle.dss_ready.specs.dss_layout.UnknownNames.{unknown_name};
+ghost use Rattle.dss_ready.specs.dss_model.declared.fault.ModelFault.TheVariants as cause;
 ghost use Rattle.dss_ready.specs.Ready.{HasPassed, blame_at};
-ghost use Rattle.fd_xfmr.specs.Leakage.{AreTaps};
-ghost use Rattle.fd_pattern.specs.Conditions.{IsNetwork};
-ghost use Rattle.fd_pattern.specs.Patterns.{IsInside};
+ghost use Rattle.fd_devices.specs.fd_xfmr.Leakage.{AreTaps};
+ghost use Rattle.fd_equations.specs.fd_pattern.Conditions.{IsNetwork};
+ghost use Rattle.fd_equations.specs.fd_pattern.Patterns.{IsInside};
 ghost use Rattle.fd_devices.specs.Building.{AreInRange, IsModest};
 ghost use Rattle.fd_devices.specs.Devices.{AgreesWith};
 ghost use Rattle.fd_devices.specs.Places.{ends_at};
@@ -26,14 +26,9 @@ use crate::blame::blame_range;
 use crate::fault::PlaceFault;
 use crate::keeping::{Made, keep};
 use crate::room::{Room, room_of};
-use dss_circuit::Circuit;
-use dss_layout::Layout;
-use dss_lexer::Text;
-use dss_model::{Element, ElementName};
-use fd_arith::Ends;
+use dss_ready::{Circuit, Element, ElementName, Ends, Layout, Text};
 use fd_devices::{BuildFault, Kept, Positions, Powers, SettingSlices};
-use fd_equations::Network as NetworkRows;
-use fd_pattern::Layout as Counts;
+use fd_equations::{Layout as Counts, Network as NetworkRows};
 use indexmap::IndexMap;
 use std::alloc::{AllocError, Global};
 use std::marker::Model;
@@ -55,7 +50,7 @@ pub struct Network {
 
 impl Model for Network {
     ghost use Rattle.std.specs.Prelude.{◌≡◌};
-    ghost use Rattle.dss_layout.specs.Layout.{size_of};
+    ghost use Rattle.dss_ready.specs.dss_layout.Layout.{size_of};
     ghost use Rattle.fd_devices.specs.Scripted.{layout_counts};
     ghost use Rattle.fd_devices.specs.Settings.{settings_of};
     ghost use Rattle.fd_network.specs.Assembled.{HaveRoom};

@@ -1,10 +1,10 @@
 // The room for what elements add.
 ghost use Rattle.std.specs.Prelude.{◌≡◌, ◌≤◌, All, length};
-ghost use Rattle.dss_circuit.specs.Limits.{most_elements};
-ghost use Rattle.dss_model.specs.InRange.{ElementInRange};
+ghost use Rattle.dss_ready.specs.dss_circuit.Limits.{most_elements};
+ghost use Rattle.dss_ready.specs.dss_model.InRange.{ElementInRange};
 ghost use Rattle.fd_network.specs.Keeping.{room_for};
 
-use dss_model::{Element, ElementName};
+use dss_ready::{Element, ElementName};
 use fd_devices::{most_constants, most_loads, most_terms};
 use indexmap::IndexMap;
 

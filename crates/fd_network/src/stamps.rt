@@ -1,11 +1,11 @@
 // What the elements of a circuit add, one after another.
 ghost use Rattle.std.specs.Prelude.{◌≡◌, ◌*◌, ◌≤◌, ◌^◌, ◌↔◌, All, IfErr, IsTrue, OnOk, length};
-ghost use Rattle.dss_layout.specs.Layout.{complex_count, size_of};
-ghost use Rattle.dss_circuit.specs.Limits.{most_elements};
+ghost use Rattle.dss_ready.specs.dss_layout.Layout.{complex_count, size_of};
+ghost use Rattle.dss_ready.specs.dss_circuit.Limits.{most_elements};
 ghost use Rattle.fd_devices.specs.Standing.{IsSettledAt};
-ghost use Rattle.fd_system.specs.Contributions.{AreSmall};
-ghost use Rattle.fd_system.specs.Stamps.{HasRoom, IsRoomSame, stamp_of};
-ghost use Rattle.fd_pattern.specs.Coefficients.{linear_entry};
+ghost use Rattle.fd_devices.specs.fd_system.Contributions.{AreSmall};
+ghost use Rattle.fd_devices.specs.fd_system.Stamps.{HasRoom, IsRoomSame, stamp_of};
+ghost use Rattle.fd_equations.specs.fd_pattern.Coefficients.{linear_entry};
 ghost use Rattle.fd_devices.specs.Building.{AreCollected, DeviceFits, HasSmallSums, device_fits, has_small_sums};
 ghost use Rattle.fd_devices.specs.Devices.{device_stamp, stamp_of_all};
 ghost use Rattle.fd_devices.specs.Kept.{AreFewOf, IsKeptOf};
@@ -17,12 +17,9 @@ ghost use Rattle.fd_network.specs.Stamps.{HaveStampsRoom, IsStampsRoomSame, exte
 
 use crate::extents::Stamps;
 use crate::fault::OutOfRange;
-use dss_layout::Layout;
-use dss_model::{Element, ElementName};
-use fd_arith::Term;
-use fd_devices::{Kept, SettingSlices, stamp_into};
+use dss_ready::{Element, ElementName, Layout, Term};
+use fd_devices::{Kept, SettingSlices, Stamp, stamp_into};
 use fd_equations::Rows;
-use fd_system::Stamp;
 use indexmap::IndexMap;
 
 // Puts what the element at a place in order adds, with the first of the settings that are left, in place of what a

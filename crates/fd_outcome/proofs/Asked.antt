@@ -1,8 +1,8 @@
 -- What is left to do behind the last command, where a name is asked for there.
 use Rattle.std.proofs.Common.{◌≡◌, ◌∙◌, ℕ, Bool, true, false, List, [], ◌∷◌, ◌++◌, map, Option, Some, None, refl, sym, ap, subst, inl, inr, arith}
 use Rattle.std.proofs.lemmas.List.{append-nil}
-use Rattle.fd_outside.specs.Answers.{Answer, HasFailed, names_asked}
-use Rattle.dss_model.specs.Names.{bytes}
+use Rattle.fd_certfile.specs.fd_outside.Answers.{Answer, HasFailed, names_asked}
+use Rattle.fd_report.specs.dss_model.Names.{bytes}
 use Rattle.fd_report.specs.declared.faults.Fault.{Fault}
 use Rattle.fd_report.specs.declared.faults.Fault.TheVariants as fault
 use Rattle.fd_outcome.specs.Events.{Event, asked, History, before}

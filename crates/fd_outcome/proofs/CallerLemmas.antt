@@ -2,16 +2,16 @@
 use Rattle.std.proofs.Common.{◌≡◌, ◌∙◌, ℕ, ◌+◌, ◌≤◌, Bool, true, false, List, [], ◌∷◌, ◌++◌, map, Option, Some, None, refl, sym, ap, subst, inl, inr, arith}
 use Rattle.std.specs.Prelude.{◌||◌, ◌⊎◌}
 use Rattle.std.proofs.lemmas.List.{append_assoc, append-nil, map-append}
-use Rattle.fd_outside.specs.Answers.{Answer, IsLater, EndsFailed, HasFailed, names_asked}
-use Rattle.fd_outside.specs.Causes.{Rose}
-use Rattle.fd_outside.specs.Emitted.{Takes}
-use Rattle.fd_outside.specs.Files.{Files}
-use Rattle.fd_outside.proofs.CallerLemmas.{fails_behind, later_same, later_then, takes_then, takes_none}
-use Rattle.dss_model.specs.Names.{bytes}
-use Rattle.dss_model.specs.declared.command.Command.{Command}
-use Rattle.dss_model.specs.declared.command.Place.{Place}
-use Rattle.dss_script.specs.Said.{Said, name, command, ScriptEnd, at_its_end, refused_at}
-use Rattle.dss_script.specs.declared.fault.ScriptCause.{ScriptCause}
+use Rattle.fd_certfile.specs.fd_outside.Answers.{Answer, IsLater, EndsFailed, HasFailed, names_asked}
+use Rattle.fd_certfile.specs.fd_outside.Causes.{Rose}
+use Rattle.fd_certfile.specs.fd_outside.Emitted.{Takes}
+use Rattle.fd_certfile.specs.fd_outside.Files.{Files}
+use Rattle.fd_certfile.proofs.CallerLemmas.fd_outside.{fails_behind, later_same, later_then, takes_then, takes_none}
+use Rattle.fd_report.specs.dss_model.Names.{bytes}
+use Rattle.fd_report.specs.dss_model.declared.command.Command.{Command}
+use Rattle.fd_report.specs.dss_model.declared.command.Place.{Place}
+use Rattle.fd_report.specs.dss_script.Said.{Said, name, command, ScriptEnd, at_its_end, refused_at}
+use Rattle.fd_report.specs.dss_script.declared.fault.ScriptCause.{ScriptCause}
 use Rattle.fd_report.specs.Faults.{status}
 use Rattle.fd_report.specs.declared.faults.Cause.TheVariants as cause
 use Rattle.fd_report.specs.declared.faults.Fault.{Fault}
@@ -39,6 +39,9 @@ pub use Rattle.fd_outcome.proofs.Handed.{wrote_all, cut_by_memory, cut_by_fault,
 pub use Rattle.fd_outcome.proofs.Told.{IsToldBy, all_told, not_empty, told_fault, told_history}
 pub use Rattle.fd_outcome.proofs.Ways.{made_after}
 use Rattle.fd_outcome.proofs.Given.{takes_wrote, still, called_all, reads_after, failing_behind, rose_since, cause_after}
+pub use Rattle.fd_certfile.proofs.CallerLemmas.fd_outside as fd_outside
+pub use Rattle.fd_report.proofs.CallerLemmas as fd_report
+pub use Rattle.fd_certfile.proofs.CallerLemmas as fd_certfile
 
 -- ---- where the loop stands
 

@@ -3,19 +3,19 @@ use Rattle.std.proofs.Common.{◌≡◌, ◌∙◌, ℕ, zero, suc, ◌+◌, ◌
 use Rattle.std.specs.Prelude.{◌||◌}
 use Rattle.std.specs.List.{concat}
 use Rattle.std.proofs.lemmas.List.{append_assoc, append-nil, map-append}
-use Rattle.fd_outside.specs.Answers.{Answer}
-use Rattle.fd_outside.specs.Causes.{Rose}
-use Rattle.fd_outside.specs.Emitted.{Takes}
-use Rattle.fd_outside.proofs.CallerLemmas.{failed_behind}
-use Rattle.dss_model.specs.Names.{bytes}
-use Rattle.dss_model.specs.declared.command.Command.{Command}
-use Rattle.dss_script.specs.Script.{Script, names_first, after_names}
-use Rattle.dss_script.specs.Said.{name, said_in, end_in}
-use Rattle.dss_script.specs.SaidLaws.{SaidLaw}
-use Rattle.dss_script.specs.Sessions.{State, Asks, Tells, remaining}
-use Rattle.dss_script.specs.declared.fault.SessionFault.{SessionFault}
-use Rattle.dss_script.specs.declared.fault.SessionFault.TheVariants as session
-use Rattle.fd_outside.specs.Files.{Files}
+use Rattle.fd_certfile.specs.fd_outside.Answers.{Answer}
+use Rattle.fd_certfile.specs.fd_outside.Causes.{Rose}
+use Rattle.fd_certfile.specs.fd_outside.Emitted.{Takes}
+use Rattle.fd_certfile.proofs.CallerLemmas.fd_outside.{failed_behind}
+use Rattle.fd_report.specs.dss_model.Names.{bytes}
+use Rattle.fd_report.specs.dss_model.declared.command.Command.{Command}
+use Rattle.fd_report.specs.dss_script.Script.{Script, names_first, after_names}
+use Rattle.fd_report.specs.dss_script.Said.{name, said_in, end_in}
+use Rattle.fd_report.specs.dss_script.SaidLaws.{SaidLaw}
+use Rattle.fd_report.specs.dss_script.Sessions.{State, Asks, Tells, remaining}
+use Rattle.fd_report.specs.dss_script.declared.fault.SessionFault.{SessionFault}
+use Rattle.fd_report.specs.dss_script.declared.fault.SessionFault.TheVariants as session
+use Rattle.fd_certfile.specs.fd_outside.Files.{Files}
 use Rattle.fd_report.specs.declared.faults.Fault.{Fault}
 use Rattle.fd_outcome.specs.Events.{Event, asked}
 use Rattle.fd_outcome.specs.Calls.{Call, reads, writes, Style, body, Doing, names_read, texts_written}

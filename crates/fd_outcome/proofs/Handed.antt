@@ -2,8 +2,8 @@
 use Rattle.std.proofs.Common.{◌≡◌, ◌∙◌, ℕ, ◌+◌, length, length-append, Bool, true, List, [], ◌∷◌, ◌++◌, map, Option, Some, None, refl, sym, ap, inl, inr, arith}
 use Rattle.std.specs.List.{concat}
 use Rattle.std.proofs.lemmas.List.{append-nil, map-append}
-use Rattle.fd_outside.specs.Emitted.{Takes, TakesFirst, TakesTorn}
-use Rattle.dss_model.specs.Names.{bytes}
+use Rattle.fd_certfile.specs.fd_outside.Emitted.{Takes, TakesFirst, TakesTorn}
+use Rattle.fd_report.specs.dss_model.Names.{bytes}
 use Rattle.fd_report.specs.Faults.{status}
 use Rattle.fd_report.specs.declared.faults.Fault.{Fault}
 use Rattle.fd_outcome.specs.Calls.{Call, writes, fault_text, names_read}

@@ -3,7 +3,7 @@ use Rattle.std.proofs.Common.{◌≡◌, ◌∙◌, Bool, true, false, List, [],
 use Rattle.std.specs.List.{flat_map}
 use Rattle.std.proofs.lemmas.List.{append_assoc, append-nil, map-append}
 use Rattle.std.proofs.lemmas.Grind.{flat_map-append}
-use Rattle.dss_model.specs.Names.{bytes}
+use Rattle.fd_report.specs.dss_model.Names.{bytes}
 use Rattle.fd_outcome.specs.Events.{Event}
 use Rattle.fd_outcome.specs.Calls.{Call, reads, writes, Style, opened, body, name_read, names_read, text_written, texts_written, calls_in}
 use Rattle.fd_outcome.specs.Behind.{has_text, behind, opened_unless}

@@ -3,11 +3,11 @@ use Rattle.std.proofs.Common.{◌≡◌, ◌∙◌, ℕ, zero, suc, ◌+◌, Boo
 use Rattle.std.specs.Prelude.{◌⊎◌, ◌||◌, is_some}
 use Rattle.std.specs.List.{flat_map, concat}
 use Rattle.std.proofs.lemmas.List.{append_assoc, append-nil}
-use Rattle.fd_outside.specs.Answers.{Answer, HasFailed}
-use Rattle.fd_outside.specs.Pieces.{Begins}
-use Rattle.fd_outside.specs.Emitted.{IsFront}
-use Rattle.fd_outside.proofs.CallerLemmas.{front_after, front_more, front_none, front_one}
-use Rattle.dss_model.specs.Names.{bytes}
+use Rattle.fd_certfile.specs.fd_outside.Answers.{Answer, HasFailed}
+use Rattle.fd_certfile.specs.fd_outside.Pieces.{Begins}
+use Rattle.fd_certfile.specs.fd_outside.Emitted.{IsFront}
+use Rattle.fd_certfile.proofs.CallerLemmas.fd_outside.{front_after, front_more, front_none, front_one}
+use Rattle.fd_report.specs.dss_model.Names.{bytes}
 use Rattle.fd_report.specs.declared.faults.Fault.{Fault}
 use Rattle.fd_outcome.specs.Statuses.{status_of, want_of_memory, write_fault}
 use Rattle.fd_outcome.specs.Events.{Event, History, before}

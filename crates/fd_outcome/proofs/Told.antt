@@ -2,8 +2,8 @@
 use Rattle.std.proofs.Common.{◌≡◌, ◌∙◌, ℕ, ◌+◌, Bool, true, false, length, length-append, List, [], ◌∷◌, ◌++◌, map, Option, Some, None, refl, sym, ap, subst, inl, inr, arith}
 use Rattle.std.specs.Prelude.{◌||◌, is_some}
 use Rattle.std.proofs.lemmas.List.{append_assoc}
-use Rattle.dss_model.specs.declared.command.Command.{Command}
-use Rattle.dss_script.specs.Said.{Said, name, command, ScriptEnd, at_its_end, refused_at}
+use Rattle.fd_report.specs.dss_model.declared.command.Command.{Command}
+use Rattle.fd_report.specs.dss_script.Said.{Said, name, command, ScriptEnd, at_its_end, refused_at}
 use Rattle.fd_report.specs.declared.faults.Fault.{Fault}
 use Rattle.fd_outcome.specs.Events.{Event, asked, History, before}
 use Rattle.fd_outcome.specs.Work.{Step, goes, ends, AfterStep}

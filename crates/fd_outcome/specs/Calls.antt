@@ -1,7 +1,7 @@
 -- What a command line does to the outside, in order.
 use Rattle.std.specs.Prelude.{ℕ, pos, List, [], ◌∷◌, ◌++◌, map, Option, Some, None}
 use Rattle.std.specs.List.{flat_map}
-use Rattle.dss_model.specs.Names.{bytes}
+use Rattle.fd_report.specs.dss_model.Names.{bytes}
 use Rattle.fd_report.specs.Faults.{fields}
 use Rattle.fd_report.specs.Lines.{line_of}
 use Rattle.fd_report.specs.declared.faults.Fault.{Fault}

@@ -1,8 +1,8 @@
 -- What events are printed as in a certificate: the blocks of a settle's rounds.
 use Rattle.std.specs.Prelude.{ℕ, pos, ◌+◌, List, [], ◌∷◌, ◌++◌, map}
-use Rattle.dss_layout.specs.Layout.{layout_of, size_of}
-use Rattle.fd_equations.specs.Rounded.{list_of}
-use Rattle.fd_queue.specs.Machine.{Act}
+use Rattle.fd_report.specs.dss_layout.Layout.{layout_of, size_of}
+use Rattle.fd_report.specs.fd_equations.Rounded.{list_of}
+use Rattle.fd_report.specs.fd_queue.Machine.{Act}
 use Rattle.fd_certfile.specs.Blocks.{Block, block_lines}
 use Rattle.fd_certfile.specs.declared.version.Version.TheVariants.{Sparse}
 use Rattle.fd_certfile.specs.Blocks as block

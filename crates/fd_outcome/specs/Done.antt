@@ -1,8 +1,8 @@
 -- What is done of it: where a read fails, memory runs out or a write fails, a front.
 use Rattle.std.specs.Prelude.{◌≡◌, ◌⊎◌, ℕ, zero, suc, ◌+◌, ◌||◌, Bool, true, List, [], ◌∷◌, ◌++◌, length, Option, Some, None, is_some}
 use Rattle.std.specs.List.{concat}
-use Rattle.fd_outside.specs.Answers.{Answer, HasFailed, names_asked}
-use Rattle.fd_outside.specs.Pieces.{IsCut}
+use Rattle.fd_certfile.specs.fd_outside.Answers.{Answer, HasFailed, names_asked}
+use Rattle.fd_certfile.specs.fd_outside.Pieces.{IsCut}
 use Rattle.fd_report.specs.declared.faults.Fault.{Fault}
 use Rattle.fd_report.specs.declared.faults.Fault.TheVariants as fault
 use Rattle.fd_outcome.specs.Statuses.{status_of, want_of_memory, write_fault}

@@ -1,7 +1,7 @@
 -- The history of a script's commands for a command line.
 use Rattle.std.specs.Prelude.{◌≡◌, ℕ, List, [], ◌∷◌, Option, Some, None}
-use Rattle.dss_model.specs.declared.command.Command.{Command}
-use Rattle.dss_script.specs.Said.{Said, name, command, ScriptEnd, at_its_end, refused_at}
+use Rattle.fd_report.specs.dss_model.declared.command.Command.{Command}
+use Rattle.fd_report.specs.dss_script.Said.{Said, name, command, ScriptEnd, at_its_end, refused_at}
 use Rattle.fd_report.specs.declared.faults.Cause.TheVariants as cause
 use Rattle.fd_report.specs.declared.faults.Fault.TheVariants as fault
 use Rattle.fd_outcome.specs.Events.{Event, asked, History, ended, before}

@@ -1,11 +1,11 @@
 -- There is exactly one history, and what is done of it.
 use Rattle.std.specs.Prelude.{◌≡◌, ◌⊎◌, ℕ, ◌+◌, ◌≤◌, ◌||◌, Bool, true, List, ◌∷◌, [], ◌++◌, length, Option, Some, None, is_some, map}
 use Rattle.std.specs.List.{concat}
-use Rattle.fd_outside.specs.Answers.{Answer, HasFailed}
-use Rattle.fd_outside.specs.Emitted.{IsFront}
-use Rattle.dss_model.specs.Names.{bytes}
-use Rattle.dss_model.specs.declared.command.Command.{Command}
-use Rattle.dss_script.specs.Said.{Said, ScriptEnd}
+use Rattle.fd_certfile.specs.fd_outside.Answers.{Answer, HasFailed}
+use Rattle.fd_certfile.specs.fd_outside.Emitted.{IsFront}
+use Rattle.fd_report.specs.dss_model.Names.{bytes}
+use Rattle.fd_report.specs.dss_model.declared.command.Command.{Command}
+use Rattle.fd_report.specs.dss_script.Said.{Said, ScriptEnd}
 use Rattle.fd_report.specs.Faults.{status}
 use Rattle.fd_report.specs.declared.faults.Fault.{Fault}
 use Rattle.fd_report.specs.declared.faults.Fault.TheVariants as fault

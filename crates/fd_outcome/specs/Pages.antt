@@ -1,16 +1,16 @@
 -- What events are printed as.
 use Rattle.std.specs.Prelude.{ℕ, ◌+◌, ◌==◌, Bool, true, false, List, [], ◌∷◌, ◌++◌, filter, map, slice_get, Option, Some, None, if◌then◌else◌}
 use Rattle.std.specs.List.{flat_map, zip}
-use Rattle.dss_model.specs.declared.element.Element.{Element}
-use Rattle.dss_model.specs.declared.element.Element.TheVariants as the
-use Rattle.dss_model.specs.declared.names.ElementName.{ElementName}
-use Rattle.dss_layout.specs.Layout.{Elements, layout_of}
-use Rattle.fd_queue.specs.Controls.{Positions, tap_at}
-use Rattle.fd_queue.specs.Machine.{Act}
-use Rattle.fd_sample.specs.declared.probe.Probe.{Probe}
-use Rattle.fd_sample.specs.declared.probe.Probe.TheVariants as probe
-use Rattle.fd_sample.specs.Circuits.{probes_of}
-use Rattle.fd_sample.specs.Regulators.{changer_of}
+use Rattle.fd_report.specs.dss_model.declared.element.Element.{Element}
+use Rattle.fd_report.specs.dss_model.declared.element.Element.TheVariants as the
+use Rattle.fd_report.specs.dss_model.declared.names.ElementName.{ElementName}
+use Rattle.fd_report.specs.dss_layout.Layout.{Elements, layout_of}
+use Rattle.fd_report.specs.fd_queue.Controls.{Positions, tap_at}
+use Rattle.fd_report.specs.fd_queue.Machine.{Act}
+use Rattle.fd_report.specs.fd_sample.declared.probe.Probe.{Probe}
+use Rattle.fd_report.specs.fd_sample.declared.probe.Probe.TheVariants as probe
+use Rattle.fd_report.specs.fd_sample.Circuits.{probes_of}
+use Rattle.fd_report.specs.fd_sample.Regulators.{changer_of}
 use Rattle.fd_report.specs.Controls.{act_fields, bank_fields, tap_fields}
 use Rattle.fd_report.specs.declared.controls.Position.{Position}
 use Rattle.fd_report.specs.declared.controls.Position.TheVariants as position

@@ -1,12 +1,12 @@
 -- What a script's session, a command line and a sink promise the loop over the script's commands.
 use Rattle.std.specs.Prelude.{◌≡◌, ◌⊎◌, ℕ, ◌+◌, ◌||◌, Bool, true, List, [], ◌∷◌, ◌++◌, map, length, Option, Some, None, Result, Ok, Err}
 use Rattle.std.specs.List.{concat}
-use Rattle.fd_outside.specs.Answers.{Answer}
-use Rattle.dss_model.specs.Names.{bytes}
-use Rattle.dss_model.specs.declared.command.Command.{Command}
-use Rattle.dss_script.specs.Said.{Said, name, command, ScriptEnd, at_its_end, refused_at}
-use Rattle.dss_script.specs.declared.fault.SessionFault.{SessionFault}
-use Rattle.dss_script.specs.declared.fault.SessionFault.TheVariants as session
+use Rattle.fd_certfile.specs.fd_outside.Answers.{Answer}
+use Rattle.fd_report.specs.dss_model.Names.{bytes}
+use Rattle.fd_report.specs.dss_model.declared.command.Command.{Command}
+use Rattle.fd_report.specs.dss_script.Said.{Said, name, command, ScriptEnd, at_its_end, refused_at}
+use Rattle.fd_report.specs.dss_script.declared.fault.SessionFault.{SessionFault}
+use Rattle.fd_report.specs.dss_script.declared.fault.SessionFault.TheVariants as session
 use Rattle.fd_report.specs.declared.faults.Fault.{Fault}
 use Rattle.fd_outcome.specs.Events.{Event, History}
 use Rattle.fd_outcome.specs.Work.{Step, goes, ends}

@@ -1,6 +1,6 @@
 -- What a run promises.
 use Rattle.std.specs.Prelude.{ℕ, Bool, List, Option}
-use Rattle.fd_outside.specs.Answers.{Answer}
+use Rattle.fd_certfile.specs.fd_outside.Answers.{Answer}
 use Rattle.fd_outcome.specs.Events.{History}
 use Rattle.fd_outcome.specs.Calls.{Style, doing}
 use Rattle.fd_outcome.specs.Done.{failing, Made, IsDone, Sees, HasReadCause}

@@ -1,9 +1,9 @@
 -- A settle as data: where it started, its rounds, how it ended, and what it leaves.
 use Rattle.std.specs.Prelude.{ℕ, ℤ, List, Option}
-use Rattle.dss_circuit.specs.Circuit.{CircuitView}
-use Rattle.fd_enclosure.specs.Sound.{Claim}
-use Rattle.fd_queue.specs.Controls.{Positions}
-use Rattle.fd_queue.specs.Machine.{Act}
+use Rattle.fd_report.specs.dss_circuit.Circuit.{CircuitView}
+use Rattle.fd_report.specs.fd_enclosure.Sound.{Claim}
+use Rattle.fd_report.specs.fd_queue.Controls.{Positions}
+use Rattle.fd_report.specs.fd_queue.Machine.{Act}
 use Rattle.fd_report.specs.declared.faults.Fault.{Fault}
 
 -- A state that the procedure reaches, by place, in whole microvolts and microamperes, with its certificate: the radius

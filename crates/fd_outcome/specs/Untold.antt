@@ -1,10 +1,10 @@
 -- How a run ends, whatever a library answers.
 use Rattle.std.specs.Prelude.{◌≡◌, ◌⊎◌, ℕ, List, [], ◌∷◌, ◌++◌, Option}
-use Rattle.fd_outside.specs.Answers.{Answer, EndsFailed, IsLater}
-use Rattle.fd_outside.specs.Causes.{Rose}
-use Rattle.fd_outside.specs.Emitted.{Takes}
-use Rattle.fd_outside.specs.Files.{Files}
-use Rattle.dss_model.specs.Names.{bytes}
+use Rattle.fd_certfile.specs.fd_outside.Answers.{Answer, EndsFailed, IsLater}
+use Rattle.fd_certfile.specs.fd_outside.Causes.{Rose}
+use Rattle.fd_certfile.specs.fd_outside.Emitted.{Takes}
+use Rattle.fd_certfile.specs.fd_outside.Files.{Files}
+use Rattle.fd_report.specs.dss_model.Names.{bytes}
 use Rattle.fd_report.specs.Faults.{status}
 use Rattle.fd_report.specs.declared.faults.Fault.{Fault}
 use Rattle.fd_report.specs.declared.faults.Fault.TheVariants as fault

@@ -1,7 +1,7 @@
 -- The way that a run has gone: the invariant of the loop over a script's commands.
 use Rattle.std.specs.Prelude.{ℕ, List, Option, None}
-use Rattle.fd_outside.specs.Answers.{Answer}
-use Rattle.dss_model.specs.declared.command.Command.{Command}
+use Rattle.fd_certfile.specs.fd_outside.Answers.{Answer}
+use Rattle.fd_report.specs.dss_model.declared.command.Command.{Command}
 use Rattle.fd_outcome.specs.Events.{Event, History}
 use Rattle.fd_outcome.specs.Work.{Step}
 use Rattle.fd_outcome.specs.History.{Point, LeadsTo}

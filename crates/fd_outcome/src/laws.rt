@@ -1,13 +1,13 @@
 // The laws.
 ghost use Rattle.std.specs.Prelude.{Bool, List, ℕ, Option};
-ghost use Rattle.dss_model.specs.declared.command.Command.{Command};
+ghost use Rattle.fd_report.specs.dss_model.declared.command.Command.{Command};
 ghost use Rattle.fd_outcome.specs.Calls.{Style};
 ghost use Rattle.fd_outcome.specs.Events.{History};
 ghost use Rattle.fd_outcome.specs.History.{Point};
 ghost use Rattle.fd_outcome.specs.Laws.{CutLaw, DueLaw, HistoryLaw, NamesLaw, ReadLaw, StatusLaw};
 ghost use Rattle.fd_outcome.specs.Work.{Step};
 
-use fd_outside::{Library, Sink};
+use fd_certfile::{Library, Sink};
 
 /// A command line, with T between its commands. (A clause can't range over relations, so
 /// a law that speaks of any takes them from a bound.)

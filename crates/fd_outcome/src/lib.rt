@@ -18,3 +18,14 @@
 mod laws;
 
 pub use laws::{Work, cut_law, due_law, history_law, names_law, read_law, status_law};
+
+// Handed on from the crates below.
+pub use fd_certfile::{
+    Act, CertFileFault, Found, LibFault, Library, Record, Round, Sink, SinkFault, emit, end_record,
+    header_record, upgrade, write_block,
+};
+pub use fd_report::{
+    Cause, Certified, Fault, Network, Position, Probe, RegProbe, Scale, Session, SessionFault,
+    Solution, accepted_record, act_record, bank_record, base_record, name_at, probes, record,
+    records, said_law, said_room_law, size_text, status, tap_record,
+};

@@ -3,20 +3,20 @@ use Rattle.std.proofs.Common.{◌≡◌, ◌∙◌, ◌+◌, ◌<◌, ◌++◌, 
 use Rattle.std.proofs.lemmas.List.{append_assoc, append-nil}
 use Rattle.std.specs.Prelude.{All}
 use Rattle.std.specs.List.{flat_map}
-use Rattle.dss_layout.specs.Layout.{layout_of, size_of}
-use Rattle.dss_circuit.specs.Circuit.{CircuitView}
+use Rattle.fd_bases.specs.dss_layout.Layout.{layout_of, size_of}
+use Rattle.fd_bases.specs.dss_circuit.Circuit.{CircuitView}
 use Rattle.fd_bases.specs.declared.bus_base.BusBase.{BusBase}
-use Rattle.fd_certfile.specs.Blocks.{Block}
-use Rattle.fd_certfile.specs.Blocks as block
-use Rattle.fd_certfile.specs.Rounds.{IsRoundOf, act_of, block_of}
-use Rattle.fd_report.specs.Bases.{base_fields}
-use Rattle.fd_report.specs.Lines.{line_of}
-use Rattle.fd_settle.specs.Rounds.{seen}
-use Rattle.fd_settle.specs.declared.round.Act.{Act}
-use Rattle.fd_settle.specs.declared.round.Round.{Round as Made}
-use Rattle.fd_cert.specs.Claims.{claim_in}
-use Rattle.fd_cert.specs.declared.ball.Certified.{Certified}
-use Rattle.fd_report.specs.declared.faults.Fault.{Fault}
+use Rattle.fd_outcome.specs.fd_certfile.Blocks.{Block}
+use Rattle.fd_outcome.specs.fd_certfile.Blocks as block
+use Rattle.fd_outcome.specs.fd_certfile.Rounds.{IsRoundOf, act_of, block_of}
+use Rattle.fd_outcome.specs.fd_report.Bases.{base_fields}
+use Rattle.fd_outcome.specs.fd_report.Lines.{line_of}
+use Rattle.fd_outcome.specs.fd_settle.Rounds.{seen}
+use Rattle.fd_outcome.specs.fd_settle.declared.round.Act.{Act}
+use Rattle.fd_outcome.specs.fd_settle.declared.round.Round.{Round as Made}
+use Rattle.fd_outcome.specs.fd_cert.Claims.{claim_in}
+use Rattle.fd_outcome.specs.fd_cert.declared.ball.Certified.{Certified}
+use Rattle.fd_outcome.specs.fd_report.declared.faults.Fault.{Fault}
 use Rattle.fd_outcome.specs.Certificates.{act_in, block_in, block_texts, blocks_from, blocks_texts, certificate_texts, claimed_rounds}
 use Rattle.fd_outcome.specs.Events.{row}
 use Rattle.fd_outcome.specs.Pages.{report_texts}

@@ -1,2 +1,3 @@
 mod Recorded
 mod Blocks
+pub mod CallerLemmas

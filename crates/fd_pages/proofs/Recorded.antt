@@ -6,15 +6,15 @@ use Rattle.std.specs.Prelude.{All, IsSome, if◌then◌else◌}
 use Rattle.std.proofs.lemmas.List.{append_assoc, append-nil, drop_all, get_or-map, length-map, map-append, take_all}
 use Rattle.std.proofs.lemmas.List.Elements.{filter_more}
 use Rattle.std.proofs.lemmas.Option.{get_or_from_slice_get, same_Some, slice_get-get_or, slice_get-map, slice_get_within}
-use Rattle.dss_model.specs.declared.element.Element.{Element}
-use Rattle.dss_model.specs.declared.names.ElementName.{ElementName}
-use Rattle.dss_layout.specs.Layout.{Elements}
-use Rattle.fd_queue.specs.Controls.{Positions}
-use Rattle.fd_report.specs.Controls.{bank_fields}
-use Rattle.fd_report.specs.Lines.{lines_of}
-use Rattle.fd_report.specs.Solutions.{IsOfSize}
-use Rattle.fd_sample.specs.declared.probe.Probe.{Probe}
-use Rattle.fd_settle.specs.declared.round.Round.{Round as Made}
+use Rattle.fd_bases.specs.dss_model.declared.element.Element.{Element}
+use Rattle.fd_bases.specs.dss_model.declared.names.ElementName.{ElementName}
+use Rattle.fd_bases.specs.dss_layout.Layout.{Elements}
+use Rattle.fd_outcome.specs.fd_queue.Controls.{Positions}
+use Rattle.fd_outcome.specs.fd_report.Controls.{bank_fields}
+use Rattle.fd_outcome.specs.fd_report.Lines.{lines_of}
+use Rattle.fd_outcome.specs.fd_report.Solutions.{IsOfSize}
+use Rattle.fd_outcome.specs.fd_sample.declared.probe.Probe.{Probe}
+use Rattle.fd_outcome.specs.fd_settle.declared.round.Round.{Round as Made}
 use Rattle.fd_outcome.specs.Pages.{bank_rows_by, banks_of, controls_of, is_bank, is_control, solution_in, tap_rows_by}
 use Rattle.fd_outcome.specs.Settles.{Round}
 use Rattle.fd_pages.specs.Hours.{round_in}

@@ -1,10 +1,10 @@
 -- The voltage bases of a circuit's buses, as events and as texts.
 use Rattle.std.specs.Prelude.{ℕ, List, map}
-use Rattle.dss_circuit.specs.Circuit.{CircuitView}
+use Rattle.fd_bases.specs.dss_circuit.Circuit.{CircuitView}
 use Rattle.fd_bases.specs.Bases.{bases_of}
 use Rattle.fd_bases.specs.declared.bus_base.BusBase.{BusBase}
-use Rattle.fd_report.specs.Bases.{base_fields}
-use Rattle.fd_report.specs.Lines.{line_of}
+use Rattle.fd_outcome.specs.fd_report.Bases.{base_fields}
+use Rattle.fd_outcome.specs.fd_report.Lines.{line_of}
 use Rattle.fd_outcome.specs.Events.{Event, row}
 
 -- a row for each bus that is reached

@@ -1,18 +1,18 @@
 -- The settle of an hour, as the code made it, and what of it can be printed.
 use Rattle.std.specs.Prelude.{◌≡◌, ◌<◌, ◌+◌, ◌^◌, ℕ, List, [], length, map, All, Option, Some, None}
-use Rattle.dss_layout.specs.Layout.{layout_of, size_of}
-use Rattle.dss_circuit.specs.Circuit.{CircuitView}
-use Rattle.dss_ready.specs.Ready.{HasPassed}
-use Rattle.fd_cert.specs.Claims.{claim_in}
-use Rattle.fd_cert.specs.declared.ball.Certified.{Certified}
-use Rattle.fd_certfile.specs.Rounds.{IsClaimOf, IsRoundOf}
+use Rattle.fd_bases.specs.dss_layout.Layout.{layout_of, size_of}
+use Rattle.fd_bases.specs.dss_circuit.Circuit.{CircuitView}
+use Rattle.fd_outcome.specs.dss_ready.Ready.{HasPassed}
+use Rattle.fd_outcome.specs.fd_cert.Claims.{claim_in}
+use Rattle.fd_outcome.specs.fd_cert.declared.ball.Certified.{Certified}
+use Rattle.fd_outcome.specs.fd_certfile.Rounds.{IsClaimOf, IsRoundOf}
 use Rattle.fd_settings.specs.Hours.{hour_powers}
-use Rattle.fd_queue.specs.Controls.{Positions}
-use Rattle.fd_report.specs.Solutions.{IsOfSize}
-use Rattle.fd_report.specs.declared.faults.Fault.{Fault}
-use Rattle.fd_settle.specs.declared.round.Round.{Round as Made}
-use Rattle.fd_settle.specs.Rounds.{seen}
-use Rattle.fd_settle.specs.Start.{ArePositions}
+use Rattle.fd_outcome.specs.fd_queue.Controls.{Positions}
+use Rattle.fd_outcome.specs.fd_report.Solutions.{IsOfSize}
+use Rattle.fd_outcome.specs.fd_report.declared.faults.Fault.{Fault}
+use Rattle.fd_outcome.specs.fd_settle.declared.round.Round.{Round as Made}
+use Rattle.fd_outcome.specs.fd_settle.Rounds.{seen}
+use Rattle.fd_outcome.specs.fd_settle.Start.{ArePositions}
 use Rattle.fd_outcome.specs.Certificates.{block_in, block_texts}
 use Rattle.fd_outcome.specs.Pages.{solution_in}
 use Rattle.fd_outcome.specs.Settles.{Round, Settle, SettleEnd, failed, round_of, without_certificate}

@@ -1,11 +1,11 @@
 -- Where the controls of a circuit stand among its elements, and the rows of single controls and banks.
 use Rattle.std.specs.Prelude.{◌≡◌, ℕ, Bool, List, [], ◌∷◌, map, slice_get, Option, Some, None}
-use Rattle.dss_model.specs.declared.element.Element.{Element}
-use Rattle.dss_model.specs.declared.names.ElementName.{ElementName}
-use Rattle.dss_layout.specs.Layout.{Elements}
-use Rattle.fd_queue.specs.Controls.{Positions}
-use Rattle.fd_report.specs.Controls.{bank_fields}
-use Rattle.fd_sample.specs.declared.probe.Probe.{Probe}
+use Rattle.fd_bases.specs.dss_model.declared.element.Element.{Element}
+use Rattle.fd_bases.specs.dss_model.declared.names.ElementName.{ElementName}
+use Rattle.fd_bases.specs.dss_layout.Layout.{Elements}
+use Rattle.fd_outcome.specs.fd_queue.Controls.{Positions}
+use Rattle.fd_outcome.specs.fd_report.Controls.{bank_fields}
+use Rattle.fd_outcome.specs.fd_sample.declared.probe.Probe.{Probe}
 use Rattle.fd_outcome.specs.Pages.{controls_of, tap_rows_by}
 
 -- the elements at these places are the controls, in the script's order

@@ -1,22 +1,19 @@
 // Settles printed as the blocks of a certificate.
 ghost use Rattle.std.specs.Prelude.{◌≡◌, ◌++◌, ◌<◌, ◌^◌, [], All, OnOk, length};
-ghost use Rattle.dss_layout.specs.Layout.{layout_of, size_of};
-ghost use Rattle.fd_cert.specs.Claims.{claim_in};
-ghost use Rattle.fd_certfile.specs.Rounds.{IsClaimOf, IsRoundOf};
-ghost use Rattle.fd_network.specs.Built.{IsBuiltOf};
-ghost use Rattle.fd_outside.specs.Emitted.{pieces_of};
+ghost use Rattle.fd_bases.specs.dss_layout.Layout.{layout_of, size_of};
+ghost use Rattle.fd_outcome.specs.fd_cert.Claims.{claim_in};
+ghost use Rattle.fd_outcome.specs.fd_certfile.Rounds.{IsClaimOf, IsRoundOf};
+ghost use Rattle.fd_outcome.specs.fd_network.Built.{IsBuiltOf};
+ghost use Rattle.fd_outcome.specs.fd_outside.Emitted.{pieces_of};
 ghost use Rattle.fd_outcome.specs.Calls.{certificate};
 ghost use Rattle.fd_outcome.specs.Certificates.{block_in, block_texts, blocks_from, blocks_texts};
 ghost use Rattle.fd_outcome.specs.Settles.{Settle, round_of};
 ghost use Rattle.fd_pages.specs.Hours.{IsSettleAt, IsTriedOf, last_texts, round_in, rounds_in};
 
 use crate::page::{Page, SolvedHour};
-use dss_circuit::Circuit;
-use fd_cert::Certified;
-use fd_certfile::{end_record, header_record, write_block};
-use fd_devices::Positions;
-use fd_outside::Record;
-use fd_settle::Round;
+use fd_bases::Circuit;
+use fd_outcome::{Certified, Record, Round, end_record, header_record, write_block};
+use fd_settings::Positions;
 use std::alloc::{AllocError, Global};
 
 /// A block for each certified state.

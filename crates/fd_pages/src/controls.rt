@@ -2,7 +2,7 @@
 ghost use Rattle.std.specs.Prelude.{◌≡◌};
 ghost use Rattle.fd_outcome.specs.Pages.{is_control};
 
-use dss_model::Element;
+use fd_bases::Element;
 
 /// Whether an element is a control.
 pub fn is_control(element: &Element) -> bool

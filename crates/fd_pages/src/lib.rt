@@ -25,3 +25,11 @@ pub use controls::is_control;
 pub use page::{Page, SolvedHour};
 pub use report::Report;
 pub use summary::Summary;
+
+// Handed on from the crates below.
+pub use fd_bases::Layout;
+pub use fd_outcome::{
+    Cause, CertFileFault, Fault, Found, LibFault, Library, Record, Scale, Session, SessionFault,
+    Sink, SinkFault, accepted_record, emit, name_at, read_law, record, said_law, said_room_law,
+    size_text, status, status_law, upgrade,
+};

@@ -1,24 +1,21 @@
 // How the settles of a command line are printed.
 ghost use Rattle.std.specs.Prelude.{◌≡◌, ◌+◌, ℕ, List, [], IfOk};
 ghost use Rattle.std.specs.List.{flat_map};
-ghost use Rattle.fd_outside.specs.Emitted.{pieces_of};
-ghost use Rattle.fd_network.specs.Built.{IsBuiltOf};
-ghost use Rattle.fd_report.specs.declared.faults.Fault.{Fault as FaultView};
-ghost use Rattle.fd_sample.specs.Probes.{positions_in};
+ghost use Rattle.fd_outcome.specs.fd_outside.Emitted.{pieces_of};
+ghost use Rattle.fd_outcome.specs.fd_network.Built.{IsBuiltOf};
+ghost use Rattle.fd_outcome.specs.fd_report.declared.faults.Fault.{Fault as FaultView};
+ghost use Rattle.fd_outcome.specs.fd_sample.Probes.{positions_in};
 ghost use Rattle.fd_outcome.specs.Behind.{AsksNames};
 ghost use Rattle.fd_outcome.specs.Calls.{Style};
 ghost use Rattle.fd_outcome.specs.Events.{row, settle};
 ghost use Rattle.fd_outcome.specs.Settles.{Settle, failed, settled};
 ghost use Rattle.fd_pages.specs.Hours.{IsPrintable, IsTriedOf, settle_made, end_with, Kept};
 ghost use Rattle.fd_pages.specs.Bases.{base_events};
-ghost use Rattle.dss_layout.specs.Layout.{layout_of, size_of};
+ghost use Rattle.fd_bases.specs.dss_layout.Layout.{layout_of, size_of};
 
-use dss_circuit::Circuit;
-use fd_cert::Certified;
-use fd_devices::Positions;
-use fd_network::Network;
-use fd_outside::Record;
-use fd_settle::Round;
+use fd_bases::Circuit;
+use fd_outcome::{Certified, Network, Record, Round};
+use fd_settings::Positions;
 use std::alloc::{AllocError, Global};
 
 /// An hour of a circuit that was solved, in a network of the circuit: the number of its settle in the run, from 1, the

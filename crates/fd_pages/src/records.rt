@@ -1,19 +1,19 @@
 // The records of a settle.
 ghost use Rattle.std.specs.Prelude.{◌≡◌, ◌+◌, ◌++◌, ◌∷◌, ◌<◌, ◌^◌, [], All, IfOk, OnOk, Option, Some, if◌then◌else◌, drop, length, map, slice_get};
-ghost use Rattle.dss_layout.specs.Layout.{layout_of, size_of};
-ghost use Rattle.dss_ready.specs.Ready.{HasPassed};
+ghost use Rattle.fd_bases.specs.dss_layout.Layout.{layout_of, size_of};
+ghost use Rattle.fd_outcome.specs.dss_ready.Ready.{HasPassed};
 ghost use Rattle.fd_settings.specs.Hours.{hour_powers};
-ghost use Rattle.fd_outside.specs.Emitted.{pieces_of};
-ghost use Rattle.fd_queue.specs.Controls.{Positions as PositionsView, tap_at};
-ghost use Rattle.fd_report.specs.Lines.{lines_of};
-ghost use Rattle.fd_report.specs.declared.faults.Fault.{Fault as FaultView};
-ghost use Rattle.fd_report.specs.Solutions.{IsOfSize};
-ghost use Rattle.fd_sample.specs.Probes.{HasDevice, positions_in};
-ghost use Rattle.fd_sample.specs.Regulators.{changer_of};
-ghost use Rattle.fd_settle.specs.Rounds.{seen};
-ghost use Rattle.fd_settle.specs.Start.{ArePositions};
-ghost use Rattle.fd_cert.specs.declared.ball.Certified.{Certified as CertifiedView};
-ghost use Rattle.fd_network.specs.Built.{IsBuiltOf};
+ghost use Rattle.fd_outcome.specs.fd_outside.Emitted.{pieces_of};
+ghost use Rattle.fd_outcome.specs.fd_queue.Controls.{Positions as PositionsView, tap_at};
+ghost use Rattle.fd_outcome.specs.fd_report.Lines.{lines_of};
+ghost use Rattle.fd_outcome.specs.fd_report.declared.faults.Fault.{Fault as FaultView};
+ghost use Rattle.fd_outcome.specs.fd_report.Solutions.{IsOfSize};
+ghost use Rattle.fd_outcome.specs.fd_sample.Probes.{HasDevice, positions_in};
+ghost use Rattle.fd_outcome.specs.fd_sample.Regulators.{changer_of};
+ghost use Rattle.fd_outcome.specs.fd_settle.Rounds.{seen};
+ghost use Rattle.fd_outcome.specs.fd_settle.Start.{ArePositions};
+ghost use Rattle.fd_outcome.specs.fd_cert.declared.ball.Certified.{Certified as CertifiedView};
+ghost use Rattle.fd_outcome.specs.fd_network.Built.{IsBuiltOf};
 ghost use Rattle.fd_outcome.specs.Settles.{Settle, settled};
 ghost use Rattle.fd_outcome.specs.Pages.{act_rows, act_rows_by, bank_rows, controls_of, is_bank, is_control, position_of, report_rows, round_rows, rounds_rows, solution_in, tap_rows, tap_rows_by};
 ghost use Rattle.fd_pages.specs.Hours.{IsPrintable, IsSettleAt, round_in, rounds_in, settle_made, end_with, Kept};
@@ -23,15 +23,12 @@ ghost use Rattle.fd_bases.specs.Bases.{bases_of};
 
 use crate::controls::is_control;
 use crate::page::SolvedHour;
-use dss_circuit::Circuit;
-use dss_layout::Layout;
-use dss_model::{Element, ElementName};
-use fd_bases::bases;
-use fd_devices::Positions;
-use fd_outside::Record;
-use fd_report::{Position, Solution, act_record, bank_record, base_record, records, tap_record};
-use fd_sample::{Probe, RegProbe, probes};
-use fd_settle::{Act, Round};
+use fd_bases::{Circuit, Element, ElementName, Layout, bases};
+use fd_outcome::{
+    Act, Position, Probe, Record, RegProbe, Round, Solution, act_record, bank_record, base_record,
+    probes, records, tap_record,
+};
+use fd_settings::Positions;
 use std::alloc::{AllocError, Global};
 
 // The places of a circuit's controls among its elements, in the script's order.

@@ -3,10 +3,9 @@ ghost use Rattle.fd_outcome.specs.Calls.{report};
 
 use crate::page::{Page, SolvedHour};
 use crate::records::{base_records, failed_records, settled_records};
-use dss_circuit::Circuit;
-use fd_cert::Certified;
-use fd_devices::Positions;
-use fd_outside::Record;
+use fd_bases::Circuit;
+use fd_outcome::{Certified, Record};
+use fd_settings::Positions;
 use std::alloc::{AllocError, Global};
 
 /// A record for each fact.

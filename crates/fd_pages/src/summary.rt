@@ -2,10 +2,9 @@
 ghost use Rattle.fd_pages.specs.Lines.{lines_of_text};
 
 use crate::page::{Page, SolvedHour};
-use dss_circuit::Circuit;
-use fd_cert::Certified;
-use fd_devices::Positions;
-use fd_outside::Record;
+use fd_bases::Circuit;
+use fd_outcome::{Certified, Record};
+use fd_settings::Positions;
 use std::alloc::{AllocError, Global};
 
 /// Lines of text alone: no text of a settle or of voltage bases.

@@ -2,13 +2,13 @@
 use Rattle.std.proofs.Common.{ℕ, ◌+◌, ◌*◌, ◌<◌, ◌≤◌, ◌^◌, List, [], ◌∷◌, ◌++◌, Option, Some, None, IfSome, map, arith}
 use Rattle.std.specs.List.{All, flat_map}
 use Rattle.std.proofs.lemmas.List.Elements.{All-append, All-cons, All-head, All-nil, All-tail, All-weaker}
-use Rattle.fd_arith.specs.declared.terms.Term.{Term}
-use Rattle.fd_arith.specs.declared.terms.NodeAt.{NodeAt}
-use Rattle.fd_arith.specs.declared.terms.NodeAt.TheVariants.{Ground, Node}
-use Rattle.fd_arith.specs.declared.terms.LoadModel.{LoadModel}
-use Rattle.fd_system.specs.declared.loads.LoadAt.{LoadAt}
-use Rattle.fd_system.specs.Contributions.{IsSmall}
-use Rattle.fd_system.specs.Residual.{IsPlace}
+use Rattle.fd_load.specs.fd_arith.declared.terms.Term.{Term}
+use Rattle.fd_load.specs.fd_arith.declared.terms.NodeAt.{NodeAt}
+use Rattle.fd_load.specs.fd_arith.declared.terms.NodeAt.TheVariants.{Ground, Node}
+use Rattle.fd_load.specs.fd_arith.declared.terms.LoadModel.{LoadModel}
+use Rattle.fd_load.specs.fd_system.declared.loads.LoadAt.{LoadAt}
+use Rattle.fd_load.specs.fd_system.Contributions.{IsSmall}
+use Rattle.fd_load.specs.fd_system.Residual.{IsPlace}
 use Rattle.fd_pattern.specs.Conditions.{HasMagnitude, IsAmong, IsLinear, IsServed}
 use Rattle.fd_pattern.specs.PatternPlaces.{cross, load_places, magnitude_places, node_places, place_of, places_of, terminal_places}
 use Rattle.fd_pattern.specs.Patterns.{IsInside}

@@ -1,8 +1,8 @@
 -- The coefficient matrix of the linear rows: at each place the sum of its contributions, each to the nearest unit of 2^-40.
 use Rattle.std.specs.Prelude.{ℕ, ℤ, pos, Bool, ◌&&◌, cond, eqb, List}
-use Rattle.fd_exact.specs.Sums.{list_z, list_n}
-use Rattle.fd_arith.specs.declared.terms.Term.{Term}
-use Rattle.fd_system.specs.Contributions.{term_units}
+use Rattle.fd_load.specs.fd_exact.Sums.{list_z, list_n}
+use Rattle.fd_load.specs.fd_arith.declared.terms.Term.{Term}
+use Rattle.fd_load.specs.fd_system.Contributions.{term_units}
 
 -- whether a contribution stands in this row and column
 abbrev pub stands_at : ℕ → ℕ → Term → Bool

@@ -1,17 +1,17 @@
 -- What a network asks of its parts, and its calls of a point.
 use Rattle.std.specs.Prelude.{◌≡◌, ℕ, ◌+◌, ◌*◌, ◌^◌, ◌<◌, ◌≤◌, ℤ, pos, neg_ℤ, ◌≤ℤ◌, nat_abs, false, true, List, length, Option, Some, None}
-use Rattle.fd_exact.specs.States.{part}
-use Rattle.fd_exact.specs.Sums.{list_n}
+use Rattle.fd_load.specs.fd_exact.States.{part}
+use Rattle.fd_load.specs.fd_exact.Sums.{list_n}
 use Rattle.std.specs.List.{All}
-use Rattle.fd_arith.specs.declared.terms.Term.{Term}
-use Rattle.fd_arith.specs.declared.terms.NodeAt.{NodeAt}
-use Rattle.fd_arith.specs.declared.terms.NodeAt.TheVariants.{Ground, Node}
-use Rattle.fd_system.specs.declared.constants.Constant.{Constant}
-use Rattle.fd_arith.specs.declared.terms.LoadModel.{LoadModel}
-use Rattle.fd_arith.specs.LoadModels.{has_magnitude}
-use Rattle.fd_system.specs.declared.loads.LoadAt.{LoadAt}
-use Rattle.fd_system.specs.Contributions.{AreSmall, IsWithin}
-use Rattle.fd_system.specs.Residual.{IsTerm}
+use Rattle.fd_load.specs.fd_arith.declared.terms.Term.{Term}
+use Rattle.fd_load.specs.fd_arith.declared.terms.NodeAt.{NodeAt}
+use Rattle.fd_load.specs.fd_arith.declared.terms.NodeAt.TheVariants.{Ground, Node}
+use Rattle.fd_load.specs.fd_system.declared.constants.Constant.{Constant}
+use Rattle.fd_load.specs.fd_arith.declared.terms.LoadModel.{LoadModel}
+use Rattle.fd_load.specs.fd_arith.LoadModels.{has_magnitude}
+use Rattle.fd_load.specs.fd_system.declared.loads.LoadAt.{LoadAt}
+use Rattle.fd_load.specs.fd_system.Contributions.{AreSmall, IsWithin}
+use Rattle.fd_load.specs.fd_system.Residual.{IsTerm}
 use Rattle.fd_load.specs.Current.{IsLoadPhase}
 use Rattle.fd_pattern.specs.Coefficients.{linear_entry}
 use Rattle.fd_pattern.specs.Terminals.{count_magnitude}

@@ -1,10 +1,10 @@
 -- The places of row and column at which contributions and slopes of part loads stand.
 use Rattle.std.specs.Prelude.{ℕ, ◌+◌, ◌*◌, List, [], ◌∷◌, ◌++◌, Option, Some, None, map}
 use Rattle.std.specs.List.{flat_map}
-use Rattle.fd_arith.specs.declared.terms.Term.{Term}
-use Rattle.fd_arith.specs.declared.terms.NodeAt.{NodeAt}
-use Rattle.fd_arith.specs.declared.terms.NodeAt.TheVariants.{Ground, Node}
-use Rattle.fd_system.specs.declared.loads.LoadAt.{LoadAt}
+use Rattle.fd_load.specs.fd_arith.declared.terms.Term.{Term}
+use Rattle.fd_load.specs.fd_arith.declared.terms.NodeAt.{NodeAt}
+use Rattle.fd_load.specs.fd_arith.declared.terms.NodeAt.TheVariants.{Ground, Node}
+use Rattle.fd_load.specs.fd_system.declared.loads.LoadAt.{LoadAt}
 
 abbrev pub place_of : Term → ℕ × ℕ
 place_of t = (t.row, t.col)

@@ -1,10 +1,10 @@
 -- The terminal of a part load: its voltage at a point, and what stands at its places in a row or a column.
 use Rattle.std.specs.Prelude.{ℕ, ◌+◌, ◌*◌, ◌<◌, ℤ, pos, neg_ℤ, ◌+ℤ◌, ◌-ℤ◌, cond, eqb, List, Option, Some, None, IfSome}
-use Rattle.fd_arith.specs.declared.terms.NodeAt.{NodeAt}
-use Rattle.fd_arith.specs.declared.terms.NodeAt.TheVariants.{Ground, Node}
-use Rattle.fd_system.specs.declared.loads.LoadAt.{LoadAt}
-use Rattle.fd_system.specs.Loads.{re_of, im_of, magnitude_of}
-use Rattle.fd_system.specs.Residual.{IsPlace, whole_state}
+use Rattle.fd_load.specs.fd_arith.declared.terms.NodeAt.{NodeAt}
+use Rattle.fd_load.specs.fd_arith.declared.terms.NodeAt.TheVariants.{Ground, Node}
+use Rattle.fd_load.specs.fd_system.declared.loads.LoadAt.{LoadAt}
+use Rattle.fd_load.specs.fd_system.Loads.{re_of, im_of, magnitude_of}
+use Rattle.fd_load.specs.fd_system.Residual.{IsPlace, whole_state}
 use Rattle.fd_load.specs.Current.{IsLoadPhase}
 
 -- ---- the voltage: the first node's less the second's, and the magnitude, at the point x

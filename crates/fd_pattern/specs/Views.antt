@@ -1,6 +1,6 @@
 -- What contracts see of a network, and where its unknowns stand.
 use Rattle.std.specs.Prelude.{ℕ, ◌+◌, ◌*◌, nat_lt, if◌then◌else◌}
-use Rattle.fd_system.specs.System.{StampView}
+use Rattle.fd_load.specs.fd_system.System.{StampView}
 use Rattle.fd_pattern.specs.declared.layout.Layout.{Layout}
 use Rattle.fd_pattern.specs.declared.layout.PlaceKind.{PlaceKind}
 use Rattle.fd_pattern.specs.declared.layout.PlaceKind.TheVariants.{Node, Branch, Magnitude}

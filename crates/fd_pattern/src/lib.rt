@@ -15,3 +15,10 @@ mod places;
 pub use layout::{Layout, PlaceKind};
 pub use pattern::Pattern;
 pub use places::{add_cross, add_load_places, add_node_places, add_term_places, places_of};
+
+// Handed on from the crates below.
+pub use fd_load::{
+    Constant, Fix, Interval, LoadAt, LoadPhase, Micro, NodeAt, SlopeRow, Slopes, Term,
+    add_constant, add_term, admittance, current, is_small, magnitude_row, near_over_coef,
+    near_units, rounded_slopes,
+};

@@ -1,12 +1,11 @@
 // The places of row and column at which contributions and slopes of part loads stand.
 ghost use Rattle.std.specs.Prelude.{◌≡◌, ◌<◌, ◌^◌, ◌*◌, ◌+◌, ◌++◌, IfOk, OnOk, map, All};
 ghost use Rattle.std.specs.List.{flat_map};
-ghost use Rattle.fd_system.specs.Contributions.{IsSmall};
+ghost use Rattle.fd_load.specs.fd_system.Contributions.{IsSmall};
 ghost use Rattle.fd_pattern.specs.PatternPlaces.{cross, load_places, magnitude_places, node_places, place_of, places_of as all_places, terminal_places};
 ghost use Rattle.fd_pattern.specs.Terminals.{IsConnected};
 
-use fd_arith::{NodeAt, Term};
-use fd_system::LoadAt;
+use fd_load::{LoadAt, NodeAt, Term};
 use std::alloc::{AllocError, Global};
 
 /// The places of these contributions, and of the slopes of these part loads.

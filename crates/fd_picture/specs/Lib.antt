@@ -13,3 +13,4 @@ pub mod Scales
 pub mod Strips
 pub mod Texts
 pub mod Units
+pub use Rattle.fd_outside.specs as fd_outside

@@ -43,3 +43,6 @@ pub use laws::{frame_law, marks_law};
 pub use page::draw;
 pub use reading::read_report;
 pub use report::{Base, Entry, Kind, Node, Nodes, Panel, Report};
+
+// Handed on from the crates below.
+pub use fd_outside::{FolderLibrary, Found, LibFault, Library, Sink, StdSink};

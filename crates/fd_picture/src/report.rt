@@ -1,6 +1,5 @@
 // A report as data.
-use fd_items::Items;
-use fd_outside::Bytes;
+use fd_outside::{Bytes, Items};
 use std::marker::Model;
 
 /// A node of a round: the name of its bus, its number there, and its low and high in microvolts.

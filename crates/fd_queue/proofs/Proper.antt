@@ -4,7 +4,7 @@ use Rattle.std.specs.Prelude.{int_lt, nat_lt}
 use Rattle.std.proofs.Math.Nat.{mul-le-mul_right, mul-le-mul}
 use Rattle.std.proofs.lemmas.Bool.Decides.{Decides-ltb, nat_tests}
 use Rattle.std.proofs.lemmas.Int.{ints}
-use Rattle.fd_exact.specs.Order.{scale}
+use Rattle.fd_arith.specs.fd_exact.Order.{scale}
 use Rattle.fd_queue.specs.Quantities.{magnitude, value, root_below, root_above}
 use Rattle.fd_queue.specs.Quantities.{IsProper}
 use Rattle.fd_queue.proofs.Quantities.{test_true, true_test}

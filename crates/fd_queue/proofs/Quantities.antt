@@ -4,8 +4,8 @@ use Rattle.std.specs.Prelude.{int_lt}
 use Rattle.std.proofs.Math.Nat.{mul-lt-mul_of_pos_right, lt_of_mul-lt-mul_right}
 use Rattle.std.proofs.lemmas.Bool.Decides.{Decides-ltb}
 use Rattle.std.proofs.lemmas.Int.{ints}
-use Rattle.fd_exact.specs.Integers.{next-mul, turn}
-use Rattle.fd_exact.specs.Order.{lt_of_scale, scale}
+use Rattle.fd_arith.specs.fd_exact.Integers.{next-mul, turn}
+use Rattle.fd_arith.specs.fd_exact.Order.{lt_of_scale, scale}
 use Rattle.fd_queue.specs.Quantities.{AtMost, magnitude, value, root_below, root_above}
 
 below_square : (n d m e s : ℕ) → 0 < d → 0 < e → n * e ≤ m * d → m < s * e → n < s * d

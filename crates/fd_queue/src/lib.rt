@@ -25,3 +25,8 @@ pub use laws::{
 };
 pub use queue::Queue;
 pub use verdict::Verdict;
+
+// Handed on from the crates below.
+pub use fd_arith::{
+    Coef, Cx, Enclose, Ends, Interval, Micro, NodeAt, NodesAt, Square, TapPair, floor_of_product,
+};

@@ -8,6 +8,7 @@ use Rattle.fd_regctl.specs.Settings.{RegSettings, regulator_at}
 use Rattle.fd_regctl.proofs.Regulators.{regulator_along}
 use Rattle.fd_regctl.proofs.Edges.{regulator_edges}
 use Rattle.fd_regctl.proofs.SettingSteps.{settings_steps}
+pub use Rattle.fd_queue.proofs.CallerLemmas as fd_queue
 
 -- what a regulator decides over an interval, it decides at every quantity between
 pub regulator_decided : (r : Regulator) → IsOfAll (regulator_verdict r)

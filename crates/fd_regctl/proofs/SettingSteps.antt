@@ -3,7 +3,7 @@ use Rattle.std.proofs.Common.{ℕ, suc, ◌+◌, ◌*◌, ◌/◌, ◌≤◌, �
 use Rattle.std.proofs.Math.Nat.{mul-le-mul_right, div-mul-le_self}
 use Rattle.std.proofs.lemmas.Nat.{le-div}
 use Rattle.std.proofs.lemmas.Int.{ints}
-use Rattle.fd_exact.specs.Rounding.{near_div}
+use Rattle.fd_queue.specs.fd_exact.Rounding.{near_div}
 use Rattle.fd_regctl.specs.Regulator.{AreSteps}
 use Rattle.fd_regctl.specs.Settings.{RegSettings, volt_step, regulator_at}
 

@@ -1,6 +1,6 @@
 -- What contracts see of the state of a regulator's control, and how the queue machine shows it.
 use Rattle.std.specs.Prelude.{◌≡◌, ℕ, ℤ, ◌+◌, ◌*◌, ◌≤◌, ◌<◌, ◌^◌, Bool, Option, None, length, get_or}
-use Rattle.fd_arith.specs.declared.terms.TapPair.{TapPair}
+use Rattle.fd_queue.specs.fd_arith.declared.terms.TapPair.{TapPair}
 use Rattle.fd_queue.specs.Decisions.{Decision, Raise, Hold, Lower, is_raise, steps_of}
 use Rattle.fd_queue.specs.Controls.{Regulates, TapChanger, no_taps, tap_of, set_tap, moved_tap}
 use Rattle.fd_queue.specs.Queue.{QueueView}

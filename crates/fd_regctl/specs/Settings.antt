@@ -1,6 +1,6 @@
 -- A regulator by its settings in the script, at a tap.
 use Rattle.std.specs.Prelude.{ℕ, ◌-◌, ◌*◌, ◌/◌, ◌^◌, max, pos, ◌+ℤ◌, ◌-ℤ◌}
-use Rattle.fd_exact.specs.Rounding.{near_div}
+use Rattle.fd_queue.specs.fd_exact.Rounding.{near_div}
 use Rattle.fd_queue.specs.Controls.{TapChanger}
 use Rattle.fd_regctl.specs.Regulator.{Regulator}
 

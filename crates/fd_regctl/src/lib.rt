@@ -18,3 +18,9 @@ pub use laws::{
     regulator_decided_law, regulator_edge_law, regulator_law, settings_law, steps_law, tap_law,
 };
 pub use state::RegState;
+
+// Handed on from the crates below.
+pub use fd_queue::{
+    Coef, Cx, Enclose, Ends, Entry, Interval, Micro, NodeAt, NodesAt, Queue, Square, TapPair,
+    Verdict, count_law, floor_of_product, own_law, queue_law, room_law, sampled_law, spare_law,
+};

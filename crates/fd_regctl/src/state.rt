@@ -7,8 +7,7 @@ ghost use Rattle.fd_queue.specs.Queue.{has_entry};
 ghost use Rattle.fd_queue.specs.Verdicts.{decision, is_decided};
 ghost use Rattle.fd_regctl.specs.RegState.{ActsInMachine, CanMove, Reacts, moved_pair};
 
-use fd_arith::TapPair;
-use fd_queue::{Queue, Verdict};
+use fd_queue::{Queue, TapPair, Verdict};
 use std::marker::Model;
 
 /// The settings of a regulator's control, its latest verdict and its latest move. Delays are in milliseconds, the tap

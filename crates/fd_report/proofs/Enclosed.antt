@@ -2,8 +2,8 @@
 use Rattle.std.proofs.Common.{◌≡◌, ℕ, ◌+◌, ◌-◌, ◌*◌, ◌≤◌, ℤ, pos, ◌+ℤ◌, ◌-ℤ◌, ◌*ℤ◌, nat_abs, arith}
 use Rattle.std.proofs.lemmas.Int.{ints, unsigned_abs-mul}
 use Rattle.std.proofs.Math.Nat.{mul-le-mul_right}
-use Rattle.fd_exact.specs.Integers.{abs_add}
-use Rattle.fd_exact.specs.States.{part}
+use Rattle.fd_inverse.specs.fd_exact.Integers.{abs_add}
+use Rattle.fd_inverse.specs.fd_exact.States.{part}
 use Rattle.fd_report.specs.Solutions.{number_at}
 use Rattle.fd_report.specs.Sizes.{greatest_part, greatest_size, greatest_square, least_part, least_size, least_square, square}
 use Rattle.fd_report.specs.Enclosed.{SizeLaw}

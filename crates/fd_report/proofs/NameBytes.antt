@@ -5,7 +5,7 @@ use Rattle.std.specs.Str.{IsUtf8, chars}
 use Rattle.std.proofs.Math.Utf8.{encode}
 use Rattle.std.proofs.lemmas.Fmt.{IsAscii-decimal}
 use Rattle.std.proofs.lemmas.Str.{encodes-IsAscii, encodes-append, encodes-chars}
-use Rattle.dss_model.specs.Names.{bytes}
+use Rattle.dss_script.specs.dss_model.Names.{bytes}
 
 -- a bus, a dot, and a number
 pub bytes_of_node : (bus : List ℕ) (number : ℕ) → number < 2 ^ 64 → bytes bus ++ 46 ∷ decimal number ≡ bytes (bus ++ 46 ∷ decimal number)

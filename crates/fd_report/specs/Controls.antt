@@ -1,10 +1,10 @@
 -- The records of controls and of what they leave, as lists of fields.
 use Rattle.std.specs.Prelude.{ℕ, ℤ, Bool, true, false, List, [], ◌∷◌, codes}
 use Rattle.std.specs.Fmt.{signed_decimal}
-use Rattle.dss_model.specs.declared.names.ElementName.{ElementName}
+use Rattle.dss_script.specs.dss_model.declared.names.ElementName.{ElementName}
 use Rattle.fd_report.specs.declared.controls.Position.{Position}
 use Rattle.fd_report.specs.declared.controls.Position.TheVariants.{Tap, Open, Closed}
-use Rattle.fd_decimal.specs.Decimals.{fixed_text}
+use Rattle.dss_script.specs.fd_decimal.Decimals.{fixed_text}
 use Rattle.fd_report.specs.Names.{element_field}
 
 -- a time in whole milliseconds: seconds with three decimals

@@ -1,6 +1,6 @@
 -- What the least and the greatest size within the radii say of other states.
 use Rattle.std.specs.Prelude.{ℕ, ◌+◌, ◌*◌, ◌≤◌, nat_abs}
-use Rattle.fd_exact.specs.States.{State, away, part}
+use Rattle.fd_inverse.specs.fd_exact.States.{State, away, part}
 use Rattle.fd_report.specs.Sizes.{greatest_size, least_size, square}
 use Rattle.fd_report.specs.Solutions.{SolutionView, number_at}
 

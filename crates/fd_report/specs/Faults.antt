@@ -2,9 +2,9 @@
 -- by its name.
 use Rattle.std.specs.Prelude.{ℕ, ℤ, List, [], ◌∷◌, unsigned_abs, codes, Option, Some, None}
 use Rattle.std.specs.Fmt.{decimal}
-use Rattle.dss_model.specs.Names.{bytes}
-use Rattle.dss_model.specs.declared.fault.ModelFault.{ModelFault}
-use Rattle.dss_model.specs.declared.fault.ModelFault.TheVariants as model
+use Rattle.dss_script.specs.dss_model.Names.{bytes}
+use Rattle.dss_script.specs.dss_model.declared.fault.ModelFault.{ModelFault}
+use Rattle.dss_script.specs.dss_model.declared.fault.ModelFault.TheVariants as model
 use Rattle.dss_script.specs.declared.fault.ScriptCause.{ScriptCause}
 use Rattle.dss_script.specs.declared.fault.ScriptCause.TheVariants as script
 use Rattle.fd_cert.specs.declared.rule.Rule.{Rule}
@@ -18,7 +18,7 @@ use Rattle.fd_report.specs.declared.faults.Fault.TheVariants as fault
 use Rattle.fd_report.specs.declared.faults.Scale.{Scale}
 use Rattle.fd_report.specs.declared.faults.Scale.TheVariants.{Micro, Nano}
 use Rattle.fd_report.specs.Names.{element_field}
-use Rattle.fd_decimal.specs.Decimals.{size_text, micro_text, nano_text}
+use Rattle.dss_script.specs.fd_decimal.Decimals.{size_text, micro_text, nano_text}
 
 -- ---- words
 

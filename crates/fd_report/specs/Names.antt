@@ -1,10 +1,10 @@
 -- The names of nodes, elements and unknowns, as records have them. A field is a list of bytes.
 use Rattle.std.specs.Prelude.{ℕ, List, [], unwrap_or}
-use Rattle.dss_model.specs.Names.{bytes}
-use Rattle.dss_model.specs.declared.names.ElementName.{ElementName}
-use Rattle.dss_layout.specs.declared.nodes.NodeName.{NodeName}
-use Rattle.dss_layout.specs.Layout.{LayoutView}
-use Rattle.dss_layout.specs.UnknownNames.{element_text, node_text, unknown_name}
+use Rattle.dss_script.specs.dss_model.Names.{bytes}
+use Rattle.dss_script.specs.dss_model.declared.names.ElementName.{ElementName}
+use Rattle.fd_sample.specs.dss_layout.declared.nodes.NodeName.{NodeName}
+use Rattle.fd_sample.specs.dss_layout.Layout.{LayoutView}
+use Rattle.fd_sample.specs.dss_layout.UnknownNames.{element_text, node_text, unknown_name}
 
 -- bus and number, parted by a dot
 abbrev pub node_field : NodeName → List ℕ

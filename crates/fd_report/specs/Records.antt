@@ -2,11 +2,11 @@
 use Rattle.std.specs.Prelude.{ℕ, ◌+◌, ◌*◌, List, [], ◌∷◌, ◌++◌, length, map, codes}
 use Rattle.std.specs.List.{enumerate_from}
 use Rattle.std.specs.Fmt.{decimal}
-use Rattle.fd_exact.specs.States.{part}
-use Rattle.dss_layout.specs.declared.nodes.NodeName.{NodeName}
-use Rattle.dss_layout.specs.declared.nodes.PhaseName.{PhaseName}
-use Rattle.dss_layout.specs.Layout.{LayoutView, complex_count}
-use Rattle.fd_decimal.specs.Decimals.{micro_text, size_text}
+use Rattle.fd_inverse.specs.fd_exact.States.{part}
+use Rattle.fd_sample.specs.dss_layout.declared.nodes.NodeName.{NodeName}
+use Rattle.fd_sample.specs.dss_layout.declared.nodes.PhaseName.{PhaseName}
+use Rattle.fd_sample.specs.dss_layout.Layout.{LayoutView, complex_count}
+use Rattle.dss_script.specs.fd_decimal.Decimals.{micro_text, size_text}
 use Rattle.fd_report.specs.Names.{node_field, element_field}
 use Rattle.fd_report.specs.Sizes.{greatest_size, least_size}
 use Rattle.fd_report.specs.Solutions.{SolutionView, number_at}

@@ -1,6 +1,6 @@
 -- The least and the greatest size of a phasor whose parts lie within radii, in whole micro-units.
 use Rattle.std.specs.Prelude.{ℕ, ◌+◌, ◌-◌, ◌*◌, ℤ, nat_abs}
-use Rattle.fd_exact.specs.States.{part}
+use Rattle.fd_inverse.specs.fd_exact.States.{part}
 use Rattle.fd_sample.specs.Roots.{root_down, root_up}
 use Rattle.fd_report.specs.Solutions.{SolutionView, number_at}
 

@@ -1,6 +1,6 @@
 -- The numbers of a solution, by place, in whole microvolts and microamperes.
 use Rattle.std.specs.Prelude.{◌≡◌, ℕ, ◌<◌, ◌≤◌, ◌^◌, ℤ, nat_abs, List, length, get_or}
-use Rattle.fd_exact.specs.States.{part}
+use Rattle.fd_inverse.specs.fd_exact.States.{part}
 
 -- a state, the radii within which others lie, the half-widths of the box of which these speak, and the mismatch of each
 -- row

@@ -4,7 +4,7 @@ ghost use Rattle.fd_report.specs.Accepted.{accepted_fields};
 ghost use Rattle.fd_report.specs.Lines.{line_of};
 
 use crate::line::record_of;
-use fd_outside::Record;
+use dss_script::Record;
 use std::alloc::{AllocError, Global};
 
 /// The record of a certificate of so many blocks that is accepted, as `certificate,accepted,24`.

@@ -1,13 +1,11 @@
 // The records of the voltage bases of buses.
 ghost use Rattle.std.specs.Prelude.{◌≡◌, ◌+◌, ◌*◌, ◌/◌, ◌<◌, ◌≤◌, ◌^◌, IfOk};
-ghost use Rattle.fd_exact.specs.Rounding.{near_div};
+ghost use Rattle.fd_inverse.specs.fd_exact.Rounding.{near_div};
 ghost use Rattle.fd_report.specs.Bases.{base_fields};
 ghost use Rattle.fd_report.specs.Lines.{line_of};
 
 use crate::line::record_of;
-use dss_lexer::Text;
-use fd_decimal::micro_text;
-use fd_outside::Record;
+use dss_script::{Record, Text, micro_text};
 use std::alloc::{AllocError, Global};
 
 // A size in units of which a thousand are one, rounded to the nearest, a tie away from zero.

@@ -5,9 +5,7 @@ ghost use Rattle.fd_report.specs.Controls.{act_fields, bank_fields, bank_positio
 
 use crate::line::record_of;
 use crate::names::element_field;
-use dss_model::ElementName;
-use fd_decimal::fixed_text;
-use fd_outside::Record;
+use dss_script::{ElementName, Record, fixed_text};
 use std::alloc::{AllocError, Global};
 
 /// Where a control leaves what it moves.

@@ -1,22 +1,20 @@
 // The faults in which a command line can end: the record and the exit status of each.
 ghost use Rattle.std.specs.Fmt.{decimal};
 ghost use Rattle.std.specs.Prelude.{◌≡◌, ◌<◌, ◌∷◌, [], codes, IfOk};
-ghost use Rattle.dss_model.specs.Names.{bytes};
-ghost use Rattle.dss_layout.specs.Layout.{size_of};
+ghost use Rattle.dss_script.specs.dss_model.Names.{bytes};
+ghost use Rattle.fd_sample.specs.dss_layout.Layout.{size_of};
 ghost use Rattle.fd_report.specs.Lines.{line_of};
 ghost use Rattle.fd_report.specs.Names.{name_at};
 ghost use Rattle.fd_report.specs.Faults.{bound_text, cause_text, fields, model_text, rule_word, scaled_text, script_text, status, stop_word};
 
 use crate::line::record_of;
 use crate::names::element_field;
-use dss_layout::Layout;
-use dss_lexer::Text;
-use dss_model::{ElementName, ModelFault, Place};
-use dss_script::ScriptCause;
+use dss_script::{
+    ElementName, ModelFault, Place, Record, ScriptCause, Text, micro_text, nano_text, size_text,
+};
 use fd_cert::Rule;
-use fd_decimal::{micro_text, nano_text, size_text};
 use fd_inverse::Stop;
-use fd_outside::Record;
+use fd_sample::Layout;
 use std::alloc::{AllocError, Global};
 
 /// Why a script is refused.

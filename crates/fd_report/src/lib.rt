@@ -37,3 +37,8 @@ pub use faults::{Cause, Fault, Scale, name_at, record, status};
 pub use laws::size_law;
 pub use report::records;
 pub use solution::Solution;
+
+// Handed on from the crates below.
+pub use dss_script::{Session, SessionFault, said_law, said_room_law, size_text};
+pub use fd_cert::Certified;
+pub use fd_sample::{Network, Probe, RegProbe, probes};

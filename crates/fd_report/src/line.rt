@@ -3,7 +3,7 @@ ghost use Rattle.std.specs.Prelude.{◌≡◌, ◌≤◌, ◌++◌, IfOk, OnOk, 
 ghost use Rattle.fd_report.specs.Lines.{IsReady, line_of, text_of};
 
 use csv::{Writer, WriterBuilder};
-use fd_outside::{Bytes, Record};
+use dss_script::{Bytes, Record};
 use std::alloc::{AllocError, Global};
 
 /// Writes records one behind another by one csv writer.

@@ -2,8 +2,8 @@
 ghost use Rattle.std.specs.Prelude.{◌≡◌, ◌∷◌, ◌++◌, IfOk};
 ghost use Rattle.fd_report.specs.Names.{element_field, node_field};
 
-use dss_layout::NodeName;
-use dss_model::ElementName;
+use dss_script::ElementName;
+use fd_sample::NodeName;
 use itoa::Buffer;
 use std::alloc::{AllocError, Global};
 

@@ -1,7 +1,7 @@
 // The records of a solution.
 ghost use Rattle.std.specs.Prelude.{◌≡◌, ◌++◌, ◌+◌, ◌*◌, ◌<◌, ◌≤◌, length, IfOk, OnOk};
-ghost use Rattle.fd_outside.specs.Emitted.{pieces_of};
-ghost use Rattle.dss_layout.specs.Layout.{size_of};
+ghost use Rattle.dss_script.specs.fd_outside.Emitted.{pieces_of};
+ghost use Rattle.fd_sample.specs.dss_layout.Layout.{size_of};
 ghost use Rattle.fd_report.specs.Lines.{IsReady, line_of, lines_of};
 ghost use Rattle.fd_report.specs.Records.{branch_fields, branch_records, magnitude_fields, magnitude_records, node_fields, node_records, report_of, solution_fields};
 ghost use Rattle.fd_report.specs.Solutions.{IsOfSize};
@@ -10,9 +10,8 @@ use crate::line::RecordWriter;
 use crate::names::{element_field, node_field};
 use crate::solution::Solution;
 use crate::texts::{complex_texts, interval_texts, value_texts};
-use dss_layout::{Layout, NodeName, PhaseName};
-use fd_decimal::size_text;
-use fd_outside::Record;
+use dss_script::{Record, size_text};
+use fd_sample::{Layout, NodeName, PhaseName};
 use itoa::Buffer;
 use std::alloc::{AllocError, Global};
 

@@ -6,7 +6,7 @@ ghost use Rattle.fd_report.specs.Texts.{intervals_in, mismatches_in, parts_in, v
 
 use crate::sizes::{greatest_size, least_size};
 use crate::solution::Solution;
-use fd_decimal::{micro_text, size_text};
+use dss_script::{micro_text, size_text};
 use std::alloc::{AllocError, Global};
 
 /// The parts of a complex unknown and the mismatches of its rows.

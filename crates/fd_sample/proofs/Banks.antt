@@ -3,22 +3,22 @@ use Rattle.std.proofs.Common.{◌≡◌, ℕ, zero, suc, ◌+◌, ◌<◌, ◌�
 use Rattle.std.specs.Prelude.{All, IsSome, IfSome}
 use Rattle.std.proofs.lemmas.List.{get_or_past}
 use Rattle.std.proofs.lemmas.List.Elements.{All-get_or}
-use Rattle.fd_exact.specs.Fractions.{fraction, ◌⊕◌, ◌⊗◌, opposite}
-use Rattle.fd_exact.specs.States.{State}
-use Rattle.fd_exact.specs.Sums.{sum_f}
-use Rattle.fd_arith.specs.Interval.{Bounds, Holds, negation, area_of}
-use Rattle.fd_arith.specs.Capping.{point-holds}
-use Rattle.fd_arith.specs.declared.cx.Cx.{Cx}
-use Rattle.fd_arith.specs.declared.terms.NodeAt.{NodeAt}
-use Rattle.fd_arith.specs.declared.terms.NodeAt.TheVariants.{Ground, Node}
-use Rattle.fd_system.specs.Complex.{Complex, negative}
-use Rattle.fd_system.specs.Equations.{unknown}
-use Rattle.fd_system.specs.Residual.{IsPlace}
-use Rattle.fd_system.specs.Terminals.{node_of}
-use Rattle.fd_queue.specs.Decisions.{Decision, IsEdge}
-use Rattle.fd_queue.specs.Quantities.{Quantity, value}
-use Rattle.fd_queue.specs.Verdicts.{decision}
-use Rattle.fd_queue.specs.declared.verdict.Verdict.{Verdict}
+use Rattle.fd_network.specs.fd_exact.Fractions.{fraction, ◌⊕◌, ◌⊗◌, opposite}
+use Rattle.fd_network.specs.fd_exact.States.{State}
+use Rattle.fd_network.specs.fd_exact.Sums.{sum_f}
+use Rattle.fd_regctl.specs.fd_arith.Interval.{Bounds, Holds, negation, area_of}
+use Rattle.fd_regctl.specs.fd_arith.Capping.{point-holds}
+use Rattle.fd_regctl.specs.fd_arith.declared.cx.Cx.{Cx}
+use Rattle.fd_regctl.specs.fd_arith.declared.terms.NodeAt.{NodeAt}
+use Rattle.fd_regctl.specs.fd_arith.declared.terms.NodeAt.TheVariants.{Ground, Node}
+use Rattle.fd_network.specs.fd_system.Complex.{Complex, negative}
+use Rattle.fd_network.specs.fd_system.Equations.{unknown}
+use Rattle.fd_network.specs.fd_system.Residual.{IsPlace}
+use Rattle.fd_network.specs.fd_system.Terminals.{node_of}
+use Rattle.fd_regctl.specs.fd_queue.Decisions.{Decision, IsEdge}
+use Rattle.fd_regctl.specs.fd_queue.Quantities.{Quantity, value}
+use Rattle.fd_regctl.specs.fd_queue.Verdicts.{decision}
+use Rattle.fd_regctl.specs.fd_queue.declared.verdict.Verdict.{Verdict}
 use Rattle.fd_capctl.proofs.CallerLemmas.{bank_decided, bank_edged}
 use Rattle.fd_sample.specs.declared.probe.CapProbe.{CapProbe}
 use Rattle.fd_sample.specs.declared.probe.LineEnd.{LineEnd}

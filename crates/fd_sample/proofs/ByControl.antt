@@ -1,9 +1,9 @@
 -- The sample of a control by what it controls.
 use Rattle.std.proofs.Common.{ℕ, ℤ, Bool, List}
 use Rattle.std.specs.Prelude.{IsSome}
-use Rattle.fd_arith.specs.declared.terms.TapPair.{TapPair}
-use Rattle.fd_queue.specs.Controls.{Positions, pair_at, is_closed}
-use Rattle.fd_queue.specs.declared.verdict.Verdict.{Verdict}
+use Rattle.fd_regctl.specs.fd_arith.declared.terms.TapPair.{TapPair}
+use Rattle.fd_regctl.specs.fd_queue.Controls.{Positions, pair_at, is_closed}
+use Rattle.fd_regctl.specs.fd_queue.declared.verdict.Verdict.{Verdict}
 use Rattle.fd_sample.specs.declared.probe.CapProbe.{CapProbe}
 use Rattle.fd_sample.specs.declared.probe.RegProbe.{RegProbe}
 use Rattle.fd_sample.specs.declared.probe.Probe.{Probe}

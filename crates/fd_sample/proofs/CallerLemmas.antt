@@ -1,10 +1,10 @@
 -- Lemmas that the crates above use.
 use Rattle.std.proofs.Common.{◌≡◌, ℕ, Ok}
-use Rattle.fd_arith.specs.Limits.{IsRoot}
-use Rattle.fd_queue.specs.Decisions.{Decision}
-use Rattle.fd_queue.specs.Verdicts.{decision}
-use Rattle.fd_queue.specs.declared.verdict.Verdict.{Verdict}
-use Rattle.fd_queue.specs.declared.verdict.Verdict.TheVariants as verdict
+use Rattle.fd_regctl.specs.fd_arith.Limits.{IsRoot}
+use Rattle.fd_regctl.specs.fd_queue.Decisions.{Decision}
+use Rattle.fd_regctl.specs.fd_queue.Verdicts.{decision}
+use Rattle.fd_regctl.specs.fd_queue.declared.verdict.Verdict.{Verdict}
+use Rattle.fd_regctl.specs.fd_queue.declared.verdict.Verdict.TheVariants as verdict
 use Rattle.fd_sample.specs.Circuits.{ProbesLaw}
 use Rattle.fd_sample.specs.Decided.{SampleLaw, sample_of}
 use Rattle.fd_sample.specs.Roots.{root_down}
@@ -12,6 +12,8 @@ use Rattle.fd_sample.proofs.Decided.{every_state}
 use Rattle.fd_sample.proofs.Kept.{are_probes}
 use Rattle.fd_sample.proofs.SquareRoots.{root_of}
 pub use Rattle.fd_sample.proofs.SquareRoots.{is_root, is_root_up}
+pub use Rattle.fd_network.proofs.CallerLemmas.dss_ready as dss_ready
+pub use Rattle.fd_regctl.proofs.CallerLemmas.fd_queue as fd_queue
 
 -- ---- square roots
 

@@ -3,15 +3,15 @@ use Rattle.std.proofs.Common.{◌≡◌, ℕ, ℤ, pos, List, length, Option, So
 use Rattle.std.specs.Prelude.{All}
 use Rattle.std.proofs.lemmas.List.Elements.{All-get_or}
 use Rattle.std.proofs.lemmas.Option.{some_pair_parts}
-use Rattle.fd_exact.specs.States.{State}
-use Rattle.fd_arith.specs.Limits.{non_negative}
-use Rattle.fd_arith.specs.Interval.{Bounds}
-use Rattle.fd_xfmr.specs.Leakage.{AreTaps}
-use Rattle.fd_queue.specs.Controls.{Positions, is_closed, no_taps, pair_at}
-use Rattle.fd_queue.specs.Decisions.{Decision}
-use Rattle.fd_queue.specs.Quantities.{Quantity}
-use Rattle.fd_queue.specs.declared.verdict.Verdict.{Verdict}
-use Rattle.fd_queue.specs.declared.verdict.Verdict.TheVariants as verdict
+use Rattle.fd_network.specs.fd_exact.States.{State}
+use Rattle.fd_regctl.specs.fd_arith.Limits.{non_negative}
+use Rattle.fd_regctl.specs.fd_arith.Interval.{Bounds}
+use Rattle.fd_network.specs.fd_xfmr.Leakage.{AreTaps}
+use Rattle.fd_regctl.specs.fd_queue.Controls.{Positions, is_closed, no_taps, pair_at}
+use Rattle.fd_regctl.specs.fd_queue.Decisions.{Decision}
+use Rattle.fd_regctl.specs.fd_queue.Quantities.{Quantity}
+use Rattle.fd_regctl.specs.fd_queue.declared.verdict.Verdict.{Verdict}
+use Rattle.fd_regctl.specs.fd_queue.declared.verdict.Verdict.TheVariants as verdict
 use Rattle.fd_capctl.specs.Bank.{Kind, Voltage, Current, Kvar}
 use Rattle.fd_sample.specs.declared.probe.Probe.{Probe}
 use Rattle.fd_sample.specs.declared.probe.Probe.TheVariants as probe

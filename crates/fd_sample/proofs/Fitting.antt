@@ -3,20 +3,20 @@ use Rattle.std.proofs.Common.{◌≤◌, ◌+◌, ◌*◌, ◌-◌, ◌==◌, �
 use Rattle.std.specs.Prelude.{All}
 use Rattle.std.proofs.Math.Nat.{div-le_self, le-div_iff_mul-le}
 use Rattle.std.proofs.lemmas.Int.{ints}
-use Rattle.fd_arith.specs.declared.terms.Ends.{Ends}
-use Rattle.fd_devices.specs.Connections.{conn_of}
-use Rattle.fd_system.proofs.CallerLemmas.{phase_volts_between}
-use Rattle.dss_model.specs.InRange.{ElementInRange, RegControlInRange, TransformerInRange, WindingInRange}
-use Rattle.dss_model.specs.declared.capcontrol.CapControl.{CapControl}
-use Rattle.dss_model.specs.declared.element.Element.TheVariants as the
-use Rattle.dss_model.specs.declared.names.Class.TheVariants as class
-use Rattle.dss_model.specs.declared.regcontrol.RegControl.{RegControl}
-use Rattle.dss_model.specs.declared.transformer.Transformer.{Transformer}
-use Rattle.dss_model.specs.declared.transformer.Winding.{Winding}
-use Rattle.dss_circuit.specs.Circuit.{CircuitView}
-use Rattle.dss_circuit.specs.WellFormed.{IsEntry}
-use Rattle.dss_layout.specs.Layout.{complex_count, ends_of, layout_of, size_of}
-use Rattle.dss_ready.specs.Ready.{HasPassed}
+use Rattle.fd_regctl.specs.fd_arith.declared.terms.Ends.{Ends}
+use Rattle.fd_network.specs.fd_elements.Connections.{conn_of}
+use Rattle.fd_network.proofs.CallerLemmas.fd_system.{phase_volts_between}
+use Rattle.fd_network.specs.dss_model.InRange.{ElementInRange, RegControlInRange, TransformerInRange, WindingInRange}
+use Rattle.fd_network.specs.dss_model.declared.capcontrol.CapControl.{CapControl}
+use Rattle.fd_network.specs.dss_model.declared.element.Element.TheVariants as the
+use Rattle.fd_network.specs.dss_model.declared.names.Class.TheVariants as class
+use Rattle.fd_network.specs.dss_model.declared.regcontrol.RegControl.{RegControl}
+use Rattle.fd_network.specs.dss_model.declared.transformer.Transformer.{Transformer}
+use Rattle.fd_network.specs.dss_model.declared.transformer.Winding.{Winding}
+use Rattle.fd_network.specs.dss_circuit.Circuit.{CircuitView}
+use Rattle.fd_network.specs.dss_circuit.WellFormed.{IsEntry}
+use Rattle.fd_network.specs.dss_layout.Layout.{complex_count, ends_of, layout_of, size_of}
+use Rattle.fd_network.specs.dss_ready.Ready.{HasPassed}
 use Rattle.fd_sample.specs.declared.probe.CapProbe.{CapProbe}
 use Rattle.fd_sample.specs.declared.probe.RegProbe.{RegProbe}
 use Rattle.fd_sample.specs.Banks.{IsCapProbe}

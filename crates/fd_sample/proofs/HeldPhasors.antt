@@ -2,14 +2,14 @@
 use Rattle.std.proofs.Common.{◌≡◌, ℕ, ◌<◌, ◌^◌, ℤ, pos, negsuc, ◌+ℤ◌, ◌*ℤ◌, ◌≤ℤ◌, nat_abs, refl, arith}
 use Rattle.std.proofs.Math.Nat.{mul-pos}
 use Rattle.std.proofs.lemmas.Int.{ints}
-use Rattle.fd_exact.specs.Fractions.{Fraction, fraction, ◌⊕◌, ◌⊖◌, ◌⊗◌, opposite}
-use Rattle.fd_exact.specs.Order.{scale}
-use Rattle.fd_arith.specs.Interval.{Bounds, Holds, HoldsCoef, sum, difference, negation, product, area_of, square_of}
-use Rattle.fd_arith.specs.Enclosing.{sum-holds, difference-holds, negation-holds}
-use Rattle.fd_arith.specs.Products.{product-holds, area-holds, square-holds}
-use Rattle.fd_arith.specs.Capping.{outward-holds}
-use Rattle.fd_arith.specs.declared.cx.Cx.{Cx}
-use Rattle.fd_system.specs.Complex.{Complex, ◌⊟◌, ◌⊠◌, negative}
+use Rattle.fd_network.specs.fd_exact.Fractions.{Fraction, fraction, ◌⊕◌, ◌⊖◌, ◌⊗◌, opposite}
+use Rattle.fd_network.specs.fd_exact.Order.{scale}
+use Rattle.fd_regctl.specs.fd_arith.Interval.{Bounds, Holds, HoldsCoef, sum, difference, negation, product, area_of, square_of}
+use Rattle.fd_regctl.specs.fd_arith.Enclosing.{sum-holds, difference-holds, negation-holds}
+use Rattle.fd_regctl.specs.fd_arith.Products.{product-holds, area-holds, square-holds}
+use Rattle.fd_regctl.specs.fd_arith.Capping.{outward-holds}
+use Rattle.fd_regctl.specs.fd_arith.declared.cx.Cx.{Cx}
+use Rattle.fd_network.specs.fd_system.Complex.{Complex, ◌⊟◌, ◌⊠◌, negative}
 use Rattle.fd_sample.specs.Phasors.{scaled_by, square_size, factor, negative_interval, difference_interval, scaled_interval, product_interval, square_interval}
 
 -- a positive denominator, and held

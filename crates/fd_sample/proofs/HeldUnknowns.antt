@@ -1,18 +1,18 @@
 -- The intervals of a ball hold the unknowns of its states.
 use Rattle.std.proofs.Common.{ℕ, ◌+◌, ◌*◌, ◌<◌, ◌≤◌, ℤ, pos, ◌+ℤ◌, ◌-ℤ◌, ◌*ℤ◌, ◌≤ℤ◌, nat_abs, List, length, lit<, arith}
 use Rattle.std.proofs.lemmas.Int.{ints}
-use Rattle.fd_exact.specs.Fractions.{fraction, nothing}
-use Rattle.fd_exact.specs.Integers.{add-mul, sub-mul, comm}
-use Rattle.fd_exact.specs.States.{State, part}
-use Rattle.fd_arith.specs.Interval.{Holds}
-use Rattle.fd_arith.specs.Enclosing.{capped-holds}
-use Rattle.fd_arith.specs.Capping.{point-holds}
-use Rattle.fd_arith.specs.declared.terms.NodeAt.{NodeAt}
-use Rattle.fd_arith.specs.declared.terms.NodeAt.TheVariants.{Ground, Node}
-use Rattle.fd_system.specs.declared.terminals.NodePair.{NodePair}
-use Rattle.fd_system.specs.Equations.{unknown}
-use Rattle.fd_system.specs.Residual.{IsPlace}
-use Rattle.fd_xfmr.specs.Transformer.{across}
+use Rattle.fd_network.specs.fd_exact.Fractions.{fraction, nothing}
+use Rattle.fd_network.specs.fd_exact.Integers.{add-mul, sub-mul, comm}
+use Rattle.fd_network.specs.fd_exact.States.{State, part}
+use Rattle.fd_regctl.specs.fd_arith.Interval.{Holds}
+use Rattle.fd_regctl.specs.fd_arith.Enclosing.{capped-holds}
+use Rattle.fd_regctl.specs.fd_arith.Capping.{point-holds}
+use Rattle.fd_regctl.specs.fd_arith.declared.terms.NodeAt.{NodeAt}
+use Rattle.fd_regctl.specs.fd_arith.declared.terms.NodeAt.TheVariants.{Ground, Node}
+use Rattle.fd_network.specs.fd_system.declared.terminals.NodePair.{NodePair}
+use Rattle.fd_network.specs.fd_system.Equations.{unknown}
+use Rattle.fd_network.specs.fd_system.Residual.{IsPlace}
+use Rattle.fd_network.specs.fd_xfmr.Transformer.{across}
 use Rattle.fd_sample.proofs.HeldPhasors.{AreHeld, less_held}
 use Rattle.fd_sample.specs.Balls.{radius_at, IsInBall, place_interval, interval_at, interval_across}
 

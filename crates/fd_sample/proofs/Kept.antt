@@ -8,25 +8,25 @@ use Rattle.std.proofs.lemmas.Bool.{and_from, eq-eqb}
 use Rattle.std.proofs.lemmas.Bool.Decides.{nat_tests}
 use Rattle.std.proofs.lemmas.List.{take_all}
 use Rattle.std.proofs.lemmas.Option.{same_Some}
-use Rattle.fd_exact.specs.Sums.{list_n}
-use Rattle.dss_model.specs.InRange.{ElementInRange, TransformerInRange, WindingInRange}
-use Rattle.dss_model.specs.declared.capcontrol.CapControl.{CapControl}
-use Rattle.dss_model.specs.declared.element.Element.{Element}
-use Rattle.dss_model.specs.declared.element.Element.TheVariants as the
-use Rattle.dss_model.specs.declared.names.Class.TheVariants as class
-use Rattle.dss_model.specs.declared.names.ElementName.{ElementName}
-use Rattle.dss_model.specs.declared.regcontrol.RegControl.{RegControl}
-use Rattle.dss_model.specs.declared.transformer.Transformer.{Transformer}
-use Rattle.dss_circuit.specs.Circuit.{CircuitView}
-use Rattle.dss_circuit.specs.WellFormed.{IsEntry}
-use Rattle.dss_layout.specs.Layout.{Elements, layout_of, size_of}
-use Rattle.dss_ready.specs.Mentions.{controls_bank, controls_winding, gives_name, is_second_of_bank, is_second_of_winding}
-use Rattle.dss_ready.specs.Passed.{AreValuesFit}
-use Rattle.dss_ready.specs.Ready.{HasPassed}
-use Rattle.dss_ready.proofs.CallerLemmas.{passed}
-use Rattle.fd_devices.specs.Settings.{bank_count, tap_count}
-use Rattle.fd_devices.proofs.CallerLemmas.{all_at}
-use Rattle.fd_queue.specs.Controls.{Positions}
+use Rattle.fd_network.specs.fd_exact.Sums.{list_n}
+use Rattle.fd_network.specs.dss_model.InRange.{ElementInRange, TransformerInRange, WindingInRange}
+use Rattle.fd_network.specs.dss_model.declared.capcontrol.CapControl.{CapControl}
+use Rattle.fd_network.specs.dss_model.declared.element.Element.{Element}
+use Rattle.fd_network.specs.dss_model.declared.element.Element.TheVariants as the
+use Rattle.fd_network.specs.dss_model.declared.names.Class.TheVariants as class
+use Rattle.fd_network.specs.dss_model.declared.names.ElementName.{ElementName}
+use Rattle.fd_network.specs.dss_model.declared.regcontrol.RegControl.{RegControl}
+use Rattle.fd_network.specs.dss_model.declared.transformer.Transformer.{Transformer}
+use Rattle.fd_network.specs.dss_circuit.Circuit.{CircuitView}
+use Rattle.fd_network.specs.dss_circuit.WellFormed.{IsEntry}
+use Rattle.fd_network.specs.dss_layout.Layout.{Elements, layout_of, size_of}
+use Rattle.fd_network.specs.dss_ready.Mentions.{controls_bank, controls_winding, gives_name, is_second_of_bank, is_second_of_winding}
+use Rattle.fd_network.specs.dss_ready.Passed.{AreValuesFit}
+use Rattle.fd_network.specs.dss_ready.Ready.{HasPassed}
+use Rattle.fd_network.proofs.CallerLemmas.dss_ready.{passed}
+use Rattle.fd_network.specs.fd_devices.Settings.{bank_count, tap_count}
+use Rattle.fd_network.proofs.CallerLemmas.fd_devices.{all_at}
+use Rattle.fd_regctl.specs.fd_queue.Controls.{Positions}
 use Rattle.fd_sample.specs.declared.probe.CapProbe.{CapProbe}
 use Rattle.fd_sample.specs.declared.probe.Probe.{Probe}
 use Rattle.fd_sample.specs.declared.probe.Probe.TheVariants as probe

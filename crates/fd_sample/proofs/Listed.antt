@@ -6,11 +6,11 @@ use Rattle.std.specs.Option.{option_to_list}
 use Rattle.std.proofs.lemmas.Bool.{or_parts}
 use Rattle.std.proofs.lemmas.List.{take-append-drop, take-take}
 use Rattle.std.proofs.lemmas.List.Elements.{All-cons, All-from_recursion, All-nil, filter_map-append, recursion_from_All}
-use Rattle.fd_exact.specs.Sums.{list_n}
-use Rattle.fd_exact.specs.SumLaws.{list_n-append}
-use Rattle.dss_layout.proofs.CallerLemmas.{take-more}
-use Rattle.fd_devices.proofs.CallerLemmas.{all_at}
-use Rattle.fd_queue.specs.Queue.{InPairs}
+use Rattle.fd_network.specs.fd_exact.Sums.{list_n}
+use Rattle.fd_network.specs.fd_exact.SumLaws.{list_n-append}
+use Rattle.fd_network.proofs.CallerLemmas.dss_layout.{take-more}
+use Rattle.fd_network.proofs.CallerLemmas.fd_devices.{all_at}
+use Rattle.fd_regctl.specs.fd_queue.Queue.{InPairs}
 
 -- ---- elements by their places
 

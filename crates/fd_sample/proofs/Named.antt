@@ -5,24 +5,24 @@ use Rattle.std.specs.Map.{lookup}
 use Rattle.std.specs.Option.{option_and_then, option_map}
 use Rattle.std.proofs.lemmas.List.Quantifiers.{position-Some}
 use Rattle.std.proofs.lemmas.Option.{get_or_from_slice_get, option_and_then_some, same_Some, slice_get-get_or, slice_get-map}
-use Rattle.fd_exact.specs.Sums.{list_n}
-use Rattle.dss_model.specs.Element.{class_of}
-use Rattle.dss_model.specs.SameElement.{same_element}
-use Rattle.dss_model.specs.declared.capcontrol.CapControl.{CapControl}
-use Rattle.dss_model.specs.declared.element.Element.{Element}
-use Rattle.dss_model.specs.declared.element.Element.TheVariants as the
-use Rattle.dss_model.specs.declared.line.Line.{Line}
-use Rattle.dss_model.specs.declared.names.Class.{Class}
-use Rattle.dss_model.specs.declared.names.Class.TheVariants as class
-use Rattle.dss_model.specs.declared.names.ElementName.{ElementName}
-use Rattle.dss_model.specs.declared.regcontrol.RegControl.{RegControl}
-use Rattle.dss_model.specs.declared.transformer.Transformer.{Transformer}
-use Rattle.dss_model.proofs.CallerLemmas.{equal}
-use Rattle.dss_circuit.specs.WellFormed.{IsEntry}
-use Rattle.dss_layout.specs.Layout.{Elements}
-use Rattle.dss_circuit.specs.Lookups.{element_given}
-use Rattle.fd_devices.specs.Settings.{bank_count, tap_count}
-use Rattle.fd_devices.proofs.CallerLemmas.{all_at, one_bank, one_transformer}
+use Rattle.fd_network.specs.fd_exact.Sums.{list_n}
+use Rattle.fd_network.specs.dss_model.Element.{class_of}
+use Rattle.fd_network.specs.dss_model.SameElement.{same_element}
+use Rattle.fd_network.specs.dss_model.declared.capcontrol.CapControl.{CapControl}
+use Rattle.fd_network.specs.dss_model.declared.element.Element.{Element}
+use Rattle.fd_network.specs.dss_model.declared.element.Element.TheVariants as the
+use Rattle.fd_network.specs.dss_model.declared.line.Line.{Line}
+use Rattle.fd_network.specs.dss_model.declared.names.Class.{Class}
+use Rattle.fd_network.specs.dss_model.declared.names.Class.TheVariants as class
+use Rattle.fd_network.specs.dss_model.declared.names.ElementName.{ElementName}
+use Rattle.fd_network.specs.dss_model.declared.regcontrol.RegControl.{RegControl}
+use Rattle.fd_network.specs.dss_model.declared.transformer.Transformer.{Transformer}
+use Rattle.fd_network.proofs.CallerLemmas.dss_model.{equal}
+use Rattle.fd_network.specs.dss_circuit.WellFormed.{IsEntry}
+use Rattle.fd_network.specs.dss_layout.Layout.{Elements}
+use Rattle.fd_network.specs.dss_circuit.Lookups.{element_given}
+use Rattle.fd_network.specs.fd_devices.Settings.{bank_count, tap_count}
+use Rattle.fd_network.proofs.CallerLemmas.fd_devices.{all_at, one_bank, one_transformer}
 use Rattle.fd_sample.specs.declared.probe.CapProbe.{CapProbe}
 use Rattle.fd_sample.specs.declared.probe.Probe.{Probe}
 use Rattle.fd_sample.specs.declared.probe.Probe.TheVariants as probe

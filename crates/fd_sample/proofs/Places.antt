@@ -2,12 +2,12 @@
 use Rattle.std.proofs.Common.{◌≡◌, ℕ, zero, suc, ◌+◌, ◌++◌, ◌<◌, List, [], ◌∷◌, length, map, take, drop, slice_get, slice_index, Option, Some, None, sym, ap, ◌∙◌, append_assoc, zero-add, arith}
 use Rattle.std.specs.Prelude.{IfSome}
 use Rattle.std.proofs.lemmas.Option.{slice_get-map}
-use Rattle.fd_exact.specs.Sums.{list_n}
-use Rattle.dss_model.specs.declared.element.Element.{Element}
-use Rattle.dss_model.specs.declared.names.ElementName.{ElementName}
-use Rattle.dss_layout.specs.Layout.{Elements, sums_before}
-use Rattle.dss_layout.proofs.CallerLemmas.{drop-more, length-sums_before, take-more}
-use Rattle.fd_devices.proofs.CallerLemmas.{list_n-more}
+use Rattle.fd_network.specs.fd_exact.Sums.{list_n}
+use Rattle.fd_network.specs.dss_model.declared.element.Element.{Element}
+use Rattle.fd_network.specs.dss_model.declared.names.ElementName.{ElementName}
+use Rattle.fd_network.specs.dss_layout.Layout.{Elements, sums_before}
+use Rattle.fd_network.proofs.CallerLemmas.dss_layout.{drop-more, length-sums_before, take-more}
+use Rattle.fd_network.proofs.CallerLemmas.fd_devices.{list_n-more}
 use Rattle.fd_sample.specs.Circuits.{element_at}
 
 pub there_by : (o : Option ℕ) (es : Elements) (v w : Option Element) → v ≡ w

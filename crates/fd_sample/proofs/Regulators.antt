@@ -3,19 +3,19 @@ use Rattle.std.proofs.Common.{◌≡◌, ◌≢◌, ℕ, ◌*◌, ◌<◌, ◌�
 use Rattle.std.proofs.Math.Nat.{mul-pos, mul-le-mul}
 use Rattle.std.proofs.lemmas.Bool.Decides.{nat_tests, Decides-ltb}
 use Rattle.std.proofs.lemmas.Int.{ints}
-use Rattle.fd_exact.specs.Fractions.{fraction}
-use Rattle.fd_exact.specs.Nearest.{near_within}
-use Rattle.fd_exact.specs.States.{State}
-use Rattle.fd_arith.specs.Interval.{Bounds, Holds}
-use Rattle.fd_arith.specs.declared.cx.Cx.{Cx}
-use Rattle.fd_arith.specs.declared.terms.NodeAt.TheVariants.{Node}
-use Rattle.fd_arith.specs.declared.terms.TapPair.{TapPair}
-use Rattle.fd_system.specs.Complex.{Complex, negative}
-use Rattle.fd_system.specs.Equations.{unknown}
-use Rattle.fd_xfmr.specs.Leakage.{AreTaps}
-use Rattle.fd_xfmr.specs.Transformer.{across}
-use Rattle.fd_queue.specs.Quantities.{magnitude, root_above, root_below}
-use Rattle.fd_queue.specs.Decisions.{Decision, Raise, Hold, Lower, IsEdge}
+use Rattle.fd_network.specs.fd_exact.Fractions.{fraction}
+use Rattle.fd_network.specs.fd_exact.Nearest.{near_within}
+use Rattle.fd_network.specs.fd_exact.States.{State}
+use Rattle.fd_regctl.specs.fd_arith.Interval.{Bounds, Holds}
+use Rattle.fd_regctl.specs.fd_arith.declared.cx.Cx.{Cx}
+use Rattle.fd_regctl.specs.fd_arith.declared.terms.NodeAt.TheVariants.{Node}
+use Rattle.fd_regctl.specs.fd_arith.declared.terms.TapPair.{TapPair}
+use Rattle.fd_network.specs.fd_system.Complex.{Complex, negative}
+use Rattle.fd_network.specs.fd_system.Equations.{unknown}
+use Rattle.fd_network.specs.fd_xfmr.Leakage.{AreTaps}
+use Rattle.fd_network.specs.fd_xfmr.Transformer.{across}
+use Rattle.fd_regctl.specs.fd_queue.Quantities.{magnitude, root_above, root_below}
+use Rattle.fd_regctl.specs.fd_queue.Decisions.{Decision, Raise, Hold, Lower, IsEdge}
 use Rattle.fd_regctl.specs.Regulator.{Regulator, regulator_verdict, steps_up, steps_down}
 use Rattle.fd_regctl.specs.Settings.{regulator_at}
 use Rattle.fd_regctl.proofs.CallerLemmas.{regulator_decided, settings_edge}

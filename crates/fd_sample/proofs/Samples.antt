@@ -3,16 +3,16 @@ use Rattle.std.proofs.Common.{◌≡◌, ◌≢◌, ℕ, ◌*◌, ◌<◌, ◌�
 use Rattle.std.specs.Prelude.{IsSome}
 use Rattle.std.proofs.lemmas.Int.{ints}
 use Rattle.std.proofs.lemmas.Bool.Decides.{Decides-int_eq}
-use Rattle.fd_exact.specs.Integers.{spread}
-use Rattle.fd_exact.specs.Order.{scale}
-use Rattle.fd_arith.specs.Limits.{non_negative}
-use Rattle.fd_arith.specs.Interval.{Bounds, Holds}
-use Rattle.fd_queue.specs.Quantities.{Quantity, magnitude, value}
-use Rattle.fd_queue.specs.Decisions.{Decision, place, same_decision, IsOfAll, IsEdge}
-use Rattle.fd_queue.specs.Verdicts.{decision}
-use Rattle.fd_queue.specs.declared.verdict.Verdict.{Verdict}
-use Rattle.fd_queue.specs.declared.verdict.Verdict.TheVariants as verdict
-use Rattle.fd_queue.proofs.CallerLemmas.{magnitude_order, value_order}
+use Rattle.fd_network.specs.fd_exact.Integers.{spread}
+use Rattle.fd_network.specs.fd_exact.Order.{scale}
+use Rattle.fd_regctl.specs.fd_arith.Limits.{non_negative}
+use Rattle.fd_regctl.specs.fd_arith.Interval.{Bounds, Holds}
+use Rattle.fd_regctl.specs.fd_queue.Quantities.{Quantity, magnitude, value}
+use Rattle.fd_regctl.specs.fd_queue.Decisions.{Decision, place, same_decision, IsOfAll, IsEdge}
+use Rattle.fd_regctl.specs.fd_queue.Verdicts.{decision}
+use Rattle.fd_regctl.specs.fd_queue.declared.verdict.Verdict.{Verdict}
+use Rattle.fd_regctl.specs.fd_queue.declared.verdict.Verdict.TheVariants as verdict
+use Rattle.fd_regctl.proofs.CallerLemmas.fd_queue.{magnitude_order, value_order}
 use Rattle.fd_sample.specs.Samples.{decision_of, IfUndecided, agreed, least_root, greatest_root, AreRootEnds, IsRootSample, least_value, greatest_value, AreValueEnds, IsValueSample, TellsEdge}
 
 -- ---- from the ends

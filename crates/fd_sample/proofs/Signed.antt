@@ -2,7 +2,7 @@
 use Rattle.std.proofs.Common.{◌≡◌, ℕ, ◌≤◌, ◌^◌, ℤ, pos, neg_ℤ, ◌≤ℤ◌, nat_abs, FitsSigned, to_z, of_z, arith}
 use Rattle.std.specs.Int.{w32, w128}
 use Rattle.std.proofs.lemmas.Int.{ints, to_z-of_z}
-use Rattle.fd_exact.specs.Ranges.{IsBetween}
+use Rattle.fd_network.specs.fd_exact.Ranges.{IsBetween}
 
 fits_wide : (low high z : ℤ) → low ≤ℤ z → z ≤ℤ high → neg_ℤ (pos (2 ^ 126)) ≤ℤ low → high ≤ℤ pos (2 ^ 126)
     → FitsSigned w128 z

@@ -4,26 +4,26 @@ use Rattle.std.specs.Prelude.{All, nat_eq}
 use Rattle.std.proofs.lemmas.Int.{ints}
 use Rattle.std.proofs.lemmas.List.{get_or_past}
 use Rattle.std.proofs.lemmas.List.Elements.{All-get_or, All-cons, All-nil}
-use Rattle.fd_exact.specs.Ranges.{IsBetween}
-use Rattle.dss_model.specs.declared.words.ControlQuantity.{ControlQuantity}
-use Rattle.dss_model.specs.declared.words.ControlQuantity.TheVariants as quantity
-use Rattle.dss_model.specs.InRange.{CapControlInRange}
-use Rattle.dss_model.specs.declared.capcontrol.CapControl.{CapControl}
-use Rattle.dss_model.specs.declared.line.Line.{Line}
+use Rattle.fd_network.specs.fd_exact.Ranges.{IsBetween}
+use Rattle.fd_network.specs.dss_model.declared.words.ControlQuantity.{ControlQuantity}
+use Rattle.fd_network.specs.dss_model.declared.words.ControlQuantity.TheVariants as quantity
+use Rattle.fd_network.specs.dss_model.InRange.{CapControlInRange}
+use Rattle.fd_network.specs.dss_model.declared.capcontrol.CapControl.{CapControl}
+use Rattle.fd_network.specs.dss_model.declared.line.Line.{Line}
 use Rattle.fd_sample.specs.declared.probe.CapProbe.{CapProbe}
-use Rattle.fd_arith.specs.declared.terms.Ends.{Ends}
-use Rattle.fd_arith.specs.declared.terms.NodeAt.{NodeAt}
-use Rattle.fd_arith.specs.declared.terms.NodeAt.TheVariants.{Ground, Node}
-use Rattle.fd_system.specs.declared.terminals.NodePair.{NodePair}
-use Rattle.fd_system.specs.declared.terminals.PhasePairs.{PhasePairs}
-use Rattle.fd_system.specs.declared.terminals.PhasePairs.TheVariants as pairs
-use Rattle.fd_system.specs.Residual.{IsPlace}
-use Rattle.fd_system.specs.Terminals.{node_of, second_node, pair_of}
-use Rattle.fd_xfmr.specs.Windings.{first_pairs, second_pairs}
-use Rattle.fd_pattern.specs.Conditions.{IsAmong}
-use Rattle.dss_model.specs.declared.regcontrol.RegControl.{RegControl}
-use Rattle.dss_model.specs.declared.transformer.Transformer.{Transformer}
-use Rattle.fd_devices.specs.Data.{xfmr_data_of}
+use Rattle.fd_regctl.specs.fd_arith.declared.terms.Ends.{Ends}
+use Rattle.fd_regctl.specs.fd_arith.declared.terms.NodeAt.{NodeAt}
+use Rattle.fd_regctl.specs.fd_arith.declared.terms.NodeAt.TheVariants.{Ground, Node}
+use Rattle.fd_network.specs.fd_system.declared.terminals.NodePair.{NodePair}
+use Rattle.fd_network.specs.fd_system.declared.terminals.PhasePairs.{PhasePairs}
+use Rattle.fd_network.specs.fd_system.declared.terminals.PhasePairs.TheVariants as pairs
+use Rattle.fd_network.specs.fd_system.Residual.{IsPlace}
+use Rattle.fd_network.specs.fd_system.Terminals.{node_of, second_node, pair_of}
+use Rattle.fd_network.specs.fd_xfmr.Windings.{first_pairs, second_pairs}
+use Rattle.fd_network.specs.fd_pattern.Conditions.{IsAmong}
+use Rattle.fd_network.specs.dss_model.declared.regcontrol.RegControl.{RegControl}
+use Rattle.fd_network.specs.dss_model.declared.transformer.Transformer.{Transformer}
+use Rattle.fd_network.specs.fd_devices.Data.{xfmr_data_of}
 use Rattle.fd_sample.specs.declared.probe.RegProbe.{RegProbe}
 use Rattle.fd_sample.specs.Regulators.{AreRegSettings, IsRegProbe}
 use Rattle.fd_sample.specs.Banks.{IsCapProbe, IsLineEnd, IsMeasured, IsRatio}

@@ -2,7 +2,7 @@
 use Rattle.std.proofs.Common.{◌≡◌, ℕ, zero, suc, ◌+◌, ◌*◌, ◌<◌, ◌≤◌, Bool, true, false, cond, nat_le, eqb, refl, arith}
 use Rattle.std.proofs.lemmas.Bool.{eqb-true}
 use Rattle.std.proofs.lemmas.Bool.Decides.{nat_tests}
-use Rattle.fd_arith.specs.Limits.{IsRoot, IsRootUp}
+use Rattle.fd_regctl.specs.fd_arith.Limits.{IsRoot, IsRootUp}
 use Rattle.fd_sample.specs.Roots.{root_down, root_up}
 
 -- ---- rounded down

@@ -3,35 +3,35 @@ use Rattle.std.proofs.Common.{take, ◌≡◌, ℕ, ◌<◌, ◌≤◌, ◌^◌,
 use Rattle.std.specs.Prelude.{All, IfSome, IsSome}
 use Rattle.std.specs.Option.{option_map}
 use Rattle.std.proofs.lemmas.Option.{slice_get_within, get_or_from_slice_get}
-use Rattle.fd_arith.specs.declared.terms.Ends.{Ends}
-use Rattle.fd_arith.specs.declared.terms.NodeAt.{NodeAt}
-use Rattle.fd_arith.specs.declared.terms.NodeAt.TheVariants.{Ground, Node}
-use Rattle.fd_system.specs.Contributions.{IsSmall}
-use Rattle.fd_system.specs.Terminals.{node_count}
-use Rattle.fd_pattern.specs.Conditions.{IsAmong}
-use Rattle.dss_model.specs.Element.{class_of}
-use Rattle.dss_model.specs.InRange.{ElementInRange}
-use Rattle.dss_model.specs.declared.element.Element.{Element}
-use Rattle.dss_model.specs.declared.element.Element.TheVariants as the
-use Rattle.dss_model.specs.declared.capcontrol.CapControl.{CapControl}
-use Rattle.dss_model.specs.declared.line.Line.{Line}
+use Rattle.fd_regctl.specs.fd_arith.declared.terms.Ends.{Ends}
+use Rattle.fd_regctl.specs.fd_arith.declared.terms.NodeAt.{NodeAt}
+use Rattle.fd_regctl.specs.fd_arith.declared.terms.NodeAt.TheVariants.{Ground, Node}
+use Rattle.fd_network.specs.fd_system.Contributions.{IsSmall}
+use Rattle.fd_network.specs.fd_system.Terminals.{node_count}
+use Rattle.fd_network.specs.fd_pattern.Conditions.{IsAmong}
+use Rattle.fd_network.specs.dss_model.Element.{class_of}
+use Rattle.fd_network.specs.dss_model.InRange.{ElementInRange}
+use Rattle.fd_network.specs.dss_model.declared.element.Element.{Element}
+use Rattle.fd_network.specs.dss_model.declared.element.Element.TheVariants as the
+use Rattle.fd_network.specs.dss_model.declared.capcontrol.CapControl.{CapControl}
+use Rattle.fd_network.specs.dss_model.declared.line.Line.{Line}
 use Rattle.fd_sample.specs.declared.probe.CapProbe.{CapProbe}
-use Rattle.dss_model.specs.declared.names.Class.{Class}
-use Rattle.dss_model.specs.declared.names.Class.TheVariants as class
-use Rattle.dss_model.specs.declared.names.ElementName.{ElementName}
-use Rattle.dss_model.specs.declared.regcontrol.RegControl.{RegControl}
-use Rattle.dss_model.specs.declared.transformer.Transformer.{Transformer}
-use Rattle.dss_circuit.specs.Circuit.{CircuitView}
-use Rattle.dss_circuit.specs.WellFormed.{IsEntry}
-use Rattle.dss_circuit.proofs.CallerLemmas.{found_class}
-use Rattle.dss_layout.specs.Layout.{Elements, LayoutView, branch_phases, complex_count, ends_of, layout_of, size_of}
-use Rattle.dss_layout.proofs.CallerLemmas.{length-sums_before}
-use Rattle.dss_circuit.specs.Lookups.{element_given}
-use Rattle.dss_ready.specs.Passed.{IsFit, IsPhaseOf}
-use Rattle.dss_ready.specs.Ready.{HasPassed}
-use Rattle.dss_ready.proofs.CallerLemmas.{passed}
-use Rattle.fd_devices.specs.Standing.{IsReadyAt}
-use Rattle.fd_devices.proofs.CallerLemmas.{side_among}
+use Rattle.fd_network.specs.dss_model.declared.names.Class.{Class}
+use Rattle.fd_network.specs.dss_model.declared.names.Class.TheVariants as class
+use Rattle.fd_network.specs.dss_model.declared.names.ElementName.{ElementName}
+use Rattle.fd_network.specs.dss_model.declared.regcontrol.RegControl.{RegControl}
+use Rattle.fd_network.specs.dss_model.declared.transformer.Transformer.{Transformer}
+use Rattle.fd_network.specs.dss_circuit.Circuit.{CircuitView}
+use Rattle.fd_network.specs.dss_circuit.WellFormed.{IsEntry}
+use Rattle.fd_network.proofs.CallerLemmas.dss_circuit.{found_class}
+use Rattle.fd_network.specs.dss_layout.Layout.{Elements, LayoutView, branch_phases, complex_count, ends_of, layout_of, size_of}
+use Rattle.fd_network.proofs.CallerLemmas.dss_layout.{length-sums_before}
+use Rattle.fd_network.specs.dss_circuit.Lookups.{element_given}
+use Rattle.fd_network.specs.dss_ready.Passed.{IsFit, IsPhaseOf}
+use Rattle.fd_network.specs.dss_ready.Ready.{HasPassed}
+use Rattle.fd_network.proofs.CallerLemmas.dss_ready.{passed}
+use Rattle.fd_network.specs.fd_devices.Standing.{IsReadyAt}
+use Rattle.fd_network.proofs.CallerLemmas.fd_devices.{side_among}
 use Rattle.fd_network.proofs.CallerLemmas.{element_ready}
 use Rattle.fd_sample.specs.Circuits.{IsCapControlIn, IsCapProbeAt, IsCapProbeIn, IsLineFor, IsLineOf, banks_before, line_in, IsXfmrOf, IsXfmrFor, IsRegControlIn, IsRegProbeAt, IsRegProbeIn, element_at, place_given, transformer_in, transformers_before}
 use Rattle.fd_sample.specs.Scripted.{IsLineAt, IsXfmrAt, cap_probe, reg_probe}

@@ -1,13 +1,13 @@
 -- Balls of states: a centre and a radius for each unknown, in whole micro-units, and the intervals of the unknowns over
 -- a ball.
 use Rattle.std.specs.Prelude.{◌≡◌, ℕ, ◌+◌, ◌*◌, ◌^◌, ◌<◌, ◌≤◌, ℤ, pos, ◌+ℤ◌, ◌-ℤ◌, nat_abs, List, length, get_or, All}
-use Rattle.fd_exact.specs.States.{State, part, away}
-use Rattle.fd_arith.specs.Interval.{Bounds, capped, difference}
-use Rattle.fd_arith.specs.declared.cx.Cx.{Cx}
-use Rattle.fd_arith.specs.declared.terms.NodeAt.{NodeAt}
-use Rattle.fd_arith.specs.declared.terms.NodeAt.TheVariants.{Ground, Node}
-use Rattle.fd_system.specs.declared.terminals.NodePair.{NodePair}
-use Rattle.fd_pattern.specs.Conditions.{IsPart}
+use Rattle.fd_network.specs.fd_exact.States.{State, part, away}
+use Rattle.fd_regctl.specs.fd_arith.Interval.{Bounds, capped, difference}
+use Rattle.fd_regctl.specs.fd_arith.declared.cx.Cx.{Cx}
+use Rattle.fd_regctl.specs.fd_arith.declared.terms.NodeAt.{NodeAt}
+use Rattle.fd_regctl.specs.fd_arith.declared.terms.NodeAt.TheVariants.{Ground, Node}
+use Rattle.fd_network.specs.fd_system.declared.terminals.NodePair.{NodePair}
+use Rattle.fd_network.specs.fd_pattern.Conditions.{IsPart}
 
 -- ---- states
 

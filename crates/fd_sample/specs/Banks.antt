@@ -1,21 +1,21 @@
 -- The quantity of a bank's control (OpenDSS manual, CapControl, property type): the magnitude of a node's voltage or of
 -- a branch's current over the ratio of its transformer, or the reactive power that enters a line at one of its ends.
 use Rattle.std.specs.Prelude.{◌≡◌, ℕ, zero, suc, ◌+◌, ◌*◌, ◌^◌, ◌<◌, ◌≤◌, ℤ, pos, nat_abs, Bool, if◌then◌else◌, List, All, Some}
-use Rattle.fd_exact.specs.Fractions.{Fraction, fraction, opposite}
-use Rattle.fd_exact.specs.Rounding.{near_div}
-use Rattle.fd_exact.specs.States.{State}
-use Rattle.fd_exact.specs.Sums.{sum_f}
-use Rattle.fd_arith.specs.Interval.{Bounds, capped, sum, negation, area_of}
-use Rattle.fd_arith.specs.declared.cx.Cx.{Cx}
-use Rattle.fd_arith.specs.declared.terms.NodeAt.{NodeAt}
-use Rattle.fd_arith.specs.declared.terms.NodeAt.TheVariants.{Node}
-use Rattle.fd_system.specs.Complex.{Complex, ◌⊠◌, negative}
-use Rattle.fd_system.specs.Equations.{unknown}
-use Rattle.fd_system.specs.Residual.{IsPlace}
-use Rattle.fd_system.specs.Terminals.{node_of}
-use Rattle.fd_queue.specs.Decisions.{Decision, Raise, Hold, Lower}
-use Rattle.fd_queue.specs.Quantities.{Quantity, value}
-use Rattle.fd_queue.specs.declared.verdict.Verdict.{Verdict}
+use Rattle.fd_network.specs.fd_exact.Fractions.{Fraction, fraction, opposite}
+use Rattle.fd_network.specs.fd_exact.Rounding.{near_div}
+use Rattle.fd_network.specs.fd_exact.States.{State}
+use Rattle.fd_network.specs.fd_exact.Sums.{sum_f}
+use Rattle.fd_regctl.specs.fd_arith.Interval.{Bounds, capped, sum, negation, area_of}
+use Rattle.fd_regctl.specs.fd_arith.declared.cx.Cx.{Cx}
+use Rattle.fd_regctl.specs.fd_arith.declared.terms.NodeAt.{NodeAt}
+use Rattle.fd_regctl.specs.fd_arith.declared.terms.NodeAt.TheVariants.{Node}
+use Rattle.fd_network.specs.fd_system.Complex.{Complex, ◌⊠◌, negative}
+use Rattle.fd_network.specs.fd_system.Equations.{unknown}
+use Rattle.fd_network.specs.fd_system.Residual.{IsPlace}
+use Rattle.fd_network.specs.fd_system.Terminals.{node_of}
+use Rattle.fd_regctl.specs.fd_queue.Decisions.{Decision, Raise, Hold, Lower}
+use Rattle.fd_regctl.specs.fd_queue.Quantities.{Quantity, value}
+use Rattle.fd_regctl.specs.fd_queue.declared.verdict.Verdict.{Verdict}
 use Rattle.fd_capctl.specs.Bank.{Bank, Kind, Voltage, Current, Kvar, bank_verdict, bank_edge}
 use Rattle.fd_sample.specs.declared.probe.CapProbe.{CapProbe}
 use Rattle.fd_sample.specs.declared.probe.LineEnd.{LineEnd}

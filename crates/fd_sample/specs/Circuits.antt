@@ -3,29 +3,29 @@
 use Rattle.std.specs.Prelude.{◌≡◌, ◌≢◌, ℕ, ◌+◌, ◌≤◌, ◌<◌, ◌^◌, List, length, map, take, slice_get, All, Option, Some, None}
 use Rattle.std.specs.List.{filter_map, position}
 use Rattle.std.specs.Option.{option_and_then, option_map}
-use Rattle.fd_exact.specs.Sums.{list_n}
-use Rattle.dss_model.specs.InRange.{CapControlInRange, LineInRange, RegControlInRange, TransformerInRange}
-use Rattle.dss_model.specs.SameElement.{same_element}
-use Rattle.dss_model.specs.declared.capcontrol.CapControl.{CapControl}
-use Rattle.dss_model.specs.declared.line.Line.{Line}
+use Rattle.fd_network.specs.fd_exact.Sums.{list_n}
+use Rattle.fd_network.specs.dss_model.InRange.{CapControlInRange, LineInRange, RegControlInRange, TransformerInRange}
+use Rattle.fd_network.specs.dss_model.SameElement.{same_element}
+use Rattle.fd_network.specs.dss_model.declared.capcontrol.CapControl.{CapControl}
+use Rattle.fd_network.specs.dss_model.declared.line.Line.{Line}
 use Rattle.fd_sample.specs.declared.probe.CapProbe.{CapProbe}
-use Rattle.dss_model.specs.declared.element.Element.{Element}
-use Rattle.dss_model.specs.declared.element.Element.TheVariants as the
-use Rattle.dss_model.specs.declared.names.Class.{Class}
-use Rattle.dss_model.specs.declared.names.Class.TheVariants as class
-use Rattle.dss_model.specs.declared.regcontrol.RegControl.{RegControl}
-use Rattle.dss_model.specs.declared.transformer.Transformer.{Transformer}
-use Rattle.dss_circuit.specs.Circuit.{CircuitView}
-use Rattle.dss_circuit.specs.InRange.{AllInRange}
-use Rattle.dss_circuit.specs.WellFormed.{IsEntry}
-use Rattle.dss_layout.specs.Layout.{Elements, LayoutView, complex_count, ends_of, layout_of, size_of, sums_before}
-use Rattle.dss_circuit.specs.Lookups.{element_given}
-use Rattle.dss_ready.specs.Passed.{IsPhaseOf}
-use Rattle.dss_ready.specs.Ready.{HasPassed}
-use Rattle.fd_xfmr.specs.Transformer.{IsBetween}
-use Rattle.fd_devices.specs.Settings.{bank_count, tap_count}
-use Rattle.fd_queue.specs.Controls.{Positions}
-use Rattle.fd_queue.specs.Queue.{InPairs}
+use Rattle.fd_network.specs.dss_model.declared.element.Element.{Element}
+use Rattle.fd_network.specs.dss_model.declared.element.Element.TheVariants as the
+use Rattle.fd_network.specs.dss_model.declared.names.Class.{Class}
+use Rattle.fd_network.specs.dss_model.declared.names.Class.TheVariants as class
+use Rattle.fd_network.specs.dss_model.declared.regcontrol.RegControl.{RegControl}
+use Rattle.fd_network.specs.dss_model.declared.transformer.Transformer.{Transformer}
+use Rattle.fd_network.specs.dss_circuit.Circuit.{CircuitView}
+use Rattle.fd_network.specs.dss_circuit.InRange.{AllInRange}
+use Rattle.fd_network.specs.dss_circuit.WellFormed.{IsEntry}
+use Rattle.fd_network.specs.dss_layout.Layout.{Elements, LayoutView, complex_count, ends_of, layout_of, size_of, sums_before}
+use Rattle.fd_network.specs.dss_circuit.Lookups.{element_given}
+use Rattle.fd_network.specs.dss_ready.Passed.{IsPhaseOf}
+use Rattle.fd_network.specs.dss_ready.Ready.{HasPassed}
+use Rattle.fd_network.specs.fd_xfmr.Transformer.{IsBetween}
+use Rattle.fd_network.specs.fd_devices.Settings.{bank_count, tap_count}
+use Rattle.fd_regctl.specs.fd_queue.Controls.{Positions}
+use Rattle.fd_regctl.specs.fd_queue.Queue.{InPairs}
 use Rattle.fd_sample.specs.declared.numbers.Numbers.{Numbers}
 use Rattle.fd_sample.specs.declared.probe.Probe.{Probe}
 use Rattle.fd_sample.specs.declared.probe.Probe.TheVariants as probe

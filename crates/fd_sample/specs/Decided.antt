@@ -1,17 +1,17 @@
 -- What the sample of a control over a ball comes to: what the control wants at each of its states, or the ends of the
 -- interval and the edge at which that changes.
 use Rattle.std.specs.Prelude.{◌≡◌, ℕ, ◌^◌, ℤ, pos, neg_ℤ, List, length, All, Option, Some, None, Result, Ok, Err}
-use Rattle.fd_exact.specs.Rounding.{floor_div, ceil_div}
-use Rattle.fd_exact.specs.States.{State}
-use Rattle.fd_arith.specs.Limits.{limit, non_negative}
-use Rattle.fd_arith.specs.Interval.{Bounds}
-use Rattle.fd_xfmr.specs.Leakage.{AreTaps}
-use Rattle.fd_queue.specs.Controls.{Positions, is_closed, pair_at}
-use Rattle.fd_queue.specs.Decisions.{Decision}
-use Rattle.fd_queue.specs.Decisions as the
-use Rattle.fd_queue.specs.Quantities.{Quantity}
-use Rattle.fd_queue.specs.declared.verdict.Verdict.{Verdict}
-use Rattle.fd_queue.specs.declared.verdict.Verdict.TheVariants as verdict
+use Rattle.fd_network.specs.fd_exact.Rounding.{floor_div, ceil_div}
+use Rattle.fd_network.specs.fd_exact.States.{State}
+use Rattle.fd_regctl.specs.fd_arith.Limits.{limit, non_negative}
+use Rattle.fd_regctl.specs.fd_arith.Interval.{Bounds}
+use Rattle.fd_network.specs.fd_xfmr.Leakage.{AreTaps}
+use Rattle.fd_regctl.specs.fd_queue.Controls.{Positions, is_closed, pair_at}
+use Rattle.fd_regctl.specs.fd_queue.Decisions.{Decision}
+use Rattle.fd_regctl.specs.fd_queue.Decisions as the
+use Rattle.fd_regctl.specs.fd_queue.Quantities.{Quantity}
+use Rattle.fd_regctl.specs.fd_queue.declared.verdict.Verdict.{Verdict}
+use Rattle.fd_regctl.specs.fd_queue.declared.verdict.Verdict.TheVariants as verdict
 use Rattle.fd_capctl.specs.Bank.{Kind, Voltage, Current, Kvar}
 use Rattle.fd_sample.specs.declared.probe.Probe.{Probe}
 use Rattle.fd_sample.specs.declared.probe.Probe.TheVariants as probe

@@ -1,10 +1,10 @@
 -- Phasors and their magnitudes, as fractions and in the interval operators.
 use Rattle.std.specs.Prelude.{ℕ, ℤ, pos, ◌*ℤ◌, ◌^◌, nat_abs}
-use Rattle.fd_exact.specs.Fractions.{Fraction, ◌⊕◌, ◌⊗◌}
-use Rattle.fd_arith.specs.Interval.{Bounds, sum, difference, negation, product, square_of, outward}
-use Rattle.fd_arith.specs.declared.cx.Cx.{Cx}
-use Rattle.fd_system.specs.Complex.{Complex}
-use Rattle.fd_queue.specs.Quantities.{Quantity, magnitude}
+use Rattle.fd_network.specs.fd_exact.Fractions.{Fraction, ◌⊕◌, ◌⊗◌}
+use Rattle.fd_regctl.specs.fd_arith.Interval.{Bounds, sum, difference, negation, product, square_of, outward}
+use Rattle.fd_regctl.specs.fd_arith.declared.cx.Cx.{Cx}
+use Rattle.fd_network.specs.fd_system.Complex.{Complex}
+use Rattle.fd_regctl.specs.fd_queue.Quantities.{Quantity, magnitude}
 
 -- ---- as fractions
 

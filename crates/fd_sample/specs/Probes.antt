@@ -1,12 +1,12 @@
 -- Probes: what a control wants at the positions of a circuit's taps and banks, and its sample over a ball.
 use Rattle.std.specs.Prelude.{◌≡◌, ℕ, ◌<◌, ℤ, List, length, IsSome, Some}
-use Rattle.fd_exact.specs.States.{State}
-use Rattle.fd_arith.specs.Interval.{Bounds}
-use Rattle.fd_queue.specs.Controls.{Positions, Control, Regulates, Switches, BankSwitch, pair_at, is_closed}
-use Rattle.fd_queue.specs.Decisions.{Decision}
-use Rattle.fd_queue.specs.Quantities.{Quantity}
-use Rattle.fd_queue.specs.declared.verdict.Verdict.{Verdict}
-use Rattle.fd_devices.specs.declared.settings.Positions.{Positions as CodePositions}
+use Rattle.fd_network.specs.fd_exact.States.{State}
+use Rattle.fd_regctl.specs.fd_arith.Interval.{Bounds}
+use Rattle.fd_regctl.specs.fd_queue.Controls.{Positions, Control, Regulates, Switches, BankSwitch, pair_at, is_closed}
+use Rattle.fd_regctl.specs.fd_queue.Decisions.{Decision}
+use Rattle.fd_regctl.specs.fd_queue.Quantities.{Quantity}
+use Rattle.fd_regctl.specs.fd_queue.declared.verdict.Verdict.{Verdict}
+use Rattle.fd_network.specs.fd_devices.declared.settings.Positions.{Positions as CodePositions}
 use Rattle.fd_sample.specs.declared.probe.CapProbe.{CapProbe}
 use Rattle.fd_sample.specs.declared.probe.Probe.{Probe}
 use Rattle.fd_sample.specs.declared.probe.Probe.TheVariants as probe

@@ -1,20 +1,20 @@
 -- The quantity of a regulator's control: the magnitude of V / ptratio - (R + j X) I / CTprim, V being the voltage of
 -- its winding and I the current that the winding delivers (OpenDSS manual, RegControl, line drop compensation).
 use Rattle.std.specs.Prelude.{◌≡◌, Bool, not, ℕ, ◌*◌, ◌^◌, ◌≤◌, ℤ, pos, nat_abs, if◌then◌else◌, List, Some}
-use Rattle.fd_exact.specs.Fractions.{Fraction, fraction}
-use Rattle.fd_exact.specs.States.{State}
-use Rattle.fd_arith.specs.Interval.{Bounds}
-use Rattle.fd_arith.specs.declared.cx.Cx.{Cx}
-use Rattle.fd_arith.specs.declared.terms.NodeAt.TheVariants.{Node}
-use Rattle.fd_arith.specs.declared.terms.TapPair.{TapPair}
-use Rattle.fd_system.specs.Complex.{Complex, ◌⊟◌, ◌⊠◌, negative}
-use Rattle.fd_system.specs.Equations.{unknown}
-use Rattle.fd_system.specs.Residual.{IsPlace}
-use Rattle.fd_xfmr.specs.Transformer.{across}
-use Rattle.fd_queue.specs.Controls.{TapChanger, tap_of}
-use Rattle.fd_queue.specs.Decisions.{Decision}
-use Rattle.fd_queue.specs.Quantities.{Quantity, root_above, root_below}
-use Rattle.fd_queue.specs.declared.verdict.Verdict.{Verdict}
+use Rattle.fd_network.specs.fd_exact.Fractions.{Fraction, fraction}
+use Rattle.fd_network.specs.fd_exact.States.{State}
+use Rattle.fd_regctl.specs.fd_arith.Interval.{Bounds}
+use Rattle.fd_regctl.specs.fd_arith.declared.cx.Cx.{Cx}
+use Rattle.fd_regctl.specs.fd_arith.declared.terms.NodeAt.TheVariants.{Node}
+use Rattle.fd_regctl.specs.fd_arith.declared.terms.TapPair.{TapPair}
+use Rattle.fd_network.specs.fd_system.Complex.{Complex, ◌⊟◌, ◌⊠◌, negative}
+use Rattle.fd_network.specs.fd_system.Equations.{unknown}
+use Rattle.fd_network.specs.fd_system.Residual.{IsPlace}
+use Rattle.fd_network.specs.fd_xfmr.Transformer.{across}
+use Rattle.fd_regctl.specs.fd_queue.Controls.{TapChanger, tap_of}
+use Rattle.fd_regctl.specs.fd_queue.Decisions.{Decision}
+use Rattle.fd_regctl.specs.fd_queue.Quantities.{Quantity, root_above, root_below}
+use Rattle.fd_regctl.specs.fd_queue.declared.verdict.Verdict.{Verdict}
 use Rattle.fd_regctl.specs.Regulator.{regulator_verdict, regulator_edge}
 use Rattle.fd_regctl.specs.Settings.{RegSettings, regulator_at}
 use Rattle.fd_sample.specs.declared.probe.RegProbe.{RegProbe}

@@ -1,13 +1,13 @@
 -- Samples: what is decided over an interval, and what an undecided sample says.
 use Rattle.std.specs.Prelude.{◌≡◌, ℕ, ◌^◌, ℤ, pos, neg_ℤ, if◌then◌else◌, Option, Some, None}
-use Rattle.fd_exact.specs.Rounding.{floor_div, ceil_div}
-use Rattle.fd_arith.specs.Limits.{limit, non_negative}
-use Rattle.fd_arith.specs.Interval.{Bounds, IsRootOf}
-use Rattle.fd_queue.specs.Quantities.{Quantity, magnitude, value}
-use Rattle.fd_queue.specs.Decisions.{Decision, same_decision, IsEdge}
-use Rattle.fd_queue.specs.Decisions as the
-use Rattle.fd_queue.specs.declared.verdict.Verdict.{Verdict}
-use Rattle.fd_queue.specs.declared.verdict.Verdict.TheVariants as verdict
+use Rattle.fd_network.specs.fd_exact.Rounding.{floor_div, ceil_div}
+use Rattle.fd_regctl.specs.fd_arith.Limits.{limit, non_negative}
+use Rattle.fd_regctl.specs.fd_arith.Interval.{Bounds, IsRootOf}
+use Rattle.fd_regctl.specs.fd_queue.Quantities.{Quantity, magnitude, value}
+use Rattle.fd_regctl.specs.fd_queue.Decisions.{Decision, same_decision, IsEdge}
+use Rattle.fd_regctl.specs.fd_queue.Decisions as the
+use Rattle.fd_regctl.specs.fd_queue.declared.verdict.Verdict.{Verdict}
+use Rattle.fd_regctl.specs.fd_queue.declared.verdict.Verdict.TheVariants as verdict
 
 -- what a verdict decides, if it does
 abbrev pub decision_of : Verdict → Option Decision

@@ -1,20 +1,20 @@
 -- The probes of a circuit's controls, by their settings in the script and by where their transformers, banks and lines
 -- stand.
 use Rattle.std.specs.Prelude.{ℕ, ◌+◌, ◌-◌, ◌*◌, ◌/◌, ◌^◌, ◌≤◌, ◌==◌, ℤ, pos, ◌≤ℤ◌, nat_abs, Bool, if◌then◌else◌, List, [], ◌∷◌}
-use Rattle.fd_arith.specs.declared.terms.Ends.{Ends}
-use Rattle.fd_arith.specs.declared.terms.NodeAt.{NodeAt}
-use Rattle.fd_system.specs.Terminals.{node_count, node_of}
-use Rattle.fd_xfmr.specs.Transformer.{phase_at}
-use Rattle.fd_xfmr.specs.Windings.{first_volts, second_volts}
-use Rattle.dss_model.specs.declared.words.ControlQuantity.{ControlQuantity}
-use Rattle.dss_model.specs.declared.words.ControlQuantity.TheVariants as quantity
-use Rattle.dss_model.specs.declared.capcontrol.CapControl.{CapControl}
-use Rattle.dss_model.specs.declared.line.Line.{Line}
-use Rattle.dss_model.specs.declared.regcontrol.RegControl.{RegControl}
-use Rattle.dss_model.specs.declared.transformer.Transformer.{Transformer}
-use Rattle.dss_model.specs.declared.transformer.Winding.{Winding}
-use Rattle.fd_devices.specs.Data.{xfmr_data_of}
-use Rattle.fd_devices.specs.Sound.{HasBranches, IsSideOf}
+use Rattle.fd_regctl.specs.fd_arith.declared.terms.Ends.{Ends}
+use Rattle.fd_regctl.specs.fd_arith.declared.terms.NodeAt.{NodeAt}
+use Rattle.fd_network.specs.fd_system.Terminals.{node_count, node_of}
+use Rattle.fd_network.specs.fd_xfmr.Transformer.{phase_at}
+use Rattle.fd_network.specs.fd_xfmr.Windings.{first_volts, second_volts}
+use Rattle.fd_network.specs.dss_model.declared.words.ControlQuantity.{ControlQuantity}
+use Rattle.fd_network.specs.dss_model.declared.words.ControlQuantity.TheVariants as quantity
+use Rattle.fd_network.specs.dss_model.declared.capcontrol.CapControl.{CapControl}
+use Rattle.fd_network.specs.dss_model.declared.line.Line.{Line}
+use Rattle.fd_network.specs.dss_model.declared.regcontrol.RegControl.{RegControl}
+use Rattle.fd_network.specs.dss_model.declared.transformer.Transformer.{Transformer}
+use Rattle.fd_network.specs.dss_model.declared.transformer.Winding.{Winding}
+use Rattle.fd_network.specs.fd_devices.Data.{xfmr_data_of}
+use Rattle.fd_network.specs.fd_devices.Sound.{HasBranches, IsSideOf}
 use Rattle.fd_sample.specs.declared.probe.CapProbe.{CapProbe}
 use Rattle.fd_sample.specs.declared.probe.LineEnd.{LineEnd}
 use Rattle.fd_sample.specs.declared.probe.Measured.{Measured}

@@ -1,15 +1,14 @@
 // The probes of all controls of a circuit.
 ghost use Rattle.std.specs.Prelude.{◌≡◌, ◌++◌, IfOk, OnOk};
 ghost use Rattle.std.specs.Option.{option_to_list};
-ghost use Rattle.dss_layout.specs.Layout.{layout_of};
-ghost use Rattle.dss_ready.specs.Ready.{HasPassed};
+ghost use Rattle.fd_network.specs.dss_layout.Layout.{layout_of};
+ghost use Rattle.fd_network.specs.dss_ready.Ready.{HasPassed};
 ghost use Rattle.fd_sample.specs.Circuits.{AreProbes, probes_of};
 
 use crate::circuit::probe_at_place;
 use crate::numbers::Numbers;
 use crate::probe::Probe;
-use dss_circuit::Circuit;
-use dss_layout::Layout;
+use fd_network::{Circuit, Layout};
 use std::alloc::{AllocError, Global};
 
 /// The probes of the controls of a circuit that passed the tests of Solve, whose layout this is, in the script's order.

@@ -1,8 +1,8 @@
 // What a bank's control wants at its quantity.
 ghost use Rattle.std.specs.Prelude.{◌≡◌, ◌≤◌, ◌^◌, nat_abs, true, length};
-ghost use Rattle.fd_system.specs.Residual.{IsPlace};
-ghost use Rattle.fd_queue.specs.Quantities.{magnitude, value};
-ghost use Rattle.fd_queue.specs.Verdicts.{decision, is_decided};
+ghost use Rattle.fd_network.specs.fd_system.Residual.{IsPlace};
+ghost use Rattle.fd_regctl.specs.fd_queue.Quantities.{magnitude, value};
+ghost use Rattle.fd_regctl.specs.fd_queue.Verdicts.{decision, is_decided};
 ghost use Rattle.fd_sample.specs.Balls.{IsBall};
 ghost use Rattle.fd_sample.specs.Banks.{IsRatio, cap_decision, cap_edge, is_past as past, kind_of, ratio_interval, setting_of, switched as switched_by};
 
@@ -10,8 +10,8 @@ use crate::intervals::interval_at;
 use crate::phasors::{factor, scaled, square_size};
 use crate::probe::{CapProbe, Measured};
 use crate::roots::{is_above, is_below};
-use fd_arith::{Interval, NodeAt, Square, near_quotient};
-use fd_queue::Verdict;
+use fd_network::near_quotient;
+use fd_regctl::{Interval, NodeAt, Square, Verdict};
 
 // 1 in 10^-9, a micro-unit in 10^-9, and 10^-9 kvar in 10^-15 kvar
 const NANO_PER_ONE: i128 = 1_000_000_000;

@@ -8,8 +8,7 @@ use crate::bank::{edge_of, ratio_squares, wanted_at_root, wanted_at_value};
 use crate::ends::{agreed, agreed_value, square_ends, value_ends};
 use crate::lineflow::reactive_power;
 use crate::probe::{CapProbe, Measured};
-use fd_arith::{Interval, NodeAt, Square};
-use fd_queue::Verdict;
+use fd_regctl::{Interval, NodeAt, Square, Verdict};
 
 /// The verdict of a bank's control over the ball of these centres and radii, in whole microvolts and microamperes,
 /// where its bank is closed or open. It is undecided exactly where the least and the greatest value of the interval

@@ -2,11 +2,11 @@
 ghost use Rattle.std.specs.Prelude.{◌≡◌, ◌<◌, map, length, is_some, IsSome, IfOk, IfSome, Some, Option, option_copied};
 ghost use Rattle.std.specs.List.{position};
 ghost use Rattle.std.specs.Map.{lookup};
-ghost use Rattle.dss_model.specs.InRange.{CapControlInRange, RegControlInRange};
-ghost use Rattle.dss_model.specs.SameElement.{same_element};
-ghost use Rattle.dss_layout.specs.Layout.{layout_of, size_of};
-ghost use Rattle.dss_circuit.specs.Lookups.{element_given};
-ghost use Rattle.dss_ready.specs.Ready.{HasPassed};
+ghost use Rattle.fd_network.specs.dss_model.InRange.{CapControlInRange, RegControlInRange};
+ghost use Rattle.fd_network.specs.dss_model.SameElement.{same_element};
+ghost use Rattle.fd_network.specs.dss_layout.Layout.{layout_of, size_of};
+ghost use Rattle.fd_network.specs.dss_circuit.Lookups.{element_given};
+ghost use Rattle.fd_network.specs.dss_ready.Ready.{HasPassed};
 ghost use Rattle.fd_sample.specs.Circuits.{AreNumbers, IsCapControlIn, IsCapProbeAt, IsCapProbeIn, IsLineFor, IsProbeOf, IsRegControlIn, IsRegProbeAt, IsRegProbeIn, IsXfmrFor, element_at, line_in, transformer_in, place_given as place_of};
 ghost use Rattle.fd_sample.specs.Banks.{IsCapProbe};
 ghost use Rattle.fd_sample.specs.Probes.{IsProbe};
@@ -15,10 +15,9 @@ ghost use Rattle.fd_sample.specs.Regulators.{IsRegProbe};
 use crate::numbers::Numbers;
 use crate::probe::{CapProbe, Probe, RegProbe};
 use crate::scripted::{bank_probe, regulator_probe};
-use dss_circuit::Circuit;
-use dss_layout::Layout;
-use dss_lexer::Text;
-use dss_model::{CapControl, Class, Element, ElementName, Line, RegControl, Transformer};
+use fd_network::{
+    CapControl, Circuit, Class, Element, ElementName, Layout, Line, RegControl, Text, Transformer,
+};
 use indexmap::IndexMap;
 use std::alloc::{AllocError, Global};
 

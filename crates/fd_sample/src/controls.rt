@@ -1,7 +1,7 @@
 // The sample of a control over a ball.
 ghost use Rattle.std.specs.Prelude.{◌≡◌, ◌<◌, false, get_or, length, All};
-ghost use Rattle.fd_xfmr.specs.Leakage.{AreTaps};
-ghost use Rattle.fd_queue.specs.Controls.{pair_at};
+ghost use Rattle.fd_network.specs.fd_xfmr.Leakage.{AreTaps};
+ghost use Rattle.fd_regctl.specs.fd_queue.Controls.{pair_at};
 ghost use Rattle.fd_sample.specs.Balls.{IsBall};
 ghost use Rattle.fd_sample.specs.Decided.{sample_of, sample_over};
 ghost use Rattle.fd_sample.specs.Probes.{HasDevice, IsOfEachState, IsProbe, IsSampleOf, TellsChange, interval_over, positions_in};
@@ -9,9 +9,8 @@ ghost use Rattle.fd_sample.specs.Probes.{HasDevice, IsOfEachState, IsProbe, IsSa
 use crate::bank_sample::bank_verdict;
 use crate::probe::Probe;
 use crate::sample::regulator_verdict;
-use fd_arith::TapPair;
-use fd_devices::Positions;
-use fd_queue::Verdict;
+use fd_network::Positions;
+use fd_regctl::{TapPair, Verdict};
 
 /// The verdict of a control over the ball of these centres and radii, one of each for every unknown, in whole
 /// microvolts and microamperes and at most 2^40, where taps and banks stand at these positions. It is undecided exactly

@@ -1,13 +1,12 @@
 // What the ends of an interval decide.
 ghost use Rattle.std.specs.Prelude.{◌≡◌, ◌^◌, ◌<◌, Some, IsSome, IfSome, true, false};
-ghost use Rattle.fd_exact.specs.Rounding.{ceil_div, floor_div};
-ghost use Rattle.fd_queue.specs.Decisions.{same_decision};
-ghost use Rattle.fd_queue.specs.Verdicts.{decision, is_decided};
-ghost use Rattle.fd_arith.specs.Limits.{Fits, non_negative as at_least_0};
+ghost use Rattle.fd_network.specs.fd_exact.Rounding.{ceil_div, floor_div};
+ghost use Rattle.fd_regctl.specs.fd_queue.Decisions.{same_decision};
+ghost use Rattle.fd_regctl.specs.fd_queue.Verdicts.{decision, is_decided};
+ghost use Rattle.fd_regctl.specs.fd_arith.Limits.{Fits, non_negative as at_least_0};
 ghost use Rattle.fd_sample.specs.Samples.{AreRootEnds, AreValueEnds, IfUndecided, agreed as agreed_by, decision_of, lower_square, upper_square};
 
-use fd_arith::{Interval, Square, floor_of_product};
-use fd_queue::Verdict;
+use fd_regctl::{Interval, Square, Verdict, floor_of_product};
 
 // 2^120, which ends that no interval has
 const MOST: i128 = 0x100_0000_0000_0000_0000_0000_0000_0000;

@@ -1,12 +1,12 @@
 // The intervals of unknowns over a ball.
 ghost use Rattle.std.specs.Prelude.{◌≡◌, ◌<◌, ◌≤◌, ◌^◌, pos, nat_abs, length, All};
-ghost use Rattle.fd_exact.specs.States.{part};
-ghost use Rattle.fd_system.specs.Residual.{IsPlace};
-ghost use Rattle.fd_pattern.specs.Conditions.{IsPart};
+ghost use Rattle.fd_network.specs.fd_exact.States.{part};
+ghost use Rattle.fd_network.specs.fd_system.Residual.{IsPlace};
+ghost use Rattle.fd_network.specs.fd_pattern.Conditions.{IsPart};
 ghost use Rattle.fd_sample.specs.Balls.{IsBall, interval_across as across_of, interval_at as at_node, place_interval as at_place, radius_at as radius_of};
 
-use fd_arith::{Cx, Interval, Micro, NodeAt};
-use fd_system::NodePair;
+use fd_network::NodePair;
+use fd_regctl::{Cx, Interval, Micro, NodeAt};
 
 /// The interval of the real unknown at a place.
 pub fn place_interval(centre: &[i128], radii: &[u128], place: usize) -> Interval<Micro>

@@ -48,3 +48,14 @@ pub use laws::{probes_law, sample_law};
 pub use probe::{CapProbe, LineEnd, Measured, Probe, RegProbe};
 pub use sample::regulator_verdict;
 pub use scripted::{bank_probe, regulator_probe};
+
+// Handed on from the crates below.
+pub use fd_capctl::{CapState, away_law};
+pub use fd_network::{
+    BankStates, Blame, BuildFault, Circuit, ControlMode, Layout, Network, NodeName, Options,
+    PhaseName, Positions, Powers, ReadyFault, Taps, network_law, passed_law, ready,
+};
+pub use fd_regctl::{
+    Entry, Queue, RegState, Verdict, count_law, own_law, queue_law, room_law, sampled_law,
+    spare_law, tap_law,
+};

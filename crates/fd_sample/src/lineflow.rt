@@ -5,7 +5,7 @@ ghost use Rattle.fd_sample.specs.Banks.{IsLineEnd, entering_interval, reactive_i
 
 use crate::intervals::interval_at;
 use crate::probe::LineEnd;
-use fd_arith::{Cx, Interval, Micro, NodeAt, Square};
+use fd_regctl::{Cx, Interval, Micro, NodeAt, Square};
 
 /// The interval of the reactive power that enters a line at one of its ends, in 10^-15 kvar.
 pub fn reactive_power(end: &LineEnd, centre: &[i128], radii: &[u128]) -> Interval<Square>

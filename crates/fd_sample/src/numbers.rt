@@ -1,10 +1,10 @@
 // The numbers of a circuit's transformers and banks.
 ghost use Rattle.std.specs.Prelude.{◌≡◌, ◌<◌, ◌≤◌, IfOk, length, slice_index};
-ghost use Rattle.dss_circuit.specs.Limits.{most_elements};
-ghost use Rattle.fd_devices.specs.Settings.{bank_count as banks_of, tap_count as taps_of};
+ghost use Rattle.fd_network.specs.dss_circuit.Limits.{most_elements};
+ghost use Rattle.fd_network.specs.fd_devices.Settings.{bank_count as banks_of, tap_count as taps_of};
 ghost use Rattle.fd_sample.specs.Circuits.{AreNumbers};
 
-use dss_model::{Element, ElementName};
+use fd_network::{Element, ElementName};
 use indexmap::IndexMap;
 use std::alloc::{AllocError, Global};
 

@@ -2,7 +2,7 @@
 ghost use Rattle.std.specs.Prelude.{◌≡◌, ◌≤◌, ◌^◌};
 ghost use Rattle.fd_sample.specs.Phasors.{factor as factor_of, scaled_interval, square_interval};
 
-use fd_arith::{Coef, Cx, Enclose, Interval, Micro, Square};
+use fd_regctl::{Coef, Cx, Enclose, Interval, Micro, Square};
 
 /// n / d as a coefficient, rounded outward.
 pub fn factor(n: i128, d: u128) -> Interval<Coef>

@@ -1,6 +1,6 @@
 // What is known of a control to sample it.
-use fd_arith::NodeAt;
-use fd_system::NodePair;
+use fd_network::NodePair;
+use fd_regctl::NodeAt;
 
 /// A regulator's control, with what its samples need. Numbers are whole 10^-9 where nothing else is said.
 #[derive(Clone, Copy, Debug)]

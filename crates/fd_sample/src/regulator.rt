@@ -1,17 +1,17 @@
 // What a regulator's control wants at a magnitude, which is known by its square.
 ghost use Rattle.std.specs.Prelude.{◌≡◌, ℕ, ◌+◌, ◌*◌, ◌/◌, ◌≤◌, ◌<◌, ◌^◌, pos, ◌+ℤ◌, ◌-ℤ◌, nat_abs, int_lt, if◌then◌else◌, true};
-ghost use Rattle.fd_exact.specs.Rounding.{near_div};
-ghost use Rattle.fd_queue.specs.Decisions.{steps_of};
-ghost use Rattle.fd_queue.specs.Quantities.{magnitude};
-ghost use Rattle.fd_queue.specs.Verdicts.{decision, is_decided};
+ghost use Rattle.fd_network.specs.fd_exact.Rounding.{near_div};
+ghost use Rattle.fd_regctl.specs.fd_queue.Decisions.{steps_of};
+ghost use Rattle.fd_regctl.specs.fd_queue.Quantities.{magnitude};
+ghost use Rattle.fd_regctl.specs.fd_queue.Verdicts.{decision, is_decided};
 ghost use Rattle.fd_regctl.specs.Regulator.{capped as capped_steps, greatest_within};
 ghost use Rattle.fd_regctl.specs.Settings.{room_down as room_below, room_up as room_above, volt_step as step_of};
 ghost use Rattle.fd_sample.specs.Regulators.{AreRegSettings, edge_at, fits_down, fits_up, nominal_of, settings_of, wanted_at};
 
 use crate::probe::RegProbe;
 use crate::roots::{is_above, is_below};
-use fd_arith::near_quotient;
-use fd_queue::Verdict;
+use fd_network::near_quotient;
+use fd_regctl::Verdict;
 
 // 1 in 10^-9 and in 10^-5, and a microvolt in 10^-9 V
 const NANO_PER_ONE: u128 = 1_000_000_000;

@@ -1,13 +1,13 @@
 // The voltage that a regulator's control sees, over a ball.
 ghost use Rattle.std.specs.Prelude.{◌≡◌, ◌*◌, ◌≤◌, ◌^◌, length};
-ghost use Rattle.fd_xfmr.specs.Leakage.{AreTaps};
+ghost use Rattle.fd_network.specs.fd_xfmr.Leakage.{AreTaps};
 ghost use Rattle.fd_sample.specs.Balls.{IsBall};
 ghost use Rattle.fd_sample.specs.Regulators.{IsRegProbe, delivered_interval, reg_interval, relay_interval, turns_interval};
 
 use crate::intervals::{interval_across, interval_at};
 use crate::phasors::{factor, scaled, square_size};
 use crate::probe::RegProbe;
-use fd_arith::{Coef, Cx, Interval, Micro, NodeAt, Square, TapPair};
+use fd_regctl::{Coef, Cx, Interval, Micro, NodeAt, Square, TapPair};
 
 // 1 in 10^-9
 const NANO_PER_ONE: i128 = 1_000_000_000;

@@ -1,6 +1,6 @@
 // Where magnitudes, which are known by their squares, stand to edges.
 ghost use Rattle.std.specs.Prelude.{◌≡◌, ◌*◌, ◌≤◌, ◌^◌, nat_abs};
-ghost use Rattle.fd_queue.specs.Quantities.{root_above, root_below};
+ghost use Rattle.fd_regctl.specs.fd_queue.Quantities.{root_above, root_below};
 
 /// Whether the magnitude of a square is below an edge. A magnitude is above every negative edge.
 pub fn is_below(square: u128, edge: i128) -> bool

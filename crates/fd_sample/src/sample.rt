@@ -1,6 +1,6 @@
 // The sample of a regulator's control over a ball.
 ghost use Rattle.std.specs.Prelude.{◌≡◌, length};
-ghost use Rattle.fd_xfmr.specs.Leakage.{AreTaps};
+ghost use Rattle.fd_network.specs.fd_xfmr.Leakage.{AreTaps};
 ghost use Rattle.fd_sample.specs.Balls.{IsBall};
 ghost use Rattle.fd_sample.specs.Regulators.{AreRegSettings, IsOfEveryState, IsRegProbe, edge_at, own_tap as tap_of_own, reg_decision, reg_edge, reg_interval, wanted_at};
 ghost use Rattle.fd_sample.specs.Samples.{IsRootSample, TellsEdge, greatest_root, least_root};
@@ -9,8 +9,7 @@ use crate::ends::{agreed, square_ends};
 use crate::probe::RegProbe;
 use crate::regulator::{edge_after, wanted};
 use crate::relay::squares;
-use fd_arith::{Interval, Square, TapPair};
-use fd_queue::Verdict;
+use fd_regctl::{Interval, Square, TapPair, Verdict};
 
 /// The verdict of a regulator's control over the ball of these centres and radii, in whole microvolts and microamperes,
 /// where its transformer stands at these taps. It is undecided exactly where the least and the greatest magnitude of

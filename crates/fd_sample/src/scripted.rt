@@ -1,20 +1,20 @@
 // The probes of controls by their settings in the script.
 ghost use Rattle.std.specs.Prelude.{◌≡◌, ℕ, ◌+◌, ◌-◌, ◌*◌, ◌/◌, ◌^◌, ◌<◌, ◌≤◌, ◌==◌, pos, ◌≤ℤ◌, nat_abs, if◌then◌else◌};
-ghost use Rattle.dss_model.specs.InRange.{CapControlInRange, LineInRange, RegControlInRange, TransformerInRange, WindingInRange};
-ghost use Rattle.fd_system.specs.Terminals.{node_of};
-ghost use Rattle.fd_xfmr.specs.Leakage.{IsXfmr};
-ghost use Rattle.fd_xfmr.specs.Transformer.{IsBetween};
-ghost use Rattle.fd_xfmr.specs.Windings.{first_volts as first, second_volts as second};
+ghost use Rattle.fd_network.specs.dss_model.InRange.{CapControlInRange, LineInRange, RegControlInRange, TransformerInRange, WindingInRange};
+ghost use Rattle.fd_network.specs.fd_system.Terminals.{node_of};
+ghost use Rattle.fd_network.specs.fd_xfmr.Leakage.{IsXfmr};
+ghost use Rattle.fd_network.specs.fd_xfmr.Transformer.{IsBetween};
+ghost use Rattle.fd_network.specs.fd_xfmr.Windings.{first_volts as first, second_volts as second};
 ghost use Rattle.fd_sample.specs.Banks.{IsCapProbe};
 ghost use Rattle.fd_sample.specs.Regulators.{AreRegSettings, IsRegProbe};
 ghost use Rattle.fd_sample.specs.Scripted.{IsLineAt, IsPhase, IsXfmrAt, cap_probe, line_end as end_of, measured_by, phase_index as index_of, reg_probe, side_of, step_of, winding_of};
 
 use crate::probe::{CapProbe, LineEnd, Measured, RegProbe};
-use dss_model::{CapControl, ControlQuantity, Line, RegControl, Transformer, Winding};
-use fd_arith::{Ends, NodeAt, Nodes};
-use fd_devices::xfmr_data;
-use fd_system::{NodePair, phase_volts};
-use fd_xfmr::{PhaseAt, XfmrData, phase_at};
+use fd_network::{
+    CapControl, ControlQuantity, Line, NodePair, PhaseAt, RegControl, Transformer, Winding,
+    XfmrData, phase_at, phase_volts, xfmr_data,
+};
+use fd_regctl::{Ends, NodeAt, NodesAt};
 
 /// The probe of a regulator's control, whose transformer has this number among the transformers and stands at these
 /// ends. Takes no memory.
@@ -118,14 +118,14 @@ fn line_end(line: &Line, at: &Ends, is_second: bool) -> LineEnd
     }
 }
 
-fn side(at: &Ends, is_second: bool) -> &Nodes
+fn side(at: &Ends, is_second: bool) -> &NodesAt
     ensures { result.now ≡ side_of is_second at.now }
 {
     if is_second { &at.second } else { &at.first }
 }
 
 // The node of a phase; ground where there is none.
-fn node_at(nodes: &Nodes, k: u32) -> NodeAt
+fn node_at(nodes: &NodesAt, k: u32) -> NodeAt
     ensures { result ≡ node_of nodes.now k }
 {
     match nodes.as_slice().get(k as usize) {

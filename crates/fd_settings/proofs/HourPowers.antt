@@ -2,11 +2,11 @@
 use Rattle.std.proofs.Common.{◌≡◌, ◌∙◌, ℕ, ◌+◌, List, [], ◌∷◌, length, length-append, replicate, refl}
 use Rattle.std.specs.List.{flat_map}
 use Rattle.std.proofs.lemmas.List.{length-replicate}
-use Rattle.fd_exact.specs.Sums.{list_n}
-use Rattle.dss_model.specs.declared.element.Element.{Element}
-use Rattle.dss_model.specs.declared.load.Load.{Load}
-use Rattle.dss_model.specs.declared.names.ElementName.{ElementName}
-use Rattle.dss_layout.specs.Layout.{Elements}
+use Rattle.fd_devices.specs.fd_exact.Sums.{list_n}
+use Rattle.fd_devices.specs.dss_model.declared.element.Element.{Element}
+use Rattle.fd_devices.specs.dss_model.declared.load.Load.{Load}
+use Rattle.fd_devices.specs.dss_model.declared.names.ElementName.{ElementName}
+use Rattle.fd_devices.specs.dss_layout.Layout.{Elements}
 use Rattle.fd_devices.specs.Kinds.{loads_in}
 use Rattle.fd_devices.specs.Settings.{power_count}
 use Rattle.fd_settings.specs.Hours.{HoursLaw, element_powers, hour_powers, point_at}

@@ -6,22 +6,22 @@ use Rattle.std.proofs.Math.Nat.{mul-le-mul, mul-le-mul_left}
 use Rattle.std.proofs.lemmas.Bool.{cases_lt}
 use Rattle.std.proofs.lemmas.Int.{ints, unsigned_abs-mul}
 use Rattle.std.proofs.lemmas.List.Elements.{All-append, All-cons, All-head, All-nil, All-replicate, All-tail, All-take}
-use Rattle.dss_model.specs.InRange.{ElementInRange, LoadInRange}
-use Rattle.dss_model.specs.Ranges.{IsBetween, IsOneOf, IsPower, ones}
-use Rattle.dss_model.specs.SameElement.{same_element}
-use Rattle.dss_model.specs.declared.element.Element.{Element}
-use Rattle.dss_model.specs.declared.element.Element.TheVariants as the
-use Rattle.dss_model.specs.declared.load.Load.{Load}
-use Rattle.dss_model.specs.declared.names.Class.TheVariants as class
-use Rattle.dss_model.specs.declared.names.ElementName.{ElementName}
-use Rattle.dss_model.specs.declared.words.ReactiveRule.{ReactiveRule}
-use Rattle.dss_model.specs.declared.words.ReactiveRule.TheVariants as rule
-use Rattle.dss_circuit.specs.Lookups.{element_given}
-use Rattle.dss_circuit.proofs.CallerLemmas.{of_found}
-use Rattle.dss_layout.specs.Layout.{Elements}
-use Rattle.fd_exact.specs.Nearest.{near_within}
-use Rattle.fd_elements.specs.Powers.{IsReactive, phase_power}
-use Rattle.fd_elements.proofs.CallerLemmas.{factor_least}
+use Rattle.fd_devices.specs.dss_model.InRange.{ElementInRange, LoadInRange}
+use Rattle.fd_devices.specs.dss_model.Ranges.{IsBetween, IsOneOf, IsPower, ones}
+use Rattle.fd_devices.specs.dss_model.SameElement.{same_element}
+use Rattle.fd_devices.specs.dss_model.declared.element.Element.{Element}
+use Rattle.fd_devices.specs.dss_model.declared.element.Element.TheVariants as the
+use Rattle.fd_devices.specs.dss_model.declared.load.Load.{Load}
+use Rattle.fd_devices.specs.dss_model.declared.names.Class.TheVariants as class
+use Rattle.fd_devices.specs.dss_model.declared.names.ElementName.{ElementName}
+use Rattle.fd_devices.specs.dss_model.declared.words.ReactiveRule.{ReactiveRule}
+use Rattle.fd_devices.specs.dss_model.declared.words.ReactiveRule.TheVariants as rule
+use Rattle.fd_devices.specs.dss_circuit.Lookups.{element_given}
+use Rattle.fd_devices.proofs.CallerLemmas.dss_circuit.{of_found}
+use Rattle.fd_devices.specs.dss_layout.Layout.{Elements}
+use Rattle.fd_devices.specs.fd_exact.Nearest.{near_within}
+use Rattle.fd_devices.specs.fd_elements.Powers.{IsReactive, phase_power}
+use Rattle.fd_devices.proofs.CallerLemmas.fd_elements.{factor_least}
 use Rattle.fd_devices.specs.Building.{IsModest}
 use Rattle.fd_devices.specs.Kinds.{loads_in}
 use Rattle.fd_settings.specs.Hours.{element_powers, followed_point, point_at}

@@ -4,17 +4,17 @@ use Rattle.std.specs.List.{All, flat_map}
 use Rattle.std.proofs.Math.ListN.{drop_of_length-le}
 use Rattle.std.proofs.lemmas.List.{append-nil, length-map}
 use Rattle.std.proofs.lemmas.List.Elements.{All-nil, All-append, All-drop, All-head, All-map, All-tail, All-weaker}
-use Rattle.fd_exact.specs.Sums.{list_n}
-use Rattle.fd_arith.specs.declared.terms.TapPair.{TapPair}
-use Rattle.dss_model.specs.declared.element.Element.{Element}
-use Rattle.dss_model.specs.declared.names.ElementName.{ElementName}
-use Rattle.dss_model.specs.declared.transformer.Transformer.{Transformer}
-use Rattle.dss_model.specs.declared.transformer.Winding.{Winding}
-use Rattle.dss_model.specs.InRange.{ElementInRange, TransformerInRange}
-use Rattle.dss_model.specs.Ranges.{IsTap}
-use Rattle.dss_layout.specs.Layout.{Elements}
-use Rattle.dss_layout.proofs.CallerLemmas.{drop-more}
-use Rattle.fd_xfmr.specs.Leakage.{AreTaps}
+use Rattle.fd_devices.specs.fd_exact.Sums.{list_n}
+use Rattle.fd_devices.specs.fd_arith.declared.terms.TapPair.{TapPair}
+use Rattle.fd_devices.specs.dss_model.declared.element.Element.{Element}
+use Rattle.fd_devices.specs.dss_model.declared.names.ElementName.{ElementName}
+use Rattle.fd_devices.specs.dss_model.declared.transformer.Transformer.{Transformer}
+use Rattle.fd_devices.specs.dss_model.declared.transformer.Winding.{Winding}
+use Rattle.fd_devices.specs.dss_model.InRange.{ElementInRange, TransformerInRange}
+use Rattle.fd_devices.specs.dss_model.Ranges.{IsTap}
+use Rattle.fd_devices.specs.dss_layout.Layout.{Elements}
+use Rattle.fd_devices.proofs.CallerLemmas.dss_layout.{drop-more}
+use Rattle.fd_devices.specs.fd_xfmr.Leakage.{AreTaps}
 use Rattle.fd_devices.specs.Kinds.{banks_in, transformers_in}
 use Rattle.fd_devices.specs.Settings.{AreSettings, Settings, bank_count, tap_count}
 use Rattle.fd_devices.proofs.CallerLemmas.{first_left, transformers_in_range}

@@ -3,16 +3,16 @@ use Rattle.std.proofs.Common.{◌≡◌, ℕ, ◌+◌, ◌-◌, ◌*◌, ◌^◌
 use Rattle.std.proofs.lemmas.Bool.{cases_lt, leb-true, le-leb}
 use Rattle.std.proofs.lemmas.Int.{ints}
 use Rattle.std.proofs.Math.Nat.{mul-le-mul, mul-le-mul_left}
-use Rattle.fd_exact.specs.Rounding.{signed, differ}
-use Rattle.dss_model.specs.declared.words.ReactiveRule.{ReactiveRule}
-use Rattle.dss_model.specs.declared.words.ReactiveRule.TheVariants as rule
-use Rattle.dss_model.specs.Ranges.{IsPowerFactor}
-use Rattle.dss_model.specs.declared.load.Load.{Load}
-use Rattle.fd_elements.specs.declared.powers.LoadPower.{LoadPower}
-use Rattle.fd_elements.specs.Powers.{IsByPowerFactor, IsLoadPower, IsReactive, phase_power, square}
-use Rattle.fd_elements.proofs.CallerLemmas.{by_sign, same_power}
+use Rattle.fd_devices.specs.fd_exact.Rounding.{signed, differ}
+use Rattle.fd_devices.specs.dss_model.declared.words.ReactiveRule.{ReactiveRule}
+use Rattle.fd_devices.specs.dss_model.declared.words.ReactiveRule.TheVariants as rule
+use Rattle.fd_devices.specs.dss_model.Ranges.{IsPowerFactor}
+use Rattle.fd_devices.specs.dss_model.declared.load.Load.{Load}
+use Rattle.fd_devices.specs.fd_elements.declared.powers.LoadPower.{LoadPower}
+use Rattle.fd_devices.specs.fd_elements.Powers.{IsByPowerFactor, IsLoadPower, IsReactive, phase_power, square}
+use Rattle.fd_devices.proofs.CallerLemmas.fd_elements.{by_sign, same_power}
 use Rattle.fd_settings.specs.Snapshot.{power_of, reactive_by, reactive_size}
-use Rattle.fd_source.proofs.CallerLemmas.{greatest_holds, greatest_most}
+use Rattle.fd_devices.proofs.CallerLemmas.fd_source.{greatest_holds, greatest_most}
 
 -- q^2 pf^2 <= p^2 (1 - pf^2) at most where q <= 10^9 p, and then among the numbers that are looked at
 root_within : (p d q : ℕ) → 1 ≤ d → q * q * d ≤ p * p * (10 ^ 18 - d) → q ≤ 10 ^ 9 * p

@@ -1,16 +1,16 @@
 -- The powers of loads at an hour of a day: hour 0 is the snapshot, and at the hours from 1 on a load follows its shape.
 use Rattle.std.specs.Prelude.{◌≡◌, ℕ, zero, suc, ◌%◌, ℤ, pos, List, length, get_or, replicate, take, Option, Some}
 use Rattle.std.specs.List.{flat_map}
-use Rattle.fd_exact.specs.Sums.{list_n}
-use Rattle.dss_model.specs.Ranges.{ones}
-use Rattle.dss_model.specs.declared.load.Load.{Load}
-use Rattle.dss_model.specs.declared.loadshape.Loadshape.{Loadshape}
-use Rattle.dss_model.specs.declared.element.Element.{Element}
-use Rattle.dss_model.specs.declared.element.Element.TheVariants as the
-use Rattle.dss_model.specs.declared.names.Class.TheVariants as class
-use Rattle.dss_layout.specs.Layout.{Elements}
-use Rattle.dss_circuit.specs.Lookups.{element_given}
-use Rattle.fd_elements.specs.declared.powers.LoadPower.{LoadPower}
+use Rattle.fd_devices.specs.fd_exact.Sums.{list_n}
+use Rattle.fd_devices.specs.dss_model.Ranges.{ones}
+use Rattle.fd_devices.specs.dss_model.declared.load.Load.{Load}
+use Rattle.fd_devices.specs.dss_model.declared.loadshape.Loadshape.{Loadshape}
+use Rattle.fd_devices.specs.dss_model.declared.element.Element.{Element}
+use Rattle.fd_devices.specs.dss_model.declared.element.Element.TheVariants as the
+use Rattle.fd_devices.specs.dss_model.declared.names.Class.TheVariants as class
+use Rattle.fd_devices.specs.dss_layout.Layout.{Elements}
+use Rattle.fd_devices.specs.dss_circuit.Lookups.{element_given}
+use Rattle.fd_devices.specs.fd_elements.declared.powers.LoadPower.{LoadPower}
 use Rattle.fd_devices.specs.Kinds.{loads_in}
 use Rattle.fd_devices.specs.Settings.{power_count}
 use Rattle.fd_settings.specs.Snapshot.{power_of, snapshot_of}

@@ -1,7 +1,7 @@
 -- The sizes of the powers of loads.
 use Rattle.std.specs.Prelude.{ℕ, All}
-use Rattle.dss_model.specs.InRange.{ElementInRange}
-use Rattle.dss_layout.specs.Layout.{Elements}
+use Rattle.fd_devices.specs.dss_model.InRange.{ElementInRange}
+use Rattle.fd_devices.specs.dss_layout.Layout.{Elements}
 use Rattle.fd_devices.specs.Building.{IsModest}
 use Rattle.fd_settings.specs.Hours.{hour_powers}
 

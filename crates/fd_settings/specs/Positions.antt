@@ -1,13 +1,13 @@
 -- The positions with which a Solve starts: what the script set since the Solve before, and else those of before.
 use Rattle.std.specs.Prelude.{◌≡◌, ℕ, ◌+◌, ◌==◌, Bool, List, [], ◌∷◌, ◌++◌, drop, map, slice_get, All, Option, Some, None, if◌then◌else◌}
-use Rattle.fd_arith.specs.declared.terms.TapPair.{TapPair}
-use Rattle.dss_model.specs.declared.transformer.Transformer.{Transformer}
-use Rattle.dss_model.specs.declared.transformer.Winding.{Winding}
-use Rattle.dss_model.specs.declared.capacitor.Capacitor.{Capacitor}
-use Rattle.dss_model.specs.declared.element.Element.{Element}
-use Rattle.dss_model.specs.InRange.{ElementInRange}
-use Rattle.dss_layout.specs.Layout.{Elements}
-use Rattle.fd_xfmr.specs.Leakage.{AreTaps}
+use Rattle.fd_devices.specs.fd_arith.declared.terms.TapPair.{TapPair}
+use Rattle.fd_devices.specs.dss_model.declared.transformer.Transformer.{Transformer}
+use Rattle.fd_devices.specs.dss_model.declared.transformer.Winding.{Winding}
+use Rattle.fd_devices.specs.dss_model.declared.capacitor.Capacitor.{Capacitor}
+use Rattle.fd_devices.specs.dss_model.declared.element.Element.{Element}
+use Rattle.fd_devices.specs.dss_model.InRange.{ElementInRange}
+use Rattle.fd_devices.specs.dss_layout.Layout.{Elements}
+use Rattle.fd_devices.specs.fd_xfmr.Leakage.{AreTaps}
 use Rattle.fd_devices.specs.Kinds.{banks_in, transformers_in}
 use Rattle.fd_devices.specs.Settings.{AreSettings, Settings, bank_count, tap_count}
 use Rattle.fd_settings.specs.Snapshot.{is_closed, snapshot_of}

@@ -2,23 +2,23 @@
 use Rattle.std.specs.Prelude.{ℕ, ◌*◌, ◌-◌, ◌^◌, nat_le, ℤ, pos, nat_abs, Bool, true, false, List, map, replicate, All}
 use Rattle.std.specs.List.{flat_map}
 use Rattle.std.specs.Option.{unwrap_or}
-use Rattle.fd_exact.specs.Rounding.{signed, differ}
-use Rattle.fd_arith.specs.declared.terms.TapPair.{TapPair}
-use Rattle.dss_model.specs.Ranges.{ones}
-use Rattle.dss_model.specs.declared.words.BankState.{BankState}
-use Rattle.dss_model.specs.declared.words.BankState.TheVariants as bank_state
-use Rattle.dss_model.specs.declared.words.ReactiveRule.{ReactiveRule}
-use Rattle.dss_model.specs.declared.words.ReactiveRule.TheVariants as rule
-use Rattle.dss_model.specs.declared.capacitor.Capacitor.{Capacitor}
-use Rattle.dss_model.specs.declared.load.Load.{Load}
-use Rattle.dss_model.specs.declared.transformer.Transformer.{Transformer}
-use Rattle.dss_model.specs.declared.element.Element.{Element}
-use Rattle.dss_model.specs.InRange.{ElementInRange}
-use Rattle.dss_layout.specs.Layout.{Elements}
-use Rattle.fd_source.specs.Powers.{greatest_such}
-use Rattle.fd_xfmr.specs.Leakage.{AreTaps}
-use Rattle.fd_elements.specs.declared.powers.LoadPower.{LoadPower}
-use Rattle.fd_elements.specs.Powers.{phase_power, square}
+use Rattle.fd_devices.specs.fd_exact.Rounding.{signed, differ}
+use Rattle.fd_devices.specs.fd_arith.declared.terms.TapPair.{TapPair}
+use Rattle.fd_devices.specs.dss_model.Ranges.{ones}
+use Rattle.fd_devices.specs.dss_model.declared.words.BankState.{BankState}
+use Rattle.fd_devices.specs.dss_model.declared.words.BankState.TheVariants as bank_state
+use Rattle.fd_devices.specs.dss_model.declared.words.ReactiveRule.{ReactiveRule}
+use Rattle.fd_devices.specs.dss_model.declared.words.ReactiveRule.TheVariants as rule
+use Rattle.fd_devices.specs.dss_model.declared.capacitor.Capacitor.{Capacitor}
+use Rattle.fd_devices.specs.dss_model.declared.load.Load.{Load}
+use Rattle.fd_devices.specs.dss_model.declared.transformer.Transformer.{Transformer}
+use Rattle.fd_devices.specs.dss_model.declared.element.Element.{Element}
+use Rattle.fd_devices.specs.dss_model.InRange.{ElementInRange}
+use Rattle.fd_devices.specs.dss_layout.Layout.{Elements}
+use Rattle.fd_devices.specs.fd_source.Powers.{greatest_such}
+use Rattle.fd_devices.specs.fd_xfmr.Leakage.{AreTaps}
+use Rattle.fd_devices.specs.fd_elements.declared.powers.LoadPower.{LoadPower}
+use Rattle.fd_devices.specs.fd_elements.Powers.{phase_power, square}
 use Rattle.fd_devices.specs.Kinds.{banks_in, loads_in, transformers_in}
 use Rattle.fd_devices.specs.Settings.{AreSettings, Settings}
 

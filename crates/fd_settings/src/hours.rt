@@ -1,18 +1,17 @@
 // The powers of loads at an hour of a day.
 ghost use Rattle.std.specs.Prelude.{◌≡◌, ◌++◌, ◌%◌, pos, get_or, replicate, take, All, IfOk, IfSome, OnOk, option_copied};
-ghost use Rattle.dss_model.specs.Ranges.{ones, IsBetween};
-ghost use Rattle.dss_model.specs.InRange.{ElementInRange, LoadInRange, LoadshapeInRange};
-ghost use Rattle.dss_model.specs.declared.names.Class.TheVariants as class;
-ghost use Rattle.dss_circuit.specs.Lookups.{element_given};
+ghost use Rattle.fd_devices.specs.dss_model.Ranges.{ones, IsBetween};
+ghost use Rattle.fd_devices.specs.dss_model.InRange.{ElementInRange, LoadInRange, LoadshapeInRange};
+ghost use Rattle.fd_devices.specs.dss_model.declared.names.Class.TheVariants as class;
+ghost use Rattle.fd_devices.specs.dss_circuit.Lookups.{element_given};
 ghost use Rattle.fd_devices.specs.Building.{IsModest};
 ghost use Rattle.fd_settings.specs.Hours.{HoursLaw, element_powers, followed_point, hour_powers, point_at, repeated_point};
 ghost use Rattle.fd_settings.specs.Snapshot.{power_of};
 
-use dss_circuit::{Circuit, find_element};
-use dss_lexer::Text;
-use dss_model::{Class, Element, ElementName, Load, Loadshape};
-use fd_devices::{LoadPowers, Powers};
-use fd_elements::{LoadPower, load_power};
+use fd_devices::{
+    Circuit, Class, Element, ElementName, Load, LoadPower, LoadPowers, Loadshape, Powers, Text,
+    find_element, load_power,
+};
 use std::alloc::{AllocError, Global};
 
 // 1 as the point of a load shape, in 10^-9

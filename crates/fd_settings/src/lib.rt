@@ -20,3 +20,9 @@ pub use hours::{hours_law, powers_at};
 pub use modest::modest_law;
 pub use positions::{next_law, next_positions};
 pub use snapshot::{script_positions, snapshot_law};
+
+// Handed on from the crates below.
+pub use fd_devices::{
+    BankStates, BuildFault, Circuit, Constant, Element, Layout, LoadAt, LoadPhase, LoadPower,
+    LoadPowers, Mode, NodePair, Options, PlaceKind, Positions, Powers, Taps,
+};

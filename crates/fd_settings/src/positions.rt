@@ -3,10 +3,10 @@ ghost use Rattle.std.specs.Prelude.{◌≡◌, ◌++◌, length, slice_get, IfOk
 ghost use Rattle.fd_settings.specs.Snapshot.{is_closed as is_state_closed};
 ghost use Rattle.fd_settings.specs.Positions.{NextLaw, is_set as is_set_at, next_closed, next_closed_of, next_pair as pair_of, next_state as state_of, next_tap as tap_of, next_taps, next_taps_of};
 
-use dss_circuit::Circuit;
-use dss_model::{BankState, Capacitor, Element, Transformer, Winding};
-use fd_arith::TapPair;
-use fd_devices::{BankStates, Positions, Taps};
+use fd_devices::{
+    BankState, BankStates, Capacitor, Circuit, Element, Positions, TapPair, Taps, Transformer,
+    Winding,
+};
 use std::alloc::{AllocError, Global};
 
 /// The positions with which a Solve starts, after `Circuit::apply` took its command: a tap or state that the script set since the

@@ -4,8 +4,7 @@ ghost use Rattle.std.specs.List.{flat_map};
 ghost use Rattle.fd_settings.specs.Snapshot.{SnapshotLaw, closed_of, taps_of};
 
 use crate::positions::{next_law, next_positions};
-use dss_circuit::Circuit;
-use fd_devices::{BankStates, Positions, Taps};
+use fd_devices::{BankStates, Circuit, Positions, Taps};
 use std::alloc::{AllocError, Global};
 
 /// The taps and states as the script sets them: the positions with which a Solve starts where nothing was before.

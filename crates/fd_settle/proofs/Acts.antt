@@ -7,15 +7,15 @@ use Rattle.std.proofs.lemmas.Bool.{cases_eq}
 use Rattle.std.proofs.lemmas.List.Elements.{All-set}
 use Rattle.std.proofs.lemmas.List.{drop_more, get_or-map, get_or-set_other, get_or-set_same, length-map, length-set, length_push, map-set, set-get_or, take_all}
 use Rattle.std.proofs.lemmas.List.Sums.{fold_more}
-use Rattle.fd_arith.specs.declared.terms.TapPair.{TapPair}
-use Rattle.fd_xfmr.specs.Leakage.{AreTaps}
-use Rattle.fd_capctl.specs.CapState.{IsEarly, opened_at}
-use Rattle.fd_queue.specs.Controls.{moved_tap, no_taps, set_tap, tap_of}
-use Rattle.fd_queue.specs.Decisions.{Decision, Raise, Hold, Lower, is_raise, steps_of, way_of}
-use Rattle.fd_queue.specs.Machine.{Act, Machine, Setup, acted, acts_of, moved, moved_by, no_control, settle_rule, signed_steps}
-use Rattle.fd_queue.specs.Queue.{HaveOneEach, InPairs}
-use Rattle.fd_queue.specs.declared.entry.Entry.{Entry}
-use Rattle.fd_regctl.specs.RegState.{moved_pair}
+use Rattle.fd_inject.specs.fd_arith.declared.terms.TapPair.{TapPair}
+use Rattle.fd_sample.specs.fd_xfmr.Leakage.{AreTaps}
+use Rattle.fd_sample.specs.fd_capctl.CapState.{IsEarly, opened_at}
+use Rattle.fd_sample.specs.fd_queue.Controls.{moved_tap, no_taps, set_tap, tap_of}
+use Rattle.fd_sample.specs.fd_queue.Decisions.{Decision, Raise, Hold, Lower, is_raise, steps_of, way_of}
+use Rattle.fd_sample.specs.fd_queue.Machine.{Act, Machine, Setup, acted, acts_of, moved, moved_by, no_control, settle_rule, signed_steps}
+use Rattle.fd_sample.specs.fd_queue.Queue.{HaveOneEach, InPairs}
+use Rattle.fd_sample.specs.fd_queue.declared.entry.Entry.{Entry}
+use Rattle.fd_sample.specs.fd_regctl.RegState.{moved_pair}
 use Rattle.fd_sample.specs.declared.probe.Probe.{Probe}
 use Rattle.fd_sample.specs.declared.probe.Probe.TheVariants as probe
 use Rattle.fd_sample.specs.Circuits.{AreApart, HasRange}

@@ -1,17 +1,17 @@
 -- What a settle comes to where its states are computed: there is one computation, and the clauses of `settle` tell it.
 use Rattle.std.proofs.Common.{◌≡◌, ℕ, zero, suc, ◌+◌, ◌≤◌, ◌<◌, ℤ, List, [], ◌∷◌, map, Option, Some, None, Result, Ok, Err, refl, sym, ap, ◌∙◌, subst, arith}
-use Rattle.dss_model.specs.declared.command.Blame.{Blame}
-use Rattle.fd_pattern.specs.Views.{NetworkView}
+use Rattle.fd_sample.specs.dss_model.declared.command.Blame.{Blame}
+use Rattle.fd_inject.specs.fd_pattern.Views.{NetworkView}
 use Rattle.fd_cert.specs.Claims.{claim_in}
 use Rattle.fd_cert.specs.declared.fault.CertFault.TheVariants as cert
-use Rattle.fd_enclosure.specs.Sound.{Claim, Refusal, certificate_of, loose, uncertain}
+use Rattle.fd_cert.specs.fd_enclosure.Sound.{Claim, Refusal, certificate_of, loose, uncertain}
 use Rattle.fd_inject.specs.Faults.{UnlessMemory}
 use Rattle.fd_inject.specs.Procedure.{solution_of}
 use Rattle.fd_inject.specs.declared.fault.SolveFault.{SolveFault}
 use Rattle.fd_inject.specs.declared.fault.SolveFault.TheVariants as solving
 use Rattle.fd_inject.specs.declared.limits.Limits.{Limits}
-use Rattle.fd_queue.specs.Machine.{Act, Machine}
-use Rattle.fd_queue.specs.MachineLaws.{CountLaw}
+use Rattle.fd_sample.specs.fd_queue.Machine.{Act, Machine}
+use Rattle.fd_sample.specs.fd_queue.MachineLaws.{CountLaw}
 use Rattle.fd_settle.specs.declared.compute.ComputeFault.{ComputeFault}
 use Rattle.fd_settle.specs.declared.compute.ComputeFault.TheVariants as compute
 use Rattle.fd_settle.specs.declared.fault.SettleFault.{SettleFault}

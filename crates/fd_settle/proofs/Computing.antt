@@ -1,10 +1,10 @@
 -- The certified state of a point that the procedure reaches.
 use Rattle.std.proofs.Common.{◌≡◌, ◌∙◌, ℤ, List, Ok, ap, sym}
-use Rattle.fd_pattern.specs.Views.{NetworkView}
+use Rattle.fd_inject.specs.fd_pattern.Views.{NetworkView}
 use Rattle.fd_inject.specs.Procedure.{solution_of}
 use Rattle.fd_inject.specs.declared.limits.Limits.{Limits}
-use Rattle.fd_enclosure.specs.Sound.{Claim, certificate_of, claim_of}
-use Rattle.fd_enclosure.proofs.CallerLemmas.{claim_is}
+use Rattle.fd_cert.specs.fd_enclosure.Sound.{Claim, certificate_of, claim_of}
+use Rattle.fd_cert.proofs.CallerLemmas.fd_enclosure.{claim_is}
 use Rattle.fd_settle.specs.Compute.{IsComputed}
 
 pub computed_of : (limits : Limits) (v : NetworkView) (x : List ℤ) (inverse : List (List ℤ)) (m : Claim)

@@ -5,15 +5,15 @@ use Rattle.std.specs.List.{AllByRecursion, list_any}
 use Rattle.std.specs.Option.{is_some}
 use Rattle.std.proofs.lemmas.Bool.{cases_lt}
 use Rattle.std.proofs.lemmas.List.{get_or-map, length-map}
-use Rattle.fd_arith.specs.Interval.{Bounds}
-use Rattle.fd_queue.specs.Controls.{Positions, pair_at, tap_of}
-use Rattle.fd_queue.specs.Decisions.{Decision, Raise, Hold, Lower, same_decision, steps_of, way_of}
-use Rattle.fd_queue.specs.MachineLaws.{entry_way}
-use Rattle.fd_queue.specs.Quantities.{Quantity}
-use Rattle.fd_queue.specs.declared.entry.Entry.{Entry}
-use Rattle.fd_regctl.specs.RegulatorLaws.{StepsDown, StepsUp, StaysWithin, TapLaw}
-use Rattle.fd_regctl.specs.Settings.{RegSettings}
-use Rattle.fd_capctl.specs.BankLaws.{AwayLaw}
+use Rattle.fd_inject.specs.fd_arith.Interval.{Bounds}
+use Rattle.fd_sample.specs.fd_queue.Controls.{Positions, pair_at, tap_of}
+use Rattle.fd_sample.specs.fd_queue.Decisions.{Decision, Raise, Hold, Lower, same_decision, steps_of, way_of}
+use Rattle.fd_sample.specs.fd_queue.MachineLaws.{entry_way}
+use Rattle.fd_sample.specs.fd_queue.Quantities.{Quantity}
+use Rattle.fd_sample.specs.fd_queue.declared.entry.Entry.{Entry}
+use Rattle.fd_sample.specs.fd_regctl.RegulatorLaws.{StepsDown, StepsUp, StaysWithin, TapLaw}
+use Rattle.fd_sample.specs.fd_regctl.Settings.{RegSettings}
+use Rattle.fd_sample.specs.fd_capctl.BankLaws.{AwayLaw}
 use Rattle.fd_sample.specs.declared.probe.Probe.{Probe}
 use Rattle.fd_sample.specs.declared.probe.Probe.TheVariants as probe
 use Rattle.fd_sample.specs.declared.probe.RegProbe.{RegProbe}
@@ -22,7 +22,7 @@ use Rattle.fd_sample.specs.Circuits.{HasRange}
 use Rattle.fd_sample.specs.Decided.{Undecided, decided_or, greatest_in, least_in, sample_in, sample_over}
 use Rattle.fd_sample.specs.Probes.{IsProbe, decision_at, interval_over, switch_of}
 use Rattle.fd_sample.specs.Regulators.{settings_of}
-use Rattle.fd_queue.specs.Controls.{is_closed}
+use Rattle.fd_sample.specs.fd_queue.Controls.{is_closed}
 use Rattle.fd_settle.specs.declared.state.ControlState.{ControlState}
 use Rattle.fd_settle.specs.declared.state.ControlState.TheVariants as state
 use Rattle.fd_settle.specs.Acting.{AllCanAct, CanAct, FitsDevice, MovesWithin, judged, verdict_in, with_verdict}

@@ -1,12 +1,12 @@
 -- A settle that goes on, over any plant.
 use Rattle.std.proofs.Common.{◌≡◌, None, List, [], ◌∷◌, ◌++◌, length, map, drop, Result, Ok, refl, sym, ap, ◌∙◌, subst, append_assoc}
 use Rattle.std.proofs.Math.Seq.{drop-append_seam}
-use Rattle.fd_pattern.specs.Views.{NetworkView}
-use Rattle.fd_enclosure.specs.Sound.{Claim}
+use Rattle.fd_inject.specs.fd_pattern.Views.{NetworkView}
+use Rattle.fd_cert.specs.fd_enclosure.Sound.{Claim}
 use Rattle.fd_cert.specs.Claims.{claim_in}
-use Rattle.fd_queue.specs.Controls.{Positions}
-use Rattle.fd_queue.specs.Machine.{Machine, Setup, Act, Step, Quiet, AtLimit, Acts, step_of}
-use Rattle.fd_queue.specs.MachineLaws.{CountLaw, CountsActs, IsCounted}
+use Rattle.fd_sample.specs.fd_queue.Controls.{Positions}
+use Rattle.fd_sample.specs.fd_queue.Machine.{Machine, Setup, Act, Step, Quiet, AtLimit, Acts, step_of}
+use Rattle.fd_sample.specs.fd_queue.MachineLaws.{CountLaw, CountsActs, IsCounted}
 use Rattle.fd_settle.specs.declared.round.Round.{Round}
 use Rattle.fd_settle.specs.Sampling.{Sampling, Decided, Unclear}
 use Rattle.fd_settle.specs.Settle.{End, Open, Outcome, Ends, Moves, outcome_of, outcome_after, before_rest, Settle, settle_of}

@@ -1,5 +1,5 @@
 -- A claim on the network of a circuit's definition is one on a network with the circuit's equations.
-use Rattle.fd_network.specs.Laws.{NetworkLaw}
+use Rattle.fd_sample.specs.fd_network.Laws.{NetworkLaw}
 use Rattle.fd_settle.specs.Kept.{SoundAtLaw}
 use Rattle.fd_settle.specs.Plant.{blame_at, network_at, settings_at}
 

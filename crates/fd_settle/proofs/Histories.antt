@@ -1,8 +1,8 @@
 -- The acts follow from the decisions alone.
 use Rattle.std.proofs.Common.{◌≡◌, ℕ, zero, suc, List, [], ◌∷◌, length, take, refl, ap, sym, ◌∙◌, arith}
-use Rattle.fd_queue.specs.Controls.{Positions}
-use Rattle.fd_queue.specs.Decisions.{Decision}
-use Rattle.fd_queue.specs.Machine.{Machine, Setup, Act}
+use Rattle.fd_sample.specs.fd_queue.Controls.{Positions}
+use Rattle.fd_sample.specs.fd_queue.Decisions.{Decision}
+use Rattle.fd_sample.specs.fd_queue.Machine.{Machine, Setup, Act}
 use Rattle.fd_settle.specs.Sampling.{Sampling, Decided, Unclear}
 use Rattle.fd_settle.specs.Settle.{Open, Settled, Limited, Undecidable, Outcome, Ends, Moves, outcome_of, before_rest, Settle, settle_of}
 use Rattle.fd_settle.specs.Chosen.{AreOfHeld, GoesOn, AreChosen}

@@ -5,17 +5,17 @@ use Rattle.std.specs.List.{AllByRecursion, fold, list_any}
 use Rattle.std.proofs.lemmas.Bool.{cases_eq}
 use Rattle.std.proofs.lemmas.List.{get_or-map, length-map, length-set}
 use Rattle.std.proofs.lemmas.List.Elements.{All-nil, All-set}
-use Rattle.dss_model.specs.declared.words.ControlMode.{ControlMode}
-use Rattle.dss_model.specs.declared.words.ControlMode.TheVariants as control_mode
-use Rattle.fd_xfmr.specs.Leakage.{AreTaps}
-use Rattle.fd_enclosure.specs.Sound.{Claim}
-use Rattle.fd_queue.specs.Controls.{Control, Positions, no_taps, pair_at, moved_tap, set_tap, tap_of}
-use Rattle.fd_queue.specs.Decisions.{Decision, Hold, steps_of, way_of}
-use Rattle.fd_queue.specs.Machine.{Act, Acts, AtLimit, Machine, Quiet, Setup, Step, acts_of, all_acted, moved, moved_by, no_control, sampled, settle_rule, step_of}
-use Rattle.fd_queue.specs.MachineLaws.{KeepsQueue, Leaves, OwnLaw, QueueLaw}
-use Rattle.fd_queue.specs.Queue.{HaveOneEach, InPairs, later, nearest}
-use Rattle.fd_queue.specs.declared.entry.Entry.{Entry}
-use Rattle.fd_regctl.specs.RegulatorLaws.{TapLaw}
+use Rattle.fd_sample.specs.dss_model.declared.words.ControlMode.{ControlMode}
+use Rattle.fd_sample.specs.dss_model.declared.words.ControlMode.TheVariants as control_mode
+use Rattle.fd_sample.specs.fd_xfmr.Leakage.{AreTaps}
+use Rattle.fd_cert.specs.fd_enclosure.Sound.{Claim}
+use Rattle.fd_sample.specs.fd_queue.Controls.{Control, Positions, no_taps, pair_at, moved_tap, set_tap, tap_of}
+use Rattle.fd_sample.specs.fd_queue.Decisions.{Decision, Hold, steps_of, way_of}
+use Rattle.fd_sample.specs.fd_queue.Machine.{Act, Acts, AtLimit, Machine, Quiet, Setup, Step, acts_of, all_acted, moved, moved_by, no_control, sampled, settle_rule, step_of}
+use Rattle.fd_sample.specs.fd_queue.MachineLaws.{KeepsQueue, Leaves, OwnLaw, QueueLaw}
+use Rattle.fd_sample.specs.fd_queue.Queue.{HaveOneEach, InPairs, later, nearest}
+use Rattle.fd_sample.specs.fd_queue.declared.entry.Entry.{Entry}
+use Rattle.fd_sample.specs.fd_regctl.RegulatorLaws.{TapLaw}
 use Rattle.fd_sample.specs.declared.probe.Probe.{Probe}
 use Rattle.fd_sample.specs.declared.probe.Probe.TheVariants as probe
 use Rattle.fd_sample.specs.Circuits.{AreApart, HasRange, probes_of}

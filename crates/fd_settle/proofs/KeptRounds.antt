@@ -6,24 +6,24 @@ use Rattle.std.specs.List.{AllByRecursion, fold, list_any}
 use Rattle.std.proofs.lemmas.Int.{ints}
 use Rattle.std.proofs.lemmas.List.{length-map, length-set}
 use Rattle.std.proofs.lemmas.List.Elements.{All-head, All-replicate, All-set, All-tail}
-use Rattle.fd_exact.specs.Sums.{list_n}
-use Rattle.dss_model.specs.declared.words.ControlMode.{ControlMode}
-use Rattle.dss_model.specs.declared.words.ControlMode.TheVariants as control_mode
-use Rattle.dss_circuit.specs.Circuit.{CircuitView}
-use Rattle.dss_layout.specs.Layout.{layout_of, size_of}
-use Rattle.fd_capctl.specs.BankLaws.{AwayLaw}
-use Rattle.fd_capctl.specs.CapState.{IsEarly}
-use Rattle.fd_devices.specs.Settings.{bank_count}
-use Rattle.fd_elements.specs.declared.powers.LoadPower.{LoadPower}
-use Rattle.fd_enclosure.specs.Sound.{Claim}
+use Rattle.fd_inject.specs.fd_exact.Sums.{list_n}
+use Rattle.fd_sample.specs.dss_model.declared.words.ControlMode.{ControlMode}
+use Rattle.fd_sample.specs.dss_model.declared.words.ControlMode.TheVariants as control_mode
+use Rattle.fd_sample.specs.dss_circuit.Circuit.{CircuitView}
+use Rattle.fd_sample.specs.dss_layout.Layout.{layout_of, size_of}
+use Rattle.fd_sample.specs.fd_capctl.BankLaws.{AwayLaw}
+use Rattle.fd_sample.specs.fd_capctl.CapState.{IsEarly}
+use Rattle.fd_sample.specs.fd_devices.Settings.{bank_count}
+use Rattle.fd_sample.specs.fd_elements.declared.powers.LoadPower.{LoadPower}
+use Rattle.fd_cert.specs.fd_enclosure.Sound.{Claim}
 use Rattle.fd_inject.specs.declared.limits.Limits.{Limits}
-use Rattle.fd_queue.specs.Controls.{Control, Positions, Regulates, Switches, is_closed, pair_at, tap_of}
-use Rattle.fd_queue.specs.Decisions.{Decision, Hold, steps_of, way_of}
-use Rattle.fd_queue.specs.Machine.{Act, Acts, AtLimit, Machine, Quiet, acts_of, after_opening, all_acted, moved, moved_by, new_entry, no_control, reacted, sampled, settle_rule, signed_steps, step_of}
-use Rattle.fd_queue.specs.MachineLaws.{KeepsQueue, OwnLaw, QueueLaw}
-use Rattle.fd_queue.specs.Queue.{later, least_time, nearest}
-use Rattle.fd_queue.specs.declared.entry.Entry.{Entry}
-use Rattle.fd_regctl.specs.RegulatorLaws.{TapLaw}
+use Rattle.fd_sample.specs.fd_queue.Controls.{Control, Positions, Regulates, Switches, is_closed, pair_at, tap_of}
+use Rattle.fd_sample.specs.fd_queue.Decisions.{Decision, Hold, steps_of, way_of}
+use Rattle.fd_sample.specs.fd_queue.Machine.{Act, Acts, AtLimit, Machine, Quiet, acts_of, after_opening, all_acted, moved, moved_by, new_entry, no_control, reacted, sampled, settle_rule, signed_steps, step_of}
+use Rattle.fd_sample.specs.fd_queue.MachineLaws.{KeepsQueue, OwnLaw, QueueLaw}
+use Rattle.fd_sample.specs.fd_queue.Queue.{later, least_time, nearest}
+use Rattle.fd_sample.specs.fd_queue.declared.entry.Entry.{Entry}
+use Rattle.fd_sample.specs.fd_regctl.RegulatorLaws.{TapLaw}
 use Rattle.fd_sample.specs.Banks.{bank_of}
 use Rattle.fd_sample.specs.Circuits.{HasTimes, probes_of}
 use Rattle.fd_sample.specs.Decided.{Undecided, sample_over}

@@ -2,7 +2,7 @@
 use Rattle.std.proofs.Common.{◌≢◌, ℕ, zero, suc, ◌<◌, ◌≤◌, Bool, true, false, cond, List, [], ◌∷◌, ◌++◌, length, drop, get_or, refl, ap, arith}
 use Rattle.std.specs.Prelude.{All}
 use Rattle.std.specs.List.{AllByRecursion, filter}
-use Rattle.fd_queue.specs.Queue.{InPairs}
+use Rattle.fd_sample.specs.fd_queue.Queue.{InPairs}
 
 each_by : {A : Type 0} (P : A → Type 0) (t : Bool) (x : A) (xs : List A) → P x → AllByRecursion P xs
     → AllByRecursion P (cond t (x ∷ xs) xs)

@@ -2,11 +2,11 @@
 use Rattle.std.proofs.Common.{◌≡◌, ℕ, zero, suc, ◌+◌, ◌<◌, ◌≤◌, Bool, true, false, cond, not, List, [], ◌∷◌, ◌++◌, map, take, length, get_or, set, Option, Some, None, refl, sym, ap, subst, ◌∙◌, arith}
 use Rattle.std.specs.Prelude.{All, ◌^◌, ◌==◌, ◌||◌, nat_le, nat_lt}
 use Rattle.std.specs.List.{AllByRecursion, filter, list_any}
-use Rattle.fd_queue.specs.Controls.{Control, Positions, Regulates, Switches}
-use Rattle.fd_queue.specs.Decisions.{Decision, is_way, way_of}
-use Rattle.fd_queue.specs.Machine.{Machine, Quiet, Rule, Setup, ShowsQueue, Step, asked, entry_time, kept, new_entry, reacted, sampled, step_of}
-use Rattle.fd_queue.specs.MachineLaws.{IsQueueOf, KeepsQueue, Leaves, QueueLaw, SpareLaw}
-use Rattle.fd_queue.specs.Queue.{QueueView, has_entry, queued}
+use Rattle.fd_sample.specs.fd_queue.Controls.{Control, Positions, Regulates, Switches}
+use Rattle.fd_sample.specs.fd_queue.Decisions.{Decision, is_way, way_of}
+use Rattle.fd_sample.specs.fd_queue.Machine.{Machine, Quiet, Rule, Setup, ShowsQueue, Step, asked, entry_time, kept, new_entry, reacted, sampled, step_of}
+use Rattle.fd_sample.specs.fd_queue.MachineLaws.{IsQueueOf, KeepsQueue, Leaves, QueueLaw, SpareLaw}
+use Rattle.fd_sample.specs.fd_queue.Queue.{QueueView, has_entry, queued}
 use Rattle.fd_settle.specs.declared.clock.Clock.{Clock}
 use Rattle.fd_settle.specs.declared.state.ControlState.{ControlState}
 use Rattle.fd_settle.specs.declared.state.ControlState.TheVariants as state
@@ -16,8 +16,8 @@ use Rattle.fd_sample.specs.declared.probe.Probe.{Probe}
 use Rattle.fd_sample.specs.declared.probe.Probe.TheVariants as probe
 use Rattle.fd_sample.specs.Circuits.{HasTimes}
 use Rattle.fd_sample.specs.Probes.{control_of}
-use Rattle.fd_capctl.specs.CapState.{IsEarly}
-use Rattle.fd_queue.specs.declared.entry.Entry.{Entry}
+use Rattle.fd_sample.specs.fd_capctl.CapState.{IsEarly}
+use Rattle.fd_sample.specs.fd_queue.declared.entry.Entry.{Entry}
 use Rattle.fd_settle.proofs.Lists.{all_or, each_append, each_filter}
 use Rattle.std.proofs.lemmas.List.{get_or-map, length-map, length-take-le, take_more}
 

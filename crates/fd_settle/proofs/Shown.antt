@@ -1,14 +1,14 @@
 -- All controls react, and the nearest entries act: what these show of the machine.
 use Rattle.std.proofs.Common.{◌≡◌, ◌≢◌, ◌==◌, get_or, ℕ, ◌+◌, ◌<◌, Bool, List, [], ◌∷◌, map, length, Option, refl, sym, ap, subst, ◌∙◌}
 use Rattle.std.specs.List.{AllByRecursion}
-use Rattle.fd_arith.specs.declared.terms.TapPair.{TapPair}
-use Rattle.fd_queue.specs.Controls.{Positions}
-use Rattle.fd_queue.specs.Decisions.{Decision}
-use Rattle.fd_queue.specs.Machine.{Act, Machine, all_acted, sampled}
-use Rattle.fd_queue.specs.Queue.{HaveOneEach, IsQueue, QueueView, later, least_time, nearest}
-use Rattle.fd_queue.specs.Verdicts.{decision}
-use Rattle.fd_queue.specs.declared.entry.Entry.{Entry}
-use Rattle.fd_queue.specs.declared.verdict.Verdict.{Verdict}
+use Rattle.fd_inject.specs.fd_arith.declared.terms.TapPair.{TapPair}
+use Rattle.fd_sample.specs.fd_queue.Controls.{Positions}
+use Rattle.fd_sample.specs.fd_queue.Decisions.{Decision}
+use Rattle.fd_sample.specs.fd_queue.Machine.{Act, Machine, all_acted, sampled}
+use Rattle.fd_sample.specs.fd_queue.Queue.{HaveOneEach, IsQueue, QueueView, later, least_time, nearest}
+use Rattle.fd_sample.specs.fd_queue.Verdicts.{decision}
+use Rattle.fd_sample.specs.fd_queue.declared.entry.Entry.{Entry}
+use Rattle.fd_sample.specs.fd_queue.declared.verdict.Verdict.{Verdict}
 use Rattle.fd_settle.specs.declared.clock.Clock.{Clock}
 use Rattle.fd_settle.specs.declared.state.ControlState.{ControlState}
 use Rattle.fd_settle.specs.declared.state.ControlState.TheVariants as state

@@ -3,14 +3,14 @@ use Rattle.std.proofs.Common.{◌≡◌, ℕ, zero, suc, ◌+◌, ◌<◌, ◌�
 use Rattle.std.specs.Prelude.{All, ◌^◌, replicate, vec_capacity}
 use Rattle.std.specs.List.{AllByRecursion}
 use Rattle.std.proofs.lemmas.List.{length-take-le, take_more}
-use Rattle.dss_circuit.specs.Circuit.{CircuitView}
-use Rattle.dss_layout.specs.Layout.{layout_of, size_of}
-use Rattle.fd_elements.specs.declared.powers.LoadPower.{LoadPower}
-use Rattle.fd_devices.specs.declared.settings.Positions.{Positions as CodePositions}
-use Rattle.fd_queue.specs.MachineLaws.{IsQueueOf}
+use Rattle.fd_sample.specs.dss_circuit.Circuit.{CircuitView}
+use Rattle.fd_sample.specs.dss_layout.Layout.{layout_of, size_of}
+use Rattle.fd_sample.specs.fd_elements.declared.powers.LoadPower.{LoadPower}
+use Rattle.fd_sample.specs.fd_devices.declared.settings.Positions.{Positions as CodePositions}
+use Rattle.fd_sample.specs.fd_queue.MachineLaws.{IsQueueOf}
 use Rattle.fd_sample.specs.declared.probe.Probe.{Probe}
 use Rattle.fd_sample.specs.declared.probe.Probe.TheVariants as probe
-use Rattle.fd_queue.specs.Queue.{InPairs}
+use Rattle.fd_sample.specs.fd_queue.Queue.{InPairs}
 use Rattle.fd_sample.specs.Circuits.{AreApart, AreProbes, HasRange, HasTimes}
 use Rattle.fd_sample.specs.Probes.{HasDevice, IsProbe, positions_in}
 use Rattle.fd_settle.specs.declared.clock.Clock.{Clock}

@@ -5,17 +5,17 @@ use Rattle.std.specs.List.{AllByRecursion, list_any}
 use Rattle.std.specs.Option.{is_some}
 use Rattle.std.proofs.lemmas.Bool.{le-leb, lt-leb}
 use Rattle.std.proofs.lemmas.List.{get_or-map, length-map}
-use Rattle.fd_queue.specs.Controls.{Positions}
-use Rattle.fd_queue.specs.Decisions.{Decision, Hold, way_of}
-use Rattle.fd_queue.specs.Machine.{Act, Machine, Setup, AtLimit, Acts, Quiet, Step, acts_of, all_acted, due_step, sampled, settle_rule, step_of}
-use Rattle.fd_queue.specs.MachineLaws.{IsQueueOf, KeepsQueue, OwnLaw, QueueLaw, RoomLaw, SampledLaw, entry_way}
-use Rattle.fd_queue.specs.Queue.{InPairs, later, least_time, nearest}
-use Rattle.fd_queue.specs.Verdicts.{decision}
-use Rattle.fd_queue.specs.declared.entry.Entry.{Entry}
-use Rattle.fd_queue.specs.declared.verdict.Verdict.{Verdict}
-use Rattle.fd_regctl.specs.RegulatorLaws.{TapLaw}
-use Rattle.fd_capctl.specs.BankLaws.{AwayLaw}
-use Rattle.fd_devices.specs.declared.settings.Positions.{Positions as CodePositions}
+use Rattle.fd_sample.specs.fd_queue.Controls.{Positions}
+use Rattle.fd_sample.specs.fd_queue.Decisions.{Decision, Hold, way_of}
+use Rattle.fd_sample.specs.fd_queue.Machine.{Act, Machine, Setup, AtLimit, Acts, Quiet, Step, acts_of, all_acted, due_step, sampled, settle_rule, step_of}
+use Rattle.fd_sample.specs.fd_queue.MachineLaws.{IsQueueOf, KeepsQueue, OwnLaw, QueueLaw, RoomLaw, SampledLaw, entry_way}
+use Rattle.fd_sample.specs.fd_queue.Queue.{InPairs, later, least_time, nearest}
+use Rattle.fd_sample.specs.fd_queue.Verdicts.{decision}
+use Rattle.fd_sample.specs.fd_queue.declared.entry.Entry.{Entry}
+use Rattle.fd_sample.specs.fd_queue.declared.verdict.Verdict.{Verdict}
+use Rattle.fd_sample.specs.fd_regctl.RegulatorLaws.{TapLaw}
+use Rattle.fd_sample.specs.fd_capctl.BankLaws.{AwayLaw}
+use Rattle.fd_sample.specs.fd_devices.declared.settings.Positions.{Positions as CodePositions}
 use Rattle.fd_sample.specs.declared.probe.Probe.{Probe}
 use Rattle.fd_sample.specs.Circuits.{AreApart, HasRange, HasTimes}
 use Rattle.fd_sample.specs.Decided.{Undecided, sample_over}

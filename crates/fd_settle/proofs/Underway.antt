@@ -1,27 +1,27 @@
 -- A settle of a circuit: where it is after each round, and what is told of how it ends.
 use Rattle.std.proofs.Common.{append-nil, ◌≡◌, ℕ, ◌+◌, ◌-◌, ◌<◌, ◌≤◌, ◌^◌, inl, inr, None, Some, Option, List, [], ◌∷◌, ◌++◌, length, map, Result, Ok, Err, refl, sym, ap, ◌∙◌, subst, arith}
 use Rattle.std.proofs.lemmas.List.Elements.{All-from_get_or}
-use Rattle.dss_model.specs.declared.command.Blame.{Blame}
-use Rattle.dss_layout.specs.Layout.{layout_of, size_of}
-use Rattle.dss_circuit.specs.Circuit.{CircuitView}
-use Rattle.fd_elements.specs.declared.powers.LoadPower.{LoadPower}
-use Rattle.fd_pattern.specs.Conditions.{IsNetwork}
-use Rattle.fd_pattern.specs.Views.{NetworkView}
-use Rattle.fd_devices.specs.Devices.{AgreesWith}
-use Rattle.fd_devices.specs.Scripted.{circuit_network, circuit_parts, devices_of}
-use Rattle.fd_devices.specs.Settings.{settings_of}
-use Rattle.fd_devices.specs.declared.fault.BuildFault.{BuildFault}
-use Rattle.fd_devices.specs.declared.fault.BuildFault.TheVariants as build_fault
-use Rattle.fd_devices.specs.declared.settings.Positions.{Positions as CodePositions}
-use Rattle.fd_devices.specs.declared.settings.Powers.{Powers}
-use Rattle.fd_network.specs.Built.{BuiltView, IsBuiltOf}
-use Rattle.fd_network.specs.Faults.{IsFaultOf, range_blame}
-use Rattle.fd_enclosure.specs.Sound.{Claim, IsSound}
+use Rattle.fd_sample.specs.dss_model.declared.command.Blame.{Blame}
+use Rattle.fd_sample.specs.dss_layout.Layout.{layout_of, size_of}
+use Rattle.fd_sample.specs.dss_circuit.Circuit.{CircuitView}
+use Rattle.fd_sample.specs.fd_elements.declared.powers.LoadPower.{LoadPower}
+use Rattle.fd_inject.specs.fd_pattern.Conditions.{IsNetwork}
+use Rattle.fd_inject.specs.fd_pattern.Views.{NetworkView}
+use Rattle.fd_sample.specs.fd_devices.Devices.{AgreesWith}
+use Rattle.fd_sample.specs.fd_devices.Scripted.{circuit_network, circuit_parts, devices_of}
+use Rattle.fd_sample.specs.fd_devices.Settings.{settings_of}
+use Rattle.fd_sample.specs.fd_devices.declared.fault.BuildFault.{BuildFault}
+use Rattle.fd_sample.specs.fd_devices.declared.fault.BuildFault.TheVariants as build_fault
+use Rattle.fd_sample.specs.fd_devices.declared.settings.Positions.{Positions as CodePositions}
+use Rattle.fd_sample.specs.fd_devices.declared.settings.Powers.{Powers}
+use Rattle.fd_sample.specs.fd_network.Built.{BuiltView, IsBuiltOf}
+use Rattle.fd_sample.specs.fd_network.Faults.{IsFaultOf, range_blame}
+use Rattle.fd_cert.specs.fd_enclosure.Sound.{Claim, IsSound}
 use Rattle.fd_cert.specs.Claims.{claim_in}
 use Rattle.fd_cert.specs.declared.ball.Certified.{Certified}
-use Rattle.fd_queue.specs.Controls.{Positions}
-use Rattle.fd_queue.specs.Machine.{Act, Machine, settle_rule}
-use Rattle.fd_queue.specs.MachineLaws.{CountLaw}
+use Rattle.fd_sample.specs.fd_queue.Controls.{Positions}
+use Rattle.fd_sample.specs.fd_queue.Machine.{Act, Machine, settle_rule}
+use Rattle.fd_sample.specs.fd_queue.MachineLaws.{CountLaw}
 use Rattle.fd_sample.specs.Balls.{IsBall}
 use Rattle.fd_sample.specs.Probes.{control_of, positions_in}
 use Rattle.fd_sample.specs.declared.probe.Probe.{Probe}

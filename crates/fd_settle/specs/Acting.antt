@@ -1,26 +1,26 @@
 -- A control at work: what its sample and its act make of its state and of the devices.
 use Rattle.std.specs.Prelude.{◌≡◌, ℕ, suc, ◌+◌, ◌*◌, ℤ, ◌<◌, ◌≤◌, ◌^◌, true, Bool, if◌then◌else◌, List, [], ◌∷◌, length, map, get_or, set, All, Option, Some, None, vec_capacity}
 use Rattle.std.specs.List.{AllByRecursion, fold}
-use Rattle.fd_xfmr.specs.Leakage.{AreTaps}
-use Rattle.fd_arith.specs.declared.terms.TapPair.{TapPair}
-use Rattle.fd_capctl.specs.CapState.{AreEarly, IsEarly, opened_at, switch}
-use Rattle.fd_capctl.specs.CapState as bank
-use Rattle.fd_queue.specs.Controls.{Control, Positions, Regulates, Switches, no_taps, tap_of}
-use Rattle.fd_queue.specs.Decisions.{Decision, Raise, Hold, Lower, is_raise, steps_of, way_of}
-use Rattle.fd_queue.specs.Machine.{Act, Machine, Setup, ShowsQueue, acts_of, all_acted, moved, reacted, sampled, settle_rule, signed_steps}
-use Rattle.fd_queue.specs.Queue.{InPairs, QueueView, later, nearest}
-use Rattle.fd_queue.specs.Verdicts.{decision, is_decided}
-use Rattle.fd_queue.specs.declared.entry.Entry.{Entry}
-use Rattle.fd_queue.specs.declared.verdict.Verdict.{Verdict}
-use Rattle.fd_regctl.specs.RegState.{changer, moved_pair}
-use Rattle.fd_regctl.specs.RegState as regulator
+use Rattle.fd_sample.specs.fd_xfmr.Leakage.{AreTaps}
+use Rattle.fd_inject.specs.fd_arith.declared.terms.TapPair.{TapPair}
+use Rattle.fd_sample.specs.fd_capctl.CapState.{AreEarly, IsEarly, opened_at, switch}
+use Rattle.fd_sample.specs.fd_capctl.CapState as bank
+use Rattle.fd_sample.specs.fd_queue.Controls.{Control, Positions, Regulates, Switches, no_taps, tap_of}
+use Rattle.fd_sample.specs.fd_queue.Decisions.{Decision, Raise, Hold, Lower, is_raise, steps_of, way_of}
+use Rattle.fd_sample.specs.fd_queue.Machine.{Act, Machine, Setup, ShowsQueue, acts_of, all_acted, moved, reacted, sampled, settle_rule, signed_steps}
+use Rattle.fd_sample.specs.fd_queue.Queue.{InPairs, QueueView, later, nearest}
+use Rattle.fd_sample.specs.fd_queue.Verdicts.{decision, is_decided}
+use Rattle.fd_sample.specs.fd_queue.declared.entry.Entry.{Entry}
+use Rattle.fd_sample.specs.fd_queue.declared.verdict.Verdict.{Verdict}
+use Rattle.fd_sample.specs.fd_regctl.RegState.{changer, moved_pair}
+use Rattle.fd_sample.specs.fd_regctl.RegState as regulator
 use Rattle.fd_sample.specs.declared.probe.Probe.{Probe}
 use Rattle.fd_sample.specs.declared.probe.Probe.TheVariants as probe
 use Rattle.fd_sample.specs.Decided.{sample_over}
 use Rattle.fd_sample.specs.Circuits.{AreApart, HasRange, HasTimes}
 use Rattle.fd_sample.specs.Probes.{HasDevice, control_of}
-use Rattle.fd_devices.specs.declared.settings.Positions.{Positions as CodePositions}
-use Rattle.fd_queue.specs.MachineLaws.{IsQueueOf}
+use Rattle.fd_sample.specs.fd_devices.declared.settings.Positions.{Positions as CodePositions}
+use Rattle.fd_sample.specs.fd_queue.MachineLaws.{IsQueueOf}
 use Rattle.fd_settle.specs.declared.clock.Clock.{Clock}
 use Rattle.fd_settle.specs.declared.controls.Controls.{Controls}
 use Rattle.fd_settle.specs.declared.progress.Progress.{Progress}

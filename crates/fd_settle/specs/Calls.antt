@@ -1,10 +1,10 @@
 -- The solver's calls in a settle.
 use Rattle.std.specs.Prelude.{◌≡◌, List, [], ◌∷◌, None, Result, Ok, Err}
-use Rattle.fd_pattern.specs.Views.{NetworkView}
-use Rattle.fd_enclosure.specs.Sound.{Claim}
+use Rattle.fd_inject.specs.fd_pattern.Views.{NetworkView}
+use Rattle.fd_cert.specs.fd_enclosure.Sound.{Claim}
 use Rattle.fd_cert.specs.Claims.{claim_in}
 use Rattle.fd_cert.specs.declared.ball.Certified.{Certified}
-use Rattle.fd_queue.specs.Machine.{Machine}
+use Rattle.fd_sample.specs.fd_queue.Machine.{Machine}
 use Rattle.fd_settle.specs.declared.round.Round.{Round}
 use Rattle.fd_settle.specs.Plant.{Plant}
 use Rattle.fd_settle.specs.Rounds.{after_round, claims_in, settled}

@@ -1,8 +1,8 @@
 -- Which states may be chosen for the rounds of a settle.
 use Rattle.std.specs.Prelude.{◌≡◌, List, [], ◌∷◌}
-use Rattle.fd_queue.specs.Controls.{Positions}
-use Rattle.fd_queue.specs.Decisions.{Decision}
-use Rattle.fd_queue.specs.Machine.{Machine, Setup}
+use Rattle.fd_sample.specs.fd_queue.Controls.{Positions}
+use Rattle.fd_sample.specs.fd_queue.Decisions.{Decision}
+use Rattle.fd_sample.specs.fd_queue.Machine.{Machine, Setup}
 use Rattle.fd_settle.specs.Sampling.{Sampling, Decided}
 use Rattle.fd_settle.specs.Settle.{Open, Settled, Limited, Undecidable, Outcome, Ends, Moves, outcome_of}
 

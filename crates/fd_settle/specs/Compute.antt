@@ -1,11 +1,11 @@
 -- What the solver that computes may answer.
 use Rattle.std.specs.Prelude.{◌≡◌, ℕ, ℤ, List, Result, Ok, Err}
-use Rattle.fd_pattern.specs.Views.{NetworkView}
+use Rattle.fd_inject.specs.fd_pattern.Views.{NetworkView}
 use Rattle.fd_inject.specs.Faults.{IsInside, UnlessMemory}
 use Rattle.fd_inject.specs.Procedure.{solution_of}
 use Rattle.fd_inject.specs.declared.limits.Limits.{Limits}
-use Rattle.fd_pattern.specs.Conditions.{IsPoint}
-use Rattle.fd_enclosure.specs.Sound.{Claim, IsInverse, certificate_of}
+use Rattle.fd_inject.specs.fd_pattern.Conditions.{IsPoint}
+use Rattle.fd_cert.specs.fd_enclosure.Sound.{Claim, IsInverse, certificate_of}
 use Rattle.fd_cert.specs.Claims.{Refuses}
 use Rattle.fd_cert.specs.Claims as claims
 use Rattle.fd_cert.specs.declared.fault.CertFault.{CertFault}

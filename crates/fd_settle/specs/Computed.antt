@@ -1,14 +1,14 @@
 -- What a settle comes to where its states are computed: its rounds, how it ends, and what it leaves.
 use Rattle.std.specs.Prelude.{◌≡◌, ◌≤◌, ℤ, List, [], ◌∷◌, map, Some, None, Result, Ok, Err}
-use Rattle.dss_model.specs.declared.command.Blame.{Blame}
+use Rattle.fd_sample.specs.dss_model.declared.command.Blame.{Blame}
 use Rattle.fd_cert.specs.Claims.{claim_in}
 use Rattle.fd_cert.specs.declared.fault.CertFault.TheVariants as cert
-use Rattle.fd_enclosure.specs.Sound.{Claim, Refusal, certificate_of, loose, uncertain}
+use Rattle.fd_cert.specs.fd_enclosure.Sound.{Claim, Refusal, certificate_of, loose, uncertain}
 use Rattle.fd_inject.specs.Procedure.{solution_of}
 use Rattle.fd_inject.specs.Faults.{UnlessMemory}
 use Rattle.fd_inject.specs.declared.fault.SolveFault.{SolveFault}
 use Rattle.fd_inject.specs.declared.limits.Limits.{Limits}
-use Rattle.fd_queue.specs.Machine.{Machine, Act}
+use Rattle.fd_sample.specs.fd_queue.Machine.{Machine, Act}
 use Rattle.fd_settle.specs.declared.compute.ComputeFault.{ComputeFault}
 use Rattle.fd_settle.specs.declared.compute.ComputeFault.TheVariants as compute
 use Rattle.fd_settle.specs.declared.fault.SettleFault.{SettleFault}

@@ -1,15 +1,15 @@
 -- What `settle` says of how it ends.
 use Rattle.std.specs.Prelude.{◌≡◌, ◌⊎◌, List, drop, length, Some, Result, Ok, Err}
-use Rattle.fd_pattern.specs.Views.{NetworkView}
-use Rattle.fd_enclosure.specs.Sound.{Claim}
-use Rattle.fd_queue.specs.Machine.{Machine}
+use Rattle.fd_inject.specs.fd_pattern.Views.{NetworkView}
+use Rattle.fd_cert.specs.fd_enclosure.Sound.{Claim}
+use Rattle.fd_sample.specs.fd_queue.Machine.{Machine}
 use Rattle.fd_settle.specs.declared.round.Round.{Round}
 use Rattle.fd_settle.specs.declared.fault.SettleFault.{SettleFault}
 use Rattle.fd_settle.specs.declared.fault.SettleFault.TheVariants as fault
-use Rattle.dss_circuit.specs.Circuit.{CircuitView}
-use Rattle.dss_model.specs.declared.options.Options.{Options}
-use Rattle.fd_devices.specs.declared.settings.Positions.{Positions as CodePositions}
-use Rattle.fd_devices.specs.declared.settings.Powers.{Powers}
+use Rattle.fd_sample.specs.dss_circuit.Circuit.{CircuitView}
+use Rattle.fd_sample.specs.dss_model.declared.options.Options.{Options}
+use Rattle.fd_sample.specs.fd_devices.declared.settings.Positions.{Positions as CodePositions}
+use Rattle.fd_sample.specs.fd_devices.declared.settings.Powers.{Powers}
 use Rattle.fd_inject.specs.declared.limits.Limits.{Limits}
 use Rattle.fd_sample.specs.Probes.{positions_in}
 use Rattle.fd_settle.specs.declared.clock.Clock.{Clock}

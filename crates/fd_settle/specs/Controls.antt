@@ -1,13 +1,13 @@
 -- The controls of a settle at work: what they show of the queue machine, and what they keep to.
 use Rattle.std.specs.Prelude.{◌≡◌, ℕ, ◌+◌, ◌*◌, ◌<◌, ◌≤◌, ◌^◌, false, Bool, List, [], length, map, get_or, All, Option, None, vec_capacity, Result, Ok, Err, Some}
 use Rattle.std.specs.List.{AllByRecursion}
-use Rattle.fd_xfmr.specs.Leakage.{AreTaps}
-use Rattle.fd_capctl.specs.CapState.{IsEarly}
-use Rattle.fd_devices.specs.declared.settings.Positions.{Positions as CodePositions}
-use Rattle.fd_queue.specs.Machine.{Machine, Setup, Act, settle_rule}
-use Rattle.fd_queue.specs.MachineLaws.{IsQueueOf}
-use Rattle.fd_queue.specs.Queue.{InPairs}
-use Rattle.fd_queue.specs.declared.entry.Entry.{Entry}
+use Rattle.fd_sample.specs.fd_xfmr.Leakage.{AreTaps}
+use Rattle.fd_sample.specs.fd_capctl.CapState.{IsEarly}
+use Rattle.fd_sample.specs.fd_devices.declared.settings.Positions.{Positions as CodePositions}
+use Rattle.fd_sample.specs.fd_queue.Machine.{Machine, Setup, Act, settle_rule}
+use Rattle.fd_sample.specs.fd_queue.MachineLaws.{IsQueueOf}
+use Rattle.fd_sample.specs.fd_queue.Queue.{InPairs}
+use Rattle.fd_sample.specs.fd_queue.declared.entry.Entry.{Entry}
 use Rattle.fd_sample.specs.declared.probe.Probe.{Probe}
 use Rattle.fd_sample.specs.declared.probe.Probe.TheVariants as probe
 use Rattle.fd_sample.specs.Circuits.{AreApart, HasRange, HasTimes}

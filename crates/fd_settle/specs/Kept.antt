@@ -1,15 +1,15 @@
 -- What the rounds of a settle keep of the machine, and when a claim is sound there.
 use Rattle.std.specs.Prelude.{◌≡◌, List, length, All, None}
-use Rattle.dss_circuit.specs.Circuit.{CircuitView}
-use Rattle.dss_circuit.specs.InRange.{AllInRange, IsWithinLimits}
-use Rattle.dss_circuit.specs.WellFormed.{IsEntry}
-use Rattle.dss_ready.specs.Ready.{HasPassed}
-use Rattle.fd_elements.specs.declared.powers.LoadPower.{LoadPower}
-use Rattle.fd_devices.specs.Building.{IsModest}
-use Rattle.fd_enclosure.specs.Sound.{Claim, IsSound}
-use Rattle.fd_queue.specs.Controls.{Positions}
-use Rattle.fd_queue.specs.Machine.{Machine}
-use Rattle.fd_queue.specs.MachineLaws.{KeepsQueue}
+use Rattle.fd_sample.specs.dss_circuit.Circuit.{CircuitView}
+use Rattle.fd_sample.specs.dss_circuit.InRange.{AllInRange, IsWithinLimits}
+use Rattle.fd_sample.specs.dss_circuit.WellFormed.{IsEntry}
+use Rattle.fd_sample.specs.dss_ready.Ready.{HasPassed}
+use Rattle.fd_sample.specs.fd_elements.declared.powers.LoadPower.{LoadPower}
+use Rattle.fd_sample.specs.fd_devices.Building.{IsModest}
+use Rattle.fd_cert.specs.fd_enclosure.Sound.{Claim, IsSound}
+use Rattle.fd_sample.specs.fd_queue.Controls.{Positions}
+use Rattle.fd_sample.specs.fd_queue.Machine.{Machine}
+use Rattle.fd_sample.specs.fd_queue.MachineLaws.{KeepsQueue}
 use Rattle.fd_settle.specs.Plant.{blame_at, network_at, plant_of, setup_of}
 use Rattle.fd_settle.specs.Rounds.{after_round}
 use Rattle.fd_settle.specs.Start.{ArePositions, IsSoundAt}

@@ -1,17 +1,17 @@
 -- What the rounds of a settle keep where its states are computed.
 use Rattle.std.specs.Prelude.{◌≡◌, ℕ, ◌<◌, ◌^◌, List, length, map, Option, All}
 use Rattle.std.specs.List.{AllByRecursion}
-use Rattle.fd_exact.specs.Sums.{list_n}
-use Rattle.dss_circuit.specs.Circuit.{CircuitView}
-use Rattle.dss_circuit.specs.InRange.{IsWithinLimits}
-use Rattle.dss_ready.specs.Ready.{HasPassed}
-use Rattle.fd_capctl.specs.CapState.{IsEarly}
-use Rattle.fd_devices.specs.Settings.{bank_count}
-use Rattle.fd_elements.specs.declared.powers.LoadPower.{LoadPower}
-use Rattle.fd_enclosure.specs.Sound.{Claim}
+use Rattle.fd_inject.specs.fd_exact.Sums.{list_n}
+use Rattle.fd_sample.specs.dss_circuit.Circuit.{CircuitView}
+use Rattle.fd_sample.specs.dss_circuit.InRange.{IsWithinLimits}
+use Rattle.fd_sample.specs.dss_ready.Ready.{HasPassed}
+use Rattle.fd_sample.specs.fd_capctl.CapState.{IsEarly}
+use Rattle.fd_sample.specs.fd_devices.Settings.{bank_count}
+use Rattle.fd_sample.specs.fd_elements.declared.powers.LoadPower.{LoadPower}
+use Rattle.fd_cert.specs.fd_enclosure.Sound.{Claim}
 use Rattle.fd_inject.specs.declared.limits.Limits.{Limits}
-use Rattle.fd_queue.specs.Controls.{Positions}
-use Rattle.fd_queue.specs.Machine.{Act, Machine}
+use Rattle.fd_sample.specs.fd_queue.Controls.{Positions}
+use Rattle.fd_sample.specs.fd_queue.Machine.{Act, Machine}
 use Rattle.fd_settle.specs.Computed.{Ending, IsComputedFrom}
 use Rattle.fd_settle.specs.Numbers.{AreActNumbers}
 use Rattle.fd_settle.specs.Plant.{plant_of, started}

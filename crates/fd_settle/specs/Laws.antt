@@ -1,7 +1,7 @@
 -- The laws of settles: the acts follow from the decisions alone.
 use Rattle.std.specs.Prelude.{◌≡◌, List, [], ◌∷◌, length, take}
-use Rattle.fd_queue.specs.Controls.{Positions}
-use Rattle.fd_queue.specs.Machine.{Machine, Setup}
+use Rattle.fd_sample.specs.fd_queue.Controls.{Positions}
+use Rattle.fd_sample.specs.fd_queue.Machine.{Machine, Setup}
 use Rattle.fd_settle.specs.Sampling.{Sampling}
 use Rattle.fd_settle.specs.Settle.{Outcome, Ends, Moves, outcome_of, settle_of}
 use Rattle.fd_settle.specs.Chosen.{AreOfHeld, AreChosen}

@@ -1,17 +1,17 @@
 -- What a settle stands on: a circuit with the powers of an hour, as the queue machine sees it.
 use Rattle.std.specs.Prelude.{ℕ, List, [], length, map, replicate, Option, None}
-use Rattle.dss_model.specs.declared.command.Blame.{Blame}
-use Rattle.dss_model.specs.declared.words.ControlMode.{ControlMode}
-use Rattle.dss_model.specs.declared.words.ControlMode.TheVariants as control_mode
-use Rattle.dss_circuit.specs.Circuit.{CircuitView}
-use Rattle.fd_elements.specs.declared.powers.LoadPower.{LoadPower}
-use Rattle.fd_pattern.specs.Views.{NetworkView}
-use Rattle.fd_devices.specs.Scripted.{circuit_network, devices_of}
-use Rattle.fd_devices.specs.Settings.{Settings}
-use Rattle.fd_network.specs.Faults.{range_blame}
-use Rattle.fd_enclosure.specs.Sound.{Claim}
-use Rattle.fd_queue.specs.Controls.{Positions}
-use Rattle.fd_queue.specs.Machine.{Machine, Setup, settle_rule}
+use Rattle.fd_sample.specs.dss_model.declared.command.Blame.{Blame}
+use Rattle.fd_sample.specs.dss_model.declared.words.ControlMode.{ControlMode}
+use Rattle.fd_sample.specs.dss_model.declared.words.ControlMode.TheVariants as control_mode
+use Rattle.fd_sample.specs.dss_circuit.Circuit.{CircuitView}
+use Rattle.fd_sample.specs.fd_elements.declared.powers.LoadPower.{LoadPower}
+use Rattle.fd_inject.specs.fd_pattern.Views.{NetworkView}
+use Rattle.fd_sample.specs.fd_devices.Scripted.{circuit_network, devices_of}
+use Rattle.fd_sample.specs.fd_devices.Settings.{Settings}
+use Rattle.fd_sample.specs.fd_network.Faults.{range_blame}
+use Rattle.fd_cert.specs.fd_enclosure.Sound.{Claim}
+use Rattle.fd_sample.specs.fd_queue.Controls.{Positions}
+use Rattle.fd_sample.specs.fd_queue.Machine.{Machine, Setup, settle_rule}
 use Rattle.fd_sample.specs.declared.probe.Probe.{Probe}
 use Rattle.fd_sample.specs.Circuits.{probes_of}
 use Rattle.fd_sample.specs.Probes.{control_of}

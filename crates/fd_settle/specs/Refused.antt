@@ -1,6 +1,6 @@
 -- What the refusal of a network ends a settle with.
-use Rattle.fd_devices.specs.declared.fault.BuildFault.{BuildFault}
-use Rattle.fd_devices.specs.declared.fault.BuildFault.TheVariants as build_fault
+use Rattle.fd_sample.specs.fd_devices.declared.fault.BuildFault.{BuildFault}
+use Rattle.fd_sample.specs.fd_devices.declared.fault.BuildFault.TheVariants as build_fault
 use Rattle.fd_settle.specs.declared.fault.SettleFault.{SettleFault}
 use Rattle.fd_settle.specs.declared.fault.SettleFault.TheVariants as fault
 

@@ -1,9 +1,9 @@
 -- Rounds of a settle as contracts see them, and what holds of each.
 use Rattle.std.specs.Prelude.{List, [], ◌∷◌, map}
-use Rattle.fd_enclosure.specs.Sound.{Claim}
+use Rattle.fd_cert.specs.fd_enclosure.Sound.{Claim}
 use Rattle.fd_cert.specs.Claims.{claim_in}
-use Rattle.fd_queue.specs.Controls.{Positions}
-use Rattle.fd_queue.specs.Machine.{Machine, Act}
+use Rattle.fd_sample.specs.fd_queue.Controls.{Positions}
+use Rattle.fd_sample.specs.fd_queue.Machine.{Machine, Act}
 use Rattle.fd_settle.specs.declared.round.Act.{Act as Made}
 use Rattle.fd_settle.specs.declared.round.Round.{Round}
 use Rattle.fd_settle.specs.Settle.{Outcome, Ends, Moves, Settle, outcome_of, settle_of}

@@ -1,12 +1,12 @@
 -- A sampling of a circuit's controls over a certified state.
 use Rattle.std.specs.Prelude.{ℕ, ◌+◌, List, [], ◌∷◌, map, Result, Ok, Err}
-use Rattle.fd_queue.specs.Controls.{Positions}
-use Rattle.fd_queue.specs.Decisions.{Decision}
-use Rattle.fd_exact.specs.States.{State}
+use Rattle.fd_sample.specs.fd_queue.Controls.{Positions}
+use Rattle.fd_sample.specs.fd_queue.Decisions.{Decision}
+use Rattle.fd_inject.specs.fd_exact.States.{State}
 use Rattle.fd_sample.specs.declared.probe.Probe.{Probe}
 use Rattle.fd_sample.specs.Decided.{Undecided, sample_over}
 use Rattle.fd_sample.specs.Probes.{decision_at, quantity_at}
-use Rattle.fd_enclosure.specs.Sound.{Claim}
+use Rattle.fd_cert.specs.fd_enclosure.Sound.{Claim}
 
 -- what each control wants, or the first control whose sample is undecided
 pub data Sampling : Type 0 where

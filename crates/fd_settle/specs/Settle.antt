@@ -1,7 +1,7 @@
 -- A settle: solve, sample and act, and again, as a fold of the queue machine over what the solves give.
 use Rattle.std.specs.Prelude.{ℕ, List, [], ◌∷◌}
-use Rattle.fd_queue.specs.Controls.{Positions}
-use Rattle.fd_queue.specs.Machine.{Machine, Setup, Act, Step, Quiet, AtLimit, Acts, step_of}
+use Rattle.fd_sample.specs.fd_queue.Controls.{Positions}
+use Rattle.fd_sample.specs.fd_queue.Machine.{Machine, Setup, Act, Step, Quiet, AtLimit, Acts, step_of}
 use Rattle.fd_sample.specs.Decided.{Undecided}
 use Rattle.fd_settle.specs.Sampling.{Sampling, Decided, Unclear}
 

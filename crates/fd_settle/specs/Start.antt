@@ -1,17 +1,17 @@
 -- With what a settle starts, and what holds at each of its rounds.
 use Rattle.std.specs.Prelude.{◌≡◌, ◌<◌, ◌^◌, List, length, All, None}
-use Rattle.fd_exact.specs.Sums.{list_n}
-use Rattle.dss_circuit.specs.Circuit.{CircuitView}
-use Rattle.fd_xfmr.specs.Leakage.{AreTaps}
-use Rattle.fd_elements.specs.declared.powers.LoadPower.{LoadPower}
-use Rattle.fd_devices.specs.Devices.{AgreesWith}
-use Rattle.fd_devices.specs.Scripted.{circuit_parts}
-use Rattle.fd_devices.specs.Settings.{AreSettings, bank_count}
-use Rattle.fd_network.specs.Built.{BuiltView, IsBuiltOf}
-use Rattle.fd_capctl.specs.CapState.{IsEarly}
-use Rattle.fd_pattern.specs.Conditions.{IsNetwork}
-use Rattle.fd_enclosure.specs.Sound.{Claim, IsSound}
-use Rattle.fd_queue.specs.Controls.{Positions}
+use Rattle.fd_inject.specs.fd_exact.Sums.{list_n}
+use Rattle.fd_sample.specs.dss_circuit.Circuit.{CircuitView}
+use Rattle.fd_sample.specs.fd_xfmr.Leakage.{AreTaps}
+use Rattle.fd_sample.specs.fd_elements.declared.powers.LoadPower.{LoadPower}
+use Rattle.fd_sample.specs.fd_devices.Devices.{AgreesWith}
+use Rattle.fd_sample.specs.fd_devices.Scripted.{circuit_parts}
+use Rattle.fd_sample.specs.fd_devices.Settings.{AreSettings, bank_count}
+use Rattle.fd_sample.specs.fd_network.Built.{BuiltView, IsBuiltOf}
+use Rattle.fd_sample.specs.fd_capctl.CapState.{IsEarly}
+use Rattle.fd_inject.specs.fd_pattern.Conditions.{IsNetwork}
+use Rattle.fd_cert.specs.fd_enclosure.Sound.{Claim, IsSound}
+use Rattle.fd_sample.specs.fd_queue.Controls.{Positions}
 use Rattle.fd_settle.specs.declared.clock.Clock.{Clock}
 use Rattle.fd_settle.specs.Plant.{blame_at, network_at, settings_at}
 

@@ -1,15 +1,15 @@
 // The controls whose entries are due move their devices.
 ghost use Rattle.std.specs.Prelude.{◌≡◌, ◌<◌, ◌≤◌, [], length, map, vec_capacity};
 ghost use Rattle.std.specs.List.{AllByRecursion};
-ghost use Rattle.fd_queue.specs.Queue.{HaveOneEach};
+ghost use Rattle.fd_sample.specs.fd_queue.Queue.{HaveOneEach};
 ghost use Rattle.fd_settle.specs.Acting.{ActsLeadTo, AllCanAct, AreStanding};
 ghost use Rattle.fd_settle.specs.Controls.{OpensEarly, probe_in};
 ghost use Rattle.fd_settle.specs.Rounds.{seen};
 
 use crate::round::Act;
 use crate::state::ControlState;
-use fd_arith::TapPair;
-use fd_queue::Entry;
+use fd_inject::TapPair;
+use fd_sample::Entry;
 
 /// The entries act in order: each moves its control's device. The acts are left in `acts`, which has room for them.
 pub(crate) fn act_all(

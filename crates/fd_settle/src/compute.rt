@@ -3,10 +3,8 @@ ghost use Rattle.std.specs.Prelude.{◌≡◌};
 ghost use Rattle.fd_settle.specs.Compute.{ComputeGives};
 
 use crate::solver::Solver;
-use fd_cert::{CertFault, Certified, certify};
-use fd_enclosure::certificate_law;
-use fd_equations::Network;
-use fd_inject::{Limits, SolveFault, solve};
+use fd_cert::{CertFault, Certified, certificate_law, certify};
+use fd_inject::{Limits, NetworkRows, SolveFault, solve};
 use std::alloc::Global;
 
 /// Why no certified state was computed.
@@ -38,7 +36,7 @@ impl Solver for Compute {
     fn solve(
         &mut self,
         alloc: Global,
-        net: &Network,
+        net: &NetworkRows,
         limits: &Limits,
     ) -> Result<Certified, ComputeFault> {
         // read for what a network is

@@ -1,9 +1,9 @@
 // The controls of a settle: they are sampled over a certified state, wait in the queue, and move their devices.
 ghost use Rattle.std.specs.Prelude.{◌≡◌, ◌<◌, ◌≤◌, ◌^◌, IfOk, List, [], length, map, vec_capacity};
-ghost use Rattle.dss_layout.specs.Layout.{layout_of, size_of};
-ghost use Rattle.dss_ready.specs.Ready.{HasPassed};
-ghost use Rattle.fd_devices.specs.declared.settings.Positions.{Positions as CodePositions};
-ghost use Rattle.fd_elements.specs.declared.powers.LoadPower.{LoadPower};
+ghost use Rattle.fd_sample.specs.dss_layout.Layout.{layout_of, size_of};
+ghost use Rattle.fd_sample.specs.dss_ready.Ready.{HasPassed};
+ghost use Rattle.fd_sample.specs.fd_devices.declared.settings.Positions.{Positions as CodePositions};
+ghost use Rattle.fd_sample.specs.fd_elements.declared.powers.LoadPower.{LoadPower};
 ghost use Rattle.fd_cert.specs.Claims.{claim_in};
 ghost use Rattle.fd_sample.specs.Balls.{IsBall};
 ghost use Rattle.fd_sample.specs.Circuits.{AreProbes};
@@ -23,15 +23,11 @@ use crate::reacting::react_all;
 use crate::round::Act;
 use crate::sampling::{sample_all, some_moves};
 use crate::state::ControlState;
-use dss_circuit::Circuit;
-use dss_layout::Layout;
-use dss_model::ControlMode;
-use fd_capctl::away_law;
 use fd_cert::Certified;
-use fd_devices::{BankStates, Positions, Taps};
-use fd_queue::{Entry, Queue, Verdict, own_law, queue_law, room_law, sampled_law};
-use fd_regctl::tap_law;
-use fd_sample::{Probe, probes};
+use fd_sample::{
+    BankStates, Circuit, ControlMode, Entry, Layout, Positions, Probe, Queue, Taps, Verdict,
+    away_law, own_law, probes, queue_law, room_law, sampled_law, tap_law,
+};
 use std::alloc::{AllocError, Global};
 use std::mem;
 

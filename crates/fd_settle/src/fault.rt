@@ -1,6 +1,5 @@
 // Why a settle ends.
-use dss_model::Blame;
-use fd_devices::BuildFault;
+use fd_sample::{Blame, BuildFault};
 use std::alloc::AllocError;
 
 /// Why a settle ended without being settled.

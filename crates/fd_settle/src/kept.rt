@@ -2,10 +2,7 @@
 ghost use Rattle.fd_settle.specs.Kept.{KeptLaw, SoundAtLaw};
 ghost use Rattle.fd_settle.specs.KeptRounds.{KeptRoundsLaw};
 
-use fd_capctl::away_law;
-use fd_network::network_law;
-use fd_queue::{own_law, queue_law};
-use fd_regctl::tap_law;
+use fd_sample::{away_law, network_law, own_law, queue_law, tap_law};
 
 /// A law: a round of a circuit that passed the tests of Solve leaves as many positions as its elements have, with taps in
 /// their range, and a queue of its controls, whatever was claimed of the round. Does nothing.

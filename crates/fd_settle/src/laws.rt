@@ -1,10 +1,10 @@
 // The laws of settles.
-ghost use Rattle.fd_queue.specs.Controls.{Positions};
+ghost use Rattle.fd_sample.specs.fd_queue.Controls.{Positions};
 ghost use Rattle.fd_settle.specs.Computed.{ComputationLaw};
 ghost use Rattle.fd_settle.specs.Laws.{AgreeLaw, HistoryLaw, WholeLaw};
 ghost use Rattle.fd_settle.specs.Sampling.{Sampling};
 
-use fd_queue::count_law;
+use fd_sample::count_law;
 
 /// What a circuit's balls and states are sampled to, and which states a ball holds. (A clause can't range over
 /// relations, so a law that speaks of any relation takes it from a bound.)

@@ -41,3 +41,14 @@ pub use laws::{Sampled, agree_law, computation_law, history_law, whole_law};
 pub use round::{Act, Round};
 pub use settling::settle;
 pub use solver::Solver;
+
+// Handed on from the crates below.
+pub use fd_cert::{
+    Ball, Broken, CertFault, Certified, Rule, ball_law, boxed, certificate_law, certify,
+    enclosure_law, linear_law, tie_law,
+};
+pub use fd_inject::{Dense, Limits, NetworkRows, Point, Rows, SolveFault};
+pub use fd_sample::{
+    CapProbe, CapState, Entry, Measured, Network, Queue, ReadyFault, RegProbe, RegState, Verdict,
+    bank_verdict, network_law, passed_law, ready, regulator_verdict,
+};

@@ -1,16 +1,16 @@
 // The controls take, keep or give up their entries of the queue.
 ghost use Rattle.std.specs.Prelude.{◌≡◌, ◌+◌, ◌<◌, ◌≤◌, ◌^◌, All, length, map};
 ghost use Rattle.std.specs.List.{AllByRecursion};
-ghost use Rattle.fd_capctl.specs.CapState.{IsEarly};
-ghost use Rattle.fd_queue.specs.MachineLaws.{IsQueueOf};
-ghost use Rattle.fd_queue.specs.Verdicts.{decision};
+ghost use Rattle.fd_sample.specs.fd_capctl.CapState.{IsEarly};
+ghost use Rattle.fd_sample.specs.fd_queue.MachineLaws.{IsQueueOf};
+ghost use Rattle.fd_sample.specs.fd_queue.Verdicts.{decision};
 ghost use Rattle.fd_sample.specs.Circuits.{HasTimes};
 ghost use Rattle.fd_settle.specs.Acting.{AreDecided, ReactionsLeadTo, judged};
 ghost use Rattle.fd_settle.specs.Controls.{AreStates, OpensEarly, probe_in};
 
 use crate::clock::Clock;
 use crate::state::ControlState;
-use fd_queue::{Queue, Verdict, queue_law, spare_law};
+use fd_sample::{Queue, Verdict, queue_law, spare_law};
 
 /// Each control in order takes its verdict and has its entry of the queue by it.
 pub(crate) fn react_all(

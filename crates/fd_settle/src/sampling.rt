@@ -2,9 +2,9 @@
 ghost use Rattle.std.specs.Prelude.{◌≡◌, ◌<◌, ◌≤◌, ◌^◌, All, length, map, vec_capacity, None};
 ghost use Rattle.std.specs.List.{list_any};
 ghost use Rattle.std.specs.Option.{is_some};
-ghost use Rattle.fd_xfmr.specs.Leakage.{AreTaps};
-ghost use Rattle.fd_queue.specs.Decisions.{way_of};
-ghost use Rattle.fd_queue.specs.Verdicts.{decision};
+ghost use Rattle.fd_sample.specs.fd_xfmr.Leakage.{AreTaps};
+ghost use Rattle.fd_sample.specs.fd_queue.Decisions.{way_of};
+ghost use Rattle.fd_sample.specs.fd_queue.Verdicts.{decision};
 ghost use Rattle.fd_sample.specs.Balls.{IsBall};
 ghost use Rattle.fd_sample.specs.Probes.{HasDevice, IsProbe, positions_in};
 ghost use Rattle.fd_settle.specs.Acting.{IsSampled, sampled_over};
@@ -12,8 +12,7 @@ ghost use Rattle.fd_settle.specs.Controls.{probe_in};
 
 use crate::progress::Progress;
 use crate::state::ControlState;
-use fd_devices::Positions;
-use fd_queue::Verdict;
+use fd_sample::{Positions, Verdict};
 
 /// Samples all controls in order over the ball of these centres and radii. Gives the first sample that is undecided, if
 /// there is one; else leaves the verdicts, for which there is room.

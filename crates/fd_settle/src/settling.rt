@@ -1,9 +1,9 @@
 // A settle: solve, sample and act, and again.
 ghost use Rattle.std.specs.Prelude.{◌≡◌, ◌++◌, ◌<◌, ◌≤◌, [], All, IfOk, OnOk, vec_capacity, vec_len};
-ghost use Rattle.dss_model.specs.InRange.{OptionsInRange};
-ghost use Rattle.dss_ready.specs.Ready.{HasPassed};
-ghost use Rattle.fd_devices.specs.Building.{IsModest};
-ghost use Rattle.fd_network.specs.Built.{IsBuiltOf};
+ghost use Rattle.fd_sample.specs.dss_model.InRange.{OptionsInRange};
+ghost use Rattle.fd_sample.specs.dss_ready.Ready.{HasPassed};
+ghost use Rattle.fd_sample.specs.fd_devices.Building.{IsModest};
+ghost use Rattle.fd_sample.specs.fd_network.Built.{IsBuiltOf};
 ghost use Rattle.fd_inject.specs.Procedure.{IsLimits};
 ghost use Rattle.fd_sample.specs.Probes.{positions_in};
 ghost use Rattle.fd_settle.specs.Contract.{CallsAs, EndsAs, appended, begun, limits_of, settled_in};
@@ -18,12 +18,8 @@ use crate::fault::SettleFault;
 use crate::progress::Progress;
 use crate::round::{Act, Round};
 use crate::solver::Solver;
-use dss_circuit::Circuit;
-use dss_model::Options;
-use fd_devices::{Positions, Powers};
 use fd_inject::Limits;
-use fd_network::Network;
-use fd_queue::count_law;
+use fd_sample::{Circuit, Network, Options, Positions, Powers, count_law};
 use std::alloc::{AllocError, Global};
 
 /// Solves, samples and acts, and again, until no entry of the queue is due after a sampling. Each solved round is

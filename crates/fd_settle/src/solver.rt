@@ -1,15 +1,14 @@
 // What finds certified states.
 ghost use Rattle.std.specs.Prelude.{IfOk, Result};
-ghost use Rattle.fd_pattern.specs.Views.{NetworkView};
-ghost use Rattle.fd_enclosure.specs.Sound.{Claim, IsSound};
+ghost use Rattle.fd_inject.specs.fd_pattern.Views.{NetworkView};
+ghost use Rattle.fd_cert.specs.fd_enclosure.Sound.{Claim, IsSound};
 ghost use Rattle.fd_cert.specs.Claims.{claim_in};
 ghost use Rattle.fd_inject.specs.declared.limits.Limits.{Limits};
 ghost use Rattle.fd_inject.specs.Procedure.{IsLimits};
 ghost use Rattle.fd_settle.specs.Calls.{answer_in};
 
 use fd_cert::Certified;
-use fd_equations::Network;
-use fd_inject::Limits;
+use fd_inject::{Limits, NetworkRows};
 use std::alloc::Global;
 
 /// Finds certified states of networks.
@@ -24,7 +23,7 @@ pub trait Solver {
     fn solve(
         &mut self,
         alloc: Global,
-        net: &Network,
+        net: &NetworkRows,
         limits: &Limits,
     ) -> Result<Certified, Self::Fault>
         requires limits { IsLimits limits.now }

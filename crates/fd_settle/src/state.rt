@@ -1,9 +1,9 @@
 // The state of a control: what it measures, and where it stands in the rules of the queue.
 ghost use Rattle.std.specs.Prelude.{◌≡◌, ◌⊎◌, ◌==◌, ◌+◌, ◌-◌, ◌<◌, ◌≤◌, ◌^◌, All, false, get_or, length, None, true};
-ghost use Rattle.fd_xfmr.specs.Leakage.{AreTaps};
-ghost use Rattle.fd_queue.specs.Controls.{tap_of as tap_at};
-ghost use Rattle.fd_queue.specs.Queue.{has_entry};
-ghost use Rattle.fd_queue.specs.Verdicts.{decision, is_decided};
+ghost use Rattle.fd_sample.specs.fd_xfmr.Leakage.{AreTaps};
+ghost use Rattle.fd_sample.specs.fd_queue.Controls.{tap_of as tap_at};
+ghost use Rattle.fd_sample.specs.fd_queue.Queue.{has_entry};
+ghost use Rattle.fd_sample.specs.fd_queue.Verdicts.{decision, is_decided};
 ghost use Rattle.fd_sample.specs.Balls.{IsBall};
 ghost use Rattle.fd_sample.specs.Decided.{sample_of, sample_over};
 ghost use Rattle.fd_sample.specs.Probes.{HasDevice, IsProbe, positions_in};
@@ -12,12 +12,10 @@ ghost use Rattle.fd_settle.specs.Controls.{probe_in};
 ghost use Rattle.fd_settle.specs.Rounds.{seen};
 
 use crate::round::Act;
-use fd_arith::TapPair;
-use fd_capctl::CapState;
-use fd_devices::Positions;
-use fd_queue::{Entry, Queue, Verdict};
-use fd_regctl::RegState;
-use fd_sample::{CapProbe, Probe, RegProbe, verdict};
+use fd_inject::TapPair;
+use fd_sample::{
+    CapProbe, CapState, Entry, Positions, Probe, Queue, RegProbe, RegState, Verdict, verdict,
+};
 
 /// A control with what its samples need, and its state in the queue's rules.
 #[derive(Drop)]

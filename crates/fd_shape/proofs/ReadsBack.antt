@@ -19,7 +19,7 @@ use Rattle.std.proofs.lemmas.List.Sums.{fold-append}
 use Rattle.std.proofs.lemmas.Nat.{div-add-mod', mod-mul-add}
 use Rattle.std.proofs.lemmas.Str.{digit_value_digit}
 use Rattle.std.proofs.lemmas.Str.Parse.{digit_from_value}
-use Rattle.fd_exact.specs.Rounding.{near_div, with_sign}
+use Rattle.dss_lexer.specs.fd_exact.Rounding.{near_div, with_sign}
 use Rattle.dss_lexer.specs.Answers.{◌>>=◌, each}
 use Rattle.dss_lexer.specs.Arrays.{row_of, word_in, words_of}
 use Rattle.dss_lexer.specs.Line.{is_separator}

@@ -3,7 +3,7 @@ use Rattle.std.specs.Prelude.{ℕ, ℤ, pos, ◌+◌, int_lt, Bool, ◌||◌, Li
 use Rattle.std.specs.Result.{result_ok}
 use Rattle.std.specs.Str.{chars, is_utf8}
 use Rattle.csv.specs.Reading.{default_config, records, strip_bom}
-use Rattle.fd_exact.specs.Answers as answers
+use Rattle.dss_lexer.specs.fd_exact.Answers as answers
 use Rattle.dss_lexer.specs.Answers.{◌>>=◌}
 use Rattle.dss_lexer.specs.Line.{skip_blanks}
 use Rattle.dss_lexer.specs.Number.{number_of}

@@ -21,3 +21,6 @@ pub use column::read_column;
 pub use fault::ShapeFault;
 pub use laws::text_law;
 pub use text::values_text;
+
+// Handed on from the crates below.
+pub use fd_decimal::{fixed_text, micro_text, nano_text, size_text};

@@ -3,11 +3,11 @@ use Rattle.std.proofs.Common.{◌≡◌, ◌∙◌, ℕ, ◌*◌, ◌≤◌, ◌
 use Rattle.std.specs.Int.{int_min, int_max, w128}
 use Rattle.std.proofs.Math.Nat.{mul-le-mul}
 use Rattle.std.proofs.lemmas.Int.{ints, clamps, to_z-of_z, fits_signed_from_abs}
-use Rattle.fd_exact.specs.Quotients.{ceil_nat_is, ceil_nat_least}
-use Rattle.fd_exact.specs.Rounding.{ceil_div, ceil_nat, floor_div}
-use Rattle.fd_arith.specs.Capping.{capped-within}
-use Rattle.fd_arith.specs.Interval.{capped, product}
-use Rattle.fd_arith.specs.Limits.{Fits, bounded}
+use Rattle.fd_load.specs.fd_exact.Quotients.{ceil_nat_is, ceil_nat_least}
+use Rattle.fd_load.specs.fd_exact.Rounding.{ceil_div, ceil_nat, floor_div}
+use Rattle.fd_load.specs.fd_arith.Capping.{capped-within}
+use Rattle.fd_load.specs.fd_arith.Interval.{capped, product}
+use Rattle.fd_load.specs.fd_arith.Limits.{Fits, bounded}
 
 is_small : (n : ℕ) → n ≤ 2 ^ 100 → (int_le (neg_ℤ (pos (2 ^ 100))) (pos n) && int_le (pos n) (pos (2 ^ 100))) ≡ true
 is_small n h = let a : neg_ℤ (pos (2 ^ 100)) ≤ℤ pos n = omega (arith, ints) in let b : pos n ≤ℤ pos (2 ^ 100) = omega (arith, ints) in grind (arith, ints)

@@ -4,8 +4,8 @@ use Rattle.std.specs.Int.RustNames.{unsigned_abs}
 use Rattle.std.proofs.Math.Nat.{mul-le-mul_left, mul-le-mul_right, le_of_mul-le-mul_right, le_trans, le_of_lt, mul-le-mul}
 use Rattle.std.proofs.lemmas.Int.{ints, unsigned_abs-mul}
 use Rattle.std.proofs.lemmas.Bool.{cases_lt}
-use Rattle.fd_exact.specs.Integers.{abs_add, abs_sub, as_val, vals, val-same}
-use Rattle.fd_system.specs.Loads.{clamp}
+use Rattle.fd_load.specs.fd_exact.Integers.{abs_add, abs_sub, as_val, vals, val-same}
+use Rattle.fd_load.specs.fd_system.Loads.{clamp}
 use Rattle.fd_slope.proofs.Quotients.{abs_of_three, abs_pair, double}
 
 -- w lies between 0 and y

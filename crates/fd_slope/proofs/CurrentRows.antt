@@ -4,11 +4,11 @@ use Rattle.std.specs.Int.RustNames.{unsigned_abs}
 use Rattle.std.proofs.Math.Nat.{mul-le-mul_left, mul-le-mul_right, le_of_mul-le-mul_right, le_trans, mul-pos, mul-le-mul}
 use Rattle.std.proofs.lemmas.Int.{ints, unsigned_abs-mul}
 use Rattle.std.proofs.lemmas.Bool.{cases_lt}
-use Rattle.fd_exact.specs.Fractions.{Near, fraction, minus}
-use Rattle.fd_exact.specs.Integers.{abs_add, abs_sub, as_val, pos_val, vals, val-same}
-use Rattle.fd_exact.specs.Quotients.{ceil_nat_covers}
-use Rattle.fd_exact.specs.Rounding.{ceil_nat}
-use Rattle.fd_system.specs.Loads.{clamp, constant_current, non_negative}
+use Rattle.fd_load.specs.fd_exact.Fractions.{Near, fraction, minus}
+use Rattle.fd_load.specs.fd_exact.Integers.{abs_add, abs_sub, as_val, pos_val, vals, val-same}
+use Rattle.fd_load.specs.fd_exact.Quotients.{ceil_nat_covers}
+use Rattle.fd_load.specs.fd_exact.Rounding.{ceil_nat}
+use Rattle.fd_load.specs.fd_system.Loads.{clamp, constant_current, non_negative}
 use Rattle.fd_load.specs.ExactSlopes.{level}
 use Rattle.fd_slope.specs.Radii.{at_scale, product_up}
 use Rattle.fd_slope.proofs.Clamping.{Between, between_abs, between_size, between_times, clamp_between, max_of, scaled_clamp}

@@ -11,3 +11,4 @@ pub mod Quotients
 pub mod Sizes
 pub mod Terminals
 pub mod SquareSizes
+pub mod CallerLemmas

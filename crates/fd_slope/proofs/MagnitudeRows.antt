@@ -3,10 +3,10 @@ use Rattle.std.proofs.Common.{◌≡◌, ℕ, ◌+◌, ◌*◌, ◌<◌, ◌≤�
 use Rattle.std.specs.Int.RustNames.{unsigned_abs}
 use Rattle.std.proofs.Math.Nat.{mul-le-mul_left, mul-le-mul_right}
 use Rattle.std.proofs.lemmas.Int.{ints, unsigned_abs-mul}
-use Rattle.fd_exact.specs.Fractions.{Near, minus}
-use Rattle.fd_exact.specs.Integers.{abs_add, as_val, vals, val-same}
-use Rattle.fd_exact.specs.Quotients.{ceil_nat_covers}
-use Rattle.fd_system.specs.Loads.{magnitude_row}
+use Rattle.fd_load.specs.fd_exact.Fractions.{Near, minus}
+use Rattle.fd_load.specs.fd_exact.Integers.{abs_add, as_val, vals, val-same}
+use Rattle.fd_load.specs.fd_exact.Quotients.{ceil_nat_covers}
+use Rattle.fd_load.specs.fd_system.Loads.{magnitude_row}
 use Rattle.fd_slope.specs.Radii.{at_scale}
 use Rattle.fd_slope.proofs.Quotients.{abs_of_three, near_by, rejoin}
 

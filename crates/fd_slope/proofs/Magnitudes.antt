@@ -4,9 +4,9 @@ use Rattle.std.specs.Int.RustNames.{unsigned_abs}
 use Rattle.std.proofs.Math.Nat.{le_trans, mul-le-mul_left}
 use Rattle.std.proofs.lemmas.Bool.{or_cases}
 use Rattle.std.proofs.lemmas.Int.{ints}
-use Rattle.fd_exact.specs.Fractions.{Near, minus}
-use Rattle.fd_system.specs.declared.loads.LoadPhase.{LoadPhase}
-use Rattle.fd_system.specs.Loads.{clamp, constant_current, non_negative}
+use Rattle.fd_load.specs.fd_exact.Fractions.{Near, minus}
+use Rattle.fd_load.specs.fd_system.declared.loads.LoadPhase.{LoadPhase}
+use Rattle.fd_load.specs.fd_system.Loads.{clamp, constant_current, non_negative}
 use Rattle.fd_load.specs.Current.{IsLoadPhase, clamped_magnitude}
 use Rattle.fd_load.specs.Slopes.{magnitude_is_inside, slope_row}
 use Rattle.fd_slope.specs.Radii.{full_draw, magnitude_radius, magnitude_stays_inside, magnitude_stays_outside, radius_row, voltage_radius}

@@ -3,9 +3,9 @@ use Rattle.std.proofs.Common.{◌≡◌, ℕ, ◌+◌, ◌*◌, ◌<◌, ◌≤�
 use Rattle.std.specs.Int.RustNames.{unsigned_abs}
 use Rattle.std.proofs.Math.Nat.{le_trans, mul-le-mul, mul-le-mul_left, mul-le-mul_right, mul-pos}
 use Rattle.std.proofs.lemmas.Int.{ints, unsigned_abs-mul}
-use Rattle.fd_exact.specs.Fractions.{Fraction, Near, minus}
-use Rattle.fd_system.specs.declared.loads.LoadPhase.{LoadPhase}
-use Rattle.fd_system.specs.Loads.{constant_power}
+use Rattle.fd_load.specs.fd_exact.Fractions.{Fraction, Near, minus}
+use Rattle.fd_load.specs.fd_system.declared.loads.LoadPhase.{LoadPhase}
+use Rattle.fd_load.specs.fd_system.Loads.{constant_power}
 use Rattle.fd_load.specs.Current.{IsLoadPhase, clamped_square}
 use Rattle.fd_load.specs.Slopes.{slope_row, square_is_inside}
 use Rattle.fd_load.specs.declared.slopes.SlopeRow.{SlopeRow}

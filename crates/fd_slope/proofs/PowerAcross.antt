@@ -4,9 +4,9 @@ use Rattle.std.specs.Int.RustNames.{unsigned_abs}
 use Rattle.std.proofs.Math.Nat.{mul-le-mul_left, mul-le-mul_right, le_trans, mul_assoc}
 use Rattle.std.proofs.lemmas.Int.{ints}
 use Rattle.std.proofs.lemmas.Bool.{cases_lt}
-use Rattle.fd_exact.specs.Integers.{as_val, pos_val, vals, val-same}
-use Rattle.fd_exact.specs.Quotients.{ceil_nat_covers}
-use Rattle.fd_system.specs.Loads.{clamp, constant_power, square_of}
+use Rattle.fd_load.specs.fd_exact.Integers.{as_val, pos_val, vals, val-same}
+use Rattle.fd_load.specs.fd_exact.Quotients.{ceil_nat_covers}
+use Rattle.fd_load.specs.fd_system.Loads.{clamp, constant_power, square_of}
 use Rattle.fd_slope.specs.Radii.{at_scale, product_up, square_moves}
 use Rattle.fd_slope.proofs.Clamping.{Between, across_f, between_size, change_c, clamp_between, cross_bound, flat_f, flat_off, scaled_clamp, straddle_bound, v_linear, zero_times}
 use Rattle.fd_slope.proofs.PowerInside.{IsNearSlope, PowerRow}

@@ -2,8 +2,8 @@
 use Rattle.std.proofs.Common.{◌≡◌, ◌⊎◌, ℕ, ◌+◌, ◌*◌, ◌<◌, ◌≤◌, ◌^◌, ℤ, pos, ◌+ℤ◌, ◌-ℤ◌, ◌*ℤ◌, Bool, true, false, cond, ◌&&◌, ◌||◌, nat_le, arith, inl, inr}
 use Rattle.std.specs.Int.RustNames.{unsigned_abs}
 use Rattle.std.proofs.lemmas.Bool.{and_from, and_parts, or_cases}
-use Rattle.fd_exact.specs.Fractions.{Near, fraction}
-use Rattle.fd_system.specs.Loads.{clamp, square_of}
+use Rattle.fd_load.specs.fd_exact.Fractions.{Near, fraction}
+use Rattle.fd_load.specs.fd_system.Loads.{clamp, square_of}
 use Rattle.fd_slope.specs.Radii.{square_moves}
 use Rattle.fd_slope.proofs.PowerAcross.{power_across, power_across_flat, power_outside, radius_across_of}
 use Rattle.fd_slope.proofs.PowerInside.{PowerRow, power_inside, radius_inside_of}

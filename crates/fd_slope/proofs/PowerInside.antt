@@ -3,9 +3,9 @@ use Rattle.std.proofs.Common.{◌≡◌, ◌∙◌, ℕ, ◌+◌, ◌*◌, ◌-�
 use Rattle.std.specs.Int.RustNames.{unsigned_abs}
 use Rattle.std.proofs.Math.Nat.{le_trans, mul-le-mul_left, mul-le-mul_right}
 use Rattle.std.proofs.lemmas.Int.{ints}
-use Rattle.fd_exact.specs.Fractions.{Near, minus}
-use Rattle.fd_exact.specs.Quotients.{ceil_nat_covers}
-use Rattle.fd_system.specs.Loads.{constant_power, square_of}
+use Rattle.fd_load.specs.fd_exact.Fractions.{Near, minus}
+use Rattle.fd_load.specs.fd_exact.Quotients.{ceil_nat_covers}
+use Rattle.fd_load.specs.fd_system.Loads.{constant_power, square_of}
 use Rattle.fd_slope.specs.Radii.{at_scale, product_up, square_moves}
 use Rattle.fd_slope.proofs.Quotients.{abs_pair, below, both, change_bound, clamped, exact, l_size, near_by, pair_by_most, pair_by_sum, rejoin, row_off, square_moved, stays, t_natural, times_one, top_is, v_natural, v_size}
 

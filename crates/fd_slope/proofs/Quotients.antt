@@ -3,9 +3,9 @@ use Rattle.std.proofs.Common.{◌≡◌, ◌∙◌, ℕ, ◌+◌, ◌*◌, ◌<�
 use Rattle.std.specs.Int.RustNames.{unsigned_abs}
 use Rattle.std.proofs.Math.Nat.{mul-le-mul_left, mul-le-mul_right, le_of_mul-le-mul_right, le_trans, mul-pos, mul-le-mul}
 use Rattle.std.proofs.lemmas.Int.{ints, unsigned_abs-mul}
-use Rattle.fd_exact.specs.Fractions.{Fraction, Near, minus}
-use Rattle.fd_exact.specs.Integers.{abs_add, abs_sub, as_val, vals, val-same}
-use Rattle.fd_system.specs.Loads.{clamp, square_of}
+use Rattle.fd_load.specs.fd_exact.Fractions.{Fraction, Near, minus}
+use Rattle.fd_load.specs.fd_exact.Integers.{abs_add, abs_sub, as_val, vals, val-same}
+use Rattle.fd_load.specs.fd_system.Loads.{clamp, square_of}
 use Rattle.fd_slope.specs.Radii.{square_moves}
 
 -- the radius of a slope where the box is inside the limits, as an inequality of naturals. k for 2^40

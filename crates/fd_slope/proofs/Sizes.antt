@@ -2,8 +2,8 @@
 use Rattle.std.proofs.Common.{◌≡◌, ℕ, ◌+◌, ◌*◌, ◌≤◌, ◌^◌, max, ℤ, nat_abs, true, arith, inl, inr}
 use Rattle.std.proofs.Math.Nat.{mul-le-mul}
 use Rattle.std.proofs.lemmas.Bool.{cases_lt}
-use Rattle.fd_system.specs.declared.loads.LoadPhase.{LoadPhase}
-use Rattle.fd_system.specs.Loads.{square_of}
+use Rattle.fd_load.specs.fd_system.declared.loads.LoadPhase.{LoadPhase}
+use Rattle.fd_load.specs.fd_system.Loads.{square_of}
 use Rattle.fd_load.specs.Current.{clamped_square, largest}
 use Rattle.fd_slope.specs.Radii.{square_moves, square_stays_inside}
 use Rattle.fd_slope.proofs.PowerCases.{inside_facts}

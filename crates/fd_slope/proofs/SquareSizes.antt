@@ -6,7 +6,7 @@ use Rattle.std.proofs.lemmas.Int.{ints}
 use Rattle.fd_load.specs.Current.{IsLoadPhase, clamped_square}
 use Rattle.fd_load.proofs.CallerLemmas.{nominal_held, part_held, part_kept}
 use Rattle.fd_slope.specs.Radii.{square_moves}
-use Rattle.fd_system.specs.declared.loads.LoadPhase.{LoadPhase}
+use Rattle.fd_load.specs.fd_system.declared.loads.LoadPhase.{LoadPhase}
 
 -- the clamped square of the parts that are read back is that of the parts
 pub square_held : (w : LoadPhase) (p q : ℤ) (d : ℕ) → nat_abs p ≤ 2 ^ 41 → nat_abs q ≤ 2 ^ 41

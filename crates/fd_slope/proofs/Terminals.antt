@@ -3,18 +3,18 @@ use Rattle.std.proofs.Common.{◌≡◌, ◌∙◌, ℕ, ◌+◌, ◌*◌, ◌<�
 use Rattle.std.specs.Int.RustNames.{unsigned_abs}
 use Rattle.std.proofs.Math.Nat.{mul-le-mul_left}
 use Rattle.std.proofs.lemmas.Int.{ints}
-use Rattle.fd_exact.specs.Fractions.{Fraction}
-use Rattle.fd_exact.specs.Integers.{abs_sub, as_val, vals, val-same}
-use Rattle.fd_exact.specs.States.{State}
-use Rattle.fd_arith.specs.declared.terms.NodeAt.{NodeAt}
-use Rattle.fd_arith.specs.declared.terms.NodeAt.TheVariants.{Ground, Node}
-use Rattle.fd_arith.specs.declared.terms.LoadModel.{LoadModel}
-use Rattle.fd_arith.specs.declared.terms.LoadModel.TheVariants.{ConstantPower, ConstantImpedance, ConstantCurrent}
-use Rattle.fd_arith.specs.LoadModels.{by_model, has_magnitude, is_linear}
-use Rattle.fd_system.specs.declared.loads.LoadPhase.{LoadPhase}
-use Rattle.fd_system.specs.declared.loads.LoadAt.{LoadAt}
-use Rattle.fd_system.specs.Loads.{constant_current, constant_impedance, constant_power, im_of, magnitude_of, magnitude_row, re_of}
-use Rattle.fd_system.specs.Residual.{whole_state}
+use Rattle.fd_load.specs.fd_exact.Fractions.{Fraction}
+use Rattle.fd_load.specs.fd_exact.Integers.{abs_sub, as_val, vals, val-same}
+use Rattle.fd_load.specs.fd_exact.States.{State}
+use Rattle.fd_load.specs.fd_arith.declared.terms.NodeAt.{NodeAt}
+use Rattle.fd_load.specs.fd_arith.declared.terms.NodeAt.TheVariants.{Ground, Node}
+use Rattle.fd_load.specs.fd_arith.declared.terms.LoadModel.{LoadModel}
+use Rattle.fd_load.specs.fd_arith.declared.terms.LoadModel.TheVariants.{ConstantPower, ConstantImpedance, ConstantCurrent}
+use Rattle.fd_load.specs.fd_arith.LoadModels.{by_model, has_magnitude, is_linear}
+use Rattle.fd_load.specs.fd_system.declared.loads.LoadPhase.{LoadPhase}
+use Rattle.fd_load.specs.fd_system.declared.loads.LoadAt.{LoadAt}
+use Rattle.fd_load.specs.fd_system.Loads.{constant_current, constant_impedance, constant_power, im_of, magnitude_of, magnitude_row, re_of}
+use Rattle.fd_load.specs.fd_system.Residual.{whole_state}
 use Rattle.fd_load.specs.Current.{IsLoadPhase, clamped_magnitude, clamped_square}
 use Rattle.fd_load.specs.ExactSlopes.{AreNear, ExactSlopes, exact_constant_current, exact_constant_power, exact_row, level}
 use Rattle.fd_load.specs.Slopes.{constant_current_slopes, constant_power_slopes, magnitude_is_inside, no_slopes, square_is_inside}

@@ -1,13 +1,13 @@
 -- What slopes and radii at a centre say of the rows of a part load at every state in a box.
 use Rattle.std.specs.Prelude.{◌≡◌, ℕ, ◌+◌, ◌*◌, ◌^◌, ◌<◌, ◌≤◌, ℤ, pos, ◌+ℤ◌, ◌-ℤ◌, ◌*ℤ◌, nat_abs, false, true, List, Option, Some, None}
-use Rattle.fd_exact.specs.Fractions.{Fraction, Near, minus}
-use Rattle.fd_exact.specs.States.{State, away}
-use Rattle.fd_arith.specs.declared.terms.NodeAt.{NodeAt}
-use Rattle.fd_arith.specs.declared.terms.NodeAt.TheVariants.{Ground, Node}
-use Rattle.fd_arith.specs.LoadModels.{has_magnitude, is_linear}
-use Rattle.fd_system.specs.declared.loads.LoadAt.{LoadAt}
-use Rattle.fd_system.specs.Loads.{im_of, load_current, magnitude_of, magnitude_row, re_of}
-use Rattle.fd_system.specs.Residual.{whole_state}
+use Rattle.fd_load.specs.fd_exact.Fractions.{Fraction, Near, minus}
+use Rattle.fd_load.specs.fd_exact.States.{State, away}
+use Rattle.fd_load.specs.fd_arith.declared.terms.NodeAt.{NodeAt}
+use Rattle.fd_load.specs.fd_arith.declared.terms.NodeAt.TheVariants.{Ground, Node}
+use Rattle.fd_load.specs.fd_arith.LoadModels.{has_magnitude, is_linear}
+use Rattle.fd_load.specs.fd_system.declared.loads.LoadAt.{LoadAt}
+use Rattle.fd_load.specs.fd_system.Loads.{im_of, load_current, magnitude_of, magnitude_row, re_of}
+use Rattle.fd_load.specs.fd_system.Residual.{whole_state}
 use Rattle.fd_load.specs.Current.{IsLoadPhase}
 use Rattle.fd_load.specs.Slopes.{slopes_of}
 use Rattle.fd_load.specs.declared.slopes.SlopeRow.{SlopeRow}

@@ -1,10 +1,10 @@
 -- The radii of a load phase's slopes in a box: how far the change of a row may be from what the slopes at the centre say. They are whole
 -- numbers of 2^-40, each quotient and each product rounded up.
 use Rattle.std.specs.Prelude.{ℕ, ◌+◌, ◌*◌, ◌-◌, ◌^◌, ◌≤◌, max, ℤ, pos, ◌+ℤ◌, nat_abs, Bool, ◌&&◌, ◌||◌, nat_le, int_le, cond}
-use Rattle.fd_exact.specs.Rounding.{ceil_nat}
-use Rattle.fd_arith.specs.LoadModels.{by_model}
-use Rattle.fd_system.specs.declared.loads.LoadPhase.{LoadPhase}
-use Rattle.fd_system.specs.Loads.{square_of}
+use Rattle.fd_load.specs.fd_exact.Rounding.{ceil_nat}
+use Rattle.fd_load.specs.fd_arith.LoadModels.{by_model}
+use Rattle.fd_load.specs.fd_system.declared.loads.LoadPhase.{LoadPhase}
+use Rattle.fd_load.specs.fd_system.Loads.{square_of}
 use Rattle.fd_load.specs.Current.{clamped_magnitude, clamped_square, largest, power_sum}
 use Rattle.fd_slope.specs.declared.radii.Radii.{Radii}
 use Rattle.fd_slope.specs.declared.radii.RadiusRow.{RadiusRow}

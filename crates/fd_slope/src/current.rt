@@ -8,8 +8,7 @@ use crate::around::Around;
 use crate::power::{full_draw, greater, greatest_part};
 use crate::radii::RadiusRow;
 use crate::rounding::{at_scale, product_up};
-use fd_load::{clamped_magnitude, nominal_times_magnitude};
-use fd_system::LoadPhase;
+use fd_load::{LoadPhase, clamped_magnitude, nominal_times_magnitude};
 
 /// The radius of each slope of the current in p and in q, in whole 2^-40.
 pub fn voltage_radius(load: &LoadPhase, b: &Around) -> u128

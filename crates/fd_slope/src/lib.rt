@@ -20,3 +20,6 @@ mod slope;
 pub use laws::change_law;
 pub use radii::{Radii, RadiusRow};
 pub use slope::{Slope, load_slope};
+
+// Handed on from the crates below.
+pub use fd_load::{Interval, LoadAt, Micro, NodeAt, Wide};

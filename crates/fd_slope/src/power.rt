@@ -1,14 +1,13 @@
 // The radii of constant power: the current is n / c, where c is the square of the voltage, brought between the squares of the limits.
 ghost use Rattle.std.specs.Prelude.{◌≡◌, ◌+◌, ◌*◌, ◌^◌, ◌<◌, ◌≤◌, max, nat_abs, nat_le, ◌&&◌, ◌||◌, true};
-ghost use Rattle.fd_system.specs.Loads.{square_of};
+ghost use Rattle.fd_load.specs.fd_system.Loads.{square_of};
 ghost use Rattle.fd_load.specs.Current.{IsLoadPhase, clamped_square as square_within, largest};
 ghost use Rattle.fd_slope.specs.Radii.{at_scale as quotient_up, full_draw as draw_of, least_square as least_square_of, power_radius as radius_by_case, power_radius_with, product_up as product_of, square_moves as moves_of, square_stays_inside as stays_inside, square_stays_outside as stays_outside, turned_across as turned_where_straddled, turned_inside as turned_within};
 ghost use Rattle.fd_slope.specs.Boxes.{IsAround};
 
 use crate::around::Around;
 use crate::rounding::{at_scale, product_up};
-use fd_load::{clamped_square, square};
-use fd_system::LoadPhase;
+use fd_load::{LoadPhase, clamped_square, square};
 
 // microamperes in units of a thousandth of a volt-ampere times a microvolt over a squared microvolt
 const PER_UNIT: u128 = 1_000_000_000;

@@ -2,7 +2,7 @@
 ghost use Rattle.std.specs.Prelude.{◌≡◌, ℕ, ◌*◌, ◌^◌, ◌<◌, ◌≤◌};
 ghost use Rattle.fd_slope.specs.Radii.{at_scale as quotient_up, product_up as rounded_product};
 
-use fd_arith::{Coef, Interval, ceil_at};
+use fd_load::{Coef, Interval, ceil_at};
 
 /// n / d in units of 2^-40, rounded up.
 pub fn at_scale(n: u128, d: u128) -> u128

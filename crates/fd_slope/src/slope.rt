@@ -9,9 +9,7 @@ use crate::around::Around;
 use crate::current::{magnitude_radius, row_radii, voltage_radius};
 use crate::power::power_radius;
 use crate::radii::{LEVEL, NO_RADII, Radii, RadiusRow};
-use fd_arith::LoadModel;
-use fd_load::{Slopes, rounded_slopes};
-use fd_system::LoadPhase;
+use fd_load::{LoadModel, LoadPhase, Slopes, rounded_slopes};
 
 /// The slopes of a load phase's rows at a centre, and their radii in a box, both in whole 2^-40.
 #[derive(Clone, Copy, PartialEq, Eq, Debug)]

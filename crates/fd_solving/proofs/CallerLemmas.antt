@@ -7,3 +7,6 @@ pub use Rattle.fd_solving.proofs.Steadiness.{alike}
 pub use Rattle.fd_solving.proofs.Tests.{one_step, test_once, tests_answer}
 pub use Rattle.fd_solving.proofs.Weaker.{if_some_weaker}
 pub use Rattle.fd_solving.proofs.Weights.{Takes, verb_takes}
+pub use Rattle.fd_pages.proofs.CallerLemmas.fd_outside as fd_outside
+pub use Rattle.fd_pages.proofs.CallerLemmas.fd_certfile as fd_certfile
+pub use Rattle.fd_pages.proofs.CallerLemmas.fd_outcome as fd_outcome

@@ -1,18 +1,18 @@
 -- The computation of a settle ends as a run can tell, and its rounds are no more than the options allow acts, and one.
 use Rattle.std.proofs.Common.{◌≡◌, ◌≤◌, ◌+◌, List, [], ◌∷◌, length, Err, ap, refl, sym, subst, arith}
-use Rattle.fd_enclosure.specs.Sound.{Claim}
-use Rattle.fd_inject.specs.Procedure.{solution_of}
-use Rattle.fd_inject.specs.declared.fault.SolveFault.{SolveFault}
-use Rattle.fd_inject.specs.declared.fault.SolveFault.TheVariants as solving
-use Rattle.fd_inject.specs.declared.limits.Limits.{Limits}
-use Rattle.fd_pattern.specs.Views.{NetworkView}
-use Rattle.fd_queue.specs.Machine.{Act, Machine, Setup, Step, Quiet, AtLimit, Acts, step_of}
-use Rattle.fd_queue.specs.MachineLaws.{IsCounted}
-use Rattle.fd_settle.proofs.CallerLemmas.{round_counted}
-use Rattle.fd_settle.specs.Computed.{Ending, Follows, IsComputedFrom, ended, procedure, range, stopped, uncertified}
-use Rattle.fd_settle.specs.Plant.{Plant}
-use Rattle.fd_settle.specs.Sampling.{Sampling, Decided, Unclear}
-use Rattle.fd_settle.specs.Settle.{Open, Outcome, Ends, Moves, outcome_after, outcome_of}
+use Rattle.fd_daily.specs.fd_enclosure.Sound.{Claim}
+use Rattle.fd_daily.specs.fd_inject.Procedure.{solution_of}
+use Rattle.fd_daily.specs.fd_inject.declared.fault.SolveFault.{SolveFault}
+use Rattle.fd_daily.specs.fd_inject.declared.fault.SolveFault.TheVariants as solving
+use Rattle.fd_daily.specs.fd_inject.declared.limits.Limits.{Limits}
+use Rattle.fd_daily.specs.fd_pattern.Views.{NetworkView}
+use Rattle.fd_daily.specs.fd_queue.Machine.{Act, Machine, Setup, Step, Quiet, AtLimit, Acts, step_of}
+use Rattle.fd_daily.specs.fd_queue.MachineLaws.{IsCounted}
+use Rattle.fd_daily.proofs.CallerLemmas.fd_settle.{round_counted}
+use Rattle.fd_daily.specs.fd_settle.Computed.{Ending, Follows, IsComputedFrom, ended, procedure, range, stopped, uncertified}
+use Rattle.fd_daily.specs.fd_settle.Plant.{Plant}
+use Rattle.fd_daily.specs.fd_settle.Sampling.{Sampling, Decided, Unclear}
+use Rattle.fd_daily.specs.fd_settle.Settle.{Open, Outcome, Ends, Moves, outcome_after, outcome_of}
 use Rattle.fd_solving.proofs.Unsolved.{never_memory}
 
 -- a settle isn't left open, and the procedure's definition gives no want of memory

@@ -3,25 +3,25 @@ use Rattle.std.proofs.Common.{◌≡◌, ◌∙◌, ◌≤◌, ℕ, Bool, true, 
 use Rattle.std.specs.Prelude.{◌||◌, ◌⊎◌, is_some}
 use Rattle.std.specs.List.{AllByRecursion, flat_map}
 use Rattle.std.proofs.lemmas.List.{append-nil, map-append}
-use Rattle.fd_outside.specs.Emitted.{Takes, pieces_of}
-use Rattle.fd_outside.specs.declared.bytes.Record.{Record}
-use Rattle.fd_report.specs.Faults.{status}
-use Rattle.dss_circuit.specs.Circuit.{CircuitView}
-use Rattle.fd_queue.specs.Controls.{Positions}
-use Rattle.fd_report.specs.declared.faults.Cause.TheVariants as cause
-use Rattle.fd_report.specs.declared.faults.Fault.{Fault}
-use Rattle.fd_report.specs.declared.faults.Fault.TheVariants as fault
-use Rattle.fd_bases.specs.declared.bus_base.BusBase.{BusBase}
-use Rattle.fd_report.specs.Bases.{base_fields}
-use Rattle.fd_outcome.specs.Events.{Event, History, finishes, row}
-use Rattle.fd_outcome.specs.Work.{Step, ExactlyOne, goes, ends}
-use Rattle.fd_outcome.specs.Calls.{Call, Style, body, fault_text, opened, reads, writes}
-use Rattle.fd_outcome.specs.Done.{IsFrontOf, IsDone, Made}
-use Rattle.fd_outcome.specs.Way.{whole}
-use Rattle.fd_outcome.specs.Behind.{behind, closes, has_text, opened_unless}
-use Rattle.fd_outcome.specs.Parts.{EndsAt, GoesOn, IsCutIn, Printed, Wrote, events_in, fault_doing}
-use Rattle.fd_outcome.specs.Untold.{CutsShort}
-use Rattle.fd_outcome.proofs.CallerLemmas.{cut_before, not_empty, nothing_behind, or_false, wrote_all, wrote_nothing}
+use Rattle.fd_pages.specs.fd_outside.Emitted.{Takes, pieces_of}
+use Rattle.fd_pages.specs.fd_outside.declared.bytes.Record.{Record}
+use Rattle.fd_pages.specs.fd_report.Faults.{status}
+use Rattle.dss_commands.specs.dss_circuit.Circuit.{CircuitView}
+use Rattle.fd_daily.specs.fd_queue.Controls.{Positions}
+use Rattle.fd_pages.specs.fd_report.declared.faults.Cause.TheVariants as cause
+use Rattle.fd_pages.specs.fd_report.declared.faults.Fault.{Fault}
+use Rattle.fd_pages.specs.fd_report.declared.faults.Fault.TheVariants as fault
+use Rattle.fd_pages.specs.fd_bases.declared.bus_base.BusBase.{BusBase}
+use Rattle.fd_pages.specs.fd_report.Bases.{base_fields}
+use Rattle.fd_pages.specs.fd_outcome.Events.{Event, History, finishes, row}
+use Rattle.fd_pages.specs.fd_outcome.Work.{Step, ExactlyOne, goes, ends}
+use Rattle.fd_pages.specs.fd_outcome.Calls.{Call, Style, body, fault_text, opened, reads, writes}
+use Rattle.fd_pages.specs.fd_outcome.Done.{IsFrontOf, IsDone, Made}
+use Rattle.fd_pages.specs.fd_outcome.Way.{whole}
+use Rattle.fd_pages.specs.fd_outcome.Behind.{behind, closes, has_text, opened_unless}
+use Rattle.fd_pages.specs.fd_outcome.Parts.{EndsAt, GoesOn, IsCutIn, Printed, Wrote, events_in, fault_doing}
+use Rattle.fd_pages.specs.fd_outcome.Untold.{CutsShort}
+use Rattle.fd_pages.proofs.CallerLemmas.fd_outcome.{cut_before, not_empty, nothing_behind, or_false, wrote_all, wrote_nothing}
 use Rattle.fd_pages.specs.Bases.{base_events}
 use Rattle.fd_solving.specs.Answered.{IsAnswerOf, IsAnswered, IsOfCommand}
 use Rattle.fd_solving.specs.Commands.{Applied, IsStepOf, bases_left, nothing_left, refused_at, solve_left}

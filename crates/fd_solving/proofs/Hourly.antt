@@ -3,27 +3,27 @@ use Rattle.std.proofs.Common.{◌≡◌, ◌∙◌, ℕ, Bool, true, false, List
 use Rattle.std.specs.Prelude.{◌||◌}
 use Rattle.std.proofs.lemmas.List.{append_assoc, append-nil}
 use Rattle.std.proofs.lemmas.List.Sums.{fold-append}
-use Rattle.dss_model.specs.declared.command.Blame.{Blame}
-use Rattle.dss_circuit.specs.Circuit.{CircuitView}
+use Rattle.dss_commands.specs.dss_model.declared.command.Blame.{Blame}
+use Rattle.dss_commands.specs.dss_circuit.Circuit.{CircuitView}
 use Rattle.fd_daily.specs.Day.{DayView, hours_left, no_openings}
 use Rattle.fd_daily.specs.Hours.{hours_of}
-use Rattle.fd_report.specs.declared.faults.Cause.TheVariants as cause
-use Rattle.fd_report.specs.declared.faults.Fault.{Fault}
-use Rattle.fd_report.specs.declared.faults.Fault.TheVariants as fault
-use Rattle.fd_devices.specs.declared.settings.Positions.{Positions as CodePositions}
-use Rattle.fd_queue.specs.Controls.{Positions}
-use Rattle.fd_sample.specs.Probes.{positions_in}
-use Rattle.fd_settle.specs.Computed.{range, stopped}
-use Rattle.fd_settle.specs.declared.round.Round.{Round as Made}
-use Rattle.fd_outcome.specs.Behind.{behind, has_text}
-use Rattle.fd_outcome.specs.Calls.{Call, Style, body, calls_in, fault_text, opened, reads, writes}
-use Rattle.fd_outcome.specs.Done.{IsDone, IsFrontOf}
-use Rattle.fd_outcome.specs.Events.{Event, settle}
-use Rattle.fd_outcome.specs.Parts.{EndsAt, IsCutIn, Printed, Wrote, events_in, fault_doing}
-use Rattle.fd_outcome.specs.Settles.{Settle, SettleEnd, settled, failed, without_certificate}
-use Rattle.fd_outcome.specs.Way.{whole}
-use Rattle.fd_outcome.specs.Work.{Step, goes, ends}
-use Rattle.fd_outcome.proofs.CallerLemmas.{behind-append, front_then, made_after, nothing_behind, or_false, printed_then, text_behind, wrote_nothing, wrote_then}
+use Rattle.fd_pages.specs.fd_report.declared.faults.Cause.TheVariants as cause
+use Rattle.fd_pages.specs.fd_report.declared.faults.Fault.{Fault}
+use Rattle.fd_pages.specs.fd_report.declared.faults.Fault.TheVariants as fault
+use Rattle.fd_daily.specs.fd_devices.declared.settings.Positions.{Positions as CodePositions}
+use Rattle.fd_daily.specs.fd_queue.Controls.{Positions}
+use Rattle.fd_daily.specs.fd_sample.Probes.{positions_in}
+use Rattle.fd_daily.specs.fd_settle.Computed.{range, stopped}
+use Rattle.fd_daily.specs.fd_settle.declared.round.Round.{Round as Made}
+use Rattle.fd_pages.specs.fd_outcome.Behind.{behind, has_text}
+use Rattle.fd_pages.specs.fd_outcome.Calls.{Call, Style, body, calls_in, fault_text, opened, reads, writes}
+use Rattle.fd_pages.specs.fd_outcome.Done.{IsDone, IsFrontOf}
+use Rattle.fd_pages.specs.fd_outcome.Events.{Event, settle}
+use Rattle.fd_pages.specs.fd_outcome.Parts.{EndsAt, IsCutIn, Printed, Wrote, events_in, fault_doing}
+use Rattle.fd_pages.specs.fd_outcome.Settles.{Settle, SettleEnd, settled, failed, without_certificate}
+use Rattle.fd_pages.specs.fd_outcome.Way.{whole}
+use Rattle.fd_pages.specs.fd_outcome.Work.{Step, goes, ends}
+use Rattle.fd_pages.proofs.CallerLemmas.fd_outcome.{behind-append, front_then, made_after, nothing_behind, or_false, printed_then, text_behind, wrote_nothing, wrote_then}
 use Rattle.fd_solving.specs.Answered.{IsMadeHour, kept_in}
 use Rattle.fd_solving.specs.Tallies.{tallied, tally_of, GoesOnTallied}
 use Rattle.fd_solving.specs.Printing.{EndsInHour, IsPrintedHour, begun_behind, fault_of, settle_calls}

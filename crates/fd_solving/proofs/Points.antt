@@ -5,28 +5,28 @@ use Rattle.std.proofs.lemmas.Bool.{cases_lt, leb-true, ltb-false}
 use Rattle.std.proofs.lemmas.Int.{ints}
 use Rattle.std.proofs.lemmas.List.Elements.{All-from_get_or}
 use Rattle.std.proofs.lemmas.List.FromFn.{length-map-range_with_len}
-use Rattle.fd_exact.specs.FirstLaws.{none_holds}
-use Rattle.fd_exact.specs.Results.{and_then}
-use Rattle.fd_exact.specs.States.{entry, part, table}
-use Rattle.fd_exact.specs.Tables.{entry-table, length-table, row-table}
-use Rattle.fd_mat.specs.Rows.{first_column_past, row_of}
-use Rattle.fd_system.specs.declared.loads.LoadAt.{LoadAt}
-use Rattle.fd_pattern.specs.Conditions.{IsPart, IsPoint}
-use Rattle.fd_equations.specs.Rounded.{constants_of, jacobian_entry, jacobian_of, rounded_residual_of, start_entry, start_matrix_of}
-use Rattle.fd_pattern.specs.Views.{NetworkView}
-use Rattle.fd_equations.proofs.CallerLemmas.{length-list_of}
-use Rattle.fd_inverse.specs.Elimination.{Augmented, after_columns, fitting, inverse_of, row_fits}
-use Rattle.fd_inverse.specs.Elimination as elimination
-use Rattle.fd_inverse.specs.declared.fault.Stop.{Stop}
-use Rattle.fd_inverse.specs.declared.fault.Stop.TheVariants.{Range}
-use Rattle.fd_inverse.proofs.CallerLemmas.{each_below-at}
-use Rattle.fd_enclosure.specs.Sound.{IsInverse}
-use Rattle.fd_inject.specs.Procedure.{Iterate, after, first_moving, iterated, judged, last_from, last_of, next_iterate, polished, solution_of, start_of, stepped, with_nominal}
-use Rattle.fd_inject.specs.Ranges.{first_past, in_range, inverse_at, inverse_unless, unless_past, without_inverse}
-use Rattle.fd_inject.specs.Updates.{moved, update_for, update_of, update_at}
-use Rattle.fd_inject.specs.declared.fault.SolveFault.TheVariants.{NotConverged}
-use Rattle.fd_inject.specs.declared.limits.Limits.{Limits}
-use Rattle.fd_inject.proofs.CallerLemmas.{length-moved, length-nominal}
+use Rattle.dss_commands.specs.fd_exact.FirstLaws.{none_holds}
+use Rattle.dss_commands.specs.fd_exact.Results.{and_then}
+use Rattle.dss_commands.specs.fd_exact.States.{entry, part, table}
+use Rattle.dss_commands.specs.fd_exact.Tables.{entry-table, length-table, row-table}
+use Rattle.fd_daily.specs.fd_mat.Rows.{first_column_past, row_of}
+use Rattle.fd_daily.specs.fd_system.declared.loads.LoadAt.{LoadAt}
+use Rattle.fd_daily.specs.fd_pattern.Conditions.{IsPart, IsPoint}
+use Rattle.fd_daily.specs.fd_equations.Rounded.{constants_of, jacobian_entry, jacobian_of, rounded_residual_of, start_entry, start_matrix_of}
+use Rattle.fd_daily.specs.fd_pattern.Views.{NetworkView}
+use Rattle.fd_daily.proofs.CallerLemmas.fd_equations.{length-list_of}
+use Rattle.fd_daily.specs.fd_inverse.Elimination.{Augmented, after_columns, fitting, inverse_of, row_fits}
+use Rattle.fd_daily.specs.fd_inverse.Elimination as elimination
+use Rattle.fd_daily.specs.fd_inverse.declared.fault.Stop.{Stop}
+use Rattle.fd_daily.specs.fd_inverse.declared.fault.Stop.TheVariants.{Range}
+use Rattle.fd_daily.proofs.CallerLemmas.fd_inverse.{each_below-at}
+use Rattle.fd_daily.specs.fd_enclosure.Sound.{IsInverse}
+use Rattle.fd_daily.specs.fd_inject.Procedure.{Iterate, after, first_moving, iterated, judged, last_from, last_of, next_iterate, polished, solution_of, start_of, stepped, with_nominal}
+use Rattle.fd_daily.specs.fd_inject.Ranges.{first_past, in_range, inverse_at, inverse_unless, unless_past, without_inverse}
+use Rattle.fd_daily.specs.fd_inject.Updates.{moved, update_for, update_of, update_at}
+use Rattle.fd_daily.specs.fd_inject.declared.fault.SolveFault.TheVariants.{NotConverged}
+use Rattle.fd_daily.specs.fd_inject.declared.limits.Limits.{Limits}
+use Rattle.fd_daily.proofs.CallerLemmas.fd_inject.{length-moved, length-nominal}
 
 -- ---- steps that went well
 

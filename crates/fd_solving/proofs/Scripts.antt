@@ -1,20 +1,20 @@
 -- The history of `solve` and `cert`: there is exactly one, and it is that of what the script says.
 use Rattle.std.proofs.Common.{◌≡◌, ◌∙◌, ℕ, Bool, List, [], Option, refl, ap, subst}
 use Rattle.std.specs.Str.{chars}
-use Rattle.fd_outside.specs.Answers.{Answer}
-use Rattle.fd_outside.specs.Files.{Files, held}
-use Rattle.dss_model.specs.Names.{bytes}
-use Rattle.dss_script.specs.Script.{Script, script_of}
-use Rattle.dss_script.specs.Said.{Said, ScriptEnd, said_of, ended_by, said_in, end_in}
-use Rattle.dss_script.specs.SaidLaws.{SaidLaw}
-use Rattle.fd_outcome.specs.Behind.{AsksNames, TellsEnd}
-use Rattle.fd_outcome.specs.Calls.{Style, report}
-use Rattle.fd_outcome.specs.Events.{History, finishes}
-use Rattle.fd_outcome.specs.History.{IsHistory}
-use Rattle.fd_outcome.specs.Runs.{Runs}
-use Rattle.fd_outcome.specs.Work.{ExactlyOne, Step}
-use Rattle.fd_outcome.proofs.CallerLemmas.{ends_first, exactly_one_history, exactly_this}
-use Rattle.dss_model.specs.declared.command.Command.{Command}
+use Rattle.fd_pages.specs.fd_outside.Answers.{Answer}
+use Rattle.fd_pages.specs.fd_outside.Files.{Files, held}
+use Rattle.dss_commands.specs.dss_model.Names.{bytes}
+use Rattle.fd_pages.specs.dss_script.Script.{Script, script_of}
+use Rattle.fd_pages.specs.dss_script.Said.{Said, ScriptEnd, said_of, ended_by, said_in, end_in}
+use Rattle.fd_pages.specs.dss_script.SaidLaws.{SaidLaw}
+use Rattle.fd_pages.specs.fd_outcome.Behind.{AsksNames, TellsEnd}
+use Rattle.fd_pages.specs.fd_outcome.Calls.{Style, report}
+use Rattle.fd_pages.specs.fd_outcome.Events.{History, finishes}
+use Rattle.fd_pages.specs.fd_outcome.History.{IsHistory}
+use Rattle.fd_pages.specs.fd_outcome.Runs.{Runs}
+use Rattle.fd_pages.specs.fd_outcome.Work.{ExactlyOne, Step}
+use Rattle.fd_pages.proofs.CallerLemmas.fd_outcome.{ends_first, exactly_one_history, exactly_this}
+use Rattle.dss_commands.specs.dss_model.declared.command.Command.{Command}
 use Rattle.fd_solving.specs.Commands.{IsStep}
 use Rattle.fd_solving.specs.Scripts.{IsDoneThere, IsScriptHistory, first_standing, no_name}
 use Rattle.fd_solving.proofs.Tests.{one_step}

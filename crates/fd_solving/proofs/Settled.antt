@@ -3,42 +3,42 @@ use Rattle.std.proofs.Common.{◌≡◌, ◌∙◌, ◌≤◌, ◌<◌, ◌+◌,
 use Rattle.std.specs.Prelude.{All}
 use Rattle.std.proofs.lemmas.List.{length-map}
 use Rattle.std.proofs.lemmas.List.Elements.{All-cons, All-nil}
-use Rattle.dss_layout.specs.Layout.{LayoutView, layout_of, size_of}
-use Rattle.dss_ready.specs.Ready.{HasPassed}
-use Rattle.dss_circuit.specs.Circuit.{CircuitView}
-use Rattle.fd_pattern.specs.Views.{NetworkView}
-use Rattle.fd_cert.specs.Claims.{claim_in}
-use Rattle.fd_pages.specs.Rounds.{IsRoundOf}
-use Rattle.fd_cert.specs.declared.fault.CertFault.TheVariants as cert
-use Rattle.fd_enclosure.specs.Sound.{Claim}
-use Rattle.fd_inject.specs.declared.fault.SolveFault.TheVariants as solving
-use Rattle.fd_inject.specs.declared.limits.Limits.{Limits}
-use Rattle.fd_settings.specs.Hours.{hour_powers}
-use Rattle.fd_elements.specs.declared.powers.LoadPower.{LoadPower}
-use Rattle.fd_queue.specs.Controls.{Positions}
-use Rattle.fd_queue.specs.Machine.{Act, Machine}
-use Rattle.fd_report.specs.Solutions.{IsOfSize}
-use Rattle.fd_settle.specs.Compute.{ComputeGives, IsPlaced}
-use Rattle.fd_settle.specs.Computed.{Ending, EndsBySolver, EndsSo, IsComputedFrom, computed_in, ended}
-use Rattle.fd_settle.specs.Contract.{CallsAs, EndsAs, limits_of}
-use Rattle.fd_settle.specs.Plant.{Plant, network_at, plant_of}
-use Rattle.fd_settle.specs.Rounds.{AtEach, after_round, claims_in, seen, settled}
-use Rattle.fd_settle.specs.Settle.{End, Settled}
-use Rattle.fd_settle.specs.Start.{ArePositions, IsSoundAt}
-use Rattle.fd_settle.specs.declared.compute.ComputeFault.{ComputeFault}
-use Rattle.fd_settle.specs.declared.compute.ComputeFault.TheVariants as compute
-use Rattle.fd_settle.specs.declared.fault.SettleFault.{SettleFault}
-use Rattle.fd_settle.specs.declared.fault.SettleFault.TheVariants as fault
-use Rattle.fd_settle.specs.declared.round.Round.{Round as Made}
-use Rattle.fd_outcome.specs.Pages.{solution_in}
-use Rattle.fd_outcome.specs.Settles.{Round, SettleEnd}
-use Rattle.fd_outcome.specs.Settles as outcome
+use Rattle.fd_pages.specs.dss_layout.Layout.{LayoutView, layout_of, size_of}
+use Rattle.fd_daily.specs.dss_ready.Ready.{HasPassed}
+use Rattle.dss_commands.specs.dss_circuit.Circuit.{CircuitView}
+use Rattle.fd_daily.specs.fd_pattern.Views.{NetworkView}
+use Rattle.fd_daily.specs.fd_cert.Claims.{claim_in}
+use Rattle.fd_pages.specs.fd_certfile.Rounds.{IsRoundOf}
+use Rattle.fd_daily.specs.fd_cert.declared.fault.CertFault.TheVariants as cert
+use Rattle.fd_daily.specs.fd_enclosure.Sound.{Claim}
+use Rattle.fd_daily.specs.fd_inject.declared.fault.SolveFault.TheVariants as solving
+use Rattle.fd_daily.specs.fd_inject.declared.limits.Limits.{Limits}
+use Rattle.fd_daily.specs.fd_settings.Hours.{hour_powers}
+use Rattle.fd_daily.specs.fd_elements.declared.powers.LoadPower.{LoadPower}
+use Rattle.fd_daily.specs.fd_queue.Controls.{Positions}
+use Rattle.fd_daily.specs.fd_queue.Machine.{Act, Machine}
+use Rattle.fd_pages.specs.fd_report.Solutions.{IsOfSize}
+use Rattle.fd_daily.specs.fd_settle.Compute.{ComputeGives, IsPlaced}
+use Rattle.fd_daily.specs.fd_settle.Computed.{Ending, EndsBySolver, EndsSo, IsComputedFrom, computed_in, ended}
+use Rattle.fd_daily.specs.fd_settle.Contract.{CallsAs, EndsAs, limits_of}
+use Rattle.fd_daily.specs.fd_settle.Plant.{Plant, network_at, plant_of}
+use Rattle.fd_daily.specs.fd_settle.Rounds.{AtEach, after_round, claims_in, seen, settled}
+use Rattle.fd_daily.specs.fd_settle.Settle.{End, Settled}
+use Rattle.fd_daily.specs.fd_settle.Start.{ArePositions, IsSoundAt}
+use Rattle.fd_daily.specs.fd_settle.declared.compute.ComputeFault.{ComputeFault}
+use Rattle.fd_daily.specs.fd_settle.declared.compute.ComputeFault.TheVariants as compute
+use Rattle.fd_daily.specs.fd_settle.declared.fault.SettleFault.{SettleFault}
+use Rattle.fd_daily.specs.fd_settle.declared.fault.SettleFault.TheVariants as fault
+use Rattle.fd_daily.specs.fd_settle.declared.round.Round.{Round as Made}
+use Rattle.fd_pages.specs.fd_outcome.Pages.{solution_in}
+use Rattle.fd_pages.specs.fd_outcome.Settles.{Round, SettleEnd}
+use Rattle.fd_pages.specs.fd_outcome.Settles as outcome
 use Rattle.fd_pages.specs.Hours.{IsPrintable, IsTriedOf, round_in, rounds_in, settle_made, end_with, Kept, hour_settle}
 use Rattle.fd_solving.specs.Answered.{IsFailureOf, IsMadeHour, IsOfCommand}
 use Rattle.fd_solving.specs.Endings.{IsCounted, IsEnding, IsFailureAt, IsTriedAt, IsWithin, TellsOf, end_by, ending_by_solver, ending_of, tried_at}
 use Rattle.fd_solving.specs.declared.faults.Failure.{Failure}
-use Rattle.fd_cert.specs.declared.ball.Certified.{Certified}
-use Rattle.fd_report.specs.declared.faults.Fault.{Fault}
+use Rattle.fd_daily.specs.fd_cert.declared.ball.Certified.{Certified}
+use Rattle.fd_pages.specs.fd_report.declared.faults.Fault.{Fault}
 use Rattle.fd_solving.specs.Printing.{fault_of}
 use Rattle.fd_daily.specs.Underway.{plant_at}
 use Rattle.fd_solving.specs.Solving.{IsEndBy, IsHour, hour_begun, kept_by, rounds_of}

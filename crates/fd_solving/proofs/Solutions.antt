@@ -5,37 +5,37 @@ use Rattle.std.proofs.lemmas.Int.{ints, unsigned_abs-mul}
 use Rattle.std.proofs.lemmas.List.Elements.{All-get_or}
 use Rattle.std.proofs.lemmas.List.FromFn.{get_or-map-range_with_len, length-map-range_with_len}
 use Rattle.std.specs.Prelude.{pos, ◌*ℤ◌}
-use Rattle.fd_exact.specs.Fractions.{Fraction, Same}
-use Rattle.fd_exact.specs.States.{State, away, part}
-use Rattle.fd_system.specs.Meets.{Meets}
-use Rattle.fd_system.specs.Residual.{whole_state}
-use Rattle.fd_system.specs.System.{residual_of}
-use Rattle.fd_elements.specs.declared.powers.LoadPower.{LoadPower}
-use Rattle.fd_pattern.specs.Conditions.{IsPart}
-use Rattle.fd_equations.specs.Enclosure.{addend_count}
-use Rattle.fd_equations.specs.Weights.{weight_by}
-use Rattle.fd_pattern.specs.declared.layout.PlaceKind.{PlaceKind}
-use Rattle.fd_pattern.specs.declared.layout.PlaceKind.TheVariants.{Node, Branch, Magnitude}
-use Rattle.dss_layout.specs.Layout.{complex_count, layout_of, size_of}
-use Rattle.dss_circuit.specs.Circuit.{CircuitView}
-use Rattle.fd_enclosure.specs.Boxes.{IsInTrustBox, half_width, half_width_by}
-use Rattle.fd_enclosure.specs.Encloses.{EnclosureLaw, IsAlternative, IsEnclosure, IsWithinRadii}
-use Rattle.fd_enclosure.specs.Sound.{Claim, claim_of, mismatch_at, mismatches_of, number_at, radii_of, radius_in}
-use Rattle.fd_enclosure.specs.Ties.{BallLaw, IsTied, TieLaw}
-use Rattle.fd_enclosure.proofs.CallerLemmas.{claim_is}
-use Rattle.fd_queue.specs.Controls.{Positions}
-use Rattle.fd_report.specs.Solutions.{IsOfSize, solution_of}
-use Rattle.fd_report.proofs.CallerLemmas.{sizes}
-use Rattle.fd_settle.specs.Compute.{IsComputed}
-use Rattle.fd_settle.specs.Contract.{limits_of}
-use Rattle.fd_settle.specs.Plant.{network_at}
-use Rattle.fd_settle.specs.Start.{IsSoundAt}
-use Rattle.fd_outcome.specs.Pages.{solution_in}
-use Rattle.fd_settings.specs.Hours.{hour_powers}
+use Rattle.dss_commands.specs.fd_exact.Fractions.{Fraction, Same}
+use Rattle.dss_commands.specs.fd_exact.States.{State, away, part}
+use Rattle.fd_daily.specs.fd_system.Meets.{Meets}
+use Rattle.fd_daily.specs.fd_system.Residual.{whole_state}
+use Rattle.fd_daily.specs.fd_system.System.{residual_of}
+use Rattle.fd_daily.specs.fd_elements.declared.powers.LoadPower.{LoadPower}
+use Rattle.fd_daily.specs.fd_pattern.Conditions.{IsPart}
+use Rattle.fd_daily.specs.fd_equations.Enclosure.{addend_count}
+use Rattle.fd_daily.specs.fd_equations.Weights.{weight_by}
+use Rattle.fd_daily.specs.fd_pattern.declared.layout.PlaceKind.{PlaceKind}
+use Rattle.fd_daily.specs.fd_pattern.declared.layout.PlaceKind.TheVariants.{Node, Branch, Magnitude}
+use Rattle.fd_pages.specs.dss_layout.Layout.{complex_count, layout_of, size_of}
+use Rattle.dss_commands.specs.dss_circuit.Circuit.{CircuitView}
+use Rattle.fd_daily.specs.fd_enclosure.Boxes.{IsInTrustBox, half_width, half_width_by}
+use Rattle.fd_daily.specs.fd_enclosure.Encloses.{EnclosureLaw, IsAlternative, IsEnclosure, IsWithinRadii}
+use Rattle.fd_daily.specs.fd_enclosure.Sound.{Claim, claim_of, mismatch_at, mismatches_of, number_at, radii_of, radius_in}
+use Rattle.fd_daily.specs.fd_enclosure.Ties.{BallLaw, IsTied, TieLaw}
+use Rattle.fd_daily.proofs.CallerLemmas.fd_enclosure.{claim_is}
+use Rattle.fd_daily.specs.fd_queue.Controls.{Positions}
+use Rattle.fd_pages.specs.fd_report.Solutions.{IsOfSize, solution_of}
+use Rattle.fd_pages.proofs.CallerLemmas.fd_report.{sizes}
+use Rattle.fd_daily.specs.fd_settle.Compute.{IsComputed}
+use Rattle.fd_daily.specs.fd_settle.Contract.{limits_of}
+use Rattle.fd_daily.specs.fd_settle.Plant.{network_at}
+use Rattle.fd_daily.specs.fd_settle.Start.{IsSoundAt}
+use Rattle.fd_pages.specs.fd_outcome.Pages.{solution_in}
+use Rattle.fd_daily.specs.fd_settings.Hours.{hour_powers}
 use Rattle.fd_solving.specs.Boxes.{IsInBox, box_at, box_by, kind_at}
 use Rattle.fd_solving.specs.Headline.{EnclosesOthers, EnclosesSizes, HaveOneBall, HasItsBox, IsOtherState, IsSolution, MeetsRound, equation_count, equations_of, hour_network}
-use Rattle.fd_outcome.specs.Settles.{round_of}
-use Rattle.fd_queue.specs.Machine.{Act}
+use Rattle.fd_pages.specs.fd_outcome.Settles.{round_of}
+use Rattle.fd_daily.specs.fd_queue.Machine.{Act}
 
 pub part_size : (z : ℤ) → IsPart z → nat_abs z ≤ 2 ^ 40
 part_size z h = let a = h.0 in let b = h.1 in omega (arith, ints)

@@ -3,30 +3,30 @@
 use Rattle.std.proofs.Common.{◌≡◌, ℕ, ◌+◌, ◌*◌, ◌≤◌, List, [], ◌∷◌, map, Option, Result, Ok, Err, refl, sym, ap, subst, arith}
 use Rattle.std.specs.Prelude.{All}
 use Rattle.std.proofs.lemmas.List.Elements.{All-append, All-cons, All-nil}
-use Rattle.fd_outside.specs.Files.{held}
-use Rattle.dss_model.specs.Names.{bytes}
-use Rattle.dss_model.specs.declared.command.Blame.{Blame}
-use Rattle.dss_model.specs.declared.command.Command.{Command}
-use Rattle.dss_model.specs.declared.command.Place.{Place}
-use Rattle.dss_model.specs.declared.command.Verb.{Verb}
-use Rattle.dss_model.specs.declared.command.Verb.TheVariants as verb
-use Rattle.dss_model.specs.declared.fault.ModelFault.{ModelFault}
-use Rattle.dss_circuit.specs.Circuit.{CircuitView}
-use Rattle.dss_circuit.specs.InRange.{IsWithinLimits}
+use Rattle.fd_pages.specs.fd_outside.Files.{held}
+use Rattle.dss_commands.specs.dss_model.Names.{bytes}
+use Rattle.dss_commands.specs.dss_model.declared.command.Blame.{Blame}
+use Rattle.dss_commands.specs.dss_model.declared.command.Command.{Command}
+use Rattle.dss_commands.specs.dss_model.declared.command.Place.{Place}
+use Rattle.dss_commands.specs.dss_model.declared.command.Verb.{Verb}
+use Rattle.dss_commands.specs.dss_model.declared.command.Verb.TheVariants as verb
+use Rattle.dss_commands.specs.dss_model.declared.fault.ModelFault.{ModelFault}
+use Rattle.dss_commands.specs.dss_circuit.Circuit.{CircuitView}
+use Rattle.dss_commands.specs.dss_circuit.InRange.{IsWithinLimits}
 use Rattle.dss_commands.specs.Commands.{applied}
 use Rattle.dss_commands.proofs.CallerLemmas.{none_within}
-use Rattle.dss_script.specs.Said.{Said, ScriptEnd, at_its_end, command, name, refused_at, said_of, ended_by}
-use Rattle.dss_script.specs.SaidRoom.{SaidRoomLaw, room_of}
-use Rattle.dss_script.specs.Sessions.{cost}
-use Rattle.fd_xfmr.specs.Leakage.{AreTaps}
-use Rattle.fd_queue.specs.Controls.{Positions}
-use Rattle.fd_outcome.specs.Events.{AllSettles, Event, History, IfSettle, asked, row}
-use Rattle.fd_outcome.specs.History.{IsHistory}
-use Rattle.fd_outcome.specs.Parts.{events_in}
-use Rattle.fd_outcome.specs.Work.{AfterStep, Step, ends, goes}
-use Rattle.fd_bases.specs.Bases.{bases_of}
-use Rattle.fd_bases.specs.declared.bus_base.BusBase.{BusBase}
-use Rattle.fd_report.specs.Bases.{base_fields}
+use Rattle.fd_pages.specs.dss_script.Said.{Said, ScriptEnd, at_its_end, command, name, refused_at, said_of, ended_by}
+use Rattle.fd_pages.specs.dss_script.SaidRoom.{SaidRoomLaw, room_of}
+use Rattle.fd_pages.specs.dss_script.Sessions.{cost}
+use Rattle.fd_daily.specs.fd_xfmr.Leakage.{AreTaps}
+use Rattle.fd_daily.specs.fd_queue.Controls.{Positions}
+use Rattle.fd_pages.specs.fd_outcome.Events.{AllSettles, Event, History, IfSettle, asked, row}
+use Rattle.fd_pages.specs.fd_outcome.History.{IsHistory}
+use Rattle.fd_pages.specs.fd_outcome.Parts.{events_in}
+use Rattle.fd_pages.specs.fd_outcome.Work.{AfterStep, Step, ends, goes}
+use Rattle.fd_pages.specs.fd_bases.Bases.{bases_of}
+use Rattle.fd_pages.specs.fd_bases.declared.bus_base.BusBase.{BusBase}
+use Rattle.fd_pages.specs.fd_report.Bases.{base_fields}
 use Rattle.fd_solving.specs.Answered.{solve_count}
 use Rattle.fd_solving.specs.Commands.{IsByTests, IsStep, IsStepOf, IsTested, left_of}
 use Rattle.fd_solving.specs.Headline.{IsSolved}

@@ -4,39 +4,39 @@ use Rattle.std.specs.Prelude.{All}
 use Rattle.std.specs.List.{AllByRecursion}
 use Rattle.std.proofs.lemmas.List.{length-map, length-replicate}
 use Rattle.std.proofs.lemmas.List.Elements.{All-cons, All-nil}
-use Rattle.dss_circuit.specs.Circuit.{CircuitView}
-use Rattle.dss_circuit.specs.InRange.{IsWithinLimits}
+use Rattle.dss_commands.specs.dss_circuit.Circuit.{CircuitView}
+use Rattle.dss_commands.specs.dss_circuit.InRange.{IsWithinLimits}
 use Rattle.dss_commands.specs.Laws.{LimitsLaw}
-use Rattle.dss_ready.specs.Ready.{HasPassed}
-use Rattle.fd_xfmr.specs.Leakage.{AreTaps}
-use Rattle.fd_elements.specs.declared.powers.LoadPower.{LoadPower}
-use Rattle.fd_network.specs.Laws.{NetworkLaw}
-use Rattle.fd_settings.specs.Hours.{HoursLaw, hour_powers}
-use Rattle.fd_settings.specs.Modest.{ModestLaw}
-use Rattle.fd_settings.specs.Positions.{NextLaw}
-use Rattle.fd_enclosure.specs.Encloses.{CertificateLaw, EnclosureLaw}
-use Rattle.fd_enclosure.specs.Sound.{Claim}
-use Rattle.fd_enclosure.specs.Ties.{BallLaw, TieLaw}
-use Rattle.fd_queue.specs.Controls.{Positions}
-use Rattle.fd_queue.specs.Machine.{Act, Machine}
-use Rattle.fd_settle.proofs.CallerLemmas.{none_early}
-use Rattle.fd_settle.specs.Compute.{IsComputed}
-use Rattle.fd_settle.specs.Computed.{Ending, Follows, IsComputedFrom}
-use Rattle.fd_settle.specs.Contract.{limits_of}
-use Rattle.fd_settle.specs.KeptRounds.{AreKept, CanStart, KeptRoundsLaw}
-use Rattle.fd_settle.specs.Numbers.{AreActNumbers}
-use Rattle.fd_settle.specs.Plant.{Plant, blame_at, network_at, settings_at, setup_of}
-use Rattle.fd_settle.specs.Rounds.{AtEach, left_by}
-use Rattle.fd_settle.specs.Settle.{Ends, Moves, Outcome, outcome_of}
-use Rattle.fd_settle.specs.Start.{ArePositions, IsSoundAt}
+use Rattle.fd_daily.specs.dss_ready.Ready.{HasPassed}
+use Rattle.fd_daily.specs.fd_xfmr.Leakage.{AreTaps}
+use Rattle.fd_daily.specs.fd_elements.declared.powers.LoadPower.{LoadPower}
+use Rattle.fd_daily.specs.fd_network.Laws.{NetworkLaw}
+use Rattle.fd_daily.specs.fd_settings.Hours.{HoursLaw, hour_powers}
+use Rattle.fd_daily.specs.fd_settings.Modest.{ModestLaw}
+use Rattle.fd_daily.specs.fd_settings.Positions.{NextLaw}
+use Rattle.fd_daily.specs.fd_enclosure.Encloses.{CertificateLaw, EnclosureLaw}
+use Rattle.fd_daily.specs.fd_enclosure.Sound.{Claim}
+use Rattle.fd_daily.specs.fd_enclosure.Ties.{BallLaw, TieLaw}
+use Rattle.fd_daily.specs.fd_queue.Controls.{Positions}
+use Rattle.fd_daily.specs.fd_queue.Machine.{Act, Machine}
+use Rattle.fd_daily.proofs.CallerLemmas.fd_settle.{none_early}
+use Rattle.fd_daily.specs.fd_settle.Compute.{IsComputed}
+use Rattle.fd_daily.specs.fd_settle.Computed.{Ending, Follows, IsComputedFrom}
+use Rattle.fd_daily.specs.fd_settle.Contract.{limits_of}
+use Rattle.fd_daily.specs.fd_settle.KeptRounds.{AreKept, CanStart, KeptRoundsLaw}
+use Rattle.fd_daily.specs.fd_settle.Numbers.{AreActNumbers}
+use Rattle.fd_daily.specs.fd_settle.Plant.{Plant, blame_at, network_at, settings_at, setup_of}
+use Rattle.fd_daily.specs.fd_settle.Rounds.{AtEach, left_by}
+use Rattle.fd_daily.specs.fd_settle.Settle.{Ends, Moves, Outcome, outcome_of}
+use Rattle.fd_daily.specs.fd_settle.Start.{ArePositions, IsSoundAt}
 use Rattle.fd_daily.specs.Day.{no_openings}
 use Rattle.fd_daily.specs.Hours.{hours_of, time_of}
 use Rattle.fd_daily.specs.Underway.{plant_at, start_from}
 use Rattle.fd_daily.proofs.CallerLemmas.{all_hours}
-use Rattle.fd_outcome.specs.Events.{AllSettles, IfSettle, settle}
-use Rattle.fd_outcome.specs.Parts.{events_in}
-use Rattle.fd_outcome.specs.Settles.{Round, Settle, SettleEnd, claim_in, failed, round_of, settled, without_certificate}
-use Rattle.fd_outcome.specs.Work.{Step, ends, goes}
+use Rattle.fd_pages.specs.fd_outcome.Events.{AllSettles, IfSettle, settle}
+use Rattle.fd_pages.specs.fd_outcome.Parts.{events_in}
+use Rattle.fd_pages.specs.fd_outcome.Settles.{Round, Settle, SettleEnd, claim_in, failed, round_of, settled, without_certificate}
+use Rattle.fd_pages.specs.fd_outcome.Work.{Step, ends, goes}
 use Rattle.fd_pages.specs.Hours.{Kept, hour_settle}
 use Rattle.fd_solving.specs.Headline.{DecidesAlike, HasModestNumbers, IsSolution, IsSolved, hour_network}
 use Rattle.fd_solving.specs.Solving.{IsBehind, IsHour, IsHoursStep, IsSolutionStep, hour_begun, kept_first, rounds_of}

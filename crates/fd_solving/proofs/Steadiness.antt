@@ -2,30 +2,30 @@
 use Rattle.std.proofs.Common.{◌≡◌, ◌∙◌, ℕ, ◌+◌, ◌<◌, ◌≤◌, ◌^◌, List, [], ◌∷◌, map, length, get_or, Result, Ok, Err, ap, refl, sym, subst, arith}
 use Rattle.std.specs.Prelude.{All}
 use Rattle.std.proofs.lemmas.List.Elements.{All-from_get_or, All-head, All-tail}
-use Rattle.dss_model.specs.declared.words.ControlMode.{ControlMode}
-use Rattle.dss_model.specs.declared.words.ControlMode.TheVariants as control_mode
-use Rattle.dss_layout.specs.Layout.{layout_of, size_of}
-use Rattle.dss_ready.specs.Ready.{HasPassed}
-use Rattle.dss_circuit.specs.Circuit.{CircuitView}
-use Rattle.dss_circuit.specs.InRange.{AllInRange}
-use Rattle.dss_circuit.specs.WellFormed.{IsEntry}
-use Rattle.fd_exact.specs.States.{State}
-use Rattle.fd_settings.specs.Hours.{hour_powers}
-use Rattle.fd_enclosure.specs.Encloses.{EnclosureLaw}
-use Rattle.fd_enclosure.specs.Sound.{Claim}
-use Rattle.fd_queue.specs.Controls.{Positions}
-use Rattle.fd_queue.specs.Decisions.{Decision}
-use Rattle.fd_queue.specs.Machine.{Machine}
-use Rattle.fd_sample.specs.Balls.{IsBall}
-use Rattle.fd_sample.specs.Circuits.{probes_of}
-use Rattle.fd_sample.specs.Decided.{Undecided, sample_over}
-use Rattle.fd_sample.specs.Probes.{IsProbe, decision_at, quantity_at}
-use Rattle.fd_sample.specs.declared.probe.Probe.{Probe}
-use Rattle.fd_sample.proofs.CallerLemmas.{probes_kept, sample_wanted}
-use Rattle.fd_settle.specs.Plant.{controls_in, plant_of, taking_part}
-use Rattle.fd_settle.specs.Rounds.{AtEach, after_round}
-use Rattle.fd_settle.specs.Sampling.{Sampling, Decided, Unclear, look_at, look_over, sampling_of, with_first}
-use Rattle.fd_settle.specs.Start.{IsSoundAt}
+use Rattle.dss_commands.specs.dss_model.declared.words.ControlMode.{ControlMode}
+use Rattle.dss_commands.specs.dss_model.declared.words.ControlMode.TheVariants as control_mode
+use Rattle.fd_pages.specs.dss_layout.Layout.{layout_of, size_of}
+use Rattle.fd_daily.specs.dss_ready.Ready.{HasPassed}
+use Rattle.dss_commands.specs.dss_circuit.Circuit.{CircuitView}
+use Rattle.dss_commands.specs.dss_circuit.InRange.{AllInRange}
+use Rattle.dss_commands.specs.dss_circuit.WellFormed.{IsEntry}
+use Rattle.dss_commands.specs.fd_exact.States.{State}
+use Rattle.fd_daily.specs.fd_settings.Hours.{hour_powers}
+use Rattle.fd_daily.specs.fd_enclosure.Encloses.{EnclosureLaw}
+use Rattle.fd_daily.specs.fd_enclosure.Sound.{Claim}
+use Rattle.fd_daily.specs.fd_queue.Controls.{Positions}
+use Rattle.fd_daily.specs.fd_queue.Decisions.{Decision}
+use Rattle.fd_daily.specs.fd_queue.Machine.{Machine}
+use Rattle.fd_daily.specs.fd_sample.Balls.{IsBall}
+use Rattle.fd_daily.specs.fd_sample.Circuits.{probes_of}
+use Rattle.fd_daily.specs.fd_sample.Decided.{Undecided, sample_over}
+use Rattle.fd_daily.specs.fd_sample.Probes.{IsProbe, decision_at, quantity_at}
+use Rattle.fd_daily.specs.fd_sample.declared.probe.Probe.{Probe}
+use Rattle.fd_daily.proofs.CallerLemmas.fd_sample.{probes_kept, sample_wanted}
+use Rattle.fd_daily.specs.fd_settle.Plant.{controls_in, plant_of, taking_part}
+use Rattle.fd_daily.specs.fd_settle.Rounds.{AtEach, after_round}
+use Rattle.fd_daily.specs.fd_settle.Sampling.{Sampling, Decided, Unclear, look_at, look_over, sampling_of, with_first}
+use Rattle.fd_daily.specs.fd_settle.Start.{IsSoundAt}
 use Rattle.fd_solving.specs.Headline.{DecidesAlike, IsOtherState}
 use Rattle.fd_solving.proofs.Solutions.{network_size, others}
 

@@ -5,34 +5,34 @@ use Rattle.std.proofs.lemmas.Bool.{cases_order}
 use Rattle.std.proofs.lemmas.Option.{slice_get_within, slice_get-get_or, get_or_from_slice_get}
 use Rattle.std.proofs.lemmas.List.{get_or-take, length-take, take_all}
 use Rattle.std.proofs.lemmas.List.Elements.{All-contains, All-nil}
-use Rattle.dss_model.specs.declared.fault.ModelFault.{ModelFault}
-use Rattle.dss_model.specs.declared.fault.ModelFault.TheVariants as fault
-use Rattle.dss_model.specs.declared.command.Blame.{Blame}
-use Rattle.dss_model.specs.declared.command.Command.{Command}
-use Rattle.dss_model.specs.declared.element.Element.{Element}
-use Rattle.dss_model.specs.declared.names.ElementName.{ElementName}
-use Rattle.dss_layout.specs.Layout.{first_too_many, nodes_of}
-use Rattle.dss_layout.specs.Terminals.{mentions}
-use Rattle.dss_ready.specs.Feeding.{Fed, IsFed, IsIsolated, IsFirstIsolated, FirstIsolated}
-use Rattle.dss_ready.specs.Labels.{labels_of, mentions_apart}
-use Rattle.dss_ready.specs.Ready.{HasPassed, IsToBlame, for_own, for_many, for_isolated, blame_at, blame_on, own_blame}
-use Rattle.dss_ready.proofs.CallerLemmas.{fed_up_to, first_isolated_at, too_many_within}
-use Rattle.dss_circuit.specs.Circuit.{CircuitView, Elements}
-use Rattle.fd_enclosure.specs.Sound.{loose, uncertain}
-use Rattle.fd_inject.specs.declared.fault.SolveFault.TheVariants as solving
-use Rattle.fd_queue.specs.Controls.{Positions}
-use Rattle.fd_queue.specs.Machine.{Machine}
-use Rattle.fd_report.specs.declared.faults.Cause.TheVariants as cause
-use Rattle.fd_report.specs.declared.faults.Fault.TheVariants as run
-use Rattle.fd_settle.specs.Computed.{Computation, Ending, HasOneComputation, ended, procedure, range, stopped, uncertified}
-use Rattle.fd_settle.specs.Contract.{limits_of}
-use Rattle.fd_settle.proofs.CallerLemmas.{has_one_computation}
-use Rattle.fd_settle.specs.Settle.{Open, Settled, Limited, Undecidable}
+use Rattle.dss_commands.specs.dss_model.declared.fault.ModelFault.{ModelFault}
+use Rattle.dss_commands.specs.dss_model.declared.fault.ModelFault.TheVariants as fault
+use Rattle.dss_commands.specs.dss_model.declared.command.Blame.{Blame}
+use Rattle.dss_commands.specs.dss_model.declared.command.Command.{Command}
+use Rattle.dss_commands.specs.dss_model.declared.element.Element.{Element}
+use Rattle.dss_commands.specs.dss_model.declared.names.ElementName.{ElementName}
+use Rattle.fd_pages.specs.dss_layout.Layout.{first_too_many, nodes_of}
+use Rattle.fd_pages.specs.dss_layout.Terminals.{mentions}
+use Rattle.fd_daily.specs.dss_ready.Feeding.{Fed, IsFed, IsIsolated, IsFirstIsolated, FirstIsolated}
+use Rattle.fd_daily.specs.dss_ready.Labels.{labels_of, mentions_apart}
+use Rattle.fd_daily.specs.dss_ready.Ready.{HasPassed, IsToBlame, for_own, for_many, for_isolated, blame_at, blame_on, own_blame}
+use Rattle.fd_daily.proofs.CallerLemmas.dss_ready.{fed_up_to, first_isolated_at, too_many_within}
+use Rattle.dss_commands.specs.dss_circuit.Circuit.{CircuitView, Elements}
+use Rattle.fd_daily.specs.fd_enclosure.Sound.{loose, uncertain}
+use Rattle.fd_daily.specs.fd_inject.declared.fault.SolveFault.TheVariants as solving
+use Rattle.fd_daily.specs.fd_queue.Controls.{Positions}
+use Rattle.fd_daily.specs.fd_queue.Machine.{Machine}
+use Rattle.fd_pages.specs.fd_report.declared.faults.Cause.TheVariants as cause
+use Rattle.fd_pages.specs.fd_report.declared.faults.Fault.TheVariants as run
+use Rattle.fd_daily.specs.fd_settle.Computed.{Computation, Ending, HasOneComputation, ended, procedure, range, stopped, uncertified}
+use Rattle.fd_daily.specs.fd_settle.Contract.{limits_of}
+use Rattle.fd_daily.proofs.CallerLemmas.fd_settle.{has_one_computation}
+use Rattle.fd_daily.specs.fd_settle.Settle.{Open, Settled, Limited, Undecidable}
 use Rattle.fd_daily.specs.Hours.{hours_of}
-use Rattle.fd_outcome.specs.Events.{settle}
-use Rattle.fd_outcome.specs.Settles.{Settle, SettleEnd, settled, failed, without_certificate}
-use Rattle.fd_outcome.specs.Work.{Step, ExactlyOne, goes, ends}
-use Rattle.fd_outcome.proofs.CallerLemmas.{exactly_this}
+use Rattle.fd_pages.specs.fd_outcome.Events.{settle}
+use Rattle.fd_pages.specs.fd_outcome.Settles.{Settle, SettleEnd, settled, failed, without_certificate}
+use Rattle.fd_pages.specs.fd_outcome.Work.{Step, ExactlyOne, goes, ends}
+use Rattle.fd_pages.proofs.CallerLemmas.fd_outcome.{exactly_this}
 use Rattle.fd_pages.specs.Bases.{base_events}
 use Rattle.fd_solving.specs.Commands.{Applied, bases_left, nothing_left, solve_left, refused_at, IsByTests, IsStep, IsStepOf, IsTested, tried}
 use Rattle.fd_daily.specs.Underway.{plant_at}

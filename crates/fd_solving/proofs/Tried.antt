@@ -4,35 +4,35 @@ use Rattle.std.specs.Prelude.{All, pos}
 use Rattle.std.proofs.lemmas.Bool.{false_from_ne_true, ltb-false}
 use Rattle.std.proofs.lemmas.List.Elements.{All-get_or}
 use Rattle.std.proofs.lemmas.List.FromFn.{get_or-map-range_with_len, length-map-range_with_len}
-use Rattle.fd_exact.specs.First.{first_place}
-use Rattle.fd_exact.specs.FirstLaws.{found}
-use Rattle.fd_exact.specs.States.{part}
-use Rattle.dss_layout.specs.Layout.{layout_of, size_of}
-use Rattle.dss_circuit.specs.Circuit.{CircuitView}
-use Rattle.fd_cert.specs.Claims.{claim_in, tried_claim}
-use Rattle.fd_cert.specs.declared.ball.Certified.{Certified}
-use Rattle.fd_cert.specs.declared.fault.CertFault.TheVariants as cert
-use Rattle.fd_pages.specs.Rounds.{IsClaimOf}
-use Rattle.fd_settings.specs.Hours.{hour_powers}
-use Rattle.fd_enclosure.specs.Sound.{Claim, IsInverse, certificate_of, first_loose, greatest_mismatch, mismatch_at, mismatches_of, number_at, uncertain, unless_loose}
-use Rattle.fd_pattern.specs.Conditions.{IsPart, IsPoint}
-use Rattle.fd_pattern.specs.Views.{NetworkView}
-use Rattle.fd_inject.specs.declared.fault.SolveFault.{SolveFault}
-use Rattle.fd_inject.specs.declared.limits.Limits.{Limits}
-use Rattle.fd_queue.specs.Controls.{Positions}
-use Rattle.fd_queue.specs.Machine.{Machine}
-use Rattle.fd_settle.specs.Compute.{ComputeGives, IsUncertified}
-use Rattle.fd_settle.specs.Contract.{CallsAs, limits_of}
-use Rattle.fd_settle.specs.Plant.{Plant, network_at}
-use Rattle.fd_settle.specs.Rounds.{settled}
-use Rattle.fd_settle.specs.Start.{IsSoundAt}
-use Rattle.fd_settle.specs.declared.compute.ComputeFault.{ComputeFault}
-use Rattle.fd_settle.specs.declared.compute.ComputeFault.TheVariants as compute
-use Rattle.fd_settle.specs.declared.fault.SettleFault.{SettleFault}
-use Rattle.fd_settle.specs.declared.fault.SettleFault.TheVariants as fault
-use Rattle.fd_settle.specs.declared.round.Round.{Round as Made}
-use Rattle.fd_report.specs.declared.faults.Fault.{Fault}
-use Rattle.fd_outcome.specs.Settles.{failed, round_of}
+use Rattle.dss_commands.specs.fd_exact.First.{first_place}
+use Rattle.dss_commands.specs.fd_exact.FirstLaws.{found}
+use Rattle.dss_commands.specs.fd_exact.States.{part}
+use Rattle.fd_pages.specs.dss_layout.Layout.{layout_of, size_of}
+use Rattle.dss_commands.specs.dss_circuit.Circuit.{CircuitView}
+use Rattle.fd_daily.specs.fd_cert.Claims.{claim_in, tried_claim}
+use Rattle.fd_daily.specs.fd_cert.declared.ball.Certified.{Certified}
+use Rattle.fd_daily.specs.fd_cert.declared.fault.CertFault.TheVariants as cert
+use Rattle.fd_pages.specs.fd_certfile.Rounds.{IsClaimOf}
+use Rattle.fd_daily.specs.fd_settings.Hours.{hour_powers}
+use Rattle.fd_daily.specs.fd_enclosure.Sound.{Claim, IsInverse, certificate_of, first_loose, greatest_mismatch, mismatch_at, mismatches_of, number_at, uncertain, unless_loose}
+use Rattle.fd_daily.specs.fd_pattern.Conditions.{IsPart, IsPoint}
+use Rattle.fd_daily.specs.fd_pattern.Views.{NetworkView}
+use Rattle.fd_daily.specs.fd_inject.declared.fault.SolveFault.{SolveFault}
+use Rattle.fd_daily.specs.fd_inject.declared.limits.Limits.{Limits}
+use Rattle.fd_daily.specs.fd_queue.Controls.{Positions}
+use Rattle.fd_daily.specs.fd_queue.Machine.{Machine}
+use Rattle.fd_daily.specs.fd_settle.Compute.{ComputeGives, IsUncertified}
+use Rattle.fd_daily.specs.fd_settle.Contract.{CallsAs, limits_of}
+use Rattle.fd_daily.specs.fd_settle.Plant.{Plant, network_at}
+use Rattle.fd_daily.specs.fd_settle.Rounds.{settled}
+use Rattle.fd_daily.specs.fd_settle.Start.{IsSoundAt}
+use Rattle.fd_daily.specs.fd_settle.declared.compute.ComputeFault.{ComputeFault}
+use Rattle.fd_daily.specs.fd_settle.declared.compute.ComputeFault.TheVariants as compute
+use Rattle.fd_daily.specs.fd_settle.declared.fault.SettleFault.{SettleFault}
+use Rattle.fd_daily.specs.fd_settle.declared.fault.SettleFault.TheVariants as fault
+use Rattle.fd_daily.specs.fd_settle.declared.round.Round.{Round as Made}
+use Rattle.fd_pages.specs.fd_report.declared.faults.Fault.{Fault}
+use Rattle.fd_pages.specs.fd_outcome.Settles.{failed, round_of}
 use Rattle.fd_pages.specs.Hours.{IsTriedOf, end_with}
 use Rattle.fd_solving.specs.Endings.{IsTried, IsTriedAt, end_by, tried_at, tried_in}
 use Rattle.fd_solving.specs.declared.faults.Failure.{Failure}

@@ -2,19 +2,19 @@
 use Rattle.std.proofs.Common.{◌≡◌, ℕ, zero, suc, ℤ, Bool, true, false, List, Option, Some, None, Result, Ok, Err, ap, if◌then◌else◌}
 use Rattle.std.specs.Prelude.{nat_lt, ◌+◌, ◌^◌}
 use Rattle.std.specs.List.{fold}
-use Rattle.fd_exact.specs.States.{part}
-use Rattle.fd_equations.specs.Rounded.{constants_of, jacobian_of, rounded_residual_of, start_matrix_of}
-use Rattle.fd_pattern.specs.Views.{NetworkView}
-use Rattle.fd_exact.specs.Results.{and_then}
-use Rattle.fd_mat.specs.Rows.{first_column_past}
-use Rattle.fd_inverse.specs.Elimination.{inverse_of}
-use Rattle.fd_inverse.specs.declared.fault.Stop.{Stop}
-use Rattle.fd_inject.specs.Procedure.{Iterate, after, first_moving, iterated, judged, last_from, last_of, next_iterate, polished, solution_of, start_of, stepped, with_nominal}
-use Rattle.fd_inject.specs.Ranges.{first_past, in_range, inverse_at, inverse_unless, unless_past, without_inverse}
-use Rattle.fd_inject.specs.Updates.{moved, update_for, update_of}
-use Rattle.fd_inject.specs.declared.fault.SolveFault.{SolveFault}
-use Rattle.fd_inject.specs.declared.fault.SolveFault.TheVariants.{NoMemory, NotConverged}
-use Rattle.fd_inject.specs.declared.limits.Limits.{Limits}
+use Rattle.dss_commands.specs.fd_exact.States.{part}
+use Rattle.fd_daily.specs.fd_equations.Rounded.{constants_of, jacobian_of, rounded_residual_of, start_matrix_of}
+use Rattle.fd_daily.specs.fd_pattern.Views.{NetworkView}
+use Rattle.dss_commands.specs.fd_exact.Results.{and_then}
+use Rattle.fd_daily.specs.fd_mat.Rows.{first_column_past}
+use Rattle.fd_daily.specs.fd_inverse.Elimination.{inverse_of}
+use Rattle.fd_daily.specs.fd_inverse.declared.fault.Stop.{Stop}
+use Rattle.fd_daily.specs.fd_inject.Procedure.{Iterate, after, first_moving, iterated, judged, last_from, last_of, next_iterate, polished, solution_of, start_of, stepped, with_nominal}
+use Rattle.fd_daily.specs.fd_inject.Ranges.{first_past, in_range, inverse_at, inverse_unless, unless_past, without_inverse}
+use Rattle.fd_daily.specs.fd_inject.Updates.{moved, update_for, update_of}
+use Rattle.fd_daily.specs.fd_inject.declared.fault.SolveFault.{SolveFault}
+use Rattle.fd_daily.specs.fd_inject.declared.fault.SolveFault.TheVariants.{NoMemory, NotConverged}
+use Rattle.fd_daily.specs.fd_inject.declared.limits.Limits.{Limits}
 
 -- a result that is no want of memory
 abbrev Told : {A : Type 0} → Result A SolveFault → Type 0

@@ -9,42 +9,42 @@ use Rattle.std.proofs.lemmas.Bool.{leb-true}
 use Rattle.std.proofs.lemmas.List.{length-map}
 use Rattle.std.proofs.lemmas.Str.{encodes_same}
 use Rattle.indexmap.specs.IndexMap.{insert_entry}
-use Rattle.dss_lexer.specs.declared.pair.Pair.{Pair}
-use Rattle.dss_lexer.proofs.CallerLemmas.{same_from}
-use Rattle.dss_model.specs.Answers.{◌>>=◌, or_fault}
-use Rattle.dss_model.specs.Names.{bytes, lower, named}
-use Rattle.dss_model.specs.declared.fault.ModelFault.{ModelFault}
-use Rattle.dss_model.specs.declared.fault.ModelFault.TheVariants as fault
-use Rattle.dss_model.specs.Classes.{classes}
-use Rattle.dss_model.specs.Defaults.{default_options}
-use Rattle.dss_profile.specs.Options.{with_options}
-use Rattle.dss_model.specs.declared.command.Command.{Command}
-use Rattle.dss_model.specs.declared.command.Place.{Place}
-use Rattle.dss_model.specs.declared.command.Verb.{Verb}
-use Rattle.dss_model.specs.declared.command.Verb.TheVariants as verb
-use Rattle.dss_model.specs.declared.element.Element.{Element}
-use Rattle.dss_model.specs.declared.names.ElementName.{ElementName}
-use Rattle.dss_model.specs.SameElement.{same_element}
-use Rattle.dss_model.specs.declared.options.Options.{Options}
-use Rattle.dss_circuit.specs.Circuit.{CircuitView, Elements, has_circuit, source_name}
+use Rattle.dss_commands.specs.dss_lexer.declared.pair.Pair.{Pair}
+use Rattle.dss_commands.proofs.CallerLemmas.dss_lexer.{same_from}
+use Rattle.dss_commands.specs.dss_model.Answers.{◌>>=◌, or_fault}
+use Rattle.dss_commands.specs.dss_model.Names.{bytes, lower, named}
+use Rattle.dss_commands.specs.dss_model.declared.fault.ModelFault.{ModelFault}
+use Rattle.dss_commands.specs.dss_model.declared.fault.ModelFault.TheVariants as fault
+use Rattle.dss_commands.specs.dss_model.Classes.{classes}
+use Rattle.dss_commands.specs.dss_model.Defaults.{default_options}
+use Rattle.dss_commands.specs.dss_profile.Options.{with_options}
+use Rattle.dss_commands.specs.dss_model.declared.command.Command.{Command}
+use Rattle.dss_commands.specs.dss_model.declared.command.Place.{Place}
+use Rattle.dss_commands.specs.dss_model.declared.command.Verb.{Verb}
+use Rattle.dss_commands.specs.dss_model.declared.command.Verb.TheVariants as verb
+use Rattle.dss_commands.specs.dss_model.declared.element.Element.{Element}
+use Rattle.dss_commands.specs.dss_model.declared.names.ElementName.{ElementName}
+use Rattle.dss_commands.specs.dss_model.SameElement.{same_element}
+use Rattle.dss_commands.specs.dss_model.declared.options.Options.{Options}
+use Rattle.dss_commands.specs.dss_circuit.Circuit.{CircuitView, Elements, has_circuit, source_name}
 use Rattle.dss_commands.specs.Commands.{applied, applied_verb, edit, make, make_where, put, set, solve, with_pairs}
 use Rattle.dss_commands.proofs.CallerLemmas.{through}
 use Rattle.dss_commands.specs.Keys.{edit_key, element_key, made_key, needed, new_key, written}
-use Rattle.dss_script.specs.Sessions.{cost}
-use Rattle.dss_model.specs.declared.command.Blame.{Blame}
-use Rattle.fd_report.specs.declared.faults.Cause.{Cause}
-use Rattle.fd_report.specs.declared.faults.Cause.TheVariants as cause
+use Rattle.fd_pages.specs.dss_script.Sessions.{cost}
+use Rattle.dss_commands.specs.dss_model.declared.command.Blame.{Blame}
+use Rattle.fd_pages.specs.fd_report.declared.faults.Cause.{Cause}
+use Rattle.fd_pages.specs.fd_report.declared.faults.Cause.TheVariants as cause
 use Rattle.fd_daily.specs.Hours.{hours_of}
-use Rattle.fd_outcome.specs.Events.{Event, settle}
-use Rattle.fd_outcome.specs.Settles.{Settle, SettleEnd, settled, failed, without_certificate}
-use Rattle.fd_outcome.specs.Work.{Step, goes, ends}
+use Rattle.fd_pages.specs.fd_outcome.Events.{Event, settle}
+use Rattle.fd_pages.specs.fd_outcome.Settles.{Settle, SettleEnd, settled, failed, without_certificate}
+use Rattle.fd_pages.specs.fd_outcome.Work.{Step, goes, ends}
 use Rattle.fd_pages.specs.Bases.{base_events}
 use Rattle.fd_pages.specs.Hours.{Kept}
 use Rattle.fd_solving.specs.Answered.{solve_count}
 use Rattle.fd_solving.specs.Commands.{Applied, bases_left, IsByTests, IsStep, IsStepOf, left_of, nothing_left, refused_at, solve_left, tried}
 use Rattle.fd_solving.specs.Solving.{IsBehind, IsHoursStep, IsSolutionStep, kept_first}
 use Rattle.fd_solving.specs.Steps.{StandingView, behind_events, changes, refuses, standing}
-use Rattle.fd_queue.specs.Controls.{Positions}
+use Rattle.fd_daily.specs.fd_queue.Controls.{Positions}
 use Rattle.fd_solving.specs.Weights.{weight}
 
 -- ---- a class of the profile has four letters or more

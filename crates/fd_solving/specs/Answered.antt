@@ -1,20 +1,20 @@
 -- What a command and an hour come to, as the code says it.
 use Rattle.std.specs.Prelude.{◌≡◌, ℕ, List, [], Option, Some, None}
-use Rattle.dss_layout.specs.Layout.{layout_of, size_of}
-use Rattle.dss_model.specs.declared.command.Blame.{Blame}
-use Rattle.dss_model.specs.declared.command.Verb.{Verb}
-use Rattle.dss_model.specs.declared.command.Verb.TheVariants as verb
-use Rattle.dss_circuit.specs.Circuit.{CircuitView}
-use Rattle.dss_ready.specs.Ready.{HasPassed, IsToBlame}
+use Rattle.fd_pages.specs.dss_layout.Layout.{layout_of, size_of}
+use Rattle.dss_commands.specs.dss_model.declared.command.Blame.{Blame}
+use Rattle.dss_commands.specs.dss_model.declared.command.Verb.{Verb}
+use Rattle.dss_commands.specs.dss_model.declared.command.Verb.TheVariants as verb
+use Rattle.dss_commands.specs.dss_circuit.Circuit.{CircuitView}
+use Rattle.fd_daily.specs.dss_ready.Ready.{HasPassed, IsToBlame}
 use Rattle.fd_daily.specs.Day.{DayView}
-use Rattle.fd_devices.specs.declared.settings.Positions.{Positions as CodePositions}
-use Rattle.fd_queue.specs.Controls.{Positions}
-use Rattle.fd_report.specs.declared.faults.Cause.TheVariants as cause
-use Rattle.fd_report.specs.declared.faults.Fault.{Fault}
-use Rattle.fd_report.specs.declared.faults.Fault.TheVariants as fault
-use Rattle.fd_sample.specs.Probes.{positions_in}
-use Rattle.fd_settle.specs.declared.round.Round.{Round as Made}
-use Rattle.fd_outcome.specs.Work.{Step, ends, goes}
+use Rattle.fd_daily.specs.fd_devices.declared.settings.Positions.{Positions as CodePositions}
+use Rattle.fd_daily.specs.fd_queue.Controls.{Positions}
+use Rattle.fd_pages.specs.fd_report.declared.faults.Cause.TheVariants as cause
+use Rattle.fd_pages.specs.fd_report.declared.faults.Fault.{Fault}
+use Rattle.fd_pages.specs.fd_report.declared.faults.Fault.TheVariants as fault
+use Rattle.fd_daily.specs.fd_sample.Probes.{positions_in}
+use Rattle.fd_daily.specs.fd_settle.declared.round.Round.{Round as Made}
+use Rattle.fd_pages.specs.fd_outcome.Work.{Step, ends, goes}
 use Rattle.fd_pages.specs.Bases.{base_events}
 use Rattle.fd_pages.specs.Hours.{IsPrintable, IsTriedOf, Kept, settle_made}
 use Rattle.fd_solving.specs.Commands.{Applied, IsStepOf, bases_left, nothing_left, refused_at, solve_left}

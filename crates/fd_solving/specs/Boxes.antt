@@ -1,12 +1,12 @@
 -- The trust box of a printed state, by the circuit's unknowns and the state alone.
 use Rattle.std.specs.Prelude.{◌≢◌, ℕ, ◌*◌, ◌<◌, ◌≤◌, ◌^◌, max, ℤ, nat_abs, List, length}
-use Rattle.fd_exact.specs.Rounding.{ceil_nat}
-use Rattle.fd_exact.specs.States.{State, away, part}
-use Rattle.dss_layout.specs.Layout.{LayoutView, complex_count, size_of}
-use Rattle.fd_pattern.specs.declared.layout.PlaceKind.{PlaceKind}
-use Rattle.fd_pattern.specs.declared.layout.PlaceKind.TheVariants.{Node, Branch, Magnitude}
-use Rattle.fd_pattern.specs.Views.{kind_in}
-use Rattle.fd_equations.specs.Weights.{size_of_both}
+use Rattle.dss_commands.specs.fd_exact.Rounding.{ceil_nat}
+use Rattle.dss_commands.specs.fd_exact.States.{State, away, part}
+use Rattle.fd_pages.specs.dss_layout.Layout.{LayoutView, complex_count, size_of}
+use Rattle.fd_daily.specs.fd_pattern.declared.layout.PlaceKind.{PlaceKind}
+use Rattle.fd_daily.specs.fd_pattern.declared.layout.PlaceKind.TheVariants.{Node, Branch, Magnitude}
+use Rattle.fd_daily.specs.fd_pattern.Views.{kind_in}
+use Rattle.fd_daily.specs.fd_equations.Weights.{size_of_both}
 
 -- what stands at a place: both parts of each node's voltage, then those of each branch's current, then magnitudes
 abbrev pub kind_at : LayoutView → ℕ → PlaceKind

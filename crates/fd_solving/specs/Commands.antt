@@ -1,18 +1,18 @@
 -- What a command comes to.
 use Rattle.std.specs.Prelude.{◌≡◌, ℕ, Result, Ok, Err}
-use Rattle.dss_model.specs.declared.fault.ModelFault.{ModelFault}
-use Rattle.dss_model.specs.declared.command.Blame.{Blame}
-use Rattle.dss_model.specs.declared.command.Command.{Command}
-use Rattle.dss_model.specs.declared.command.Place.{Place}
-use Rattle.dss_model.specs.declared.command.Verb.{Verb}
-use Rattle.dss_model.specs.declared.command.Verb.TheVariants as verb
-use Rattle.dss_ready.specs.Ready.{HasPassed, IsToBlame}
-use Rattle.dss_circuit.specs.Circuit.{CircuitView}
+use Rattle.dss_commands.specs.dss_model.declared.fault.ModelFault.{ModelFault}
+use Rattle.dss_commands.specs.dss_model.declared.command.Blame.{Blame}
+use Rattle.dss_commands.specs.dss_model.declared.command.Command.{Command}
+use Rattle.dss_commands.specs.dss_model.declared.command.Place.{Place}
+use Rattle.dss_commands.specs.dss_model.declared.command.Verb.{Verb}
+use Rattle.dss_commands.specs.dss_model.declared.command.Verb.TheVariants as verb
+use Rattle.fd_daily.specs.dss_ready.Ready.{HasPassed, IsToBlame}
+use Rattle.dss_commands.specs.dss_circuit.Circuit.{CircuitView}
 use Rattle.dss_commands.specs.Commands.{applied}
-use Rattle.fd_queue.specs.Controls.{Positions}
-use Rattle.fd_report.specs.declared.faults.Cause.{Cause}
-use Rattle.fd_report.specs.declared.faults.Cause.TheVariants as cause
-use Rattle.fd_outcome.specs.Work.{Step, goes}
+use Rattle.fd_daily.specs.fd_queue.Controls.{Positions}
+use Rattle.fd_pages.specs.fd_report.declared.faults.Cause.{Cause}
+use Rattle.fd_pages.specs.fd_report.declared.faults.Cause.TheVariants as cause
+use Rattle.fd_pages.specs.fd_outcome.Work.{Step, goes}
 use Rattle.fd_pages.specs.Bases.{base_events}
 use Rattle.fd_solving.specs.Solving.{IsSolutionStep}
 use Rattle.fd_solving.specs.Steps.{StandingView, changes, refuses, standing}

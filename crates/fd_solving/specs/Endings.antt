@@ -1,24 +1,24 @@
 -- What the fault of a settle tells: how the settle ended, and the fault with which the run then ends.
 use Rattle.std.specs.Prelude.{◌≡◌, ℕ, Option, Some, None}
-use Rattle.dss_circuit.specs.Circuit.{CircuitView}
-use Rattle.fd_cert.specs.declared.ball.Certified.{Certified}
-use Rattle.fd_cert.specs.declared.fault.CertFault.TheVariants as cert
-use Rattle.fd_enclosure.specs.Sound.{loose, uncertain}
-use Rattle.fd_pattern.specs.Views.{NetworkView}
-use Rattle.fd_inject.specs.declared.fault.SolveFault.{SolveFault}
-use Rattle.fd_inject.specs.declared.fault.SolveFault.TheVariants as solving
-use Rattle.fd_inject.specs.declared.limits.Limits.{Limits}
-use Rattle.fd_queue.specs.Machine.{Machine}
-use Rattle.fd_report.specs.declared.faults.Fault.{Fault}
-use Rattle.fd_outcome.specs.Settles.{SettleEnd, settled, failed}
-use Rattle.fd_settle.specs.declared.compute.ComputeFault.{ComputeFault}
-use Rattle.fd_settle.specs.declared.compute.ComputeFault.TheVariants as compute
-use Rattle.fd_settle.specs.declared.fault.SettleFault.{SettleFault}
-use Rattle.fd_settle.specs.declared.fault.SettleFault.TheVariants as fault
-use Rattle.fd_settle.specs.Compute.{IsPlaced, IsUncertified}
-use Rattle.fd_settle.specs.Computed.{Ending, ended, procedure, range, stopped, uncertified}
-use Rattle.fd_settle.specs.Contract.{limits_of}
-use Rattle.fd_settle.specs.Settle.{Limited, Undecidable}
+use Rattle.dss_commands.specs.dss_circuit.Circuit.{CircuitView}
+use Rattle.fd_daily.specs.fd_cert.declared.ball.Certified.{Certified}
+use Rattle.fd_daily.specs.fd_cert.declared.fault.CertFault.TheVariants as cert
+use Rattle.fd_daily.specs.fd_enclosure.Sound.{loose, uncertain}
+use Rattle.fd_daily.specs.fd_pattern.Views.{NetworkView}
+use Rattle.fd_daily.specs.fd_inject.declared.fault.SolveFault.{SolveFault}
+use Rattle.fd_daily.specs.fd_inject.declared.fault.SolveFault.TheVariants as solving
+use Rattle.fd_daily.specs.fd_inject.declared.limits.Limits.{Limits}
+use Rattle.fd_daily.specs.fd_queue.Machine.{Machine}
+use Rattle.fd_pages.specs.fd_report.declared.faults.Fault.{Fault}
+use Rattle.fd_pages.specs.fd_outcome.Settles.{SettleEnd, settled, failed}
+use Rattle.fd_daily.specs.fd_settle.declared.compute.ComputeFault.{ComputeFault}
+use Rattle.fd_daily.specs.fd_settle.declared.compute.ComputeFault.TheVariants as compute
+use Rattle.fd_daily.specs.fd_settle.declared.fault.SettleFault.{SettleFault}
+use Rattle.fd_daily.specs.fd_settle.declared.fault.SettleFault.TheVariants as fault
+use Rattle.fd_daily.specs.fd_settle.Compute.{IsPlaced, IsUncertified}
+use Rattle.fd_daily.specs.fd_settle.Computed.{Ending, ended, procedure, range, stopped, uncertified}
+use Rattle.fd_daily.specs.fd_settle.Contract.{limits_of}
+use Rattle.fd_daily.specs.fd_settle.Settle.{Limited, Undecidable}
 use Rattle.fd_daily.specs.Underway.{plant_at}
 use Rattle.fd_pages.specs.Hours.{end_with}
 use Rattle.fd_solving.specs.Solving.{IsEndBy}

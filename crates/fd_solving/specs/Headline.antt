@@ -1,33 +1,33 @@
 -- What a printed settle is.
 use Rattle.std.specs.Prelude.{◌≡◌, ◌+◌, ◌*◌, ◌<◌, ◌^◌, ℕ, List, length, map, Ok}
 use Rattle.std.specs.List.{AllByRecursion}
-use Rattle.fd_exact.specs.Fractions.{Fraction}
-use Rattle.fd_exact.specs.States.{State}
-use Rattle.dss_layout.specs.Layout.{complex_count, layout_of, size_of}
-use Rattle.dss_circuit.specs.Circuit.{CircuitView}
-use Rattle.fd_system.specs.Equations.{equation}
-use Rattle.fd_system.specs.Meets.{Meets}
-use Rattle.fd_system.specs.Residual.{whole_state}
-use Rattle.fd_equations.specs.Enclosure.{addend_count}
-use Rattle.fd_pattern.specs.Views.{NetworkView}
+use Rattle.dss_commands.specs.fd_exact.Fractions.{Fraction}
+use Rattle.dss_commands.specs.fd_exact.States.{State}
+use Rattle.fd_pages.specs.dss_layout.Layout.{complex_count, layout_of, size_of}
+use Rattle.dss_commands.specs.dss_circuit.Circuit.{CircuitView}
+use Rattle.fd_daily.specs.fd_system.Equations.{equation}
+use Rattle.fd_daily.specs.fd_system.Meets.{Meets}
+use Rattle.fd_daily.specs.fd_system.Residual.{whole_state}
+use Rattle.fd_daily.specs.fd_equations.Enclosure.{addend_count}
+use Rattle.fd_daily.specs.fd_pattern.Views.{NetworkView}
 use Rattle.fd_daily.specs.Hours.{time_of}
-use Rattle.fd_settings.specs.Hours.{hour_powers}
-use Rattle.fd_devices.specs.Scripted.{circuit_parts}
-use Rattle.fd_enclosure.specs.Sound.{Claim, IsSound, certificate_of, number_at}
-use Rattle.fd_enclosure.specs.Ties.{IsTied}
-use Rattle.fd_inject.specs.Procedure.{solution_of}
-use Rattle.fd_queue.specs.Controls.{Positions}
-use Rattle.fd_queue.specs.Decisions.{Decision}
-use Rattle.fd_queue.specs.Machine.{Act, Machine}
-use Rattle.fd_report.specs.Enclosed.{IsSizeBetween}
-use Rattle.fd_sample.specs.Balls.{IsInBall}
-use Rattle.fd_report.specs.Solutions as printed
-use Rattle.fd_settle.specs.Contract.{limits_of}
-use Rattle.fd_settle.specs.Numbers.{AreActNumbers}
-use Rattle.fd_settle.specs.Plant.{controls_in, network_at, settings_at, started}
-use Rattle.fd_settle.specs.Rounds.{AtEach}
-use Rattle.fd_settle.specs.Sampling.{Decided, look_at, look_over}
-use Rattle.fd_outcome.specs.Settles.{Round, Settle, claim_in}
+use Rattle.fd_daily.specs.fd_settings.Hours.{hour_powers}
+use Rattle.fd_daily.specs.fd_devices.Scripted.{circuit_parts}
+use Rattle.fd_daily.specs.fd_enclosure.Sound.{Claim, IsSound, certificate_of, number_at}
+use Rattle.fd_daily.specs.fd_enclosure.Ties.{IsTied}
+use Rattle.fd_daily.specs.fd_inject.Procedure.{solution_of}
+use Rattle.fd_daily.specs.fd_queue.Controls.{Positions}
+use Rattle.fd_daily.specs.fd_queue.Decisions.{Decision}
+use Rattle.fd_daily.specs.fd_queue.Machine.{Act, Machine}
+use Rattle.fd_pages.specs.fd_report.Enclosed.{IsSizeBetween}
+use Rattle.fd_daily.specs.fd_sample.Balls.{IsInBall}
+use Rattle.fd_pages.specs.fd_report.Solutions as printed
+use Rattle.fd_daily.specs.fd_settle.Contract.{limits_of}
+use Rattle.fd_daily.specs.fd_settle.Numbers.{AreActNumbers}
+use Rattle.fd_daily.specs.fd_settle.Plant.{controls_in, network_at, settings_at, started}
+use Rattle.fd_daily.specs.fd_settle.Rounds.{AtEach}
+use Rattle.fd_daily.specs.fd_settle.Sampling.{Decided, look_at, look_over}
+use Rattle.fd_pages.specs.fd_outcome.Settles.{Round, Settle, claim_in}
 use Rattle.fd_solving.specs.Boxes.{IsInBox, box_at}
 use Rattle.fd_daily.specs.Underway.{plant_at}
 

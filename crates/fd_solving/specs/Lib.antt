@@ -10,3 +10,14 @@ pub mod Printing
 pub mod Tallies
 pub mod Scripts
 pub mod SolvedLaw
+pub use Rattle.fd_pages.specs.fd_outside as fd_outside
+pub use Rattle.fd_pages.specs.fd_decimal as fd_decimal
+pub use Rattle.dss_commands.specs.dss_model as dss_model
+pub use Rattle.fd_pages.specs.dss_layout as dss_layout
+pub use Rattle.fd_pages.specs.dss_script as dss_script
+pub use Rattle.fd_daily.specs.fd_cert as fd_cert
+pub use Rattle.fd_pages.specs.fd_bases as fd_bases
+pub use Rattle.fd_pages.specs.fd_report as fd_report
+pub use Rattle.fd_pages.specs.fd_certfile as fd_certfile
+pub use Rattle.fd_pages.specs.fd_outcome as fd_outcome
+pub use Rattle.fd_pages.specs as fd_pages

@@ -1,13 +1,13 @@
 -- What an hour of a Solve comes to for the loop over its hours: its settle, and what of it was printed.
 use Rattle.std.specs.Prelude.{◌≡◌, ◌⊎◌, ◌||◌, ℕ, Bool, true, List, [], ◌∷◌, ◌++◌, Option, Some, None}
-use Rattle.dss_circuit.specs.Circuit.{CircuitView}
-use Rattle.fd_report.specs.declared.faults.Fault.{Fault}
-use Rattle.fd_outcome.specs.Behind.{behind, has_text}
-use Rattle.fd_outcome.specs.Calls.{Call, Style, body, fault_text, writes}
-use Rattle.fd_outcome.specs.Events.{settle}
-use Rattle.fd_outcome.specs.Parts.{IsCutIn, Printed, Wrote}
-use Rattle.fd_outcome.specs.Settles.{Settle, SettleEnd, settled, failed, without_certificate}
-use Rattle.fd_outcome.specs.Way.{whole}
+use Rattle.dss_commands.specs.dss_circuit.Circuit.{CircuitView}
+use Rattle.fd_pages.specs.fd_report.declared.faults.Fault.{Fault}
+use Rattle.fd_pages.specs.fd_outcome.Behind.{behind, has_text}
+use Rattle.fd_pages.specs.fd_outcome.Calls.{Call, Style, body, fault_text, writes}
+use Rattle.fd_pages.specs.fd_outcome.Events.{settle}
+use Rattle.fd_pages.specs.fd_outcome.Parts.{IsCutIn, Printed, Wrote}
+use Rattle.fd_pages.specs.fd_outcome.Settles.{Settle, SettleEnd, settled, failed, without_certificate}
+use Rattle.fd_pages.specs.fd_outcome.Way.{whole}
 use Rattle.fd_pages.specs.Hours.{Kept}
 use Rattle.fd_solving.specs.Tallies.{tallied}
 use Rattle.fd_solving.specs.Solving.{IsHour}

@@ -1,12 +1,12 @@
 -- The history of `solve` and `cert` over the files that a library holds.
 use Rattle.std.specs.Prelude.{◌≡◌, ℕ, List, [], Option, None}
-use Rattle.fd_outside.specs.Files.{Files, held}
-use Rattle.dss_model.specs.Names.{bytes}
-use Rattle.dss_circuit.specs.Circuit.{empty_circuit}
-use Rattle.dss_script.specs.Said.{Part, ended_by}
+use Rattle.fd_pages.specs.fd_outside.Files.{Files, held}
+use Rattle.dss_commands.specs.dss_model.Names.{bytes}
+use Rattle.dss_commands.specs.dss_circuit.Circuit.{empty_circuit}
+use Rattle.fd_pages.specs.dss_script.Said.{Part, ended_by}
 use Rattle.fd_daily.specs.Underway.{no_positions}
-use Rattle.fd_outcome.specs.Events.{History, finishes}
-use Rattle.fd_outcome.specs.History.{IsHistory}
+use Rattle.fd_pages.specs.fd_outcome.Events.{History, finishes}
+use Rattle.fd_pages.specs.fd_outcome.History.{IsHistory}
 use Rattle.fd_solving.specs.Commands.{IsStep}
 use Rattle.fd_solving.specs.Steps.{StandingView, standing}
 

@@ -1,8 +1,8 @@
 -- Every settle of a script is solved.
 use Rattle.std.specs.Prelude.{ℕ, List}
-use Rattle.fd_outside.specs.Files.{Files}
-use Rattle.dss_script.specs.Said.{said_of}
-use Rattle.fd_outcome.specs.Events.{AllSettles, History}
+use Rattle.fd_pages.specs.fd_outside.Files.{Files}
+use Rattle.fd_pages.specs.dss_script.Said.{said_of}
+use Rattle.fd_pages.specs.fd_outcome.Events.{AllSettles, History}
 use Rattle.fd_solving.specs.Headline.{IsSolved}
 use Rattle.fd_solving.specs.Scripts.{IsScriptHistory}
 

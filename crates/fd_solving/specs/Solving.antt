@@ -1,39 +1,39 @@
 -- What a Solve of a circuit that passed the tests comes to: the settles of its hours.
 use Rattle.std.specs.Prelude.{◌≡◌, ℕ, ◌+◌, ℤ, [], ◌∷◌, nat_abs, List, map, slice_get, Option, Some, None, option_map, Result, Ok, Err}
-use Rattle.dss_model.specs.declared.words.ControlQuantity.{ControlQuantity}
-use Rattle.dss_model.specs.declared.words.ControlQuantity.TheVariants as quantity
-use Rattle.dss_model.specs.declared.element.Element.{Element}
-use Rattle.dss_model.specs.declared.element.Element.TheVariants as the
-use Rattle.dss_model.specs.declared.names.Class.TheVariants as class
-use Rattle.dss_model.specs.declared.names.ElementName.{ElementName}
-use Rattle.dss_layout.specs.Layout.{layout_of}
-use Rattle.dss_circuit.specs.Circuit.{CircuitView}
+use Rattle.dss_commands.specs.dss_model.declared.words.ControlQuantity.{ControlQuantity}
+use Rattle.dss_commands.specs.dss_model.declared.words.ControlQuantity.TheVariants as quantity
+use Rattle.dss_commands.specs.dss_model.declared.element.Element.{Element}
+use Rattle.dss_commands.specs.dss_model.declared.element.Element.TheVariants as the
+use Rattle.dss_commands.specs.dss_model.declared.names.Class.TheVariants as class
+use Rattle.dss_commands.specs.dss_model.declared.names.ElementName.{ElementName}
+use Rattle.fd_pages.specs.dss_layout.Layout.{layout_of}
+use Rattle.dss_commands.specs.dss_circuit.Circuit.{CircuitView}
 use Rattle.fd_daily.specs.Day.{no_openings}
 use Rattle.fd_daily.specs.Hours.{hours_of, time_of}
 use Rattle.fd_daily.specs.Underway.{plant_at, start_from}
-use Rattle.fd_cert.specs.Claims.{tried_claim}
-use Rattle.fd_enclosure.specs.Sound.{Claim, loose, uncertain}
-use Rattle.fd_pattern.specs.Views.{NetworkView}
-use Rattle.fd_inject.specs.Procedure.{solution_of}
-use Rattle.fd_inject.specs.declared.fault.SolveFault.TheVariants as procedure
-use Rattle.fd_inject.specs.declared.limits.Limits.{Limits}
-use Rattle.fd_queue.specs.Machine.{Machine, Act}
-use Rattle.fd_sample.specs.Decided.{Undecided}
-use Rattle.fd_settle.specs.Computed.{Ending, ended, stopped, IsComputedFrom, range, uncertified}
-use Rattle.fd_settle.specs.Computed as computed
-use Rattle.fd_settle.specs.Contract.{limits_of}
-use Rattle.fd_settle.specs.Plant.{started}
-use Rattle.fd_settle.specs.Settle.{Open, Settled, Limited, Undecidable}
-use Rattle.fd_report.specs.Names.{name_at}
-use Rattle.fd_report.specs.declared.faults.Cause.TheVariants as cause
-use Rattle.fd_report.specs.declared.faults.Fault.{Fault}
-use Rattle.fd_report.specs.declared.faults.Fault.TheVariants as fault
-use Rattle.fd_report.specs.declared.faults.Scale.{Scale}
-use Rattle.fd_report.specs.declared.faults.Scale.TheVariants as scale
-use Rattle.fd_outcome.specs.Events.{settle}
-use Rattle.fd_outcome.specs.Pages.{controls_of}
-use Rattle.fd_outcome.specs.Settles.{Round, Settle, SettleEnd, round_of, settled, failed, without_certificate}
-use Rattle.fd_outcome.specs.Work.{Step, goes, ends}
+use Rattle.fd_daily.specs.fd_cert.Claims.{tried_claim}
+use Rattle.fd_daily.specs.fd_enclosure.Sound.{Claim, loose, uncertain}
+use Rattle.fd_daily.specs.fd_pattern.Views.{NetworkView}
+use Rattle.fd_daily.specs.fd_inject.Procedure.{solution_of}
+use Rattle.fd_daily.specs.fd_inject.declared.fault.SolveFault.TheVariants as procedure
+use Rattle.fd_daily.specs.fd_inject.declared.limits.Limits.{Limits}
+use Rattle.fd_daily.specs.fd_queue.Machine.{Machine, Act}
+use Rattle.fd_daily.specs.fd_sample.Decided.{Undecided}
+use Rattle.fd_daily.specs.fd_settle.Computed.{Ending, ended, stopped, IsComputedFrom, range, uncertified}
+use Rattle.fd_daily.specs.fd_settle.Computed as computed
+use Rattle.fd_daily.specs.fd_settle.Contract.{limits_of}
+use Rattle.fd_daily.specs.fd_settle.Plant.{started}
+use Rattle.fd_daily.specs.fd_settle.Settle.{Open, Settled, Limited, Undecidable}
+use Rattle.fd_pages.specs.fd_report.Names.{name_at}
+use Rattle.fd_pages.specs.fd_report.declared.faults.Cause.TheVariants as cause
+use Rattle.fd_pages.specs.fd_report.declared.faults.Fault.{Fault}
+use Rattle.fd_pages.specs.fd_report.declared.faults.Fault.TheVariants as fault
+use Rattle.fd_pages.specs.fd_report.declared.faults.Scale.{Scale}
+use Rattle.fd_pages.specs.fd_report.declared.faults.Scale.TheVariants as scale
+use Rattle.fd_pages.specs.fd_outcome.Events.{settle}
+use Rattle.fd_pages.specs.fd_outcome.Pages.{controls_of}
+use Rattle.fd_pages.specs.fd_outcome.Settles.{Round, Settle, SettleEnd, round_of, settled, failed, without_certificate}
+use Rattle.fd_pages.specs.fd_outcome.Work.{Step, goes, ends}
 use Rattle.fd_pages.specs.Hours.{Kept, hour_settle}
 use Rattle.fd_solving.specs.Steps.{StandingView, behind_events, standing}
 

@@ -1,12 +1,12 @@
 -- What a command comes to for `solve`: a change of the circuit, the settles of a Solve's hours, or the end of the run.
 use Rattle.std.specs.Prelude.{ℕ, List, [], ◌++◌, ◌+◌}
-use Rattle.dss_model.specs.declared.command.Place.{Place}
-use Rattle.dss_circuit.specs.Circuit.{CircuitView}
-use Rattle.fd_queue.specs.Controls.{Positions}
-use Rattle.fd_report.specs.declared.faults.Cause.{Cause}
-use Rattle.fd_report.specs.declared.faults.Fault.TheVariants as fault
-use Rattle.fd_outcome.specs.Events.{Event}
-use Rattle.fd_outcome.specs.Work.{Step, goes, ends}
+use Rattle.dss_commands.specs.dss_model.declared.command.Place.{Place}
+use Rattle.dss_commands.specs.dss_circuit.Circuit.{CircuitView}
+use Rattle.fd_daily.specs.fd_queue.Controls.{Positions}
+use Rattle.fd_pages.specs.fd_report.declared.faults.Cause.{Cause}
+use Rattle.fd_pages.specs.fd_report.declared.faults.Fault.TheVariants as fault
+use Rattle.fd_pages.specs.fd_outcome.Events.{Event}
+use Rattle.fd_pages.specs.fd_outcome.Work.{Step, goes, ends}
 
 -- between two commands: the circuit, the positions of taps and banks that its last Solve left, none before the first,
 -- and how many settles there were so far

@@ -1,12 +1,12 @@
 -- What the rounds of a run come to.
 use Rattle.std.specs.Prelude.{◌≡◌, ◌≤◌, ◌+◌, ◌*◌, ◌^◌, ℕ, Bool, List, length, max}
 use Rattle.std.specs.List.{fold}
-use Rattle.dss_layout.specs.Layout.{complex_count, layout_of}
-use Rattle.fd_outcome.specs.Calls.{Style}
-use Rattle.fd_outcome.specs.Events.{Event, settle}
-use Rattle.fd_outcome.specs.Parts.{GoesOn}
-use Rattle.fd_outcome.specs.Settles.{Round}
-use Rattle.fd_outcome.specs.Work.{Step}
+use Rattle.fd_pages.specs.dss_layout.Layout.{complex_count, layout_of}
+use Rattle.fd_pages.specs.fd_outcome.Calls.{Style}
+use Rattle.fd_pages.specs.fd_outcome.Events.{Event, settle}
+use Rattle.fd_pages.specs.fd_outcome.Parts.{GoesOn}
+use Rattle.fd_pages.specs.fd_outcome.Settles.{Round}
+use Rattle.fd_pages.specs.fd_outcome.Work.{Step}
 use Rattle.fd_solving.specs.declared.tally.Tally.{Tally}
 
 abbrev pub no_rounds : Tally

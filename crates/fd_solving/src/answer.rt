@@ -1,9 +1,9 @@
 // What a command comes to.
 ghost use Rattle.std.specs.Prelude.{◌≡◌, IfOk};
-ghost use Rattle.fd_report.specs.declared.faults.Fault.TheVariants.{Script};
+ghost use Rattle.fd_pages.specs.fd_report.declared.faults.Fault.TheVariants.{Script};
 
-use dss_model::Place;
-use fd_report::{Cause, Fault};
+use dss_commands::Place;
+use fd_pages::{Cause, Fault};
 use std::alloc::AllocError;
 
 /// What a command comes to before the hours of a Solve: a change of the circuit, the end of the run, the voltage bases, or

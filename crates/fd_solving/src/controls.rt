@@ -3,11 +3,8 @@ ghost use Rattle.std.specs.Prelude.{◌≡◌, None, IfOk};
 ghost use Rattle.fd_solving.specs.Answered.{IsOfCommand};
 ghost use Rattle.fd_solving.specs.Solving.{scale_of, undecided_at, undecided_by};
 
-use dss_circuit::Circuit;
-use dss_lexer::Text;
-use dss_model::{Class, ControlQuantity, Element, ElementName};
-use fd_pages::is_control;
-use fd_report::{Fault, Scale};
+use dss_commands::{Circuit, Class, ControlQuantity, Element, ElementName, Text};
+use fd_pages::{Fault, Scale, is_control};
 use std::alloc::{AllocError, Global};
 
 // The unit of the ends of a sample of this control.

@@ -1,22 +1,19 @@
 // The failure with which a run ends, by how a settle ended.
 ghost use Rattle.std.specs.Prelude.{◌≡◌, ℕ, IfOk, None, nat_abs};
 ghost use Rattle.std.specs.Option.{option_map};
-ghost use Rattle.dss_circuit.specs.Circuit.{CircuitView};
-ghost use Rattle.dss_layout.specs.Layout.{layout_of, size_of};
-ghost use Rattle.fd_inject.specs.Faults.{IsInside};
-ghost use Rattle.fd_cert.specs.Claims.{IsInside as IsInsideCert};
-ghost use Rattle.fd_settle.specs.Compute.{IsPlaced};
-ghost use Rattle.fd_settle.specs.declared.compute.ComputeFault.TheVariants as compute;
+ghost use Rattle.dss_commands.specs.dss_circuit.Circuit.{CircuitView};
+ghost use Rattle.fd_pages.specs.dss_layout.Layout.{layout_of, size_of};
+ghost use Rattle.fd_daily.specs.fd_inject.Faults.{IsInside};
+ghost use Rattle.fd_daily.specs.fd_cert.Claims.{IsInside as IsInsideCert};
+ghost use Rattle.fd_daily.specs.fd_settle.Compute.{IsPlaced};
+ghost use Rattle.fd_daily.specs.fd_settle.declared.compute.ComputeFault.TheVariants as compute;
 ghost use Rattle.fd_solving.specs.Answered.{IsOfCommand};
 ghost use Rattle.fd_solving.specs.Endings.{IsWithin, TellsOf, TellsOfPoint, TellsOfSolver, tried_at, tried_in};
 
 use crate::controls::undecided;
-use dss_circuit::Circuit;
-use dss_layout::Layout;
-use fd_cert::{CertFault, Certified};
-use fd_inject::SolveFault;
-use fd_report::{Cause, Fault, name_at};
-use fd_settle::{ComputeFault, SettleFault};
+use dss_commands::Circuit;
+use fd_daily::{CertFault, Certified, ComputeFault, SettleFault, SolveFault};
+use fd_pages::{Cause, Fault, Layout, name_at};
 use std::alloc::{AllocError, Global};
 
 /// Why an hour's settle didn't end well: the fault with which the run ends; and where the last state has no certificate,

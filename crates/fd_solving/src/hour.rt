@@ -1,18 +1,16 @@
 // One hour of a Solve.
 ghost use Rattle.std.specs.Prelude.{◌≡◌, ℕ, ◌+◌, ◌^◌, ◌<◌, IfOk, is_none};
-ghost use Rattle.dss_ready.specs.Ready.{HasPassed};
+ghost use Rattle.fd_daily.specs.dss_ready.Ready.{HasPassed};
 ghost use Rattle.fd_daily.specs.Day.{IsDayOf, hour_in, hours_done, hours_left};
 ghost use Rattle.fd_daily.specs.Underway.{IsUnderway};
-ghost use Rattle.fd_network.specs.Built.{IsBuiltOf};
-ghost use Rattle.fd_sample.specs.Probes.{positions_in};
-ghost use Rattle.fd_settle.specs.Start.{ArePositions};
+ghost use Rattle.fd_daily.specs.fd_network.Built.{IsBuiltOf};
+ghost use Rattle.fd_daily.specs.fd_sample.Probes.{positions_in};
+ghost use Rattle.fd_daily.specs.fd_settle.Start.{ArePositions};
 ghost use Rattle.fd_solving.specs.Answered.{IsMadeHour, kept_in};
 
 use crate::faults::{Failure, failure_of};
-use dss_circuit::Circuit;
-use fd_daily::{Underway, daily_run};
-use fd_devices::Positions;
-use fd_settle::Compute;
+use dss_commands::Circuit;
+use fd_daily::{Compute, Positions, Underway, daily_run};
 use std::alloc::{AllocError, Global};
 
 /// Solves the next hour of a Solve that is under way, and gives the failure in which it ends, where it doesn't end well. The

@@ -1,15 +1,15 @@
 // The hours of a Solve, each printed before the next is solved.
 ghost use Rattle.std.specs.Prelude.{◌≡◌, ◌+◌, ◌^◌, ◌<◌, ◌≤◌, All, IfSome, None, true};
-ghost use Rattle.fd_outside.specs.Causes.{Rose};
-ghost use Rattle.dss_ready.specs.Ready.{HasPassed};
+ghost use Rattle.fd_pages.specs.fd_outside.Causes.{Rose};
+ghost use Rattle.fd_daily.specs.dss_ready.Ready.{HasPassed};
 ghost use Rattle.fd_daily.specs.Day.{hour_in, hours_left};
 ghost use Rattle.fd_daily.specs.Underway.{IsLeftBehind, IsUnderway};
-ghost use Rattle.fd_sample.specs.Probes.{positions_in};
-ghost use Rattle.fd_settle.specs.Start.{ArePositions};
-ghost use Rattle.fd_xfmr.specs.Leakage.{AreTaps};
-ghost use Rattle.fd_report.specs.declared.faults.Cause.TheVariants.{Model};
-ghost use Rattle.fd_report.specs.declared.faults.Fault.TheVariants.{Script};
-ghost use Rattle.fd_outcome.specs.Parts.{EndsAt, Printed, fault_doing};
+ghost use Rattle.fd_daily.specs.fd_sample.Probes.{positions_in};
+ghost use Rattle.fd_daily.specs.fd_settle.Start.{ArePositions};
+ghost use Rattle.fd_daily.specs.fd_xfmr.Leakage.{AreTaps};
+ghost use Rattle.fd_pages.specs.fd_report.declared.faults.Cause.TheVariants.{Model};
+ghost use Rattle.fd_pages.specs.fd_report.declared.faults.Fault.TheVariants.{Script};
+ghost use Rattle.fd_pages.specs.fd_outcome.Parts.{EndsAt, Printed, fault_doing};
 ghost use Rattle.fd_solving.specs.Answered.{kept_in};
 ghost use Rattle.fd_solving.specs.Tallies.{GoesOnTallied, HasRoom};
 ghost use Rattle.fd_solving.specs.Printing.{EndsInHour, IsPrintedHour};
@@ -20,13 +20,9 @@ use crate::answer::refused;
 use crate::hour::solve_hour;
 use crate::print::{WANT_OF_MEMORY, print_failed, print_fault, print_settled};
 use crate::tally::Tally;
-use dss_circuit::Circuit;
-use dss_model::Blame;
-use fd_daily::Underway;
-use fd_devices::{BuildFault, Positions};
-use fd_outside::Sink;
-use fd_pages::{Page, SolvedHour};
-use fd_report::Cause;
+use dss_commands::{Blame, Circuit};
+use fd_daily::{BuildFault, Positions, Underway};
+use fd_pages::{Cause, Page, Sink, SolvedHour};
 use std::alloc::Global;
 
 /// Solves the hours of a Solve of a circuit that passed the tests, where its last Solve left these positions, and prints

@@ -2,11 +2,11 @@
 ghost use Rattle.fd_solving.specs.SolvedLaw.{SolvedLaw};
 
 use dss_commands::limits_law;
-use dss_script::said_room_law;
-use fd_enclosure::{ball_law, certificate_law, enclosure_law, tie_law};
-use fd_network::network_law;
-use fd_settings::{hours_law, modest_law, next_law};
-use fd_settle::kept_rounds_law;
+use fd_daily::{
+    ball_law, certificate_law, enclosure_law, hours_law, kept_rounds_law, modest_law, network_law,
+    next_law, tie_law,
+};
+use fd_pages::said_room_law;
 
 /// A law: every settle of a history of `solve` or `cert` is solved. Does nothing.
 pub fn solved_law()

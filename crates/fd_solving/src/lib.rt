@@ -47,3 +47,11 @@ pub use solving::{solve, take_command};
 pub use standing::Standing;
 pub use step::answer_to;
 pub use tally::Tally;
+
+// Handed on from the crates below.
+pub use dss_commands::{Command, Text};
+pub use fd_daily::Rule;
+pub use fd_pages::{
+    Cause, CertFileFault, Certificate, Fault, Found, LibFault, Library, Report, Session, Sink,
+    Summary, accepted_record, read_law, said_law, said_room_law, size_text, status_law, upgrade,
+};

@@ -1,21 +1,21 @@
 // A command line at work: what the loop over a script's commands asks of it.
 ghost use Rattle.std.specs.Prelude.{◌≡◌, ◌+◌, ◌≤◌, Bool, List, ℕ, Option, IfSome, None};
-ghost use Rattle.fd_outside.specs.Answers.{AgreesSince};
-ghost use Rattle.fd_outside.specs.Causes.{Rose};
-ghost use Rattle.fd_outside.specs.Files.{Files, held};
-ghost use Rattle.dss_model.specs.Names.{bytes};
-ghost use Rattle.dss_model.specs.declared.command.Command.{Command};
-ghost use Rattle.dss_script.specs.Sessions.{cost};
-ghost use Rattle.fd_outcome.specs.Behind.{AsksNames, TellsEnd};
-ghost use Rattle.fd_outcome.specs.Calls.{Style};
-ghost use Rattle.fd_outcome.specs.Events.{History};
-ghost use Rattle.fd_outcome.specs.History.{IsLast};
-ghost use Rattle.fd_outcome.specs.Parts.{EndsAt, Finishes, GoesOn};
-ghost use Rattle.fd_outcome.specs.Untold.{IsUntold};
-ghost use Rattle.fd_outcome.specs.Work.{ExactlyOne, Step};
+ghost use Rattle.fd_pages.specs.fd_outside.Answers.{AgreesSince};
+ghost use Rattle.fd_pages.specs.fd_outside.Causes.{Rose};
+ghost use Rattle.fd_pages.specs.fd_outside.Files.{Files, held};
+ghost use Rattle.dss_commands.specs.dss_model.Names.{bytes};
+ghost use Rattle.dss_commands.specs.dss_model.declared.command.Command.{Command};
+ghost use Rattle.fd_pages.specs.dss_script.Sessions.{cost};
+ghost use Rattle.fd_pages.specs.fd_outcome.Behind.{AsksNames, TellsEnd};
+ghost use Rattle.fd_pages.specs.fd_outcome.Calls.{Style};
+ghost use Rattle.fd_pages.specs.fd_outcome.Events.{History};
+ghost use Rattle.fd_pages.specs.fd_outcome.History.{IsLast};
+ghost use Rattle.fd_pages.specs.fd_outcome.Parts.{EndsAt, Finishes, GoesOn};
+ghost use Rattle.fd_pages.specs.fd_outcome.Untold.{IsUntold};
+ghost use Rattle.fd_pages.specs.fd_outcome.Work.{ExactlyOne, Step};
 
-use dss_model::Command;
-use fd_outside::{Library, Sink};
+use dss_commands::Command;
+use fd_pages::{Library, Sink};
 use std::alloc::Global;
 
 /// A command line at work on a script. Contracts see the state between two commands.

@@ -1,27 +1,24 @@
 // Records handed to the sink.
 ghost use Rattle.std.specs.Prelude.{◌≡◌, ◌++◌, ◌∷◌, [], ◌||◌, ◌+◌, ◌≤◌, Bool, IfNone, IfOk, IfSome, None, Some, map, true};
-ghost use Rattle.fd_outside.specs.Causes.{Rose};
-ghost use Rattle.fd_outside.specs.Emitted.{pieces_of};
-ghost use Rattle.dss_layout.specs.Layout.{layout_of, size_of};
-ghost use Rattle.fd_network.specs.Built.{IsBuiltOf};
-ghost use Rattle.fd_sample.specs.Probes.{positions_in};
-ghost use Rattle.fd_outcome.specs.Behind.{behind, closes, has_text, last_calls, opened_unless};
-ghost use Rattle.fd_outcome.specs.Calls.{body, fault_text, opened, writes};
-ghost use Rattle.fd_outcome.specs.Parts.{IsCutIn, Printed, Wrote, fault_doing};
-ghost use Rattle.fd_outcome.specs.Way.{whole};
-ghost use Rattle.fd_outcome.specs.Settles.{settled};
+ghost use Rattle.fd_pages.specs.fd_outside.Causes.{Rose};
+ghost use Rattle.fd_pages.specs.fd_outside.Emitted.{pieces_of};
+ghost use Rattle.fd_pages.specs.dss_layout.Layout.{layout_of, size_of};
+ghost use Rattle.fd_daily.specs.fd_network.Built.{IsBuiltOf};
+ghost use Rattle.fd_daily.specs.fd_sample.Probes.{positions_in};
+ghost use Rattle.fd_pages.specs.fd_outcome.Behind.{behind, closes, has_text, last_calls, opened_unless};
+ghost use Rattle.fd_pages.specs.fd_outcome.Calls.{body, fault_text, opened, writes};
+ghost use Rattle.fd_pages.specs.fd_outcome.Parts.{IsCutIn, Printed, Wrote, fault_doing};
+ghost use Rattle.fd_pages.specs.fd_outcome.Way.{whole};
+ghost use Rattle.fd_pages.specs.fd_outcome.Settles.{settled};
 ghost use Rattle.fd_pages.specs.Hours.{IsPrintable, IsTriedOf, settle_made, end_with, Kept};
 ghost use Rattle.fd_pages.specs.Bases.{base_events};
 ghost use Rattle.fd_solving.specs.Endings.{end_by};
 ghost use Rattle.fd_solving.specs.Printing.{begun_behind, settle_calls};
 
 use crate::faults::Failure;
-use dss_circuit::Circuit;
-use fd_cert::Certified;
-use fd_devices::Positions;
-use fd_outside::{Record, Sink, SinkFault, emit};
-use fd_pages::{Page, SolvedHour};
-use fd_report::{Fault, record, status};
+use dss_commands::Circuit;
+use fd_daily::{Certified, Positions};
+use fd_pages::{Fault, Page, Record, Sink, SinkFault, SolvedHour, emit, record, status};
 use std::alloc::{AllocError, Global};
 
 /// The exit status where memory runs out.

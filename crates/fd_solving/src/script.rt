@@ -1,19 +1,17 @@
 // The loop over a script's commands: each is done, and what it gives is handed over, before the next is read.
 ghost use Rattle.std.specs.Prelude.{◌≡◌, ◌+◌, ◌≤◌};
-ghost use Rattle.fd_outside.specs.Answers.{AgreesSince};
-ghost use Rattle.fd_outside.specs.Files.{Files, held};
-ghost use Rattle.dss_model.specs.Names.{bytes};
-ghost use Rattle.dss_script.specs.Said.{end_in, said_in};
-ghost use Rattle.dss_script.specs.Sessions.{remaining, room};
-ghost use Rattle.fd_outcome.specs.History.{IsFrom};
-ghost use Rattle.fd_outcome.specs.Runs.{Runs};
-ghost use Rattle.fd_outcome.specs.Untold.{IsUntold};
+ghost use Rattle.fd_pages.specs.fd_outside.Answers.{AgreesSince};
+ghost use Rattle.fd_pages.specs.fd_outside.Files.{Files, held};
+ghost use Rattle.dss_commands.specs.dss_model.Names.{bytes};
+ghost use Rattle.fd_pages.specs.dss_script.Said.{end_in, said_in};
+ghost use Rattle.fd_pages.specs.dss_script.Sessions.{remaining, room};
+ghost use Rattle.fd_pages.specs.fd_outcome.History.{IsFrom};
+ghost use Rattle.fd_pages.specs.fd_outcome.Runs.{Runs};
+ghost use Rattle.fd_pages.specs.fd_outcome.Untold.{IsUntold};
 
 use crate::line::Line;
 use crate::print::{WANT_OF_MEMORY, print_fault};
-use dss_script::{Session, SessionFault, said_law};
-use fd_outside::{Library, Sink};
-use fd_report::{Cause, Fault};
+use fd_pages::{Cause, Fault, Library, Session, SessionFault, Sink, said_law};
 use std::alloc::Global;
 
 /// Does the commands of a script and what a command line does behind them, prints what each gives in the command line's

@@ -1,16 +1,16 @@
 // The command lines `solve FILE` and `cert FILE`.
 ghost use Rattle.std.specs.Prelude.{◌≡◌, ◌+◌, ◌≤◌, [], IfSome, None};
 ghost use Rattle.std.specs.Str.{chars};
-ghost use Rattle.fd_outside.specs.Answers.{AgreesSince};
-ghost use Rattle.fd_outside.specs.Causes.{Rose};
-ghost use Rattle.fd_outside.specs.Files.{Files};
-ghost use Rattle.dss_script.specs.Said.{said_of};
-ghost use Rattle.dss_script.specs.Sessions.{cost};
-ghost use Rattle.fd_outcome.specs.Behind.{closes};
-ghost use Rattle.fd_outcome.specs.Events.{finishes};
-ghost use Rattle.fd_outcome.specs.Parts.{EndsAt};
-ghost use Rattle.fd_outcome.specs.Runs.{Runs};
-ghost use Rattle.fd_outcome.specs.Untold.{IsUntold};
+ghost use Rattle.fd_pages.specs.fd_outside.Answers.{AgreesSince};
+ghost use Rattle.fd_pages.specs.fd_outside.Causes.{Rose};
+ghost use Rattle.fd_pages.specs.fd_outside.Files.{Files};
+ghost use Rattle.fd_pages.specs.dss_script.Said.{said_of};
+ghost use Rattle.fd_pages.specs.dss_script.Sessions.{cost};
+ghost use Rattle.fd_pages.specs.fd_outcome.Behind.{closes};
+ghost use Rattle.fd_pages.specs.fd_outcome.Events.{finishes};
+ghost use Rattle.fd_pages.specs.fd_outcome.Parts.{EndsAt};
+ghost use Rattle.fd_pages.specs.fd_outcome.Runs.{Runs};
+ghost use Rattle.fd_pages.specs.fd_outcome.Untold.{IsUntold};
 ghost use Rattle.fd_solving.specs.Tallies.{GoesOnTallied, HasRoom};
 ghost use Rattle.fd_solving.specs.Commands.{IsStep};
 ghost use Rattle.fd_solving.specs.Scripts.{IsScriptHistory};
@@ -24,10 +24,8 @@ use crate::script::run_script;
 use crate::standing::Standing;
 use crate::step::answer_to;
 use crate::tally::Tally;
-use dss_model::Command;
-use dss_script::{Session, said_law};
-use fd_outside::{Library, Sink};
-use fd_pages::Page;
+use dss_commands::Command;
+use fd_pages::{Library, Page, Session, Sink, said_law};
 use std::alloc::Global;
 
 /// Does a command, hands over what it gives, and adds its rounds to the tally. An answer ends the run. `begun` tells

@@ -2,8 +2,8 @@
 ghost use Rattle.std.specs.Prelude.{◌≡◌};
 ghost use Rattle.fd_solving.specs.Scripts.{first_standing};
 
-use dss_circuit::Circuit;
-use fd_devices::{BankStates, Positions, Taps};
+use dss_commands::Circuit;
+use fd_daily::{BankStates, Positions, Taps};
 use fd_pages::Page;
 use std::alloc::Global;
 use std::marker::{Model, PhantomData};
@@ -20,8 +20,8 @@ pub struct Standing<P: Page> {
 
 impl<P: Page> Model for Standing<P> {
     ghost use Rattle.std.specs.Prelude.{◌*◌, ◌≤◌, All};
-    ghost use Rattle.fd_xfmr.specs.Leakage.{AreTaps};
-    ghost use Rattle.fd_sample.specs.Probes.{positions_in};
+    ghost use Rattle.fd_daily.specs.fd_xfmr.Leakage.{AreTaps};
+    ghost use Rattle.fd_daily.specs.fd_sample.Probes.{positions_in};
     ghost use Rattle.fd_solving.specs.Steps.{StandingView};
 
     ghost Value = { StandingView };

@@ -1,15 +1,13 @@
 // What one command comes to.
 ghost use Rattle.std.specs.Prelude.{◌+◌, ◌≤◌, ◌<◌, ◌-◌, ◌^◌, IfOk, Ok, length};
-ghost use Rattle.dss_circuit.specs.Limits.{most_elements};
+ghost use Rattle.dss_commands.specs.dss_circuit.Limits.{most_elements};
 ghost use Rattle.fd_solving.specs.Answered.{IsAnswered, solve_count, solves_of};
 ghost use Rattle.fd_solving.specs.Commands.{left_of, solve_left, tried};
 
 use crate::answer::{Answer, refused};
-use dss_circuit::Circuit;
-use dss_commands::apply;
-use dss_model::{Command, ModelError, Verb};
-use dss_ready::{ReadyFault, ready};
-use fd_report::Cause;
+use dss_commands::{Circuit, Command, ModelError, Verb, apply};
+use fd_daily::{ReadyFault, ready};
+use fd_pages::Cause;
 use std::alloc::{AllocError, Global};
 
 // A Solve whose options the circuit has taken, by the tests that come first.

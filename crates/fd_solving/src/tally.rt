@@ -1,12 +1,12 @@
 // What the rounds of a run come to.
 ghost use Rattle.std.specs.Prelude.{◌≡◌, ◌+◌, ◌<◌, ◌^◌, length, max};
 ghost use Rattle.std.specs.List.{fold};
-ghost use Rattle.dss_layout.specs.Layout.{complex_count};
+ghost use Rattle.fd_pages.specs.dss_layout.Layout.{complex_count};
 ghost use Rattle.fd_pages.specs.Hours.{rounds_in};
 ghost use Rattle.fd_solving.specs.Tallies.{no_rounds, with_greatest, with_rounds};
 
-use dss_layout::Layout;
-use fd_settle::Round;
+use fd_daily::Round;
+use fd_pages::Layout;
 
 /// What the rounds so far come to: the number of complex unknowns of the circuit that was solved last, how many rounds
 /// there were, and the greatest of their mismatches, in whole microamperes and microvolts.

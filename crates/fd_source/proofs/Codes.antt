@@ -2,10 +2,10 @@
 use Rattle.std.proofs.Common.{◌≡◌, ◌∙◌, ℕ, ◌*◌, ◌≤◌, ◌^◌, ℤ, pos, neg_ℤ, ◌+ℤ◌, ◌*ℤ◌, ◌≤ℤ◌, nat_abs, FitsSigned, to_z, of_z, arith, ap, lit<, sym, subst}
 use Rattle.std.specs.Int.{w128}
 use Rattle.std.proofs.lemmas.Int.{ints, to_z-of_z, fits_signed_from_abs}
-use Rattle.fd_exact.specs.Nearest.{near_within}
-use Rattle.fd_exact.specs.Ranges.{UpTo}
-use Rattle.fd_exact.specs.ReadBack.{product_fits, product_is, product_most, read_back}
-use Rattle.fd_exact.specs.Rounding.{floor_div, near_div}
+use Rattle.fd_system.specs.fd_exact.Nearest.{near_within}
+use Rattle.fd_system.specs.fd_exact.Ranges.{UpTo}
+use Rattle.fd_system.specs.fd_exact.ReadBack.{product_fits, product_is, product_most, read_back}
+use Rattle.fd_system.specs.fd_exact.Rounding.{floor_div, near_div}
 use Rattle.fd_system.specs.Series.{three_times}
 use Rattle.fd_source.specs.Phasors.{cosine}
 use Rattle.fd_source.specs.Equations.{ohms_by}

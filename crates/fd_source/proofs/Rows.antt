@@ -2,13 +2,13 @@
 use Rattle.std.proofs.Common.{◌≡◌, ◌∙◌, ℕ, zero, suc, ◌+◌, ◌*◌, ◌<◌, ◌≤◌, ◌^◌, ℤ, pos, negsuc, neg_ℤ, Bool, true, false, cond, List, [], ◌∷◌, ◌++◌, length, length-append, arith, ap, sym, refl, subst, lit<}
 use Rattle.std.specs.List.{All}
 use Rattle.std.proofs.lemmas.List.Elements.{All-append}
-use Rattle.fd_exact.specs.Fractions.{Fraction, ◌⊕◌, nothing, Same}
-use Rattle.fd_exact.specs.FractionLaws.{sum_of-append, Same-nothing, nothing-plus, plus-nothing, plus_assoc, plus_swap, Same-plus, Same-refl}
-use Rattle.fd_exact.specs.States.{State}
-use Rattle.fd_exact.specs.Sums.{sum_of}
-use Rattle.fd_arith.specs.declared.terms.Term.{Term}
-use Rattle.fd_arith.specs.declared.terms.NodeAt.{NodeAt}
-use Rattle.fd_arith.specs.declared.terms.Ends.{Ends}
+use Rattle.fd_system.specs.fd_exact.Fractions.{Fraction, ◌⊕◌, nothing, Same}
+use Rattle.fd_system.specs.fd_exact.FractionLaws.{sum_of-append, Same-nothing, nothing-plus, plus-nothing, plus_assoc, plus_swap, Same-plus, Same-refl}
+use Rattle.fd_system.specs.fd_exact.States.{State}
+use Rattle.fd_system.specs.fd_exact.Sums.{sum_of}
+use Rattle.fd_system.specs.fd_arith.declared.terms.Term.{Term}
+use Rattle.fd_system.specs.fd_arith.declared.terms.NodeAt.{NodeAt}
+use Rattle.fd_system.specs.fd_arith.declared.terms.Ends.{Ends}
 use Rattle.fd_system.specs.declared.constants.Constant.{Constant}
 use Rattle.fd_system.specs.Complex.{Complex, complex, ◌⊞◌, negative}
 use Rattle.fd_system.specs.Contributions.{row_sum, complex_terms, concat_below, IsDivided}

@@ -3,7 +3,7 @@ use Rattle.std.proofs.Common.{◌≡◌, ◌∙◌, ℕ, ◌<◌, ◌≤◌, ◌
 use Rattle.std.specs.Int.{w128}
 use Rattle.std.proofs.lemmas.Bool.{ltb-false, or_parts}
 use Rattle.std.proofs.lemmas.Int.{ints, to_z-of_z, fits_signed_from_abs}
-use Rattle.fd_arith.specs.ShortCircuit.{is_source_above_limit, most_source_ohms, short_circuit_ohms}
+use Rattle.fd_system.specs.fd_arith.ShortCircuit.{is_source_above_limit, most_source_ohms, short_circuit_ohms}
 use Rattle.fd_source.specs.declared.data.ShortCircuit.{ShortCircuit}
 use Rattle.fd_source.specs.Powers.{IsPast, IsShortCircuit, one_phase_size, three_phase_size}
 

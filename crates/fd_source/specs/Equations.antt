@@ -1,10 +1,10 @@
 -- The equations of a source (a voltage behind an impedance), and the constants and contributions that add up to them.
 use Rattle.std.specs.Prelude.{◌≡◌, ℕ, ◌+◌, ◌*◌, ◌%◌, ◌<◌, ◌≤◌, ◌^◌, nat_abs, ℤ, pos, negsuc, neg_ℤ, ◌*ℤ◌, ◌≤ℤ◌, List, [], ◌∷◌, ◌++◌}
-use Rattle.fd_exact.specs.States.{State}
-use Rattle.fd_exact.specs.Rounding.{floor_div}
-use Rattle.fd_exact.specs.Ranges.{UpTo}
-use Rattle.fd_arith.specs.declared.terms.Term.{Term}
-use Rattle.fd_arith.specs.declared.terms.Ends.{Ends}
+use Rattle.fd_system.specs.fd_exact.States.{State}
+use Rattle.fd_system.specs.fd_exact.Rounding.{floor_div}
+use Rattle.fd_system.specs.fd_exact.Ranges.{UpTo}
+use Rattle.fd_system.specs.fd_arith.declared.terms.Term.{Term}
+use Rattle.fd_system.specs.fd_arith.declared.terms.Ends.{Ends}
 use Rattle.fd_system.specs.declared.constants.Constant.{Constant}
 use Rattle.fd_system.specs.Complex.{complex, ◌⊟◌, negative}
 use Rattle.fd_system.specs.Contributions.{complex_terms, concat_below}

@@ -1,6 +1,6 @@
 -- What is true of a source's stated constants and contributions, and of the impedances by its short-circuit powers.
 use Rattle.std.specs.Prelude.{◌*◌, ◌≤◌, length, All}
-use Rattle.fd_arith.specs.declared.terms.Ends.{Ends}
+use Rattle.fd_system.specs.fd_arith.declared.terms.Ends.{Ends}
 use Rattle.fd_system.specs.Contributions.{IsDivided}
 use Rattle.fd_system.specs.System.{Represents}
 use Rattle.fd_source.specs.declared.data.SourceData.{SourceData}

@@ -1,6 +1,6 @@
 -- The phase voltages of a source.
 use Rattle.std.specs.Prelude.{ℕ, ◌+◌, ◌*◌, ◌/◌, ◌%◌, ◌^◌, ℤ, pos, neg_ℤ, ◌+ℤ◌, ◌-ℤ◌, ◌*ℤ◌, nat_abs, List, [], ◌∷◌, get_or}
-use Rattle.fd_exact.specs.Rounding.{near_div}
+use Rattle.fd_system.specs.fd_exact.Rounding.{near_div}
 use Rattle.fd_source.specs.declared.data.SourceData.{SourceData}
 
 -- the cosines of 0, 30, .. 330 degrees in 10^-15, by the half of root three, 0.866025403784439

@@ -1,7 +1,7 @@
 -- The impedances of a source by its short-circuit powers.
 use Rattle.std.specs.Prelude.{ℕ, zero, suc, ◌+◌, ◌*◌, ◌/◌, ◌%◌, ◌≤◌, ◌^◌, ◌≡◌, ℤ, pos, ◌≤ℤ◌, nat_abs, nat_le, Bool, IsTrue, if◌then◌else◌, ◌⊎◌}
-use Rattle.fd_exact.specs.Ranges.{UpTo}
-use Rattle.fd_arith.specs.ShortCircuit.{is_source_above_limit, short_circuit_ohms}
+use Rattle.fd_system.specs.fd_exact.Ranges.{UpTo}
+use Rattle.fd_system.specs.fd_arith.ShortCircuit.{is_source_above_limit, short_circuit_ohms}
 use Rattle.fd_source.specs.declared.data.Ohms.{Ohms}
 use Rattle.fd_source.specs.declared.data.ShortCircuit.{ShortCircuit}
 

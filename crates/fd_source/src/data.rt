@@ -1,5 +1,5 @@
 // The data of a source.
-use fd_arith::Term;
+use fd_system::Term;
 
 /// The positive and the zero sequence impedance of a source, in whole 10^-9 ohm (OpenDSS manual, Vsource, properties R1, X1, R0,
 /// X0).

@@ -20,3 +20,6 @@ pub use data::{Ohms, ShortCircuit, SourceData, SourceTerms};
 pub use laws::{ohms_law, source_law};
 pub use ohms::source_ohms;
 pub use terms::{impedance, source_terms};
+
+// Handed on from the crates below.
+pub use fd_system::LoadPhase;

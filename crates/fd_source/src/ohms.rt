@@ -1,12 +1,12 @@
 // The impedances of a source by its short-circuit powers.
 ghost use Rattle.std.specs.Prelude.{◌≡◌, ◌*◌, ◌/◌, ◌<◌, ◌≤◌, ◌^◌, ℤ, pos, ◌≤ℤ◌, IfOk, IfErr, ◌↔◌};
-ghost use Rattle.fd_exact.specs.Ranges.{UpTo};
-ghost use Rattle.fd_arith.specs.ShortCircuit.{most_source_ohms, short_circuit_ohms};
+ghost use Rattle.fd_system.specs.fd_exact.Ranges.{UpTo};
+ghost use Rattle.fd_system.specs.fd_arith.ShortCircuit.{most_source_ohms, short_circuit_ohms};
 ghost use Rattle.fd_source.specs.Powers.{AreWithin, KeepsSize, IsGreatest, IsPast, IsShortCircuit, ohms_of as ohms_by, one_phase_size, ratio_of, reactance_by, three_phase_size};
 
 use crate::data::{Ohms, ShortCircuit};
 use crate::resistance::{SizeLimit, greatest_resistance};
-use fd_arith::{TermFault, is_source_above_limit};
+use fd_system::{TermFault, is_source_above_limit};
 
 /// The sequence impedances of a source with these short-circuit powers (OpenDSS manual, Vsource; the rounding is this
 /// profile's). R1 is the greatest multiple of 10^-9 ohm for which R1 + j X1R1 R1 is at most kV^2 / MVAsc3 in size, R0

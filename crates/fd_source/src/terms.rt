@@ -3,13 +3,14 @@ ghost use Rattle.std.specs.Prelude.{◌≡◌, ◌+◌, ◌*◌, ◌<◌, ◌≤
 ghost use Rattle.fd_system.specs.Contributions.{IsDivided, IsWithin};
 ghost use Rattle.fd_system.specs.System.{Represents};
 ghost use Rattle.fd_system.specs.Series.{drop_list};
-ghost use Rattle.fd_exact.specs.Ranges.{UpTo};
+ghost use Rattle.fd_system.specs.fd_exact.Ranges.{UpTo};
 ghost use Rattle.fd_source.specs.Equations.{IsPlaced, IsSource, ohms_by, phase_constants, phase_list, reactance_of, resistance_of, stamp_from, source_constants, source_list, source_parts};
 
 use crate::data::{SourceData, SourceTerms};
 use crate::voltage::phase_voltage;
-use fd_arith::{Ends, NodeAt, Term, TermFault, floor_of_product};
-use fd_system::{add_drop, add_real, all_within, node, thirds};
+use fd_system::{
+    Ends, NodeAt, Term, TermFault, add_drop, add_real, all_within, floor_of_product, node, thirds,
+};
 use std::alloc::{AllocError, Global};
 
 // a phase has at most this many contributions: 14 in the row of its branch and 2 in that of its node

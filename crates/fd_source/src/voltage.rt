@@ -1,13 +1,12 @@
 // The phase voltages of a source.
 ghost use Rattle.std.specs.Prelude.{◌≡◌, ◌+◌, ◌*◌, ◌<◌, ◌≤◌, ◌^◌, ℤ, ◌*ℤ◌, nat_abs};
-ghost use Rattle.fd_exact.specs.Rounding.{near_div};
-ghost use Rattle.fd_exact.specs.Ranges.{UpTo};
+ghost use Rattle.fd_system.specs.fd_exact.Rounding.{near_div};
+ghost use Rattle.fd_system.specs.fd_exact.Ranges.{UpTo};
 ghost use Rattle.fd_source.specs.Phasors.{cosine as cosine_at, steps_of, volts_im, volts_re};
 ghost use Rattle.fd_source.specs.Equations.{IsSource};
 
 use crate::data::SourceData;
-use fd_arith::near_quotient;
-use fd_exact::FEMTO_PER_ONE;
+use fd_system::{FEMTO_PER_ONE, near_quotient};
 
 // a cosine of the half of root three and of one half, in 10^-15
 const HALF_ROOT_THREE: i128 = 866_025_403_784_439;

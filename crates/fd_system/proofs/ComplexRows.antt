@@ -7,16 +7,16 @@ use Rattle.std.proofs.Math.Nat.{mul-pos}
 use Rattle.std.proofs.lemmas.Int.{ints}
 use Rattle.std.proofs.lemmas.Bool.{ne_eqb, eqb-true}
 use Rattle.std.proofs.lemmas.Bool.Decides.{Decides-int_eq}
-use Rattle.fd_exact.specs.Integers.{as_val, val-same, vals, neg-neg, mul-neg}
-use Rattle.fd_exact.specs.States.{State, part}
+use Rattle.fd_arith.specs.fd_exact.Integers.{as_val, val-same, vals, neg-neg, mul-neg}
+use Rattle.fd_arith.specs.fd_exact.States.{State, part}
 use Rattle.fd_arith.specs.declared.terms.Term.{Term}
 use Rattle.fd_arith.specs.declared.terms.NodeAt.{NodeAt}
 use Rattle.fd_arith.specs.declared.terms.NodeAt.TheVariants.{Ground, Node}
-use Rattle.fd_exact.specs.Fractions.{Fraction, fraction, ◌⊕◌, ◌⊗◌, opposite, nothing, Same}
+use Rattle.fd_arith.specs.fd_exact.Fractions.{Fraction, fraction, ◌⊕◌, ◌⊗◌, opposite, nothing, Same}
 use Rattle.fd_system.specs.Complex.{Complex, complex, none, ◌⊞◌, ◌⊟◌, ◌⊠◌, negative, total, SameComplex}
 use Rattle.fd_system.specs.Contributions.{row_sum, one, complex_terms, concat_below}
 use Rattle.fd_system.specs.Equations.{unknown, Part, side, seen, equation}
-use Rattle.fd_exact.specs.FractionLaws.{sum_of-append, nothing-pos, Same-nothing, plus_comm, opposite-plus, nothing-plus, plus-nothing, opposite-times, opposite-nothing, pair_of, Same-refl, Same-sym, Same-trans, Same-plus, Same-opposite, plus_swap}
+use Rattle.fd_arith.specs.fd_exact.FractionLaws.{sum_of-append, nothing-pos, Same-nothing, plus_comm, opposite-plus, nothing-plus, plus-nothing, opposite-times, opposite-nothing, pair_of, Same-refl, Same-sym, Same-trans, Same-plus, Same-opposite, plus_swap}
 
 -- ---- sums of rows
 

@@ -1,8 +1,8 @@
 -- The contributions of series impedances add up to the voltage that the currents take.
 use Rattle.std.proofs.Common.{ℕ, ◌<◌, ◌^◌, ℤ, pos, neg_ℤ, subst, lit<}
 use Rattle.std.specs.List.{All}
-use Rattle.fd_exact.specs.Fractions.{Same}
-use Rattle.fd_exact.specs.States.{State}
+use Rattle.fd_arith.specs.fd_exact.Fractions.{Same}
+use Rattle.fd_arith.specs.fd_exact.States.{State}
 use Rattle.fd_system.specs.Complex.{◌⊠◌, negative}
 use Rattle.fd_system.specs.Contributions.{row_sum, IsDivided}
 use Rattle.fd_system.specs.Equations.{unknown, side}

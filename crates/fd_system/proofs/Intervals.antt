@@ -6,12 +6,12 @@ use Rattle.std.proofs.lemmas.Int.{ints}
 use Rattle.std.proofs.lemmas.Bool.{cases_eq, eq-eqb, ne_eqb}
 use Rattle.std.proofs.lemmas.List.{get_or-set_same, get_or-set_other, length-set}
 use Rattle.std.proofs.lemmas.List.Elements.{All-head, All-tail}
-use Rattle.fd_exact.specs.Integers.{as_val, vals, val-same, neg-mul}
-use Rattle.fd_exact.specs.Order.{scale}
-use Rattle.fd_exact.specs.Fractions.{Fraction, fraction, SizeWithin, ◌⊕◌, ◌⊗◌, nothing, Same}
-use Rattle.fd_exact.specs.FractionLaws.{plus-nothing, plus_assoc, nothing-plus}
-use Rattle.fd_exact.specs.Sums.{sum_of}
-use Rattle.fd_exact.specs.States.{part}
+use Rattle.fd_arith.specs.fd_exact.Integers.{as_val, vals, val-same, neg-mul}
+use Rattle.fd_arith.specs.fd_exact.Order.{scale}
+use Rattle.fd_arith.specs.fd_exact.Fractions.{Fraction, fraction, SizeWithin, ◌⊕◌, ◌⊗◌, nothing, Same}
+use Rattle.fd_arith.specs.fd_exact.FractionLaws.{plus-nothing, plus_assoc, nothing-plus}
+use Rattle.fd_arith.specs.fd_exact.Sums.{sum_of}
+use Rattle.fd_arith.specs.fd_exact.States.{part}
 use Rattle.fd_arith.specs.Interval.{Bounds, Holds, capped, outward, sum}
 use Rattle.fd_arith.specs.Enclosing.{sum-holds, Holds-same}
 use Rattle.fd_arith.specs.Capping.{outward-holds, point-holds}

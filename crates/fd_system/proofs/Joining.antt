@@ -5,8 +5,8 @@ use Rattle.std.specs.Int.RustNames.{unsigned_abs}
 use Rattle.std.proofs.Math.Nat.{mul-le-mul_right, le_of_mul-le-mul_right}
 use Rattle.std.proofs.lemmas.Int.{unsigned_abs-mul}
 use Rattle.std.proofs.lemmas.List.Elements.{All-head, All-tail}
-use Rattle.fd_exact.specs.Fractions.{Fraction, SizeWithin}
-use Rattle.fd_exact.specs.States.{State}
+use Rattle.fd_arith.specs.fd_exact.Fractions.{Fraction, SizeWithin}
+use Rattle.fd_arith.specs.fd_exact.States.{State}
 use Rattle.fd_system.specs.Meets.{Meets}
 use Rattle.fd_arith.specs.declared.terms.Term.{Term}
 use Rattle.fd_system.specs.declared.constants.Constant.{Constant}
@@ -14,12 +14,12 @@ use Rattle.fd_system.specs.declared.loads.LoadAt.{LoadAt}
 use Rattle.fd_system.specs.declared.stamps.Stamp.{Stamp}
 use Rattle.fd_system.specs.Loads.{nonlinear_parts}
 use Rattle.std.proofs.lemmas.Grind.{flat_map-append}
-use Rattle.fd_exact.specs.Fractions.{◌⊕◌, nothing, Same}
+use Rattle.fd_arith.specs.fd_exact.Fractions.{◌⊕◌, nothing, Same}
 use Rattle.fd_system.specs.Contributions.{given}
 use Rattle.fd_system.specs.Equations.{Part, equation, AddsUp}
 use Rattle.fd_system.specs.Stamps.{IsRoomSame}
 use Rattle.fd_system.specs.System.{StampView, beside, constant_given, linear_of, residual_of, joined, Represents}
-use Rattle.fd_exact.specs.FractionLaws.{sum_of-append, Same-nothing, nothing-plus, plus-nothing, plus_swap, Same-plus}
+use Rattle.fd_arith.specs.fd_exact.FractionLaws.{sum_of-append, Same-nothing, nothing-plus, plus-nothing, plus_swap, Same-plus}
 use Rattle.fd_system.proofs.ComplexRows.{equation-append}
 
 -- an element that has constants and contributions alone

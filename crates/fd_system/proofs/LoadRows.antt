@@ -6,11 +6,11 @@ use Rattle.std.proofs.Math.Nat.{mul-pos}
 use Rattle.std.proofs.lemmas.Int.{ints, unsigned_abs-mul}
 use Rattle.std.proofs.lemmas.List.{append-nil}
 use Rattle.std.proofs.lemmas.List.Elements.{All-head, All-tail}
-use Rattle.fd_exact.specs.Integers.{as_val, vals, val-same}
-use Rattle.fd_exact.specs.Fractions.{Fraction, fraction, ◌⊕◌, ◌⊗◌, opposite, nothing, Same}
-use Rattle.fd_exact.specs.FractionLaws.{nothing-pos, Same-times, nothing-plus, plus-nothing, Same-plus, Same-refl, Same-trans, Same-opposite}
-use Rattle.fd_exact.specs.Sums.{sum_of}
-use Rattle.fd_exact.specs.States.{State, part}
+use Rattle.fd_arith.specs.fd_exact.Integers.{as_val, vals, val-same}
+use Rattle.fd_arith.specs.fd_exact.Fractions.{Fraction, fraction, ◌⊕◌, ◌⊗◌, opposite, nothing, Same}
+use Rattle.fd_arith.specs.fd_exact.FractionLaws.{nothing-pos, Same-times, nothing-plus, plus-nothing, Same-plus, Same-refl, Same-trans, Same-opposite}
+use Rattle.fd_arith.specs.fd_exact.Sums.{sum_of}
+use Rattle.fd_arith.specs.fd_exact.States.{State, part}
 use Rattle.fd_arith.specs.declared.terms.NodeAt.{NodeAt}
 use Rattle.fd_arith.specs.declared.terms.NodeAt.TheVariants.{Ground, Node}
 use Rattle.fd_arith.specs.declared.terms.LoadModel.{LoadModel}

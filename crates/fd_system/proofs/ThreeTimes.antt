@@ -2,7 +2,7 @@
 use Rattle.std.proofs.Common.{◌≡◌, ◌∙◌, ◌^◌, ℤ, pos, neg_ℤ, ◌≤ℤ◌, ◌+ℤ◌, ◌-ℤ◌, ◌*ℤ◌, FitsSigned, to_z, of_z, arith}
 use Rattle.std.specs.Int.{w128}
 use Rattle.std.proofs.lemmas.Int.{ints, to_z-of_z}
-use Rattle.fd_exact.specs.Ranges.{UpTo}
+use Rattle.fd_arith.specs.fd_exact.Ranges.{UpTo}
 
 module _ (x y : ℤ) (p : UpTo (10 ^ 16) x) (q : UpTo (10 ^ 16) y) where
   -- each number that the code makes is one of 128 bits

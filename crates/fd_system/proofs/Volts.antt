@@ -1,8 +1,8 @@
 -- Nominal voltages of phases are in range.
 use Rattle.std.proofs.Common.{ℕ, ◌+◌, ◌*◌, ◌/◌, ◌≤◌, ◌^◌, ℤ, pos, negsuc, Bool, true, false, cond, eqb, arith}
 use Rattle.std.proofs.lemmas.Int.{ints}
-use Rattle.fd_exact.specs.Ranges.{Between}
-use Rattle.fd_exact.specs.RootThree.{root_three}
+use Rattle.fd_arith.specs.fd_exact.Ranges.{Between}
+use Rattle.fd_arith.specs.fd_exact.RootThree.{root_three}
 use Rattle.fd_arith.specs.declared.terms.Conn.{Conn}
 use Rattle.fd_arith.specs.declared.terms.Conn.TheVariants.{Wye, Delta}
 use Rattle.fd_system.specs.Terminals.{phase_volts, three_phase_volts}

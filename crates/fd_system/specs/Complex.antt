@@ -1,6 +1,6 @@
 -- Complex numbers whose parts are fractions.
 use Rattle.std.specs.Prelude.{ℕ, zero, suc, ℤ}
-use Rattle.fd_exact.specs.Fractions.{Fraction, fraction, ◌⊕◌, ◌⊖◌, ◌⊗◌, opposite, nothing, Same}
+use Rattle.fd_arith.specs.fd_exact.Fractions.{Fraction, fraction, ◌⊕◌, ◌⊖◌, ◌⊗◌, opposite, nothing, Same}
 
 pub record Complex : Type 0 where
   pub re : Fraction

@@ -1,10 +1,10 @@
 -- Contributions: one number at one place of row and column, and what they add up to at a state.
 use Rattle.std.specs.Prelude.{ℕ, ◌<◌, ◌^◌, ◌-◌, ◌<ℤ◌, ◌≤ℤ◌, zero, suc, ◌+◌, ◌*◌, ℤ, pos, neg_ℤ, ◌*ℤ◌, nat_abs, nat_le, Bool, IsTrue, cond, eqb, List, [], ◌∷◌, ◌++◌}
 use Rattle.std.specs.Ordering.{int_eq}
-use Rattle.fd_exact.specs.Fractions.{Fraction, fraction, nothing}
-use Rattle.fd_exact.specs.States.{State, part}
-use Rattle.fd_exact.specs.Sums.{sum_of}
-use Rattle.fd_exact.specs.Rounding.{near_div}
+use Rattle.fd_arith.specs.fd_exact.Fractions.{Fraction, fraction, nothing}
+use Rattle.fd_arith.specs.fd_exact.States.{State, part}
+use Rattle.fd_arith.specs.fd_exact.Sums.{sum_of}
+use Rattle.fd_arith.specs.fd_exact.Rounding.{near_div}
 use Rattle.fd_arith.specs.declared.terms.Term.{Term}
 use Rattle.fd_arith.specs.declared.terms.NodeAt.{NodeAt}
 use Rattle.fd_arith.specs.declared.terms.NodeAt.TheVariants.{Ground, Node}

@@ -1,13 +1,13 @@
 -- The parts of complex equations that elements add to the rows at a state, and what a real row sees of them.
 use Rattle.std.specs.Prelude.{ℕ, ◌+◌, ◌*◌, ◌<◌, cond, eqb, List}
-use Rattle.fd_exact.specs.Fractions.{Fraction, fraction, nothing, Same}
-use Rattle.fd_exact.specs.States.{State, part}
+use Rattle.fd_arith.specs.fd_exact.Fractions.{Fraction, fraction, nothing, Same}
+use Rattle.fd_arith.specs.fd_exact.States.{State, part}
 use Rattle.fd_arith.specs.declared.terms.Term.{Term}
 use Rattle.fd_arith.specs.declared.terms.NodeAt.{NodeAt}
 use Rattle.fd_arith.specs.declared.terms.NodeAt.TheVariants.{Ground, Node}
 use Rattle.fd_system.specs.Complex.{Complex, none}
 use Rattle.fd_system.specs.Contributions.{row_sum}
-use Rattle.fd_exact.specs.Sums.{sum_of}
+use Rattle.fd_arith.specs.fd_exact.Sums.{sum_of}
 
 -- the complex unknown at a place, its real part at 2k and its imaginary part at 2k + 1; 0 at ground
 abbrev pub unknown : State → NodeAt → Complex

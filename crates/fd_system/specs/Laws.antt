@@ -2,8 +2,8 @@
 -- holds.
 use Rattle.std.specs.Prelude.{ℕ, ◌<◌, ℤ, nat_abs, List}
 use Rattle.std.specs.List.{All, flat_map}
-use Rattle.fd_exact.specs.Fractions.{Same}
-use Rattle.fd_exact.specs.States.{State}
+use Rattle.fd_arith.specs.fd_exact.Fractions.{Same}
+use Rattle.fd_arith.specs.fd_exact.States.{State}
 use Rattle.fd_arith.specs.Interval.{Holds}
 use Rattle.fd_arith.specs.declared.terms.NodeAt.{NodeAt}
 use Rattle.fd_system.specs.declared.loads.LoadAt.{LoadAt}

@@ -9,3 +9,5 @@ pub mod Stamps
 pub mod Meets
 pub mod Residual
 pub mod Laws
+pub use Rattle.fd_arith.specs.fd_exact as fd_exact
+pub use Rattle.fd_arith.specs as fd_arith

@@ -1,8 +1,8 @@
 -- A part load at a terminal: the current that it draws, the row of its magnitude, and the contributions of constant impedance.
 use Rattle.std.specs.Prelude.{◌≡◌, ℕ, ◌+◌, ◌*◌, ◌^◌, ◌<◌, ◌≤◌, min, max, ℤ, pos, negsuc, neg_ℤ, ◌+ℤ◌, ◌-ℤ◌, ◌*ℤ◌, nat_abs, false, true, cond, List, [], ◌∷◌, Option, Some, None}
-use Rattle.fd_exact.specs.Fractions.{Fraction, fraction}
-use Rattle.fd_exact.specs.Rounding.{ceil_nat}
-use Rattle.fd_exact.specs.States.{State, part}
+use Rattle.fd_arith.specs.fd_exact.Fractions.{Fraction, fraction}
+use Rattle.fd_arith.specs.fd_exact.Rounding.{ceil_nat}
+use Rattle.fd_arith.specs.fd_exact.States.{State, part}
 use Rattle.fd_arith.specs.declared.terms.Term.{Term}
 use Rattle.fd_arith.specs.declared.terms.NodeAt.{NodeAt}
 use Rattle.fd_arith.specs.declared.terms.NodeAt.TheVariants.{Ground, Node}

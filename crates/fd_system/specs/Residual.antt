@@ -1,8 +1,8 @@
 -- The interval residual of a row, and its mismatch.
 use Rattle.std.specs.Prelude.{List, None, Option, Some, cond, eqb, get_or, set, max, nat_abs, pos, ℕ, ℤ, ◌+◌, ◌*◌, ◌*ℤ◌, ◌<ℤ◌, ◌<◌, ◌^◌, ◌≤ℤ◌, ◌-◌}
 use Rattle.std.specs.List.{fold, All}
-use Rattle.fd_exact.specs.Fractions.{Fraction}
-use Rattle.fd_exact.specs.States.{State, part}
+use Rattle.fd_arith.specs.fd_exact.Fractions.{Fraction}
+use Rattle.fd_arith.specs.fd_exact.States.{State, part}
 use Rattle.fd_arith.specs.Interval.{Bounds, capped, outward, product, sum}
 use Rattle.fd_arith.specs.declared.terms.Term.{Term}
 use Rattle.fd_arith.specs.declared.terms.NodeAt.{NodeAt}

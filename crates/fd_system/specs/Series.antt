@@ -1,7 +1,7 @@
 -- The series impedance between the phases of an element: entries by sequence values, and the voltage that the currents take.
 use Rattle.std.specs.Prelude.{ℕ, ◌^◌, ℤ, pos, neg_ℤ, ◌+ℤ◌, ◌-ℤ◌, ◌*ℤ◌, List, cond, eqb}
-use Rattle.fd_exact.specs.Fractions.{Fraction, fraction}
-use Rattle.fd_exact.specs.States.{State}
+use Rattle.fd_arith.specs.fd_exact.Fractions.{Fraction, fraction}
+use Rattle.fd_arith.specs.fd_exact.States.{State}
 use Rattle.fd_arith.specs.declared.terms.Term.{Term}
 use Rattle.fd_system.specs.Complex.{Complex, complex, ◌⊠◌, total}
 use Rattle.fd_system.specs.Contributions.{complex_terms, concat_below}

@@ -1,14 +1,14 @@
 -- The system: what elements add to the rows, and the residual of a row.
 use Rattle.std.specs.Prelude.{ℕ, ◌+◌, ◌<◌, List, [], ◌∷◌, ◌++◌, cond, eqb}
 use Rattle.std.specs.List.{flat_map}
-use Rattle.fd_exact.specs.Fractions.{Fraction, fraction, ◌⊕◌, nothing, Same}
-use Rattle.fd_exact.specs.States.{State}
+use Rattle.fd_arith.specs.fd_exact.Fractions.{Fraction, fraction, ◌⊕◌, nothing, Same}
+use Rattle.fd_arith.specs.fd_exact.States.{State}
 use Rattle.fd_arith.specs.declared.terms.Term.{Term}
 use Rattle.fd_system.specs.declared.constants.Constant.{Constant}
 use Rattle.fd_system.specs.declared.loads.LoadAt.{LoadAt}
 use Rattle.fd_system.specs.Loads.{draw_of, linear_list, nonlinear_parts}
 use Rattle.fd_system.specs.Contributions.{row_sum}
-use Rattle.fd_exact.specs.Sums.{list_n, sum_of}
+use Rattle.fd_arith.specs.fd_exact.Sums.{list_n, sum_of}
 use Rattle.fd_system.specs.Equations.{Part, equation}
 
 -- a stamp, what an element or a whole circuit adds to the rows: constants, contributions and part loads, of which those

@@ -1,7 +1,7 @@
 -- The terminals of elements: the node and the branch of each phase, the two nodes that a phase joins, and its nominal voltage.
 use Rattle.std.specs.Prelude.{ℕ, ◌+◌, ◌%◌, ◌^◌, ◌≡◌, ℤ, pos, ◌*ℤ◌, List, length, get_or, cond, eqb, All}
-use Rattle.fd_exact.specs.Rounding.{near_div}
-use Rattle.fd_exact.specs.RootThree.{root_three}
+use Rattle.fd_arith.specs.fd_exact.Rounding.{near_div}
+use Rattle.fd_arith.specs.fd_exact.RootThree.{root_three}
 use Rattle.fd_arith.specs.declared.terms.NodeAt.{NodeAt}
 use Rattle.fd_arith.specs.declared.terms.NodeAt.TheVariants.{Ground, Node}
 use Rattle.fd_arith.specs.declared.terms.Conn.{Conn}

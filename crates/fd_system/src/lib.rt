@@ -26,3 +26,10 @@ pub use rows::{add_constant, add_term, greater_size};
 pub use series::{add_drop, thirds};
 pub use stamps::{Stamp, add_complex, add_imaginary, add_one, add_real, add_shunt};
 pub use terminals::{NodePair, PhasePairs, node, phase_pair, phase_pairs, phase_volts};
+
+// Handed on from the crates below.
+pub use fd_arith::{
+    Coef, Conn, Cx, Enclose, Ends, FEMTO_PER_ONE, Fix, Interval, Items, LoadModel, Micro, NodeAt,
+    NodesAt, TapPair, Term, TermFault, Wide, ceil_at, floor_of_product, is_source_above_limit,
+    near_over_coef, near_quotient, near_units,
+};

@@ -1,7 +1,7 @@
 // The range of contributions.
 ghost use Rattle.std.specs.Prelude.{◌≡◌, ◌*ℤ◌, nat_abs, ℤ, pos, ◌<ℤ◌, ◌≤ℤ◌, ◌^◌, All, IsTrue, IfSome, IfNone, ◌↔◌};
 ghost use Rattle.fd_system.specs.Contributions.{IsWithin, IsDivided, AreSmall};
-ghost use Rattle.fd_exact.specs.Rounding.{near_div};
+ghost use Rattle.fd_arith.specs.fd_exact.Rounding.{near_div};
 
 use fd_arith::{Term, near_at};
 

@@ -1,6 +1,6 @@
 // The rows of the residual in intervals.
 ghost use Rattle.std.specs.Prelude.{◌≡◌, ℤ, pos, nat_abs, ◌≤ℤ◌, ◌^◌, IfSome, length};
-ghost use Rattle.fd_exact.specs.Fractions.{Fraction, SizeWithin};
+ghost use Rattle.fd_arith.specs.fd_exact.Fractions.{Fraction, SizeWithin};
 ghost use Rattle.fd_arith.specs.Interval.{Holds};
 ghost use Rattle.fd_arith.specs.Limits.{Fits};
 ghost use Rattle.fd_system.specs.Residual.{IsConstant, IsTerm, constant_added, greater_size as greater_end, term_added, term_interval};

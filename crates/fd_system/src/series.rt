@@ -1,6 +1,6 @@
 // The series impedance between the phases of an element.
 ghost use Rattle.std.specs.Prelude.{◌≡◌, ◌++◌, ◌+◌, ◌*◌, ◌<◌, ◌≤◌, ◌^◌, ℤ, pos, neg_ℤ, ◌≤ℤ◌, ◌+ℤ◌, ◌*ℤ◌, nat_abs, length, vec_capacity};
-ghost use Rattle.fd_exact.specs.Ranges.{UpTo};
+ghost use Rattle.fd_arith.specs.fd_exact.Ranges.{UpTo};
 ghost use Rattle.fd_system.specs.Series.{drop_terms, three_times};
 
 use crate::stamps::add_complex;

@@ -1,6 +1,6 @@
 // Stamps, what elements add to the rows, and contributions of complex numbers, which are added in room that a list has.
 ghost use Rattle.std.specs.Prelude.{◌≡◌, ◌-◌, ◌+◌, ◌*◌, ◌<◌, ◌≤◌, ◌++◌, ℤ, pos, ◌≤ℤ◌, neg_ℤ, ◌^◌, [], IfOk, length, vec_capacity};
-ghost use Rattle.fd_exact.specs.Ranges.{Within};
+ghost use Rattle.fd_arith.specs.fd_exact.Ranges.{Within};
 ghost use Rattle.fd_arith.specs.declared.terms.NodeAt.TheVariants.{Node};
 ghost use Rattle.fd_system.specs.Contributions.{one, shunt_list, complex_terms, IsSmall};
 ghost use Rattle.fd_system.specs.Stamps.{HasRoom, IsRoomSame, stamp_of};

@@ -1,11 +1,10 @@
 // The terminals of elements: the nodes that their phases join, and the nominal voltages of phases.
 ghost use Rattle.std.specs.Prelude.{◌≡◌, ◌<◌, ◌^◌, length, All};
-ghost use Rattle.fd_exact.specs.Ranges.{Between};
+ghost use Rattle.fd_arith.specs.fd_exact.Ranges.{Between};
 ghost use Rattle.fd_system.specs.Contributions.{IsSmall};
 ghost use Rattle.fd_system.specs.Terminals.{IsSide, node_count, node_of, pair_of, pairs_of, phase_count, phase_volts as nominal, three_phase_pairs as three_phase, three_phase_volts as three_phase_nominal};
 
-use fd_arith::{Conn, NodeAt, Nodes, near_quotient};
-use fd_exact::{FEMTO_PER_ONE, ROOT_THREE};
+use fd_arith::{Conn, FEMTO_PER_ONE, NodeAt, NodesAt, ROOT_THREE, near_quotient};
 
 /// How the phases of a terminal join its nodes.
 #[derive(Clone, Copy, PartialEq, Eq, Debug)]
@@ -28,7 +27,7 @@ pub struct NodePair {
 }
 
 /// The node of phase k.
-pub fn node(nodes: &Nodes, k: u32) -> NodeAt
+pub fn node(nodes: &NodesAt, k: u32) -> NodeAt
     requires small { All IsSmall nodes.now }
     requires k_in { k < length nodes.now }
     ensures node { result ≡ node_of nodes.now k }
@@ -38,7 +37,7 @@ pub fn node(nodes: &Nodes, k: u32) -> NodeAt
 }
 
 /// The two nodes that phase k of a terminal joins (this profile). There are two nodes for one phase and three for three phases.
-pub fn phase_pair(nodes: &Nodes, pairs: PhasePairs, k: u32) -> NodePair
+pub fn phase_pair(nodes: &NodesAt, pairs: PhasePairs, k: u32) -> NodePair
     requires side { IsSide (node_count (phase_count pairs)) nodes.now }
     requires k_in { k < phase_count pairs }
     ensures pair { result ≡ pair_of pairs nodes.now k }

@@ -1,7 +1,7 @@
 // Small feeders with their bases.
 use crate::checks::same;
 use crate::circuits::{Row, circuit, set};
-use dss_model::ModelError;
+use dss_script::ModelError;
 use fd_bases::bases;
 use std::alloc::Global;
 use std::process::Abort;

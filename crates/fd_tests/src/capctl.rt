@@ -1,8 +1,7 @@
 // Worked banks.
 use crate::checks::same;
 use crate::queue::entry;
-use fd_capctl::CapState;
-use fd_queue::{Queue, Verdict};
+use fd_certfile::{CapState, Queue, Verdict};
 use std::test::Fail;
 
 // A bank that opens at 3,615 s closes no sooner than its dead time of 4,000 s later.

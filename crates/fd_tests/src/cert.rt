@@ -1,13 +1,11 @@
 // Certificates of the network of a siemens into which 100 ampere flow.
 ghost use Rattle.std.specs.Prelude.{◌≡◌, ◌^◌, All, IfOk, length};
-ghost use Rattle.fd_mat.specs.Rows.{EntriesWithin};
-ghost use Rattle.fd_pattern.specs.Conditions.{IsPart};
+ghost use Rattle.fd_certfile.specs.fd_mat.Rows.{EntriesWithin};
+ghost use Rattle.fd_settings.specs.fd_pattern.Conditions.{IsPart};
 
 use crate::checks::{holds, same};
 use crate::one_node::{INFLOW, network, siemens};
-use fd_cert::{Ball, CertFault, Certified, Rule, boxed, certify};
-use fd_equations::Point;
-use fd_mat::Dense;
+use fd_certfile::{Ball, CertFault, Certified, Dense, Point, Rule, boxed, certify};
 use std::alloc::{AllocError, Global};
 use std::process::Abort;
 use std::test::Fail;

@@ -1,9 +1,7 @@
 // A certificate that an independent exact model wrote, whole and with one line changed, with its answers.
 use crate::checks::{holds, same, same_at};
 use crate::one_node::{INFLOW, network, siemens};
-use fd_certfile::{CertFileFault, CertReader, Claimed, Rule};
-use fd_inject::Limits;
-use fd_settle::{Act, Solver};
+use fd_certfile::{Act, CertFileFault, CertReader, Claimed, Limits, Rule, Solver};
 use std::alloc::{AllocError, Global};
 use std::fmt::Write;
 use std::process::Abort;

@@ -1,15 +1,14 @@
 // Small circuits, made of the commands of a script, and what is set of them beside it.
 ghost use Rattle.std.specs.Prelude.{◌≡◌, IfOk, IsTrue, None};
-ghost use Rattle.dss_layout.specs.Layout.{first_too_many};
-ghost use Rattle.dss_ready.specs.Ready.{HasPassed};
+ghost use Rattle.fd_bases.specs.dss_layout.Layout.{first_too_many};
+ghost use Rattle.fd_certfile.specs.dss_ready.Ready.{HasPassed};
 
-use dss_circuit::Circuit;
-use dss_lexer::{LineError, PairList, Text};
-use dss_model::{Command, ModelError, ModelFault, Place, Verb};
-use dss_ready::ready;
-use dss_script::pairs;
-use fd_arith::TapPair;
-use fd_devices::{BankStates, Positions, Taps};
+use dss_commands::Circuit;
+use dss_script::{
+    Command, LineError, ModelError, ModelFault, PairList, Place, TapPair, Text, Verb, pairs,
+};
+use fd_certfile::ready;
+use fd_settings::{BankStates, Positions, Taps};
 use std::alloc::{AllocError, Global};
 
 /// The class, the name and the pairs of a New or an Edit.

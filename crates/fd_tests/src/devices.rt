@@ -1,12 +1,9 @@
 // Positions and powers of the elements of small circuits.
 use crate::checks::same;
 use crate::circuits::{Row, circuit, edit, make, positions, solve};
-use dss_circuit::Circuit;
-use dss_model::ModelError;
-use fd_arith::TapPair;
-use fd_devices::{Positions, Powers};
-use fd_elements::LoadPower;
-use fd_settings::{next_positions, powers_at, script_positions};
+use dss_commands::Circuit;
+use dss_script::{ModelError, TapPair};
+use fd_settings::{LoadPower, Positions, Powers, next_positions, powers_at, script_positions};
 use std::alloc::{AllocError, Global};
 use std::process::Abort;
 use std::test::Fail;

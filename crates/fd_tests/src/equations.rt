@@ -1,15 +1,14 @@
 // Worked networks of one node and of two loads.
 ghost use Rattle.std.specs.Prelude.{◌≡◌, [], All, IfOk, None};
-ghost use Rattle.fd_pattern.specs.Conditions.{AreApart, IsServed};
-ghost use Rattle.fd_pattern.specs.Terminals.{IsConnected};
+ghost use Rattle.fd_settings.specs.fd_pattern.Conditions.{AreApart, IsServed};
+ghost use Rattle.fd_settings.specs.fd_pattern.Terminals.{IsConnected};
 
 use crate::checks::{holds, same};
 use crate::matrices::check_matrix;
 use crate::one_node::network;
-use fd_arith::{LoadModel, NodeAt, Term};
-use fd_equations::{Network, Rows};
-use fd_pattern::{Layout, PlaceKind};
-use fd_system::{Constant, LoadAt, LoadPhase};
+use dss_script::{LoadModel, NodeAt, Term};
+use fd_certfile::{NetworkRows, Rows};
+use fd_settings::{Constant, Layout, LoadAt, LoadPhase, PlaceKind};
 use std::alloc::{AllocError, Global};
 use std::process::Abort;
 use std::test::Fail;
@@ -155,7 +154,7 @@ fn both_loads(alloc: Global) -> Result<Rows, AllocError>
 }
 
 // A network of both loads.
-fn load_network<'a>(rows: &'a Rows, rt: &impl Abort) -> Network<'a>
+fn load_network<'a>(rows: &'a Rows, rt: &impl Abort) -> NetworkRows<'a>
     requires size { rows.now.size ≡ 5 }
     requires served { All (IsServed 2 2 5) rows.now.loads }
     requires apart { AreApart rows.now.loads }
@@ -167,7 +166,7 @@ fn load_network<'a>(rows: &'a Rows, rt: &impl Abort) -> Network<'a>
         branches: 0,
         magnitudes: 1,
     };
-    Network::new(layout, rows, &[], 400_000_000)
+    NetworkRows::new(layout, rows, &[], 400_000_000)
 }
 
 // Both loads within their limits, and below them.

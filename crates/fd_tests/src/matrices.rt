@@ -1,6 +1,6 @@
 // Matrices by their entries.
 use crate::checks::{holds, same};
-use fd_mat::Dense;
+use fd_certfile::Dense;
 use std::alloc::AllocError;
 use std::process::Abort;
 

@@ -1,22 +1,21 @@
 // Small feeders, built and updated.
 ghost use Rattle.std.specs.Prelude.{◌↔◌, All, IfOk, IsTrue, OnOk};
-ghost use Rattle.dss_ready.specs.Ready.{HasPassed};
-ghost use Rattle.fd_xfmr.specs.Leakage.{AreTaps};
-ghost use Rattle.fd_devices.specs.Building.{IsModest};
-ghost use Rattle.fd_devices.specs.Settings.{AreSettings, settings_of};
-ghost use Rattle.fd_network.specs.Built.{IsBuiltOf};
+ghost use Rattle.fd_certfile.specs.dss_ready.Ready.{HasPassed};
+ghost use Rattle.fd_settings.specs.fd_xfmr.Leakage.{AreTaps};
+ghost use Rattle.fd_settings.specs.fd_devices.Building.{IsModest};
+ghost use Rattle.fd_settings.specs.fd_devices.Settings.{AreSettings, settings_of};
+ghost use Rattle.fd_certfile.specs.fd_network.Built.{IsBuiltOf};
 
 use crate::checks::{holds, same};
 use crate::circuits::{Row, circuit, is_ready, positions};
 use crate::matrices::entry;
-use dss_circuit::Circuit;
-use fd_arith::{Interval, Micro, NodeAt, TapPair};
-use fd_devices::{BuildFault, LoadPowers, Positions, Powers};
-use fd_elements::LoadPower;
-use fd_equations::Network as NetworkRows;
-use fd_mat::Dense;
-use fd_network::Network;
-use fd_settings::{hours_law, powers_at, script_positions, snapshot_law};
+use dss_commands::Circuit;
+use dss_script::{Interval, Micro, NodeAt, TapPair};
+use fd_certfile::{Dense, Network, NetworkRows};
+use fd_settings::{
+    BuildFault, LoadPower, LoadPowers, Positions, Powers, hours_law, powers_at, script_positions,
+    snapshot_law,
+};
 use std::alloc::{AllocError, Global};
 use std::process::Abort;
 use std::test::Fail;

@@ -1,11 +1,10 @@
 // Networks of one node, whose two unknowns are the parts of its voltage.
 ghost use Rattle.std.specs.Prelude.{◌≡◌, ◌≤◌, ◌<◌, ◌+◌, ◌*◌, ◌^◌, [], All, IfOk, length};
-ghost use Rattle.fd_pattern.specs.Conditions.{IsKnown};
+ghost use Rattle.fd_settings.specs.fd_pattern.Conditions.{IsKnown};
 
-use fd_arith::Term;
-use fd_equations::{Network, Rows};
-use fd_pattern::Layout;
-use fd_system::Constant;
+use dss_script::Term;
+use fd_certfile::{NetworkRows, Rows};
+use fd_settings::{Constant, Layout};
 use std::alloc::{AllocError, Global};
 use std::process::Abort;
 
@@ -43,7 +42,7 @@ pub fn network<'a>(
     rows: &'a Rows,
     constants: &'a [Constant],
     draw: u128,
-) -> Network<'a>
+) -> NetworkRows<'a>
     requires size { rows.now.size ≡ 2 }
     requires loads { rows.now.loads ≡ [] }
     requires constants { All (IsKnown 2) constants.now }
@@ -57,5 +56,5 @@ pub fn network<'a>(
         branches: 0,
         magnitudes: 0,
     };
-    Network::new(layout, rows, constants, draw)
+    NetworkRows::new(layout, rows, constants, draw)
 }

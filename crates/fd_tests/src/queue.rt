@@ -1,6 +1,6 @@
 // Worked queues.
 use crate::checks::{holds, same};
-use fd_queue::{Entry, Queue, Verdict};
+use fd_certfile::{Entry, Queue, Verdict};
 use std::test::Fail;
 
 // The entries of 2 s leave together, in order of sequence number; that of 15 s is left. Control 1 is back in its band.

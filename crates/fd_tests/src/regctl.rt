@@ -1,9 +1,8 @@
 // Worked regulators.
 use crate::checks::same;
 use crate::queue::entry;
-use fd_arith::TapPair;
-use fd_queue::{Queue, Verdict};
-use fd_regctl::RegState;
+use dss_script::TapPair;
+use fd_certfile::{Queue, RegState, Verdict};
 use std::test::Fail;
 
 // Six steps up at 15 s; then one more after the shorter delay.

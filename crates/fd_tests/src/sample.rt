@@ -1,9 +1,8 @@
 // Worked samples.
 use crate::checks::same;
-use fd_arith::{NodeAt, TapPair};
-use fd_queue::Verdict;
-use fd_sample::{CapProbe, Measured, RegProbe, bank_verdict, regulator_verdict};
-use fd_system::NodePair;
+use dss_script::{NodeAt, TapPair};
+use fd_certfile::{CapProbe, Measured, RegProbe, Verdict, bank_verdict, regulator_verdict};
+use fd_settings::NodePair;
 use std::test::Fail;
 
 // A regulator of 122 V with a band of 2 V behind a ratio of 20, on winding 2 of a transformer of 2,400 V, without

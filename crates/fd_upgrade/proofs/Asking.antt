@@ -1,26 +1,26 @@
 -- A name that is asked, and what is done behind it.
 use Rattle.std.proofs.Common.{◌≡◌, ◌∙◌, ℕ, true, false, List, [], ◌∷◌, ◌++◌, inl, inr, Option, Some, None, Result, Ok, Err, refl, sym, ap, subst, arith}
-use Rattle.fd_outside.specs.Answers.{Agrees, Answer, EndsFailed, IsLater, Reply, absent, answered, content, failed, names_asked}
-use Rattle.fd_outside.specs.Causes.{Rose}
-use Rattle.fd_outside.specs.Files.{AnswersHeld, Files, held}
-use Rattle.fd_outside.proofs.CallerLemmas.{names_behind}
-use Rattle.fd_outside.specs.declared.library.Found.{Found}
-use Rattle.fd_outside.specs.declared.library.Found.TheVariants as was
-use Rattle.fd_outside.specs.declared.library.LibFault.{LibFault}
-use Rattle.fd_outside.specs.declared.library.LibFault.TheVariants as lib_fault
-use Rattle.dss_model.specs.Names.{bytes}
-use Rattle.fd_report.specs.declared.faults.Fault.{Fault}
-use Rattle.fd_report.specs.declared.faults.Fault.TheVariants as fault
-use Rattle.fd_cert.specs.declared.rule.Rule.{Rule}
-use Rattle.fd_cert.specs.declared.rule.Rule.TheVariants.{Absent, Grammar}
-use Rattle.fd_outcome.specs.Behind.{last_calls}
-use Rattle.fd_outcome.specs.Calls.{Call, calls_of, doing, report}
-use Rattle.fd_outcome.specs.Done.{IsDone, failing}
-use Rattle.fd_outcome.specs.Events.{Event, History, asked, before, ended}
-use Rattle.fd_outcome.specs.Parts.{Finishes, Printed, fault_doing}
-use Rattle.fd_outcome.specs.Runs.{Runs}
-use Rattle.fd_outcome.specs.Untold.{IsUntold}
-use Rattle.fd_outcome.proofs.CallerLemmas.{cut_before, fault_answers, finishes_asked, finishes_short, finishes_unread, shown_nothing, untold_fault, untold_finished, untold_last, untold_read, untold_short}
+use Rattle.fd_solving.specs.fd_outside.Answers.{Agrees, Answer, EndsFailed, IsLater, Reply, absent, answered, content, failed, names_asked}
+use Rattle.fd_solving.specs.fd_outside.Causes.{Rose}
+use Rattle.fd_solving.specs.fd_outside.Files.{AnswersHeld, Files, held}
+use Rattle.fd_solving.proofs.CallerLemmas.fd_outside.{names_behind}
+use Rattle.fd_solving.specs.fd_outside.declared.library.Found.{Found}
+use Rattle.fd_solving.specs.fd_outside.declared.library.Found.TheVariants as was
+use Rattle.fd_solving.specs.fd_outside.declared.library.LibFault.{LibFault}
+use Rattle.fd_solving.specs.fd_outside.declared.library.LibFault.TheVariants as lib_fault
+use Rattle.fd_solving.specs.dss_model.Names.{bytes}
+use Rattle.fd_solving.specs.fd_report.declared.faults.Fault.{Fault}
+use Rattle.fd_solving.specs.fd_report.declared.faults.Fault.TheVariants as fault
+use Rattle.fd_solving.specs.fd_cert.declared.rule.Rule.{Rule}
+use Rattle.fd_solving.specs.fd_cert.declared.rule.Rule.TheVariants.{Absent, Grammar}
+use Rattle.fd_solving.specs.fd_outcome.Behind.{last_calls}
+use Rattle.fd_solving.specs.fd_outcome.Calls.{Call, calls_of, doing, report}
+use Rattle.fd_solving.specs.fd_outcome.Done.{IsDone, failing}
+use Rattle.fd_solving.specs.fd_outcome.Events.{Event, History, asked, before, ended}
+use Rattle.fd_solving.specs.fd_outcome.Parts.{Finishes, Printed, fault_doing}
+use Rattle.fd_solving.specs.fd_outcome.Runs.{Runs}
+use Rattle.fd_solving.specs.fd_outcome.Untold.{IsUntold}
+use Rattle.fd_solving.proofs.CallerLemmas.fd_outcome.{cut_before, fault_answers, finishes_asked, finishes_short, finishes_unread, shown_nothing, untold_fault, untold_finished, untold_last, untold_read, untold_short}
 use Rattle.fd_solving.proofs.CallerLemmas.{never_read, never_usage, printed_cut, report_asks}
 use Rattle.fd_upgrade.specs.Answering.{IsAnswered, bytes_found}
 use Rattle.fd_upgrade.specs.Upgrading.{IsUpgradeHistory, IsUpgradeOf}

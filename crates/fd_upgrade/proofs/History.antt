@@ -3,22 +3,22 @@ use Rattle.std.proofs.Common.{◌≡◌, ◌∙◌, ℕ, true, List, [], ◌∷�
 use Rattle.std.specs.Prelude.{◌↔◌}
 use Rattle.std.specs.List.{concat}
 use Rattle.std.proofs.lemmas.List.{append-nil}
-use Rattle.dss_model.specs.Names.{bytes}
-use Rattle.fd_outside.specs.Files.{Files, held}
-use Rattle.fd_cert.specs.declared.rule.Rule.TheVariants.{Absent, Grammar}
-use Rattle.fd_certfile.specs.declared.version.Version.TheVariants.{Sparse}
-use Rattle.fd_certfile.specs.Blocks.{Block}
-use Rattle.fd_certfile.specs.Certificates.{Certificate, blocks_of, certificate_lines}
-use Rattle.fd_certfile.specs.Lines.{Line, line_bytes, lines_of, text_of}
-use Rattle.fd_certfile.specs.Upgrade.{IsFirstOutside, IsUpgraded}
-use Rattle.fd_certfile.specs.Verdict.{Due, Answer, IsAnswer}
-use Rattle.fd_certfile.proofs.CallerLemmas.{never_both, one_outside, one_upgrade as one_certificate, some_upgrade, upgrade_law}
-use Rattle.fd_report.specs.declared.faults.Fault.{Fault}
-use Rattle.fd_report.specs.declared.faults.Fault.TheVariants as fault
-use Rattle.fd_outcome.specs.Calls.{Call, body, calls_of, doing, opened, reads, report, texts_written, writes}
-use Rattle.fd_outcome.specs.Events.{Event, History, asked, before, ended, line}
-use Rattle.fd_outcome.specs.Work.{After, ExactlyOne}
-use Rattle.fd_outcome.proofs.CallerLemmas.{IsToldBy, exactly_this}
+use Rattle.fd_solving.specs.dss_model.Names.{bytes}
+use Rattle.fd_solving.specs.fd_outside.Files.{Files, held}
+use Rattle.fd_solving.specs.fd_cert.declared.rule.Rule.TheVariants.{Absent, Grammar}
+use Rattle.fd_solving.specs.fd_certfile.declared.version.Version.TheVariants.{Sparse}
+use Rattle.fd_solving.specs.fd_certfile.Blocks.{Block}
+use Rattle.fd_solving.specs.fd_certfile.Certificates.{Certificate, blocks_of, certificate_lines}
+use Rattle.fd_solving.specs.fd_certfile.Lines.{Line, line_bytes, lines_of, text_of}
+use Rattle.fd_solving.specs.fd_certfile.Upgrade.{IsFirstOutside, IsUpgraded}
+use Rattle.fd_solving.specs.fd_certfile.Verdict.{Due, Answer, IsAnswer}
+use Rattle.fd_solving.proofs.CallerLemmas.fd_certfile.{never_both, one_outside, one_upgrade as one_certificate, some_upgrade, upgrade_law}
+use Rattle.fd_solving.specs.fd_report.declared.faults.Fault.{Fault}
+use Rattle.fd_solving.specs.fd_report.declared.faults.Fault.TheVariants as fault
+use Rattle.fd_solving.specs.fd_outcome.Calls.{Call, body, calls_of, doing, opened, reads, report, texts_written, writes}
+use Rattle.fd_solving.specs.fd_outcome.Events.{Event, History, asked, before, ended, line}
+use Rattle.fd_solving.specs.fd_outcome.Work.{After, ExactlyOne}
+use Rattle.fd_solving.proofs.CallerLemmas.fd_outcome.{IsToldBy, exactly_this}
 use Rattle.fd_upgrade.specs.Upgrading.{IsUpgradeHistory, IsUpgradeOf, lines_written}
 
 -- ---- exactly one

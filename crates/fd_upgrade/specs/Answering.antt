@@ -1,10 +1,10 @@
 -- What is made of what was found under the name.
 use Rattle.std.specs.Prelude.{ℕ, true, List, Option, Some, None}
-use Rattle.fd_outside.specs.declared.library.Found.{Found}
-use Rattle.fd_outside.specs.declared.library.Found.TheVariants as found
-use Rattle.fd_outcome.specs.Calls.{doing, report}
-use Rattle.fd_outcome.specs.Events.{History}
-use Rattle.fd_outcome.specs.Parts.{Printed}
+use Rattle.fd_solving.specs.fd_outside.declared.library.Found.{Found}
+use Rattle.fd_solving.specs.fd_outside.declared.library.Found.TheVariants as found
+use Rattle.fd_solving.specs.fd_outcome.Calls.{doing, report}
+use Rattle.fd_solving.specs.fd_outcome.Events.{History}
+use Rattle.fd_solving.specs.fd_outcome.Parts.{Printed}
 use Rattle.fd_upgrade.specs.Upgrading.{IsUpgradeOf}
 
 abbrev pub bytes_found : Found → Option (List ℕ)

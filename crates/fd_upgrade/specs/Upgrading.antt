@@ -1,15 +1,15 @@
 -- What `upgrade` does: the name of a certificate is asked, and its lines in version 2 are written, or why it is refused.
 use Rattle.std.specs.Prelude.{◌≡◌, ◌⊎◌, ℕ, List, [], ◌∷◌, map, Option, Some, None}
-use Rattle.dss_model.specs.Names.{bytes}
-use Rattle.fd_outside.specs.Files.{Files, held}
-use Rattle.fd_cert.specs.declared.rule.Rule.TheVariants.{Absent, Grammar}
-use Rattle.fd_certfile.specs.declared.version.Version.TheVariants.{Sparse}
-use Rattle.fd_certfile.specs.Certificates.{Certificate, blocks_of, certificate_lines}
-use Rattle.fd_certfile.specs.Lines.{lines_of, text_of}
-use Rattle.fd_certfile.specs.Upgrade.{IsFirstOutside, IsUpgraded}
-use Rattle.fd_report.specs.declared.faults.Fault.TheVariants as fault
-use Rattle.fd_outcome.specs.Events.{History, asked, ended, finishes, line}
-use Rattle.fd_outcome.specs.Work.{After}
+use Rattle.fd_solving.specs.dss_model.Names.{bytes}
+use Rattle.fd_solving.specs.fd_outside.Files.{Files, held}
+use Rattle.fd_solving.specs.fd_cert.declared.rule.Rule.TheVariants.{Absent, Grammar}
+use Rattle.fd_solving.specs.fd_certfile.declared.version.Version.TheVariants.{Sparse}
+use Rattle.fd_solving.specs.fd_certfile.Certificates.{Certificate, blocks_of, certificate_lines}
+use Rattle.fd_solving.specs.fd_certfile.Lines.{lines_of, text_of}
+use Rattle.fd_solving.specs.fd_certfile.Upgrade.{IsFirstOutside, IsUpgraded}
+use Rattle.fd_solving.specs.fd_report.declared.faults.Fault.TheVariants as fault
+use Rattle.fd_solving.specs.fd_outcome.Events.{History, asked, ended, finishes, line}
+use Rattle.fd_solving.specs.fd_outcome.Work.{After}
 
 -- the lines of version 2 of a certificate's blocks, and nothing else
 abbrev pub lines_written : Certificate → History

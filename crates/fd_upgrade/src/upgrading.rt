@@ -1,23 +1,21 @@
 // The command line `upgrade CERTIFICATE`.
 ghost use Rattle.std.specs.Prelude.{◌≡◌, ◌≤◌, IfOk, Some, true};
 ghost use Rattle.std.specs.Str.{chars};
-ghost use Rattle.fd_outside.specs.Answers.{AgreesSince};
-ghost use Rattle.fd_outside.specs.Causes.{Rose};
-ghost use Rattle.fd_outside.specs.Files.{Files};
-ghost use Rattle.fd_report.specs.declared.faults.Fault.TheVariants.{Read};
-ghost use Rattle.fd_outcome.specs.Calls.{report};
-ghost use Rattle.fd_outcome.specs.Parts.{Printed, fault_doing};
-ghost use Rattle.fd_outcome.specs.Runs.{Runs};
-ghost use Rattle.fd_outcome.specs.Untold.{IsUntold};
+ghost use Rattle.fd_solving.specs.fd_outside.Answers.{AgreesSince};
+ghost use Rattle.fd_solving.specs.fd_outside.Causes.{Rose};
+ghost use Rattle.fd_solving.specs.fd_outside.Files.{Files};
+ghost use Rattle.fd_solving.specs.fd_report.declared.faults.Fault.TheVariants.{Read};
+ghost use Rattle.fd_solving.specs.fd_outcome.Calls.{report};
+ghost use Rattle.fd_solving.specs.fd_outcome.Parts.{Printed, fault_doing};
+ghost use Rattle.fd_solving.specs.fd_outcome.Runs.{Runs};
+ghost use Rattle.fd_solving.specs.fd_outcome.Untold.{IsUntold};
 ghost use Rattle.fd_upgrade.specs.Answering.{IsAnswered, bytes_found};
 ghost use Rattle.fd_upgrade.specs.Upgrading.{IsUpgradeHistory};
 
-use dss_lexer::Text;
-use fd_cert::Rule;
-use fd_certfile::CertFileFault;
-use fd_outside::{Found, LibFault, Library, Sink};
-use fd_report::Fault;
-use fd_solving::{WANT_OF_MEMORY, print_end, print_fault};
+use fd_solving::{
+    CertFileFault, Fault, Found, LibFault, Library, Rule, Sink, Text, WANT_OF_MEMORY, print_end,
+    print_fault,
+};
 use std::alloc::{AllocError, Global};
 
 fn name_of(alloc: Global, certificate: &str) -> Result<Text, AllocError>
@@ -44,7 +42,7 @@ fn print_upgrade<S: Sink>(alloc: Global, bytes: &[u8], out: &mut S) -> u8
     ensures later { S.faults out.old ≤ S.faults out.new }
     ensures write { result ≡ 5 → Rose (S.faults out.old) (S.faults out.new) }
 {
-    match fd_certfile::upgrade(alloc, bytes) {
+    match fd_solving::upgrade(alloc, bytes) {
         Ok(lines) => print_end(alloc, lines.as_slice(), out),
         Err(CertFileFault::Refused { line, rule }) => {
             print_fault(alloc, &Fault::Certificate { line, rule }, out)

@@ -2,7 +2,7 @@
 use Rattle.std.proofs.Common.{◌≡◌, ◌∙◌, ◌≤◌, ◌^◌, ℤ, pos, negsuc, neg_ℤ, nat_abs, FitsSigned, List, ◌++◌, append_assoc, arith}
 use Rattle.std.specs.Int.{w128}
 use Rattle.std.proofs.lemmas.Int.{ints}
-use Rattle.fd_arith.specs.declared.terms.Term.{Term}
+use Rattle.fd_system.specs.fd_arith.declared.terms.Term.{Term}
 use Rattle.fd_system.specs.Contributions.{complex_terms}
 use Rattle.fd_xfmr.specs.declared.leakage.Coefficients.{Coefficients}
 use Rattle.fd_xfmr.specs.declared.terms.PhaseAt.{PhaseAt}

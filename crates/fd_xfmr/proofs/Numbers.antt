@@ -2,9 +2,9 @@
 use Rattle.std.proofs.Common.{ℕ, ◌+◌, ◌*◌, ◌/◌, ◌<◌, ◌≤◌, ◌^◌, ℤ, pos, negsuc, ◌+ℤ◌, ◌*ℤ◌, nat_abs, arith}
 use Rattle.std.proofs.Math.Nat.{mul-le-mul, div-lt_iff_lt-mul}
 use Rattle.std.proofs.lemmas.Int.{ints}
-use Rattle.fd_exact.specs.Ranges.{Between, UpTo}
-use Rattle.fd_exact.specs.States.{part}
-use Rattle.fd_arith.specs.declared.terms.TapPair.{TapPair}
+use Rattle.fd_system.specs.fd_exact.Ranges.{Between, UpTo}
+use Rattle.fd_system.specs.fd_exact.States.{part}
+use Rattle.fd_system.specs.fd_arith.declared.terms.TapPair.{TapPair}
 use Rattle.fd_system.proofs.CallerLemmas.{phase_volts_between}
 use Rattle.fd_xfmr.specs.declared.data.XfmrData.{XfmrData}
 use Rattle.fd_xfmr.specs.Windings.{conn1, conn2, first_volts, kv1, kv2, second_volts}

@@ -3,10 +3,10 @@ use Rattle.std.proofs.Common.{◌≡◌, ◌∙◌, ℕ, ◌*◌, ◌<◌, ◌�
 use Rattle.std.specs.Int.{w128}
 use Rattle.std.proofs.Math.Nat.{mul-le-mul, mul-pos}
 use Rattle.std.proofs.lemmas.Int.{ints, to_z-of_z, unsigned_abs-mul}
-use Rattle.fd_arith.specs.declared.terms.TapPair.{TapPair}
+use Rattle.fd_system.specs.fd_arith.declared.terms.TapPair.{TapPair}
 use Rattle.fd_xfmr.specs.declared.data.XfmrData.{XfmrData}
 use Rattle.fd_xfmr.specs.declared.leakage.Coefficients.{Coefficients}
-use Rattle.fd_exact.specs.Ranges.{Between}
+use Rattle.fd_system.specs.fd_exact.Ranges.{Between}
 use Rattle.fd_xfmr.specs.Windings.{first_volts, second_volts}
 use Rattle.fd_xfmr.specs.Leakage.{coefficients_of, nominal_reactance, nominal_resistance}
 

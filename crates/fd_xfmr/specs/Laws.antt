@@ -1,7 +1,7 @@
 -- What is true of a transformer's stated contributions.
 use Rattle.std.specs.Prelude.{◌≤◌, length, All}
-use Rattle.fd_arith.specs.declared.terms.Ends.{Ends}
-use Rattle.fd_arith.specs.declared.terms.TapPair.{TapPair}
+use Rattle.fd_system.specs.fd_arith.declared.terms.Ends.{Ends}
+use Rattle.fd_system.specs.fd_arith.declared.terms.TapPair.{TapPair}
 use Rattle.fd_system.specs.Contributions.{IsDivided}
 use Rattle.fd_system.specs.Equations.{AddsUp}
 use Rattle.fd_xfmr.specs.declared.data.XfmrData.{XfmrData}

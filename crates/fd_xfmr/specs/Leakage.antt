@@ -1,9 +1,9 @@
 -- The leakage impedance of a transformer and its ratio, at its taps.
 use Rattle.std.specs.Prelude.{◌*◌, ◌≤◌, ◌^◌, ◌≡◌, ℤ, pos, ◌+ℤ◌, ◌*ℤ◌, ◌<ℤ◌, ◌≤ℤ◌, nat_abs, ◌⊎◌}
-use Rattle.fd_exact.specs.Rounding.{floor_div}
-use Rattle.fd_exact.specs.States.{part}
-use Rattle.fd_exact.specs.Ranges.{Between, UpTo}
-use Rattle.fd_arith.specs.declared.terms.TapPair.{TapPair}
+use Rattle.fd_system.specs.fd_exact.Rounding.{floor_div}
+use Rattle.fd_system.specs.fd_exact.States.{part}
+use Rattle.fd_system.specs.fd_exact.Ranges.{Between, UpTo}
+use Rattle.fd_system.specs.fd_arith.declared.terms.TapPair.{TapPair}
 use Rattle.fd_xfmr.specs.declared.data.XfmrData.{XfmrData}
 use Rattle.fd_xfmr.specs.declared.leakage.Coefficients.{Coefficients}
 use Rattle.fd_xfmr.specs.Windings.{first_volts, kv1, kv2, second_volts}

@@ -1,9 +1,9 @@
 -- The equations of a transformer, and the contributions that add up to them.
 use Rattle.std.specs.Prelude.{ℕ, ◌+◌, ◌<◌, ◌^◌, pos, negsuc, neg_ℤ, nat_abs, List, [], ◌∷◌, ◌++◌}
-use Rattle.fd_exact.specs.States.{State}
-use Rattle.fd_arith.specs.declared.terms.Term.{Term}
-use Rattle.fd_arith.specs.declared.terms.Ends.{Ends}
-use Rattle.fd_arith.specs.declared.terms.TapPair.{TapPair}
+use Rattle.fd_system.specs.fd_exact.States.{State}
+use Rattle.fd_system.specs.fd_arith.declared.terms.Term.{Term}
+use Rattle.fd_system.specs.fd_arith.declared.terms.Ends.{Ends}
+use Rattle.fd_system.specs.fd_arith.declared.terms.TapPair.{TapPair}
 use Rattle.fd_system.specs.Complex.{Complex, complex, ◌⊟◌, ◌⊠◌, negative}
 use Rattle.fd_system.specs.Contributions.{complex_terms, concat_below, IsSmall}
 use Rattle.fd_system.specs.Equations.{unknown, Part, both}

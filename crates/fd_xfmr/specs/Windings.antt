@@ -1,8 +1,8 @@
 -- The windings of a transformer: their nominal voltages, and how their phases join the nodes of its terminals.
 use Rattle.std.specs.Prelude.{ℕ, ℤ, get_or, Bool, true, false, not, cond, eqb, int_le}
-use Rattle.fd_exact.specs.States.{part}
-use Rattle.fd_arith.specs.declared.terms.Conn.{Conn}
-use Rattle.fd_arith.specs.declared.terms.Conn.TheVariants.{Wye, Delta}
+use Rattle.fd_system.specs.fd_exact.States.{part}
+use Rattle.fd_system.specs.fd_arith.declared.terms.Conn.{Conn}
+use Rattle.fd_system.specs.fd_arith.declared.terms.Conn.TheVariants.{Wye, Delta}
 use Rattle.fd_system.specs.declared.terminals.PhasePairs.{PhasePairs}
 use Rattle.fd_system.specs.declared.terminals.PhasePairs.TheVariants as pairs
 use Rattle.fd_system.specs.Terminals.{phase_volts}

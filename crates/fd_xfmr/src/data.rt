@@ -1,5 +1,5 @@
 // The data of a transformer.
-use fd_arith::Conn;
+use fd_system::Conn;
 
 /// A transformer of two windings (OpenDSS manual, Transformer). Each array has the value of winding 1 and then that of winding 2;
 /// numbers are whole 10^-9.

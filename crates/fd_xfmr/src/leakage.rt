@@ -1,12 +1,11 @@
 // The leakage impedance of a transformer and its ratio, at its taps.
 ghost use Rattle.std.specs.Prelude.{◌≡◌, ℕ, ◌*◌, ◌≤◌, ◌^◌, ℤ, pos, ◌*ℤ◌, nat_abs};
-ghost use Rattle.fd_exact.specs.Ranges.{Between, UpTo};
+ghost use Rattle.fd_system.specs.fd_exact.Ranges.{Between, UpTo};
 ghost use Rattle.fd_xfmr.specs.Windings.{first_volts as first, second_volts as second};
 ghost use Rattle.fd_xfmr.specs.Leakage.{AreTaps, AreWithin, IsXfmr, coefficients_of, nominal_leakage, nominal_reactance, nominal_resistance, percent_resistance};
 
 use crate::data::XfmrData;
-use fd_arith::{TapPair, floor_of_product};
-use fd_system::phase_volts;
+use fd_system::{TapPair, floor_of_product, phase_volts};
 
 /// The numbers of a transformer's equations at its taps: the ratio U2 t2 / (U1 t1) as `ratio` / `ratio_over`, U being the nominal
 /// voltages of the windings and t their taps, and the leakage impedance r + j x at the second winding in whole 10^-22 ohm.

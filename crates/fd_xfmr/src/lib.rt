@@ -20,3 +20,8 @@ pub use laws::xfmr_law;
 pub use leakage::{Coefficients, coefficients_at};
 pub use pairs::winding_pairs;
 pub use terms::{PhaseAt, phase_at, xfmr_terms, xfmr_terms_into};
+
+// Handed on from the crates below.
+pub use fd_system::{
+    Constant, LoadAt, LoadPhase, NodePair, Stamp, add_shunt, phase_pair, phase_pairs, phase_volts,
+};

@@ -4,8 +4,7 @@ ghost use Rattle.fd_system.specs.Terminals.{phase_count};
 ghost use Rattle.fd_xfmr.specs.Windings.{first_pairs, second_pairs, three_phase_winding as three_phase_at, winding_at};
 
 use crate::data::XfmrData;
-use fd_arith::Conn;
-use fd_system::PhasePairs;
+use fd_system::{Conn, PhasePairs};
 
 /// How the phases of winding 1 and of winding 2 join their nodes (this profile). Winding 1 is the higher side where its kV isn't below
 /// that of winding 2; a delta winding joins nodes k and k - 1 at the higher side of a delta-wye transformer, else k and k + 1.

@@ -8,8 +8,9 @@ ghost use Rattle.fd_xfmr.specs.Transformer.{ArePlaces, IsBetween, branch_list, c
 use crate::data::XfmrData;
 use crate::leakage::{Coefficients, coefficients_at};
 use crate::pairs::winding_pairs;
-use fd_arith::{Ends, NodeAt, TapPair, Term, TermFault};
-use fd_system::{NodePair, add_complex, add_real, all_within, phase_pair};
+use fd_system::{
+    Ends, NodeAt, NodePair, TapPair, Term, TermFault, add_complex, add_real, all_within, phase_pair,
+};
 use std::alloc::Global;
 
 /// Leakage impedances at the taps are in whole numbers of this part of an ohm.

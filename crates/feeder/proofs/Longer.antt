@@ -4,8 +4,8 @@ use Rattle.std.specs.Prelude.{find, option_and_then}
 use Rattle.std.specs.Cmp.Lexicographic.{pointwise}
 use Rattle.std.specs.Vec.Iter.{into_iter_items, into_iter_len, into_iter_steps}
 use Rattle.std.specs.declared.vec.IntoIter.{IntoIter}
-use Rattle.fd_words.specs.declared.table.Kind.{Kind}
-use Rattle.fd_words.specs.Words.{Form, Row, Takes, form_of, form_with, rows, value_as}
+use Rattle.fd_app.specs.fd_words.declared.table.Kind.{Kind}
+use Rattle.fd_app.specs.fd_words.Words.{Form, Row, Takes, form_of, form_with, rows, value_as}
 
 -- ---- no form
 

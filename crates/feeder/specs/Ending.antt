@@ -1,10 +1,10 @@
 -- How the program ends.
 use Rattle.std.specs.Prelude.{◌≡◌, ℕ, List, [], Option, None}
-use Rattle.fd_outside.specs.Answers.{Answer, IsLater}
-use Rattle.fd_outside.specs.Causes.{Rose}
-use Rattle.fd_outside.specs.Files.{Files}
-use Rattle.fd_outcome.specs.Untold.{Answers, EndsAtRead}
-use Rattle.fd_words.specs.Words.{Form, form_of}
+use Rattle.fd_app.specs.fd_outside.Answers.{Answer, IsLater}
+use Rattle.fd_app.specs.fd_outside.Causes.{Rose}
+use Rattle.fd_app.specs.fd_outside.Files.{Files}
+use Rattle.fd_app.specs.fd_outcome.Untold.{Answers, EndsAtRead}
+use Rattle.fd_app.specs.fd_words.Words.{Form, form_of}
 use Rattle.fd_app.specs.Promise.{Promised}
 use Rattle.feeder.specs.Given.{Given, no_memory, words}
 

@@ -2,12 +2,11 @@
 ghost use Rattle.std.specs.Prelude.{drop, map, string_bytes};
 ghost use Rattle.std.specs.Process.{exit_status};
 ghost use Rattle.std.specs.Vec.Iter.{into_iter_items};
-ghost use Rattle.fd_words.specs.Words.{form_of};
+ghost use Rattle.fd_app.specs.fd_words.Words.{form_of};
 ghost use Rattle.feeder.specs.Ending.{EndsAs, IsRun};
 ghost use Rattle.feeder.specs.Given.{given};
 
-use fd_app::run;
-use fd_outside::{Library, Sink};
+use fd_app::{Library, Sink, run};
 use std::alloc::Global;
 use std::env::Args;
 use std::io;

@@ -1,12 +1,12 @@
 // The program from its start to its end.
 ghost use Rattle.std.specs.Process.{exit_status};
-ghost use Rattle.fd_outside.specs.Folder.{asked_of_system};
-ghost use Rattle.fd_outside.specs.Reading.{AreReads};
+ghost use Rattle.fd_app.specs.fd_outside.Folder.{asked_of_system};
+ghost use Rattle.fd_app.specs.fd_outside.Reading.{AreReads};
 ghost use Rattle.feeder.specs.Ending.{FromStart};
 ghost use Rattle.feeder.specs.Given.{given};
 
 use crate::ending::end_of;
-use fd_outside::{FolderLibrary, Library, Sink, StdSink};
+use fd_app::{FolderLibrary, Library, Sink, StdSink};
 use std::alloc::Global;
 use std::env::Args;
 use std::io;

@@ -3,8 +3,8 @@ use Rattle.std.specs.Prelude.{◌≡◌, ⊤, ℕ, List, [], ◌∷◌, ◌++◌
 use Rattle.std.specs.Vec.Iter.{into_iter_items}
 use Rattle.std.specs.declared.string.String.{String}
 use Rattle.std.specs.declared.vec.IntoIter.{IntoIter}
-use Rattle.fd_outside.specs.Answers.{Answer, content}
-use Rattle.fd_outside.specs.Files.{Files, held}
+use Rattle.fd_picture.specs.fd_outside.Answers.{Answer, content}
+use Rattle.fd_picture.specs.fd_outside.Files.{Files, held}
 use Rattle.fd_picture.specs.Drafts.{ReportView}
 use Rattle.fd_picture.specs.Pages.{page_of}
 use Rattle.fd_picture.specs.Reading.{report_of}

@@ -1,14 +1,13 @@
 // From a file to its picture.
 ghost use Rattle.std.specs.Prelude.{◌≡◌, ◌++◌, ◌∷◌, [], Some, IfErr, IfOk, IfSome, OnOk, drop};
-ghost use Rattle.fd_outside.specs.Answers.{content};
-ghost use Rattle.fd_outside.specs.Files.{Files, held};
+ghost use Rattle.fd_picture.specs.fd_outside.Answers.{content};
+ghost use Rattle.fd_picture.specs.fd_outside.Files.{Files, held};
 ghost use Rattle.feeder_picture.specs.Drawing.{IsOfFile, IsPageOf, LeavesSink, NamesLine, OfOnlyWord, RefusesFile, RefusesWord, TakesPicture, given};
 ghost use Rattle.feeder_picture.specs.declared.fault.PictureFault.TheVariants as fault;
 ghost use Rattle.std.specs.Vec.Iter.{into_iter_items};
 
 use crate::fault::PictureFault;
-use fd_outside::{Found, LibFault, Library, Sink};
-use fd_picture::{ReportFault, draw, read_report};
+use fd_picture::{Found, LibFault, Library, ReportFault, Sink, draw, read_report};
 use std::alloc::Global;
 use std::env::Args;
 use std::io;

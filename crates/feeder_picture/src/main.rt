@@ -12,7 +12,7 @@ mod drawing;
 mod fault;
 
 use drawing::draw_words;
-use fd_outside::{FolderLibrary, StdSink};
+use fd_picture::{FolderLibrary, StdSink};
 use std::env;
 use std::process::ExitCode;
 

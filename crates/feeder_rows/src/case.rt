@@ -1,6 +1,5 @@
 // A case, and how it is run.
-use fd_app::run;
-use fd_outside::{Bytes, FileEntry, MemLibrary, MemSink};
+use fd_app::{Bytes, FileEntry, MemLibrary, MemSink, run};
 use std::alloc::{AllocError, Global};
 use std::fmt;
 use std::fmt::{Display, Formatter};

@@ -1,6 +1,6 @@
 use Rattle.std.proofs.Common.{◌≡◌, ◌∙◌, IfSome, Some, ap, sym, subst}
-use Rattle.dss_model.specs.InRange.{ElementInRange}
-use Rattle.dss_model.specs.Element.{class_of}
+use Rattle.dss_circuit.specs.dss_model.InRange.{ElementInRange}
+use Rattle.dss_circuit.specs.dss_model.Element.{class_of}
 use Rattle.dss_circuit.specs.WellFormed.{NamesAreThere}
 use Rattle.dss_circuit.proofs.CallerLemmas.{found_begun, found_class, of_found}
 use Rattle.dss_commands.proofs.Steps.{found_in}

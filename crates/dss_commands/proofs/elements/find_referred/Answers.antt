@@ -1,5 +1,5 @@
 use Rattle.std.proofs.Common.{IfSome, sym, subst}
-use Rattle.dss_model.specs.InRange.{ElementInRange}
+use Rattle.dss_circuit.specs.dss_model.InRange.{ElementInRange}
 use Rattle.dss_circuit.proofs.CallerLemmas.{of_found}
 use Rattle.dss_commands.proofs.elements.find_referred.Goals as goal
 

@@ -1,6 +1,6 @@
 use Rattle.std.proofs.Common.{◌∙◌, ap, sym, subst}
-use Rattle.dss_model.specs.Element.{class_of}
-use Rattle.dss_model.proofs.CallerLemmas.{fresh_class}
+use Rattle.dss_circuit.specs.dss_model.Element.{class_of}
+use Rattle.dss_circuit.proofs.CallerLemmas.dss_model.{fresh_class}
 use Rattle.dss_circuit.specs.WellFormed.{NamesAreThere}
 use Rattle.dss_commands.proofs.Named.{fresh_names}
 use Rattle.dss_commands.proofs.elements.make_element.Goals as goal

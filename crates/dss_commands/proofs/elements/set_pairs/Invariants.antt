@@ -1,5 +1,5 @@
 use Rattle.std.proofs.Common.{◌≡◌, drop}
-use Rattle.dss_model.specs.InRange.{ElementInRange}
+use Rattle.dss_circuit.specs.dss_model.InRange.{ElementInRange}
 use Rattle.dss_commands.specs.Commands.{with_pairs}
 use Rattle.dss_commands.proofs.elements.set_pairs.Given as goal
 

@@ -1,4 +1,4 @@
-use Rattle.dss_model.specs.InRange.{ElementInRange}
+use Rattle.dss_values.specs.dss_model.InRange.{ElementInRange}
 use Rattle.dss_profile.proofs.ElementRanges.{becomes_made, draft_in_range, named_in_range}
 use Rattle.dss_profile.proofs.element.set_pair.Goals as goal
 

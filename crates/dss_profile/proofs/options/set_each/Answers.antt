@@ -1,7 +1,7 @@
 use Rattle.std.proofs.Common.{◌≡◌, Ok, sym, ◌∙◌, arith}
 use Rattle.std.proofs.lemmas.List.{at_drop_all}
 use Rattle.std.proofs.lemmas.Result.{IfOk-at_ok}
-use Rattle.dss_model.specs.InRange.{OptionsInRange}
+use Rattle.dss_values.specs.dss_model.InRange.{OptionsInRange}
 use Rattle.dss_profile.specs.Options.{with_options}
 use Rattle.dss_profile.proofs.ElementRanges.{options_in_range}
 use Rattle.dss_profile.proofs.options.set_each.Goals as goal

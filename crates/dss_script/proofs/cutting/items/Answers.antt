@@ -1,7 +1,7 @@
 use Rattle.std.proofs.Common.{◌≡◌, ◌∙◌, suc, ◌+◌, ◌-◌, ap, sym, length, arith, false, true}
 use Rattle.std.proofs.lemmas.Result.{err_from_is_err_and}
 use Rattle.dss_script.specs.Cutting.{items_of, item_at, ends_line, skip_separators}
-use Rattle.dss_lexer.proofs.CallerLemmas.{after, after-nil, fails_further}
+use Rattle.dss_model.proofs.CallerLemmas.dss_lexer.{after, after-nil, fails_further}
 use Rattle.dss_script.proofs.Words.{items_none, items_end, items_more, items_fault}
 use Rattle.dss_script.proofs.cutting.items.Goals as goal
 

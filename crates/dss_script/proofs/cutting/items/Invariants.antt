@@ -1,6 +1,6 @@
 use Rattle.std.proofs.Common.{◌≡◌, ◌-◌, length}
 use Rattle.dss_script.specs.Cutting.{items_of}
-use Rattle.dss_lexer.proofs.CallerLemmas.{after}
+use Rattle.dss_model.proofs.CallerLemmas.dss_lexer.{after}
 use Rattle.dss_script.proofs.cutting.items.Given as goal
 
 abbrev pub invariant-loop : goal.invariant-loop

@@ -1,6 +1,6 @@
 use Rattle.std.proofs.Common.{◌≡◌, [], List, ℕ, Ok, Err, Result, arith, rules, subst, sym}
 use Rattle.std.proofs.lemmas.List.{nil_from_length}
-use Rattle.dss_lexer.specs.declared.pair.Pair.{Pair}
+use Rattle.dss_model.specs.dss_lexer.declared.pair.Pair.{Pair}
 use Rattle.fd_outside.specs.Answers.{names_asked}
 use Rattle.fd_outside.proofs.CallerLemmas.{agrees_before, agrees_behind, later_then}
 use Rattle.dss_script.specs.declared.fault.SessionFault.{SessionFault}

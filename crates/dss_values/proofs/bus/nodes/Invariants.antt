@@ -1,7 +1,7 @@
 use Rattle.std.proofs.Common.{◌≡◌, map, drop}
 use Rattle.dss_model.specs.Answers.{each}
 use Rattle.dss_values.specs.Forms.{node_of}
-use Rattle.dss_lexer.proofs.CallerLemmas.{after}
+use Rattle.dss_model.proofs.CallerLemmas.dss_lexer.{after}
 use Rattle.dss_values.proofs.bus.nodes.Given as goal
 
 abbrev pub invariant-loop-part : goal.invariant-loop-part

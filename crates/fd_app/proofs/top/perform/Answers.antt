@@ -1,10 +1,10 @@
 use Rattle.std.proofs.Common.{◌≡◌, ◌∙◌, ◌⊎◌, ℕ, true, None, Some, inl, inr, sym, ap, map, string_bytes, arith}
 use Rattle.std.specs.Option.{option_map}
-use Rattle.fd_report.specs.declared.faults.Fault.TheVariants as fault
-use Rattle.fd_outside.proofs.CallerLemmas.{later_same}
-use Rattle.fd_outcome.specs.Calls.{report}
-use Rattle.fd_outcome.specs.Untold.{CutsShort}
-use Rattle.fd_outcome.proofs.CallerLemmas.{fault_alone, fault_answers, fault_code, untold_last}
+use Rattle.fd_checking.specs.fd_report.declared.faults.Fault.TheVariants as fault
+use Rattle.fd_bench.proofs.CallerLemmas.fd_outside.{later_same}
+use Rattle.fd_checking.specs.fd_outcome.Calls.{report}
+use Rattle.fd_checking.specs.fd_outcome.Untold.{CutsShort}
+use Rattle.fd_checking.proofs.CallerLemmas.fd_outcome.{fault_alone, fault_answers, fault_code, untold_last}
 use Rattle.fd_bench.specs.Bench.{IsBenchHistory, lines_alone, script_written}
 use Rattle.fd_bench.proofs.CallerLemmas.{alone_runs, printed_alone}
 use Rattle.fd_words.specs.declared.words.Form.{Form as Words}

@@ -1,8 +1,8 @@
 use Rattle.std.proofs.Common.{◌∙◌, pos, ap, sym}
 use Rattle.std.proofs.lemmas.List.Elements.{All-rest}
-use Rattle.fd_exact.specs.Ranges.{IsBetween}
-use Rattle.dss_model.specs.Ranges.{ones}
-use Rattle.dss_model.specs.declared.options.Options.{Options}
+use Rattle.dss_layout.specs.fd_exact.Ranges.{IsBetween}
+use Rattle.dss_layout.specs.dss_model.Ranges.{ones}
+use Rattle.dss_layout.specs.dss_model.declared.options.Options.{Options}
 use Rattle.fd_bases.proofs.bus_base.bases.Goals as goal
 
 pub based-requires-clause-others_in_range : goal.based-requires-clause-others_in_range

@@ -1,8 +1,8 @@
 use Rattle.std.proofs.Common.{◌∷◌, ℤ, pos, get_or, FitsSigned, arith, refl}
 use Rattle.std.proofs.lemmas.Int.{ints, to_z-of_z, fits_signed_from_abs}
 use Rattle.std.specs.Int.{w128}
-use Rattle.fd_exact.specs.Ranges.{IsBetween}
-use Rattle.dss_model.specs.Ranges.{ones}
+use Rattle.dss_layout.specs.fd_exact.Ranges.{IsBetween}
+use Rattle.dss_layout.specs.dss_model.Ranges.{ones}
 use Rattle.fd_bases.proofs.Chosen.{either, next_best, last_best}
 use Rattle.fd_bases.proofs.nearest.nearest.Goals as goal
 

@@ -1,6 +1,6 @@
 use Rattle.std.proofs.Common.{ℤ, pos, ◌∷◌, drop}
-use Rattle.fd_exact.specs.Ranges.{IsBetween}
-use Rattle.dss_model.specs.Ranges.{ones}
+use Rattle.dss_layout.specs.fd_exact.Ranges.{IsBetween}
+use Rattle.dss_layout.specs.dss_model.Ranges.{ones}
 use Rattle.fd_bases.proofs.Chosen.{IsChosen}
 use Rattle.fd_bases.proofs.nearest.nearest.Given as goal
 

@@ -1,6 +1,6 @@
 use Rattle.std.proofs.Common.{◌∙◌, ap, sym}
 use Rattle.indexmap.specs.IndexMap.{insert_entry}
-use Rattle.dss_lexer.specs.Texts.{text_eq}
+use Rattle.dss_layout.specs.dss_lexer.Texts.{text_eq}
 use Rattle.fd_bases.proofs.Walking.{reach_new}
 use Rattle.fd_bases.proofs.walk.reach.Goals as goal
 

@@ -1,10 +1,10 @@
 use Rattle.std.proofs.Common.{◌∙◌, Some, ap}
 use Rattle.std.specs.FinMap.{from_entries}
-use Rattle.fd_outside.specs.Files.{held}
-use Rattle.dss_model.specs.Names.{bytes}
-use Rattle.dss_script.specs.Said.{end_in, said_in}
-use Rattle.dss_script.specs.Sessions.{remaining}
-use Rattle.fd_outcome.specs.History.{IsFrom}
+use Rattle.fd_gen.specs.fd_outside.Files.{held}
+use Rattle.fd_solving.specs.dss_model.Names.{bytes}
+use Rattle.fd_solving.specs.dss_script.Said.{end_in, said_in}
+use Rattle.fd_solving.specs.dss_script.Sessions.{remaining}
+use Rattle.fd_solving.specs.fd_outcome.History.{IsFrom}
 use Rattle.fd_bench.specs.Bench.{feeder_files}
 use Rattle.fd_bench.specs.Benching.{IsBenchLast, IsBenchStep, no_bench_name}
 use Rattle.fd_bench.proofs.Alone.{agrees_held}

@@ -1,6 +1,6 @@
 use Rattle.std.proofs.Common.{◌≡◌, ◌++◌, drop}
 use Rattle.std.specs.List.{concat}
-use Rattle.fd_outside.specs.Emitted.{pieces_of}
+use Rattle.fd_gen.specs.fd_outside.Emitted.{pieces_of}
 use Rattle.fd_bench.proofs.feeder.joined.Given as goal
 
 -- the bytes so far, and those of the records that are left

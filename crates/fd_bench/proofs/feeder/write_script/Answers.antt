@@ -1,7 +1,7 @@
 use Rattle.std.proofs.Common.{◌∙◌, true, None, map, ap, sym}
-use Rattle.fd_outside.specs.Emitted.{pieces_of}
-use Rattle.fd_outcome.specs.Calls.{writes}
-use Rattle.fd_outcome.proofs.CallerLemmas.{cut_before}
+use Rattle.fd_gen.specs.fd_outside.Emitted.{pieces_of}
+use Rattle.fd_solving.specs.fd_outcome.Calls.{writes}
+use Rattle.fd_solving.proofs.CallerLemmas.fd_outcome.{cut_before}
 use Rattle.fd_solving.proofs.CallerLemmas.{printed_as, printed_cut}
 use Rattle.fd_bench.proofs.Alone.{no_script, script_calls, some_line}
 use Rattle.fd_bench.proofs.feeder.write_script.Goals as goal

@@ -1,6 +1,6 @@
 use Rattle.std.proofs.Common.{◌*◌, ◌≤◌, ◌^◌, arith}
 use Rattle.std.proofs.lemmas.Int.{ints}
-use Rattle.fd_exact.specs.Quotients.{ceil_nat_least}
+use Rattle.fd_system.specs.fd_exact.Quotients.{ceil_nat_least}
 use Rattle.fd_cap.proofs.Bounds.{draw_room, phases_some}
 use Rattle.fd_cap.proofs.draw.phase_draw.Goals as goal
 

@@ -1,5 +1,5 @@
 use Rattle.std.proofs.Common.{◌∙◌, sym}
-use Rattle.fd_exact.specs.States.{part}
+use Rattle.fd_enclosure.specs.fd_exact.States.{part}
 use Rattle.fd_cert.proofs.RowBounds.{no_product}
 use Rattle.fd_cert.proofs.Units.{when_none, when_some}
 use Rattle.fd_cert.proofs.bounds.bound.Goals as goal

@@ -1,7 +1,7 @@
 use Rattle.std.proofs.Common.{◌≡◌, ◌∙◌, ◌<◌, ◌≤◌, ◌^◌, ◌+◌, ◌-ℤ◌, pos, nat_abs, length, arith, ap, sym, subst}
 use Rattle.std.proofs.lemmas.Int.{ints}
 use Rattle.std.proofs.lemmas.List.{length-set}
-use Rattle.fd_exact.specs.States.{part}
+use Rattle.fd_enclosure.specs.fd_exact.States.{part}
 use Rattle.fd_cert.specs.Totals.{IsTotal, left_total, sizes_total, weighted_total}
 use Rattle.fd_cert.proofs.RowBounds.{bound_is}
 use Rattle.fd_cert.proofs.RowTotals.{left_is_weighted}

@@ -1,6 +1,6 @@
 use Rattle.std.proofs.Common.{◌≡◌, ◌∙◌, ℕ, ◌++◌, ◌∷◌, [], length, ap, sym, rules}
-use Rattle.fd_exact.specs.States.{entry, part}
-use Rattle.fd_equations.proofs.CallerLemmas.{list_of-more, rewritten}
+use Rattle.fd_enclosure.specs.fd_exact.States.{entry, part}
+use Rattle.fd_enclosure.proofs.CallerLemmas.fd_equations.{list_of-more, rewritten}
 use Rattle.fd_enclosure.specs.Bounds.{bound_at}
 use Rattle.fd_cert.proofs.RowBounds.{bound_row}
 use Rattle.fd_cert.proofs.bounds.bounds.Goals as goal

@@ -1,5 +1,5 @@
 use Rattle.std.proofs.Common.{◌*◌, ◌^◌, nat_abs, ap, sym, subst}
-use Rattle.fd_arith.specs.Wide.{wide_quotient}
+use Rattle.fd_enclosure.specs.fd_arith.Wide.{wide_quotient}
 use Rattle.fd_cert.specs.Totals.{IsTotal}
 use Rattle.fd_cert.proofs.RowTotals.{past_none}
 use Rattle.fd_cert.proofs.bounds.over_weight.Goals as goal

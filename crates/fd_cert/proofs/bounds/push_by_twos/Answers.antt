@@ -1,7 +1,7 @@
 use Rattle.std.proofs.Common.{◌≡◌, ◌∙◌, ◌+◌, ◌*◌, ◌++◌, ◌∷◌, [], length, arith, ap, sym, rules}
-use Rattle.fd_exact.specs.States.{entry, part}
-use Rattle.fd_equations.proofs.CallerLemmas.{list_of-more, rewritten}
-use Rattle.fd_equations.specs.Rounded.{list_of}
+use Rattle.fd_enclosure.specs.fd_exact.States.{entry, part}
+use Rattle.fd_enclosure.proofs.CallerLemmas.fd_equations.{list_of-more, rewritten}
+use Rattle.fd_enclosure.specs.fd_equations.Rounded.{list_of}
 use Rattle.fd_enclosure.specs.Bounds.{bound_at}
 use Rattle.fd_cert.proofs.RowBounds.{bound_row}
 use Rattle.fd_cert.proofs.bounds.push_by_twos.Goals as goal

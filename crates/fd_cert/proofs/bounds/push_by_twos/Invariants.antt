@@ -1,6 +1,6 @@
 use Rattle.std.proofs.Common.{◌≡◌, ◌*◌, ℕ, ℤ, length}
-use Rattle.fd_exact.specs.States.{entry}
-use Rattle.fd_equations.specs.Rounded.{list_of}
+use Rattle.fd_enclosure.specs.fd_exact.States.{entry}
+use Rattle.fd_enclosure.specs.fd_equations.Rounded.{list_of}
 use Rattle.fd_enclosure.specs.Bounds.{bound_at}
 use Rattle.fd_cert.specs.Slopes.{HasSlopes}
 use Rattle.fd_cert.proofs.bounds.push_by_twos.Given as goal

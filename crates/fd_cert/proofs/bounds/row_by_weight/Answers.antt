@@ -1,10 +1,10 @@
 use Rattle.std.proofs.Common.{◌≡◌, ◌∙◌, ◌*◌, ◌+◌, ◌<◌, ◌^◌, nat_abs, arith, sym, subst, FitsSigned, rules}
 use Rattle.std.specs.Int.{w128}
 use Rattle.std.proofs.lemmas.Int.{to_z-of_z}
-use Rattle.fd_exact.specs.States.{part}
-use Rattle.fd_equations.specs.Amounts.{cell_at, empty}
-use Rattle.fd_equations.specs.declared.cells.Cell.{Cell}
-use Rattle.fd_equations.proofs.CallerLemmas.{list_n_more}
+use Rattle.fd_enclosure.specs.fd_exact.States.{part}
+use Rattle.fd_enclosure.specs.fd_equations.Amounts.{cell_at, empty}
+use Rattle.fd_enclosure.specs.fd_equations.declared.cells.Cell.{Cell}
+use Rattle.fd_enclosure.proofs.CallerLemmas.fd_equations.{list_n_more}
 use Rattle.fd_cert.proofs.RowTotals.{past_take}
 use Rattle.fd_cert.proofs.bounds.row_by_weight.Goals as goal
 

@@ -1,6 +1,6 @@
 use Rattle.std.proofs.Common.{◌≡◌, ◌*◌, ◌≤◌, ◌^◌, nat_abs, take}
-use Rattle.fd_exact.specs.States.{part}
-use Rattle.fd_exact.specs.Sums.{list_n}
+use Rattle.fd_enclosure.specs.fd_exact.States.{part}
+use Rattle.fd_enclosure.specs.fd_exact.Sums.{list_n}
 use Rattle.fd_cert.proofs.bounds.row_by_weight.Given as goal
 
 abbrev pub invariant-loop-cell : goal.invariant-loop-cell

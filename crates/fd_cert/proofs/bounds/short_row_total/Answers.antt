@@ -1,7 +1,7 @@
 use Rattle.std.proofs.Common.{◌≡◌, ◌∙◌, ◌*◌, ◌+◌, ℕ, nat_abs, arith, ap, sym, FitsSigned, rules}
 use Rattle.std.specs.Int.{w128}
 use Rattle.std.proofs.lemmas.Int.{to_z-of_z}
-use Rattle.fd_exact.specs.States.{part}
+use Rattle.fd_enclosure.specs.fd_exact.States.{part}
 use Rattle.fd_enclosure.specs.Sound.{number_at}
 use Rattle.fd_cert.specs.Totals.{short_total, sizes_total}
 use Rattle.fd_cert.proofs.RowTotals.{front_more}

@@ -1,7 +1,7 @@
 use Rattle.std.proofs.Common.{◌≡◌, ◌∙◌, ◌*◌, ◌+◌, ◌<◌, ◌^◌, ℕ, nat_abs, length, arith, ap, sym, subst, FitsSigned, rules}
 use Rattle.std.specs.Int.{w128}
 use Rattle.std.proofs.lemmas.Int.{to_z-of_z}
-use Rattle.fd_exact.specs.States.{part}
+use Rattle.fd_enclosure.specs.fd_exact.States.{part}
 use Rattle.fd_cert.specs.Totals.{weighted_total}
 use Rattle.fd_cert.proofs.RowTotals.{front_more, past_sum}
 use Rattle.fd_cert.proofs.bounds.sizes_by_weight.Goals as goal

@@ -1,6 +1,6 @@
 use Rattle.std.proofs.Common.{◌≡◌, ◌<◌, ◌+◌, ◌*◌, ◌^◌, nat_abs, length, IfSome, arith, ap, rules, subst, sym}
-use Rattle.fd_exact.specs.States.{part}
-use Rattle.fd_exact.specs.SumLaws.{sum_n-same}
+use Rattle.fd_enclosure.specs.fd_exact.States.{part}
+use Rattle.fd_enclosure.specs.fd_exact.SumLaws.{sum_n-same}
 use Rattle.fd_enclosure.specs.Sound.{number_at}
 use Rattle.fd_cert.specs.Parts.{AreParts, high_sum}
 use Rattle.fd_cert.specs.Totals.{AreShortWeights, short_total, sizes_total, weighted_total}

@@ -1,9 +1,9 @@
 use Rattle.std.proofs.Common.{◌≡◌, ◌∙◌, ◌++◌, ◌∷◌, [], nat_abs, sym, FitsSigned, rules}
 use Rattle.std.specs.Int.{w128}
 use Rattle.std.proofs.lemmas.Int.{to_z-of_z}
-use Rattle.fd_exact.specs.States.{part}
-use Rattle.fd_pattern.specs.Views.{kind_of}
-use Rattle.fd_equations.proofs.CallerLemmas.{list_of-more}
+use Rattle.fd_enclosure.specs.fd_exact.States.{part}
+use Rattle.fd_enclosure.specs.fd_pattern.Views.{kind_of}
+use Rattle.fd_enclosure.proofs.CallerLemmas.fd_equations.{list_of-more}
 use Rattle.fd_enclosure.specs.Boxes.{half_width_by}
 use Rattle.fd_cert.proofs.boxes.boxes.Goals as goal
 

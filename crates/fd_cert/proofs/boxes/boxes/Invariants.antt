@@ -1,7 +1,7 @@
 use Rattle.std.proofs.Common.{◌≡◌, nat_abs}
-use Rattle.fd_exact.specs.States.{part}
-use Rattle.fd_equations.specs.Rounded.{list_of}
-use Rattle.fd_pattern.specs.Views.{kind_of}
+use Rattle.fd_enclosure.specs.fd_exact.States.{part}
+use Rattle.fd_enclosure.specs.fd_equations.Rounded.{list_of}
+use Rattle.fd_enclosure.specs.fd_pattern.Views.{kind_of}
 use Rattle.fd_enclosure.specs.Boxes.{half_width_by}
 use Rattle.fd_cert.proofs.boxes.boxes.Given as goal
 

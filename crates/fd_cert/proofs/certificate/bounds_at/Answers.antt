@@ -1,9 +1,9 @@
 use Rattle.std.proofs.Common.{◌∙◌, ◌≤◌, ◌^◌, ap, sym, subst}
 use Rattle.std.proofs.lemmas.Result.{IfOk-weaker}
-use Rattle.fd_exact.specs.States.{entry}
-use Rattle.fd_equations.specs.Matrices.{MatrixView}
-use Rattle.fd_equations.specs.Rounded.{jacobian_entry, list_of}
-use Rattle.fd_equations.specs.Weights.{weight_at}
+use Rattle.fd_enclosure.specs.fd_exact.States.{entry}
+use Rattle.fd_enclosure.specs.fd_equations.Matrices.{MatrixView}
+use Rattle.fd_enclosure.specs.fd_equations.Rounded.{jacobian_entry, list_of}
+use Rattle.fd_enclosure.specs.fd_equations.Weights.{weight_at}
 use Rattle.fd_enclosure.specs.Bounds.{bound_at}
 use Rattle.fd_enclosure.specs.Radii.{slope_radius}
 use Rattle.fd_cert.specs.Columns.{AreWeights, HasWeights}

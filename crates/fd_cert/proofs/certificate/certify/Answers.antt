@@ -1,8 +1,8 @@
 use Rattle.std.proofs.Common.{◌≡◌, ◌∙◌, ◌<◌, length, replicate, ap, sym, subst, rules}
 use Rattle.std.proofs.lemmas.List.{get_or_read}
-use Rattle.fd_exact.specs.States.{entry}
-use Rattle.fd_equations.specs.Rounded.{jacobian_entry}
-use Rattle.fd_equations.specs.Weights.{weight_at}
+use Rattle.fd_enclosure.specs.fd_exact.States.{entry}
+use Rattle.fd_enclosure.specs.fd_equations.Rounded.{jacobian_entry}
+use Rattle.fd_enclosure.specs.fd_equations.Weights.{weight_at}
 use Rattle.fd_enclosure.specs.Boxes.{boxes_of}
 use Rattle.fd_enclosure.specs.Radii.{slope_radius}
 use Rattle.fd_enclosure.specs.Sound.{mismatch_at, mismatches_of, number_at}

@@ -1,8 +1,8 @@
 use Rattle.std.proofs.Common.{◌≡◌, ◌∙◌, ℕ, ℤ, ◌<◌, ◌^◌, ◌≤ℤ◌, List, pos, length, ap, sym, subst}
-use Rattle.fd_exact.specs.States.{entry, part}
-use Rattle.fd_equations.specs.Rounded.{jacobian_entry, list_of}
-use Rattle.fd_equations.specs.Weights.{weight_at}
-use Rattle.fd_equations.proofs.CallerLemmas.{length-list_of}
+use Rattle.fd_enclosure.specs.fd_exact.States.{entry, part}
+use Rattle.fd_enclosure.specs.fd_equations.Rounded.{jacobian_entry, list_of}
+use Rattle.fd_enclosure.specs.fd_equations.Weights.{weight_at}
+use Rattle.fd_enclosure.proofs.CallerLemmas.fd_equations.{length-list_of}
 use Rattle.fd_enclosure.specs.Bounds.{bound_at}
 use Rattle.fd_enclosure.specs.Radii.{slope_radius}
 use Rattle.fd_cert.specs.Columns.{AreWeights, HasNumbers, HasWeights}

@@ -1,8 +1,8 @@
 use Rattle.std.proofs.Common.{◌∙◌, ℕ, ◌<◌, List, length, arith, ap, sym, subst}
 use Rattle.std.specs.List.{All}
-use Rattle.fd_equations.specs.Matrices.{matrix_with}
-use Rattle.fd_pattern.specs.Patterns.{PatternView, key}
-use Rattle.fd_pattern.specs.Terminals.{IsConnected}
+use Rattle.fd_enclosure.specs.fd_equations.Matrices.{matrix_with}
+use Rattle.fd_enclosure.specs.fd_pattern.Patterns.{PatternView, key}
+use Rattle.fd_enclosure.specs.fd_pattern.Terminals.{IsConnected}
 use Rattle.fd_enclosure.specs.Sound.{number_at}
 use Rattle.fd_cert.specs.Places.{AreRadiusCells, loads_radius}
 use Rattle.fd_cert.proofs.SlopeRadii.{boxes_at, have_widths, loads_connected, radii_made}

@@ -1,10 +1,10 @@
 use Rattle.std.proofs.Common.{◌≡◌, ◌∙◌, ◌<◌, ◌^◌, nat_abs, nat_lt, length, None, arith, ap, sym, subst, FitsSigned, rules}
 use Rattle.std.specs.Int.{w128}
 use Rattle.std.proofs.lemmas.Int.{to_z-of_z}
-use Rattle.fd_exact.specs.First.{first_place}
+use Rattle.fd_enclosure.specs.fd_exact.First.{first_place}
 use Rattle.fd_enclosure.specs.Sound.{number_at}
-use Rattle.fd_exact.specs.States.{entry, part}
-use Rattle.fd_equations.proofs.CallerLemmas.{length-list_of}
+use Rattle.fd_enclosure.specs.fd_exact.States.{entry, part}
+use Rattle.fd_enclosure.proofs.CallerLemmas.fd_equations.{length-list_of}
 use Rattle.fd_cert.specs.Reaches.{bound_in, named_bound, radius_of}
 use Rattle.fd_cert.proofs.Units.{none_of}
 use Rattle.fd_cert.proofs.Verdict.{are_within, bound_below, product_at, refused, too_wide}

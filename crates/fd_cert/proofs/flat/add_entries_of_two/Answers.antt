@@ -2,7 +2,7 @@ use Rattle.std.proofs.Common.{◌≡◌, ◌<◌, ◌*ℤ◌, length, get_or, ar
 use Rattle.std.specs.Int.{w64, w128}
 use Rattle.std.proofs.lemmas.Int.{to_z-of_z}
 use Rattle.std.proofs.lemmas.List.Elements.{All-get_or}
-use Rattle.fd_exact.specs.States.{part}
+use Rattle.fd_enclosure.specs.fd_exact.States.{part}
 use Rattle.fd_cert.specs.Entries.{IsShort}
 use Rattle.fd_cert.proofs.FlatSums.{added_all, added_more, no_entry, product_small, sum_room, sum_value}
 use Rattle.fd_cert.proofs.flat.add_entries_of_two.Goals as goal

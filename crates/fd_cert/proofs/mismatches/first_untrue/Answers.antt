@@ -1,5 +1,5 @@
 use Rattle.std.proofs.Common.{length, sym, arith, ◌∙◌}
-use Rattle.fd_exact.specs.FirstLaws.{first_none, first_some}
+use Rattle.fd_enclosure.specs.fd_exact.FirstLaws.{first_none, first_some}
 use Rattle.fd_enclosure.specs.Sound.{number_at}
 use Rattle.fd_cert.specs.Rechecks.{is_untrue}
 use Rattle.fd_cert.proofs.mismatches.first_untrue.Goals as goal

@@ -2,8 +2,8 @@ use Rattle.std.proofs.Common.{◌≡◌, ◌∙◌, ◌+◌, ◌*◌, nat_abs, l
 use Rattle.std.specs.Int.{w128}
 use Rattle.std.proofs.lemmas.Int.{to_z-of_z}
 use Rattle.std.proofs.lemmas.List.Elements.{All-get_or}
-use Rattle.fd_exact.specs.States.{part}
-use Rattle.fd_equations.proofs.CallerLemmas.{list_n_more}
+use Rattle.fd_enclosure.specs.fd_exact.States.{part}
+use Rattle.fd_enclosure.proofs.CallerLemmas.fd_equations.{list_n_more}
 use Rattle.fd_cert.specs.Parts.{IsHigh}
 use Rattle.fd_cert.proofs.PartSums.{no_high}
 use Rattle.fd_cert.proofs.parted.high_total.Goals as goal

@@ -1,5 +1,5 @@
 use Rattle.std.proofs.Common.{◌≡◌, ◌*◌, ◌≤◌, ◌^◌, nat_abs, take}
-use Rattle.fd_exact.specs.States.{part}
+use Rattle.fd_enclosure.specs.fd_exact.States.{part}
 use Rattle.fd_cert.specs.Parts.{high_sum}
 use Rattle.fd_cert.proofs.parted.high_total.Given as goal
 

@@ -1,5 +1,5 @@
 use Rattle.std.proofs.Common.{arith}
-use Rattle.fd_equations.proofs.CallerLemmas.{no_load}
+use Rattle.fd_enclosure.proofs.CallerLemmas.fd_equations.{no_load}
 use Rattle.fd_enclosure.specs.Sound.{number_at}
 use Rattle.fd_cert.proofs.Raising.{loads_raised, next_load, none_yet, room_yet}
 use Rattle.fd_cert.proofs.radii.add_loads.Goals as goal

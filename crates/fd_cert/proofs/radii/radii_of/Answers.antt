@@ -1,5 +1,5 @@
 use Rattle.std.proofs.Common.{◌∙◌, ◌+◌, arith}
-use Rattle.fd_slope.specs.Radii.{radii_of}
+use Rattle.fd_enclosure.specs.fd_slope.Radii.{radii_of}
 use Rattle.fd_cert.proofs.Units.{kept_by}
 use Rattle.fd_cert.proofs.radii.radii_of.Goals as goal
 

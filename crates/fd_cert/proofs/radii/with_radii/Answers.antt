@@ -1,6 +1,6 @@
 use Rattle.std.proofs.Common.{◌≡◌, ◌∙◌, ◌<◌, ◌++◌, ◌∷◌, [], length, arith, ap, sym, subst}
-use Rattle.fd_equations.specs.Amounts.{cell_at, empty}
-use Rattle.fd_equations.proofs.CallerLemmas.{get_or-list_of, length-list_of, list_of-more}
+use Rattle.fd_enclosure.specs.fd_equations.Amounts.{cell_at, empty}
+use Rattle.fd_enclosure.proofs.CallerLemmas.fd_equations.{get_or-list_of, length-list_of, list_of-more}
 use Rattle.fd_enclosure.specs.Sound.{number_at}
 use Rattle.fd_cert.specs.Places.{radius_cell}
 use Rattle.fd_cert.proofs.radii.with_radii.Goals as goal

@@ -1,6 +1,6 @@
 use Rattle.std.proofs.Common.{◌≡◌}
-use Rattle.fd_equations.specs.Amounts.{cell_at}
-use Rattle.fd_equations.specs.Rounded.{list_of}
+use Rattle.fd_enclosure.specs.fd_equations.Amounts.{cell_at}
+use Rattle.fd_enclosure.specs.fd_equations.Rounded.{list_of}
 use Rattle.fd_enclosure.specs.Sound.{number_at}
 use Rattle.fd_cert.specs.Places.{radius_cell}
 use Rattle.fd_cert.proofs.radii.with_radii.Given as goal

@@ -1,8 +1,8 @@
 use Rattle.std.proofs.Common.{◌≡◌, ℕ, ℤ, List, length, sym, arith, ◌∙◌, ap, FitsSigned, rules}
 use Rattle.std.specs.Int.{w128}
 use Rattle.std.proofs.lemmas.Int.{to_z-of_z}
-use Rattle.fd_exact.specs.FirstLaws.{first_none, first_some}
-use Rattle.fd_exact.specs.States.{part}
+use Rattle.fd_enclosure.specs.fd_exact.FirstLaws.{first_none, first_some}
+use Rattle.fd_enclosure.specs.fd_exact.States.{part}
 use Rattle.fd_enclosure.specs.Sound.{number_at}
 use Rattle.fd_cert.specs.Rechecks.{is_out_of_range, is_past_range}
 use Rattle.fd_cert.proofs.range.first_out_of_range.Goals as goal

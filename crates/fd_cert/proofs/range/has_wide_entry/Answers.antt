@@ -1,8 +1,8 @@
 use Rattle.std.proofs.Common.{◌≡◌, ◌<◌, ◌^◌, nat_abs, nat_lt, is_some, length, sym, ap, subst, arith, FitsSigned, rules}
 use Rattle.std.specs.Int.{w128}
 use Rattle.std.proofs.lemmas.Int.{to_z-of_z}
-use Rattle.fd_exact.specs.FirstLaws.{first_none, found}
-use Rattle.fd_exact.specs.States.{part}
+use Rattle.fd_enclosure.specs.fd_exact.FirstLaws.{first_none, found}
+use Rattle.fd_enclosure.specs.fd_exact.States.{part}
 use Rattle.fd_cert.proofs.Verdict.{is_past, not_past}
 use Rattle.fd_cert.proofs.range.has_wide_entry.Goals as goal
 

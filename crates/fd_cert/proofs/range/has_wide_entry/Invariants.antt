@@ -1,5 +1,5 @@
 use Rattle.std.proofs.Common.{ℕ, ◌<◌, ◌≤◌, ◌^◌, nat_abs}
-use Rattle.fd_exact.specs.States.{part}
+use Rattle.fd_enclosure.specs.fd_exact.States.{part}
 use Rattle.fd_cert.proofs.range.has_wide_entry.Given as goal
 
 abbrev pub invariant-loop-col : goal.invariant-loop-col

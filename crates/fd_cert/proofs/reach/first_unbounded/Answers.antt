@@ -1,8 +1,8 @@
 use Rattle.std.proofs.Common.{◌≡◌, ◌∙◌, nat_abs, not, ap, length, below_more, sym, arith, FitsSigned, rules}
 use Rattle.std.specs.Int.{w128}
 use Rattle.std.proofs.lemmas.Int.{to_z-of_z}
-use Rattle.fd_exact.specs.FirstLaws.{first_none, first_some}
-use Rattle.fd_exact.specs.States.{part}
+use Rattle.fd_enclosure.specs.fd_exact.FirstLaws.{first_none, first_some}
+use Rattle.fd_enclosure.specs.fd_exact.States.{part}
 use Rattle.fd_cert.specs.Reaches.{bound_in, is_unbounded}
 use Rattle.fd_cert.proofs.Verdict.{tested_is}
 use Rattle.fd_cert.proofs.reach.first_unbounded.Goals as goal

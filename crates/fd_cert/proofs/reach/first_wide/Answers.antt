@@ -1,5 +1,5 @@
 use Rattle.std.proofs.Common.{◌^◌, nat_lt, length, sym, arith}
-use Rattle.fd_exact.specs.FirstLaws.{first_none, first_some}
+use Rattle.fd_enclosure.specs.fd_exact.FirstLaws.{first_none, first_some}
 use Rattle.fd_enclosure.specs.Sound.{number_at}
 use Rattle.fd_cert.proofs.Verdict.{is_past, not_past}
 use Rattle.fd_cert.proofs.reach.first_wide.Goals as goal

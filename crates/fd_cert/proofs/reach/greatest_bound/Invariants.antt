@@ -1,5 +1,5 @@
 use Rattle.std.proofs.Common.{◌≡◌}
-use Rattle.fd_exact.specs.Greatest.{greatest}
+use Rattle.fd_enclosure.specs.fd_exact.Greatest.{greatest}
 use Rattle.fd_enclosure.specs.Bounds.{bound_size}
 use Rattle.fd_cert.specs.Reaches.{bound_in}
 use Rattle.fd_cert.proofs.reach.greatest_bound.Given as goal

@@ -1,8 +1,8 @@
 use Rattle.std.proofs.Common.{◌≡◌, ◌∙◌, ℕ, suc, ◌+◌, ◌<◌, max, nat_abs, length, arith, ap, FitsSigned, rules}
 use Rattle.std.specs.Int.{w128}
 use Rattle.std.proofs.lemmas.Int.{to_z-of_z}
-use Rattle.fd_exact.specs.Greatest.{greatest}
-use Rattle.fd_exact.specs.States.{entry, part}
+use Rattle.fd_enclosure.specs.fd_exact.Greatest.{greatest}
+use Rattle.fd_enclosure.specs.fd_exact.States.{entry, part}
 use Rattle.fd_cert.specs.Reaches.{reach_in}
 use Rattle.fd_cert.proofs.Verdict.{max_is, reach_is}
 use Rattle.fd_cert.proofs.reach.greatest_reach.Goals as goal

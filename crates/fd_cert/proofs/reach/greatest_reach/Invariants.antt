@@ -1,6 +1,6 @@
 use Rattle.std.proofs.Common.{◌≡◌, ℕ, length}
-use Rattle.fd_exact.specs.Greatest.{greatest}
-use Rattle.fd_exact.specs.States.{entry}
+use Rattle.fd_enclosure.specs.fd_exact.Greatest.{greatest}
+use Rattle.fd_enclosure.specs.fd_exact.States.{entry}
 use Rattle.fd_cert.specs.Columns.{HasNumbers, HasWeights}
 use Rattle.fd_cert.specs.Reaches.{reach_in}
 use Rattle.fd_cert.proofs.reach.greatest_reach.Given as goal

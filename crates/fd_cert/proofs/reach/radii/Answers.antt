@@ -1,8 +1,8 @@
 use Rattle.std.proofs.Common.{◌≡◌, ◌∙◌, ◌++◌, ◌∷◌, [], nat_abs, ap, sym, FitsSigned, rules}
 use Rattle.std.specs.Int.{w128}
 use Rattle.std.proofs.lemmas.Int.{to_z-of_z}
-use Rattle.fd_exact.specs.States.{part}
-use Rattle.fd_equations.proofs.CallerLemmas.{list_of-more}
+use Rattle.fd_enclosure.specs.fd_exact.States.{part}
+use Rattle.fd_enclosure.proofs.CallerLemmas.fd_equations.{list_of-more}
 use Rattle.fd_cert.specs.Reaches.{radius_of}
 use Rattle.fd_cert.proofs.reach.radii.Goals as goal
 

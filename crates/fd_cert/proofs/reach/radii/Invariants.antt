@@ -1,6 +1,6 @@
 use Rattle.std.proofs.Common.{◌≡◌, nat_abs}
-use Rattle.fd_exact.specs.States.{part}
-use Rattle.fd_equations.specs.Rounded.{list_of}
+use Rattle.fd_enclosure.specs.fd_exact.States.{part}
+use Rattle.fd_enclosure.specs.fd_equations.Rounded.{list_of}
 use Rattle.fd_cert.specs.Reaches.{radius_of}
 use Rattle.fd_cert.proofs.reach.radii.Given as goal
 

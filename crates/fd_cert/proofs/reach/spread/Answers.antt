@@ -1,9 +1,9 @@
 use Rattle.std.proofs.Common.{◌≡◌, ◌∙◌, ℕ, suc, ◌+◌, ◌*◌, nat_abs, length, arith, ap, sym, FitsSigned, rules}
 use Rattle.std.specs.Int.{w128}
 use Rattle.std.proofs.lemmas.Int.{to_z-of_z}
-use Rattle.fd_exact.specs.States.{part}
-use Rattle.fd_exact.specs.SumLaws.{sum_n-same, sum_n-times}
-use Rattle.fd_exact.specs.Sums.{sum_n}
+use Rattle.fd_enclosure.specs.fd_exact.States.{part}
+use Rattle.fd_enclosure.specs.fd_exact.SumLaws.{sum_n-same, sum_n-times}
+use Rattle.fd_enclosure.specs.fd_exact.Sums.{sum_n}
 use Rattle.fd_enclosure.specs.Sound.{number_at}
 use Rattle.fd_cert.proofs.reach.spread.Goals as goal
 

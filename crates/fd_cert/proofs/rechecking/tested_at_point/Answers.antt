@@ -1,7 +1,7 @@
 use Rattle.std.proofs.Common.{◌∙◌, ◌≤◌, ◌^◌, refl, sym, subst}
-use Rattle.fd_exact.specs.States.{entry}
-use Rattle.fd_equations.specs.Rounded.{jacobian_entry}
-use Rattle.fd_equations.specs.Weights.{weight_at}
+use Rattle.fd_enclosure.specs.fd_exact.States.{entry}
+use Rattle.fd_enclosure.specs.fd_equations.Rounded.{jacobian_entry}
+use Rattle.fd_enclosure.specs.fd_equations.Weights.{weight_at}
 use Rattle.fd_enclosure.specs.Radii.{slope_radius}
 use Rattle.fd_enclosure.specs.Sound.{number_at}
 use Rattle.fd_cert.specs.Verdicts.{IsWidths}

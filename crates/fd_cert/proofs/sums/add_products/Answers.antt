@@ -1,8 +1,8 @@
 use Rattle.std.proofs.Common.{◌≤◌, ◌^◌, nat_abs, None, Some, arith, sym, subst, FitsSigned, rules}
 use Rattle.std.specs.Int.{w128}
 use Rattle.std.proofs.lemmas.Int.{to_z-of_z}
-use Rattle.fd_exact.specs.States.{part}
-use Rattle.fd_equations.specs.Amounts.{cell_at}
+use Rattle.fd_enclosure.specs.fd_exact.States.{part}
+use Rattle.fd_enclosure.specs.fd_equations.Amounts.{cell_at}
 use Rattle.fd_cert.proofs.Units.{IsPartly, kept_by, partly_all, partly_more, partly_past, sum_read}
 use Rattle.fd_cert.proofs.sums.add_products.Goals as goal
 

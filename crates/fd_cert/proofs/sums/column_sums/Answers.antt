@@ -1,7 +1,7 @@
 use Rattle.std.proofs.Common.{◌∙◌, ◌<◌, arith, sym, subst, FitsSigned, rules}
 use Rattle.std.specs.Int.{w128}
 use Rattle.std.proofs.lemmas.Int.{to_z-of_z}
-use Rattle.fd_exact.specs.States.{part}
+use Rattle.fd_enclosure.specs.fd_exact.States.{part}
 use Rattle.fd_cert.specs.Columns.{AreColumns}
 use Rattle.fd_cert.proofs.Units.{row_columns, row_entries, summed_all, summed_more, summed_past, summed_start, weaker_some, when_none}
 use Rattle.fd_cert.proofs.sums.column_sums.Goals as goal

@@ -1,6 +1,6 @@
 use Rattle.std.proofs.Common.{◌∙◌, Some, ap, refl}
-use Rattle.fd_arith.specs.Limits.{within}
-use Rattle.fd_arith.specs.Wide.{wide_sum}
+use Rattle.fd_enclosure.specs.fd_arith.Limits.{within}
+use Rattle.fd_enclosure.specs.fd_arith.Wide.{wide_sum}
 use Rattle.fd_cert.proofs.Units.{product_read, product_size, sum_fits, sum_kept}
 use Rattle.fd_cert.proofs.sums.sum_more.Goals as goal
 

@@ -1,6 +1,6 @@
 use Rattle.std.proofs.Common.{◌≡◌, ◌++◌, drop}
 use Rattle.fd_certfile.specs.Texts.{fields_text}
-use Rattle.fd_certfile.proofs.Rows.{pairs_from}
+use Rattle.fd_certfile.proofs.RowForms.{pairs_from}
 use Rattle.fd_certfile.proofs.texts.push_entries.Given as goal
 
 -- the text so far and that of the entries that are left

@@ -1,4 +1,4 @@
-use Rattle.fd_cert.specs.Claims.{claim_in}
+use Rattle.fd_settle.specs.fd_cert.Claims.{claim_in}
 use Rattle.fd_outside.specs.Emitted.{pieces_of}
 use Rattle.fd_certfile.specs.Blocks.{part_line}
 use Rattle.fd_certfile.specs.Lines.{line_bytes}

@@ -1,7 +1,7 @@
 use Rattle.std.proofs.Common.{◌≡◌, ◌∙◌, ℕ, List, [], drop, length, map, refl, sym, ap, subst}
-use Rattle.dss_circuit.specs.Circuit.{CircuitView}
-use Rattle.fd_sample.specs.Probes.{positions_in}
-use Rattle.fd_settle.specs.declared.round.Round.{Round}
+use Rattle.dss_commands.specs.dss_circuit.Circuit.{CircuitView}
+use Rattle.fd_daily.specs.fd_sample.Probes.{positions_in}
+use Rattle.fd_daily.specs.fd_settle.declared.round.Round.{Round}
 use Rattle.fd_daily.specs.Day.{begun_hour, hour_in, hours_left, hours_done}
 use Rattle.fd_daily.specs.Underway.{plant_at}
 use Rattle.fd_certfile.specs.Reader.{ReaderView}

@@ -1,10 +1,10 @@
 use Rattle.std.proofs.Common.{[], ◌∷◌, List, sym, subst}
 use Rattle.std.specs.Prelude.{IfErr, OnOk}
-use Rattle.dss_circuit.specs.Circuit.{CircuitView}
+use Rattle.dss_commands.specs.dss_circuit.Circuit.{CircuitView}
 use Rattle.fd_daily.specs.Day.{no_openings}
 use Rattle.fd_daily.specs.Hours.{hours_of}
 use Rattle.fd_daily.specs.Underway.{start_from}
-use Rattle.fd_sample.specs.Probes.{positions_in}
+use Rattle.fd_daily.specs.fd_sample.Probes.{positions_in}
 use Rattle.fd_check.specs.Checking.{Checking, open_solves}
 use Rattle.fd_check.specs.Comes.{LeadsForAll, TellsForAll}
 use Rattle.fd_check.specs.Hours.{solves_open}

@@ -1,5 +1,5 @@
 use Rattle.std.proofs.Common.{[], List, sym, subst, IfErr, OnOk}
-use Rattle.dss_circuit.specs.Circuit.{CircuitView}
+use Rattle.dss_commands.specs.dss_circuit.Circuit.{CircuitView}
 use Rattle.fd_check.specs.Comes.{LeadsForAll, TellsForAll}
 use Rattle.fd_check.specs.Hours.{solves_open}
 use Rattle.fd_check.proofs.Commands.{solve_alone}

@@ -1,11 +1,11 @@
 use Rattle.std.proofs.Common.{◌∙◌, ◌+◌, List, ap, subst, sym, arith, drop, length}
 use Rattle.std.proofs.lemmas.List.{drop_all, length-append}
 use Rattle.std.proofs.lemmas.Result.{IfErr-weaker, IfOk-weaker}
-use Rattle.dss_circuit.specs.Circuit.{CircuitView, empty_circuit}
-use Rattle.dss_model.specs.declared.command.Command.{Command}
+use Rattle.dss_commands.specs.dss_circuit.Circuit.{CircuitView, empty_circuit}
+use Rattle.dss_commands.specs.dss_model.declared.command.Command.{Command}
 use Rattle.fd_daily.specs.Underway.{no_positions}
 use Rattle.fd_certfile.specs.Verdict.{accepted}
-use Rattle.fd_sample.specs.Probes.{positions_in}
+use Rattle.fd_daily.specs.fd_sample.Probes.{positions_in}
 use Rattle.fd_check.specs.Checking.{open_solves}
 use Rattle.fd_check.specs.Comes.{Comes, Leads, Tells}
 use Rattle.fd_check.specs.Commands.{AreAccepted, behind_one, solve_in, solves_in}

@@ -1,8 +1,8 @@
 use Rattle.std.proofs.Common.{◌+◌, ◌*◌, ◌≤◌, drop, length}
 use Rattle.std.specs.Prelude.{All}
-use Rattle.dss_circuit.specs.Circuit.{empty_circuit}
-use Rattle.fd_sample.specs.Probes.{positions_in}
-use Rattle.fd_xfmr.specs.Leakage.{AreTaps}
+use Rattle.dss_commands.specs.dss_circuit.Circuit.{empty_circuit}
+use Rattle.fd_daily.specs.fd_sample.Probes.{positions_in}
+use Rattle.fd_daily.specs.fd_xfmr.Leakage.{AreTaps}
 use Rattle.fd_daily.specs.Underway.{no_positions}
 use Rattle.fd_check.specs.Checking.{open_solves}
 use Rattle.fd_check.specs.Comes.{Leads}

@@ -1,8 +1,8 @@
 use Rattle.std.proofs.Common.{true}
 use Rattle.std.specs.Str.{chars}
-use Rattle.dss_script.specs.Sessions.{remaining}
-use Rattle.fd_outcome.specs.Calls.{report}
-use Rattle.fd_outcome.proofs.CallerLemmas.{untold_first}
+use Rattle.fd_solving.specs.dss_script.Sessions.{remaining}
+use Rattle.fd_solving.specs.fd_outcome.Calls.{report}
+use Rattle.fd_solving.proofs.CallerLemmas.fd_outcome.{untold_first}
 use Rattle.fd_checking.specs.Checks.{IsCheckStep, IsJudged, certificate_name, first_gathered}
 use Rattle.fd_solving.proofs.CallerLemmas.{not_begun, of_script, report_asks}
 use Rattle.fd_checking.proofs.Gathering.{one_check_step, one_judged}

@@ -1,4 +1,4 @@
-use Rattle.dss_script.specs.Sessions.{found_bytes}
+use Rattle.fd_solving.specs.dss_script.Sessions.{found_bytes}
 use Rattle.fd_checking.specs.Checks.{gathered}
 use Rattle.fd_checking.specs.Gathered.{solved_by}
 use Rattle.fd_checking.proofs.Judging.{answered_short}

@@ -1,9 +1,9 @@
 use Rattle.std.proofs.Common.{◌∙◌, List, Option, Some, ℕ, ap, subst, sym}
 use Rattle.std.specs.Prelude.{IfErr, IfOk}
 use Rattle.std.proofs.lemmas.Result.{IfOk-weaker}
-use Rattle.dss_script.specs.Sessions.{found_bytes}
-use Rattle.fd_check.specs.Underway.{no_positions}
-use Rattle.fd_certfile.specs.Verdict.{IsAnswer, accepted}
+use Rattle.fd_solving.specs.dss_script.Sessions.{found_bytes}
+use Rattle.fd_check.specs.fd_daily.Underway.{no_positions}
+use Rattle.fd_check.specs.fd_certfile.Verdict.{IsAnswer, accepted}
 use Rattle.fd_check.specs.Checking.{after, due, open_solves}
 use Rattle.fd_check.specs.Comes.{Tells}
 use Rattle.fd_checking.specs.Checks.{gathered}

@@ -1,5 +1,5 @@
 use Rattle.std.proofs.Common.{true}
-use Rattle.fd_outcome.proofs.CallerLemmas.{cut_before}
+use Rattle.fd_solving.proofs.CallerLemmas.fd_outcome.{cut_before}
 use Rattle.fd_checking.specs.Judged.{history_in}
 use Rattle.fd_solving.proofs.CallerLemmas.{printed_cut}
 use Rattle.fd_checking.proofs.Judging.{some_answer}

@@ -1,6 +1,6 @@
-use Rattle.dss_model.specs.declared.element.Element.{Element}
-use Rattle.dss_model.specs.declared.names.ElementName.{ElementName}
-use Rattle.fd_devices.specs.Settings.{bank_count}
+use Rattle.fd_settings.specs.dss_model.declared.element.Element.{Element}
+use Rattle.fd_settings.specs.dss_model.declared.names.ElementName.{ElementName}
+use Rattle.fd_settings.specs.fd_devices.Settings.{bank_count}
 use Rattle.fd_daily.proofs.Banks.{banks_kept}
 use Rattle.fd_daily.proofs.day.no_openings.Goals as goal
 

@@ -1,6 +1,6 @@
 use Rattle.std.proofs.Common.{◌≡◌, ◌++◌, replicate, None}
-use Rattle.fd_exact.specs.Sums.{list_n}
-use Rattle.fd_devices.specs.Settings.{bank_count}
+use Rattle.fd_settle.specs.fd_exact.Sums.{list_n}
+use Rattle.fd_settings.specs.fd_devices.Settings.{bank_count}
 use Rattle.fd_daily.proofs.day.no_openings.Given as goal
 
 -- with those of the elements that are left, all of them

@@ -3,11 +3,11 @@ use Rattle.fd_daily.specs.Day.{begun_hour, hour_in}
 use Rattle.fd_daily.specs.Hours.{time_of}
 use Rattle.fd_daily.specs.Underway.{plant_at}
 use Rattle.fd_daily.proofs.Behind.{left_behind}
-use Rattle.fd_enclosure.specs.Sound.{Claim}
-use Rattle.fd_pattern.specs.Views.{NetworkView}
-use Rattle.fd_elements.specs.declared.powers.LoadPower.{LoadPower}
-use Rattle.fd_queue.specs.Machine.{Machine}
-use Rattle.fd_settle.specs.Probes.{positions_in}
+use Rattle.fd_settle.specs.fd_enclosure.Sound.{Claim}
+use Rattle.fd_settings.specs.fd_pattern.Views.{NetworkView}
+use Rattle.fd_settings.specs.fd_elements.declared.powers.LoadPower.{LoadPower}
+use Rattle.fd_settle.specs.fd_queue.Machine.{Machine}
+use Rattle.fd_settle.specs.fd_sample.Probes.{positions_in}
 use Rattle.fd_settle.specs.Contract.{CallsAs, appended, begun, limits_of}
 use Rattle.fd_settle.specs.Plant.{Plant, plant_of, started}
 use Rattle.fd_settle.specs.declared.fault.SettleFault.{SettleFault}

@@ -1,6 +1,6 @@
 use Rattle.std.proofs.Common.{◌∙◌, ◌<◌, ◌^◌, length, arith, ap, refl, sym, subst}
-use Rattle.fd_system.specs.System.{StampView}
-use Rattle.fd_system.proofs.CallerLemmas.{first_beside, room_then}
+use Rattle.fd_xfmr.specs.fd_system.System.{StampView}
+use Rattle.fd_xfmr.proofs.CallerLemmas.fd_system.{first_beside, room_then}
 use Rattle.fd_devices.specs.Kept.{AreFewOf}
 use Rattle.fd_devices.proofs.Keeping.{fixed_few, kept_small, unmoved}
 use Rattle.std.proofs.lemmas.Result.{on_ok_weaker}

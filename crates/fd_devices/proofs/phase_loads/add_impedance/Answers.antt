@@ -1,7 +1,7 @@
 use Rattle.std.proofs.Common.{◌∙◌, ◌*ℤ◌, ◌≤◌, ◌^◌, ◌++◌, ℤ, pos, neg_ℤ, nat_abs, FitsSigned, arith, ap}
 use Rattle.std.specs.Int.{w128}
 use Rattle.std.proofs.lemmas.Int.{ints, to_z-of_z}
-use Rattle.fd_system.specs.Contributions.{shunt_list}
+use Rattle.fd_xfmr.specs.fd_system.Contributions.{shunt_list}
 use Rattle.fd_devices.proofs.phase_loads.add_impedance.Goals as goal
 
 small_fits : (z : ℤ) → nat_abs z ≤ 10 ^ 27 → FitsSigned w128 z

@@ -1,8 +1,8 @@
 use Rattle.std.proofs.Common.{◌∙◌, ap, sym, subst}
 use Rattle.std.specs.List.{All, flat_map}
 use Rattle.std.proofs.lemmas.List.{take_all}
-use Rattle.fd_system.specs.Contributions.{IsDivided}
-use Rattle.fd_system.specs.Loads.{linear_list}
+use Rattle.fd_xfmr.specs.fd_system.Contributions.{IsDivided}
+use Rattle.fd_xfmr.specs.fd_system.Loads.{linear_list}
 use Rattle.fd_devices.proofs.Bounded.{loads_divided}
 use Rattle.fd_devices.proofs.phase_loads.linear_terms_into.Goals as goal
 

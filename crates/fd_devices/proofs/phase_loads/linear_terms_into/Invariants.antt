@@ -1,6 +1,6 @@
 use Rattle.std.proofs.Common.{◌≡◌, ◌*◌, ◌≤◌, length, vec_capacity, take}
 use Rattle.std.specs.List.{flat_map}
-use Rattle.fd_system.specs.Loads.{linear_list}
+use Rattle.fd_xfmr.specs.fd_system.Loads.{linear_list}
 use Rattle.fd_devices.proofs.phase_loads.linear_terms_into.Given as goal
 
 abbrev pub invariant-loop-phase : goal.invariant-loop-phase

@@ -1,5 +1,5 @@
 use Rattle.std.proofs.Common.{◌≡◌, ◌*◌, ◌≤◌, vec_capacity, length, All}
-use Rattle.fd_system.specs.Contributions.{concat_below}
+use Rattle.fd_xfmr.specs.fd_system.Contributions.{concat_below}
 use Rattle.fd_devices.specs.Scripted.{phase_loads}
 use Rattle.fd_devices.specs.Building.{IsUsable}
 use Rattle.fd_devices.proofs.phase_loads.load_phases_into.Given as goal

@@ -1,5 +1,5 @@
 use Rattle.std.proofs.Common.{◌∙◌, ◌+◌, arith, sym}
-use Rattle.fd_system.specs.Loads.{draw_of}
+use Rattle.fd_xfmr.specs.fd_system.Loads.{draw_of}
 use Rattle.fd_devices.proofs.Steps.{list_n_next}
 use Rattle.fd_devices.proofs.phase_loads.total_draw.Goals as goal
 

@@ -1,6 +1,6 @@
 use Rattle.std.proofs.Common.{◌≡◌, ◌*◌, ◌≤◌, ◌^◌, take}
-use Rattle.fd_exact.specs.Sums.{list_n}
-use Rattle.fd_system.specs.Loads.{draw_of}
+use Rattle.dss_layout.specs.fd_exact.Sums.{list_n}
+use Rattle.fd_xfmr.specs.fd_system.Loads.{draw_of}
 use Rattle.fd_devices.proofs.phase_loads.total_draw.Given as goal
 
 abbrev pub invariant-loop-phase : goal.invariant-loop-phase

@@ -1,7 +1,7 @@
 use Rattle.std.proofs.Common.{◌≡◌, ◌<◌, ◌^◌, refl, sym, subst}
 use Rattle.std.proofs.lemmas.Result.{IfOk-weaker}
 use Rattle.std.specs.Prelude.{IfOk}
-use Rattle.fd_system.specs.Stamps.{stamp_of}
+use Rattle.fd_xfmr.specs.fd_system.Stamps.{stamp_of}
 use Rattle.fd_devices.specs.Devices.{device_stamp}
 use Rattle.fd_devices.specs.Settings.{settings_in}
 use Rattle.fd_devices.proofs.Settling.{source_here, line_here, transformer_here, capacitor_here, load_here, load_is, other_here}

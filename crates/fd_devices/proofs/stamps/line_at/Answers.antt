@@ -1,6 +1,6 @@
 use Rattle.std.proofs.Common.{subst}
 use Rattle.std.specs.List.{All}
-use Rattle.fd_system.specs.Contributions.{IsWithin}
+use Rattle.fd_xfmr.specs.fd_system.Contributions.{IsWithin}
 use Rattle.fd_devices.proofs.Bounded.{line_settled}
 use Rattle.fd_devices.proofs.stamps.line_at.Goals as goal
 

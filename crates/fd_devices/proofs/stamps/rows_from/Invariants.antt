@@ -1,5 +1,5 @@
 use Rattle.std.proofs.Common.{◌≡◌, ◌+◌, ◌++◌, drop}
-use Rattle.fd_source.specs.Equations.{constants_from}
+use Rattle.fd_elements.specs.fd_source.Equations.{constants_from}
 use Rattle.fd_devices.proofs.stamps.rows_from.Given as goal
 
 abbrev pub invariant-loop-k : goal.invariant-loop-k

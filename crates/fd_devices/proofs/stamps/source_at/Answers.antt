@@ -1,8 +1,8 @@
 use Rattle.std.proofs.Common.{◌≡◌, ◌∙◌, ◌*◌, Err, ap, subst, rules}
 use Rattle.std.specs.List.{All}
-use Rattle.fd_arith.specs.declared.terms.TermFault.TheVariants as fault
-use Rattle.fd_system.specs.Contributions.{IsWithin}
-use Rattle.fd_source.specs.Equations.{constants_from}
+use Rattle.dss_layout.specs.fd_arith.declared.terms.TermFault.TheVariants as fault
+use Rattle.fd_xfmr.specs.fd_system.Contributions.{IsWithin}
+use Rattle.fd_elements.specs.fd_source.Equations.{constants_from}
 use Rattle.fd_devices.specs.Devices.{source}
 use Rattle.fd_devices.proofs.Bounded.{source_settled}
 use Rattle.fd_devices.proofs.Fitting.{fit_terms}

@@ -1,7 +1,7 @@
 use Rattle.std.proofs.Common.{◌≡◌, ℕ, Err, subst}
 use Rattle.std.specs.Prelude.{IfOk}
-use Rattle.fd_arith.specs.declared.terms.TermFault.TheVariants as fault
-use Rattle.fd_system.specs.Stamps.{stamp_of}
+use Rattle.dss_layout.specs.fd_arith.declared.terms.TermFault.TheVariants as fault
+use Rattle.fd_xfmr.specs.fd_system.Stamps.{stamp_of}
 use Rattle.fd_devices.specs.Devices.{device_stamp, source}
 use Rattle.fd_devices.specs.Building.{DeviceFits, IsSettled}
 use Rattle.fd_devices.specs.Sound.{HasBranches, IsSideOf}

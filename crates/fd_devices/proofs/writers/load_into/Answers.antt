@@ -1,11 +1,11 @@
 use Rattle.std.proofs.Common.{List, ◌^◌, length, ap, subst, arith}
 use Rattle.std.specs.List.{All, flat_map}
 use Rattle.std.proofs.lemmas.Result.{on_ok_weaker}
-use Rattle.fd_system.specs.declared.loads.LoadAt.{LoadAt}
+use Rattle.fd_xfmr.specs.fd_system.declared.loads.LoadAt.{LoadAt}
 use Rattle.fd_devices.specs.Devices.{loads}
 use Rattle.fd_devices.specs.Building.{DeviceFits, IsUsable}
-use Rattle.fd_system.specs.Loads.{linear_list}
-use Rattle.fd_system.specs.System.{StampView}
+use Rattle.fd_xfmr.specs.fd_system.Loads.{linear_list}
+use Rattle.fd_xfmr.specs.fd_system.System.{StampView}
 use Rattle.fd_devices.proofs.PartLoads.{all_among, count_parts, nine_parts, parts_few}
 use Rattle.fd_devices.proofs.Settling.{phases_settled}
 use Rattle.fd_devices.proofs.writers.load_into.Goals as goal

@@ -1,6 +1,6 @@
 use Rattle.std.proofs.Common.{rules, subst}
 use Rattle.std.specs.List.{All}
-use Rattle.fd_system.specs.Contributions.{IsWithin}
+use Rattle.fd_xfmr.specs.fd_system.Contributions.{IsWithin}
 use Rattle.fd_xfmr.specs.Transformer.{xfmr_list}
 use Rattle.fd_devices.specs.Building.{DeviceFits}
 use Rattle.fd_devices.specs.Devices.{transformer}

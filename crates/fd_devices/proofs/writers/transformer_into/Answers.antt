@@ -1,6 +1,6 @@
 use Rattle.std.proofs.Common.{ℕ, subst}
 use Rattle.std.specs.Prelude.{OnOk}
-use Rattle.fd_system.specs.Terminals.{node_count}
+use Rattle.fd_xfmr.specs.fd_system.Terminals.{node_count}
 use Rattle.fd_devices.specs.Devices.{transformer}
 use Rattle.fd_devices.specs.Building.{IsSettled}
 use Rattle.fd_devices.specs.Sound.{HasBranches, IsSideOf}

@@ -1,6 +1,6 @@
 use Rattle.std.proofs.Common.{rules}
 use Rattle.std.specs.List.{All}
-use Rattle.fd_load.specs.Current.{IsPast}
+use Rattle.fd_elements.specs.fd_load.Current.{IsPast}
 use Rattle.fd_devices.specs.Building.{DeviceFits}
 use Rattle.fd_devices.specs.Devices.{loads}
 use Rattle.fd_devices.proofs.Fitting.{fit_loads, fits_by}

@@ -1,6 +1,6 @@
 use Rattle.std.proofs.Common.{rules, ◌≡◌, ◌∙◌, ◌^◌, to_z, of_z, ap, lit<}
 use Rattle.std.specs.Int.{w128}
-use Rattle.fd_exact.specs.ReadBack.{read_back}
+use Rattle.dss_model.specs.fd_exact.ReadBack.{read_back}
 use Rattle.fd_elements.specs.Loads.{current_shares, impedance_shares, nominal_of, power_shares}
 use Rattle.fd_elements.specs.Volts.{part_of}
 use Rattle.fd_elements.proofs.loads.zip_phase.Goals as goal

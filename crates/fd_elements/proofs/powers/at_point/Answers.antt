@@ -1,7 +1,7 @@
 use Rattle.std.proofs.Common.{◌*◌, ◌^◌, lit<}
 use Rattle.std.specs.Int.{w128}
 use Rattle.std.proofs.lemmas.Int.{to_z-of_z}
-use Rattle.fd_exact.specs.ReadBack.{product_fits, product_is, product_room}
+use Rattle.dss_model.specs.fd_exact.ReadBack.{product_fits, product_is, product_room}
 use Rattle.fd_elements.proofs.Products.{size_most, size_up_to}
 use Rattle.fd_elements.proofs.powers.at_point.Goals as goal
 

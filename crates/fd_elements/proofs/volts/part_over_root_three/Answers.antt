@@ -1,7 +1,7 @@
 use Rattle.std.proofs.Common.{◌*◌, ◌^◌, sym, subst}
 use Rattle.std.specs.Int.{w128}
 use Rattle.std.proofs.lemmas.Int.{to_z-of_z}
-use Rattle.fd_exact.specs.Ranges.{UpTo}
+use Rattle.dss_model.specs.fd_exact.Ranges.{UpTo}
 use Rattle.fd_elements.proofs.Products.{scaled_fits, scaled_room, phase_is, phase_within}
 use Rattle.fd_elements.proofs.volts.part_over_root_three.Goals as goal
 

@@ -1,5 +1,5 @@
 use Rattle.std.proofs.Common.{sym, subst, ◌*◌, ◌^◌}
-use Rattle.fd_exact.specs.Ranges.{UpTo}
+use Rattle.dss_model.specs.fd_exact.Ranges.{UpTo}
 use Rattle.fd_elements.proofs.Products.{part_fits, part_is, part_within}
 use Rattle.fd_elements.proofs.volts.product.Goals as goal
 

@@ -1,8 +1,8 @@
 use Rattle.std.proofs.Common.{◌≡◌, ◌+◌, ◌*◌, ◌<◌, ◌≤◌, ◌^◌, pos, ◌*ℤ◌, nat_abs, arith, rules, FitsSigned}
 use Rattle.std.specs.Int.{w128}
 use Rattle.std.proofs.lemmas.Int.{ints, to_z-of_z, unsigned_abs-mul}
-use Rattle.fd_exact.specs.Rounding.{near_div}
-use Rattle.fd_exact.specs.Nearest.{near_covers}
+use Rattle.fd_mat.specs.fd_exact.Rounding.{near_div}
+use Rattle.fd_mat.specs.fd_exact.Nearest.{near_covers}
 use Rattle.fd_equations.proofs.Sizes.{small_size}
 use Rattle.fd_equations.proofs.cells.units.Goals as goal
 

@@ -1,7 +1,7 @@
 use Rattle.std.proofs.Common.{◌≡◌, ◌∙◌, length, pos, replicate, ap, sym, subst, rules}
 use Rattle.std.specs.List.{All}
 use Rattle.std.proofs.lemmas.List.{length-replicate}
-use Rattle.fd_exact.specs.States.{part}
+use Rattle.fd_mat.specs.fd_exact.States.{part}
 use Rattle.fd_pattern.specs.Conditions.{IsKnown}
 use Rattle.fd_equations.specs.Rounded.{constant_sum, list_of}
 use Rattle.fd_equations.proofs.Lists.{part-zeros, rewritten}

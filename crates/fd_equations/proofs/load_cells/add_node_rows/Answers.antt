@@ -1,6 +1,6 @@
 use Rattle.std.proofs.Common.{◌+◌, ◌*◌, ◌^◌, arith, subst, sym}
-use Rattle.fd_arith.specs.declared.terms.NodeAt.{NodeAt}
-use Rattle.fd_arith.specs.declared.terms.NodeAt.TheVariants.{Node}
+use Rattle.fd_pattern.specs.fd_arith.declared.terms.NodeAt.{NodeAt}
+use Rattle.fd_pattern.specs.fd_arith.declared.terms.NodeAt.TheVariants.{Node}
 use Rattle.fd_equations.specs.Amounts.{AreGrown}
 use Rattle.fd_equations.proofs.Growth.{grown_then, room_after}
 use Rattle.fd_equations.proofs.LoadCells.{node_rows, node_rows_step, row_in, row_in_small}

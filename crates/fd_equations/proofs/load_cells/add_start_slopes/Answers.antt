@@ -1,5 +1,5 @@
 use Rattle.std.proofs.Common.{arith, get_or, subst}
-use Rattle.fd_load.specs.declared.slopes.Slopes.{Slopes}
+use Rattle.fd_pattern.specs.fd_load.declared.slopes.Slopes.{Slopes}
 use Rattle.fd_equations.specs.Amounts.{AreGrown, of_load}
 use Rattle.fd_equations.specs.PartLoads.{start_slopes}
 use Rattle.fd_equations.specs.Slopes.{AreSlopes}

@@ -1,6 +1,6 @@
 use Rattle.std.proofs.Common.{◌∙◌, ◌<◌, nat_abs, cond, eqb, get_or, None, ap, sym, subst, arith}
-use Rattle.fd_arith.specs.Interval.{negation, outward, sum}
-use Rattle.fd_load.specs.Current.{divisor, excess, in_phase, quadrature}
+use Rattle.fd_pattern.specs.fd_arith.Interval.{negation, outward, sum}
+use Rattle.fd_pattern.specs.fd_load.Current.{divisor, excess, in_phase, quadrature}
 use Rattle.fd_equations.specs.Enclosure.{with_current}
 use Rattle.fd_equations.proofs.DrawnIntervals.{drawn_none, drawn_some}
 use Rattle.fd_equations.proofs.Sizes.{kept_by}

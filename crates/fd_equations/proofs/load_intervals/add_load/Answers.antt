@@ -1,5 +1,5 @@
 use Rattle.std.proofs.Common.{◌∙◌, sym, get_or, None}
-use Rattle.fd_system.specs.Residual.{whole_state}
+use Rattle.fd_pattern.specs.fd_system.Residual.{whole_state}
 use Rattle.fd_equations.specs.Enclosure.{with_drawn}
 use Rattle.fd_equations.proofs.DrawnIntervals.{parts_are, parts_none}
 use Rattle.fd_equations.proofs.load_intervals.add_load.Goals as goal

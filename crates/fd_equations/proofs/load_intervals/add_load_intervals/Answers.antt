@@ -1,7 +1,7 @@
 use Rattle.std.proofs.Common.{◌∙◌, ◌<◌, get_or, None, ap, sym, subst}
 use Rattle.std.specs.List.{fold}
-use Rattle.fd_system.specs.Loads.{nonlinear_parts}
-use Rattle.fd_system.specs.Residual.{whole_state, with_part}
+use Rattle.fd_pattern.specs.fd_system.Loads.{nonlinear_parts}
+use Rattle.fd_pattern.specs.fd_system.Residual.{whole_state, with_part}
 use Rattle.fd_equations.proofs.DrawnIntervals.{parts_more}
 use Rattle.fd_equations.proofs.LoadSums.{no_load}
 use Rattle.fd_equations.proofs.load_intervals.add_load_intervals.Goals as goal

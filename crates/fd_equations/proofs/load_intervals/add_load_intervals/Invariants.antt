@@ -1,7 +1,7 @@
 use Rattle.std.proofs.Common.{◌≡◌, ℕ, ◌<◌, length, take, get_or, None}
 use Rattle.std.specs.List.{fold}
-use Rattle.fd_system.specs.Residual.{whole_state, with_part}
-use Rattle.fd_system.specs.System.{nonlinear_of}
+use Rattle.fd_pattern.specs.fd_system.Residual.{whole_state, with_part}
+use Rattle.fd_pattern.specs.fd_system.System.{nonlinear_of}
 use Rattle.fd_equations.proofs.load_intervals.add_load_intervals.Given as goal
 
 abbrev pub invariant-loop-load : goal.invariant-loop-load

@@ -1,7 +1,7 @@
 use Rattle.std.proofs.Common.{◌∙◌, ◌+ℤ◌, nat_abs, ap, sym, arith}
-use Rattle.fd_exact.specs.Rounding.{near_div}
-use Rattle.fd_exact.specs.States.{part}
-use Rattle.fd_load.specs.Current.{divisor, excess, in_phase, quadrature}
+use Rattle.fd_mat.specs.fd_exact.Rounding.{near_div}
+use Rattle.fd_mat.specs.fd_exact.States.{part}
+use Rattle.fd_pattern.specs.fd_load.Current.{divisor, excess, in_phase, quadrature}
 use Rattle.fd_pattern.specs.Terminals.{at_terminal}
 use Rattle.fd_equations.proofs.AtTerminals.{added_none}
 use Rattle.fd_equations.proofs.LoadSums.{row_linear, row_other}

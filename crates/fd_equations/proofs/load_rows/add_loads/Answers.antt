@@ -1,5 +1,5 @@
 use Rattle.std.proofs.Common.{◌∙◌, ◌+ℤ◌, take, get_or, ap, sym, arith}
-use Rattle.fd_exact.specs.States.{part}
+use Rattle.fd_mat.specs.fd_exact.States.{part}
 use Rattle.fd_equations.specs.PartLoads.{load_row, loads_row}
 use Rattle.fd_equations.proofs.AtTerminals.{added_two}
 use Rattle.fd_equations.proofs.Lists.{list_z_more}

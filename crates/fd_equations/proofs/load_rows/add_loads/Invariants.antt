@@ -1,5 +1,5 @@
 use Rattle.std.proofs.Common.{◌≡◌, ℕ, ◌+ℤ◌, take}
-use Rattle.fd_exact.specs.States.{part}
+use Rattle.fd_mat.specs.fd_exact.States.{part}
 use Rattle.fd_equations.specs.PartLoads.{loads_row}
 use Rattle.fd_equations.proofs.load_rows.add_loads.Given as goal
 

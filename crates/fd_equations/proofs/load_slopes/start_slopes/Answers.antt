@@ -1,5 +1,5 @@
 use Rattle.std.proofs.Common.{◌∙◌, ◌*◌, neg_ℤ, nat_abs, ap, arith}
-use Rattle.fd_load.specs.Slopes.{admittance}
+use Rattle.fd_pattern.specs.fd_load.Slopes.{admittance}
 use Rattle.fd_equations.proofs.LoadCells.{start_slopes_are}
 use Rattle.fd_equations.proofs.Sizes.{kept_by, negated_kept}
 use Rattle.fd_equations.proofs.load_slopes.start_slopes.Goals as goal

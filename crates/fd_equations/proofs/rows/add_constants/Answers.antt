@@ -2,8 +2,8 @@ use Rattle.std.proofs.Common.{◌∙◌, ◌<◌, length, take, get_or, pos, sym
 use Rattle.std.specs.List.{fold}
 use Rattle.std.proofs.lemmas.List.{take_all}
 use Rattle.std.proofs.lemmas.List.Elements.{All-get_or}
-use Rattle.fd_system.specs.Residual.{IsConstant, constant_added}
-use Rattle.fd_system.proofs.CallerLemmas.{length-constants}
+use Rattle.fd_pattern.specs.fd_system.Residual.{IsConstant, constant_added}
+use Rattle.fd_pattern.proofs.CallerLemmas.fd_system.{length-constants}
 use Rattle.fd_equations.proofs.Folds.{fold_more}
 use Rattle.fd_equations.proofs.rows.add_constants.Goals as goal
 

@@ -1,7 +1,7 @@
 use Rattle.std.proofs.Common.{◌∙◌, length, ap, sym, subst}
 use Rattle.std.specs.List.{All}
-use Rattle.fd_system.specs.Residual.{IsTerm}
-use Rattle.fd_system.proofs.CallerLemmas.{length-constants}
+use Rattle.fd_pattern.specs.fd_system.Residual.{IsTerm}
+use Rattle.fd_pattern.proofs.CallerLemmas.fd_system.{length-constants}
 use Rattle.fd_equations.proofs.rows.add_linear.Goals as goal
 
 pub add_terms-requires : goal.add_terms-requires

@@ -1,6 +1,6 @@
 use Rattle.std.proofs.Common.{◌≡◌, take}
 use Rattle.std.specs.List.{fold}
-use Rattle.fd_system.specs.Residual.{term_added}
+use Rattle.fd_pattern.specs.fd_system.Residual.{term_added}
 use Rattle.fd_equations.proofs.rows.add_terms.Given as goal
 
 abbrev pub invariant-loop-term : goal.invariant-loop-term

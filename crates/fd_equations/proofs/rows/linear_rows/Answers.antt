@@ -1,7 +1,7 @@
 use Rattle.std.proofs.Common.{◌≡◌, ◌∙◌, length, pos, ap, sym, subst, rules}
 use Rattle.std.specs.List.{All, fold}
-use Rattle.fd_arith.specs.Interval.{capped}
-use Rattle.fd_system.specs.Residual.{IsConstant, IsTerm, constant_added, term_added}
+use Rattle.fd_pattern.specs.fd_arith.Interval.{capped}
+use Rattle.fd_pattern.specs.fd_system.Residual.{IsConstant, IsTerm, constant_added, term_added}
 use Rattle.fd_equations.specs.Rounded.{list_of}
 use Rattle.fd_equations.proofs.Folds.{linear_table}
 use Rattle.fd_equations.proofs.Lists.{length-list_of, rewritten}

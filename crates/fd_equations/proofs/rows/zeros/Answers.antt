@@ -1,5 +1,5 @@
 use Rattle.std.proofs.Common.{◌∙◌, sym, ◌++◌, ◌∷◌, [], pos}
-use Rattle.fd_arith.specs.Interval.{capped}
+use Rattle.fd_pattern.specs.fd_arith.Interval.{capped}
 use Rattle.fd_equations.proofs.Lists.{list_of-more}
 use Rattle.fd_equations.proofs.rows.zeros.Goals as goal
 

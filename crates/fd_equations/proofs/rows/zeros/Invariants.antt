@@ -1,5 +1,5 @@
 use Rattle.std.proofs.Common.{◌≡◌, pos}
-use Rattle.fd_arith.specs.Interval.{capped}
+use Rattle.fd_pattern.specs.fd_arith.Interval.{capped}
 use Rattle.fd_equations.specs.Rounded.{list_of}
 use Rattle.fd_equations.proofs.rows.zeros.Given as goal
 

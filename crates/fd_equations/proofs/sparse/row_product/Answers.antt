@@ -1,9 +1,9 @@
 use Rattle.std.proofs.Common.{◌≡◌, ◌∙◌, ◌<◌, ◌≤◌, ◌^◌, ◌*ℤ◌, pos, nat_abs, length, lit≤, arith, ap, refl}
 use Rattle.std.proofs.lemmas.List.{take_all}
 use Rattle.std.proofs.lemmas.List.Elements.{All-get_or}
-use Rattle.fd_exact.specs.Rounding.{near_div}
-use Rattle.fd_exact.specs.States.{part}
-use Rattle.fd_exact.specs.Sums.{list_z}
+use Rattle.fd_mat.specs.fd_exact.Rounding.{near_div}
+use Rattle.fd_mat.specs.fd_exact.States.{part}
+use Rattle.fd_mat.specs.fd_exact.Sums.{list_z}
 use Rattle.fd_equations.specs.Amounts.{cell_at}
 use Rattle.fd_pattern.specs.Conditions.{IsPart}
 use Rattle.fd_equations.proofs.Products.{next_product}

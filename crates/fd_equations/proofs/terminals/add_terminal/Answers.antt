@@ -1,8 +1,8 @@
 use Rattle.std.proofs.Common.{◌≡◌, ◌∙◌, ℕ, ◌+◌, ◌^◌, ◌≤◌, ℤ, pos, neg_ℤ, ◌+ℤ◌, ◌-ℤ◌, nat_abs, to_z, of_z, List, ap, arith}
 use Rattle.std.specs.Int.{w128}
-use Rattle.fd_system.specs.declared.loads.LoadAt.{LoadAt}
+use Rattle.fd_pattern.specs.fd_system.declared.loads.LoadAt.{LoadAt}
 use Rattle.std.proofs.lemmas.Int.{ints}
-use Rattle.fd_exact.specs.States.{part}
+use Rattle.fd_mat.specs.fd_exact.States.{part}
 use Rattle.fd_pattern.specs.Terminals.{at_magnitude, at_node}
 use Rattle.fd_equations.proofs.AtTerminals.{added_three, negative_small, node_small, terminal_sum}
 use Rattle.fd_equations.proofs.Sizes.{kept_by, negated_kept}

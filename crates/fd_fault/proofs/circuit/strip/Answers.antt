@@ -1,7 +1,7 @@
 use Rattle.std.proofs.Common.{◌∙◌, ap, sym, subst}
-use Rattle.dss_model.specs.declared.names.Class.TheVariants as class
-use Rattle.dss_circuit.specs.Circuit.{CircuitView, Elements}
-use Rattle.dss_circuit.specs.Without.{OthersNameNone, without}
+use Rattle.dss_ready.specs.dss_model.declared.names.Class.TheVariants as class
+use Rattle.dss_ready.specs.dss_circuit.Circuit.{CircuitView, Elements}
+use Rattle.dss_ready.specs.dss_circuit.Without.{OthersNameNone, without}
 use Rattle.fd_fault.proofs.Dropping.{chained, no_bank_named}
 use Rattle.fd_fault.proofs.circuit.strip.Goals as goal
 

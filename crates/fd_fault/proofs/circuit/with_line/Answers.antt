@@ -2,12 +2,12 @@ use Rattle.std.proofs.Common.{◌≡◌, ◌∙◌, ◌≤◌, ◌<◌, ◌++◌
 use Rattle.std.specs.Map.{lookup}
 use Rattle.std.proofs.lemmas.Bool.{false≢true}
 use Rattle.indexmap.specs.IndexMap.{insert_entry}
-use Rattle.dss_model.specs.declared.element.Element.{Element}
-use Rattle.dss_model.specs.declared.element.Element.TheVariants as the
-use Rattle.dss_model.specs.declared.names.ElementName.{ElementName}
-use Rattle.dss_model.specs.SameElement.{same_element}
-use Rattle.dss_circuit.specs.Circuit.{CircuitView, Elements, has_circuit}
-use Rattle.dss_circuit.specs.Limits.{most_elements}
+use Rattle.dss_ready.specs.dss_model.declared.element.Element.{Element}
+use Rattle.dss_ready.specs.dss_model.declared.element.Element.TheVariants as the
+use Rattle.dss_ready.specs.dss_model.declared.names.ElementName.{ElementName}
+use Rattle.dss_ready.specs.dss_model.SameElement.{same_element}
+use Rattle.dss_ready.specs.dss_circuit.Circuit.{CircuitView, Elements, has_circuit}
+use Rattle.dss_ready.specs.dss_circuit.Limits.{most_elements}
 use Rattle.fd_fault.specs.FaultCircuit.{stripped}
 use Rattle.fd_fault.specs.Naming.{IsNamed}
 use Rattle.fd_fault.proofs.Dropping.{absent_still, begun_still, begun_where, put_last, shorter}

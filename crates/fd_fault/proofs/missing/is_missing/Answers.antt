@@ -1,4 +1,4 @@
-use Rattle.dss_layout.specs.Nodes.{same_node}
+use Rattle.dss_ready.specs.dss_layout.Nodes.{same_node}
 use Rattle.fd_fault.proofs.Standing.{no_place}
 use Rattle.fd_fault.proofs.missing.is_missing.Goals as goal
 

@@ -1,6 +1,6 @@
 use Rattle.std.proofs.Common.{ℕ, ◌<◌, IsSome}
 use Rattle.std.specs.Map.{lookup}
-use Rattle.dss_model.specs.SameElement.{same_element}
+use Rattle.dss_ready.specs.dss_model.SameElement.{same_element}
 use Rattle.fd_fault.specs.ShortNames.{line_name}
 use Rattle.fd_fault.proofs.names.free_name.Given as goal
 

@@ -1,6 +1,6 @@
 use Rattle.std.proofs.Common.{List, ℕ, sym, subst, arith}
-use Rattle.dss_model.specs.declared.names.Class.TheVariants as class
-use Rattle.dss_circuit.specs.WellFormed.{IsKey}
+use Rattle.dss_ready.specs.dss_model.declared.names.Class.TheVariants as class
+use Rattle.dss_ready.specs.dss_circuit.WellFormed.{IsKey}
 use Rattle.fd_fault.proofs.Naming.{short_key}
 use Rattle.fd_fault.proofs.names.line_name.Goals as goal
 

@@ -1,5 +1,5 @@
 use Rattle.std.proofs.Common.{◌≡◌, Ok, false}
-use Rattle.fd_pattern.specs.Conditions.{IsPoint}
+use Rattle.fd_equations.specs.fd_pattern.Conditions.{IsPoint}
 use Rattle.fd_inject.specs.Procedure.{iterated}
 use Rattle.fd_inject.proofs.procedure.iterate_from.Given as goal
 

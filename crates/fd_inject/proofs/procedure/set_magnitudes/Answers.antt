@@ -2,9 +2,9 @@ use Rattle.std.proofs.Common.{◌∙◌, pos, None, get_or, ap, sym}
 use Rattle.std.specs.List.{fold}
 use Rattle.std.proofs.lemmas.List.{take_all}
 use Rattle.std.proofs.lemmas.List.Sums.{fold_more}
-use Rattle.fd_arith.specs.declared.terms.NodeAt.TheVariants.{Ground}
-use Rattle.fd_arith.specs.declared.terms.LoadModel.TheVariants.{ConstantPower}
-use Rattle.fd_system.specs.declared.loads.LoadAt.{LoadAt}
+use Rattle.fd_inverse.specs.fd_arith.declared.terms.NodeAt.TheVariants.{Ground}
+use Rattle.fd_inverse.specs.fd_arith.declared.terms.LoadModel.TheVariants.{ConstantPower}
+use Rattle.fd_equations.specs.fd_system.declared.loads.LoadAt.{LoadAt}
 use Rattle.fd_inject.specs.Procedure.{with_nominal}
 use Rattle.fd_inject.proofs.procedure.set_magnitudes.Goals as goal
 

@@ -1,5 +1,5 @@
 use Rattle.std.proofs.Common.{◌≡◌, ◌∙◌, length, ap, sym, subst, Ok, Err, rules}
-use Rattle.fd_pattern.specs.Conditions.{IsPoint}
+use Rattle.fd_equations.specs.fd_pattern.Conditions.{IsPoint}
 use Rattle.fd_equations.specs.Rounded.{jacobian_of}
 use Rattle.fd_equations.proofs.CallerLemmas.{rewritten}
 use Rattle.std.proofs.lemmas.Result.{err_from_is_err_and}

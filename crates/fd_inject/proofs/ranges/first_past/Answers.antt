@@ -1,7 +1,7 @@
 use Rattle.std.proofs.Common.{◌≡◌, ◌<◌, nat_abs, sym, subst, arith, FitsSigned, rules}
 use Rattle.std.specs.Int.{w128}
 use Rattle.std.proofs.lemmas.Int.{to_z-of_z}
-use Rattle.fd_exact.specs.States.{part}
+use Rattle.fd_equations.specs.fd_exact.States.{part}
 use Rattle.fd_inject.proofs.Limited.{past_none, past_some}
 use Rattle.fd_inject.proofs.ranges.first_past.Goals as goal
 

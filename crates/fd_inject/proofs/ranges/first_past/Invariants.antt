@@ -1,5 +1,5 @@
 use Rattle.std.proofs.Common.{ℕ, ◌<◌, ◌≤◌, nat_abs}
-use Rattle.fd_exact.specs.States.{part}
+use Rattle.fd_equations.specs.fd_exact.States.{part}
 use Rattle.fd_inject.proofs.ranges.first_past.Given as goal
 
 abbrev pub invariant-loop-place : goal.invariant-loop-place

@@ -1,6 +1,6 @@
 use Rattle.std.proofs.Common.{◌∙◌, ◌<◌, ◌≤◌, ◌^◌, nat_abs, length, pos, arith, ap, sym, subst, below_more}
 use Rattle.std.proofs.lemmas.List.{get_or_read}
-use Rattle.fd_exact.specs.States.{part}
+use Rattle.fd_equations.specs.fd_exact.States.{part}
 use Rattle.fd_inject.specs.Procedure.{is_moving}
 use Rattle.fd_inject.proofs.Iterates.{moving_none, moving_some, tolerance_size, weight_size, weights_long}
 use Rattle.fd_inject.proofs.Sizes.{kept_by}

@@ -1,7 +1,7 @@
 use Rattle.std.proofs.Common.{◌≡◌, ◌∙◌, ◌+◌, ◌<◌, ◌≤◌, ◌^◌, nat_abs, length, pos, IfSome, arith, ap, sym, subst, Err}
 use Rattle.std.proofs.lemmas.List.{get_or_read}
 use Rattle.std.proofs.lemmas.Result.{err_from_is_err_and}
-use Rattle.fd_exact.specs.States.{part}
+use Rattle.fd_equations.specs.fd_exact.States.{part}
 use Rattle.fd_inject.specs.Procedure.{first_moving}
 use Rattle.fd_inject.specs.Ranges.{SizesWithin}
 use Rattle.fd_inject.specs.declared.fault.SolveFault.TheVariants.{NotConverged}

@@ -1,5 +1,5 @@
 use Rattle.std.proofs.Common.{◌∙◌, ◌<◌, ◌≤◌, ◌≢◌, ◌^◌, ◌+ℤ◌, nat_abs, length, arith, ap, sym, subst, below_more, get_or-set_other, get_or-set_same}
-use Rattle.fd_exact.specs.States.{part}
+use Rattle.fd_equations.specs.fd_exact.States.{part}
 use Rattle.fd_inject.proofs.Products.{moved_is}
 use Rattle.fd_inject.proofs.Sizes.{added_kept}
 use Rattle.fd_inject.proofs.updates.add.Goals as goal

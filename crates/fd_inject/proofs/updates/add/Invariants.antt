@@ -1,5 +1,5 @@
 use Rattle.std.proofs.Common.{◌≡◌, ℕ, ◌<◌, ◌≤◌, ◌+ℤ◌}
-use Rattle.fd_exact.specs.States.{part}
+use Rattle.fd_equations.specs.fd_exact.States.{part}
 use Rattle.fd_inject.proofs.updates.add.Given as goal
 
 abbrev pub invariant-loop-k : goal.invariant-loop-k

@@ -1,6 +1,6 @@
 use Rattle.std.proofs.Common.{◌≡◌, ◌*◌, ◌≤◌, ◌^◌, ◌*ℤ◌, nat_abs}
-use Rattle.fd_exact.specs.States.{part}
-use Rattle.fd_exact.specs.Sums.{sum_z}
+use Rattle.fd_equations.specs.fd_exact.States.{part}
+use Rattle.fd_equations.specs.fd_exact.Sums.{sum_z}
 use Rattle.fd_inject.proofs.updates.dot.Given as goal
 
 abbrev pub invariant-loop-k : goal.invariant-loop-k

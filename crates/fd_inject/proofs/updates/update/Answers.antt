@@ -1,6 +1,6 @@
 use Rattle.std.proofs.Common.{◌≡◌, ◌∙◌, ◌≤◌, ◌^◌, ◌++◌, ◌∷◌, [], pos, ◌-ℤ◌, neg_ℤ, nat_abs, length, to_z, of_z, arith, ap, sym, subst}
 use Rattle.std.specs.Int.{w128}
-use Rattle.fd_exact.specs.Rounding.{near_div}
+use Rattle.fd_equations.specs.fd_exact.Rounding.{near_div}
 use Rattle.fd_equations.proofs.CallerLemmas.{length-list_of, list_of-more}
 use Rattle.fd_inject.specs.Ranges.{SizesWithin}
 use Rattle.fd_inject.specs.Updates.{dot, update_at}

@@ -1,6 +1,6 @@
 use Rattle.std.proofs.Common.{◌≡◌, length, sym, ◌∙◌, ap, FitsSigned, rules}
 use Rattle.std.specs.Int.{w64}
-use Rattle.fd_exact.specs.States.{part}
+use Rattle.fd_arith.specs.fd_exact.States.{part}
 use Rattle.fd_inverse.specs.Numbers.{in_range}
 use Rattle.fd_inverse.proofs.EachBelow.{each_below-false, each_below-more, each_below-end}
 use Rattle.fd_inverse.proofs.Losses.{widened_is}

@@ -1,5 +1,5 @@
 use Rattle.std.proofs.Common.{◌≡◌, true}
-use Rattle.fd_exact.specs.States.{part}
+use Rattle.fd_arith.specs.fd_exact.States.{part}
 use Rattle.fd_inverse.specs.Numbers.{each_below, in_range}
 use Rattle.fd_inverse.proofs.rows.are_in_range.Given as goal
 

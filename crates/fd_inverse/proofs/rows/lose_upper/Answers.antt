@@ -1,7 +1,7 @@
 use Rattle.std.proofs.Common.{◌≡◌, ◌+◌, ◌/◌, ◌≤◌, ◌^◌, ◌-ℤ◌, ◌*ℤ◌, nat_abs, pos, ap, subst, sym, ◌∙◌}
 use Rattle.std.specs.Int.{w64, w128}
 use Rattle.std.proofs.lemmas.Int.{to_z-of_z}
-use Rattle.fd_exact.specs.Rounding.{near_div}
+use Rattle.fd_arith.specs.fd_exact.Rounding.{near_div}
 use Rattle.fd_inverse.proofs.Losses.{again, factor_fits, factor_is, near_product, small_fits, small_room, upper_fits, upper_left}
 use Rattle.fd_inverse.proofs.rows.lose_upper.Goals as goal
 

@@ -2,11 +2,11 @@ use Rattle.std.proofs.Common.{◌≡◌, ◌<◌, length, get_or, take, arith, s
 use Rattle.std.specs.Int.{w64}
 use Rattle.std.proofs.lemmas.Int.{to_z-of_z}
 use Rattle.std.proofs.lemmas.List.{take_all}
-use Rattle.fd_exact.specs.States.{part}
-use Rattle.fd_exact.specs.Rounding.{near_div}
+use Rattle.fd_arith.specs.fd_exact.States.{part}
+use Rattle.fd_arith.specs.fd_exact.Rounding.{near_div}
 use Rattle.fd_inverse.specs.Numbers.{in_range, reduced}
 use Rattle.fd_inverse.proofs.Places.{not_yet, one_more, within_more, within_stop, within_all}
-use Rattle.fd_inverse.proofs.Ends.{holds}
+use Rattle.fd_inverse.proofs.InverseRows.{holds}
 use Rattle.fd_inverse.proofs.rows.reduce_long.Goals as goal
 
 pub returns-then-not-lose-clause-within : goal.returns-then-not-lose-clause-within

@@ -1,5 +1,5 @@
 use Rattle.std.proofs.Common.{◌≡◌, ℕ, take, true}
-use Rattle.fd_exact.specs.States.{part}
+use Rattle.fd_arith.specs.fd_exact.States.{part}
 use Rattle.fd_inverse.specs.Numbers.{in_range, reduced}
 use Rattle.fd_inverse.specs.Places.{is_among, reduced_among}
 use Rattle.fd_inverse.proofs.rows.reduce_long.Given as goal

@@ -2,7 +2,7 @@ use Rattle.std.proofs.Common.{◌≡◌, ◌∙◌, ◌*◌, ◌≤◌, ◌^◌,
 use Rattle.std.specs.Int.{w128}
 use Rattle.std.proofs.lemmas.Int.{to_z-of_z, fits_signed_from_abs, unsigned_abs-mul}
 use Rattle.std.proofs.Math.Nat.{mul-le-mul}
-use Rattle.fd_exact.specs.Integers.{abs_sub}
+use Rattle.fd_system.specs.fd_exact.Integers.{abs_sub}
 use Rattle.fd_load.proofs.VoltageSizes.{part_held}
 use Rattle.fd_load.proofs.currents.excess.Goals as goal
 

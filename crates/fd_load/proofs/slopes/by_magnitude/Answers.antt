@@ -4,7 +4,7 @@ use Rattle.std.proofs.lemmas.Int.{to_z-of_z, fits_signed_from_abs}
 use Rattle.fd_load.specs.Current.{clamped_magnitude}
 use Rattle.fd_load.specs.Slopes.{fine_current, near_units, magnitude_is_inside}
 use Rattle.fd_load.proofs.Bounds.{magnitude_most, taken}
-use Rattle.fd_exact.specs.ReadBack.{read_back, opposite_fits, opposite_most, opposite_is}
+use Rattle.fd_system.specs.fd_exact.ReadBack.{read_back, opposite_fits, opposite_most, opposite_is}
 use Rattle.fd_load.proofs.slopes.by_magnitude.Goals as goal
 
 pub near_units-requires-clause-small : goal.near_units-requires-clause-small

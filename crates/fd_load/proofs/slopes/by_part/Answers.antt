@@ -2,7 +2,7 @@ use Rattle.std.proofs.Common.{◌∙◌, ℕ, ◌*◌, ◌≤◌, ◌^◌, ℤ, 
 use Rattle.std.specs.Int.{w128}
 use Rattle.std.proofs.lemmas.Int.{to_z-of_z, fits_signed_from_abs, unsigned_abs-mul}
 use Rattle.fd_load.proofs.Bounds.{part_most}
-use Rattle.fd_exact.specs.ReadBack.{read_back}
+use Rattle.fd_system.specs.fd_exact.ReadBack.{read_back}
 use Rattle.fd_load.proofs.slopes.by_part.Goals as goal
 
 module _ (v i : ℤ) (k : ℕ) (hv : nat_abs v ≤ 2 ^ 41) (hk : k ≤ 4 * 10 ^ 24)

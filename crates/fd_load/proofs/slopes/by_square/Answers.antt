@@ -4,7 +4,7 @@ use Rattle.std.proofs.lemmas.Int.{to_z-of_z, fits_signed_from_abs}
 use Rattle.fd_load.specs.Current.{clamped_square, largest}
 use Rattle.fd_load.specs.Slopes.{fine_current, near_units, square_is_inside}
 use Rattle.fd_load.proofs.Bounds.{product_most, taken}
-use Rattle.fd_exact.specs.ReadBack.{read_back}
+use Rattle.fd_system.specs.fd_exact.ReadBack.{read_back}
 use Rattle.fd_load.proofs.slopes.by_square.Goals as goal
 
 pub by_part-requires-clause-product : goal.by_part-requires-clause-product

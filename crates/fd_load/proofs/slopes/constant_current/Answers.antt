@@ -3,7 +3,7 @@ use Rattle.std.specs.Int.{w128}
 use Rattle.std.proofs.lemmas.Int.{to_z-of_z, fits_signed_from_abs, ints}
 use Rattle.fd_load.specs.Current.{clamped_magnitude, in_phase, quadrature}
 use Rattle.fd_load.specs.Slopes.{admittance, by_magnitude, slope_row}
-use Rattle.fd_exact.specs.ReadBack.{opposite_fits, turned}
+use Rattle.fd_system.specs.fd_exact.ReadBack.{opposite_fits, turned}
 use Rattle.fd_load.proofs.VoltageSizes.{part_kept, voltages_kept, numerator_kept, opposite_kept, first_power_kept, second_power_kept}
 use Rattle.fd_load.proofs.slopes.constant_current.Goals as goal
 

@@ -3,7 +3,7 @@ use Rattle.std.specs.Int.{w128}
 use Rattle.std.proofs.lemmas.Int.{to_z-of_z, fits_signed_from_abs, ints}
 use Rattle.fd_load.specs.Current.{clamped_square, in_phase, quadrature}
 use Rattle.fd_load.specs.Slopes.{admittance, power_slopes, slope_row}
-use Rattle.fd_exact.specs.ReadBack.{opposite_fits, turned}
+use Rattle.fd_system.specs.fd_exact.ReadBack.{opposite_fits, turned}
 use Rattle.fd_load.proofs.slopes.constant_power.Goals as goal
 
 pub power_row-requires-2-clause-at_p_most : goal.power_row-requires-2-clause-at_p_most

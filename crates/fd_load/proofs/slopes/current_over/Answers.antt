@@ -3,7 +3,7 @@ use Rattle.std.specs.Int.{w128}
 use Rattle.std.proofs.lemmas.Int.{to_z-of_z}
 use Rattle.fd_load.specs.Current.{largest, power_sum}
 use Rattle.fd_load.proofs.Bounds.{current_most, current_small}
-use Rattle.fd_exact.specs.ReadBack.{read_back}
+use Rattle.fd_system.specs.fd_exact.ReadBack.{read_back}
 use Rattle.fd_load.proofs.slopes.current_over.Goals as goal
 
 pub fine_current-requires-clause-small : goal.fine_current-requires-clause-small

@@ -2,7 +2,7 @@ use Rattle.std.proofs.Common.{◌∙◌, ◌^◌, neg_ℤ, arith, ap, FitsSigned
 use Rattle.std.specs.Int.{w128}
 use Rattle.std.proofs.lemmas.Int.{to_z-of_z, fits_signed_from_abs}
 use Rattle.fd_load.specs.Slopes.{slope_row}
-use Rattle.fd_exact.specs.ReadBack.{opposite_fits, turned}
+use Rattle.fd_system.specs.fd_exact.ReadBack.{opposite_fits, turned}
 use Rattle.fd_load.proofs.slopes.magnitude_slopes.Goals as goal
 
 pub returns-clause-row : goal.returns-clause-row

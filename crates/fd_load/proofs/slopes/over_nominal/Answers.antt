@@ -2,7 +2,7 @@ use Rattle.std.proofs.Common.{◌*◌, ◌≤◌, ◌^◌, pos, ◌*ℤ◌, arit
 use Rattle.std.specs.Int.{w128}
 use Rattle.std.proofs.lemmas.Int.{to_z-of_z, fits_signed_from_abs, unsigned_abs-mul, ints}
 use Rattle.fd_load.proofs.Bounds.{nominal_most}
-use Rattle.fd_exact.specs.ReadBack.{read_back}
+use Rattle.fd_system.specs.fd_exact.ReadBack.{read_back}
 use Rattle.fd_load.proofs.slopes.over_nominal.Goals as goal
 
 pub returns-clause-most : goal.returns-clause-most

@@ -1,7 +1,7 @@
 use Rattle.std.proofs.Common.{◌≤◌, ◌^◌, ℤ, pos, ◌-ℤ◌, nat_abs, arith, FitsSigned}
 use Rattle.std.specs.Int.{w128}
 use Rattle.std.proofs.lemmas.Int.{to_z-of_z, fits_signed_from_abs}
-use Rattle.fd_exact.specs.Integers.{abs_sub}
+use Rattle.fd_system.specs.fd_exact.Integers.{abs_sub}
 use Rattle.fd_load.specs.Slopes.{slope_row}
 use Rattle.fd_load.proofs.slopes.power_row.Goals as goal
 

@@ -1,7 +1,7 @@
 use Rattle.std.proofs.Common.{◌∙◌, ap, sym, FitsSigned}
 use Rattle.std.specs.Int.{w128}
 use Rattle.std.proofs.lemmas.Int.{to_z-of_z}
-use Rattle.fd_arith.specs.LoadModels.{by_model}
+use Rattle.fd_system.specs.fd_arith.LoadModels.{by_model}
 use Rattle.fd_load.specs.Slopes.{constant_current_slopes, constant_power_slopes, no_slopes}
 use Rattle.fd_load.proofs.slopes.rounded_slopes.Goals as goal
 

@@ -1,7 +1,7 @@
 use Rattle.std.proofs.Common.{◌*◌, ◌^◌, lit<}
 use Rattle.std.specs.Int.{w128}
 use Rattle.std.proofs.lemmas.Int.{to_z-of_z}
-use Rattle.fd_exact.specs.ReadBack.{product_fits, product_is, product_room}
+use Rattle.fd_system.specs.fd_exact.ReadBack.{product_fits, product_is, product_room}
 use Rattle.fd_load.proofs.zip.product.Goals as goal
 
 pub overflow_mul-result : goal.overflow_mul-result

@@ -1,7 +1,7 @@
 use Rattle.std.proofs.Common.{◌≡◌, ◌*◌, ◌≤◌, ◌<◌, ◌^◌, ℤ, pos, ◌≤ℤ◌, nat_abs, FitsSigned, arith, sym, subst}
 use Rattle.std.specs.Int.{w128}
 use Rattle.std.proofs.lemmas.Int.{ints, to_z-of_z, fits_signed_from_abs}
-use Rattle.fd_exact.specs.ReadBack.{read_back}
+use Rattle.fd_system.specs.fd_exact.ReadBack.{read_back}
 use Rattle.fd_load.proofs.zip.zip_part.Goals as goal
 
 fits : (z : ℤ) → pos 0 ≤ℤ z → z ≤ℤ pos (2 * 10 ^ 12) → FitsSigned w128 z

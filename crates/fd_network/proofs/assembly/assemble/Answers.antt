@@ -1,11 +1,11 @@
 use Rattle.std.proofs.Common.{◌≡◌, ◌∙◌, ℕ, ◌*◌, Some, ap, subst, sym}
-use Rattle.dss_layout.specs.Layout.{complex_count}
-use Rattle.fd_system.specs.Contributions.{AreSmall}
-use Rattle.fd_system.specs.Stamps.{stamp_of}
-use Rattle.fd_system.specs.System.{StampView, stamp_with}
-use Rattle.fd_pattern.specs.Coefficients.{linear_entry}
-use Rattle.fd_pattern.specs.Conditions.{AreApart, IsNetwork}
-use Rattle.fd_pattern.specs.Views.{network_of}
+use Rattle.dss_ready.specs.dss_layout.Layout.{complex_count}
+use Rattle.fd_devices.specs.fd_system.Contributions.{AreSmall}
+use Rattle.fd_devices.specs.fd_system.Stamps.{stamp_of}
+use Rattle.fd_devices.specs.fd_system.System.{StampView, stamp_with}
+use Rattle.fd_equations.specs.fd_pattern.Coefficients.{linear_entry}
+use Rattle.fd_equations.specs.fd_pattern.Conditions.{AreApart, IsNetwork}
+use Rattle.fd_equations.specs.fd_pattern.Views.{network_of}
 use Rattle.fd_devices.specs.Devices.{AgreesWith, parts_of_all, stamp_of_all}
 use Rattle.fd_devices.specs.Scripted.{devices_from, layout_counts}
 use Rattle.fd_devices.specs.Settings.{settings_in}

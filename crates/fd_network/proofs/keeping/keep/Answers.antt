@@ -5,9 +5,9 @@ use Rattle.std.specs.Map.Iter.{deref_pair}
 use Rattle.std.proofs.lemmas.List.{take_all}
 use Rattle.std.proofs.lemmas.List.Elements.{All-append, All-cons, All-nil}
 use Rattle.std.proofs.lemmas.Result.{err_from_is_err_and}
-use Rattle.dss_layout.specs.Layout.{size_of}
-use Rattle.dss_layout.proofs.CallerLemmas.{take-more}
-use Rattle.fd_pattern.specs.Patterns.{IsInside}
+use Rattle.dss_ready.specs.dss_layout.Layout.{size_of}
+use Rattle.dss_ready.proofs.CallerLemmas.dss_layout.{take-more}
+use Rattle.fd_equations.specs.fd_pattern.Patterns.{IsInside}
 use Rattle.fd_devices.specs.Building.{DeviceFits}
 use Rattle.fd_devices.specs.Reach.{device_places}
 use Rattle.fd_devices.specs.Scripted.{device_of, devices_from}

@@ -1,7 +1,7 @@
 use Rattle.std.proofs.Common.{◌≡◌, ◌≤◌, length, take, vec_capacity}
 use Rattle.std.specs.List.{All, flat_map}
-use Rattle.dss_layout.specs.Layout.{size_of}
-use Rattle.fd_pattern.specs.Patterns.{IsInside}
+use Rattle.dss_ready.specs.dss_layout.Layout.{size_of}
+use Rattle.fd_equations.specs.fd_pattern.Patterns.{IsInside}
 use Rattle.fd_devices.specs.Building.{DeviceFits}
 use Rattle.fd_devices.specs.Reach.{device_places}
 use Rattle.fd_devices.specs.Scripted.{devices_from}

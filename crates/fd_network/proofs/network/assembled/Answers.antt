@@ -1,5 +1,5 @@
 use Rattle.std.proofs.Common.{subst, sym}
-use Rattle.dss_layout.specs.Layout.{layout_of}
+use Rattle.dss_ready.specs.dss_layout.Layout.{layout_of}
 use Rattle.fd_devices.specs.Settings.{settings_of}
 use Rattle.fd_network.specs.Keeping.{Reaches}
 use Rattle.fd_network.proofs.Filling.{reaches}

@@ -1,5 +1,5 @@
 use Rattle.std.proofs.Common.{◌≡◌, ℕ, Option, None, Some, ◌∙◌, ◌*◌, ◌<◌, ◌≤◌, length, ap, subst, sym, arith}
-use Rattle.dss_model.specs.declared.options.Options.{Options}
+use Rattle.dss_ready.specs.dss_model.declared.options.Options.{Options}
 use Rattle.fd_devices.specs.Devices.{AgreesWith, parts_of_all}
 use Rattle.fd_devices.specs.Scripted.{devices_from, devices_of}
 use Rattle.fd_devices.specs.Settings.{settings_of, settings_in}
@@ -8,13 +8,13 @@ use Rattle.fd_network.specs.Assembled.{HaveRoom, parts_network}
 use Rattle.fd_network.specs.Keeping.{room_for}
 use Rattle.fd_network.specs.Stamps.{extents_of}
 use Rattle.fd_network.specs.Faults.{first_out_of_range}
-use Rattle.dss_layout.specs.Limits.{most_complex, most_magnitudes}
-use Rattle.dss_layout.specs.Layout.{LayoutView, complex_count, layout_of}
-use Rattle.dss_layout.proofs.CallerLemmas.{few_complex, few_magnitudes}
+use Rattle.dss_ready.specs.dss_layout.Limits.{most_complex, most_magnitudes}
+use Rattle.dss_ready.specs.dss_layout.Layout.{LayoutView, complex_count, layout_of}
+use Rattle.dss_ready.proofs.CallerLemmas.dss_layout.{few_complex, few_magnitudes}
 use Rattle.fd_network.specs.Places.{AreMagnitudesFrom}
 use Rattle.fd_network.proofs.Apart.{magnitudes_follow}
 use Rattle.fd_network.proofs.Building.{are_taken, fault_named, kept_as, out_of_range_within, reaches_as, same_devices, taken_as}
-use Rattle.fd_network.proofs.Ready.{few_branches, ready}
+use Rattle.fd_network.proofs.ReadyElements.{few_branches, ready}
 use Rattle.fd_network.proofs.Assembling.{no_fault}
 use Rattle.fd_network.proofs.network.fill.Goals as goal
 

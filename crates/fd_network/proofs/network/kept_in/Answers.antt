@@ -1,13 +1,13 @@
 use Rattle.std.specs.List.{flat_map}
 use Rattle.fd_devices.specs.Reach.{device_places}
 use Rattle.std.proofs.Common.{◌∙◌, ◌<◌, length, ap, subst, sym, arith}
-use Rattle.dss_model.specs.declared.options.Options.{Options}
+use Rattle.dss_ready.specs.dss_model.declared.options.Options.{Options}
 use Rattle.fd_devices.specs.Scripted.{devices_from, devices_of}
 use Rattle.fd_devices.specs.Settings.{settings_of, settings_in}
 use Rattle.fd_devices.proofs.CallerLemmas.{devices_length}
 use Rattle.fd_network.specs.Faults.{first_out_of_range}
 use Rattle.fd_network.proofs.Building.{are_taken, fault_named, kept_as, out_of_range_within, same_devices, taken_as}
-use Rattle.fd_network.proofs.Ready.{ready}
+use Rattle.fd_network.proofs.ReadyElements.{ready}
 use Rattle.fd_network.proofs.Assembling.{own_first}
 use Rattle.fd_network.proofs.network.kept_in.Goals as goal
 

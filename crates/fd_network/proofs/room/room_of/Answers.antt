@@ -4,9 +4,9 @@ use Rattle.std.specs.Map.Iter.{deref_pair}
 use Rattle.fd_devices.specs.Kept.{most_constants, most_loads, most_terms}
 use Rattle.fd_network.proofs.Filling.{one_more}
 use Rattle.fd_network.proofs.Walking.{at_place}
-use Rattle.dss_model.specs.InRange.{ElementInRange}
-use Rattle.dss_model.specs.declared.element.Element.{Element}
-use Rattle.dss_model.specs.declared.names.ElementName.{ElementName}
+use Rattle.dss_ready.specs.dss_model.InRange.{ElementInRange}
+use Rattle.dss_ready.specs.dss_model.declared.element.Element.{Element}
+use Rattle.dss_ready.specs.dss_model.declared.names.ElementName.{ElementName}
 use Rattle.fd_network.proofs.room.room_of.Goals as goal
 
 pub most_terms-requires : goal.most_terms-requires

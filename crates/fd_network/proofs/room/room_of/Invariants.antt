@@ -1,5 +1,5 @@
 use Rattle.std.proofs.Common.{◌≡◌, ◌*◌, ◌≤◌, length, take}
-use Rattle.fd_exact.specs.Sums.{list_n}
+use Rattle.fd_equations.specs.fd_exact.Sums.{list_n}
 use Rattle.fd_devices.specs.Kept.{most_constants, most_loads, most_terms}
 use Rattle.fd_network.proofs.room.room_of.Given as goal
 

@@ -4,10 +4,10 @@ use Rattle.std.specs.Option.{option_map}
 use Rattle.std.specs.Map.Iter.{deref_pair}
 use Rattle.std.proofs.lemmas.List.{take_all}
 use Rattle.std.proofs.lemmas.List.Elements.{All-append, All-cons, All-nil}
-use Rattle.dss_layout.proofs.CallerLemmas.{take-more}
+use Rattle.dss_ready.proofs.CallerLemmas.dss_layout.{take-more}
 use Rattle.fd_devices.specs.Building.{DeviceFits, HasSmallSums, has_small_sums}
-use Rattle.fd_system.specs.System.{StampView}
-use Rattle.fd_system.proofs.CallerLemmas.{room_then}
+use Rattle.fd_devices.specs.fd_system.System.{StampView}
+use Rattle.fd_devices.proofs.CallerLemmas.fd_system.{room_then}
 use Rattle.fd_devices.specs.Scripted.{device_of, devices_from}
 use Rattle.fd_devices.specs.Settings.{own}
 use Rattle.fd_devices.proofs.CallerLemmas.{devices_length}

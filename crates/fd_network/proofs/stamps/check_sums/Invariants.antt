@@ -1,6 +1,6 @@
 use Rattle.std.proofs.Common.{take, All}
 use Rattle.fd_devices.specs.Building.{HasSmallSums}
-use Rattle.fd_system.specs.Stamps.{IsRoomSame}
+use Rattle.fd_devices.specs.fd_system.Stamps.{IsRoomSame}
 use Rattle.fd_devices.specs.Scripted.{devices_from}
 use Rattle.fd_devices.specs.Settings.{settings_in}
 use Rattle.fd_network.proofs.Taking.{IsAt}

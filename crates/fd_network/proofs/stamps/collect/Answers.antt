@@ -3,11 +3,11 @@ use Rattle.std.specs.Option.{option_map}
 use Rattle.std.specs.Map.Iter.{deref_pair}
 use Rattle.std.proofs.lemmas.List.{take_all}
 use Rattle.std.proofs.lemmas.Result.{err_from_is_err_and}
-use Rattle.dss_layout.specs.Layout.{complex_count, size_of}
-use Rattle.dss_layout.proofs.CallerLemmas.{take-more}
+use Rattle.dss_ready.specs.dss_layout.Layout.{complex_count, size_of}
+use Rattle.dss_ready.proofs.CallerLemmas.dss_layout.{take-more}
 use Rattle.fd_devices.specs.Building.{AreCollected, device_fits}
-use Rattle.fd_system.specs.Stamps.{stamp_of}
-use Rattle.fd_system.proofs.CallerLemmas.{room_then}
+use Rattle.fd_devices.specs.fd_system.Stamps.{stamp_of}
+use Rattle.fd_devices.proofs.CallerLemmas.fd_system.{room_then}
 use Rattle.fd_devices.specs.Scripted.{device_of, devices_from}
 use Rattle.fd_devices.specs.Settings.{own}
 use Rattle.fd_devices.proofs.CallerLemmas.{collected_more, devices_length}

@@ -1,7 +1,7 @@
 use Rattle.std.proofs.Common.{◌≡◌, length, take}
-use Rattle.dss_layout.specs.Layout.{complex_count, size_of}
+use Rattle.dss_ready.specs.dss_layout.Layout.{complex_count, size_of}
 use Rattle.fd_devices.specs.Building.{AreCollected}
-use Rattle.fd_system.specs.Stamps.{IsRoomSame, stamp_of}
+use Rattle.fd_devices.specs.fd_system.Stamps.{IsRoomSame, stamp_of}
 use Rattle.fd_devices.specs.Scripted.{devices_from}
 use Rattle.fd_devices.specs.Settings.{settings_in}
 use Rattle.fd_network.specs.Stamps.{IsStampsRoomSame, extents_of}

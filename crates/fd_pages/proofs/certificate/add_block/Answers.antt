@@ -1,10 +1,10 @@
 use Rattle.std.proofs.Common.{◌∙◌, ◌++◌, List, ℕ, ap, sym, subst}
 use Rattle.std.proofs.lemmas.List.{map-append}
-use Rattle.dss_layout.specs.Layout.{size_of}
-use Rattle.fd_cert.specs.Claims.{claim_in}
-use Rattle.fd_certfile.specs.Rounds.{IsClaimOf}
+use Rattle.fd_bases.specs.dss_layout.Layout.{size_of}
+use Rattle.fd_outcome.specs.fd_cert.Claims.{claim_in}
+use Rattle.fd_outcome.specs.fd_certfile.Rounds.{IsClaimOf}
 use Rattle.fd_outcome.specs.Certificates.{block_texts}
-use Rattle.fd_outside.specs.Emitted.{pieces_of}
+use Rattle.fd_outcome.specs.fd_outside.Emitted.{pieces_of}
 use Rattle.fd_pages.proofs.Blocks.{same_block}
 use Rattle.fd_pages.proofs.certificate.add_block.Goals as goal
 

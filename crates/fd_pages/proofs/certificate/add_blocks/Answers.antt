@@ -1,5 +1,5 @@
 use Rattle.std.proofs.Common.{arith}
-use Rattle.dss_layout.specs.Layout.{layout_of, size_of}
+use Rattle.fd_bases.specs.dss_layout.Layout.{layout_of, size_of}
 use Rattle.fd_pages.proofs.Blocks.{claim_at}
 use Rattle.fd_pages.proofs.certificate.add_blocks.Goals as goal
 

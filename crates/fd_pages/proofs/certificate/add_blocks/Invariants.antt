@@ -1,5 +1,5 @@
 use Rattle.std.proofs.Common.{◌≡◌, ◌++◌, drop, map}
-use Rattle.fd_outside.specs.Emitted.{pieces_of}
+use Rattle.fd_outcome.specs.fd_outside.Emitted.{pieces_of}
 use Rattle.fd_outcome.specs.Certificates.{blocks_from, blocks_texts}
 use Rattle.fd_outcome.specs.Settles.{Settle}
 use Rattle.fd_pages.specs.Hours.{IsSettleAt, round_in}

@@ -1,9 +1,9 @@
 use Rattle.std.proofs.Common.{◌≡◌, ◌++◌, List, length, map, subst}
 use Rattle.std.specs.Prelude.{OnOk}
-use Rattle.fd_cert.specs.Claims.{claim_in}
-use Rattle.fd_outside.specs.Emitted.{pieces_of}
-use Rattle.fd_settle.specs.Rounds.{seen}
-use Rattle.fd_settle.specs.declared.round.Act.{Act}
+use Rattle.fd_outcome.specs.fd_cert.Claims.{claim_in}
+use Rattle.fd_outcome.specs.fd_outside.Emitted.{pieces_of}
+use Rattle.fd_outcome.specs.fd_settle.Rounds.{seen}
+use Rattle.fd_outcome.specs.fd_settle.declared.round.Act.{Act}
 use Rattle.fd_outcome.specs.Certificates.{block_in, block_texts}
 use Rattle.fd_outcome.specs.Settles.{round_of}
 use Rattle.fd_pages.proofs.certificate.add_tried.Goals as goal

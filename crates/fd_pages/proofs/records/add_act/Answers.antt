@@ -3,9 +3,9 @@ use Rattle.std.specs.Prelude.{OnOk}
 use Rattle.std.specs.Map.Iter.{deref_pair}
 use Rattle.std.specs.Option.{option_map}
 use Rattle.std.proofs.lemmas.Option.{slice_get_past, slice_get_read}
-use Rattle.fd_outside.specs.Emitted.{pieces_of}
-use Rattle.fd_report.specs.Lines.{lines_of}
-use Rattle.fd_settle.specs.Rounds.{seen}
+use Rattle.fd_outcome.specs.fd_outside.Emitted.{pieces_of}
+use Rattle.fd_outcome.specs.fd_report.Lines.{lines_of}
+use Rattle.fd_outcome.specs.fd_settle.Rounds.{seen}
 use Rattle.fd_outcome.specs.Pages.{act_rows_by}
 use Rattle.fd_pages.proofs.Recorded.{control_at, is_found, no_control, no_rows}
 use Rattle.fd_pages.proofs.records.add_act.Goals as goal

@@ -1,7 +1,7 @@
 use Rattle.std.proofs.Common.{◌≡◌, ◌++◌, drop, map}
-use Rattle.fd_outside.specs.Emitted.{pieces_of}
-use Rattle.fd_report.specs.Lines.{lines_of}
-use Rattle.fd_settle.specs.Rounds.{seen}
+use Rattle.fd_outcome.specs.fd_outside.Emitted.{pieces_of}
+use Rattle.fd_outcome.specs.fd_report.Lines.{lines_of}
+use Rattle.fd_outcome.specs.fd_settle.Rounds.{seen}
 use Rattle.fd_outcome.specs.Pages.{act_rows, controls_of}
 use Rattle.fd_pages.proofs.records.add_acts.Given as goal
 

@@ -1,5 +1,5 @@
 use Rattle.std.proofs.Common.{◌∙◌, sym}
-use Rattle.fd_outside.specs.Emitted.{pieces_of}
+use Rattle.fd_outcome.specs.fd_outside.Emitted.{pieces_of}
 use Rattle.fd_pages.proofs.Recorded.{bank_next}
 use Rattle.fd_pages.proofs.records.add_banks.Goals as goal
 

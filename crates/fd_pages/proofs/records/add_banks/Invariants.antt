@@ -1,7 +1,7 @@
 use Rattle.std.proofs.Common.{◌≡◌, ◌++◌}
-use Rattle.fd_outside.specs.Emitted.{pieces_of}
-use Rattle.fd_report.specs.Lines.{lines_of}
-use Rattle.fd_sample.specs.Probes.{positions_in}
+use Rattle.fd_outcome.specs.fd_outside.Emitted.{pieces_of}
+use Rattle.fd_outcome.specs.fd_report.Lines.{lines_of}
+use Rattle.fd_outcome.specs.fd_sample.Probes.{positions_in}
 use Rattle.fd_outcome.specs.Pages.{bank_rows, bank_rows_by, banks_of}
 use Rattle.fd_pages.proofs.records.add_banks.Given as goal
 

@@ -1,6 +1,6 @@
 use Rattle.std.proofs.Common.{◌≡◌, ◌++◌, drop, map}
-use Rattle.fd_outside.specs.Emitted.{pieces_of}
-use Rattle.fd_report.specs.Lines.{lines_of}
+use Rattle.fd_outcome.specs.fd_outside.Emitted.{pieces_of}
+use Rattle.fd_outcome.specs.fd_report.Lines.{lines_of}
 use Rattle.fd_outcome.specs.Pages.{rounds_rows}
 use Rattle.fd_outcome.specs.Settles.{Settle}
 use Rattle.fd_pages.specs.Hours.{IsSettleAt, round_in}

@@ -3,9 +3,9 @@ use Rattle.std.specs.Prelude.{OnOk}
 use Rattle.std.specs.Map.Iter.{deref_pair}
 use Rattle.std.specs.Option.{option_map}
 use Rattle.std.proofs.lemmas.Option.{slice_get_past, slice_get_read}
-use Rattle.fd_outside.specs.Emitted.{pieces_of}
-use Rattle.fd_report.specs.Lines.{lines_of}
-use Rattle.fd_sample.specs.Probes.{positions_in}
+use Rattle.fd_outcome.specs.fd_outside.Emitted.{pieces_of}
+use Rattle.fd_outcome.specs.fd_report.Lines.{lines_of}
+use Rattle.fd_outcome.specs.fd_sample.Probes.{positions_in}
 use Rattle.fd_pages.specs.Places.{tap_rows_of}
 use Rattle.fd_pages.proofs.Recorded.{control_at, is_found, no_control, no_rows}
 use Rattle.fd_pages.proofs.records.add_tap.Goals as goal

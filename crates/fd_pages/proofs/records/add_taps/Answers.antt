@@ -1,7 +1,7 @@
 use Rattle.std.proofs.Common.{◌≤◌, ◌∙◌, arith, length, subst}
-use Rattle.fd_outside.specs.Emitted.{pieces_of}
-use Rattle.fd_sample.specs.Circuits.{probes_of}
-use Rattle.fd_sample.specs.Probes.{positions_in}
+use Rattle.fd_outcome.specs.fd_outside.Emitted.{pieces_of}
+use Rattle.fd_outcome.specs.fd_sample.Circuits.{probes_of}
+use Rattle.fd_outcome.specs.fd_sample.Probes.{positions_in}
 use Rattle.fd_outcome.specs.Pages.{controls_of}
 use Rattle.fd_pages.proofs.Recorded.{no_rows, taps_end, taps_next}
 use Rattle.fd_pages.proofs.records.add_taps.Goals as goal

@@ -1,12 +1,12 @@
 use Rattle.std.proofs.Common.{◌≡◌, ◌++◌, drop}
 use Rattle.std.specs.List.{flat_map, zip}
-use Rattle.dss_model.specs.declared.element.Element.{Element}
-use Rattle.dss_model.specs.declared.names.ElementName.{ElementName}
-use Rattle.fd_outside.specs.Emitted.{pieces_of}
-use Rattle.fd_report.specs.Lines.{lines_of}
-use Rattle.fd_sample.specs.Circuits.{probes_of}
-use Rattle.fd_sample.specs.Probes.{positions_in}
-use Rattle.fd_sample.specs.declared.probe.Probe.{Probe}
+use Rattle.fd_bases.specs.dss_model.declared.element.Element.{Element}
+use Rattle.fd_bases.specs.dss_model.declared.names.ElementName.{ElementName}
+use Rattle.fd_outcome.specs.fd_outside.Emitted.{pieces_of}
+use Rattle.fd_outcome.specs.fd_report.Lines.{lines_of}
+use Rattle.fd_outcome.specs.fd_sample.Circuits.{probes_of}
+use Rattle.fd_outcome.specs.fd_sample.Probes.{positions_in}
+use Rattle.fd_outcome.specs.fd_sample.declared.probe.Probe.{Probe}
 use Rattle.fd_outcome.specs.Pages.{controls_of, tap_rows, tap_rows_by}
 use Rattle.fd_pages.proofs.records.add_taps.Given as goal
 

@@ -1,6 +1,6 @@
 use Rattle.std.proofs.Common.{◌≡◌, ◌++◌, drop}
 use Rattle.fd_bases.specs.Bases.{bases_of}
-use Rattle.fd_outside.specs.Emitted.{pieces_of}
+use Rattle.fd_outcome.specs.fd_outside.Emitted.{pieces_of}
 use Rattle.fd_pages.specs.Bases.{base_texts}
 use Rattle.fd_pages.proofs.records.base_records.Given as goal
 

@@ -1,6 +1,6 @@
 use Rattle.std.proofs.Common.{◌≡◌, Some, filter, map, slice_get, take}
-use Rattle.dss_model.specs.declared.element.Element.{Element}
-use Rattle.dss_model.specs.declared.names.ElementName.{ElementName}
+use Rattle.fd_bases.specs.dss_model.declared.element.Element.{Element}
+use Rattle.fd_bases.specs.dss_model.declared.names.ElementName.{ElementName}
 use Rattle.fd_outcome.specs.Pages.{is_control}
 use Rattle.fd_pages.proofs.records.control_places.Given as goal
 

@@ -2,7 +2,7 @@ use Rattle.std.proofs.Common.{◌∙◌, ap}
 use Rattle.std.specs.Int.{w128}
 use Rattle.std.specs.Prelude.{unsigned_abs}
 use Rattle.std.proofs.lemmas.Int.{to_z-of_z}
-use Rattle.fd_decimal.specs.Decimals.{size_text}
+use Rattle.dss_script.specs.fd_decimal.Decimals.{size_text}
 use Rattle.fd_report.proofs.faults.not_converged_record.Goals as goal
 
 pub returns : goal.returns

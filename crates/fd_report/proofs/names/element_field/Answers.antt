@@ -1,6 +1,6 @@
 use Rattle.std.proofs.Common.{◌≡◌, ◌∙◌, ◌∷◌, ◌++◌, IfOk, ap, subst}
 use Rattle.std.specs.Str.{chars}
-use Rattle.dss_model.specs.Names.{bytes}
+use Rattle.dss_script.specs.dss_model.Names.{bytes}
 use Rattle.fd_report.proofs.NameBytes.{bytes_of_element}
 use Rattle.fd_report.proofs.names.element_field.Goals as goal
 

@@ -1,5 +1,5 @@
 use Rattle.std.proofs.Common.{◌≡◌, ◌++◌, drop}
-use Rattle.fd_outside.specs.Emitted.{pieces_of}
+use Rattle.dss_script.specs.fd_outside.Emitted.{pieces_of}
 use Rattle.fd_report.specs.Lines.{IsReady, lines_of}
 use Rattle.fd_report.specs.Records.{node_records}
 use Rattle.fd_report.proofs.report.push_nodes.Given as goal

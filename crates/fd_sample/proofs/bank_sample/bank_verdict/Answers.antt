@@ -1,6 +1,6 @@
 use Rattle.std.proofs.Common.{sym, subst}
 use Rattle.std.specs.Prelude.{IsSome}
-use Rattle.fd_arith.specs.Interval.{Bounds}
+use Rattle.fd_regctl.specs.fd_arith.Interval.{Bounds}
 use Rattle.fd_sample.specs.Banks.{cap_decision, cap_edge}
 use Rattle.fd_sample.specs.Samples.{IsRootSample, IsValueSample, TellsEdge, least_root, greatest_root, least_value, greatest_value}
 use Rattle.fd_sample.proofs.Banks.{IsSampled, of_voltage, of_current, of_power, cap_of_all}

@@ -1,8 +1,8 @@
 use Rattle.std.proofs.Common.{◌∙◌, ap, sym, subst, rules, ℕ, ℤ, FitsSigned}
 use Rattle.std.specs.Int.{w128}
 use Rattle.std.proofs.lemmas.Int.{to_z-of_z}
-use Rattle.fd_queue.specs.Decisions.{IsEdge}
-use Rattle.fd_queue.specs.Quantities.{magnitude}
+use Rattle.fd_regctl.specs.fd_queue.Decisions.{IsEdge}
+use Rattle.fd_regctl.specs.fd_queue.Quantities.{magnitude}
 use Rattle.fd_sample.specs.Banks.{cap_decision, cap_edge}
 use Rattle.fd_sample.specs.Samples.{least_root, greatest_root}
 use Rattle.fd_sample.proofs.Samples.{root_sample, tells_edge}

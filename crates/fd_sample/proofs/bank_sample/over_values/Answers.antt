@@ -1,8 +1,8 @@
 use Rattle.std.proofs.Common.{◌∙◌, ap, sym, subst, rules, ◌^◌, ℤ, FitsSigned}
 use Rattle.std.specs.Int.{w128}
 use Rattle.std.proofs.lemmas.Int.{to_z-of_z}
-use Rattle.fd_queue.specs.Decisions.{IsEdge}
-use Rattle.fd_queue.specs.Quantities.{value}
+use Rattle.fd_regctl.specs.fd_queue.Decisions.{IsEdge}
+use Rattle.fd_regctl.specs.fd_queue.Quantities.{value}
 use Rattle.fd_sample.proofs.Banks.{least_at, greatest_at}
 use Rattle.fd_sample.specs.Banks.{cap_decision, cap_edge}
 use Rattle.fd_sample.specs.Samples.{least_value, greatest_value}

@@ -1,9 +1,9 @@
 use Rattle.std.proofs.Common.{◌∙◌, ap, Bool, map, is_some}
 use Rattle.std.specs.List.{position}
 use Rattle.std.specs.Map.{lookup}
-use Rattle.dss_model.specs.declared.element.Element.{Element}
-use Rattle.dss_model.specs.declared.names.ElementName.{ElementName}
-use Rattle.dss_model.proofs.CallerLemmas.{compares}
+use Rattle.fd_network.specs.dss_model.declared.element.Element.{Element}
+use Rattle.fd_network.specs.dss_model.declared.names.ElementName.{ElementName}
+use Rattle.fd_network.proofs.CallerLemmas.dss_model.{compares}
 use Rattle.fd_sample.proofs.Places.{there_by}
 use Rattle.fd_sample.proofs.circuit.index_of.Goals as goal
 

@@ -1,6 +1,6 @@
 use Rattle.std.proofs.Common.{◌∙◌, ap, sym}
 use Rattle.std.specs.Prelude.{option_copied}
-use Rattle.dss_layout.specs.Layout.{complex_count, size_of}
+use Rattle.fd_network.specs.dss_layout.Layout.{complex_count, size_of}
 use Rattle.fd_sample.proofs.Standing.{stands_of}
 use Rattle.fd_sample.proofs.circuit.probe_at.Goals as goal
 

@@ -1,5 +1,5 @@
 use Rattle.std.proofs.Common.{◌≡◌, subst, Some}
-use Rattle.dss_layout.specs.Layout.{Elements}
+use Rattle.fd_network.specs.dss_layout.Layout.{Elements}
 use Rattle.fd_sample.specs.Circuits.{element_at}
 use Rattle.fd_sample.proofs.Standing.{capcontrol_in, regcontrol_in}
 use Rattle.fd_sample.proofs.circuit.probe_at_place.Goals as goal

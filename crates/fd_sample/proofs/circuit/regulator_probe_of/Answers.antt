@@ -1,9 +1,9 @@
 use Rattle.std.proofs.Common.{◌≡◌, ◌∙◌, ◌<◌, sym, subst, length, Some}
 use Rattle.std.proofs.lemmas.Result.{IfOk-weaker}
-use Rattle.dss_model.specs.declared.names.Class.TheVariants as class
-use Rattle.dss_layout.specs.Layout.{Elements, LayoutView}
-use Rattle.dss_circuit.specs.Lookups.{element_given}
-use Rattle.fd_devices.specs.Settings.{tap_count}
+use Rattle.fd_network.specs.dss_model.declared.names.Class.TheVariants as class
+use Rattle.fd_network.specs.dss_layout.Layout.{Elements, LayoutView}
+use Rattle.fd_network.specs.dss_circuit.Lookups.{element_given}
+use Rattle.fd_network.specs.fd_devices.Settings.{tap_count}
 use Rattle.fd_sample.specs.Circuits.{IsXfmrFor, element_at, place_given}
 use Rattle.fd_sample.proofs.Places.{number_at, numbers_inside}
 use Rattle.fd_sample.proofs.Standing.{place_inside, probe_in, xfmr_for}

@@ -1,5 +1,5 @@
 use Rattle.std.proofs.Common.{Bool, sym, subst}
-use Rattle.fd_arith.specs.declared.terms.TapPair.{TapPair}
+use Rattle.fd_regctl.specs.fd_arith.declared.terms.TapPair.{TapPair}
 use Rattle.fd_sample.specs.Probes.{positions_in}
 use Rattle.fd_sample.proofs.Decided.{sample_told}
 use Rattle.fd_sample.proofs.ByControl.{IsSampledAt, IsRegSample, IsBankSample, of_regulator, of_bank}

@@ -1,5 +1,5 @@
 use Rattle.std.proofs.Common.{ℕ, ◌∙◌, sym, subst}
-use Rattle.fd_arith.specs.Interval.{Bounds}
+use Rattle.fd_regctl.specs.fd_arith.Interval.{Bounds}
 use Rattle.fd_sample.specs.Regulators.{wanted_at, edge_at, own_tap}
 use Rattle.fd_sample.specs.Samples.{IsRootSample, TellsEdge, least_root, greatest_root}
 use Rattle.fd_sample.proofs.Regulators.{reg_of_all}

@@ -2,11 +2,11 @@ use Rattle.std.proofs.Common.{◌≡◌, ◌≤◌, ◌∙◌, ap, sym, subst, �
 use Rattle.std.specs.Int.{w32}
 use Rattle.std.specs.Prelude.{nat_abs}
 use Rattle.std.proofs.lemmas.Int.{ints}
-use Rattle.fd_xfmr.specs.declared.data.XfmrData.{XfmrData}
-use Rattle.fd_xfmr.specs.declared.terms.PhaseAt.{PhaseAt}
-use Rattle.fd_xfmr.specs.Transformer.{phase_at}
-use Rattle.fd_xfmr.specs.Windings.{first_volts, second_volts}
-use Rattle.fd_devices.specs.Data.{xfmr_data_of}
+use Rattle.fd_network.specs.fd_xfmr.declared.data.XfmrData.{XfmrData}
+use Rattle.fd_network.specs.fd_xfmr.declared.terms.PhaseAt.{PhaseAt}
+use Rattle.fd_network.specs.fd_xfmr.Transformer.{phase_at}
+use Rattle.fd_network.specs.fd_xfmr.Windings.{first_volts, second_volts}
+use Rattle.fd_network.specs.fd_devices.Data.{xfmr_data_of}
 use Rattle.fd_sample.specs.Scripted.{phase_index, step_of}
 use Rattle.fd_sample.proofs.Signed.{back, back_narrow, size_between, size_within}
 use Rattle.fd_sample.proofs.Sites.{reg_places}

@@ -1,7 +1,7 @@
 use Rattle.std.proofs.Common.{◌∙◌, IfSome, ap, sym, subst}
 use Rattle.std.specs.Map.{lookup}
 use Rattle.std.proofs.lemmas.Map.Entries.{All-lookup}
-use Rattle.dss_model.specs.InRange.{ElementInRange}
+use Rattle.fd_devices.specs.dss_model.InRange.{ElementInRange}
 use Rattle.fd_settings.proofs.hours.find_shape.Goals as goal
 
 pub returns-in_ok-name-in-Some-clause-in_range : goal.returns-in_ok-name-in-Some-clause-in_range

@@ -1,7 +1,7 @@
 use Rattle.std.proofs.Common.{subst}
 use Rattle.std.specs.Int.{w128}
 use Rattle.std.proofs.lemmas.Int.{to_z-of_z}
-use Rattle.fd_elements.specs.Powers.{IsLoadPower}
+use Rattle.fd_devices.specs.fd_elements.Powers.{IsLoadPower}
 use Rattle.fd_settings.proofs.PowerOf.{power_is}
 use Rattle.fd_settings.proofs.hours.phase_power.Goals as goal
 

@@ -1,9 +1,9 @@
 use Rattle.std.proofs.Common.{◌∙◌, ◌++◌, ap, sym, slice_get}
 use Rattle.std.specs.Option.{option_map}
 use Rattle.std.specs.Map.Iter.{deref_pair}
-use Rattle.dss_model.specs.InRange.{ElementInRange}
-use Rattle.dss_model.specs.declared.element.Element.{Element}
-use Rattle.dss_model.specs.declared.names.ElementName.{ElementName}
+use Rattle.fd_devices.specs.dss_model.InRange.{ElementInRange}
+use Rattle.fd_devices.specs.dss_model.declared.element.Element.{Element}
+use Rattle.fd_devices.specs.dss_model.declared.names.ElementName.{ElementName}
 use Rattle.fd_settings.specs.Hours.{element_powers}
 use Rattle.fd_devices.proofs.CallerLemmas.{all_at}
 use Rattle.fd_settings.proofs.Steps.{flat_map_at}

@@ -1,7 +1,7 @@
 use Rattle.std.proofs.Common.{◌≡◌, take}
 use Rattle.std.specs.List.{All, flat_map}
-use Rattle.dss_model.specs.declared.element.Element.{Element}
-use Rattle.dss_model.specs.declared.names.ElementName.{ElementName}
+use Rattle.fd_devices.specs.dss_model.declared.element.Element.{Element}
+use Rattle.fd_devices.specs.dss_model.declared.names.ElementName.{ElementName}
 use Rattle.fd_devices.specs.Building.{IsModest}
 use Rattle.fd_settings.specs.Hours.{element_powers}
 use Rattle.fd_settings.proofs.hours.powers_at.Given as goal

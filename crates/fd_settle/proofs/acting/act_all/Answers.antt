@@ -1,7 +1,7 @@
 use Rattle.std.proofs.Common.{false, ◌≡◌, ◌+◌, ◌<◌, ◌++◌, ◌∷◌, [], List, length, map, get_or, set, ap, arith, rules, subst, sym, ◌∙◌}
 use Rattle.std.proofs.lemmas.List.{length-map, map_push}
-use Rattle.fd_queue.specs.Machine.{Act}
-use Rattle.fd_queue.specs.declared.entry.Entry.{Entry}
+use Rattle.fd_sample.specs.fd_queue.Machine.{Act}
+use Rattle.fd_sample.specs.fd_queue.declared.entry.Entry.{Entry}
 use Rattle.fd_settle.specs.Rounds.{seen}
 use Rattle.fd_settle.proofs.Acts.{IsActing, all_acted_acts, all_acted_machine, next_acted, standing_place}
 use Rattle.fd_settle.proofs.Lists.{each_at}

@@ -1,9 +1,9 @@
 use Rattle.std.proofs.Common.{◌≡◌, map, length, get_or, ap, arith, subst, sym, ◌∙◌}
 use Rattle.std.proofs.lemmas.List.{get_or-map, length-map}
-use Rattle.fd_queue.specs.Decisions.{Decision}
-use Rattle.fd_queue.specs.Verdicts.{decision}
+use Rattle.fd_sample.specs.fd_queue.Decisions.{Decision}
+use Rattle.fd_sample.specs.fd_queue.Verdicts.{decision}
 use Rattle.fd_settle.specs.Acting.{Reacts, with_verdict}
-use Rattle.fd_queue.specs.declared.verdict.Verdict.TheVariants.{Raise}
+use Rattle.fd_sample.specs.fd_queue.declared.verdict.Verdict.TheVariants.{Raise}
 use Rattle.fd_settle.proofs.Reactions.{next_early, next_reacted, next_room, none_reacted}
 use Rattle.fd_settle.proofs.reacting.react_all.Goals as goal
 

@@ -1,5 +1,5 @@
 use Rattle.std.proofs.Common.{map}
-use Rattle.fd_queue.specs.Verdicts.{decision}
+use Rattle.fd_sample.specs.fd_queue.Verdicts.{decision}
 use Rattle.fd_settle.proofs.Reactions.{IsReacting}
 use Rattle.fd_settle.proofs.reacting.react_all.Given as goal
 

@@ -2,7 +2,7 @@ use Rattle.std.proofs.Common.{◌≡◌, ◌++◌, ◌∷◌, [], rules, true, S
 use Rattle.std.proofs.lemmas.List.{length_push}
 use Rattle.std.specs.Int.{w128}
 use Rattle.std.proofs.lemmas.Int.{to_z-of_z}
-use Rattle.fd_queue.specs.Verdicts.{is_decided}
+use Rattle.fd_sample.specs.fd_queue.Verdicts.{is_decided}
 use Rattle.fd_sample.specs.Probes.{HasDevice, IsProbe, positions_in}
 use Rattle.fd_settle.proofs.Samplings.{all_decided, at_control, decided_by, one_decided, one_unclear, push_decided, unclear_same}
 use Rattle.fd_settle.proofs.sampling.sample_all.Goals as goal

@@ -1,5 +1,5 @@
 use Rattle.std.proofs.Common.{◌≡◌, ◌≤◌, map, drop, length, vec_capacity}
-use Rattle.fd_queue.specs.Verdicts.{decision}
+use Rattle.fd_sample.specs.fd_queue.Verdicts.{decision}
 use Rattle.fd_sample.specs.Probes.{positions_in}
 use Rattle.fd_settle.specs.Acting.{AreDecided, sampled_over}
 use Rattle.fd_settle.specs.Sampling.{sampling_of}

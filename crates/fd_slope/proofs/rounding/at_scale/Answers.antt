@@ -1,9 +1,9 @@
 use Rattle.std.proofs.Common.{◌≡◌, ◌∙◌, ◌*◌, ◌^◌, pos, ◌*ℤ◌, Some, arith, ap, rules, to_z, of_z, nat_abs}
 use Rattle.std.specs.Int.{w128}
 use Rattle.std.proofs.lemmas.Int.{to_z_pos}
-use Rattle.fd_exact.specs.Quotients.{ceil_nat_least}
-use Rattle.fd_exact.specs.Rounding.{ceil_div}
-use Rattle.fd_arith.specs.Limits.{bounded}
+use Rattle.fd_load.specs.fd_exact.Quotients.{ceil_nat_least}
+use Rattle.fd_load.specs.fd_exact.Rounding.{ceil_div}
+use Rattle.fd_load.specs.fd_arith.Limits.{bounded}
 use Rattle.fd_slope.specs.Radii.{at_scale}
 use Rattle.fd_slope.proofs.Bounded.{quotient_some, read_natural, same_value}
 use Rattle.fd_slope.proofs.rounding.at_scale.Goals as goal

@@ -1,9 +1,9 @@
 use Rattle.std.proofs.Common.{◌≡◌, ◌∙◌, ◌*◌, ◌^◌, ◌≤◌, ℤ, pos, Some, arith, ap, rules, to_z, of_z, nat_abs}
 use Rattle.std.specs.Int.{w128}
 use Rattle.std.proofs.lemmas.Int.{to_z_pos}
-use Rattle.fd_exact.specs.Quotients.{ceil_nat_least}
-use Rattle.fd_exact.specs.Rounding.{floor_div}
-use Rattle.fd_arith.specs.Interval.{capped, product}
+use Rattle.fd_load.specs.fd_exact.Quotients.{ceil_nat_least}
+use Rattle.fd_load.specs.fd_exact.Rounding.{floor_div}
+use Rattle.fd_load.specs.fd_arith.Interval.{capped, product}
 use Rattle.fd_slope.specs.Radii.{product_up}
 use Rattle.fd_slope.proofs.Bounded.{point_is, product_is, product_most, read_natural, same_value}
 use Rattle.fd_slope.proofs.rounding.product_up.Goals as goal

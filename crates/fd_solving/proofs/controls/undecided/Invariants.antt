@@ -1,6 +1,6 @@
 use Rattle.std.proofs.Common.{◌≡◌}
 use Rattle.std.specs.Prelude.{slice_get}
-use Rattle.fd_outcome.specs.Pages.{controls_of}
+use Rattle.fd_pages.specs.fd_outcome.Pages.{controls_of}
 use Rattle.fd_solving.proofs.controls.undecided.Given as goal
 
 -- the control looked for is so many controls behind those before

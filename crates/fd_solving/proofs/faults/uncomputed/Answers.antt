@@ -1,6 +1,6 @@
 use Rattle.std.proofs.Common.{sym, subst}
-use Rattle.fd_outcome.specs.Settles.{SettleEnd}
-use Rattle.fd_settle.specs.declared.compute.ComputeFault.TheVariants as compute
+use Rattle.fd_pages.specs.fd_outcome.Settles.{SettleEnd}
+use Rattle.fd_daily.specs.fd_settle.declared.compute.ComputeFault.TheVariants as compute
 use Rattle.fd_solving.specs.Endings.{IsEnding, ending_by_solver}
 use Rattle.fd_solving.specs.Solving.{IsEndBy}
 use Rattle.fd_solving.proofs.Tried.{end_failed}

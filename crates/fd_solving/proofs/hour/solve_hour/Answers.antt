@@ -1,15 +1,15 @@
 use Rattle.std.proofs.Common.{◌≡◌, ◌∙◌, ◌+◌, List, Ok, Err, ap, refl, subst}
-use Rattle.dss_circuit.specs.Circuit.{CircuitView}
+use Rattle.dss_commands.specs.dss_circuit.Circuit.{CircuitView}
 use Rattle.fd_daily.specs.Day.{begun_hour, hour_in}
 use Rattle.fd_daily.specs.Underway.{plant_at}
-use Rattle.fd_settings.specs.Hours.{hour_powers}
-use Rattle.fd_devices.specs.declared.settings.Powers.{Powers}
-use Rattle.fd_elements.specs.declared.powers.LoadPower.{LoadPower}
-use Rattle.fd_queue.specs.Controls.{Positions}
-use Rattle.fd_sample.specs.Probes.{positions_in}
-use Rattle.fd_settle.specs.Contract.{limits_of}
-use Rattle.fd_settle.specs.Start.{ArePositions}
-use Rattle.fd_settle.proofs.CallerLemmas.{computed}
+use Rattle.fd_daily.specs.fd_settings.Hours.{hour_powers}
+use Rattle.fd_daily.specs.fd_devices.declared.settings.Powers.{Powers}
+use Rattle.fd_daily.specs.fd_elements.declared.powers.LoadPower.{LoadPower}
+use Rattle.fd_daily.specs.fd_queue.Controls.{Positions}
+use Rattle.fd_daily.specs.fd_sample.Probes.{positions_in}
+use Rattle.fd_daily.specs.fd_settle.Contract.{limits_of}
+use Rattle.fd_daily.specs.fd_settle.Start.{ArePositions}
+use Rattle.fd_daily.proofs.CallerLemmas.fd_settle.{computed}
 use Rattle.fd_solving.specs.Answered.{kept_in}
 use Rattle.fd_solving.proofs.Settled.{IsMade, ended_by_fault, ended_well, within}
 use Rattle.fd_solving.proofs.Tried.{tried_by_calls}

@@ -1,9 +1,9 @@
 use Rattle.std.proofs.Common.{◌≡◌, ◌∙◌, ◌+◌, ℕ, None, Some, ap, inl, inr, length, refl, sym, subst, arith}
 use Rattle.std.proofs.lemmas.List.{length-map}
-use Rattle.dss_layout.specs.Layout.{LayoutView, complex_count}
+use Rattle.fd_pages.specs.dss_layout.Layout.{LayoutView, complex_count}
 use Rattle.fd_daily.specs.Day.{hour_in}
-use Rattle.fd_sample.specs.Probes.{positions_in}
-use Rattle.fd_outcome.specs.Settles.{settled}
+use Rattle.fd_daily.specs.fd_sample.Probes.{positions_in}
+use Rattle.fd_pages.specs.fd_outcome.Settles.{settled}
 use Rattle.fd_pages.specs.Hours.{round_in, rounds_in, settle_made}
 use Rattle.fd_solving.specs.Answered.{IsMadeHour, kept_in}
 use Rattle.fd_solving.specs.Tallies.{with_rounds}

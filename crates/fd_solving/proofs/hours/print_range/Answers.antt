@@ -1,8 +1,8 @@
 use Rattle.std.proofs.Common.{[], ◌∷◌}
-use Rattle.fd_report.specs.declared.faults.Cause.TheVariants as cause
-use Rattle.fd_report.specs.declared.faults.Fault.TheVariants as fault
-use Rattle.fd_outcome.specs.Calls.{fault_text, writes}
-use Rattle.fd_outcome.proofs.CallerLemmas.{cut_before, fault_cut}
+use Rattle.fd_pages.specs.fd_report.declared.faults.Cause.TheVariants as cause
+use Rattle.fd_pages.specs.fd_report.declared.faults.Fault.TheVariants as fault
+use Rattle.fd_pages.specs.fd_outcome.Calls.{fault_text, writes}
+use Rattle.fd_pages.proofs.CallerLemmas.fd_outcome.{cut_before, fault_cut}
 use Rattle.fd_solving.proofs.hours.print_range.Goals as goal
 
 pub returns-in-Err-clause-prints : goal.returns-in-Err-clause-prints

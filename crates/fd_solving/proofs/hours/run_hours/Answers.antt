@@ -1,7 +1,7 @@
 use Rattle.std.specs.Prelude.{is_none, is_some, not}
 use Rattle.std.proofs.Common.{◌≡◌, ◌∙◌, ℕ, Bool, true, false, Option, Some, None, List, length, refl, sym, ap, subst, arith}
 use Rattle.fd_daily.specs.Day.{DayView, hour_in, hours_left}
-use Rattle.fd_outcome.proofs.CallerLemmas.{wrote_nothing}
+use Rattle.fd_pages.proofs.CallerLemmas.fd_outcome.{wrote_nothing}
 use Rattle.fd_solving.specs.Answered.{kept_in}
 use Rattle.fd_daily.proofs.CallerLemmas.{left_hours, next_first, none_left}
 use Rattle.fd_solving.proofs.Hourly.{HourWay, way_done, way_ended, way_printed, way_range, way_short, way_start}

@@ -1,6 +1,6 @@
 use Rattle.fd_daily.specs.Day.{hours_left}
 use Rattle.fd_daily.specs.Hours.{hours_of}
-use Rattle.fd_sample.specs.Probes.{positions_in}
+use Rattle.fd_daily.specs.fd_sample.Probes.{positions_in}
 use Rattle.fd_solving.specs.Answered.{kept_in}
 use Rattle.fd_solving.specs.Solving.{IsHoursStep, IsSolutionStep, kept_first}
 use Rattle.fd_solving.specs.Steps.{standing}

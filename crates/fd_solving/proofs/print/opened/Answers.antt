@@ -1,8 +1,8 @@
 use Rattle.std.proofs.Common.{◌∙◌, ◌++◌, List, ℕ, map, ap, sym}
 use Rattle.std.proofs.lemmas.List.{map-append}
-use Rattle.fd_outside.specs.Emitted.{pieces_of}
-use Rattle.fd_outcome.specs.Behind.{has_text}
-use Rattle.fd_outcome.specs.Calls.{writes}
+use Rattle.fd_pages.specs.fd_outside.Emitted.{pieces_of}
+use Rattle.fd_pages.specs.fd_outcome.Behind.{has_text}
+use Rattle.fd_pages.specs.fd_outcome.Calls.{writes}
 use Rattle.fd_solving.proofs.Handed.{opened_first, opened_nothing}
 use Rattle.fd_solving.proofs.print.opened.Goals as goal
 

@@ -1,11 +1,11 @@
 use Rattle.std.proofs.Common.{◌∙◌, List, subst}
 use Rattle.std.specs.Prelude.{IfNone, IfSome}
-use Rattle.fd_bases.specs.Bases.{bases_of}
-use Rattle.fd_outside.specs.Emitted.{pieces_of}
-use Rattle.fd_outcome.specs.Calls.{Call}
-use Rattle.fd_outcome.specs.Parts.{IsCutIn, Wrote}
-use Rattle.fd_outcome.specs.Way.{whole}
-use Rattle.fd_outcome.proofs.CallerLemmas.{cut_before}
+use Rattle.fd_pages.specs.fd_bases.Bases.{bases_of}
+use Rattle.fd_pages.specs.fd_outside.Emitted.{pieces_of}
+use Rattle.fd_pages.specs.fd_outcome.Calls.{Call}
+use Rattle.fd_pages.specs.fd_outcome.Parts.{IsCutIn, Wrote}
+use Rattle.fd_pages.specs.fd_outcome.Way.{whole}
+use Rattle.fd_pages.proofs.CallerLemmas.fd_outcome.{cut_before}
 use Rattle.fd_pages.specs.Bases.{base_events}
 use Rattle.fd_solving.proofs.Handed.{bases_silent, silent_begun, silent_calls}
 use Rattle.fd_solving.proofs.print.print_bases.Goals as goal

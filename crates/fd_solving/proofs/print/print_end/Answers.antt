@@ -1,7 +1,7 @@
 use Rattle.std.proofs.Common.{None, map, refl}
-use Rattle.fd_outside.specs.Emitted.{pieces_of}
-use Rattle.fd_outcome.specs.Calls.{writes}
-use Rattle.fd_outcome.proofs.CallerLemmas.{cut_by_fault, cut_by_memory}
+use Rattle.fd_pages.specs.fd_outside.Emitted.{pieces_of}
+use Rattle.fd_pages.specs.fd_outcome.Calls.{writes}
+use Rattle.fd_pages.proofs.CallerLemmas.fd_outcome.{cut_by_fault, cut_by_memory}
 use Rattle.fd_solving.proofs.Handed.{ended_whole, no_pieces, printed_cut}
 use Rattle.fd_solving.proofs.print.print_end.Goals as goal
 

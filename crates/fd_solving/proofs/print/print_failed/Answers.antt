@@ -1,7 +1,7 @@
 use Rattle.std.proofs.Common.{◌∙◌, true, [], Some, map, ap}
-use Rattle.fd_outside.specs.Emitted.{pieces_of}
-use Rattle.fd_outcome.specs.Calls.{fault_text, writes}
-use Rattle.fd_outcome.proofs.CallerLemmas.{cut_before, cut_by_fault, cut_by_memory, not_empty}
+use Rattle.fd_pages.specs.fd_outside.Emitted.{pieces_of}
+use Rattle.fd_pages.specs.fd_outcome.Calls.{fault_text, writes}
+use Rattle.fd_pages.proofs.CallerLemmas.fd_outcome.{cut_before, cut_by_fault, cut_by_memory, not_empty}
 use Rattle.fd_solving.proofs.Handed.{cut_as, failed_whole, printed_cut}
 use Rattle.fd_solving.proofs.print.print_failed.Goals as goal
 

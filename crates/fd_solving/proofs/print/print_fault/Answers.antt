@@ -1,6 +1,6 @@
 use Rattle.std.proofs.Common.{[], ◌∷◌}
-use Rattle.fd_outcome.specs.Calls.{fault_text, writes}
-use Rattle.fd_outcome.proofs.CallerLemmas.{cut_before, cut_by_fault, cut_by_memory, fault_cut, fault_whole}
+use Rattle.fd_pages.specs.fd_outcome.Calls.{fault_text, writes}
+use Rattle.fd_pages.proofs.CallerLemmas.fd_outcome.{cut_before, cut_by_fault, cut_by_memory, fault_cut, fault_whole}
 use Rattle.fd_solving.proofs.print.print_fault.Goals as goal
 
 pub returns-in_default-clause-prints : goal.returns-in_default-clause-prints

@@ -1,8 +1,8 @@
 use Rattle.std.proofs.Common.{◌∙◌, None, map, ap, sym}
-use Rattle.fd_outside.specs.Emitted.{pieces_of}
-use Rattle.fd_outcome.specs.Behind.{closes}
-use Rattle.fd_outcome.specs.Calls.{writes}
-use Rattle.fd_outcome.proofs.CallerLemmas.{cut_before}
+use Rattle.fd_pages.specs.fd_outside.Emitted.{pieces_of}
+use Rattle.fd_pages.specs.fd_outcome.Behind.{closes}
+use Rattle.fd_pages.specs.fd_outcome.Calls.{writes}
+use Rattle.fd_pages.proofs.CallerLemmas.fd_outcome.{cut_before}
 use Rattle.fd_solving.proofs.Handed.{closed, printed_as, printed_cut}
 use Rattle.fd_solving.proofs.print.print_last.Goals as goal
 

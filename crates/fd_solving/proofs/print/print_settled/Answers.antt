@@ -1,13 +1,13 @@
 use Rattle.std.proofs.Common.{◌∙◌, List, [], ◌∷◌, subst}
 use Rattle.std.specs.Prelude.{IfNone, IfSome}
-use Rattle.fd_outside.specs.Emitted.{pieces_of}
-use Rattle.fd_outcome.specs.Calls.{Call}
-use Rattle.fd_outcome.specs.Events.{settle}
-use Rattle.fd_outcome.specs.Parts.{IsCutIn, Wrote}
-use Rattle.fd_outcome.specs.Settles.{settled}
-use Rattle.fd_outcome.specs.Way.{whole}
-use Rattle.fd_outcome.proofs.CallerLemmas.{cut_before}
-use Rattle.fd_sample.specs.Probes.{positions_in}
+use Rattle.fd_pages.specs.fd_outside.Emitted.{pieces_of}
+use Rattle.fd_pages.specs.fd_outcome.Calls.{Call}
+use Rattle.fd_pages.specs.fd_outcome.Events.{settle}
+use Rattle.fd_pages.specs.fd_outcome.Parts.{IsCutIn, Wrote}
+use Rattle.fd_pages.specs.fd_outcome.Settles.{settled}
+use Rattle.fd_pages.specs.fd_outcome.Way.{whole}
+use Rattle.fd_pages.proofs.CallerLemmas.fd_outcome.{cut_before}
+use Rattle.fd_daily.specs.fd_sample.Probes.{positions_in}
 use Rattle.fd_pages.specs.Hours.{settle_made}
 use Rattle.fd_solving.proofs.Handed.{silent_begun, silent_calls, texts_alone}
 use Rattle.fd_solving.proofs.print.print_settled.Goals as goal

@@ -1,7 +1,7 @@
 use Rattle.std.proofs.Common.{◌∙◌, map, ap}
-use Rattle.fd_outside.specs.Emitted.{pieces_of}
-use Rattle.fd_outcome.specs.Calls.{writes}
-use Rattle.fd_outcome.proofs.CallerLemmas.{cut_before, cut_by_fault, cut_by_memory}
+use Rattle.fd_pages.specs.fd_outside.Emitted.{pieces_of}
+use Rattle.fd_pages.specs.fd_outcome.Calls.{writes}
+use Rattle.fd_pages.proofs.CallerLemmas.fd_outcome.{cut_before, cut_by_fault, cut_by_memory}
 use Rattle.fd_solving.proofs.Handed.{cut_as, wrote_as}
 use Rattle.fd_solving.proofs.print.print_texts.Goals as goal
 

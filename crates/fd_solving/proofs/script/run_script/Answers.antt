@@ -1,12 +1,12 @@
 use Rattle.std.proofs.Common.{Some, None, Ok, Err, refl, sym, subst, arith}
-use Rattle.fd_outside.specs.Answers.{names_asked}
-use Rattle.fd_outside.specs.Files.{held}
-use Rattle.fd_outside.proofs.CallerLemmas.{agrees_before, agrees_behind, failed_behind, later_then}
-use Rattle.dss_model.specs.Names.{bytes}
-use Rattle.dss_script.specs.Said.{ScriptEnd, end_in, said_in}
-use Rattle.dss_script.specs.Sessions.{remaining}
-use Rattle.dss_script.specs.declared.fault.SessionFault.TheVariants as session
-use Rattle.fd_outcome.proofs.CallerLemmas.{At, at_start, at_asked, at_command, ends_command, ends_finished, ends_refused, ends_short, ends_unread, gives_next, command_answers, shown_more, shown_nothing, untold_fault, untold_finished, untold_read, untold_refused, untold_short}
+use Rattle.fd_pages.specs.fd_outside.Answers.{names_asked}
+use Rattle.fd_pages.specs.fd_outside.Files.{held}
+use Rattle.fd_pages.proofs.CallerLemmas.fd_outside.{agrees_before, agrees_behind, failed_behind, later_then}
+use Rattle.dss_commands.specs.dss_model.Names.{bytes}
+use Rattle.fd_pages.specs.dss_script.Said.{ScriptEnd, end_in, said_in}
+use Rattle.fd_pages.specs.dss_script.Sessions.{remaining}
+use Rattle.fd_pages.specs.dss_script.declared.fault.SessionFault.TheVariants as session
+use Rattle.fd_pages.proofs.CallerLemmas.fd_outcome.{At, at_start, at_asked, at_command, ends_command, ends_finished, ends_refused, ends_short, ends_unread, gives_next, command_answers, shown_more, shown_nothing, untold_fault, untold_finished, untold_read, untold_refused, untold_short}
 use Rattle.fd_solving.proofs.script.run_script.Goals as goal
 
 pub loop-command-init : goal.loop-command-init

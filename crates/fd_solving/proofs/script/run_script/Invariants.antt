@@ -1,10 +1,10 @@
 use Rattle.std.proofs.Common.{◌≤◌, ◌+◌}
-use Rattle.fd_outside.specs.Answers.{AgreesSince}
-use Rattle.fd_outside.specs.Files.{Files, held}
-use Rattle.dss_model.specs.Names.{bytes}
-use Rattle.dss_script.specs.Said.{end_in, said_in}
-use Rattle.dss_script.specs.Sessions.{remaining, room}
-use Rattle.fd_outcome.proofs.CallerLemmas.{At, Shown}
+use Rattle.fd_pages.specs.fd_outside.Answers.{AgreesSince}
+use Rattle.fd_pages.specs.fd_outside.Files.{Files, held}
+use Rattle.dss_commands.specs.dss_model.Names.{bytes}
+use Rattle.fd_pages.specs.dss_script.Said.{end_in, said_in}
+use Rattle.fd_pages.specs.dss_script.Sessions.{remaining, room}
+use Rattle.fd_pages.proofs.CallerLemmas.fd_outcome.{At, Shown}
 use Rattle.fd_solving.proofs.script.run_script.Given as goal
 
 abbrev pub invariant-loop-command : goal.invariant-loop-command

@@ -1,9 +1,9 @@
 use Rattle.std.proofs.Common.{[], arith}
 use Rattle.std.specs.Str.{chars}
-use Rattle.dss_script.specs.Sessions.{remaining}
-use Rattle.fd_outcome.specs.Behind.{closes}
-use Rattle.fd_outcome.specs.Events.{finishes}
-use Rattle.fd_outcome.proofs.CallerLemmas.{exactly_this, untold_first}
+use Rattle.fd_pages.specs.dss_script.Sessions.{remaining}
+use Rattle.fd_pages.specs.fd_outcome.Behind.{closes}
+use Rattle.fd_pages.specs.fd_outcome.Events.{finishes}
+use Rattle.fd_pages.proofs.CallerLemmas.fd_outcome.{exactly_this, untold_first}
 use Rattle.fd_solving.specs.Commands.{IsStep}
 use Rattle.fd_solving.specs.Scripts.{IsDoneThere, first_standing, no_name}
 use Rattle.fd_solving.proofs.Handed.{ends_closed}

@@ -1,7 +1,7 @@
 use Rattle.std.proofs.Common.{[], arith, subst}
-use Rattle.fd_outcome.specs.Work.{ends, goes as goes_step}
-use Rattle.fd_sample.specs.Probes.{positions_in}
-use Rattle.fd_bases.specs.Bases.{bases_of}
+use Rattle.fd_pages.specs.fd_outcome.Work.{ends, goes as goes_step}
+use Rattle.fd_daily.specs.fd_sample.Probes.{positions_in}
+use Rattle.fd_pages.specs.fd_bases.Bases.{bases_of}
 use Rattle.fd_pages.specs.Bases.{base_events}
 use Rattle.fd_solving.specs.Commands.{IsStep, tried}
 use Rattle.fd_solving.specs.Solving.{IsSolutionStep}

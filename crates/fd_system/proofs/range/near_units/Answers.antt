@@ -3,7 +3,7 @@ use Rattle.std.specs.Int.{w128}
 use Rattle.std.specs.Option.{IfSome, IfNone}
 use Rattle.std.proofs.lemmas.Bool.{leb-true}
 use Rattle.std.proofs.lemmas.Int.{to_z-of_z, ints}
-use Rattle.fd_exact.specs.Rounding.{near_div}
+use Rattle.fd_arith.specs.fd_exact.Rounding.{near_div}
 use Rattle.fd_arith.specs.Limits.{bounded}
 use Rattle.fd_system.specs.Contributions.{AreSmall}
 use Rattle.fd_system.proofs.range.near_units.Goals as goal

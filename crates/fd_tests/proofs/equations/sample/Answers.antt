@@ -1,8 +1,8 @@
 use Rattle.std.proofs.Common.{pos, negsuc, [], ◌∷◌, refl, sym, subst, arith, lit<}
 use Rattle.std.proofs.lemmas.Int.{ints}
 use Rattle.std.proofs.lemmas.List.Elements.{All-cons, All-nil}
-use Rattle.fd_arith.specs.declared.terms.Term.{Term}
-use Rattle.fd_pattern.specs.Conditions.{AreLinear, IsLinear}
+use Rattle.dss_script.specs.fd_arith.declared.terms.Term.{Term}
+use Rattle.fd_settings.specs.fd_pattern.Conditions.{AreLinear, IsLinear}
 use Rattle.fd_tests.proofs.equations.sample.Goals as goal
 
 third : Term

@@ -1,7 +1,7 @@
 use Rattle.std.proofs.Common.{subst, sym}
 use Rattle.std.specs.List.{All}
 use Rattle.std.proofs.lemmas.List.Elements.{All-nil}
-use Rattle.fd_pattern.specs.Conditions.{IsServed}
+use Rattle.fd_settings.specs.fd_pattern.Conditions.{IsServed}
 use Rattle.fd_tests.proofs.one_node.network.Goals as goal
 
 pub new-requires-clause-loads : goal.new-requires-clause-loads

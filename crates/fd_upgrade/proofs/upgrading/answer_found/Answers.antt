@@ -1,7 +1,7 @@
 use Rattle.std.proofs.Common.{◌∙◌, ℕ, List, Option, Some, [], ap, refl, subst, sym}
-use Rattle.fd_cert.specs.declared.rule.Rule.TheVariants.{Absent}
-use Rattle.fd_outcome.specs.Events.{ended}
-use Rattle.fd_report.specs.declared.faults.Fault.TheVariants as fault
+use Rattle.fd_solving.specs.fd_cert.declared.rule.Rule.TheVariants.{Absent}
+use Rattle.fd_solving.specs.fd_outcome.Events.{ended}
+use Rattle.fd_solving.specs.fd_report.declared.faults.Fault.TheVariants as fault
 use Rattle.fd_upgrade.specs.Answering.{IsAnswered, bytes_found}
 use Rattle.fd_upgrade.specs.Upgrading.{IsUpgradeOf}
 use Rattle.fd_upgrade.proofs.upgrading.answer_found.Goals as goal

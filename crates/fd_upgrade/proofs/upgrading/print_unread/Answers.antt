@@ -1,7 +1,7 @@
 use Rattle.std.proofs.Common.{[], ◌∷◌}
-use Rattle.fd_report.specs.declared.faults.Fault.TheVariants as fault
-use Rattle.fd_outcome.specs.Calls.{fault_text, writes}
-use Rattle.fd_outcome.proofs.CallerLemmas.{cut_before, fault_cut}
+use Rattle.fd_solving.specs.fd_report.declared.faults.Fault.TheVariants as fault
+use Rattle.fd_solving.specs.fd_outcome.Calls.{fault_text, writes}
+use Rattle.fd_solving.proofs.CallerLemmas.fd_outcome.{cut_before, fault_cut}
 use Rattle.fd_upgrade.proofs.upgrading.print_unread.Goals as goal
 
 pub returns-in-Err-clause-prints : goal.returns-in-Err-clause-prints

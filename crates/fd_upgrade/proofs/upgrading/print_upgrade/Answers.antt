@@ -1,11 +1,11 @@
 use Rattle.std.proofs.Common.{◌∙◌, true, [], Some, None, inl, inr, map, ap, sym, subst, refl}
-use Rattle.fd_cert.specs.declared.rule.Rule.{Rule}
-use Rattle.fd_cert.specs.declared.rule.Rule.TheVariants.{Grammar}
-use Rattle.fd_outside.specs.Emitted.{pieces_of}
-use Rattle.fd_outcome.specs.Calls.{calls_of, report, writes}
-use Rattle.fd_outcome.specs.Events.{ended}
-use Rattle.fd_outcome.specs.Parts.{Printed, fault_doing}
-use Rattle.fd_report.specs.declared.faults.Fault.TheVariants as fault
+use Rattle.fd_solving.specs.fd_cert.declared.rule.Rule.{Rule}
+use Rattle.fd_solving.specs.fd_cert.declared.rule.Rule.TheVariants.{Grammar}
+use Rattle.fd_solving.specs.fd_outside.Emitted.{pieces_of}
+use Rattle.fd_solving.specs.fd_outcome.Calls.{calls_of, report, writes}
+use Rattle.fd_solving.specs.fd_outcome.Events.{ended}
+use Rattle.fd_solving.specs.fd_outcome.Parts.{Printed, fault_doing}
+use Rattle.fd_solving.specs.fd_report.declared.faults.Fault.TheVariants as fault
 use Rattle.fd_solving.proofs.CallerLemmas.{printed_as}
 use Rattle.fd_upgrade.specs.Upgrading.{lines_written}
 use Rattle.fd_upgrade.proofs.Asking.{short_answer}

@@ -1,10 +1,10 @@
 use Rattle.std.proofs.Common.{◌≡◌, ◌∙◌, true, [], ◌∷◌, None, ap, subst}
-use Rattle.fd_outcome.specs.Behind.{last_calls}
-use Rattle.fd_outcome.specs.Calls.{writes}
-use Rattle.fd_outcome.specs.Events.{finishes, line}
-use Rattle.fd_outcome.specs.Parts.{Finishes}
-use Rattle.fd_outcome.proofs.CallerLemmas.{cut_before, untold_first, untold_last}
-use Rattle.fd_pages.specs.Lines.{lines_of_text}
+use Rattle.fd_solving.specs.fd_outcome.Behind.{last_calls}
+use Rattle.fd_solving.specs.fd_outcome.Calls.{writes}
+use Rattle.fd_solving.specs.fd_outcome.Events.{finishes, line}
+use Rattle.fd_solving.specs.fd_outcome.Parts.{Finishes}
+use Rattle.fd_solving.proofs.CallerLemmas.fd_outcome.{cut_before, untold_first, untold_last}
+use Rattle.fd_solving.specs.fd_pages.Lines.{lines_of_text}
 use Rattle.fd_bench.specs.Bench.{tally_text}
 use Rattle.fd_bench.specs.Benching.{BenchView}
 use Rattle.fd_solving.proofs.CallerLemmas.{printed_as, printed_cut}

@@ -1,6 +1,6 @@
 use Rattle.std.proofs.Common.{[], ◌∷◌, refl}
-use Rattle.fd_outcome.specs.Events.{finishes, line}
-use Rattle.fd_outcome.proofs.CallerLemmas.{exactly_this}
+use Rattle.fd_solving.specs.fd_outcome.Events.{finishes, line}
+use Rattle.fd_solving.proofs.CallerLemmas.fd_outcome.{exactly_this}
 use Rattle.fd_bench.specs.Bench.{tally_text}
 use Rattle.fd_bench.proofs.Benched.{bench_told, one_bench_step}
 use Rattle.fd_bench.proofs.benching.BenchStateLine.law.Goals as goal

@@ -1,6 +1,6 @@
 use Rattle.std.proofs.Common.{subst}
-use Rattle.fd_outcome.specs.Parts.{EndsAt, GoesOn}
-use Rattle.fd_pages.specs.Lines.{lines_of_text}
+use Rattle.fd_solving.specs.fd_outcome.Parts.{EndsAt, GoesOn}
+use Rattle.fd_solving.specs.fd_pages.Lines.{lines_of_text}
 use Rattle.fd_bench.specs.Benching.{BenchView, IsBenchStep, bench_at}
 use Rattle.fd_solving.proofs.CallerLemmas.{if_some_weaker}
 use Rattle.fd_bench.proofs.Benched.{bench_ends, bench_goes}

@@ -1,6 +1,6 @@
 use Rattle.std.proofs.Common.{◌∙◌, ◌≤◌, ◌^◌, ℕ, IfSome, arith, ap, subst}
-use Rattle.fd_exact.specs.States.{part}
-use Rattle.fd_exact.specs.Sums.{list_z}
+use Rattle.fd_enclosure.specs.fd_exact.States.{part}
+use Rattle.fd_enclosure.specs.fd_exact.Sums.{list_z}
 use Rattle.fd_cert.specs.Entries.{IsFlatOf, entry_term}
 use Rattle.fd_cert.proofs.FlatSums.{flat_column, flat_units}
 use Rattle.fd_cert.proofs.Units.{weaker_none}

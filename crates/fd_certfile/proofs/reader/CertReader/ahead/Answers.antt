@@ -1,7 +1,7 @@
 use Rattle.std.proofs.Common.{◌≡◌, ◌+◌, Err, ap, sym, subst, ◌∙◌}
 use Rattle.fd_certfile.specs.Reader.{ReaderView, next_of, starts_with_end}
 use Rattle.fd_certfile.specs.Ahead.{IsAhead}
-use Rattle.fd_cert.specs.declared.rule.Rule.TheVariants.{Count, Grammar, Size}
+use Rattle.fd_settle.specs.fd_cert.declared.rule.Rule.TheVariants.{Count, Grammar, Size}
 use Rattle.fd_certfile.proofs.NextBlock.{next_due, next_ended, next_other, next_refused}
 use Rattle.fd_certfile.proofs.reader.CertReader.ahead.Goals as goal
 

@@ -4,7 +4,7 @@ use Rattle.std.proofs.lemmas.List.{length-map}
 use Rattle.fd_certfile.specs.Lines.{Line, lines_of}
 use Rattle.fd_certfile.specs.Reader.{ReaderView, finish_of, finished, given_block}
 use Rattle.fd_certfile.specs.Views.{view}
-use Rattle.fd_cert.specs.declared.rule.Rule.TheVariants.{Count, Grammar}
+use Rattle.fd_settle.specs.fd_cert.declared.rule.Rule.TheVariants.{Count, Grammar}
 use Rattle.fd_certfile.proofs.Endings.{finish_left, finish_more, finish_nothing, finish_other, finish_rest}
 use Rattle.fd_certfile.proofs.Lines.{of_last}
 use Rattle.fd_certfile.proofs.Reading.{lines_cut}

@@ -1,6 +1,6 @@
 use Rattle.std.proofs.Common.{◌≡◌, ◌∙◌, ℕ, ◌+◌, None, Ok, Err, map, refl, ap, sym, subst}
-use Rattle.fd_mat.specs.Rows.{square}
-use Rattle.fd_cert.specs.Rechecks.{IsBoxed, boxed_claim, first_unsound}
+use Rattle.fd_settle.specs.fd_mat.Rows.{square}
+use Rattle.fd_settle.specs.fd_cert.Rechecks.{IsBoxed, boxed_claim, first_unsound}
 use Rattle.fd_certfile.specs.Claiming.{centre_in, claim_read, mismatch_in, radius_in}
 use Rattle.fd_certfile.specs.Reader.{ReaderView, next_of}
 use Rattle.fd_certfile.specs.Views.{part}

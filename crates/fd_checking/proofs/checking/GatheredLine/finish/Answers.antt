@@ -1,9 +1,9 @@
 use Rattle.std.proofs.Common.{◌∙◌, List, Option, ℕ, subst, sym}
-use Rattle.dss_model.specs.declared.command.Command.{Command}
-use Rattle.dss_script.specs.Sessions.{found_bytes}
-use Rattle.dss_model.specs.Names.{bytes}
-use Rattle.fd_outside.specs.Answers.{answered}
-use Rattle.fd_outside.specs.Files.{held}
+use Rattle.fd_check.specs.dss_model.declared.command.Command.{Command}
+use Rattle.fd_solving.specs.dss_script.Sessions.{found_bytes}
+use Rattle.fd_check.specs.dss_model.Names.{bytes}
+use Rattle.fd_check.specs.fd_outside.Answers.{answered}
+use Rattle.fd_check.specs.fd_outside.Files.{held}
 use Rattle.fd_checking.specs.Checks.{IsJudged, gathered}
 use Rattle.fd_checking.specs.Gathered.{solved_by}
 use Rattle.fd_checking.specs.Judged.{IsAnsweredSo, history_in}

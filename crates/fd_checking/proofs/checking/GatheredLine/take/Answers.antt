@@ -1,6 +1,6 @@
 use Rattle.std.proofs.Common.{[], subst}
-use Rattle.fd_outcome.specs.Calls.{report}
-use Rattle.fd_outcome.specs.Work.{ends, goes}
+use Rattle.fd_solving.specs.fd_outcome.Calls.{report}
+use Rattle.fd_solving.specs.fd_outcome.Work.{ends, goes}
 use Rattle.fd_checking.specs.Checks.{IsCheckStep, gathered}
 use Rattle.fd_checking.specs.Gathered.{solved_by}
 use Rattle.fd_solving.proofs.CallerLemmas.{ends_refused, ends_without_memory, goes_silent}

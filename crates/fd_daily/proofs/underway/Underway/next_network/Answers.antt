@@ -1,6 +1,6 @@
 use Rattle.std.proofs.Common.{◌∙◌, ◌∷◌, ap, refl, sym}
 use Rattle.fd_settings.specs.Hours.{hour_powers}
-use Rattle.fd_settle.specs.Probes.{positions_in}
+use Rattle.fd_settle.specs.fd_sample.Probes.{positions_in}
 use Rattle.fd_daily.specs.Day.{hours_left}
 use Rattle.fd_daily.proofs.CallerLemmas.{hours_behind, next_first}
 use Rattle.fd_daily.proofs.Starting.{network_there, other_settings, refused_at}

@@ -2,7 +2,7 @@ use Rattle.std.proofs.Common.{◌≡◌, ◌∙◌, ℕ, ◌∷◌, Option, Some
 use Rattle.std.specs.Prelude.{IsSome}
 use Rattle.std.specs.Option.{unwrap_or}
 use Rattle.fd_settings.specs.Hours.{hour_powers}
-use Rattle.fd_settle.specs.Probes.{positions_in}
+use Rattle.fd_settle.specs.fd_sample.Probes.{positions_in}
 use Rattle.fd_daily.specs.Hours.{hours_of}
 use Rattle.fd_daily.specs.Underway.{start_from}
 use Rattle.fd_daily.proofs.CallerLemmas.{hours_behind, next_first}

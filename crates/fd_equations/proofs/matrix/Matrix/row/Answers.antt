@@ -1,4 +1,4 @@
-use Rattle.fd_equations.proofs.Dense.{matrix_row}
+use Rattle.fd_equations.proofs.WrittenOut.{matrix_row}
 use Rattle.fd_equations.proofs.matrix.Matrix.row.Goals as goal
 
 pub returns : goal.returns

@@ -1,5 +1,5 @@
 use Rattle.std.proofs.Common.{◌≡◌, length, sym, rules}
-use Rattle.fd_equations.proofs.Dense.{out_entries, out_small}
+use Rattle.fd_equations.proofs.WrittenOut.{out_entries, out_small}
 use Rattle.fd_equations.proofs.Lists.{rewritten}
 use Rattle.fd_equations.proofs.matrix.Matrix.to_dense.Goals as goal
 

@@ -1,7 +1,7 @@
 use Rattle.std.proofs.Common.{◌≡◌, ◌∙◌, ℕ, ◌<◌, length, get_or, None, ap, sym, subst, rules}
 use Rattle.std.specs.List.{fold, All}
-use Rattle.fd_system.specs.Residual.{IsConstant, IsTerm, linear_interval, whole_state, with_part}
-use Rattle.fd_system.specs.System.{nonlinear_of}
+use Rattle.fd_pattern.specs.fd_system.Residual.{IsConstant, IsTerm, linear_interval, whole_state, with_part}
+use Rattle.fd_pattern.specs.fd_system.System.{nonlinear_of}
 use Rattle.fd_pattern.specs.Conditions.{IsNetwork}
 use Rattle.fd_equations.specs.Rounded.{list_of}
 use Rattle.fd_equations.proofs.Lists.{length-list_of, rewritten}

@@ -1,9 +1,9 @@
 use Rattle.std.proofs.Common.{◌∙◌, ap}
 use Rattle.std.proofs.lemmas.Result.{IfOk-weaker}
-use Rattle.fd_exact.specs.States.{table}
+use Rattle.fd_mat.specs.fd_exact.States.{table}
 use Rattle.fd_equations.specs.Matrices.{jacobian_amount}
 use Rattle.fd_equations.specs.Rounded.{jacobian_entry}
-use Rattle.fd_equations.proofs.Dense.{own_size}
+use Rattle.fd_equations.proofs.WrittenOut.{own_size}
 use Rattle.fd_equations.proofs.network.Network.rounded_jacobian.Goals as goal
 
 pub returns-clause-entries : goal.returns-clause-entries

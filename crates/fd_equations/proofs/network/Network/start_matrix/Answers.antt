@@ -1,12 +1,12 @@
 use Rattle.std.proofs.Common.{◌∙◌, ap, subst}
 use Rattle.std.proofs.lemmas.Result.{IfOk-weaker}
-use Rattle.fd_exact.specs.States.{table}
+use Rattle.fd_mat.specs.fd_exact.States.{table}
 use Rattle.fd_equations.specs.Amounts.{of_both}
 use Rattle.fd_equations.specs.Matrices.{IsMatrix}
 use Rattle.fd_equations.specs.PartLoads.{start_slopes}
 use Rattle.fd_equations.specs.Rounded.{start_entry}
 use Rattle.fd_pattern.specs.Views.{NetworkView}
-use Rattle.fd_equations.proofs.Dense.{own_size}
+use Rattle.fd_equations.proofs.WrittenOut.{own_size}
 use Rattle.fd_equations.proofs.network.Network.start_matrix.Goals as goal
 use Rattle.fd_equations.proofs.network.Network.start_matrix.Goals.{After-drop-branch}
 

@@ -1,5 +1,5 @@
 use Rattle.std.proofs.Common.{◌≤◌, ◌^◌, nat_abs, arith, refl, sym, subst}
-use Rattle.fd_exact.specs.States.{part}
+use Rattle.fd_mat.specs.fd_exact.States.{part}
 use Rattle.fd_equations.proofs.Products.{all_added, kept_row, row_added, row_few, row_small, row_sum}
 use Rattle.fd_equations.proofs.sparse.Rows.add_products.Goals as goal
 

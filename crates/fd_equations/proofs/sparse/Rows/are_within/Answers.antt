@@ -1,6 +1,6 @@
 use Rattle.std.proofs.Common.{ap, sym, subst}
 use Rattle.std.specs.List.{All}
-use Rattle.fd_system.specs.Contributions.{AreSmall}
+use Rattle.fd_pattern.specs.fd_system.Contributions.{AreSmall}
 use Rattle.fd_pattern.specs.Coefficients.{linear_entry}
 use Rattle.fd_equations.proofs.Elsewhere.{all_sums, sums_all}
 use Rattle.fd_equations.proofs.sparse.Rows.are_within.Goals as goal

@@ -1,8 +1,8 @@
 use Rattle.std.proofs.Common.{◌≡◌, ◌∙◌, map, ap, refl, subst, sym}
-use Rattle.dss_layout.specs.Layout.{size_of}
-use Rattle.fd_pattern.specs.Conditions.{IsNetwork}
-use Rattle.fd_system.specs.System.{stamp_with}
-use Rattle.fd_pattern.specs.Views.{NetworkView, network_of}
+use Rattle.dss_ready.specs.dss_layout.Layout.{size_of}
+use Rattle.fd_equations.specs.fd_pattern.Conditions.{IsNetwork}
+use Rattle.fd_devices.specs.fd_system.System.{stamp_with}
+use Rattle.fd_equations.specs.fd_pattern.Views.{NetworkView, network_of}
 use Rattle.fd_devices.specs.Devices.{device_stamp}
 use Rattle.fd_devices.specs.Scripted.{devices_of}
 use Rattle.fd_devices.specs.Settings.{AreSettings, Settings, settings_of}

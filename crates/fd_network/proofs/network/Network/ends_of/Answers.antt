@@ -1,7 +1,7 @@
 use Rattle.std.proofs.Common.{◌∙◌, ◌<◌, length, ap, subst, sym}
-use Rattle.dss_layout.specs.Layout.{LayoutView}
+use Rattle.dss_ready.specs.dss_layout.Layout.{LayoutView}
 use Rattle.fd_network.specs.Built.{BuiltView}
-use Rattle.fd_network.proofs.Ready.{branches_within}
+use Rattle.fd_network.proofs.ReadyElements.{branches_within}
 use Rattle.fd_network.proofs.network.Network.ends_of.Goals as goal
 
 pub ends-requires : goal.ends-requires

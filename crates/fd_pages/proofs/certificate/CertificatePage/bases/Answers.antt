@@ -1,6 +1,6 @@
 use Rattle.std.proofs.Common.{◌∙◌, ap}
 use Rattle.fd_bases.specs.Bases.{bases_of}
-use Rattle.fd_outside.specs.Emitted.{pieces_of}
+use Rattle.fd_outcome.specs.fd_outside.Emitted.{pieces_of}
 use Rattle.fd_pages.proofs.Blocks.{no_bases}
 use Rattle.fd_pages.proofs.certificate.CertificatePage.bases.Goals as goal
 

@@ -1,8 +1,8 @@
 use Rattle.std.proofs.Common.{◌∙◌, ◌++◌, List, ℕ, length, ap, refl, sym}
 use Rattle.std.proofs.lemmas.List.{length-map}
-use Rattle.fd_outside.specs.Emitted.{pieces_of}
+use Rattle.fd_outcome.specs.fd_outside.Emitted.{pieces_of}
 use Rattle.fd_outcome.specs.Certificates.{blocks_from, blocks_texts}
-use Rattle.fd_sample.specs.Probes.{positions_in}
+use Rattle.fd_outcome.specs.fd_sample.Probes.{positions_in}
 use Rattle.fd_pages.specs.Hours.{IsSettleAt, last_texts, round_in, rounds_in, settle_made, end_with}
 use Rattle.fd_pages.proofs.Blocks.{failed_blocks}
 use Rattle.fd_pages.proofs.certificate.CertificatePage.failed.Goals as goal

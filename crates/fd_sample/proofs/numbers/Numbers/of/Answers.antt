@@ -1,7 +1,7 @@
 use Rattle.std.proofs.Common.{◌∙◌, slice_get, ap, sym, arith}
 use Rattle.std.specs.Option.{option_map}
 use Rattle.std.specs.Map.Iter.{deref_pair}
-use Rattle.fd_devices.specs.Settings.{bank_count, tap_count}
+use Rattle.fd_network.specs.fd_devices.Settings.{bank_count, tap_count}
 use Rattle.fd_sample.proofs.Places.{sums_next}
 use Rattle.fd_sample.proofs.numbers.Numbers.of.Goals as goal
 

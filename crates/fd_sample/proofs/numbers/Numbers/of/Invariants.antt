@@ -1,6 +1,6 @@
 use Rattle.std.proofs.Common.{◌≡◌, ◌≤◌, ◌++◌, drop}
-use Rattle.dss_layout.specs.Layout.{sums_before}
-use Rattle.fd_devices.specs.Settings.{bank_count, tap_count}
+use Rattle.fd_network.specs.dss_layout.Layout.{sums_before}
+use Rattle.fd_network.specs.fd_devices.Settings.{bank_count, tap_count}
 use Rattle.fd_sample.proofs.numbers.Numbers.of.Given as goal
 
 abbrev pub invariant-loop-place : goal.invariant-loop-place

@@ -1,9 +1,9 @@
 use Rattle.std.proofs.Common.{◌==◌, length, map, ap, arith, refl, sym, ◌∙◌}
 use Rattle.std.proofs.lemmas.List.{with_items_is}
-use Rattle.fd_queue.specs.Queue.{least_time, nearest}
-use Rattle.fd_queue.specs.declared.entry.Entry.{Entry}
+use Rattle.fd_sample.specs.fd_queue.Queue.{least_time, nearest}
+use Rattle.fd_sample.specs.fd_queue.declared.entry.Entry.{Entry}
 use Rattle.fd_sample.specs.Probes.{positions_in}
-use Rattle.fd_devices.specs.declared.settings.Positions.{Positions as CodePositions}
+use Rattle.fd_sample.specs.fd_devices.declared.settings.Positions.{Positions as CodePositions}
 use Rattle.fd_settle.specs.Rounds.{seen}
 use Rattle.fd_settle.specs.declared.clock.Clock.{Clock}
 use Rattle.std.specs.Vec.{with_items}

@@ -1,6 +1,6 @@
 use Rattle.std.proofs.Common.{◌≡◌, length, map, ap, arith, refl, sym, ◌∙◌}
 use Rattle.std.proofs.lemmas.List.{with_items_is}
-use Rattle.fd_queue.specs.Verdicts.{decision}
+use Rattle.fd_sample.specs.fd_queue.Verdicts.{decision}
 use Rattle.fd_sample.specs.Probes.{positions_in}
 use Rattle.fd_settle.specs.Acting.{judged}
 use Rattle.fd_settle.proofs.Reactions.{judged_length}

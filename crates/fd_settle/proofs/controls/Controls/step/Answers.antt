@@ -1,8 +1,8 @@
 use Rattle.std.proofs.Common.{◌≡◌, length, map, ap, arith, refl, sym, ◌∙◌}
 use Rattle.std.specs.List.{list_any}
 use Rattle.std.specs.Option.{is_some}
-use Rattle.fd_queue.specs.Decisions.{way_of}
-use Rattle.fd_queue.specs.Verdicts.{decision}
+use Rattle.fd_sample.specs.fd_queue.Decisions.{way_of}
+use Rattle.fd_sample.specs.fd_queue.Verdicts.{decision}
 use Rattle.fd_cert.specs.Claims.{claim_in}
 use Rattle.fd_sample.specs.Probes.{positions_in}
 use Rattle.fd_settle.specs.declared.controls.Controls.{Controls}

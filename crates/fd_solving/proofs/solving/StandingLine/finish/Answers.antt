@@ -1,5 +1,5 @@
-use Rattle.fd_outcome.specs.Behind.{closes}
-use Rattle.fd_outcome.proofs.CallerLemmas.{finishes_last, untold_last}
+use Rattle.fd_pages.specs.fd_outcome.Behind.{closes}
+use Rattle.fd_pages.proofs.CallerLemmas.fd_outcome.{finishes_last, untold_last}
 use Rattle.fd_solving.proofs.solving.StandingLine.finish.Goals as goal
 
 pub returns-clause-told : goal.returns-clause-told

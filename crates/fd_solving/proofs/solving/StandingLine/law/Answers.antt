@@ -1,6 +1,6 @@
 use Rattle.std.proofs.Common.{[], ap, sym}
-use Rattle.fd_outcome.specs.Events.{finishes}
-use Rattle.fd_outcome.proofs.CallerLemmas.{exactly_this}
+use Rattle.fd_pages.specs.fd_outcome.Events.{finishes}
+use Rattle.fd_pages.proofs.CallerLemmas.fd_outcome.{exactly_this}
 use Rattle.fd_solving.proofs.Handed.{ends_closed}
 use Rattle.fd_solving.proofs.Tests.{one_step}
 use Rattle.fd_solving.proofs.solving.StandingLine.law.Goals as goal

@@ -1,15 +1,15 @@
 -- The elements of a circuit that passed the tests of Solve are ready to be taken into a network.
 use Rattle.std.proofs.Common.{◌≡◌, ℕ, suc, ◌+◌, ◌<◌, ◌≤◌, ◌^◌, [], ◌∷◌, length, slice_index, slice_index_or, take, All, None, sym, subst, add-zero, zero-add, arith}
 use Rattle.std.proofs.lemmas.Option.{slice_get-get_or}
-use Rattle.fd_exact.specs.Sums.{list_n}
-use Rattle.dss_model.specs.InRange.{ElementInRange}
-use Rattle.dss_model.specs.declared.element.Element.{Element}
-use Rattle.dss_model.specs.declared.element.Element.TheVariants as the
-use Rattle.dss_model.specs.declared.names.ElementName.{ElementName}
-use Rattle.dss_layout.specs.Limits.{most_complex}
-use Rattle.dss_layout.specs.Layout.{Elements, LayoutView, branch_phases, complex_count, ends_of, first_magnitude, first_too_many, layout_of, magnitude_phases, size_of}
-use Rattle.dss_circuit.specs.Circuit.{CircuitView}
-use Rattle.dss_layout.proofs.CallerLemmas.{few_complex, few_magnitudes, length-phases, length-sums_before, mentions_among, sum_with_own, sum_within}
+use Rattle.fd_equations.specs.fd_exact.Sums.{list_n}
+use Rattle.dss_ready.specs.dss_model.InRange.{ElementInRange}
+use Rattle.dss_ready.specs.dss_model.declared.element.Element.{Element}
+use Rattle.dss_ready.specs.dss_model.declared.element.Element.TheVariants as the
+use Rattle.dss_ready.specs.dss_model.declared.names.ElementName.{ElementName}
+use Rattle.dss_ready.specs.dss_layout.Limits.{most_complex}
+use Rattle.dss_ready.specs.dss_layout.Layout.{Elements, LayoutView, branch_phases, complex_count, ends_of, first_magnitude, first_too_many, layout_of, magnitude_phases, size_of}
+use Rattle.dss_ready.specs.dss_circuit.Circuit.{CircuitView}
+use Rattle.dss_ready.proofs.CallerLemmas.dss_layout.{few_complex, few_magnitudes, length-phases, length-sums_before, mentions_among, sum_with_own, sum_within}
 use Rattle.dss_ready.specs.Passed.{AreValuesFit}
 use Rattle.dss_ready.specs.Ready.{HasPassed}
 use Rattle.dss_ready.proofs.CallerLemmas.{passed}

@@ -2,8 +2,8 @@
 use Rattle.std.proofs.Common.{◌≡◌, ◌∙◌, ℕ, ◌<◌, ◌≤◌, ◌^◌, ℤ, pos, nat_abs, List, length, lit≤, ap, refl, sym, subst, inl, inr}
 use Rattle.std.specs.List.{Contains}
 use Rattle.std.proofs.lemmas.List.{get_or_default}
-use Rattle.fd_exact.specs.States.{cell, table}
-use Rattle.fd_exact.specs.Tables.{entry-table, length-table, table-same}
+use Rattle.fd_mat.specs.fd_exact.States.{cell, table}
+use Rattle.fd_mat.specs.fd_exact.Tables.{entry-table, length-table, table-same}
 use Rattle.fd_mat.specs.Rows.{EntriesWithin, square}
 use Rattle.fd_equations.specs.declared.cells.Cell.{Cell}
 use Rattle.fd_equations.specs.Amounts.{Amount, AreCells, IsNothingElsewhere, IsRowOf, cell_at}

@@ -3,11 +3,11 @@ use Rattle.std.proofs.Common.{◌≡◌, ◌∙◌, ℕ, zero, suc, ◌+◌, ◌
 use Rattle.std.specs.Int.RustNames.{unsigned_abs}
 use Rattle.std.proofs.Math.Nat.{mul-pos}
 use Rattle.std.proofs.lemmas.Int.{ints}
-use Rattle.fd_exact.specs.Quotients.{ceil_nat_is}
-use Rattle.fd_exact.specs.Rounding.{ceil_div, ceil_nat}
-use Rattle.fd_exact.specs.Sums.{sum_n, sum_z}
-use Rattle.fd_arith.specs.Limits.{fits, within}
-use Rattle.fd_arith.specs.Wide.{wide_difference, wide_product, wide_quotient, wide_size, wide_sum}
+use Rattle.fd_equations.specs.fd_exact.Quotients.{ceil_nat_is}
+use Rattle.fd_equations.specs.fd_exact.Rounding.{ceil_div, ceil_nat}
+use Rattle.fd_equations.specs.fd_exact.Sums.{sum_n, sum_z}
+use Rattle.fd_slope.specs.fd_arith.Limits.{fits, within}
+use Rattle.fd_slope.specs.fd_arith.Wide.{wide_difference, wide_product, wide_quotient, wide_size, wide_sum}
 use Rattle.fd_enclosure.specs.Bounds.{bound_at, left_over, wide_sums}
 use Rattle.fd_enclosure.proofs.Contraction.{left_in}
 

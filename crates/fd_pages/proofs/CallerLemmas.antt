@@ -1,0 +1,9 @@
+-- The lemmas that this crate hands on.
+pub use Rattle.fd_outcome.proofs.CallerLemmas.fd_outside as fd_outside
+pub use Rattle.fd_outcome.proofs.CallerLemmas.fd_report as fd_report
+pub use Rattle.fd_outcome.proofs.CallerLemmas.fd_certfile as fd_certfile
+pub use Rattle.fd_outcome.proofs.CallerLemmas as fd_outcome
+pub use Rattle.fd_outcome.proofs.CallerLemmas.fd_outside as fd_outside
+pub use Rattle.fd_outcome.proofs.CallerLemmas.fd_report as fd_report
+pub use Rattle.fd_outcome.proofs.CallerLemmas.fd_certfile as fd_certfile
+pub use Rattle.fd_outcome.proofs.CallerLemmas as fd_outcome
