@@ -1,26 +1,28 @@
 -- Bytes that are cut at one of them.
-use Rattle.std.proofs.Common.{◌≡◌, ℕ, ◌+◌, ◌<◌, ◌≤◌, false, List, ◌∷◌, ◌++◌, length, inl, inr, take, drop, get_or, ap, sym, subst, ◌∙◌, arith}
+use Rattle.std.proofs.Common.{◌≡◌, ℕ, ◌+◌, ◌<◌, List, ◌∷◌, ◌++◌, length, inl, inr, take, drop, get_or, ap, sym, ◌∙◌, arith}
 use Rattle.std.specs.Prelude.{nat_eq}
-use Rattle.std.proofs.lemmas.List.{drop_more, take-append-drop, take_all, length-take, get_or-take, get_or_default}
-use Rattle.std.proofs.lemmas.Bool.{cases_eq}
+use Rattle.std.proofs.lemmas.List.{drop_more, take-append-drop, length-take, get_or-take, get_or_default}
+use Rattle.std.proofs.lemmas.Bool.{cases_Bool}
+use Rattle.memchr.specs.Find.{Nowhere, Passes, is_byte}
 use Rattle.fd_certfile.specs.Cuts.{Lacks}
 
-pub lacks_more : (bytes : List ℕ) (i c : ℕ) → i < length bytes → Lacks c (take i bytes)
-    → nat_eq (get_or bytes i 0) c ≡ false → Lacks c (take (i + 1) bytes)
-lacks_more bytes i c l h e k d m =
-    let below : k < i + 1 = omega (arith, m, length-take (i + 1) bytes) in
-    let here : get_or (take (i + 1) bytes) k d ≡ get_or bytes k d = get_or-take (i + 1) bytes k d below in
-    elim (cases_eq k i) [
-      | inl same ↦ ap (λ (x : ℕ). nat_eq x c) (here ∙ ap (λ (j : ℕ). get_or bytes j d) same ∙ get_or_default bytes i d 0 l)
-          ∙ e
-      | inr other ↦
-          let less : k < i = omega (arith, below, other) in
-          ap (λ (x : ℕ). nat_eq x c) (here ∙ sym (get_or-take i bytes k d less))
-          ∙ h k d (omega (arith, less, l, length-take i bytes))
-    ]
+-- no place has that byte
+pub lacks_all : (bytes : List ℕ) (c : ℕ) → Nowhere (Passes (is_byte c) bytes) 0 (length bytes) → Lacks c bytes
+lacks_all bytes c h k d l = elim (cases_Bool (nat_eq (get_or bytes k d) c)) [
+  | inl is ↦ absurd (h k (omega arith) l (ap (λ (x : ℕ). nat_eq x c) (get_or_default bytes k 0 d l) ∙ is))
+  | inr isnt ↦ isnt
+]
 
-pub lacks_all : (bytes : List ℕ) (i c : ℕ) → length bytes ≤ i → Lacks c (take i bytes) → Lacks c bytes
-lacks_all bytes i c l h = subst (Lacks c) (take_all i bytes l) h
+-- no place before i has it
+pub lacks_before : (bytes : List ℕ) (i c : ℕ) → Nowhere (Passes (is_byte c) bytes) 0 i → Lacks c (take i bytes)
+lacks_before bytes i c h k d l =
+    let m : k < length (take i bytes) = l in
+    let below : k < i = omega (arith, m, length-take i bytes) in
+    let within : k < length bytes = omega (arith, m, length-take i bytes) in
+    elim (cases_Bool (nat_eq (get_or (take i bytes) k d) c)) [
+      | inl is ↦ absurd (h k (omega arith) below (ap (λ (x : ℕ). nat_eq x c) (get_or_default bytes k 0 d within ∙ sym (get_or-take i bytes k d below)) ∙ is))
+      | inr isnt ↦ isnt
+    ]
 
 -- the bytes up to the byte at i, and those behind it
 pub cut_at : (bytes : List ℕ) (i : ℕ) (c : ℕ) → i < length bytes → get_or bytes i 0 ≡ c

@@ -12,7 +12,7 @@ use Rattle.fd_certfile.proofs.Lines.{lines_some}
 -- ---- the first line
 
 -- the first line alone names the version
-first_alone : (line : Line) (rest : List Line) → version_in (line ∷ rest) ≡ version_in (line ∷ [])
+pub first_alone : (line : Line) (rest : List Line) → version_in (line ∷ rest) ≡ version_in (line ∷ [])
 first_alone (header n) rest = refl
 first_alone (solution n h r s) rest = refl
 first_alone (state p c r m) rest = refl

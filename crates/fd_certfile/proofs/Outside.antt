@@ -10,6 +10,7 @@ use Rattle.fd_certfile.specs.Upgrade.{IsFirstOutside, IsOutside, IsOutsideBy, Is
 use Rattle.fd_certfile.specs.declared.fault.Stop.{Stop}
 use Rattle.fd_certfile.specs.declared.fault.Stop.TheVariants as stop
 use Rattle.fd_certfile.proofs.Blocks.{block_found, length-block}
+use Rattle.fd_certfile.proofs.Endings.{first_alone}
 use Rattle.fd_certfile.proofs.Lines.{lines_some}
 
 -- what the lines that are left give, of which the first has this number, is what all give
@@ -86,15 +87,6 @@ never_ended [] lines e f = let g : true ≡ false = f ∙ ap starts_with_end e i
 never_ended (c ∷ bytes) lines e f = let g : true ≡ false = f ∙ ap starts_with_end e in cc
 
 -- ---- the first line
-
-first_alone : (line : Line) (rest : List Line) → version_in (line ∷ rest) ≡ version_in (line ∷ [])
-first_alone (header n) rest = refl
-first_alone (solution n h r s) rest = refl
-first_alone (state p c r m) rest = refl
-first_alone (row fields) rest = refl
-first_alone (act t c s) rest = refl
-first_alone end rest = refl
-first_alone other rest = refl
 
 pub version_named : (lines : List Line) (line : Line) (rest : List Line) (o : Option Version) → lines ≡ line ∷ rest
     → o ≡ version_in (line ∷ []) → version_in lines ≡ o

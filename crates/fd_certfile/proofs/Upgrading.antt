@@ -3,19 +3,14 @@ use Rattle.std.proofs.Common.{◌≡◌, ℕ, suc, ◌+◌, ◌<◌, true, false
 use Rattle.std.specs.Prelude.{◌↔◌, IsSome, map, option_map}
 use Rattle.std.specs.List.{AllByRecursion, concat}
 use Rattle.std.proofs.lemmas.Bool.{cases_Bool, cond-true, cond-false}
-use Rattle.std.proofs.lemmas.List.{append_assoc, append-nil, map-append, map_push}
-use Rattle.fd_outside.specs.declared.bytes.Record.{Record}
-use Rattle.fd_outside.specs.Emitted.{pieces_of}
+use Rattle.std.proofs.lemmas.List.{append_assoc, append-nil, map-append}
 use Rattle.fd_certfile.specs.Numbers.{IsNumber, number_of, numbers_of}
 use Rattle.fd_certfile.specs.Lines.{Line, header, solution, state, row, act, end, other, line_bytes, lines_of, rest_of, IsKnown, IsLine}
 use Rattle.fd_certfile.specs.Blocks.{Version, Whole, Sparse, Part, Act, Block, fields_of, is_zero, part_line, row_line, act_line, numbered_lines, block_lines, IsSized, IsWritable}
 use Rattle.fd_certfile.specs.Certificates.{Certificate, ends, trails, refuses, gives, Reads, IsWhole, blocks_of, lines_behind, certificate_lines, version_in, behind_first, lines_count}
 use Rattle.fd_certfile.specs.Upgrade.{AreKnown, IsOutside, IsUpgraded, UpgradeLaw, outside_at, upgraded}
 use Rattle.fd_certfile.specs.Verdict.{Due, Answer, IsAnswer, IsAnswerBy, verdict}
-use Rattle.fd_certfile.specs.Cuts.{first_number}
 use Rattle.fd_certfile.specs.Views.{or_other}
-use Rattle.fd_certfile.proofs.Fields.{first_none}
-use Rattle.fd_certfile.proofs.RowReading.{IsTaken}
 use Rattle.fd_certfile.proofs.Blocks.{block_found}
 use Rattle.fd_certfile.proofs.Certificates.{again, certificate_law}
 use Rattle.fd_certfile.proofs.Lines.{lines_found}
@@ -257,10 +252,6 @@ line_pushed v base now next rest line more b so_far e q n =
     ap (λ (t : List (List ℕ)). t ++ left more) n ∙ append_assoc now (b ∷ []) (left more)
     ∙ ap (λ (c : List ℕ). now ++ c ∷ left more) q ∙ sym (ap (λ (ls : List Line). now ++ left ls) e) ∙ so_far
 
-pub record_pushed : (rs next : List Record) (r : Record) → next ≡ rs ++ r ∷ []
-    → pieces_of next ≡ pieces_of rs ++ r.bytes ∷ []
-record_pushed rs next r e = ap pieces_of e ∙ map_push (λ (q : Record). q.bytes) rs r
-
 known_rest : (bytes : List ℕ) → AreKnown (rest_of bytes) → rest_of bytes ≡ []
 known_rest [] h = refl
 known_rest (c ∷ bytes) h = absurd h.0
@@ -273,43 +264,6 @@ lines_pushed v base now rest bytes so_far e k =
 
 -- ---- a row
 
-pub upgraded_known : (v : Version) (line : Line) → IsKnown line → IsKnown (upgraded v line)
-upgraded_known Sparse line h = h
-upgraded_known Whole (row []) h = h
-upgraded_known Whole (row (place ∷ entries)) h = tt
-upgraded_known Whole (header n) h = h
-upgraded_known Whole (solution n h r s) k = k
-upgraded_known Whole (state p c r m) h = h
-upgraded_known Whole (act t c s) h = h
-upgraded_known Whole end h = h
-upgraded_known Whole other h = h
-
 pub some_numbers : (f : List ℤ → Line) (o : Option (List ℤ)) → IsKnown (or_other f o) → IsSome o
 some_numbers f None h = absurd h
 some_numbers f (Some zs) h = refl
-
-pub row_upgraded : (f : List ℤ → Line) (u : Line) (o : Option (List ℤ)) (zs : List ℤ) → u ≡ or_other f o → o ≡ Some zs
-    → f zs ≡ u
-row_upgraded f u o zs e n = sym (ap (or_other f) n) ∙ sym e
-
--- all numbers of some fields, one after another
-pub numbers_all : (all : List (List ℕ)) (found : List ℤ) (i : ℕ) (rest : List (List ℕ)) → IsTaken true [] found all i rest
-    → None ≡ first_number rest → IsSome (numbers_of all) → numbers_of all ≡ Some found
-numbers_all all found i rest t e h = elim (first_none rest e) [
-  | inl none ↦
-      let k : false ≡ true = subst IsSome (t.same ∙ ap (option_map (λ zs. t.taken ++ zs)) none) h in
-      absurd (true≢false (sym k))
-  | inr nil ↦ t.same ∙ ap (option_map (λ zs. t.taken ++ zs)) nil ∙ ap Some (append-nil t.taken ∙ sym t.added)
-]
-
-pub first_shorter : (fs : List (List ℕ)) (z : ℤ) (ts : List (List ℕ)) → Some (z, ts) ≡ first_number fs
-    → length ts < length fs
-first_shorter [] z ts e = absurd cc
-first_shorter (t ∷ us) z ts e = at (number_of t) e
-  where
-    at : (o : Option ℤ) → ◌≡◌ {A = Option (ℤ × List (List ℕ))} (Some (z, ts)) (option_map (λ y. (y, us)) o) → length ts < length (t ∷ us)
-    at None e = absurd cc
-    at (Some y) e =
-        let same : ◌≡◌ {A = ℤ × List (List ℕ)} (z, ts) (y, us) = cc in
-        let long : length ts ≡ length us = ap (λ (p : ℤ × List (List ℕ)). length p.1) same in
-        omega (arith, long)

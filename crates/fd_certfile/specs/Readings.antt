@@ -1,8 +1,10 @@
 -- What a reader answers, and what the grammar says.
-use Rattle.std.specs.Prelude.{◌≡◌, ◌+◌, ◌-◌, ◌≤◌, ◌&&◌, ℕ, zero, suc, ℤ, pos, negsuc, nat_le, nat_lt, not, ◌<◌, Bool, true, false, Option, Some, None, List, [], ◌∷◌, ◌++◌, flat_map, length, Result, Ok, Err}
+use Rattle.std.specs.Prelude.{◌≡◌, ◌+◌, ◌-◌, ◌≤◌, ◌⊎◌, ◌&&◌, ℕ, zero, suc, ℤ, pos, negsuc, nat_le, nat_lt, not, ◌<◌, Bool, true, false, Option, Some, None, List, [], ◌∷◌, ◌++◌, flat_map, length, option_map, Result, Ok, Err}
+use Rattle.fd_certfile.specs.Numbers.{numbers_of}
 use Rattle.fd_certfile.specs.Lines.{Line}
 use Rattle.fd_certfile.specs.Lines as text
-use Rattle.fd_certfile.specs.Blocks.{Act, ◌>>=◌, numbered_at, Version, Part, part_at, row_at, row_of, is_zero, entries_at, with_count}
+use Rattle.fd_certfile.specs.Blocks.{Act, ◌>>=◌, numbered_at, Version, Whole, Sparse, Part, part_at, row_at, row_of, is_zero, entries_at, with_count}
+use Rattle.fd_certfile.specs.Cuts.{first_number}
 use Rattle.fd_certfile.specs.declared.fault.Stop.{Stop}
 use Rattle.fd_certfile.specs.declared.fault.Stop.TheVariants as stop
 use Rattle.std.specs.Option.{option_and_then}
@@ -56,6 +58,53 @@ pub record IsPut (keep : Bool) (n next : ℕ) (place entry : ℤ) (behind : ℕ)
 -- the entry is 0, or its place is before the next or past a row of n
 abbrev pub IsUnput : ℕ → ℕ → ℤ → ℤ → Type 0
 IsUnput n next place entry = (not (is_zero entry) && is_between next n place) ≡ false
+
+-- so many steps of a row of n: in version 1 each entry is one, in version 2 each pair
+abbrev pub AreSteps : Version → ℕ → ℕ → Type 0
+AreSteps Whole n steps = steps ≡ n
+AreSteps Sparse n steps = Unit {0}
+
+-- a place is left for an entry of version 1
+abbrev pub HasNext : Version → ℕ → ℕ → Type 0
+HasNext Whole n next = next < n
+HasNext Sparse n next = Unit {0}
+
+-- the entries of a row of n in so many steps of a version, if the numbers are so many
+abbrev pub entries_by : Version → ℕ → ℕ → Option (List ℤ) → Option (List ℤ)
+entries_by Whole n steps numbers = row_in Whole n numbers
+entries_by Sparse n steps numbers = entries_in n (pos steps) numbers
+
+-- the first field is the next entry; it is added, where entries are kept
+pub record IsEntry (keep : Bool) (next : ℕ) (old new : List ℤ) (fields : List (List ℕ)) (behind : ℕ) (more : List (List ℕ)) : Type 0 where
+  pub entry : ℤ
+  pub first : Some (entry, more) ≡ first_number fields
+  pub behind_is : behind ≡ next + 1
+  pub added : new ≡ old ++ kept keep (entry ∷ [])
+
+-- the first two fields are the next entry behind its place; it is added behind the zeros before it
+pub record IsPair (keep : Bool) (n next : ℕ) (old new : List ℤ) (fields : List (List ℕ)) (behind : ℕ) (more : List (List ℕ)) : Type 0 where
+  pub place : ℤ
+  pub entry : ℤ
+  pub first : numbers_of fields ≡ option_map (λ zs. place ∷ entry ∷ zs) (numbers_of more)
+  pub put : IsPut keep n next place entry behind old new
+
+-- the next step of a version, the place behind it and the other fields
+abbrev pub IsNext : Version → Bool → ℕ → ℕ → List ℤ → List ℤ → List (List ℕ) → ℕ → List (List ℕ) → Type 0
+IsNext Whole keep n next old new fields behind more = IsEntry keep next old new fields behind more
+IsNext Sparse keep n next old new fields behind more = IsPair keep n next old new fields behind more
+
+-- the first two fields are a pair that isn't one of a row of n
+pub record IsNoPair (n next : ℕ) (fields : List (List ℕ)) : Type 0 where
+  pub place : ℤ
+  pub entry : ℤ
+  pub more : List (List ℕ)
+  pub first : numbers_of fields ≡ option_map (λ zs. place ∷ entry ∷ zs) (numbers_of more)
+  pub unput : IsUnput n next place entry
+
+-- there is no next step of a version
+abbrev pub IsNoNext : Version → ℕ → ℕ → List (List ℕ) → Type 0
+IsNoNext Whole n next fields = None ≡ first_number fields
+IsNoNext Sparse n next fields = ((zs : List ℤ) → numbers_of fields ≡ Some zs → length zs < 2) ⊎ IsNoPair n next fields
 
 abbrev pub PushesRow : Bool → List ℤ → List ℤ → Bool → Option (List ℤ) → Type 0
 PushesRow keep old new true read = RowIs keep old new read

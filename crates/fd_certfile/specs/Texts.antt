@@ -1,6 +1,9 @@
 -- The numbers of a line as text.
-use Rattle.std.specs.Prelude.{ℕ, ℤ, List, ◌∷◌, flat_map}
+use Rattle.std.specs.Prelude.{ℕ, ℤ, pos, List, [], ◌∷◌, ◌++◌, codes, count_by, flat_map, if◌then◌else◌}
+use Rattle.std.specs.List.{enumerate_from}
 use Rattle.std.specs.Fmt.{signed_decimal}
+use Rattle.fd_certfile.specs.Numbers.{text_eq}
+use Rattle.fd_certfile.specs.Blocks.{is_entry, pair_of}
 
 -- a blank and a number
 abbrev pub field_text : ℤ → List ℕ
@@ -8,3 +11,14 @@ field_text z = 32 ∷ signed_decimal z
 
 abbrev pub fields_text : List ℤ → List ℕ
 fields_text numbers = flat_map field_text numbers
+
+-- the text of a field behind the place of its entry, and how many entries it is: none where it spells 0
+abbrev pub entry_text : ℕ → List ℕ → List ℕ
+entry_text place field = if text_eq field (codes "0") then [] else field_text (pos place) ++ 32 ∷ field
+
+abbrev pub entry_count : List ℕ → ℕ
+entry_count field = if text_eq field (codes "0") then 0 else 1
+
+-- how many of the entries of a row aren't 0, and these behind a text, each behind its place
+abbrev pub with_entries : List ℕ → List ℤ → ℕ × List ℕ
+with_entries text entries = (count_by is_entry entries, text ++ fields_text (flat_map pair_of (enumerate_from 0 entries)))

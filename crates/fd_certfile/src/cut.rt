@@ -2,16 +2,16 @@
 ghost use Rattle.std.specs.Prelude.{◌≡◌, ◌++◌, ◌∷◌, IfNone, IfSome};
 ghost use Rattle.fd_certfile.specs.Cuts.{Lacks};
 
+use memchr::memchr;
+
 /// What stands before the first such byte, and what behind it.
 pub(crate) fn cut(bytes: &[u8], at: u8) -> Option<(&[u8], &[u8])>
     ensures none { IfNone result (Lacks at bytes.now) }
     ensures before { IfSome result (λ p. Lacks at p.0.now) }
     ensures whole { IfSome result (λ p. bytes.now ≡ p.0.now ++ at ∷ p.1.now) }
 {
-    for i in 0..bytes.len() {
-        if bytes[i] == at {
-            return Some((&bytes[..i], &bytes[i + 1..]));
-        }
+    match memchr(at, bytes) {
+        Some(place) => Some((&bytes[..place], &bytes[place + 1..])),
+        None => None,
     }
-    None
 }

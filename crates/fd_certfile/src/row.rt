@@ -1,10 +1,10 @@
 // Rows of an inverse, read into the cells of a matrix.
-ghost use Rattle.std.specs.Prelude.{◌≡◌, ◌≤◌, ◌+◌, ◌-◌, ◌<◌, ◌++◌, ◌∷◌, [], ℤ, List, None, Some, pos, length, true, false, IfOk, OnOk, IfSome, IfNone};
+ghost use Rattle.std.specs.Prelude.{◌≡◌, ◌≤◌, ◌+◌, ◌-◌, ◌<◌, ◌++◌, ◌∷◌, [], ℤ, List, None, Some, length, true, false, IfOk, OnOk, IfSome, IfNone};
 ghost use Rattle.std.specs.Option.{option_map};
-ghost use Rattle.fd_certfile.specs.Blocks.{Whole, Sparse, is_place, is_zero, row_at};
+ghost use Rattle.fd_certfile.specs.Blocks.{Sparse, is_place, is_zero, row_at};
 ghost use Rattle.fd_certfile.specs.Cuts.{texts_of};
 ghost use Rattle.fd_certfile.specs.Numbers.{numbers_of};
-ghost use Rattle.fd_certfile.specs.Readings.{IsPut, IsUnput, PushesRow, entries_in, is_between, kept, row_in, zeros};
+ghost use Rattle.fd_certfile.specs.Readings.{AreSteps, HasNext, IsNext, IsNoNext, IsPut, IsUnput, PushesRow, entries_by, is_between, kept, row_in, zeros};
 ghost use Rattle.fd_certfile.specs.Views.{view};
 
 use crate::field::{Fields, first};
@@ -56,33 +56,6 @@ fn push_gap(cells: &mut Vec<i128>, keep: bool, count: u128) -> Result<(), AllocE
     Ok(())
 }
 
-// Adds the numbers of these fields, where numbers are kept, and answers whether there are so many and no more.
-fn push_entries(
-    cells: &mut Vec<i128>,
-    keep: bool,
-    count: u128,
-    fields: Fields<'_>,
-) -> Result<bool, AllocError>
-    ensures { IfOk result (λ ok.
-        PushesRow keep cells.old.items cells.new.items ok
-        (row_in Whole count (numbers_of (texts_of (option_map (λ t. t.now) fields.entry))))) }
-{
-    let mut rest = fields;
-    for _place in 0..count {
-        match first(rest) {
-            Some((number, more)) => {
-                push_kept(cells, keep, number)?;
-                rest = more;
-            }
-            None => return Ok(false),
-        }
-    }
-    match rest {
-        Some(_) => Ok(false),
-        None => Ok(true),
-    }
-}
-
 // The numbers of the first two fields, and the other fields.
 fn pair(fields: Fields<'_>) -> Option<(i128, i128, Fields<'_>)>
     ensures some { IfSome result (λ p. numbers_of (texts_of (option_map (λ t. t.now) fields.entry))
@@ -121,27 +94,63 @@ fn push_pair(
     Ok(Some(place + 1))
 }
 
-// Adds the entries of a row of so many that these fields name in so many pairs, each entry behind its place, with zeros
-// between them, where entries are kept; and answers whether there are so many pairs and no more, whose places rise, with
-// no entry 0.
-fn push_pairs(
+// Adds the next entry of a row of so many in a version, where entries are kept, and answers the place behind it and
+// the other fields; or none, where there is none. It stands at the place that comes next, or behind the place that is
+// named, with zeros between.
+fn push_next<'a>(
     cells: &mut Vec<i128>,
     keep: bool,
+    version: Version,
     count: u128,
-    pairs: u128,
+    next: u128,
+    fields: Fields<'a>,
+) -> Result<Option<(u128, Fields<'a>)>, AllocError>
+    requires { HasNext version count next }
+    ensures some { IfOk result (λ o. IfSome o (λ p.
+        IsNext version keep count next cells.old.items cells.new.items
+        (texts_of (option_map (λ t. t.now) fields.entry)) p.0 (texts_of (option_map (λ t. t.now) p.1)))) }
+    ensures none { IfOk result (λ o. IfNone o (IsNoNext version count next (texts_of (option_map (λ t. t.now) fields.entry)))) }
+{
+    match version {
+        Version::Whole => match first(fields) {
+            Some((entry, more)) => {
+                push_kept(cells, keep, entry)?;
+                Ok(Some((next + 1, more)))
+            }
+            None => Ok(None),
+        },
+        Version::Sparse => match pair(fields) {
+            Some((place, entry, more)) => {
+                match push_pair(cells, keep, count, next, place, entry)? {
+                    Some(behind) => Ok(Some((behind, more))),
+                    None => Ok(None),
+                }
+            }
+            None => Ok(None),
+        },
+    }
+}
+
+// Adds the entries of a row of so many that these fields have in a version, where entries are kept, and answers whether
+// they have so many steps and no more: in version 1 each entry of the row, in version 2 pairs whose places rise, with
+// no entry 0.
+fn push_steps(
+    cells: &mut Vec<i128>,
+    keep: bool,
+    version: Version,
+    count: u128,
+    steps: u128,
     fields: Fields<'_>,
 ) -> Result<bool, AllocError>
+    requires { AreSteps version count steps }
     ensures { IfOk result (λ ok.
         PushesRow keep cells.old.items cells.new.items ok
-        (entries_in count (pos pairs) (numbers_of (texts_of (option_map (λ t. t.now) fields.entry))))) }
+        (entries_by version count steps (numbers_of (texts_of (option_map (λ t. t.now) fields.entry))))) }
 {
     let mut rest = fields;
     let mut next = 0;
-    for _pair in 0..pairs {
-        let Some((place, entry, more)) = pair(rest) else {
-            return Ok(false);
-        };
-        let Some(behind) = push_pair(cells, keep, count, next, place, entry)? else {
+    for _step in 0..steps {
+        let Some((behind, more)) = push_next(cells, keep, version, count, next, rest)? else {
             return Ok(false);
         };
         next = behind;
@@ -172,7 +181,7 @@ fn push_counted(
             if pairs < 0 {
                 return Ok(false);
             }
-            push_pairs(cells, keep, count, pairs as u128, named)
+            push_steps(cells, keep, Version::Sparse, count, pairs as u128, named)
         }
         None => Ok(false),
     }
@@ -192,7 +201,7 @@ fn push_fields(
         (row_in version count (numbers_of (texts_of (option_map (λ t. t.now) fields.entry))))) }
 {
     match version {
-        Version::Whole => push_entries(cells, keep, count, fields),
+        Version::Whole => push_steps(cells, keep, version, count, count, fields),
         Version::Sparse => push_counted(cells, keep, count, fields),
     }
 }

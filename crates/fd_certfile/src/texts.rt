@@ -7,23 +7,31 @@ ghost use Rattle.fd_certfile.specs.Lines as line;
 ghost use Rattle.fd_certfile.specs.Texts.{field_text, fields_text};
 
 use fd_outside::{Bytes, Record};
+use itoa::Buffer;
 use std::alloc::{AllocError, Global};
 
-// Adds a blank and a number.
-fn push_number(alloc: Global, text: &mut Vec<u8>, number: i128) -> Result<(), AllocError>
+/// Adds a blank and a field.
+pub(crate) fn push_field(text: &mut Vec<u8>, field: &[u8]) -> Result<(), AllocError>
+    ensures { OnOk result (text.new.items ≡ text.old.items ++ 32 ∷ field.now) }
+{
+    text.push(b' ')?;
+    text.extend_from_slice(field)
+}
+
+/// Adds a blank and a number.
+pub(crate) fn push_number(text: &mut Vec<u8>, number: i128) -> Result<(), AllocError>
     ensures { OnOk result (text.new.items ≡ text.old.items ++ field_text number) }
 {
-    let digits = number.to_string(alloc)?;
-    text.push(b' ')?;
-    text.extend_from_slice(digits.as_bytes())
+    let mut digits = Buffer::new();
+    push_field(text, digits.format(number).as_bytes())
 }
 
 // Adds numbers, each behind a blank.
-fn push_numbers(alloc: Global, text: &mut Vec<u8>, numbers: &[i128]) -> Result<(), AllocError>
+fn push_numbers(text: &mut Vec<u8>, numbers: &[i128]) -> Result<(), AllocError>
     ensures { OnOk result (text.new.items ≡ text.old.items ++ fields_text numbers.now) }
 {
     for number in numbers {
-        push_number(alloc, text, *number)?;
+        push_number(text, *number)?;
     }
     Ok(())
 }
@@ -36,27 +44,22 @@ fn count(row: &[i128]) -> usize
 }
 
 // Adds an entry behind its place, unless it is 0.
-fn push_entry(
-    alloc: Global,
-    text: &mut Vec<u8>,
-    place: usize,
-    entry: i128,
-) -> Result<(), AllocError>
+fn push_entry(text: &mut Vec<u8>, place: usize, entry: i128) -> Result<(), AllocError>
     ensures { OnOk result (text.new.items ≡ text.old.items ++ fields_text (pair_of (place, entry))) }
 {
     if entry != 0 {
-        push_number(alloc, text, place as i128)?;
-        push_number(alloc, text, entry)?;
+        push_number(text, place as i128)?;
+        push_number(text, entry)?;
     }
     Ok(())
 }
 
 // Adds the entries of a row that aren't 0, each behind its place.
-fn push_entries(alloc: Global, text: &mut Vec<u8>, row: &[i128]) -> Result<(), AllocError>
+fn push_entries(text: &mut Vec<u8>, row: &[i128]) -> Result<(), AllocError>
     ensures { OnOk result (text.new.items ≡ text.old.items ++ fields_text (flat_map pair_of (enumerate_from 0 row.now))) }
 {
     for place in 0..row.len() {
-        push_entry(alloc, text, place, row[place])?;
+        push_entry(text, place, row[place])?;
     }
     Ok(())
 }
@@ -68,9 +71,9 @@ pub(crate) fn row_record(alloc: Global, place: i128, row: &[i128]) -> Result<Rec
 {
     let mut text = Vec::new(alloc);
     text.extend_from_slice(b"c")?;
-    push_number(alloc, &mut text, place)?;
-    push_number(alloc, &mut text, count(row) as i128)?;
-    push_entries(alloc, &mut text, row)?;
+    push_number(&mut text, place)?;
+    push_number(&mut text, count(row) as i128)?;
+    push_entries(&mut text, row)?;
     text.push(b'\n')?;
     Ok(Record {
         bytes: Bytes::new(text),
@@ -89,8 +92,8 @@ pub(crate) fn line_record(
 {
     let mut text = Vec::new(alloc);
     text.extend_from_slice(word)?;
-    push_numbers(alloc, &mut text, first)?;
-    push_numbers(alloc, &mut text, others)?;
+    push_numbers(&mut text, first)?;
+    push_numbers(&mut text, others)?;
     text.push(b'\n')?;
     Ok(Record {
         bytes: Bytes::new(text),

@@ -1,13 +1,15 @@
 // A certificate brought over to version 2.
-ghost use Rattle.std.specs.Prelude.{◌≡◌, ◌+◌, ◌<◌, ◌^◌, ◌∷◌, ◌++◌, [], IsSome, ℤ, List, Option, Some, None, IfOk, IfErr, IfSome, IfNone, OnOk, length, map};
+ghost use Rattle.std.specs.Prelude.{◌≡◌, ◌+◌, ◌<◌, ◌^◌, ◌++◌, IsSome, List, Option, Some, None, IfOk, IfErr, IfSome, IfNone, OnOk, codes, length, map};
+ghost use Rattle.std.specs.List.{slice_split};
 ghost use Rattle.std.specs.Option.{option_map};
 ghost use Rattle.fd_outside.specs.Emitted.{pieces_of};
 ghost use Rattle.fd_settle.specs.fd_cert.declared.rule.Rule.TheVariants.{Grammar};
-ghost use Rattle.fd_certfile.specs.Blocks.{Block, fields_of, Sparse};
+ghost use Rattle.fd_certfile.specs.Blocks.{Block, Whole};
 ghost use Rattle.fd_certfile.specs.Cuts.{texts_of};
-ghost use Rattle.fd_certfile.specs.Lines.{IsKnown, line_bytes, line_of, lines_of, row};
-ghost use Rattle.fd_certfile.specs.Numbers.{numbers_of};
+ghost use Rattle.fd_certfile.specs.Lines.{IsKnown, is_blank, line_bytes, line_of, lines_of, row};
+ghost use Rattle.fd_certfile.specs.Numbers.{numbers_of, text_eq};
 ghost use Rattle.fd_certfile.specs.Readings.{lines_before};
+ghost use Rattle.fd_certfile.specs.Texts.{entry_count, entry_text, with_entries};
 ghost use Rattle.fd_certfile.specs.Upgrade.{AreKnown, IsOutside, IsRefusal, IsRefusedLine, IsUpgraded, UpgradeLaw, upgraded};
 ghost use Rattle.fd_certfile.specs.Verdict.{Due};
 ghost use Rattle.fd_certfile.specs.Views.{or_other, view};
@@ -17,11 +19,11 @@ use crate::ahead::read_block;
 use crate::cut::cut;
 use crate::ending::is_ended;
 use crate::fault::{CertFileFault, Stop};
-use crate::field::{Fields, first};
+use crate::field::{Fields, parted};
 use crate::line::{Line, read_line};
-use crate::texts::{header_record, row_record, text_record};
+use crate::texts::{header_record, push_field, push_number, text_record};
 use crate::version::{Version, version_named};
-use fd_outside::Record;
+use fd_outside::{Bytes, Record};
 use fd_settle::Rule;
 use std::alloc::{AllocError, Global};
 
@@ -66,28 +68,77 @@ fn outside(alloc: Global, version: Version, bytes: &[u8]) -> Result<Option<u64>,
     }
 }
 
-// The numbers that fields spell, all of them.
-fn numbers(alloc: Global, fields: Fields<'_>) -> Result<Vec<i128>, AllocError>
-    requires { IsSome (numbers_of (texts_of (option_map (λ t. t.now) fields))) }
-    ensures { IfOk result (λ zs. numbers_of (texts_of (option_map (λ t. t.now) fields.entry)) ≡ Some zs.items) }
+// Whether a field spells 0.
+fn is_zero_text(field: &[u8]) -> bool
+    ensures { result ≡ text_eq field.now (codes "0") }
 {
-    let mut found = Vec::new(alloc);
-    let mut rest = fields;
-    while let Some((number, more)) = first(rest) {
-        found.push(number)?;
-        rest = more;
+    match field {
+        [digit] => *digit == b'0',
+        _ => false,
     }
-    Ok(found)
 }
 
-// The place of a row of version 1 and the fields of its entries; none where a line stays as it is.
-fn entries_of<'a>(version: Version, line: &Line<'a>) -> Option<(i128, Fields<'a>)>
-    ensures some { IfSome result (λ p. upgraded version (view line.now)
-        ≡ or_other (λ zs. row (p.0 ∷ fields_of Sparse zs)) (numbers_of (texts_of (option_map (λ t. t.now) p.1)))) }
+// Adds the entry that a field spells behind its place, unless it is 0, and answers how many were added. A number has
+// one text, so that of the field is copied.
+fn push_entry(text: &mut Vec<u8>, place: usize, entry: &[u8]) -> Result<usize, AllocError>
+    ensures count { IfOk result (λ count. count ≡ entry_count entry.now) }
+    ensures text { OnOk result (text.new.items ≡ text.old.items ++ entry_text place entry.now) }
+{
+    if is_zero_text(entry) {
+        return Ok(0);
+    }
+    push_number(text, place as i128)?;
+    push_field(text, entry)?;
+    Ok(1)
+}
+
+// Adds the entries of a row that these fields spell, those that aren't 0 behind their places, and answers how many they
+// are.
+fn push_entries(text: &mut Vec<u8>, entries: Fields<'_>) -> Result<usize, AllocError>
+    requires numbers { IsSome (numbers_of (texts_of (option_map (λ t. t.now) entries))) }
+    requires few { length (texts_of (option_map (λ t. t.now) entries)) < 2 ^ 64 }
+    ensures { IfOk result (λ count. Some (count, text.new.items) ≡ option_map (with_entries text.old.items) (numbers_of (texts_of (option_map (λ t. t.now) entries.entry)))) }
+{
+    let mut place = 0;
+    let mut count = 0;
+    let mut rest = entries;
+    while let Some(fields) = rest {
+        let (entry, more) = parted(fields);
+        count += push_entry(text, place, entry)?;
+        place += 1;
+        rest = more;
+    }
+    Ok(count)
+}
+
+// The line in version 2 of the row of version 1 that these fields spell.
+fn upgraded_row(alloc: Global, fields: &[u8]) -> Result<Record, AllocError>
+    requires { IsSome (numbers_of (slice_split is_blank fields.now)) }
+    ensures { IfOk result (λ r. Some r.bytes ≡ option_map (λ zs. line_bytes (upgraded Whole (row zs))) (numbers_of (slice_split is_blank fields.now))) }
+{
+    // read for its length alone, which bounds the number of fields
+    let _length = fields.len();
+    let (place, entries) = parted(fields);
+    let mut pairs = Vec::new(alloc);
+    let count = push_entries(&mut pairs, entries)?;
+    let mut text = Vec::new(alloc);
+    text.extend_from_slice(b"c")?;
+    push_field(&mut text, place)?;
+    push_number(&mut text, count as i128)?;
+    text.extend_from_slice(pairs.as_slice())?;
+    text.push(b'\n')?;
+    Ok(Record {
+        bytes: Bytes::new(text),
+    })
+}
+
+// The fields of a row of version 1; none where a line stays as it is.
+fn row_fields<'a>(version: Version, line: &Line<'a>) -> Fields<'a>
+    ensures some { IfSome result (λ fields. (version ≡ Whole) × (view line.now ≡ or_other row (numbers_of (slice_split is_blank fields.now)))) }
     ensures none { IfNone result (upgraded version (view line.now) ≡ view line.now) }
 {
     match (version, line) {
-        (Version::Whole, Line::Row(fields)) => first(*fields),
+        (Version::Whole, Line::Row(fields)) => *fields,
         _ => None,
     }
 }
@@ -97,11 +148,8 @@ fn upgraded_line(alloc: Global, version: Version, text: &[u8]) -> Result<Record,
     requires { IsKnown (line_of text.now) }
     ensures { IfOk result (λ r. r.bytes ≡ line_bytes (upgraded version (line_of text.now))) }
 {
-    match entries_of(version, &read_line(text)) {
-        Some((place, entries)) => {
-            let row = numbers(alloc, entries)?;
-            row_record(alloc, place, row.as_slice())
-        }
+    match row_fields(version, &read_line(text)) {
+        Some(fields) => upgraded_row(alloc, fields),
         None => text_record(alloc, text),
     }
 }

@@ -1,9 +1,8 @@
-use Rattle.std.proofs.Common.{rules}
-use Rattle.fd_certfile.proofs.Cuts.{lacks_more, lacks_all}
+use Rattle.fd_certfile.proofs.Cuts.{lacks_before, lacks_all}
 use Rattle.fd_certfile.proofs.cut.cut.Goals as goal
 
-pub loop-i-preserved : goal.loop-i-preserved
-loop-i-preserved c = lacks_more c.args.bytes.now c.loop-i.i c.args.at c.loop-i-test.true c.loop-i.invariant (search rules)
+pub returns-in-None-clause-none : goal.returns-in-None-clause-none
+returns-in-None-clause-none c = lacks_all c.args.bytes.now c.args.at c.in-None.ensures
 
-pub returns-clause-none : goal.returns-clause-none
-returns-clause-none c = lacks_all c.args.bytes.now c.loop-i.i c.args.at c.loop-i-test.false c.loop-i.invariant
+pub returns-in-Some-clause-before : goal.returns-in-Some-clause-before
+returns-in-Some-clause-before c = lacks_before c.args.bytes.now c.in-Some.place c.args.at c.in-Some.ensures.0.before

@@ -5,7 +5,8 @@ use Rattle.fd_certfile.specs.Lines.{line_bytes, line_of, lines_of}
 use Rattle.fd_certfile.specs.Upgrade.{AreKnown, upgraded}
 use Rattle.fd_certfile.proofs.Lines.{of_last}
 use Rattle.fd_certfile.proofs.Reading.{lines_cut}
-use Rattle.fd_certfile.proofs.Upgrading.{line_pushed, lines_pushed, record_pushed}
+use Rattle.fd_certfile.proofs.Upgrading.{line_pushed, lines_pushed}
+use Rattle.fd_certfile.proofs.Writing.{pieces_pushed}
 use Rattle.fd_certfile.proofs.upgrades.push_lines.Goals as goal
 
 pub upgraded_line-requires : goal.upgraded_line-requires
@@ -22,7 +23,7 @@ loop-text-preserved c =
           (pieces_of c.loop-text.records.items) (pieces_of c.push.new.self.items) (lines_of c.loop-text.rest.now)
           (line_of c.in-Some.text.now) (lines_of c.in-Some.more.now) c.in_ok-upgraded_line.field-0.bytes
           c.loop-text.invariant.lines here c.in_ok-upgraded_line.ensures
-          (record_pushed c.loop-text.records.items c.push.new.self.items c.in_ok-upgraded_line.field-0 c.in_ok-push.ensures.items);
+          (pieces_pushed c.loop-text.records.items c.push.new.self.items c.in_ok-upgraded_line.field-0 c.in_ok-push.ensures.items);
       known = (subst AreKnown here c.loop-text.invariant.known).1;
     }
 

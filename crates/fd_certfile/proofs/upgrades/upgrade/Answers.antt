@@ -8,7 +8,8 @@ use Rattle.fd_certfile.specs.Views.{view}
 use Rattle.fd_certfile.proofs.Lines.{of_last}
 use Rattle.fd_certfile.proofs.Outside.{refused_first, refused_line, refused_rest, version_named}
 use Rattle.fd_certfile.proofs.Reading.{lines_cut}
-use Rattle.fd_certfile.proofs.Upgrading.{lines_known, record_pushed, upgraded_is}
+use Rattle.fd_certfile.proofs.Upgrading.{lines_known, upgraded_is}
+use Rattle.fd_certfile.proofs.Writing.{pieces_pushed}
 use Rattle.fd_certfile.proofs.upgrades.upgrade.Goals as goal
 
 pub returns-in_default-clause-refused : goal.returns-in_default-clause-refused
@@ -54,7 +55,7 @@ returns-clause-text c =
     (ap behind_first lines)
     (subst (IsOutside c.in-Some-version_named.version (lines_of c.in-Some.rest.now)) c.in_default-2.is c.in_ok-line.ensures)
     (pieces_of c.push.new.self.items) (pieces_of c.push_lines.new.records.items)
-    (record_pushed c.new-records.result.items c.push.new.self.items c.in_ok-header_record.field-0 c.in_ok-push.ensures.items
+    (pieces_pushed c.new-records.result.items c.push.new.self.items c.in_ok-header_record.field-0 c.in_ok-push.ensures.items
     ∙ ap (λ (rs : List Record). pieces_of rs ++ c.in_ok-header_record.field-0.bytes ∷ []) c.new-records.ensures.items
     ∙ ap (λ (b : List ℕ). b ∷ []) c.in_ok-header_record.ensures)
     c.in_ok-push_lines.ensures
