@@ -1,0 +1,5 @@
+mod Placing
+mod Noting
+mod Waking
+mod Passing
+pub mod Settled
